@@ -3,17 +3,17 @@ use Rattle.std.proofs.Common.{◌≡◌, ℕ, zero, suc, ◌+◌, List, [], ◌�
 use Rattle.std.proofs.lemmas.Bool.{cases_Bool}
 use Rattle.object_layout.specs.declared.word.Addr.{Addr}
 use Rattle.object_layout.specs.Cell.{Cell, size_of}
-use Rattle.object_layout.specs.Content.{Content}
+use Rattle.object_layout.specs.ChunkValue.{ChunkValue}
 use Rattle.object_layout.specs.Chunks.{cell_of, chunk_at, held_in, held_size, held_words, one_each, put_object, small_part, sum_in, sum_of}
 use Rattle.object_layout.proofs.ChunkLaws.{length-put}
 use Rattle.object_layout.proofs.PlaceLemmas as place
 use Rattle.alloc_path.specs.PlaceLaws.{KeepsShape, WritesKeepCounts}
 use Rattle.alloc_path.proofs.HeapLemmas as heap
 
-same_shape : (k : Content) → KeepsShape k k
+same_shape : (k : ChunkValue) → KeepsShape k k
 same_shape k = record { number = refl; size = refl; used = refl }
 
-shapes : (ks : List Content) (a : Addr) (c : Cell) → size_of c ≡ size_of (cell_of ks a) → (i : ℕ) → KeepsShape (chunk_at ks i) (chunk_at (put_object ks a c) i)
+shapes : (ks : List ChunkValue) (a : Addr) (c : Cell) → size_of c ≡ size_of (cell_of ks a) → (i : ℕ) → KeepsShape (chunk_at ks i) (chunk_at (put_object ks a c) i)
 shapes [] a c s i = same_shape _
 shapes (k ∷ ks) a c s zero =
     elim (cases_Bool (eqb k.number a.chunk)) [
@@ -26,7 +26,7 @@ shapes (k ∷ ks) a c s (suc i) =
       | inr e ↦ let there = rw e at s in rw e (shapes ks a c there i)
     ]
 
-words_kept : (ks : List Content) (a : Addr) (c : Cell) → c.mark ≡ (cell_of ks a).mark → size_of c ≡ size_of (cell_of ks a) → held_words (put_object ks a c) ≡ held_words ks
+words_kept : (ks : List ChunkValue) (a : Addr) (c : Cell) → c.mark ≡ (cell_of ks a).mark → size_of c ≡ size_of (cell_of ks a) → held_words (put_object ks a c) ≡ held_words ks
 words_kept [] a c m s = refl
 words_kept (k ∷ ks) a c m s =
     elim (cases_Bool (eqb k.number a.chunk)) [
@@ -34,7 +34,7 @@ words_kept (k ∷ ks) a c m s =
       | inr e ↦ let mark = rw e at m in let size = rw e at s in rw e (ap (λ n. held_in k.cells + n) (words_kept ks a c mark size))
     ]
 
-sums_kept : (f : ℕ → ℕ) (ks : List Content) (a : Addr) (c : Cell) → c.mark ≡ (cell_of ks a).mark → size_of c ≡ size_of (cell_of ks a) → sum_of f (put_object ks a c) ≡ sum_of f ks
+sums_kept : (f : ℕ → ℕ) (ks : List ChunkValue) (a : Addr) (c : Cell) → c.mark ≡ (cell_of ks a).mark → size_of c ≡ size_of (cell_of ks a) → sum_of f (put_object ks a c) ≡ sum_of f ks
 sums_kept f [] a c m s = refl
 sums_kept f (k ∷ ks) a c m s =
     elim (cases_Bool (eqb k.number a.chunk)) [

@@ -5,15 +5,15 @@ use Rattle.std.proofs.lemmas.List.{get_or-set_same}
 use Rattle.object_layout.specs.declared.word.Addr.{Addr}
 use Rattle.object_layout.specs.Cell.{Cell, IsObject}
 use Rattle.object_layout.specs.Chunks.{cell_of, chunk_at, next_address, no_chunk, place_of, push_object, put_object}
-use Rattle.object_layout.specs.Content.{Content}
+use Rattle.object_layout.specs.ChunkValue.{ChunkValue}
 use Rattle.object_layout.specs.Place.{cell_at, words_in}
 use Rattle.object_layout.proofs.ChunkLaws.{cell_of-found, put_object-pushed}
 use Rattle.object_layout.proofs.PlaceLemmas as place
-use Rattle.alloc_path.specs.Heap.{AreApart, IsFresh}
+use Rattle.alloc_path.specs.LeafHeapValue.{AreApart, IsFresh}
 use Rattle.alloc_path.proofs.HeapLemmas as heap
 
 -- where chunks are apart, each is found by its number
-pub place_of-own : (ks : List Content) → AreApart ks → (i : ℕ) → i < length ks → place_of ks (chunk_at ks i).number ≡ i
+pub place_of-own : (ks : List ChunkValue) → AreApart ks → (i : ℕ) → i < length ks → place_of ks (chunk_at ks i).number ≡ i
 place_of-own [] h i l = absurd (omega arith)
 place_of-own (k ∷ ks) h zero l = rw (eq-eqb k.number k.number refl)
 place_of-own (k ∷ ks) h (suc i) l =
@@ -21,7 +21,7 @@ place_of-own (k ∷ ks) h (suc i) l =
     rw (ne_eqb k.number (chunk_at ks i).number apart, place_of-own ks h.1 i (omega arith)) (omega arith)
 
 -- a placed object is read where it was placed
-pub cell_of-placed : (ks : List Content) → AreApart ks → (i : ℕ) (c : Cell) → i < length ks → cell_of (push_object ks i c) (next_address (chunk_at ks i)) ≡ c
+pub cell_of-placed : (ks : List ChunkValue) → AreApart ks → (i : ℕ) (c : Cell) → i < length ks → cell_of (push_object ks i c) (next_address (chunk_at ks i)) ≡ c
 cell_of-placed ks h i c l =
     let found = heap.place_of-set ks i (record (chunk_at ks i) { cells = (chunk_at ks i).cells ++ c ∷ [] }) no_chunk refl (chunk_at ks i).number ∙ place_of-own ks h i l in
     let in' : place_of (push_object ks i c) (chunk_at ks i).number < length (push_object ks i c) = rw (found, length-set) l in
@@ -29,11 +29,11 @@ cell_of-placed ks h i c l =
     let there = get_or-set_same ks i (record (chunk_at ks i) { cells = (chunk_at ks i).cells ++ c ∷ [] }) no_chunk l in
     read
     ∙ ap (λ (n : ℕ). cell_at (get_or (push_object ks i c) n no_chunk).cells (words_in (chunk_at ks i).cells)) found
-    ∙ ap (λ (k : Content). cell_at k.cells (words_in (chunk_at ks i).cells)) there
+    ∙ ap (λ (k : ChunkValue). cell_at k.cells (words_in (chunk_at ks i).cells)) there
     ∙ place.cell_at-last (chunk_at ks i).cells c
 
 -- the objects that were there stay
-pub cell_of-others : (ks : List Content) (i : ℕ) (c : Cell) (b : Addr) → IsObject (cell_of ks b).mark → cell_of (push_object ks i c) b ≡ cell_of ks b
+pub cell_of-others : (ks : List ChunkValue) (i : ℕ) (c : Cell) (b : Addr) → IsObject (cell_of ks b).mark → cell_of (push_object ks i c) b ≡ cell_of ks b
 cell_of-others [] i c b o = refl
 cell_of-others (k ∷ ks) zero c b o =
     ⊎_elim
@@ -47,7 +47,7 @@ cell_of-others (k ∷ ks) (suc i) c b o =
     (cases_Bool (eqb k.number b.chunk))
 
 -- objects stay where chunks are put behind theirs
-pub cell_of-before : (ks ls : List Content) (b : Addr) → IsObject (cell_of ks b).mark → cell_of (ks ++ ls) b ≡ cell_of ks b
+pub cell_of-before : (ks ls : List ChunkValue) (b : Addr) → IsObject (cell_of ks b).mark → cell_of (ks ++ ls) b ≡ cell_of ks b
 cell_of-before [] ls b o = absurd o
 cell_of-before (k ∷ ks) ls b o =
     ⊎_elim
@@ -56,12 +56,12 @@ cell_of-before (k ∷ ks) ls b o =
     (cases_Bool (eqb k.number b.chunk))
 
 -- and where chunks of other numbers are put before theirs
-pub cell_of-behind : (ks ls : List Content) (b : Addr) → IsFresh ks b.chunk → cell_of (ks ++ ls) b ≡ cell_of ls b
+pub cell_of-behind : (ks ls : List ChunkValue) (b : Addr) → IsFresh ks b.chunk → cell_of (ks ++ ls) b ≡ cell_of ls b
 cell_of-behind [] ls b h = refl
 cell_of-behind (k ∷ ks) ls b h = rw (ne_eqb k.number b.chunk (heap.fresh_head k ks b.chunk h)) (cell_of-behind ks ls b (heap.fresh_tail k ks b.chunk h))
 
 -- chunks stay apart where a fresh one is added
-pub apart_added : (ks : List Content) (k : Content) → AreApart ks → IsFresh ks k.number → AreApart (ks ++ k ∷ [])
+pub apart_added : (ks : List ChunkValue) (k : ChunkValue) → AreApart ks → IsFresh ks k.number → AreApart (ks ++ k ∷ [])
 apart_added [] k h f = (refl, tt)
 apart_added (x ∷ xs) k h f =
     let ne : k.number ≡ x.number → ⊥ = λ e. heap.fresh_head x xs k.number f (sym e) in (
@@ -70,14 +70,14 @@ apart_added (x ∷ xs) k h f =
     )
 
 -- and where one is written, or an object is placed in it
-pub apart_set : (ks : List Content) (i : ℕ) (k : Content) → k.number ≡ (chunk_at ks i).number → AreApart ks → AreApart (set ks i k)
+pub apart_set : (ks : List ChunkValue) (i : ℕ) (k : ChunkValue) → k.number ≡ (chunk_at ks i).number → AreApart ks → AreApart (set ks i k)
 apart_set [] i k e h = h
 apart_set (x ∷ xs) zero k e h = (rw e h.0, h.1)
 apart_set (x ∷ xs) (suc i) k e h = (heap.place_in-set xs i k no_chunk e x.number ∙ h.0, apart_set xs i k e h.1)
 
 -- another cell is put in place of the one that was placed
-pub put_where_placed : (ks : List Content) (i : ℕ) (c d : Cell) → AreApart ks → i < length ks → put_object (push_object ks i c) (next_address (chunk_at ks i)) d ≡ push_object ks i d
+pub put_where_placed : (ks : List ChunkValue) (i : ℕ) (c d : Cell) → AreApart ks → i < length ks → put_object (push_object ks i c) (next_address (chunk_at ks i)) d ≡ push_object ks i d
 put_where_placed ks i c d h l = put_object-pushed ks i c d (place_of-own ks h i l) l
 
-pub placed_is_read : (ks : List Content) (i : ℕ) (c : Cell) → AreApart ks → i < length ks → cell_of (push_object ks i c) (next_address (chunk_at ks i)) ≡ c
+pub placed_is_read : (ks : List ChunkValue) (i : ℕ) (c : Cell) → AreApart ks → i < length ks → cell_of (push_object ks i c) (next_address (chunk_at ks i)) ≡ c
 placed_is_read ks i c h l = cell_of-placed ks h i c l

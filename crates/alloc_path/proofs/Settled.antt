@@ -6,11 +6,11 @@ use Rattle.std.proofs.lemmas.List.{get_or_read}
 use Rattle.std.proofs.lemmas.List.Elements.{All-append, All-cons, All-get_or, All-head, All-nil, All-push, All-set, All-tail}
 use Rattle.object_layout.specs.declared.word.Addr.{Addr}
 use Rattle.object_layout.specs.Cell.{Cell, moved_to, no_cell, size_of}
-use Rattle.object_layout.specs.Content.{Content}
+use Rattle.object_layout.specs.ChunkValue.{ChunkValue}
 use Rattle.object_layout.specs.Place.{cell_at, put_cell, words_in}
 use Rattle.object_layout.specs.Chunks.{cell_of, chunk_at, no_chunk, place_of, put_object, with_cell}
-use Rattle.kept_pieces.specs.Kept.{Kept}
-use Rattle.alloc_path.specs.Heap.{added, AreApart, AreTidy, Heap, IsFresh, IsKept, IsSettled, IsTidy, place_for, units}
+use Rattle.kept_pieces.specs.PiecesValue.{PiecesValue}
+use Rattle.alloc_path.specs.LeafHeapValue.{added, AreApart, AreTidy, LeafHeapValue, IsFresh, IsKept, IsSettled, IsTidy, place_for, units}
 use Rattle.alloc_path.proofs.HeapLemmas as heap
 use Rattle.alloc_path.proofs.PlacedLaws as placed
 
@@ -48,7 +48,7 @@ put_length (c ∷ cs) (suc n) d =
 
 -- ---- an object is written
 
-put_tidy : (k : Content) (at : ℕ) (d : Cell) → IsTidy k → moved_to d.mark ≡ None → size_of d ≡ size_of (cell_at k.cells at) → IsTidy (with_cell k at d)
+put_tidy : (k : ChunkValue) (at : ℕ) (d : Cell) → IsTidy k → moved_to d.mark ≡ None → size_of d ≡ size_of (cell_at k.cells at) → IsTidy (with_cell k at d)
 put_tidy k at d t m s = record {
   unmoved = put_all (λ (c : Cell). moved_to c.mark ≡ None) k.cells at d m t.unmoved;
   alone =
@@ -62,7 +62,7 @@ put_tidy k at d t m s = record {
   few = λ l. subst (λ (n : ℕ). n ≤ 1) (sym (put_length k.cells at d)) (t.few l);
 }
 
-put_all_tidy : (ks : List Content) (a : Addr) (d : Cell) → AreTidy ks → moved_to d.mark ≡ None → size_of d ≡ size_of (cell_of ks a) → AreTidy (put_object ks a d)
+put_all_tidy : (ks : List ChunkValue) (a : Addr) (d : Cell) → AreTidy ks → moved_to d.mark ≡ None → size_of d ≡ size_of (cell_of ks a) → AreTidy (put_object ks a d)
 put_all_tidy [] a d t m s = t
 put_all_tidy (k ∷ ks) a d t m s =
     elim (cases_Bool (eqb k.number a.chunk)) [
@@ -70,7 +70,7 @@ put_all_tidy (k ∷ ks) a d t m s =
       | inr e ↦ let here = rw e at s in rw e (All-cons IsTidy k (put_object ks a d) (All-head IsTidy k ks t) (put_all_tidy ks a d (All-tail IsTidy k ks t) m here))
     ]
 
-put_place : (ks : List Content) (a : Addr) (d : Cell) (n : ℕ) → place_of (put_object ks a d) n ≡ place_of ks n
+put_place : (ks : List ChunkValue) (a : Addr) (d : Cell) (n : ℕ) → place_of (put_object ks a d) n ≡ place_of ks n
 put_place [] a d n = refl
 put_place (k ∷ ks) a d n =
     elim (cases_Bool (eqb k.number a.chunk)) [
@@ -78,7 +78,7 @@ put_place (k ∷ ks) a d n =
       | inr e ↦ rw (e, put_place ks a d n) refl
     ]
 
-put_count : (ks : List Content) (a : Addr) (d : Cell) → length (put_object ks a d) ≡ length ks
+put_count : (ks : List ChunkValue) (a : Addr) (d : Cell) → length (put_object ks a d) ≡ length ks
 put_count [] a d = refl
 put_count (k ∷ ks) a d =
     elim (cases_Bool (eqb k.number a.chunk)) [
@@ -86,7 +86,7 @@ put_count (k ∷ ks) a d =
       | inr e ↦ rw (e, put_count ks a d) refl
     ]
 
-put_apart : (ks : List Content) (a : Addr) (d : Cell) → AreApart ks → AreApart (put_object ks a d)
+put_apart : (ks : List ChunkValue) (a : Addr) (d : Cell) → AreApart ks → AreApart (put_object ks a d)
 put_apart [] a d h = h
 put_apart (k ∷ ks) a d h =
     elim (cases_Bool (eqb k.number a.chunk)) [
@@ -94,7 +94,7 @@ put_apart (k ∷ ks) a d h =
       | inr e ↦ rw e (rw (put_place ks a d k.number, put_count ks a d) h.0, put_apart ks a d h.1)
     ]
 
-pub unmoved_at : (ks : List Content) (a : Addr) → AreTidy ks → moved_to (cell_of ks a).mark ≡ None
+pub unmoved_at : (ks : List ChunkValue) (a : Addr) → AreTidy ks → moved_to (cell_of ks a).mark ≡ None
 unmoved_at [] a t = refl
 unmoved_at (k ∷ ks) a t =
     elim (cases_Bool (eqb k.number a.chunk)) [
@@ -102,7 +102,7 @@ unmoved_at (k ∷ ks) a t =
       | inr e ↦ rw e (unmoved_at ks a (All-tail IsTidy k ks t))
     ]
 
-pub settled_put : (ks : List Content) (a : Addr) (d : Cell) → IsSettled ks → d.mark ≡ (cell_of ks a).mark → size_of d ≡ size_of (cell_of ks a) → IsSettled (put_object ks a d)
+pub settled_put : (ks : List ChunkValue) (a : Addr) (d : Cell) → IsSettled ks → d.mark ≡ (cell_of ks a).mark → size_of d ≡ size_of (cell_of ks a) → IsSettled (put_object ks a d)
 settled_put ks a d h m s = record {
   tidy = put_all_tidy ks a d h.tidy (ap moved_to m ∙ unmoved_at ks a h.tidy) s;
   apart = put_apart ks a d h.apart;
@@ -113,7 +113,7 @@ settled_put ks a d h m s = record {
 pub settled_none : IsSettled []
 settled_none = record { tidy = All-nil IsTidy; apart = tt }
 
-tidy_empty : (k : Content) → k.cells ≡ [] → IsTidy k
+tidy_empty : (k : ChunkValue) → k.cells ≡ [] → IsTidy k
 tidy_empty k e = record {
   unmoved = subst (λ (cs : List Cell). All (λ (c : Cell). moved_to c.mark ≡ None) cs) (sym e) (All-nil (λ (c : Cell). moved_to c.mark ≡ None));
   alone = subst (λ (cs : List Cell). All (λ (c : Cell). 1024 < size_of c → length k.cells ≡ 1) cs) (sym e) (All-nil (λ (c : Cell). 1024 < size_of c → length k.cells ≡ 1));
@@ -121,20 +121,20 @@ tidy_empty k e = record {
   few = λ l. let n : length k.cells ≡ 0 = ap (λ (cs : List Cell). length cs) e in omega arith;
 }
 
-added_chunks : (h : Heap) (k : Content) → (added h k).chunks ≡ h.chunks ++ k ∷ []
+added_chunks : (h : LeafHeapValue) (k : ChunkValue) → (added h k).chunks ≡ h.chunks ++ k ∷ []
 added_chunks h k =
     elim (cases_Bool (eqb k.size 1024)) [
       | inl e ↦ rw e refl
       | inr e ↦ rw e refl
     ]
 
-pub settled_added : (h : Heap) (k : Content) → IsSettled h.chunks → k.cells ≡ [] → IsFresh h.chunks k.number → IsSettled (added h k).chunks
+pub settled_added : (h : LeafHeapValue) (k : ChunkValue) → IsSettled h.chunks → k.cells ≡ [] → IsFresh h.chunks k.number → IsSettled (added h k).chunks
 settled_added h k s e f = subst IsSettled (sym (added_chunks h k)) (record {
   tidy = All-push IsTidy h.chunks k s.tidy (tidy_empty k e);
   apart = placed.apart_added h.chunks k s.apart f;
 })
 
-pub settled_merged : (ls rs ks : List Content) → IsSettled ls → IsSettled rs → IsSettled ks → AreApart (ls ++ (rs ++ ks)) → IsSettled (ls ++ (rs ++ ks))
+pub settled_merged : (ls rs ks : List ChunkValue) → IsSettled ls → IsSettled rs → IsSettled ks → AreApart (ls ++ (rs ++ ks)) → IsSettled (ls ++ (rs ++ ks))
 settled_merged ls rs ks l r k apart = record {
   tidy = All-append IsTidy ls (rs ++ ks) l.tidy (All-append IsTidy rs ks r.tidy k.tidy);
   apart = apart;
@@ -146,7 +146,7 @@ size_within : (cs : List Cell) (n : ℕ) → words_in cs ≤ n → All (λ (c : 
 size_within [] n l = All-nil (λ (c : Cell). size_of c ≤ n)
 size_within (c ∷ cs) n l = All-cons (λ (d : Cell). size_of d ≤ n) c cs (omega arith) (size_within cs n (omega arith))
 
-module _ (h : Heap) (pieces : Kept) (count many part base : ℕ) (place : ℕ → Option ℕ) (entries : ℕ) (keeps : IsKept h.chunks pieces h.current h.reserved count many part base place entries) (i : ℕ) (c : Cell)
+module _ (h : LeafHeapValue) (pieces : PiecesValue) (count many part base : ℕ) (place : ℕ → Option ℕ) (entries : ℕ) (keeps : IsKept h.chunks pieces h.current h.reserved count many part base place entries) (i : ℕ) (c : Cell)
     (fits : place_for h (size_of c) ≡ Some i) (unmoved : moved_to c.mark ≡ None) where
   some : 0 < size_of c
   some = omega arith
@@ -207,10 +207,10 @@ module _ (h : Heap) (pieces : Kept) (count many part base : ℕ) (place : ℕ �
       ]
 
   -- it begins near
-  pub placed_near : (k : Content) → k ≡ get_or h.chunks i k → words_in k.cells < 1024
-  placed_near k read = subst (λ (x : Content). words_in x.cells < 1024) (sym (get_or_read h.chunks i k inside read no_chunk)) near_at
+  pub placed_near : (k : ChunkValue) → k ≡ get_or h.chunks i k → words_in k.cells < 1024
+  placed_near k read = subst (λ (x : ChunkValue). words_in x.cells < 1024) (sym (get_or_read h.chunks i k inside read no_chunk)) near_at
 
-  pub settled_placed : (k : Content) → k ≡ get_or h.chunks i k → IsSettled h.chunks → IsSettled (set h.chunks i (record k { cells = k.cells ++ c ∷ [] }))
+  pub settled_placed : (k : ChunkValue) → k ≡ get_or h.chunks i k → IsSettled h.chunks → IsSettled (set h.chunks i (record k { cells = k.cells ++ c ∷ [] }))
   settled_placed k read s =
       let same : k ≡ chunk_at h.chunks i = get_or_read h.chunks i k inside read no_chunk in
       let t : IsTidy (chunk_at h.chunks i) = All-get_or IsTidy h.chunks i no_chunk inside s.tidy in
@@ -220,7 +220,7 @@ module _ (h : Heap) (pieces : Kept) (count many part base : ℕ) (place : ℕ �
         exact = All-push Exact (chunk_at h.chunks i).cells c t.exact (λ l. (heap.fits_large h (size_of c) i fits l).1);
         few = few_by;
       } in
-      subst (λ (x : Content). IsSettled (set h.chunks i (record x { cells = x.cells ++ c ∷ [] }))) (sym same)
+      subst (λ (x : ChunkValue). IsSettled (set h.chunks i (record x { cells = x.cells ++ c ∷ [] }))) (sym same)
       (record {
         tidy = All-set IsTidy h.chunks i (record (chunk_at h.chunks i) { cells = (chunk_at h.chunks i).cells ++ c ∷ [] }) tidy s.tidy;
         apart = placed.apart_set h.chunks i (record (chunk_at h.chunks i) { cells = (chunk_at h.chunks i).cells ++ c ∷ [] }) refl s.apart;

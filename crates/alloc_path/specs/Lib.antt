@@ -1,4 +1,4 @@
-pub mod Heap
+pub mod LeafHeapValue
 pub mod Units
 pub mod FieldLaws
 pub mod PlaceLaws

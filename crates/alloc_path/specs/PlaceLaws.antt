@@ -2,34 +2,34 @@
 use Rattle.std.specs.Prelude.{◌≡◌, ℕ, ◌<◌, All, List, length}
 use Rattle.object_layout.specs.declared.word.Addr.{Addr}
 use Rattle.object_layout.specs.Cell.{Cell, size_of}
-use Rattle.object_layout.specs.Content.{Content}
+use Rattle.object_layout.specs.ChunkValue.{ChunkValue}
 use Rattle.object_layout.specs.Place.{words_in}
 use Rattle.object_layout.specs.Chunks.{cell_of, chunk_at, held_words, next_address, object_count, push_object, put_object, small_words}
 use Rattle.object_layout.specs.Objects.{objects_in}
-use Rattle.alloc_path.specs.Heap.{AreApart, AreNear}
+use Rattle.alloc_path.specs.LeafHeapValue.{AreApart, AreNear}
 
 -- another object is put in place of the one that was placed
 abbrev pub PutWherePlaced : Type 0
 PutWherePlaced =
-    (ks : List Content) (i : ℕ) (c d : Cell)
+    (ks : List ChunkValue) (i : ℕ) (c d : Cell)
     → AreApart ks → i < length ks
     → put_object (push_object ks i c) (next_address (chunk_at ks i)) d ≡ push_object ks i d
 
 -- a placed object is read where it was placed
 abbrev pub PlacedIsRead : Type 0
 PlacedIsRead =
-    (ks : List Content) (i : ℕ) (c : Cell)
+    (ks : List ChunkValue) (i : ℕ) (c : Cell)
     → AreApart ks → i < length ks
     → cell_of (push_object ks i c) (next_address (chunk_at ks i)) ≡ c
 
 -- the chunk has the same number, the same words in all, and as many of them in use
-pub record KeepsShape (old new : Content) : Type 0 where
+pub record KeepsShape (old new : ChunkValue) : Type 0 where
   pub number : new.number ≡ old.number
   pub size : new.size ≡ old.size
   pub used : words_in new.cells ≡ words_in old.cells
 
 -- a write of fields keeps what is counted
-pub record KeepsCounts (old new : List Content) : Type 0 where
+pub record KeepsCounts (old new : List ChunkValue) : Type 0 where
   pub chunks : length new ≡ length old
   pub shape : (i : ℕ) → KeepsShape (chunk_at old i) (chunk_at new i)
   pub words : held_words new ≡ held_words old
@@ -38,9 +38,9 @@ pub record KeepsCounts (old new : List Content) : Type 0 where
 
 abbrev pub WritesKeepCounts : Type 0
 WritesKeepCounts =
-    (ks : List Content) (a : Addr) (c : Cell)
+    (ks : List ChunkValue) (a : Addr) (c : Cell)
     → c.mark ≡ (cell_of ks a).mark → size_of c ≡ size_of (cell_of ks a) → KeepsCounts ks (put_object ks a c)
 
 -- where each object begins near, so does each that is read
 abbrev pub ObjectsAreNear : Type 0
-ObjectsAreNear = (ks : List Content) → AreApart ks → AreNear ks → All (λ o. o.at.offset < 1024) (objects_in ks)
+ObjectsAreNear = (ks : List ChunkValue) → AreApart ks → AreNear ks → All (λ o. o.at.offset < 1024) (objects_in ks)

@@ -1,8 +1,8 @@
 -- Chunks in a row, with places for more.
 use Rattle.std.specs.Prelude.{ℕ, List}
-use Rattle.object_layout.specs.Content.{Content}
+use Rattle.object_layout.specs.ChunkValue.{ChunkValue}
 
 -- the chunks, and how many more there are places for
-pub record Places : Type 0 where
-  pub items : List Content
+pub record RowValue : Type 0 where
+  pub items : List ChunkValue
   pub places : ℕ

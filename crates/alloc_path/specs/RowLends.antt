@@ -1,11 +1,11 @@
 -- What a row ends as, where a `&mut` to one of its chunks is returned.
 use Rattle.std.specs.Prelude.{ℕ, slice_set}
 use Rattle.std.specs.Borrow.{Fml, Lends, MutBor}
-use Rattle.object_layout.specs.Content.{Content}
+use Rattle.object_layout.specs.ChunkValue.{ChunkValue}
 use Rattle.object_layout.specs.contracts.chunk.Chunk.{the_row as chunk_row}
-use Rattle.alloc_path.specs.Row.{Places}
+use Rattle.alloc_path.specs.Row.{RowValue}
 use Rattle.alloc_path.specs.contracts.row.Row.{the_row}
 
 -- once the borrow r ends, the chunk at this place is the last one written through r
-abbrev pub lends_chunk : MutBor Places → ℕ → MutBor Content → Fml
+abbrev pub lends_chunk : MutBor RowValue → ℕ → MutBor ChunkValue → Fml
 lends_chunk s place r = Lends the_row chunk_row s r (λ k. record s.now { items = slice_set s.now.items place k })

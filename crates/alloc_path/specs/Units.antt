@@ -1,9 +1,9 @@
 -- How many units of 1,024 words chunks have.
 use Rattle.std.specs.Prelude.{ℕ, ◌+◌, ◌-◌, ◌^◌, List, [], ◌∷◌, min}
-use Rattle.object_layout.specs.Content.{Content}
-use Rattle.alloc_path.specs.Heap.{units}
+use Rattle.object_layout.specs.ChunkValue.{ChunkValue}
+use Rattle.alloc_path.specs.LeafHeapValue.{units}
 
-abbrev pub unit_count : List Content → ℕ
+abbrev pub unit_count : List ChunkValue → ℕ
 unit_count [] = 0
 unit_count (k ∷ ks) = units k.size + unit_count ks
 

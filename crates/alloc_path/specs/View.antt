@@ -2,12 +2,12 @@
 use Rattle.std.specs.Prelude.{ℕ, List, [], ◌∷◌, Option, Some, None}
 use Rattle.object_layout.specs.declared.word.Addr.{Addr}
 use Rattle.object_layout.specs.Cell.{Cell}
-use Rattle.object_layout.specs.Content.{Content}
-use Rattle.object_layout.specs.Piece.{Frozen, frozen_at}
+use Rattle.object_layout.specs.ChunkValue.{ChunkValue}
+use Rattle.object_layout.specs.Piece.{PieceValue, frozen_at}
 pub use Rattle.kept_pieces.specs.Level.{Level, level_of, nearest, piece_in}
 
 -- what begins at an offset of a chunk, of which this was seen
-abbrev pub seen_in : Option Frozen → ℕ → Option Cell
+abbrev pub seen_in : Option PieceValue → ℕ → Option Cell
 seen_in None offset = None
 seen_in (Some f) offset = frozen_at f.objects offset
 
@@ -21,5 +21,5 @@ levels_above None = []
 levels_above (Some ls) = ls
 
 -- what the children of a task see, whose heap has these chunks, and which sees these levels itself
-abbrev pub view_below : List Content → Option (List Level) → List Level
+abbrev pub view_below : List ChunkValue → Option (List Level) → List Level
 view_below ks above = level_of ks ∷ levels_above above

@@ -3,7 +3,7 @@
 ghost use Rattle.std.specs.Prelude.{◌≡◌, ◌≤◌, ◌^◌, ◌<◌};
 ghost use Rattle.object_layout.specs.Place.{words_in};
 ghost use Rattle.object_layout.specs.Chunks.{held_in, held_words, object_count, one_each, small_part, small_words, sum_in};
-ghost use Rattle.alloc_path.specs.Heap.{counted, AreWithin};
+ghost use Rattle.alloc_path.specs.LeafHeapValue.{counted, AreWithin};
 
 use super::space::SMALL;
 use object_layout::{Chunk, is_object_at, next_at};

@@ -4,7 +4,7 @@ ghost use Rattle.std.specs.Prelude.{◌≡◌, ℕ, ◌+◌, ◌-◌, ◌^◌, �
 ghost use Rattle.std.specs.Option.{option_or};
 ghost use Rattle.std.specs.HashMap.{get, hash_map_len, spare};
 ghost use Rattle.object_layout.specs.Chunks.{chunk_at, place_in};
-ghost use Rattle.alloc_path.specs.Heap.{exchanged, merged, with_places, AreApart, IsCurrent, IsReserved};
+ghost use Rattle.alloc_path.specs.LeafHeapValue.{exchanged, merged, with_places, AreApart, IsCurrent, IsReserved};
 
 use super::counts::counts_of;
 use super::row::Row;

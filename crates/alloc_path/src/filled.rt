@@ -3,7 +3,7 @@
 ghost use Rattle.std.specs.Prelude.{◌≡◌, ◌^◌, ◌<◌, length, option_map, All, Some};
 ghost use Rattle.object_layout.specs.Cell.{filled_cell, size_of, IsPlace};
 ghost use Rattle.object_layout.specs.Chunks.{chunk_at, next_address};
-ghost use Rattle.alloc_path.specs.Heap.{placed, placed_at, place_for, IsSettled};
+ghost use Rattle.alloc_path.specs.LeafHeapValue.{placed, placed_at, place_for, IsSettled};
 
 use super::counts::small_part;
 use super::space::{New, SMALL, Space};

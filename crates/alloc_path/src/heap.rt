@@ -3,7 +3,7 @@
 ghost use Rattle.std.specs.Prelude.{◌≡◌, ◌+◌, ◌^◌, ◌<◌, ◌≤◌, [], is_some, length, All, option_map, OnOk, OnErr, IfErr, IfOk, IsOk, None};
 ghost use Rattle.object_layout.specs.Cell.{filled_cell, size_of, new_cell, IsPlace};
 ghost use Rattle.object_layout.specs.Chunks.{chunk_at, held_words, next_address, object_count, small_words};
-ghost use Rattle.alloc_path.specs.Heap.{added, counted, exchanged, merged, placed, place_for, room_of, with_places, AreApart, AreNear, AreWithin, IsCurrent, IsFresh, IsReserved, IsSettled};
+ghost use Rattle.alloc_path.specs.LeafHeapValue.{added, counted, exchanged, merged, placed, place_for, room_of, with_places, AreApart, AreNear, AreWithin, IsCurrent, IsFresh, IsReserved, IsSettled};
 
 use super::space::{New, Space};
 use object_layout::{Addr, Chunk};
@@ -19,9 +19,9 @@ pub struct LeafHeap {
 }
 
 impl Model for LeafHeap {
-    ghost use Rattle.alloc_path.specs.Heap.{Heap, IsSettled};
+    ghost use Rattle.alloc_path.specs.LeafHeapValue.{LeafHeapValue, IsSettled};
 
-    ghost Value = { Heap };
+    ghost Value = { LeafHeapValue };
 
     ghost view = { λ h. h.space };
 

@@ -18,9 +18,9 @@ pub(crate) struct Row {
 
 impl Model for Row {
     ghost use Rattle.std.specs.Prelude.{◌+◌, ◌-◌, ◌≤◌, drop, vec_capacity, vec_len};
-    ghost use Rattle.alloc_path.specs.Row.{Places};
+    ghost use Rattle.alloc_path.specs.Row.{RowValue};
 
-    ghost Value = { Places };
+    ghost Value = { RowValue };
 
     ghost view = { λ r. record { items = drop r.before r.chunks.items; places = r.before + (vec_capacity r.chunks - vec_len r.chunks) } };
 

@@ -5,7 +5,7 @@ ghost use Rattle.std.specs.Arc.{arc_value};
 ghost use Rattle.std.specs.HashMap.{get};
 ghost use Rattle.std.specs.Option.{option_copied, option_or};
 ghost use Rattle.object_layout.specs.Chunks.{place_in};
-ghost use Rattle.kept_pieces.specs.Kept.{is_among, needed, Shows};
+ghost use Rattle.kept_pieces.specs.PiecesValue.{is_among, needed, Shows};
 ghost use Rattle.alloc_path.specs.View.{level_of, nearest, piece_in};
 
 use super::row::Row;

@@ -3,7 +3,7 @@
 ghost use Rattle.std.specs.Prelude.{◌≡◌, ◌+◌, ◌-◌, ◌*◌, ◌^◌, ◌<◌, ◌≤◌, [], ◌∷◌, is_some, length, option_map, OnOk, OnErr, IfErr, IsOk, None, Some};
 ghost use Rattle.object_layout.specs.Cell.{size_of, new_cell, IsPlace};
 ghost use Rattle.object_layout.specs.Chunks.{chunk_at, held_words, next_address, object_count, place_in, push_object, small_words};
-ghost use Rattle.alloc_path.specs.Heap.{added, counted, placed, placed_at, place_for, room_of, with_places, IsCurrent, IsFresh, IsReserved, IsSettled};
+ghost use Rattle.alloc_path.specs.LeafHeapValue.{added, counted, placed, placed_at, place_for, room_of, with_places, IsCurrent, IsFresh, IsReserved, IsSettled};
 
 use super::counts::small_part;
 use super::row::Row;
@@ -53,11 +53,11 @@ pub struct Space {
 }
 
 impl Model for Space {
-    ghost use Rattle.alloc_path.specs.Heap.{Heap, IsKept};
+    ghost use Rattle.alloc_path.specs.LeafHeapValue.{LeafHeapValue, IsKept};
     ghost use Rattle.std.specs.Prelude.{nat_eq};
     ghost use Rattle.std.specs.HashMap.{get, hash_map_len, spare};
 
-    ghost Value = { Heap };
+    ghost Value = { LeafHeapValue };
 
     ghost view = { λ h. record { chunks = h.chunks.items; current = h.current; reserved = h.reserved; since = h.since; slots = h.chunks.places; spare = spare h.table } };
 

@@ -3,18 +3,18 @@ use Rattle.std.proofs.Common.{◌≡◌, ℕ, suc, ◌+◌, ◌<◌, ◌++◌, �
 use Rattle.std.proofs.lemmas.Bool.{cases_eq}
 use Rattle.std.proofs.lemmas.Option.{same_Some}
 use Rattle.listed.proofs.Members.{got_other, got_same}
-use Rattle.listed.specs.Space.{Space}
+use Rattle.listed.specs.RoomyValue.{RoomyValue}
 use Rattle.hh_model.specs.declared.data.State.{State as MachineState}
 use Rattle.hh_model.specs.declared.data.Task.{Task}
 use Rattle.hh_model.specs.Step.{child_ended_by, ended_task, is_running, parent_of, parents, result_of, with_task}
 use Rattle.run_trace.specs.declared.entry.Kind.TheVariants.{Ran}
-use Rattle.run_trace.specs.Entry.{Event}
+use Rattle.run_trace.specs.Entry.{EntryValue}
 use Rattle.run_ledger.specs.declared.data.Ledger.{Ledger}
 use Rattle.run_ledger.specs.Heaps.{heap_of}
 use Rattle.heap_tree.specs.declared.state.State.TheVariants.{Ended}
 use Rattle.heap_tree.specs.Node.{Node, state_of as state_in_tree, with_state}
-use Rattle.ledger_steps.specs.Last.{EndsFirst, Ending, Runs, Splits}
-use Rattle.core_relation.specs.Value.{Home, Value}
+use Rattle.ledger_step_laws.specs.Last.{EndsFirst, Ending, Runs, Splits}
+use Rattle.core_relation.specs.Memory.{Home, Memory}
 use Rattle.core_relation.specs.Changes.{EndsHome}
 use Rattle.core_relation.specs.Fits.{part_for, with_home}
 use Rattle.core_relation.specs.RanCounts.{RanCounts}
@@ -26,9 +26,9 @@ use Rattle.core_relation.proofs.changes.With.{at_home, off_home}
 use Rattle.core_relation.proofs.parts.Workers.{ran_leaves}
 use Rattle.task_machine.specs.declared.part.Private.{Private}
 use Rattle.shared_value.specs.declared.task_at_rest.Rest.{Rest}
-use Rattle.shared_value.specs.World.{World, accounts, flat, home_in, home_of, rest_at, totals_of, value_of}
+use Rattle.shared_value.specs.SharedValue.{SharedValue, accounts, flat, home_in, home_of, rest_at, totals_of, value_of}
 use Rattle.shared_value.specs.Measured.{AreMeasured, RestsAreMeasured}
-use Rattle.shared_value.specs.Stands.{HeapForm, IsWorld}
+use Rattle.shared_value.specs.Stands.{HeapForm, IsSharedValue}
 use Rattle.shared_value.specs.Fits.{Fits, OthersFit, home_of_part, part_of}
 use Rattle.shared_value.specs.Entered.{refused}
 use Rattle.shared_value.proofs.EntryMade.{accounts_are, entered, entered_world, hand_is, held_apart, part_fits, unheld_before}
@@ -42,7 +42,7 @@ use Rattle.child_tasks.proofs.ChildReturns as steps
 use Rattle.child_tasks.proofs.ChildReturns.{waits_stop}
 use Rattle.child_tasks.proofs.LastReturnKinds.{ends}
 
-module _ (w : World) (k : ℕ) (p : Private) (I : IsWorld w) (F : Fits w k p) (at_end : IsAtEnd w p) (free : refused w (alone_event k p) ≡ None) (open_ : state_in_tree w.tree (steps.other w k p I F at_end free) ≡ Some Ended → ⊥) where
+module _ (w : SharedValue) (k : ℕ) (p : Private) (I : IsSharedValue w) (F : Fits w k p) (at_end : IsAtEnd w p) (free : refused w (alone_event k p) ≡ None) (open_ : state_in_tree w.tree (steps.other w k p I F at_end free) ≡ Some Ended → ⊥) where
   abbrev t : ℕ
   t = p.task
 
@@ -61,7 +61,7 @@ module _ (w : World) (k : ℕ) (p : Private) (I : IsWorld w) (F : Fits w k p) (a
   abbrev L : Ledger
   L = last.L w k p I F shared free_last
 
-  abbrev v : Value
+  abbrev v : Memory
   v = value_of w
 
   abbrev h : Home
@@ -121,13 +121,13 @@ module _ (w : World) (k : ℕ) (p : Private) (I : IsWorld w) (F : Fits w k p) (a
   pub has_home : t < length w.homes
   has_home = subst (λ n. t < n) (sym I.made) has_node
 
-  abbrev vt : Value
+  abbrev vt : Memory
   vt = with_home v t h
 
   here : vt.homes t ≡ h
   here = at_home v t h
 
-  module _ (j : Space Event) where
+  module _ (j : RoomyValue EntryValue) where
     abbrev tree : List Node
     tree = with_state w.tree t Ended
 
@@ -140,10 +140,10 @@ module _ (w : World) (k : ℕ) (p : Private) (I : IsWorld w) (F : Fits w k p) (a
     abbrev all_steps : ℕ
     all_steps = w.steps + suc p.fresh
 
-    abbrev w' : World
+    abbrev w' : SharedValue
     w' = entered w (last_event k p) tree w.pool homes w.sets hands w.outputs all_steps w.end j.room
 
-    abbrev v' : Value
+    abbrev v' : Memory
     v' = value_of w'
 
     rest_now : rest_at homes t ≡ Some rest
@@ -195,7 +195,7 @@ module _ (w : World) (k : ℕ) (p : Private) (I : IsWorld w) (F : Fits w k p) (a
       | inr ne ↦ I.measured u r (sym (rest_off u ne) ∙ is) (unheld_before w.hands k None u f (λ h. ne (same_Some u t (sym h ∙ hand_is w k p I (steps.on w k p I F at_end free) F))))
     ]
 
-    ended_world : IsWorld w'
+    ended_world : IsSharedValue w'
     ended_world =
         entered_world w (last_event k p) I free_last tree w.pool homes w.sets hands w.outputs all_steps w.end j.room (length-set w.homes t (Some rest) ∙ (I.made ∙ sym (made_by w.tree t Ended (slice_get w.tree t)))) (I.noted ∙ sym (made_by w.tree t Ended (slice_get w.tree t))) (length-set w.hands k None) refl
         (ran_stands_for w.program w.settings w.journal.items I.form I.legal v v' (totals_of w) (totals_of w') k t p.fresh h free_last E I.stands own (p.frames.top, p.frames.below, ends_home) notes counts)
@@ -218,20 +218,20 @@ module _ (w : World) (k : ℕ) (p : Private) (I : IsWorld w) (F : Fits w k p) (a
     more : suc p.fresh ≡ p.fresh + 1
     more = omega arith
 
-    abbrev pub ended_alone : World
+    abbrev pub ended_alone : SharedValue
     ended_alone = record w { tree = tree; homes = homes; hands = hands; steps = w.steps + (p.fresh + 1); journal = record { items = w.journal.items ++ alone_event k p ∷ []; room = j.room } }
 
     ended_is : w' ≡ ended_alone
     ended_is =
-        ap (λ n. let i : World = record w { tree = tree; homes = homes; hands = hands; steps = w.steps + n; journal = record { items = w.journal.items ++ record { worker = k; kind = Ran p.task n } ∷ []; room = j.room } } in i) more
+        ap (λ n. let i : SharedValue = record w { tree = tree; homes = homes; hands = hands; steps = w.steps + n; journal = record { items = w.journal.items ++ record { worker = k; kind = Ran p.task n } ∷ []; room = j.room } } in i) more
 
-    pub alone_world : IsWorld ended_alone
-    alone_world = subst IsWorld ended_is ended_world
+    pub alone_world : IsSharedValue ended_alone
+    alone_world = subst IsSharedValue ended_is ended_world
 
     pub alone_ends : EndsChild w ended_alone k p None
     alone_ends = record {
       enters = record { journal = refl; program = refl; settings = refl; halted = refl };
-      goes = subst (λ (i : World). (accounts i).end ≡ None) ended_is ended_goes;
-      resumed = subst (λ (i : World). None ≡ running_parent (accounts i).machine.tasks t) ended_is ended_resumed;
-      others = subst (λ (i : World). OthersFit w i k) ended_is ended_others;
+      goes = subst (λ (i : SharedValue). (accounts i).end ≡ None) ended_is ended_goes;
+      resumed = subst (λ (i : SharedValue). None ≡ running_parent (accounts i).machine.tasks t) ended_is ended_resumed;
+      others = subst (λ (i : SharedValue). OthersFit w i k) ended_is ended_others;
     }

@@ -23,13 +23,13 @@ use Rattle.run_ledger.proofs.Counted.{journals_are_counted}
 use Rattle.heap_tree.specs.declared.state.State.{State}
 use Rattle.heap_tree.specs.declared.state.State.TheVariants.{Ended}
 use Rattle.heap_tree.specs.Node.{Node, parent_of as parent_in_tree, state_of as state_in_tree}
-use Rattle.ledger_steps.specs.Last.{Splits}
+use Rattle.ledger_step_laws.specs.Last.{Splits}
 use Rattle.core_relation.specs.Whole.{state_by}
 use Rattle.task_machine.specs.declared.part.Private.{Private}
 use Rattle.shared_value.specs.Entered.{refused}
 use Rattle.shared_value.specs.Fits.{Fits}
-use Rattle.shared_value.specs.Stands.{IsWorld}
-use Rattle.shared_value.specs.World.{World, accounts}
+use Rattle.shared_value.specs.Stands.{IsSharedValue}
+use Rattle.shared_value.specs.SharedValue.{SharedValue, accounts}
 use Rattle.shared_value.proofs.PartFitsMachine as link
 use Rattle.shared_value.proofs.BeforeTheEnd.{stands_now}
 use Rattle.shared_value.proofs.StepAccounts.{After}
@@ -62,7 +62,7 @@ last_is x Ret e =
     (refl, lone_is x.below b.0, q.0, q.1)
 last_is x _ e = absurd cc
 
-module _ (w : World) (p : Private) where
+module _ (w : SharedValue) (p : Private) where
   abbrev m : MachineState
   m = machine_after w p
 
@@ -123,7 +123,7 @@ sibling_by t false e pos same = let s : sibling t ≡ t - 1 = cond-false (is_lef
 
 -- ---- THE NEXT STEP
 
-module _ (w : World) (k : ℕ) (p : Private) (I : IsWorld w) (F : Fits w k p) (at_end : IsAtEnd w p) (free : refused w (alone_event k p) ≡ None) where
+module _ (w : SharedValue) (k : ℕ) (p : Private) (I : IsSharedValue w) (F : Fits w k p) (at_end : IsAtEnd w p) (free : refused w (alone_event k p) ≡ None) where
   abbrev pub shared : IsShared w p
   shared = end_shared w p at_end
 

@@ -3,7 +3,7 @@ use Rattle.std.proofs.Common.{◌≡◌, ℕ, zero, suc, ◌+◌, ◌<◌, ◌++
 use Rattle.std.proofs.lemmas.Bool.{cases_eq, cases_lt, cond-true, lt-ltb}
 use Rattle.std.proofs.lemmas.Option.{same_Some}
 use Rattle.listed.proofs.Members.{got_back, got_front, got_other, got_past, got_within}
-use Rattle.listed.specs.Space.{Space}
+use Rattle.listed.specs.RoomyValue.{RoomyValue}
 use Rattle.hh_lang.specs.declared.instr.Instr.{Instr}
 use Rattle.hh_lang.specs.declared.instr.Instr.TheVariants.{Par}
 use Rattle.hh_model.specs.declared.data.State.{State as MachineState}
@@ -12,7 +12,7 @@ use Rattle.hh_model.specs.declared.data.Task.{Task}
 use Rattle.hh_model.specs.Effect.{onward}
 use Rattle.hh_model.specs.Step.{child, depth_limit, edge, strand, strand_of}
 use Rattle.hh_model.proofs.Runs.{grown_at}
-use Rattle.run_trace.specs.Entry.{Event}
+use Rattle.run_trace.specs.Entry.{EntryValue}
 use Rattle.run_ledger.specs.declared.data.Ledger.{Ledger}
 use Rattle.object_layout.specs.declared.word.Addr.{Addr}
 use Rattle.alloc_path.specs.View.{view_below}
@@ -21,10 +21,10 @@ use Rattle.heap_tree.specs.Node.{Node, child_of, depth_of, forked, with_state}
 use Rattle.heap_tree.proofs.ChangeLemmas.{all}
 use Rattle.write_barrier.specs.declared.sets.SetOf.{SetOf}
 use Rattle.write_barrier.specs.Stored.{content_at, content_of}
-use Rattle.inner_mark_gc.specs.Marks.{Marks}
-use Rattle.ledger_steps.specs.Accounts.{rested}
-use Rattle.ledger_steps.specs.Last.{Forking, ForksOn, Runs, Splits}
-use Rattle.core_relation.specs.Value.{Home, Noted, Value, sources}
+use Rattle.inner_mark_gc.specs.MarkingValue.{MarkingValue}
+use Rattle.ledger_step_laws.specs.Accounts.{rested}
+use Rattle.ledger_step_laws.specs.Last.{Forking, ForksOn, Runs, Splits}
+use Rattle.core_relation.specs.Memory.{Home, Noted, Memory, sources}
 use Rattle.core_relation.specs.Begins.{AreRoots}
 use Rattle.core_relation.specs.Changes.{ForksHome, advanced, child_home}
 use Rattle.core_relation.specs.Fits.{part_for, with_home}
@@ -37,9 +37,9 @@ use Rattle.core_relation.proofs.parts.Workers.{ran_leaves}
 use Rattle.task_machine.specs.declared.part.Private.{Private}
 use Rattle.shared_value.specs.declared.task_at_rest.Rest.{Rest}
 use Rattle.shared_value.specs.Objects.{levels_of}
-use Rattle.shared_value.specs.World.{World, marks_at, accounts, flat, home_in, home_of, noted_in, rest_at, totals_of, value_of}
+use Rattle.shared_value.specs.SharedValue.{SharedValue, marks_at, accounts, flat, home_in, home_of, noted_in, rest_at, totals_of, value_of}
 use Rattle.shared_value.specs.Measured.{AreMeasured, RestsAreMeasured}
-use Rattle.shared_value.specs.Stands.{HeapForm, IsWorld}
+use Rattle.shared_value.specs.Stands.{HeapForm, IsSharedValue}
 use Rattle.shared_value.specs.Fits.{Fits, OthersFit, home_of_part, part_of}
 use Rattle.shared_value.specs.Entered.{refused}
 use Rattle.shared_value.proofs.EntryMade.{hand_is, held_apart, unheld_before}
@@ -65,12 +65,12 @@ abbrev right_of : Instr → ℕ
 right_of (Par g h) = h
 right_of _ = 0
 
-none_left : (marks : List (Option Marks)) (t : ℕ) → marks_at (slice_set marks t None) t ≡ None
+none_left : (marks : List (Option MarkingValue)) (t : ℕ) → marks_at (slice_set marks t None) t ≡ None
 none_left [] t = refl
 none_left (m ∷ marks) zero = refl
 none_left (m ∷ marks) (suc t) = none_left marks t
 
-module _ (w : World) (k : ℕ) (p : Private) (I : IsWorld w) (F : Fits w k p) (at_fork : IsAtFork w p) (free : refused w (alone_event k p) ≡ None) (left right number : ℕ) (B : ForksTo w p left right number) (shallow : depth_of w.tree p.task < 1000) where
+module _ (w : SharedValue) (k : ℕ) (p : Private) (I : IsSharedValue w) (F : Fits w k p) (at_fork : IsAtFork w p) (free : refused w (alone_event k p) ≡ None) (left right number : ℕ) (B : ForksTo w p left right number) (shallow : depth_of w.tree p.task < 1000) where
   abbrev t : ℕ
   t = p.task
 
@@ -89,7 +89,7 @@ module _ (w : World) (k : ℕ) (p : Private) (I : IsWorld w) (F : Fits w k p) (a
   abbrev L : Ledger
   L = last.L w k p I F shared free_last
 
-  abbrev v : Value
+  abbrev v : Memory
   v = value_of w
 
   abbrev h : Home
@@ -154,13 +154,13 @@ module _ (w : World) (k : ℕ) (p : Private) (I : IsWorld w) (F : Fits w k p) (a
   pub has_node : t < length w.tree
   has_node = let n = steps.node_out w I (steps.on w k p I F at_fork free) k p F in got_within w.tree t n.0 n.1
 
-  abbrev vt : Value
+  abbrev vt : Memory
   vt = with_home v t h
 
   here : vt.homes t ≡ h
   here = at_home v t h
 
-  module _ (homes : List (Option Rest)) (sets : List SetOf) (H : HomesFork w.homes homes p left right) (N : SetsFork w.sets sets t) (marks : List (Option Marks)) (unmarked : marks ≡ slice_set w.marks t None) (j : Space Event) where
+  module _ (homes : List (Option Rest)) (sets : List SetOf) (H : HomesFork w.homes homes p left right) (N : SetsFork w.sets sets t) (marks : List (Option MarkingValue)) (unmarked : marks ≡ slice_set w.marks t None) (j : RoomyValue EntryValue) where
     abbrev tree : List Node
     tree = forked w.tree t
 
@@ -170,10 +170,10 @@ module _ (w : World) (k : ℕ) (p : Private) (I : IsWorld w) (F : Fits w k p) (a
     abbrev all_steps : ℕ
     all_steps = w.steps + suc p.fresh
 
-    abbrev pub w' : World
+    abbrev pub w' : SharedValue
     w' = entered_marks w (last_event k p) tree w.pool homes sets hands w.outputs all_steps w.end j.room marks
 
-    abbrev v' : Value
+    abbrev v' : Memory
     v' = value_of w'
 
     noted_then : (u : ℕ) → noted_in (slice_get sets u) ≡ noted_of (content_at sets u)
@@ -308,7 +308,7 @@ module _ (w : World) (k : ℕ) (p : Private) (I : IsWorld w) (F : Fits w k p) (a
       ]
     ]
 
-    pub forked_world : IsWorld w'
+    pub forked_world : IsSharedValue w'
     forked_world =
         let n = all w.tree t in
         marked_world w (last_event k p) I free_last tree w.pool homes sets hands w.outputs all_steps w.end j.room marks

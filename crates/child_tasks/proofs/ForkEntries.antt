@@ -3,19 +3,19 @@ use Rattle.std.proofs.Common.{◌≡◌, ℕ, suc, ◌+◌, ◌<◌, ◌++◌, a
 use Rattle.std.proofs.lemmas.Bool.{cases_lt}
 use Rattle.std.proofs.lemmas.Option.{get_or_from_slice_get}
 use Rattle.listed.proofs.Members.{got_back, got_front, got_other, got_past, got_same, got_within}
-use Rattle.listed.specs.Space.{Space}
+use Rattle.listed.specs.RoomyValue.{RoomyValue}
 use Rattle.run_trace.specs.declared.entry.Kind.TheVariants.{Ran}
-use Rattle.run_trace.specs.Entry.{Event}
+use Rattle.run_trace.specs.Entry.{EntryValue}
 use Rattle.heap_tree.specs.Node.{depth_of, forked}
-use Rattle.remembered_set.specs.Sources.{Notes}
+use Rattle.remembered_set.specs.Sources.{RememberedValue}
 use Rattle.write_barrier.specs.declared.sets.SetOf.{SetOf}
 use Rattle.write_barrier.specs.Stored.{content_of}
-use Rattle.inner_mark_gc.specs.Marks.{Marks}
+use Rattle.inner_mark_gc.specs.MarkingValue.{MarkingValue}
 use Rattle.fork_join.specs.declared.forks.Child.{Child}
 use Rattle.task_machine.specs.declared.part.Private.{Private}
 use Rattle.shared_value.specs.declared.task_at_rest.Rest.{Rest}
-use Rattle.shared_value.specs.World.{World, accounts, flat, rest_at}
-use Rattle.shared_value.specs.Stands.{IsWorld}
+use Rattle.shared_value.specs.SharedValue.{SharedValue, accounts, flat, rest_at}
+use Rattle.shared_value.specs.Stands.{IsSharedValue}
 use Rattle.shared_value.specs.Fits.{Fits, OthersFit}
 use Rattle.shared_value.specs.Entered.{refused}
 use Rattle.shared_value.proofs.TaskTaken.{item_there, put_there}
@@ -84,7 +84,7 @@ homes_fork homes p left right sl sp sl' sp' made =
       others = λ u nt na nb. put_other homes p made x y z u nt na nb;
     }
 
-module _ (w : World) (k : ℕ) (p : Private) (I : IsWorld w) (F : Fits w k p) (at_fork : IsAtFork w p) (free : refused w (alone_event k p) ≡ None) (left right number : ℕ) (B : ForksTo w p left right number) (shallow : depth_of w.tree p.task < 1000) where
+module _ (w : SharedValue) (k : ℕ) (p : Private) (I : IsSharedValue w) (F : Fits w k p) (at_fork : IsAtFork w p) (free : refused w (alone_event k p) ≡ None) (left right number : ℕ) (B : ForksTo w p left right number) (shallow : depth_of w.tree p.task < 1000) where
   more : suc p.fresh ≡ p.fresh + 1
   more = omega arith
 
@@ -94,8 +94,8 @@ module _ (w : World) (k : ℕ) (p : Private) (I : IsWorld w) (F : Fits w k p) (a
   pub own_set : p.task < length w.sets
   own_set = subst (λ n. p.task < n) (sym I.noted) (forked_by.has_node w k p I F at_fork free left right number B shallow)
 
-  module _ (homes : List (Option Rest)) (sets : List SetOf) (H : HomesFork w.homes homes p left right) (N : SetsFork w.sets sets p.task) (marks : List (Option Marks)) (unmarked : marks ≡ slice_set w.marks p.task None) (j : Space Event) where
-    abbrev pub forked_alone : World
+  module _ (homes : List (Option Rest)) (sets : List SetOf) (H : HomesFork w.homes homes p left right) (N : SetsFork w.sets sets p.task) (marks : List (Option MarkingValue)) (unmarked : marks ≡ slice_set w.marks p.task None) (j : RoomyValue EntryValue) where
+    abbrev pub forked_alone : SharedValue
     forked_alone = record w {
       tree = forked w.tree p.task;
       homes = homes;
@@ -108,7 +108,7 @@ module _ (w : World) (k : ℕ) (p : Private) (I : IsWorld w) (F : Fits w k p) (a
 
     forked_is : record w { tree = forked w.tree p.task; homes = homes; sets = sets; marks = marks; hands = slice_set w.hands k None; steps = w.steps + suc p.fresh; journal = record { items = w.journal.items ++ last_event k p ∷ []; room = j.room } } ≡ forked_alone
     forked_is =
-        ap (λ n. let z : World = record w {
+        ap (λ n. let z : SharedValue = record w {
           tree = forked w.tree p.task;
           homes = homes;
           sets = sets;
@@ -118,8 +118,8 @@ module _ (w : World) (k : ℕ) (p : Private) (I : IsWorld w) (F : Fits w k p) (a
           journal = record { items = w.journal.items ++ record { worker = k; kind = Ran p.task n } ∷ []; room = j.room };
         } in z) more
 
-    pub alone_world : IsWorld forked_alone
-    alone_world = subst IsWorld forked_is (forked_world w k p I F at_fork free left right number B shallow homes sets H N marks unmarked j)
+    pub alone_world : IsSharedValue forked_alone
+    alone_world = subst IsSharedValue forked_is (forked_world w k p I F at_fork free left right number B shallow homes sets H N marks unmarked j)
 
     pub alone_forks : (a b : ℕ) → a ≡ length w.tree → b ≡ length w.tree + 1 → ForksOn w forked_alone k p a b
     alone_forks a b ea eb =
@@ -128,8 +128,8 @@ module _ (w : World) (k : ℕ) (p : Private) (I : IsWorld w) (F : Fits w k p) (a
           enters = record { journal = refl; program = refl; settings = refl; halted = refl };
           left_is = ea ∙ long;
           right_is = eb ∙ ap (λ n. n + 1) long;
-          goes = subst (λ (z : World). (accounts z).end ≡ None) forked_is (forked_goes w k p I F at_fork free left right number B shallow homes sets H N marks unmarked j);
-          others = subst (λ (z : World). OthersFit w z k) forked_is (forked_others w k p I F at_fork free left right number B shallow homes sets H N marks unmarked j);
+          goes = subst (λ (z : SharedValue). (accounts z).end ≡ None) forked_is (forked_goes w k p I F at_fork free left right number B shallow homes sets H N marks unmarked j);
+          others = subst (λ (z : SharedValue). OthersFit w z k) forked_is (forked_others w k p I F at_fork free left right number B shallow homes sets H N marks unmarked j);
         }
 
 -- ---- WHAT THE CODE MAKES OF HOMES AND SETS
@@ -149,7 +149,7 @@ homes_fork_by homes wider after p left right first second made eg ef es ea =
     subst (λ hs. HomesFork homes hs p left right) (sym is) (homes_fork homes p left right first.heap.slots first.heap.spare second.heap.slots second.heap.spare made)
 
 pub keeping_by : (s s' : SetOf) → s'.remembered ≡ s.remembered → s'.kept.items ≡ [] → s'.keeps ≡ true → content_of s' ≡ keeping (content_of s)
-keeping_by s s' er ek eb = λ i. record { sources = ap (λ (n : Notes). n.sources) er i; kept = ek i; keeps = eb i }
+keeping_by s s' er ek eb = λ i. record { sources = ap (λ (n : RememberedValue). n.sources) er i; kept = ek i; keeps = eb i }
 
 pub sets_fork : (sets : List SetOf) (t : ℕ) (s s' x y : SetOf) → slice_get sets t ≡ Some s → content_of s' ≡ keeping (content_of s) → content_of x ≡ nothing_noted → content_of y ≡ nothing_noted
     → SetsFork sets ((slice_set sets t s' ++ x ∷ []) ++ y ∷ []) t

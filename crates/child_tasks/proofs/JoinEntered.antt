@@ -3,24 +3,24 @@ use Rattle.std.proofs.Common.{◌≡◌, ℕ, ℤ, suc, ◌+◌, ◌++◌, arith
 use Rattle.std.proofs.lemmas.Bool.{cases_eq}
 use Rattle.std.proofs.lemmas.Option.{same_Some}
 use Rattle.listed.proofs.Members.{got_other}
-use Rattle.listed.specs.Space.{Space}
+use Rattle.listed.specs.RoomyValue.{RoomyValue}
 use Rattle.hh_model.specs.declared.data.Task.{Task}
 use Rattle.run_trace.specs.declared.entry.Kind.TheVariants.{Ran}
-use Rattle.run_trace.specs.Entry.{Event}
+use Rattle.run_trace.specs.Entry.{EntryValue}
 use Rattle.run_ledger.specs.declared.data.Ledger.{Ledger}
 use Rattle.object_layout.specs.declared.word.Addr.{Addr}
-use Rattle.chunk_pool.specs.Chunks.{Chunks}
-use Rattle.alloc_path.specs.Heap.{Heap, merged, room_of, with_places}
+use Rattle.chunk_pool.specs.PoolValue.{PoolValue}
+use Rattle.alloc_path.specs.LeafHeapValue.{LeafHeapValue, merged, room_of, with_places}
 use Rattle.alloc_path.specs.View.{Level}
-use Rattle.task_frames.specs.Stack.{Stack}
+use Rattle.task_frames.specs.FramesValue.{FramesValue}
 use Rattle.heap_tree.specs.declared.state.State.TheVariants.{Ended}
 use Rattle.heap_tree.specs.Node.{Node, state_of as state_in_tree, with_state}
 use Rattle.write_barrier.specs.declared.sets.SetOf.{SetOf}
 use Rattle.write_barrier.specs.Stored.{Content as NotedOf, content_at}
 use Rattle.fork_join.specs.Joined.{AreRelabelled, joined_nodes, with_results}
-use Rattle.ledger_steps.specs.Accounts.{rested}
-use Rattle.ledger_steps.specs.Last.{EndsLast, Joining, Runs, Splits}
-use Rattle.core_relation.specs.Value.{Home, Noted, Value, sources}
+use Rattle.ledger_step_laws.specs.Accounts.{rested}
+use Rattle.ledger_step_laws.specs.Last.{EndsLast, Joining, Runs, Splits}
+use Rattle.core_relation.specs.Memory.{Home, Noted, Memory, sources}
 use Rattle.core_relation.specs.Changes.{HasResult, JoinsHomes}
 use Rattle.core_relation.specs.Fits.{part_for, with_home}
 use Rattle.core_relation.specs.RanCounts.{NodesJoin, RanCounts}
@@ -33,8 +33,8 @@ use Rattle.task_machine.specs.declared.part.Private.{Private}
 use Rattle.shared_value.specs.declared.task_at_rest.Rest.{Rest}
 use Rattle.shared_value.specs.declared.task_at_rest.Work.{Work}
 use Rattle.shared_value.specs.declared.task_at_rest.Work.TheVariants.{Calls}
-use Rattle.shared_value.specs.World.{World, no_home, noted_in, accounts, flat, home_by, home_in, rest_at, totals_of, value_of}
-use Rattle.shared_value.specs.Stands.{HeapForm, IsWorld}
+use Rattle.shared_value.specs.SharedValue.{SharedValue, no_home, noted_in, accounts, flat, home_by, home_in, rest_at, totals_of, value_of}
+use Rattle.shared_value.specs.Stands.{HeapForm, IsSharedValue}
 use Rattle.shared_value.specs.Fits.{Fits, OthersFit, home_of_part, part_of}
 use Rattle.shared_value.specs.Entered.{refused}
 use Rattle.shared_value.proofs.EntryMade.{accounts_are, entered, entered_world, held_apart, part_fits}
@@ -57,7 +57,7 @@ use Rattle.child_tasks.proofs.JoinedHomes as both
 none_some : {A B : Type 0} {x : A} → ◌≡◌ {A = Option A} None (Some x) → B
 none_some e = absurd cc
 
-module _ (w : World) (k : ℕ) (p : Private) (I : IsWorld w) (F : Fits w k p) (at_end : IsAtEnd w p) (free : refused w (alone_event k p) ≡ None) (ended : state_in_tree w.tree (steps.other w k p I F at_end free) ≡ Some Ended) where
+module _ (w : SharedValue) (k : ℕ) (p : Private) (I : IsSharedValue w) (F : Fits w k p) (at_end : IsAtEnd w p) (free : refused w (alone_event k p) ≡ None) (ended : state_in_tree w.tree (steps.other w k p I F at_end free) ≡ Some Ended) where
   abbrev t : ℕ
   t = p.task
 
@@ -70,13 +70,13 @@ module _ (w : World) (k : ℕ) (p : Private) (I : IsWorld w) (F : Fits w k p) (a
   abbrev L : Ledger
   L = last.L w k p I F (steps.shared w k p I F at_end free) (steps.free_last w k p I F at_end free)
 
-  abbrev v : Value
+  abbrev v : Memory
   v = value_of w
 
   abbrev h : Home
   h = home_of_part p
 
-  abbrev vt : Value
+  abbrev vt : Memory
   vt = with_home v t h
 
   abbrev x : Task
@@ -115,9 +115,9 @@ module _ (w : World) (k : ℕ) (p : Private) (I : IsWorld w) (F : Fits w k p) (a
   abbrev own : FitsValue w.program w.settings (part_for w.settings t h p.fresh) v l
   own = F.fits
 
-  module _ (above beside : Rest) (frames : Stack) (above_is : rest_at w.homes q ≡ Some above) (calls : above.work ≡ Calls frames) (beside_is : IsRestOf (rest_at w.homes s) beside) (c : ℕ) (lh rh : Heap) (al ar : ℤ × Option Addr) (side : AreSides p s beside c lh rh al ar) where
-    module _ (homes : List (Option Rest)) (sets : List SetOf) (pool : Chunks) (heap : Heap) (H : HomesJoin w.homes homes p q s (with_results frames al ar) heap above) (N : SetsJoin w.sets sets q c (c + 1) above.heap.chunks)
-        (relabelled : AreRelabelled w.pool pool (lh.chunks ++ rh.chunks) q) (heap_is : heap ≡ with_places (merged above.heap lh rh) heap.slots heap.spare) (room_is : room_of heap ≡ room_of above.heap) (j : Space Event) where
+  module _ (above beside : Rest) (frames : FramesValue) (above_is : rest_at w.homes q ≡ Some above) (calls : above.work ≡ Calls frames) (beside_is : IsRestOf (rest_at w.homes s) beside) (c : ℕ) (lh rh : LeafHeapValue) (al ar : ℤ × Option Addr) (side : AreSides p s beside c lh rh al ar) where
+    module _ (homes : List (Option Rest)) (sets : List SetOf) (pool : PoolValue) (heap : LeafHeapValue) (H : HomesJoin w.homes homes p q s (with_results frames al ar) heap above) (N : SetsJoin w.sets sets q c (c + 1) above.heap.chunks)
+        (relabelled : AreRelabelled w.pool pool (lh.chunks ++ rh.chunks) q) (heap_is : heap ≡ with_places (merged above.heap lh rh) heap.slots heap.spare) (room_is : room_of heap ≡ room_of above.heap) (j : RoomyValue EntryValue) where
       abbrev tree : List Node
       tree = joined_nodes (with_state w.tree t Ended) q c (c + 1)
 
@@ -127,10 +127,10 @@ module _ (w : World) (k : ℕ) (p : Private) (I : IsWorld w) (F : Fits w k p) (a
       abbrev all_steps : ℕ
       all_steps = w.steps + suc p.fresh
 
-      abbrev w' : World
+      abbrev w' : SharedValue
       w' = entered w (last_event k p) tree pool homes sets hands w.outputs all_steps w.end j.room
 
-      abbrev v' : Value
+      abbrev v' : Memory
       v' = value_of w'
 
       -- ---- WHAT IS NOTED
@@ -152,7 +152,7 @@ module _ (w : World) (k : ℕ) (p : Private) (I : IsWorld w) (F : Fits w k p) (a
       }
 
       -- ---- THE HOMES
-      abbrev HasBoth : ℕ → Heap → Type 0
+      abbrev HasBoth : ℕ → LeafHeapValue → Type 0
       HasBoth u g = (n : ℕ) × (z : Work) × (view : List Level) × (vt.homes u ≡ home_by g view n z) × (v'.homes u ≡ no_home)
 
       both_then : HasBoth c lh × HasBoth (c + 1) rh
@@ -263,7 +263,7 @@ module _ (w : World) (k : ℕ) (p : Private) (I : IsWorld w) (F : Fits w k p) (a
       made : Made
       made = (al, ar, joins_so, (both.results w k p I F at_end free ended above beside frames above_is calls beside_is c lh rh al ar side).0, (both.results w k p I F at_end free ended above beside frames above_is calls beside_is c lh rh al ar side).1)
 
-      joined_world : IsWorld w'
+      joined_world : IsSharedValue w'
       joined_world =
           let n = joined_long w.tree t q c (c + 1) (both.child_of_two w k p I F at_end free ended above beside frames above_is calls beside_is c lh rh al ar side) q_c q_d c_d in
           entered_world w (last_event k p) I free_last tree pool homes sets hands w.outputs all_steps w.end j.room (H.many ∙ (I.made ∙ sym n)) (N.many ∙ (I.noted ∙ sym n)) (length-set w.hands k None) relabelled.limit
@@ -287,20 +287,20 @@ module _ (w : World) (k : ℕ) (p : Private) (I : IsWorld w) (F : Fits w k p) (a
       more : suc p.fresh ≡ p.fresh + 1
       more = omega arith
 
-      abbrev pub joined_alone : World
+      abbrev pub joined_alone : SharedValue
       joined_alone = record w { tree = tree; pool = pool; homes = homes; sets = sets; hands = hands; steps = w.steps + (p.fresh + 1); journal = record { items = w.journal.items ++ alone_event k p ∷ []; room = j.room } }
 
       joined_is : w' ≡ joined_alone
       joined_is =
-          ap (λ n. let i : World = record w { tree = tree; pool = pool; homes = homes; sets = sets; hands = hands; steps = w.steps + n; journal = record { items = w.journal.items ++ record { worker = k; kind = Ran p.task n } ∷ []; room = j.room } } in i) more
+          ap (λ n. let i : SharedValue = record w { tree = tree; pool = pool; homes = homes; sets = sets; hands = hands; steps = w.steps + n; journal = record { items = w.journal.items ++ record { worker = k; kind = Ran p.task n } ∷ []; room = j.room } } in i) more
 
-      pub alone_world : IsWorld joined_alone
-      alone_world = subst IsWorld joined_is joined_world
+      pub alone_world : IsSharedValue joined_alone
+      alone_world = subst IsSharedValue joined_is joined_world
 
       pub alone_joins : EndsChild w joined_alone k p (Some q)
       alone_joins = record {
         enters = record { journal = refl; program = refl; settings = refl; halted = refl };
-        goes = subst (λ (i : World). (accounts i).end ≡ None) joined_is joined_goes;
-        resumed = subst (λ (i : World). Some q ≡ running_parent (accounts i).machine.tasks t) joined_is joined_resumed;
-        others = subst (λ (i : World). OthersFit w i k) joined_is joined_others;
+        goes = subst (λ (i : SharedValue). (accounts i).end ≡ None) joined_is joined_goes;
+        resumed = subst (λ (i : SharedValue). Some q ≡ running_parent (accounts i).machine.tasks t) joined_is joined_resumed;
+        others = subst (λ (i : SharedValue). OthersFit w i k) joined_is joined_others;
       }

@@ -5,16 +5,16 @@ use Rattle.std.specs.Prelude.{IfSome}
 use Rattle.std.proofs.lemmas.Bool.{cases_eq}
 use Rattle.std.proofs.lemmas.Option.{same_Some}
 use Rattle.listed.proofs.Members.{got_within}
-use Rattle.listed.specs.Space.{Space}
-use Rattle.run_trace.specs.Entry.{Event}
-use Rattle.chunk_pool.specs.Chunks.{Chunks}
-use Rattle.task_frames.specs.Stack.{Stack}
+use Rattle.listed.specs.RoomyValue.{RoomyValue}
+use Rattle.run_trace.specs.Entry.{EntryValue}
+use Rattle.chunk_pool.specs.PoolValue.{PoolValue}
+use Rattle.task_frames.specs.FramesValue.{FramesValue}
 use Rattle.heap_tree.specs.declared.state.State.{State}
 use Rattle.heap_tree.specs.declared.state.State.TheVariants.{Ended, Waiting}
 use Rattle.heap_tree.specs.Node.{Node, parent_of as parent_in_tree, state_of as state_in_tree, with_state}
 use Rattle.heap_tree.specs.Pairs.{is_left, sibling}
 use Rattle.heap_tree.proofs.ChangeLemmas.{states_change}
-use Rattle.remembered_set.specs.Sources.{Notes, lifted}
+use Rattle.remembered_set.specs.Sources.{RememberedValue, lifted}
 use Rattle.write_barrier.specs.declared.sets.SetOf.{SetOf}
 use Rattle.write_barrier.specs.Stored.{content_at}
 use Rattle.fork_join.specs.declared.sides.EndedChild.{EndedChild}
@@ -22,8 +22,8 @@ use Rattle.fork_join.specs.Joined.{AreRelabelled, HasRoom, HaveEnded, Joins, joi
 use Rattle.task_machine.specs.declared.part.Private.{Private}
 use Rattle.shared_value.specs.declared.task_at_rest.Rest.{Rest}
 use Rattle.shared_value.specs.declared.task_at_rest.Work.TheVariants.{Calls}
-use Rattle.shared_value.specs.World.{World, rest_at}
-use Rattle.shared_value.specs.Stands.{IsWorld}
+use Rattle.shared_value.specs.SharedValue.{SharedValue, rest_at}
+use Rattle.shared_value.specs.Stands.{IsSharedValue}
 use Rattle.shared_value.specs.Fits.{Fits, IsAtWork}
 use Rattle.shared_value.specs.Entered.{refused}
 use Rattle.shared_value.proofs.BeforeTheEnd.{stands_now}
@@ -43,7 +43,7 @@ use Rattle.child_tasks.proofs.TwoChildren.{both, count_of, each, in_pairs, right
 none_some : {A B : Type 0} {x : A} → ◌≡◌ {A = Option A} None (Some x) → B
 none_some e = absurd cc
 
-module _ (w : World) (k : ℕ) (p : Private) (I : IsWorld w) (F : Fits w k p) (at_end : IsAtEnd w p) (free : refused w (alone_event k p) ≡ None) (ended : state_in_tree w.tree (sibling p.task) ≡ Some Ended) where
+module _ (w : SharedValue) (k : ℕ) (p : Private) (I : IsSharedValue w) (F : Fits w k p) (at_end : IsAtEnd w p) (free : refused w (alone_event k p) ≡ None) (ended : state_in_tree w.tree (sibling p.task) ≡ Some Ended) where
   abbrev pub q : ℕ
   q = steps.parent w k p I F at_end free
 
@@ -98,7 +98,7 @@ module _ (w : World) (k : ℕ) (p : Private) (I : IsWorld w) (F : Fits w k p) (a
   pub calls : HasCalls (rest_at w.homes q)
   calls = before.parent_calls w k p I F at_end free ended
 
-  module _ (above beside : Rest) (own_notes other_notes notes : Notes) (above_of : IsRestOf (rest_at w.homes q) above) (beside_of : IsRestOf (rest_at w.homes s') beside) where
+  module _ (above beside : Rest) (own_notes other_notes notes : RememberedValue) (above_of : IsRestOf (rest_at w.homes q) above) (beside_of : IsRestOf (rest_at w.homes s') beside) where
     abbrev L : EndedChild
     L = left_of (is_left p.task) (own_child p own_notes) (other_child s' beside other_notes)
 
@@ -108,17 +108,17 @@ module _ (w : World) (k : ℕ) (p : Private) (I : IsWorld w) (F : Fits w k p) (a
     abbrev nodes : List Node
     nodes = with_state w.tree p.task Ended
 
-    above_by : (o : Option Rest) → HasCalls o → IsRestOf o above → (o ≡ Some above) × (f : Stack) × (above.work ≡ Calls f)
+    above_by : (o : Option Rest) → HasCalls o → IsRestOf o above → (o ≡ Some above) × (f : FramesValue) × (above.work ≡ Calls f)
     above_by None h e = absurd h
     above_by (Some x) h e = (ap Some (sym e), h.0, ap (λ (z : Rest). z.work) e ∙ h.1)
 
-    pub above_all : (rest_at w.homes q ≡ Some above) × (f : Stack) × (above.work ≡ Calls f)
+    pub above_all : (rest_at w.homes q ≡ Some above) × (f : FramesValue) × (above.work ≡ Calls f)
     above_all = above_by (rest_at w.homes q) calls above_of
 
     abbrev pub above_is : rest_at w.homes q ≡ Some above
     above_is = above_all.0
 
-    abbrev pub frames : Stack
+    abbrev pub frames : FramesValue
     frames = above_all.1
 
     abbrev pub frames_are : above.work ≡ Calls frames
@@ -194,8 +194,8 @@ module _ (w : World) (k : ℕ) (p : Private) (I : IsWorld w) (F : Fits w k p) (a
           let e = both p beside own_notes other_notes low (λ i. length i.side.remembered.sources) in
           let f : length own_notes.sources ≡ length (sources_at w.sets p.task) = ap (λ xs. length xs) own_is in
           let g : length other_notes.sources ≡ length (sources_at w.sets s') = ap (λ xs. length xs) other_is in
-          let i : notes.slots ≡ set_there.0.remembered.slots = ap (λ (z : Notes). z.slots) n in
-          let j : notes.spare ≡ set_there.0.remembered.spare = ap (λ (z : Notes). z.spare) n in
+          let i : notes.slots ≡ set_there.0.remembered.slots = ap (λ (z : RememberedValue). z.slots) n in
+          let j : notes.spare ≡ set_there.0.remembered.spare = ap (λ (z : RememberedValue). z.spare) n in
           record {
             slots = omega (arith, a.0, c, d);
             spare = omega (arith, a.1, c, d);
@@ -213,7 +213,7 @@ module _ (w : World) (k : ℕ) (p : Private) (I : IsWorld w) (F : Fits w k p) (a
       }
 
     -- ---- THE SETS
-    pub sets_join : (sets : List SetOf) (rest : Rest) (notes_then : Notes) → Joins (parent_side q above notes) (parent_side q rest notes_then) L.side R.side → own_notes.sources ≡ sources_at w.sets p.task → other_notes.sources ≡ sources_at w.sets s' → notes.sources ≡ sources_at w.sets q
+    pub sets_join : (sets : List SetOf) (rest : Rest) (notes_then : RememberedValue) → Joins (parent_side q above notes) (parent_side q rest notes_then) L.side R.side → own_notes.sources ≡ sources_at w.sets p.task → other_notes.sources ≡ sources_at w.sets s' → notes.sources ≡ sources_at w.sets q
         → length sets ≡ length w.sets → content_at sets p.task ≡ Some nothing_noted → content_at sets s' ≡ Some nothing_noted → content_at sets q ≡ Some (record { sources = notes_then.sources; kept = []; keeps = false })
         → ((u : ℕ) → (u ≡ q → ⊥) → (u ≡ p.task → ⊥) → (u ≡ s' → ⊥) → content_at sets u ≡ content_at w.sets u) → SetsJoin w.sets sets q L.side.task (L.side.task + 1) above.heap.chunks
     sets_join sets rest notes_then J own_is other_is set_is many own_empty other_empty at others =
@@ -236,9 +236,9 @@ module _ (w : World) (k : ℕ) (p : Private) (I : IsWorld w) (F : Fits w k p) (a
         }
 
     -- ---- THE WHOLE ENTRY
-    module _ (homes : List (Option Rest)) (sets : List SetOf) (pool : Chunks) (rest : Rest) (H : HomesJoin w.homes homes p q s' (with_results frames L.result R.result) rest.heap above) (N : SetsJoin w.sets sets q L.side.task (L.side.task + 1) above.heap.chunks)
-        (relabelled : AreRelabelled w.pool pool (L.side.heap.chunks ++ R.side.heap.chunks) q) (notes_then : Notes) (J : Joins (parent_side q above notes) (parent_side q rest notes_then) L.side R.side) (j : Space Event) where
-      abbrev pub then_ : World
+    module _ (homes : List (Option Rest)) (sets : List SetOf) (pool : PoolValue) (rest : Rest) (H : HomesJoin w.homes homes p q s' (with_results frames L.result R.result) rest.heap above) (N : SetsJoin w.sets sets q L.side.task (L.side.task + 1) above.heap.chunks)
+        (relabelled : AreRelabelled w.pool pool (L.side.heap.chunks ++ R.side.heap.chunks) q) (notes_then : RememberedValue) (J : Joins (parent_side q above notes) (parent_side q rest notes_then) L.side R.side) (j : RoomyValue EntryValue) where
+      abbrev pub then_ : SharedValue
       then_ = record w {
         tree = joined_nodes nodes q L.side.task R.side.task;
         pool = pool;
@@ -252,12 +252,12 @@ module _ (w : World) (k : ℕ) (p : Private) (I : IsWorld w) (F : Fits w k p) (a
       same_tree : record then_ { tree = joined_nodes nodes q L.side.task (L.side.task + 1) } ≡ then_
       same_tree = ap (λ n. record then_ { tree = joined_nodes nodes q L.side.task n }) (sym (right_next p beside own_notes other_notes low))
 
-      pub then_world : IsWorld then_
+      pub then_world : IsSharedValue then_
       then_world =
-          subst IsWorld same_tree
+          subst IsSharedValue same_tree
           (joined.alone_world w k p I F at_end free ended above beside frames above_is frames_are beside_of L.side.task L.side.heap R.side.heap L.result R.result side homes sets pool rest.heap H N relabelled J.heap J.room j)
 
       pub then_joins : EndsChild w then_ k p (Some q)
       then_joins =
-          subst (λ (z : World). EndsChild w z k p (Some q)) same_tree
+          subst (λ (z : SharedValue). EndsChild w z k p (Some q)) same_tree
           (joined.alone_joins w k p I F at_end free ended above beside frames above_is frames_are beside_of L.side.task L.side.heap R.side.heap L.result R.result side homes sets pool rest.heap H N relabelled J.heap J.room j)

@@ -8,53 +8,53 @@ use Rattle.listed.proofs.Members.{any_from_in, contains_from_in, in_append_cases
 use Rattle.run_ledger.specs.declared.data.Ledger.{Ledger}
 use Rattle.object_layout.specs.declared.word.Addr.{Addr}
 use Rattle.object_layout.specs.Chunks.{has_chunk}
-use Rattle.object_layout.specs.Content.{Content}
+use Rattle.object_layout.specs.ChunkValue.{ChunkValue}
 use Rattle.object_layout.proofs.Owning.{found_any}
 use Rattle.chunk_pool.specs.declared.pool.Held.{Held}
-use Rattle.chunk_pool.specs.Chunks.{Chunks, held_at, owner_of}
-use Rattle.alloc_path.specs.Heap.{Heap, counted, merged, room_of, with_places}
+use Rattle.chunk_pool.specs.PoolValue.{PoolValue, held_at, owner_of}
+use Rattle.alloc_path.specs.LeafHeapValue.{LeafHeapValue, counted, merged, room_of, with_places}
 use Rattle.alloc_path.specs.View.{Level}
-use Rattle.task_frames.specs.Stack.{Stack}
+use Rattle.task_frames.specs.FramesValue.{FramesValue}
 use Rattle.remembered_set.specs.declared.remembered.Source.{Source}
 use Rattle.remembered_set.specs.Sources.{lifted}
 use Rattle.remembered_set.proofs.LiftLemmas.{lifted_are_there}
 use Rattle.write_barrier.specs.Stored.{Content as NotedOf}
 use Rattle.fork_join.specs.Joined.{AreRelabelled, with_results as with_both}
 use Rattle.fork_join.proofs.Owners.{joined_are_owned}
-use Rattle.ledger_steps.specs.Accounts.{Rests, own}
-use Rattle.core_relation.specs.Value.{Chunk, Home, no_home, In, Value, sources}
+use Rattle.ledger_step_laws.specs.Accounts.{Rests, own}
+use Rattle.core_relation.specs.Memory.{Chunk, Home, no_home, In, Memory, sources}
 use Rattle.core_relation.specs.Changes.{IsLifted, JoinsHomes, top_with_results}
 use Rattle.core_relation.specs.Stands.{Stands}
 use Rattle.core_relation.proofs.objects.Members.{in_chunk, in_map, map_in}
 use Rattle.shared_value.specs.declared.task_at_rest.Work.{Work}
 use Rattle.shared_value.specs.declared.task_at_rest.Work.TheVariants.{Calls, Result}
 use Rattle.shared_value.specs.Objects.{chunk_of, chunks_of}
-use Rattle.shared_value.specs.World.{home_by}
+use Rattle.shared_value.specs.SharedValue.{home_by}
 use Rattle.child_tasks.specs.Joins.{sources_by}
 use Rattle.child_tasks.proofs.SetsNoted.{noted_of}
 
 -- ---- CHUNKS BY NUMBER
 
-pub has_in : (ks : List Content) (n : ℕ) → has_chunk ks n ≡ true → (k : Content) × In ks k × (k.number ≡ n)
-has_in ks n e = let f = in_from_any (λ (k : Content). eqb k.number n) ks (sym (found_any ks n) ∙ e) in (f.0, f.1, eqb-true f.0.number n f.2)
+pub has_in : (ks : List ChunkValue) (n : ℕ) → has_chunk ks n ≡ true → (k : ChunkValue) × In ks k × (k.number ≡ n)
+has_in ks n e = let f = in_from_any (λ (k : ChunkValue). eqb k.number n) ks (sym (found_any ks n) ∙ e) in (f.0, f.1, eqb-true f.0.number n f.2)
 
-pub in_has : (ks : List Content) (k : Content) → In ks k → has_chunk ks k.number ≡ true
-in_has ks k i = found_any ks k.number ∙ any_from_in (λ (c : Content). eqb c.number k.number) ks k i (eq-eqb k.number k.number refl)
+pub in_has : (ks : List ChunkValue) (k : ChunkValue) → In ks k → has_chunk ks k.number ≡ true
+in_has ks k i = found_any ks k.number ∙ any_from_in (λ (c : ChunkValue). eqb c.number k.number) ks k i (eq-eqb k.number k.number refl)
 
 held_by : (o : Option Held) (u : ℕ) → option_map (λ (h : Held). h.owner) o ≡ Some u → IsSome o
 held_by None u e = absurd (let n : ◌≡◌ {A = Option ℕ} None (Some u) = e in cc)
 held_by (Some h) u e = refl
 
-pub owner_held : (pool : Chunks) (n u : ℕ) → owner_of pool n ≡ Some u → IsSome (held_at pool n)
+pub owner_held : (pool : PoolValue) (n u : ℕ) → owner_of pool n ≡ Some u → IsSome (held_at pool n)
 owner_held pool n u e = held_by (held_at pool n) u e
 
 -- ---- HOMES
 
-pub by_chunks : (h : Heap) (view : List Level) (n : ℕ) (x : Work) → (home_by h view n x).chunks ≡ chunks_of h.chunks
+pub by_chunks : (h : LeafHeapValue) (view : List Level) (n : ℕ) (x : Work) → (home_by h view n x).chunks ≡ chunks_of h.chunks
 by_chunks h view n (Calls s) = refl
 by_chunks h view n (Result k r) = refl
 
-pub by_since : (h : Heap) (view : List Level) (n : ℕ) (x : Work) → (home_by h view n x).since ≡ h.since
+pub by_since : (h : LeafHeapValue) (view : List Level) (n : ℕ) (x : Work) → (home_by h view n x).since ≡ h.since
 by_since h view n (Calls s) = refl
 by_since h view n (Result k r) = refl
 
@@ -64,18 +64,18 @@ by_content None = refl
 by_content (Some c) = refl
 
 -- what the code makes of the homes of the task q and its children c and d
-pub record Merges (v v' : Value) (pool pool' : Chunks) (q c d : ℕ) (al ar : ℤ × Option Addr) : Type 0 where
-  pub own_heap : Heap
-  pub left_heap : Heap
-  pub right_heap : Heap
-  pub heap_then : Heap
+pub record Merges (v v' : Memory) (pool pool' : PoolValue) (q c d : ℕ) (al ar : ℤ × Option Addr) : Type 0 where
+  pub own_heap : LeafHeapValue
+  pub left_heap : LeafHeapValue
+  pub right_heap : LeafHeapValue
+  pub heap_then : LeafHeapValue
   pub own_view : List Level
   pub left_view : List Level
   pub right_view : List Level
   pub own_count : ℕ
   pub left_count : ℕ
   pub right_count : ℕ
-  pub frames : Stack
+  pub frames : FramesValue
   pub left_work : Work
   pub right_work : Work
   pub own_home : v.homes q ≡ home_by own_heap own_view own_count (Calls frames)
@@ -102,29 +102,29 @@ pub record Merges (v v' : Value) (pool pool' : Chunks) (q c d : ℕ) (al ar : �
   pub right_noted_then : sources v' d ≡ []
   pub others_noted : (u : ℕ) → (u ≡ q → ⊥) → (u ≡ c → ⊥) → (u ≡ d → ⊥) → sources v' u ≡ sources v u
 
-module _ (v v' : Value) (l : Ledger) (V : Stands v l) (pool pool' : Chunks) (q c d : ℕ) (al ar : ℤ × Option Addr) (rq : Rests l q) (rc : Rests l c) (rd : Rests l d) (J : Merges v v' pool pool' q c d al ar) where
-  abbrev ks : List Content
+module _ (v v' : Memory) (l : Ledger) (V : Stands v l) (pool pool' : PoolValue) (q c d : ℕ) (al ar : ℤ × Option Addr) (rq : Rests l q) (rc : Rests l c) (rd : Rests l d) (J : Merges v v' pool pool' q c d al ar) where
+  abbrev ks : List ChunkValue
   ks = J.own_heap.chunks
 
-  abbrev both : List Content
+  abbrev both : List ChunkValue
   both = J.left_heap.chunks ++ J.right_heap.chunks
 
   -- a content of a home is owned by its task
-  owned_at : (u n : ℕ) (h : Heap) (view : List Level) (x : Work) → v.homes u ≡ home_by h view n x → Rests l u → (k : Content) → In h.chunks k → v.owner k.number ≡ Some u
+  owned_at : (u n : ℕ) (h : LeafHeapValue) (view : List Level) (x : Work) → v.homes u ≡ home_by h view n x → Rests l u → (k : ChunkValue) → In h.chunks k → v.owner k.number ≡ Some u
   owned_at u n h view x e r k i =
       (V.homes u r).owned (chunk_of k) (subst (λ (ks : List Chunk). In ks (chunk_of k)) (sym (ap (λ (z : Home). z.chunks) e ∙ by_chunks h view n x)) (in_map chunk_of h.chunks k i))
 
-  own_owned : (k : Content) → In ks k → v.owner k.number ≡ Some q
+  own_owned : (k : ChunkValue) → In ks k → v.owner k.number ≡ Some q
   own_owned k i = owned_at q J.own_count J.own_heap J.own_view (Calls J.frames) J.own_home rq k i
 
-  left_owned : (k : Content) → In J.left_heap.chunks k → v.owner k.number ≡ Some c
+  left_owned : (k : ChunkValue) → In J.left_heap.chunks k → v.owner k.number ≡ Some c
   left_owned k i = owned_at c J.left_count J.left_heap J.left_view J.left_work J.left_home rc k i
 
-  right_owned : (k : Content) → In J.right_heap.chunks k → v.owner k.number ≡ Some d
+  right_owned : (k : ChunkValue) → In J.right_heap.chunks k → v.owner k.number ≡ Some d
   right_owned k i = owned_at d J.right_count J.right_heap J.right_view J.right_work J.right_home rd k i
 
   -- the content of a chunk of a home
-  content_at : (u n : ℕ) (h : Heap) (view : List Level) (x : Work) → v.homes u ≡ home_by h view n x → (k : Chunk) → In (v.homes u).chunks k → (z : Content) × In h.chunks z × (z.number ≡ k.number)
+  content_at : (u n : ℕ) (h : LeafHeapValue) (view : List Level) (x : Work) → v.homes u ≡ home_by h view n x → (k : Chunk) → In (v.homes u).chunks k → (z : ChunkValue) × In h.chunks z × (z.number ≡ k.number)
   content_at u n h view x e k i =
       let z = map_in chunk_of h.chunks k (subst (λ (ks : List Chunk). In ks k) (ap (λ (z : Home). z.chunks) e ∙ by_chunks h view n x) i) in
       (z.0, z.1, ap (λ (y : Chunk). y.number) z.2)
@@ -222,7 +222,7 @@ module _ (v v' : Value) (l : Ledger) (V : Stands v l) (pool pool' : Chunks) (q c
   chunks_then : (v'.homes q).chunks ≡ (v.homes c).chunks ++ (v.homes d).chunks ++ (v.homes q).chunks
   chunks_then =
       ap (λ (z : Home). z.chunks) J.own_then
-      ∙ (ap (λ (h : Heap). chunks_of h.chunks) J.heap_is
+      ∙ (ap (λ (h : LeafHeapValue). chunks_of h.chunks) J.heap_is
       ∙ (map-append chunk_of J.left_heap.chunks (J.right_heap.chunks ++ ks)
       ∙ (ap (λ zs. chunks_of J.left_heap.chunks ++ zs) (map-append chunk_of J.right_heap.chunks ks)
       ∙ (sym (append_assoc (chunks_of J.left_heap.chunks) (chunks_of J.right_heap.chunks) (chunks_of ks))
@@ -233,7 +233,7 @@ module _ (v v' : Value) (l : Ledger) (V : Stands v l) (pool pool' : Chunks) (q c
       let a : (v.homes q).since ≡ J.own_heap.since = ap (λ (z : Home). z.since) J.own_home in
       let b : (v.homes c).since ≡ J.left_heap.since = ap (λ (z : Home). z.since) J.left_home ∙ by_since J.left_heap J.left_view J.left_count J.left_work in
       let e : (v.homes d).since ≡ J.right_heap.since = ap (λ (z : Home). z.since) J.right_home ∙ by_since J.right_heap J.right_view J.right_count J.right_work in
-      let f : (v'.homes q).since ≡ counted (J.own_heap.since + (J.left_heap.since + J.right_heap.since)) = ap (λ (z : Home). z.since) J.own_then ∙ ap (λ (h : Heap). h.since) J.heap_is in
+      let f : (v'.homes q).since ≡ counted (J.own_heap.since + (J.left_heap.since + J.right_heap.since)) = ap (λ (z : Home). z.since) J.own_then ∙ ap (λ (h : LeafHeapValue). h.since) J.heap_is in
       let small = J.small in
       omega (arith, a, b, e, f, small)
 

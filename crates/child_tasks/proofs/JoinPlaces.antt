@@ -4,28 +4,28 @@ use Rattle.std.specs.Prelude.{IfSome}
 use Rattle.std.proofs.lemmas.Bool.{cases_eq}
 use Rattle.std.proofs.lemmas.Option.{same_Some}
 use Rattle.std.proofs.Math.Path.{fun_ext}
-use Rattle.alloc_path.specs.Heap.{Heap, with_places}
+use Rattle.alloc_path.specs.LeafHeapValue.{LeafHeapValue, with_places}
 use Rattle.alloc_path.specs.View.{Level}
 use Rattle.heap_tree.specs.Pairs.{sibling}
 use Rattle.write_barrier.specs.declared.sets.SetOf.{SetOf}
 use Rattle.write_barrier.specs.Stored.{content_at, content_of}
-use Rattle.core_relation.specs.Value.{Home, Noted, Value}
+use Rattle.core_relation.specs.Memory.{Home, Noted, Memory}
 use Rattle.core_relation.specs.Whole.{StandsForAll}
 use Rattle.core_relation.specs.Worker.{Fits as FitsValue}
 use Rattle.task_machine.specs.declared.part.Private.{Private}
 use Rattle.shared_value.specs.declared.task_at_rest.Rest.{Rest}
 use Rattle.shared_value.specs.declared.task_at_rest.Work.{Work}
 use Rattle.shared_value.specs.declared.task_at_rest.Work.TheVariants.{Calls, Result}
-use Rattle.shared_value.specs.World.{World, accounts, marks_at, home_by, home_in, rest_at, totals_of, value_of}
+use Rattle.shared_value.specs.SharedValue.{SharedValue, accounts, marks_at, home_by, home_in, rest_at, totals_of, value_of}
 use Rattle.shared_value.specs.Measured.{AreMeasured, IsUnheld}
-use Rattle.shared_value.specs.Stands.{HeapForm, IsWorld}
+use Rattle.shared_value.specs.Stands.{HeapForm, IsSharedValue}
 use Rattle.shared_value.specs.Fits.{Fits, part_of}
 use Rattle.own_steps.specs.Alone.{alone_event}
 use Rattle.child_tasks.specs.ChildEnds.{EndsChild}
 use Rattle.child_tasks.specs.Joins.{HasPlaces, IsSameRest, SameButPlaces, chunk_count, sources_at, sources_by}
 use Rattle.child_tasks.proofs.SetsNoted.{noted_by, noted_of}
 
-same_home : (h : Heap) (view : List Level) (n slots spare : ℕ) (x : Work) → home_by (with_places h slots spare) view n x ≡ home_by h view n x
+same_home : (h : LeafHeapValue) (view : List Level) (n slots spare : ℕ) (x : Work) → home_by (with_places h slots spare) view n x ≡ home_by h view n x
 same_home h view n slots spare (Calls s) = refl
 same_home h view n slots spare (Result k r) = refl
 
@@ -33,25 +33,25 @@ home_same : (o o' : Option Rest) → IsSameRest o o' → home_in o' ≡ home_in 
 home_same None o' e = ap home_in e
 home_same (Some r) o' e = ap home_in e.2 ∙ same_home r.heap r.view r.allocations e.0 e.1 r.work
 
-form_places : (h : Heap) (slots spare : ℕ) → HeapForm h → HeapForm (with_places h slots spare)
+form_places : (h : LeafHeapValue) (slots spare : ℕ) → HeapForm h → HeapForm (with_places h slots spare)
 form_places h slots spare F = record { shaped = record { apart = F.shaped.apart; current = F.shaped.current; reserved = F.shaped.reserved }; near = F.near; tidy = F.tidy; within = F.within; last = F.last; last_large = F.last_large; since = F.since; whole = F.whole; spare = F.spare }
 
 none_some : {A B : Type 0} {x : A} → ◌≡◌ {A = Option A} None (Some x) → B
 none_some e = absurd cc
 
-module _ (w : World) (homes : List (Option Rest)) (sets : List SetOf) (many : length homes ≡ length w.homes) (same : (u : ℕ) → IsSameRest (rest_at w.homes u) (rest_at homes u)) (many_sets : length sets ≡ length w.sets)
+module _ (w : SharedValue) (homes : List (Option Rest)) (sets : List SetOf) (many : length homes ≡ length w.homes) (same : (u : ℕ) → IsSameRest (rest_at w.homes u) (rest_at homes u)) (many_sets : length sets ≡ length w.sets)
     (same_sets : (u : ℕ) → content_at sets u ≡ content_at w.sets u) where
-  abbrev w' : World
+  abbrev w' : SharedValue
   w' = record w { homes = homes; sets = sets }
 
   value_same : value_of w' ≡ value_of w
   value_same =
       let hs : (λ t. home_in (rest_at homes t)) ≡ (λ t. home_in (rest_at w.homes t)) = fun_ext (λ u. home_same (rest_at w.homes u) (rest_at homes u) (same u)) in
       let ns : (value_of w').noted ≡ (value_of w).noted = fun_ext (λ u. ap (λ (z : Noted). record z { marked = marks_at w.marks u }) (noted_by sets u ∙ (ap noted_of (same_sets u) ∙ sym (noted_by w.sets u)))) in
-      ap (λ (f : ℕ → Home). let v : Value = record { homes = f; noted = (value_of w').noted; owner = (value_of w).owner } in v) hs
-      ∙ ap (λ (f : ℕ → Noted). let v : Value = record { homes = (value_of w).homes; noted = f; owner = (value_of w).owner } in v) ns
+      ap (λ (f : ℕ → Home). let v : Memory = record { homes = f; noted = (value_of w').noted; owner = (value_of w).owner } in v) hs
+      ∙ ap (λ (f : ℕ → Noted). let v : Memory = record { homes = (value_of w).homes; noted = f; owner = (value_of w).owner } in v) ns
 
-  module _ (I : IsWorld w) where
+  module _ (I : IsSharedValue w) where
     form_then : (u : ℕ) (r : Rest) (o : Option Rest) → rest_at w.homes u ≡ o → IsSameRest o (rest_at homes u) → rest_at homes u ≡ Some r → HeapForm r.heap
     form_then u r None e S is = none_some (sym S ∙ is)
     form_then u r (Some z) e S is = subst (λ (y : Rest). HeapForm y.heap) (same_Some _ r (sym S.2 ∙ is)) (form_places z.heap S.0 S.1 (I.heaps u z e))
@@ -60,7 +60,7 @@ module _ (w : World) (homes : List (Option Rest)) (sets : List SetOf) (many : le
     measured_then u r None e S is f = none_some (sym S ∙ is)
     measured_then u r (Some z) e S is f = subst (λ (y : Rest). AreMeasured w.pool u y.heap.chunks) (same_Some _ r (sym S.2 ∙ is)) (I.measured u z e f)
 
-    places_world_by : IsWorld w'
+    places_world_by : IsSharedValue w'
     places_world_by = record {
       limits = I.limits;
       form = I.form;
@@ -69,7 +69,7 @@ module _ (w : World) (homes : List (Option Rest)) (sets : List SetOf) (many : le
       noted = many_sets ∙ I.noted;
       workers = I.workers;
       limit = I.limit;
-      stands = subst (λ (v : Value). StandsForAll v (totals_of w) (accounts w)) (sym value_same) I.stands;
+      stands = subst (λ (v : Memory). StandsForAll v (totals_of w) (accounts w)) (sym value_same) I.stands;
       heaps = λ u r is. form_then u r (rest_at w.homes u) refl (same u) is;
       measured = λ u r is f. measured_then u r (rest_at w.homes u) refl (same u) is f;
     }
@@ -77,28 +77,28 @@ module _ (w : World) (homes : List (Option Rest)) (sets : List SetOf) (many : le
   places_fit_by : (k : ℕ) (p : Private) → Fits w k p → Fits w' k p
   places_fit_by k p F = record {
     held = F.held;
-    fits = subst (λ (v : Value). FitsValue w.program w.settings (part_of w.settings p) v (accounts w)) (sym value_same) F.fits;
+    fits = subst (λ (v : Memory). FitsValue w.program w.settings (part_of w.settings p) v (accounts w)) (sym value_same) F.fits;
     form = F.form;
     measured = F.measured;
     leaf_limit = F.leaf_limit;
     field_limit = F.field_limit;
   }
 
-module _ (w after : World) (P : SameButPlaces w after) where
-  pub places_world : IsWorld w → IsWorld after
-  places_world I = subst IsWorld (sym P.rest) (places_world_by w after.homes after.sets P.many P.homes P.many_sets P.sets I)
+module _ (w after : SharedValue) (P : SameButPlaces w after) where
+  pub places_world : IsSharedValue w → IsSharedValue after
+  places_world I = subst IsSharedValue (sym P.rest) (places_world_by w after.homes after.sets P.many P.homes P.many_sets P.sets I)
 
   pub places_fit : (k : ℕ) (p : Private) → Fits w k p → Fits after k p
-  places_fit k p F = subst (λ (z : World). Fits z k p) (sym P.rest) (places_fit_by w after.homes after.sets P.many P.homes P.many_sets P.sets k p F)
+  places_fit k p F = subst (λ (z : SharedValue). Fits z k p) (sym P.rest) (places_fit_by w after.homes after.sets P.many P.homes P.many_sets P.sets k p F)
 
   -- what doesn't see homes and sets is the same
-  pub places_same : (G : World → Type 0) → ((homes : List (Option Rest)) (sets : List SetOf) → G w → G (record w { homes = homes; sets = sets })) → G w → G after
+  pub places_same : (G : SharedValue → Type 0) → ((homes : List (Option Rest)) (sets : List SetOf) → G w → G (record w { homes = homes; sets = sets })) → G w → G after
   places_same G keeps g = subst G (sym P.rest) (keeps after.homes after.sets g)
 
   -- an entry made after it is one made before it
-  pub places_ends : (then_ : World) (k : ℕ) (p : Private) (answer : Option ℕ) → EndsChild after then_ k p answer → EndsChild w then_ k p answer
+  pub places_ends : (then_ : SharedValue) (k : ℕ) (p : Private) (answer : Option ℕ) → EndsChild after then_ k p answer → EndsChild w then_ k p answer
   places_ends then_ k p answer E = record {
-    enters = record { journal = E.enters.journal ∙ ap (λ (z : World). z.journal.items ++ alone_event k p ∷ []) P.rest; program = E.enters.program ∙ ap (λ (z : World). z.program) P.rest; settings = E.enters.settings ∙ ap (λ (z : World). z.settings) P.rest; halted = E.enters.halted ∙ ap (λ (z : World). z.halted) P.rest };
+    enters = record { journal = E.enters.journal ∙ ap (λ (z : SharedValue). z.journal.items ++ alone_event k p ∷ []) P.rest; program = E.enters.program ∙ ap (λ (z : SharedValue). z.program) P.rest; settings = E.enters.settings ∙ ap (λ (z : SharedValue). z.settings) P.rest; halted = E.enters.halted ∙ ap (λ (z : SharedValue). z.halted) P.rest };
     goes = E.goes;
     resumed = E.resumed;
     others = λ u r ne G. E.others u r ne (places_fit u r G);
@@ -110,10 +110,10 @@ pub same_itself : (o o' : Option Rest) → o' ≡ o → IsSameRest o o'
 same_itself None o' e = e
 same_itself (Some r) o' e = (r.heap.slots, r.heap.spare, e)
 
-pub same_world : (w : World) → SameButPlaces w w
+pub same_world : (w : SharedValue) → SameButPlaces w w
 same_world w = record { rest = refl; many = refl; homes = λ u. same_itself (rest_at w.homes u) (rest_at w.homes u) refl; many_sets = refl; sets = λ u. refl }
 
-module _ (w : World) (homes : List (Option Rest)) (sets : List SetOf) (q : ℕ) (many : length homes ≡ length w.homes) (others : (u : ℕ) → (u ≡ q → ⊥) → rest_at homes u ≡ rest_at w.homes u) (same : IsSameRest (rest_at w.homes q) (rest_at homes q))
+module _ (w : SharedValue) (homes : List (Option Rest)) (sets : List SetOf) (q : ℕ) (many : length homes ≡ length w.homes) (others : (u : ℕ) → (u ≡ q → ⊥) → rest_at homes u ≡ rest_at w.homes u) (same : IsSameRest (rest_at w.homes q) (rest_at homes q))
     (many_sets : length sets ≡ length w.sets) (same_sets : (u : ℕ) → content_at sets u ≡ content_at w.sets u) where
   pub placed_same : SameButPlaces w (record w { homes = homes; sets = sets })
   placed_same = record {

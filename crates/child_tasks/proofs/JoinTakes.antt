@@ -1,21 +1,21 @@
 -- Homes and sets that a join takes from and puts into, one after another.
 use Rattle.std.proofs.Common.{◌≡◌, ℕ, ◌<◌, false, Option, Some, None, List, [], length, length-set, slice_get, slice_set, option_map, ap, sym, subst, ◌∙◌}
 use Rattle.listed.proofs.Members.{got_other}
-use Rattle.alloc_path.specs.Heap.{Heap}
-use Rattle.task_frames.specs.Stack.{Stack}
-use Rattle.remembered_set.specs.Sources.{Notes}
+use Rattle.alloc_path.specs.LeafHeapValue.{LeafHeapValue}
+use Rattle.task_frames.specs.FramesValue.{FramesValue}
+use Rattle.remembered_set.specs.Sources.{RememberedValue}
 use Rattle.write_barrier.specs.declared.sets.SetOf.{SetOf}
 use Rattle.write_barrier.specs.Stored.{content_at, content_of}
 use Rattle.task_machine.specs.declared.part.Private.{Private}
 use Rattle.shared_value.specs.declared.task_at_rest.Rest.{Rest}
 use Rattle.shared_value.specs.declared.task_at_rest.Work.TheVariants.{Calls}
-use Rattle.shared_value.specs.World.{flat, rest_at}
+use Rattle.shared_value.specs.SharedValue.{flat, rest_at}
 use Rattle.shared_value.proofs.TaskTaken.{put_there}
 use Rattle.child_tasks.specs.Forks.{nothing_noted}
 use Rattle.child_tasks.specs.Joins.{HomesJoin}
 
 -- the part's home is left, then its sibling's, and the parent's is put
-pub homes_join : (h h1 h2 h4 : List (Option Rest)) (p : Private) (q s : ℕ) (frames : Stack) (heap : Heap) (above rest : Rest) → (q ≡ p.task → ⊥) → (q ≡ s → ⊥) → (s ≡ p.task → ⊥) → q < length h2
+pub homes_join : (h h1 h2 h4 : List (Option Rest)) (p : Private) (q s : ℕ) (frames : FramesValue) (heap : LeafHeapValue) (above rest : Rest) → (q ≡ p.task → ⊥) → (q ≡ s → ⊥) → (s ≡ p.task → ⊥) → q < length h2
     → length h1 ≡ length h → rest_at h1 p.task ≡ None → ((u : ℕ) → (u ≡ p.task → ⊥) → rest_at h1 u ≡ rest_at h u)
     → length h2 ≡ length h1 → rest_at h2 s ≡ None → ((u : ℕ) → (u ≡ s → ⊥) → rest_at h2 u ≡ rest_at h1 u)
     → h4 ≡ slice_set (slice_set h2 q None) q (Some rest) → rest ≡ record above { work = Calls frames; heap = heap } → HomesJoin h h4 p q s frames heap above
@@ -31,7 +31,7 @@ homes_join h h1 h2 h4 p q s frames heap above rest qt qs st lt n1 own o1 n2 othe
     }
 
 -- the sets of the three are taken, and the parent's is put
-pub record SetsChain (x x1 x2 x3 x4 : List SetOf) (t s q : ℕ) (notes : Notes) : Type 0 where
+pub record SetsChain (x x1 x2 x3 x4 : List SetOf) (t s q : ℕ) (notes : RememberedValue) : Type 0 where
   pub n1 : length x1 ≡ length x
   pub n2 : length x2 ≡ length x1
   pub n3 : length x3 ≡ length x2
@@ -44,7 +44,7 @@ pub record SetsChain (x x1 x2 x3 x4 : List SetOf) (t s q : ℕ) (notes : Notes) 
   pub o3 : (u : ℕ) → (u ≡ q → ⊥) → slice_get x3 u ≡ slice_get x2 u
   pub o4 : (u : ℕ) → (u ≡ q → ⊥) → content_at x4 u ≡ content_at x3 u
 
-module _ (x x1 x2 x3 x4 : List SetOf) (t s q : ℕ) (notes : Notes) (C : SetsChain x x1 x2 x3 x4 t s q notes) (qt : q ≡ t → ⊥) (qs : q ≡ s → ⊥) (st : s ≡ t → ⊥) where
+module _ (x x1 x2 x3 x4 : List SetOf) (t s q : ℕ) (notes : RememberedValue) (C : SetsChain x x1 x2 x3 x4 t s q notes) (qt : q ≡ t → ⊥) (qs : q ≡ s → ⊥) (st : s ≡ t → ⊥) where
   pub chain_many : length x4 ≡ length x
   chain_many = C.n4 ∙ (C.n3 ∙ (C.n2 ∙ C.n1))
 

@@ -11,20 +11,20 @@ use Rattle.hh_model.specs.declared.data.Status.TheVariants.{Running, Waiting as 
 use Rattle.hh_model.specs.declared.data.Task.{Task}
 use Rattle.hh_model.specs.Step.{is_over, is_waiting, kept_by, result_in, waits}
 use Rattle.object_layout.specs.declared.word.Addr.{Addr}
-use Rattle.alloc_path.specs.Heap.{Heap, room_of}
+use Rattle.alloc_path.specs.LeafHeapValue.{LeafHeapValue, room_of}
 use Rattle.alloc_path.specs.View.{Level}
-use Rattle.task_frames.specs.Stack.{Stack}
+use Rattle.task_frames.specs.FramesValue.{FramesValue}
 use Rattle.heap_tree.specs.declared.state.State.TheVariants.{Ended, Joined, Ready}
 use Rattle.heap_tree.specs.declared.state.State.{State}
 use Rattle.heap_tree.specs.Node.{Node, with_state}
 use Rattle.fork_join.specs.Joined.{joined_nodes}
-use Rattle.core_relation.specs.Value.{In}
+use Rattle.core_relation.specs.Memory.{In}
 use Rattle.core_relation.specs.Reads.{HoldsRead, TaskIsRead}
 use Rattle.core_relation.specs.RanCounts.{node_then}
 use Rattle.shared_value.specs.declared.task_at_rest.Work.{Work}
 use Rattle.shared_value.specs.declared.task_at_rest.Work.TheVariants.{Calls, Result}
 use Rattle.shared_value.specs.declared.task_at_rest.Rest.{Rest}
-use Rattle.shared_value.specs.World.{home_by, home_in, home_of}
+use Rattle.shared_value.specs.SharedValue.{home_by, home_in, home_of}
 use Rattle.shared_value.proofs.TaskTaken.{made_by, node_by, node_off}
 
 -- ---- THE TREE
@@ -101,7 +101,7 @@ pub waits_is : (o : Option Task) → is_waiting o ≡ true → (y : Task) × (o 
 waits_is None e = absurd (false≢true e)
 waits_is (Some y) e = (y, refl)
 
-pub by_room : (h : Heap) (view : List Level) (n : ℕ) (x : Work) → (home_by h view n x).room ≡ room_of h
+pub by_room : (h : LeafHeapValue) (view : List Level) (n : ℕ) (x : Work) → (home_by h view n x).room ≡ room_of h
 by_room h view n (Calls s) = refl
 by_room h view n (Result k r) = refl
 
@@ -130,7 +130,7 @@ waiting_is x e = by x.status e
 
 abbrev pub HasCalls : Option Rest → Type 0
 HasCalls None = ⊥
-HasCalls (Some r) = (s : Stack) × (r.work ≡ Calls s)
+HasCalls (Some r) = (s : FramesValue) × (r.work ≡ Calls s)
 
 pub waiting_calls : (at : Name → Addr → Type 0) (o : Option Rest) (x : Task) → x.status ≡ WaitingOf → TaskIsRead at (home_in o) x → HasCalls o
 waiting_calls at None x e h = absurd (subst (HoldsRead at (home_in None) x) e h)

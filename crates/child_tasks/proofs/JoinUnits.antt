@@ -6,22 +6,22 @@ use Rattle.listed.proofs.Members.{in_append_cases, in_append_left, in_append_rig
 use Rattle.run_ledger.specs.declared.data.Heap.{Heap as Account}
 use Rattle.run_ledger.specs.declared.data.Ledger.{Ledger}
 use Rattle.object_layout.specs.declared.word.Addr.{Addr}
-use Rattle.object_layout.specs.Content.{Content}
+use Rattle.object_layout.specs.ChunkValue.{ChunkValue}
 use Rattle.chunk_pool.specs.declared.pool.Held.{Held}
-use Rattle.chunk_pool.specs.Chunks.{Chunks, held_at}
-use Rattle.alloc_path.specs.Heap.{Heap, merged, with_places}
-use Rattle.task_frames.specs.Stack.{Stack}
+use Rattle.chunk_pool.specs.PoolValue.{PoolValue, held_at}
+use Rattle.alloc_path.specs.LeafHeapValue.{LeafHeapValue, merged, with_places}
+use Rattle.task_frames.specs.FramesValue.{FramesValue}
 use Rattle.heap_tree.specs.declared.state.State.TheVariants.{Ended}
 use Rattle.heap_tree.specs.Node.{state_of as state_in_tree}
 use Rattle.fork_join.specs.Joined.{AreRelabelled, with_results}
-use Rattle.ledger_steps.specs.Accounts.{Rests, rested}
-use Rattle.core_relation.specs.Value.{In}
+use Rattle.ledger_step_laws.specs.Accounts.{Rests, rested}
+use Rattle.core_relation.specs.Memory.{In}
 use Rattle.task_machine.specs.declared.part.Private.{Private}
 use Rattle.shared_value.specs.declared.task_at_rest.Rest.{Rest}
 use Rattle.shared_value.specs.declared.task_at_rest.Work.TheVariants.{Calls}
-use Rattle.shared_value.specs.World.{World, accounts, rest_at}
+use Rattle.shared_value.specs.SharedValue.{SharedValue, accounts, rest_at}
 use Rattle.shared_value.specs.Measured.{AreMeasured, IsMeasured, IsUnheld, KeepsUnits, RestsAreMeasured}
-use Rattle.shared_value.specs.Stands.{IsWorld}
+use Rattle.shared_value.specs.Stands.{IsSharedValue}
 use Rattle.shared_value.specs.Fits.{Fits}
 use Rattle.shared_value.specs.Entered.{refused}
 use Rattle.shared_value.proofs.EntryMade.{hand_is, held_apart, unheld_at_rest, unheld_before}
@@ -37,7 +37,7 @@ use Rattle.child_tasks.proofs.JoinedHomes as both
 none_some : {A B : Type 0} {x : A} → ◌≡◌ {A = Option A} None (Some x) → B
 none_some e = absurd cc
 
-module _ (w : World) (k : ℕ) (p : Private) (I : IsWorld w) (F : Fits w k p) (at_end : IsAtEnd w p) (free : refused w (alone_event k p) ≡ None) (ended : state_in_tree w.tree (steps.other w k p I F at_end free) ≡ Some Ended) where
+module _ (w : SharedValue) (k : ℕ) (p : Private) (I : IsSharedValue w) (F : Fits w k p) (at_end : IsAtEnd w p) (free : refused w (alone_event k p) ≡ None) (ended : state_in_tree w.tree (steps.other w k p I F at_end free) ≡ Some Ended) where
   abbrev t : ℕ
   t = p.task
 
@@ -57,7 +57,7 @@ module _ (w : World) (k : ℕ) (p : Private) (I : IsWorld w) (F : Fits w k p) (a
   unheld : (u : ℕ) → (u ≡ t → ⊥) → Rests R u → IsUnheld w.hands u
   unheld u ne rests = unheld_at_rest w u I on (sym (ap (λ (z : Account). z.worker) ((link.alone w k p I F on).heaps u ne)) ∙ rests)
 
-  module _ (above beside : Rest) (frames : Stack) (above_is : rest_at w.homes q ≡ Some above) (calls : above.work ≡ Calls frames) (beside_is : IsRestOf (rest_at w.homes s) beside) (c : ℕ) (lh rh : Heap) (al ar : ℤ × Option Addr) (side : AreSides p s beside c lh rh al ar) where
+  module _ (above beside : Rest) (frames : FramesValue) (above_is : rest_at w.homes q ≡ Some above) (calls : above.work ≡ Calls frames) (beside_is : IsRestOf (rest_at w.homes s) beside) (c : ℕ) (lh rh : LeafHeapValue) (al ar : ℤ × Option Addr) (side : AreSides p s beside c lh rh al ar) where
     rests_s : Rests R s
     rests_s = by side
       where
@@ -90,10 +90,10 @@ module _ (w : World) (k : ℕ) (p : Private) (I : IsWorld w) (F : Fits w k p) (a
         I.measured q above above_is
         (unheld q (steps.parent_apart w k p I F at_end free) (both.rests_q w k p I F at_end free ended above beside frames above_is calls beside_is c lh rh al ar side))
 
-    module _ (homes : List (Option Rest)) (pool : Chunks) (heap : Heap) (H : HomesJoin w.homes homes p q s (with_results frames al ar) heap above) (relabelled : AreRelabelled w.pool pool (lh.chunks ++ rh.chunks) q)
+    module _ (homes : List (Option Rest)) (pool : PoolValue) (heap : LeafHeapValue) (H : HomesJoin w.homes homes p q s (with_results frames al ar) heap above) (relabelled : AreRelabelled w.pool pool (lh.chunks ++ rh.chunks) q)
         (heap_is : heap ≡ with_places (merged above.heap lh rh) heap.slots heap.spare) where
       -- what is of neither child stays
-      owner_of_one : (u n units v : ℕ) (cs : List Content) (x : Content) → In cs x → x.number ≡ n → AreMeasured w.pool v cs → held_at w.pool n ≡ Some (record { owner = u; units = units }) → u ≡ v
+      owner_of_one : (u n units v : ℕ) (cs : List ChunkValue) (x : ChunkValue) → In cs x → x.number ≡ n → AreMeasured w.pool v cs → held_at w.pool n ≡ Some (record { owner = u; units = units }) → u ≡ v
       owner_of_one u n units v cs x i e M h = same_Some u v (ap (option_map (λ (z : Held). z.owner)) (sym h ∙ (ap (held_at w.pool) (sym e) ∙ M x i)))
 
       units_stay : (u : ℕ) → (u ≡ c → ⊥) → (u ≡ c + 1 → ⊥) → KeepsUnits w.pool pool u
@@ -108,7 +108,7 @@ module _ (w : World) (k : ℕ) (p : Private) (I : IsWorld w) (F : Fits w k p) (a
       -- and what both have is the parent's
       heap_measured : AreMeasured pool q heap.chunks
       heap_measured =
-          subst (λ (g : Heap). AreMeasured pool q g.chunks) (sym heap_is)
+          subst (λ (g : LeafHeapValue). AreMeasured pool q g.chunks) (sym heap_is)
           (measured_both pool q lh.chunks (rh.chunks ++ above.heap.chunks)
           (relabelled_measured w.pool pool (lh.chunks ++ rh.chunks) q relabelled c lh.chunks (λ x i. in_has (lh.chunks ++ rh.chunks) x (in_append_left lh.chunks rh.chunks x i)) both_measured.0)
           (measured_both pool q rh.chunks above.heap.chunks

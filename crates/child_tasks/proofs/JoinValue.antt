@@ -1,14 +1,14 @@
 -- What the code takes and puts for a join, and the shared value that it makes.
 use Rattle.std.proofs.Common.{◌≡◌, ℕ, ◌+◌, ◌<◌, ◌++◌, false, Option, Some, None, List, [], ◌∷◌, length, slice_get, slice_set, ap₂, sym, subst, ◌∙◌}
 use Rattle.std.specs.Prelude.{IfSome}
-use Rattle.listed.specs.Space.{Space}
-use Rattle.run_trace.specs.Entry.{Event}
-use Rattle.chunk_pool.specs.Chunks.{Chunks}
-use Rattle.task_frames.specs.Stack.{Stack}
+use Rattle.listed.specs.RoomyValue.{RoomyValue}
+use Rattle.run_trace.specs.Entry.{EntryValue}
+use Rattle.chunk_pool.specs.PoolValue.{PoolValue}
+use Rattle.task_frames.specs.FramesValue.{FramesValue}
 use Rattle.heap_tree.specs.declared.state.State.TheVariants.{Ended}
 use Rattle.heap_tree.specs.Node.{parent_of as parent_in_tree, state_of as state_in_tree, with_state}
 use Rattle.heap_tree.specs.Pairs.{is_left, sibling}
-use Rattle.remembered_set.specs.Sources.{Notes}
+use Rattle.remembered_set.specs.Sources.{RememberedValue}
 use Rattle.write_barrier.specs.declared.sets.SetOf.{SetOf}
 use Rattle.write_barrier.specs.Stored.{content_at}
 use Rattle.fork_join.specs.declared.sides.EndedChild.{EndedChild}
@@ -16,8 +16,8 @@ use Rattle.fork_join.specs.Joined.{AreRelabelled, Joins, joined_nodes, with_resu
 use Rattle.task_machine.specs.declared.part.Private.{Private}
 use Rattle.shared_value.specs.declared.task_at_rest.Rest.{Rest}
 use Rattle.shared_value.specs.declared.task_at_rest.Work.TheVariants.{Calls}
-use Rattle.shared_value.specs.World.{World, rest_at}
-use Rattle.shared_value.specs.Stands.{IsWorld}
+use Rattle.shared_value.specs.SharedValue.{SharedValue, rest_at}
+use Rattle.shared_value.specs.Stands.{IsSharedValue}
 use Rattle.shared_value.specs.Fits.{Fits, IsAtWork}
 use Rattle.shared_value.specs.Entered.{refused}
 use Rattle.shared_value.proofs.TaskTaken.{item_there}
@@ -30,7 +30,7 @@ use Rattle.child_tasks.proofs.TwoChildren.{taken_sources}
 use Rattle.child_tasks.proofs.JoinTakes.{SetsChain, chain_many, chain_other, chain_others, chain_own, homes_join}
 
 -- what is taken: the sets of the task, its sibling and their parent, and the homes of the three
-pub record Taken (w : World) (p : Private) (parent other : ℕ) (own_notes other_notes notes : Notes) (x1 x2 x3 : List SetOf) (h1 h2 : List (Option Rest)) (above : Rest) (own oth left right : EndedChild) : Type 0 where
+pub record Taken (w : SharedValue) (p : Private) (parent other : ℕ) (own_notes other_notes notes : RememberedValue) (x1 x2 x3 : List SetOf) (h1 h2 : List (Option Rest)) (above : Rest) (own oth left right : EndedChild) : Type 0 where
   pub other_is : other ≡ sibling p.task
   pub n1 : length x1 ≡ length w.sets
   pub n2 : length x2 ≡ length x1
@@ -55,16 +55,16 @@ pub record Taken (w : World) (p : Private) (parent other : ℕ) (own_notes other
   pub right_is : right ≡ right_of (is_left own.side.task) own oth
 
 -- and what is put: what goes with the parent, and what its set remembers
-pub record Put (w : World) (p : Private) (parent : ℕ) (x3 : List SetOf) (h2 : List (Option Rest)) (notes : Notes) (above : Rest) (left right : EndedChild) (pool : Chunks) (rest : Rest) (noted : Notes) (sets : List SetOf) (homes : List (Option Rest)) : Type 0 where
+pub record Put (w : SharedValue) (p : Private) (parent : ℕ) (x3 : List SetOf) (h2 : List (Option Rest)) (notes : RememberedValue) (above : Rest) (left right : EndedChild) (pool : PoolValue) (rest : Rest) (noted : RememberedValue) (sets : List SetOf) (homes : List (Option Rest)) : Type 0 where
   pub pool_is : AreRelabelled w.pool pool (left.side.heap.chunks ++ right.side.heap.chunks) parent
   pub side : Joins (parent_side parent above notes) (parent_side parent rest noted) left.side right.side
-  pub rest_is : (s : Stack) → above.work ≡ Calls s → rest ≡ record above { work = Calls (with_results s left.result right.result); heap = rest.heap }
+  pub rest_is : (s : FramesValue) → above.work ≡ Calls s → rest ≡ record above { work = Calls (with_results s left.result right.result); heap = rest.heap }
   pub homes_are : homes ≡ slice_set (slice_set h2 parent None) parent (Some rest)
   pub many : length sets ≡ length x3
   pub at : content_at sets parent ≡ Some (record { sources = noted.sources; kept = []; keeps = false })
   pub others : (u : ℕ) → (u ≡ parent → ⊥) → content_at sets u ≡ content_at x3 u
 
-module _ (w : World) (k : ℕ) (p : Private) (I : IsWorld w) (F : Fits w k p) (at_end : IsAtEnd w p) (free : refused w (alone_event k p) ≡ None) (ended : state_in_tree w.tree (sibling p.task) ≡ Some Ended) (own_notes other_notes notes : Notes) (x1 x2 x3 : List SetOf)
+module _ (w : SharedValue) (k : ℕ) (p : Private) (I : IsSharedValue w) (F : Fits w k p) (at_end : IsAtEnd w p) (free : refused w (alone_event k p) ≡ None) (ended : state_in_tree w.tree (sibling p.task) ≡ Some Ended) (own_notes other_notes notes : RememberedValue) (x1 x2 x3 : List SetOf)
     (h1 h2 : List (Option Rest)) (above : Rest) (own oth left right : EndedChild) where
   abbrev q : ℕ
   q = entry.q w k p I F at_end free ended
@@ -117,7 +117,7 @@ module _ (w : World) (k : ℕ) (p : Private) (I : IsWorld w) (F : Fits w k p) (a
         (subst (λ b. CanJoin (with_state w.tree p.task Ended) w.pool (parent_side q above notes) L b) (sym right_so)
         (entry.can_join w k p I F at_end free ended above beside own_notes other_notes notes above_of beside_of places own_sources other_sources set_is))
 
-    module _ (pool : Chunks) (rest : Rest) (noted : Notes) (sets : List SetOf) (homes : List (Option Rest)) (P : Put w p q x3 h2 notes above L R pool rest noted sets homes) (j : Space Event) where
+    module _ (pool : PoolValue) (rest : Rest) (noted : RememberedValue) (sets : List SetOf) (homes : List (Option Rest)) (P : Put w p q x3 h2 notes above L R pool rest noted sets homes) (j : RoomyValue EntryValue) where
       chain : SetsChain w.sets x1 x2 x3 sets p.task s q noted
       chain = record { n1 = K.n1; n2 = K.n2; n3 = K.n3; n4 = P.many; e1 = K.e1; e2 = K.e2; at = P.at; o1 = K.o1; o2 = K.o2; o3 = K.o3; o4 = P.others }
 
@@ -136,7 +136,7 @@ module _ (w : World) (k : ℕ) (p : Private) (I : IsWorld w) (F : Fits w k p) (a
           (chain_many w.sets x1 x2 x3 sets p.task s q noted chain qt qs st) (chain_own w.sets x1 x2 x3 sets p.task s q noted chain qt qs st) (chain_other w.sets x1 x2 x3 sets p.task s q noted chain qt qs st) P.at
           (chain_others w.sets x1 x2 x3 sets p.task s q noted chain qt qs st)
 
-      abbrev frames : Stack
+      abbrev frames : FramesValue
       frames = entry.frames w k p I F at_end free ended above beside own_notes other_notes notes above_of beside_of
 
       H : HomesJoin w.homes homes p q s (with_results frames L.result R.result) rest.heap above
@@ -145,7 +145,7 @@ module _ (w : World) (k : ℕ) (p : Private) (I : IsWorld w) (F : Fits w k p) (a
           (subst (λ n. q < n) (sym (K.m2 ∙ (K.m1 ∙ I.made))) (entry.parent_made w k p I F at_end free ended))
           K.m1 K.own_home K.i1 K.m2 K.other_home.3 K.i2 P.homes_are (P.rest_is frames (entry.frames_are w k p I F at_end free ended above beside own_notes other_notes notes above_of beside_of))
 
-      abbrev made_of : ℕ → EndedChild → EndedChild → World
+      abbrev made_of : ℕ → EndedChild → EndedChild → SharedValue
       made_of n a b = record w {
         tree = joined_nodes (with_state w.tree p.task Ended) n a.side.task b.side.task;
         pool = pool;
@@ -156,7 +156,7 @@ module _ (w : World) (k : ℕ) (p : Private) (I : IsWorld w) (F : Fits w k p) (a
         journal = record { items = w.journal.items ++ alone_event k p ∷ []; room = j.room };
       }
 
-      made_world_q : IsWorld (made_of q L R)
+      made_world_q : IsSharedValue (made_of q L R)
       made_world_q =
           entry.then_world w k p I F at_end free ended above beside own_notes other_notes notes above_of beside_of homes sets pool rest H N P.pool_is noted P.side j
 
@@ -164,17 +164,17 @@ module _ (w : World) (k : ℕ) (p : Private) (I : IsWorld w) (F : Fits w k p) (a
       made_joins_q =
           entry.then_joins w k p I F at_end free ended above beside own_notes other_notes notes above_of beside_of homes sets pool rest H N P.pool_is noted P.side j
 
-    module _ (pool : Chunks) (rest : Rest) (noted : Notes) (sets : List SetOf) (homes : List (Option Rest)) (P : Put w p q x3 h2 notes above left right pool rest noted sets homes) (j : Space Event) where
+    module _ (pool : PoolValue) (rest : Rest) (noted : RememberedValue) (sets : List SetOf) (homes : List (Option Rest)) (P : Put w p q x3 h2 notes above left right pool rest noted sets homes) (j : RoomyValue EntryValue) where
       P' : Put w p q x3 h2 notes above L R pool rest noted sets homes
       P' = subst (λ a. Put w p q x3 h2 notes above a R pool rest noted sets homes) left_so (subst (λ b. Put w p q x3 h2 notes above left b pool rest noted sets homes) right_so P)
 
-      both_made_q : IsWorld (made_of pool rest noted sets homes P' j q left right) × EndsChild w (made_of pool rest noted sets homes P' j q left right) k p (Some q)
+      both_made_q : IsSharedValue (made_of pool rest noted sets homes P' j q left right) × EndsChild w (made_of pool rest noted sets homes P' j q left right) k p (Some q)
       both_made_q =
-          let G : EndedChild → EndedChild → Type 0 = λ a b. IsWorld (made_of pool rest noted sets homes P' j q a b) × EndsChild w (made_of pool rest noted sets homes P' j q a b) k p (Some q) in
+          let G : EndedChild → EndedChild → Type 0 = λ a b. IsSharedValue (made_of pool rest noted sets homes P' j q a b) × EndsChild w (made_of pool rest noted sets homes P' j q a b) k p (Some q) in
           subst (λ a. G a right) (sym left_so) (subst (λ b. G L b) (sym right_so) (made_world_q pool rest noted sets homes P' j, made_joins_q pool rest noted sets homes P' j))
 
 -- ---- THE SAME, of the parent and the sibling as the code has them
-module _ (w : World) (k : ℕ) (p : Private) (I : IsWorld w) (F : Fits w k p) (at_end : IsAtEnd w p) (free : refused w (alone_event k p) ≡ None) (ended : state_in_tree w.tree (sibling p.task) ≡ Some Ended) (parent other : ℕ) (parent_is : parent_in_tree w.tree p.task ≡ Some parent) (other_is : other ≡ sibling p.task) (own_notes other_notes notes : Notes)
+module _ (w : SharedValue) (k : ℕ) (p : Private) (I : IsSharedValue w) (F : Fits w k p) (at_end : IsAtEnd w p) (free : refused w (alone_event k p) ≡ None) (ended : state_in_tree w.tree (sibling p.task) ≡ Some Ended) (parent other : ℕ) (parent_is : parent_in_tree w.tree p.task ≡ Some parent) (other_is : other ≡ sibling p.task) (own_notes other_notes notes : RememberedValue)
     (x1 x2 x3 : List SetOf) (h1 h2 : List (Option Rest)) (above : Rest) (own oth left right : EndedChild) where
   abbrev z : ℕ
   z = entry.q w k p I F at_end free ended
@@ -197,8 +197,8 @@ module _ (w : World) (k : ℕ) (p : Private) (I : IsWorld w) (F : Fits w k p) (a
         can_join_q w k p I F at_end free ended own_notes other_notes notes x1 x2 x3 h1 h2 above own oth left right T places,
       ))
 
-  module _ (pool : Chunks) (rest : Rest) (noted : Notes) (sets : List SetOf) (homes : List (Option Rest)) (j : Space Event) where
-    abbrev pub made : ℕ → World
+  module _ (pool : PoolValue) (rest : Rest) (noted : RememberedValue) (sets : List SetOf) (homes : List (Option Rest)) (j : RoomyValue EntryValue) where
+    abbrev pub made : ℕ → SharedValue
     made n = record w {
       tree = joined_nodes (with_state w.tree p.task Ended) n left.side.task right.side.task;
       pool = pool;
@@ -209,7 +209,7 @@ module _ (w : World) (k : ℕ) (p : Private) (I : IsWorld w) (F : Fits w k p) (a
       journal = record { items = w.journal.items ++ alone_event k p ∷ []; room = j.room };
     }
 
-    pub both_made : K parent other → Put w p parent x3 h2 notes above left right pool rest noted sets homes → IsWorld (made parent) × EndsChild w (made parent) k p (Some parent)
+    pub both_made : K parent other → Put w p parent x3 h2 notes above left right pool rest noted sets homes → IsSharedValue (made parent) × EndsChild w (made parent) k p (Some parent)
     both_made =
-        moved (λ n o. K n o → Put w p n x3 h2 notes above left right pool rest noted sets homes → IsWorld (made n) × EndsChild w (made n) k p (Some n))
+        moved (λ n o. K n o → Put w p n x3 h2 notes above left right pool rest noted sets homes → IsSharedValue (made n) × EndsChild w (made n) k p (Some n))
         (λ T P. both_made_q w k p I F at_end free ended own_notes other_notes notes x1 x2 x3 h1 h2 above own oth left right T pool rest noted sets homes P j)

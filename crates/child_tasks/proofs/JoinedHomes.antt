@@ -12,16 +12,16 @@ use Rattle.run_ledger.specs.Heaps.{heap_of}
 use Rattle.object_layout.specs.declared.word.Addr.{Addr}
 use Rattle.object_layout.specs.Chunks.{AreApart, has_chunk}
 use Rattle.object_layout.proofs.Owning.{apart_together, has_append}
-use Rattle.chunk_pool.specs.Chunks.{held_at}
-use Rattle.alloc_path.specs.Heap.{Heap}
+use Rattle.chunk_pool.specs.PoolValue.{held_at}
+use Rattle.alloc_path.specs.LeafHeapValue.{LeafHeapValue}
 use Rattle.alloc_path.specs.View.{Level}
-use Rattle.task_frames.specs.Stack.{Stack}
+use Rattle.task_frames.specs.FramesValue.{FramesValue}
 use Rattle.heap_tree.specs.declared.state.State.TheVariants.{Ended}
 use Rattle.heap_tree.specs.Node.{state_of as state_in_tree}
 use Rattle.fork_join.specs.Joined.{AreInUse}
-use Rattle.ledger_steps.specs.Accounts.{Rests, rested}
-use Rattle.ledger_steps.specs.Last.{EndsLast, Splits}
-use Rattle.core_relation.specs.Value.{Chunk, Home, In, Value}
+use Rattle.ledger_step_laws.specs.Accounts.{Rests, rested}
+use Rattle.ledger_step_laws.specs.Last.{EndsLast, Splits}
+use Rattle.core_relation.specs.Memory.{Chunk, Home, In, Memory}
 use Rattle.core_relation.specs.Changes.{HasResult}
 use Rattle.core_relation.specs.Fits.{with_home}
 use Rattle.core_relation.specs.Stands.{Stands}
@@ -32,8 +32,8 @@ use Rattle.shared_value.specs.declared.task_at_rest.Rest.{Rest}
 use Rattle.shared_value.specs.declared.task_at_rest.Work.{Work}
 use Rattle.shared_value.specs.declared.task_at_rest.Work.TheVariants.{Calls, Result}
 use Rattle.shared_value.specs.Objects.{chunk_of}
-use Rattle.shared_value.specs.World.{World, accounts, home_by, home_in, home_of, rest_at, value_of}
-use Rattle.shared_value.specs.Stands.{HeapForm, IsWorld}
+use Rattle.shared_value.specs.SharedValue.{SharedValue, accounts, home_by, home_in, home_of, rest_at, value_of}
+use Rattle.shared_value.specs.Stands.{HeapForm, IsSharedValue}
 use Rattle.shared_value.specs.Fits.{Fits, home_of_part}
 use Rattle.shared_value.specs.Entered.{refused}
 use Rattle.own_steps.specs.Alone.{alone_event}
@@ -48,7 +48,7 @@ use Rattle.child_tasks.proofs.JoinTree.{all_in, kept_is}
 use Rattle.child_tasks.proofs.MergedHeapForm.{none_reserved}
 use Rattle.child_tasks.proofs.SiblingReturned as before
 
-module _ (w : World) (k : ℕ) (p : Private) (I : IsWorld w) (F : Fits w k p) (at_end : IsAtEnd w p) (free : refused w (alone_event k p) ≡ None) (ended : state_in_tree w.tree (steps.other w k p I F at_end free) ≡ Some Ended) where
+module _ (w : SharedValue) (k : ℕ) (p : Private) (I : IsSharedValue w) (F : Fits w k p) (at_end : IsAtEnd w p) (free : refused w (alone_event k p) ≡ None) (ended : state_in_tree w.tree (steps.other w k p I F at_end free) ≡ Some Ended) where
   abbrev t : ℕ
   t = p.task
 
@@ -61,13 +61,13 @@ module _ (w : World) (k : ℕ) (p : Private) (I : IsWorld w) (F : Fits w k p) (a
   abbrev L : Ledger
   L = last.L w k p I F (steps.shared w k p I F at_end free) (steps.free_last w k p I F at_end free)
 
-  abbrev v : Value
+  abbrev v : Memory
   v = value_of w
 
   abbrev h : Home
   h = home_of_part p
 
-  abbrev vt : Value
+  abbrev vt : Memory
   vt = with_home v t h
 
   abbrev x : Task
@@ -94,26 +94,26 @@ module _ (w : World) (k : ℕ) (p : Private) (I : IsWorld w) (F : Fits w k p) (a
   off : (u : ℕ) → (u ≡ t → ⊥) → vt.homes u ≡ v.homes u
   off u ne = before.off w k p I F at_end free ended u ne
 
-  abbrev pub HasHome : ℕ → Heap → Type 0
+  abbrev pub HasHome : ℕ → LeafHeapValue → Type 0
   HasHome u g = (n : ℕ) × (z : Work) × (view : List Level) × (vt.homes u ≡ home_by g view n z)
 
-  owner_at : (u : ℕ) (g : Heap) → HasHome u g → Rests R u → (n : ℕ) → has_chunk g.chunks n ≡ true → v.owner n ≡ Some u
+  owner_at : (u : ℕ) (g : LeafHeapValue) → HasHome u g → Rests R u → (n : ℕ) → has_chunk g.chunks n ≡ true → v.owner n ≡ Some u
   owner_at u g e rests n has =
       let y = has_in g.chunks n has in
       ap v.owner (sym y.2) ∙ (W.homes u rests).owned (chunk_of y.0) (subst (λ (ks : List Chunk). In ks (chunk_of y.0)) (sym (ap (λ (i : Home). i.chunks) e.3 ∙ by_chunks g e.2 e.0 e.1)) (in_map chunk_of g.chunks y.0 y.1))
 
   -- no two heaps have a chunk of one number
-  heaps_apart : (u z : ℕ) (a b : Heap) → HasHome u a → HasHome z b → Rests R u → Rests R z → (u ≡ z → ⊥) → (n : ℕ) → has_chunk a.chunks n ≡ true → has_chunk b.chunks n ≡ false
+  heaps_apart : (u z : ℕ) (a b : LeafHeapValue) → HasHome u a → HasHome z b → Rests R u → Rests R z → (u ≡ z → ⊥) → (n : ℕ) → has_chunk a.chunks n ≡ true → has_chunk b.chunks n ≡ false
   heaps_apart u z a b ea eb ru rz ne n has = elim (cases_Bool (has_chunk b.chunks n)) [
     | inl there ↦ absurd (ne (same_Some u z (sym (owner_at u a ea ru n has) ∙ owner_at z b eb rz n there)))
     | inr out ↦ out
   ]
 
-  by_result : (g : Heap) (view : List Level) (n : ℕ) (z : Work) → (home_by g view n z).result ≡ work_result z
+  by_result : (g : LeafHeapValue) (view : List Level) (n : ℕ) (z : Work) → (home_by g view n z).result ≡ work_result z
   by_result g view n (Calls f) = refl
   by_result g view n (Result i a) = refl
 
-  module _ (above beside : Rest) (frames : Stack) (above_is : rest_at w.homes q ≡ Some above) (calls : above.work ≡ Calls frames) (beside_is : IsRestOf (rest_at w.homes s) beside) (c : ℕ) (lh rh : Heap) (al ar : ℤ × Option Addr) (side : AreSides p s beside c lh rh al ar) where
+  module _ (above beside : Rest) (frames : FramesValue) (above_is : rest_at w.homes q ≡ Some above) (calls : above.work ≡ Calls frames) (beside_is : IsRestOf (rest_at w.homes s) beside) (c : ℕ) (lh rh : LeafHeapValue) (al ar : ℤ × Option Addr) (side : AreSides p s beside c lh rh al ar) where
     pub home_above : vt.homes q ≡ home_by above.heap above.view above.allocations (Calls frames)
     home_above = off q (steps.parent_apart w k p I F at_end free) ∙ (ap home_in above_is ∙ ap (home_by above.heap above.view above.allocations) calls)
 
@@ -203,7 +203,7 @@ module _ (w : World) (k : ℕ) (p : Private) (I : IsWorld w) (F : Fits w k p) (a
     above_has = (above.allocations, Calls frames, above.view, home_above)
 
     -- what is so of both is so of the left one and of the right one
-    pub sides_of : (P : ℕ → Heap → Type 0) → P t p.heap → P s beside.heap → P c lh × P (c + 1) rh
+    pub sides_of : (P : ℕ → LeafHeapValue → Type 0) → P t p.heap → P s beside.heap → P c lh × P (c + 1) rh
     sides_of P a b = by side
       where
         by : AreSides p s beside c lh rh al ar → P c lh × P (c + 1) rh

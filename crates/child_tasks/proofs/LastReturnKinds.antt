@@ -11,8 +11,8 @@ use Rattle.hh_model.specs.declared.data.Task.{Task}
 use Rattle.hh_model.specs.Step.{is_joined, is_over}
 use Rattle.run_ledger.specs.declared.data.Ledger.{Ledger}
 use Rattle.run_ledger.specs.Steps.{is_private}
-use Rattle.ledger_steps.specs.Last.{EndsFirst, EndsLast, IsOfKind, JustReads, LastKind, Wrote}
-use Rattle.ledger_steps.specs.Last.{Private, Reading, Writing, Printing, Forking, Ending, Joining, Finishing, Halting}
+use Rattle.ledger_step_laws.specs.Last.{EndsFirst, EndsLast, IsOfKind, JustReads, LastKind, Wrote}
+use Rattle.ledger_step_laws.specs.Last.{Private, Reading, Writing, Printing, Forking, Ending, Joining, Finishing, Halting}
 
 none_end : {A : Type 0} {e : End} → ◌≡◌ {A = Option End} None (Some e) → A
 none_end e = absurd cc

@@ -5,11 +5,11 @@ use Rattle.std.proofs.lemmas.List.{get_or_append_left, get_or-append-add}
 use Rattle.std.proofs.lemmas.List.Elements.{All-append}
 use Rattle.listed.proofs.Members.{in_append_cases}
 use Rattle.object_layout.specs.Chunks.{AreApart, chunk_at, no_chunk}
-use Rattle.object_layout.specs.Content.{Content}
+use Rattle.object_layout.specs.ChunkValue.{ChunkValue}
 use Rattle.object_layout.specs.Place.{words_in}
 use Rattle.object_layout.specs.Objects.{Located}
-use Rattle.alloc_path.specs.Heap.{Heap, IsCurrent, IsReserved, IsTidy, counted, merged, with_places}
-use Rattle.core_relation.specs.Value.{Chunk, In, objects_in}
+use Rattle.alloc_path.specs.LeafHeapValue.{LeafHeapValue, IsCurrent, IsReserved, IsTidy, counted, merged, with_places}
+use Rattle.core_relation.specs.Memory.{Chunk, In, objects_in}
 use Rattle.core_relation.proofs.objects.Members.{in_chunk, in_map, in_objects, map_in}
 use Rattle.task_machine.specs.Accounts.{AreReserved, IsLastLarge, IsLastSmall}
 use Rattle.shared_value.specs.Objects.{chunk_of, chunks_of}
@@ -19,17 +19,17 @@ none_some : {A B : Type 0} {x : A} → ◌≡◌ {A = Option A} None (Some x) �
 none_some e = absurd cc
 
 -- the content that an object lies in
-pub object_content : (ks : List Content) (o : Located) → In (objects_in (chunks_of ks)) o → (c : Content) × In ks c × In (chunk_of c).objects o
+pub object_content : (ks : List ChunkValue) (o : Located) → In (objects_in (chunks_of ks)) o → (c : ChunkValue) × In ks c × In (chunk_of c).objects o
 object_content ks o i =
     let k = in_chunk (chunks_of ks) o i in
     let c = map_in chunk_of ks k.0 k.1 in
     (c.0, c.1, subst (λ (z : Chunk). In z.objects o) (sym c.2) k.2)
 
-pub content_object : (ks : List Content) (c : Content) (o : Located) → In ks c → In (chunk_of c).objects o → In (objects_in (chunks_of ks)) o
+pub content_object : (ks : List ChunkValue) (c : ChunkValue) (o : Located) → In ks c → In (chunk_of c).objects o → In (objects_in (chunks_of ks)) o
 content_object ks c o i j = in_objects (chunks_of ks) (chunk_of c) o (in_map chunk_of ks c i) j
 
-module _ (ls rs ks : List Content) where
-  abbrev pub merged_chunks : List Content
+module _ (ls rs ks : List ChunkValue) where
+  abbrev pub merged_chunks : List ChunkValue
   merged_chunks = ls ++ (rs ++ ks)
 
   abbrev n : ℕ
@@ -55,38 +55,38 @@ module _ (ls rs ks : List Content) where
 
   current : (o : Option ℕ) → IsCurrent ks o → IsCurrent merged_chunks (option_map (λ i. i + n) o)
   current None C = tt
-  current (Some i) C = (omega (arith, C.0, long), ap (λ (z : Content). z.size) (at_own i) ∙ C.1)
+  current (Some i) C = (omega (arith, C.0, long), ap (λ (z : ChunkValue). z.size) (at_own i) ∙ C.1)
 
   reserved : (o : Option ℕ) → IsReserved ks o → IsReserved merged_chunks (option_map (λ i. i + n) o)
   reserved None R = tt
-  reserved (Some i) R = (omega (arith, R.0, long), (subst (λ (z : Content). 1024 < z.size) (sym (at_own i)) R.1.0, ap (λ (z : Content). z.cells) (at_own i) ∙ R.1.1))
+  reserved (Some i) R = (omega (arith, R.0, long), (subst (λ (z : ChunkValue). 1024 < z.size) (sym (at_own i)) R.1.0, ap (λ (z : ChunkValue). z.cells) (at_own i) ∙ R.1.1))
 
   last_small : (o : Option ℕ) → IsLastSmall ks o → IsLastSmall merged_chunks (option_map (λ i. i + n) o)
   last_small None C = tt
   last_small (Some i) C = λ j lt within small.
       let e : (j - n) + n ≡ j = own_behind i j lt in
-      C (j - n) (omega (arith, lt)) (omega (arith, within, long, lt)) (ap (λ (z : Content). z.size) (sym (at_own (j - n)) ∙ ap (chunk_at merged_chunks) e) ∙ small)
+      C (j - n) (omega (arith, lt)) (omega (arith, within, long, lt)) (ap (λ (z : ChunkValue). z.size) (sym (at_own (j - n)) ∙ ap (chunk_at merged_chunks) e) ∙ small)
 
   last_large : (o : Option ℕ) → IsLastLarge ks o → IsLastLarge merged_chunks (option_map (λ i. i + n) o)
   last_large None C = tt
   last_large (Some i) C = λ j lt within.
       let e : (j - n) + n ≡ j = own_behind i j lt in
-      ap (λ (z : Content). z.size) (ap (chunk_at merged_chunks) (sym e) ∙ at_own (j - n)) ∙ C (j - n) (omega (arith, lt)) (omega (arith, within, long, lt))
+      ap (λ (z : ChunkValue). z.size) (ap (chunk_at merged_chunks) (sym e) ∙ at_own (j - n)) ∙ C (j - n) (omega (arith, lt)) (omega (arith, within, long, lt))
 
-  content_cases : (c : Content) → In merged_chunks c → In ls c ⊎ (In rs c ⊎ In ks c)
+  content_cases : (c : ChunkValue) → In merged_chunks c → In ls c ⊎ (In rs c ⊎ In ks c)
   content_cases c i = elim (in_append_cases ls (rs ++ ks) c i) [ inl a ↦ inl a | inr b ↦ inr (in_append_cases rs ks c b) ]
 
-module _ (h a b : Heap) (H : HeapForm h) (A : HeapForm a) (B : HeapForm b) (apart : AreApart (merged h a b).chunks) (none_left : a.reserved ≡ None) (none_right : b.reserved ≡ None) (slots spare : ℕ) where
-  abbrev ls : List Content
+module _ (h a b : LeafHeapValue) (H : HeapForm h) (A : HeapForm a) (B : HeapForm b) (apart : AreApart (merged h a b).chunks) (none_left : a.reserved ≡ None) (none_right : b.reserved ≡ None) (slots spare : ℕ) where
+  abbrev ls : List ChunkValue
   ls = a.chunks
 
-  abbrev rs : List Content
+  abbrev rs : List ChunkValue
   rs = b.chunks
 
-  abbrev ks : List Content
+  abbrev ks : List ChunkValue
   ks = h.chunks
 
-  abbrev all : List Content
+  abbrev all : List ChunkValue
   all = merged_chunks ls rs ks
 
   abbrev m : ℕ
@@ -100,13 +100,13 @@ module _ (h a b : Heap) (H : HeapForm h) (A : HeapForm a) (B : HeapForm b) (apar
         | inr r ↦ elim r [ inl j ↦ B.near o (content_object rs c.0 o j c.2) | inr j ↦ H.near o (content_object ks c.0 o j c.2) ]
       ]
 
-  whole_by : (k : Content) → In all k → k.size ≡ 1024 * (k.size / 1024)
+  whole_by : (k : ChunkValue) → In all k → k.size ≡ 1024 * (k.size / 1024)
   whole_by k i = elim (content_cases ls rs ks k i) [
     | inl j ↦ A.whole k j
     | inr r ↦ elim r [ inl j ↦ B.whole k j | inr j ↦ H.whole k j ]
   ]
 
-  abbrev IsEmptyLarge : Content → Type 0
+  abbrev IsEmptyLarge : ChunkValue → Type 0
   IsEmptyLarge k = (k.size ≡ 1024 → ⊥) × ((chunk_of k).objects ≡ [])
 
   spare_by : (i : ℕ) → i < length all → IsEmptyLarge (chunk_at all i) → option_map (λ j. j + m) h.reserved ≡ Some i
@@ -142,7 +142,7 @@ module _ (h a b : Heap) (H : HeapForm h) (A : HeapForm a) (B : HeapForm b) (apar
   }
 
 -- a heap for which no chunk is reserved
-pub none_reserved : (h : Heap) → IsReserved h.chunks h.reserved → AreReserved h.chunks h.reserved 0 → h.reserved ≡ None
+pub none_reserved : (h : LeafHeapValue) → IsReserved h.chunks h.reserved → AreReserved h.chunks h.reserved 0 → h.reserved ≡ None
 none_reserved h R C = by h.reserved refl
   where
     by : (o : Option ℕ) → h.reserved ≡ o → h.reserved ≡ None

@@ -19,7 +19,7 @@ use Rattle.run_ledger.proofs.Bounds.{ran_tells}
 use Rattle.run_ledger.proofs.Counted.{journals_are_counted}
 use Rattle.heap_tree.specs.declared.state.State.TheVariants.{Out}
 use Rattle.heap_tree.specs.Node.{Node, depth_of, parent_in, parent_of as parent_in_tree, state_of as state_in_tree}
-use Rattle.ledger_steps.specs.Last.{Splits}
+use Rattle.ledger_step_laws.specs.Last.{Splits}
 use Rattle.core_relation.specs.Whole.{StandsFor, state_by}
 use Rattle.task_machine.specs.declared.part.Private.{Private}
 use Rattle.task_machine.specs.Fits.{FitsNow as FitsMachine}
@@ -30,8 +30,8 @@ use Rattle.shared_value.specs.Entered.{refused}
 use Rattle.shared_value.specs.Fits.{Fits}
 use Rattle.shared_value.specs.Links.{above_of}
 use Rattle.shared_value.specs.Next.{next_line}
-use Rattle.shared_value.specs.Stands.{IsWorld}
-use Rattle.shared_value.specs.World.{World, accounts, totals_of, value_of}
+use Rattle.shared_value.specs.Stands.{IsSharedValue}
+use Rattle.shared_value.specs.SharedValue.{SharedValue, accounts, totals_of, value_of}
 use Rattle.shared_value.proofs.PartFitsMachine as link
 use Rattle.shared_value.proofs.BeforeTheEnd.{stands_now}
 use Rattle.shared_value.proofs.StepsEntered.{status}
@@ -55,7 +55,7 @@ pub par_is : (i : Instr) → is_par i ≡ true → (g : ℕ) × (h : ℕ) × (i 
 par_is (Par g h) e = (g, h, refl)
 par_is _ e = absurd cc
 
-module _ (w : World) (p : Private) where
+module _ (w : SharedValue) (p : Private) where
   abbrev m : MachineState
   m = machine_after w p
 
@@ -80,7 +80,7 @@ some_map : {A B : Type 0} (f : A → B) (o : Option A) → is_some (option_map f
 some_map f None = refl
 some_map f (Some x) = refl
 
-module _ (w : World) (I : IsWorld w) (on : (accounts w).end ≡ None) where
+module _ (w : SharedValue) (I : IsSharedValue w) (on : (accounts w).end ≡ None) where
   abbrev S0 : StandsFor (value_of w) (totals_of w) (accounts w)
   S0 = stands_now w I on
 
@@ -105,7 +105,7 @@ module _ (w : World) (I : IsWorld w) (on : (accounts w).end ≡ None) where
 
 -- ---- THE NEXT STEP
 
-module _ (w : World) (k : ℕ) (p : Private) (I : IsWorld w) (F : Fits w k p) (at_fork : IsAtFork w p) (free : refused w (alone_event k p) ≡ None) where
+module _ (w : SharedValue) (k : ℕ) (p : Private) (I : IsSharedValue w) (F : Fits w k p) (at_fork : IsAtFork w p) (free : refused w (alone_event k p) ≡ None) where
   abbrev pub shared : IsShared w p
   shared = fork_shared w p at_fork
 

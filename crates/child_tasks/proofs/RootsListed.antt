@@ -6,14 +6,14 @@ use Rattle.run_ledger.specs.declared.data.Ledger.{Ledger}
 use Rattle.object_layout.specs.declared.word.Addr.{Addr}
 use Rattle.object_layout.specs.Objects.{Located}
 use Rattle.remembered_set.specs.declared.remembered.Source.{Source}
-use Rattle.ledger_steps.specs.Accounts.{Rests, own}
-use Rattle.core_relation.specs.Value.{In, Value, objects, sources}
+use Rattle.ledger_step_laws.specs.Accounts.{Rests, own}
+use Rattle.core_relation.specs.Memory.{In, Memory, objects, sources}
 use Rattle.core_relation.specs.Begins.{AreRoots}
 use Rattle.core_relation.specs.Stands.{IsSource, Stands}
 use Rattle.core_relation.proofs.objects.Members.{in_chunk}
 
 -- this remembered field holds the root
-pub record RootBy (v : Value) (l : Ledger) (t : ℕ) (s : Source) (a : Addr) : Type 0 where
+pub record RootBy (v : Memory) (l : Ledger) (t : ℕ) (s : Source) (a : Addr) : Type 0 where
   pub home : ℕ
   pub object : Located
   pub rests : Rests l home
@@ -22,16 +22,16 @@ pub record RootBy (v : Value) (l : Ledger) (t : ℕ) (s : Source) (a : Addr) : T
   pub holds : slice_get object.refs s.field ≡ Some (Some a)
   pub into : v.owner a.chunk ≡ Some t
 
-abbrev pub OneRoot : Value → Ledger → ℕ → Source → Type 0
+abbrev pub OneRoot : Memory → Ledger → ℕ → Source → Type 0
 OneRoot v l t s = (o : Option Addr) × ((a : Addr) → (o ≡ Some a) ↔ RootBy v l t s a)
 
-abbrev pub RootsOf : Value → Ledger → ℕ → List Source → Type 0
+abbrev pub RootsOf : Memory → Ledger → ℕ → List Source → Type 0
 RootsOf v l t ss = (roots : List Addr) × ((a : Addr) → In roots a ↔ ((s : Source) × In ss s × RootBy v l t s a))
 
 none_some : {A B : Type 0} {x : A} → ◌≡◌ {A = Option A} None (Some x) → B
 none_some e = absurd cc
 
-module _ (v : Value) (l : Ledger) (t : ℕ) (V : Stands v l) where
+module _ (v : Memory) (l : Ledger) (t : ℕ) (V : Stands v l) where
   owned : (u : ℕ) (o : Located) → Rests l u → In (objects v u) o → v.owner o.at.chunk ≡ Some u
   owned u o r i = let k = in_chunk (v.homes u).chunks o i in ap v.owner ((V.homes u r).inside k.0 o k.1 k.2) ∙ (V.homes u r).owned k.0 k.1
 

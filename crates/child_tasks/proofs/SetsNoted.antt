@@ -2,8 +2,8 @@
 use Rattle.std.proofs.Common.{◌≡◌, ℕ, arith, false, Option, Some, None, List, [], slice_get, option_map, refl}
 use Rattle.write_barrier.specs.declared.sets.SetOf.{SetOf}
 use Rattle.write_barrier.specs.Stored.{Content, content_at, content_of}
-use Rattle.core_relation.specs.Value.{Noted}
-use Rattle.shared_value.specs.World.{noted_in}
+use Rattle.core_relation.specs.Memory.{Noted}
+use Rattle.shared_value.specs.SharedValue.{noted_in}
 use Rattle.shared_value.specs.Stands.{HeapForm}
 use Rattle.child_tasks.specs.Forks.{keeping}
 

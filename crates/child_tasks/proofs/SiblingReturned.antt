@@ -13,15 +13,15 @@ use Rattle.run_ledger.specs.Heaps.{heap_of, let_go, or_fresh}
 use Rattle.run_ledger.specs.Space.{CountsFew}
 use Rattle.run_ledger.proofs.Bounds.{ran_tells, task_steps_steps}
 use Rattle.run_ledger.proofs.Since.{since_is_few}
-use Rattle.alloc_path.specs.Heap.{Heap}
+use Rattle.alloc_path.specs.LeafHeapValue.{LeafHeapValue}
 use Rattle.alloc_path.specs.View.{Level}
 use Rattle.heap_tree.specs.declared.state.State.TheVariants.{Ended}
 use Rattle.heap_tree.specs.Node.{state_of as state_in_tree}
-use Rattle.ledger_steps.specs.Accounts.{Rests, rested}
-use Rattle.ledger_steps.specs.Last.{EndsLast, Joining, Runs, Splits}
-use Rattle.ledger_steps.proofs.Ahead.{with_machine, with_off}
-use Rattle.ledger_steps.proofs.Rested.{rested_view}
-use Rattle.core_relation.specs.Value.{Chunk, Home, Value}
+use Rattle.ledger_step_laws.specs.Accounts.{Rests, rested}
+use Rattle.ledger_step_laws.specs.Last.{EndsLast, Joining, Runs, Splits}
+use Rattle.ledger_step_laws.proofs.Ahead.{with_machine, with_off}
+use Rattle.ledger_step_laws.proofs.Rested.{rested_view}
+use Rattle.core_relation.specs.Memory.{Chunk, Home, Memory}
 use Rattle.core_relation.specs.Fits.{part_for, with_home}
 use Rattle.core_relation.specs.Layout.{reserved_chunks, reserved_units}
 use Rattle.core_relation.specs.Reads.{TaskIsRead}
@@ -32,8 +32,8 @@ use Rattle.task_machine.specs.declared.part.Private.{Private}
 use Rattle.task_machine.specs.Accounts.{IsCounted}
 use Rattle.shared_value.specs.declared.task_at_rest.Work.{Work}
 use Rattle.shared_value.specs.declared.task_at_rest.Work.TheVariants.{Calls}
-use Rattle.shared_value.specs.World.{World, accounts, home_by, rest_at, value_of}
-use Rattle.shared_value.specs.Stands.{HeapForm, IsWorld}
+use Rattle.shared_value.specs.SharedValue.{SharedValue, accounts, home_by, rest_at, value_of}
+use Rattle.shared_value.specs.Stands.{HeapForm, IsSharedValue}
 use Rattle.shared_value.specs.Fits.{Fits, home_of_part}
 use Rattle.shared_value.specs.Entered.{refused}
 use Rattle.shared_value.proofs.HeapCounts.{counted_from}
@@ -47,7 +47,7 @@ use Rattle.child_tasks.proofs.JoinHomes.{by_chunks, by_since}
 use Rattle.child_tasks.proofs.JoinTree.{HasCalls, IsOver, by_room, kept_is, waiting_calls, waiting_is, waits_is}
 use Rattle.child_tasks.proofs.LastReturnKinds.{joins}
 
-module _ (w : World) (k : ℕ) (p : Private) (I : IsWorld w) (F : Fits w k p) (at_end : IsAtEnd w p) (free : refused w (alone_event k p) ≡ None) (ended : state_in_tree w.tree (steps.other w k p I F at_end free) ≡ Some Ended) where
+module _ (w : SharedValue) (k : ℕ) (p : Private) (I : IsSharedValue w) (F : Fits w k p) (at_end : IsAtEnd w p) (free : refused w (alone_event k p) ≡ None) (ended : state_in_tree w.tree (steps.other w k p I F at_end free) ≡ Some Ended) where
   abbrev pub t : ℕ
   t = p.task
 
@@ -69,13 +69,13 @@ module _ (w : World) (k : ℕ) (p : Private) (I : IsWorld w) (F : Fits w k p) (a
   abbrev pub L : Ledger
   L = last.L w k p I F shared free_last
 
-  abbrev pub v : Value
+  abbrev pub v : Memory
   v = value_of w
 
   abbrev pub h : Home
   h = home_of_part p
 
-  abbrev pub vt : Value
+  abbrev pub vt : Memory
   vt = with_home v t h
 
   abbrev pub S : Splits w.program w.settings l L t p.fresh
@@ -243,7 +243,7 @@ module _ (w : World) (k : ℕ) (p : Private) (I : IsWorld w) (F : Fits w k p) (a
   off u ne = off_home v t h u ne
 
   -- a heap is counted as its account says
-  pub counted_home : (u n : ℕ) (g : Heap) (view : List Level) (z : Work) → vt.homes u ≡ home_by g view n z → Rests R u → HeapForm g → IsCounted g (heap_of R u)
+  pub counted_home : (u n : ℕ) (g : LeafHeapValue) (view : List Level) (z : Work) → vt.homes u ≡ home_by g view n z → Rests R u → HeapForm g → IsCounted g (heap_of R u)
   counted_home u n g view z e rests form =
       let H : HomeStands vt R u = W.homes u rests in
       counted_from g (heap_of R u) form
@@ -252,7 +252,7 @@ module _ (w : World) (k : ℕ) (p : Private) (I : IsWorld w) (F : Fits w k p) (a
       (sym (by_since g view n z) ∙ (ap (λ (i : Home). i.since) (sym e) ∙ H.since))
       (subst (λ (ks : List Chunk). map (λ (c : Chunk). c.units) (reserved_chunks ks) ≡ reserved_units (heap_of R u).reserved) (ap (λ (i : Home). i.chunks) e ∙ by_chunks g view n z) H.laid.reserved)
 
-  pub since_home : (u n : ℕ) (g : Heap) (view : List Level) (z : Work) → vt.homes u ≡ home_by g view n z → Rests R u → g.since ≡ (heap_of R u).since
+  pub since_home : (u n : ℕ) (g : LeafHeapValue) (view : List Level) (z : Work) → vt.homes u ≡ home_by g view n z → Rests R u → g.since ≡ (heap_of R u).since
   since_home u n g view z e rests = sym (by_since g view n z) ∙ (ap (λ (i : Home). i.since) (sym e) ∙ (W.homes u rests).since)
 
   -- the parent's frames are in the value

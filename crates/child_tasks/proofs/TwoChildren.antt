@@ -8,7 +8,7 @@ use Rattle.hh_model.specs.declared.data.Task.{Task}
 use Rattle.heap_tree.specs.declared.state.State.TheVariants.{Waiting}
 use Rattle.heap_tree.specs.Node.{Node}
 use Rattle.heap_tree.specs.Pairs.{is_left, sibling}
-use Rattle.remembered_set.specs.Sources.{Notes}
+use Rattle.remembered_set.specs.Sources.{RememberedValue}
 use Rattle.write_barrier.specs.declared.sets.SetOf.{SetOf}
 use Rattle.write_barrier.specs.Stored.{content_of}
 use Rattle.fork_join.specs.declared.sides.EndedChild.{EndedChild}
@@ -29,7 +29,7 @@ waits_in wk (Some n) x e h =
 
 -- ---- SIDES
 
-module _ (p : Private) (beside : Rest) (own_notes other_notes : Notes) (low : 0 < p.task) where
+module _ (p : Private) (beside : Rest) (own_notes other_notes : RememberedValue) (low : 0 < p.task) where
   abbrev t : ℕ
   t = p.task
 
@@ -97,6 +97,6 @@ count_of None r e = ap (λ (z : Rest). length z.heap.chunks) e.2
 count_of (Some x) r e = ap (λ (z : Rest). length z.heap.chunks) e
 
 -- what is taken of a set is what it has
-pub taken_sources : (o : Option SetOf) (n : Notes) (s : SetOf) → o ≡ Some s → IfSome o (λ s. n ≡ s.remembered) → n.sources ≡ sources_by (option_map content_of o)
+pub taken_sources : (o : Option SetOf) (n : RememberedValue) (s : SetOf) → o ≡ Some s → IfSome o (λ s. n ≡ s.remembered) → n.sources ≡ sources_by (option_map content_of o)
 taken_sources None n s e h = none_some e
-taken_sources (Some z) n s e h = ap (λ (i : Notes). i.sources) h
+taken_sources (Some z) n s e h = ap (λ (i : RememberedValue). i.sources) h

@@ -8,7 +8,7 @@ use Rattle.hh_model.specs.declared.data.Task.{Task}
 use Rattle.hh_model.specs.Step.{fetched, is_running, parents}
 use Rattle.run_ledger.specs.Steps.{has_no_caller}
 use Rattle.task_machine.specs.declared.part.Private.{Private}
-use Rattle.shared_value.specs.World.{World, accounts}
+use Rattle.shared_value.specs.SharedValue.{SharedValue, accounts}
 use Rattle.shared_value.specs.Fits.{OthersFit}
 use Rattle.shared_value.specs.Entered.{Enters}
 use Rattle.own_steps.specs.Alone.{alone_event, machine_after}
@@ -29,7 +29,7 @@ is_last_by p (Some x) = is_last_line x (fetched p x.top)
 
 -- the part's next step is the last return of its task, which another one forked,
 -- and stands in one entry with its fresh ones
-pub record IsAtEnd (w : World) (p : Private) : Type 0 where
+pub record IsAtEnd (w : SharedValue) (p : Private) : Type 0 where
   pub ends : is_last_by w.program (slice_get (machine_after w p).tasks p.task) ≡ true
   pub few : p.fresh ≤ 256
 
@@ -45,7 +45,7 @@ running_parent tasks t = where_running tasks (parents tasks t)
 
 -- the run goes on, and the answer is the parent of the task exactly where that runs again,
 -- since both its children have ended
-pub record EndsChild (w after : World) (k : ℕ) (p : Private) (answer : Option ℕ) : Type 0 where
+pub record EndsChild (w after : SharedValue) (k : ℕ) (p : Private) (answer : Option ℕ) : Type 0 where
   pub enters : Enters w after (alone_event k p)
   pub goes : (accounts after).end ≡ None
   pub resumed : answer ≡ running_parent (accounts after).machine.tasks p.task

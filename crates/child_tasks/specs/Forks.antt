@@ -8,7 +8,7 @@ use Rattle.hh_model.specs.declared.data.Task.{Task}
 use Rattle.hh_model.specs.Step.{fetched}
 use Rattle.run_ledger.specs.Steps.{task_steps}
 use Rattle.alloc_path.specs.View.{view_below}
-use Rattle.task_frames.specs.Stack.{with_next}
+use Rattle.task_frames.specs.FramesValue.{with_next}
 use Rattle.write_barrier.specs.declared.sets.SetOf.{SetOf}
 use Rattle.write_barrier.specs.Stored.{Content, content_at}
 use Rattle.fork_join.specs.declared.forks.Child.{Child}
@@ -17,7 +17,7 @@ use Rattle.task_machine.specs.declared.part.Private.{Private}
 pub use Rattle.task_machine.specs.Run.{is_fork, is_par}
 use Rattle.shared_value.specs.declared.task_at_rest.Rest.{Rest}
 use Rattle.shared_value.specs.declared.task_at_rest.Work.TheVariants.{Calls}
-use Rattle.shared_value.specs.World.{World, accounts, rest_at}
+use Rattle.shared_value.specs.SharedValue.{SharedValue, accounts, rest_at}
 use Rattle.shared_value.specs.Fits.{OthersFit}
 use Rattle.shared_value.specs.Entered.{Enters}
 use Rattle.own_steps.specs.Alone.{HaltsAlone, alone_event, machine_after}
@@ -31,12 +31,12 @@ is_fork_by p None = false
 is_fork_by p (Some x) = is_fork (fetched p x.top)
 
 -- the part's next step is a fork, and stands in one entry with its fresh ones
-pub record IsAtFork (w : World) (p : Private) : Type 0 where
+pub record IsAtFork (w : SharedValue) (p : Private) : Type 0 where
   pub forks : is_fork_by w.program (slice_get (machine_after w p).tasks p.task) ≡ true
   pub few : p.fresh ≤ 256
 
 -- the functions that its children begin, and the line of the text where it stands
-pub record ForksTo (w : World) (p : Private) (left right number : ℕ) : Type 0 where
+pub record ForksTo (w : SharedValue) (p : Private) (left right number : ℕ) : Type 0 where
   pub task : Task
   pub line : Line
   pub is : slice_get (task_steps w.program (accounts w) p.task p.fresh).machine.tasks p.task ≡ Some task
@@ -47,14 +47,14 @@ pub record ForksTo (w : World) (p : Private) (left right number : ℕ) : Type 0 
 -- ---- WHAT A CALL MAKES OF IT
 
 -- the task waits for two children, whose numbers are the next two, and the run goes on
-pub record ForksOn (w after : World) (k : ℕ) (p : Private) (left right : ℕ) : Type 0 where
+pub record ForksOn (w after : SharedValue) (k : ℕ) (p : Private) (left right : ℕ) : Type 0 where
   pub enters : Enters w after (alone_event k p)
   pub left_is : left ≡ length (accounts w).machine.tasks
   pub right_is : right ≡ length (accounts w).machine.tasks + 1
   pub goes : (accounts after).end ≡ None
   pub others : OthersFit w after k
 
-abbrev pub ForkAnswered : World → World → ℕ → Private → Forking → Type 0
+abbrev pub ForkAnswered : SharedValue → SharedValue → ℕ → Private → Forking → Type 0
 ForkAnswered w after k p (Forked left right) = ForksOn w after k p left right
 ForkAnswered w after k p (Over q) = HaltsAlone w after k p q
 

@@ -2,12 +2,12 @@
 use Rattle.std.specs.Prelude.{◌≡◌, ◌≢◌, ℕ, Option, Some, None, List, slice_set}
 use Rattle.run_ledger.specs.Heaps.{heap_of}
 use Rattle.core_relation.specs.Whole.{handed}
-use Rattle.shared_value.specs.World.{World, accounts}
+use Rattle.shared_value.specs.SharedValue.{SharedValue, accounts}
 use Rattle.child_tasks.specs.declared.fork.Forking.{Forking}
 use Rattle.child_tasks.specs.declared.fork.Forking.TheVariants.{Forked, Over}
 
 -- the worker holds no task; once the run is done the root is handed back
-abbrev pub HoldsNone : World → ℕ → Type 0
+abbrev pub HoldsNone : SharedValue → ℕ → Type 0
 HoldsNone w k = (t : ℕ) → (heap_of (handed (accounts w)) t).worker ≢ Some k
 
 -- where a task has forked, the worker that held it holds none

@@ -1,14 +1,14 @@
 -- What a join leaves of homes and sets.
 use Rattle.std.specs.Prelude.{◌≡◌, ◌≢◌, ◌⊎◌, ℕ, ℤ, pos, ◌+◌, ◌≤◌, Bool, false, if◌then◌else◌, Option, Some, None, List, [], IfSome, length, slice_get}
 use Rattle.object_layout.specs.declared.word.Addr.{Addr}
-use Rattle.object_layout.specs.Content.{Content}
-use Rattle.chunk_pool.specs.Chunks.{Chunks}
-use Rattle.alloc_path.specs.Heap.{AreApart, Heap, merged, with_places}
-use Rattle.task_frames.specs.Stack.{Stack}
+use Rattle.object_layout.specs.ChunkValue.{ChunkValue}
+use Rattle.chunk_pool.specs.PoolValue.{PoolValue}
+use Rattle.alloc_path.specs.LeafHeapValue.{AreApart, LeafHeapValue, merged, with_places}
+use Rattle.task_frames.specs.FramesValue.{FramesValue}
 use Rattle.heap_tree.specs.Pairs.{sibling}
 use Rattle.heap_tree.specs.Node.{Node}
 use Rattle.remembered_set.specs.declared.remembered.Source.{Source}
-use Rattle.remembered_set.specs.Sources.{Notes, lifted}
+use Rattle.remembered_set.specs.Sources.{RememberedValue, lifted}
 use Rattle.write_barrier.specs.declared.sets.SetOf.{SetOf}
 use Rattle.write_barrier.specs.Stored.{Content as Noted, content_at}
 use Rattle.fork_join.specs.Forked.{no_heap}
@@ -22,7 +22,7 @@ use Rattle.shared_value.specs.declared.task_at_rest.Work.{Work}
 use Rattle.shared_value.specs.declared.task_at_rest.Work.TheVariants.{Calls, Result}
 use Rattle.shared_value.specs.declared.answer.NotEntered.{NotEntered}
 use Rattle.shared_value.specs.declared.answer.NotEntered.TheVariants.{NoMemory, Refuses}
-use Rattle.shared_value.specs.World.{World, rest_at}
+use Rattle.shared_value.specs.SharedValue.{SharedValue, rest_at}
 use Rattle.child_tasks.specs.Forks.{nothing_noted}
 
 -- the result of a task that has ended
@@ -43,7 +43,7 @@ IsRestOf None r = (slots : ℕ) × (spare : ℕ) × (r ≡ no_rest slots spare)
 IsRestOf (Some x) r = r ≡ x
 
 -- the parent has this heap and goes on with these frames, and the children leave no home
-pub record HomesJoin (homes after : List (Option Rest)) (p : Private) (parent other : ℕ) (frames : Stack) (heap : Heap) (above : Rest) : Type 0 where
+pub record HomesJoin (homes after : List (Option Rest)) (p : Private) (parent other : ℕ) (frames : FramesValue) (heap : LeafHeapValue) (above : Rest) : Type 0 where
   pub many : length after ≡ length homes
   pub parent_home : rest_at after parent ≡ Some (record above { work = Calls frames; heap = heap })
   pub own_home : rest_at after p.task ≡ None
@@ -59,7 +59,7 @@ sources_at sets u = sources_by (content_at sets u)
 
 -- the parent's set has the sources of its children's too, but for those in its own chunks, and keeps nothing any more;
 -- the sets of both children hold nothing
-pub record SetsJoin (sets after : List SetOf) (parent left right : ℕ) (chunks : List Content) : Type 0 where
+pub record SetsJoin (sets after : List SetOf) (parent left right : ℕ) (chunks : List ChunkValue) : Type 0 where
   pub many : length after ≡ length sets
   pub parent_set : content_at after parent ≡ Some (record { sources = lifted (lifted (sources_at sets parent) (sources_at sets left) chunks) (sources_at sets right) chunks; kept = []; keeps = false })
   pub left_set : content_at after left ≡ Some nothing_noted
@@ -67,7 +67,7 @@ pub record SetsJoin (sets after : List SetOf) (parent left right : ℕ) (chunks 
   pub others : (u : ℕ) → u ≢ parent → u ≢ left → u ≢ right → content_at after u ≡ content_at sets u
 
 -- which of the two is the left child: the part's task or its sibling; with the heaps and the results of both
-abbrev pub AreSides : Private → ℕ → Rest → ℕ → Heap → Heap → ℤ × Option Addr → ℤ × Option Addr → Type 0
+abbrev pub AreSides : Private → ℕ → Rest → ℕ → LeafHeapValue → LeafHeapValue → ℤ × Option Addr → ℤ × Option Addr → Type 0
 AreSides p other beside left lh rh al ar =
     ((p.task ≡ left) × (other ≡ left + 1) × (lh ≡ p.heap) × (rh ≡ beside.heap) × (al ≡ part_result p) × (ar ≡ work_result beside.work))
     ⊎ ((other ≡ left) × (p.task ≡ left + 1) × (lh ≡ beside.heap) × (rh ≡ p.heap) × (al ≡ work_result beside.work) × (ar ≡ part_result p))
@@ -80,7 +80,7 @@ IsSameRest None after = after ≡ None
 IsSameRest (Some r) after = (slots : ℕ) × (spare : ℕ) × (after ≡ Some (record r { heap = with_places r.heap slots spare }))
 
 -- the same shared value, but for the places that heaps and sets have for more
-pub record SameButPlaces (w after : World) : Type 0 where
+pub record SameButPlaces (w after : SharedValue) : Type 0 where
   pub rest : after ≡ record w { homes = after.homes; sets = after.sets }
   pub many : length after.homes ≡ length w.homes
   pub homes : (u : ℕ) → IsSameRest (rest_at w.homes u) (rest_at after.homes u)
@@ -88,7 +88,7 @@ pub record SameButPlaces (w after : World) : Type 0 where
   pub sets : (u : ℕ) → content_at after.sets u ≡ content_at w.sets u
 
 -- a refused call changes nothing, and one for which there was no memory nothing but places
-abbrev pub IsUnchanged : NotEntered → World → World → Type 0
+abbrev pub IsUnchanged : NotEntered → SharedValue → SharedValue → Type 0
 IsUnchanged (Refuses cause) w after = after ≡ w
 IsUnchanged NoMemory w after = SameButPlaces w after
 
@@ -97,16 +97,16 @@ chunk_count None = 0
 chunk_count (Some r) = length r.heap.chunks
 
 -- the heap and the set of the parent have places for all that a part and its sibling bring
-pub record HasPlaces (w : World) (p : Private) (parent : ℕ) : Type 0 where
+pub record HasPlaces (w : SharedValue) (p : Private) (parent : ℕ) : Type 0 where
   pub heap : IfSome (rest_at w.homes parent) (λ r. (length p.heap.chunks + chunk_count (rest_at w.homes (sibling p.task)) ≤ r.heap.slots) × (length p.heap.chunks + chunk_count (rest_at w.homes (sibling p.task)) ≤ r.heap.spare))
   pub set : IfSome (slice_get w.sets parent) (λ s. (length (sources_at w.sets p.task) + length (sources_at w.sets (sibling p.task)) ≤ s.remembered.slots) × (length (sources_at w.sets p.task) + length (sources_at w.sets (sibling p.task)) ≤ s.remembered.spare))
 
 -- ---- BOTH CHILDREN
 
-abbrev pub own_child : Private → Notes → EndedChild
+abbrev pub own_child : Private → RememberedValue → EndedChild
 own_child p notes = record { side = record { task = p.task; heap = p.heap; remembered = notes }; result = part_result p }
 
-abbrev pub other_child : ℕ → Rest → Notes → EndedChild
+abbrev pub other_child : ℕ → Rest → RememberedValue → EndedChild
 other_child t r notes = record { side = record { task = t; heap = r.heap; remembered = notes }; result = work_result r.work }
 
 -- the left one and the right one
@@ -117,11 +117,11 @@ abbrev pub right_of : Bool → EndedChild → EndedChild → EndedChild
 right_of left own other = if left then other else own
 
 -- the parent's side
-abbrev pub parent_side : ℕ → Rest → Notes → Side
+abbrev pub parent_side : ℕ → Rest → RememberedValue → Side
 parent_side t r notes = record { task = t; heap = r.heap; remembered = notes }
 
 -- what is asked for a join
-pub record CanJoin (nodes : List Node) (pool : Chunks) (parent : Side) (left right : EndedChild) : Type 0 where
+pub record CanJoin (nodes : List Node) (pool : PoolValue) (parent : Side) (left right : EndedChild) : Type 0 where
   pub room : HasRoom parent left.side right.side
   pub ended : HaveEnded nodes parent.task left.side.task right.side.task
   pub left_used : AreInUse pool left.side.heap.chunks

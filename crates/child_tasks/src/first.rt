@@ -3,7 +3,7 @@
 ghost use Rattle.std.specs.Prelude.{◌≡◌, ◌∷◌, [], IfOk, None, Some, replicate};
 ghost use Rattle.write_barrier.specs.Stored.{content_of};
 ghost use Rattle.write_barrier.specs.declared.sets.SetOf.{SetOf as Set};
-ghost use Rattle.shared_value.specs.World.{first_rest};
+ghost use Rattle.shared_value.specs.SharedValue.{first_rest};
 ghost use Rattle.shared_value.specs.declared.task_at_rest.Rest.{Rest as RestOf};
 ghost use Rattle.child_tasks.specs.Forks.{nothing_noted};
 

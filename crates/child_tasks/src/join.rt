@@ -1,12 +1,12 @@
 // What a join takes out of the shared value, and the places that it needs.
 
 ghost use Rattle.std.specs.Prelude.{◌≡◌, ◌<◌, ◌+◌, ◌^◌, ◌↔◌, IsSome, IsTrue, OnOk, IfOk, None, Some, slice_set, ◌≢◌, ◌≤◌, ◌++◌, ℕ, IfSome, [], false, length, slice_get};
-ghost use Rattle.task_frames.specs.Stack.{Stack};
+ghost use Rattle.task_frames.specs.FramesValue.{FramesValue};
 ghost use Rattle.heap_tree.specs.Pairs.{sibling, is_left};
 ghost use Rattle.write_barrier.specs.Stored.{content_at};
 ghost use Rattle.fork_join.specs.Joined.{joined_nodes, with_results, AreRelabelled, Joins};
 ghost use Rattle.shared_value.specs.Fits.{IsAtWork};
-ghost use Rattle.shared_value.specs.World.{rest_at};
+ghost use Rattle.shared_value.specs.SharedValue.{rest_at};
 ghost use Rattle.shared_value.specs.declared.task_at_rest.Rest.{Rest as RestOf};
 ghost use Rattle.child_tasks.specs.Forks.{nothing_noted};
 ghost use Rattle.child_tasks.specs.Joins.{chunk_count, left_of, other_child, own_child, parent_side, right_of, sources_at, work_result, CanJoin, IsRestOf, IsSameRest};
@@ -234,7 +234,7 @@ pub fn join_children(
     ensures tree { tree.new ≡ joined_nodes tree.old parent children.0.side.task children.1.side.task }
     ensures pool { AreRelabelled pool.old pool.new (children.0.side.heap.chunks ++ children.1.side.heap.chunks) parent }
     ensures side { Joins (parent_side parent above noted) (parent_side parent result.0 result.1) children.0.side children.1.side }
-    ensures rest { (s : Stack) → above.work ≡ Work.Calls s → result.0 ≡ record above { work = Work.Calls (with_results s children.0.result children.1.result); heap = result.0.heap } }
+    ensures rest { (s : FramesValue) → above.work ≡ Work.Calls s → result.0 ≡ record above { work = Work.Calls (with_results s children.0.result children.1.result); heap = result.0.heap } }
 {
     let mut above = above;
     let Rest {

@@ -3,11 +3,11 @@ use Rattle.std.proofs.Common.{◌≡◌, ◌≢◌, ℕ, ◌+◌, Bool, true, fa
 use Rattle.std.specs.Prelude.{All}
 use Rattle.std.proofs.lemmas.Bool.{cases_Bool, cases_eq, eq-eqb, ne_eqb, cond-true, cond-false, false≢true}
 use Rattle.std.proofs.lemmas.List.Elements.{All-append, All-cons, All-head, All-nil, All-tail}
-use Rattle.object_layout.specs.Content.{Content}
+use Rattle.object_layout.specs.ChunkValue.{ChunkValue}
 use Rattle.object_layout.specs.Chunks.{has_chunk, AreApart}
 use Rattle.object_layout.proofs.Owning.{apart_more, has_append, has_one}
 use Rattle.chunk_pool.specs.declared.pool.Held.{Held}
-use Rattle.chunk_pool.specs.Chunks.{AreNumbered, IsBlank, NumbersBehind, held_in, one_unit, units_held, units_in}
+use Rattle.chunk_pool.specs.PoolValue.{AreNumbered, IsBlank, NumbersBehind, held_in, one_unit, units_held, units_in}
 use Rattle.chunk_pool.proofs.UnitLemmas.{units_changed}
 
 pub numbered_none : (xs : List (Option Held)) (owner : ℕ) → AreNumbered xs xs owner []
@@ -18,7 +18,7 @@ numbered_none xs owner = record {
   units = omega arith;
 }
 
-module _ (xs ys zs : List (Option Held)) (owner : ℕ) (ks : List Content) (k : Content) (was : AreNumbered xs ys owner ks)
+module _ (xs ys zs : List (Option Held)) (owner : ℕ) (ks : List ChunkValue) (k : ChunkValue) (was : AreNumbered xs ys owner ks)
     (free : held_in ys k.number ≡ None) (now : held_in zs k.number ≡ Some (one_unit owner)) (others : (n : ℕ) → n ≢ k.number → held_in zs n ≡ held_in ys n) where
   abbrev mine : Option Held
   mine = Some (one_unit owner)
@@ -66,10 +66,10 @@ module _ (xs ys zs : List (Option Held)) (owner : ℕ) (ks : List Content) (k : 
         units = let u : units_in ys ≡ units_in xs + length ks = was.units in omega (arith, change);
       }
 
-pub behind_none : (xs : List (Option Held)) (owner : ℕ) (was : List Content) → NumbersBehind xs xs owner 0 was was
+pub behind_none : (xs : List (Option Held)) (owner : ℕ) (was : List ChunkValue) → NumbersBehind xs xs owner 0 was was
 behind_none xs owner was = record { chunks = []; behind = sym (append-nil was); count = refl; blank = All-nil IsBlank; numbered = numbered_none xs owner }
 
-pub behind_more : (xs ys zs : List (Option Held)) (owner i j : ℕ) (was is : List Content) (k : Content) → NumbersBehind xs ys owner i was is → IsBlank k → held_in ys k.number ≡ None
+pub behind_more : (xs ys zs : List (Option Held)) (owner i j : ℕ) (was is : List ChunkValue) (k : ChunkValue) → NumbersBehind xs ys owner i was is → IsBlank k → held_in ys k.number ≡ None
     → held_in zs k.number ≡ Some (one_unit owner) → ((n : ℕ) → n ≢ k.number → held_in zs n ≡ held_in ys n) → j ≡ i + 1 → NumbersBehind xs zs owner j was (is ++ k ∷ [])
 behind_more xs ys zs owner i j was is k b blank free now others e = record {
   chunks = b.chunks ++ k ∷ [];
@@ -79,10 +79,10 @@ behind_more xs ys zs owner i j was is k b blank free now others e = record {
   numbered = numbered_more xs ys zs owner b.chunks k b.numbered free now others;
 }
 
-pub all_left : (xs ys : List Content) → All IsBlank (xs ++ ys) → All IsBlank xs
+pub all_left : (xs ys : List ChunkValue) → All IsBlank (xs ++ ys) → All IsBlank xs
 all_left [] ys h = All-nil IsBlank
 all_left (x ∷ xs) ys h = All-cons IsBlank x xs (All-head IsBlank x (xs ++ ys) h) (all_left xs ys (All-tail IsBlank x (xs ++ ys) h))
 
-pub all_right : (xs ys : List Content) → All IsBlank (xs ++ ys) → All IsBlank ys
+pub all_right : (xs ys : List ChunkValue) → All IsBlank (xs ++ ys) → All IsBlank ys
 all_right [] ys h = h
 all_right (x ∷ xs) ys h = all_right xs ys (All-tail IsBlank x (xs ++ ys) h)

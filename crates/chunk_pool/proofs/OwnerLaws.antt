@@ -4,14 +4,14 @@ use Rattle.std.specs.Prelude.{IfSome, IsSome, option_map}
 use Rattle.std.proofs.lemmas.Bool.{cases_eq, cond-true, cond-false, false≢true}
 use Rattle.object_layout.specs.Chunks.{has_chunk}
 use Rattle.chunk_pool.specs.declared.pool.Held.{Held}
-use Rattle.chunk_pool.specs.Chunks.{Chunks, held_at, one_unit, owner_of, KeepsOthers}
+use Rattle.chunk_pool.specs.PoolValue.{PoolValue, held_at, one_unit, owner_of, KeepsOthers}
 use Rattle.chunk_pool.specs.Laws.{OwnersAreTold, OwnersFrom, OwnersStay, TakenAreOwned}
 
-stay : (old new : Chunks) (n : ℕ) → KeepsOthers old new n → OwnersStay old new n
+stay : (old new : PoolValue) (n : ℕ) → KeepsOthers old new n → OwnersStay old new n
 stay old new n kept = λ k ne. ap (λ (o : Option Held). option_map (λ (h : Held). h.owner) o) (kept.others k ne)
 
 -- what is kept at the number is one of these
-from : (old new : Chunks) (n o : ℕ) → KeepsOthers old new n → ((u : ℕ) → owner_of new n ≡ Some u → u ≡ o) → OwnersFrom old new n o
+from : (old new : PoolValue) (n o : ℕ) → KeepsOthers old new n → ((u : ℕ) → owner_of new n ≡ Some u → u ≡ o) → OwnersFrom old new n o
 from old new n o kept here = λ k u e. elim (cases_eq k n) [
   | inl is ↦ inl (is, here u (ap (owner_of new) (sym is) ∙ e))
   | inr ne ↦ inr (sym (stay old new n kept k ne) ∙ e)
@@ -20,7 +20,7 @@ from old new n o kept here = λ k u e. elim (cases_eq k n) [
 mapped : (h : Held) (u : ℕ) (o : Option Held) → o ≡ Some h → option_map (λ (x : Held). x.owner) o ≡ Some u → u ≡ h.owner
 mapped h u o is e = let q : Some h.owner ≡ Some u = ap (λ (x : Option Held). option_map (λ (y : Held). y.owner) x) (sym is) ∙ e in cc
 
-relabelled : (new : Chunks) (n o : ℕ) (was : Option Held) → IsSome was → IfSome was (λ h. held_at new n ≡ Some (record h { owner = o })) → (u : ℕ) → owner_of new n ≡ Some u → u ≡ o
+relabelled : (new : PoolValue) (n o : ℕ) (was : Option Held) → IsSome was → IfSome was (λ h. held_at new n ≡ Some (record h { owner = o })) → (u : ℕ) → owner_of new n ≡ Some u → u ≡ o
 relabelled new n o None used r u e = absurd (false≢true used)
 relabelled new n o (Some h) used r u e = mapped (record h { owner = o }) u (held_at new n) r e
 

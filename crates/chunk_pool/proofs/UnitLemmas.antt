@@ -4,7 +4,7 @@ use Rattle.std.proofs.lemmas.Bool.{cases_eq}
 use Rattle.std.proofs.lemmas.Option.{same_Some}
 use Rattle.std.proofs.lemmas.List.{get_or-set_same, get_or-set_other}
 use Rattle.chunk_pool.specs.declared.pool.Held.{Held}
-use Rattle.chunk_pool.specs.Chunks.{Chunks, units_held, units_in, Takes, Gives, Relabels, KeepsOthers, IsWithin, AreChunks}
+use Rattle.chunk_pool.specs.PoolValue.{PoolValue, units_held, units_in, Takes, Gives, Relabels, KeepsOthers, IsWithin, AreChunks}
 
 abbrev first : List (Option Held) → Option Held
 first [] = None
@@ -81,7 +81,7 @@ chunks_unset xs ys n C others now k g e = elim (cases_eq k n) [
   | inr off ↦ C k g (sym (others k off) ∙ e)
 ]
 
-abbrev pool_of : ℕ → List (Option Held) → Chunks
+abbrev pool_of : ℕ → List (Option Held) → PoolValue
 pool_of limit xs = record { limit = limit; slots = xs }
 
 module _ (limit used : ℕ) (xs ys : List (Option Held)) (within : IsWithin limit used xs) (n : ℕ) (others : (k : ℕ) → k ≢ n → get_or ys k None ≡ get_or xs k None) where

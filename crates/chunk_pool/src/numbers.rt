@@ -2,7 +2,7 @@
 
 ghost use Rattle.std.specs.Prelude.{◌≡◌, ◌+◌, ◌*◌, ◌^◌, ◌<◌, ◌≤◌, [], All, IfOk, None, OnOk, Some, length, vec_capacity, vec_len};
 ghost use Rattle.slab.specs.Slab.{slab_len, HasRoomFor, Updates};
-ghost use Rattle.chunk_pool.specs.Chunks.{held_in, one_unit, AreChunks, IsBlank, NumbersBehind};
+ghost use Rattle.chunk_pool.specs.PoolValue.{held_in, one_unit, AreChunks, IsBlank, NumbersBehind};
 
 use crate::pool::Held;
 use object_layout::Chunk;

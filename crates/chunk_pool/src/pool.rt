@@ -1,7 +1,7 @@
 // The pool of chunks: a limit in units, and an owner for each number in use.
 
 ghost use Rattle.std.specs.Prelude.{◌≡◌, ℕ, ◌+◌, ◌*◌, ◌^◌, ◌<◌, ◌≤◌, ◌↔◌, [], OnErr, OnOk, IfOk, Err, Some, IsSome};
-ghost use Rattle.chunk_pool.specs.Chunks.{held_at, owner_of, units_in_use, AreChunks, Takes, TakesAll, Gives, Relabels};
+ghost use Rattle.chunk_pool.specs.PoolValue.{held_at, owner_of, units_in_use, AreChunks, Takes, TakesAll, Gives, Relabels};
 
 use crate::numbers::{blank_chunks, chunk_of, keep, make_numbers, make_places, number_all};
 use object_layout::Chunk;
@@ -40,9 +40,9 @@ pub struct Pool {
 
 impl Model for Pool {
     ghost use Rattle.std.specs.Prelude.{All};
-    ghost use Rattle.chunk_pool.specs.Chunks.{Chunks, IsBlank, IsWithin};
+    ghost use Rattle.chunk_pool.specs.PoolValue.{PoolValue, IsBlank, IsWithin};
 
-    ghost Value = { Chunks };
+    ghost Value = { PoolValue };
 
     ghost view = { λ p. record { limit = p.limit; slots = p.slots.slots } };
 

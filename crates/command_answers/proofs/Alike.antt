@@ -3,8 +3,8 @@ use Rattle.std.proofs.Common.{◌≡◌, ◌∙◌, ℕ, List, [], ◌∷◌, ap
 use Rattle.std.specs.Prelude.{Option, Some, None, unwrap_or}
 use Rattle.text_lines.specs.Lines.{lines_of}
 use Rattle.hh_lang.specs.Form.{ProgramText}
-use Rattle.run_trace.specs.Entry.{Event}
-use Rattle.run_trace.specs.Settings.{Limits}
+use Rattle.run_trace.specs.Entry.{EntryValue}
+use Rattle.run_trace.specs.Settings.{SettingsValue}
 use Rattle.run_trace.specs.Trace.{AreTraceLines}
 use Rattle.run_trace.specs.declared.settings.Version.{Version}
 use Rattle.run_trace.specs.declared.trace.Trace.{Trace}
@@ -30,7 +30,7 @@ texts_alike named bytes a b h k = record { status = h.status ∙ sym k.status; b
 same_trace : (lines : List (List ℕ)) (t u : Trace) → AreTraceLines lines t → AreTraceLines lines u → t ≡ u
 same_trace [] t u h k = absurd h
 same_trace (line ∷ lines) t u h k =
-    let made : Version → List Event → Trace = λ v entries. record { version = v; entries = entries } in
+    let made : Version → List EntryValue → Trace = λ v entries. record { version = v; entries = entries } in
     ap₂ made (ap (λ (o : Option Version). unwrap_or o t.version) (sym h.0 ∙ k.0)) (h.1 ∙ sym k.1)
 
 pub same_input : (input : List ℕ) (t u : TraceInput) → IsInput input t → IsInput input u → t ≡ u
@@ -39,7 +39,7 @@ same_input input t u h k =
     ap₂ made (h.program ∙ sym k.program) (same_trace (trace_lines (lines_of input)) t.trace u.trace h.trace k.trace)
 
 module _ (o : Options) (a b : Answer) where
-  runs : (p : ProgramText) (s : Limits) (entries : List Event) → IsReplay o p s entries a → IsModelled o p s entries b → AreAlike a b
+  runs : (p : ProgramText) (s : SettingsValue) (entries : List EntryValue) → IsReplay o p s entries a → IsModelled o p s entries b → AreAlike a b
   runs p s entries h k =
       let ended : end_of p s entries ≡ Some h.0.end = subst (λ j. end_of p s j ≡ Some h.0.end) h.1 h.0.ended in
       let same : h.0.end ≡ k.end = ap (λ (x : Option RunEnd). unwrap_or x k.end) (sym ended ∙ k.ended) in
@@ -48,7 +48,7 @@ module _ (o : Options) (a b : Answer) where
         bytes = subst (λ j. a.bytes ≡ out_text p s o.report o.trace j) h.1 h.0.bytes ∙ sym k.text.written;
       }
 
-  wholes : (p : ProgramText) (s : Limits) (entries : List Event) (r : Option RefusedAt) → WhereWhole (IsReplay o p s entries) r a → WhereWhole (IsModelled o p s entries) r b → AreAlike a b
+  wholes : (p : ProgramText) (s : SettingsValue) (entries : List EntryValue) (r : Option RefusedAt) → WhereWhole (IsReplay o p s entries) r a → WhereWhole (IsModelled o p s entries) r b → AreAlike a b
   wholes p s entries None h k = runs p s entries h k
   wholes p s entries (Some r) h k = texts_alike _ _ a b h k
 

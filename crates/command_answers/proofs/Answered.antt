@@ -5,8 +5,8 @@ use Rattle.hh_lang.specs.Form.{ProgramText}
 use Rattle.program_reader.specs.declared.cause.Refused.{Refused}
 use Rattle.hh_model.specs.declared.data.End.{End}
 use Rattle.hh_model.specs.declared.data.End.TheVariants.{Done, Trapped, Entangled}
-use Rattle.run_trace.specs.Entry.{Event}
-use Rattle.run_trace.specs.Settings.{Limits}
+use Rattle.run_trace.specs.Entry.{EntryValue}
+use Rattle.run_trace.specs.Settings.{SettingsValue}
 use Rattle.trace_input.specs.declared.input.InputFault.{InputFault}
 use Rattle.trace_input.specs.declared.input.TraceInput.{TraceInput}
 use Rattle.trace_input.specs.Input.{input_fault, limits_for}
@@ -61,7 +61,7 @@ read_text P (Err r) a f h = refused (Source r) a h
 of_text : (P : ProgramText → Answer → Type 0) (input : List ℕ) (a : Answer) → ((p : ProgramText) → P p a → IsAnswered a.status) → AnswersText P input a → IsAnswered a.status
 of_text P input a f h = read_text P (program_in input) a f h
 
-whole : (p : ProgramText) (s : Limits) (extras : Extras) (a : Answer) → IsWholeRun p s extras a → IsAnswered a.status
+whole : (p : ProgramText) (s : SettingsValue) (extras : Extras) (a : Answer) → IsWholeRun p s extras a → IsAnswered a.status
 whole p s extras a h = subst IsAnswered (sym h.status) (end h.end)
 
 of_run : (o : Options) (input : List ℕ) (a : Answer) → AnswersRun o input a → IsAnswered a.status
@@ -75,8 +75,8 @@ traced : (P : TraceInput → Answer → Type 0) (input : List ℕ) (f : Option I
 traced P input None a g h = g h.0 h.2
 traced P input (Some f) a g h = refused (refusal_of f) a h
 
-of_trace : (P : ProgramText → Limits → List Event → Answer → Type 0) (s : Limits) (input : List ℕ) (a : Answer)
-    → ((p : ProgramText) (l : Limits) (entries : List Event) → P p l entries a → IsAnswered a.status) → AnswersTraced P s input a → IsAnswered a.status
+of_trace : (P : ProgramText → SettingsValue → List EntryValue → Answer → Type 0) (s : SettingsValue) (input : List ℕ) (a : Answer)
+    → ((p : ProgramText) (l : SettingsValue) (entries : List EntryValue) → P p l entries a → IsAnswered a.status) → AnswersTraced P s input a → IsAnswered a.status
 of_trace P s input a f h =
     traced (AnswersTrace P s) input (input_fault input) a
     (λ t. where_whole (P t.program (limits_for s t) t.trace.entries) (refused_as_run t.program (limits_for s t) t.trace.entries) a (f t.program (limits_for s t) t.trace.entries)) h

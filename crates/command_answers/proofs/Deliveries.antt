@@ -2,8 +2,8 @@
 use Rattle.std.proofs.Common.{◌⊎◌, ◌≡◌, ◌≤◌, ◌+◌, ℕ, List, [], length, refl, sym, subst, inl, inr, arith}
 use Rattle.std.specs.Prelude.{Option, Some, Result, Ok, Err, IfOk, IfErr}
 use Rattle.outside_io.specs.Told.{with_more}
-use Rattle.run_trace.specs.Entry.{Event}
-use Rattle.shared_value.specs.World.{World}
+use Rattle.run_trace.specs.Entry.{EntryValue}
+use Rattle.shared_value.specs.SharedValue.{SharedValue}
 use Rattle.command_answers.specs.declared.answer.Status.{Status}
 use Rattle.command_answers.specs.declared.answer.Status.TheVariants.{Done, Words, Source, Trap, Entangled, Fuel, Pool, ReadFault, WriteFault, NoMemory, Trace, Races, Image}
 use Rattle.command_answers.specs.declared.answer.Answer.{Answer}
@@ -16,7 +16,7 @@ use Rattle.command_answers.specs.Delivery.{DeliversNothing, DeliversBy, Delivers
 
 -- what a run leaves
 abbrev pub Leaves : Type 1
-Leaves = List Event → Option World → Type 0
+Leaves = List EntryValue → Option SharedValue → Type 0
 
 abbrev Given : (Answer → Type 0) → Ran → Option (List ℕ) → Option (List ℕ) → Status → Type 0
 Given P r before after s = (a : Answer) × P a × (a.status ≡ s) × (r.journal ≡ a.journal) × (r.shared ≡ a.shared) × (after ≡ with_more before a.bytes)

@@ -3,8 +3,8 @@ use Rattle.std.proofs.Common.{◌≡◌, ◌∙◌, ◌⊎◌, ℕ, List, Bool, 
 use Rattle.std.specs.Prelude.{Option, Some, None, Result}
 use Rattle.hh_lang.specs.Form.{ProgramText}
 use Rattle.program_reader.specs.declared.cause.Refused.{Refused}
-use Rattle.run_trace.specs.Entry.{Event}
-use Rattle.run_trace.specs.Settings.{Limits}
+use Rattle.run_trace.specs.Entry.{EntryValue}
+use Rattle.run_trace.specs.Settings.{SettingsValue}
 use Rattle.trace_input.specs.declared.input.InputFault.{InputFault}
 use Rattle.trace_input.specs.declared.input.InputFault.TheVariants.{Source, BadLine}
 use Rattle.trace_input.specs.declared.input.TraceInput.{TraceInput}
@@ -82,8 +82,8 @@ module _ (E : Status → Type 0) where
   input_end P input (Some (Source r)) a g none h = absurd (none r refl)
   input_end P input (Some (BadLine n)) a g none h = inl h.status
 
-  traced_end : (P : ProgramText → Limits → List Event → Answer → Type 0) (s : Limits) (input : List ℕ) (a : Answer)
-      → ((p : ProgramText) (l : Limits) (entries : List Event) → P p l entries a → E a.status) → HasProgram input → AnswersTraced P s input a → SaysOrRefuses a
+  traced_end : (P : ProgramText → SettingsValue → List EntryValue → Answer → Type 0) (s : SettingsValue) (input : List ℕ) (a : Answer)
+      → ((p : ProgramText) (l : SettingsValue) (entries : List EntryValue) → P p l entries a → E a.status) → HasProgram input → AnswersTraced P s input a → SaysOrRefuses a
   traced_end P s input a f has h =
       input_end (AnswersTrace P s) input (input_fault input) a
       (λ t. whole_end (P t.program (limits_for s t) t.trace.entries) (refused_as_run t.program (limits_for s t) t.trace.entries) a (f t.program (limits_for s t) t.trace.entries))

@@ -6,21 +6,21 @@ use Rattle.hh_model.specs.declared.data.State.{State as Machine}
 use Rattle.hh_model.specs.Effect.{object_at}
 use Rattle.hh_model.specs.Step.{run}
 use Rattle.hh_model.proofs.Stopped.{reads_are_decided}
-use Rattle.run_trace.specs.Entry.{Event}
-use Rattle.run_trace.specs.Settings.{Limits, field_limit}
+use Rattle.run_trace.specs.Entry.{EntryValue}
+use Rattle.run_trace.specs.Settings.{SettingsValue, field_limit}
 use Rattle.run_ledger.specs.declared.data.Ledger.{Ledger}
 use Rattle.run_ledger.specs.Heaps.{heap_of, held_in}
 use Rattle.run_ledger.specs.Journals.{IsPrefix, is_legal, ledger_of, tasks_of}
 use Rattle.run_ledger.proofs.Cuts.{journals_can_be_cut}
 use Rattle.run_ledger.proofs.Drops.{held_is_undropped}
 use Rattle.run_ledger.proofs.Journals.{nothing_reachable_is_freed}
-use Rattle.ledger_steps.specs.Accounts.{Rests}
+use Rattle.ledger_step_laws.specs.Accounts.{Rests}
 use Rattle.core_relation.specs.Stands.{HomeStands}
-use Rattle.core_relation.specs.Value.{In, Value, object_name}
+use Rattle.core_relation.specs.Memory.{In, Memory, object_name}
 use Rattle.core_relation.specs.Whole.{handed}
 use Rattle.core_relation.proofs.objects.Members.{held_object, object_held}
-use Rattle.shared_value.specs.Stands.{IsWorld}
-use Rattle.shared_value.specs.World.{World, accounts, value_of, without_journal}
+use Rattle.shared_value.specs.Stands.{IsSharedValue}
+use Rattle.shared_value.specs.SharedValue.{SharedValue, accounts, value_of, without_journal}
 use Rattle.heap_reading.proofs.KeptNames.{handed_held}
 use Rattle.heap_reading.proofs.TreeNow.{same_machine}
 use Rattle.command_answers.specs.Runs.{HandsBack}
@@ -28,11 +28,11 @@ use Rattle.command_answers.specs.Headline.{FreesNoReachable, HeapIsHeld, HeapsAr
 use Rattle.command_answers.proofs.Taken.{step_taken, still_going}
 
 -- THE HEAPS of a value that stands for its journal
-module _ (w : World) (I : IsWorld w) (t : ℕ) (R : Rests (handed (accounts w)) t) where
+module _ (w : SharedValue) (I : IsSharedValue w) (t : ℕ) (R : Rests (handed (accounts w)) t) where
   abbrev l : Ledger
   l = accounts w
 
-  abbrev v : Value
+  abbrev v : Memory
   v = value_of w
 
   H : HomeStands v (handed l) t
@@ -47,16 +47,16 @@ module _ (w : World) (I : IsWorld w) (t : ℕ) (R : Rests (handed (accounts w)) 
     contents = λ o i. let x = I.stands.homes.contents t o R i in (x.0, ap (λ (m : Machine). object_at m.store (object_name o)) (sym (same_machine w I)) ∙ x.1, x.2);
   }
 
-heaps_are_held : (w : World) (I : IsWorld w) → HeapsAreHeld (Some (without_journal w)) (accounts w)
+heaps_are_held : (w : SharedValue) (I : IsSharedValue w) → HeapsAreHeld (Some (without_journal w)) (accounts w)
 heaps_are_held w I = record { value = without_journal w; is = refl; heaps = heap_is_held w I }
 
 -- THE JOURNAL
-frees : (p : ProgramText) (s : Limits) (journal first : List Event) → is_legal p s journal ≡ true → IsPrefix first journal → FreesNoReachable p s first
+frees : (p : ProgramText) (s : SettingsValue) (journal first : List EntryValue) → is_legal p s journal ≡ true → IsPrefix first journal → FreesNoReachable p s first
 frees p s journal first legal f =
     let now = ((journals_can_be_cut p s first f.0).legal.0 (subst (λ j. is_legal p s j ≡ true) f.1 legal)).0 in
     record { reachable = nothing_reachable_is_freed p s first now; undropped = held_is_undropped p s first now }
 
-held : (p : ProgramText) (s : Limits) (journal : List Event) (shared : Option World) → HandsBack p s journal shared → HeapsAreHeld shared (ledger_of p s journal)
+held : (p : ProgramText) (s : SettingsValue) (journal : List EntryValue) (shared : Option SharedValue) → HandsBack p s journal shared → HeapsAreHeld shared (ledger_of p s journal)
 held p s journal shared B =
     let items = B.held.journal.items in
     let same : accounts B.held ≡ ledger_of p s journal =
@@ -64,7 +64,7 @@ held p s journal shared B =
     subst (λ z. HeapsAreHeld z (ledger_of p s journal)) (sym B.left) (subst (HeapsAreHeld (Some (without_journal B.held))) same (heaps_are_held B.held B.stands))
 
 -- THE STEPS
-stops : (p : ProgramText) (s : Limits) (journal : List Event) (shared : Option World) → HandsBack p s journal shared → (before later : List ℕ) (t : ℕ) → tasks_of journal ≡ before ++ t ∷ later → StopsUnordered p (run p (field_limit s.version) before) t
+stops : (p : ProgramText) (s : SettingsValue) (journal : List EntryValue) (shared : Option SharedValue) → HandsBack p s journal shared → (before later : List ℕ) (t : ℕ) → tasks_of journal ≡ before ++ t ∷ later → StopsUnordered p (run p (field_limit s.version) before) t
 stops p s journal shared B before later t e =
     let taken = step_taken p s journal before later t (subst IsProgram B.program B.stands.form) B.legal e in
     record { taken = taken; reads = λ x d n o next. reads_are_decided p (field_limit s.version) before t x d n o (still_going (run p (field_limit s.version) before) t taken) next }

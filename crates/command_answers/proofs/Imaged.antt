@@ -2,8 +2,8 @@
 use Rattle.std.proofs.Common.{◌≡◌, ◌∙◌, ◌≤◌, ℕ, List, refl, sym, ap, subst, length}
 use Rattle.std.specs.Prelude.{Option, Some, None}
 use Rattle.hh_lang.specs.Form.{ProgramText}
-use Rattle.run_trace.specs.Entry.{Event}
-use Rattle.run_trace.specs.Settings.{Limits}
+use Rattle.run_trace.specs.Entry.{EntryValue}
+use Rattle.run_trace.specs.Settings.{SettingsValue}
 use Rattle.trace_input.specs.declared.input.InputFault.{InputFault}
 use Rattle.trace_input.specs.declared.input.InputFault.TheVariants.{Source as SourceFault, BadLine}
 use Rattle.trace_input.specs.declared.input.TraceInput.{TraceInput}
@@ -11,8 +11,8 @@ use Rattle.trace_input.specs.Input.{input_fault, limits_for}
 use Rattle.run_ledger.specs.declared.data.RunEnd.{RunEnd}
 use Rattle.run_ledger.specs.declared.data.RefusedAt.{RefusedAt}
 use Rattle.run_ledger.specs.Journals.{refused_as_run}
-use Rattle.shared_value.specs.World.{World, accounts}
-use Rattle.shared_value.specs.Stands.{IsWorld}
+use Rattle.shared_value.specs.SharedValue.{SharedValue, accounts}
+use Rattle.shared_value.specs.Stands.{IsSharedValue}
 use Rattle.image_check.specs.declared.cause.Fault.{Fault}
 use Rattle.image_check.specs.Fault.{image_fault, image_limit, objects_in}
 use Rattle.heap_image.specs.Text.{text_of}
@@ -27,23 +27,23 @@ use Rattle.command_answers.specs.Laws.{ImagesAreVerified}
 use Rattle.command_answers.proofs.Runs.{short_journal, whole_journal}
 use Rattle.command_answers.proofs.Traces.{trace_told}
 
-abbrev pub OfShared : World → Answer → Type 0
+abbrev pub OfShared : SharedValue → Answer → Type 0
 OfShared w = WhereWhole (IsImaged w.program w.settings w.journal.items) (refused_as_run w.program w.settings w.journal.items)
 
 -- all entries are made, and the run has ended so, or not
-pub image_ended : (w : World) (end : RunEnd) (image : List ℕ) (a : Answer) → IsWorld w → (accounts w).end ≡ Some end → IsImageOf w image → IsText Done image a → OfShared w a
+pub image_ended : (w : SharedValue) (end : RunEnd) (image : List ℕ) (a : Answer) → IsSharedValue w → (accounts w).end ≡ Some end → IsImageOf w image → IsText Done image a → OfShared w a
 image_ended w end image a stands ended shows h =
     subst (λ (r : Option RefusedAt). WhereWhole (IsImaged w.program w.settings w.journal.items) r a)
     (sym (whole_journal w.program w.settings w.journal.items end stands.legal ended))
     (record { held = w; stands = stands; program = refl; settings = refl; journal = refl; image = image; shows = shows; text = h })
 
-pub image_short : (w : World) (a : Answer) → IsWorld w → (accounts w).end ≡ None → Refuses (Entry (short_of w.journal.items)) a → OfShared w a
+pub image_short : (w : SharedValue) (a : Answer) → IsSharedValue w → (accounts w).end ≡ None → Refuses (Entry (short_of w.journal.items)) a → OfShared w a
 image_short w a stands none h =
     subst (λ (r : Option RefusedAt). WhereWhole (IsImaged w.program w.settings w.journal.items) r a)
     (sym (short_journal w.program w.settings w.journal.items stands.legal none)) h
 
 -- where all entries are made
-pub imaged : (l : Limits) (t : TraceInput) (s : Limits) (entries : List Event) (w : World) (a : Answer) → s ≡ limits_for l t → entries ≡ t.trace.entries
+pub imaged : (l : SettingsValue) (t : TraceInput) (s : SettingsValue) (entries : List EntryValue) (w : SharedValue) (a : Answer) → s ≡ limits_for l t → entries ≡ t.trace.entries
     → w.program ≡ t.program → w.settings ≡ s → w.journal.items ≡ entries → OfShared w a → AnswersTrace IsImaged l t a
 imaged l t s entries w a limits is program settings journal h =
     trace_told IsImaged l t s entries (refused_as_run t.program s entries) a limits is refl
@@ -61,8 +61,8 @@ IsDone _ = ⊥
 undone : (named : Status) (bytes : List ℕ) (a : Answer) → (IsDone named → ⊥) → IsText named bytes a → a.status ≡ Done → ⊥
 undone named bytes a other h e = other (subst IsDone (sym e ∙ h.status) tt)
 
-module _ (Q : Type 0) (s : Limits) (a : Answer) (done : a.status ≡ Done) (so : (p : ProgramText) (l : Limits) (entries : List Event) → IsImaged p l entries a → Q) where
-  whole : (p : ProgramText) (l : Limits) (entries : List Event) (r : Option RefusedAt) → WhereWhole (IsImaged p l entries) r a → Q
+module _ (Q : Type 0) (s : SettingsValue) (a : Answer) (done : a.status ≡ Done) (so : (p : ProgramText) (l : SettingsValue) (entries : List EntryValue) → IsImaged p l entries a → Q) where
+  whole : (p : ProgramText) (l : SettingsValue) (entries : List EntryValue) (r : Option RefusedAt) → WhereWhole (IsImaged p l entries) r a → Q
   whole p l entries None h = so p l entries h
   whole p l entries (Some r) h = absurd (undone _ _ a (λ x. x) h done)
 
@@ -77,7 +77,7 @@ module _ (Q : Type 0) (s : Limits) (a : Answer) (done : a.status ≡ Done) (so :
       let l = limits_for s t in
       whole t.program l t.trace.entries (refused_as_run t.program l t.trace.entries) h.2
 
-verified : (p : ProgramText) (l : Limits) (entries : List Event) (a b : Answer) → length a.bytes ≤ image_limit → AnswersImage (image_fault a.bytes) (objects_in a.bytes) b → IsImaged p l entries a → b.status ≡ Done
+verified : (p : ProgramText) (l : SettingsValue) (entries : List EntryValue) (a b : Answer) → length a.bytes ≤ image_limit → AnswersImage (image_fault a.bytes) (objects_in a.bytes) b → IsImaged p l entries a → b.status ≡ Done
 verified p l entries a b fits h is =
     let same : a.bytes ≡ text_of is.shows.picture = is.text.written ∙ is.shows.written in
     let none : image_fault a.bytes ≡ None = subst (λ x. length x ≤ image_limit → image_fault x ≡ None) (sym same) (sound_is_faultless is.shows.picture is.shows.sound).fits fits in

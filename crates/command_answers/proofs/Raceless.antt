@@ -4,8 +4,8 @@ use Rattle.std.specs.Prelude.{Option, Some, None}
 use Rattle.hh_lang.specs.Form.{ProgramText}
 use Rattle.hh_model.specs.declared.data.End.{End}
 use Rattle.hh_model.specs.declared.data.End.TheVariants.{Done as IsDone, Trapped, Entangled as Stopped}
-use Rattle.run_trace.specs.Entry.{Event}
-use Rattle.run_trace.specs.Settings.{Limits, field_limit}
+use Rattle.run_trace.specs.Entry.{EntryValue}
+use Rattle.run_trace.specs.Settings.{SettingsValue, field_limit}
 use Rattle.trace_input.specs.declared.input.InputFault.{InputFault}
 use Rattle.trace_input.specs.declared.input.InputFault.TheVariants.{Source as InProgram, BadLine}
 use Rattle.trace_input.specs.declared.input.TraceInput.{TraceInput}
@@ -41,7 +41,7 @@ none_told [] e = cc
 none_told (r ∷ rs) e = absurd cc
 
 -- who is stopped by another's object, where the status says that someone was
-module _ (p : ProgramText) (s : Limits) (entries : List Event) (report : IsReport (machine_of p s entries).edges (accesses p (field_limit s.version) (tasks_of entries)) []) where
+module _ (p : ProgramText) (s : SettingsValue) (entries : List EntryValue) (report : IsReport (machine_of p s entries).edges (accesses p (field_limit s.version) (tasks_of entries)) []) where
   never : (e : RunEnd) → end_of p s entries ≡ Some e → status_of_end e ≡ Entangled → ⊥
   never (Machine IsDone) h is = absurd cc
   never (Machine (Trapped kind t at)) h is = absurd cc
@@ -50,14 +50,14 @@ module _ (p : ProgramText) (s : Limits) (entries : List Event) (report : IsRepor
   never (PoolEnd chunks) h is = absurd cc
 
 module _ (o : Options) (a b : Answer) (done : a.status ≡ Done) (stopped : b.status ≡ Entangled) where
-  runs : (p : ProgramText) (s : Limits) (entries : List Event) → IsRaceAnswer p s entries a → IsReplay o p s entries b → ⊥
+  runs : (p : ProgramText) (s : SettingsValue) (entries : List EntryValue) → IsRaceAnswer p s entries a → IsReplay o p s entries b → ⊥
   runs p s entries h k =
       let none : h.races ≡ [] = none_told h.races (sym h.text.status ∙ done) in
       let report : IsReport (machine_of p s entries).edges (accesses p (field_limit s.version) (tasks_of entries)) [] =
       subst (λ (rs : List Race). IsReport (machine_of p s entries).edges (accesses p (field_limit s.version) (tasks_of entries)) rs) none h.report in
-      never p s entries report k.0.end (subst (λ (j : List Event). end_of p s j ≡ Some k.0.end) k.1 k.0.ended) (sym k.0.status ∙ stopped)
+      never p s entries report k.0.end (subst (λ (j : List EntryValue). end_of p s j ≡ Some k.0.end) k.1 k.0.ended) (sym k.0.status ∙ stopped)
 
-  wholes : (p : ProgramText) (s : Limits) (entries : List Event) (r : Option RefusedAt) → WhereWhole (IsRaceAnswer p s entries) r a → WhereWhole (IsReplay o p s entries) r b → ⊥
+  wholes : (p : ProgramText) (s : SettingsValue) (entries : List EntryValue) (r : Option RefusedAt) → WhereWhole (IsRaceAnswer p s entries) r a → WhereWhole (IsReplay o p s entries) r b → ⊥
   wholes p s entries None h k = runs p s entries h k
   wholes p s entries (Some r) h k = no_text _ _ a (λ e. cc) h done
 

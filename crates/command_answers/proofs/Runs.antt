@@ -2,8 +2,8 @@
 use Rattle.std.proofs.Common.{◌∙◌, ◌≡◌, ◌+◌, List, [], true, ap, ap₂, refl, sym, subst, append-nil, length}
 use Rattle.std.specs.Prelude.{Option, Some, None, Result, Ok, Err, IfOk, IfErr}
 use Rattle.hh_lang.specs.Form.{ProgramText}
-use Rattle.run_trace.specs.Entry.{Event}
-use Rattle.run_trace.specs.Settings.{Limits}
+use Rattle.run_trace.specs.Entry.{EntryValue}
+use Rattle.run_trace.specs.Settings.{SettingsValue}
 use Rattle.trace_input.specs.declared.input.TraceInput.{TraceInput}
 use Rattle.trace_input.specs.Input.{limits_for}
 use Rattle.run_ledger.specs.declared.data.RunEnd.{RunEnd}
@@ -12,12 +12,12 @@ use Rattle.run_ledger.specs.Journals.{IsPrefix, end_of, first_refused, is_legal,
 use Rattle.run_ledger.specs.Text.{out_text}
 use Rattle.run_ledger.proofs.Cuts.{first_refused_is_first}
 use Rattle.run_report.specs.declared.whole.Extras.{Extras}
-use Rattle.shared_value.specs.World.{World, accounts, without_journal}
-use Rattle.shared_value.specs.Stands.{IsWorld}
+use Rattle.shared_value.specs.SharedValue.{SharedValue, accounts, without_journal}
+use Rattle.shared_value.specs.Stands.{IsSharedValue}
 use Rattle.world_core.specs.declared.replaying.ReplayStop.{ReplayStop}
 use Rattle.world_core.specs.declared.replaying.ReplayStop.TheVariants.{RefusedAt as Stops, NoMemory as WantsMemory}
 use Rattle.world_core.specs.Replay.{HasReplayed, IsStop}
-use Rattle.world_core.specs.Whole.{Whole}
+use Rattle.world_core.specs.WorldValue.{WorldValue}
 use Rattle.refusal_lines.specs.declared.refusal.Refusal.TheVariants.{Entry}
 use Rattle.command_line.specs.declared.line.Options.{Options}
 use Rattle.command_answers.specs.declared.answer.Answer.{Answer}
@@ -30,22 +30,22 @@ use Rattle.command_answers.specs.Runs.{HandsBack, IsReplayedRun, LeavesPrefix}
 use Rattle.command_answers.proofs.Traces.{trace_told}
 
 -- a legal journal with an end is one of a whole run
-pub whole_journal : (p : ProgramText) (s : Limits) (journal : List Event) (end : RunEnd) → is_legal p s journal ≡ true → end_of p s journal ≡ Some end → refused_as_run p s journal ≡ None
+pub whole_journal : (p : ProgramText) (s : SettingsValue) (journal : List EntryValue) (end : RunEnd) → is_legal p s journal ≡ true → end_of p s journal ≡ Some end → refused_as_run p s journal ≡ None
 whole_journal p s journal end legal ended =
     ap₂ (λ (r : Option RefusedAt) (e : Option RunEnd). or_short r e (length journal + 1)) ((first_refused_is_first p s journal).none.1 legal) ended
 
 -- and one without an end is refused as short
-pub short_journal : (p : ProgramText) (s : Limits) (journal : List Event) → is_legal p s journal ≡ true → end_of p s journal ≡ None
+pub short_journal : (p : ProgramText) (s : SettingsValue) (journal : List EntryValue) → is_legal p s journal ≡ true → end_of p s journal ≡ None
     → refused_as_run p s journal ≡ Some (short_of journal)
 short_journal p s journal legal none =
     ap₂ (λ (r : Option RefusedAt) (e : Option RunEnd). or_short r e (length journal + 1)) ((first_refused_is_first p s journal).none.1 legal) none
 
 -- a journal with a refused entry is refused for that
-pub refused_first : (p : ProgramText) (s : Limits) (journal : List Event) (r : RefusedAt) → first_refused p s journal ≡ Some r → refused_as_run p s journal ≡ Some r
+pub refused_first : (p : ProgramText) (s : SettingsValue) (journal : List EntryValue) (r : RefusedAt) → first_refused p s journal ≡ Some r → refused_as_run p s journal ≡ Some r
 refused_first p s journal r is = ap (λ (o : Option RefusedAt). or_short o (end_of p s journal) (length journal + 1)) is
 
 -- what is handed back of a shared value
-pub handed : (p : ProgramText) (s : Limits) (w : World) (journal : List Event) (shared : Option World) → IsWorld w → w.program ≡ p → w.settings ≡ s
+pub handed : (p : ProgramText) (s : SettingsValue) (w : SharedValue) (journal : List EntryValue) (shared : Option SharedValue) → IsSharedValue w → w.program ≡ p → w.settings ≡ s
     → journal ≡ w.journal.items → shared ≡ Some (without_journal w) → HandsBack p s journal shared
 handed p s w journal shared stands program settings moved left = record {
   held = w;
@@ -58,7 +58,7 @@ handed p s w journal shared stands program settings moved left = record {
 }
 
 -- the answer of a run that has ended so
-pub ended_run : (w : World) (end : RunEnd) (extras : Extras) (a : Answer) → IsWorld w → (accounts w).end ≡ Some end
+pub ended_run : (w : SharedValue) (end : RunEnd) (extras : Extras) (a : Answer) → IsSharedValue w → (accounts w).end ≡ Some end
     → a.status ≡ status_of_end end → a.bytes ≡ out_text w.program w.settings extras.report extras.trace w.journal.items → a.journal ≡ w.journal.items → a.shared ≡ Some (without_journal w)
     → IsReplayedRun w.program w.settings extras w.journal.items a
 ended_run w end extras a stands ended status bytes journal shared = (
@@ -74,22 +74,22 @@ ended_run w end extras a stands ended status bytes journal shared = (
 
 -- ENTRIES
 
-abbrev pub OfShared : World → Extras → Answer → Type 0
+abbrev pub OfShared : SharedValue → Extras → Answer → Type 0
 OfShared w extras = WhereWhole (IsReplayedRun w.program w.settings extras w.journal.items) (refused_as_run w.program w.settings w.journal.items)
 
 -- all are made, and the run has ended so, or not
-pub made_ended : (w : World) (end : RunEnd) (extras : Extras) (a : Answer) → IsWorld w → (accounts w).end ≡ Some end → IsReplayedRun w.program w.settings extras w.journal.items a → OfShared w extras a
+pub made_ended : (w : SharedValue) (end : RunEnd) (extras : Extras) (a : Answer) → IsSharedValue w → (accounts w).end ≡ Some end → IsReplayedRun w.program w.settings extras w.journal.items a → OfShared w extras a
 made_ended w end extras a stands ended h =
     subst (λ (r : Option RefusedAt). WhereWhole (IsReplayedRun w.program w.settings extras w.journal.items) r a)
     (sym (whole_journal w.program w.settings w.journal.items end stands.legal ended)) h
 
-pub made_short : (w : World) (extras : Extras) (a : Answer) → IsWorld w → (accounts w).end ≡ None → Refuses (Entry (short_of w.journal.items)) a → OfShared w extras a
+pub made_short : (w : SharedValue) (extras : Extras) (a : Answer) → IsSharedValue w → (accounts w).end ≡ None → Refuses (Entry (short_of w.journal.items)) a → OfShared w extras a
 made_short w extras a stands none h =
     subst (λ (r : Option RefusedAt). WhereWhole (IsReplayedRun w.program w.settings extras w.journal.items) r a)
     (sym (short_journal w.program w.settings w.journal.items stands.legal none)) h
 
 -- where all entries are made
-pub made_told : (o : Options) (t : TraceInput) (s : Limits) (entries : List Event) (w : World) (a : Answer) → s ≡ limits_for o.settings t → entries ≡ t.trace.entries
+pub made_told : (o : Options) (t : TraceInput) (s : SettingsValue) (entries : List EntryValue) (w : SharedValue) (a : Answer) → s ≡ limits_for o.settings t → entries ≡ t.trace.entries
     → w.program ≡ t.program → w.settings ≡ s → w.journal.items ≡ entries
     → WhereWhole (IsReplayedRun w.program w.settings (extras_of o) w.journal.items) (refused_as_run w.program w.settings w.journal.items) a → AnswersTrace (IsReplay o) o.settings t a
 made_told o t s entries w a limits is program settings journal h =
@@ -99,26 +99,26 @@ made_told o t s entries w a limits is program settings journal h =
     (subst (λ q. WhereWhole (IsReplayedRun q w.settings (extras_of o) w.journal.items) (refused_as_run q w.settings w.journal.items) a) program h)))
 
 -- memory was wanting amid them
-pub entries_left : (o : Options) (t : TraceInput) (s : Limits) (entries : List Event) (w : World) (found : Wanted) → s ≡ limits_for o.settings t → entries ≡ t.trace.entries
-    → IsWorld w → w.program ≡ t.program → w.settings ≡ s → IsPrefix w.journal.items entries → found ≡ Amid w.journal.items (without_journal w)
+pub entries_left : (o : Options) (t : TraceInput) (s : SettingsValue) (entries : List EntryValue) (w : SharedValue) (found : Wanted) → s ≡ limits_for o.settings t → entries ≡ t.trace.entries
+    → IsSharedValue w → w.program ≡ t.program → w.settings ≡ s → IsPrefix w.journal.items entries → found ≡ Amid w.journal.items (without_journal w)
     → IsWanted (LeavesPrefix t.program (limits_for o.settings t) t.trace.entries) found
 entries_left o t s entries w found limits is stands program settings prefix found_is =
     subst (IsWanted (LeavesPrefix t.program (limits_for o.settings t) t.trace.entries)) (sym found_is)
     (handed t.program (limits_for o.settings t) w w.journal.items (Some (without_journal w)) stands program (settings ∙ limits) refl refl, subst (IsPrefix w.journal.items) is prefix)
 
 -- all of them are a first part
-pub all_prefix : (journal entries : List Event) → journal ≡ entries → IsPrefix journal entries
+pub all_prefix : (journal entries : List EntryValue) → journal ≡ entries → IsPrefix journal entries
 all_prefix journal entries is = ([], sym is ∙ sym (append-nil journal))
 
 -- A REPLAY that has come so far
 
-pub replayed_told : (o : Options) (t : TraceInput) (s : Limits) (entries : List Event) (r : Result Whole ReplayStop) (a : Answer) → s ≡ limits_for o.settings t → entries ≡ t.trace.entries
+pub replayed_told : (o : Options) (t : TraceInput) (s : SettingsValue) (entries : List EntryValue) (r : Result WorldValue ReplayStop) (a : Answer) → s ≡ limits_for o.settings t → entries ≡ t.trace.entries
     → IfOk r (HasReplayed t.program s entries) → IfErr r (IsStop t.program s entries) → AnswersReplayed (extras_of o) r a → AnswersTrace (IsReplay o) o.settings t a
 replayed_told o t s entries (Ok x) a limits is has stop h = made_told o t s entries x.shared a limits is has.program has.settings has.journal h
 replayed_told o t s entries (Err (Stops r)) a limits is has stop h = trace_told (IsReplay o) o.settings t s entries (Some r) a limits is (refused_first t.program s entries r stop) h
 replayed_told o t s entries (Err (WantsMemory x)) a limits is has stop h = absurd h
 
-pub replayed_left : (o : Options) (t : TraceInput) (s : Limits) (entries : List Event) (r : Result Whole ReplayStop) (found : Wanted) → s ≡ limits_for o.settings t → entries ≡ t.trace.entries
+pub replayed_left : (o : Options) (t : TraceInput) (s : SettingsValue) (entries : List EntryValue) (r : Result WorldValue ReplayStop) (found : Wanted) → s ≡ limits_for o.settings t → entries ≡ t.trace.entries
     → IfOk r (HasReplayed t.program s entries) → IfErr r (IsStop t.program s entries) → StandsReplayed r → found ≡ left_by r → IsWanted (LeavesPrefix t.program (limits_for o.settings t) t.trace.entries) found
 replayed_left o t s entries (Ok x) found limits is has stop stands e =
     entries_left o t s entries x.shared found limits is stands has.program has.settings (all_prefix x.shared.journal.items entries has.journal) e

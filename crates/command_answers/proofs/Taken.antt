@@ -8,15 +8,15 @@ use Rattle.hh_model.specs.declared.data.State.{State}
 use Rattle.hh_model.specs.Step.{can_step, goes_on, is_running, run, run_from, step}
 use Rattle.run_trace.specs.declared.entry.Kind.{Kind}
 use Rattle.run_trace.specs.declared.entry.Kind.TheVariants.{Took, Ran, Chunk, Begin, End as EndOf, PutOff, Mark, More, Sweep, Fuel}
-use Rattle.run_trace.specs.Entry.{Event}
-use Rattle.run_trace.specs.Settings.{Limits, field_limit}
+use Rattle.run_trace.specs.Entry.{EntryValue}
+use Rattle.run_trace.specs.Settings.{SettingsValue, field_limit}
 use Rattle.run_ledger.specs.declared.data.Ledger.{Ledger}
 use Rattle.run_ledger.specs.Entries.{after, refusal}
 use Rattle.run_ledger.specs.Journals.{is_legal, is_legal_from, ledger_of, tasks_in, tasks_of}
 use Rattle.run_ledger.proofs.Cuts.{journals_can_be_cut, none_is}
 use Rattle.run_ledger.proofs.Fewer.{fewer_steps_are_legal}
 use Rattle.run_ledger.proofs.Machine.{entries_move_machine, kind_machine}
-use Rattle.ledger_steps.proofs.Split.{split_leaves}
+use Rattle.ledger_step_laws.proofs.Split.{split_leaves}
 
 -- LISTS OF STEPS
 
@@ -63,8 +63,8 @@ run_on p (t ∷ ts) us m = run_on p ts us (step p m t)
 
 -- STEPS OF ENTRIES
 
-module _ (p : ProgramText) (s : Limits) (I : IsProgram p) where
-  module _ (first : List Event) (legal : is_legal p s first ≡ true) where
+module _ (p : ProgramText) (s : SettingsValue) (I : IsProgram p) where
+  module _ (first : List EntryValue) (legal : is_legal p s first ≡ true) where
     abbrev l : Ledger
     l = ledger_of p s first
 
@@ -90,7 +90,7 @@ module _ (p : ProgramText) (s : Limits) (I : IsProgram p) where
     within w Fuel b c t free e = absurd (no_item b c t e)
 
   -- the steps of the entries behind the first ones
-  steps_from : (es first : List Event) → is_legal p s (first ++ es) ≡ true → (before after : List ℕ) (t : ℕ) → tasks_of es ≡ before ++ t ∷ after → can_step (run_from p (ledger_of p s first).machine before) t ≡ true
+  steps_from : (es first : List EntryValue) → is_legal p s (first ++ es) ≡ true → (before after : List ℕ) (t : ℕ) → tasks_of es ≡ before ++ t ∷ after → can_step (run_from p (ledger_of p s first).machine before) t ≡ true
   steps_from [] first legal before after t q = absurd (no_item before after t q)
   steps_from (e ∷ es) first legal before later t q =
       let l = ledger_of p s first in
@@ -113,5 +113,5 @@ still_going m t h = by m.end h
     by None g = refl
     by (Some e) g = absurd (false≢true g)
 
-pub step_taken : (p : ProgramText) (s : Limits) (journal : List Event) (before later : List ℕ) (t : ℕ) → IsProgram p → is_legal p s journal ≡ true → tasks_of journal ≡ before ++ t ∷ later → can_step (run p (field_limit s.version) before) t ≡ true
+pub step_taken : (p : ProgramText) (s : SettingsValue) (journal : List EntryValue) (before later : List ℕ) (t : ℕ) → IsProgram p → is_legal p s journal ≡ true → tasks_of journal ≡ before ++ t ∷ later → can_step (run p (field_limit s.version) before) t ≡ true
 step_taken p s journal before later t I legal e = steps_from p s I journal [] legal before later t e

@@ -6,9 +6,9 @@ use Rattle.hh_lang.specs.Form.{ProgramText}
 use Rattle.program_reader.specs.Program.{program_of, reading_of}
 use Rattle.program_make.specs.Text.{made_text}
 use Rattle.program_make.proofs.Lengths.{made_are_short}
-use Rattle.made_programs.proofs.Made.{made_are_programs}
-use Rattle.run_trace.specs.Entry.{Event}
-use Rattle.run_trace.specs.Settings.{Limits, usual_limits}
+use Rattle.made_program_laws.proofs.Made.{made_are_programs}
+use Rattle.run_trace.specs.Entry.{EntryValue}
+use Rattle.run_trace.specs.Settings.{SettingsValue, usual_limits}
 use Rattle.trace_input.specs.declared.input.TraceInput.{TraceInput}
 use Rattle.trace_input.specs.Input.{limits_for}
 use Rattle.run_ledger.specs.declared.data.RunEnd.{RunEnd}
@@ -29,7 +29,7 @@ use Rattle.command_answers.specs.Laws.{MadeAreRead}
 use Rattle.command_answers.specs.Runs.{LeavesPaced}
 
 -- what is answered of a journal, which is the trace's, within its limits
-pub trace_told : (P : ProgramText → Limits → List Event → Answer → Type 0) (l : Limits) (t : TraceInput) (s : Limits) (journal : List Event) (r : Option RefusedAt) (a : Answer)
+pub trace_told : (P : ProgramText → SettingsValue → List EntryValue → Answer → Type 0) (l : SettingsValue) (t : TraceInput) (s : SettingsValue) (journal : List EntryValue) (r : Option RefusedAt) (a : Answer)
     → s ≡ limits_for l t → journal ≡ t.trace.entries → refused_as_run t.program s journal ≡ r → WhereWhole (P t.program s journal) r a → AnswersTrace P l t a
 trace_told P l t s journal r a settings entries is h =
     subst (λ x. WhereWhole (P t.program x t.trace.entries) (refused_as_run t.program x t.trace.entries) a) settings
@@ -37,7 +37,7 @@ trace_told P l t s journal r a settings entries is h =
     (subst (λ o. WhereWhole (P t.program s journal) o a) (sym is) h))
 
 -- a journal of a whole run on the machine that never collects
-pub modelled : (o : Options) (p : ProgramText) (s : Limits) (journal : List Event) (end : RunEnd) (named : Status) (bytes : List ℕ) (a : Answer) → end_of p s journal ≡ Some end
+pub modelled : (o : Options) (p : ProgramText) (s : SettingsValue) (journal : List EntryValue) (end : RunEnd) (named : Status) (bytes : List ℕ) (a : Answer) → end_of p s journal ≡ Some end
     → named ≡ status_of_end end → bytes ≡ out_text p s o.report o.trace journal → IsText named bytes a → IsModelled o p s journal a
 modelled o p s journal end named bytes a ended status text h = record {
   end = end;
@@ -56,7 +56,7 @@ made_are_read = λ seed size some most.
     (le-leb (length (made_text seed size)) program_limit (made_are_short seed size most)) (made_are_programs seed size some most)
 
 -- a text that was made, and is run
-pub made_run : (seed size : ℕ) (run : Bool) (s : Limits) (bytes : List ℕ) (a : Answer) → 1 ≤ size → size ≤ 1000 → run ≡ true → s ≡ usual_limits → bytes ≡ made_text seed size
+pub made_run : (seed size : ℕ) (run : Bool) (s : SettingsValue) (bytes : List ℕ) (a : Answer) → 1 ≤ size → size ≤ 1000 → run ≡ true → s ≡ usual_limits → bytes ≡ made_text seed size
     → AnswersRun (record { settings = s; report = true; trace = false }) bytes a → AnswersMake seed size run a
 made_run seed size run s bytes a some most runs usual is h =
     let whole : AnswersRun summary (made_text seed size) a = subst (λ l. AnswersRun (record { settings = l; report = true; trace = false }) (made_text seed size) a) usual (subst (λ x. AnswersRun (record { settings = s; report = true; trace = false }) x a) is h) in
@@ -69,7 +69,7 @@ one_program : {X : Type 0} (r : Result ProgramText X) (p q : ProgramText) → r 
 one_program r p q e f = let g : Ok p ≡ Ok q = sym e ∙ f in cc
 
 -- what is left of its run
-pub made_left : (seed size : ℕ) (run : Bool) (s : Limits) (bytes : List ℕ) (w : Wanted) → 1 ≤ size → size ≤ 1000 → run ≡ true → s ≡ usual_limits → bytes ≡ made_text seed size
+pub made_left : (seed size : ℕ) (run : Bool) (s : SettingsValue) (bytes : List ℕ) (w : Wanted) → 1 ≤ size → size ≤ 1000 → run ≡ true → s ≡ usual_limits → bytes ≡ made_text seed size
     → IsWanted (LeavesRun (record { settings = s; report = true; trace = false }) bytes) w → IsWanted (LeavesMake seed size run) w
 made_left seed size run s bytes Before some most runs usual is h = tt
 made_left seed size run s bytes (Amid journal left) some most runs usual is h =

@@ -5,8 +5,8 @@ use Rattle.hh_lang.specs.Form.{ProgramText}
 use Rattle.program_reader.specs.declared.cause.Refused.{Refused}
 use Rattle.program_reader.specs.Program.{program_of}
 use Rattle.program_make.specs.Text.{made_text}
-use Rattle.run_trace.specs.Settings.{Limits, field_limit, usual_limits}
-use Rattle.run_trace.specs.Entry.{Event}
+use Rattle.run_trace.specs.Settings.{SettingsValue, field_limit, usual_limits}
+use Rattle.run_trace.specs.Entry.{EntryValue}
 use Rattle.trace_input.specs.declared.input.InputFault.{InputFault}
 use Rattle.trace_input.specs.declared.input.TraceInput.{TraceInput}
 use Rattle.trace_input.specs.Input.{input_fault, limits_for, IsInput}
@@ -20,9 +20,9 @@ use Rattle.race_report.specs.declared.data.Race.{Race}
 use Rattle.race_report.specs.Accesses.{accesses}
 use Rattle.race_report.specs.Report.{IsReport}
 use Rattle.race_report.specs.Text.{races_text}
-use Rattle.shared_value.specs.World.{World}
-use Rattle.shared_value.specs.Stands.{IsWorld}
-use Rattle.world_core.specs.Whole.{Whole}
+use Rattle.shared_value.specs.SharedValue.{SharedValue}
+use Rattle.shared_value.specs.Stands.{IsSharedValue}
+use Rattle.world_core.specs.WorldValue.{WorldValue}
 use Rattle.world_core.specs.declared.replaying.ReplayStop.{ReplayStop}
 use Rattle.world_core.specs.declared.replaying.ReplayStop.TheVariants.{RefusedAt as Stops, NoMemory as WantsMemory}
 use Rattle.image_check.specs.declared.cause.Fault.{Fault}
@@ -91,7 +91,7 @@ AnswersRun o = AnswersText (AnswersProgram o)
 -- PROGRAMS WITH A TRACE
 
 -- a journal that isn't refused, but has no end, is short
-abbrev pub short_of : List Event → RefusedAt
+abbrev pub short_of : List EntryValue → RefusedAt
 short_of journal = record { index = length journal + 1; cause = Short }
 
 -- a journal of a whole run is answered so, and any other by its first refused entry, or as short
@@ -99,41 +99,41 @@ abbrev pub WhereWhole : (Answer → Type 0) → Option RefusedAt → Answer → 
 WhereWhole P None = P
 WhereWhole P (Some r) = Refuses (Entry r)
 
-abbrev pub AnswersTrace : (ProgramText → Limits → List Event → Answer → Type 0) → Limits → TraceInput → Answer → Type 0
+abbrev pub AnswersTrace : (ProgramText → SettingsValue → List EntryValue → Answer → Type 0) → SettingsValue → TraceInput → Answer → Type 0
 AnswersTrace P s t = WhereWhole (P t.program (limits_for s t) t.trace.entries) (refused_as_run t.program (limits_for s t) t.trace.entries)
 
 abbrev pub WhereTraced : (TraceInput → Answer → Type 0) → List ℕ → Option InputFault → Answer → Type 0
 WhereTraced P input None a = (t : TraceInput) × IsInput input t × P t a
 WhereTraced P input (Some f) a = Refuses (refusal_of f) a
 
-abbrev pub AnswersTraced : (ProgramText → Limits → List Event → Answer → Type 0) → Limits → List ℕ → Answer → Type 0
+abbrev pub AnswersTraced : (ProgramText → SettingsValue → List EntryValue → Answer → Type 0) → SettingsValue → List ℕ → Answer → Type 0
 AnswersTraced P s input = WhereTraced (AnswersTrace P s) input (input_fault input)
 
 -- REPLAY
 
-abbrev pub IsReplay : Options → ProgramText → Limits → List Event → Answer → Type 0
+abbrev pub IsReplay : Options → ProgramText → SettingsValue → List EntryValue → Answer → Type 0
 IsReplay o p s entries = IsReplayedRun p s (extras_of o) entries
 
 abbrev pub AnswersReplay : Options → List ℕ → Answer → Type 0
 AnswersReplay o = AnswersTraced (IsReplay o) o.settings
 
 -- what is answered where a replay has come so far: nothing of an answer where memory was wanting
-abbrev pub AnswersReplayed : Extras → Result Whole ReplayStop → Answer → Type 0
+abbrev pub AnswersReplayed : Extras → Result WorldValue ReplayStop → Answer → Type 0
 AnswersReplayed extras (Ok x) a =
     WhereWhole (IsReplayedRun x.shared.program x.shared.settings extras x.shared.journal.items) (refused_as_run x.shared.program x.shared.settings x.shared.journal.items) a
 AnswersReplayed extras (Err (Stops r)) a = Refuses (Entry r) a
 AnswersReplayed extras (Err (WantsMemory x)) a = ⊥
 
 -- the shared values that it leaves stand
-abbrev pub StandsReplayed : Result Whole ReplayStop → Type 0
-StandsReplayed (Ok x) = IsWorld x.shared
+abbrev pub StandsReplayed : Result WorldValue ReplayStop → Type 0
+StandsReplayed (Ok x) = IsSharedValue x.shared
 StandsReplayed (Err (Stops r)) = Unit {0}
 StandsReplayed (Err (WantsMemory None)) = Unit {0}
-StandsReplayed (Err (WantsMemory (Some x))) = IsWorld x.shared
+StandsReplayed (Err (WantsMemory (Some x))) = IsSharedValue x.shared
 
 -- MODEL writes the same, and hands back nothing
 
-pub record IsModelled (o : Options) (p : ProgramText) (s : Limits) (entries : List Event) (a : Answer) : Type 0 where
+pub record IsModelled (o : Options) (p : ProgramText) (s : SettingsValue) (entries : List EntryValue) (a : Answer) : Type 0 where
   pub end : RunEnd
   pub ended : end_of p s entries ≡ Some end
   pub text : IsText (status_of_end end) (out_text p s o.report o.trace entries) a
@@ -148,27 +148,27 @@ races_status [] = Done
 races_status (r ∷ rs) = RacesFound
 
 -- the races of a journal, each first pair, in the order of their fields
-pub record IsRaceAnswer (p : ProgramText) (s : Limits) (journal : List Event) (a : Answer) : Type 0 where
+pub record IsRaceAnswer (p : ProgramText) (s : SettingsValue) (journal : List EntryValue) (a : Answer) : Type 0 where
   pub races : List Race
   pub report : IsReport (machine_of p s journal).edges (accesses p (field_limit s.version) (tasks_of journal)) races
   pub text : IsText (races_status races) (races_text races) a
 
-abbrev pub AnswersRaces : Limits → List ℕ → Answer → Type 0
+abbrev pub AnswersRaces : SettingsValue → List ℕ → Answer → Type 0
 AnswersRaces = AnswersTraced IsRaceAnswer
 
 -- IMAGE
 
 -- the text of a sound picture of a shared value
-pub record IsImageOf (w : World) (text : List ℕ) : Type 0 where
+pub record IsImageOf (w : SharedValue) (text : List ℕ) : Type 0 where
   pub picture : Picture
   pub draws : IsPictureOf w picture
   pub sound : IsSoundPicture picture
   pub written : text ≡ text_of picture
 
 -- the image of a shared value that stands, by a run of these entries
-pub record IsImaged (p : ProgramText) (s : Limits) (entries : List Event) (a : Answer) : Type 0 where
-  pub held : World
-  pub stands : IsWorld held
+pub record IsImaged (p : ProgramText) (s : SettingsValue) (entries : List EntryValue) (a : Answer) : Type 0 where
+  pub held : SharedValue
+  pub stands : IsSharedValue held
   pub program : held.program ≡ p
   pub settings : held.settings ≡ s
   pub journal : held.journal.items ≡ entries
@@ -176,7 +176,7 @@ pub record IsImaged (p : ProgramText) (s : Limits) (entries : List Event) (a : A
   pub shows : IsImageOf held image
   pub text : IsText Done image a
 
-abbrev pub AnswersImaging : Limits → List ℕ → Answer → Type 0
+abbrev pub AnswersImaging : SettingsValue → List ℕ → Answer → Type 0
 AnswersImaging = AnswersTraced IsImaged
 
 -- VERIFY
@@ -217,22 +217,22 @@ AnswersLine (Verify file) input = AnswersVerify input
 abbrev pub IsProgramInput : List ℕ → ProgramText → Type 0
 IsProgramInput input p = program_in input ≡ Ok p
 
-abbrev pub LeavesRun : Options → List ℕ → List Event → Option World → Type 0
+abbrev pub LeavesRun : Options → List ℕ → List EntryValue → Option SharedValue → Type 0
 LeavesRun o input journal shared = (p : ProgramText) × IsProgramInput input p × LeavesPaced p o.settings journal shared
 
-abbrev pub LeavesReplay : Options → List ℕ → List Event → Option World → Type 0
+abbrev pub LeavesReplay : Options → List ℕ → List EntryValue → Option SharedValue → Type 0
 LeavesReplay o input journal shared =
     (t : TraceInput) × IsInput input t × LeavesPrefix t.program (limits_for o.settings t) t.trace.entries journal shared
 
 -- nothing is left by what doesn't run a program
-abbrev pub LeavesNone : List Event → Option World → Type 0
+abbrev pub LeavesNone : List EntryValue → Option SharedValue → Type 0
 LeavesNone journal shared = ⊥
 
-abbrev pub LeavesMake : ℕ → ℕ → Bool → List Event → Option World → Type 0
+abbrev pub LeavesMake : ℕ → ℕ → Bool → List EntryValue → Option SharedValue → Type 0
 LeavesMake seed size false = LeavesNone
 LeavesMake seed size true = LeavesPaced (program_of (made_text seed size)) usual_limits
 
-abbrev pub LeavesLine : CommandLine → List ℕ → List Event → Option World → Type 0
+abbrev pub LeavesLine : CommandLine → List ℕ → List EntryValue → Option SharedValue → Type 0
 LeavesLine (Run file options) input = LeavesRun options input
 LeavesLine (Replay file options) input = LeavesReplay options input
 LeavesLine (Make seed size run) input = LeavesMake seed size run

@@ -1,9 +1,9 @@
 -- How an answer reaches the sink, and what a call hands back.
 use Rattle.std.specs.Prelude.{◌≡◌, ◌⊎◌, ℕ, Option, Some, None, List, [], Result, Ok, Err, take}
 use Rattle.outside_io.specs.Told.{with_more}
-use Rattle.run_trace.specs.Entry.{Event}
-use Rattle.shared_value.specs.World.{World, without_journal}
-use Rattle.world_core.specs.Whole.{Whole}
+use Rattle.run_trace.specs.Entry.{EntryValue}
+use Rattle.shared_value.specs.SharedValue.{SharedValue, without_journal}
+use Rattle.world_core.specs.WorldValue.{WorldValue}
 use Rattle.world_core.specs.declared.replaying.ReplayStop.{ReplayStop}
 use Rattle.world_core.specs.declared.replaying.ReplayStop.TheVariants.{RefusedAt, NoMemory as WantsMemory}
 use Rattle.command_line.specs.declared.line.CommandLine.{CommandLine}
@@ -23,7 +23,7 @@ DeliversNothing r before after = (r.journal ≡ []) × (r.shared ≡ None) × (a
 -- an answer was given: all its bytes were written; or the sink failed, and a first part of them was; or, before the first
 -- byte, the source failed or memory did, and nothing was written. Nothing is handed back then, unless memory was wanting amid
 -- a run: then what it leaves is
-abbrev pub DeliversBy : Status → (Answer → Type 0) → (List Event → Option World → Type 0) → Ran → Option (List ℕ) → Option (List ℕ) → Type 0
+abbrev pub DeliversBy : Status → (Answer → Type 0) → (List EntryValue → Option SharedValue → Type 0) → Ran → Option (List ℕ) → Option (List ℕ) → Type 0
 DeliversBy ReadFault P L r before after = DeliversNothing r before after
 DeliversBy NoMemory P L r before after = DeliversNothing r before after ⊎ (L r.journal r.shared × (after ≡ before))
 DeliversBy WriteFault P L r before after =
@@ -32,7 +32,7 @@ DeliversBy status P L r before after =
     (a : Answer) × P a × (a.status ≡ status) × (r.journal ≡ a.journal) × (r.shared ≡ a.shared) × (after ≡ with_more before a.bytes)
 
 -- by an answer of which P is so, or what L says is left of a run
-abbrev pub Delivers : (Answer → Type 0) → (List Event → Option World → Type 0) → Ran → Option (List ℕ) → Option (List ℕ) → Type 0
+abbrev pub Delivers : (Answer → Type 0) → (List EntryValue → Option SharedValue → Type 0) → Ran → Option (List ℕ) → Option (List ℕ) → Type 0
 Delivers P L r before after = DeliversBy r.status P L r before after
 
 abbrev pub DeliversLine : CommandLine → List ℕ → Ran → Option (List ℕ) → Option (List ℕ) → Type 0
@@ -64,19 +64,19 @@ pub record HandsNothing (named : Status) (r : Ran) : Type 0 where
 -- WANT OF MEMORY in the making of an answer
 
 -- of a run that has made no entry nothing is left, and of any other all that it has come to
-abbrev pub left_of : Option World → Wanted
+abbrev pub left_of : Option SharedValue → Wanted
 left_of None = Before
 left_of (Some w) = Amid w.journal.items (without_journal w)
 
 -- what a replay leaves that has come so far; a refused entry is answered with nothing of its run
-abbrev pub left_by : Result Whole ReplayStop → Wanted
+abbrev pub left_by : Result WorldValue ReplayStop → Wanted
 left_by (Ok x) = left_of (Some x.shared)
 left_by (Err (RefusedAt r)) = Before
 left_by (Err (WantsMemory None)) = Before
 left_by (Err (WantsMemory (Some x))) = left_of (Some x.shared)
 
 -- before a run began, or amid it, where this is left of it
-abbrev pub IsWanted : (List Event → Option World → Type 0) → Wanted → Type 0
+abbrev pub IsWanted : (List EntryValue → Option SharedValue → Type 0) → Wanted → Type 0
 IsWanted L Before = Unit {0}
 IsWanted L (Amid journal left) = L journal (Some left)
 

@@ -5,7 +5,7 @@ use Rattle.hh_lang.specs.Form.{ProgramText}
 use Rattle.program_reader.specs.declared.cause.Refused.{Refused}
 use Rattle.program_reader.specs.Program.{program_of}
 use Rattle.program_make.specs.Text.{made_text}
-use Rattle.run_trace.specs.Settings.{Limits}
+use Rattle.run_trace.specs.Settings.{SettingsValue}
 use Rattle.trace_input.specs.declared.input.InputFault.TheVariants.{Source as SourceFault}
 use Rattle.trace_input.specs.Input.{input_fault}
 use Rattle.run_ledger.specs.declared.data.RunEnd.{RunEnd}
@@ -75,13 +75,13 @@ TracesAreReplayed =
 -- the heaps that a trace leaves are drawn, whatever its end, or the trace is refused
 abbrev pub TracesAreDrawn : Type 0
 TracesAreDrawn =
-    (file : Option (List ℕ)) (l : Limits) (input : List ℕ) (r : Ran) (before after : Option (List ℕ)) → HasProgram input → DeliversLine (Image file l) input r before after → NoFault r
+    (file : Option (List ℕ)) (l : SettingsValue) (input : List ℕ) (r : Ran) (before after : Option (List ℕ)) → HasProgram input → DeliversLine (Image file l) input r before after → NoFault r
     → (r.status ≡ NoMemory) ⊎ ((r.status ≡ Trace) ⊎ (r.status ≡ Done))
 
 -- what `image` writes of a whole run is verified by `verify`, unless it is too long for it
 abbrev pub ImagesAreVerified : Type 0
 ImagesAreVerified =
-    (s : Limits) (input : List ℕ) (a b : Answer) → AnswersImaging s input a → a.status ≡ Done → length a.bytes ≤ image_limit → AnswersVerify a.bytes b → b.status ≡ Done
+    (s : SettingsValue) (input : List ℕ) (a b : Answer) → AnswersImaging s input a → a.status ≡ Done → length a.bytes ≤ image_limit → AnswersVerify a.bytes b → b.status ≡ Done
 
 -- two answers write the same, with the same status
 pub record AreAlike (a b : Answer) : Type 0 where

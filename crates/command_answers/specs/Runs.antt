@@ -1,23 +1,23 @@
 -- What is answered of runs, and what is handed back of them.
 use Rattle.std.specs.Prelude.{◌≡◌, true, Option, Some, List}
 use Rattle.hh_lang.specs.Form.{ProgramText}
-use Rattle.run_trace.specs.Entry.{Event}
-use Rattle.run_trace.specs.Settings.{Limits}
+use Rattle.run_trace.specs.Entry.{EntryValue}
+use Rattle.run_trace.specs.Settings.{SettingsValue}
 use Rattle.run_ledger.specs.declared.data.RunEnd.{RunEnd}
 use Rattle.run_ledger.specs.Journals.{IsPrefix, end_of, is_legal}
 use Rattle.run_ledger.specs.Pace.{is_paced}
 use Rattle.run_ledger.specs.Text.{out_text}
 use Rattle.run_report.specs.declared.whole.Extras.{Extras}
-use Rattle.shared_value.specs.World.{World, without_journal}
-use Rattle.shared_value.specs.Stands.{IsWorld}
+use Rattle.shared_value.specs.SharedValue.{SharedValue, without_journal}
+use Rattle.shared_value.specs.Stands.{IsSharedValue}
 use Rattle.command_answers.specs.declared.answer.Answer.{Answer}
 use Rattle.command_answers.specs.Status.{status_of_end}
 
 -- the journal of a run of the program within the limits, which is legal, and the shared value that stands for it, from which
 -- it was moved out
-pub record HandsBack (p : ProgramText) (s : Limits) (journal : List Event) (shared : Option World) : Type 0 where
-  pub held : World
-  pub stands : IsWorld held
+pub record HandsBack (p : ProgramText) (s : SettingsValue) (journal : List EntryValue) (shared : Option SharedValue) : Type 0 where
+  pub held : SharedValue
+  pub stands : IsSharedValue held
   pub program : held.program ≡ p
   pub settings : held.settings ≡ s
   pub legal : is_legal p s journal ≡ true
@@ -25,7 +25,7 @@ pub record HandsBack (p : ProgramText) (s : Limits) (journal : List Event) (shar
   pub left : shared ≡ Some (without_journal held)
 
 -- A WHOLE RUN: the journal handed back has an end; the bytes and the status are those of this journal, by the definitions alone
-pub record IsWholeRun (p : ProgramText) (s : Limits) (extras : Extras) (a : Answer) : Type 0 where
+pub record IsWholeRun (p : ProgramText) (s : SettingsValue) (extras : Extras) (a : Answer) : Type 0 where
   pub back : HandsBack p s a.journal a.shared
   pub end : RunEnd
   pub ended : end_of p s a.journal ≡ Some end
@@ -33,17 +33,17 @@ pub record IsWholeRun (p : ProgramText) (s : Limits) (extras : Extras) (a : Answ
   pub bytes : a.bytes ≡ out_text p s extras.report extras.trace a.journal
 
 -- one by workers keeps the pace
-abbrev pub IsWorkersRun : ProgramText → Limits → Extras → Answer → Type 0
+abbrev pub IsWorkersRun : ProgramText → SettingsValue → Extras → Answer → Type 0
 IsWorkersRun p s extras a = IsWholeRun p s extras a × (is_paced p s a.journal ≡ true)
 
 -- one by a list of entries has just these
-abbrev pub IsReplayedRun : ProgramText → Limits → Extras → List Event → Answer → Type 0
+abbrev pub IsReplayedRun : ProgramText → SettingsValue → Extras → List EntryValue → Answer → Type 0
 IsReplayedRun p s extras entries a = IsWholeRun p s extras a × (a.journal ≡ entries)
 
 -- AMID A RUN, where memory is wanting: what is handed back stands as far as the run came
 
-abbrev pub LeavesPaced : ProgramText → Limits → List Event → Option World → Type 0
+abbrev pub LeavesPaced : ProgramText → SettingsValue → List EntryValue → Option SharedValue → Type 0
 LeavesPaced p s journal shared = HandsBack p s journal shared × (is_paced p s journal ≡ true)
 
-abbrev pub LeavesPrefix : ProgramText → Limits → List Event → List Event → Option World → Type 0
+abbrev pub LeavesPrefix : ProgramText → SettingsValue → List EntryValue → List EntryValue → Option SharedValue → Type 0
 LeavesPrefix p s entries journal shared = HandsBack p s journal shared × IsPrefix journal entries

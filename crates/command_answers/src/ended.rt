@@ -2,8 +2,8 @@
 
 ghost use Rattle.std.specs.Prelude.{◌≡◌, IfOk, IfErr, Some, length, string_bytes};
 ghost use Rattle.run_report.specs.Written.{report_part, text_from, trace_part};
-ghost use Rattle.shared_value.specs.Stands.{IsWorld};
-ghost use Rattle.shared_value.specs.World.{accounts, without_journal};
+ghost use Rattle.shared_value.specs.Stands.{IsSharedValue};
+ghost use Rattle.shared_value.specs.SharedValue.{accounts, without_journal};
 ghost use Rattle.counted_tree.specs.Counts.{totals_of};
 ghost use Rattle.command_answers.specs.Answers.{extras_of};
 ghost use Rattle.command_answers.specs.Runs.{IsReplayedRun};
@@ -73,7 +73,7 @@ fn run_text(
 /// What is left of a run amid which memory was wanting.
 pub fn amid(shared: Counted) -> Wanted
     ensures left { result ≡ Wanted.Amid shared.journal.items (without_journal shared) }
-    ensures stands { IsWorld shared }
+    ensures stands { IsSharedValue shared }
 {
     shared.stands();
     let (journal, left) = shared.take_journal();

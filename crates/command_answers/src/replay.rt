@@ -2,8 +2,8 @@
 
 ghost use Rattle.std.specs.Prelude.{◌≡◌, IfOk, IfErr};
 ghost use Rattle.run_ledger.specs.Journals.{refused_as_run};
-ghost use Rattle.shared_value.specs.Stands.{IsWorld};
-ghost use Rattle.shared_value.specs.World.{without_journal};
+ghost use Rattle.shared_value.specs.Stands.{IsSharedValue};
+ghost use Rattle.shared_value.specs.SharedValue.{without_journal};
 ghost use Rattle.trace_input.specs.Input.{limits_for};
 ghost use Rattle.command_answers.specs.Answers.{AnswersReplay, AnswersReplayed, AnswersTrace, IsReplay, LeavesReplay, Refuses, StandsReplayed, WhereWhole, short_of};
 ghost use Rattle.command_answers.specs.Delivery.{IsWanted, left_by};
@@ -36,7 +36,7 @@ fn answer_short(alloc: Global, shared: Counted) -> Result<Answer, Wanted>
 fn answer_made(alloc: Global, shared: Counted, extras: Extras) -> Result<Answer, Wanted>
     ensures answer { IfOk result (WhereWhole (IsReplayedRun shared.program shared.settings extras shared.journal.items) (refused_as_run shared.program shared.settings shared.journal.items)) }
     ensures wanted { IfErr result (λ w. w ≡ Wanted.Amid shared.journal.items (without_journal shared)) }
-    ensures stands { IsWorld shared }
+    ensures stands { IsSharedValue shared }
 {
     shared.stands();
     match shared.shared().ended() {

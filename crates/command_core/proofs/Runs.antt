@@ -2,12 +2,12 @@
 use Rattle.std.proofs.Common.{◌≡◌, Bool, true, true≢false, ap, refl, sym, subst}
 use Rattle.std.specs.Prelude.{Option, Some, None, IfSome, false}
 use Rattle.hh_lang.specs.Form.{ProgramText}
-use Rattle.run_trace.specs.Settings.{Limits}
+use Rattle.run_trace.specs.Settings.{SettingsValue}
 use Rattle.run_ledger.specs.declared.data.RunEnd.{RunEnd}
 use Rattle.run_ledger.specs.Journals.{end_of}
 use Rattle.run_ledger.specs.Pace.{is_paced}
 use Rattle.run_report.specs.declared.whole.Extras.{Extras}
-use Rattle.shared_value.specs.World.{World, accounts, without_journal}
+use Rattle.shared_value.specs.SharedValue.{SharedValue, accounts, without_journal}
 use Rattle.worker_run.specs.declared.end.Finish.{Finish}
 use Rattle.worker_run.specs.declared.end.Finish.TheVariants.{Ended, NoMemory}
 use Rattle.worker_run.specs.Outcomes.{IsRun, finish_of}
@@ -19,7 +19,7 @@ use Rattle.command_answers.specs.Runs.{IsReplayedRun, IsWorkersRun, LeavesPaced}
 use Rattle.command_answers.proofs.Runs.{handed}
 
 -- a run by workers has ended so
-pub workers_run : (p : ProgramText) (s : Limits) (extras : Extras) (w : World) (a : Answer) → IsRun p s w → IsReplayedRun w.program w.settings extras w.journal.items a
+pub workers_run : (p : ProgramText) (s : SettingsValue) (extras : Extras) (w : SharedValue) (a : Answer) → IsRun p s w → IsReplayedRun w.program w.settings extras w.journal.items a
     → IsWorkersRun p s extras a
 workers_run p s extras w a run h =
     let at : IsReplayedRun p s extras w.journal.items a =
@@ -27,17 +27,17 @@ workers_run p s extras w a run h =
     (at.0, subst (λ j. is_paced p s j ≡ true) (sym at.1) run.paced)
 
 -- memory was wanting amid it
-pub workers_left : (p : ProgramText) (s : Limits) (w : World) (found : Wanted) → IsRun p s w → found ≡ Amid w.journal.items (without_journal w) → IsWanted (LeavesPaced p s) found
+pub workers_left : (p : ProgramText) (s : SettingsValue) (w : SharedValue) (found : Wanted) → IsRun p s w → found ≡ Amid w.journal.items (without_journal w) → IsWanted (LeavesPaced p s) found
 workers_left p s w found run is =
     subst (IsWanted (LeavesPaced p s)) (sym is) (handed p s w w.journal.items (Some (without_journal w)) run.stands run.program run.settings refl refl, run.paced)
 
 -- of what they have left, whatever it is
-pub left_wanted : (p : ProgramText) (s : Limits) (o : Option World) (found : Wanted) → IfSome o (IsRun p s) → found ≡ left_of o → IsWanted (LeavesPaced p s) found
+pub left_wanted : (p : ProgramText) (s : SettingsValue) (o : Option SharedValue) (found : Wanted) → IfSome o (IsRun p s) → found ≡ left_of o → IsWanted (LeavesPaced p s) found
 left_wanted p s None found run is = subst (IsWanted (LeavesPaced p s)) (sym is) tt
 left_wanted p s (Some w) found run is = workers_left p s w found run is
 
 -- the end that workers tell is that of their journal
-pub told_end : (p : ProgramText) (s : Limits) (w : World) (end : RunEnd) → IsRun p s w → Ended end ≡ finish_of (end_of p s w.journal.items) → (accounts w).end ≡ Some end
+pub told_end : (p : ProgramText) (s : SettingsValue) (w : SharedValue) (end : RunEnd) → IsRun p s w → Ended end ≡ finish_of (end_of p s w.journal.items) → (accounts w).end ≡ Some end
 told_end p s w end run is =
     let at : end_of p s w.journal.items ≡ Some end = of_finish (end_of p s w.journal.items) is in
     subst (λ q. end_of q w.settings w.journal.items ≡ Some end) (sym run.program) (subst (λ l. end_of p l w.journal.items ≡ Some end) (sym run.settings) at)

@@ -2,7 +2,7 @@
 use Rattle.std.specs.Prelude.{◌≡◌, Some}
 use Rattle.run_ledger.specs.declared.data.RunEnd.{RunEnd}
 use Rattle.run_report.specs.declared.whole.Extras.{Extras}
-use Rattle.shared_value.specs.World.{World}
+use Rattle.shared_value.specs.SharedValue.{SharedValue}
 use Rattle.worker_run.specs.declared.end.Finish.TheVariants.{Ended}
 use Rattle.worker_run.specs.declared.end.Outcome.{Outcome}
 use Rattle.command_answers.specs.declared.answer.Answer.{Answer}
@@ -10,4 +10,4 @@ use Rattle.command_answers.specs.Runs.{IsReplayedRun}
 
 -- with the end that it has told, or not at all where it told none
 abbrev pub AnswersLeft : Outcome → Extras → Answer → Type 0
-AnswersLeft o extras a = (w : World) × (end : RunEnd) × (o.shared ≡ Some w) × (o.finish ≡ Ended end) × IsReplayedRun w.program w.settings extras w.journal.items a
+AnswersLeft o extras a = (w : SharedValue) × (end : RunEnd) × (o.shared ≡ Some w) × (o.finish ≡ Ended end) × IsReplayedRun w.program w.settings extras w.journal.items a

@@ -2,7 +2,7 @@
 
 ghost use Rattle.std.specs.Prelude.{◌≡◌, IfOk, IfErr, Some};
 ghost use Rattle.run_ledger.specs.declared.data.RunEnd.{RunEnd};
-ghost use Rattle.shared_value.specs.World.{World, accounts};
+ghost use Rattle.shared_value.specs.SharedValue.{SharedValue, accounts};
 ghost use Rattle.command_answers.specs.Answers.{AnswersProgram, AnswersRun, LeavesRun};
 ghost use Rattle.command_answers.specs.Delivery.{IsWanted, left_of};
 ghost use Rattle.command_answers.specs.Runs.{LeavesPaced};
@@ -21,7 +21,7 @@ use worker_run::{Finish, Outcome, run_on_workers};
 
 // The answer of what workers have left. Where memory was wanting, all that they have left is handed back.
 fn answer_left(alloc: Global, outcome: Outcome, extras: Extras) -> Result<Answer, Wanted>
-    requires { (w : World) (end : RunEnd) → outcome.shared ≡ Some w → outcome.finish ≡ Finish.Ended end → (accounts w).end ≡ Some end }
+    requires { (w : SharedValue) (end : RunEnd) → outcome.shared ≡ Some w → outcome.finish ≡ Finish.Ended end → (accounts w).end ≡ Some end }
     ensures answer { IfOk result (AnswersLeft outcome extras) }
     ensures wanted { IfErr result (λ w. w ≡ left_of outcome.shared) }
 {

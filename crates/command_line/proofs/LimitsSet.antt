@@ -7,7 +7,7 @@ use Rattle.clap.specs.Kinds.{Kinds, or_else}
 use Rattle.clap.specs.Faults.{bundle_fault, flag_word_fault, level_fault, step_fault, turn_fault, walk_fault, word_fault}
 use Rattle.clap.specs.ValueTests.{is_unsigned_in}
 use Rattle.clap.proofs.OnLiterals.{clap_on_literals}
-use Rattle.run_trace.specs.Settings.{Limits, usual_limits}
+use Rattle.run_trace.specs.Settings.{SettingsValue, usual_limits}
 use Rattle.command_line.specs.CommandLine.{file_in, options_in}
 use Rattle.command_line.specs.Examples.{usual_options}
 use Rattle.command_line.specs.Operands.{IsOperand, OptionsSet, Sets, SetsEach}
@@ -61,14 +61,14 @@ by_value true x = refl
 by_value false x = refl
 
 -- what an option and its value do in any command that runs a program
-record IsLimit (flag id : Text) (least most : ℕ) (limits : ℕ → Limits) : Type 0 where
+record IsLimit (flag id : Text) (least most : ℕ) (limits : ℕ → SettingsValue) : Type 0 where
   waits : walked rules [] (walk_from nothing_held) flag ≡ waiting_at id
   none : (name : Text) → turn_fault (runner_shape name) [] (walk_from nothing_held) flag ≡ []
   kinds : (name word : Text) → level (runner_shape name) (or_else [] (or_else (step_fault (runner_shape name) 1 (taken_word id word).0 (taken_word id word).1) [])) (taken_at id word) ≡ value_kinds_then (is_unsigned_in least most word)
   file : (word : Text) → file_in (finished rules (taken_at id word).held) ≡ None
   options : (word : Text) → options_in (finished rules (taken_at id word).held) ≡ record usual_options { settings = limits (digits_value 10 (without_leading_plus word)) }
 
-sets : (flag id : Text) (least most : ℕ) (limits : ℕ → Limits) → IsLimit flag id least most limits → (name : Text) (line : Option Text → Options → CommandLine) → IsRunner name line
+sets : (flag id : Text) (least most : ℕ) (limits : ℕ → SettingsValue) → IsLimit flag id least most limits → (name : Text) (line : Option Text → Options → CommandLine) → IsRunner name line
     → Sets name line flag least most limits
 unfolding walk_fault
 sets flag id least most limits is name line runner word h =

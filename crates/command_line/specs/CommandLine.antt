@@ -8,7 +8,7 @@ use Rattle.std.specs.Str.{bytes_eq}
 use Rattle.std.specs.Str.Parse.{digits_value, without_leading_plus}
 use Rattle.clap.specs.Words.{Row, Text, fault_of, first_of, one_of, subcommand_of}
 use Rattle.clap.specs.Walk.{is_empty}
-use Rattle.run_trace.specs.Settings.{Limits}
+use Rattle.run_trace.specs.Settings.{SettingsValue}
 use Rattle.run_trace.specs.declared.settings.Version.TheVariants.{Two}
 use Rattle.command_line.specs.App.{app}
 use Rattle.command_line.specs.declared.line.CommandLine.{CommandLine}
@@ -27,7 +27,7 @@ number_in id rows = option_map_or (λ t. digits_value 10 (without_leading_plus t
 abbrev pub flag_in : Text → List Row → Bool
 flag_in id rows = option_map_or (λ t. bytes_eq t (codes "true")) (one_of id rows) false
 
-abbrev pub limits_in : List Row → Limits
+abbrev pub limits_in : List Row → SettingsValue
 limits_in rows = record {
   version = Two;
   workers = number_in (codes "workers") rows;

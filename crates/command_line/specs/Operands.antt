@@ -4,7 +4,7 @@ use Rattle.std.specs.Str.Parse.{digits_value, without_leading_plus}
 use Rattle.clap.specs.Lexer.{strip_byte}
 use Rattle.clap.specs.ValueTests.{is_unsigned_in}
 use Rattle.clap.specs.Words.{Text}
-use Rattle.run_trace.specs.Settings.{Limits, usual_limits}
+use Rattle.run_trace.specs.Settings.{SettingsValue, usual_limits}
 use Rattle.command_line.specs.CommandLine.{command_line}
 use Rattle.command_line.specs.Examples.{usual_options}
 use Rattle.command_line.specs.declared.line.CommandLine.{CommandLine}
@@ -39,7 +39,7 @@ abbrev pub OperandsMake : Type 0
 OperandsMake = Makes [] false × Makes (codes "--run" ∷ []) true
 
 -- the option alone sets this number of the usual limits, exactly where the word behind it is a number in the range
-abbrev pub Sets : Text → (Option Text → Options → CommandLine) → Text → ℕ → ℕ → (ℕ → Limits) → Type 0
+abbrev pub Sets : Text → (Option Text → Options → CommandLine) → Text → ℕ → ℕ → (ℕ → SettingsValue) → Type 0
 Sets command line flag least most limits = (word : Text) → IsOperand word
     → command_line (command ∷ flag ∷ word ∷ [])
     ≡ (if is_unsigned_in least most word

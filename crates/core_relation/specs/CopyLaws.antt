@@ -8,7 +8,7 @@ use Rattle.std.specs.Prelude.{◌≡◌, ℕ, true, Some, None, slice_get, ◌�
 use Rattle.object_layout.specs.declared.word.Addr.{Addr}
 use Rattle.object_layout.specs.Objects.{Located}
 use Rattle.hh_lang.specs.Form.{ProgramText}
-use Rattle.run_trace.specs.Settings.{Limits}
+use Rattle.run_trace.specs.Settings.{SettingsValue}
 use Rattle.hh_model.specs.declared.data.Status.TheVariants.{Running}
 use Rattle.hh_model.specs.declared.data.Task.{Task}
 use Rattle.hh_model.specs.Step.{is_waiting}
@@ -18,8 +18,8 @@ use Rattle.run_ledger.specs.Reachable.{is_name}
 use Rattle.hh_model.specs.declared.data.Name.{Name}
 use Rattle.core_relation.specs.Marking.{MarksStand}
 use Rattle.run_ledger.specs.Sound.{SoundLedger}
-use Rattle.core_relation.specs.Value.{Home, Value, In, object_name, objects}
-use Rattle.ledger_steps.specs.Accounts.{Rests, rested, AlikeFor}
+use Rattle.core_relation.specs.Memory.{Home, Memory, In, object_name, objects}
+use Rattle.ledger_step_laws.specs.Accounts.{Rests, rested, AlikeFor}
 use Rattle.task_machine.specs.declared.part.Begun.{Begun}
 use Rattle.core_relation.specs.Stands.{Stands}
 use Rattle.core_relation.specs.Fits.{with_home}
@@ -30,25 +30,25 @@ use Rattle.core_relation.specs.Worker.{Fits}
 
 abbrev pub CollectionsBegin : Type 0
 CollectionsBegin =
-    (v v' : Value) (l l' : Ledger) (t : ℕ) (x : Task) (b : Begun) → SoundLedger l → Stands v l → slice_get l.machine.tasks t ≡ Some x → x.status ≡ Running → Rests l t
+    (v v' : Memory) (l l' : Ledger) (t : ℕ) (x : Task) (b : Begun) → SoundLedger l → Stands v l → slice_get l.machine.tasks t ≡ Some x → x.status ≡ Running → Rests l t
     → ((u : ℕ) → is_waiting (slice_get l.machine.tasks u) ≡ true → Rests l u) → AreRoots v l t b.roots → Begins v v' l l' t b → BegunStands v' l' t b
 
 abbrev pub BegunStays : Type 0
 BegunStays =
-    (v v' : Value) (l l' : Ledger) (t : ℕ) (b : Begun) → v'.homes t ≡ v.homes t → ((k : ℕ) → v.owner k ≡ Some t → v'.owner k ≡ Some t) → heap_of l' t ≡ heap_of l t → BegunStands v l t b → BegunStands v' l' t b
+    (v v' : Memory) (l l' : Ledger) (t : ℕ) (b : Begun) → v'.homes t ≡ v.homes t → ((k : ℕ) → v.owner k ≡ Some t → v'.owner k ≡ Some t) → heap_of l' t ≡ heap_of l t → BegunStands v l t b → BegunStands v' l' t b
 
 -- COPIES: what copying made of a part fits for the end of its collection alone
 
 -- whatever others enter before that
 abbrev pub CopiesStay : Type 0
 CopiesStay =
-    (p : ProgramText) (s : Limits) (t : ℕ) (h h' : Home) (f : Addr → Addr) (v v' : Value) (l l' : Ledger) → SoundLedger l → AlikeFor t l l' → ((k : ℕ) → v.owner k ≡ Some t → v'.owner k ≡ Some t)
+    (p : ProgramText) (s : SettingsValue) (t : ℕ) (h h' : Home) (f : Addr → Addr) (v v' : Memory) (l l' : Ledger) → SoundLedger l → AlikeFor t l l' → ((k : ℕ) → v.owner k ≡ Some t → v'.owner k ≡ Some t)
     → l'.machine.end ≡ None → Fits p s (before s t h) v' l' → CopyFits p s t h h' f v l → CopyFits p s t h h' f v' l'
 
 -- the end of the collection is what the law on collections asks for, and after it the part fits
 abbrev pub CopiesEnd : Type 0
 CopiesEnd =
-    (p : ProgramText) (s : Limits) (t : ℕ) (h h' : Home) (f : Addr → Addr) (v v' : Value) (l : Ledger) (x : Task) (hs : Heap) → SoundLedger l → slice_get l.machine.tasks t ≡ Some x → x.status ≡ Running → slice_get l.heaps t ≡ Some hs
+    (p : ProgramText) (s : SettingsValue) (t : ℕ) (h h' : Home) (f : Addr → Addr) (v v' : Memory) (l : Ledger) (x : Task) (hs : Heap) → SoundLedger l → slice_get l.machine.tasks t ≡ Some x → x.status ≡ Running → slice_get l.heaps t ≡ Some hs
     → CopyFits p s t h h' f v l → EndsAt v v' t h' f → h'.begun ≡ None → let l' : Ledger = with_heap l t (collected l.machine) in
     Moves (with_home v t h) (with_home v' t h') (rested l t) (rested l' t) t (heap_of (rested l t) t).survivors f × PartFits p s (before s t h') v' l'
 
@@ -56,5 +56,5 @@ CopiesEnd =
 -- held
 abbrev pub MarksAreAll : Type 0
 MarksAreAll =
-    (v : Value) (l : Ledger) (t : ℕ) (marked : List Addr) → Stands v l → Rests l t → IsDistinct is_name (heap_of l t).snapshot → ((n : Name) → In (heap_of l t).snapshot n → In (held_in (heap_of l t)) n)
+    (v : Memory) (l : Ledger) (t : ℕ) (marked : List Addr) → Stands v l → Rests l t → IsDistinct is_name (heap_of l t).snapshot → ((n : Name) → In (heap_of l t).snapshot n → In (held_in (heap_of l t)) n)
     → MarksStand v l t marked → left_in (heap_of l t) ≡ 0 ↔ ((q : Located) → In (objects v t) q → In (heap_of l t).snapshot (object_name q) → In marked q.at)

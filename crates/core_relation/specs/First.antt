@@ -3,14 +3,14 @@ use Rattle.std.specs.Prelude.{ℕ, zero, suc, pos, false, Option, Some, None, []
 use Rattle.hh_lang.specs.Form.{ProgramText}
 use Rattle.heap_tree.specs.declared.state.State.TheVariants.{Ready}
 use Rattle.heap_tree.specs.Node.{Node}
-use Rattle.core_relation.specs.Value.{Home, no_home, Value}
+use Rattle.core_relation.specs.Memory.{Home, no_home, Memory}
 use Rattle.core_relation.specs.Whole.{Totals}
 
 abbrev pub first_home : ProgramText → ℕ → Home
 first_home p zero = record no_home { frames = record { function = p.main; next = 0; ints = replicate 16 (pos 0); refs = replicate 16 None } ∷ [] }
 first_home p (suc t) = no_home
 
-abbrev pub first : ProgramText → Value
+abbrev pub first : ProgramText → Memory
 first p = record {
   homes = first_home p;
   noted = λ u. record { sources = []; kept = []; keeps = false; marked = None };

@@ -3,7 +3,7 @@ use Rattle.std.specs.Prelude.{◌≡◌, ◌⊎◌, ◌&&◌, ◌==◌, ◌+◌,
 use Rattle.std.specs.List.{IsDistinct}
 use Rattle.run_ledger.specs.Heaps.{units}
 use Rattle.object_layout.specs.Objects.{Located}
-use Rattle.core_relation.specs.Value.{Chunk, In, objects_in}
+use Rattle.core_relation.specs.Memory.{Chunk, In, objects_in}
 
 -- the words of an object: its header and its name, its references and its numbers
 abbrev pub words : Located → ℕ

@@ -8,18 +8,18 @@ use Rattle.object_layout.specs.Objects.{Located}
 use Rattle.hh_model.specs.declared.data.Name.{Name}
 use Rattle.run_ledger.specs.declared.data.Ledger.{Ledger}
 use Rattle.run_ledger.specs.Heaps.{heap_of}
-use Rattle.inner_mark_gc.specs.Marks.{IsMarking, Marks, marked_of}
+use Rattle.inner_mark_gc.specs.MarkingValue.{IsMarking, MarkingValue, marked_of}
 use Rattle.inner_mark_gc.specs.Snapshot.{Fork, IsInSnapshot}
-use Rattle.core_relation.specs.Value.{Value, In, object_name, objects}
+use Rattle.core_relation.specs.Memory.{Memory, In, object_name, objects}
 
 -- the objects at these addresses are marked: as many as the account says, none twice, and each of the snapshot
-pub record MarksStand (v : Value) (l : Ledger) (t : ℕ) (marked : List Addr) : Type 0 where
+pub record MarksStand (v : Memory) (l : Ledger) (t : ℕ) (marked : List Addr) : Type 0 where
   pub count : (heap_of l t).marked ≡ Some (length marked)
   pub once : IsDistinct same_address marked
   pub each : (a : Addr) → In marked a → (q : Located) × In (objects v t) q × (q.at ≡ a) × In (heap_of l t).snapshot (object_name q)
 
 -- a marking that can go on: from the heap as it was when it began it marks just the objects of these names
-pub record GoesOn (v : Value) (t : ℕ) (names : List Name) (m : Marks) : Type 0 where
+pub record GoesOn (v : Memory) (t : ℕ) (names : List Name) (m : MarkingValue) : Type 0 where
   pub fork : Fork
   pub marks : IsMarking fork (v.noted t).kept m
   -- its objects are those that are there now
@@ -37,6 +37,6 @@ pub record GoesOn (v : Value) (t : ℕ) (names : List Name) (m : Marks) : Type 0
   pub spare : length (objects v t) < length m.found + m.spare
   pub places : length (v.homes t).chunks ≤ m.places
 
-abbrev pub MarkedBy : Value → Ledger → ℕ → Option Marks → Type 0
+abbrev pub MarkedBy : Memory → Ledger → ℕ → Option MarkingValue → Type 0
 MarkedBy v l t None = (heap_of l t).marked ≡ None
 MarkedBy v l t (Some m) = MarksStand v l t (marked_of m) × GoesOn v t (heap_of l t).snapshot m

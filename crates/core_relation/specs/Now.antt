@@ -1,6 +1,6 @@
 -- What is reached now of a heap that waits.
 use Rattle.std.specs.Prelude.{◌≡◌, ◌⊎◌, ◌↔◌, ℕ, true, Some, slice_get}
-use Rattle.walks.specs.Reached.{IsReached}
+use Rattle.walk_laws.specs.Reached.{IsReached}
 use Rattle.object_layout.specs.declared.word.Addr.{Addr}
 use Rattle.object_layout.specs.Objects.{Located}
 use Rattle.hh_model.specs.declared.data.Task.{Task}
@@ -9,21 +9,21 @@ use Rattle.run_ledger.specs.declared.data.Ledger.{Ledger}
 use Rattle.run_ledger.specs.Heaps.{heap_of}
 use Rattle.run_ledger.specs.Sound.{SoundLedger}
 use Rattle.task_frames.specs.declared.frames.Frame.{Frame}
-use Rattle.ledger_steps.specs.Accounts.{Rests}
-use Rattle.core_relation.specs.Value.{In, Value, object_name, objects}
+use Rattle.ledger_step_laws.specs.Accounts.{Rests}
+use Rattle.core_relation.specs.Memory.{In, Memory, object_name, objects}
 use Rattle.core_relation.specs.Stands.{Stands}
 use Rattle.core_relation.specs.Begins.{IsAt, IsRoot, LeadsAt}
 use Rattle.core_relation.specs.Since.{Since, kept}
 
 -- walks start at an object that a register or a root names, or that was kept
-abbrev pub StartsNow : Value → Ledger → ℕ → Addr → Type 0
+abbrev pub StartsNow : Memory → Ledger → ℕ → Addr → Type 0
 StartsNow v l t a = (o : Located) × IsAt (v.homes t) a o × (((f : Frame) × In (v.homes t).frames f × In f.refs (Some a)) ⊎ (IsRoot v l t a ⊎ In (kept v t) a))
 
-abbrev pub IsReachedNow : Value → Ledger → ℕ → Addr → Type 0
+abbrev pub IsReachedNow : Memory → Ledger → ℕ → Addr → Type 0
 IsReachedNow v l t a = IsReached (StartsNow v l t) (LeadsAt (v.homes t)) a
 
 -- that is its snapshot
 abbrev pub SnapshotsAreNow : Type 0
 SnapshotsAreNow =
-    (v : Value) (l : Ledger) (t : ℕ) (x : Task) → SoundLedger l → Stands v l → slice_get l.machine.tasks t ≡ Some x → is_waiting (slice_get l.machine.tasks t) ≡ true → Rests l t → Since v l t
+    (v : Memory) (l : Ledger) (t : ℕ) (x : Task) → SoundLedger l → Stands v l → slice_get l.machine.tasks t ≡ Some x → is_waiting (slice_get l.machine.tasks t) ≡ true → Rests l t → Since v l t
     → (q : Located) → In (objects v t) q → IsReachedNow v l t q.at ↔ In (heap_of l t).snapshot (object_name q)

@@ -11,7 +11,7 @@ use Rattle.run_ledger.specs.declared.data.RunEnd.TheVariants.{Machine}
 use Rattle.heap_tree.specs.declared.state.State.{State}
 use Rattle.heap_tree.specs.declared.state.State.TheVariants.{Ready, Waiting, Ended, Joined}
 use Rattle.heap_tree.specs.Node.{Node}
-use Rattle.ledger_steps.specs.Last.{LastKind, Private, Reading, Writing, Printing, Forking, Ending, Joining, Finishing, Halting, IsOfKind}
+use Rattle.ledger_step_laws.specs.Last.{LastKind, Private, Reading, Writing, Printing, Forking, Ending, Joining, Finishing, Halting, IsOfKind}
 use Rattle.core_relation.specs.Whole.{Totals}
 
 -- THE TREE

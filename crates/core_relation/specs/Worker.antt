@@ -1,21 +1,21 @@
 -- What a worker holds fits a value.
 use Rattle.std.specs.Prelude.{◌≡◌, ℕ, true, Some, List, [], ◌∷◌, slice_get}
 use Rattle.hh_lang.specs.Form.{ProgramText}
-use Rattle.run_trace.specs.Settings.{Limits, field_limit}
+use Rattle.run_trace.specs.Settings.{SettingsValue, field_limit}
 use Rattle.hh_model.specs.declared.data.Task.{Task}
 use Rattle.hh_model.specs.Step.{is_running}
 use Rattle.run_ledger.specs.declared.data.Ledger.{Ledger}
 use Rattle.run_trace.specs.declared.entry.Kind.{Kind}
 use Rattle.run_trace.specs.declared.entry.Kind.TheVariants.{Took, Ran, Chunk, Begin, End, PutOff, Mark, More, Sweep, Fuel}
-use Rattle.ledger_steps.specs.Accounts.{aside}
-use Rattle.core_relation.specs.Value.{Value}
+use Rattle.ledger_step_laws.specs.Accounts.{aside}
+use Rattle.core_relation.specs.Memory.{Memory}
 use Rattle.core_relation.specs.Fits.{Part}
 use Rattle.core_relation.specs.Frames.{IsSteady, NotOf}
 use Rattle.core_relation.specs.Copies.{PartFits}
 
 -- its task runs, and with its home the value stands for the accounts after its fresh steps, in which the task rests; the
 -- machine's end is left aside
-pub record Fits (p : ProgramText) (s : Limits) (q : Part) (v : Value) (l : Ledger) : Type 0 where
+pub record Fits (p : ProgramText) (s : SettingsValue) (q : Part) (v : Memory) (l : Ledger) : Type 0 where
   pub task : Task
   pub is : slice_get l.machine.tasks q.task ≡ Some task
   pub runs : is_running (Some task) ≡ true
@@ -39,6 +39,6 @@ IsBy (Sweep t given) u = ⊥
 IsBy Fuel u = ⊥
 
 -- each of these fits, and no two are of one task
-abbrev pub AllFit : ProgramText → Limits → List Part → Value → Ledger → Type 0
+abbrev pub AllFit : ProgramText → SettingsValue → List Part → Memory → Ledger → Type 0
 AllFit p s [] v l = Unit {0}
 AllFit p s (q ∷ qs) v l = Fits p s q v l × NotOf q.task qs × AllFit p s qs v l

@@ -6,8 +6,8 @@ use Rattle.listed.proofs.Members.{In, contains_from_in}
 use Rattle.hh_lang.specs.Form.{ProgramText}
 use Rattle.run_trace.specs.declared.entry.Kind.{Kind}
 use Rattle.run_trace.specs.declared.entry.Kind.TheVariants.{Took, Ran, Chunk, Begin, End as EndOf, PutOff, Mark, More, Sweep, Fuel}
-use Rattle.run_trace.specs.Entry.{Event}
-use Rattle.run_trace.specs.Settings.{Limits}
+use Rattle.run_trace.specs.Entry.{EntryValue}
+use Rattle.run_trace.specs.Settings.{SettingsValue}
 use Rattle.hh_model.specs.declared.data.Name.{Name}
 use Rattle.hh_model.specs.declared.data.State.{State}
 use Rattle.hh_model.specs.Effect.{object_at}
@@ -31,7 +31,7 @@ use Rattle.run_ledger.proofs.Moves.{moves_each}
 use Rattle.run_ledger.proofs.Steps.{step_leaves, task_step_sound, task_steps_sound}
 use Rattle.run_ledger.proofs.Stocks.{names_are_held_once}
 use Rattle.run_ledger.proofs.Waiters.{waiters_are_free}
-use Rattle.ledger_steps.proofs.Ahead.{heap_then, with_at, with_machine, with_off}
+use Rattle.ledger_step_laws.proofs.Ahead.{heap_then, with_at, with_machine, with_off}
 use Rattle.shared_value.proofs.StepsEntered.{collecting_of}
 
 -- ONE HEAP OF A LEDGER
@@ -122,7 +122,7 @@ pub held_is : (o : Option ℕ) (w : ℕ) → is_held_by o w ≡ true → o ≡ S
 held_is None w h = absurd (false≢true h)
 held_is (Some v) w h = ap Some (eqb-true v w h)
 
-module _ (p : ProgramText) (s : Limits) (journal : List Event) (e : Event) (legal : is_legal p s journal ≡ true) (free : refusal p s (ledger_of p s journal) e ≡ None) where
+module _ (p : ProgramText) (s : SettingsValue) (journal : List EntryValue) (e : EntryValue) (legal : is_legal p s journal ≡ true) (free : refusal p s (ledger_of p s journal) e ≡ None) where
   abbrev l : Ledger
   l = ledger_of p s journal
 
@@ -286,7 +286,7 @@ module _ (p : ProgramText) (s : Limits) (journal : List Event) (e : Event) (lega
       (wait_tells l u _ (ap (λ z. is_none (kind_refusal p s l e.worker z)) (sym is) ∙ (entry_tells p s l e (ap is_none free)).2)).0
 
 -- the worker of an entry is one of the run's
-pub entry_worker : (p : ProgramText) (s : Limits) (l : Ledger) (e : Event) → refusal p s l e ≡ None → nat_lt e.worker s.workers ≡ true
+pub entry_worker : (p : ProgramText) (s : SettingsValue) (l : Ledger) (e : EntryValue) → refusal p s l e ≡ None → nat_lt e.worker s.workers ≡ true
 entry_worker p s l e free =
     let a = none_where (is_some l.end) _ _ (ap is_none free) in
     let b = none_where (nat_le s.fuel l.steps && not (is_fuel e.kind)) _ _ a.1 in

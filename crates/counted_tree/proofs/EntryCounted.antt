@@ -6,8 +6,8 @@ use Rattle.listed.proofs.Members.{got_back, got_other, got_same}
 use Rattle.hh_lang.specs.Form.{ProgramText}
 use Rattle.run_trace.specs.declared.entry.Kind.{Kind}
 use Rattle.run_trace.specs.declared.entry.Kind.TheVariants.{Took, Ran, Chunk, Begin, End as EndOf, PutOff, Mark, More, Sweep, Fuel}
-use Rattle.run_trace.specs.Entry.{Event}
-use Rattle.run_trace.specs.Settings.{Limits}
+use Rattle.run_trace.specs.Entry.{EntryValue}
+use Rattle.run_trace.specs.Settings.{SettingsValue}
 use Rattle.hh_model.specs.declared.data.State.{State}
 use Rattle.hh_model.specs.Step.{is_running, is_waiting}
 use Rattle.run_ledger.specs.declared.data.Ledger.{Ledger}
@@ -17,8 +17,8 @@ use Rattle.run_ledger.specs.Heaps.{collected, heap_of, held_in, in_use, swept_he
 use Rattle.run_ledger.specs.Journals.{ledger_of, opening}
 use Rattle.run_ledger.specs.Report.{lost}
 use Rattle.object_layout.specs.Chunks.{held_words}
-use Rattle.alloc_path.specs.Heap.{counted as counted64}
-use Rattle.ledger_steps.proofs.Ahead.{with_machine}
+use Rattle.alloc_path.specs.LeafHeapValue.{counted as counted64}
+use Rattle.ledger_step_laws.proofs.Ahead.{with_machine}
 use Rattle.core_relation.proofs.whole.Past.{waiting_stops}
 use Rattle.run_report.specs.Totals.{AreFew, cleared_words, counted, entry_totals, joined, no_totals, totals_from}
 use Rattle.run_report.proofs.Sums.{legal_few, lost_is, totals_last}
@@ -27,8 +27,8 @@ use Rattle.shared_value.specs.declared.answer.NotEntered.{NotEntered}
 use Rattle.shared_value.specs.declared.answer.NotEntered.TheVariants.{NoMemory, Refuses}
 use Rattle.shared_value.specs.Entered.{Enters, refused}
 use Rattle.shared_value.specs.Fits.{Fits}
-use Rattle.shared_value.specs.Stands.{IsWorld}
-use Rattle.shared_value.specs.World.{World, accounts}
+use Rattle.shared_value.specs.Stands.{IsSharedValue}
+use Rattle.shared_value.specs.SharedValue.{SharedValue, accounts}
 use Rattle.shared_value.proofs.JournalGoesOn.{legal_then}
 use Rattle.own_steps.specs.Alone.{alone_event}
 use Rattle.child_tasks.specs.Joins.{IsUnchanged}
@@ -60,11 +60,11 @@ long_last (x ∷ xs) e = omega arith
 
 -- BEFORE THE FIRST ENTRY
 
-first_worker : (p : ProgramText) (s : Limits) (t k : ℕ) → (heap_of (opening p s) t).worker ≡ Some k → ⊥
+first_worker : (p : ProgramText) (s : SettingsValue) (t k : ℕ) → (heap_of (opening p s) t).worker ≡ Some k → ⊥
 first_worker p s zero k h = absurd cc
 first_worker p s (suc t) k h = absurd cc
 
-pub first_kept : (w : World) (c : Counts) → w.journal.items ≡ [] → c.totals ≡ no_totals → length c.begun ≡ w.settings.workers → KeepsCounts w c
+pub first_kept : (w : SharedValue) (c : Counts) → w.journal.items ≡ [] → c.totals ≡ no_totals → length c.begun ≡ w.settings.workers → KeepsCounts w c
 first_kept w c none totals workers = record {
   totals = totals ∙ ap (totals_from w.program w.settings (opening w.program w.settings)) (sym none);
   workers = workers;
@@ -72,26 +72,26 @@ first_kept w c none totals workers = record {
 }
 
 -- the same program, settings and entries
-pub same_kept : (w v : World) (c : Counts) → v.program ≡ w.program → v.settings ≡ w.settings → v.journal.items ≡ w.journal.items → KeepsCounts w c → KeepsCounts v c
+pub same_kept : (w v : SharedValue) (c : Counts) → v.program ≡ w.program → v.settings ≡ w.settings → v.journal.items ≡ w.journal.items → KeepsCounts w c → KeepsCounts v c
 same_kept w v c p s j K =
     let l : accounts v ≡ accounts w =
     ap (λ q. ledger_of q v.settings v.journal.items) p ∙ (ap (λ z. ledger_of w.program z v.journal.items) s ∙ ap (ledger_of w.program w.settings) j) in record {
       totals = K.totals
           ∙ sym (ap (λ q. totals_from q v.settings (opening q v.settings) v.journal.items) p
           ∙ (ap (λ z. totals_from w.program z (opening w.program z) v.journal.items) s ∙ ap (totals_from w.program w.settings (opening w.program w.settings)) j));
-      workers = K.workers ∙ ap (λ (z : Limits). z.workers) (sym s);
+      workers = K.workers ∙ ap (λ (z : SettingsValue). z.workers) (sym s);
       begun = λ k t h b.
           K.begun k t (ap (λ (z : Ledger). (heap_of z t).worker) (sym l) ∙ h) (ap (λ (z : Ledger). is_some (heap_of z t).begun) (sym l) ∙ b)
           ∙ ap (λ (z : Ledger). Some (words_in z.machine (heap_of z t))) (sym l);
     }
 
 -- where an entry is refused, or there was no memory for it
-pub unchanged_kept : (w v : World) (cause : NotEntered) (c : Counts) → IsUnchanged cause w v → KeepsCounts w c → KeepsCounts v c
-unchanged_kept w v (Refuses why) c same K = subst (λ (z : World). KeepsCounts z c) (sym same) K
-unchanged_kept w v NoMemory c S K = same_kept w v c (ap (λ (z : World). z.program) S.rest) (ap (λ (z : World). z.settings) S.rest) (ap (λ (z : World). z.journal.items) S.rest) K
+pub unchanged_kept : (w v : SharedValue) (cause : NotEntered) (c : Counts) → IsUnchanged cause w v → KeepsCounts w c → KeepsCounts v c
+unchanged_kept w v (Refuses why) c same K = subst (λ (z : SharedValue). KeepsCounts z c) (sym same) K
+unchanged_kept w v NoMemory c S K = same_kept w v c (ap (λ (z : SharedValue). z.program) S.rest) (ap (λ (z : SharedValue). z.settings) S.rest) (ap (λ (z : SharedValue). z.journal.items) S.rest) K
 
 -- steps that were entered, whatever they come to
-pub ran_enters : (w v : World) (k : ℕ) (q : Private) (r : RanOf) → RanTo w v k q r → Enters w v (alone_event k q)
+pub ran_enters : (w v : SharedValue) (k : ℕ) (q : Private) (r : RanOf) → RanTo w v k q r → Enters w v (alone_event k q)
 ran_enters w v k q (GoesOn x) a = a.enters
 ran_enters w v k q (ForksInto left right) a = a.0.enters
 ran_enters w v k q (EndsWith resumed) a = a.0.enters
@@ -99,16 +99,16 @@ ran_enters w v k q (IsOver x) a = a.enters
 ran_enters w v k q IsDone a = a.enters
 
 -- an entry that was made
-pub is_made : (w v : World) (c : Counts) (e : Event) (words : ℕ) → IsWorld w → Enters w v e → refused w e ≡ None → KeepsCounts w c → HasWords (accounts w) e.kind words
-    → (z : World) × (x : Event) × IsMade z v c x words
+pub is_made : (w v : SharedValue) (c : Counts) (e : EntryValue) (words : ℕ) → IsSharedValue w → Enters w v e → refused w e ≡ None → KeepsCounts w c → HasWords (accounts w) e.kind words
+    → (z : SharedValue) × (x : EntryValue) × IsMade z v c x words
 is_made w v c e words I E free K H = (w, e, record { stands = I; enters = E; free = free; keeps = K; had = H })
 
 -- ONE ENTRY MORE
-module _ (w v : World) (c : Counts) (e : Event) (words : ℕ) (M : IsMade w v c e words) where
+module _ (w v : SharedValue) (c : Counts) (e : EntryValue) (words : ℕ) (M : IsMade w v c e words) where
   abbrev p : ProgramText
   p = w.program
 
-  abbrev s : Limits
+  abbrev s : SettingsValue
   s = w.settings
 
   abbrev l : Ledger
@@ -136,7 +136,7 @@ module _ (w v : World) (c : Counts) (e : Event) (words : ℕ) (M : IsMade w v c 
 
   pub totals_few : length v.journal.items < 2 ^ 64 → (lost used : ℕ) → lost ≡ cleared_words l e.kind - cleared_words (accounts v) e.kind → used ≡ in_use (accounts v) → AreFew (joined c.totals (counted e.kind lost used))
   totals_few short lost used a b =
-      let all : List Event = w.journal.items ++ e ∷ [] in
+      let all : List EntryValue = w.journal.items ++ e ∷ [] in
       let few : AreFew (totals_from p s (opening p s) all) =
       legal_few p s M.stands.limits all (legal_then p s w.journal.items e M.stands.legal M.free) (subst (λ xs. length xs < 2 ^ 64) M.enters.journal short) in
       subst AreFew (totals_last p s w.journal.items (opening p s) e ∙ ap₂ joined (sym M.keeps.totals) (sym (counted_is lost used a b))) few
@@ -195,7 +195,7 @@ module _ (w v : World) (c : Counts) (e : Event) (words : ℕ) (M : IsMade w v c 
       → c'.begun ≡ begun_with c.begun e.worker words e.kind → KeepsCounts v c'
   counts_then c' lost used a b et eb = record {
     totals = et ∙ (ap₂ joined M.keeps.totals (counted_is lost used a b) ∙ sym totals_then);
-    workers = ap length eb ∙ (long_with e.kind ∙ (M.keeps.workers ∙ ap (λ (z : Limits). z.workers) (sym M.enters.settings)));
+    workers = ap length eb ∙ (long_with e.kind ∙ (M.keeps.workers ∙ ap (λ (z : SettingsValue). z.workers) (sym M.enters.settings)));
     begun = λ k t h g.
         ap (λ xs. slice_get xs k) eb
         ∙ (kept_kind e.kind refl M.had k t (ap (λ (z : Ledger). (heap_of z t).worker) (sym now_is) ∙ h) (ap (λ (z : Ledger). is_some (heap_of z t).begun) (sym now_is) ∙ g)
@@ -217,7 +217,7 @@ module _ (w v : World) (c : Counts) (e : Event) (words : ℕ) (M : IsMade w v c 
       ∙ (ap (λ (z : Ledger). words_in l.machine (heap_of l t) - words_in z.machine (heap_of z t)) (sym then_is) ∙ ap (λ k. cleared_words l k - cleared_words (accounts v) k) (sym is)))
 
   -- and with a sweep
-  pub sweep_lost : IsWorld v → (t given rest : ℕ) → e.kind ≡ Sweep t given → rest ≡ counted64 (words_sum (accounts v).machine (kept_of (accounts v) t))
+  pub sweep_lost : IsSharedValue v → (t given rest : ℕ) → e.kind ≡ Sweep t given → rest ≡ counted64 (words_sum (accounts v).machine (kept_of (accounts v) t))
       → words - rest ≡ cleared_words l e.kind - cleared_words (accounts v) e.kind
   sweep_lost I t given rest is r =
       let has : words ≡ words_in l.machine (heap_of l t) = subst (λ z. HasWords l z words) is M.had in
@@ -232,12 +232,12 @@ module _ (w v : World) (c : Counts) (e : Event) (words : ℕ) (M : IsMade w v c 
 -- WHAT A HEAP HAS BEFORE AN ENTRY
 
 -- that of a part whose leaf collection begins
-pub begin_had : (w : World) → IsWorld w → (k : ℕ) (q : Private) → Fits w k (record q { fresh = 0 }) → (words : ℕ) → words ≡ counted64 (held_words q.heap.chunks) → words ≡ words_in (accounts w).machine (heap_of (accounts w) q.task)
+pub begin_had : (w : SharedValue) → IsSharedValue w → (k : ℕ) (q : Private) → Fits w k (record q { fresh = 0 }) → (words : ℕ) → words ≡ counted64 (held_words q.heap.chunks) → words ≡ words_in (accounts w).machine (heap_of (accounts w) q.task)
 begin_had w I k q F words is =
     is ∙ (ap counted64 (sym (part_words w k q F)) ∙ counted_few (words_in (accounts w).machine (heap_of (accounts w) q.task)) (words_small w I q.task))
 
 -- and one that is swept
-pub sweep_had : (w : World) → IsWorld w → (e : Event) (t given : ℕ) → e.kind ≡ Sweep t given → refused w e ≡ None → (words : ℕ) → words ≡ counted64 (words_sum (accounts w).machine (kept_of (accounts w) t))
+pub sweep_had : (w : SharedValue) → IsSharedValue w → (e : EntryValue) (t given : ℕ) → e.kind ≡ Sweep t given → refused w e ≡ None → (words : ℕ) → words ≡ counted64 (words_sum (accounts w).machine (kept_of (accounts w) t))
     → words ≡ words_in (accounts w).machine (heap_of (accounts w) t)
 sweep_had w I e t given is free words r =
     let l : Ledger = accounts w in

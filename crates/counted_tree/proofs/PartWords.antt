@@ -10,17 +10,17 @@ use Rattle.run_ledger.specs.declared.data.Ledger.{Ledger}
 use Rattle.run_ledger.specs.Heaps.{heap_of, held, held_in, in_use, let_go, or_fresh, words_at, words_in, words_of, words_sum}
 use Rattle.run_ledger.proofs.Space.{heaps_fit, use_is_bounded}
 use Rattle.object_layout.specs.Chunks.{held_words}
-use Rattle.ledger_steps.specs.Accounts.{aside, rested}
-use Rattle.ledger_steps.proofs.Ahead.{with_machine}
-use Rattle.ledger_steps.proofs.Rested.{rested_view, rested_worker}
+use Rattle.ledger_step_laws.specs.Accounts.{aside, rested}
+use Rattle.ledger_step_laws.proofs.Ahead.{with_machine}
+use Rattle.ledger_step_laws.proofs.Rested.{rested_view, rested_worker}
 use Rattle.core_relation.specs.Fits.{with_home}
 use Rattle.core_relation.specs.Stands.{Stands}
-use Rattle.core_relation.specs.Value.{Home, Value}
+use Rattle.core_relation.specs.Memory.{Home, Memory}
 use Rattle.core_relation.proofs.changes.With.{at_home}
 use Rattle.task_machine.specs.declared.part.Private.{Private}
 use Rattle.shared_value.specs.Fits.{Fits, home_of_part}
-use Rattle.shared_value.specs.Stands.{IsWorld}
-use Rattle.shared_value.specs.World.{World, accounts, value_of}
+use Rattle.shared_value.specs.Stands.{IsSharedValue}
+use Rattle.shared_value.specs.SharedValue.{SharedValue, accounts, value_of}
 use Rattle.shared_value.proofs.HeapWords.{words_are}
 
 -- A HEAP IS SMALL
@@ -33,7 +33,7 @@ heap_least g add (h ∷ hs) t = by t (λ u. heap_least g add hs u) (add (held_in
     by zero rest both = omega (arith, both)
     by (suc u) rest both = let r = rest u in omega (arith, both, r)
 
-pub words_small : (w : World) → IsWorld w → (t : ℕ) → words_in (accounts w).machine (heap_of (accounts w) t) ≤ 2 ^ 26
+pub words_small : (w : SharedValue) → IsSharedValue w → (t : ℕ) → words_in (accounts w).machine (heap_of (accounts w) t) ≤ 2 ^ 26
 words_small w I t =
     let k : Ledger = accounts w in
     let u : in_use k ≤ w.settings.chunks = (use_is_bounded w.program w.settings w.journal.items I.legal).now in
@@ -44,7 +44,7 @@ words_small w I t =
     omega (arith, u, c, f, a, z)
 
 -- a part without fresh steps
-module _ (w : World) (k : ℕ) (p : Private) (F : Fits w k (record p { fresh = 0 })) where
+module _ (w : SharedValue) (k : ℕ) (p : Private) (F : Fits w k (record p { fresh = 0 })) where
   abbrev l : Ledger
   l = accounts w
 
@@ -54,7 +54,7 @@ module _ (w : World) (k : ℕ) (p : Private) (F : Fits w k (record p { fresh = 0
   abbrev h : Home
   h = home_of_part (record p { fresh = 0 })
 
-  abbrev v' : Value
+  abbrev v' : Memory
   v' = with_home (value_of w) t h
 
   abbrev L : Ledger

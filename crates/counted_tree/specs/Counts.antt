@@ -2,29 +2,29 @@
 use Rattle.std.specs.Prelude.{◌≡◌, ℕ, true, Some, None, List, length, slice_get, slice_set, is_some}
 use Rattle.run_trace.specs.declared.entry.Kind.{Kind}
 use Rattle.run_trace.specs.declared.entry.Kind.TheVariants.{Begin, Sweep}
-use Rattle.run_trace.specs.Entry.{Event}
+use Rattle.run_trace.specs.Entry.{EntryValue}
 use Rattle.run_ledger.specs.declared.data.Ledger.{Ledger}
 use Rattle.run_ledger.specs.Heaps.{heap_of, words_in}
 use Rattle.run_ledger.specs.Journals.{opening}
 use Rattle.run_report.specs.declared.totals.Totals.{Totals}
 use Rattle.run_report.specs.Totals.{totals_from}
 use Rattle.shared_value.specs.Entered.{Enters, refused}
-use Rattle.shared_value.specs.Stands.{IsWorld}
-use Rattle.shared_value.specs.World.{World, accounts}
+use Rattle.shared_value.specs.Stands.{IsSharedValue}
+use Rattle.shared_value.specs.SharedValue.{SharedValue, accounts}
 use Rattle.counted_tree.specs.declared.counting.Counts.{Counts}
 
 -- the totals of the journal
-abbrev pub totals_of : World → Totals
+abbrev pub totals_of : SharedValue → Totals
 totals_of w = totals_from w.program w.settings (opening w.program w.settings) w.journal.items
 
 -- of each worker that is amid a leaf collection, how many words the heap has that it collects
-abbrev pub KeepsBegun : World → List ℕ → Type 0
+abbrev pub KeepsBegun : SharedValue → List ℕ → Type 0
 KeepsBegun w begun =
     (k t : ℕ) → (heap_of (accounts w) t).worker ≡ Some k → is_some (heap_of (accounts w) t).begun ≡ true
     → slice_get begun k ≡ Some (words_in (accounts w).machine (heap_of (accounts w) t))
 
 -- THE TOTALS ARE THOSE OF THE JOURNAL
-pub record KeepsCounts (w : World) (c : Counts) : Type 0 where
+pub record KeepsCounts (w : SharedValue) (c : Counts) : Type 0 where
   pub totals : c.totals ≡ totals_of w
   pub workers : length c.begun ≡ w.settings.workers
   pub begun : KeepsBegun w c.begun
@@ -43,8 +43,8 @@ HasWords l (Sweep t given) words = words ≡ words_in l.machine (heap_of l t)
 HasWords l _ words = Unit {0}
 
 -- the entry was made, and isn't counted yet
-pub record IsMade (w after : World) (c : Counts) (e : Event) (words : ℕ) : Type 0 where
-  pub stands : IsWorld w
+pub record IsMade (w after : SharedValue) (c : Counts) (e : EntryValue) (words : ℕ) : Type 0 where
+  pub stands : IsSharedValue w
   pub enters : Enters w after e
   pub free : refused w e ≡ None
   pub keeps : KeepsCounts w c

@@ -4,8 +4,8 @@ ghost use Rattle.std.specs.Prelude.{◌≡◌, ◌<◌, [], ℕ, IfOk, OnOk, Som
 ghost use Rattle.run_ledger.specs.Report.{report_of};
 ghost use Rattle.task_machine.specs.declared.part.Private.{Private as Part};
 ghost use Rattle.shared_value.specs.Fits.{AllFit, Fits};
-ghost use Rattle.shared_value.specs.Stands.{IsWorld};
-ghost use Rattle.shared_value.specs.World.{rest_at, without_journal};
+ghost use Rattle.shared_value.specs.Stands.{IsSharedValue};
+ghost use Rattle.shared_value.specs.SharedValue.{rest_at, without_journal};
 ghost use Rattle.shared_value.specs.declared.task_at_rest.Rest.{Rest as RestOf};
 
 use crate::counting::Counts;
@@ -25,10 +25,10 @@ pub struct Counted {
 }
 
 impl Model for Counted {
-    ghost use Rattle.shared_value.specs.World.{World};
+    ghost use Rattle.shared_value.specs.SharedValue.{SharedValue};
     ghost use Rattle.counted_tree.specs.Counts.{KeepsCounts};
 
-    ghost Value = { World };
+    ghost Value = { SharedValue };
 
     ghost view = { λ c. c.shared };
 
@@ -69,7 +69,7 @@ impl Counted {
 
     /// What every shared value keeps: it stands for its journal, which is legal.
     pub fn stands(&self)
-        ensures { IsWorld self.now }
+        ensures { IsSharedValue self.now }
     {
         self.shared.stands();
     }

@@ -1,9 +1,9 @@
 // What the entries of a journal come to, counted on after each.
 
 ghost use Rattle.std.specs.Prelude.{◌≡◌, ◌-◌, ◌<◌, ◌^◌, IfOk, length};
-ghost use Rattle.run_trace.specs.Entry.{Event};
+ghost use Rattle.run_trace.specs.Entry.{EntryValue};
 ghost use Rattle.run_report.specs.Totals.{cleared_words, no_totals};
-ghost use Rattle.shared_value.specs.World.{World, accounts};
+ghost use Rattle.shared_value.specs.SharedValue.{SharedValue, accounts};
 ghost use Rattle.shared_value.specs.Entered.{Enters};
 ghost use Rattle.counted_tree.specs.Counts.{IsMade, KeepsCounts, begun_with};
 
@@ -35,8 +35,8 @@ fn zeros(alloc: Global, count: u32) -> Result<Listed<u64>, AllocError>
 
 // The entry that was made last.
 fn last_entry(shared: &Shared) -> Entry
-    requires { (w : World) × (e : Event) × Enters w shared.now e }
-    ensures last { (w : World) (e : Event) → Enters w shared.now e → result ≡ e }
+    requires { (w : SharedValue) × (e : EntryValue) × Enters w shared.now e }
+    ensures last { (w : SharedValue) (e : EntryValue) → Enters w shared.now e → result ≡ e }
     ensures short { length shared.now.journal.items < 2 ^ 64 }
 {
     let journal = shared.journal();
@@ -67,8 +67,8 @@ impl Counts {
 
     // The words that a heap has lost with the last entry. Of one that sweeps, its heap had so many before.
     fn lost(&self, shared: &Shared, entry: Entry, words: u64) -> u64
-        requires { (w : World) × IsMade w shared.now self.now entry words }
-        ensures { (w : World) → IsMade w shared.now self.now entry words → result ≡ cleared_words (accounts w) entry.kind - cleared_words (accounts shared.now) entry.kind }
+        requires { (w : SharedValue) × IsMade w shared.now self.now entry words }
+        ensures { (w : SharedValue) → IsMade w shared.now self.now entry words → result ≡ cleared_words (accounts w) entry.kind - cleared_words (accounts shared.now) entry.kind }
     {
         shared.stands();
         match entry.kind() {
@@ -83,7 +83,7 @@ impl Counts {
 
     /// Counts the last entry. Of one that begins a leaf collection or sweeps, its heap had so many words before.
     pub(crate) fn count(&mut self, shared: &Shared, words: u64)
-        requires { (w : World) × (e : Event) × IsMade w shared.now self.old e words }
+        requires { (w : SharedValue) × (e : EntryValue) × IsMade w shared.now self.old e words }
         ensures { KeepsCounts shared.now self.new }
     {
         shared.stands();

@@ -4,7 +4,7 @@ ghost use Rattle.std.specs.Prelude.{◌≡◌, ◌<◌, ◌≤◌, OnErr, OnOk, 
 ghost use Rattle.run_ledger.specs.Heaps.{heap_of, left_in};
 ghost use Rattle.shared_value.specs.Entered.{cause_of, refused, Answers, Enters};
 ghost use Rattle.shared_value.specs.Fits.{AllFit};
-ghost use Rattle.shared_value.specs.World.{accounts};
+ghost use Rattle.shared_value.specs.SharedValue.{accounts};
 
 use crate::counted::Counted;
 use run_ledger::Refused;

@@ -2,11 +2,11 @@
 use Rattle.std.proofs.Common.{◌≡◌, ℕ, Bool, true, false, cond, ◌||◌, List, ◌++◌, ◌⊎◌, inl, inr, refl, sym, ap, ◌∙◌, Option, Some, None}
 use Rattle.std.specs.Prelude.{IsSome, option_map}
 use Rattle.std.proofs.lemmas.Bool.{cases_Bool, cases_eq, false≢true, or_left, or_right}
-use Rattle.object_layout.specs.Content.{Content}
+use Rattle.object_layout.specs.ChunkValue.{ChunkValue}
 use Rattle.object_layout.specs.Chunks.{has_chunk}
 use Rattle.object_layout.proofs.Owning.{has_append}
 use Rattle.chunk_pool.specs.declared.pool.Held.{Held}
-use Rattle.chunk_pool.specs.Chunks.{Chunks, held_at, owner_of}
+use Rattle.chunk_pool.specs.PoolValue.{PoolValue, held_at, owner_of}
 use Rattle.remembered_set.specs.declared.remembered.Source.{Source}
 use Rattle.fork_join.specs.Joined.{with_owner}
 use Rattle.fork_join.specs.Placement.{Owns}
@@ -46,7 +46,7 @@ neither : (a b : Bool) → a ≡ false → b ≡ false → (a || b) ≡ false
 neither true b e f = e
 neither false b e f = f
 
-module _ (old new : Chunks) (sources after : ℕ → List Source) (p c d : ℕ) (ks ls rs : List Content) (op : Owns old p ks) (oc : Owns old c ls) (od : Owns old d rs)
+module _ (old new : PoolValue) (sources after : ℕ → List Source) (p c d : ℕ) (ks ls rs : List ChunkValue) (op : Owns old p ks) (oc : Owns old c ls) (od : Owns old d rs)
     (J : Merges old new sources after p c d ks ls rs) where
   pub owner_left : (n : ℕ) → owner_of old n ≡ Some c → owner_of new n ≡ Some p
   owner_left n e =
@@ -56,7 +56,7 @@ module _ (old new : Chunks) (sources after : ℕ → List Source) (p c d : ℕ) 
   owner_right n e =
       (joined_are_owned old new (ls ++ rs) p J.pool n).0 (has_append ls rs n ∙ or_right (has_chunk ls n) (has_chunk rs n) ((od n).0 e)) (used_by d (held_at old n) e)
 
-  isnt : (t u n : ℕ) (xs : List Content) → Owns old t xs → (u ≡ t → ⊥) → owner_of old n ≡ Some u → has_chunk xs n ≡ false
+  isnt : (t u n : ℕ) (xs : List ChunkValue) → Owns old t xs → (u ≡ t → ⊥) → owner_of old n ≡ Some u → has_chunk xs n ≡ false
   isnt t u n xs o ne e = elim (cases_Bool (has_chunk xs n)) [
     | inl y ↦ absurd (ne (some_same u t (sym e ∙ (o n).1 y)))
     | inr f ↦ f

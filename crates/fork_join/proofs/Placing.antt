@@ -1,11 +1,11 @@
 -- Forks and joins keep placement.
 use Rattle.std.proofs.Common.{◌≡◌, ℕ, true, false, List, Contains, ◌⊎◌, inl, inr, refl, sym, ap, ◌∙◌, subst, Option, Some}
 use Rattle.std.proofs.lemmas.Bool.{cases_Bool, cases_eq}
-use Rattle.object_layout.specs.Content.{Content}
+use Rattle.object_layout.specs.ChunkValue.{ChunkValue}
 use Rattle.object_layout.specs.Chunks.{has_chunk}
 use Rattle.heap_tree.specs.Walk.{IsUpFrom}
 use Rattle.heap_tree.specs.Node.{Node, forked, parent_of}
-use Rattle.chunk_pool.specs.Chunks.{Chunks}
+use Rattle.chunk_pool.specs.PoolValue.{PoolValue}
 use Rattle.remembered_set.specs.declared.remembered.Source.{Source}
 use Rattle.remembered_set.specs.Sources.{lifted}
 use Rattle.remembered_set.proofs.LiftLemmas.{lifted_are_there}
@@ -21,7 +21,7 @@ forks_keep_placement = λ fields nodes pool sources after t grow placed f is fro
   | inr noted ↦ inr (grow into (record { object = f.object; field = f.number }) noted)
 ]
 
-module _ (nodes : List Node) (old new : Chunks) (sources after : ℕ → List Source) (p c d : ℕ) (ks ls rs : List Content) (op : Owns old p ks) (oc : Owns old c ls) (od : Owns old d rs)
+module _ (nodes : List Node) (old new : PoolValue) (sources after : ℕ → List Source) (p c d : ℕ) (ks ls rs : List ChunkValue) (op : Owns old p ks) (oc : Owns old c ls) (od : Owns old d rs)
     (pc : parent_of nodes c ≡ Some p) (pd : parent_of nodes d ≡ Some p) (J : Merges old new sources after p c d ks ls rs) where
   abbrev par : ℕ → Option ℕ
   par = parent_of nodes

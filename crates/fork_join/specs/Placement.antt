@@ -2,11 +2,11 @@
 -- which it leads.
 use Rattle.std.specs.Prelude.{◌≡◌, ◌⊎◌, ◌↔◌, ℕ, true, Contains, Some, List}
 use Rattle.object_layout.specs.declared.word.Addr.{Addr}
-use Rattle.object_layout.specs.Content.{Content}
+use Rattle.object_layout.specs.ChunkValue.{ChunkValue}
 use Rattle.object_layout.specs.Chunks.{has_chunk}
 use Rattle.heap_tree.specs.Walk.{IsUpFrom}
 use Rattle.heap_tree.specs.Node.{Node, parent_of}
-use Rattle.chunk_pool.specs.Chunks.{Chunks, owner_of}
+use Rattle.chunk_pool.specs.PoolValue.{PoolValue, owner_of}
 use Rattle.remembered_set.specs.declared.remembered.Source.{Source}
 
 -- of a field that isn't nil: its object, its number, and where it leads
@@ -16,13 +16,13 @@ pub record Field : Type 0 where
   pub held : Addr
 
 -- the owners of both chunks, where they are in use, agree with this; the sources are by heap
-abbrev pub IsPlaced : List Node → Chunks → (ℕ → List Source) → Field → Type 0
+abbrev pub IsPlaced : List Node → PoolValue → (ℕ → List Source) → Field → Type 0
 IsPlaced nodes pool sources f = (from into : ℕ) → owner_of pool f.object.chunk ≡ Some from → owner_of pool f.held.chunk ≡ Some into →
     IsUpFrom (parent_of nodes) from into ⊎ Contains (sources into) (record { object = f.object; field = f.number })
 
-abbrev pub Placement : List Field → List Node → Chunks → (ℕ → List Source) → Type 0
+abbrev pub Placement : List Field → List Node → PoolValue → (ℕ → List Source) → Type 0
 Placement fields nodes pool sources = (f : Field) → Contains fields f → IsPlaced nodes pool sources f
 
 -- the pool keeps for a task just the chunks of its heap
-abbrev pub Owns : Chunks → ℕ → List Content → Type 0
+abbrev pub Owns : PoolValue → ℕ → List ChunkValue → Type 0
 Owns pool t ks = (number : ℕ) → (owner_of pool number ≡ Some t) ↔ (has_chunk ks number ≡ true)

@@ -9,8 +9,8 @@ use Rattle.hh_model.specs.Step.{asked, can_step, is_running, is_waiting, step, w
 use Rattle.hh_model.proofs.Runs.{running_tells}
 use Rattle.run_trace.specs.declared.entry.Kind.{Kind}
 use Rattle.run_trace.specs.declared.entry.Kind.TheVariants.{Took, Ran, Chunk, Begin, End, PutOff, Mark, More, Sweep, Fuel}
-use Rattle.run_trace.specs.Entry.{Event}
-use Rattle.run_trace.specs.Settings.{Limits}
+use Rattle.run_trace.specs.Entry.{EntryValue}
+use Rattle.run_trace.specs.Settings.{SettingsValue}
 use Rattle.run_ledger.specs.declared.data.Heap.{Heap}
 use Rattle.run_ledger.specs.declared.data.Ledger.{Ledger}
 use Rattle.run_ledger.specs.declared.data.RunEnd.TheVariants.{Pool}
@@ -145,7 +145,7 @@ chunk_moves : (l : Ledger) (t : ℕ) (next : Option ℕ) (full : Bool) → Moves
 chunk_moves l t next true = record { tree = tree_same l.machine.tasks; grows = λ u x at. (x, at, omega arith); heaps = λ u x at w at'. (λ h. h, λ h. h) }
 chunk_moves l t next false = heap_moves l t (with_chunk next) (λ h. chunk_touch h (chunk_units next) (on_asked next is_small))
 
-kind_moves : (p : ProgramText) (s : Limits) (l : Ledger) (w : ℕ) (kind : Kind) → SoundLedger l → is_none (kind_refusal p s l w kind) ≡ true → Moves l (after_kind p s l w kind)
+kind_moves : (p : ProgramText) (s : SettingsValue) (l : Ledger) (w : ℕ) (kind : Kind) → SoundLedger l → is_none (kind_refusal p s l w kind) ≡ true → Moves l (after_kind p s l w kind)
 kind_moves p s l w (Took t) S h = heap_moves l t _ (λ g. (λ z. z, λ z. z))
 kind_moves p s l w (Ran t k) S h = steps_moves p k l t (S, (out_tells l w t _ h).1)
 kind_moves p s l w (Chunk t) S h = chunk_moves l t (asked p l.machine t) (nat_lt s.chunks (in_use l + chunk_units (asked p l.machine t)))
@@ -158,5 +158,5 @@ kind_moves p s l w (Sweep t g) S h = heap_moves l t swept_heap (λ g. (λ z. inr
 kind_moves p s l w Fuel S h = record { tree = tree_same l.machine.tasks; grows = λ u x at. (x, at, omega arith); heaps = λ u x at w at'. (λ h. h, λ h. h) }
 
 -- THE LAW
-pub entry_moves : (p : ProgramText) (s : Limits) (l : Ledger) (e : Event) → SoundLedger l → refusal p s l e ≡ None → Moves l (after p s l e)
+pub entry_moves : (p : ProgramText) (s : SettingsValue) (l : Ledger) (e : EntryValue) → SoundLedger l → refusal p s l e ≡ None → Moves l (after p s l e)
 entry_moves p s l e S free = kind_moves p s l e.worker e.kind S (entry_tells p s l e (ap is_none free)).2

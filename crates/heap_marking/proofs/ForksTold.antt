@@ -9,7 +9,7 @@ use Rattle.hh_model.specs.declared.data.Task.{Task}
 use Rattle.hh_model.specs.Step.{is_joined, is_over, is_waiting, joined, parent_of as parent_in_machine, parents}
 use Rattle.hh_model.specs.Tree.{waiting}
 use Rattle.run_trace.specs.Settings.{field_limit}
-use Rattle.run_trace.specs.Entry.{Event}
+use Rattle.run_trace.specs.Entry.{EntryValue}
 use Rattle.run_ledger.specs.declared.data.Ledger.{Ledger}
 use Rattle.run_ledger.specs.declared.data.Refused.{Refused}
 use Rattle.run_ledger.specs.declared.data.Refused.TheVariants.{NotMarking, NotWaiting, Swept}
@@ -19,13 +19,13 @@ use Rattle.run_ledger.specs.Journals.{ledger_of, tasks_of}
 use Rattle.run_ledger.specs.Sound.{SoundLedger}
 use Rattle.run_ledger.proofs.Machine.{machine_is_run}
 use Rattle.run_ledger.proofs.Journals.{legal_sound}
-use Rattle.alloc_path.specs.Heap.{counted}
+use Rattle.alloc_path.specs.LeafHeapValue.{counted}
 use Rattle.heap_tree.specs.Node.{Node, parent_in, parent_of, state_of as state_in}
 use Rattle.core_relation.specs.Whole.{StandsFor, state_by}
 use Rattle.shared_value.specs.Causes.{or_else}
 use Rattle.shared_value.specs.Entered.{Enters}
-use Rattle.shared_value.specs.Stands.{IsWorld}
-use Rattle.shared_value.specs.World.{World, accounts, marks_at, noted_in, totals_of, value_of}
+use Rattle.shared_value.specs.Stands.{IsSharedValue}
+use Rattle.shared_value.specs.SharedValue.{SharedValue, accounts, marks_at, noted_in, totals_of, value_of}
 use Rattle.shared_value.proofs.JournalGoesOn.{accounts_then}
 use Rattle.shared_value.proofs.BeforeTheEnd.{stands_now}
 use Rattle.heap_marking.specs.declared.pace.Fork.{Fork}
@@ -77,7 +77,7 @@ counted_le a n few = elim (cases_lt n (2 ^ 64 - 1)) [
   | inr ge ↦ le-leb a (counted n) (omega (arith, ge, few)) ∙ sym (le-leb a n (omega (arith, few, ge)))
 ]
 
-module _ (w : World) (I : IsWorld w) (on : (accounts w).end ≡ None) where
+module _ (w : SharedValue) (I : IsSharedValue w) (on : (accounts w).end ≡ None) where
   abbrev l : Ledger
   l = accounts w
 
@@ -190,7 +190,7 @@ module _ (w : World) (I : IsWorld w) (on : (accounts w).end ≡ None) where
   fork_is t (Some f) h = subst (λ u. IsForkOf l t (Some (record { task = u; left = f.left })) (slice_get l.machine.tasks t)) (sym h.0) (live_waits t f.left (sym (child_is t f.left) ∙ h.1))
 
 -- THE LAW
-pub entered_accounts : (w w' : World) (e : Event) → Enters w w' e → accounts w' ≡ after w.program w.settings (accounts w) e
+pub entered_accounts : (w w' : SharedValue) (e : EntryValue) → Enters w w' e → accounts w' ≡ after w.program w.settings (accounts w) e
 entered_accounts w w' e E =
     ap (λ p. ledger_of p w'.settings w'.journal.items) E.program
     ∙ (ap (λ s. ledger_of w.program s w'.journal.items) E.settings

@@ -5,7 +5,7 @@ use Rattle.std.proofs.lemmas.Grind.{flat_map-append}
 use Rattle.std.proofs.lemmas.List.{append-nil}
 use Rattle.object_layout.specs.declared.word.Addr.{Addr}
 use Rattle.task_frames.specs.declared.frames.Frame.{Frame}
-use Rattle.task_frames.specs.Stack.{references_of}
+use Rattle.task_frames.specs.FramesValue.{references_of}
 use Rattle.leaf_copy_gc.specs.Survivors.{held_by}
 
 pub frames_more : (g : Option Addr → List Addr) (fs : List Frame) (k : ℕ) → k < length fs → flat_map g (held_by (take (k + 1) fs)) ≡ flat_map g (held_by (take k fs)) ++ flat_map g (references_of fs k)

@@ -8,12 +8,12 @@ use Rattle.object_layout.specs.declared.word.Addr.{Addr}
 use Rattle.object_layout.specs.declared.word.Birth.{Birth}
 use Rattle.object_layout.specs.Cell.{Born, Hole, IsBorn, Mark, Moved}
 use Rattle.object_layout.specs.Chunks.{AreApart, cell_of, has_chunk, place_of}
-use Rattle.object_layout.specs.Content.{Content}
+use Rattle.object_layout.specs.ChunkValue.{ChunkValue}
 use Rattle.object_layout.specs.Graph.{IsClosed, IsHeld, IsSound}
 use Rattle.object_layout.specs.Objects.{Located, located}
 use Rattle.leaf_copy_gc.proofs.ListLemmas.{all_from}
-use Rattle.ledger_steps.specs.Accounts.{Rests, own}
-use Rattle.core_relation.specs.Value.{Chunk, In, Value, objects, objects_in}
+use Rattle.ledger_step_laws.specs.Accounts.{Rests, own}
+use Rattle.core_relation.specs.Memory.{Chunk, In, Memory, objects, objects_in}
 use Rattle.core_relation.specs.Stands.{Place, Stands}
 use Rattle.core_relation.proofs.objects.Members.{in_map}
 use Rattle.core_relation.proofs.notes.Roots.{index_of, name_at}
@@ -22,7 +22,7 @@ use Rattle.shared_value.proofs.CellsRead.{object_seen, seen_object}
 use Rattle.shared_value.proofs.RootsHeld.{chunk_in}
 
 -- what is held is read
-pub held_seen : (ks : List Content) (a : Addr) → IsHeld ks a → (o : Located) × In (objects_in (chunks_of ks)) o × (o.at ≡ a) × ((cell_of ks a).refs ≡ o.refs)
+pub held_seen : (ks : List ChunkValue) (a : Addr) → IsHeld ks a → (o : Located) × In (objects_in (chunks_of ks)) o × (o.at ≡ a) × ((cell_of ks a).refs ≡ o.refs)
 held_seen ks a h = by (cell_of ks a).mark refl h
   where
     by : (m : Mark) → (cell_of ks a).mark ≡ m → IsBorn m → (o : Located) × In (objects_in (chunks_of ks)) o × (o.at ≡ a) × ((cell_of ks a).refs ≡ o.refs)
@@ -31,10 +31,10 @@ held_seen ks a h = by (cell_of ks a).mark refl h
     by Hole e o = absurd o
 
 -- what is read is held, with the references that are read
-pub seen_held : (ks : List Content) → AreApart ks → (o : Located) → In (objects_in (chunks_of ks)) o → IsHeld ks o.at × ((cell_of ks o.at).refs ≡ o.refs)
+pub seen_held : (ks : List ChunkValue) → AreApart ks → (o : Located) → In (objects_in (chunks_of ks)) o → IsHeld ks o.at × ((cell_of ks o.at).refs ≡ o.refs)
 seen_held ks apart o i = let y = seen_object ks o apart i in (subst IsBorn (sym y.mark) tt, sym (ap (λ (z : Located). z.refs) y.is))
 
-module _ (v : Value) (l : Ledger) (V : Stands v l) (t : ℕ) (rests : Rests l t) (ks : List Content) (home : (v.homes t).chunks ≡ chunks_of ks) (apart : AreApart ks) (near : AreNear ks) where
+module _ (v : Memory) (l : Ledger) (V : Stands v l) (t : ℕ) (rests : Rests l t) (ks : List ChunkValue) (home : (v.homes t).chunks ≡ chunks_of ks) (apart : AreApart ks) (near : AreNear ks) where
   -- where a name is read
   pub sound_at : (n : Name) (a : Addr) → Place v l n a → IsSound ks (Some a)
   sound_at n a P inside =

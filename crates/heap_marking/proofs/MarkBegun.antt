@@ -3,7 +3,7 @@
 use Rattle.std.proofs.Common.{◌≡◌, ◌⊎◌, ◌↔◌, ℕ, suc, ◌+◌, ◌<◌, ◌≤◌, ◌++◌, true, Option, Some, None, List, [], ◌∷◌, length, slice_get, inl, inr, refl, ap, sym, subst, ◌∙◌}
 use Rattle.std.proofs.lemmas.Bool.{false≢true}
 use Rattle.listed.proofs.Members.{contains_from_in, in_append_cases, in_append_left, in_append_right, in_from_contains}
-use Rattle.walks.proofs.Reached.{reached_more, reached_start, reached_within}
+use Rattle.walk_laws.proofs.Reached.{reached_more, reached_start, reached_within}
 use Rattle.hh_model.specs.declared.data.Task.{Task}
 use Rattle.hh_model.specs.Step.{is_waiting}
 use Rattle.run_ledger.specs.declared.data.Ledger.{Ledger}
@@ -12,15 +12,15 @@ use Rattle.run_ledger.specs.Sound.{SoundLedger}
 use Rattle.run_ledger.proofs.Journals.{legal_sound}
 use Rattle.object_layout.specs.declared.word.Addr.{Addr}
 use Rattle.object_layout.specs.Chunks.{cell_of, object_count}
-use Rattle.object_layout.specs.Content.{Content}
+use Rattle.object_layout.specs.ChunkValue.{ChunkValue}
 use Rattle.object_layout.specs.Graph.{IsHeld, Leads}
 use Rattle.object_layout.specs.Objects.{Located}
 use Rattle.task_frames.specs.declared.frames.Frame.{Frame}
-use Rattle.inner_mark_gc.specs.Marks.{IsMarking, IsOf, Marks}
+use Rattle.inner_mark_gc.specs.MarkingValue.{IsMarking, IsOf, MarkingValue}
 use Rattle.inner_mark_gc.specs.Snapshot.{Fork, IsInSnapshot, Starts}
-use Rattle.ledger_steps.specs.Accounts.{Rests}
-use Rattle.ledger_steps.proofs.Split.{legal_idle}
-use Rattle.core_relation.specs.Value.{In, Value, object_name, objects, objects_in}
+use Rattle.ledger_step_laws.specs.Accounts.{Rests}
+use Rattle.ledger_step_laws.proofs.Split.{legal_idle}
+use Rattle.core_relation.specs.Memory.{In, Memory, object_name, objects, objects_in}
 use Rattle.core_relation.specs.Begins.{IsAt, IsRoot, LeadsAt}
 use Rattle.core_relation.specs.Marking.{GoesOn}
 use Rattle.core_relation.specs.Now.{IsReachedNow, StartsNow}
@@ -30,26 +30,26 @@ use Rattle.core_relation.proofs.whole.Past.{waiting_stops}
 use Rattle.core_relation.proofs.notes.SnapshotNow.{snapshot_now}
 use Rattle.shared_value.specs.declared.task_at_rest.Rest.{Rest}
 use Rattle.shared_value.specs.Objects.{chunks_of}
-use Rattle.shared_value.specs.World.{World, accounts, home_in, rest_at, totals_of, value_of}
-use Rattle.shared_value.specs.Stands.{HeapForm, IsWorld}
+use Rattle.shared_value.specs.SharedValue.{SharedValue, accounts, home_in, rest_at, totals_of, value_of}
+use Rattle.shared_value.specs.Stands.{HeapForm, IsSharedValue}
 use Rattle.shared_value.proofs.BeforeTheEnd.{stands_now}
 use Rattle.shared_value.proofs.RootsByAccounts.{home_chunks}
 use Rattle.shared_value.proofs.ObjectCounts.{objects_counted}
 use Rattle.heap_marking.specs.Marking.{MarksBegin}
 use Rattle.heap_marking.proofs.HeapClosed.{held_seen, seen_held}
 
-pub length_chunks : (cs : List Content) → length (chunks_of cs) ≡ length cs
+pub length_chunks : (cs : List ChunkValue) → length (chunks_of cs) ≡ length cs
 length_chunks [] = refl
 length_chunks (c ∷ cs) = ap suc (length_chunks cs)
 
-module _ (w : World) (I : IsWorld w) (on : (accounts w).end ≡ None) (t : ℕ) (r : Rest) (there : rest_at w.homes t ≡ Some r) (wait : is_waiting (slice_get (accounts w).machine.tasks t) ≡ true) (keeps : ((value_of w).noted t).keeps ≡ true) where
+module _ (w : SharedValue) (I : IsSharedValue w) (on : (accounts w).end ≡ None) (t : ℕ) (r : Rest) (there : rest_at w.homes t ≡ Some r) (wait : is_waiting (slice_get (accounts w).machine.tasks t) ≡ true) (keeps : ((value_of w).noted t).keeps ≡ true) where
   abbrev l : Ledger
   l = accounts w
 
-  abbrev v : Value
+  abbrev v : Memory
   v = value_of w
 
-  abbrev ks : List Content
+  abbrev ks : List ChunkValue
   ks = r.heap.chunks
 
   stands : StandsFor v (totals_of w) l
@@ -148,7 +148,7 @@ module _ (w : World) (I : IsWorld w) (on : (accounts w).end ≡ None) (t : ℕ) 
         ((λ g. s.0 (to_now o.at g)), (λ n. from_now o.at (s.1 n)))
 
     -- what the marking has then
-    pub begun_goes_on : (m : Marks) → IsOf ks (kept v t) m → IsMarking f (kept v t) m → GoesOn v t (heap_of l t).snapshot m
+    pub begun_goes_on : (m : MarkingValue) → IsOf ks (kept v t) m → IsMarking f (kept v t) m → GoesOn v t (heap_of l t).snapshot m
     begun_goes_on m own marks =
         let count : object_count ks ≡ length (objects v t) = objects_counted ks form.tidy ∙ ap (λ cs. length (objects_in cs)) (sym home_is) in
         let chunks : length ks ≡ length (v.homes t).chunks = sym (length_chunks ks) ∙ ap (λ cs. length cs) (sym home_is) in

@@ -11,12 +11,12 @@ use Rattle.run_ledger.specs.declared.data.Refused.TheVariants.{Left, Marked, Mar
 use Rattle.run_ledger.specs.Entries.{counted, refused_if, refused_unless}
 use Rattle.run_ledger.specs.Heaps.{heap_of, left_in, marked_in, sweep_number, words_in}
 use Rattle.heap_tree.specs.Node.{Node}
-use Rattle.inner_mark_gc.specs.Marks.{Marks}
+use Rattle.inner_mark_gc.specs.MarkingValue.{MarkingValue}
 use Rattle.core_relation.specs.Marking.{MarkedBy}
-use Rattle.core_relation.specs.Value.{Value}
+use Rattle.core_relation.specs.Memory.{Memory}
 use Rattle.core_relation.specs.Whole.{StandsFor, state_by}
 use Rattle.shared_value.specs.Causes.{or_else}
-use Rattle.shared_value.specs.World.{accounts, marks_at, noted_in, totals_of, value_of}
+use Rattle.shared_value.specs.SharedValue.{accounts, marks_at, noted_in, totals_of, value_of}
 use Rattle.shared_value.proofs.BeforeTheEnd.{stands_now}
 use Rattle.heap_marking.specs.MarkCauses.{MarksRefuse, is_state_waiting}
 
@@ -39,7 +39,7 @@ waits_by (Some m) None o e = absurd cc
 waits_by (Some m) (Some x) o e = ap (λ (y : Node). is_state_waiting (Some y.state)) (same_Some m (told o x) e) ∙ by_status x.status o
 
 -- WHAT IS MARKED
-pub marked_by : (v : Value) (l : Ledger) (t : ℕ) (o : Option Marks) → MarkedBy v l t o → is_some (heap_of l t).marked ≡ is_some o
+pub marked_by : (v : Memory) (l : Ledger) (t : ℕ) (o : Option MarkingValue) → MarkedBy v l t o → is_some (heap_of l t).marked ≡ is_some o
 marked_by v l t None M = ap is_some M
 marked_by v l t (Some m) M = ap is_some M.0.count
 

@@ -4,7 +4,7 @@ use Rattle.std.specs.Prelude.{unwrap_or}
 use Rattle.std.proofs.Math.Nat.{min-eq_left, min-eq_right}
 use Rattle.std.proofs.lemmas.Bool.{cases_lt}
 use Rattle.listed.proofs.Members.{contains_from_in, in_from_contains}
-use Rattle.walks.proofs.Reached.{reached_within}
+use Rattle.walk_laws.proofs.Reached.{reached_within}
 use Rattle.hh_model.specs.declared.data.Name.{Name}
 use Rattle.run_ledger.specs.declared.data.Heap.{Heap}
 use Rattle.run_ledger.specs.declared.data.Ledger.{Ledger}
@@ -14,17 +14,17 @@ use Rattle.object_layout.specs.declared.word.Addr.{Addr}
 use Rattle.object_layout.proofs.Distinct.{distinct_take}
 use Rattle.object_layout.specs.Graph.{IsHeld, Leads}
 use Rattle.object_layout.specs.Objects.{Located}
-use Rattle.inner_mark_gc.specs.Marks.{Marks, marked_of}
+use Rattle.inner_mark_gc.specs.MarkingValue.{MarkingValue, marked_of}
 use Rattle.inner_mark_gc.specs.Snapshot.{IsInSnapshot, Starts}
 use Rattle.inner_mark_gc.proofs.Marked.{in_take}
-use Rattle.ledger_steps.specs.Accounts.{Rests}
-use Rattle.ledger_steps.proofs.Ahead.{heap_then, with_at}
-use Rattle.core_relation.specs.Value.{In, Value, object_name, objects}
+use Rattle.ledger_step_laws.specs.Accounts.{Rests}
+use Rattle.ledger_step_laws.proofs.Ahead.{heap_then, with_at}
+use Rattle.core_relation.specs.Memory.{In, Memory, object_name, objects}
 use Rattle.core_relation.specs.Marking.{GoesOn, MarkedBy}
 use Rattle.core_relation.specs.Since.{kept}
 use Rattle.core_relation.specs.Whole.{StandsFor}
 use Rattle.core_relation.proofs.notes.MarksAll.{all_marked, few_marked}
-use Rattle.shared_value.specs.World.{accounts, totals_of, value_of}
+use Rattle.shared_value.specs.SharedValue.{accounts, totals_of, value_of}
 use Rattle.shared_value.proofs.BeforeTheEnd.{stands_now}
 use Rattle.heap_marking.specs.Marking.{MarksCount}
 use Rattle.heap_marking.proofs.MarkBegun as begun
@@ -36,7 +36,7 @@ take_long (suc n) [] le = absurd (omega (arith, le))
 take_long (suc n) (x ∷ xs) le = ap suc (take_long n xs (omega (arith, le)))
 
 -- what is marked is of the snapshot
-marked_each : (v : Value) (t : ℕ) (names : List Name) (m : Marks) → GoesOn v t names m → (a : Addr) → In (marked_of m) a → (q : Located) × In (objects v t) q × (q.at ≡ a) × In names (object_name q)
+marked_each : (v : Memory) (t : ℕ) (names : List Name) (m : MarkingValue) → GoesOn v t names m → (a : Addr) → In (marked_of m) a → (q : Located) × In (objects v t) q × (q.at ≡ a) × In names (object_name q)
 marked_each v t names m G a i =
     let reached = G.marks.each a (contains_from_in m.found a (in_take m.marked m.found a i)) in
     let held : IsHeld G.fork.heap a = reached_within (Starts G.fork (kept v t)) (Leads G.fork.heap) (IsHeld G.fork.heap) (λ x s. s.0) (λ b x h d. d.1) a reached in
@@ -59,7 +59,7 @@ counted_by k n a s b sum most few all = elim (cases_lt k n) [
 pub marks_count : MarksCount
 marks_count w k t r m m' n c I on there wait keeps at G' sum most last =
     let l : Ledger = accounts w in
-    let v : Value = value_of w in
+    let v : Memory = value_of w in
     let S : StandsFor v (totals_of w) l = stands_now w I on in
     let rests : Rests l t = begun.rests w I on t r there wait keeps in
     let M : MarkedBy v l t (Some m) = subst (MarkedBy v l t) at (S.marks t keeps) in

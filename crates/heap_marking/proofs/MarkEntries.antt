@@ -6,8 +6,8 @@ use Rattle.std.proofs.lemmas.Option.{get_or_from_slice_get}
 use Rattle.listed.proofs.Members.{got_other, got_same, got_within}
 use Rattle.hh_model.specs.declared.data.Task.{Task}
 use Rattle.run_trace.specs.declared.entry.Kind.TheVariants.{Mark, More}
-use Rattle.run_trace.specs.Entry.{Event}
-use Rattle.run_trace.specs.Settings.{Limits}
+use Rattle.run_trace.specs.Entry.{EntryValue}
+use Rattle.run_trace.specs.Settings.{SettingsValue}
 use Rattle.run_ledger.specs.declared.data.Heap.{Heap as Account}
 use Rattle.run_ledger.specs.declared.data.Ledger.{Ledger}
 use Rattle.run_ledger.specs.declared.data.Refused.{Refused}
@@ -19,13 +19,13 @@ use Rattle.run_ledger.proofs.Journals.{entry_tells, legal_sound}
 use Rattle.object_layout.specs.declared.word.Addr.{Addr}
 use Rattle.object_layout.specs.Chunks.{held_words}
 use Rattle.object_layout.specs.Graph.{IsHeld}
-use Rattle.alloc_path.specs.Heap.{counted}
+use Rattle.alloc_path.specs.LeafHeapValue.{counted}
 use Rattle.remembered_set.specs.Moved.{AreFields}
 use Rattle.write_barrier.specs.declared.sets.SetOf.{SetOf}
-use Rattle.inner_mark_gc.specs.Marks.{IsAllMarked, IsMarking, IsOf, Marks, marked_of}
+use Rattle.inner_mark_gc.specs.MarkingValue.{IsAllMarked, IsMarking, IsOf, MarkingValue, marked_of}
 use Rattle.inner_mark_gc.specs.Snapshot.{Fork, IsSince}
-use Rattle.ledger_steps.proofs.Ahead.{heap_then, with_at}
-use Rattle.ledger_steps.proofs.Split.{legal_idle}
+use Rattle.ledger_step_laws.proofs.Ahead.{heap_then, with_at}
+use Rattle.ledger_step_laws.proofs.Split.{legal_idle}
 use Rattle.core_relation.specs.Marking.{GoesOn}
 use Rattle.core_relation.specs.Since.{kept}
 use Rattle.core_relation.proofs.whole.Past.{waiting_stops}
@@ -35,8 +35,8 @@ use Rattle.shared_value.specs.Entered.{refused}
 use Rattle.shared_value.specs.Fits.{AllFit}
 use Rattle.shared_value.specs.RestingHeaps.{refs_in}
 use Rattle.shared_value.specs.Roots.{heaps_of, sources_of}
-use Rattle.shared_value.specs.World.{World, accounts, flat, home_in, marks_at, noted_in, rest_at, value_of}
-use Rattle.shared_value.specs.Stands.{IsWorld}
+use Rattle.shared_value.specs.SharedValue.{SharedValue, accounts, flat, home_in, marks_at, noted_in, rest_at, value_of}
+use Rattle.shared_value.specs.Stands.{IsSharedValue}
 use Rattle.shared_value.proofs.HeapWords.{words_are}
 use Rattle.shared_value.proofs.EntryMade.{entry_on}
 use Rattle.shared_value.proofs.FirstCauses.{found_first, nothing_first}
@@ -65,7 +65,7 @@ if_none : (b : Bool) (c : Refused) (rest : Option Refused) → refused_if b c re
 if_none true c rest e = absurd cc
 if_none false c rest e = refl
 
-kind_free : (w : World) (e : Event) → refused w e ≡ None → kind_refusal w.program w.settings (accounts w) e.worker e.kind ≡ None
+kind_free : (w : SharedValue) (e : EntryValue) → refused w e ≡ None → kind_refusal w.program w.settings (accounts w) e.worker e.kind ≡ None
 kind_free w e free = is_none_of (kind_refusal w.program w.settings (accounts w) e.worker e.kind) (entry_tells w.program w.settings (accounts w) e (ap is_none free)).2
   where
     is_none_of : (o : Option Refused) → is_none o ≡ true → o ≡ None
@@ -73,7 +73,7 @@ kind_free w e free = is_none_of (kind_refusal w.program w.settings (accounts w) 
     is_none_of (Some c) h = absurd cc
 
 -- a heap's words, as far as 64 bits count them, tell as much of whether its marking is due
-due_by : (s : Limits) (n : ℕ) → s.inner < 2 ^ 32 → words_cause s (counted n) ≡ words_cause s n
+due_by : (s : SettingsValue) (n : ℕ) → s.inner < 2 ^ 32 → words_cause s (counted n) ≡ words_cause s n
 due_by s n few = elim (cases_lt n (2 ^ 64 - 1)) [
   | inl lt ↦ ap (words_cause s) (let q : counted n ≡ n = omega (arith, lt) in q)
   | inr le ↦ due (counted n) (omega (arith, le, few)) ∙ sym (due n (omega (arith, le, few)))
@@ -82,7 +82,7 @@ due_by s n few = elim (cases_lt n (2 ^ 64 - 1)) [
     due : (z : ℕ) → s.inner ≤ z → words_cause s z ≡ None
     due z big = ap (λ b. refused_unless b (NotDue z) None) (le-leb s.inner z big)
 
-module _ (w : World) (I : IsWorld w) (k t : ℕ) where
+module _ (w : SharedValue) (I : IsSharedValue w) (k t : ℕ) where
   abbrev l : Ledger
   l = accounts w
 
@@ -135,7 +135,7 @@ module _ (w : World) (I : IsWorld w) (k t : ℕ) where
       (or_none (marking_cause w t) _ (sym ((marks_refuse w k t I on).more n) ∙ kind_free w (record { worker = k; kind = More t n }) free)).0
 
 -- ITS WORDS, of a heap whose task waits
-pub words_now : (w : World) (I : IsWorld w) (t : ℕ) (on : (accounts w).end ≡ None) → waiting_cause w t ≡ None → (r : Rest) → rest_at w.homes t ≡ Some r → words_in (accounts w).machine (heap_of (accounts w) t) ≡ held_words r.heap.chunks
+pub words_now : (w : SharedValue) (I : IsSharedValue w) (t : ℕ) (on : (accounts w).end ≡ None) → waiting_cause w t ≡ None → (r : Rest) → rest_at w.homes t ≡ Some r → words_in (accounts w).machine (heap_of (accounts w) t) ≡ held_words r.heap.chunks
 words_now w I t on free r there =
     let l : Ledger = accounts w in
     let wait = homes.wait w I on t free in
@@ -151,21 +151,21 @@ kept_is sets t s keeps is = by (slice_get sets t) refl keeps
     by (Some x) e h = ap (λ (z : SetOf). z.kept.items) (is ∙ get_or_from_slice_get sets t x s e)
 
 -- THE MARKING that begins
-pub mark_goes : (w : World) (I : IsWorld w) (t : ℕ) (on : (accounts w).end ≡ None) → waiting_cause w t ≡ None → (r : Rest) → rest_at w.homes t ≡ Some r → (m : Marks) → ((kept : List Addr) → IsOf r.heap.chunks kept m)
+pub mark_goes : (w : SharedValue) (I : IsSharedValue w) (t : ℕ) (on : (accounts w).end ≡ None) → waiting_cause w t ≡ None → (r : Rest) → rest_at w.homes t ≡ Some r → (m : MarkingValue) → ((kept : List Addr) → IsOf r.heap.chunks kept m)
     → ((f : Fork) (kept : List Addr) → f.roots ≡ starts_of w t → ((a : Addr) → IsHeld f.heap a ↔ IsHeld r.heap.chunks a) → IsMarking f kept m) → GoesOn (value_of w) t (heap_of (accounts w) t).snapshot m
 mark_goes w I t on free r there m own marking =
     let wait = homes.wait w I on t free in
     marks_begin w t r (starts_of w t) m I on there wait (homes.keeps w I on t free) (starts_are w I on t r there wait) (own (kept (value_of w) t))
     (marking (record { heap = r.heap.chunks; roots = starts_of w t }) (kept (value_of w) t) refl (λ a. ((λ h. h), (λ h. h))))
 
-pub mark_holds : (w : World) (I : IsWorld w) (t : ℕ) (on : (accounts w).end ≡ None) → waiting_cause w t ≡ None → (r : Rest) → rest_at w.homes t ≡ Some r → All (IsHeld r.heap.chunks) (starts_of w t)
+pub mark_holds : (w : SharedValue) (I : IsSharedValue w) (t : ℕ) (on : (accounts w).end ≡ None) → waiting_cause w t ≡ None → (r : Rest) → rest_at w.homes t ≡ Some r → All (IsHeld r.heap.chunks) (starts_of w t)
 mark_holds w I t on free r there = starts_held w I on t r there (homes.wait w I on t free) (homes.keeps w I on t free)
 
-pub mark_fields : (w : World) (I : IsWorld w) (t : ℕ) (on : (accounts w).end ≡ None) → waiting_cause w t ≡ None → AreFields refs_in (heaps_of w) (sources_of (slice_get w.sets t))
+pub mark_fields : (w : SharedValue) (I : IsSharedValue w) (t : ℕ) (on : (accounts w).end ≡ None) → waiting_cause w t ≡ None → AreFields refs_in (heaps_of w) (sources_of (slice_get w.sets t))
 mark_fields w I t on free = let r = homes.rest w I on t free in fields_there w I on t r.0 r.1 (homes.wait w I on t free)
 
 -- it begins at objects of the heap
-pub mark_starts : (w : World) (I : IsWorld w) (t : ℕ) (on : (accounts w).end ≡ None) → waiting_cause w t ≡ None → IfSome (rest_at w.homes t) (λ r. All (IsHeld r.heap.chunks) (starts_in (heaps_of w) (sources_of (slice_get w.sets t)) r))
+pub mark_starts : (w : SharedValue) (I : IsSharedValue w) (t : ℕ) (on : (accounts w).end ≡ None) → waiting_cause w t ≡ None → IfSome (rest_at w.homes t) (λ r. All (IsHeld r.heap.chunks) (starts_in (heaps_of w) (sources_of (slice_get w.sets t)) r))
 mark_starts w I t on free = by (rest_at w.homes t) refl
   where
     by : (o : Option Rest) → rest_at w.homes t ≡ o → IfSome o (λ r. All (IsHeld r.heap.chunks) (starts_in (heaps_of w) (sources_of (slice_get w.sets t)) r))
@@ -173,7 +173,7 @@ mark_starts w I t on free = by (rest_at w.homes t) refl
     by (Some r) e = subst (λ xs. All (IsHeld r.heap.chunks) xs) (ap (starts_by (heaps_of w) (sources_of (slice_get w.sets t))) e) (mark_holds w I t on free r e)
 
 -- and goes on to just the snapshot
-pub mark_begun : (w : World) (I : IsWorld w) (t : ℕ) (on : (accounts w).end ≡ None) → waiting_cause w t ≡ None → (m : Marks) → IfSome (rest_at w.homes t) (λ r. IsBegun r.heap.chunks (starts_in (heaps_of w) (sources_of (slice_get w.sets t)) r) m)
+pub mark_begun : (w : SharedValue) (I : IsSharedValue w) (t : ℕ) (on : (accounts w).end ≡ None) → waiting_cause w t ≡ None → (m : MarkingValue) → IfSome (rest_at w.homes t) (λ r. IsBegun r.heap.chunks (starts_in (heaps_of w) (sources_of (slice_get w.sets t)) r) m)
     → (m.marked ≡ 0) × GoesOn (value_of w) t (heap_of (accounts w) t).snapshot m
 mark_begun w I t on free m B =
     let r = homes.rest w I on t free in
@@ -191,10 +191,10 @@ account_there ts hs k same lt = by hs k (omega (arith, same, lt))
     by (h ∷ hs) zero lt = (h, refl)
     by (h ∷ hs) (suc k) lt = by hs k (omega (arith, lt))
 
-module _ (w : World) (I : IsWorld w) (k t : ℕ) (m : Marks) (marks : List (Option Marks)) (room : ℕ) (at : marks_at marks t ≡ Some m) (others : (u : ℕ) → (u ≡ t → ⊥) → marks_at marks u ≡ marks_at w.marks u) where
+module _ (w : SharedValue) (I : IsSharedValue w) (k t : ℕ) (m : MarkingValue) (marks : List (Option MarkingValue)) (room : ℕ) (at : marks_at marks t ≡ Some m) (others : (u : ℕ) → (u ≡ t → ⊥) → marks_at marks u ≡ marks_at w.marks u) where
   -- a marking that has marked nothing yet
   pub mark_enters : refused w (record { worker = k; kind = Mark t }) ≡ None → m.marked ≡ 0 → GoesOn (value_of w) t (heap_of (accounts w) t).snapshot m
-      → IsWorld (marked_more w (record { worker = k; kind = Mark t }) marks room) × AllFit w (marked_more w (record { worker = k; kind = Mark t }) marks room)
+      → IsSharedValue (marked_more w (record { worker = k; kind = Mark t }) marks room) × AllFit w (marked_more w (record { worker = k; kind = Mark t }) marks room)
   mark_enters free none G =
       let l : Ledger = accounts w in
       let on = entry_on w (record { worker = k; kind = Mark t }) free in
@@ -207,7 +207,7 @@ module _ (w : World) (I : IsWorld w) (k t : ℕ) (m : Marks) (marks : List (Opti
       marks_enter w k (Mark t) t m marks room I free refl at others (then_ ∙ ap Some (ap (λ n. length (take n m.found)) (sym none))) G
 
 -- objects more are marked
-module _ (w : World) (I : IsWorld w) (k t n : ℕ) (free : refused w (record { worker = k; kind = More t n }) ≡ None) (r : Rest) (m m' : Marks) (count : ℕ) (there : rest_at w.homes t ≡ Some r) (at : marks_at w.marks t ≡ Some m)
+module _ (w : SharedValue) (I : IsSharedValue w) (k t n : ℕ) (free : refused w (record { worker = k; kind = More t n }) ≡ None) (r : Rest) (m m' : MarkingValue) (count : ℕ) (there : rest_at w.homes t ≡ Some r) (at : marks_at w.marks t ≡ Some m)
     (own : IsOf r.heap.chunks (kept (value_of w) t) m') (sum : m'.marked ≡ m.marked + count) (most : count ≤ n) (marking : (f : Fork) → IsSince f (kept (value_of w) t) r.heap.chunks → IsMarking f (kept (value_of w) t) m → IsMarking f (kept (value_of w) t) m')
     (left : (f : Fork) → IsSince f (kept (value_of w) t) r.heap.chunks → IsMarking f (kept (value_of w) t) m → count < n → IsAllMarked f (kept (value_of w) t) m') where
   on : (accounts w).end ≡ None
@@ -225,12 +225,12 @@ module _ (w : World) (I : IsWorld w) (k t n : ℕ) (free : refused w (record { w
   pub some_count : count ≡ min n (left_in (heap_of (accounts w) t))
   some_count = counts.0
 
-  pub some_enters : (marks : List (Option Marks)) (room : ℕ) → marks_at marks t ≡ Some m' → ((u : ℕ) → (u ≡ t → ⊥) → marks_at marks u ≡ marks_at w.marks u)
-      → IsWorld (marked_more w (record { worker = k; kind = More t n }) marks room) × AllFit w (marked_more w (record { worker = k; kind = More t n }) marks room)
+  pub some_enters : (marks : List (Option MarkingValue)) (room : ℕ) → marks_at marks t ≡ Some m' → ((u : ℕ) → (u ≡ t → ⊥) → marks_at marks u ≡ marks_at w.marks u)
+      → IsSharedValue (marked_more w (record { worker = k; kind = More t n }) marks room) × AllFit w (marked_more w (record { worker = k; kind = More t n }) marks room)
   some_enters marks room here others = marks_enter w k (More t n) t m' marks room I free refl here others counts.1 goes
 
 -- a marking that was taken out and put back
-pub put_back : (ms : List (Option Marks)) (t : ℕ) (o : Option Marks) (m : Marks) → t < length ms → (marks_at (slice_set (slice_set ms t o) t (Some m)) t ≡ Some m) × ((u : ℕ) → (u ≡ t → ⊥) → marks_at (slice_set (slice_set ms t o) t (Some m)) u ≡ marks_at ms u)
+pub put_back : (ms : List (Option MarkingValue)) (t : ℕ) (o : Option MarkingValue) (m : MarkingValue) → t < length ms → (marks_at (slice_set (slice_set ms t o) t (Some m)) t ≡ Some m) × ((u : ℕ) → (u ≡ t → ⊥) → marks_at (slice_set (slice_set ms t o) t (Some m)) u ≡ marks_at ms u)
 put_back ms t o m lt = (
   ap flat (got_same (slice_set ms t o) t o (Some m) (put_there ms t o lt)),
   λ u ne. ap flat (got_other (slice_set ms t o) t u (Some m) ne ∙ got_other ms t u o ne),

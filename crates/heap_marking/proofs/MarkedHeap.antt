@@ -9,16 +9,16 @@ use Rattle.run_ledger.specs.declared.data.Refused.TheVariants.{NotMarking}
 use Rattle.run_ledger.specs.Entries.{refused_unless}
 use Rattle.run_ledger.specs.Heaps.{heap_of, left_in}
 use Rattle.write_barrier.specs.declared.sets.SetOf.{SetOf}
-use Rattle.inner_mark_gc.specs.Marks.{IsAllMarked, IsMarking, Marks}
+use Rattle.inner_mark_gc.specs.MarkingValue.{IsAllMarked, IsMarking, MarkingValue}
 use Rattle.inner_mark_gc.specs.Snapshot.{Fork, IsSince}
 use Rattle.core_relation.specs.Marking.{MarkedBy}
 use Rattle.core_relation.specs.Since.{kept}
-use Rattle.core_relation.specs.Value.{Value}
+use Rattle.core_relation.specs.Memory.{Memory}
 use Rattle.core_relation.specs.Whole.{StandsFor}
 use Rattle.shared_value.specs.declared.task_at_rest.Rest.{Rest}
 use Rattle.shared_value.specs.Causes.{or_else}
-use Rattle.shared_value.specs.World.{World, accounts, flat, marks_at, noted_in, rest_at, totals_of, value_of}
-use Rattle.shared_value.specs.Stands.{IsWorld}
+use Rattle.shared_value.specs.SharedValue.{SharedValue, accounts, flat, marks_at, noted_in, rest_at, totals_of, value_of}
+use Rattle.shared_value.specs.Stands.{IsSharedValue}
 use Rattle.shared_value.proofs.BeforeTheEnd.{stands_now}
 use Rattle.heap_marking.specs.MarkCauses.{marking_cause, waiting_cause}
 use Rattle.heap_marking.specs.Marking.{Further}
@@ -33,11 +33,11 @@ or_none (Some c) b e = absurd cc
 or_none None false e = absurd cc
 or_none None true e = (refl, refl)
 
-module _ (w : World) (I : IsWorld w) (on : (accounts w).end ≡ None) (t : ℕ) (free : marking_cause w t ≡ None) where
+module _ (w : SharedValue) (I : IsSharedValue w) (on : (accounts w).end ≡ None) (t : ℕ) (free : marking_cause w t ≡ None) where
   abbrev l : Ledger
   l = accounts w
 
-  abbrev v : Value
+  abbrev v : Memory
   v = value_of w
 
   S : StandsFor v (totals_of w) l
@@ -55,7 +55,7 @@ module _ (w : World) (I : IsWorld w) (on : (accounts w).end ≡ None) (t : ℕ) 
   pub rest : (r : Rest) × (rest_at w.homes t ≡ Some r)
   rest = homes.rest w I on t tells.0
 
-  pub marks : (m : Marks) × (marks_at w.marks t ≡ Some m)
+  pub marks : (m : MarkingValue) × (marks_at w.marks t ≡ Some m)
   marks = some_of (marks_at w.marks t) tells.1
 
   pub never_gone : rest_at w.homes t ≡ None → ⊥
@@ -64,7 +64,7 @@ module _ (w : World) (I : IsWorld w) (on : (accounts w).end ≡ None) (t : ℕ) 
   pub never_unmarked : marks_at w.marks t ≡ None → ⊥
   never_unmarked none = by (marks_at w.marks t) none tells.1
     where
-      by : (o : Option Marks) → o ≡ None → is_some o ≡ true → ⊥
+      by : (o : Option MarkingValue) → o ≡ None → is_some o ≡ true → ⊥
       by None e h = absurd cc
       by (Some x) e h = absurd cc
 
@@ -84,14 +84,14 @@ module _ (w : World) (I : IsWorld w) (on : (accounts w).end ≡ None) (t : ℕ) 
   pub marks_within : t < length w.marks
   marks_within = within w.marks (tells.1)
     where
-      within : (ms : List (Option Marks)) → is_some (marks_at ms t) ≡ true → t < length ms
+      within : (ms : List (Option MarkingValue)) → is_some (marks_at ms t) ≡ true → t < length ms
       within ms h = by (slice_get ms t) refl h
         where
-          by : (o : Option (Option Marks)) → slice_get ms t ≡ o → is_some (flat o) ≡ true → t < length ms
+          by : (o : Option (Option MarkingValue)) → slice_get ms t ≡ o → is_some (flat o) ≡ true → t < length ms
           by None e h = absurd cc
           by (Some o) e h = got_within ms t o e
 
-  module _ (r : Rest) (m : Marks) (there : rest_at w.homes t ≡ Some r) (at : marks_at w.marks t ≡ Some m) where
+  module _ (r : Rest) (m : MarkingValue) (there : rest_at w.homes t ≡ Some r) (at : marks_at w.marks t ≡ Some m) where
     M : MarkedBy v l t (Some m)
     M = subst (MarkedBy v l t) at (S.marks t keeps)
 

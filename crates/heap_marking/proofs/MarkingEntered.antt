@@ -4,12 +4,12 @@ use Rattle.std.specs.List.{AllByRecursion, IsDistinct}
 use Rattle.std.specs.Prelude.{◌==◌}
 use Rattle.std.proofs.lemmas.Bool.{and_parts, cases_eq, eqb-true}
 use Rattle.listed.proofs.Members.{contains_from_in, in_from_contains}
-use Rattle.walks.proofs.Reached.{reached_within}
+use Rattle.walk_laws.proofs.Reached.{reached_within}
 use Rattle.hh_model.specs.declared.data.State.{State}
 use Rattle.hh_model.specs.Effect.{row_of}
 use Rattle.hh_model.specs.Step.{is_joined}
 use Rattle.run_trace.specs.declared.entry.Kind.TheVariants.{Took, Ran, Chunk, Begin, End, PutOff, Mark, More, Sweep, Fuel}
-use Rattle.run_trace.specs.Entry.{Event}
+use Rattle.run_trace.specs.Entry.{EntryValue}
 use Rattle.run_ledger.specs.declared.data.Heap.{Heap}
 use Rattle.run_ledger.specs.declared.data.Ledger.{Ledger}
 use Rattle.run_ledger.specs.Heaps.{heap_of, left_in, marked_in, or_fresh, with_heap}
@@ -19,12 +19,12 @@ use Rattle.object_layout.specs.Chunks.{same_address}
 use Rattle.object_layout.specs.Graph.{IsHeld, Leads}
 use Rattle.object_layout.proofs.Distinct.{distinct_take}
 use Rattle.object_layout.specs.Objects.{Located}
-use Rattle.inner_mark_gc.specs.Marks.{Marks, marked_of}
+use Rattle.inner_mark_gc.specs.MarkingValue.{MarkingValue, marked_of}
 use Rattle.inner_mark_gc.specs.Snapshot.{IsInSnapshot, Starts}
 use Rattle.inner_mark_gc.proofs.Marked.{in_take}
-use Rattle.ledger_steps.proofs.Ahead.{heap_then, with_at, with_machine, with_off}
-use Rattle.ledger_steps.specs.Accounts.{Rests}
-use Rattle.core_relation.specs.Value.{In, Value, object_name, objects}
+use Rattle.ledger_step_laws.proofs.Ahead.{heap_then, with_at, with_machine, with_off}
+use Rattle.ledger_step_laws.specs.Accounts.{Rests}
+use Rattle.core_relation.specs.Memory.{In, Memory, object_name, objects}
 use Rattle.core_relation.specs.Changes.{SameObjects}
 use Rattle.core_relation.specs.Counts.{CountsGo, IsMarked, IsQuiet}
 use Rattle.core_relation.specs.Marking.{GoesOn, MarkedBy}
@@ -36,8 +36,8 @@ use Rattle.core_relation.specs.Whole.{StandsFor}
 use Rattle.core_relation.specs.Worker.{IsBy}
 use Rattle.core_relation.proofs.whole.EntriesWhole.{quiet_stands_for}
 use Rattle.core_relation.proofs.parts.WorkersPast.{quiet_leaves}
-use Rattle.shared_value.specs.World.{World, accounts, marks_at, totals_of, value_of}
-use Rattle.shared_value.specs.Stands.{IsWorld}
+use Rattle.shared_value.specs.SharedValue.{SharedValue, accounts, marks_at, totals_of, value_of}
+use Rattle.shared_value.specs.Stands.{IsSharedValue}
 use Rattle.shared_value.specs.Fits.{AllFit, part_of}
 use Rattle.shared_value.specs.Entered.{refused}
 use Rattle.shared_value.proofs.EntryMade.{entry_on}
@@ -46,7 +46,7 @@ use Rattle.shared_value.proofs.BeforeTheEnd.{stands_now}
 use Rattle.heap_marking.specs.Marking.{MarksEnter}
 
 -- a home whose account has another count of marks alone
-home_marked : (v v' : Value) (l L : Ledger) (t : ℕ) (o : Option ℕ) → v'.homes t ≡ v.homes t → ((k : ℕ) → v.owner k ≡ Some t → v'.owner k ≡ Some t) → L.machine ≡ l.machine → heap_of L t ≡ record (heap_of l t) { marked = o } → HomeStands v l t → HomeStands v' L t
+home_marked : (v v' : Memory) (l L : Ledger) (t : ℕ) (o : Option ℕ) → v'.homes t ≡ v.homes t → ((k : ℕ) → v.owner k ≡ Some t → v'.owner k ≡ Some t) → L.machine ≡ l.machine → heap_of L t ≡ record (heap_of l t) { marked = o } → HomeStands v l t → HomeStands v' L t
 home_marked v v' l L t o homes owner machine heap H =
     let before : HomeStands v' l t = home_kept v v' l l t homes owner refl refl refl H in
     record {
@@ -61,7 +61,7 @@ home_marked v v' l L t o homes owner machine heap H =
       laid = subst (λ (h : Heap). AreLaidOut (v'.homes t).chunks h.reserved) (sym heap) before.laid;
     }
 
-module _ (w : World) (e : Event) (I : IsWorld w) (free : refused w e ≡ None) (quiet : IsQuiet e.kind) (t : ℕ) (m : Marks) (marks : List (Option Marks)) (room : ℕ)
+module _ (w : SharedValue) (e : EntryValue) (I : IsSharedValue w) (free : refused w e ≡ None) (quiet : IsQuiet e.kind) (t : ℕ) (m : MarkingValue) (marks : List (Option MarkingValue)) (room : ℕ)
     (at_t : marks_at marks t ≡ Some m) (off_t : (u : ℕ) → (u ≡ t → ⊥) → marks_at marks u ≡ marks_at w.marks u) (only : (u : ℕ) → IsMarked e.kind u → u ≡ t) (is_marked : IsMarked e.kind t) (by_none : (u : ℕ) → IsBy e.kind u → ⊥) where
   abbrev pub l : Ledger
   l = accounts w
@@ -69,13 +69,13 @@ module _ (w : World) (e : Event) (I : IsWorld w) (free : refused w e ≡ None) (
   abbrev pub L : Ledger
   L = after w.program w.settings l e
 
-  abbrev pub w' : World
+  abbrev pub w' : SharedValue
   w' = entered_marks w e w.tree w.pool w.homes w.sets w.hands w.outputs w.steps w.end room marks
 
-  abbrev v : Value
+  abbrev v : Memory
   v = value_of w
 
-  abbrev v' : Value
+  abbrev v' : Memory
   v' = value_of w'
 
   module _ (machine : L.machine ≡ l.machine) (heap_t : heap_of L t ≡ record (heap_of l t) { marked = Some (length (marked_of m)) }) (heaps : (u : ℕ) → (u ≡ t → ⊥) → heap_of L u ≡ heap_of l u)
@@ -150,7 +150,7 @@ module _ (w : World) (e : Event) (I : IsWorld w) (free : refused w e ≡ None) (
     marks_on : (u : ℕ) → IsMarked e.kind u → MarksOn v v' L u
     marks_on u k = record { keeps = refl; kept = refl; marks = subst (λ z. MarkedBy v' L z (marks_at marks z)) (sym (only u k)) (subst (MarkedBy v' L t) (sym at_t) marked_now) }
 
-    pub marking_world : IsWorld w'
+    pub marking_world : IsSharedValue w'
     marking_world =
         marked_world w e I free w.tree w.pool w.homes w.sets w.hands w.outputs w.steps w.end room marks I.made I.noted refl refl
         (quiet_stands_for w.program w.settings w.journal.items I.form I.legal v v' (totals_of w) (totals_of w') e free quiet I.stands same notes marks_on counts)
@@ -178,7 +178,7 @@ heap_by l t n f alone count = by (slice_get l.heaps t) refl
 
 pub marks_enter : MarksEnter
 marks_enter w k (Mark u) t m marks room I free just at off count G =
-    let e : Event = record { worker = k; kind = Mark u } in
+    let e : EntryValue = record { worker = k; kind = Mark u } in
     let l : Ledger = accounts w in
     let f : Heap → Heap = λ h. record h { marked = Some 0 } in
     let only : (z : ℕ) → IsMarked e.kind z → z ≡ t = λ z q. sym q ∙ just in
@@ -190,7 +190,7 @@ marks_enter w k (Mark u) t m marks room I free just at off count G =
       marking_fits w e I free tt t m marks room at off only just (λ z q. q) (with_machine l u f) heap_t heaps counts G,
     )
 marks_enter w k (More u n) t m marks room I free just at off count G =
-    let e : Event = record { worker = k; kind = More u n } in
+    let e : EntryValue = record { worker = k; kind = More u n } in
     let l : Ledger = accounts w in
     let f : Heap → Heap = λ h. record h { marked = Some (marked_in h + min n (left_in h)) } in
     let only : (z : ℕ) → IsMarked e.kind z → z ≡ t = λ z q. sym q ∙ just in

@@ -3,7 +3,7 @@ use Rattle.std.proofs.Common.{◌≡◌, ◌⊎◌, ◌↔◌, ℕ, ◌+◌, ◌
 use Rattle.std.proofs.lemmas.Bool.{false≢true}
 use Rattle.std.proofs.lemmas.List.Elements.{All-cons, All-nil}
 use Rattle.listed.proofs.Members.{contains_from_in, in_from_contains}
-use Rattle.walks.proofs.Reached.{reached_more, reached_within}
+use Rattle.walk_laws.proofs.Reached.{reached_more, reached_within}
 use Rattle.hh_model.specs.declared.data.Task.{Task}
 use Rattle.hh_model.specs.Step.{is_waiting}
 use Rattle.run_ledger.specs.declared.data.Ledger.{Ledger}
@@ -12,13 +12,13 @@ use Rattle.run_ledger.proofs.History.{snapshots_are_held}
 use Rattle.run_ledger.proofs.Journals.{legal_sound}
 use Rattle.object_layout.specs.declared.word.Addr.{Addr}
 use Rattle.object_layout.specs.Chunks.{cell_of, object_count}
-use Rattle.object_layout.specs.Content.{Content}
+use Rattle.object_layout.specs.ChunkValue.{ChunkValue}
 use Rattle.object_layout.specs.Graph.{IsClosed, IsHeld, Leads}
 use Rattle.object_layout.specs.Objects.{Located}
-use Rattle.inner_mark_gc.specs.Marks.{IsAllMarked, IsMarking, IsOf, Marks, marked_of}
+use Rattle.inner_mark_gc.specs.MarkingValue.{IsAllMarked, IsMarking, IsOf, MarkingValue, marked_of}
 use Rattle.inner_mark_gc.specs.Snapshot.{Fork, IsInSnapshot, IsSince, Starts}
-use Rattle.ledger_steps.specs.Accounts.{Rests}
-use Rattle.core_relation.specs.Value.{In, Value, object_name, objects, objects_in}
+use Rattle.ledger_step_laws.specs.Accounts.{Rests}
+use Rattle.core_relation.specs.Memory.{In, Memory, object_name, objects, objects_in}
 use Rattle.core_relation.specs.Begins.{LeadsAt}
 use Rattle.core_relation.specs.Marking.{GoesOn, MarksStand}
 use Rattle.core_relation.proofs.notes.MarksAll.{marks_are_all}
@@ -28,8 +28,8 @@ use Rattle.core_relation.specs.Whole.{StandsFor}
 use Rattle.core_relation.proofs.notes.Rooted.{lies_in}
 use Rattle.core_relation.proofs.notes.SnapshotNow.{snapshot_now}
 use Rattle.shared_value.specs.declared.task_at_rest.Rest.{Rest}
-use Rattle.shared_value.specs.World.{World, accounts, rest_at, totals_of, value_of}
-use Rattle.shared_value.specs.Stands.{HeapForm, IsWorld}
+use Rattle.shared_value.specs.SharedValue.{SharedValue, accounts, rest_at, totals_of, value_of}
+use Rattle.shared_value.specs.Stands.{HeapForm, IsSharedValue}
 use Rattle.shared_value.proofs.ObjectCounts.{objects_counted}
 use Rattle.shared_value.proofs.BeforeTheEnd.{stands_now}
 use Rattle.heap_marking.specs.Marking.{MarksGoFurther}
@@ -40,15 +40,15 @@ all_in : {A : Type 0} (P : A → Type 0) (xs : List A) → ((x : A) → In xs x 
 all_in P [] f = All-nil P
 all_in P (x ∷ xs) f = All-cons P x xs (f x (inl refl)) (all_in P xs (λ y i. f y (inr i)))
 
-module _ (w : World) (I : IsWorld w) (on : (accounts w).end ≡ None) (t : ℕ) (r : Rest) (there : rest_at w.homes t ≡ Some r) (wait : is_waiting (slice_get (accounts w).machine.tasks t) ≡ true) (keeps : ((value_of w).noted t).keeps ≡ true)
-    (m : Marks) (G : GoesOn (value_of w) t (heap_of (accounts w) t).snapshot m) where
+module _ (w : SharedValue) (I : IsSharedValue w) (on : (accounts w).end ≡ None) (t : ℕ) (r : Rest) (there : rest_at w.homes t ≡ Some r) (wait : is_waiting (slice_get (accounts w).machine.tasks t) ≡ true) (keeps : ((value_of w).noted t).keeps ≡ true)
+    (m : MarkingValue) (G : GoesOn (value_of w) t (heap_of (accounts w) t).snapshot m) where
   abbrev l : Ledger
   l = accounts w
 
-  abbrev v : Value
+  abbrev v : Memory
   v = value_of w
 
-  abbrev ks : List Content
+  abbrev ks : List ChunkValue
   ks = r.heap.chunks
 
   stands : StandsFor v (totals_of w) l
@@ -104,7 +104,7 @@ module _ (w : World) (I : IsWorld w) (on : (accounts w).end ≡ None) (t : ℕ) 
   }
 
   -- what was marked further can go on
-  pub goes_further : (m' : Marks) → IsOf ks (kept v t) m' → ((f : Fork) → IsSince f (kept v t) ks → IsMarking f (kept v t) m → IsMarking f (kept v t) m') → GoesOn v t (heap_of l t).snapshot m'
+  pub goes_further : (m' : MarkingValue) → IsOf ks (kept v t) m' → ((f : Fork) → IsSince f (kept v t) ks → IsMarking f (kept v t) m → IsMarking f (kept v t) m') → GoesOn v t (heap_of l t).snapshot m'
   goes_further m' own marks =
       let count : object_count ks ≡ length (objects v t) = objects_counted ks form.tidy ∙ ap (λ cs. length (objects_in cs)) (sym (begun.home_is w I on t r there wait keeps)) in
       let chunks : length ks ≡ length (v.homes t).chunks = sym (begun.length_chunks ks) ∙ ap (λ cs. length cs) (sym (begun.home_is w I on t r there wait keeps)) in

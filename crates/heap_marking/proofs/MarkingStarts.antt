@@ -10,21 +10,21 @@ use Rattle.hh_model.specs.Step.{is_waiting, waits}
 use Rattle.run_ledger.specs.declared.data.Ledger.{Ledger}
 use Rattle.object_layout.specs.declared.word.Addr.{Addr}
 use Rattle.object_layout.specs.Chunks.{has_chunk}
-use Rattle.object_layout.specs.Content.{Content}
+use Rattle.object_layout.specs.ChunkValue.{ChunkValue}
 use Rattle.object_layout.specs.Graph.{IsHeld}
 use Rattle.object_layout.specs.Objects.{Located}
 use Rattle.task_frames.specs.declared.frames.Frame.{Frame}
-use Rattle.task_frames.specs.Stack.{frames_of as stacked}
+use Rattle.task_frames.specs.FramesValue.{frames_of as stacked}
 use Rattle.remembered_set.specs.declared.remembered.Source.{Source}
 use Rattle.remembered_set.specs.Moved.{AreFields, into, targets_of}
 use Rattle.leaf_copy_gc.specs.Survivors.{references_in}
 use Rattle.inner_mark_gc.proofs.Finding.{all_from}
-use Rattle.ledger_steps.specs.Accounts.{Rests}
-use Rattle.ledger_steps.proofs.Split.{legal_idle}
+use Rattle.ledger_step_laws.specs.Accounts.{Rests}
+use Rattle.ledger_step_laws.proofs.Split.{legal_idle}
 use Rattle.core_relation.specs.Begins.{AreRoots, IsAt}
 use Rattle.core_relation.specs.Reads.{FramesAreRead, HoldsRead}
 use Rattle.core_relation.specs.Stands.{Place, Stands}
-use Rattle.core_relation.specs.Value.{Home, In, Value, objects, objects_in, sources}
+use Rattle.core_relation.specs.Memory.{Home, In, Memory, objects, objects_in, sources}
 use Rattle.core_relation.proofs.objects.Members.{from_flat, in_chunk}
 use Rattle.core_relation.proofs.whole.Past.{waiting_stops}
 use Rattle.core_relation.proofs.notes.Roots.{frame_name}
@@ -34,8 +34,8 @@ use Rattle.shared_value.specs.declared.task_at_rest.Work.TheVariants.{Calls, Res
 use Rattle.shared_value.specs.Objects.{chunks_of}
 use Rattle.shared_value.specs.RestingHeaps.{refs_in}
 use Rattle.shared_value.specs.Roots.{heaps_of, sources_of}
-use Rattle.shared_value.specs.World.{World, accounts, frames_of, home_by, home_in, home_of, rest_at, value_of}
-use Rattle.shared_value.specs.Stands.{IsWorld}
+use Rattle.shared_value.specs.SharedValue.{SharedValue, accounts, frames_of, home_by, home_in, home_of, rest_at, value_of}
+use Rattle.shared_value.specs.Stands.{IsSharedValue}
 use Rattle.shared_value.proofs.BeforeTheEnd.{stands_now}
 use Rattle.shared_value.proofs.RootsHeld as held
 use Rattle.shared_value.proofs.RootsHeld.{into_tells, into_there}
@@ -77,14 +77,14 @@ frames_read at h x (Ended n r) e k = absurd cc
 frames_read at h x Joined e k = absurd cc
 
 -- A TASK THAT WAITS, with its rest
-module _ (w : World) (I : IsWorld w) (on : (accounts w).end ≡ None) (t : ℕ) (r : Rest) (there : rest_at w.homes t ≡ Some r) (wait : is_waiting (slice_get (accounts w).machine.tasks t) ≡ true) where
+module _ (w : SharedValue) (I : IsSharedValue w) (on : (accounts w).end ≡ None) (t : ℕ) (r : Rest) (there : rest_at w.homes t ≡ Some r) (wait : is_waiting (slice_get (accounts w).machine.tasks t) ≡ true) where
   abbrev l : Ledger
   l = accounts w
 
-  abbrev v : Value
+  abbrev v : Memory
   v = value_of w
 
-  abbrev ks : List Content
+  abbrev ks : List ChunkValue
   ks = r.heap.chunks
 
   abbrev ss : List Source

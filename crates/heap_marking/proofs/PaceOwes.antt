@@ -5,7 +5,7 @@ use Rattle.std.proofs.lemmas.Option.{same_Some}
 use Rattle.listed.proofs.Members.{got_back, got_front, got_within}
 use Rattle.hh_model.specs.declared.data.Strand.{Strand}
 use Rattle.hh_model.specs.Step.{is_waiting, joined}
-use Rattle.run_trace.specs.Settings.{Limits}
+use Rattle.run_trace.specs.Settings.{SettingsValue}
 use Rattle.run_ledger.specs.declared.data.Ledger.{Ledger}
 use Rattle.run_ledger.specs.declared.data.Owed.{Owed}
 use Rattle.run_ledger.specs.declared.data.Owed.TheVariants.{Mark as OwesMark, Nothing}
@@ -34,7 +34,7 @@ module _ (l : Ledger) (f : Fork) (s : Strand) (T : TellsFork l f s) where
   pub going_is : is_going l f ≡ is_under_way l s
   going_is = tested (λ u. not (heap_of l u).swept) (joined l.machine.tasks f.left) refl
 
-  pub begins_is : (limits : Limits) → is_to_begin limits l f ≡ is_to_mark limits l s
+  pub begins_is : (limits : SettingsValue) → is_to_begin limits l f ≡ is_to_mark limits l s
   begins_is limits = tested (λ u. is_unmarked (heap_of l u) && nat_le limits.inner (words_in l.machine (heap_of l u))) (joined l.machine.tasks f.left) refl
 
 over_stops : (l : Ledger) (s : Strand) → IsOver l s → is_under_way l s ≡ false
@@ -159,12 +159,12 @@ drop_last l front f (s ∷ ss) off (inr K) =
     inl (stopped_over l K.1 s K.3 (ap (is_going l) (sym e.1) ∙ off) (joined l.machine.tasks (K.1).left) refl, subst (λ (fs : List Fork). KeepsMarks l fs ss) (sym e.0) K.4)
 
 -- OWED BY WHAT CAME BEFORE
-abbrev pub owed_told : Limits → Ledger → List Strand → Previous → Owed
+abbrev pub owed_told : SettingsValue → Ledger → List Strand → Previous → Owed
 owed_told limits l marks Other = Nothing
 owed_told limits l marks Ran = owed_to_marks l marks
 owed_told limits l marks (Forked f) = cond (is_to_begin limits l f) (OwesMark f.task) (owed_to_marks l marks)
 
-pub owed_is : (limits : Limits) (l : Ledger) (marks : List Strand) (a : Previous) (b : PreviousEntry) → KeepsPrevious l a b → owed_told limits l marks a ≡ owed_after limits l marks b
+pub owed_is : (limits : SettingsValue) (l : Ledger) (marks : List Strand) (a : Previous) (b : PreviousEntry) → KeepsPrevious l a b → owed_told limits l marks a ≡ owed_after limits l marks b
 owed_is limits l marks Other OtherEntry k = refl
 owed_is limits l marks Other RanEntry k = absurd k
 owed_is limits l marks Other (ForkedEntry s) k = absurd k

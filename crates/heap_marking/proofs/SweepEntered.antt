@@ -3,28 +3,28 @@ use Rattle.std.proofs.Common.{◌≡◌, ℕ, ◌-◌, ◌<◌, ◌==◌, ◌++�
 use Rattle.std.specs.Prelude.{◌≢◌, IsSome}
 use Rattle.std.proofs.lemmas.Bool.{cases_eq, eqb-true}
 use Rattle.std.proofs.lemmas.Option.{same_Some}
-use Rattle.listed.specs.Space.{Space}
+use Rattle.listed.specs.RoomyValue.{RoomyValue}
 use Rattle.listed.proofs.Members.{got_other, got_same, got_within}
 use Rattle.run_trace.specs.declared.entry.Kind.TheVariants.{Sweep}
-use Rattle.run_trace.specs.Entry.{Event}
+use Rattle.run_trace.specs.Entry.{EntryValue}
 use Rattle.run_ledger.specs.declared.data.Ledger.{Ledger}
 use Rattle.run_ledger.specs.declared.data.Refused.{Refused}
 use Rattle.run_ledger.specs.declared.data.Refused.TheVariants.{Count, Left}
 use Rattle.run_ledger.specs.Entries.{refused_unless}
 use Rattle.run_ledger.specs.Heaps.{heap_of, left_in, marked_in, sweep_number, swept_heap, with_heap}
 use Rattle.run_ledger.proofs.Journals.{entry_tells}
-use Rattle.object_layout.specs.Content.{Content}
-use Rattle.chunk_pool.specs.Chunks.{Chunks, held_at}
+use Rattle.object_layout.specs.ChunkValue.{ChunkValue}
+use Rattle.chunk_pool.specs.PoolValue.{PoolValue, held_at}
 use Rattle.write_barrier.specs.declared.sets.SetOf.{SetOf}
 use Rattle.write_barrier.specs.Stored.{Content as SetContent, content_at, content_of}
-use Rattle.inner_mark_gc.specs.Marks.{Marks, marked_of}
+use Rattle.inner_mark_gc.specs.MarkingValue.{MarkingValue, marked_of}
 use Rattle.inner_mark_gc.specs.Swept.{AreGiven, gone_of}
 use Rattle.inner_mark_gc.proofs.Finding.{all_from}
-use Rattle.ledger_steps.proofs.Ahead.{with_machine}
+use Rattle.ledger_step_laws.proofs.Ahead.{with_machine}
 use Rattle.core_relation.specs.Changes.{KeepsJust}
 use Rattle.core_relation.specs.Counts.{CountsGo}
 use Rattle.core_relation.specs.Since.{OthersNotes}
-use Rattle.core_relation.specs.Value.{Home, Value, sources}
+use Rattle.core_relation.specs.Memory.{Home, Memory, sources}
 use Rattle.core_relation.specs.Whole.{StandsForAll}
 use Rattle.core_relation.proofs.whole.EntriesWhole.{sweeps_stand_for}
 use Rattle.core_relation.proofs.parts.WorkersPast.{sweeps_leave}
@@ -34,8 +34,8 @@ use Rattle.shared_value.specs.Causes.{or_else}
 use Rattle.shared_value.specs.Entered.{refused}
 use Rattle.shared_value.specs.Fits.{AllFit, Fits, part_of}
 use Rattle.shared_value.specs.Measured.{AreMeasured, KeepsUnits, RestsAreMeasured}
-use Rattle.shared_value.specs.Stands.{HeapForm, IsWorld}
-use Rattle.shared_value.specs.World.{World, accounts, flat, home_in, marks_at, noted_in, rest_at, totals_of, value_of}
+use Rattle.shared_value.specs.Stands.{HeapForm, IsSharedValue}
+use Rattle.shared_value.specs.SharedValue.{SharedValue, accounts, flat, home_in, marks_at, noted_in, rest_at, totals_of, value_of}
 use Rattle.shared_value.proofs.EntryMade.{entry_on}
 use Rattle.shared_value.proofs.MarkingEntryMade.{entered_marks, marked_fits, marked_world}
 use Rattle.shared_value.proofs.UnitsMeasured.{given_keeps, measured_kept, part_kept}
@@ -47,14 +47,14 @@ use Rattle.heap_marking.proofs.SweptStart as start
 use Rattle.heap_marking.proofs.SweptUnits.{sweep_is}
 
 -- WHAT THE ENTRY TELLS
-pub record SweepTells (w : World) (t given : ℕ) : Type 0 where
+pub record SweepTells (w : SharedValue) (t given : ℕ) : Type 0 where
   pub cause : marking_cause w t ≡ None
   pub none_left : left_in (heap_of (accounts w) t) ≡ 0
   pub number : given ≡ sweep_number (accounts w).machine (heap_of (accounts w) t)
 
-pub sweep_tells : (w : World) (k t given : ℕ) → IsWorld w → refused w (record { worker = k; kind = Sweep t given }) ≡ None → SweepTells w t given
+pub sweep_tells : (w : SharedValue) (k t given : ℕ) → IsSharedValue w → refused w (record { worker = k; kind = Sweep t given }) ≡ None → SweepTells w t given
 sweep_tells w k t given I free =
-    let e : Event = record { worker = k; kind = Sweep t given } in
+    let e : EntryValue = record { worker = k; kind = Sweep t given } in
     let on = entry_on w e free in
     let told = ap is_none (sym ((marks_refuse w k t I on).sweep given)) ∙ (entry_tells w.program w.settings (accounts w) e (ap is_none free)).2 in
     by (marking_cause w t) refl (left_in (heap_of (accounts w) t) == 0) refl (given == sweep_number (accounts w).machine (heap_of (accounts w) t)) refl (Left (marked_in (heap_of (accounts w) t))) (Count given (sweep_number (accounts w).machine (heap_of (accounts w) t))) told
@@ -86,8 +86,8 @@ flat_some None x e = absurd cc
 flat_some (Some None) x e = absurd cc
 flat_some (Some (Some y)) x e = ap Some e
 
-module _ (w : World) (k t given : ℕ) (I : IsWorld w) (free : refused w (record { worker = k; kind = Sweep t given }) ≡ None) where
-  abbrev e : Event
+module _ (w : SharedValue) (k t given : ℕ) (I : IsSharedValue w) (free : refused w (record { worker = k; kind = Sweep t given }) ≡ None) where
+  abbrev e : EntryValue
   e = record { worker = k; kind = Sweep t given }
 
   pub on : (accounts w).end ≡ None
@@ -99,7 +99,7 @@ module _ (w : World) (k t given : ℕ) (I : IsWorld w) (free : refused w (record
   abbrev l : Ledger
   l = accounts w
 
-  abbrev v : Value
+  abbrev v : Memory
   v = value_of w
 
   abbrev L : Ledger
@@ -108,7 +108,7 @@ module _ (w : World) (k t given : ℕ) (I : IsWorld w) (free : refused w (record
   abbrev pub r : Rest
   r = (start.Z w I on t T.cause).rest
 
-  abbrev pub m : Marks
+  abbrev pub m : MarkingValue
   m = (start.Z w I on t T.cause).marks
 
   pub there : rest_at w.homes t ≡ Some r
@@ -122,7 +122,7 @@ module _ (w : World) (k t given : ℕ) (I : IsWorld w) (free : refused w (record
   can = record {
     done = start.done w I on t T.cause T.none_left;
     room = (start.Z w I on t T.cause).further.own.room;
-    in_use = all_from (λ (c : Content). IsSome (held_at w.pool c.number)) r.heap.chunks (λ c i. is_there (held_at w.pool c.number) _ (home.measured_was w I on t T.cause T.none_left c i));
+    in_use = all_from (λ (c : ChunkValue). IsSome (held_at w.pool c.number)) r.heap.chunks (λ c i. is_there (held_at w.pool c.number) _ (home.measured_was w I on t T.cause T.none_left c i));
   }
 
   pub has_home : IsSome (rest_at w.homes t)
@@ -131,8 +131,8 @@ module _ (w : World) (k t given : ℕ) (I : IsWorld w) (free : refused w (record
   pub has_marking : IsSome (marks_at w.marks t)
   has_marking = is_there (marks_at w.marks t) m marked
 
-  pub can_all : (x : Rest) (y : Marks) → rest_at w.homes t ≡ Some x → marks_at w.marks t ≡ Some y → CanSweep x.heap y w.pool
-  can_all x y is at = subst (λ (z : Rest). CanSweep z.heap y w.pool) (same_Some r x (sym there ∙ is)) (subst (λ (z : Marks). CanSweep r.heap z w.pool) (same_Some m y (sym marked ∙ at)) can)
+  pub can_all : (x : Rest) (y : MarkingValue) → rest_at w.homes t ≡ Some x → marks_at w.marks t ≡ Some y → CanSweep x.heap y w.pool
+  can_all x y is at = subst (λ (z : Rest). CanSweep z.heap y w.pool) (same_Some r x (sym there ∙ is)) (subst (λ (z : MarkingValue). CanSweep r.heap z w.pool) (same_Some m y (sym marked ∙ at)) can)
 
   pub has_set : t < length w.sets
   has_set =
@@ -141,7 +141,7 @@ module _ (w : World) (k t given : ℕ) (I : IsWorld w) (free : refused w (record
       let noted : length w.sets ≡ length w.tree = I.noted in
       omega (arith, within, made, noted)
 
-  module _ (pool : Chunks) (G : AreGiven w.pool pool (gone_of r.heap (marked_of m))) (slots spare : ℕ) (sets : List SetOf) (many : length sets ≡ length w.sets) (kept_none : content_at sets t ≡ option_map forgotten (content_at w.sets t))
+  module _ (pool : PoolValue) (G : AreGiven w.pool pool (gone_of r.heap (marked_of m))) (slots spare : ℕ) (sets : List SetOf) (many : length sets ≡ length w.sets) (kept_none : content_at sets t ≡ option_map forgotten (content_at w.sets t))
       (others : (u : ℕ) → u ≢ t → slice_get sets u ≡ slice_get w.sets u) (room : ℕ) where
     abbrev rest' : Rest
     rest' = home.rest' w I on t T.cause T.none_left pool G slots spare
@@ -149,13 +149,13 @@ module _ (w : World) (k t given : ℕ) (I : IsWorld w) (free : refused w (record
     abbrev pub homes : List (Option Rest)
     homes = slice_set w.homes t (Some rest')
 
-    abbrev pub marks : List (Option Marks)
+    abbrev pub marks : List (Option MarkingValue)
     marks = slice_set w.marks t None
 
-    abbrev pub w' : World
+    abbrev pub w' : SharedValue
     w' = entered_marks w e w.tree pool homes sets w.hands w.outputs w.steps w.end room marks
 
-    abbrev v' : Value
+    abbrev v' : Memory
     v' = value_of w'
 
     rest_then : rest_at homes t ≡ Some rest'
@@ -212,7 +212,7 @@ module _ (w : World) (k t given : ℕ) (I : IsWorld w) (free : refused w (record
       | inr ne ↦ measured_kept w.pool pool u x.heap.chunks (keeps_units u ne) (I.measured u x (sym (rest_off u ne) ∙ is) none)
     ]
 
-    pub swept_world : IsWorld w'
+    pub swept_world : IsSharedValue w'
     swept_world =
         marked_world w e I free w.tree pool homes sets w.hands w.outputs w.steps w.end room marks (length-set w.homes t (Some rest') ∙ I.made) (many ∙ I.noted) refl G.limit stands heaps measured
 
@@ -229,10 +229,10 @@ module _ (w : World) (k t given : ℕ) (I : IsWorld w) (free : refused w (record
         (sweeps_leave w.program w.settings w.journal.items I.legal v v' k t given free keeps (part_of w.settings q) F.fits)
 
   -- AS THE CALL HAS IT
-  module _ (hs : List (Option Rest)) (pool : Chunks) (S : SweepsHome w.homes hs w.pool pool t r m) (ms : List (Option Marks)) (cleared : ms ≡ slice_set w.marks t None)
+  module _ (hs : List (Option Rest)) (pool : PoolValue) (S : SweepsHome w.homes hs w.pool pool t r m) (ms : List (Option MarkingValue)) (cleared : ms ≡ slice_set w.marks t None)
       (sets : List SetOf) (many : length sets ≡ length w.sets) (kept_none : content_at sets t ≡ option_map forgotten (content_at w.sets t)) (others : (u : ℕ) → u ≢ t → slice_get sets u ≡ slice_get w.sets u)
-      (j : Space Event) (made : j ≡ record { items = w.journal.items ++ e ∷ []; room = w.journal.room - 1 }) where
-    abbrev pub entered_so : World
+      (j : RoomyValue EntryValue) (made : j ≡ record { items = w.journal.items ++ e ∷ []; room = w.journal.room - 1 }) where
+    abbrev pub entered_so : SharedValue
     entered_so = record w { pool = pool; homes = hs; sets = sets; marks = ms; journal = j }
 
     so : entered_so ≡ w' pool S.given S.slots S.spare sets many kept_none others (w.journal.room - 1)
@@ -240,8 +240,8 @@ module _ (w : World) (k t given : ℕ) (I : IsWorld w) (free : refused w (record
         ap (λ x. record w { pool = pool; homes = x; sets = sets; marks = ms; journal = j }) S.homes
         ∙ ap₂ (λ x y. record w { pool = pool; homes = homes pool S.given S.slots S.spare sets many kept_none others (w.journal.room - 1); sets = sets; marks = x; journal = y }) cleared made
 
-    pub world_so : IsWorld entered_so
-    world_so = subst IsWorld (sym so) (swept_world pool S.given S.slots S.spare sets many kept_none others (w.journal.room - 1))
+    pub world_so : IsSharedValue entered_so
+    world_so = subst IsSharedValue (sym so) (swept_world pool S.given S.slots S.spare sets many kept_none others (w.journal.room - 1))
 
     pub fits_so : AllFit w entered_so
     fits_so = subst (AllFit w) (sym so) (swept_fits pool S.given S.slots S.spare sets many kept_none others (w.journal.room - 1))

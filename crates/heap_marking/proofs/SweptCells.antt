@@ -3,11 +3,11 @@ use Rattle.std.proofs.Common.{◌≡◌, ℕ, suc, ◌+◌, arith, Bool, true, f
 use Rattle.std.specs.Prelude.{◌||◌}
 use Rattle.object_layout.specs.declared.word.Addr.{Addr}
 use Rattle.object_layout.specs.Cell.{Born, Cell, Hole, Mark, Moved, moved_to, size_of}
-use Rattle.object_layout.specs.Content.{Content}
+use Rattle.object_layout.specs.ChunkValue.{ChunkValue}
 use Rattle.object_layout.specs.Place.{words_in}
 use Rattle.object_layout.specs.Objects.{Located, located, located_by, objects_from}
 use Rattle.object_layout.proofs.ObjectChanges.{sifted_are_kept}
-use Rattle.inner_mark_gc.specs.Marks.{has_address}
+use Rattle.inner_mark_gc.specs.MarkingValue.{has_address}
 use Rattle.inner_mark_gc.specs.Swept.{has_object, is_object, swept_cell, swept_cells, swept_chunk}
 use Rattle.inner_mark_gc.proofs.Sweeping.{size_swept}
 use Rattle.core_relation.specs.Layout.{HoldsLarge, has_none}
@@ -44,7 +44,7 @@ module _ (kept : List Addr) (number : ℕ) where
   words_kept (c ∷ cs) base = ap₂ (λ a b. a + b) (size_swept (has_address kept (place base)) c) (words_kept cs (base + size_of c))
 
 -- a large chunk holds its object, or nothing
-pub large_kept : (kept : List Addr) (k : Content) → HoldsLarge (chunk_of k) → HoldsLarge (chunk_of (swept_chunk kept k))
+pub large_kept : (kept : List Addr) (k : ChunkValue) → HoldsLarge (chunk_of k) → HoldsLarge (chunk_of (swept_chunk kept k))
 large_kept kept k (inl none) = inl (sifted_are_kept (has_address kept) k ∙ ap (filter (is_there kept)) none)
 large_kept kept k (inr (o, only, at, fits)) = by (is_there kept o) refl
   where

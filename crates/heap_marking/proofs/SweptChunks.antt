@@ -8,30 +8,30 @@ use Rattle.hh_model.specs.declared.data.State.{State}
 use Rattle.run_ledger.specs.Heaps.{is_empty, units_sum, without_empty, words_at}
 use Rattle.object_layout.specs.declared.word.Addr.{Addr}
 use Rattle.object_layout.specs.Cell.{moved_to}
-use Rattle.object_layout.specs.Content.{Content}
+use Rattle.object_layout.specs.ChunkValue.{ChunkValue}
 use Rattle.object_layout.specs.Objects.{Located}
 use Rattle.object_layout.proofs.ObjectChanges.{sifted_are_kept}
-use Rattle.alloc_path.specs.Heap.{units}
+use Rattle.alloc_path.specs.LeafHeapValue.{units}
 use Rattle.alloc_path.specs.Units.{unit_count}
-use Rattle.inner_mark_gc.specs.Marks.{has_address}
+use Rattle.inner_mark_gc.specs.MarkingValue.{has_address}
 use Rattle.inner_mark_gc.specs.Swept.{goes, has_object, stays, swept_chunk}
 use Rattle.core_relation.specs.Layout.{HoldsLarge, has_none, words}
 use Rattle.core_relation.specs.Stands.{large_chunks, names_of, small_chunks}
-use Rattle.core_relation.specs.Value.{In, object_name, objects_in}
+use Rattle.core_relation.specs.Memory.{In, object_name, objects_in}
 use Rattle.core_relation.proofs.objects.Merged.{filter_append, map_append}
 use Rattle.shared_value.specs.Objects.{chunk_of, chunks_of}
 use Rattle.shared_value.proofs.SmallWords.{SameWords}
 use Rattle.heap_marking.proofs.SweptCells.{is_there, object_left}
 
 -- a chunk of a heap without a reserved one
-pub record IsFilled (k : Content) : Type 0 where
+pub record IsFilled (k : ChunkValue) : Type 0 where
   pub unmoved : All (λ c. moved_to c.mark ≡ None) k.cells
   pub whole : k.size ≡ 1024 * (k.size / 1024)
   pub large : (k.size == 1024) ≡ false → HoldsLarge (chunk_of k)
   pub some : (k.size == 1024) ≡ false → (chunk_of k).objects ≡ [] → ⊥
 
-abbrev pub AreFilled : List Content → Type 0
-AreFilled ks = (k : Content) → In ks k → IsFilled k
+abbrev pub AreFilled : List ChunkValue → Type 0
+AreFilled ks = (k : ChunkValue) → In ks k → IsFilled k
 
 none_is : (os : List Located) → false ≡ not (has_none os) → os ≡ []
 none_is [] e = refl
@@ -39,27 +39,27 @@ none_is (o ∷ os) e = absurd (false≢true e)
 
 module _ (kept : List Addr) where
   -- the chunks that are left, and those that go
-  abbrev pub left : List Content → List Content
+  abbrev pub left : List ChunkValue → List ChunkValue
   left ks = map (swept_chunk kept) (filter (stays kept None) ks)
 
-  abbrev pub gone : List Content → List Content
+  abbrev pub gone : List ChunkValue → List ChunkValue
   gone ks = filter (goes kept None) ks
 
-  abbrev pub kept_in : Content → List Located
+  abbrev pub kept_in : ChunkValue → List Located
   kept_in k = filter (is_there kept) (chunk_of k).objects
 
   -- whether the chunk stays
-  abbrev pub has : Content → Bool
+  abbrev pub has : ChunkValue → Bool
   has k = has_object (swept_chunk kept k).cells
 
-  pub has_is : (k : Content) → IsFilled k → has k ≡ not (has_none (kept_in k))
+  pub has_is : (k : ChunkValue) → IsFilled k → has k ≡ not (has_none (kept_in k))
   has_is k F = object_left kept k.number k.cells 0 F.unmoved
 
-  pub swept_is : (k : Content) → (chunk_of (swept_chunk kept k)).objects ≡ kept_in k
+  pub swept_is : (k : ChunkValue) → (chunk_of (swept_chunk kept k)).objects ≡ kept_in k
   swept_is k = sifted_are_kept (has_address kept) k
 
   -- OBJECTS
-  pub objects_left : (ks : List Content) → AreFilled ks → objects_in (chunks_of (left ks)) ≡ filter (is_there kept) (objects_in (chunks_of ks))
+  pub objects_left : (ks : List ChunkValue) → AreFilled ks → objects_in (chunks_of (left ks)) ≡ filter (is_there kept) (objects_in (chunks_of ks))
   objects_left [] F = refl
   objects_left (k ∷ ks) F = by (has k) refl (objects_left ks (λ j i. F j (inr i))) ∙ sym (filter_append (is_there kept) (chunk_of k).objects (objects_in (chunks_of ks)))
     where
@@ -85,33 +85,33 @@ module _ (kept : List Addr) where
     empty_is [] = refl
     empty_is (o ∷ os) = refl
 
-    abbrev pub names : Content → List Name
+    abbrev pub names : ChunkValue → List Name
     names k = filter keep (names_of (chunk_of k))
 
-    names_are : (k : Content) → Agrees (chunk_of k).objects → names_of (chunk_of (swept_chunk kept k)) ≡ names k
+    names_are : (k : ChunkValue) → Agrees (chunk_of k).objects → names_of (chunk_of (swept_chunk kept k)) ≡ names k
     names_are k A = ap (map object_name) (swept_is k) ∙ names_kept (chunk_of k).objects A
 
-    pub has_names : (k : Content) → IsFilled k → Agrees (chunk_of k).objects → has k ≡ not (is_empty (names k))
+    pub has_names : (k : ChunkValue) → IsFilled k → Agrees (chunk_of k).objects → has k ≡ not (is_empty (names k))
     has_names k F A = has_is k F ∙ (ap not (empty_is (kept_in k)) ∙ ap (λ ns. not (is_empty ns)) (names_kept (chunk_of k).objects A))
 
-    no_names : (k : Content) → IsFilled k → Agrees (chunk_of k).objects → has k ≡ false → names k ≡ []
+    no_names : (k : ChunkValue) → IsFilled k → Agrees (chunk_of k).objects → has k ≡ false → names k ≡ []
     no_names k F A e = by (names k) (sym e ∙ has_names k F A)
       where
         by : (ns : List Name) → false ≡ not (is_empty ns) → ns ≡ []
         by [] q = refl
         by (n ∷ ns) q = absurd (false≢true q)
 
-    here : (k : Content) (ks : List Content) → Agrees (objects_in (chunks_of (k ∷ ks))) → Agrees (chunk_of k).objects
+    here : (k : ChunkValue) (ks : List ChunkValue) → Agrees (objects_in (chunks_of (k ∷ ks))) → Agrees (chunk_of k).objects
     here k ks A o i = A o (in_append_left (chunk_of k).objects (objects_in (chunks_of ks)) o i)
 
-    behind : (k : Content) (ks : List Content) → Agrees (objects_in (chunks_of (k ∷ ks))) → Agrees (objects_in (chunks_of ks))
+    behind : (k : ChunkValue) (ks : List ChunkValue) → Agrees (objects_in (chunks_of (k ∷ ks))) → Agrees (objects_in (chunks_of ks))
     behind k ks A o i = A o (in_append_right (chunk_of k).objects (objects_in (chunks_of ks)) o i)
 
     -- of small objects, chunk by chunk
-    abbrev lists : List Content → List (List Name)
+    abbrev lists : List ChunkValue → List (List Name)
     lists ks = without_empty (map (filter keep) (map names_of (small_chunks (chunks_of ks))))
 
-    pub small_left : (ks : List Content) → AreFilled ks → Agrees (objects_in (chunks_of ks)) → map names_of (small_chunks (chunks_of (left ks))) ≡ without_empty (map (filter keep) (map names_of (small_chunks (chunks_of ks))))
+    pub small_left : (ks : List ChunkValue) → AreFilled ks → Agrees (objects_in (chunks_of ks)) → map names_of (small_chunks (chunks_of (left ks))) ≡ without_empty (map (filter keep) (map names_of (small_chunks (chunks_of ks))))
     small_left [] F A = refl
     small_left (k ∷ ks) F A = by (has k) refl (k.size == 1024) refl (small_left ks (λ j i. F j (inr i)) (behind k ks A))
       where
@@ -128,10 +128,10 @@ module _ (kept : List Addr) where
         by false e false q go = go
 
     -- and of large ones
-    abbrev large : List Content → List Name
+    abbrev large : List ChunkValue → List Name
     large ks = map object_name (objects_in (large_chunks (chunks_of ks)))
 
-    pub large_left : (ks : List Content) → AreFilled ks → Agrees (objects_in (chunks_of ks)) → map object_name (objects_in (large_chunks (chunks_of (left ks)))) ≡ filter keep (map object_name (objects_in (large_chunks (chunks_of ks))))
+    pub large_left : (ks : List ChunkValue) → AreFilled ks → Agrees (objects_in (chunks_of ks)) → map object_name (objects_in (large_chunks (chunks_of (left ks)))) ≡ filter keep (map object_name (objects_in (large_chunks (chunks_of ks))))
     large_left [] F A = refl
     large_left (k ∷ ks) F A = by (has k) refl (k.size == 1024) refl (large_left ks (λ j i. F j (inr i)) (behind k ks A))
       where
@@ -151,14 +151,14 @@ module _ (kept : List Addr) where
         by false e false q go = go ∙ (ap (λ a. a ++ filter keep (large ks)) (sym (no_names k (F k (inl refl)) (here k ks A) e)) ∙ sym both)
 
   -- UNITS
-  abbrev pub many : List Content → ℕ
+  abbrev pub many : List ChunkValue → ℕ
   many ks = length (small_chunks (chunks_of ks))
 
-  abbrev pub large_units : State → List Content → ℕ
+  abbrev pub large_units : State → List ChunkValue → ℕ
   large_units m ks = units_sum m (map object_name (objects_in (large_chunks (chunks_of ks))))
 
   -- so many of small chunks go, and so many of large ones
-  pub record Goes (m : State) (ks : List Content) : Type 0 where
+  pub record Goes (m : State) (ks : List ChunkValue) : Type 0 where
     pub small : ℕ
     pub large : ℕ
     pub smalls : many ks ≡ many (left ks) + small
@@ -176,7 +176,7 @@ module _ (kept : List Addr) where
     units_both os qs = ap (units_sum m) (map_append object_name os qs) ∙ sum_by-append (λ n. units (words_at m n)) (map object_name os) (map object_name qs)
 
     -- a large chunk has its object's units
-    one_large : (k : Content) → IsFilled k → (k.size == 1024) ≡ false → KnowWords (chunk_of k).objects → (o : Located) × ((chunk_of k).objects ≡ o ∷ []) × (units_of (o ∷ []) ≡ units k.size)
+    one_large : (k : ChunkValue) → IsFilled k → (k.size == 1024) ≡ false → KnowWords (chunk_of k).objects → (o : Located) × ((chunk_of k).objects ≡ o ∷ []) × (units_of (o ∷ []) ≡ units k.size)
     one_large k F q W = by (F.large q)
       where
         by : HoldsLarge (chunk_of k) → (o : Located) × ((chunk_of k).objects ≡ o ∷ []) × (units_of (o ∷ []) ≡ units k.size)
@@ -191,8 +191,8 @@ module _ (kept : List Addr) where
             )
 
     -- one chunk more, by whether it stays and whether it is small
-    module _ (k : Content) (ks : List Content) (F : IsFilled k) (own : KnowWords (chunk_of k).objects) where
-      abbrev ls : Bool → List Content
+    module _ (k : ChunkValue) (ks : List ChunkValue) (F : IsFilled k) (own : KnowWords (chunk_of k).objects) where
+      abbrev ls : Bool → List ChunkValue
       ls b = map (swept_chunk kept) (cond b (k ∷ filter (stays kept None) ks) (filter (stays kept None) ks))
 
       record Counts (b s : Bool) : Type 0 where
@@ -264,7 +264,7 @@ module _ (kept : List Addr) where
           grown : (a u b c d : ℕ) → a ≡ u → b ≡ c + d → a + b ≡ c + (u + d)
           grown a u b c d e f = omega (arith, e, f)
 
-    pub units_gone : (ks : List Content) → AreFilled ks → KnowWords (objects_in (chunks_of ks)) → Goes m ks
+    pub units_gone : (ks : List ChunkValue) → AreFilled ks → KnowWords (objects_in (chunks_of ks)) → Goes m ks
     units_gone [] F W = record { small = 0; large = 0; smalls = refl; larges = refl; all = refl }
     units_gone (k ∷ ks) F W =
         by (has k) refl (k.size == 1024) refl

@@ -8,16 +8,16 @@ use Rattle.run_ledger.specs.Heaps.{in_snapshot, is_empty, is_last_empty, swept_h
 use Rattle.run_ledger.specs.Reachable.{holds_name}
 use Rattle.object_layout.specs.declared.word.Addr.{Addr}
 use Rattle.object_layout.specs.Chunks.{chunk_at, no_chunk, place_in}
-use Rattle.object_layout.specs.Content.{Content}
+use Rattle.object_layout.specs.ChunkValue.{ChunkValue}
 use Rattle.object_layout.specs.Place.{words_in}
 use Rattle.object_layout.specs.Objects.{Located}
-use Rattle.alloc_path.specs.Heap.{AreWithin, Heap, IsCurrent, IsSettled, IsTidy, room_at, room_of}
+use Rattle.alloc_path.specs.LeafHeapValue.{AreWithin, LeafHeapValue, IsCurrent, IsSettled, IsTidy, room_at, room_of}
 use Rattle.alloc_path.proofs.HeapLemmas as heap
 use Rattle.inner_mark_gc.specs.Swept.{gone_of, number_at, place_at, swept}
 use Rattle.inner_mark_gc.proofs.Finding.{all_from}
 use Rattle.inner_mark_gc.proofs.Kept as kept_chunks
 use Rattle.core_relation.specs.Layout.{HoldsLarge, has_none}
-use Rattle.core_relation.specs.Value.{In, objects_in}
+use Rattle.core_relation.specs.Memory.{In, objects_in}
 use Rattle.core_relation.proofs.objects.Members.{in_objects, in_map}
 use Rattle.task_machine.specs.Accounts.{IsLastSmall}
 use Rattle.shared_value.specs.Objects.{chunk_of, chunks_of}
@@ -34,22 +34,22 @@ none_some : {A B : Type 0} {x : A} → ◌≡◌ {A = Option A} None (Some x) �
 none_some e = absurd cc
 
 -- a large chunk holds one object
-abbrev pub HoldLarge : List Content → Type 0
-HoldLarge ks = (k : Content) → In ks k → (k.size == 1024) ≡ false → HoldsLarge (chunk_of k)
+abbrev pub HoldLarge : List ChunkValue → Type 0
+HoldLarge ks = (k : ChunkValue) → In ks k → (k.size == 1024) ≡ false → HoldsLarge (chunk_of k)
 
-module _ (kept : List Addr) (h : Heap) (F : HeapForm h) (none : h.reserved ≡ None) (L : HoldLarge h.chunks) where
-  abbrev pub ks : List Content
+module _ (kept : List Addr) (h : LeafHeapValue) (F : HeapForm h) (none : h.reserved ≡ None) (L : HoldLarge h.chunks) where
+  abbrev pub ks : List ChunkValue
   ks = h.chunks
 
   -- the heap with just what is kept
-  abbrev pub plain : Heap
+  abbrev pub plain : LeafHeapValue
   plain = record h { chunks = left kept h.chunks; current = place_at (left kept h.chunks) (number_at h.chunks h.current); reserved = None }
 
   pub swept_plain : swept h kept ≡ plain
-  swept_plain = ap (λ o. let x : Heap = record h { reserved = o } in swept x kept) none
+  swept_plain = ap (λ o. let x : LeafHeapValue = record h { reserved = o } in swept x kept) none
 
   pub gone_plain : gone_of h kept ≡ gone kept h.chunks
-  gone_plain = ap (λ o. let x : Heap = record h { reserved = o } in gone_of x kept) none
+  gone_plain = ap (λ o. let x : LeafHeapValue = record h { reserved = o } in gone_of x kept) none
 
   pub filled : AreFilled h.chunks
   filled k i = record {
@@ -58,7 +58,7 @@ module _ (kept : List Addr) (h : Heap) (F : HeapForm h) (none : h.reserved ≡ N
     large = L k i;
     some = λ q e.
         let p = place_there h.chunks k i in
-        none_some (sym none ∙ F.spare p.0 p.1 (λ z. false≢true (sym q ∙ ap (λ n. n == 1024) (ap (λ (x : Content). x.size) (sym p.2) ∙ z))) (ap (λ (x : Content). (chunk_of x).objects) p.2 ∙ e));
+        none_some (sym none ∙ F.spare p.0 p.1 (λ z. false≢true (sym q ∙ ap (λ n. n == 1024) (ap (λ (x : ChunkValue). x.size) (sym p.2) ∙ z))) (ap (λ (x : ChunkValue). (chunk_of x).objects) p.2 ∙ e));
   }
 
   settled : IsSettled h.chunks
@@ -69,21 +69,21 @@ module _ (kept : List Addr) (h : Heap) (F : HeapForm h) (none : h.reserved ≡ N
   was o i = (in_from_kept (is_there kept) (objects_in (chunks_of h.chunks)) o (subst (λ os. In os o) (objects_left kept h.chunks filled) i)).0
 
   within_left : AreWithin (left kept h.chunks)
-  within_left = all_from (λ (k : Content). words_in k.cells ≤ k.size) (left kept h.chunks) (λ k i.
+  within_left = all_from (λ (k : ChunkValue). words_in k.cells ≤ k.size) (left kept h.chunks) (λ k i.
       let x = left_was kept h.chunks k i in
-      let w : words_in x.0.cells ≤ x.0.size = all_at (λ (k : Content). words_in k.cells ≤ k.size) h.chunks x.0 x.1 F.within in
-      subst (λ (z : Content). words_in z.cells ≤ z.size) x.3 (subst (λ n. n ≤ x.0.size) (sym (words_kept kept x.0.number x.0.cells 0)) w))
+      let w : words_in x.0.cells ≤ x.0.size = all_at (λ (k : ChunkValue). words_in k.cells ≤ k.size) h.chunks x.0 x.1 F.within in
+      subst (λ (z : ChunkValue). words_in z.cells ≤ z.size) x.3 (subst (λ n. n ≤ x.0.size) (sym (words_kept kept x.0.number x.0.cells 0)) w))
 
   large_left : HoldLarge (left kept h.chunks)
   large_left k i q =
       let x = left_was kept h.chunks k i in
-      subst (λ (z : Content). HoldsLarge (chunk_of z)) x.3 (large_kept kept x.0 (L x.0 x.1 (ap (λ (z : Content). z.size == 1024) x.3 ∙ q)))
+      subst (λ (z : ChunkValue). HoldsLarge (chunk_of z)) x.3 (large_kept kept x.0 (L x.0 x.1 (ap (λ (z : ChunkValue). z.size == 1024) x.3 ∙ q)))
 
   -- each chunk that is left holds an object
-  some_left : (k : Content) → In (left kept h.chunks) k → (chunk_of k).objects ≡ [] → ⊥
+  some_left : (k : ChunkValue) → In (left kept h.chunks) k → (chunk_of k).objects ≡ [] → ⊥
   some_left k i e =
       let x = left_was kept h.chunks k i in
-      let empty : kept_in kept x.0 ≡ [] = sym (swept_is kept x.0) ∙ (ap (λ (z : Content). (chunk_of z).objects) x.3 ∙ e) in
+      let empty : kept_in kept x.0 ≡ [] = sym (swept_is kept x.0) ∙ (ap (λ (z : ChunkValue). (chunk_of z).objects) x.3 ∙ e) in
       false≢true (sym (sym x.2 ∙ (has_is kept x.0 (filled x.0 x.1) ∙ ap (λ os. not (has_none os)) empty)))
 
   last_left : (o : Option ℕ) → IsCurrent h.chunks o → IsLastSmall h.chunks o → IsLastSmall (left kept h.chunks) (place_at (left kept h.chunks) (number_at h.chunks o))
@@ -107,7 +107,7 @@ module _ (kept : List Addr) (h : Heap) (F : HeapForm h) (none : h.reserved ≡ N
     last = last_left h.current F.shaped.current F.last;
     last_large = tt;
     since = F.since;
-    whole = λ k i. (let x = left_was kept h.chunks k i in subst (λ (z : Content). z.size ≡ 1024 * (z.size / 1024)) x.3 (F.whole x.0 x.1));
+    whole = λ k i. (let x = left_was kept h.chunks k i in subst (λ (z : ChunkValue). z.size ≡ 1024 * (z.size / 1024)) x.3 (F.whole x.0 x.1));
     spare = λ i lt big empty. absurd (some_left (chunk_at (left kept h.chunks) i) (chunk_there (left kept h.chunks) i lt) empty);
   }
 
@@ -118,7 +118,7 @@ module _ (kept : List Addr) (h : Heap) (F : HeapForm h) (none : h.reserved ≡ N
         let k = chunk_at (left kept h.chunks) i in
         let there = chunk_there (left kept h.chunks) i lt in record {
           tidy = All-get_or IsTidy (left kept h.chunks) i no_chunk lt plain_form.tidy;
-          within = All-get_or (λ (x : Content). words_in x.cells ≤ x.size) (left kept h.chunks) i no_chunk lt within_left;
+          within = All-get_or (λ (x : ChunkValue). words_in x.cells ≤ x.size) (left kept h.chunks) i no_chunk lt within_left;
           whole = plain_form.whole k there;
           large = λ big. large_left k there (ne_eqb k.size 1024 big);
         };
@@ -128,7 +128,7 @@ module _ (kept : List Addr) (h : Heap) (F : HeapForm h) (none : h.reserved ≡ N
   -- ITS ROOM
   module _ (a : Account) (lists : small_names_of h.chunks ≡ a.chunks) (room : room_of h ≡ a.room) (agree : Agrees kept (holds_name a.snapshot) (objects_in (chunks_of h.chunks))) where
     module _ (i : ℕ) (C : IsCurrent h.chunks (Some i)) (last : IsLastSmall h.chunks (Some i)) (here : h.current ≡ Some i) where
-      abbrev k : Content
+      abbrev k : ChunkValue
       k = chunk_at h.chunks i
 
       there : In h.chunks k
@@ -163,7 +163,7 @@ module _ (kept : List Addr) (h : Heap) (F : HeapForm h) (none : h.reserved ≡ N
           let p = S.place in
           let w = S.within in
           ap (room_at (left kept h.chunks)) (heap.place_there (left kept h.chunks) (chunk_at h.chunks i).number (omega (arith, p, w)) ∙ ap Some S.place)
-          ∙ (ap (λ (z : Content). z.size - words_in z.cells) S.is
+          ∙ (ap (λ (z : ChunkValue). z.size - words_in z.cells) S.is
           ∙ (ap (λ n. (chunk_at h.chunks i).size - n) (words_kept kept (chunk_at h.chunks i).number (chunk_at h.chunks i).cells 0)
           ∙ (room_k ∙ full last_gone (sym q ∙ has_last))))
       room_of_some false q = ap (room_at (left kept h.chunks)) (goes_off kept h.chunks F.shaped.apart (chunk_at h.chunks i) there q) ∙ gone_by last_gone (sym q ∙ has_last)

@@ -12,30 +12,30 @@ use Rattle.run_ledger.specs.declared.data.Ledger.{Ledger}
 use Rattle.run_ledger.specs.Heaps.{heap_of, left_in, or_fresh, swept_heap, with_heap}
 use Rattle.run_ledger.proofs.Members.{holds_from_in, in_from_holds}
 use Rattle.object_layout.specs.declared.word.Addr.{Addr}
-use Rattle.object_layout.specs.Content.{Content}
+use Rattle.object_layout.specs.ChunkValue.{ChunkValue}
 use Rattle.object_layout.specs.Objects.{Located}
 use Rattle.chunk_pool.specs.declared.pool.Held.{Held}
-use Rattle.chunk_pool.specs.Chunks.{Chunks, held_at, owner_of, units_held}
-use Rattle.alloc_path.specs.Heap.{Heap as HeapOfCode, IsFresh, room_of, with_places}
+use Rattle.chunk_pool.specs.PoolValue.{PoolValue, held_at, owner_of, units_held}
+use Rattle.alloc_path.specs.LeafHeapValue.{LeafHeapValue as HeapOfCode, IsFresh, room_of, with_places}
 use Rattle.alloc_path.specs.Units.{unit_count}
 use Rattle.alloc_path.specs.View.{Level}
 use Rattle.alloc_path.proofs.HeapLemmas.{fresh_cons}
-use Rattle.inner_mark_gc.specs.Marks.{marked_of}
+use Rattle.inner_mark_gc.specs.MarkingValue.{marked_of}
 use Rattle.inner_mark_gc.specs.Swept.{AreGiven, gone_of, goes, swept, units_kept}
 use Rattle.inner_mark_gc.proofs.Finding.{all_from}
-use Rattle.ledger_steps.proofs.Ahead.{heap_then, with_at}
+use Rattle.ledger_step_laws.proofs.Ahead.{heap_then, with_at}
 use Rattle.core_relation.specs.Changes.{KeepsJust}
 use Rattle.core_relation.specs.Layout.{AreLaidOut}
 use Rattle.core_relation.specs.Stands.{HasNames, HomeStands}
-use Rattle.core_relation.specs.Value.{Chunk, Home, In, Value, object_name, objects, objects_in, sources}
+use Rattle.core_relation.specs.Memory.{Chunk, Home, In, Memory, object_name, objects, objects_in, sources}
 use Rattle.core_relation.proofs.objects.Members.{in_map, map_in}
 use Rattle.shared_value.specs.declared.task_at_rest.Rest.{Rest}
 use Rattle.shared_value.specs.declared.task_at_rest.Work.{Work}
 use Rattle.shared_value.specs.declared.task_at_rest.Work.TheVariants.{Calls, Result}
 use Rattle.shared_value.specs.Measured.{AreMeasured}
 use Rattle.shared_value.specs.Objects.{chunk_of, chunks_of}
-use Rattle.shared_value.specs.Stands.{HeapForm, IsWorld}
-use Rattle.shared_value.specs.World.{World, accounts, home_by, home_of, value_of}
+use Rattle.shared_value.specs.Stands.{HeapForm, IsSharedValue}
+use Rattle.shared_value.specs.SharedValue.{SharedValue, accounts, home_by, home_of, value_of}
 use Rattle.shared_value.proofs.HeapForms.{places_form}
 use Rattle.shared_value.proofs.EntryMade.{unheld_at_rest}
 use Rattle.shared_value.proofs.HeapLaidOut.{inside_from, laid_from}
@@ -85,11 +85,11 @@ there_by l t n some = by (slice_get l.heaps t) refl
     by None e = none_some (sym (ap (λ o. (or_fresh o).marked) e) ∙ some)
     by (Some h) e = ap or_fresh (with_at l t swept_heap ∙ ap (heap_then swept_heap) e) ∙ sym (ap (λ o. swept_heap (or_fresh o)) e)
 
-module _ (w : World) (I : IsWorld w) (on : (accounts w).end ≡ None) (t : ℕ) (free : marking_cause w t ≡ None) (none_left : left_in (heap_of (accounts w) t) ≡ 0) where
+module _ (w : SharedValue) (I : IsSharedValue w) (on : (accounts w).end ≡ None) (t : ℕ) (free : marking_cause w t ≡ None) (none_left : left_in (heap_of (accounts w) t) ≡ 0) where
   abbrev l : Ledger
   l = accounts w
 
-  abbrev v : Value
+  abbrev v : Memory
   v = value_of w
 
   abbrev a : Account
@@ -101,13 +101,13 @@ module _ (w : World) (I : IsWorld w) (on : (accounts w).end ≡ None) (t : ℕ) 
   abbrev pub kept : List Addr
   kept = marked_of (start.Z w I on t free).marks
 
-  abbrev ks : List Content
+  abbrev ks : List ChunkValue
   ks = r.heap.chunks
 
   F : HeapForm r.heap
   F = start.form w I on t free
 
-  abbrev now : List Content
+  abbrev now : List ChunkValue
   now = left kept r.heap.chunks
 
   abbrev plain : HeapOfCode
@@ -117,7 +117,7 @@ module _ (w : World) (I : IsWorld w) (on : (accounts w).end ≡ None) (t : ℕ) 
   gone_is : gone_of r.heap kept ≡ gone kept ks
   gone_is = form.gone_plain kept r.heap F (start.none w I on t free) (start.large w I on t free)
 
-  gone_was : (c : Content) → In (gone kept ks) c → In ks c × (has kept c ≡ false)
+  gone_was : (c : ChunkValue) → In (gone kept ks) c → In ks c × (has kept c ≡ false)
   gone_was c i = let f = in_from_kept (goes kept None) ks c i in (f.0, by (has kept c) f.1)
     where
       by : (b : Bool) → not b ≡ true → b ≡ false
@@ -125,12 +125,12 @@ module _ (w : World) (I : IsWorld w) (on : (accounts w).end ≡ None) (t : ℕ) 
       by false e = refl
 
   -- what is left has none of its numbers
-  left_off : (x : Content) → In ks x → has kept x ≡ true → IsFresh (gone kept ks) x.number
+  left_off : (x : ChunkValue) → In ks x → has kept x ≡ true → IsFresh (gone kept ks) x.number
   left_off x i h = fresh_by (gone kept ks) x.number (λ c j e.
       let g = gone_was c j in
       false≢true (sym g.1 ∙ (ap (has kept) (one_number ks c x F.shaped.apart g.0 i e) ∙ h)))
 
-  owned_was : (c : Content) → In ks c → owner_of w.pool c.number ≡ Some t
+  owned_was : (c : ChunkValue) → In ks c → owner_of w.pool c.number ≡ Some t
   owned_was c i = (start.H w I on t free).owned (chunk_of c) (subst (λ cs. In cs (chunk_of c)) (sym (start.chunks_here w I on t free)) (in_map chunk_of ks c i))
 
   pub measured_was : AreMeasured w.pool t ks
@@ -140,7 +140,7 @@ module _ (w : World) (I : IsWorld w) (on : (accounts w).end ≡ None) (t : ℕ) 
   pub units_go : units_kept w.pool (gone_of r.heap kept) ≡ unit_count (gone_of r.heap kept)
   units_go = subst (λ gs. units_kept w.pool gs ≡ unit_count gs) (sym gone_is) (by (gone kept ks) (λ c i. (gone_was c i).0))
     where
-      by : (gs : List Content) → ((c : Content) → In gs c → In ks c) → units_kept w.pool gs ≡ unit_count gs
+      by : (gs : List ChunkValue) → ((c : ChunkValue) → In gs c → In ks c) → units_kept w.pool gs ≡ unit_count gs
       by [] f = refl
       by (c ∷ gs) f =
           let one : units_held (held_at w.pool c.number) ≡ c.size / 1024 = ap units_held (measured_was c (f c (inl refl))) in
@@ -149,9 +149,9 @@ module _ (w : World) (I : IsWorld w) (on : (accounts w).end ≡ None) (t : ℕ) 
           omega (arith, one, whole, go)
 
   pub owned_gone : All (λ c. owner_of w.pool c.number ≡ Some t) (gone_of r.heap kept)
-  owned_gone = all_from (λ (c : Content). owner_of w.pool c.number ≡ Some t) (gone_of r.heap kept) (λ c i. owned_was c (gone_was c (subst (λ gs. In gs c) gone_is i)).0)
+  owned_gone = all_from (λ (c : ChunkValue). owner_of w.pool c.number ≡ Some t) (gone_of r.heap kept) (λ c i. owned_was c (gone_was c (subst (λ gs. In gs c) gone_is i)).0)
 
-  module _ (pool : Chunks) (G : AreGiven w.pool pool (gone_of r.heap kept)) (slots spare : ℕ) where
+  module _ (pool : PoolValue) (G : AreGiven w.pool pool (gone_of r.heap kept)) (slots spare : ℕ) where
     abbrev pub heap' : HeapOfCode
     heap' = with_places (swept r.heap kept) slots spare
 
@@ -173,7 +173,7 @@ module _ (w : World) (I : IsWorld w) (on : (accounts w).end ≡ None) (t : ℕ) 
     pub measured_then : AreMeasured pool t heap'.chunks
     measured_then c i =
         let x = left_was kept ks c (subst (λ cs. In cs c) chunks_are i) in
-        subst (λ (z : Content). held_at pool z.number ≡ Some (record { owner = t; units = z.size / 1024 })) x.3 (others x.0.number (left_off x.0 x.1 x.2) ∙ measured_was x.0 x.1)
+        subst (λ (z : ChunkValue). held_at pool z.number ≡ Some (record { owner = t; units = z.size / 1024 })) x.3 (others x.0.number (left_off x.0 x.1 x.2) ∙ measured_was x.0 x.1)
 
     -- WHO OWNS CHUNKS
     pub owners : (n u : ℕ) → (u ≡ t → ⊥) → owner_of w.pool n ≡ Some u → owner_of pool n ≡ Some u
@@ -183,15 +183,15 @@ module _ (w : World) (I : IsWorld w) (on : (accounts w).end ≡ None) (t : ℕ) 
     pub owned : (n u : ℕ) → owner_of pool n ≡ Some u → owner_of w.pool n ≡ Some u
     owned n u o = by (gone_of r.heap kept) G.free (G.others n)
       where
-        by : (gs : List Content) → All (λ c. held_at pool c.number ≡ None) gs → (IsFresh gs n → held_at pool n ≡ held_at w.pool n) → owner_of w.pool n ≡ Some u
+        by : (gs : List ChunkValue) → All (λ c. held_at pool c.number ≡ None) gs → (IsFresh gs n → held_at pool n ≡ held_at w.pool n) → owner_of w.pool n ≡ Some u
         by [] f other = sym (ap (option_map (λ (h : Held). h.owner)) (other refl)) ∙ o
         by (c ∷ gs) f other = elim (cases_eq c.number n) [
-          | inl q ↦ absurd (owner_none pool n u (subst (λ z. held_at pool z ≡ None) q (All-head (λ (c : Content). held_at pool c.number ≡ None) c gs f)) o)
-          | inr ne ↦ by gs (All-tail (λ (c : Content). held_at pool c.number ≡ None) c gs f) (λ fr. other (fresh_cons c gs n ne fr))
+          | inl q ↦ absurd (owner_none pool n u (subst (λ z. held_at pool z ≡ None) q (All-head (λ (c : ChunkValue). held_at pool c.number ≡ None) c gs f)) o)
+          | inr ne ↦ by gs (All-tail (λ (c : ChunkValue). held_at pool c.number ≡ None) c gs f) (λ fr. other (fresh_cons c gs n ne fr))
         ]
 
     -- THE HOME, in a value and accounts that have it so
-    module _ (v' : Value) (L : Ledger) (home : v'.homes t ≡ home_of rest') (owner : v'.owner ≡ owner_of pool) (account : heap_of L t ≡ swept_heap a) (machine : L.machine ≡ l.machine) where
+    module _ (v' : Memory) (L : Ledger) (home : v'.homes t ≡ home_of rest') (owner : v'.owner ≡ owner_of pool) (account : heap_of L t ≡ swept_heap a) (machine : L.machine ≡ l.machine) where
       chunks_then : (v'.homes t).chunks ≡ chunks_of now
       chunks_then = ap (λ (h : Home). h.chunks) home ∙ (home_chunks rest' ∙ ap chunks_of chunks_are)
 
@@ -206,11 +206,11 @@ module _ (w : World) (I : IsWorld w) (on : (accounts w).end ≡ None) (t : ℕ) 
           let f = in_from_kept (is_there kept) (objects_in (chunks_of ks)) o (subst (λ os. In os o) objects_then i) in
           (subst (λ os. In os o) (sym objects_before) f.0, f.1)
 
-      chunk_was : (c : Chunk) → In (v'.homes t).chunks c → (x : Content) × In ks x × (has kept x ≡ true) × (x.number ≡ c.number)
+      chunk_was : (c : Chunk) → In (v'.homes t).chunks c → (x : ChunkValue) × In ks x × (has kept x ≡ true) × (x.number ≡ c.number)
       chunk_was c i =
           let y = map_in chunk_of now c (subst (λ cs. In cs c) chunks_then i) in
           let x = left_was kept ks y.0 y.1 in
-          (x.0, x.1, x.2, ap (λ (z : Content). z.number) x.3 ∙ ap (λ (z : Chunk). z.number) y.2)
+          (x.0, x.1, x.2, ap (λ (z : ChunkValue). z.number) x.3 ∙ ap (λ (z : Chunk). z.number) y.2)
 
       home_then : HomeStands v' L t
       home_then = record {

@@ -6,11 +6,11 @@ use Rattle.hh_model.specs.declared.data.Name.{Name}
 use Rattle.run_ledger.specs.Heaps.{is_empty, is_last_empty}
 use Rattle.object_layout.specs.declared.word.Addr.{Addr}
 use Rattle.object_layout.specs.Chunks.{chunk_at, place_of}
-use Rattle.object_layout.specs.Content.{Content}
-use Rattle.alloc_path.specs.Heap.{AreApart, IsFresh}
+use Rattle.object_layout.specs.ChunkValue.{ChunkValue}
+use Rattle.alloc_path.specs.LeafHeapValue.{AreApart, IsFresh}
 use Rattle.inner_mark_gc.specs.Swept.{stays, swept_chunk}
 use Rattle.core_relation.specs.Stands.{names_of, small_chunks}
-use Rattle.core_relation.specs.Value.{In}
+use Rattle.core_relation.specs.Memory.{In}
 use Rattle.core_relation.proofs.objects.Members.{map_in}
 use Rattle.task_machine.specs.Accounts.{IsLastSmall}
 use Rattle.shared_value.specs.Objects.{chunk_of, chunks_of}
@@ -20,15 +20,15 @@ use Rattle.shared_value.proofs.HeapLaidOut.{place_there}
 use Rattle.shared_value.proofs.FieldsNoted.{fresh_by}
 use Rattle.heap_marking.proofs.SweptChunks.{has, left}
 
-pub one_number : (ks : List Content) (j k : Content) → AreApart ks → In ks j → In ks k → j.number ≡ k.number → j ≡ k
+pub one_number : (ks : List ChunkValue) (j k : ChunkValue) → AreApart ks → In ks j → In ks k → j.number ≡ k.number → j ≡ k
 one_number [] j k A i i' e = absurd i
 one_number (y ∷ ys) j k A (inl a) (inl b) e = sym a ∙ b
-one_number (y ∷ ys) j k A (inl a) (inr b) e = absurd (fresh_off ys k y.number A.0 b (sym e ∙ ap (λ (z : Content). z.number) (sym a)))
-one_number (y ∷ ys) j k A (inr a) (inl b) e = absurd (fresh_off ys j y.number A.0 a (e ∙ ap (λ (z : Content). z.number) (sym b)))
+one_number (y ∷ ys) j k A (inl a) (inr b) e = absurd (fresh_off ys k y.number A.0 b (sym e ∙ ap (λ (z : ChunkValue). z.number) (sym a)))
+one_number (y ∷ ys) j k A (inr a) (inl b) e = absurd (fresh_off ys j y.number A.0 a (e ∙ ap (λ (z : ChunkValue). z.number) (sym b)))
 one_number (y ∷ ys) j k A (inr a) (inr b) e = one_number ys j k A.1 a b e
 
 -- in the list a chunk of this number stands, and such ones behind it
-pub record StandsBefore (ls : List Content) (n : ℕ) (k : Content) (Q : Content → Type 0) : Type 0 where
+pub record StandsBefore (ls : List ChunkValue) (n : ℕ) (k : ChunkValue) (Q : ChunkValue → Type 0) : Type 0 where
   pub at : ℕ
   pub place : place_of ls n ≡ at
   pub within : at < length ls
@@ -37,21 +37,21 @@ pub record StandsBefore (ls : List Content) (n : ℕ) (k : Content) (Q : Content
 
 module _ (kept : List Addr) where
   -- what is left is a chunk that was there, swept
-  pub left_was : (ks : List Content) (k : Content) → In (left kept ks) k → (x : Content) × In ks x × (has kept x ≡ true) × (swept_chunk kept x ≡ k)
+  pub left_was : (ks : List ChunkValue) (k : ChunkValue) → In (left kept ks) k → (x : ChunkValue) × In ks x × (has kept x ≡ true) × (swept_chunk kept x ≡ k)
   left_was ks k i =
       let m = map_in (swept_chunk kept) (filter (stays kept None) ks) k i in
       let f = in_from_kept (stays kept None) ks m.0 m.1 in
       (m.0, f.0, f.1, m.2)
 
-  module _ (Q : Content → Type 0) (still : (k : Content) → Q k → Q (swept_chunk kept k)) where
-    all_left : (ks : List Content) → ((j : ℕ) → j < length ks → Q (chunk_at ks j)) → (j : ℕ) → j < length (left kept ks) → Q (chunk_at (left kept ks) j)
+  module _ (Q : ChunkValue → Type 0) (still : (k : ChunkValue) → Q k → Q (swept_chunk kept k)) where
+    all_left : (ks : List ChunkValue) → ((j : ℕ) → j < length ks → Q (chunk_at ks j)) → (j : ℕ) → j < length (left kept ks) → Q (chunk_at (left kept ks) j)
     all_left ks f j lt =
         let m = left_was ks (chunk_at (left kept ks) j) (chunk_there (left kept ks) j lt) in
         let p = place_there ks m.0 m.1 in
         subst Q m.3 (still m.0 (subst Q p.2 (f p.0 p.1)))
 
     -- a chunk that stays stands before what stood behind it
-    pub stays_before : (ks : List Content) → AreApart ks → (i : ℕ) → i < length ks → has kept (chunk_at ks i) ≡ true → ((j : ℕ) → i < j → j < length ks → Q (chunk_at ks j))
+    pub stays_before : (ks : List ChunkValue) → AreApart ks → (i : ℕ) → i < length ks → has kept (chunk_at ks i) ≡ true → ((j : ℕ) → i < j → j < length ks → Q (chunk_at ks j))
         → StandsBefore (left kept ks) (chunk_at ks i).number (swept_chunk kept (chunk_at ks i)) Q
     stays_before [] A i lt h f = absurd (omega (arith, lt))
     stays_before (k ∷ ks) A zero lt h f =
@@ -90,21 +90,21 @@ module _ (kept : List Addr) where
             behind S (suc j) b l = S.behind j (omega (arith, b)) (omega (arith, l))
 
   -- and none has the number of one that goes
-  pub goes_off : (ks : List Content) → AreApart ks → (k : Content) → In ks k → has kept k ≡ false → IsFresh (left kept ks) k.number
+  pub goes_off : (ks : List ChunkValue) → AreApart ks → (k : ChunkValue) → In ks k → has kept k ≡ false → IsFresh (left kept ks) k.number
   goes_off ks A k i h = fresh_by (left kept ks) k.number (λ c j e.
       let m = left_was ks c j in
-      let same : m.0 ≡ k = one_number ks m.0 k A m.1 i (ap (λ (z : Content). z.number) m.3 ∙ e) in
+      let same : m.0 ≡ k = one_number ks m.0 k A m.1 i (ap (λ (z : ChunkValue). z.number) m.3 ∙ e) in
       false≢true (sym h ∙ (ap (has kept) (sym same) ∙ m.2)))
 
 -- THE LAST LIST of names is that of the last small chunk
-abbrev pub small_names_of : List Content → List (List Name)
+abbrev pub small_names_of : List ChunkValue → List (List Name)
 small_names_of ks = map names_of (small_chunks (chunks_of ks))
 
 -- with a chunk before them
-abbrev names_with : Bool → Content → List Content → List (List Name)
+abbrev names_with : Bool → ChunkValue → List ChunkValue → List (List Name)
 names_with b k ks = map names_of (cond (not (not b)) (chunk_of k ∷ small_chunks (chunks_of ks)) (small_chunks (chunks_of ks)))
 
-none_small : (ks : List Content) → ((j : ℕ) → j < length ks → (chunk_at ks j).size ≡ 1024 → ⊥) → small_names_of ks ≡ []
+none_small : (ks : List ChunkValue) → ((j : ℕ) → j < length ks → (chunk_at ks j).size ≡ 1024 → ⊥) → small_names_of ks ≡ []
 none_small [] f = refl
 none_small (k ∷ ks) f = by (k.size == 1024) refl (none_small ks (λ j l. f (suc j) (omega (arith, l))))
   where
@@ -112,7 +112,7 @@ none_small (k ∷ ks) f = by (k.size == 1024) refl (none_small ks (λ j l. f (su
     by true q go = absurd (f 0 (omega arith) (eqb-true k.size 1024 q))
     by false q go = go
 
-some_small : (ks : List Content) (i : ℕ) → i < length ks → (chunk_at ks i).size ≡ 1024 → (ns : List Name) × (rest : List (List Name)) × (small_names_of ks ≡ ns ∷ rest)
+some_small : (ks : List ChunkValue) (i : ℕ) → i < length ks → (chunk_at ks i).size ≡ 1024 → (ns : List Name) × (rest : List (List Name)) × (small_names_of ks ≡ ns ∷ rest)
 some_small [] i l e = absurd (omega (arith, l))
 some_small (k ∷ ks) zero l e = (names_of (chunk_of k), small_names_of ks, ap (λ b. names_with b k ks) (eq-eqb k.size 1024 e))
 some_small (k ∷ ks) (suc i) l e = by (k.size == 1024) (some_small ks i (omega (arith, l)) e)
@@ -121,7 +121,7 @@ some_small (k ∷ ks) (suc i) l e = by (k.size == 1024) (some_small ks i (omega 
     by true go = (names_of (chunk_of k), small_names_of ks, refl)
     by false go = go
 
-pub last_empty : (f : List Name → List Name) (ks : List Content) (i : ℕ) → i < length ks → (chunk_at ks i).size ≡ 1024 → IsLastSmall ks (Some i) → is_last_empty (map f (small_names_of ks)) ≡ is_empty (f (names_of (chunk_of (chunk_at ks i))))
+pub last_empty : (f : List Name → List Name) (ks : List ChunkValue) (i : ℕ) → i < length ks → (chunk_at ks i).size ≡ 1024 → IsLastSmall ks (Some i) → is_last_empty (map f (small_names_of ks)) ≡ is_empty (f (names_of (chunk_of (chunk_at ks i))))
 last_empty f [] i l e last = absurd (omega (arith, l))
 last_empty f (k ∷ ks) zero l e last =
     ap (λ z. is_last_empty (map f z)) (ap (λ b. names_with b k ks) (eq-eqb k.size 1024 e) ∙ ap (λ ns. names_of (chunk_of k) ∷ ns) (none_small ks (λ j b. last (suc j) (omega arith) (omega (arith, b)))))

@@ -12,17 +12,17 @@ use Rattle.run_ledger.specs.Reachable.{holds_name}
 use Rattle.run_ledger.proofs.History.{snapshots_are_held}
 use Rattle.run_ledger.proofs.Members.{holds_from_in, in_from_holds}
 use Rattle.run_ledger.proofs.Use.{chunks_are_used}
-use Rattle.alloc_path.specs.Heap.{room_of}
-use Rattle.inner_mark_gc.specs.Marks.{IsDone, has_address, marked_of}
+use Rattle.alloc_path.specs.LeafHeapValue.{room_of}
+use Rattle.inner_mark_gc.specs.MarkingValue.{IsDone, has_address, marked_of}
 use Rattle.inner_mark_gc.proofs.Addresses.{has_in, in_has}
 use Rattle.inner_mark_gc.proofs.Kept.{all_marked_is_done}
-use Rattle.ledger_steps.specs.Accounts.{Rests}
+use Rattle.ledger_step_laws.specs.Accounts.{Rests}
 use Rattle.core_relation.specs.Layout.{AreLaidOut}
 use Rattle.core_relation.specs.Marking.{MarkedBy}
 use Rattle.core_relation.specs.Since.{kept as kept_of}
 use Rattle.core_relation.specs.Stands.{HasNames, HomeStands}
 use Rattle.object_layout.specs.Objects.{Located}
-use Rattle.core_relation.specs.Value.{Home, In, Value, object_name, objects, objects_in}
+use Rattle.core_relation.specs.Memory.{Home, In, Memory, object_name, objects, objects_in}
 use Rattle.core_relation.specs.Whole.{StandsFor}
 use Rattle.core_relation.proofs.notes.MarksAll.{marks_are_all}
 use Rattle.core_relation.proofs.objects.Members.{in_map}
@@ -31,8 +31,8 @@ use Rattle.shared_value.specs.declared.task_at_rest.Rest.{Rest}
 use Rattle.shared_value.specs.declared.task_at_rest.Work.{Work}
 use Rattle.shared_value.specs.declared.task_at_rest.Work.TheVariants.{Calls, Result}
 use Rattle.shared_value.specs.Objects.{chunk_of, chunks_of}
-use Rattle.shared_value.specs.World.{World, accounts, home_by, home_in, home_of, totals_of, value_of}
-use Rattle.shared_value.specs.Stands.{HeapForm, IsWorld}
+use Rattle.shared_value.specs.SharedValue.{SharedValue, accounts, home_by, home_in, home_of, totals_of, value_of}
+use Rattle.shared_value.specs.Stands.{HeapForm, IsSharedValue}
 use Rattle.shared_value.proofs.HeapCounts.{counted_from}
 use Rattle.shared_value.proofs.HeapForms.{reserved_none}
 use Rattle.shared_value.proofs.FieldsLed.{home_chunks}
@@ -74,11 +74,11 @@ same_truth true b f g = sym (f refl)
 same_truth false true f g = g refl
 same_truth false false f g = refl
 
-module _ (w : World) (I : IsWorld w) (on : (accounts w).end ≡ None) (t : ℕ) (free : marking_cause w t ≡ None) where
+module _ (w : SharedValue) (I : IsSharedValue w) (on : (accounts w).end ≡ None) (t : ℕ) (free : marking_cause w t ≡ None) where
   abbrev l : Ledger
   l = accounts w
 
-  abbrev v : Value
+  abbrev v : Memory
   v = value_of w
 
   abbrev a : Account

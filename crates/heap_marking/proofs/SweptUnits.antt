@@ -13,21 +13,21 @@ use Rattle.run_ledger.specs.Heaps.{begun_in, heap_of, held, held_in, in_use, lef
 use Rattle.run_ledger.specs.Reachable.{holds_name}
 use Rattle.run_ledger.proofs.Space.{heaps_fit, use_is_bounded}
 use Rattle.object_layout.specs.declared.word.Addr.{Addr}
-use Rattle.object_layout.specs.Content.{Content}
+use Rattle.object_layout.specs.ChunkValue.{ChunkValue}
 use Rattle.object_layout.specs.Objects.{Located}
 use Rattle.alloc_path.specs.Units.{counted32, unit_count}
-use Rattle.inner_mark_gc.specs.Marks.{IsDone, Marks, marked_of}
+use Rattle.inner_mark_gc.specs.MarkingValue.{IsDone, MarkingValue, marked_of}
 use Rattle.inner_mark_gc.specs.Swept.{gone_of}
 use Rattle.inner_mark_gc.proofs.Finding.{found_few}
 use Rattle.core_relation.specs.Layout.{words}
 use Rattle.core_relation.specs.Marking.{MarkedBy}
 use Rattle.core_relation.specs.Stands.{HasNames, large_chunks, names_of, small_chunks}
-use Rattle.core_relation.specs.Value.{In, object_name, objects_in}
+use Rattle.core_relation.specs.Memory.{In, object_name, objects_in}
 use Rattle.core_relation.proofs.objects.Merged.{map_append}
 use Rattle.shared_value.specs.declared.task_at_rest.Rest.{Rest}
 use Rattle.shared_value.specs.Objects.{chunk_of, chunks_of}
-use Rattle.shared_value.specs.World.{World, accounts, marks_at, rest_at, value_of}
-use Rattle.shared_value.specs.Stands.{IsWorld}
+use Rattle.shared_value.specs.SharedValue.{SharedValue, accounts, marks_at, rest_at, value_of}
+use Rattle.shared_value.specs.Stands.{IsSharedValue}
 use Rattle.shared_value.proofs.HeapWords.{words_same}
 use Rattle.shared_value.proofs.ObjectCounts.{objects_counted}
 use Rattle.heap_marking.specs.MarkCauses.{marking_cause}
@@ -36,7 +36,7 @@ use Rattle.heap_marking.proofs.SweptForm.{filled, gone_plain}
 use Rattle.heap_marking.proofs.SweptStart as start
 
 -- THE NUMBER OF A SWEEP, of chunks with these names
-module _ (kept : List Addr) (m : State) (a : Account) (ks : List Content) (F : AreFilled ks) (N : HasNames (chunks_of ks) a) (A : Agrees kept (holds_name a.snapshot) (objects_in (chunks_of ks))) (W : KnowWords kept m (objects_in (chunks_of ks))) where
+module _ (kept : List Addr) (m : State) (a : Account) (ks : List ChunkValue) (F : AreFilled ks) (N : HasNames (chunks_of ks) a) (A : Agrees kept (holds_name a.snapshot) (objects_in (chunks_of ks))) (W : KnowWords kept m (objects_in (chunks_of ks))) where
   G : Goes kept m ks
   G = units_gone kept m ks F W
 
@@ -106,13 +106,13 @@ module _ (m : State) where
       let go : length os ≤ words_sum m (map object_name os) = objects_few os (λ q i. W q (inr i)) in
       omega (arith, s, w, go)
 
-  abbrev small_words : List Content → ℕ
+  abbrev small_words : List ChunkValue → ℕ
   small_words ks = words_sum m (flat_map (λ ns. ns) (map names_of (small_chunks (chunks_of ks))))
 
-  abbrev large_words : List Content → ℕ
+  abbrev large_words : List ChunkValue → ℕ
   large_words ks = words_sum m (map object_name (objects_in (large_chunks (chunks_of ks))))
 
-  chunks_few : (ks : List Content) → Know (objects_in (chunks_of ks)) → length (objects_in (chunks_of ks)) ≤ small_words ks + large_words ks
+  chunks_few : (ks : List ChunkValue) → Know (objects_in (chunks_of ks)) → length (objects_in (chunks_of ks)) ≤ small_words ks + large_words ks
   chunks_few [] W = omega arith
   chunks_few (k ∷ ks) W =
       by (k.size == 1024) (objects_few (chunk_of k).objects (λ o i. W o (in_append_left (chunk_of k).objects (objects_in (chunks_of ks)) o i)))
@@ -132,7 +132,7 @@ module _ (m : State) where
           let s = ap (words_sum m) (map_append object_name (chunk_of k).objects (objects_in (large_chunks (chunks_of ks)))) ∙ sum_by-append (words_at m) (names_of (chunk_of k)) (map object_name (objects_in (large_chunks (chunks_of ks)))) in
           omega (arith, long, own, go, s)
 
-  pub held_few : (a : Account) (ks : List Content) → HasNames (chunks_of ks) a → Know (objects_in (chunks_of ks)) → length (objects_in (chunks_of ks)) ≤ words_sum m (held_in a)
+  pub held_few : (a : Account) (ks : List ChunkValue) → HasNames (chunks_of ks) a → Know (objects_in (chunks_of ks)) → length (objects_in (chunks_of ks)) ≤ words_sum m (held_in a)
   held_few a ks N W =
       let both = sum_by-append (words_at m) (small_in a) a.large in
       let small = ap (λ ls. words_sum m (flat_map (λ ns. ns) ls)) N.small in
@@ -146,17 +146,17 @@ take_long (suc n) [] le = absurd (omega (arith, le))
 take_long (suc n) (x ∷ xs) le = ap suc (take_long n xs (omega (arith, le)))
 
 -- OF A HEAP that is marked
-module _ (w : World) (I : IsWorld w) (on : (accounts w).end ≡ None) (t : ℕ) (free : marking_cause w t ≡ None) where
+module _ (w : SharedValue) (I : IsSharedValue w) (on : (accounts w).end ≡ None) (t : ℕ) (free : marking_cause w t ≡ None) where
   abbrev l : Ledger
   l = accounts w
 
   abbrev a : Account
   a = heap_of (accounts w) t
 
-  abbrev marks : Marks
+  abbrev marks : MarkingValue
   marks = (start.Z w I on t free).marks
 
-  abbrev ks : List Content
+  abbrev ks : List ChunkValue
   ks = (start.Z w I on t free).rest.heap.chunks
 
   pub know : (o : Located) → In (objects_in (chunks_of ks)) o → words_at l.machine (object_name o) ≡ words o
@@ -179,11 +179,11 @@ module _ (w : World) (I : IsWorld w) (on : (accounts w).end ≡ None) (t : ℕ) 
       let most = used in
       omega (arith, found, below, named, all, fits, most)
 
-  pub few_at : (m : Marks) → marks_at w.marks t ≡ Some m → m.marked < 2 ^ 32
-  few_at m at = subst (λ (y : Marks). y.marked < 2 ^ 32) (same_Some marks m (sym (start.Z w I on t free).at ∙ at)) few_marked
+  pub few_at : (m : MarkingValue) → marks_at w.marks t ≡ Some m → m.marked < 2 ^ 32
+  few_at m at = subst (λ (y : MarkingValue). y.marked < 2 ^ 32) (same_Some marks m (sym (start.Z w I on t free).at ∙ at)) few_marked
 
   -- as its account says
-  pub count_at : (m : Marks) → marks_at w.marks t ≡ Some m → m.marked ≡ marked_in a
+  pub count_at : (m : MarkingValue) → marks_at w.marks t ≡ Some m → m.marked ≡ marked_in a
   count_at m at =
       let M : MarkedBy (value_of w) l t (Some m) = subst (MarkedBy (value_of w) l t) at ((start.S w I on t free).marks t (start.Z w I on t free).keeps) in
       sym (ap (λ (o : Option ℕ). unwrap_or o 0) M.0.count ∙ take_long m.marked m.found M.1.marked)
@@ -209,8 +209,8 @@ module _ (w : World) (I : IsWorld w) (on : (accounts w).end ≡ None) (t : ℕ) 
         counted n m e few = omega (arith, e, few)
 
     -- as a call has the heap and the marking
-    pub would_be : (r : Rest) (m : Marks) → rest_at w.homes t ≡ Some r → marks_at w.marks t ≡ Some m → IsDone m × (counted32 (unit_count (gone_of r.heap (marked_of m))) ≡ sweep_number l.machine a)
+    pub would_be : (r : Rest) (m : MarkingValue) → rest_at w.homes t ≡ Some r → marks_at w.marks t ≡ Some m → IsDone m × (counted32 (unit_count (gone_of r.heap (marked_of m))) ≡ sweep_number l.machine a)
     would_be r m there at =
         subst (λ (x : Rest). IsDone m × (counted32 (unit_count (gone_of x.heap (marked_of m))) ≡ sweep_number l.machine a)) (same_Some (start.Z w I on t free).rest r (sym (start.Z w I on t free).there ∙ there))
-        (subst (λ (y : Marks). IsDone y × (counted32 (unit_count (gone_of (start.Z w I on t free).rest.heap (marked_of y))) ≡ sweep_number l.machine a)) (same_Some marks m (sym (start.Z w I on t free).at ∙ at))
+        (subst (λ (y : MarkingValue). IsDone y × (counted32 (unit_count (gone_of (start.Z w I on t free).rest.heap (marked_of y))) ≡ sweep_number l.machine a)) (same_Some marks m (sym (start.Z w I on t free).at ∙ at))
         (start.done w I on t free none_left, would_is))

@@ -9,15 +9,15 @@ use Rattle.run_ledger.specs.declared.data.Ledger.{Ledger}
 use Rattle.run_ledger.specs.declared.data.Refused.TheVariants.{NotWaiting, Swept}
 use Rattle.run_ledger.specs.Entries.{refused_unless}
 use Rattle.run_ledger.specs.Heaps.{heap_of}
-use Rattle.ledger_steps.proofs.Split.{legal_idle}
+use Rattle.ledger_step_laws.proofs.Split.{legal_idle}
 use Rattle.core_relation.specs.Reads.{HoldsRead}
 use Rattle.core_relation.specs.Stands.{Place}
-use Rattle.core_relation.specs.Value.{Value}
+use Rattle.core_relation.specs.Memory.{Memory}
 use Rattle.core_relation.specs.Whole.{StandsFor}
 use Rattle.core_relation.proofs.whole.Past.{waiting_stops}
 use Rattle.shared_value.specs.declared.task_at_rest.Rest.{Rest}
-use Rattle.shared_value.specs.World.{World, accounts, flat, home_in, no_home, noted_in, rest_at, totals_of, value_of}
-use Rattle.shared_value.specs.Stands.{IsWorld}
+use Rattle.shared_value.specs.SharedValue.{SharedValue, accounts, flat, home_in, no_home, noted_in, rest_at, totals_of, value_of}
+use Rattle.shared_value.specs.Stands.{IsSharedValue}
 use Rattle.shared_value.proofs.BeforeTheEnd.{stands_now}
 use Rattle.heap_marking.specs.MarkCauses.{is_state_waiting, waiting_cause}
 use Rattle.heap_marking.proofs.MarkCauses.{waits_by}
@@ -32,11 +32,11 @@ pub some_of : {A : Type 0} (o : Option A) → is_some o ≡ true → (x : A) × 
 some_of None h = absurd cc
 some_of (Some x) h = (x, refl)
 
-module _ (w : World) (I : IsWorld w) (on : (accounts w).end ≡ None) (t : ℕ) (free : waiting_cause w t ≡ None) where
+module _ (w : SharedValue) (I : IsSharedValue w) (on : (accounts w).end ≡ None) (t : ℕ) (free : waiting_cause w t ≡ None) where
   abbrev l : Ledger
   l = accounts w
 
-  abbrev v : Value
+  abbrev v : Memory
   v = value_of w
 
   S : StandsFor v (totals_of w) l

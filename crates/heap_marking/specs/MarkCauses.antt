@@ -1,7 +1,7 @@
 -- Why the heap of a task is neither marked nor swept, as the shared value tells it.
 use Rattle.std.specs.Prelude.{◌≡◌, ◌==◌, ℕ, Bool, true, false, Option, Some, None, List, is_some, nat_le, slice_get}
 use Rattle.run_trace.specs.declared.entry.Kind.TheVariants.{Mark, More, Sweep}
-use Rattle.run_trace.specs.Settings.{Limits}
+use Rattle.run_trace.specs.Settings.{SettingsValue}
 use Rattle.run_ledger.specs.declared.data.Refused.{Refused}
 use Rattle.run_ledger.specs.declared.data.Refused.TheVariants.{Left, Marked, Marking, NotDue, NotMarking, NotWaiting, Swept}
 use Rattle.run_ledger.specs.Entries.{counted, kind_refusal, refused_if, refused_unless}
@@ -10,10 +10,10 @@ use Rattle.heap_tree.specs.declared.state.State.{State}
 use Rattle.heap_tree.specs.declared.state.State.TheVariants.{Ready, Out, Waiting, Ended, Joined}
 use Rattle.heap_tree.specs.Node.{Node, state_of}
 use Rattle.write_barrier.specs.declared.sets.SetOf.{SetOf}
-use Rattle.inner_mark_gc.specs.Marks.{Marks}
+use Rattle.inner_mark_gc.specs.MarkingValue.{MarkingValue}
 use Rattle.shared_value.specs.Causes.{or_else}
-use Rattle.shared_value.specs.World.{World, accounts, marks_at, noted_in}
-use Rattle.shared_value.specs.Stands.{IsWorld}
+use Rattle.shared_value.specs.SharedValue.{SharedValue, accounts, marks_at, noted_in}
+use Rattle.shared_value.specs.Stands.{IsSharedValue}
 
 abbrev pub is_state_waiting : Option State → Bool
 is_state_waiting None = false
@@ -27,22 +27,22 @@ is_state_waiting (Some Joined) = false
 abbrev pub waiting_cause_in : List Node → List SetOf → ℕ → Option Refused
 waiting_cause_in tree sets t = refused_unless (is_state_waiting (state_of tree t)) NotWaiting (refused_unless (noted_in (slice_get sets t)).keeps Swept None)
 
-abbrev pub waiting_cause : World → ℕ → Option Refused
+abbrev pub waiting_cause : SharedValue → ℕ → Option Refused
 waiting_cause w t = waiting_cause_in w.tree w.sets t
 
 -- or since it isn't being marked
-abbrev pub marking_cause_in : List Node → List SetOf → List (Option Marks) → ℕ → Option Refused
+abbrev pub marking_cause_in : List Node → List SetOf → List (Option MarkingValue) → ℕ → Option Refused
 marking_cause_in tree sets marks t = or_else (waiting_cause_in tree sets t) (refused_unless (is_some (marks_at marks t)) NotMarking None)
 
-abbrev pub marking_cause : World → ℕ → Option Refused
+abbrev pub marking_cause : SharedValue → ℕ → Option Refused
 marking_cause w t = marking_cause_in w.tree w.sets w.marks t
 
 -- or since it has too few words
-abbrev pub words_cause : Limits → ℕ → Option Refused
+abbrev pub words_cause : SettingsValue → ℕ → Option Refused
 words_cause s words = refused_unless (nat_le s.inner words) (NotDue words) None
 
 -- THE LAW: entries that mark and sweep are refused so
-pub record MarksAreRefused (w : World) (k t : ℕ) : Type 0 where
+pub record MarksAreRefused (w : SharedValue) (k t : ℕ) : Type 0 where
   pub mark : kind_refusal w.program w.settings (accounts w) k (Mark t)
       ≡ or_else (waiting_cause w t) (refused_if (is_some (marks_at w.marks t)) Marking (words_cause w.settings (words_in (accounts w).machine (heap_of (accounts w) t))))
   pub more : (n : ℕ) → kind_refusal w.program w.settings (accounts w) k (More t n) ≡ or_else (marking_cause w t) (refused_if (left_in (heap_of (accounts w) t) == 0) Marked None)
@@ -51,4 +51,4 @@ pub record MarksAreRefused (w : World) (k t : ℕ) : Type 0 where
       refused_unless (left_in (heap_of (accounts w) t) == 0) (Left (marked_in (heap_of (accounts w) t))) (counted given (sweep_number (accounts w).machine (heap_of (accounts w) t)) None))
 
 abbrev pub MarksRefuse : Type 0
-MarksRefuse = (w : World) (k t : ℕ) → IsWorld w → (accounts w).end ≡ None → MarksAreRefused w k t
+MarksRefuse = (w : SharedValue) (k t : ℕ) → IsSharedValue w → (accounts w).end ≡ None → MarksAreRefused w k t

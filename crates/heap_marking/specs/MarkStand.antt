@@ -2,21 +2,21 @@
 use Rattle.std.specs.Prelude.{◌≡◌, ◌==◌, ◌↔◌, ℕ, Bool, true, IsTrue, Some, None, slice_get}
 use Rattle.hh_model.specs.Step.{is_waiting}
 use Rattle.run_ledger.specs.Heaps.{heap_of, left_in}
-use Rattle.inner_mark_gc.specs.Marks.{IsAllMarked, IsMarking, Marks}
+use Rattle.inner_mark_gc.specs.MarkingValue.{IsAllMarked, IsMarking, MarkingValue}
 use Rattle.inner_mark_gc.specs.Snapshot.{Fork, IsSince}
 use Rattle.core_relation.specs.Since.{kept}
 use Rattle.shared_value.specs.declared.task_at_rest.Rest.{Rest}
-use Rattle.shared_value.specs.World.{World, accounts, marks_at, rest_at, value_of}
-use Rattle.shared_value.specs.Stands.{IsWorld}
+use Rattle.shared_value.specs.SharedValue.{SharedValue, accounts, marks_at, rest_at, value_of}
+use Rattle.shared_value.specs.Stands.{IsSharedValue}
 use Rattle.heap_marking.specs.MarkCauses.{marking_cause}
 use Rattle.heap_marking.specs.Marking.{Further}
 
-pub record StandsMarked (w : World) (t : ℕ) : Type 0 where
+pub record StandsMarked (w : SharedValue) (t : ℕ) : Type 0 where
   pub wait : is_waiting (slice_get (accounts w).machine.tasks t) ≡ true
   pub keeps : ((value_of w).noted t).keeps ≡ true
   pub rest : Rest
   pub there : rest_at w.homes t ≡ Some rest
-  pub marks : Marks
+  pub marks : MarkingValue
   pub at : marks_at w.marks t ≡ Some marks
   pub further : Further w t rest marks
   -- nothing is left exactly where the marking is ready
@@ -25,4 +25,4 @@ pub record StandsMarked (w : World) (t : ℕ) : Type 0 where
 
 -- where no cause speaks against it
 abbrev pub MarksStand : Type 0
-MarksStand = (w : World) (t : ℕ) → IsWorld w → (accounts w).end ≡ None → marking_cause w t ≡ None → StandsMarked w t
+MarksStand = (w : SharedValue) (t : ℕ) → IsSharedValue w → (accounts w).end ≡ None → marking_cause w t ≡ None → StandsMarked w t

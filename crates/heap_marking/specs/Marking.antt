@@ -3,7 +3,7 @@ use Rattle.std.specs.Prelude.{◌≡◌, ◌⊎◌, ◌↔◌, ◌++◌, ◌∷�
 use Rattle.hh_model.specs.Step.{is_waiting}
 use Rattle.run_trace.specs.declared.entry.Kind.{Kind}
 use Rattle.run_trace.specs.declared.entry.Kind.TheVariants.{Mark, More}
-use Rattle.run_trace.specs.Entry.{Event}
+use Rattle.run_trace.specs.Entry.{EntryValue}
 use Rattle.run_ledger.specs.declared.data.Ledger.{Ledger}
 use Rattle.run_ledger.specs.Heaps.{heap_of, left_in}
 use Rattle.run_ledger.specs.Entries.{after}
@@ -11,33 +11,33 @@ use Rattle.object_layout.specs.declared.word.Addr.{Addr}
 use Rattle.object_layout.specs.Graph.{IsClosed, IsHeld}
 use Rattle.object_layout.specs.Objects.{Located}
 use Rattle.task_frames.specs.declared.frames.Frame.{Frame}
-use Rattle.inner_mark_gc.specs.Marks.{IsAllMarked, IsMarking, IsOf, Marks, marked_of}
+use Rattle.inner_mark_gc.specs.MarkingValue.{IsAllMarked, IsMarking, IsOf, MarkingValue, marked_of}
 use Rattle.inner_mark_gc.specs.Snapshot.{Fork, IsSince}
-use Rattle.core_relation.specs.Value.{In, Value}
+use Rattle.core_relation.specs.Memory.{In, Memory}
 use Rattle.core_relation.specs.Begins.{IsAt, IsRoot}
 use Rattle.core_relation.specs.Marking.{GoesOn, MarksStand}
 use Rattle.core_relation.specs.Since.{kept as kept_of}
 use Rattle.shared_value.specs.declared.task_at_rest.Rest.{Rest}
-use Rattle.shared_value.specs.World.{World, accounts, marks_at, rest_at, value_of}
-use Rattle.shared_value.specs.Stands.{IsWorld}
+use Rattle.shared_value.specs.SharedValue.{SharedValue, accounts, marks_at, rest_at, value_of}
+use Rattle.shared_value.specs.Stands.{IsSharedValue}
 use Rattle.shared_value.specs.Fits.{AllFit}
 use Rattle.shared_value.specs.Entered.{refused}
 
 -- where a marking of the heap of t begins: at an object of it that a register of t names, or to which a remembered
 -- field refers
-abbrev pub IsStart : Value → Ledger → ℕ → Addr → Type 0
+abbrev pub IsStart : Memory → Ledger → ℕ → Addr → Type 0
 IsStart v l t a = ((o : Located) × IsAt (v.homes t) a o × ((f : Frame) × In (v.homes t).frames f × In f.refs (Some a))) ⊎ IsRoot v l t a
 
 -- of a task that waits, whose overwritten references are kept, such a marking goes on to just the snapshot
 abbrev pub MarksBegin : Type 0
 MarksBegin =
-    (w : World) (t : ℕ) (r : Rest) (roots : List Addr) (m : Marks) → let v : Value = value_of w in let l : Ledger = accounts w in
-    IsWorld w → l.end ≡ None → rest_at w.homes t ≡ Some r → is_waiting (slice_get l.machine.tasks t) ≡ true → (v.noted t).keeps ≡ true
+    (w : SharedValue) (t : ℕ) (r : Rest) (roots : List Addr) (m : MarkingValue) → let v : Memory = value_of w in let l : Ledger = accounts w in
+    IsSharedValue w → l.end ≡ None → rest_at w.homes t ≡ Some r → is_waiting (slice_get l.machine.tasks t) ≡ true → (v.noted t).keeps ≡ true
     → ((a : Addr) → In roots a ↔ IsStart v l t a) → IsOf r.heap.chunks (kept_of v t) m → IsMarking (record { heap = r.heap.chunks; roots = roots }) (kept_of v t) m
     → GoesOn v t (heap_of l t).snapshot m
 
 -- the value with other marks, and one entry more
-abbrev pub marked_more : World → Event → List (Option Marks) → ℕ → World
+abbrev pub marked_more : SharedValue → EntryValue → List (Option MarkingValue) → ℕ → SharedValue
 marked_more w e marks room = record w { marks = marks; journal = record { items = w.journal.items ++ e ∷ []; room = room } }
 
 -- the entry begins the marking of the heap of t, or goes on with it
@@ -49,14 +49,14 @@ MarksJust _ t = ⊥
 -- a marking that can go on, of as many objects as the account says then, is entered
 abbrev pub MarksEnter : Type 0
 MarksEnter =
-    (w : World) (k : ℕ) (kind : Kind) (t : ℕ) (m : Marks) (marks : List (Option Marks)) (room : ℕ) → let e : Event = record { worker = k; kind = kind } in let l : Ledger = accounts w in
-    IsWorld w → refused w e ≡ None → MarksJust kind t → marks_at marks t ≡ Some m → ((u : ℕ) → (u ≡ t → ⊥) → marks_at marks u ≡ marks_at w.marks u)
+    (w : SharedValue) (k : ℕ) (kind : Kind) (t : ℕ) (m : MarkingValue) (marks : List (Option MarkingValue)) (room : ℕ) → let e : EntryValue = record { worker = k; kind = kind } in let l : Ledger = accounts w in
+    IsSharedValue w → refused w e ≡ None → MarksJust kind t → marks_at marks t ≡ Some m → ((u : ℕ) → (u ≡ t → ⊥) → marks_at marks u ≡ marks_at w.marks u)
     → (heap_of (after w.program w.settings l e) t).marked ≡ Some (length (marked_of m)) → GoesOn (value_of w) t (heap_of l t).snapshot m
-    → IsWorld (marked_more w e marks room) × AllFit w (marked_more w e marks room)
+    → IsSharedValue (marked_more w e marks room) × AllFit w (marked_more w e marks room)
 
 -- of a marking that can go on: what it asks of the heap, when nothing is left,
 -- and that what is marked further can go on
-pub record Further (w : World) (t : ℕ) (r : Rest) (m : Marks) : Type 0 where
+pub record Further (w : SharedValue) (t : ℕ) (r : Rest) (m : MarkingValue) : Type 0 where
   pub fork : Fork
   pub since : IsSince fork (kept_of (value_of w) t) r.heap.chunks
   pub marks : IsMarking fork (kept_of (value_of w) t) m
@@ -64,19 +64,19 @@ pub record Further (w : World) (t : ℕ) (r : Rest) (m : Marks) : Type 0 where
   pub kept : All (IsHeld r.heap.chunks) (kept_of (value_of w) t)
   pub closed : IsClosed r.heap.chunks
   pub left : MarksStand (value_of w) (accounts w) t (marked_of m) → IsAllMarked fork (kept_of (value_of w) t) m ↔ (left_in (heap_of (accounts w) t) ≡ 0)
-  pub further : (m' : Marks) → IsOf r.heap.chunks (kept_of (value_of w) t) m'
+  pub further : (m' : MarkingValue) → IsOf r.heap.chunks (kept_of (value_of w) t) m'
       → ((f : Fork) → IsSince f (kept_of (value_of w) t) r.heap.chunks → IsMarking f (kept_of (value_of w) t) m → IsMarking f (kept_of (value_of w) t) m') → GoesOn (value_of w) t (heap_of (accounts w) t).snapshot m'
 
 abbrev pub MarksGoFurther : Type 0
 MarksGoFurther =
-    (w : World) (t : ℕ) (r : Rest) (m : Marks) → IsWorld w → (accounts w).end ≡ None → rest_at w.homes t ≡ Some r → is_waiting (slice_get (accounts w).machine.tasks t) ≡ true → ((value_of w).noted t).keeps ≡ true
+    (w : SharedValue) (t : ℕ) (r : Rest) (m : MarkingValue) → IsSharedValue w → (accounts w).end ≡ None → rest_at w.homes t ≡ Some r → is_waiting (slice_get (accounts w).machine.tasks t) ≡ true → ((value_of w).noted t).keeps ≡ true
     → GoesOn (value_of w) t (heap_of (accounts w) t).snapshot m → Further w t r m
 
 -- how many are marked further is what the account says: so many, or what is left
 abbrev pub MarksCount : Type 0
 MarksCount =
-    (w : World) (k t : ℕ) (r : Rest) (m m' : Marks) (n count : ℕ) → let v : Value = value_of w in let l : Ledger = accounts w in
-    IsWorld w → l.end ≡ None → rest_at w.homes t ≡ Some r → is_waiting (slice_get l.machine.tasks t) ≡ true → (v.noted t).keeps ≡ true → marks_at w.marks t ≡ Some m
+    (w : SharedValue) (k t : ℕ) (r : Rest) (m m' : MarkingValue) (n count : ℕ) → let v : Memory = value_of w in let l : Ledger = accounts w in
+    IsSharedValue w → l.end ≡ None → rest_at w.homes t ≡ Some r → is_waiting (slice_get l.machine.tasks t) ≡ true → (v.noted t).keeps ≡ true → marks_at w.marks t ≡ Some m
     → GoesOn v t (heap_of l t).snapshot m' → m'.marked ≡ m.marked + count → count ≤ n
     → (count < n → (f : Fork) → IsSince f (kept_of v t) r.heap.chunks → IsMarking f (kept_of v t) m → IsAllMarked f (kept_of v t) m')
     → (count ≡ min n (left_in (heap_of l t))) × ((heap_of (after w.program w.settings l (record { worker = k; kind = More t n })) t).marked ≡ Some (length (marked_of m')))

@@ -3,8 +3,8 @@ use Rattle.std.specs.Prelude.{◌≡◌, ◌⊎◌, ◌==◌, ◌&&◌, ◌++◌
 use Rattle.hh_model.specs.declared.data.Strand.{Strand}
 use Rattle.hh_model.specs.declared.data.Task.{Task}
 use Rattle.hh_model.specs.Step.{is_waiting, joined, parents, strand_of, waits}
-use Rattle.run_trace.specs.Entry.{Event}
-use Rattle.run_trace.specs.Settings.{Limits}
+use Rattle.run_trace.specs.Entry.{EntryValue}
+use Rattle.run_trace.specs.Settings.{SettingsValue}
 use Rattle.run_ledger.specs.declared.data.Ledger.{Ledger}
 use Rattle.run_ledger.specs.declared.data.Previous.{Previous as PreviousEntry}
 use Rattle.run_ledger.specs.declared.data.Previous.TheVariants.{Other as OtherEntry, Ran as RanEntry, Forked as ForkedEntry}
@@ -15,8 +15,8 @@ use Rattle.heap_tree.specs.declared.state.State.{State}
 use Rattle.heap_tree.specs.declared.state.State.TheVariants.{Ready, Out, Waiting, Ended, Joined}
 use Rattle.heap_tree.specs.Node.{Node, parent_of, state_of}
 use Rattle.shared_value.specs.Entered.{refused, Enters}
-use Rattle.shared_value.specs.Stands.{IsWorld}
-use Rattle.shared_value.specs.World.{World, accounts}
+use Rattle.shared_value.specs.Stands.{IsSharedValue}
+use Rattle.shared_value.specs.SharedValue.{SharedValue, accounts}
 use Rattle.heap_marking.specs.declared.pace.Fork.{Fork}
 use Rattle.heap_marking.specs.declared.pace.Pace.{Pace}
 use Rattle.heap_marking.specs.declared.pace.Previous.{Previous}
@@ -92,7 +92,7 @@ abbrev pub is_going : Ledger → Fork → Bool
 is_going l f = not (joined l.machine.tasks f.left) && (is_waiting (slice_get l.machine.tasks f.task) && not (heap_of l f.task).swept)
 
 -- a heap is to be marked, as the fork of its task tells
-abbrev pub is_to_begin : Limits → Ledger → Fork → Bool
+abbrev pub is_to_begin : SettingsValue → Ledger → Fork → Bool
 is_to_begin s l f =
     not (joined l.machine.tasks f.left)
     && (is_waiting (slice_get l.machine.tasks f.task) && (is_unmarked (heap_of l f.task) && nat_le s.inner (words_in l.machine (heap_of l f.task))))
@@ -129,5 +129,5 @@ pub record KeepsPace (l : Ledger) (q : Pace) (x : WorkerPace) : Type 0 where
 -- THE LAW: an accepted entry keeps what is kept
 abbrev pub PacesStay : Type 0
 PacesStay =
-    (w after : World) (e : Event) (q : Pace) (x : WorkerPace) → IsWorld w → Enters w after e → refused w e ≡ None
+    (w after : SharedValue) (e : EntryValue) (q : Pace) (x : WorkerPace) → IsSharedValue w → Enters w after e → refused w e ≡ None
     → KeepsPace (accounts w) q x → KeepsPace (accounts after) q x

@@ -2,13 +2,13 @@
 use Rattle.std.specs.Prelude.{◌≡◌, ◌↔◌, ℕ, Option, Some, None, List, [], ◌++◌, slice_get}
 use Rattle.std.specs.List.{flat_map}
 use Rattle.object_layout.specs.declared.word.Addr.{Addr}
-use Rattle.object_layout.specs.Content.{Content}
+use Rattle.object_layout.specs.ChunkValue.{ChunkValue}
 use Rattle.object_layout.specs.Graph.{IsHeld}
-use Rattle.task_frames.specs.Stack.{frames_of}
+use Rattle.task_frames.specs.FramesValue.{frames_of}
 use Rattle.remembered_set.specs.declared.remembered.Source.{Source}
 use Rattle.remembered_set.specs.Moved.{into, targets_of}
 use Rattle.leaf_copy_gc.specs.Survivors.{held_by}
-use Rattle.inner_mark_gc.specs.Marks.{IsMarking, IsOf, Marks}
+use Rattle.inner_mark_gc.specs.MarkingValue.{IsMarking, IsOf, MarkingValue}
 use Rattle.inner_mark_gc.specs.Snapshot.{Fork}
 use Rattle.shared_value.specs.declared.heaps.Heaps.{Heaps}
 use Rattle.shared_value.specs.declared.task_at_rest.Rest.{Rest}
@@ -16,7 +16,7 @@ use Rattle.shared_value.specs.declared.task_at_rest.Work.{Work}
 use Rattle.shared_value.specs.declared.task_at_rest.Work.TheVariants.{Calls, Result}
 use Rattle.shared_value.specs.RestingHeaps.{refs_in}
 use Rattle.shared_value.specs.Roots.{heaps_of, sources_of}
-use Rattle.shared_value.specs.World.{World, rest_at}
+use Rattle.shared_value.specs.SharedValue.{SharedValue, rest_at}
 
 -- the references of a task's frames
 abbrev pub registers_of : Work → List (Option Addr)
@@ -31,11 +31,11 @@ abbrev pub starts_by : Heaps → List Source → Option Rest → List Addr
 starts_by heaps sources None = []
 starts_by heaps sources (Some r) = starts_in heaps sources r
 
-abbrev pub starts_of : World → ℕ → List Addr
+abbrev pub starts_of : SharedValue → ℕ → List Addr
 starts_of w t = starts_by (heaps_of w) (sources_of (slice_get w.sets t)) (rest_at w.homes t)
 
 -- a marking of these chunks that has found these roots, and marked nothing yet
-pub record IsBegun (ks : List Content) (roots : List Addr) (m : Marks) : Type 0 where
+pub record IsBegun (ks : List ChunkValue) (roots : List Addr) (m : MarkingValue) : Type 0 where
   pub none : m.marked ≡ 0
   pub own : (kept : List Addr) → IsOf ks kept m
   pub marking : (f : Fork) (kept : List Addr) → f.roots ≡ roots → ((a : Addr) → IsHeld f.heap a ↔ IsHeld ks a) → IsMarking f kept m

@@ -1,20 +1,20 @@
 -- What a sweep asks of a heap and leaves of it.
 use Rattle.std.specs.Prelude.{◌≡◌, ℕ, false, All, IsSome, Option, Some, List, [], slice_set}
-use Rattle.chunk_pool.specs.Chunks.{Chunks, held_at}
-use Rattle.alloc_path.specs.Heap.{Heap, with_places}
+use Rattle.chunk_pool.specs.PoolValue.{PoolValue, held_at}
+use Rattle.alloc_path.specs.LeafHeapValue.{LeafHeapValue, with_places}
 use Rattle.write_barrier.specs.Stored.{Content}
-use Rattle.inner_mark_gc.specs.Marks.{HasRoom, IsDone, Marks, marked_of}
+use Rattle.inner_mark_gc.specs.MarkingValue.{HasRoom, IsDone, MarkingValue, marked_of}
 use Rattle.inner_mark_gc.specs.Swept.{AreGiven, gone_of, swept}
 use Rattle.shared_value.specs.declared.task_at_rest.Rest.{Rest}
 
 -- all that was found is marked, and the heap's chunks are in use
-pub record CanSweep (h : Heap) (m : Marks) (pool : Chunks) : Type 0 where
+pub record CanSweep (h : LeafHeapValue) (m : MarkingValue) (pool : PoolValue) : Type 0 where
   pub done : IsDone m
   pub room : HasRoom h.chunks m
   pub in_use : All (λ k. IsSome (held_at pool k.number)) h.chunks
 
 -- the home of t has just what is marked in its heap, and the chunks that go are given back
-pub record SweepsHome (old new : List (Option Rest)) (pool pool' : Chunks) (t : ℕ) (r : Rest) (m : Marks) : Type 0 where
+pub record SweepsHome (old new : List (Option Rest)) (pool pool' : PoolValue) (t : ℕ) (r : Rest) (m : MarkingValue) : Type 0 where
   pub slots : ℕ
   pub spare : ℕ
   pub homes : new ≡ slice_set old t (Some (record r { heap = with_places (swept r.heap (marked_of m)) slots spare }))

@@ -3,12 +3,12 @@
 ghost use Rattle.std.specs.Prelude.{◌≡◌, ◌++◌, All, IfOk, IfSome, IsSome, OnOk, slice_get};
 ghost use Rattle.std.specs.List.{flat_map};
 ghost use Rattle.object_layout.specs.Graph.{IsHeld};
-ghost use Rattle.task_frames.specs.Stack.{frames_of};
+ghost use Rattle.task_frames.specs.FramesValue.{frames_of};
 ghost use Rattle.remembered_set.specs.Moved.{into, AreFields};
 ghost use Rattle.leaf_copy_gc.specs.Survivors.{held_by};
 ghost use Rattle.shared_value.specs.RestingHeaps.{refs_in};
 ghost use Rattle.shared_value.specs.Roots.{sources_of};
-ghost use Rattle.shared_value.specs.World.{rest_at};
+ghost use Rattle.shared_value.specs.SharedValue.{rest_at};
 ghost use Rattle.shared_value.specs.declared.heaps.Heaps.{Heaps as HeapsOf};
 ghost use Rattle.heap_marking.specs.Starts.{starts_in, IsBegun};
 

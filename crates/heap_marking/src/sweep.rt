@@ -2,8 +2,8 @@
 
 ghost use Rattle.std.specs.Prelude.{◌≡◌, ◌≢◌, ◌<◌, ℕ, IsSome, None, Some, length, option_map, slice_get, slice_set};
 ghost use Rattle.write_barrier.specs.Stored.{content_at};
-ghost use Rattle.inner_mark_gc.specs.Marks.{Marks};
-ghost use Rattle.shared_value.specs.World.{marks_at, rest_at};
+ghost use Rattle.inner_mark_gc.specs.MarkingValue.{MarkingValue};
+ghost use Rattle.shared_value.specs.SharedValue.{marks_at, rest_at};
 ghost use Rattle.shared_value.specs.declared.task_at_rest.Rest.{Rest as RestOf};
 ghost use Rattle.heap_marking.specs.Sweeping.{forgotten, CanSweep, SweepsHome};
 
@@ -35,8 +35,8 @@ pub fn drop_unmarked(
 )
     requires home { IsSome (rest_at homes.old t) }
     requires marking { IsSome (marks_at marks.old t) }
-    requires can { (r : RestOf) (m : Marks) → rest_at homes.old t ≡ Some r → marks_at marks.old t ≡ Some m → CanSweep r.heap m pool.old }
-    ensures swept { (r : RestOf) (m : Marks) → rest_at homes.old t ≡ Some r → marks_at marks.old t ≡ Some m → SweepsHome homes.old homes.new pool.old pool.new t r m }
+    requires can { (r : RestOf) (m : MarkingValue) → rest_at homes.old t ≡ Some r → marks_at marks.old t ≡ Some m → CanSweep r.heap m pool.old }
+    ensures swept { (r : RestOf) (m : MarkingValue) → rest_at homes.old t ≡ Some r → marks_at marks.old t ≡ Some m → SweepsHome homes.old homes.new pool.old pool.new t r m }
     ensures marks { marks.new ≡ slice_set marks.old t None }
 {
     let Some(rest) = mem::replace(homes.at_mut(t as usize), None) else {

@@ -16,12 +16,12 @@ use Rattle.object_layout.specs.Objects.{Located}
 use Rattle.remembered_set.specs.declared.remembered.Source.{Source}
 use Rattle.remembered_set.specs.Sources.{StandOnce, has_source, same_source}
 use Rattle.write_barrier.specs.declared.sets.SetOf.{SetOf}
-use Rattle.ledger_steps.specs.Accounts.{own}
-use Rattle.core_relation.specs.Value.{In as HasItem, objects_in, sources}
+use Rattle.ledger_step_laws.specs.Accounts.{own}
+use Rattle.core_relation.specs.Memory.{In as HasItem, objects_in, sources}
 use Rattle.core_relation.specs.Whole.{handed}
 use Rattle.shared_value.specs.declared.task_at_rest.Rest.{Rest}
-use Rattle.shared_value.specs.Stands.{IsWorld}
-use Rattle.shared_value.specs.World.{World, accounts, home_in, noted_in, rest_at, value_of}
+use Rattle.shared_value.specs.Stands.{IsSharedValue}
+use Rattle.shared_value.specs.SharedValue.{SharedValue, accounts, home_in, noted_in, rest_at, value_of}
 use Rattle.shared_value.proofs.FieldsLed.{home_chunks}
 use Rattle.heap_reading.specs.declared.noted.Field.{Field}
 use Rattle.heap_reading.specs.Image.{AreAll, FieldBefore, IsNoted, Rises, field_of}
@@ -144,7 +144,7 @@ item_same (y ∷ ys) x (inl e) = inl e
 item_same (y ∷ ys) x (inr i) = inr (item_same ys x i)
 item_same [] x i = absurd i
 
-module _ (w : World) (I : IsWorld w) where
+module _ (w : SharedValue) (I : IsSharedValue w) where
   near_in : (o : Option Rest) (u : ℕ) → rest_at w.homes u ≡ o → (a : Addr) → (q : Located) → HasItem (objects_in (home_in o).chunks) q → q.at ≡ a → a.offset < 1024
   near_in None u e a q i at = absurd i
   near_in (Some r) u e a q i at = subst (λ (z : Addr). z.offset < 1024) at ((I.heaps u r e).near q (subst (λ ks. HasItem (objects_in ks) q) (home_chunks r) i))

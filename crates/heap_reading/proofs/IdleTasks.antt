@@ -12,8 +12,8 @@ use Rattle.hh_model.specs.declared.data.Task.{Task}
 use Rattle.hh_model.specs.Step.{asked, can_step, goes_on, is_left, is_running, runs, step}
 use Rattle.run_trace.specs.declared.entry.Kind.{Kind}
 use Rattle.run_trace.specs.declared.entry.Kind.TheVariants.{Took, Ran, Chunk, Begin, End as EndOf, PutOff, Mark, More, Sweep, Fuel}
-use Rattle.run_trace.specs.Entry.{Event}
-use Rattle.run_trace.specs.Settings.{Limits}
+use Rattle.run_trace.specs.Entry.{EntryValue}
+use Rattle.run_trace.specs.Settings.{SettingsValue}
 use Rattle.run_ledger.specs.declared.data.Heap.{Heap}
 use Rattle.run_ledger.specs.declared.data.Ledger.{Ledger}
 use Rattle.run_ledger.specs.declared.data.Refused.{Refused}
@@ -26,12 +26,12 @@ use Rattle.run_ledger.specs.Journals.{is_legal, ledger_of}
 use Rattle.run_ledger.proofs.Journals.{entry_tells}
 use Rattle.run_ledger.proofs.Cuts.{journals_can_be_cut}
 use Rattle.run_ledger.proofs.Machine.{stepped_machine}
-use Rattle.ledger_steps.specs.Accounts.{Rests, rested}
-use Rattle.ledger_steps.specs.Last.{EndsDone, GoesOn, Halts, IdleRest, IsOfKind, LastKind, Private, Reading, Writing, Printing, Forking, Ending, Joining, Finishing, Halting, Runs}
-use Rattle.ledger_steps.proofs.Ahead.{with_machine}
-use Rattle.ledger_steps.proofs.Along.{steps_know}
-use Rattle.ledger_steps.proofs.Root.{root_alone}
-use Rattle.ledger_steps.proofs.Split.{entry_runs, legal_idle}
+use Rattle.ledger_step_laws.specs.Accounts.{Rests, rested}
+use Rattle.ledger_step_laws.specs.Last.{EndsDone, GoesOn, Halts, IdleRest, IsOfKind, LastKind, Private, Reading, Writing, Printing, Forking, Ending, Joining, Finishing, Halting, Runs}
+use Rattle.ledger_step_laws.proofs.Ahead.{with_machine}
+use Rattle.ledger_step_laws.proofs.Along.{steps_know}
+use Rattle.ledger_step_laws.proofs.Root.{root_alone}
+use Rattle.ledger_step_laws.proofs.Split.{entry_runs, legal_idle}
 use Rattle.core_relation.specs.Whole.{handed}
 use Rattle.core_relation.proofs.whole.DoneHands.{done_hands_all}
 use Rattle.core_relation.proofs.whole.HandedBack.{handed_halt, handed_on}
@@ -107,7 +107,7 @@ not_ended o n e = by (sym n ∙ e)
     by : {A : Type 0} {e : RunEnd} → ◌≡◌ {A = Option RunEnd} None (Some e) → A
     by q = absurd cc
 
-module _ (p : ProgramText) (s : Limits) (before : List Event) (I : IsProgram p) (legal : is_legal p s before ≡ true) where
+module _ (p : ProgramText) (s : SettingsValue) (before : List EntryValue) (I : IsProgram p) (legal : is_legal p s before ≡ true) where
   abbrev l : Ledger
   l = ledger_of p s before
 
@@ -115,7 +115,7 @@ module _ (p : ProgramText) (s : Limits) (before : List Event) (I : IsProgram p) 
     idle : IdleRest l
     idle = legal_idle p s before legal on
 
-    module _ (e : Event) (free : refusal p s l e ≡ None) where
+    module _ (e : EntryValue) (free : refusal p s l e ≡ None) where
       same : ledger_of p s (before ++ e ∷ []) ≡ after p s l e
       same = accounts_then p s before e
 
@@ -208,13 +208,13 @@ last_of (x ∷ xs) = elim (last_of xs) [
   | inr r ↦ inr (x ∷ r.0, r.1, ap (λ z. x ∷ z) r.2)
 ]
 
-journal_idles : (p : ProgramText) (s : Limits) (journal : List Event) → IsProgram p → is_legal p s journal ≡ true → Idles (ledger_of p s journal)
+journal_idles : (p : ProgramText) (s : SettingsValue) (journal : List EntryValue) → IsProgram p → is_legal p s journal ≡ true → Idles (ledger_of p s journal)
 journal_idles p s journal I legal = elim (last_of journal) [
   | inl e ↦ subst (λ j. Idles (ledger_of p s j)) (sym e) (record { handed_back = λ u h. legal_idle p s [] refl refl u h; done = λ q. absurd cc })
   | inr r ↦ subst (λ j. Idles (ledger_of p s j)) (sym r.2) (by r.0 r.1 (subst (λ j. is_legal p s j ≡ true) r.2 legal))
 ]
   where
-    by : (before : List Event) (e : Event) → is_legal p s (before ++ e ∷ []) ≡ true → Idles (ledger_of p s (before ++ e ∷ []))
+    by : (before : List EntryValue) (e : EntryValue) → is_legal p s (before ++ e ∷ []) ≡ true → Idles (ledger_of p s (before ++ e ∷ []))
     by before e h =
         let cut = (journals_can_be_cut p s before (e ∷ [])).legal.0 h in
         let free : refusal p s (ledger_of p s before) e ≡ None = first (refusal p s (ledger_of p s before) e) cut.1 in
@@ -225,8 +225,8 @@ journal_idles p s journal I legal = elim (last_of journal) [
         first None q = refl
         first (Some c) q = absurd cc
 
-pub journal_idle : (p : ProgramText) (s : Limits) (journal : List Event) → IsProgram p → is_legal p s journal ≡ true → IdleHanded (ledger_of p s journal)
+pub journal_idle : (p : ProgramText) (s : SettingsValue) (journal : List EntryValue) → IsProgram p → is_legal p s journal ≡ true → IdleHanded (ledger_of p s journal)
 journal_idle p s journal I legal = (journal_idles p s journal I legal).handed_back
 
-pub done_idles : (p : ProgramText) (s : Limits) (journal : List Event) → IsProgram p → is_legal p s journal ≡ true → DoneIdles (ledger_of p s journal)
+pub done_idles : (p : ProgramText) (s : SettingsValue) (journal : List EntryValue) → IsProgram p → is_legal p s journal ≡ true → DoneIdles (ledger_of p s journal)
 done_idles p s journal I legal = (journal_idles p s journal I legal).done

@@ -26,20 +26,20 @@ use Rattle.run_ledger.proofs.Counted.{journals_are_counted}
 use Rattle.run_ledger.proofs.Space.{heaps_fit, use_is_bounded}
 use Rattle.run_ledger.proofs.Stocks.{names_are_held_once}
 use Rattle.object_layout.specs.Chunks.{held_words, object_count}
-use Rattle.object_layout.specs.Content.{Content}
+use Rattle.object_layout.specs.ChunkValue.{ChunkValue}
 use Rattle.object_layout.specs.Objects.{Located}
-use Rattle.alloc_path.specs.Heap.{counted}
+use Rattle.alloc_path.specs.LeafHeapValue.{counted}
 use Rattle.heap_tree.specs.Node.{Node}
-use Rattle.ledger_steps.specs.Accounts.{Rests, rested}
-use Rattle.ledger_steps.proofs.Ahead.{with_off}
-use Rattle.ledger_steps.proofs.Rested.{rested_view}
+use Rattle.ledger_step_laws.specs.Accounts.{Rests, rested}
+use Rattle.ledger_step_laws.proofs.Ahead.{with_off}
+use Rattle.ledger_step_laws.proofs.Rested.{rested_view}
 use Rattle.core_relation.specs.Stands.{HasNames, Stands, large_chunks, names_of, small_chunks}
-use Rattle.core_relation.specs.Value.{In, object_name, objects_in}
+use Rattle.core_relation.specs.Memory.{In, object_name, objects_in}
 use Rattle.core_relation.specs.Whole.{by_end, handed, state_by}
 use Rattle.shared_value.specs.declared.task_at_rest.Rest.{Rest}
 use Rattle.shared_value.specs.Objects.{chunk_of, chunks_of}
-use Rattle.shared_value.specs.World.{World, accounts, home_in, rest_at, value_of}
-use Rattle.shared_value.specs.Stands.{IsWorld}
+use Rattle.shared_value.specs.SharedValue.{SharedValue, accounts, home_in, rest_at, value_of}
+use Rattle.shared_value.specs.Stands.{IsSharedValue}
 use Rattle.shared_value.proofs.HeapWords.{words_are}
 use Rattle.shared_value.proofs.SameLength.{same_length}
 use Rattle.shared_value.proofs.FieldsLed.{home_chunks}
@@ -66,17 +66,17 @@ runs_by (Some m) None o e = absurd cc
 runs_by (Some m) (Some x) o e = ap (λ (y : Node). is_state_running (Some y.state)) (same_Some m (told o x) e) ∙ by_status x.status o
 
 -- HOW MANY names small chunks and large ones have
-small_many : List Content → ℕ
+small_many : List ChunkValue → ℕ
 small_many ks = length (flat_map (λ ns. ns) (map names_of (small_chunks (chunks_of ks))))
 
-large_many : List Content → ℕ
+large_many : List ChunkValue → ℕ
 large_many ks = length (map object_name (objects_in (large_chunks (chunks_of ks))))
 
 length_names : (os : List Located) → length (map object_name os) ≡ length os
 length_names [] = refl
 length_names (o ∷ os) = ap suc (length_names os)
 
-chunks_many : (ks : List Content) → small_many ks + large_many ks ≡ length (objects_in (chunks_of ks))
+chunks_many : (ks : List ChunkValue) → small_many ks + large_many ks ≡ length (objects_in (chunks_of ks))
 unfolding small_many large_many
 chunks_many [] = refl
 chunks_many (k ∷ ks) = by (k.size == 1024) (chunks_many ks) ∙ sym (length-append (chunk_of k).objects (objects_in (chunks_of ks)))
@@ -94,7 +94,7 @@ chunks_many (k ∷ ks) = by (k.size == 1024) (chunks_many ks) ∙ sym (length-ap
         let both = length-append (chunk_of k).objects (objects_in (large_chunks (chunks_of ks))) in
         omega (arith, own, rest, both, go)
 
-held_many : (a : Account) (ks : List Content) → HasNames (chunks_of ks) a → length (held_in a) ≡ length (objects_in (chunks_of ks))
+held_many : (a : Account) (ks : List ChunkValue) → HasNames (chunks_of ks) a → length (held_in a) ≡ length (objects_in (chunks_of ks))
 unfolding small_many large_many
 held_many a ks N =
     length-append (small_in a) a.large
@@ -119,7 +119,7 @@ handed_held l t = by l.end
     by (Some (MachineEnd (Trapped kind u line))) = refl
     by (Some (MachineEnd (Entangled u v))) = refl
 
-module _ (w : World) (I : IsWorld w) (t : ℕ) where
+module _ (w : SharedValue) (I : IsSharedValue w) (t : ℕ) where
   abbrev l : Ledger
   l = accounts w
 
@@ -144,10 +144,10 @@ module _ (w : World) (I : IsWorld w) (t : ℕ) where
     kept_is : kept_of l t ≡ held_in (heap_of l t)
     kept_is = ap (λ b. cond b [] (held_in (heap_of l t))) idle
 
-    names_are : (ks : List Content) → ((value_of w).homes t).chunks ≡ chunks_of ks → HasNames (chunks_of ks) (heap_of (handed l) t)
+    names_are : (ks : List ChunkValue) → ((value_of w).homes t).chunks ≡ chunks_of ks → HasNames (chunks_of ks) (heap_of (handed l) t)
     names_are ks here = subst (λ cs. HasNames cs (heap_of (handed l) t)) here (V.homes t rests).names
 
-    many_by : (ks : List Content) → ((value_of w).homes t).chunks ≡ chunks_of ks → length (objects_in (chunks_of ks)) ≡ length (kept_of l t)
+    many_by : (ks : List ChunkValue) → ((value_of w).homes t).chunks ≡ chunks_of ks → length (objects_in (chunks_of ks)) ≡ length (kept_of l t)
     many_by ks here = sym (held_many (heap_of (handed l) t) ks (names_are ks here)) ∙ (ap length (handed_held l t) ∙ ap length (sym kept_is))
 
     here_by : (o : Option Rest) → rest_at w.homes t ≡ o → ((value_of w).homes t).chunks ≡ (home_in o).chunks
@@ -222,7 +222,7 @@ module _ (g : List Name → ℕ) (add : (xs ys : List Name) → g (xs ++ ys) ≡
       by true r a b = omega (arith, r, a)
       by false r a b = omega (arith, r, a, b)
 
-module _ (w : World) (I : IsWorld w) where
+module _ (w : SharedValue) (I : IsSharedValue w) where
   abbrev k : Ledger
   k = accounts w
 

@@ -4,10 +4,10 @@ use Rattle.std.proofs.lemmas.Bool.{cases_lt}
 use Rattle.std.proofs.lemmas.Option.{same_Some}
 use Rattle.hh_model.specs.Step.{owner_of}
 use Rattle.chunk_pool.specs.declared.pool.Held.{Held}
-use Rattle.chunk_pool.specs.Chunks.{held_at}
+use Rattle.chunk_pool.specs.PoolValue.{held_at}
 use Rattle.heap_tree.specs.Node.{Node}
 use Rattle.heap_tree.specs.declared.state.State.{State}
-use Rattle.shared_value.specs.World.{World, accounts}
+use Rattle.shared_value.specs.SharedValue.{SharedValue, accounts}
 use Rattle.heap_reading.specs.declared.live.InUse.{InUse}
 use Rattle.heap_reading.specs.declared.live.Live.{Live}
 use Rattle.heap_reading.specs.Image.{AreAll, ChunkBefore, IsInUse, IsLiveIn, LiveBefore}
@@ -51,7 +51,7 @@ live_once tree x y a b e =
     let s : x.state ≡ y.state = ap (λ (n : Node). n.state) same in
     λ i. record { number = e i; parent = p i; state = s i }
 
-pub chunk_once : (w : World) (c d : InUse) → IsInUse w c → IsInUse w d → c.number ≡ d.number → c ≡ d
+pub chunk_once : (w : SharedValue) (c d : InUse) → IsInUse w c → IsInUse w d → c.number ≡ d.number → c ≡ d
 chunk_once w c d a b e =
     let same : a.held ≡ b.held = same_Some a.held b.held (sym a.is ∙ (ap (held_at w.pool) e ∙ b.is)) in
     let o : c.owner ≡ d.owner = a.owner ∙ (ap (λ (h : Held). owner_of (accounts w).machine.tasks h.owner) same ∙ sym b.owner) in

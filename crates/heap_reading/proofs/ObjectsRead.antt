@@ -6,17 +6,17 @@ use Rattle.std.proofs.lemmas.List.Elements.{All-append, All-cons, All-nil, All-t
 use Rattle.std.proofs.lemmas.Option.{same_Some}
 use Rattle.object_layout.specs.Cell.{Born, Cell, Hole, IsBorn, IsObject, IsRef, Mark, Moved, moved_to, size_of}
 use Rattle.object_layout.specs.Chunks.{chunk_at, place_in, place_of}
-use Rattle.object_layout.specs.Content.{Content}
+use Rattle.object_layout.specs.ChunkValue.{ChunkValue}
 use Rattle.object_layout.specs.Place.{cells_from}
 use Rattle.object_layout.specs.declared.word.Birth.{Birth}
 use Rattle.object_layout.specs.Objects.{Located, located, located_by, objects_from}
-use Rattle.chunk_pool.specs.Chunks.{owner_of}
+use Rattle.chunk_pool.specs.PoolValue.{owner_of}
 use Rattle.alloc_path.proofs.HeapLemmas.{none_there, place_found}
 use Rattle.heap_tree.specs.Node.{state_of}
-use Rattle.core_relation.specs.Value.{Home, In}
+use Rattle.core_relation.specs.Memory.{Home, In}
 use Rattle.shared_value.specs.declared.task_at_rest.Rest.{Rest}
 use Rattle.shared_value.specs.Objects.{chunk_of, chunks_of}
-use Rattle.shared_value.specs.World.{World, home_in, rest_at}
+use Rattle.shared_value.specs.SharedValue.{SharedValue, home_in, rest_at}
 use Rattle.shared_value.proofs.FieldsLed.{home_chunks}
 use Rattle.heap_reading.specs.declared.seen.Seen.{Seen as Shown}
 use Rattle.heap_reading.specs.HeldNames.{is_state_running}
@@ -95,7 +95,7 @@ module _ (number at next : ℕ) (cells : List Cell) (c : Cell) (rest : cells_fro
     words_same all was o i = elim (was o i) [ inl w ↦ inl w | inr j ↦ inr (subst (λ z. In z o) none_here j) ]
 
 -- THE CHUNK OF A NUMBER
-numbered_at : (ks : List Content) (n : ℕ) → place_of ks n < length ks → objects_numbered n (chunks_of ks) ≡ (chunk_of (chunk_at ks (place_of ks n))).objects
+numbered_at : (ks : List ChunkValue) (n : ℕ) → place_of ks n < length ks → objects_numbered n (chunks_of ks) ≡ (chunk_of (chunk_at ks (place_of ks n))).objects
 numbered_at [] n lt = absurd (omega arith)
 numbered_at (k ∷ ks) n lt = by (k.number == n) lt (numbered_at ks n)
   where
@@ -104,7 +104,7 @@ numbered_at (k ∷ ks) n lt = by (k.number == n) lt (numbered_at ks n)
     by true lt rest = refl
     by false lt rest = rest (omega arith) ∙ ap (λ z. (chunk_of (chunk_at (k ∷ ks) z)).objects) (let e : suc (place_of ks n) ≡ 1 + place_of ks n = omega arith in e)
 
-numbered_off : (ks : List Content) (n : ℕ) → length ks ≤ place_of ks n → objects_numbered n (chunks_of ks) ≡ []
+numbered_off : (ks : List ChunkValue) (n : ℕ) → length ks ≤ place_of ks n → objects_numbered n (chunks_of ks) ≡ []
 numbered_off [] n le = refl
 numbered_off (k ∷ ks) n le = by (k.number == n) le (numbered_off ks n)
   where
@@ -112,32 +112,32 @@ numbered_off (k ∷ ks) n le = by (k.number == n) le (numbered_off ks n)
     by true le rest = absurd (omega arith)
     by false le rest = rest (omega arith)
 
-pub numbered_found : (ks : List Content) (n i : ℕ) → place_in ks n ≡ Some i → objects_numbered n (chunks_of ks) ≡ (chunk_of (chunk_at ks i)).objects
+pub numbered_found : (ks : List ChunkValue) (n i : ℕ) → place_in ks n ≡ Some i → objects_numbered n (chunks_of ks) ≡ (chunk_of (chunk_at ks i)).objects
 numbered_found ks n i e =
     let p = place_found ks n i e in
     numbered_at ks n (subst (λ z. z < length ks) p.0 p.1) ∙ ap (λ z. (chunk_of (chunk_at ks z)).objects) (sym p.0)
 
-pub numbered_none : (ks : List Content) (n : ℕ) → place_in ks n ≡ None → objects_numbered n (chunks_of ks) ≡ []
+pub numbered_none : (ks : List ChunkValue) (n : ℕ) → place_in ks n ≡ None → objects_numbered n (chunks_of ks) ≡ []
 numbered_none ks n e = numbered_off ks n (none_there ks n e)
 
 -- as the heap tells it
-pub none_numbered : (ks : List Content) (n : ℕ) (o : Option (Bor Content)) → option_copied o ≡ option_map (λ i. chunk_at ks i) (place_in ks n) → o ≡ None → objects_numbered n (chunks_of ks) ≡ []
+pub none_numbered : (ks : List ChunkValue) (n : ℕ) (o : Option (Bor ChunkValue)) → option_copied o ≡ option_map (λ i. chunk_at ks i) (place_in ks n) → o ≡ None → objects_numbered n (chunks_of ks) ≡ []
 none_numbered ks n o e none = numbered_none ks n (by (place_in ks n) (sym e ∙ ap option_copied none))
   where
     by : (p : Option ℕ) → option_map (λ i. chunk_at ks i) p ≡ None → p ≡ None
     by None z = refl
     by (Some i) z = absurd cc
 
-pub some_numbered : (ks : List Content) (n : ℕ) (o : Option (Bor Content)) → option_copied o ≡ option_map (λ i. chunk_at ks i) (place_in ks n) → IfSome o (λ k. (chunk_of k.now).objects ≡ objects_numbered n (chunks_of ks))
+pub some_numbered : (ks : List ChunkValue) (n : ℕ) (o : Option (Bor ChunkValue)) → option_copied o ≡ option_map (λ i. chunk_at ks i) (place_in ks n) → IfSome o (λ k. (chunk_of k.now).objects ≡ objects_numbered n (chunks_of ks))
 some_numbered ks n None e = tt
 some_numbered ks n (Some k) e = by (place_in ks n) refl e
   where
     by : (p : Option ℕ) → place_in ks n ≡ p → Some k.now ≡ option_map (λ i. chunk_at ks i) p → (chunk_of k.now).objects ≡ objects_numbered n (chunks_of ks)
     by None is z = absurd cc
-    by (Some i) is z = ap (λ (x : Content). (chunk_of x).objects) (same_Some k.now (chunk_at ks i) z) ∙ sym (numbered_found ks n i is)
+    by (Some i) is z = ap (λ (x : ChunkValue). (chunk_of x).objects) (same_Some k.now (chunk_at ks i) z) ∙ sym (numbered_found ks n i is)
 
 -- of a task that doesn't run
-pub resting_objects : (w : World) (n t : ℕ) (r : Rest) → owner_of w.pool n ≡ Some t → is_state_running (state_of w.tree t) ≡ false → rest_at w.homes t ≡ Some r
+pub resting_objects : (w : SharedValue) (n t : ℕ) (r : Rest) → owner_of w.pool n ≡ Some t → is_state_running (state_of w.tree t) ≡ false → rest_at w.homes t ≡ Some r
     → objects_of w n ≡ objects_numbered n (chunks_of r.heap.chunks)
 resting_objects w n t r owned idle there =
     ap (objects_owned w n) owned

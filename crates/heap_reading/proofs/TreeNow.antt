@@ -18,8 +18,8 @@ use Rattle.heap_tree.specs.declared.state.State.{State}
 use Rattle.heap_tree.specs.declared.state.State.TheVariants.{Ready, Out, Waiting as Waits, Ended as HasEnded, Joined as HasJoined}
 use Rattle.heap_tree.specs.Node.{Node, parent_in, parent_of}
 use Rattle.core_relation.specs.Whole.{handed, state_by}
-use Rattle.shared_value.specs.World.{World, accounts}
-use Rattle.shared_value.specs.Stands.{IsWorld}
+use Rattle.shared_value.specs.SharedValue.{SharedValue, accounts}
+use Rattle.shared_value.specs.Stands.{IsSharedValue}
 use Rattle.shared_value.proofs.BeforeTheEnd.{goes_by}
 
 -- WHO HAS JOINED
@@ -79,7 +79,7 @@ walk_end par jd t a b (p ∷ ps) (q ∷ qs) e f la lb =
     let same : q ≡ p = same_Some q p (sym f.1 ∙ e.1) in
     walk_end par jd p a b ps qs e.2 (subst (λ z. IsWalkOfJoined par jd z qs b) same f.2) la lb
 
-module _ (w : World) (I : IsWorld w) where
+module _ (w : SharedValue) (I : IsSharedValue w) where
   abbrev l : Ledger
   l = accounts w
 

@@ -7,12 +7,12 @@ use Rattle.object_layout.specs.Cell.{IsRef}
 use Rattle.object_layout.specs.Layout.{word_of_ref}
 use Rattle.object_layout.specs.Objects.{Located}
 use Rattle.chunk_pool.specs.declared.pool.Held.{Held}
-use Rattle.chunk_pool.specs.Chunks.{held_at, owner_of as holder_of}
+use Rattle.chunk_pool.specs.PoolValue.{held_at, owner_of as holder_of}
 use Rattle.heap_tree.specs.declared.state.State.TheVariants.{Joined}
 use Rattle.heap_tree.specs.Node.{Node, state_of}
 use Rattle.remembered_set.specs.declared.remembered.Source.{Source}
-use Rattle.core_relation.specs.Value.{Chunk, In as HasItem, sources}
-use Rattle.shared_value.specs.World.{World, accounts, value_of}
+use Rattle.core_relation.specs.Memory.{Chunk, In as HasItem, sources}
+use Rattle.shared_value.specs.SharedValue.{SharedValue, accounts, value_of}
 use Rattle.heap_reading.specs.declared.live.Live.{Live}
 use Rattle.heap_reading.specs.declared.live.InUse.{InUse}
 use Rattle.heap_reading.specs.declared.seen.Seen.{Seen}
@@ -41,7 +41,7 @@ pub record IsLiveIn (tree : List Node) (x : Live) : Type 0 where
   pub is : slice_get tree x.number ≡ Some (record { parent = x.parent; state = x.state })
   pub live : x.state ≡ Joined → ⊥
 
-abbrev pub IsLive : World → Live → Type 0
+abbrev pub IsLive : SharedValue → Live → Type 0
 IsLive w x = IsLiveIn w.tree x
 
 -- CHUNKS
@@ -50,7 +50,7 @@ abbrev pub ChunkBefore : InUse → InUse → Type 0
 ChunkBefore c d = c.number < d.number
 
 -- a chunk in use: its owner is the task that it was given to, followed to its parent as long as that has joined
-pub record IsInUse (w : World) (c : InUse) : Type 0 where
+pub record IsInUse (w : SharedValue) (c : InUse) : Type 0 where
   pub held : Held
   pub is : held_at w.pool c.number ≡ Some held
   pub owner : c.owner ≡ owner_of (accounts w).machine.tasks held.owner
@@ -64,12 +64,12 @@ objects_numbered number [] = []
 objects_numbered number (k ∷ ks) = if k.number == number then k.objects else objects_numbered number ks
 
 -- in the heap of a task, unless that runs
-abbrev pub objects_owned : World → ℕ → Option ℕ → List Located
+abbrev pub objects_owned : SharedValue → ℕ → Option ℕ → List Located
 objects_owned w number None = []
 objects_owned w number (Some t) = if is_state_running (state_of w.tree t) then [] else objects_numbered number ((value_of w).homes t).chunks
 
 -- in its owner's heap
-abbrev pub objects_of : World → ℕ → List Located
+abbrev pub objects_of : SharedValue → ℕ → List Located
 objects_of w number = objects_owned w number (holder_of w.pool number)
 
 -- with addresses as numbers, 0 for nil
@@ -94,5 +94,5 @@ abbrev pub FieldBefore : Field → Field → Type 0
 FieldBefore f g = (f.object < g.object) ⊎ ((f.object ≡ g.object) × (f.field < g.field))
 
 -- the set of the task's heap has it
-abbrev pub IsNoted : World → ℕ → Field → Type 0
+abbrev pub IsNoted : SharedValue → ℕ → Field → Type 0
 IsNoted w t f = (s : Source) × HasItem (sources (value_of w) t) s × (f ≡ field_of s)

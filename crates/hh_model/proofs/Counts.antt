@@ -10,7 +10,7 @@ use Rattle.hh_model.specs.declared.data.Status.TheVariants.{Waiting}
 use Rattle.hh_model.specs.Effect.{row_of, onward}
 use Rattle.std.proofs.lemmas.Option.{same_Some}
 use Rattle.hh_model.specs.Step.{root, child, joined_task, resumed, ended_task, result_of, step, start, run, run_from, sibling}
-use Rattle.hh_model.specs.Machine.{Progress, IsReached, IsSound, advanced}
+use Rattle.hh_model.specs.Machine.{MachineValue, IsOfRun, IsSound, advanced}
 use Rattle.hh_model.proofs.Closed.{grown_cases, three_cases}
 use Rattle.hh_model.proofs.Runs.{grown_length}
 use Rattle.hh_model.proofs.Kept.{Kept, step_kept, start_kept, run_kept, path_is_precedence_in}
@@ -161,10 +161,10 @@ steps_count p m t k K I = counted_step p m t K k I
 
 -- MACHINES
 
-pub start_reached : (p : ProgramText) (limit : ℕ) (m : State) → m ≡ start p limit → IsReached (record { program = p; state = m; steps = 0 })
+pub start_reached : (p : ProgramText) (limit : ℕ) (m : State) → m ≡ start p limit → IsOfRun (record { program = p; state = m; steps = 0 })
 start_reached p limit m e = ([], refl, e ∙ ap (start p) (ap (λ (s : State). s.field_limit) (sym e)))
 
-pub step_reached : (g : Progress) (t : ℕ) → IsReached g → IsReached (advanced g t)
+pub step_reached : (g : MachineValue) (t : ℕ) → IsOfRun g → IsOfRun (advanced g t)
 step_reached g t r =
     let K : Kept g.state = subst Kept (sym r.2) (run_kept g.program (start g.program g.state.field_limit) r.0 (start_kept g.program g.state.field_limit)) in (
       r.0 ++ t ∷ [],
@@ -173,7 +173,7 @@ step_reached g t r =
           ∙ ap (λ limit. run g.program limit (r.0 ++ t ∷ [])) (sym (step_limit g.program g.state t K))),
     )
 
-pub reached_sound : (g : Progress) → IsReached g → g.steps < 2 ^ 30 → IsSound g.state
+pub reached_sound : (g : MachineValue) → IsOfRun g → g.steps < 2 ^ 30 → IsSound g.state
 reached_sound g r few =
     let K : Kept g.state = subst Kept (sym r.2) (run_kept g.program (start g.program g.state.field_limit) r.0 (start_kept g.program g.state.field_limit)) in
     let I : Counted (length r.0) g.state.tasks g.state.store =

@@ -8,22 +8,22 @@ use Rattle.hh_model.specs.Step.{start, step, run, parents, sibling}
 use Rattle.hh_model.specs.PathLaw.{PathIsPrecedenceIn}
 
 -- the program, the state, and how many steps were taken
-pub record Progress : Type 0 where
+pub record MachineValue : Type 0 where
   pub program : ProgramText
   pub state : State
   pub steps : ℕ
 
 -- before the first step
-abbrev pub begun : ProgramText → ℕ → Progress
+abbrev pub begun : ProgramText → ℕ → MachineValue
 begun p limit = record { program = p; state = start p limit; steps = 0 }
 
 -- after one step more
-abbrev pub advanced : Progress → ℕ → Progress
+abbrev pub advanced : MachineValue → ℕ → MachineValue
 advanced g t = record g { state = step g.program g.state t; steps = g.steps + 1 }
 
 -- the state is what a run of as many steps leaves: so every law on runs holds of it
-abbrev pub IsReached : Progress → Type 0
-IsReached g = (ts : List ℕ) × (length ts ≡ g.steps) × (g.state ≡ run g.program g.state.field_limit ts)
+abbrev pub IsOfRun : MachineValue → Type 0
+IsOfRun g = (ts : List ℕ) × (length ts ≡ g.steps) × (g.state ≡ run g.program g.state.field_limit ts)
 
 -- what the code needs of a state: it holds in every run of fewer than 2 ^ 30 steps
 pub record IsSound (m : State) : Type 0 where

@@ -28,19 +28,19 @@ pub struct Machine<'p> {
 }
 
 impl<'p> Model for Machine<'p> {
-    ghost use Rattle.hh_model.specs.Machine.{Progress, IsReached};
+    ghost use Rattle.hh_model.specs.Machine.{MachineValue, IsOfRun};
 
-    ghost Value = { Progress };
+    ghost Value = { MachineValue };
 
     ghost view = { λ m. record { program = m.program.now; state = m.state; steps = m.steps } };
 
-    ghost invariant = { λ m. IsReached (record { program = m.program.now; state = m.state; steps = m.steps }) };
+    ghost invariant = { λ m. IsOfRun (record { program = m.program.now; state = m.state; steps = m.steps }) };
 }
 
 impl<'p> Machine<'p> {
     ghost use Rattle.std.specs.Prelude.{◌≡◌, ◌<◌, ◌^◌, ◌↔◌, IfOk, OnOk, OnErr, Err, false};
     ghost use Rattle.hh_model.specs.Step.{can_step};
-    ghost use Rattle.hh_model.specs.Machine.{begun, advanced, IsReached};
+    ghost use Rattle.hh_model.specs.Machine.{begun, advanced, IsOfRun};
 
     /// A machine before its first step, whose objects may have so many fields.
     pub fn start(
@@ -107,7 +107,7 @@ impl<'p> Machine<'p> {
 
     /// The state is what a run of as many steps leaves, so each law on runs holds of it.
     pub fn reached(&self)
-        ensures { IsReached self.now }
+        ensures { IsOfRun self.now }
     {
         let _ = &self.state;
     }

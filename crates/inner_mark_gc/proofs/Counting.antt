@@ -5,7 +5,7 @@ use Rattle.std.proofs.lemmas.List.{length-append}
 use Rattle.std.specs.List.{IsDistinct}
 use Rattle.object_layout.specs.declared.word.Addr.{Addr}
 use Rattle.object_layout.specs.Cell.{Born, Cell, Hole, IsObject, Mark, Moved, no_cell, size_of}
-use Rattle.object_layout.specs.Content.{Content}
+use Rattle.object_layout.specs.ChunkValue.{ChunkValue}
 use Rattle.object_layout.specs.Chunks.{cell_of, same_address, held_size, one_each, sum_in}
 use Rattle.object_layout.specs.Place.{cell_at}
 use Rattle.object_layout.proofs.ChunkLaws as laws
@@ -25,7 +25,7 @@ abbrev cells_at : List Cell → ℕ → ℕ → List Addr
 cells_at [] number at = []
 cells_at (c ∷ cs) number at = address_if c.mark number at ++ cells_at cs number (at + size_of c)
 
-abbrev pub addresses : List Content → List Addr
+abbrev pub addresses : List ChunkValue → List Addr
 addresses [] = []
 addresses (k ∷ ks) = cells_at k.cells k.number 0 ++ addresses ks
 
@@ -41,7 +41,7 @@ cells_count (c ∷ cs) number at =
     let one : length (address_if c.mark number at) ≡ held_size c.mark 1 = address_count c.mark number at in
     length-append (address_if c.mark number at) (cells_at cs number (at + size_of c)) ∙ (omega arith)
 
-addresses_count : (ks : List Content) → length (addresses ks) ≡ object_count ks
+addresses_count : (ks : List ChunkValue) → length (addresses ks) ≡ object_count ks
 addresses_count [] = refl
 addresses_count (k ∷ ks) =
     let ih : length (addresses ks) ≡ object_count ks = addresses_count ks in
@@ -68,7 +68,7 @@ in_cells (c ∷ cs) number start (suc n) o = by (λ p. in_cells cs number (start
         in_append_right (address_if c.mark number start) _ _ (subst (λ (m : ℕ). In (cells_at cs number (start + size_of c)) (record { chunk = number; offset = m })) s (rest o))
     by rest false e o = absurd o
 
-in_addresses : (ks : List Content) (a : Addr) → IsObject (cell_of ks a).mark → In (addresses ks) a
+in_addresses : (ks : List ChunkValue) (a : Addr) → IsObject (cell_of ks a).mark → In (addresses ks) a
 in_addresses [] a o = absurd o
 in_addresses (k ∷ ks) a o = by (in_addresses ks a) (k.number == a.chunk) refl o
   where
@@ -82,5 +82,5 @@ in_addresses (k ∷ ks) a o = by (in_addresses ks a) (k.number == a.chunk) refl 
     by rest false e o = in_append_right (cells_at k.cells k.number 0) _ _ (rest o)
 
 -- objects that are found, each once, are no more than there are
-pub found_within : (ks : List Content) (xs : List Addr) → IsDistinct same_address xs → ((a : Addr) → In xs a → IsHeld ks a) → length xs ≤ object_count ks
+pub found_within : (ks : List ChunkValue) (xs : List Addr) → IsDistinct same_address xs → ((a : Addr) → In xs a → IsHeld ks a) → length xs ≤ object_count ks
 found_within ks xs o h = let le = once_within xs (addresses ks) (once_from xs o) (λ a i. in_addresses ks a (laws.born_object ks a (h a i))) in subst (λ (n : ℕ). length xs ≤ n) (addresses_count ks) le

@@ -9,30 +9,30 @@ use Rattle.std.proofs.lemmas.Option.{slice_get-get_or}
 use Rattle.object_layout.specs.Chunks.{place_in, place_of, same_address}
 use Rattle.object_layout.proofs.ChunkLaws as laws
 use Rattle.object_layout.specs.declared.word.Addr.{Addr}
-use Rattle.object_layout.specs.Content.{Content}
+use Rattle.object_layout.specs.ChunkValue.{ChunkValue}
 use Rattle.object_layout.specs.Graph.{IsHeld, IsSound}
 use Rattle.listed.proofs.Members.{In, in_append_left, contains_from_in, in_from_contains}
-use Rattle.inner_mark_gc.specs.Marks.{Finds, HasRoom, Marks, noted}
+use Rattle.inner_mark_gc.specs.MarkingValue.{Finds, HasRoom, MarkingValue, noted}
 use Rattle.inner_mark_gc.specs.Snapshot.{object_count}
 use Rattle.inner_mark_gc.proofs.Addresses.{noted_is}
 use Rattle.inner_mark_gc.proofs.Counting.{found_within}
 
-pub found_few : (h : List Content) (m : Marks) → HasRoom h m → length m.found ≤ object_count h
+pub found_few : (h : List ChunkValue) (m : MarkingValue) → HasRoom h m → length m.found ≤ object_count h
 found_few h m r = found_within h m.found r.once (λ a i. r.each a (contains_from_in m.found a i))
 
-pub has_slot : (h : List Content) (m : Marks) → HasRoom h m → 0 < m.slots
+pub has_slot : (h : List ChunkValue) (m : MarkingValue) → HasRoom h m → 0 < m.slots
 has_slot h m r =
     let few : length m.found ≤ object_count h = found_few h m r in
     let s : object_count h < length m.found + m.slots = r.slots in
     omega arith
 
-pub has_spare : (h : List Content) (m : Marks) → HasRoom h m → 0 < m.spare
+pub has_spare : (h : List ChunkValue) (m : MarkingValue) → HasRoom h m → 0 < m.spare
 has_spare h m r =
     let few : length m.found ≤ object_count h = found_few h m r in
     let s : object_count h < length m.found + m.spare = r.spare in
     omega arith
 
-module _ (P : Addr → Type 0) (m : Marks) where
+module _ (P : Addr → Type 0) (m : MarkingValue) where
   -- nothing more is there, or it is found already
   pub finds_none : ((a : Addr) → P a → Contains m.found a) → Finds P m m
   finds_none n = record {
@@ -44,7 +44,7 @@ module _ (P : Addr → Type 0) (m : Marks) where
   }
 
 -- one object noted
-pub finds_noted : (P : Addr → Type 0) (old new : Marks) (a : Addr) → P a → ((x : Addr) → P x → a ≡ x) → new.found ≡ noted old.found a → new.marked ≡ old.marked → new.followed ≡ old.followed → Finds P old new
+pub finds_noted : (P : Addr → Type 0) (old new : MarkingValue) (a : Addr) → P a → ((x : Addr) → P x → a ≡ x) → new.found ≡ noted old.found a → new.marked ≡ old.marked → new.followed ≡ old.followed → Finds P old new
 finds_noted P old new a p only e m f =
     let n = noted_is old.found a in
     record {
@@ -58,7 +58,7 @@ finds_noted P old new a p only e m f =
       followed = f;
     }
 
-pub room_noted : (h : List Content) (old new : Marks) (a : Addr) → HasRoom h old → IsHeld h a → new.found ≡ noted old.found a
+pub room_noted : (h : List ChunkValue) (old new : MarkingValue) (a : Addr) → HasRoom h old → IsHeld h a → new.found ≡ noted old.found a
     → length old.found + old.slots ≤ length new.found + new.slots → length old.found + old.spare ≤ length new.found + new.spare → new.places ≡ old.places → HasRoom h new
 room_noted h old new a r held e s p q =
     let n = noted_is old.found a in
@@ -76,11 +76,11 @@ room_noted h old new a r held e s p q =
       places = omega arith;
     }
 
-pub still_found : (P : Addr → Type 0) (old new : Marks) → Finds P old new → (a : Addr) → Contains old.found a → Contains new.found a
+pub still_found : (P : Addr → Type 0) (old new : MarkingValue) → Finds P old new → (a : Addr) → Contains old.found a → Contains new.found a
 still_found P old new f a c = contains_from_in new.found a (subst (λ (xs : List Addr). In xs a) (sym f.grown.1) (in_append_left old.found f.grown.0 a (in_from_contains old.found a c)))
 
 -- one after the other
-pub finds_both : (P Q R : Addr → Type 0) (old mid new : Marks) → Finds P old mid → Finds Q mid new
+pub finds_both : (P Q R : Addr → Type 0) (old mid new : MarkingValue) → Finds P old mid → Finds Q mid new
     → ((a : Addr) → R a → P a ⊎ Q a) → ((a : Addr) → P a → R a) → ((a : Addr) → Q a → R a) → Finds R old new
 finds_both P Q R old mid new f g split left right = record {
   grown = (f.grown.0 ++ g.grown.0, g.grown.1 ∙ (ap (λ (xs : List Addr). xs ++ g.grown.0) f.grown.1 ∙ append_assoc old.found f.grown.0 g.grown.0));
@@ -121,7 +121,7 @@ got_in_take (z ∷ zs) zero x e = inl cc
 got_in_take (z ∷ zs) (suc k) x e = let n : suc k + 1 ≡ suc (k + 1) = omega arith in rw n (inr (got_in_take zs k x e))
 
 -- one element more of a list whose elements are found
-pub finds_more : {X : Type 0} (H : Addr → Type 0) (of : Addr → X) (xs : List X) (k : ℕ) (x : X) (old mid new : Marks) → slice_get xs k ≡ Some x
+pub finds_more : {X : Type 0} (H : Addr → Type 0) (of : Addr → X) (xs : List X) (k : ℕ) (x : X) (old mid new : MarkingValue) → slice_get xs k ≡ Some x
     → Finds (λ a. H a × Contains (take k xs) (of a)) old mid → Finds (λ a. H a × (x ≡ of a)) mid new
     → Finds (λ a. H a × Contains (take (k + 1) xs) (of a)) old new
 finds_more {X} H of xs k x old mid new e f g =
@@ -134,7 +134,7 @@ finds_more {X} H of xs k x old mid new e f g =
     (λ a q. (q.0, contains_from_in (take (k + 1) xs) (of a) (subst (λ (y : X). In (take (k + 1) xs) y) q.1 (got_in_take xs k x e))))
 
 -- all of a list
-pub finds_list : {X : Type 0} (H P : Addr → Type 0) (of : Addr → X) (xs : List X) (k : ℕ) (old new : Marks) → length xs ≤ k
+pub finds_list : {X : Type 0} (H P : Addr → Type 0) (of : Addr → X) (xs : List X) (k : ℕ) (old new : MarkingValue) → length xs ≤ k
     → ((a : Addr) → P a → H a × Contains xs (of a)) → ((a : Addr) → H a × Contains xs (of a) → P a)
     → Finds (λ a. H a × Contains (take k xs) (of a)) old new → Finds P old new
 finds_list {X} H P of xs k old new l to back f =
@@ -152,25 +152,25 @@ finds_list {X} H P of xs k old new l to back f =
 pub some_same : {a b : Addr} → Some a ≡ Some b → a ≡ b
 some_same e = cc
 
-owned_by : (ks : List Content) (n : ℕ) (b : Bool) → nat_lt (place_of ks n) (length ks) ≡ b → is_some (if b then Some (place_of ks n) else None) ≡ true → place_of ks n < length ks
+owned_by : (ks : List ChunkValue) (n : ℕ) (b : Bool) → nat_lt (place_of ks n) (length ks) ≡ b → is_some (if b then Some (place_of ks n) else None) ≡ true → place_of ks n < length ks
 owned_by ks n true e o = grind arith
 owned_by ks n false e o = absurd (false≢true o)
 
-pub owned_held : (ks : List Content) (a : Addr) → IsSound ks (Some a) → is_some (place_in ks a.chunk) ≡ true → IsHeld ks a
+pub owned_held : (ks : List ChunkValue) (a : Addr) → IsSound ks (Some a) → is_some (place_in ks a.chunk) ≡ true → IsHeld ks a
 owned_held ks a sound o = (sound (owned_by ks a.chunk (nat_lt (place_of ks a.chunk) (length ks)) refl o)).0
 
-not_by : (ks : List Content) (n : ℕ) (b : Bool) → nat_lt (place_of ks n) (length ks) ≡ b → is_some (if b then Some (place_of ks n) else None) ≡ false → place_of ks n < length ks → ⊥
+not_by : (ks : List ChunkValue) (n : ℕ) (b : Bool) → nat_lt (place_of ks n) (length ks) ≡ b → is_some (if b then Some (place_of ks n) else None) ≡ false → place_of ks n < length ks → ⊥
 not_by ks n true e o l = false≢true (sym o)
 not_by ks n false e o l = grind arith
 
-pub not_owned : (ks : List Content) (a : Addr) → is_some (place_in ks a.chunk) ≡ false → IsHeld ks a → ⊥
+pub not_owned : (ks : List ChunkValue) (a : Addr) → is_some (place_in ks a.chunk) ≡ false → IsHeld ks a → ⊥
 not_owned ks a o h = not_by ks a.chunk (nat_lt (place_of ks a.chunk) (length ks)) refl o (laws.chunk_of_object ks a (laws.born_object ks a h))
 
 pub held_in : (P : Addr → Type 0) (xs : List Addr) (a : Addr) → All P xs → Contains xs a → P a
 held_in P xs a all c = subst P c.2 (all c.0 a c.1)
 
 -- one object more of a list of objects
-pub finds_more_at : (H : Addr → Type 0) (xs : List Addr) (k : ℕ) (d : Addr) (old mid new : Marks) → k < length xs
+pub finds_more_at : (H : Addr → Type 0) (xs : List Addr) (k : ℕ) (d : Addr) (old mid new : MarkingValue) → k < length xs
     → H (get_or xs k d) → Finds (λ a. H a × Contains (take k xs) a) old mid → Finds (λ a. get_or xs k d ≡ a) mid new
     → Finds (λ a. H a × Contains (take (k + 1) xs) a) old new
 finds_more_at H xs k d old mid new l h f g =
@@ -184,7 +184,7 @@ finds_more_at H xs k d old mid new l h f g =
     }
 
 -- the same between markings that differ in their counts alone
-pub finds_counted : (P Q : Addr → Type 0) (old mid old2 new : Marks) → ((a : Addr) → P a → Q a) → ((a : Addr) → Q a → P a) → Finds P old mid → old2.found ≡ old.found → new.found ≡ mid.found
+pub finds_counted : (P Q : Addr → Type 0) (old mid old2 new : MarkingValue) → ((a : Addr) → P a → Q a) → ((a : Addr) → Q a → P a) → Finds P old mid → old2.found ≡ old.found → new.found ≡ mid.found
     → new.marked ≡ old2.marked → new.followed ≡ old2.followed → Finds Q old2 new
 finds_counted P Q old mid old2 new to back f e n m k = record {
   grown = (f.grown.0, n ∙ (f.grown.1 ∙ ap (λ (xs : List Addr). xs ++ f.grown.0) (sym e)));

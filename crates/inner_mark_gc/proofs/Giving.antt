@@ -4,70 +4,70 @@ use Rattle.std.specs.Prelude.{IsSome}
 use Rattle.std.proofs.lemmas.Bool.{cases_Bool, eq-eqb, eqb-true, lt-ltb, ne_eqb, false≢true}
 use Rattle.std.proofs.lemmas.List.{take_more}
 use Rattle.std.proofs.lemmas.List.Elements.{All-append, All-cons, All-head, All-nil, All-tail}
-use Rattle.object_layout.specs.Content.{Content}
+use Rattle.object_layout.specs.ChunkValue.{ChunkValue}
 use Rattle.object_layout.specs.Chunks.{place_in, place_of}
-use Rattle.alloc_path.specs.Heap.{AreApart, IsFresh}
+use Rattle.alloc_path.specs.LeafHeapValue.{AreApart, IsFresh}
 use Rattle.alloc_path.specs.Units.{counted32, unit_count}
 use Rattle.alloc_path.proofs.HeapLemmas.{fresh_cons, fresh_head, fresh_tail}
-use Rattle.chunk_pool.specs.Chunks.{Chunks, Gives, held_at, units_held}
+use Rattle.chunk_pool.specs.PoolValue.{PoolValue, Gives, held_at, units_held}
 use Rattle.inner_mark_gc.specs.Swept.{AreGiven, units_kept}
 
 -- ---- fresh numbers
 
-pub fresh_left : (ks ls : List Content) (n : ℕ) → IsFresh (ks ++ ls) n → IsFresh ks n
+pub fresh_left : (ks ls : List ChunkValue) (n : ℕ) → IsFresh (ks ++ ls) n → IsFresh ks n
 fresh_left [] ls n f = refl
 fresh_left (k ∷ ks) ls n f = fresh_cons k ks n (fresh_head k (ks ++ ls) n f) (fresh_left ks ls n (fresh_tail k (ks ++ ls) n f))
 
-pub fresh_right : (ks ls : List Content) (n : ℕ) → IsFresh (ks ++ ls) n → IsFresh ls n
+pub fresh_right : (ks ls : List ChunkValue) (n : ℕ) → IsFresh (ks ++ ls) n → IsFresh ls n
 fresh_right [] ls n f = f
 fresh_right (k ∷ ks) ls n f = fresh_right ks ls n (fresh_tail k (ks ++ ls) n f)
 
-fresh_step : (k : Content) (ks : List Content) (n : ℕ) (b : Bool) → IsFresh (k ∷ ks) n → (ls : List Content) → IsFresh ls n → IsFresh (cond b (k ∷ ls) ls) n
+fresh_step : (k : ChunkValue) (ks : List ChunkValue) (n : ℕ) (b : Bool) → IsFresh (k ∷ ks) n → (ls : List ChunkValue) → IsFresh ls n → IsFresh (cond b (k ∷ ls) ls) n
 fresh_step k ks n true f ls g = fresh_cons k ls n (fresh_head k ks n f) g
 fresh_step k ks n false f ls g = g
 
 -- of some of the chunks
-pub fresh_filtered : (p : Content → Bool) (ks : List Content) (n : ℕ) → IsFresh ks n → IsFresh (filter p ks) n
+pub fresh_filtered : (p : ChunkValue → Bool) (ks : List ChunkValue) (n : ℕ) → IsFresh ks n → IsFresh (filter p ks) n
 fresh_filtered p [] n f = f
 fresh_filtered p (k ∷ ks) n f = fresh_step k ks n (p k) f (filter p ks) (fresh_filtered p ks n (fresh_tail k ks n f))
 
-apart_step : (k : Content) (ks : List Content) (b : Bool) → IsFresh ks k.number → AreApart ks → AreApart (cond b (k ∷ ks) ks)
+apart_step : (k : ChunkValue) (ks : List ChunkValue) (b : Bool) → IsFresh ks k.number → AreApart ks → AreApart (cond b (k ∷ ks) ks)
 apart_step k ks true f a = (f, a)
 apart_step k ks false f a = a
 
-pub apart_filtered : (p : Content → Bool) (ks : List Content) → AreApart ks → AreApart (filter p ks)
+pub apart_filtered : (p : ChunkValue → Bool) (ks : List ChunkValue) → AreApart ks → AreApart (filter p ks)
 apart_filtered p [] a = a
 apart_filtered p (k ∷ ks) a = apart_step k (filter p ks) (p k) (fresh_filtered p ks k.number a.0) (apart_filtered p ks a.1)
 
 -- a chunk behind others has none of their numbers
-pub fresh_before : (ks : List Content) (k : Content) (ls : List Content) → AreApart (ks ++ k ∷ ls) → IsFresh ks k.number
+pub fresh_before : (ks : List ChunkValue) (k : ChunkValue) (ls : List ChunkValue) → AreApart (ks ++ k ∷ ls) → IsFresh ks k.number
 fresh_before [] k ls a = refl
 fresh_before (x ∷ ks) k ls a =
     fresh_cons x ks k.number (λ e. fresh_head k ls x.number (fresh_right ks (k ∷ ls) x.number a.0) (sym e)) (fresh_before ks k ls a.1)
 
-fresh_both : (ks ls : List Content) (n : ℕ) → IsFresh ks n → IsFresh ls n → IsFresh (ks ++ ls) n
+fresh_both : (ks ls : List ChunkValue) (n : ℕ) → IsFresh ks n → IsFresh ls n → IsFresh (ks ++ ls) n
 fresh_both [] ls n f g = g
 fresh_both (k ∷ ks) ls n f g = fresh_cons k (ks ++ ls) n (fresh_head k ks n f) (fresh_both ks ls n (fresh_tail k ks n f) g)
 
 -- ---- a chunk is looked for by its number
 
-there_at : (ks : List Content) (i n : ℕ) (d : Content) → i < length ks → IsFresh (take i ks) n → (get_or ks i d).number ≡ n → place_of ks n ≡ i
+there_at : (ks : List ChunkValue) (i n : ℕ) (d : ChunkValue) → i < length ks → IsFresh (take i ks) n → (get_or ks i d).number ≡ n → place_of ks n ≡ i
 there_at [] i n d l f e = absurd (omega arith)
 there_at (k ∷ ks) zero n d l f e = rw (eq-eqb k.number n e) refl
 there_at (k ∷ ks) (suc i) n d l f e =
     let ih : place_of ks n ≡ i = there_at ks i n d (omega arith) (fresh_tail k (take i ks) n f) e in
     rw (ne_eqb k.number n (fresh_head k (take i ks) n f)) (omega arith)
 
-pub found_at : (ks : List Content) (i n : ℕ) (d : Content) → i < length ks → IsFresh (take i ks) n → (get_or ks i d).number ≡ n → Some i ≡ place_in ks n
+pub found_at : (ks : List ChunkValue) (i n : ℕ) (d : ChunkValue) → i < length ks → IsFresh (take i ks) n → (get_or ks i d).number ≡ n → Some i ≡ place_in ks n
 found_at ks i n d l f e = sym (rw (there_at ks i n d l f e, lt-ltb i (length ks) l) refl)
 
-pub fresh_more : (ks : List Content) (i n : ℕ) (d : Content) → i < length ks → IsFresh (take i ks) n → ((get_or ks i d).number ≡ n → ⊥) → IsFresh (take (i + 1) ks) n
+pub fresh_more : (ks : List ChunkValue) (i n : ℕ) (d : ChunkValue) → i < length ks → IsFresh (take i ks) n → ((get_or ks i d).number ≡ n → ⊥) → IsFresh (take (i + 1) ks) n
 fresh_more ks i n d l f ne =
-    subst (λ (xs : List Content). IsFresh xs n) (sym (take_more ks i d l)) (fresh_both (take i ks) (get_or ks i d ∷ []) n f (fresh_cons (get_or ks i d) [] n ne refl))
+    subst (λ (xs : List ChunkValue). IsFresh xs n) (sym (take_more ks i d l)) (fresh_both (take i ks) (get_or ks i d ∷ []) n f (fresh_cons (get_or ks i d) [] n ne refl))
 
 -- ---- chunks given back
 
-pub given_none : (p : Chunks) → AreGiven p p []
+pub given_none : (p : PoolValue) → AreGiven p p []
 given_none p = record {
   free = All-nil (λ k. held_at p k.number ≡ None);
   others = λ n f. refl;
@@ -75,7 +75,7 @@ given_none p = record {
   units = omega arith;
 }
 
-pub given_one : (p q : Chunks) (k : Content) → Gives p q k.number → AreGiven p q (k ∷ [])
+pub given_one : (p q : PoolValue) (k : ChunkValue) → Gives p q k.number → AreGiven p q (k ∷ [])
 given_one p q k g = record {
   free = All-cons (λ k. held_at q k.number ≡ None) k [] g.free (All-nil (λ k. held_at q k.number ≡ None));
   others = λ n f. g.rest.others n (λ e. fresh_head k [] n f (sym e));
@@ -84,7 +84,7 @@ given_one p q k g = record {
 }
 
 -- the number is that of one of these, which is free, or it is fresh
-fresh_or_free : (r : Chunks) (ls : List Content) (n : ℕ) → All (λ k. held_at r k.number ≡ None) ls → IsFresh ls n ⊎ (held_at r n ≡ None)
+fresh_or_free : (r : PoolValue) (ls : List ChunkValue) (n : ℕ) → All (λ k. held_at r k.number ≡ None) ls → IsFresh ls n ⊎ (held_at r n ≡ None)
 fresh_or_free r [] n a = inl refl
 fresh_or_free r (k ∷ ls) n a =
     elim (cases_Bool (eqb k.number n)) [
@@ -98,7 +98,7 @@ fresh_or_free r (k ∷ ls) n a =
     same : (a b : ℕ) → a ≡ b → eqb a b ≡ true
     same a b q = grind arith
 
-still_free : (q r : Chunks) (ks ls : List Content) → All (λ k. held_at q k.number ≡ None) ks → AreGiven q r ls → All (λ k. held_at r k.number ≡ None) ks
+still_free : (q r : PoolValue) (ks ls : List ChunkValue) → All (λ k. held_at q k.number ≡ None) ks → AreGiven q r ls → All (λ k. held_at r k.number ≡ None) ks
 still_free q r [] ls a g = All-nil (λ k. held_at r k.number ≡ None)
 still_free q r (k ∷ ks) ls a g =
     All-cons (λ k. held_at r k.number ≡ None) k ks
@@ -108,11 +108,11 @@ still_free q r (k ∷ ks) ls a g =
     ])
     (still_free q r ks ls (All-tail (λ k. held_at q k.number ≡ None) k ks a) g)
 
-units_append : (p : Chunks) (ks ls : List Content) → units_kept p (ks ++ ls) ≡ units_kept p ks + units_kept p ls
+units_append : (p : PoolValue) (ks ls : List ChunkValue) → units_kept p (ks ++ ls) ≡ units_kept p ks + units_kept p ls
 units_append p [] ls = omega arith
 units_append p (k ∷ ks) ls = let ih = units_append p ks ls in omega arith
 
-units_same : (p q : Chunks) (ks ls : List Content) → AreGiven p q ks → All (λ l. IsFresh ks l.number) ls → units_kept q ls ≡ units_kept p ls
+units_same : (p q : PoolValue) (ks ls : List ChunkValue) → AreGiven p q ks → All (λ l. IsFresh ks l.number) ls → units_kept q ls ≡ units_kept p ls
 units_same p q ks [] g a = refl
 units_same p q ks (l ∷ ls) g a =
     let here : units_held (held_at q l.number) ≡ units_held (held_at p l.number) = ap units_held (g.others l.number (All-head (λ l. IsFresh ks l.number) l ls a)) in
@@ -120,7 +120,7 @@ units_same p q ks (l ∷ ls) g a =
     omega arith
 
 -- one after the other
-pub given_both : (p q r : Chunks) (ks ls : List Content) → AreGiven p q ks → AreGiven q r ls → All (λ l. IsFresh ks l.number) ls → AreGiven p r (ks ++ ls)
+pub given_both : (p q r : PoolValue) (ks ls : List ChunkValue) → AreGiven p q ks → AreGiven q r ls → All (λ l. IsFresh ks l.number) ls → AreGiven p r (ks ++ ls)
 given_both p q r ks ls g h a = record {
   free = All-append (λ k. held_at r k.number ≡ None) ks ls (still_free q r ks ls g.free h) h.free;
   others = λ n f. h.others n (fresh_right ks ls n f) ∙ g.others n (fresh_left ks ls n f);
@@ -134,20 +134,20 @@ given_both p q r ks ls g h a = record {
 }
 
 -- one chunk more of a list, of which some are given back
-module _ (p : Content → Bool) (ks : List Content) (k : Content) where
+module _ (p : ChunkValue → Bool) (ks : List ChunkValue) (k : ChunkValue) where
   fresh_some : IsFresh ks k.number → (b : Bool) → All (λ l. IsFresh (filter p ks) l.number) (cond b (k ∷ []) [])
   fresh_some fresh true = All-cons (λ l. IsFresh (filter p ks) l.number) k [] (fresh_filtered p ks k.number fresh) (All-nil (λ l. IsFresh (filter p ks) l.number))
   fresh_some fresh false = All-nil (λ l. IsFresh (filter p ks) l.number)
 
-  filter_more : (xs : List Content) → filter p (xs ++ k ∷ []) ≡ filter p xs ++ filter p (k ∷ [])
+  filter_more : (xs : List ChunkValue) → filter p (xs ++ k ∷ []) ≡ filter p xs ++ filter p (k ∷ [])
   filter_more [] = refl
   filter_more (x ∷ xs) = step (p x) (filter_more xs)
     where
       step : (b : Bool) → filter p (xs ++ k ∷ []) ≡ filter p xs ++ filter p (k ∷ []) → cond b (x ∷ filter p (xs ++ k ∷ [])) (filter p (xs ++ k ∷ [])) ≡ cond b (x ∷ filter p xs) (filter p xs) ++ filter p (k ∷ [])
-      step true e = ap (λ (ys : List Content). x ∷ ys) e
+      step true e = ap (λ (ys : List ChunkValue). x ∷ ys) e
       step false e = e
 
-  unit_sum : (xs ys : List Content) → unit_count (xs ++ ys) ≡ unit_count xs + unit_count ys
+  unit_sum : (xs ys : List ChunkValue) → unit_count (xs ++ ys) ≡ unit_count xs + unit_count ys
   unit_sum [] ys = omega arith
   unit_sum (x ∷ xs) ys = let ih = unit_sum xs ys in omega arith
 
@@ -157,16 +157,16 @@ module _ (p : Content → Bool) (ks : List Content) (k : Content) where
       let sum : unit_count (filter p (ks ++ k ∷ [])) ≡ unit_count (filter p ks) + unit_count (filter p (k ∷ [])) = ap unit_count (filter_more ks) ∙ unit_sum (filter p ks) (filter p (k ∷ [])) in
       omega arith
 
-  pub mapped_more : (f : Content → Content) → map f (filter p (ks ++ k ∷ [])) ≡ map f (filter p ks) ++ map f (filter p (k ∷ []))
+  pub mapped_more : (f : ChunkValue → ChunkValue) → map f (filter p (ks ++ k ∷ [])) ≡ map f (filter p ks) ++ map f (filter p (k ∷ []))
   mapped_more f = ap (map f) (filter_more ks) ∙ map_append (filter p ks) (filter p (k ∷ []))
     where
-      map_append : (xs ys : List Content) → map f (xs ++ ys) ≡ map f xs ++ map f ys
+      map_append : (xs ys : List ChunkValue) → map f (xs ++ ys) ≡ map f xs ++ map f ys
       map_append [] ys = refl
-      map_append (x ∷ xs) ys = ap (λ (zs : List Content). f x ∷ zs) (map_append xs ys)
+      map_append (x ∷ xs) ys = ap (λ (zs : List ChunkValue). f x ∷ zs) (map_append xs ys)
 
-  pub given_more : IsFresh ks k.number → (a b c : Chunks) → AreGiven a b (filter p ks) → AreGiven b c (filter p (k ∷ [])) → AreGiven a c (filter p (ks ++ k ∷ []))
-  given_more fresh a b c g h = subst (λ (xs : List Content). AreGiven a c xs) (sym (filter_more ks)) (given_both a b c (filter p ks) (filter p (k ∷ [])) g h (fresh_some fresh (p k)))
+  pub given_more : IsFresh ks k.number → (a b c : PoolValue) → AreGiven a b (filter p ks) → AreGiven b c (filter p (k ∷ [])) → AreGiven a c (filter p (ks ++ k ∷ []))
+  given_more fresh a b c g h = subst (λ (xs : List ChunkValue). AreGiven a c xs) (sym (filter_more ks)) (given_both a b c (filter p ks) (filter p (k ∷ [])) g h (fresh_some fresh (p k)))
 
 -- a chunk that isn't given back yet is still in use
-pub still_in_use : (a b : Chunks) (p : Content → Bool) (ks : List Content) (k : Content) → IsFresh ks k.number → AreGiven a b (filter p ks) → IsSome (held_at a k.number) → IsSome (held_at b k.number)
+pub still_in_use : (a b : PoolValue) (p : ChunkValue → Bool) (ks : List ChunkValue) (k : ChunkValue) → IsFresh ks k.number → AreGiven a b (filter p ks) → IsSome (held_at a k.number) → IsSome (held_at b k.number)
 still_in_use a b p ks k f g s = subst (λ o. IsSome o) (sym (g.others k.number (fresh_filtered p ks k.number f))) s

@@ -2,10 +2,10 @@
 use Rattle.std.proofs.Common.{◌≡◌, ℕ, zero, suc, ◌+◌, ◌<◌, ◌≤◌, List, [], ◌∷◌, ◌++◌, length, drop, subst, arith, ◌⊎◌, inl, inr, Contains, length-append}
 use Rattle.std.proofs.lemmas.List.{take-append-le}
 use Rattle.object_layout.specs.declared.word.Addr.{Addr}
-use Rattle.object_layout.specs.Content.{Content}
+use Rattle.object_layout.specs.ChunkValue.{ChunkValue}
 use Rattle.object_layout.specs.Graph.{Leads}
 use Rattle.listed.proofs.Members.{In, in_append_left, in_append_right, in_append_cases, contains_from_in, in_from_contains}
-use Rattle.walks.proofs.Reached.{reached_start, reached_more, reached_within}
+use Rattle.walk_laws.proofs.Reached.{reached_start, reached_more, reached_within}
 use Rattle.inner_mark_gc.specs.Laws.{MarkingGoesOn, MarkingStaysOf, SnapshotIsOfRoots}
 use Rattle.inner_mark_gc.specs.Snapshot.{Fork, IsInSnapshot, Starts, object_count}
 
@@ -36,7 +36,7 @@ in_drop_more zero xs ys a i = in_append_left xs ys a i
 in_drop_more (suc n) [] ys a i = absurd i
 in_drop_more (suc n) (x ∷ xs) ys a i = in_drop_more n xs ys a i
 
-abbrev at : List Content → List Addr → Fork
+abbrev at : List ChunkValue → List Addr → Fork
 at h roots = record { heap = h; roots = roots }
 
 in_both : (roots kept : List Addr) (a : Addr) → Contains roots a ⊎ Contains kept a → Contains (roots ++ kept) a

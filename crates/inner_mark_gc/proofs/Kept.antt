@@ -6,16 +6,16 @@ use Rattle.std.proofs.lemmas.List.{length-map}
 use Rattle.std.proofs.lemmas.List.Elements.{All-cons, All-filter, All-head, All-map, All-tail, All-weaker}
 use Rattle.object_layout.specs.declared.word.Addr.{Addr}
 use Rattle.object_layout.specs.Cell.{Cell, IsBorn, IsObject, Mark, Born, Moved, Hole, as_object, marked_object, moved_to, no_cell, size_of}
-use Rattle.object_layout.specs.Content.{Content}
+use Rattle.object_layout.specs.ChunkValue.{ChunkValue}
 use Rattle.object_layout.specs.Place.{cell_at}
 use Rattle.object_layout.specs.Chunks.{cell_of, chunk_at, object_of, place_of}
 use Rattle.object_layout.specs.Graph.{IsHeld}
 use Rattle.object_layout.proofs.ChunkLaws as laws
 use Rattle.listed.proofs.Members.{In, contains_from_in, in_from_contains}
-use Rattle.alloc_path.specs.Heap.{AreApart, IsCurrent, IsFresh, IsReserved, IsSettled, IsTidy, units}
+use Rattle.alloc_path.specs.LeafHeapValue.{AreApart, IsCurrent, IsFresh, IsReserved, IsSettled, IsTidy, units}
 use Rattle.alloc_path.proofs.HeapLemmas.{fresh_at, fresh_cons, fresh_head, fresh_tail, none_there}
 use Rattle.inner_mark_gc.specs.Laws.{AllMarkedIsDone, EachLeftHolds, SweptAreRead, SweptIsSnapshot}
-use Rattle.inner_mark_gc.specs.Marks.{has_address, marked_of}
+use Rattle.inner_mark_gc.specs.MarkingValue.{has_address, marked_of}
 use Rattle.inner_mark_gc.specs.Snapshot.{IsInSnapshot}
 use Rattle.inner_mark_gc.specs.Swept.{has_number, has_object, number_at, place_at, stays, swept, swept_cell, swept_cells, swept_chunk}
 use Rattle.inner_mark_gc.proofs.Addresses.{has_in, in_has}
@@ -25,24 +25,24 @@ use Rattle.inner_mark_gc.proofs.Sweeping.{none_read, read_swept, size_swept}
 
 -- ---- numbers
 
-module _ (f : Content → Content) (number : (k : Content) → (f k).number ≡ k.number) where
-  fresh_mapped : (ks : List Content) (n : ℕ) → IsFresh ks n → IsFresh (map f ks) n
+module _ (f : ChunkValue → ChunkValue) (number : (k : ChunkValue) → (f k).number ≡ k.number) where
+  fresh_mapped : (ks : List ChunkValue) (n : ℕ) → IsFresh ks n → IsFresh (map f ks) n
   fresh_mapped [] n h = h
   fresh_mapped (k ∷ ks) n h = fresh_cons (f k) (map f ks) n (λ e. fresh_head k ks n h (sym (number k) ∙ e)) (fresh_mapped ks n (fresh_tail k ks n h))
 
-  apart_mapped : (ks : List Content) → AreApart ks → AreApart (map f ks)
+  apart_mapped : (ks : List ChunkValue) → AreApart ks → AreApart (map f ks)
   apart_mapped [] a = a
   apart_mapped (k ∷ ks) a = (subst (IsFresh (map f ks)) (sym (number k)) (fresh_mapped ks k.number a.0), apart_mapped ks a.1)
 
-  module _ (p : Content → Bool) where
-    abbrev Left : List Content → List Content
+  module _ (p : ChunkValue → Bool) where
+    abbrev Left : List ChunkValue → List ChunkValue
     Left ks = map f (filter p ks)
 
-    fresh_in : (ks : List Content) (n : ℕ) → IsFresh ks n → IsFresh (Left ks) n
+    fresh_in : (ks : List ChunkValue) (n : ℕ) → IsFresh ks n → IsFresh (Left ks) n
     fresh_in ks n h = fresh_mapped (filter p ks) n (fresh_filtered p ks n h)
 
     -- the chunk that is left of the one at a place
-    at_number : (ks : List Content) → AreApart ks → (i : ℕ) → i < length ks → place_of (Left ks) (chunk_at ks i).number < length (Left ks) → chunk_at (Left ks) (place_of (Left ks) (chunk_at ks i).number) ≡ f (chunk_at ks i)
+    at_number : (ks : List ChunkValue) → AreApart ks → (i : ℕ) → i < length ks → place_of (Left ks) (chunk_at ks i).number < length (Left ks) → chunk_at (Left ks) (place_of (Left ks) (chunk_at ks i).number) ≡ f (chunk_at ks i)
     at_number [] a i l there = absurd (omega arith)
     at_number (k ∷ ks) a zero l there = first (p k) there
       where
@@ -60,10 +60,10 @@ module _ (f : Content → Content) (number : (k : Content) → (f k).number ≡ 
         later rest true t = let m = rw (ne_eqb (f k).number (chunk_at ks i).number other) at t in rw (ne_eqb (f k).number (chunk_at ks i).number other, one-add) (rest (omega arith))
         later rest false t = rest t
 
-    pub left_apart : (ks : List Content) → AreApart ks → AreApart (Left ks)
+    pub left_apart : (ks : List ChunkValue) → AreApart ks → AreApart (Left ks)
     left_apart ks a = apart_mapped (filter p ks) (apart_filtered p ks a)
 
-    count_left : (ks : List Content) → length (filter p ks) ≤ length ks
+    count_left : (ks : List ChunkValue) → length (filter p ks) ≤ length ks
     count_left [] = omega arith
     count_left (k ∷ ks) = step (p k) (count_left ks)
       where
@@ -71,18 +71,18 @@ module _ (f : Content → Content) (number : (k : Content) → (f k).number ≡ 
         step true l = omega arith
         step false l = omega arith
 
-    pub left_count : (ks : List Content) → length (Left ks) ≤ length ks
+    pub left_count : (ks : List ChunkValue) → length (Left ks) ≤ length ks
     left_count ks = let n : length (map f (filter p ks)) ≡ length (filter p ks) = length-map (filter p ks) f in let c = count_left ks in omega arith
 
     -- what holds of the chunk at a place, once it is swept, holds where it is left
-    at_place : (P : Content → Type 0) (ks : List Content) → AreApart ks → (i : ℕ) → i < length ks → P (f (chunk_at ks i)) → (b : Bool) → nat_lt (place_of (Left ks) (chunk_at ks i).number) (length (Left ks)) ≡ b →
+    at_place : (P : ChunkValue → Type 0) (ks : List ChunkValue) → AreApart ks → (i : ℕ) → i < length ks → P (f (chunk_at ks i)) → (b : Bool) → nat_lt (place_of (Left ks) (chunk_at ks i).number) (length (Left ks)) ≡ b →
         (place_of (Left ks) (chunk_at ks i).number < length (Left ks) → P (chunk_at (Left ks) (place_of (Left ks) (chunk_at ks i).number)))
     at_place P ks a i l h b e there = subst P (sym (at_number ks a i l there)) h
 
 -- ---- the heap is settled, with its places
 
-module _ (kept : List Addr) (reserved : Option ℕ) (ks : List Content) (settled : IsSettled ks) where
-  abbrev Now : List Content
+module _ (kept : List Addr) (reserved : Option ℕ) (ks : List ChunkValue) (settled : IsSettled ks) where
+  abbrev Now : List ChunkValue
   Now = map (swept_chunk kept) (filter (stays kept reserved) ks)
 
   pub now_apart : AreApart (map (swept_chunk kept) (filter (stays kept reserved) ks))
@@ -94,7 +94,7 @@ module _ (kept : List Addr) (reserved : Option ℕ) (ks : List Content) (settled
   current_by : (i : ℕ) → i < length ks → (chunk_at ks i).size ≡ 1024 → (b : Bool) → nat_lt (place_of Now (chunk_at ks i).number) (length Now) ≡ b → IsCurrent Now (cond b (Some (place_of Now (chunk_at ks i).number)) None)
   current_by i l s true e =
       let there : place_of Now (chunk_at ks i).number < length Now = grind arith in
-      (there, ap (λ (k : Content). k.size) (at_number (swept_chunk kept) (λ k. refl) (stays kept reserved) ks settled.apart i l there) ∙ s)
+      (there, ap (λ (k : ChunkValue). k.size) (at_number (swept_chunk kept) (λ k. refl) (stays kept reserved) ks settled.apart i l there) ∙ s)
   current_by i l s false e = tt
 
   pub now_current : (o : Option ℕ) → IsCurrent ks o → IsCurrent (map (swept_chunk kept) (filter (stays kept reserved) ks)) (place_at (map (swept_chunk kept) (filter (stays kept reserved) ks)) (number_at ks o))
@@ -105,7 +105,7 @@ module _ (kept : List Addr) (reserved : Option ℕ) (ks : List Content) (settled
   reserved_by i l s none true e =
       let there : place_of Now (chunk_at ks i).number < length Now = grind arith in
       let same : chunk_at Now (place_of Now (chunk_at ks i).number) ≡ swept_chunk kept (chunk_at ks i) = at_number (swept_chunk kept) (λ k. refl) (stays kept reserved) ks settled.apart i l there in
-      (there, (subst (λ (n : ℕ). 1024 < n) (sym (ap (λ (k : Content). k.size) same)) s, ap (λ (k : Content). k.cells) same ∙ ap (swept_cells kept (chunk_at ks i).number 0) none))
+      (there, (subst (λ (n : ℕ). 1024 < n) (sym (ap (λ (k : ChunkValue). k.size) same)) s, ap (λ (k : ChunkValue). k.cells) same ∙ ap (swept_cells kept (chunk_at ks i).number 0) none))
   reserved_by i l s none false e = tt
 
   pub now_reserved : (o : Option ℕ) → IsReserved ks o → IsReserved (map (swept_chunk kept) (filter (stays kept reserved) ks)) (place_at (map (swept_chunk kept) (filter (stays kept reserved) ks)) (number_at ks o))
@@ -134,7 +134,7 @@ module _ (kept : List Addr) (reserved : Option ℕ) (ks : List Content) (settled
       (subst P (sym (size_swept (has_address kept (record { chunk = n; offset = at })) c)) (All-head (λ (d : Cell). P (size_of d)) c cs a))
       (cells_sized P n (at + size_of c) cs (All-tail (λ (d : Cell). P (size_of d)) c cs a))
 
-  swept_tidy : (k : Content) → IsTidy k → IsTidy (swept_chunk kept k)
+  swept_tidy : (k : ChunkValue) → IsTidy k → IsTidy (swept_chunk kept k)
   swept_tidy k t = record {
     unmoved = cells_unmoved k.number 0 k.cells t.unmoved;
     alone =
@@ -147,7 +147,7 @@ module _ (kept : List Addr) (reserved : Option ℕ) (ks : List Content) (settled
   pub now_settled : IsSettled (map (swept_chunk kept) (filter (stays kept reserved) ks))
   now_settled = record {
     tidy = All-map IsTidy (swept_chunk kept) (filter (stays kept reserved) ks)
-        (All-weaker IsTidy (λ (k : Content). IsTidy (swept_chunk kept k)) swept_tidy (filter (stays kept reserved) ks) (All-filter (stays kept reserved) IsTidy ks settled.tidy));
+        (All-weaker IsTidy (λ (k : ChunkValue). IsTidy (swept_chunk kept k)) swept_tidy (filter (stays kept reserved) ks) (All-filter (stays kept reserved) IsTidy ks settled.tidy));
     apart = now_apart;
   }
 
@@ -161,11 +161,11 @@ second_false : (b c : Bool) → (b || c) ≡ false → c ≡ false
 second_false true c e = absurd (false≢true (sym e))
 second_false false c e = e
 
-nowhere : (ks : List Content) (a : Addr) → IsFresh ks a.chunk → cell_of ks a ≡ no_cell
+nowhere : (ks : List ChunkValue) (a : Addr) → IsFresh ks a.chunk → cell_of ks a ≡ no_cell
 nowhere ks a f = laws.cell_of-none ks a (none_there ks a.chunk f)
 
 module _ (kept : List Addr) (reserved : Option ℕ) (a : Addr) where
-  in_chunk : (k : Content) → k.number ≡ a.chunk → as_object (cell_at (swept_cells kept k.number 0 k.cells) a.offset) ≡ cond (has_address kept a) (as_object (cell_at k.cells a.offset)) no_cell
+  in_chunk : (k : ChunkValue) → k.number ≡ a.chunk → as_object (cell_at (swept_cells kept k.number 0 k.cells) a.offset) ≡ cond (has_address kept a) (as_object (cell_at k.cells a.offset)) no_cell
   in_chunk k q =
       let z : a.offset ≡ 0 + a.offset = omega arith in
       let here : record { chunk = k.number; offset = a.offset } ≡ a = (λ i. record { chunk = q i; offset = a.offset }) in
@@ -173,7 +173,7 @@ module _ (kept : List Addr) (reserved : Option ℕ) (a : Addr) where
       ∙ (as_swept (has_address kept (record { chunk = k.number; offset = a.offset })) (cell_at k.cells a.offset)
       ∙ ap (λ (b : Addr). cond (has_address kept b) (as_object (cell_at k.cells a.offset)) no_cell) here)
 
-  read_left : (ks : List Content) → AreApart ks → as_object (cell_of (map (swept_chunk kept) (filter (stays kept reserved) ks)) a) ≡ cond (has_address kept a) (as_object (cell_of ks a)) no_cell
+  read_left : (ks : List ChunkValue) → AreApart ks → as_object (cell_of (map (swept_chunk kept) (filter (stays kept reserved) ks)) a) ≡ cond (has_address kept a) (as_object (cell_of ks a)) no_cell
   read_left [] p = both (has_address kept a)
     where
       both : (b : Bool) → no_cell ≡ cond b no_cell no_cell
@@ -237,7 +237,7 @@ swept_is_snapshot f kept m h apart own is all a =
 pub all_marked_is_done : AllMarkedIsDone
 all_marked_is_done f kept m h own is all = all_found_marked f kept h m own is all
 
-each_left : (kept : List Addr) (reserved : Option ℕ) (ks : List Content) (k : Content) → In (map (swept_chunk kept) (filter (stays kept reserved) ks)) k → (has_object k.cells ≡ true) ⊎ (has_number reserved k ≡ true)
+each_left : (kept : List Addr) (reserved : Option ℕ) (ks : List ChunkValue) (k : ChunkValue) → In (map (swept_chunk kept) (filter (stays kept reserved) ks)) k → (has_object k.cells ≡ true) ⊎ (has_number reserved k ≡ true)
 each_left kept reserved [] k i = absurd i
 each_left kept reserved (x ∷ ks) k i = step (each_left kept reserved ks k) (stays kept reserved x) refl i
   where
@@ -246,7 +246,7 @@ each_left kept reserved (x ∷ ks) k i = step (each_left kept reserved ks k) (st
     either false c e = inl e
 
     step : (In (map (swept_chunk kept) (filter (stays kept reserved) ks)) k → (has_object k.cells ≡ true) ⊎ (has_number reserved k ≡ true)) → (b : Bool) → b ≡ stays kept reserved x → In (map (swept_chunk kept) (cond b (x ∷ filter (stays kept reserved) ks) (filter (stays kept reserved) ks))) k → (has_object k.cells ≡ true) ⊎ (has_number reserved k ≡ true)
-    step rest true q (inl e) = subst (λ (y : Content). (has_object y.cells ≡ true) ⊎ (has_number reserved y ≡ true)) e (by_number reserved (either (has_number reserved x) (has_object (swept_chunk kept x).cells) (sym q)))
+    step rest true q (inl e) = subst (λ (y : ChunkValue). (has_object y.cells ≡ true) ⊎ (has_number reserved y ≡ true)) e (by_number reserved (either (has_number reserved x) (has_object (swept_chunk kept x).cells) (sym q)))
       where
         by_number : (r : Option ℕ) → (has_object (swept_chunk kept x).cells ≡ true) ⊎ (has_number r x ≡ true) → (has_object (swept_chunk kept x).cells ≡ true) ⊎ (has_number r (swept_chunk kept x) ≡ true)
         by_number None s = s

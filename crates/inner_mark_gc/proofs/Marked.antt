@@ -3,12 +3,12 @@ use Rattle.std.proofs.Common.{◌≡◌, ℕ, zero, suc, ◌+◌, ◌<◌, ◌�
 use Rattle.std.specs.Prelude.{◌↔◌}
 use Rattle.std.proofs.lemmas.List.{take_all, take-append-le, drop_all, length-append}
 use Rattle.object_layout.specs.declared.word.Addr.{Addr}
-use Rattle.object_layout.specs.Content.{Content}
+use Rattle.object_layout.specs.ChunkValue.{ChunkValue}
 use Rattle.object_layout.specs.Graph.{IsHeld, Leads}
 use Rattle.object_layout.proofs.Distinct.{once_from}
 use Rattle.listed.proofs.Members.{In, in_append_left, in_append_right, in_append_cases, contains_from_in, in_from_contains}
-use Rattle.walks.proofs.Reached.{reached_start, reached_within}
-use Rattle.inner_mark_gc.specs.Marks.{Finds, IsAllMarked, IsMarking, IsOf, Marks, marked_of}
+use Rattle.walk_laws.proofs.Reached.{reached_start, reached_within}
+use Rattle.inner_mark_gc.specs.MarkingValue.{Finds, IsAllMarked, IsMarking, IsOf, MarkingValue, marked_of}
 use Rattle.inner_mark_gc.specs.Snapshot.{Fork, IsInSnapshot, IsSince, Starts}
 use Rattle.inner_mark_gc.proofs.Addresses.{once_within}
 use Rattle.inner_mark_gc.proofs.Finding.{got_in_take, held_in, in_take_more, still_found}
@@ -56,11 +56,11 @@ still_within xs ys rest n m e l i =
 
 module _ (f : Fork) (kept : List Addr) where
   -- what was kept is of the snapshot
-  pub kept_starts : (h : List Content) → IsSince f kept h → All (IsHeld h) kept → (a : Addr) → Contains kept a → IsInSnapshot f kept a
+  pub kept_starts : (h : List ChunkValue) → IsSince f kept h → All (IsHeld h) kept → (a : Addr) → Contains kept a → IsInSnapshot f kept a
   kept_starts h s all a c =
       reached_start (Starts f kept) (Leads f.heap) a ((s.objects a).1 (held_in (IsHeld h) kept a all c), contains_from_in (f.roots ++ kept) a (in_append_right f.roots kept a (in_from_contains kept a c)))
 
-  pub begun : (h : List Content) (roots : List Addr) (old m : Marks) → f.roots ≡ roots → ((a : Addr) → IsHeld f.heap a ↔ IsHeld h a) → All (IsHeld h) roots
+  pub begun : (h : List ChunkValue) (roots : List Addr) (old m : MarkingValue) → f.roots ≡ roots → ((a : Addr) → IsHeld f.heap a ↔ IsHeld h a) → All (IsHeld h) roots
       → old.found ≡ [] → Finds (Contains roots) old m → m.marked ≡ 0 → m.followed ≡ 0 → IsMarking f kept m
   begun h roots old m same objects all none finds zero_marked zero_followed = record {
     each = λ a i. elim (finds.each a i) [
@@ -73,11 +73,11 @@ module _ (f : Fork) (kept : List Addr) where
   }
 
   -- what was kept is followed
-  pub followed : (h : List Content) (old new : Marks) → IsSince f kept h → All (IsHeld h) kept → IsOf h kept old
+  pub followed : (h : List ChunkValue) (old new : MarkingValue) → IsSince f kept h → All (IsHeld h) kept → IsOf h kept old
       → Finds (Contains (drop old.followed kept)) (record old { followed = length kept }) new → IsMarking f kept old → IsMarking f kept new
   followed h old new s all own finds m =
       let P : Addr → Type 0 = Contains (drop old.followed kept) in
-      let was : Marks = record old { followed = length kept } in
+      let was : MarkingValue = record old { followed = length kept } in
       let still = still_found P was new finds in
       record {
         each = λ a i. elim (finds.each a i) [
@@ -98,10 +98,10 @@ module _ (f : Fork) (kept : List Addr) where
       }
 
   -- one object more is marked
-  pub marked_next : (h : List Content) (old new : Marks) (next : Addr) → IsSince f kept h → slice_get old.found old.marked ≡ Some next → old.marked < length old.found → old.followed ≡ length kept
+  pub marked_next : (h : List ChunkValue) (old new : MarkingValue) (next : Addr) → IsSince f kept h → slice_get old.found old.marked ≡ Some next → old.marked < length old.found → old.followed ≡ length kept
       → Finds (Leads h next) (record old { marked = old.marked + 1 }) new → IsMarking f kept old → IsMarking f kept new
   marked_next h old new next s at l done finds m =
-      let was : Marks = record old { marked = old.marked + 1 } in
+      let was : MarkingValue = record old { marked = old.marked + 1 } in
       let still = still_found (Leads h next) was new finds in
       let all_kept : (a : Addr) → Contains kept a → Contains (take old.followed kept) a = λ (a : Addr) (k : Contains kept a). subst (λ (xs : List Addr). Contains xs a) (sym (take_all old.followed kept (omega arith))) k in
       let here : IsInSnapshot f kept next = m.each next (contains_from_in old.found next (in_take (old.marked + 1) old.found next (got_in_take old.found old.marked next at))) in
@@ -124,7 +124,7 @@ module _ (f : Fork) (kept : List Addr) where
       }
 
   -- nothing is left
-  pub nothing_left : (m : Marks) → IsMarking f kept m → m.marked ≡ length m.found → ((a : Addr) → Contains (drop m.followed kept) a → Contains m.found a) → IsAllMarked f kept m
+  pub nothing_left : (m : MarkingValue) → IsMarking f kept m → m.marked ≡ length m.found → ((a : Addr) → Contains (drop m.followed kept) a → Contains m.found a) → IsAllMarked f kept m
   nothing_left m is l rest a w =
       let all : take m.marked m.found ≡ m.found = take_all m.marked m.found (omega arith) in
       subst (λ (xs : List Addr). Contains xs a) (sym all) (reached_within (Starts f kept) (Leads f.heap) (Contains m.found)
@@ -139,12 +139,12 @@ module _ (f : Fork) (kept : List Addr) where
       a w)
 
   -- where the whole snapshot is marked, all that was found is, and all that was kept is found
-  pub all_found_marked : (h : List Content) (m : Marks) → IsOf h kept m → IsMarking f kept m → IsAllMarked f kept m → m.marked ≡ length m.found
+  pub all_found_marked : (h : List ChunkValue) (m : MarkingValue) → IsOf h kept m → IsMarking f kept m → IsAllMarked f kept m → m.marked ≡ length m.found
   all_found_marked h m own is all =
       let le : length m.found ≤ length (take m.marked m.found) = once_within m.found (take m.marked m.found) (once_from m.found own.room.once) (λ a i. in_from_contains (take m.marked m.found) a (all a (is.each a (contains_from_in m.found a i)))) in
       let few : length (take m.marked m.found) ≤ m.marked = take_few m.marked m.found in
       let within : m.marked ≤ length m.found = own.marked in
       omega arith
 
-  pub all_kept_found : (h : List Content) (m : Marks) → IsSince f kept h → All (IsHeld h) kept → IsAllMarked f kept m → (a : Addr) → Contains kept a → Contains m.found a
+  pub all_kept_found : (h : List ChunkValue) (m : MarkingValue) → IsSince f kept h → All (IsHeld h) kept → IsAllMarked f kept m → (a : Addr) → Contains kept a → Contains m.found a
   all_kept_found h m s held all a c = contains_from_in m.found a (in_take m.marked m.found a (in_from_contains (marked_of m) a (all a (kept_starts h s held a c))))

@@ -4,10 +4,10 @@ use Rattle.std.specs.Prelude.{◌↔◌, ◌||◌, IsTrue}
 use Rattle.std.proofs.lemmas.Bool.{cases_lt, false≢true, le-leb, lt-leb}
 use Rattle.object_layout.specs.declared.word.Addr.{Addr}
 use Rattle.object_layout.specs.Cell.{Born, Cell, Hole, IsObject, Mark, Moved, no_cell, as_object, marked_object, size_of, with_mark}
-use Rattle.object_layout.specs.Content.{Content}
+use Rattle.object_layout.specs.ChunkValue.{ChunkValue}
 use Rattle.object_layout.specs.Place.{IsCellAt, cell_at, put_cell, words_in}
 use Rattle.object_layout.proofs.PlaceLemmas as place
-use Rattle.inner_mark_gc.specs.Marks.{has_address}
+use Rattle.inner_mark_gc.specs.MarkingValue.{has_address}
 use Rattle.inner_mark_gc.specs.Swept.{has_object, is_object, swept_cell, swept_cells}
 
 -- ---- a cell
@@ -109,11 +109,11 @@ module _ (kept : List Addr) (number : ℕ) where
   before_all start (c ∷ cs) = past start c cs (words_in cs) _ refl ∙ ap (λ (xs : List Cell). at_swept start c ∷ xs) (before_all (start + size_of c) cs)
 
   -- one cell more
-  module _ (k now after : Content) (at : ℕ) (own : k.number ≡ number) (o : IsCellAt k.cells at)
+  module _ (k now after : ChunkValue) (at : ℕ) (own : k.number ≡ number) (o : IsCellAt k.cells at)
       (is : now ≡ record k { cells = before 0 k.cells at })
       (done : after ≡ record now { cells = put_cell now.cells at (swept_cell (has_address kept (record { chunk = now.number; offset = at })) (cell_at now.cells at)) }) where
     now_cells : now.cells ≡ before 0 k.cells at
-    now_cells = ap (λ (x : Content). x.cells) is
+    now_cells = ap (λ (x : ChunkValue). x.cells) is
 
     pub begins_there : IsCellAt now.cells at
     begins_there = subst (λ (xs : List Cell). IsCellAt xs at) (sym now_cells) (before_begins 0 k.cells at o)
@@ -122,7 +122,7 @@ module _ (kept : List Addr) (number : ℕ) where
     there = ap (λ (xs : List Cell). cell_at xs at) now_cells ∙ before_cell 0 k.cells at o
 
     after_cells : after.cells ≡ put_cell now.cells at (swept_cell (has_address kept (record { chunk = now.number; offset = at })) (cell_at now.cells at))
-    after_cells = ap (λ (x : Content). x.cells) done
+    after_cells = ap (λ (x : ChunkValue). x.cells) done
 
     same_size : size_of (swept_cell (has_address kept (record { chunk = now.number; offset = at })) (cell_at now.cells at)) ≡ size_of (cell_at now.cells at)
     same_size = size_swept (has_address kept (record { chunk = now.number; offset = at })) (cell_at now.cells at)
@@ -137,7 +137,7 @@ module _ (kept : List Addr) (number : ℕ) where
 
     pub after_is : (next : ℕ) → next ≡ at + size_of (cell_at k.cells at) → after ≡ record k { cells = before 0 k.cells next }
     after_is next e =
-        let same : now.number ≡ number = ap (λ (x : Content). x.number) is ∙ own in
+        let same : now.number ≡ number = ap (λ (x : ChunkValue). x.number) is ∙ own in
         let zero_more : at ≡ 0 + at = omega arith in
         let cells : after.cells ≡ before 0 k.cells next =
         after_cells
@@ -146,8 +146,8 @@ module _ (kept : List Addr) (number : ℕ) where
         ∙ (ap (λ (xs : List Cell). put_cell xs at (at_swept at (cell_at k.cells at))) now_cells
         ∙ (before_more 0 k.cells at at zero_more o ∙ ap (before 0 k.cells) (sym e))))) in
         done
-        ∙ (ap (λ (x : Content). let r : Content = record x { cells = put_cell now.cells at (swept_cell (has_address kept (record { chunk = now.number; offset = at })) (cell_at now.cells at)) } in r) is
-        ∙ ap (λ (xs : List Cell). let r : Content = record k { cells = xs } in r) (sym after_cells ∙ cells))
+        ∙ (ap (λ (x : ChunkValue). let r : ChunkValue = record x { cells = put_cell now.cells at (swept_cell (has_address kept (record { chunk = now.number; offset = at })) (cell_at now.cells at)) } in r) is
+        ∙ ap (λ (xs : List Cell). let r : ChunkValue = record k { cells = xs } in r) (sym after_cells ∙ cells))
 
   -- ---- whether an object is left
 

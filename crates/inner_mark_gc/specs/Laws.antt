@@ -2,19 +2,19 @@
 use Rattle.std.specs.Prelude.{◌≡◌, ◌≤◌, ◌↔◌, ◌⊎◌, true, List, [], ◌++◌, Contains, length, if◌then◌else◌}
 use Rattle.object_layout.specs.declared.word.Addr.{Addr}
 use Rattle.object_layout.specs.Cell.{IsObject, no_cell}
-use Rattle.object_layout.specs.Content.{Content}
+use Rattle.object_layout.specs.ChunkValue.{ChunkValue}
 use Rattle.object_layout.specs.Chunks.{cell_of, object_of}
 use Rattle.object_layout.specs.Graph.{IsHeld}
-use Rattle.alloc_path.specs.Heap.{AreApart, Heap}
+use Rattle.alloc_path.specs.LeafHeapValue.{AreApart, LeafHeapValue}
 use Rattle.inner_mark_gc.specs.Snapshot.{Fork, IsInSnapshot, Starts, object_count}
-use Rattle.inner_mark_gc.specs.Marks.{has_address, marked_of, IsAllMarked, IsDone, IsMarking, IsOf, Marks}
+use Rattle.inner_mark_gc.specs.MarkingValue.{has_address, marked_of, IsAllMarked, IsDone, IsMarking, IsOf, MarkingValue}
 use Rattle.inner_mark_gc.specs.Swept.{has_number, has_object, left_of, number_at, swept}
 
 -- the snapshot that a marking is for, from the roots as they are when it begins and what was kept, is what the roots at the
 -- fork lead to: where each start is of that, and each root at the fork is still a root or was kept
 abbrev pub SnapshotIsOfRoots : Type 0
 SnapshotIsOfRoots =
-    (h : List Content) (first roots kept : List Addr)
+    (h : List ChunkValue) (first roots kept : List Addr)
     → let f : Fork = record { heap = h; roots = roots } in
     let g : Fork = record { heap = h; roots = first } in
     ((a : Addr) → Starts f kept a → IsInSnapshot g [] a)
@@ -24,37 +24,37 @@ SnapshotIsOfRoots =
 -- a marking stays one of the snapshot while more is kept
 abbrev pub MarkingGoesOn : Type 0
 MarkingGoesOn =
-    (f : Fork) (kept more : List Addr) (m : Marks)
+    (f : Fork) (kept more : List Addr) (m : MarkingValue)
     → m.followed ≤ length kept → IsMarking f kept m → IsMarking f (kept ++ more) m
 
 -- and one of its heap while only fields are written and more is kept
 abbrev pub MarkingStaysOf : Type 0
 MarkingStaysOf =
-    (g h : List Content) (kept more : List Addr) (m : Marks)
+    (g h : List ChunkValue) (kept more : List Addr) (m : MarkingValue)
     → ((a : Addr) → IsHeld g a → IsHeld h a) → object_count h ≡ object_count g → length h ≡ length g
     → IsOf g kept m → IsOf h (kept ++ more) m
 
 -- where the whole snapshot is marked, all that was found is
 abbrev pub AllMarkedIsDone : Type 0
 AllMarkedIsDone =
-    (f : Fork) (kept : List Addr) (m : Marks) (h : List Content)
+    (f : Fork) (kept : List Addr) (m : MarkingValue) (h : List ChunkValue)
     → IsOf h kept m → IsMarking f kept m → IsAllMarked f kept m → IsDone m
 
 -- once a heap is swept, what is kept is read as it was, and nothing else is there
 abbrev pub SweptAreRead : Type 0
 SweptAreRead =
-    (h : Heap) (kept : List Addr) → AreApart h.chunks
+    (h : LeafHeapValue) (kept : List Addr) → AreApart h.chunks
     → (a : Addr) → object_of (swept h kept).chunks a ≡ (if has_address kept a then object_of h.chunks a else no_cell)
 
 -- where the whole snapshot is marked, a sweep leaves exactly that: each object there is of it, and all of it is there
 abbrev pub SweptIsSnapshot : Type 0
 SweptIsSnapshot =
-    (f : Fork) (kept : List Addr) (m : Marks) (h : Heap) → AreApart h.chunks
+    (f : Fork) (kept : List Addr) (m : MarkingValue) (h : LeafHeapValue) → AreApart h.chunks
     → IsOf h.chunks kept m → IsMarking f kept m → IsAllMarked f kept m
     → (a : Addr) → (IsObject (cell_of (swept h (marked_of m)).chunks a).mark → IsInSnapshot f kept a) × (IsInSnapshot f kept a → IsHeld (swept h (marked_of m)).chunks a)
 
 -- in each chunk that a sweep leaves lies an object, but for the reserved one
 abbrev pub EachLeftHolds : Type 0
 EachLeftHolds =
-    (h : Heap) (kept : List Addr) (k : Content) → Contains (left_of h kept) k
+    (h : LeafHeapValue) (kept : List Addr) (k : ChunkValue) → Contains (left_of h kept) k
     → (has_object k.cells ≡ true) ⊎ (has_number (number_at h.chunks h.reserved) k ≡ true)

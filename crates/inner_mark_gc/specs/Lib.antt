@@ -1,4 +1,4 @@
 pub mod Snapshot
-pub mod Marks
+pub mod MarkingValue
 pub mod Swept
 pub mod Laws

@@ -1,14 +1,14 @@
 -- The snapshot of a waiting task's heap: what is reached through the heap as it was at the fork.
 use Rattle.std.specs.Prelude.{◌↔◌, ◌⊎◌, List, ◌++◌, Contains}
 use Rattle.object_layout.specs.declared.word.Addr.{Addr}
-use Rattle.object_layout.specs.Content.{Content}
+use Rattle.object_layout.specs.ChunkValue.{ChunkValue}
 pub use Rattle.object_layout.specs.Chunks.{object_count}
 pub use Rattle.object_layout.specs.Graph.{IsClosed, IsHeld, IsSound, Leads}
-use Rattle.walks.specs.Reached.{IsReached}
+use Rattle.walk_laws.specs.Reached.{IsReached}
 
 -- what a marking starts from: the heap as it was at the fork of its task, and the roots
 pub record Fork : Type 0 where
-  pub heap : List Content
+  pub heap : List ChunkValue
   pub roots : List Addr
 
 -- walks start at the roots, and at the references that were kept since the fork
@@ -21,7 +21,7 @@ IsInSnapshot f kept a = IsReached (Starts f kept) (Leads f.heap) a
 
 -- h is the heap since the fork: it has the same objects, of which only fields were written; what was
 -- written leads to objects of the snapshot, and what was overwritten was kept
-pub record IsSince (f : Fork) (kept : List Addr) (h : List Content) : Type 0 where
+pub record IsSince (f : Fork) (kept : List Addr) (h : List ChunkValue) : Type 0 where
   pub objects : (a : Addr) → IsHeld f.heap a ↔ IsHeld h a
   pub written : (b a : Addr) → IsInSnapshot f kept b → Leads h b a → IsInSnapshot f kept a
   pub overwritten : (b a : Addr) → Leads f.heap b a → Leads h b a ⊎ Contains kept a

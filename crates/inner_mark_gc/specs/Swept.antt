@@ -3,13 +3,13 @@ use Rattle.std.specs.Prelude.{◌≡◌, ℕ, ◌+◌, ◌||◌, Bool, true, fal
 use Rattle.std.specs.List.{list_any}
 use Rattle.object_layout.specs.declared.word.Addr.{Addr}
 use Rattle.object_layout.specs.Cell.{Born, Cell, Hole, Mark, Moved}
-use Rattle.object_layout.specs.Content.{Content}
+use Rattle.object_layout.specs.ChunkValue.{ChunkValue}
 use Rattle.object_layout.specs.Chunks.{chunk_at, place_in}
 use Rattle.object_layout.specs.Objects.{sifted_cells}
 pub use Rattle.object_layout.specs.Objects.{swept_cell}
-use Rattle.alloc_path.specs.Heap.{Heap, IsFresh}
-use Rattle.chunk_pool.specs.Chunks.{Chunks, held_at, units_held, units_in_use}
-use Rattle.inner_mark_gc.specs.Marks.{has_address}
+use Rattle.alloc_path.specs.LeafHeapValue.{LeafHeapValue, IsFresh}
+use Rattle.chunk_pool.specs.PoolValue.{PoolValue, held_at, units_held, units_in_use}
+use Rattle.inner_mark_gc.specs.MarkingValue.{has_address}
 
 -- ---- a chunk
 
@@ -17,7 +17,7 @@ use Rattle.inner_mark_gc.specs.Marks.{has_address}
 abbrev pub swept_cells : List Addr → ℕ → ℕ → List Cell → List Cell
 swept_cells kept number at cs = sifted_cells (has_address kept) number at cs
 
-abbrev pub swept_chunk : List Addr → Content → Content
+abbrev pub swept_chunk : List Addr → ChunkValue → ChunkValue
 swept_chunk kept k = record k { cells = swept_cells kept k.number 0 k.cells }
 
 -- whether an object lies among these cells
@@ -32,36 +32,36 @@ has_object cs = list_any (λ c. is_object c.mark) cs
 -- ---- a heap
 
 -- the number of the chunk at a place
-abbrev pub number_at : List Content → Option ℕ → Option ℕ
+abbrev pub number_at : List ChunkValue → Option ℕ → Option ℕ
 number_at ks None = None
 number_at ks (Some i) = Some (chunk_at ks i).number
 
 -- the place of the chunk of a number
-abbrev pub place_at : List Content → Option ℕ → Option ℕ
+abbrev pub place_at : List ChunkValue → Option ℕ → Option ℕ
 place_at ks None = None
 place_at ks (Some n) = place_in ks n
 
-abbrev pub has_number : Option ℕ → Content → Bool
+abbrev pub has_number : Option ℕ → ChunkValue → Bool
 has_number None k = false
 has_number (Some n) k = k.number == n
 
 -- a chunk stays where an object is left in it; so does the one of this number, which is reserved
-abbrev pub stays : List Addr → Option ℕ → Content → Bool
+abbrev pub stays : List Addr → Option ℕ → ChunkValue → Bool
 stays kept reserved k = has_number reserved k || has_object (swept_chunk kept k).cells
 
-abbrev pub goes : List Addr → Option ℕ → Content → Bool
+abbrev pub goes : List Addr → Option ℕ → ChunkValue → Bool
 goes kept reserved k = not (stays kept reserved k)
 
 -- the chunks that are left, in their order, and those that go
-abbrev pub left_of : Heap → List Addr → List Content
+abbrev pub left_of : LeafHeapValue → List Addr → List ChunkValue
 left_of h kept = map (swept_chunk kept) (filter (stays kept (number_at h.chunks h.reserved)) h.chunks)
 
-abbrev pub gone_of : Heap → List Addr → List Content
+abbrev pub gone_of : LeafHeapValue → List Addr → List ChunkValue
 gone_of h kept = filter (goes kept (number_at h.chunks h.reserved)) h.chunks
 
 -- the heap with just the objects that are kept, each where it lies; it goes on filling its chunk, if that
 -- is left, and keeps the reserved one
-abbrev pub swept : Heap → List Addr → Heap
+abbrev pub swept : LeafHeapValue → List Addr → LeafHeapValue
 swept h kept = record h {
   chunks = left_of h kept;
   current = place_at (left_of h kept) (number_at h.chunks h.current);
@@ -71,12 +71,12 @@ swept h kept = record h {
 -- ---- the pool
 
 -- the units that the pool keeps for these chunks
-abbrev pub units_kept : Chunks → List Content → ℕ
+abbrev pub units_kept : PoolValue → List ChunkValue → ℕ
 units_kept pool [] = 0
 units_kept pool (k ∷ ks) = units_held (held_at pool k.number) + units_kept pool ks
 
 -- the numbers of these chunks are no longer in use; all else stays
-pub record AreGiven (old new : Chunks) (ks : List Content) : Type 0 where
+pub record AreGiven (old new : PoolValue) (ks : List ChunkValue) : Type 0 where
   pub free : All (λ k. held_at new k.number ≡ None) ks
   pub others : (n : ℕ) → IsFresh ks n → held_at new n ≡ held_at old n
   pub limit : new.limit ≡ old.limit

@@ -5,7 +5,7 @@ ghost use Rattle.object_layout.specs.declared.word.Addr.{Addr};
 ghost use Rattle.object_layout.specs.Chunks.{object_count};
 ghost use Rattle.object_layout.specs.Graph.{IsClosed, IsHeld, IsSound, Leads};
 ghost use Rattle.inner_mark_gc.specs.Snapshot.{IsSince, Fork};
-ghost use Rattle.inner_mark_gc.specs.Marks.{has_address, marked_of, noted, Finds, HasRoom, IsAllMarked, IsDone, IsMarking, IsOf};
+ghost use Rattle.inner_mark_gc.specs.MarkingValue.{has_address, marked_of, noted, Finds, HasRoom, IsAllMarked, IsDone, IsMarking, IsOf};
 
 use alloc_path::LeafHeap;
 use object_layout::{Addr, Chunk};
@@ -29,9 +29,9 @@ impl Model for Marking {
     ghost use Rattle.std.specs.Prelude.{◌≡◌, ◌-◌, vec_capacity, vec_len};
     ghost use Rattle.std.specs.HashSet.{contains, spare};
     ghost use Rattle.object_layout.specs.declared.word.Addr.{Addr};
-    ghost use Rattle.inner_mark_gc.specs.Marks.{has_address, same_address, Marks};
+    ghost use Rattle.inner_mark_gc.specs.MarkingValue.{has_address, same_address, MarkingValue};
 
-    ghost Value = { Marks };
+    ghost Value = { MarkingValue };
 
     ghost view = { λ m. record { found = m.found.items; marked = m.marked; followed = m.followed; slots = vec_capacity m.found - vec_len m.found; spare = spare m.known; places = vec_capacity m.left } };
 

@@ -3,10 +3,10 @@
 ghost use Rattle.std.specs.Prelude.{◌≡◌, ◌+◌, ◌<◌, ◌≤◌, ◌++◌, ◌∷◌, [], All, IfSome, IsSome, filter, length, map, vec_capacity, vec_len};
 ghost use Rattle.object_layout.specs.Place.{cell_at, put_cell, IsCellAt};
 ghost use Rattle.object_layout.specs.Chunks.{place_in};
-ghost use Rattle.alloc_path.specs.Heap.{units, with_places, AreApart};
+ghost use Rattle.alloc_path.specs.LeafHeapValue.{units, with_places, AreApart};
 ghost use Rattle.alloc_path.specs.Units.{counted32, unit_count};
-ghost use Rattle.chunk_pool.specs.Chunks.{held_at};
-ghost use Rattle.inner_mark_gc.specs.Marks.{has_address, marked_of, HasRoom, IsDone};
+ghost use Rattle.chunk_pool.specs.PoolValue.{held_at};
+ghost use Rattle.inner_mark_gc.specs.MarkingValue.{has_address, marked_of, HasRoom, IsDone};
 ghost use Rattle.inner_mark_gc.specs.Swept.{gone_of, goes, has_number, has_object, is_object, number_at, place_at, stays, swept, swept_cell, swept_chunk, AreGiven};
 
 use crate::marking::Marking;

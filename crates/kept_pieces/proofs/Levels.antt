@@ -3,9 +3,9 @@ use Rattle.std.proofs.Common.{◌≡◌, ℕ, zero, suc, ◌+◌, ◌-◌, ◌<�
 use Rattle.std.specs.Prelude.{insert, is_some, option_map, remove, slice_get, Err, IsOk, Ok, OnOk, Result}
 use Rattle.std.specs.Option.{option_or}
 use Rattle.std.proofs.lemmas.Bool.{cases_Bool, eq-eqb, eqb-true}
-use Rattle.object_layout.specs.Piece.{Frozen}
+use Rattle.object_layout.specs.Piece.{PieceValue}
 use Rattle.kept_pieces.specs.Level.{Level, nearest, piece_in, place_on}
-use Rattle.kept_pieces.specs.Kept.{is_among}
+use Rattle.kept_pieces.specs.PiecesValue.{is_among}
 
 pub found_in_both : (ls ms : Level) (n : ℕ) → piece_in (ls ++ ms) n ≡ option_or (piece_in ls n) (piece_in ms n)
 found_in_both [] ms n = refl
@@ -26,7 +26,7 @@ or_none (Some x) = refl
 
 -- the first two levels put together
 pub first_two : (a b both : Level) (ls : List Level) (n : ℕ) → piece_in both n ≡ option_or (piece_in a n) (piece_in b n) → nearest (both ∷ ls) n ≡ nearest (a ∷ (b ∷ ls)) n
-first_two a b both ls n is = ap (λ (o : Option Frozen). option_or o (nearest ls n)) is ∙ or_three (piece_in a n) (piece_in b n) (nearest ls n)
+first_two a b both ls n is = ap (λ (o : Option PieceValue). option_or o (nearest ls n)) is ∙ or_three (piece_in a n) (piece_in b n) (nearest ls n)
 
 -- ---- where a piece stands
 
@@ -70,7 +70,7 @@ some_there (f ∷ fs) n i e =
         record { inside = omega arith; is = rw b at.is }
 
 -- one piece more
-pub place_push : (l : Level) (f : Frozen) (n : ℕ) → place_on (l ++ f ∷ []) n ≡ option_or (place_on l n) (cond (eqb f.number n) (Some (length l)) None)
+pub place_push : (l : Level) (f : PieceValue) (n : ℕ) → place_on (l ++ f ∷ []) n ≡ option_or (place_on l n) (cond (eqb f.number n) (Some (length l)) None)
 place_push [] f n = alone (eqb f.number n)
   where
     alone : (b : Bool) → cond b (Some 0) (option_map (λ i. 1 + i) None) ≡ cond b (Some 0) None
@@ -88,7 +88,7 @@ place_push (g ∷ gs) f n =
     further None false = refl
 
 -- an entry more in a table of a level that has no piece of this number
-pub entry_more : (l : Level) (f : Frozen) (m : ℕ) → m ≡ f.number → None ≡ place_on l m → (q len : ℕ) → len ≡ length l → (was new : Option ℕ) →
+pub entry_more : (l : Level) (f : PieceValue) (m : ℕ) → m ≡ f.number → None ≡ place_on l m → (q len : ℕ) → len ≡ length l → (was new : Option ℕ) →
     new ≡ cond (eqb m q) (Some len) was → was ≡ place_on l q → new ≡ place_on (l ++ f ∷ []) q
 entry_more l f m number none q len size was new writes before =
     writes ∙ (rw (before, number, size) (by (eqb f.number q) (λ e. let same : m ≡ q = number ∙ eqb-true f.number q e in rw same at none) (place_on l q) refl) ∙ sym (place_push l f q))
@@ -100,7 +100,7 @@ entry_more l f m number none q len size was new writes before =
     by false h (Some i) e = refl
 
 -- where there is a piece of a number, another of that number changes nothing
-pub known_already : (l : Level) (f : Frozen) (m i : ℕ) → m ≡ f.number → Some i ≡ place_on l m → (n : ℕ) → piece_in l n ≡ option_or (piece_in l n) (piece_in (f ∷ []) n)
+pub known_already : (l : Level) (f : PieceValue) (m i : ℕ) → m ≡ f.number → Some i ≡ place_on l m → (n : ℕ) → piece_in l n ≡ option_or (piece_in l n) (piece_in (f ∷ []) n)
 known_already l f m i number there n =
     elim (cases_Bool (eqb f.number n)) [
       | inl e ↦
@@ -110,15 +110,15 @@ known_already l f m i number there n =
       | inr e ↦ rw e (sym (or_none (piece_in l n)))
     ]
   where
-    some_or : (xs : Level) (j : ℕ) → j < length xs → (r o : Option Frozen) → o ≡ slice_get xs j → option_or o r ≡ o
+    some_or : (xs : Level) (j : ℕ) → j < length xs → (r o : Option PieceValue) → o ≡ slice_get xs j → option_or o r ≡ o
     some_or [] j below r o e = absurd (omega arith)
     some_or (x ∷ xs) zero below r o e = rw e refl
     some_or (x ∷ xs) (suc j) below r o e = some_or xs j (omega arith) r o e
 
-    first_found : (xs : Level) (j : ℕ) → j < length xs → (r o : Option Frozen) → o ≡ slice_get xs j → option_or o r ≡ o
+    first_found : (xs : Level) (j : ℕ) → j < length xs → (r o : Option PieceValue) → o ≡ slice_get xs j → option_or o r ≡ o
     first_found xs j below r o e = some_or xs j below r o e
 
-pub known_where : (l : Level) (f : Frozen) (m : ℕ) → m ≡ f.number → (o : Option ℕ) → o ≡ place_on l m → is_some o ≡ true → (n : ℕ) → piece_in l n ≡ option_or (piece_in l n) (piece_in (f ∷ []) n)
+pub known_where : (l : Level) (f : PieceValue) (m : ℕ) → m ≡ f.number → (o : Option ℕ) → o ≡ place_on l m → is_some o ≡ true → (n : ℕ) → piece_in l n ≡ option_or (piece_in l n) (piece_in (f ∷ []) n)
 known_where l f m number (Some i) e s n = known_already l f m i number e n
 known_where l f m number None e s n = cc
 

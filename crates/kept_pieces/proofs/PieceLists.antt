@@ -5,12 +5,12 @@ use Rattle.std.specs.Option.{option_or}
 use Rattle.std.proofs.lemmas.List.{map-append}
 use Rattle.std.proofs.lemmas.Bool.{cases_Bool, cases_lt, eq-eqb, eqb-true, le-leb, lt-leb, ne_eqb}
 use Rattle.object_layout.specs.Cell.{Born, Cell, Hole, Mark, Moved, size_of}
-use Rattle.object_layout.specs.Content.{Content}
+use Rattle.object_layout.specs.ChunkValue.{ChunkValue}
 use Rattle.object_layout.specs.Chunks.{chunk_at, no_chunk, place_in, place_of, with_cell}
 use Rattle.object_layout.specs.Place.{cell_at, put_cell}
-use Rattle.object_layout.specs.Piece.{Frozen, frozen_from, frozen_of, is_frozen, lasts}
+use Rattle.object_layout.specs.Piece.{PieceValue, frozen_from, frozen_of, is_frozen, lasts}
 use Rattle.kept_pieces.specs.Level.{Level, level_of, nearest, piece_in}
-use Rattle.kept_pieces.specs.Kept.{is_among, needed, numbers_of, written, NotesChanges, Kept, Shows}
+use Rattle.kept_pieces.specs.PiecesValue.{is_among, needed, numbers_of, written, NotesChanges, PiecesValue, Shows}
 use Rattle.kept_pieces.proofs.Levels as levels
 
 -- ---- numbers
@@ -40,7 +40,7 @@ any_among (n ∷ ns) m =
     ]
 
 -- the number of a chunk is among these exactly where a piece of it is
-pub not_among : (ks : List Content) (n : ℕ) → is_among (numbers_of ks) n ≡ false → piece_in (level_of ks) n ≡ None
+pub not_among : (ks : List ChunkValue) (n : ℕ) → is_among (numbers_of ks) n ≡ false → piece_in (level_of ks) n ≡ None
 not_among [] n e = refl
 not_among (k ∷ ks) n e =
     elim (cases_Bool (eqb k.number n)) [
@@ -50,7 +50,7 @@ not_among (k ∷ ks) n e =
 
 -- ---- what counts as changed
 
-pub nothing_changes : (p : Kept) → NotesChanges p p []
+pub nothing_changes : (p : PiecesValue) → NotesChanges p p []
 nothing_changes p = record {
   kept = λ l. l;
   layers = λ l. refl;
@@ -76,7 +76,7 @@ known_before xs m known n = sym (among_both xs (m ∷ []) n ∙ same)
     same = at_once (is_among xs n) (eqb m n) (λ e. subst (λ (q : ℕ). is_among xs q ≡ true) (eqb-true m n e) known)
 
 -- where all was let go before, it stays so
-pub lost_before : (p : Kept) (ns : List ℕ) → p.lost ≡ true → NotesChanges p p ns
+pub lost_before : (p : PiecesValue) (ns : List ℕ) → p.lost ≡ true → NotesChanges p p ns
 lost_before p ns gone = record {
   kept = λ l. l;
   layers = λ l. refl;
@@ -86,7 +86,7 @@ lost_before p ns gone = record {
 }
 
 -- all is let go, where there was no place
-pub none_left : (p q : Kept) (m : ℕ) → q.lost ≡ true → p.places ≡ 0 → NotesChanges p q (m ∷ [])
+pub none_left : (p q : PiecesValue) (m : ℕ) → q.lost ≡ true → p.places ≡ 0 → NotesChanges p q (m ∷ [])
 none_left p q m gone none = record {
   kept = λ l. cc;
   layers = λ l. cc;
@@ -96,7 +96,7 @@ none_left p q m gone none = record {
 }
 
 -- one after the other
-pub changes_both : (p q r : Kept) (xs ys : List ℕ) → NotesChanges p q xs → NotesChanges q r ys → NotesChanges p r (xs ++ ys)
+pub changes_both : (p q r : PiecesValue) (xs ys : List ℕ) → NotesChanges p q xs → NotesChanges q r ys → NotesChanges p r (xs ++ ys)
 changes_both p q r xs ys f g = record {
   kept = λ l. f.kept (g.kept l);
   layers = λ l. g.layers l ∙ f.layers (g.kept l);
@@ -126,11 +126,11 @@ changes_both p q r xs ys f g = record {
 
 -- ---- what is shown
 
-pub lost_shows : (p : Kept) (ks : List Content) → p.lost ≡ true → Shows p ks
+pub lost_shows : (p : PiecesValue) (ks : List ChunkValue) → p.lost ≡ true → Shows p ks
 lost_shows p ks gone = record { same = λ l n a. cc; no_other = λ l n a. cc }
 
 -- where chunks change of which the numbers are noted, and others show what they did
-pub still_shows : (p q : Kept) (ks new : List Content) (ns : List ℕ) → NotesChanges p q ns →
+pub still_shows : (p q : PiecesValue) (ks new : List ChunkValue) (ns : List ℕ) → NotesChanges p q ns →
     ((n : ℕ) → is_among ns n ≡ false → piece_in (level_of new) n ≡ piece_in (level_of ks) n) →
     ((n : ℕ) → piece_in (level_of new) n ≡ None → piece_in (level_of ks) n ≡ None) → Shows p ks → Shows q new
 still_shows p q ks new ns f same none h = record {
@@ -141,19 +141,19 @@ still_shows p q ks new ns f same none h = record {
 }
 
 -- one chunk changes, and keeps its number
-one_number : (k : Content) (n : ℕ) → is_among (k.number ∷ []) n ≡ false → eqb k.number n ≡ false
+one_number : (k : ChunkValue) (n : ℕ) → is_among (k.number ∷ []) n ≡ false → eqb k.number n ≡ false
 one_number k n e =
     elim (cases_Bool (eqb k.number n)) [
       | inl b ↦ let f = rw b at e in cc
       | inr b ↦ b
     ]
 
-set_other : (ks : List Content) (i : ℕ) (new d : Content) → new.number ≡ (get_or ks i d).number → (n : ℕ) → eqb new.number n ≡ false → piece_in (level_of (set ks i new)) n ≡ piece_in (level_of ks) n
+set_other : (ks : List ChunkValue) (i : ℕ) (new d : ChunkValue) → new.number ≡ (get_or ks i d).number → (n : ℕ) → eqb new.number n ≡ false → piece_in (level_of (set ks i new)) n ≡ piece_in (level_of ks) n
 set_other [] i new d e n other = refl
 set_other (k ∷ ks) zero new d e n other = let o = rw e at other in rw (other, o) refl
 set_other (k ∷ ks) (suc i) new d e n other = rw (set_other ks i new d e n other) refl
 
-set_none : (ks : List Content) (i : ℕ) (new d : Content) → new.number ≡ (get_or ks i d).number → (n : ℕ) → piece_in (level_of (set ks i new)) n ≡ None → piece_in (level_of ks) n ≡ None
+set_none : (ks : List ChunkValue) (i : ℕ) (new d : ChunkValue) → new.number ≡ (get_or ks i d).number → (n : ℕ) → piece_in (level_of (set ks i new)) n ≡ None → piece_in (level_of ks) n ≡ None
 set_none [] i new d e n h = h
 set_none (k ∷ ks) zero new d e n h =
     elim (cases_Bool (eqb new.number n)) [
@@ -166,13 +166,13 @@ set_none (k ∷ ks) (suc i) new d e n h =
       | inr b ↦ rw b (set_none ks i new d e n (rw b at h))
     ]
 
-pub changed : (p q : Kept) (ks : List Content) (i m : ℕ) (new d : Content) → new.number ≡ (get_or ks i d).number → m ≡ new.number → NotesChanges p q (m ∷ []) → Shows p ks → Shows q (set ks i new)
+pub changed : (p q : PiecesValue) (ks : List ChunkValue) (i m : ℕ) (new d : ChunkValue) → new.number ≡ (get_or ks i d).number → m ≡ new.number → NotesChanges p q (m ∷ []) → Shows p ks → Shows q (set ks i new)
 changed p q ks i m new d e same f h =
     still_shows p q ks (set ks i new) (new.number ∷ []) (subst (λ (x : ℕ). NotesChanges p q (x ∷ [])) same f)
     (λ n a. set_other ks i new d e n (one_number new n a)) (λ n a. set_none ks i new d e n a) h
 
 -- a chunk is added
-pub added : (p q : Kept) (ks : List Content) (m : ℕ) (k : Content) → m ≡ k.number → NotesChanges p q (m ∷ []) → Shows p ks → Shows q (ks ++ k ∷ [])
+pub added : (p q : PiecesValue) (ks : List ChunkValue) (m : ℕ) (k : ChunkValue) → m ≡ k.number → NotesChanges p q (m ∷ []) → Shows p ks → Shows q (ks ++ k ∷ [])
 added p q ks m k same f h =
     still_shows p q ks (ks ++ k ∷ []) (k.number ∷ []) (subst (λ (x : ℕ). NotesChanges p q (x ∷ [])) same f)
     (λ n a. behind n ∙ (ap (option_or (piece_in (level_of ks) n)) (here n (one_number k n a)) ∙ or_none (piece_in (level_of ks) n)))
@@ -184,52 +184,52 @@ added p q ks m k same f h =
     here : (n : ℕ) → eqb k.number n ≡ false → piece_in (level_of (k ∷ [])) n ≡ None
     here n e = rw e refl
 
-    or_none : (o : Option Frozen) → option_or o None ≡ o
+    or_none : (o : Option PieceValue) → option_or o None ≡ o
     or_none None = refl
     or_none (Some f) = refl
 
-    first_none : (o r : Option Frozen) → option_or o r ≡ None → o ≡ None
+    first_none : (o r : Option PieceValue) → option_or o r ≡ None → o ≡ None
     first_none None r e = refl
     first_none (Some f) r e = cc
 
 -- the chunks of other lists come before these
-pub before : (p q : Kept) (xs ks : List Content) → NotesChanges p q (numbers_of xs) → Shows p ks → Shows q (xs ++ ks)
+pub before : (p q : PiecesValue) (xs ks : List ChunkValue) → NotesChanges p q (numbers_of xs) → Shows p ks → Shows q (xs ++ ks)
 before p q xs ks f h =
     still_shows p q ks (xs ++ ks) (numbers_of xs) f
-    (λ n a. front n ∙ ap (λ (o : Option Frozen). option_or o (piece_in (level_of ks) n)) (not_among xs n a))
+    (λ n a. front n ∙ ap (λ (o : Option PieceValue). option_or o (piece_in (level_of ks) n)) (not_among xs n a))
     (λ n a. last_none (piece_in (level_of xs) n) (piece_in (level_of ks) n) (sym (front n) ∙ a)) h
   where
     front : (n : ℕ) → piece_in (level_of (xs ++ ks)) n ≡ option_or (piece_in (level_of xs) n) (piece_in (level_of ks) n)
     front n = ap (λ (l : Level). piece_in l n) (map-append frozen_of xs ks) ∙ levels.found_in_both (level_of xs) (level_of ks) n
 
-    last_none : (o r : Option Frozen) → option_or o r ≡ None → r ≡ None
+    last_none : (o r : Option PieceValue) → option_or o r ≡ None → r ≡ None
     last_none None r e = e
     last_none (Some f) r e = cc
 
-pub three : (p q r : Kept) (ls rs ks : List Content) → NotesChanges p q (numbers_of rs) → NotesChanges q r (numbers_of ls) → Shows p ks → Shows r (ls ++ (rs ++ ks))
+pub three : (p q r : PiecesValue) (ls rs ks : List ChunkValue) → NotesChanges p q (numbers_of rs) → NotesChanges q r (numbers_of ls) → Shows p ks → Shows r (ls ++ (rs ++ ks))
 three p q r ls rs ks f g h = before q r ls (rs ++ ks) g (before p q rs ks f h)
 
 -- ---- the pieces that were missing are made
 
-nothing_lost : (p : Kept) (ks : List Content) → Shows p ks → (b : Bool) → p.lost ≡ b → (n : ℕ) →
+nothing_lost : (p : PiecesValue) (ks : List ChunkValue) → Shows p ks → (b : Bool) → p.lost ≡ b → (n : ℕ) →
     option_or (cond (cond b true (is_among p.stale n)) (piece_in (level_of ks) n) None) (cond b None (nearest p.layers n)) ≡ piece_in (level_of ks) n
 nothing_lost p ks h true l n = or_none (piece_in (level_of ks) n)
   where
-    or_none : (o : Option Frozen) → option_or o None ≡ o
+    or_none : (o : Option PieceValue) → option_or o None ≡ o
     or_none None = refl
     or_none (Some f) = refl
 nothing_lost p ks h false l n = by (is_among p.stale n) refl (piece_in (level_of ks) n) refl
   where
-    by : (b : Bool) → is_among p.stale n ≡ b → (o : Option Frozen) → piece_in (level_of ks) n ≡ o → option_or (cond b o None) (nearest p.layers n) ≡ o
+    by : (b : Bool) → is_among p.stale n ≡ b → (o : Option PieceValue) → piece_in (level_of ks) n ≡ o → option_or (cond b o None) (nearest p.layers n) ≡ o
     by true e (Some f) is = refl
     by true e None is = h.no_other l n is
     by false e o is = h.same l n e ∙ is
 
 -- with those that were missing before the layers, each chunk is shown
-pub all_shown : (p : Kept) (ks : List Content) → Shows p ks → (n : ℕ) → option_or (needed p ks n) (cond p.lost None (nearest p.layers n)) ≡ piece_in (level_of ks) n
+pub all_shown : (p : PiecesValue) (ks : List ChunkValue) → Shows p ks → (n : ℕ) → option_or (needed p ks n) (cond p.lost None (nearest p.layers n)) ≡ piece_in (level_of ks) n
 all_shown p ks h n = nothing_lost p ks h p.lost refl n
 
-pub shown_again : (q : Kept) (ks : List Content) → ((n : ℕ) → nearest q.layers n ≡ piece_in (level_of ks) n) → Shows q ks
+pub shown_again : (q : PiecesValue) (ks : List ChunkValue) → ((n : ℕ) → nearest q.layers n ≡ piece_in (level_of ks) n) → Shows q ks
 shown_again q ks h = record { same = λ l n a. h n; no_other = λ l n a. h n ∙ a }
 
 -- ---- an object is written that no piece shows
@@ -251,18 +251,18 @@ frozen_put (c ∷ cs) (suc m) n d was is s =
     rw (t, frozen_put cs (suc m - size_of c) (n + size_of c) d (rw t at was) is (rw t at s)) refl)
     (cases_lt (suc m) (size_of c))
 
-pub same_level : (ks : List Content) (i : ℕ) (new d : Content) → frozen_of new ≡ frozen_of (get_or ks i d) → level_of (set ks i new) ≡ level_of ks
+pub same_level : (ks : List ChunkValue) (i : ℕ) (new d : ChunkValue) → frozen_of new ≡ frozen_of (get_or ks i d) → level_of (set ks i new) ≡ level_of ks
 same_level [] i new d e = refl
-same_level (k ∷ ks) zero new d e = ap (λ (f : Frozen). f ∷ level_of ks) e
+same_level (k ∷ ks) zero new d e = ap (λ (f : PieceValue). f ∷ level_of ks) e
 same_level (k ∷ ks) (suc i) new d e = ap (λ (l : Level). frozen_of k ∷ l) (same_level ks i new d e)
 
 -- the pieces of the chunks, once an object of the chunk at a place is written that is as mutable as it was
-pub written_shown : (p q : Kept) (ks : List Content) → Shows p ks → (i : ℕ) (k : Content) → k ≡ chunk_at ks i → (at : ℕ) (d : Cell) (mutable : Bool) → NotesChanges p q (written mutable k.number) → (cell_at k.cells at).mutable ≡ mutable → d.mutable ≡ (cell_at k.cells at).mutable →
+pub written_shown : (p q : PiecesValue) (ks : List ChunkValue) → Shows p ks → (i : ℕ) (k : ChunkValue) → k ≡ chunk_at ks i → (at : ℕ) (d : Cell) (mutable : Bool) → NotesChanges p q (written mutable k.number) → (cell_at k.cells at).mutable ≡ mutable → d.mutable ≡ (cell_at k.cells at).mutable →
     size_of d ≡ size_of (cell_at k.cells at) → Shows q (set ks i (with_cell k at d))
-written_shown p q ks h i k read at d false f was is s = changed p q ks i k.number (with_cell k at d) no_chunk (ap (λ (x : Content). x.number) read) refl f h
+written_shown p q ks h i k read at d false f was is s = changed p q ks i k.number (with_cell k at d) no_chunk (ap (λ (x : ChunkValue). x.number) read) refl f h
 written_shown p q ks h i k read at d true f was is s =
     let before : is_frozen (cell_at k.cells at) ≡ false = ap (lasts (cell_at k.cells at).mark) was ∙ unseen (cell_at k.cells at).mark in
     let after : is_frozen d ≡ false = ap (lasts d.mark) (is ∙ was) ∙ unseen d.mark in
     let shows : frozen_from 0 (put_cell k.cells at d) ≡ frozen_from 0 k.cells = frozen_put k.cells at 0 d before after s in
-    let level : level_of (set ks i (with_cell k at d)) ≡ level_of ks = same_level ks i (with_cell k at d) no_chunk (ap (λ (os : List (ℕ × Cell)). let r : Frozen = record { number = k.number; objects = os } in r) shows ∙ ap frozen_of read) in
+    let level : level_of (set ks i (with_cell k at d)) ≡ level_of ks = same_level ks i (with_cell k at d) no_chunk (ap (λ (os : List (ℕ × Cell)). let r : PieceValue = record { number = k.number; objects = os } in r) shows ∙ ap frozen_of read) in
     still_shows p q ks (set ks i (with_cell k at d)) [] f (λ n a. ap (λ (l : Level). piece_in l n) level) (λ n a. ap (λ (l : Level). piece_in l n) (sym level) ∙ a) h

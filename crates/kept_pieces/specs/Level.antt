@@ -2,14 +2,14 @@
 use Rattle.std.specs.Prelude.{ℕ, ◌+◌, ◌==◌, List, [], ◌∷◌, Option, Some, None, if◌then◌else◌, map, option_map}
 use Rattle.std.specs.List.{find}
 use Rattle.std.specs.Option.{option_or}
-use Rattle.object_layout.specs.Content.{Content}
-use Rattle.object_layout.specs.Piece.{Frozen, frozen_of}
+use Rattle.object_layout.specs.ChunkValue.{ChunkValue}
+use Rattle.object_layout.specs.Piece.{PieceValue, frozen_of}
 
 -- what the chunks of a heap had at one time: of each its number and its immutable objects
 abbrev pub Level : Type 0
-Level = List Frozen
+Level = List PieceValue
 
-abbrev pub level_of : List Content → Level
+abbrev pub level_of : List ChunkValue → Level
 level_of ks = map frozen_of ks
 
 -- where the piece of a chunk's number stands
@@ -18,10 +18,10 @@ place_on [] number = None
 place_on (f ∷ fs) number = if f.number == number then Some 0 else option_map (λ i. 1 + i) (place_on fs number)
 
 -- what the chunk of a number had
-abbrev pub piece_in : Level → ℕ → Option Frozen
+abbrev pub piece_in : Level → ℕ → Option PieceValue
 piece_in l number = find (λ f. f.number == number) l
 
 -- the nearest of these levels that has the chunk decides
-abbrev pub nearest : List Level → ℕ → Option Frozen
+abbrev pub nearest : List Level → ℕ → Option PieceValue
 nearest [] number = None
 nearest (l ∷ ls) number = option_or (piece_in l number) (nearest ls number)

@@ -5,7 +5,7 @@ ghost use Rattle.std.specs.Arc.{arc_value};
 ghost use Rattle.std.specs.Option.{option_or};
 ghost use Rattle.object_layout.specs.Place.{object_at, IsObjectAt};
 ghost use Rattle.kept_pieces.specs.Level.{nearest, piece_in};
-ghost use Rattle.kept_pieces.specs.Kept.{is_among, is_settled, numbers_of, written, NotesChanges};
+ghost use Rattle.kept_pieces.specs.PiecesValue.{is_among, is_settled, numbers_of, written, NotesChanges};
 
 use super::layer::Layer;
 use object_layout::{Chunk, header_at};
@@ -57,9 +57,9 @@ pub struct Pieces {
 impl Model for Pieces {
     ghost use Rattle.std.specs.Prelude.{◌-◌, length, map, option_map, vec_capacity};
     ghost use Rattle.std.specs.Arc.{arc_value};
-    ghost use Rattle.kept_pieces.specs.Kept.{kept_of, Kept};
+    ghost use Rattle.kept_pieces.specs.PiecesValue.{kept_of, PiecesValue};
 
-    ghost Value = { Kept };
+    ghost Value = { PiecesValue };
 
     ghost view = { λ p. kept_of (option_map (λ l. record { layers = map arc_value l.layers.items; stale = l.stale.items; places = vec_capacity l.stale - length l.stale.items }) p.kept) };
 }

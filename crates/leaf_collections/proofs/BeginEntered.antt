@@ -1,26 +1,26 @@
 -- A leaf collection begins, as the call has it.
 use Rattle.std.proofs.Common.{◌≡◌, ℕ, ◌+◌, ◌^◌, ◌<◌, ◌≤◌, ◌++◌, arith, Some, None, List, [], ◌∷◌, length, map, All, ap, sym, subst, ◌∙◌}
 use Rattle.std.specs.Prelude.{vec_len}
-use Rattle.listed.specs.Space.{Space}
+use Rattle.listed.specs.RoomyValue.{RoomyValue}
 use Rattle.run_trace.specs.declared.entry.Kind.TheVariants.{Begin}
-use Rattle.run_trace.specs.Entry.{Event}
+use Rattle.run_trace.specs.Entry.{EntryValue}
 use Rattle.object_layout.specs.declared.word.Addr.{Addr}
 use Rattle.object_layout.specs.Cell.{IsBorn}
 use Rattle.object_layout.specs.Chunks.{cell_of, small_words}
-use Rattle.object_layout.specs.Content.{Content}
+use Rattle.object_layout.specs.ChunkValue.{ChunkValue}
 use Rattle.object_layout.specs.Graph.{IsSound}
-use Rattle.chunk_pool.specs.Chunks.{Chunks, TakesAll, units_in_use}
-use Rattle.alloc_path.specs.Heap.{AreApart, IsFresh, counted, with_places}
+use Rattle.chunk_pool.specs.PoolValue.{PoolValue, TakesAll, units_in_use}
+use Rattle.alloc_path.specs.LeafHeapValue.{AreApart, IsFresh, counted, with_places}
 use Rattle.leaf_copy_gc.specs.declared.lists.ToChunks.{ToChunks}
 use Rattle.leaf_copy_gc.specs.Laid.{AreNew}
 use Rattle.leaf_copy_gc.specs.Lists.{AreReserved}
 use Rattle.leaf_copy_gc.specs.Survivors.{as_reference}
-use Rattle.core_relation.specs.Value.{In}
+use Rattle.core_relation.specs.Memory.{In}
 use Rattle.core_relation.proofs.objects.Members.{map_in}
 use Rattle.task_machine.specs.declared.part.Private.{Private}
 use Rattle.task_machine.specs.declared.part.Begun.{Begun}
-use Rattle.shared_value.specs.World.{World, accounts}
-use Rattle.shared_value.specs.Stands.{IsWorld}
+use Rattle.shared_value.specs.SharedValue.{SharedValue, accounts}
+use Rattle.shared_value.specs.Stands.{IsSharedValue}
 use Rattle.shared_value.specs.Fits.{Fits, OthersFit}
 use Rattle.shared_value.specs.Due.{take_by}
 use Rattle.shared_value.specs.Entered.{refused}
@@ -35,7 +35,7 @@ use Rattle.leaf_collections.proofs.CollectionBegins.{begin_others, begin_world}
 use Rattle.leaf_collections.proofs.PartCollecting.{begin_part, new_fresh}
 use Rattle.leaf_collections.proofs.NewChunks.{born_is, each_at, new_of}
 
-module _ (w : World) (k : ℕ) (p : Private) (I : IsWorld w) (F : Fits w k p) (none : p.fresh ≡ 0) (free : refused w (record { worker = k; kind = Begin p.task }) ≡ None) where
+module _ (w : SharedValue) (k : ℕ) (p : Private) (I : IsSharedValue w) (F : Fits w k p) (none : p.fresh ≡ 0) (free : refused w (record { worker = k; kind = Begin p.task }) ≡ None) where
   F0 : Fits w k (record p { fresh = 0 })
   F0 = without_fresh w k p F none
 
@@ -66,8 +66,8 @@ module _ (w : World) (k : ℕ) (p : Private) (I : IsWorld w) (F : Fits w k p) (n
       let limit : w.pool.limit ≡ w.settings.chunks = I.limit in
       omega (arith, c, h, lt, limit)
 
-  module _ (pool : Chunks) (news was : List Content) (task count : ℕ) (et : task ≡ p.task) (ec : count ≡ take_by (small_words p.heap.chunks)) (ew : was ≡ []) (taken : TakesAll w.pool pool task count was news)
-      (roots : List Addr) (er : roots ≡ roots_of w p) (numbers : List ℕ) (en : numbers ≡ map number_of news) (j : Space Event) where
+  module _ (pool : PoolValue) (news was : List ChunkValue) (task count : ℕ) (et : task ≡ p.task) (ec : count ≡ take_by (small_words p.heap.chunks)) (ew : was ≡ []) (taken : TakesAll w.pool pool task count was news)
+      (roots : List Addr) (er : roots ≡ roots_of w p) (numbers : List ℕ) (en : numbers ≡ map number_of news) (j : RoomyValue EntryValue) where
     T : TakesAll w.pool pool p.task (take_by (small_words p.heap.chunks)) [] news
     T =
         subst (λ n. TakesAll w.pool pool n (take_by (small_words p.heap.chunks)) [] news) et
@@ -79,13 +79,13 @@ module _ (w : World) (k : ℕ) (p : Private) (I : IsWorld w) (F : Fits w k p) (n
     pub begins_long : length news ≡ count
     begins_long = ap length news_are ∙ (T.numbers.count ∙ sym ec)
 
-    abbrev begun_world : World
+    abbrev begun_world : SharedValue
     begun_world = record w { pool = pool; journal = record { items = w.journal.items ++ record { worker = k; kind = Begin p.task } ∷ []; room = j.room } }
 
     abbrev begun_so : Begun
     begun_so = record { roots = roots; news = numbers }
 
-    pub begins_world : IsWorld begun_world
+    pub begins_world : IsSharedValue begun_world
     begins_world = begin_world w k p I F0 free pool news 0 0 T j
 
     pub begins_apart : OthersFit w begun_world k
@@ -110,8 +110,8 @@ module _ (w : World) (k : ℕ) (p : Private) (I : IsWorld w) (F : Fits w k p) (n
       part = part ∙ ap (λ ns. record p { heap = with_places p.heap new.heap.slots new.heap.spare; begun = Some (record { roots = roots; news = ns }) }) (en ∙ ap (map number_of) (sym items));
       sound = each_at (IsSound p.heap.chunks) (map as_reference roots) (λ r i. let x = map_in as_reference roots r i in subst (IsSound p.heap.chunks) x.2 (sound_root x.0 x.1));
       apart = subst AreApart (sym (items ∙ news_are)) T.numbers.numbered.apart;
-      fresh = subst (All (λ (z : Content). IsFresh p.heap.chunks z.number)) (sym (items ∙ news_are))
-          (each_at (λ (z : Content). IsFresh p.heap.chunks z.number) T.numbers.chunks (new_fresh w k p I F0 free pool news 0 0 T j));
+      fresh = subst (All (λ (z : ChunkValue). IsFresh p.heap.chunks z.number)) (sym (items ∙ news_are))
+          (each_at (λ (z : ChunkValue). IsFresh p.heap.chunks z.number) T.numbers.chunks (new_fresh w k p I F0 free pool news 0 0 T j));
       empty = subst AreNew (sym (items ∙ news_are)) (new_of T.numbers.chunks T.numbers.blank);
       count = ap length (items ∙ news_are) ∙ T.numbers.count;
       reserved = reserved;

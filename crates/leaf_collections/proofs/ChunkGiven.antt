@@ -2,12 +2,12 @@
 use Rattle.std.proofs.Common.{◌≡◌, ◌⊎◌, ℕ, zero, suc, ◌+◌, ◌*◌, ◌/◌, ◌<◌, ◌≤◌, true, false, ◌&&◌, not, Bool, cond, Option, Some, None, List, [], ◌∷◌, ◌++◌, length, map, slice_get, option_map, is_none, is_some, nat_lt, ◌==◌, inl, inr, refl, ap, ap₂, sym, subst, ◌∙◌, arith, lt-ltb, le-ltb, eq-eqb, ne_eqb}
 use Rattle.std.proofs.lemmas.Bool.{both_ways, cases_eq, cases_lt, cond-false, cond-true, false≢true, leb-false}
 use Rattle.std.proofs.lemmas.Option.{same_Some}
-use Rattle.listed.specs.Space.{Space}
+use Rattle.listed.specs.RoomyValue.{RoomyValue}
 use Rattle.hh_model.specs.declared.data.State.{State}
 use Rattle.hh_model.specs.Effect.{row_of}
 use Rattle.hh_model.specs.Step.{asked, is_joined, is_waiting, waits}
 use Rattle.run_trace.specs.declared.entry.Kind.TheVariants.{Chunk as ChunkOf}
-use Rattle.run_trace.specs.Entry.{Event}
+use Rattle.run_trace.specs.Entry.{EntryValue}
 use Rattle.run_ledger.specs.declared.data.Heap.{Heap as Account}
 use Rattle.run_ledger.specs.declared.data.Ledger.{Ledger}
 use Rattle.run_ledger.specs.declared.data.Refused.{Refused}
@@ -20,15 +20,15 @@ use Rattle.run_ledger.specs.Steps.{is_due, is_in_need, on_asked}
 use Rattle.run_ledger.proofs.Journals.{entry_tells}
 use Rattle.run_ledger.proofs.Space.{legal_booked}
 use Rattle.object_layout.specs.Chunks.{place_in}
-use Rattle.object_layout.specs.Content.{Content}
+use Rattle.object_layout.specs.ChunkValue.{ChunkValue}
 use Rattle.object_layout.specs.Objects.{Located}
 use Rattle.chunk_pool.specs.declared.pool.Held.{Held}
-use Rattle.chunk_pool.specs.Chunks.{Chunks, Takes as PoolTakes, units_in_use}
-use Rattle.alloc_path.specs.Heap.{Heap, IsFresh, added, with_places}
-use Rattle.ledger_steps.specs.Accounts.{Rests, rested}
-use Rattle.ledger_steps.proofs.Ahead.{heap_then, with_at, with_machine, with_off}
-use Rattle.ledger_steps.proofs.Rested.{rested_view}
-use Rattle.core_relation.specs.Value.{Chunk, Home, In, Value, object_name, objects, objects_in}
+use Rattle.chunk_pool.specs.PoolValue.{PoolValue, Takes as PoolTakes, units_in_use}
+use Rattle.alloc_path.specs.LeafHeapValue.{LeafHeapValue, IsFresh, added, with_places}
+use Rattle.ledger_step_laws.specs.Accounts.{Rests, rested}
+use Rattle.ledger_step_laws.proofs.Ahead.{heap_then, with_at, with_machine, with_off}
+use Rattle.ledger_step_laws.proofs.Rested.{rested_view}
+use Rattle.core_relation.specs.Memory.{Chunk, Home, In, Memory, object_name, objects, objects_in}
 use Rattle.core_relation.specs.Layout.{AreLaidOut, reserved_chunks, reserved_units}
 use Rattle.core_relation.specs.Stands.{HasNames, HomeStands, large_chunks}
 use Rattle.core_relation.specs.Changes.{SameObjects}
@@ -44,9 +44,9 @@ use Rattle.task_machine.specs.Accounts.{AreReserved, IsCounted}
 use Rattle.task_machine.specs.Fits.{IsShaped}
 use Rattle.task_machine.proofs.Added.{chunks_added, shape_added}
 use Rattle.shared_value.specs.Objects.{chunk_of, chunks_of}
-use Rattle.shared_value.specs.World.{World, accounts, totals_of, value_of}
+use Rattle.shared_value.specs.SharedValue.{SharedValue, accounts, totals_of, value_of}
 use Rattle.shared_value.specs.Measured.{AreMeasured, IsMeasured, KeepsUnits}
-use Rattle.shared_value.specs.Stands.{HeapForm, IsWorld}
+use Rattle.shared_value.specs.Stands.{HeapForm, IsSharedValue}
 use Rattle.shared_value.specs.Fits.{Fits, OthersFit, home_of_part}
 use Rattle.shared_value.specs.Next.{part_asks}
 use Rattle.shared_value.specs.Causes.{need_cause}
@@ -98,7 +98,7 @@ units_more number words z none = by (is_small words) refl
         ∙ (big_spare (units words) two ∙ (sym (some_units (units words) (omega (arith, two))) ∙ ap reserved_units (sym (cond-false (is_small words) 1 (units words) s))))
 
 -- the worker that the entry speaks of holds a part without fresh steps
-module _ (w : World) (k : ℕ) (p : Private) (I : IsWorld w) (F : Fits w k (record p { fresh = 0 })) (on : (accounts w).end ≡ None) (free : refused w (record { worker = k; kind = ChunkOf p.task }) ≡ None)
+module _ (w : SharedValue) (k : ℕ) (p : Private) (I : IsSharedValue w) (F : Fits w k (record p { fresh = 0 })) (on : (accounts w).end ≡ None) (free : refused w (record { worker = k; kind = ChunkOf p.task }) ≡ None)
     (words : ℕ) (asks : part_asks w.program p ≡ Some words) where
   abbrev P : Private
   P = record p { fresh = 0 }
@@ -106,13 +106,13 @@ module _ (w : World) (k : ℕ) (p : Private) (I : IsWorld w) (F : Fits w k (reco
   abbrev t : ℕ
   t = p.task
 
-  abbrev e : Event
+  abbrev e : EntryValue
   e = record { worker = k; kind = ChunkOf p.task }
 
   abbrev l : Ledger
   l = accounts w
 
-  abbrev v : Value
+  abbrev v : Memory
   v = value_of w
 
   asked_is : asked w.program l.machine t ≡ Some words
@@ -186,20 +186,20 @@ module _ (w : World) (k : ℕ) (p : Private) (I : IsWorld w) (F : Fits w k (reco
     | inr le ↦ omega (arith, le)
   ]
 
-  module _ (pool : Chunks) (number u slots spare : ℕ) (within : units_in_use w.pool + u ≤ w.pool.limit) (sized : u ≡ chunk_units (Some words)) (T : PoolTakes w.pool pool number (record { owner = p.task; units = u })) (j : Space Event) where
-    abbrev K : Content
+  module _ (pool : PoolValue) (number u slots spare : ℕ) (within : units_in_use w.pool + u ≤ w.pool.limit) (sized : u ≡ chunk_units (Some words)) (T : PoolTakes w.pool pool number (record { owner = p.task; units = u })) (j : RoomyValue EntryValue) where
+    abbrev K : ChunkValue
     K = chunk_with number u
 
-    abbrev g : Heap
+    abbrev g : LeafHeapValue
     g = with_places (added p.heap K) slots spare
 
     abbrev Q : Private
     Q = record P { heap = g }
 
-    abbrev w' : World
+    abbrev w' : SharedValue
     w' = entered w e w.tree pool w.homes w.sets w.hands w.outputs w.steps w.end j.room
 
-    abbrev v' : Value
+    abbrev v' : Memory
     v' = value_of w'
 
     fits_free : nat_lt w.settings.chunks (in_use l + chunk_units (Some words)) ≡ false
@@ -273,14 +273,14 @@ module _ (w : World) (k : ℕ) (p : Private) (I : IsWorld w) (F : Fits w k (reco
     units_stay : (o : ℕ) → KeepsUnits w.pool pool o
     units_stay = taken_keeps w.pool pool number (record { owner = p.task; units = u }) T
 
-    pub chunk_world : IsWorld w'
+    pub chunk_world : IsSharedValue w'
     chunk_world = quiet_world w e I free tt (λ u m. m) pool w.end j.room same notes counts T.rest.limit units_stay
 
     -- ---- THE PART
-    abbrev before : Value
+    abbrev before : Memory
     before = with_home v t (home_of_part P)
 
-    abbrev after_ : Value
+    abbrev after_ : Memory
     after_ = with_home v' t (home_of_part Q)
 
     here : before.homes t ≡ home_of_part P
@@ -464,15 +464,15 @@ module _ (w : World) (k : ℕ) (p : Private) (I : IsWorld w) (F : Fits w k (reco
     chunk_others o q ne G = quiet_others w e I free tt (λ u m. m) pool w.end j.room same notes counts T.rest.limit units_stay o q (held_apart w k o P q F G ne) G
 
 -- ---- WHERE TOO FEW ARE FREE
-module _ (w : World) (k : ℕ) (p : Private) (I : IsWorld w) (F : Fits w k (record p { fresh = 0 })) (on : (accounts w).end ≡ None) (free : refused w (record { worker = k; kind = ChunkOf p.task }) ≡ None)
-    (words : ℕ) (asks : part_asks w.program p ≡ Some words) (full : w.pool.limit < units_in_use w.pool + chunk_units (Some words)) (j : Space Event) where
-  abbrev full_event : Event
+module _ (w : SharedValue) (k : ℕ) (p : Private) (I : IsSharedValue w) (F : Fits w k (record p { fresh = 0 })) (on : (accounts w).end ≡ None) (free : refused w (record { worker = k; kind = ChunkOf p.task }) ≡ None)
+    (words : ℕ) (asks : part_asks w.program p ≡ Some words) (full : w.pool.limit < units_in_use w.pool + chunk_units (Some words)) (j : RoomyValue EntryValue) where
+  abbrev full_event : EntryValue
   full_event = record { worker = k; kind = ChunkOf p.task }
 
   abbrev full_end : Option RunEnd
   full_end = Some (PoolOf (units_in_use w.pool))
 
-  abbrev ended : World
+  abbrev ended : SharedValue
   ended = entered w full_event w.tree w.pool w.homes w.sets w.hands w.outputs w.steps full_end j.room
 
   abbrev full_ledger : Ledger
@@ -497,13 +497,13 @@ module _ (w : World) (k : ℕ) (p : Private) (I : IsWorld w) (F : Fits w k (reco
   full_counts : CountsGo w.program w.settings (accounts w) (totals_of w) (totals_of ended) k (ChunkOf p.task)
   full_counts = (record { node = λ u. refl; hand = λ u. refl; steps = refl; outputs = refl }, full_units)
 
-  pub full_world : IsWorld ended
+  pub full_world : IsSharedValue ended
   full_world = quiet_world w full_event I free tt (λ u m. m) w.pool full_end j.room full_same full_notes full_counts refl (all_kept w.pool)
 
   pub full_others : OthersFit w ended k
   full_others o q ne G = quiet_others w full_event I free tt (λ u m. m) w.pool full_end j.room full_same full_notes full_counts refl (all_kept w.pool) o q (held_apart w k o (record p { fresh = 0 }) q F G ne) G
 
-  abbrev full_home : Value
+  abbrev full_home : Memory
   full_home = with_home (value_of w) p.task (home_of_part (record p { fresh = 0 }))
 
   heaps_rested : (u : ℕ) → heap_of (rested full_ledger p.task) u ≡ heap_of (rested (accounts w) p.task) u
@@ -542,7 +542,7 @@ cause_none true c rest h = absurd (false≢true h)
 cause_none false c rest h = h
 
 -- places for other numbers of chunks don't matter
-places_added : (h : Heap) (K : Content) (a b c d : ℕ) → with_places (added (with_places h a b) K) c d ≡ with_places (added h K) c d
+places_added : (h : LeafHeapValue) (K : ChunkValue) (a b c d : ℕ) → with_places (added (with_places h a b) K) c d ≡ with_places (added h K) c d
 places_added h K a b c d = by (K.size == 1024)
   where
     by : (v : Bool)
@@ -551,10 +551,10 @@ places_added h K a b c d = by (K.size == 1024)
     by true = refl
     by false = refl
 
-pub places_fit : (w : World) (k : ℕ) (p : Private) (a b : ℕ) → Fits w k p → Fits w k (record p { heap = with_places p.heap a b })
+pub places_fit : (w : SharedValue) (k : ℕ) (p : Private) (a b : ℕ) → Fits w k p → Fits w k (record p { heap = with_places p.heap a b })
 places_fit w k p a b F = record { held = F.held; fits = F.fits; form = places_form p.heap a b F.form; measured = F.measured; leaf_limit = F.leaf_limit; field_limit = F.field_limit }
 
-module _ (w : World) (k : ℕ) (p : Private) (I : IsWorld w) (F : Fits w k p) (none : p.fresh ≡ 0) (free : refused w (record { worker = k; kind = ChunkOf p.task }) ≡ None) where
+module _ (w : SharedValue) (k : ℕ) (p : Private) (I : IsSharedValue w) (F : Fits w k p) (none : p.fresh ≡ 0) (free : refused w (record { worker = k; kind = ChunkOf p.task }) ≡ None) where
   part_is : p ≡ record p { fresh = 0 }
   part_is = ap (λ n. record p { fresh = n }) none
 
@@ -571,14 +571,14 @@ module _ (w : World) (k : ℕ) (p : Private) (I : IsWorld w) (F : Fits w k p) (n
   needs = words_by p (part_asks w.program p) (cause_none (is_some p.begun) Collecting (need_cause p (part_asks w.program p)) (ap is_none (sym (chunk_is w k p I F0 runs_on)) ∙ not_refused))
 
   -- too few are free
-  module _ (units : ℕ) (sized : units ≡ chunk_units (part_asks w.program p)) (full : w.pool.limit < units_in_use w.pool + units) (j : Space Event) where
+  module _ (units : ℕ) (sized : units ≡ chunk_units (part_asks w.program p)) (full : w.pool.limit < units_in_use w.pool + units) (j : RoomyValue EntryValue) where
     full_so : w.pool.limit < units_in_use w.pool + chunk_units (Some needs.0)
     full_so = subst (λ n. w.pool.limit < units_in_use w.pool + n) (sized ∙ ap chunk_units needs.1) full
 
-    abbrev pool_ended : World
+    abbrev pool_ended : SharedValue
     pool_ended = record w { journal = record { items = w.journal.items ++ record { worker = k; kind = ChunkOf p.task } ∷ []; room = j.room }; end = Some (PoolOf (units_in_use w.pool)) }
 
-    pub pool_world : IsWorld pool_ended
+    pub pool_world : IsSharedValue pool_ended
     pool_world = full_world w k p I F0 runs_on free needs.0 needs.1 full_so j
 
     pub pool_part : (a b : ℕ) → Fits pool_ended k (record p { heap = with_places p.heap a b })
@@ -588,8 +588,8 @@ module _ (w : World) (k : ℕ) (p : Private) (I : IsWorld w) (F : Fits w k p) (n
     pool_others = full_others w k p I F0 runs_on free needs.0 needs.1 full_so j
 
   -- it is given
-  module _ (pool : Chunks) (K : Content) (number units : ℕ) (K_is : K ≡ chunk_with number units) (sized : units ≡ chunk_units (part_asks w.program p)) (within : units_in_use w.pool + units ≤ w.pool.limit) (T : PoolTakes w.pool pool number (record { owner = p.task; units = units })) (j : Space Event) where
-    abbrev given : World
+  module _ (pool : PoolValue) (K : ChunkValue) (number units : ℕ) (K_is : K ≡ chunk_with number units) (sized : units ≡ chunk_units (part_asks w.program p)) (within : units_in_use w.pool + units ≤ w.pool.limit) (T : PoolTakes w.pool pool number (record { owner = p.task; units = units })) (j : RoomyValue EntryValue) where
+    abbrev given : SharedValue
     given = record w { pool = pool; journal = record { items = w.journal.items ++ record { worker = k; kind = ChunkOf p.task } ∷ []; room = j.room } }
 
     size_is : units ≡ chunk_units (Some needs.0)
@@ -598,14 +598,14 @@ module _ (w : World) (k : ℕ) (p : Private) (I : IsWorld w) (F : Fits w k p) (n
     pub given_fresh : IsFresh p.heap.chunks number
     given_fresh = fresh w k p I F0 runs_on free needs.0 needs.1 pool number units 0 0 within size_is T j
 
-    pub given_world : IsWorld given
+    pub given_world : IsSharedValue given
     given_world = chunk_world w k p I F0 runs_on free needs.0 needs.1 pool number units 0 0 within size_is T j
 
     pub given_part : (a b c d : ℕ) → Fits given k (record p { heap = with_places (added (with_places p.heap a b) K) c d })
     given_part a b c d =
         let same : with_places (added p.heap (chunk_with number units)) c d ≡ with_places (added (with_places p.heap a b) K) c d =
-        sym (ap (λ (z : Content). with_places (added (with_places p.heap a b) z) c d) K_is ∙ places_added p.heap (chunk_with number units) a b c d) in
-        subst (λ (h : Heap). Fits given k (record p { heap = h })) same
+        sym (ap (λ (z : ChunkValue). with_places (added (with_places p.heap a b) z) c d) K_is ∙ places_added p.heap (chunk_with number units) a b c d) in
+        subst (λ (h : LeafHeapValue). Fits given k (record p { heap = h })) same
         (subst (λ n. Fits given k (record p { heap = with_places (added p.heap (chunk_with number units)) c d; fresh = n })) (sym none)
         (chunk_part w k p I F0 runs_on free needs.0 needs.1 pool number units c d within size_is T j))
 

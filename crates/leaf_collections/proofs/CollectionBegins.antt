@@ -2,33 +2,33 @@
 use Rattle.std.proofs.Common.{◌≡◌, ℕ, ◌+◌, true, false, Some, None, List, [], length, map, slice_get, option_map, is_some, ◌⊎◌, inl, inr, refl, ap, sym, ◌∙◌}
 use Rattle.std.proofs.lemmas.Bool.{cases_Bool}
 use Rattle.std.proofs.lemmas.Option.{same_Some}
-use Rattle.listed.specs.Space.{Space}
+use Rattle.listed.specs.RoomyValue.{RoomyValue}
 use Rattle.hh_model.specs.declared.data.State.{State}
 use Rattle.hh_model.specs.Effect.{row_of}
 use Rattle.hh_model.specs.Step.{is_joined, is_waiting, waits}
 use Rattle.run_trace.specs.declared.entry.Kind.TheVariants.{Begin}
-use Rattle.run_trace.specs.Entry.{Event}
+use Rattle.run_trace.specs.Entry.{EntryValue}
 use Rattle.run_ledger.specs.declared.data.Heap.{Heap as Account}
 use Rattle.run_ledger.specs.declared.data.Ledger.{Ledger}
 use Rattle.run_ledger.specs.Heaps.{heap_of, or_fresh, take_of, with_heap, within}
 use Rattle.object_layout.specs.Chunks.{has_chunk, small_words}
-use Rattle.object_layout.specs.Content.{Content}
-use Rattle.chunk_pool.specs.Chunks.{Chunks, TakesAll, held_in, units_in_use}
+use Rattle.object_layout.specs.ChunkValue.{ChunkValue}
+use Rattle.chunk_pool.specs.PoolValue.{PoolValue, TakesAll, held_in, units_in_use}
 use Rattle.chunk_pool.proofs.OwnerLaws.{taken_are_owned}
-use Rattle.alloc_path.specs.Heap.{Heap, with_places}
-use Rattle.ledger_steps.specs.Accounts.{Rests}
-use Rattle.ledger_steps.proofs.Ahead.{heap_then, with_at, with_machine, with_off}
+use Rattle.alloc_path.specs.LeafHeapValue.{LeafHeapValue, with_places}
+use Rattle.ledger_step_laws.specs.Accounts.{Rests}
+use Rattle.ledger_step_laws.proofs.Ahead.{heap_then, with_at, with_machine, with_off}
 use Rattle.core_relation.specs.Changes.{SameObjects}
 use Rattle.core_relation.specs.Counts.{CountsGo}
 use Rattle.core_relation.specs.Since.{NotesStay}
-use Rattle.core_relation.specs.Value.{In, Value}
+use Rattle.core_relation.specs.Memory.{In, Memory}
 use Rattle.core_relation.specs.Whole.{StandsFor}
 use Rattle.core_relation.proofs.changes.Alone.{home_kept}
 use Rattle.task_machine.specs.declared.part.Begun.{Begun}
 use Rattle.task_machine.specs.declared.part.Private.{Private}
-use Rattle.shared_value.specs.World.{World, accounts, totals_of, value_of}
+use Rattle.shared_value.specs.SharedValue.{SharedValue, accounts, totals_of, value_of}
 use Rattle.shared_value.specs.Measured.{KeepsUnits}
-use Rattle.shared_value.specs.Stands.{IsWorld}
+use Rattle.shared_value.specs.Stands.{IsSharedValue}
 use Rattle.shared_value.specs.Fits.{Fits, OthersFit}
 use Rattle.shared_value.specs.Due.{take_by}
 use Rattle.shared_value.specs.Entered.{refused}
@@ -44,20 +44,20 @@ use Rattle.shared_value.proofs.StepsEntered.{status}
 use Rattle.shared_value.proofs.RootsHeld.{chunk_in}
 use Rattle.leaf_collections.proofs.NewChunks.{all_at}
 
-module _ (w : World) (k : ℕ) (p : Private) (I : IsWorld w) (F : Fits w k (record p { fresh = 0 })) (free : refused w (record { worker = k; kind = Begin p.task }) ≡ None) where
+module _ (w : SharedValue) (k : ℕ) (p : Private) (I : IsSharedValue w) (F : Fits w k (record p { fresh = 0 })) (free : refused w (record { worker = k; kind = Begin p.task }) ≡ None) where
   abbrev P : Private
   P = record p { fresh = 0 }
 
   abbrev t : ℕ
   t = p.task
 
-  abbrev e : Event
+  abbrev e : EntryValue
   e = record { worker = k; kind = Begin p.task }
 
   abbrev l : Ledger
   l = accounts w
 
-  abbrev v : Value
+  abbrev v : Memory
   v = value_of w
 
   abbrev begun_with : Account → Account
@@ -93,24 +93,24 @@ module _ (w : World) (k : ℕ) (p : Private) (I : IsWorld w) (F : Fits w k (reco
   idle : is_waiting (slice_get l.machine.tasks t) ≡ false
   idle = ap is_waiting F.fits.is ∙ ap waits (status w k P I F on)
 
-  module _ (pool : Chunks) (news : List Content) (slots spare : ℕ) (T : TakesAll w.pool pool p.task (take_by (small_words p.heap.chunks)) [] news) (j : Space Event) where
-    abbrev ks : List Content
+  module _ (pool : PoolValue) (news : List ChunkValue) (slots spare : ℕ) (T : TakesAll w.pool pool p.task (take_by (small_words p.heap.chunks)) [] news) (j : RoomyValue EntryValue) where
+    abbrev ks : List ChunkValue
     ks = T.numbers.chunks
 
     -- the collection
     abbrev b : Begun
     b = record { roots = roots_of w p; news = map number_of ks }
 
-    abbrev g : Heap
+    abbrev g : LeafHeapValue
     g = with_places p.heap slots spare
 
     abbrev Q : Private
     Q = record P { heap = g; begun = Some b }
 
-    abbrev w' : World
+    abbrev w' : SharedValue
     w' = entered w e w.tree pool w.homes w.sets w.hands w.outputs w.steps w.end j.room
 
-    abbrev v' : Value
+    abbrev v' : Memory
     v' = value_of w'
 
     -- OWNERS
@@ -120,8 +120,8 @@ module _ (w : World) (k : ℕ) (p : Private) (I : IsWorld w) (F : Fits w k (reco
     owner_same : (c : ℕ) → has_chunk ks c ≡ false → v'.owner c ≡ v.owner c
     owner_same c h = (taken_are_owned w.pool pool p.task (take_by (small_words p.heap.chunks)) [] news T c).1 h
 
-    pub were_free : (c : Content) → In ks c → v.owner c.number ≡ None
-    were_free c i = ap (option_map (λ z. z.owner)) (all_at (λ (x : Content). held_in w.pool.slots x.number ≡ None) ks T.numbers.numbered.were_free c i)
+    pub were_free : (c : ChunkValue) → In ks c → v.owner c.number ≡ None
+    were_free c i = ap (option_map (λ z. z.owner)) (all_at (λ (x : ChunkValue). held_in w.pool.slots x.number ≡ None) ks T.numbers.numbered.were_free c i)
 
     pub owner_kept : (c u : ℕ) → v.owner c ≡ Some u → v'.owner c ≡ Some u
     owner_kept c u q = elim (cases_Bool (has_chunk ks c)) [
@@ -168,7 +168,7 @@ module _ (w : World) (k : ℕ) (p : Private) (I : IsWorld w) (F : Fits w k (reco
     pub units_stay : (o : ℕ) → KeepsUnits w.pool pool o
     units_stay = all_taken_keep w.pool pool p.task (take_by (small_words p.heap.chunks)) [] news T
 
-    pub begin_world : IsWorld w'
+    pub begin_world : IsSharedValue w'
     begin_world = quiet_world w e I free tt (λ u m. m) pool w.end j.room same notes counts T.limit units_stay
 
     -- THE PARTS OF OTHERS

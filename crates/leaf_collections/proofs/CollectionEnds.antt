@@ -3,7 +3,7 @@ use Rattle.std.proofs.Common.{◌≡◌, ℕ, ◌+◌, ◌-◌, ◌<◌, ◌&&�
 use Rattle.std.proofs.lemmas.Bool.{cases_eq, false≢true}
 use Rattle.std.proofs.lemmas.Option.{same_Some}
 use Rattle.std.proofs.lemmas.List.Elements.{All-head, All-tail}
-use Rattle.listed.specs.Space.{Space}
+use Rattle.listed.specs.RoomyValue.{RoomyValue}
 use Rattle.hh_model.specs.declared.data.Object.{Object}
 use Rattle.hh_model.specs.declared.data.Status.{Status}
 use Rattle.hh_model.specs.declared.data.Status.TheVariants.{Running, Waiting, Ended, Joined}
@@ -11,7 +11,7 @@ use Rattle.hh_model.specs.declared.data.Task.{Task}
 use Rattle.hh_model.specs.Effect.{object_at}
 use Rattle.hh_model.specs.Step.{is_running, is_waiting, runs, waits}
 use Rattle.hh_model.specs.declared.data.State.{State}
-use Rattle.run_trace.specs.Entry.{Event}
+use Rattle.run_trace.specs.Entry.{EntryValue}
 use Rattle.run_trace.specs.declared.entry.Kind.TheVariants.{End}
 use Rattle.run_ledger.specs.declared.data.Heap.{Heap as Account}
 use Rattle.run_ledger.specs.declared.data.Ledger.{Ledger}
@@ -24,11 +24,11 @@ use Rattle.run_ledger.proofs.Going.{machine_goes_on}
 use Rattle.object_layout.specs.declared.word.Addr.{Addr}
 use Rattle.object_layout.specs.Cell.{Born, marked_object}
 use Rattle.object_layout.specs.Chunks.{cell_of}
-use Rattle.object_layout.specs.Content.{Content}
+use Rattle.object_layout.specs.ChunkValue.{ChunkValue}
 use Rattle.object_layout.specs.Objects.{Located}
 use Rattle.chunk_pool.specs.declared.pool.Held.{Held}
-use Rattle.chunk_pool.specs.Chunks.{Chunks, held_at, owner_of, units_in_use}
-use Rattle.alloc_path.specs.Heap.{IsFresh}
+use Rattle.chunk_pool.specs.PoolValue.{PoolValue, held_at, owner_of, units_in_use}
+use Rattle.alloc_path.specs.LeafHeapValue.{IsFresh}
 use Rattle.alloc_path.proofs.HeapLemmas.{fresh_cons}
 use Rattle.remembered_set.specs.declared.remembered.Source.{Source}
 use Rattle.remembered_set.specs.Moved.{AreFields, redirected}
@@ -36,14 +36,14 @@ use Rattle.remembered_set.specs.Sources.{StandOnce}
 use Rattle.leaf_copy_gc.specs.declared.lists.Moved.{Moved}
 use Rattle.leaf_copy_gc.specs.Redirected.{new_address}
 use Rattle.inner_mark_gc.specs.Swept.{AreGiven, units_kept}
-use Rattle.ledger_steps.specs.Accounts.{Rests, own}
-use Rattle.ledger_steps.proofs.Ahead.{heap_then, with_at, with_machine, with_off}
-use Rattle.ledger_steps.proofs.Known.{legal_knows}
+use Rattle.ledger_step_laws.specs.Accounts.{Rests, own}
+use Rattle.ledger_step_laws.proofs.Ahead.{heap_then, with_at, with_machine, with_off}
+use Rattle.ledger_step_laws.proofs.Known.{legal_knows}
 use Rattle.core_relation.specs.Copies.{CopyFits, EndsAt}
 use Rattle.core_relation.specs.Counts.{CountsGo}
 use Rattle.core_relation.specs.Since.{OthersNotes}
 use Rattle.core_relation.specs.Stands.{IsSource, Place}
-use Rattle.core_relation.specs.Value.{Chunk, Home, In, Lies, Value, objects_in, rewritten_home, sources}
+use Rattle.core_relation.specs.Memory.{Chunk, Home, In, Lies, Memory, objects_in, rewritten_home, sources}
 use Rattle.core_relation.specs.Fits.{Part, part_for}
 use Rattle.core_relation.specs.Whole.{StandsFor, StandsForAll, by_end}
 use Rattle.core_relation.specs.Worker.{Fits as FitsValue}
@@ -56,9 +56,9 @@ use Rattle.task_machine.specs.declared.part.Private.{Private}
 use Rattle.shared_value.specs.declared.heaps.Heaps.{Heaps}
 use Rattle.shared_value.specs.declared.task_at_rest.Rest.{Rest}
 use Rattle.shared_value.specs.Objects.{chunk_of, chunks_of}
-use Rattle.shared_value.specs.World.{World, accounts, home_in, rest_at, totals_of, value_of}
+use Rattle.shared_value.specs.SharedValue.{SharedValue, accounts, home_in, rest_at, totals_of, value_of}
 use Rattle.shared_value.specs.Measured.{KeepsUnits, RestsAreMeasured}
-use Rattle.shared_value.specs.Stands.{IsWorld}
+use Rattle.shared_value.specs.Stands.{IsSharedValue}
 use Rattle.shared_value.specs.Fits.{Fits, OthersFit, home_of_part, part_of}
 use Rattle.shared_value.specs.RestingHeaps.{refs_for, refs_in, refs_of_rest, with_ref_in}
 use Rattle.shared_value.specs.Roots.{heaps_of, sources_of}
@@ -74,8 +74,8 @@ use Rattle.shared_value.proofs.UnitsMeasured.{given_keeps, measured_given, measu
 use Rattle.shared_value.proofs.BeforeTheEnd.{stands_now}
 use Rattle.leaf_collections.specs.LeafEnd.{FitsCopied, end_event, ended}
 
-module _ (w : World) (k : ℕ) (p : Private) (moved : Moved) (I : IsWorld w) (F : FitsCopied w k p moved) (free : refused w (end_event k p moved) ≡ None) where
-  abbrev e : Event
+module _ (w : SharedValue) (k : ℕ) (p : Private) (moved : Moved) (I : IsSharedValue w) (F : FitsCopied w k p moved) (free : refused w (end_event k p moved) ≡ None) where
+  abbrev e : EntryValue
   e = end_event k p moved
 
   abbrev t : ℕ
@@ -84,7 +84,7 @@ module _ (w : World) (k : ℕ) (p : Private) (moved : Moved) (I : IsWorld w) (F 
   abbrev l : Ledger
   l = accounts w
 
-  abbrev v : Value
+  abbrev v : Memory
   v = value_of w
 
   abbrev ss : List Source
@@ -149,24 +149,24 @@ module _ (w : World) (k : ℕ) (p : Private) (moved : Moved) (I : IsWorld w) (F 
   }
 
   -- the chunks given back are in use
-  pub back_in_use : (c : Content) → In moved.back.items c → is_some (held_at w.pool c.number) ≡ true
-  back_in_use c i = by (held_at w.pool c.number) (all_at (λ (c : Content). owner_of w.pool c.number ≡ Some p.task) moved.back.items c i F.back.owned)
+  pub back_in_use : (c : ChunkValue) → In moved.back.items c → is_some (held_at w.pool c.number) ≡ true
+  back_in_use c i = by (held_at w.pool c.number) (all_at (λ (c : ChunkValue). owner_of w.pool c.number ≡ Some p.task) moved.back.items c i F.back.owned)
     where
       by : (o : Option Held) → option_map (λ (h : Held). h.owner) o ≡ Some p.task → is_some o ≡ true
       by None q = absurd cc
       by (Some h) q = refl
 
-  module _ (pool : Chunks) (G : AreGiven w.pool pool moved.back.items) (once : StandOnce (sources_of (slice_get w.sets p.task))) (room : ℕ) where
+  module _ (pool : PoolValue) (G : AreGiven w.pool pool moved.back.items) (once : StandOnce (sources_of (slice_get w.sets p.task))) (room : ℕ) where
     abbrev H' : Heaps
     H' = fold (redirected refs_in with_ref_in moved.moved.items) (heaps_of w) (sources_of (slice_get w.sets p.task))
 
     led : Led moved.moved.items (heaps_of w) Good ss H'
     led = lead_all moved.moved.items ss (heaps_of w) Good (are_once ss once) (λ s i. (at s i).place) formed
 
-    abbrev pub w' : World
+    abbrev pub w' : SharedValue
     w' = entered w e w.tree pool H'.homes w.sets w.hands w.outputs w.steps w.end room
 
-    abbrev v' : Value
+    abbrev v' : Memory
     v' = value_of w'
 
     abbrev f : Addr → Addr
@@ -176,7 +176,7 @@ module _ (w : World) (k : ℕ) (p : Private) (moved : Moved) (I : IsWorld w) (F 
     L = with_heap l t (collected l.machine)
 
     -- with what it would be where tasks are held
-    abbrev v'' : Value
+    abbrev v'' : Memory
     v'' = record v' { homes = λ u. rewritten_home f (sources v t) (v.homes u) }
 
     held_then : (heap_of L t).worker ≡ Some k
@@ -199,8 +199,8 @@ module _ (w : World) (k : ℕ) (p : Private) (moved : Moved) (I : IsWorld w) (F 
     same u r = led.homes u (rests_before u r) ∙ ap (λ xs. rewritten_home f xs (v.homes u)) (sym sources_are)
 
     -- WHO OWNS CHUNKS
-    back_mine : (c : Content) → In moved.back.items c → owner_of w.pool c.number ≡ Some t
-    back_mine c i = all_at (λ (c : Content). owner_of w.pool c.number ≡ Some p.task) moved.back.items c i F.back.owned
+    back_mine : (c : ChunkValue) → In moved.back.items c → owner_of w.pool c.number ≡ Some t
+    back_mine c i = all_at (λ (c : ChunkValue). owner_of w.pool c.number ≡ Some p.task) moved.back.items c i F.back.owned
 
     stays : (n : ℕ) → IsFresh moved.back.items n → owner_of pool n ≡ owner_of w.pool n
     stays n fr = ap (option_map (λ (h : Held). h.owner)) (G.others n fr)
@@ -211,17 +211,17 @@ module _ (w : World) (k : ℕ) (p : Private) (moved : Moved) (I : IsWorld w) (F 
     mine : (c : Chunk) → In (chunks_of p.heap.chunks) c → owner_of pool c.number ≡ Some t
     mine c i =
         let x = map_in chunk_of p.heap.chunks c i in
-        stays c.number (fresh_by moved.back.items c.number (λ b j q. fresh_off p.heap.chunks x.0 b.number (all_at (λ (b : Content). IsFresh p.heap.chunks b.number) moved.back.items b j F.back.gone) x.1 (ap (λ (z : Chunk). z.number) x.2 ∙ sym q)))
+        stays c.number (fresh_by moved.back.items c.number (λ b j q. fresh_off p.heap.chunks x.0 b.number (all_at (λ (b : ChunkValue). IsFresh p.heap.chunks b.number) moved.back.items b j F.back.gone) x.1 (ap (λ (z : Chunk). z.number) x.2 ∙ sym q)))
         ∙ C.copy.owned c i
 
     owned : (n u : ℕ) → owner_of pool n ≡ Some u → owner_of w.pool n ≡ Some u
     owned n u o = by moved.back.items G.free (G.others n)
       where
-        by : (ks : List Content) → All (λ c. held_at pool c.number ≡ None) ks → (IsFresh ks n → held_at pool n ≡ held_at w.pool n) → owner_of w.pool n ≡ Some u
+        by : (ks : List ChunkValue) → All (λ c. held_at pool c.number ≡ None) ks → (IsFresh ks n → held_at pool n ≡ held_at w.pool n) → owner_of w.pool n ≡ Some u
         by [] a other = sym (ap (option_map (λ (h : Held). h.owner)) (other refl)) ∙ o
         by (c ∷ ks) a other = elim (cases_eq c.number n) [
-          | inl q ↦ absurd (owner_none pool n u (subst (λ z. held_at pool z ≡ None) q (All-head (λ (c : Content). held_at pool c.number ≡ None) c ks a)) o)
-          | inr ne ↦ by ks (All-tail (λ (c : Content). held_at pool c.number ≡ None) c ks a) (λ fr. other (fresh_cons c ks n ne fr))
+          | inl q ↦ absurd (owner_none pool n u (subst (λ z. held_at pool z ≡ None) q (All-head (λ (c : ChunkValue). held_at pool c.number ≡ None) c ks a)) o)
+          | inr ne ↦ by ks (All-tail (λ (c : ChunkValue). held_at pool c.number ≡ None) c ks a) (λ fr. other (fresh_cons c ks n ne fr))
         ]
 
     ends : EndsAt v v'' t (home_of_part (ended p)) f
@@ -293,8 +293,8 @@ module _ (w : World) (k : ℕ) (p : Private) (moved : Moved) (I : IsWorld w) (F 
     stands_then = subst (λ o. StandsFor v' (totals_of w') (by_end L o)) (sym on') (stands_for_held v'' (λ u. v'.homes u) L same waiters (totals_of w') stands_now_so)
 
     -- THE UNITS
-    own_apart : (c : Content) → In p.heap.chunks c → IsFresh moved.back.items c.number
-    own_apart c i = fresh_by moved.back.items c.number (λ b j q. fresh_off p.heap.chunks c b.number (all_at (λ (b : Content). IsFresh p.heap.chunks b.number) moved.back.items b j F.back.gone) i (sym q))
+    own_apart : (c : ChunkValue) → In p.heap.chunks c → IsFresh moved.back.items c.number
+    own_apart c i = fresh_by moved.back.items c.number (λ b j q. fresh_off p.heap.chunks c b.number (all_at (λ (b : ChunkValue). IsFresh p.heap.chunks b.number) moved.back.items b j F.back.gone) i (sym q))
 
     units_stay : (u : ℕ) → (u ≡ t → ⊥) → KeepsUnits w.pool pool u
     units_stay u ne = given_keeps w.pool pool moved.back.items t u G F.back.owned ne
@@ -302,7 +302,7 @@ module _ (w : World) (k : ℕ) (p : Private) (moved : Moved) (I : IsWorld w) (F 
     measured_then : RestsAreMeasured pool H'.homes w.hands
     measured_then u r is none = measured_kept w.pool pool u r.heap.chunks (units_stay u (λ q. none k ((S.totals.hand k u).1 (ap (λ z. (heap_of l z).worker) q ∙ F.held)))) (led.measured u r (unheld_rests w u I on none) is)
 
-    pub end_world : IsWorld w'
+    pub end_world : IsSharedValue w'
     end_world = entered_world w e I free w.tree pool H'.homes w.sets w.hands w.outputs w.steps w.end room (led.count ∙ I.made) I.noted refl G.limit stands_then led.form measured_then
 
     -- PARTS
@@ -337,21 +337,21 @@ module _ (w : World) (k : ℕ) (p : Private) (moved : Moved) (I : IsWorld w) (F 
     pub pool_same : X.pool ≡ w.pool
     pool_same = ap (λ (h : Heaps). h.pool) is ∙ (lead_all moved.moved.items ss (heaps_of w) Good (are_once ss once) (λ s i. (at s i).place) formed).pool
 
-    module _ (pool : Chunks) (G : AreGiven X.pool pool moved.back.items) (j : Space Event) (made : j ≡ record { items = w.journal.items ++ e ∷ []; room = w.journal.room - 1 }) where
+    module _ (pool : PoolValue) (G : AreGiven X.pool pool moved.back.items) (j : RoomyValue EntryValue) (made : j ≡ record { items = w.journal.items ++ e ∷ []; room = w.journal.room - 1 }) where
       given : AreGiven w.pool pool moved.back.items
       given = subst (λ z. AreGiven z pool moved.back.items) pool_same G
 
-      abbrev pub entered_so : World
+      abbrev pub entered_so : SharedValue
       entered_so = record w { pool = pool; homes = X.homes; journal = j }
 
       so : entered_so ≡ w' pool given once (w.journal.room - 1)
       so = ap₂ (λ hs z. record w { pool = pool; homes = hs; journal = z }) (ap (λ (h : Heaps). h.homes) is) made
 
-      pub world_so : IsWorld entered_so
-      world_so = subst IsWorld (sym so) (end_world pool given once (w.journal.room - 1))
+      pub world_so : IsSharedValue entered_so
+      world_so = subst IsSharedValue (sym so) (end_world pool given once (w.journal.room - 1))
 
       pub fits_so : Fits entered_so k (ended p)
-      fits_so = subst (λ (z : World). Fits z k (ended p)) (sym so) (end_fits pool given once (w.journal.room - 1))
+      fits_so = subst (λ (z : SharedValue). Fits z k (ended p)) (sym so) (end_fits pool given once (w.journal.room - 1))
 
       pub others_so : OthersFit w entered_so k
-      others_so = subst (λ (z : World). OthersFit w z k) (sym so) (end_others pool given once (w.journal.room - 1))
+      others_so = subst (λ (z : SharedValue). OthersFit w z k) (sym so) (end_others pool given once (w.journal.room - 1))

@@ -1,12 +1,12 @@
 -- A leaf collection of a part is put off.
 use Rattle.std.proofs.Common.{◌≡◌, ℕ, arith, false, Option, Some, None, [], ◌∷◌, ◌++◌, length, slice_get, is_none, is_some, inl, inr, refl, ap, sym, subst, ◌∙◌}
 use Rattle.std.proofs.lemmas.Bool.{cases_eq}
-use Rattle.listed.specs.Space.{Space}
+use Rattle.listed.specs.RoomyValue.{RoomyValue}
 use Rattle.hh_model.specs.declared.data.State.{State}
 use Rattle.hh_model.specs.Effect.{row_of}
 use Rattle.hh_model.specs.Step.{is_joined}
 use Rattle.run_trace.specs.declared.entry.Kind.TheVariants.{PutOff}
-use Rattle.run_trace.specs.Entry.{Event}
+use Rattle.run_trace.specs.Entry.{EntryValue}
 use Rattle.run_ledger.specs.declared.data.Heap.{Heap as Account}
 use Rattle.run_ledger.specs.declared.data.Ledger.{Ledger}
 use Rattle.run_ledger.specs.declared.data.Refused.{Refused}
@@ -14,11 +14,11 @@ use Rattle.run_ledger.specs.declared.data.Refused.TheVariants.{PoolEnough}
 use Rattle.run_ledger.specs.Heaps.{heap_of, in_use, let_go, or_fresh, with_heap}
 use Rattle.run_ledger.specs.Entries.{is_pool_enough, kind_refusal, on_due, refused_if}
 use Rattle.run_ledger.proofs.Journals.{entry_tells}
-use Rattle.chunk_pool.specs.Chunks.{units_in_use}
-use Rattle.alloc_path.specs.Heap.{Heap}
-use Rattle.ledger_steps.specs.Accounts.{Rests, rested}
-use Rattle.ledger_steps.proofs.Ahead.{heap_then, with_at, with_machine, with_off}
-use Rattle.ledger_steps.proofs.Rested.{rested_view}
+use Rattle.chunk_pool.specs.PoolValue.{units_in_use}
+use Rattle.alloc_path.specs.LeafHeapValue.{LeafHeapValue}
+use Rattle.ledger_step_laws.specs.Accounts.{Rests, rested}
+use Rattle.ledger_step_laws.proofs.Ahead.{heap_then, with_at, with_machine, with_off}
+use Rattle.ledger_step_laws.proofs.Rested.{rested_view}
 use Rattle.core_relation.specs.Changes.{SameObjects}
 use Rattle.core_relation.specs.Counts.{CountsGo}
 use Rattle.core_relation.specs.Fits.{with_home}
@@ -26,13 +26,13 @@ use Rattle.core_relation.specs.Layout.{AreLaidOut}
 use Rattle.core_relation.specs.Since.{NotesStay}
 use Rattle.core_relation.specs.Stands.{HasNames, HomeStands}
 use Rattle.object_layout.specs.Objects.{Located}
-use Rattle.core_relation.specs.Value.{Chunk, Home, In, Value, objects, objects_in}
+use Rattle.core_relation.specs.Memory.{Chunk, Home, In, Memory, objects, objects_in}
 use Rattle.core_relation.specs.Whole.{BegunBy, StandsFor}
 use Rattle.core_relation.proofs.changes.Alone.{home_kept}
 use Rattle.core_relation.proofs.changes.With.{at_home, off_home}
 use Rattle.task_machine.specs.declared.part.Private.{Private}
-use Rattle.shared_value.specs.World.{World, accounts, totals_of, value_of}
-use Rattle.shared_value.specs.Stands.{HeapForm, IsWorld}
+use Rattle.shared_value.specs.SharedValue.{SharedValue, accounts, totals_of, value_of}
+use Rattle.shared_value.specs.Stands.{HeapForm, IsSharedValue}
 use Rattle.shared_value.specs.Fits.{Fits, OthersFit, home_of_part}
 use Rattle.shared_value.specs.Causes.{first_cause, or_else}
 use Rattle.shared_value.specs.Due.{due_cause}
@@ -55,7 +55,7 @@ nothing None h = refl
 nothing (Some c) h = absurd cc
 
 -- where nothing comes before what it says
-pub put_off_answer : (w : World) (k : ℕ) (p : Private) → IsWorld w → Fits w k (record p { fresh = 0 }) → is_some (first_cause w.end w.steps w.settings k false) ≡ false
+pub put_off_answer : (w : SharedValue) (k : ℕ) (p : Private) → IsSharedValue w → Fits w k (record p { fresh = 0 }) → is_some (first_cause w.end w.steps w.settings k false) ≡ false
     → refused w (record { worker = k; kind = PutOff p.task }) ≡ or_else (due_cause p (part_asks w.program p)) (refused_if (is_pool_enough w.settings (accounts w) p.task) (PoolEnough (units_in_use w.pool)) None)
 put_off_answer w k p I F h =
     refused_is w I (record { worker = k; kind = PutOff p.task })
@@ -65,10 +65,10 @@ put_off_answer w k p I F h =
 
 -- WHAT IT CHANGES
 
-abbrev pub reset : Heap → Heap
+abbrev pub reset : LeafHeapValue → LeafHeapValue
 reset h = record h { since = 0 }
 
-pub reset_form : (h : Heap) → HeapForm h → HeapForm (reset h)
+pub reset_form : (h : LeafHeapValue) → HeapForm h → HeapForm (reset h)
 reset_form h F = record {
   shaped = record { apart = F.shaped.apart; current = F.shaped.current; reserved = F.shaped.reserved };
   near = F.near;
@@ -84,7 +84,7 @@ reset_form h F = record {
 abbrev counted_anew : Account → Account
 counted_anew z = record z { since = 0 }
 
-module _ (w : World) (k : ℕ) (p : Private) (I : IsWorld w) (F : Fits w k (record p { fresh = 0 })) (free : refused w (record { worker = k; kind = PutOff p.task }) ≡ None) (j : Space Event) where
+module _ (w : SharedValue) (k : ℕ) (p : Private) (I : IsSharedValue w) (F : Fits w k (record p { fresh = 0 })) (free : refused w (record { worker = k; kind = PutOff p.task }) ≡ None) (j : RoomyValue EntryValue) where
   abbrev P : Private
   P = record p { fresh = 0 }
 
@@ -94,7 +94,7 @@ module _ (w : World) (k : ℕ) (p : Private) (I : IsWorld w) (F : Fits w k (reco
   abbrev t : ℕ
   t = p.task
 
-  abbrev e : Event
+  abbrev e : EntryValue
   e = record { worker = k; kind = PutOff p.task }
 
   abbrev l : Ledger
@@ -103,10 +103,10 @@ module _ (w : World) (k : ℕ) (p : Private) (I : IsWorld w) (F : Fits w k (reco
   abbrev L : Ledger
   L = with_heap l t counted_anew
 
-  abbrev v : Value
+  abbrev v : Memory
   v = value_of w
 
-  abbrev w' : World
+  abbrev w' : SharedValue
   w' = entered w e w.tree w.pool w.homes w.sets w.hands w.outputs w.steps w.end j.room
 
   on : l.end ≡ None
@@ -156,14 +156,14 @@ module _ (w : World) (k : ℕ) (p : Private) (I : IsWorld w) (F : Fits w k (reco
   counts : CountsGo w.program w.settings l (totals_of w) (totals_of w') k (PutOff t)
   counts = (record { node = λ u. refl; hand = λ u. refl; steps = refl; outputs = refl }, refl, refl)
 
-  pub put_off_world : IsWorld w'
+  pub put_off_world : IsSharedValue w'
   put_off_world = quiet_world w e I free tt (λ u m. m) w.pool w.end j.room same notes counts refl (all_kept w.pool)
 
   -- THE PART
-  abbrev before : Value
+  abbrev before : Memory
   before = with_home v t (home_of_part P)
 
-  abbrev after_ : Value
+  abbrev after_ : Memory
   after_ = with_home v t (home_of_part Q)
 
   here : before.homes t ≡ home_of_part P
@@ -256,15 +256,15 @@ module _ (w : World) (k : ℕ) (p : Private) (I : IsWorld w) (F : Fits w k (reco
   put_off_others o q ne G = quiet_others w e I free tt (λ u m. m) w.pool w.end j.room same notes counts refl (all_kept w.pool) o q (held_apart w k o P q F G ne) G
 
 -- AS THE CALL HAS IT
-module _ (w : World) (k : ℕ) (p : Private) (F : Fits w k p) (none : p.fresh ≡ 0) where
+module _ (w : SharedValue) (k : ℕ) (p : Private) (F : Fits w k p) (none : p.fresh ≡ 0) where
   pub without_fresh : Fits w k (record p { fresh = 0 })
   without_fresh = subst (λ n. Fits w k (record p { fresh = n })) none F
 
-  module _ (I : IsWorld w) (free : refused w (record { worker = k; kind = PutOff p.task }) ≡ None) (j : Space Event) where
-    abbrev entered_so : World
+  module _ (I : IsSharedValue w) (free : refused w (record { worker = k; kind = PutOff p.task }) ≡ None) (j : RoomyValue EntryValue) where
+    abbrev entered_so : SharedValue
     entered_so = record w { journal = record { items = w.journal.items ++ record { worker = k; kind = PutOff p.task } ∷ []; room = j.room } }
 
-    pub put_off_stands : IsWorld entered_so
+    pub put_off_stands : IsSharedValue entered_so
     put_off_stands = put_off_world w k p I without_fresh free j
 
     pub put_off_apart : OthersFit w entered_so k

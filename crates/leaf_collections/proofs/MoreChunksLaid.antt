@@ -3,11 +3,11 @@ use Rattle.std.proofs.Common.{◌≡◌, ◌⊎◌, ℕ, ◌*◌, ◌/◌, ◌<�
 use Rattle.std.specs.List.{AllByRecursion, IsDistinct}
 use Rattle.std.proofs.lemmas.Bool.{cases_lt, cond-true, cond-false, eqb-true}
 use Rattle.object_layout.specs.Chunks.{chunk_at}
-use Rattle.object_layout.specs.Content.{Content}
+use Rattle.object_layout.specs.ChunkValue.{ChunkValue}
 use Rattle.object_layout.specs.Place.{words_in}
-use Rattle.alloc_path.specs.Heap.{AreTidy, AreWithin, Heap, IsFresh, IsTidy, added, with_places}
+use Rattle.alloc_path.specs.LeafHeapValue.{AreTidy, AreWithin, LeafHeapValue, IsFresh, IsTidy, added, with_places}
 use Rattle.core_relation.specs.Layout.{AreLaidOut, has_none, reserved_chunks, reserved_units}
-use Rattle.core_relation.specs.Value.{Chunk, In}
+use Rattle.core_relation.specs.Memory.{Chunk, In}
 use Rattle.core_relation.proofs.objects.Members.{map_in}
 use Rattle.task_machine.specs.Accounts.{IsLastLarge, IsLastSmall}
 use Rattle.task_machine.specs.Fits.{IsShaped}
@@ -31,11 +31,11 @@ distinct_more (x ∷ xs) n d off = (all xs d.0 (ne_eqb x n (λ e. off x (inl ref
     all [] a b = (b, tt)
     all (y ∷ ys) a b = (a.0, all ys a.1 b)
 
-numbers_more : (ks : List Content) (k : Content) → numbers_of (chunks_of (ks ++ k ∷ [])) ≡ numbers_of (chunks_of ks) ++ k.number ∷ []
+numbers_more : (ks : List ChunkValue) (k : ChunkValue) → numbers_of (chunks_of (ks ++ k ∷ [])) ≡ numbers_of (chunks_of ks) ++ k.number ∷ []
 numbers_more [] k = refl
 numbers_more (x ∷ xs) k = ap (λ ns. x.number ∷ ns) (numbers_more xs k)
 
-reserved_more : (ks : List Content) (k : Content) → units_of (reserved_chunks (chunks_of (ks ++ k ∷ []))) ≡ units_of (reserved_chunks (chunks_of ks)) ++ units_of (reserved_chunks (chunk_of k ∷ []))
+reserved_more : (ks : List ChunkValue) (k : ChunkValue) → units_of (reserved_chunks (chunks_of (ks ++ k ∷ []))) ≡ units_of (reserved_chunks (chunks_of ks)) ++ units_of (reserved_chunks (chunk_of k ∷ []))
 reserved_more [] k = refl
 reserved_more (x ∷ xs) k = by ((chunk_of x).large && has_none (chunk_of x).objects) (reserved_more xs k)
   where
@@ -44,14 +44,14 @@ reserved_more (x ∷ xs) k = by ((chunk_of x).large && has_none (chunk_of x).obj
     by true e = ap (λ ns. (chunk_of x).units ∷ ns) e
     by false e = e
 
-small_units : (k : Content) → (chunk_of k).large ≡ false → (chunk_of k).units ≡ 1
+small_units : (k : ChunkValue) → (chunk_of k).large ≡ false → (chunk_of k).units ≡ 1
 small_units k e = by (k.size == 1024) refl e
   where
     by : (b : Bool) → (k.size == 1024) ≡ b → not b ≡ false → k.size / 1024 ≡ 1
     by true q h = ap (λ n. n / 1024) (eqb-true k.size 1024 q)
     by false q h = absurd cc
 
-module _ (k : Content) (empty : k.cells ≡ []) (ks : List Content) (fresh : IsFresh ks k.number) where
+module _ (k : ChunkValue) (empty : k.cells ≡ []) (ks : List ChunkValue) (fresh : IsFresh ks k.number) where
   off : (x : ℕ) → In (numbers_of (chunks_of ks)) x → x ≡ k.number → ⊥
   off x i e =
       let c = map_in (λ (c : Chunk). c.number) (chunks_of ks) x i in
@@ -79,7 +79,7 @@ module _ (k : Content) (empty : k.cells ≡ []) (ks : List Content) (fresh : IsF
 
 -- ---- WHAT IS KNOWN OF THE HEAP
 
-in_longer : (ks : List Content) (k j : Content) → In (ks ++ k ∷ []) j → In ks j ⊎ (k ≡ j)
+in_longer : (ks : List ChunkValue) (k j : ChunkValue) → In (ks ++ k ∷ []) j → In ks j ⊎ (k ≡ j)
 in_longer [] k j (inl e) = inr e
 in_longer [] k j (inr i) = absurd i
 in_longer (x ∷ xs) k j (inl e) = inl (inl e)
@@ -88,11 +88,11 @@ in_longer (x ∷ xs) k j (inr i) = elim (in_longer xs k j i) [ inl a ↦ inl (in
 units_back : (u : ℕ) → (1024 * u) / 1024 ≡ u
 units_back u = omega arith
 
-module _ (h : Heap) (F : HeapForm h) (number u slots spare : ℕ) (some : 1 ≤ u) where
-  abbrev K : Content
+module _ (h : LeafHeapValue) (F : HeapForm h) (number u slots spare : ℕ) (some : 1 ≤ u) where
+  abbrev K : ChunkValue
   K = chunk_with number u
 
-  abbrev g : Heap
+  abbrev g : LeafHeapValue
   g = with_places (added h K) slots spare
 
   -- a large one comes where none was reserved
@@ -106,16 +106,16 @@ module _ (h : Heap) (F : HeapForm h) (number u slots spare : ℕ) (some : 1 ≤ 
 
     reserved_small : u ≡ 1 → g.reserved ≡ h.reserved
     reserved_small e =
-        ap (λ (z : Heap). z.reserved) (cond-true (K.size == 1024) (record h { chunks = h.chunks ++ K ∷ []; current = Some (length h.chunks) }) (record h { chunks = h.chunks ++ K ∷ []; reserved = Some (length h.chunks) }) (ap (λ n. 1024 * n == 1024) e))
+        ap (λ (z : LeafHeapValue). z.reserved) (cond-true (K.size == 1024) (record h { chunks = h.chunks ++ K ∷ []; current = Some (length h.chunks) }) (record h { chunks = h.chunks ++ K ∷ []; reserved = Some (length h.chunks) }) (ap (λ n. 1024 * n == 1024) e))
 
     reserved_large : 2 ≤ u → g.reserved ≡ Some (length h.chunks)
     reserved_large le =
-        ap (λ (z : Heap). z.reserved) (cond-false (K.size == 1024) (record h { chunks = h.chunks ++ K ∷ []; current = Some (length h.chunks) }) (record h { chunks = h.chunks ++ K ∷ []; reserved = Some (length h.chunks) }) (ne_eqb K.size 1024 (λ e. omega (arith, e, le))))
+        ap (λ (z : LeafHeapValue). z.reserved) (cond-false (K.size == 1024) (record h { chunks = h.chunks ++ K ∷ []; current = Some (length h.chunks) }) (record h { chunks = h.chunks ++ K ∷ []; reserved = Some (length h.chunks) }) (ne_eqb K.size 1024 (λ e. omega (arith, e, le))))
 
-    whole_then : (k : Content) → In (h.chunks ++ K ∷ []) k → k.size ≡ 1024 * (k.size / 1024)
+    whole_then : (k : ChunkValue) → In (h.chunks ++ K ∷ []) k → k.size ≡ 1024 * (k.size / 1024)
     whole_then k i = elim (in_longer h.chunks K k i) [
       | inl a ↦ F.whole k a
-      | inr e ↦ subst (λ (z : Content). z.size ≡ 1024 * (z.size / 1024)) e (ap (λ n. 1024 * n) (sym (units_back u)))
+      | inr e ↦ subst (λ (z : ChunkValue). z.size ≡ 1024 * (z.size / 1024)) e (ap (λ n. 1024 * n) (sym (units_back u)))
     ]
 
     spare_front : (i : ℕ) → i < length h.chunks → ((chunk_at h.chunks i).size ≡ 1024 → ⊥) → (chunk_of (chunk_at h.chunks i)).objects ≡ [] → g.reserved ≡ Some i
@@ -131,14 +131,14 @@ module _ (h : Heap) (F : HeapForm h) (number u slots spare : ℕ) (some : 1 ≤ 
 
     spare_last : (i : ℕ) → i ≡ length h.chunks → ((chunk_at (h.chunks ++ K ∷ []) i).size ≡ 1024 → ⊥) → g.reserved ≡ Some i
     spare_last i e big = elim (cases_lt u 2) [
-      | inl one ↦ absurd (big (ap (λ n. (chunk_at (h.chunks ++ K ∷ []) n).size) e ∙ (ap (λ (z : Content). z.size) (chunk_at-last h.chunks K) ∙ omega (arith, one, some))))
+      | inl one ↦ absurd (big (ap (λ n. (chunk_at (h.chunks ++ K ∷ []) n).size) e ∙ (ap (λ (z : ChunkValue). z.size) (chunk_at-last h.chunks K) ∙ omega (arith, one, some))))
       | inr two ↦ reserved_large two ∙ ap Some (sym e)
     ]
 
     spare_then : (i : ℕ) → i < length (h.chunks ++ K ∷ []) → ((chunk_at (h.chunks ++ K ∷ []) i).size ≡ 1024 → ⊥) → (chunk_of (chunk_at (h.chunks ++ K ∷ []) i)).objects ≡ [] → g.reserved ≡ Some i
     spare_then i lt big empty = elim (cases_lt i (length h.chunks)) [
       | inl before ↦
-          spare_front i before (λ e. big (ap (λ (z : Content). z.size) (chunk_at-front h.chunks K i before) ∙ e)) (ap (λ (z : Content). (chunk_of z).objects) (sym (chunk_at-front h.chunks K i before)) ∙ empty)
+          spare_front i before (λ e. big (ap (λ (z : ChunkValue). z.size) (chunk_at-front h.chunks K i before) ∙ e)) (ap (λ (z : ChunkValue). (chunk_of z).objects) (sym (chunk_at-front h.chunks K i before)) ∙ empty)
       | inr after ↦ spare_last i (omega (arith, lt, after, length-append h.chunks (K ∷ []))) big
     ]
 
@@ -165,6 +165,6 @@ module _ (h : Heap) (F : HeapForm h) (number u slots spare : ℕ) (some : 1 ≤ 
       last = last;
       last_large = last_large;
       since = let a = F.since in let b = since_same in omega (arith, a, b);
-      whole = subst (λ ks. (k : Content) → In ks k → k.size ≡ 1024 * (k.size / 1024)) (sym chunks) whole_then;
+      whole = subst (λ ks. (k : ChunkValue) → In ks k → k.size ≡ 1024 * (k.size / 1024)) (sym chunks) whole_then;
       spare = subst (λ ks. (i : ℕ) → i < length ks → ((chunk_at ks i).size ≡ 1024 → ⊥) → (chunk_of (chunk_at ks i)).objects ≡ [] → g.reserved ≡ Some i) (sym chunks) spare_then;
     }

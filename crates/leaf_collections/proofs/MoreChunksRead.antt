@@ -6,11 +6,11 @@ use Rattle.run_ledger.specs.declared.data.Heap.{Heap as Account}
 use Rattle.run_ledger.specs.Heaps.{chunk_words, is_small, units}
 use Rattle.run_ledger.specs.Entries.{chunk_units, with_chunk}
 use Rattle.object_layout.specs.Chunks.{chunk_at}
-use Rattle.object_layout.specs.Content.{Content}
+use Rattle.object_layout.specs.ChunkValue.{ChunkValue}
 use Rattle.object_layout.specs.Place.{words_in}
 use Rattle.object_layout.specs.Objects.{Located, objects_from}
-use Rattle.alloc_path.specs.Heap.{Heap, IsCurrent, IsReserved, added, room_at, with_places}
-use Rattle.core_relation.specs.Value.{Chunk, In, object_name, objects_in}
+use Rattle.alloc_path.specs.LeafHeapValue.{LeafHeapValue, IsCurrent, IsReserved, added, room_at, with_places}
+use Rattle.core_relation.specs.Memory.{Chunk, In, object_name, objects_in}
 use Rattle.core_relation.specs.Stands.{large_chunks}
 use Rattle.task_machine.specs.Accounts.{AreReserved, IsCounted, IsLastLarge, IsLastSmall, large_names, names_in, small_lists}
 use Rattle.task_machine.specs.Fits.{IsShaped}
@@ -18,31 +18,31 @@ use Rattle.shared_value.specs.Objects.{chunk_of, chunks_of}
 
 -- ---- LISTS OF CHUNKS
 
-pub chunk_at-front : (ks : List Content) (k : Content) (i : ℕ) → i < length ks → chunk_at (ks ++ k ∷ []) i ≡ chunk_at ks i
+pub chunk_at-front : (ks : List ChunkValue) (k : ChunkValue) (i : ℕ) → i < length ks → chunk_at (ks ++ k ∷ []) i ≡ chunk_at ks i
 chunk_at-front [] k i lt = absurd (omega (arith, lt))
 chunk_at-front (x ∷ xs) k zero lt = refl
 chunk_at-front (x ∷ xs) k (suc i) lt = chunk_at-front xs k i (omega (arith, lt))
 
-pub chunk_at-last : (ks : List Content) (k : Content) → chunk_at (ks ++ k ∷ []) (length ks) ≡ k
+pub chunk_at-last : (ks : List ChunkValue) (k : ChunkValue) → chunk_at (ks ++ k ∷ []) (length ks) ≡ k
 chunk_at-last [] k = refl
 chunk_at-last (x ∷ xs) k = chunk_at-last xs k
 
-longer : (ks : List Content) (k : Content) → length (ks ++ k ∷ []) ≡ length ks + 1
+longer : (ks : List ChunkValue) (k : ChunkValue) → length (ks ++ k ∷ []) ≡ length ks + 1
 longer ks k = length-append ks (k ∷ [])
 
 -- each chunk is one of before or the new one
-pub in_more : (ks : List Content) (k : Content) (c : Chunk) → In (chunks_of (ks ++ k ∷ [])) c → In (chunks_of ks) c ⊎ (chunk_of k ≡ c)
+pub in_more : (ks : List ChunkValue) (k : ChunkValue) (c : Chunk) → In (chunks_of (ks ++ k ∷ [])) c → In (chunks_of ks) c ⊎ (chunk_of k ≡ c)
 in_more [] k c (inl e) = inr e
 in_more [] k c (inr i) = absurd i
 in_more (x ∷ xs) k c (inl e) = inl (inl e)
 in_more (x ∷ xs) k c (inr i) = elim (in_more xs k c i) [ inl j ↦ inl (inr j) | inr e ↦ inr e ]
 
-module _ (k : Content) (empty : k.cells ≡ []) where
+module _ (k : ChunkValue) (empty : k.cells ≡ []) where
   pub none_in : (chunk_of k).objects ≡ []
   none_in = ap (objects_from k.number 0) empty
 
   -- no object more
-  pub objects_more : (ks : List Content) → objects_in (chunks_of (ks ++ k ∷ [])) ≡ objects_in (chunks_of ks)
+  pub objects_more : (ks : List ChunkValue) → objects_in (chunks_of (ks ++ k ∷ [])) ≡ objects_in (chunks_of ks)
   objects_more [] = ap (λ (os : List Located). os ++ []) none_in
   objects_more (x ∷ xs) = ap (λ (os : List Located). (chunk_of x).objects ++ os) (objects_more xs)
 
@@ -51,7 +51,7 @@ module _ (k : Content) (empty : k.cells ≡ []) where
   large_by true x ks js e = ap (λ (os : List Located). x.objects ++ os) e
   large_by false x ks js e = e
 
-  large_objects : (ks : List Content) → objects_in (large_chunks (chunks_of (ks ++ k ∷ []))) ≡ objects_in (large_chunks (chunks_of ks))
+  large_objects : (ks : List ChunkValue) → objects_in (large_chunks (chunks_of (ks ++ k ∷ []))) ≡ objects_in (large_chunks (chunks_of ks))
   large_objects [] = by (chunk_of k).large
     where
       by : (b : Bool) → objects_in (cond b (chunk_of k ∷ []) []) ≡ []
@@ -59,7 +59,7 @@ module _ (k : Content) (empty : k.cells ≡ []) where
       by false = refl
   large_objects (x ∷ xs) = large_by (chunk_of x).large (chunk_of x) (large_chunks (chunks_of (xs ++ k ∷ []))) (large_chunks (chunks_of xs)) (large_objects xs)
 
-  pub large_more : (ks : List Content) → map object_name (objects_in (large_chunks (chunks_of (ks ++ k ∷ [])))) ≡ map object_name (objects_in (large_chunks (chunks_of ks)))
+  pub large_more : (ks : List ChunkValue) → map object_name (objects_in (large_chunks (chunks_of (ks ++ k ∷ [])))) ≡ map object_name (objects_in (large_chunks (chunks_of ks)))
   large_more ks = ap (map object_name) (large_objects ks)
 
   -- one list of names more, or none
@@ -67,21 +67,21 @@ module _ (k : Content) (empty : k.cells ≡ []) where
   small_by true ns xs ys e = ap (λ zs. ns ∷ zs) e
   small_by false ns xs ys e = e
 
-  small_more : (ks : List Content) → (k.size == 1024) ≡ true → small_lists (ks ++ k ∷ []) ≡ small_lists ks ++ [] ∷ []
+  small_more : (ks : List ChunkValue) → (k.size == 1024) ≡ true → small_lists (ks ++ k ∷ []) ≡ small_lists ks ++ [] ∷ []
   small_more [] e = ap (λ b. cond b (names_in k.cells ∷ []) []) e ∙ ap (λ cs. names_in cs ∷ []) empty
   small_more (x ∷ xs) e = small_by (x.size == 1024) (names_in x.cells) (small_lists (xs ++ k ∷ [])) (small_lists xs) (small_more xs e)
 
   same_by : (b : Bool) (ns : List Name) (xs ys : List (List Name)) → xs ≡ ys → cond b (ns ∷ xs) xs ≡ cond b (ns ∷ ys) ys
   same_by b ns xs ys e = ap (λ zs. cond b (ns ∷ zs) zs) e
 
-  small_same : (ks : List Content) → (k.size == 1024) ≡ false → small_lists (ks ++ k ∷ []) ≡ small_lists ks
+  small_same : (ks : List ChunkValue) → (k.size == 1024) ≡ false → small_lists (ks ++ k ∷ []) ≡ small_lists ks
   small_same [] e = ap (λ b. cond b (names_in k.cells ∷ []) []) e
   small_same (x ∷ xs) e = same_by (x.size == 1024) (names_in x.cells) (small_lists (xs ++ k ∷ [])) (small_lists xs) (small_same xs e)
 
   large_names_by : (b : Bool) (ns xs ys : List Name) → xs ≡ ys → cond b xs (ns ++ xs) ≡ cond b ys (ns ++ ys)
   large_names_by b ns xs ys e = ap (λ zs. cond b zs (ns ++ zs)) e
 
-  pub large_same : (ks : List Content) → large_names (ks ++ k ∷ []) ≡ large_names ks
+  pub large_same : (ks : List ChunkValue) → large_names (ks ++ k ∷ []) ≡ large_names ks
   large_same [] = by (k.size == 1024)
     where
       by : (b : Bool) → cond b [] (names_in k.cells ++ []) ≡ []
@@ -91,62 +91,62 @@ module _ (k : Content) (empty : k.cells ≡ []) where
 
 -- ---- THE ACCOUNT
 
-last_large_same : (ks : List Content) (k : Content) (o : Option ℕ) → k.size ≡ 1024 → IsLastLarge ks o → IsLastLarge (ks ++ k ∷ []) o
+last_large_same : (ks : List ChunkValue) (k : ChunkValue) (o : Option ℕ) → k.size ≡ 1024 → IsLastLarge ks o → IsLastLarge (ks ++ k ∷ []) o
 last_large_same ks k None small l = tt
 last_large_same ks k (Some i) small l = λ j lt le. elim (cases_lt j (length ks)) [
-  | inl before ↦ ap (λ (z : Content). z.size) (chunk_at-front ks k j before) ∙ l j lt before
+  | inl before ↦ ap (λ (z : ChunkValue). z.size) (chunk_at-front ks k j before) ∙ l j lt before
   | inr after ↦
       let e : j ≡ length ks = omega (arith, le, after, longer ks k) in
-      ap (λ n. (chunk_at (ks ++ k ∷ []) n).size) e ∙ (ap (λ (z : Content). z.size) (chunk_at-last ks k) ∙ small)
+      ap (λ n. (chunk_at (ks ++ k ∷ []) n).size) e ∙ (ap (λ (z : ChunkValue). z.size) (chunk_at-last ks k) ∙ small)
 ]
 
-pub all_more : (P : Content → Type 0) (ks : List Content) (k : Content) → All P ks → P k → All P (ks ++ k ∷ [])
+pub all_more : (P : ChunkValue → Type 0) (ks : List ChunkValue) (k : ChunkValue) → All P ks → P k → All P (ks ++ k ∷ [])
 all_more P [] k a b zero d lt = b
 all_more P [] k a b (suc i) d lt = absurd (omega (arith, lt))
 all_more P (x ∷ xs) k a b zero d lt = a 0 d (omega arith)
 all_more P (x ∷ xs) k a b (suc i) d lt = all_more P xs k (λ j e l. a (suc j) e (omega (arith, l))) b i d (omega (arith, lt))
 
-room_same : (ks : List Content) (k : Content) (o : Option ℕ) → IsCurrent ks o → room_at (ks ++ k ∷ []) o ≡ room_at ks o
+room_same : (ks : List ChunkValue) (k : ChunkValue) (o : Option ℕ) → IsCurrent ks o → room_at (ks ++ k ∷ []) o ≡ room_at ks o
 room_same ks k None c = refl
-room_same ks k (Some i) c = ap (λ (z : Content). z.size - words_in z.cells) (chunk_at-front ks k i c.0)
+room_same ks k (Some i) c = ap (λ (z : ChunkValue). z.size - words_in z.cells) (chunk_at-front ks k i c.0)
 
-reserved_same : (ks : List Content) (k : Content) (o : Option ℕ) (u : ℕ) → IsReserved ks o → AreReserved ks o u → AreReserved (ks ++ k ∷ []) o u
+reserved_same : (ks : List ChunkValue) (k : ChunkValue) (o : Option ℕ) (u : ℕ) → IsReserved ks o → AreReserved ks o u → AreReserved (ks ++ k ∷ []) o u
 reserved_same ks k None u c r = r
-reserved_same ks k (Some i) u c r = ap (λ (z : Content). z.size) (chunk_at-front ks k i c.0) ∙ r
+reserved_same ks k (Some i) u c r = ap (λ (z : ChunkValue). z.size) (chunk_at-front ks k i c.0) ∙ r
 
-last_same : (ks : List Content) (k : Content) (o : Option ℕ) → (k.size ≡ 1024 → ⊥) → IsLastSmall ks o → IsLastSmall (ks ++ k ∷ []) o
+last_same : (ks : List ChunkValue) (k : ChunkValue) (o : Option ℕ) → (k.size ≡ 1024 → ⊥) → IsLastSmall ks o → IsLastSmall (ks ++ k ∷ []) o
 last_same ks k None big l = tt
 last_same ks k (Some i) big l = λ j lt le size. elim (cases_lt j (length ks)) [
-  | inl before ↦ l j lt before (sym (ap (λ (z : Content). z.size) (chunk_at-front ks k j before)) ∙ size)
+  | inl before ↦ l j lt before (sym (ap (λ (z : ChunkValue). z.size) (chunk_at-front ks k j before)) ∙ size)
   | inr after ↦
       let e : j ≡ length ks = omega (arith, le, after, longer ks k) in
-      big (sym (ap (λ (z : Content). z.size) (chunk_at-last ks k)) ∙ (ap (λ n. (chunk_at (ks ++ k ∷ []) n).size) (sym e) ∙ size))
+      big (sym (ap (λ (z : ChunkValue). z.size) (chunk_at-last ks k)) ∙ (ap (λ n. (chunk_at (ks ++ k ∷ []) n).size) (sym e) ∙ size))
 ]
 
 -- a small chunk, and a large one
-abbrev small_one : ℕ → Content
+abbrev small_one : ℕ → ChunkValue
 small_one number = record { number = number; size = 1024; cells = [] }
 
-abbrev pub chunk_with : ℕ → ℕ → Content
+abbrev pub chunk_with : ℕ → ℕ → ChunkValue
 chunk_with number u = record { number = number; size = 1024 * u; cells = [] }
 
-module _ (h : Heap) (l : Account) (S : IsShaped h) (C : IsCounted h l) (number slots spare : ℕ) where
+module _ (h : LeafHeapValue) (l : Account) (S : IsShaped h) (C : IsCounted h l) (number slots spare : ℕ) where
   small_counted : IsCounted (with_places (added h (small_one number)) slots spare) (record l { chunks = l.chunks ++ [] ∷ []; room = 1024 })
   small_counted = record {
     chunks = small_more (small_one number) refl h.chunks refl ∙ ap (λ xs. xs ++ [] ∷ []) C.chunks;
     large = large_same (small_one number) refl h.chunks ∙ C.large;
     last = λ j lt le size. omega (arith, lt, le, longer h.chunks (small_one number));
     last_large = last_large_same h.chunks (small_one number) h.reserved refl C.last_large;
-    room = ap (λ (z : Content). z.size - words_in z.cells) (chunk_at-last h.chunks (small_one number));
+    room = ap (λ (z : ChunkValue). z.size - words_in z.cells) (chunk_at-last h.chunks (small_one number));
     since = C.since;
     reserved = reserved_same h.chunks (small_one number) h.reserved l.reserved S.reserved C.reserved;
   }
 
   module _ (u : ℕ) (large : 2 ≤ u) where
-    abbrev k : Content
+    abbrev k : ChunkValue
     k = chunk_with number u
 
-    abbrev larger : Heap
+    abbrev larger : LeafHeapValue
     larger = record h { chunks = h.chunks ++ k ∷ []; reserved = Some (length h.chunks) }
 
     big : (k.size == 1024) ≡ false
@@ -156,14 +156,14 @@ module _ (h : Heap) (l : Account) (S : IsShaped h) (C : IsCounted h l) (number s
     larger_is = cond-false (k.size == 1024) (record h { chunks = h.chunks ++ k ∷ []; current = Some (length h.chunks) }) larger big
 
     large_counted : IsCounted (with_places (added h k) slots spare) (record l { reserved = u })
-    large_counted = subst (λ (z : Heap). IsCounted (with_places z slots spare) (record l { reserved = u })) (sym larger_is) (record {
+    large_counted = subst (λ (z : LeafHeapValue). IsCounted (with_places z slots spare) (record l { reserved = u })) (sym larger_is) (record {
       chunks = small_same k refl h.chunks big ∙ C.chunks;
       large = large_same k refl h.chunks ∙ C.large;
       last = last_same h.chunks k h.current (λ e. omega (arith, e, large)) C.last;
       last_large = λ j lt le. absurd (omega (arith, lt, le, longer h.chunks k));
       room = room_same h.chunks k h.current S.current ∙ C.room;
       since = C.since;
-      reserved = ap (λ (z : Content). z.size) (chunk_at-last h.chunks k);
+      reserved = ap (λ (z : ChunkValue). z.size) (chunk_at-last h.chunks k);
     })
 
   -- for the object that the next step needs it for

@@ -8,15 +8,15 @@ use Rattle.run_ledger.specs.Heaps.{heap_of}
 use Rattle.run_ledger.proofs.Holders.{tasks_are_held_once}
 use Rattle.object_layout.specs.declared.word.Birth.{Birth}
 use Rattle.object_layout.specs.Cell.{Born, IsBorn, Mark}
-use Rattle.object_layout.specs.Content.{Content}
-use Rattle.chunk_pool.specs.Chunks.{IsBlank}
-use Rattle.alloc_path.specs.Heap.{AreApart}
+use Rattle.object_layout.specs.ChunkValue.{ChunkValue}
+use Rattle.chunk_pool.specs.PoolValue.{IsBlank}
+use Rattle.alloc_path.specs.LeafHeapValue.{AreApart}
 use Rattle.leaf_copy_gc.specs.Laid.{AreNew}
-use Rattle.ledger_steps.specs.Accounts.{Rests}
-use Rattle.ledger_steps.specs.Last.{IdleRest}
-use Rattle.core_relation.specs.Value.{In}
-use Rattle.shared_value.specs.World.{World, accounts}
-use Rattle.shared_value.specs.Stands.{IsWorld}
+use Rattle.ledger_step_laws.specs.Accounts.{Rests}
+use Rattle.ledger_step_laws.specs.Last.{IdleRest}
+use Rattle.core_relation.specs.Memory.{In}
+use Rattle.shared_value.specs.SharedValue.{SharedValue, accounts}
+use Rattle.shared_value.specs.Stands.{IsSharedValue}
 use Rattle.shared_value.specs.LeafBegin.{number_of}
 use Rattle.shared_value.proofs.CellsRead.{fresh_off}
 
@@ -33,11 +33,11 @@ each_at P (y ∷ ys) f zero d lt = f y (inl refl)
 each_at P (y ∷ ys) f (suc i) d lt = each_at P ys (λ x j. f x (inr j)) i d (omega (arith, lt))
 
 -- chunks that are apart have distinct numbers
-numbers_off : (n : ℕ) (xs : List Content) → ((c : Content) → In xs c → c.number ≡ n → ⊥) → AllByRecursion (λ y. (n == y) ≡ false) (map number_of xs)
+numbers_off : (n : ℕ) (xs : List ChunkValue) → ((c : ChunkValue) → In xs c → c.number ≡ n → ⊥) → AllByRecursion (λ y. (n == y) ≡ false) (map number_of xs)
 numbers_off n [] f = tt
 numbers_off n (x ∷ xs) f = (ne_eqb n x.number (λ e. f x (inl refl) (sym e)), numbers_off n xs (λ c i. f c (inr i)))
 
-pub distinct_numbers : (ks : List Content) → AreApart ks → IsDistinct (λ j k. j == k) (map number_of ks)
+pub distinct_numbers : (ks : List ChunkValue) → AreApart ks → IsDistinct (λ j k. j == k) (map number_of ks)
 unfolding IsDistinct
 distinct_numbers [] a = tt
 distinct_numbers (k ∷ ks) a = (numbers_off k.number ks (λ c i e. fresh_off ks c k.number a.0 i e), distinct_numbers ks a.1)
@@ -46,7 +46,7 @@ pub length_map : {A B : Type 0} (f : A → B) (xs : List A) → length (map f xs
 length_map f [] = refl
 length_map f (x ∷ xs) = ap suc (length_map f xs)
 
-pub new_of : (xs : List Content) → All IsBlank xs → AreNew xs
+pub new_of : (xs : List ChunkValue) → All IsBlank xs → AreNew xs
 new_of [] a = tt
 new_of (x ∷ xs) a = let z : IsBlank x = a 0 x (omega arith) in ((z.cells, z.size), new_of xs (λ i d lt. a (suc i) d (omega (arith, lt))))
 
@@ -57,7 +57,7 @@ born_is m b q = subst IsBorn (sym q) tt
 idle_by : (o : Option Task) → is_running o ≡ false → is_running o ≡ true → ⊥
 idle_by o a b = false≢true (sym a ∙ b)
 
-pub idle_rest : (w : World) → IsWorld w → (accounts w).end ≡ None → IdleRest (accounts w)
+pub idle_rest : (w : SharedValue) → IsSharedValue w → (accounts w).end ≡ None → IdleRest (accounts w)
 idle_rest w I on u stops = by (heap_of (accounts w) u).worker refl
   where
     by : (o : Option ℕ) → (heap_of (accounts w) u).worker ≡ o → Rests (accounts w) u

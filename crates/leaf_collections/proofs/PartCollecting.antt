@@ -1,31 +1,31 @@
 -- The part once its leaf collection has begun.
 use Rattle.std.proofs.Common.{◌≡◌, ℕ, true, false, Option, Some, None, List, [], length, map, slice_get, is_some, ◌⊎◌, inl, inr, refl, ap, ap₂, sym, subst, ◌∙◌}
 use Rattle.std.proofs.lemmas.Bool.{cases_eq}
-use Rattle.listed.specs.Space.{Space}
+use Rattle.listed.specs.RoomyValue.{RoomyValue}
 use Rattle.hh_model.specs.declared.data.State.{State}
 use Rattle.hh_model.specs.Effect.{row_of}
 use Rattle.hh_model.specs.Step.{is_joined, is_waiting}
 use Rattle.run_trace.specs.declared.entry.Kind.TheVariants.{Begin}
-use Rattle.run_trace.specs.Entry.{Event}
+use Rattle.run_trace.specs.Entry.{EntryValue}
 use Rattle.run_ledger.specs.declared.data.Heap.{Heap as Account}
 use Rattle.run_ledger.specs.declared.data.Ledger.{Ledger}
 use Rattle.run_ledger.specs.Heaps.{heap_of, let_go, or_fresh, take_of, with_heap, within}
 use Rattle.object_layout.specs.Chunks.{place_in, small_words}
-use Rattle.object_layout.specs.Content.{Content}
+use Rattle.object_layout.specs.ChunkValue.{ChunkValue}
 use Rattle.object_layout.specs.Objects.{Located}
-use Rattle.chunk_pool.specs.Chunks.{Chunks, TakesAll}
-use Rattle.alloc_path.specs.Heap.{Heap, IsFresh, with_places}
-use Rattle.ledger_steps.specs.Accounts.{Rests, rested}
-use Rattle.ledger_steps.proofs.Ahead.{heap_then, with_at, with_machine, with_off}
-use Rattle.ledger_steps.proofs.Entries.{within_rested}
-use Rattle.ledger_steps.proofs.Known.{legal_knows}
-use Rattle.ledger_steps.proofs.Rested.{rested_sound, rested_view, rested_worker}
-use Rattle.ledger_steps.proofs.Wrote.{waits_rest}
+use Rattle.chunk_pool.specs.PoolValue.{PoolValue, TakesAll}
+use Rattle.alloc_path.specs.LeafHeapValue.{LeafHeapValue, IsFresh, with_places}
+use Rattle.ledger_step_laws.specs.Accounts.{Rests, rested}
+use Rattle.ledger_step_laws.proofs.Ahead.{heap_then, with_at, with_machine, with_off}
+use Rattle.ledger_step_laws.proofs.Entries.{within_rested}
+use Rattle.ledger_step_laws.proofs.Known.{legal_knows}
+use Rattle.ledger_step_laws.proofs.Rested.{rested_sound, rested_view, rested_worker}
+use Rattle.ledger_step_laws.proofs.Wrote.{waits_rest}
 use Rattle.core_relation.specs.Changes.{SameObjects}
 use Rattle.core_relation.specs.Fits.{with_home}
 use Rattle.core_relation.specs.Layout.{AreLaidOut}
 use Rattle.core_relation.specs.Stands.{HasNames, HomeStands}
-use Rattle.core_relation.specs.Value.{Chunk, Home, In, Value, objects, objects_in}
+use Rattle.core_relation.specs.Memory.{Chunk, Home, In, Memory, objects, objects_in}
 use Rattle.core_relation.specs.Whole.{BegunStands, Begins}
 use Rattle.core_relation.proofs.changes.Alone.{home_kept}
 use Rattle.core_relation.proofs.notes.Begun.{begins}
@@ -34,9 +34,9 @@ use Rattle.core_relation.proofs.changes.With.{at_home, off_home}
 use Rattle.task_machine.specs.declared.part.Begun.{Begun}
 use Rattle.task_machine.specs.declared.part.Private.{Private}
 use Rattle.shared_value.specs.Objects.{chunk_of}
-use Rattle.shared_value.specs.World.{World, accounts, value_of}
+use Rattle.shared_value.specs.SharedValue.{SharedValue, accounts, value_of}
 use Rattle.shared_value.specs.Measured.{IsMeasured}
-use Rattle.shared_value.specs.Stands.{IsWorld}
+use Rattle.shared_value.specs.Stands.{IsSharedValue}
 use Rattle.shared_value.specs.Fits.{Fits, home_of_part}
 use Rattle.shared_value.specs.Due.{take_by}
 use Rattle.shared_value.specs.Entered.{refused}
@@ -56,20 +56,20 @@ use Rattle.leaf_collections.proofs.WhyNoCollection.{begin_idle}
 use Rattle.leaf_collections.proofs.CollectionBegins as first
 use Rattle.leaf_collections.proofs.NewChunks.{distinct_numbers, idle_rest, length_map}
 
-module _ (w : World) (k : ℕ) (p : Private) (I : IsWorld w) (F : Fits w k (record p { fresh = 0 })) (free : refused w (record { worker = k; kind = Begin p.task }) ≡ None) where
+module _ (w : SharedValue) (k : ℕ) (p : Private) (I : IsSharedValue w) (F : Fits w k (record p { fresh = 0 })) (free : refused w (record { worker = k; kind = Begin p.task }) ≡ None) where
   abbrev P : Private
   P = record p { fresh = 0 }
 
   abbrev t : ℕ
   t = p.task
 
-  abbrev e : Event
+  abbrev e : EntryValue
   e = record { worker = k; kind = Begin p.task }
 
   abbrev l : Ledger
   l = accounts w
 
-  abbrev v : Value
+  abbrev v : Memory
   v = value_of w
 
   abbrev begun_with : Account → Account
@@ -93,24 +93,24 @@ module _ (w : World) (k : ℕ) (p : Private) (I : IsWorld w) (F : Fits w k (reco
   same_machine : L.machine ≡ l.machine
   same_machine = first.same_machine w k p I F free
 
-  module _ (pool : Chunks) (news : List Content) (slots spare : ℕ) (T : TakesAll w.pool pool p.task (take_by (small_words p.heap.chunks)) [] news) (j : Space Event) where
-    abbrev ks : List Content
+  module _ (pool : PoolValue) (news : List ChunkValue) (slots spare : ℕ) (T : TakesAll w.pool pool p.task (take_by (small_words p.heap.chunks)) [] news) (j : RoomyValue EntryValue) where
+    abbrev ks : List ChunkValue
     ks = T.numbers.chunks
 
     -- the collection
     abbrev b : Begun
     b = record { roots = roots_of w p; news = map number_of ks }
 
-    abbrev g : Heap
+    abbrev g : LeafHeapValue
     g = with_places p.heap slots spare
 
     abbrev Q : Private
     Q = record P { heap = g; begun = Some b }
 
-    abbrev w' : World
+    abbrev w' : SharedValue
     w' = entered w e w.tree pool w.homes w.sets w.hands w.outputs w.steps w.end j.room
 
-    abbrev v' : Value
+    abbrev v' : Memory
     v' = value_of w'
 
     owner_kept : (c u : ℕ) → v.owner c ≡ Some u → v'.owner c ≡ Some u
@@ -119,13 +119,13 @@ module _ (w : World) (k : ℕ) (p : Private) (I : IsWorld w) (F : Fits w k (reco
     owner_taken : (c u : ℕ) → v'.owner c ≡ Some u → (v.owner c ≡ Some u) ⊎ ((is_waiting (slice_get l.machine.tasks u) ≡ false) × (is_some (slice_get l.machine.tasks u) ≡ true))
     owner_taken = first.owner_taken w k p I F free pool news slots spare T j
 
-    were_free : (c : Content) → In ks c → v.owner c.number ≡ None
+    were_free : (c : ChunkValue) → In ks c → v.owner c.number ≡ None
     were_free = first.were_free w k p I F free pool news slots spare T j
 
-    abbrev before : Value
+    abbrev before : Memory
     before = with_home v t (home_of_part P)
 
-    abbrev after_ : Value
+    abbrev after_ : Memory
     after_ = with_home v' t (home_of_part Q)
 
     here : before.homes t ≡ home_of_part P
@@ -227,7 +227,7 @@ module _ (w : World) (k : ℕ) (p : Private) (I : IsWorld w) (F : Fits w k (reco
         ]
 
     -- THE COLLECTION
-    new_is : (n : ℕ) → In (map number_of ks) n → (c : Content) × In ks c × (c.number ≡ n)
+    new_is : (n : ℕ) → In (map number_of ks) n → (c : ChunkValue) × In ks c × (c.number ≡ n)
     new_is n i = map_in number_of ks n i
 
     -- no new chunk is one of the heap's
@@ -259,7 +259,7 @@ module _ (w : World) (k : ℕ) (p : Private) (I : IsWorld w) (F : Fits w k (reco
     begin_part = quiet_own w e I free tt (λ u m. m) pool w.end j.room (first.same w k p I F free pool news slots spare T j) (first.notes w k p I F free pool news slots spare T j) (first.counts w k p I F free pool news slots spare T j) T.limit (first.units_stay w k p I F free pool news slots spare T j) k p g (Some b) F (places_form p.heap slots spare F.form) measured_then part_same begun_stands
 
     -- no new chunk's number is one of the heap's
-    pub new_fresh : (c : Content) → In ks c → IsFresh p.heap.chunks c.number
+    pub new_fresh : (c : ChunkValue) → In ks c → IsFresh p.heap.chunks c.number
     new_fresh c i = by (place_in p.heap.chunks c.number) refl
       where
         by : (o : Option ℕ) → place_in p.heap.chunks c.number ≡ o → IsFresh p.heap.chunks c.number

@@ -2,7 +2,7 @@
 use Rattle.std.proofs.Common.{◌≡◌, ℕ, true, false, Option, Some, None, is_none, is_some, nat_le, refl, ap, ap₂, sym, ◌∙◌}
 use Rattle.hh_model.specs.Step.{asked}
 use Rattle.run_trace.specs.declared.entry.Kind.TheVariants.{Chunk}
-use Rattle.run_trace.specs.Entry.{Event}
+use Rattle.run_trace.specs.Entry.{EntryValue}
 use Rattle.run_ledger.specs.declared.data.Heap.{Heap}
 use Rattle.run_ledger.specs.declared.data.Ledger.{Ledger}
 use Rattle.run_ledger.specs.declared.data.Refused.{Refused}
@@ -10,11 +10,11 @@ use Rattle.run_ledger.specs.declared.data.Refused.TheVariants.{Collecting, Due, 
 use Rattle.run_ledger.specs.Heaps.{heap_of, lacks_room}
 use Rattle.run_ledger.specs.Steps.{is_due, is_in_need, on_asked}
 use Rattle.run_ledger.specs.Entries.{is_fuel, kind_refusal, on_running, refused_if, refused_unless}
-use Rattle.alloc_path.specs.Heap.{place_for, room_of}
+use Rattle.alloc_path.specs.LeafHeapValue.{place_for, room_of}
 use Rattle.task_machine.specs.declared.part.Private.{Private}
 use Rattle.task_machine.proofs.Counted.{lacks_same}
-use Rattle.shared_value.specs.World.{World, accounts}
-use Rattle.shared_value.specs.Stands.{IsWorld}
+use Rattle.shared_value.specs.SharedValue.{SharedValue, accounts}
+use Rattle.shared_value.specs.Stands.{IsSharedValue}
 use Rattle.shared_value.specs.Fits.{Fits}
 use Rattle.shared_value.specs.Next.{next_line, part_asks}
 use Rattle.shared_value.specs.Causes.{chunk_cause, first_cause, need_cause, or_else}
@@ -27,7 +27,7 @@ unless_none : {A : Type 0} (o : Option A) (c : Refused) → refused_unless (is_n
 unless_none None c = refl
 unless_none (Some x) c = refl
 
-module _ (w : World) (k : ℕ) (p : Private) (I : IsWorld w) (F : Fits w k (record p { fresh = 0 })) (on : (accounts w).end ≡ None) where
+module _ (w : SharedValue) (k : ℕ) (p : Private) (I : IsSharedValue w) (F : Fits w k (record p { fresh = 0 })) (on : (accounts w).end ≡ None) where
   abbrev P : Private
   P = record p { fresh = 0 }
 
@@ -71,7 +71,7 @@ nothing : (o : Option Refused) → is_some o ≡ false → o ≡ None
 nothing None h = refl
 nothing (Some c) h = absurd cc
 
-pub chunk_answer : (w : World) (k : ℕ) (p : Private) → IsWorld w → Fits w k (record p { fresh = 0 }) → is_some (first_cause w.end w.steps w.settings k false) ≡ false
+pub chunk_answer : (w : SharedValue) (k : ℕ) (p : Private) → IsSharedValue w → Fits w k (record p { fresh = 0 }) → is_some (first_cause w.end w.steps w.settings k false) ≡ false
     → refused w (record { worker = k; kind = Chunk p.task }) ≡ chunk_cause p (part_asks w.program p)
 chunk_answer w k p I F h =
     refused_is w I (record { worker = k; kind = Chunk p.task })
@@ -82,5 +82,5 @@ some_first : (a rest : Option Refused) → is_some a ≡ true → or_else a rest
 some_first None rest h = absurd cc
 some_first (Some c) rest h = refl
 
-pub first_answer : (w : World) → IsWorld w → (e : Event) → is_some (first_cause w.end w.steps w.settings e.worker (is_fuel e.kind)) ≡ true → refused w e ≡ first_cause w.end w.steps w.settings e.worker (is_fuel e.kind)
+pub first_answer : (w : SharedValue) → IsSharedValue w → (e : EntryValue) → is_some (first_cause w.end w.steps w.settings e.worker (is_fuel e.kind)) ≡ true → refused w e ≡ first_cause w.end w.steps w.settings e.worker (is_fuel e.kind)
 first_answer w I e h = refused_is w I e ∙ some_first (first_cause w.end w.steps w.settings e.worker (is_fuel e.kind)) (kind_refusal w.program w.settings (accounts w) e.worker e.kind) h

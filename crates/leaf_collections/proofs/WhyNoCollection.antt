@@ -2,7 +2,7 @@
 use Rattle.std.proofs.Common.{◌≡◌, ℕ, ◌+◌, ◌≤◌, arith, Bool, true, false, Option, Some, None, is_none, is_some, refl, ap, sym, ◌∙◌}
 use Rattle.std.proofs.lemmas.Bool.{false≢true, leb-true}
 use Rattle.run_trace.specs.declared.entry.Kind.TheVariants.{Begin}
-use Rattle.run_trace.specs.Entry.{Event}
+use Rattle.run_trace.specs.Entry.{EntryValue}
 use Rattle.run_ledger.specs.declared.data.Ledger.{Ledger}
 use Rattle.run_ledger.specs.declared.data.Refused.{Refused}
 use Rattle.run_ledger.specs.declared.data.Refused.TheVariants.{PoolShort}
@@ -10,10 +10,10 @@ use Rattle.run_ledger.specs.Heaps.{heap_of, in_use, take_of}
 use Rattle.run_ledger.specs.Entries.{is_pool_enough, kind_refusal, on_due, refused_if, refused_unless}
 use Rattle.run_ledger.proofs.Journals.{entry_tells}
 use Rattle.object_layout.specs.Chunks.{small_words}
-use Rattle.chunk_pool.specs.Chunks.{units_in_use}
+use Rattle.chunk_pool.specs.PoolValue.{units_in_use}
 use Rattle.task_machine.specs.declared.part.Private.{Private}
-use Rattle.shared_value.specs.World.{World, accounts}
-use Rattle.shared_value.specs.Stands.{IsWorld}
+use Rattle.shared_value.specs.SharedValue.{SharedValue, accounts}
+use Rattle.shared_value.specs.Stands.{IsSharedValue}
 use Rattle.shared_value.specs.Fits.{Fits}
 use Rattle.shared_value.specs.Causes.{first_cause, or_else}
 use Rattle.shared_value.specs.Due.{due_cause, take_by}
@@ -33,7 +33,7 @@ nothing None h = refl
 nothing (Some c) h = absurd cc
 
 -- where nothing comes before what it says
-pub begin_answer : (w : World) (k : ℕ) (p : Private) → IsWorld w → Fits w k (record p { fresh = 0 }) → is_some (first_cause w.end w.steps w.settings k false) ≡ false
+pub begin_answer : (w : SharedValue) (k : ℕ) (p : Private) → IsSharedValue w → Fits w k (record p { fresh = 0 }) → is_some (first_cause w.end w.steps w.settings k false) ≡ false
     → refused w (record { worker = k; kind = Begin p.task }) ≡ or_else (due_cause p (part_asks w.program p)) (refused_unless (is_pool_enough w.settings (accounts w) p.task) (PoolShort (units_in_use w.pool)) None)
 begin_answer w k p I F h =
     refused_is w I (record { worker = k; kind = Begin p.task })
@@ -43,14 +43,14 @@ begin_answer w k p I F h =
 
 -- WHERE NOTHING REFUSES IT
 
-module _ (w : World) (k : ℕ) (p : Private) (I : IsWorld w) (F : Fits w k (record p { fresh = 0 })) (free : refused w (record { worker = k; kind = Begin p.task }) ≡ None) where
+module _ (w : SharedValue) (k : ℕ) (p : Private) (I : IsSharedValue w) (F : Fits w k (record p { fresh = 0 })) (free : refused w (record { worker = k; kind = Begin p.task }) ≡ None) where
   abbrev P : Private
   P = record p { fresh = 0 }
 
   abbrev t : ℕ
   t = p.task
 
-  abbrev e : Event
+  abbrev e : EntryValue
   e = record { worker = k; kind = Begin p.task }
 
   abbrev l : Ledger

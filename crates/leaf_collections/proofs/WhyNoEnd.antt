@@ -11,8 +11,8 @@ use Rattle.run_ledger.specs.Heaps.{end_numbers, heap_of}
 use Rattle.run_ledger.proofs.Holders.{tasks_are_held_once}
 use Rattle.leaf_copy_gc.specs.declared.lists.Moved.{Moved}
 use Rattle.task_machine.specs.declared.part.Private.{Private}
-use Rattle.shared_value.specs.World.{World, accounts}
-use Rattle.shared_value.specs.Stands.{IsWorld}
+use Rattle.shared_value.specs.SharedValue.{SharedValue, accounts}
+use Rattle.shared_value.specs.Stands.{IsSharedValue}
 use Rattle.shared_value.specs.Causes.{first_cause, or_else}
 use Rattle.shared_value.specs.Entered.{refused}
 use Rattle.shared_value.proofs.CausesTold.{on_is, refused_is}
@@ -29,7 +29,7 @@ said_so n m q =
     unless_true (n == n) (Count n n) (counted m m (counted q q None)) (eq-eqb n n refl)
     ∙ (unless_true (m == m) (Count m m) (counted q q None) (eq-eqb m m refl) ∙ unless_true (q == q) (Count q q) None (eq-eqb q q refl))
 
-pub end_answer : (w : World) (k : ℕ) (p : Private) (moved : Moved) → IsWorld w → FitsCopied w k p moved → refused w (end_event k p moved) ≡ first_cause w.end w.steps w.settings k false
+pub end_answer : (w : SharedValue) (k : ℕ) (p : Private) (moved : Moved) → IsSharedValue w → FitsCopied w k p moved → refused w (end_event k p moved) ≡ first_cause w.end w.steps w.settings k false
 end_answer w k p moved I F = by (is_some (first_cause w.end w.steps w.settings k false)) refl
   where
     l : Ledger

@@ -7,8 +7,8 @@ use Rattle.run_ledger.specs.Heaps.{heap_of}
 use Rattle.run_ledger.specs.Steps.{is_due, on_asked}
 use Rattle.run_ledger.specs.Entries.{on_due, on_running, refused_if, refused_unless}
 use Rattle.task_machine.specs.declared.part.Private.{Private}
-use Rattle.shared_value.specs.World.{World, accounts}
-use Rattle.shared_value.specs.Stands.{IsWorld}
+use Rattle.shared_value.specs.SharedValue.{SharedValue, accounts}
+use Rattle.shared_value.specs.Stands.{IsSharedValue}
 use Rattle.shared_value.specs.Fits.{Fits}
 use Rattle.shared_value.specs.Next.{part_asks}
 use Rattle.shared_value.specs.Causes.{or_else}
@@ -21,7 +21,7 @@ in_turn true b x y rest = refl
 in_turn false true x y rest = refl
 in_turn false false x y rest = refl
 
-module _ (w : World) (k : ℕ) (p : Private) (I : IsWorld w) (F : Fits w k (record p { fresh = 0 })) (on : (accounts w).end ≡ None) where
+module _ (w : SharedValue) (k : ℕ) (p : Private) (I : IsSharedValue w) (F : Fits w k (record p { fresh = 0 })) (on : (accounts w).end ≡ None) where
   abbrev P : Private
   P = record p { fresh = 0 }
 

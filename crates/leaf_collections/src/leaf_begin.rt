@@ -1,8 +1,8 @@
 // What a leaf collection needs as it begins.
 
 ghost use Rattle.std.specs.Prelude.{◌≡◌, ◌+◌, ◌<◌, ◌≤◌, ◌^◌, [], ◌++◌, IfOk, None, OnErr, Some, length, map, vec_len};
-ghost use Rattle.chunk_pool.specs.Chunks.{units_in_use, TakesAll};
-ghost use Rattle.alloc_path.specs.Heap.{with_places};
+ghost use Rattle.chunk_pool.specs.PoolValue.{units_in_use, TakesAll};
+ghost use Rattle.alloc_path.specs.LeafHeapValue.{with_places};
 ghost use Rattle.leaf_copy_gc.specs.Lists.{AreReserved};
 ghost use Rattle.shared_value.specs.LeafBegin.{number_of};
 

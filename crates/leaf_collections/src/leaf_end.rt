@@ -1,8 +1,8 @@
 // What the end of a leaf collection does to the heaps of other tasks and to the pool.
 
 ghost use Rattle.std.specs.Prelude.{◌≡◌, ◌<◌, All, IsSome, fold, slice_get};
-ghost use Rattle.chunk_pool.specs.Chunks.{held_at};
-ghost use Rattle.alloc_path.specs.Heap.{AreApart};
+ghost use Rattle.chunk_pool.specs.PoolValue.{held_at};
+ghost use Rattle.alloc_path.specs.LeafHeapValue.{AreApart};
 ghost use Rattle.remembered_set.specs.Moved.{redirected, AreFields, AreInOrder, ArePlaces};
 ghost use Rattle.remembered_set.specs.Sources.{StandOnce};
 ghost use Rattle.inner_mark_gc.specs.Swept.{AreGiven};

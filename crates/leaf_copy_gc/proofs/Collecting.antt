@@ -2,10 +2,10 @@
 use Rattle.std.proofs.Common.{◌≡◌, ℕ, ◌+◌, ◌<◌, List, [], ◌∷◌, ◌++◌, length, map, filter, fold, refl, sym, ap, ◌∙◌, subst, arith, Option, Some, None}
 use Rattle.std.specs.Prelude.{reverse}
 use Rattle.std.proofs.lemmas.List.{length-map, reverse-reverse}
-use Rattle.object_layout.specs.Content.{Content}
+use Rattle.object_layout.specs.ChunkValue.{ChunkValue}
 use Rattle.object_layout.specs.Chunks.{chunk_at}
 use Rattle.object_layout.proofs.Distinct.{Once}
-use Rattle.alloc_path.specs.Heap.{AreApart, AreTidy, Heap, IsReserved, IsCurrent, IsSettled, exchanged, with_places}
+use Rattle.alloc_path.specs.LeafHeapValue.{AreApart, AreTidy, LeafHeapValue, IsReserved, IsCurrent, IsSettled, exchanged, with_places}
 use Rattle.listed.proofs.Members.{In, in_append_left}
 use Rattle.leaf_copy_gc.specs.declared.lists.Survivor.{Survivor}
 use Rattle.leaf_copy_gc.specs.Survivors.{olds, with_chunks, HaveNames}
@@ -20,11 +20,11 @@ use Rattle.leaf_copy_gc.proofs.Rebuilt.{marked_chunk, NoneThere}
 use Rattle.leaf_copy_gc.proofs.Naming as naming
 use Rattle.leaf_copy_gc.proofs.Tidied as tidied
 
-no_items : (ks : List Content) → length ks ≡ 0 → ks ≡ []
+no_items : (ks : List ChunkValue) → length ks ≡ 0 → ks ≡ []
 no_items [] e = refl
 no_items (k ∷ ks) e = absurd (omega arith)
 
-module _ (h g : List Content) (ss : List Survivor) (news : List Content) (r : Option ℕ) (laid : List Content)
+module _ (h g : List ChunkValue) (ss : List Survivor) (news : List ChunkValue) (r : Option ℕ) (laid : List ChunkValue)
     (left : IsLeft h g (olds ss) (redirection h ss (reverse news))) (tidy : AreTidy h) (apart : AreApart (h ++ news)) (new : AreNew news)
     (once : Once (olds ss)) (names : HaveNames h ss) (reserved : IsReserved g r)
     (is : laid ≡ map (led_chunk (redirection h ss (reverse news))) (laying_of h ss (reverse news)).laid) where
@@ -64,7 +64,7 @@ module _ (h g : List Content) (ss : List Survivor) (news : List Content) (r : Op
 
   none_before : (o : Option ℕ) → reserved_of g o ≡ reserved_of h o → NoneThere g o → NoneThere h o
   none_before None e n = tt
-  none_before (Some i) e n = let same : chunk_at g i ≡ chunk_at h i = cc in ap (λ (k : Content). k.cells) (sym same) ∙ n
+  none_before (Some i) e n = let same : chunk_at g i ≡ chunk_at h i = cc in ap (λ (k : ChunkValue). k.cells) (sym same) ∙ n
 
   pairs : rebuilt.ArePairs ss (redirection h ss (reverse news)) (unreserved h r) (unreserved g r)
   pairs = rebuilt.pairs_unreserved ss (redirection h ss (reverse news)) h g r
@@ -77,30 +77,30 @@ module _ (h g : List Content) (ss : List Survivor) (news : List Content) (r : Op
   go_is = rebuilt.go_same ss (redirection h ss (reverse news)) (unreserved h r) (unreserved g r) pairs
 
   now_is : laid ++ (filter stays (unreserved g r) ++ reserved_of g r) ≡ naming.Now h ss (redirection h ss (reverse news)) r laid tidy once_h once names laid_apart laid_once (within_at r reserved) (none_before r reserved_is (none_at r reserved))
-  now_is = ap (λ (xs : List Content). laid ++ (xs ++ reserved_of g r)) stay_is ∙ ap (λ (xs : List Content). laid ++ (map (marked_chunk ss (redirection h ss (reverse news))) (filter (keeps ss) (unreserved h r)) ++ xs)) reserved_is
+  now_is = ap (λ (xs : List ChunkValue). laid ++ (xs ++ reserved_of g r)) stay_is ∙ ap (λ (xs : List ChunkValue). laid ++ (map (marked_chunk ss (redirection h ss (reverse news))) (filter (keeps ss) (unreserved h r)) ++ xs)) reserved_is
 
   pub now_apart : AreApart (laid ++ (filter stays (unreserved g r) ++ reserved_of g r))
   now_apart = subst AreApart (sym now_is) (nums.distinct_apart _ (naming.now_once h ss (redirection h ss (reverse news)) r laid tidy once_h once names laid_apart laid_once (within_at r reserved) (none_before r reserved_is (none_at r reserved))))
 
   pub can_name : CanName (laid ++ (filter stays (unreserved g r) ++ reserved_of g r)) ss
-  can_name = subst (λ (ks : List Content). CanName ks ss) (sym now_is) (naming.ready h ss (redirection h ss (reverse news)) r laid tidy once_h once names laid_apart laid_once (within_at r reserved) (none_before r reserved_is (none_at r reserved)))
+  can_name = subst (λ (ks : List ChunkValue). CanName ks ss) (sym now_is) (naming.ready h ss (redirection h ss (reverse news)) r laid tidy once_h once names laid_apart laid_once (within_at r reserved) (none_before r reserved_is (none_at r reserved)))
 
   pub named_is : fold named (laid ++ (filter stays (unreserved g r) ++ reserved_of g r)) ss ≡ laid ++ (map (led_chunk (redirection h ss (reverse news))) (filter (keeps ss) (unreserved h r)) ++ reserved_of h r)
-  named_is = ap (λ (ks : List Content). fold named ks ss) now_is ∙ naming.same h ss (redirection h ss (reverse news)) r laid tidy once_h once names laid_apart laid_once (within_at r reserved) (none_before r reserved_is (none_at r reserved))
+  named_is = ap (λ (ks : List ChunkValue). fold named ks ss) now_is ∙ naming.same h ss (redirection h ss (reverse news)) r laid tidy once_h once names laid_apart laid_once (within_at r reserved) (none_before r reserved_is (none_at r reserved))
 
   pub small_last : IsCurrent laid (last_place laid)
   small_last = nums.current_last laid (subst nums.AreSmall (sym is) (nums.small_of_map (led_chunk (redirection h ss (reverse news))) (λ k. refl) (laying_of h ss (reverse news)).laid (nums.laid_small (before (reverse news)) h (smalls h (olds ss)) tt (nums.new_reverse news new))))
 
   pub kept_count : length (filter stays (unreserved g r)) ≡ length (map (led_chunk (redirection h ss (reverse news))) (filter (keeps ss) (unreserved h r)))
   kept_count =
-      ap (λ (xs : List Content). length xs) stay_is
+      ap (λ (xs : List ChunkValue). length xs) stay_is
       ∙ (length-map (filter (keeps ss) (unreserved h r)) (marked_chunk ss (redirection h ss (reverse news))) ∙ sym (length-map (filter (keeps ss) (unreserved h r)) (led_chunk (redirection h ss (reverse news)))))
 
   -- where no chunk stays, nothing is named
   pub none_named : filter stays (unreserved g r) ≡ [] → fold named (laid ++ (filter stays (unreserved g r) ++ reserved_of g r)) ss ≡ laid ++ (filter stays (unreserved g r) ++ reserved_of g r)
   none_named e =
-      let none : map (led_chunk (redirection h ss (reverse news))) (filter (keeps ss) (unreserved h r)) ≡ [] = no_items _ (sym kept_count ∙ ap (λ (xs : List Content). length xs) e) in
-      named_is ∙ (ap (λ (xs : List Content). laid ++ (xs ++ reserved_of h r)) (none ∙ sym e) ∙ ap (λ (xs : List Content). laid ++ (filter stays (unreserved g r) ++ xs)) (sym reserved_is))
+      let none : map (led_chunk (redirection h ss (reverse news))) (filter (keeps ss) (unreserved h r)) ≡ [] = no_items _ (sym kept_count ∙ ap (λ (xs : List ChunkValue). length xs) e) in
+      named_is ∙ (ap (λ (xs : List ChunkValue). laid ++ (xs ++ reserved_of h r)) (none ∙ sym e) ∙ ap (λ (xs : List ChunkValue). laid ++ (filter stays (unreserved g r) ++ xs)) (sym reserved_is))
 
   pub settled : IsSettled (laid ++ (map (led_chunk (redirection h ss (reverse news))) (filter (keeps ss) (unreserved h r)) ++ reserved_of h r))
   settled = record {
@@ -108,13 +108,13 @@ module _ (h g : List Content) (ss : List Survivor) (news : List Content) (r : Op
     apart = nums.distinct_apart _ (naming.goal_once h ss (redirection h ss (reverse news)) r laid tidy once_h once names laid_apart laid_once (within_at r reserved) (none_before r reserved_is (none_at r reserved)));
   }
 
-  pub settled_now : (E M N : Heap) → E.chunks ≡ laid ++ (filter stays (unreserved g r) ++ reserved_of g r) → M ≡ with_chunks E (fold named E.chunks ss) → N ≡ record M { since = 0 } → IsSettled N.chunks
-  settled_now E M N e m n = subst IsSettled (sym (ap (λ (x : Heap). x.chunks) n ∙ (ap (λ (x : Heap). x.chunks) m ∙ (ap (λ (ks : List Content). fold named ks ss) e ∙ named_is)))) settled
+  pub settled_now : (E M N : LeafHeapValue) → E.chunks ≡ laid ++ (filter stays (unreserved g r) ++ reserved_of g r) → M ≡ with_chunks E (fold named E.chunks ss) → N ≡ record M { since = 0 } → IsSettled N.chunks
+  settled_now E M N e m n = subst IsSettled (sym (ap (λ (x : LeafHeapValue). x.chunks) n ∙ (ap (λ (x : LeafHeapValue). x.chunks) m ∙ (ap (λ (ks : List ChunkValue). fold named ks ss) e ∙ named_is)))) settled
 
   -- ---- the heap, field by field
 
-  module _ (H : Heap) (r_is : r ≡ H.reserved) where
-    pub heap_is : H.chunks ≡ h → (E M N : Heap) (G : Heap)
+  module _ (H : LeafHeapValue) (r_is : r ≡ H.reserved) where
+    pub heap_is : H.chunks ≡ h → (E M N : LeafHeapValue) (G : LeafHeapValue)
         → E ≡ with_places (exchanged G (laid ++ (filter stays (unreserved g r) ++ reserved_of g r)) (last_place laid) (reserved_place (length laid + length (filter stays (unreserved g r))) r)) E.slots E.spare
         → M ≡ with_chunks E (fold named E.chunks ss) → N ≡ record M { since = 0 }
         → N ≡ with_places (record H {
@@ -124,20 +124,20 @@ module _ (h g : List Content) (ss : List Survivor) (news : List Content) (r : Op
           since = 0;
         }) N.slots N.spare
     heap_is h_is E M N G e m n =
-        let chunks = ap (λ (x : Heap). x.chunks) n ∙ (ap (λ (x : Heap). x.chunks) m ∙ (ap (λ (x : Heap). fold named x.chunks ss) e ∙ (named_is
+        let chunks = ap (λ (x : LeafHeapValue). x.chunks) n ∙ (ap (λ (x : LeafHeapValue). x.chunks) m ∙ (ap (λ (x : LeafHeapValue). fold named x.chunks ss) e ∙ (named_is
         ∙ (ap (λ (o : Option ℕ). laid ++ (map (led_chunk (redirection h ss (reverse news))) (filter (keeps ss) (unreserved h o)) ++ reserved_of h o)) r_is
-        ∙ ap (λ (ks : List Content). ks ++ (map (led_chunk (redirection h ss (reverse news))) (filter (keeps ss) (unreserved h H.reserved)) ++ reserved_of h H.reserved)) is)))) in
-        let current = ap (λ (x : Heap). x.current) n ∙ (ap (λ (x : Heap). x.current) m ∙ (ap (λ (x : Heap). x.current) e ∙ ap last_place is)) in
-        let place = ap (λ (x : Heap). x.reserved) n ∙ (ap (λ (x : Heap). x.reserved) m ∙ (ap (λ (x : Heap). x.reserved) e
+        ∙ ap (λ (ks : List ChunkValue). ks ++ (map (led_chunk (redirection h ss (reverse news))) (filter (keeps ss) (unreserved h H.reserved)) ++ reserved_of h H.reserved)) is)))) in
+        let current = ap (λ (x : LeafHeapValue). x.current) n ∙ (ap (λ (x : LeafHeapValue). x.current) m ∙ (ap (λ (x : LeafHeapValue). x.current) e ∙ ap last_place is)) in
+        let place = ap (λ (x : LeafHeapValue). x.reserved) n ∙ (ap (λ (x : LeafHeapValue). x.reserved) m ∙ (ap (λ (x : LeafHeapValue). x.reserved) e
         ∙ (ap (λ (k : ℕ). reserved_place (length laid + k) r) kept_count
         ∙ (ap (λ (o : Option ℕ). reserved_place (length laid + length (map (led_chunk (redirection h ss (reverse news))) (filter (keeps ss) (unreserved h o)))) o) r_is
-        ∙ ap (λ (ks : List Content). reserved_place (length ks + length (map (led_chunk (redirection h ss (reverse news))) (filter (keeps ss) (unreserved h H.reserved)))) H.reserved) is)))) in
-        let since = ap (λ (x : Heap). x.since) n in
+        ∙ ap (λ (ks : List ChunkValue). reserved_place (length ks + length (map (led_chunk (redirection h ss (reverse news))) (filter (keeps ss) (unreserved h H.reserved)))) H.reserved) is)))) in
+        let since = ap (λ (x : LeafHeapValue). x.since) n in
         λ i. record { chunks = chunks i; current = current i; reserved = place i; since = since i; slots = N.slots; spare = N.spare }
 
-    pub back_is : (old : List Content) → old ≡ [] → (rest : List Content) → reverse rest ≡ (laying_of h ss (reverse news)).spare → (back : List Content) → back ≡ old ++ map emptied (filter goes (unreserved g r))
+    pub back_is : (old : List ChunkValue) → old ≡ [] → (rest : List ChunkValue) → reverse rest ≡ (laying_of h ss (reverse news)).spare → (back : List ChunkValue) → back ≡ old ++ map emptied (filter goes (unreserved g r))
         → back ++ rest ≡ map emptied (filter (leaves ss) (unreserved h H.reserved)) ++ reverse (laying_of h ss (reverse news)).spare
     back_is old none rest e back b =
-        let first : back ≡ map emptied (filter (leaves ss) (unreserved h H.reserved)) = b ∙ (ap (λ (xs : List Content). xs ++ map emptied (filter goes (unreserved g r))) none ∙ (go_is ∙ ap (λ (o : Option ℕ). map emptied (filter (leaves ss) (unreserved h o))) r_is)) in
-        let second : rest ≡ reverse (laying_of h ss (reverse news)).spare = sym (reverse-reverse rest) ∙ ap (λ (ks : List Content). reverse ks) e in
-        ap (λ (xs : List Content). xs ++ rest) first ∙ ap (λ (ys : List Content). map emptied (filter (leaves ss) (unreserved h H.reserved)) ++ ys) second
+        let first : back ≡ map emptied (filter (leaves ss) (unreserved h H.reserved)) = b ∙ (ap (λ (xs : List ChunkValue). xs ++ map emptied (filter goes (unreserved g r))) none ∙ (go_is ∙ ap (λ (o : Option ℕ). map emptied (filter (leaves ss) (unreserved h o))) r_is)) in
+        let second : rest ≡ reverse (laying_of h ss (reverse news)).spare = sym (reverse-reverse rest) ∙ ap (λ (ks : List ChunkValue). reverse ks) e in
+        ap (λ (xs : List ChunkValue). xs ++ rest) first ∙ ap (λ (ys : List ChunkValue). map emptied (filter (leaves ss) (unreserved h H.reserved)) ++ ys) second

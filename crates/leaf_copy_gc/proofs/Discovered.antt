@@ -5,15 +5,15 @@ use Rattle.object_layout.specs.declared.word.Addr.{Addr}
 use Rattle.object_layout.specs.declared.word.Birth.{Birth}
 use Rattle.object_layout.specs.Cell.{Cell, Born, IsBorn, IsObject}
 use Rattle.object_layout.proofs.ChunkLaws as laws
-use Rattle.object_layout.specs.Content.{Content}
+use Rattle.object_layout.specs.ChunkValue.{ChunkValue}
 use Rattle.object_layout.specs.Chunks.{cell_of}
 use Rattle.object_layout.specs.Graph.{IsClosed, IsHeld, IsSound, Leads}
 use Rattle.object_layout.proofs.Distinct.{Once, once_push}
 use Rattle.listed.proofs.Members.{In, in_append_left, in_append_right, in_append_cases, contains_from_in, in_from_contains}
-use Rattle.walks.proofs.Reached.{reached_within}
+use Rattle.walk_laws.proofs.Reached.{reached_within}
 use Rattle.leaf_copy_gc.specs.declared.lists.Survivor.{Survivor}
 use Rattle.leaf_copy_gc.specs.Survivors.{olds, old_of, IsSurvivor, Starts}
-use Rattle.leaf_copy_gc.specs.Collection.{Collection}
+use Rattle.leaf_copy_gc.specs.CollectorValue.{CollectorValue}
 use Rattle.leaf_copy_gc.specs.Search.{found_in, all_found, visited, visited_at, birth_in, IsTarget}
 use Rattle.leaf_copy_gc.proofs.Puts as puts
 use Rattle.leaf_copy_gc.proofs.FoundLemmas as marks
@@ -31,40 +31,40 @@ olds_push : (xs ys : List Survivor) → olds (xs ++ ys) ≡ olds xs ++ olds ys
 olds_push [] ys = refl
 olds_push (x ∷ xs) ys = ap (λ (zs : List Addr). x.old ∷ zs) (olds_push xs ys)
 
-module _ (h : List Content) (from : List (Option Addr)) where
-  pub record Discovered (s : Collection) : Type 0 where
+module _ (h : List ChunkValue) (from : List (Option Addr)) where
+  pub record Discovered (s : CollectorValue) : Type 0 where
     pub marked : s.heap.chunks ≡ all_found h (olds s.found)
     pub born : (x : Survivor) → In s.found x → (cell_of h x.old).mark ≡ Born x.birth
     pub kept : (a : Addr) → In (olds s.found) a → IsSurvivor h from a
     pub once : Once (olds s.found)
 
-  pub record Visits (s : Collection) (rs : List (Option Addr)) (t : Collection) : Type 0 where
+  pub record Visits (s : CollectorValue) (rs : List (Option Addr)) (t : CollectorValue) : Type 0 where
     pub discovered : Discovered t
     pub grows : Grows s.found t.found
     pub covers : (a : Addr) → In rs (Some a) → IsHeld h a → In (olds t.found) a
 
-  stays : (s : Collection) → Discovered s → Grows s.found s.found
+  stays : (s : CollectorValue) → Discovered s → Grows s.found s.found
   stays s d = ([], sym (append-nil s.found))
 
   grows_in : (xs ys : List Survivor) → Grows xs ys → (a : Addr) → In (olds xs) a → In (olds ys) a
   grows_in xs ys g a i = subst (λ (zs : List Addr). In zs a) (sym (ap olds g.1 ∙ olds_push xs g.0)) (in_append_left (olds xs) (olds g.0) a i)
 
   -- the marks tell what was found
-  live_now : (s : Collection) → Discovered s → (a : Addr) → IsHeld h a → (In (olds s.found) a → ⊥) → cell_of s.heap.chunks a ≡ cell_of h a
-  live_now s d a l n = ap (λ (k : List Content). cell_of k a) d.marked ∙ marks.found_kept h (olds s.found) a n
+  live_now : (s : CollectorValue) → Discovered s → (a : Addr) → IsHeld h a → (In (olds s.found) a → ⊥) → cell_of s.heap.chunks a ≡ cell_of h a
+  live_now s d a l n = ap (λ (k : List ChunkValue). cell_of k a) d.marked ∙ marks.found_kept h (olds s.found) a n
 
-  module _ (s : Collection) (d : Discovered s) (a : Addr) (kept : IsHeld h a → IsSurvivor h from a) where
+  module _ (s : CollectorValue) (d : Discovered s) (a : Addr) (kept : IsHeld h a → IsSurvivor h from a) where
     visit_found : (b : Birth) → birth_in (cell_of s.heap.chunks a).mark ≡ Some b → Visits s (Some a ∷ []) (visited_at s a (Some b))
     visit_found b e =
         let now : (cell_of s.heap.chunks a).mark ≡ Born b = birth_live (cell_of s.heap.chunks a).mark b e in
         let there : IsHeld s.heap.chunks a = born_live (cell_of s.heap.chunks a).mark b now in
-        let was = marks.found_live h (olds s.found) a (subst (λ (k : List Content). IsHeld k a) d.marked there) in
+        let was = marks.found_live h (olds s.found) a (subst (λ (k : List ChunkValue). IsHeld k a) d.marked there) in
         let same : cell_of s.heap.chunks a ≡ cell_of h a = live_now s d a was.0 was.1 in
         let x : Survivor = record { birth = b; old = a } in
         let more : olds (s.found ++ x ∷ []) ≡ olds s.found ++ a ∷ [] = olds_push s.found (x ∷ []) in
         record {
           discovered = record {
-            marked = ap (λ (k : List Content). found_in k a) d.marked ∙ (sym (marks.found_push h (olds s.found) a) ∙ ap (all_found h) (sym more));
+            marked = ap (λ (k : List ChunkValue). found_in k a) d.marked ∙ (sym (marks.found_push h (olds s.found) a) ∙ ap (all_found h) (sym more));
             born = λ y i. elim (in_append_cases s.found (x ∷ []) y i) [
               | inl j ↦ d.born y j
               | inr j ↦ elim j [
@@ -118,7 +118,7 @@ module _ (h : List Content) (from : List (Option Addr)) where
     visit_at None e = visit_known e
     visit_at (Some b) e = visit_found b e
 
-  pub visit_one : (s : Collection) → Discovered s → (r : Option Addr) → ((a : Addr) → r ≡ Some a → IsHeld h a → IsSurvivor h from a) → Visits s (r ∷ []) (visited s r)
+  pub visit_one : (s : CollectorValue) → Discovered s → (r : Option Addr) → ((a : Addr) → r ≡ Some a → IsHeld h a → IsSurvivor h from a) → Visits s (r ∷ []) (visited s r)
   visit_one s d None kept =
       record {
         discovered = d;
@@ -130,7 +130,7 @@ module _ (h : List Content) (from : List (Option Addr)) where
       none e = absurd cc
   visit_one s d (Some a) kept = visit_at s d a (kept a refl) (birth_in (cell_of s.heap.chunks a).mark) refl
 
-  visits_then : (s t u : Collection) (r : Option Addr) (rs : List (Option Addr)) → Visits s (r ∷ []) t → Visits t rs u → Visits s (r ∷ rs) u
+  visits_then : (s t u : CollectorValue) (r : Option Addr) (rs : List (Option Addr)) → Visits s (r ∷ []) t → Visits t rs u → Visits s (r ∷ rs) u
   visits_then s t u r rs v w =
       record {
         discovered = w.discovered;
@@ -142,13 +142,13 @@ module _ (h : List Content) (from : List (Option Addr)) where
       }
 
   -- each of a list of references is followed
-  pub visit_all : (s : Collection) → Discovered s → (rs : List (Option Addr)) → ((a : Addr) → In rs (Some a) → IsHeld h a → IsSurvivor h from a) → Visits s rs (fold visited s rs)
+  pub visit_all : (s : CollectorValue) → Discovered s → (rs : List (Option Addr)) → ((a : Addr) → In rs (Some a) → IsHeld h a → IsSurvivor h from a) → Visits s rs (fold visited s rs)
   visit_all s d [] kept = record { discovered = d; grows = stays s d; covers = λ a i l. absurd i }
   visit_all s d (r ∷ rs) kept =
       let v = visit_one s d r (λ a e l. kept a (inl e) l) in
       visits_then s (visited s r) (fold visited s (r ∷ rs)) r rs v (visit_all (visited s r) v.discovered rs (λ a i l. kept a (inr i) l))
 
-  pub discovered_none : (b : Collection) → b.heap.chunks ≡ h → b.found ≡ [] → Discovered b
+  pub discovered_none : (b : CollectorValue) → b.heap.chunks ≡ h → b.found ≡ [] → Discovered b
   discovered_none b e n = record {
     marked = e ∙ sym (ap (λ (xs : List Survivor). all_found h (olds xs)) n);
     born = λ x i. absurd (subst (λ (xs : List Survivor). In xs x) n i);
@@ -157,7 +157,7 @@ module _ (h : List Content) (from : List (Option Addr)) where
   }
 
   -- exactly what survives is found, where nothing is left to follow
-  pub found_exactly : (s : Collection) → Discovered s → ((a : Addr) → In from (Some a) → IsHeld h a → In (olds s.found) a)
+  pub found_exactly : (s : CollectorValue) → Discovered s → ((a : Addr) → In from (Some a) → IsHeld h a → In (olds s.found) a)
       → ((m a : Addr) → In (olds s.found) m → In (cell_of h m).refs (Some a) → IsHeld h a → In (olds s.found) a)
       → (a : Addr) → Contains (olds s.found) a ↔ IsSurvivor h from a
   found_exactly s d first closed a = (
@@ -169,7 +169,7 @@ module _ (h : List Content) (from : List (Option Addr)) where
   )
 
   -- all is found that the first n of those found refer to
-  pub record Going (s : Collection) (n : ℕ) : Type 0 where
+  pub record Going (s : CollectorValue) (n : ℕ) : Type 0 where
     pub discovered : Discovered s
     pub first : (a : Addr) → In from (Some a) → IsHeld h a → In (olds s.found) a
     pub closed : (m a : Addr) → In (olds (take n s.found)) m → In (cell_of h m).refs (Some a) → IsHeld h a → In (olds s.found) a
@@ -183,10 +183,10 @@ module _ (h : List Content) (from : List (Option Addr)) where
   in_olds (y ∷ ys) x (inl e) = inl (ap old_of e)
   in_olds (y ∷ ys) x (inr i) = inr (in_olds ys x i)
 
-  pub found_births : (s : Collection) → Discovered s → All (λ (x : Survivor). (cell_of h x.old).mark ≡ Born x.birth) s.found
+  pub found_births : (s : CollectorValue) → Discovered s → All (λ (x : Survivor). (cell_of h x.old).mark ≡ Born x.birth) s.found
   found_births s d = λ k x l. d.born (get_or s.found k x) (in_read s.found k x l)
 
-  module _ (s : Collection) (n : ℕ) (g : Going s n) (x : Survivor) (l : n < length s.found) (e : x ≡ get_or s.found n x) where
+  module _ (s : CollectorValue) (n : ℕ) (g : Going s n) (x : Survivor) (l : n < length s.found) (e : x ≡ get_or s.found n x) where
     next_in : In (olds s.found) x.old
     next_in = in_olds s.found x (subst (In s.found) (sym e) (in_read s.found n x l))
 
@@ -194,14 +194,14 @@ module _ (h : List Content) (from : List (Option Addr)) where
     next_live = survivor_live x.old (g.discovered.kept x.old next_in)
 
     same_refs : (cell_of s.heap.chunks x.old).refs ≡ (cell_of h x.old).refs
-    same_refs = ap (λ (k : List Content). (cell_of k x.old).refs) g.discovered.marked ∙ marks.all_found_refs h (olds s.found) x.old
+    same_refs = ap (λ (k : List ChunkValue). (cell_of k x.old).refs) g.discovered.marked ∙ marks.all_found_refs h (olds s.found) x.old
 
     -- the next one's references were followed
     pub going_more : Going (fold visited s (cell_of s.heap.chunks x.old).refs) (n + 1)
     going_more =
         let v = visit_all s g.discovered (cell_of s.heap.chunks x.old).refs
         (λ a i live. let w = g.discovered.kept x.old next_in in (suc w.0, (x.old, w.1, (next_live, live, contains_from_in (cell_of h x.old).refs (Some a) (subst (λ (rs : List (Option Addr)). In rs (Some a)) same_refs i))))) in
-        let t : Collection = fold visited s (cell_of s.heap.chunks x.old).refs in
+        let t : CollectorValue = fold visited s (cell_of s.heap.chunks x.old).refs in
         let len : length t.found ≡ length s.found + length v.grows.0 = ap length v.grows.1 ∙ length-append s.found v.grows.0 in
         let front : take n t.found ≡ take n s.found = ap (take n) v.grows.1 ∙ take-append-le n s.found v.grows.0 g.within in
         let here : get_or t.found n x ≡ x = ap (λ (xs : List Survivor). get_or xs n x) v.grows.1 ∙ (get_or_append_left s.found v.grows.0 x n l ∙ sym e) in
@@ -220,14 +220,14 @@ module _ (h : List Content) (from : List (Option Addr)) where
           within = omega arith;
         }
 
-  pub going_all : (s : Collection) (n : ℕ) → Going s n → length s.found ≤ n → (a : Addr) → Contains (olds s.found) a ↔ IsSurvivor h from a
+  pub going_all : (s : CollectorValue) (n : ℕ) → Going s n → length s.found ≤ n → (a : Addr) → Contains (olds s.found) a ↔ IsSurvivor h from a
   going_all s n g l = found_exactly s g.discovered g.first (λ m a i j live. g.closed m a (subst (λ (xs : List Survivor). In (olds xs) m) (sym (take_all n s.found l)) i) j live)
 
 -- ---- what calls need
 
-module _ (h : List Content) (from : List (Option Addr)) (closed : IsClosed h) (s : Collection) (d : Discovered h from s) where
+module _ (h : List ChunkValue) (from : List (Option Addr)) (closed : IsClosed h) (s : CollectorValue) (d : Discovered h from s) where
   pub target_now : (r : Option Addr) → IsSound h r → IsTarget s.heap.chunks r
-  target_now r t = subst (λ (k : List Content). IsTarget k r) (sym d.marked) (marks.found_target h (olds s.found) r (marks.sound_target h r t))
+  target_now r t = subst (λ (k : List ChunkValue). IsTarget k r) (sym d.marked) (marks.found_target h (olds s.found) r (marks.sound_target h r t))
 
   pub targets_now : (rs : List (Option Addr)) → All (IsSound h) rs → All (IsTarget s.heap.chunks) rs
   targets_now rs all = λ k r l. target_now (get_or rs k r) (all k r l)
@@ -235,29 +235,29 @@ module _ (h : List Content) (from : List (Option Addr)) (closed : IsClosed h) (s
   pub refs_now : (a : Addr) → IsHeld h a → All (IsTarget s.heap.chunks) (cell_of s.heap.chunks a).refs
   refs_now a l =
       subst (λ (rs : List (Option Addr)). All (IsTarget s.heap.chunks) rs)
-      (sym (ap (λ (k : List Content). (cell_of k a).refs) d.marked ∙ marks.all_found_refs h (olds s.found) a))
+      (sym (ap (λ (k : List ChunkValue). (cell_of k a).refs) d.marked ∙ marks.all_found_refs h (olds s.found) a))
       (targets_now (cell_of h a).refs (closed a l))
 
   -- it is an object still, found or not
   pub object_now : (a : Addr) → IsHeld h a → IsObject (cell_of s.heap.chunks a).mark
-  object_now a l = subst (λ (k : List Content). IsObject (cell_of k a).mark) (sym d.marked) (marks.all_found_object h (olds s.found) a (laws.born_object h a l))
+  object_now a l = subst (λ (k : List ChunkValue). IsObject (cell_of k a).mark) (sym d.marked) (marks.all_found_object h (olds s.found) a (laws.born_object h a l))
 
 -- the frames and the roots were followed
-module _ (b : Collection) (none : b.found ≡ []) (fs : List Frame) (roots : List Addr) (sound : All (IsSound b.heap.chunks) (held_by fs ++ map as_reference roots)) where
+module _ (b : CollectorValue) (none : b.found ≡ []) (fs : List Frame) (roots : List Addr) (sound : All (IsSound b.heap.chunks) (held_by fs ++ map as_reference roots)) where
   pub frames_targets : All (IsTarget b.heap.chunks) (held_by fs)
   frames_targets = all_from (IsTarget b.heap.chunks) (held_by fs) (λ r i. marks.sound_target b.heap.chunks r (read_in (IsSound b.heap.chunks) (held_by fs ++ map as_reference roots) r (in_append_left (held_by fs) (map as_reference roots) r i) sound))
 
-  pub roots_targets : (s : Collection) → s ≡ fold visited b (held_by fs) → All (IsTarget s.heap.chunks) (map as_reference roots)
+  pub roots_targets : (s : CollectorValue) → s ≡ fold visited b (held_by fs) → All (IsTarget s.heap.chunks) (map as_reference roots)
   roots_targets s e =
-      marks.fold_all_targets b (held_by fs) s.heap.chunks (ap (λ (t : Collection). t.heap.chunks) e) (map as_reference roots)
+      marks.fold_all_targets b (held_by fs) s.heap.chunks (ap (λ (t : CollectorValue). t.heap.chunks) e) (map as_reference roots)
       (all_from (IsTarget b.heap.chunks) (map as_reference roots) (λ r i. marks.sound_target b.heap.chunks r (read_in (IsSound b.heap.chunks) (held_by fs ++ map as_reference roots) r (in_append_right (held_by fs) (map as_reference roots) r i) sound)))
 
-  pub begun : (s t : Collection) → s ≡ fold visited b (held_by fs) → t ≡ fold visited s (map as_reference roots) → Going b.heap.chunks (held_by fs ++ map as_reference roots) t 0
+  pub begun : (s t : CollectorValue) → s ≡ fold visited b (held_by fs) → t ≡ fold visited s (map as_reference roots) → Going b.heap.chunks (held_by fs ++ map as_reference roots) t 0
   begun s t e f =
       let from = held_by fs ++ map as_reference roots in
-      let whole : t ≡ fold visited b from = f ∙ (ap (λ (x : Collection). fold visited x (map as_reference roots)) e ∙ sym (fold_append visited b (held_by fs) (map as_reference roots))) in
+      let whole : t ≡ fold visited b from = f ∙ (ap (λ (x : CollectorValue). fold visited x (map as_reference roots)) e ∙ sym (fold_append visited b (held_by fs) (map as_reference roots))) in
       let v = visit_all b.heap.chunks from b (discovered_none b.heap.chunks from b refl none) from (λ a i l. (0, (l, contains_from_in from (Some a) i))) in
-      subst (λ (x : Collection). Going b.heap.chunks from x 0) (sym whole) (record {
+      subst (λ (x : CollectorValue). Going b.heap.chunks from x 0) (sym whole) (record {
         discovered = v.discovered;
         first = λ a i l. v.covers a i l;
         closed = λ m a i j l. absurd i;
@@ -266,23 +266,23 @@ module _ (b : Collection) (none : b.found ≡ []) (fs : List Frame) (roots : Lis
 
 -- ---- a search changes the heap's objects and what is found, and nothing else
 
-abbrev pub Searches : Collection → Collection → Type 0
+abbrev pub Searches : CollectorValue → CollectorValue → Type 0
 Searches s t = t ≡ record s { heap = with_chunks s.heap t.heap.chunks; found = t.found }
 
-pub searches_then : (s t u : Collection) → Searches s t → Searches t u → Searches s u
-searches_then s t u p q = q ∙ ap (λ (z : Collection). let w : Collection = record z { heap = with_chunks z.heap u.heap.chunks; found = u.found } in w) p
+pub searches_then : (s t u : CollectorValue) → Searches s t → Searches t u → Searches s u
+searches_then s t u p q = q ∙ ap (λ (z : CollectorValue). let w : CollectorValue = record z { heap = with_chunks z.heap u.heap.chunks; found = u.found } in w) p
 
-searches_at : (s : Collection) (a : Addr) (b : Option Birth) → Searches s (visited_at s a b)
+searches_at : (s : CollectorValue) (a : Addr) (b : Option Birth) → Searches s (visited_at s a b)
 searches_at s a None = refl
 searches_at s a (Some b) = refl
 
-searches_one : (s : Collection) (r : Option Addr) → Searches s (visited s r)
+searches_one : (s : CollectorValue) (r : Option Addr) → Searches s (visited s r)
 searches_one s None = refl
 searches_one s (Some a) = searches_at s a (birth_in (cell_of s.heap.chunks a).mark)
 
-searches_all : (s : Collection) (rs : List (Option Addr)) → Searches s (fold visited s rs)
+searches_all : (s : CollectorValue) (rs : List (Option Addr)) → Searches s (fold visited s rs)
 searches_all s [] = refl
 searches_all s (r ∷ rs) = searches_then s (visited s r) (fold visited (visited s r) rs) (searches_one s r) (searches_all (visited s r) rs)
 
-pub searches_by : (s t : Collection) (rs : List (Option Addr)) → t ≡ fold visited s rs → Searches s t
+pub searches_by : (s t : CollectorValue) (rs : List (Option Addr)) → t ≡ fold visited s rs → Searches s t
 searches_by s t rs e = subst (Searches s) (sym e) (searches_all s rs)

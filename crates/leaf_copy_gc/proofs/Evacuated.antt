@@ -8,7 +8,7 @@ use Rattle.std.proofs.lemmas.List.Sums.{sum_by-cons}
 use Rattle.std.proofs.lemmas.List.Sorted.{IsPermutation-map, IsPermutation-sym, Contains-permutation, sum_by-IsPermutation}
 use Rattle.object_layout.specs.declared.word.Addr.{Addr}
 use Rattle.object_layout.specs.Cell.{Cell, Moved, IsObject, size_of, with_mark}
-use Rattle.object_layout.specs.Content.{Content}
+use Rattle.object_layout.specs.ChunkValue.{ChunkValue}
 use Rattle.object_layout.specs.Chunks.{cell_of}
 use Rattle.object_layout.specs.Graph.{IsClosed, IsSound}
 use Rattle.object_layout.proofs.Distinct.{Once}
@@ -18,7 +18,7 @@ use Rattle.leaf_copy_gc.specs.declared.lists.Survivor.{Survivor}
 use Rattle.leaf_copy_gc.specs.Survivors.{IsSurvivor, olds, old_of, HaveNames}
 use Rattle.leaf_copy_gc.specs.Search.{all_found, found_in}
 use Rattle.leaf_copy_gc.specs.Laid.{before, is_small, smalls, relocations, AreNew, laid_at}
-use Rattle.leaf_copy_gc.specs.Collection.{Collection}
+use Rattle.leaf_copy_gc.specs.CollectorValue.{CollectorValue}
 use Rattle.leaf_copy_gc.specs.Copying.{copied, copied_one}
 use Rattle.leaf_copy_gc.specs.Redirected.{followed_ref, followed_large, redirected, led}
 use Rattle.leaf_copy_gc.specs.Collected.{AreAlike, IsLeft}
@@ -27,29 +27,29 @@ use Rattle.leaf_copy_gc.proofs.Moves as moves
 use Rattle.leaf_copy_gc.proofs.Larges as larges
 use Rattle.leaf_copy_gc.proofs.Leading as leading
 
-alike_found : (h : List Content) (xs : List Addr) → AreAlike h (all_found h xs)
+alike_found : (h : List ChunkValue) (xs : List Addr) → AreAlike h (all_found h xs)
 alike_found h [] = larges.alike_itself h
 alike_found h (x ∷ xs) = larges.alike_then h (found_in h x) (all_found (found_in h x) xs) (larges.alike_put h x (with_mark (cell_of h x) (Moved x)) refl) (alike_found (found_in h x) xs)
 
-alike_step : (k : Collection) (s : Survivor) (b : Bool) → AreAlike k.heap.chunks (cond b (copied_one k s) k).heap.chunks
+alike_step : (k : CollectorValue) (s : Survivor) (b : Bool) → AreAlike k.heap.chunks (cond b (copied_one k s) k).heap.chunks
 alike_step k s true = larges.alike_put k.heap.chunks s.old (with_mark (cell_of k.heap.chunks s.old) (Moved (laid_at k.laying (size_of (cell_of k.heap.chunks s.old))))) refl
 alike_step k s false = larges.alike_itself k.heap.chunks
 
-alike_copied : (k : Collection) (ss : List Survivor) → AreAlike k.heap.chunks (fold copied k ss).heap.chunks
+alike_copied : (k : CollectorValue) (ss : List Survivor) → AreAlike k.heap.chunks (fold copied k ss).heap.chunks
 alike_copied k [] = larges.alike_itself k.heap.chunks
 alike_copied k (s ∷ ss) = larges.alike_then k.heap.chunks (copied k s).heap.chunks (fold copied (copied k s) ss).heap.chunks (alike_step k s (is_small k.heap.chunks s.old)) (alike_copied (copied k s) ss)
 
-module _ (h : List Content) (from : List (Option Addr)) (closed : IsClosed h) (sound : All (IsSound h) from)
-    (ss : List Survivor) (found : List Addr) (spare : List Content)
+module _ (h : List ChunkValue) (from : List (Option Addr)) (closed : IsClosed h) (sound : All (IsSound h) from)
+    (ss : List Survivor) (found : List Addr) (spare : List ChunkValue)
     (kept : (a : Addr) → Contains (olds ss) a ↔ IsSurvivor h from a) (once : Once (olds ss))
     (all : (a : Addr) → In (olds ss) a → In found a) (back : (a : Addr) → In found a → In (olds ss) a)
     (names : HaveNames h ss)
-    (k : Collection) (k_old : k.heap.chunks ≡ all_found h found) (k_laying : k.laying ≡ before spare) (k_moved : k.moved ≡ [])
-    (new : AreNew spare) (t : Collection) (is : t ≡ fold copied k ss) where
+    (k : CollectorValue) (k_old : k.heap.chunks ≡ all_found h found) (k_laying : k.laying ≡ before spare) (k_moved : k.moved ≡ [])
+    (new : AreNew spare) (t : CollectorValue) (is : t ≡ fold copied k ss) where
   alike : AreAlike h (fold followed_large t.heap.chunks ss)
   alike =
       larges.alike_then h t.heap.chunks (fold followed_large t.heap.chunks ss)
-      (subst (λ (z : Collection). AreAlike h z.heap.chunks) (sym is) (larges.alike_then h k.heap.chunks (fold copied k ss).heap.chunks (subst (AreAlike h) (sym k_old) (alike_found h found)) (alike_copied k ss)))
+      (subst (λ (z : CollectorValue). AreAlike h z.heap.chunks) (sym is) (larges.alike_then h k.heap.chunks (fold copied k ss).heap.chunks (subst (AreAlike h) (sym k_old) (alike_found h found)) (alike_copied k ss)))
       (larges.alike_larges t.heap.chunks ss)
 
   large : (a : Addr) → Contains (olds ss) a → is_small h a ≡ false → cell_of (fold followed_large t.heap.chunks ss) a ≡ led (redirected (relocations (before spare) h (smalls h (olds ss)))) (with_mark (cell_of h a) (Moved a))

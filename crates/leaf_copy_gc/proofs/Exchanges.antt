@@ -1,12 +1,12 @@
 -- The chunks that a heap keeps, and those that it gives back.
 use Rattle.std.proofs.Common.{◌≡◌, ℕ, zero, suc, ◌+◌, ◌<◌, List, [], ◌∷◌, length, get_or, take, ap, arith}
-use Rattle.object_layout.specs.Content.{Content}
-use Rattle.alloc_path.specs.Heap.{units}
+use Rattle.object_layout.specs.ChunkValue.{ChunkValue}
+use Rattle.alloc_path.specs.LeafHeapValue.{units}
 use Rattle.leaf_copy_gc.specs.Exchanged.{counted32, unit_count}
 
-pub unit_more : (ks : List Content) (i : ℕ) (k : Content) → i < length ks → k ≡ get_or ks i k → unit_count (take (i + 1) ks) ≡ unit_count (take i ks) + units k.size
+pub unit_more : (ks : List ChunkValue) (i : ℕ) (k : ChunkValue) → i < length ks → k ≡ get_or ks i k → unit_count (take (i + 1) ks) ≡ unit_count (take i ks) + units k.size
 unit_more [] i k l e = absurd (omega arith)
-unit_more (x ∷ xs) zero k l e = let s = ap (λ (c : Content). units c.size) e in omega arith
+unit_more (x ∷ xs) zero k l e = let s = ap (λ (c : ChunkValue). units c.size) e in omega arith
 unit_more (x ∷ xs) (suc i) k l e =
     let n : suc i + 1 ≡ suc (i + 1) = omega arith in
     let ih = unit_more xs i k (omega arith) e in

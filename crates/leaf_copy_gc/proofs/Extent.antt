@@ -4,7 +4,7 @@ use Rattle.std.specs.Prelude.{nat_le}
 use Rattle.std.proofs.lemmas.Bool.{cases_Bool, le-leb}
 use Rattle.object_layout.specs.declared.word.Addr.{Addr}
 use Rattle.object_layout.specs.Cell.{Cell, no_cell, size_of}
-use Rattle.object_layout.specs.Content.{Content}
+use Rattle.object_layout.specs.ChunkValue.{ChunkValue}
 use Rattle.object_layout.specs.Place.{cell_at}
 use Rattle.object_layout.specs.Chunks.{cell_of}
 use Rattle.listed.proofs.Members.{In}
@@ -28,11 +28,11 @@ cells_same (c ∷ cs) (d ∷ ds) s e =
     let rest : map size_of ds ≡ map size_of cs = cc in
     λ i. head i ∷ cells_same cs ds rest (λ at. sym (past_cell c cs at (size_of c + at) refl) ∙ (e (size_of c + at) ∙ past_cell d ds at (size_of c + at) (omega arith))) i
 
-same_content : (k l : Content) → l.number ≡ k.number → l.size ≡ k.size → k.cells ≡ l.cells → k ≡ l
+same_content : (k l : ChunkValue) → l.number ≡ k.number → l.size ≡ k.size → k.cells ≡ l.cells → k ≡ l
 same_content k l n s e = λ i. record { number = sym n i; size = sym s i; cells = e i }
 
 -- no chunk has the number
-pub nowhere : (ks : List Content) (a : Addr) → (In (numbers ks) a.chunk → ⊥) → cell_of ks a ≡ no_cell
+pub nowhere : (ks : List ChunkValue) (a : Addr) → (In (numbers ks) a.chunk → ⊥) → cell_of ks a ≡ no_cell
 nowhere [] a n = refl
 nowhere (k ∷ ks) a n =
     elim (cases_Bool (eqb k.number a.chunk)) [
@@ -40,10 +40,10 @@ nowhere (k ∷ ks) a n =
       | inr e ↦ rw e (nowhere ks a (λ i. n (inr i)))
     ]
 
-pub here : (k : Content) (ks : List Content) (a : Addr) → k.number ≡ a.chunk → cell_of (k ∷ ks) a ≡ cell_at k.cells a.offset
+pub here : (k : ChunkValue) (ks : List ChunkValue) (a : Addr) → k.number ≡ a.chunk → cell_of (k ∷ ks) a ≡ cell_at k.cells a.offset
 here k ks a e = rw (eq-eqb k.number a.chunk e) refl
 
-pub later : (k : Content) (ks : List Content) (a : Addr) → (k.number ≡ a.chunk → ⊥) → cell_of (k ∷ ks) a ≡ cell_of ks a
+pub later : (k : ChunkValue) (ks : List ChunkValue) (a : Addr) → (k.number ≡ a.chunk → ⊥) → cell_of (k ∷ ks) a ≡ cell_of ks a
 later k ks a n =
     elim (cases_Bool (eqb k.number a.chunk)) [
       | inl e ↦ absurd (n (eqb-true k.number a.chunk e))
@@ -60,7 +60,7 @@ in_numbers (m ∷ ns) n = elim (number_cases m n) [
   | inr ne ↦ elim (in_numbers ns n) [ inl i ↦ inl (inr i) | inr m' ↦ inr (λ i. elim i [ inl e ↦ ne e | inr j ↦ m' j ]) ]
 ]
 
-pub same_chunks : (ks ls : List Content) → AreAlike ks ls → Distinct (numbers ks) → ((a : Addr) → cell_of ks a ≡ cell_of ls a) → ks ≡ ls
+pub same_chunks : (ks ls : List ChunkValue) → AreAlike ks ls → Distinct (numbers ks) → ((a : Addr) → cell_of ks a ≡ cell_of ls a) → ks ≡ ls
 same_chunks [] [] a d e = refl
 same_chunks [] (l ∷ ls) a d e = absurd a
 same_chunks (k ∷ ks) [] a d e = absurd a
@@ -80,7 +80,7 @@ same_chunks (k ∷ ks) (l ∷ ls) a d e =
 
 -- ---- chunks together
 
-pub in_first : (ks ls : List Content) (a : Addr) → In (numbers ks) a.chunk → cell_of (ks ++ ls) a ≡ cell_of ks a
+pub in_first : (ks ls : List ChunkValue) (a : Addr) → In (numbers ks) a.chunk → cell_of (ks ++ ls) a ≡ cell_of ks a
 in_first [] ls a i = absurd i
 in_first (k ∷ ks) ls a i =
     elim (number_cases k.number a.chunk) [
@@ -88,32 +88,32 @@ in_first (k ∷ ks) ls a i =
       | inr n ↦ later k (ks ++ ls) a n ∙ (in_first ks ls a (elim i [ inl e ↦ absurd (n e) | inr j ↦ j ]) ∙ sym (later k ks a n))
     ]
 
-pub in_second : (ks ls : List Content) (a : Addr) → (In (numbers ks) a.chunk → ⊥) → cell_of (ks ++ ls) a ≡ cell_of ls a
+pub in_second : (ks ls : List ChunkValue) (a : Addr) → (In (numbers ks) a.chunk → ⊥) → cell_of (ks ++ ls) a ≡ cell_of ls a
 in_second [] ls a n = refl
 in_second (k ∷ ks) ls a n = later k (ks ++ ls) a (λ e. n (inl e)) ∙ in_second ks ls a (λ i. n (inr i))
 
 -- the chunk of a number
-pub chunk_in : (ks : List Content) (n : ℕ) → In (numbers ks) n → (k : Content) × (In ks k × (k.number ≡ n))
+pub chunk_in : (ks : List ChunkValue) (n : ℕ) → In (numbers ks) n → (k : ChunkValue) × (In ks k × (k.number ≡ n))
 chunk_in [] n i = absurd i
 chunk_in (k ∷ ks) n (inl e) = (k, (inl refl, e))
 chunk_in (k ∷ ks) n (inr i) = let r = chunk_in ks n i in (r.0, (inr r.1.0, r.1.1))
 
-pub number_there : (ks : List Content) (k : Content) → In ks k → In (numbers ks) k.number
+pub number_there : (ks : List ChunkValue) (k : ChunkValue) → In ks k → In (numbers ks) k.number
 number_there [] k i = i
-number_there (x ∷ ks) k (inl e) = inl (ap (λ (z : Content). z.number) e)
+number_there (x ∷ ks) k (inl e) = inl (ap (λ (z : ChunkValue). z.number) e)
 number_there (x ∷ ks) k (inr i) = inr (number_there ks k i)
 
 -- it is where addresses lead, whatever is made of the chunks
-pub mapped_there : (f : Content → Content) → ((k : Content) → (f k).number ≡ k.number) → (ks : List Content) (k : Content) → Distinct (numbers ks) → In ks k → (a : Addr) → k.number ≡ a.chunk → cell_of (map f ks) a ≡ cell_at (f k).cells a.offset
+pub mapped_there : (f : ChunkValue → ChunkValue) → ((k : ChunkValue) → (f k).number ≡ k.number) → (ks : List ChunkValue) (k : ChunkValue) → Distinct (numbers ks) → In ks k → (a : Addr) → k.number ≡ a.chunk → cell_of (map f ks) a ≡ cell_at (f k).cells a.offset
 mapped_there f e [] k d i a q = absurd i
-mapped_there f e (x ∷ ks) k d (inl p) a q = subst (λ (z : Content). cell_of (map f (x ∷ ks)) a ≡ cell_at (f z).cells a.offset) p (here (f x) (map f ks) a (e x ∙ (ap (λ (z : Content). z.number) p ∙ q)))
+mapped_there f e (x ∷ ks) k d (inl p) a q = subst (λ (z : ChunkValue). cell_of (map f (x ∷ ks)) a ≡ cell_at (f z).cells a.offset) p (here (f x) (map f ks) a (e x ∙ (ap (λ (z : ChunkValue). z.number) p ∙ q)))
 mapped_there f e (x ∷ ks) k d (inr i) a q =
     later (f x) (map f ks) a (λ p. d.0 (subst (In (numbers ks)) (q ∙ sym (sym (e x) ∙ p)) (number_there ks k i)))
     ∙ mapped_there f e ks k d.1 i a q
 
-pub chunk_there : (ks : List Content) (k : Content) → Distinct (numbers ks) → In ks k → (a : Addr) → k.number ≡ a.chunk → cell_of ks a ≡ cell_at k.cells a.offset
+pub chunk_there : (ks : List ChunkValue) (k : ChunkValue) → Distinct (numbers ks) → In ks k → (a : Addr) → k.number ≡ a.chunk → cell_of ks a ≡ cell_at k.cells a.offset
 chunk_there [] k d i a q = absurd i
-chunk_there (x ∷ ks) k d (inl p) a q = subst (λ (z : Content). cell_of (x ∷ ks) a ≡ cell_at z.cells a.offset) p (here x ks a (ap (λ (z : Content). z.number) p ∙ q))
+chunk_there (x ∷ ks) k d (inl p) a q = subst (λ (z : ChunkValue). cell_of (x ∷ ks) a ≡ cell_at z.cells a.offset) p (here x ks a (ap (λ (z : ChunkValue). z.number) p ∙ q))
 chunk_there (x ∷ ks) k d (inr i) a q =
     later x ks a (λ p. d.0 (subst (In (numbers ks)) (q ∙ sym p) (number_there ks k i)))
     ∙ chunk_there ks k d.1 i a q

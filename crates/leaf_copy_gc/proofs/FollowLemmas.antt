@@ -5,7 +5,7 @@ use Rattle.std.proofs.lemmas.List.{length-map}
 use Rattle.std.proofs.lemmas.List.Elements.{All-head, All-tail}
 use Rattle.object_layout.specs.declared.word.Addr.{Addr}
 use Rattle.object_layout.specs.Cell.{Cell, IsObject, size_of, with_ref}
-use Rattle.object_layout.specs.Content.{Content}
+use Rattle.object_layout.specs.ChunkValue.{ChunkValue}
 use Rattle.object_layout.specs.Place.{cell_at, object_at, put_cell, words_in, IsCellAt, IsObjectAt}
 use Rattle.object_layout.specs.Chunks.{cell_of, object_of, put_object}
 use Rattle.object_layout.proofs.PlaceLemmas as place
@@ -56,7 +56,7 @@ module _ (f : Option Addr → Option Addr) (cs : List Cell) (at : ℕ) (o : IsOb
 
 -- ---- an object of the heap, as far as its references below k
 
-mark_put : (h : List Content) (x : Addr) (c : Cell) → c.mark ≡ (cell_of h x).mark → size_of c ≡ size_of (cell_of h x) → (a : Addr) → (cell_of (put_object h x c) a).mark ≡ (cell_of h a).mark
+mark_put : (h : List ChunkValue) (x : Addr) (c : Cell) → c.mark ≡ (cell_of h x).mark → size_of c ≡ size_of (cell_of h x) → (a : Addr) → (cell_of (put_object h x c) a).mark ≡ (cell_of h a).mark
 mark_put h x c m s a =
     elim (puts.same_or_other x a) [
       | inl e ↦ subst (λ (y : Addr). (cell_of (put_object h x c) y).mark ≡ (cell_of h y).mark) e (elim (puts.put_cases h x c) [
@@ -66,7 +66,7 @@ mark_put h x c m s a =
       | inr n ↦ ap (λ (d : Cell). d.mark) (laws.cell_of-put_other h x a c s (λ e. n (sym e)))
     ]
 
-module _ (h : List Content) (x : Addr) (c : Cell) (m : c.mark ≡ (cell_of h x).mark) (s : size_of c ≡ size_of (cell_of h x)) where
+module _ (h : List ChunkValue) (x : Addr) (c : Cell) (m : c.mark ≡ (cell_of h x).mark) (s : size_of c ≡ size_of (cell_of h x)) where
   followed_put : (a : Addr) → followed (put_object h x c) a ≡ followed h a
   followed_put a = rw (puts.place_put h x c a.chunk, puts.length_put h x c, mark_put h x c m s a) refl
 
@@ -83,8 +83,8 @@ module _ (h : List Content) (x : Addr) (c : Cell) (m : c.mark ≡ (cell_of h x).
       let w = t (omega arith) in
       (subst IsObject (sym (mark_put h x c m s a)) w.0, w.1)
 
-module _ (h : List Content) (a : Addr) (o : IsObject (cell_of h a).mark) where
-  put_itself : (ks : List Content) → put_object ks a (cell_of ks a) ≡ ks
+module _ (h : List ChunkValue) (a : Addr) (o : IsObject (cell_of h a).mark) where
+  put_itself : (ks : List ChunkValue) → put_object ks a (cell_of ks a) ≡ ks
   put_itself [] = refl
   put_itself (k ∷ ks) =
       elim (cases_Bool (eqb k.number a.chunk)) [
@@ -178,11 +178,11 @@ module _ (f : Option Addr → Option Addr) where
   before_all (c ∷ cs) = past c cs (words_in cs) _ refl ∙ ap (λ (xs : List Cell). led f c ∷ xs) (before_all cs)
 
   -- one object more
-  module _ (k now after : Content) (at : ℕ) (o : IsCellAt k.cells at)
+  module _ (k now after : ChunkValue) (at : ℕ) (o : IsCellAt k.cells at)
       (is : now ≡ record k { cells = led_before f k.cells at })
       (done : after ≡ record now { cells = put_cell now.cells at (led f (cell_at now.cells at)) }) where
     now_cells : now.cells ≡ led_before f k.cells at
-    now_cells = ap (λ (x : Content). x.cells) is
+    now_cells = ap (λ (x : ChunkValue). x.cells) is
 
     pub begins_there : IsCellAt now.cells at
     begins_there = subst (λ (xs : List Cell). IsCellAt xs at) (sym now_cells) (before_object k.cells at o)
@@ -191,7 +191,7 @@ module _ (f : Option Addr → Option Addr) where
     there = ap (λ (xs : List Cell). cell_at xs at) now_cells ∙ before_cell k.cells at o
 
     after_cells : after.cells ≡ put_cell now.cells at (led f (cell_at now.cells at))
-    after_cells = ap (λ (x : Content). x.cells) done
+    after_cells = ap (λ (x : ChunkValue). x.cells) done
 
     pub after_object : IsCellAt after.cells at
     after_object =
@@ -208,5 +208,5 @@ module _ (f : Option Addr → Option Addr) where
     pub after_is : (next : ℕ) → next ≡ at + size_of (cell_at k.cells at) → after ≡ record k { cells = led_before f k.cells next }
     after_is next e =
         done
-        ∙ (ap (λ (x : Content). let r : Content = record x { cells = put_cell x.cells at (led f (cell_at x.cells at)) } in r) is
-        ∙ ap (λ (xs : List Cell). let r : Content = record k { cells = xs } in r) (before_more k.cells at o ∙ ap (led_before f k.cells) (sym e)))
+        ∙ (ap (λ (x : ChunkValue). let r : ChunkValue = record x { cells = put_cell x.cells at (led f (cell_at x.cells at)) } in r) is
+        ∙ ap (λ (xs : List Cell). let r : ChunkValue = record k { cells = xs } in r) (before_more k.cells at o ∙ ap (led_before f k.cells) (sym e)))

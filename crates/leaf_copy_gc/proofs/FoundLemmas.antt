@@ -3,41 +3,41 @@ use Rattle.std.proofs.Common.{◌≡◌, ℕ, List, [], ◌∷◌, ◌++◌, len
 use Rattle.object_layout.specs.declared.word.Addr.{Addr}
 use Rattle.object_layout.specs.declared.word.Birth.{Birth}
 use Rattle.object_layout.specs.Cell.{Cell, Mark, Born, Moved, Hole, IsBorn, IsObject, moved_to, with_mark}
-use Rattle.object_layout.specs.Content.{Content}
+use Rattle.object_layout.specs.ChunkValue.{ChunkValue}
 use Rattle.object_layout.specs.Chunks.{cell_of, place_in, place_of}
 use Rattle.object_layout.specs.Graph.{IsHeld, IsSound}
 use Rattle.object_layout.proofs.ChunkLaws as laws
 use Rattle.listed.proofs.Members.{In}
-use Rattle.leaf_copy_gc.specs.Collection.{Collection}
+use Rattle.leaf_copy_gc.specs.CollectorValue.{CollectorValue}
 use Rattle.leaf_copy_gc.specs.Search.{found_in, all_found, birth_in, visited, visited_at, IsTarget}
 use Rattle.leaf_copy_gc.proofs.Puts as puts
 
-pub found_other : (h : List Content) (x a : Addr) → (x ≡ a → ⊥) → cell_of (found_in h x) a ≡ cell_of h a
+pub found_other : (h : List ChunkValue) (x a : Addr) → (x ≡ a → ⊥) → cell_of (found_in h x) a ≡ cell_of h a
 found_other h x a ne = puts.mark_other h x (Moved x) a ne
 
-pub found_same : (h : List Content) (a : Addr) → IsHeld (found_in h a) a → ⊥
+pub found_same : (h : List ChunkValue) (a : Addr) → IsHeld (found_in h a) a → ⊥
 found_same h a l = puts.mark_dead h a (Moved a) (λ b. b) l
 
-pub found_refs : (h : List Content) (x a : Addr) → (cell_of (found_in h x) a).refs ≡ (cell_of h a).refs
+pub found_refs : (h : List ChunkValue) (x a : Addr) → (cell_of (found_in h x) a).refs ≡ (cell_of h a).refs
 found_refs h x a = ap (λ (c : Cell). c.refs) (puts.mark_alone h x (Moved x) a Hole)
 
 -- ---- all of a list marked
 
-pub found_kept : (h : List Content) (xs : List Addr) (a : Addr) → (In xs a → ⊥) → cell_of (all_found h xs) a ≡ cell_of h a
+pub found_kept : (h : List ChunkValue) (xs : List Addr) (a : Addr) → (In xs a → ⊥) → cell_of (all_found h xs) a ≡ cell_of h a
 found_kept h [] a n = refl
 found_kept h (x ∷ xs) a n = found_kept (found_in h x) xs a (λ i. n (inr i)) ∙ found_other h x a (λ e. n (inl e))
 
-pub all_found_refs : (h : List Content) (xs : List Addr) (a : Addr) → (cell_of (all_found h xs) a).refs ≡ (cell_of h a).refs
+pub all_found_refs : (h : List ChunkValue) (xs : List Addr) (a : Addr) → (cell_of (all_found h xs) a).refs ≡ (cell_of h a).refs
 all_found_refs h [] a = refl
 all_found_refs h (x ∷ xs) a = all_found_refs (found_in h x) xs a ∙ found_refs h x a
 
 -- nothing but marks changed
-pub all_found_alone : (h : List Content) (xs : List Addr) (a : Addr) (m : Mark) → with_mark (cell_of (all_found h xs) a) m ≡ with_mark (cell_of h a) m
+pub all_found_alone : (h : List ChunkValue) (xs : List Addr) (a : Addr) (m : Mark) → with_mark (cell_of (all_found h xs) a) m ≡ with_mark (cell_of h a) m
 all_found_alone h [] a m = refl
 all_found_alone h (x ∷ xs) a m = all_found_alone (found_in h x) xs a m ∙ puts.mark_alone h x (Moved x) a m
 
 -- what bears its birth name then bore it before, and is not marked
-pub found_live : (h : List Content) (xs : List Addr) (a : Addr) → IsHeld (all_found h xs) a → IsHeld h a × (In xs a → ⊥)
+pub found_live : (h : List ChunkValue) (xs : List Addr) (a : Addr) → IsHeld (all_found h xs) a → IsHeld h a × (In xs a → ⊥)
 found_live h [] a l = (l, λ i. i)
 found_live h (x ∷ xs) a l =
     let r = found_live (found_in h x) xs a l in
@@ -46,21 +46,21 @@ found_live h (x ∷ xs) a l =
       | inr n ↦ (subst (λ (c : Cell). IsBorn c.mark) (found_other h x a n) r.0, λ i. elim i [ inl e ↦ n e | inr j ↦ r.1 j ])
     ]
 
-pub found_push : (h : List Content) (xs : List Addr) (a : Addr) → all_found h (xs ++ a ∷ []) ≡ found_in (all_found h xs) a
+pub found_push : (h : List ChunkValue) (xs : List Addr) (a : Addr) → all_found h (xs ++ a ∷ []) ≡ found_in (all_found h xs) a
 found_push h [] a = refl
 found_push h (x ∷ xs) a = found_push (found_in h x) xs a
 
-pub found_place : (h : List Content) (xs : List Addr) (n : ℕ) → place_of (all_found h xs) n ≡ place_of h n
+pub found_place : (h : List ChunkValue) (xs : List Addr) (n : ℕ) → place_of (all_found h xs) n ≡ place_of h n
 found_place h [] n = refl
 found_place h (x ∷ xs) n = found_place (found_in h x) xs n ∙ puts.place_put h x (with_mark (cell_of h x) (Moved x)) n
 
-pub found_length : (h : List Content) (xs : List Addr) → length (all_found h xs) ≡ length h
+pub found_length : (h : List ChunkValue) (xs : List Addr) → length (all_found h xs) ≡ length h
 found_length h [] = refl
 found_length h (x ∷ xs) = found_length (found_in h x) xs ∙ puts.length_put h x (with_mark (cell_of h x) (Moved x))
 
 -- ---- objects stay objects
 
-target_stays : (h : List Content) (x : Addr) (r : Option Addr) → IsTarget h r → IsTarget (found_in h x) r
+target_stays : (h : List ChunkValue) (x : Addr) (r : Option Addr) → IsTarget h r → IsTarget (found_in h x) r
 target_stays h x None t = t
 target_stays h x (Some a) t =
     λ l.
@@ -69,19 +69,19 @@ target_stays h x (Some a) t =
     let w = t (omega arith) in
     (puts.mark_object h x (Moved x) tt a w.0, w.1)
 
-pub found_target : (h : List Content) (xs : List Addr) (r : Option Addr) → IsTarget h r → IsTarget (all_found h xs) r
+pub found_target : (h : List ChunkValue) (xs : List Addr) (r : Option Addr) → IsTarget h r → IsTarget (all_found h xs) r
 found_target h [] r t = t
 found_target h (x ∷ xs) r t = found_target (found_in h x) xs r (target_stays h x r t)
 
-pub sound_target : (h : List Content) (r : Option Addr) → IsSound h r → IsTarget h r
+pub sound_target : (h : List ChunkValue) (r : Option Addr) → IsSound h r → IsTarget h r
 sound_target h None t = tt
 sound_target h (Some a) t = λ l. let w = t l in (laws.born_object h a w.0, w.1)
 
-at_targets : (s : Collection) (x : Addr) (b : Option Birth) (r : Option Addr) → IsTarget s.heap.chunks r → IsTarget (visited_at s x b).heap.chunks r
+at_targets : (s : CollectorValue) (x : Addr) (b : Option Birth) (r : Option Addr) → IsTarget s.heap.chunks r → IsTarget (visited_at s x b).heap.chunks r
 at_targets s x None r t = t
 at_targets s x (Some b) r t = target_stays s.heap.chunks x r t
 
-pub visited_targets : (s : Collection) (v : Option Addr) (r : Option Addr) → IsTarget s.heap.chunks r → IsTarget (visited s v).heap.chunks r
+pub visited_targets : (s : CollectorValue) (v : Option Addr) (r : Option Addr) → IsTarget s.heap.chunks r → IsTarget (visited s v).heap.chunks r
 visited_targets s None r t = t
 visited_targets s (Some x) r t = at_targets s x (birth_in (cell_of s.heap.chunks x).mark) r t
 
@@ -111,44 +111,44 @@ moved_dead (Born b) to e = absurd cc
 moved_dead (Moved x) to e = refl
 moved_dead Hole to e = refl
 
-pub visit_live : (h : List Content) (a : Addr) (b : Birth) (r : Option Birth) → r ≡ birth_in (cell_of h a).mark → r ≡ Some b → IsHeld h a
+pub visit_live : (h : List ChunkValue) (a : Addr) (b : Birth) (r : Option Birth) → r ≡ birth_in (cell_of h a).mark → r ≡ Some b → IsHeld h a
 visit_live h a b r e f = born_live (cell_of h a).mark b (birth_live (cell_of h a).mark b (sym e ∙ f))
 
-pub visited_all_targets : (s : Collection) (v : Option Addr) (k : List Content) → k ≡ (visited s v).heap.chunks → (rs : List (Option Addr)) → All (IsTarget s.heap.chunks) rs → All (IsTarget k) rs
-visited_all_targets s v k e rs all = λ i r l. subst (λ (h : List Content). IsTarget h (get_or rs i r)) (sym e) (visited_targets s v (get_or rs i r) (all i r l))
+pub visited_all_targets : (s : CollectorValue) (v : Option Addr) (k : List ChunkValue) → k ≡ (visited s v).heap.chunks → (rs : List (Option Addr)) → All (IsTarget s.heap.chunks) rs → All (IsTarget k) rs
+visited_all_targets s v k e rs all = λ i r l. subst (λ (h : List ChunkValue). IsTarget h (get_or rs i r)) (sym e) (visited_targets s v (get_or rs i r) (all i r l))
 
-at_place : (s : Collection) (x : Addr) (b : Option Birth) (n : ℕ) → place_in (visited_at s x b).heap.chunks n ≡ place_in s.heap.chunks n
+at_place : (s : CollectorValue) (x : Addr) (b : Option Birth) (n : ℕ) → place_in (visited_at s x b).heap.chunks n ≡ place_in s.heap.chunks n
 at_place s x None n = refl
 at_place s x (Some b) n = laws.place_in-put s.heap.chunks x (with_mark (cell_of s.heap.chunks x) (Moved x)) n
 
 -- no chunk moves
-pub visited_place : (s : Collection) (v : Option Addr) (n : ℕ) → place_in (visited s v).heap.chunks n ≡ place_in s.heap.chunks n
+pub visited_place : (s : CollectorValue) (v : Option Addr) (n : ℕ) → place_in (visited s v).heap.chunks n ≡ place_in s.heap.chunks n
 visited_place s None n = refl
 visited_place s (Some x) n = at_place s x (birth_in (cell_of s.heap.chunks x).mark) n
 
-at_refs : (s : Collection) (x : Addr) (b : Option Birth) (a : Addr) → (cell_of (visited_at s x b).heap.chunks a).refs ≡ (cell_of s.heap.chunks a).refs
+at_refs : (s : CollectorValue) (x : Addr) (b : Option Birth) (a : Addr) → (cell_of (visited_at s x b).heap.chunks a).refs ≡ (cell_of s.heap.chunks a).refs
 at_refs s x None a = refl
 at_refs s x (Some b) a = found_refs s.heap.chunks x a
 
-pub visited_refs : (s : Collection) (v : Option Addr) (a : Addr) → (cell_of (visited s v).heap.chunks a).refs ≡ (cell_of s.heap.chunks a).refs
+pub visited_refs : (s : CollectorValue) (v : Option Addr) (a : Addr) → (cell_of (visited s v).heap.chunks a).refs ≡ (cell_of s.heap.chunks a).refs
 visited_refs s None a = refl
 visited_refs s (Some x) a = at_refs s x (birth_in (cell_of s.heap.chunks x).mark) a
 
-at_object : (s : Collection) (x : Addr) (b : Option Birth) (a : Addr) → IsObject (cell_of s.heap.chunks a).mark → IsObject (cell_of (visited_at s x b).heap.chunks a).mark
+at_object : (s : CollectorValue) (x : Addr) (b : Option Birth) (a : Addr) → IsObject (cell_of s.heap.chunks a).mark → IsObject (cell_of (visited_at s x b).heap.chunks a).mark
 at_object s x None a o = o
 at_object s x (Some b) a o = puts.mark_object s.heap.chunks x (Moved x) tt a o
 
-pub visited_object : (s : Collection) (v : Option Addr) (a : Addr) → IsObject (cell_of s.heap.chunks a).mark → IsObject (cell_of (visited s v).heap.chunks a).mark
+pub visited_object : (s : CollectorValue) (v : Option Addr) (a : Addr) → IsObject (cell_of s.heap.chunks a).mark → IsObject (cell_of (visited s v).heap.chunks a).mark
 visited_object s None a o = o
 visited_object s (Some x) a o = at_object s x (birth_in (cell_of s.heap.chunks x).mark) a o
 
-fold_targets : (s : Collection) (vs : List (Option Addr)) (r : Option Addr) → IsTarget s.heap.chunks r → IsTarget (fold visited s vs).heap.chunks r
+fold_targets : (s : CollectorValue) (vs : List (Option Addr)) (r : Option Addr) → IsTarget s.heap.chunks r → IsTarget (fold visited s vs).heap.chunks r
 fold_targets s [] r t = t
 fold_targets s (v ∷ vs) r t = fold_targets (visited s v) vs r (visited_targets s v r t)
 
-pub fold_all_targets : (s : Collection) (vs : List (Option Addr)) (k : List Content) → k ≡ (fold visited s vs).heap.chunks → (rs : List (Option Addr)) → All (IsTarget s.heap.chunks) rs → All (IsTarget k) rs
-fold_all_targets s vs k e rs all = λ i r l. subst (λ (h : List Content). IsTarget h (get_or rs i r)) (sym e) (fold_targets s vs (get_or rs i r) (all i r l))
+pub fold_all_targets : (s : CollectorValue) (vs : List (Option Addr)) (k : List ChunkValue) → k ≡ (fold visited s vs).heap.chunks → (rs : List (Option Addr)) → All (IsTarget s.heap.chunks) rs → All (IsTarget k) rs
+fold_all_targets s vs k e rs all = λ i r l. subst (λ (h : List ChunkValue). IsTarget h (get_or rs i r)) (sym e) (fold_targets s vs (get_or rs i r) (all i r l))
 
-pub all_found_object : (h : List Content) (xs : List Addr) (a : Addr) → IsObject (cell_of h a).mark → IsObject (cell_of (all_found h xs) a).mark
+pub all_found_object : (h : List ChunkValue) (xs : List Addr) (a : Addr) → IsObject (cell_of h a).mark → IsObject (cell_of (all_found h xs) a).mark
 all_found_object h [] a o = o
 all_found_object h (x ∷ xs) a o = all_found_object (found_in h x) xs a (puts.mark_object h x (Moved x) tt a o)

@@ -2,7 +2,7 @@
 use Rattle.std.proofs.Common.{◌≡◌, ℕ, zero, suc, ◌+◌, ◌<◌, List, [], ◌∷◌, ◌++◌, length, take, drop, map, refl, ap, arith, Option, All, inl, inr}
 use Rattle.object_layout.specs.declared.word.Addr.{Addr}
 use Rattle.task_frames.specs.declared.frames.Frame.{Frame}
-use Rattle.task_frames.specs.Stack.{references_of, references_written}
+use Rattle.task_frames.specs.FramesValue.{references_of, references_written}
 use Rattle.listed.proofs.Members.{In, in_append_left, in_append_right}
 use Rattle.leaf_copy_gc.specs.Survivors.{held_by}
 use Rattle.leaf_copy_gc.specs.Redirected.{led_frame}

@@ -5,9 +5,9 @@ use Rattle.std.specs.List.Sorted.{IsPermutation}
 use Rattle.std.proofs.lemmas.List.Sorted.{IsPermutation-append, IsPermutation-append_comm, IsPermutation-append_left, IsPermutation-append_right, IsPermutation-filter_both, IsPermutation-map, IsPermutation-refl, IsPermutation-remove, IsPermutation-reverse, IsPermutation-trans}
 use Rattle.object_layout.specs.declared.word.Addr.{Addr}
 use Rattle.object_layout.specs.Cell.{Cell, size_of}
-use Rattle.object_layout.specs.Content.{Content}
+use Rattle.object_layout.specs.ChunkValue.{ChunkValue}
 use Rattle.object_layout.specs.Chunks.{cell_of, chunk_at, no_chunk}
-use Rattle.alloc_path.specs.Heap.{Heap, IsReserved}
+use Rattle.alloc_path.specs.LeafHeapValue.{LeafHeapValue, IsReserved}
 use Rattle.leaf_copy_gc.specs.declared.lists.Survivor.{Survivor}
 use Rattle.leaf_copy_gc.specs.Survivors.{olds}
 use Rattle.leaf_copy_gc.specs.Laid.{Laying, before, laid_all, laid_one, open_next, opened, placed, room_in, smalls}
@@ -22,19 +22,19 @@ Label = ℕ × ℕ
 
 -- ---- labels that stay
 
-labels_append : (ks ls : List Content) → labels (ks ++ ls) ≡ labels ks ++ labels ls
+labels_append : (ks ls : List ChunkValue) → labels (ks ++ ls) ≡ labels ks ++ labels ls
 labels_append [] ls = refl
 labels_append (k ∷ ks) ls = ap (λ (ns : List Label). (k.number, k.size) ∷ ns) (labels_append ks ls)
 
-labels_led : (f : Option Addr → Option Addr) (ks : List Content) → labels (map (led_chunk f) ks) ≡ labels ks
+labels_led : (f : Option Addr → Option Addr) (ks : List ChunkValue) → labels (map (led_chunk f) ks) ≡ labels ks
 labels_led f [] = refl
 labels_led f (k ∷ ks) = ap (λ (ns : List Label). (k.number, k.size) ∷ ns) (labels_led f ks)
 
-labels_emptied : (ks : List Content) → labels (map emptied ks) ≡ labels ks
+labels_emptied : (ks : List ChunkValue) → labels (map emptied ks) ≡ labels ks
 labels_emptied [] = refl
 labels_emptied (k ∷ ks) = ap (λ (ns : List Label). (k.number, k.size) ∷ ns) (labels_emptied ks)
 
-labels_placed : (ks : List Content) (c : Cell) → labels (placed ks c) ≡ labels ks
+labels_placed : (ks : List ChunkValue) (c : Cell) → labels (placed ks c) ≡ labels ks
 labels_placed [] c = refl
 labels_placed (k ∷ []) c = refl
 labels_placed (k ∷ (l ∷ ks)) c = ap (λ (ns : List Label). (k.number, k.size) ∷ ns) (labels_placed (l ∷ ks) c)
@@ -43,7 +43,7 @@ move_over : (xs : List Label) (n : Label) (ys : List Label) → (xs ++ n ∷ [])
 move_over [] n ys = refl
 move_over (x ∷ xs) n ys = ap (λ (ns : List Label). x ∷ ns) (move_over xs n ys)
 
-labels_open : (laid spare : List Content) → labels (open_next laid spare).laid ++ labels (open_next laid spare).spare ≡ labels laid ++ labels spare
+labels_open : (laid spare : List ChunkValue) → labels (open_next laid spare).laid ++ labels (open_next laid spare).spare ≡ labels laid ++ labels spare
 labels_open laid [] = refl
 labels_open laid (k ∷ ks) = ap (λ (ns : List Label). ns ++ labels ks) (labels_append laid (k ∷ [])) ∙ move_over (labels laid) (k.number, k.size) (labels ks)
 
@@ -51,7 +51,7 @@ labels_opened : (y : Laying) (b : Bool) → labels (cond b (open_next y.laid y.s
 labels_opened y true = labels_open y.laid y.spare
 labels_opened y false = refl
 
-labels_laid : (y : Laying) (h : List Content) (xs : List Addr) → labels (laid_all y h xs).laid ++ labels (laid_all y h xs).spare ≡ labels y.laid ++ labels y.spare
+labels_laid : (y : Laying) (h : List ChunkValue) (xs : List Addr) → labels (laid_all y h xs).laid ++ labels (laid_all y h xs).spare ≡ labels y.laid ++ labels y.spare
 labels_laid y h [] = refl
 labels_laid y h (a ∷ xs) =
     labels_laid (laid_one y (cell_of h a)) h xs
@@ -63,11 +63,11 @@ labels_laid y h (a ∷ xs) =
 abbrev Perm : List Label → List Label → Type 0
 Perm xs ys = IsPermutation xs ys
 
-within : (ks : List Content) (o : Option ℕ) → IsReserved ks o → IsPermutation ks (reserved_of ks o ++ unreserved ks o)
+within : (ks : List ChunkValue) (o : Option ℕ) → IsReserved ks o → IsPermutation ks (reserved_of ks o ++ unreserved ks o)
 within ks None w = IsPermutation-refl ks
 within ks (Some i) w = IsPermutation-remove ks i (chunk_at ks i) w.0 (read_any ks i no_chunk (chunk_at ks i) w.0)
 
-of_labels : (xs ys : List Content) → IsPermutation xs ys → Perm (labels xs) (labels ys)
+of_labels : (xs ys : List ChunkValue) → IsPermutation xs ys → Perm (labels xs) (labels ys)
 of_labels xs ys p = IsPermutation-map (λ k. (k.number, k.size)) xs ys p
 
 -- five lists in another order
@@ -85,8 +85,8 @@ shuffled r k e l s =
 
 -- ---- the law
 
-module _ (h : Heap) (ss : List Survivor) (news : List Content) (w : IsReserved h.chunks h.reserved) where
-  abbrev U : List Content
+module _ (h : LeafHeapValue) (ss : List Survivor) (news : List ChunkValue) (w : IsReserved h.chunks h.reserved) where
+  abbrev U : List ChunkValue
   U = unreserved h.chunks h.reserved
 
   abbrev R : List Label
@@ -101,7 +101,7 @@ module _ (h : Heap) (ss : List Survivor) (news : List Content) (w : IsReserved h
   abbrev L : List Label
   L = labels (laying_of h.chunks ss (reverse news)).laid
 
-  abbrev spare : List Content
+  abbrev spare : List ChunkValue
   spare = (laying_of h.chunks ss (reverse news)).spare
 
   abbrev S : List Label

@@ -4,7 +4,7 @@ use Rattle.std.specs.Prelude.{nat_le}
 use Rattle.std.proofs.lemmas.Bool.{cases_Bool, false≢true, le-leb, lt-leb, cases_lt}
 use Rattle.object_layout.specs.declared.word.Addr.{Addr}
 use Rattle.object_layout.specs.Cell.{Cell, IsObject, size_of}
-use Rattle.object_layout.specs.Content.{Content}
+use Rattle.object_layout.specs.ChunkValue.{ChunkValue}
 use Rattle.object_layout.specs.Place.{cell_at, put_cell}
 use Rattle.object_layout.specs.Chunks.{cell_of, put_object}
 use Rattle.object_layout.proofs.Distinct.{Once}
@@ -22,11 +22,11 @@ use Rattle.leaf_copy_gc.proofs.FollowLemmas as follows
 
 -- ---- shape
 
-pub alike_itself : (h : List Content) → AreAlike h h
+pub alike_itself : (h : List ChunkValue) → AreAlike h h
 alike_itself [] = tt
 alike_itself (k ∷ ks) = ((refl, refl, refl), alike_itself ks)
 
-pub alike_then : (h g e : List Content) → AreAlike h g → AreAlike g e → AreAlike h e
+pub alike_then : (h g e : List ChunkValue) → AreAlike h g → AreAlike g e → AreAlike h e
 alike_then [] [] [] a b = tt
 alike_then [] [] (z ∷ e) a b = b
 alike_then [] (y ∷ g) e a b = absurd a
@@ -45,7 +45,7 @@ sizes_put (d ∷ cs) (suc n) c s =
           rw t (ap (λ (ns : List ℕ). size_of d ∷ ns) (sizes_put cs (suc n - size_of d) c (rw t at s)))
     ]
 
-pub alike_put : (h : List Content) (x : Addr) (c : Cell) → size_of c ≡ size_of (cell_of h x) → AreAlike h (put_object h x c)
+pub alike_put : (h : List ChunkValue) (x : Addr) (c : Cell) → size_of c ≡ size_of (cell_of h x) → AreAlike h (put_object h x c)
 alike_put [] x c s = tt
 alike_put (k ∷ ks) x c s =
     elim (cases_Bool (eqb k.number x.chunk)) [
@@ -55,49 +55,49 @@ alike_put (k ∷ ks) x c s =
 
 -- ---- one object after another
 
-large_at : (g : List Content) (s : Survivor) (a : Addr) (b : Bool) → (s.old ≡ a → ⊥) → cell_of (cond b g (followed_at g s.old)) a ≡ cell_of g a
+large_at : (g : List ChunkValue) (s : Survivor) (a : Addr) (b : Bool) → (s.old ≡ a → ⊥) → cell_of (cond b g (followed_at g s.old)) a ≡ cell_of g a
 large_at g s a true n = refl
 large_at g s a false n = laws.cell_of-put_other g s.old a (led (followed_ref g) (cell_of g s.old)) (follows.size_led (followed_ref g) (cell_of g s.old)) (λ e. n (sym e))
 
-pub larges_other : (g : List Content) (ss : List Survivor) (a : Addr) → (In (olds ss) a → ⊥) → cell_of (fold followed_large g ss) a ≡ cell_of g a
+pub larges_other : (g : List ChunkValue) (ss : List Survivor) (a : Addr) → (In (olds ss) a → ⊥) → cell_of (fold followed_large g ss) a ≡ cell_of g a
 larges_other g [] a n = refl
 larges_other g (s ∷ ss) a n = larges_other (followed_large g s) ss a (λ i. n (inr i)) ∙ large_at g s a (is_small g s.old) (λ e. n (inl e))
 
-target_at : (g : List Content) (s : Survivor) (b : Bool) (r : Option Addr) → IsTarget g r → IsTarget (cond b g (followed_at g s.old)) r
+target_at : (g : List ChunkValue) (s : Survivor) (b : Bool) (r : Option Addr) → IsTarget g r → IsTarget (cond b g (followed_at g s.old)) r
 target_at g s true r t = t
 target_at g s false r t = follows.target_put g s.old (led (followed_ref g) (cell_of g s.old)) refl (follows.size_led (followed_ref g) (cell_of g s.old)) r t
 
-followed_at_same : (g : List Content) (s : Survivor) (b : Bool) (r : Option Addr) → followed_ref (cond b g (followed_at g s.old)) r ≡ followed_ref g r
+followed_at_same : (g : List ChunkValue) (s : Survivor) (b : Bool) (r : Option Addr) → followed_ref (cond b g (followed_at g s.old)) r ≡ followed_ref g r
 followed_at_same g s true r = refl
 followed_at_same g s false r = follows.followed_ref_put g s.old (led (followed_ref g) (cell_of g s.old)) refl (follows.size_led (followed_ref g) (cell_of g s.old)) r
 
-alike_at : (g : List Content) (s : Survivor) (b : Bool) → AreAlike g (cond b g (followed_at g s.old))
+alike_at : (g : List ChunkValue) (s : Survivor) (b : Bool) → AreAlike g (cond b g (followed_at g s.old))
 alike_at g s true = alike_itself g
 alike_at g s false = alike_put g s.old (led (followed_ref g) (cell_of g s.old)) (follows.size_led (followed_ref g) (cell_of g s.old))
 
-pub alike_larges : (g : List Content) (ss : List Survivor) → AreAlike g (fold followed_large g ss)
+pub alike_larges : (g : List ChunkValue) (ss : List Survivor) → AreAlike g (fold followed_large g ss)
 alike_larges g [] = alike_itself g
 alike_larges g (s ∷ ss) = alike_then g (followed_large g s) (fold followed_large (followed_large g s) ss) (alike_at g s (is_small g s.old)) (alike_larges (followed_large g s) ss)
 
 not_again : (s : Survivor) (ss : List Survivor) → Once (olds (s ∷ ss)) → (t : Survivor) → In ss t → s.old ≡ t.old → ⊥
 not_again s ss o t i e = o.0 (contains_from_in (olds ss) s.old (subst (In (olds ss)) (sym e) (in_map old_of ss t i)))
 
-targets_after : (g : List Content) (s : Survivor) (c : Cell) → HasTargets g c → HasTargets (followed_large g s) c
+targets_after : (g : List ChunkValue) (s : Survivor) (c : Cell) → HasTargets g c → HasTargets (followed_large g s) c
 targets_after g s c t = (t.0, λ k d l. target_at g s (is_small g s.old) (get_or c.refs k d) (t.1 k d l))
 
-pub can_follow : (g : List Content) (ss : List Survivor) → Once (olds ss) → ((s : Survivor) → In ss s → HasTargets g (cell_of g s.old)) → CanFollow g ss
+pub can_follow : (g : List ChunkValue) (ss : List Survivor) → Once (olds ss) → ((s : Survivor) → In ss s → HasTargets g (cell_of g s.old)) → CanFollow g ss
 can_follow g [] o t = tt
 can_follow g (s ∷ ss) o t = (
   t s (inl refl),
   can_follow (followed_large g s) ss o.1 (λ u i. subst (HasTargets (followed_large g s)) (sym (large_at g s u.old (is_small g s.old) (not_again s ss o u i))) (targets_after g s (cell_of g u.old) (t u (inr i)))),
 )
 
-large_here : (g : List Content) (a : Addr) (f : Option Addr → Option Addr) → IsObject (cell_of g a).mark → ((r : Option Addr) → followed_ref g r ≡ f r) → (b : Bool) → b ≡ false → cell_of (cond b g (followed_at g a)) a ≡ led f (cell_of g a)
+large_here : (g : List ChunkValue) (a : Addr) (f : Option Addr → Option Addr) → IsObject (cell_of g a).mark → ((r : Option Addr) → followed_ref g r ≡ f r) → (b : Bool) → b ≡ false → cell_of (cond b g (followed_at g a)) a ≡ led f (cell_of g a)
 large_here g a f o same true e = absurd (false≢true (sym e))
 large_here g a f o same false e = laws.cell_of-put_same g a (led (followed_ref g) (cell_of g a)) o ∙ ap (λ (w : Option Addr → Option Addr). led w (cell_of g a)) (λ i r. same r i)
 
 -- a large survivor's references are led by the addresses in the old heap
-pub larges_led : (g : List Content) (ss : List Survivor) (f : Option Addr → Option Addr) → Once (olds ss) → ((r : Option Addr) → followed_ref g r ≡ f r)
+pub larges_led : (g : List ChunkValue) (ss : List Survivor) (f : Option Addr → Option Addr) → Once (olds ss) → ((r : Option Addr) → followed_ref g r ≡ f r)
     → (a : Addr) → In (olds ss) a → IsObject (cell_of g a).mark → is_small g a ≡ false → cell_of (fold followed_large g ss) a ≡ led f (cell_of g a)
 larges_led g [] f o same a i ob l = absurd i
 larges_led g (s ∷ ss) f o same a i ob l =

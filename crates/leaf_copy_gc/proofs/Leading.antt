@@ -5,7 +5,7 @@ use Rattle.std.proofs.lemmas.Bool.{cases_lt, lt-ltb, le-ltb, leb-true, false≢t
 use Rattle.std.proofs.lemmas.List.Elements.{All-cons, All-head, All-tail}
 use Rattle.object_layout.specs.declared.word.Addr.{Addr}
 use Rattle.object_layout.specs.Cell.{Cell, Born, Moved, IsObject, moved_to, size_of, with_mark}
-use Rattle.object_layout.specs.Content.{Content}
+use Rattle.object_layout.specs.ChunkValue.{ChunkValue}
 use Rattle.object_layout.specs.Chunks.{cell_of, place_of}
 use Rattle.object_layout.specs.Graph.{IsClosed, IsHeld, IsSound}
 use Rattle.object_layout.proofs.Distinct.{Once}
@@ -15,7 +15,7 @@ use Rattle.leaf_copy_gc.specs.declared.lists.Survivor.{Survivor}
 use Rattle.leaf_copy_gc.specs.Survivors.{IsSurvivor, olds, old_of, HaveNames}
 use Rattle.leaf_copy_gc.specs.Search.{all_found, IsTarget}
 use Rattle.leaf_copy_gc.specs.Laid.{Laying, is_small, smalls, laid_all, laid_one, opened, open_next, placed, room_in, relocations, before, AreNew, HaveRoom, small_words}
-use Rattle.leaf_copy_gc.specs.Collection.{Collection}
+use Rattle.leaf_copy_gc.specs.CollectorValue.{CollectorValue}
 use Rattle.leaf_copy_gc.specs.Copying.{copied, copied_one, IsReady}
 use Rattle.leaf_copy_gc.specs.Redirected.{followed, followed_ref, new_address, redirected, led, led_chunk, HasTargets}
 use Rattle.leaf_copy_gc.proofs.ListLemmas.{in_map, in_read, read_in}
@@ -28,12 +28,12 @@ use Rattle.leaf_copy_gc.proofs.Rooms as rooms
 
 -- ---- what lies in the new chunks
 
-abbrev pub Each : (Cell → Type 0) → List Content → Type 0
+abbrev pub Each : (Cell → Type 0) → List ChunkValue → Type 0
 Each Q [] = Unit {0}
 Each Q (k ∷ ks) = All Q k.cells × Each Q ks
 
 module _ (Q : Cell → Type 0) where
-  each_push : (ks : List Content) (k : Content) → Each Q ks → All Q k.cells → Each Q (ks ++ k ∷ [])
+  each_push : (ks : List ChunkValue) (k : ChunkValue) → Each Q ks → All Q k.cells → Each Q (ks ++ k ∷ [])
   each_push [] k e a = (a, tt)
   each_push (x ∷ ks) k e a = (e.0, each_push ks k e.1 a)
 
@@ -41,7 +41,7 @@ module _ (Q : Cell → Type 0) where
   all_push [] c a q = All-cons Q c [] q a
   all_push (x ∷ cs) c a q = All-cons Q x (cs ++ c ∷ []) (All-head Q x cs a) (all_push cs c (All-tail Q x cs a) q)
 
-  each_placed : (ks : List Content) (c : Cell) → Each Q ks → Q c → Each Q (placed ks c)
+  each_placed : (ks : List ChunkValue) (c : Cell) → Each Q ks → Q c → Each Q (placed ks c)
   each_placed [] c e q = tt
   each_placed (k ∷ []) c e q = (all_push k.cells c e.0 q, tt)
   each_placed (k ∷ (l ∷ ks)) c e q = (e.0, each_placed (l ∷ ks) c e.1 q)
@@ -49,7 +49,7 @@ module _ (Q : Cell → Type 0) where
   none_all : (cs : List Cell) → cs ≡ [] → All Q cs
   none_all cs e = subst (All Q) (sym e) (λ i d l. absurd (omega arith))
 
-  each_open : (laid spare : List Content) → Each Q laid → AreNew spare → Each Q (open_next laid spare).laid × AreNew (open_next laid spare).spare
+  each_open : (laid spare : List ChunkValue) → Each Q laid → AreNew spare → Each Q (open_next laid spare).laid × AreNew (open_next laid spare).spare
   each_open laid [] e m = (e, tt)
   each_open laid (k ∷ ks) e m = (each_push laid k e (none_all k.cells m.0.0), m.1)
 
@@ -57,7 +57,7 @@ module _ (Q : Cell → Type 0) where
   each_opened_at y true e m = each_open y.laid y.spare e m
   each_opened_at y false e m = (e, m)
 
-  pub each_laid : (y : Laying) (h : List Content) (xs : List Addr) → Each Q y.laid → AreNew y.spare → ((a : Addr) → In xs a → Q (cell_of h a)) → Each Q (laid_all y h xs).laid
+  pub each_laid : (y : Laying) (h : List ChunkValue) (xs : List Addr) → Each Q y.laid → AreNew y.spare → ((a : Addr) → In xs a → Q (cell_of h a)) → Each Q (laid_all y h xs).laid
   each_laid y h [] e m q = e
   each_laid y h (a ∷ xs) e m q =
       let o = each_opened_at y (nat_lt (room_in y.laid) (size_of (cell_of h a))) e m in
@@ -65,17 +65,17 @@ module _ (Q : Cell → Type 0) where
 
 -- ---- references in the new chunks
 
-abbrev pub Leads : List Content → List (Addr × Addr) → Option Addr → Type 0
+abbrev pub Leads : List ChunkValue → List (Addr × Addr) → Option Addr → Type 0
 Leads old ps r = (followed_ref old r ≡ redirected ps r) × IsTarget old r
 
-abbrev pub CellLeads : List Content → List (Addr × Addr) → Cell → Type 0
+abbrev pub CellLeads : List ChunkValue → List (Addr × Addr) → Cell → Type 0
 CellLeads old ps c = IsObject c.mark × All (Leads old ps) c.refs
 
 pub map_same : {X Y : Type 0} (f g : X → Y) (xs : List X) → All (λ x. f x ≡ g x) xs → map f xs ≡ map g xs
 map_same f g [] a = refl
 map_same f g (x ∷ xs) a = λ i. All-head (λ y. f y ≡ g y) x xs a i ∷ map_same f g xs (All-tail (λ y. f y ≡ g y) x xs a) i
 
-module _ (old : List Content) (ps : List (Addr × Addr)) where
+module _ (old : List ChunkValue) (ps : List (Addr × Addr)) where
   pub refs_same : (rs : List (Option Addr)) → All (Leads old ps) rs → map (followed_ref old) rs ≡ map (redirected ps) rs
   refs_same rs q = map_same (followed_ref old) (redirected ps) rs (λ k d l. (q k d l).0)
 
@@ -85,38 +85,38 @@ module _ (old : List Content) (ps : List (Addr × Addr)) where
   cell_same : (c : Cell) → CellLeads old ps c → led (followed_ref old) c ≡ led (redirected ps) c
   cell_same c q = ap (λ (rs : List (Option Addr)). let d : Cell = record c { refs = rs } in d) (refs_same c.refs q.1)
 
-  chunk_same : (k : Content) → All (CellLeads old ps) k.cells → led_chunk (followed_ref old) k ≡ led_chunk (redirected ps) k
-  chunk_same k q = ap (λ (cs : List Cell). let d : Content = record k { cells = cs } in d) (map_same (led (followed_ref old)) (led (redirected ps)) k.cells (λ i d l. cell_same _ (q i d l)))
+  chunk_same : (k : ChunkValue) → All (CellLeads old ps) k.cells → led_chunk (followed_ref old) k ≡ led_chunk (redirected ps) k
+  chunk_same k q = ap (λ (cs : List Cell). let d : ChunkValue = record k { cells = cs } in d) (map_same (led (followed_ref old)) (led (redirected ps)) k.cells (λ i d l. cell_same _ (q i d l)))
 
-  pub chunks_same : (ks : List Content) → Each (CellLeads old ps) ks → map (led_chunk (followed_ref old)) ks ≡ map (led_chunk (redirected ps)) ks
+  pub chunks_same : (ks : List ChunkValue) → Each (CellLeads old ps) ks → map (led_chunk (followed_ref old)) ks ≡ map (led_chunk (redirected ps)) ks
   chunks_same [] e = refl
   chunks_same (k ∷ ks) e = λ i. chunk_same k e.0 i ∷ chunks_same ks e.1 i
 
-  pub chunks_targets : (ks : List Content) → Each (CellLeads old ps) ks → All (λ (k : Content). All (HasTargets old) k.cells) ks
+  pub chunks_targets : (ks : List ChunkValue) → Each (CellLeads old ps) ks → All (λ (k : ChunkValue). All (HasTargets old) k.cells) ks
   chunks_targets [] e = λ i d l. absurd (omega arith)
-  chunks_targets (k ∷ ks) e = All-cons (λ (x : Content). All (HasTargets old) x.cells) k ks (λ i d l. ((e.0 i d l).0, refs_targets _ (e.0 i d l).1)) (chunks_targets ks e.1)
+  chunks_targets (k ∷ ks) e = All-cons (λ (x : ChunkValue). All (HasTargets old) x.cells) k ks (λ i d l. ((e.0 i d l).0, refs_targets _ (e.0 i d l).1)) (chunks_targets ks e.1)
 
 -- ---- where references are led
 
-followed_in : (g : List Content) (a : Addr) → place_of g a.chunk < length g → followed g a ≡ moved_to (cell_of g a).mark
+followed_in : (g : List ChunkValue) (a : Addr) → place_of g a.chunk < length g → followed g a ≡ moved_to (cell_of g a).mark
 followed_in g a l = rw (lt-ltb (place_of g a.chunk) (length g) l) refl
 
-followed_out : (g : List Content) (a : Addr) → length g ≤ place_of g a.chunk → followed g a ≡ Some a
+followed_out : (g : List ChunkValue) (a : Addr) → length g ≤ place_of g a.chunk → followed g a ≡ Some a
 followed_out g a l = rw (le-ltb (place_of g a.chunk) (length g) l) refl
 
 -- h: the heap; ss: the survivors in order; found: in the order in which they were found; k: before the copying
-module _ (h : List Content) (from : List (Option Addr)) (closed : IsClosed h) (sound : All (IsSound h) from)
-    (ss : List Survivor) (found : List Addr) (spare : List Content)
+module _ (h : List ChunkValue) (from : List (Option Addr)) (closed : IsClosed h) (sound : All (IsSound h) from)
+    (ss : List Survivor) (found : List Addr) (spare : List ChunkValue)
     (kept : (a : Addr) → Contains (olds ss) a ↔ IsSurvivor h from a) (once : Once (olds ss))
     (all : (a : Addr) → In (olds ss) a → In found a)
     (names : HaveNames h ss)
-    (k : Collection) (k_old : k.heap.chunks ≡ all_found h found) (k_laying : k.laying ≡ before spare) (k_moved : k.moved ≡ [])
+    (k : CollectorValue) (k_old : k.heap.chunks ≡ all_found h found) (k_laying : k.laying ≡ before spare) (k_moved : k.moved ≡ [])
     (new : AreNew spare) where
   born : (s : Survivor) → In ss s → (cell_of h s.old).mark ≡ Born s.birth
   born s i = read_in (λ (x : Survivor). (cell_of h x.old).mark ≡ Born x.birth) ss s i names
 
   pub as_were : AreAs h k.heap.chunks ss
-  as_were = subst (λ (old : List Content). AreAs h old ss) (sym k_old) (moves.are_as h found ss born)
+  as_were = subst (λ (old : List ChunkValue). AreAs h old ss) (sym k_old) (moves.are_as h found ss born)
 
   pub can_copy : HaveRoom (before spare) h (smalls h (olds ss)) → IsReady k ss
   can_copy room = moves.are_ready h k ss once as_were (subst (λ (y : Laying). HaveRoom y h (smalls h (olds ss))) (sym k_laying) room)
@@ -138,13 +138,13 @@ module _ (h : List Content) (from : List (Option Addr)) (closed : IsClosed h) (s
       rooms.enough_room h ((small_words h + 1023) / 1024) spare (smalls h (olds ss)) new (omega arith) room (λ a i. leb-true (size_of (cell_of h a)) 1024 (small a i).1)
 
   -- what the copying gave
-  module _ (t : Collection) (is : t ≡ fold copied k ss) where
+  module _ (t : CollectorValue) (is : t ≡ fold copied k ss) where
     t_is : t ≡ fold copied_one k (small_ones h ss)
     t_is = is ∙ moves.small_alone h k ss once as_were
 
     pub laying_is : t.laying ≡ laid_all (before spare) h (smalls h (olds ss))
     laying_is =
-        ap (λ (z : Collection). z.laying) t_is ∙ (moves.copied_laying h k (small_ones h ss) small_once small_as
+        ap (λ (z : CollectorValue). z.laying) t_is ∙ (moves.copied_laying h k (small_ones h ss) small_once small_as
         ∙ (ap (λ (y : Laying). laid_all y h (olds (small_ones h ss))) k_laying ∙ ap (laid_all (before spare) h) (moves.olds_small h ss)))
 
     places_are : relocations k.laying h (olds (small_ones h ss)) ≡ relocations (before spare) h (smalls h (olds ss))
@@ -152,32 +152,32 @@ module _ (h : List Content) (from : List (Option Addr)) (closed : IsClosed h) (s
 
     pub moved_is : t.moved ≡ relocations (before spare) h (smalls h (olds ss))
     moved_is =
-        ap (λ (z : Collection). z.moved) t_is
+        ap (λ (z : CollectorValue). z.moved) t_is
         ∙ (moves.copied_moved h k (small_ones h ss) small_once small_as
         ∙ (ap (λ (ps : List (Addr × Addr)). ps ++ relocations k.laying h (olds (small_ones h ss))) k_moved ∙ places_are))
 
     place_is : (n : ℕ) → place_of t.heap.chunks n ≡ place_of h n
     place_is n =
-        ap (λ (z : Collection). place_of z.heap.chunks n) t_is ∙ (moves.copied_place h k (small_ones h ss) n
-        ∙ (ap (λ (old : List Content). place_of old n) k_old ∙ marks.found_place h found n))
+        ap (λ (z : CollectorValue). place_of z.heap.chunks n) t_is ∙ (moves.copied_place h k (small_ones h ss) n
+        ∙ (ap (λ (old : List ChunkValue). place_of old n) k_old ∙ marks.found_place h found n))
 
     length_is : length t.heap.chunks ≡ length h
     length_is =
-        ap (λ (z : Collection). length z.heap.chunks) t_is ∙ (moves.copied_length h k (small_ones h ss)
-        ∙ (ap (λ (old : List Content). length old) k_old ∙ marks.found_length h found))
+        ap (λ (z : CollectorValue). length z.heap.chunks) t_is ∙ (moves.copied_length h k (small_ones h ss)
+        ∙ (ap (λ (old : List ChunkValue). length old) k_old ∙ marks.found_length h found))
 
     -- where the mark of a survivor leads
     mark_leads : (a : Addr) → In (olds ss) a → moved_to (cell_of t.heap.chunks a).mark ≡ Some (new_address (relocations (before spare) h (smalls h (olds ss))) a)
     mark_leads a i =
         elim (puts.in_or_not (olds (small_ones h ss)) a) [
           | inl j ↦
-              ap (λ (z : Collection). moved_to (cell_of z.heap.chunks a).mark) t_is
+              ap (λ (z : CollectorValue). moved_to (cell_of z.heap.chunks a).mark) t_is
               ∙ (moves.copied_mark h k (small_ones h ss) small_once small_as a j ∙ ap (λ (ps : List (Addr × Addr)). Some (new_address ps a)) places_are)
           | inr n ↦
               let out : In (smalls h (olds ss)) a → ⊥ = λ j. n (subst (λ (xs : List Addr). In xs a) (sym (moves.olds_small h ss)) j) in
-              ap (λ (z : Collection). moved_to (cell_of z.heap.chunks a).mark) t_is
+              ap (λ (z : CollectorValue). moved_to (cell_of z.heap.chunks a).mark) t_is
               ∙ (ap (λ (c : Cell). moved_to c.mark) (moves.copied_other h k (small_ones h ss) a n)
-              ∙ (ap (λ (old : List Content). moved_to (cell_of old a).mark) k_old
+              ∙ (ap (λ (old : List ChunkValue). moved_to (cell_of old a).mark) k_old
               ∙ (ap moved_to (moves.found_marked h found a (all a i) (laws.born_object h a (lives a i)))
               ∙ sym (ap (λ (o : Option Addr). Some (unwrap_or o a)) (moves.new_none (before spare) h (smalls h (olds ss)) a out)))))
         ]
@@ -196,8 +196,8 @@ module _ (h : List Content) (from : List (Option Addr)) (closed : IsClosed h) (s
             let out : In (smalls h (olds ss)) a → ⊥ = λ j. let z = puts.live_chunk h a (lives a (moves.in_smalls h (olds ss) a j).0) in omega arith in
             followed_out t.heap.chunks a (omega arith) ∙ sym (ap (λ (o : Option Addr). Some (unwrap_or o a)) (moves.new_none (before spare) h (smalls h (olds ss)) a out))
       ],
-      subst (λ (z : Collection). IsTarget z.heap.chunks (Some a)) (sym t_is)
-          (moves.copied_target h k (small_ones h ss) (Some a) (subst (λ (old : List Content). IsTarget old (Some a)) (sym k_old) (marks.found_target h found (Some a) (marks.sound_target h (Some a) s)))),
+      subst (λ (z : CollectorValue). IsTarget z.heap.chunks (Some a)) (sym t_is)
+          (moves.copied_target h k (small_ones h ss) (Some a) (subst (λ (old : List ChunkValue). IsTarget old (Some a)) (sym k_old) (marks.found_target h found (Some a) (marks.sound_target h (Some a) s)))),
     )
 
     pub leads_refs : (a : Addr) → In (olds ss) a → All (Leads t.heap.chunks (relocations (before spare) h (smalls h (olds ss)))) (cell_of h a).refs
@@ -221,27 +221,27 @@ module _ (h : List Content) (from : List (Option Addr)) (closed : IsClosed h) (s
         chunks_same t.heap.chunks (relocations (before spare) h (smalls h (olds ss))) t.laying.laid each_leads
         ∙ ap (λ (z : Laying). map (led_chunk (redirected (relocations (before spare) h (smalls h (olds ss))))) z.laid) laying_is
 
-    pub chunks_have : All (λ (c : Content). All (HasTargets t.heap.chunks) c.cells) t.laying.laid
+    pub chunks_have : All (λ (c : ChunkValue). All (HasTargets t.heap.chunks) c.cells) t.laying.laid
     chunks_have = chunks_targets t.heap.chunks (relocations (before spare) h (smalls h (olds ss))) t.laying.laid each_leads
 
     -- the cell of a survivor, but for its mark
     pub still : (a : Addr) → (cell_of t.heap.chunks a).refs ≡ (cell_of h a).refs
     still a =
-        ap (λ (z : Collection). (cell_of z.heap.chunks a).refs) t_is
+        ap (λ (z : CollectorValue). (cell_of z.heap.chunks a).refs) t_is
         ∙ (ap (λ (c : Cell). c.refs) (moves.copied_alone h k (small_ones h ss) a (Moved a))
-        ∙ (ap (λ (old : List Content). (cell_of old a).refs) k_old ∙ marks.all_found_refs h found a))
+        ∙ (ap (λ (old : List ChunkValue). (cell_of old a).refs) k_old ∙ marks.all_found_refs h found a))
 
     pub still_but_mark : (a : Addr) → with_mark (cell_of t.heap.chunks a) (Moved a) ≡ with_mark (cell_of h a) (Moved a)
     still_but_mark a =
-        ap (λ (z : Collection). with_mark (cell_of z.heap.chunks a) (Moved a)) t_is
+        ap (λ (z : CollectorValue). with_mark (cell_of z.heap.chunks a) (Moved a)) t_is
         ∙ (moves.copied_alone h k (small_ones h ss) a (Moved a)
-        ∙ (ap (λ (old : List Content). with_mark (cell_of old a) (Moved a)) k_old ∙ marks.all_found_alone h found a (Moved a)))
+        ∙ (ap (λ (old : List ChunkValue). with_mark (cell_of old a) (Moved a)) k_old ∙ marks.all_found_alone h found a (Moved a)))
 
     -- a large survivor is marked as moved to where it is
     pub large_marked : (a : Addr) → In (olds ss) a → is_small h a ≡ false → cell_of t.heap.chunks a ≡ with_mark (cell_of h a) (Moved a)
     large_marked a i s =
         let n : In (olds (small_ones h ss)) a → ⊥ = λ j. false≢true (sym s ∙ (moves.in_smalls h (olds ss) a (subst (λ (xs : List Addr). In xs a) (moves.olds_small h ss) j)).1) in
-        let same : cell_of t.heap.chunks a ≡ cell_of (all_found h found) a = ap (λ (z : Collection). cell_of z.heap.chunks a) t_is ∙ (moves.copied_other h k (small_ones h ss) a n ∙ ap (λ (old : List Content). cell_of old a) k_old) in
+        let same : cell_of t.heap.chunks a ≡ cell_of (all_found h found) a = ap (λ (z : CollectorValue). cell_of z.heap.chunks a) t_is ∙ (moves.copied_other h k (small_ones h ss) a n ∙ ap (λ (old : List ChunkValue). cell_of old a) k_old) in
         let m : (cell_of t.heap.chunks a).mark ≡ Moved a = ap (λ (c : Cell). c.mark) same ∙ moves.found_marked h found a (all a i) (laws.born_object h a (lives a i)) in
         marked_cell (cell_of t.heap.chunks a) a m ∙ still_but_mark a
       where
@@ -252,14 +252,14 @@ module _ (h : List Content) (from : List (Option Addr)) (closed : IsClosed h) (s
     pub dead_stays : (a : Addr) → (In (olds ss) a → ⊥) → (In found a → In (olds ss) a) → cell_of t.heap.chunks a ≡ cell_of h a
     dead_stays a n back =
         let out : In (olds (small_ones h ss)) a → ⊥ = λ j. n (moves.in_smalls h (olds ss) a (subst (λ (xs : List Addr). In xs a) (moves.olds_small h ss) j)).0 in
-        ap (λ (z : Collection). cell_of z.heap.chunks a) t_is
+        ap (λ (z : CollectorValue). cell_of z.heap.chunks a) t_is
         ∙ (moves.copied_other h k (small_ones h ss) a out
-        ∙ (ap (λ (old : List Content). cell_of old a) k_old ∙ marks.found_kept h found a (λ i. n (back i))))
+        ∙ (ap (λ (old : List ChunkValue). cell_of old a) k_old ∙ marks.found_kept h found a (λ i. n (back i))))
 
     pub target_refs : (s : Survivor) → In ss s → HasTargets t.heap.chunks (cell_of t.heap.chunks s.old)
     target_refs s i =
         let j = in_map old_of ss s i in (
-          subst (λ (z : Collection). IsObject (cell_of z.heap.chunks s.old).mark) (sym t_is)
-              (moves.copied_object h k (small_ones h ss) s.old (subst (λ (old : List Content). IsObject (cell_of old s.old).mark) (sym k_old) (marks.all_found_object h found s.old (laws.born_object h s.old (lives s.old j))))),
+          subst (λ (z : CollectorValue). IsObject (cell_of z.heap.chunks s.old).mark) (sym t_is)
+              (moves.copied_object h k (small_ones h ss) s.old (subst (λ (old : List ChunkValue). IsObject (cell_of old s.old).mark) (sym k_old) (marks.all_found_object h found s.old (laws.born_object h s.old (lives s.old j))))),
           subst (λ (rs : List (Option Addr)). All (IsTarget t.heap.chunks) rs) (sym (still s.old)) (refs_targets t.heap.chunks (relocations (before spare) h (smalls h (olds ss))) (cell_of h s.old).refs (leads_refs s.old j)),
         )

@@ -3,7 +3,7 @@ use Rattle.std.proofs.Common.{◌≡◌, ℕ, zero, suc, ◌+◌, ◌<◌, List,
 use Rattle.std.proofs.lemmas.List.{append-nil}
 use Rattle.object_layout.specs.declared.word.Addr.{Addr}
 use Rattle.task_frames.specs.declared.frames.Frame.{Frame}
-use Rattle.task_frames.specs.Stack.{references_of}
+use Rattle.task_frames.specs.FramesValue.{references_of}
 use Rattle.listed.proofs.Members.{In, contains_from_in, in_append_left, in_append_right}
 use Rattle.leaf_copy_gc.specs.Survivors.{held_by}
 

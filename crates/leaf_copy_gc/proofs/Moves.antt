@@ -6,7 +6,7 @@ use Rattle.std.proofs.lemmas.List.{append_assoc, append-nil}
 use Rattle.object_layout.specs.declared.word.Addr.{Addr}
 use Rattle.object_layout.specs.declared.word.Birth.{Birth}
 use Rattle.object_layout.specs.Cell.{Cell, Mark, Born, Moved, IsBorn, IsObject, moved_to, size_of, with_mark}
-use Rattle.object_layout.specs.Content.{Content}
+use Rattle.object_layout.specs.ChunkValue.{ChunkValue}
 use Rattle.object_layout.specs.Chunks.{cell_of, place_of, put_object}
 use Rattle.object_layout.specs.Graph.{IsHeld}
 use Rattle.object_layout.proofs.Distinct.{Once}
@@ -17,7 +17,7 @@ use Rattle.leaf_copy_gc.specs.declared.lists.Survivor.{Survivor}
 use Rattle.leaf_copy_gc.specs.Survivors.{olds, old_of}
 use Rattle.leaf_copy_gc.specs.Search.{all_found, found_in, IsTarget}
 use Rattle.leaf_copy_gc.specs.Laid.{Laying, is_small, smalls, laid_one, laid_at, relocations, laid_all, HasRoom, HaveRoom}
-use Rattle.leaf_copy_gc.specs.Collection.{Collection}
+use Rattle.leaf_copy_gc.specs.CollectorValue.{CollectorValue}
 use Rattle.leaf_copy_gc.specs.Copying.{copied, copied_one, survivor_cell, IsReady}
 use Rattle.leaf_copy_gc.specs.Redirected.{new_address}
 use Rattle.leaf_copy_gc.proofs.ListLemmas.{in_map}
@@ -47,63 +47,63 @@ address_from a b t =
     let o : a.offset ≡ b.offset = eqb-true a.offset b.offset both.1 in
     λ i. record { chunk = c i; offset = o i }
 
-pub new_none : (y : Laying) (h : List Content) (xs : List Addr) (a : Addr) → (In xs a → ⊥) → new_of (relocations y h xs) a ≡ None
+pub new_none : (y : Laying) (h : List ChunkValue) (xs : List Addr) (a : Addr) → (In xs a → ⊥) → new_of (relocations y h xs) a ≡ None
 new_none y h [] a n = refl
 new_none y h (x ∷ xs) a n = rw (addr_other x a (λ e. n (inl e))) (new_none (laid_one y (cell_of h x)) h xs a (λ i. n (inr i)))
 
 -- the small ones of these
-abbrev pub small_ones : List Content → List Survivor → List Survivor
+abbrev pub small_ones : List ChunkValue → List Survivor → List Survivor
 small_ones h ss = filter (λ s. is_small h s.old) ss
 
-olds_step : (h : List Content) (s : Survivor) (ss : List Survivor) → olds (small_ones h ss) ≡ smalls h (olds ss) → (b : Bool) → is_small h s.old ≡ b →
+olds_step : (h : List ChunkValue) (s : Survivor) (ss : List Survivor) → olds (small_ones h ss) ≡ smalls h (olds ss) → (b : Bool) → is_small h s.old ≡ b →
     olds (cond b (s ∷ small_ones h ss) (small_ones h ss)) ≡ cond b (s.old ∷ smalls h (olds ss)) (smalls h (olds ss))
 olds_step h s ss e true is = ap (λ (xs : List Addr). s.old ∷ xs) e
 olds_step h s ss e false is = e
 
-pub olds_small : (h : List Content) (ss : List Survivor) → olds (small_ones h ss) ≡ smalls h (olds ss)
+pub olds_small : (h : List ChunkValue) (ss : List Survivor) → olds (small_ones h ss) ≡ smalls h (olds ss)
 olds_small h [] = refl
 olds_small h (s ∷ ss) = olds_step h s ss (olds_small h ss) (is_small h s.old) refl
 
-in_small_step : (h : List Content) (s : Survivor) (ss : List Survivor) (t : Survivor) → (In (small_ones h ss) t → In ss t) → (b : Bool) → In (cond b (s ∷ small_ones h ss) (small_ones h ss)) t → In (s ∷ ss) t
+in_small_step : (h : List ChunkValue) (s : Survivor) (ss : List Survivor) (t : Survivor) → (In (small_ones h ss) t → In ss t) → (b : Bool) → In (cond b (s ∷ small_ones h ss) (small_ones h ss)) t → In (s ∷ ss) t
 in_small_step h s ss t rest true (inl e) = inl e
 in_small_step h s ss t rest true (inr i) = inr (rest i)
 in_small_step h s ss t rest false i = inr (rest i)
 
-pub in_small : (h : List Content) (ss : List Survivor) (t : Survivor) → In (small_ones h ss) t → In ss t
+pub in_small : (h : List ChunkValue) (ss : List Survivor) (t : Survivor) → In (small_ones h ss) t → In ss t
 in_small h [] t i = i
 in_small h (s ∷ ss) t i = in_small_step h s ss t (in_small h ss t) (is_small h s.old) i
 
 -- of addresses
-in_smalls_step : (h : List Content) (x : Addr) (xs : List Addr) (a : Addr) → (In (smalls h xs) a → In xs a × (is_small h a ≡ true)) → (b : Bool) → is_small h x ≡ b → In (cond b (x ∷ smalls h xs) (smalls h xs)) a → In (x ∷ xs) a × (is_small h a ≡ true)
+in_smalls_step : (h : List ChunkValue) (x : Addr) (xs : List Addr) (a : Addr) → (In (smalls h xs) a → In xs a × (is_small h a ≡ true)) → (b : Bool) → is_small h x ≡ b → In (cond b (x ∷ smalls h xs) (smalls h xs)) a → In (x ∷ xs) a × (is_small h a ≡ true)
 in_smalls_step h x xs a rest true is (inl e) = (inl e, subst (λ (y : Addr). is_small h y ≡ true) e is)
 in_smalls_step h x xs a rest true is (inr i) = let r = rest i in (inr r.0, r.1)
 in_smalls_step h x xs a rest false is i = let r = rest i in (inr r.0, r.1)
 
-pub in_smalls : (h : List Content) (xs : List Addr) (a : Addr) → In (smalls h xs) a → In xs a × (is_small h a ≡ true)
+pub in_smalls : (h : List ChunkValue) (xs : List Addr) (a : Addr) → In (smalls h xs) a → In xs a × (is_small h a ≡ true)
 in_smalls h [] a i = absurd i
 in_smalls h (x ∷ xs) a i = in_smalls_step h x xs a (in_smalls h xs a) (is_small h x) refl i
 
-to_smalls_step : (h : List Content) (x : Addr) (xs : List Addr) (a : Addr) → (In xs a → In (smalls h xs) a) → is_small h a ≡ true → (b : Bool) → is_small h x ≡ b → In (x ∷ xs) a → In (cond b (x ∷ smalls h xs) (smalls h xs)) a
+to_smalls_step : (h : List ChunkValue) (x : Addr) (xs : List Addr) (a : Addr) → (In xs a → In (smalls h xs) a) → is_small h a ≡ true → (b : Bool) → is_small h x ≡ b → In (x ∷ xs) a → In (cond b (x ∷ smalls h xs) (smalls h xs)) a
 to_smalls_step h x xs a rest s true is (inl e) = inl e
 to_smalls_step h x xs a rest s true is (inr i) = inr (rest i)
 to_smalls_step h x xs a rest s false is (inl e) = absurd (false≢true (sym is ∙ (ap (is_small h) e ∙ s)))
 to_smalls_step h x xs a rest s false is (inr i) = rest i
 
-pub to_smalls : (h : List Content) (xs : List Addr) (a : Addr) → In xs a → is_small h a ≡ true → In (smalls h xs) a
+pub to_smalls : (h : List ChunkValue) (xs : List Addr) (a : Addr) → In xs a → is_small h a ≡ true → In (smalls h xs) a
 to_smalls h [] a i s = i
 to_smalls h (x ∷ xs) a i s = to_smalls_step h x xs a (λ j. to_smalls h xs a j s) s (is_small h x) refl i
 
-once_step : (h : List Content) (x : Addr) (xs : List Addr) → Once (smalls h xs) → (In xs x → ⊥) → (b : Bool) → Once (cond b (x ∷ smalls h xs) (smalls h xs))
+once_step : (h : List ChunkValue) (x : Addr) (xs : List Addr) → Once (smalls h xs) → (In xs x → ⊥) → (b : Bool) → Once (cond b (x ∷ smalls h xs) (smalls h xs))
 once_step h x xs o n true = ((λ c. n ((in_smalls h xs x (in_from_contains (smalls h xs) x c)).0)), o)
 once_step h x xs o n false = o
 
-pub once_smalls : (h : List Content) (xs : List Addr) → Once xs → Once (smalls h xs)
+pub once_smalls : (h : List ChunkValue) (xs : List Addr) → Once xs → Once (smalls h xs)
 once_smalls h [] o = tt
 once_smalls h (x ∷ xs) o = once_step h x xs (once_smalls h xs o.1) (λ i. o.0 (contains_from_in xs x i)) (is_small h x)
 
 -- ---- the copying, step by step
 
-target_mark : (g : List Content) (x to : Addr) (r : Option Addr) → IsTarget g r → IsTarget (put_object g x (with_mark (cell_of g x) (Moved to))) r
+target_mark : (g : List ChunkValue) (x to : Addr) (r : Option Addr) → IsTarget g r → IsTarget (put_object g x (with_mark (cell_of g x) (Moved to))) r
 target_mark g x to None t = t
 target_mark g x to (Some a) t =
     λ l.
@@ -112,15 +112,15 @@ target_mark g x to (Some a) t =
     let w = t (omega arith) in
     (puts.mark_object g x (Moved to) tt a w.0, w.1)
 
-module _ (h : List Content) where
+module _ (h : List ChunkValue) where
   -- these objects are in the old heap as they were, but for their marks
-  abbrev pub AreAs : List Content → List Survivor → Type 0
+  abbrev pub AreAs : List ChunkValue → List Survivor → Type 0
   AreAs old ss = (s : Survivor) → In ss s → (survivor_cell old s ≡ cell_of h s.old) × IsObject (cell_of old s.old).mark
 
-  pub same_small : (old : List Content) (s : Survivor) → survivor_cell old s ≡ cell_of h s.old → is_small old s.old ≡ is_small h s.old
+  pub same_small : (old : List ChunkValue) (s : Survivor) → survivor_cell old s ≡ cell_of h s.old → is_small old s.old ≡ is_small h s.old
   same_small old s e = ap (λ (c : Cell). nat_le (size_of c) 1024) e
 
-  step_as : (k : Collection) (s : Survivor) (ss : List Survivor) → (In (olds ss) s.old → ⊥) → AreAs k.heap.chunks ss → AreAs (copied_one k s).heap.chunks ss
+  step_as : (k : CollectorValue) (s : Survivor) (ss : List Survivor) → (In (olds ss) s.old → ⊥) → AreAs k.heap.chunks ss → AreAs (copied_one k s).heap.chunks ss
   step_as k s ss n as' t i =
       let other = puts.mark_other k.heap.chunks s.old (Moved (laid_at k.laying (size_of (cell_of k.heap.chunks s.old)))) t.old (λ e. n (subst (In (olds ss)) (sym e) (in_map old_of ss t i))) in
       (ap (λ (c : Cell). with_mark c (Born t.birth)) other ∙ (as' t i).0, subst (λ (c : Cell). IsObject c.mark) (sym other) (as' t i).1)
@@ -129,21 +129,21 @@ module _ (h : List Content) where
   not_again s ss o i = o.0 (contains_from_in (olds ss) s.old i)
 
   -- only the small ones are copied
-  small_step : (k : Collection) (s : Survivor) (ss : List Survivor) → Once (olds (s ∷ ss)) → AreAs k.heap.chunks (s ∷ ss)
-      → ((k' : Collection) → AreAs k'.heap.chunks ss → fold copied k' ss ≡ fold copied_one k' (small_ones h ss))
+  small_step : (k : CollectorValue) (s : Survivor) (ss : List Survivor) → Once (olds (s ∷ ss)) → AreAs k.heap.chunks (s ∷ ss)
+      → ((k' : CollectorValue) → AreAs k'.heap.chunks ss → fold copied k' ss ≡ fold copied_one k' (small_ones h ss))
       → (b : Bool) → is_small h s.old ≡ b → fold copied (cond b (copied_one k s) k) ss ≡ fold copied_one k (cond b (s ∷ small_ones h ss) (small_ones h ss))
   small_step k s ss o as' rest true is = rest (copied_one k s) (step_as k s ss (not_again s ss o) (λ t i. as' t (inr i)))
   small_step k s ss o as' rest false is = rest k (λ t i. as' t (inr i))
 
-  pub small_alone : (k : Collection) (ss : List Survivor) → Once (olds ss) → AreAs k.heap.chunks ss → fold copied k ss ≡ fold copied_one k (small_ones h ss)
+  pub small_alone : (k : CollectorValue) (ss : List Survivor) → Once (olds ss) → AreAs k.heap.chunks ss → fold copied k ss ≡ fold copied_one k (small_ones h ss)
   small_alone k [] o as' = refl
   small_alone k (s ∷ ss) o as' =
       ap (λ (b : Bool). fold copied (cond b (copied_one k s) k) ss) (same_small k.heap.chunks s (as' s (inl refl)).0)
       ∙ small_step k s ss o as' (λ k' a. small_alone k' ss o.1 a) (is_small h s.old) refl
 
   -- what finds room can be copied
-  ready_step : (k : Collection) (s : Survivor) (ss : List Survivor) → Once (olds (s ∷ ss)) → AreAs k.heap.chunks (s ∷ ss)
-      → ((k' : Collection) → AreAs k'.heap.chunks ss → HaveRoom k'.laying h (smalls h (olds ss)) → IsReady k' ss)
+  ready_step : (k : CollectorValue) (s : Survivor) (ss : List Survivor) → Once (olds (s ∷ ss)) → AreAs k.heap.chunks (s ∷ ss)
+      → ((k' : CollectorValue) → AreAs k'.heap.chunks ss → HaveRoom k'.laying h (smalls h (olds ss)) → IsReady k' ss)
       → (b : Bool) → is_small h s.old ≡ b → HaveRoom k.laying h (cond b (s.old ∷ smalls h (olds ss)) (smalls h (olds ss)))
       → (b ≡ true → HasRoom k.laying (size_of (cell_of k.heap.chunks s.old))) × IsReady (cond b (copied_one k s) k) ss
   ready_step k s ss o as' rest true is room =
@@ -153,7 +153,7 @@ module _ (h : List Content) where
       )
   ready_step k s ss o as' rest false is room = ((λ e. absurd (false≢true e)), rest k (λ t i. as' t (inr i)) room)
 
-  pub are_ready : (k : Collection) (ss : List Survivor) → Once (olds ss) → AreAs k.heap.chunks ss → HaveRoom k.laying h (smalls h (olds ss)) → IsReady k ss
+  pub are_ready : (k : CollectorValue) (ss : List Survivor) → Once (olds ss) → AreAs k.heap.chunks ss → HaveRoom k.laying h (smalls h (olds ss)) → IsReady k ss
   are_ready k [] o as' room = tt
   are_ready k (s ∷ ss) o as' room =
       let same = same_small k.heap.chunks s (as' s (inl refl)).0 in
@@ -164,12 +164,12 @@ module _ (h : List Content) where
 
   -- ---- by the heap as it was; ss are small from here on
 
-  pub copied_laying : (k : Collection) (ss : List Survivor) → Once (olds ss) → AreAs k.heap.chunks ss → (fold copied_one k ss).laying ≡ laid_all k.laying h (olds ss)
+  pub copied_laying : (k : CollectorValue) (ss : List Survivor) → Once (olds ss) → AreAs k.heap.chunks ss → (fold copied_one k ss).laying ≡ laid_all k.laying h (olds ss)
   copied_laying k [] once as' = refl
   copied_laying k (s ∷ ss) once as' =
       copied_laying (copied_one k s) ss once.1 (step_as k s ss (not_again s ss once) (λ t i. as' t (inr i))) ∙ ap (λ (c : Cell). laid_all (laid_one k.laying c) h (olds ss)) (as' s (inl refl)).0
 
-  pub copied_moved : (k : Collection) (ss : List Survivor) → Once (olds ss) → AreAs k.heap.chunks ss → (fold copied_one k ss).moved ≡ k.moved ++ relocations k.laying h (olds ss)
+  pub copied_moved : (k : CollectorValue) (ss : List Survivor) → Once (olds ss) → AreAs k.heap.chunks ss → (fold copied_one k ss).moved ≡ k.moved ++ relocations k.laying h (olds ss)
   copied_moved k [] once as' = sym (append-nil k.moved)
   copied_moved k (s ∷ ss) once as' =
       let e = (as' s (inl refl)).0 in
@@ -177,18 +177,18 @@ module _ (h : List Content) where
       ∙ (append_assoc k.moved ((s.old, laid_at k.laying (size_of (cell_of k.heap.chunks s.old))) ∷ []) (relocations (copied_one k s).laying h (olds ss))
       ∙ ap (λ (c : Cell). k.moved ++ (s.old, laid_at k.laying (size_of c)) ∷ relocations (laid_one k.laying c) h (olds ss)) e)
 
-  pub copied_other : (k : Collection) (ss : List Survivor) (a : Addr) → (In (olds ss) a → ⊥) → cell_of (fold copied_one k ss).heap.chunks a ≡ cell_of k.heap.chunks a
+  pub copied_other : (k : CollectorValue) (ss : List Survivor) (a : Addr) → (In (olds ss) a → ⊥) → cell_of (fold copied_one k ss).heap.chunks a ≡ cell_of k.heap.chunks a
   copied_other k [] a n = refl
   copied_other k (s ∷ ss) a n =
       copied_other (copied_one k s) ss a (λ i. n (inr i))
       ∙ puts.mark_other k.heap.chunks s.old (Moved (laid_at k.laying (size_of (cell_of k.heap.chunks s.old)))) a (λ e. n (inl e))
 
   -- nothing but marks changes
-  pub copied_alone : (k : Collection) (ss : List Survivor) (a : Addr) (m : Mark) → with_mark (cell_of (fold copied_one k ss).heap.chunks a) m ≡ with_mark (cell_of k.heap.chunks a) m
+  pub copied_alone : (k : CollectorValue) (ss : List Survivor) (a : Addr) (m : Mark) → with_mark (cell_of (fold copied_one k ss).heap.chunks a) m ≡ with_mark (cell_of k.heap.chunks a) m
   copied_alone k [] a m = refl
   copied_alone k (s ∷ ss) a m = copied_alone (copied_one k s) ss a m ∙ puts.mark_alone k.heap.chunks s.old (Moved (laid_at k.laying (size_of (cell_of k.heap.chunks s.old)))) a m
 
-  pub copied_mark : (k : Collection) (ss : List Survivor) → Once (olds ss) → AreAs k.heap.chunks ss → (a : Addr) → In (olds ss) a →
+  pub copied_mark : (k : CollectorValue) (ss : List Survivor) → Once (olds ss) → AreAs k.heap.chunks ss → (a : Addr) → In (olds ss) a →
       moved_to (cell_of (fold copied_one k ss).heap.chunks a).mark ≡ Some (new_address (relocations k.laying h (olds ss)) a)
   copied_mark k [] once as' a i = absurd i
   copied_mark k (s ∷ ss) once as' a i =
@@ -207,25 +207,25 @@ module _ (h : List Content) where
             ∙ ap (λ (d : Cell). Some (new_address (relocations (laid_one k.laying d) h (olds ss)) a)) (as' s (inl refl)).0)
       ]
 
-  pub copied_place : (k : Collection) (ss : List Survivor) (n : ℕ) → place_of (fold copied_one k ss).heap.chunks n ≡ place_of k.heap.chunks n
+  pub copied_place : (k : CollectorValue) (ss : List Survivor) (n : ℕ) → place_of (fold copied_one k ss).heap.chunks n ≡ place_of k.heap.chunks n
   copied_place k [] n = refl
   copied_place k (s ∷ ss) n = copied_place (copied_one k s) ss n ∙ puts.place_put k.heap.chunks s.old (with_mark (cell_of k.heap.chunks s.old) (Moved (laid_at k.laying (size_of (cell_of k.heap.chunks s.old))))) n
 
-  pub copied_length : (k : Collection) (ss : List Survivor) → length (fold copied_one k ss).heap.chunks ≡ length k.heap.chunks
+  pub copied_length : (k : CollectorValue) (ss : List Survivor) → length (fold copied_one k ss).heap.chunks ≡ length k.heap.chunks
   copied_length k [] = refl
   copied_length k (s ∷ ss) = copied_length (copied_one k s) ss ∙ puts.length_put k.heap.chunks s.old (with_mark (cell_of k.heap.chunks s.old) (Moved (laid_at k.laying (size_of (cell_of k.heap.chunks s.old)))))
 
-  pub copied_target : (k : Collection) (ss : List Survivor) (r : Option Addr) → IsTarget k.heap.chunks r → IsTarget (fold copied_one k ss).heap.chunks r
+  pub copied_target : (k : CollectorValue) (ss : List Survivor) (r : Option Addr) → IsTarget k.heap.chunks r → IsTarget (fold copied_one k ss).heap.chunks r
   copied_target k [] r t = t
   copied_target k (s ∷ ss) r t = copied_target (copied_one k s) ss r (target_mark k.heap.chunks s.old (laid_at k.laying (size_of (cell_of k.heap.chunks s.old))) r t)
 
-  pub copied_object : (k : Collection) (ss : List Survivor) (a : Addr) → IsObject (cell_of k.heap.chunks a).mark → IsObject (cell_of (fold copied_one k ss).heap.chunks a).mark
+  pub copied_object : (k : CollectorValue) (ss : List Survivor) (a : Addr) → IsObject (cell_of k.heap.chunks a).mark → IsObject (cell_of (fold copied_one k ss).heap.chunks a).mark
   copied_object k [] a o = o
   copied_object k (s ∷ ss) a o = copied_object (copied_one k s) ss a (puts.mark_object k.heap.chunks s.old (Moved (laid_at k.laying (size_of (cell_of k.heap.chunks s.old)))) tt a o)
 
 -- ---- the marked heap
 
-marked_stays : (h : List Content) (x a : Addr) → (cell_of h a).mark ≡ Moved a → (cell_of (found_in h x) a).mark ≡ Moved a
+marked_stays : (h : List ChunkValue) (x a : Addr) → (cell_of h a).mark ≡ Moved a → (cell_of (found_in h x) a).mark ≡ Moved a
 marked_stays h x a e =
     elim (puts.same_or_other x a) [
       | inl q ↦ subst (λ (y : Addr). (cell_of (found_in h y) a).mark ≡ Moved a) (sym q) (elim (puts.put_cases h a (with_mark (cell_of h a) (Moved a))) [
@@ -235,11 +235,11 @@ marked_stays h x a e =
       | inr n ↦ ap (λ (c : Cell). c.mark) (marks.found_other h x a n) ∙ e
     ]
 
-all_marked_stays : (h : List Content) (xs : List Addr) (a : Addr) → (cell_of h a).mark ≡ Moved a → (cell_of (all_found h xs) a).mark ≡ Moved a
+all_marked_stays : (h : List ChunkValue) (xs : List Addr) (a : Addr) → (cell_of h a).mark ≡ Moved a → (cell_of (all_found h xs) a).mark ≡ Moved a
 all_marked_stays h [] a e = e
 all_marked_stays h (x ∷ xs) a e = all_marked_stays (found_in h x) xs a (marked_stays h x a e)
 
-pub found_marked : (h : List Content) (xs : List Addr) (a : Addr) → In xs a → IsObject (cell_of h a).mark → (cell_of (all_found h xs) a).mark ≡ Moved a
+pub found_marked : (h : List ChunkValue) (xs : List Addr) (a : Addr) → In xs a → IsObject (cell_of h a).mark → (cell_of (all_found h xs) a).mark ≡ Moved a
 found_marked h [] a i o = absurd i
 found_marked h (x ∷ xs) a i o =
     elim (puts.same_or_other x a) [
@@ -251,7 +251,7 @@ named_cell : (c : Cell) (b : Birth) → c.mark ≡ Born b → with_mark c (Born 
 named_cell c b e = λ i. record { mark = sym e i; mutable = c.mutable; refs = c.refs; ints = c.ints }
 
 -- the survivors in the marked heap are as they were, but for their marks
-pub are_as : (h : List Content) (xs : List Addr) (ss : List Survivor) → ((s : Survivor) → In ss s → (cell_of h s.old).mark ≡ Born s.birth) → AreAs h (all_found h xs) ss
+pub are_as : (h : List ChunkValue) (xs : List Addr) (ss : List Survivor) → ((s : Survivor) → In ss s → (cell_of h s.old).mark ≡ Born s.birth) → AreAs h (all_found h xs) ss
 are_as h xs ss born s i =
     let b = born s i in
     let live : IsHeld h s.old = subst IsBorn (sym b) tt in (

@@ -6,14 +6,14 @@ use Rattle.std.proofs.lemmas.Bool.{cases_lt, false≢true, and_parts, le-leb, lt
 use Rattle.object_layout.specs.declared.word.Addr.{Addr}
 use Rattle.object_layout.specs.declared.word.Birth.{Birth}
 use Rattle.object_layout.specs.Cell.{Cell, Mark, Born, Moved, IsBorn, IsObject, no_cell, size_of, with_mark}
-use Rattle.object_layout.specs.Content.{Content}
+use Rattle.object_layout.specs.ChunkValue.{ChunkValue}
 use Rattle.object_layout.specs.Place.{cell_at}
 use Rattle.object_layout.specs.Chunks.{cell_of, chunk_at, place_of, place_in, put_object}
 use Rattle.object_layout.specs.Graph.{IsHeld}
 use Rattle.object_layout.proofs.Distinct.{Once}
 use Rattle.object_layout.proofs.ChunkLaws as laws
 use Rattle.remembered_set.specs.Moved.{same_address}
-use Rattle.alloc_path.specs.Heap.{AreTidy, IsTidy}
+use Rattle.alloc_path.specs.LeafHeapValue.{AreTidy, IsTidy}
 use Rattle.alloc_path.proofs.HeapLemmas.{none_there}
 use Rattle.listed.proofs.Members.{In, contains_from_in, in_from_kept, in_append_cases}
 use Rattle.leaf_copy_gc.specs.declared.lists.Survivor.{Survivor}
@@ -37,50 +37,50 @@ in_unmap (s ∷ ss) a (inr i) = let r = in_unmap ss a i in (r.0, (inr r.1.0, r.1
 
 -- ---- names, one after another
 
-name_other : (g : List Content) (s : Survivor) (a : Addr) (b : Bool) → (s.old ≡ a → ⊥) → cell_of (cond b (put_object g s.old (with_mark (cell_of g s.old) (Born s.birth))) g) a ≡ cell_of g a
+name_other : (g : List ChunkValue) (s : Survivor) (a : Addr) (b : Bool) → (s.old ≡ a → ⊥) → cell_of (cond b (put_object g s.old (with_mark (cell_of g s.old) (Born s.birth))) g) a ≡ cell_of g a
 name_other g s a true n = puts.mark_other g s.old (Born s.birth) a n
 name_other g s a false n = refl
 
-place_at : (g : List Content) (s : Survivor) (n : ℕ) (b : Bool) → place_of (cond b (put_object g s.old (with_mark (cell_of g s.old) (Born s.birth))) g) n ≡ place_of g n
+place_at : (g : List ChunkValue) (s : Survivor) (n : ℕ) (b : Bool) → place_of (cond b (put_object g s.old (with_mark (cell_of g s.old) (Born s.birth))) g) n ≡ place_of g n
 place_at g s n true = puts.place_put g s.old (with_mark (cell_of g s.old) (Born s.birth)) n
 place_at g s n false = refl
 
-length_at : (g : List Content) (s : Survivor) (b : Bool) → length (cond b (put_object g s.old (with_mark (cell_of g s.old) (Born s.birth))) g) ≡ length g
+length_at : (g : List ChunkValue) (s : Survivor) (b : Bool) → length (cond b (put_object g s.old (with_mark (cell_of g s.old) (Born s.birth))) g) ≡ length g
 length_at g s true = puts.length_put g s.old (with_mark (cell_of g s.old) (Born s.birth))
 length_at g s false = refl
 
-alike_at : (g : List Content) (s : Survivor) (b : Bool) → AreAlike g (cond b (put_object g s.old (with_mark (cell_of g s.old) (Born s.birth))) g)
+alike_at : (g : List ChunkValue) (s : Survivor) (b : Bool) → AreAlike g (cond b (put_object g s.old (with_mark (cell_of g s.old) (Born s.birth))) g)
 alike_at g s true = larges.alike_put g s.old (with_mark (cell_of g s.old) (Born s.birth)) refl
 alike_at g s false = larges.alike_itself g
 
-place_named : (g : List Content) (s : Survivor) (n : ℕ) → place_of (named g s) n ≡ place_of g n
+place_named : (g : List ChunkValue) (s : Survivor) (n : ℕ) → place_of (named g s) n ≡ place_of g n
 place_named g s n = place_at g s n (is_some (place_in g s.old.chunk))
 
-length_named : (g : List Content) (s : Survivor) → length (named g s) ≡ length g
+length_named : (g : List ChunkValue) (s : Survivor) → length (named g s) ≡ length g
 length_named g s = length_at g s (is_some (place_in g s.old.chunk))
 
-pub alike_names : (g : List Content) (ss : List Survivor) → AreAlike g (fold named g ss)
+pub alike_names : (g : List ChunkValue) (ss : List Survivor) → AreAlike g (fold named g ss)
 alike_names g [] = larges.alike_itself g
 alike_names g (s ∷ ss) = larges.alike_then g (named g s) (fold named (named g s) ss) (alike_at g s (is_some (place_in g s.old.chunk))) (alike_names (named g s) ss)
 
-pub names_other : (g : List Content) (ss : List Survivor) (a : Addr) → (In (olds ss) a → ⊥) → cell_of (fold named g ss) a ≡ cell_of g a
+pub names_other : (g : List ChunkValue) (ss : List Survivor) (a : Addr) → (In (olds ss) a → ⊥) → cell_of (fold named g ss) a ≡ cell_of g a
 names_other g [] a n = refl
 names_other g (s ∷ ss) a n = names_other (named g s) ss a (λ i. n (inr i)) ∙ name_other g s a (is_some (place_in g s.old.chunk)) (λ e. n (inl e))
 
-pub names_nowhere : (g : List Content) (ss : List Survivor) (a : Addr) → length g ≤ place_of g a.chunk → cell_of (fold named g ss) a ≡ no_cell
+pub names_nowhere : (g : List ChunkValue) (ss : List Survivor) (a : Addr) → length g ≤ place_of g a.chunk → cell_of (fold named g ss) a ≡ no_cell
 names_nowhere g [] a l = laws.cell_of-none g a l
 names_nowhere g (s ∷ ss) a l =
     let p = place_named g s a.chunk in let n = length_named g s in
     names_nowhere (named g s) ss a (omega arith)
 
-owned_test : (g : List Content) (n : ℕ) → place_of g n < length g → is_some (place_in g n) ≡ true
+owned_test : (g : List ChunkValue) (n : ℕ) → place_of g n < length g → is_some (place_in g n) ≡ true
 owned_test g n l = rw (lt-ltb (place_of g n) (length g) l) refl
 
-name_here : (g : List Content) (s : Survivor) (b : Bool) → b ≡ true → IsObject (cell_of g s.old).mark → cell_of (cond b (put_object g s.old (with_mark (cell_of g s.old) (Born s.birth))) g) s.old ≡ with_mark (cell_of g s.old) (Born s.birth)
+name_here : (g : List ChunkValue) (s : Survivor) (b : Bool) → b ≡ true → IsObject (cell_of g s.old).mark → cell_of (cond b (put_object g s.old (with_mark (cell_of g s.old) (Born s.birth))) g) s.old ≡ with_mark (cell_of g s.old) (Born s.birth)
 name_here g s true e o = laws.cell_of-put_same g s.old (with_mark (cell_of g s.old) (Born s.birth)) o
 name_here g s false e o = absurd (false≢true e)
 
-pub names_same : (g : List Content) (ss : List Survivor) → Once (olds ss) → (s : Survivor) → In ss s → place_of g s.old.chunk < length g → IsObject (cell_of g s.old).mark
+pub names_same : (g : List ChunkValue) (ss : List Survivor) → Once (olds ss) → (s : Survivor) → In ss s → place_of g s.old.chunk < length g → IsObject (cell_of g s.old).mark
     → cell_of (fold named g ss) s.old ≡ with_mark (cell_of g s.old) (Born s.birth)
 names_same g [] o s i l ob = absurd i
 names_same g (t ∷ ss) o s (inl e) l ob =
@@ -93,7 +93,7 @@ names_same g (t ∷ ss) o s (inr i) l ob =
     let p = place_named g t s.old.chunk in let m = length_named g t in
     names_same (named g t) ss o.1 s i (omega arith) (subst (λ (c : Cell). IsObject c.mark) (sym there) ob) ∙ ap (λ (c : Cell). with_mark c (Born s.birth)) there
 
-pub can_name : (g : List Content) (ss : List Survivor) → Once (olds ss) → ((s : Survivor) → In ss s → place_of g s.old.chunk < length g → IsObject (cell_of g s.old).mark) → CanName g ss
+pub can_name : (g : List ChunkValue) (ss : List Survivor) → Once (olds ss) → ((s : Survivor) → In ss s → place_of g s.old.chunk < length g → IsObject (cell_of g s.old).mark) → CanName g ss
 can_name g [] o t = tt
 can_name g (s ∷ ss) o t = (
   (λ e. t s (inl refl) (puts.owned g s.old.chunk e)),
@@ -106,30 +106,30 @@ can_name g (s ∷ ss) o t = (
 
 -- ---- the whole
 
-owned_in : (ks : List Content) (n : ℕ) → place_of ks n < length ks → In (numbers ks) n
+owned_in : (ks : List ChunkValue) (n : ℕ) → place_of ks n < length ks → In (numbers ks) n
 owned_in ks n l =
     elim (extent.in_numbers (numbers ks) n) [
       | inl i ↦ i
       | inr m ↦ let z = none_there ks n (nums.fresh_from ks n m) in absurd (omega arith)
     ]
 
-in_removed : (ks : List Content) (i : ℕ) (k : Content) → In (remove ks i) k → In ks k
+in_removed : (ks : List ChunkValue) (i : ℕ) (k : ChunkValue) → In (remove ks i) k → In ks k
 in_removed [] zero k j = j
 in_removed [] (suc i) k j = j
 in_removed (x ∷ ks) zero k j = inr j
 in_removed (x ∷ ks) (suc i) k (inl e) = inl e
 in_removed (x ∷ ks) (suc i) k (inr j) = inr (in_removed ks i k j)
 
-in_unreserved : (ks : List Content) (r : Option ℕ) (k : Content) → In (unreserved ks r) k → In ks k
+in_unreserved : (ks : List ChunkValue) (r : Option ℕ) (k : ChunkValue) → In (unreserved ks r) k → In ks k
 in_unreserved ks None k i = i
 in_unreserved ks (Some j) k i = in_removed ks j k i
 
-in_at : (ks : List Content) (i : ℕ) → i < length ks → In ks (chunk_at ks i)
+in_at : (ks : List ChunkValue) (i : ℕ) → i < length ks → In ks (chunk_at ks i)
 in_at [] i l = absurd (omega arith)
 in_at (k ∷ ks) zero l = inl refl
 in_at (k ∷ ks) (suc i) l = inr (in_at ks i (omega arith))
 
-in_append_numbers : (ks ls : List Content) (n : ℕ) → In (numbers (ks ++ ls)) n → In (numbers ks) n ⊎ In (numbers ls) n
+in_append_numbers : (ks ls : List ChunkValue) (n : ℕ) → In (numbers (ks ++ ls)) n → In (numbers ks) n ⊎ In (numbers ls) n
 in_append_numbers [] ls n i = inr i
 in_append_numbers (k ∷ ks) ls n (inl e) = inl (inl e)
 in_append_numbers (k ∷ ks) ls n (inr i) = elim (in_append_numbers ks ls n i) [ inl j ↦ inl (inr j) | inr j ↦ inr j ]
@@ -137,14 +137,14 @@ in_append_numbers (k ∷ ks) ls n (inr i) = elim (in_append_numbers ks ls n i) [
 any_in : (ss : List Survivor) (a : Addr) → list_any (λ (s : Survivor). same_address s.old a) ss ≡ true → In (olds ss) a
 any_in ss a e = elim (puts.in_or_not (olds ss) a) [ inl i ↦ i | inr n ↦ absurd (false≢true (sym (rebuilt.any_none ss a n) ∙ e)) ]
 
-module _ (h : List Content) (ss : List Survivor) (f : Option Addr → Option Addr) (r : Option ℕ) (laid : List Content)
+module _ (h : List ChunkValue) (ss : List Survivor) (f : Option Addr → Option Addr) (r : Option ℕ) (laid : List ChunkValue)
     (tidy : AreTidy h) (d : Distinct (numbers h)) (once : Once (olds ss)) (names : HaveNames h ss)
     (apart : (n : ℕ) → In (numbers laid) n → In (numbers h) n → ⊥) (laid_once : Distinct (numbers laid))
     (within : Within h r) (none : NoneThere h r) where
-  abbrev pub Now : List Content
+  abbrev pub Now : List ChunkValue
   Now = laid ++ (map (marked_chunk ss f) (filter (keeps ss) (unreserved h r)) ++ reserved_of h r)
 
-  abbrev pub Goal : List Content
+  abbrev pub Goal : List ChunkValue
   Goal = laid ++ (map (led_chunk f) (filter (keeps ss) (unreserved h r)) ++ reserved_of h r)
 
   born : (s : Survivor) → In ss s → (cell_of h s.old).mark ≡ Born s.birth
@@ -160,14 +160,14 @@ module _ (h : List Content) (ss : List Survivor) (f : Option Addr → Option Add
         | inr n ↦ let z = subst (λ (c : Cell). IsBorn c.mark) (extent.nowhere h a n) (lives a i) in absurd z
       ]
 
-  kept_in : (k : Content) → In (filter (keeps ss) (unreserved h r)) k → In h k × (keeps ss k ≡ true)
+  kept_in : (k : ChunkValue) → In (filter (keeps ss) (unreserved h r)) k → In h k × (keeps ss k ≡ true)
   kept_in k i = let p = in_from_kept (keeps ss) (unreserved h r) k i in (in_unreserved h r k p.0, p.1)
 
   kept_once : Distinct (numbers (filter (keeps ss) (unreserved h r)))
   kept_once = nums.distinct_filtered (keeps ss) (unreserved h r) (nums.distinct_unreserved h d r)
 
   -- a chunk that is kept holds its large survivor alone
-  kept_alone : (k : Content) → In h k → keeps ss k ≡ true → (k.cells ≡ cell_at k.cells 0 ∷ []) × In (olds ss) (first_of k)
+  kept_alone : (k : ChunkValue) → In h k → keeps ss k ≡ true → (k.cells ≡ cell_at k.cells 0 ∷ []) × In (olds ss) (first_of k)
   kept_alone k i e =
       let both = and_parts (not (nat_le (size_of (cell_at k.cells 0)) 1024)) (list_any (λ (s : Survivor). same_address s.old (first_of k)) ss) e in
       let big : 1024 < size_of (cell_at k.cells 0) = elim (cases_lt 1024 (size_of (cell_at k.cells 0))) [
@@ -179,7 +179,7 @@ module _ (h : List Content) (ss : List Survivor) (f : Option Addr → Option Add
       )
 
   -- in it nothing else lives
-  first_only : (k : Content) → In h k → keeps ss k ≡ true → (a : Addr) → k.number ≡ a.chunk → In (olds ss) a → a ≡ first_of k
+  first_only : (k : ChunkValue) → In h k → keeps ss k ≡ true → (a : Addr) → k.number ≡ a.chunk → In (olds ss) a → a ≡ first_of k
   first_only k i e a q j = at_first a.offset refl
     where
       at_first : (o : ℕ) → o ≡ a.offset → a ≡ first_of k
@@ -209,7 +209,7 @@ module _ (h : List Content) (ss : List Survivor) (f : Option Addr → Option Add
   not_laid a j i = apart a.chunk i (lies a j)
 
   -- a survivor that is in the heap has its chunk
-  locate : (a : Addr) → In (olds ss) a → In (numbers Now) a.chunk → (k : Content) × (In (filter (keeps ss) (unreserved h r)) k × (a ≡ first_of k))
+  locate : (a : Addr) → In (olds ss) a → In (numbers Now) a.chunk → (k : ChunkValue) × (In (filter (keeps ss) (unreserved h r)) k × (a ≡ first_of k))
   locate a j i =
       elim (in_append_numbers laid (map (marked_chunk ss f) (filter (keeps ss) (unreserved h r)) ++ reserved_of h r) a.chunk i) [
         | inl x ↦ absurd (not_laid a j x)
@@ -222,7 +222,7 @@ module _ (h : List Content) (ss : List Survivor) (f : Option Addr → Option Add
         ]
       ]
 
-  module _ (a : Addr) (out : In (numbers laid) a.chunk → ⊥) (k : Content) (i : In (filter (keeps ss) (unreserved h r)) k) (q : k.number ≡ a.chunk) where
+  module _ (a : Addr) (out : In (numbers laid) a.chunk → ⊥) (k : ChunkValue) (i : In (filter (keeps ss) (unreserved h r)) k) (q : k.number ≡ a.chunk) where
     there : In (numbers (filter (keeps ss) (unreserved h r))) a.chunk
     there = subst (In (numbers (filter (keeps ss) (unreserved h r)))) q (extent.number_there (filter (keeps ss) (unreserved h r)) k i)
 
@@ -239,7 +239,7 @@ module _ (h : List Content) (ss : List Survivor) (f : Option Addr → Option Add
         ∙ extent.mapped_there (led_chunk f) (λ k. refl) (filter (keeps ss) (unreserved h r)) k kept_once i a q)
 
   -- a survivor in the heap is marked, with its references led
-  now_marked : (a : Addr) (k : Content) → In (olds ss) a → In (filter (keeps ss) (unreserved h r)) k → a ≡ first_of k → cell_of Now a ≡ led f (with_mark (cell_at k.cells 0) (Moved (first_of k)))
+  now_marked : (a : Addr) (k : ChunkValue) → In (olds ss) a → In (filter (keeps ss) (unreserved h r)) k → a ≡ first_of k → cell_of Now a ≡ led f (with_mark (cell_at k.cells 0) (Moved (first_of k)))
   now_marked a k j i e =
       let p = kept_in k i in
       now_kept a (not_laid a j) k i (ap (λ (x : Addr). x.chunk) (sym e))
@@ -255,7 +255,7 @@ module _ (h : List Content) (ss : List Survivor) (f : Option Addr → Option Add
   named_cell : (c : Cell) (b : Birth) → c.mark ≡ Born b → led f (with_mark c (Born b)) ≡ led f c
   named_cell c b e = λ i. record { mark = sym e i; mutable = c.mutable; refs = map f c.refs; ints = c.ints }
 
-  elsewhere : (a : Addr) (k : Content) → In (filter (keeps ss) (unreserved h r)) k → k.number ≡ a.chunk → (In (olds ss) a → ⊥) → (o : ℕ) → o ≡ a.offset
+  elsewhere : (a : Addr) (k : ChunkValue) → In (filter (keeps ss) (unreserved h r)) k → k.number ≡ a.chunk → (In (olds ss) a → ⊥) → (o : ℕ) → o ≡ a.offset
       → cell_at (marked_chunk ss f k).cells a.offset ≡ cell_at (led_chunk f k).cells a.offset
   elsewhere a k i q n zero z =
       let p = kept_in k i in
@@ -269,7 +269,7 @@ module _ (h : List Content) (ss : List Survivor) (f : Option Addr → Option Add
       let right : cell_at (map (led f) k.cells) (suc m) ≡ no_cell = ap (λ (cs : List Cell). cell_at (map (led f) cs) (suc m)) one ∙ extent.alone_cell (led f (cell_at k.cells 0)) m in
       subst (λ (o : ℕ). cell_at (map mark k.cells) o ≡ cell_at (map (led f) k.cells) o) z (left ∙ sym right)
 
-  kept_same : (a : Addr) → (In (numbers laid) a.chunk → ⊥) → (k : Content) → In (filter (keeps ss) (unreserved h r)) k → k.number ≡ a.chunk → cell_of (fold named Now ss) a ≡ cell_of Goal a
+  kept_same : (a : Addr) → (In (numbers laid) a.chunk → ⊥) → (k : ChunkValue) → In (filter (keeps ss) (unreserved h r)) k → k.number ≡ a.chunk → cell_of (fold named Now ss) a ≡ cell_of Goal a
   kept_same a out k i q =
       elim (puts.in_or_not (olds ss) a) [
         | inl j ↦
@@ -332,21 +332,21 @@ module _ (h : List Content) (ss : List Survivor) (f : Option Addr → Option Add
   sizes_marked [] m = refl
   sizes_marked (c ∷ cs) m = ap (λ (ns : List ℕ). size_of (led f c) ∷ ns) (sizes_marked cs m)
 
-  alike_marked : (ks : List Content) → AreAlike (map (marked_chunk ss f) ks) (map (led_chunk f) ks)
+  alike_marked : (ks : List ChunkValue) → AreAlike (map (marked_chunk ss f) ks) (map (led_chunk f) ks)
   alike_marked [] = tt
   alike_marked (k ∷ ks) = ((refl, refl, sizes_marked k.cells (Moved (first_of k))), alike_marked ks)
 
-  alike_append : (xs ys zs : List Content) → AreAlike xs ys → AreAlike (xs ++ zs) (ys ++ zs)
+  alike_append : (xs ys zs : List ChunkValue) → AreAlike xs ys → AreAlike (xs ++ zs) (ys ++ zs)
   alike_append [] [] zs a = larges.alike_itself zs
   alike_append [] (y ∷ ys) zs a = absurd a
   alike_append (x ∷ xs) [] zs a = absurd a
   alike_append (x ∷ xs) (y ∷ ys) zs a = (a.0, alike_append xs ys zs a.1)
 
-  alike_behind : (zs xs ys : List Content) → AreAlike xs ys → AreAlike (zs ++ xs) (zs ++ ys)
+  alike_behind : (zs xs ys : List ChunkValue) → AreAlike xs ys → AreAlike (zs ++ xs) (zs ++ ys)
   alike_behind [] xs ys a = a
   alike_behind (z ∷ zs) xs ys a = ((refl, refl, refl), alike_behind zs xs ys a)
 
-  alike_back : (xs ys : List Content) → AreAlike xs ys → AreAlike ys xs
+  alike_back : (xs ys : List ChunkValue) → AreAlike xs ys → AreAlike ys xs
   alike_back [] [] a = tt
   alike_back [] (y ∷ ys) a = absurd a
   alike_back (x ∷ xs) [] a = absurd a

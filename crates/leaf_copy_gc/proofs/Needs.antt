@@ -3,8 +3,8 @@ use Rattle.std.proofs.Common.{◌≡◌, ℕ, ◌+◌, List, [], ◌∷◌, None
 use Rattle.std.proofs.lemmas.List.Elements.{All-head, All-tail}
 use Rattle.object_layout.specs.Cell.{Born, Cell, Hole, Mark, Moved, moved_to, size_of}
 use Rattle.object_layout.specs.Chunks.{held_size, object_count, one_each, small_part, sum_in, sum_of}
-use Rattle.object_layout.specs.Content.{Content}
-use Rattle.alloc_path.specs.Heap.{AreTidy, IsSettled, IsTidy}
+use Rattle.object_layout.specs.ChunkValue.{ChunkValue}
+use Rattle.alloc_path.specs.LeafHeapValue.{AreTidy, IsSettled, IsTidy}
 use Rattle.leaf_copy_gc.specs.Laid.{small_in, small_size, small_words}
 use Rattle.leaf_copy_gc.specs.Survivors.{born_in, born_of, live_count}
 
@@ -32,22 +32,22 @@ born_cells (c ∷ cs) a =
     let ih = born_cells cs (All-tail (λ (d : Cell). moved_to d.mark ≡ None) c cs a) in
     ap (λ (n : ℕ). n + born_in cs) one ∙ ap (λ (n : ℕ). held_size c.mark 1 + n) ih
 
-small_chunks : (ks : List Content) → AreTidy ks → small_words ks ≡ sum_of small_part ks
+small_chunks : (ks : List ChunkValue) → AreTidy ks → small_words ks ≡ sum_of small_part ks
 small_chunks [] t = refl
 small_chunks (k ∷ ks) t =
     let one = small_cells k.cells (All-head IsTidy k ks t).unmoved in
     let ih = small_chunks ks (All-tail IsTidy k ks t) in
     ap (λ (n : ℕ). n + small_words ks) one ∙ ap (λ (n : ℕ). sum_in small_part k.cells + n) ih
 
-born_chunks : (ks : List Content) → AreTidy ks → live_count ks ≡ object_count ks
+born_chunks : (ks : List ChunkValue) → AreTidy ks → live_count ks ≡ object_count ks
 born_chunks [] t = refl
 born_chunks (k ∷ ks) t =
     let one = born_cells k.cells (All-head IsTidy k ks t).unmoved in
     let ih = born_chunks ks (All-tail IsTidy k ks t) in
     ap (λ (n : ℕ). n + live_count ks) one ∙ ap (λ (n : ℕ). sum_in one_each k.cells + n) ih
 
-pub needs_are_counted : (ks : List Content) → IsSettled ks → (small_words ks ≡ sum_of small_part ks) × (live_count ks ≡ object_count ks)
+pub needs_are_counted : (ks : List ChunkValue) → IsSettled ks → (small_words ks ≡ sum_of small_part ks) × (live_count ks ≡ object_count ks)
 needs_are_counted ks s = (small_chunks ks s.tidy, born_chunks ks s.tidy)
 
-pub live_is_counted : (ks : List Content) → IsSettled ks → live_count ks ≡ object_count ks
+pub live_is_counted : (ks : List ChunkValue) → IsSettled ks → live_count ks ≡ object_count ks
 live_is_counted ks s = born_chunks ks s.tidy

@@ -3,7 +3,7 @@ use Rattle.std.proofs.Common.{◌≡◌, ℕ, zero, suc, ◌-◌, ◌≤◌, Lis
 use Rattle.std.proofs.lemmas.Bool.{cases_Bool, cases_lt, le-leb, lt-leb}
 use Rattle.object_layout.specs.declared.word.Addr.{Addr}
 use Rattle.object_layout.specs.Cell.{Born, Cell, Hole, IsObject, Mark, Moved, size_of}
-use Rattle.object_layout.specs.Content.{Content}
+use Rattle.object_layout.specs.ChunkValue.{ChunkValue}
 use Rattle.object_layout.specs.Place.{cell_at}
 use Rattle.object_layout.specs.Chunks.{cell_of, held_in, held_size, held_words, small_part, small_words, sum_in}
 use Rattle.leaf_copy_gc.specs.declared.lists.Survivor.{Survivor}
@@ -37,7 +37,7 @@ in_le : (cs : List Cell) → sum_in small_part cs ≤ held_in cs
 in_le [] = omega arith
 in_le (c ∷ cs) = let a = size_le c.mark (size_of c) in let b = in_le cs in omega arith
 
-all_le : (ks : List Content) → small_words ks ≤ held_words ks
+all_le : (ks : List ChunkValue) → small_words ks ≤ held_words ks
 all_le [] = omega arith
 all_le (k ∷ ks) = let a = in_le k.cells in let b = all_le ks in omega arith
 
@@ -57,7 +57,7 @@ small_in (c ∷ cs) (suc n) e o =
           rw t (small_in cs (suc n - size_of c) (omega arith) (rw t at o))
     ]
 
-small_at : (ks : List Content) (a : Addr) → small_words ks ≡ held_words ks → IsObject (cell_of ks a).mark → size_of (cell_of ks a) ≤ 1024
+small_at : (ks : List ChunkValue) (a : Addr) → small_words ks ≡ held_words ks → IsObject (cell_of ks a).mark → size_of (cell_of ks a) ≤ 1024
 small_at [] a e o = absurd o
 small_at (k ∷ ks) a e o =
     let x = in_le k.cells in
@@ -68,9 +68,9 @@ small_at (k ∷ ks) a e o =
     ]
 
 -- where no object is large, none is led where it is
-pub none_led : (ks : List Content) (ss : List Survivor) → small_words ks ≡ held_words ks → CanFollow ks ss → fold followed_large ks ss ≡ ks
+pub none_led : (ks : List ChunkValue) (ss : List Survivor) → small_words ks ≡ held_words ks → CanFollow ks ss → fold followed_large ks ss ≡ ks
 none_led ks [] e h = refl
 none_led ks (s ∷ ss) e h =
     let small = le-leb (size_of (cell_of ks s.old)) 1024 (small_at ks s.old e h.0.0) in
     let same : followed_large ks s ≡ ks = rw small refl in
-    rw same (none_led ks ss e (subst (λ (g : List Content). CanFollow g ss) same h.1))
+    rw same (none_led ks ss e (subst (λ (g : List ChunkValue). CanFollow g ss) same h.1))

@@ -5,19 +5,19 @@ use Rattle.std.proofs.lemmas.List.{reverse-append}
 use Rattle.std.proofs.lemmas.List.Elements.{All-head, All-tail}
 use Rattle.object_layout.specs.declared.word.Addr.{Addr}
 use Rattle.object_layout.specs.Cell.{Cell, size_of}
-use Rattle.object_layout.specs.Content.{Content}
+use Rattle.object_layout.specs.ChunkValue.{ChunkValue}
 use Rattle.object_layout.specs.Chunks.{chunk_at, cell_of}
-use Rattle.alloc_path.specs.Heap.{AreApart, IsFresh, IsCurrent}
+use Rattle.alloc_path.specs.LeafHeapValue.{AreApart, IsFresh, IsCurrent}
 use Rattle.alloc_path.proofs.HeapLemmas.{fresh_cons, fresh_head, fresh_tail}
 use Rattle.listed.proofs.Members.{In, in_append_left, in_append_right, in_append_cases}
 use Rattle.leaf_copy_gc.specs.Laid.{Laying, AreNew, laid_all, laid_one, opened, open_next, placed, room_in}
 use Rattle.leaf_copy_gc.specs.Exchanged.{last_place, reserved_of, unreserved}
 use Rattle.leaf_copy_gc.specs.Collected.{AreAlike}
 
-abbrev pub number_in : Content → ℕ
+abbrev pub number_in : ChunkValue → ℕ
 number_in k = k.number
 
-abbrev pub numbers : List Content → List ℕ
+abbrev pub numbers : List ChunkValue → List ℕ
 numbers ks = map number_in ks
 
 abbrev pub Distinct : List ℕ → Type 0
@@ -26,26 +26,26 @@ Distinct (n ∷ ns) = (In ns n → ⊥) × Distinct ns
 
 -- ---- fresh numbers
 
-pub fresh_none : (ks : List Content) (n : ℕ) → IsFresh ks n → In (numbers ks) n → ⊥
+pub fresh_none : (ks : List ChunkValue) (n : ℕ) → IsFresh ks n → In (numbers ks) n → ⊥
 fresh_none [] n f i = i
 fresh_none (k ∷ ks) n f (inl e) = fresh_head k ks n f e
 fresh_none (k ∷ ks) n f (inr i) = fresh_none ks n (fresh_tail k ks n f) i
 
-pub fresh_from : (ks : List Content) (n : ℕ) → (In (numbers ks) n → ⊥) → IsFresh ks n
+pub fresh_from : (ks : List ChunkValue) (n : ℕ) → (In (numbers ks) n → ⊥) → IsFresh ks n
 fresh_from [] n f = refl
 fresh_from (k ∷ ks) n f = fresh_cons k ks n (λ e. f (inl e)) (fresh_from ks n (λ i. f (inr i)))
 
-pub apart_distinct : (ks : List Content) → AreApart ks → Distinct (numbers ks)
+pub apart_distinct : (ks : List ChunkValue) → AreApart ks → Distinct (numbers ks)
 apart_distinct [] a = tt
 apart_distinct (k ∷ ks) a = (fresh_none ks k.number a.0, apart_distinct ks a.1)
 
-pub distinct_apart : (ks : List Content) → Distinct (numbers ks) → AreApart ks
+pub distinct_apart : (ks : List ChunkValue) → Distinct (numbers ks) → AreApart ks
 distinct_apart [] d = tt
 distinct_apart (k ∷ ks) d = (fresh_from ks k.number d.0, distinct_apart ks d.1)
 
 -- ---- lists together
 
-pub numbers_append : (ks ls : List Content) → numbers (ks ++ ls) ≡ numbers ks ++ numbers ls
+pub numbers_append : (ks ls : List ChunkValue) → numbers (ks ++ ls) ≡ numbers ks ++ numbers ls
 numbers_append [] ls = refl
 numbers_append (k ∷ ks) ls = ap (λ (ns : List ℕ). k.number ∷ ns) (numbers_append ks ls)
 
@@ -69,13 +69,13 @@ distinct_apart_parts [] ys d n i j = i
 distinct_apart_parts (x ∷ xs) ys d n (inl e) j = d.0 (in_append_right xs ys x (subst (In ys) (sym e) j))
 distinct_apart_parts (x ∷ xs) ys d n (inr i) j = distinct_apart_parts xs ys d.1 n i j
 
-fresh_in : (h ks : List Content) (n : ℕ) → All (λ k. IsFresh h k.number) ks → In (numbers ks) n → IsFresh h n
+fresh_in : (h ks : List ChunkValue) (n : ℕ) → All (λ k. IsFresh h k.number) ks → In (numbers ks) n → IsFresh h n
 fresh_in h [] n a i = absurd i
 fresh_in h (k ∷ ks) n a (inl e) = subst (IsFresh h) e (All-head (λ x. IsFresh h x.number) k ks a)
 fresh_in h (k ∷ ks) n a (inr i) = fresh_in h ks n (All-tail (λ x. IsFresh h x.number) k ks a) i
 
 -- chunks with fresh numbers stay apart from those that are there
-pub apart_append : (h ks : List Content) → AreApart h → AreApart ks → All (λ k. IsFresh h k.number) ks → AreApart (h ++ ks)
+pub apart_append : (h ks : List ChunkValue) → AreApart h → AreApart ks → All (λ k. IsFresh h k.number) ks → AreApart (h ++ ks)
 apart_append h ks a b fresh =
     distinct_apart (h ++ ks)
     (subst Distinct (sym (numbers_append h ks))
@@ -83,53 +83,53 @@ apart_append h ks a b fresh =
 
 -- ---- some of the chunks
 
-in_step : (p : Content → Bool) (k : Content) (ks : List Content) (n : ℕ) → (In (numbers (filter p ks)) n → In (numbers ks) n) → (b : Bool) → In (numbers (cond b (k ∷ filter p ks) (filter p ks))) n → In (numbers (k ∷ ks)) n
+in_step : (p : ChunkValue → Bool) (k : ChunkValue) (ks : List ChunkValue) (n : ℕ) → (In (numbers (filter p ks)) n → In (numbers ks) n) → (b : Bool) → In (numbers (cond b (k ∷ filter p ks) (filter p ks))) n → In (numbers (k ∷ ks)) n
 in_step p k ks n rest true (inl e) = inl e
 in_step p k ks n rest true (inr i) = inr (rest i)
 in_step p k ks n rest false i = inr (rest i)
 
-pub in_filtered : (p : Content → Bool) (ks : List Content) (n : ℕ) → In (numbers (filter p ks)) n → In (numbers ks) n
+pub in_filtered : (p : ChunkValue → Bool) (ks : List ChunkValue) (n : ℕ) → In (numbers (filter p ks)) n → In (numbers ks) n
 in_filtered p [] n i = i
 in_filtered p (k ∷ ks) n i = in_step p k ks n (in_filtered p ks n) (p k) i
 
-distinct_step : (p : Content → Bool) (k : Content) (ks : List Content) → (In (numbers ks) k.number → ⊥) → Distinct (numbers (filter p ks)) → (b : Bool) → Distinct (numbers (cond b (k ∷ filter p ks) (filter p ks)))
+distinct_step : (p : ChunkValue → Bool) (k : ChunkValue) (ks : List ChunkValue) → (In (numbers ks) k.number → ⊥) → Distinct (numbers (filter p ks)) → (b : Bool) → Distinct (numbers (cond b (k ∷ filter p ks) (filter p ks)))
 distinct_step p k ks n d true = ((λ i. n (in_filtered p ks k.number i)), d)
 distinct_step p k ks n d false = d
 
-pub distinct_filtered : (p : Content → Bool) (ks : List Content) → Distinct (numbers ks) → Distinct (numbers (filter p ks))
+pub distinct_filtered : (p : ChunkValue → Bool) (ks : List ChunkValue) → Distinct (numbers ks) → Distinct (numbers (filter p ks))
 distinct_filtered p [] d = tt
 distinct_filtered p (k ∷ ks) d = distinct_step p k ks d.0 (distinct_filtered p ks d.1) (p k)
 
-pub in_removed : (ks : List Content) (i n : ℕ) → In (numbers (remove ks i)) n → In (numbers ks) n
+pub in_removed : (ks : List ChunkValue) (i n : ℕ) → In (numbers (remove ks i)) n → In (numbers ks) n
 in_removed [] zero n j = j
 in_removed [] (suc i) n j = j
 in_removed (k ∷ ks) zero n j = inr j
 in_removed (k ∷ ks) (suc i) n (inl e) = inl e
 in_removed (k ∷ ks) (suc i) n (inr j) = inr (in_removed ks i n j)
 
-pub distinct_removed : (ks : List Content) (i : ℕ) → Distinct (numbers ks) → Distinct (numbers (remove ks i))
+pub distinct_removed : (ks : List ChunkValue) (i : ℕ) → Distinct (numbers ks) → Distinct (numbers (remove ks i))
 distinct_removed [] zero d = tt
 distinct_removed [] (suc i) d = tt
 distinct_removed (k ∷ ks) zero d = d.1
 distinct_removed (k ∷ ks) (suc i) d = ((λ j. d.0 (in_removed ks i k.number j)), distinct_removed ks i d.1)
 
-pub in_at : (ks : List Content) (i : ℕ) → i < length ks → In (numbers ks) (chunk_at ks i).number
+pub in_at : (ks : List ChunkValue) (i : ℕ) → i < length ks → In (numbers ks) (chunk_at ks i).number
 in_at [] i l = absurd (omega arith)
 in_at (k ∷ ks) zero l = inl refl
 in_at (k ∷ ks) (suc i) l = inr (in_at ks i (omega arith))
 
-pub removed_at : (ks : List Content) (i : ℕ) → i < length ks → Distinct (numbers ks) → In (numbers (remove ks i)) (chunk_at ks i).number → ⊥
+pub removed_at : (ks : List ChunkValue) (i : ℕ) → i < length ks → Distinct (numbers ks) → In (numbers (remove ks i)) (chunk_at ks i).number → ⊥
 removed_at [] i l d j = absurd (omega arith)
 removed_at (k ∷ ks) zero l d j = d.0 j
 removed_at (k ∷ ks) (suc i) l d (inl e) = d.0 (subst (In (numbers ks)) (sym e) (in_at ks i (omega arith)))
 removed_at (k ∷ ks) (suc i) l d (inr j) = removed_at ks i (omega arith) d.1 j
 
 -- the place of the reserved chunk is within
-abbrev pub Within : List Content → Option ℕ → Type 0
+abbrev pub Within : List ChunkValue → Option ℕ → Type 0
 Within ks None = Unit {0}
 Within ks (Some i) = i < length ks
 
-module _ (ks : List Content) (d : Distinct (numbers ks)) where
+module _ (ks : List ChunkValue) (d : Distinct (numbers ks)) where
   pub in_unreserved : (r : Option ℕ) (n : ℕ) → In (numbers (unreserved ks r)) n → In (numbers ks) n
   in_unreserved None n i = i
   in_unreserved (Some j) n i = in_removed ks j n i
@@ -154,7 +154,7 @@ module _ (ks : List Content) (d : Distinct (numbers ks)) where
 
 -- ---- the new chunks
 
-pub numbers_placed : (ks : List Content) (c : Cell) → numbers (placed ks c) ≡ numbers ks
+pub numbers_placed : (ks : List ChunkValue) (c : Cell) → numbers (placed ks c) ≡ numbers ks
 numbers_placed [] c = refl
 numbers_placed (k ∷ []) c = refl
 numbers_placed (k ∷ (l ∷ ks)) c = ap (λ (ns : List ℕ). k.number ∷ ns) (numbers_placed (l ∷ ks) c)
@@ -163,7 +163,7 @@ move_over : (xs : List ℕ) (n : ℕ) (ys : List ℕ) → (xs ++ n ∷ []) ++ ys
 move_over [] n ys = refl
 move_over (x ∷ xs) n ys = ap (λ (ns : List ℕ). x ∷ ns) (move_over xs n ys)
 
-open_numbers : (laid spare : List Content) → numbers (open_next laid spare).laid ++ numbers (open_next laid spare).spare ≡ numbers laid ++ numbers spare
+open_numbers : (laid spare : List ChunkValue) → numbers (open_next laid spare).laid ++ numbers (open_next laid spare).spare ≡ numbers laid ++ numbers spare
 open_numbers laid [] = refl
 open_numbers laid (k ∷ ks) = ap (λ (ns : List ℕ). ns ++ numbers ks) (numbers_append laid (k ∷ [])) ∙ move_over (numbers laid) k.number (numbers ks)
 
@@ -171,27 +171,27 @@ pub opened_numbers : (y : Laying) (b : Bool) → numbers (cond b (open_next y.la
 opened_numbers y true = open_numbers y.laid y.spare
 opened_numbers y false = refl
 
-pub laid_numbers : (y : Laying) (h : List Content) (xs : List Addr) → numbers (laid_all y h xs).laid ++ numbers (laid_all y h xs).spare ≡ numbers y.laid ++ numbers y.spare
+pub laid_numbers : (y : Laying) (h : List ChunkValue) (xs : List Addr) → numbers (laid_all y h xs).laid ++ numbers (laid_all y h xs).spare ≡ numbers y.laid ++ numbers y.spare
 laid_numbers y h [] = refl
 laid_numbers y h (a ∷ xs) =
     laid_numbers (laid_one y (cell_of h a)) h xs
     ∙ (ap (λ (ns : List ℕ). ns ++ numbers (opened y (size_of (cell_of h a))).spare) (numbers_placed (opened y (size_of (cell_of h a))).laid (cell_of h a))
     ∙ opened_numbers y (nat_lt (room_in y.laid) (size_of (cell_of h a))))
 
-abbrev pub AreSmall : List Content → Type 0
+abbrev pub AreSmall : List ChunkValue → Type 0
 AreSmall [] = Unit {0}
 AreSmall (k ∷ ks) = (k.size ≡ 1024) × AreSmall ks
 
-small_push : (ks : List Content) (k : Content) → AreSmall ks → k.size ≡ 1024 → AreSmall (ks ++ k ∷ [])
+small_push : (ks : List ChunkValue) (k : ChunkValue) → AreSmall ks → k.size ≡ 1024 → AreSmall (ks ++ k ∷ [])
 small_push [] k s e = (e, tt)
 small_push (x ∷ ks) k s e = (s.0, small_push ks k s.1 e)
 
-small_placed : (ks : List Content) (c : Cell) → AreSmall ks → AreSmall (placed ks c)
+small_placed : (ks : List ChunkValue) (c : Cell) → AreSmall ks → AreSmall (placed ks c)
 small_placed [] c s = tt
 small_placed (k ∷ []) c s = (s.0, tt)
 small_placed (k ∷ (l ∷ ks)) c s = (s.0, small_placed (l ∷ ks) c s.1)
 
-small_open : (laid spare : List Content) → AreSmall laid → AreNew spare → AreSmall (open_next laid spare).laid × AreNew (open_next laid spare).spare
+small_open : (laid spare : List ChunkValue) → AreSmall laid → AreNew spare → AreSmall (open_next laid spare).laid × AreNew (open_next laid spare).spare
 small_open laid [] s n = (s, n)
 small_open laid (k ∷ ks) s n = (small_push laid k s n.0.1, n.1)
 
@@ -199,53 +199,53 @@ small_opened : (y : Laying) (b : Bool) → AreSmall y.laid → AreNew y.spare �
 small_opened y true s n = small_open y.laid y.spare s n
 small_opened y false s n = (s, n)
 
-pub laid_small : (y : Laying) (h : List Content) (xs : List Addr) → AreSmall y.laid → AreNew y.spare → AreSmall (laid_all y h xs).laid
+pub laid_small : (y : Laying) (h : List ChunkValue) (xs : List Addr) → AreSmall y.laid → AreNew y.spare → AreSmall (laid_all y h xs).laid
 laid_small y h [] s n = s
 laid_small y h (a ∷ xs) s n =
     let o = small_opened y (nat_lt (room_in y.laid) (size_of (cell_of h a))) s n in
     laid_small (laid_one y (cell_of h a)) h xs (small_placed (opened y (size_of (cell_of h a))).laid (cell_of h a) o.0) o.1
 
-small_map : (f : Content → Content) → ((k : Content) → (f k).size ≡ k.size) → (ks : List Content) → AreSmall ks → AreSmall (map f ks)
+small_map : (f : ChunkValue → ChunkValue) → ((k : ChunkValue) → (f k).size ≡ k.size) → (ks : List ChunkValue) → AreSmall ks → AreSmall (map f ks)
 small_map f e [] s = tt
 small_map f e (k ∷ ks) s = (e k ∙ s.0, small_map f e ks s.1)
 
-numbers_map : (f : Content → Content) → ((k : Content) → (f k).number ≡ k.number) → (ks : List Content) → numbers (map f ks) ≡ numbers ks
+numbers_map : (f : ChunkValue → ChunkValue) → ((k : ChunkValue) → (f k).number ≡ k.number) → (ks : List ChunkValue) → numbers (map f ks) ≡ numbers ks
 numbers_map f e [] = refl
 numbers_map f e (k ∷ ks) = λ i. e k i ∷ numbers_map f e ks i
 
-last_small : (k : Content) (ks : List Content) → AreSmall (k ∷ ks) → (chunk_at (k ∷ ks) (length ks)).size ≡ 1024
+last_small : (k : ChunkValue) (ks : List ChunkValue) → AreSmall (k ∷ ks) → (chunk_at (k ∷ ks) (length ks)).size ≡ 1024
 last_small k [] s = s.0
 last_small k (l ∷ ks) s = last_small l ks s.1
 
-pub current_last : (ks : List Content) → AreSmall ks → IsCurrent ks (last_place ks)
+pub current_last : (ks : List ChunkValue) → AreSmall ks → IsCurrent ks (last_place ks)
 current_last [] s = tt
 current_last (k ∷ ks) s = (omega arith, last_small k ks s)
 
 -- alike chunks have the same numbers
-pub alike_numbers : (h g : List Content) → AreAlike h g → numbers g ≡ numbers h
+pub alike_numbers : (h g : List ChunkValue) → AreAlike h g → numbers g ≡ numbers h
 alike_numbers [] [] a = refl
 alike_numbers [] (l ∷ ls) a = absurd a
 alike_numbers (k ∷ ks) [] a = absurd a
 alike_numbers (k ∷ ks) (l ∷ ls) a = λ i. a.0.0 i ∷ alike_numbers ks ls a.1 i
 
-pub alike_length : (h g : List Content) → AreAlike h g → length g ≡ length h
+pub alike_length : (h g : List ChunkValue) → AreAlike h g → length g ≡ length h
 alike_length [] [] a = refl
 alike_length [] (l ∷ ls) a = absurd a
 alike_length (k ∷ ks) [] a = absurd a
 alike_length (k ∷ ks) (l ∷ ls) a = let ih = alike_length ks ls a.1 in omega arith
 
-pub numbers_of_map : (f : Content → Content) → ((k : Content) → (f k).number ≡ k.number) → (ks : List Content) → numbers (map f ks) ≡ numbers ks
+pub numbers_of_map : (f : ChunkValue → ChunkValue) → ((k : ChunkValue) → (f k).number ≡ k.number) → (ks : List ChunkValue) → numbers (map f ks) ≡ numbers ks
 numbers_of_map f e ks = numbers_map f e ks
 
-pub small_of_map : (f : Content → Content) → ((k : Content) → (f k).size ≡ k.size) → (ks : List Content) → AreSmall ks → AreSmall (map f ks)
+pub small_of_map : (f : ChunkValue → ChunkValue) → ((k : ChunkValue) → (f k).size ≡ k.size) → (ks : List ChunkValue) → AreSmall ks → AreSmall (map f ks)
 small_of_map f e ks s = small_map f e ks s
 
 -- ---- in reverse
 
-reverse_first : (k : Content) (ks : List Content) → reverse (k ∷ ks) ≡ reverse ks ++ k ∷ []
+reverse_first : (k : ChunkValue) (ks : List ChunkValue) → reverse (k ∷ ks) ≡ reverse ks ++ k ∷ []
 reverse_first k ks = reverse-append (k ∷ []) ks
 
-pub in_reverse : (ks : List Content) (n : ℕ) → In (numbers (reverse ks)) n → In (numbers ks) n
+pub in_reverse : (ks : List ChunkValue) (n : ℕ) → In (numbers (reverse ks)) n → In (numbers ks) n
 in_reverse [] n i = i
 in_reverse (k ∷ ks) n i =
     elim (in_append_cases (numbers (reverse ks)) (k.number ∷ []) n (subst (λ (ns : List ℕ). In ns n) (ap numbers (reverse_first k ks) ∙ numbers_append (reverse ks) (k ∷ [])) i)) [
@@ -253,17 +253,17 @@ in_reverse (k ∷ ks) n i =
       | inr j ↦ elim j [ inl e ↦ inl e | inr z ↦ absurd z ]
     ]
 
-pub distinct_reverse : (ks : List Content) → Distinct (numbers ks) → Distinct (numbers (reverse ks))
+pub distinct_reverse : (ks : List ChunkValue) → Distinct (numbers ks) → Distinct (numbers (reverse ks))
 distinct_reverse [] d = tt
 distinct_reverse (k ∷ ks) d =
     subst Distinct (sym (ap numbers (reverse_first k ks) ∙ numbers_append (reverse ks) (k ∷ [])))
     (distinct_append (numbers (reverse ks)) (k.number ∷ []) (distinct_reverse ks d.1) ((λ i. i), tt)
     (λ n i j. elim j [ inl e ↦ d.0 (in_reverse ks k.number (subst (In (numbers (reverse ks))) (sym e) i)) | inr z ↦ z ]))
 
-new_push : (ks : List Content) (k : Content) → AreNew ks → (k.cells ≡ []) × (k.size ≡ 1024) → AreNew (ks ++ k ∷ [])
+new_push : (ks : List ChunkValue) (k : ChunkValue) → AreNew ks → (k.cells ≡ []) × (k.size ≡ 1024) → AreNew (ks ++ k ∷ [])
 new_push [] k n e = (e, tt)
 new_push (x ∷ ks) k n e = (n.0, new_push ks k n.1 e)
 
-pub new_reverse : (ks : List Content) → AreNew ks → AreNew (reverse ks)
+pub new_reverse : (ks : List ChunkValue) → AreNew ks → AreNew (reverse ks)
 new_reverse [] n = tt
 new_reverse (k ∷ ks) n = subst AreNew (sym (reverse_first k ks)) (new_push (reverse ks) k (new_reverse ks n.1) n.0)

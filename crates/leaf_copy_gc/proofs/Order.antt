@@ -6,13 +6,13 @@ use Rattle.std.specs.List.Sorted.{IsPermutation}
 use Rattle.std.proofs.lemmas.List.Sorted.{IsPermutation-map, IsPermutation-sym, Contains-permutation}
 use Rattle.std.proofs.lemmas.Bool.{cases_lt, lt-ltb, le-ltb, false≢true}
 use Rattle.object_layout.specs.declared.word.Addr.{Addr}
-use Rattle.object_layout.specs.Content.{Content}
+use Rattle.object_layout.specs.ChunkValue.{ChunkValue}
 use Rattle.object_layout.specs.Chunks.{cell_of}
 use Rattle.object_layout.specs.Graph.{IsClosed, IsHeld, IsSound, Leads}
 use Rattle.object_layout.proofs.Distinct.{Once}
 use Rattle.remembered_set.specs.Moved.{number_of, AreInOrder}
 use Rattle.listed.proofs.Members.{In, contains_from_in, in_from_contains}
-use Rattle.walks.proofs.Reached.{reached_within}
+use Rattle.walk_laws.proofs.Reached.{reached_within}
 use Rattle.leaf_copy_gc.specs.Survivors.{IsSurvivor, Starts}
 use Rattle.leaf_copy_gc.specs.Laid.{Laying, laid_one, relocations}
 use Rattle.leaf_copy_gc.proofs.ListLemmas.{read_in}
@@ -85,7 +85,7 @@ in_order (x ∷ xs) r i zero d l m = absurd (omega arith)
 in_order (x ∷ xs) r zero (suc j) d l m = above x xs r j d (omega arith)
 in_order (x ∷ xs) r (suc i) (suc j) d l m = in_order xs (rising_tail x xs r) i j d (omega arith) (omega arith)
 
-pub firsts : (y : Laying) (h : List Content) (xs : List Addr) → map first_in (relocations y h xs) ≡ xs
+pub firsts : (y : Laying) (h : List ChunkValue) (xs : List Addr) → map first_in (relocations y h xs) ≡ xs
 firsts y h [] = refl
 firsts y h (a ∷ xs) = ap (λ (zs : List Addr). a ∷ zs) (firsts (laid_one y (cell_of h a)) h xs)
 
@@ -94,14 +94,14 @@ in_first [] m i = i
 in_first (x ∷ xs) m (inl e) = inl (ap first_in e)
 in_first (x ∷ xs) m (inr i) = inr (in_first xs m i)
 
-pub moved_in_order : (y : Laying) (h : List Content) (xs : List Addr) (ms : List (Addr × Addr)) → IsPermutation (relocations y h xs) ms → AreSorted ms → Once xs → ((a : Addr) → In xs a → a.offset < 1024) → AreInOrder ms
+pub moved_in_order : (y : Laying) (h : List ChunkValue) (xs : List Addr) (ms : List (Addr × Addr)) → IsPermutation (relocations y h xs) ms → AreSorted ms → Once xs → ((a : Addr) → In xs a → a.offset < 1024) → AreInOrder ms
 moved_in_order y h xs ms p sorted o s =
     let q : IsPermutation xs (map first_in ms) = subst (λ (zs : List Addr). IsPermutation zs (map first_in ms)) (firsts y h xs) (IsPermutation-map first_in (relocations y h xs) ms p) in
     in_order ms (rising ms sorted (once_sorted xs (map first_in ms) q o)
     (λ m i. s m.0 (in_from_contains xs m.0 (Contains-permutation (map first_in ms) xs m.0 (IsPermutation-sym xs (map first_in ms) q) (contains_from_in (map first_in ms) m.0 (in_first ms m i))))))
 
 -- a survivor lies where references can lead
-pub survivor_place : (h : List Content) (from : List (Option Addr)) → IsClosed h → All (IsSound h) from → (a : Addr) → IsSurvivor h from a → a.offset < 1024
+pub survivor_place : (h : List ChunkValue) (from : List (Option Addr)) → IsClosed h → All (IsSound h) from → (a : Addr) → IsSurvivor h from a → a.offset < 1024
 survivor_place h from closed sound a w =
     (reached_within (Starts h from) (Leads h) (λ (b : Addr). IsHeld h b × (b.offset < 1024))
     (λ b q. (q.0, (read_in (IsSound h) from (Some b) (in_from_contains from (Some b) q.1) sound (live_chunk h b q.0)).1))

@@ -5,16 +5,16 @@ use Rattle.std.specs.List.Sorted.{IsPermutation, IsSorted}
 use Rattle.std.proofs.lemmas.List.Sorted.{All-permutation}
 use Rattle.object_layout.specs.declared.word.Addr.{Addr}
 use Rattle.object_layout.specs.Cell.{Born}
-use Rattle.object_layout.specs.Content.{Content}
+use Rattle.object_layout.specs.ChunkValue.{ChunkValue}
 use Rattle.object_layout.specs.Chunks.{cell_of, same_address}
 use Rattle.object_layout.specs.Graph.{IsClosed, IsSound}
 use Rattle.object_layout.proofs.Distinct.{Once, distinct_from, once_from}
-use Rattle.alloc_path.specs.Heap.{Heap}
+use Rattle.alloc_path.specs.LeafHeapValue.{LeafHeapValue}
 use Rattle.listed.proofs.Members.{In}
-use Rattle.task_frames.specs.Stack.{Stack, frames_of}
+use Rattle.task_frames.specs.FramesValue.{FramesValue, frames_of}
 use Rattle.leaf_copy_gc.specs.declared.lists.Survivor.{Survivor}
 use Rattle.leaf_copy_gc.specs.Survivors.{as_reference, held_by, olds, outside, survivor_order, with_chunks, HaveNames, IsSurvivor}
-use Rattle.leaf_copy_gc.specs.Collection.{Collection}
+use Rattle.leaf_copy_gc.specs.CollectorValue.{CollectorValue}
 use Rattle.leaf_copy_gc.specs.Search.{all_found, IsTarget}
 use Rattle.leaf_copy_gc.specs.Laid.{Laying, before, relocations, smalls}
 use Rattle.leaf_copy_gc.specs.Copying.{copied, IsReady}
@@ -28,7 +28,7 @@ use Rattle.leaf_copy_gc.proofs.Leading as leading
 use Rattle.leaf_copy_gc.proofs.Places as places
 
 -- what survives is found, and was put in order
-pub record AreFound (b : Collection) (from : List (Option Addr)) (d s : Collection) : Type 0 where
+pub record AreFound (b : CollectorValue) (from : List (Option Addr)) (d s : CollectorValue) : Type 0 where
   pub begins : Begins b
   pub exactly : (a : Addr) → Contains (olds d.found) a ↔ IsSurvivor b.heap.chunks from a
   pub distinct : IsDistinct same_address (olds d.found)
@@ -38,7 +38,7 @@ pub record AreFound (b : Collection) (from : List (Option Addr)) (d s : Collecti
   pub permuted : IsPermutation d.found s.found
   pub ordered : IsSorted survivor_order s.found
 
-module _ (b : Collection) (from : List (Option Addr)) (closed : IsClosed b.heap.chunks) (sound : All (IsSound b.heap.chunks) from) (d s : Collection) (are : AreFound b from d s) where
+module _ (b : CollectorValue) (from : List (Option Addr)) (closed : IsClosed b.heap.chunks) (sound : All (IsSound b.heap.chunks) from) (d s : CollectorValue) (are : AreFound b from d s) where
   kept : (a : Addr) → Contains (olds s.found) a ↔ IsSurvivor b.heap.chunks from a
   kept = evacuated.kept_sorted (IsSurvivor b.heap.chunks from) d.found s.found are.permuted are.exactly
 
@@ -52,19 +52,19 @@ module _ (b : Collection) (from : List (Option Addr)) (closed : IsClosed b.heap.
   names = All-permutation (λ (x : Survivor). (cell_of b.heap.chunks x.old).mark ≡ Born x.birth) d.found s.found are.permuted are.names
 
   marks : s.heap.chunks ≡ all_found b.heap.chunks (olds d.found)
-  marks = ap (λ (z : Collection). z.heap.chunks) are.rest ∙ ap (λ (z : Collection). z.heap.chunks) are.marked
+  marks = ap (λ (z : CollectorValue). z.heap.chunks) are.rest ∙ ap (λ (z : CollectorValue). z.heap.chunks) are.marked
 
   none_laid : s.laying ≡ before b.laying.spare
   none_laid =
-      ap (λ (z : Collection). z.laying) are.rest ∙ (ap (λ (z : Collection). z.laying) are.marked
-      ∙ ap (λ (ks : List Content). let y : Laying = record { laid = ks; spare = b.laying.spare } in y) are.begins.laid)
+      ap (λ (z : CollectorValue). z.laying) are.rest ∙ (ap (λ (z : CollectorValue). z.laying) are.marked
+      ∙ ap (λ (ks : List ChunkValue). let y : Laying = record { laid = ks; spare = b.laying.spare } in y) are.begins.laid)
 
   pub none_moved : s.moved ≡ []
-  none_moved = ap (λ (z : Collection). z.moved) are.rest ∙ (ap (λ (z : Collection). z.moved) are.marked ∙ are.begins.moved)
+  none_moved = ap (λ (z : CollectorValue). z.moved) are.rest ∙ (ap (λ (z : CollectorValue). z.moved) are.marked ∙ are.begins.moved)
 
   heap_kept : s.heap ≡ with_chunks b.heap s.heap.chunks
   heap_kept =
-      ap (λ (z : Collection). z.heap) are.rest ∙ (ap (λ (z : Collection). z.heap) are.marked
+      ap (λ (z : CollectorValue). z.heap) are.rest ∙ (ap (λ (z : CollectorValue). z.heap) are.marked
       ∙ ap (with_chunks b.heap) (sym marks))
 
   pub can_copy : IsReady s s.found
@@ -72,11 +72,11 @@ module _ (b : Collection) (from : List (Option Addr)) (closed : IsClosed b.heap.
       leading.can_copy b.heap.chunks from closed sound s.found (olds d.found) b.laying.spare kept once all names s marks none_laid none_moved are.begins.new
       (leading.enough b.heap.chunks from closed sound s.found (olds d.found) b.laying.spare kept once all names s marks none_laid none_moved are.begins.new are.begins.enough)
 
-  module _ (t : Collection) (is : t ≡ fold copied s s.found) where
+  module _ (t : CollectorValue) (is : t ≡ fold copied s s.found) where
     stay : t.found ≡ s.found
-    stay = ap (λ (z : Collection). z.found) is ∙ places.all_stay s s.found
+    stay = ap (λ (z : CollectorValue). z.found) is ∙ places.all_stay s s.found
 
-    pub chunks_have : All (λ (k : Content). All (HasTargets t.heap.chunks) k.cells) t.laying.laid
+    pub chunks_have : All (λ (k : ChunkValue). All (HasTargets t.heap.chunks) k.cells) t.laying.laid
     chunks_have = leading.chunks_have b.heap.chunks from closed sound s.found (olds d.found) b.laying.spare kept once all names s marks none_laid none_moved are.begins.new t is
 
     leads : All (leading.Leads t.heap.chunks (relocations (before b.laying.spare) b.heap.chunks (smalls b.heap.chunks (olds s.found)))) from
@@ -95,8 +95,8 @@ module _ (b : Collection) (from : List (Option Addr)) (closed : IsClosed b.heap.
     -- of the heap nothing but the objects changes
     pub copying_kept : t.heap ≡ with_chunks b.heap t.heap.chunks
     copying_kept =
-        ap (λ (z : Collection). z.heap) is ∙ (places.heap_after s s.found
-        ∙ (ap (λ (g : Heap). with_chunks g (fold copied s s.found).heap.chunks) heap_kept ∙ ap (λ (z : Collection). with_chunks b.heap z.heap.chunks) (sym is)))
+        ap (λ (z : CollectorValue). z.heap) is ∙ (places.heap_after s s.found
+        ∙ (ap (λ (g : LeafHeapValue). with_chunks g (fold copied s s.found).heap.chunks) heap_kept ∙ ap (λ (z : CollectorValue). with_chunks b.heap z.heap.chunks) (sym is)))
 
     pub moved_is : t.moved ≡ moves_of b.heap.chunks s.found b.laying.spare
     moved_is = leading.moved_is b.heap.chunks from closed sound s.found (olds d.found) b.laying.spare kept once all names s marks none_laid none_moved are.begins.new t is
@@ -115,41 +115,41 @@ module _ (b : Collection) (from : List (Option Addr)) (closed : IsClosed b.heap.
   survivors = record { exactly = kept; once = distinct_from (olds s.found) once; names = names; order = are.ordered }
 
 -- t: what was copied; u: with the references of the new chunks led; e: with those of large survivors led
-module _ (b : Collection) (fs : Stack) (roots : List Addr) (closed : IsClosed b.heap.chunks) (sound : All (IsSound b.heap.chunks) (outside fs roots)) (d s : Collection) (are : AreFound b (outside fs roots) d s)
-    (t : Collection) (is : t ≡ fold copied s s.found)
-    (u : Collection) (u_is : u ≡ record t { laying = record t.laying { laid = map (led_chunk (followed_ref t.heap.chunks)) t.laying.laid } })
-    (gs : Stack) (g_is : frames_of gs ≡ map (led_frame (followed_ref u.heap.chunks)) (frames_of fs))
-    (e : Collection) (e_is : e ≡ record u { heap = with_chunks u.heap (fold followed_large u.heap.chunks u.found) }) where
+module _ (b : CollectorValue) (fs : FramesValue) (roots : List Addr) (closed : IsClosed b.heap.chunks) (sound : All (IsSound b.heap.chunks) (outside fs roots)) (d s : CollectorValue) (are : AreFound b (outside fs roots) d s)
+    (t : CollectorValue) (is : t ≡ fold copied s s.found)
+    (u : CollectorValue) (u_is : u ≡ record t { laying = record t.laying { laid = map (led_chunk (followed_ref t.heap.chunks)) t.laying.laid } })
+    (gs : FramesValue) (g_is : frames_of gs ≡ map (led_frame (followed_ref u.heap.chunks)) (frames_of fs))
+    (e : CollectorValue) (e_is : e ≡ record u { heap = with_chunks u.heap (fold followed_large u.heap.chunks u.found) }) where
   heap_u : u.heap ≡ t.heap
-  heap_u = ap (λ (z : Collection). z.heap) u_is
+  heap_u = ap (λ (z : CollectorValue). z.heap) u_is
 
   found_u : u.found ≡ t.found
-  found_u = ap (λ (z : Collection). z.found) u_is
+  found_u = ap (λ (z : CollectorValue). z.found) u_is
 
   found_e : e.found ≡ s.found
-  found_e = ap (λ (z : Collection). z.found) e_is ∙ (found_u ∙ stay b (outside fs roots) closed sound d s are t is)
+  found_e = ap (λ (z : CollectorValue). z.found) e_is ∙ (found_u ∙ stay b (outside fs roots) closed sound d s are t is)
 
   chunks_e : e.heap.chunks ≡ fold followed_large t.heap.chunks t.found
-  chunks_e = ap (λ (z : Collection). z.heap.chunks) e_is ∙ (ap (λ (g : Heap). fold followed_large g.chunks u.found) heap_u ∙ ap (fold followed_large t.heap.chunks) found_u)
+  chunks_e = ap (λ (z : CollectorValue). z.heap.chunks) e_is ∙ (ap (λ (g : LeafHeapValue). fold followed_large g.chunks u.found) heap_u ∙ ap (fold followed_large t.heap.chunks) found_u)
 
   led_frames : map (led_frame (followed_ref u.heap.chunks)) (frames_of fs) ≡ map (led_frame (redirection b.heap.chunks s.found b.laying.spare)) (frames_of fs)
   led_frames =
-      ap (λ (g : Heap). map (led_frame (followed_ref g.chunks)) (frames_of fs)) heap_u
+      ap (λ (g : LeafHeapValue). map (led_frame (followed_ref g.chunks)) (frames_of fs)) heap_u
       ∙ frames.frames_same (followed_ref t.heap.chunks) (redirection b.heap.chunks s.found b.laying.spare) (frames_of fs)
       (frames.first_part (λ r. followed_ref t.heap.chunks r ≡ redirection b.heap.chunks s.found b.laying.spare r) (held_by (frames_of fs)) (map as_reference roots) (from_led b (outside fs roots) closed sound d s are t is))
 
   pub is_evacuated : IsEvacuated b fs roots e gs
   is_evacuated = record {
     survivors = subst (AreSurvivors b.heap.chunks (outside fs roots)) (sym found_e) (survivors b (outside fs roots) closed sound d s are);
-    moved = ap (λ (z : Collection). z.moved) e_is ∙ (ap (λ (z : Collection). z.moved) u_is ∙ (moved_is b (outside fs roots) closed sound d s are t is ∙ ap (λ (xs : List Survivor). moves_of b.heap.chunks xs b.laying.spare) (sym found_e)));
-    laid = ap (λ (z : Collection). z.laying.laid) e_is ∙ (ap (λ (z : Collection). z.laying.laid) u_is ∙ (laid_is b (outside fs roots) closed sound d s are t is
+    moved = ap (λ (z : CollectorValue). z.moved) e_is ∙ (ap (λ (z : CollectorValue). z.moved) u_is ∙ (moved_is b (outside fs roots) closed sound d s are t is ∙ ap (λ (xs : List Survivor). moves_of b.heap.chunks xs b.laying.spare) (sym found_e)));
+    laid = ap (λ (z : CollectorValue). z.laying.laid) e_is ∙ (ap (λ (z : CollectorValue). z.laying.laid) u_is ∙ (laid_is b (outside fs roots) closed sound d s are t is
         ∙ ap (λ (xs : List Survivor). map (led_chunk (redirection b.heap.chunks xs b.laying.spare)) (laying_of b.heap.chunks xs b.laying.spare).laid) (sym found_e)));
-    spare = ap (λ (z : Collection). z.laying.spare) e_is ∙ (ap (λ (z : Collection). z.laying.spare) u_is ∙ (ap (λ (y : Laying). y.spare) (laying_is b (outside fs roots) closed sound d s are t is)
+    spare = ap (λ (z : CollectorValue). z.laying.spare) e_is ∙ (ap (λ (z : CollectorValue). z.laying.spare) u_is ∙ (ap (λ (y : Laying). y.spare) (laying_is b (outside fs roots) closed sound d s are t is)
         ∙ ap (λ (xs : List Survivor). (laying_of b.heap.chunks xs b.laying.spare).spare) (sym found_e)));
     frames = g_is ∙ (led_frames ∙ ap (λ (xs : List Survivor). map (led_frame (redirection b.heap.chunks xs b.laying.spare)) (frames_of fs)) (sym found_e));
     left = subst (λ (xs : List Survivor). IsLeft b.heap.chunks e.heap.chunks (olds xs) (redirection b.heap.chunks xs b.laying.spare)) (sym found_e)
-        (subst (λ (g : List Content). IsLeft b.heap.chunks g (olds s.found) (redirection b.heap.chunks s.found b.laying.spare)) (sym chunks_e) (left_is b (outside fs roots) closed sound d s are t is));
-    kept = ap (λ (z : Collection). z.heap) e_is
-        ∙ (ap (λ (g : Heap). with_chunks g (fold followed_large u.heap.chunks u.found)) (heap_u ∙ copying_kept b (outside fs roots) closed sound d s are t is)
-        ∙ ap (with_chunks b.heap) (sym (ap (λ (z : Collection). z.heap.chunks) e_is)));
+        (subst (λ (g : List ChunkValue). IsLeft b.heap.chunks g (olds s.found) (redirection b.heap.chunks s.found b.laying.spare)) (sym chunks_e) (left_is b (outside fs roots) closed sound d s are t is));
+    kept = ap (λ (z : CollectorValue). z.heap) e_is
+        ∙ (ap (λ (g : LeafHeapValue). with_chunks g (fold followed_large u.heap.chunks u.found)) (heap_u ∙ copying_kept b (outside fs roots) closed sound d s are t is)
+        ∙ ap (with_chunks b.heap) (sym (ap (λ (z : CollectorValue). z.heap.chunks) e_is)));
   }

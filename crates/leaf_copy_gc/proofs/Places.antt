@@ -5,14 +5,14 @@ use Rattle.std.proofs.lemmas.Bool.{cases_Bool, cases_lt, le-leb, lt-leb}
 use Rattle.object_layout.specs.declared.word.Addr.{Addr}
 use Rattle.object_layout.specs.declared.word.Birth.{Birth}
 use Rattle.object_layout.specs.Cell.{Cell, Moved, size_of, with_mark}
-use Rattle.object_layout.specs.Content.{Content}
+use Rattle.object_layout.specs.ChunkValue.{ChunkValue}
 use Rattle.object_layout.specs.Place.{cell_at, put_cell}
 use Rattle.object_layout.specs.Chunks.{cell_of, place_in, put_object}
 use Rattle.object_layout.proofs.ChunkLaws as laws
-use Rattle.alloc_path.specs.Heap.{Heap}
+use Rattle.alloc_path.specs.LeafHeapValue.{LeafHeapValue}
 use Rattle.leaf_copy_gc.specs.declared.lists.Survivor.{Survivor}
 use Rattle.leaf_copy_gc.specs.Survivors.{born_in, born_of, live_count, with_chunks}
-use Rattle.leaf_copy_gc.specs.Collection.{Collection}
+use Rattle.leaf_copy_gc.specs.CollectorValue.{CollectorValue}
 use Rattle.leaf_copy_gc.specs.Search.{birth_in, visited, visited_at}
 use Rattle.leaf_copy_gc.specs.Laid.{Laying, is_small, laid_all, laid_one, next_place, open_next, opened, room_in}
 use Rattle.leaf_copy_gc.specs.Copying.{copied, copied_one}
@@ -35,7 +35,7 @@ fewer_cells (c ∷ cs) (suc n) d l =
     rw t (omega arith))
     (cases_lt (suc n) (size_of c))
 
-pub fewer : (h : List Content) (a : Addr) (d : Cell) → born_of d.mark ≤ born_of (cell_of h a).mark → live_count (put_object h a d) ≤ live_count h
+pub fewer : (h : List ChunkValue) (a : Addr) (d : Cell) → born_of d.mark ≤ born_of (cell_of h a).mark → live_count (put_object h a d) ≤ live_count h
 fewer [] a d l = omega arith
 fewer (k ∷ ks) a d l =
     ⊎_elim
@@ -44,38 +44,38 @@ fewer (k ∷ ks) a d l =
     (cases_Bool (eqb k.number a.chunk))
 
 -- one is marked as moved
-pub fewer_moved : (h : List Content) (a to : Addr) → live_count (put_object h a (with_mark (cell_of h a) (Moved to))) ≤ live_count h
+pub fewer_moved : (h : List ChunkValue) (a to : Addr) → live_count (put_object h a (with_mark (cell_of h a) (Moved to))) ≤ live_count h
 fewer_moved h a to = fewer h a (with_mark (cell_of h a) (Moved to)) (omega arith)
 
-fewer_at : (h : List Content) (s : Survivor) (b : Bool) → live_count (cond b h (followed_at h s.old)) ≤ live_count h
+fewer_at : (h : List ChunkValue) (s : Survivor) (b : Bool) → live_count (cond b h (followed_at h s.old)) ≤ live_count h
 fewer_at h s true = omega arith
 fewer_at h s false = fewer h s.old _ (omega arith)
 
 -- references are led
-pub fewer_led : (h : List Content) (ss : List Survivor) → live_count (fold followed_large h ss) ≤ live_count h
+pub fewer_led : (h : List ChunkValue) (ss : List Survivor) → live_count (fold followed_large h ss) ≤ live_count h
 fewer_led h [] = omega arith
 fewer_led h (s ∷ ss) = let a = fewer_at h s (is_small h s.old) in let ih = fewer_led (followed_large h s) ss in omega arith
 
-length_at : (h : List Content) (s : Survivor) (b : Bool) → length (cond b h (followed_at h s.old)) ≡ length h
+length_at : (h : List ChunkValue) (s : Survivor) (b : Bool) → length (cond b h (followed_at h s.old)) ≡ length h
 length_at h s true = refl
 length_at h s false = puts.length_put h s.old _
 
-pub length_led : (h : List Content) (ss : List Survivor) → length (fold followed_large h ss) ≡ length h
+pub length_led : (h : List ChunkValue) (ss : List Survivor) → length (fold followed_large h ss) ≡ length h
 length_led h [] = refl
 length_led h (s ∷ ss) = length_led (followed_large h s) ss ∙ length_at h s (is_small h s.old)
 
-place_at : (h : List Content) (s : Survivor) (b : Bool) (n : ℕ) → place_in (cond b h (followed_at h s.old)) n ≡ place_in h n
+place_at : (h : List ChunkValue) (s : Survivor) (b : Bool) (n : ℕ) → place_in (cond b h (followed_at h s.old)) n ≡ place_in h n
 place_at h s true n = refl
 place_at h s false n = laws.place_in-put h s.old (led (followed_ref h) (cell_of h s.old)) n
 
 -- and each chunk stands where it stood
-pub place_led : (h : List Content) (ss : List Survivor) (n : ℕ) → place_in (fold followed_large h ss) n ≡ place_in h n
+pub place_led : (h : List ChunkValue) (ss : List Survivor) (n : ℕ) → place_in (fold followed_large h ss) n ≡ place_in h n
 place_led h [] n = refl
 place_led h (s ∷ ss) n = place_led (followed_large h s) ss n ∙ place_at h s (is_small h s.old) n
 
 -- ---- a search: what is found and what isn't yet are together as many as before
 
-count_at : (s : Collection) (a : Addr) (b : Option Birth) → birth_in (cell_of s.heap.chunks a).mark ≡ b
+count_at : (s : CollectorValue) (a : Addr) (b : Option Birth) → birth_in (cell_of s.heap.chunks a).mark ≡ b
     → length (visited_at s a b).found + live_count (visited_at s a b).heap.chunks ≡ length s.found + live_count s.heap.chunks
 count_at s a None e = refl
 count_at s a (Some b) e =
@@ -84,46 +84,46 @@ count_at s a (Some b) e =
     let more = length-append s.found (record { birth = b; old = a } ∷ []) in
     omega arith
 
-count_one : (s : Collection) (r : Option Addr) → length (visited s r).found + live_count (visited s r).heap.chunks ≡ length s.found + live_count s.heap.chunks
+count_one : (s : CollectorValue) (r : Option Addr) → length (visited s r).found + live_count (visited s r).heap.chunks ≡ length s.found + live_count s.heap.chunks
 count_one s None = refl
 count_one s (Some a) = count_at s a (birth_in (cell_of s.heap.chunks a).mark) refl
 
-pub count_all : (s : Collection) (rs : List (Option Addr)) → length (fold visited s rs).found + live_count (fold visited s rs).heap.chunks ≡ length s.found + live_count s.heap.chunks
+pub count_all : (s : CollectorValue) (rs : List (Option Addr)) → length (fold visited s rs).found + live_count (fold visited s rs).heap.chunks ≡ length s.found + live_count s.heap.chunks
 count_all s [] = refl
 count_all s (r ∷ rs) = count_all (visited s r) rs ∙ count_one s r
 
 -- ---- copying: the found stay, and no more are moved
 
-found_at : (s : Collection) (x : Survivor) (b : Bool) → (cond b (copied_one s x) s).found ≡ s.found
+found_at : (s : CollectorValue) (x : Survivor) (b : Bool) → (cond b (copied_one s x) s).found ≡ s.found
 found_at s x true = refl
 found_at s x false = refl
 
-pub found_stay : (s : Collection) (x : Survivor) → (copied s x).found ≡ s.found
+pub found_stay : (s : CollectorValue) (x : Survivor) → (copied s x).found ≡ s.found
 found_stay s x = found_at s x (is_small s.heap.chunks x.old)
 
-pub all_stay : (s : Collection) (xs : List Survivor) → (fold copied s xs).found ≡ s.found
+pub all_stay : (s : CollectorValue) (xs : List Survivor) → (fold copied s xs).found ≡ s.found
 all_stay s [] = refl
 all_stay s (x ∷ xs) = all_stay (copied s x) xs ∙ found_stay s x
 
-few_at : (s : Collection) (x : Survivor) (b : Bool) → length (cond b (copied_one s x) s).moved ≤ length s.moved + 1
+few_at : (s : CollectorValue) (x : Survivor) (b : Bool) → length (cond b (copied_one s x) s).moved ≤ length s.moved + 1
 few_at s x true = let e = length-append s.moved ((x.old, next_place (opened s.laying (size_of (cell_of s.heap.chunks x.old))).laid) ∷ []) in omega arith
 few_at s x false = omega arith
 
-pub few_moved : (s : Collection) (x : Survivor) → length (copied s x).moved ≤ length s.moved + 1
+pub few_moved : (s : CollectorValue) (x : Survivor) → length (copied s x).moved ≤ length s.moved + 1
 few_moved s x = few_at s x (is_small s.heap.chunks x.old)
 
-heap_at : (s : Collection) (x : Survivor) (b : Bool) → (cond b (copied_one s x) s).heap ≡ with_chunks s.heap (cond b (copied_one s x) s).heap.chunks
+heap_at : (s : CollectorValue) (x : Survivor) (b : Bool) → (cond b (copied_one s x) s).heap ≡ with_chunks s.heap (cond b (copied_one s x) s).heap.chunks
 heap_at s x true = refl
 heap_at s x false = refl
 
 -- of the heap nothing but the objects changes
-pub heap_after : (s : Collection) (xs : List Survivor) → (fold copied s xs).heap ≡ with_chunks s.heap (fold copied s xs).heap.chunks
+pub heap_after : (s : CollectorValue) (xs : List Survivor) → (fold copied s xs).heap ≡ with_chunks s.heap (fold copied s xs).heap.chunks
 heap_after s [] = refl
-heap_after s (x ∷ xs) = heap_after (copied s x) xs ∙ ap (λ (g : Heap). with_chunks g (fold copied (copied s x) xs).heap.chunks) (heap_at s x (is_small s.heap.chunks x.old))
+heap_after s (x ∷ xs) = heap_after (copied s x) xs ∙ ap (λ (g : LeafHeapValue). with_chunks g (fold copied (copied s x) xs).heap.chunks) (heap_at s x (is_small s.heap.chunks x.old))
 
 -- ---- the new chunks, laid or not
 
-open_count : (laid spare : List Content) → length (open_next laid spare).laid + length (open_next laid spare).spare ≡ length laid + length spare
+open_count : (laid spare : List ChunkValue) → length (open_next laid spare).laid + length (open_next laid spare).spare ≡ length laid + length spare
 open_count laid [] = refl
 open_count laid (k ∷ ks) = let e = length-append laid (k ∷ []) in omega arith
 
@@ -134,7 +134,7 @@ count_opened_at y false = refl
 pub count_opened : (y : Laying) (n : ℕ) → length (opened y n).laid + length (opened y n).spare ≡ length y.laid + length y.spare
 count_opened y n = count_opened_at y (nat_lt (room_in y.laid) n)
 
-pub count_laid : (y : Laying) (h : List Content) (xs : List Addr) → length (laid_all y h xs).laid + length (laid_all y h xs).spare ≡ length y.laid + length y.spare
+pub count_laid : (y : Laying) (h : List ChunkValue) (xs : List Addr) → length (laid_all y h xs).laid + length (laid_all y h xs).spare ≡ length y.laid + length y.spare
 count_laid y h [] = refl
 count_laid y h (a ∷ xs) =
     let ih = count_laid (laid_one y (cell_of h a)) h xs in
@@ -144,6 +144,6 @@ count_laid y h (a ∷ xs) =
 
 -- ---- two collections are one where their parts are
 
-pub same_collection : (found : List Survivor) (spare : List Content) (h g : Heap) (ks ls : List Content) (ps qs : List (Addr × Addr)) → h ≡ g → ks ≡ ls → ps ≡ qs
-    → ◌≡◌ {A = Collection} (record { heap = h; found = found; laying = record { laid = ks; spare = spare }; moved = ps }) (record { heap = g; found = found; laying = record { laid = ls; spare = spare }; moved = qs })
+pub same_collection : (found : List Survivor) (spare : List ChunkValue) (h g : LeafHeapValue) (ks ls : List ChunkValue) (ps qs : List (Addr × Addr)) → h ≡ g → ks ≡ ls → ps ≡ qs
+    → ◌≡◌ {A = CollectorValue} (record { heap = h; found = found; laying = record { laid = ks; spare = spare }; moved = ps }) (record { heap = g; found = found; laying = record { laid = ls; spare = spare }; moved = qs })
 same_collection found spare h g ks ls ps qs heap laid moved = λ i. record { heap = heap i; found = found; laying = record { laid = laid i; spare = spare }; moved = moved i }

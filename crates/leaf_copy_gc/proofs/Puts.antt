@@ -3,7 +3,7 @@ use Rattle.std.proofs.Common.{◌≡◌, ℕ, zero, suc, ◌+◌, ◌-◌, ◌<�
 use Rattle.std.proofs.lemmas.Bool.{cases_Bool, cases_lt, le-leb, lt-leb, lt-ltb, le-ltb}
 use Rattle.object_layout.specs.declared.word.Addr.{Addr}
 use Rattle.object_layout.specs.Cell.{Cell, Mark, Born, Moved, Hole, IsBorn, IsObject, no_cell, size_of, with_mark}
-use Rattle.object_layout.specs.Content.{Content}
+use Rattle.object_layout.specs.ChunkValue.{ChunkValue}
 use Rattle.object_layout.specs.Place.{cell_at, put_cell}
 use Rattle.object_layout.specs.Chunks.{cell_of, place_in, place_of, put_object}
 use Rattle.object_layout.specs.Graph.{IsHeld}
@@ -36,7 +36,7 @@ in_or_not (x ∷ xs) a =
 
 -- ---- one object put elsewhere
 
-pub place_put : (h : List Content) (x : Addr) (c : Cell) (n : ℕ) → place_of (put_object h x c) n ≡ place_of h n
+pub place_put : (h : List ChunkValue) (x : Addr) (c : Cell) (n : ℕ) → place_of (put_object h x c) n ≡ place_of h n
 place_put [] x c n = refl
 place_put (k ∷ ks) x c n =
     ⊎_elim
@@ -44,7 +44,7 @@ place_put (k ∷ ks) x c n =
     (λ (e : eqb k.number x.chunk ≡ false). rw (e, place_put ks x c n))
     (cases_Bool (eqb k.number x.chunk))
 
-pub length_put : (h : List Content) (x : Addr) (c : Cell) → length (put_object h x c) ≡ length h
+pub length_put : (h : List ChunkValue) (x : Addr) (c : Cell) → length (put_object h x c) ≡ length h
 length_put [] x c = refl
 length_put (k ∷ ks) x c =
     ⊎_elim
@@ -53,7 +53,7 @@ length_put (k ∷ ks) x c =
     (cases_Bool (eqb k.number x.chunk))
 
 -- the later of two puts at one address stands
-pub put_put : (h : List Content) (a : Addr) (c d : Cell) → put_object (put_object h a c) a d ≡ put_object h a d
+pub put_put : (h : List ChunkValue) (a : Addr) (c d : Cell) → put_object (put_object h a c) a d ≡ put_object h a d
 put_put [] a c d = refl
 put_put (k ∷ ks) a c d =
     ⊎_elim
@@ -69,7 +69,7 @@ cell_put cs at c =
       | inr o ↦ inr (ap (λ (xs : List Cell). cell_at xs at) (place.put_nowhere cs at c o.0), o.1)
     ]
 
-pub put_cases : (h : List Content) (a : Addr) (c : Cell) → (cell_of (put_object h a c) a ≡ c) ⊎ ((cell_of (put_object h a c) a ≡ cell_of h a) × (cell_of h a ≡ no_cell))
+pub put_cases : (h : List ChunkValue) (a : Addr) (c : Cell) → (cell_of (put_object h a c) a ≡ c) ⊎ ((cell_of (put_object h a c) a ≡ cell_of h a) × (cell_of h a ≡ no_cell))
 put_cases [] a c = inr (refl, refl)
 put_cases (k ∷ ks) a c =
     ⊎_elim
@@ -79,7 +79,7 @@ put_cases (k ∷ ks) a c =
 
 -- ---- one object marked
 
-module _ (h : List Content) (x : Addr) (m : Mark) where
+module _ (h : List ChunkValue) (x : Addr) (m : Mark) where
   pub mark_other : (a : Addr) → (x ≡ a → ⊥) → cell_of (put_object h x (with_mark (cell_of h x) m)) a ≡ cell_of h a
   mark_other a ne = laws.cell_of-put_other h x a (with_mark (cell_of h x) m) refl (λ e. ne (sym e))
 
@@ -113,7 +113,7 @@ module _ (h : List Content) (x : Addr) (m : Mark) where
       ]
 
 -- what bears its birth name lies in a chunk
-pub live_chunk : (h : List Content) (a : Addr) → IsHeld h a → place_of h a.chunk < length h
+pub live_chunk : (h : List ChunkValue) (a : Addr) → IsHeld h a → place_of h a.chunk < length h
 live_chunk h a l = laws.chunk_of_object h a (laws.born_object h a l)
 
 -- ---- how many bear their birth names
@@ -135,7 +135,7 @@ count_cells (c ∷ cs) (suc n) to l =
     rw t (omega arith))
     (cases_lt (suc n) (size_of c))
 
-pub count_found : (h : List Content) (a to : Addr) → IsHeld h a → live_count h ≡ live_count (put_object h a (with_mark (cell_of h a) (Moved to))) + 1
+pub count_found : (h : List ChunkValue) (a to : Addr) → IsHeld h a → live_count h ≡ live_count (put_object h a (with_mark (cell_of h a) (Moved to))) + 1
 count_found [] a to l = absurd l
 count_found (k ∷ ks) a to l =
     ⊎_elim
@@ -145,14 +145,14 @@ count_found (k ∷ ks) a to l =
 
 -- ---- whether an address lies in a chunk of the heap
 
-pub owned : (h : List Content) (n : ℕ) → is_some (place_in h n) ≡ true → place_of h n < length h
+pub owned : (h : List ChunkValue) (n : ℕ) → is_some (place_in h n) ≡ true → place_of h n < length h
 owned h n e =
     elim (cases_lt (place_of h n) (length h)) [
       | inl l ↦ l
       | inr l ↦ let w = rw (le-ltb (place_of h n) (length h) l) at e in absurd cc
     ]
 
-pub not_owned : (h : List Content) (n : ℕ) → is_some (place_in h n) ≡ false → length h ≤ place_of h n
+pub not_owned : (h : List ChunkValue) (n : ℕ) → is_some (place_in h n) ≡ false → length h ≤ place_of h n
 not_owned h n e =
     elim (cases_lt (place_of h n) (length h)) [
       | inl l ↦ let w = rw (lt-ltb (place_of h n) (length h) l) at e in absurd cc

@@ -6,7 +6,7 @@ use Rattle.std.proofs.lemmas.List.{length-reverse}
 use Rattle.std.proofs.lemmas.Bool.{cases_Bool, cases_lt, le-leb, lt-leb, leb-true, false≢true}
 use Rattle.object_layout.specs.declared.word.Addr.{Addr}
 use Rattle.object_layout.specs.Cell.{Born, Cell, IsBorn, IsObject, no_cell, size_of}
-use Rattle.object_layout.specs.Content.{Content}
+use Rattle.object_layout.specs.ChunkValue.{ChunkValue}
 use Rattle.object_layout.specs.Place.{cell_at, IsCellAt}
 use Rattle.object_layout.specs.Chunks.{cell_of, chunk_at}
 use Rattle.object_layout.specs.Graph.{IsHeld}
@@ -14,7 +14,7 @@ use Rattle.object_layout.proofs.PlaceLemmas as place
 use Rattle.object_layout.proofs.ChunkLaws as laws
 use Rattle.object_layout.proofs.Distinct.{once_from}
 use Rattle.listed.proofs.Members.{In, in_append_left, in_from_contains, in_kept}
-use Rattle.alloc_path.specs.Heap.{AreTidy, Heap, IsReserved, IsSettled, IsTidy}
+use Rattle.alloc_path.specs.LeafHeapValue.{AreTidy, LeafHeapValue, IsReserved, IsSettled, IsTidy}
 use Rattle.leaf_copy_gc.specs.declared.lists.Survivor.{Survivor}
 use Rattle.leaf_copy_gc.specs.Survivors.{olds}
 use Rattle.leaf_copy_gc.specs.Exchanged.{reserved_of, unreserved}
@@ -37,20 +37,20 @@ use Rattle.leaf_copy_gc.proofs.Numbers.{numbers, Distinct, Within}
 use Rattle.leaf_copy_gc.proofs.Extent as extent
 
 -- what has an object has its number
-pub object_number : (ks : List Content) (a : Addr) → IsObject (cell_of ks a).mark → In (numbers ks) a.chunk
+pub object_number : (ks : List ChunkValue) (a : Addr) → IsObject (cell_of ks a).mark → In (numbers ks) a.chunk
 object_number ks a o =
     elim (extent.in_numbers (numbers ks) a.chunk) [
       | inl i ↦ i
       | inr n ↦ let z = subst (λ (c : Cell). IsObject c.mark) (extent.nowhere ks a n) o in absurd z
     ]
 
-next_number : (ks : List Content) → 0 < length ks → In (numbers ks) (next_place ks).chunk
+next_number : (ks : List ChunkValue) → 0 < length ks → In (numbers ks) (next_place ks).chunk
 next_number [] l = absurd (omega arith)
 next_number (k ∷ []) l = inl refl
 next_number (k ∷ (x ∷ ks)) l = inr (next_number (x ∷ ks) (omega arith))
 
 -- an object is read where it was placed
-placed_there : (ks : List Content) (c : Cell) → 0 < length ks → Distinct (numbers ks) → cell_of (placed ks c) (next_place ks) ≡ c
+placed_there : (ks : List ChunkValue) (c : Cell) → 0 < length ks → Distinct (numbers ks) → cell_of (placed ks c) (next_place ks) ≡ c
 placed_there [] c l d = absurd (omega arith)
 placed_there (k ∷ []) c l d = extent.here (record k { cells = k.cells ++ c ∷ [] }) [] (next_place (k ∷ [])) refl ∙ place.cell_at-last k.cells c
 placed_there (k ∷ (x ∷ ks)) c l d =
@@ -58,7 +58,7 @@ placed_there (k ∷ (x ∷ ks)) c l d =
     ∙ placed_there (x ∷ ks) c (omega arith) d.1
 
 -- other objects stay
-placed_other : (ks : List Content) (c : Cell) (b : Addr) → IsObject (cell_of ks b).mark → cell_of (placed ks c) b ≡ cell_of ks b
+placed_other : (ks : List ChunkValue) (c : Cell) (b : Addr) → IsObject (cell_of ks b).mark → cell_of (placed ks c) b ≡ cell_of ks b
 placed_other [] c b o = refl
 placed_other (k ∷ []) c b o =
     elim (cases_Bool (eqb k.number b.chunk)) [
@@ -71,7 +71,7 @@ placed_other (k ∷ (x ∷ ks)) c b o =
       | inr e ↦ let p = rw e at o in rw e (placed_other (x ∷ ks) c b p)
     ]
 
-opened_other : (laid spare : List Content) (b : Addr) → IsObject (cell_of laid b).mark → cell_of (open_next laid spare).laid b ≡ cell_of laid b
+opened_other : (laid spare : List ChunkValue) (b : Addr) → IsObject (cell_of laid b).mark → cell_of (open_next laid spare).laid b ≡ cell_of laid b
 opened_other laid [] b o = refl
 opened_other laid (k ∷ ks) b o = extent.in_first laid (k ∷ []) b (object_number laid b o)
 
@@ -84,7 +84,7 @@ one_other y c b o =
     let e = opened_at y (nat_lt (room_in y.laid) (size_of c)) b o in
     placed_other (opened y (size_of c)).laid c b (subst (λ (d : Cell). IsObject d.mark) (sym e) o) ∙ e
 
-pub all_other : (y : Laying) (h : List Content) (xs : List Addr) (b : Addr) → IsObject (cell_of y.laid b).mark → cell_of (laid_all y h xs).laid b ≡ cell_of y.laid b
+pub all_other : (y : Laying) (h : List ChunkValue) (xs : List Addr) (b : Addr) → IsObject (cell_of y.laid b).mark → cell_of (laid_all y h xs).laid b ≡ cell_of y.laid b
 all_other y h [] b o = refl
 all_other y h (a ∷ xs) b o =
     let e = one_other y (cell_of h a) b o in
@@ -98,7 +98,7 @@ one_numbers y c d =
     subst Distinct (sym (ap (λ (ns : List ℕ). ns ++ numbers (opened y (size_of c)).spare) (nums.numbers_placed (opened y (size_of c)).laid c) ∙ nums.opened_numbers y (nat_lt (room_in y.laid) (size_of c)))) d
 
 -- what was moved is read at its new place
-pub relocated : (y : Laying) (h : List Content) (xs : List Addr) → Distinct (numbers y.laid ++ numbers y.spare) → HaveRoom y h xs → ((a : Addr) → In xs a → IsObject (cell_of h a).mark)
+pub relocated : (y : Laying) (h : List ChunkValue) (xs : List Addr) → Distinct (numbers y.laid ++ numbers y.spare) → HaveRoom y h xs → ((a : Addr) → In xs a → IsObject (cell_of h a).mark)
     → (m : Addr × Addr) → In (relocations y h xs) m → cell_of (laid_all y h xs).laid m.1 ≡ cell_of h m.0
 relocated y h [] d room o m i = absurd i
 relocated y h (a ∷ xs) d room o m (inl e) =
@@ -108,12 +108,12 @@ relocated y h (a ∷ xs) d room o m (inl e) =
     (all_other (laid_one y c) h xs (laid_at y (size_of c)) (subst (λ (z : Cell). IsObject z.mark) (sym there) (o a (inl refl))) ∙ there)
 relocated y h (a ∷ xs) d room o m (inr i) = relocated (laid_one y (cell_of h a)) h xs (one_numbers y (cell_of h a) d) room.1 (λ b j. o b (inr j)) m i
 
-moved_in : (y : Laying) (h : List Content) (xs : List Addr) (m : Addr × Addr) → In (relocations y h xs) m → In xs m.0
+moved_in : (y : Laying) (h : List ChunkValue) (xs : List Addr) (m : Addr × Addr) → In (relocations y h xs) m → In xs m.0
 moved_in y h [] m i = absurd i
 moved_in y h (a ∷ xs) m (inl e) = inl (ap (λ (p : Addr × Addr). p.0) e)
 moved_in y h (a ∷ xs) m (inr i) = inr (moved_in (laid_one y (cell_of h a)) h xs m i)
 
-pub moved_from : (y : Laying) (h : List Content) (xs : List Addr) (m : Addr × Addr) → In (relocations y h xs) m → In xs m.0
+pub moved_from : (y : Laying) (h : List ChunkValue) (xs : List Addr) (m : Addr × Addr) → In (relocations y h xs) m → In xs m.0
 moved_from y h xs m i = moved_in y h xs m i
 
 -- ---- with references led
@@ -127,7 +127,7 @@ led_cell f (c ∷ cs) (suc n) =
       | inr within ↦ rw (size_led f c, le-leb (size_of c) (suc n) within) (led_cell f cs (suc n - size_of c))
     ]
 
-pub led_there : (f : Option Addr → Option Addr) (ks : List Content) (a : Addr) → cell_of (map (led_chunk f) ks) a ≡ led f (cell_of ks a)
+pub led_there : (f : Option Addr → Option Addr) (ks : List ChunkValue) (a : Addr) → cell_of (map (led_chunk f) ks) a ≡ led f (cell_of ks a)
 led_there f [] a = refl
 led_there f (k ∷ ks) a =
     elim (cases_Bool (eqb k.number a.chunk)) [
@@ -137,7 +137,7 @@ led_there f (k ∷ ks) a =
 
 -- ---- the law
 
-module _ (h : Heap) (from : List (Option Addr)) (ss : List Survivor) (news : List Content) (s : AreSurvivors h.chunks from ss) (t : CanTake h.chunks news) where
+module _ (h : LeafHeapValue) (from : List (Option Addr)) (ss : List Survivor) (news : List ChunkValue) (s : AreSurvivors h.chunks from ss) (t : CanTake h.chunks news) where
   lives : (a : Addr) → In (olds ss) a → IsHeld h.chunks a
   lives a i =
       let u = in_unmap ss a i in
@@ -174,7 +174,7 @@ moved_are_read h from ss news s t old new c = moved_read h from ss news s t old 
 
 -- ---- large survivors
 
-removed_or_at : (ks : List Content) (i : ℕ) (k : Content) → In ks k → In (remove ks i) k ⊎ (k ≡ chunk_at ks i)
+removed_or_at : (ks : List ChunkValue) (i : ℕ) (k : ChunkValue) → In ks k → In (remove ks i) k ⊎ (k ≡ chunk_at ks i)
 removed_or_at [] i k j = absurd j
 removed_or_at (x ∷ ks) zero k (inl e) = inr (sym e)
 removed_or_at (x ∷ ks) zero k (inr j) = inl j
@@ -182,22 +182,22 @@ removed_or_at (x ∷ ks) (suc i) k (inl e) = inl (inl e)
 removed_or_at (x ∷ ks) (suc i) k (inr j) = elim (removed_or_at ks i k j) [ inl z ↦ inl (inr z) | inr z ↦ inr z ]
 
 -- a chunk with an object is not the reserved one
-unreserved_in : (ks : List Content) (o : Option ℕ) → IsReserved ks o → (k : Content) → In ks k → (k.cells ≡ [] → ⊥) → In (unreserved ks o) k
+unreserved_in : (ks : List ChunkValue) (o : Option ℕ) → IsReserved ks o → (k : ChunkValue) → In ks k → (k.cells ≡ [] → ⊥) → In (unreserved ks o) k
 unreserved_in ks None w k j n = j
 unreserved_in ks (Some i) w k j n = elim (removed_or_at ks i k j) [
   | inl z ↦ z
-  | inr z ↦ absurd (n (ap (λ (x : Content). x.cells) z ∙ w.1.1))
+  | inr z ↦ absurd (n (ap (λ (x : ChunkValue). x.cells) z ∙ w.1.1))
 ]
 
-within_of : (ks : List Content) (o : Option ℕ) → IsReserved ks o → Within ks o
+within_of : (ks : List ChunkValue) (o : Option ℕ) → IsReserved ks o → Within ks o
 within_of ks None w = tt
 within_of ks (Some i) w = w.0
 
-none_of : (ks : List Content) (o : Option ℕ) → IsReserved ks o → NoneThere ks o
+none_of : (ks : List ChunkValue) (o : Option ℕ) → IsReserved ks o → NoneThere ks o
 none_of ks None w = tt
 none_of ks (Some i) w = w.1.1
 
-module _ (h : Heap) (from : List (Option Addr)) (ss : List Survivor) (news : List Content) (s : AreSurvivors h.chunks from ss) (t : CanTake h.chunks news)
+module _ (h : LeafHeapValue) (from : List (Option Addr)) (ss : List Survivor) (news : List ChunkValue) (s : AreSurvivors h.chunks from ss) (t : CanTake h.chunks news)
     (settled : IsSettled h.chunks) (reserved : IsReserved h.chunks h.reserved) where
   tidy : AreTidy h.chunks
   tidy = settled.tidy
@@ -229,13 +229,13 @@ module _ (h : Heap) (from : List (Option Addr)) (ss : List Survivor) (news : Lis
         let u = in_unmap ss a i in
         subst (IsHeld h.chunks) u.1.1 (subst IsBorn (sym (read_in (λ (x : Survivor). (cell_of h.chunks x.old).mark ≡ Born x.birth) ss u.0 u.1.0 s.names)) tt)
 
-    own : (k : Content) × (In h.chunks k × (k.number ≡ a.chunk))
+    own : (k : ChunkValue) × (In h.chunks k × (k.number ≡ a.chunk))
     own = extent.chunk_in h.chunks a.chunk (object_number h.chunks a (laws.born_object h.chunks a live))
 
     pub large_read : cell_of (collected h ss (reverse news)).chunks a ≡ led (redirection h.chunks ss (reverse news)) (cell_of h.chunks a)
     large_read = in_its own.0 own.1.0 own.1.1
       where
-        in_its : (k : Content) → In h.chunks k → k.number ≡ a.chunk → cell_of (collected h ss (reverse news)).chunks a ≡ led (redirection h.chunks ss (reverse news)) (cell_of h.chunks a)
+        in_its : (k : ChunkValue) → In h.chunks k → k.number ≡ a.chunk → cell_of (collected h ss (reverse news)).chunks a ≡ led (redirection h.chunks ss (reverse news)) (cell_of h.chunks a)
         in_its k j q =
             let f = redirection h.chunks ss (reverse news) in
             let there : cell_of h.chunks a ≡ cell_at k.cells a.offset = extent.chunk_there h.chunks k once_h j a q in
@@ -253,7 +253,7 @@ module _ (h : Heap) (from : List (Option Addr)) (ss : List Survivor) (news : Lis
             naming.goal_kept h.chunks ss f h.reserved (laid_of h ss (reverse news)) tidy once_h (once_from (olds ss) s.once) s.names laid_apart laid_once (within_of h.chunks h.reserved reserved) (none_of h.chunks h.reserved reserved) a out k stays q
             ∙ (led_cell f k.cells a.offset ∙ ap (led f) (sym there))
           where
-            at_first : (k : Content) → k.number ≡ a.chunk → k.cells ≡ cell_at k.cells 0 ∷ [] → IsBorn (cell_at k.cells a.offset).mark → (o : ℕ) → o ≡ a.offset → a ≡ first_of k
+            at_first : (k : ChunkValue) → k.number ≡ a.chunk → k.cells ≡ cell_at k.cells 0 ∷ [] → IsBorn (cell_at k.cells a.offset).mark → (o : ℕ) → o ≡ a.offset → a ≡ first_of k
             at_first k q alone born zero z = λ e. record { chunk = sym q e; offset = sym z e }
             at_first k q alone born (suc n) z =
                 let none : cell_at k.cells a.offset ≡ no_cell = ap (λ (o : ℕ). cell_at k.cells o) (sym z) ∙ (ap (λ (cs : List Cell). cell_at cs (suc n)) alone ∙ extent.alone_cell (cell_at k.cells 0) n) in

@@ -6,10 +6,10 @@ use Rattle.std.proofs.lemmas.Bool.{cases_Bool, cases_lt, false≢true, le-leb}
 use Rattle.std.proofs.lemmas.List.Elements.{All-head, All-tail}
 use Rattle.object_layout.specs.declared.word.Addr.{Addr}
 use Rattle.object_layout.specs.Cell.{Cell, Moved, moved_to, size_of, with_mark}
-use Rattle.object_layout.specs.Content.{Content}
+use Rattle.object_layout.specs.ChunkValue.{ChunkValue}
 use Rattle.object_layout.specs.Place.{cell_at}
 use Rattle.object_layout.specs.Chunks.{cell_of, chunk_at}
-use Rattle.alloc_path.specs.Heap.{AreTidy, IsTidy}
+use Rattle.alloc_path.specs.LeafHeapValue.{AreTidy, IsTidy}
 use Rattle.remembered_set.specs.Moved.{same_address}
 use Rattle.listed.proofs.Members.{In, contains_from_in, in_from_contains}
 use Rattle.leaf_copy_gc.specs.declared.lists.Survivor.{Survivor}
@@ -34,7 +34,7 @@ first_unmoved [] a = refl
 first_unmoved (c ∷ cs) a = All-head (λ (c : Cell). moved_to c.mark ≡ None) c cs a
 
 -- a chunk of which the first object is large has no other
-pub alone_first : (k : Content) → IsTidy k → 1024 < size_of (cell_at k.cells 0) → length k.cells ≡ 1
+pub alone_first : (k : ChunkValue) → IsTidy k → 1024 < size_of (cell_at k.cells 0) → length k.cells ≡ 1
 alone_first k t l = alone_in k.cells (length k.cells ≡ 1) t.alone l
   where
     alone_in : (cs : List Cell) (P : Type 0) → All (λ (c : Cell). 1024 < size_of c → P) cs → 1024 < size_of (cell_at cs 0) → P
@@ -66,20 +66,20 @@ pub any_none : (ss : List Survivor) (a : Addr) → (In (olds ss) a → ⊥) → 
 any_none [] a n = refl
 any_none (s ∷ ss) a n = rw (moves.addr_other s.old a (λ e. n (inl e))) (any_none ss a (λ i. n (inr i)))
 
-abbrev pub first_of : Content → Addr
+abbrev pub first_of : ChunkValue → Addr
 first_of k = record { chunk = k.number; offset = 0 }
 
 module _ (ss : List Survivor) (f : Option Addr → Option Addr) where
   -- the chunk of a large survivor, marked as found and with its references led
-  abbrev pub marked_chunk : Content → Content
+  abbrev pub marked_chunk : ChunkValue → ChunkValue
   marked_chunk k = record k { cells = map (λ (c : Cell). led f (with_mark c (Moved (first_of k)))) k.cells }
 
-  abbrev pub LeftIn : List Content → List Content → Type 0
+  abbrev pub LeftIn : List ChunkValue → List ChunkValue → Type 0
   LeftIn hs gs = (a : Addr) → In (numbers hs) a.chunk →
       (Contains (olds ss) a → is_small hs a ≡ false → cell_of gs a ≡ led f (with_mark (cell_of hs a) (Moved a)))
       × ((Contains (olds ss) a → ⊥) → cell_of gs a ≡ cell_of hs a)
 
-  left_tail : (k l : Content) (ks ls : List Content) → l.number ≡ k.number → (In (numbers ks) k.number → ⊥) → LeftIn (k ∷ ks) (l ∷ ls) → LeftIn ks ls
+  left_tail : (k l : ChunkValue) (ks ls : List ChunkValue) → l.number ≡ k.number → (In (numbers ks) k.number → ⊥) → LeftIn (k ∷ ks) (l ∷ ls) → LeftIn ks ls
   left_tail k l ks ls n fresh left a i =
       let out : k.number ≡ a.chunk → ⊥ = λ e. fresh (subst (In (numbers ks)) (sym e) i) in
       let was = extent.later k ks a out in
@@ -90,7 +90,7 @@ module _ (ss : List Survivor) (f : Option Addr → Option Addr) where
       )
 
   -- what is known of a chunk and of what was left of it
-  pub record IsPair (k l : Content) : Type 0 where
+  pub record IsPair (k l : ChunkValue) : Type 0 where
     pub stays_if : stays l ≡ keeps ss k
     pub kept : keeps ss k ≡ true → l ≡ marked_chunk k
     pub empty : emptied l ≡ emptied k
@@ -98,7 +98,7 @@ module _ (ss : List Survivor) (f : Option Addr → Option Addr) where
   and_false : (b : Bool) → (false && b) ≡ false
   and_false b = refl
 
-  module _ (k l : Content) (tidy : IsTidy k) (n : l.number ≡ k.number) (size : l.size ≡ k.size) (sizes : map size_of l.cells ≡ map size_of k.cells)
+  module _ (k l : ChunkValue) (tidy : IsTidy k) (n : l.number ≡ k.number) (size : l.size ≡ k.size) (sizes : map size_of l.cells ≡ map size_of k.cells)
       (large : Contains (olds ss) (first_of k) → nat_le (size_of (cell_at k.cells 0)) 1024 ≡ false → cell_at l.cells 0 ≡ led f (with_mark (cell_at k.cells 0) (Moved (first_of k))))
       (other : (Contains (olds ss) (first_of k) → ⊥) → cell_at l.cells 0 ≡ cell_at k.cells 0) where
     same_size : nat_le (size_of (cell_at l.cells 0)) 1024 ≡ nat_le (size_of (cell_at k.cells 0)) 1024
@@ -135,13 +135,13 @@ module _ (ss : List Survivor) (f : Option Addr → Option Addr) where
       empty = λ i. record { number = n i; size = size i; cells = [] };
     }
 
-  abbrev pub ArePairs : List Content → List Content → Type 0
+  abbrev pub ArePairs : List ChunkValue → List ChunkValue → Type 0
   ArePairs [] [] = Unit {0}
   ArePairs [] (l ∷ ls) = ⊥
   ArePairs (k ∷ ks) [] = ⊥
   ArePairs (k ∷ ks) (l ∷ ls) = IsPair k l × ArePairs ks ls
 
-  pub pairs : (hs gs : List Content) → AreAlike hs gs → AreTidy hs → Distinct (numbers hs) → LeftIn hs gs → ArePairs hs gs
+  pub pairs : (hs gs : List ChunkValue) → AreAlike hs gs → AreTidy hs → Distinct (numbers hs) → LeftIn hs gs → ArePairs hs gs
   pairs [] [] a t d left = tt
   pairs [] (l ∷ ls) a t d left = absurd a
   pairs (k ∷ ks) [] a t d left = absurd a
@@ -155,7 +155,7 @@ module _ (ss : List Survivor) (f : Option Addr → Option Addr) where
         pairs ks ls a.1 (All-tail IsTidy k ks t) d.1 (left_tail k l ks ls a.0.0 d.0 left),
       )
 
-  pairs_removed : (hs gs : List Content) (i : ℕ) → ArePairs hs gs → ArePairs (remove hs i) (remove gs i)
+  pairs_removed : (hs gs : List ChunkValue) (i : ℕ) → ArePairs hs gs → ArePairs (remove hs i) (remove gs i)
   pairs_removed [] [] zero p = p
   pairs_removed [] [] (suc i) p = p
   pairs_removed [] (l ∷ ls) i p = absurd p
@@ -163,17 +163,17 @@ module _ (ss : List Survivor) (f : Option Addr → Option Addr) where
   pairs_removed (k ∷ ks) (l ∷ ls) zero p = p.1
   pairs_removed (k ∷ ks) (l ∷ ls) (suc i) p = (p.0, pairs_removed ks ls i p.1)
 
-  pub pairs_unreserved : (hs gs : List Content) (r : Option ℕ) → ArePairs hs gs → ArePairs (unreserved hs r) (unreserved gs r)
+  pub pairs_unreserved : (hs gs : List ChunkValue) (r : Option ℕ) → ArePairs hs gs → ArePairs (unreserved hs r) (unreserved gs r)
   pairs_unreserved hs gs None p = p
   pairs_unreserved hs gs (Some i) p = pairs_removed hs gs i p
 
   -- the chunks that stay
-  stay_step : (k l : Content) (ks ls : List Content) → IsPair k l → filter stays ls ≡ map marked_chunk (filter (keeps ss) ks) → (b : Bool) → keeps ss k ≡ b → stays l ≡ b
+  stay_step : (k l : ChunkValue) (ks ls : List ChunkValue) → IsPair k l → filter stays ls ≡ map marked_chunk (filter (keeps ss) ks) → (b : Bool) → keeps ss k ≡ b → stays l ≡ b
       → cond b (l ∷ filter stays ls) (filter stays ls) ≡ map marked_chunk (cond b (k ∷ filter (keeps ss) ks) (filter (keeps ss) ks))
   stay_step k l ks ls p rest true e q = λ i. p.kept e i ∷ rest i
   stay_step k l ks ls p rest false e q = rest
 
-  pub stay_same : (hs gs : List Content) → ArePairs hs gs → filter stays gs ≡ map marked_chunk (filter (keeps ss) hs)
+  pub stay_same : (hs gs : List ChunkValue) → ArePairs hs gs → filter stays gs ≡ map marked_chunk (filter (keeps ss) hs)
   stay_same [] [] p = refl
   stay_same [] (l ∷ ls) p = absurd p
   stay_same (k ∷ ks) [] p = absurd p
@@ -182,12 +182,12 @@ module _ (ss : List Survivor) (f : Option Addr → Option Addr) where
       ∙ stay_step k l ks ls p.0 (stay_same ks ls p.1) (keeps ss k) refl p.0.stays_if
 
   -- the chunks that go
-  go_step : (k l : Content) (ks ls : List Content) → IsPair k l → map emptied (filter goes ls) ≡ map emptied (filter (leaves ss) ks) → (b : Bool)
+  go_step : (k l : ChunkValue) (ks ls : List ChunkValue) → IsPair k l → map emptied (filter goes ls) ≡ map emptied (filter (leaves ss) ks) → (b : Bool)
       → map emptied (cond (not b) (l ∷ filter goes ls) (filter goes ls)) ≡ map emptied (cond (not b) (k ∷ filter (leaves ss) ks) (filter (leaves ss) ks))
   go_step k l ks ls p rest true = rest
   go_step k l ks ls p rest false = λ i. p.empty i ∷ rest i
 
-  pub go_same : (hs gs : List Content) → ArePairs hs gs → map emptied (filter goes gs) ≡ map emptied (filter (leaves ss) hs)
+  pub go_same : (hs gs : List ChunkValue) → ArePairs hs gs → map emptied (filter goes gs) ≡ map emptied (filter (leaves ss) hs)
   go_same [] [] p = refl
   go_same [] (l ∷ ls) p = absurd p
   go_same (k ∷ ks) [] p = absurd p
@@ -200,7 +200,7 @@ no_cells : (cs : List Cell) → map size_of cs ≡ [] → cs ≡ []
 no_cells [] e = refl
 no_cells (c ∷ cs) e = absurd cc
 
-reserved_at : (h g : List Content) (i : ℕ) → AreAlike h g → (chunk_at g i).cells ≡ [] → chunk_at g i ≡ chunk_at h i
+reserved_at : (h g : List ChunkValue) (i : ℕ) → AreAlike h g → (chunk_at g i).cells ≡ [] → chunk_at g i ≡ chunk_at h i
 reserved_at [] [] i a e = refl
 reserved_at [] (l ∷ ls) i a e = absurd a
 reserved_at (k ∷ ks) [] i a e = absurd a
@@ -209,10 +209,10 @@ reserved_at (k ∷ ks) (l ∷ ls) zero a e =
     λ j. record { number = a.0.0 j; size = a.0.1 j; cells = (e ∙ sym none) j }
 reserved_at (k ∷ ks) (l ∷ ls) (suc i) a e = reserved_at ks ls i a.1 e
 
-abbrev pub NoneThere : List Content → Option ℕ → Type 0
+abbrev pub NoneThere : List ChunkValue → Option ℕ → Type 0
 NoneThere g None = Unit {0}
 NoneThere g (Some i) = (chunk_at g i).cells ≡ []
 
-pub reserved_same : (h g : List Content) (r : Option ℕ) → AreAlike h g → NoneThere g r → reserved_of g r ≡ reserved_of h r
+pub reserved_same : (h g : List ChunkValue) (r : Option ℕ) → AreAlike h g → NoneThere g r → reserved_of g r ≡ reserved_of h r
 reserved_same h g None a e = refl
-reserved_same h g (Some i) a e = ap (λ (k : Content). k ∷ []) (reserved_at h g i a e)
+reserved_same h g (Some i) a e = ap (λ (k : ChunkValue). k ∷ []) (reserved_at h g i a e)

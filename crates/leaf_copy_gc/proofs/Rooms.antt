@@ -4,7 +4,7 @@ use Rattle.std.specs.Prelude.{nat_le}
 use Rattle.std.proofs.lemmas.Bool.{cases_lt, cases_Bool, lt-ltb, le-ltb, le-leb, lt-leb}
 use Rattle.object_layout.specs.declared.word.Addr.{Addr}
 use Rattle.object_layout.specs.Cell.{Cell, Mark, Born, Moved, Hole, IsBorn, size_of, with_mark}
-use Rattle.object_layout.specs.Content.{Content}
+use Rattle.object_layout.specs.ChunkValue.{ChunkValue}
 use Rattle.object_layout.specs.Place.{cell_at, put_cell, words_in}
 use Rattle.object_layout.specs.Chunks.{cell_of, put_object}
 use Rattle.object_layout.specs.Graph.{IsHeld}
@@ -16,38 +16,38 @@ use Rattle.leaf_copy_gc.specs.Laid.{Laying, room_in, placed, next_place, laid_on
 use Rattle.leaf_copy_gc.proofs.FoundLemmas as marks
 
 -- how many words these objects take
-abbrev pub sizes : List Content → List Addr → ℕ
+abbrev pub sizes : List ChunkValue → List Addr → ℕ
 sizes h [] = 0
 sizes h (a ∷ xs) = size_of (cell_of h a) + sizes h xs
 
-room_push : (ks : List Content) (k : Content) → room_in (ks ++ k ∷ []) ≡ k.size - words_in k.cells
+room_push : (ks : List ChunkValue) (k : ChunkValue) → room_in (ks ++ k ∷ []) ≡ k.size - words_in k.cells
 room_push [] k = refl
 room_push (x ∷ []) k = refl
 room_push (x ∷ (z ∷ ks)) k = room_push (z ∷ ks) k
 
-place_push : (ks : List Content) (k : Content) → (next_place (ks ++ k ∷ [])).offset ≡ words_in k.cells
+place_push : (ks : List ChunkValue) (k : ChunkValue) → (next_place (ks ++ k ∷ [])).offset ≡ words_in k.cells
 place_push [] k = refl
 place_push (x ∷ []) k = refl
 place_push (x ∷ (z ∷ ks)) k = place_push (z ∷ ks) k
 
-room_placed : (ks : List Content) (c : Cell) → room_in (placed ks c) ≡ room_in ks - size_of c
+room_placed : (ks : List ChunkValue) (c : Cell) → room_in (placed ks c) ≡ room_in ks - size_of c
 room_placed [] c = omega arith
 room_placed (k ∷ []) c = let e = place.words_in-push k.cells c in omega arith
 room_placed (k ∷ (l ∷ [])) c = room_placed (l ∷ []) c
 room_placed (k ∷ (l ∷ (m ∷ ks))) c = room_placed (l ∷ (m ∷ ks)) c
 
-place_placed : (ks : List Content) (c : Cell) → 0 < length ks → (next_place (placed ks c)).offset ≡ (next_place ks).offset + size_of c
+place_placed : (ks : List ChunkValue) (c : Cell) → 0 < length ks → (next_place (placed ks c)).offset ≡ (next_place ks).offset + size_of c
 place_placed [] c l = absurd (omega arith)
 place_placed (k ∷ []) c l = place.words_in-push k.cells c
 place_placed (k ∷ (x ∷ [])) c l = place_placed (x ∷ []) c (omega arith)
 place_placed (k ∷ (x ∷ (m ∷ ks))) c l = place_placed (x ∷ (m ∷ ks)) c (omega arith)
 
-pub length_placed : (ks : List Content) (c : Cell) → length (placed ks c) ≡ length ks
+pub length_placed : (ks : List ChunkValue) (c : Cell) → length (placed ks c) ≡ length ks
 length_placed [] c = refl
 length_placed (k ∷ []) c = refl
 length_placed (k ∷ (l ∷ ks)) c = let ih = length_placed (l ∷ ks) c in omega arith
 
-length_push : (ks : List Content) (k : Content) → length (ks ++ k ∷ []) ≡ length ks + 1
+length_push : (ks : List ChunkValue) (k : ChunkValue) → length (ks ++ k ∷ []) ≡ length ks + 1
 length_push [] k = omega arith
 length_push (x ∷ ks) k = let ih = length_push ks k in omega arith
 
@@ -56,7 +56,7 @@ abbrev pub Filled : ℕ → ℕ → ℕ → Type 0
 Filled chunks u total = (j : ℕ) × (((chunks ≡ 2 * j) × (1024 * j ≤ total)) ⊎ ((chunks ≡ 2 * j + 1) × (1024 * j + u ≤ total)))
 
 -- the last chunk has 1,024 words
-abbrev pub Whole : List Content → Type 0
+abbrev pub Whole : List ChunkValue → Type 0
 Whole ks = (0 < length ks → room_in ks + (next_place ks).offset ≡ 1024) × (length ks ≡ 0 → room_in ks ≡ 0)
 
 filled_more : (k u c t : ℕ) → 0 < k → Filled k u t → Filled k (u + c) (t + c)
@@ -75,7 +75,7 @@ some_left k u c t n s f over pos most enough = elim f.1 [
   | inr p ↦ let a : k ≡ 2 * f.0 + 1 = p.0 in let q : 1024 * f.0 + u ≤ t = p.1 in let o = over (omega arith) in omega arith
 ]
 
-module _ (h : List Content) (n : ℕ) where
+module _ (h : List ChunkValue) (n : ℕ) where
   record Going (y : Laying) (t left : ℕ) : Type 0 where
     whole : Whole y.laid
     fresh : AreNew y.spare
@@ -103,7 +103,7 @@ module _ (h : List Content) (n : ℕ) where
         },
       )
 
-  fits_next : (y : Laying) (k : Content) (ks : List Content) (c : Cell) (t left : ℕ) → Going (record { laid = y.laid; spare = k ∷ ks }) t (size_of c + left) → room_in y.laid < size_of c → size_of c ≤ 1024
+  fits_next : (y : Laying) (k : ChunkValue) (ks : List ChunkValue) (c : Cell) (t left : ℕ) → Going (record { laid = y.laid; spare = k ∷ ks }) t (size_of c + left) → room_in y.laid < size_of c → size_of c ≤ 1024
       → ((size_of c ≤ room_in (y.laid ++ k ∷ [])) × ((next_place (y.laid ++ k ∷ [])).offset < 1024)) × Going (record { laid = placed (y.laid ++ k ∷ []) c; spare = ks }) (t + size_of c) left
   fits_next y k ks c t left g over small =
       let len = length_placed (y.laid ++ k ∷ []) c in
@@ -135,7 +135,7 @@ module _ (h : List Content) (n : ℕ) where
       let q : 2 * n ≤ length y.laid + length y.spare + 1 = g.enough in
       some_left (length y.laid) (next_place y.laid).offset (size_of c) t n (length y.spare) g.filled (λ z. let w = g.whole.0 z in omega arith) (omega arith) (omega arith) q
 
-  fits_opened : (laid spare : List Content) (c : Cell) (t left : ℕ) → Going (record { laid = laid; spare = spare }) t (size_of c + left) → room_in laid < size_of c → size_of c ≤ 1024
+  fits_opened : (laid spare : List ChunkValue) (c : Cell) (t left : ℕ) → Going (record { laid = laid; spare = spare }) t (size_of c + left) → room_in laid < size_of c → size_of c ≤ 1024
       → ((size_of c ≤ room_in (open_next laid spare).laid) × ((next_place (open_next laid spare).laid).offset < 1024)) × Going (record { laid = placed (open_next laid spare).laid c; spare = (open_next laid spare).spare }) (t + size_of c) left
   fits_opened laid [] c t left g over small = absurd (let z = spare_left (record { laid = laid; spare = [] }) c t left g over in omega arith)
   fits_opened laid (k ∷ ks) c t left g over small = fits_next (record { laid = laid; spare = k ∷ ks }) k ks c t left g over small
@@ -154,7 +154,7 @@ module _ (h : List Content) (n : ℕ) where
       (s.0, fit_all (laid_one y (cell_of h a)) xs (t + size_of (cell_of h a)) s.1 (λ b i. small b (inr i)))
 
   -- 2 n - 1 chunks are enough for n times 1,024 words
-  pub enough_room : (spare : List Content) (xs : List Addr) → AreNew spare → sizes h xs ≤ 1024 * n → 2 * n ≤ length spare + 1 → ((a : Addr) → In xs a → size_of (cell_of h a) ≤ 1024)
+  pub enough_room : (spare : List ChunkValue) (xs : List Addr) → AreNew spare → sizes h xs ≤ 1024 * n → 2 * n ≤ length spare + 1 → ((a : Addr) → In xs a → size_of (cell_of h a) ≤ 1024)
       → HaveRoom (record { laid = []; spare = spare }) h xs
   enough_room spare xs fresh most enough small =
       fit_all (record { laid = []; spare = spare }) xs 0 (record {
@@ -185,7 +185,7 @@ words_cells (c ∷ cs) (suc n) to l s =
           rw t (omega arith)
     ]
 
-words_found : (h : List Content) (a to : Addr) → IsHeld h a → is_small h a ≡ true → small_words h ≡ small_words (put_object h a (with_mark (cell_of h a) (Moved to))) + size_of (cell_of h a)
+words_found : (h : List ChunkValue) (a to : Addr) → IsHeld h a → is_small h a ≡ true → small_words h ≡ small_words (put_object h a (with_mark (cell_of h a) (Moved to))) + size_of (cell_of h a)
 words_found [] a to l s = absurd l
 words_found (k ∷ ks) a to l s =
     elim (cases_Bool (eqb k.number a.chunk)) [
@@ -193,7 +193,7 @@ words_found (k ∷ ks) a to l s =
       | inr e ↦ let ih = words_found ks a to (rw e at l) (rw e at s) in rw e (omega arith)
     ]
 
-sizes_found : (h : List Content) (a : Addr) (xs : List Addr) → (In xs a → ⊥) → sizes (found_in h a) xs ≡ sizes h xs
+sizes_found : (h : List ChunkValue) (a : Addr) (xs : List Addr) → (In xs a → ⊥) → sizes (found_in h a) xs ≡ sizes h xs
 sizes_found h a [] n = refl
 sizes_found h a (x ∷ xs) n =
     let e = ap size_of (marks.found_other h a x (λ e. n (inl (sym e)))) in
@@ -201,7 +201,7 @@ sizes_found h a (x ∷ xs) n =
     omega arith
 
 -- the words of different small objects of a heap are no more than those of all its small objects
-pub sizes_most : (h : List Content) (xs : List Addr) → Once xs → ((a : Addr) → In xs a → IsHeld h a × (is_small h a ≡ true)) → sizes h xs ≤ small_words h
+pub sizes_most : (h : List ChunkValue) (xs : List Addr) → Once xs → ((a : Addr) → In xs a → IsHeld h a × (is_small h a ≡ true)) → sizes h xs ≤ small_words h
 sizes_most h [] o l = omega arith
 sizes_most h (a ∷ xs) o l =
     let n : In xs a → ⊥ = λ i. o.0 (contains_from_in xs a i) in

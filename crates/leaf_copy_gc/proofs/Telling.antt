@@ -6,12 +6,12 @@ use Rattle.std.proofs.lemmas.Bool.{cases_Bool}
 use Rattle.std.proofs.lemmas.List.Sorted.{Contains-permutation, IsPermutation-map, IsPermutation-sym}
 use Rattle.listed.proofs.Members.{In, contains_from_in, in_from_contains}
 use Rattle.object_layout.specs.declared.word.Addr.{Addr}
-use Rattle.object_layout.specs.Content.{Content}
+use Rattle.object_layout.specs.ChunkValue.{ChunkValue}
 use Rattle.object_layout.specs.Chunks.{cell_of, has_chunk}
 use Rattle.object_layout.proofs.Distinct.{Once, once_from}
 use Rattle.object_layout.proofs.ChunkLaws as laws
 use Rattle.object_layout.proofs.Owning.{fresh_none}
-use Rattle.alloc_path.specs.Heap.{Heap}
+use Rattle.alloc_path.specs.LeafHeapValue.{LeafHeapValue}
 use Rattle.remembered_set.specs.Moved.{ArePlaces, new_of, same_address}
 use Rattle.leaf_copy_gc.specs.declared.lists.Survivor.{Survivor}
 use Rattle.leaf_copy_gc.specs.Survivors.{olds}
@@ -73,7 +73,7 @@ same_by ms ns a once once' to from (Some b) e =
 
 -- ---- places
 
-places_of : (y : Laying) (h : List Content) (xs : List Addr) → HaveRoom y h xs → (m : Moved) → In (relocations y h xs) m → m.1.offset < 1024
+places_of : (y : Laying) (h : List ChunkValue) (xs : List Addr) → HaveRoom y h xs → (m : Moved) → In (relocations y h xs) m → m.1.offset < 1024
 places_of y h [] room m i = absurd i
 places_of y h (x ∷ xs) room m (inl e) = subst (λ (p : Moved). p.1.offset < 1024) e room.0.1
 places_of y h (x ∷ xs) room m (inr i) = places_of (laid_one y (cell_of h x)) h xs room.1 m i
@@ -84,7 +84,7 @@ all_places (m ∷ ms) f = (f m (inl refl), all_places ms (λ x i. f x (inr i)))
 
 -- ---- the law
 
-module _ (h : Heap) (from : List (Option Addr)) (ss : List Survivor) (news : List Content) (moved : List Moved) (s : AreSurvivors h.chunks from ss) (t : CanTake h.chunks news)
+module _ (h : LeafHeapValue) (from : List (Option Addr)) (ss : List Survivor) (news : List ChunkValue) (moved : List Moved) (s : AreSurvivors h.chunks from ss) (t : CanTake h.chunks news)
     (p : IsPermutation (moves_of h.chunks ss (reverse news)) moved) where
   abbrev all : List Moved
   all = moves_of h.chunks ss (reverse news)

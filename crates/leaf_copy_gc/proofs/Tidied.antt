@@ -6,9 +6,9 @@ use Rattle.std.proofs.lemmas.List.{length-map}
 use Rattle.std.proofs.lemmas.List.Elements.{All-append, All-cons, All-filter, All-get_or, All-head, All-map, All-nil, All-push, All-tail, All-weaker}
 use Rattle.object_layout.specs.declared.word.Addr.{Addr}
 use Rattle.object_layout.specs.Cell.{Cell, moved_to, size_of}
-use Rattle.object_layout.specs.Content.{Content}
+use Rattle.object_layout.specs.ChunkValue.{ChunkValue}
 use Rattle.object_layout.specs.Chunks.{cell_of, no_chunk}
-use Rattle.alloc_path.specs.Heap.{AreTidy, IsTidy, units}
+use Rattle.alloc_path.specs.LeafHeapValue.{AreTidy, IsTidy, units}
 use Rattle.alloc_path.proofs.Settled.{unmoved_at}
 use Rattle.listed.proofs.Members.{In}
 use Rattle.leaf_copy_gc.specs.declared.lists.Survivor.{Survivor}
@@ -26,17 +26,17 @@ use Rattle.leaf_copy_gc.proofs.Numbers.{Within, new_reverse}
 abbrev IsLaid : Cell → Type 0
 IsLaid c = (moved_to c.mark ≡ None) × (size_of c ≤ 1024)
 
-abbrev HoldsLaid : Content → Type 0
+abbrev HoldsLaid : ChunkValue → Type 0
 HoldsLaid k = All IsLaid k.cells × (k.size ≡ 1024)
 
-laid_placed : (ks : List Content) (c : Cell) → IsLaid c → All HoldsLaid ks → All HoldsLaid (placed ks c)
+laid_placed : (ks : List ChunkValue) (c : Cell) → IsLaid c → All HoldsLaid ks → All HoldsLaid (placed ks c)
 laid_placed [] c p a = a
 laid_placed (k ∷ []) c p a =
     let here = All-head HoldsLaid k [] a in
     All-cons HoldsLaid (record k { cells = k.cells ++ c ∷ [] }) [] (All-push IsLaid k.cells c here.0 p, here.1) (All-nil HoldsLaid)
 laid_placed (k ∷ (l ∷ ks)) c p a = All-cons HoldsLaid k (placed (l ∷ ks) c) (All-head HoldsLaid k (l ∷ ks) a) (laid_placed (l ∷ ks) c p (All-tail HoldsLaid k (l ∷ ks) a))
 
-laid_open : (laid spare : List Content) → All HoldsLaid laid → AreNew spare → All HoldsLaid (open_next laid spare).laid × AreNew (open_next laid spare).spare
+laid_open : (laid spare : List ChunkValue) → All HoldsLaid laid → AreNew spare → All HoldsLaid (open_next laid spare).laid × AreNew (open_next laid spare).spare
 laid_open laid [] a n = (a, n)
 laid_open laid (k ∷ ks) a n = (All-push HoldsLaid laid k a (subst (λ (cs : List Cell). All IsLaid cs) (sym n.0.0) (All-nil IsLaid), n.0.1), n.1)
 
@@ -44,13 +44,13 @@ laid_opened : (y : Laying) (b : Bool) → All HoldsLaid y.laid → AreNew y.spar
 laid_opened y true a n = laid_open y.laid y.spare a n
 laid_opened y false a n = (a, n)
 
-all_laid : (y : Laying) (h : List Content) (xs : List Addr) → ((a : Addr) → In xs a → IsLaid (cell_of h a)) → All HoldsLaid y.laid → AreNew y.spare → All HoldsLaid (laid_all y h xs).laid
+all_laid : (y : Laying) (h : List ChunkValue) (xs : List Addr) → ((a : Addr) → In xs a → IsLaid (cell_of h a)) → All HoldsLaid y.laid → AreNew y.spare → All HoldsLaid (laid_all y h xs).laid
 all_laid y h [] f a n = a
 all_laid y h (x ∷ xs) f a n =
     let o = laid_opened y (nat_lt (room_in y.laid) (size_of (cell_of h x))) a n in
     all_laid (laid_one y (cell_of h x)) h xs (λ b i. f b (inr i)) (laid_placed (opened y (size_of (cell_of h x))).laid (cell_of h x) (f x (inl refl)) o.0) o.1
 
-laid_tidy : (k : Content) → HoldsLaid k → IsTidy k
+laid_tidy : (k : ChunkValue) → HoldsLaid k → IsTidy k
 laid_tidy k a = record {
   unmoved = All-weaker IsLaid (λ (c : Cell). moved_to c.mark ≡ None) (λ c p. p.0) k.cells a.0;
   alone = All-weaker IsLaid (λ (c : Cell). 1024 < size_of c → length k.cells ≡ 1) (λ c p l. let m : size_of c ≤ 1024 = p.1 in absurd (omega arith)) k.cells a.0;
@@ -60,7 +60,7 @@ laid_tidy k a = record {
 
 -- ---- references are led
 
-led_tidy : (f : Option Addr → Option Addr) (k : Content) → IsTidy k → IsTidy (led_chunk f k)
+led_tidy : (f : Option Addr → Option Addr) (k : ChunkValue) → IsTidy k → IsTidy (led_chunk f k)
 led_tidy f k t = record {
   unmoved = All-map (λ (c : Cell). moved_to c.mark ≡ None) (led f) k.cells t.unmoved;
   alone =
@@ -77,27 +77,27 @@ led_tidy f k t = record {
   few = λ l. let n : length (map (led f) k.cells) ≡ length k.cells = length-map k.cells (led f) in let m : length k.cells ≤ 1 = t.few l in omega arith;
 }
 
-all_led : (f : Option Addr → Option Addr) (ks : List Content) → AreTidy ks → AreTidy (map (led_chunk f) ks)
-all_led f ks t = All-map IsTidy (led_chunk f) ks (All-weaker IsTidy (λ (k : Content). IsTidy (led_chunk f k)) (led_tidy f) ks t)
+all_led : (f : Option Addr → Option Addr) (ks : List ChunkValue) → AreTidy ks → AreTidy (map (led_chunk f) ks)
+all_led f ks t = All-map IsTidy (led_chunk f) ks (All-weaker IsTidy (λ (k : ChunkValue). IsTidy (led_chunk f k)) (led_tidy f) ks t)
 
 -- ---- the others
 
-removed_tidy : (ks : List Content) (i : ℕ) → AreTidy ks → AreTidy (remove ks i)
+removed_tidy : (ks : List ChunkValue) (i : ℕ) → AreTidy ks → AreTidy (remove ks i)
 removed_tidy [] zero t = t
 removed_tidy [] (suc i) t = t
 removed_tidy (k ∷ ks) zero t = All-tail IsTidy k ks t
 removed_tidy (k ∷ ks) (suc i) t = All-cons IsTidy k (remove ks i) (All-head IsTidy k ks t) (removed_tidy ks i (All-tail IsTidy k ks t))
 
-unreserved_tidy : (ks : List Content) (r : Option ℕ) → AreTidy ks → AreTidy (unreserved ks r)
+unreserved_tidy : (ks : List ChunkValue) (r : Option ℕ) → AreTidy ks → AreTidy (unreserved ks r)
 unreserved_tidy ks None t = t
 unreserved_tidy ks (Some i) t = removed_tidy ks i t
 
-reserved_tidy : (ks : List Content) (r : Option ℕ) → Within ks r → AreTidy ks → AreTidy (reserved_of ks r)
+reserved_tidy : (ks : List ChunkValue) (r : Option ℕ) → Within ks r → AreTidy ks → AreTidy (reserved_of ks r)
 reserved_tidy ks None w t = All-nil IsTidy
 reserved_tidy ks (Some i) w t = All-push IsTidy [] _ (All-nil IsTidy) (All-get_or IsTidy ks i no_chunk w t)
 
-pub all_tidy : (f : Option Addr → Option Addr) (h : List Content) (ss : List Survivor) (news : List Content) (r : Option ℕ) → AreTidy h → AreNew news → Within h r
-    → (laid : List Content) → laid ≡ map (led_chunk f) (laying_of h ss (reverse news)).laid
+pub all_tidy : (f : Option Addr → Option Addr) (h : List ChunkValue) (ss : List Survivor) (news : List ChunkValue) (r : Option ℕ) → AreTidy h → AreNew news → Within h r
+    → (laid : List ChunkValue) → laid ≡ map (led_chunk f) (laying_of h ss (reverse news)).laid
     → AreTidy (laid ++ (map (led_chunk f) (filter (keeps ss) (unreserved h r)) ++ reserved_of h r))
 all_tidy f h ss news r t new within laid is =
     let xs = smalls h (olds ss) in

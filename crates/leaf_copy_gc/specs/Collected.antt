@@ -4,10 +4,10 @@ use Rattle.std.specs.List.{IsDistinct, list_any}
 use Rattle.std.specs.List.Sorted.{IsSorted}
 use Rattle.object_layout.specs.declared.word.Addr.{Addr}
 use Rattle.object_layout.specs.Cell.{Moved, size_of, with_mark}
-use Rattle.object_layout.specs.Content.{Content}
+use Rattle.object_layout.specs.ChunkValue.{ChunkValue}
 use Rattle.object_layout.specs.Place.{cell_at}
 use Rattle.object_layout.specs.Chunks.{cell_of}
-use Rattle.alloc_path.specs.Heap.{Heap}
+use Rattle.alloc_path.specs.LeafHeapValue.{LeafHeapValue}
 use Rattle.object_layout.specs.Chunks.{same_address}
 use Rattle.leaf_copy_gc.specs.declared.lists.Survivor.{Survivor}
 use Rattle.leaf_copy_gc.specs.Survivors.{HaveNames, IsSurvivor, olds, survivor_order}
@@ -16,35 +16,35 @@ use Rattle.leaf_copy_gc.specs.Redirected.{led, led_chunk, redirected}
 use Rattle.leaf_copy_gc.specs.Exchanged.{emptied, last_place, reserved_of, reserved_place, unreserved}
 
 -- exactly what the references from outside lead to, each once, under its name, in order of birth
-pub record AreSurvivors (h : List Content) (from : List (Option Addr)) (ss : List Survivor) : Type 0 where
+pub record AreSurvivors (h : List ChunkValue) (from : List (Option Addr)) (ss : List Survivor) : Type 0 where
   pub exactly : (a : Addr) → Contains (olds ss) a ↔ IsSurvivor h from a
   pub once : IsDistinct same_address (olds ss)
   pub names : HaveNames h ss
   pub order : IsSorted survivor_order ss
 
 -- the new chunks once the small survivors are laid into them, and those not opened
-abbrev pub laying_of : List Content → List Survivor → List Content → Laying
+abbrev pub laying_of : List ChunkValue → List Survivor → List ChunkValue → Laying
 laying_of h ss news = laid_all (before news) h (smalls h (olds ss))
 
 -- where each small survivor was, and where it is laid
-abbrev pub moves_of : List Content → List Survivor → List Content → List (Addr × Addr)
+abbrev pub moves_of : List ChunkValue → List Survivor → List ChunkValue → List (Addr × Addr)
 moves_of h ss news = relocations (before news) h (smalls h (olds ss))
 
 -- where each reference leads
-abbrev pub redirection : List Content → List Survivor → List Content → Option Addr → Option Addr
+abbrev pub redirection : List ChunkValue → List Survivor → List ChunkValue → Option Addr → Option Addr
 redirection h ss news = redirected (moves_of h ss news)
 
 -- ---- the old chunks, once all references are led
 
 -- chunks of the same numbers and sizes, with objects of the same sizes
-abbrev pub AreAlike : List Content → List Content → Type 0
+abbrev pub AreAlike : List ChunkValue → List ChunkValue → Type 0
 AreAlike [] [] = Unit {0}
 AreAlike [] (l ∷ ls) = ⊥
 AreAlike (k ∷ ks) [] = ⊥
 AreAlike (k ∷ ks) (l ∷ ls) = ((l.number ≡ k.number) × (l.size ≡ k.size) × (map size_of l.cells ≡ map size_of k.cells)) × AreAlike ks ls
 
 -- a large survivor is where it was, marked as found, with its references led; what doesn't survive is as it was
-pub record IsLeft (h g : List Content) (ss : List Addr) (f : Option Addr → Option Addr) : Type 0 where
+pub record IsLeft (h g : List ChunkValue) (ss : List Addr) (f : Option Addr → Option Addr) : Type 0 where
   pub alike : AreAlike h g
   pub large : (a : Addr) → Contains ss a → is_small h a ≡ false → cell_of g a ≡ led f (with_mark (cell_of h a) (Moved a))
   pub others : (a : Addr) → (Contains ss a → ⊥) → cell_of g a ≡ cell_of h a
@@ -52,22 +52,22 @@ pub record IsLeft (h g : List Content) (ss : List Addr) (f : Option Addr → Opt
 -- ---- what a heap becomes
 
 -- a large survivor has this chunk
-abbrev pub keeps : List Survivor → Content → Bool
+abbrev pub keeps : List Survivor → ChunkValue → Bool
 keeps ss k = not (nat_le (size_of (cell_at k.cells 0)) 1024) && list_any (λ s. same_address s.old (record { chunk = k.number; offset = 0 })) ss
 
-abbrev pub leaves : List Survivor → Content → Bool
+abbrev pub leaves : List Survivor → ChunkValue → Bool
 leaves ss k = not (keeps ss k)
 
 -- the chunks of large survivors, their references led
-abbrev pub kept_of : Heap → List Survivor → List Content → List Content
+abbrev pub kept_of : LeafHeapValue → List Survivor → List ChunkValue → List ChunkValue
 kept_of h ss news = map (led_chunk (redirection h.chunks ss news)) (filter (keeps ss) (unreserved h.chunks h.reserved))
 
 -- the new chunks with the small survivors, their references led
-abbrev pub laid_of : Heap → List Survivor → List Content → List Content
+abbrev pub laid_of : LeafHeapValue → List Survivor → List ChunkValue → List ChunkValue
 laid_of h ss news = map (led_chunk (redirection h.chunks ss news)) (laying_of h.chunks ss news).laid
 
 -- the heap with just these survivors: it goes on filling the last new chunk, and keeps the reserved one
-abbrev pub collected : Heap → List Survivor → List Content → Heap
+abbrev pub collected : LeafHeapValue → List Survivor → List ChunkValue → LeafHeapValue
 collected h ss news = record h {
   chunks = laid_of h ss news ++ (kept_of h ss news ++ reserved_of h.chunks h.reserved);
   current = last_place (laid_of h ss news);
@@ -76,5 +76,5 @@ collected h ss news = record h {
 }
 
 -- the chunks to give back: old ones that nothing needs, and new ones that were not opened
-abbrev pub back_of : Heap → List Survivor → List Content → List Content
+abbrev pub back_of : LeafHeapValue → List Survivor → List ChunkValue → List ChunkValue
 back_of h ss news = map emptied (filter (leaves ss) (unreserved h.chunks h.reserved)) ++ reverse (laying_of h.chunks ss news).spare

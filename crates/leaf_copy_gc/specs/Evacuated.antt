@@ -1,15 +1,15 @@
 -- What an evacuation makes of a heap and its frames.
 use Rattle.std.specs.Prelude.{◌≡◌, ◌+◌, ◌*◌, ◌/◌, ◌≤◌, List, [], length, map}
 use Rattle.object_layout.specs.declared.word.Addr.{Addr}
-use Rattle.task_frames.specs.Stack.{Stack, frames_of}
+use Rattle.task_frames.specs.FramesValue.{FramesValue, frames_of}
 use Rattle.leaf_copy_gc.specs.Survivors.{olds, outside, with_chunks}
 use Rattle.leaf_copy_gc.specs.Laid.{AreNew, small_words}
 use Rattle.leaf_copy_gc.specs.Redirected.{led_chunk, led_frame}
-use Rattle.leaf_copy_gc.specs.Collection.{Collection}
+use Rattle.leaf_copy_gc.specs.CollectorValue.{CollectorValue}
 use Rattle.leaf_copy_gc.specs.Collected.{AreSurvivors, IsLeft, laying_of, moves_of, redirection}
 
 -- nothing is found, laid or moved yet, and the new chunks are enough for what is small
-pub record Begins (c : Collection) : Type 0 where
+pub record Begins (c : CollectorValue) : Type 0 where
   pub found : c.found ≡ []
   pub laid : c.laying.laid ≡ []
   pub moved : c.moved ≡ []
@@ -18,7 +18,7 @@ pub record Begins (c : Collection) : Type 0 where
 
 -- the survivors are found, the small ones laid into new chunks, and all references led there; the old chunks are left with the
 -- new addresses in them
-pub record IsEvacuated (c : Collection) (s : Stack) (roots : List Addr) (d : Collection) (t : Stack) : Type 0 where
+pub record IsEvacuated (c : CollectorValue) (s : FramesValue) (roots : List Addr) (d : CollectorValue) (t : FramesValue) : Type 0 where
   pub survivors : AreSurvivors c.heap.chunks (outside s roots) d.found
   pub moved : d.moved ≡ moves_of c.heap.chunks d.found c.laying.spare
   pub laid : d.laying.laid ≡ map (led_chunk (redirection c.heap.chunks d.found c.laying.spare)) (laying_of c.heap.chunks d.found c.laying.spare).laid

@@ -1,7 +1,7 @@
 -- Which chunks a heap keeps, and which it gives back.
 use Rattle.std.specs.Prelude.{◌≡◌, true, ℕ, Bool, List, [], ◌∷◌, ◌&&◌, Option, Some, None, is_some, length, nat_le, not, remove, if◌then◌else◌}
 use Rattle.object_layout.specs.Cell.{Born, Cell, IsObject, moved_to, size_of, with_mark}
-use Rattle.object_layout.specs.Content.{Content}
+use Rattle.object_layout.specs.ChunkValue.{ChunkValue}
 use Rattle.object_layout.specs.Place.{cell_at}
 use Rattle.object_layout.specs.Chunks.{cell_of, chunk_at, place_in, put_object}
 pub use Rattle.alloc_path.specs.Units.{counted32, unit_count}
@@ -12,27 +12,27 @@ abbrev pub is_found_large : Cell → Bool
 is_found_large c = not (nat_le (size_of c) 1024) && is_some (moved_to c.mark)
 
 -- a chunk that holds one stays
-abbrev pub stays : Content → Bool
+abbrev pub stays : ChunkValue → Bool
 stays k = is_found_large (cell_at k.cells 0)
 
-abbrev pub goes : Content → Bool
+abbrev pub goes : ChunkValue → Bool
 goes k = not (stays k)
 
 -- a chunk without its objects
-abbrev pub emptied : Content → Content
+abbrev pub emptied : ChunkValue → ChunkValue
 emptied k = record k { cells = [] }
 
 -- the chunks but for the reserved one, and the reserved one
-abbrev pub unreserved : List Content → Option ℕ → List Content
+abbrev pub unreserved : List ChunkValue → Option ℕ → List ChunkValue
 unreserved ks None = ks
 unreserved ks (Some i) = remove ks i
 
-abbrev pub reserved_of : List Content → Option ℕ → List Content
+abbrev pub reserved_of : List ChunkValue → Option ℕ → List ChunkValue
 reserved_of ks None = []
 reserved_of ks (Some i) = chunk_at ks i ∷ []
 
 -- the place of the last of these chunks; none where there is none
-abbrev pub last_place : List Content → Option ℕ
+abbrev pub last_place : List ChunkValue → Option ℕ
 last_place [] = None
 last_place (k ∷ ks) = Some (length ks)
 
@@ -42,10 +42,10 @@ reserved_place n None = None
 reserved_place n (Some i) = Some n
 
 -- a survivor that is in the heap bears its birth name again
-abbrev pub named : List Content → Survivor → List Content
+abbrev pub named : List ChunkValue → Survivor → List ChunkValue
 named h s = if is_some (place_in h s.old.chunk) then put_object h s.old (with_mark (cell_of h s.old) (Born s.birth)) else h
 
 -- each of these that is in the heap is an object there, in its turn
-abbrev pub CanName : List Content → List Survivor → Type 0
+abbrev pub CanName : List ChunkValue → List Survivor → Type 0
 CanName h [] = Unit {0}
 CanName h (s ∷ ss) = (is_some (place_in h s.old.chunk) ≡ true → IsObject (cell_of h s.old).mark) × CanName (named h s) ss

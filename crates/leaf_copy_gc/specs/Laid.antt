@@ -2,17 +2,17 @@
 use Rattle.std.specs.Prelude.{◌≡◌, ℕ, ◌+◌, ◌-◌, ◌<◌, ◌≤◌, Bool, List, [], ◌∷◌, ◌++◌, nat_le, nat_lt, if◌then◌else◌, filter}
 use Rattle.object_layout.specs.declared.word.Addr.{Addr}
 use Rattle.object_layout.specs.Cell.{Born, Cell, Hole, Mark, Moved, size_of}
-use Rattle.object_layout.specs.Content.{Content}
+use Rattle.object_layout.specs.ChunkValue.{ChunkValue}
 use Rattle.object_layout.specs.Place.{words_in}
 use Rattle.object_layout.specs.Chunks.{cell_of}
 
 -- ---- which objects are laid anew
 
 -- a small object, of at most 1,024 words, is moved; a large one stays where it is
-abbrev pub is_small : List Content → Addr → Bool
+abbrev pub is_small : List ChunkValue → Addr → Bool
 is_small h a = nat_le (size_of (cell_of h a)) 1024
 
-abbrev pub smalls : List Content → List Addr → List Addr
+abbrev pub smalls : List ChunkValue → List Addr → List Addr
 smalls h xs = filter (is_small h) xs
 
 -- the words of an object, if it is small and bears its birth name
@@ -26,26 +26,26 @@ abbrev pub small_in : List Cell → ℕ
 small_in [] = 0
 small_in (c ∷ cs) = small_size c.mark (size_of c) + small_in cs
 
-abbrev pub small_words : List Content → ℕ
+abbrev pub small_words : List ChunkValue → ℕ
 small_words [] = 0
 small_words (k ∷ ks) = small_in k.cells + small_words ks
 
 -- ---- the last of the chunks laid so far
 
 -- the words left in it; none where there is none
-abbrev pub room_in : List Content → ℕ
+abbrev pub room_in : List ChunkValue → ℕ
 room_in [] = 0
 room_in (k ∷ []) = k.size - words_in k.cells
 room_in (k ∷ (l ∷ ks)) = room_in (l ∷ ks)
 
 -- the chunks with one object more behind those of the last
-abbrev pub placed : List Content → Cell → List Content
+abbrev pub placed : List ChunkValue → Cell → List ChunkValue
 placed [] c = []
 placed (k ∷ []) c = record k { cells = k.cells ++ c ∷ [] } ∷ []
 placed (k ∷ (l ∷ ks)) c = k ∷ placed (l ∷ ks) c
 
 -- where that object lies
-abbrev pub next_place : List Content → Addr
+abbrev pub next_place : List ChunkValue → Addr
 next_place [] = record { chunk = 0; offset = 0 }
 next_place (k ∷ []) = record { chunk = k.number; offset = words_in k.cells }
 next_place (k ∷ (l ∷ ks)) = next_place (l ∷ ks)
@@ -54,10 +54,10 @@ next_place (k ∷ (l ∷ ks)) = next_place (l ∷ ks)
 
 -- the chunks laid so far, and those not opened yet
 pub record Laying : Type 0 where
-  pub laid : List Content
-  pub spare : List Content
+  pub laid : List ChunkValue
+  pub spare : List ChunkValue
 
-abbrev pub open_next : List Content → List Content → Laying
+abbrev pub open_next : List ChunkValue → List ChunkValue → Laying
 open_next laid [] = record { laid = laid; spare = [] }
 open_next laid (k ∷ ks) = record { laid = laid ++ k ∷ []; spare = ks }
 
@@ -78,25 +78,25 @@ abbrev pub HasRoom : Laying → ℕ → Type 0
 HasRoom y size = (size ≤ room_in (opened y size).laid) × ((laid_at y size).offset < 1024)
 
 -- the chunks once the objects at these addresses of a heap are laid, one after another
-abbrev pub laid_all : Laying → List Content → List Addr → Laying
+abbrev pub laid_all : Laying → List ChunkValue → List Addr → Laying
 laid_all y h [] = y
 laid_all y h (a ∷ xs) = laid_all (laid_one y (cell_of h a)) h xs
 
 -- where they were, and where they are laid
-abbrev pub relocations : Laying → List Content → List Addr → List (Addr × Addr)
+abbrev pub relocations : Laying → List ChunkValue → List Addr → List (Addr × Addr)
 relocations y h [] = []
 relocations y h (a ∷ xs) = (a, laid_at y (size_of (cell_of h a))) ∷ relocations (laid_one y (cell_of h a)) h xs
 
 -- each of them finds room in its turn
-abbrev pub HaveRoom : Laying → List Content → List Addr → Type 0
+abbrev pub HaveRoom : Laying → List ChunkValue → List Addr → Type 0
 HaveRoom y h [] = Unit {0}
 HaveRoom y h (a ∷ xs) = HasRoom y (size_of (cell_of h a)) × HaveRoom (laid_one y (cell_of h a)) h xs
 
 -- empty chunks of 1,024 words
-abbrev pub AreNew : List Content → Type 0
+abbrev pub AreNew : List ChunkValue → Type 0
 AreNew [] = Unit {0}
 AreNew (k ∷ ks) = ((k.cells ≡ []) × (k.size ≡ 1024)) × AreNew ks
 
 -- where nothing is laid yet
-abbrev pub before : List Content → Laying
+abbrev pub before : List ChunkValue → Laying
 before spare = record { laid = []; spare = spare }

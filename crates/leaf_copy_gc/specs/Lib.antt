@@ -1,5 +1,5 @@
 pub mod Survivors
-pub mod Collection
+pub mod CollectorValue
 pub mod Near
 pub mod Search
 pub mod Laid

@@ -2,10 +2,10 @@
 use Rattle.std.specs.Prelude.{◌≡◌, ℕ, ◌+◌, ◌≤◌, List, [], length, map, reverse, vec_capacity}
 use Rattle.std.specs.List.Sorted.{IsPermutation}
 use Rattle.object_layout.specs.declared.word.Addr.{Addr}
-use Rattle.object_layout.specs.Content.{Content}
+use Rattle.object_layout.specs.ChunkValue.{ChunkValue}
 use Rattle.object_layout.specs.Chunks.{held_words}
-use Rattle.alloc_path.specs.Heap.{Heap, with_places}
-use Rattle.task_frames.specs.Stack.{Stack, frames_of}
+use Rattle.alloc_path.specs.LeafHeapValue.{LeafHeapValue, with_places}
+use Rattle.task_frames.specs.FramesValue.{FramesValue, frames_of}
 use Rattle.remembered_set.specs.Moved.{AreInOrder}
 use Rattle.leaf_copy_gc.specs.declared.lists.Moved.{Moved}
 use Rattle.leaf_copy_gc.specs.declared.lists.Survivor.{Survivor}
@@ -16,7 +16,7 @@ use Rattle.leaf_copy_gc.specs.Exchanged.{counted32, unit_count}
 use Rattle.leaf_copy_gc.specs.Collected.{AreSurvivors, back_of, collected, laid_of, moves_of, redirection}
 
 -- empty lists with room for all objects and chunks of a heap, and for so many new chunks
-pub record AreReserved (h : Heap) (chunks : ℕ) (to : ToChunks) : Type 0 where
+pub record AreReserved (h : LeafHeapValue) (chunks : ℕ) (to : ToChunks) : Type 0 where
   pub found : to.found.items ≡ []
   pub found_room : live_count h.chunks ≤ vec_capacity to.found
   pub moved : to.lists.moved.items ≡ []
@@ -28,7 +28,7 @@ pub record AreReserved (h : Heap) (chunks : ℕ) (to : ToChunks) : Type 0 where
   pub spare : chunks ≤ h.spare
 
 -- a collection of a heap with these frames and roots into new chunks, of which the last is filled first
-pub record IsCollected (h : Heap) (s : Stack) (roots : List Addr) (news : List Content) (new : Heap) (t : Stack) (out : Moved) : Type 0 where
+pub record IsCollected (h : LeafHeapValue) (s : FramesValue) (roots : List Addr) (news : List ChunkValue) (new : LeafHeapValue) (t : FramesValue) (out : Moved) : Type 0 where
   pub survivors : List Survivor
   pub are : AreSurvivors h.chunks (outside s roots) survivors
   pub heap : new ≡ with_places (collected h survivors (reverse news)) new.slots new.spare

@@ -2,7 +2,7 @@
 use Rattle.std.specs.Prelude.{List, [], ◌∷◌, Option, Some, None, map, nat_lt, if◌then◌else◌, All, length, unwrap_or}
 use Rattle.object_layout.specs.declared.word.Addr.{Addr}
 use Rattle.object_layout.specs.Cell.{Cell, IsObject, moved_to}
-use Rattle.object_layout.specs.Content.{Content}
+use Rattle.object_layout.specs.ChunkValue.{ChunkValue}
 use Rattle.object_layout.specs.Chunks.{cell_of, place_of, put_object}
 pub use Rattle.object_layout.specs.Objects.{led, led_chunk}
 use Rattle.remembered_set.specs.Moved.{new_of}
@@ -28,26 +28,26 @@ led_frame f x = record x { refs = map f x.refs }
 -- ---- by the addresses that were left in the old heap
 
 -- where what was at an address of the heap is now; an address elsewhere stays
-abbrev pub followed : List Content → Addr → Option Addr
+abbrev pub followed : List ChunkValue → Addr → Option Addr
 followed h a = if nat_lt (place_of h a.chunk) (length h) then moved_to (cell_of h a).mark else Some a
 
-abbrev pub followed_ref : List Content → Option Addr → Option Addr
+abbrev pub followed_ref : List ChunkValue → Option Addr → Option Addr
 followed_ref h None = None
 followed_ref h (Some a) = followed h a
 
 -- an object, each of whose references can be followed
-abbrev pub HasTargets : List Content → Cell → Type 0
+abbrev pub HasTargets : List ChunkValue → Cell → Type 0
 HasTargets h c = IsObject c.mark × All (IsTarget h) c.refs
 
 -- the heap with the references of one object led to where their objects are now
-abbrev pub followed_at : List Content → Addr → List Content
+abbrev pub followed_at : List ChunkValue → Addr → List ChunkValue
 followed_at h a = put_object h a (led (followed_ref h) (cell_of h a))
 
 -- the same, where the object is large
-abbrev pub followed_large : List Content → Survivor → List Content
+abbrev pub followed_large : List ChunkValue → Survivor → List ChunkValue
 followed_large h s = if is_small h s.old then h else followed_at h s.old
 
 -- the references of each of these can be followed in its turn
-abbrev pub CanFollow : List Content → List Survivor → Type 0
+abbrev pub CanFollow : List ChunkValue → List Survivor → Type 0
 CanFollow h [] = Unit {0}
 CanFollow h (s ∷ ss) = HasTargets h (cell_of h s.old) × CanFollow (followed_large h s) ss

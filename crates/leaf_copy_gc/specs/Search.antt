@@ -3,17 +3,17 @@ use Rattle.std.specs.Prelude.{◌<◌, length, List, [], ◌∷◌, ◌++◌, Op
 use Rattle.object_layout.specs.declared.word.Addr.{Addr}
 use Rattle.object_layout.specs.declared.word.Birth.{Birth}
 use Rattle.object_layout.specs.Cell.{Born, Hole, IsObject, Mark, Moved, with_mark}
-use Rattle.object_layout.specs.Content.{Content}
+use Rattle.object_layout.specs.ChunkValue.{ChunkValue}
 use Rattle.object_layout.specs.Chunks.{cell_of, place_of, put_object}
 use Rattle.leaf_copy_gc.specs.Survivors.{with_chunks}
-use Rattle.leaf_copy_gc.specs.Collection.{Collection}
+use Rattle.leaf_copy_gc.specs.CollectorValue.{CollectorValue}
 
 -- the heap with one object marked as found: as if it had been moved to where it is
-abbrev pub found_in : List Content → Addr → List Content
+abbrev pub found_in : List ChunkValue → Addr → List ChunkValue
 found_in h a = put_object h a (with_mark (cell_of h a) (Moved a))
 
 -- with all of these
-abbrev pub all_found : List Content → List Addr → List Content
+abbrev pub all_found : List ChunkValue → List Addr → List ChunkValue
 all_found h xs = fold found_in h xs
 
 -- the birth name of what bears it still
@@ -23,7 +23,7 @@ birth_in (Moved to) = None
 birth_in Hole = None
 
 -- an address was visited, at which an object with this birth name was there, or none
-abbrev pub visited_at : Collection → Addr → Option Birth → Collection
+abbrev pub visited_at : CollectorValue → Addr → Option Birth → CollectorValue
 visited_at c a None = c
 visited_at c a (Some b) = record c {
   heap = with_chunks c.heap (found_in c.heap.chunks a);
@@ -31,11 +31,11 @@ visited_at c a (Some b) = record c {
 }
 
 -- a reference was followed
-abbrev pub visited : Collection → Option Addr → Collection
+abbrev pub visited : CollectorValue → Option Addr → CollectorValue
 visited c None = c
 visited c (Some a) = visited_at c a (birth_in (cell_of c.heap.chunks a).mark)
 
 -- a reference into the heap leads to an object there, found or not, at a place that a word can hold
-abbrev pub IsTarget : List Content → Option Addr → Type 0
+abbrev pub IsTarget : List ChunkValue → Option Addr → Type 0
 IsTarget h None = Unit {0}
 IsTarget h (Some a) = place_of h a.chunk < length h → IsObject (cell_of h a).mark × (a.offset < 1024)

@@ -5,13 +5,13 @@ use Rattle.std.specs.Ordering.{nat_cmp, ordering_then}
 use Rattle.std.specs.declared.cmp.Ordering.{Ordering}
 use Rattle.object_layout.specs.declared.word.Addr.{Addr}
 use Rattle.object_layout.specs.Cell.{Born, Cell, Hole, Mark, Moved}
-use Rattle.object_layout.specs.Content.{Content}
+use Rattle.object_layout.specs.ChunkValue.{ChunkValue}
 use Rattle.object_layout.specs.Chunks.{cell_of}
 pub use Rattle.object_layout.specs.Graph.{IsClosed, IsHeld, IsHeld as IsLive, IsSound, Leads}
-use Rattle.alloc_path.specs.Heap.{Heap}
+use Rattle.alloc_path.specs.LeafHeapValue.{LeafHeapValue}
 use Rattle.task_frames.specs.declared.frames.Frame.{Frame}
-use Rattle.task_frames.specs.Stack.{Stack, frames_of}
-use Rattle.walks.specs.Reached.{IsReached}
+use Rattle.task_frames.specs.FramesValue.{FramesValue, frames_of}
+use Rattle.walk_laws.specs.Reached.{IsReached}
 use Rattle.leaf_copy_gc.specs.declared.lists.Survivor.{Survivor}
 
 -- the references that frames hold, and the roots
@@ -24,15 +24,15 @@ held_by fs = flat_map references_in fs
 abbrev pub as_reference : Addr → Option Addr
 as_reference a = Some a
 
-abbrev pub outside : Stack → List Addr → List (Option Addr)
+abbrev pub outside : FramesValue → List Addr → List (Option Addr)
 outside s roots = held_by (frames_of s) ++ map as_reference roots
 
 -- these references refer to a
-abbrev pub Starts : List Content → List (Option Addr) → Addr → Type 0
+abbrev pub Starts : List ChunkValue → List (Option Addr) → Addr → Type 0
 Starts h from a = IsHeld h a × Contains from (Some a)
 
 -- references from outside, and then those within the heap, lead to a
-abbrev pub IsSurvivor : List Content → List (Option Addr) → Addr → Type 0
+abbrev pub IsSurvivor : List ChunkValue → List (Option Addr) → Addr → Type 0
 IsSurvivor h from a = IsReached (Starts h from) (Leads h) a
 
 abbrev pub old_of : Survivor → Addr
@@ -42,7 +42,7 @@ abbrev pub olds : List Survivor → List Addr
 olds found = map old_of found
 
 -- each bears the birth name that it bore in the heap
-abbrev pub HaveNames : List Content → List Survivor → Type 0
+abbrev pub HaveNames : List ChunkValue → List Survivor → Type 0
 HaveNames h found = All (λ s. (cell_of h s.old).mark ≡ Born s.birth) found
 
 -- the order of survivors: by birth name, and then by address
@@ -61,10 +61,10 @@ abbrev pub born_in : List Cell → ℕ
 born_in [] = 0
 born_in (c ∷ cs) = born_of c.mark + born_in cs
 
-abbrev pub live_count : List Content → ℕ
+abbrev pub live_count : List ChunkValue → ℕ
 live_count [] = 0
 live_count (k ∷ ks) = born_in k.cells + live_count ks
 
 -- the heap with other chunks, and nothing else changed
-abbrev pub with_chunks : Heap → List Content → Heap
+abbrev pub with_chunks : LeafHeapValue → List ChunkValue → LeafHeapValue
 with_chunks h ks = record h { chunks = ks }

@@ -1,7 +1,7 @@
 // A whole collection of a heap.
 
 ghost use Rattle.std.specs.Prelude.{◌≡◌, ◌+◌, ◌*◌, ◌/◌, ◌≤◌, ◌++◌, length, vec_len, vec_capacity, All};
-ghost use Rattle.alloc_path.specs.Heap.{AreApart, AreTidy, IsFresh, IsSettled};
+ghost use Rattle.alloc_path.specs.LeafHeapValue.{AreApart, AreTidy, IsFresh, IsSettled};
 ghost use Rattle.object_layout.specs.Graph.{IsClosed, IsSound};
 ghost use Rattle.leaf_copy_gc.specs.Survivors.{outside};
 ghost use Rattle.leaf_copy_gc.specs.Laid.{small_words, AreNew};

@@ -4,7 +4,7 @@ ghost use Rattle.std.specs.Prelude.{◌≡◌, ◌+◌, length, reverse, vec_len
 ghost use Rattle.object_layout.specs.Cell.{IsObject};
 ghost use Rattle.object_layout.specs.Chunks.{cell_of, place_in};
 ghost use Rattle.leaf_copy_gc.specs.Survivors.{live_count};
-ghost use Rattle.leaf_copy_gc.specs.Collection.{HavePlaces};
+ghost use Rattle.leaf_copy_gc.specs.CollectorValue.{HavePlaces};
 
 use crate::lists::Survivor;
 use crate::near::Near;
@@ -33,10 +33,10 @@ pub(crate) struct Collector {
 impl Model for Collector {
     ghost use Rattle.std.specs.Prelude.{◌+◌, length, reverse, vec_len, vec_capacity};
     ghost use Rattle.leaf_copy_gc.specs.Survivors.{live_count};
-    ghost use Rattle.leaf_copy_gc.specs.Collection.{Collection, HavePlaces};
+    ghost use Rattle.leaf_copy_gc.specs.CollectorValue.{CollectorValue, HavePlaces};
     ghost use Rattle.leaf_copy_gc.specs.Near.{Knows};
 
-    ghost Value = { Collection };
+    ghost Value = { CollectorValue };
 
     ghost view = { λ c. record { heap = c.heap; found = c.found.items; laying = record { laid = c.laid.items; spare = reverse c.spare.items }; moved = c.moved.items } };
 

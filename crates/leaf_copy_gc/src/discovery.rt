@@ -9,7 +9,7 @@ ghost use Rattle.leaf_copy_gc.specs.Survivors.{as_reference, held_by, olds, outs
 ghost use Rattle.leaf_copy_gc.specs.Search.{all_found, birth_in, visited, IsTarget};
 ghost use Rattle.object_layout.specs.declared.word.Addr.{Addr};
 ghost use Rattle.object_layout.specs.Graph.{IsClosed, IsSound};
-ghost use Rattle.task_frames.specs.Stack.{frames_of};
+ghost use Rattle.task_frames.specs.FramesValue.{frames_of};
 
 use crate::collector::Collector;
 use crate::lists::Survivor;

@@ -2,7 +2,7 @@
 
 ghost use Rattle.std.specs.Prelude.{◌≡◌, ◌+◌, ◌-◌, ◌≤◌, ◌<◌, ◌++◌, ◌∷◌, [], length, vec_len, vec_capacity, fold, filter, map, remove, false, None, Some};
 ghost use Rattle.object_layout.specs.Chunks.{held_words};
-ghost use Rattle.alloc_path.specs.Heap.{exchanged, with_places, AreApart, IsCurrent, IsReserved};
+ghost use Rattle.alloc_path.specs.LeafHeapValue.{exchanged, with_places, AreApart, IsCurrent, IsReserved};
 ghost use Rattle.leaf_copy_gc.specs.Survivors.{with_chunks};
 ghost use Rattle.leaf_copy_gc.specs.Exchanged.{counted32, emptied, goes, last_place, named, reserved_of, reserved_place, stays, unit_count, unreserved, CanName};
 

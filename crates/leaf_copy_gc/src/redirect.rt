@@ -4,7 +4,7 @@ ghost use Rattle.std.specs.Prelude.{◌≡◌, ◌+◌, ◌≤◌, ◌<◌, leng
 ghost use Rattle.object_layout.specs.Cell.{IsObject, IsPlace};
 ghost use Rattle.object_layout.specs.Chunks.{cell_of, held_words, place_in, small_words};
 ghost use Rattle.object_layout.specs.Place.{cell_at, put_cell, IsObjectAt};
-ghost use Rattle.task_frames.specs.Stack.{frames_of};
+ghost use Rattle.task_frames.specs.FramesValue.{frames_of};
 ghost use Rattle.leaf_copy_gc.specs.Survivors.{held_by, with_chunks};
 ghost use Rattle.leaf_copy_gc.specs.Near.{Knows};
 ghost use Rattle.leaf_copy_gc.specs.Search.{IsTarget};

@@ -7,7 +7,7 @@ use Rattle.listed.proofs.Members.{In, in_from_contains, contains_from_in, in_kep
 use Rattle.hh_model.specs.declared.data.Name.{Name}
 use Rattle.hh_model.specs.declared.data.Object.{Object}
 use Rattle.hh_model.specs.Names.{refs_at}
-use Rattle.walks.proofs.Reached.{reached_within}
+use Rattle.walk_laws.proofs.Reached.{reached_within}
 use Rattle.run_ledger.specs.Reachable.{holds_name, is_name, reached, reached_by, StartsWithin, LeadsWithin}
 use Rattle.run_ledger.proofs.Members.{in_from_holds, holds_from_in, is_name_itself, same_from_is_name}
 use Rattle.run_ledger.proofs.Reached.{reached_root, reached_more, reached_is_walks}

@@ -1,3 +1,3 @@
 pub mod Lends
-pub mod Space
+pub mod RoomyValue
 pub mod Members

@@ -1,7 +1,7 @@
 // A vector of which contracts see the items and the room that was reserved behind them.
 
 ghost use Rattle.std.specs.Prelude.{◌≡◌, ◌<◌, ◌≤◌, ◌+◌, ◌-◌, [], ◌∷◌, ◌++◌, length, take, OnOk, OnErr, IfOk, IfSome, IfNone, IsNone, Some, slice_get, ◌↔◌};
-ghost use Rattle.listed.specs.Space.{Space};
+ghost use Rattle.listed.specs.RoomyValue.{RoomyValue};
 
 use crate::list::Listed;
 use std::alloc::{AllocError, Global};
@@ -16,16 +16,16 @@ pub struct Roomy<T> {
 impl<T> Model for Roomy<T> {
     ghost use Rattle.std.specs.Prelude.{◌-◌, length};
     ghost use Rattle.std.specs.Vec.{vec_capacity};
-    ghost use Rattle.listed.specs.Space.{Space};
+    ghost use Rattle.listed.specs.RoomyValue.{RoomyValue};
 
-    ghost Value = { Space T };
+    ghost Value = { RoomyValue T };
 
     ghost view = { λ r. record { items = r.items.items; room = vec_capacity r.items - length r.items.items } };
 }
 
 impl<T> Roomy<T> {
     ghost use Rattle.std.specs.Prelude.{◌≡◌, ◌<◌, ◌≤◌, ◌+◌, ◌-◌, [], ◌∷◌, ◌++◌, length, take, OnOk, OnErr, IfOk, IfSome, IfNone, IsNone, Some, slice_get, ◌↔◌};
-    ghost use Rattle.listed.specs.Space.{Space};
+    ghost use Rattle.listed.specs.RoomyValue.{RoomyValue};
 
     /// An empty list, with room for nothing yet.
     pub fn new(alloc: Global) -> Roomy<T>

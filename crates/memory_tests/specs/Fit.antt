@@ -2,24 +2,24 @@
 use Rattle.std.specs.Prelude.{ℕ, ◌≤◌, List, Option, All}
 use Rattle.object_layout.specs.declared.word.Addr.{Addr}
 use Rattle.object_layout.specs.Cell.{Cell, IsBorn}
-use Rattle.object_layout.specs.Content.{Content}
+use Rattle.object_layout.specs.ChunkValue.{ChunkValue}
 use Rattle.object_layout.specs.Chunks.{object_of}
-use Rattle.alloc_path.specs.Heap.{Heap, IsFresh}
-use Rattle.task_frames.specs.Stack.{Stack}
+use Rattle.alloc_path.specs.LeafHeapValue.{LeafHeapValue, IsFresh}
+use Rattle.task_frames.specs.FramesValue.{FramesValue}
 use Rattle.leaf_copy_gc.specs.Survivors.{IsClosed, IsSound, outside}
 use Rattle.leaf_copy_gc.specs.Laid.{small_words}
 
 -- the references of an object lead to objects of the heap
-abbrev pub IsFit : List Content → Cell → Type 0
+abbrev pub IsFit : List ChunkValue → Cell → Type 0
 IsFit h c = IsBorn c.mark → All (IsSound h) c.refs
 
 -- all that a collection into one new chunk of this number asks
-pub record IsReady (h : Heap) (s : Stack) (roots : List Addr) (number : ℕ) : Type 0 where
+pub record IsReady (h : LeafHeapValue) (s : FramesValue) (roots : List Addr) (number : ℕ) : Type 0 where
   pub closed : IsClosed h.chunks
   pub outside : All (IsSound h.chunks) (outside s roots)
   pub fresh : IsFresh h.chunks number
   pub few : small_words h.chunks ≤ 1024
 
 -- the references of the object at an address
-abbrev pub fields_of : Heap → Addr → List (Option Addr)
+abbrev pub fields_of : LeafHeapValue → Addr → List (Option Addr)
 fields_of h a = (object_of h.chunks a).refs

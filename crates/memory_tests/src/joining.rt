@@ -1,7 +1,7 @@
 // Forks and joins that were checked.
 
 ghost use Rattle.std.specs.Prelude.{◌++◌, IsTrue};
-ghost use Rattle.alloc_path.specs.Heap.{merged};
+ghost use Rattle.alloc_path.specs.LeafHeapValue.{merged};
 ghost use Rattle.object_layout.specs.Chunks.{AreApart};
 ghost use Rattle.fork_join.specs.Joined.{AreInUse, HasRoom, HaveEnded};
 

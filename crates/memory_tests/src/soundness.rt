@@ -3,8 +3,8 @@
 ghost use Rattle.std.specs.Prelude.{IsTrue, map, All};
 ghost use Rattle.object_layout.specs.Cell.{IsBorn};
 ghost use Rattle.object_layout.specs.Place.{cell_at, IsCellAt};
-ghost use Rattle.task_frames.specs.Stack.{frames_of};
-ghost use Rattle.alloc_path.specs.Heap.{IsFresh};
+ghost use Rattle.task_frames.specs.FramesValue.{frames_of};
+ghost use Rattle.alloc_path.specs.LeafHeapValue.{IsFresh};
 ghost use Rattle.leaf_copy_gc.specs.Survivors.{as_reference, held_by, outside, IsHeld, IsSound};
 
 use alloc_path::LeafHeap;

@@ -1,9 +1,9 @@
 // Markings and sweeps of heaps that were checked.
 
 ghost use Rattle.std.specs.Prelude.{All, IfSome, IsSome, IsTrue};
-ghost use Rattle.chunk_pool.specs.Chunks.{held_at};
+ghost use Rattle.chunk_pool.specs.PoolValue.{held_at};
 ghost use Rattle.inner_mark_gc.specs.Snapshot.{IsClosed, IsHeld};
-ghost use Rattle.inner_mark_gc.specs.Marks.{HasRoom, IsDone, IsOf};
+ghost use Rattle.inner_mark_gc.specs.MarkingValue.{HasRoom, IsDone, IsOf};
 
 use crate::cells::is_fit_heap;
 use crate::soundness::is_live;

@@ -6,14 +6,14 @@ use Rattle.std.proofs.lemmas.Bool.{cases_Bool, cases_lt, eqb-true}
 use Rattle.std.proofs.lemmas.List.{get_or-set_same}
 use Rattle.object_layout.specs.declared.word.Addr.{Addr}
 use Rattle.object_layout.specs.Cell.{Cell, Mark, Born, Moved, Hole, IsBorn, IsObject, as_object, no_cell, with_ref, size_of}
-use Rattle.object_layout.specs.Content.{Content}
+use Rattle.object_layout.specs.ChunkValue.{ChunkValue}
 use Rattle.object_layout.specs.Place.{cell_at, words_in}
 use Rattle.object_layout.proofs.PlaceLemmas as place
 use Rattle.object_layout.specs.Chunks.{cell_of, chunk_at, next_address, no_chunk, object_of, place_in, place_of, push_object, put_object, with_cell}
 
 -- ---- where a chunk is found
 
-pub place_of-le : (ks : List Content) (n : ℕ) → place_of ks n ≤ length ks
+pub place_of-le : (ks : List ChunkValue) (n : ℕ) → place_of ks n ≤ length ks
 place_of-le [] n = omega arith
 place_of-le (k ∷ ks) n =
     let ih = place_of-le ks n in
@@ -23,7 +23,7 @@ place_of-le (k ∷ ks) n =
     (cases_Bool (eqb k.number n))
 
 -- the cell at an address lies in the chunk that is found
-pub cell_of-found : (ks : List Content) (a : Addr) (d : Content) → place_of ks a.chunk < length ks →
+pub cell_of-found : (ks : List ChunkValue) (a : Addr) (d : ChunkValue) → place_of ks a.chunk < length ks →
     cell_of ks a ≡ cell_at (get_or ks (place_of ks a.chunk) d).cells a.offset
 cell_of-found [] a d l = absurd (omega arith)
 cell_of-found (k ∷ ks) a d l =
@@ -32,7 +32,7 @@ cell_of-found (k ∷ ks) a d l =
     (λ (e : eqb k.number a.chunk ≡ false). let m = rw e at l in rw (e, one-add) (cell_of-found ks a d (omega arith)))
     (cases_Bool (eqb k.number a.chunk))
 
-pub cell_of-none : (ks : List Content) (a : Addr) → length ks ≤ place_of ks a.chunk → cell_of ks a ≡ no_cell
+pub cell_of-none : (ks : List ChunkValue) (a : Addr) → length ks ≤ place_of ks a.chunk → cell_of ks a ≡ no_cell
 cell_of-none [] a l = refl
 cell_of-none (k ∷ ks) a l =
     ⊎_elim
@@ -40,17 +40,17 @@ cell_of-none (k ∷ ks) a l =
     (λ (e : eqb k.number a.chunk ≡ false). let m = rw e at l in rw e (cell_of-none ks a (omega arith)))
     (cases_Bool (eqb k.number a.chunk))
 
-pub put_object-found : (ks : List Content) (a : Addr) (c : Cell) (d : Content) → place_of ks a.chunk < length ks →
+pub put_object-found : (ks : List ChunkValue) (a : Addr) (c : Cell) (d : ChunkValue) → place_of ks a.chunk < length ks →
     put_object ks a c ≡ set ks (place_of ks a.chunk) (with_cell (get_or ks (place_of ks a.chunk) d) a.offset c)
 put_object-found [] a c d l = refl
 put_object-found (k ∷ ks) a c d l =
     ⊎_elim
     (λ (e : eqb k.number a.chunk ≡ true). rw e)
-    (λ (e : eqb k.number a.chunk ≡ false). let m = rw e at l in rw (e, one-add) (ap (λ (xs : List Content). k ∷ xs) (put_object-found ks a c d (omega arith))))
+    (λ (e : eqb k.number a.chunk ≡ false). let m = rw e at l in rw (e, one-add) (ap (λ (xs : List ChunkValue). k ∷ xs) (put_object-found ks a c d (omega arith))))
     (cases_Bool (eqb k.number a.chunk))
 
 -- an object lies in a chunk of the list
-pub chunk_of_object : (ks : List Content) (a : Addr) → IsObject (cell_of ks a).mark → place_of ks a.chunk < length ks
+pub chunk_of_object : (ks : List ChunkValue) (a : Addr) → IsObject (cell_of ks a).mark → place_of ks a.chunk < length ks
 chunk_of_object ks a o =
     ⊎_elim
     (λ (l : place_of ks a.chunk < length ks). l)
@@ -63,7 +63,7 @@ born_marked (Born b) h = tt
 born_marked (Moved to) h = absurd h
 born_marked Hole h = absurd h
 
-pub born_object : (ks : List Content) (a : Addr) → IsBorn (cell_of ks a).mark → IsObject (cell_of ks a).mark
+pub born_object : (ks : List ChunkValue) (a : Addr) → IsBorn (cell_of ks a).mark → IsObject (cell_of ks a).mark
 born_object ks a h = born_marked (cell_of ks a).mark h
 
 -- an object is the cell that begins there
@@ -72,7 +72,7 @@ marked_is (Born b) c e o = rw (← e) refl
 marked_is (Moved to) c e o = rw (← e) refl
 marked_is Hole c e o = absurd (rw (← e) at o)
 
-pub object_is : (ks : List Content) (a : Addr) → IsObject (cell_of ks a).mark → object_of ks a ≡ cell_of ks a
+pub object_is : (ks : List ChunkValue) (a : Addr) → IsObject (cell_of ks a).mark → object_of ks a ≡ cell_of ks a
 object_is ks a o = marked_is (cell_of ks a).mark (cell_of ks a) refl o
 
 -- no object lies at an address, or one does
@@ -81,17 +81,17 @@ marked_cases (Born b) c e = inl (rw (← e) tt)
 marked_cases (Moved to) c e = inl (rw (← e) tt)
 marked_cases Hole c e = inr (rw (← e) refl)
 
-pub object_or_none : (ks : List Content) (a : Addr) → IsObject (cell_of ks a).mark ⊎ (object_of ks a ≡ no_cell)
+pub object_or_none : (ks : List ChunkValue) (a : Addr) → IsObject (cell_of ks a).mark ⊎ (object_of ks a ≡ no_cell)
 object_or_none ks a = marked_cases (cell_of ks a).mark (cell_of ks a) refl
 
 -- what has a field is an object
-pub object_with_ref : (ks : List Content) (a : Addr) (k : ℕ) → k < length (object_of ks a).refs → IsObject (cell_of ks a).mark
+pub object_with_ref : (ks : List ChunkValue) (a : Addr) (k : ℕ) → k < length (object_of ks a).refs → IsObject (cell_of ks a).mark
 object_with_ref ks a k l =
     ⊎_elim (λ (o : IsObject (cell_of ks a).mark). o)
     (λ (o : object_of ks a ≡ no_cell). let m = rw o at l in absurd (omega arith))
     (object_or_none ks a)
 
-pub object_with_int : (ks : List Content) (a : Addr) (k : ℕ) → k < length (object_of ks a).ints → IsObject (cell_of ks a).mark
+pub object_with_int : (ks : List ChunkValue) (a : Addr) (k : ℕ) → k < length (object_of ks a).ints → IsObject (cell_of ks a).mark
 object_with_int ks a k l =
     ⊎_elim (λ (o : IsObject (cell_of ks a).mark). o)
     (λ (o : object_of ks a ≡ no_cell). let m = rw o at l in absurd (omega arith))
@@ -107,7 +107,7 @@ same_addr x y e f =
     one ∙ two
 
 -- other addresses stay, where the cell put there is as large as the old one
-pub cell_of-put_other : (ks : List Content) (a b : Addr) (c : Cell) → size_of c ≡ size_of (cell_of ks a) → b ≢ a →
+pub cell_of-put_other : (ks : List ChunkValue) (a b : Addr) (c : Cell) → size_of c ≡ size_of (cell_of ks a) → b ≢ a →
     cell_of (put_object ks a c) b ≡ cell_of ks b
 cell_of-put_other [] a b c s ne = refl
 cell_of-put_other (k ∷ ks) a b c s ne =
@@ -127,7 +127,7 @@ cell_of-put_other (k ∷ ks) a b c s ne =
     (cases_Bool (eqb k.number a.chunk))
 
 -- what is put where an object lies is read
-pub cell_of-put_same : (ks : List Content) (a : Addr) (c : Cell) → IsObject (cell_of ks a).mark → cell_of (put_object ks a c) a ≡ c
+pub cell_of-put_same : (ks : List ChunkValue) (a : Addr) (c : Cell) → IsObject (cell_of ks a).mark → cell_of (put_object ks a c) a ≡ c
 cell_of-put_same [] a c o = absurd o
 cell_of-put_same (k ∷ ks) a c o =
     ⊎_elim
@@ -135,15 +135,15 @@ cell_of-put_same (k ∷ ks) a c o =
     (λ (e : eqb k.number a.chunk ≡ false). let p = rw e at o in rw (e, e) (cell_of-put_same ks a c p))
     (cases_Bool (eqb k.number a.chunk))
 
-pub object_of-put_other : (ks : List Content) (a b : Addr) (c : Cell) → size_of c ≡ size_of (cell_of ks a) → b ≢ a →
+pub object_of-put_other : (ks : List ChunkValue) (a b : Addr) (c : Cell) → size_of c ≡ size_of (cell_of ks a) → b ≢ a →
     object_of (put_object ks a c) b ≡ object_of ks b
 object_of-put_other ks a b c s ne = ap as_object (cell_of-put_other ks a b c s ne)
 
-pub object_of-put_same : (ks : List Content) (a : Addr) (c : Cell) → IsObject (cell_of ks a).mark → object_of (put_object ks a c) a ≡ as_object c
+pub object_of-put_same : (ks : List ChunkValue) (a : Addr) (c : Cell) → IsObject (cell_of ks a).mark → object_of (put_object ks a c) a ≡ as_object c
 object_of-put_same ks a c o = ap as_object (cell_of-put_same ks a c o)
 
 -- one reference written
-pub refs-put_same : (ks : List Content) (a : Addr) (k : ℕ) (r : Option Addr) →
+pub refs-put_same : (ks : List ChunkValue) (a : Addr) (k : ℕ) (r : Option Addr) →
     (object_of (put_object ks a (with_ref (cell_of ks a) k r)) a).refs ≡ slice_set (object_of ks a).refs k r
 refs-put_same [] a k r = refl
 refs-put_same (x ∷ xs) a k r =
@@ -152,13 +152,13 @@ refs-put_same (x ∷ xs) a k r =
     (λ (e : eqb x.number a.chunk ≡ false). rw (e, e) (refs-put_same xs a k r))
     (cases_Bool (eqb x.number a.chunk))
 
-pub refs-put_other : (ks : List Content) (a b : Addr) (k : ℕ) (r : Option Addr) → b ≢ a →
+pub refs-put_other : (ks : List ChunkValue) (a b : Addr) (k : ℕ) (r : Option Addr) → b ≢ a →
     (object_of (put_object ks a (with_ref (cell_of ks a) k r)) b).refs ≡ (object_of ks b).refs
 refs-put_other ks a b k r ne =
     ap (λ (c : Cell). c.refs) (object_of-put_other ks a b (with_ref (cell_of ks a) k r) (place.size_of-with_ref (cell_of ks a) k r) ne)
 
 -- no chunk is moved by a put
-pub place_of-put : (ks : List Content) (a : Addr) (c : Cell) (n : ℕ) → place_of (put_object ks a c) n ≡ place_of ks n
+pub place_of-put : (ks : List ChunkValue) (a : Addr) (c : Cell) (n : ℕ) → place_of (put_object ks a c) n ≡ place_of ks n
 place_of-put [] a c n = refl
 place_of-put (k ∷ ks) a c n =
     ⊎_elim
@@ -166,7 +166,7 @@ place_of-put (k ∷ ks) a c n =
     (λ (e : eqb k.number a.chunk ≡ false). rw (e, place_of-put ks a c n))
     (cases_Bool (eqb k.number a.chunk))
 
-pub length-put : (ks : List Content) (a : Addr) (c : Cell) → length (put_object ks a c) ≡ length ks
+pub length-put : (ks : List ChunkValue) (a : Addr) (c : Cell) → length (put_object ks a c) ≡ length ks
 length-put [] a c = refl
 length-put (k ∷ ks) a c =
     ⊎_elim
@@ -174,29 +174,29 @@ length-put (k ∷ ks) a c =
     (λ (e : eqb k.number a.chunk ≡ false). rw (e, length-put ks a c))
     (cases_Bool (eqb k.number a.chunk))
 
-pub place_in-put : (ks : List Content) (a : Addr) (c : Cell) (n : ℕ) → place_in (put_object ks a c) n ≡ place_in ks n
+pub place_in-put : (ks : List ChunkValue) (a : Addr) (c : Cell) (n : ℕ) → place_in (put_object ks a c) n ≡ place_in ks n
 place_in-put ks a c n = rw (place_of-put ks a c n, length-put ks a c)
 
 -- of two cells put at one address the second stays
-pub put_object-put_object : (ks : List Content) (a : Addr) (c d : Cell) → put_object (put_object ks a c) a d ≡ put_object ks a d
+pub put_object-put_object : (ks : List ChunkValue) (a : Addr) (c d : Cell) → put_object (put_object ks a c) a d ≡ put_object ks a d
 put_object-put_object [] a c d = refl
 put_object-put_object (k ∷ ks) a c d =
     ⊎_elim
     (λ (e : eqb k.number a.chunk ≡ true). rw (e, e) (ap (λ (cs : List Cell). record k { cells = cs } ∷ ks) (place.put_cell-put_cell k.cells a.offset c d)))
-    (λ (e : eqb k.number a.chunk ≡ false). rw (e, e) (ap (λ (xs : List Content). k ∷ xs) (put_object-put_object ks a c d)))
+    (λ (e : eqb k.number a.chunk ≡ false). rw (e, e) (ap (λ (xs : List ChunkValue). k ∷ xs) (put_object-put_object ks a c d)))
     (cases_Bool (eqb k.number a.chunk))
 
-pub put_object-itself : (ks : List Content) (a : Addr) → put_object ks a (cell_of ks a) ≡ ks
+pub put_object-itself : (ks : List ChunkValue) (a : Addr) → put_object ks a (cell_of ks a) ≡ ks
 put_object-itself [] a = refl
 put_object-itself (k ∷ ks) a =
     ⊎_elim
     (λ (e : eqb k.number a.chunk ≡ true). rw e (ap (λ (cs : List Cell). record k { cells = cs } ∷ ks) (place.put_cell-itself k.cells a.offset)))
-    (λ (e : eqb k.number a.chunk ≡ false). rw e (ap (λ (xs : List Content). k ∷ xs) (put_object-itself ks a)))
+    (λ (e : eqb k.number a.chunk ≡ false). rw e (ap (λ (xs : List ChunkValue). k ∷ xs) (put_object-itself ks a)))
     (cases_Bool (eqb k.number a.chunk))
 
 -- ---- what is at an address after a push
 
-pub cell_of-push_other : (ks : List Content) (i : ℕ) (c : Cell) (b : Addr) → b ≢ next_address (chunk_at ks i) → cell_of (push_object ks i c) b ≡ cell_of ks b
+pub cell_of-push_other : (ks : List ChunkValue) (i : ℕ) (c : Cell) (b : Addr) → b ≢ next_address (chunk_at ks i) → cell_of (push_object ks i c) b ≡ cell_of ks b
 cell_of-push_other [] i c b ne = refl
 cell_of-push_other (k ∷ ks) zero c b ne =
     ⊎_elim
@@ -209,25 +209,25 @@ cell_of-push_other (k ∷ ks) (suc i) c b ne =
     (λ (e : eqb k.number b.chunk ≡ false). rw e (cell_of-push_other ks i c b ne))
     (cases_Bool (eqb k.number b.chunk))
 
-place_of-push : (ks : List Content) (i : ℕ) (c : Cell) (n : ℕ) → place_of (push_object ks i c) n ≡ place_of ks n
+place_of-push : (ks : List ChunkValue) (i : ℕ) (c : Cell) (n : ℕ) → place_of (push_object ks i c) n ≡ place_of ks n
 place_of-push [] i c n = refl
 place_of-push (k ∷ ks) zero c n = refl
 place_of-push (k ∷ ks) (suc i) c n = rw (place_of-push ks i c n)
 
-set_again : (ks : List Content) (i : ℕ) (x y : Content) → set (set ks i x) i y ≡ set ks i y
+set_again : (ks : List ChunkValue) (i : ℕ) (x y : ChunkValue) → set (set ks i x) i y ≡ set ks i y
 set_again [] i x y = refl
 set_again (k ∷ ks) zero x y = refl
-set_again (k ∷ ks) (suc i) x y = ap (λ (xs : List Content). k ∷ xs) (set_again ks i x y)
+set_again (k ∷ ks) (suc i) x y = ap (λ (xs : List ChunkValue). k ∷ xs) (set_again ks i x y)
 
-pub put_object-pushed : (ks : List Content) (i : ℕ) (c d : Cell) → place_of ks (chunk_at ks i).number ≡ i → i < length ks →
+pub put_object-pushed : (ks : List ChunkValue) (i : ℕ) (c d : Cell) → place_of ks (chunk_at ks i).number ≡ i → i < length ks →
     put_object (push_object ks i c) (next_address (chunk_at ks i)) d ≡ push_object ks i d
 put_object-pushed ks i c d found l =
-    let fuller : Content = record (chunk_at ks i) { cells = (chunk_at ks i).cells ++ c ∷ [] } in
+    let fuller : ChunkValue = record (chunk_at ks i) { cells = (chunk_at ks i).cells ++ c ∷ [] } in
     let where' : place_of (push_object ks i c) (chunk_at ks i).number ≡ i = place_of-push ks i c (chunk_at ks i).number ∙ found in
     let inside : place_of (push_object ks i c) (chunk_at ks i).number < length (push_object ks i c) = rw (where', length-set) l in
     let there : get_or (push_object ks i c) i no_chunk ≡ fuller = get_or-set_same ks i fuller no_chunk l in
     put_object-found (push_object ks i c) (next_address (chunk_at ks i)) d no_chunk inside
     ∙ (ap (λ (n : ℕ). set (push_object ks i c) n (with_cell (get_or (push_object ks i c) n no_chunk) (words_in (chunk_at ks i).cells) d)) where'
-    ∙ (ap (λ (k : Content). set (push_object ks i c) i (with_cell k (words_in (chunk_at ks i).cells) d)) there
+    ∙ (ap (λ (k : ChunkValue). set (push_object ks i c) i (with_cell k (words_in (chunk_at ks i).cells) d)) there
     ∙ (set_again ks i fuller (with_cell fuller (words_in (chunk_at ks i).cells) d)
     ∙ ap (λ (cs : List Cell). set ks i (record (chunk_at ks i) { cells = cs })) (place.put_cell-last (chunk_at ks i).cells c d))))

@@ -4,7 +4,7 @@ use Rattle.std.proofs.lemmas.List.{length-take-le}
 use Rattle.object_layout.specs.declared.word.Addr.{Addr}
 use Rattle.object_layout.specs.Cell.{Cell, IsObject, with_int, with_ints, with_ref, with_refs}
 use Rattle.object_layout.specs.Chunks.{with_cell}
-use Rattle.object_layout.specs.Content.{Content}
+use Rattle.object_layout.specs.ChunkValue.{ChunkValue}
 use Rattle.object_layout.specs.Place.{IsObjectAt, cell_at, object_at, words_in}
 use Rattle.object_layout.proofs.PlaceLemmas as place
 
@@ -31,21 +31,21 @@ take_all (x ∷ xs) (y ∷ ys) (suc k) e f = ap (λ zs. x ∷ zs) (take_all xs y
 -- ---- an object's fields
 
 -- the first fields are these, and the others are as they were
-abbrev pub refs_filled : Content → ℕ → List (Option Addr) → ℕ → Content
+abbrev pub refs_filled : ChunkValue → ℕ → List (Option Addr) → ℕ → ChunkValue
 refs_filled c a refs k = with_cell c a (with_refs (cell_at c.cells a) (take k refs ++ drop k (cell_at c.cells a).refs))
 
-abbrev pub ints_filled : Content → ℕ → List ℤ → ℕ → Content
+abbrev pub ints_filled : ChunkValue → ℕ → List ℤ → ℕ → ChunkValue
 ints_filled c a ints k = with_cell c a (with_ints (cell_at c.cells a) (take k ints ++ drop k (cell_at c.cells a).ints))
 
-module _ (h : Content) (a : ℕ) (object : IsObjectAt h.cells a) where
+module _ (h : ChunkValue) (a : ℕ) (object : IsObjectAt h.cells a) where
   read : (c : Cell) → cell_at (with_cell h a c).cells a ≡ c
   read c = place.cell_at-put_same h.cells a c (place.cell_of_object h.cells a object)
 
   again : (c d : Cell) → with_cell (with_cell h a c) a d ≡ with_cell h a d
-  again c d = ap (λ (cs : List Cell). let r : Content = record h { cells = cs } in r) (place.put_cell-put_cell h.cells a c d)
+  again c d = ap (λ (cs : List Cell). let r : ChunkValue = record h { cells = cs } in r) (place.put_cell-put_cell h.cells a c d)
 
   nothing : with_cell h a (cell_at h.cells a) ≡ h
-  nothing = ap (λ (cs : List Cell). let r : Content = record h { cells = cs } in r) (place.put_cell-itself h.cells a)
+  nothing = ap (λ (cs : List Cell). let r : ChunkValue = record h { cells = cs } in r) (place.put_cell-itself h.cells a)
 
   pub refs_begun : (xs : List (Option Addr)) → h ≡ refs_filled h a xs 0
   refs_begun xs = sym (ap (λ zs. with_cell h a (with_refs (cell_at h.cells a) zs)) (take_none xs (cell_at h.cells a).refs) ∙ nothing)
@@ -91,13 +91,13 @@ module _ (h : Content) (a : ℕ) (object : IsObjectAt h.cells a) where
 
 -- ---- the last object
 
-module _ (h : Content) (a : ℕ) (behind : a ≡ words_in h.cells) where
-  pub last_read : (k : Content) (c : Cell) → k ≡ record h { cells = h.cells ++ c ∷ [] } → cell_at k.cells a ≡ c
-  last_read k c e = ap (λ (x : Content). cell_at x.cells a) e ∙ rw behind (place.cell_at-last h.cells c)
+module _ (h : ChunkValue) (a : ℕ) (behind : a ≡ words_in h.cells) where
+  pub last_read : (k : ChunkValue) (c : Cell) → k ≡ record h { cells = h.cells ++ c ∷ [] } → cell_at k.cells a ≡ c
+  last_read k c e = ap (λ (x : ChunkValue). cell_at x.cells a) e ∙ rw behind (place.cell_at-last h.cells c)
 
-  pub last_filled : (k l : Content) (c : Cell) (f : Cell → Cell) → k ≡ record h { cells = h.cells ++ c ∷ [] } → l ≡ with_cell k a (f (cell_at k.cells a)) → l ≡ record h { cells = h.cells ++ f c ∷ [] }
+  pub last_filled : (k l : ChunkValue) (c : Cell) (f : Cell → Cell) → k ≡ record h { cells = h.cells ++ c ∷ [] } → l ≡ with_cell k a (f (cell_at k.cells a)) → l ≡ record h { cells = h.cells ++ f c ∷ [] }
   last_filled k l c f e w =
       w
       ∙ (ap (λ (d : Cell). with_cell k a (f d)) (last_read k c e)
-      ∙ (ap (λ (x : Content). with_cell x a (f c)) e
-      ∙ rw behind (ap (λ (cs : List Cell). let r : Content = record h { cells = cs } in r) (place.put_cell-last h.cells c (f c)))))
+      ∙ (ap (λ (x : ChunkValue). with_cell x a (f c)) e
+      ∙ rw behind (ap (λ (cs : List Cell). let r : ChunkValue = record h { cells = cs } in r) (place.put_cell-last h.cells c (f c)))))

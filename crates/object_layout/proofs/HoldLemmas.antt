@@ -10,7 +10,7 @@ use Rattle.object_layout.specs.declared.word.Header.{Header}
 use Rattle.object_layout.specs.Cell.{Cell, IsCell, size_of, new_cell, IsRef}
 use Rattle.object_layout.specs.Layout.{words_of_cell, header_word, word_of_birth, word_of_ref}
 use Rattle.object_layout.specs.Place.{words_in, IsCellAt, cell_at, put_cell}
-use Rattle.object_layout.specs.Content.{Content, HoldsCells, cells_in}
+use Rattle.object_layout.specs.ChunkValue.{ChunkValue, HoldsCells, cells_in}
 use Rattle.object_layout.proofs.WordLemmas.{length-words_of_cell, cells_of_words-words_of_cells}
 use Rattle.object_layout.proofs.PlaceLemmas.{length-words_of_cells, cell_ends, get_or-words_of_cells, around, set_middle, All-cell_at, All-put_cell}
 
@@ -127,15 +127,15 @@ size_of-new h b = rw (length-replicate, length-replicate)
 
 -- ---- what callers see
 
-abbrev pub seen : ℕ → List ℕ → ℕ → Content
+abbrev pub seen : ℕ → List ℕ → ℕ → ChunkValue
 seen number ws used = record { number = number; size = length ws; cells = cells_in ws used }
 
-module _ (number : ℕ) (ws : List ℕ) (used : ℕ) (v : Content) (is : seen number ws used ≡ v) where
+module _ (number : ℕ) (ws : List ℕ) (used : ℕ) (v : ChunkValue) (is : seen number ws used ≡ v) where
   pub seen_cells : cells_in ws used ≡ v.cells
-  seen_cells = ap (λ (x : Content). x.cells) is
+  seen_cells = ap (λ (x : ChunkValue). x.cells) is
 
   pub seen_size : length ws ≡ v.size
-  seen_size = ap (λ (x : Content). x.size) is
+  seen_size = ap (λ (x : ChunkValue). x.size) is
 
   pub seen_holds : HoldsCells ws used (cells_in ws used) → HoldsCells ws used v.cells
   seen_holds h = subst (λ (cs : List Cell). HoldsCells ws used cs) seen_cells h
@@ -157,18 +157,18 @@ held_cut ws used cs h =
       sized = omega arith;
     }
 
-pub seen_cut : (number : ℕ) (ws : List ℕ) (used : ℕ) (v : Content) → seen number ws used ≡ v → HoldsCells ws used (cells_in ws used) →
+pub seen_cut : (number : ℕ) (ws : List ℕ) (used : ℕ) (v : ChunkValue) → seen number ws used ≡ v → HoldsCells ws used (cells_in ws used) →
     (vs : List ℕ) → vs ≡ take used ws → seen number vs used ≡ record v { size = words_in v.cells }
 seen_cut number ws used v is inv vs e =
     let h = seen_holds number ws used v is inv in
     let within : used ≤ length ws = h.within in
-    let n : number ≡ v.number = ap (λ (x : Content). x.number) is in
+    let n : number ≡ v.number = ap (λ (x : ChunkValue). x.number) is in
     let k : cells_in vs used ≡ v.cells = rw e (held_read (take used ws) used v.cells (held_cut ws used v.cells h)) in
     let l : length vs ≡ words_in v.cells = rw e (length-take-le used ws within ∙ sym (held_used ws used v.cells h)) in
     rw (k, l, n) refl
 
 -- what is known of an object of a chunk
-pub record ObjectIn (ws : List ℕ) (used : ℕ) (v : Content) (at : ℕ) : Type 0 where
+pub record ObjectIn (ws : List ℕ) (used : ℕ) (v : ChunkValue) (at : ℕ) : Type 0 where
   pub holds : HoldsCells ws used v.cells
   pub used_is : words_in v.cells ≡ used
   pub within : used ≤ length ws
@@ -176,7 +176,7 @@ pub record ObjectIn (ws : List ℕ) (used : ℕ) (v : Content) (at : ℕ) : Type
   pub ends : at + size_of (cell_at v.cells at) ≤ used
   pub cell : IsCell (cell_at v.cells at)
 
-pub object_in : (number : ℕ) (ws : List ℕ) (used : ℕ) (v : Content) → seen number ws used ≡ v → HoldsCells ws used (cells_in ws used) →
+pub object_in : (number : ℕ) (ws : List ℕ) (used : ℕ) (v : ChunkValue) → seen number ws used ≡ v → HoldsCells ws used (cells_in ws used) →
     (at : ℕ) → IsCellAt v.cells at → ObjectIn ws used v at
 object_in number ws used v is inv at o =
     let h = seen_holds number ws used v is inv in

@@ -6,7 +6,7 @@ use Rattle.listed.proofs.Members.{In}
 use Rattle.object_layout.specs.declared.word.Addr.{Addr}
 use Rattle.object_layout.specs.declared.word.Birth.{Birth}
 use Rattle.object_layout.specs.Cell.{Born, Cell, Hole, Mark, Moved, no_cell, size_of}
-use Rattle.object_layout.specs.Content.{Content}
+use Rattle.object_layout.specs.ChunkValue.{ChunkValue}
 use Rattle.object_layout.specs.Chunks.{cell_of, put_object, with_cell}
 use Rattle.object_layout.specs.Place.{cell_at, put_cell, words_in}
 use Rattle.object_layout.specs.Objects.{Located, changed_at, led, led_object, located, located_by, objects_from, objects_of, sifted_cells, swept_cell, with_fields}
@@ -107,7 +107,7 @@ other a d number base (c ∷ cs) ne = by c.mark (other a d number (base + size_o
     by (Moved to) ih = ih
     by Hole ih = ih
 
-others : (ks : List Content) (a : Addr) (d : Cell) (n : ℕ) → n ≡ a.chunk → ((k : Content) → In ks k → k.number ≡ n → ⊥) → map (map (changed_at a d)) (map objects_of ks) ≡ map objects_of ks
+others : (ks : List ChunkValue) (a : Addr) (d : Cell) (n : ℕ) → n ≡ a.chunk → ((k : ChunkValue) → In ks k → k.number ≡ n → ⊥) → map (map (changed_at a d)) (map objects_of ks) ≡ map objects_of ks
 others [] a d n e off = refl
 others (k ∷ ks) a d n e off = ap₂ (λ x xs. x ∷ xs) (other a d k.number 0 k.cells (λ q. off k (inl refl) (q ∙ sym e))) (others ks a d n e (λ x i. off x (inr i)))
 
@@ -118,7 +118,7 @@ put_changes_one (k ∷ ks) a d A em es = by (k.number == a.chunk) refl em es (pu
     here : k.number ≡ a.chunk → a ≡ at_place k.number (0 + a.offset)
     here e = ap (λ n. at_place n a.offset) (sym e) ∙ ap (at_place k.number) (let z : a.offset ≡ 0 + a.offset = omega arith in z)
 
-    none : (x : Content) → In ks x → x.number ≡ k.number → ⊥
+    none : (x : ChunkValue) → In ks x → x.number ≡ k.number → ⊥
     none x i e = false≢true (sym ((fresh_none ks k.number).0 A.0) ∙ has_own ks x k.number i e)
 
     by : (v : Bool) → (k.number == a.chunk) ≡ v → (cond v (cell_at k.cells a.offset) (cell_of ks a)).mark ≡ d.mark → size_of (cond v (cell_at k.cells a.offset) (cell_of ks a)) ≡ size_of d

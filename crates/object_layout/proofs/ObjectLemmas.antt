@@ -5,7 +5,7 @@ use Rattle.listed.proofs.Members.{In, any_from_in, contains_from_in, flat_in, go
 use Rattle.object_layout.specs.declared.word.Addr.{Addr}
 use Rattle.object_layout.specs.declared.word.Birth.{Birth}
 use Rattle.object_layout.specs.Cell.{Born, Cell, Hole, Mark, Moved, no_cell, size_of}
-use Rattle.object_layout.specs.Content.{Content}
+use Rattle.object_layout.specs.ChunkValue.{ChunkValue}
 use Rattle.object_layout.specs.Chunks.{cell_of, has_chunk, AreApart}
 use Rattle.object_layout.specs.Place.{cell_at}
 use Rattle.object_layout.specs.Objects.{Located, located, located_by, objects_from, objects_in, objects_of}
@@ -74,13 +74,13 @@ read_cell (c ∷ cs) number base o i = by c.mark refl i (read_cell cs number (ba
 
 -- ---- chunks
 
-record InChunk (ks : List Content) (a : Addr) : Type 0 where
-  chunk : Content
+record InChunk (ks : List ChunkValue) (a : Addr) : Type 0 where
+  chunk : ChunkValue
   there : In ks chunk
   number : chunk.number ≡ a.chunk
   cell : cell_of ks a ≡ cell_at chunk.cells a.offset
 
-find_chunk : (ks : List Content) (a : Addr) (b : Birth) → (cell_of ks a).mark ≡ Born b → InChunk ks a
+find_chunk : (ks : List ChunkValue) (a : Addr) (b : Birth) → (cell_of ks a).mark ≡ Born b → InChunk ks a
 find_chunk [] a b e = absurd cc
 find_chunk (k ∷ ks) a b e = by (k.number == a.chunk) refl e (find_chunk ks a b)
   where
@@ -91,7 +91,7 @@ find_chunk (k ∷ ks) a b e = by (k.number == a.chunk) refl e (find_chunk ks a b
         record { chunk = f.chunk; there = inr f.there; number = f.number; cell = cond-false (k.number == a.chunk) (cell_at k.cells a.offset) (cell_of ks a) q ∙ f.cell }
 
 -- an object at an address is read there
-object_read : (ks : List Content) (a : Addr) (b : Birth) → (cell_of ks a).mark ≡ Born b → In (objects_in ks) (located a.chunk a.offset b (cell_of ks a))
+object_read : (ks : List ChunkValue) (a : Addr) (b : Birth) → (cell_of ks a).mark ≡ Born b → In (objects_in ks) (located a.chunk a.offset b (cell_of ks a))
 object_read ks a b e =
     let f = find_chunk ks a b e in
     let m : (cell_at f.chunk.cells a.offset).mark ≡ Born b = ap (λ (x : Cell). x.mark) (sym f.cell) ∙ e in
@@ -100,22 +100,22 @@ object_read ks a b e =
     (in_flat objects_of ks f.chunk (located f.chunk.number a.offset b (cell_at f.chunk.cells a.offset)) f.there (cell_read f.chunk.cells f.chunk.number 0 a.offset a.offset b (omega arith) m)))
 
 -- a chunk of the list has its number there
-pub has_own : (ks : List Content) (k : Content) (n : ℕ) → In ks k → k.number ≡ n → has_chunk ks n ≡ true
+pub has_own : (ks : List ChunkValue) (k : ChunkValue) (n : ℕ) → In ks k → k.number ≡ n → has_chunk ks n ≡ true
 has_own ks k n i e = found_any ks n ∙ any_from_in (λ x. x.number == n) ks k i (eq-eqb k.number n e)
 
-fresh_off : (ks : List Content) (k : Content) (n : ℕ) → has_chunk ks n ≡ false → In ks k → k.number ≡ n → ⊥
+fresh_off : (ks : List ChunkValue) (k : ChunkValue) (n : ℕ) → has_chunk ks n ≡ false → In ks k → k.number ≡ n → ⊥
 fresh_off ks k n f i e = false≢true (sym f ∙ has_own ks k n i e)
 
-pub cell_in : (ks : List Content) (k : Content) (a : Addr) → AreApart ks → In ks k → k.number ≡ a.chunk → cell_of ks a ≡ cell_at k.cells a.offset
+pub cell_in : (ks : List ChunkValue) (k : ChunkValue) (a : Addr) → AreApart ks → In ks k → k.number ≡ a.chunk → cell_of ks a ≡ cell_at k.cells a.offset
 cell_in [] k a A i q = absurd i
 cell_in (y ∷ ys) k a A (inl e) q =
-    cond-true (y.number == a.chunk) (cell_at y.cells a.offset) (cell_of ys a) (eq-eqb y.number a.chunk (ap (λ (x : Content). x.number) e ∙ q)) ∙ ap (λ (x : Content). cell_at x.cells a.offset) e
+    cond-true (y.number == a.chunk) (cell_at y.cells a.offset) (cell_of ys a) (eq-eqb y.number a.chunk (ap (λ (x : ChunkValue). x.number) e ∙ q)) ∙ ap (λ (x : ChunkValue). cell_at x.cells a.offset) e
 cell_in (y ∷ ys) k a A (inr i) q =
     cond-false (y.number == a.chunk) (cell_at y.cells a.offset) (cell_of ys a) (ne_eqb y.number a.chunk (λ z. fresh_off ys k y.number ((fresh_none ys y.number).0 A.0) i (q ∙ sym z)))
     ∙ cell_in ys k a A.1 i q
 
 -- an object that is read lies at its address
-module _ (ks : List Content) (k : Content) (o : Located) (A : AreApart ks) (i : In ks k) (f : Found k.number 0 k.cells o) where
+module _ (ks : List ChunkValue) (k : ChunkValue) (o : Located) (A : AreApart ks) (i : In ks k) (f : Found k.number 0 k.cells o) where
   at : o.at ≡ record { chunk = k.number; offset = 0 + f.off }
   at = ap (λ (x : Located). x.at) f.is
 

@@ -4,12 +4,12 @@ use Rattle.std.specs.Prelude.{is_some, nat_lt, ◌↔◌}
 use Rattle.std.specs.List.{list_any}
 use Rattle.std.proofs.lemmas.Bool.{cases_Bool, eq-eqb, false≢true, lt-ltb, ne_eqb}
 use Rattle.std.proofs.lemmas.List.Folds.{list_any-append}
-use Rattle.object_layout.specs.Content.{Content}
+use Rattle.object_layout.specs.ChunkValue.{ChunkValue}
 use Rattle.object_layout.specs.Laws.{ApartTogether}
 use Rattle.object_layout.specs.Chunks.{has_chunk, place_in, place_of, AreApart, IsFresh}
 
 -- the list's length stands for none
-has_by_place : (ks : List Content) (n : ℕ) → nat_lt (place_of ks n) (length ks) ≡ list_any (λ k. eqb k.number n) ks
+has_by_place : (ks : List ChunkValue) (n : ℕ) → nat_lt (place_of ks n) (length ks) ≡ list_any (λ k. eqb k.number n) ks
 has_by_place [] n = refl
 has_by_place (k ∷ ks) n =
     elim (cases_Bool (eqb k.number n)) [
@@ -24,23 +24,23 @@ some_by : (b : Bool) (i : ℕ) → is_some (cond b (Some i) None) ≡ b
 some_by true i = refl
 some_by false i = refl
 
-pub found_any : (ks : List Content) (n : ℕ) → has_chunk ks n ≡ list_any (λ k. eqb k.number n) ks
+pub found_any : (ks : List ChunkValue) (n : ℕ) → has_chunk ks n ≡ list_any (λ k. eqb k.number n) ks
 found_any ks n = some_by (nat_lt (place_of ks n) (length ks)) (place_of ks n) ∙ has_by_place ks n
 
 none_by : {A : Type 0} (o : Option A) → is_some o ≡ false → o ≡ None
 none_by None e = refl
 none_by (Some x) e = absurd cc
 
-pub fresh_none : (ks : List Content) (n : ℕ) → IsFresh ks n ↔ (has_chunk ks n ≡ false)
+pub fresh_none : (ks : List ChunkValue) (n : ℕ) → IsFresh ks n ↔ (has_chunk ks n ≡ false)
 fresh_none ks n = ((λ e. ap is_some e), (λ e. none_by (place_in ks n) e))
 
 -- a list followed by another has the chunks of both
-pub has_append : (ks ls : List Content) (n : ℕ) → has_chunk (ks ++ ls) n ≡ (has_chunk ks n || has_chunk ls n)
+pub has_append : (ks ls : List ChunkValue) (n : ℕ) → has_chunk (ks ++ ls) n ≡ (has_chunk ks n || has_chunk ls n)
 has_append ks ls n =
     found_any (ks ++ ls) n
-    ∙ (list_any-append (λ (k : Content). eqb k.number n) ks ls ∙ sym (ap₂ (λ x y. x || y) (found_any ks n) (found_any ls n)))
+    ∙ (list_any-append (λ (k : ChunkValue). eqb k.number n) ks ls ∙ sym (ap₂ (λ x y. x || y) (found_any ks n) (found_any ls n)))
 
-pub has_one : (k : Content) (n : ℕ) → has_chunk (k ∷ []) n ≡ eqb k.number n
+pub has_one : (k : ChunkValue) (n : ℕ) → has_chunk (k ∷ []) n ≡ eqb k.number n
 has_one k n = found_any (k ∷ []) n ∙ or_none (eqb k.number n)
   where
     or_none : (b : Bool) → (b || false) ≡ b
@@ -58,10 +58,10 @@ right_false : (a b : Bool) → (a || b) ≡ false → b ≡ false
 right_false true b e = absurd cc
 right_false false b e = e
 
-any_first : (k : Content) (ks : List Content) → has_chunk (k ∷ ks) k.number ≡ true
+any_first : (k : ChunkValue) (ks : List ChunkValue) → has_chunk (k ∷ ks) k.number ≡ true
 any_first k ks = found_any (k ∷ ks) k.number ∙ ap (λ b. b || list_any (λ y. eqb y.number k.number) ks) (eq-eqb k.number k.number refl)
 
-any_rest : (k : Content) (ks : List Content) (n : ℕ) → has_chunk ks n ≡ true → has_chunk (k ∷ ks) n ≡ true
+any_rest : (k : ChunkValue) (ks : List ChunkValue) (n : ℕ) → has_chunk ks n ≡ true → has_chunk (k ∷ ks) n ≡ true
 any_rest k ks n e = found_any (k ∷ ks) n ∙ (ap (λ b. eqb k.number n || b) (sym (found_any ks n) ∙ e) ∙ or_true (eqb k.number n))
   where
     or_true : (b : Bool) → (b || true) ≡ true
@@ -77,7 +77,7 @@ apart_together (k ∷ ks) ls A B off = (
 )
 
 -- chunks stay apart where a fresh one is put behind them
-pub apart_more : (ks : List Content) (k : Content) → AreApart ks → has_chunk ks k.number ≡ false → AreApart (ks ++ k ∷ [])
+pub apart_more : (ks : List ChunkValue) (k : ChunkValue) → AreApart ks → has_chunk ks k.number ≡ false → AreApart (ks ++ k ∷ [])
 apart_more [] k A f = ((fresh_none [] k.number).1 refl, tt)
 apart_more (x ∷ xs) k A f =
     let both : (eqb x.number k.number || list_any (λ y. eqb y.number k.number) xs) ≡ false = sym (found_any (x ∷ xs) k.number) ∙ f in

@@ -2,7 +2,7 @@
 use Rattle.std.specs.Prelude.{◌≡◌, ℕ, ◌+◌, Bool, List, [], ◌∷◌, ◌++◌, ◌==◌, ◌&&◌, if◌then◌else◌, Option, Some, None, is_some, length, nat_le, nat_lt, slice_index_or, slice_set}
 use Rattle.object_layout.specs.declared.word.Addr.{Addr}
 use Rattle.object_layout.specs.Cell.{Born, Cell, Hole, Mark, Moved, as_object, no_cell, size_of}
-use Rattle.object_layout.specs.Content.{Content}
+use Rattle.object_layout.specs.ChunkValue.{ChunkValue}
 use Rattle.object_layout.specs.Place.{cell_at, put_cell, words_in}
 
 -- whether two addresses are one
@@ -10,59 +10,59 @@ abbrev pub same_address : Addr → Addr → Bool
 same_address a b = a.chunk == b.chunk && a.offset == b.offset
 
 -- no chunk: what stands past the end of a list
-abbrev pub no_chunk : Content
+abbrev pub no_chunk : ChunkValue
 no_chunk = record { number = 0; size = 0; cells = [] }
 
 -- the chunk at a place of the list
-abbrev pub chunk_at : List Content → ℕ → Content
+abbrev pub chunk_at : List ChunkValue → ℕ → ChunkValue
 chunk_at ks i = slice_index_or ks i no_chunk
 
 -- at which place the chunk of this number stands; the list's length where none has it
-abbrev pub place_of : List Content → ℕ → ℕ
+abbrev pub place_of : List ChunkValue → ℕ → ℕ
 place_of [] number = 0
 place_of (k ∷ ks) number = if k.number == number then 0 else 1 + place_of ks number
 
 -- the same; None where none has it
-abbrev pub place_in : List Content → ℕ → Option ℕ
+abbrev pub place_in : List ChunkValue → ℕ → Option ℕ
 place_in ks number = if nat_lt (place_of ks number) (length ks) then Some (place_of ks number) else None
 
 -- whether one of these chunks has this number
-abbrev pub has_chunk : List Content → ℕ → Bool
+abbrev pub has_chunk : List ChunkValue → ℕ → Bool
 has_chunk ks number = is_some (place_in ks number)
 
 -- none of these chunks has this number
-abbrev pub IsFresh : List Content → ℕ → Type 0
+abbrev pub IsFresh : List ChunkValue → ℕ → Type 0
 IsFresh ks number = place_in ks number ≡ None
 
 -- no two of these chunks have one number
-abbrev pub AreApart : List Content → Type 0
+abbrev pub AreApart : List ChunkValue → Type 0
 AreApart [] = Unit {0}
 AreApart (k ∷ ks) = IsFresh ks k.number × AreApart ks
 
 -- what begins at an address: an object or a hole; no object where none does
-abbrev pub cell_of : List Content → Addr → Cell
+abbrev pub cell_of : List ChunkValue → Addr → Cell
 cell_of [] a = no_cell
 cell_of (k ∷ ks) a = if k.number == a.chunk then cell_at k.cells a.offset else cell_of ks a
 
 -- the object at an address; no object in a hole too
-abbrev pub object_of : List Content → Addr → Cell
+abbrev pub object_of : List ChunkValue → Addr → Cell
 object_of ks a = as_object (cell_of ks a)
 
 -- the chunk with another cell at an offset
-abbrev pub with_cell : Content → ℕ → Cell → Content
+abbrev pub with_cell : ChunkValue → ℕ → Cell → ChunkValue
 with_cell k at d = record k { cells = put_cell k.cells at d }
 
 -- the chunks with another cell at an address
-abbrev pub put_object : List Content → Addr → Cell → List Content
+abbrev pub put_object : List ChunkValue → Addr → Cell → List ChunkValue
 put_object [] a d = []
 put_object (k ∷ ks) a d = if k.number == a.chunk then with_cell k a.offset d ∷ ks else k ∷ put_object ks a d
 
 -- the chunks with one object more behind those of the chunk at a place
-abbrev pub push_object : List Content → ℕ → Cell → List Content
+abbrev pub push_object : List ChunkValue → ℕ → Cell → List ChunkValue
 push_object ks i c = slice_set ks i (record (chunk_at ks i) { cells = (chunk_at ks i).cells ++ c ∷ [] })
 
 -- where that object lies
-abbrev pub next_address : Content → Addr
+abbrev pub next_address : ChunkValue → Addr
 next_address k = record { chunk = k.number; offset = words_in k.cells }
 
 -- the words of an object; none of a hole
@@ -76,7 +76,7 @@ abbrev pub held_in : List Cell → ℕ
 held_in [] = 0
 held_in (c ∷ cs) = held_size c.mark (size_of c) + held_in cs
 
-abbrev pub held_words : List Content → ℕ
+abbrev pub held_words : List ChunkValue → ℕ
 held_words [] = 0
 held_words (k ∷ ks) = held_in k.cells + held_words ks
 
@@ -85,7 +85,7 @@ abbrev pub sum_in : (ℕ → ℕ) → List Cell → ℕ
 sum_in size [] = 0
 sum_in size (c ∷ cs) = held_size c.mark (size (size_of c)) + sum_in size cs
 
-abbrev pub sum_of : (ℕ → ℕ) → List Content → ℕ
+abbrev pub sum_of : (ℕ → ℕ) → List ChunkValue → ℕ
 sum_of size [] = 0
 sum_of size (k ∷ ks) = sum_in size k.cells + sum_of size ks
 
@@ -93,7 +93,7 @@ sum_of size (k ∷ ks) = sum_in size k.cells + sum_of size ks
 abbrev pub one_each : ℕ → ℕ
 one_each n = 1
 
-abbrev pub object_count : List Content → ℕ
+abbrev pub object_count : List ChunkValue → ℕ
 object_count ks = sum_of one_each ks
 
 -- the words of a small object, which has at most 1,024; none of a large one
@@ -101,5 +101,5 @@ abbrev pub small_part : ℕ → ℕ
 small_part n = if nat_le n 1024 then n else 0
 
 -- the words of all small objects
-abbrev pub small_words : List Content → ℕ
+abbrev pub small_words : List ChunkValue → ℕ
 small_words ks = sum_of small_part ks

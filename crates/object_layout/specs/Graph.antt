@@ -2,22 +2,22 @@
 use Rattle.std.specs.Prelude.{◌<◌, List, Option, Some, None, All, Contains, length}
 use Rattle.object_layout.specs.declared.word.Addr.{Addr}
 use Rattle.object_layout.specs.Cell.{IsBorn}
-use Rattle.object_layout.specs.Content.{Content}
+use Rattle.object_layout.specs.ChunkValue.{ChunkValue}
 use Rattle.object_layout.specs.Chunks.{cell_of, place_of}
 
 -- an object that bears its birth name lies at this address of the heap
-abbrev pub IsHeld : List Content → Addr → Type 0
+abbrev pub IsHeld : List ChunkValue → Addr → Type 0
 IsHeld h a = IsBorn (cell_of h a).mark
 
 -- a reference into the heap leads to an object there, at a place that a word can hold
-abbrev pub IsSound : List Content → Option Addr → Type 0
+abbrev pub IsSound : List ChunkValue → Option Addr → Type 0
 IsSound h None = Unit {0}
 IsSound h (Some a) = place_of h a.chunk < length h → IsHeld h a × (a.offset < 1024)
 
 -- each reference of each object of the heap does
-abbrev pub IsClosed : List Content → Type 0
+abbrev pub IsClosed : List ChunkValue → Type 0
 IsClosed h = (b : Addr) → IsHeld h b → All (IsSound h) (cell_of h b).refs
 
 -- the object at b refers to that at a
-abbrev pub Leads : List Content → Addr → Addr → Type 0
+abbrev pub Leads : List ChunkValue → Addr → Addr → Type 0
 Leads h b a = IsHeld h b × IsHeld h a × Contains (cell_of h b).refs (Some a)

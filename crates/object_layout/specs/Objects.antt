@@ -5,7 +5,7 @@ use Rattle.object_layout.specs.declared.word.Addr.{Addr}
 use Rattle.object_layout.specs.declared.word.Birth.{Birth}
 use Rattle.object_layout.specs.Cell.{Born, Cell, Hole, Mark, Moved, size_of, with_mark}
 use Rattle.object_layout.specs.Chunks.{same_address}
-use Rattle.object_layout.specs.Content.{Content}
+use Rattle.object_layout.specs.ChunkValue.{ChunkValue}
 
 -- an object: where it lies, its birth name, whether it is mutable, its references and its numbers
 pub record Located : Type 0 where
@@ -31,10 +31,10 @@ objects_from number at [] = []
 objects_from number at (c ∷ cs) = located_by number at c c.mark (objects_from number (at + size_of c) cs)
 
 -- the objects of a chunk, and of a list of chunks
-abbrev pub objects_of : Content → List Located
+abbrev pub objects_of : ChunkValue → List Located
 objects_of k = objects_from k.number 0 k.cells
 
-abbrev pub objects_in : List Content → List Located
+abbrev pub objects_in : List ChunkValue → List Located
 objects_in ks = flat_map objects_of ks
 
 -- ---- what changes make of them
@@ -50,7 +50,7 @@ changed_at a d o = if same_address o.at a then with_fields d o else o
 abbrev pub led : (Option Addr → Option Addr) → Cell → Cell
 led f c = record c { refs = map f c.refs }
 
-abbrev pub led_chunk : (Option Addr → Option Addr) → Content → Content
+abbrev pub led_chunk : (Option Addr → Option Addr) → ChunkValue → ChunkValue
 led_chunk f k = record k { cells = map (led f) k.cells }
 
 abbrev pub led_object : (Option Addr → Option Addr) → Located → Located
@@ -66,5 +66,5 @@ abbrev pub sifted_cells : (Addr → Bool) → ℕ → ℕ → List Cell → List
 sifted_cells keep number at [] = []
 sifted_cells keep number at (c ∷ cs) = swept_cell (keep (record { chunk = number; offset = at })) c ∷ sifted_cells keep number (at + size_of c) cs
 
-abbrev pub sifted : (Addr → Bool) → Content → Content
+abbrev pub sifted : (Addr → Bool) → ChunkValue → ChunkValue
 sifted keep k = record k { cells = sifted_cells keep k.number 0 k.cells }

@@ -1,7 +1,7 @@
 -- The immutable objects of a chunk, each with where it begins.
 use Rattle.std.specs.Prelude.{ℕ, ◌+◌, ◌==◌, Bool, false, not, List, [], ◌∷◌, Option, Some, None, if◌then◌else◌, map}
 use Rattle.object_layout.specs.Cell.{Born, Cell, Hole, Mark, Moved, no_cell, size_of}
-use Rattle.object_layout.specs.Content.{Content}
+use Rattle.object_layout.specs.ChunkValue.{ChunkValue}
 
 -- what bears its birth name is immutable unless it may be written
 abbrev pub lasts : Mark → Bool → Bool
@@ -19,11 +19,11 @@ frozen_from at [] = []
 frozen_from at (c ∷ cs) = if is_frozen c then (at, c) ∷ frozen_from (at + size_of c) cs else frozen_from (at + size_of c) cs
 
 -- the immutable objects of a chunk, and the chunk's number
-pub record Frozen : Type 0 where
+pub record PieceValue : Type 0 where
   pub number : ℕ
   pub objects : List (ℕ × Cell)
 
-abbrev pub frozen_of : Content → Frozen
+abbrev pub frozen_of : ChunkValue → PieceValue
 frozen_of k = record { number = k.number; objects = frozen_from 0 k.cells }
 
 -- where the immutable objects of these cells begin, the first cell at an offset

@@ -28,9 +28,9 @@ pub struct Chunk {
 
 impl Model for Chunk {
     ghost use Rattle.std.specs.Prelude.{length};
-    ghost use Rattle.object_layout.specs.Content.{Content, HoldsCells, cells_in};
+    ghost use Rattle.object_layout.specs.ChunkValue.{ChunkValue, HoldsCells, cells_in};
 
-    ghost Value = { Content };
+    ghost Value = { ChunkValue };
 
     ghost view = { λ c. record { number = c.number; size = length c.words.items; cells = cells_in c.words.items c.used } };
 

@@ -21,9 +21,9 @@ pub struct Piece {
 
 impl Model for Piece {
     ghost use Rattle.std.specs.Prelude.{◌≡◌};
-    ghost use Rattle.object_layout.specs.Piece.{Frozen, frozen_of, starts_in};
+    ghost use Rattle.object_layout.specs.Piece.{PieceValue, frozen_of, starts_in};
 
-    ghost Value = { Frozen };
+    ghost Value = { PieceValue };
 
     ghost view = { λ p. frozen_of p.chunk };
 

@@ -9,8 +9,8 @@ use Rattle.hh_model.specs.declared.data.Task.{Task}
 use Rattle.hh_model.specs.Step.{fetched}
 use Rattle.run_ledger.specs.Steps.{task_steps}
 use Rattle.task_machine.specs.declared.part.Private.{Private}
-use Rattle.shared_value.specs.World.{World, accounts}
-use Rattle.shared_value.specs.Stands.{IsWorld}
+use Rattle.shared_value.specs.SharedValue.{SharedValue, accounts}
+use Rattle.shared_value.specs.Stands.{IsSharedValue}
 use Rattle.shared_value.specs.Fits.{Fits}
 use Rattle.shared_value.specs.Next.{is_beyond, is_beyond_by, is_beyond_line, is_joint, next_line}
 use Rattle.shared_value.proofs.PartFitsMachine as link
@@ -28,7 +28,7 @@ right_of : (a b : Bool) → a ≡ false → (a || b) ≡ true → b ≡ true
 right_of true b e h = absurd cc
 right_of false b e h = h
 
-module _ (w : World) (k : ℕ) (p : Private) (I : IsWorld w) (F : Fits w k p) (shared : IsShared w p) (on : (accounts w).end ≡ None) where
+module _ (w : SharedValue) (k : ℕ) (p : Private) (I : IsSharedValue w) (F : Fits w k p) (shared : IsShared w p) (on : (accounts w).end ≡ None) where
   abbrev t : ℕ
   t = p.task
 

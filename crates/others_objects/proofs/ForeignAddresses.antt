@@ -9,12 +9,12 @@ use Rattle.object_layout.specs.declared.word.Addr.{Addr}
 use Rattle.object_layout.specs.Chunks.{same_address}
 use Rattle.object_layout.specs.References.{same_reference}
 use Rattle.object_layout.specs.Objects.{Located}
-use Rattle.ledger_steps.specs.Accounts.{Rests, own}
-use Rattle.core_relation.specs.Value.{Lies, Value, object_name}
+use Rattle.ledger_step_laws.specs.Accounts.{Rests, own}
+use Rattle.core_relation.specs.Memory.{Lies, Memory, object_name}
 use Rattle.core_relation.specs.Reads.{Reads}
 use Rattle.core_relation.specs.Stands.{Place, Stands}
 
-module _ (v : Value) (l : Ledger) (W : Stands v l) where
+module _ (v : Memory) (l : Ledger) (W : Stands v l) where
   -- the second name's owner rests
   module _ (n m : Name) (a b : Addr) (P : Place v l n a) (Q : Place v l m b) (rests : Rests l (own l m)) where
     there : Lies (v.homes (own l m)).chunks m b

@@ -17,8 +17,8 @@ use Rattle.object_layout.specs.declared.word.Birth.{Birth}
 use Rattle.object_layout.specs.Cell.{Born, Cell}
 use Rattle.object_layout.specs.Chunks.{cell_of}
 use Rattle.object_layout.specs.Objects.{Located}
-use Rattle.ledger_steps.specs.Accounts.{Rests, own, rested}
-use Rattle.core_relation.specs.Value.{Home, In, Lies, Value, objects, objects_in}
+use Rattle.ledger_step_laws.specs.Accounts.{Rests, own, rested}
+use Rattle.core_relation.specs.Memory.{Home, In, Lies, Memory, objects, objects_in}
 use Rattle.core_relation.specs.Fits.{with_home}
 use Rattle.core_relation.specs.Reads.{AllRead, FrameIsRead, FramesAreRead, HoldsRead, Reads}
 use Rattle.core_relation.specs.Stands.{Place}
@@ -29,9 +29,9 @@ use Rattle.task_machine.specs.Plan.{int_of, ref_of}
 use Rattle.shared_value.specs.declared.task_at_rest.Rest.{Rest}
 use Rattle.shared_value.specs.declared.task_at_rest.Work.{Work}
 use Rattle.shared_value.specs.declared.task_at_rest.Work.TheVariants.{Calls, Result}
-use Rattle.shared_value.specs.World.{World, accounts, frames_of, home_by, home_in, rest_at, value_of}
+use Rattle.shared_value.specs.SharedValue.{SharedValue, accounts, frames_of, home_by, home_in, rest_at, value_of}
 use Rattle.shared_value.specs.Objects.{chunks_of}
-use Rattle.shared_value.specs.Stands.{IsWorld}
+use Rattle.shared_value.specs.Stands.{IsSharedValue}
 use Rattle.shared_value.specs.Fits.{Fits, home_of_part}
 use Rattle.shared_value.proofs.CellsRead.{seen_object}
 use Rattle.shared_value.proofs.PartFitsMachine as link
@@ -56,7 +56,7 @@ rest_chunks r (Calls s) = refl
 rest_chunks r (Result k b) = refl
 
 -- THE OBJECT of a name, which lies at an address in the heap of another task, above this one; no worker holds that task
-pub record IsForeign (w : World) (v : Value) (l : Ledger) (t : ℕ) (n : Name) (a : Addr) : Type 0 where
+pub record IsForeign (w : SharedValue) (v : Memory) (l : Ledger) (t : ℕ) (n : Name) (a : Addr) : Type 0 where
   pub apart : own l n ≡ t → ⊥
   pub above : is_on_path l.machine.tasks (own l n) t ≡ true
   pub place : Place v l n a
@@ -71,20 +71,20 @@ pub record IsForeign (w : World) (v : Value) (l : Ledger) (t : ℕ) (n : Name) (
   pub refs : AllRead (Place v l) (cell_of rest.heap.chunks a).refs object.refs
   pub ints : (cell_of rest.heap.chunks a).ints ≡ object.ints
 
-module _ (w : World) (k : ℕ) (p : Private) (I : IsWorld w) (F : Fits w k p) (on : (accounts w).end ≡ None) where
+module _ (w : SharedValue) (k : ℕ) (p : Private) (I : IsSharedValue w) (F : Fits w k p) (on : (accounts w).end ≡ None) where
   abbrev t : ℕ
   t = p.task
 
   abbrev l : Ledger
   l = accounts w
 
-  abbrev v : Value
+  abbrev v : Memory
   v = value_of w
 
   abbrev h : Home
   h = home_of_part p
 
-  abbrev v' : Value
+  abbrev v' : Memory
   v' = with_home v t h
 
   abbrev L : Ledger

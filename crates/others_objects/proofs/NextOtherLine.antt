@@ -19,20 +19,20 @@ use Rattle.run_ledger.specs.Steps.{owns, task_steps, touched}
 use Rattle.object_layout.specs.declared.word.Addr.{Addr}
 use Rattle.object_layout.specs.Cell.{Cell}
 use Rattle.object_layout.specs.Chunks.{cell_of, object_of}
-use Rattle.chunk_pool.specs.Chunks.{held_at, owner_of as pool_owner}
+use Rattle.chunk_pool.specs.PoolValue.{held_at, owner_of as pool_owner}
 use Rattle.chunk_pool.specs.declared.pool.Held.{Held}
 use Rattle.task_frames.specs.declared.frames.Frame.{Frame}
 use Rattle.write_barrier.specs.Stored.{IsOwned}
-use Rattle.ledger_steps.specs.Accounts.{own, rested}
-use Rattle.core_relation.specs.Value.{Value}
+use Rattle.ledger_step_laws.specs.Accounts.{own, rested}
+use Rattle.core_relation.specs.Memory.{Memory}
 use Rattle.core_relation.specs.Fits.{with_home}
 use Rattle.core_relation.specs.Stands.{Place}
 use Rattle.core_relation.proofs.notes.Roots.{name_at}
 use Rattle.task_machine.specs.declared.part.Private.{Private}
 use Rattle.task_machine.specs.Plan.{ref_of}
 use Rattle.task_machine.proofs.Owned.{born_is, born_object}
-use Rattle.shared_value.specs.World.{World, accounts, flat, value_of}
-use Rattle.shared_value.specs.Stands.{IsWorld}
+use Rattle.shared_value.specs.SharedValue.{SharedValue, accounts, flat, value_of}
+use Rattle.shared_value.specs.Stands.{IsSharedValue}
 use Rattle.shared_value.specs.Fits.{Fits, home_of_part}
 use Rattle.shared_value.specs.Next.{next_line}
 use Rattle.shared_value.specs.declared.task_at_rest.Rest.{Rest}
@@ -83,14 +83,14 @@ some_flat : (o : Option (Option Rest)) (r : Rest) → flat o ≡ Some r → o �
 some_flat None r e = absurd cc
 some_flat (Some q) r e = ap Some e
 
-module _ (w : World) (k : ℕ) (p : Private) (I : IsWorld w) (F : Fits w k p) (shared : IsShared w p) (other : IsOther w p) (on : (accounts w).end ≡ None) where
+module _ (w : SharedValue) (k : ℕ) (p : Private) (I : IsSharedValue w) (F : Fits w k p) (shared : IsShared w p) (other : IsOther w p) (on : (accounts w).end ≡ None) where
   abbrev pub t : ℕ
   t = p.task
 
   abbrev pub l : Ledger
   l = accounts w
 
-  abbrev pub v' : Value
+  abbrev pub v' : Memory
   v' = with_home (value_of w) t (home_of_part p)
 
   abbrev pub M : Ledger

@@ -12,13 +12,13 @@ use Rattle.object_layout.specs.declared.word.Birth.{Birth}
 use Rattle.object_layout.specs.Cell.{Cell, size_of}
 use Rattle.object_layout.specs.Chunks.{cell_of}
 use Rattle.object_layout.specs.Objects.{Located, located, with_fields}
-use Rattle.alloc_path.specs.Heap.{Heap, room_of}
+use Rattle.alloc_path.specs.LeafHeapValue.{LeafHeapValue, room_of}
 use Rattle.alloc_path.specs.View.{Level}
 use Rattle.task_frames.specs.declared.frames.Frame.{Frame}
 use Rattle.remembered_set.specs.declared.remembered.Source.{Source}
 use Rattle.write_barrier.specs.declared.sets.SetOf.{SetOf}
-use Rattle.ledger_steps.specs.Accounts.{Rests, own, rested}
-use Rattle.core_relation.specs.Value.{Chunk, Home, In, Value, mapped_chunk, object_name, objects, objects_in, put_at, sources}
+use Rattle.ledger_step_laws.specs.Accounts.{Rests, own, rested}
+use Rattle.core_relation.specs.Memory.{Chunk, Home, In, Memory, mapped_chunk, object_name, objects, objects_in, put_at, sources}
 use Rattle.core_relation.specs.Changes.{WritesAt}
 use Rattle.core_relation.specs.Fits.{with_home}
 use Rattle.core_relation.specs.Layout.{words}
@@ -29,10 +29,10 @@ use Rattle.task_machine.specs.declared.part.Private.{Private}
 use Rattle.shared_value.specs.declared.task_at_rest.Rest.{Rest}
 use Rattle.shared_value.specs.declared.task_at_rest.Work.{Work}
 use Rattle.shared_value.specs.declared.task_at_rest.Work.TheVariants.{Calls, Result}
-use Rattle.shared_value.specs.World.{World, accounts, flat, home_by, home_in, home_of, no_home, rest_at, value_by, value_of, with_marks}
+use Rattle.shared_value.specs.SharedValue.{SharedValue, accounts, flat, home_by, home_in, home_of, no_home, rest_at, value_by, value_of, with_marks}
 use Rattle.shared_value.specs.Objects.{chunks_of}
 use Rattle.shared_value.specs.Measured.{AreMeasured, RestsAreMeasured}
-use Rattle.shared_value.specs.Stands.{HeapForm, IsWorld}
+use Rattle.shared_value.specs.Stands.{HeapForm, IsSharedValue}
 use Rattle.shared_value.specs.Fits.{Fits, home_of_part}
 use Rattle.shared_value.proofs.CellsRead.{seen_object}
 use Rattle.shared_value.proofs.PartFitsMachine as link
@@ -42,11 +42,11 @@ use Rattle.others_objects.specs.Other.{put_rest}
 use Rattle.others_objects.proofs.ForeignObject.{IsForeign}
 
 -- a home whose heap alone changes
-home_written : (h h' : Heap) (view : List Level) (count : ℕ) (x : Work) → room_of h' ≡ room_of h → h'.since ≡ h.since → home_by h' view count x ≡ record (home_by h view count x) { chunks = chunks_of h'.chunks }
+home_written : (h h' : LeafHeapValue) (view : List Level) (count : ℕ) (x : Work) → room_of h' ≡ room_of h → h'.since ≡ h.since → home_by h' view count x ≡ record (home_by h view count x) { chunks = chunks_of h'.chunks }
 home_written h h' view count (Calls s) er es = ap₂ (λ n m. record (home_by h view count (Calls s)) { chunks = chunks_of h'.chunks; room = n; since = m }) er es
 home_written h h' view count (Result k b) er es = ap₂ (λ n m. record (home_by h view count (Result k b)) { chunks = chunks_of h'.chunks; room = n; since = m }) er es
 
-chunks_are : (h : Heap) (view : List Level) (count : ℕ) (x : Work) → (home_by h view count x).chunks ≡ chunks_of h.chunks
+chunks_are : (h : LeafHeapValue) (view : List Level) (count : ℕ) (x : Work) → (home_by h view count x).chunks ≡ chunks_of h.chunks
 chunks_are h view count (Calls s) = refl
 chunks_are h view count (Result k b) = refl
 
@@ -57,7 +57,7 @@ resting l hs u = cond (is_none (heap_of l u).worker) (hs u) no_home
 pub resting_is : (l : Ledger) (hs : ℕ → Home) (u : ℕ) → Rests l u → resting l hs u ≡ hs u
 resting_is l hs u r = cond-true (is_none (heap_of l u).worker) (hs u) no_home (ap is_none r)
 
-module _ (w : World) (k : ℕ) (p : Private) (I : IsWorld w) (F : Fits w k p) (on : (accounts w).end ≡ None) where
+module _ (w : SharedValue) (k : ℕ) (p : Private) (I : IsSharedValue w) (F : Fits w k p) (on : (accounts w).end ≡ None) where
   abbrev pub t : ℕ
   t = p.task
 
@@ -71,7 +71,7 @@ module _ (w : World) (k : ℕ) (p : Private) (I : IsWorld w) (F : Fits w k p) (o
   L = rested (task_steps w.program l t p.fresh) t
 
   -- the value without the homes of those that workers hold
-  abbrev pub v0 : Value
+  abbrev pub v0 : Memory
   v0 = record (value_of w) { homes = resting l (value_of w).homes }
 
   module _ (n : Name) (a : Addr) (O : IsForeign w (with_home (value_of w) t h) L t n a) where
@@ -111,10 +111,10 @@ module _ (w : World) (k : ℕ) (p : Private) (I : IsWorld w) (F : Fits w k p) (o
       abbrev pub homes : List (Option Rest)
       homes = slice_set w.homes u (Some r')
 
-      abbrev pub v' : Value
+      abbrev pub v' : Memory
       v' = with_marks w.marks (value_by homes sets w.pool)
 
-      abbrev pub v1 : Value
+      abbrev pub v1 : Memory
       v1 = record v' { homes = resting l v'.homes }
 
       abbrev pub q : Private
@@ -182,10 +182,10 @@ module _ (w : World) (k : ℕ) (p : Private) (I : IsWorld w) (F : Fits w k p) (o
         | inr nu ↦ home_other z nt nu e
       ]
 
-      abbrev old : Value
+      abbrev old : Memory
       old = with_home v0 t h
 
-      abbrev new : Value
+      abbrev new : Memory
       new = with_home v1 t g
 
       pub home_off : (z : ℕ) → (z ≡ t → ⊥) → new.homes z ≡ changed (old.homes z)

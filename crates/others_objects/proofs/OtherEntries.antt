@@ -1,7 +1,7 @@
 -- Entries of a part's fresh steps and one that works on an object of another task, as the calls have them.
 use Rattle.std.proofs.Common.{◌≡◌, ℕ, ℤ, suc, ◌+◌, ◌++◌, arith, Option, Some, None, ◌∷◌, [], refl, ap, sym, subst, ◌∙◌}
 use Rattle.std.proofs.lemmas.Option.{same_Some}
-use Rattle.listed.specs.Space.{Space}
+use Rattle.listed.specs.RoomyValue.{RoomyValue}
 use Rattle.hh_lang.specs.declared.program.Line.{Line}
 use Rattle.hh_model.specs.declared.data.Frame.{Frame as ModelFrame}
 use Rattle.hh_model.specs.declared.data.Name.{Name}
@@ -9,19 +9,19 @@ use Rattle.hh_model.specs.declared.data.Task.{Task}
 use Rattle.hh_model.specs.Effect.{onward, with_int, with_ref}
 use Rattle.hh_model.specs.Step.{fetched}
 use Rattle.run_trace.specs.declared.entry.Kind.TheVariants.{Ran}
-use Rattle.run_trace.specs.Entry.{Event}
+use Rattle.run_trace.specs.Entry.{EntryValue}
 use Rattle.run_ledger.specs.declared.data.Ledger.{Ledger}
 use Rattle.run_ledger.specs.Steps.{task_steps}
 use Rattle.object_layout.specs.declared.word.Addr.{Addr}
 use Rattle.task_frames.specs.declared.frames.Frame.{Frame}
-use Rattle.task_frames.specs.Stack.{with_int as with_number, with_next, with_reference}
-use Rattle.ledger_steps.specs.Last.{Splits}
+use Rattle.task_frames.specs.FramesValue.{with_int as with_number, with_next, with_reference}
+use Rattle.ledger_step_laws.specs.Last.{Splits}
 use Rattle.core_relation.specs.Reads.{FrameIsRead}
 use Rattle.core_relation.proofs.objects.Carry.{all_set}
 use Rattle.core_relation.proofs.changes.Store.{goes_on}
 use Rattle.task_machine.specs.declared.part.Private.{Private}
-use Rattle.shared_value.specs.World.{World, accounts}
-use Rattle.shared_value.specs.Stands.{IsWorld}
+use Rattle.shared_value.specs.SharedValue.{SharedValue, accounts}
+use Rattle.shared_value.specs.Stands.{IsSharedValue}
 use Rattle.shared_value.specs.Fits.{Fits, OthersFit}
 use Rattle.shared_value.specs.Entered.{refused}
 use Rattle.own_steps.specs.Alone.{GoesAlone, IsShared, alone_event}
@@ -33,7 +33,7 @@ use Rattle.others_objects.specs.declared.other.OtherStep.TheVariants.{SetsNumber
 use Rattle.others_objects.specs.Other.{ReadsTo, SaysOther, TellsOther, then_places}
 use Rattle.others_objects.proofs.ReadEntered.{read_goes, read_others, read_part, read_world}
 
-module _ (w : World) (k : ℕ) (p : Private) (I : IsWorld w) (F : Fits w k p) (shared : IsShared w p) (free : refused w (alone_event k p) ≡ None) where
+module _ (w : SharedValue) (k : ℕ) (p : Private) (I : IsSharedValue w) (F : Fits w k p) (shared : IsShared w p) (free : refused w (alone_event k p) ≡ None) where
   more : suc p.fresh ≡ p.fresh + 1
   more = omega arith
 
@@ -62,47 +62,47 @@ module _ (w : World) (k : ℕ) (p : Private) (I : IsWorld w) (F : Fits w k p) (s
       fetched_of x = fetched w.program x.top
 
   -- A READ
-  module _ (top : ModelFrame) (T : ReadsTo M.machine t S.task S.line top) (g : Frame) (read : FrameIsRead (then_places w p) p.frames.top S.task.top → FrameIsRead (then_places w p) g top) (j : Space Event) where
-    abbrev read_entered : World
+  module _ (top : ModelFrame) (T : ReadsTo M.machine t S.task S.line top) (g : Frame) (read : FrameIsRead (then_places w p) p.frames.top S.task.top → FrameIsRead (then_places w p) g top) (j : RoomyValue EntryValue) where
+    abbrev read_entered : SharedValue
     read_entered = record w { steps = w.steps + (p.fresh + 1); journal = record { items = w.journal.items ++ alone_event k p ∷ []; room = j.room } }
 
     abbrev read_to : Private
     read_to = record p { frames = record { below = p.frames.below; top = g }; fresh = 0 }
 
     read_is : record w { steps = w.steps + suc p.fresh; journal = record { items = w.journal.items ++ last_event k p ∷ []; room = j.room } } ≡ read_entered
-    read_is = ap (λ n. let z : World = record w { steps = w.steps + n; journal = record { items = w.journal.items ++ record { worker = k; kind = Ran p.task n } ∷ []; room = j.room } } in z) more
+    read_is = ap (λ n. let z : SharedValue = record w { steps = w.steps + n; journal = record { items = w.journal.items ++ record { worker = k; kind = Ran p.task n } ∷ []; room = j.room } } in z) more
 
-    read_world_so : IsWorld read_entered
-    read_world_so = subst IsWorld read_is (read_world w k p I F shared free_so top T g read j)
+    read_world_so : IsSharedValue read_entered
+    read_world_so = subst IsSharedValue read_is (read_world w k p I F shared free_so top T g read j)
 
     read_goes_so : GoesAlone w read_entered k p read_to
     read_goes_so = record {
       enters = record { journal = refl; program = refl; settings = refl; halted = refl };
-      goes = subst (λ (z : World). (accounts z).end ≡ None) read_is (read_goes w k p I F shared free_so top T g read j);
-      fits = subst (λ (z : World). Fits z k read_to) read_is (read_part w k p I F shared free_so top T g read j);
+      goes = subst (λ (z : SharedValue). (accounts z).end ≡ None) read_is (read_goes w k p I F shared free_so top T g read j);
+      fits = subst (λ (z : SharedValue). Fits z k read_to) read_is (read_part w k p I F shared free_so top T g read j);
       part = refl;
-      others = subst (λ (z : World). OthersFit w z k) read_is (read_others w k p I F shared free_so top T g read j);
+      others = subst (λ (z : SharedValue). OthersFit w z k) read_is (read_others w k p I F shared free_so top T g read j);
     }
 
   -- of a number
-  module _ (d : ℕ) (z : ℤ) (line : ℕ) (T : TellsOther w p (SetsNumber d z) line) (j : Space Event) where
+  module _ (d : ℕ) (z : ℤ) (line : ℕ) (T : TellsOther w p (SetsNumber d z) line) (j : RoomyValue EntryValue) where
     number_read : FrameIsRead (then_places w p) p.frames.top S.task.top → FrameIsRead (then_places w p) (with_next (with_number p.frames d z) (p.frames.top.next + 1)).top (onward (with_int S.task.top d z))
     number_read h = goes_on (then_places w p) (Some (d, z)) p.frames.top S.task.top h
 
     abbrev number_part : Private
     number_part = record p { frames = with_next (with_number p.frames d z) (p.frames.top.next + 1); fresh = 0 }
 
-    abbrev number_after : World
+    abbrev number_after : SharedValue
     number_after = record w { steps = w.steps + (p.fresh + 1); journal = record { items = w.journal.items ++ alone_event k p ∷ []; room = j.room } }
 
-    pub number_world : IsWorld number_after
+    pub number_world : IsSharedValue number_after
     number_world = read_world_so (onward (with_int S.task.top d z)) (said (SetsNumber d z) line T).1 (with_next (with_number p.frames d z) (p.frames.top.next + 1)).top number_read j
 
     pub number_goes : GoesAlone w number_after k p number_part
     number_goes = read_goes_so (onward (with_int S.task.top d z)) (said (SetsNumber d z) line T).1 (with_next (with_number p.frames d z) (p.frames.top.next + 1)).top number_read j
 
   -- of a reference
-  module _ (d : ℕ) (r : Option Addr) (line : ℕ) (T : TellsOther w p (SetsReference d r) line) (j : Space Event) where
+  module _ (d : ℕ) (r : Option Addr) (line : ℕ) (T : TellsOther w p (SetsReference d r) line) (j : RoomyValue EntryValue) where
     abbrev name : Option Name
     name = (said (SetsReference d r) line T).1.0
 
@@ -117,10 +117,10 @@ module _ (w : World) (k : ℕ) (p : Private) (I : IsWorld w) (F : Fits w k p) (s
     abbrev reference_part : Private
     reference_part = record p { frames = with_next (with_reference p.frames d r) (p.frames.top.next + 1); fresh = 0 }
 
-    abbrev reference_after : World
+    abbrev reference_after : SharedValue
     reference_after = record w { steps = w.steps + (p.fresh + 1); journal = record { items = w.journal.items ++ alone_event k p ∷ []; room = j.room } }
 
-    pub reference_world : IsWorld reference_after
+    pub reference_world : IsSharedValue reference_after
     reference_world = read_world_so (onward (with_ref S.task.top d name)) (said (SetsReference d r) line T).1.1 (with_next (with_reference p.frames d r) (p.frames.top.next + 1)).top reference_read j
 
     pub reference_goes : GoesAlone w reference_after k p reference_part

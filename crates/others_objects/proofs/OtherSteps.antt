@@ -28,17 +28,17 @@ use Rattle.object_layout.specs.Cell.{Cell}
 use Rattle.object_layout.specs.Chunks.{cell_of}
 use Rattle.object_layout.specs.References.{same_reference}
 use Rattle.heap_tree.specs.Node.{is_on_path as tree_path}
-use Rattle.ledger_steps.specs.Accounts.{Rests, own, rested}
-use Rattle.ledger_steps.specs.Last.{JustReads}
-use Rattle.core_relation.specs.Value.{In, Value}
+use Rattle.ledger_step_laws.specs.Accounts.{Rests, own, rested}
+use Rattle.ledger_step_laws.specs.Last.{JustReads}
+use Rattle.core_relation.specs.Memory.{In, Memory}
 use Rattle.core_relation.specs.Fits.{with_home}
 use Rattle.core_relation.specs.Reads.{Reads}
 use Rattle.core_relation.specs.Stands.{Place}
 use Rattle.core_relation.proofs.objects.Carry.{field_of}
 use Rattle.task_machine.specs.declared.part.Private.{Private}
 use Rattle.task_machine.specs.Plan.{int_of, ref_of}
-use Rattle.shared_value.specs.World.{World, accounts, value_of}
-use Rattle.shared_value.specs.Stands.{IsWorld}
+use Rattle.shared_value.specs.SharedValue.{SharedValue, accounts, value_of}
+use Rattle.shared_value.specs.Stands.{IsSharedValue}
 use Rattle.shared_value.specs.Fits.{Fits, home_of_part}
 use Rattle.shared_value.proofs.PartFitsMachine as link
 use Rattle.others_objects.specs.declared.other.OtherStep.{OtherStep}
@@ -48,14 +48,14 @@ use Rattle.others_objects.proofs.ForeignObject.{IsForeign, holds, number_at, rea
 use Rattle.others_objects.proofs.TreePaths.{paths_same}
 use Rattle.others_objects.proofs.ForeignAddresses.{tests_same}
 
-module _ (w : World) (k : ℕ) (p : Private) (I : IsWorld w) (F : Fits w k p) (on : (accounts w).end ≡ None) where
+module _ (w : SharedValue) (k : ℕ) (p : Private) (I : IsSharedValue w) (F : Fits w k p) (on : (accounts w).end ≡ None) where
   abbrev t : ℕ
   t = p.task
 
   abbrev l : Ledger
   l = accounts w
 
-  abbrev v' : Value
+  abbrev v' : Memory
   v' = with_home (value_of w) t (home_of_part p)
 
   abbrev L : Ledger

@@ -1,19 +1,19 @@
 -- A read of an object of another task is entered.
 use Rattle.std.proofs.Common.{◌≡◌, ℕ, suc, ◌+◌, Some, None, List, slice_get, slice_set, refl, ap, sym, ◌∙◌}
 use Rattle.listed.proofs.Members.{got_same}
-use Rattle.listed.specs.Space.{Space}
+use Rattle.listed.specs.RoomyValue.{RoomyValue}
 use Rattle.hh_model.specs.declared.data.Frame.{Frame as ModelFrame}
 use Rattle.hh_model.specs.declared.data.Object.{Object}
 use Rattle.hh_model.specs.declared.data.State.{State}
 use Rattle.hh_model.specs.declared.data.Task.{Task}
 use Rattle.hh_model.specs.Effect.{Effect, Goes}
 use Rattle.hh_model.specs.Step.{follow, runs}
-use Rattle.run_trace.specs.Entry.{Event}
+use Rattle.run_trace.specs.Entry.{EntryValue}
 use Rattle.run_ledger.specs.declared.data.Ledger.{Ledger}
 use Rattle.run_ledger.specs.Steps.{task_steps}
 use Rattle.task_frames.specs.declared.frames.Frame.{Frame}
-use Rattle.ledger_steps.specs.Last.{Reading, ReadsOther, Runs, Splits, stepped_by}
-use Rattle.core_relation.specs.Value.{Home, Value}
+use Rattle.ledger_step_laws.specs.Last.{Reading, ReadsOther, Runs, Splits, stepped_by}
+use Rattle.core_relation.specs.Memory.{Home, Memory}
 use Rattle.core_relation.specs.Fits.{part_for}
 use Rattle.core_relation.specs.Makes.{StepsTo}
 use Rattle.core_relation.specs.RanCounts.{RanCounts}
@@ -24,8 +24,8 @@ use Rattle.core_relation.proofs.whole.RanWhole.{ran_stands_for}
 use Rattle.core_relation.proofs.parts.Sets.{frames_go}
 use Rattle.core_relation.proofs.parts.Workers.{ran_leaves}
 use Rattle.task_machine.specs.declared.part.Private.{Private}
-use Rattle.shared_value.specs.World.{World, accounts, totals_of, value_of}
-use Rattle.shared_value.specs.Stands.{IsWorld}
+use Rattle.shared_value.specs.SharedValue.{SharedValue, accounts, totals_of, value_of}
+use Rattle.shared_value.specs.Stands.{IsSharedValue}
 use Rattle.shared_value.specs.Fits.{Fits, OthersFit, home_of_part, part_of}
 use Rattle.shared_value.specs.Entered.{refused}
 use Rattle.shared_value.proofs.EntryMade.{entered, entered_world, held_apart, part_fits}
@@ -43,7 +43,7 @@ same_frame f g s r e = ap frame_in e
     frame_in (Goes z store) = z
     frame_in _ = f
 
-module _ (w : World) (k : ℕ) (p : Private) (I : IsWorld w) (F : Fits w k p) (shared : IsShared w p) (free : refused w (last_event k p) ≡ None) where
+module _ (w : SharedValue) (k : ℕ) (p : Private) (I : IsSharedValue w) (F : Fits w k p) (shared : IsShared w p) (free : refused w (last_event k p) ≡ None) where
   abbrev t : ℕ
   t = p.task
 
@@ -56,7 +56,7 @@ module _ (w : World) (k : ℕ) (p : Private) (I : IsWorld w) (F : Fits w k p) (s
   abbrev L : Ledger
   L = last.L w k p I F shared free
 
-  abbrev v : Value
+  abbrev v : Memory
   v = value_of w
 
   abbrev h : Home
@@ -102,17 +102,17 @@ module _ (w : World) (k : ℕ) (p : Private) (I : IsWorld w) (F : Fits w k p) (s
     goes_to : L ≡ stepped_by M (record M.machine { tasks = slice_set M.machine.tasks t z })
     goes_to = R.goes ∙ ap (λ (f : ModelFrame). stepped_by M (record M.machine { tasks = slice_set M.machine.tasks t (record S.task { top = f }) })) frame_is
 
-    module _ (j : Space Event) where
+    module _ (j : RoomyValue EntryValue) where
       abbrev steps : ℕ
       steps = w.steps + suc p.fresh
 
-      abbrev w' : World
+      abbrev w' : SharedValue
       w' = entered w (last_event k p) w.tree w.pool w.homes w.sets w.hands w.outputs steps w.end j.room
 
       counts : RanCounts w.program (totals_of w) (totals_of w') M L t k p.fresh S.task S.line Reading R
       counts = record { tree = λ u. refl; hand = λ u. refl; outputs = refl; end = refl; used = refl; steps = refl }
 
-      pub read_world : IsWorld w'
+      pub read_world : IsSharedValue w'
       read_world =
           entered_world w (last_event k p) I free w.tree w.pool w.homes w.sets w.hands w.outputs steps w.end j.room I.made I.noted refl refl
           (ran_stands_for w.program w.settings w.journal.items I.form I.legal v v (totals_of w) (totals_of w') k t p.fresh h free E I.stands own refl tt counts)

@@ -2,18 +2,18 @@
 use Rattle.std.proofs.Common.{◌≡◌, ℕ, List, length, slice_get, refl, ap, sym, subst, ◌∙◌}
 use Rattle.write_barrier.specs.declared.sets.SetOf.{SetOf}
 use Rattle.write_barrier.specs.Stored.{content_at}
-use Rattle.core_relation.specs.Value.{Value}
+use Rattle.core_relation.specs.Memory.{Memory}
 use Rattle.core_relation.specs.Whole.{StandsForAll}
 use Rattle.core_relation.specs.Worker.{Fits as FitsValue}
 use Rattle.task_machine.specs.declared.part.Private.{Private}
-use Rattle.shared_value.specs.World.{World, accounts, marks_at, noted_in, totals_of, value_of}
-use Rattle.shared_value.specs.Stands.{IsWorld}
+use Rattle.shared_value.specs.SharedValue.{SharedValue, accounts, marks_at, noted_in, totals_of, value_of}
+use Rattle.shared_value.specs.Stands.{IsSharedValue}
 use Rattle.shared_value.specs.Fits.{Fits, part_of}
 use Rattle.others_objects.specs.Other.{SameButRoom}
 use Rattle.others_objects.proofs.WriteNoted.{noted_is, noted_of}
 
-module _ (w : World) (sets : List SetOf) (many : length sets ≡ length w.sets) (same : (t : ℕ) → content_at sets t ≡ content_at w.sets t) where
-  abbrev roomier : World
+module _ (w : SharedValue) (sets : List SetOf) (many : length sets ≡ length w.sets) (same : (t : ℕ) → content_at sets t ≡ content_at w.sets t) where
+  abbrev roomier : SharedValue
   roomier = record w { sets = sets }
 
   noted_same : (t : ℕ) → noted_in (slice_get w.sets t) ≡ noted_in (slice_get sets t)
@@ -22,7 +22,7 @@ module _ (w : World) (sets : List SetOf) (many : length sets ≡ length w.sets) 
   value_same : value_of w ≡ value_of roomier
   value_same = λ i. record (value_of w) { noted = λ t. record (noted_same t i) { marked = marks_at w.marks t } }
 
-  pub roomier_world : IsWorld w → IsWorld roomier
+  pub roomier_world : IsSharedValue w → IsSharedValue roomier
   roomier_world I = record {
     limits = I.limits;
     form = I.form;
@@ -31,7 +31,7 @@ module _ (w : World) (sets : List SetOf) (many : length sets ≡ length w.sets) 
     noted = many ∙ I.noted;
     workers = I.workers;
     limit = I.limit;
-    stands = subst (λ (v : Value). StandsForAll v (totals_of w) (accounts w)) value_same I.stands;
+    stands = subst (λ (v : Memory). StandsForAll v (totals_of w) (accounts w)) value_same I.stands;
     heaps = I.heaps;
     measured = I.measured;
   }
@@ -39,7 +39,7 @@ module _ (w : World) (sets : List SetOf) (many : length sets ≡ length w.sets) 
   pub roomier_fit : (k : ℕ) (p : Private) → Fits w k p → Fits roomier k p
   roomier_fit k p F = record {
     held = F.held;
-    fits = subst (λ (v : Value). FitsValue w.program w.settings (part_of w.settings p) v (accounts w)) value_same F.fits;
+    fits = subst (λ (v : Memory). FitsValue w.program w.settings (part_of w.settings p) v (accounts w)) value_same F.fits;
     form = F.form;
     measured = F.measured;
     leaf_limit = F.leaf_limit;

@@ -4,13 +4,13 @@ use Rattle.hh_lang.specs.Form.{ProgramText}
 use Rattle.hh_model.specs.declared.data.End.{End}
 use Rattle.hh_model.specs.declared.data.State.{State}
 use Rattle.hh_model.specs.Step.{step}
-use Rattle.run_trace.specs.Settings.{Limits}
+use Rattle.run_trace.specs.Settings.{SettingsValue}
 use Rattle.run_ledger.specs.declared.data.Ledger.{Ledger}
 use Rattle.run_ledger.specs.Journals.{ledger_of}
 use Rattle.run_ledger.specs.Steps.{task_step, task_steps}
 use Rattle.run_ledger.proofs.Machine.{task_step_machine}
 use Rattle.run_ledger.proofs.Going.{machine_goes_on}
-use Rattle.shared_value.specs.World.{accounts}
+use Rattle.shared_value.specs.SharedValue.{accounts}
 use Rattle.shared_value.proofs.JournalGoesOn.{accounts_then}
 use Rattle.own_steps.specs.Alone.{alone_event, machine_after}
 use Rattle.own_steps.proofs.LastSteps.{machine_same}
@@ -29,7 +29,7 @@ stopped_reads w v k p q I F shared on G reader owner stop =
     let more : p.fresh + 1 ≡ suc p.fresh = omega arith in
     let journal : accounts v ≡ ledger_of w.program w.settings (w.journal.items ++ alone_event k p ∷ []) =
     ap (λ x. ledger_of x v.settings v.journal.items) G.enters.program
-    ∙ (ap (λ (s : Limits). ledger_of w.program s v.journal.items) G.enters.settings ∙ ap (ledger_of w.program w.settings) G.enters.journal) in
+    ∙ (ap (λ (s : SettingsValue). ledger_of w.program s v.journal.items) G.enters.settings ∙ ap (ledger_of w.program w.settings) G.enters.journal) in
     let then_ : accounts v ≡ task_step w.program (task_steps w.program l p.task p.fresh) p.task =
     journal ∙ (accounts_then w.program w.settings w.journal.items (alone_event k p) ∙ (ap (λ n. task_steps w.program l p.task n) more ∙ steps_last w.program p.task p.fresh l)) in
     let machine : (accounts v).machine ≡ step w.program (machine_after w p) p.task =

@@ -2,25 +2,25 @@
 use Rattle.std.proofs.Common.{◌≡◌, ℕ, ℤ, pos, ◌+◌, ◌<◌, ◌++◌, Option, Some, None, List, [], ◌∷◌, length, slice_get, slice_set, option_map, refl, ap, sym, subst, ◌∙◌}
 use Rattle.std.specs.Prelude.{IsSome, slice_index_or}
 use Rattle.std.proofs.lemmas.Option.{same_Some}
-use Rattle.listed.specs.Space.{Space}
+use Rattle.listed.specs.RoomyValue.{RoomyValue}
 use Rattle.hh_model.specs.declared.data.Frame.{Frame as ModelFrame}
 use Rattle.hh_model.specs.declared.data.Name.{Name}
 use Rattle.hh_model.specs.declared.data.Object.{Object}
 use Rattle.hh_model.specs.declared.data.Task.{Task}
 use Rattle.hh_model.specs.Effect.{ref_in}
-use Rattle.run_trace.specs.Entry.{Event}
+use Rattle.run_trace.specs.Entry.{EntryValue}
 use Rattle.run_ledger.specs.declared.data.Ledger.{Ledger}
 use Rattle.run_ledger.specs.Steps.{task_steps, touched}
 use Rattle.object_layout.specs.declared.word.Addr.{Addr}
 use Rattle.object_layout.specs.Cell.{Cell, IsPlace, with_int as cell_int, with_ref as cell_ref}
 use Rattle.object_layout.specs.Chunks.{cell_of, object_of}
-use Rattle.chunk_pool.specs.Chunks.{held_at, owner_of as pool_owner}
-use Rattle.task_frames.specs.Stack.{Stack}
+use Rattle.chunk_pool.specs.PoolValue.{held_at, owner_of as pool_owner}
+use Rattle.task_frames.specs.FramesValue.{FramesValue}
 use Rattle.write_barrier.specs.declared.sets.SetOf.{SetOf}
 use Rattle.write_barrier.specs.Stored.{IsOwned, content_after, content_at}
-use Rattle.ledger_steps.specs.Accounts.{own, rested}
-use Rattle.ledger_steps.specs.Last.{JustReads, Splits}
-use Rattle.core_relation.specs.Value.{Home, Value}
+use Rattle.ledger_step_laws.specs.Accounts.{own, rested}
+use Rattle.ledger_step_laws.specs.Last.{JustReads, Splits}
+use Rattle.core_relation.specs.Memory.{Home, Memory}
 use Rattle.core_relation.specs.Changes.{gone_on}
 use Rattle.core_relation.specs.Fits.{with_home}
 use Rattle.core_relation.specs.Makes.{StoresInto}
@@ -31,8 +31,8 @@ use Rattle.task_machine.specs.declared.part.Private.{Private}
 use Rattle.task_machine.specs.Plan.{ref_of}
 use Rattle.task_machine.proofs.Owned.{born_is, born_object}
 use Rattle.shared_value.specs.declared.task_at_rest.Rest.{Rest}
-use Rattle.shared_value.specs.World.{World, accounts, flat, rest_at, value_of}
-use Rattle.shared_value.specs.Stands.{IsWorld}
+use Rattle.shared_value.specs.SharedValue.{SharedValue, accounts, flat, rest_at, value_of}
+use Rattle.shared_value.specs.Stands.{IsSharedValue}
 use Rattle.shared_value.specs.Fits.{Fits, home_of_part}
 use Rattle.shared_value.specs.Entered.{refused}
 use Rattle.shared_value.proofs.PartFitsMachine as link
@@ -53,15 +53,15 @@ use Rattle.others_objects.proofs.StoreKinds.{Made, by_cas, by_putr, reads_cas, r
 abbrev pub flag_of : Option ℕ → Option (ℕ × ℤ)
 flag_of swap = option_map (λ d. let z : ℕ × ℤ = (d, pos 1) in z) swap
 
-store_top : (swap : Option ℕ) (s : Stack) → (store_frames swap s).top ≡ gone_on (flag_of swap) s.top
+store_top : (swap : Option ℕ) (s : FramesValue) → (store_frames swap s).top ≡ gone_on (flag_of swap) s.top
 store_top None s = refl
 store_top (Some d) s = refl
 
-store_below : (swap : Option ℕ) (s : Stack) → record { below = s.below; top = (store_frames swap s).top } ≡ store_frames swap s
+store_below : (swap : Option ℕ) (s : FramesValue) → record { below = s.below; top = (store_frames swap s).top } ≡ store_frames swap s
 store_below None s = refl
 store_below (Some d) s = refl
 
-module _ (w : World) (k : ℕ) (p : Private) (I : IsWorld w) (F : Fits w k p) (shared : IsShared w p) (free : refused w (alone_event k p) ≡ None) where
+module _ (w : SharedValue) (k : ℕ) (p : Private) (I : IsSharedValue w) (F : Fits w k p) (shared : IsShared w p) (free : refused w (alone_event k p) ≡ None) where
   abbrev pub t : ℕ
   t = p.task
 
@@ -118,7 +118,7 @@ module _ (w : World) (k : ℕ) (p : Private) (I : IsWorld w) (F : Fits w k p) (s
       pub at : ref_of p.frames.top o ≡ Some a
       pub value : r ≡ ref_of p.frames.top b
       pub not : (f : ModelFrame) → JustReads S.task S.line.instr writes.object f → ⊥
-      pub pack : (y : Object) (v v' : Value) (C : StoresInto v v' M t h S.task y o j b (flag_of swap)) → StoresNotes (with_home v t h) (with_home v' t C.0) t C.4 C.1 → Made v v' M t h S.task y S.line.instr C.0
+      pub pack : (y : Object) (v v' : Memory) (C : StoresInto v v' M t h S.task y o j b (flag_of swap)) → StoresNotes (with_home v t h) (with_home v' t C.0) t C.4 C.1 → Made v v' M t h S.task y S.line.instr C.0
 
   store_is : (swap : Option ℕ) (a : Addr) (i : ℕ) (r : Option Addr) → SaysOther w.program (then_places w p) p M.machine t S.task S.line (store_of swap a i r) → IsStoreOf swap a i r
   store_is None a i r s = record {
@@ -205,7 +205,7 @@ module _ (w : World) (k : ℕ) (p : Private) (I : IsWorld w) (F : Fits w k p) (s
     abbrev pub IsNoted : List SetOf → Option Addr → Type 0
     IsNoted sets q = (z : ℕ) → content_at sets z ≡ option_map (content_after w.tree w.pool (record { object = a; field = i }) (slice_index_or (object_of foreign.rest.heap.chunks a).refs i None) q z) (content_at w.sets z)
 
-    abbrev pub after_store : List SetOf → Option Addr → Space Event → World
+    abbrev pub after_store : List SetOf → Option Addr → RoomyValue EntryValue → SharedValue
     after_store sets q space = record w {
       homes = slice_set w.homes owner (Some (put_rest foreign.rest a (cell_ref cell i q)));
       sets = sets;
@@ -213,20 +213,20 @@ module _ (w : World) (k : ℕ) (p : Private) (I : IsWorld w) (F : Fits w k p) (s
       journal = record { items = w.journal.items ++ alone_event k p ∷ []; room = space.room };
     }
 
-    module _ (sets : List SetOf) (many : length sets ≡ length w.sets) (C : IsNoted sets r) (space : Space Event) where
+    module _ (sets : List SetOf) (many : length sets ≡ length w.sets) (C : IsNoted sets r) (space : RoomyValue EntryValue) where
       noted_so : IsNoted sets (ref_of p.frames.top store.b)
       noted_so = subst (IsNoted sets) store.value C
 
-      pub store_world : IsWorld (after_store sets r space)
+      pub store_world : IsSharedValue (after_store sets r space)
       store_world =
-          subst (λ q. IsWorld (after_store sets q space)) (sym store.value)
+          subst (λ q. IsSharedValue (after_store sets q space)) (sym store.value)
           (stored.reference_world w k p I F shared free_so n store.writes.object store.touches store.writes.is store.writes.frame store.writes.store store.writes.does store.not store.o store.writes.named a store.at
           store.b store.j i (flag_of swap) store.writes.place store.pack (store_frames swap p.frames).top (store_top swap p.frames) sets many noted_so space)
 
       pub store_goes : GoesAlone w (after_store sets r space) k p part_after
       store_goes =
           subst (λ q. GoesAlone w (after_store sets q space) k p part_after) (sym store.value)
-          (subst (λ (s : Stack). GoesAlone w (after_store sets (ref_of p.frames.top store.b) space) k p (record p { frames = s; fresh = 0 })) (store_below swap p.frames)
+          (subst (λ (s : FramesValue). GoesAlone w (after_store sets (ref_of p.frames.top store.b) space) k p (record p { frames = s; fresh = 0 })) (store_below swap p.frames)
           (stored.reference_goes w k p I F shared free_so n store.writes.object store.touches store.writes.is store.writes.frame store.writes.store store.writes.does store.not store.o store.writes.named a store.at
           store.b store.j i (flag_of swap) store.writes.place store.pack (store_frames swap p.frames).top (store_top swap p.frames) sets many noted_so space))
 
@@ -275,20 +275,20 @@ module _ (w : World) (k : ℕ) (p : Private) (I : IsWorld w) (F : Fits w k p) (s
     abbrev pub part_number : Private
     part_number = record p { frames = store_frames None p.frames; fresh = 0 }
 
-    abbrev pub after_number : ℤ → Space Event → World
+    abbrev pub after_number : ℤ → RoomyValue EntryValue → SharedValue
     after_number q space = record w {
       homes = slice_set w.homes owner_number (Some (put_rest foreign_number.rest a (cell_int (cell_of foreign_number.rest.heap.chunks a) i q)));
       steps = w.steps + (p.fresh + 1);
       journal = record { items = w.journal.items ++ alone_event k p ∷ []; room = space.room };
     }
 
-    pub number_world : (space : Space Event) → IsWorld (after_number value space)
+    pub number_world : (space : RoomyValue EntryValue) → IsSharedValue (after_number value space)
     number_world space =
-        subst (λ q. IsWorld (after_number q space)) (sym said.6)
+        subst (λ q. IsSharedValue (after_number q space)) (sym said.6)
         (stored.number_world w k p I F shared free_so writes.name writes.object touches_number writes.is writes.frame writes.store writes.does not_number said.0 writes.named a said.4
         said.2 said.1 i writes.place said.3 (store_frames None p.frames).top (store_top None p.frames) space)
 
-    pub number_goes : (space : Space Event) → GoesAlone w (after_number value space) k p part_number
+    pub number_goes : (space : RoomyValue EntryValue) → GoesAlone w (after_number value space) k p part_number
     number_goes space =
         subst (λ q. GoesAlone w (after_number q space) k p part_number) (sym said.6)
         (stored.number_goes w k p I F shared free_so writes.name writes.object touches_number writes.is writes.frame writes.store writes.does not_number said.0 writes.named a said.4

@@ -12,14 +12,14 @@ use Rattle.object_layout.specs.declared.word.Addr.{Addr}
 use Rattle.object_layout.specs.declared.word.Birth.{Birth}
 use Rattle.object_layout.specs.Cell.{Cell, size_of, with_int as cell_int, with_ref as cell_ref}
 use Rattle.object_layout.specs.Objects.{Located, located}
-use Rattle.chunk_pool.specs.Chunks.{owner_of as pool_owner}
+use Rattle.chunk_pool.specs.PoolValue.{owner_of as pool_owner}
 use Rattle.task_frames.specs.declared.frames.Frame.{Frame}
 use Rattle.heap_tree.specs.Node.{is_on_path as tree_path}
 use Rattle.remembered_set.specs.declared.remembered.Source.{Source}
 use Rattle.write_barrier.specs.declared.sets.SetOf.{SetOf}
 use Rattle.write_barrier.specs.Stored.{content_after, content_at}
-use Rattle.ledger_steps.specs.Accounts.{own}
-use Rattle.core_relation.specs.Value.{Home, In, Value, objects, sources}
+use Rattle.ledger_step_laws.specs.Accounts.{own}
+use Rattle.core_relation.specs.Memory.{Home, In, Memory, objects, sources}
 use Rattle.core_relation.specs.Changes.{StoresAt, StoresNumberAt, gone_on, register, with_field, with_number}
 use Rattle.core_relation.specs.Fits.{with_home}
 use Rattle.core_relation.specs.Reads.{Reads}
@@ -28,8 +28,8 @@ use Rattle.core_relation.specs.Stands.{Place}
 use Rattle.core_relation.proofs.changes.Store as store
 use Rattle.task_machine.specs.declared.part.Private.{Private}
 use Rattle.task_machine.specs.Plan.{int_of, ref_of}
-use Rattle.shared_value.specs.World.{World, accounts, value_of}
-use Rattle.shared_value.specs.Stands.{IsWorld}
+use Rattle.shared_value.specs.SharedValue.{SharedValue, accounts, value_of}
+use Rattle.shared_value.specs.Stands.{IsSharedValue}
 use Rattle.shared_value.specs.Fits.{Fits, home_of_part}
 use Rattle.shared_value.proofs.PartFitsMachine as link
 use Rattle.shared_value.proofs.BeforeTheEnd.{stands_now, status}
@@ -49,7 +49,7 @@ false_by : (b : Bool) → (b ≡ true → ⊥) → b ≡ false
 false_by true f = absurd (f refl)
 false_by false f = refl
 
-module _ (w : World) (k : ℕ) (p : Private) (I : IsWorld w) (F : Fits w k p) (on : (accounts w).end ≡ None) where
+module _ (w : SharedValue) (k : ℕ) (p : Private) (I : IsSharedValue w) (F : Fits w k p) (on : (accounts w).end ≡ None) where
   abbrev t : ℕ
   t = p.task
 
@@ -62,7 +62,7 @@ module _ (w : World) (k : ℕ) (p : Private) (I : IsWorld w) (F : Fits w k p) (o
   abbrev L : Ledger
   L = other.L w k p I F on
 
-  abbrev v0 : Value
+  abbrev v0 : Memory
   v0 = other.v0 w k p I F on
 
   abbrev X : Task
@@ -110,16 +110,16 @@ module _ (w : World) (k : ℕ) (p : Private) (I : IsWorld w) (F : Fits w k p) (o
       abbrev pub f : Located → Located
       f = with_field i value
 
-      abbrev old : Value
+      abbrev old : Memory
       old = with_home v0 t h
 
-      abbrev v1 : Value
+      abbrev v1 : Memory
       v1 = other.v1 w k p I F on n a O d refl size f (λ number at birth. refl) sets top
 
       abbrev g : Home
       g = other.g w k p I F on n a O d refl size f (λ number at birth. refl) sets top
 
-      abbrev new : Value
+      abbrev new : Memory
       new = with_home v1 t g
 
       fields_of : (s : Located) → length (f s).refs ≡ length s.refs
@@ -195,7 +195,7 @@ module _ (w : World) (k : ℕ) (p : Private) (I : IsWorld w) (F : Fits w k p) (o
       abbrev pub f_number : Located → Located
       f_number = with_number i number
 
-      abbrev new_number : Value
+      abbrev new_number : Memory
       new_number = with_home (other.v1 w k p I F on n a O d_number refl size_number f_number (λ number at birth. refl) w.sets top) t (other.g w k p I F on n a O d_number refl size_number f_number (λ number at birth. refl) w.sets top)
 
       pub stores_number : StoresNumberAt (with_home v0 t h) new_number t p.frames.top p.frames.below a b i

@@ -3,7 +3,7 @@ use Rattle.std.proofs.Common.{◌≡◌, ℕ, ℤ, suc, ◌+◌, ◌<◌, ◌++�
 use Rattle.std.specs.Prelude.{slice_index_or}
 use Rattle.std.proofs.lemmas.Option.{same_Some}
 use Rattle.listed.proofs.Members.{got_same}
-use Rattle.listed.specs.Space.{Space}
+use Rattle.listed.specs.RoomyValue.{RoomyValue}
 use Rattle.hh_lang.specs.declared.instr.Instr.{Instr}
 use Rattle.hh_lang.specs.declared.instr.Instr.TheVariants.{Puti}
 use Rattle.hh_model.specs.declared.data.Frame.{Frame as ModelFrame}
@@ -13,7 +13,7 @@ use Rattle.hh_model.specs.declared.data.State.{State}
 use Rattle.hh_model.specs.declared.data.Task.{Task}
 use Rattle.hh_model.specs.Effect.{Goes, effect, int_in, object_at, place_in, ref_in}
 use Rattle.hh_model.specs.Step.{follow, owner_of, runs, setting}
-use Rattle.run_trace.specs.Entry.{Event}
+use Rattle.run_trace.specs.Entry.{EntryValue}
 use Rattle.run_trace.specs.declared.entry.Kind.TheVariants.{Ran}
 use Rattle.run_ledger.specs.declared.data.Ledger.{Ledger}
 use Rattle.run_ledger.specs.Steps.{task_steps, touched}
@@ -23,9 +23,9 @@ use Rattle.object_layout.specs.Chunks.{cell_of, object_of}
 use Rattle.task_frames.specs.declared.frames.Frame.{Frame}
 use Rattle.write_barrier.specs.declared.sets.SetOf.{SetOf}
 use Rattle.write_barrier.specs.Stored.{content_after, content_at}
-use Rattle.ledger_steps.specs.Accounts.{own, rested}
-use Rattle.ledger_steps.specs.Last.{JustReads, Splits, WritesOther}
-use Rattle.core_relation.specs.Value.{Home, Value}
+use Rattle.ledger_step_laws.specs.Accounts.{own, rested}
+use Rattle.ledger_step_laws.specs.Last.{JustReads, Splits, WritesOther}
+use Rattle.core_relation.specs.Memory.{Home, Memory}
 use Rattle.core_relation.specs.Changes.{StoresAt, gone_on, with_field, with_number as number_field}
 use Rattle.core_relation.specs.Fits.{with_home}
 use Rattle.core_relation.specs.Makes.{StoresInto}
@@ -34,8 +34,8 @@ use Rattle.task_machine.specs.declared.part.Private.{Private}
 use Rattle.task_machine.specs.Plan.{int_of, ref_of}
 use Rattle.task_machine.proofs.Owned.{born_object}
 use Rattle.shared_value.specs.declared.task_at_rest.Rest.{Rest}
-use Rattle.shared_value.specs.World.{World, accounts, value_of}
-use Rattle.shared_value.specs.Stands.{IsWorld}
+use Rattle.shared_value.specs.SharedValue.{SharedValue, accounts, value_of}
+use Rattle.shared_value.specs.Stands.{IsSharedValue}
 use Rattle.shared_value.specs.Fits.{Fits, OthersFit, home_of_part}
 use Rattle.shared_value.specs.Entered.{refused}
 use Rattle.shared_value.proofs.PartFitsMachine as link
@@ -50,7 +50,7 @@ use Rattle.others_objects.proofs.StoreValue as stores
 use Rattle.others_objects.proofs.WriteEntered as written
 use Rattle.others_objects.proofs.StoreKinds.{Made, found_less, stands_at}
 
-module _ (w : World) (k : ℕ) (p : Private) (I : IsWorld w) (F : Fits w k p) (shared : IsShared w p) (free : refused w (last_event k p) ≡ None) where
+module _ (w : SharedValue) (k : ℕ) (p : Private) (I : IsSharedValue w) (F : Fits w k p) (shared : IsShared w p) (free : refused w (last_event k p) ≡ None) where
   abbrev pub t : ℕ
   t = p.task
 
@@ -79,7 +79,7 @@ module _ (w : World) (k : ℕ) (p : Private) (I : IsWorld w) (F : Fits w k p) (s
   more = omega arith
 
   -- the value once so many steps are entered
-  abbrev pub entered_by : List (Option Rest) → List SetOf → ℕ → Space Event → World
+  abbrev pub entered_by : List (Option Rest) → List SetOf → ℕ → RoomyValue EntryValue → SharedValue
   entered_by homes sets m space = record w {
     homes = homes;
     sets = sets;
@@ -137,7 +137,7 @@ module _ (w : World) (k : ℕ) (p : Private) (I : IsWorld w) (F : Fits w k p) (s
 
       -- ---- A REFERENCE, from the register b, into the field i, whose number is in the register j
       module _ (b j i : ℕ) (swap : Option (ℕ × ℤ)) (place : place_in (length y.refs) (int_in S.task.top j) ≡ Some i)
-          (pack : (y' : Object) (v v' : Value) (C : StoresInto v v' M t h S.task y' o j b swap) → StoresNotes (with_home v t h) (with_home v' t C.0) t C.4 C.1 → Made v v' M t h S.task y' S.line.instr C.0)
+          (pack : (y' : Object) (v v' : Memory) (C : StoresInto v v' M t h S.task y' o j b swap) → StoresNotes (with_home v t h) (with_home v' t C.0) t C.4 C.1 → Made v v' M t h S.task y' S.line.instr C.0)
           (top : Frame) (goes : top ≡ gone_on swap p.frames.top) where
         abbrev pub rest : Rest
         rest = foreign.rest
@@ -169,10 +169,10 @@ module _ (w : World) (k : ℕ) (p : Private) (I : IsWorld w) (F : Fits w k p) (s
           size : size_of d ≡ size_of cell
           size = stores.size w k p I F on n a foreign o held at_a b i swap overwritten was sets C top goes
 
-          abbrev v0 : Value
+          abbrev v0 : Memory
           v0 = written.v0 w k p I F shared free
 
-          abbrev v1 : Value
+          abbrev v1 : Memory
           v1 = other.v1 w k p I F on n a foreign d refl size (with_field i value) (λ m e birth. refl) sets top
 
           abbrev q : Private
@@ -190,28 +190,28 @@ module _ (w : World) (k : ℕ) (p : Private) (I : IsWorld w) (F : Fits w k p) (s
               (g, i, p.frames.top, p.frames.below, a, subst (λ (q : Object). place_in (length q.refs) (int_in S.task.top j) ≡ Some i) object_is place, at, at_a)
               (stores.stores_notes w k p I F on n a foreign o held at_a b i swap overwritten was sets C top goes)
 
-          module _ (space : Space Event) where
+          module _ (space : RoomyValue EntryValue) where
             abbrev homes : List (Option Rest)
             homes = slice_set w.homes (own (rested M t) n) (Some (put_rest rest a d))
 
-            abbrev pub stored : World
+            abbrev pub stored : SharedValue
             stored = entered_by homes sets (p.fresh + 1) space
 
             stored_is : entered_by homes sets (suc p.fresh) space ≡ stored
             stored_is = ap (λ m. entered_by homes sets m space) more
 
-            pub reference_world : IsWorld stored
+            pub reference_world : IsSharedValue stored
             reference_world =
-                subst IsWorld stored_is
+                subst IsSharedValue stored_is
                 (written.written_world w k p I F shared free n a foreign d refl size (with_field i value) (λ m e birth. refl) sets many top K made.0 made.1 made.2 space)
 
             pub reference_goes : GoesAlone w stored k p q
             reference_goes = record {
               enters = record { journal = refl; program = refl; settings = refl; halted = refl };
-              goes = subst (λ (y : World). (accounts y).end ≡ None) stored_is (written.written_goes w k p I F shared free n a foreign d refl size (with_field i value) (λ m e birth. refl) sets many top K made.0 made.1 made.2 space);
-              fits = subst (λ (y : World). Fits y k q) stored_is (written.written_part w k p I F shared free n a foreign d refl size (with_field i value) (λ m e birth. refl) sets many top K made.0 made.1 made.2 space);
+              goes = subst (λ (y : SharedValue). (accounts y).end ≡ None) stored_is (written.written_goes w k p I F shared free n a foreign d refl size (with_field i value) (λ m e birth. refl) sets many top K made.0 made.1 made.2 space);
+              fits = subst (λ (y : SharedValue). Fits y k q) stored_is (written.written_part w k p I F shared free n a foreign d refl size (with_field i value) (λ m e birth. refl) sets many top K made.0 made.1 made.2 space);
               part = refl;
-              others = subst (λ (y : World). OthersFit w y k) stored_is (written.written_others w k p I F shared free n a foreign d refl size (with_field i value) (λ m e birth. refl) sets many top K made.0 made.1 made.2 space);
+              others = subst (λ (y : SharedValue). OthersFit w y k) stored_is (written.written_others w k p I F shared free n a foreign d refl size (with_field i value) (λ m e birth. refl) sets many top K made.0 made.1 made.2 space);
             }
 
       -- ---- A NUMBER, from the register b, into the field i, whose number is in the register j
@@ -239,10 +239,10 @@ module _ (w : World) (k : ℕ) (p : Private) (I : IsWorld w) (F : Fits w k p) (s
         size_n : size_of d_n ≡ size_of cell_n
         size_n = stores.size_number w k p I F on n a foreign o held at_a b i top goes
 
-        abbrev v0_n : Value
+        abbrev v0_n : Memory
         v0_n = written.v0 w k p I F shared free
 
-        abbrev v1_n : Value
+        abbrev v1_n : Memory
         v1_n = other.v1 w k p I F on n a foreign d_n refl size_n (number_field i number) (λ m e birth. refl) w.sets top
 
         abbrev q_n : Private
@@ -259,26 +259,26 @@ module _ (w : World) (k : ℕ) (p : Private) (I : IsWorld w) (F : Fits w k p) (s
               refl,
             )
 
-        module _ (space : Space Event) where
+        module _ (space : RoomyValue EntryValue) where
           abbrev homes_n : List (Option Rest)
           homes_n = slice_set w.homes (own (rested M t) n) (Some (put_rest rest_n a d_n))
 
-          abbrev pub stored_n : World
+          abbrev pub stored_n : SharedValue
           stored_n = entered_by homes_n w.sets (p.fresh + 1) space
 
           stored_is_n : entered_by homes_n w.sets (suc p.fresh) space ≡ stored_n
           stored_is_n = ap (λ m. entered_by homes_n w.sets m space) more
 
-          pub number_world : IsWorld stored_n
+          pub number_world : IsSharedValue stored_n
           number_world =
-              subst IsWorld stored_is_n
+              subst IsSharedValue stored_is_n
               (written.written_world w k p I F shared free n a foreign d_n refl size_n (number_field i number) (λ m e birth. refl) w.sets refl top K made_n.0 made_n.1 made_n.2 space)
 
           pub number_goes : GoesAlone w stored_n k p q_n
           number_goes = record {
             enters = record { journal = refl; program = refl; settings = refl; halted = refl };
-            goes = subst (λ (y : World). (accounts y).end ≡ None) stored_is_n (written.written_goes w k p I F shared free n a foreign d_n refl size_n (number_field i number) (λ m e birth. refl) w.sets refl top K made_n.0 made_n.1 made_n.2 space);
-            fits = subst (λ (y : World). Fits y k q_n) stored_is_n (written.written_part w k p I F shared free n a foreign d_n refl size_n (number_field i number) (λ m e birth. refl) w.sets refl top K made_n.0 made_n.1 made_n.2 space);
+            goes = subst (λ (y : SharedValue). (accounts y).end ≡ None) stored_is_n (written.written_goes w k p I F shared free n a foreign d_n refl size_n (number_field i number) (λ m e birth. refl) w.sets refl top K made_n.0 made_n.1 made_n.2 space);
+            fits = subst (λ (y : SharedValue). Fits y k q_n) stored_is_n (written.written_part w k p I F shared free n a foreign d_n refl size_n (number_field i number) (λ m e birth. refl) w.sets refl top K made_n.0 made_n.1 made_n.2 space);
             part = refl;
-            others = subst (λ (y : World). OthersFit w y k) stored_is_n (written.written_others w k p I F shared free n a foreign d_n refl size_n (number_field i number) (λ m e birth. refl) w.sets refl top K made_n.0 made_n.1 made_n.2 space);
+            others = subst (λ (y : SharedValue). OthersFit w y k) stored_is_n (written.written_others w k p I F shared free n a foreign d_n refl size_n (number_field i number) (λ m e birth. refl) w.sets refl top K made_n.0 made_n.1 made_n.2 space);
           }

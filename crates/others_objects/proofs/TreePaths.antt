@@ -9,8 +9,8 @@ use Rattle.run_ledger.specs.declared.data.Ledger.{Ledger}
 use Rattle.run_ledger.specs.Heaps.{heap_of}
 use Rattle.heap_tree.specs.Node.{Node, parent_in, parent_of as tree_parent, is_on_path as tree_path}
 use Rattle.core_relation.specs.Whole.{state_by}
-use Rattle.shared_value.specs.World.{World, accounts}
-use Rattle.shared_value.specs.Stands.{IsWorld}
+use Rattle.shared_value.specs.SharedValue.{SharedValue, accounts}
+use Rattle.shared_value.specs.Stands.{IsSharedValue}
 use Rattle.shared_value.proofs.BeforeTheEnd.{stands_now}
 
 same_through : (f g : ℕ → Bool) → ((u : ℕ) → f u ≡ g u) → (o q : Option ℕ) → o ≡ q → through o false f ≡ through q false g
@@ -38,7 +38,7 @@ there (Some n) q k e h = (n, refl)
 there None None k e h = absurd (false≢true h)
 there None (Some x) k e h = absurd cc
 
-module _ (w : World) (I : IsWorld w) (on : (accounts w).end ≡ None) where
+module _ (w : SharedValue) (I : IsSharedValue w) (on : (accounts w).end ≡ None) where
   abbrev l : Ledger
   l = accounts w
 

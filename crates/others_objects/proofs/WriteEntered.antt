@@ -2,13 +2,13 @@
 use Rattle.std.proofs.Common.{◌≡◌, ℕ, suc, ◌+◌, true, false, Option, Some, None, List, length, length-set, slice_get, inl, inr, refl, ap, sym, subst, ◌∙◌}
 use Rattle.std.proofs.lemmas.Bool.{cases_eq, false≢true}
 use Rattle.listed.proofs.Members.{got_other, got_same}
-use Rattle.listed.specs.Space.{Space}
+use Rattle.listed.specs.RoomyValue.{RoomyValue}
 use Rattle.hh_model.specs.declared.data.Name.{Name}
 use Rattle.hh_model.specs.declared.data.Status.{Status}
 use Rattle.hh_model.specs.declared.data.Status.TheVariants.{Running, Waiting, Ended, Joined}
 use Rattle.hh_model.specs.declared.data.Task.{Task}
 use Rattle.hh_model.specs.Step.{is_running, is_waiting, runs, waits}
-use Rattle.run_trace.specs.Entry.{Event}
+use Rattle.run_trace.specs.Entry.{EntryValue}
 use Rattle.run_ledger.specs.declared.data.Heap.{Heap}
 use Rattle.run_ledger.specs.declared.data.Ledger.{Ledger}
 use Rattle.run_ledger.specs.Heaps.{heap_of, or_fresh}
@@ -20,9 +20,9 @@ use Rattle.object_layout.specs.Cell.{Cell, size_of}
 use Rattle.object_layout.specs.Objects.{Located, located, with_fields}
 use Rattle.task_frames.specs.declared.frames.Frame.{Frame}
 use Rattle.write_barrier.specs.declared.sets.SetOf.{SetOf}
-use Rattle.ledger_steps.specs.Accounts.{Rests}
-use Rattle.ledger_steps.specs.Last.{Runs, Splits, Writing, WritesOther}
-use Rattle.core_relation.specs.Value.{Home, Value}
+use Rattle.ledger_step_laws.specs.Accounts.{Rests}
+use Rattle.ledger_step_laws.specs.Last.{Runs, Splits, Writing, WritesOther}
+use Rattle.core_relation.specs.Memory.{Home, Memory}
 use Rattle.core_relation.specs.Fits.{part_for, with_home}
 use Rattle.core_relation.specs.Makes.{Stores, StoresHome}
 use Rattle.core_relation.specs.Marks.{StoreMarks}
@@ -34,8 +34,8 @@ use Rattle.core_relation.proofs.whole.RanWhole.{ran_stands_for}
 use Rattle.core_relation.proofs.parts.Workers.{ran_leaves}
 use Rattle.task_machine.specs.declared.part.Private.{Private}
 use Rattle.shared_value.specs.declared.task_at_rest.Rest.{Rest}
-use Rattle.shared_value.specs.World.{World, accounts, totals_of, value_of}
-use Rattle.shared_value.specs.Stands.{IsWorld}
+use Rattle.shared_value.specs.SharedValue.{SharedValue, accounts, totals_of, value_of}
+use Rattle.shared_value.specs.Stands.{IsSharedValue}
 use Rattle.shared_value.specs.Fits.{Fits, OthersFit, home_of_part, part_of}
 use Rattle.shared_value.specs.Entered.{refused}
 use Rattle.shared_value.proofs.EntryMade.{entered, entered_world, held_apart, part_fits}
@@ -68,7 +68,7 @@ none_held k e = absurd cc
 held_not : {A : Type 0} (o : Option ℕ) (k : ℕ) → o ≡ Some k → o ≡ None → A
 held_not o k a b = none_held k (sym b ∙ a)
 
-module _ (w : World) (k : ℕ) (p : Private) (I : IsWorld w) (F : Fits w k p) (shared : IsShared w p) (free : refused w (last_event k p) ≡ None) where
+module _ (w : SharedValue) (k : ℕ) (p : Private) (I : IsSharedValue w) (F : Fits w k p) (shared : IsShared w p) (free : refused w (last_event k p) ≡ None) where
   abbrev pub t : ℕ
   t = p.task
 
@@ -90,7 +90,7 @@ module _ (w : World) (k : ℕ) (p : Private) (I : IsWorld w) (F : Fits w k p) (s
   abbrev pub on : l.end ≡ None
   on = last.on w k p I F shared free
 
-  abbrev pub v0 : Value
+  abbrev pub v0 : Memory
   v0 = other.v0 w k p I F on
 
   -- before it, who waits rests
@@ -118,10 +118,10 @@ module _ (w : World) (k : ℕ) (p : Private) (I : IsWorld w) (F : Fits w k p) (s
     abbrev pub homes : List (Option Rest)
     homes = other.homes w k p I F on n a O d mark size f fields sets top
 
-    abbrev pub v' : Value
+    abbrev pub v' : Memory
     v' = other.v' w k p I F on n a O d mark size f fields sets top
 
-    abbrev pub v1 : Value
+    abbrev pub v1 : Memory
     v1 = other.v1 w k p I F on n a O d mark size f fields sets top
 
     abbrev pub q : Private
@@ -167,11 +167,11 @@ module _ (w : World) (k : ℕ) (p : Private) (I : IsWorld w) (F : Fits w k p) (s
       waits_then : (u : ℕ) → is_waiting (slice_get L.machine.tasks u) ≡ true → Rests L u
       waits_then u h' = ap (λ (z : Heap). z.worker) (heap_then u) ∙ R.idle u (waits_not (slice_get M.machine.tasks u) (sym (waits_same u) ∙ h'))
 
-      module _ (j : Space Event) where
+      module _ (j : RoomyValue EntryValue) where
         abbrev steps : ℕ
         steps = w.steps + suc p.fresh
 
-        abbrev w' : World
+        abbrev w' : SharedValue
         w' = entered w (last_event k p) w.tree w.pool homes sets w.hands w.outputs steps w.end j.room
 
         counts : RanCounts w.program (totals_of w) (totals_of w') M L t k p.fresh S.task S.line Writing K
@@ -185,7 +185,7 @@ module _ (w : World) (k : ℕ) (p : Private) (I : IsWorld w) (F : Fits w k p) (s
             subst (λ o. StandsFor v' (totals_of w') (by_end L o)) (sym end_then)
             (stands_for_held v1 v'.homes L same_then waits_then (totals_of w') (subst (λ o. StandsFor v1 (totals_of w') (by_end L o)) end_then all_1))
 
-        pub written_world : IsWorld w'
+        pub written_world : IsSharedValue w'
         written_world =
             entered_world w (last_event k p) I free w.tree w.pool homes sets w.hands w.outputs steps w.end j.room
             (length-set w.homes (other.u w k p I F on n a O) _ ∙ I.made) (many ∙ I.noted) refl refl all_then

@@ -5,14 +5,14 @@ use Rattle.std.proofs.lemmas.Bool.{and_parts, cond-true, eqb-true, false≢true,
 use Rattle.std.proofs.lemmas.Option.{same_Some}
 use Rattle.listed.proofs.Members.{in_append_cases, in_append_left, in_append_right}
 use Rattle.object_layout.specs.declared.word.Addr.{Addr}
-use Rattle.chunk_pool.specs.Chunks.{Chunks, owner_of}
+use Rattle.chunk_pool.specs.PoolValue.{PoolValue, owner_of}
 use Rattle.heap_tree.specs.Node.{Node, is_on_path}
 use Rattle.remembered_set.specs.declared.remembered.Source.{Source}
 use Rattle.remembered_set.specs.Sources.{has_source, noted, same_source}
 use Rattle.write_barrier.specs.declared.sets.SetOf.{SetOf}
 use Rattle.write_barrier.specs.Stored.{Content, content_after, content_at, content_of, heap_of, is_down, is_of, noted_in as noted_heap, with_source}
-use Rattle.core_relation.specs.Value.{In, Noted}
-use Rattle.shared_value.specs.World.{noted_in}
+use Rattle.core_relation.specs.Memory.{In, Noted}
+use Rattle.shared_value.specs.SharedValue.{noted_in}
 
 -- ---- ONE SET
 
@@ -77,7 +77,7 @@ none_there (x ∷ xs) zero lt e = absurd cc
 none_there (x ∷ xs) (suc n) lt e = none_there xs n (omega (arith, lt)) e
 
 -- ---- THE WRITE
-module _ (tree : List Node) (pool : Chunks) (sets sets' : List SetOf) (a : Addr) (i : ℕ) (overwritten value : Option Addr) (u : ℕ) (owner : owner_of pool a.chunk ≡ Some u)
+module _ (tree : List Node) (pool : PoolValue) (sets sets' : List SetOf) (a : Addr) (i : ℕ) (overwritten value : Option Addr) (u : ℕ) (owner : owner_of pool a.chunk ≡ Some u)
     (C : (t : ℕ) → content_at sets' t ≡ option_map (content_after tree pool (record { object = a; field = i }) overwritten value t) (content_at sets t)) where
   abbrev source : Source
   source = record { object = a; field = i }

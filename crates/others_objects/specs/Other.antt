@@ -18,22 +18,22 @@ use Rattle.run_ledger.specs.Steps.{owns, touched}
 use Rattle.object_layout.specs.declared.word.Addr.{Addr}
 use Rattle.object_layout.specs.Cell.{Cell, IsObject}
 use Rattle.object_layout.specs.Chunks.{cell_of, object_of, put_object}
-use Rattle.object_layout.specs.Content.{Content}
+use Rattle.object_layout.specs.ChunkValue.{ChunkValue}
 use Rattle.object_layout.specs.References.{same_reference}
-use Rattle.chunk_pool.specs.Chunks.{Chunks, held_at, owner_of}
+use Rattle.chunk_pool.specs.PoolValue.{PoolValue, held_at, owner_of}
 use Rattle.task_frames.specs.declared.frames.Frame.{Frame}
-use Rattle.task_frames.specs.Stack.{Stack, with_int as with_number, with_next}
+use Rattle.task_frames.specs.FramesValue.{FramesValue, with_int as with_number, with_next}
 use Rattle.heap_tree.specs.Node.{Node, is_on_path}
 use Rattle.write_barrier.specs.Stored.{content_at, IsOwned}
-use Rattle.ledger_steps.specs.Accounts.{rested}
-use Rattle.ledger_steps.specs.Last.{JustReads}
+use Rattle.ledger_step_laws.specs.Accounts.{rested}
+use Rattle.ledger_step_laws.specs.Last.{JustReads}
 use Rattle.core_relation.specs.Fits.{with_home}
 use Rattle.core_relation.specs.Reads.{Reads}
 use Rattle.core_relation.specs.Stands.{Place}
 use Rattle.task_machine.specs.declared.part.Private.{Private}
 use Rattle.task_machine.specs.Plan.{int_of, ref_of}
 use Rattle.shared_value.specs.declared.task_at_rest.Rest.{Rest}
-use Rattle.shared_value.specs.World.{World, rest_at, value_of}
+use Rattle.shared_value.specs.SharedValue.{SharedValue, rest_at, value_of}
 use Rattle.shared_value.specs.Fits.{Fits, home_of_part}
 use Rattle.own_steps.specs.declared.alone.Alone.{Alone}
 use Rattle.own_steps.specs.declared.alone.Alone.TheVariants.{Goes as GoesOn, Over, Done, Beyond}
@@ -55,7 +55,7 @@ is_other_by p m t (Some x) = is_other_line m t x (fetched p x.top)
 abbrev pub is_other : ProgramText → State → ℕ → Bool
 is_other p m t = is_other_by p m t (slice_get m.tasks t)
 
-abbrev pub IsOther : World → Private → Type 0
+abbrev pub IsOther : SharedValue → Private → Type 0
 IsOther w p = is_other w.program (machine_after w p) p.task ≡ true
 
 -- ---- THE OBJECT
@@ -74,7 +74,7 @@ object_named f _ = None
 
 -- the object at a is there to be read: each reference that it has, if it isn't nil, points into a chunk in use, whose
 -- owner was made
-pub record IsReadable (made : ℕ) (pool : Chunks) (t : ℕ) (ks : List Content) (a : Addr) : Type 0 where
+pub record IsReadable (made : ℕ) (pool : PoolValue) (t : ℕ) (ks : List ChunkValue) (a : Addr) : Type 0 where
   pub object : IsObject (cell_of ks a).mark
   pub reader : t < made
   pub refs : (i : ℕ) (r : Option Addr) → slice_get (object_of ks a).refs i ≡ Some r → IsOwned made pool r
@@ -87,7 +87,7 @@ abbrev pub yields : List Node → ℕ → ℕ → Addr → Option ℕ → OtherS
 yields tree t d a None = SetsReference d (Some a)
 yields tree t d a (Some u) = if is_on_path tree u t then SetsReference d (Some a) else Stops u
 
-abbrev pub reads_into : List Node → Chunks → ℕ → ℕ → Option Addr → OtherStep
+abbrev pub reads_into : List Node → PoolValue → ℕ → ℕ → Option Addr → OtherStep
 reads_into tree pool t d None = SetsReference d None
 reads_into tree pool t d (Some a) = yields tree t d a (owner_of pool a.chunk)
 
@@ -103,7 +103,7 @@ abbrev pub swaps : ℕ → Addr → Option Addr → Option Addr → ℕ → Opti
 swaps d a held expected i value = if same_reference held expected then Swaps d a i value else SetsNumber d (pos 0)
 
 -- of an instruction on the object of another task at an address, whose cell is c
-abbrev pub other_step : List Node → Chunks → Private → Addr → Cell → Instr → OtherStep
+abbrev pub other_step : List Node → PoolValue → Private → Addr → Cell → Instr → OtherStep
 other_step tree pool part a c (Getr d o k) = or_range (place_in (length c.refs) (int_of part.frames.top k)) (λ i. reads_into tree pool part.task d (unwrap_or (slice_get c.refs i) None))
 other_step tree pool part a c (Geti d o k) = or_range (place_in (length c.ints) (int_of part.frames.top k)) (λ i. SetsNumber d (unwrap_or (slice_get c.ints i) (pos 0)))
 other_step tree pool part a c (Cntr d o) = SetsNumber d (pos (length c.refs))
@@ -171,16 +171,16 @@ pub record TellsOtherOf (p : ProgramText) (at : Name → Addr → Type 0) (part 
   pub says : SaysOther p at part m t task line does
 
 -- where names lie after the part's fresh steps
-abbrev pub then_places : World → Private → Name → Addr → Type 0
+abbrev pub then_places : SharedValue → Private → Name → Addr → Type 0
 then_places w p = Place (with_home (value_of w) p.task (home_of_part p)) (rested (then_accounts w p) p.task)
 
-abbrev pub TellsOther : World → Private → OtherStep → ℕ → Type 0
+abbrev pub TellsOther : SharedValue → Private → OtherStep → ℕ → Type 0
 TellsOther w p does number = TellsOtherOf w.program (then_places w p) p (then_accounts w p).machine p.task does number
 
 -- ---- WHAT THE CALL ANSWERS
 
 -- the steps are entered: the part goes on, or the run has ended
-abbrev pub OtherAnswered : World → World → ℕ → Private → Alone → Type 0
+abbrev pub OtherAnswered : SharedValue → SharedValue → ℕ → Private → Alone → Type 0
 OtherAnswered w after k p (GoesOn q) = GoesAlone w after k p q
 OtherAnswered w after k p (Over q) = HaltsAlone w after k p q
 OtherAnswered w after k p Done = ⊥
@@ -190,7 +190,7 @@ OtherAnswered w after k p (Beyond q) = ⊥
 
 -- the field i of the object at an address is there to be written, in the heap of its owner, and what stands in it may
 -- be let go
-pub record IsWritable (made : ℕ) (pool : Chunks) (homes : List (Option Rest)) (a : Addr) (i : ℕ) : Type 0 where
+pub record IsWritable (made : ℕ) (pool : PoolValue) (homes : List (Option Rest)) (a : Addr) (i : ℕ) : Type 0 where
   pub owner : ℕ
   pub rest : Rest
   pub owns : owner_of pool a.chunk ≡ Some owner
@@ -212,12 +212,12 @@ store_of None a i r = StoresReference a i r
 store_of (Some d) a i r = Swaps d a i r
 
 -- the frames then
-abbrev pub store_frames : Option ℕ → Stack → Stack
+abbrev pub store_frames : Option ℕ → FramesValue → FramesValue
 store_frames None s = with_next s (s.top.next + 1)
 store_frames (Some d) s = with_next (with_number s d (pos 1)) (s.top.next + 1)
 
 -- the value is the same, but for how much more the sets have room
-pub record SameButRoom (w after : World) : Type 0 where
+pub record SameButRoom (w after : SharedValue) : Type 0 where
   pub same : after ≡ record w { sets = after.sets }
   pub sets : (t : ℕ) → content_at after.sets t ≡ content_at w.sets t
   pub fit : (k : ℕ) (p : Private) → Fits w k p → Fits after k p

@@ -5,8 +5,8 @@ use Rattle.hh_lang.specs.declared.program.Line.{Line}
 use Rattle.hh_model.specs.declared.data.End.TheVariants.{Entangled}
 use Rattle.hh_model.specs.Step.{step}
 use Rattle.task_machine.specs.declared.part.Private.{Private}
-use Rattle.shared_value.specs.World.{World, accounts}
-use Rattle.shared_value.specs.Stands.{IsWorld}
+use Rattle.shared_value.specs.SharedValue.{SharedValue, accounts}
+use Rattle.shared_value.specs.Stands.{IsSharedValue}
 use Rattle.shared_value.specs.Fits.{Fits}
 use Rattle.shared_value.specs.Next.{is_beyond, next_line}
 use Rattle.own_steps.specs.Alone.{GoesAlone, IsShared, machine_after}
@@ -15,11 +15,11 @@ use Rattle.others_objects.specs.Other.{IsOther}
 -- where a part goes on after an entry with its next step, that step is no read that the machine stops
 abbrev pub StoppedReadsWriteNothing : Type 0
 StoppedReadsWriteNothing =
-    (w after : World) (k : ℕ) (p q : Private) → IsWorld w → Fits w k p → IsShared w p → (accounts w).end ≡ None → GoesAlone w after k p q
+    (w after : SharedValue) (k : ℕ) (p q : Private) → IsSharedValue w → Fits w k p → IsShared w p → (accounts w).end ≡ None → GoesAlone w after k p q
     → (reader owner : ℕ) → (step w.program (machine_after w p) p.task).end ≡ Some (Entangled reader owner) → ⊥
 
 -- a step that a task doesn't do alone, and that neither forks nor returns, works on an object of another task
 abbrev pub LeftStepsAreOther : Type 0
 LeftStepsAreOther =
-    (w : World) (k : ℕ) (p : Private) → IsWorld w → Fits w k p → IsShared w p → (accounts w).end ≡ None → is_beyond w.program (machine_after w p) p.task ≡ true
+    (w : SharedValue) (k : ℕ) (p : Private) → IsSharedValue w → Fits w k p → IsShared w p → (accounts w).end ≡ None → is_beyond w.program (machine_after w p) p.task ≡ true
     → (line : Line) → next_line w.program p ≡ Some line → ((g h : ℕ) → line.instr ≡ Par g h → ⊥) → (line.instr ≡ Ret → ⊥) → IsOther w p

@@ -3,9 +3,9 @@
 ghost use Rattle.std.specs.Prelude.{◌≡◌, ◌<◌, ◌+◌, ◌^◌, OnErr, OnOk, None, ◌≤◌, ℕ, IsSome, Some, length, option_map, slice_index_or, slice_set};
 ghost use Rattle.object_layout.specs.Cell.{with_int, with_ref, IsPlace};
 ghost use Rattle.object_layout.specs.Chunks.{cell_of, object_of};
-ghost use Rattle.chunk_pool.specs.Chunks.{held_at, owner_of};
+ghost use Rattle.chunk_pool.specs.PoolValue.{held_at, owner_of};
 ghost use Rattle.write_barrier.specs.Stored.{content_after, content_at, IsOwned};
-ghost use Rattle.shared_value.specs.World.{rest_at};
+ghost use Rattle.shared_value.specs.SharedValue.{rest_at};
 ghost use Rattle.shared_value.specs.declared.task_at_rest.Rest.{Rest as RestOf};
 ghost use Rattle.others_objects.specs.Other.{store_frames, put_rest, IsWritable};
 

@@ -3,7 +3,7 @@ use Rattle.std.specs.Prelude.{ℕ, List}
 
 -- the bytes still to come, those that every name has, the most that a call gives, the calls so far, the calls that fail (the
 -- first is 1), the faults so far
-pub record Input : Type 0 where
+pub record MemSourceValue : Type 0 where
   pub left : List ℕ
   pub named : List ℕ
   pub most : ℕ
@@ -12,7 +12,7 @@ pub record Input : Type 0 where
   pub faults : ℕ
 
 -- the bytes taken so far, and the same as above
-pub record Output : Type 0 where
+pub record MemSinkValue : Type 0 where
   pub written : List ℕ
   pub most : ℕ
   pub calls : ℕ
@@ -20,6 +20,6 @@ pub record Output : Type 0 where
   pub faults : ℕ
 
 -- a source that never fails: the bytes still to come, and those that every name has
-pub record SureInput : Type 0 where
+pub record SureSourceValue : Type 0 where
   pub left : List ℕ
   pub named : List ℕ

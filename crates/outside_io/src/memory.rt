@@ -25,9 +25,9 @@ pub struct MemSource {
 
 impl Model for MemSource {
     ghost use Rattle.std.specs.Prelude.{ℕ, ◌<◌, ◌≤◌, length, drop, if◌then◌else◌};
-    ghost use Rattle.outside_io.specs.Memory.{Input};
+    ghost use Rattle.outside_io.specs.Memory.{MemSourceValue};
 
-    ghost Value = { Input };
+    ghost Value = { MemSourceValue };
 
     ghost view = { λ s. record { left = drop s.at (if s.is_found then s.named.items else s.bytes.items); named = s.named.items; most = s.most; calls = s.calls; failing = s.failing.items; faults = s.faults } };
 
@@ -46,9 +46,9 @@ pub struct MemSink {
 
 impl Model for MemSink {
     ghost use Rattle.std.specs.Prelude.{ℕ, ◌<◌};
-    ghost use Rattle.outside_io.specs.Memory.{Output};
+    ghost use Rattle.outside_io.specs.Memory.{MemSinkValue};
 
-    ghost Value = { Output };
+    ghost Value = { MemSinkValue };
 
     ghost view = { λ s. record { written = s.bytes.items; most = s.most; calls = s.calls; failing = s.failing.items; faults = s.faults } };
 

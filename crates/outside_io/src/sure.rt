@@ -21,9 +21,9 @@ pub struct SureSource {
 
 impl Model for SureSource {
     ghost use Rattle.std.specs.Prelude.{ℕ, ◌≤◌, length, drop, if◌then◌else◌};
-    ghost use Rattle.outside_io.specs.Memory.{SureInput};
+    ghost use Rattle.outside_io.specs.Memory.{SureSourceValue};
 
-    ghost Value = { SureInput };
+    ghost Value = { SureSourceValue };
 
     ghost view = { λ s. record { left = drop s.at (if s.is_found then s.named.items else s.bytes.items); named = s.named.items } };
 

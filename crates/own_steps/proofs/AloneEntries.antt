@@ -1,6 +1,6 @@
 -- Entries of a part's fresh steps and a last one, as the calls have them.
 use Rattle.std.proofs.Common.{◌≡◌, ℕ, ℤ, suc, ◌+◌, ◌<◌, ◌≤◌, ◌^◌, ◌++◌, ◌||◌, ◌&&◌, arith, not, Bool, true, Option, Some, None, [], ◌∷◌, slice_get, slice_set, is_none, is_some, length, refl, ap, ap₂, sym, subst, ◌∙◌}
-use Rattle.listed.specs.Space.{Space}
+use Rattle.listed.specs.RoomyValue.{RoomyValue}
 use Rattle.hh_lang.specs.declared.instr.Instr.{Instr}
 use Rattle.hh_lang.specs.declared.instr.Instr.TheVariants.{Ret}
 use Rattle.hh_lang.specs.declared.program.Line.{Line}
@@ -11,21 +11,21 @@ use Rattle.hh_model.specs.declared.data.Task.{Task}
 use Rattle.hh_model.specs.declared.data.Trap.{Trap}
 use Rattle.hh_model.specs.Step.{ended_by, fetched, step}
 use Rattle.run_trace.specs.declared.entry.Kind.TheVariants.{Ran}
-use Rattle.run_trace.specs.Entry.{Event}
+use Rattle.run_trace.specs.Entry.{EntryValue}
 use Rattle.run_ledger.specs.declared.data.RunEnd.TheVariants.{Machine}
 use Rattle.run_ledger.specs.Steps.{has_no_caller, owns, touched}
 use Rattle.run_ledger.proofs.Bounds.{ran_tells}
-use Rattle.task_frames.specs.Stack.{with_next}
+use Rattle.task_frames.specs.FramesValue.{with_next}
 use Rattle.heap_tree.specs.declared.state.State.TheVariants.{Ended}
 use Rattle.heap_tree.specs.Node.{with_state}
-use Rattle.ledger_steps.specs.Accounts.{Rests}
+use Rattle.ledger_step_laws.specs.Accounts.{Rests}
 use Rattle.core_relation.specs.Whole.{handed}
 use Rattle.task_machine.specs.declared.part.Private.{Private}
 use Rattle.task_machine.specs.Ready.{FitsSome, IsSafe}
 use Rattle.task_machine.proofs.Agreement.{some_next, some_safe}
 use Rattle.shared_value.specs.declared.next_step.Ending.TheVariants.{Beyond, Prints, Returns, Traps}
-use Rattle.shared_value.specs.World.{World, accounts}
-use Rattle.shared_value.specs.Stands.{IsWorld}
+use Rattle.shared_value.specs.SharedValue.{SharedValue, accounts}
+use Rattle.shared_value.specs.Stands.{IsSharedValue}
 use Rattle.shared_value.specs.Fits.{Fits, OthersFit}
 use Rattle.shared_value.specs.Next.{is_beyond, is_beyond_by, is_beyond_line, is_joint}
 use Rattle.shared_value.specs.Entered.{refused}
@@ -39,10 +39,10 @@ use Rattle.own_steps.proofs.LastSteps.{event_is, fits_machine, machine_same}
 use Rattle.own_steps.proofs.OutputEntered.{output_goes, output_others, output_part, output_world}
 
 -- a step that can't be done ends the run so
-pub trap_is : (w : World) (p : Private) (kind : Trap) (number : ℕ) → Tells w p (Traps kind) number → step w.program (then_accounts w p).machine p.task ≡ ended_by (then_accounts w p).machine (Trapped kind p.task number)
+pub trap_is : (w : SharedValue) (p : Private) (kind : Trap) (number : ℕ) → Tells w p (Traps kind) number → step w.program (then_accounts w p).machine p.task ≡ ended_by (then_accounts w p).machine (Trapped kind p.task number)
 trap_is w p kind number T = T.says ∙ ap (λ n. ended_by (then_accounts w p).machine (Trapped kind p.task n)) T.number_is
 
-module _ (w : World) (k : ℕ) (p : Private) (I : IsWorld w) (F : Fits w k p) (shared : IsShared w p) (free : refused w (alone_event k p) ≡ None) where
+module _ (w : SharedValue) (k : ℕ) (p : Private) (I : IsSharedValue w) (F : Fits w k p) (shared : IsShared w p) (free : refused w (alone_event k p) ≡ None) where
   pub last_free : refused w (last_event k p) ≡ None
   last_free = ap (refused w) (sym (event_is k p)) ∙ free
 
@@ -71,50 +71,50 @@ module _ (w : World) (k : ℕ) (p : Private) (I : IsWorld w) (F : Fits w k p) (s
   is_safe = some_safe w.program p fits_some
 
   -- AN OUTPUT
-  module _ (value : ℤ) (line : ℕ) (T : Tells w p (Prints value) line) (j : Space Event) where
-    abbrev printed : World
+  module _ (value : ℤ) (line : ℕ) (T : Tells w p (Prints value) line) (j : RoomyValue EntryValue) where
+    abbrev printed : SharedValue
     printed = record w { outputs = w.outputs ++ value ∷ []; steps = w.steps + (p.fresh + 1); journal = record { items = w.journal.items ++ alone_event k p ∷ []; room = j.room } }
 
     printed_is : record w { outputs = w.outputs ++ value ∷ []; steps = w.steps + suc p.fresh; journal = record { items = w.journal.items ++ last_event k p ∷ []; room = j.room } } ≡ printed
     printed_is =
-        ap (λ n. let z : World = record w { outputs = w.outputs ++ value ∷ []; steps = w.steps + n; journal = record { items = w.journal.items ++ record { worker = k; kind = Ran p.task n } ∷ []; room = j.room } } in z) more
+        ap (λ n. let z : SharedValue = record w { outputs = w.outputs ++ value ∷ []; steps = w.steps + n; journal = record { items = w.journal.items ++ record { worker = k; kind = Ran p.task n } ∷ []; room = j.room } } in z) more
 
-    pub printed_world : IsWorld printed
-    printed_world = subst IsWorld printed_is (output_world w k p I F shared last_free value line T j)
+    pub printed_world : IsSharedValue printed
+    printed_world = subst IsSharedValue printed_is (output_world w k p I F shared last_free value line T j)
 
     pub printed_goes : GoesAlone w printed k p (record p { frames = with_next p.frames (p.frames.top.next + 1); fresh = 0 })
     printed_goes = record {
       enters = record { journal = refl; program = refl; settings = refl; halted = refl };
-      goes = subst (λ (z : World). (accounts z).end ≡ None) printed_is (output_goes w k p I F shared last_free value line T j);
-      fits = subst (λ (z : World). Fits z k (record p { frames = with_next p.frames (p.frames.top.next + 1); fresh = 0 })) printed_is (output_part w k p I F shared last_free value line T j);
+      goes = subst (λ (z : SharedValue). (accounts z).end ≡ None) printed_is (output_goes w k p I F shared last_free value line T j);
+      fits = subst (λ (z : SharedValue). Fits z k (record p { frames = with_next p.frames (p.frames.top.next + 1); fresh = 0 })) printed_is (output_part w k p I F shared last_free value line T j);
       part = refl;
-      others = subst (λ (z : World). OthersFit w z k) printed_is (output_others w k p I F shared last_free value line T j);
+      others = subst (λ (z : SharedValue). OthersFit w z k) printed_is (output_others w k p I F shared last_free value line T j);
     }
 
   -- THE RUN ENDS, and all else is as it was
-  module _ (x : End) (other : x ≡ Done → ⊥) (is : step w.program (then_accounts w p).machine p.task ≡ ended_by (then_accounts w p).machine x) (j : Space Event) where
-    abbrev halted : World
+  module _ (x : End) (other : x ≡ Done → ⊥) (is : step w.program (then_accounts w p).machine p.task ≡ ended_by (then_accounts w p).machine x) (j : RoomyValue EntryValue) where
+    abbrev halted : SharedValue
     halted = record w { steps = w.steps + (p.fresh + 1); journal = record { items = w.journal.items ++ alone_event k p ∷ []; room = j.room }; end = Some (Machine x) }
 
     halted_is : record w { steps = w.steps + suc p.fresh; journal = record { items = w.journal.items ++ last_event k p ∷ []; room = j.room }; end = Some (Machine x) } ≡ halted
     halted_is =
-        ap (λ n. let z : World = record w { steps = w.steps + n; journal = record { items = w.journal.items ++ record { worker = k; kind = Ran p.task n } ∷ []; room = j.room }; end = Some (Machine x) } in z) more
+        ap (λ n. let z : SharedValue = record w { steps = w.steps + n; journal = record { items = w.journal.items ++ record { worker = k; kind = Ran p.task n } ∷ []; room = j.room }; end = Some (Machine x) } in z) more
 
-    pub halt_world : IsWorld halted
-    halt_world = subst IsWorld halted_is (halted_world w k p I F shared last_free x other is j)
+    pub halt_world : IsSharedValue halted
+    halt_world = subst IsSharedValue halted_is (halted_world w k p I F shared last_free x other is j)
 
     pub halts_alone : HaltsAlone w halted k p (record p { fresh = 0 })
     halts_alone = record {
       enters = record { journal = refl; program = refl; settings = refl; halted = refl };
-      halts = (x, subst (λ (z : World). (accounts z).end ≡ Some (Machine x)) halted_is (halted_ends w k p I F shared last_free x other is j), other);
-      fits = subst (λ (z : World). Fits z k (record p { fresh = 0 })) halted_is (halted_part w k p I F shared last_free x other is j);
+      halts = (x, subst (λ (z : SharedValue). (accounts z).end ≡ Some (Machine x)) halted_is (halted_ends w k p I F shared last_free x other is j), other);
+      fits = subst (λ (z : SharedValue). Fits z k (record p { fresh = 0 })) halted_is (halted_part w k p I F shared last_free x other is j);
       part = refl;
-      others = subst (λ (z : World). OthersFit w z k) halted_is (halted_others w k p I F shared last_free x other is j);
+      others = subst (λ (z : SharedValue). OthersFit w z k) halted_is (halted_others w k p I F shared last_free x other is j);
     }
 
   -- THE ROOT'S END
-  module _ (line : ℕ) (T : Tells w p Returns line) (root : p.task ≡ 0) (j : Space Event) where
-    abbrev finished : World
+  module _ (line : ℕ) (T : Tells w p Returns line) (root : p.task ≡ 0) (j : RoomyValue EntryValue) where
+    abbrev finished : SharedValue
     finished = record w {
       tree = with_state w.tree p.task Ended;
       homes = slice_set w.homes p.task (Some (ended_rest p));
@@ -133,7 +133,7 @@ module _ (w : World) (k : ℕ) (p : Private) (I : IsWorld w) (F : Fits w k p) (s
       end = Some (Machine Done);
     } ≡ finished
     finished_is =
-        ap (λ n. let z : World = record w {
+        ap (λ n. let z : SharedValue = record w {
           tree = with_state w.tree p.task Ended;
           homes = slice_set w.homes p.task (Some (ended_rest p));
           hands = slice_set w.hands k None;
@@ -148,15 +148,15 @@ module _ (w : World) (k : ℕ) (p : Private) (I : IsWorld w) (F : Fits w k p) (s
     pub home_there : p.task < length w.homes
     home_there = has_home w k p I F shared last_free line T root
 
-    pub finished_world : IsWorld finished
-    finished_world = subst IsWorld finished_is (done_world w k p I F shared last_free line T root j)
+    pub finished_world : IsSharedValue finished
+    finished_world = subst IsSharedValue finished_is (done_world w k p I F shared last_free line T root j)
 
     pub finishes_alone : FinishesAlone w finished k p
     finishes_alone = record {
       enters = record { journal = refl; program = refl; settings = refl; halted = refl };
-      done = subst (λ (z : World). (accounts z).end ≡ Some (Machine Done)) finished_is (done_ends w k p I F shared last_free line T root j);
-      rest = λ u. subst (λ (z : World). Rests (handed (accounts z)) u) finished_is (done_rests w k p I F shared last_free line T root j u);
-      others = subst (λ (z : World). OthersFit w z k) finished_is (done_others w k p I F shared last_free line T root j);
+      done = subst (λ (z : SharedValue). (accounts z).end ≡ Some (Machine Done)) finished_is (done_ends w k p I F shared last_free line T root j);
+      rest = λ u. subst (λ (z : SharedValue). Rests (handed (accounts z)) u) finished_is (done_rests w k p I F shared last_free line T root j u);
+      others = subst (λ (z : SharedValue). OthersFit w z k) finished_is (done_others w k p I F shared last_free line T root j);
     }
 
   -- WHERE OTHER TASKS HAVE PART IN THE STEP

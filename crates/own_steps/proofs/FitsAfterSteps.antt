@@ -6,17 +6,17 @@ use Rattle.run_ledger.specs.declared.data.Ledger.{Ledger}
 use Rattle.run_ledger.specs.Heaps.{heap_of}
 use Rattle.run_ledger.specs.Steps.{task_steps}
 use Rattle.object_layout.specs.declared.word.Addr.{Addr}
-use Rattle.object_layout.specs.Content.{Content}
+use Rattle.object_layout.specs.ChunkValue.{ChunkValue}
 use Rattle.object_layout.specs.Chunks.{chunk_at, no_chunk}
 use Rattle.object_layout.specs.Place.{words_in}
 use Rattle.object_layout.specs.Cell.{IsObject}
 use Rattle.chunk_pool.specs.declared.pool.Held.{Held}
-use Rattle.chunk_pool.specs.Chunks.{held_at}
-use Rattle.alloc_path.specs.Heap.{AreTidy, AreWithin, IsTidy}
+use Rattle.chunk_pool.specs.PoolValue.{held_at}
+use Rattle.alloc_path.specs.LeafHeapValue.{AreTidy, AreWithin, IsTidy}
 use Rattle.alloc_path.proofs.Near.{are_near}
-use Rattle.ledger_steps.specs.Accounts.{Rests, own, rested}
-use Rattle.ledger_steps.proofs.Rested.{rested_worker}
-use Rattle.core_relation.specs.Value.{Home, In, Lies, Value, objects, objects_in}
+use Rattle.ledger_step_laws.specs.Accounts.{Rests, own, rested}
+use Rattle.ledger_step_laws.proofs.Rested.{rested_worker}
+use Rattle.core_relation.specs.Memory.{Home, In, Lies, Memory, objects, objects_in}
 use Rattle.core_relation.specs.Changes.{StepsAtHome}
 use Rattle.core_relation.specs.Copies.{PartFits}
 use Rattle.core_relation.specs.Fits.{with_home}
@@ -33,9 +33,9 @@ use Rattle.task_machine.specs.Place.{Places}
 use Rattle.task_machine.specs.Run.{KeepsRest, Ran, Runs}
 use Rattle.shared_value.specs.Again.{KeepsPlaces}
 use Rattle.shared_value.specs.Objects.{chunk_of}
-use Rattle.shared_value.specs.World.{World, accounts, value_of}
+use Rattle.shared_value.specs.SharedValue.{SharedValue, accounts, value_of}
 use Rattle.shared_value.specs.Measured.{IsMeasured}
-use Rattle.shared_value.specs.Stands.{HeapForm, IsWorld}
+use Rattle.shared_value.specs.Stands.{HeapForm, IsSharedValue}
 use Rattle.shared_value.specs.Fits.{Fits, home_of_part, part_of}
 use Rattle.shared_value.specs.Links.{above_of}
 use Rattle.shared_value.proofs.CellsRead.{object_seen, seen_object}
@@ -49,14 +49,14 @@ use Rattle.own_steps.proofs.StepsCounted as run
 use Rattle.own_steps.proofs.FormByOutline.{run_formed}
 use Rattle.own_steps.proofs.PartHome.{home_read}
 
-module _ (w : World) (k : ℕ) (p q : Private) (n : ℕ) (I : IsWorld w) (F : Fits w k p) (on : (accounts w).end ≡ None) (idle : p.begun ≡ None) (R : Runs w.program p n q) (C : KeepsAccounts w.program p n q) (rest : KeepsRest p q) (few : p.fresh + n ≤ 257) where
+module _ (w : SharedValue) (k : ℕ) (p q : Private) (n : ℕ) (I : IsSharedValue w) (F : Fits w k p) (on : (accounts w).end ≡ None) (idle : p.begun ≡ None) (R : Runs w.program p n q) (C : KeepsAccounts w.program p n q) (rest : KeepsRest p q) (few : p.fresh + n ≤ 257) where
   abbrev l : Ledger
   l = accounts w
 
   abbrev t : ℕ
   t = p.task
 
-  abbrev v : Value
+  abbrev v : Memory
   v = value_of w
 
   abbrev above : Places
@@ -84,10 +84,10 @@ module _ (w : World) (k : ℕ) (p q : Private) (n : ℕ) (I : IsWorld w) (F : Fi
   counts_then : IsCounted q.heap (heap_of L' t)
   counts_then = run.counts_then w k p q n I F on idle R C
 
-  abbrev before : Value
+  abbrev before : Memory
   before = with_home v t (home_of_part p)
 
-  abbrev after : Value
+  abbrev after : Memory
   after = with_home v t (home_of_part Q)
 
   was : before.homes t ≡ home_of_part p
@@ -99,7 +99,7 @@ module _ (w : World) (k : ℕ) (p q : Private) (n : ℕ) (I : IsWorld w) (F : Fi
   old : HomeStands before L t
   old = (link.W w k p I F on).homes t (link.at_rest w k p I F on)
 
-  old_chunk : (c : Content) → In p.heap.chunks c → In (before.homes t).chunks (chunk_of c)
+  old_chunk : (c : ChunkValue) → In p.heap.chunks c → In (before.homes t).chunks (chunk_of c)
   old_chunk c i = subst (λ (h : Home). In h.chunks (chunk_of c)) (sym was) (in_map chunk_of p.heap.chunks c i)
 
   -- what of its heap is known
@@ -110,7 +110,7 @@ module _ (w : World) (k : ℕ) (p q : Private) (n : ℕ) (I : IsWorld w) (F : Fi
         let c = chunk_at p.heap.chunks i in
         record {
           tidy = All-get_or IsTidy p.heap.chunks i no_chunk lt F.form.tidy;
-          within = All-get_or (λ (x : Content). words_in x.cells ≤ x.size) p.heap.chunks i no_chunk lt F.form.within;
+          within = All-get_or (λ (x : ChunkValue). words_in x.cells ≤ x.size) p.heap.chunks i no_chunk lt F.form.within;
           whole = F.form.whole c (chunk_there p.heap.chunks i lt);
           large = λ big. old.laid.large (chunk_of c) (old_chunk c (chunk_there p.heap.chunks i lt)) (ap not (ne_eqb c.size 1024 big));
         };
@@ -127,7 +127,7 @@ module _ (w : World) (k : ℕ) (p q : Private) (n : ℕ) (I : IsWorld w) (F : Fi
   tidy_then = formed_tidy q.heap formed_then
 
   within_then : AreWithin q.heap.chunks
-  within_then = All-from_get_or (λ (x : Content). words_in x.cells ≤ x.size) q.heap.chunks no_chunk (λ i lt. (formed_then.each i lt).within)
+  within_then = All-from_get_or (λ (x : ChunkValue). words_in x.cells ≤ x.size) q.heap.chunks no_chunk (λ i lt. (formed_then.each i lt).within)
 
   form_then : HeapForm q.heap
   form_then = record {
@@ -138,7 +138,7 @@ module _ (w : World) (k : ℕ) (p q : Private) (n : ℕ) (I : IsWorld w) (F : Fi
     last = counts_then.last;
     last_large = counts_then.last_large;
     since = let e : q.heap.since ≡ min (heap_of L' t).since (2 ^ 64 - 1) = counts_then.since in omega (arith, e);
-    whole = λ c i. (let x = place_there q.heap.chunks c i in subst (λ (z : Content). z.size ≡ 1024 * (z.size / 1024)) x.2 (formed_then.each x.0 x.1).whole);
+    whole = λ c i. (let x = place_there q.heap.chunks c i in subst (λ (z : ChunkValue). z.size ≡ 1024 * (z.size / 1024)) x.2 (formed_then.each x.0 x.1).whole);
     spare = formed_then.spare;
   }
 
@@ -159,7 +159,7 @@ module _ (w : World) (k : ℕ) (p q : Private) (n : ℕ) (I : IsWorld w) (F : Fi
     stays = stays;
   }
 
-  owned_then : (c : Content) → In q.heap.chunks c → v.owner c.number ≡ Some t
+  owned_then : (c : ChunkValue) → In q.heap.chunks c → v.owner c.number ≡ Some t
   owned_then c i = let j = keeps.numbers c i in ap v.owner (sym j.2) ∙ old.owned (chunk_of j.0) (old_chunk j.0 j.1)
 
   -- another's object lies where it lay

@@ -16,10 +16,10 @@ use Rattle.hh_model.specs.Step.{asked, asked_by, asked_line, fetched, is_running
 use Rattle.run_ledger.specs.Heaps.{units as units_for}
 use Rattle.object_layout.specs.Cell.{Born, Cell, Hole, Mark, Moved, moved_to, size_of}
 use Rattle.object_layout.specs.Chunks.{chunk_at, place_in, place_of}
-use Rattle.object_layout.specs.Content.{Content}
+use Rattle.object_layout.specs.ChunkValue.{ChunkValue}
 use Rattle.object_layout.specs.Place.{words_in}
 use Rattle.object_layout.specs.Objects.{Located, located_by, objects_from}
-use Rattle.alloc_path.specs.Heap.{AreApart, Heap, IsCurrent, IsReserved, IsTidy, place_for, placed, units}
+use Rattle.alloc_path.specs.LeafHeapValue.{AreApart, LeafHeapValue, IsCurrent, IsReserved, IsTidy, place_for, placed, units}
 use Rattle.core_relation.specs.Layout.{HoldsLarge, words}
 use Rattle.task_machine.specs.declared.part.Private.{Private}
 use Rattle.task_machine.specs.Fits.{IsShaped}
@@ -52,7 +52,7 @@ objects_outlined (c ∷ cs) number base =
     along (Moved to) os = refl
     along Hole os = refl
 
-objects_of : (k : Content) → (chunk_of (outline_of_chunk k)).objects ≡ map plain (chunk_of k).objects
+objects_of : (k : ChunkValue) → (chunk_of (outline_of_chunk k)).objects ≡ map plain (chunk_of k).objects
 objects_of k = objects_outlined k.cells k.number 0
 
 none_back : (os : List Located) → map plain os ≡ [] → os ≡ []
@@ -64,11 +64,11 @@ one_back [] o e = absurd cc
 one_back (q ∷ []) o e = (q, refl, cc)
 one_back (q ∷ r ∷ os) o e = absurd cc
 
-large_on : (k : Content) → HoldsLarge (chunk_of k) → HoldsLarge (chunk_of (outline_of_chunk k))
+large_on : (k : ChunkValue) → HoldsLarge (chunk_of k) → HoldsLarge (chunk_of (outline_of_chunk k))
 large_on k (inl e) = inl (objects_of k ∙ ap (map plain) e)
 large_on k (inr h) = inr (plain h.0, objects_of k ∙ ap (map plain) h.1, h.2, h.3 ∙ ap units_for (sym (plain_words h.0)))
 
-large_back : (k : Content) → HoldsLarge (chunk_of (outline_of_chunk k)) → HoldsLarge (chunk_of k)
+large_back : (k : ChunkValue) → HoldsLarge (chunk_of (outline_of_chunk k)) → HoldsLarge (chunk_of k)
 large_back k (inl e) = inl (none_back (chunk_of k).objects (sym (objects_of k) ∙ e))
 large_back k (inr h) =
     let q = one_back (chunk_of k).objects h.0 (sym (objects_of k) ∙ h.1) in
@@ -90,7 +90,7 @@ Alone n c = 1024 < size_of c → n ≡ 1
 abbrev Exact : ℕ → Cell → Type 0
 Exact size c = 1024 < size_of c → size ≡ 1024 * units (size_of c)
 
-module _ (k : Content) where
+module _ (k : ChunkValue) where
   as_many : length (map outline_of_cell k.cells) ≡ length k.cells
   as_many = length-map k.cells outline_of_cell
 
@@ -128,29 +128,29 @@ module _ (k : Content) where
 
 -- ---- THE SHAPE
 
-place_of_outline : (ks : List Content) (n : ℕ) → place_of (map outline_of_chunk ks) n ≡ place_of ks n
+place_of_outline : (ks : List ChunkValue) (n : ℕ) → place_of (map outline_of_chunk ks) n ≡ place_of ks n
 place_of_outline [] n = refl
 place_of_outline (k ∷ ks) n = ap (λ z. cond (k.number == n) 0 (1 + z)) (place_of_outline ks n)
 
-place_in_outline : (ks : List Content) (n : ℕ) → place_in (map outline_of_chunk ks) n ≡ place_in ks n
+place_in_outline : (ks : List ChunkValue) (n : ℕ) → place_in (map outline_of_chunk ks) n ≡ place_in ks n
 place_in_outline ks n = ap₂ (λ z len. cond (nat_lt z len) (Some z) None) (place_of_outline ks n) (length-map ks outline_of_chunk)
 
-apart_on : (ks : List Content) → AreApart ks → AreApart (map outline_of_chunk ks)
+apart_on : (ks : List ChunkValue) → AreApart ks → AreApart (map outline_of_chunk ks)
 apart_on [] h = h
 apart_on (k ∷ ks) h = (place_in_outline ks k.number ∙ h.0, apart_on ks h.1)
 
-current_on : (ks : List Content) (o : Option ℕ) → IsCurrent ks o → IsCurrent (map outline_of_chunk ks) o
+current_on : (ks : List ChunkValue) (o : Option ℕ) → IsCurrent ks o → IsCurrent (map outline_of_chunk ks) o
 current_on ks None h = tt
-current_on ks (Some i) h = (let e = length-map ks outline_of_chunk in let lt = h.0 in omega (arith, lt, e), ap (λ (k : Content). k.size) (outline_at ks i) ∙ h.1)
+current_on ks (Some i) h = (let e = length-map ks outline_of_chunk in let lt = h.0 in omega (arith, lt, e), ap (λ (k : ChunkValue). k.size) (outline_at ks i) ∙ h.1)
 
-reserved_on : (ks : List Content) (o : Option ℕ) → IsReserved ks o → IsReserved (map outline_of_chunk ks) o
+reserved_on : (ks : List ChunkValue) (o : Option ℕ) → IsReserved ks o → IsReserved (map outline_of_chunk ks) o
 reserved_on ks None h = tt
 reserved_on ks (Some i) h =
-    (let e = length-map ks outline_of_chunk in let lt = h.0 in omega (arith, lt, e), (subst (λ n. 1024 < n) (ap (λ (k : Content). k.size) (sym (outline_at ks i))) h.1.0, ap (λ (k : Content). k.cells) (outline_at ks i) ∙ ap (map outline_of_cell) h.1.1))
+    (let e = length-map ks outline_of_chunk in let lt = h.0 in omega (arith, lt, e), (subst (λ n. 1024 < n) (ap (λ (k : ChunkValue). k.size) (sym (outline_at ks i))) h.1.0, ap (λ (k : ChunkValue). k.cells) (outline_at ks i) ∙ ap (map outline_of_cell) h.1.1))
 
 -- ---- THE HEAP
 
-pub formed_outline : (h : Heap) → Formed h → Formed (outline_of h)
+pub formed_outline : (h : LeafHeapValue) → Formed h → Formed (outline_of h)
 formed_outline h F =
     let len : length (map outline_of_chunk h.chunks) ≡ length h.chunks = length-map h.chunks outline_of_chunk in
     record {
@@ -158,11 +158,11 @@ formed_outline h F =
       each = λ i lt. subst IsFormed (sym (outline_at h.chunks i)) (formed_on (chunk_at h.chunks i) (F.each i (omega (arith, lt, len))));
       spare = λ i lt big empty.
           let at : chunk_at (map outline_of_chunk h.chunks) i ≡ outline_of_chunk (chunk_at h.chunks i) = outline_at h.chunks i in
-          F.spare i (omega (arith, lt, len)) (λ e. big (ap (λ (k : Content). k.size) at ∙ e))
-          (none_back (chunk_of (chunk_at h.chunks i)).objects (sym (objects_of (chunk_at h.chunks i)) ∙ (ap (λ (k : Content). (chunk_of k).objects) (sym at) ∙ empty)));
+          F.spare i (omega (arith, lt, len)) (λ e. big (ap (λ (k : ChunkValue). k.size) at ∙ e))
+          (none_back (chunk_of (chunk_at h.chunks i)).objects (sym (objects_of (chunk_at h.chunks i)) ∙ (ap (λ (k : ChunkValue). (chunk_of k).objects) (sym at) ∙ empty)));
     }
 
-pub formed_from : (h : Heap) → IsShaped h → Formed (outline_of h) → Formed h
+pub formed_from : (h : LeafHeapValue) → IsShaped h → Formed (outline_of h) → Formed h
 formed_from h S F =
     let len : length (map outline_of_chunk h.chunks) ≡ length h.chunks = length-map h.chunks outline_of_chunk in
     record {
@@ -170,8 +170,8 @@ formed_from h S F =
       each = λ i lt. formed_back (chunk_at h.chunks i) (subst IsFormed (outline_at h.chunks i) (F.each i (omega (arith, lt, len))));
       spare = λ i lt big empty.
           let at : chunk_at (map outline_of_chunk h.chunks) i ≡ outline_of_chunk (chunk_at h.chunks i) = outline_at h.chunks i in
-          F.spare i (omega (arith, lt, len)) (λ e. big (ap (λ (k : Content). k.size) (sym at) ∙ e))
-          (ap (λ (k : Content). (chunk_of k).objects) at ∙ (objects_of (chunk_at h.chunks i) ∙ ap (map plain) empty));
+          F.spare i (omega (arith, lt, len)) (λ e. big (ap (λ (k : ChunkValue). k.size) (sym at) ∙ e))
+          (ap (λ (k : ChunkValue). (chunk_of k).objects) at ∙ (objects_of (chunk_at h.chunks i) ∙ ap (map plain) empty));
     }
 
 -- ---- STEPS
@@ -201,7 +201,7 @@ asked_two p m t w e = by_task (slice_get m.tasks t) e
 abbrev next_blank : State → ℕ → ℕ → Cell
 next_blank m t w = blank (Born (record { task = t; count = length (row_of (slice_get m.store t)) })) (w - 2)
 
-formed_by : (m : State) (t : ℕ) (h : Heap) (o : Option ℕ) → ((w : ℕ) → o ≡ Some w → 2 ≤ w) → Formed h → Formed (outline_by m t h o)
+formed_by : (m : State) (t : ℕ) (h : LeafHeapValue) (o : Option ℕ) → ((w : ℕ) → o ≡ Some w → 2 ≤ w) → Formed h → Formed (outline_by m t h o)
 formed_by m t h None two F = F
 formed_by m t h (Some w) two F = by (place_for h w) refl
   where
@@ -212,7 +212,7 @@ formed_by m t h (Some w) two F = by (place_for h w) refl
     by None e = F
     by (Some i) e = formed_placed h F i (next_blank m t w) (record { task = t; count = length (row_of (slice_get m.store t)) }) refl (ap (place_for h) size ∙ e)
 
-formed_after : (p : ProgramText) (m : State) (t : ℕ) (h : Heap) (k : ℕ) → Formed h → Formed (outline_after p m t h k)
+formed_after : (p : ProgramText) (m : State) (t : ℕ) (h : LeafHeapValue) (k : ℕ) → Formed h → Formed (outline_after p m t h k)
 formed_after p m t h zero F = F
 formed_after p m t h (suc k) F = formed_by (steps p m t k) t (outline_after p m t h k) (asked p (steps p m t k) t) (λ w e. asked_two p (steps p m t k) t w e) (formed_after p m t h k F)
 

@@ -15,8 +15,8 @@ use Rattle.hh_model.specs.declared.data.Task.{Task}
 use Rattle.hh_model.specs.Step.{is_joined, is_over, runs}
 use Rattle.run_ledger.specs.declared.data.Ledger.{Ledger}
 use Rattle.run_ledger.specs.Steps.{is_private, touched}
-use Rattle.ledger_steps.specs.Last.{EndsDone, EndsLast, GoesOn, IsOfKind, LastKind, Prints}
-use Rattle.ledger_steps.specs.Last.{Private, Reading, Writing, Printing, Forking, Ending, Joining, Finishing, Halting}
+use Rattle.ledger_step_laws.specs.Last.{EndsDone, EndsLast, GoesOn, IsOfKind, LastKind, Prints}
+use Rattle.ledger_step_laws.specs.Last.{Private, Reading, Writing, Printing, Forking, Ending, Joining, Finishing, Halting}
 
 none_end : {A : Type 0} {e : End} → ◌≡◌ {A = Option End} None (Some e) → A
 none_end e = absurd cc

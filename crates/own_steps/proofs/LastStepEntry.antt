@@ -8,22 +8,22 @@ use Rattle.hh_model.specs.Effect.{effect}
 use Rattle.hh_model.specs.Step.{can_step, fetched, follow, goes_on, is_running, is_waiting, runs, setting, step, waits}
 use Rattle.hh_model.proofs.Taken.{step_taken}
 use Rattle.run_trace.specs.declared.entry.Kind.TheVariants.{Ran}
-use Rattle.run_trace.specs.Entry.{Event}
+use Rattle.run_trace.specs.Entry.{EntryValue}
 use Rattle.run_ledger.specs.declared.data.Ledger.{Ledger}
 use Rattle.run_ledger.specs.Heaps.{heap_of}
 use Rattle.run_ledger.specs.Steps.{is_private, most_steps, standing, task_steps}
 use Rattle.run_ledger.specs.Entries.{after, long_at}
 use Rattle.run_ledger.proofs.Journals.{entry_tells}
 use Rattle.run_ledger.proofs.Machine.{task_step_machine}
-use Rattle.ledger_steps.specs.Accounts.{Knows}
-use Rattle.ledger_steps.specs.Last.{Runs, Splits}
-use Rattle.ledger_steps.proofs.Along.{steps_know}
-use Rattle.ledger_steps.proofs.Known.{legal_knows}
-use Rattle.ledger_steps.proofs.Split.{entry_runs}
+use Rattle.ledger_step_laws.specs.Accounts.{Knows}
+use Rattle.ledger_step_laws.specs.Last.{Runs, Splits}
+use Rattle.ledger_step_laws.proofs.Along.{steps_know}
+use Rattle.ledger_step_laws.proofs.Known.{legal_knows}
+use Rattle.ledger_step_laws.proofs.Split.{entry_runs}
 use Rattle.core_relation.specs.Worker.{Fits as FitsValue}
 use Rattle.task_machine.specs.declared.part.Private.{Private}
-use Rattle.shared_value.specs.World.{World, accounts, value_of}
-use Rattle.shared_value.specs.Stands.{IsWorld}
+use Rattle.shared_value.specs.SharedValue.{SharedValue, accounts, value_of}
+use Rattle.shared_value.specs.Stands.{IsSharedValue}
 use Rattle.shared_value.specs.Fits.{Fits, part_of}
 use Rattle.shared_value.specs.declared.next_step.Ending.{Ending}
 use Rattle.shared_value.specs.Entered.{refused}
@@ -34,10 +34,10 @@ use Rattle.shared_value.proofs.StepAccounts.{After, hold, hold_same}
 use Rattle.own_steps.specs.Alone.{IsShared, SaysOf, Tells}
 use Rattle.own_steps.proofs.LastSteps.{shared_now}
 
-abbrev pub last_event : ℕ → Private → Event
+abbrev pub last_event : ℕ → Private → EntryValue
 last_event k p = record { worker = k; kind = Ran p.task (suc p.fresh) }
 
-module _ (w : World) (k : ℕ) (p : Private) (I : IsWorld w) (F : Fits w k p) (shared : IsShared w p) (free : refused w (last_event k p) ≡ None) where
+module _ (w : SharedValue) (k : ℕ) (p : Private) (I : IsSharedValue w) (F : Fits w k p) (shared : IsShared w p) (free : refused w (last_event k p) ≡ None) where
   abbrev pub t : ℕ
   t = p.task
 

@@ -6,23 +6,23 @@ use Rattle.hh_lang.specs.Form.{ProgramText}
 use Rattle.hh_model.specs.declared.data.State.{State}
 use Rattle.hh_model.specs.Step.{asked, fetched}
 use Rattle.run_trace.specs.declared.entry.Kind.TheVariants.{Ran}
-use Rattle.run_trace.specs.Entry.{Event}
-use Rattle.run_trace.specs.Settings.{Limits}
+use Rattle.run_trace.specs.Entry.{EntryValue}
+use Rattle.run_trace.specs.Settings.{SettingsValue}
 use Rattle.run_ledger.specs.declared.data.Ledger.{Ledger}
 use Rattle.run_ledger.specs.declared.data.Refused.{Refused}
 use Rattle.run_ledger.specs.declared.data.Refused.TheVariants.{Collecting, Long}
 use Rattle.run_ledger.specs.Heaps.{heap_of, lacks_room}
 use Rattle.run_ledger.specs.Steps.{is_due, is_in_need, is_private, most_steps, on_asked, standing, task_step, task_steps}
 use Rattle.run_ledger.specs.Entries.{kind_refusal, refused_if, refused_unless}
-use Rattle.ledger_steps.specs.Accounts.{ArePrivate}
+use Rattle.ledger_step_laws.specs.Accounts.{ArePrivate}
 use Rattle.core_relation.specs.Fits.{FitsAt as FitsValue, ahead}
 use Rattle.core_relation.proofs.parts.Quiet.{aside_is}
 use Rattle.task_machine.specs.declared.part.Private.{Private}
 use Rattle.task_machine.specs.Fits.{FitsNow as FitsMachine}
 use Rattle.task_machine.specs.Place.{Places}
 use Rattle.task_machine.proofs.Agreement.{has_line, same_line}
-use Rattle.shared_value.specs.World.{World, accounts, value_of}
-use Rattle.shared_value.specs.Stands.{IsWorld}
+use Rattle.shared_value.specs.SharedValue.{SharedValue, accounts, value_of}
+use Rattle.shared_value.specs.Stands.{IsSharedValue}
 use Rattle.shared_value.specs.Fits.{Fits, part_of}
 use Rattle.shared_value.specs.Links.{above_of}
 use Rattle.shared_value.specs.Next.{ending, line_asks, next_line}
@@ -38,7 +38,7 @@ use Rattle.own_steps.specs.Alone.{IsShared, Tells, alone_event, machine_after}
 use Rattle.own_steps.proofs.NextStepEnds.{asks_none, ending_tells}
 
 -- private steps and one more, which isn't
-standing_last : (p : ProgramText) (s : Limits) (t k : ℕ) (l : Ledger) → ArePrivate p s l t k → is_due s p (task_steps p l t k) t ≡ false → is_in_need p (task_steps p l t k) t ≡ false → is_private p (task_steps p l t k).machine t ≡ false
+standing_last : (p : ProgramText) (s : SettingsValue) (t k : ℕ) (l : Ledger) → ArePrivate p s l t k → is_due s p (task_steps p l t k) t ≡ false → is_in_need p (task_steps p l t k) t ≡ false → is_private p (task_steps p l t k).machine t ≡ false
     → standing s p l t (suc k) ≡ suc k
 standing_last p s t zero l h due need shared =
     cond-false (is_due s p l t || is_in_need p l t) 0 (cond (is_private p l.machine t) (suc (standing s p (task_step p l t) t 0)) 1) (ap₂ (λ a b. a || b) due need)
@@ -47,7 +47,7 @@ standing_last p s t (suc k) l h due need shared =
     cond-false (is_due s p l t || is_in_need p l t) 0 (cond (is_private p l.machine t) (suc (standing s p (task_step p l t) t (suc k))) 1) (ap₂ (λ a b. a || b) h.0 h.1)
     ∙ (cond-true (is_private p l.machine t) (suc (standing s p (task_step p l t) t (suc k))) 1 h.2 ∙ ap suc (standing_last p s t k (task_step p l t) h.3 due need shared))
 
-module _ (w : World) (k : ℕ) (p : Private) (I : IsWorld w) (F : Fits w k p) (shared : IsShared w p) (on : (accounts w).end ≡ None) where
+module _ (w : SharedValue) (k : ℕ) (p : Private) (I : IsSharedValue w) (F : Fits w k p) (shared : IsShared w p) (on : (accounts w).end ≡ None) where
   abbrev t : ℕ
   t = p.task
 
@@ -108,7 +108,7 @@ module _ (w : World) (k : ℕ) (p : Private) (I : IsWorld w) (F : Fits w k p) (s
 -- WHY IT IS REFUSED
 
 pub event_is : (k : ℕ) (p : Private) → alone_event k p ≡ record { worker = k; kind = Ran p.task (suc p.fresh) }
-event_is k p = ap (λ n. let e : Event = record { worker = k; kind = Ran p.task n } in e) (let q : p.fresh + 1 ≡ suc p.fresh = omega arith in q)
+event_is k p = ap (λ n. let e : EntryValue = record { worker = k; kind = Ran p.task n } in e) (let q : p.fresh + 1 ≡ suc p.fresh = omega arith in q)
 
 end_by : (a b c : Bool) (x y z : Refused) → refused_if a x (refused_if b y (refused_unless c z None)) ≡ None → a ≡ false
 end_by true b c x y z h = absurd cc
@@ -122,7 +122,7 @@ nothing_some : {A : Type 0} (o : Option A) → is_some o ≡ false → o ≡ Non
 nothing_some None h = refl
 nothing_some (Some x) h = absurd (false≢true (sym h))
 
-pub alone_answer : (w : World) (k : ℕ) (p : Private) → IsWorld w → Fits w k p → IsShared w p → refused w (alone_event k p) ≡ or_else (first_cause w.end w.steps w.settings k false) (refused_if (is_some p.begun) Collecting None)
+pub alone_answer : (w : SharedValue) (k : ℕ) (p : Private) → IsSharedValue w → Fits w k p → IsShared w p → refused w (alone_event k p) ≡ or_else (first_cause w.end w.steps w.settings k false) (refused_if (is_some p.begun) Collecting None)
 alone_answer w k p I F shared =
     ap (refused w) (event_is k p)
     ∙ (refused_is w I (record { worker = k; kind = Ran p.task (suc p.fresh) })

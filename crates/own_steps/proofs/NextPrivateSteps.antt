@@ -5,14 +5,14 @@ use Rattle.hh_model.specs.declared.data.Status.TheVariants.{Running}
 use Rattle.hh_model.specs.declared.data.Task.{Task}
 use Rattle.hh_model.specs.declared.data.State.{State}
 use Rattle.hh_model.specs.Step.{asked, step}
-use Rattle.run_trace.specs.Settings.{Limits}
+use Rattle.run_trace.specs.Settings.{SettingsValue}
 use Rattle.run_ledger.specs.declared.data.Heap.{Heap}
 use Rattle.run_ledger.specs.declared.data.Ledger.{Ledger}
 use Rattle.run_ledger.specs.Heaps.{heap_of, or_fresh, lacks_room}
 use Rattle.run_ledger.specs.Steps.{allocated_by, is_due, is_in_need, is_private, on_asked, task_step, task_steps}
 use Rattle.run_ledger.proofs.Machine.{task_step_machine}
-use Rattle.ledger_steps.specs.Accounts.{ArePrivate}
-use Rattle.ledger_steps.proofs.Ahead.{heap_then, with_at}
+use Rattle.ledger_step_laws.specs.Accounts.{ArePrivate}
+use Rattle.ledger_step_laws.proofs.Ahead.{heap_then, with_at}
 use Rattle.task_machine.specs.declared.part.Private.{Private}
 use Rattle.task_machine.specs.Accounts.{IsCounted, KeepsAccounts, RanBy, account_after, account_by}
 use Rattle.task_machine.specs.Fits.{FitsNow as FitsMachine}
@@ -21,7 +21,7 @@ use Rattle.task_machine.specs.Place.{Places}
 use Rattle.task_machine.specs.Run.{Ran, Runs}
 use Rattle.shared_value.proofs.StepAccounts.{After, after_none, after_both, after_one, step_is}
 
-module _ (p : ProgramText) (s : Limits) (t : ℕ) where
+module _ (p : ProgramText) (s : SettingsValue) (t : ℕ) where
   -- the last of the steps
   steps_last : (i : ℕ) (l : Ledger) → task_steps p l t (suc i) ≡ task_step p (task_steps p l t i) t
   steps_last zero l = refl
@@ -82,7 +82,7 @@ module _ (p : ProgramText) (s : Limits) (t : ℕ) where
 
 -- WHAT A RUN OF A PART ENSURES, in accounts whose machine the part fitted: the steps are private there, neither due nor
 -- in need, the part's heap is as its account is then, and the part fits the machine then
-module _ (p : ProgramText) (s : Limits) (old new : Private) (k : ℕ) (R : Runs p old k new) (C : KeepsAccounts p old k new) (leaf : old.leaf_limit ≡ s.leaf) (small : old.leaf_limit < 2 ^ 64)
+module _ (p : ProgramText) (s : SettingsValue) (old new : Private) (k : ℕ) (R : Runs p old k new) (C : KeepsAccounts p old k new) (leaf : old.leaf_limit ≡ s.leaf) (small : old.leaf_limit < 2 ^ 64)
     (l : Ledger) (x : Task) (h : Heap) (going : l.machine.end ≡ None) (is : slice_get l.machine.tasks old.task ≡ Some x) (run : x.status ≡ Running) (there : slice_get l.heaps old.task ≡ Some h)
     (above : Places) (F : FitsMachine p old l.machine above) (counts : IsCounted old.heap h) where
   A : Ran p old l.machine above k new

@@ -20,9 +20,9 @@ use Rattle.hh_model.specs.Step.{ended_by, is_joined, is_over, runs}
 use Rattle.run_ledger.specs.declared.data.Ledger.{Ledger}
 use Rattle.run_ledger.specs.Heaps.{let_go}
 use Rattle.run_ledger.specs.Steps.{is_private, touched}
-use Rattle.ledger_steps.specs.Last.{EndsLast, GoesOn, Halts, IsOfKind, JustReads, LastKind, ReadsOther, WritesOther, Wrote}
-use Rattle.ledger_steps.specs.Last.{Private, Reading, Writing, Printing, Forking, Ending, Joining, Finishing, Halting}
-use Rattle.ledger_steps.proofs.Ahead.{with_machine}
+use Rattle.ledger_step_laws.specs.Last.{EndsLast, GoesOn, Halts, IsOfKind, JustReads, LastKind, ReadsOther, WritesOther, Wrote}
+use Rattle.ledger_step_laws.specs.Last.{Private, Reading, Writing, Printing, Forking, Ending, Joining, Finishing, Halting}
+use Rattle.ledger_step_laws.proofs.Ahead.{with_machine}
 
 none_end : {A : Type 0} {e : End} → ◌≡◌ {A = Option End} None (Some e) → A
 none_end e = absurd cc

@@ -1,19 +1,19 @@
 -- An output is entered.
 use Rattle.std.proofs.Common.{◌≡◌, ℕ, ℤ, suc, ◌+◌, ◌++◌, true, Some, None, List, [], ◌∷◌, slice_get, slice_set, refl, ap, sym, ◌∙◌}
 use Rattle.listed.proofs.Members.{got_same}
-use Rattle.listed.specs.Space.{Space}
+use Rattle.listed.specs.RoomyValue.{RoomyValue}
 use Rattle.hh_lang.specs.declared.instr.Instr.{Instr}
 use Rattle.hh_lang.specs.declared.instr.Instr.TheVariants.{Out}
 use Rattle.hh_model.specs.declared.data.State.{State}
 use Rattle.hh_model.specs.declared.data.Task.{Task}
 use Rattle.hh_model.specs.Effect.{effect, int_in, onward}
 use Rattle.hh_model.specs.Step.{follow, runs, setting}
-use Rattle.run_trace.specs.Entry.{Event}
+use Rattle.run_trace.specs.Entry.{EntryValue}
 use Rattle.run_ledger.specs.declared.data.Ledger.{Ledger}
 use Rattle.run_ledger.specs.Steps.{task_steps}
-use Rattle.task_frames.specs.Stack.{with_next}
-use Rattle.ledger_steps.specs.Last.{Printing, Prints, Runs, Splits}
-use Rattle.core_relation.specs.Value.{Home, Value}
+use Rattle.task_frames.specs.FramesValue.{with_next}
+use Rattle.ledger_step_laws.specs.Last.{Printing, Prints, Runs, Splits}
+use Rattle.core_relation.specs.Memory.{Home, Memory}
 use Rattle.core_relation.specs.Fits.{part_for}
 use Rattle.core_relation.specs.Makes.{StepsTo}
 use Rattle.core_relation.specs.RanCounts.{RanCounts}
@@ -24,8 +24,8 @@ use Rattle.core_relation.proofs.parts.Sets.{numbers_go}
 use Rattle.core_relation.proofs.parts.Workers.{ran_leaves}
 use Rattle.task_machine.specs.declared.part.Private.{Private}
 use Rattle.shared_value.specs.declared.next_step.Ending.TheVariants.{Prints as PrintsOf}
-use Rattle.shared_value.specs.World.{World, accounts, totals_of, value_of}
-use Rattle.shared_value.specs.Stands.{IsWorld}
+use Rattle.shared_value.specs.SharedValue.{SharedValue, accounts, totals_of, value_of}
+use Rattle.shared_value.specs.Stands.{IsSharedValue}
 use Rattle.shared_value.specs.Fits.{Fits, OthersFit, home_of_part, part_of}
 use Rattle.shared_value.specs.Entered.{refused}
 use Rattle.shared_value.proofs.EntryMade.{entered, entered_world, held_apart, part_fits}
@@ -39,7 +39,7 @@ abbrev register_of : Instr → ℕ
 register_of (Out a) = a
 register_of _ = 0
 
-module _ (w : World) (k : ℕ) (p : Private) (I : IsWorld w) (F : Fits w k p) (shared : IsShared w p) (free : refused w (last_event k p) ≡ None) (value : ℤ) (number : ℕ) (T : Tells w p (PrintsOf value) number) where
+module _ (w : SharedValue) (k : ℕ) (p : Private) (I : IsSharedValue w) (F : Fits w k p) (shared : IsShared w p) (free : refused w (last_event k p) ≡ None) (value : ℤ) (number : ℕ) (T : Tells w p (PrintsOf value) number) where
   abbrev t : ℕ
   t = p.task
 
@@ -52,7 +52,7 @@ module _ (w : World) (k : ℕ) (p : Private) (I : IsWorld w) (F : Fits w k p) (s
   abbrev L : Ledger
   L = last.L w k p I F shared free
 
-  abbrev v : Value
+  abbrev v : Memory
   v = value_of w
 
   abbrev h : Home
@@ -102,20 +102,20 @@ module _ (w : World) (k : ℕ) (p : Private) (I : IsWorld w) (F : Fits w k p) (s
   value_is : value ≡ int_in S.task.top Q.register
   value_is = says.2 ∙ ap (int_in S.task.top) (ap register_of (sym says.1 ∙ Q.by))
 
-  module _ (j : Space Event) where
+  module _ (j : RoomyValue EntryValue) where
     abbrev outputs : List ℤ
     outputs = w.outputs ++ value ∷ []
 
     abbrev steps : ℕ
     steps = w.steps + suc p.fresh
 
-    abbrev w' : World
+    abbrev w' : SharedValue
     w' = entered w (last_event k p) w.tree w.pool w.homes w.sets w.hands outputs steps w.end j.room
 
     counts : RanCounts w.program (totals_of w) (totals_of w') M L t k p.fresh S.task S.line Printing Q
     counts = record { tree = λ u. refl; hand = λ u. refl; outputs = ap (λ x. w.outputs ++ x ∷ []) value_is; end = refl; used = refl; steps = refl }
 
-    pub output_world : IsWorld w'
+    pub output_world : IsSharedValue w'
     output_world =
         entered_world w (last_event k p) I free w.tree w.pool w.homes w.sets w.hands outputs steps w.end j.room I.made I.noted refl refl
         (ran_stands_for w.program w.settings w.journal.items I.form I.legal v v (totals_of w) (totals_of w') k t p.fresh h free E I.stands own refl tt counts)

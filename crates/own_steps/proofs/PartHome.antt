@@ -16,12 +16,12 @@ use Rattle.run_ledger.specs.Heaps.{heap_of}
 use Rattle.object_layout.specs.declared.word.Addr.{Addr}
 use Rattle.object_layout.specs.Cell.{Born}
 use Rattle.object_layout.specs.Chunks.{cell_of}
-use Rattle.object_layout.specs.Content.{Content}
+use Rattle.object_layout.specs.ChunkValue.{ChunkValue}
 use Rattle.object_layout.specs.Objects.{Located, located}
 use Rattle.object_layout.specs.ObjectLaws.{LiesThere}
 use Rattle.task_frames.specs.declared.frames.Frame.{Frame as FrameOfCode}
-use Rattle.ledger_steps.specs.Accounts.{own}
-use Rattle.core_relation.specs.Value.{Chunk, Home, In, Lies, Value, object_name, objects, objects_in}
+use Rattle.ledger_step_laws.specs.Accounts.{own}
+use Rattle.core_relation.specs.Memory.{Chunk, Home, In, Lies, Memory, object_name, objects, objects_in}
 use Rattle.core_relation.specs.Changes.{HomeIsRead}
 use Rattle.core_relation.specs.Layout.{AreLaidOut}
 use Rattle.core_relation.specs.Reads.{AllRead, FrameIsRead, FramesAreRead, HoldsRead, IsRead, TaskIsRead}
@@ -62,12 +62,12 @@ module _ (place : Places) (at : Name → Addr → Type 0) (lies : (n : Name) (a 
 -- ---- THE HOME
 
 module _ (program : ProgramText) (q : Private) (L : Ledger) (above : Places) (G : FitsMachine program q L.machine above) (F : Formed q.heap) (C : IsCounted q.heap (heap_of L q.task)) (few : (heap_of L q.task).since < 2 ^ 64)
-    (v : Value) (here : v.homes q.task ≡ home_of_part q) (owned : (k : Content) → In q.heap.chunks k → v.owner k.number ≡ Some q.task)
+    (v : Memory) (here : v.homes q.task ≡ home_of_part q) (owned : (k : ChunkValue) → In q.heap.chunks k → v.owner k.number ≡ Some q.task)
     (elsewhere : (n : Name) (a : Addr) → (own L n ≡ q.task → ⊥) → above n ≡ Some a → Place v L n a) where
   abbrev t : ℕ
   t = q.task
 
-  abbrev cells : List Content
+  abbrev cells : List ChunkValue
   cells = q.heap.chunks
 
   abbrev ks : List Chunk

@@ -3,7 +3,7 @@ use Rattle.std.proofs.Common.{◌≡◌, ℕ, suc, ◌+◌, ◌<◌, ◌&&◌, n
 use Rattle.std.proofs.lemmas.Bool.{cases_eq}
 use Rattle.std.proofs.lemmas.Option.{same_Some}
 use Rattle.listed.proofs.Members.{got_other, got_same, got_within}
-use Rattle.listed.specs.Space.{Space}
+use Rattle.listed.specs.RoomyValue.{RoomyValue}
 use Rattle.hh_lang.specs.declared.instr.Instr.{Instr}
 use Rattle.hh_lang.specs.declared.instr.Instr.TheVariants.{Ret}
 use Rattle.hh_model.specs.declared.data.End.TheVariants.{Done}
@@ -12,16 +12,16 @@ use Rattle.hh_model.specs.declared.data.State.{State as MachineState}
 use Rattle.hh_model.specs.declared.data.Task.{Task}
 use Rattle.hh_model.specs.Effect.{effect}
 use Rattle.hh_model.specs.Step.{ended_by, ended_task, follow, last_of, last_return, parent_of, result_of, returned_to, runs, setting, with_task}
-use Rattle.run_trace.specs.Entry.{Event}
+use Rattle.run_trace.specs.Entry.{EntryValue}
 use Rattle.run_ledger.specs.declared.data.Ledger.{Ledger}
 use Rattle.run_ledger.specs.declared.data.RunEnd.TheVariants.{Machine}
 use Rattle.run_ledger.specs.Heaps.{heap_of}
 use Rattle.run_ledger.specs.Steps.{task_steps}
 use Rattle.heap_tree.specs.declared.state.State.TheVariants.{Ended}
 use Rattle.heap_tree.specs.Node.{Node, with_state}
-use Rattle.ledger_steps.specs.Accounts.{Rests}
-use Rattle.ledger_steps.specs.Last.{EndsDone, Finishing, Runs, Splits}
-use Rattle.core_relation.specs.Value.{Home, Value}
+use Rattle.ledger_step_laws.specs.Accounts.{Rests}
+use Rattle.ledger_step_laws.specs.Last.{EndsDone, Finishing, Runs, Splits}
+use Rattle.core_relation.specs.Memory.{Home, Memory}
 use Rattle.core_relation.specs.Changes.{EndsHome}
 use Rattle.core_relation.specs.Fits.{part_for, with_home}
 use Rattle.core_relation.specs.RanCounts.{RanCounts}
@@ -35,9 +35,9 @@ use Rattle.core_relation.proofs.parts.Workers.{ran_leaves}
 use Rattle.task_machine.specs.declared.part.Private.{Private}
 use Rattle.shared_value.specs.declared.next_step.Ending.TheVariants.{Returns}
 use Rattle.shared_value.specs.declared.task_at_rest.Rest.{Rest}
-use Rattle.shared_value.specs.World.{World, accounts, flat, home_in, home_of, rest_at, totals_of, value_of}
+use Rattle.shared_value.specs.SharedValue.{SharedValue, accounts, flat, home_in, home_of, rest_at, totals_of, value_of}
 use Rattle.shared_value.specs.Measured.{AreMeasured, RestsAreMeasured}
-use Rattle.shared_value.specs.Stands.{HeapForm, IsWorld}
+use Rattle.shared_value.specs.Stands.{HeapForm, IsSharedValue}
 use Rattle.shared_value.specs.Fits.{Fits, OthersFit, home_of_part, part_of}
 use Rattle.shared_value.specs.Entered.{refused}
 use Rattle.shared_value.proofs.EntryMade.{accounts_are, entered, entered_world, hand_is, held_apart, part_fits, unheld_before}
@@ -52,7 +52,7 @@ no_parent : (par : ℕ → Option ℕ) → ((t p : ℕ) → par t ≡ Some p →
 no_parent par low t z None e = refl
 no_parent par low t z (Some q) e = let lt : q < t = low t q e in absurd (omega (arith, z, lt))
 
-module _ (w : World) (k : ℕ) (p : Private) (I : IsWorld w) (F : Fits w k p) (shared : IsShared w p) (free : refused w (last_event k p) ≡ None) (number : ℕ) (T : Tells w p Returns number) (root : p.task ≡ 0) where
+module _ (w : SharedValue) (k : ℕ) (p : Private) (I : IsSharedValue w) (F : Fits w k p) (shared : IsShared w p) (free : refused w (last_event k p) ≡ None) (number : ℕ) (T : Tells w p Returns number) (root : p.task ≡ 0) where
   abbrev t : ℕ
   t = p.task
 
@@ -65,7 +65,7 @@ module _ (w : World) (k : ℕ) (p : Private) (I : IsWorld w) (F : Fits w k p) (s
   abbrev L : Ledger
   L = last.L w k p I F shared free
 
-  abbrev v : Value
+  abbrev v : Memory
   v = value_of w
 
   abbrev h : Home
@@ -123,13 +123,13 @@ module _ (w : World) (k : ℕ) (p : Private) (I : IsWorld w) (F : Fits w k p) (s
   pub has_home : t < length w.homes
   has_home = subst (λ n. t < n) (sym I.made) has_node
 
-  abbrev vt : Value
+  abbrev vt : Memory
   vt = with_home v t h
 
   here : vt.homes t ≡ h
   here = at_home v t h
 
-  module _ (j : Space Event) where
+  module _ (j : RoomyValue EntryValue) where
     abbrev tree : List Node
     tree = with_state w.tree t Ended
 
@@ -142,10 +142,10 @@ module _ (w : World) (k : ℕ) (p : Private) (I : IsWorld w) (F : Fits w k p) (s
     abbrev steps : ℕ
     steps = w.steps + suc p.fresh
 
-    abbrev w' : World
+    abbrev w' : SharedValue
     w' = entered w (last_event k p) tree w.pool homes w.sets hands w.outputs steps (Some (Machine Done)) j.room
 
-    abbrev v' : Value
+    abbrev v' : Memory
     v' = value_of w'
 
     rest_now : rest_at homes t ≡ Some rest
@@ -197,7 +197,7 @@ module _ (w : World) (k : ℕ) (p : Private) (I : IsWorld w) (F : Fits w k p) (s
       | inr ne ↦ I.measured u r (sym (rest_off u ne) ∙ is) (unheld_before w.hands k None u f (λ h. ne (same_Some u t (sym h ∙ hand_is w k p I (last.on w k p I F shared free) F))))
     ]
 
-    pub done_world : IsWorld w'
+    pub done_world : IsSharedValue w'
     done_world =
         entered_world w (last_event k p) I free tree w.pool homes w.sets hands w.outputs steps (Some (Machine Done)) j.room (length-set w.homes t (Some rest) ∙ (I.made ∙ sym (made_by w.tree t Ended (slice_get w.tree t)))) (I.noted ∙ sym (made_by w.tree t Ended (slice_get w.tree t))) (length-set w.hands k None) refl
         (ran_stands_for w.program w.settings w.journal.items I.form I.legal v v' (totals_of w) (totals_of w') k t p.fresh h free E I.stands own (p.frames.top, p.frames.below, ends_home) notes counts)

@@ -1,17 +1,17 @@
 -- The run ends by a step that can't be done, or by a read that is stopped.
 use Rattle.std.proofs.Common.{◌≡◌, ℕ, suc, ◌+◌, Some, None, refl, ap, sym, ◌∙◌}
 use Rattle.std.proofs.lemmas.Option.{same_Some}
-use Rattle.listed.specs.Space.{Space}
+use Rattle.listed.specs.RoomyValue.{RoomyValue}
 use Rattle.hh_model.specs.declared.data.End.{End}
 use Rattle.hh_model.specs.declared.data.End.TheVariants.{Done}
 use Rattle.hh_model.specs.declared.data.State.{State}
 use Rattle.hh_model.specs.Step.{ended_by, step}
-use Rattle.run_trace.specs.Entry.{Event}
+use Rattle.run_trace.specs.Entry.{EntryValue}
 use Rattle.run_ledger.specs.declared.data.Ledger.{Ledger}
 use Rattle.run_ledger.specs.declared.data.RunEnd.TheVariants.{Machine}
 use Rattle.run_ledger.specs.Steps.{task_steps}
-use Rattle.ledger_steps.specs.Last.{Halting, Halts, Runs, Splits}
-use Rattle.core_relation.specs.Value.{Home, Value}
+use Rattle.ledger_step_laws.specs.Last.{Halting, Halts, Runs, Splits}
+use Rattle.core_relation.specs.Memory.{Home, Memory}
 use Rattle.core_relation.specs.Fits.{part_for}
 use Rattle.core_relation.specs.RanCounts.{RanCounts}
 use Rattle.core_relation.specs.Worker.{Fits as FitsValue}
@@ -19,8 +19,8 @@ use Rattle.core_relation.proofs.parts.RanFits.{ran_fits_then}
 use Rattle.core_relation.proofs.whole.RanWhole.{ran_stands_for}
 use Rattle.core_relation.proofs.parts.Workers.{ran_leaves}
 use Rattle.task_machine.specs.declared.part.Private.{Private}
-use Rattle.shared_value.specs.World.{World, accounts, totals_of, value_of}
-use Rattle.shared_value.specs.Stands.{IsWorld}
+use Rattle.shared_value.specs.SharedValue.{SharedValue, accounts, totals_of, value_of}
+use Rattle.shared_value.specs.Stands.{IsSharedValue}
 use Rattle.shared_value.specs.Fits.{Fits, OthersFit, home_of_part, part_of}
 use Rattle.shared_value.specs.Entered.{refused}
 use Rattle.shared_value.proofs.EntryMade.{entered, entered_world, held_apart, part_fits}
@@ -30,7 +30,7 @@ use Rattle.own_steps.proofs.LastStepEntry as last
 use Rattle.own_steps.proofs.LastStepEntry.{last_event}
 use Rattle.own_steps.proofs.OtherStepKinds.{halts_by}
 
-module _ (w : World) (k : ℕ) (p : Private) (I : IsWorld w) (F : Fits w k p) (shared : IsShared w p) (free : refused w (last_event k p) ≡ None) (x : End) (other : x ≡ Done → ⊥) (is : step w.program (task_steps w.program (accounts w) p.task p.fresh).machine p.task ≡ ended_by (task_steps w.program (accounts w) p.task p.fresh).machine x) where
+module _ (w : SharedValue) (k : ℕ) (p : Private) (I : IsSharedValue w) (F : Fits w k p) (shared : IsShared w p) (free : refused w (last_event k p) ≡ None) (x : End) (other : x ≡ Done → ⊥) (is : step w.program (task_steps w.program (accounts w) p.task p.fresh).machine p.task ≡ ended_by (task_steps w.program (accounts w) p.task p.fresh).machine x) where
   abbrev t : ℕ
   t = p.task
 
@@ -43,7 +43,7 @@ module _ (w : World) (k : ℕ) (p : Private) (I : IsWorld w) (F : Fits w k p) (s
   abbrev L : Ledger
   L = last.L w k p I F shared free
 
-  abbrev v : Value
+  abbrev v : Memory
   v = value_of w
 
   abbrev h : Home
@@ -68,17 +68,17 @@ module _ (w : World) (k : ℕ) (p : Private) (I : IsWorld w) (F : Fits w k p) (s
   end_same : x ≡ H.end
   end_same = sym (same_Some H.end x (ap (λ (m : State). m.end) (sym H.machine ∙ machine_is)))
 
-  module _ (j : Space Event) where
+  module _ (j : RoomyValue EntryValue) where
     abbrev steps : ℕ
     steps = w.steps + suc p.fresh
 
-    abbrev w' : World
+    abbrev w' : SharedValue
     w' = entered w (last_event k p) w.tree w.pool w.homes w.sets w.hands w.outputs steps (Some (Machine x)) j.room
 
     counts : RanCounts w.program (totals_of w) (totals_of w') M L t k p.fresh S.task S.line Halting H
     counts = record { tree = λ u. refl; hand = λ u. refl; outputs = refl; end = ap (λ y. Some (Machine y)) end_same; used = refl; steps = refl }
 
-    pub halted_world : IsWorld w'
+    pub halted_world : IsSharedValue w'
     halted_world =
         entered_world w (last_event k p) I free w.tree w.pool w.homes w.sets w.hands w.outputs steps (Some (Machine x)) j.room I.made I.noted refl refl
         (ran_stands_for w.program w.settings w.journal.items I.form I.legal v v (totals_of w) (totals_of w') k t p.fresh h free E I.stands own refl tt counts)

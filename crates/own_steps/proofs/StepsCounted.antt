@@ -10,19 +10,19 @@ use Rattle.run_ledger.specs.Heaps.{heap_of, let_go, or_fresh}
 use Rattle.run_ledger.specs.Sound.{collecting}
 use Rattle.run_ledger.specs.Steps.{task_steps}
 use Rattle.run_ledger.proofs.Sound.{SoundLedger}
-use Rattle.alloc_path.specs.Heap.{Heap as HeapOfCode}
-use Rattle.ledger_steps.specs.Accounts.{ArePrivate, StepsAlone, own, rested}
-use Rattle.ledger_steps.proofs.Ahead.{heap_then, rested_alone, steps_alone_all, steps_sound, with_at, with_machine}
-use Rattle.ledger_steps.proofs.Rested.{rested_sound, rested_view}
-use Rattle.core_relation.specs.Value.{Value}
+use Rattle.alloc_path.specs.LeafHeapValue.{LeafHeapValue as HeapOfCode}
+use Rattle.ledger_step_laws.specs.Accounts.{ArePrivate, StepsAlone, own, rested}
+use Rattle.ledger_step_laws.proofs.Ahead.{heap_then, rested_alone, steps_alone_all, steps_sound, with_at, with_machine}
+use Rattle.ledger_step_laws.proofs.Rested.{rested_sound, rested_view}
+use Rattle.core_relation.specs.Memory.{Memory}
 use Rattle.task_machine.specs.declared.part.Private.{Private}
 use Rattle.task_machine.specs.Accounts.{IsCounted, KeepsAccounts, RanBy, account_after}
 use Rattle.task_machine.specs.Fits.{FitsNow as FitsMachine}
 use Rattle.task_machine.specs.Outline.{steps}
 use Rattle.task_machine.specs.Place.{Places}
 use Rattle.task_machine.specs.Run.{Ran, Runs}
-use Rattle.shared_value.specs.World.{World, accounts, value_of}
-use Rattle.shared_value.specs.Stands.{IsWorld}
+use Rattle.shared_value.specs.SharedValue.{SharedValue, accounts, value_of}
+use Rattle.shared_value.specs.Stands.{IsSharedValue}
 use Rattle.shared_value.specs.Fits.{Fits}
 use Rattle.shared_value.specs.Links.{above_of}
 use Rattle.shared_value.proofs.NextStepAsks as ask
@@ -62,14 +62,14 @@ heap_rested l t a e = ap or_fresh (with_at l t let_go ∙ ap (heap_then let_go) 
 
 -- ---- THE PART
 
-module _ (w : World) (k : ℕ) (p q : Private) (n : ℕ) (I : IsWorld w) (F : Fits w k p) (on : (accounts w).end ≡ None) (idle : p.begun ≡ None) (R : Runs w.program p n q) (C : KeepsAccounts w.program p n q) where
+module _ (w : SharedValue) (k : ℕ) (p q : Private) (n : ℕ) (I : IsSharedValue w) (F : Fits w k p) (on : (accounts w).end ≡ None) (idle : p.begun ≡ None) (R : Runs w.program p n q) (C : KeepsAccounts w.program p n q) where
   abbrev l : Ledger
   l = accounts w
 
   abbrev t : ℕ
   t = p.task
 
-  abbrev v : Value
+  abbrev v : Memory
   v = value_of w
 
   abbrev above : Places

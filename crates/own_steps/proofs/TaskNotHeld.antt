@@ -10,8 +10,8 @@ use Rattle.run_ledger.specs.declared.data.Refused.{Refused}
 use Rattle.run_ledger.specs.declared.data.Refused.TheVariants.{NotOut}
 use Rattle.run_ledger.specs.Heaps.{heap_of}
 use Rattle.run_ledger.specs.Entries.{is_fuel, is_held_by, is_out, kind_refusal, refused_unless}
-use Rattle.shared_value.specs.World.{World, accounts}
-use Rattle.shared_value.specs.Stands.{IsWorld}
+use Rattle.shared_value.specs.SharedValue.{SharedValue, accounts}
+use Rattle.shared_value.specs.Stands.{IsSharedValue}
 use Rattle.shared_value.specs.Causes.{first_cause, or_else, task_held}
 use Rattle.shared_value.specs.Entered.{refused}
 use Rattle.shared_value.proofs.CausesTold.{refused_is}
@@ -28,7 +28,7 @@ pub unless_false : (b : Bool) (c : Refused) (rest : Option Refused) → b ≡ fa
 unless_false false c rest e = refl
 unless_false true c rest e = absurd cc
 
-module _ (w : World) (I : IsWorld w) (k t : ℕ) where
+module _ (w : SharedValue) (I : IsSharedValue w) (k t : ℕ) where
   not_out : (heap_of (accounts w) t).worker ≢ Some k → is_out (accounts w) k t ≡ false
   not_out apart = and_false (is_running (slice_get (accounts w).machine.tasks t)) (is_held_by (heap_of (accounts w) t).worker k) (by (is_held_by (heap_of (accounts w) t).worker k) refl)
     where

@@ -10,12 +10,12 @@ use Rattle.hh_model.specs.declared.data.Task.{Task}
 use Rattle.hh_model.specs.Effect.{int_in}
 use Rattle.hh_model.specs.Step.{ended_by, fetched, step}
 use Rattle.run_trace.specs.declared.entry.Kind.TheVariants.{Ran}
-use Rattle.run_trace.specs.Entry.{Event}
+use Rattle.run_trace.specs.Entry.{EntryValue}
 use Rattle.run_ledger.specs.declared.data.Ledger.{Ledger}
 use Rattle.run_ledger.specs.declared.data.RunEnd.{RunEnd}
 use Rattle.run_ledger.specs.declared.data.RunEnd.TheVariants.{Machine}
 use Rattle.run_ledger.specs.Steps.{is_private, owns, task_steps, touched}
-use Rattle.ledger_steps.specs.Accounts.{Rests}
+use Rattle.ledger_step_laws.specs.Accounts.{Rests}
 use Rattle.core_relation.specs.Whole.{handed}
 use Rattle.task_machine.specs.declared.part.Private.{Private}
 use Rattle.task_machine.specs.Plan.{int_of, ref_of}
@@ -23,7 +23,7 @@ use Rattle.shared_value.specs.declared.next_step.Ending.{Ending}
 use Rattle.shared_value.specs.declared.next_step.Ending.TheVariants.{Prints, Returns, Traps, Beyond}
 use Rattle.shared_value.specs.declared.task_at_rest.Rest.{Rest}
 use Rattle.shared_value.specs.declared.task_at_rest.Work.TheVariants.{Result}
-use Rattle.shared_value.specs.World.{World, accounts}
+use Rattle.shared_value.specs.SharedValue.{SharedValue, accounts}
 use Rattle.shared_value.specs.Fits.{Fits, OthersFit, beyond}
 use Rattle.shared_value.specs.Next.{is_beyond, is_joint}
 use Rattle.shared_value.specs.Entered.{Enters}
@@ -31,24 +31,24 @@ use Rattle.own_steps.specs.declared.alone.Alone.{Alone}
 use Rattle.own_steps.specs.declared.alone.Alone.TheVariants.{Goes, Over, Done as IsDone, Beyond as BeyondAlone}
 
 -- its entry
-abbrev pub alone_event : ℕ → Private → Event
+abbrev pub alone_event : ℕ → Private → EntryValue
 alone_event worker p = record { worker = worker; kind = Ran p.task (p.fresh + 1) }
 
 -- the machine after the part's fresh steps
-abbrev pub machine_after : World → Private → State
+abbrev pub machine_after : SharedValue → Private → State
 machine_after w p = (beyond w.program (accounts w) p).machine
 
 -- the accounts then
-abbrev pub then_accounts : World → Private → Ledger
+abbrev pub then_accounts : SharedValue → Private → Ledger
 then_accounts w p = task_steps w.program (accounts w) p.task p.fresh
 
 -- the part's next step isn't private, and stands in one entry with its fresh ones
-pub record IsShared (w : World) (p : Private) : Type 0 where
+pub record IsShared (w : SharedValue) (p : Private) : Type 0 where
   pub last : is_private w.program (machine_after w p) p.task ≡ false
   pub few : p.fresh ≤ 256
 
 -- the steps are entered, and the part goes on
-pub record GoesAlone (w after : World) (k : ℕ) (p q : Private) : Type 0 where
+pub record GoesAlone (w after : SharedValue) (k : ℕ) (p q : Private) : Type 0 where
   pub enters : Enters w after (alone_event k p)
   pub goes : (accounts after).end ≡ None
   pub fits : Fits after k q
@@ -61,7 +61,7 @@ abbrev pub HasHalted : Option RunEnd → Type 0
 HasHalted end = (e : End) × (end ≡ Some (Machine e)) × (e ≢ Done)
 
 -- the steps are entered, and the last of them ended the run and left all else as it was: the part is as before it
-pub record HaltsAlone (w after : World) (k : ℕ) (p q : Private) : Type 0 where
+pub record HaltsAlone (w after : SharedValue) (k : ℕ) (p q : Private) : Type 0 where
   pub enters : Enters w after (alone_event k p)
   pub halts : HasHalted (accounts after).end
   pub fits : Fits after k q
@@ -70,7 +70,7 @@ pub record HaltsAlone (w after : World) (k : ℕ) (p q : Private) : Type 0 where
   pub others : OthersFit w after k
 
 -- the steps are entered, the last of them is the root's last return, and the run is done
-pub record FinishesAlone (w after : World) (k : ℕ) (p : Private) : Type 0 where
+pub record FinishesAlone (w after : SharedValue) (k : ℕ) (p : Private) : Type 0 where
   pub enters : Enters w after (alone_event k p)
   pub done : (accounts after).end ≡ Some (Machine Done)
   -- every heap is handed back
@@ -78,12 +78,12 @@ pub record FinishesAlone (w after : World) (k : ℕ) (p : Private) : Type 0 wher
   pub others : OthersFit w after k
 
 -- nothing is entered, since other tasks have part in the next step
-pub record IsBeyond (w after : World) (p q : Private) : Type 0 where
+pub record IsBeyond (w after : SharedValue) (p q : Private) : Type 0 where
   pub same : after ≡ w
   pub part : q ≡ p
   pub beyond : is_beyond w.program (machine_after w p) p.task ≡ true
 
-abbrev pub Answered : World → World → ℕ → Private → Alone → Type 0
+abbrev pub Answered : SharedValue → SharedValue → ℕ → Private → Alone → Type 0
 Answered w after k p (Goes q) = GoesAlone w after k p q
 Answered w after k p (Over q) = HaltsAlone w after k p q
 Answered w after k p IsDone = FinishesAlone w after k p
@@ -108,5 +108,5 @@ pub record TellsOf (p : ProgramText) (m : State) (t : ℕ) (ending : Ending) (nu
   pub number_is : line.number ≡ number
   pub says : SaysOf p m t task line ending
 
-abbrev pub Tells : World → Private → Ending → ℕ → Type 0
+abbrev pub Tells : SharedValue → Private → Ending → ℕ → Type 0
 Tells w p ending number = TellsOf w.program (then_accounts w p).machine p.task ending number

@@ -3,18 +3,18 @@ use Rattle.std.specs.Prelude.{◌≡◌, ℕ, ◌+◌, ◌≤◌, None}
 use Rattle.task_machine.specs.declared.part.Private.{Private}
 use Rattle.task_machine.specs.Accounts.{KeepsAccounts}
 use Rattle.task_machine.specs.Run.{KeepsRest, Runs}
-use Rattle.shared_value.specs.World.{World, accounts}
-use Rattle.shared_value.specs.Stands.{IsWorld}
+use Rattle.shared_value.specs.SharedValue.{SharedValue, accounts}
+use Rattle.shared_value.specs.Stands.{IsSharedValue}
 use Rattle.shared_value.specs.Fits.{Fits}
 use Rattle.shared_value.specs.Links.{FitsFirst}
 
 -- before the run's end a part that fits the shared value fits the machine after its fresh steps
 abbrev pub SecondGivesFirst : Type 0
-SecondGivesFirst = (w : World) (k : ℕ) (p : Private) → IsWorld w → Fits w k p → (accounts w).end ≡ None → FitsFirst w p
+SecondGivesFirst = (w : SharedValue) (k : ℕ) (p : Private) → IsSharedValue w → Fits w k p → (accounts w).end ≡ None → FitsFirst w p
 
 -- before the run's end, amid no leaf collection, it fits the shared value again after private steps, as many as one
 -- entry holds at most
 abbrev pub PartsFitAgain : Type 0
 PartsFitAgain =
-    (w : World) (k : ℕ) (p q : Private) (n : ℕ) → IsWorld w → Fits w k p → (accounts w).end ≡ None → p.begun ≡ None → Runs w.program p n q → KeepsAccounts w.program p n q → KeepsRest p q
+    (w : SharedValue) (k : ℕ) (p q : Private) (n : ℕ) → IsSharedValue w → Fits w k p → (accounts w).end ≡ None → p.begun ≡ None → Runs w.program p n q → KeepsAccounts w.program p n q → KeepsRest p q
     → p.fresh + n ≤ 257 → Fits w k q

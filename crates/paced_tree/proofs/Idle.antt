@@ -3,13 +3,13 @@ use Rattle.std.proofs.Common.{◌≡◌, ℕ, zero, suc, ◌+◌, ◌<◌, List,
 use Rattle.std.proofs.lemmas.Bool.{cases_eq, cases_lt}
 use Rattle.std.proofs.lemmas.Option.{same_Some}
 use Rattle.listed.proofs.Members.{got_back, got_front, got_within}
-use Rattle.run_trace.specs.Settings.{Limits}
+use Rattle.run_trace.specs.Settings.{SettingsValue}
 use Rattle.run_ledger.specs.Journals.{ledger_of}
 use Rattle.run_ledger.specs.Pace.{idle, is_paced, pace_at_end, pace_of}
 use Rattle.run_ledger.specs.declared.data.Ledger.{Ledger}
 use Rattle.shared_value.specs.declared.answer.NotEntered.{NotEntered}
 use Rattle.shared_value.specs.declared.answer.NotEntered.TheVariants.{NoMemory, Refuses}
-use Rattle.shared_value.specs.World.{World, accounts}
+use Rattle.shared_value.specs.SharedValue.{SharedValue, accounts}
 use Rattle.child_tasks.specs.Joins.{IsUnchanged}
 use Rattle.heap_marking.specs.declared.pace.Pace.{Pace}
 use Rattle.heap_marking.specs.declared.pace.Previous.TheVariants.{Other}
@@ -44,7 +44,7 @@ idle_kept : (l : Ledger) (q : Pace) → q.previous ≡ Other → q.marks.items �
 idle_kept l q p m = record { previous = subst (λ a. KeepsPrevious l a idle.previous) (sym p) tt; marks = m }
 
 -- BEFORE THE FIRST ENTRY
-pub opening_kept : (w : World) (paces : List Pace) → w.journal.items ≡ [] → AreIdle paces w.settings.workers → KeepsPaces w paces
+pub opening_kept : (w : SharedValue) (paces : List Pace) → w.journal.items ≡ [] → AreIdle paces w.settings.workers → KeepsPaces w paces
 opening_kept w paces none I = record {
   paced = ap (is_paced w.program w.settings) none;
   workers = I.many;
@@ -52,21 +52,21 @@ opening_kept w paces none I = record {
 }
 
 -- WITHOUT AN ENTRY
-pub same_kept : (w w' : World) (paces : List Pace) → w'.program ≡ w.program → w'.settings ≡ w.settings → w'.journal.items ≡ w.journal.items → KeepsPaces w paces → KeepsPaces w' paces
+pub same_kept : (w w' : SharedValue) (paces : List Pace) → w'.program ≡ w.program → w'.settings ≡ w.settings → w'.journal.items ≡ w.journal.items → KeepsPaces w paces → KeepsPaces w' paces
 same_kept w w' paces ep es ej K =
     let ledger : accounts w' ≡ accounts w = ap (λ p. ledger_of p w'.settings w'.journal.items) ep ∙ (ap (λ s. ledger_of w.program s w'.journal.items) es ∙ ap (ledger_of w.program w.settings) ej) in
     let paces_at : pace_at_end w'.program w'.settings w'.journal.items ≡ pace_at_end w.program w.settings w.journal.items =
     ap (λ p. pace_at_end p w'.settings w'.journal.items) ep ∙ (ap (λ s. pace_at_end w.program s w'.journal.items) es ∙ ap (pace_at_end w.program w.settings) ej) in
     record {
       paced = ap (λ p. is_paced p w'.settings w'.journal.items) ep ∙ (ap (λ s. is_paced w.program s w'.journal.items) es ∙ (ap (is_paced w.program w.settings) ej ∙ K.paced));
-      workers = K.workers ∙ ap (λ (s : Limits). s.workers) (sym es);
+      workers = K.workers ∙ ap (λ (s : SettingsValue). s.workers) (sym es);
       keeps = λ on k q at.
           subst (λ l. KeepsPace l q (noted_of w' k)) (sym ledger)
           (subst (λ ps. KeepsPace (accounts w) q (pace_of ps k)) (sym paces_at) (K.keeps (ap (λ (l : Ledger). l.end) (sym ledger) ∙ on) k q at));
     }
 
 -- with another place in one of the lists
-pub marks_kept : (w : World) (old new : List Pace) (j : ℕ) → NotesAt old new j SameMarks → KeepsPaces w old → KeepsPaces w new
+pub marks_kept : (w : SharedValue) (old new : List Pace) (j : ℕ) → NotesAt old new j SameMarks → KeepsPaces w old → KeepsPaces w new
 marks_kept w old new j N K = record {
   paced = K.paced;
   workers = N.many ∙ K.workers;
@@ -77,6 +77,6 @@ marks_kept w old new j N K = record {
 }
 
 -- where an entry is refused, or there was no memory for it
-pub unchanged_kept : (w w' : World) (cause : NotEntered) (paces : List Pace) → IsUnchanged cause w w' → KeepsPaces w paces → KeepsPaces w' paces
-unchanged_kept w w' (Refuses why) paces same K = subst (λ (z : World). KeepsPaces z paces) (sym same) K
-unchanged_kept w w' NoMemory paces S K = same_kept w w' paces (ap (λ (z : World). z.program) S.rest) (ap (λ (z : World). z.settings) S.rest) (ap (λ (z : World). z.journal.items) S.rest) K
+pub unchanged_kept : (w w' : SharedValue) (cause : NotEntered) (paces : List Pace) → IsUnchanged cause w w' → KeepsPaces w paces → KeepsPaces w' paces
+unchanged_kept w w' (Refuses why) paces same K = subst (λ (z : SharedValue). KeepsPaces z paces) (sym same) K
+unchanged_kept w w' NoMemory paces S K = same_kept w w' paces (ap (λ (z : SharedValue). z.program) S.rest) (ap (λ (z : SharedValue). z.settings) S.rest) (ap (λ (z : SharedValue). z.journal.items) S.rest) K

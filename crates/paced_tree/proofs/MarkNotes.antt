@@ -10,10 +10,10 @@ use Rattle.run_ledger.specs.declared.data.Ledger.{Ledger}
 use Rattle.run_ledger.specs.Heaps.{heap_at, heap_of, or_fresh, with_heap, with_heap_at}
 use Rattle.run_ledger.specs.Sound.{SoundLedger}
 use Rattle.run_ledger.proofs.Journals.{entry_tells, legal_sound, wait_tells}
-use Rattle.ledger_steps.proofs.Ahead.{heap_then, with_at, with_machine}
+use Rattle.ledger_step_laws.proofs.Ahead.{heap_then, with_at, with_machine}
 use Rattle.shared_value.specs.Entered.{refused, Enters}
-use Rattle.shared_value.specs.Stands.{IsWorld}
-use Rattle.shared_value.specs.World.{World, accounts}
+use Rattle.shared_value.specs.Stands.{IsSharedValue}
+use Rattle.shared_value.specs.SharedValue.{SharedValue, accounts}
 use Rattle.heap_marking.proofs.ForksTold.{entered_accounts}
 use Rattle.paced_tree.proofs.Noted.{went_on}
 
@@ -33,7 +33,7 @@ end_same l t f = by (heap_at l t)
     by None = refl
     by (Some h) = refl
 
-module _ (w w' : World) (k t : ℕ) (I : IsWorld w) (E : Enters w w' (record { worker = k; kind = Mark t })) (free : refused w (record { worker = k; kind = Mark t }) ≡ None) where
+module _ (w w' : SharedValue) (k t : ℕ) (I : IsSharedValue w) (E : Enters w w' (record { worker = k; kind = Mark t })) (free : refused w (record { worker = k; kind = Mark t }) ≡ None) where
   abbrev l : Ledger
   l = accounts w
 

@@ -6,8 +6,8 @@ use Rattle.listed.proofs.Members.{got_other, got_within}
 use Rattle.hh_lang.specs.Form.{ProgramText}
 use Rattle.run_trace.specs.declared.entry.Kind.{Kind}
 use Rattle.run_trace.specs.declared.entry.Kind.TheVariants.{Fuel, Mark, Ran}
-use Rattle.run_trace.specs.Entry.{Event}
-use Rattle.run_trace.specs.Settings.{Limits}
+use Rattle.run_trace.specs.Entry.{EntryValue}
+use Rattle.run_trace.specs.Settings.{SettingsValue}
 use Rattle.run_ledger.specs.declared.data.Ledger.{Ledger}
 use Rattle.run_ledger.specs.declared.data.Previous.TheVariants.{Other as OtherEntry}
 use Rattle.run_ledger.specs.declared.data.WorkerPace.{WorkerPace}
@@ -19,8 +19,8 @@ use Rattle.run_ledger.proofs.Journals.{none_where}
 use Rattle.run_ledger.proofs.Paced.{pace_goes_on}
 use Rattle.run_ledger.specs.declared.data.Refused.{Refused}
 use Rattle.shared_value.specs.Entered.{cause_of, refused, Enters}
-use Rattle.shared_value.specs.Stands.{IsWorld}
-use Rattle.shared_value.specs.World.{World, accounts}
+use Rattle.shared_value.specs.Stands.{IsSharedValue}
+use Rattle.shared_value.specs.SharedValue.{SharedValue, accounts}
 use Rattle.heap_marking.specs.declared.pace.Pace.{Pace}
 use Rattle.heap_marking.specs.declared.pace.Previous.TheVariants.{Other}
 use Rattle.heap_marking.specs.declared.pace.Fork.{Fork}
@@ -30,12 +30,12 @@ use Rattle.heap_marking.proofs.ForksTold.{entered_accounts, paces_stay}
 use Rattle.paced_tree.specs.Owed.{KeepsNoted, KeepsPaces, NotesAt, NotesOther, Pays, noted_of}
 
 -- WHAT IS NOTED after one entry more
-module _ (p : ProgramText) (s : Limits) where
-  all_then : (first : List Event) (l : Ledger) (pace : List WorkerPace) (e : Event) → pace_after_all p s l pace (first ++ e ∷ []) ≡ pace_after (after p s (after_all p s l first) e) (pace_after_all p s l pace first) e
+module _ (p : ProgramText) (s : SettingsValue) where
+  all_then : (first : List EntryValue) (l : Ledger) (pace : List WorkerPace) (e : EntryValue) → pace_after_all p s l pace (first ++ e ∷ []) ≡ pace_after (after p s (after_all p s l first) e) (pace_after_all p s l pace first) e
   all_then [] l pace e = refl
   all_then (f ∷ first) l pace e = all_then first (after p s l f) (pace_after (after p s l f) pace f) e
 
-  all_length : (journal : List Event) (l : Ledger) (pace : List WorkerPace) → length (pace_after_all p s l pace journal) ≡ length pace
+  all_length : (journal : List EntryValue) (l : Ledger) (pace : List WorkerPace) → length (pace_after_all p s l pace journal) ≡ length pace
   all_length [] l pace = refl
   all_length (e ∷ journal) l pace = all_length journal (after p s l e) (pace_after (after p s l e) pace e) ∙ length-set pace e.worker _
 
@@ -43,7 +43,7 @@ idle_length : (n : ℕ) → length (replicate n idle) ≡ n
 idle_length zero = refl
 idle_length (suc n) = ap suc (idle_length n)
 
-paces_many : (w : World) → length (pace_at_end w.program w.settings w.journal.items) ≡ w.settings.workers
+paces_many : (w : SharedValue) → length (pace_at_end w.program w.settings w.journal.items) ≡ w.settings.workers
 paces_many w = all_length w.program w.settings w.journal.items (opening w.program w.settings) (pace_opening w.settings) ∙ idle_length w.settings.workers
 
 set_same : (pace : List WorkerPace) (k : ℕ) (y : WorkerPace) → k < length pace → pace_of (slice_set pace k y) k ≡ y
@@ -51,7 +51,7 @@ set_same [] k y lt = absurd (omega arith)
 set_same (x ∷ pace) zero y lt = refl
 set_same (x ∷ pace) (suc k) y lt = set_same pace k y (omega arith)
 
-module _ (w w' : World) (e : Event) (E : Enters w w' e) where
+module _ (w w' : SharedValue) (e : EntryValue) (E : Enters w w' e) where
   paces_then : pace_at_end w'.program w'.settings w'.journal.items ≡ pace_after (accounts w') (pace_at_end w.program w.settings w.journal.items) e
   paces_then =
       ap (λ p. pace_at_end p w'.settings w'.journal.items) E.program
@@ -74,18 +74,18 @@ none_end : {A : Type 0} (o : Option A) → is_some o ≡ false → o ≡ None
 none_end None h = refl
 none_end (Some x) h = absurd (both_ways (is_some (Some x)) h refl)
 
-pub went_on : (w : World) (e : Event) → refused w e ≡ None → (accounts w).end ≡ None
+pub went_on : (w : SharedValue) (e : EntryValue) → refused w e ≡ None → (accounts w).end ≡ None
 went_on w e free = none_end (accounts w).end (none_where (is_some (accounts w).end) _ _ (ap is_none free)).0
 
 -- KEPT
-pub paced_then : (w w' : World) (e : Event) (old new : List Pace) → IsWorld w → KeepsPaces w old → Enters w w' e → refused w e ≡ None → (is_fuel e.kind ≡ true) ⊎ Pays w e → length new ≡ length old
+pub paced_then : (w w' : SharedValue) (e : EntryValue) (old new : List Pace) → IsSharedValue w → KeepsPaces w old → Enters w w' e → refused w e ≡ None → (is_fuel e.kind ≡ true) ⊎ Pays w e → length new ≡ length old
     → ((accounts w').end ≡ None → NotesAt old new e.worker (KeepsNoted (accounts w') e.kind)) → KeepsPaces w' new
 paced_then w w' e old new I K E free pays many notes = record {
   paced =
       ap (λ p. is_paced p w'.settings w'.journal.items) E.program
       ∙ (ap (λ s. is_paced w.program s w'.journal.items) E.settings
       ∙ (ap (λ j. is_paced w.program w.settings j) E.journal ∙ pace_goes_on w.program w.settings w.journal.items e K.paced pays));
-  workers = many ∙ (K.workers ∙ sym (ap (λ (s : Limits). s.workers) E.settings));
+  workers = many ∙ (K.workers ∙ sym (ap (λ (s : SettingsValue). s.workers) E.settings));
   keeps = keeps;
 }
   where
@@ -111,19 +111,19 @@ other_noted l kind old new k plain N = record {
   own = λ q at. let o = N.own q at in (o.0, o.1, λ x K. subst (λ y. KeepsPace l q y) (sym (plain x)) (subst (λ (z : Pace). KeepsPace l z (record x { previous = OtherEntry })) (sym o.2) (record { previous = tt; marks = K.marks })));
 }
 
-pub other_then : (w w' : World) (e : Event) (old new : List Pace) → IsWorld w → KeepsPaces w old → Enters w w' e → refused w e ≡ None → Pays w e → ((x : WorkerPace) → noted (accounts w') x e.kind ≡ record x { previous = OtherEntry })
+pub other_then : (w w' : SharedValue) (e : EntryValue) (old new : List Pace) → IsSharedValue w → KeepsPaces w old → Enters w w' e → refused w e ≡ None → Pays w e → ((x : WorkerPace) → noted (accounts w') x e.kind ≡ record x { previous = OtherEntry })
     → NotesAt old new e.worker NotesOther → KeepsPaces w' new
 other_then w w' e old new I K E free pays plain N = paced_then w w' e old new I K E free (inr pays) N.many (λ on. other_noted (accounts w') e.kind old new e.worker plain N)
 
 -- the end for spent fuel: nothing is owed after it
-pub fuel_then : (w w' : World) (k : ℕ) (paces : List Pace) → IsWorld w → KeepsPaces w paces → Enters w w' (record { worker = k; kind = Fuel }) → refused w (record { worker = k; kind = Fuel }) ≡ None → KeepsPaces w' paces
+pub fuel_then : (w w' : SharedValue) (k : ℕ) (paces : List Pace) → IsSharedValue w → KeepsPaces w paces → Enters w w' (record { worker = k; kind = Fuel }) → refused w (record { worker = k; kind = Fuel }) ≡ None → KeepsPaces w' paces
 fuel_then w w' k paces I K E free =
     paced_then w w' (record { worker = k; kind = Fuel }) paces paces I K E free (inl refl) refl (λ on. absurd (ended (ap (λ (l : Ledger). l.end) (sym (entered_accounts w w' (record { worker = k; kind = Fuel }) E)) ∙ on)))
   where
     ended : {A : Type 0} {x : A} → Some x ≡ None → ⊥
     ended e = cc
 
-pub fuel_kept : {A : Type 0} (w w' : World) (k : ℕ) (paces : List Pace) (r : Result A Refused) → IsWorld w → KeepsPaces w paces → cause_of r ≡ refused w (record { worker = k; kind = Fuel }) → OnErr r (w' ≡ w) → OnOk r (Enters w w' (record { worker = k; kind = Fuel }))
+pub fuel_kept : {A : Type 0} (w w' : SharedValue) (k : ℕ) (paces : List Pace) (r : Result A Refused) → IsSharedValue w → KeepsPaces w paces → cause_of r ≡ refused w (record { worker = k; kind = Fuel }) → OnErr r (w' ≡ w) → OnOk r (Enters w w' (record { worker = k; kind = Fuel }))
     → KeepsPaces w' paces
 fuel_kept w w' k paces (Ok x) I K cause same E = fuel_then w w' k paces I K E (sym cause)
 fuel_kept w w' k paces (Err c) I K cause same E = subst (λ z. KeepsPaces z paces) (sym same) K

@@ -1,30 +1,30 @@
 -- What a worker owes by the journal, and what is kept to know it.
 use Rattle.std.specs.Prelude.{◌≡◌, ◌≢◌, ◌<◌, ℕ, true, Some, None, List, [], length, slice_get}
 use Rattle.run_trace.specs.declared.entry.Kind.{Kind}
-use Rattle.run_trace.specs.Entry.{Event}
+use Rattle.run_trace.specs.Entry.{EntryValue}
 use Rattle.run_ledger.specs.declared.data.Ledger.{Ledger}
 use Rattle.run_ledger.specs.declared.data.Owed.{Owed}
 use Rattle.run_ledger.specs.declared.data.WorkerPace.{WorkerPace}
 use Rattle.run_ledger.specs.Pace.{gives, is_paced, noted, owed, pace_at_end, pace_of}
-use Rattle.shared_value.specs.World.{World, accounts}
+use Rattle.shared_value.specs.SharedValue.{SharedValue, accounts}
 use Rattle.heap_marking.specs.declared.pace.Pace.{Pace}
 use Rattle.heap_marking.specs.declared.pace.Previous.TheVariants.{Other}
 use Rattle.heap_marking.specs.Pace.{KeepsPace}
 
 -- what the journal keeps of the worker's entries
-abbrev pub noted_of : World → ℕ → WorkerPace
+abbrev pub noted_of : SharedValue → ℕ → WorkerPace
 noted_of w k = pace_of (pace_at_end w.program w.settings w.journal.items) k
 
 -- what its next entry has to be
-abbrev pub owed_by : World → ℕ → Owed
+abbrev pub owed_by : SharedValue → ℕ → Owed
 owed_by w k = owed w.settings (accounts w) (noted_of w k)
 
 -- the entry gives it
-abbrev pub Pays : World → Event → Type 0
+abbrev pub Pays : SharedValue → EntryValue → Type 0
 Pays w e = gives (owed_by w e.worker) e.kind ≡ true
 
 -- the journal is paced; and of each worker there is kept, as long as the run goes on, what tells what it owes
-pub record KeepsPaces (w : World) (paces : List Pace) : Type 0 where
+pub record KeepsPaces (w : SharedValue) (paces : List Pace) : Type 0 where
   pub paced : is_paced w.program w.settings w.journal.items ≡ true
   pub workers : length paces ≡ w.settings.workers
   pub keeps : (accounts w).end ≡ None → (k : ℕ) (q : Pace) → slice_get paces k ≡ Some q → KeepsPace (accounts w) q (noted_of w k)

@@ -4,7 +4,7 @@ ghost use Rattle.std.specs.Prelude.{◌≡◌, ◌<◌, ◌≤◌, OnErr, OnOk, 
 ghost use Rattle.run_ledger.specs.Heaps.{heap_of, left_in};
 ghost use Rattle.shared_value.specs.Entered.{cause_of, refused, Answers, Enters, IsCaused};
 ghost use Rattle.shared_value.specs.Fits.{AllFit};
-ghost use Rattle.shared_value.specs.World.{accounts};
+ghost use Rattle.shared_value.specs.SharedValue.{accounts};
 ghost use Rattle.paced_tree.specs.Owed.{Pays};
 
 use crate::noting::{note_mark, note_other, reserve_mark};

@@ -4,7 +4,7 @@ ghost use Rattle.std.specs.Prelude.{◌≡◌, ◌<◌, ℕ, IfOk, OnOk, None, S
 ghost use Rattle.hh_model.specs.Step.{is_waiting};
 ghost use Rattle.run_trace.specs.declared.entry.Kind.TheVariants.{Mark, Ran};
 ghost use Rattle.run_ledger.specs.Heaps.{heap_of};
-ghost use Rattle.shared_value.specs.World.{accounts};
+ghost use Rattle.shared_value.specs.SharedValue.{accounts};
 ghost use Rattle.paced_tree.specs.Owed.{AreIdle, HasRoom, KeepsNoted, NotesAt, NotesOther, SameMarks};
 
 use listed::Listed;

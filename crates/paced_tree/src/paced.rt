@@ -8,8 +8,8 @@ ghost use Rattle.task_machine.specs.declared.part.Private.{Private as Part};
 ghost use Rattle.shared_value.specs.Causes.{first_cause};
 ghost use Rattle.shared_value.specs.Due.{IsHeld};
 ghost use Rattle.shared_value.specs.Fits.{AllFit, Fits};
-ghost use Rattle.shared_value.specs.Stands.{IsWorld};
-ghost use Rattle.shared_value.specs.World.{accounts, rest_at};
+ghost use Rattle.shared_value.specs.Stands.{IsSharedValue};
+ghost use Rattle.shared_value.specs.SharedValue.{accounts, rest_at};
 ghost use Rattle.shared_value.specs.declared.task_at_rest.Rest.{Rest as RestOf};
 ghost use Rattle.heap_marking.specs.MarkCauses.{marking_cause};
 ghost use Rattle.paced_tree.specs.Owed.{owed_by};
@@ -37,10 +37,10 @@ pub struct Paced {
 }
 
 impl Model for Paced {
-    ghost use Rattle.shared_value.specs.World.{World};
+    ghost use Rattle.shared_value.specs.SharedValue.{SharedValue};
     ghost use Rattle.paced_tree.specs.Owed.{KeepsPaces};
 
-    ghost Value = { World };
+    ghost Value = { SharedValue };
 
     ghost view = { λ p. p.shared };
 
@@ -127,7 +127,7 @@ impl Paced {
 
     /// It stands for its journal, which is legal.
     pub fn stands(&self)
-        ensures { IsWorld self.now }
+        ensures { IsSharedValue self.now }
     {
         self.shared.get().stands();
     }

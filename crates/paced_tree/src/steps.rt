@@ -3,7 +3,7 @@
 ghost use Rattle.std.specs.Prelude.{◌≡◌, ◌<◌, OnErr, OnOk, IfErr, IfOk, None, Some};
 ghost use Rattle.shared_value.specs.Entered.{cause_of, refused, Enters, IsRefusedBy, RanAnswers};
 ghost use Rattle.shared_value.specs.Fits.{AllFit, Fits, OthersFit};
-ghost use Rattle.shared_value.specs.World.{rest_at};
+ghost use Rattle.shared_value.specs.SharedValue.{rest_at};
 ghost use Rattle.shared_value.specs.declared.task_at_rest.Rest.{Rest as RestOf};
 ghost use Rattle.own_steps.specs.Alone.{alone_event, IsShared};
 ghost use Rattle.child_tasks.specs.Joins.{IsUnchanged};

@@ -1,7 +1,7 @@
 -- Objects have few fields where the limit has 32 bits.
 use Rattle.std.proofs.Common.{◌<◌, ◌≤◌, ◌^◌, length, max, sym, subst, arith}
 use Rattle.hh_model.specs.declared.data.State.{State}
-use Rattle.hh_model.specs.Machine.{Progress, IsReached}
+use Rattle.hh_model.specs.Machine.{MachineValue, IsOfRun}
 use Rattle.hh_model.specs.Counts.{SizesIn, SizesAreBounded}
 use Rattle.race_report.specs.Few.{AreFew}
 
@@ -13,5 +13,5 @@ few_in m sizes lt n o e =
     let ints : length o.ints ≤ max m.field_limit 16 = r.ints in
     (omega (arith, most, refs), omega (arith, most, ints))
 
-pub reached_few : SizesAreBounded → (g : Progress) → IsReached g → g.state.field_limit < 2 ^ 32 → AreFew g.state.store
+pub reached_few : SizesAreBounded → (g : MachineValue) → IsOfRun g → g.state.field_limit < 2 ^ 32 → AreFew g.state.store
 reached_few law g r lt = few_in g.state (subst SizesIn (sym r.2) (law g.program g.state.field_limit r.0)) lt

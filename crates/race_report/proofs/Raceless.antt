@@ -5,8 +5,8 @@ use Rattle.listed.proofs.Members.{in_from_contains}
 use Rattle.hh_lang.specs.Form.{ProgramText}
 use Rattle.run_trace.specs.declared.entry.Kind.{Kind}
 use Rattle.run_trace.specs.declared.entry.Kind.TheVariants.{Took, Ran, Chunk, Begin, End as EndOf, PutOff, Mark, More, Sweep, Fuel}
-use Rattle.run_trace.specs.Entry.{Event}
-use Rattle.run_trace.specs.Settings.{Limits, field_limit}
+use Rattle.run_trace.specs.Entry.{EntryValue}
+use Rattle.run_trace.specs.Settings.{SettingsValue, field_limit}
 use Rattle.hh_model.specs.declared.data.Edge.{Edge}
 use Rattle.hh_model.specs.declared.data.End.{End}
 use Rattle.hh_model.specs.declared.data.End.TheVariants.{Entangled}
@@ -98,7 +98,7 @@ chunk_alike : (l : Ledger) (t n : ℕ) (next : Option ℕ) (full : Bool) → End
 chunk_alike l t n next true E = λ e h. absurd cc
 chunk_alike l t n next false E = heap_alike l t (with_chunk next) E
 
-kind_alike : (p : ProgramText) (s : Limits) (l : Ledger) (w : ℕ) (kind : Kind) → EndsAlike l → EndsAlike (after_kind p s l w kind)
+kind_alike : (p : ProgramText) (s : SettingsValue) (l : Ledger) (w : ℕ) (kind : Kind) → EndsAlike l → EndsAlike (after_kind p s l w kind)
 kind_alike p s l w (Took t) E = heap_alike l t _ E
 kind_alike p s l w (Ran t k) E = steps_alike p k l t E
 kind_alike p s l w (Chunk t) E = chunk_alike l t (in_use l) (asked p l.machine t) (nat_lt s.chunks (in_use l + chunk_units (asked p l.machine t))) E
@@ -110,11 +110,11 @@ kind_alike p s l w (More t n) E = heap_alike l t _ E
 kind_alike p s l w (Sweep t g) E = heap_alike l t _ E
 kind_alike p s l w Fuel E = λ e h. absurd cc
 
-all_alike : (p : ProgramText) (s : Limits) (journal : List Event) (l : Ledger) → EndsAlike l → EndsAlike (after_all p s l journal)
+all_alike : (p : ProgramText) (s : SettingsValue) (journal : List EntryValue) (l : Ledger) → EndsAlike l → EndsAlike (after_all p s l journal)
 all_alike p s [] l E = E
 all_alike p s (e ∷ es) l E = all_alike p s es (after p s l e) (kind_alike p s l e.worker e.kind E)
 
-pub machine_ended : (p : ProgramText) (s : Limits) (journal : List Event) (e : End) → end_of p s journal ≡ Some (Machine e) → (machine_of p s journal).end ≡ Some e
+pub machine_ended : (p : ProgramText) (s : SettingsValue) (journal : List EntryValue) (e : End) → end_of p s journal ≡ Some (Machine e) → (machine_of p s journal).end ≡ Some e
 machine_ended p s journal e h =
     ap (λ (m : State). m.end) (sym (machine_is_run p s journal)) ∙ all_alike p s journal (opening p s) (λ x q. absurd cc) e h
 

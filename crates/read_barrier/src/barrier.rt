@@ -3,7 +3,7 @@
 ghost use Rattle.std.specs.Prelude.{◌≡◌, ℕ, ◌+◌, ◌*◌, ◌^◌, ◌<◌, ◌≤◌, ◌↔◌, length, Some, IsSome, IsOk};
 ghost use Rattle.heap_tree.specs.Walk.{IsUpFrom};
 ghost use Rattle.heap_tree.specs.Node.{parent_of, depth_of};
-ghost use Rattle.chunk_pool.specs.Chunks.{held_at, owner_of};
+ghost use Rattle.chunk_pool.specs.PoolValue.{held_at, owner_of};
 ghost use Rattle.read_barrier.specs.Checked.{checked_read};
 
 use chunk_pool::Pool;

@@ -1,7 +1,7 @@
 -- Which sources a set has, once others were noted in it.
 use Rattle.std.specs.Prelude.{◌≡◌, ◌↔◌, ◌⊎◌, ℕ, true, false, Contains, List, Option, None, fold, if◌then◌else◌, length, slice_index_or}
 use Rattle.object_layout.specs.declared.word.Addr.{Addr}
-use Rattle.object_layout.specs.Content.{Content}
+use Rattle.object_layout.specs.ChunkValue.{ChunkValue}
 use Rattle.object_layout.specs.Chunks.{has_chunk}
 use Rattle.remembered_set.specs.declared.remembered.Source.{Source}
 use Rattle.remembered_set.specs.Sources.{has_source, lifted, noted, StandOnce}
@@ -18,7 +18,7 @@ NotedAreThere = (xs : List Source) (s t : Source) → Contains (noted xs s) t �
 -- of another set those whose object lies outside these chunks
 abbrev pub LiftedAreThere : Type 0
 LiftedAreThere =
-    (xs ys : List Source) (ks : List Content) (t : Source)
+    (xs ys : List Source) (ks : List ChunkValue) (t : Source)
     → Contains (lifted xs ys ks) t ↔ (Contains xs t ⊎ (Contains ys t × (has_chunk ks t.object.chunk ≡ false)))
 
 module _ {S : Type 0} (refs_at : S → Addr → List (Option Addr)) (with_ref_at : S → Addr → ℕ → Option Addr → S) where

@@ -2,7 +2,7 @@
 use Rattle.std.specs.Prelude.{ℕ, ◌+◌, ◌*◌, ◌^◌, ◌<◌, Bool, List, [], ◌∷◌, ◌++◌, if◌then◌else◌, Option, Some, None, length, slice_index_or, unwrap_or}
 use Rattle.std.specs.List.{AllByRecursion}
 use Rattle.object_layout.specs.declared.word.Addr.{Addr}
-use Rattle.object_layout.specs.Content.{Content}
+use Rattle.object_layout.specs.ChunkValue.{ChunkValue}
 pub use Rattle.object_layout.specs.Chunks.{same_address}
 use Rattle.remembered_set.specs.declared.remembered.Source.{Source}
 use Rattle.remembered_set.specs.Sources.{has_chunk}
@@ -13,7 +13,7 @@ into_by test None = []
 into_by test (Some a) = if test a.chunk then a ∷ [] else []
 
 -- a reference, as far as it points into these chunks
-abbrev pub into : List Content → Option Addr → List Addr
+abbrev pub into : List ChunkValue → Option Addr → List Addr
 into ks r = into_by (has_chunk ks) r
 
 -- an address as one number, in the order of addresses
@@ -48,7 +48,7 @@ module _ {S : Type 0} (refs_at : S → Addr → List (Option Addr)) where
   held_by w s = slice_index_or (refs_at w s.object) s.field None
 
   -- of what these sources hold, the references into these chunks
-  abbrev pub targets_of : S → List Content → List Source → List Addr
+  abbrev pub targets_of : S → List ChunkValue → List Source → List Addr
   targets_of w ks [] = []
   targets_of w ks (s ∷ ss) = into ks (held_by w s) ++ targets_of w ks ss
 

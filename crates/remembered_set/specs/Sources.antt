@@ -1,20 +1,20 @@
 -- The down-pointers that a heap remembers.
 use Rattle.std.specs.Prelude.{◌≡◌, ℕ, Bool, false, Option, Some, None, List, [], ◌∷◌, ◌++◌, ◌==◌, ◌&&◌, if◌then◌else◌, fold, filter, not}
 use Rattle.std.specs.List.{list_any}
-use Rattle.object_layout.specs.Content.{Content}
+use Rattle.object_layout.specs.ChunkValue.{ChunkValue}
 pub use Rattle.object_layout.specs.Chunks.{has_chunk}
 use Rattle.remembered_set.specs.declared.remembered.Source.{Source}
 
 -- the sources in the order in which they were noted; for how many more its list and its table have
 -- places; and how many chunk numbers a lift can tell apart
-pub record Notes : Type 0 where
+pub record RememberedValue : Type 0 where
   pub sources : List Source
   pub slots : ℕ
   pub spare : ℕ
   pub numbers : ℕ
 
 -- those of a table, where there is one
-abbrev pub notes_in : Option Notes → Notes
+abbrev pub notes_in : Option RememberedValue → RememberedValue
 notes_in None = record { sources = []; slots = 0; spare = 0; numbers = 0 }
 notes_in (Some n) = n
 
@@ -35,11 +35,11 @@ StandOnce [] = Unit {0}
 StandOnce (s ∷ ss) = (has_source ss s ≡ false) × StandOnce ss
 
 -- of these sources those whose object doesn't lie in one of these chunks
-abbrev pub outside : List Content → List Source → List Source
+abbrev pub outside : List ChunkValue → List Source → List Source
 outside ks xs = filter (λ s. not (has_chunk ks s.object.chunk)) xs
 
 -- the sources with those of another set noted, but for those whose object lies in these chunks
-abbrev pub lifted : List Source → List Source → List Content → List Source
+abbrev pub lifted : List Source → List Source → List ChunkValue → List Source
 lifted xs ys ks = fold noted xs (outside ks ys)
 
 -- a table knows just these sources, and each stands once

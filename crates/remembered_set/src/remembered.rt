@@ -28,9 +28,9 @@ pub struct Remembered {
 }
 
 impl Model for Remembered {
-    ghost use Rattle.remembered_set.specs.Sources.{notes_in, Notes};
+    ghost use Rattle.remembered_set.specs.Sources.{notes_in, RememberedValue};
 
-    ghost Value = { Notes };
+    ghost Value = { RememberedValue };
 
     ghost view = { λ r. notes_in r.table };
 }

@@ -24,9 +24,9 @@ pub struct Table {
 impl Model for Table {
     ghost use Rattle.std.specs.Prelude.{◌+◌, ◌-◌, vec_capacity, vec_len};
     ghost use Rattle.std.specs.HashSet.{contains, hash_set_len, spare};
-    ghost use Rattle.remembered_set.specs.Sources.{same_source, IsKept, Notes};
+    ghost use Rattle.remembered_set.specs.Sources.{same_source, IsKept, RememberedValue};
 
-    ghost Value = { Notes };
+    ghost Value = { RememberedValue };
 
     ghost view = { λ r. record { sources = r.sources.items; slots = vec_capacity r.sources - vec_len r.sources; spare = spare r.known; numbers = hash_set_len r.numbers + spare r.numbers } };
 

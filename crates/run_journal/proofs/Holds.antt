@@ -5,7 +5,7 @@ use Rattle.std.proofs.lemmas.Option.{same_Some, none-some}
 use Rattle.listed.proofs.Members.{got_same, got_other}
 use Rattle.run_trace.specs.declared.entry.Kind.{Kind}
 use Rattle.run_trace.specs.declared.entry.Kind.TheVariants.{Took, Ran, Chunk, Begin, End as EndOf, PutOff, Mark, More, Sweep, Fuel}
-use Rattle.run_trace.specs.Settings.{Limits}
+use Rattle.run_trace.specs.Settings.{SettingsValue}
 use Rattle.hh_lang.specs.Form.{ProgramText}
 use Rattle.hh_model.specs.declared.data.Name.{Name}
 use Rattle.hh_model.specs.Step.{step, can_step, asked}
@@ -21,7 +21,7 @@ use Rattle.run_ledger.proofs.Sound.{SoundLedger}
 use Rattle.run_ledger.proofs.Steps.{SoundAt, step_leaves, task_step_sound, worker_at}
 use Rattle.run_ledger.proofs.Stocks.{with_heap_any}
 use Rattle.run_ledger.proofs.Journals.{none_unless, out_tells}
-use Rattle.run_journal.specs.Book.{Standing, Agrees, taken_after}
+use Rattle.run_journal.specs.Book.{AccountsValue, Agrees, taken_after}
 
 -- WHO HOLDS A TASK
 
@@ -57,7 +57,7 @@ found w base (h ∷ heaps) = by (is_held_by h.worker w) refl (found w (base + 1)
         go (suc u) q = none.1 u q
     by false e (inr some) = inr (suc some.0, some.1 ∙ ap Some (let q : base + 1 + some.0 ≡ base + suc some.0 = omega arith in q), some.2)
 
-module _ (s : Standing) (A : Agrees s) (w : ℕ) where
+module _ (s : AccountsValue) (A : Agrees s) (w : ℕ) where
   last : (t : ℕ) → worker_of s.ledger t ≡ Some w → unwrap_or (slice_get s.taken w) None ≡ Some t
   last t e = ap (λ o. unwrap_or o None) (A.taken t w e)
 
@@ -159,7 +159,7 @@ held_chunk l t next false u w e = held_set l t (with_chunk next) (λ h. by h (on
     by h false = refl
 
 -- what is kept of who took what, after an entry
-module _ (p : ProgramText) (s : Limits) (l : Ledger) (taken : List (Option ℕ)) (A : (t w : ℕ) → worker_of l t ≡ Some w → slice_get taken w ≡ Some (Some t)) (S : SoundLedger l) where
+module _ (p : ProgramText) (s : SettingsValue) (l : Ledger) (taken : List (Option ℕ)) (A : (t w : ℕ) → worker_of l t ≡ Some w → slice_get taken w ≡ Some (Some t)) (S : SoundLedger l) where
   abbrev Tells : ℕ → Kind → Type 0
   Tells w kind = (u v : ℕ) → worker_of (after_kind p s l w kind) u ≡ Some v → slice_get (taken_after taken w kind) v ≡ Some (Some u)
 

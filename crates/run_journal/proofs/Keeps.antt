@@ -3,8 +3,8 @@ use Rattle.std.proofs.Common.{◌≡◌, ℕ, zero, suc, ◌+◌, ◌*◌, ◌�
 use Rattle.std.specs.List.{flat_map}
 use Rattle.std.proofs.lemmas.List.Sums.{sum_by-append, sum_by-cons}
 use Rattle.listed.proofs.Members.{In, contains_from_in}
-use Rattle.run_trace.specs.Entry.{Event}
-use Rattle.run_trace.specs.Settings.{Limits, AreLimits}
+use Rattle.run_trace.specs.Entry.{EntryValue}
+use Rattle.run_trace.specs.Settings.{SettingsValue, AreLimits}
 use Rattle.hh_lang.specs.Form.{ProgramText}
 use Rattle.hh_model.specs.declared.data.Name.{Name}
 use Rattle.hh_model.specs.declared.data.State.{State}
@@ -20,7 +20,7 @@ use Rattle.run_ledger.specs.Laws.{HoldsOnce}
 use Rattle.run_ledger.specs.Space.{AllFit}
 use Rattle.run_ledger.proofs.Stocks.{names_are_held_once}
 use Rattle.run_ledger.proofs.Space.{heaps_fit, use_is_bounded}
-use Rattle.run_journal.specs.Opened.{IsLegalLedger}
+use Rattle.run_journal.specs.BookValue.{IsLegalLedger}
 use Rattle.run_journal.specs.Kept.{IsCountable}
 
 -- COUNTS
@@ -53,8 +53,8 @@ module _ (g : List Name → ℕ) (add : (xs ys : List Name) → g (xs ++ ys) ≡
       by false r a b = omega arith
 
 -- the accounts of legal journals
-module _ (p : ProgramText) (s : Limits) (A : AreLimits s) where
-  legal_countable : (journal : List Event) → is_legal p s journal ≡ true → IsCountable (ledger_of p s journal)
+module _ (p : ProgramText) (s : SettingsValue) (A : AreLimits s) where
+  legal_countable : (journal : List EntryValue) → is_legal p s journal ≡ true → IsCountable (ledger_of p s journal)
   legal_countable journal legal =
       let l : Ledger = ledger_of p s journal in
       let H : HoldsOnce l = names_are_held_once p s journal legal in

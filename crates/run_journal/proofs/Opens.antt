@@ -3,8 +3,8 @@ use Rattle.std.proofs.Common.{◌≡◌, ℕ, zero, suc, ◌<◌, ◌≤◌, ◌
 use Rattle.std.proofs.lemmas.Bool.{ltb-true}
 use Rattle.run_trace.specs.declared.entry.Kind.{Kind}
 use Rattle.run_trace.specs.declared.entry.Kind.TheVariants.{Took, Ran, Chunk, Begin, End as EndOf, PutOff, Mark, More, Sweep, Fuel}
-use Rattle.run_trace.specs.Entry.{Event, IsKind}
-use Rattle.run_trace.specs.Settings.{Limits, AreLimits}
+use Rattle.run_trace.specs.Entry.{EntryValue, IsKind}
+use Rattle.run_trace.specs.Settings.{SettingsValue, AreLimits}
 use Rattle.hh_lang.specs.Form.{ProgramText}
 use Rattle.run_ledger.specs.declared.data.Ledger.{Ledger}
 use Rattle.run_ledger.specs.Heaps.{heap_of}
@@ -13,12 +13,12 @@ use Rattle.run_ledger.specs.Journals.{opening, ledger_of}
 use Rattle.run_ledger.proofs.Cuts.{after_cut, joined_legal}
 use Rattle.run_ledger.proofs.Sound.{SoundLedger}
 use Rattle.run_ledger.proofs.Journals.{none_where, none_unless, entry_tells, legal_sound}
-use Rattle.run_journal.specs.Book.{Standing, Agrees, Steady, StaysSteady, went_on, taken_after}
-use Rattle.run_journal.specs.Opened.{IsLegalLedger, IsOpened}
+use Rattle.run_journal.specs.Book.{AccountsValue, Agrees, Steady, StaysSteady, went_on, taken_after}
+use Rattle.run_journal.specs.BookValue.{IsLegalLedger, IsOpened}
 use Rattle.run_journal.proofs.Holds.{kind_tells}
 use Rattle.run_journal.proofs.Steadies.{legal_steady, legal_stays}
 
-module _ (p : ProgramText) (s : Limits) where
+module _ (p : ProgramText) (s : SettingsValue) where
   pub opening_legal : IsLegalLedger p s (opening p s)
   opening_legal = ([], refl, refl)
 
@@ -31,7 +31,7 @@ module _ (p : ProgramText) (s : Limits) where
       let few : k ≤ 257 = (subst IsKind is range).1.1 in
       subst (λ q. StaysSteady s p q t k) (sym L.2) (legal_stays p s A L.0 t k L.1 (ap (λ (q : Ledger). is_some (heap_of q t).begun) (sym L.2) ∙ idle) few)
 
-  pub ledger_after : (l : Ledger) → IsLegalLedger p s l → (e : Event) → refusal p s l e ≡ None → IsLegalLedger p s (after p s l e)
+  pub ledger_after : (l : Ledger) → IsLegalLedger p s l → (e : EntryValue) → refusal p s l e ≡ None → IsLegalLedger p s (after p s l e)
   ledger_after l L e none =
       let here : refusal p s (ledger_of p s L.0) e ≡ None = ap (λ q. refusal p s q e) (sym L.2) ∙ none in (
         L.0 ++ e ∷ [],
@@ -40,7 +40,7 @@ module _ (p : ProgramText) (s : Limits) where
       )
 
 -- before the first entry nothing is in use, and no worker has taken a task
-pub opening_agrees : (p : ProgramText) (s : Limits) → Agrees (record { program = p; limits = s; ledger = opening p s; used = 0; taken = replicate 64 None })
+pub opening_agrees : (p : ProgramText) (s : SettingsValue) → Agrees (record { program = p; limits = s; ledger = opening p s; used = 0; taken = replicate 64 None })
 opening_agrees p s = record { used = refl; places = refl; taken = none }
   where
     none : (t w : ℕ) → (heap_of (opening p s) t).worker ≡ Some w → slice_get (replicate 64 None) w ≡ Some (Some t)
@@ -48,7 +48,7 @@ opening_agrees p s = record { used = refl; places = refl; taken = none }
     none (suc t) w e = absurd cc
 
 -- what is kept beside the accounts, after an entry
-pub accounts_agree : (s : Standing) → AreLimits s.limits → IsLegalLedger s.program s.limits s.ledger → Agrees s → (e : Event) → refusal s.program s.limits s.ledger e ≡ None
+pub accounts_agree : (s : AccountsValue) → AreLimits s.limits → IsLegalLedger s.program s.limits s.ledger → Agrees s → (e : EntryValue) → refusal s.program s.limits s.ledger e ≡ None
     → Agrees (record (went_on s (after s.program s.limits s.ledger e)) { taken = taken_after s.taken e.worker e.kind })
 accounts_agree s limits L A e none =
     let h : is_none (refusal s.program s.limits s.ledger e) ≡ true = ap is_none none in
@@ -76,9 +76,9 @@ accounts_agree s limits L A e none =
     as_long taken w Fuel = refl
 
 -- a book that goes on
-pub opened_after : (s new : Standing) (stopped : Bool) → AreLimits s.limits → IsOpened s stopped → stopped ≡ false → (e : Event) → refusal s.program s.limits s.ledger e ≡ None
+pub opened_after : (s new : AccountsValue) (stopped : Bool) → AreLimits s.limits → IsOpened s stopped → stopped ≡ false → (e : EntryValue) → refusal s.program s.limits s.ledger e ≡ None
     → new ≡ record (went_on s (after s.program s.limits s.ledger e)) { taken = taken_after s.taken e.worker e.kind } → IsOpened new stopped
 opened_after s new stopped limits I going e none is = record {
-  legal = λ q. subst (λ (k : Standing). IsLegalLedger k.program k.limits k.ledger) (sym is) (ledger_after s.program s.limits s.ledger (I.legal going) e none);
+  legal = λ q. subst (λ (k : AccountsValue). IsLegalLedger k.program k.limits k.ledger) (sym is) (ledger_after s.program s.limits s.ledger (I.legal going) e none);
   agrees = λ q. subst Agrees (sym is) (accounts_agree s limits (I.legal going) (I.agrees going) e none);
 }

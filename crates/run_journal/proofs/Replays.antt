@@ -1,15 +1,15 @@
 -- The next entry of a replay.
 use Rattle.std.proofs.Common.{◌≡◌, ℕ, ◌+◌, ◌<◌, suc, Some, None, List, ◌∷◌, length, drop, get_or, ap, ap₂, sym, ◌∙◌, arith}
 use Rattle.std.proofs.Math.Seq.{drop-cons}
-use Rattle.run_trace.specs.Entry.{Event}
-use Rattle.run_trace.specs.Settings.{Limits}
+use Rattle.run_trace.specs.Entry.{EntryValue}
+use Rattle.run_trace.specs.Settings.{SettingsValue}
 use Rattle.hh_lang.specs.Form.{ProgramText}
 use Rattle.run_ledger.specs.declared.data.Ledger.{Ledger}
 use Rattle.run_ledger.specs.declared.data.Refused.{Refused}
 use Rattle.run_ledger.specs.Entries.{refusal, after}
 use Rattle.run_ledger.specs.Journals.{after_all, first_refused_from, refused_or}
 
-module _ (p : ProgramText) (s : Limits) (l : Ledger) (n : ℕ) (journal : List Event) (i : ℕ) (e : Event) (lt : i < length journal) (is : e ≡ get_or journal i e) where
+module _ (p : ProgramText) (s : SettingsValue) (l : Ledger) (n : ℕ) (journal : List EntryValue) (i : ℕ) (e : EntryValue) (lt : i < length journal) (is : e ≡ get_or journal i e) where
   pub cut : drop i journal ≡ e ∷ drop (i + 1) journal
   cut = drop-cons journal i e lt ∙ ap₂ (λ x k. x ∷ drop k journal) (sym is) (let q : suc i ≡ i + 1 = omega arith in q)
 

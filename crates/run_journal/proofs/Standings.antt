@@ -3,7 +3,7 @@ use Rattle.std.proofs.Common.{◌≡◌, ℕ, ◌+◌, ◌-◌, ◌<◌, ◌≤�
 use Rattle.std.proofs.lemmas.Bool.{false≢true}
 use Rattle.hh_lang.specs.declared.program.Line.{Line}
 use Rattle.hh_lang.specs.Form.{ProgramText}
-use Rattle.run_trace.specs.Settings.{Limits}
+use Rattle.run_trace.specs.Settings.{SettingsValue}
 use Rattle.hh_model.specs.declared.data.Task.{Task}
 use Rattle.hh_model.specs.declared.data.State.{State}
 use Rattle.hh_model.specs.declared.data.End.{End}
@@ -14,7 +14,7 @@ use Rattle.run_ledger.proofs.Machine.{task_step_machine}
 use Rattle.run_journal.specs.declared.ran.Stood.{Stood}
 use Rattle.run_journal.specs.declared.ran.Stood.TheVariants.{Not, Last, More}
 use Rattle.run_ledger.specs.Heaps.{in_use}
-use Rattle.run_journal.specs.Book.{Standing, Steady, StaysSteady, stood, after_stood, is_own, is_own_by, is_own_line, used_after, went_on}
+use Rattle.run_journal.specs.Book.{AccountsValue, Steady, StaysSteady, stood, after_stood, is_own, is_own_by, is_own_line, used_after, went_on}
 
 -- PRIVATE STEPS
 
@@ -46,7 +46,7 @@ steps_more p l t k = ap (task_steps p l t) (let e : k + 1 ≡ suc k = omega arit
     at zero l = refl
     at (suc k) l = at k (task_step p l t)
 
-module _ (s : Limits) (p : ProgramText) (t : ℕ) where
+module _ (s : SettingsValue) (p : ProgramText) (t : ℕ) where
   pub stands_not : (l : Ledger) (k : ℕ) → Not ≡ stood s p l t → standing s p l t k ≡ 0
   stands_not l zero e = refl
   stands_not l (suc k) e = by (is_due s p l t || is_in_need p l t) (is_private p l.machine t) e
@@ -81,14 +81,14 @@ module _ (s : Limits) (p : ProgramText) (t : ℕ) where
       by false false e = omega arith
 
 -- how far the steps have come: so many were taken, all of them can stand, and the rest of the question is that of the rest
-pub record Ran (s : Limits) (p : ProgramText) (l : Ledger) (t k done : ℕ) (now : Ledger) : Type 0 where
+pub record Ran (s : SettingsValue) (p : ProgramText) (l : Ledger) (t k done : ℕ) (now : Ledger) : Type 0 where
   pub is : now ≡ task_steps p l t done
   pub rest : standing s p l t k ≡ done + standing s p now t (k - done)
 
-pub ran_none : (s : Limits) (p : ProgramText) (l : Ledger) (t k : ℕ) → Ran s p l t k 0 l
+pub ran_none : (s : SettingsValue) (p : ProgramText) (l : Ledger) (t k : ℕ) → Ran s p l t k 0 l
 ran_none s p l t k = record { is = refl; rest = let e : standing s p l t k ≡ standing s p l t (k - 0) = ap (standing s p l t) (let i : k ≡ k - 0 = omega arith in i) in omega arith }
 
-module _ (s : Limits) (p : ProgramText) (l : Ledger) (t k done : ℕ) (now : Ledger) (R : Ran s p l t k done now) (lt : done < k) where
+module _ (s : SettingsValue) (p : ProgramText) (l : Ledger) (t k done : ℕ) (now : Ledger) (R : Ran s p l t k done now) (lt : done < k) where
   left_is : k - done ≡ suc (k - (done + 1))
   left_is = omega arith
 
@@ -123,19 +123,19 @@ module _ (s : Limits) (p : ProgramText) (l : Ledger) (t k done : ℕ) (now : Led
     rest = let a = stands_more s p t now (k - (done + 1)) e in let b = R.rest in let g = rest_is in omega arith;
   }
 
-pub ran_all : (s : Limits) (p : ProgramText) (l : Ledger) (t k : ℕ) (now : Ledger) → Ran s p l t k k now → k ≡ standing s p l t k
+pub ran_all : (s : SettingsValue) (p : ProgramText) (l : Ledger) (t k : ℕ) (now : Ledger) → Ran s p l t k k now → k ≡ standing s p l t k
 ran_all s p l t k now R = let e = R.rest in let z : standing s p now t (k - k) ≡ 0 = ap (standing s p now t) (let q : k - k ≡ 0 = omega arith in q) in omega arith
 
 -- the same, by the accounts at the entry and those that the loop has come to
-module _ (a b : Standing) (t k done : ℕ) (is : b ≡ went_on a b.ledger) (R : Ran a.limits a.program a.ledger t k done b.ledger) (lt : done < k) where
+module _ (a b : AccountsValue) (t k done : ℕ) (is : b ≡ went_on a b.ledger) (R : Ran a.limits a.program a.ledger t k done b.ledger) (lt : done < k) where
   el : b.limits ≡ a.limits
-  el = ap (λ (q : Standing). q.limits) is
+  el = ap (λ (q : AccountsValue). q.limits) is
 
   ep : b.program ≡ a.program
-  ep = ap (λ (q : Standing). q.program) is
+  ep = ap (λ (q : AccountsValue). q.program) is
 
   pub used_at : b.used ≡ in_use b.ledger
-  used_at = ap (λ (q : Standing). q.used) is
+  used_at = ap (λ (q : AccountsValue). q.used) is
 
   pub steady_at : StaysSteady a.limits a.program a.ledger t k → Steady b.ledger
   steady_at S = ran_steady a.limits a.program a.ledger t k done b.ledger R lt S
@@ -161,10 +161,10 @@ module _ (a b : Standing) (t k done : ℕ) (is : b ≡ went_on a b.ledger) (R : 
     pub last_at : how ≡ Last → done + 1 ≡ standing a.limits a.program a.ledger t k
     last_at e = ran_last a.limits a.program a.ledger t k done b.ledger R lt (stood_as Last e)
 
-    module _ (new : Standing) (n : new ≡ went_on b (after_stood b.program b.ledger t how)) where
+    module _ (new : AccountsValue) (n : new ≡ went_on b (after_stood b.program b.ledger t how)) where
       new_is : (w : Stood) → how ≡ w → new ≡ went_on a (after_stood a.program b.ledger t w)
       new_is w e =
-          n ∙ (ap (λ v. went_on b (after_stood b.program b.ledger t v)) e ∙ ap (λ (q : Standing). went_on q (after_stood q.program b.ledger t w)) is)
+          n ∙ (ap (λ v. went_on b (after_stood b.program b.ledger t v)) e ∙ ap (λ (q : AccountsValue). went_on q (after_stood q.program b.ledger t w)) is)
 
       pub new_not : how ≡ Not → new ≡ went_on a (task_steps a.program a.ledger t done)
       new_not e = new_is Not e ∙ ap (went_on a) R.is
@@ -174,14 +174,14 @@ module _ (a b : Standing) (t k done : ℕ) (is : b ≡ went_on a b.ledger) (R : 
 
       pub new_more : how ≡ More → Ran a.limits a.program a.ledger t k (done + 1) new.ledger
       new_more e =
-          subst (Ran a.limits a.program a.ledger t k (done + 1)) (sym (ap (λ (q : Standing). q.ledger) (new_is More e)))
+          subst (Ran a.limits a.program a.ledger t k (done + 1)) (sym (ap (λ (q : AccountsValue). q.ledger) (new_is More e)))
           (ran_more a.limits a.program a.ledger t k done b.ledger R lt (stood_as More e))
 
       pub new_went : how ≡ More → new ≡ went_on a new.ledger
-      new_went e = let q = new_is More e in q ∙ ap (went_on a) (sym (ap (λ (x : Standing). x.ledger) q))
+      new_went e = let q = new_is More e in q ∙ ap (went_on a) (sym (ap (λ (x : AccountsValue). x.ledger) q))
 
 -- how a step stood that was taken
-pub stood_is : (s : Limits) (p : ProgramText) (l : Ledger) (t : ℕ) (own ended : Bool) → is_due s p l t ≡ false → is_in_need p l t ≡ false → own ≡ is_own p l.machine t
+pub stood_is : (s : SettingsValue) (p : ProgramText) (l : Ledger) (t : ℕ) (own ended : Bool) → is_due s p l t ≡ false → is_in_need p l t ≡ false → own ≡ is_own p l.machine t
     → ended ≡ is_some (task_step p l t).machine.end → cond (own && not ended) More Last ≡ stood s p l t
 stood_is s p l t own ended d n o e =
     ap₂ (λ a b. cond (a && b) More Last) o (ap not e ∙ not_some (task_step p l t).machine.end)

@@ -4,8 +4,8 @@ use Rattle.std.proofs.lemmas.Bool.{false≢true, and_parts}
 use Rattle.listed.proofs.Members.{in_from_contains}
 use Rattle.run_trace.specs.declared.entry.Kind.{Kind}
 use Rattle.run_trace.specs.declared.entry.Kind.TheVariants.{Took, Ran, Chunk, Begin, End as EndOf, PutOff, Mark, More, Sweep, Fuel}
-use Rattle.run_trace.specs.Entry.{Event}
-use Rattle.run_trace.specs.Settings.{Limits, AreLimits}
+use Rattle.run_trace.specs.Entry.{EntryValue}
+use Rattle.run_trace.specs.Settings.{SettingsValue, AreLimits}
 use Rattle.hh_lang.specs.Form.{ProgramText}
 use Rattle.hh_model.specs.declared.data.Name.{Name}
 use Rattle.hh_model.specs.declared.data.State.{State}
@@ -60,7 +60,7 @@ allocated_steps : (l : Ledger) (t : ℕ) (o : Option ℕ) → (allocated_by l t 
 allocated_steps l t None = refl
 allocated_steps l t (Some w) = with_heap_any (λ k. k.steps ≡ l.steps) l t _ refl (λ h e. refl)
 
-module _ (p : ProgramText) (s : Limits) (A : AreLimits s) (l : Ledger) (t : ℕ) (S : SoundAt t l) (I : StockedLedger l) (B : BookedLedger p s l) (X : Light l) (can : can_step l.machine t ≡ true)
+module _ (p : ProgramText) (s : SettingsValue) (A : AreLimits s) (l : Ledger) (t : ℕ) (S : SoundAt t l) (I : StockedLedger l) (B : BookedLedger p s l) (X : Light l) (can : can_step l.machine t ≡ true)
     (fine : (is_due s p l t || is_in_need p l t) ≡ false) where
   abbrev m : State
   m = l.machine
@@ -166,7 +166,7 @@ module _ (p : ProgramText) (s : Limits) (A : AreLimits s) (l : Ledger) (t : ℕ)
             subst (λ (z : State). store_words z.store ≤ k.steps * most) (sym (stepped_machine b t m')) (omega arith);
       }
 
-module _ (p : ProgramText) (s : Limits) (A : AreLimits s) where
+module _ (p : ProgramText) (s : SettingsValue) (A : AreLimits s) where
   -- all that is kept from step to step
   record Firm (t : ℕ) (l : Ledger) : Type 0 where
     sound : SoundAt t l
@@ -283,10 +283,10 @@ module _ (p : ProgramText) (s : Limits) (A : AreLimits s) where
   kind_light l w (Sweep t g) S I B h X = lighter l t swept_heap (λ h f. swept_weight f h) (λ h. omega arith) (λ h. omega arith) X
   kind_light l w Fuel S I B h X = record { names = X.names; snapshots = X.snapshots; since = X.since; heaps = X.heaps; store = X.store }
 
-  light_from : (done rest : List Event) → is_legal p s (done ++ rest) ≡ true → Light (ledger_of p s done) → Light (ledger_of p s (done ++ rest))
+  light_from : (done rest : List EntryValue) → is_legal p s (done ++ rest) ≡ true → Light (ledger_of p s done) → Light (ledger_of p s (done ++ rest))
   light_from done [] legal X = subst (λ j. Light (ledger_of p s j)) (sym (append_none done)) X
     where
-      append_none : (xs : List Event) → xs ++ [] ≡ xs
+      append_none : (xs : List EntryValue) → xs ++ [] ≡ xs
       append_none [] = refl
       append_none (x ∷ xs) = ap (λ ys. x ∷ ys) (append_none xs)
   light_from done (e ∷ rest) legal X =
@@ -299,11 +299,11 @@ module _ (p : ProgramText) (s : Limits) (A : AreLimits s) where
       (light_from (done ++ e ∷ []) rest (ap (is_legal p s) join ∙ legal)
       (subst Light (sym same) (kind_light l e.worker e.kind (legal_sound p s done cut.0) (legal_stocked p s done cut.0) (legal_booked p s done cut.0) one.0 X)))
     where
-      again : (xs : List Event) → (xs ++ e ∷ []) ++ rest ≡ xs ++ e ∷ rest
+      again : (xs : List EntryValue) → (xs ++ e ∷ []) ++ rest ≡ xs ++ e ∷ rest
       again [] = refl
       again (x ∷ xs) = ap (λ ys. x ∷ ys) (again xs)
 
-  legal_light : (journal : List Event) → is_legal p s journal ≡ true → Light (ledger_of p s journal)
+  legal_light : (journal : List EntryValue) → is_legal p s journal ≡ true → Light (ledger_of p s journal)
   legal_light journal legal = light_from [] journal legal (record { names = omega arith; snapshots = first; since = omega arith; heaps = omega arith; store = none })
     where
       none : store_words (opening p s).machine.store ≤ 0
@@ -313,15 +313,15 @@ module _ (p : ProgramText) (s : Limits) (A : AreLimits s) where
       first zero = omega arith
       first (suc u) = omega arith
 
-  steps_few : (journal : List Event) → is_legal p s journal ≡ true → (ledger_of p s journal).steps ≤ 1000000256
+  steps_few : (journal : List EntryValue) → is_legal p s journal ≡ true → (ledger_of p s journal).steps ≤ 1000000256
   steps_few journal legal = let a = steps_are_bounded p s journal legal in let b : s.fuel ≤ 1000000000 = A.fuel.1 in omega arith
 
-  pub legal_steady : (journal : List Event) → is_legal p s journal ≡ true → Steady (ledger_of p s journal)
+  pub legal_steady : (journal : List EntryValue) → is_legal p s journal ≡ true → Steady (ledger_of p s journal)
   legal_steady journal legal =
       let a = steps_few journal legal in
       steady_by (ledger_of p s journal) (legal_sound p s journal legal) (legal_booked p s journal legal) (legal_light journal legal) (omega arith)
 
-  pub legal_stored : (journal : List Event) → is_legal p s journal ≡ true → store_words (ledger_of p s journal).machine.store < 2 ^ 62
+  pub legal_stored : (journal : List EntryValue) → is_legal p s journal ≡ true → store_words (ledger_of p s journal).machine.store < 2 ^ 62
   legal_stored journal legal = let a = steps_few journal legal in let b = (legal_light journal legal).store in omega arith
 
   standing_most : (k : ℕ) (l : Ledger) (t : ℕ) → standing s p l t k ≤ k
@@ -334,7 +334,7 @@ module _ (p : ProgramText) (s : Limits) (A : AreLimits s) where
       by rest le false false = omega arith
 
   -- while a task takes steps that can stand in one entry
-  pub legal_stays : (journal : List Event) (t k : ℕ) → is_legal p s journal ≡ true → is_some (heap_of (ledger_of p s journal) t).begun ≡ false → k ≤ 257 → StaysSteady s p (ledger_of p s journal) t k
+  pub legal_stays : (journal : List EntryValue) (t k : ℕ) → is_legal p s journal ≡ true → is_some (heap_of (ledger_of p s journal) t).begun ≡ false → k ≤ 257 → StaysSteady s p (ledger_of p s journal) t k
   legal_stays journal t k legal idle few =
       let l = ledger_of p s journal in
       let F : Firm t l = record { sound = (legal_sound p s journal legal, collects (heap_at l t) idle); stocked = legal_stocked p s journal legal; booked = legal_booked p s journal legal; light = legal_light journal legal } in

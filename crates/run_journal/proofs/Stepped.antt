@@ -17,7 +17,7 @@ use Rattle.run_ledger.specs.Heaps.{heap_of, or_fresh, heap_at, fresh, with_heap,
 use Rattle.run_ledger.specs.Steps.{allocated_in, allocated_by, task_step, settled, moved_to, moved_on, at_fork, is_in_need, on_asked}
 use Rattle.run_journal.proofs.Snaps.{settled_paired}
 use Rattle.ledger_heaps.specs.Accounts.{AreOwned}
-use Rattle.run_journal.specs.Book.{Standing, Steady, ArePaired, Forks, next_large, used_by, used_after, went_on}
+use Rattle.run_journal.specs.Book.{AccountsValue, Steady, ArePaired, Forks, next_large, used_by, used_after, went_on}
 
 with_machine : (l : Ledger) (t : ℕ) (f : Heap → Heap) (o : Option Heap) → (with_heap_at l t f o).machine ≡ l.machine
 with_machine l t f None = refl
@@ -47,7 +47,7 @@ step_is p l t can =
     ∙ sym (cond-true (can_step l.machine t) _ _ can)
 
 -- the parts of a step, one after the other
-pub steps_by : (s s1 s2 s3 s4 : Standing) (t : ℕ) → can_step s.ledger.machine t ≡ true → s.used ≡ in_use s.ledger → used_after s.program s.ledger t ≡ in_use (task_step s.program s.ledger t)
+pub steps_by : (s s1 s2 s3 s4 : AccountsValue) (t : ℕ) → can_step s.ledger.machine t ≡ true → s.used ≡ in_use s.ledger → used_after s.program s.ledger t ≡ in_use (task_step s.program s.ledger t)
     → s1 ≡ record s { ledger = allocated_in s.program s.ledger t }
     → s2 ≡ record s1 { ledger = advanced s1.program s1.ledger t }
     → s3 ≡ record s2 { used = used_by s2.used (heap_of s.ledger t).reserved s2.ledger.machine (next_large s.program s.ledger t) }
@@ -56,14 +56,14 @@ pub steps_by : (s s1 s2 s3 s4 : Standing) (t : ℕ) → can_step s.ledger.machin
 steps_by s s1 s2 s3 s4 t can used next e1 e2 e3 e4 =
     let r : ℕ = (heap_of s.ledger t).reserved in
     let n : Option Name = next_large s.program s.ledger t in
-    e4 ∙ (ap (λ (k : Standing). record k { ledger = settled k.ledger t k.ledger.machine.end })
-    (e3 ∙ ap (λ (k : Standing). record k { used = used_by k.used r k.ledger.machine n }) (e2 ∙ ap (λ (k : Standing). record k { ledger = advanced k.program k.ledger t }) e1))
+    e4 ∙ (ap (λ (k : AccountsValue). record k { ledger = settled k.ledger t k.ledger.machine.end })
+    (e3 ∙ ap (λ (k : AccountsValue). record k { used = used_by k.used r k.ledger.machine n }) (e2 ∙ ap (λ (k : AccountsValue). record k { ledger = advanced k.program k.ledger t }) e1))
     ∙ (ap (λ (l : Ledger). record s { ledger = l; used = used_by s.used r (step s.program (allocated_in s.program s.ledger t).machine t) n }) (step_is s.program s.ledger t can)
     ∙ ap (λ (u : ℕ). record s { ledger = task_step s.program s.ledger t; used = u })
     (ap₂ (λ u m. used_by u r (step s.program m t) n) used (allocated_machine s.ledger t (asked s.program s.ledger.machine t)) ∙ (sym (cond-true (can_step s.ledger.machine t) _ _ can) ∙ next))))
 
 -- a step that can't be taken
-pub steps_none : (s new : Standing) (t : ℕ) → can_step s.ledger.machine t ≡ false → s.used ≡ in_use s.ledger → new ≡ record s { ledger = record s.ledger { steps = s.ledger.steps + 1 } } → new ≡ went_on s (task_step s.program s.ledger t)
+pub steps_none : (s new : AccountsValue) (t : ℕ) → can_step s.ledger.machine t ≡ false → s.used ≡ in_use s.ledger → new ≡ record s { ledger = record s.ledger { steps = s.ledger.steps + 1 } } → new ≡ went_on s (task_step s.program s.ledger t)
 steps_none s new t can used e =
     e ∙ (ap (λ (u : ℕ). record s { ledger = record s.ledger { steps = s.ledger.steps + 1 }; used = u }) used
     ∙ ap (went_on s) (sym (cond-false (can_step s.ledger.machine t) _ _ can)))
@@ -113,12 +113,12 @@ module _ (l : Ledger) (t : ℕ) (S : Steady l) where
   since_by None e u = let a = S.since u in omega arith
   since_by (Some w) e u = at_heap w (heap_at l t) refl e (λ h. placed h _ w) (λ h. placed_is h _ w (is_small w) refl) u
 
-pub since_few : (p : ProgramText) (l : Ledger) (t : ℕ) → Steady l → is_in_need p l t ≡ false → (s s1 s2 s3 : Standing) (used : ℕ) → s.program ≡ p → s.ledger ≡ l
+pub since_few : (p : ProgramText) (l : Ledger) (t : ℕ) → Steady l → is_in_need p l t ≡ false → (s s1 s2 s3 : AccountsValue) (used : ℕ) → s.program ≡ p → s.ledger ≡ l
     → s1 ≡ record s { ledger = allocated_in s.program s.ledger t } → s2 ≡ record s1 { ledger = advanced s1.program s1.ledger t } → s3 ≡ record s2 { used = used }
     → (u : ℕ) → (heap_of s3.ledger u).since < 2 ^ 62
 since_few p l t S need s s1 s2 s3 used ep el e1 e2 e3 u =
     let same : s3.ledger.heaps ≡ (allocated_in p l t).heaps =
-    ap (λ (k : Standing). k.ledger.heaps) (e3 ∙ ap (λ (k : Standing). record k { used = used }) e2) ∙ (ap (λ (k : Standing). k.ledger.heaps) e1 ∙ ap₂ (λ q k. (allocated_in q k t).heaps) ep el) in
+    ap (λ (k : AccountsValue). k.ledger.heaps) (e3 ∙ ap (λ (k : AccountsValue). record k { used = used }) e2) ∙ (ap (λ (k : AccountsValue). k.ledger.heaps) e1 ∙ ap₂ (λ q k. (allocated_in q k t).heaps) ep el) in
     let h = since_by l t S (asked p l.machine t) need u in
     let e : (heap_of s3.ledger u).since ≡ (heap_of (allocated_in p l t) u).since = ap (λ hs. (or_fresh (slice_get hs u)).since) same in
     omega arith
@@ -181,32 +181,32 @@ settled_fork l t e w = by (slice_get l.machine.tasks t) w ∙ sym (ap (settled l
     by None w = absurd (false≢true w)
     by (Some x) w = at x x.status w
 
-pub stepped_owned : (s s1 s2 s3 : Standing) (t used : ℕ) → can_step s.ledger.machine t ≡ true
+pub stepped_owned : (s s1 s2 s3 : AccountsValue) (t used : ℕ) → can_step s.ledger.machine t ≡ true
     → s1 ≡ record s { ledger = allocated_in s.program s.ledger t } → s2 ≡ record s1 { ledger = advanced s1.program s1.ledger t } → s3 ≡ record s2 { used = used }
     → Steady (task_step s.program s.ledger t) → is_waiting (slice_get s3.ledger.machine.tasks t) ≡ true → AreOwned s3.ledger.machine.tasks s3.ledger.heaps
 stepped_owned s s1 s2 s3 t used can e1 e2 e3 S w =
     let k = advanced s.program (allocated_in s.program s.ledger t) t in
-    let same : s3.ledger ≡ k = ap (λ (q : Standing). q.ledger) (e3 ∙ ap (λ (q : Standing). record q { used = used }) (e2 ∙ ap (λ (q : Standing). record q { ledger = advanced q.program q.ledger t }) e1)) in
+    let same : s3.ledger ≡ k = ap (λ (q : AccountsValue). q.ledger) (e3 ∙ ap (λ (q : AccountsValue). record q { used = used }) (e2 ∙ ap (λ (q : AccountsValue). record q { ledger = advanced q.program q.ledger t }) e1)) in
     subst (λ (q : Ledger). AreOwned q.machine.tasks q.heaps) (sym same)
     (settled_owned k t k.machine.end (ap (λ (q : Ledger). is_waiting (slice_get q.machine.tasks t)) (sym same) ∙ w)
     (subst (λ (q : Ledger). AreOwned q.machine.tasks q.heaps) (sym (step_is s.program s.ledger t can)) S.owned))
 
-pub stepped_paired : (s s1 s2 s3 : Standing) (t used : ℕ) → can_step s.ledger.machine t ≡ true
+pub stepped_paired : (s s1 s2 s3 : AccountsValue) (t used : ℕ) → can_step s.ledger.machine t ≡ true
     → s1 ≡ record s { ledger = allocated_in s.program s.ledger t } → s2 ≡ record s1 { ledger = advanced s1.program s1.ledger t } → s3 ≡ record s2 { used = used }
     → Steady (task_step s.program s.ledger t) → is_joined (slice_get s3.ledger.machine.tasks t) ≡ true → ArePaired s3.ledger
 stepped_paired s s1 s2 s3 t used can e1 e2 e3 S j =
     let k = advanced s.program (allocated_in s.program s.ledger t) t in
-    let same : s3.ledger ≡ k = ap (λ (q : Standing). q.ledger) (e3 ∙ ap (λ (q : Standing). record q { used = used }) (e2 ∙ ap (λ (q : Standing). record q { ledger = advanced q.program q.ledger t }) e1)) in
+    let same : s3.ledger ≡ k = ap (λ (q : AccountsValue). q.ledger) (e3 ∙ ap (λ (q : AccountsValue). record q { used = used }) (e2 ∙ ap (λ (q : AccountsValue). record q { ledger = advanced q.program q.ledger t }) e1)) in
     subst ArePaired (sym same)
     (settled_paired k t k.machine.end (ap (λ (q : Ledger). is_joined (slice_get q.machine.tasks t)) (sym same) ∙ j)
     (subst ArePaired (sym (step_is s.program s.ledger t can)) S.paired))
 
 -- a fork, by what is computed of it
-pub fork_is : (v s : Standing) → v ≡ s → (t : ℕ) (m : State) → m ≡ v.ledger.machine → (names : List Name)
+pub fork_is : (v s : AccountsValue) → v ≡ s → (t : ℕ) (m : State) → m ≡ v.ledger.machine → (names : List Name)
     → names ≡ within (record { machine = m; heaps = v.ledger.heaps; steps = 0; end = None }) t → (heaps : List Heap) → Forks v.ledger.heaps heaps t names
     → record v { ledger = record v.ledger { heaps = heaps } } ≡ record s { ledger = at_fork s.ledger t }
 fork_is v s e t m em names en heaps f =
     let same : names ≡ within v.ledger t = en ∙ ap (λ (q : State). within (record { machine = q; heaps = v.ledger.heaps; steps = 0; end = None }) t) em in
     ap (λ (l : Ledger). record v { ledger = l })
     (sym (f v.ledger refl) ∙ ap (λ ns. with_heap (record v.ledger { heaps = v.ledger.heaps ++ fresh ∷ fresh ∷ [] }) t (forked_heap ns)) same)
-    ∙ ap (λ (q : Standing). record q { ledger = at_fork q.ledger t }) e
+    ∙ ap (λ (q : AccountsValue). record q { ledger = at_fork q.ledger t }) e

@@ -4,7 +4,7 @@ use Rattle.std.specs.List.{flat_map}
 use Rattle.std.proofs.lemmas.Bool.{ltb-false}
 use Rattle.std.proofs.lemmas.List.Sums.{sum_by-append, sum_by-cons}
 use Rattle.listed.proofs.Members.{In, in_append_right}
-use Rattle.run_trace.specs.Settings.{Limits}
+use Rattle.run_trace.specs.Settings.{SettingsValue}
 use Rattle.hh_lang.specs.Form.{ProgramText}
 use Rattle.hh_model.specs.declared.data.Name.{Name}
 use Rattle.hh_model.specs.declared.data.State.{State}
@@ -34,7 +34,7 @@ one_of f (h ∷ heaps) (suc u) z = let a = sum_by-cons f h heaps in let b = one_
 
 -- A STEP
 
-module _ (p : ProgramText) (s : Limits) (l : Ledger) (t : ℕ) (S : SoundAt t l) (I : StockedLedger l) (B : BookedLedger p s l) (fine : (is_due s p l t || is_in_need p l t) ≡ false) where
+module _ (p : ProgramText) (s : SettingsValue) (l : Ledger) (t : ℕ) (S : SoundAt t l) (I : StockedLedger l) (B : BookedLedger p s l) (fine : (is_due s p l t || is_in_need p l t) ≡ false) where
   module _ (can : can_step l.machine t ≡ true) where
     abbrev m : State
     m = l.machine

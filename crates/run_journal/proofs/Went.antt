@@ -12,14 +12,14 @@ use Rattle.run_ledger.specs.Entries.{after_kind, with_chunk, chunk_units}
 use Rattle.ledger_heaps.specs.declared.collection.Collected.{Collected}
 use Rattle.ledger_heaps.specs.Parts.{with_collected}
 use Rattle.run_ledger.proofs.Stocks.{with_heap_any}
-use Rattle.run_journal.specs.Book.{Standing, Agrees, went_on, places_in}
+use Rattle.run_journal.specs.Book.{AccountsValue, Agrees, went_on, places_in}
 use Rattle.run_journal.proofs.Uses.{use_set, use_least, use_same, use_collected, use_swept}
 
 -- the chunks in use stay as they are
-same_went : (s new : Standing) (l : Ledger) → Agrees s → in_use l ≡ in_use s.ledger → new ≡ record s { ledger = l } → new ≡ went_on s l
+same_went : (s new : AccountsValue) (l : Ledger) → Agrees s → in_use l ≡ in_use s.ledger → new ≡ record s { ledger = l } → new ≡ went_on s l
 same_went s new l A same e = e ∙ ap (λ (u : ℕ). record s { ledger = l; used = u }) (A.used ∙ sym same)
 
-module _ (s new : Standing) (w t : ℕ) (A : Agrees s) where
+module _ (s new : AccountsValue) (w t : ℕ) (A : Agrees s) where
   pub went_took : (taken : List (Option ℕ)) → new ≡ record s { ledger = after_kind s.program s.limits s.ledger w (Took t); taken = taken } → new ≡ record (went_on s (after_kind s.program s.limits s.ledger w (Took t))) { taken = taken }
   went_took taken e =
       e ∙ ap (λ (u : ℕ). record s { ledger = after_kind s.program s.limits s.ledger w (Took t); used = u; taken = taken }) (A.used ∙ sym (use_same s.ledger t _ (λ h. refl)))
@@ -33,7 +33,7 @@ module _ (s new : Standing) (w t : ℕ) (A : Agrees s) where
   pub went_more : (n : ℕ) → new ≡ record s { ledger = after_kind s.program s.limits s.ledger w (More t n) } → new ≡ went_on s (after_kind s.program s.limits s.ledger w (More t n))
   went_more n e = same_went s new _ A (use_same s.ledger t _ (λ h. refl)) e
 
-pub went_fuel : (s new : Standing) (w : ℕ) → Agrees s → new ≡ record s { ledger = after_kind s.program s.limits s.ledger w Fuel } → new ≡ went_on s (after_kind s.program s.limits s.ledger w Fuel)
+pub went_fuel : (s new : AccountsValue) (w : ℕ) → Agrees s → new ≡ record s { ledger = after_kind s.program s.limits s.ledger w Fuel } → new ≡ went_on s (after_kind s.program s.limits s.ledger w Fuel)
 went_fuel s new w A e = same_went s new _ A refl e
 
 -- CHUNKS AND COLLECTIONS THAT BEGIN
@@ -52,10 +52,10 @@ placed_set l t f same =
     let g : places_in (heap_of l t) ≡ places_in h = ap (λ o. places_in (or_fresh o)) e in
     omega arith)
 
-placed_went : (s s1 new : Standing) (t : ℕ) (l : Ledger) (before : ℕ) → Agrees s → before ≡ places_in (heap_of s.ledger t) → in_use l ≡ in_use s.ledger + places_in (heap_of l t) - places_in (heap_of s.ledger t)
+placed_went : (s s1 new : AccountsValue) (t : ℕ) (l : Ledger) (before : ℕ) → Agrees s → before ≡ places_in (heap_of s.ledger t) → in_use l ≡ in_use s.ledger + places_in (heap_of l t) - places_in (heap_of s.ledger t)
     → s1 ≡ record s { ledger = l } → new ≡ record s1 { used = s1.used + places_in (heap_of s1.ledger t) - before } → new ≡ went_on s l
 placed_went s s1 new t l before A was is e1 e =
-    e ∙ (ap (λ (k : Standing). record k { used = k.used + places_in (heap_of k.ledger t) - before }) e1
+    e ∙ (ap (λ (k : AccountsValue). record k { used = k.used + places_in (heap_of k.ledger t) - before }) e1
     ∙ ap (λ (u : ℕ). record s { ledger = l; used = u }) (ap₂ (λ a b. a + places_in (heap_of l t) - b) A.used was ∙ sym is))
 
 chunk_units_in : (l : Ledger) (next : Option ℕ) (h : Heap) → units_in l.machine (with_chunk next h) + places_in h ≡ units_in l.machine h + places_in (with_chunk next h)
@@ -65,7 +65,7 @@ chunk_units_in l next h = by (on_asked next is_small)
     by true = omega arith
     by false = omega arith
 
-pub went_chunk : (s s1 new : Standing) (w t before : ℕ) → Agrees s → before ≡ places_in (heap_of s.ledger t) → s1 ≡ record s { ledger = after_kind s.program s.limits s.ledger w (Chunk t) }
+pub went_chunk : (s s1 new : AccountsValue) (w t before : ℕ) → Agrees s → before ≡ places_in (heap_of s.ledger t) → s1 ≡ record s { ledger = after_kind s.program s.limits s.ledger w (Chunk t) }
     → new ≡ record s1 { used = s1.used + places_in (heap_of s1.ledger t) - before } → new ≡ went_on s (after_kind s.program s.limits s.ledger w (Chunk t))
 went_chunk s s1 new w t before A was e1 e =
     placed_went s s1 new t _ before A was (by (nat_lt s.limits.chunks (in_use s.ledger + chunk_units (asked s.program s.ledger.machine t)))) e1 e
@@ -75,18 +75,18 @@ went_chunk s s1 new w t before A was e1 e =
     by true = omega arith
     by false = placed_set s.ledger t (with_chunk (asked s.program s.ledger.machine t)) (chunk_units_in s.ledger (asked s.program s.ledger.machine t))
 
-pub went_begin : (s s1 new : Standing) (w t before : ℕ) → Agrees s → before ≡ places_in (heap_of s.ledger t) → s1 ≡ record s { ledger = after_kind s.program s.limits s.ledger w (Begin t) }
+pub went_begin : (s s1 new : AccountsValue) (w t before : ℕ) → Agrees s → before ≡ places_in (heap_of s.ledger t) → s1 ≡ record s { ledger = after_kind s.program s.limits s.ledger w (Begin t) }
     → new ≡ record s1 { used = s1.used + places_in (heap_of s1.ledger t) - before } → new ≡ went_on s (after_kind s.program s.limits s.ledger w (Begin t))
 went_begin s s1 new w t before A was e1 e = placed_went s s1 new t _ before A was (placed_set s.ledger t _ (λ h. omega arith)) e1 e
 
 -- COLLECTIONS THAT END, AND SWEEPS
 
-pub went_end : (s s1 new : Standing) (w t a g n : ℕ) (parts : Collected) → Agrees s → with_collected (heap_of s.ledger t) parts ≡ collected s.ledger.machine (heap_of s.ledger t)
+pub went_end : (s s1 new : AccountsValue) (w t a g n : ℕ) (parts : Collected) → Agrees s → with_collected (heap_of s.ledger t) parts ≡ collected s.ledger.machine (heap_of s.ledger t)
     → (parts.taken, parts.given, parts.left) ≡ end_numbers s.ledger.machine (heap_of s.ledger t)
     → s1 ≡ record s { used = s.used + (length parts.chunks - begun_in (heap_of s.ledger t)) - parts.given }
     → new ≡ record s1 { ledger = with_heap s1.ledger t (collected s1.ledger.machine) } → new ≡ went_on s (after_kind s.program s.limits s.ledger w (EndOf t a g n))
 went_end s s1 new w t a g n parts A heap numbers e1 e =
-    e ∙ (ap (λ (k : Standing). record k { ledger = with_heap k.ledger t (collected k.ledger.machine) }) e1
+    e ∙ (ap (λ (k : AccountsValue). record k { ledger = with_heap k.ledger t (collected k.ledger.machine) }) e1
     ∙ ap (λ (u : ℕ). record s { ledger = with_heap s.ledger t (collected s.ledger.machine); used = u }) (ap (λ u. u + (length parts.chunks - begun_in (heap_of s.ledger t)) - parts.given) A.used ∙ by (heap_at s.ledger t) refl heap (ap (λ (q : ℕ × ℕ × ℕ). q.1) numbers)))
   where
     by : (o : Option Heap) → heap_at s.ledger t ≡ o → with_collected (or_fresh o) parts ≡ collected s.ledger.machine (or_fresh o)
@@ -105,10 +105,10 @@ went_end s s1 new w t a g n parts A heap numbers e1 e =
         let q = use_collected s.ledger t h is parts.given d in
         omega arith
 
-pub went_sweep : (s s1 new : Standing) (w t g given : ℕ) → Agrees s → given ≡ sweep_number s.ledger.machine (heap_of s.ledger t) → s1 ≡ record s { used = s.used - given }
+pub went_sweep : (s s1 new : AccountsValue) (w t g given : ℕ) → Agrees s → given ≡ sweep_number s.ledger.machine (heap_of s.ledger t) → s1 ≡ record s { used = s.used - given }
     → new ≡ record s1 { ledger = with_heap s1.ledger t swept_heap } → new ≡ went_on s (after_kind s.program s.limits s.ledger w (Sweep t g))
 went_sweep s s1 new w t g given A number e1 e =
-    e ∙ (ap (λ (k : Standing). record k { ledger = with_heap k.ledger t swept_heap }) e1
+    e ∙ (ap (λ (k : AccountsValue). record k { ledger = with_heap k.ledger t swept_heap }) e1
     ∙ ap (λ (u : ℕ). record s { ledger = with_heap s.ledger t swept_heap; used = u }) (ap (λ u. u - given) A.used ∙ by (heap_at s.ledger t) refl number))
   where
     by : (o : Option Heap) → heap_at s.ledger t ≡ o → given ≡ sweep_number s.ledger.machine (or_fresh o) → in_use s.ledger - given ≡ in_use (with_heap s.ledger t swept_heap)

@@ -1,6 +1,6 @@
 -- What contracts see of accounts that are kept entry by entry.
 use Rattle.std.specs.Prelude.{◌≡◌, ℕ, ◌+◌, ◌-◌, ◌<◌, ◌≤◌, ◌^◌, ◌&&◌, ◌||◌, not, if◌then◌else◌, Bool, false, Option, Some, None, List, [], ◌∷◌, ◌++◌, nat_le, nat_lt, is_some, length, slice_get, slice_set, Contains}
-use Rattle.run_trace.specs.Settings.{Limits}
+use Rattle.run_trace.specs.Settings.{SettingsValue}
 use Rattle.run_trace.specs.declared.entry.Kind.{Kind}
 use Rattle.run_trace.specs.declared.entry.Kind.TheVariants.{Took}
 use Rattle.run_ledger.specs.declared.data.Refused.{Refused as Cause}
@@ -26,22 +26,22 @@ use Rattle.run_journal.specs.declared.ran.Stood.TheVariants.{Not, Last, More}
 
 -- the program, the limits and the accounts; and what is kept beside the accounts, so that an entry needn't ask all heaps:
 -- the chunks in use, and for each worker the task that it took last
-pub record Standing : Type 0 where
+pub record AccountsValue : Type 0 where
   pub program : ProgramText
-  pub limits : Limits
+  pub limits : SettingsValue
   pub ledger : Ledger
   pub used : ℕ
   pub taken : List (Option ℕ)
 
 -- what is kept beside the accounts agrees with them: so many chunks are in use, and a worker that holds a task took it last.
 -- There is a place for each worker that there can be
-pub record Agrees (s : Standing) : Type 0 where
+pub record Agrees (s : AccountsValue) : Type 0 where
   pub used : s.used ≡ in_use s.ledger
   pub places : length s.taken ≡ 64
   pub taken : (t w : ℕ) → (heap_of s.ledger t).worker ≡ Some w → slice_get s.taken w ≡ Some (Some t)
 
 -- the accounts become these, and the count of the chunks in use theirs
-abbrev pub went_on : Standing → Ledger → Standing
+abbrev pub went_on : AccountsValue → Ledger → AccountsValue
 went_on s l = record s { ledger = l; used = in_use l }
 
 -- the tasks that workers took last, after an entry
@@ -94,7 +94,7 @@ Joins heaps after parent left = (l : Ledger) → l.heaps ≡ heaps → join_heap
 -- THE STEPS OF ONE ENTRY
 
 -- how the next step of a task can stand in an entry
-abbrev pub stood : Limits → ProgramText → Ledger → ℕ → Stood
+abbrev pub stood : SettingsValue → ProgramText → Ledger → ℕ → Stood
 stood s p l t = if is_due s p l t || is_in_need p l t then Not else if is_private p l.machine t then More else Last
 
 -- the accounts after it, if it stands
@@ -126,14 +126,14 @@ used_after p l t = if can_step l.machine t then used_by (in_use l) (heap_of l t)
 
 -- after each of the steps that can stand in an entry the counts fit their types, and the chunks in use are as they are kept
 -- after the next one that can
-pub record StaysSteady (s : Limits) (p : ProgramText) (l : Ledger) (t k : ℕ) : Type 0 where
+pub record StaysSteady (s : SettingsValue) (p : ProgramText) (l : Ledger) (t k : ℕ) : Type 0 where
   pub steady : (i : ℕ) → i ≤ standing s p l t k → Steady (task_steps p l t i)
   pub used : (i : ℕ) → i ≤ standing s p l t k → let q = task_steps p l t i in (is_due s p q t || is_in_need p q t) ≡ false → used_after p q t ≡ in_use (task_step p q t)
 
 -- ENTRIES
 
 -- why an entry is refused whatever it says of tasks
-abbrev pub general_refusal : Limits → Ledger → ℕ → Kind → Option Cause
+abbrev pub general_refusal : SettingsValue → Ledger → ℕ → Kind → Option Cause
 general_refusal s l w kind =
     refused_if (is_some l.end) Over (refused_if (nat_le s.fuel l.steps && not (is_fuel kind)) (Spent l.steps) (refused_unless (nat_lt w s.workers) NoWorker None))
 

@@ -7,7 +7,7 @@ ghost use Rattle.run_ledger.specs.Entries.{is_ready, is_out, is_held_by, held_fr
 ghost use Rattle.run_ledger.specs.Journals.{opening};
 ghost use Rattle.hh_model.specs.Step.{is_running, is_waiting, asked};
 ghost use Rattle.run_trace.specs.Settings.{AreLimits};
-ghost use Rattle.run_journal.specs.Book.{Standing, Steady, Agrees};
+ghost use Rattle.run_journal.specs.Book.{AccountsValue, Steady, Agrees};
 
 use hh_lang::Program;
 use hh_model::{Machine, State, Status};
@@ -35,10 +35,10 @@ pub(crate) struct Accounts<'p> {
 }
 
 impl<'p> Model for Accounts<'p> {
-    ghost use Rattle.run_journal.specs.Book.{Standing};
+    ghost use Rattle.run_journal.specs.Book.{AccountsValue};
     ghost use Rattle.std.specs.Prelude.{◌≡◌, ◌≤◌};
 
-    ghost Value = { Standing };
+    ghost Value = { AccountsValue };
 
     ghost view = { λ a. record {
       program = a.program.now;

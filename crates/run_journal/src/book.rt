@@ -7,7 +7,7 @@ ghost use Rattle.run_ledger.specs.Journals.{opening};
 ghost use Rattle.run_ledger.specs.Pace.{noted};
 ghost use Rattle.run_ledger.specs.Pace.{owed as owed_by};
 ghost use Rattle.run_journal.specs.Book.{FailsFor};
-ghost use Rattle.run_journal.specs.Opened.{Opened, IsOpened, IsLegalLedger, cause_in};
+ghost use Rattle.run_journal.specs.BookValue.{BookValue, IsOpened, IsLegalLedger, cause_in};
 
 use crate::accounts::Accounts;
 use crate::enter::ApplyError;
@@ -27,9 +27,9 @@ pub struct Book<'p> {
 }
 
 impl<'p> Model for Book<'p> {
-    ghost use Rattle.run_journal.specs.Opened.{Opened, IsOpened};
+    ghost use Rattle.run_journal.specs.BookValue.{BookValue, IsOpened};
 
-    ghost Value = { Opened };
+    ghost Value = { BookValue };
 
     ghost view = { λ b. record { program = b.accounts.program; limits = b.accounts.limits; ledger = b.accounts.ledger; stopped = b.stopped } };
 

@@ -3,7 +3,7 @@ use Rattle.std.proofs.Common.{◌≡◌, ℕ, zero, suc, ◌+◌, ◌<◌, ◌�
 use Rattle.std.proofs.lemmas.Bool.{false≢true, and_parts, and_from, eqb-false, leb-true, leb-false, le-leb, lt-leb, ltb-true, lt-ltb}
 use Rattle.run_trace.specs.declared.entry.Kind.{Kind}
 use Rattle.run_trace.specs.declared.entry.Kind.TheVariants.{Took, Ran, Chunk, Begin, End as EndOf, PutOff, Mark, More, Sweep, Fuel}
-use Rattle.run_trace.specs.Settings.{Limits}
+use Rattle.run_trace.specs.Settings.{SettingsValue}
 use Rattle.hh_lang.specs.Form.{ProgramText}
 use Rattle.hh_model.specs.Step.{is_running, is_waiting}
 use Rattle.run_ledger.specs.declared.data.Heap.{Heap}
@@ -110,7 +110,7 @@ long_of k m le = unless_of (nat_le k m) _ None (le-leb k m le) refl
 
 -- EACH KIND
 
-module _ (p : ProgramText) (s : Limits) (l : Ledger) (w : ℕ) where
+module _ (p : ProgramText) (s : SettingsValue) (l : Ledger) (w : ℕ) where
   due_in : (t : ℕ) (rest : Option Refused) → on_due s p l t rest ≡ None → (is_due s p l t ≡ true) × (rest ≡ None)
   due_in t rest h = unless_in (is_due s p l t) _ _ h
 

@@ -5,7 +5,7 @@ use Rattle.std.proofs.lemmas.Bool.{false≢true, both_ways, cases_eq, ltb-false,
 use Rattle.std.proofs.lemmas.List.Sums.{sum_by-append, sum_by-cons}
 use Rattle.std.proofs.lemmas.Option.{same_Some}
 use Rattle.listed.proofs.Members.{In, got_same, got_other, got_within, in_append_left, in_append_right}
-use Rattle.run_trace.specs.Settings.{Limits}
+use Rattle.run_trace.specs.Settings.{SettingsValue}
 use Rattle.hh_lang.specs.Form.{ProgramText}
 use Rattle.hh_model.specs.declared.data.Name.{Name}
 use Rattle.hh_model.specs.declared.data.Status.TheVariants.{Waiting}
@@ -68,14 +68,14 @@ put_length (ns ∷ ms ∷ rest) n l = ap suc (put_length (ms ∷ rest) n (omega 
 -- while a leaf collection goes on it has the chunks that it takes, and none waits for a large object; where there is room
 -- there is a chunk; where a chunk waits, the task's next step allocates the large object that fits, and isn't due; no list
 -- has more words than a chunk, and the last one leaves the room that is there
-pub record Booked (p : ProgramText) (s : Limits) (m : State) (u : ℕ) (h : Heap) : Type 0 where
+pub record Booked (p : ProgramText) (s : SettingsValue) (m : State) (u : ℕ) (h : Heap) : Type 0 where
   pub begun : (c : ℕ) → h.begun ≡ Some c → (c ≡ take_of m h) × (h.reserved ≡ 0)
   pub room : 0 < h.room → 0 < length h.chunks
   pub reserved : 0 < h.reserved → (w : ℕ) × (asked p m u ≡ Some w) × (is_small w ≡ false) × (h.reserved ≡ units w) × (h.since < s.leaf)
   pub full : Full m h.chunks
   pub last : last_words m h.chunks + h.room ≤ chunk_words
 
-pub record BookedLedger (p : ProgramText) (s : Limits) (l : Ledger) : Type 0 where
+pub record BookedLedger (p : ProgramText) (s : SettingsValue) (l : Ledger) : Type 0 where
   pub each : (u : ℕ) (h : Heap) → slice_get l.heaps u ≡ Some h → Booked p s l.machine u h
   pub within : in_use l ≤ s.chunks
 
@@ -127,7 +127,7 @@ step_others p m t u K ne run =
 
 -- STEPS
 
-module _ (p : ProgramText) (s : Limits) (l : Ledger) (t : ℕ) (S : SoundAt t l) (I : StockedLedger l) (B : BookedLedger p s l) (can : can_step l.machine t ≡ true) (fine : (is_due s p l t || is_in_need p l t) ≡ false) where
+module _ (p : ProgramText) (s : SettingsValue) (l : Ledger) (t : ℕ) (S : SoundAt t l) (I : StockedLedger l) (B : BookedLedger p s l) (can : can_step l.machine t ≡ true) (fine : (is_due s p l t || is_in_need p l t) ≡ false) where
   abbrev m : State
   m = l.machine
 
@@ -342,7 +342,7 @@ module _ (p : ProgramText) (s : Limits) (l : Ledger) (t : ℕ) (S : SoundAt t l)
     within = subst (λ (q : State). total (units_in q) k.heaps ≤ s.chunks) (sym (stepped_machine b t m')) use_k;
   }
 
-module _ (p : ProgramText) (s : Limits) where
+module _ (p : ProgramText) (s : SettingsValue) where
   task_step_booked : (l : Ledger) (t : ℕ) → SoundAt t l → StockedLedger l → BookedLedger p s l → (is_due s p l t || is_in_need p l t) ≡ false → BookedLedger p s (task_step p l t)
   task_step_booked l t S I B fine = by (can_step l.machine t) refl
     where

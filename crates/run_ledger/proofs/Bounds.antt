@@ -3,8 +3,8 @@ use Rattle.std.proofs.Common.{◌≡◌, ℕ, zero, suc, ◌+◌, ◌<◌, ◌�
 use Rattle.std.proofs.lemmas.Bool.{false≢true, and_parts, leb-true, leb-false}
 use Rattle.run_trace.specs.declared.entry.Kind.{Kind}
 use Rattle.run_trace.specs.declared.entry.Kind.TheVariants.{Took, Ran, Chunk, Begin, End as EndOf, PutOff, Mark, More, Sweep, Fuel}
-use Rattle.run_trace.specs.Entry.{Event}
-use Rattle.run_trace.specs.Settings.{Limits}
+use Rattle.run_trace.specs.Entry.{EntryValue}
+use Rattle.run_trace.specs.Settings.{SettingsValue}
 use Rattle.hh_lang.specs.Form.{ProgramText}
 use Rattle.hh_model.specs.declared.data.Status.{Status}
 use Rattle.hh_model.specs.declared.data.Status.TheVariants.{Running, Waiting, Ended, Joined}
@@ -72,7 +72,7 @@ long_bound : (k m : ℕ) → is_none (long_at k m) ≡ true → k ≤ m
 long_bound k m h = leb-true k m (none_unless (nat_le k m) _ _ h).0
 
 -- an entry has at most so many steps, which are due or in need at none of them
-pub ran_tells : (p : ProgramText) (s : Limits) (l : Ledger) (w t k : ℕ) → is_none (refusal p s l (record { worker = w; kind = Ran t k })) ≡ true → (k ≤ 257) × (k ≤ standing s p l t k) × (l.steps < s.fuel)
+pub ran_tells : (p : ProgramText) (s : SettingsValue) (l : Ledger) (w t k : ℕ) → is_none (refusal p s l (record { worker = w; kind = Ran t k })) ≡ true → (k ≤ 257) × (k ≤ standing s p l t k) × (l.steps < s.fuel)
 ran_tells p s l w t k h =
     let a = entry_tells p s l (record { worker = w; kind = Ran t k }) h in
     let b = out_tells l w t _ a.2 in
@@ -84,7 +84,7 @@ ran_tells p s l w t k h =
     left_false true e = e
     left_false false e = refl
 
-module _ (p : ProgramText) (s : Limits) where
+module _ (p : ProgramText) (s : SettingsValue) where
   abbrev InBounds : Ledger → Type 0
   InBounds l = l.steps ≤ s.fuel + 256
 
@@ -105,7 +105,7 @@ module _ (p : ProgramText) (s : Limits) where
   kind_bound l w (Sweep t g) h b = subst (λ n. n ≤ s.fuel + 256) (sym (heap_steps l t _)) b
   kind_bound l w Fuel h b = b
 
-  bound_from : (journal : List Event) (l : Ledger) → is_legal_from p s l journal ≡ true → InBounds l → InBounds (after_all p s l journal)
+  bound_from : (journal : List EntryValue) (l : Ledger) → is_legal_from p s l journal ≡ true → InBounds l → InBounds (after_all p s l journal)
   bound_from [] l h b = b
   bound_from (e ∷ es) l h b =
       let both = and_parts (is_none (refusal p s l e)) (is_legal_from p s (after p s l e) es) h in
@@ -116,14 +116,14 @@ steps_are_bounded p s journal legal = bound_from p s journal (opening p s) legal
 
 -- ALLOCATIONS
 
-pub asked_bounds : (s : Limits) (h : Heap) (o : Option ℕ) (w : ℕ) → o ≡ Some w → (on_asked o (λ v. nat_le s.leaf h.since) || on_asked o (lacks_room h)) ≡ false → (h.since < s.leaf) × (lacks_room h w ≡ false)
+pub asked_bounds : (s : SettingsValue) (h : Heap) (o : Option ℕ) (w : ℕ) → o ≡ Some w → (on_asked o (λ v. nat_le s.leaf h.since) || on_asked o (lacks_room h)) ≡ false → (h.since < s.leaf) × (lacks_room h w ≡ false)
 asked_bounds s h o w e f = by (nat_le s.leaf h.since) (lacks_room h w) refl (subst (λ (v : Option ℕ). (on_asked v (λ u. nat_le s.leaf h.since) || on_asked v (lacks_room h)) ≡ false) e f)
   where
     by : (a b : Bool) → nat_le s.leaf h.since ≡ a → (a || b) ≡ false → (h.since < s.leaf) × (b ≡ false)
     by true b is g = absurd (false≢true (sym g))
     by false b is g = (leb-false s.leaf h.since is, g)
 
-module _ (p : ProgramText) (s : Limits) (t : ℕ) where
+module _ (p : ProgramText) (s : SettingsValue) (t : ℕ) where
   pub stands_by : (l : Ledger) (k : ℕ) (a b : Bool) (rest : ℕ) → suc k ≤ cond a 0 (cond b (suc rest) 1) → (a ≡ false) × ((b ≡ true) × (k ≤ rest)) ⊎ (a ≡ false) × (k ≡ 0)
   stands_by l k true b rest h = absurd (omega arith)
   stands_by l k false true rest h = inl (refl, (refl, omega arith))
@@ -145,7 +145,7 @@ module _ (p : ProgramText) (s : Limits) (t : ℕ) where
 
 pub allocations_are_in_bounds : AllocationsAreInBounds
 allocations_are_in_bounds p s before rest w t k legal =
-    let e : Event = record { worker = w; kind = Ran t k } in
+    let e : EntryValue = record { worker = w; kind = Ran t k } in
     let c = cut_legal p s before (e ∷ rest) (opening p s) legal in
     let r = ran_tells p s (ledger_of p s before) w t k (and_parts (is_none (refusal p s (ledger_of p s before) e)) (is_legal_from p s (after p s (ledger_of p s before) e) rest) c.1).0 in
     in_bounds p s t k (ledger_of p s before) r.1

@@ -3,8 +3,8 @@ use Rattle.std.proofs.Common.{◌≡◌, ℕ, ◌+◌, List, [], ◌∷◌, leng
 use Rattle.std.proofs.lemmas.List.{length-replicate}
 use Rattle.run_trace.specs.declared.entry.Kind.{Kind}
 use Rattle.run_trace.specs.declared.entry.Kind.TheVariants.{Took, Ran, Chunk, Begin, End, PutOff, Mark, More, Sweep, Fuel}
-use Rattle.run_trace.specs.Entry.{Event}
-use Rattle.run_trace.specs.Settings.{Limits, field_limit}
+use Rattle.run_trace.specs.Entry.{EntryValue}
+use Rattle.run_trace.specs.Settings.{SettingsValue, field_limit}
 use Rattle.hh_lang.specs.Form.{ProgramText}
 use Rattle.hh_model.specs.declared.data.State.{State}
 use Rattle.hh_model.specs.Counts.{Counted}
@@ -18,7 +18,7 @@ use Rattle.run_ledger.specs.Space.{JournalsAreCounted}
 use Rattle.run_ledger.proofs.Bounds.{chunk_steps, heap_steps, task_steps_steps}
 use Rattle.run_ledger.proofs.Machine.{machine_is_run}
 
-kind_steps : (p : ProgramText) (s : Limits) (l : Ledger) (w : ℕ) (kind : Kind) → (after_kind p s l w kind).steps ≡ l.steps + length (tasks_in kind)
+kind_steps : (p : ProgramText) (s : SettingsValue) (l : Ledger) (w : ℕ) (kind : Kind) → (after_kind p s l w kind).steps ≡ l.steps + length (tasks_in kind)
 kind_steps p s l w (Ran t k) = let a = task_steps_steps p k l t in let b = length-replicate k t in omega (arith, a, b)
 kind_steps p s l w (Took t) = let a = heap_steps l t _ in a ∙ omega arith
 kind_steps p s l w (Chunk t) = chunk_steps l t (nat_lt s.chunks (in_use l + chunk_units (asked p l.machine t))) _ _ refl ∙ omega arith
@@ -30,7 +30,7 @@ kind_steps p s l w (More t n) = heap_steps l t _ ∙ omega arith
 kind_steps p s l w (Sweep t g) = heap_steps l t _ ∙ omega arith
 kind_steps p s l w Fuel = omega arith
 
-all_steps : (p : ProgramText) (s : Limits) (journal : List Event) (l : Ledger) → (after_all p s l journal).steps ≡ l.steps + length (tasks_of journal)
+all_steps : (p : ProgramText) (s : SettingsValue) (journal : List EntryValue) (l : Ledger) → (after_all p s l journal).steps ≡ l.steps + length (tasks_of journal)
 all_steps p s [] l = omega arith
 all_steps p s (e ∷ es) l =
     let a = all_steps p s es (after p s l e) in

@@ -1,8 +1,8 @@
 -- Journals that are cut, and their first refused entry.
 use Rattle.std.proofs.Common.{◌≡◌, ℕ, ◌+◌, ◌&&◌, Bool, true, Option, Some, None, List, [], ◌∷◌, ◌++◌, length, refl, ap, subst, ◌∙◌, is_none, arith}
 use Rattle.std.proofs.lemmas.Bool.{false≢true, and_parts, and_from}
-use Rattle.run_trace.specs.Entry.{Event}
-use Rattle.run_trace.specs.Settings.{Limits}
+use Rattle.run_trace.specs.Entry.{EntryValue}
+use Rattle.run_trace.specs.Settings.{SettingsValue}
 use Rattle.hh_lang.specs.Form.{ProgramText}
 use Rattle.run_ledger.specs.declared.data.Ledger.{Ledger}
 use Rattle.run_ledger.specs.declared.data.Refused.{Refused}
@@ -15,49 +15,49 @@ pub none_is : {A : Type 0} (o : Option A) → is_none o ≡ true → o ≡ None
 none_is None h = refl
 none_is (Some x) h = absurd (false≢true h)
 
-module _ (p : ProgramText) (s : Limits) where
-  pub after_cut : (first rest : List Event) (l : Ledger) → after_all p s l (first ++ rest) ≡ after_all p s (after_all p s l first) rest
+module _ (p : ProgramText) (s : SettingsValue) where
+  pub after_cut : (first rest : List EntryValue) (l : Ledger) → after_all p s l (first ++ rest) ≡ after_all p s (after_all p s l first) rest
   after_cut [] rest l = refl
   after_cut (e ∷ first) rest l = after_cut first rest (after p s l e)
 
-  pub cut_legal : (first rest : List Event) (l : Ledger) → is_legal_from p s l (first ++ rest) ≡ true → (is_legal_from p s l first ≡ true) × (is_legal_from p s (after_all p s l first) rest ≡ true)
+  pub cut_legal : (first rest : List EntryValue) (l : Ledger) → is_legal_from p s l (first ++ rest) ≡ true → (is_legal_from p s l first ≡ true) × (is_legal_from p s (after_all p s l first) rest ≡ true)
   cut_legal [] rest l h = (refl, h)
   cut_legal (e ∷ first) rest l h =
       let both = and_parts (is_none (refusal p s l e)) (is_legal_from p s (after p s l e) (first ++ rest)) h in
       let more = cut_legal first rest (after p s l e) both.1 in
       (and_from (is_none (refusal p s l e)) (is_legal_from p s (after p s l e) first) both.0 more.0, more.1)
 
-  pub joined_legal : (first rest : List Event) (l : Ledger) → is_legal_from p s l first ≡ true → is_legal_from p s (after_all p s l first) rest ≡ true → is_legal_from p s l (first ++ rest) ≡ true
+  pub joined_legal : (first rest : List EntryValue) (l : Ledger) → is_legal_from p s l first ≡ true → is_legal_from p s (after_all p s l first) rest ≡ true → is_legal_from p s l (first ++ rest) ≡ true
   joined_legal [] rest l h g = g
   joined_legal (e ∷ first) rest l h g =
       let both = and_parts (is_none (refusal p s l e)) (is_legal_from p s (after p s l e) first) h in
       and_from (is_none (refusal p s l e)) (is_legal_from p s (after p s l e) (first ++ rest)) both.0 (joined_legal first rest (after p s l e) both.1 g)
 
-  abbrev Unrefused : Ledger → List Event → Type 0
-  Unrefused l journal = (before : List Event) (e : Event) (rest : List Event) → journal ≡ before ++ e ∷ rest → refusal p s (after_all p s l before) e ≡ None
+  abbrev Unrefused : Ledger → List EntryValue → Type 0
+  Unrefused l journal = (before : List EntryValue) (e : EntryValue) (rest : List EntryValue) → journal ≡ before ++ e ∷ rest → refusal p s (after_all p s l before) e ≡ None
 
-  unrefused : (journal : List Event) (l : Ledger) → is_legal_from p s l journal ≡ true → Unrefused l journal
+  unrefused : (journal : List EntryValue) (l : Ledger) → is_legal_from p s l journal ≡ true → Unrefused l journal
   unrefused journal l h before e rest is =
       let g = cut_legal before (e ∷ rest) l (subst (λ j. is_legal_from p s l j ≡ true) is h) in
       none_is (refusal p s (after_all p s l before) e) (and_parts (is_none (refusal p s (after_all p s l before) e)) (is_legal_from p s (after p s (after_all p s l before) e) rest) g.1).0
 
-  from_unrefused : (journal : List Event) (l : Ledger) → Unrefused l journal → is_legal_from p s l journal ≡ true
+  from_unrefused : (journal : List EntryValue) (l : Ledger) → Unrefused l journal → is_legal_from p s l journal ≡ true
   from_unrefused [] l u = refl
   from_unrefused (e ∷ es) l u =
       and_from (is_none (refusal p s l e)) (is_legal_from p s (after p s l e) es) (ap is_none (u [] e es refl))
       (from_unrefused es (after p s l e) (λ before f rest is. u (e ∷ before) f rest (ap (λ j. e ∷ j) is)))
 
   -- the first refused entry, counted on
-  pub record Found (l : Ledger) (at : ℕ) (journal : List Event) (r : RefusedAt) : Type 0 where
-    pub before : List Event
-    pub entry : Event
-    pub rest : List Event
+  pub record Found (l : Ledger) (at : ℕ) (journal : List EntryValue) (r : RefusedAt) : Type 0 where
+    pub before : List EntryValue
+    pub entry : EntryValue
+    pub rest : List EntryValue
     pub is : journal ≡ before ++ entry ∷ rest
     pub legal : is_legal_from p s l before ≡ true
     pub cause : refusal p s (after_all p s l before) entry ≡ Some r.cause
     pub index : r.index ≡ length before + at
 
-  found_by : (o : Option Refused) (l : Ledger) (at : ℕ) (e : Event) (es : List Event) (r : RefusedAt) (rest : Option RefusedAt) → refusal p s l e ≡ o
+  found_by : (o : Option Refused) (l : Ledger) (at : ℕ) (e : EntryValue) (es : List EntryValue) (r : RefusedAt) (rest : Option RefusedAt) → refusal p s l e ≡ o
       → (rest ≡ Some r → Found (after p s l e) (at + 1) es r) → refused_or o at rest ≡ Some r → Found l at (e ∷ es) r
   found_by None l at e es r rest is more h =
       let f = more h in record {
@@ -86,7 +86,7 @@ module _ (p : ProgramText) (s : Limits) where
       some_index : Some (record { index = at; cause = cause }) ≡ Some r → at ≡ r.index
       some_index g = ap index_of g
 
-  found : (journal : List Event) (l : Ledger) (at : ℕ) (r : RefusedAt) → first_refused_from p s l at journal ≡ Some r → Found l at journal r
+  found : (journal : List EntryValue) (l : Ledger) (at : ℕ) (r : RefusedAt) → first_refused_from p s l at journal ≡ Some r → Found l at journal r
   found [] l at r h = absurd cc
   found (e ∷ es) l at r h =
       found_by (refusal p s l e) l at e es r (first_refused_from p s (after p s l e) (at + 1) es) refl (found es (after p s l e) (at + 1) r) h
@@ -95,12 +95,12 @@ module _ (p : ProgramText) (s : Limits) where
   none_legal_by None at rest more go h = go h
   none_legal_by (Some cause) at rest more go h = absurd cc
 
-  none_legal : (journal : List Event) (l : Ledger) (at : ℕ) → first_refused_from p s l at journal ≡ None → is_legal_from p s l journal ≡ true
+  none_legal : (journal : List EntryValue) (l : Ledger) (at : ℕ) → first_refused_from p s l at journal ≡ None → is_legal_from p s l journal ≡ true
   none_legal [] l at h = refl
   none_legal (e ∷ es) l at h =
       none_legal_by (refusal p s l e) at (first_refused_from p s (after p s l e) (at + 1) es) (is_legal_from p s (after p s l e) es) (none_legal es (after p s l e) (at + 1)) h
 
-  legal_none : (journal : List Event) (l : Ledger) (at : ℕ) → is_legal_from p s l journal ≡ true → first_refused_from p s l at journal ≡ None
+  legal_none : (journal : List EntryValue) (l : Ledger) (at : ℕ) → is_legal_from p s l journal ≡ true → first_refused_from p s l at journal ≡ None
   legal_none [] l at h = refl
   legal_none (e ∷ es) l at h =
       let both = and_parts (is_none (refusal p s l e)) (is_legal_from p s (after p s l e) es) h in

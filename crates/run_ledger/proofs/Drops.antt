@@ -4,8 +4,8 @@ use Rattle.std.proofs.lemmas.Bool.{false≢true, both_ways, cases_eq, and_parts}
 use Rattle.listed.proofs.Members.{In, in_from_contains, contains_from_in, got_same, got_other}
 use Rattle.run_trace.specs.declared.entry.Kind.{Kind}
 use Rattle.run_trace.specs.declared.entry.Kind.TheVariants.{Took, Ran, Chunk, Begin, End as EndOf, PutOff, Mark, More, Sweep, Fuel}
-use Rattle.run_trace.specs.Entry.{Event}
-use Rattle.run_trace.specs.Settings.{Limits, field_limit}
+use Rattle.run_trace.specs.Entry.{EntryValue}
+use Rattle.run_trace.specs.Settings.{SettingsValue, field_limit}
 use Rattle.hh_lang.specs.Form.{ProgramText}
 use Rattle.hh_model.specs.declared.data.Name.{Name}
 use Rattle.hh_model.specs.declared.data.Object.{Object}
@@ -201,7 +201,7 @@ chunk_flows : (l : Ledger) (t : ℕ) (next : Option ℕ) (full : Bool) (end : Le
 chunk_flows l t next true end E = E
 chunk_flows l t next false end E = even l t (with_chunk next) (λ h g. chunk_even next h g (on_asked next is_small))
 
-kind_flows : (p : ProgramText) (s : Limits) (l : Ledger) (w : ℕ) (kind : Kind) → SoundLedger l → StockedLedger l → is_none (kind_refusal p s l w kind) ≡ true → Flows (Drops l kind) l (after_kind p s l w kind)
+kind_flows : (p : ProgramText) (s : SettingsValue) (l : Ledger) (w : ℕ) (kind : Kind) → SoundLedger l → StockedLedger l → is_none (kind_refusal p s l w kind) ≡ true → Flows (Drops l kind) l (after_kind p s l w kind)
 kind_flows p s l w (Took t) S I h = even l t _ (λ h g. refl)
 kind_flows p s l w (Ran t k) S I h = task_steps_flow p k l t (S, (out_tells l w t _ h).1) I
 kind_flows p s l w (Chunk t) S I h =
@@ -229,9 +229,9 @@ drop_stored l Fuel n d = absurd d
 
 -- WHOLE JOURNALS
 
-module _ (p : ProgramText) (s : Limits) where
+module _ (p : ProgramText) (s : SettingsValue) where
   -- what is held at the end wasn't dropped
-  held_undropped : (es : List Event) (l : Ledger) → SoundLedger l → StockedLedger l → is_legal_from p s l es ≡ true → (n : Name) → Keeps (after_all p s l es).heaps n
+  held_undropped : (es : List EntryValue) (l : Ledger) → SoundLedger l → StockedLedger l → is_legal_from p s l es ≡ true → (n : Name) → Keeps (after_all p s l es).heaps n
       → (Keeps l.heaps n ⊎ (IsStored l.machine n → ⊥)) × (IsDropped p s l es n → ⊥)
   held_undropped [] l S I h n k = (inl k, λ d. d)
   held_undropped (e ∷ es) l S I h n k =
@@ -255,7 +255,7 @@ module _ (p : ProgramText) (s : Limits) where
       by (Some x) e = inl (x, e)
 
   -- what is there at the end and wasn't dropped is held
-  undropped_held : (es : List Event) (l : Ledger) → SoundLedger l → StockedLedger l → is_legal_from p s l es ≡ true → (n : Name) → Keeps l.heaps n ⊎ (IsStored l.machine n → ⊥)
+  undropped_held : (es : List EntryValue) (l : Ledger) → SoundLedger l → StockedLedger l → is_legal_from p s l es ≡ true → (n : Name) → Keeps l.heaps n ⊎ (IsStored l.machine n → ⊥)
       → IsStored (after_all p s l es).machine n → (IsDropped p s l es n → ⊥) → Keeps (after_all p s l es).heaps n
   undropped_held [] l S I h n (inl k) st un = k
   undropped_held [] l S I h n (inr none) st un = absurd (none st)

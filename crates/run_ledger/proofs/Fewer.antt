@@ -2,7 +2,7 @@
 use Rattle.std.proofs.Common.{◌≡◌, ℕ, zero, suc, ◌≤◌, ◌&&◌, ◌||◌, not, min, Bool, true, false, cond, Option, None, nat_le, nat_lt, ap, sym, ◌∙◌, is_some, is_none, arith}
 use Rattle.std.proofs.lemmas.Bool.{le-leb}
 use Rattle.run_trace.specs.declared.entry.Kind.TheVariants.{Ran}
-use Rattle.run_trace.specs.Settings.{Limits}
+use Rattle.run_trace.specs.Settings.{SettingsValue}
 use Rattle.hh_lang.specs.Form.{ProgramText}
 use Rattle.run_ledger.specs.declared.data.Ledger.{Ledger}
 use Rattle.run_ledger.specs.declared.data.Refused.{Refused}
@@ -20,7 +20,7 @@ fewer_by j k true b rest rest' le more h = absurd (omega arith)
 fewer_by j k false true rest rest' le more h = let q : j ≤ rest' = more le (omega arith) in omega arith
 fewer_by j k false false rest rest' le more h = omega arith
 
-fewer_stand : (s : Limits) (p : ProgramText) (t j k : ℕ) (l : Ledger) → j ≤ k → k ≤ standing s p l t k → j ≤ standing s p l t j
+fewer_stand : (s : SettingsValue) (p : ProgramText) (t j k : ℕ) (l : Ledger) → j ≤ k → k ≤ standing s p l t k → j ≤ standing s p l t j
 fewer_stand s p t zero k l le h = omega arith
 fewer_stand s p t (suc j) zero l le h = absurd (omega arith)
 fewer_stand s p t (suc j) (suc k) l le h =

@@ -5,7 +5,7 @@ use Rattle.std.proofs.lemmas.Option.{same_Some}
 use Rattle.listed.proofs.Members.{got_other}
 use Rattle.run_trace.specs.declared.entry.Kind.{Kind}
 use Rattle.run_trace.specs.declared.entry.Kind.TheVariants.{Took, Ran, Chunk, Begin, End as EndOf, PutOff, Mark, More, Sweep, Fuel}
-use Rattle.run_trace.specs.Settings.{Limits}
+use Rattle.run_trace.specs.Settings.{SettingsValue}
 use Rattle.hh_lang.specs.Form.{ProgramText}
 use Rattle.hh_model.specs.declared.data.State.{State}
 use Rattle.hh_model.specs.Step.{step, can_step, asked, is_running}
@@ -72,7 +72,7 @@ pub held_is : (o : Option ℕ) (w : ℕ) → is_held_by o w ≡ true → o ≡ S
 held_is None w h = absurd (false≢true h)
 held_is (Some v) w h = ap Some (eqb-true v w h)
 
-module _ (p : ProgramText) (s : Limits) (l : Ledger) (w u v : ℕ) (S : SoundLedger l) (other : v ≡ w → ⊥) (held : (heap_of l u).worker ≡ Some v) (run : is_running (slice_get l.machine.tasks u) ≡ true) where
+module _ (p : ProgramText) (s : SettingsValue) (l : Ledger) (w u v : ℕ) (S : SoundLedger l) (other : v ≡ w → ⊥) (held : (heap_of l u).worker ≡ Some v) (run : is_running (slice_get l.machine.tasks u) ≡ true) where
   -- a task that the worker holds is another one
   not_out : (t : ℕ) → is_out l w t ≡ true → u ≡ t → ⊥
   not_out t h e =

@@ -3,8 +3,8 @@ use Rattle.std.proofs.Common.{◌≡◌, ℕ, zero, suc, ◌+◌, Bool, true, fa
 use Rattle.hh_lang.specs.Form.{ProgramText}
 use Rattle.run_trace.specs.declared.entry.Kind.{Kind}
 use Rattle.run_trace.specs.declared.entry.Kind.TheVariants.{Took, Ran, Chunk, Begin, End as EndOf, PutOff, Mark, More, Sweep, Fuel}
-use Rattle.run_trace.specs.Entry.{Event}
-use Rattle.run_trace.specs.Settings.{Limits}
+use Rattle.run_trace.specs.Entry.{EntryValue}
+use Rattle.run_trace.specs.Settings.{SettingsValue}
 use Rattle.hh_model.specs.declared.data.End.{End}
 use Rattle.hh_model.specs.declared.data.State.{State}
 use Rattle.hh_model.specs.Step.{step, can_step, asked}
@@ -51,7 +51,7 @@ chunk_goes : (l : Ledger) (t : ℕ) (next : Option ℕ) (e : RunEnd) (full : Boo
 chunk_goes l t next e true g h = absurd cc
 chunk_goes l t next e false g h = heap_goes l t (with_chunk next) g h
 
-kind_goes : (p : ProgramText) (s : Limits) (l : Ledger) (w : ℕ) (kind : Kind) → Goes l → Goes (after_kind p s l w kind)
+kind_goes : (p : ProgramText) (s : SettingsValue) (l : Ledger) (w : ℕ) (kind : Kind) → Goes l → Goes (after_kind p s l w kind)
 kind_goes p s l w (Took t) g = heap_goes l t _ g
 kind_goes p s l w (Ran t k) g = steps_go p k l t g
 kind_goes p s l w (Chunk t) g = chunk_goes l t (asked p l.machine t) (Pool (in_use l)) (nat_lt s.chunks (in_use l + chunk_units (asked p l.machine t))) g
@@ -63,7 +63,7 @@ kind_goes p s l w (More t n) g = heap_goes l t _ g
 kind_goes p s l w (Sweep t n) g = heap_goes l t _ g
 kind_goes p s l w Fuel g = λ h. absurd cc
 
-all_goes : (p : ProgramText) (s : Limits) (j : List Event) (l : Ledger) → Goes l → Goes (after_all p s l j)
+all_goes : (p : ProgramText) (s : SettingsValue) (j : List EntryValue) (l : Ledger) → Goes l → Goes (after_all p s l j)
 all_goes p s [] l g = g
 all_goes p s (e ∷ es) l g = all_goes p s es (after p s l e) (kind_goes p s l e.worker e.kind g)
 

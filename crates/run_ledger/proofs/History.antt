@@ -5,8 +5,8 @@ use Rattle.std.proofs.lemmas.List.Sums.{sum_by-cons}
 use Rattle.listed.proofs.Members.{In, in_append_cases, in_from_contains, in_from_kept, contains_from_in, got_front, got_other, got_same, got_within}
 use Rattle.run_trace.specs.declared.entry.Kind.{Kind}
 use Rattle.run_trace.specs.declared.entry.Kind.TheVariants.{Took, Ran, Chunk, Begin, End as EndOf, PutOff, Mark, More, Sweep, Fuel}
-use Rattle.run_trace.specs.Entry.{Event}
-use Rattle.run_trace.specs.Settings.{Limits}
+use Rattle.run_trace.specs.Entry.{EntryValue}
+use Rattle.run_trace.specs.Settings.{SettingsValue}
 use Rattle.hh_lang.specs.Form.{ProgramText}
 use Rattle.hh_model.specs.declared.data.Name.{Name}
 use Rattle.hh_model.specs.declared.data.Object.{Object}
@@ -160,7 +160,7 @@ steps_at : (p : ProgramText) (k : ℕ) (l : Ledger) (t : ℕ) → SoundAt t l �
 steps_at p zero l t S = S
 steps_at p (suc k) l t S = steps_at p k (task_step p l t) t (task_step_sound p l t S)
 
-on_kind : (p : ProgramText) (s : Limits) (l : Ledger) (t w : ℕ) (kind : Kind) → SoundLedger l → is_none (kind_refusal p s l w kind) ≡ true → begins t kind ≡ false → GoesOn t l (after_kind p s l w kind)
+on_kind : (p : ProgramText) (s : SettingsValue) (l : Ledger) (t w : ℕ) (kind : Kind) → SoundLedger l → is_none (kind_refusal p s l w kind) ≡ true → begins t kind ≡ false → GoesOn t l (after_kind p s l w kind)
 on_kind p s l t w (Took u) S h off = on_view t u l _ (λ g. refl) (λ g. refl)
 on_kind p s l t w (Ran u k) S h off = elim (cases_eq t u) [
   | inl e ↦ λ c.
@@ -247,7 +247,7 @@ module _ (p : ProgramText) (t u : ℕ) (ne : t ≡ u → ⊥) where
   wait_steps zero l S = λ w. (w, refl, λ n i j. j)
   wait_steps (suc k) l S = wait_both t l (task_step p l u) (task_steps p (task_step p l u) u k) (wait_step l S) (wait_steps k (task_step p l u) (task_step_sound p l u S))
 
-wait_kind : (p : ProgramText) (s : Limits) (l : Ledger) (t w : ℕ) (kind : Kind) → SoundLedger l → is_none (kind_refusal p s l w kind) ≡ true → is_of_steps t kind ≡ false → WaitsOn t l (after_kind p s l w kind)
+wait_kind : (p : ProgramText) (s : SettingsValue) (l : Ledger) (t w : ℕ) (kind : Kind) → SoundLedger l → is_none (kind_refusal p s l w kind) ≡ true → is_of_steps t kind ≡ false → WaitsOn t l (after_kind p s l w kind)
 wait_kind p s l t w (Took u) S h off = wait_view t u l _ (λ g. refl) (λ g n i j. j)
 wait_kind p s l t w (Ran u k) S h off = wait_steps p t u (λ e. eqb-false u t off (sym e)) k l (S, (out_tells l w u _ h).1)
 wait_kind p s l t w (Chunk u) S h off = wait_chunk t u l (asked p l.machine u) (nat_lt s.chunks (in_use l + chunk_units (asked p l.machine u)))
@@ -365,33 +365,33 @@ steps_is t (More u n) h = absurd (false≢true h)
 steps_is t (Sweep u g) h = absurd (false≢true h)
 steps_is t Fuel h = absurd (false≢true h)
 
-none_more : (test : Kind → Bool) (rest : List Event) (e : Event) → HasNone test rest → test e.kind ≡ false → HasNone test (rest ++ e ∷ [])
+none_more : (test : Kind → Bool) (rest : List EntryValue) (e : EntryValue) → HasNone test rest → test e.kind ≡ false → HasNone test (rest ++ e ∷ [])
 none_more test rest e none off f c = elim (in_append_cases rest (e ∷ []) f (in_from_contains (rest ++ e ∷ []) f c)) [
   | inl i ↦ none f (contains_from_in rest f i)
-  | inr i ↦ elim i [ inl same ↦ ap (λ (g : Event). test g.kind) (sym same) ∙ off | inr never ↦ absurd never ]
+  | inr i ↦ elim i [ inl same ↦ ap (λ (g : EntryValue). test g.kind) (sym same) ∙ off | inr never ↦ absurd never ]
 ]
 
 none_yet : (test : Kind → Bool) → HasNone test []
 none_yet test f c = absurd (in_from_contains [] f c)
 
-module _ (p : ProgramText) (s : Limits) where
-  abbrev At : List Event → Ledger
+module _ (p : ProgramText) (s : SettingsValue) where
+  abbrev At : List EntryValue → Ledger
   At journal = ledger_of p s journal
 
-  at_next : (done : List Event) (e : Event) → At (done ++ e ∷ []) ≡ after p s (At done) e
+  at_next : (done : List EntryValue) (e : EntryValue) → At (done ++ e ∷ []) ≡ after p s (At done) e
   at_next done e = after_cut p s done (e ∷ []) (opening p s)
 
   -- what is known of a journal's heaps
-  pub record Known (journal : List Event) : Type 0 where
+  pub record Known (journal : List EntryValue) : Type 0 where
     pub began : (t : ℕ) → is_some (heap_of (At journal) t).begun ≡ true → BeganWith p s journal t
     pub forked : (t : ℕ) → waiting (At journal).machine.tasks t ≡ true → ForkedWith p s journal t
     pub holds : (t : ℕ) → waiting (At journal).machine.tasks t ≡ true → (n : Name) → In (heap_of (At journal) t).snapshot n → In (held_in (heap_of (At journal) t)) n
 
-  module _ (done : List Event) (e : Event) (S : SoundLedger (At done)) (ok : is_none (refusal p s (At done) e) ≡ true) (K : Known done) where
+  module _ (done : List EntryValue) (e : EntryValue) (S : SoundLedger (At done)) (ok : is_none (refusal p s (At done) e) ≡ true) (K : Known done) where
     abbrev l : Ledger
     l = At done
 
-    abbrev all : List Event
+    abbrev all : List EntryValue
     all = done ++ e ∷ []
 
     allowed : is_none (kind_refusal p s l e.worker e.kind) ≡ true
@@ -478,7 +478,7 @@ module _ (p : ProgramText) (s : Limits) where
       holds = λ t w. holds_by t w (is_of_steps t e.kind) refl;
     }
 
-  known_from : (rest done : List Event) → SoundLedger (At done) → is_legal_from p s (At done) rest ≡ true → Known done → Known (done ++ rest)
+  known_from : (rest done : List EntryValue) → SoundLedger (At done) → is_legal_from p s (At done) rest ≡ true → Known done → Known (done ++ rest)
   known_from [] done S h K = subst Known (sym (append-nil done)) K
   known_from (e ∷ es) done S h K =
       let both = and_parts (is_none (refusal p s (At done) e)) (is_legal_from p s (after p s (At done) e) es) h in
@@ -497,7 +497,7 @@ module _ (p : ProgramText) (s : Limits) where
   known_first : Known []
   known_first = record { began = λ t c. absurd (no_begin t c); forked = λ t w. absurd (no_wait t w); holds = λ t w. absurd (no_wait t w) }
 
-  known : (journal : List Event) → is_legal_from p s (opening p s) journal ≡ true → Known journal
+  known : (journal : List EntryValue) → is_legal_from p s (opening p s) journal ≡ true → Known journal
   known journal legal = known_from journal [] (opening_sound p s) legal known_first
 
 pub survivors_are_within : SurvivorsAreWithin
@@ -512,7 +512,7 @@ one_copy n [] t = omega arith
 one_copy n (h ∷ heaps) zero = let a = sum_by-cons (weight (hit n)) h heaps in omega (arith, a)
 one_copy n (h ∷ heaps) (suc t) = let a = sum_by-cons (weight (hit n)) h heaps in let b = one_copy n heaps t in omega (arith, a, b)
 
-within_once : (p : ProgramText) (s : Limits) (journal : List Event) (t : ℕ) → is_legal_from p s (opening p s) journal ≡ true → (n : Name) → sum_by (hit n) (within (ledger_of p s journal) t) ≤ 1
+within_once : (p : ProgramText) (s : SettingsValue) (journal : List EntryValue) (t : ℕ) → is_legal_from p s (opening p s) journal ≡ true → (n : Name) → sum_by (hit n) (within (ledger_of p s journal) t) ≤ 1
 within_once p s journal t legal n =
     let l : Ledger = ledger_of p s journal in
     let a = reached_less (hit n) l.machine.store (held_in (heap_of l t)) (roots_of l t) (length (held_in (heap_of l t))) in
@@ -525,7 +525,7 @@ snapshots_are_held p s journal t legal w =
     let l : Ledger = ledger_of p s journal in
     let K = known p s journal legal in
     let F = K.forked t w in
-    let event : Event = record { worker = F.worker; kind = Ran t F.steps } in
+    let event : EntryValue = record { worker = F.worker; kind = Ran t F.steps } in
     let whole : is_legal_from p s (opening p s) ((F.before ++ event ∷ []) ++ F.rest) ≡ true = subst (λ j. is_legal_from p s (opening p s) j ≡ true) (F.is ∙ sym (append_assoc F.before (event ∷ []) F.rest)) legal in
     let first = (cut_legal p s (F.before ++ event ∷ []) F.rest (opening p s) whole).0 in
     record {

@@ -4,8 +4,8 @@ use Rattle.std.proofs.lemmas.Bool.{false≢true, both_ways, cases_eq, and_parts}
 use Rattle.listed.proofs.Members.{got_same, got_other}
 use Rattle.run_trace.specs.declared.entry.Kind.{Kind}
 use Rattle.run_trace.specs.declared.entry.Kind.TheVariants.{Took, Ran, Chunk, Begin, End as EndOf, PutOff, Mark, More, Sweep, Fuel}
-use Rattle.run_trace.specs.Entry.{Event}
-use Rattle.run_trace.specs.Settings.{Limits}
+use Rattle.run_trace.specs.Entry.{EntryValue}
+use Rattle.run_trace.specs.Settings.{SettingsValue}
 use Rattle.hh_lang.specs.Form.{ProgramText}
 use Rattle.hh_model.specs.declared.data.Name.{Name}
 use Rattle.hh_model.specs.declared.data.End.{End}
@@ -284,7 +284,7 @@ held_some (Some v) w h = refl
 out_held : (l : Ledger) (w t : ℕ) → is_out l w t ≡ true → is_some (heap_of l t).worker ≡ true
 out_held l w t h = held_some (heap_of l t).worker w (and_parts (is_running (slice_get l.machine.tasks t)) (is_held_by (heap_of l t).worker w) h).1
 
-kind_manned : (p : ProgramText) (s : Limits) (l : Ledger) (w : ℕ) (kind : Kind) → SoundLedger l → is_none (kind_refusal p s l w kind) ≡ true → MannedLedger l → MannedLedger (after_kind p s l w kind)
+kind_manned : (p : ProgramText) (s : SettingsValue) (l : Ledger) (w : ℕ) (kind : Kind) → SoundLedger l → is_none (kind_refusal p s l w kind) ≡ true → MannedLedger l → MannedLedger (after_kind p s l w kind)
 kind_manned p s l w (Took t) S h I =
     let a = none_unless (is_ready l t) _ _ h in
     took_manned l w t I (and_parts (is_running (slice_get l.machine.tasks t)) (is_none (heap_of l t).worker) a.0).0 (none_holding (held_from w 0 l.heaps) a.1)
@@ -300,7 +300,7 @@ kind_manned p s l w (More t n) S h I = same_manned l t _ (λ g. refl) (λ g e c.
 kind_manned p s l w (Sweep t g) S h I = same_manned l t swept_heap (λ g. refl) (λ g e c. still l t I g e c) I
 kind_manned p s l w Fuel S h I = record { runs = λ on. absurd cc; one = I.one; out = I.out }
 
-journal_manned : (p : ProgramText) (s : Limits) (journal : List Event) (l : Ledger) → SoundLedger l → MannedLedger l → is_legal_from p s l journal ≡ true → MannedLedger (after_all p s l journal)
+journal_manned : (p : ProgramText) (s : SettingsValue) (journal : List EntryValue) (l : Ledger) → SoundLedger l → MannedLedger l → is_legal_from p s l journal ≡ true → MannedLedger (after_all p s l journal)
 journal_manned p s [] l S I h = I
 journal_manned p s (e ∷ es) l S I h =
     let both = and_parts (is_none (refusal p s l e)) (is_legal_from p s (after p s l e) es) h in
@@ -314,7 +314,7 @@ first_idle : (u : ℕ) → collecting (slice_get (fresh ∷ []) u) ≡ true → 
 first_idle zero c = false≢true c
 first_idle (suc u) c = false≢true c
 
-opening_manned : (p : ProgramText) (s : Limits) → MannedLedger (opening p s)
+opening_manned : (p : ProgramText) (s : SettingsValue) → MannedLedger (opening p s)
 opening_manned p s = record { runs = λ on u w q. absurd (first_free u w q); one = λ u v w q r. absurd (first_free u w q); out = λ u c. absurd (first_idle u c) }
 
 pub worker_of : (l : Ledger) (t : ℕ) → (heap_of l t).worker ≡ worker_at (slice_get l.heaps t)

@@ -18,9 +18,9 @@ use Rattle.hh_model.proofs.Closed.{Closed}
 use Rattle.hh_model.proofs.Disentangled.{start_disentangled}
 use Rattle.run_trace.specs.declared.entry.Kind.{Kind}
 use Rattle.run_trace.specs.declared.entry.Kind.TheVariants.{Took, Ran, Chunk, Begin, End, PutOff, Mark, More, Sweep, Fuel}
-use Rattle.run_trace.specs.Entry.{Event}
-use Rattle.run_trace.specs.Settings.{Limits, field_limit}
-use Rattle.walks.proofs.Reached.{reached_within}
+use Rattle.run_trace.specs.Entry.{EntryValue}
+use Rattle.run_trace.specs.Settings.{SettingsValue, field_limit}
+use Rattle.walk_laws.proofs.Reached.{reached_within}
 use Rattle.run_ledger.specs.declared.data.Heap.{Heap}
 use Rattle.run_ledger.specs.declared.data.Ledger.{Ledger}
 use Rattle.run_ledger.specs.declared.data.Refused.{Refused}
@@ -152,7 +152,7 @@ wait_tells l t rest h =
     let b = none_where (heap_of l t).swept _ _ a.1 in
     (a.0, b.0, b.1)
 
-pub kind_sound : (p : ProgramText) (s : Limits) (l : Ledger) (w : ℕ) (kind : Kind) → SoundLedger l → is_none (kind_refusal p s l w kind) ≡ true → SoundLedger (after_kind p s l w kind)
+pub kind_sound : (p : ProgramText) (s : SettingsValue) (l : Ledger) (w : ℕ) (kind : Kind) → SoundLedger l → is_none (kind_refusal p s l w kind) ≡ true → SoundLedger (after_kind p s l w kind)
 kind_sound p s l w (Took t) S h = plain l t _ S (λ h n i. i) (λ h n i. i) (λ h. refl) (λ h. refl) (λ h. refl)
 kind_sound p s l w (Ran t k) S h = (task_steps_sound p k l t (S, (out_tells l w t _ h).1)).0
 kind_sound p s l w (Chunk t) S h =
@@ -169,7 +169,7 @@ kind_sound p s l w (Sweep t g) S h = sweep_sound l S t (wait_tells l t _ h).0
 kind_sound p s l w Fuel S h = S
 
 -- what an entry that isn't refused tells
-pub entry_tells : (p : ProgramText) (s : Limits) (l : Ledger) (e : Event) → is_none (refusal p s l e) ≡ true
+pub entry_tells : (p : ProgramText) (s : SettingsValue) (l : Ledger) (e : EntryValue) → is_none (refusal p s l e) ≡ true
     → (is_some l.end ≡ false) × ((nat_le s.fuel l.steps && not (is_fuel e.kind)) ≡ false) × (is_none (kind_refusal p s l e.worker e.kind) ≡ true)
 entry_tells p s l e h =
     let a = none_where (is_some l.end) _ _ h in
@@ -177,7 +177,7 @@ entry_tells p s l e h =
     let c = none_unless (nat_lt e.worker s.workers) _ _ b.1 in
     (a.0, b.0, c.1)
 
-pub entry_sound : (p : ProgramText) (s : Limits) (l : Ledger) (e : Event) → SoundLedger l → is_none (refusal p s l e) ≡ true → SoundLedger (after p s l e)
+pub entry_sound : (p : ProgramText) (s : SettingsValue) (l : Ledger) (e : EntryValue) → SoundLedger l → is_none (refusal p s l e) ≡ true → SoundLedger (after p s l e)
 entry_sound p s l e S h = kind_sound p s l e.worker e.kind S (entry_tells p s l e h).2
 
 pub changes_keep_sound : ChangesKeepSound
@@ -186,7 +186,7 @@ changes_keep_sound l t f S names eb es en = plain l t f S (λ h n i. subst (λ n
 pub entries_keep_sound : EntriesKeepSound
 entries_keep_sound p s l e S h = entry_sound p s l e S (ap is_none h)
 
-pub journal_sound : (p : ProgramText) (s : Limits) (journal : List Event) (l : Ledger) → SoundLedger l → is_legal_from p s l journal ≡ true → SoundLedger (after_all p s l journal)
+pub journal_sound : (p : ProgramText) (s : SettingsValue) (journal : List EntryValue) (l : Ledger) → SoundLedger l → is_legal_from p s l journal ≡ true → SoundLedger (after_all p s l journal)
 journal_sound p s [] l S h = S
 journal_sound p s (e ∷ es) l S h =
     let both = and_parts (is_none (refusal p s l e)) (is_legal_from p s (after p s l e) es) h in
@@ -209,7 +209,7 @@ root_idle : (p : ProgramText) (limit u : ℕ) → waiting (start p limit).tasks 
 root_idle p limit zero w = false≢true w
 root_idle p limit (suc u) w = false≢true w
 
-pub opening_sound : (p : ProgramText) (s : Limits) → SoundLedger (opening p s)
+pub opening_sound : (p : ProgramText) (s : SettingsValue) → SoundLedger (opening p s)
 opening_sound p s = record {
   kept = start_kept p (field_limit s.version);
   apart = start_disentangled p (field_limit s.version);
@@ -229,7 +229,7 @@ sound_keeps l S = record {
   references = λ n r c f. contains_from_in (held l) r (in_held l r (S.all.of_object n r (held_keeps l n (in_from_contains (held l) n c)) (in_from_contains (refs_at l.machine.store n) r f)));
 }
 
-pub legal_sound : (p : ProgramText) (s : Limits) (journal : List Event) → is_legal p s journal ≡ true → SoundLedger (ledger_of p s journal)
+pub legal_sound : (p : ProgramText) (s : SettingsValue) (journal : List EntryValue) → is_legal p s journal ≡ true → SoundLedger (ledger_of p s journal)
 legal_sound p s journal legal = journal_sound p s journal (opening p s) (opening_sound p s) legal
 
 pub nothing_reachable_is_freed : NothingReachableIsFreed

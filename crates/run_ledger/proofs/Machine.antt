@@ -3,8 +3,8 @@ use Rattle.std.proofs.Common.{◌≡◌, ℕ, zero, suc, ◌+◌, ◌-◌, Bool,
 use Rattle.std.proofs.lemmas.Bool.{cond-false}
 use Rattle.run_trace.specs.declared.entry.Kind.{Kind}
 use Rattle.run_trace.specs.declared.entry.Kind.TheVariants.{Took, Ran, Chunk, Begin, End as EndOf, PutOff, Mark, More, Sweep, Fuel}
-use Rattle.run_trace.specs.Entry.{Event}
-use Rattle.run_trace.specs.Settings.{Limits}
+use Rattle.run_trace.specs.Entry.{EntryValue}
+use Rattle.run_trace.specs.Settings.{SettingsValue}
 use Rattle.hh_lang.specs.Form.{ProgramText}
 use Rattle.hh_model.specs.declared.data.Status.{Status}
 use Rattle.hh_model.specs.declared.data.Status.TheVariants.{Running, Waiting, Ended, Joined}
@@ -63,7 +63,7 @@ chunk_machine : (l : Ledger) (t : ℕ) (full : Bool) (end : Ledger) (f : Heap �
 chunk_machine l t true end f e = e
 chunk_machine l t false end f e = heap_machine l t f
 
-pub kind_machine : (p : ProgramText) (s : Limits) (l : Ledger) (w : ℕ) (kind : Kind) → (after_kind p s l w kind).machine ≡ run_from p l.machine (tasks_in kind)
+pub kind_machine : (p : ProgramText) (s : SettingsValue) (l : Ledger) (w : ℕ) (kind : Kind) → (after_kind p s l w kind).machine ≡ run_from p l.machine (tasks_in kind)
 kind_machine p s l w (Took t) = heap_machine l t _
 kind_machine p s l w (Ran t k) = steps_machine p k l t
 kind_machine p s l w (Chunk t) = chunk_machine l t (nat_lt s.chunks (in_use l + chunk_units (asked p l.machine t))) _ _ refl
@@ -79,7 +79,7 @@ run_on : (p : ProgramText) (ts us : List ℕ) (m : State) → run_from p m (ts +
 run_on p [] us m = refl
 run_on p (t ∷ ts) us m = run_on p ts us (step p m t)
 
-all_machine : (p : ProgramText) (s : Limits) (journal : List Event) (l : Ledger) → (after_all p s l journal).machine ≡ run_from p l.machine (tasks_of journal)
+all_machine : (p : ProgramText) (s : SettingsValue) (journal : List EntryValue) (l : Ledger) → (after_all p s l journal).machine ≡ run_from p l.machine (tasks_of journal)
 all_machine p s [] l = refl
 all_machine p s (e ∷ es) l =
     all_machine p s es (after p s l e)

@@ -5,8 +5,8 @@ use Rattle.std.proofs.lemmas.Option.{same_Some}
 use Rattle.listed.proofs.Members.{In, got_same, got_other, got_within, in_append_cases}
 use Rattle.run_trace.specs.declared.entry.Kind.{Kind}
 use Rattle.run_trace.specs.declared.entry.Kind.TheVariants.{Took, Ran, Chunk, Begin, End as EndOf, PutOff, Mark, More, Sweep, Fuel}
-use Rattle.run_trace.specs.Entry.{Event}
-use Rattle.run_trace.specs.Settings.{Limits}
+use Rattle.run_trace.specs.Entry.{EntryValue}
+use Rattle.run_trace.specs.Settings.{SettingsValue}
 use Rattle.hh_lang.specs.Form.{ProgramText}
 use Rattle.hh_model.specs.declared.data.Strand.{Strand}
 use Rattle.hh_model.specs.declared.data.Status.TheVariants.{Waiting}
@@ -180,7 +180,7 @@ known_chunk : (l : Ledger) (t : ℕ) (next : Option ℕ) (full : Bool) (fork : S
 known_chunk l t next true fork K = K
 known_chunk l t next false fork K = known_heap l t (with_chunk next) (λ h q. chunk_touched h (chunk_units next) (on_asked next is_small) q) fork K
 
-known_kind : (p : ProgramText) (s : Limits) (l : Ledger) (w : ℕ) (kind : Kind) → SoundLedger l → is_none (kind_refusal p s l w kind) ≡ true → (fork : Strand) → Known l fork → Known (after_kind p s l w kind) fork
+known_kind : (p : ProgramText) (s : SettingsValue) (l : Ledger) (w : ℕ) (kind : Kind) → SoundLedger l → is_none (kind_refusal p s l w kind) ≡ true → (fork : Strand) → Known l fork → Known (after_kind p s l w kind) fork
 known_kind p s l w (Took t) S h fork K = known_heap l t _ (λ g q. q) fork K
 known_kind p s l w (Ran t k) S h fork K = known_steps p k l t (S, (out_tells l w t _ h).1) fork K
 known_kind p s l w (Chunk t) S h fork K = known_chunk l t (asked p l.machine t) (nat_lt s.chunks (in_use l + chunk_units (asked p l.machine t))) fork K
@@ -215,7 +215,7 @@ new_known l t (Some x) e w S fork i =
         (inr (x, e, refl, w, inl (ap (λ o. is_some (or_fresh o).marked) (got_same l.heaps t h (record h { marked = Some 0 }) e')))))
 
 -- the forks that a worker is noted to have marked
-noted_cases : (p : ProgramText) (s : Limits) (l : Ledger) (w : ℕ) (kind : Kind) (x : WorkerPace) → SoundLedger l → is_none (kind_refusal p s l w kind) ≡ true → ((fork : Strand) → In x.marks fork → Known l fork)
+noted_cases : (p : ProgramText) (s : SettingsValue) (l : Ledger) (w : ℕ) (kind : Kind) (x : WorkerPace) → SoundLedger l → is_none (kind_refusal p s l w kind) ≡ true → ((fork : Strand) → In x.marks fork → Known l fork)
     → (fork : Strand) → In (noted (after_kind p s l w kind) x kind).marks fork → Known (after_kind p s l w kind) fork
 noted_cases p s l w (Mark t) x S h K fork i =
     elim (in_append_cases (fork_of t (slice_get (after_kind p s l w (Mark t)).machine.tasks t)) x.marks fork i) [
@@ -240,7 +240,7 @@ pace_cases (x ∷ pace) zero (suc v) y = inr refl
 pace_cases (x ∷ pace) (suc w) zero y = inr refl
 pace_cases (x ∷ pace) (suc w) (suc v) y = pace_cases pace w v y
 
-entry_known : (p : ProgramText) (s : Limits) (l : Ledger) (pace : List WorkerPace) (e : Event) → SoundLedger l → is_none (kind_refusal p s l e.worker e.kind) ≡ true → AllKnown l pace → AllKnown (after p s l e) (pace_after (after p s l e) pace e)
+entry_known : (p : ProgramText) (s : SettingsValue) (l : Ledger) (pace : List WorkerPace) (e : EntryValue) → SoundLedger l → is_none (kind_refusal p s l e.worker e.kind) ≡ true → AllKnown l pace → AllKnown (after p s l e) (pace_after (after p s l e) pace e)
 entry_known p s l pace e S h A v fork i =
     let y = noted (after p s l e) (pace_of pace e.worker) e.kind in
     elim (pace_cases pace e.worker v y) [
@@ -248,13 +248,13 @@ entry_known p s l pace e S h A v fork i =
       | inr q ↦ known_kind p s l e.worker e.kind S h fork (A v fork (subst (λ (x : WorkerPace). In x.marks fork) q i))
     ]
 
-journal_known : (p : ProgramText) (s : Limits) (journal : List Event) (l : Ledger) (pace : List WorkerPace) → SoundLedger l → AllKnown l pace → is_legal_from p s l journal ≡ true → AllKnown (after_all p s l journal) (pace_after_all p s l pace journal)
+journal_known : (p : ProgramText) (s : SettingsValue) (journal : List EntryValue) (l : Ledger) (pace : List WorkerPace) → SoundLedger l → AllKnown l pace → is_legal_from p s l journal ≡ true → AllKnown (after_all p s l journal) (pace_after_all p s l pace journal)
 journal_known p s [] l pace S A h = A
 journal_known p s (e ∷ es) l pace S A h =
     let both = and_parts (is_none (refusal p s l e)) (is_legal_from p s (after p s l e) es) h in
     journal_known p s es (after p s l e) (pace_after (after p s l e) pace e) (entry_sound p s l e S both.0) (entry_known p s l pace e S (entry_tells p s l e both.0).2 A) both.1
 
-opening_known : (p : ProgramText) (s : Limits) → AllKnown (opening p s) (pace_opening s)
+opening_known : (p : ProgramText) (s : SettingsValue) → AllKnown (opening p s) (pace_opening s)
 opening_known p s v fork i = absurd (none s.workers v i)
   where
     none : (n v : ℕ) → In (pace_of (replicate n idle) v).marks fork → ⊥
@@ -283,7 +283,7 @@ if_false v c rest e = ap (λ b. refused_if b c rest) e
 unless_true : (v : Bool) (c : _) (rest : Option _) → v ≡ true → refused_unless v c rest ≡ rest
 unless_true v c rest e = ap (λ b. refused_unless b c rest) e
 
-module _ (p : ProgramText) (s : Limits) (l : Ledger) (w : ℕ) where
+module _ (p : ProgramText) (s : SettingsValue) (l : Ledger) (w : ℕ) where
   is_waiting_on : (fork : Strand) → waits_on l fork ≡ true → is_waiting (slice_get l.machine.tasks fork.task) ≡ true
   is_waiting_on fork h = let q = waits_tells (slice_get l.machine.tasks fork.task) fork.joins h in ap is_waiting q.1 ∙ q.2
 

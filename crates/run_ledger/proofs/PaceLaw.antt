@@ -6,8 +6,8 @@ use Rattle.std.proofs.lemmas.Option.{same_Some}
 use Rattle.listed.proofs.Members.{In, got_other, in_append_right}
 use Rattle.run_trace.specs.declared.entry.Kind.{Kind}
 use Rattle.run_trace.specs.declared.entry.Kind.TheVariants.{Took, Ran, Chunk, Begin, End as EndOf, PutOff, Mark, More, Sweep, Fuel}
-use Rattle.run_trace.specs.Entry.{Event}
-use Rattle.run_trace.specs.Settings.{Limits}
+use Rattle.run_trace.specs.Entry.{EntryValue}
+use Rattle.run_trace.specs.Settings.{SettingsValue}
 use Rattle.hh_lang.specs.Form.{ProgramText}
 use Rattle.hh_model.specs.declared.data.Strand.{Strand}
 use Rattle.hh_model.specs.declared.data.Task.{Task}
@@ -53,7 +53,7 @@ noted_previous l x (More t n) = refl
 noted_previous l x (Sweep t g) = refl
 noted_previous l x Fuel = refl
 
-noted_marks : (p : ProgramText) (s : Limits) (l : Ledger) (w : ℕ) (x : WorkerPace) (kind : Kind) → (noted (after_kind p s l w kind) x kind).marks ≡ fork_marked l (marked_task kind) ++ x.marks
+noted_marks : (p : ProgramText) (s : SettingsValue) (l : Ledger) (w : ℕ) (x : WorkerPace) (kind : Kind) → (noted (after_kind p s l w kind) x kind).marks ≡ fork_marked l (marked_task kind) ++ x.marks
 noted_marks p s l w x (Took t) = refl
 noted_marks p s l w x (Ran t k) = refl
 noted_marks p s l w x (Chunk t) = refl
@@ -158,9 +158,9 @@ if_other e w forks ne = by (e == w) refl
     by true q = absurd (ne (eqb-true e w q))
     by false q = refl
 
-module _ (p : ProgramText) (s : Limits) where
+module _ (p : ProgramText) (s : SettingsValue) where
   -- a legal entry is by one of the workers
-  worker_in : (l : Ledger) (e : Event) → is_none (refusal p s l e) ≡ true → e.worker < s.workers
+  worker_in : (l : Ledger) (e : EntryValue) → is_none (refusal p s l e) ≡ true → e.worker < s.workers
   worker_in l e h =
       let known = refused_unless (nat_lt e.worker s.workers) NoWorker (kind_refusal p s l e.worker e.kind) in
       let a = none_where (is_some l.end) Over (refused_if (nat_le s.fuel l.steps && not (is_fuel e.kind)) (Spent l.steps) known) h in
@@ -168,7 +168,7 @@ module _ (p : ProgramText) (s : Limits) where
       ltb-true e.worker s.workers (none_unless (nat_lt e.worker s.workers) NoWorker (kind_refusal p s l e.worker e.kind) b.1).0
 
   -- ONE ENTRY
-  module _ (l : Ledger) (pace : List WorkerPace) (e : Event) (w : ℕ) (lt : e.worker < length pace) where
+  module _ (l : Ledger) (pace : List WorkerPace) (e : EntryValue) (w : ℕ) (lt : e.worker < length pace) where
     abbrev l' : Ledger
     l' = after p s l e
 
@@ -186,11 +186,11 @@ module _ (p : ProgramText) (s : Limits) where
       | inr ne ↦ ap (λ (y : WorkerPace). y.marks) (at_other ne) ∙ ap (λ forks. forks ++ (pace_of pace w).marks) (sym (if_other e.worker w (fork_marked l (marked_task e.kind)) ne))
     ]
 
-  length_after : (l : Ledger) (pace : List WorkerPace) (e : Event) → length (pace_after l pace e) ≡ length pace
+  length_after : (l : Ledger) (pace : List WorkerPace) (e : EntryValue) → length (pace_after l pace e) ≡ length pace
   length_after l pace e = length-set pace e.worker (noted l (pace_of pace e.worker) e.kind)
 
   -- ALL ENTRIES
-  marks_are : (es : List Event) (l : Ledger) (pace : List WorkerPace) (w : ℕ) → length pace ≡ s.workers → is_legal_from p s l es ≡ true
+  marks_are : (es : List EntryValue) (l : Ledger) (pace : List WorkerPace) (w : ℕ) → length pace ≡ s.workers → is_legal_from p s l es ≡ true
       → (pace_of (pace_after_all p s l pace es) w).marks ≡ marked_forks p s w l es ++ (pace_of pace w).marks
   marks_are [] l pace w len legal = refl
   marks_are (e ∷ es) l pace w len legal =
@@ -202,12 +202,12 @@ module _ (p : ProgramText) (s : Limits) where
       ∙ (ap (λ forks. later ++ forks) (marks_step l pace e w lt) ∙ sym (append_assoc later (fork_by w l e) (pace_of pace w).marks))
 
   -- these entries are by others, or one is the worker's last
-  abbrev Last : List Event → Ledger → List WorkerPace → ℕ → Previous → Type 0
+  abbrev Last : List EntryValue → Ledger → List WorkerPace → ℕ → Previous → Type 0
   Last es l pace w prev =
       (NoneBy w es × (prev ≡ (pace_of pace w).previous))
-      ⊎ ((before : List Event) × (e : Event) × (rest : List Event) × (es ≡ before ++ e ∷ rest) × (e.worker ≡ w) × NoneBy w rest × (prev ≡ came (after_all p s l (before ++ e ∷ [])) e.kind))
+      ⊎ ((before : List EntryValue) × (e : EntryValue) × (rest : List EntryValue) × (es ≡ before ++ e ∷ rest) × (e.worker ≡ w) × NoneBy w rest × (prev ≡ came (after_all p s l (before ++ e ∷ [])) e.kind))
 
-  last_is : (es : List Event) (l : Ledger) (pace : List WorkerPace) (w : ℕ) → length pace ≡ s.workers → is_legal_from p s l es ≡ true → Last es l pace w (pace_of (pace_after_all p s l pace es) w).previous
+  last_is : (es : List EntryValue) (l : Ledger) (pace : List WorkerPace) (w : ℕ) → length pace ≡ s.workers → is_legal_from p s l es ≡ true → Last es l pace w (pace_of (pace_after_all p s l pace es) w).previous
   last_is [] l pace w len legal = inl (λ e i q. i, refl)
   last_is (e ∷ es) l pace w len legal =
       let both = and_parts (is_none (refusal p s l e)) (is_legal_from p s (after p s l e) es) legal in
@@ -221,12 +221,12 @@ module _ (p : ProgramText) (s : Limits) where
         ]
       ]
     where
-      none_now : (w : ℕ) (e : Event) (es : List Event) → (e.worker ≡ w → ⊥) → NoneBy w es → NoneBy w (e ∷ es)
-      none_now w e es ne n f (inl same) q = ne (ap (λ (z : Event). z.worker) same ∙ q)
+      none_now : (w : ℕ) (e : EntryValue) (es : List EntryValue) → (e.worker ≡ w → ⊥) → NoneBy w es → NoneBy w (e ∷ es)
+      none_now w e es ne n f (inl same) q = ne (ap (λ (z : EntryValue). z.worker) same ∙ q)
       none_now w e es ne n f (inr i) q = n f i q
 
   -- THE PREVIOUS ENTRY
-  module _ (w : ℕ) (journal upto : List Event) where
+  module _ (w : ℕ) (journal upto : List EntryValue) where
     steps_left : (t k : ℕ) → IsLastBy w journal upto (Ran t k) → (o : Option Task) → slice_get (ledger_of p s upto).machine.tasks t ≡ o → IsPrevious p s w journal (previous_by t o)
     steps_left t k L None is =
         (upto, t, k, L, λ fork q W. absurd (let e : None ≡ Some W.0 = sym is ∙ (ap (slice_get (ledger_of p s upto).machine.tasks) (sym q) ∙ W.1) in cc))
@@ -252,7 +252,7 @@ module _ (p : ProgramText) (s : Limits) where
       | inr n ↦ subst (IsPrevious p s w journal) (sym (n.1 (ledger_of p s upto))) (inr (upto, kind, L, n.0))
     ]
 
-  pace_is : (journal : List Event) (w : ℕ) → is_legal p s journal ≡ true → IsPaceOf p s w journal (pace_of (pace_at_end p s journal) w)
+  pace_is : (journal : List EntryValue) (w : ℕ) → is_legal p s journal ≡ true → IsPaceOf p s w journal (pace_of (pace_at_end p s journal) w)
   pace_is journal w legal = record {
     previous = elim (last_is journal (opening p s) (pace_opening s) w (length_opening s.workers) legal) [
       | inl n ↦ subst (IsPrevious p s w journal) (sym (n.1 ∙ ap (λ (y : WorkerPace). y.previous) (idle_at s.workers w))) (inl n.0)
@@ -271,15 +271,15 @@ pace_is_of_entries p s journal w legal = pace_is p s journal w legal
 
 -- A WORKER'S LAST ENTRY IS ONE
 
-abbrev head_or : Event → List Event → Event
+abbrev head_or : EntryValue → List EntryValue → EntryValue
 head_or d [] = d
 head_or d (x ∷ xs) = x
 
-abbrev tail : List Event → List Event
+abbrev tail : List EntryValue → List EntryValue
 tail [] = []
 tail (x ∷ xs) = xs
 
-last_same : (w : ℕ) (a b : List Event) (e f : Event) (r q : List Event) → a ++ e ∷ r ≡ b ++ f ∷ q → e.worker ≡ w → f.worker ≡ w → NoneBy w r → NoneBy w q → (a ≡ b) × (e ≡ f)
+last_same : (w : ℕ) (a b : List EntryValue) (e f : EntryValue) (r q : List EntryValue) → a ++ e ∷ r ≡ b ++ f ∷ q → e.worker ≡ w → f.worker ≡ w → NoneBy w r → NoneBy w q → (a ≡ b) × (e ≡ f)
 last_same w [] [] e f r q h we wf nr nq = (refl, ap (head_or e) h)
 last_same w [] (y ∷ b) e f r q h we wf nr nq = absurd (nr f (subst (λ z. In z f) (sym (ap tail h)) (in_append_right b (f ∷ q) f (inl refl))) wf)
 last_same w (x ∷ a) [] e f r q h we wf nr nq = absurd (nq e (subst (λ z. In z e) (ap tail h) (in_append_right a (e ∷ r) e (inl refl))) we)
@@ -288,14 +288,14 @@ last_same w (x ∷ a) (y ∷ b) e f r q h we wf nr nq =
     let same : x ≡ y = ap (head_or x) h in
     (ap (λ z. z ∷ a) same ∙ ap (λ z. y ∷ z) more.0, more.1)
 
-whole : (w : ℕ) (journal upto : List Event) (kind : Kind) (L : IsLastBy w journal upto kind) → journal ≡ L.before ++ L.entry ∷ L.rest
+whole : (w : ℕ) (journal upto : List EntryValue) (kind : Kind) (L : IsLastBy w journal upto kind) → journal ≡ L.before ++ L.entry ∷ L.rest
 whole w journal upto kind L = L.is ∙ (ap (λ u. u ++ L.rest) L.upto_is ∙ append_assoc L.before (L.entry ∷ []) L.rest)
 
-one_last : (w : ℕ) (journal a b : List Event) (k j : Kind) → IsLastBy w journal a k → IsLastBy w journal b j → (a ≡ b) × (k ≡ j)
+one_last : (w : ℕ) (journal a b : List EntryValue) (k j : Kind) → IsLastBy w journal a k → IsLastBy w journal b j → (a ≡ b) × (k ≡ j)
 one_last w journal a b k j K J =
     let same = last_same w K.before J.before K.entry J.entry K.rest J.rest (sym (whole w journal a k K) ∙ whole w journal b j J) K.its J.its K.last J.last in (
       K.upto_is ∙ (ap (λ z. z ++ K.entry ∷ []) same.0 ∙ (ap (λ z. J.before ++ z ∷ []) same.1 ∙ sym J.upto_is)),
-      sym K.says ∙ (ap (λ (z : Event). z.kind) same.1 ∙ J.says),
+      sym K.says ∙ (ap (λ (z : EntryValue). z.kind) same.1 ∙ J.says),
     )
 
 abbrev task_in : Kind → ℕ
@@ -367,14 +367,14 @@ module _ (l : Ledger) (kind : Kind) where
 
 -- THE RULES
 
-module _ (p : ProgramText) (s : Limits) (before : List Event) (w : ℕ) (kind : Kind) where
+module _ (p : ProgramText) (s : SettingsValue) (before : List EntryValue) (w : ℕ) (kind : Kind) where
   abbrev l : Ledger
   l = ledger_of p s before
 
   abbrev forks : List Strand
   forks = marked_forks p s w (opening p s) before
 
-  module _ (upto : List Event) where
+  module _ (upto : List EntryValue) where
     mark_from : (fork : Strand) → WaitsOn (ledger_of p s upto) fork → is_to_mark s l fork ≡ true → IsToMark p s l upto fork.task fork
     mark_from fork F h =
         let a = and_parts (waits_on l fork) (is_unmarked (heap_of l fork.task) && nat_le s.inner (words_in l.machine (heap_of l fork.task))) h in
@@ -441,7 +441,7 @@ module _ (p : ProgramText) (s : Limits) (before : List Event) (w : ℕ) (kind : 
           by false e = from_newest l kind forks (R.more (λ h M. both_ways (is_to_mark s l fork) e (same_mark h M)))
 
   -- WHAT IS OWED gives the rules, and the rules what is owed
-  rules_from : (prev : Previous) → IsPrevious p s w before prev → gives (owed_after s l forks prev) kind ≡ true → (upto : List Event) (t k : ℕ) → IsLastBy w before upto (Ran t k) → KeepsRules p s before w upto t kind
+  rules_from : (prev : Previous) → IsPrevious p s w before prev → gives (owed_after s l forks prev) kind ≡ true → (upto : List EntryValue) (t k : ℕ) → IsLastBy w before upto (Ran t k) → KeepsRules p s before w upto t kind
   rules_from Other (inl none) g upto t k L = absurd (none L.entry (subst (λ z. In z L.entry) (sym (whole w before upto (Ran t k) L)) (in_append_right L.before (L.entry ∷ L.rest) L.entry (inl refl))) L.its)
   rules_from Other (inr o) g upto t k L = absurd (o.3 t k (one_last w before o.0 upto o.1 (Ran t k) o.2 L).1)
   rules_from RanBefore P g upto t k L =
@@ -453,15 +453,15 @@ module _ (p : ProgramText) (s : Limits) (before : List Event) (w : ℕ) (kind : 
       let task : fork.task ≡ t = ap task_in same.1 in
       subst (λ z. KeepsRules p s before w upto z kind) task (fork_rules upto fork (subst (λ z. WaitsOn (ledger_of p s z) fork) same.0 P.3) g)
 
-  from_rules : (prev : Previous) → IsPrevious p s w before prev → ((upto : List Event) (t k : ℕ) → IsLastBy w before upto (Ran t k) → KeepsRules p s before w upto t kind) → gives (owed_after s l forks prev) kind ≡ true
+  from_rules : (prev : Previous) → IsPrevious p s w before prev → ((upto : List EntryValue) (t k : ℕ) → IsLastBy w before upto (Ran t k) → KeepsRules p s before w upto t kind) → gives (owed_after s l forks prev) kind ≡ true
   from_rules Other P R = refl
   from_rules RanBefore P R = rules_ran P.0 P.1 P.4 (R P.0 P.1 P.2 P.3)
   from_rules (Forked fork) P R = rules_fork P.0 fork P.3 (R P.0 fork.task P.1 P.2)
 
 -- WHOLE JOURNALS
 
-module _ (p : ProgramText) (s : Limits) (journal : List Event) (legal : is_legal p s journal ≡ true) where
-  legal_before : (before : List Event) (e : Event) (rest : List Event) → journal ≡ before ++ e ∷ rest → is_legal p s before ≡ true
+module _ (p : ProgramText) (s : SettingsValue) (journal : List EntryValue) (legal : is_legal p s journal ≡ true) where
+  legal_before : (before : List EntryValue) (e : EntryValue) (rest : List EntryValue) → journal ≡ before ++ e ∷ rest → is_legal p s before ≡ true
   legal_before before e rest is = (cut_legal p s before (e ∷ rest) (opening p s) (subst (λ j. is_legal p s j ≡ true) is legal)).0
 
   keeps : Paced p s journal → KeepsThePace p s journal

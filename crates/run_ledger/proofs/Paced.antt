@@ -1,8 +1,8 @@
 -- The test of paced journals is what is meant by them.
 use Rattle.std.proofs.Common.{◌≡◌, ◌||◌, true, List, [], ◌∷◌, ◌++◌, ◌⊎◌, inl, inr, refl, ap, subst}
 use Rattle.std.proofs.lemmas.Bool.{and_parts, and_from, or_cases, or_left, or_right}
-use Rattle.run_trace.specs.Entry.{Event}
-use Rattle.run_trace.specs.Settings.{Limits}
+use Rattle.run_trace.specs.Entry.{EntryValue}
+use Rattle.run_trace.specs.Settings.{SettingsValue}
 use Rattle.hh_lang.specs.Form.{ProgramText}
 use Rattle.run_ledger.specs.declared.data.Ledger.{Ledger}
 use Rattle.run_ledger.specs.declared.data.WorkerPace.{WorkerPace}
@@ -11,14 +11,14 @@ use Rattle.run_ledger.specs.Journals.{opening, after_all, ledger_of}
 use Rattle.run_ledger.specs.Pace.{gives, owed, pace_of, pace_after, pace_after_all, pace_at_end, pace_opening, is_paced_from}
 use Rattle.run_ledger.specs.Cuts.{PacedIsMeant, PaceGoesOn}
 
-module _ (p : ProgramText) (s : Limits) where
-  abbrev Each : Ledger → List WorkerPace → List Event → Type 0
+module _ (p : ProgramText) (s : SettingsValue) where
+  abbrev Each : Ledger → List WorkerPace → List EntryValue → Type 0
   Each l pace journal =
-      (before : List Event) (e : Event) (rest : List Event) → journal ≡ before ++ e ∷ rest
+      (before : List EntryValue) (e : EntryValue) (rest : List EntryValue) → journal ≡ before ++ e ∷ rest
       → (is_fuel e.kind ≡ true) ⊎ (gives (owed s (after_all p s l before) (pace_of (pace_after_all p s l pace before) e.worker)) e.kind ≡ true)
 
   -- a journal is paced where both parts of a cut are
-  pub cut_paced : (first rest : List Event) (l : Ledger) (pace : List WorkerPace) → is_paced_from p s l pace (first ++ rest) ≡ true
+  pub cut_paced : (first rest : List EntryValue) (l : Ledger) (pace : List WorkerPace) → is_paced_from p s l pace (first ++ rest) ≡ true
       → (is_paced_from p s l pace first ≡ true) × (is_paced_from p s (after_all p s l first) (pace_after_all p s l pace first) rest ≡ true)
   cut_paced [] rest l pace h = (refl, h)
   cut_paced (e ∷ first) rest l pace h =
@@ -27,7 +27,7 @@ module _ (p : ProgramText) (s : Limits) where
       let more = cut_paced first rest (after p s l e) (pace_after (after p s l e) pace e) both.1 in
       (and_from now (is_paced_from p s (after p s l e) (pace_after (after p s l e) pace e) first) both.0 more.0, more.1)
 
-  joined_paced : (first rest : List Event) (l : Ledger) (pace : List WorkerPace) → is_paced_from p s l pace first ≡ true
+  joined_paced : (first rest : List EntryValue) (l : Ledger) (pace : List WorkerPace) → is_paced_from p s l pace first ≡ true
       → is_paced_from p s (after_all p s l first) (pace_after_all p s l pace first) rest ≡ true → is_paced_from p s l pace (first ++ rest) ≡ true
   joined_paced [] rest l pace h g = g
   joined_paced (e ∷ first) rest l pace h g =
@@ -35,7 +35,7 @@ module _ (p : ProgramText) (s : Limits) where
       let both = and_parts now (is_paced_from p s (after p s l e) (pace_after (after p s l e) pace e) first) h in
       and_from now (is_paced_from p s (after p s l e) (pace_after (after p s l e) pace e) (first ++ rest)) both.0 (joined_paced first rest (after p s l e) (pace_after (after p s l e) pace e) both.1 g)
 
-  each_paced : (journal : List Event) (l : Ledger) (pace : List WorkerPace) → is_paced_from p s l pace journal ≡ true → Each l pace journal
+  each_paced : (journal : List EntryValue) (l : Ledger) (pace : List WorkerPace) → is_paced_from p s l pace journal ≡ true → Each l pace journal
   each_paced journal l pace h before e rest is =
       let c = (cut_paced before (e ∷ rest) l pace (subst (λ j. is_paced_from p s l pace j ≡ true) is h)).1 in
       let l' = after_all p s l before in
@@ -43,7 +43,7 @@ module _ (p : ProgramText) (s : Limits) where
       let now = (and_parts (is_fuel e.kind || gives (owed s l' (pace_of pace' e.worker)) e.kind) (is_paced_from p s (after p s l' e) (pace_after (after p s l' e) pace' e) rest) c).0 in
       or_cases (is_fuel e.kind) (gives (owed s l' (pace_of pace' e.worker)) e.kind) now
 
-  paced_each : (journal : List Event) (l : Ledger) (pace : List WorkerPace) → Each l pace journal → is_paced_from p s l pace journal ≡ true
+  paced_each : (journal : List EntryValue) (l : Ledger) (pace : List WorkerPace) → Each l pace journal → is_paced_from p s l pace journal ≡ true
   paced_each [] l pace h = refl
   paced_each (e ∷ es) l pace h =
       let rest = is_paced_from p s (after p s l e) (pace_after (after p s l e) pace e) es in

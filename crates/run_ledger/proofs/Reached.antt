@@ -5,8 +5,8 @@ use Rattle.std.proofs.lemmas.Bool.{or_cases, or_left, or_right, false≢true, ca
 use Rattle.hh_model.specs.declared.data.Name.{Name}
 use Rattle.hh_model.specs.declared.data.Object.{Object}
 use Rattle.hh_model.specs.Names.{refs_at}
-use Rattle.walks.proofs.Reached.{reached_start, reached_within}
-use Rattle.walks.proofs.Reached.{reached_more as walk_more}
+use Rattle.walk_laws.proofs.Reached.{reached_start, reached_within}
+use Rattle.walk_laws.proofs.Reached.{reached_more as walk_more}
 use Rattle.run_ledger.specs.Reachable.{holds_name, once_more, reached_by, reached, StartsWithin, LeadsWithin, IsReachedWithin}
 use Rattle.run_ledger.specs.Laws.{ReachedIsWalks}
 use Rattle.listed.proofs.Members.{In, in_from_contains, contains_from_in, in_kept, in_from_kept, any_from_in, in_from_any}

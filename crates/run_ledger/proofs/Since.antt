@@ -4,8 +4,8 @@ use Rattle.std.proofs.lemmas.Bool.{and_parts}
 use Rattle.std.proofs.lemmas.List.Sums.{sum_by-cons}
 use Rattle.run_trace.specs.declared.entry.Kind.{Kind}
 use Rattle.run_trace.specs.declared.entry.Kind.TheVariants.{Took, Ran, Chunk, Begin, End as EndOf, PutOff, Mark, More, Sweep, Fuel}
-use Rattle.run_trace.specs.Entry.{Event}
-use Rattle.run_trace.specs.Settings.{Limits, field_limit}
+use Rattle.run_trace.specs.Entry.{EntryValue}
+use Rattle.run_trace.specs.Settings.{SettingsValue, field_limit}
 use Rattle.hh_lang.specs.Form.{ProgramText}
 use Rattle.hh_model.specs.declared.data.Name.{Name}
 use Rattle.hh_model.specs.declared.data.State.{State}
@@ -107,7 +107,7 @@ module _ (p : ProgramText) (limit most : ℕ) (asks : AsksAtMost p limit most) w
       by h true = omega arith
       by h false = omega arith
 
-  kind_bounded : (s : Limits) (l : Ledger) (w : ℕ) (kind : Kind) → SoundLedger l → is_none (kind_refusal p s l w kind) ≡ true → Bounded l → Bounded (after_kind p s l w kind)
+  kind_bounded : (s : SettingsValue) (l : Ledger) (w : ℕ) (kind : Kind) → SoundLedger l → is_none (kind_refusal p s l w kind) ≡ true → Bounded l → Bounded (after_kind p s l w kind)
   kind_bounded s l w (Took t) S h I = lighter l t _ (λ g. omega arith) I
   kind_bounded s l w (Ran t k) S h I = task_steps_bounded k l t (S, (out_tells l w t _ h).1) I
   kind_bounded s l w (Chunk t) S h I = chunk_bounded l t (asked p l.machine t) (nat_lt s.chunks (in_use l + chunk_units (asked p l.machine t))) I
@@ -119,7 +119,7 @@ module _ (p : ProgramText) (limit most : ℕ) (asks : AsksAtMost p limit most) w
   kind_bounded s l w (Sweep t g) S h I = lighter l t swept_heap (λ g. omega arith) I
   kind_bounded s l w Fuel S h I = I
 
-  journal_bounded : (s : Limits) (journal : List Event) (l : Ledger) → SoundLedger l → Bounded l → is_legal_from p s l journal ≡ true → Bounded (after_all p s l journal)
+  journal_bounded : (s : SettingsValue) (journal : List EntryValue) (l : Ledger) → SoundLedger l → Bounded l → is_legal_from p s l journal ≡ true → Bounded (after_all p s l journal)
   journal_bounded s [] l S I h = I
   journal_bounded s (e ∷ es) l S I h =
       let both = and_parts (is_none (refusal p s l e)) (is_legal_from p s (after p s l e) es) h in
@@ -132,7 +132,7 @@ one_of (h ∷ heaps) zero = let a = sum_by-cons since_in h heaps in omega arith
 one_of (h ∷ heaps) (suc t) = let a = sum_by-cons since_in h heaps in let b = one_of heaps t in omega arith
 
 -- with any number that bounds what a step asks for
-pub since_is_bounded : (p : ProgramText) (s : Limits) (journal : List Event) (most : ℕ) → is_legal p s journal ≡ true → AsksAtMost p (field_limit s.version) most
+pub since_is_bounded : (p : ProgramText) (s : SettingsValue) (journal : List EntryValue) (most : ℕ) → is_legal p s journal ≡ true → AsksAtMost p (field_limit s.version) most
     → let l = ledger_of p s journal in (t : ℕ) → (heap_of l t).since ≤ most * l.steps
 since_is_bounded p s journal most legal asks t =
     let l : Ledger = ledger_of p s journal in
@@ -145,7 +145,7 @@ limit_small : (v : Version) → field_limit v ≤ 1000000
 limit_small One = omega arith
 limit_small Two = omega arith
 
-counts_few : (s : Limits) (l : Ledger) → total since_in l.heaps ≤ (field_limit s.version + 34) * l.steps → CountsFew s l
+counts_few : (s : SettingsValue) (l : Ledger) → total since_in l.heaps ≤ (field_limit s.version + 34) * l.steps → CountsFew s l
 counts_few s l le = record {
   by_steps = by;
   below = λ t. more (field_limit s.version + 34) 1000034 l.steps (heap_of l t).since (let z = limit_small s.version in omega arith) (by t);

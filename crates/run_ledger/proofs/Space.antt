@@ -7,8 +7,8 @@ use Rattle.std.proofs.lemmas.Option.{same_Some}
 use Rattle.listed.proofs.Members.{in_from_contains, got_same, in_from_kept, In}
 use Rattle.run_trace.specs.declared.entry.Kind.{Kind}
 use Rattle.run_trace.specs.declared.entry.Kind.TheVariants.{Took, Ran, Chunk, Begin, End as EndOf, PutOff, Mark, More, Sweep, Fuel}
-use Rattle.run_trace.specs.Entry.{Event}
-use Rattle.run_trace.specs.Settings.{Limits}
+use Rattle.run_trace.specs.Entry.{EntryValue}
+use Rattle.run_trace.specs.Settings.{SettingsValue}
 use Rattle.hh_lang.specs.Form.{ProgramText}
 use Rattle.hh_model.specs.declared.data.Name.{Name}
 use Rattle.hh_model.specs.declared.data.State.{State}
@@ -36,7 +36,7 @@ use Rattle.run_ledger.proofs.Booked.{Booked, BookedLedger, no_begun, asked_runs,
 use Rattle.run_ledger.proofs.Cuts.{cut_legal}
 use Rattle.run_ledger.proofs.Journals.{none_unless, none_where, out_tells, wait_tells, entry_tells, entry_sound, opening_sound, not_waiting}
 
-module _ (p : ProgramText) (s : Limits) where
+module _ (p : ProgramText) (s : SettingsValue) where
   -- the account of one heap changes, and it has at most so many chunks more in use
   set_booked : (l : Ledger) (t extra : ℕ) (f : Heap → Heap) → BookedLedger p s l
       → ((h : Heap) → slice_get l.heaps t ≡ Some h → Booked p s l.machine t h → Booked p s l.machine t (f h) × (units_in l.machine (f h) ≤ units_in l.machine h + extra))
@@ -229,7 +229,7 @@ module _ (p : ProgramText) (s : Limits) where
       sweep_booked l t S B (wait_tells l t _ r).0
   kind_booked l w Fuel S I B h = record { each = B.each; within = B.within }
 
-  journal_booked : (journal : List Event) (l : Ledger) → SoundLedger l → StockedLedger l → BookedLedger p s l → is_legal_from p s l journal ≡ true → BookedLedger p s (after_all p s l journal)
+  journal_booked : (journal : List EntryValue) (l : Ledger) → SoundLedger l → StockedLedger l → BookedLedger p s l → is_legal_from p s l journal ≡ true → BookedLedger p s (after_all p s l journal)
   journal_booked [] l S I B h = B
   journal_booked (e ∷ es) l S I B h =
       let both = and_parts (is_none (refusal p s l e)) (is_legal_from p s (after p s l e) es) h in
@@ -242,7 +242,7 @@ module _ (p : ProgramText) (s : Limits) where
       first zero h e = subst (Booked p s (opening p s).machine 0) (same_Some fresh h e) (record { begun = λ c q. no_begun fresh c refl q; room = λ pos. absurd (omega arith); reserved = λ pos. absurd (omega arith); full = λ ns i. absurd i; last = omega arith })
       first (suc u) h e = absurd cc
 
-  pub legal_booked : (journal : List Event) → is_legal p s journal ≡ true → BookedLedger p s (ledger_of p s journal)
+  pub legal_booked : (journal : List EntryValue) → is_legal p s journal ≡ true → BookedLedger p s (ledger_of p s journal)
   legal_booked journal legal = journal_booked journal (opening p s) (opening_sound p s) (opening_stocked p s) opening_booked legal
 
 -- the words of all heaps
@@ -269,7 +269,7 @@ heaps_fit p s journal legal =
     fits_by l t B (Some h) e = let b = B.each t h e in record { each = λ ns c. b.full ns (in_from_contains h.chunks ns c); last = b.last }
 
 -- the most chunks in use
-peak_bounded : (p : ProgramText) (s : Limits) (journal : List Event) (l : Ledger) → SoundLedger l → StockedLedger l → BookedLedger p s l → is_legal_from p s l journal ≡ true → peak_from p s l journal ≤ s.chunks
+peak_bounded : (p : ProgramText) (s : SettingsValue) (journal : List EntryValue) (l : Ledger) → SoundLedger l → StockedLedger l → BookedLedger p s l → is_legal_from p s l journal ≡ true → peak_from p s l journal ≤ s.chunks
 peak_bounded p s [] l S I B h = omega arith
 peak_bounded p s (e ∷ es) l S I B h =
     let both = and_parts (is_none (refusal p s l e)) (is_legal_from p s (after p s l e) es) h in
@@ -285,7 +285,7 @@ use_is_bounded p s journal legal = record {
 }
 
 -- where an entry isn't refused after a journal that is legal
-legal_entry : (p : ProgramText) (s : Limits) (before : List Event) (e : Event) (rest : List Event) → is_legal p s (before ++ e ∷ rest) ≡ true → (is_legal p s before ≡ true) × (is_none (refusal p s (ledger_of p s before) e) ≡ true)
+legal_entry : (p : ProgramText) (s : SettingsValue) (before : List EntryValue) (e : EntryValue) (rest : List EntryValue) → is_legal p s (before ++ e ∷ rest) ≡ true → (is_legal p s before ≡ true) × (is_none (refusal p s (ledger_of p s before) e) ≡ true)
 legal_entry p s before e rest legal =
     let c = cut_legal p s before (e ∷ rest) (opening p s) legal in
     (c.0, (and_parts (is_none (refusal p s (ledger_of p s before) e)) (is_legal_from p s (after p s (ledger_of p s before) e) rest) c.1).0)
@@ -305,7 +305,7 @@ heap_from_begun l t e = by (heap_at l t) refl e
 
 pub leaf_collections_are_bounded : LeafCollectionsAreBounded
 leaf_collections_are_bounded p s before rest w t taken given left legal =
-    let e : Event = record { worker = w; kind = EndOf t taken given left } in
+    let e : EntryValue = record { worker = w; kind = EndOf t taken given left } in
     let l : Ledger = ledger_of p s before in
     let q = legal_entry p s before e rest legal in
     let r = (entry_tells p s l e q.1).2 in
@@ -324,13 +324,13 @@ leaf_collections_are_bounded p s before rest w t taken given left legal =
     }
 
 -- a task that waits has no chunk that waits
-none_reserved : (p : ProgramText) (s : Limits) (l : Ledger) (t : ℕ) (h : Heap) → waiting l.machine.tasks t ≡ true → Booked p s l.machine t h → h.reserved ≡ 0
+none_reserved : (p : ProgramText) (s : SettingsValue) (l : Ledger) (t : ℕ) (h : Heap) → waiting l.machine.tasks t ≡ true → Booked p s l.machine t h → h.reserved ≡ 0
 none_reserved p s l t h w b = elim (cases_lt 0 h.reserved) [
   | inl pos ↦ let q = b.reserved pos in absurd (wait_run l.machine t w (asked_runs p l.machine t q.0 q.1))
   | inr le ↦ omega arith
 ]
 
-swept_by : (p : ProgramText) (s : Limits) (l : Ledger) (t : ℕ) → waiting l.machine.tasks t ≡ true → BookedLedger p s l → (o : Option Heap) → heap_at l t ≡ o → SweptWithin (with_heap l t swept_heap) t
+swept_by : (p : ProgramText) (s : SettingsValue) (l : Ledger) (t : ℕ) → waiting l.machine.tasks t ≡ true → BookedLedger p s l → (o : Option Heap) → heap_at l t ≡ o → SweptWithin (with_heap l t swept_heap) t
 swept_by p s l t w B None e =
     let now : heap_of (with_heap l t swept_heap) t ≡ fresh = ap (λ (k : Ledger). heap_of k t) (ap (with_heap_at l t swept_heap) e) ∙ ap or_fresh e in
     record {
@@ -346,7 +346,7 @@ swept_by p s l t w B (Some h) e =
 
 pub sweeps_are_bounded : SweepsAreBounded
 sweeps_are_bounded p s before rest w t given legal =
-    let e : Event = record { worker = w; kind = Sweep t given } in
+    let e : EntryValue = record { worker = w; kind = Sweep t given } in
     let l : Ledger = ledger_of p s before in
     let q = legal_entry p s before e rest legal in
     let r = (entry_tells p s l e q.1).2 in

@@ -6,8 +6,8 @@ use Rattle.std.proofs.lemmas.List.Sums.{sum_by-cons}
 use Rattle.listed.proofs.Members.{In, in_from_contains}
 use Rattle.run_trace.specs.declared.entry.Kind.{Kind}
 use Rattle.run_trace.specs.declared.entry.Kind.TheVariants.{Took, Ran, Chunk, Begin, End as EndOf, PutOff, Mark, More, Sweep, Fuel}
-use Rattle.run_trace.specs.Entry.{Event}
-use Rattle.run_trace.specs.Settings.{Limits, field_limit}
+use Rattle.run_trace.specs.Entry.{EntryValue}
+use Rattle.run_trace.specs.Settings.{SettingsValue, field_limit}
 use Rattle.hh_lang.specs.Form.{ProgramText}
 use Rattle.hh_model.specs.declared.data.Name.{Name}
 use Rattle.hh_model.specs.declared.data.State.{State}
@@ -226,7 +226,7 @@ chunk_stocked : (l : Ledger) (t : ℕ) (next : Option ℕ) (full : Bool) (end : 
 chunk_stocked l t next true end E I = E
 chunk_stocked l t next false end E I = lighter l t (with_chunk next) (λ h g. chunk_lighter next h g (on_asked next is_small)) I
 
-pub kind_stocked : (p : ProgramText) (s : Limits) (l : Ledger) (w : ℕ) (kind : Kind) → SoundLedger l → is_none (kind_refusal p s l w kind) ≡ true → StockedLedger l → StockedLedger (after_kind p s l w kind)
+pub kind_stocked : (p : ProgramText) (s : SettingsValue) (l : Ledger) (w : ℕ) (kind : Kind) → SoundLedger l → is_none (kind_refusal p s l w kind) ≡ true → StockedLedger l → StockedLedger (after_kind p s l w kind)
 kind_stocked p s l w (Took t) S h I = lighter l t _ (λ h g. same_weight h g) I
 kind_stocked p s l w (Ran t k) S h I = task_steps_stocked p k l t (S, (out_tells l w t _ h).1) I
 kind_stocked p s l w (Chunk t) S h I = chunk_stocked l t (asked p l.machine t) (nat_lt s.chunks (in_use l + chunk_units (asked p l.machine t))) (record l { end = Some (Pool (in_use l)) }) I I
@@ -238,13 +238,13 @@ kind_stocked p s l w (More t n) S h I = lighter l t _ (λ h g. same_weight h g) 
 kind_stocked p s l w (Sweep t g) S h I = lighter l t swept_heap (λ h f. swept_weight f h) I
 kind_stocked p s l w Fuel S h I = I
 
-pub journal_stocked : (p : ProgramText) (s : Limits) (journal : List Event) (l : Ledger) → SoundLedger l → StockedLedger l → is_legal_from p s l journal ≡ true → StockedLedger (after_all p s l journal)
+pub journal_stocked : (p : ProgramText) (s : SettingsValue) (journal : List EntryValue) (l : Ledger) → SoundLedger l → StockedLedger l → is_legal_from p s l journal ≡ true → StockedLedger (after_all p s l journal)
 journal_stocked p s [] l S I h = I
 journal_stocked p s (e ∷ es) l S I h =
     let both = and_parts (is_none (refusal p s l e)) (is_legal_from p s (after p s l e) es) h in
     journal_stocked p s es (after p s l e) (entry_sound p s l e S both.0) (kind_stocked p s l e.worker e.kind S (entry_tells p s l e both.0).2 I) both.1
 
-pub opening_stocked : (p : ProgramText) (s : Limits) → StockedLedger (opening p s)
+pub opening_stocked : (p : ProgramText) (s : SettingsValue) → StockedLedger (opening p s)
 opening_stocked p s = record {
   counted = (0, start_counted p (field_limit s.version));
   stored = λ n k. absurd (let a = keeps_copies n (fresh ∷ []) k in omega (arith, nothing n));
@@ -254,7 +254,7 @@ opening_stocked p s = record {
     nothing : (n : Name) → copies n (fresh ∷ []) ≡ 0
     nothing n = refl
 
-pub legal_stocked : (p : ProgramText) (s : Limits) (journal : List Event) → is_legal p s journal ≡ true → StockedLedger (ledger_of p s journal)
+pub legal_stocked : (p : ProgramText) (s : SettingsValue) (journal : List EntryValue) → is_legal p s journal ≡ true → StockedLedger (ledger_of p s journal)
 legal_stocked p s journal legal = journal_stocked p s journal (opening p s) (opening_sound p s) (opening_stocked p s) legal
 
 pub names_are_held_once : NamesAreHeldOnce

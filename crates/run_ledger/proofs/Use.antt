@@ -8,8 +8,8 @@ use Rattle.listed.proofs.Members.{In, in_append_right}
 use Rattle.hh_lang.specs.Form.{ProgramText}
 use Rattle.run_trace.specs.declared.entry.Kind.{Kind}
 use Rattle.run_trace.specs.declared.entry.Kind.TheVariants.{Took, Ran, Chunk, Begin, End as EndOf, PutOff, Mark, More, Sweep, Fuel}
-use Rattle.run_trace.specs.Entry.{Event}
-use Rattle.run_trace.specs.Settings.{Limits}
+use Rattle.run_trace.specs.Entry.{EntryValue}
+use Rattle.run_trace.specs.Settings.{SettingsValue}
 use Rattle.hh_model.specs.declared.data.Name.{Name}
 use Rattle.hh_model.specs.declared.data.State.{State}
 use Rattle.hh_model.specs.Step.{step, can_step, asked}
@@ -40,7 +40,7 @@ use Rattle.hh_model.proofs.Next.{packs_are_few}
 
 -- ONE STEP
 
-module _ (p : ProgramText) (s : Limits) (packs : PacksAreSmall p) (l : Ledger) (t : ℕ) (S : SoundAt t l) (I : StockedLedger l) (B : BookedLedger p s l) (can : can_step l.machine t ≡ true) (fine : (is_due s p l t || is_in_need p l t) ≡ false) where
+module _ (p : ProgramText) (s : SettingsValue) (packs : PacksAreSmall p) (l : Ledger) (t : ℕ) (S : SoundAt t l) (I : StockedLedger l) (B : BookedLedger p s l) (can : can_step l.machine t ≡ true) (fine : (is_due s p l t || is_in_need p l t) ≡ false) where
   abbrev m : State
   m = l.machine
 
@@ -115,7 +115,7 @@ module _ (p : ProgramText) (s : Limits) (packs : PacksAreSmall p) (l : Ledger) (
 
 -- STEPS
 
-module _ (p : ProgramText) (s : Limits) (packs : PacksAreSmall p) where
+module _ (p : ProgramText) (s : SettingsValue) (packs : PacksAreSmall p) where
   task_step_use : (l : Ledger) (t : ℕ) → SoundAt t l → StockedLedger l → BookedLedger p s l → (is_due s p l t || is_in_need p l t) ≡ false → in_use (task_step p l t) ≡ in_use l
   task_step_use l t S I B fine = by (can_step l.machine t) refl
     where
@@ -164,7 +164,7 @@ begun_zero h e = by h.begun e
     by None q = refl
     by (Some c) q = absurd (false≢true (sym q))
 
-module _ (p : ProgramText) (s : Limits) (l : Ledger) (t : ℕ) (S : SoundLedger l) (B : BookedLedger p s l) where
+module _ (p : ProgramText) (s : SettingsValue) (l : Ledger) (t : ℕ) (S : SoundLedger l) (B : BookedLedger p s l) where
   -- a chunk is given, or the run ends
   chunk_by : (h : Heap) → slice_get l.heaps t ≡ Some h → (o : Option ℕ) → asked p l.machine t ≡ o → on_asked o (lacks_room h) ≡ true → units_in l.machine (with_chunk o h) ≡ units_in l.machine h + chunk_units o
   chunk_by h e None is needs = absurd (false≢true needs)
@@ -246,7 +246,7 @@ heap_from l t e = by (heap_at l t) refl e
     by None is q = absurd (false≢true q)
     by (Some h) is q = let c = begun h h.begun refl q in (h, c.0, is, c.1)
 
-module _ (p : ProgramText) (s : Limits) (journal : List Event) (packs : PacksAreSmall p) (legal : is_legal p s journal ≡ true) where
+module _ (p : ProgramText) (s : SettingsValue) (journal : List EntryValue) (packs : PacksAreSmall p) (legal : is_legal p s journal ≡ true) where
   abbrev l : Ledger
   l = ledger_of p s journal
 
@@ -291,7 +291,7 @@ module _ (p : ProgramText) (s : Limits) (journal : List Event) (packs : PacksAre
       ap (λ j. in_use (with_heap l t swept_heap) + j) same ∙ sweep_use p s l t S B (heap_at l t) refl
   by_kind w Fuel h = refl
 
-  use_by_entry : (e : Event) → refusal p s l e ≡ None → UseGoes p s l (after p s l e) e.kind
+  use_by_entry : (e : EntryValue) → refusal p s l e ≡ None → UseGoes p s l (after p s l e) e.kind
   use_by_entry e accepted = by_kind e.worker e.kind (ap is_none accepted)
 
 pub entries_use : EntriesUse
@@ -302,7 +302,7 @@ steps_use_none p s journal t k I legal S stand = steps_use p s (packs_are_few p 
 
 -- WHAT CHUNKS ARE THERE FOR
 
-module _ (p : ProgramText) (s : Limits) (l : Ledger) (B : BookedLedger p s l) (t : ℕ) where
+module _ (p : ProgramText) (s : SettingsValue) (l : Ledger) (B : BookedLedger p s l) (t : ℕ) where
   room_by : (o : Option Heap) → heap_at l t ≡ o → 0 < (or_fresh o).room → 0 < length (or_fresh o).chunks
   room_by None e pos = absurd (omega arith)
   room_by (Some h) e pos = (B.each t h e).room pos

@@ -4,8 +4,8 @@ use Rattle.std.proofs.lemmas.Bool.{false≢true, cases_eq, and_parts}
 use Rattle.listed.proofs.Members.{got_same, got_other}
 use Rattle.run_trace.specs.declared.entry.Kind.{Kind}
 use Rattle.run_trace.specs.declared.entry.Kind.TheVariants.{Took, Ran, Chunk, Begin, End as EndOf, PutOff, Mark, More, Sweep, Fuel}
-use Rattle.run_trace.specs.Entry.{Event}
-use Rattle.run_trace.specs.Settings.{Limits}
+use Rattle.run_trace.specs.Entry.{EntryValue}
+use Rattle.run_trace.specs.Settings.{SettingsValue}
 use Rattle.hh_lang.specs.Form.{ProgramText}
 use Rattle.hh_model.specs.declared.data.State.{State}
 use Rattle.hh_model.specs.Step.{step, can_step, asked, is_running}
@@ -90,7 +90,7 @@ chunk_free : (l : Ledger) (t : ℕ) (next : Option ℕ) (full : Bool) → Free l
 chunk_free l t next true I = I
 chunk_free l t next false I = set_free l t (with_chunk next) (λ h. chunk_worker_by h (chunk_units next) (on_asked next is_small)) I
 
-kind_free : (p : ProgramText) (s : Limits) (l : Ledger) (w : ℕ) (kind : Kind) → SoundLedger l → is_none (kind_refusal p s l w kind) ≡ true → Free l → Free (after_kind p s l w kind)
+kind_free : (p : ProgramText) (s : SettingsValue) (l : Ledger) (w : ℕ) (kind : Kind) → SoundLedger l → is_none (kind_refusal p s l w kind) ≡ true → Free l → Free (after_kind p s l w kind)
 kind_free p s l w (Took t) S h I = took_free l w t (and_parts (is_running (slice_get l.machine.tasks t)) _ (none_unless (is_ready l t) _ _ h).0).0 I
 kind_free p s l w (Ran t k) S h I = task_steps_free p k l t (S, (out_tells l w t _ h).1) I
 kind_free p s l w (Chunk t) S h I = chunk_free l t (asked p l.machine t) (nat_lt s.chunks (in_use l + chunk_units (asked p l.machine t))) I
@@ -102,13 +102,13 @@ kind_free p s l w (More t n) S h I = set_free l t _ (λ g. refl) I
 kind_free p s l w (Sweep t g) S h I = set_free l t swept_heap (λ g. refl) I
 kind_free p s l w Fuel S h I = I
 
-journal_free : (p : ProgramText) (s : Limits) (journal : List Event) (l : Ledger) → SoundLedger l → Free l → is_legal_from p s l journal ≡ true → Free (after_all p s l journal)
+journal_free : (p : ProgramText) (s : SettingsValue) (journal : List EntryValue) (l : Ledger) → SoundLedger l → Free l → is_legal_from p s l journal ≡ true → Free (after_all p s l journal)
 journal_free p s [] l S I h = I
 journal_free p s (e ∷ es) l S I h =
     let both = and_parts (is_none (refusal p s l e)) (is_legal_from p s (after p s l e) es) h in
     journal_free p s es (after p s l e) (entry_sound p s l e S both.0) (kind_free p s l e.worker e.kind S (entry_tells p s l e both.0).2 I) both.1
 
-opening_free : (p : ProgramText) (s : Limits) → Free (opening p s)
+opening_free : (p : ProgramText) (s : SettingsValue) → Free (opening p s)
 opening_free p s zero w = refl
 opening_free p s (suc u) w = refl
 

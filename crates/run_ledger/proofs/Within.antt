@@ -3,9 +3,9 @@ use Rattle.std.proofs.Common.{◌≡◌, ℕ, true, Option, Some, None, List, �
 use Rattle.std.specs.List.{flat_map}
 use Rattle.std.proofs.lemmas.Bool.{false≢true}
 use Rattle.listed.proofs.Members.{In, in_from_contains, contains_from_in, in_append_cases, in_from_kept, flat_in, got_in}
-use Rattle.walks.specs.Reached.{IsReached}
-use Rattle.walks.proofs.Reached.{reached_start, reached_within}
-use Rattle.walks.proofs.Reached.{reached_more as walk_more}
+use Rattle.walk_laws.specs.Reached.{IsReached}
+use Rattle.walk_laws.proofs.Reached.{reached_start, reached_within}
+use Rattle.walk_laws.proofs.Reached.{reached_more as walk_more}
 use Rattle.hh_model.specs.declared.data.Name.{Name}
 use Rattle.hh_model.specs.declared.data.Status.{Status}
 use Rattle.hh_model.specs.declared.data.Status.TheVariants.{Running, Waiting, Ended, Joined}

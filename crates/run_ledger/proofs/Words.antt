@@ -4,8 +4,8 @@ use Rattle.std.proofs.lemmas.Bool.{and_parts}
 use Rattle.listed.proofs.Members.{In}
 use Rattle.run_trace.specs.declared.entry.Kind.{Kind}
 use Rattle.run_trace.specs.declared.entry.Kind.TheVariants.{Took, Ran, Chunk, Begin, End as EndOf, PutOff, Mark, More, Sweep, Fuel}
-use Rattle.run_trace.specs.Entry.{Event}
-use Rattle.run_trace.specs.Settings.{Limits}
+use Rattle.run_trace.specs.Entry.{EntryValue}
+use Rattle.run_trace.specs.Settings.{SettingsValue}
 use Rattle.hh_lang.specs.Form.{ProgramText}
 use Rattle.hh_model.specs.declared.data.Name.{Name}
 use Rattle.hh_model.specs.declared.data.State.{State}
@@ -119,7 +119,7 @@ chunk_balances l t next false = even l t (with_chunk next) (λ h g. chunk_even n
 abbrev freed : Ledger → Kind → ℕ
 freed l kind = freed_by_end l kind + freed_by_sweep l kind
 
-kind_balances : (p : ProgramText) (s : Limits) (l : Ledger) (w : ℕ) (kind : Kind) → SoundLedger l → StockedLedger l → is_none (kind_refusal p s l w kind) ≡ true → Balances (freed l kind) l (after_kind p s l w kind)
+kind_balances : (p : ProgramText) (s : SettingsValue) (l : Ledger) (w : ℕ) (kind : Kind) → SoundLedger l → StockedLedger l → is_none (kind_refusal p s l w kind) ≡ true → Balances (freed l kind) l (after_kind p s l w kind)
 kind_balances p s l w (Took t) S I h = even l t _ (λ h g. refl)
 kind_balances p s l w (Ran t k) S I h = task_steps_balance p k l t (S, (out_tells l w t _ h).1) I
 kind_balances p s l w (Chunk t) S I h = chunk_balances l t (asked p l.machine t) (nat_lt s.chunks (in_use l + chunk_units (asked p l.machine t)))
@@ -131,7 +131,7 @@ kind_balances p s l w (More t n) S I h = even l t _ (λ h g. refl)
 kind_balances p s l w (Sweep t g) S I h = let d = drops l t swept_heap (λ h f. swept_weight f h) refl in omega arith
 kind_balances p s l w Fuel S I h = omega arith
 
-journal_balances : (p : ProgramText) (s : Limits) (journal : List Event) (l : Ledger) → SoundLedger l → StockedLedger l → is_legal_from p s l journal ≡ true
+journal_balances : (p : ProgramText) (s : SettingsValue) (journal : List EntryValue) (l : Ledger) → SoundLedger l → StockedLedger l → is_legal_from p s l journal ≡ true
     → Balances (tally p s freed_by_end l journal + tally p s freed_by_sweep l journal) l (after_all p s l journal)
 journal_balances p s [] l S I h = omega arith
 journal_balances p s (e ∷ es) l S I h =

@@ -2,8 +2,8 @@
 use Rattle.std.specs.Prelude.{◌≡◌, ◌↔◌, ◌⊎◌, ℕ, ◌+◌, ◌<◌, ◌≤◌, true, false, None, Some, slice_get, is_some}
 use Rattle.run_trace.specs.declared.entry.Kind.{Kind}
 use Rattle.run_trace.specs.declared.entry.Kind.TheVariants.{Took, Ran, Chunk, Begin, End, PutOff, Mark, More, Sweep, Fuel}
-use Rattle.run_trace.specs.Entry.{Event}
-use Rattle.run_trace.specs.Settings.{Limits}
+use Rattle.run_trace.specs.Entry.{EntryValue}
+use Rattle.run_trace.specs.Settings.{SettingsValue}
 use Rattle.hh_lang.specs.Form.{ProgramText}
 use Rattle.hh_model.specs.Step.{is_running, is_waiting}
 use Rattle.run_ledger.specs.declared.data.Ledger.{Ledger}
@@ -27,7 +27,7 @@ pub record IsUnswept (l : Ledger) (t : ℕ) : Type 0 where
   pub unswept : (heap_of l t).swept ≡ false
 
 -- what each kind of entry of the worker w asks
-abbrev pub Allows : ProgramText → Limits → Ledger → ℕ → Kind → Type 0
+abbrev pub Allows : ProgramText → SettingsValue → Ledger → ℕ → Kind → Type 0
 -- nobody holds the task, and the worker holds none
 Allows p s l w (Took t) = (is_running (slice_get l.machine.tasks t) ≡ true) × ((heap_of l t).worker ≡ None) × ((u : ℕ) → (heap_of l u).worker ≡ Some w → ⊥)
 -- so many steps can stand in one entry
@@ -50,11 +50,11 @@ Allows p s l w (Sweep t given) = IsUnswept l t × (is_some (heap_of l t).marked 
 Allows p s l w Fuel = s.fuel ≤ l.steps
 
 -- the run hasn't ended; fuel is left, unless the entry says that it is spent; the worker is there; and the entry is allowed
-pub record IsAccepted (p : ProgramText) (s : Limits) (l : Ledger) (e : Event) : Type 0 where
+pub record IsAccepted (p : ProgramText) (s : SettingsValue) (l : Ledger) (e : EntryValue) : Type 0 where
   pub on : l.end ≡ None
   pub fuel : (is_fuel e.kind ≡ true) ⊎ (l.steps < s.fuel)
   pub worker : e.worker < s.workers
   pub allows : Allows p s l e.worker e.kind
 
 abbrev pub AcceptedIsAllowed : Type 0
-AcceptedIsAllowed = (p : ProgramText) (s : Limits) (l : Ledger) (e : Event) → (refusal p s l e ≡ None) ↔ IsAccepted p s l e
+AcceptedIsAllowed = (p : ProgramText) (s : SettingsValue) (l : Ledger) (e : EntryValue) → (refusal p s l e ≡ None) ↔ IsAccepted p s l e

@@ -1,7 +1,7 @@
 -- What the tests of legal and of paced journals mean, and how journals are cut.
 use Rattle.std.specs.Prelude.{◌≡◌, ◌↔◌, ◌⊎◌, ◌+◌, ◌≤◌, true, List, [], ◌∷◌, ◌++◌, Some, None, length, ℕ}
-use Rattle.run_trace.specs.Entry.{Event}
-use Rattle.run_trace.specs.Settings.{Limits}
+use Rattle.run_trace.specs.Entry.{EntryValue}
+use Rattle.run_trace.specs.Settings.{SettingsValue}
 use Rattle.hh_lang.specs.Form.{ProgramText}
 use Rattle.run_ledger.specs.declared.data.RefusedAt.{RefusedAt}
 use Rattle.run_trace.specs.declared.entry.Kind.TheVariants.{Ran, Mark, More, Sweep}
@@ -17,61 +17,61 @@ use Rattle.run_ledger.specs.Pace.{gives, owed, pace_of, pace_at_end, is_paced, m
 
 -- the test of legal journals is what is meant
 abbrev pub LegalIsUnrefused : Type 0
-LegalIsUnrefused = (p : ProgramText) (s : Limits) (journal : List Event) → (is_legal p s journal ≡ true) ↔ Legal p s journal
+LegalIsUnrefused = (p : ProgramText) (s : SettingsValue) (journal : List EntryValue) → (is_legal p s journal ≡ true) ↔ Legal p s journal
 
 -- wherever a journal is cut, the accounts of the whole go on from those of its first part, and so does legality
-pub record GoesOn (p : ProgramText) (s : Limits) (first rest : List Event) : Type 0 where
+pub record GoesOn (p : ProgramText) (s : SettingsValue) (first rest : List EntryValue) : Type 0 where
   pub accounts : ledger_of p s (first ++ rest) ≡ after_all p s (ledger_of p s first) rest
   pub legal : (is_legal p s (first ++ rest) ≡ true) ↔ ((is_legal p s first ≡ true) × (is_legal_from p s (ledger_of p s first) rest ≡ true))
 
 abbrev pub JournalsCanBeCut : Type 0
-JournalsCanBeCut = (p : ProgramText) (s : Limits) (first rest : List Event) → GoesOn p s first rest
+JournalsCanBeCut = (p : ProgramText) (s : SettingsValue) (first rest : List EntryValue) → GoesOn p s first rest
 
 -- an entry of fewer steps isn't refused where one of more isn't
 abbrev pub FewerStepsAreLegal : Type 0
 FewerStepsAreLegal =
-    (p : ProgramText) (s : Limits) (l : Ledger) (w t j k : ℕ) → j ≤ k → refusal p s l (record { worker = w; kind = Ran t k }) ≡ None
+    (p : ProgramText) (s : SettingsValue) (l : Ledger) (w t j k : ℕ) → j ≤ k → refusal p s l (record { worker = w; kind = Ran t k }) ≡ None
     → refusal p s l (record { worker = w; kind = Ran t j }) ≡ None
 
 -- the entry that is found as the first refused one: those before it are a legal journal, whose accounts refuse it for the
 -- cause that is named, and its number counts from 1
-pub record IsFirstRefused (p : ProgramText) (s : Limits) (journal : List Event) (r : RefusedAt) : Type 0 where
-  pub before : List Event
-  pub entry : Event
-  pub rest : List Event
+pub record IsFirstRefused (p : ProgramText) (s : SettingsValue) (journal : List EntryValue) (r : RefusedAt) : Type 0 where
+  pub before : List EntryValue
+  pub entry : EntryValue
+  pub rest : List EntryValue
   pub is : journal ≡ before ++ entry ∷ rest
   pub legal : is_legal p s before ≡ true
   pub cause : refusal p s (ledger_of p s before) entry ≡ Some r.cause
   pub index : r.index ≡ length before + 1
 
 -- there is a first refused entry just where the journal isn't legal
-pub record FindsRefused (p : ProgramText) (s : Limits) (journal : List Event) : Type 0 where
+pub record FindsRefused (p : ProgramText) (s : SettingsValue) (journal : List EntryValue) : Type 0 where
   pub none : (first_refused p s journal ≡ None) ↔ (is_legal p s journal ≡ true)
   pub some : (r : RefusedAt) → first_refused p s journal ≡ Some r → IsFirstRefused p s journal r
 
 abbrev pub FirstRefusedIsFirst : Type 0
-FirstRefusedIsFirst = (p : ProgramText) (s : Limits) (journal : List Event) → FindsRefused p s journal
+FirstRefusedIsFirst = (p : ProgramText) (s : SettingsValue) (journal : List EntryValue) → FindsRefused p s journal
 
 -- PACED JOURNALS
 
 -- in words: wherever a journal is cut before an entry, the entry ends the run for spent fuel or gives what its worker owes
 -- by what comes before it
-abbrev pub Paced : ProgramText → Limits → List Event → Type 0
+abbrev pub Paced : ProgramText → SettingsValue → List EntryValue → Type 0
 Paced p s journal =
-    (before : List Event) (e : Event) (rest : List Event) → journal ≡ before ++ e ∷ rest
+    (before : List EntryValue) (e : EntryValue) (rest : List EntryValue) → journal ≡ before ++ e ∷ rest
     → (is_fuel e.kind ≡ true) ⊎ (gives (owed s (ledger_of p s before) (pace_of (pace_at_end p s before) e.worker)) e.kind ≡ true)
 
 abbrev pub PacedIsMeant : Type 0
-PacedIsMeant = (p : ProgramText) (s : Limits) (journal : List Event) → (is_paced p s journal ≡ true) ↔ Paced p s journal
+PacedIsMeant = (p : ProgramText) (s : SettingsValue) (journal : List EntryValue) → (is_paced p s journal ≡ true) ↔ Paced p s journal
 
 -- the pace goes on: a paced journal with one entry more is paced, if that one ends the run for spent fuel or gives what is owed
 abbrev pub PaceGoesOn : Type 0
 PaceGoesOn =
-    (p : ProgramText) (s : Limits) (journal : List Event) (e : Event) → is_paced p s journal ≡ true
+    (p : ProgramText) (s : SettingsValue) (journal : List EntryValue) (e : EntryValue) → is_paced p s journal ≡ true
     → (is_fuel e.kind ≡ true) ⊎ (gives (owed s (ledger_of p s journal) (pace_of (pace_at_end p s journal) e.worker)) e.kind ≡ true) → is_paced p s (journal ++ e ∷ []) ≡ true
 
 -- an entry that gives what is owed isn't refused for what it says
-abbrev pub CanBeGiven : ProgramText → Limits → Ledger → ℕ → Owed → Type 0
+abbrev pub CanBeGiven : ProgramText → SettingsValue → Ledger → ℕ → Owed → Type 0
 CanBeGiven p s l w (OwesMark t) = kind_refusal p s l w (Mark t) ≡ None
 CanBeGiven p s l w (OwesMore t) = kind_refusal p s l w (More t marked_at_once) ≡ None
 CanBeGiven p s l w (OwesSweep t) = kind_refusal p s l w (Sweep t (sweep_number l.machine (heap_of l t))) ≡ None
@@ -80,5 +80,5 @@ CanBeGiven p s l w Nothing = Unit {0}
 -- so the pace never asks for an entry that isn't legal
 abbrev pub OwedCanBeGiven : Type 0
 OwedCanBeGiven =
-    (p : ProgramText) (s : Limits) (journal : List Event) (w : ℕ) → is_legal p s journal ≡ true
+    (p : ProgramText) (s : SettingsValue) (journal : List EntryValue) (w : ℕ) → is_legal p s journal ≡ true
     → let l = ledger_of p s journal in CanBeGiven p s l w (owed s l (pace_of (pace_at_end p s journal) w))

@@ -2,8 +2,8 @@
 use Rattle.std.specs.Prelude.{ℕ, ◌+◌, ◌==◌, ◌&&◌, not, Bool, true, false, Option, Some, None, List, [], ◌∷◌, ◌++◌, slice_get, if◌then◌else◌, nat_lt, nat_le, min, is_some, is_none}
 use Rattle.run_trace.specs.declared.entry.Kind.{Kind}
 use Rattle.run_trace.specs.declared.entry.Kind.TheVariants.{Took, Ran, Chunk, Begin, End, PutOff, Mark, More, Sweep, Fuel}
-use Rattle.run_trace.specs.Entry.{Event}
-use Rattle.run_trace.specs.Settings.{Limits}
+use Rattle.run_trace.specs.Entry.{EntryValue}
+use Rattle.run_trace.specs.Settings.{SettingsValue}
 use Rattle.hh_lang.specs.Form.{ProgramText}
 use Rattle.hh_model.specs.Step.{asked, is_running, is_waiting}
 use Rattle.run_ledger.specs.declared.data.Heap.{Heap}
@@ -64,11 +64,11 @@ abbrev pub on_marking : Ledger → ℕ → Option Refused → Option Refused
 on_marking l t rest = on_waiting l t (refused_unless (is_some (heap_of l t).marked) NotMarking rest)
 
 -- a leaf collection of t is due
-abbrev pub on_due : Limits → ProgramText → Ledger → ℕ → Option Refused → Option Refused
+abbrev pub on_due : SettingsValue → ProgramText → Ledger → ℕ → Option Refused → Option Refused
 on_due s p l t rest = refused_unless (is_due s p l t) (NotDue (heap_of l t).since) rest
 
 -- the chunks that are free are enough for a leaf collection of t
-abbrev pub is_pool_enough : Limits → Ledger → ℕ → Bool
+abbrev pub is_pool_enough : SettingsValue → Ledger → ℕ → Bool
 is_pool_enough s l t = nat_le (in_use l + take_of l.machine (heap_of l t)) s.chunks
 
 -- only so many of k steps can stand in one entry
@@ -80,7 +80,7 @@ abbrev pub ends_as : ℕ × ℕ × ℕ → ℕ × ℕ × ℕ → Option Refused
 ends_as said is = counted said.0 is.0 (counted said.1 is.1 (counted said.2 is.2 None))
 
 -- why an entry is refused for what it says, or none
-abbrev pub kind_refusal : ProgramText → Limits → Ledger → ℕ → Kind → Option Refused
+abbrev pub kind_refusal : ProgramText → SettingsValue → Ledger → ℕ → Kind → Option Refused
 kind_refusal p s l w (Took t) = refused_unless (is_ready l t) NotReady (refused_holding (held_from w 0 l.heaps) None)
 kind_refusal p s l w (Ran t k) = on_running l w t (long_at k (min most_steps (standing s p l t k)))
 kind_refusal p s l w (Chunk t) =
@@ -102,7 +102,7 @@ is_fuel Fuel = true
 is_fuel _ = false
 
 -- the first cause for which an entry is refused, or none
-abbrev pub refusal : ProgramText → Limits → Ledger → Event → Option Refused
+abbrev pub refusal : ProgramText → SettingsValue → Ledger → EntryValue → Option Refused
 refusal p s l e =
     refused_if (is_some l.end) Over (
     refused_if (nat_le s.fuel l.steps && not (is_fuel e.kind)) (Spent l.steps) (
@@ -124,14 +124,14 @@ with_chunk next h =
     else record h { reserved = chunk_units next }
 
 -- a chunk was asked for: the run ends where too few are free
-abbrev pub given_chunk : ProgramText → Limits → Ledger → ℕ → Ledger
+abbrev pub given_chunk : ProgramText → SettingsValue → Ledger → ℕ → Ledger
 given_chunk p s l t =
     if nat_lt s.chunks (in_use l + chunk_units (asked p l.machine t))
     then record l { end = Some (Pool (in_use l)) }
     else with_heap l t (with_chunk (asked p l.machine t))
 
 -- the accounts after an entry that isn't refused
-abbrev pub after_kind : ProgramText → Limits → Ledger → ℕ → Kind → Ledger
+abbrev pub after_kind : ProgramText → SettingsValue → Ledger → ℕ → Kind → Ledger
 after_kind p s l w (Took t) = with_heap l t (λ h. record h { worker = Some w })
 after_kind p s l w (Ran t k) = task_steps p l t k
 after_kind p s l w (Chunk t) = given_chunk p s l t
@@ -143,5 +143,5 @@ after_kind p s l w (More t n) = with_heap l t (λ h. record h { marked = Some (m
 after_kind p s l w (Sweep t given) = with_heap l t swept_heap
 after_kind p s l w Fuel = record l { end = Some (FuelEnd l.steps) }
 
-abbrev pub after : ProgramText → Limits → Ledger → Event → Ledger
+abbrev pub after : ProgramText → SettingsValue → Ledger → EntryValue → Ledger
 after p s l e = after_kind p s l e.worker e.kind

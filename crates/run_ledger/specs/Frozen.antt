@@ -3,8 +3,8 @@ use Rattle.std.specs.Prelude.{◌≡◌, ◌==◌, ℕ, Bool, true, false, List,
 use Rattle.std.specs.List.{IsDistinct}
 use Rattle.run_trace.specs.declared.entry.Kind.{Kind}
 use Rattle.run_trace.specs.declared.entry.Kind.TheVariants.{Ran, Begin}
-use Rattle.run_trace.specs.Entry.{Event}
-use Rattle.run_trace.specs.Settings.{Limits}
+use Rattle.run_trace.specs.Entry.{EntryValue}
+use Rattle.run_trace.specs.Settings.{SettingsValue}
 use Rattle.hh_lang.specs.Form.{ProgramText}
 use Rattle.hh_model.specs.declared.data.Name.{Name}
 use Rattle.hh_model.specs.Step.{can_step, is_waiting}
@@ -26,36 +26,36 @@ is_of_steps t (Ran u k) = u == t
 is_of_steps t _ = false
 
 -- none of these entries is of the kind that is asked for
-abbrev pub HasNone : (Kind → Bool) → List Event → Type 0
-HasNone test entries = (e : Event) → Contains entries e → test e.kind ≡ false
+abbrev pub HasNone : (Kind → Bool) → List EntryValue → Type 0
+HasNone test entries = (e : EntryValue) → Contains entries e → test e.kind ≡ false
 
 -- the last entry of a journal that began a leaf collection of t: the survivors are what was reached within its heap just before
-pub record BeganWith (p : ProgramText) (s : Limits) (journal : List Event) (t : ℕ) : Type 0 where
-  pub before : List Event
+pub record BeganWith (p : ProgramText) (s : SettingsValue) (journal : List EntryValue) (t : ℕ) : Type 0 where
+  pub before : List EntryValue
   pub worker : ℕ
-  pub rest : List Event
+  pub rest : List EntryValue
   pub is : journal ≡ before ++ record { worker = worker; kind = Begin t } ∷ rest
   pub last : HasNone (begins t) rest
   pub survivors : (heap_of (ledger_of p s journal) t).survivors ≡ within (ledger_of p s before) t
 
 abbrev pub SurvivorsAreWithin : Type 0
 SurvivorsAreWithin =
-    (p : ProgramText) (s : Limits) (journal : List Event) (t : ℕ) → is_legal p s journal ≡ true
+    (p : ProgramText) (s : SettingsValue) (journal : List EntryValue) (t : ℕ) → is_legal p s journal ≡ true
     → is_some (heap_of (ledger_of p s journal) t).begun ≡ true → BeganWith p s journal t
 
 -- the last entry of steps of t, which waits since: the snapshot is what is reached within its heap just after
-pub record ForkedWith (p : ProgramText) (s : Limits) (journal : List Event) (t : ℕ) : Type 0 where
-  pub before : List Event
+pub record ForkedWith (p : ProgramText) (s : SettingsValue) (journal : List EntryValue) (t : ℕ) : Type 0 where
+  pub before : List EntryValue
   pub worker : ℕ
   pub steps : ℕ
-  pub rest : List Event
+  pub rest : List EntryValue
   pub is : journal ≡ before ++ record { worker = worker; kind = Ran t steps } ∷ rest
   pub last : HasNone (is_of_steps t) rest
   pub snapshot : (heap_of (ledger_of p s journal) t).snapshot ≡ within (ledger_of p s (before ++ record { worker = worker; kind = Ran t steps } ∷ [])) t
 
 abbrev pub SnapshotsAreWithin : Type 0
 SnapshotsAreWithin =
-    (p : ProgramText) (s : Limits) (journal : List Event) (t : ℕ) → is_legal p s journal ≡ true
+    (p : ProgramText) (s : SettingsValue) (journal : List EntryValue) (t : ℕ) → is_legal p s journal ≡ true
     → is_waiting (slice_get (ledger_of p s journal).machine.tasks t) ≡ true → ForkedWith p s journal t
 
 -- a step after which its task waits is a fork, and sets down what was reached just before it
@@ -71,5 +71,5 @@ pub record HoldsSnapshot (l : Ledger) (t : ℕ) : Type 0 where
 
 abbrev pub SnapshotsAreHeld : Type 0
 SnapshotsAreHeld =
-    (p : ProgramText) (s : Limits) (journal : List Event) (t : ℕ) → is_legal p s journal ≡ true
+    (p : ProgramText) (s : SettingsValue) (journal : List EntryValue) (t : ℕ) → is_legal p s journal ≡ true
     → let l = ledger_of p s journal in is_waiting (slice_get l.machine.tasks t) ≡ true → HoldsSnapshot l t

@@ -3,8 +3,8 @@ use Rattle.std.specs.Prelude.{◌≡◌, ℕ, ◌+◌, ◌&&◌, Bool, true, Opt
 use Rattle.std.specs.List.{flat_map}
 use Rattle.run_trace.specs.declared.entry.Kind.{Kind}
 use Rattle.run_trace.specs.declared.entry.Kind.TheVariants.{Ran}
-use Rattle.run_trace.specs.Entry.{Event}
-use Rattle.run_trace.specs.Settings.{Limits, field_limit}
+use Rattle.run_trace.specs.Entry.{EntryValue}
+use Rattle.run_trace.specs.Settings.{SettingsValue, field_limit}
 use Rattle.hh_lang.specs.Form.{ProgramText}
 use Rattle.hh_model.specs.declared.data.State.{State}
 use Rattle.hh_model.specs.Step.{start, run}
@@ -19,19 +19,19 @@ use Rattle.run_ledger.specs.Entries.{refusal, after}
 -- ACCOUNTS
 
 -- the accounts of a run before its first entry
-abbrev pub opening : ProgramText → Limits → Ledger
+abbrev pub opening : ProgramText → SettingsValue → Ledger
 opening p s = record { machine = start p (field_limit s.version); heaps = fresh ∷ []; steps = 0; end = None }
 
-abbrev pub after_all : ProgramText → Limits → Ledger → List Event → Ledger
+abbrev pub after_all : ProgramText → SettingsValue → Ledger → List EntryValue → Ledger
 after_all p s l [] = l
 after_all p s l (e ∷ es) = after_all p s (after p s l e) es
 
 -- the accounts of a journal
-abbrev pub ledger_of : ProgramText → Limits → List Event → Ledger
+abbrev pub ledger_of : ProgramText → SettingsValue → List EntryValue → Ledger
 ledger_of p s journal = after_all p s (opening p s) journal
 
 -- how a journal ends, if it does: as its machine, for spent fuel, or for want of chunks
-abbrev pub end_of : ProgramText → Limits → List Event → Option RunEnd
+abbrev pub end_of : ProgramText → SettingsValue → List EntryValue → Option RunEnd
 end_of p s journal = (ledger_of p s journal).end
 
 -- STEPS
@@ -42,31 +42,31 @@ tasks_in (Ran t k) = replicate k t
 tasks_in _ = []
 
 -- the tasks of a journal's steps, in order
-abbrev pub tasks_of : List Event → List ℕ
+abbrev pub tasks_of : List EntryValue → List ℕ
 tasks_of journal = flat_map (λ e. tasks_in e.kind) journal
 
 -- the machine that never collects, over a journal's steps
-abbrev pub machine_of : ProgramText → Limits → List Event → State
+abbrev pub machine_of : ProgramText → SettingsValue → List EntryValue → State
 machine_of p s journal = run p (field_limit s.version) (tasks_of journal)
 
 -- LEGAL JOURNALS
 
 -- no entry is refused after the entries before it
-abbrev pub is_legal_from : ProgramText → Limits → Ledger → List Event → Bool
+abbrev pub is_legal_from : ProgramText → SettingsValue → Ledger → List EntryValue → Bool
 is_legal_from p s l [] = true
 is_legal_from p s l (e ∷ es) = is_none (refusal p s l e) && is_legal_from p s (after p s l e) es
 
-abbrev pub is_legal : ProgramText → Limits → List Event → Bool
+abbrev pub is_legal : ProgramText → SettingsValue → List EntryValue → Bool
 is_legal p s journal = is_legal_from p s (opening p s) journal
 
 -- the same in words: wherever the journal is cut before an entry, the accounts of what comes before don't refuse it
-abbrev pub Legal : ProgramText → Limits → List Event → Type 0
+abbrev pub Legal : ProgramText → SettingsValue → List EntryValue → Type 0
 Legal p s journal =
-    (before : List Event) (e : Event) (rest : List Event) → journal ≡ before ++ e ∷ rest → refusal p s (ledger_of p s before) e ≡ None
+    (before : List EntryValue) (e : EntryValue) (rest : List EntryValue) → journal ≡ before ++ e ∷ rest → refusal p s (ledger_of p s before) e ≡ None
 
 -- the first part of a journal
-abbrev pub IsPrefix : List Event → List Event → Type 0
-IsPrefix first journal = (rest : List Event) × (journal ≡ first ++ rest)
+abbrev pub IsPrefix : List EntryValue → List EntryValue → Type 0
+IsPrefix first journal = (rest : List EntryValue) × (journal ≡ first ++ rest)
 
 -- THE FIRST REFUSED ENTRY
 
@@ -75,12 +75,12 @@ refused_or None at rest = rest
 refused_or (Some cause) at rest = Some (record { index = at; cause = cause })
 
 -- the first refused entry, where the entries are counted on from this number
-abbrev pub first_refused_from : ProgramText → Limits → Ledger → ℕ → List Event → Option RefusedAt
+abbrev pub first_refused_from : ProgramText → SettingsValue → Ledger → ℕ → List EntryValue → Option RefusedAt
 first_refused_from p s l at [] = None
 first_refused_from p s l at (e ∷ es) = refused_or (refusal p s l e) at (first_refused_from p s (after p s l e) (at + 1) es)
 
 -- the first refused entry, counted from 1, with its cause
-abbrev pub first_refused : ProgramText → Limits → List Event → Option RefusedAt
+abbrev pub first_refused : ProgramText → SettingsValue → List EntryValue → Option RefusedAt
 first_refused p s journal = first_refused_from p s (opening p s) 1 journal
 
 abbrev pub or_short : Option RefusedAt → Option RunEnd → ℕ → Option RefusedAt
@@ -90,5 +90,5 @@ or_short None None at = Some (record { index = at; cause = Short })
 
 -- why a journal isn't one of a whole run: its first refused entry, or, where none is and it has no end, one past its last
 -- entry as short
-abbrev pub refused_as_run : ProgramText → Limits → List Event → Option RefusedAt
+abbrev pub refused_as_run : ProgramText → SettingsValue → List EntryValue → Option RefusedAt
 refused_as_run p s journal = or_short (first_refused p s journal) (end_of p s journal) (length journal + 1)

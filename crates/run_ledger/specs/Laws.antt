@@ -1,11 +1,11 @@
 -- The laws of journals.
 use Rattle.std.specs.Prelude.{◌≡◌, ◌↔◌, ◌⊎◌, ◌+◌, ℕ, true, List, [], ◌∷◌, Some, slice_get, Contains, None, length, is_some, ◌++◌}
 use Rattle.std.specs.List.{IsDistinct}
-use Rattle.walks.specs.Reached.{IsReached}
+use Rattle.walk_laws.specs.Reached.{IsReached}
 use Rattle.run_trace.specs.declared.entry.Kind.{Kind}
 use Rattle.run_trace.specs.declared.entry.Kind.TheVariants.{End, Sweep}
-use Rattle.run_trace.specs.Entry.{Event}
-use Rattle.run_trace.specs.Settings.{Limits}
+use Rattle.run_trace.specs.Entry.{EntryValue}
+use Rattle.run_trace.specs.Settings.{SettingsValue}
 use Rattle.hh_lang.specs.Form.{ProgramText}
 use Rattle.hh_model.specs.declared.data.Name.{Name}
 use Rattle.hh_model.specs.declared.data.Object.{Object}
@@ -32,19 +32,19 @@ ReachedIsWalks =
 
 -- the ledger's machine is the machine that never collects, over the journal's steps
 abbrev pub MachineIsRun : Type 0
-MachineIsRun = (p : ProgramText) (s : Limits) (journal : List Event) → (ledger_of p s journal).machine ≡ machine_of p s journal
+MachineIsRun = (p : ProgramText) (s : SettingsValue) (journal : List EntryValue) → (ledger_of p s journal).machine ≡ machine_of p s journal
 
 -- and each step and each entry moves it by its steps alone
 abbrev pub StepsMoveMachine : Type 0
 StepsMoveMachine = (p : ProgramText) (l : Ledger) (t : ℕ) → (task_step p l t).machine ≡ step p l.machine t
 
 abbrev pub EntriesMoveMachine : Type 0
-EntriesMoveMachine = (p : ProgramText) (s : Limits) (l : Ledger) (e : Event) → (after p s l e).machine ≡ run_from p l.machine (tasks_in e.kind)
+EntriesMoveMachine = (p : ProgramText) (s : SettingsValue) (l : Ledger) (e : EntryValue) → (after p s l e).machine ≡ run_from p l.machine (tasks_in e.kind)
 
 -- where the run goes on so does the machine
 abbrev pub MachineGoesOn : Type 0
 MachineGoesOn =
-    (p : ProgramText) (s : Limits) (journal : List Event) → let l = ledger_of p s journal in l.end ≡ None → l.machine.end ≡ None
+    (p : ProgramText) (s : SettingsValue) (journal : List EntryValue) → let l = ledger_of p s journal in l.end ≡ None → l.machine.end ≡ None
 
 -- NOTHING REACHABLE IS FREED
 
@@ -67,7 +67,7 @@ pub record KeepsReachable (l : Ledger) : Type 0 where
 
 abbrev pub NothingReachableIsFreed : Type 0
 NothingReachableIsFreed =
-    (p : ProgramText) (s : Limits) (journal : List Event) → is_legal p s journal ≡ true → KeepsReachable (ledger_of p s journal)
+    (p : ProgramText) (s : SettingsValue) (journal : List EntryValue) → is_legal p s journal ≡ true → KeepsReachable (ledger_of p s journal)
 
 -- WHAT IS REACHED WITHIN A HEAP
 
@@ -86,7 +86,7 @@ IsAtWork l t = (is_running (slice_get l.machine.tasks t) ≡ true) ⊎ (is_waiti
 -- after a legal journal it makes no difference that only held names are walked through
 abbrev pub WithinIsOwned : Type 0
 WithinIsOwned =
-    (p : ProgramText) (s : Limits) (journal : List Event) → is_legal p s journal ≡ true
+    (p : ProgramText) (s : SettingsValue) (journal : List EntryValue) → is_legal p s journal ≡ true
     → let l = ledger_of p s journal in (t : ℕ) (n : Name) → IsAtWork l t → Contains (within l t) n ↔ IsReached (StartsOwned l t) (LeadsOwned l t) n
 
 -- and what is reached within a heap depends on nothing of the accounts but the names that are held: not on who holds a task,
@@ -104,7 +104,7 @@ pub record HoldsOnce (l : Ledger) : Type 0 where
   pub stored : (n : Name) → Contains (held l) n → IsStored l.machine n
 
 abbrev pub NamesAreHeldOnce : Type 0
-NamesAreHeldOnce = (p : ProgramText) (s : Limits) (journal : List Event) → is_legal p s journal ≡ true → HoldsOnce (ledger_of p s journal)
+NamesAreHeldOnce = (p : ProgramText) (s : SettingsValue) (journal : List EntryValue) → is_legal p s journal ≡ true → HoldsOnce (ledger_of p s journal)
 
 -- WHAT A COLLECTION KEEPS
 
@@ -134,12 +134,12 @@ pub record HoldsTasks (l : Ledger) : Type 0 where
   pub collecting : (t : ℕ) → is_some (heap_of l t).begun ≡ true → is_some (heap_of l t).worker ≡ true
 
 abbrev pub TasksAreHeldOnce : Type 0
-TasksAreHeldOnce = (p : ProgramText) (s : Limits) (journal : List Event) → is_legal p s journal ≡ true → HoldsTasks (ledger_of p s journal)
+TasksAreHeldOnce = (p : ProgramText) (s : SettingsValue) (journal : List EntryValue) → is_legal p s journal ≡ true → HoldsTasks (ledger_of p s journal)
 
 -- a task that waits is held by nobody, whether or not the run has ended
 abbrev pub WaitersAreFree : Type 0
 WaitersAreFree =
-    (p : ProgramText) (s : Limits) (journal : List Event) → is_legal p s journal ≡ true
+    (p : ProgramText) (s : SettingsValue) (journal : List EntryValue) → is_legal p s journal ≡ true
     → let l = ledger_of p s journal in (t : ℕ) → is_waiting (slice_get l.machine.tasks t) ≡ true → (heap_of l t).worker ≡ None
 
 -- WHAT A STEP CHANGES
@@ -168,7 +168,7 @@ pub record LeavesTask (l after : Ledger) (u : ℕ) : Type 0 where
 
 abbrev pub EntriesLeaveOthers : Type 0
 EntriesLeaveOthers =
-    (p : ProgramText) (s : Limits) (before rest : List Event) (e : Event) (u v : ℕ) → is_legal p s (before ++ e ∷ rest) ≡ true
+    (p : ProgramText) (s : SettingsValue) (before rest : List EntryValue) (e : EntryValue) (u v : ℕ) → is_legal p s (before ++ e ∷ rest) ≡ true
     → let l = ledger_of p s before in (heap_of l u).worker ≡ Some v → (v ≡ e.worker → ⊥) → LeavesTask l (after p s l e) u
 
 -- WHAT IS HELD
@@ -181,12 +181,12 @@ Drops l (Sweep t given) n = IsStored l.machine n × (owner_of l.machine.tasks n.
 Drops l _ n = ⊥
 
 -- one of the entries drops it, by the accounts before that entry
-abbrev pub IsDropped : ProgramText → Limits → Ledger → List Event → Name → Type 0
+abbrev pub IsDropped : ProgramText → SettingsValue → Ledger → List EntryValue → Name → Type 0
 IsDropped p s l [] n = ⊥
 IsDropped p s l (e ∷ es) n = Drops l e.kind n ⊎ IsDropped p s (after p s l e) es n
 
 -- held is what was allocated and wasn't dropped
 abbrev pub HeldIsUndropped : Type 0
 HeldIsUndropped =
-    (p : ProgramText) (s : Limits) (journal : List Event) → is_legal p s journal ≡ true → (n : Name)
+    (p : ProgramText) (s : SettingsValue) (journal : List EntryValue) → is_legal p s journal ≡ true → (n : Name)
     → Contains (held (ledger_of p s journal)) n ↔ (IsStored (ledger_of p s journal).machine n × (IsDropped p s (opening p s) journal n → ⊥))

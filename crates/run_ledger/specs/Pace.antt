@@ -2,8 +2,8 @@
 use Rattle.std.specs.Prelude.{ℕ, ◌==◌, ◌&&◌, ◌||◌, not, Bool, true, false, Option, Some, None, List, [], ◌∷◌, ◌++◌, slice_get, slice_set, if◌then◌else◌, nat_le, replicate, is_none}
 use Rattle.run_trace.specs.declared.entry.Kind.{Kind}
 use Rattle.run_trace.specs.declared.entry.Kind.TheVariants.{Ran, Mark, More, Sweep}
-use Rattle.run_trace.specs.Entry.{Event}
-use Rattle.run_trace.specs.Settings.{Limits}
+use Rattle.run_trace.specs.Entry.{EntryValue}
+use Rattle.run_trace.specs.Settings.{SettingsValue}
 use Rattle.hh_lang.specs.Form.{ProgramText}
 use Rattle.hh_model.specs.declared.data.Strand.{Strand}
 use Rattle.hh_model.specs.declared.data.Task.{Task}
@@ -34,7 +34,7 @@ abbrev pub is_unmarked : Heap → Bool
 is_unmarked h = is_none h.marked && not h.swept
 
 -- the heap that waits on this fork isn't marked, and has the words for it
-abbrev pub is_to_mark : Limits → Ledger → Strand → Bool
+abbrev pub is_to_mark : SettingsValue → Ledger → Strand → Bool
 is_to_mark s l fork = waits_on l fork && (is_unmarked (heap_of l fork.task) && nat_le s.inner (words_in l.machine (heap_of l fork.task)))
 
 -- a marking that began after this fork is neither given up nor swept
@@ -53,13 +53,13 @@ owed_to_marks l (fork ∷ forks) = if is_under_way l fork then more_of l fork.ta
 
 -- after steps that forked, the marking of the heap that waits comes first, where it is to be marked; after any steps, the
 -- worker's last marking that is under way goes on
-abbrev pub owed_after : Limits → Ledger → List Strand → Previous → Owed
+abbrev pub owed_after : SettingsValue → Ledger → List Strand → Previous → Owed
 owed_after s l marks Other = Nothing
 owed_after s l marks RanBefore = owed_to_marks l marks
 owed_after s l marks (Forked fork) = if is_to_mark s l fork then OwesMark fork.task else owed_to_marks l marks
 
 -- what the worker's next entry is to be
-abbrev pub owed : Limits → Ledger → WorkerPace → Owed
+abbrev pub owed : SettingsValue → Ledger → WorkerPace → Owed
 owed s l x = owed_after s l x.marks x.previous
 
 -- WHAT IS KEPT OF EACH WORKER
@@ -74,7 +74,7 @@ or_idle (Some x) = x
 abbrev pub pace_of : List WorkerPace → ℕ → WorkerPace
 pace_of pace w = or_idle (slice_get pace w)
 
-abbrev pub pace_opening : Limits → List WorkerPace
+abbrev pub pace_opening : SettingsValue → List WorkerPace
 pace_opening s = replicate s.workers idle
 
 -- steps of t were made: they forked it if it waits now
@@ -92,7 +92,7 @@ noted l x (Ran t k) = record x { previous = previous_by t (slice_get l.machine.t
 noted l x (Mark t) = record { previous = Other; marks = fork_of t (slice_get l.machine.tasks t) ++ x.marks }
 noted l x _ = record x { previous = Other }
 
-abbrev pub pace_after : Ledger → List WorkerPace → Event → List WorkerPace
+abbrev pub pace_after : Ledger → List WorkerPace → EntryValue → List WorkerPace
 pace_after l pace e = slice_set pace e.worker (noted l (pace_of pace e.worker) e.kind)
 
 -- PACED JOURNALS
@@ -121,19 +121,19 @@ gives (OwesSweep t) kind = is_sweep_of t kind
 gives Nothing kind = true
 
 -- each entry gives what its worker owes by the accounts just before it, or ends the run for spent fuel
-abbrev pub is_paced_from : ProgramText → Limits → Ledger → List WorkerPace → List Event → Bool
+abbrev pub is_paced_from : ProgramText → SettingsValue → Ledger → List WorkerPace → List EntryValue → Bool
 is_paced_from p s l pace [] = true
 is_paced_from p s l pace (e ∷ es) =
     (is_fuel e.kind || gives (owed s l (pace_of pace e.worker)) e.kind)
     && is_paced_from p s (after p s l e) (pace_after (after p s l e) pace e) es
 
-abbrev pub is_paced : ProgramText → Limits → List Event → Bool
+abbrev pub is_paced : ProgramText → SettingsValue → List EntryValue → Bool
 is_paced p s journal = is_paced_from p s (opening p s) (pace_opening s) journal
 
-abbrev pub pace_after_all : ProgramText → Limits → Ledger → List WorkerPace → List Event → List WorkerPace
+abbrev pub pace_after_all : ProgramText → SettingsValue → Ledger → List WorkerPace → List EntryValue → List WorkerPace
 pace_after_all p s l pace [] = pace
 pace_after_all p s l pace (e ∷ es) = pace_after_all p s (after p s l e) (pace_after (after p s l e) pace e) es
 
 -- what is kept of each worker after a journal
-abbrev pub pace_at_end : ProgramText → Limits → List Event → List WorkerPace
+abbrev pub pace_at_end : ProgramText → SettingsValue → List EntryValue → List WorkerPace
 pace_at_end p s journal = pace_after_all p s (opening p s) (pace_opening s) journal

@@ -1,7 +1,7 @@
 -- What is reached from some names within a heap.
 use Rattle.std.specs.Prelude.{ℕ, zero, suc, ◌==◌, ◌&&◌, ◌||◌, Bool, List, length, filter, Contains}
 use Rattle.std.specs.List.{list_any}
-use Rattle.walks.specs.Reached.{IsReached}
+use Rattle.walk_laws.specs.Reached.{IsReached}
 use Rattle.hh_model.specs.declared.data.Name.{Name}
 use Rattle.hh_model.specs.declared.data.Object.{Object}
 use Rattle.hh_model.specs.Names.{refs_at}

@@ -2,8 +2,8 @@
 use Rattle.std.specs.Prelude.{ℕ, ◌+◌, ◌-◌, List, [], ◌∷◌, ◌++◌, slice_get, length, if◌then◌else◌, max}
 use Rattle.run_trace.specs.declared.entry.Kind.{Kind}
 use Rattle.run_trace.specs.declared.entry.Kind.TheVariants.{End, PutOff, Sweep}
-use Rattle.run_trace.specs.Entry.{Event}
-use Rattle.run_trace.specs.Settings.{Limits}
+use Rattle.run_trace.specs.Entry.{EntryValue}
+use Rattle.run_trace.specs.Settings.{SettingsValue}
 use Rattle.hh_lang.specs.Form.{ProgramText}
 use Rattle.hh_model.specs.declared.data.Name.{Name}
 use Rattle.hh_model.specs.declared.data.Task.{Task}
@@ -16,7 +16,7 @@ use Rattle.run_ledger.specs.Entries.{after}
 use Rattle.run_ledger.specs.Journals.{opening, ledger_of}
 
 -- the sum over a journal of what each entry counts, by the accounts before it
-abbrev pub tally : ProgramText → Limits → (Ledger → Kind → ℕ) → Ledger → List Event → ℕ
+abbrev pub tally : ProgramText → SettingsValue → (Ledger → Kind → ℕ) → Ledger → List EntryValue → ℕ
 tally p s count l [] = 0
 tally p s count l (e ∷ es) = count l e.kind + tally p s count (after p s l e) es
 
@@ -47,7 +47,7 @@ freed_by_sweep l (Sweep t given) = lost l t swept_heap
 freed_by_sweep l _ = 0
 
 -- the most chunks in use after any entry, and 0 without one
-abbrev pub peak_from : ProgramText → Limits → Ledger → List Event → ℕ
+abbrev pub peak_from : ProgramText → SettingsValue → Ledger → List EntryValue → ℕ
 peak_from p s l [] = 0
 peak_from p s l (e ∷ es) = max (in_use (after p s l e)) (peak_from p s (after p s l e) es)
 
@@ -60,7 +60,7 @@ abbrev pub kept : Ledger → List Name
 kept l = kept_from l.machine.tasks l.heaps 0
 
 -- what a journal came to
-abbrev pub report_of : ProgramText → Limits → List Event → Report
+abbrev pub report_of : ProgramText → SettingsValue → List EntryValue → Report
 report_of p s journal =
     let first = opening p s in
     let last = ledger_of p s journal in record {

@@ -1,8 +1,8 @@
 -- Sound accounts: what every legal journal keeps of its heaps.
 use Rattle.std.specs.Prelude.{◌≡◌, ℕ, ◌<◌, Bool, true, false, Option, Some, None, List, [], length, slice_get, is_some}
 use Rattle.listed.specs.Members.{In}
-use Rattle.run_trace.specs.Entry.{Event}
-use Rattle.run_trace.specs.Settings.{Limits}
+use Rattle.run_trace.specs.Entry.{EntryValue}
+use Rattle.run_trace.specs.Settings.{SettingsValue}
 use Rattle.hh_lang.specs.Form.{ProgramText}
 use Rattle.hh_model.specs.declared.data.Name.{Name}
 use Rattle.hh_model.specs.declared.data.Object.{Object}
@@ -75,11 +75,11 @@ abbrev pub SoundLedger : Ledger → Type 0
 SoundLedger l = Sound l.machine.tasks l.machine.edges l.machine.store l.heaps
 
 abbrev pub JournalsAreSound : Type 0
-JournalsAreSound = (p : ProgramText) (s : Limits) (journal : List Event) → is_legal p s journal ≡ true → SoundLedger (ledger_of p s journal)
+JournalsAreSound = (p : ProgramText) (s : SettingsValue) (journal : List EntryValue) → is_legal p s journal ≡ true → SoundLedger (ledger_of p s journal)
 
 -- an entry that isn't refused keeps accounts sound
 abbrev pub EntriesKeepSound : Type 0
-EntriesKeepSound = (p : ProgramText) (s : Limits) (l : Ledger) (e : Event) → SoundLedger l → refusal p s l e ≡ None → SoundLedger (after p s l e)
+EntriesKeepSound = (p : ProgramText) (s : SettingsValue) (l : Ledger) (e : EntryValue) → SoundLedger l → refusal p s l e ≡ None → SoundLedger (after p s l e)
 
 -- so does a change of a heap's account that leaves its names, its collection and what was set down at the fork
 abbrev pub ChangesKeepSound : Type 0

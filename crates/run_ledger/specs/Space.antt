@@ -1,8 +1,8 @@
 -- Laws of space by count.
 use Rattle.std.specs.Prelude.{◌≡◌, ℕ, ◌+◌, ◌*◌, ◌<◌, ◌≤◌, true, false, List, [], ◌∷◌, ◌++◌, Some, length, Contains, sum_by}
 use Rattle.run_trace.specs.declared.entry.Kind.TheVariants.{Ran, End, Sweep}
-use Rattle.run_trace.specs.Entry.{Event}
-use Rattle.run_trace.specs.Settings.{Limits, field_limit}
+use Rattle.run_trace.specs.Entry.{EntryValue}
+use Rattle.run_trace.specs.Settings.{SettingsValue, field_limit}
 use Rattle.hh_lang.specs.Form.{ProgramText, IsProgram}
 use Rattle.hh_model.specs.declared.data.Name.{Name}
 use Rattle.hh_model.specs.declared.data.Object.{Object}
@@ -20,18 +20,18 @@ use Rattle.run_ledger.specs.Report.{report_of}
 
 -- the steps of a legal journal are at most the fuel and 256 more
 abbrev pub StepsAreBounded : Type 0
-StepsAreBounded = (p : ProgramText) (s : Limits) (journal : List Event) → is_legal p s journal ≡ true → (ledger_of p s journal).steps ≤ s.fuel + 256
+StepsAreBounded = (p : ProgramText) (s : SettingsValue) (journal : List EntryValue) → is_legal p s journal ≡ true → (ledger_of p s journal).steps ≤ s.fuel + 256
 
 -- before each allocation among k steps of t, its words since the last collection are below the limit, and the object has
 -- its place
-abbrev pub AllocatesInBounds : ProgramText → Limits → Ledger → ℕ → ℕ → Type 0
+abbrev pub AllocatesInBounds : ProgramText → SettingsValue → Ledger → ℕ → ℕ → Type 0
 AllocatesInBounds p s l t k =
     (j w : ℕ) → j < k → asked p (task_steps p l t j).machine t ≡ Some w
     → let h = heap_of (task_steps p l t j) t in (h.since < s.leaf) × (lacks_room h w ≡ false)
 
 abbrev pub AllocationsAreInBounds : Type 0
 AllocationsAreInBounds =
-    (p : ProgramText) (s : Limits) (before rest : List Event) (w t k : ℕ) → is_legal p s (before ++ record { worker = w; kind = Ran t k } ∷ rest) ≡ true
+    (p : ProgramText) (s : SettingsValue) (before rest : List EntryValue) (w t k : ℕ) → is_legal p s (before ++ record { worker = w; kind = Ran t k } ∷ rest) ≡ true
     → AllocatesInBounds p s (ledger_of p s before) t k
 
 -- each list has a name
@@ -49,8 +49,8 @@ pub record CollectedWithin (l after : Ledger) (t : ℕ) : Type 0 where
 
 abbrev pub LeafCollectionsAreBounded : Type 0
 LeafCollectionsAreBounded =
-    (p : ProgramText) (s : Limits) (before rest : List Event) (w t taken given left : ℕ)
-    → let e : Event = record { worker = w; kind = End t taken given left } in
+    (p : ProgramText) (s : SettingsValue) (before rest : List EntryValue) (w t taken given left : ℕ)
+    → let e : EntryValue = record { worker = w; kind = End t taken given left } in
     is_legal p s (before ++ e ∷ rest) ≡ true → CollectedWithin (ledger_of p s before) (after p s (ledger_of p s before) e) t
 
 -- a sweep of t's heap, by the accounts after it: each chunk has a name, and none waits for a large object
@@ -60,17 +60,17 @@ pub record SweptWithin (after : Ledger) (t : ℕ) : Type 0 where
 
 abbrev pub SweepsAreBounded : Type 0
 SweepsAreBounded =
-    (p : ProgramText) (s : Limits) (before rest : List Event) (w t given : ℕ)
-    → let e : Event = record { worker = w; kind = Sweep t given } in
+    (p : ProgramText) (s : SettingsValue) (before rest : List EntryValue) (w t given : ℕ)
+    → let e : EntryValue = record { worker = w; kind = Sweep t given } in
     is_legal p s (before ++ e ∷ rest) ≡ true → SweptWithin (after p s (ledger_of p s before) e) t
 
 -- the chunks in use never exceed the limit, neither at the end nor before
-pub record UsesFew (p : ProgramText) (s : Limits) (journal : List Event) : Type 0 where
+pub record UsesFew (p : ProgramText) (s : SettingsValue) (journal : List EntryValue) : Type 0 where
   pub now : in_use (ledger_of p s journal) ≤ s.chunks
   pub peak : (report_of p s journal).peak ≤ s.chunks
 
 abbrev pub UseIsBounded : Type 0
-UseIsBounded = (p : ProgramText) (s : Limits) (journal : List Event) → is_legal p s journal ≡ true → UsesFew p s journal
+UseIsBounded = (p : ProgramText) (s : SettingsValue) (journal : List EntryValue) → is_legal p s journal ≡ true → UsesFew p s journal
 
 -- with this limit on the fields of objects, no step of the program asks for more words than so many
 abbrev pub AsksAtMost : ProgramText → ℕ → ℕ → Type 0
@@ -82,23 +82,23 @@ ProgramsAskFew = (p : ProgramText) → IsProgram p → (limit : ℕ) → AsksAtM
 
 -- so the words that a heap counts since its last leaf collection are at most so many for each step taken, in both versions of
 -- the trace
-pub record CountsFew (s : Limits) (l : Ledger) : Type 0 where
+pub record CountsFew (s : SettingsValue) (l : Ledger) : Type 0 where
   pub by_steps : (t : ℕ) → (heap_of l t).since ≤ (field_limit s.version + 34) * l.steps
   pub below : (t : ℕ) → (heap_of l t).since ≤ 1000034 * l.steps
 
 -- after a legal journal, and after any steps of a task then that isn't amid a leaf collection
 abbrev pub SinceIsBounded : Type 0
 SinceIsBounded =
-    (p : ProgramText) (s : Limits) (journal : List Event) → IsProgram p → is_legal p s journal ≡ true
+    (p : ProgramText) (s : SettingsValue) (journal : List EntryValue) → IsProgram p → is_legal p s journal ≡ true
     → let l = ledger_of p s journal in CountsFew s l × ((t k : ℕ) → SoundAt t l → CountsFew s (task_steps p l t k))
 
 -- the steps of a journal's accounts are those of its entries, and bound the tasks, objects and joins
-pub record IsCountedBy (l : Ledger) (journal : List Event) : Type 0 where
+pub record IsCountedBy (l : Ledger) (journal : List EntryValue) : Type 0 where
   pub steps : l.steps ≡ length (tasks_of journal)
   pub counts : Counted l.steps l.machine.tasks l.machine.store
 
 abbrev pub JournalsAreCounted : Type 0
-JournalsAreCounted = (p : ProgramText) (s : Limits) (journal : List Event) → IsCountedBy (ledger_of p s journal) journal
+JournalsAreCounted = (p : ProgramText) (s : SettingsValue) (journal : List EntryValue) → IsCountedBy (ledger_of p s journal) journal
 
 -- the words in the last list, and none without one
 abbrev pub last_words : State → List (List Name) → ℕ
@@ -117,7 +117,7 @@ pub record AllFit (l : Ledger) : Type 0 where
   pub words : words_sum l.machine (held l) ≤ chunk_words * in_use l
 
 abbrev pub HeapsFit : Type 0
-HeapsFit = (p : ProgramText) (s : Limits) (journal : List Event) → is_legal p s journal ≡ true → AllFit (ledger_of p s journal)
+HeapsFit = (p : ProgramText) (s : SettingsValue) (journal : List EntryValue) → is_legal p s journal ≡ true → AllFit (ledger_of p s journal)
 
 -- the words of all objects of a store
 abbrev pub store_words : List (List Object) → ℕ
@@ -126,6 +126,6 @@ store_words store = sum_by (λ row. sum_by (λ o. words_of (Some o)) row) store
 -- each word that was allocated is held, or the end of a leaf collection or a sweep has dropped it
 abbrev pub WordsAreAccounted : Type 0
 WordsAreAccounted =
-    (p : ProgramText) (s : Limits) (journal : List Event) → is_legal p s journal ≡ true
+    (p : ProgramText) (s : SettingsValue) (journal : List EntryValue) → is_legal p s journal ≡ true
     → let l = ledger_of p s journal in
     let r = report_of p s journal in r.leaf_freed + r.inner_freed + words_sum l.machine (held l) ≡ store_words l.machine.store

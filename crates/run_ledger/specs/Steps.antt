@@ -1,6 +1,6 @@
 -- The accounts of a task's steps: allocations, forks, ends and joins; and which steps are private, due or in need.
 use Rattle.std.specs.Prelude.{ℕ, zero, suc, ◌+◌, ◌-◌, ◌==◌, ◌&&◌, ◌||◌, not, Bool, true, false, Option, Some, None, List, [], ◌∷◌, ◌++◌, slice_get, length, if◌then◌else◌, nat_le, is_none}
-use Rattle.run_trace.specs.Settings.{Limits}
+use Rattle.run_trace.specs.Settings.{SettingsValue}
 use Rattle.hh_lang.specs.declared.instr.Instr.{Instr}
 use Rattle.hh_lang.specs.declared.instr.Instr.TheVariants.{Getr, Geti, Putr, Puti, Cntr, Cnti, Freeze, Cas, Par, Ret, Out}
 use Rattle.hh_lang.specs.declared.program.Line.{Line}
@@ -147,7 +147,7 @@ on_asked None test = false
 on_asked (Some w) test = test w
 
 -- the next step allocates, and a leaf collection is due
-abbrev pub is_due : Limits → ProgramText → Ledger → ℕ → Bool
+abbrev pub is_due : SettingsValue → ProgramText → Ledger → ℕ → Bool
 is_due s p l t = on_asked (asked p l.machine t) (λ w. nat_le s.leaf (heap_of l t).since)
 
 -- the next step allocates, and its object has no place yet
@@ -162,7 +162,7 @@ most_steps = 257
 
 -- how many of the next k steps of a task can stand in one entry, its limit left aside: those before the first that is due
 -- or in need, up to the first that isn't private
-abbrev pub standing : Limits → ProgramText → Ledger → ℕ → ℕ → ℕ
+abbrev pub standing : SettingsValue → ProgramText → Ledger → ℕ → ℕ → ℕ
 standing s p l t zero = 0
 standing s p l t (suc k) =
     if is_due s p l t || is_in_need p l t then 0

@@ -2,8 +2,8 @@
 use Rattle.std.specs.Prelude.{ℕ, ℤ, Bool, Option, Some, None, List, [], ◌∷◌, ◌++◌, codes, if◌then◌else◌}
 use Rattle.std.specs.List.{flat_map, join_with_byte}
 use Rattle.std.specs.Fmt.{decimal, signed_decimal}
-use Rattle.run_trace.specs.Entry.{Event}
-use Rattle.run_trace.specs.Settings.{Limits}
+use Rattle.run_trace.specs.Entry.{EntryValue}
+use Rattle.run_trace.specs.Settings.{SettingsValue}
 use Rattle.run_trace.specs.Trace.{trace_text}
 use Rattle.hh_lang.specs.Form.{ProgramText}
 use Rattle.hh_model.specs.declared.data.Trap.{Trap}
@@ -122,7 +122,7 @@ refused_status = 11
 -- ALL THAT IS WRITTEN
 
 -- the outputs of a journal that has an end, the report and the trace where they are asked for, and the end line
-abbrev pub out_text : ProgramText → Limits → Bool → Bool → List Event → List ℕ
+abbrev pub out_text : ProgramText → SettingsValue → Bool → Bool → List EntryValue → List ℕ
 out_text p s report trace journal =
     output_lines (machine_of p s journal).outputs
     ++ (if report then report_lines (report_of p s journal) else [])

@@ -2,8 +2,8 @@
 use Rattle.std.specs.Prelude.{◌≡◌, ℕ, ◌+◌, ◌<◌, ◌≤◌, Bool, true, false, None, Some, List, length, nat_lt, slice_get}
 use Rattle.run_trace.specs.declared.entry.Kind.{Kind}
 use Rattle.run_trace.specs.declared.entry.Kind.TheVariants.{Chunk, Begin, End, Sweep}
-use Rattle.run_trace.specs.Entry.{Event}
-use Rattle.run_trace.specs.Settings.{Limits}
+use Rattle.run_trace.specs.Entry.{EntryValue}
+use Rattle.run_trace.specs.Settings.{SettingsValue}
 use Rattle.hh_lang.specs.Form.{ProgramText, IsProgram}
 use Rattle.hh_model.specs.Step.{asked, is_running}
 use Rattle.run_ledger.specs.declared.data.Ledger.{Ledger}
@@ -23,7 +23,7 @@ ChunkGoes false l l' asks = (l'.end ≡ l.end) × (in_use l' ≡ in_use l + asks
 
 -- by the units of a chunk that is given, or the run ends where too few are free; by what a leaf collection takes as it begins;
 -- down by the number that its end or a sweep says is given back, and by nothing else
-abbrev pub UseGoes : ProgramText → Limits → Ledger → Ledger → Kind → Type 0
+abbrev pub UseGoes : ProgramText → SettingsValue → Ledger → Ledger → Kind → Type 0
 UseGoes p s l l' (Chunk t) = let asks : ℕ = chunk_units (asked p l.machine t) in ChunkGoes (nat_lt s.chunks (in_use l + asks)) l l' asks
 UseGoes p s l l' (Begin t) = in_use l' ≡ in_use l + take_of l.machine (heap_of l t)
 UseGoes p s l l' (End t taken given left) = in_use l' + given ≡ in_use l
@@ -33,19 +33,19 @@ UseGoes p s l l' _ = in_use l' ≡ in_use l
 -- how each accepted entry changes them
 abbrev pub EntriesUse : Type 0
 EntriesUse =
-    (p : ProgramText) (s : Limits) (journal : List Event) (e : Event) → IsProgram p → is_legal p s journal ≡ true
+    (p : ProgramText) (s : SettingsValue) (journal : List EntryValue) (e : EntryValue) → IsProgram p → is_legal p s journal ≡ true
     → let l = ledger_of p s journal in refusal p s l e ≡ None → UseGoes p s l (after p s l e) e.kind
 
 -- steps that can stand in one entry leave them as they are
 abbrev pub StepsUseNone : Type 0
 StepsUseNone =
-    (p : ProgramText) (s : Limits) (journal : List Event) (t k : ℕ) → IsProgram p → is_legal p s journal ≡ true
+    (p : ProgramText) (s : SettingsValue) (journal : List EntryValue) (t k : ℕ) → IsProgram p → is_legal p s journal ≡ true
     → let l = ledger_of p s journal in SoundAt t l → k ≤ standing s p l t k → in_use (task_steps p l t k) ≡ in_use l
 
 -- WHAT CHUNKS ARE THERE FOR
 
 -- t runs, and its next step allocates a large object that its reserved chunk fits, and isn't due
-pub record ReservesFor (p : ProgramText) (s : Limits) (l : Ledger) (t : ℕ) : Type 0 where
+pub record ReservesFor (p : ProgramText) (s : SettingsValue) (l : Ledger) (t : ℕ) : Type 0 where
   pub runs : is_running (slice_get l.machine.tasks t) ≡ true
   pub words : ℕ
   pub asks : asked p l.machine t ≡ Some words
@@ -55,10 +55,10 @@ pub record ReservesFor (p : ProgramText) (s : Limits) (l : Ledger) (t : ℕ) : T
 
 -- a heap without a chunk has no room; only a task that runs reserves a chunk, for the object that it allocates next; and a
 -- leaf collection holds the chunks that it takes, with none reserved
-pub record UsesChunks (p : ProgramText) (s : Limits) (l : Ledger) : Type 0 where
+pub record UsesChunks (p : ProgramText) (s : SettingsValue) (l : Ledger) : Type 0 where
   pub room : (t : ℕ) → 0 < (heap_of l t).room → 0 < length (heap_of l t).chunks
   pub reserved : (t : ℕ) → 0 < (heap_of l t).reserved → ReservesFor p s l t
   pub begun : (t taken : ℕ) → (heap_of l t).begun ≡ Some taken → (taken ≡ take_of l.machine (heap_of l t)) × ((heap_of l t).reserved ≡ 0)
 
 abbrev pub ChunksAreUsed : Type 0
-ChunksAreUsed = (p : ProgramText) (s : Limits) (journal : List Event) → is_legal p s journal ≡ true → UsesChunks p s (ledger_of p s journal)
+ChunksAreUsed = (p : ProgramText) (s : SettingsValue) (journal : List EntryValue) → is_legal p s journal ≡ true → UsesChunks p s (ledger_of p s journal)

@@ -3,8 +3,8 @@ use Rattle.std.proofs.Common.{◌≡◌, ℕ, zero, suc, ◌+◌, ◌-◌, ◌<�
 use Rattle.listed.proofs.Members.{got_same}
 use Rattle.run_trace.specs.declared.entry.Kind.{Kind}
 use Rattle.run_trace.specs.declared.entry.Kind.TheVariants.{Took, Ran, Chunk, Begin, End, PutOff, Mark, More, Sweep, Fuel}
-use Rattle.run_trace.specs.Entry.{Event}
-use Rattle.run_trace.specs.Settings.{Limits, AreLimits}
+use Rattle.run_trace.specs.Entry.{EntryValue}
+use Rattle.run_trace.specs.Settings.{SettingsValue, AreLimits}
 use Rattle.hh_lang.specs.Form.{ProgramText}
 use Rattle.run_ledger.specs.declared.data.Heap.{Heap}
 use Rattle.run_ledger.specs.declared.data.Ledger.{Ledger}
@@ -12,7 +12,7 @@ use Rattle.run_ledger.specs.Heaps.{fresh, heap_at, heap_of, or_fresh, with_heap,
 use Rattle.run_ledger.specs.Entries.{refusal, after_kind, after}
 use Rattle.run_ledger.specs.Report.{tally, lost, count_end, count_putoff, count_sweep, freed_by_end, freed_by_sweep}
 use Rattle.run_ledger.specs.Journals.{opening, after_all, ledger_of, is_legal, first_refused_from, first_refused}
-use Rattle.run_journal.specs.Opened.{Opened}
+use Rattle.run_journal.specs.BookValue.{BookValue}
 use Rattle.run_ledger.proofs.Cuts.{after_cut, joined_legal}
 use Rattle.run_ledger.proofs.Words.{words_are_accounted}
 use Rattle.run_journal.proofs.Steadies.{legal_stored}
@@ -55,7 +55,7 @@ lost_is l t f = by (heap_at l t) refl
     by None e = let z : words_in l.machine fresh ≡ 0 = refl in omega arith
     by (Some h) e = ap (λ o. words_in l.machine h - words_in l.machine (or_fresh o)) (got_same l.heaps t h (f h) e)
 
-module _ (p : ProgramText) (s : Limits) (l : Ledger) where
+module _ (p : ProgramText) (s : SettingsValue) (l : Ledger) where
   -- what an entry of this kind counts by the report's sums
   abbrev summed : Kind → ℕ → Totals
   summed kind used = record {
@@ -79,12 +79,12 @@ module _ (p : ProgramText) (s : Limits) (l : Ledger) where
   counted_is w (Sweep t given) used = ap (λ n. record no_totals { inner = 1; inner_freed = n; peak = used }) (lost_is l t swept_heap)
   counted_is w Fuel used = refl
 
-  totals_next : (e : Event) (rest : List Event) → totals_from p s l (e ∷ rest) ≡ joined (entry_totals p s l e) (totals_from p s (after p s l e) rest)
+  totals_next : (e : EntryValue) (rest : List EntryValue) → totals_from p s l (e ∷ rest) ≡ joined (entry_totals p s l e) (totals_from p s (after p s l e) rest)
   totals_next e rest = ap (λ a. joined a (totals_from p s (after p s l e) rest)) (sym (counted_is e.worker e.kind (in_use (after p s l e))))
 
-module _ (p : ProgramText) (s : Limits) where
+module _ (p : ProgramText) (s : SettingsValue) where
   -- one entry more at the end
-  pub totals_last : (before : List Event) (l : Ledger) (e : Event) → totals_from p s l (before ++ e ∷ []) ≡ joined (totals_from p s l before) (entry_totals p s (after_all p s l before) e)
+  pub totals_last : (before : List EntryValue) (l : Ledger) (e : EntryValue) → totals_from p s l (before ++ e ∷ []) ≡ joined (totals_from p s l before) (entry_totals p s (after_all p s l before) e)
   totals_last [] l e = totals_next p s l e [] ∙ (joined_none (entry_totals p s l e) ∙ sym (none_joined (entry_totals p s l e)))
   totals_last (x ∷ before) l e =
       totals_next p s l x (before ++ e ∷ [])
@@ -94,9 +94,9 @@ module _ (p : ProgramText) (s : Limits) where
 
 -- NO TOTAL IS TOO LARGE
 
-module _ (p : ProgramText) (s : Limits) where
+module _ (p : ProgramText) (s : SettingsValue) where
   -- what counts at most one for each entry comes to at most their number
-  most_of : (count : Ledger → Kind → ℕ) → ((l : Ledger) (kind : Kind) → count l kind ≤ 1) → (journal : List Event) (l : Ledger) → tally p s count l journal ≤ length journal
+  most_of : (count : Ledger → Kind → ℕ) → ((l : Ledger) (kind : Kind) → count l kind ≤ 1) → (journal : List EntryValue) (l : Ledger) → tally p s count l journal ≤ length journal
   most_of count one [] l = omega arith
   most_of count one (e ∷ journal) l = let a = one l e.kind in let b = most_of count one journal (after p s l e) in omega arith
 
@@ -136,7 +136,7 @@ module _ (p : ProgramText) (s : Limits) where
   one_sweep l (Sweep t given) = omega arith
   one_sweep l Fuel = omega arith
 
-  pub legal_few : AreLimits s → (journal : List Event) → is_legal p s journal ≡ true → length journal < 2 ^ 64 → AreFew (totals_from p s (opening p s) journal)
+  pub legal_few : AreLimits s → (journal : List EntryValue) → is_legal p s journal ≡ true → length journal < 2 ^ 64 → AreFew (totals_from p s (opening p s) journal)
   legal_few A journal legal short =
       let all = words_are_accounted p s journal legal in
       let stored = legal_stored p s A journal legal in
@@ -163,15 +163,15 @@ take_all (x ∷ xs) zero le = absurd (omega arith)
 take_all (x ∷ xs) (suc i) le = ap (λ ys. x ∷ ys) (take_all xs i (omega arith))
 
 -- a book that has come to the entry i, and the totals of the entries before it
-pub record IsAt (journal : List Event) (b : Opened) (i : ℕ) (sums : Totals) : Type 0 where
+pub record IsAt (journal : List EntryValue) (b : BookValue) (i : ℕ) (sums : Totals) : Type 0 where
   pub legal : is_legal b.program b.limits (take i journal) ≡ true
   pub ledger : b.ledger ≡ ledger_of b.program b.limits (take i journal)
   pub sums_are : sums ≡ totals_from b.program b.limits (opening b.program b.limits) (take i journal)
 
-pub at_first : (journal : List Event) (b : Opened) (sums : Totals) → sums ≡ no_totals → b.ledger ≡ opening b.program b.limits → IsAt journal b 0 sums
+pub at_first : (journal : List EntryValue) (b : BookValue) (sums : Totals) → sums ≡ no_totals → b.ledger ≡ opening b.program b.limits → IsAt journal b 0 sums
 at_first journal b sums es el = record { legal = refl; ledger = el; sums_are = es }
 
-module _ (journal : List Event) (b : Opened) (i : ℕ) (e : Event) (lt : i < length journal) (is : e ≡ get_or journal i e) (none : refusal b.program b.limits b.ledger e ≡ None) (sums : Totals) (at : IsAt journal b i sums) where
+module _ (journal : List EntryValue) (b : BookValue) (i : ℕ) (e : EntryValue) (lt : i < length journal) (is : e ≡ get_or journal i e) (none : refusal b.program b.limits b.ledger e ≡ None) (sums : Totals) (at : IsAt journal b i sums) where
   legal_next : is_legal b.program b.limits (take (i + 1) journal) ≡ true
   legal_next =
       let here : refusal b.program b.limits (ledger_of b.program b.limits (take i journal)) e ≡ None = ap (λ l. refusal b.program b.limits l e) (sym at.ledger) ∙ none in
@@ -196,26 +196,26 @@ module _ (journal : List Event) (b : Opened) (i : ℕ) (e : Event) (lt : i < len
       let c = length-take-le i journal (omega arith) in
       subst AreFew (sym sums_next) (legal_few b.program b.limits A (take (i + 1) journal) legal_next (omega arith))
 
-  pub at_next : (b' : Opened) (sums' : Totals) → b' ≡ record b { ledger = after b.program b.limits b.ledger e } → sums' ≡ joined sums (entry_totals b.program b.limits b.ledger e) → IsAt journal b' (i + 1) sums'
+  pub at_next : (b' : BookValue) (sums' : Totals) → b' ≡ record b { ledger = after b.program b.limits b.ledger e } → sums' ≡ joined sums (entry_totals b.program b.limits b.ledger e) → IsAt journal b' (i + 1) sums'
   at_next b' sums' eb es =
       subst (λ x. IsAt journal x (i + 1) sums') (sym eb)
       (subst (λ z. IsAt journal (record b { ledger = after b.program b.limits b.ledger e }) (i + 1) z) (sym es) (record { legal = legal_next; ledger = ledger_next; sums_are = sums_next }))
 
-pub at_end : (journal : List Event) (b : Opened) (i : ℕ) (sums : Totals) (p : ProgramText) (s : Limits) → length journal ≤ i → b.program ≡ p → b.limits ≡ s → IsAt journal b i sums
+pub at_end : (journal : List EntryValue) (b : BookValue) (i : ℕ) (sums : Totals) (p : ProgramText) (s : SettingsValue) → length journal ≤ i → b.program ≡ p → b.limits ≡ s → IsAt journal b i sums
     → sums ≡ totals_from p s (opening p s) journal
 at_end journal b i sums p s ge ep es at =
     at.sums_are ∙ (ap (totals_from b.program b.limits (opening b.program b.limits)) (take_all journal i ge) ∙ ap₂ (λ q k. totals_from q k (opening q k) journal) ep es)
 
-module _ (journal : List Event) (b b' : Opened) (i : ℕ) (e : Event) (lt : i < length journal) (is : e ≡ get_or journal i e) (eb : b' ≡ record b { ledger = after b.program b.limits b.ledger e }) where
+module _ (journal : List EntryValue) (b b' : BookValue) (i : ℕ) (e : EntryValue) (lt : i < length journal) (is : e ≡ get_or journal i e) (eb : b' ≡ record b { ledger = after b.program b.limits b.ledger e }) where
   pub accounts_on : after_all b.program b.limits b.ledger (drop i journal) ≡ ledger_of b.program b.limits journal
       → after_all b'.program b'.limits b'.ledger (drop (i + 1) journal) ≡ ledger_of b'.program b'.limits journal
   accounts_on inv =
-      subst (λ (x : Opened). after_all x.program x.limits x.ledger (drop (i + 1) journal) ≡ ledger_of x.program x.limits journal) (sym eb)
+      subst (λ (x : BookValue). after_all x.program x.limits x.ledger (drop (i + 1) journal) ≡ ledger_of x.program x.limits journal) (sym eb)
       (sym (accounts_next b.program b.limits b.ledger 0 journal i e lt is) ∙ inv)
 
   pub refused_on : (n : ℕ) → refusal b.program b.limits b.ledger e ≡ None
       → first_refused_from b.program b.limits b.ledger n (drop i journal) ≡ first_refused b.program b.limits journal
       → first_refused_from b'.program b'.limits b'.ledger (n + 1) (drop (i + 1) journal) ≡ first_refused b'.program b'.limits journal
   refused_on n none inv =
-      subst (λ (x : Opened). first_refused_from x.program x.limits x.ledger (n + 1) (drop (i + 1) journal) ≡ first_refused x.program x.limits journal) (sym eb)
+      subst (λ (x : BookValue). first_refused_from x.program x.limits x.ledger (n + 1) (drop (i + 1) journal) ≡ first_refused x.program x.limits journal) (sym eb)
       (sym (refused_next b.program b.limits b.ledger n journal i e lt is none) ∙ inv)

@@ -1,8 +1,8 @@
 -- What is written of a run, put together.
 use Rattle.std.proofs.Common.{◌≡◌, ℕ, ◌++◌, Bool, true, Some, List, length, ap, ap₂, sym, ◌∙◌}
 use Rattle.run_trace.specs.declared.settings.Version.{Version}
-use Rattle.run_trace.specs.Entry.{Event}
-use Rattle.run_trace.specs.Settings.{Limits}
+use Rattle.run_trace.specs.Entry.{EntryValue}
+use Rattle.run_trace.specs.Settings.{SettingsValue}
 use Rattle.hh_lang.specs.Form.{ProgramText}
 use Rattle.hh_model.specs.declared.data.State.{State}
 use Rattle.run_ledger.specs.declared.data.Ledger.{Ledger}
@@ -19,7 +19,7 @@ pub report_shown : (asked : Bool) (l : Ledger) (turns : ℕ) (totals : Totals) (
 report_shown asked l turns totals r ea er = rw ea (ap report_lines er)
 
 -- by the accounts of a journal and the totals of its entries, it is all that is to be written of it
-pub whole_text : (p : ProgramText) (s : Limits) (journal : List Event) (report trace : Bool) (version : Version) (l : Ledger) (totals : Totals) (end : RunEnd)
+pub whole_text : (p : ProgramText) (s : SettingsValue) (journal : List EntryValue) (report trace : Bool) (version : Version) (l : Ledger) (totals : Totals) (end : RunEnd)
     → version ≡ s.version → l ≡ ledger_of p s journal → totals ≡ totals_from p s (opening p s) journal → l.end ≡ Some end
     → text_from version l totals report trace journal end ≡ out_text p s report trace journal
 whole_text p s journal report trace version l totals end ev el et ee =

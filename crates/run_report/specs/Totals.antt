@@ -2,8 +2,8 @@
 use Rattle.std.specs.Prelude.{ℕ, ◌+◌, ◌-◌, ◌<◌, ◌^◌, List, length, max}
 use Rattle.run_trace.specs.declared.entry.Kind.{Kind}
 use Rattle.run_trace.specs.declared.entry.Kind.TheVariants.{End, PutOff, Sweep}
-use Rattle.run_trace.specs.Entry.{Event}
-use Rattle.run_trace.specs.Settings.{Limits}
+use Rattle.run_trace.specs.Entry.{EntryValue}
+use Rattle.run_trace.specs.Settings.{SettingsValue}
 use Rattle.hh_lang.specs.Form.{ProgramText}
 use Rattle.run_ledger.specs.declared.data.Ledger.{Ledger}
 use Rattle.run_ledger.specs.declared.data.Report.{Report}
@@ -49,11 +49,11 @@ cleared_words l (Sweep t given) = words_in l.machine (heap_of l t)
 cleared_words l _ = 0
 
 -- the totals of one entry
-abbrev pub entry_totals : ProgramText → Limits → Ledger → Event → Totals
+abbrev pub entry_totals : ProgramText → SettingsValue → Ledger → EntryValue → Totals
 entry_totals p s l e = counted e.kind (cleared_words l e.kind - cleared_words (after p s l e) e.kind) (in_use (after p s l e))
 
 -- the totals of a journal, as the report sums them up
-abbrev pub totals_from : ProgramText → Limits → Ledger → List Event → Totals
+abbrev pub totals_from : ProgramText → SettingsValue → Ledger → List EntryValue → Totals
 totals_from p s l journal = record {
   leaf = tally p s count_end l journal;
   putoff = tally p s count_putoff l journal;

@@ -17,8 +17,8 @@ use Rattle.hh_model.proofs.Kept.{Kept, run_kept, start_kept, step_kept}
 use Rattle.hh_model.proofs.Taken.{can_made}
 use Rattle.run_trace.specs.declared.entry.Kind.{Kind}
 use Rattle.run_trace.specs.declared.entry.Kind.TheVariants.{Took, Ran, Chunk, Begin, End, PutOff, Mark, More, Sweep, Fuel}
-use Rattle.run_trace.specs.Entry.{Event}
-use Rattle.run_trace.specs.Settings.{Limits, field_limit}
+use Rattle.run_trace.specs.Entry.{EntryValue}
+use Rattle.run_trace.specs.Settings.{SettingsValue, field_limit}
 use Rattle.run_ledger.specs.declared.data.Heap.{Heap}
 use Rattle.run_ledger.specs.declared.data.Ledger.{Ledger}
 use Rattle.run_ledger.specs.Heaps.{collected, fresh, heap_at, heap_of, held_in, or_fresh, swept_heap, with_heap, with_heap_at, words_at, words_in}
@@ -149,7 +149,7 @@ module _ (p : ProgramText) (t : ℕ) where
 -- ONE ENTRY
 
 -- what an entry frees is what its heap has lost
-lost_by : (p : ProgramText) (s : Limits) (l : Ledger) (w : ℕ) (kind : Kind) → cleared_words l kind - cleared_words (after_kind p s l w kind) kind ≡ freed_by_end l kind + freed_by_sweep l kind
+lost_by : (p : ProgramText) (s : SettingsValue) (l : Ledger) (w : ℕ) (kind : Kind) → cleared_words l kind - cleared_words (after_kind p s l w kind) kind ≡ freed_by_end l kind + freed_by_sweep l kind
 lost_by p s l w (Took t) = refl
 lost_by p s l w (Ran t k) = refl
 lost_by p s l w (Chunk t) = refl
@@ -162,12 +162,12 @@ lost_by p s l w (Sweep t given) = let e = lost_is l t swept_heap in omega (arith
 lost_by p s l w Fuel = refl
 
 -- what is counted of a journal with an entry more
-tally_last : (p : ProgramText) (s : Limits) (count : Ledger → Kind → ℕ) (journal : List Event) (l : Ledger) (e : Event)
+tally_last : (p : ProgramText) (s : SettingsValue) (count : Ledger → Kind → ℕ) (journal : List EntryValue) (l : Ledger) (e : EntryValue)
     → tally p s count l (journal ++ e ∷ []) ≡ tally p s count l journal + count (after_all p s l journal) e.kind
 tally_last p s count [] l e = omega arith
 tally_last p s count (x ∷ journal) l e = let r = tally_last p s count journal (after p s l x) e in omega (arith, r)
 
-module _ (p : ProgramText) (s : Limits) (journal : List Event) (legal : is_legal p s journal ≡ true) (e : Event) (none : refusal p s (ledger_of p s journal) e ≡ None) where
+module _ (p : ProgramText) (s : SettingsValue) (journal : List EntryValue) (legal : is_legal p s journal ≡ true) (e : EntryValue) (none : refusal p s (ledger_of p s journal) e ≡ None) where
   abbrev l : Ledger
   l = ledger_of p s journal
 
@@ -189,7 +189,7 @@ module _ (p : ProgramText) (s : Limits) (journal : List Event) (legal : is_legal
   abbrev Accounted : ℕ → Ledger → Type 0
   Accounted freed k = freed + words_held k ≡ store_words k.machine.store
 
-  accounted : (j : List Event) → is_legal p s j ≡ true → Accounted (tally p s freed_by_end (opening p s) j + tally p s freed_by_sweep (opening p s) j) (ledger_of p s j)
+  accounted : (j : List EntryValue) → is_legal p s j ≡ true → Accounted (tally p s freed_by_end (opening p s) j + tally p s freed_by_sweep (opening p s) j) (ledger_of p s j)
   accounted j h =
       let a = words_are_accounted p s j h in
       let flat = sum_flat (words_at (ledger_of p s j).machine) held_in (ledger_of p s j).heaps in

@@ -5,8 +5,8 @@ use Rattle.std.specs.List.{flat_map}
 use Rattle.std.proofs.lemmas.Grind.{flat_map-append}
 use Rattle.std.proofs.Math.Seq.{take-append_seam}
 use Rattle.hh_lang.specs.Form.{ProgramText}
-use Rattle.run_trace.specs.Entry.{Event}
-use Rattle.run_trace.specs.Settings.{Limits}
+use Rattle.run_trace.specs.Entry.{EntryValue}
+use Rattle.run_trace.specs.Settings.{SettingsValue}
 use Rattle.run_ledger.specs.declared.data.Ledger.{Ledger}
 use Rattle.run_ledger.specs.Entries.{after}
 use Rattle.run_ledger.specs.declared.data.RefusedAt.{RefusedAt}
@@ -26,7 +26,7 @@ use Rattle.run_timeline.specs.Timeline.{events_from, events_of, lanes, timeline}
 use Rattle.run_timeline.specs.Pieces.{beginning, ending, span_head, head}
 use Rattle.run_timeline.proofs.Made.{span_made, event_made}
 
-module _ (p : ProgramText) (s : Limits) (l : Ledger) (seats : List ℕ) (n : ℕ) (journal : List Event) (i : ℕ) (e : Event) (lt : i < length journal) (is : e ≡ get_or journal i e) where
+module _ (p : ProgramText) (s : SettingsValue) (l : Ledger) (seats : List ℕ) (n : ℕ) (journal : List EntryValue) (i : ℕ) (e : EntryValue) (lt : i < length journal) (is : e ≡ get_or journal i e) where
   abbrev here : List Json
   here = entry_events p (counts_of l) (after p s l e) (get_or seats e.worker 0) n e
 
@@ -44,7 +44,7 @@ abbrev whole : List ℕ → List ℕ
 whole array = 123 ∷ ((quoted (codes "traceEvents") ++ 58 ∷ (array ++ more_members (Member (codes "displayTimeUnit") (Word (codes "ms")) NoMember))) ++ 125 ∷ []) ++ 10 ∷ []
 
 -- the whole text
-pub timeline_made : (p : ProgramText) (s : Limits) (journal : List Event) → (beginning s.workers ++ flat_map further (events_of p s journal)) ++ ending ≡ timeline p s journal
+pub timeline_made : (p : ProgramText) (s : SettingsValue) (journal : List EntryValue) → (beginning s.workers ++ flat_map further (events_of p s journal)) ++ ending ≡ timeline p s journal
 timeline_made p s journal =
     five (json process) (flat_map further (lanes s.workers)) (flat_map further (events_of p s journal))
     ∙ ap (λ x. whole (91 ∷ ((json process ++ x) ++ 93 ∷ []))) (sym (flat_map-append further (lanes s.workers) (events_of p s journal)))

@@ -9,8 +9,8 @@ use Rattle.hh_model.specs.declared.data.Task.{Task}
 use Rattle.hh_model.specs.declared.data.State.{State}
 use Rattle.run_trace.specs.declared.entry.Kind.{Kind}
 use Rattle.run_trace.specs.declared.entry.Kind.TheVariants.{Took, Ran, Chunk, Begin, End, PutOff, Mark, More, Sweep, Fuel}
-use Rattle.run_trace.specs.Entry.{Event}
-use Rattle.run_trace.specs.Settings.{Limits}
+use Rattle.run_trace.specs.Entry.{EntryValue}
+use Rattle.run_trace.specs.Settings.{SettingsValue}
 use Rattle.run_ledger.specs.declared.data.RunEnd.{RunEnd}
 use Rattle.run_ledger.specs.declared.data.Ledger.{Ledger}
 use Rattle.run_ledger.specs.Heaps.{in_use}
@@ -97,7 +97,7 @@ none_run_ended : (p : ProgramText) (m : State) (n w : ℕ) (e : Option RunEnd) �
 none_run_ended p m n w None = refl
 none_run_ended p m n w (Some e) = refl
 
-one_slice : (p : ProgramText) (was : Counts) (l : Ledger) (before n : ℕ) (e : Event) → slices (entry_events p was l before n e) ≡ 1
+one_slice : (p : ProgramText) (was : Counts) (l : Ledger) (before n : ℕ) (e : EntryValue) → slices (entry_events p was l before n e) ≡ 1
 one_slice p was l before n e =
     let ts = told_by p was.tasks l.machine n e.worker e.kind in
     let cs = chunks_counted was.chunks (in_use l) n in
@@ -112,7 +112,7 @@ one_slice p was l before n e =
     let y = slices-append (slice before n e ∷ ts) cs in
     omega (arith, a, b, c, d, x, y, z)
 
-each_one : (p : ProgramText) (s : Limits) (l : Ledger) (seats : List ℕ) (n : ℕ) (journal : List Event) → slices (events_from p s l seats n journal) ≡ length journal
+each_one : (p : ProgramText) (s : SettingsValue) (l : Ledger) (seats : List ℕ) (n : ℕ) (journal : List EntryValue) → slices (events_from p s l seats n journal) ≡ length journal
 each_one p s l seats n [] = refl
 each_one p s l seats n (e ∷ es) =
     let here = entry_events p (counts_of l) (after p s l e) (get_or seats e.worker 0) n e in

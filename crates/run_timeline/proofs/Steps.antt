@@ -3,16 +3,16 @@ use Rattle.std.proofs.Common.{◌≡◌, ◌<◌, ◌+◌, ℕ, List, ◌++◌, 
 use Rattle.std.specs.Prelude.{slice_set}
 use Rattle.std.specs.List.{flat_map}
 use Rattle.hh_lang.specs.Form.{ProgramText}
-use Rattle.run_trace.specs.Entry.{Event}
+use Rattle.run_trace.specs.Entry.{EntryValue}
 use Rattle.run_ledger.specs.Entries.{after}
-use Rattle.run_journal.specs.Opened.{Opened}
+use Rattle.run_journal.specs.BookValue.{BookValue}
 use Rattle.json_text.specs.Json.{further}
 use Rattle.run_timeline.specs.Words.{counts_of}
 use Rattle.run_timeline.specs.Entries.{entry_events}
 use Rattle.run_timeline.specs.Timeline.{events_from}
 use Rattle.run_timeline.proofs.Loops.{events_next}
 
-module _ (journal : List Event) (b b' : Opened) (i : ℕ) (e : Event) (lt : i < length journal) (is : e ≡ get_or journal i e) (eb : b' ≡ record b { ledger = after b.program b.limits b.ledger e }) where
+module _ (journal : List EntryValue) (b b' : BookValue) (i : ℕ) (e : EntryValue) (lt : i < length journal) (is : e ≡ get_or journal i e) (eb : b' ≡ record b { ledger = after b.program b.limits b.ledger e }) where
   -- what is written and what is left are the whole, also behind the entry
   pub text_on : (seats : List ℕ) (n w : ℕ) (p : ProgramText) (now later all : List ℕ) → w ≡ e.worker → b.program ≡ p
       → now ++ flat_map further (events_from b.program b.limits b.ledger seats n (drop i journal)) ≡ all

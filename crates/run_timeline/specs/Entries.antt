@@ -11,7 +11,7 @@ use Rattle.hh_model.specs.declared.data.Task.{Task}
 use Rattle.hh_model.specs.declared.data.State.{State}
 use Rattle.run_trace.specs.declared.entry.Kind.{Kind}
 use Rattle.run_trace.specs.declared.entry.Kind.TheVariants.{Took, Ran, Chunk, Begin, End, PutOff, Mark, More, Sweep, Fuel}
-use Rattle.run_trace.specs.Entry.{Event}
+use Rattle.run_trace.specs.Entry.{EntryValue}
 use Rattle.run_ledger.specs.declared.data.RunEnd.{RunEnd}
 use Rattle.run_ledger.specs.declared.data.RunEnd.TheVariants.{Machine}
 use Rattle.run_ledger.specs.declared.data.Ledger.{Ledger}
@@ -53,7 +53,7 @@ numbers_of (Sweep t given) = of_task t (one_number (codes "given") given)
 numbers_of Fuel = NoMember
 
 -- an entry is a slice, from where its worker's entry before ended to its own end
-abbrev pub slice : ℕ → ℕ → Event → Json
+abbrev pub slice : ℕ → ℕ → EntryValue → Json
 slice before n e =
     event (kind_name e.kind) (codes "entry") (codes "X") (end_time before) e.worker (
     Member (codes "dur") (Number ((n - before) * 1000)) (
@@ -169,7 +169,7 @@ run_ended p m n w (Some e) = run_end p m n w e ∷ []
 
 -- of the entry of this number, whose worker's entry before had that one: in front of it the accounts had these counts, and
 -- behind it they are these
-abbrev pub entry_events : ProgramText → Counts → Ledger → ℕ → ℕ → Event → List Json
+abbrev pub entry_events : ProgramText → Counts → Ledger → ℕ → ℕ → EntryValue → List Json
 entry_events p was l before n e =
     (slice before n e ∷ told_by p was.tasks l.machine n e.worker e.kind)
     ++ chunks_counted was.chunks (in_use l) n

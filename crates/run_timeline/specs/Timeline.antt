@@ -1,7 +1,7 @@
 -- A run as a timeline.
 use Rattle.std.specs.Prelude.{ℕ, zero, suc, ◌+◌, List, [], ◌∷◌, ◌++◌, codes, get_or, slice_set, replicate}
-use Rattle.run_trace.specs.Entry.{Event}
-use Rattle.run_trace.specs.Settings.{Limits}
+use Rattle.run_trace.specs.Entry.{EntryValue}
+use Rattle.run_trace.specs.Settings.{SettingsValue}
 use Rattle.hh_lang.specs.Form.{ProgramText}
 use Rattle.run_ledger.specs.declared.data.Ledger.{Ledger}
 use Rattle.run_ledger.specs.Entries.{after}
@@ -12,7 +12,7 @@ use Rattle.run_timeline.specs.Events.{process, lane}
 use Rattle.run_timeline.specs.Entries.{entry_events}
 
 -- the events of a journal from the entry of this number on: where each worker's last entry was is among the seats
-abbrev pub events_from : ProgramText → Limits → Ledger → List ℕ → ℕ → List Event → List Json
+abbrev pub events_from : ProgramText → SettingsValue → Ledger → List ℕ → ℕ → List EntryValue → List Json
 events_from p s l seats n [] = []
 events_from p s l seats n (e ∷ es) =
     entry_events p (counts_of l) (after p s l e) (get_or seats e.worker 0) n e
@@ -22,7 +22,7 @@ events_from p s l seats n (e ∷ es) =
 abbrev pub no_entry : List ℕ
 no_entry = replicate 64 0
 
-abbrev pub events_of : ProgramText → Limits → List Event → List Json
+abbrev pub events_of : ProgramText → SettingsValue → List EntryValue → List Json
 events_of p s journal = events_from p s (opening p s) no_entry 1 journal
 
 -- the lanes of so many workers
@@ -31,7 +31,7 @@ lanes zero = []
 lanes (suc w) = lanes w ++ lane w ∷ []
 
 -- the text of a journal's timeline
-abbrev pub timeline : ProgramText → Limits → List Event → List ℕ
+abbrev pub timeline : ProgramText → SettingsValue → List EntryValue → List ℕ
 timeline p s journal =
     json (Object (
     Member (codes "traceEvents") (Array (values (process ∷ (lanes s.workers ++ events_of p s journal)))) (

@@ -5,12 +5,12 @@ use Rattle.hh_model.specs.declared.data.State.{State}
 use Rattle.hh_model.specs.Effect.{row_of}
 use Rattle.run_trace.specs.declared.entry.Kind.{Kind}
 use Rattle.run_trace.specs.declared.entry.Kind.TheVariants.{Ran}
-use Rattle.run_trace.specs.Entry.{Event}
-use Rattle.run_trace.specs.Settings.{Limits}
+use Rattle.run_trace.specs.Entry.{EntryValue}
+use Rattle.run_trace.specs.Settings.{SettingsValue}
 use Rattle.run_ledger.specs.declared.data.Ledger.{Ledger}
 use Rattle.run_ledger.specs.Heaps.{in_use, words_at, words_in}
 use Rattle.run_ledger.specs.Entries.{after, refusal}
-use Rattle.run_journal.specs.Opened.{IsLegalLedger}
+use Rattle.run_journal.specs.BookValue.{IsLegalLedger}
 use Rattle.run_report.specs.Totals.{cleared_words}
 use Rattle.run_timeline.specs.declared.words.Counts.{Counts}
 
@@ -47,6 +47,6 @@ words_by _ first m = 0
 -- heap has lost by a collection or a sweep
 abbrev pub WordsFollowEntries : Type 0
 WordsFollowEntries =
-    (p : ProgramText) (s : Limits) (l : Ledger) (e : Event) → IsLegalLedger p s l → refusal p s l e ≡ None
+    (p : ProgramText) (s : SettingsValue) (l : Ledger) (e : EntryValue) → IsLegalLedger p s l → refusal p s l e ≡ None
     → let l' = after p s l e in
     words_held l' ≡ words_held l + words_by e.kind (objects_by e.kind l.machine) l'.machine - (cleared_words l e.kind - cleared_words l' e.kind)

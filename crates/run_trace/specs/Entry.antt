@@ -4,7 +4,7 @@ use Rattle.run_trace.specs.declared.entry.Kind.{Kind}
 use Rattle.run_trace.specs.declared.entry.Kind.TheVariants.{Took, Ran, Chunk, Begin, End, PutOff, Mark, More, Sweep, Fuel}
 
 -- an entry: the worker that made it, and what it says
-pub record Event : Type 0 where
+pub record EntryValue : Type 0 where
   pub worker : ℕ
   pub kind : Kind
 
@@ -32,5 +32,5 @@ IsKind (Sweep t given) = IsWord t × IsWord given
 IsKind Fuel = Unit {0}
 
 -- workers are numbered from 0 to 63 at most
-abbrev pub IsEvent : Event → Type 0
+abbrev pub IsEvent : EntryValue → Type 0
 IsEvent e = (e.worker < 64) × IsKind e.kind

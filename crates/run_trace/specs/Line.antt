@@ -9,7 +9,7 @@ use Rattle.run_trace.specs.declared.entry.Kind.{Kind}
 use Rattle.run_trace.specs.declared.entry.Kind.TheVariants.{Took, Ran, Chunk, Begin, End, PutOff, Mark, More, Sweep, Fuel}
 use Rattle.run_trace.specs.declared.line.Said.{Said}
 use Rattle.run_trace.specs.declared.line.Said.TheVariants.{Nothing, Says, Wrong}
-use Rattle.run_trace.specs.Entry.{Event}
+use Rattle.run_trace.specs.Entry.{EntryValue}
 
 -- READING
 
@@ -95,5 +95,5 @@ spaced (w ∷ []) = w
 spaced (w ∷ v ∷ ws) = w ++ 32 ∷ spaced (v ∷ ws)
 
 -- an entry's line, with its line feed
-abbrev pub entry_line : Event → List ℕ
+abbrev pub entry_line : EntryValue → List ℕ
 entry_line e = spaced (decimal e.worker ∷ kind_words e.kind) ++ 10 ∷ []

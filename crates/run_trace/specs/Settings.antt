@@ -3,7 +3,7 @@ use Rattle.std.specs.Prelude.{ℕ, ◌≤◌}
 use Rattle.run_trace.specs.declared.settings.Version.{Version}
 use Rattle.run_trace.specs.declared.settings.Version.TheVariants.{One, Two}
 
-pub record Limits : Type 0 where
+pub record SettingsValue : Type 0 where
   pub version : Version
   -- how many workers there are
   pub workers : ℕ
@@ -16,7 +16,7 @@ pub record Limits : Type 0 where
   -- the words from which on a waiting heap may be marked
   pub inner : ℕ
 
-pub record AreLimits (l : Limits) : Type 0 where
+pub record AreLimits (l : SettingsValue) : Type 0 where
   pub workers : (1 ≤ l.workers) × (l.workers ≤ 64)
   pub fuel : (1 ≤ l.fuel) × (l.fuel ≤ 1000000000)
   pub chunks : (2 ≤ l.chunks) × (l.chunks ≤ 65536)
@@ -24,7 +24,7 @@ pub record AreLimits (l : Limits) : Type 0 where
   pub inner : (16 ≤ l.inner) × (l.inner ≤ 1000000)
 
 -- the limits where none are given
-abbrev pub usual_limits : Limits
+abbrev pub usual_limits : SettingsValue
 usual_limits = record { version = Two; workers = 1; fuel = 1000000; chunks = 4096; leaf = 4096; inner = 8192 }
 
 -- the most fields of an object: one chunk holds it in the first version, and in the second an object may be large

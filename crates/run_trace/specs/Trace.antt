@@ -11,7 +11,7 @@ use Rattle.run_trace.specs.declared.line.Said.TheVariants.{Nothing, Says, Wrong}
 use Rattle.run_trace.specs.declared.trace.Trace.{Trace}
 use Rattle.run_trace.specs.declared.trace.TraceError.{TraceError}
 use Rattle.run_trace.specs.declared.trace.TraceError.TheVariants.{BadLine, NoMemory}
-use Rattle.run_trace.specs.Entry.{Event}
+use Rattle.run_trace.specs.Entry.{EntryValue}
 use Rattle.run_trace.specs.Settings.{version_number}
 use Rattle.run_trace.specs.Line.{said_by, spaced, entry_line}
 
@@ -39,13 +39,13 @@ abbrev pub first_bad : ℕ → List (List ℕ) → Option ℕ
 first_bad n [] = None
 first_bad n (line ∷ lines) = or_bad n (said_by line) (first_bad (n + 1) lines)
 
-abbrev pub onto_entries : Said → List Event → List Event
+abbrev pub onto_entries : Said → List EntryValue → List EntryValue
 onto_entries (Says e) rest = e ∷ rest
 onto_entries Nothing rest = rest
 onto_entries Wrong rest = rest
 
 -- the entries that lines say
-abbrev pub entries_in : List (List ℕ) → List Event
+abbrev pub entries_in : List (List ℕ) → List EntryValue
 entries_in [] = []
 entries_in (line ∷ lines) = onto_entries (said_by line) (entries_in lines)
 
@@ -76,7 +76,7 @@ abbrev pub version_line : Version → List ℕ
 version_line v = spaced (codes "trace" ∷ decimal (version_number v) ∷ []) ++ 10 ∷ []
 
 -- the trace text of a journal
-abbrev pub trace_text : Version → List Event → List ℕ
+abbrev pub trace_text : Version → List EntryValue → List ℕ
 trace_text v journal = version_line v ++ flat_map entry_line journal
 
 -- THE READER
@@ -86,7 +86,7 @@ abbrev pub TraceFails : Option ℕ → TraceError → Type 0
 TraceFails bad (BadLine n) = bad ≡ Some n
 TraceFails bad NoMemory = Unit {0}
 
-abbrev pub NotesLine : List Event → List Event → Said → Bool → Type 0
+abbrev pub NotesLine : List EntryValue → List EntryValue → Said → Bool → Type 0
 NotesLine old new Nothing noted = (new ≡ old) × (noted ≡ true)
 NotesLine old new (Says e) noted = (new ≡ old ++ e ∷ []) × (noted ≡ true)
 NotesLine old new Wrong noted = noted ≡ false

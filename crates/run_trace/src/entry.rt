@@ -38,9 +38,9 @@ pub struct Entry {
 }
 
 impl Model for Entry {
-    ghost use Rattle.run_trace.specs.Entry.{Event, IsEvent};
+    ghost use Rattle.run_trace.specs.Entry.{EntryValue, IsEvent};
 
-    ghost Value = { Event };
+    ghost Value = { EntryValue };
 
     ghost view = { λ e. record { worker = e.worker; kind = e.kind } };
 

@@ -48,9 +48,9 @@ pub struct Settings {
 }
 
 impl Model for Settings {
-    ghost use Rattle.run_trace.specs.Settings.{Limits, AreLimits};
+    ghost use Rattle.run_trace.specs.Settings.{SettingsValue, AreLimits};
 
-    ghost Value = { Limits };
+    ghost Value = { SettingsValue };
 
     ghost view = { λ s. record { version = s.version; workers = s.workers; fuel = s.fuel; chunks = s.chunks; leaf = s.leaf; inner = s.inner } };
 

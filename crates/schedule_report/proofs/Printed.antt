@@ -23,8 +23,8 @@ use Rattle.race_report.specs.declared.data.Access.{Access}
 use Rattle.race_report.specs.Accesses.{with_some}
 use Rattle.race_report.specs.Sights.{line_said, print_field, said_by, said_from, said_of, task_said}
 use Rattle.race_report.specs.StopLaw.{HasNoRace}
-use Rattle.renamed_tasks.proofs.Runs.{kept_here}
-use Rattle.every_schedule.specs.Prints.{Print, PrintsAreOrdered, line_print, print_by, print_of, prints, prints_from, task_print}
+use Rattle.renaming_laws.proofs.Runs.{kept_here}
+use Rattle.schedule_laws.specs.Prints.{Print, PrintsAreOrdered, line_print, print_by, print_of, prints, prints_from, task_print}
 
 -- ONE STEP
 

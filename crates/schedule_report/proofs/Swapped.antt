@@ -7,7 +7,7 @@ use Rattle.race_report.specs.Accesses.{with_some}
 use Rattle.race_report.specs.Races.{IsRace}
 use Rattle.race_report.specs.Sights.{plain, swap_if, swaps_of}
 use Rattle.race_report.specs.StopLaw.{HasNoRace}
-use Rattle.every_schedule.specs.Ordered.{SwapsContend}
+use Rattle.schedule_laws.specs.Ordered.{SwapsContend}
 
 -- THEIR PLACES
 

@@ -1,8 +1,8 @@
 -- Verdicts are exact, and speak for all schedules.
 use Rattle.std.proofs.Common.{◌≡◌, ℕ, suc, ◌+◌, ◌-◌, ◌^◌, ◌<◌, ◌==◌, min, lit<, Bool, false, cond, Option, Some, None, List, [], ◌∷◌, length, refl, ap, sym, subst, ◌∙◌, arith}
 use Rattle.hh_lang.specs.Form.{ProgramText}
-use Rattle.run_trace.specs.Entry.{Event}
-use Rattle.run_trace.specs.Settings.{Limits, field_limit}
+use Rattle.run_trace.specs.Entry.{EntryValue}
+use Rattle.run_trace.specs.Settings.{SettingsValue, field_limit}
 use Rattle.hh_model.specs.declared.data.End.{End}
 use Rattle.hh_model.specs.declared.data.End.TheVariants.{Done}
 use Rattle.hh_model.specs.declared.data.Edge.{Edge}
@@ -14,11 +14,11 @@ use Rattle.race_report.specs.declared.data.Sight.TheVariants.{Prints}
 use Rattle.race_report.specs.Accesses.{accesses}
 use Rattle.race_report.specs.Sights.{looked, swaps_of}
 use Rattle.race_report.proofs.Raceless.{machine_ended}
-use Rattle.every_schedule.specs.Ordered.{IsOrdered}
-use Rattle.every_schedule.specs.Laws.{SpeaksUp}
-use Rattle.every_schedule.proofs.GoesOn.{every_run_goes_on}
-use Rattle.every_schedule.proofs.RaceFree.{ordered_is_race_free}
-use Rattle.every_schedule.proofs.Schedules.{every_end_agrees}
+use Rattle.schedule_laws.specs.Ordered.{IsOrdered}
+use Rattle.schedule_laws.specs.Laws.{SpeaksUp}
+use Rattle.schedule_laws.proofs.GoesOn.{every_run_goes_on}
+use Rattle.schedule_laws.proofs.RaceFree.{ordered_is_race_free}
+use Rattle.schedule_laws.proofs.Schedules.{every_end_agrees}
 use Rattle.schedule_report.specs.declared.data.Clashes.{Clashes}
 use Rattle.schedule_report.specs.declared.data.Verdict.{Verdict}
 use Rattle.schedule_report.specs.declared.data.Verdict.TheVariants.{Agree, AgreeButForPrints, MayDiffer}
@@ -31,7 +31,7 @@ use Rattle.schedule_report.proofs.Printed.{no_prints_race, prints_in_order}
 not_zero : (n : ℕ) → 0 < n → (n == 0) ≡ false
 not_zero n lt = grind arith
 
-module _ (p : ProgramText) (s : Limits) (journal : List Event) (c : Clashes) (A : AreClashes p s journal c) where
+module _ (p : ProgramText) (s : SettingsValue) (journal : List EntryValue) (c : Clashes) (A : AreClashes p s journal c) where
   abbrev limit : ℕ
   limit = field_limit s.version
 

@@ -1,16 +1,16 @@
 -- What the pairs of one whole run say of all schedules.
 use Rattle.std.specs.Prelude.{◌≡◌, ℕ, Option, Some, None, List}
 use Rattle.hh_lang.specs.Form.{ProgramText}
-use Rattle.run_trace.specs.Entry.{Event}
-use Rattle.run_trace.specs.Settings.{Limits, field_limit}
+use Rattle.run_trace.specs.Entry.{EntryValue}
+use Rattle.run_trace.specs.Settings.{SettingsValue, field_limit}
 use Rattle.hh_model.specs.declared.data.End.{End}
 use Rattle.hh_model.specs.declared.data.End.TheVariants.{Done}
 use Rattle.hh_model.specs.Step.{run}
 use Rattle.run_ledger.specs.Journals.{machine_of, tasks_of}
-use Rattle.every_schedule.specs.Ordered.{IsOrdered}
-use Rattle.every_schedule.specs.Prints.{PrintsAreOrdered, prints}
-use Rattle.every_schedule.specs.Agrees.{Agrees}
-use Rattle.every_schedule.specs.Laws.{GoesOn}
+use Rattle.schedule_laws.specs.Ordered.{IsOrdered}
+use Rattle.schedule_laws.specs.Prints.{PrintsAreOrdered, prints}
+use Rattle.schedule_laws.specs.Agrees.{Agrees}
+use Rattle.schedule_laws.specs.Laws.{GoesOn}
 use Rattle.schedule_report.specs.declared.data.Clashes.{Clashes}
 use Rattle.schedule_report.specs.declared.data.Verdict.{Verdict}
 use Rattle.schedule_report.specs.declared.data.Verdict.TheVariants.{Agree, AgreeButForPrints, MayDiffer}
@@ -29,7 +29,7 @@ Means p limit ts (MayDiffer n) = IsOrdered p limit ts → ⊥
 -- the verdict of a run's pairs is the one that is meant
 abbrev pub VerdictsAreExact : Type 0
 VerdictsAreExact =
-    (p : ProgramText) (s : Limits) (journal : List Event) (c : Clashes)
+    (p : ProgramText) (s : SettingsValue) (journal : List EntryValue) (c : Clashes)
     → AreClashes p s journal c → Means p (field_limit s.version) (tasks_of journal) (verdict_of c)
 
 -- a verdict that schedules agree, and one that makes no exception
@@ -47,6 +47,6 @@ Follows p limit ts v us (Some e) = (e ≡ Done) × Agrees p limit ts us × (v �
 -- where one whole run's verdict is that schedules agree, each other one of the program with as many fields allowed follows it
 abbrev pub AgreeingRunsSpeakForAll : Type 0
 AgreeingRunsSpeakForAll =
-    (p : ProgramText) (s s' : Limits) (journal journal' : List Event) (c : Clashes)
+    (p : ProgramText) (s s' : SettingsValue) (journal journal' : List EntryValue) (c : Clashes)
     → IsWhole p s journal → AreClashes p s journal c → SaysAgree (verdict_of c) → field_limit s'.version ≡ field_limit s.version
     → Follows p (field_limit s.version) (tasks_of journal) (verdict_of c) (tasks_of journal') (machine_of p s' journal').end

@@ -1,8 +1,8 @@
 -- The pairs of a run that the graph doesn't put in order, and what they say of other schedules.
 use Rattle.std.specs.Prelude.{◌≡◌, ℕ, ◌+◌, ◌-◌, ◌^◌, ◌==◌, Option, Some, None, List, length, min, if◌then◌else◌}
 use Rattle.hh_lang.specs.Form.{ProgramText}
-use Rattle.run_trace.specs.Entry.{Event}
-use Rattle.run_trace.specs.Settings.{Limits, field_limit}
+use Rattle.run_trace.specs.Entry.{EntryValue}
+use Rattle.run_trace.specs.Settings.{SettingsValue, field_limit}
 use Rattle.hh_model.specs.declared.data.End.TheVariants.{Done}
 use Rattle.run_ledger.specs.declared.data.RunEnd.TheVariants.{Machine}
 use Rattle.run_ledger.specs.Journals.{end_of, machine_of, tasks_of}
@@ -16,21 +16,21 @@ use Rattle.schedule_report.specs.declared.data.Verdict.{Verdict}
 use Rattle.schedule_report.specs.declared.data.Verdict.TheVariants.{Agree, AgreeButForPrints, MayDiffer}
 
 -- the run of a journal ended by the return of main
-abbrev pub IsWhole : ProgramText → Limits → List Event → Type 0
+abbrev pub IsWhole : ProgramText → SettingsValue → List EntryValue → Type 0
 IsWhole p s journal = end_of p s journal ≡ Some (Machine Done)
 
 -- of what a journal's run is looked through for these are the pairs that aren't in order, one for each field
-abbrev pub ArePairs : Sight → ProgramText → Limits → List Event → List Race → Type 0
+abbrev pub ArePairs : Sight → ProgramText → SettingsValue → List EntryValue → List Race → Type 0
 ArePairs sight p s journal = IsReport (machine_of p s journal).edges (looked sight p (field_limit s.version) (tasks_of journal))
 
 -- races, compare and swaps that contend, and prints
-pub record AreClashes (p : ProgramText) (s : Limits) (journal : List Event) (c : Clashes) : Type 0 where
+pub record AreClashes (p : ProgramText) (s : SettingsValue) (journal : List EntryValue) (c : Clashes) : Type 0 where
   pub races : ArePairs Fields p s journal c.races
   pub swaps : ArePairs Swaps p s journal c.swaps
   pub prints : ArePairs Prints p s journal c.prints
 
 -- a whole run has its pairs told, and no other has
-abbrev pub IsAnswer : ProgramText → Limits → List Event → Option Clashes → Type 0
+abbrev pub IsAnswer : ProgramText → SettingsValue → List EntryValue → Option Clashes → Type 0
 IsAnswer p s journal None = IsWhole p s journal → ⊥
 IsAnswer p s journal (Some c) = IsWhole p s journal × AreClashes p s journal c
 

@@ -4,16 +4,16 @@ use Rattle.std.specs.List.{AllByRecursion, IsDistinct}
 use Rattle.std.proofs.lemmas.Bool.{eq-eqb, false≢true}
 use Rattle.std.proofs.lemmas.Map.Keys.{IsDistinct-head, IsDistinct-tail}
 use Rattle.object_layout.specs.Cell.{Born, Cell, Hole, Mark, Moved, size_of}
-use Rattle.object_layout.specs.Content.{Content}
+use Rattle.object_layout.specs.ChunkValue.{ChunkValue}
 use Rattle.object_layout.specs.Objects.{Located, located_by, objects_from}
-use Rattle.chunk_pool.specs.Chunks.{owner_of}
+use Rattle.chunk_pool.specs.PoolValue.{owner_of}
 use Rattle.heap_tree.specs.Node.{state_of}
-use Rattle.core_relation.specs.Value.{Chunk, In, Value, objects}
+use Rattle.core_relation.specs.Memory.{Chunk, In, Memory, objects}
 use Rattle.core_relation.proofs.objects.Members.{in_map, in_objects, map_in}
 use Rattle.shared_value.specs.declared.task_at_rest.Rest.{Rest}
 use Rattle.shared_value.specs.Objects.{chunk_of, chunks_of}
-use Rattle.shared_value.specs.Stands.{IsWorld}
-use Rattle.shared_value.specs.World.{World, home_in, rest_at, value_of}
+use Rattle.shared_value.specs.Stands.{IsSharedValue}
+use Rattle.shared_value.specs.SharedValue.{SharedValue, home_in, rest_at, value_of}
 use Rattle.shared_value.proofs.FieldsLed.{home_chunks}
 use Rattle.heap_reading.specs.HeldNames.{is_state_running}
 use Rattle.heap_reading.specs.Image.{AreAll, Rises, objects_numbered, objects_of, objects_owned, shown}
@@ -47,7 +47,7 @@ from_rises number at (c ∷ cs) = by c.mark (from_rises number (at + size_of c) 
     by Hole up = up
 
 -- BY NUMBER
-numbered_rises : (n : ℕ) (ks : List Content) → Rises Lower (objects_numbered n (chunks_of ks))
+numbered_rises : (n : ℕ) (ks : List ChunkValue) → Rises Lower (objects_numbered n (chunks_of ks))
 numbered_rises n [] = tt
 numbered_rises n (k ∷ ks) = by (k.number == n) (numbered_rises n ks)
   where
@@ -81,8 +81,8 @@ in_numbered n (k ∷ ks) c o d i e j = by (λ h. in_numbered n ks c o (IsDistinc
     by go false f (inr i) = go i
 
 -- OF A SHARED VALUE
-module _ (w : World) (I : IsWorld w) where
-  abbrev v : Value
+module _ (w : SharedValue) (I : IsSharedValue w) where
+  abbrev v : Memory
   v = value_of w
 
   home_rises : (n : ℕ) (r : Option Rest) → Rises Lower (objects_numbered n (home_in r).chunks)

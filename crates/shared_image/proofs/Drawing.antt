@@ -13,18 +13,18 @@ use Rattle.object_layout.specs.Cell.{IsRef}
 use Rattle.object_layout.specs.Layout.{word_of_ref}
 use Rattle.object_layout.specs.Objects.{Located}
 use Rattle.chunk_pool.specs.declared.pool.Held.{Held}
-use Rattle.chunk_pool.specs.Chunks.{held_at}
+use Rattle.chunk_pool.specs.PoolValue.{held_at}
 use Rattle.heap_tree.specs.Node.{state_of}
 use Rattle.remembered_set.specs.declared.remembered.Source.{Source}
-use Rattle.ledger_steps.specs.Accounts.{Rests, own}
+use Rattle.ledger_step_laws.specs.Accounts.{Rests, own}
 use Rattle.core_relation.specs.Layout.{words}
 use Rattle.core_relation.specs.Reads.{IsRead}
 use Rattle.core_relation.specs.Stands.{HomeStands, IsSource, Place}
-use Rattle.core_relation.specs.Value.{Chunk as ChunkOf, In, Value, object_name, objects, sources}
+use Rattle.core_relation.specs.Memory.{Chunk as ChunkOf, In, Memory, object_name, objects, sources}
 use Rattle.core_relation.proofs.objects.Members.{map_in}
 use Rattle.core_relation.proofs.notes.Roots.{name_at}
-use Rattle.shared_value.specs.Stands.{IsWorld}
-use Rattle.shared_value.specs.World.{World, value_of}
+use Rattle.shared_value.specs.Stands.{IsSharedValue}
+use Rattle.shared_value.specs.SharedValue.{SharedValue, value_of}
 use Rattle.heap_reading.specs.HeldNames.{is_state_running}
 use Rattle.heap_reading.specs.Image.{field_of, shown}
 use Rattle.image_check.specs.declared.line.Remembered.{Remembered}
@@ -38,8 +38,8 @@ use Rattle.shared_image.proofs.Known.{T, k, owners, rests, runs, task_live}
 use Rattle.shared_image.proofs.Links.{chunk_in, made_at, not_running, on_path, owned_at, owner_is, running}
 use Rattle.shared_image.proofs.Numbers.{all_in, before_offset, chunk_of_word, got_at, in_at, offset_of_word, word_some}
 
-module _ (w : World) (I : IsWorld w) (F : AreHeldInWords w) (p : Picture) (P : IsPictureOf w p) where
-  abbrev v : Value
+module _ (w : SharedValue) (I : IsSharedValue w) (F : AreHeldInWords w) (p : Picture) (P : IsPictureOf w p) where
+  abbrev v : Memory
   v = value_of w
 
   abbrev TT : List Task

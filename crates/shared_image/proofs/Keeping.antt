@@ -12,13 +12,13 @@ use Rattle.object_layout.specs.Cell.{IsRef}
 use Rattle.object_layout.specs.Layout.{word_of_ref}
 use Rattle.object_layout.specs.Objects.{Located}
 use Rattle.heap_tree.specs.Node.{state_of}
-use Rattle.ledger_steps.specs.Accounts.{own}
+use Rattle.ledger_step_laws.specs.Accounts.{own}
 use Rattle.core_relation.specs.Reads.{AllRead}
 use Rattle.core_relation.specs.Stands.{Place}
-use Rattle.core_relation.specs.Value.{In, Value, object_name, objects}
+use Rattle.core_relation.specs.Memory.{In, Memory, object_name, objects}
 use Rattle.core_relation.proofs.objects.Members.{held_object, object_held}
-use Rattle.shared_value.specs.Stands.{IsWorld}
-use Rattle.shared_value.specs.World.{World, accounts, value_of}
+use Rattle.shared_value.specs.Stands.{IsSharedValue}
+use Rattle.shared_value.specs.SharedValue.{SharedValue, accounts, value_of}
 use Rattle.heap_reading.specs.HeldNames.{is_state_running}
 use Rattle.heap_reading.specs.Image.{shown}
 use Rattle.heap_reading.proofs.KeptNames.{handed_held}
@@ -31,11 +31,11 @@ use Rattle.shared_image.proofs.Links.{owned_at}
 use Rattle.shared_image.proofs.Numbers.{all_in}
 use Rattle.shared_image.proofs.Resting.{H, content}
 
-module _ (w : World) (I : IsWorld w) (F : AreHeldInWords w) (p : Picture) (P : IsPictureOf w p) where
+module _ (w : SharedValue) (I : IsSharedValue w) (F : AreHeldInWords w) (p : Picture) (P : IsPictureOf w p) where
   abbrev l : Ledger
   l = accounts w
 
-  abbrev v : Value
+  abbrev v : Memory
   v = value_of w
 
   runs_now : (t : ℕ) → is_state_running (state_of w.tree t) ≡ is_running (slice_get l.machine.tasks t)

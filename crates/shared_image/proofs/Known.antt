@@ -26,10 +26,10 @@ use Rattle.run_ledger.proofs.Counted.{journals_are_counted}
 use Rattle.run_ledger.proofs.Machine.{machine_is_run}
 use Rattle.heap_tree.specs.declared.state.State.TheVariants.{Joined as IsJoined}
 use Rattle.heap_tree.specs.Node.{state_of}
-use Rattle.ledger_steps.specs.Accounts.{Rests}
+use Rattle.ledger_step_laws.specs.Accounts.{Rests}
 use Rattle.core_relation.specs.Whole.{handed}
-use Rattle.shared_value.specs.Stands.{IsWorld}
-use Rattle.shared_value.specs.World.{World, accounts}
+use Rattle.shared_value.specs.Stands.{IsSharedValue}
+use Rattle.shared_value.specs.SharedValue.{SharedValue, accounts}
 use Rattle.heap_reading.specs.declared.live.Live.{Live}
 use Rattle.heap_reading.specs.HeldNames.{is_state_running}
 use Rattle.heap_reading.specs.Image.{IsLive}
@@ -41,7 +41,7 @@ few_by : (v : Version) → max (field_limit v) 32 ≤ 1000000
 few_by One = omega arith
 few_by Two = omega arith
 
-module _ (w : World) (I : IsWorld w) where
+module _ (w : SharedValue) (I : IsSharedValue w) where
   abbrev pub l : Ledger
   l = accounts w
 

@@ -10,13 +10,13 @@ use Rattle.hh_model.specs.Step.{is_on_path, joined, owner_of, parent_of, parents
 use Rattle.object_layout.specs.declared.word.Addr.{Addr}
 use Rattle.object_layout.specs.Layout.{word_of_ref}
 use Rattle.chunk_pool.specs.declared.pool.Held.{Held}
-use Rattle.chunk_pool.specs.Chunks.{held_at}
+use Rattle.chunk_pool.specs.PoolValue.{held_at}
 use Rattle.heap_tree.specs.declared.state.State.{State}
 use Rattle.heap_tree.specs.declared.state.State.TheVariants.{Ready, Out, Waiting, Ended, Joined}
 use Rattle.heap_tree.specs.Node.{Node, state_of}
-use Rattle.core_relation.specs.Value.{Value}
-use Rattle.shared_value.specs.Stands.{IsWorld}
-use Rattle.shared_value.specs.World.{World, accounts, value_of}
+use Rattle.core_relation.specs.Memory.{Memory}
+use Rattle.shared_value.specs.Stands.{IsSharedValue}
+use Rattle.shared_value.specs.SharedValue.{SharedValue, accounts, value_of}
 use Rattle.heap_reading.specs.declared.live.InUse.{InUse}
 use Rattle.heap_reading.specs.HeldNames.{is_state_running}
 use Rattle.heap_reading.specs.Image.{IsInUse}
@@ -56,11 +56,11 @@ made_at [] t lt = absurd (omega arith)
 made_at (x ∷ xs) zero lt = (x, refl)
 made_at (x ∷ xs) (suc t) lt = made_at xs t (omega (arith, lt))
 
-module _ (w : World) (I : IsWorld w) (p : Picture) (P : IsPictureOf w p) where
+module _ (w : SharedValue) (I : IsSharedValue w) (p : Picture) (P : IsPictureOf w p) where
   abbrev TT : List Task
   TT = T w I
 
-  abbrev v : Value
+  abbrev v : Memory
   v = value_of w
 
   -- TASKS

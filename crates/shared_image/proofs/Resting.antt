@@ -12,17 +12,17 @@ use Rattle.hh_model.specs.Step.{is_running, is_waiting, joined, runs as status_r
 use Rattle.run_ledger.specs.Heaps.{heap_of}
 use Rattle.object_layout.specs.declared.word.Addr.{Addr}
 use Rattle.object_layout.specs.Objects.{Located}
-use Rattle.chunk_pool.specs.Chunks.{held_at}
-use Rattle.ledger_steps.specs.Accounts.{Rests, own}
+use Rattle.chunk_pool.specs.PoolValue.{held_at}
+use Rattle.ledger_step_laws.specs.Accounts.{Rests, own}
 use Rattle.core_relation.specs.Reads.{AllRead, IsRead}
 use Rattle.core_relation.specs.Stands.{HomeStands, Place, Stands}
-use Rattle.core_relation.specs.Value.{Chunk as ChunkOf, In, Value, object_name, objects, objects_in}
+use Rattle.core_relation.specs.Memory.{Chunk as ChunkOf, In, Memory, object_name, objects, objects_in}
 use Rattle.core_relation.proofs.objects.Members.{in_chunk, map_in, object_held}
 use Rattle.shared_value.specs.declared.task_at_rest.Rest.{Rest}
 use Rattle.shared_value.specs.Measured.{IsUnheld}
 use Rattle.shared_value.specs.Objects.{chunk_of}
-use Rattle.shared_value.specs.Stands.{IsWorld}
-use Rattle.shared_value.specs.World.{World, home_in, rest_at, value_of}
+use Rattle.shared_value.specs.Stands.{IsSharedValue}
+use Rattle.shared_value.specs.SharedValue.{SharedValue, home_in, rest_at, value_of}
 use Rattle.shared_value.proofs.FieldsLed.{home_chunks}
 use Rattle.shared_image.specs.Drawn.{IsHandedBack}
 use Rattle.shared_image.proofs.Known.{T, k, owned, owners, rests}
@@ -50,8 +50,8 @@ waits_idle (Some y) e = by y.status e
     by (Ended n r) z = refl
     by Joined z = refl
 
-module _ (w : World) (I : IsWorld w) where
-  abbrev v : Value
+module _ (w : SharedValue) (I : IsSharedValue w) where
+  abbrev v : Memory
   v = value_of w
 
   abbrev TT : List Task

@@ -3,11 +3,11 @@ use Rattle.std.proofs.Common.{◌≡◌, ◌⊎◌, ℕ, ◌+◌, ◌*◌, ◌<�
 use Rattle.listed.proofs.Members.{in_append_cases, in_append_left, in_append_right}
 use Rattle.hh_model.specs.Step.{owner_of}
 use Rattle.chunk_pool.specs.declared.pool.Held.{Held}
-use Rattle.chunk_pool.specs.Chunks.{held_at}
+use Rattle.chunk_pool.specs.PoolValue.{held_at}
 use Rattle.object_layout.specs.Objects.{Located}
-use Rattle.core_relation.specs.Value.{In, objects}
-use Rattle.shared_value.specs.Stands.{IsWorld}
-use Rattle.shared_value.specs.World.{World, accounts, value_of}
+use Rattle.core_relation.specs.Memory.{In, objects}
+use Rattle.shared_value.specs.Stands.{IsSharedValue}
+use Rattle.shared_value.specs.SharedValue.{SharedValue, accounts, value_of}
 use Rattle.heap_reading.specs.declared.live.InUse.{InUse}
 use Rattle.heap_reading.specs.declared.live.Live.{Live}
 use Rattle.heap_reading.specs.declared.noted.Field.{Field}
@@ -35,7 +35,7 @@ front_or_last xs i x y e j = elim (in_append_cases (take i xs) (x ∷ []) y (sub
   | inr h ↦ elim h [ inl same ↦ inr same | inr none ↦ absurd none ]
 ]
 
-module _ (w : World) (I : IsWorld w) where
+module _ (w : SharedValue) (I : IsSharedValue w) where
   -- CHUNKS
   module _ (cs : List InUse) (i : ℕ) (c : InUse) (all : AreAll InUseBefore (IsInUse w) cs) (is : slice_get cs i ≡ Some c) where
     abbrev Here : Picked → Type 0

@@ -15,12 +15,12 @@ use Rattle.object_layout.specs.Cell.{IsRef}
 use Rattle.object_layout.specs.Layout.{word_of_ref}
 use Rattle.object_layout.specs.Objects.{Located}
 use Rattle.chunk_pool.specs.declared.pool.Held.{Held}
-use Rattle.chunk_pool.specs.Chunks.{AreChunks, held_at, held_in, units_held, units_in, units_in_use}
+use Rattle.chunk_pool.specs.PoolValue.{AreChunks, held_at, held_in, units_held, units_in, units_in_use}
 use Rattle.core_relation.specs.Stands.{Place}
-use Rattle.core_relation.specs.Value.{In, Value, object_name, objects}
+use Rattle.core_relation.specs.Memory.{In, Memory, object_name, objects}
 use Rattle.core_relation.proofs.objects.Members.{map_in}
-use Rattle.shared_value.specs.Stands.{IsWorld}
-use Rattle.shared_value.specs.World.{World, accounts, value_of}
+use Rattle.shared_value.specs.Stands.{IsSharedValue}
+use Rattle.shared_value.specs.SharedValue.{SharedValue, accounts, value_of}
 use Rattle.shared_value.proofs.BeforeTheEnd.{used_now}
 use Rattle.heap_reading.specs.declared.live.Live.{Live}
 use Rattle.heap_reading.specs.Image.{IsLive, shown}
@@ -44,8 +44,8 @@ units_most [] n h e = absurd cc
 units_most (s ∷ slots) zero h e = let a : units_held s ≡ h.units = ap units_held e in omega (arith, a)
 units_most (s ∷ slots) (suc n) h e = let a : h.units ≤ units_in slots = units_most slots n h e in omega (arith, a)
 
-module _ (w : World) (I : IsWorld w) (C : AreChunks w.pool.slots) (F : AreHeldInWords w) (p : Picture) (P : IsPictureOf w p) where
-  abbrev v : Value
+module _ (w : SharedValue) (I : IsSharedValue w) (C : AreChunks w.pool.slots) (F : AreHeldInWords w) (p : Picture) (P : IsPictureOf w p) where
+  abbrev v : Memory
   v = value_of w
 
   abbrev TT : List TaskOf

@@ -1,8 +1,8 @@
 -- A picture as it is drawn: chunk by chunk, and task by task.
 use Rattle.std.specs.Prelude.{◌≡◌, List}
 use Rattle.object_layout.specs.Objects.{Located}
-use Rattle.core_relation.specs.Value.{In}
-use Rattle.shared_value.specs.World.{World}
+use Rattle.core_relation.specs.Memory.{In}
+use Rattle.shared_value.specs.SharedValue.{SharedValue}
 use Rattle.heap_reading.specs.declared.live.InUse.{InUse}
 use Rattle.heap_reading.specs.declared.live.Live.{Live}
 use Rattle.heap_reading.specs.declared.noted.Field.{Field}
@@ -12,9 +12,9 @@ use Rattle.heap_image.specs.declared.picture.Picked.{Picked}
 use Rattle.shared_image.specs.Drawn.{drawn_field, drawn_object}
 
 -- it is an object of one of these chunks
-abbrev pub AreObjectsOf : World → List InUse → Picked → Type 0
+abbrev pub AreObjectsOf : SharedValue → List InUse → Picked → Type 0
 AreObjectsOf w cs q = (c : InUse) × (o : Located) × In cs c × In (objects_of w c.number) o × (q ≡ drawn_object (shown o))
 
 -- it is a field that the set of one of these tasks has
-abbrev pub AreFieldsOf : World → List Live → Remembered → Type 0
+abbrev pub AreFieldsOf : SharedValue → List Live → Remembered → Type 0
 AreFieldsOf w xs f = (x : Live) × (g : Field) × In xs x × IsNoted w x.number g × (f ≡ drawn_field x.number g)

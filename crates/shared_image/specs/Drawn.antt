@@ -4,8 +4,8 @@ use Rattle.heap_tree.specs.declared.state.State.{State}
 use Rattle.heap_tree.specs.declared.state.State.TheVariants.{Ready, Out, Waiting, Ended, Joined}
 use Rattle.heap_tree.specs.Node.{state_of}
 use Rattle.object_layout.specs.Objects.{Located}
-use Rattle.core_relation.specs.Value.{In, objects}
-use Rattle.shared_value.specs.World.{World, value_of}
+use Rattle.core_relation.specs.Memory.{In, objects}
+use Rattle.shared_value.specs.SharedValue.{SharedValue, value_of}
 use Rattle.heap_reading.specs.declared.live.InUse.{InUse}
 use Rattle.heap_reading.specs.declared.live.Live.{Live}
 use Rattle.heap_reading.specs.declared.noted.Field.{Field}
@@ -46,33 +46,33 @@ drawn_field t f = record { task = t; address = f.object; place = f.field }
 -- OF A SHARED VALUE
 
 -- it is a task that hasn't joined
-abbrev pub IsTaskOf : World → Task → Type 0
+abbrev pub IsTaskOf : SharedValue → Task → Type 0
 IsTaskOf w t = (x : Live) × IsLive w x × (t ≡ drawn_task x)
 
 -- it is a chunk in use
-abbrev pub IsChunkOf : World → Chunk → Type 0
+abbrev pub IsChunkOf : SharedValue → Chunk → Type 0
 IsChunkOf w c = (x : InUse) × IsInUse w x × (c ≡ drawn_chunk x)
 
 -- the heap of a task that doesn't run is handed back
-abbrev pub IsHandedBack : World → ℕ → Type 0
+abbrev pub IsHandedBack : SharedValue → ℕ → Type 0
 IsHandedBack w t = is_state_running (state_of w.tree t) ≡ false
 
 -- it is an object of a heap handed back
-abbrev pub IsObjectOf : World → Picked → Type 0
+abbrev pub IsObjectOf : SharedValue → Picked → Type 0
 IsObjectOf w q = (t : ℕ) × (o : Located) × IsHandedBack w t × In (objects (value_of w) t) o × (q ≡ drawn_object (shown o))
 
 -- it is a field that the set of a task that hasn't joined has
-abbrev pub IsFieldOf : World → Remembered → Type 0
+abbrev pub IsFieldOf : SharedValue → Remembered → Type 0
 IsFieldOf w f = (x : Live) × (g : Field) × IsLive w x × IsNoted w x.number g × (f ≡ drawn_field x.number g)
 
 -- the picture has just the tasks that haven't joined, the chunks in use, the objects of the heaps handed back and the fields of the
 -- sets, each once and in order
-pub record IsPictureOf (w : World) (p : Picture) : Type 0 where
+pub record IsPictureOf (w : SharedValue) (p : Picture) : Type 0 where
   pub tasks : AreAll TaskBefore (IsTaskOf w) p.tasks
   pub chunks : AreAll ChunkBefore (IsChunkOf w) p.chunks
   pub objects : AreAll ObjectBefore (IsObjectOf w) p.objects
   pub fields : AreAll FieldBefore (IsFieldOf w) p.fields
 
 -- words hold the objects of the heaps handed back
-abbrev pub AreHeldInWords : World → Type 0
+abbrev pub AreHeldInWords : SharedValue → Type 0
 AreHeldInWords w = (t : ℕ) (o : Located) → IsHandedBack w t → In (objects (value_of w) t) o → IsInWords o

@@ -7,8 +7,8 @@ use Rattle.hh_model.specs.Effect.{object_at}
 use Rattle.hh_model.specs.Step.{is_running, owner_of}
 use Rattle.run_ledger.specs.declared.data.Ledger.{Ledger}
 use Rattle.run_ledger.specs.Heaps.{heap_of, held_in}
-use Rattle.shared_value.specs.Stands.{IsWorld}
-use Rattle.shared_value.specs.World.{World, accounts}
+use Rattle.shared_value.specs.Stands.{IsSharedValue}
+use Rattle.shared_value.specs.SharedValue.{SharedValue, accounts}
 use Rattle.heap_image.specs.declared.picture.Picked.{Picked}
 use Rattle.heap_image.specs.declared.picture.Picture.{Picture}
 use Rattle.heap_image.specs.Picture.{IsOwned}
@@ -53,4 +53,4 @@ pub record HasJustKept (p : Picture) (l : Ledger) : Type 0 where
   pub all : (n : Name) → IsKept l n → (q : Picked) × In p.objects q × StandsFor p l q n
 
 abbrev pub PicturesHaveJustKept : Type 0
-PicturesHaveJustKept = (w : World) (p : Picture) → IsWorld w → AreHeldInWords w → IsPictureOf w p → HasJustKept p (accounts w)
+PicturesHaveJustKept = (w : SharedValue) (p : Picture) → IsSharedValue w → AreHeldInWords w → IsPictureOf w p → HasJustKept p (accounts w)

@@ -16,8 +16,8 @@ use Rattle.task_machine.specs.declared.part.Private.{Private}
 use Rattle.task_machine.specs.Fits.{FitsNow as FitsMachine}
 use Rattle.task_machine.specs.Place.{Places}
 use Rattle.task_machine.proofs.Agreement.{same_line}
-use Rattle.shared_value.specs.World.{World, accounts, flat, rest_at, value_of}
-use Rattle.shared_value.specs.Stands.{IsWorld}
+use Rattle.shared_value.specs.SharedValue.{SharedValue, accounts, flat, rest_at, value_of}
+use Rattle.shared_value.specs.Stands.{IsSharedValue}
 use Rattle.shared_value.specs.Fits.{AllFit, Fits}
 use Rattle.shared_value.specs.Entered.{IsCaused, RanAnswers, refused}
 use Rattle.shared_value.specs.declared.answer.NotRan.{NotRan}
@@ -51,7 +51,7 @@ other_by tasks t x (Par g h) par ret e = absurd (par g h refl)
 other_by tasks t x Ret par ret e = absurd (ret refl)
 other_by tasks t x _ par ret e = e
 
-module _ (w : World) (k : ℕ) (p : Private) (I : IsWorld w) (F : Fits w k p) (shared : IsShared w p) (free : refused w (alone_event k p) ≡ None) (joint : IsJoint w p) (line : Line) (next : next_line w.program p ≡ Some line) where
+module _ (w : SharedValue) (k : ℕ) (p : Private) (I : IsSharedValue w) (F : Fits w k p) (shared : IsShared w p) (free : refused w (alone_event k p) ≡ None) (joint : IsJoint w p) (line : Line) (next : next_line w.program p ≡ Some line) where
   on : (accounts w).end ≡ None
   on = runs_on w k p I F shared free
 
@@ -104,7 +104,7 @@ module _ (w : World) (k : ℕ) (p : Private) (I : IsWorld w) (F : Fits w k p) (s
 
 -- ---- WHO HOLDS NOTHING
 
-pub holds_none : (w after : World) (k : ℕ) (p : Private) → IsWorld w → IsWorld after → refused w (alone_event k p) ≡ None → after.hands ≡ slice_set w.hands k None → HoldsNone after k
+pub holds_none : (w after : SharedValue) (k : ℕ) (p : Private) → IsSharedValue w → IsSharedValue after → refused w (alone_event k p) ≡ None → after.hands ≡ slice_set w.hands k None → HoldsNone after k
 holds_none w after k p I I' free hand t held =
     no_task (sym (ap (λ hs. flat (slice_get hs k)) hand ∙ ap flat (put_there w.hands k None (worker_there w (alone_event k p) I free))) ∙ (I'.stands.totals.hand k t).1 held)
   where
@@ -117,11 +117,11 @@ some_is : (o : Option SetOf) → is_some (option_map content_of o) ≡ is_some o
 some_is None = refl
 some_is (Some s) = refl
 
-pub same_places : (w after : World) → SameButRoom w after → SameButPlaces w after
+pub same_places : (w after : SharedValue) → SameButRoom w after → SameButPlaces w after
 same_places w after S =
-    let homes_are : after.homes ≡ w.homes = ap (λ (z : World). z.homes) S.same in
+    let homes_are : after.homes ≡ w.homes = ap (λ (z : SharedValue). z.homes) S.same in
     record {
-      rest = S.same ∙ ap (λ hs. let z : World = record w { homes = hs; sets = after.sets } in z) (sym homes_are);
+      rest = S.same ∙ ap (λ hs. let z : SharedValue = record w { homes = hs; sets = after.sets } in z) (sym homes_are);
       many = ap length homes_are;
       homes = λ u. same_itself (rest_at w.homes u) (rest_at after.homes u) (ap (λ hs. rest_at hs u) homes_are);
       many_sets = same_length after.sets w.sets (λ u. sym (some_is (slice_get after.sets u)) ∙ (ap is_some (S.sets u) ∙ some_is (slice_get w.sets u)));
@@ -129,14 +129,14 @@ same_places w after S =
     }
 
 -- an entry that isn't refused wasn't made for want of memory alone
-pub room_unchanged : (w after : World) (e : NotEntered) → IsCaused e None → SameButRoom w after → IsUnchanged e w after
+pub room_unchanged : (w after : SharedValue) (e : NotEntered) → IsCaused e None → SameButRoom w after → IsUnchanged e w after
 room_unchanged w after (Refuses cause) why S = absurd (none_cause why)
   where
     none_cause : {r : Refused} → ◌≡◌ {A = Option Refused} None (Some r) → ⊥
     none_cause q = cc
 room_unchanged w after NoMemory why S = same_places w after S
 
-pub results_unchanged : {A : Type 0} → (w after : World) (r : Result A NotRan) → RanAnswers r None → OnErr r (SameButRoom w after) → IfErr r (λ e. IsUnchanged e.cause w after)
+pub results_unchanged : {A : Type 0} → (w after : SharedValue) (r : Result A NotRan) → RanAnswers r None → OnErr r (SameButRoom w after) → IfErr r (λ e. IsUnchanged e.cause w after)
 results_unchanged w after (Ok a) why S = tt
 results_unchanged w after (Err e) why S = room_unchanged w after e.cause why S
 
@@ -147,16 +147,16 @@ abbrev pub ran_by : Forking → Ran
 ran_by (Forked left right) = RanForked left right
 ran_by (Over q) = RanOver q
 
-pub forks_to : (w after : World) (k : ℕ) (p : Private) → IsWorld w → IsWorld after → refused w (alone_event k p) ≡ None → (f : Forking) → ForkAnswered w after k p f → LeavesHand w.hands after.hands k f → RanTo w after k p (ran_by f)
+pub forks_to : (w after : SharedValue) (k : ℕ) (p : Private) → IsSharedValue w → IsSharedValue after → refused w (alone_event k p) ≡ None → (f : Forking) → ForkAnswered w after k p f → LeavesHand w.hands after.hands k f → RanTo w after k p (ran_by f)
 forks_to w after k p I I' free (Forked left right) on hand = (on, holds_none w after k p I I' free hand)
 forks_to w after k p I I' free (Over q) over hand = over
 
-pub beyond_same : (w after : World) (p q : Private) → IsBeyond w after p q → (G : World → Private → Type 0) → G w p → G after q
-beyond_same w after p q B G g = subst (λ (z : World). G z q) (sym B.same) (subst (G w) (sym B.part) g)
+pub beyond_same : (w after : SharedValue) (p q : Private) → IsBeyond w after p q → (G : SharedValue → Private → Type 0) → G w p → G after q
+beyond_same w after p q B G g = subst (λ (z : SharedValue). G z q) (sym B.same) (subst (G w) (sym B.part) g)
 
-pub same_by : (w after : World) (e : NotEntered) → after ≡ w → IsUnchanged e w after
+pub same_by : (w after : SharedValue) (e : NotEntered) → after ≡ w → IsUnchanged e w after
 same_by w after (Refuses cause) same = same
 same_by w after NoMemory same = subst (SameButPlaces w) (sym same) (same_world w)
 
-pub fit_by : (w after : World) → after ≡ w → AllFit w after
+pub fit_by : (w after : SharedValue) → after ≡ w → AllFit w after
 fit_by w after same = subst (AllFit w) (sym same) (λ k p F. F)

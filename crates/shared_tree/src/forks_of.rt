@@ -1,7 +1,7 @@
 // The fork on which a task waits, and what that tells of the marking of its heap.
 
 ghost use Rattle.std.specs.Prelude.{◌≡◌, None, slice_get};
-ghost use Rattle.shared_value.specs.World.{accounts};
+ghost use Rattle.shared_value.specs.SharedValue.{accounts};
 ghost use Rattle.heap_marking.specs.Pace.{is_going, is_to_begin, IsForkOf};
 
 use crate::shared::Shared;

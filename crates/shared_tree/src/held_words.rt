@@ -3,8 +3,8 @@
 ghost use Rattle.std.specs.Prelude.{◌≡◌, ◌<◌, length};
 ghost use Rattle.run_ledger.specs.Heaps.{words_sum};
 ghost use Rattle.run_ledger.specs.Report.{kept};
-ghost use Rattle.alloc_path.specs.Heap.{counted};
-ghost use Rattle.shared_value.specs.World.{accounts};
+ghost use Rattle.alloc_path.specs.LeafHeapValue.{counted};
+ghost use Rattle.shared_value.specs.SharedValue.{accounts};
 ghost use Rattle.heap_reading.specs.HeldNames.{kept_of};
 
 use crate::shared::Shared;

@@ -1,7 +1,7 @@
 // What a run leaves, and its journal.
 
 ghost use Rattle.std.specs.Prelude.{◌≡◌};
-ghost use Rattle.shared_value.specs.World.{without_journal};
+ghost use Rattle.shared_value.specs.SharedValue.{without_journal};
 
 use crate::shared::Shared;
 use chunk_pool::Pool;
@@ -36,9 +36,9 @@ pub struct Left {
 
 impl Model for Left {
     ghost use Rattle.std.specs.Prelude.{[]};
-    ghost use Rattle.shared_value.specs.World.{World};
+    ghost use Rattle.shared_value.specs.SharedValue.{SharedValue};
 
-    ghost Value = { World };
+    ghost Value = { SharedValue };
 
     ghost view = { λ s. record { program = s.program; settings = s.settings; tree = s.tree; pool = s.pool; homes = s.homes; sets = s.sets.items; marks = s.marks; hands = s.hands; outputs = s.outputs; journal = record { items = []; room = 0 }; steps = s.steps; end = s.end; halted = s.halted } };
 }

@@ -5,7 +5,7 @@ ghost use Rattle.run_ledger.specs.Heaps.{heap_of};
 ghost use Rattle.core_relation.specs.Marking.{GoesOn};
 ghost use Rattle.shared_value.specs.Entered.{refused, Answers, Enters};
 ghost use Rattle.shared_value.specs.Fits.{AllFit};
-ghost use Rattle.shared_value.specs.World.{accounts, value_of};
+ghost use Rattle.shared_value.specs.SharedValue.{accounts, value_of};
 ghost use Rattle.heap_marking.specs.MarkCauses.{words_cause};
 
 use crate::shared::Shared;

@@ -2,8 +2,8 @@
 
 ghost use Rattle.std.specs.Prelude.{◌≡◌, ◌==◌, None};
 ghost use Rattle.run_ledger.specs.Heaps.{heap_of, left_in, words_in};
-ghost use Rattle.alloc_path.specs.Heap.{counted};
-ghost use Rattle.shared_value.specs.World.{accounts};
+ghost use Rattle.alloc_path.specs.LeafHeapValue.{counted};
+ghost use Rattle.shared_value.specs.SharedValue.{accounts};
 ghost use Rattle.heap_marking.specs.MarkCauses.{marking_cause, waiting_cause};
 
 use crate::shared::Shared;

@@ -4,7 +4,7 @@ ghost use Rattle.std.specs.Prelude.{◌≡◌, ◌<◌, ◌≤◌, ℕ, IfOk, On
 ghost use Rattle.run_ledger.specs.Heaps.{heap_of, left_in};
 ghost use Rattle.shared_value.specs.Entered.{cause_of, refused, Enters};
 ghost use Rattle.shared_value.specs.Fits.{AllFit};
-ghost use Rattle.shared_value.specs.World.{accounts};
+ghost use Rattle.shared_value.specs.SharedValue.{accounts};
 
 use crate::shared::Shared;
 use heap_marking::marking_cause;

@@ -4,7 +4,7 @@ ghost use Rattle.std.specs.Prelude.{◌≡◌, ◌<◌, ◌≤◌, ◌-◌, List
 ghost use Rattle.hh_model.specs.declared.data.Strand.{Strand};
 ghost use Rattle.run_ledger.specs.Pace.{more_of, owed, owed_to_marks};
 ghost use Rattle.run_ledger.specs.declared.data.WorkerPace.{WorkerPace};
-ghost use Rattle.shared_value.specs.World.{accounts};
+ghost use Rattle.shared_value.specs.SharedValue.{accounts};
 ghost use Rattle.heap_marking.specs.MarkCauses.{marking_cause};
 ghost use Rattle.heap_marking.specs.Pace.{IsLastGoing, KeepsMarks, KeepsPace};
 

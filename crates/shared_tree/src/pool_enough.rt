@@ -3,7 +3,7 @@
 ghost use Rattle.std.specs.Prelude.{◌≡◌};
 ghost use Rattle.run_ledger.specs.Entries.{is_pool_enough};
 ghost use Rattle.shared_value.specs.Due.{IsHeld};
-ghost use Rattle.shared_value.specs.World.{accounts};
+ghost use Rattle.shared_value.specs.SharedValue.{accounts};
 
 use crate::shared::Shared;
 use leaf_collections::chunks_for;

@@ -3,7 +3,7 @@
 ghost use Rattle.std.specs.Prelude.{◌≡◌, ℕ, IfOk, None};
 ghost use Rattle.shared_value.specs.Fits.{Fits};
 ghost use Rattle.shared_value.specs.Roots.{roots_of};
-ghost use Rattle.shared_value.specs.World.{accounts};
+ghost use Rattle.shared_value.specs.SharedValue.{accounts};
 
 use crate::shared::Shared;
 use chunk_pool::Pool;

@@ -5,7 +5,7 @@ ghost use Rattle.run_ledger.specs.Entries.{counted, refused_unless};
 ghost use Rattle.run_ledger.specs.Heaps.{heap_of, left_in, marked_in, sweep_number};
 ghost use Rattle.shared_value.specs.Entered.{cause_of, refused, Enters};
 ghost use Rattle.shared_value.specs.Fits.{AllFit};
-ghost use Rattle.shared_value.specs.World.{accounts};
+ghost use Rattle.shared_value.specs.SharedValue.{accounts};
 ghost use Rattle.heap_marking.specs.MarkCauses.{marking_cause};
 
 use crate::shared::Shared;

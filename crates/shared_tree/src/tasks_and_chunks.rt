@@ -2,8 +2,8 @@
 
 ghost use Rattle.std.specs.Prelude.{◌≡◌, ◌<◌, IfOk, IfSome, None, length};
 ghost use Rattle.hh_model.specs.Step.{owner_of};
-ghost use Rattle.chunk_pool.specs.Chunks.{AreChunks};
-ghost use Rattle.shared_value.specs.World.{accounts};
+ghost use Rattle.chunk_pool.specs.PoolValue.{AreChunks};
+ghost use Rattle.shared_value.specs.SharedValue.{accounts};
 ghost use Rattle.heap_reading.specs.Image.{AreAll, ChunkBefore, IsInUse, IsLive, LiveBefore};
 
 use crate::shared::Shared;

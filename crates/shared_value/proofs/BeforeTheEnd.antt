@@ -11,7 +11,7 @@ use Rattle.run_ledger.specs.declared.data.RunEnd.TheVariants.{Fuel, Machine, Poo
 use Rattle.run_ledger.specs.Heaps.{heap_at, in_use, let_go, units_in, with_heap_at}
 use Rattle.run_ledger.specs.Entries.{held_from}
 use Rattle.run_ledger.proofs.Going.{machine_goes_on}
-use Rattle.chunk_pool.specs.Chunks.{units_in_use}
+use Rattle.chunk_pool.specs.PoolValue.{units_in_use}
 use Rattle.core_relation.specs.Copies.{PartFits}
 use Rattle.core_relation.specs.Fits.{FitsAt}
 use Rattle.core_relation.specs.Frames.{IsOut}
@@ -19,8 +19,8 @@ use Rattle.core_relation.specs.Whole.{StandsFor, by_end, handed}
 use Rattle.core_relation.proofs.whole.Hands.{hands_are_held}
 use Rattle.core_relation.proofs.parts.Workers as workers
 use Rattle.task_machine.specs.declared.part.Private.{Private}
-use Rattle.shared_value.specs.World.{World, accounts, flat, totals_of, value_of}
-use Rattle.shared_value.specs.Stands.{IsWorld}
+use Rattle.shared_value.specs.SharedValue.{SharedValue, accounts, flat, totals_of, value_of}
+use Rattle.shared_value.specs.Stands.{IsSharedValue}
 use Rattle.shared_value.specs.Fits.{Fits, part_of}
 use Rattle.shared_value.proofs.OneAccount.{sum_put}
 
@@ -49,7 +49,7 @@ goes_by l (Some (Machine Done)) = lets_go l 0
 goes_by l (Some (Machine (Trapped kind t line))) = none_goes l
 goes_by l (Some (Machine (Entangled t u))) = none_goes l
 
-module _ (w : World) (I : IsWorld w) where
+module _ (w : SharedValue) (I : IsSharedValue w) where
   goes_on : LetsGo (accounts w) (handed (accounts w))
   goes_on = goes_by (accounts w) (accounts w).end
 
@@ -73,7 +73,7 @@ module _ (w : World) (I : IsWorld w) where
   hand_now on k = hands_are_held (totals_of w) (accounts w) (stands_now on).totals k
 
 -- A PART THAT FITS, before the run's end
-module _ (w : World) (k : ℕ) (p : Private) (F : Fits w k p) (on : (accounts w).end ≡ None) where
+module _ (w : SharedValue) (k : ℕ) (p : Private) (F : Fits w k p) (on : (accounts w).end ≡ None) where
   pub alive : (accounts w).machine.end ≡ None
   alive = machine_goes_on w.program w.settings w.journal.items on
 

@@ -7,7 +7,7 @@ use Rattle.hh_model.specs.declared.data.Status.{Status}
 use Rattle.hh_model.specs.declared.data.Status.TheVariants.{Running, Waiting, Ended, Joined}
 use Rattle.hh_model.specs.Step.{is_running, runs}
 use Rattle.run_trace.specs.declared.entry.Kind.TheVariants.{Took, Fuel}
-use Rattle.run_trace.specs.Entry.{Event}
+use Rattle.run_trace.specs.Entry.{EntryValue}
 use Rattle.run_ledger.specs.declared.data.Ledger.{Ledger}
 use Rattle.run_ledger.specs.declared.data.Refused.{Refused}
 use Rattle.run_ledger.specs.declared.data.Refused.TheVariants.{Over, Spent, NoWorker, NotReady, NotSpent}
@@ -15,8 +15,8 @@ use Rattle.run_ledger.specs.Heaps.{heap_of}
 use Rattle.run_ledger.specs.Entries.{kind_refusal, is_fuel, refused_if, refused_unless, refused_holding}
 use Rattle.heap_tree.specs.Node.{Node}
 use Rattle.core_relation.specs.Whole.{state_by}
-use Rattle.shared_value.specs.World.{World, accounts}
-use Rattle.shared_value.specs.Stands.{IsWorld}
+use Rattle.shared_value.specs.SharedValue.{SharedValue, accounts}
+use Rattle.shared_value.specs.Stands.{IsSharedValue}
 use Rattle.shared_value.specs.Causes.{first_cause, or_else, is_state_ready, took_cause, fuel_cause}
 use Rattle.shared_value.specs.Entered.{refused}
 use Rattle.shared_value.proofs.BeforeTheEnd.{end_now, hand_now, stands_now, steps_now}
@@ -28,7 +28,7 @@ in_turn false true c x y z rest = refl
 in_turn false false true x y z rest = refl
 in_turn false false false x y z rest = refl
 
-pub refused_is : (w : World) → IsWorld w → (e : Event) → refused w e ≡ or_else (first_cause w.end w.steps w.settings e.worker (is_fuel e.kind)) (kind_refusal w.program w.settings (accounts w) e.worker e.kind)
+pub refused_is : (w : SharedValue) → IsSharedValue w → (e : EntryValue) → refused w e ≡ or_else (first_cause w.end w.steps w.settings e.worker (is_fuel e.kind)) (kind_refusal w.program w.settings (accounts w) e.worker e.kind)
 refused_is w I e =
     let l : Ledger = accounts w in
     in_turn (is_some l.end) (nat_le w.settings.fuel l.steps && not (is_fuel e.kind)) (nat_lt e.worker w.settings.workers) Over (Spent l.steps) NoWorker (kind_refusal w.program w.settings l e.worker e.kind)
@@ -36,7 +36,7 @@ refused_is w I e =
 
 -- FUEL
 
-pub fuel_is : (w : World) → IsWorld w → (k : ℕ) → kind_refusal w.program w.settings (accounts w) k Fuel ≡ fuel_cause w
+pub fuel_is : (w : SharedValue) → IsSharedValue w → (k : ℕ) → kind_refusal w.program w.settings (accounts w) k Fuel ≡ fuel_cause w
 fuel_is w I k = ap (λ n. refused_unless (nat_le w.settings.fuel n) (NotSpent n) None) (sym (steps_now w I))
 
 -- TOOK
@@ -54,7 +54,7 @@ ready_by None (Some x) o e = absurd cc
 ready_by (Some m) None o e = absurd cc
 ready_by (Some m) (Some x) o e = ap (λ (y : Node). is_state_ready (Some y.state)) (same_Some m (told o x) e) ∙ by_status x.status o
 
-took_is : (w : World) → IsWorld w → (accounts w).end ≡ None → (k t : ℕ) → k < w.settings.workers → kind_refusal w.program w.settings (accounts w) k (Took t) ≡ took_cause w k t
+took_is : (w : SharedValue) → IsSharedValue w → (accounts w).end ≡ None → (k t : ℕ) → k < w.settings.workers → kind_refusal w.program w.settings (accounts w) k (Took t) ≡ took_cause w k t
 took_is w I on k t lt =
     ap₂ (λ b o. refused_unless b NotReady (refused_holding o None))
     (sym (ready_by (slice_get w.tree t) (slice_get (accounts w).machine.tasks t) (heap_of (accounts w) t).worker ((stands_now w I on).totals.node t)))
@@ -70,7 +70,7 @@ pub nothing : (o : Option Refused) → is_some o ≡ false → o ≡ None
 nothing None h = refl
 nothing (Some c) h = absurd cc
 
-pub worker_is : (w : World) (k : ℕ) (fuel : Bool) → is_some (first_cause w.end w.steps w.settings k fuel) ≡ false → k < w.settings.workers
+pub worker_is : (w : SharedValue) (k : ℕ) (fuel : Bool) → is_some (first_cause w.end w.steps w.settings k fuel) ≡ false → k < w.settings.workers
 worker_is w k fuel h = ltb-true k w.settings.workers (worker_by (is_some w.end) (nat_le w.settings.fuel w.steps && not fuel) (nat_lt k w.settings.workers) Over (Spent w.steps) NoWorker h)
 
 -- and the run goes on
@@ -82,10 +82,10 @@ none_by : {A : Type 0} (o : Option A) → is_some o ≡ false → o ≡ None
 none_by None h = refl
 none_by (Some x) h = absurd cc
 
-pub on_is : (w : World) → IsWorld w → (k : ℕ) (fuel : Bool) → is_some (first_cause w.end w.steps w.settings k fuel) ≡ false → (accounts w).end ≡ None
+pub on_is : (w : SharedValue) → IsSharedValue w → (k : ℕ) (fuel : Bool) → is_some (first_cause w.end w.steps w.settings k fuel) ≡ false → (accounts w).end ≡ None
 on_is w I k fuel h = sym (end_now w I) ∙ none_by w.end (end_by (is_some w.end) (nat_le w.settings.fuel w.steps && not fuel) (nat_lt k w.settings.workers) Over (Spent w.steps) NoWorker h)
 
-pub took_answer : (w : World) → IsWorld w → (k t : ℕ) → is_some (first_cause w.end w.steps w.settings k false) ≡ false → refused w (record { worker = k; kind = Took t }) ≡ took_cause w k t
+pub took_answer : (w : SharedValue) → IsSharedValue w → (k t : ℕ) → is_some (first_cause w.end w.steps w.settings k false) ≡ false → refused w (record { worker = k; kind = Took t }) ≡ took_cause w k t
 took_answer w I k t h =
     refused_is w I (record { worker = k; kind = Took t })
     ∙ (ap (λ o. or_else o (kind_refusal w.program w.settings (accounts w) k (Took t))) (nothing (first_cause w.end w.steps w.settings k false) h) ∙ took_is w I (on_is w I k false h) k t (worker_is w k false h))

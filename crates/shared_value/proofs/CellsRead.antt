@@ -5,14 +5,14 @@ use Rattle.listed.proofs.Members.{contains_from_in}
 use Rattle.object_layout.specs.declared.word.Addr.{Addr}
 use Rattle.object_layout.specs.declared.word.Birth.{Birth}
 use Rattle.object_layout.specs.Cell.{Born, Cell, Hole, Mark, Moved, no_cell, size_of}
-use Rattle.object_layout.specs.Content.{Content}
+use Rattle.object_layout.specs.ChunkValue.{ChunkValue}
 use Rattle.object_layout.specs.Chunks.{cell_of, place_in, place_of}
 use Rattle.object_layout.specs.Place.{cell_at, words_in}
 use Rattle.object_layout.specs.Objects.{Located, located, located_by, objects_from, objects_in as located_in, objects_of}
 use Rattle.object_layout.specs.ObjectLaws.{LiesThere}
 use Rattle.object_layout.proofs.ObjectLemmas.{objects_lie_there}
-use Rattle.alloc_path.specs.Heap.{AreApart}
-use Rattle.core_relation.specs.Value.{In, objects_in}
+use Rattle.alloc_path.specs.LeafHeapValue.{AreApart}
+use Rattle.core_relation.specs.Memory.{In, objects_in}
 use Rattle.core_relation.proofs.objects.Members.{in_map, in_objects}
 use Rattle.shared_value.specs.Objects.{chunk_of, chunks_of}
 
@@ -54,13 +54,13 @@ numbered number base (c ∷ cs) o i = number_by number base c c.mark (objects_fr
 
 -- ---- CHUNKS
 
-pub record InChunk (ks : List Content) (a : Addr) : Type 0 where
-  pub chunk : Content
+pub record InChunk (ks : List ChunkValue) (a : Addr) : Type 0 where
+  pub chunk : ChunkValue
   pub there : In ks chunk
   pub number : chunk.number ≡ a.chunk
   pub cell : cell_of ks a ≡ cell_at chunk.cells a.offset
 
-find_chunk : (ks : List Content) (a : Addr) (b : Birth) → (cell_of ks a).mark ≡ Born b → InChunk ks a
+find_chunk : (ks : List ChunkValue) (a : Addr) (b : Birth) → (cell_of ks a).mark ≡ Born b → InChunk ks a
 find_chunk [] a b e = absurd cc
 find_chunk (k ∷ ks) a b e = by (k.number == a.chunk) refl e (find_chunk ks a b)
   where
@@ -71,7 +71,7 @@ find_chunk (k ∷ ks) a b e = by (k.number == a.chunk) refl e (find_chunk ks a b
         record { chunk = f.chunk; there = inr f.there; number = f.number; cell = cond-false (k.number == a.chunk) (cell_at k.cells a.offset) (cell_of ks a) q ∙ f.cell }
 
 -- an object at an address is read there
-pub object_seen : (ks : List Content) (a : Addr) (b : Birth) → (cell_of ks a).mark ≡ Born b → In (objects_in (chunks_of ks)) (located a.chunk a.offset b (cell_of ks a))
+pub object_seen : (ks : List ChunkValue) (a : Addr) (b : Birth) → (cell_of ks a).mark ≡ Born b → In (objects_in (chunks_of ks)) (located a.chunk a.offset b (cell_of ks a))
 object_seen ks a b e =
     let f = find_chunk ks a b e in
     let m : (cell_at f.chunk.cells a.offset).mark ≡ Born b = ap (λ (x : Cell). x.mark) (sym f.cell) ∙ e in
@@ -79,28 +79,28 @@ object_seen ks a b e =
     (subst (λ (x : Cell). In (objects_in (chunks_of ks)) (located f.chunk.number a.offset b x)) (sym f.cell)
     (in_objects (chunks_of ks) (chunk_of f.chunk) _ (in_map chunk_of ks f.chunk f.there) (cell_seen f.chunk.cells f.chunk.number 0 a.offset a.offset b (omega arith) m)))
 
-place_lt : (ks : List Content) (k : Content) → In ks k → place_of ks k.number < length ks
+place_lt : (ks : List ChunkValue) (k : ChunkValue) → In ks k → place_of ks k.number < length ks
 place_lt [] k i = absurd i
 place_lt (y ∷ ys) k i = by (y.number == k.number) refl i (place_lt ys k)
   where
     by : (v : Bool) → (y.number == k.number) ≡ v → (y ≡ k) ⊎ In ys k → (In ys k → place_of ys k.number < length ys) → cond v 0 (1 + place_of ys k.number) < length (y ∷ ys)
     by true q j go = omega arith
-    by false q (inl e) go = absurd (false≢true (sym q ∙ eq-eqb y.number k.number (ap (λ (x : Content). x.number) e)))
+    by false q (inl e) go = absurd (false≢true (sym q ∙ eq-eqb y.number k.number (ap (λ (x : ChunkValue). x.number) e)))
     by false q (inr j) go = let r = go j in omega (arith, r)
 
-pub fresh_off : (ks : List Content) (k : Content) (number : ℕ) → place_in ks number ≡ None → In ks k → k.number ≡ number → ⊥
+pub fresh_off : (ks : List ChunkValue) (k : ChunkValue) (number : ℕ) → place_in ks number ≡ None → In ks k → k.number ≡ number → ⊥
 fresh_off ks k number e i q =
     let lt : place_of ks number < length ks = subst (λ n. place_of ks n < length ks) q (place_lt ks k i) in
     let some : place_in ks number ≡ Some (place_of ks number) = cond-true (nat_lt (place_of ks number) (length ks)) (Some (place_of ks number)) None (le-leb (suc (place_of ks number)) (length ks) (omega (arith, lt))) in
     absurd cc
 
 -- the objects of a heap's chunks
-pub objects_are : (ks : List Content) → objects_in (chunks_of ks) ≡ located_in ks
+pub objects_are : (ks : List ChunkValue) → objects_in (chunks_of ks) ≡ located_in ks
 objects_are [] = refl
 objects_are (k ∷ ks) = ap (λ os. objects_of k ++ os) (objects_are ks)
 
 -- an object that is read lies at its address
-pub seen_object : (ks : List Content) (o : Located) → AreApart ks → In (objects_in (chunks_of ks)) o → LiesThere ks o
+pub seen_object : (ks : List ChunkValue) (o : Located) → AreApart ks → In (objects_in (chunks_of ks)) o → LiesThere ks o
 seen_object ks o A i = (objects_lie_there ks A o).0 (contains_from_in (located_in ks) o (subst (λ os. In os o) (objects_are ks) i))
 
 -- AN OBJECT APPENDED stands behind the others

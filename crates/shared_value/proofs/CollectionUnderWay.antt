@@ -11,15 +11,15 @@ use Rattle.run_ledger.specs.Heaps.{heap_of, or_fresh}
 use Rattle.run_ledger.specs.Steps.{task_steps}
 use Rattle.run_ledger.specs.Entries.{is_out, is_held_by, on_running, refused_if, refused_unless}
 use Rattle.run_ledger.specs.Sound.{collecting}
-use Rattle.ledger_steps.specs.Accounts.{rested}
-use Rattle.ledger_steps.proofs.Rested.{rested_view}
+use Rattle.ledger_step_laws.specs.Accounts.{rested}
+use Rattle.ledger_step_laws.proofs.Rested.{rested_view}
 use Rattle.core_relation.specs.Copies.{PartFits}
 use Rattle.core_relation.specs.Fits.{with_home}
-use Rattle.core_relation.specs.Value.{Value}
+use Rattle.core_relation.specs.Memory.{Memory}
 use Rattle.core_relation.specs.Whole.{BegunBy}
 use Rattle.task_machine.specs.declared.part.Begun.{Begun}
 use Rattle.task_machine.specs.declared.part.Private.{Private}
-use Rattle.shared_value.specs.World.{World, accounts, value_of}
+use Rattle.shared_value.specs.SharedValue.{SharedValue, accounts, value_of}
 use Rattle.shared_value.specs.Fits.{Fits, home_of_part, part_of}
 use Rattle.shared_value.proofs.BeforeTheEnd.{alive, part_now, status}
 use Rattle.shared_value.proofs.StepAccounts.{After, after_all, hold_same}
@@ -37,7 +37,7 @@ out_by : (out begun amid : Bool) (rest : Option Refused) → out ≡ true → be
 out_by true begun amid rest a b = ap (λ c. refused_if c Collecting rest) b
 out_by false begun amid rest a b = absurd (false≢true a)
 
-module _ (w : World) (k : ℕ) (p : Private) (F : Fits w k p) (on : (accounts w).end ≡ None) where
+module _ (w : SharedValue) (k : ℕ) (p : Private) (F : Fits w k p) (on : (accounts w).end ≡ None) where
   abbrev l : Ledger
   l = accounts w
 
@@ -50,7 +50,7 @@ module _ (w : World) (k : ℕ) (p : Private) (F : Fits w k p) (on : (accounts w)
   abbrev L : Ledger
   L = rested M t
 
-  abbrev v' : Value
+  abbrev v' : Memory
   v' = with_home (value_of w) t (home_of_part p)
 
   V : PartFits w.program w.settings (part_of w.settings p) (value_of w) l

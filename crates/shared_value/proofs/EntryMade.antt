@@ -4,26 +4,26 @@ use Rattle.std.proofs.lemmas.Bool.{cases_eq, false≢true}
 use Rattle.std.proofs.lemmas.Option.{same_Some}
 use Rattle.listed.proofs.Members.{got_other}
 use Rattle.hh_model.specs.declared.data.End.TheVariants.{Done, Trapped, Entangled}
-use Rattle.run_trace.specs.Entry.{Event}
+use Rattle.run_trace.specs.Entry.{EntryValue}
 use Rattle.run_ledger.specs.declared.data.Ledger.{Ledger}
 use Rattle.run_ledger.specs.declared.data.RunEnd.{RunEnd}
 use Rattle.run_ledger.specs.Heaps.{heap_of, let_go, or_fresh}
 use Rattle.run_ledger.specs.Entries.{after}
 use Rattle.run_ledger.proofs.Journals.{entry_tells}
 use Rattle.run_ledger.specs.declared.data.RunEnd.TheVariants.{Fuel, Machine, Pool}
-use Rattle.chunk_pool.specs.Chunks.{Chunks}
+use Rattle.chunk_pool.specs.PoolValue.{PoolValue}
 use Rattle.heap_tree.specs.Node.{Node}
 use Rattle.write_barrier.specs.declared.sets.SetOf.{SetOf}
-use Rattle.ledger_steps.specs.Accounts.{Rests, rested}
-use Rattle.ledger_steps.proofs.Ahead.{with_off}
-use Rattle.ledger_steps.proofs.Rested.{rested_worker}
+use Rattle.ledger_step_laws.specs.Accounts.{Rests, rested}
+use Rattle.ledger_step_laws.proofs.Ahead.{with_off}
+use Rattle.ledger_step_laws.proofs.Rested.{rested_worker}
 use Rattle.core_relation.specs.Whole.{StandsForAll, by_end}
 use Rattle.core_relation.specs.Worker.{Fits as FitsValue}
 use Rattle.task_machine.specs.declared.part.Private.{Private}
 use Rattle.shared_value.specs.declared.task_at_rest.Rest.{Rest}
-use Rattle.shared_value.specs.World.{World, accounts, flat, rest_at, totals_of, value_of}
+use Rattle.shared_value.specs.SharedValue.{SharedValue, accounts, flat, rest_at, totals_of, value_of}
 use Rattle.shared_value.specs.Measured.{IsMeasured, IsUnheld, RestsAreMeasured}
-use Rattle.shared_value.specs.Stands.{HeapForm, IsWorld}
+use Rattle.shared_value.specs.Stands.{HeapForm, IsSharedValue}
 use Rattle.shared_value.specs.Fits.{Fits, part_of}
 use Rattle.shared_value.specs.Entered.{refused}
 use Rattle.shared_value.proofs.JournalGoesOn.{accounts_then, legal_then}
@@ -34,7 +34,7 @@ none_by None h = refl
 none_by (Some x) h = absurd (false≢true (sym h))
 
 -- nothing is refused after the run's end but as over
-pub entry_on : (w : World) (e : Event) → refused w e ≡ None → (accounts w).end ≡ None
+pub entry_on : (w : SharedValue) (e : EntryValue) → refused w e ≡ None → (accounts w).end ≡ None
 entry_on w e free = none_by (accounts w).end (entry_tells w.program w.settings (accounts w) e (ap is_none free)).0
 
 -- who holds a heap once the root is handed back held it before
@@ -59,21 +59,21 @@ held_by_end l (Some (Machine (Trapped kind a line))) t u e = e
 held_by_end l (Some (Machine (Entangled a b))) t u e = e
 
 -- two workers hold two tasks
-pub held_apart : (w : World) (k u : ℕ) (p q : Private) → Fits w k p → Fits w u q → (u ≡ k → ⊥) → p.task ≡ q.task → ⊥
+pub held_apart : (w : SharedValue) (k u : ℕ) (p q : Private) → Fits w k p → Fits w u q → (u ≡ k → ⊥) → p.task ≡ q.task → ⊥
 held_apart w k u p q F G ne e = ne (same_Some u k (sym G.held ∙ (ap (λ t. (heap_of (accounts w) t).worker) (sym e) ∙ F.held)))
 
 -- what a worker holds is in its hand
-pub hand_is : (w : World) (k : ℕ) (p : Private) → IsWorld w → (accounts w).end ≡ None → Fits w k p → flat (slice_get w.hands k) ≡ Some p.task
+pub hand_is : (w : SharedValue) (k : ℕ) (p : Private) → IsSharedValue w → (accounts w).end ≡ None → Fits w k p → flat (slice_get w.hands k) ≡ Some p.task
 hand_is w k p I on F = ((stands_now w I on).totals.hand k p.task).1 F.held
 
 -- no worker's hand has a task at rest, and whom none has is at rest
-pub unheld_at_rest : (w : World) (u : ℕ) → IsWorld w → (accounts w).end ≡ None → Rests (accounts w) u → IsUnheld w.hands u
+pub unheld_at_rest : (w : SharedValue) (u : ℕ) → IsSharedValue w → (accounts w).end ≡ None → Rests (accounts w) u → IsUnheld w.hands u
 unheld_at_rest w u I on rests j h =
     let a : (heap_of (accounts w) u).worker ≡ None = rests in
     let b : (heap_of (accounts w) u).worker ≡ Some j = ((stands_now w I on).totals.hand j u).0 h in
     absurd cc
 
-pub unheld_rests : (w : World) (u : ℕ) → IsWorld w → (accounts w).end ≡ None → IsUnheld w.hands u → Rests (accounts w) u
+pub unheld_rests : (w : SharedValue) (u : ℕ) → IsSharedValue w → (accounts w).end ≡ None → IsUnheld w.hands u → Rests (accounts w) u
 unheld_rests w u I on none = by (heap_of (accounts w) u).worker refl
   where
     by : (o : Option ℕ) → (heap_of (accounts w) u).worker ≡ o → Rests (accounts w) u
@@ -88,18 +88,18 @@ unheld_before hands k x u none other j e = elim (cases_eq j k) [
 ]
 
 -- the value with other fields and one entry more
-abbrev pub entered : World → Event → List Node → Chunks → List (Option Rest) → List SetOf → List (Option ℕ) → List ℤ → ℕ → Option RunEnd → ℕ → World
+abbrev pub entered : SharedValue → EntryValue → List Node → PoolValue → List (Option Rest) → List SetOf → List (Option ℕ) → List ℤ → ℕ → Option RunEnd → ℕ → SharedValue
 entered w e tree pool homes sets hands outputs steps end room = record w { tree = tree; pool = pool; homes = homes; sets = sets; hands = hands; outputs = outputs; steps = steps; end = end; journal = record { items = w.journal.items ++ e ∷ []; room = room } }
 
-module _ (w : World) (e : Event) (I : IsWorld w) (free : refused w e ≡ None) (tree : List Node) (pool : Chunks) (homes : List (Option Rest)) (sets : List SetOf) (hands : List (Option ℕ)) (outputs : List ℤ) (steps : ℕ) (end : Option RunEnd) (room : ℕ) where
-  abbrev w' : World
+module _ (w : SharedValue) (e : EntryValue) (I : IsSharedValue w) (free : refused w e ≡ None) (tree : List Node) (pool : PoolValue) (homes : List (Option Rest)) (sets : List SetOf) (hands : List (Option ℕ)) (outputs : List ℤ) (steps : ℕ) (end : Option RunEnd) (room : ℕ) where
+  abbrev w' : SharedValue
   w' = entered w e tree pool homes sets hands outputs steps end room
 
   pub accounts_are : accounts w' ≡ after w.program w.settings (accounts w) e
   accounts_are = accounts_then w.program w.settings w.journal.items e
 
   pub entered_world : length homes ≡ length tree → length sets ≡ length tree → length hands ≡ length w.hands → pool.limit ≡ w.pool.limit
-      → StandsForAll (value_of w') (totals_of w') (after w.program w.settings (accounts w) e) → ((t : ℕ) (r : Rest) → rest_at homes t ≡ Some r → HeapForm r.heap) → RestsAreMeasured pool homes hands → IsWorld w'
+      → StandsForAll (value_of w') (totals_of w') (after w.program w.settings (accounts w) e) → ((t : ℕ) (r : Rest) → rest_at homes t ≡ Some r → HeapForm r.heap) → RestsAreMeasured pool homes hands → IsSharedValue w'
   entered_world made noted workers limit stands heaps measured = record {
     limits = I.limits;
     form = I.form;
@@ -113,7 +113,7 @@ module _ (w : World) (e : Event) (I : IsWorld w) (free : refused w e ≡ None) (
     measured = measured;
   }
 
-  module _ (I' : IsWorld w') where
+  module _ (I' : IsSharedValue w') where
     -- a worker holds what it holds by its hand
     pub held_by_hand : (u t : ℕ) → flat (slice_get hands u) ≡ Some t → (heap_of (accounts w') t).worker ≡ Some u
     held_by_hand u t e = held_by_end (accounts w') (accounts w').end t u ((I'.stands.totals.hand u t).0 e)

@@ -9,21 +9,21 @@ use Rattle.object_layout.specs.declared.word.Addr.{Addr}
 use Rattle.object_layout.specs.declared.word.Birth.{Birth}
 use Rattle.object_layout.specs.Cell.{Born, Cell, IsObject, marked_object, size_of, with_ref}
 use Rattle.object_layout.specs.Chunks.{cell_of, put_object, with_cell}
-use Rattle.object_layout.specs.Content.{Content}
+use Rattle.object_layout.specs.ChunkValue.{ChunkValue}
 use Rattle.object_layout.proofs.ChunkLaws as laws
 use Rattle.object_layout.specs.Objects.{Located, with_fields}
-use Rattle.chunk_pool.specs.Chunks.{Chunks, owner_of}
-use Rattle.alloc_path.specs.Heap.{Heap, room_of}
+use Rattle.chunk_pool.specs.PoolValue.{PoolValue, owner_of}
+use Rattle.alloc_path.specs.LeafHeapValue.{LeafHeapValue, room_of}
 use Rattle.alloc_path.specs.FieldLaws.{with_ref_of}
-use Rattle.alloc_path.specs.Heap.{room_at}
+use Rattle.alloc_path.specs.LeafHeapValue.{room_at}
 use Rattle.alloc_path.specs.PlaceLaws.{KeepsCounts}
 use Rattle.alloc_path.proofs.Counting.{writes_keep_counts}
 use Rattle.remembered_set.specs.declared.remembered.Source.{Source}
 use Rattle.remembered_set.specs.Moved.{held_by, new_reference, redirected, written}
 use Rattle.leaf_copy_gc.specs.Redirected.{new_address}
-use Rattle.core_relation.specs.Value.{Chunk, In, led, mapped_chunk, mapped_home, objects_in, put_at, rewritten_home}
+use Rattle.core_relation.specs.Memory.{Chunk, In, led, mapped_chunk, mapped_home, objects_in, put_at, rewritten_home}
 use Rattle.core_relation.proofs.objects.Members.{in_chunk, map_in}
-use Rattle.core_relation.specs.Value.{is_at}
+use Rattle.core_relation.specs.Memory.{is_at}
 use Rattle.core_relation.proofs.changes.Write.{at_is}
 use Rattle.shared_value.specs.declared.heaps.Heaps.{Heaps}
 use Rattle.shared_value.specs.declared.task_at_rest.Rest.{Rest}
@@ -33,7 +33,7 @@ use Rattle.shared_value.specs.Objects.{chunk_of, chunks_of}
 use Rattle.shared_value.specs.RestingHeaps.{refs_for, refs_in, refs_of_rest, with_ref_at, with_ref_for, with_ref_in}
 use Rattle.shared_value.specs.Measured.{AreMeasured}
 use Rattle.shared_value.specs.Stands.{HeapForm}
-use Rattle.shared_value.specs.World.{flat, home_by, home_in, home_of, rest_at}
+use Rattle.shared_value.specs.SharedValue.{flat, home_by, home_in, home_of, rest_at}
 use Rattle.shared_value.proofs.CellsRead.{numbered, seen_object}
 use Rattle.shared_value.proofs.FieldsLedTogether.{AreOnce, home_each, home_stays, home_together, lead_at, lead_off, lead_one, none_home, set_itself}
 use Rattle.shared_value.proofs.UnitsMeasured.{measured_written}
@@ -55,7 +55,7 @@ pub record SourceThere (H : Heaps) (s : Source) (Good : ℕ → Type 0) : Type 0
 pub record AreFormed (H : Heaps) (Good : ℕ → Type 0) : Type 0 where
   pub form : (u : ℕ) (r : Rest) → rest_at H.homes u ≡ Some r → HeapForm r.heap
   pub measured : (u : ℕ) (r : Rest) → Good u → rest_at H.homes u ≡ Some r → AreMeasured H.pool u r.heap.chunks
-  pub owned : (u : ℕ) (r : Rest) → Good u → rest_at H.homes u ≡ Some r → (k : Content) → In r.heap.chunks k → owner_of H.pool k.number ≡ Some u
+  pub owned : (u : ℕ) (r : Rest) → Good u → rest_at H.homes u ≡ Some r → (k : ChunkValue) → In r.heap.chunks k → owner_of H.pool k.number ≡ Some u
 
 rest_set : (homes : List (Option Rest)) (z : ℕ) (r x : Rest) → rest_at homes z ≡ Some r → rest_at (slice_set homes z (Some x)) z ≡ Some x
 rest_set homes z r x e = by (slice_get homes z) refl e
@@ -75,7 +75,7 @@ home_chunks r = by r.work
     by (Calls s) = refl
     by (Result n b) = refl
 
-room_written : (h : Heap) (a : Addr) (d : Cell) → d.mark ≡ (cell_of h.chunks a).mark → size_of d ≡ size_of (cell_of h.chunks a) → room_at (put_object h.chunks a d) h.current ≡ room_of h
+room_written : (h : LeafHeapValue) (a : Addr) (d : Cell) → d.mark ≡ (cell_of h.chunks a).mark → size_of d ≡ size_of (cell_of h.chunks a) → room_at (put_object h.chunks a d) h.current ≡ room_of h
 room_written h a d mark size = by h.current
   where
     K : KeepsCounts h.chunks (put_object h.chunks a d)
@@ -97,14 +97,14 @@ addr_cases a b = elim (cases_eq a.chunk b.chunk) [
   ]
 ]
 
-put_number : (ks : List Content) (a : Addr) (d : Cell) (k : Content) → In (put_object ks a d) k → (j : Content) × In ks j × (j.number ≡ k.number)
+put_number : (ks : List ChunkValue) (a : Addr) (d : Cell) (k : ChunkValue) → In (put_object ks a d) k → (j : ChunkValue) × In ks j × (j.number ≡ k.number)
 put_number [] a d k i = absurd i
 put_number (x ∷ ks) a d k i = by (x.number == a.chunk) i (put_number ks a d k)
   where
-    by : (b : Bool) → In (cond b (with_cell x a.offset d ∷ ks) (x ∷ put_object ks a d)) k → (In (put_object ks a d) k → (j : Content) × In ks j × (j.number ≡ k.number)) → (j : Content) × In (x ∷ ks) j × (j.number ≡ k.number)
-    by true (inl e) go = (x, inl refl, ap (λ (z : Content). z.number) e)
+    by : (b : Bool) → In (cond b (with_cell x a.offset d ∷ ks) (x ∷ put_object ks a d)) k → (In (put_object ks a d) k → (j : ChunkValue) × In ks j × (j.number ≡ k.number)) → (j : ChunkValue) × In (x ∷ ks) j × (j.number ≡ k.number)
+    by true (inl e) go = (x, inl refl, ap (λ (z : ChunkValue). z.number) e)
     by true (inr j) go = (k, inr j, refl)
-    by false (inl e) go = (x, inl refl, ap (λ (z : Content). z.number) e)
+    by false (inl e) go = (x, inl refl, ap (λ (z : ChunkValue). z.number) e)
     by false (inr j) go = let r = go j in (r.0, inr r.1, r.2)
 
 module _ (ms : List (Addr × Addr)) where
@@ -238,7 +238,7 @@ module _ (ms : List (Addr × Addr)) where
         | inr ne ↦ F.measured u q good (sym (rest_off H.homes T.home u (Some r') ne) ∙ e)
       ]
 
-      owned_now : (u : ℕ) (q : Rest) → Good u → rest_at homes' u ≡ Some q → (k : Content) → In q.heap.chunks k → owner_of H.pool k.number ≡ Some u
+      owned_now : (u : ℕ) (q : Rest) → Good u → rest_at homes' u ≡ Some q → (k : ChunkValue) → In q.heap.chunks k → owner_of H.pool k.number ≡ Some u
       owned_now u q good e k i = elim (cases_eq u T.home) [
         | inl at ↦
             let is' : q ≡ r' = same_Some q r' (sym e ∙ (ap (rest_at homes') at ∙ rest_set H.homes T.home T.rest r' T.is)) in
@@ -336,6 +336,6 @@ module _ (ms : List (Addr × Addr)) where
         pool = R.pool ∙ T.pool;
         count = R.count ∙ T.count;
         form = R.form;
-        measured = λ u r good e. subst (λ (z : Chunks). AreMeasured z u r.heap.chunks) T.pool (R.measured u r good e);
+        measured = λ u r good e. subst (λ (z : PoolValue). AreMeasured z u r.heap.chunks) T.pool (R.measured u r good e);
         homes = λ u good. R.homes u good ∙ (ap (rewritten_home f ss) (T.homes u good) ∙ home_together f s ss (home_in (rest_at H.homes u)) once.0);
       }

@@ -6,7 +6,7 @@ use Rattle.std.proofs.lemmas.Bool.{eqb-true, false≢true}
 use Rattle.object_layout.specs.declared.word.Addr.{Addr}
 use Rattle.object_layout.specs.Objects.{Located}
 use Rattle.remembered_set.specs.declared.remembered.Source.{Source}
-use Rattle.core_relation.specs.Value.{Chunk, Home, In, is_source, led, mapped_chunk, mapped_home, objects_in, rewritten, rewritten_home, rewritten_refs}
+use Rattle.core_relation.specs.Memory.{Chunk, Home, In, is_source, led, mapped_chunk, mapped_home, objects_in, rewritten, rewritten_home, rewritten_refs}
 use Rattle.core_relation.proofs.objects.Members.{in_chunk, in_objects}
 
 -- ---- ONE SOURCE AFTER ANOTHER

@@ -4,16 +4,16 @@ use Rattle.std.specs.List.{AllByRecursion, list_any}
 use Rattle.std.proofs.lemmas.Bool.{eqb-true, false≢true}
 use Rattle.std.proofs.lemmas.List.Elements.{All-head, All-tail}
 use Rattle.listed.proofs.Members.{any_from_in, in_from_any}
-use Rattle.object_layout.specs.Content.{Content}
+use Rattle.object_layout.specs.ChunkValue.{ChunkValue}
 use Rattle.chunk_pool.specs.declared.pool.Held.{Held}
-use Rattle.chunk_pool.specs.Chunks.{Chunks, held_at, owner_of}
-use Rattle.alloc_path.specs.Heap.{IsFresh}
+use Rattle.chunk_pool.specs.PoolValue.{PoolValue, held_at, owner_of}
+use Rattle.alloc_path.specs.LeafHeapValue.{IsFresh}
 use Rattle.alloc_path.proofs.HeapLemmas.{fresh_cons}
 use Rattle.remembered_set.specs.declared.remembered.Source.{Source}
 use Rattle.remembered_set.specs.Sources.{StandOnce, same_source}
 use Rattle.write_barrier.specs.declared.sets.SetOf.{SetOf}
-use Rattle.core_relation.specs.Value.{In, is_source}
-use Rattle.shared_value.specs.World.{noted_in}
+use Rattle.core_relation.specs.Memory.{In, is_source}
+use Rattle.shared_value.specs.SharedValue.{noted_in}
 use Rattle.shared_value.specs.Roots.{sources_of}
 use Rattle.shared_value.proofs.FieldsLedTogether.{AreOnce}
 
@@ -48,7 +48,7 @@ are_once (s ∷ ss) o = (off (list_any (is_source s.object s.field) ss) refl, ar
 
 -- ---- NUMBERS
 
-pub fresh_by : (ks : List Content) (n : ℕ) → ((k : Content) → In ks k → k.number ≡ n → ⊥) → IsFresh ks n
+pub fresh_by : (ks : List ChunkValue) (n : ℕ) → ((k : ChunkValue) → In ks k → k.number ≡ n → ⊥) → IsFresh ks n
 fresh_by [] n f = refl
 fresh_by (k ∷ ks) n f = fresh_cons k ks n (f k (inl refl)) (fresh_by ks n (λ j i. f j (inr i)))
 
@@ -61,7 +61,7 @@ pub all_rec : {A : Type 0} (P : A → Type 0) (xs : List A) → ((x : A) → In 
 all_rec P [] f = tt
 all_rec P (x ∷ xs) f = (f x (inl refl), all_rec P xs (λ y i. f y (inr i)))
 
-pub owner_none : (pool : Chunks) (n u : ℕ) → held_at pool n ≡ None → owner_of pool n ≡ Some u → ⊥
+pub owner_none : (pool : PoolValue) (n u : ℕ) → held_at pool n ≡ None → owner_of pool n ≡ Some u → ⊥
 owner_none pool n u e o = none_some (ap (option_map (λ (h : Held). h.owner)) (sym e) ∙ o)
   where
     none_some : ◌≡◌ {A = Option ℕ} None (Some u) → ⊥

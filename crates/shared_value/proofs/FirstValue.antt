@@ -3,35 +3,35 @@ use Rattle.std.proofs.Common.{◌≡◌, ℕ, ℤ, zero, suc, false, not, ◌&&�
 use Rattle.std.proofs.lemmas.Bool.{false≢true}
 use Rattle.std.proofs.lemmas.Option.{same_Some}
 use Rattle.std.proofs.Math.Path.{fun_ext}
-use Rattle.listed.specs.Space.{Space}
+use Rattle.listed.specs.RoomyValue.{RoomyValue}
 use Rattle.hh_lang.specs.Form.{IsProgram, ProgramText}
 use Rattle.hh_model.specs.Step.{is_waiting}
-use Rattle.run_trace.specs.Settings.{Limits, AreLimits}
-use Rattle.run_trace.specs.Entry.{Event}
+use Rattle.run_trace.specs.Settings.{SettingsValue, AreLimits}
+use Rattle.run_trace.specs.Entry.{EntryValue}
 use Rattle.run_ledger.specs.declared.data.Ledger.{Ledger}
 use Rattle.run_ledger.specs.Heaps.{heap_of}
 use Rattle.run_ledger.specs.Journals.{opening}
-use Rattle.chunk_pool.specs.Chunks.{Chunks}
+use Rattle.chunk_pool.specs.PoolValue.{PoolValue}
 use Rattle.heap_tree.specs.Node.{Node, root_node}
 use Rattle.write_barrier.specs.declared.sets.SetOf.{SetOf}
 use Rattle.write_barrier.specs.Stored.{content_of, Content}
-use Rattle.inner_mark_gc.specs.Marks.{Marks}
-use Rattle.ledger_steps.specs.Accounts.{Rests}
-use Rattle.core_relation.specs.Value.{Noted, Value}
+use Rattle.inner_mark_gc.specs.MarkingValue.{MarkingValue}
+use Rattle.ledger_step_laws.specs.Accounts.{Rests}
+use Rattle.core_relation.specs.Memory.{Noted, Memory}
 use Rattle.core_relation.specs.Stands.{Stands}
 use Rattle.core_relation.specs.Whole.{BegunBy, StandsFor}
 use Rattle.core_relation.proofs.whole.Journals.{first, first_stands}
 use Rattle.shared_value.specs.declared.task_at_rest.Rest.{Rest}
-use Rattle.shared_value.specs.World.{World, flat, rest_at, value_of, totals_of, first_rest}
+use Rattle.shared_value.specs.SharedValue.{SharedValue, flat, rest_at, value_of, totals_of, first_rest}
 use Rattle.shared_value.specs.Measured.{AreMeasured, RestsAreMeasured}
-use Rattle.shared_value.specs.Stands.{HeapForm, IsWorld}
+use Rattle.shared_value.specs.Stands.{HeapForm, IsSharedValue}
 use Rattle.shared_value.proofs.TaskTaken.{told}
 
 all_long : (n : ℕ) → let xs : List (Option ℕ) = replicate n None in length xs ≡ n
 all_long zero = refl
 all_long (suc n) = ap suc (all_long n)
 
-abbrev pub first_world_of : ProgramText → Limits → ℕ → ℕ → ℕ → SetOf → World
+abbrev pub first_world_of : ProgramText → SettingsValue → ℕ → ℕ → ℕ → SetOf → SharedValue
 first_world_of p s slots spare n set = record {
   program = p;
   settings = s;
@@ -48,8 +48,8 @@ first_world_of p s slots spare n set = record {
   halted = false;
 }
 
-module _ (p : ProgramText) (s : Limits) (lims : AreLimits s) (form : IsProgram p) (slots spare n : ℕ) (set : SetOf) (empty : content_of set ≡ record { sources = []; kept = []; keeps = false }) where
-  abbrev w : World
+module _ (p : ProgramText) (s : SettingsValue) (lims : AreLimits s) (form : IsProgram p) (slots spare n : ℕ) (set : SetOf) (empty : content_of set ≡ record { sources = []; kept = []; keeps = false }) where
+  abbrev w : SharedValue
   w = first_world_of p s slots spare n set
 
   abbrev l : Ledger
@@ -97,7 +97,7 @@ module _ (p : ProgramText) (s : Limits) (lims : AreLimits s) (form : IsProgram p
 
   stands : StandsFor (value_of w) (totals_of w) l
   stands = record {
-    homes = subst (λ (v : Value). Stands v l) value_is (first_stands p s);
+    homes = subst (λ (v : Memory). Stands v l) value_is (first_stands p s);
     totals = record { node = node_is; hand = hand_none; used = refl; steps = refl; outputs = refl; end = refl };
     begun = begun_at;
     keeps = λ t. keeps_are t ∙ sym (ap (λ b. b && not (heap_of l t).swept) (waits_none t));
@@ -126,7 +126,7 @@ module _ (p : ProgramText) (s : Limits) (lims : AreLimits s) (form : IsProgram p
   measured zero r e f = subst (λ (x : Rest). AreMeasured w.pool zero x.heap.chunks) (same_Some (first_rest p slots spare) r e) (λ k i. absurd i)
   measured (suc t) r e f = absurd cc
 
-  pub first_world : IsWorld w
+  pub first_world : IsSharedValue w
   first_world = record {
     limits = lims;
     form = form;
@@ -141,15 +141,15 @@ module _ (p : ProgramText) (s : Limits) (lims : AreLimits s) (form : IsProgram p
   }
 
 -- the same of fields that are these
-pub first_by : (p p' : ProgramText) (s : Limits) (tree : List Node) (pool : Chunks) (homes : List (Option Rest)) (sets : List SetOf) (marks : List (Option Marks)) (hands : List (Option ℕ)) (outputs : List ℤ) (journal : Space Event) (r : Rest) (set : SetOf)
+pub first_by : (p p' : ProgramText) (s : SettingsValue) (tree : List Node) (pool : PoolValue) (homes : List (Option Rest)) (sets : List SetOf) (marks : List (Option MarkingValue)) (hands : List (Option ℕ)) (outputs : List ℤ) (journal : RoomyValue EntryValue) (r : Rest) (set : SetOf)
     → AreLimits s → IsProgram p → p' ≡ p → tree ≡ root_node ∷ [] → pool ≡ record { limit = s.chunks; slots = [] } → homes ≡ Some r ∷ [] → r ≡ first_rest p r.heap.slots r.heap.spare → sets ≡ set ∷ [] → content_of set ≡ record { sources = []; kept = []; keeps = false }
     → marks ≡ [] → hands ≡ replicate s.workers None → outputs ≡ [] → journal.items ≡ []
-    → IsWorld (record { program = p'; settings = s; tree = tree; pool = pool; homes = homes; sets = sets; marks = marks; hands = hands; outputs = outputs; journal = journal; steps = 0; end = None; halted = false })
+    → IsSharedValue (record { program = p'; settings = s; tree = tree; pool = pool; homes = homes; sets = sets; marks = marks; hands = hands; outputs = outputs; journal = journal; steps = 0; end = None; halted = false })
 first_by p p' s tree pool homes sets marks hands outputs journal r set lims form ep et eo eh er es empty em ea eu ej =
     let eh' : homes ≡ Some (first_rest p r.heap.slots r.heap.spare) ∷ [] = eh ∙ ap (λ x. Some x ∷ []) er in
     let ej' : journal ≡ record { items = []; room = journal.room } = ap (λ x. record { items = x; room = journal.room }) ej in
-    let W : World = first_world_of p s r.heap.slots r.heap.spare journal.room set in
-    subst IsWorld (sym (
+    let W : SharedValue = first_world_of p s r.heap.slots r.heap.spare journal.room set in
+    subst IsSharedValue (sym (
     ap (λ x. record W { program = x; tree = tree; pool = pool; homes = homes; sets = sets; marks = marks; hands = hands; outputs = outputs; journal = journal }) ep
     ∙ (ap (λ x. record W { tree = x; pool = pool; homes = homes; sets = sets; marks = marks; hands = hands; outputs = outputs; journal = journal }) et
     ∙ (ap (λ x. record W { pool = x; homes = homes; sets = sets; marks = marks; hands = hands; outputs = outputs; journal = journal }) eo

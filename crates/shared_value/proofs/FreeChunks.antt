@@ -12,23 +12,23 @@ use Rattle.run_ledger.specs.Entries.{is_pool_enough}
 use Rattle.object_layout.specs.declared.word.Addr.{Addr}
 use Rattle.object_layout.specs.Chunks.{small_words}
 use Rattle.object_layout.specs.Objects.{Located}
-use Rattle.chunk_pool.specs.Chunks.{units_in_use}
-use Rattle.alloc_path.specs.Heap.{counted}
-use Rattle.ledger_steps.specs.Accounts.{aside, rested}
-use Rattle.ledger_steps.proofs.Ahead.{with_machine}
-use Rattle.ledger_steps.proofs.Rested.{rested_view, rested_worker}
+use Rattle.chunk_pool.specs.PoolValue.{units_in_use}
+use Rattle.alloc_path.specs.LeafHeapValue.{counted}
+use Rattle.ledger_step_laws.specs.Accounts.{aside, rested}
+use Rattle.ledger_step_laws.proofs.Ahead.{with_machine}
+use Rattle.ledger_step_laws.proofs.Rested.{rested_view, rested_worker}
 use Rattle.core_relation.specs.Layout.{AreLaidOut}
 use Rattle.core_relation.specs.Fits.{with_home}
 use Rattle.core_relation.specs.Reads.{AllRead}
 use Rattle.core_relation.specs.Stands.{HomeStands, Stands, names_of, small_chunks}
-use Rattle.core_relation.specs.Value.{Home, In, Value, object_name, objects_in}
+use Rattle.core_relation.specs.Memory.{Home, In, Memory, object_name, objects_in}
 use Rattle.core_relation.proofs.objects.Members.{in_map, in_objects}
 use Rattle.core_relation.proofs.changes.With.{at_home}
 use Rattle.task_machine.specs.declared.part.Private.{Private}
 use Rattle.task_machine.specs.Accounts.{small_lists}
 use Rattle.shared_value.specs.Objects.{chunk_of}
-use Rattle.shared_value.specs.World.{World, accounts, value_of}
-use Rattle.shared_value.specs.Stands.{IsWorld}
+use Rattle.shared_value.specs.SharedValue.{SharedValue, accounts, value_of}
+use Rattle.shared_value.specs.Stands.{IsSharedValue}
 use Rattle.shared_value.specs.Fits.{Fits, home_of_part}
 use Rattle.shared_value.specs.Due.{take_by}
 use Rattle.shared_value.proofs.HeapCounts.{small_names}
@@ -43,7 +43,7 @@ refs_long at (r ∷ rs) [] h = absurd h
 refs_long at (r ∷ rs) (x ∷ xs) h = ap suc (refs_long at rs xs h.1)
 
 -- a part without fresh steps
-module _ (w : World) (k : ℕ) (p : Private) (I : IsWorld w) (F : Fits w k (record p { fresh = 0 })) where
+module _ (w : SharedValue) (k : ℕ) (p : Private) (I : IsSharedValue w) (F : Fits w k (record p { fresh = 0 })) where
   abbrev l : Ledger
   l = accounts w
 
@@ -53,7 +53,7 @@ module _ (w : World) (k : ℕ) (p : Private) (I : IsWorld w) (F : Fits w k (reco
   abbrev h : Home
   h = home_of_part (record p { fresh = 0 })
 
-  abbrev v' : Value
+  abbrev v' : Memory
   v' = with_home (value_of w) t h
 
   abbrev L : Ledger

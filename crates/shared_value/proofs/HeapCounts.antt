@@ -5,12 +5,12 @@ use Rattle.hh_model.specs.declared.data.Name.{Name}
 use Rattle.run_ledger.specs.declared.data.Heap.{Heap as Account}
 use Rattle.object_layout.specs.Cell.{Born, Cell, Hole, Mark, Moved, size_of}
 use Rattle.object_layout.specs.Chunks.{chunk_at}
-use Rattle.object_layout.specs.Content.{Content}
+use Rattle.object_layout.specs.ChunkValue.{ChunkValue}
 use Rattle.object_layout.specs.Objects.{Located, located_by, objects_from}
-use Rattle.alloc_path.specs.Heap.{Heap, IsReserved, room_of}
+use Rattle.alloc_path.specs.LeafHeapValue.{LeafHeapValue, IsReserved, room_of}
 use Rattle.core_relation.specs.Layout.{has_none, reserved_chunks, reserved_units}
 use Rattle.core_relation.specs.Stands.{HasNames, large_chunks, names_of, small_chunks}
-use Rattle.core_relation.specs.Value.{Chunk, In, object_name, objects_in}
+use Rattle.core_relation.specs.Memory.{Chunk, In, object_name, objects_in}
 use Rattle.task_machine.specs.Accounts.{AreReserved, IsCounted, large_names, named_by, names_in, small_lists}
 use Rattle.task_machine.specs.Place.{name_of}
 use Rattle.shared_value.specs.Objects.{chunk_of, chunks_of}
@@ -27,7 +27,7 @@ names_are : (cs : List Cell) (number base : ℕ) → map object_name (objects_fr
 names_are [] number base = refl
 names_are (c ∷ cs) number base = names_by number base c c.mark (objects_from number (base + size_of c) cs) (names_in cs) (names_are cs number (base + size_of c))
 
-pub small_names : (ks : List Content) → map names_of (small_chunks (chunks_of ks)) ≡ small_lists ks
+pub small_names : (ks : List ChunkValue) → map names_of (small_chunks (chunks_of ks)) ≡ small_lists ks
 small_names [] = refl
 small_names (k ∷ ks) = by (k.size == 1024) (small_names ks)
   where
@@ -39,7 +39,7 @@ names_of_both : (os qs : List Located) (ns ms : List Name) → map object_name o
 names_of_both [] qs ns ms a b = b ∙ ap (λ xs. xs ++ ms) a
 names_of_both (o ∷ os) qs ns ms a b = ap (λ xs. object_name o ∷ xs) (names_of_both os qs (map object_name os) ms refl b) ∙ ap (λ xs. xs ++ ms) a
 
-pub large_are : (ks : List Content) → map object_name (objects_in (large_chunks (chunks_of ks))) ≡ large_names ks
+pub large_are : (ks : List ChunkValue) → map object_name (objects_in (large_chunks (chunks_of ks))) ≡ large_names ks
 large_are [] = refl
 large_are (k ∷ ks) = by (k.size == 1024) (large_are ks)
   where
@@ -53,7 +53,7 @@ abbrev pub is_spare : Chunk → Bool
 is_spare k = k.large && has_none k.objects
 
 -- a chunk that is reserved stands among those that are
-units_among : (ks : List Content) (i : ℕ) → i < length ks → is_spare (chunk_of (chunk_at ks i)) ≡ true → In (map (λ (c : Chunk). c.units) (reserved_chunks (chunks_of ks))) (chunk_of (chunk_at ks i)).units
+units_among : (ks : List ChunkValue) (i : ℕ) → i < length ks → is_spare (chunk_of (chunk_at ks i)) ≡ true → In (map (λ (c : Chunk). c.units) (reserved_chunks (chunks_of ks))) (chunk_of (chunk_at ks i)).units
 units_among [] i lt h = absurd (omega (arith, lt))
 units_among (k ∷ ks) zero lt h = subst (λ (cs : List Chunk). In (map (λ (c : Chunk). c.units) cs) (chunk_of k).units) (sym (cond-true (is_spare (chunk_of k)) (chunk_of k ∷ reserved_chunks (chunks_of ks)) (reserved_chunks (chunks_of ks)) h)) (inl refl)
 units_among (k ∷ ks) (suc i) lt h = by (is_spare (chunk_of k)) (units_among ks i (omega (arith, lt)) h)
@@ -66,7 +66,7 @@ units_among (k ∷ ks) (suc i) lt h = by (is_spare (chunk_of k)) (units_among ks
     by false j = j
 
 -- and where one stands there, it is of the heap
-spare_among : (ks : List Content) (n : ℕ) (ns : List ℕ) → map (λ (c : Chunk). c.units) (reserved_chunks (chunks_of ks)) ≡ n ∷ ns → (i : ℕ) × (i < length ks) × (is_spare (chunk_of (chunk_at ks i)) ≡ true)
+spare_among : (ks : List ChunkValue) (n : ℕ) (ns : List ℕ) → map (λ (c : Chunk). c.units) (reserved_chunks (chunks_of ks)) ≡ n ∷ ns → (i : ℕ) × (i < length ks) × (is_spare (chunk_of (chunk_at ks i)) ≡ true)
 spare_among [] n ns e = absurd cc
 spare_among (k ∷ ks) n ns e = by (is_spare (chunk_of k)) refl e (spare_among ks n ns)
   where
@@ -80,7 +80,7 @@ in_units zero u i = absurd i
 in_units (suc n) u (inl e) = sym e
 in_units (suc n) u (inr i) = absurd i
 
-pub spare_tells : (k : Content) → is_spare (chunk_of k) ≡ true → ((k.size ≡ 1024 → ⊥) × ((chunk_of k).objects ≡ []))
+pub spare_tells : (k : ChunkValue) → is_spare (chunk_of k) ≡ true → ((k.size ≡ 1024 → ⊥) × ((chunk_of k).objects ≡ []))
 spare_tells k h = by (k.size == 1024) refl (chunk_of k).objects refl h
   where
     by : (b : Bool) → (k.size == 1024) ≡ b → (os : List Located) → (chunk_of k).objects ≡ os → (not b && has_none os) ≡ true → ((k.size ≡ 1024 → ⊥) × ((chunk_of k).objects ≡ []))
@@ -88,12 +88,12 @@ spare_tells k h = by (k.size == 1024) refl (chunk_of k).objects refl h
     by false q [] e g = ((λ s. false≢true (sym q ∙ ap (λ n. n == 1024) s)), e)
     by false q (o ∷ os) e g = absurd (false≢true g)
 
-pub chunk_there : (ks : List Content) (i : ℕ) → i < length ks → In ks (chunk_at ks i)
+pub chunk_there : (ks : List ChunkValue) (i : ℕ) → i < length ks → In ks (chunk_at ks i)
 chunk_there [] i lt = absurd (omega (arith, lt))
 chunk_there (k ∷ ks) zero lt = inl refl
 chunk_there (k ∷ ks) (suc i) lt = inr (chunk_there ks i (omega (arith, lt)))
 
-module _ (h : Heap) (F : HeapForm h) (units : ℕ) (laid : map (λ (c : Chunk). c.units) (reserved_chunks (chunks_of h.chunks)) ≡ reserved_units units) where
+module _ (h : LeafHeapValue) (F : HeapForm h) (units : ℕ) (laid : map (λ (c : Chunk). c.units) (reserved_chunks (chunks_of h.chunks)) ≡ reserved_units units) where
   none_reserved : h.reserved ≡ None → units ≡ 0
   none_reserved e = by units refl
     where
@@ -111,7 +111,7 @@ module _ (h : Heap) (F : HeapForm h) (units : ℕ) (laid : map (λ (c : Chunk). 
   some_reserved : (i : ℕ) → h.reserved ≡ Some i → (chunk_at h.chunks i).size ≡ 1024 * units
   some_reserved i e =
       let R : IsReserved h.chunks (Some i) = subst (IsReserved h.chunks) e F.shaped.reserved in
-      let k : Content = chunk_at h.chunks i in
+      let k : ChunkValue = chunk_at h.chunks i in
       let spare : is_spare (chunk_of k) ≡ true = ap₂ (λ a os. not a && has_none os) (ne_eqb k.size 1024 (λ q. omega (arith, q, R.1.0))) (ap (objects_from k.number 0) R.1.1) in
       let u : k.size / 1024 ≡ units = in_units units (k.size / 1024) (subst (λ ns. In ns (k.size / 1024)) laid (units_among h.chunks i R.0 spare)) in
       F.whole k (chunk_there h.chunks i R.0) ∙ ap (λ n. 1024 * n) u
@@ -121,7 +121,7 @@ module _ (h : Heap) (F : HeapForm h) (units : ℕ) (laid : map (λ (c : Chunk). 
   are_reserved (Some i) e = some_reserved i e
 
 -- THE HEAP IS COUNTED
-pub counted_from : (h : Heap) (l : Account) → HeapForm h → HasNames (chunks_of h.chunks) l → room_of h ≡ l.room → h.since ≡ l.since → map (λ (c : Chunk). c.units) (reserved_chunks (chunks_of h.chunks)) ≡ reserved_units l.reserved → IsCounted h l
+pub counted_from : (h : LeafHeapValue) (l : Account) → HeapForm h → HasNames (chunks_of h.chunks) l → room_of h ≡ l.room → h.since ≡ l.since → map (λ (c : Chunk). c.units) (reserved_chunks (chunks_of h.chunks)) ≡ reserved_units l.reserved → IsCounted h l
 counted_from h l F N room since laid = record {
   chunks = sym (small_names h.chunks) ∙ N.small;
   large = sym (large_are h.chunks) ∙ N.large;

@@ -1,11 +1,11 @@
 -- The form of a heap: without a chunk that is reserved, and with places for more.
 use Rattle.std.proofs.Common.{◌≡◌, ℕ, ◌*◌, ◌<◌, arith, Option, Some, None, refl, subst}
 use Rattle.object_layout.specs.Chunks.{chunk_at}
-use Rattle.alloc_path.specs.Heap.{Heap, IsReserved, with_places}
+use Rattle.alloc_path.specs.LeafHeapValue.{LeafHeapValue, IsReserved, with_places}
 use Rattle.task_machine.specs.Accounts.{AreReserved}
 use Rattle.shared_value.specs.Stands.{HeapForm}
 
-pub reserved_none : (h : Heap) (F : HeapForm h) (o : Option ℕ) → h.reserved ≡ o → AreReserved h.chunks h.reserved 0 → o ≡ None
+pub reserved_none : (h : LeafHeapValue) (F : HeapForm h) (o : Option ℕ) → h.reserved ≡ o → AreReserved h.chunks h.reserved 0 → o ≡ None
 reserved_none h F None e R = refl
 reserved_none h F (Some i) e R =
     let S : IsReserved h.chunks (Some i) = subst (IsReserved h.chunks) e F.shaped.reserved in
@@ -14,7 +14,7 @@ reserved_none h F (Some i) e R =
     absurd (omega (arith, z, big))
 
 -- places for other numbers of chunks tell nothing
-pub places_form : (h : Heap) (a b : ℕ) → HeapForm h → HeapForm (with_places h a b)
+pub places_form : (h : LeafHeapValue) (a b : ℕ) → HeapForm h → HeapForm (with_places h a b)
 places_form h a b F = record {
   shaped = record { apart = F.shaped.apart; current = F.shaped.current; reserved = F.shaped.reserved };
   near = F.near;

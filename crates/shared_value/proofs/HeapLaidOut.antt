@@ -6,11 +6,11 @@ use Rattle.std.proofs.lemmas.Option.{same_Some}
 use Rattle.object_layout.specs.declared.word.Birth.{Birth}
 use Rattle.object_layout.specs.Cell.{Born, Cell, Hole, Mark, Moved, size_of}
 use Rattle.object_layout.specs.Chunks.{chunk_at}
-use Rattle.object_layout.specs.Content.{Content}
+use Rattle.object_layout.specs.ChunkValue.{ChunkValue}
 use Rattle.object_layout.specs.Place.{words_in}
 use Rattle.object_layout.specs.Objects.{Located, located, located_by, objects_from}
-use Rattle.alloc_path.specs.Heap.{AreApart as HaveNumbersApart, Heap, IsReserved}
-use Rattle.core_relation.specs.Value.{Chunk, In, objects_in}
+use Rattle.alloc_path.specs.LeafHeapValue.{AreApart as HaveNumbersApart, LeafHeapValue, IsReserved}
+use Rattle.core_relation.specs.Memory.{Chunk, In, objects_in}
 use Rattle.core_relation.specs.Layout.{AreApart, AreLaidOut, HoldsLarge, has_none, reserved_chunks, reserved_units, words}
 use Rattle.core_relation.proofs.objects.Members.{in_chunk, map_in}
 use Rattle.task_machine.specs.Accounts.{AreReserved}
@@ -56,33 +56,33 @@ apart_here (c ∷ cs) number base o q i j = by c.mark i j (apart_here cs number 
 
 -- ---- CHUNKS
 
-same_chunk : (ks : List Content) (j k : Content) → HaveNumbersApart ks → In ks j → In ks k → j.number ≡ k.number → j ≡ k
+same_chunk : (ks : List ChunkValue) (j k : ChunkValue) → HaveNumbersApart ks → In ks j → In ks k → j.number ≡ k.number → j ≡ k
 same_chunk [] j k A i i' e = absurd i
 same_chunk (y ∷ ys) j k A (inl a) (inl b) e = sym a ∙ b
-same_chunk (y ∷ ys) j k A (inl a) (inr b) e = absurd (fresh_off ys k y.number A.0 b (sym e ∙ ap (λ (z : Content). z.number) (sym a)))
-same_chunk (y ∷ ys) j k A (inr a) (inl b) e = absurd (fresh_off ys j y.number A.0 a (e ∙ ap (λ (z : Content). z.number) (sym b)))
+same_chunk (y ∷ ys) j k A (inl a) (inr b) e = absurd (fresh_off ys k y.number A.0 b (sym e ∙ ap (λ (z : ChunkValue). z.number) (sym a)))
+same_chunk (y ∷ ys) j k A (inr a) (inl b) e = absurd (fresh_off ys j y.number A.0 a (e ∙ ap (λ (z : ChunkValue). z.number) (sym b)))
 same_chunk (y ∷ ys) j k A (inr a) (inr b) e = same_chunk ys j k A.1 a b e
 
-distinct_from : (ks : List Content) → HaveNumbersApart ks → IsDistinct (λ a b. a == b) (map (λ (k : Chunk). k.number) (chunks_of ks))
+distinct_from : (ks : List ChunkValue) → HaveNumbersApart ks → IsDistinct (λ a b. a == b) (map (λ (k : Chunk). k.number) (chunks_of ks))
 unfolding IsDistinct
 distinct_from [] A = tt
 distinct_from (k ∷ ks) A = (all ks (λ j i. fresh_off ks j k.number A.0 i), distinct_from ks A.1)
   where
-    all : (js : List Content) → ((j : Content) → In js j → j.number ≡ k.number → ⊥) → AllByRecursion (λ n. (k.number == n) ≡ false) (map (λ (c : Chunk). c.number) (chunks_of js))
+    all : (js : List ChunkValue) → ((j : ChunkValue) → In js j → j.number ≡ k.number → ⊥) → AllByRecursion (λ n. (k.number == n) ≡ false) (map (λ (c : Chunk). c.number) (chunks_of js))
     all [] off = tt
     all (j ∷ js) off = (ne_eqb k.number j.number (λ e. off j (inl refl) (sym e)), all js (λ x i. off x (inr i)))
 
 -- a chunk that is seen is one of the heap
-pub content_of : (ks : List Content) (k : Chunk) → In (chunks_of ks) k → (j : Content) × In ks j × (chunk_of j ≡ k)
+pub content_of : (ks : List ChunkValue) (k : Chunk) → In (chunks_of ks) k → (j : ChunkValue) × In ks j × (chunk_of j ≡ k)
 content_of ks k i = map_in chunk_of ks k i
 
 -- at which place it stands
-pub place_there : (ks : List Content) (k : Content) → In ks k → (i : ℕ) × (i < length ks) × (chunk_at ks i ≡ k)
+pub place_there : (ks : List ChunkValue) (k : ChunkValue) → In ks k → (i : ℕ) × (i < length ks) × (chunk_at ks i ≡ k)
 place_there [] k i = absurd i
 place_there (y ∷ ys) k (inl e) = (0, omega arith, e)
 place_there (y ∷ ys) k (inr j) = let r = place_there ys k j in let lt = r.1 in (suc r.0, omega (arith, lt), r.2)
 
-pub inside_from : (ks : List Content) (k : Chunk) (o : Located) → In (chunks_of ks) k → In k.objects o → o.at.chunk ≡ k.number
+pub inside_from : (ks : List ChunkValue) (k : Chunk) (o : Located) → In (chunks_of ks) k → In k.objects o → o.at.chunk ≡ k.number
 inside_from ks k o i j =
     let c = content_of ks k i in
     numbered c.0.number 0 c.0.cells o (subst (λ (z : Chunk). In z.objects o) (sym c.2) j) ∙ ap (λ (z : Chunk). z.number) c.2
@@ -93,13 +93,13 @@ not_true : (b : Bool) → (b ≡ true → ⊥) → b ≡ false
 not_true true f = absurd (f refl)
 not_true false f = refl
 
-none_spare : (ks : List Content) → ((j : ℕ) → j < length ks → is_spare (chunk_of (chunk_at ks j)) ≡ true → ⊥) → reserved_chunks (chunks_of ks) ≡ []
+none_spare : (ks : List ChunkValue) → ((j : ℕ) → j < length ks → is_spare (chunk_of (chunk_at ks j)) ≡ true → ⊥) → reserved_chunks (chunks_of ks) ≡ []
 none_spare [] f = refl
 none_spare (k ∷ ks) f =
     cond-false (is_spare (chunk_of k)) (chunk_of k ∷ reserved_chunks (chunks_of ks)) (reserved_chunks (chunks_of ks)) (not_true (is_spare (chunk_of k)) (f 0 (omega arith)))
     ∙ none_spare ks (λ j lt. f (suc j) (omega (arith, lt)))
 
-one_spare : (ks : List Content) (i : ℕ) → i < length ks → is_spare (chunk_of (chunk_at ks i)) ≡ true → ((j : ℕ) → j < length ks → is_spare (chunk_of (chunk_at ks j)) ≡ true → i ≡ j) → reserved_chunks (chunks_of ks) ≡ chunk_of (chunk_at ks i) ∷ []
+one_spare : (ks : List ChunkValue) (i : ℕ) → i < length ks → is_spare (chunk_of (chunk_at ks i)) ≡ true → ((j : ℕ) → j < length ks → is_spare (chunk_of (chunk_at ks j)) ≡ true → i ≡ j) → reserved_chunks (chunks_of ks) ≡ chunk_of (chunk_at ks i) ∷ []
 one_spare [] i lt s f = absurd (omega (arith, lt))
 one_spare (k ∷ ks) zero lt s f =
     cond-true (is_spare (chunk_of k)) (chunk_of k ∷ reserved_chunks (chunks_of ks)) (reserved_chunks (chunks_of ks)) s
@@ -112,7 +112,7 @@ some_units : (n : ℕ) → 1 ≤ n → n ∷ [] ≡ reserved_units n
 some_units zero lt = absurd (omega (arith, lt))
 some_units (suc n) lt = refl
 
-module _ (h : Heap) (F : Formed h) where
+module _ (h : LeafHeapValue) (F : Formed h) where
   spare_is : (j : ℕ) → j < length h.chunks → is_spare (chunk_of (chunk_at h.chunks j)) ≡ true → h.reserved ≡ Some j
   spare_is j lt s = let y = spare_tells (chunk_at h.chunks j) s in F.spare j lt y.0 y.1
 
@@ -123,7 +123,7 @@ module _ (h : Heap) (F : Formed h) where
       none_some : (j : ℕ) → ◌≡◌ {A = Option ℕ} None (Some j) → ⊥
       none_some j q = absurd cc
   reserved_by (Some i) e R n r =
-      let k : Content = chunk_at h.chunks i in
+      let k : ChunkValue = chunk_at h.chunks i in
       let big : 1024 < k.size = R.1.0 in
       let size : k.size ≡ 1024 * n = r in
       let spare : is_spare (chunk_of k) ≡ true = ap₂ (λ a os. not a && has_none os) (ne_eqb k.size 1024 (λ q. omega (arith, q, big))) (ap (objects_from k.number 0) R.1.1) in
@@ -131,14 +131,14 @@ module _ (h : Heap) (F : Formed h) where
       ∙ (ap (λ u. u ∷ []) (let u : k.size / 1024 ≡ n = omega (arith, size) in u) ∙ some_units n (omega (arith, big, size)))
 
   -- A HEAP IS LAID OUT
-  large_by : (k : Content) → (chunk_of k).large ≡ true → k.size ≡ 1024 → ⊥
+  large_by : (k : ChunkValue) → (chunk_of k).large ≡ true → k.size ≡ 1024 → ⊥
   large_by k e q = false≢true (sym (ap (λ n. not (n == 1024)) q) ∙ e)
 
-  small_by : (k : Content) → (b : Bool) → (k.size == 1024) ≡ b → not b ≡ false → k.size / 1024 ≡ 1
+  small_by : (k : ChunkValue) → (b : Bool) → (k.size == 1024) ≡ b → not b ≡ false → k.size / 1024 ≡ 1
   small_by k true q h = ap (λ n. n / 1024) (eqb-true k.size 1024 q)
   small_by k false q h = absurd (false≢true (sym h))
 
-  abbrev ks : List Content
+  abbrev ks : List ChunkValue
   ks = h.chunks
 
   apart_from : (o q : Located) → In (objects_in (chunks_of ks)) o → In (objects_in (chunks_of ks)) q → (o ≡ q) ⊎ AreApart o q
@@ -150,7 +150,7 @@ module _ (h : Heap) (F : Formed h) where
       elim (cases_eq c.0.number d.0.number) [
         | inl e ↦
             apart_here c.0.cells c.0.number 0 o q (subst (λ (z : Chunk). In z.objects o) (sym c.2) a.2)
-            (subst (λ (z : Content). In (chunk_of z).objects q) (sym (same_chunk ks c.0 d.0 F.shaped.apart c.1 d.1 e)) (subst (λ (z : Chunk). In z.objects q) (sym d.2) b.2))
+            (subst (λ (z : ChunkValue). In (chunk_of z).objects q) (sym (same_chunk ks c.0 d.0 F.shaped.apart c.1 d.1 e)) (subst (λ (z : Chunk). In z.objects q) (sym d.2) b.2))
         | inr ne ↦ inr (inl (λ e. ne (ap (λ (z : Chunk). z.number) c.2 ∙ (sym (inside_from ks a.0 o a.1 a.2) ∙ (e ∙ (inside_from ks b.0 q b.1 b.2 ∙ ap (λ (z : Chunk). z.number) (sym d.2)))))))
       ]
 
@@ -159,8 +159,8 @@ module _ (h : Heap) (F : Formed h) where
       let c = content_of ks k i in
       let p = place_there ks c.0 c.1 in
       let E = F.each p.0 p.1 in
-      let fits : words_in c.0.cells ≤ c.0.size = subst (λ (z : Content). words_in z.cells ≤ z.size) p.2 E.within in
-      let whole : c.0.size ≡ 1024 * (c.0.size / 1024) = subst (λ (z : Content). z.size ≡ 1024 * (z.size / 1024)) p.2 E.whole in
+      let fits : words_in c.0.cells ≤ c.0.size = subst (λ (z : ChunkValue). words_in z.cells ≤ z.size) p.2 E.within in
+      let whole : c.0.size ≡ 1024 * (c.0.size / 1024) = subst (λ (z : ChunkValue). z.size ≡ 1024 * (z.size / 1024)) p.2 E.whole in
       let ends : o.at.offset + words o ≤ 0 + words_in c.0.cells = (between c.0.cells c.0.number 0 o (subst (λ (z : Chunk). In z.objects o) (sym c.2) j)).ends in
       subst (λ (z : Chunk). o.at.offset + words o ≤ 1024 * z.units) c.2 (omega (arith, fits, whole, ends))
 
@@ -173,6 +173,6 @@ module _ (h : Heap) (F : Formed h) where
     large = λ k i e.
         let c = content_of ks k i in
         let p = place_there ks c.0 c.1 in
-        subst HoldsLarge c.2 (subst (λ (z : Content). HoldsLarge (chunk_of z)) p.2 ((F.each p.0 p.1).large (λ q. large_by c.0 (ap (λ (z : Chunk). z.large) c.2 ∙ e) (ap (λ (z : Content). z.size) (sym p.2) ∙ q))));
+        subst HoldsLarge c.2 (subst (λ (z : ChunkValue). HoldsLarge (chunk_of z)) p.2 ((F.each p.0 p.1).large (λ q. large_by c.0 (ap (λ (z : Chunk). z.large) c.2 ∙ e) (ap (λ (z : ChunkValue). z.size) (sym p.2) ∙ q))));
     reserved = reserved_by h.reserved refl F.shaped.reserved n r;
   }

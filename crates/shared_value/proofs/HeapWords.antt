@@ -7,12 +7,12 @@ use Rattle.run_ledger.specs.declared.data.Ledger.{Ledger}
 use Rattle.run_ledger.specs.Heaps.{heap_of, small_in, words_at, words_in, words_of, words_sum}
 use Rattle.object_layout.specs.Cell.{Born, Cell, Hole, Mark, Moved, moved_to, size_of}
 use Rattle.object_layout.specs.Chunks.{held_in, held_size, held_words}
-use Rattle.object_layout.specs.Content.{Content}
+use Rattle.object_layout.specs.ChunkValue.{ChunkValue}
 use Rattle.object_layout.specs.Objects.{Located, located, located_by, objects_from}
-use Rattle.alloc_path.specs.Heap.{AreTidy}
-use Rattle.ledger_steps.specs.Accounts.{Rests}
+use Rattle.alloc_path.specs.LeafHeapValue.{AreTidy}
+use Rattle.ledger_step_laws.specs.Accounts.{Rests}
 use Rattle.core_relation.specs.Stands.{HomeStands, Stands, large_chunks, names_of, small_chunks}
-use Rattle.core_relation.specs.Value.{Chunk, In, Value, object_name, objects, objects_in}
+use Rattle.core_relation.specs.Memory.{Chunk, In, Memory, object_name, objects, objects_in}
 use Rattle.core_relation.proofs.objects.Members.{in_map, in_objects}
 use Rattle.task_machine.specs.Accounts.{large_names, named_by, names_in, small_lists}
 use Rattle.task_machine.specs.Place.{name_of}
@@ -38,7 +38,7 @@ module _ (m : State) where
       by Hole e same t go = omega (arith, go)
 
   -- of small chunks and of large ones
-  pub all_counted : (ks : List Content) → AreTidy ks → ((k : Content) (o : Located) → In ks k → In (chunk_of k).objects o → SameWords m o)
+  pub all_counted : (ks : List ChunkValue) → AreTidy ks → ((k : ChunkValue) (o : Located) → In ks k → In (chunk_of k).objects o → SameWords m o)
       → words_sum m (flat_map (λ ns. ns) (small_lists ks)) + words_sum m (large_names ks) ≡ held_words ks
   all_counted [] tidy same = refl
   all_counted (k ∷ ks) tidy same =
@@ -56,7 +56,7 @@ module _ (m : State) where
           omega (arith, both, own, go)
 
 -- a value stands for these accounts, and a heap with these chunks is at rest
-module _ (v : Value) (l : Ledger) (t : ℕ) (ks : List Content) (V : Stands v l) (rests : Rests l t) (here : (v.homes t).chunks ≡ chunks_of ks) where
+module _ (v : Memory) (l : Ledger) (t : ℕ) (ks : List ChunkValue) (V : Stands v l) (rests : Rests l t) (here : (v.homes t).chunks ≡ chunks_of ks) where
   H : HomeStands v l t
   H = V.homes t rests
 

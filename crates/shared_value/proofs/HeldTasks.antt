@@ -5,18 +5,18 @@ use Rattle.std.proofs.lemmas.Bool.{cases_eq, and_parts}
 use Rattle.hh_lang.specs.Form.{ProgramText}
 use Rattle.hh_model.specs.declared.data.Name.{Name}
 use Rattle.hh_model.specs.Step.{is_waiting}
-use Rattle.run_trace.specs.Settings.{Limits}
+use Rattle.run_trace.specs.Settings.{SettingsValue}
 use Rattle.run_ledger.specs.declared.data.Heap.{Heap}
 use Rattle.run_ledger.specs.declared.data.Ledger.{Ledger}
 use Rattle.run_ledger.specs.Heaps.{heap_of}
 use Rattle.run_ledger.specs.Sound.{SoundLedger}
 use Rattle.object_layout.specs.declared.word.Addr.{Addr}
 use Rattle.object_layout.specs.Objects.{Located}
-use Rattle.ledger_steps.specs.Accounts.{Rests, own}
-use Rattle.ledger_steps.proofs.Rested.{rested_worker}
-use Rattle.ledger_steps.specs.Accounts.{StepsAlone}
+use Rattle.ledger_step_laws.specs.Accounts.{Rests, own}
+use Rattle.ledger_step_laws.proofs.Rested.{rested_worker}
+use Rattle.ledger_step_laws.specs.Accounts.{StepsAlone}
 use Rattle.task_machine.specs.declared.part.Begun.{Begun}
-use Rattle.core_relation.specs.Value.{Home, In, Lies, Value, objects, objects_in, shown_at}
+use Rattle.core_relation.specs.Memory.{Home, In, Lies, Memory, objects, objects_in, shown_at}
 use Rattle.core_relation.specs.Reads.{TaskIsRead}
 use Rattle.core_relation.specs.Stands.{Place, Stands}
 use Rattle.core_relation.specs.Begins.{IsReachedAt}
@@ -36,8 +36,8 @@ use Rattle.core_relation.proofs.changes.With.{at_home, off_home}
 use Rattle.core_relation.proofs.parts.Quiet.{aside_is}
 
 -- the same value, with other homes of the tasks that workers hold
-module _ (v : Value) (hs : ℕ → Home) (l : Ledger) (same : (u : ℕ) → Rests l u → hs u ≡ v.homes u) where
-  abbrev v' : Value
+module _ (v : Memory) (hs : ℕ → Home) (l : Ledger) (same : (u : ℕ) → Rests l u → hs u ≡ v.homes u) where
+  abbrev v' : Memory
   v' = record v { homes = hs }
 
   place : (n : Name) (a : Addr) → Place v l n a → Place v' l n a
@@ -96,8 +96,8 @@ module _ (v : Value) (hs : ℕ → Home) (l : Ledger) (same : (u : ℕ) → Rest
     }
 
 -- A PART
-module _ (v : Value) (hs : ℕ → Home) (l : Ledger) (same : (u : ℕ) → Rests l u → hs u ≡ v.homes u) (p : ProgramText) (s : Limits) (q : Part) (S : SoundLedger l) where
-  abbrev w : Value
+module _ (v : Memory) (hs : ℕ → Home) (l : Ledger) (same : (u : ℕ) → Rests l u → hs u ≡ v.homes u) (p : ProgramText) (s : SettingsValue) (q : Part) (S : SoundLedger l) where
+  abbrev w : Memory
   w = record v { homes = hs }
 
   abbrev t : ℕ

@@ -1,33 +1,33 @@
 -- An entry that isn't refused: the journal stays legal, and its accounts go on from those before it.
 use Rattle.std.proofs.Common.{◌≡◌, ℕ, ◌-◌, true, Option, None, List, [], ◌∷◌, ◌++◌, refl, ap, sym, subst, ◌∙◌, is_none}
 use Rattle.std.proofs.lemmas.Bool.{and_from}
-use Rattle.listed.specs.Space.{Space}
+use Rattle.listed.specs.RoomyValue.{RoomyValue}
 use Rattle.hh_lang.specs.Form.{ProgramText}
-use Rattle.run_trace.specs.Entry.{Event}
-use Rattle.run_trace.specs.Settings.{Limits}
+use Rattle.run_trace.specs.Entry.{EntryValue}
+use Rattle.run_trace.specs.Settings.{SettingsValue}
 use Rattle.run_ledger.specs.Entries.{refusal, after}
 use Rattle.run_ledger.specs.Journals.{ledger_of, is_legal}
 use Rattle.run_ledger.proofs.Cuts.{journals_can_be_cut}
 use Rattle.heap_tree.specs.Node.{Node}
 use Rattle.task_machine.specs.declared.part.Private.{Private}
 use Rattle.shared_value.specs.declared.task_at_rest.Rest.{Rest}
-use Rattle.shared_value.specs.World.{World}
+use Rattle.shared_value.specs.SharedValue.{SharedValue}
 use Rattle.shared_value.specs.Fits.{Fits}
-use Rattle.shared_value.specs.Stands.{IsWorld}
+use Rattle.shared_value.specs.Stands.{IsSharedValue}
 
-pub accounts_then : (p : ProgramText) (s : Limits) (j : List Event) (e : Event) → ledger_of p s (j ++ e ∷ []) ≡ after p s (ledger_of p s j) e
+pub accounts_then : (p : ProgramText) (s : SettingsValue) (j : List EntryValue) (e : EntryValue) → ledger_of p s (j ++ e ∷ []) ≡ after p s (ledger_of p s j) e
 accounts_then p s j e = (journals_can_be_cut p s j (e ∷ [])).accounts
 
-pub legal_then : (p : ProgramText) (s : Limits) (j : List Event) (e : Event) → is_legal p s j ≡ true → refusal p s (ledger_of p s j) e ≡ None → is_legal p s (j ++ e ∷ []) ≡ true
+pub legal_then : (p : ProgramText) (s : SettingsValue) (j : List EntryValue) (e : EntryValue) → is_legal p s j ≡ true → refusal p s (ledger_of p s j) e ≡ None → is_legal p s (j ++ e ∷ []) ≡ true
 legal_then p s j e legal free =
     (journals_can_be_cut p s j (e ∷ [])).legal.1 (legal, and_from (is_none (refusal p s (ledger_of p s j) e)) true (ap is_none free) refl)
 
 -- the journal with an entry that was made
-pub journal_by : (j j' : Space Event) (x e : Event) → x ≡ e → j' ≡ record { items = j.items ++ x ∷ []; room = j.room - 1 } → j' ≡ record { items = j.items ++ e ∷ []; room = j.room - 1 }
+pub journal_by : (j j' : RoomyValue EntryValue) (x e : EntryValue) → x ≡ e → j' ≡ record { items = j.items ++ x ∷ []; room = j.room - 1 } → j' ≡ record { items = j.items ++ e ∷ []; room = j.room - 1 }
 journal_by j j' x e q is = is ∙ ap (λ y. record { items = j.items ++ y ∷ []; room = j.room - 1 }) q
 
 -- the shared value with four of its fields changed
-pub four_changed : (w : World) (n n' : List Node) (h h' : List (Option Rest)) (a a' : List (Option ℕ)) (j j' : Space Event) → n' ≡ n → h' ≡ h → a' ≡ a → j' ≡ j
+pub four_changed : (w : SharedValue) (n n' : List Node) (h h' : List (Option Rest)) (a a' : List (Option ℕ)) (j j' : RoomyValue EntryValue) → n' ≡ n → h' ≡ h → a' ≡ a → j' ≡ j
     → record w { tree = n'; homes = h'; hands = a'; journal = j' } ≡ record w { tree = n; homes = h; hands = a; journal = j }
 four_changed w n n' h h' a a' j j' en eh ea ej =
     ap (λ x. record w { tree = x; homes = h'; hands = a'; journal = j' }) en
@@ -36,17 +36,17 @@ four_changed w n n' h h' a a' j j' en eh ea ej =
     ∙ ap (λ x. record w { tree = n; homes = h; hands = a; journal = x }) ej))
 
 -- room alone
-pub room_world : (w : World) (j : Space Event) → j.items ≡ w.journal.items → IsWorld w → IsWorld (record w { journal = j })
+pub room_world : (w : SharedValue) (j : RoomyValue EntryValue) → j.items ≡ w.journal.items → IsSharedValue w → IsSharedValue (record w { journal = j })
 room_world w j e I =
-    subst (λ (x : List Event). IsWorld (record w { journal = record { items = x; room = j.room } })) (sym e)
+    subst (λ (x : List EntryValue). IsSharedValue (record w { journal = record { items = x; room = j.room } })) (sym e)
     (record { limits = I.limits; form = I.form; legal = I.legal; made = I.made; noted = I.noted; workers = I.workers; limit = I.limit; stands = I.stands; heaps = I.heaps; measured = I.measured })
 
 -- and every part that fits fits
-pub room_fit : (w : World) (j : Space Event) → j.items ≡ w.journal.items → (k : ℕ) (p : Private) → Fits w k p → Fits (record w { journal = j }) k p
+pub room_fit : (w : SharedValue) (j : RoomyValue EntryValue) → j.items ≡ w.journal.items → (k : ℕ) (p : Private) → Fits w k p → Fits (record w { journal = j }) k p
 room_fit w j e k p F =
-    subst (λ (x : List Event). Fits (record w { journal = record { items = x; room = j.room } }) k p) (sym e)
+    subst (λ (x : List EntryValue). Fits (record w { journal = record { items = x; room = j.room } }) k p) (sym e)
     (record { held = F.held; fits = F.fits; form = F.form; measured = F.measured; leaf_limit = F.leaf_limit; field_limit = F.field_limit })
 
 -- and where the run is halted
-pub halted_fit : (w : World) (k : ℕ) (p : Private) → Fits w k p → Fits (record w { halted = true }) k p
+pub halted_fit : (w : SharedValue) (k : ℕ) (p : Private) → Fits w k p → Fits (record w { halted = true }) k p
 halted_fit w k p F = record { held = F.held; fits = F.fits; form = F.form; measured = F.measured; leaf_limit = F.leaf_limit; field_limit = F.field_limit }

@@ -8,12 +8,12 @@ use Rattle.std.proofs.lemmas.Option.{same_Some}
 use Rattle.object_layout.specs.declared.word.Addr.{Addr}
 use Rattle.object_layout.specs.declared.word.Birth.{Birth}
 use Rattle.object_layout.specs.Cell.{Born, Cell, Hole, Mark, Moved, size_of}
-use Rattle.object_layout.specs.Content.{Content}
-use Rattle.object_layout.specs.Piece.{Frozen, frozen_at, frozen_from, frozen_of, lasts}
+use Rattle.object_layout.specs.ChunkValue.{ChunkValue}
+use Rattle.object_layout.specs.Piece.{PieceValue, frozen_at, frozen_from, frozen_of, lasts}
 use Rattle.object_layout.specs.Objects.{Located, located, located_by, objects_from}
 use Rattle.alloc_path.specs.View.{Level, level_of, nearest, piece_in}
 use Rattle.alloc_path.specs.View.{seen_at as view_at, seen_in as view_in}
-use Rattle.core_relation.specs.Value.{Chunk, chunk_of as chunk_among, frozen_chunk, frozen_chunks, is_at, seen_at, seen_in, shown_at}
+use Rattle.core_relation.specs.Memory.{Chunk, chunk_of as chunk_among, frozen_chunk, frozen_chunks, is_at, seen_at, seen_in, shown_at}
 use Rattle.shared_value.specs.Objects.{birth_in, chunk_of, chunks_of, levels_of, shown, shown_chunk}
 
 -- ---- THE LEVEL OF A HEAP
@@ -37,7 +37,7 @@ objects_same : (n at : ℕ) (cs : List Cell) → map (shown n) (frozen_from at c
 objects_same n at [] = refl
 objects_same n at (c ∷ cs) = one_more n at c (frozen_from (at + size_of c) cs) (objects_from n (at + size_of c) cs) (objects_same n (at + size_of c) cs) c.mark refl
 
-pub level_is : (ks : List Content) → map shown_chunk (level_of ks) ≡ frozen_chunks (chunks_of ks)
+pub level_is : (ks : List ChunkValue) → map shown_chunk (level_of ks) ≡ frozen_chunks (chunks_of ks)
 level_is [] = refl
 level_is (k ∷ ks) = ap₂ (λ y ys. let c : Chunk = record { number = k.number; units = 0; large = false; objects = y } in c ∷ ys) (objects_same k.number 0 k.cells) (level_is ks)
 
@@ -51,12 +51,12 @@ chunk_found n (f ∷ fs) = by (f.number == n) (chunk_found n fs)
     by true more = refl
     by false more = more
 
-number_found : (n : ℕ) (l : Level) (f : Frozen) → piece_in l n ≡ Some f → f.number ≡ n
+number_found : (n : ℕ) (l : Level) (f : PieceValue) → piece_in l n ≡ Some f → f.number ≡ n
 number_found n [] f e = absurd cc
 number_found n (g ∷ gs) f e = by (g.number == n) refl e (number_found n gs f)
   where
     by : (b : Bool) → (g.number == n) ≡ b → cond b (Some g) (piece_in gs n) ≡ Some f → (piece_in gs n ≡ Some f → f.number ≡ n) → f.number ≡ n
-    by true q h more = ap (λ (z : Frozen). z.number) (sym (same_Some g f h)) ∙ eqb-true g.number n q
+    by true q h more = ap (λ (z : PieceValue). z.number) (sym (same_Some g f h)) ∙ eqb-true g.number n q
     by false q h more = more h
 
 -- an object of a view, at an address
@@ -83,7 +83,7 @@ pub shown_found : (ls : List Level) (a : Addr) → shown_at (levels_of ls) a ≡
 shown_found [] a = refl
 shown_found (l ∷ ls) a = ap (λ k. seen_in k a (shown_at (levels_of ls) a)) (chunk_found a.chunk l) ∙ by (piece_in l a.chunk) refl (shown_found ls a)
   where
-    by : (o : Option Frozen) → piece_in l a.chunk ≡ o → shown_at (levels_of ls) a ≡ option_map (shown_there a) (view_at ls a)
+    by : (o : Option PieceValue) → piece_in l a.chunk ≡ o → shown_at (levels_of ls) a ≡ option_map (shown_there a) (view_at ls a)
         → seen_in (option_map shown_chunk o) a (shown_at (levels_of ls) a) ≡ option_map (shown_there a) (view_in (option_or o (nearest ls a.chunk)) a.offset)
     by None e more = more
     by (Some f) e more = object_found f.number a f.objects (number_found a.chunk l f e)

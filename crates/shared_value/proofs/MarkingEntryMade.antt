@@ -1,21 +1,21 @@
 -- An entry is made that also changes what is marked: the shared value that it leaves.
 use Rattle.std.proofs.Common.{◌≡◌, ℕ, ℤ, Option, Some, None, List, length, slice_get, ap, sym, subst, ◌∙◌}
-use Rattle.run_trace.specs.Entry.{Event}
+use Rattle.run_trace.specs.Entry.{EntryValue}
 use Rattle.run_ledger.specs.declared.data.Ledger.{Ledger}
 use Rattle.run_ledger.specs.declared.data.RunEnd.{RunEnd}
 use Rattle.run_ledger.specs.Heaps.{heap_of}
 use Rattle.run_ledger.specs.Entries.{after}
-use Rattle.chunk_pool.specs.Chunks.{Chunks}
+use Rattle.chunk_pool.specs.PoolValue.{PoolValue}
 use Rattle.heap_tree.specs.Node.{Node}
 use Rattle.write_barrier.specs.declared.sets.SetOf.{SetOf}
-use Rattle.inner_mark_gc.specs.Marks.{Marks}
+use Rattle.inner_mark_gc.specs.MarkingValue.{MarkingValue}
 use Rattle.core_relation.specs.Whole.{StandsForAll}
 use Rattle.core_relation.specs.Worker.{Fits as FitsValue}
 use Rattle.task_machine.specs.declared.part.Private.{Private}
 use Rattle.shared_value.specs.declared.task_at_rest.Rest.{Rest}
-use Rattle.shared_value.specs.World.{World, accounts, flat, rest_at, totals_of, value_of}
+use Rattle.shared_value.specs.SharedValue.{SharedValue, accounts, flat, rest_at, totals_of, value_of}
 use Rattle.shared_value.specs.Measured.{IsMeasured, RestsAreMeasured}
-use Rattle.shared_value.specs.Stands.{HeapForm, IsWorld}
+use Rattle.shared_value.specs.Stands.{HeapForm, IsSharedValue}
 use Rattle.shared_value.specs.Fits.{Fits, part_of}
 use Rattle.shared_value.specs.Entered.{refused}
 use Rattle.shared_value.proofs.JournalGoesOn.{accounts_then, legal_then}
@@ -23,18 +23,18 @@ use Rattle.shared_value.proofs.EntryMade.{entered, entry_on, held_by_end}
 use Rattle.shared_value.proofs.BeforeTheEnd.{stands_now}
 
 -- the value with other fields, marks among them, and one entry more
-abbrev pub entered_marks : World → Event → List Node → Chunks → List (Option Rest) → List SetOf → List (Option ℕ) → List ℤ → ℕ → Option RunEnd → ℕ → List (Option Marks) → World
+abbrev pub entered_marks : SharedValue → EntryValue → List Node → PoolValue → List (Option Rest) → List SetOf → List (Option ℕ) → List ℤ → ℕ → Option RunEnd → ℕ → List (Option MarkingValue) → SharedValue
 entered_marks w e tree pool homes sets hands outputs steps end room marks = record (entered w e tree pool homes sets hands outputs steps end room) { marks = marks }
 
-module _ (w : World) (e : Event) (I : IsWorld w) (free : refused w e ≡ None) (tree : List Node) (pool : Chunks) (homes : List (Option Rest)) (sets : List SetOf) (hands : List (Option ℕ)) (outputs : List ℤ) (steps : ℕ) (end : Option RunEnd) (room : ℕ) (marks : List (Option Marks)) where
-  abbrev w' : World
+module _ (w : SharedValue) (e : EntryValue) (I : IsSharedValue w) (free : refused w e ≡ None) (tree : List Node) (pool : PoolValue) (homes : List (Option Rest)) (sets : List SetOf) (hands : List (Option ℕ)) (outputs : List ℤ) (steps : ℕ) (end : Option RunEnd) (room : ℕ) (marks : List (Option MarkingValue)) where
+  abbrev w' : SharedValue
   w' = entered_marks w e tree pool homes sets hands outputs steps end room marks
 
   pub marked_accounts : accounts w' ≡ after w.program w.settings (accounts w) e
   marked_accounts = accounts_then w.program w.settings w.journal.items e
 
   pub marked_world : length homes ≡ length tree → length sets ≡ length tree → length hands ≡ length w.hands → pool.limit ≡ w.pool.limit
-      → StandsForAll (value_of w') (totals_of w') (after w.program w.settings (accounts w) e) → ((t : ℕ) (r : Rest) → rest_at homes t ≡ Some r → HeapForm r.heap) → RestsAreMeasured pool homes hands → IsWorld w'
+      → StandsForAll (value_of w') (totals_of w') (after w.program w.settings (accounts w) e) → ((t : ℕ) (r : Rest) → rest_at homes t ≡ Some r → HeapForm r.heap) → RestsAreMeasured pool homes hands → IsSharedValue w'
   marked_world made noted workers limit stands heaps measured = record {
     limits = I.limits;
     form = I.form;
@@ -48,7 +48,7 @@ module _ (w : World) (e : Event) (I : IsWorld w) (free : refused w e ≡ None) (
     measured = measured;
   }
 
-  module _ (I' : IsWorld w') where
+  module _ (I' : IsSharedValue w') where
     marked_held : (u t : ℕ) → flat (slice_get hands u) ≡ flat (slice_get w.hands u) → (heap_of (accounts w) t).worker ≡ Some u → (heap_of (accounts w') t).worker ≡ Some u
     marked_held u t same held = held_by_end (accounts w') (accounts w').end t u ((I'.stands.totals.hand u t).0 (same ∙ ((stands_now w I (entry_on w e free)).totals.hand u t).1 held))
 

@@ -15,12 +15,12 @@ use Rattle.run_ledger.specs.declared.data.Heap.{Heap as Account}
 use Rattle.run_ledger.specs.declared.data.Ledger.{Ledger}
 use Rattle.run_ledger.specs.Heaps.{heap_of, or_fresh}
 use Rattle.run_ledger.specs.Steps.{task_steps}
-use Rattle.alloc_path.specs.Heap.{counted, room_of}
+use Rattle.alloc_path.specs.LeafHeapValue.{counted, room_of}
 use Rattle.task_frames.specs.declared.frames.Frame.{Frame}
-use Rattle.ledger_steps.proofs.Rested.{rested_view, rested_worker}
+use Rattle.ledger_step_laws.proofs.Rested.{rested_view, rested_worker}
 use Rattle.core_relation.specs.Stands.{HomeStands}
 use Rattle.core_relation.specs.Fits.{ahead, with_home}
-use Rattle.core_relation.specs.Value.{Home}
+use Rattle.core_relation.specs.Memory.{Home}
 use Rattle.core_relation.proofs.changes.With.{at_home}
 use Rattle.task_machine.specs.declared.part.Private.{Private}
 use Rattle.task_machine.specs.Accounts.{AreReserved, IsCounted}
@@ -29,8 +29,8 @@ use Rattle.task_machine.specs.Place.{FrameStands, Places}
 use Rattle.task_machine.specs.Plan.{int_of}
 use Rattle.task_machine.proofs.Agreement.{same_line}
 use Rattle.task_machine.proofs.Fitting.{int_same}
-use Rattle.shared_value.specs.World.{World, accounts, value_of}
-use Rattle.shared_value.specs.Stands.{IsWorld}
+use Rattle.shared_value.specs.SharedValue.{SharedValue, accounts, value_of}
+use Rattle.shared_value.specs.Stands.{IsSharedValue}
 use Rattle.shared_value.specs.Fits.{Fits, home_of_part, part_of}
 use Rattle.shared_value.specs.Next.{instr_asks, line_asks, part_asks}
 use Rattle.shared_value.proofs.PartFitsMachine as link
@@ -74,7 +74,7 @@ some_account : (o : Option Account) (k : ℕ) → (or_fresh o).worker ≡ Some k
 some_account None k e = absurd cc
 some_account (Some h) k e = (h, refl)
 
-module _ (w : World) (k : ℕ) (p : Private) (I : IsWorld w) (F : Fits w k p) (on : (accounts w).end ≡ None) where
+module _ (w : SharedValue) (k : ℕ) (p : Private) (I : IsSharedValue w) (F : Fits w k p) (on : (accounts w).end ≡ None) where
   abbrev t : ℕ
   t = p.task
 

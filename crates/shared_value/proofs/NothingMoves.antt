@@ -1,21 +1,21 @@
 -- Entries that move nothing: the end of fuel, a chunk, and the end of the pool.
 use Rattle.std.proofs.Common.{◌≡◌, ℕ, Option, Some, None, length, slice_get, inl, refl, ap, sym, ◌∙◌}
-use Rattle.listed.specs.Space.{Space}
+use Rattle.listed.specs.RoomyValue.{RoomyValue}
 use Rattle.hh_model.specs.declared.data.State.{State}
 use Rattle.hh_model.specs.Effect.{row_of}
 use Rattle.hh_model.specs.Step.{is_joined}
 use Rattle.run_trace.specs.declared.entry.Kind.TheVariants.{Fuel}
-use Rattle.run_trace.specs.Entry.{Event}
+use Rattle.run_trace.specs.Entry.{EntryValue}
 use Rattle.run_ledger.specs.declared.data.Heap.{Heap}
 use Rattle.run_ledger.specs.declared.data.Ledger.{Ledger}
 use Rattle.run_ledger.specs.declared.data.RunEnd.{RunEnd}
 use Rattle.run_ledger.specs.declared.data.RunEnd.TheVariants.{Fuel as FuelEnd}
 use Rattle.run_ledger.specs.Heaps.{heap_of}
 use Rattle.run_ledger.specs.Entries.{after}
-use Rattle.chunk_pool.specs.Chunks.{Chunks}
-use Rattle.alloc_path.specs.Heap.{Heap as HeapOf}
-use Rattle.ledger_steps.specs.Accounts.{Rests, rested}
-use Rattle.core_relation.specs.Value.{Value}
+use Rattle.chunk_pool.specs.PoolValue.{PoolValue}
+use Rattle.alloc_path.specs.LeafHeapValue.{LeafHeapValue as HeapOf}
+use Rattle.ledger_step_laws.specs.Accounts.{Rests, rested}
+use Rattle.core_relation.specs.Memory.{Memory}
 use Rattle.core_relation.specs.Changes.{SameObjects}
 use Rattle.core_relation.specs.Counts.{CountsGo, IsMarked, IsQuiet}
 use Rattle.core_relation.specs.Fits.{with_home}
@@ -29,9 +29,9 @@ use Rattle.core_relation.proofs.whole.EntriesWhole.{quiet_stands_for}
 use Rattle.core_relation.proofs.parts.WorkersPast.{quiet_leaves}
 use Rattle.task_machine.specs.declared.part.Begun.{Begun}
 use Rattle.task_machine.specs.declared.part.Private.{Private}
-use Rattle.shared_value.specs.World.{World, accounts, totals_of, value_of}
+use Rattle.shared_value.specs.SharedValue.{SharedValue, accounts, totals_of, value_of}
 use Rattle.shared_value.specs.Measured.{IsMeasured, KeepsUnits}
-use Rattle.shared_value.specs.Stands.{HeapForm, IsWorld}
+use Rattle.shared_value.specs.Stands.{HeapForm, IsSharedValue}
 use Rattle.shared_value.specs.Fits.{AllFit, Fits, home_of_part, part_of}
 use Rattle.shared_value.specs.Entered.{refused}
 use Rattle.shared_value.proofs.EntryMade.{entered, entered_world, entry_on, part_fits}
@@ -39,24 +39,24 @@ use Rattle.shared_value.proofs.BeforeTheEnd.{stands_now}
 use Rattle.shared_value.proofs.UnitsMeasured.{all_kept, measured_kept, part_kept}
 
 -- an entry after which the pool and the end may be others
-module _ (w : World) (e : Event) (I : IsWorld w) (free : refused w e ≡ None) (quiet : IsQuiet e.kind) (unmarked : (u : ℕ) → IsMarked e.kind u → ⊥) (pool : Chunks) (end : Option RunEnd) (room : ℕ) where
+module _ (w : SharedValue) (e : EntryValue) (I : IsSharedValue w) (free : refused w e ≡ None) (quiet : IsQuiet e.kind) (unmarked : (u : ℕ) → IsMarked e.kind u → ⊥) (pool : PoolValue) (end : Option RunEnd) (room : ℕ) where
   abbrev pub l : Ledger
   l = accounts w
 
   abbrev pub L : Ledger
   L = after w.program w.settings l e
 
-  abbrev pub w' : World
+  abbrev pub w' : SharedValue
   w' = entered w e w.tree pool w.homes w.sets w.hands w.outputs w.steps end room
 
-  abbrev pub v : Value
+  abbrev pub v : Memory
   v = value_of w
 
-  abbrev pub v' : Value
+  abbrev pub v' : Memory
   v' = value_of w'
 
   module _ (same : SameObjects v v' l L) (notes : (u : ℕ) → NotesStay v v' u) (counts : CountsGo w.program w.settings l (totals_of w) (totals_of w') e.worker e.kind) (limit : pool.limit ≡ w.pool.limit) (keeps : (t : ℕ) → KeepsUnits w.pool pool t) where
-    pub quiet_world : IsWorld w'
+    pub quiet_world : IsSharedValue w'
     quiet_world =
         entered_world w e I free w.tree pool w.homes w.sets w.hands w.outputs w.steps end room I.made I.noted refl limit
         (quiet_stands_for w.program w.settings w.journal.items I.form I.legal v v' (totals_of w) (totals_of w') e free quiet I.stands same (λ u n. notes u) (λ u m. absurd (unmarked u m)) counts)
@@ -82,7 +82,7 @@ module _ (w : World) (e : Event) (I : IsWorld w) (free : refused w e ≡ None) (
           (quiet_fits_then w.program w.settings w.journal.items I.legal v v' e p.task (home_of_part P) (home_of_part Q) free quiet F.fits part begun)
 
 -- where the machine and the accounts of heaps stay, the value may
-pub same_value : (v : Value) (l L : Ledger) → L.machine ≡ l.machine → ((u : ℕ) → heap_of L u ≡ heap_of l u) → ((u : ℕ) → Rests l u → HomeStands v l u) → SameObjects v v l L
+pub same_value : (v : Memory) (l L : Ledger) → L.machine ≡ l.machine → ((u : ℕ) → heap_of L u ≡ heap_of l u) → ((u : ℕ) → Rests l u → HomeStands v l u) → SameObjects v v l L
 same_value v l L m heaps homes = record {
   home = λ u r. home_kept v v l L u refl (λ k e. e) (heaps u) (ap (λ (z : State). length (row_of (slice_get z.store u))) m) (ap (λ (z : State). is_joined (slice_get z.tasks u)) m) (homes u (ap (λ (h : Heap). h.worker) (sym (heaps u)) ∙ r));
   objects = λ u. refl;
@@ -97,14 +97,14 @@ same_value v l L m heaps homes = record {
 }
 
 -- FUEL
-module _ (w : World) (k : ℕ) (I : IsWorld w) (free : refused w (record { worker = k; kind = Fuel }) ≡ None) (j : Space Event) where
+module _ (w : SharedValue) (k : ℕ) (I : IsSharedValue w) (free : refused w (record { worker = k; kind = Fuel }) ≡ None) (j : RoomyValue EntryValue) where
   abbrev room : ℕ
   room = j.room
 
-  abbrev e : Event
+  abbrev e : EntryValue
   e = record { worker = k; kind = Fuel }
 
-  abbrev fueled : World
+  abbrev fueled : SharedValue
   fueled = entered w e w.tree w.pool w.homes w.sets w.hands w.outputs w.steps (Some (FuelEnd w.steps)) room
 
   same : SameObjects (value_of w) (value_of w) (accounts w) (after w.program w.settings (accounts w) e)
@@ -116,7 +116,7 @@ module _ (w : World) (k : ℕ) (I : IsWorld w) (free : refused w (record { worke
   notes : (u : ℕ) → NotesStay (value_of w) (value_of w) u
   notes u = record { keeps = refl; kept = refl; marked = refl }
 
-  pub fuel_world : IsWorld fueled
+  pub fuel_world : IsSharedValue fueled
   fuel_world = quiet_world w e I free tt (λ u m. m) w.pool (Some (FuelEnd w.steps)) room same notes counts refl (all_kept w.pool)
 
   pub fuel_all : AllFit w fueled

@@ -3,10 +3,10 @@ use Rattle.std.proofs.Common.{◌≡◌, ℕ, ◌+◌, ◌++◌, arith, None, Li
 use Rattle.std.proofs.lemmas.List.Elements.{All-head, All-tail}
 use Rattle.object_layout.specs.Cell.{Born, Cell, Hole, Mark, Moved, moved_to, size_of}
 use Rattle.object_layout.specs.Chunks.{held_size, object_count, one_each, sum_in}
-use Rattle.object_layout.specs.Content.{Content}
+use Rattle.object_layout.specs.ChunkValue.{ChunkValue}
 use Rattle.object_layout.specs.Objects.{located_by, objects_from}
-use Rattle.alloc_path.specs.Heap.{AreTidy, IsTidy}
-use Rattle.core_relation.specs.Value.{objects_in}
+use Rattle.alloc_path.specs.LeafHeapValue.{AreTidy, IsTidy}
+use Rattle.core_relation.specs.Memory.{objects_in}
 use Rattle.shared_value.specs.Objects.{chunk_of, chunks_of}
 
 -- AS MANY OBJECTS are counted as are read
@@ -19,7 +19,7 @@ cells_counted (c ∷ cs) number at t = by c.mark (All-head (λ (d : Cell). moved
     by (Moved to) e go = absurd cc
     by Hole e go = omega (arith, go)
 
-pub objects_counted : (ks : List Content) → AreTidy ks → object_count ks ≡ length (objects_in (chunks_of ks))
+pub objects_counted : (ks : List ChunkValue) → AreTidy ks → object_count ks ≡ length (objects_in (chunks_of ks))
 objects_counted [] t = refl
 objects_counted (k ∷ ks) t =
     let one : sum_in one_each k.cells ≡ length (chunk_of k).objects = cells_counted k.cells k.number 0 (All-head IsTidy k ks t).unmoved in

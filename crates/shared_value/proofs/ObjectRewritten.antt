@@ -6,13 +6,13 @@ use Rattle.std.proofs.lemmas.List.Elements.{All-cons, All-head, All-nil, All-tai
 use Rattle.object_layout.specs.declared.word.Addr.{Addr}
 use Rattle.object_layout.specs.Cell.{Born, Cell, Hole, Mark, Moved, moved_to, size_of}
 use Rattle.object_layout.specs.Chunks.{cell_of, chunk_at, put_object, with_cell}
-use Rattle.object_layout.specs.Content.{Content}
+use Rattle.object_layout.specs.ChunkValue.{ChunkValue}
 use Rattle.object_layout.specs.Place.{cell_at, words_in}
 use Rattle.object_layout.specs.Objects.{Located, changed_at, located_by, objects_from, objects_of, with_fields}
 use Rattle.object_layout.proofs.ChunkLaws.{length-put}
 use Rattle.object_layout.proofs.ObjectChanges.{put_changes_one}
-use Rattle.alloc_path.specs.Heap.{AreApart, Heap, IsTidy, room_at, room_of, units}
-use Rattle.core_relation.specs.Value.{Chunk, In, is_at, mapped_chunk, objects_in, put_at}
+use Rattle.alloc_path.specs.LeafHeapValue.{AreApart, LeafHeapValue, IsTidy, room_at, room_of, units}
+use Rattle.core_relation.specs.Memory.{Chunk, In, is_at, mapped_chunk, objects_in, put_at}
 use Rattle.core_relation.proofs.objects.Members.{in_chunk, in_map, map_in, in_objects}
 use Rattle.core_relation.proofs.changes.Write.{at_is}
 use Rattle.task_machine.specs.Accounts.{IsLastLarge, IsLastSmall}
@@ -58,7 +58,7 @@ chunks_same a f g (k ∷ ks) h =
     (chunks_same a f g ks (λ o i. let c = in_chunk ks o i in h o (in_objects (k ∷ ks) c.0 o (inr c.1) c.2)))
 
 -- A CELL OF THE SAME MARK AND SIZE is put: the object there has its fields
-objects_put : (k : Content) (a : Addr) (d : Cell) → (k.number == a.chunk) ≡ true → (cell_at k.cells a.offset).mark ≡ d.mark → size_of (cell_at k.cells a.offset) ≡ size_of d
+objects_put : (k : ChunkValue) (a : Addr) (d : Cell) → (k.number == a.chunk) ≡ true → (cell_at k.cells a.offset).mark ≡ d.mark → size_of (cell_at k.cells a.offset) ≡ size_of d
     → objects_of (with_cell k a.offset d) ≡ map (put_at a (with_fields d)) (objects_of k)
 objects_put k a d e em es =
     let cell : cell_of (k ∷ []) a ≡ cell_at k.cells a.offset = cond-true (k.number == a.chunk) (cell_at k.cells a.offset) (cell_of [] a) e in
@@ -70,7 +70,7 @@ objects_put k a d e em es =
     first_is : (os qs : List Located) → os ∷ [] ≡ qs ∷ [] → os ≡ qs
     first_is os qs q = cc
 
-pub chunks_put : (ks : List Content) (a : Addr) (d : Cell) → AreApart ks → (cell_of ks a).mark ≡ d.mark → size_of (cell_of ks a) ≡ size_of d → chunks_of (put_object ks a d) ≡ map (mapped_chunk (put_at a (with_fields d))) (chunks_of ks)
+pub chunks_put : (ks : List ChunkValue) (a : Addr) (d : Cell) → AreApart ks → (cell_of ks a).mark ≡ d.mark → size_of (cell_of ks a) ≡ size_of d → chunks_of (put_object ks a d) ≡ map (mapped_chunk (put_at a (with_fields d))) (chunks_of ks)
 chunks_put [] a d A em es = refl
 chunks_put (k ∷ ks) a d A em es = by (k.number == a.chunk) refl em es (chunks_put ks a d A.1)
   where
@@ -136,16 +136,16 @@ none_too number base base' (c ∷ cs) (d ∷ ds) e h =
     by Hole (Moved z) q g go = go g
     by Hole Hole q g go = go g
 
-abbrev SameChunks : Content → Content → Type 0
+abbrev SameChunks : ChunkValue → ChunkValue → Type 0
 SameChunks k j = outline_of_chunk k ≡ outline_of_chunk j
 
-cells_same : (k j : Content) → SameChunks k j → map outline_of_cell k.cells ≡ map outline_of_cell j.cells
-cells_same k j e = ap (λ (z : Content). z.cells) e
+cells_same : (k j : ChunkValue) → SameChunks k j → map outline_of_cell k.cells ≡ map outline_of_cell j.cells
+cells_same k j e = ap (λ (z : ChunkValue). z.cells) e
 
-size_same : (k j : Content) → SameChunks k j → k.size ≡ j.size
-size_same k j e = ap (λ (z : Content). z.size) e
+size_same : (k j : ChunkValue) → SameChunks k j → k.size ≡ j.size
+size_same k j e = ap (λ (z : ChunkValue). z.size) e
 
-tidy_same : (k j : Content) → SameChunks k j → IsTidy k → IsTidy j
+tidy_same : (k j : ChunkValue) → SameChunks k j → IsTidy k → IsTidy j
 tidy_same k j e T =
     let cs = cells_same k j e in
     let n = same_count k.cells j.cells cs in
@@ -159,15 +159,15 @@ tidy_same k j e T =
     }
 
 -- ---- ITS FORM
-module _ (h : Heap) (a : Addr) (d : Cell) (form : HeapForm h) (mark : d.mark ≡ (cell_of h.chunks a).mark) (size : size_of d ≡ size_of (cell_of h.chunks a)) where
-  abbrev ks : List Content
+module _ (h : LeafHeapValue) (a : Addr) (d : Cell) (form : HeapForm h) (mark : d.mark ≡ (cell_of h.chunks a).mark) (size : size_of d ≡ size_of (cell_of h.chunks a)) where
+  abbrev ks : List ChunkValue
   ks = put_object h.chunks a d
 
   outlines : map outline_of_chunk ks ≡ map outline_of_chunk h.chunks
-  outlines = ap (λ (z : Heap). z.chunks) (written_outline h a d mark size)
+  outlines = ap (λ (z : LeafHeapValue). z.chunks) (written_outline h a d mark size)
 
   at_place : (i : ℕ) → SameChunks (chunk_at h.chunks i) (chunk_at ks i)
-  at_place i = sym (outline_at h.chunks i) ∙ (ap (λ (z : List Content). chunk_at z i) (sym outlines) ∙ outline_at ks i)
+  at_place i = sym (outline_at h.chunks i) ∙ (ap (λ (z : List ChunkValue). chunk_at z i) (sym outlines) ∙ outline_at ks i)
 
   as_many : length ks ≡ length h.chunks
   as_many = length-put h.chunks a d
@@ -197,7 +197,7 @@ module _ (h : Heap) (a : Addr) (d : Cell) (form : HeapForm h) (mark : d.mark ≡
     shaped = shape_written h a d form.shaped;
     near = near;
     tidy = all_by outline_of_chunk IsTidy tidy_same h.chunks ks (sym outlines) form.tidy;
-    within = all_by outline_of_chunk (λ (k : Content). words_in k.cells ≤ k.size) (λ k j e f. subst (λ n. n ≤ j.size) (same_words k.cells j.cells (cells_same k j e)) (subst (λ n. words_in k.cells ≤ n) (size_same k j e) f)) h.chunks ks (sym outlines) form.within;
+    within = all_by outline_of_chunk (λ (k : ChunkValue). words_in k.cells ≤ k.size) (λ k j e f. subst (λ n. n ≤ j.size) (same_words k.cells j.cells (cells_same k j e)) (subst (λ n. words_in k.cells ≤ n) (size_same k j e) f)) h.chunks ks (sym outlines) form.within;
     last = last_by h.current form.last;
     last_large = last_large_by h.reserved form.last_large;
     since = form.since;
@@ -208,7 +208,7 @@ module _ (h : Heap) (a : Addr) (d : Cell) (form : HeapForm h) (mark : d.mark ≡
     spare = λ i lt big none.
         form.spare i (omega (arith, lt, as_many)) (λ e. big (sym (size_same (chunk_at h.chunks i) (chunk_at ks i) (at_place i)) ∙ e))
         (none_too (chunk_at h.chunks i).number 0 0 (chunk_at ks i).cells (chunk_at h.chunks i).cells (sym (cells_same (chunk_at h.chunks i) (chunk_at ks i) (at_place i)))
-        (ap (λ n. objects_from n 0 (chunk_at ks i).cells) (ap (λ (z : Content). z.number) (at_place i)) ∙ none));
+        (ap (λ n. objects_from n 0 (chunk_at ks i).cells) (ap (λ (z : ChunkValue). z.number) (at_place i)) ∙ none));
   }
 
   -- as much room is left

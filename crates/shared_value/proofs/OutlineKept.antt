@@ -8,11 +8,11 @@ use Rattle.object_layout.specs.declared.word.Addr.{Addr}
 use Rattle.object_layout.specs.declared.word.Birth.{Birth}
 use Rattle.object_layout.specs.Cell.{Born, Cell, IsObject, Mark, no_cell, size_of}
 use Rattle.object_layout.specs.Chunks.{cell_of, chunk_at}
-use Rattle.object_layout.specs.Content.{Content}
+use Rattle.object_layout.specs.ChunkValue.{ChunkValue}
 use Rattle.object_layout.specs.Place.{cell_at}
-use Rattle.alloc_path.specs.Heap.{Heap, place_for, placed}
+use Rattle.alloc_path.specs.LeafHeapValue.{LeafHeapValue, place_for, placed}
 use Rattle.alloc_path.proofs.PlacedLaws.{cell_of-others}
-use Rattle.core_relation.specs.Value.{In}
+use Rattle.core_relation.specs.Memory.{In}
 use Rattle.core_relation.proofs.objects.Members.{in_map, map_in}
 use Rattle.task_machine.specs.declared.part.Private.{Private}
 use Rattle.task_machine.specs.Outline.{outline_after, outline_by, outline_of, outline_of_cell, outline_of_chunk, steps}
@@ -35,7 +35,7 @@ mark_at (c ∷ cs) (suc n) =
     by true e = e
     by false e = refl
 
-mark_of : (ks : List Content) (a : Addr) → (cell_of (map outline_of_chunk ks) a).mark ≡ (cell_of ks a).mark
+mark_of : (ks : List ChunkValue) (a : Addr) → (cell_of (map outline_of_chunk ks) a).mark ≡ (cell_of ks a).mark
 mark_of [] a = refl
 mark_of (k ∷ ks) a = by (k.number == a.chunk) (mark_of ks a)
   where
@@ -45,37 +45,37 @@ mark_of (k ∷ ks) a = by (k.number == a.chunk) (mark_of ks a)
     by false e = e
 
 -- each chunk was there, of its size
-abbrev Numbers : List Content → List Content → Type 0
-Numbers old new = (k : Content) → In new k → (j : Content) × In old j × (j.number ≡ k.number) × (j.size ≡ k.size)
+abbrev Numbers : List ChunkValue → List ChunkValue → Type 0
+Numbers old new = (k : ChunkValue) → In new k → (j : ChunkValue) × In old j × (j.number ≡ k.number) × (j.size ≡ k.size)
 
-numbers_set : (ks : List Content) (i : ℕ) (y k : Content) → y.number ≡ (chunk_at ks i).number → y.size ≡ (chunk_at ks i).size → In (slice_set ks i y) k → (j : Content) × In ks j × (j.number ≡ k.number) × (j.size ≡ k.size)
+numbers_set : (ks : List ChunkValue) (i : ℕ) (y k : ChunkValue) → y.number ≡ (chunk_at ks i).number → y.size ≡ (chunk_at ks i).size → In (slice_set ks i y) k → (j : ChunkValue) × In ks j × (j.number ≡ k.number) × (j.size ≡ k.size)
 numbers_set [] i y k e s h = absurd h
-numbers_set (x ∷ xs) zero y k e s (inl q) = (x, inl refl, sym e ∙ ap (λ (z : Content). z.number) q, sym s ∙ ap (λ (z : Content). z.size) q)
+numbers_set (x ∷ xs) zero y k e s (inl q) = (x, inl refl, sym e ∙ ap (λ (z : ChunkValue). z.number) q, sym s ∙ ap (λ (z : ChunkValue). z.size) q)
 numbers_set (x ∷ xs) zero y k e s (inr h) = (k, inr h, refl, refl)
-numbers_set (x ∷ xs) (suc i) y k e s (inl q) = (x, inl refl, ap (λ (z : Content). z.number) q, ap (λ (z : Content). z.size) q)
+numbers_set (x ∷ xs) (suc i) y k e s (inl q) = (x, inl refl, ap (λ (z : ChunkValue). z.number) q, ap (λ (z : ChunkValue). z.size) q)
 numbers_set (x ∷ xs) (suc i) y k e s (inr h) = let r = numbers_set xs i y k e s h in (r.0, inr r.1, r.2, r.3)
 
 born_object : (m : Mark) (b : Birth) → m ≡ Born b → IsObject m
 born_object m b e = subst IsObject (sym e) tt
 
-placed_keeps : (h : Heap) (o : Option ℕ) (c : Cell) → KeepsPlaces h (placed h o c)
+placed_keeps : (h : LeafHeapValue) (o : Option ℕ) (c : Cell) → KeepsPlaces h (placed h o c)
 placed_keeps h None c = record { stays = λ a b e. e; numbers = λ k i. (k, i, refl, refl) }
 placed_keeps h (Some i) c = record {
   stays = λ a b e. ap (λ (z : Cell). z.mark) (cell_of-others h.chunks i c a (born_object (cell_of h.chunks a).mark b e)) ∙ e;
   numbers = λ k j. numbers_set h.chunks i _ k refl refl j;
 }
 
-keeps_both : (f g h : Heap) → KeepsPlaces f g → KeepsPlaces g h → KeepsPlaces f h
+keeps_both : (f g h : LeafHeapValue) → KeepsPlaces f g → KeepsPlaces g h → KeepsPlaces f h
 keeps_both f g h A B = record {
   stays = λ a b e. B.stays a b (A.stays a b e);
   numbers = λ k i. (let x = B.numbers k i in let y = A.numbers x.0 x.1 in (y.0, y.1, y.2 ∙ x.2, y.3 ∙ x.3));
 }
 
-by_keeps : (m : State) (t : ℕ) (h : Heap) (o : Option ℕ) → KeepsPlaces h (outline_by m t h o)
+by_keeps : (m : State) (t : ℕ) (h : LeafHeapValue) (o : Option ℕ) → KeepsPlaces h (outline_by m t h o)
 by_keeps m t h None = record { stays = λ a b e. e; numbers = λ k i. (k, i, refl, refl) }
 by_keeps m t h (Some w) = placed_keeps h (place_for h w) _
 
-after_keeps : (p : ProgramText) (m : State) (t : ℕ) (h : Heap) (i : ℕ) → KeepsPlaces h (outline_after p m t h i)
+after_keeps : (p : ProgramText) (m : State) (t : ℕ) (h : LeafHeapValue) (i : ℕ) → KeepsPlaces h (outline_after p m t h i)
 after_keeps p m t h zero = record { stays = λ a b e. e; numbers = λ k i. (k, i, refl, refl) }
 after_keeps p m t h (suc i) = keeps_both h (outline_after p m t h i) (outline_after p m t h (suc i)) (after_keeps p m t h i) (by_keeps (steps p m t i) t (outline_after p m t h i) (asked p (steps p m t i) t))
 
@@ -88,5 +88,5 @@ run_keeps_places p old new m above n R =
       numbers = λ k i.
           let j = K.numbers (outline_of_chunk k) (in_map outline_of_chunk new.heap.chunks k i) in
           let c = map_in outline_of_chunk old.heap.chunks j.0 j.1 in
-          (c.0, c.1, ap (λ (z : Content). z.number) c.2 ∙ j.2, ap (λ (z : Content). z.size) c.2 ∙ j.3);
+          (c.0, c.1, ap (λ (z : ChunkValue). z.number) c.2 ∙ j.2, ap (λ (z : ChunkValue). z.size) c.2 ∙ j.3);
     }

@@ -33,18 +33,18 @@ use Rattle.object_layout.specs.declared.word.Addr.{Addr}
 use Rattle.object_layout.specs.declared.word.Birth.{Birth}
 use Rattle.object_layout.specs.Cell.{Born, Cell}
 use Rattle.object_layout.specs.Chunks.{cell_of, place_in, place_of}
-use Rattle.object_layout.specs.Content.{Content}
+use Rattle.object_layout.specs.ChunkValue.{ChunkValue}
 use Rattle.object_layout.specs.Objects.{Located, located}
 use Rattle.alloc_path.specs.View.{seen_at}
 use Rattle.task_frames.specs.declared.frames.Frame.{Frame}
-use Rattle.ledger_steps.specs.Accounts.{Rests, own}
-use Rattle.ledger_steps.specs.Accounts.{Knows}
-use Rattle.ledger_steps.specs.Accounts.{StepsAlone}
-use Rattle.ledger_steps.proofs.Ahead.{with_machine}
-use Rattle.ledger_steps.proofs.Rested.{rested_worker}
-use Rattle.ledger_steps.proofs.Known.{legal_knows}
-use Rattle.ledger_steps.proofs.Tree.{leaf_alone}
-use Rattle.core_relation.specs.Value.{Chunk, Home, In, Lies, Value, as_shown, object_name, objects, objects_in, shown_at}
+use Rattle.ledger_step_laws.specs.Accounts.{Rests, own}
+use Rattle.ledger_step_laws.specs.Accounts.{Knows}
+use Rattle.ledger_step_laws.specs.Accounts.{StepsAlone}
+use Rattle.ledger_step_laws.proofs.Ahead.{with_machine}
+use Rattle.ledger_step_laws.proofs.Rested.{rested_worker}
+use Rattle.ledger_step_laws.proofs.Known.{legal_knows}
+use Rattle.ledger_step_laws.proofs.Tree.{leaf_alone}
+use Rattle.core_relation.specs.Memory.{Chunk, Home, In, Lies, Memory, as_shown, object_name, objects, objects_in, shown_at}
 use Rattle.core_relation.specs.Reads.{AllRead, FrameIsRead, FramesAreRead, HoldsRead, IsRead, Reads, TaskIsRead}
 use Rattle.core_relation.specs.Stands.{HomeStands, Place, Stands}
 use Rattle.core_relation.specs.Fits.{FitsAt as FitsValue, ahead, with_home}
@@ -60,11 +60,11 @@ use Rattle.task_machine.specs.declared.part.Private.{Private}
 use Rattle.task_machine.specs.Place.{AreAt, FrameStands, FramesStand, IsAt, birth_of, name_of}
 use Rattle.task_machine.specs.Fits.{FitsNow as FitsMachine, HeapStands, IsOwn, IsRun, IsShownBy, StackStands}
 use Rattle.shared_value.specs.Objects.{chunk_of}
-use Rattle.shared_value.specs.World.{World, accounts, frames_of, rest_at, value_of, home_in, home_by}
+use Rattle.shared_value.specs.SharedValue.{SharedValue, accounts, frames_of, rest_at, value_of, home_in, home_by}
 use Rattle.shared_value.specs.declared.task_at_rest.Rest.{Rest}
 use Rattle.shared_value.specs.declared.task_at_rest.Work.{Work}
 use Rattle.shared_value.specs.declared.task_at_rest.Work.TheVariants.{Calls, Result}
-use Rattle.shared_value.specs.Stands.{HeapForm, IsWorld}
+use Rattle.shared_value.specs.Stands.{HeapForm, IsSharedValue}
 use Rattle.shared_value.specs.Fits.{Fits, home_of_part, part_of}
 use Rattle.shared_value.specs.Links.{FitsFirst, above_of, find_at}
 use Rattle.shared_value.proofs.CellsRead.{object_seen, seen_object}
@@ -105,18 +105,18 @@ found_at ks n a named y =
     let same : f.0 ≡ y.0 = named f.0 y.0 f.1 y.1 f.2 in
     ap (find_at (objects_in ks)) (sym y.2.name) ∙ (f.3 ∙ ap Some (ap (λ (z : Located). z.at) same ∙ y.2.at))
 
-pub placed_in : (ks : List Content) (number i : ℕ) → place_in ks number ≡ Some i → (k : Content) × In ks k × (k.number ≡ number)
+pub placed_in : (ks : List ChunkValue) (number i : ℕ) → place_in ks number ≡ Some i → (k : ChunkValue) × In ks k × (k.number ≡ number)
 placed_in ks number i e = at ks (lt (nat_lt (place_of ks number) (length ks)) refl e)
   where
     lt : (b : Bool) → nat_lt (place_of ks number) (length ks) ≡ b → cond b (Some (place_of ks number)) None ≡ Some i → place_of ks number < length ks
     lt true q h = ltb-true (place_of ks number) (length ks) q
     lt false q h = absurd cc
 
-    at : (ks : List Content) → place_of ks number < length ks → (k : Content) × In ks k × (k.number ≡ number)
+    at : (ks : List ChunkValue) → place_of ks number < length ks → (k : ChunkValue) × In ks k × (k.number ≡ number)
     at [] h = absurd (omega (arith, h))
     at (y ∷ ys) h = by (y.number == number) refl h (at ys)
       where
-        by : (b : Bool) → (y.number == number) ≡ b → cond b 0 (1 + place_of ys number) < length (y ∷ ys) → (place_of ys number < length ys → (k : Content) × In ys k × (k.number ≡ number)) → (k : Content) × In (y ∷ ys) k × (k.number ≡ number)
+        by : (b : Bool) → (y.number == number) ≡ b → cond b 0 (1 + place_of ys number) < length (y ∷ ys) → (place_of ys number < length ys → (k : ChunkValue) × In ys k × (k.number ≡ number)) → (k : ChunkValue) × In (y ∷ ys) k × (k.number ≡ number)
         by true q h go = (y, inl refl, eqb-true y.number number q)
         by false q h go = let r = go (omega (arith, h)) in (r.0, inr r.1, r.2)
 
@@ -167,20 +167,20 @@ rest_near (Some r) h q i = by r.work i
     by (Calls s) j = (h r refl).near q j
     by (Result n b) j = (h r refl).near q j
 
-module _ (w : World) (k : ℕ) (p : Private) (I : IsWorld w) (F : Fits w k p) (on : (accounts w).end ≡ None) where
+module _ (w : SharedValue) (k : ℕ) (p : Private) (I : IsSharedValue w) (F : Fits w k p) (on : (accounts w).end ≡ None) where
   abbrev l : Ledger
   l = accounts w
 
   abbrev t : ℕ
   t = p.task
 
-  abbrev v : Value
+  abbrev v : Memory
   v = value_of w
 
   abbrev h : Home
   h = home_of_part p
 
-  abbrev v' : Value
+  abbrev v' : Memory
   v' = with_home v t h
 
   abbrev then_ : Ledger

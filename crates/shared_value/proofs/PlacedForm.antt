@@ -7,12 +7,12 @@ use Rattle.std.proofs.lemmas.List.Elements.{All-from_get_or, All-get_or}
 use Rattle.object_layout.specs.declared.word.Birth.{Birth}
 use Rattle.object_layout.specs.Cell.{Born, Cell, moved_to, size_of}
 use Rattle.object_layout.specs.Chunks.{chunk_at, held_words, no_chunk, object_count, place_in, push_object, small_words}
-use Rattle.object_layout.specs.Content.{Content}
+use Rattle.object_layout.specs.ChunkValue.{ChunkValue}
 use Rattle.object_layout.specs.Place.{words_in}
 use Rattle.object_layout.specs.Objects.{located, located_by, objects_from}
 use Rattle.object_layout.proofs.ObjectChanges.{appended_is_last}
 use Rattle.object_layout.proofs.PlaceLemmas.{words_in-push}
-use Rattle.alloc_path.specs.Heap.{AreTidy, Heap, IsKept, IsTidy, counted, place_for, placed_at, units}
+use Rattle.alloc_path.specs.LeafHeapValue.{AreTidy, LeafHeapValue, IsKept, IsTidy, counted, place_for, placed_at, units}
 use Rattle.alloc_path.proofs.HeapLemmas as heap
 use Rattle.alloc_path.proofs.HeapLemmas.{part-set}
 use Rattle.alloc_path.proofs.Settled.{settled_placed}
@@ -22,19 +22,19 @@ use Rattle.task_machine.proofs.Placed.{shape_placed}
 use Rattle.shared_value.specs.Objects.{chunk_of}
 
 -- a chunk: a large one holds nothing, or one object that has just its units
-pub record IsFormed (k : Content) : Type 0 where
+pub record IsFormed (k : ChunkValue) : Type 0 where
   pub tidy : IsTidy k
   pub within : words_in k.cells ≤ k.size
   pub whole : k.size ≡ 1024 * (k.size / 1024)
   pub large : (k.size ≡ 1024 → ⊥) → HoldsLarge (chunk_of k)
 
 -- each chunk of the heap is one, and a large one without objects is the reserved one
-pub record Formed (h : Heap) : Type 0 where
+pub record Formed (h : LeafHeapValue) : Type 0 where
   pub shaped : IsShaped h
   pub each : (i : ℕ) → i < length h.chunks → IsFormed (chunk_at h.chunks i)
   pub spare : (i : ℕ) → i < length h.chunks → ((chunk_at h.chunks i).size ≡ 1024 → ⊥) → (chunk_of (chunk_at h.chunks i)).objects ≡ [] → h.reserved ≡ Some i
 
-pub formed_tidy : (h : Heap) → Formed h → AreTidy h.chunks
+pub formed_tidy : (h : LeafHeapValue) → Formed h → AreTidy h.chunks
 formed_tidy h F = All-from_get_or IsTidy h.chunks no_chunk (λ i lt. (F.each i lt).tidy)
 
 not_empty : {A : Type 0} (xs : List A) (x : A) → xs ++ x ∷ [] ≡ [] → ⊥
@@ -46,14 +46,14 @@ none_lost e = absurd cc
 
 -- ---- AN OBJECT IS PLACED
 
-module _ (h : Heap) (F : Formed h) (i : ℕ) (c : Cell) (b : Birth) (born : c.mark ≡ Born b) (fits : place_for h (size_of c) ≡ Some i) where
-  abbrev K : Content
+module _ (h : LeafHeapValue) (F : Formed h) (i : ℕ) (c : Cell) (b : Birth) (born : c.mark ≡ Born b) (fits : place_for h (size_of c) ≡ Some i) where
+  abbrev K : ChunkValue
   K = chunk_at h.chunks i
 
-  abbrev fuller : Content
+  abbrev fuller : ChunkValue
   fuller = record K { cells = K.cells ++ c ∷ [] }
 
-  abbrev pushed : List Content
+  abbrev pushed : List ChunkValue
   pushed = push_object h.chunks i c
 
   abbrev table : ℕ → Option ℕ
@@ -63,7 +63,7 @@ module _ (h : Heap) (F : Formed h) (i : ℕ) (c : Cell) (b : Birth) (born : c.ma
   keeps = record {
     current = F.shaped.current;
     reserved = F.shaped.reserved;
-    within = All-from_get_or (λ (k : Content). words_in k.cells ≤ k.size) h.chunks no_chunk (λ j lt. (F.each j lt).within);
+    within = All-from_get_or (λ (k : ChunkValue). words_in k.cells ≤ k.size) h.chunks no_chunk (λ j lt. (F.each j lt).within);
     words = refl;
     objects = refl;
     small = refl;
@@ -87,7 +87,7 @@ module _ (h : Heap) (F : Formed h) (i : ℕ) (c : Cell) (b : Birth) (born : c.ma
   other j ne = get_or-set_other h.chunks i j fuller no_chunk ne
 
   size_same : (j : ℕ) → (chunk_at pushed j).size ≡ (chunk_at h.chunks j).size
-  size_same j = part-set (λ (k : Content). k.size) h.chunks i j fuller no_chunk refl
+  size_same j = part-set (λ (k : ChunkValue). k.size) h.chunks i j fuller no_chunk refl
 
   as_long : length pushed ≡ length h.chunks
   as_long = length-set h.chunks i fuller
@@ -142,10 +142,10 @@ module _ (h : Heap) (F : Formed h) (i : ℕ) (c : Cell) (b : Birth) (born : c.ma
   spare_then j lt big empty = elim (cases_eq j i) [
     | inl e ↦
         let at : chunk_at pushed j ≡ fuller = ap (chunk_at pushed) e ∙ there in
-        absurd (not_empty (chunk_of K).objects (located K.number (words_in K.cells) b c) (sym objects_then ∙ (ap (λ (k : Content). (chunk_of k).objects) (sym at) ∙ empty)))
+        absurd (not_empty (chunk_of K).objects (located K.number (words_in K.cells) b c) (sym objects_then ∙ (ap (λ (k : ChunkValue). (chunk_of k).objects) (sym at) ∙ empty)))
     | inr ne ↦
         reserved_still j ne
-        (F.spare j (omega (arith, lt, as_long)) (λ z. big (size_same j ∙ z)) (ap (λ (k : Content). (chunk_of k).objects) (sym (other j ne)) ∙ empty))
+        (F.spare j (omega (arith, lt, as_long)) (λ z. big (size_same j ∙ z)) (ap (λ (k : ChunkValue). (chunk_of k).objects) (sym (other j ne)) ∙ empty))
   ]
 
   pub formed_placed : Formed (placed_at h i c)

@@ -8,12 +8,12 @@ use Rattle.object_layout.specs.Objects.{Located}
 use Rattle.remembered_set.specs.declared.remembered.Source.{Source}
 use Rattle.remembered_set.specs.Moved.{AreFields}
 use Rattle.write_barrier.specs.declared.sets.SetOf.{SetOf}
-use Rattle.ledger_steps.specs.Accounts.{Rests, rested}
-use Rattle.ledger_steps.proofs.Rested.{rested_worker}
+use Rattle.ledger_step_laws.specs.Accounts.{Rests, rested}
+use Rattle.ledger_step_laws.proofs.Rested.{rested_worker}
 use Rattle.core_relation.specs.Begins.{AreRoots}
 use Rattle.core_relation.specs.Fits.{with_home}
 use Rattle.core_relation.specs.Stands.{Stands}
-use Rattle.core_relation.specs.Value.{Home, In, Value, objects, objects_in, sources}
+use Rattle.core_relation.specs.Memory.{Home, In, Memory, objects, objects_in, sources}
 use Rattle.core_relation.proofs.objects.Members.{in_chunk}
 use Rattle.core_relation.proofs.changes.With.{at_home, off_home}
 use Rattle.task_machine.specs.declared.part.Private.{Private}
@@ -21,8 +21,8 @@ use Rattle.shared_value.specs.declared.task_at_rest.Rest.{Rest}
 use Rattle.shared_value.specs.declared.task_at_rest.Work.{Work}
 use Rattle.shared_value.specs.declared.task_at_rest.Work.TheVariants.{Calls, Result}
 use Rattle.shared_value.specs.Objects.{chunks_of}
-use Rattle.shared_value.specs.World.{World, accounts, home_by, home_in, home_of, noted_in, rest_at, value_of}
-use Rattle.shared_value.specs.Stands.{IsWorld}
+use Rattle.shared_value.specs.SharedValue.{SharedValue, accounts, home_by, home_in, home_of, noted_in, rest_at, value_of}
+use Rattle.shared_value.specs.Stands.{IsSharedValue}
 use Rattle.shared_value.specs.Fits.{Fits, home_of_part}
 use Rattle.shared_value.specs.RestingHeaps.{refs_for, refs_in, refs_of_rest}
 use Rattle.shared_value.specs.Roots.{heaps_of, roots_of, sources_of}
@@ -45,12 +45,12 @@ object_refs : (c : Cell) {b : _} → c.mark ≡ Born b → (marked_object c.mark
 object_refs c e = ap (λ m. (marked_object m c).refs) e
 
 -- an object of a resting heap, as it is read there
-pub record RestObject (w : World) (u : ℕ) (o : Located) : Type 0 where
+pub record RestObject (w : SharedValue) (u : ℕ) (o : Located) : Type 0 where
   pub rest : Rest
   pub is : rest_at w.homes u ≡ Some rest
   pub refs : refs_of_rest (rest_at w.homes u) o.at ≡ o.refs
 
-pub rest_object : (w : World) (u : ℕ) → IsWorld w → (o : Located) → In (objects_in (home_in (rest_at w.homes u)).chunks) o → RestObject w u o
+pub rest_object : (w : SharedValue) (u : ℕ) → IsSharedValue w → (o : Located) → In (objects_in (home_in (rest_at w.homes u)).chunks) o → RestObject w u o
 rest_object w u I o i = by (rest_at w.homes u) refl i
   where
     by : (q : Option Rest) → rest_at w.homes u ≡ q → In (objects_in (home_in q).chunks) o → RestObject w u o
@@ -61,21 +61,21 @@ rest_object w u I o i = by (rest_at w.homes u) refl i
         record { rest = r; is = e; refs = ap (λ z. refs_of_rest z o.at) e ∙ refs }
 
 -- an object of a home at rest, as it is read in the value
-pub read_at_rest : (w : World) (u : ℕ) → IsWorld w → (o : Located) → In (objects_in (home_in (rest_at w.homes u)).chunks) o → (value_of w).owner o.at.chunk ≡ Some u → refs_in (heaps_of w) o.at ≡ o.refs
+pub read_at_rest : (w : SharedValue) (u : ℕ) → IsSharedValue w → (o : Located) → In (objects_in (home_in (rest_at w.homes u)).chunks) o → (value_of w).owner o.at.chunk ≡ Some u → refs_in (heaps_of w) o.at ≡ o.refs
 read_at_rest w u I o i owner = ap (λ q. refs_for w.homes q o.at) owner ∙ (rest_object w u I o i).refs
 
 -- ---- A PART WITHOUT FRESH STEPS, before the run's end
-module _ (w : World) (k : ℕ) (p : Private) (I : IsWorld w) (F : Fits w k (record p { fresh = 0 })) (on : (accounts w).end ≡ None) where
+module _ (w : SharedValue) (k : ℕ) (p : Private) (I : IsSharedValue w) (F : Fits w k (record p { fresh = 0 })) (on : (accounts w).end ≡ None) where
   abbrev P : Private
   P = record p { fresh = 0 }
 
   abbrev t : ℕ
   t = p.task
 
-  abbrev v : Value
+  abbrev v : Memory
   v = value_of w
 
-  abbrev v' : Value
+  abbrev v' : Memory
   v' = with_home v t (home_of_part P)
 
   abbrev L : Ledger

@@ -11,14 +11,14 @@ use Rattle.hh_model.specs.Effect.{object_at}
 use Rattle.run_ledger.specs.declared.data.Ledger.{Ledger}
 use Rattle.object_layout.specs.declared.word.Addr.{Addr}
 use Rattle.object_layout.specs.Chunks.{has_chunk, place_in}
-use Rattle.object_layout.specs.Content.{Content}
+use Rattle.object_layout.specs.ChunkValue.{ChunkValue}
 use Rattle.object_layout.specs.Objects.{Located}
 use Rattle.remembered_set.specs.declared.remembered.Source.{Source}
 use Rattle.remembered_set.specs.Moved.{AreFields, held_by, into, targets_of}
-use Rattle.ledger_steps.specs.Accounts.{Rests, own}
+use Rattle.ledger_step_laws.specs.Accounts.{Rests, own}
 use Rattle.core_relation.specs.Begins.{AreRoots, IsRoot}
 use Rattle.core_relation.specs.Stands.{IsSource, Place, Stands}
-use Rattle.core_relation.specs.Value.{Chunk, In, Lies, Value, objects, objects_in, sources}
+use Rattle.core_relation.specs.Memory.{Chunk, In, Lies, Memory, objects, objects_in, sources}
 use Rattle.core_relation.proofs.objects.Members.{in_chunk, in_map, map_in}
 use Rattle.core_relation.proofs.notes.Roots.{name_at}
 use Rattle.shared_value.specs.declared.heaps.Heaps.{Heaps}
@@ -44,7 +44,7 @@ all_in : {A : Type 0} (P : A → Type 0) (xs : List A) → ((x : A) → In xs x 
 all_in P [] f = tt
 all_in P (x ∷ xs) f = (f x (inl refl), all_in P xs (λ y i. f y (inr i)))
 
-pub into_tells : (ks : List Content) (o : Option Addr) (a : Addr) → In (into ks o) a → (o ≡ Some a) × (has_chunk ks a.chunk ≡ true)
+pub into_tells : (ks : List ChunkValue) (o : Option Addr) (a : Addr) → In (into ks o) a → (o ≡ Some a) × (has_chunk ks a.chunk ≡ true)
 into_tells ks None a i = absurd i
 into_tells ks (Some b) a i = by (has_chunk ks b.chunk) refl i
   where
@@ -53,10 +53,10 @@ into_tells ks (Some b) a i = by (has_chunk ks b.chunk) refl i
     by true e (inr j) = absurd j
     by false e j = absurd j
 
-pub into_there : (ks : List Content) (o : Option Addr) (a : Addr) → o ≡ Some a → has_chunk ks a.chunk ≡ true → In (into ks o) a
+pub into_there : (ks : List ChunkValue) (o : Option Addr) (a : Addr) → o ≡ Some a → has_chunk ks a.chunk ≡ true → In (into ks o) a
 into_there ks o a e h = subst (λ z. In (into ks z) a) (sym e) (subst (λ v. In (cond v (a ∷ []) []) a) (sym h) (inl refl))
 
-module _ {S : Type 0} (refs_at : S → Addr → List (Option Addr)) (h : S) (ks : List Content) where
+module _ {S : Type 0} (refs_at : S → Addr → List (Option Addr)) (h : S) (ks : List ChunkValue) where
   targets_tell : (ss : List Source) (a : Addr) → In (targets_of refs_at h ks ss) a → (s : Source) × In ss s × (held_by refs_at h s ≡ Some a) × (has_chunk ks a.chunk ≡ true)
   targets_tell [] a i = absurd i
   targets_tell (s ∷ ss) a i = elim (in_append_cases (into ks (held_by refs_at h s)) (targets_of refs_at h ks ss) a i) [
@@ -72,14 +72,14 @@ module _ {S : Type 0} (refs_at : S → Addr → List (Option Addr)) (h : S) (ks 
 
 -- ---- CHUNKS
 
-pub chunk_in : (ks : List Content) (number : ℕ) → has_chunk ks number ≡ true → (k : Content) × In ks k × (k.number ≡ number)
+pub chunk_in : (ks : List ChunkValue) (number : ℕ) → has_chunk ks number ≡ true → (k : ChunkValue) × In ks k × (k.number ≡ number)
 chunk_in ks number h = by (place_in ks number) refl h
   where
-    by : (o : Option ℕ) → place_in ks number ≡ o → is_some o ≡ true → (k : Content) × In ks k × (k.number ≡ number)
+    by : (o : Option ℕ) → place_in ks number ≡ o → is_some o ≡ true → (k : ChunkValue) × In ks k × (k.number ≡ number)
     by None e h = absurd (false≢true h)
     by (Some i) e h = placed_in ks number i e
 
-pub has_it : (ks : List Content) (k : Content) (number : ℕ) → In ks k → k.number ≡ number → has_chunk ks number ≡ true
+pub has_it : (ks : List ChunkValue) (k : ChunkValue) (number : ℕ) → In ks k → k.number ≡ number → has_chunk ks number ≡ true
 has_it ks k number i q = by (place_in ks number) refl
   where
     by : (o : Option ℕ) → place_in ks number ≡ o → is_some o ≡ true
@@ -88,7 +88,7 @@ has_it ks k number i q = by (place_in ks number) refl
 
 -- ---- A VALUE THAT STANDS, and a heap at rest with these chunks and remembered fields; heaps by whose words the objects of all other
 -- heaps are read
-module _ (v : Value) (l : Ledger) (t : ℕ) (W : Stands v l) (at_rest : Rests l t) (ks : List Content) (here : (v.homes t).chunks ≡ chunks_of ks) (ss : List Source) (sources_are : sources v t ≡ ss) (hs : Heaps)
+module _ (v : Memory) (l : Ledger) (t : ℕ) (W : Stands v l) (at_rest : Rests l t) (ks : List ChunkValue) (here : (v.homes t).chunks ≡ chunks_of ks) (ss : List Source) (sources_are : sources v t ≡ ss) (hs : Heaps)
     (read : (u : ℕ) → (u ≡ t → ⊥) → Rests l u → (o : Located) → In (objects v u) o → refs_in hs o.at ≡ o.refs) where
   -- the owner of a resting home's object
   owner_at : (u : ℕ) → Rests l u → (o : Located) → In (objects v u) o → v.owner o.at.chunk ≡ Some u

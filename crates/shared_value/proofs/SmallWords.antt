@@ -7,12 +7,12 @@ use Rattle.hh_model.specs.declared.data.State.{State}
 use Rattle.run_ledger.specs.Heaps.{words_at, words_sum}
 use Rattle.object_layout.specs.Cell.{Born, Cell, Hole, Mark, Moved, moved_to, size_of}
 use Rattle.object_layout.specs.Chunks.{held_size, small_part, small_words, sum_in}
-use Rattle.object_layout.specs.Content.{Content}
+use Rattle.object_layout.specs.ChunkValue.{ChunkValue}
 use Rattle.object_layout.specs.Place.{words_in}
 use Rattle.object_layout.specs.Objects.{Located, located, located_by, objects_from}
-use Rattle.alloc_path.specs.Heap.{AreTidy, AreWithin}
+use Rattle.alloc_path.specs.LeafHeapValue.{AreTidy, AreWithin}
 use Rattle.core_relation.specs.Layout.{HoldsLarge, words}
-use Rattle.core_relation.specs.Value.{In, object_name}
+use Rattle.core_relation.specs.Memory.{In, object_name}
 use Rattle.task_machine.specs.Accounts.{named_by, names_in, small_lists}
 use Rattle.task_machine.specs.Place.{name_of}
 use Rattle.shared_value.specs.Objects.{chunk_of}
@@ -64,7 +64,7 @@ module _ (m : State) where
       by Hole e large t go = omega (arith, go)
 
   -- a large chunk's object is large
-  large_in : (k : Content) → k.size ≡ 1024 * (k.size / 1024) → (k.size == 1024) ≡ false → HoldsLarge (chunk_of k) → (o : Located) → In (chunk_of k).objects o → 1024 < words o
+  large_in : (k : ChunkValue) → k.size ≡ 1024 * (k.size / 1024) → (k.size == 1024) ≡ false → HoldsLarge (chunk_of k) → (o : Located) → In (chunk_of k).objects o → 1024 < words o
   large_in k whole big (inl none) o i = absurd (subst (λ os. In os o) none i)
   large_in k whole big (inr (q, only, at, fits)) o i = elim (subst (λ os. In os o) only i) [
     | inl e ↦
@@ -77,8 +77,8 @@ module _ (m : State) where
       by u n size ne fits some = omega (arith, size, ne, fits, some)
 
   -- THE WORDS of all names of small chunks
-  pub small_counted : (ks : List Content) → AreTidy ks → AreWithin ks → ((k : Content) → In ks k → k.size ≡ 1024 * (k.size / 1024)) → ((k : Content) → In ks k → (chunk_of k).large ≡ true → HoldsLarge (chunk_of k))
-      → ((k : Content) (o : Located) → In ks k → In (chunk_of k).objects o → SameWords m o) → words_sum m (flat_map (λ ns. ns) (small_lists ks)) ≡ small_words ks
+  pub small_counted : (ks : List ChunkValue) → AreTidy ks → AreWithin ks → ((k : ChunkValue) → In ks k → k.size ≡ 1024 * (k.size / 1024)) → ((k : ChunkValue) → In ks k → (chunk_of k).large ≡ true → HoldsLarge (chunk_of k))
+      → ((k : ChunkValue) (o : Located) → In ks k → In (chunk_of k).objects o → SameWords m o) → words_sum m (flat_map (λ ns. ns) (small_lists ks)) ≡ small_words ks
   small_counted [] tidy within whole large same = refl
   small_counted (k ∷ ks) tidy within whole large same =
       by (k.size == 1024) refl

@@ -9,15 +9,15 @@ use Rattle.hh_model.specs.declared.data.Status.TheVariants.{Running}
 use Rattle.hh_model.specs.declared.data.Task.{Task}
 use Rattle.hh_model.specs.declared.data.State.{State}
 use Rattle.hh_model.specs.Step.{step, can_step, goes_on, is_running, runs, asked}
-use Rattle.run_trace.specs.Settings.{Limits}
+use Rattle.run_trace.specs.Settings.{SettingsValue}
 use Rattle.run_ledger.specs.declared.data.Heap.{Heap}
 use Rattle.run_ledger.specs.declared.data.Ledger.{Ledger}
 use Rattle.run_ledger.specs.Heaps.{or_fresh, fresh, with_heap, with_heap_at, heap_at, placed, put_last, is_small}
 use Rattle.run_ledger.specs.Steps.{allocated_by, allocated_in, settled, moved_to, moved_on, stepped_to, task_step, task_steps, is_private, is_due, is_in_need, standing}
 use Rattle.run_ledger.specs.Entries.{held_from, is_held_by}
-use Rattle.ledger_steps.specs.Accounts.{ArePrivate}
-use Rattle.ledger_steps.proofs.Ahead.{private_off, with_at, heap_then}
-use Rattle.ledger_steps.proofs.Private.{GoesOn, private_on}
+use Rattle.ledger_step_laws.specs.Accounts.{ArePrivate}
+use Rattle.ledger_step_laws.proofs.Ahead.{private_off, with_at, heap_then}
+use Rattle.ledger_step_laws.proofs.Private.{GoesOn, private_on}
 
 -- what of an account no allocation changes
 abbrev pub hold : Heap → Option ℕ × Option ℕ × List Name × Bool
@@ -131,7 +131,7 @@ module _ (p : ProgramText) (l : Ledger) (t : ℕ) (x : Task) (going : l.machine.
   pub after_one : After l (task_step p l t) t x
   after_one = subst (λ (k : Ledger). After l k t x) (sym step_is) after_then
 
-module _ (p : ProgramText) (s : Limits) (t : ℕ) where
+module _ (p : ProgramText) (s : SettingsValue) (t : ℕ) where
   pub after_all : (k : ℕ) (l : Ledger) (x : Task) → l.machine.end ≡ None → slice_get l.machine.tasks t ≡ Some x → x.status ≡ Running → ArePrivate p s l t k → After l (task_steps p l t k) t x
   after_all zero l x going is run h = after_none l t x is
   after_all (suc k) l x going is run h =

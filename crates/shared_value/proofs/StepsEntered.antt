@@ -1,13 +1,13 @@
 -- Private steps are entered.
 use Rattle.std.proofs.Common.{◌≡◌, ℕ, zero, suc, ◌+◌, ◌-◌, ◌<◌, ◌≤◌, true, false, min, Bool, Option, Some, None, map, slice_get, nat_le, is_none, is_some, inl, inr, refl, ap, sym, subst, ◌∙◌, arith, eq-eqb, le-leb}
 use Rattle.std.proofs.lemmas.Bool.{and_from, false≢true}
-use Rattle.listed.specs.Space.{Space}
+use Rattle.listed.specs.RoomyValue.{RoomyValue}
 use Rattle.hh_lang.specs.Form.{ProgramText}
 use Rattle.hh_model.specs.declared.data.Status.TheVariants.{Running}
 use Rattle.hh_model.specs.Step.{is_running}
 use Rattle.run_trace.specs.declared.entry.Kind.TheVariants.{Ran}
-use Rattle.run_trace.specs.Entry.{Event}
-use Rattle.run_trace.specs.Settings.{Limits}
+use Rattle.run_trace.specs.Entry.{EntryValue}
+use Rattle.run_trace.specs.Settings.{SettingsValue}
 use Rattle.run_ledger.specs.declared.data.Heap.{Heap}
 use Rattle.run_ledger.specs.declared.data.Ledger.{Ledger}
 use Rattle.run_ledger.specs.declared.data.Refused.{Refused}
@@ -17,12 +17,12 @@ use Rattle.run_ledger.specs.Steps.{is_private, task_step, task_steps, most_steps
 use Rattle.run_ledger.specs.Entries.{after, is_out, is_held_by, kind_refusal, refused_if, refused_unless}
 use Rattle.run_ledger.proofs.Bounds.{ran_tells}
 use Rattle.run_ledger.proofs.Sound.{collecting}
-use Rattle.ledger_steps.specs.Accounts.{ArePrivate}
-use Rattle.ledger_steps.specs.Last.{Private as PrivateKind, Runs}
-use Rattle.ledger_steps.proofs.Rested.{rested_worker}
-use Rattle.ledger_steps.proofs.Split.{entry_runs}
+use Rattle.ledger_step_laws.specs.Accounts.{ArePrivate}
+use Rattle.ledger_step_laws.specs.Last.{Private as PrivateKind, Runs}
+use Rattle.ledger_step_laws.proofs.Rested.{rested_worker}
+use Rattle.ledger_step_laws.proofs.Split.{entry_runs}
 use Rattle.core_relation.specs.Layout.{reserved_chunks, reserved_units}
-use Rattle.core_relation.specs.Value.{Chunk, Home, Value}
+use Rattle.core_relation.specs.Memory.{Chunk, Home, Memory}
 use Rattle.core_relation.specs.Fits.{FitsAt, ahead, part_for, with_home}
 use Rattle.core_relation.specs.Frames.{IsSteady}
 use Rattle.core_relation.specs.RanCounts.{RanCounts}
@@ -34,8 +34,8 @@ use Rattle.core_relation.proofs.changes.With.{at_home}
 use Rattle.core_relation.proofs.parts.Workers.{ran_leaves}
 use Rattle.task_machine.specs.declared.part.Private.{Private}
 use Rattle.task_machine.specs.Accounts.{IsCounted}
-use Rattle.shared_value.specs.World.{World, accounts, totals_of, value_of}
-use Rattle.shared_value.specs.Stands.{IsWorld}
+use Rattle.shared_value.specs.SharedValue.{SharedValue, accounts, totals_of, value_of}
+use Rattle.shared_value.specs.Stands.{IsSharedValue}
 use Rattle.shared_value.specs.Fits.{Fits, OthersFit, home_of_part, part_of}
 use Rattle.shared_value.specs.Entered.{refused}
 use Rattle.shared_value.specs.Causes.{first_cause, or_else}
@@ -47,7 +47,7 @@ use Rattle.shared_value.proofs.CausesTold.{refused_is}
 use Rattle.shared_value.proofs.StepAccounts.{After, after_all, all_stand}
 
 -- a part that fits, before the run's end
-module _ (w : World) (k : ℕ) (p : Private) (I : IsWorld w) (F : Fits w k p) (on : (accounts w).end ≡ None) where
+module _ (w : SharedValue) (k : ℕ) (p : Private) (I : IsSharedValue w) (F : Fits w k p) (on : (accounts w).end ≡ None) where
   pub goes : (accounts w).machine.end ≡ None
   goes = now.alive w k p F on
 
@@ -57,7 +57,7 @@ module _ (w : World) (k : ℕ) (p : Private) (I : IsWorld w) (F : Fits w k p) (o
   pub status : F.fits.task.status ≡ Running
   status = now.status w k p F on
 
-  abbrev vp : Value
+  abbrev vp : Memory
   vp = with_home (value_of w) p.task (home_of_part p)
 
   abbrev M : Ledger
@@ -95,7 +95,7 @@ else_same : (o : Option Refused) (rest : Option Refused) → (o ≡ None → res
 else_same None rest h = h refl
 else_same (Some c) rest h = refl
 
-module _ (w : World) (k : ℕ) (p : Private) (I : IsWorld w) (F : Fits w k p) (pos : 0 < p.fresh) where
+module _ (w : SharedValue) (k : ℕ) (p : Private) (I : IsSharedValue w) (F : Fits w k p) (pos : 0 < p.fresh) where
   free_kind : (accounts w).end ≡ None → kind_refusal w.program w.settings (accounts w) k (Ran p.task p.fresh) ≡ None
   free_kind on =
       let l : Ledger = accounts w in
@@ -126,18 +126,18 @@ module _ (w : World) (k : ℕ) (p : Private) (I : IsWorld w) (F : Fits w k p) (p
 
 -- WHAT IT CHANGES
 
-private_at : (p : ProgramText) (s : Limits) (t n : ℕ) (l : Ledger) → ArePrivate p s l t (suc n) → is_private p (task_steps p l t n).machine t ≡ true
+private_at : (p : ProgramText) (s : SettingsValue) (t n : ℕ) (l : Ledger) → ArePrivate p s l t (suc n) → is_private p (task_steps p l t n).machine t ≡ true
 private_at p s t zero l h = h.2
 private_at p s t (suc n) l h = private_at p s t n (task_step p l t) h.3
 
-abbrev ran_event : ℕ → Private → ℕ → Event
+abbrev ran_event : ℕ → Private → ℕ → EntryValue
 ran_event k p m = record { worker = k; kind = Ran p.task m }
 
-abbrev ran_with : World → ℕ → Private → ℕ → ℕ → World
+abbrev ran_with : SharedValue → ℕ → Private → ℕ → ℕ → SharedValue
 ran_with w k p m room = entered w (ran_event k p m) w.tree w.pool w.homes w.sets w.hands w.outputs (w.steps + m) w.end room
 
-module _ (w : World) (k : ℕ) (p : Private) (I : IsWorld w) (F : Fits w k p) (n : ℕ) (is : p.fresh ≡ suc n) (free : refused w (ran_event k p (suc n)) ≡ None) (room : ℕ) where
-  abbrev e : Event
+module _ (w : SharedValue) (k : ℕ) (p : Private) (I : IsSharedValue w) (F : Fits w k p) (n : ℕ) (is : p.fresh ≡ suc n) (free : refused w (ran_event k p (suc n)) ≡ None) (room : ℕ) where
+  abbrev e : EntryValue
   e = ran_event k p (suc n)
 
   abbrev l : Ledger
@@ -152,10 +152,10 @@ module _ (w : World) (k : ℕ) (p : Private) (I : IsWorld w) (F : Fits w k p) (n
   abbrev L : Ledger
   L = after w.program w.settings l e
 
-  abbrev v : Value
+  abbrev v : Memory
   v = value_of w
 
-  abbrev w' : World
+  abbrev w' : SharedValue
   w' = ran_with w k p (suc n) room
 
   on : l.end ≡ None
@@ -180,7 +180,7 @@ module _ (w : World) (k : ℕ) (p : Private) (I : IsWorld w) (F : Fits w k p) (n
   counts : RanCounts w.program (totals_of w) (totals_of w') (task_steps w.program l t n) L t k n E.splits.task E.splits.line E.splits.kind E.splits.last
   counts = record { tree = λ u. refl; hand = λ u. refl; outputs = refl; end = refl; used = refl; steps = refl }
 
-  ran_world_by : IsWorld w'
+  ran_world_by : IsSharedValue w'
   ran_world_by =
       entered_world w e I free w.tree w.pool w.homes w.sets w.hands w.outputs (w.steps + suc n) w.end room I.made I.noted refl refl
       (ran_stands_for w.program w.settings w.journal.items I.form I.legal v v (totals_of w) (totals_of w') k t n h free E I.stands own refl tt counts)
@@ -198,7 +198,7 @@ module _ (w : World) (k : ℕ) (p : Private) (I : IsWorld w) (F : Fits w k p) (n
       part_fits w e I free w.tree w.pool w.homes w.sets w.hands w.outputs (w.steps + suc n) w.end room ran_world_by u q q refl H refl refl refl H.form H.measured
       (ran_leaves w.program w.settings v v l L t k n h E own refl (part_of w.settings q) (held_apart w k u p q F H ne) H.fits)
 
-module _ (w : World) (k : ℕ) (p : Private) (I : IsWorld w) (F : Fits w k p) (pos : 0 < p.fresh) (free : refused w (record { worker = k; kind = Ran p.task p.fresh }) ≡ None) (j : Space Event) where
+module _ (w : SharedValue) (k : ℕ) (p : Private) (I : IsSharedValue w) (F : Fits w k p) (pos : 0 < p.fresh) (free : refused w (record { worker = k; kind = Ran p.task p.fresh }) ≡ None) (j : RoomyValue EntryValue) where
   abbrev n : ℕ
   n = p.fresh - 1
 
@@ -208,8 +208,8 @@ module _ (w : World) (k : ℕ) (p : Private) (I : IsWorld w) (F : Fits w k p) (p
   free_so : refused w (ran_event k p (suc n)) ≡ None
   free_so = subst (λ m. refused w (ran_event k p m) ≡ None) is free
 
-  pub ran_world : IsWorld (ran_with w k p p.fresh j.room)
-  ran_world = subst (λ m. IsWorld (ran_with w k p m j.room)) (sym is) (ran_world_by w k p I F n is free_so j.room)
+  pub ran_world : IsSharedValue (ran_with w k p p.fresh j.room)
+  ran_world = subst (λ m. IsSharedValue (ran_with w k p m j.room)) (sym is) (ran_world_by w k p I F n is free_so j.room)
 
   pub ran_part : Fits (ran_with w k p p.fresh j.room) k (record p { fresh = 0 })
   ran_part = subst (λ m. Fits (ran_with w k p m j.room) k (record p { fresh = 0 })) (sym is) (ran_part_by w k p I F n is free_so j.room)
@@ -218,7 +218,7 @@ module _ (w : World) (k : ℕ) (p : Private) (I : IsWorld w) (F : Fits w k p) (p
   ran_others = subst (λ m. OthersFit w (ran_with w k p m j.room) k) (sym is) (ran_others_by w k p I F n is free_so j.room)
 
 -- the counts are small
-pub steps_small : (w : World) (k : ℕ) (p : Private) → IsWorld w → Fits w k p → refused w (record { worker = k; kind = Ran p.task p.fresh }) ≡ None → (w.steps < w.settings.fuel) × (w.settings.fuel ≤ 1000000000) × (p.fresh ≤ 257)
+pub steps_small : (w : SharedValue) (k : ℕ) (p : Private) → IsSharedValue w → Fits w k p → refused w (record { worker = k; kind = Ran p.task p.fresh }) ≡ None → (w.steps < w.settings.fuel) × (w.settings.fuel ≤ 1000000000) × (p.fresh ≤ 257)
 steps_small w k p I F free =
     let a = ran_tells w.program w.settings (accounts w) k p.task p.fresh (ap is_none free) in
     let b : w.steps ≡ (accounts w).steps = steps_now w I in

@@ -1,7 +1,7 @@
 -- A worker takes a task.
 use Rattle.std.proofs.Common.{◌≡◌, ℕ, zero, suc, ◌<◌, Bool, true, false, not, ◌&&◌, nat_le, nat_lt, Option, Some, None, List, [], ◌∷◌, length, length-set, slice_get, slice_set, option_map, is_none, is_some, inl, inr, refl, ap, sym, subst, ◌∙◌, arith}
 use Rattle.std.proofs.lemmas.Bool.{cases_eq, and_parts, false≢true, ltb-true}
-use Rattle.listed.specs.Space.{Space}
+use Rattle.listed.specs.RoomyValue.{RoomyValue}
 use Rattle.listed.proofs.Members.{got_same, got_other, got_within}
 use Rattle.hh_model.specs.declared.data.Name.{Name}
 use Rattle.hh_model.specs.declared.data.Task.{Task}
@@ -9,7 +9,7 @@ use Rattle.hh_model.specs.declared.data.Status.TheVariants.{Running}
 use Rattle.hh_model.specs.Step.{is_running}
 use Rattle.hh_model.proofs.Steps.{runs_is}
 use Rattle.run_trace.specs.declared.entry.Kind.TheVariants.{Took}
-use Rattle.run_trace.specs.Entry.{Event}
+use Rattle.run_trace.specs.Entry.{EntryValue}
 use Rattle.run_trace.specs.Settings.{field_limit}
 use Rattle.run_ledger.specs.declared.data.Ledger.{Ledger}
 use Rattle.run_ledger.specs.Heaps.{heap_of}
@@ -18,12 +18,12 @@ use Rattle.run_ledger.specs.declared.data.Refused.TheVariants.{NoWorker, Over, S
 use Rattle.run_ledger.specs.Entries.{after, held_from, is_fuel, is_ready, kind_refusal, refused_holding, refused_if, refused_unless}
 use Rattle.run_ledger.proofs.Journals.{entry_tells, none_unless}
 use Rattle.object_layout.specs.declared.word.Addr.{Addr}
-use Rattle.task_frames.specs.Stack.{Stack}
+use Rattle.task_frames.specs.FramesValue.{FramesValue}
 use Rattle.heap_tree.specs.declared.state.State.{State}
 use Rattle.heap_tree.specs.declared.state.State.TheVariants.{Out}
 use Rattle.heap_tree.specs.Node.{Node, set_at, with_state}
-use Rattle.ledger_steps.specs.Accounts.{Rests}
-use Rattle.core_relation.specs.Value.{Home, Value}
+use Rattle.ledger_step_laws.specs.Accounts.{Rests}
+use Rattle.core_relation.specs.Memory.{Home, Memory}
 use Rattle.core_relation.specs.Changes.{SameBut}
 use Rattle.core_relation.specs.Counts.{TakesNode}
 use Rattle.core_relation.specs.Reads.{TaskIsRead, HoldsRead}
@@ -38,9 +38,9 @@ use Rattle.task_machine.specs.declared.part.Private.{Private}
 use Rattle.shared_value.specs.declared.task_at_rest.Rest.{Rest}
 use Rattle.shared_value.specs.declared.task_at_rest.Work.{Work}
 use Rattle.shared_value.specs.declared.task_at_rest.Work.TheVariants.{Calls, Result}
-use Rattle.shared_value.specs.World.{World, accounts, flat, home_in, home_by, home_of, rest_at, totals_of, value_of}
+use Rattle.shared_value.specs.SharedValue.{SharedValue, accounts, flat, home_in, home_by, home_of, rest_at, totals_of, value_of}
 use Rattle.shared_value.specs.Measured.{RestsAreMeasured}
-use Rattle.shared_value.specs.Stands.{HeapForm, IsWorld}
+use Rattle.shared_value.specs.Stands.{HeapForm, IsSharedValue}
 use Rattle.shared_value.specs.Fits.{Fits, IsAtWork, OthersFit, home_of_part, part_of, taken_part}
 use Rattle.shared_value.specs.Entered.{refused}
 use Rattle.shared_value.proofs.EntryMade.{accounts_are, entered, entered_world, entry_on, held_by_hand, part_fits, unheld_at_rest, unheld_before}
@@ -62,7 +62,7 @@ task_of (Some x) h = (x, refl, runs_is x.status h)
 -- a running task at rest has frames in the value
 abbrev pub HasCalls : Option Rest → Type 0
 HasCalls None = ⊥
-HasCalls (Some r) = (s : Stack) × (r.work ≡ Calls s)
+HasCalls (Some r) = (s : FramesValue) × (r.work ≡ Calls s)
 
 has_calls : (at : Name → Addr → Type 0) (o : Option Rest) (x : Task) → x.status ≡ Running → TaskIsRead at (home_in o) x → HasCalls o
 has_calls at None x e h = absurd (subst (HoldsRead at (home_in None) x) e h)
@@ -79,7 +79,7 @@ worker_free false false true x y z rest h = refl
 worker_free false false false x y z rest h = absurd cc
 
 -- a worker that may enter is one of the run's
-pub worker_there : (w : World) (e : Event) → IsWorld w → refused w e ≡ None → e.worker < length w.hands
+pub worker_there : (w : SharedValue) (e : EntryValue) → IsSharedValue w → refused w e ≡ None → e.worker < length w.hands
 worker_there w e I free =
     let lt : e.worker < w.settings.workers =
     ltb-true e.worker w.settings.workers (worker_free (is_some (accounts w).end) (nat_le w.settings.fuel (accounts w).steps && not (is_fuel e.kind)) (nat_lt e.worker w.settings.workers) Over (Spent (accounts w).steps) NoWorker (kind_refusal w.program w.settings (accounts w) e.worker e.kind) free) in
@@ -111,14 +111,14 @@ none_holds : (o : Option ℕ) {u : ℕ} → o ≡ Some u → is_none (refused_ho
 none_holds None e h = absurd cc
 none_holds (Some x) e h = false≢true h
 
-module _ (w : World) (k t : ℕ) (I : IsWorld w) (free : refused w (record { worker = k; kind = Took t }) ≡ None) where
-  abbrev e : Event
+module _ (w : SharedValue) (k t : ℕ) (I : IsSharedValue w) (free : refused w (record { worker = k; kind = Took t }) ≡ None) where
+  abbrev e : EntryValue
   e = record { worker = k; kind = Took t }
 
   abbrev l : Ledger
   l = accounts w
 
-  abbrev v : Value
+  abbrev v : Memory
   v = value_of w
 
   on : l.end ≡ None
@@ -156,20 +156,20 @@ module _ (w : World) (k t : ℕ) (I : IsWorld w) (free : refused w (record { wor
   pub has_node : t < length w.tree
   has_node = subst (λ n. t < n) I.made has_home
 
-  pub calls_of : (r : Rest) → rest_at w.homes t ≡ Some r → (s : Stack) × (r.work ≡ Calls s)
+  pub calls_of : (r : Rest) → rest_at w.homes t ≡ Some r → (s : FramesValue) × (r.work ≡ Calls s)
   calls_of r q = subst HasCalls q calls
 
   pub at_work : (r : Rest) → rest_at w.homes t ≡ Some r → IsAtWork r.work
   at_work r q = subst IsAtWork (sym (calls_of r q).1) tt
 
-  module _ (j : Space Event) where
+  module _ (j : RoomyValue EntryValue) where
     abbrev room : ℕ
     room = j.room
 
-    abbrev w' : World
+    abbrev w' : SharedValue
     w' = entered w e (with_state w.tree t Out) w.pool (slice_set w.homes t None) w.sets (slice_set w.hands k (Some t)) w.outputs w.steps w.end room
 
-    abbrev v' : Value
+    abbrev v' : Memory
     v' = value_of w'
 
     homes_off : (u : ℕ) → (u ≡ t → ⊥) → rest_at w'.homes u ≡ rest_at w.homes u
@@ -211,14 +211,14 @@ module _ (w : World) (k t : ℕ) (I : IsWorld w) (free : refused w (record { wor
         gone : {A : Type 0} → ◌≡◌ {A = Option Rest} None (Some r) → A
         gone x = absurd cc
 
-    pub took_world : IsWorld w'
+    pub took_world : IsSharedValue w'
     took_world =
         entered_world w e I free w'.tree w.pool w'.homes w.sets w'.hands w.outputs w.steps w.end room (length-set w.homes t None ∙ (I.made ∙ sym (made_by w.tree t Out (slice_get w.tree t)))) (I.noted ∙ sym (made_by w.tree t Out (slice_get w.tree t))) (length-set w.hands k (Some t)) refl
         (took_stands_for w.program w.settings w.journal.items I.form I.legal v v' (totals_of w) (totals_of w') k t free I.stands but (λ u. record { keeps = refl; kept = refl; marked = refl }) counts)
         heaps_then measured_then
 
     -- THE PART THAT IS TAKEN
-    module _ (r : Rest) (s : Stack) (rest_is : rest_at w.homes t ≡ Some r) (calls_is : r.work ≡ Calls s) where
+    module _ (r : Rest) (s : FramesValue) (rest_is : rest_at w.homes t ≡ Some r) (calls_is : r.work ≡ Calls s) where
       abbrev p : Private
       p = taken_part t w.settings.leaf (field_limit w.settings.version) r s
 

@@ -5,13 +5,13 @@ use Rattle.std.proofs.lemmas.Option.{same_Some}
 use Rattle.object_layout.specs.declared.word.Addr.{Addr}
 use Rattle.object_layout.specs.Cell.{Cell}
 use Rattle.object_layout.specs.Chunks.{has_chunk, place_in, put_object, with_cell}
-use Rattle.object_layout.specs.Content.{Content}
+use Rattle.object_layout.specs.ChunkValue.{ChunkValue}
 use Rattle.chunk_pool.specs.declared.pool.Held.{Held}
-use Rattle.chunk_pool.specs.Chunks.{Chunks, Takes, TakesAll, held_at, held_in, one_unit, owner_of}
-use Rattle.alloc_path.specs.Heap.{IsFresh}
+use Rattle.chunk_pool.specs.PoolValue.{PoolValue, Takes, TakesAll, held_at, held_in, one_unit, owner_of}
+use Rattle.alloc_path.specs.LeafHeapValue.{IsFresh}
 use Rattle.inner_mark_gc.specs.Swept.{AreGiven}
 use Rattle.fork_join.specs.Joined.{AreRelabelled, with_owner}
-use Rattle.core_relation.specs.Value.{In}
+use Rattle.core_relation.specs.Memory.{In}
 use Rattle.core_relation.proofs.objects.Members.{map_in}
 use Rattle.task_machine.specs.declared.part.Private.{Private}
 use Rattle.shared_value.specs.LeafBegin.{number_of}
@@ -27,34 +27,34 @@ abbrev of_units : ℕ → ℕ → Held
 of_units t units = record { owner = t; units = units }
 
 -- WHAT IT HAS FOR A TASK STAYS
-pub all_kept : (pool : Chunks) (t : ℕ) → KeepsUnits pool pool t
+pub all_kept : (pool : PoolValue) (t : ℕ) → KeepsUnits pool pool t
 all_kept pool t n units e = e
 
-pub measured_kept : (old new : Chunks) (t : ℕ) (ks : List Content) → KeepsUnits old new t → AreMeasured old t ks → AreMeasured new t ks
+pub measured_kept : (old new : PoolValue) (t : ℕ) (ks : List ChunkValue) → KeepsUnits old new t → AreMeasured old t ks → AreMeasured new t ks
 measured_kept old new t ks K M k i = K k.number (k.size / 1024) (M k i)
 
-pub part_kept : (old new : Chunks) (p : Private) → KeepsUnits old new p.task → IsMeasured old p → IsMeasured new p
+pub part_kept : (old new : PoolValue) (p : Private) → KeepsUnits old new p.task → IsMeasured old p → IsMeasured new p
 part_kept old new p K M = (measured_kept old new p.task p.heap.chunks K M.0, λ n i. K n 1 (M.1 n i))
 
-pub measured_both : (pool : Chunks) (t : ℕ) (ks js : List Content) → AreMeasured pool t ks → AreMeasured pool t js → AreMeasured pool t (ks ++ js)
+pub measured_both : (pool : PoolValue) (t : ℕ) (ks js : List ChunkValue) → AreMeasured pool t ks → AreMeasured pool t js → AreMeasured pool t (ks ++ js)
 measured_both pool t [] js A B k i = B k i
 measured_both pool t (x ∷ ks) js A B k (inl e) = A k (inl e)
 measured_both pool t (x ∷ ks) js A B k (inr i) = measured_both pool t ks js (λ c j. A c (inr j)) B k i
 
 -- A CHUNK IS TAKEN
-pub taken_keeps : (old new : Chunks) (number : ℕ) (held : Held) → Takes old new number held → (t : ℕ) → KeepsUnits old new t
+pub taken_keeps : (old new : PoolValue) (number : ℕ) (held : Held) → Takes old new number held → (t : ℕ) → KeepsUnits old new t
 taken_keeps old new number held T t n units e = elim (cases_eq n number) [
   | inl q ↦ absurd (none_some (of_units t units) (sym T.was_free ∙ (ap (held_at old) (sym q) ∙ e)))
   | inr ne ↦ T.rest.others n ne ∙ e
 ]
 
 -- and it has its units
-pub measured_new : (old new : Chunks) (k : Content) (t units : ℕ) → Takes old new k.number (record { owner = t; units = units }) → k.size ≡ 1024 * units → AreMeasured new t (k ∷ [])
-measured_new old new k t units T e c (inl q) = subst (λ (z : Content). held_at new z.number ≡ Some (record { owner = t; units = z.size / 1024 })) q (T.taken ∙ ap (λ n. Some (of_units t n)) (let q : units ≡ k.size / 1024 = omega (arith, e) in q))
+pub measured_new : (old new : PoolValue) (k : ChunkValue) (t units : ℕ) → Takes old new k.number (record { owner = t; units = units }) → k.size ≡ 1024 * units → AreMeasured new t (k ∷ [])
+measured_new old new k t units T e c (inl q) = subst (λ (z : ChunkValue). held_at new z.number ≡ Some (record { owner = t; units = z.size / 1024 })) q (T.taken ∙ ap (λ n. Some (of_units t n)) (let q : units ≡ k.size / 1024 = omega (arith, e) in q))
 measured_new old new k t units T e c (inr i) = absurd i
 
 -- MANY ARE TAKEN
-module _ (old new : Chunks) (owner count : ℕ) (was is : List Content) (T : TakesAll old new owner count was is) where
+module _ (old new : PoolValue) (owner count : ℕ) (was is : List ChunkValue) (T : TakesAll old new owner count was is) where
   pub all_taken_keep : (t : ℕ) → KeepsUnits old new t
   all_taken_keep t n units e = T.numbers.numbered.each n ∙ (cond-false (has_chunk T.numbers.chunks n) (Some (one_unit owner)) (held_in old.slots n) (off (has_chunk T.numbers.chunks n) refl) ∙ e)
     where
@@ -62,7 +62,7 @@ module _ (old new : Chunks) (owner count : ℕ) (was is : List Content) (T : Tak
       off false q = refl
       off true q =
           let fresh : IsFresh T.numbers.chunks n = fresh_by T.numbers.chunks n
-          (λ c j z. none_some (of_units t units) (sym (all_at (λ (c : Content). held_in old.slots c.number ≡ None) T.numbers.chunks c j T.numbers.numbered.were_free) ∙ (ap (held_in old.slots) z ∙ e))) in
+          (λ c j z. none_some (of_units t units) (sym (all_at (λ (c : ChunkValue). held_in old.slots c.number ≡ None) T.numbers.chunks c j T.numbers.numbered.were_free) ∙ (ap (held_in old.slots) z ∙ e))) in
           absurd (false≢true (sym (ap is_some fresh) ∙ q))
 
   pub all_taken_units : AreUnits new owner (map number_of T.numbers.chunks)
@@ -70,22 +70,22 @@ module _ (old new : Chunks) (owner count : ℕ) (was is : List Content) (T : Tak
       let x = map_in number_of T.numbers.chunks n i in
       T.numbers.numbered.each n ∙ cond-true (has_chunk T.numbers.chunks n) (Some (one_unit owner)) (held_in old.slots n) (there x.0 x.1 x.2 (place_in T.numbers.chunks n) refl)
     where
-      there : (c : Content) → In T.numbers.chunks c → c.number ≡ n → (o : Option ℕ) → place_in T.numbers.chunks n ≡ o → is_some o ≡ true
+      there : (c : ChunkValue) → In T.numbers.chunks c → c.number ≡ n → (o : Option ℕ) → place_in T.numbers.chunks n ≡ o → is_some o ≡ true
       there c j q None e = absurd (fresh_off T.numbers.chunks c n e j q)
       there c j q (Some k) e = refl
 
 -- CHUNKS ARE GIVEN BACK: what is another task's stays
-pub given_keeps : (old new : Chunks) (gs : List Content) (t u : ℕ) → AreGiven old new gs → All (λ g. owner_of old g.number ≡ Some t) gs → (u ≡ t → ⊥) → KeepsUnits old new u
+pub given_keeps : (old new : PoolValue) (gs : List ChunkValue) (t u : ℕ) → AreGiven old new gs → All (λ g. owner_of old g.number ≡ Some t) gs → (u ≡ t → ⊥) → KeepsUnits old new u
 given_keeps old new gs t u G owned ne n units e =
-    G.others n (fresh_by gs n (λ g j q. ne (same_Some u t (sym (ap (option_map (λ (h : Held). h.owner)) e) ∙ (ap (owner_of old) (sym q) ∙ all_at (λ (g : Content). owner_of old g.number ≡ Some t) gs g j owned)))))
+    G.others n (fresh_by gs n (λ g j q. ne (same_Some u t (sym (ap (option_map (λ (h : Held). h.owner)) e) ∙ (ap (owner_of old) (sym q) ∙ all_at (λ (g : ChunkValue). owner_of old g.number ≡ Some t) gs g j owned)))))
     ∙ e
 
 -- and of the task's own all others
-pub measured_given : (old new : Chunks) (gs : List Content) (t : ℕ) (ks : List Content) → AreGiven old new gs → ((k : Content) → In ks k → IsFresh gs k.number) → AreMeasured old t ks → AreMeasured new t ks
+pub measured_given : (old new : PoolValue) (gs : List ChunkValue) (t : ℕ) (ks : List ChunkValue) → AreGiven old new gs → ((k : ChunkValue) → In ks k → IsFresh gs k.number) → AreMeasured old t ks → AreMeasured new t ks
 measured_given old new gs t ks G f M k i = G.others k.number (f k i) ∙ M k i
 
 -- CHUNKS ARE RELABELLED
-module _ (old new : Chunks) (ks : List Content) (owner : ℕ) (R : AreRelabelled old new ks owner) where
+module _ (old new : PoolValue) (ks : List ChunkValue) (owner : ℕ) (R : AreRelabelled old new ks owner) where
   -- what is of none of these tasks stays
   pub relabelled_keeps : (t : ℕ) → ((n units : ℕ) → held_at old n ≡ Some (record { owner = t; units = units }) → has_chunk ks n ≡ true → ⊥) → KeepsUnits old new t
   relabelled_keeps t apart n units e = elim (cases_Bool (has_chunk ks n)) [
@@ -101,19 +101,19 @@ module _ (old new : Chunks) (ks : List Content) (owner : ℕ) (R : AreRelabelled
   ]
 
   -- the chunks are the new owner's
-  pub relabelled_measured : (t : ℕ) (js : List Content) → ((k : Content) → In js k → has_chunk ks k.number ≡ true) → AreMeasured old t js → AreMeasured new owner js
+  pub relabelled_measured : (t : ℕ) (js : List ChunkValue) → ((k : ChunkValue) → In js k → has_chunk ks k.number ≡ true) → AreMeasured old t js → AreMeasured new owner js
   relabelled_measured t js has M k i =
       R.each k.number
       ∙ (cond-true (has_chunk ks k.number) (option_map (with_owner owner) (held_at old k.number)) (held_at old k.number) (has k i)
       ∙ ap (option_map (with_owner owner)) (M k i))
 
 -- AN OBJECT IS WRITTEN
-pub measured_written : (pool : Chunks) (t : ℕ) (ks : List Content) (a : Addr) (d : Cell) → AreMeasured pool t ks → AreMeasured pool t (put_object ks a d)
+pub measured_written : (pool : PoolValue) (t : ℕ) (ks : List ChunkValue) (a : Addr) (d : Cell) → AreMeasured pool t ks → AreMeasured pool t (put_object ks a d)
 measured_written pool t [] a d M k i = absurd i
 measured_written pool t (x ∷ ks) a d M k i = by (x.number == a.chunk) (measured_written pool t ks a d (λ c j. M c (inr j))) k i
   where
     by : (b : Bool) → AreMeasured pool t (put_object ks a d) → AreMeasured pool t (cond b (with_cell x a.offset d ∷ ks) (x ∷ put_object ks a d))
-    by true go k (inl e) = subst (λ (z : Content). held_at pool z.number ≡ Some (record { owner = t; units = z.size / 1024 })) e (M x (inl refl))
+    by true go k (inl e) = subst (λ (z : ChunkValue). held_at pool z.number ≡ Some (record { owner = t; units = z.size / 1024 })) e (M x (inl refl))
     by true go k (inr i) = M k (inr i)
     by false go k (inl e) = M k (inl e)
     by false go k (inr i) = go k i

@@ -3,20 +3,20 @@ use Rattle.std.specs.Prelude.{ℕ, ◌&&◌, not, Bool, true, false, Option, Som
 use Rattle.std.specs.Prelude.{slice_get}
 use Rattle.run_trace.specs.declared.entry.Kind.{Kind}
 use Rattle.run_trace.specs.declared.entry.Kind.TheVariants.{Took, Ran, Chunk, Begin, End, PutOff, Mark, More, Sweep, Fuel}
-use Rattle.run_trace.specs.Settings.{Limits}
+use Rattle.run_trace.specs.Settings.{SettingsValue}
 use Rattle.run_ledger.specs.declared.data.Refused.{Refused}
 use Rattle.run_ledger.specs.declared.data.Refused.TheVariants.{Collecting, Due, Over, Spent, NoWorker, NotNeeded, NotReady, NotSpent}
 use Rattle.run_ledger.specs.declared.data.RunEnd.{RunEnd}
 use Rattle.run_ledger.specs.Entries.{refused_if, refused_unless, refused_holding}
-use Rattle.alloc_path.specs.Heap.{place_for, room_of}
+use Rattle.alloc_path.specs.LeafHeapValue.{place_for, room_of}
 use Rattle.heap_tree.specs.declared.state.State.{State}
 use Rattle.heap_tree.specs.declared.state.State.TheVariants.{Ready, Out, Waiting, Ended, Joined}
 use Rattle.heap_tree.specs.Node.{state_of}
 use Rattle.task_machine.specs.declared.part.Private.{Private}
-use Rattle.shared_value.specs.World.{World, flat}
+use Rattle.shared_value.specs.SharedValue.{SharedValue, flat}
 
 -- the causes that come before what the entry says
-abbrev pub first_cause : Option RunEnd → ℕ → Limits → ℕ → Bool → Option Refused
+abbrev pub first_cause : Option RunEnd → ℕ → SettingsValue → ℕ → Bool → Option Refused
 first_cause end steps s worker fuel = refused_if (is_some end) Over (refused_if (nat_le s.fuel steps && not fuel) (Spent steps) (refused_unless (nat_lt worker s.workers) NoWorker None))
 
 -- the first cause, or the next one
@@ -32,10 +32,10 @@ is_state_ready (Some Waiting) = false
 is_state_ready (Some Ended) = false
 is_state_ready (Some Joined) = false
 
-abbrev pub took_cause : World → ℕ → ℕ → Option Refused
+abbrev pub took_cause : SharedValue → ℕ → ℕ → Option Refused
 took_cause w k t = refused_unless (is_state_ready (state_of w.tree t)) NotReady (refused_holding (flat (slice_get w.hands k)) None)
 
-abbrev pub fuel_cause : World → Option Refused
+abbrev pub fuel_cause : SharedValue → Option Refused
 fuel_cause w = refused_unless (nat_le w.settings.fuel w.steps) (NotSpent w.steps) None
 
 -- of a part that is amid no leaf collection and allocates so many words next, or nothing: why no chunk is given to it

@@ -6,11 +6,11 @@ use Rattle.run_ledger.specs.Entries.{refused_if, refused_unless}
 use Rattle.run_ledger.specs.Heaps.{units}
 use Rattle.run_ledger.specs.Steps.{on_asked}
 use Rattle.task_machine.specs.declared.part.Private.{Private}
-use Rattle.shared_value.specs.World.{World}
+use Rattle.shared_value.specs.SharedValue.{SharedValue}
 use Rattle.shared_value.specs.Fits.{Fits}
 
 -- the part is one that a worker holds
-abbrev pub IsHeld : World → Private → Type 0
+abbrev pub IsHeld : SharedValue → Private → Type 0
 IsHeld w p = (worker : ℕ) × Fits w worker p
 
 -- for small objects of so many words: one chunk less than twice those that would just hold them

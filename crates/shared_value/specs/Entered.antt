@@ -1,17 +1,17 @@
 -- What a call answers by the ledger's refusal, and the journal after an entry.
 use Rattle.std.specs.Prelude.{◌≡◌, ◌++◌, ◌∷◌, [], Option, Some, None, Result, Ok, Err, option_map}
-use Rattle.run_trace.specs.Entry.{Event}
+use Rattle.run_trace.specs.Entry.{EntryValue}
 use Rattle.run_ledger.specs.declared.data.Refused.{Refused}
 use Rattle.run_ledger.specs.Entries.{refusal}
-use Rattle.alloc_path.specs.Heap.{with_places}
+use Rattle.alloc_path.specs.LeafHeapValue.{with_places}
 use Rattle.task_machine.specs.declared.part.Private.{Private}
 use Rattle.shared_value.specs.declared.answer.NotEntered.{NotEntered}
 use Rattle.shared_value.specs.declared.answer.NotEntered.TheVariants.{NoMemory, Refuses}
 use Rattle.shared_value.specs.declared.answer.NotRan.{NotRan}
-use Rattle.shared_value.specs.World.{World, accounts}
+use Rattle.shared_value.specs.SharedValue.{SharedValue, accounts}
 
 -- why an entry is refused after the journal, or none
-abbrev pub refused : World → Event → Option Refused
+abbrev pub refused : SharedValue → EntryValue → Option Refused
 refused w e = refusal w.program w.settings (accounts w) e
 
 -- why a call was refused
@@ -33,7 +33,7 @@ abbrev pub IsSamePart : Private → Private → Type 0
 IsSamePart p q = q ≡ record p { heap = with_places p.heap q.heap.slots q.heap.spare }
 
 -- the journal is followed by the entry, of the same program and settings, and the run is halted where it was
-pub record Enters (w after : World) (e : Event) : Type 0 where
+pub record Enters (w after : SharedValue) (e : EntryValue) : Type 0 where
   pub journal : after.journal.items ≡ w.journal.items ++ e ∷ []
   pub program : after.program ≡ w.program
   pub settings : after.settings ≡ w.settings

@@ -1,13 +1,13 @@
 -- The part that a worker holds fits the shared value.
 use Rattle.std.specs.Prelude.{◌≡◌, ◌≢◌, ℕ, pos, Some, None}
 use Rattle.hh_lang.specs.Form.{ProgramText}
-use Rattle.run_trace.specs.Settings.{Limits, field_limit}
+use Rattle.run_trace.specs.Settings.{SettingsValue, field_limit}
 use Rattle.run_ledger.specs.declared.data.Ledger.{Ledger}
 use Rattle.run_ledger.specs.Heaps.{heap_of}
 use Rattle.run_ledger.specs.Steps.{task_steps}
-use Rattle.task_frames.specs.Stack.{Stack}
-use Rattle.ledger_steps.specs.Accounts.{aside, rested}
-use Rattle.core_relation.specs.Value.{Home}
+use Rattle.task_frames.specs.FramesValue.{FramesValue}
+use Rattle.ledger_step_laws.specs.Accounts.{aside, rested}
+use Rattle.core_relation.specs.Memory.{Home}
 use Rattle.core_relation.specs.Fits.{Part, part_for}
 use Rattle.core_relation.specs.Worker.{Fits as FitsValue}
 use Rattle.task_machine.specs.declared.part.Private.{Private}
@@ -16,14 +16,14 @@ use Rattle.shared_value.specs.declared.task_at_rest.Work.{Work}
 use Rattle.shared_value.specs.declared.task_at_rest.Work.TheVariants.{Calls, Result}
 use Rattle.shared_value.specs.Measured.{IsMeasured}
 use Rattle.shared_value.specs.Stands.{HeapForm}
-use Rattle.shared_value.specs.World.{World, accounts, frames_of, home_with, value_of}
+use Rattle.shared_value.specs.SharedValue.{SharedValue, accounts, frames_of, home_with, value_of}
 
 -- the home that a part holds, with the collection that it has begun
 abbrev pub home_of_part : Private → Home
 home_of_part p = record (home_with p.heap p.view p.allocations (frames_of p.frames) (pos 0, None)) { begun = p.begun }
 
 -- with the limits of the settings
-abbrev pub part_of : Limits → Private → Part
+abbrev pub part_of : SettingsValue → Private → Part
 part_of s p = part_for s p.task (home_of_part p) p.fresh
 
 -- the accounts after the part's fresh steps, the machine's end left aside
@@ -32,7 +32,7 @@ beyond program l p = rested (task_steps program (aside l) p.task p.fresh) p.task
 
 -- the part fits the value with these accounts: the worker holds its task, and what it holds fits, with the
 -- limits of the settings
-pub record FitsFor (w : World) (l : Ledger) (worker : ℕ) (p : Private) : Type 0 where
+pub record FitsFor (w : SharedValue) (l : Ledger) (worker : ℕ) (p : Private) : Type 0 where
   pub held : (heap_of l p.task).worker ≡ Some worker
   pub fits : FitsValue w.program w.settings (part_of w.settings p) (value_of w) l
   pub form : HeapForm p.heap
@@ -41,15 +41,15 @@ pub record FitsFor (w : World) (l : Ledger) (worker : ℕ) (p : Private) : Type 
   pub field_limit : p.field_limit ≡ field_limit w.settings.version
 
 -- THE PART FITS
-abbrev pub Fits : World → ℕ → Private → Type 0
+abbrev pub Fits : SharedValue → ℕ → Private → Type 0
 Fits w worker p = FitsFor w (accounts w) worker p
 
 -- the part of every other worker that fitted the value fits the new one
-abbrev pub OthersFit : World → World → ℕ → Type 0
+abbrev pub OthersFit : SharedValue → SharedValue → ℕ → Type 0
 OthersFit w after worker = (k : ℕ) (p : Private) → k ≢ worker → Fits w k p → Fits after k p
 
 -- and so does the part of each worker
-abbrev pub AllFit : World → World → Type 0
+abbrev pub AllFit : SharedValue → SharedValue → Type 0
 AllFit w after = (k : ℕ) (p : Private) → Fits w k p → Fits after k p
 
 -- the task has frames to go on with
@@ -58,5 +58,5 @@ IsAtWork (Calls s) = Unit {0}
 IsAtWork (Result k r) = ⊥
 
 -- the part of a task that no worker held, without fresh steps
-abbrev pub taken_part : ℕ → ℕ → ℕ → Rest → Stack → Private
+abbrev pub taken_part : ℕ → ℕ → ℕ → Rest → FramesValue → Private
 taken_part task leaf_limit field_limit r s = record { task = task; frames = s; heap = r.heap; view = r.view; allocations = r.allocations; leaf_limit = leaf_limit; field_limit = field_limit; fresh = 0; begun = None }

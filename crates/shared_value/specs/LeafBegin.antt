@@ -2,9 +2,9 @@
 use Rattle.std.specs.Prelude.{◌≡◌, ℕ, All, List, Some, length, map, vec_len}
 use Rattle.object_layout.specs.declared.word.Addr.{Addr}
 use Rattle.object_layout.specs.Chunks.{small_words}
-use Rattle.object_layout.specs.Content.{Content}
+use Rattle.object_layout.specs.ChunkValue.{ChunkValue}
 use Rattle.object_layout.specs.Graph.{IsSound}
-use Rattle.alloc_path.specs.Heap.{AreApart, IsFresh, with_places}
+use Rattle.alloc_path.specs.LeafHeapValue.{AreApart, IsFresh, with_places}
 use Rattle.leaf_copy_gc.specs.declared.lists.ToChunks.{ToChunks}
 use Rattle.leaf_copy_gc.specs.Laid.{AreNew}
 use Rattle.leaf_copy_gc.specs.Lists.{AreReserved}
@@ -12,7 +12,7 @@ use Rattle.leaf_copy_gc.specs.Survivors.{as_reference}
 use Rattle.task_machine.specs.declared.part.Private.{Private}
 use Rattle.shared_value.specs.Due.{take_by}
 
-abbrev pub number_of : Content → ℕ
+abbrev pub number_of : ChunkValue → ℕ
 number_of k = k.number
 
 -- the part keeps the roots and the numbers of the new chunks; these are empty, so many as the collection takes, and none is the

@@ -1,5 +1,5 @@
 pub mod Objects
-pub mod World
+pub mod SharedValue
 pub mod Stands
 pub mod Fits
 pub mod Next

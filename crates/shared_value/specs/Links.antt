@@ -7,12 +7,12 @@ use Rattle.run_ledger.specs.Heaps.{heap_of}
 use Rattle.run_ledger.specs.Reachable.{is_name}
 use Rattle.object_layout.specs.declared.word.Addr.{Addr}
 use Rattle.object_layout.specs.Objects.{Located}
-use Rattle.ledger_steps.specs.Accounts.{own}
-use Rattle.core_relation.specs.Value.{Value, object_name, objects}
+use Rattle.ledger_step_laws.specs.Accounts.{own}
+use Rattle.core_relation.specs.Memory.{Memory, object_name, objects}
 use Rattle.task_machine.specs.declared.part.Private.{Private}
 use Rattle.task_machine.specs.Place.{Places}
 use Rattle.task_machine.specs.Fits.{FitsNow as FitsMachine}
-use Rattle.shared_value.specs.World.{World, accounts, value_of}
+use Rattle.shared_value.specs.SharedValue.{SharedValue, accounts, value_of}
 use Rattle.shared_value.specs.Fits.{beyond}
 
 -- where the first object of this name lies
@@ -21,9 +21,9 @@ find_at [] n = None
 find_at (o ∷ os) n = if is_name (object_name o) n then Some o.at else find_at os n
 
 -- the addresses of the names that other tasks own, of those that no worker holds
-abbrev pub above_of : Value → Ledger → ℕ → Places
+abbrev pub above_of : Memory → Ledger → ℕ → Places
 above_of v l t n = if own l n == t then None else (if is_none (heap_of l (own l n)).worker then find_at (objects v (own l n)) n else None)
 
 -- the part fits the machine
-abbrev pub FitsFirst : World → Private → Type 0
+abbrev pub FitsFirst : SharedValue → Private → Type 0
 FitsFirst w p = FitsMachine w.program p (beyond w.program (accounts w) p).machine (above_of (value_of w) (accounts w) p.task)

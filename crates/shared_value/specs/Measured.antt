@@ -1,27 +1,27 @@
 -- The pool knows as many units of a chunk as the chunk has words for.
 use Rattle.std.specs.Prelude.{◌≡◌, ◌≢◌, ℕ, ◌/◌, Option, Some, None, List, [], slice_get}
-use Rattle.object_layout.specs.Content.{Content}
-use Rattle.chunk_pool.specs.Chunks.{Chunks, held_at, one_unit}
-use Rattle.core_relation.specs.Value.{In}
+use Rattle.object_layout.specs.ChunkValue.{ChunkValue}
+use Rattle.chunk_pool.specs.PoolValue.{PoolValue, held_at, one_unit}
+use Rattle.core_relation.specs.Memory.{In}
 use Rattle.task_machine.specs.declared.part.Begun.{Begun}
 use Rattle.task_machine.specs.declared.part.Private.{Private}
 use Rattle.shared_value.specs.declared.task_at_rest.Rest.{Rest}
-use Rattle.shared_value.specs.World.{flat, rest_at}
+use Rattle.shared_value.specs.SharedValue.{flat, rest_at}
 
 -- it has each of these chunks for the task, with as many units as the chunk has
-abbrev pub AreMeasured : Chunks → ℕ → List Content → Type 0
-AreMeasured pool t ks = (k : Content) → In ks k → held_at pool k.number ≡ Some (record { owner = t; units = k.size / 1024 })
+abbrev pub AreMeasured : PoolValue → ℕ → List ChunkValue → Type 0
+AreMeasured pool t ks = (k : ChunkValue) → In ks k → held_at pool k.number ≡ Some (record { owner = t; units = k.size / 1024 })
 
 -- no worker holds the task
 abbrev pub IsUnheld : List (Option ℕ) → ℕ → Type 0
 IsUnheld hands t = (k : ℕ) → flat (slice_get hands k) ≢ Some t
 
 -- it has the chunks of each task that no worker holds
-abbrev pub RestsAreMeasured : Chunks → List (Option Rest) → List (Option ℕ) → Type 0
+abbrev pub RestsAreMeasured : PoolValue → List (Option Rest) → List (Option ℕ) → Type 0
 RestsAreMeasured pool homes hands = (t : ℕ) (r : Rest) → rest_at homes t ≡ Some r → IsUnheld hands t → AreMeasured pool t r.heap.chunks
 
 -- it has a chunk of one unit for the task at each of these numbers
-abbrev pub AreUnits : Chunks → ℕ → List ℕ → Type 0
+abbrev pub AreUnits : PoolValue → ℕ → List ℕ → Type 0
 AreUnits pool t ns = (n : ℕ) → In ns n → held_at pool n ≡ Some (one_unit t)
 
 -- the chunks that a begun collection took
@@ -30,9 +30,9 @@ news_of None = []
 news_of (Some b) = b.news
 
 -- it has the chunks of a part's heap, and those that its begun collection took
-abbrev pub IsMeasured : Chunks → Private → Type 0
+abbrev pub IsMeasured : PoolValue → Private → Type 0
 IsMeasured pool p = AreMeasured pool p.task p.heap.chunks × AreUnits pool p.task (news_of p.begun)
 
 -- what it has for a task stays
-abbrev pub KeepsUnits : Chunks → Chunks → ℕ → Type 0
+abbrev pub KeepsUnits : PoolValue → PoolValue → ℕ → Type 0
 KeepsUnits old new t = (n units : ℕ) → held_at old n ≡ Some (record { owner = t; units = units }) → held_at new n ≡ Some (record { owner = t; units = units })

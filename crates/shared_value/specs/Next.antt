@@ -15,7 +15,7 @@ use Rattle.run_ledger.specs.Steps.{has_no_caller, owns, touched}
 use Rattle.object_layout.specs.declared.word.Addr.{Addr}
 use Rattle.object_layout.specs.Cell.{Cell}
 use Rattle.object_layout.specs.Chunks.{object_of, place_in}
-use Rattle.object_layout.specs.Content.{Content}
+use Rattle.object_layout.specs.ChunkValue.{ChunkValue}
 use Rattle.task_frames.specs.declared.frames.Frame.{Frame}
 use Rattle.task_machine.specs.declared.part.Private.{Private}
 use Rattle.task_machine.specs.Plan.{int_of, ref_of}
@@ -42,7 +42,7 @@ part_asks p part = line_asks part.field_limit part.frames.top (next_line p part)
 -- ---- WHAT A STEP DOES THAT ISN'T PRIVATE
 
 -- what is left for an own object in a register: nil can't be worked on, and another's object is beyond what a task does alone
-abbrev pub on_own_cell : List Content → Option Addr → (Cell → Ending) → Ending
+abbrev pub on_own_cell : List ChunkValue → Option Addr → (Cell → Ending) → Ending
 on_own_cell ks None go = Traps NilTrap
 on_own_cell ks (Some a) go = if is_some (place_in ks a.chunk) then go (object_of ks a) else Beyond
 

@@ -5,11 +5,11 @@ use Rattle.std.proofs.lemmas.Bool.{cases_eq}
 use Rattle.listed.proofs.Members.{got_other, got_same}
 use Rattle.object_layout.specs.declared.word.Addr.{Addr}
 use Rattle.object_layout.specs.Chunks.{object_of}
-use Rattle.chunk_pool.specs.Chunks.{owner_of}
+use Rattle.chunk_pool.specs.PoolValue.{owner_of}
 use Rattle.alloc_path.specs.FieldLaws.{refs_of_other, refs_of_same, with_ref_of}
 use Rattle.shared_value.specs.declared.heaps.Heaps.{Heaps}
 use Rattle.shared_value.specs.declared.task_at_rest.Rest.{Rest}
-use Rattle.shared_value.specs.World.{flat, rest_at}
+use Rattle.shared_value.specs.SharedValue.{flat, rest_at}
 
 -- the references of the object at an address of a heap
 abbrev pub refs_of_rest : Option Rest → Addr → List (Option Addr)

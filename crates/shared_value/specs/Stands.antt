@@ -4,19 +4,19 @@ use Rattle.hh_lang.specs.Form.{IsProgram}
 use Rattle.run_trace.specs.Settings.{AreLimits}
 use Rattle.run_ledger.specs.Journals.{is_legal}
 use Rattle.object_layout.specs.Chunks.{chunk_at}
-use Rattle.object_layout.specs.Content.{Content}
-use Rattle.alloc_path.specs.Heap.{AreTidy, AreWithin, Heap}
-use Rattle.core_relation.specs.Value.{In}
+use Rattle.object_layout.specs.ChunkValue.{ChunkValue}
+use Rattle.alloc_path.specs.LeafHeapValue.{AreTidy, AreWithin, LeafHeapValue}
+use Rattle.core_relation.specs.Memory.{In}
 use Rattle.core_relation.specs.Whole.{StandsForAll}
 use Rattle.task_machine.specs.Accounts.{IsLastLarge, IsLastSmall}
 use Rattle.task_machine.specs.Fits.{IsShaped}
 use Rattle.shared_value.specs.declared.task_at_rest.Rest.{Rest}
 use Rattle.shared_value.specs.Measured.{RestsAreMeasured}
 use Rattle.shared_value.specs.Objects.{AreNear, chunk_of}
-use Rattle.shared_value.specs.World.{World, accounts, rest_at, totals_of, value_of}
+use Rattle.shared_value.specs.SharedValue.{SharedValue, accounts, rest_at, totals_of, value_of}
 
 -- what of a heap alone is known, whoever holds it
-pub record HeapForm (h : Heap) : Type 0 where
+pub record HeapForm (h : LeafHeapValue) : Type 0 where
   pub shaped : IsShaped h
   pub near : AreNear h.chunks
   pub tidy : AreTidy h.chunks
@@ -26,11 +26,11 @@ pub record HeapForm (h : Heap) : Type 0 where
   -- 64 bits count the words placed
   pub since : h.since < 2 ^ 64
   -- each chunk has whole units, and a large one without objects is the reserved one
-  pub whole : (k : Content) → In h.chunks k → k.size ≡ 1024 * (k.size / 1024)
+  pub whole : (k : ChunkValue) → In h.chunks k → k.size ≡ 1024 * (k.size / 1024)
   pub spare : (i : ℕ) → i < length h.chunks → ((chunk_at h.chunks i).size ≡ 1024 → ⊥) → (chunk_of (chunk_at h.chunks i)).objects ≡ [] → h.reserved ≡ Some i
 
 -- its journal is legal, and it stands for its journal; the root of a run that is done is handed back
-pub record IsWorld (w : World) : Type 0 where
+pub record IsSharedValue (w : SharedValue) : Type 0 where
   pub limits : AreLimits w.settings
   pub form : IsProgram w.program
   pub legal : is_legal w.program w.settings w.journal.items ≡ true

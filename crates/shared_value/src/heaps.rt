@@ -1,7 +1,7 @@
 // The heaps of the tasks that no worker holds, by the addresses of their objects.
 
 ghost use Rattle.std.specs.Prelude.{◌≡◌};
-ghost use Rattle.chunk_pool.specs.Chunks.{owner_of};
+ghost use Rattle.chunk_pool.specs.PoolValue.{owner_of};
 
 use crate::task_at_rest::Rest;
 use chunk_pool::Pool;

@@ -1,7 +1,7 @@
 // What goes with a task that no worker holds.
 
 ghost use Rattle.std.specs.Prelude.{◌≡◌, ◌<◌, None};
-ghost use Rattle.task_frames.specs.Stack.{Stack};
+ghost use Rattle.task_frames.specs.FramesValue.{FramesValue};
 ghost use Rattle.shared_value.specs.Fits.{taken_part, IsAtWork};
 
 use alloc_path::{LeafHeap, View};
@@ -35,7 +35,7 @@ pub struct Rest {
 /// The part of a task that no worker held.
 pub fn opened(rest: Rest, task: u32, leaf_limit: u64, field_limit: u32) -> Private
     requires { IsAtWork rest.work }
-    ensures part { (s : Stack) → rest.work ≡ Work.Calls s → result ≡ taken_part task leaf_limit field_limit rest s }
+    ensures part { (s : FramesValue) → rest.work ≡ Work.Calls s → result ≡ taken_part task leaf_limit field_limit rest s }
     ensures task { result.task ≡ task }
     ensures fresh { result.fresh ≡ 0 }
     ensures heap { result.heap ≡ rest.heap }

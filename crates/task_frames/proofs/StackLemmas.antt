@@ -2,7 +2,7 @@
 use Rattle.std.proofs.Common.{◌≡◌, ℕ, zero, suc, ◌<◌, List, [], ◌∷◌, ◌++◌, length, get_or, set, refl, ap, arith, Option}
 use Rattle.object_layout.specs.declared.word.Addr.{Addr}
 use Rattle.task_frames.specs.declared.frames.Frame.{Frame}
-use Rattle.task_frames.specs.Stack.{references_of, references_written}
+use Rattle.task_frames.specs.FramesValue.{references_of, references_written}
 
 pub references_of-last : (fs : List Frame) (t : Frame) (i : ℕ) → i ≡ length fs → references_of (fs ++ t ∷ []) i ≡ t.refs
 references_of-last [] t zero e = refl

@@ -1,1 +1,1 @@
-pub mod Stack
+pub mod FramesValue

@@ -1,7 +1,7 @@
 // A stack of frames, never empty and never more than 1,000 deep.
 
 ghost use Rattle.std.specs.Prelude.{◌≡◌, ◌+◌, ◌<◌, ◌≤◌, ◌↔◌, [], length, IfOk, OnOk, OnErr, Err, Some, slice_get};
-ghost use Rattle.task_frames.specs.Stack.{Stack, branched, depth_of, frames_of, reference_at, pushed, IsPopped, references_of, references_written, with_next, with_int, with_reference, with_reference_at};
+ghost use Rattle.task_frames.specs.FramesValue.{FramesValue, branched, depth_of, frames_of, reference_at, pushed, IsPopped, references_of, references_written, with_next, with_int, with_reference, with_reference_at};
 
 use object_layout::Addr;
 use std::alloc::{AllocError, Global};
@@ -39,9 +39,9 @@ pub struct Frames {
 
 impl Model for Frames {
     ghost use Rattle.std.specs.Prelude.{length, ◌<◌};
-    ghost use Rattle.task_frames.specs.Stack.{Stack};
+    ghost use Rattle.task_frames.specs.FramesValue.{FramesValue};
 
-    ghost Value = { Stack };
+    ghost Value = { FramesValue };
 
     ghost view = { λ f. record { below = f.below.items; top = f.top.value } };
 

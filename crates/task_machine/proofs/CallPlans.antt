@@ -3,7 +3,7 @@ use Rattle.std.proofs.Common.{ℕ, ◌+◌, Bool, true, false, cond, Option, Som
 use Rattle.std.specs.Prelude.{nat_le, nat_lt, pos}
 use Rattle.object_layout.specs.Cell.{Cell}
 use Rattle.object_layout.specs.Chunks.{object_of}
-use Rattle.alloc_path.specs.Heap.{place_for}
+use Rattle.alloc_path.specs.LeafHeapValue.{place_for}
 use Rattle.hh_lang.specs.declared.instr.Instr.{Instr}
 use Rattle.hh_lang.specs.declared.instr.Instr.TheVariants.{Set, Mov, Movr, Nil, Calc, Same, Jmp, Jz, Newm, Pack as PackOf, Getr, Geti, Putr, Puti, Cntr, Cnti, Freeze as FreezeOf, Cas, Call as CallOf, Par, Ret, Out}
 use Rattle.hh_model.specs.Effect.{calculated, counts_in, place_in as field_in}

@@ -3,8 +3,8 @@ use Rattle.std.proofs.Common.{◌≡◌, ℕ, Option, Some, None, List, [], repl
 use Rattle.std.specs.Prelude.{pos}
 use Rattle.object_layout.specs.declared.word.Birth.{Birth}
 use Rattle.object_layout.specs.Cell.{Born, Hole}
-use Rattle.object_layout.specs.Content.{Content}
-use Rattle.alloc_path.specs.Heap.{AreApart, Heap, IsCurrent, IsReserved, with_places}
+use Rattle.object_layout.specs.ChunkValue.{ChunkValue}
+use Rattle.alloc_path.specs.LeafHeapValue.{AreApart, LeafHeapValue, IsCurrent, IsReserved, with_places}
 use Rattle.hh_lang.specs.Form.{ProgramText}
 use Rattle.hh_model.specs.declared.data.State.{State}
 use Rattle.hh_model.specs.Step.{is_running, owner_of, root, start}
@@ -16,7 +16,7 @@ use Rattle.task_machine.specs.Fits.{Fits, FitsNow, HeapStands, IsShaped, after_f
 use Rattle.task_machine.proofs.Stands.{at_nils}
 
 -- its part
-abbrev pub first_part : ProgramText → Heap → ℕ → ℕ → Private
+abbrev pub first_part : ProgramText → LeafHeapValue → ℕ → ℕ → Private
 first_part p h leaf limit = record {
   task = 0;
   frames = record { below = []; top = record { function = p.main; next = 0; ints = replicate 16 (pos 0); refs = replicate 16 None } };
@@ -45,16 +45,16 @@ empty_stands p limit = record {
   within = λ n a e. absurd (none_some a e);
 }
 
-empty_shape : (h : Heap) → h.chunks ≡ [] → h.current ≡ None → h.reserved ≡ None → IsShaped h
+empty_shape : (h : LeafHeapValue) → h.chunks ≡ [] → h.current ≡ None → h.reserved ≡ None → IsShaped h
 empty_shape h k c r = record {
   apart = subst AreApart (sym k) tt;
   current = subst (IsCurrent h.chunks) (sym c) tt;
   reserved = subst (IsReserved h.chunks) (sym r) tt;
 }
 
-pub root_now : (p : ProgramText) (h : Heap) (leaf limit : ℕ) → h.chunks ≡ [] → h.current ≡ None → h.reserved ≡ None → FitsNow p (first_part p h leaf limit) (start p limit) nowhere
+pub root_now : (p : ProgramText) (h : LeafHeapValue) (leaf limit : ℕ) → h.chunks ≡ [] → h.current ≡ None → h.reserved ≡ None → FitsNow p (first_part p h leaf limit) (start p limit) nowhere
 root_now p h leaf limit k c r =
-    let Q : List Content → Type 0 = λ ks. HeapStands nowhere (owner_of (start p limit).tasks) 0 (start p limit).store ks nowhere in
+    let Q : List ChunkValue → Type 0 = λ ks. HeapStands nowhere (owner_of (start p limit).tasks) 0 (start p limit).store ks nowhere in
     record {
       reached = (limit, [], refl);
       going = refl;
@@ -70,17 +70,17 @@ root_now p h leaf limit k c r =
       shown = λ n a o e. absurd (none_some a e);
     }
 
-pub root_fits : (p : ProgramText) (h : Heap) (leaf limit : ℕ) → h.chunks ≡ [] → h.current ≡ None → h.reserved ≡ None → Fits p (first_part p h leaf limit) (start p limit) nowhere
+pub root_fits : (p : ProgramText) (h : LeafHeapValue) (leaf limit : ℕ) → h.chunks ≡ [] → h.current ≡ None → h.reserved ≡ None → Fits p (first_part p h leaf limit) (start p limit) nowhere
 root_fits p h leaf limit k c r = record { running = refl; private = λ i lt. absurd (omega arith); now = root_now p h leaf limit k c r }
 
 -- ---- WHAT ENTRIES CHANGE
 
 -- a part that differs in its heap, its fresh steps and its collection
-abbrev pub changed : Private → Heap → ℕ → Option Begun → Private
+abbrev pub changed : Private → LeafHeapValue → ℕ → Option Begun → Private
 changed old h fresh begun = record old { heap = h; fresh = fresh; begun = begun }
 
 -- it fits as it is now, where its heap stands for the same
-pub now_changed : (p : ProgramText) (old : Private) (m : State) (above : Places) (F : FitsNow p old m above) (h : Heap) (fresh : ℕ) (begun : Option Begun)
+pub now_changed : (p : ProgramText) (old : Private) (m : State) (above : Places) (F : FitsNow p old m above) (h : LeafHeapValue) (fresh : ℕ) (begun : Option Begun)
     → HeapStands F.place (owner_of m.tasks) old.task m.store h.chunks above → IsShaped h → FitsNow p (changed old h fresh begun) m above
 now_changed p old m above F h fresh begun H S = record {
   reached = F.reached;
@@ -98,17 +98,17 @@ now_changed p old m above F h fresh begun H S = record {
 }
 
 -- and behind its fresh steps, where they are as many
-pub behind_changed : (p : ProgramText) (old : Private) (m : State) (above : Places) (F : Fits p old m above) (h : Heap) (begun : Option Begun)
+pub behind_changed : (p : ProgramText) (old : Private) (m : State) (above : Places) (F : Fits p old m above) (h : LeafHeapValue) (begun : Option Begun)
     → HeapStands F.now.place (owner_of (after_fresh p old m).tasks) old.task (after_fresh p old m).store h.chunks above → IsShaped h → Fits p (changed old h old.fresh begun) m above
 behind_changed p old m above F h begun H S = record { running = F.running; private = F.private; now = now_changed p old (after_fresh p old m) above F.now h old.fresh begun H S }
 
-abbrev with_since : Heap → ℕ → Heap
+abbrev with_since : LeafHeapValue → ℕ → LeafHeapValue
 with_since h n = record h { since = n }
 
-since_shape : (h : Heap) (n : ℕ) → IsShaped h → IsShaped (with_since h n)
+since_shape : (h : LeafHeapValue) (n : ℕ) → IsShaped h → IsShaped (with_since h n)
 since_shape h n S = record { apart = S.apart; current = S.current; reserved = S.reserved }
 
-places_shape : (h : Heap) (slots spare : ℕ) → IsShaped h → IsShaped (with_places h slots spare)
+places_shape : (h : LeafHeapValue) (slots spare : ℕ) → IsShaped h → IsShaped (with_places h slots spare)
 places_shape h slots spare S = record { apart = S.apart; current = S.current; reserved = S.reserved }
 
 pub since_fits : (old : Private) (n : ℕ) → FitsAsWell old (record old { heap = with_since old.heap n })

@@ -4,11 +4,11 @@ use Rattle.std.specs.Prelude.{slice_get}
 use Rattle.std.proofs.Math.Seq.{drop-cons}
 use Rattle.hh_lang.specs.Form.{ProgramText}
 use Rattle.hh_model.specs.declared.data.Object.{Object}
-use Rattle.run_trace.specs.Entry.{Event}
-use Rattle.run_trace.specs.Settings.{Limits}
+use Rattle.run_trace.specs.Entry.{EntryValue}
+use Rattle.run_trace.specs.Settings.{SettingsValue}
 use Rattle.run_ledger.specs.declared.data.Ledger.{Ledger}
 use Rattle.run_ledger.specs.Entries.{after}
-use Rattle.run_journal.specs.Opened.{Opened}
+use Rattle.run_journal.specs.BookValue.{BookValue}
 use Rattle.run_journal.proofs.Replays.{cut}
 use Rattle.still_counts.specs.Counts.{raised_by}
 use Rattle.task_table.specs.declared.row.Row.{Row}
@@ -16,7 +16,7 @@ use Rattle.task_table.specs.Rows.{rows_with, rows_from}
 use Rattle.task_table.specs.Lines.{words_onto}
 use Rattle.task_table.specs.Table.{line_at, lines_from}
 
-module _ (journal : List Event) (b b' : Opened) (i : ℕ) (e : Event) (lt : i < length journal) (is : e ≡ get_or journal i e) (eb : b' ≡ record b { ledger = after b.program b.limits b.ledger e }) where
+module _ (journal : List EntryValue) (b b' : BookValue) (i : ℕ) (e : EntryValue) (lt : i < length journal) (is : e ≡ get_or journal i e) (eb : b' ≡ record b { ledger = after b.program b.limits b.ledger e }) where
   -- the rows behind the rest of a journal, also behind the entry
   pub rows_on : (p : ProgramText) (rows more all : List Row) → b.program ≡ p
       → rows_from b.program b.limits b.ledger rows (drop i journal) ≡ all

@@ -10,8 +10,8 @@ use Rattle.hh_model.specs.declared.data.State.{State}
 use Rattle.hh_model.specs.Effect.{int_in}
 use Rattle.run_trace.specs.declared.entry.Kind.{Kind}
 use Rattle.run_trace.specs.declared.entry.Kind.TheVariants.{Took, Ran, Chunk, Begin, End, PutOff, Mark, More, Sweep, Fuel}
-use Rattle.run_trace.specs.Entry.{Event}
-use Rattle.run_trace.specs.Settings.{Limits}
+use Rattle.run_trace.specs.Entry.{EntryValue}
+use Rattle.run_trace.specs.Settings.{SettingsValue}
 use Rattle.run_ledger.specs.declared.data.Ledger.{Ledger}
 use Rattle.run_ledger.specs.Entries.{after}
 use Rattle.run_report.specs.Totals.{cleared_words}
@@ -101,15 +101,15 @@ children p m made now None = []
 children p m made now (Some t) = if now == made then [] else fresh_row (fork_of p m t made) ∷ (fresh_row (fork_of p m t (made + 1)) ∷ [])
 
 -- the rows behind an entry, in front of which so many tasks were made, and with which the heap lost so many words
-abbrev pub rows_by : ProgramText → State → ℕ → ℕ → Event → List Row → List Row
+abbrev pub rows_by : ProgramText → State → ℕ → ℕ → EntryValue → List Row → List Row
 rows_by p m made lost e rows = told_of rows e.worker lost e.kind (task_in e.kind) ++ children p m made (length m.tasks) (task_in e.kind)
 
 -- by the accounts in front of it and behind it
-abbrev pub rows_with : ProgramText → Ledger → Ledger → Event → List Row → List Row
+abbrev pub rows_with : ProgramText → Ledger → Ledger → EntryValue → List Row → List Row
 rows_with p before behind e rows =
     rows_by p behind.machine (length before.machine.tasks) (cleared_words before e.kind - cleared_words behind e.kind) e rows
 
 -- the rows behind a journal
-abbrev pub rows_from : ProgramText → Limits → Ledger → List Row → List Event → List Row
+abbrev pub rows_from : ProgramText → SettingsValue → Ledger → List Row → List EntryValue → List Row
 rows_from p s l rows [] = rows
 rows_from p s l rows (e ∷ es) = rows_from p s (after p s l e) (rows_with p l (after p s l e) e rows) es

@@ -2,8 +2,8 @@
 use Rattle.std.specs.Prelude.{ℕ, ◌+◌, Option, Some, None, List, [], ◌∷◌, ◌++◌, codes, slice_get}
 use Rattle.hh_lang.specs.Form.{ProgramText}
 use Rattle.hh_model.specs.declared.data.Task.{Task}
-use Rattle.run_trace.specs.Entry.{Event}
-use Rattle.run_trace.specs.Settings.{Limits}
+use Rattle.run_trace.specs.Entry.{EntryValue}
+use Rattle.run_trace.specs.Settings.{SettingsValue}
 use Rattle.run_ledger.specs.declared.data.Ledger.{Ledger}
 use Rattle.run_ledger.specs.Journals.{opening, ledger_of}
 use Rattle.task_table.specs.declared.row.Row.{Row}
@@ -23,8 +23,8 @@ lines_from p l t [] = []
 lines_from p l t (r ∷ rs) = line_at p l t (slice_get l.machine.tasks t) r ++ lines_from p l (t + 1) rs
 
 -- a line for each task; the first task is there from the beginning
-abbrev pub rows_of : ProgramText → Limits → List Event → List Row
+abbrev pub rows_of : ProgramText → SettingsValue → List EntryValue → List Row
 rows_of p s journal = rows_from p s (opening p s) (fresh_row None ∷ []) journal
 
-abbrev pub table : ProgramText → Limits → List Event → List ℕ
+abbrev pub table : ProgramText → SettingsValue → List EntryValue → List ℕ
 table p s journal = first_line ++ lines_from p (ledger_of p s journal) 0 (rows_of p s journal)

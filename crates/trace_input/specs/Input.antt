@@ -8,7 +8,7 @@ use Rattle.hh_lang.specs.Form.{ProgramText}
 use Rattle.text_lines.specs.Lines.{lines_of}
 use Rattle.run_trace.specs.declared.settings.Version.{Version}
 use Rattle.run_trace.specs.declared.settings.Version.TheVariants.{One, Two}
-use Rattle.run_trace.specs.Settings.{Limits}
+use Rattle.run_trace.specs.Settings.{SettingsValue}
 use Rattle.run_trace.specs.Trace.{version_of, fault_in, AreTraceLines}
 use Rattle.program_reader.specs.declared.cause.Cause.TheVariants.{TooLong}
 use Rattle.program_reader.specs.declared.cause.Refused.{Refused}
@@ -96,7 +96,7 @@ pub record IsInput (input : List ℕ) (t : TraceInput) : Type 0 where
   pub trace : AreTraceLines (trace_lines (lines_of input)) t.trace
 
 -- the limits of its run: these, with the version that the trace names
-abbrev pub limits_for : Limits → TraceInput → Limits
+abbrev pub limits_for : SettingsValue → TraceInput → SettingsValue
 limits_for s t = record s { version = t.trace.version }
 
 -- a reader fails at the first fault, or for want of memory

@@ -8,8 +8,8 @@ use Rattle.run_ledger.specs.Entries.{is_pool_enough}
 use Rattle.task_machine.specs.declared.part.Private.{Private}
 use Rattle.task_machine.specs.declared.part.Paused.{Paused}
 use Rattle.shared_value.specs.Causes.{first_cause}
-use Rattle.shared_value.specs.Stands.{IsWorld}
-use Rattle.shared_value.specs.World.{World, accounts}
+use Rattle.shared_value.specs.Stands.{IsSharedValue}
+use Rattle.shared_value.specs.SharedValue.{SharedValue, accounts}
 use Rattle.paced_tree.specs.Owed.{owed_by}
 use Rattle.turn_entries.specs.declared.act.Acted.{Acted}
 use Rattle.turn_entries.specs.declared.held.Ready.{Ready}
@@ -25,7 +25,7 @@ module _ (r : Run) (k : ℕ) (ready : Ready) (acted : Acted) where
   pub acts_same : (a b : Option Kind) → a ≡ b → ActsFor r k ready b acted → ActsFor r k ready a acted
   acts_same a b e A = subst (λ (o : Option Kind). ActsFor r k ready o acted) (sym e) A
 
-  module _ (I : IsWorld r.paced) (goes : (accounts r.paced).end ≡ None) (below : k < r.paced.settings.workers) where
+  module _ (I : IsSharedValue r.paced) (goes : (accounts r.paced).end ≡ None) (below : k < r.paced.settings.workers) where
     first : Option Refused
     first = first_cause r.paced.end r.paced.steps r.paced.settings k false
 
@@ -67,8 +67,8 @@ module _ (r : Run) (k : ℕ) (part : Private) (acted : Acted) where
   acts_at_once ready kind none A = acts_same r k ready acted _ _ (ap Some (after_by kind true (eq-eqb part.fresh 0 none))) A
 
 -- a due collection begins, or is put off
-pub due_begins : (w : World) (t : ℕ) → is_pool_enough w.settings (accounts w) t ≡ true → due_kind w t ≡ Begin t
+pub due_begins : (w : SharedValue) (t : ℕ) → is_pool_enough w.settings (accounts w) t ≡ true → due_kind w t ≡ Begin t
 due_begins w t e = ap (λ (b : Bool). if b then Begin t else PutOff t) e
 
-pub due_waits : (w : World) (t : ℕ) → is_pool_enough w.settings (accounts w) t ≡ false → due_kind w t ≡ PutOff t
+pub due_waits : (w : SharedValue) (t : ℕ) → is_pool_enough w.settings (accounts w) t ≡ false → due_kind w t ≡ PutOff t
 due_waits w t e = ap (λ (b : Bool). if b then Begin t else PutOff t) e

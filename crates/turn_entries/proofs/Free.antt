@@ -3,7 +3,7 @@ use Rattle.std.proofs.Common.{◌≡◌, ℕ, ◌<◌, ◌&&◌, true, false, Bo
 use Rattle.std.proofs.lemmas.Bool.{false≢true}
 use Rattle.hh_model.specs.Step.{asked}
 use Rattle.run_trace.specs.declared.entry.Kind.TheVariants.{Ran, Chunk, Begin, PutOff, Fuel, Mark, More, Sweep}
-use Rattle.run_trace.specs.Settings.{Limits}
+use Rattle.run_trace.specs.Settings.{SettingsValue}
 use Rattle.run_ledger.specs.declared.data.Owed.TheVariants.{Mark as OwesMark, More as OwesMore, Sweep as OwesSweep}
 use Rattle.run_ledger.specs.declared.data.Refused.{Refused}
 use Rattle.run_ledger.specs.declared.data.Refused.TheVariants.{Collecting, Due as DueCause, NoWorker, NotDue, NotNeeded, NotSpent, Over, PoolEnough, PoolShort, Spent}
@@ -13,8 +13,8 @@ use Rattle.run_ledger.specs.Entries.{is_pool_enough, kind_refusal, refused_if, r
 use Rattle.run_ledger.specs.Heaps.{heap_of, sweep_number}
 use Rattle.run_ledger.specs.Steps.{on_asked}
 use Rattle.run_ledger.proofs.OwedEntries.{owed_can_be_given}
-use Rattle.chunk_pool.specs.Chunks.{units_in_use}
-use Rattle.alloc_path.specs.Heap.{place_for, room_of}
+use Rattle.chunk_pool.specs.PoolValue.{units_in_use}
+use Rattle.alloc_path.specs.LeafHeapValue.{place_for, room_of}
 use Rattle.leaf_copy_gc.specs.declared.lists.Moved.{Moved}
 use Rattle.task_machine.specs.declared.part.Private.{Private}
 use Rattle.task_machine.specs.declared.part.Paused.TheVariants.{Due, NeedChunk}
@@ -26,8 +26,8 @@ use Rattle.shared_value.specs.Due.{due_cause, is_part_due}
 use Rattle.shared_value.specs.Entered.{IsCaused, refused}
 use Rattle.shared_value.specs.Fits.{Fits}
 use Rattle.shared_value.specs.Next.{part_asks}
-use Rattle.shared_value.specs.Stands.{IsWorld}
-use Rattle.shared_value.specs.World.{World, accounts}
+use Rattle.shared_value.specs.Stands.{IsSharedValue}
+use Rattle.shared_value.specs.SharedValue.{SharedValue, accounts}
 use Rattle.shared_value.proofs.NextStepAsks.{asked_same}
 use Rattle.shared_value.proofs.BeforeTheEnd.{end_now, steps_now}
 use Rattle.shared_value.proofs.CausesTold.{refused_is}
@@ -61,7 +61,7 @@ never_refused e why none h = by (sym (ap (option_map (λ (cause : Refused). Refu
 
 -- ---- PARTS
 
-module _ (w : World) (k : ℕ) (part : Private) (I : IsWorld w) (free : first_cause w.end w.steps w.settings k false ≡ None) (F : Fits w k part) where
+module _ (w : SharedValue) (k : ℕ) (part : Private) (I : IsSharedValue w) (free : first_cause w.end w.steps w.settings k false ≡ None) (F : Fits w k part) where
   none_first : is_some (first_cause w.end w.steps w.settings k false) ≡ false
   none_first = ap is_some free
 
@@ -105,7 +105,7 @@ module _ (w : World) (k : ℕ) (part : Private) (I : IsWorld w) (free : first_ca
           put_off_answer w k part I (without_fresh w k part F fresh) none_first
           ∙ (ap (λ o. or_else o (refused_if (is_pool_enough w.settings (accounts w) part.task) (PoolEnough (units_in_use w.pool)) None)) (due_none P) ∙ ap (λ b. refused_if b (PoolEnough (units_in_use w.pool)) None) short)
 
-pub end_free : (w : World) (k : ℕ) (part : Private) (moved : Moved) → IsWorld w → first_cause w.end w.steps w.settings k false ≡ None → FitsCopied w k part moved → refused w (end_event k part moved) ≡ None
+pub end_free : (w : SharedValue) (k : ℕ) (part : Private) (moved : Moved) → IsSharedValue w → first_cause w.end w.steps w.settings k false ≡ None → FitsCopied w k part moved → refused w (end_event k part moved) ≡ None
 end_free w k part moved I free F = end_answer w k part moved I F ∙ free
 
 -- ---- WHAT IS OWED
@@ -114,7 +114,7 @@ or_none : (o rest : Option Refused) → o ≡ None → rest ≡ None → or_else
 or_none None rest a b = b
 or_none (Some cause) rest a b = absurd cc
 
-module _ (w : World) (k t : ℕ) (I : IsWorld w) (free : first_cause w.end w.steps w.settings k false ≡ None) where
+module _ (w : SharedValue) (k t : ℕ) (I : IsSharedValue w) (free : first_cause w.end w.steps w.settings k false ≡ None) where
   pub mark_free : owed_by w k ≡ OwesMark t → refused w (record { worker = k; kind = Mark t }) ≡ None
   mark_free owes =
       refused_is w I (record { worker = k; kind = Mark t })
@@ -132,7 +132,7 @@ module _ (w : World) (k t : ℕ) (I : IsWorld w) (free : first_cause w.end w.ste
 
 -- ---- THE END FOR SPENT FUEL
 
-fuel_by : (end : Option RunEnd) (steps settled : ℕ) (s : Limits) (k : ℕ) → end ≡ None → steps ≡ settled → k < s.workers → is_some (first_cause end steps s k false) ≡ true
+fuel_by : (end : Option RunEnd) (steps settled : ℕ) (s : SettingsValue) (k : ℕ) → end ≡ None → steps ≡ settled → k < s.workers → is_some (first_cause end steps s k false) ≡ true
     → or_else (first_cause end steps s k true) (refused_unless (nat_le s.fuel settled) (NotSpent settled) None) ≡ None
 fuel_by end steps settled s k none same below spent = by end (nat_le s.fuel steps) (nat_le s.fuel settled) (nat_lt k s.workers) none (ap (nat_le s.fuel) same) (grind (arith, below)) spent
   where
@@ -144,10 +144,10 @@ fuel_by end steps settled s k none same below spent = by end (nat_le s.fuel step
     by None true false true a b d h = absurd (false≢true (sym b))
     by None false over' true a b d h = absurd (false≢true h)
 
-pub fuel_free : (w : World) (k : ℕ) → IsWorld w → (accounts w).end ≡ None → k < w.settings.workers → is_some (first_cause w.end w.steps w.settings k false) ≡ true → refused w (record { worker = k; kind = Fuel }) ≡ None
+pub fuel_free : (w : SharedValue) (k : ℕ) → IsSharedValue w → (accounts w).end ≡ None → k < w.settings.workers → is_some (first_cause w.end w.steps w.settings k false) ≡ true → refused w (record { worker = k; kind = Fuel }) ≡ None
 fuel_free w k I goes below spent = refused_is w I (record { worker = k; kind = Fuel }) ∙ fuel_by w.end w.steps (accounts w).steps w.settings k (end_now w I ∙ goes) (steps_now w I) below spent
 
-spent_by : (end : Option RunEnd) (steps settled : ℕ) (s : Limits) (k : ℕ) → end ≡ None → steps ≡ settled → k < s.workers → nat_le s.fuel settled ≡ is_some (first_cause end steps s k false)
+spent_by : (end : Option RunEnd) (steps settled : ℕ) (s : SettingsValue) (k : ℕ) → end ≡ None → steps ≡ settled → k < s.workers → nat_le s.fuel settled ≡ is_some (first_cause end steps s k false)
 spent_by end steps settled s k none same below = by end (nat_le s.fuel steps) (nat_le s.fuel settled) (nat_lt k s.workers) none (ap (nat_le s.fuel) same) (grind (arith, below))
   where
     by : (e : Option RunEnd) (over over' hired : Bool) → e ≡ None → over ≡ over' → hired ≡ true → over' ≡ is_some (refused_if (is_some e) Over (refused_if (over && true) (Spent steps) (refused_unless hired NoWorker None)))
@@ -159,5 +159,5 @@ spent_by end steps settled s k none same below = by end (nat_le s.fuel steps) (n
     by None false false true a b d = refl
 
 -- the fuel is spent exactly where it is the first cause that refuses the worker's entries
-pub spent_is : (w : World) (k : ℕ) → IsWorld w → (accounts w).end ≡ None → k < w.settings.workers → nat_le w.settings.fuel (accounts w).steps ≡ is_some (first_cause w.end w.steps w.settings k false)
+pub spent_is : (w : SharedValue) (k : ℕ) → IsSharedValue w → (accounts w).end ≡ None → k < w.settings.workers → nat_le w.settings.fuel (accounts w).steps ≡ is_some (first_cause w.end w.steps w.settings k false)
 spent_is w k I goes below = spent_by w.end w.steps (accounts w).steps w.settings k (end_now w I ∙ goes) (steps_now w I) below

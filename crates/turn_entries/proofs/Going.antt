@@ -1,16 +1,16 @@
 -- Parts that may take steps.
 use Rattle.std.proofs.Common.{◌≡◌, ℕ, ◌<◌, None, refl, ap, ◌∙◌, arith}
-use Rattle.alloc_path.specs.Heap.{Heap}
+use Rattle.alloc_path.specs.LeafHeapValue.{LeafHeapValue}
 use Rattle.leaf_copy_gc.specs.declared.lists.Moved.{Moved}
 use Rattle.task_machine.specs.declared.part.Private.{Private}
 use Rattle.task_machine.specs.declared.part.Paused.TheVariants.{Shared, Spent}
 use Rattle.shared_value.specs.Fits.{Fits}
-use Rattle.shared_value.specs.World.{World}
+use Rattle.shared_value.specs.SharedValue.{SharedValue}
 use Rattle.own_steps.specs.Alone.{IsShared}
 use Rattle.leaf_collections.specs.LeafEnd.{FitsCopied, ended}
 use Rattle.turn_entries.specs.Parts.{IsPaused, MayRun}
 
-module _ (w : World) (k : ℕ) (part : Private) where
+module _ (w : SharedValue) (k : ℕ) (part : Private) where
   -- without fresh steps
   pub may : Fits w k part → part.fresh ≡ 0 → part.begun ≡ None → MayRun w k part
   may fits fresh idle = record { fits = fits; few = omega (arith, fresh); idle = idle }
@@ -22,15 +22,15 @@ module _ (w : World) (k : ℕ) (part : Private) where
   some_fresh P = let e = P.spent refl in omega (arith, e)
 
 -- after an entry
-module _ (w : World) (k : ℕ) (old part : Private) where
+module _ (w : SharedValue) (k : ℕ) (old part : Private) where
   pub may_cleared : Fits w k part → old.begun ≡ None → part ≡ record old { fresh = 0 } → MayRun w k part
   may_cleared fits idle e = may w k part fits (ap (λ (p : Private). p.fresh) e) (ap (λ (p : Private). p.begun) e ∙ idle)
 
   pub may_alone : Fits w k part → old.begun ≡ None → part ≡ record old { frames = part.frames; fresh = 0 } → MayRun w k part
   may_alone fits idle e = may w k part fits (ap (λ (p : Private). p.fresh) e) (ap (λ (p : Private). p.begun) e ∙ idle)
 
-  pub may_heap : (h : Heap) → Fits w k part → old.begun ≡ None → old.fresh ≡ 0 → part ≡ record old { heap = h } → MayRun w k part
+  pub may_heap : (h : LeafHeapValue) → Fits w k part → old.begun ≡ None → old.fresh ≡ 0 → part ≡ record old { heap = h } → MayRun w k part
   may_heap h fits idle fresh e = may w k part fits (ap (λ (p : Private). p.fresh) e ∙ fresh) (ap (λ (p : Private). p.begun) e ∙ idle)
 
-  pub may_ended : (before : World) (moved : Moved) → Fits w k part → FitsCopied before k old moved → part ≡ ended old → MayRun w k part
+  pub may_ended : (before : SharedValue) (moved : Moved) → Fits w k part → FitsCopied before k old moved → part ≡ ended old → MayRun w k part
   may_ended before moved fits C e = may w k part fits (ap (λ (p : Private). p.fresh) e ∙ C.fresh) (ap (λ (p : Private). p.begun) e)

@@ -11,13 +11,13 @@ use Rattle.run_ledger.specs.Heaps.{heap_of, left_in, marked_in, sweep_number}
 use Rattle.run_ledger.specs.Pace.{gives}
 use Rattle.run_ledger.proofs.OwedEntries.{owed_can_be_given}
 use Rattle.shared_value.specs.Causes.{or_else}
-use Rattle.shared_value.specs.Stands.{IsWorld}
-use Rattle.shared_value.specs.World.{World, accounts}
+use Rattle.shared_value.specs.Stands.{IsSharedValue}
+use Rattle.shared_value.specs.SharedValue.{SharedValue, accounts}
 use Rattle.heap_marking.specs.MarkCauses.{marking_cause}
 use Rattle.heap_marking.proofs.MarkCauses.{marks_refuse}
 use Rattle.paced_tree.specs.Owed.{Pays, owed_by}
 
-module _ (w : World) (k : ℕ) where
+module _ (w : SharedValue) (k : ℕ) where
   pub pays_nothing : (kind : Kind) → owed_by w k ≡ Nothing → Pays w (record { worker = k; kind = kind })
   pays_nothing kind owes = subst (λ o. gives o kind ≡ true) (sym owes) refl
 
@@ -42,7 +42,7 @@ none_unless n cause rest e = by (n == 0) refl e
     by true is e = grind (arith, is)
     by false is e = absurd cc
 
-pub sweep_is_owed : (w : World) (k t : ℕ) → IsWorld w → (accounts w).end ≡ None → owed_by w k ≡ OwesSweep t → (marking_cause w t ≡ None) × (left_in (heap_of (accounts w) t) ≡ 0)
+pub sweep_is_owed : (w : SharedValue) (k t : ℕ) → IsSharedValue w → (accounts w).end ≡ None → owed_by w k ≡ OwesSweep t → (marking_cause w t ≡ None) × (left_in (heap_of (accounts w) t) ≡ 0)
 sweep_is_owed w k t I on owes =
     let h = heap_of (accounts w) t in
     let number = sweep_number (accounts w).machine h in

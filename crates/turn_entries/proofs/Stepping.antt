@@ -16,8 +16,8 @@ use Rattle.run_ledger.specs.Journals.{tasks_of}
 use Rattle.run_ledger.proofs.Bounds.{steps_are_bounded}
 use Rattle.run_ledger.proofs.Counted.{journals_are_counted}
 use Rattle.run_ledger.proofs.Machine.{heap_machine, machine_is_run, task_step_machine}
-use Rattle.ledger_steps.specs.Accounts.{aside}
-use Rattle.ledger_steps.proofs.Split.{steps_last}
+use Rattle.ledger_step_laws.specs.Accounts.{aside}
+use Rattle.ledger_step_laws.proofs.Split.{steps_last}
 use Rattle.task_machine.specs.declared.part.Private.{Private}
 use Rattle.task_machine.specs.declared.part.Paused.{Paused}
 use Rattle.task_machine.specs.declared.part.Paused.TheVariants.{Spent}
@@ -29,8 +29,8 @@ use Rattle.task_machine.specs.Run.{KeepsRest, Pauses, PausesBy, Runs}
 use Rattle.task_machine.proofs.Behind.{steps_more}
 use Rattle.shared_value.specs.Fits.{Fits, beyond}
 use Rattle.shared_value.specs.Links.{FitsFirst}
-use Rattle.shared_value.specs.Stands.{IsWorld}
-use Rattle.shared_value.specs.World.{World, accounts}
+use Rattle.shared_value.specs.Stands.{IsSharedValue}
+use Rattle.shared_value.specs.SharedValue.{SharedValue, accounts}
 use Rattle.shared_value.proofs.PartFitsMachine.{second_gives_first}
 use Rattle.own_steps.specs.Alone.{machine_after}
 use Rattle.own_steps.proofs.WordsFew.{limit_small}
@@ -55,10 +55,10 @@ counted_then p m t j (suc n) k e K C =
     let h : suc (n + j) ≡ k = omega (arith, e) in
     (step_kept p (steps p m t n) t b.0, subst (λ i. Counted i (steps p m t (suc n)).tasks (steps p m t (suc n)).store) h (steps_count p (steps p m t n) t (n + j) b.0 b.1))
 
-kept_now : (w : World) → Kept (accounts w).machine
+kept_now : (w : SharedValue) → Kept (accounts w).machine
 kept_now w = subst Kept (sym (machine_is_run w.program w.settings w.journal.items)) (run_kept w.program _ (tasks_of w.journal.items) (start_kept w.program (field_limit w.settings.version)))
 
-module _ (w : World) (k : ℕ) (part : Private) (I : IsWorld w) (on : (accounts w).end ≡ None) (F : Fits w k part) where
+module _ (w : SharedValue) (k : ℕ) (part : Private) (I : IsSharedValue w) (on : (accounts w).end ≡ None) (F : Fits w k part) where
   pub first : FitsFirst w part
   first = second_gives_first w k part I F on
 
@@ -80,7 +80,7 @@ module _ (w : World) (k : ℕ) (part : Private) (I : IsWorld w) (on : (accounts 
 
 -- ---- AFTER A RUN OF STEPS
 
-module _ (w : World) (text : ProgramText) (same : w.program ≡ text) (k : ℕ) (I : IsWorld w) (old new : Private) (fits : Fits w k old) (on : (accounts w).end ≡ None) (idle : old.begun ≡ None) (n : ℕ)
+module _ (w : SharedValue) (text : ProgramText) (same : w.program ≡ text) (k : ℕ) (I : IsSharedValue w) (old new : Private) (fits : Fits w k old) (on : (accounts w).end ≡ None) (idle : old.begun ≡ None) (n : ℕ)
     (runs : Runs text old n new) (accounts_kept : KeepsAccounts text old n new) (rest : KeepsRest old new) (few : old.fresh + n ≤ 256) where
   F : FitsFirst w old
   F = first w k old I on fits

@@ -1,7 +1,7 @@
 -- Values before and after a turn.
 use Rattle.std.proofs.Common.{◌≡◌, ℕ, ◌++◌, ◌∷◌, [], ◌||◌, Bool, true, false, not, List, Option, Some, None, is_some, length, refl, ap, sym, subst, ◌∙◌, inl, inr}
 use Rattle.std.proofs.lemmas.Bool.{false≢true}
-use Rattle.run_trace.specs.Entry.{Event}
+use Rattle.run_trace.specs.Entry.{EntryValue}
 use Rattle.run_trace.specs.declared.entry.Kind.{Kind}
 use Rattle.run_trace.specs.declared.entry.Kind.TheVariants.{Took}
 use Rattle.run_ledger.specs.declared.data.RunEnd.{RunEnd}
@@ -11,8 +11,8 @@ use Rattle.shared_value.specs.Entered.{Enters, refused}
 use Rattle.shared_value.specs.Fits.{AllFit, Fits, OthersFit}
 use Rattle.shared_value.specs.declared.answer.NotEntered.{NotEntered}
 use Rattle.shared_value.specs.declared.answer.NotEntered.TheVariants.{NoMemory, Refuses}
-use Rattle.shared_value.specs.Stands.{IsWorld}
-use Rattle.shared_value.specs.World.{World, accounts}
+use Rattle.shared_value.specs.Stands.{IsSharedValue}
+use Rattle.shared_value.specs.SharedValue.{SharedValue, accounts}
 use Rattle.child_tasks.specs.ChildEnds.{running_parent}
 use Rattle.child_tasks.specs.Hands.{HoldsNone}
 use Rattle.child_tasks.specs.Joins.{IsUnchanged, SameButPlaces}
@@ -30,27 +30,27 @@ use Rattle.turn_entries.specs.Values.{EntersOne, IsSame, is_over}
 
 -- ---- NO ENTRY
 
-pub unchanged : (w after : World) → after ≡ w → IsSame w after
-unchanged w after e = record { journal = ap (λ (z : World). z.journal.items) e; program = ap (λ (z : World). z.program) e; settings = ap (λ (z : World). z.settings) e; all = λ k p f. subst (λ (z : World). Fits z k p) (sym e) f }
+pub unchanged : (w after : SharedValue) → after ≡ w → IsSame w after
+unchanged w after e = record { journal = ap (λ (z : SharedValue). z.journal.items) e; program = ap (λ (z : SharedValue). z.program) e; settings = ap (λ (z : SharedValue). z.settings) e; all = λ k p f. subst (λ (z : SharedValue). Fits z k p) (sym e) f }
 
-pub roomier : (w after : World) → after ≡ record w { journal = record { items = w.journal.items; room = after.journal.room } } → ((k : ℕ) (p : Private) → Fits w k p → Fits after k p) → IsSame w after
-roomier w after e all = record { journal = ap (λ (z : World). z.journal.items) e; program = ap (λ (z : World). z.program) e; settings = ap (λ (z : World). z.settings) e; all = all }
+pub roomier : (w after : SharedValue) → after ≡ record w { journal = record { items = w.journal.items; room = after.journal.room } } → ((k : ℕ) (p : Private) → Fits w k p → Fits after k p) → IsSame w after
+roomier w after e all = record { journal = ap (λ (z : SharedValue). z.journal.items) e; program = ap (λ (z : SharedValue). z.program) e; settings = ap (λ (z : SharedValue). z.settings) e; all = all }
 
-pub placed : (w after : World) → SameButPlaces w after → AllFit w after → IsSame w after
-placed w after S all = record { journal = ap (λ (z : World). z.journal.items) S.rest; program = ap (λ (z : World). z.program) S.rest; settings = ap (λ (z : World). z.settings) S.rest; all = all }
+pub placed : (w after : SharedValue) → SameButPlaces w after → AllFit w after → IsSame w after
+placed w after S all = record { journal = ap (λ (z : SharedValue). z.journal.items) S.rest; program = ap (λ (z : SharedValue). z.program) S.rest; settings = ap (λ (z : SharedValue). z.settings) S.rest; all = all }
 
-pub unentered : (w after : World) (cause : NotEntered) → IsUnchanged cause w after → AllFit w after → IsSame w after
+pub unentered : (w after : SharedValue) (cause : NotEntered) → IsUnchanged cause w after → AllFit w after → IsSame w after
 unentered w after (Refuses cause) same all = unchanged w after same
 unentered w after NoMemory same all = placed w after same all
 
 -- and then what is told of the value after
-module _ (w after : World) (S : IsSame w after) where
-  pub then_same : (last : World) → IsSame after last → IsSame w last
+module _ (w after : SharedValue) (S : IsSame w after) where
+  pub then_same : (last : SharedValue) → IsSame after last → IsSame w last
   then_same last T = record { journal = T.journal ∙ S.journal; program = T.program ∙ S.program; settings = T.settings ∙ S.settings; all = λ k p f. T.all k p (S.all k p f) }
 
-  pub then_one : after.halted ≡ w.halted → (last : World) (k : ℕ) (kind : Kind) → EntersOne after last k kind → EntersOne w last k kind
+  pub then_one : after.halted ≡ w.halted → (last : SharedValue) (k : ℕ) (kind : Kind) → EntersOne after last k kind → EntersOne w last k kind
   then_one on last k kind E = record {
-    enters = record { journal = E.enters.journal ∙ ap (λ (l : List Event). l ++ record { worker = k; kind = kind } ∷ []) S.journal; program = E.enters.program ∙ S.program; settings = E.enters.settings ∙ S.settings; halted = E.enters.halted ∙ on };
+    enters = record { journal = E.enters.journal ∙ ap (λ (l : List EntryValue). l ++ record { worker = k; kind = kind } ∷ []) S.journal; program = E.enters.program ∙ S.program; settings = E.enters.settings ∙ S.settings; halted = E.enters.halted ∙ on };
     others = λ j p ne f. E.others j p ne (S.all j p f);
   }
 
@@ -62,17 +62,17 @@ module _ (w after : World) (S : IsSame w after) where
 
 -- ---- ONE ENTRY
 
-pub all_others : (w after : World) (k : ℕ) → AllFit w after → OthersFit w after k
+pub all_others : (w after : SharedValue) (k : ℕ) → AllFit w after → OthersFit w after k
 all_others w after k all = λ j p ne f. all j p f
 
-pub one : (w after : World) (k : ℕ) (kind : Kind) → Enters w after (record { worker = k; kind = kind }) → OthersFit w after k → EntersOne w after k kind
+pub one : (w after : SharedValue) (k : ℕ) (kind : Kind) → Enters w after (record { worker = k; kind = kind }) → OthersFit w after k → EntersOne w after k kind
 one w after k kind enters others = record { enters = enters; others = others }
 
-pub one_of_all : (w after : World) (k : ℕ) (kind : Kind) → Enters w after (record { worker = k; kind = kind }) → AllFit w after → EntersOne w after k kind
+pub one_of_all : (w after : SharedValue) (k : ℕ) (kind : Kind) → Enters w after (record { worker = k; kind = kind }) → AllFit w after → EntersOne w after k kind
 one_of_all w after k kind enters all = one w after k kind enters (all_others w after k all)
 
 -- after an entry by which every part still fits, the worker goes on with what it came with
-pub follows_paid : (w after : World) (k : ℕ) (ready : Ready) → IsWorld w → (accounts w).end ≡ None → is_wanting ready ≡ false → BringsTo w k ready → AllFit w after → after.program ≡ w.program → (accounts after).end ≡ None → Follows w after k ready (next_after ready)
+pub follows_paid : (w after : SharedValue) (k : ℕ) (ready : Ready) → IsSharedValue w → (accounts w).end ≡ None → is_wanting ready ≡ false → BringsTo w k ready → AllFit w after → after.program ≡ w.program → (accounts after).end ≡ None → Follows w after k ready (next_after ready)
 follows_paid w after k (HasPaused part why) I on met B all same goes =
     let P = (B.2 w (record { world = I; program = refl; goes = on }) B.1).may in
     (goes, record { fits = all k part P.fits; few = P.few; idle = P.idle })
@@ -82,7 +82,7 @@ follows_paid w after k (Found None) I on met B all same goes = (goes, inl refl)
 follows_paid w after k Wanting I on met B all same goes = absurd (false≢true (sym met))
 
 -- after the end of its task
-pub follows_end : (w after : World) (k : ℕ) (part : Private) (resumed : Option ℕ) → Goes after → HoldsNone after k → resumed ≡ running_parent (accounts after).machine.tasks part.task → Follows w after k (HasPaused part Shared) (after_end resumed)
+pub follows_end : (w after : SharedValue) (k : ℕ) (part : Private) (resumed : Option ℕ) → Goes after → HoldsNone after k → resumed ≡ running_parent (accounts after).machine.tasks part.task → Follows w after k (HasPaused part Shared) (after_end resumed)
 follows_end w after k part None goes none is = (goes, inr (record { part = part; brought = refl; none = none }, sym is))
 follows_end w after k part (Some parent) goes none is = (goes, record { part = part; brought = refl; none = none }, sym is)
 
@@ -111,23 +111,23 @@ ended_over r h = by r.paced.halted (is_some (accounts r.paced).end) h
     by true b h = refl
     by false b h = h
 
-pub halts_with : (after : Run) (w : World) → w ≡ record after.paced { halted = true } → AllFit after.paced w → EndsHalted after (Same (record { paced = w }) Stop)
+pub halts_with : (after : Run) (w : SharedValue) → w ≡ record after.paced { halted = true } → AllFit after.paced w → EndsHalted after (Same (record { paced = w }) Stop)
 halts_with after w is all = λ r k ready kind same on.
-    let halts : IsSame after.paced w = record { journal = ap (λ (z : World). z.journal.items) is; program = ap (λ (z : World). z.program) is; settings = ap (λ (z : World). z.settings) is; all = all } in
-    (then_same r.paced after.paced same w halts, (ap (λ (z : World). is_over (record { paced = z })) is, λ over. absurd (false≢true (sym on ∙ over))))
+    let halts : IsSame after.paced w = record { journal = ap (λ (z : SharedValue). z.journal.items) is; program = ap (λ (z : SharedValue). z.program) is; settings = ap (λ (z : SharedValue). z.settings) is; all = all } in
+    (then_same r.paced after.paced same w halts, (ap (λ (z : SharedValue). is_over (record { paced = z })) is, λ over. absurd (false≢true (sym on ∙ over))))
 
 -- ---- THE SAME FROM THE VALUE BEFORE PLACE WAS MADE FOR AN ENTRY
 
-module _ (r : Run) (after : World) (e : after ≡ record r.paced { journal = record { items = r.paced.journal.items; room = after.journal.room } }) (all : AllFit r.paced after) (on : is_over r ≡ false) (k : ℕ) (ready : Ready) where
+module _ (r : Run) (after : SharedValue) (e : after ≡ record r.paced { journal = record { items = r.paced.journal.items; room = after.journal.room } }) (all : AllFit r.paced after) (on : is_over r ≡ false) (k : ℕ) (ready : Ready) where
   same_kind : going_kind r.paced k ready ≡ going_kind after k ready
-  same_kind = sym (ap (λ (z : World). going_kind z k ready) e)
+  same_kind = sym (ap (λ (z : SharedValue). going_kind z k ready) e)
 
-  follows_then : (last : World) (next : Next) → Follows after last k ready next → Follows r.paced last k ready next
+  follows_then : (last : SharedValue) (next : Next) → Follows after last k ready next → Follows r.paced last k ready next
   follows_then last (Running part) f = f
   follows_then last (Collects c) f = f
   follows_then last (HasCopied c) f = f
   follows_then last (GoesFor t) f = f
-  follows_then last (Forked left right) f = (f.0, f.1, f.2 ∙ ap (λ (z : World). length (accounts z).machine.tasks) e, f.3)
+  follows_then last (Forked left right) f = (f.0, f.1, f.2 ∙ ap (λ (z : SharedValue). length (accounts z).machine.tasks) e, f.3)
   follows_then last (Resumed t) f = f
   follows_then last Idle f = f
   follows_then last Waits f = f
@@ -140,7 +140,7 @@ module _ (r : Run) (after : World) (e : after ≡ record r.paced { journal = rec
   none_then run (GoesFor t) f = f
   none_then run (Forked left right) f = f
   none_then run (Resumed t) f = f
-  none_then run Idle f = (f.0, f.1, same_kind ∙ f.2, ap (λ (z : World). is_some (refused z (record { worker = k; kind = Took f.1 }))) (sym e) ∙ f.3)
+  none_then run Idle f = (f.0, f.1, same_kind ∙ f.2, ap (λ (z : SharedValue). is_some (refused z (record { worker = k; kind = Took f.1 }))) (sym e) ∙ f.3)
   none_then run Waits f = (f.0, on, f.2, same_kind ∙ f.3)
   none_then run Stop f = (f.0, λ over. absurd (false≢true (sym on ∙ over)))
 
@@ -148,7 +148,7 @@ module _ (r : Run) (after : World) (e : after ≡ record r.paced { journal = rec
   acts_then (Entered run next) A = record {
     made = A.made;
     is_next = same_kind ∙ A.is_next;
-    enters = then_one r.paced after (roomier r.paced after e all) (ap (λ (z : World). z.halted) e) run.paced k A.made A.enters;
+    enters = then_one r.paced after (roomier r.paced after e all) (ap (λ (z : SharedValue). z.halted) e) run.paced k A.made A.enters;
     world = A.world;
     on = A.on;
     follows = follows_then run.paced next A.follows;

@@ -6,8 +6,8 @@ use Rattle.task_machine.specs.declared.part.Private.{Private}
 use Rattle.task_machine.specs.declared.part.Paused.TheVariants.{Shared}
 use Rattle.shared_value.specs.Entered.{refused}
 use Rattle.shared_value.specs.Fits.{AllFit, Fits}
-use Rattle.shared_value.specs.Stands.{IsWorld}
-use Rattle.shared_value.specs.World.{World, accounts}
+use Rattle.shared_value.specs.Stands.{IsSharedValue}
+use Rattle.shared_value.specs.SharedValue.{SharedValue, accounts}
 use Rattle.child_tasks.specs.ChildEnds.{running_parent}
 use Rattle.child_tasks.specs.Hands.{HoldsNone}
 use Rattle.turn_entries.specs.declared.act.Acted.{Acted}
@@ -24,18 +24,18 @@ use Rattle.turn_entries.specs.Values.{EntersOne, IsSame, is_over}
 -- ---- HOW IT GOES ON AFTER ITS ENTRY
 
 -- the run goes on after it
-abbrev pub Goes : World → Type 0
+abbrev pub Goes : SharedValue → Type 0
 Goes after = (accounts after).end ≡ None
 
 -- the worker came with a part whose task has forked or ended, and holds none now
-pub record LeftPart (after : World) (k : ℕ) (ready : Ready) : Type 0 where
+pub record LeftPart (after : SharedValue) (k : ℕ) (ready : Ready) : Type 0 where
   pub part : Private
   pub brought : ready ≡ HasPaused part Shared
   pub none : HoldsNone after k
 
 -- with the part of the task that it holds; with what it came with; with what its step made ready; and it stops only where
 -- the run has ended
-abbrev pub Follows : World → World → ℕ → Ready → Next → Type 0
+abbrev pub Follows : SharedValue → SharedValue → ℕ → Ready → Next → Type 0
 Follows w after k ready (Running part) = Goes after × MayRun after k part
 Follows w after k ready (Collects c) = Goes after × MayCopy after k c
 Follows w after k ready (HasCopied c) = Goes after × (ready ≡ IsCopied c) × Fits after k c.begun.value × WasCopied after.program k c
@@ -57,7 +57,7 @@ pub record MakesEntry (r run : Run) (k : ℕ) (ready : Ready) (kind : Option Kin
   pub made : Kind
   pub is_next : kind ≡ Some made
   pub enters : EntersOne r.paced run.paced k made
-  pub world : IsWorld run.paced
+  pub world : IsSharedValue run.paced
   pub on : run.paced.halted ≡ false
   pub follows : Follows r.paced run.paced k ready next
 
@@ -90,7 +90,7 @@ EndsHalted after acted = (r : Run) (k : ℕ) (ready : Ready) (kind : Option Kind
 
 -- an entry was made by which each part still fits, and the worker goes on with what it came with
 abbrev pub EndsPaid : Run → Ready → Acted → Type 0
-EndsPaid after ready acted = (r : Run) (k : ℕ) (kind : Kind) → IsWorld r.paced → Goes r.paced → is_wanting ready ≡ false → BringsTo r.paced k ready → EntersOne r.paced after.paced k kind → AllFit r.paced after.paced → r.paced.halted ≡ false
+EndsPaid after ready acted = (r : Run) (k : ℕ) (kind : Kind) → IsSharedValue r.paced → Goes r.paced → is_wanting ready ≡ false → BringsTo r.paced k ready → EntersOne r.paced after.paced k kind → AllFit r.paced after.paced → r.paced.halted ≡ false
     → ActsFor r k ready (Some kind) acted
 
 -- the worker makes this entry, whatever it came with

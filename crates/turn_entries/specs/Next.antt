@@ -10,7 +10,7 @@ use Rattle.run_ledger.specs.Pace.{marked_at_once}
 use Rattle.task_machine.specs.declared.part.Private.{Private}
 use Rattle.task_machine.specs.declared.part.Paused.{Paused}
 use Rattle.task_machine.specs.declared.part.Paused.TheVariants.{Due, NeedChunk, Shared, Spent}
-use Rattle.shared_value.specs.World.{World, accounts}
+use Rattle.shared_value.specs.SharedValue.{SharedValue, accounts}
 use Rattle.paced_tree.specs.Owed.{owed_by}
 use Rattle.turn_entries.specs.declared.held.Ready.{Ready}
 use Rattle.turn_entries.specs.declared.held.Ready.TheVariants.{Paused as HasPaused, Copied as IsCopied, Found, Wanting}
@@ -22,18 +22,18 @@ abbrev pub after_steps : Private → Kind → Kind
 after_steps part kind = if part.fresh == 0 then kind else Ran part.task part.fresh
 
 -- a collection that is due is put off where too few chunks are free for it
-abbrev pub due_kind : World → ℕ → Kind
+abbrev pub due_kind : SharedValue → ℕ → Kind
 due_kind w t = if is_pool_enough w.settings (accounts w) t then Begin t else PutOff t
 
 -- the entry that a part's steps have paused for
-abbrev pub paused_kind : World → Private → Paused → Kind
+abbrev pub paused_kind : SharedValue → Private → Paused → Kind
 paused_kind w part Shared = Ran part.task (part.fresh + 1)
 paused_kind w part Spent = Ran part.task part.fresh
 paused_kind w part Due = after_steps part (due_kind w part.task)
 paused_kind w part NeedChunk = after_steps part (Chunk part.task)
 
 -- the entry that a worker comes for; none where it has found no task, or comes for want of memory
-abbrev pub brought_kind : World → Ready → Option Kind
+abbrev pub brought_kind : SharedValue → Ready → Option Kind
 brought_kind w (HasPaused part why) = Some (paused_kind w part why)
 brought_kind w (IsCopied c) = Some (End c.part.task c.moved.taken c.moved.given c.moved.left)
 brought_kind w (Found (Some t)) = Some (Took t)
@@ -41,14 +41,14 @@ brought_kind w (Found None) = None
 brought_kind w Wanting = None
 
 -- what the worker owes comes before that
-abbrev pub owing_kind : World → Owed → Ready → Option Kind
+abbrev pub owing_kind : SharedValue → Owed → Ready → Option Kind
 owing_kind w (OwesMark t) ready = Some (Mark t)
 owing_kind w (OwesMore t) ready = Some (More t marked_at_once)
 owing_kind w (OwesSweep t) ready = Some (Sweep t (sweep_number (accounts w).machine (heap_of (accounts w) t)))
 owing_kind w Nothing ready = brought_kind w ready
 
 -- and the end for spent fuel before all
-abbrev pub going_kind : World → ℕ → Ready → Option Kind
+abbrev pub going_kind : SharedValue → ℕ → Ready → Option Kind
 going_kind w k ready = if nat_le w.settings.fuel (accounts w).steps then Some Fuel else owing_kind w (owed_by w k) ready
 
 abbrev pub is_wanting : Ready → Bool

@@ -2,15 +2,15 @@
 use Rattle.std.specs.Prelude.{◌≡◌, ℕ, ◌≤◌, Option, Some, None}
 use Rattle.std.specs.declared.snapshot.Snapshot.{Snapshot}
 use Rattle.hh_lang.specs.Form.{ProgramText}
-use Rattle.run_trace.specs.Entry.{Event}
+use Rattle.run_trace.specs.Entry.{EntryValue}
 use Rattle.task_machine.specs.declared.part.Private.{Private}
 use Rattle.task_machine.specs.declared.part.Paused.{Paused}
 use Rattle.task_machine.specs.declared.part.Paused.TheVariants.{Spent}
 use Rattle.task_machine.specs.Run.{Pauses}
 use Rattle.shared_value.specs.Fits.{Fits}
 use Rattle.shared_value.specs.LeafBegin.{HasBegun}
-use Rattle.shared_value.specs.Stands.{IsWorld}
-use Rattle.shared_value.specs.World.{World, accounts}
+use Rattle.shared_value.specs.Stands.{IsSharedValue}
+use Rattle.shared_value.specs.SharedValue.{SharedValue, accounts}
 use Rattle.own_steps.specs.Alone.{machine_after}
 use Rattle.leaf_collections.specs.LeafEnd.{FitsCopied}
 use Rattle.turn_lock.specs.declared.view.View.{View}
@@ -25,30 +25,30 @@ use Rattle.turn_entries.specs.declared.run.Setup.{Setup}
 
 -- what a seat knows
 abbrev pub Sight : Type 0
-Sight = View Run Event (Snapshot Private) Setup
+Sight = View Run EntryValue (Snapshot Private) Setup
 
 -- a value that runs this program, and hasn't ended
-pub record GoesOn (p : ProgramText) (w : World) : Type 0 where
-  pub world : IsWorld w
+pub record GoesOn (p : ProgramText) (w : SharedValue) : Type 0 where
+  pub world : IsSharedValue w
   pub program : w.program ≡ p
   pub goes : (accounts w).end ≡ None
 
 -- ---- AT A VALUE
 
 -- the part may take steps
-pub record MayRun (w : World) (k : ℕ) (part : Private) : Type 0 where
+pub record MayRun (w : SharedValue) (k : ℕ) (part : Private) : Type 0 where
   pub fits : Fits w k part
   pub few : part.fresh ≤ 256
   pub idle : part.begun ≡ None
 
 -- the part has taken private steps, as many as one entry holds at most, and this is why they paused
-pub record IsPaused (w : World) (k : ℕ) (part : Private) (why : Paused) : Type 0 where
+pub record IsPaused (w : SharedValue) (k : ℕ) (part : Private) (why : Paused) : Type 0 where
   pub may : MayRun w k part
   pub next : Pauses w.program part (machine_after w part) why
   pub spent : why ≡ Spent → part.fresh ≡ 256
 
 -- the part's leaf collection has begun, and its heap may be copied
-pub record MayCopy (w : World) (k : ℕ) (c : Collecting) : Type 0 where
+pub record MayCopy (w : SharedValue) (k : ℕ) (c : Collecting) : Type 0 where
   pub fits : Fits w k c.part
   pub fresh : c.part.fresh ≡ 0
   pub before : Private
@@ -58,11 +58,11 @@ pub record MayCopy (w : World) (k : ℕ) (c : Collecting) : Type 0 where
 
 -- from the part that was kept this one has come by steps of its own
 abbrev pub HasGrown : ProgramText → ℕ → Private → Private → Paused → Type 0
-HasGrown p k kept part why = (w : World) → GoesOn p w → Fits w k kept → IsPaused w k part why
+HasGrown p k kept part why = (w : SharedValue) → GoesOn p w → Fits w k kept → IsPaused w k part why
 
 -- the part fits for the end of its collection
 abbrev pub WasCopied : ProgramText → ℕ → Copied → Type 0
-WasCopied p k c = (w : World) → GoesOn p w → Fits w k c.begun.value → FitsCopied w k c.part c.moved
+WasCopied p k c = (w : SharedValue) → GoesOn p w → Fits w k c.begun.value → FitsCopied w k c.part c.moved
 
 -- ---- BETWEEN TURNS: p is the program, and k the worker
 
@@ -71,8 +71,8 @@ abbrev pub Keeps : Option (Snapshot Private) → Private → Type 0
 Keeps o part = (s : Snapshot Private) × (o ≡ Some s) × (s.value ≡ part)
 
 -- what was kept fits some value
-abbrev pub AtSome : ProgramText → (World → Type 0) → Type 0
-AtSome p Here = (w : World) × GoesOn p w × Here w
+abbrev pub AtSome : ProgramText → (SharedValue → Type 0) → Type 0
+AtSome p Here = (w : SharedValue) × GoesOn p w × Here w
 
 -- what the worker goes on with after its turn
 abbrev pub GoesWith : ProgramText → ℕ → Sight → Next → Type 0
@@ -90,13 +90,13 @@ ComesWith p k v _ = Unit {0}
 -- ---- IN A TURN
 
 -- the same where the worker has the value w
-abbrev pub BringsTo : World → ℕ → Ready → Type 0
+abbrev pub BringsTo : SharedValue → ℕ → Ready → Type 0
 BringsTo w k (HasPaused part why) = (kept : Private) × Fits w k kept × HasGrown w.program k kept part why
 BringsTo w k (IsCopied c) = Fits w k c.begun.value × WasCopied w.program k c
 BringsTo w k _ = Unit {0}
 
 -- what it may go on with where it gives this value back
-abbrev pub TakesFrom : World → ℕ → Next → Type 0
+abbrev pub TakesFrom : SharedValue → ℕ → Next → Type 0
 TakesFrom w k (Running part) = ((accounts w).end ≡ None) × MayRun w k part
 TakesFrom w k (Collects c) = ((accounts w).end ≡ None) × MayCopy w k c
 TakesFrom w k (HasCopied c) = Fits w k c.begun.value × WasCopied w.program k c

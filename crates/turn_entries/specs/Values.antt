@@ -1,22 +1,22 @@
 -- The shared value in turns, as the turn is told of it.
 use Rattle.std.specs.Prelude.{◌≡◌, ◌<◌, ℕ, ◌||◌, Bool, false, None, List, is_some}
 use Rattle.std.specs.declared.snapshot.Snapshot.{Snapshot}
-use Rattle.run_trace.specs.Entry.{Event}
+use Rattle.run_trace.specs.Entry.{EntryValue}
 use Rattle.run_trace.specs.declared.entry.Kind.{Kind}
 use Rattle.run_ledger.specs.declared.data.Owed.{Owed}
 use Rattle.task_machine.specs.declared.part.Private.{Private}
 use Rattle.shared_value.specs.Causes.{first_cause}
 use Rattle.shared_value.specs.Entered.{Enters}
 use Rattle.shared_value.specs.Fits.{AllFit, Fits, OthersFit}
-use Rattle.shared_value.specs.World.{World, accounts}
+use Rattle.shared_value.specs.SharedValue.{SharedValue, accounts}
 use Rattle.paced_tree.specs.Owed.{owed_by}
 use Rattle.turn_entries.specs.declared.run.Run.{Run}
 use Rattle.turn_entries.specs.declared.run.Setup.{Setup}
 
-abbrev pub worker_of : Event → ℕ
+abbrev pub worker_of : EntryValue → ℕ
 worker_of e = e.worker
 
-abbrev pub journal_of : Run → List Event
+abbrev pub journal_of : Run → List EntryValue
 journal_of r = r.paced.journal.items
 
 abbrev pub setup_of : Run → Setup
@@ -31,7 +31,7 @@ abbrev pub is_over : Run → Bool
 is_over r = r.paced.halted || is_some (accounts r.paced).end
 
 -- worker k may make an entry, for which there is room, and owes this
-pub record MayEnter (w : World) (k : ℕ) (owes : Owed) : Type 0 where
+pub record MayEnter (w : SharedValue) (k : ℕ) (owes : Owed) : Type 0 where
   pub room : 0 < w.journal.room
   pub goes : (accounts w).end ≡ None
   pub on : w.halted ≡ false
@@ -39,13 +39,13 @@ pub record MayEnter (w : World) (k : ℕ) (owes : Owed) : Type 0 where
   pub owed : owed_by w k ≡ owes
 
 -- no entry was made, and all is the same that workers rest on
-pub record IsSame (w after : World) : Type 0 where
+pub record IsSame (w after : SharedValue) : Type 0 where
   pub journal : after.journal.items ≡ w.journal.items
   pub program : after.program ≡ w.program
   pub settings : after.settings ≡ w.settings
   pub all : AllFit w after
 
 -- worker k made this entry
-pub record EntersOne (w after : World) (k : ℕ) (kind : Kind) : Type 0 where
+pub record EntersOne (w after : SharedValue) (k : ℕ) (kind : Kind) : Type 0 where
   pub enters : Enters w after (record { worker = k; kind = kind })
   pub others : OthersFit w after k

@@ -5,7 +5,7 @@ ghost use Rattle.run_ledger.specs.declared.data.Owed.{Owed as OwedOf};
 ghost use Rattle.run_ledger.specs.Heaps.{heap_of, sweep_number};
 ghost use Rattle.run_ledger.specs.Pace.{marked_at_once};
 ghost use Rattle.shared_value.specs.Causes.{first_cause};
-ghost use Rattle.shared_value.specs.World.{accounts};
+ghost use Rattle.shared_value.specs.SharedValue.{accounts};
 ghost use Rattle.turn_entries.specs.Acts.{ActsAnyhow, ActsFor, EndsPaid};
 ghost use Rattle.turn_entries.specs.Next.{is_wanting};
 ghost use Rattle.turn_entries.specs.Parts.{next_after, BringsTo};

@@ -1,8 +1,8 @@
 -- What is shown of an input: a picture, or why the input is refused, in the words of hheap.
 use Rattle.std.specs.Prelude.{◌≡◌, ℕ, Option, Some, None, List, [], ◌∷◌, codes}
 use Rattle.hh_lang.specs.Form.{ProgramText}
-use Rattle.run_trace.specs.Settings.{Limits}
-use Rattle.run_trace.specs.Entry.{Event}
+use Rattle.run_trace.specs.Settings.{SettingsValue}
+use Rattle.run_trace.specs.Entry.{EntryValue}
 use Rattle.run_ledger.specs.declared.data.RefusedAt.{RefusedAt}
 use Rattle.run_ledger.specs.Journals.{refused_as_run}
 use Rattle.run_ledger.specs.Text.{end_line}
@@ -57,11 +57,11 @@ abbrev pub SaysSchedules : Option Clashes → Shown → Type 0
 SaysSchedules None = Says Trace not_whole
 SaysSchedules (Some c) = Says (status_of_verdict (verdict_of c)) (clashes_text c)
 
-abbrev pub ShowsSchedules : ProgramText → Limits → List Event → Shown → Type 0
+abbrev pub ShowsSchedules : ProgramText → SettingsValue → List EntryValue → Shown → Type 0
 ShowsSchedules p s journal w = (answer : Option Clashes) × IsAnswer p s journal answer × SaysSchedules answer w
 
 -- what each view shows of a run
-abbrev pub ShowsJournal : RunView → ProgramText → Limits → List Event → Shown → Type 0
+abbrev pub ShowsJournal : RunView → ProgramText → SettingsValue → List EntryValue → Shown → Type 0
 ShowsJournal Timeline p s journal = Says Done (timeline p s journal)
 ShowsJournal Tasks p s journal = Says Done (table p s journal)
 ShowsJournal Schedules p s journal = ShowsSchedules p s journal
@@ -71,15 +71,15 @@ abbrev pub ShowsWhole : (Shown → Type 0) → Option RefusedAt → Shown → Ty
 ShowsWhole P None = P
 ShowsWhole P (Some r) = Refuses (Entry r)
 
-abbrev pub ShowsTrace : RunView → Limits → TraceInput → Shown → Type 0
+abbrev pub ShowsTrace : RunView → SettingsValue → TraceInput → Shown → Type 0
 ShowsTrace v s t = ShowsWhole (ShowsJournal v t.program (limits_for s t) t.trace.entries) (refused_as_run t.program (limits_for s t) t.trace.entries)
 
 -- of a program with a trace, or its first fault
-abbrev pub ShowsInput : RunView → Limits → List ℕ → Option InputFault → Shown → Type 0
+abbrev pub ShowsInput : RunView → SettingsValue → List ℕ → Option InputFault → Shown → Type 0
 ShowsInput v s input None w = (t : TraceInput) × IsInput input t × ShowsTrace v s t w
 ShowsInput v s input (Some f) w = Refuses (refusal_of f) w
 
-abbrev pub ShowsRun : RunView → Limits → List ℕ → Shown → Type 0
+abbrev pub ShowsRun : RunView → SettingsValue → List ℕ → Shown → Type 0
 ShowsRun v s input = ShowsInput v s input (input_fault input)
 
 -- ALL

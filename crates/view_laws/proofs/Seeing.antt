@@ -11,17 +11,17 @@ use Rattle.hh_model.specs.Step.{run_from, start, step}
 use Rattle.hh_model.proofs.Carried.{named_from_in}
 use Rattle.hh_model.proofs.Frozen.{run_upward}
 use Rattle.hh_model.proofs.Objects.{objects_stay}
-use Rattle.run_trace.specs.Entry.{Event}
-use Rattle.run_trace.specs.Settings.{Limits}
+use Rattle.run_trace.specs.Entry.{EntryValue}
+use Rattle.run_trace.specs.Settings.{SettingsValue}
 use Rattle.run_ledger.specs.declared.data.Ledger.{Ledger}
 use Rattle.run_ledger.specs.Journals.{ledger_of}
 use Rattle.run_ledger.specs.Sound.{Keeps, SoundLedger, collecting}
 use Rattle.run_ledger.specs.Steps.{task_steps}
 use Rattle.run_ledger.proofs.Steps.{task_steps_sound}
-use Rattle.ledger_steps.specs.Accounts.{Rests}
-use Rattle.ledger_steps.proofs.Known.{legal_knows}
+use Rattle.ledger_step_laws.specs.Accounts.{Rests}
+use Rattle.ledger_step_laws.proofs.Known.{legal_knows}
 use Rattle.object_layout.specs.Objects.{Located}
-use Rattle.core_relation.specs.Value.{Chunk, In, Value, objects}
+use Rattle.core_relation.specs.Memory.{Chunk, In, Memory, objects}
 use Rattle.core_relation.specs.Stands.{HomeStands}
 use Rattle.core_relation.proofs.objects.Members.{in_chunk}
 use Rattle.task_machine.specs.Run.{Runs}
@@ -60,7 +60,7 @@ seen_names_are_held p s journal t k legal c x n m by is i leads =
 -- ---- LEVELS
 
 -- the chunk in which an object of a home lies is its task's
-lies_own : (v : Value) (l : Ledger) (u : ℕ) (o : Located) → HomeStands v l u → In (objects v u) o → v.owner o.at.chunk ≡ Some u
+lies_own : (v : Memory) (l : Ledger) (u : ℕ) (o : Located) → HomeStands v l u → In (objects v u) o → v.owner o.at.chunk ≡ Some u
 lies_own v l u o H i =
     let c = in_chunk (v.homes u).chunks o i in
     ap v.owner (H.inside c.0 o c.1 c.2) ∙ H.owned c.0 c.1

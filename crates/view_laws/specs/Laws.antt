@@ -10,20 +10,20 @@ use Rattle.hh_model.specs.declared.data.Task.{Task}
 use Rattle.hh_model.specs.Effect.{object_at}
 use Rattle.hh_model.specs.Names.{task_names}
 use Rattle.hh_model.specs.Step.{is_joined, is_on_path, is_waiting, owner_of, run}
-use Rattle.run_trace.specs.Entry.{Event}
-use Rattle.run_trace.specs.Settings.{Limits}
+use Rattle.run_trace.specs.Entry.{EntryValue}
+use Rattle.run_trace.specs.Settings.{SettingsValue}
 use Rattle.run_ledger.specs.declared.data.Ledger.{Ledger}
 use Rattle.run_ledger.specs.Journals.{is_legal, ledger_of}
 use Rattle.run_ledger.specs.Sound.{Keeps, collecting}
 use Rattle.run_ledger.specs.Steps.{task_steps}
-use Rattle.ledger_steps.specs.Accounts.{Rests}
+use Rattle.ledger_step_laws.specs.Accounts.{Rests}
 use Rattle.object_layout.specs.Objects.{Located}
-use Rattle.core_relation.specs.Value.{Chunk, In, Value, objects}
+use Rattle.core_relation.specs.Memory.{Chunk, In, Memory, objects}
 use Rattle.core_relation.specs.Stands.{HasNumber, Stands}
 use Rattle.task_machine.specs.declared.part.Private.{Private}
 use Rattle.task_machine.specs.Run.{Ran, Runs}
-use Rattle.shared_value.specs.World.{World, accounts, value_of}
-use Rattle.shared_value.specs.Stands.{IsWorld}
+use Rattle.shared_value.specs.SharedValue.{SharedValue, accounts, value_of}
+use Rattle.shared_value.specs.Stands.{IsSharedValue}
 use Rattle.shared_value.specs.Fits.{Fits, OthersFit, beyond}
 use Rattle.shared_value.specs.Links.{above_of}
 
@@ -51,7 +51,7 @@ LeadTo store n (m ∷ ms) k = (o : Object) × (object_at store n ≡ Some o) × 
 -- name to which references lead from those that the task holds
 abbrev pub SeenNamesAreHeld : Type 0
 SeenNamesAreHeld =
-    (p : ProgramText) (s : Limits) (journal : List Event) (t k : ℕ) → is_legal p s journal ≡ true → (k ≡ 0) ⊎ (collecting (slice_get (ledger_of p s journal).heaps t) ≡ false)
+    (p : ProgramText) (s : SettingsValue) (journal : List EntryValue) (t k : ℕ) → is_legal p s journal ≡ true → (k ≡ 0) ⊎ (collecting (slice_get (ledger_of p s journal).heaps t) ≡ false)
     → let l : Ledger = task_steps p (ledger_of p s journal) t k in
     (x : Task) (n m : Name) (by : List Name) → slice_get l.machine.tasks t ≡ Some x → InList (task_names x) n → LeadTo l.machine.store n by m → Keeps l.heaps m
 
@@ -59,7 +59,7 @@ SeenNamesAreHeld =
 
 -- u, which waits above t, has given a level of its view, behind which stand just those that u sees; an object of u's lies in no
 -- chunk that a nearer level has, and in none of t's own
-pub record IsApart (v : Value) (u t : ℕ) : Type 0 where
+pub record IsApart (v : Memory) (u t : ℕ) : Type 0 where
   pub place : ℕ
   pub behind : drop (suc place) (v.homes t).view ≡ (v.homes u).view
   pub levels : (i : ℕ) (level : List Chunk) (o : Located) → i < place → slice_get (v.homes t).view i ≡ Some level → HasNumber level o.at.chunk → In (objects v u) o → ⊥
@@ -67,17 +67,17 @@ pub record IsApart (v : Value) (u t : ℕ) : Type 0 where
 
 abbrev pub LevelsAreApart : Type 0
 LevelsAreApart =
-    (v : Value) (l : Ledger) (t u : ℕ) → Stands v l → Rests l t → is_joined (slice_get l.machine.tasks t) ≡ false
+    (v : Memory) (l : Ledger) (t u : ℕ) → Stands v l → Rests l t → is_joined (slice_get l.machine.tasks t) ≡ false
     → is_on_path l.machine.tasks u t ≡ true → u ≢ t → is_waiting (slice_get l.machine.tasks u) ≡ true → Rests l u → IsApart v u t
 
 -- ---- READS
 
 -- the steps that made q of p are those of the machine after this journal
-abbrev pub AreSteps : World → Private → ℕ → Private → Type 0
+abbrev pub AreSteps : SharedValue → Private → ℕ → Private → Type 0
 AreSteps w p n q = Ran w.program p (beyond w.program (accounts w) p).machine (above_of (value_of w) (accounts w) p.task) n q
 
 -- so they are before and after an entry of another worker
 abbrev pub ReadsStay : Type 0
 ReadsStay =
-    (w after : World) (k other : ℕ) (p q : Private) (n : ℕ) → IsWorld w → IsWorld after → (accounts w).end ≡ None → (accounts after).end ≡ None → after.program ≡ w.program
+    (w after : SharedValue) (k other : ℕ) (p q : Private) (n : ℕ) → IsSharedValue w → IsSharedValue after → (accounts w).end ≡ None → (accounts after).end ≡ None → after.program ≡ w.program
     → OthersFit w after other → k ≢ other → Fits w k p → Runs w.program p n q → AreSteps w p n q × AreSteps after p n q

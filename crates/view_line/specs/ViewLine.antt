@@ -4,7 +4,7 @@ use Rattle.std.specs.Str.{bytes_eq}
 use Rattle.clap.specs.Words.{Row, Text, fault_of, first_of, matches_of}
 use Rattle.clap.specs.Walk.{is_empty}
 use Rattle.image_check.specs.Line.{short_number}
-use Rattle.run_trace.specs.Settings.{Limits}
+use Rattle.run_trace.specs.Settings.{SettingsValue}
 use Rattle.command_line.specs.CommandLine.{command_line, file_in}
 use Rattle.command_line.specs.declared.line.CommandLine.{CommandLine}
 use Rattle.command_line.specs.declared.line.CommandLine.TheVariants.{Races}
@@ -15,7 +15,7 @@ use Rattle.view_line.specs.App.{heaps_app}
 
 -- a program with a trace: the file, if one is named, and the limits of its run
 abbrev pub Run : Type 0
-Run = Option Text × Limits
+Run = Option Text × SettingsValue
 
 -- the usage; the heaps of an image, those on the path to a task, and object by object up to so many objects; the
 -- timeline, or the tasks, of a run; what it says of all schedules

@@ -1,32 +1,32 @@
 -- The copy of a part whose collection has begun.
 use Rattle.std.proofs.Common.{◌≡◌, ℕ, All, List, map, ap, sym, subst, ◌∙◌}
 use Rattle.hh_lang.specs.Form.{ProgramText}
-use Rattle.object_layout.specs.Content.{Content}
-use Rattle.alloc_path.specs.Heap.{Heap}
-use Rattle.task_frames.specs.Stack.{Stack}
+use Rattle.object_layout.specs.ChunkValue.{ChunkValue}
+use Rattle.alloc_path.specs.LeafHeapValue.{LeafHeapValue}
+use Rattle.task_frames.specs.FramesValue.{FramesValue}
 use Rattle.leaf_copy_gc.specs.declared.lists.Moved.{Moved}
 use Rattle.leaf_copy_gc.specs.declared.lists.ToChunks.{ToChunks}
 use Rattle.leaf_copy_gc.specs.Laws.{CanTake}
 use Rattle.leaf_copy_gc.specs.Lists.{IsCollected}
 use Rattle.leaf_copy_gc.specs.Survivors.{IsSound, as_reference}
-use Rattle.ledger_steps.specs.Accounts.{aside}
+use Rattle.ledger_step_laws.specs.Accounts.{aside}
 use Rattle.task_machine.specs.declared.part.Begun.{Begun}
 use Rattle.task_machine.specs.declared.part.Private.{Private}
 use Rattle.shared_value.specs.Fits.{Fits}
 use Rattle.shared_value.specs.LeafBegin.{HasBegun, number_of}
-use Rattle.shared_value.specs.World.{World, accounts, value_of}
+use Rattle.shared_value.specs.SharedValue.{SharedValue, accounts, value_of}
 use Rattle.shared_value.proofs.StepsEntered.{status}
 use Rattle.leaf_collections.specs.LeafEnd.{FitsCopied}
-use Rattle.copied_part.specs.Copied.{CanCopy}
-use Rattle.copied_part.specs.Handed.{IsCopying}
-use Rattle.copied_part.proofs.CopyBegins.{begun_is_copying}
-use Rattle.copied_part.proofs.CopyHanded.{begun, copied_fits}
-use Rattle.copied_part.proofs.CopySays.{begun_can_copy}
+use Rattle.copied_part_laws.specs.Copied.{CanCopy}
+use Rattle.copied_part_laws.specs.Handed.{IsCopying}
+use Rattle.copied_part_laws.proofs.CopyBegins.{begun_is_copying}
+use Rattle.copied_part_laws.proofs.CopyHanded.{begun, copied_fits}
+use Rattle.copied_part_laws.proofs.CopySays.{begun_can_copy}
 use Rattle.turn_entries.specs.declared.held.Collecting.{Collecting}
 use Rattle.turn_entries.specs.Parts.{GoesOn, MayCopy}
 
-module _ (p : ProgramText) (w : World) (k : ℕ) (c : Collecting) (G : GoesOn p w) (M : MayCopy w k c) where
-  abbrev news : List Content
+module _ (p : ProgramText) (w : SharedValue) (k : ℕ) (c : Collecting) (G : GoesOn p w) (M : MayCopy w k c) where
+  abbrev news : List ChunkValue
   news = c.to_chunks.chunks.items
 
   abbrev b : Begun
@@ -44,15 +44,15 @@ module _ (p : ProgramText) (w : World) (k : ℕ) (c : Collecting) (G : GoesOn p 
       (begun w k c.part b news copying) M.fits.fits.is (status w k c.part G.world M.fits G.goes)
       (subst (λ ks. All (IsSound ks) (map as_reference c.roots.items)) (sym (ap (λ (q : Private). q.heap.chunks) M.begun.part)) M.begun.sound)
 
-  pub copied : (h' : Heap) (frames' : Stack) (moved : Moved) → IsCollected c.part.heap c.part.frames c.roots.items news h' frames' moved → FitsCopied w k (record c.part { heap = h'; frames = frames' }) moved
+  pub copied : (h' : LeafHeapValue) (frames' : FramesValue) (moved : Moved) → IsCollected c.part.heap c.part.frames c.roots.items news h' frames' moved → FitsCopied w k (record c.part { heap = h'; frames = frames' }) moved
   copied h' frames' moved D = copied_fits w k c.part b news copying h' frames' moved D
 
 -- the same at another value
-pub may_copy_at : (w z : World) (k : ℕ) (c : Collecting) (part : Private) → MayCopy w k c → part ≡ c.part → Fits z k part → MayCopy z k c
+pub may_copy_at : (w z : SharedValue) (k : ℕ) (c : Collecting) (part : Private) → MayCopy w k c → part ≡ c.part → Fits z k part → MayCopy z k c
 may_copy_at w z k c part M e f = record { fits = subst (Fits z k) e f; fresh = M.fresh; before = M.before; begun = M.begun }
 
 -- the same out of the blocks
-pub may_copy_out : (w : World) (k : ℕ) (c : Collecting) (part : Private) (to : ToChunks) → part ≡ c.part → to ≡ c.to_chunks → MayCopy w k c → MayCopy w k (record { part = part; roots = c.roots; to_chunks = to })
+pub may_copy_out : (w : SharedValue) (k : ℕ) (c : Collecting) (part : Private) (to : ToChunks) → part ≡ c.part → to ≡ c.to_chunks → MayCopy w k c → MayCopy w k (record { part = part; roots = c.roots; to_chunks = to })
 may_copy_out w k c part to e f M = record {
   fits = subst (Fits w k) (sym e) M.fits;
   fresh = ap (λ (q : Private). q.fresh) e ∙ M.fresh;

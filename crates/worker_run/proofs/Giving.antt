@@ -3,13 +3,13 @@ use Rattle.std.proofs.Common.{◌≡◌, inl, inr, ℕ, suc, ◌+◌, ◌^◌, �
 use Rattle.std.specs.declared.snapshot.Snapshot.{Snapshot}
 use Rattle.atomic_table.specs.Seated.{TableId}
 use Rattle.hh_lang.specs.Form.{ProgramText}
-use Rattle.run_trace.specs.Entry.{Event}
-use Rattle.run_trace.specs.Settings.{Limits}
+use Rattle.run_trace.specs.Entry.{EntryValue}
+use Rattle.run_trace.specs.Settings.{SettingsValue}
 use Rattle.run_trace.specs.declared.entry.Kind.{Kind}
 use Rattle.task_machine.specs.declared.part.Private.{Private}
 use Rattle.shared_value.specs.Fits.{Fits}
-use Rattle.shared_value.specs.Stands.{IsWorld}
-use Rattle.shared_value.specs.World.{World}
+use Rattle.shared_value.specs.Stands.{IsSharedValue}
+use Rattle.shared_value.specs.SharedValue.{SharedValue}
 use Rattle.turn_lock.specs.Journal.{entries_by}
 use Rattle.turn_lock.specs.Seats.{view, Extends, GaveOne, HasNoTurn, HasTurn, IsAlike, Knows, SameWorker, own_entries, with_taken}
 use Rattle.turn_lock.proofs.Laws.{own_of_taken}
@@ -32,7 +32,7 @@ some_one : {A : Type 0} (a b : A) → Some a ≡ Some b → a ≡ b
 some_one a b e = ap (λ o. unwrap_or o a) e
 
 -- of a worker's entries there are no more
-own_within : (w : ℕ) (es : List Event) → length (entries_by worker_of w es) ≤ length es
+own_within : (w : ℕ) (es : List EntryValue) → length (entries_by worker_of w es) ≤ length es
 own_within w [] = omega arith
 own_within w (e ∷ es) = by (worker_of e == w) (own_within w es)
   where
@@ -41,10 +41,10 @@ own_within w (e ∷ es) = by (worker_of e == w) (own_within w es)
     by false h = omega (arith, h)
 
 same_setup : (a b : Run) → b.paced.program ≡ a.paced.program → b.paced.settings ≡ a.paced.settings → setup_of b ≡ setup_of a
-same_setup a b p s = ap₂ (λ (x : ProgramText) (y : Limits). record { program = x; settings = y }) p s
+same_setup a b p s = ap₂ (λ (x : ProgramText) (y : SettingsValue). record { program = x; settings = y }) p s
 
-pub same_text : (w : World) (p : ProgramText) (s : Limits) → w.program ≡ p → w.settings ≡ s → ◌≡◌ {A = Setup} (record { program = w.program; settings = w.settings }) (record { program = p; settings = s })
-same_text w p s a b = ap₂ (λ (x : ProgramText) (y : Limits). record { program = x; settings = y }) a b
+pub same_text : (w : SharedValue) (p : ProgramText) (s : SettingsValue) → w.program ≡ p → w.settings ≡ s → ◌≡◌ {A = Setup} (record { program = w.program; settings = w.settings }) (record { program = p; settings = s })
+same_text w p s a b = ap₂ (λ (x : ProgramText) (y : SettingsValue). record { program = x; settings = y }) a b
 
 -- ---- THE TURN IS TAKEN: v is what the seat knew
 module _ (p : ProgramText) (d : Desk) (value : Run) (v : Sight) (K : Knows journal_of worker_of FitsKept setup_of value v) (number : v.worker ≡ d.worker) (under : v.setup ≡ Some (record { program = p; settings = d.settings })) where
@@ -58,7 +58,7 @@ module _ (p : ProgramText) (d : Desk) (value : Run) (v : Sight) (K : Knows journ
   settings_taken = ap (λ (s : Setup). s.settings) setup_taken
 
   pub worker_taken : d.worker < d.settings.workers → d.worker < value.paced.settings.workers
-  worker_taken below = let e : value.paced.settings.workers ≡ d.settings.workers = ap (λ (s : Limits). s.workers) settings_taken in omega (arith, e, below)
+  worker_taken below = let e : value.paced.settings.workers ≡ d.settings.workers = ap (λ (s : SettingsValue). s.workers) settings_taken in omega (arith, e, below)
 
   kept_fits : (part : Private) → Keeps v.part part → Fits value.paced d.worker part
   kept_fits part k = subst (λ (n : ℕ). Fits value.paced n part) number (subst (Fits value.paced v.worker) k.2 (K.part k.0 k.1))
@@ -71,7 +71,7 @@ module _ (p : ProgramText) (d : Desk) (value : Run) (v : Sight) (K : Knows journ
 
 -- an entry was made
 pub has_entry : (z : TableId) (p : ProgramText) (d e : Desk) (taken value : Run) → IsDesk z p d → e ≡ record d { seat = e.seat } → HasTurn z e.seat taken → view e.seat ≡ with_taken (view d.seat) taken
-    → Knows journal_of worker_of FitsKept setup_of taken (view d.seat) → (kind : Kind) → EntersOne taken.paced value.paced d.worker kind → IsWorld value.paced → HasEntry z p e value
+    → Knows journal_of worker_of FitsKept setup_of taken (view d.seat) → (kind : Kind) → EntersOne taken.paced value.paced d.worker kind → IsSharedValue value.paced → HasEntry z p e value
 has_entry z p d e taken value D is turn sees K kind enters world = subst (λ (x : Desk). HasEntry z p x value) (sym is) (record {
   taken = taken;
   turn = turn;
@@ -146,7 +146,7 @@ pub alike : (taken value : Run) → IsSame taken.paced value.paced → IsAlike j
 alike taken value S = record { same_journal = S.journal; fit = λ w s f. S.all w s.value f; same_setup = same_setup taken value S.program S.settings }
 
 -- what the worker goes on with after its entry, and after none
-pub takes_from : (w after : World) (k : ℕ) (ready : Ready) (next : Next) → Follows w after k ready next → TakesFrom after k next
+pub takes_from : (w after : SharedValue) (k : ℕ) (ready : Ready) (next : Next) → Follows w after k ready next → TakesFrom after k next
 takes_from w after k ready (Running part) f = f
 takes_from w after k ready (Collects c) f = f
 takes_from w after k ready (HasCopied c) f = (f.2, f.3)

@@ -5,13 +5,13 @@ use Rattle.std.proofs.lemmas.List.{map-append, length-map}
 use Rattle.atomic_table.specs.Seated.{TableId}
 use Rattle.atomic_table.specs.declared.shared.Seat.{Seat}
 use Rattle.hh_lang.specs.Form.{ProgramText}
-use Rattle.run_trace.specs.Entry.{Event}
-use Rattle.run_trace.specs.Settings.{Limits}
+use Rattle.run_trace.specs.Entry.{EntryValue}
+use Rattle.run_trace.specs.Settings.{SettingsValue}
 use Rattle.run_ledger.specs.declared.data.RunEnd.{RunEnd}
 use Rattle.run_ledger.specs.Journals.{end_of, is_legal}
 use Rattle.run_ledger.specs.Pace.{is_paced}
-use Rattle.shared_value.specs.Stands.{IsWorld}
-use Rattle.shared_value.specs.World.{World, accounts}
+use Rattle.shared_value.specs.Stands.{IsSharedValue}
+use Rattle.shared_value.specs.SharedValue.{SharedValue, accounts}
 use Rattle.turn_lock.specs.Journal.{entries_by}
 use Rattle.turn_lock.specs.Seats.{view, HasNoTurn, HasOwnEntries, SameWorker, AreNewSeats, AreAllSeats, IsLeftBy}
 use Rattle.turn_lock.proofs.Laws.{first_there, new_are_all, kept_are_all}
@@ -46,7 +46,7 @@ pub rest_of : {A : Type 0} (l : List A) (x : A) → 0 < length l → x ≡ get_o
 rest_of [] x h e k y at = absurd (omega arith)
 rest_of (z ∷ zs) x h e k y at = at
 
-pub none_new : (s : Limits) → AreNewDesks s []
+pub none_new : (s : SettingsValue) → AreNewDesks s []
 none_new s = λ k d at. absurd (some_apart d at)
 
 pub none_left : {A : Type 0} (l : List A) → length l ≡ 0 → l ≡ []
@@ -80,7 +80,7 @@ abbrev seat_of : Desk → Chair
 seat_of d = d.seat
 
 -- all desks after calls of which each left its desk in order
-pub kept_desks : (z : TableId) (p : ProgramText) (s : Limits) (before after : List Desk) → AreAllDesks z p s before → length after ≡ length before
+pub kept_desks : (z : TableId) (p : ProgramText) (s : SettingsValue) (before after : List Desk) → AreAllDesks z p s before → length after ≡ length before
     → ((k : ℕ) (d e : Desk) → slice_get before k ≡ Some d → slice_get after k ≡ Some e → IsDesk z p e × SameDesk d e) → AreAllDesks z p s after
 kept_desks z p s before after all long kept = record {
   count = long ∙ all.count;
@@ -95,7 +95,7 @@ kept_desks z p s before after all long kept = record {
     SameWorkerOf x t = SameWorker (view x) (view t)
 
 -- the desks of new seats
-pub new_desks : (z : TableId) (v : Sight) (n : ℕ) (p : ProgramText) (s : Limits) (seats : List Chair) (desks : List Desk) → 0 < n → n ≡ s.workers → s.workers < 2 ^ 32 → v.seen ≡ [] → v.joined ≡ [] → v.setup ≡ Some (record { program = p; settings = s }) → AreNewSeats z v n seats
+pub new_desks : (z : TableId) (v : Sight) (n : ℕ) (p : ProgramText) (s : SettingsValue) (seats : List Chair) (desks : List Desk) → 0 < n → n ≡ s.workers → s.workers < 2 ^ 32 → v.seen ≡ [] → v.joined ≡ [] → v.setup ≡ Some (record { program = p; settings = s }) → AreNewSeats z v n seats
     → map (λ d. d.seat) desks ≡ seats → AreNewDesks s desks → AreAllDesks z p s desks
 new_desks z v n p s seats desks some workers few none_seen none_joined under new same fresh = record {
   count = sym (length-map desks seat_of) ∙ (ap length same ∙ (new.0 ∙ workers));
@@ -104,11 +104,11 @@ new_desks z v n p s seats desks some workers few none_seen none_joined under new
     record {
       idle = t.0;
       number = ap (λ (u : Sight). u.worker) t.1 ∙ sym f.0;
-      under = ap (λ (u : Sight). u.setup) t.1 ∙ (under ∙ ap (λ (x : Limits). Some (record { program = p; settings = x })) (sym f.1));
-      below = (let h = slice_get_within desks k d e in let m = sym (length-map desks seat_of) ∙ (ap length same ∙ new.0) in let a = f.0 in let b : d.settings.workers ≡ s.workers = ap (λ (x : Limits). x.workers) f.1 in omega (arith, h, m, workers, a, b));
-      few = (let b : d.settings.workers ≡ s.workers = ap (λ (x : Limits). x.workers) f.1 in omega (arith, few, b));
+      under = ap (λ (u : Sight). u.setup) t.1 ∙ (under ∙ ap (λ (x : SettingsValue). Some (record { program = p; settings = x })) (sym f.1));
+      below = (let h = slice_get_within desks k d e in let m = sym (length-map desks seat_of) ∙ (ap length same ∙ new.0) in let a = f.0 in let b : d.settings.workers ≡ s.workers = ap (λ (x : SettingsValue). x.workers) f.1 in omega (arith, h, m, workers, a, b));
+      few = (let b : d.settings.workers ≡ s.workers = ap (λ (x : SettingsValue). x.workers) f.1 in omega (arith, few, b));
       gave = f.2 ∙ ap length (sym (nothing k d e));
-      thieves = f.3 ∙ ap (λ (x : Limits). x.workers) (sym f.1);
+      thieves = f.3 ∙ ap (λ (x : SettingsValue). x.workers) (sym f.1);
     },
     f.0,
     f.1,
@@ -119,11 +119,11 @@ new_desks z v n p s seats desks some workers few none_seen none_joined under new
     at k d e = ap (λ l. slice_get l k) (sym same) ∙ to_place seat_of desks k d e
 
     nothing : (k : ℕ) (d : Desk) → slice_get desks k ≡ Some d → entries_of d ≡ []
-    nothing k d e = ap (λ (l : List Event). entries_by worker_of (view d.seat).worker l) (ap (λ (u : Sight). u.seen) (new.1 k d.seat (at k d e)).1 ∙ none_seen)
+    nothing k d e = ap (λ (l : List EntryValue). entries_by worker_of (view d.seat).worker l) (ap (λ (u : Sight). u.seen) (new.1 k d.seat (at k d e)).1 ∙ none_seen)
 
 -- ---- THE VALUE AT THE END
 
-module _ (z : TableId) (p : ProgramText) (s : Limits) (desks : List Desk) (seats : List Chair) (value : Run) (all : AreAllDesks z p s desks) (is : seats ≡ map (λ d. d.seat) desks) where
+module _ (z : TableId) (p : ProgramText) (s : SettingsValue) (desks : List Desk) (seats : List Chair) (value : Run) (all : AreAllDesks z p s desks) (is : seats ≡ map (λ d. d.seat) desks) where
   seat_there : (k : ℕ) (d : Desk) → slice_get desks k ≡ Some d → slice_get seats k ≡ Some d.seat
   seat_there k d e = ap (λ (l : List Chair). slice_get l k) is ∙ to_place seat_of desks k d e
 
@@ -139,7 +139,7 @@ module _ (z : TableId) (p : ProgramText) (s : Limits) (desks : List Desk) (seats
   setup_at_end : IsLeftBy journal_of worker_of FitsKept setup_of value seats → setup_of value ≡ record { program = p; settings = s }
   setup_at_end left =
       let some = all.seats.some_seat in let long = length-map desks seat_of in let d = first_there desks (omega (arith, some, long)) in
-      some_one (setup_of value) _ (sym (left.same_setup d.0.seat (seat_there 0 d.0 d.1)) ∙ ((all.each_desk 0 d.0 d.1).0.under ∙ ap (λ (x : Limits). Some (record { program = p; settings = x })) (all.each_desk 0 d.0 d.1).2))
+      some_one (setup_of value) _ (sym (left.same_setup d.0.seat (seat_there 0 d.0 d.1)) ∙ ((all.each_desk 0 d.0 d.1).0.under ∙ ap (λ (x : SettingsValue). Some (record { program = p; settings = x })) (all.each_desk 0 d.0 d.1).2))
 
   pub settings_at_end : IsLeftBy journal_of worker_of FitsKept setup_of value seats → value.paced.settings ≡ s
   settings_at_end left = ap (λ (x : Setup). x.settings) (setup_at_end left)
@@ -148,7 +148,7 @@ module _ (z : TableId) (p : ProgramText) (s : Limits) (desks : List Desk) (seats
   program_at_end left = ap (λ (x : Setup). x.program) (setup_at_end left)
 
 -- what the desks gave back, where the value handed on has the same journal
-pub was_given : (z : TableId) (p : ProgramText) (s : Limits) (first desks : List Desk) (w last : World) → AreAllDesks z p s first → AreOpened s first → AreAllDesks z p s desks → AllGoRound p first desks → HaveStopped desks
+pub was_given : (z : TableId) (p : ProgramText) (s : SettingsValue) (first desks : List Desk) (w last : SharedValue) → AreAllDesks z p s first → AreOpened s first → AreAllDesks z p s desks → AllGoRound p first desks → HaveStopped desks
     → HaveSeen w.journal.items desks → HasOfEach w.journal.items desks → last ≡ w → WasGivenBack p s last.journal.items
 was_given z p s first desks w last all_first opened all rounds stopped seen each same = record {
   turn = z;
@@ -159,21 +159,21 @@ was_given z p s first desks w last all_first opened all rounds stopped seen each
   all = all;
   rounds = rounds;
   stopped = stopped;
-  seen = subst (λ (x : World). HaveSeen x.journal.items desks) (sym same) seen;
-  of_each = subst (λ (x : World). HasOfEach x.journal.items desks) (sym same) each;
+  seen = subst (λ (x : SharedValue). HaveSeen x.journal.items desks) (sym same) seen;
+  of_each = subst (λ (x : SharedValue). HasOfEach x.journal.items desks) (sym same) each;
 }
 
 -- a run of this program within these limits
-pub is_run : (p : ProgramText) (s : Limits) (w : World) → IsWorld w → w.program ≡ p → w.settings ≡ s → is_paced w.program w.settings w.journal.items ≡ true → IsRun p s w
+pub is_run : (p : ProgramText) (s : SettingsValue) (w : SharedValue) → IsSharedValue w → w.program ≡ p → w.settings ≡ s → is_paced w.program w.settings w.journal.items ≡ true → IsRun p s w
 is_run p s w I program settings paced = record {
   program = program;
   settings = settings;
-  legal = subst (λ (q : ProgramText). is_legal q s w.journal.items ≡ true) program (subst (λ (t : Limits). is_legal w.program t w.journal.items ≡ true) settings I.legal);
-  paced = subst (λ (q : ProgramText). is_paced q s w.journal.items ≡ true) program (subst (λ (t : Limits). is_paced w.program t w.journal.items ≡ true) settings paced);
+  legal = subst (λ (q : ProgramText). is_legal q s w.journal.items ≡ true) program (subst (λ (t : SettingsValue). is_legal w.program t w.journal.items ≡ true) settings I.legal);
+  paced = subst (λ (q : ProgramText). is_paced q s w.journal.items ≡ true) program (subst (λ (t : SettingsValue). is_paced w.program t w.journal.items ≡ true) settings paced);
   stands = I;
 }
 
 -- how it finished, where its end was told
-pub told_finish : (p : ProgramText) (s : Limits) (w : World) (f : Finish) (e : Option RunEnd) → IsRun p s w → e ≡ (accounts w).end → f ≡ finish_of e → f ≡ finish_of (end_of p s w.journal.items)
+pub told_finish : (p : ProgramText) (s : SettingsValue) (w : SharedValue) (f : Finish) (e : Option RunEnd) → IsRun p s w → e ≡ (accounts w).end → f ≡ finish_of e → f ≡ finish_of (end_of p s w.journal.items)
 told_finish p s w f e run is told =
-    subst (λ (q : ProgramText). f ≡ finish_of (end_of q s w.journal.items)) run.program (subst (λ (l : Limits). f ≡ finish_of (end_of w.program l w.journal.items)) run.settings (told ∙ ap finish_of is))
+    subst (λ (q : ProgramText). f ≡ finish_of (end_of q s w.journal.items)) run.program (subst (λ (l : SettingsValue). f ≡ finish_of (end_of w.program l w.journal.items)) run.settings (told ∙ ap finish_of is))

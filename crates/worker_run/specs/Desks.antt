@@ -2,10 +2,10 @@
 use Rattle.std.specs.Prelude.{◌≡◌, ◌⊎◌, ℕ, ◌^◌, ◌<◌, ◌≤◌, true, List, [], ◌∷◌, ◌++◌, Some, length, map, slice_get}
 use Rattle.atomic_table.specs.Seated.{TableId}
 use Rattle.hh_lang.specs.Form.{ProgramText}
-use Rattle.run_trace.specs.Entry.{Event}
+use Rattle.run_trace.specs.Entry.{EntryValue}
 use Rattle.run_trace.specs.declared.entry.Kind.{Kind}
-use Rattle.run_trace.specs.Settings.{Limits}
-use Rattle.shared_value.specs.Stands.{IsWorld}
+use Rattle.run_trace.specs.Settings.{SettingsValue}
+use Rattle.shared_value.specs.Stands.{IsSharedValue}
 use Rattle.turn_lock.specs.Journal.{NoneBy, entries_by}
 use Rattle.turn_lock.specs.Seats.{view, own_entries, AreAllSeats, HasNoTurn, HasTurn, Knows, SameWorker}
 use Rattle.steal_scheduler.specs.declared.hand.Hand.{Hand}
@@ -20,7 +20,7 @@ use Rattle.worker_run.specs.declared.desk.Desk.{Desk}
 use Rattle.worker_run.specs.Tasks.{HaveRoot}
 
 -- the entries of its own that the desk's seat has seen
-abbrev pub entries_of : Desk → List Event
+abbrev pub entries_of : Desk → List EntryValue
 entries_of d = own_entries worker_of (view d.seat)
 
 -- a desk without the turn, where a run of this program goes on; it counts the entries that it gave back
@@ -46,7 +46,7 @@ pub record HasGiven (d : Desk) (value : Run) : Type 0 where
 
 -- the desk gave back one entry
 abbrev pub GivesOne : Desk → Desk → Type 0
-GivesOne old new = (e : Event) × (entries_of new ≡ entries_of old ++ e ∷ [])
+GivesOne old new = (e : EntryValue) × (entries_of new ≡ entries_of old ++ e ∷ [])
 
 -- the worker did as its turn asks by the value that it took: its desk gave back one entry or none
 abbrev pub DoesOnce : Desk → Desk → Run → Run → Ready → Next → Type 0
@@ -75,18 +75,18 @@ abbrev pub HaveStopped : List Desk → Type 0
 HaveStopped desks = (k : ℕ) (d : Desk) → slice_get desks k ≡ Some d → HasStopped d
 
 -- the desks of all workers within these limits, one for each, in their order
-pub record AreAllDesks (z : TableId) (p : ProgramText) (s : Limits) (desks : List Desk) : Type 0 where
+pub record AreAllDesks (z : TableId) (p : ProgramText) (s : SettingsValue) (desks : List Desk) : Type 0 where
   pub count : length desks ≡ s.workers
   pub seats : AreAllSeats z (map (λ d. d.seat) desks)
   pub each_desk : (k : ℕ) (d : Desk) → slice_get desks k ≡ Some d → IsDesk z p d × (d.worker ≡ k) × (d.settings ≡ s)
 
 -- of each worker the journal has just the entries that its desk gave back, each once
-abbrev pub HasOfEach : List Event → List Desk → Type 0
+abbrev pub HasOfEach : List EntryValue → List Desk → Type 0
 HasOfEach journal desks = (k : ℕ) (d : Desk) → slice_get desks k ≡ Some d → (entries_by worker_of k journal ≡ entries_of d) × (d.given ≡ length (entries_by worker_of k journal))
 
 -- of each desk's worker the seat has seen all entries, and some seat has seen the whole journal
-pub record HaveSeen (journal : List Event) (desks : List Desk) : Type 0 where
-  pub begins : (k : ℕ) (d : Desk) → slice_get desks k ≡ Some d → (rest : List Event) × (journal ≡ (view d.seat).seen ++ rest) × NoneBy worker_of k rest
+pub record HaveSeen (journal : List EntryValue) (desks : List Desk) : Type 0 where
+  pub begins : (k : ℕ) (d : Desk) → slice_get desks k ≡ Some d → (rest : List EntryValue) × (journal ≡ (view d.seat).seen ++ rest) × NoneBy worker_of k rest
   pub whole : (k : ℕ) × (d : Desk) × (slice_get desks k ≡ Some d) × ((view d.seat).seen ≡ journal)
 
 -- the worker has put a task, or looked for one
@@ -102,11 +102,11 @@ abbrev pub AreHands : ℕ → List Hand → Type 0
 AreHands n hands = (length hands ≡ n) × ((k : ℕ) (h : Hand) → slice_get hands k ≡ Some h → length (thefts h) ≡ n)
 
 -- a desk for each worker within these limits, in their order; nothing was given back yet
-abbrev pub AreNewDesks : Limits → List Desk → Type 0
+abbrev pub AreNewDesks : SettingsValue → List Desk → Type 0
 AreNewDesks s desks = (k : ℕ) (d : Desk) → slice_get desks k ≡ Some d → (d.worker ≡ k) × (d.settings ≡ s) × (d.given ≡ 0) × (length (thefts d.hand) ≡ s.workers)
 
 -- the desks as a run begins
-pub record AreOpened (s : Limits) (desks : List Desk) : Type 0 where
+pub record AreOpened (s : SettingsValue) (desks : List Desk) : Type 0 where
   pub new : AreNewDesks s desks
   pub hands : HaveRoot s.workers (map (λ d. d.hand) desks)
 
@@ -122,6 +122,6 @@ pub record HasEntry (z : TableId) (p : ProgramText) (d : Desk) (value : Run) : T
   pub thieves : length (thefts d.hand) ≡ d.settings.workers
   pub kind : Kind
   pub enters : EntersOne taken.paced value.paced d.worker kind
-  pub world : IsWorld value.paced
+  pub world : IsSharedValue value.paced
   pub program : value.paced.program ≡ p
   pub within : length (entries_of d) ≤ length taken.paced.journal.items

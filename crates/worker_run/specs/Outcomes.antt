@@ -2,13 +2,13 @@
 use Rattle.std.specs.Prelude.{◌≡◌, List, Option, Some, None, true}
 use Rattle.atomic_table.specs.Seated.{TableId}
 use Rattle.hh_lang.specs.Form.{ProgramText}
-use Rattle.run_trace.specs.Entry.{Event}
-use Rattle.run_trace.specs.Settings.{Limits}
+use Rattle.run_trace.specs.Entry.{EntryValue}
+use Rattle.run_trace.specs.Settings.{SettingsValue}
 use Rattle.run_ledger.specs.declared.data.RunEnd.{RunEnd}
 use Rattle.run_ledger.specs.Journals.{is_legal}
 use Rattle.run_ledger.specs.Pace.{is_paced}
-use Rattle.shared_value.specs.Stands.{IsWorld}
-use Rattle.shared_value.specs.World.{World}
+use Rattle.shared_value.specs.Stands.{IsSharedValue}
+use Rattle.shared_value.specs.SharedValue.{SharedValue}
 use Rattle.worker_run.specs.declared.desk.Desk.{Desk}
 use Rattle.worker_run.specs.declared.end.Finish.{Finish}
 use Rattle.worker_run.specs.declared.end.Finish.TheVariants.{Ended, NoMemory}
@@ -21,16 +21,16 @@ finish_of None = NoMemory
 finish_of (Some end) = Ended end
 
 -- a run of this program within these limits: it stands for its journal, which is legal and paced
-pub record IsRun (p : ProgramText) (s : Limits) (w : World) : Type 0 where
+pub record IsRun (p : ProgramText) (s : SettingsValue) (w : SharedValue) : Type 0 where
   pub program : w.program ≡ p
   pub settings : w.settings ≡ s
   pub legal : is_legal p s w.journal.items ≡ true
   pub paced : is_paced p s w.journal.items ≡ true
-  pub stands : IsWorld w
+  pub stands : IsSharedValue w
 
 -- WHAT THE WORKERS GAVE BACK: at one turn each worker of a run of this program within these limits had a desk, and the first had
 -- put the root; there each went round until the run was over; of each the journal has just the entries that its desk gave back, each once
-pub record WasGivenBack (p : ProgramText) (s : Limits) (journal : List Event) : Type 0 where
+pub record WasGivenBack (p : ProgramText) (s : SettingsValue) (journal : List EntryValue) : Type 0 where
   pub turn : TableId
   pub first : List Desk
   pub all_first : AreAllDesks turn p s first

@@ -2,7 +2,7 @@
 use Rattle.std.proofs.Common.{◌≡◌, ℕ, ◌<◌, List, [], ◌∷◌, length, get_or, remove, slice_get, sym, ap, ◌∙◌, subst, arith, Some}
 use Rattle.atomic_table.specs.Seated.{TableId}
 use Rattle.hh_lang.specs.Form.{ProgramText}
-use Rattle.run_trace.specs.Settings.{Limits}
+use Rattle.run_trace.specs.Settings.{SettingsValue}
 use Rattle.turn_lock.specs.Seats.{view}
 use Rattle.worker_run.specs.declared.desk.Desk.{Desk}
 use Rattle.turn_entries.specs.declared.held.Next.{Next}
@@ -36,7 +36,7 @@ second_of [] x h e y at = absurd (omega arith)
 second_of (z ∷ zs) x h e y at = at
 
 -- the first two desks
-module _ (z : TableId) (p : ProgramText) (s : Limits) (desks : List Desk) (first : Desk) (all : AreAllDesks z p s desks) (some : 0 < length desks) (is : first ≡ get_or desks 0 first) where
+module _ (z : TableId) (p : ProgramText) (s : SettingsValue) (desks : List Desk) (first : Desk) (all : AreAllDesks z p s desks) (some : 0 < length desks) (is : first ≡ get_or desks 0 first) where
   pub first_desk : IsDesk z p first
   first_desk = (all.each_desk 0 first (first_of desks first some is)).0
 

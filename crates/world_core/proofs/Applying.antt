@@ -1,7 +1,7 @@
 -- What an entry makes of all hands, from what it makes of its worker's.
 use Rattle.std.proofs.Common.{◌≡◌, ℕ, true, false, Some, Result, Ok, Err, List, [], ◌∷◌, ◌++◌, length, slice_get, slice_set, refl, ap, sym, subst, ◌∙◌}
 use Rattle.std.proofs.lemmas.Bool.{false≢true}
-use Rattle.run_trace.specs.Entry.{Event}
+use Rattle.run_trace.specs.Entry.{EntryValue}
 use Rattle.run_trace.specs.declared.entry.Kind.{Kind}
 use Rattle.run_trace.specs.declared.entry.Kind.TheVariants.{Took, Ran, Chunk, Begin, End, PutOff, Mark, More, Sweep, Fuel}
 use Rattle.run_ledger.specs.declared.data.Refused.{Refused}
@@ -12,13 +12,13 @@ use Rattle.shared_value.specs.declared.answer.NotEntered.TheVariants.{NoMemory, 
 use Rattle.shared_value.specs.Causes.{first_cause, or_else}
 use Rattle.shared_value.specs.Entered.{refused}
 use Rattle.shared_value.specs.Fits.{AllFit}
-use Rattle.shared_value.specs.Stands.{IsWorld}
-use Rattle.shared_value.specs.World.{World, accounts, rest_at}
+use Rattle.shared_value.specs.Stands.{IsSharedValue}
+use Rattle.shared_value.specs.SharedValue.{SharedValue, accounts, rest_at}
 use Rattle.shared_value.proofs.CausesTold.{refused_is}
 use Rattle.child_tasks.specs.Joins.{IsSameRest, SameButPlaces}
 use Rattle.world_core.specs.declared.held.Held.{Held}
 use Rattle.world_core.specs.Applied.{AnswersAll, AnswersApart, AnswersFor, RefusesAll, SameButReserved, SameButRoomier, WantsAll, is_own}
-use Rattle.world_core.specs.Whole.{AllHold, Holds}
+use Rattle.world_core.specs.WorldValue.{AllHold, Holds}
 use Rattle.world_core.proofs.Holding.{all_stop, all_with, carried, copy_of, each_holds, others_hold, places_same, stops, wants}
 
 -- ---- BEFORE WHAT IT SAYS
@@ -35,23 +35,23 @@ own_fuel (More t n) h = refl
 own_fuel (Sweep t g) h = refl
 own_fuel Fuel h = absurd (false≢true h)
 
-pub refused_before : (w : World) (k : ℕ) (kind : Kind) (cause : Refused) → IsWorld w → is_own kind ≡ true → first_cause w.end w.steps w.settings k false ≡ Some cause → refused w (record { worker = k; kind = kind }) ≡ Some cause
+pub refused_before : (w : SharedValue) (k : ℕ) (kind : Kind) (cause : Refused) → IsSharedValue w → is_own kind ≡ true → first_cause w.end w.steps w.settings k false ≡ Some cause → refused w (record { worker = k; kind = kind }) ≡ Some cause
 refused_before w k kind cause I own first =
     refused_is w I (record { worker = k; kind = kind })
     ∙ (ap (λ b. or_else (first_cause w.end w.steps w.settings k b) (kind_refusal w.program w.settings (accounts w) k kind)) (own_fuel kind own)
     ∙ ap (λ o. or_else o (kind_refusal w.program w.settings (accounts w) k kind)) first)
 
-pub stopped_before : (w : World) (k : ℕ) (kind : Kind) (cause : Refused) (hands : List Held) → IsWorld w → is_own kind ≡ true → first_cause w.end w.steps w.settings k false ≡ Some cause → AllHold w false hands
+pub stopped_before : (w : SharedValue) (k : ℕ) (kind : Kind) (cause : Refused) (hands : List Held) → IsSharedValue w → is_own kind ≡ true → first_cause w.end w.steps w.settings k false ≡ Some cause → AllHold w false hands
     → RefusesAll w w (record { worker = k; kind = kind }) cause hands
 stopped_before w k kind cause hands I own first H = record { cause_is = refused_before w k kind cause I own first; same = refl; holds = all_stop w hands H }
 
 -- ---- WANT OF MEMORY
 
-pub reserved_by : (w after : World) → SameButPlaces w after → SameButReserved w after
+pub reserved_by : (w after : SharedValue) → SameButPlaces w after → SameButReserved w after
 reserved_by w after S = record {
-  journal = ap (λ (z : World). z.journal.items) S.rest;
+  journal = ap (λ (z : SharedValue). z.journal.items) S.rest;
   rest = record {
-    rest = ap (λ (z : World). let y : World = record z { journal = w.journal } in y) S.rest;
+    rest = ap (λ (z : SharedValue). let y : SharedValue = record z { journal = w.journal } in y) S.rest;
     many = S.many;
     homes = S.homes;
     many_sets = S.many_sets;
@@ -61,7 +61,7 @@ reserved_by w after S = record {
 
 -- ---- AN ENTRY OF A WORKER
 
-module _ (w after : World) (e : Event) (I : IsWorld w) (hands : List Held) (was : Held) (there : slice_get hands e.worker ≡ Some was) (H : AllHold w false hands) (between : Held) where
+module _ (w after : SharedValue) (e : EntryValue) (I : IsSharedValue w) (hands : List Held) (was : Held) (there : slice_get hands e.worker ≡ Some was) (H : AllHold w false hands) (between : Held) where
   pub made_all : (hand : Held) (r : Result (Unit {0}) NotEntered) → AnswersFor w after e.worker e hand r → AnswersAll w after e (slice_set (slice_set hands e.worker between) e.worker hand) r
   made_all hand (Ok x) R = record {
     free = R.free;
@@ -77,12 +77,12 @@ module _ (w after : World) (e : Event) (I : IsWorld w) (hands : List Held) (was 
     same = reserved_by w after R.same;
     holds =
         all_with w after false true hands e.worker was between hand there H
-        (λ j ne h K. wants w after (ap (λ (z : World). accounts z) R.same.rest) R.still j h K) R.holds;
+        (λ j ne h K. wants w after (ap (λ (z : SharedValue). accounts z) R.same.rest) R.still j h K) R.holds;
   }
 
 -- ---- ONE FOR A TASK THAT NO WORKER HOLDS
 
-pub apart_all : (w after : World) (e : Event) (hands : List Held) (r : Result (Unit {0}) NotEntered) → IsWorld w → is_own e.kind ≡ false → AllHold w false hands → AnswersApart w after e r → AnswersAll w after e hands r
+pub apart_all : (w after : SharedValue) (e : EntryValue) (hands : List Held) (r : Result (Unit {0}) NotEntered) → IsSharedValue w → is_own e.kind ≡ false → AllHold w false hands → AnswersApart w after e r → AnswersAll w after e hands r
 apart_all w after e hands (Ok x) I own H R = record { free = R.free; enters = R.enters; holds = λ k h at. each_holds w after e R.enters R.free own R.fit k h (H k h at) }
 apart_all w after e hands (Err (Refuses cause)) I own H R = record {
   cause_is = R.0;
@@ -93,9 +93,9 @@ apart_all w after e hands (Err NoMemory) I own H R = record { same = reserved_by
 
 -- ---- WITH ROOM FOR AN ENTRY
 
-module _ (w mid : World) (roomier : SameButRoomier w mid) (fit : AllFit w mid) where
+module _ (w mid : SharedValue) (roomier : SameButRoomier w mid) (fit : AllFit w mid) where
   same_accounts : accounts mid ≡ accounts w
-  same_accounts = ap (λ (z : World). accounts z) roomier
+  same_accounts = ap (λ (z : SharedValue). accounts z) roomier
 
   pub all_mid : (hands : List Held) → AllHold w false hands → AllHold mid false hands
   all_mid hands H = subst (λ z. AllHold z false hands) (sym roomier) (by mid.journal.room (subst (AllFit w) roomier fit))
@@ -108,29 +108,29 @@ module _ (w mid : World) (roomier : SameButRoomier w mid) (fit : AllFit w mid) w
 
   pub wants_room : (hands : List Held) → AllHold w false hands → WantsAll w mid hands
   wants_room hands H = record {
-    same = record { journal = ap (λ (z : World). z.journal.items) roomier; rest = places_same w (record mid { journal = w.journal }) (ap (λ (z : World). let y : World = record z { journal = w.journal } in y) roomier) };
+    same = record { journal = ap (λ (z : SharedValue). z.journal.items) roomier; rest = places_same w (record mid { journal = w.journal }) (ap (λ (z : SharedValue). let y : SharedValue = record z { journal = w.journal } in y) roomier) };
     holds = λ k h at. wants w mid same_accounts fit k h (H k h at);
   }
 
-  pub from_room : (after : World) (e : Event) (hands : List Held) (r : Result (Unit {0}) NotEntered) → AnswersAll mid after e hands r → AnswersAll w after e hands r
+  pub from_room : (after : SharedValue) (e : EntryValue) (hands : List Held) (r : Result (Unit {0}) NotEntered) → AnswersAll mid after e hands r → AnswersAll w after e hands r
   from_room after e hands (Ok x) R = record {
-    free = ap (λ (z : World). refused z e) (sym roomier) ∙ R.free;
+    free = ap (λ (z : SharedValue). refused z e) (sym roomier) ∙ R.free;
     enters = record {
-      journal = R.enters.journal ∙ ap (λ (z : World). let js : List Event = z.journal.items in js ++ e ∷ []) roomier;
-      program = R.enters.program ∙ ap (λ (z : World). z.program) roomier;
-      settings = R.enters.settings ∙ ap (λ (z : World). z.settings) roomier;
-      halted = R.enters.halted ∙ ap (λ (z : World). z.halted) roomier;
+      journal = R.enters.journal ∙ ap (λ (z : SharedValue). let js : List EntryValue = z.journal.items in js ++ e ∷ []) roomier;
+      program = R.enters.program ∙ ap (λ (z : SharedValue). z.program) roomier;
+      settings = R.enters.settings ∙ ap (λ (z : SharedValue). z.settings) roomier;
+      halted = R.enters.halted ∙ ap (λ (z : SharedValue). z.halted) roomier;
     };
     holds = R.holds;
   }
   from_room after e hands (Err (Refuses cause)) R = record {
-    cause_is = ap (λ (z : World). refused z e) (sym roomier) ∙ R.cause_is;
-    same = R.same ∙ ap (λ (z : World). let y : World = record z { journal = record { items = z.journal.items; room = after.journal.room } } in y) roomier;
+    cause_is = ap (λ (z : SharedValue). refused z e) (sym roomier) ∙ R.cause_is;
+    same = R.same ∙ ap (λ (z : SharedValue). let y : SharedValue = record z { journal = record { items = z.journal.items; room = after.journal.room } } in y) roomier;
     holds = R.holds;
   }
   from_room after e hands (Err NoMemory) R = record {
     same = record {
-      journal = R.same.journal ∙ ap (λ (z : World). z.journal.items) roomier;
+      journal = R.same.journal ∙ ap (λ (z : SharedValue). z.journal.items) roomier;
       rest = by_room (R.same.rest);
     };
     holds = R.holds;
@@ -140,10 +140,10 @@ module _ (w mid : World) (roomier : SameButRoomier w mid) (fit : AllFit w mid) w
       by_room : SameButPlaces mid (record after { journal = mid.journal }) → SameButPlaces w (record after { journal = w.journal })
       by_room S = record {
         rest =
-            ap (λ (z : World). let y : World = record z { journal = w.journal } in y) S.rest
-            ∙ ap (λ (z : World). let y : World = record z { homes = after.homes; sets = after.sets; journal = w.journal } in y) roomier;
-        many = S.many ∙ ap (λ (z : World). length z.homes) roomier;
-        homes = λ u. subst (λ (z : World). IsSameRest (rest_at z.homes u) (rest_at after.homes u)) roomier (S.homes u);
-        many_sets = S.many_sets ∙ ap (λ (z : World). length z.sets) roomier;
-        sets = λ u. S.sets u ∙ ap (λ (z : World). content_at z.sets u) roomier;
+            ap (λ (z : SharedValue). let y : SharedValue = record z { journal = w.journal } in y) S.rest
+            ∙ ap (λ (z : SharedValue). let y : SharedValue = record z { homes = after.homes; sets = after.sets; journal = w.journal } in y) roomier;
+        many = S.many ∙ ap (λ (z : SharedValue). length z.homes) roomier;
+        homes = λ u. subst (λ (z : SharedValue). IsSameRest (rest_at z.homes u) (rest_at after.homes u)) roomier (S.homes u);
+        many_sets = S.many_sets ∙ ap (λ (z : SharedValue). length z.sets) roomier;
+        sets = λ u. S.sets u ∙ ap (λ (z : SharedValue). content_at z.sets u) roomier;
       }

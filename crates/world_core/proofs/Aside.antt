@@ -2,24 +2,24 @@
 use Rattle.std.proofs.Common.{ℕ}
 use Rattle.hh_lang.specs.Form.{ProgramText}
 use Rattle.hh_model.specs.declared.data.Name.{Name}
-use Rattle.run_trace.specs.Settings.{Limits}
+use Rattle.run_trace.specs.Settings.{SettingsValue}
 use Rattle.run_ledger.specs.declared.data.Ledger.{Ledger}
 use Rattle.object_layout.specs.declared.word.Addr.{Addr}
 use Rattle.remembered_set.specs.declared.remembered.Source.{Source}
-use Rattle.ledger_steps.specs.Accounts.{Knows, aside}
+use Rattle.ledger_step_laws.specs.Accounts.{Knows, aside}
 use Rattle.core_relation.specs.Fits.{Part}
 use Rattle.core_relation.specs.Stands.{HomeStands, IsSource, Place, Stands}
-use Rattle.core_relation.specs.Value.{Value}
+use Rattle.core_relation.specs.Memory.{Memory}
 use Rattle.core_relation.specs.Worker.{Fits}
 use Rattle.core_relation.proofs.objects.Carry.{object_kept, task_kept}
 
 pub knows_aside : (l : Ledger) → Knows l → Knows (aside l)
 knows_aside l K = record { sound = K.sound; stored = K.stored; rows = K.rows }
 
-pub fits_aside : (p : ProgramText) (s : Limits) (q : Part) (v : Value) (l : Ledger) → Fits p s q v l → Fits p s q v (aside l)
+pub fits_aside : (p : ProgramText) (s : SettingsValue) (q : Part) (v : Memory) (l : Ledger) → Fits p s q v l → Fits p s q v (aside l)
 fits_aside p s q v l F = record { task = F.task; is = F.is; runs = F.runs; steady = F.steady; part = F.part; leaf = F.leaf; fields = F.fields }
 
-module _ (v : Value) (l : Ledger) where
+module _ (v : Memory) (l : Ledger) where
   place : (n : Name) (a : Addr) → Place v l n a → Place v (aside l) n a
   place n a P = record { chunk = P.chunk; here = P.here }
 

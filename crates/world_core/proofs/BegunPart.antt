@@ -4,34 +4,34 @@ use Rattle.run_trace.specs.declared.entry.Kind.TheVariants.{Begin}
 use Rattle.run_ledger.specs.declared.data.Ledger.{Ledger}
 use Rattle.run_ledger.specs.Heaps.{take_of, within}
 use Rattle.object_layout.specs.declared.word.Addr.{Addr}
-use Rattle.object_layout.specs.Content.{Content}
-use Rattle.alloc_path.specs.Heap.{Heap}
-use Rattle.task_frames.specs.Stack.{Stack}
+use Rattle.object_layout.specs.ChunkValue.{ChunkValue}
+use Rattle.alloc_path.specs.LeafHeapValue.{LeafHeapValue}
+use Rattle.task_frames.specs.FramesValue.{FramesValue}
 use Rattle.leaf_copy_gc.specs.declared.lists.Moved.{Moved}
 use Rattle.leaf_copy_gc.specs.declared.lists.ToChunks.{ToChunks}
 use Rattle.leaf_copy_gc.specs.Laws.{CanTake}
 use Rattle.leaf_copy_gc.specs.Lists.{IsCollected}
 use Rattle.leaf_copy_gc.specs.Survivors.{IsSound, as_reference}
-use Rattle.ledger_steps.specs.Accounts.{aside}
+use Rattle.ledger_step_laws.specs.Accounts.{aside}
 use Rattle.task_machine.specs.declared.part.Begun.{Begun}
 use Rattle.task_machine.specs.declared.part.Private.{Private}
 use Rattle.shared_value.specs.Entered.{Enters}
 use Rattle.shared_value.specs.Fits.{Fits}
 use Rattle.shared_value.specs.LeafBegin.{HasBegun, number_of}
-use Rattle.shared_value.specs.Stands.{IsWorld}
-use Rattle.shared_value.specs.World.{World, accounts, value_of}
+use Rattle.shared_value.specs.Stands.{IsSharedValue}
+use Rattle.shared_value.specs.SharedValue.{SharedValue, accounts, value_of}
 use Rattle.shared_value.proofs.StepsEntered.{status}
-use Rattle.copied_part.specs.Copied.{CanCopy}
-use Rattle.copied_part.specs.Handed.{IsCopying}
-use Rattle.copied_part.proofs.CopyBegins.{begun_is_copying}
-use Rattle.copied_part.proofs.CopyHanded.{begun}
-use Rattle.copied_part.proofs.CopySays.{begun_can_copy}
-use Rattle.world_core.specs.Whole.{HoldsCopy}
+use Rattle.copied_part_laws.specs.Copied.{CanCopy}
+use Rattle.copied_part_laws.specs.Handed.{IsCopying}
+use Rattle.copied_part_laws.proofs.CopyBegins.{begun_is_copying}
+use Rattle.copied_part_laws.proofs.CopyHanded.{begun}
+use Rattle.copied_part_laws.proofs.CopySays.{begun_can_copy}
+use Rattle.world_core.specs.WorldValue.{HoldsCopy}
 use Rattle.world_core.proofs.Entries.{heap_end}
 use Rattle.world_core.proofs.Holding.{then_accounts}
 
-module _ (w : World) (k : ℕ) (before p : Private) (roots : List Addr) (to : ToChunks) (H : HasBegun before p roots to) (I : IsWorld w) (F : Fits w k p) (fresh : p.fresh ≡ 0) (on : (accounts w).end ≡ None) where
-  abbrev news : List Content
+module _ (w : SharedValue) (k : ℕ) (before p : Private) (roots : List Addr) (to : ToChunks) (H : HasBegun before p roots to) (I : IsSharedValue w) (F : Fits w k p) (fresh : p.fresh ≡ 0) (on : (accounts w).end ≡ None) where
+  abbrev news : List ChunkValue
   news = to.chunks.items
 
   abbrev b : Begun
@@ -48,7 +48,7 @@ module _ (w : World) (k : ℕ) (before p : Private) (roots : List Addr) (to : To
       begun_can_copy w.program w.settings p.task p.heap p.view p.allocations p.frames (record { roots = roots; news = map number_of news }) news (value_of w) (aside (accounts w)) F.fits.task (begun w k p b news copying) F.fits.is (status w k p I F on)
       (subst (λ ks. All (IsSound ks) (map as_reference roots)) (sym (ap (λ (q : Private). q.heap.chunks) H.part)) H.sound)
 
-  pub holds_copy : (h : Heap) (frames : Stack) (moved : Moved) → IsCollected p.heap p.frames roots news h frames moved → HoldsCopy w k (record p { heap = h; frames = frames }) moved
+  pub holds_copy : (h : LeafHeapValue) (frames : FramesValue) (moved : Moved) → IsCollected p.heap p.frames roots news h frames moved → HoldsCopy w k (record p { heap = h; frames = frames }) moved
   holds_copy h frames moved C = record {
     before = p;
     begun = b;
@@ -63,7 +63,7 @@ module _ (w : World) (k : ℕ) (before p : Private) (roots : List Addr) (to : To
   }
 
 -- its begin doesn't end the run
-pub begin_on : (w after : World) (k t : ℕ) → (accounts w).end ≡ None → Enters w after (record { worker = k; kind = Begin t }) → (accounts after).end ≡ None
+pub begin_on : (w after : SharedValue) (k t : ℕ) → (accounts w).end ≡ None → Enters w after (record { worker = k; kind = Begin t }) → (accounts after).end ≡ None
 begin_on w after k t on E =
     ap (λ (l : Ledger). l.end) (then_accounts w after (record { worker = k; kind = Begin t }) E)
     ∙ (heap_end (accounts w) t (λ h. record h { begun = Some (take_of (accounts w).machine h); survivors = within (accounts w) t }) ∙ on)

@@ -13,13 +13,13 @@ use Rattle.run_ledger.specs.Steps.{task_steps}
 use Rattle.run_ledger.proofs.Bounds.{steps_are_bounded}
 use Rattle.run_ledger.proofs.Counted.{journals_are_counted}
 use Rattle.run_ledger.proofs.Machine.{heap_machine, task_step_machine}
-use Rattle.ledger_steps.proofs.Split.{steps_last}
-use Rattle.ledger_steps.specs.Accounts.{aside}
+use Rattle.ledger_step_laws.proofs.Split.{steps_last}
+use Rattle.ledger_step_laws.specs.Accounts.{aside}
 use Rattle.task_machine.specs.declared.part.Private.{Private}
 use Rattle.task_machine.specs.Outline.{steps}
 use Rattle.task_machine.specs.Fits.{unended}
-use Rattle.shared_value.specs.World.{World, accounts}
-use Rattle.shared_value.specs.Stands.{IsWorld}
+use Rattle.shared_value.specs.SharedValue.{SharedValue, accounts}
+use Rattle.shared_value.specs.Stands.{IsSharedValue}
 use Rattle.shared_value.specs.Fits.{beyond}
 use Rattle.shared_value.specs.Links.{FitsFirst}
 
@@ -49,7 +49,7 @@ not_refused o cause none some = absurd cc
 
 -- ---- ALLOCATIONS are far fewer than 32 bits count
 
-pub few_allocations : (w : World) (part : Private) (n : ℕ) → IsWorld w → part.fresh ≡ 0 → FitsFirst w part → n ≤ 257 → part.allocations + n < 4294967296
+pub few_allocations : (w : SharedValue) (part : Private) (n : ℕ) → IsSharedValue w → part.fresh ≡ 0 → FitsFirst w part → n ≤ 257 → part.allocations + n < 4294967296
 few_allocations w part n I fresh F few =
     let l : Ledger = accounts w in
     let is : (beyond w.program l part).machine ≡ unended l.machine = beyond_machine w.program l part ∙ ap (steps w.program (unended l.machine) part.task) fresh in

@@ -20,27 +20,27 @@ use Rattle.task_machine.specs.declared.part.Private.{Private}
 use Rattle.shared_value.specs.Causes.{first_cause, or_else, task_held}
 use Rattle.shared_value.specs.Entered.{refused}
 use Rattle.shared_value.specs.Fits.{Fits}
-use Rattle.shared_value.specs.Stands.{IsWorld}
-use Rattle.shared_value.specs.World.{World, accounts}
+use Rattle.shared_value.specs.Stands.{IsSharedValue}
+use Rattle.shared_value.specs.SharedValue.{SharedValue, accounts}
 use Rattle.shared_value.proofs.CollectionUnderWay.{at_part, begun_is}
 use Rattle.shared_value.proofs.CausesTold.{on_is, refused_is}
 use Rattle.own_steps.proofs.TaskNotHeld.{apart_cause, unless_false}
 use Rattle.child_tasks.specs.Hands.{HoldsNone}
 use Rattle.leaf_collections.specs.LeafEnd.{FitsCopied, end_event}
 use Rattle.leaf_collections.proofs.WhyNoEnd.{end_answer, unless_true}
-use Rattle.copied_part.specs.Handed.{IsCopying}
-use Rattle.copied_part.proofs.CopyHanded.{copied_fits}
+use Rattle.copied_part_laws.specs.Handed.{IsCopying}
+use Rattle.copied_part_laws.proofs.CopyHanded.{copied_fits}
 use Rattle.world_core.specs.declared.held.Held.{Held}
 use Rattle.world_core.specs.declared.held.Held.TheVariants.{Nothing, Part, Copied}
 use Rattle.world_core.specs.Applied.{copied_cause, idle_cause}
-use Rattle.world_core.specs.Whole.{Holds, HoldsCopy, HoldsPart}
+use Rattle.world_core.specs.WorldValue.{Holds, HoldsCopy, HoldsPart}
 
 -- ---- A COPY fits for the end of its collection
 
-pub copying : (w : World) (k : ℕ) (p : Private) (moved : Moved) → IsWorld w → (H : HoldsCopy w k p moved) → IsCopying w k H.before H.begun H.news
+pub copying : (w : SharedValue) (k : ℕ) (p : Private) (moved : Moved) → IsSharedValue w → (H : HoldsCopy w k p moved) → IsCopying w k H.before H.begun H.news
 copying w k p moved I H = record { world = I; fits = H.fits; fresh = H.fresh; begun = H.amid; new = H.new; numbers = H.numbers }
 
-pub copy_fits : (w : World) (k : ℕ) (p : Private) (moved : Moved) → IsWorld w → HoldsCopy w k p moved → FitsCopied w k p moved
+pub copy_fits : (w : SharedValue) (k : ℕ) (p : Private) (moved : Moved) → IsSharedValue w → HoldsCopy w k p moved → FitsCopied w k p moved
 copy_fits w k p moved I H =
     subst (λ q. FitsCopied w k q moved) (sym H.part) (copied_fits w k H.before H.begun H.news (copying w k p moved I H) p.heap p.frames moved H.copy)
 
@@ -51,7 +51,7 @@ some_twice x y e = same_Some x y e
 
 -- ---- A WORKER THAT MAY MAKE ENTRIES
 
-module _ (w : World) (k : ℕ) (I : IsWorld w) (first : first_cause w.end w.steps w.settings k false ≡ None) where
+module _ (w : SharedValue) (k : ℕ) (I : IsSharedValue w) (first : first_cause w.end w.steps w.settings k false ≡ None) where
   abbrev l : Ledger
   l = accounts w
 
@@ -160,7 +160,7 @@ module _ (a g n a' g' n' : ℕ) where
 
 -- ---- OF EACH KIND
 
-module _ (w : World) (k : ℕ) (I : IsWorld w) (first : first_cause w.end w.steps w.settings k false ≡ None) (t : ℕ) (h : Held) (cause : Refused) (H : Holds w false k h) (is : idle_cause h t ≡ Some cause) where
+module _ (w : SharedValue) (k : ℕ) (I : IsSharedValue w) (first : first_cause w.end w.steps w.settings k false ≡ None) (t : ℕ) (h : Held) (cause : Refused) (H : Holds w false k h) (is : idle_cause h t ≡ Some cause) where
   pub ran_apart : (n : ℕ) → refused w (record { worker = k; kind = Ran t n }) ≡ Some cause
   ran_apart n = idle_refused w k I first t h cause (Ran t n) (long_at n (min most_steps (standing w.settings w.program (accounts w) t n))) H is refl refl refl
 

@@ -4,8 +4,8 @@ use Rattle.std.proofs.lemmas.Bool.{cases_eq, false≢true}
 use Rattle.std.proofs.lemmas.Option.{same_Some}
 use Rattle.listed.proofs.Members.{got_other, got_same}
 use Rattle.hh_lang.specs.Form.{ProgramText}
-use Rattle.run_trace.specs.Entry.{Event}
-use Rattle.run_trace.specs.Settings.{Limits}
+use Rattle.run_trace.specs.Entry.{EntryValue}
+use Rattle.run_trace.specs.Settings.{SettingsValue}
 use Rattle.run_ledger.specs.declared.data.Ledger.{Ledger}
 use Rattle.run_ledger.specs.Entries.{after}
 use Rattle.run_ledger.specs.Heaps.{heap_of}
@@ -16,7 +16,7 @@ use Rattle.core_relation.proofs.whole.HandedBack.{handed_on}
 use Rattle.task_machine.specs.declared.part.Private.{Private}
 use Rattle.shared_value.specs.Entered.{Enters, refused}
 use Rattle.shared_value.specs.Fits.{AllFit, Fits, OthersFit}
-use Rattle.shared_value.specs.World.{World, accounts}
+use Rattle.shared_value.specs.SharedValue.{SharedValue, accounts}
 use Rattle.shared_value.proofs.JournalGoesOn.{accounts_then}
 use Rattle.shared_value.proofs.EntryMade.{entry_on, held_by_end}
 use Rattle.child_tasks.specs.Hands.{HoldsNone}
@@ -25,28 +25,28 @@ use Rattle.child_tasks.proofs.JoinPlaces.{same_world}
 use Rattle.world_core.specs.declared.held.Held.{Held}
 use Rattle.world_core.specs.declared.held.Held.TheVariants.{Nothing, Part, Copied}
 use Rattle.world_core.specs.Applied.{is_own}
-use Rattle.world_core.specs.Whole.{AllHold, Holds, HoldsCopy, HoldsPart}
+use Rattle.world_core.specs.WorldValue.{AllHold, Holds, HoldsCopy, HoldsPart}
 use Rattle.world_core.proofs.WasHeld.{apart_held, kind_held}
 
 -- ---- A HAND, with the part that it holds fitting another value
 
 -- a copy of a part that fits another value
-pub copy_of : (w w' : World) (k : ℕ) (p : Private) (moved : Moved) → (H : HoldsCopy w k p moved) → Fits w' k H.before → HoldsCopy w' k p moved
+pub copy_of : (w w' : SharedValue) (k : ℕ) (p : Private) (moved : Moved) → (H : HoldsCopy w k p moved) → Fits w' k H.before → HoldsCopy w' k p moved
 copy_of w w' k p moved H F = record { before = H.before; begun = H.begun; news = H.news; fits = F; fresh = H.fresh; amid = H.amid; new = H.new; numbers = H.numbers; copy = H.copy; part = H.part }
 
 -- where each part of the worker fits, and it holds nothing still where it did
-pub carried : (w w' : World) (stopped stops : Bool) (k : ℕ) → (stops ≡ false → stopped ≡ false) → ((p : Private) → HoldsPart w stopped k p → HoldsPart w' stops k p) → ((p : Private) (moved : Moved) → HoldsCopy w k p moved → HoldsCopy w' k p moved)
+pub carried : (w w' : SharedValue) (stopped stops : Bool) (k : ℕ) → (stops ≡ false → stopped ≡ false) → ((p : Private) → HoldsPart w stopped k p → HoldsPart w' stops k p) → ((p : Private) (moved : Moved) → HoldsCopy w k p moved → HoldsCopy w' k p moved)
     → (HoldsNone w k → HoldsNone w' k) → (h : Held) → Holds w stopped k h → Holds w' stops k h
 carried w w' stopped stops k on part copy none Nothing H = none H
 carried w w' stopped stops k on part copy none (Part p) H = part p H
 carried w w' stopped stops k on part copy none (Copied p moved) H = copy p moved H
 
-module _ (w w' : World) (e : Event) (E : Enters w w' e) where
+module _ (w w' : SharedValue) (e : EntryValue) (E : Enters w w' e) where
   -- the accounts after it
   pub then_accounts : accounts w' ≡ after w.program w.settings (accounts w) e
   then_accounts =
       ap (λ (p : ProgramText). ledger_of p w'.settings w'.journal.items) E.program
-      ∙ (ap (λ (s : Limits). ledger_of w.program s w'.journal.items) E.settings
+      ∙ (ap (λ (s : SettingsValue). ledger_of w.program s w'.journal.items) E.settings
       ∙ (ap (ledger_of w.program w.settings) E.journal ∙ accounts_then w.program w.settings w.journal.items e))
 
   module _ (free : refused w e ≡ None) where
@@ -76,20 +76,20 @@ module _ (w w' : World) (e : Event) (E : Enters w w' e) where
 -- ---- WHERE THE WORLD STOPS
 
 -- what hasn't changed is the same but for places
-pub places_same : (w after : World) → after ≡ w → SameButPlaces w after
+pub places_same : (w after : SharedValue) → after ≡ w → SameButPlaces w after
 places_same w after same = subst (SameButPlaces w) (sym same) (same_world w)
 
-pub part_stops : (w : World) (k : ℕ) (p : Private) → HoldsPart w false k p → HoldsPart w true k p
+pub part_stops : (w : SharedValue) (k : ℕ) (p : Private) → HoldsPart w false k p → HoldsPart w true k p
 part_stops w k p H = record { fits = H.fits; idle = H.idle; entered = λ q. absurd (false≢true (sym q)) }
 
-pub stops : (w : World) (k : ℕ) (h : Held) → Holds w false k h → Holds w true k h
+pub stops : (w : SharedValue) (k : ℕ) (h : Held) → Holds w false k h → Holds w true k h
 stops w k = carried w w false true k (λ q. absurd (false≢true (sym q))) (λ p H. part_stops w k p H) (λ p moved H. H) (λ H. H)
 
-pub all_stop : (w : World) (hands : List Held) → AllHold w false hands → AllHold w true hands
+pub all_stop : (w : SharedValue) (hands : List Held) → AllHold w false hands → AllHold w true hands
 all_stop w hands H k h e = stops w k h (H k h e)
 
 -- for want of memory: the accounts are as they were
-pub wants : (w w' : World) → accounts w' ≡ accounts w → AllFit w w' → (k : ℕ) (h : Held) → Holds w false k h → Holds w' true k h
+pub wants : (w w' : SharedValue) → accounts w' ≡ accounts w → AllFit w w' → (k : ℕ) (h : Held) → Holds w false k h → Holds w' true k h
 wants w w' same A k =
     carried w w' false true k (λ q. absurd (false≢true (sym q)))
     (λ p H. record { fits = A k p H.fits; idle = H.idle; entered = λ q. absurd (false≢true (sym q)) })
@@ -98,7 +98,7 @@ wants w w' same A k =
 
 -- ---- ALL HANDS, one of them another
 
-pub all_with : (w w' : World) (stopped stops : Bool) (hands : List Held) (k : ℕ) (was old new : Held) → slice_get hands k ≡ Some was → AllHold w stopped hands → ((j : ℕ) → j ≢ k → (h : Held) → Holds w stopped j h → Holds w' stops j h) → Holds w' stops k new
+pub all_with : (w w' : SharedValue) (stopped stops : Bool) (hands : List Held) (k : ℕ) (was old new : Held) → slice_get hands k ≡ Some was → AllHold w stopped hands → ((j : ℕ) → j ≢ k → (h : Held) → Holds w stopped j h → Holds w' stops j h) → Holds w' stops k new
     → AllHold w' stops (slice_set (slice_set hands k old) k new)
 all_with w w' stopped stops hands k was old new there H others own j h e = elim (cases_eq j k) [
   | inl q ↦

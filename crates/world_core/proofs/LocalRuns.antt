@@ -9,8 +9,8 @@ use Rattle.task_machine.specs.Fits.{unended}
 use Rattle.task_machine.specs.Outline.{steps}
 use Rattle.task_machine.specs.Run.{KeepsRest, Pauses, PausesBy, Ran, Runs}
 use Rattle.task_machine.proofs.Behind.{steps_more}
-use Rattle.shared_value.specs.World.{World, accounts, value_of}
-use Rattle.shared_value.specs.Stands.{IsWorld}
+use Rattle.shared_value.specs.SharedValue.{SharedValue, accounts, value_of}
+use Rattle.shared_value.specs.Stands.{IsSharedValue}
 use Rattle.shared_value.specs.Fits.{Fits}
 use Rattle.shared_value.specs.Links.{FitsFirst, above_of}
 use Rattle.own_steps.specs.Alone.{machine_after}
@@ -18,7 +18,7 @@ use Rattle.own_steps.proofs.FitsAfterSteps.{parts_fit_again}
 use Rattle.world_core.specs.Next.{IsNext}
 use Rattle.world_core.proofs.Entries.{beyond_machine}
 
-module _ (w : World) (text : ProgramText) (same : w.program ≡ text) (k : ℕ) (I : IsWorld w) (old new : Private) (fits : Fits w k old) (on : (accounts w).end ≡ None) (F : FitsFirst w old) (idle : old.begun ≡ None) (n : ℕ) (runs : Runs text old n new)
+module _ (w : SharedValue) (text : ProgramText) (same : w.program ≡ text) (k : ℕ) (I : IsSharedValue w) (old new : Private) (fits : Fits w k old) (on : (accounts w).end ≡ None) (F : FitsFirst w old) (idle : old.begun ≡ None) (n : ℕ) (runs : Runs text old n new)
     (accounts_kept : KeepsAccounts text old n new) (rest : KeepsRest old new) (few : old.fresh + n ≤ 257) where
   R : Runs w.program old n new
   R = subst (λ (p : ProgramText). Runs p old n new) (sym same) runs

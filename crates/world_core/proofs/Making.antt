@@ -2,7 +2,7 @@
 use Rattle.std.proofs.Common.{◌≡◌, ℕ, true, false, Option, Some, None, Result, Ok, Err, is_some, option_map, refl, ap, sym, subst, ◌∙◌}
 use Rattle.std.specs.Result.{OnErr, OnOk}
 use Rattle.std.proofs.lemmas.Bool.{false≢true}
-use Rattle.run_trace.specs.Entry.{Event}
+use Rattle.run_trace.specs.Entry.{EntryValue}
 use Rattle.run_trace.specs.declared.entry.Kind.TheVariants.{End}
 use Rattle.run_ledger.specs.declared.data.Refused.{Refused}
 use Rattle.run_ledger.specs.declared.data.Refused.TheVariants.{Collecting}
@@ -14,8 +14,8 @@ use Rattle.shared_value.specs.declared.answer.NotEntered.TheVariants.{NoMemory, 
 use Rattle.shared_value.specs.Causes.{first_cause, or_else}
 use Rattle.shared_value.specs.Entered.{Answers, Enters, IsCaused, IsSamePart, refused}
 use Rattle.shared_value.specs.Fits.{AllFit, Fits, OthersFit}
-use Rattle.shared_value.specs.Stands.{IsWorld}
-use Rattle.shared_value.specs.World.{World}
+use Rattle.shared_value.specs.Stands.{IsSharedValue}
+use Rattle.shared_value.specs.SharedValue.{SharedValue}
 use Rattle.own_steps.specs.Alone.{IsShared, alone_event}
 use Rattle.own_steps.proofs.LastSteps.{alone_answer}
 use Rattle.child_tasks.specs.Joins.{IsUnchanged}
@@ -28,7 +28,7 @@ use Rattle.world_core.specs.declared.held.Held.{Held}
 use Rattle.world_core.specs.declared.held.Held.TheVariants.{Part, Copied}
 use Rattle.world_core.specs.declared.held.Made.{Made}
 use Rattle.world_core.specs.Applied.{AnswersFor, EntersFor, MakesFor, RefusesFor, hand_of}
-use Rattle.world_core.specs.Whole.{Holds, HoldsCopy, HoldsPart}
+use Rattle.world_core.specs.WorldValue.{Holds, HoldsCopy, HoldsPart}
 use Rattle.world_core.proofs.HandCauses.{copy_fits, said}
 use Rattle.world_core.proofs.Holding.{part_stops, places_same, stops}
 use Rattle.world_core.proofs.WasHeld.{nobody}
@@ -39,26 +39,26 @@ none_some e = absurd cc
 -- ---- REFUSED
 
 -- nothing has changed
-pub refuses_for : (w after : World) (k : ℕ) (e : Event) (cause : Refused) (hand : Held) → after ≡ w → refused w e ≡ Some cause → Holds w false k hand → RefusesFor w after k e cause hand
+pub refuses_for : (w after : SharedValue) (k : ℕ) (e : EntryValue) (cause : Refused) (hand : Held) → after ≡ w → refused w e ≡ Some cause → Holds w false k hand → RefusesFor w after k e cause hand
 refuses_for w after k e cause hand same is H = record { cause_is = is; same = same; holds = subst (λ z. Holds z true k hand) (sym same) (stops w k hand H) }
 
 -- for what the hand holds
-pub apart_made : (w : World) (k : ℕ) (e : Event) (hand back : Held) (cause : Refused) (made : Made) → made ≡ record { hand = back; answer = Err (Refuses cause) } → back ≡ hand → Holds w false k hand → refused w e ≡ Some cause → MakesFor w w k e made
+pub apart_made : (w : SharedValue) (k : ℕ) (e : EntryValue) (hand back : Held) (cause : Refused) (made : Made) → made ≡ record { hand = back; answer = Err (Refuses cause) } → back ≡ hand → Holds w false k hand → refused w e ≡ Some cause → MakesFor w w k e made
 apart_made w k e hand back cause made is same H why =
     subst (MakesFor w w k e) (sym is) (refuses_for w w k e cause back refl why (subst (Holds w false k) (sym same) H))
 
 -- ---- THE PART OF A HAND, before and after
 
-pub answers_part : (w after : World) (k : ℕ) (e : Event) (q : Private) (r : Result (Unit {0}) NotEntered) → Answers r (refused w e) → OnErr r (after ≡ w) → OnOk r (Enters w after e) → OnOk r (OthersFit w after k) → HoldsPart after false k q → AnswersFor w after k e (Part q) r
+pub answers_part : (w after : SharedValue) (k : ℕ) (e : EntryValue) (q : Private) (r : Result (Unit {0}) NotEntered) → Answers r (refused w e) → OnErr r (after ≡ w) → OnOk r (Enters w after e) → OnOk r (OthersFit w after k) → HoldsPart after false k q → AnswersFor w after k e (Part q) r
 answers_part w after k e q (Ok x) why same enters others H = record { free = why; enters = enters; others = others; holds = H }
 answers_part w after k e q (Err (Refuses cause)) why same enters others H = record { cause_is = why; same = same; holds = part_stops after k q H }
 answers_part w after k e q (Err NoMemory) why same enters others H = record { same = places_same w after same; still = fit_by w after same; holds = part_stops after k q H }
 
 -- a part with another heap, amid no collection still and with no fresh step still
-pub holds_same : (after w : World) (k : ℕ) (p q : Private) → q.begun ≡ p.begun → q.fresh ≡ p.fresh → HoldsPart w false k p → Fits after k q → HoldsPart after false k q
+pub holds_same : (after w : SharedValue) (k : ℕ) (p q : Private) → q.begun ≡ p.begun → q.fresh ≡ p.fresh → HoldsPart w false k p → Fits after k q → HoldsPart after false k q
 holds_same after w k p q begun fresh H F = record { fits = F; idle = begun ∙ H.idle; entered = λ h. fresh ∙ H.entered refl }
 
-pub holds_heap : (after w : World) (k : ℕ) (p q : Private) → q ≡ record p { heap = q.heap } → HoldsPart w false k p → Fits after k q → HoldsPart after false k q
+pub holds_heap : (after w : SharedValue) (k : ℕ) (p q : Private) → q ≡ record p { heap = q.heap } → HoldsPart w false k p → Fits after k q → HoldsPart after false k q
 holds_heap after w k p q is H F = record {
   fits = F;
   idle = ap (λ (z : Private). z.begun) is ∙ H.idle;
@@ -66,14 +66,14 @@ holds_heap after w k p q is H F = record {
 }
 
 -- a collection doesn't begin
-pub begin_fails : (w after : World) (k : ℕ) (e : Event) (p q : Private) (cause : NotEntered) → IsCaused cause (refused w e) → after ≡ w → IsSamePart p q → HoldsPart w false k p → Fits after k q → AnswersFor w after k e (Part q) (Err cause)
+pub begin_fails : (w after : SharedValue) (k : ℕ) (e : EntryValue) (p q : Private) (cause : NotEntered) → IsCaused cause (refused w e) → after ≡ w → IsSamePart p q → HoldsPart w false k p → Fits after k q → AnswersFor w after k e (Part q) (Err cause)
 begin_fails w after k e p q cause why same back H F =
     answers_part w after k e q (Err cause) why same tt tt (record { fits = F; idle = ap (λ (z : Private). z.begun) back ∙ H.idle; entered = λ h. ap (λ (z : Private). z.fresh) back ∙ H.entered refl })
 
 -- ---- STEPS
 
 -- a shared step is entered
-pub ran_made : (w after : World) (k : ℕ) (p : Private) (r : Ran) → p.begun ≡ None → refused w (alone_event k p) ≡ None → RanTo w after k p r → EntersFor w after k (alone_event k p) (hand_of r)
+pub ran_made : (w after : SharedValue) (k : ℕ) (p : Private) (r : Ran) → p.begun ≡ None → refused w (alone_event k p) ≡ None → RanTo w after k p r → EntersFor w after k (alone_event k p) (hand_of r)
 ran_made w after k p (Goes q) idle free R = record {
   free = free;
   enters = R.enters;
@@ -91,12 +91,12 @@ ran_made w after k p (Over q) idle free R = record {
 ran_made w after k p Done idle free R = record { free = free; enters = R.enters; others = R.others; holds = λ t held. nobody (sym (R.rest t) ∙ held) }
 
 -- behind the causes that come first it isn't refused
-pub alone_free : (w : World) (k : ℕ) (p : Private) → IsWorld w → Fits w k p → IsShared w p → p.begun ≡ None → first_cause w.end w.steps w.settings k false ≡ None → refused w (alone_event k p) ≡ None
+pub alone_free : (w : SharedValue) (k : ℕ) (p : Private) → IsSharedValue w → Fits w k p → IsShared w p → p.begun ≡ None → first_cause w.end w.steps w.settings k false ≡ None → refused w (alone_event k p) ≡ None
 alone_free w k p I F shared idle first =
     alone_answer w k p I F shared ∙ (ap (λ o. or_else o (refused_if (is_some p.begun) Collecting None)) first ∙ ap (λ o. refused_if (is_some o) Collecting None) idle)
 
 -- memory is wanting for it
-pub ran_fails : (w after : World) (k : ℕ) (e : Event) (p q : Private) (cause : NotEntered) → refused w e ≡ None → IsCaused cause (refused w e) → IsUnchanged cause w after → AllFit w after → q ≡ p → p.begun ≡ None → Fits w k p → AnswersFor w after k e (Part q) (Err cause)
+pub ran_fails : (w after : SharedValue) (k : ℕ) (e : EntryValue) (p q : Private) (cause : NotEntered) → refused w e ≡ None → IsCaused cause (refused w e) → IsUnchanged cause w after → AllFit w after → q ≡ p → p.begun ≡ None → Fits w k p → AnswersFor w after k e (Part q) (Err cause)
 ran_fails w after k e p q (Refuses cause) free why same still back idle F = none_some (sym free ∙ why)
 ran_fails w after k e p q NoMemory free why same still back idle F = record {
   same = same;
@@ -112,12 +112,12 @@ never why cause free is = by (sym (ap (option_map (λ (c : Refused). Refuses c))
     by h = absurd cc
 
 -- a part whose steps aren't entered, once the world stops
-pub stopped_part : (w : World) (k : ℕ) (p : Private) → Fits w k p → p.begun ≡ None → HoldsPart w true k p
+pub stopped_part : (w : SharedValue) (k : ℕ) (p : Private) → Fits w k p → p.begun ≡ None → HoldsPart w true k p
 stopped_part w k p F idle = record { fits = F; idle = idle; entered = λ h. absurd (false≢true (sym h)) }
 
 -- ---- A COLLECTION ENDS
 
-pub end_holds : (w after : World) (k : ℕ) (p q : Private) (moved : Moved) → HoldsCopy w k p moved → q ≡ ended p → Fits after k q → HoldsPart after false k q
+pub end_holds : (w after : SharedValue) (k : ℕ) (p q : Private) (moved : Moved) → HoldsCopy w k p moved → q ≡ ended p → Fits after k q → HoldsPart after false k q
 end_holds w after k p q moved H is F = record {
   fits = F;
   idle = ap (λ (z : Private). z.begun) is;
@@ -125,7 +125,7 @@ end_holds w after k p q moved H is F = record {
 }
 
 -- its numbers are wrong
-pub miscounts : (w : World) (k : ℕ) → IsWorld w → first_cause w.end w.steps w.settings k false ≡ None → (t : ℕ) (p : Private) (moved : Moved) (a g n : ℕ) (cause : Refused) → HoldsCopy w k p moved → p.task ≡ t → ends_as (a, g, n) (moved.taken, moved.given, moved.left) ≡ Some cause
+pub miscounts : (w : SharedValue) (k : ℕ) → IsSharedValue w → first_cause w.end w.steps w.settings k false ≡ None → (t : ℕ) (p : Private) (moved : Moved) (a g n : ℕ) (cause : Refused) → HoldsCopy w k p moved → p.task ≡ t → ends_as (a, g, n) (moved.taken, moved.given, moved.left) ≡ Some cause
     → RefusesFor w w k (record { worker = k; kind = End t a g n }) cause (Copied p moved)
 miscounts w k I first t p moved a g n cause H task is = record {
   cause_is = ap (λ u. refused w (record { worker = k; kind = End u a g n })) (sym task) ∙ (said w k I first p moved a g n (copy_fits w k p moved I H) ∙ is);

@@ -3,22 +3,22 @@ use Rattle.std.proofs.Common.{◌≡◌, ℕ, suc, ◌+◌, ◌<◌, ◌≤◌, 
 use Rattle.std.proofs.Math.Seq.{drop-cons, take-suc}
 use Rattle.std.proofs.lemmas.List.{append-nil, drop_all}
 use Rattle.hh_lang.specs.Form.{ProgramText}
-use Rattle.run_trace.specs.Entry.{Event}
-use Rattle.run_trace.specs.Settings.{Limits}
+use Rattle.run_trace.specs.Entry.{EntryValue}
+use Rattle.run_trace.specs.Settings.{SettingsValue}
 use Rattle.run_ledger.specs.declared.data.Ledger.{Ledger}
 use Rattle.run_ledger.specs.declared.data.Refused.{Refused}
 use Rattle.run_ledger.specs.Entries.{after, refusal}
 use Rattle.run_ledger.specs.Journals.{first_refused, first_refused_from, is_legal, ledger_of, opening, refused_or}
 use Rattle.shared_value.specs.Entered.{refused}
-use Rattle.shared_value.specs.Stands.{IsWorld}
-use Rattle.shared_value.specs.World.{World, accounts}
+use Rattle.shared_value.specs.Stands.{IsSharedValue}
+use Rattle.shared_value.specs.SharedValue.{SharedValue, accounts}
 use Rattle.world_core.specs.Applied.{Applies, IsStoppedBy, WantedMemory}
 use Rattle.world_core.specs.Replay.{HasCome, HasReplayed}
-use Rattle.world_core.specs.Whole.{Whole}
+use Rattle.world_core.specs.WorldValue.{WorldValue}
 use Rattle.world_core.proofs.Holding.{then_accounts}
 
 -- THE WORLD AFTER THE FIRST ENTRIES: what is left of them is refused where the whole is
-pub record Came (p : ProgramText) (s : Limits) (entries done rest : List Event) (index : ℕ) (x : Whole) : Type 0 where
+pub record Came (p : ProgramText) (s : SettingsValue) (entries done rest : List EntryValue) (index : ℕ) (x : WorldValue) : Type 0 where
   pub program : x.shared.program ≡ p
   pub settings : x.shared.settings ≡ s
   pub journal : x.shared.journal.items ≡ done
@@ -26,7 +26,7 @@ pub record Came (p : ProgramText) (s : Limits) (entries done rest : List Event) 
   pub goes : x.stopped ≡ false
   pub left : first_refused p s entries ≡ first_refused_from p s (accounts x.shared) index rest
 
-pub came_first : (p : ProgramText) (s : Limits) (entries : List Event) (x : Whole) → x.shared.program ≡ p → x.shared.settings ≡ s → x.shared.journal.items ≡ [] → x.stopped ≡ false → Came p s entries [] entries 1 x
+pub came_first : (p : ProgramText) (s : SettingsValue) (entries : List EntryValue) (x : WorldValue) → x.shared.program ≡ p → x.shared.settings ≡ s → x.shared.journal.items ≡ [] → x.stopped ≡ false → Came p s entries [] entries 1 x
 came_first p s entries x program settings none goes = record {
   program = program;
   settings = settings;
@@ -36,22 +36,22 @@ came_first p s entries x program settings none goes = record {
   left = ap (λ (l : Ledger). first_refused_from p s l 1 entries) (sym (opened x.shared program settings none));
 }
   where
-    opened : (w : World) → w.program ≡ p → w.settings ≡ s → w.journal.items ≡ [] → accounts w ≡ opening p s
-    opened w a b c = ap (λ (q : ProgramText). ledger_of q w.settings w.journal.items) a ∙ (ap (λ (t : Limits). ledger_of p t w.journal.items) b ∙ ap (ledger_of p s) c)
+    opened : (w : SharedValue) → w.program ≡ p → w.settings ≡ s → w.journal.items ≡ [] → accounts w ≡ opening p s
+    opened w a b c = ap (λ (q : ProgramText). ledger_of q w.settings w.journal.items) a ∙ (ap (λ (t : SettingsValue). ledger_of p t w.journal.items) b ∙ ap (ledger_of p s) c)
 
-module _ (p : ProgramText) (s : Limits) (entries done rest : List Event) (e : Event) (index : ℕ) (x y : Whole) (C : Came p s entries done (e ∷ rest) index x) where
+module _ (p : ProgramText) (s : SettingsValue) (entries done rest : List EntryValue) (e : EntryValue) (index : ℕ) (x y : WorldValue) (C : Came p s entries done (e ∷ rest) index x) where
   same_refusal : refusal p s (accounts x.shared) e ≡ refused x.shared e
-  same_refusal = ap (λ (q : ProgramText). refusal q s (accounts x.shared) e) (sym C.program) ∙ ap (λ (t : Limits). refusal x.shared.program t (accounts x.shared) e) (sym C.settings)
+  same_refusal = ap (λ (q : ProgramText). refusal q s (accounts x.shared) e) (sym C.program) ∙ ap (λ (t : SettingsValue). refusal x.shared.program t (accounts x.shared) e) (sym C.settings)
 
   same_after : after p s (accounts x.shared) e ≡ after x.shared.program x.shared.settings (accounts x.shared) e
-  same_after = ap (λ (q : ProgramText). after q s (accounts x.shared) e) (sym C.program) ∙ ap (λ (t : Limits). after x.shared.program t (accounts x.shared) e) (sym C.settings)
+  same_after = ap (λ (q : ProgramText). after q s (accounts x.shared) e) (sym C.program) ∙ ap (λ (t : SettingsValue). after x.shared.program t (accounts x.shared) e) (sym C.settings)
 
   -- one entry more
   pub came_on : Applies x y e → Came p s entries (done ++ e ∷ []) rest (index + 1) y
   came_on A = record {
     program = A.enters.program ∙ C.program;
     settings = A.enters.settings ∙ C.settings;
-    journal = A.enters.journal ∙ ap (λ (js : List Event). js ++ e ∷ []) C.journal;
+    journal = A.enters.journal ∙ ap (λ (js : List EntryValue). js ++ e ∷ []) C.journal;
     whole = C.whole ∙ sym (append_assoc done (e ∷ []) rest);
     goes = A.goes;
     left =
@@ -65,19 +65,19 @@ module _ (p : ProgramText) (s : Limits) (entries done rest : List Event) (e : Ev
   stopped_at cause S = C.left ∙ ap (λ o. refused_or o index (first_refused_from p s (after p s (accounts x.shared) e) (index + 1) rest)) (same_refusal ∙ S.cause_is)
 
   -- memory is wanting
-  pub come : IsWorld y.shared → WantedMemory x y → HasCome p s entries y
+  pub come : IsSharedValue y.shared → WantedMemory x y → HasCome p s entries y
   come I W =
-      let program : y.shared.program ≡ p = ap (λ (z : World). z.program) W.same.rest.rest ∙ C.program in
-      let settings : y.shared.settings ≡ s = ap (λ (z : World). z.settings) W.same.rest.rest ∙ C.settings in
+      let program : y.shared.program ≡ p = ap (λ (z : SharedValue). z.program) W.same.rest.rest ∙ C.program in
+      let settings : y.shared.settings ≡ s = ap (λ (z : SharedValue). z.settings) W.same.rest.rest ∙ C.settings in
       record {
         program = program;
         settings = settings;
         prefix = (e ∷ rest, C.whole ∙ ap (λ js. js ++ e ∷ rest) (sym (W.same.journal ∙ C.journal)));
-        legal = subst (λ (q : ProgramText). is_legal q s y.shared.journal.items ≡ true) program (subst (λ (t : Limits). is_legal y.shared.program t y.shared.journal.items ≡ true) settings I.legal);
+        legal = subst (λ (q : ProgramText). is_legal q s y.shared.journal.items ≡ true) program (subst (λ (t : SettingsValue). is_legal y.shared.program t y.shared.journal.items ≡ true) settings I.legal);
       }
 
 -- all are made
-pub came_last : (p : ProgramText) (s : Limits) (entries done : List Event) (index : ℕ) (x : Whole) → Came p s entries done [] index x → HasReplayed p s entries x
+pub came_last : (p : ProgramText) (s : SettingsValue) (entries done : List EntryValue) (index : ℕ) (x : WorldValue) → Came p s entries done [] index x → HasReplayed p s entries x
 came_last p s entries done index x C = record {
   program = C.program;
   settings = C.settings;
@@ -88,10 +88,10 @@ came_last p s entries done index x C = record {
 
 -- ---- BY PLACES: so many of the entries are made
 
-abbrev pub CameTo : ProgramText → Limits → List Event → ℕ → ℕ → Whole → Type 0
+abbrev pub CameTo : ProgramText → SettingsValue → List EntryValue → ℕ → ℕ → WorldValue → Type 0
 CameTo p s entries k index x = Came p s entries (take k entries) (drop k entries) index x
 
-module _ (p : ProgramText) (s : Limits) (entries : List Event) (k index : ℕ) (e : Event) (within : k < length entries) (is : e ≡ get_or entries k e) (x y : Whole) (C : CameTo p s entries k index x) where
+module _ (p : ProgramText) (s : SettingsValue) (entries : List EntryValue) (k index : ℕ) (e : EntryValue) (within : k < length entries) (is : e ≡ get_or entries k e) (x y : WorldValue) (C : CameTo p s entries k index x) where
   got : get_or entries k e ≡ e
   got = sym is
 
@@ -110,8 +110,8 @@ module _ (p : ProgramText) (s : Limits) (entries : List Event) (k index : ℕ) (
   pub stops_at : (cause : Refused) → IsStoppedBy x y e cause → first_refused p s entries ≡ Some (record { index = index; cause = cause })
   stops_at cause S = stopped_at p s entries (take k entries) (drop (k + 1) entries) e index x y at cause S
 
-  pub come_to : IsWorld y.shared → WantedMemory x y → HasCome p s entries y
+  pub come_to : IsSharedValue y.shared → WantedMemory x y → HasCome p s entries y
   come_to I W = come p s entries (take k entries) (drop (k + 1) entries) e index x y at I W
 
-pub came_all : (p : ProgramText) (s : Limits) (entries : List Event) (k index : ℕ) (x : Whole) → length entries ≤ k → CameTo p s entries k index x → HasReplayed p s entries x
+pub came_all : (p : ProgramText) (s : SettingsValue) (entries : List EntryValue) (k index : ℕ) (x : WorldValue) → length entries ≤ k → CameTo p s entries k index x → HasReplayed p s entries x
 came_all p s entries k index x le C = came_last p s entries (take k entries) index x (subst (λ rest. Came p s entries (take k entries) rest index x) (drop_all k entries le) C)

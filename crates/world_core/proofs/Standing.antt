@@ -5,13 +5,13 @@ use Rattle.hh_lang.specs.Form.{ProgramText}
 use Rattle.hh_model.specs.declared.data.State.{State}
 use Rattle.hh_model.specs.Step.{asked}
 use Rattle.run_trace.specs.declared.entry.Kind.TheVariants.{Ran}
-use Rattle.run_trace.specs.Settings.{Limits}
+use Rattle.run_trace.specs.Settings.{SettingsValue}
 use Rattle.run_ledger.specs.declared.data.Ledger.{Ledger}
 use Rattle.run_ledger.specs.declared.data.Refused.TheVariants.{Collecting, Long}
 use Rattle.run_ledger.specs.Entries.{long_at, refused_if}
 use Rattle.run_ledger.specs.Heaps.{heap_of, lacks_room}
 use Rattle.run_ledger.specs.Steps.{is_due, is_in_need, is_private, most_steps, on_asked, standing, task_step, task_steps}
-use Rattle.ledger_steps.specs.Accounts.{ArePrivate}
+use Rattle.ledger_step_laws.specs.Accounts.{ArePrivate}
 use Rattle.core_relation.specs.Fits.{FitsAt}
 use Rattle.core_relation.specs.Fits.{ahead}
 use Rattle.core_relation.proofs.parts.Quiet.{aside_is}
@@ -24,8 +24,8 @@ use Rattle.shared_value.specs.Causes.{first_cause}
 use Rattle.shared_value.specs.Entered.{refused}
 use Rattle.shared_value.specs.Fits.{Fits, part_of}
 use Rattle.shared_value.specs.Next.{next_line}
-use Rattle.shared_value.specs.Stands.{IsWorld}
-use Rattle.shared_value.specs.World.{World, accounts, value_of}
+use Rattle.shared_value.specs.Stands.{IsSharedValue}
+use Rattle.shared_value.specs.SharedValue.{SharedValue, accounts, value_of}
 use Rattle.shared_value.proofs.NextStepAsks.{asks_is, asks_two, counted_is, since_is}
 use Rattle.shared_value.proofs.CollectionUnderWay.{at_part}
 use Rattle.shared_value.proofs.PartFitsMachine as link
@@ -37,7 +37,7 @@ use Rattle.world_core.proofs.HandCauses.{behind, on}
 
 -- ---- BEHIND PRIVATE STEPS
 
-pub standing_then : (p : ProgramText) (s : Limits) (t n x m : ℕ) (l : Ledger) → x ≡ n + m → ArePrivate p s l t n → standing s p l t x ≡ n + standing s p (task_steps p l t n) t m
+pub standing_then : (p : ProgramText) (s : SettingsValue) (t n x m : ℕ) (l : Ledger) → x ≡ n + m → ArePrivate p s l t n → standing s p l t x ≡ n + standing s p (task_steps p l t n) t m
 standing_then p s t zero x m l e h =
     let is : x ≡ m = omega (arith, e) in
     ap (standing s p l t) is ∙ (let z : standing s p l t m ≡ 0 + standing s p l t m = omega arith in z)
@@ -49,10 +49,10 @@ standing_then p s t (suc n) (suc x) m l e h =
     ∙ (ap suc (standing_then p s t n x m k (omega (arith, e)) h.3) ∙ (let z : suc (n + standing s p (task_steps p k t n) t m) ≡ suc n + standing s p (task_steps p k t n) t m = omega arith in z)))
 
 -- no step that is due or in need stands in an entry, and one that isn't private stands there as the last
-none_stands : (p : ProgramText) (s : Limits) (t m : ℕ) (l : Ledger) → (is_due s p l t || is_in_need p l t) ≡ true → standing s p l t (suc m) ≡ 0
+none_stands : (p : ProgramText) (s : SettingsValue) (t m : ℕ) (l : Ledger) → (is_due s p l t || is_in_need p l t) ≡ true → standing s p l t (suc m) ≡ 0
 none_stands p s t m l e = cond-true (is_due s p l t || is_in_need p l t) 0 (cond (is_private p l.machine t) (suc (standing s p (task_step p l t) t m)) 1) e
 
-one_stands : (p : ProgramText) (s : Limits) (t m : ℕ) (l : Ledger) → is_due s p l t ≡ false → is_in_need p l t ≡ false → is_private p l.machine t ≡ false → standing s p l t (suc m) ≡ 1
+one_stands : (p : ProgramText) (s : SettingsValue) (t m : ℕ) (l : Ledger) → is_due s p l t ≡ false → is_in_need p l t ≡ false → is_private p l.machine t ≡ false → standing s p l t (suc m) ≡ 1
 one_stands p s t m l due need shared =
     cond-false (is_due s p l t || is_in_need p l t) 0 (cond (is_private p l.machine t) (suc (standing s p (task_step p l t) t m)) 1) (ap₂ (λ a b. a || b) due need)
     ∙ cond-false (is_private p l.machine t) (suc (standing s p (task_step p l t) t m)) 1 shared
@@ -67,7 +67,7 @@ or_right false b e = e
 
 -- ---- A PART, before the run's end
 
-module _ (w : World) (k : ℕ) (p : Private) (I : IsWorld w) (F : Fits w k p) (going : (accounts w).end ≡ None) where
+module _ (w : SharedValue) (k : ℕ) (p : Private) (I : IsSharedValue w) (F : Fits w k p) (going : (accounts w).end ≡ None) where
   abbrev t : ℕ
   t = p.task
 
@@ -118,7 +118,7 @@ module _ (p : Private) where
   standing_most NeedChunk = omega arith
   standing_most Spent = omega arith
 
-pub last_shared : (w : World) (p : Private) (why : Paused) (n : ℕ) → IsNext w p why → standing_by p why ≡ n → p.fresh ≢ n → n ≤ 257 → IsShared w p × (p.fresh + 1 ≡ n)
+pub last_shared : (w : SharedValue) (p : Private) (why : Paused) (n : ℕ) → IsNext w p why → standing_by p why ≡ n → p.fresh ≢ n → n ≤ 257 → IsShared w p × (p.fresh + 1 ≡ n)
 last_shared w p Shared n next is ne le = (record { last = next; few = omega (arith, is, le) }, is)
 last_shared w p Due n next is ne le = absurd (ne is)
 last_shared w p NeedChunk n next is ne le = absurd (ne is)
@@ -134,7 +134,7 @@ less_by : (a b : ℕ) → a ≤ b → a ≢ b → a < b
 less_by a b le ne = elim (cases_lt a b) [ inl lt ↦ lt | inr ge ↦ absurd (ne (omega (arith, le, ge))) ]
 
 -- WHERE FEWER STEPS STAND, the entry is too long
-pub too_long : (w : World) (k : ℕ) (p : Private) (why : Paused) (n : ℕ) → IsWorld w → Fits w k p → p.begun ≡ None → first_cause w.end w.steps w.settings k false ≡ None → IsNext w p why → (why ≡ Spent → p.fresh ≡ n) → p.fresh ≤ n → p.fresh ≢ n → standing_by p why ≢ n → n ≤ 257
+pub too_long : (w : SharedValue) (k : ℕ) (p : Private) (why : Paused) (n : ℕ) → IsSharedValue w → Fits w k p → p.begun ≡ None → first_cause w.end w.steps w.settings k false ≡ None → IsNext w p why → (why ≡ Spent → p.fresh ≡ n) → p.fresh ≤ n → p.fresh ≢ n → standing_by p why ≢ n → n ≤ 257
     → refused w (record { worker = k; kind = Ran p.task n }) ≡ Some (Long (standing_by p why))
 too_long w k p why n I F idle first next spent within off not_all few =
     let l : Ledger = accounts w in

@@ -13,24 +13,24 @@ use Rattle.run_ledger.specs.declared.data.Ledger.{Ledger}
 use Rattle.run_ledger.proofs.Holders.{tasks_are_held_once}
 use Rattle.run_ledger.specs.declared.data.RunEnd.{RunEnd}
 use Rattle.run_ledger.specs.declared.data.RunEnd.TheVariants.{Fuel, Machine, Pool}
-use Rattle.ledger_steps.specs.Accounts.{Knows, Rests, aside}
-use Rattle.ledger_steps.proofs.Known.{legal_knows}
-use Rattle.ledger_steps.proofs.Rested.{rested_knows, rested_worker}
+use Rattle.ledger_step_laws.specs.Accounts.{Knows, Rests, aside}
+use Rattle.ledger_step_laws.proofs.Known.{legal_knows}
+use Rattle.ledger_step_laws.proofs.Rested.{rested_knows, rested_worker}
 use Rattle.core_relation.specs.Fits.{Part as PartOf, ahead}
 use Rattle.core_relation.specs.Frames.{NotOf, all_ahead}
-use Rattle.core_relation.specs.Value.{In}
+use Rattle.core_relation.specs.Memory.{In}
 use Rattle.core_relation.specs.Worker.{AllFit, Fits as FitsValue}
 use Rattle.core_relation.proofs.parts.All.{all_fit_together}
 use Rattle.core_relation.specs.Whole.{by_end, handed}
 use Rattle.shared_value.specs.Fits.{part_of}
-use Rattle.shared_value.specs.Stands.{IsWorld}
-use Rattle.shared_value.specs.World.{World, accounts, flat, value_of}
+use Rattle.shared_value.specs.Stands.{IsSharedValue}
+use Rattle.shared_value.specs.SharedValue.{SharedValue, accounts, flat, value_of}
 use Rattle.shared_value.proofs.EntryMade.{held_by_end}
 use Rattle.heap_reading.proofs.IdleTasks.{done_idles}
 use Rattle.world_core.specs.declared.held.Held.{Held}
 use Rattle.world_core.specs.declared.held.Held.TheVariants.{Nothing, Part, Copied}
 use Rattle.world_core.specs.Together.{AreParts, HoldsOneOf, IsPartIn, PartsStand, StandsTogether, with_parts}
-use Rattle.world_core.specs.Whole.{Holds, IsWhole, Whole}
+use Rattle.world_core.specs.WorldValue.{Holds, IsWhole, WorldValue}
 use Rattle.world_core.proofs.Aside.{fits_aside, knows_aside, stands_aside}
 use Rattle.world_core.proofs.HandCauses.{copy_fits}
 use Rattle.world_core.proofs.WasHeld.{WasHeld, nobody, one_held, steps_held, then_held}
@@ -42,23 +42,23 @@ not_of t [] h = tt
 not_of t (q ∷ qs) h = (h q (inl refl), not_of t qs (λ r i. h r (inr i)))
 
 -- the parts in some hands, of which the j-th is that of the worker `of j`
-record Found (w : World) (of : ℕ → ℕ) (hands : List Held) : Type 0 where
+record Found (w : SharedValue) (of : ℕ → ℕ) (hands : List Held) : Type 0 where
   parts : List PartOf
   fit : AllFit w.program w.settings parts (value_of w) (accounts w)
   from : (q : PartOf) → In parts q → (j : ℕ) × (h : Held) × (slice_get hands j ≡ Some h) × IsPartIn w (of j) h q × ((heap_of (accounts w) q.task).worker ≡ Some (of j))
   all : (j : ℕ) (h : Held) → slice_get hands j ≡ Some h → HoldsOneOf w (of j) h parts
 
-one_more : (w : World) (k : ℕ) (h : Held) (qs : List PartOf) (q : PartOf) → HoldsOneOf w k h qs → HoldsOneOf w k h (q ∷ qs)
+one_more : (w : SharedValue) (k : ℕ) (h : Held) (qs : List PartOf) (q : PartOf) → HoldsOneOf w k h qs → HoldsOneOf w k h (q ∷ qs)
 one_more w k Nothing qs q H = tt
 one_more w k (Part p) qs q H = (H.0, inr H.1, H.2)
 one_more w k (Copied p moved) qs q H = (H.0, inr H.1, H.2)
 
-here : (w : World) (k : ℕ) (h : Held) (qs : List PartOf) (q : PartOf) → IsPartIn w k h q → HoldsOneOf w k h (q ∷ qs)
+here : (w : SharedValue) (k : ℕ) (h : Held) (qs : List PartOf) (q : PartOf) → IsPartIn w k h q → HoldsOneOf w k h (q ∷ qs)
 here w k Nothing qs q i = tt
 here w k (Part p) qs q i = (q, inl refl, i)
 here w k (Copied p moved) qs q i = (q, inl refl, i)
 
-module _ (w : World) (holders : HoldsTasks (accounts w)) where
+module _ (w : SharedValue) (holders : HoldsTasks (accounts w)) where
   -- a hand that holds a part, before others
   with_part : (of : ℕ → ℕ) → ((i j : ℕ) → of i ≡ of j → i ≡ j) → (h : Held) (hs : List Held) (q : PartOf) → IsPartIn w (of 0) h q → FitsValue w.program w.settings q (value_of w) (accounts w) → (heap_of (accounts w) q.task).worker ≡ Some (of 0)
       → Found w (λ j. of (suc j)) hs → Found w of (h ∷ hs)
@@ -144,8 +144,8 @@ there [] k lt = absurd (omega (arith, lt))
 there (x ∷ xs) zero lt = (x, refl)
 there (x ∷ xs) (suc k) lt = there xs k (omega (arith, lt))
 
-module _ (x : Whole) (I : IsWorld x.shared) (W : IsWhole x) where
-  abbrev w : World
+module _ (x : WorldValue) (I : IsSharedValue x.shared) (W : IsWhole x) where
+  abbrev w : SharedValue
   w = x.shared
 
   holds_tasks : HoldsTasks (accounts w)

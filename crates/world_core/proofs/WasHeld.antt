@@ -10,7 +10,7 @@ use Rattle.hh_model.specs.declared.data.Status.{Status}
 use Rattle.hh_model.specs.declared.data.Status.TheVariants.{Running, Waiting, Ended, Joined}
 use Rattle.hh_model.specs.declared.data.Task.{Task}
 use Rattle.hh_model.specs.Step.{asked, can_step, is_left, step}
-use Rattle.run_trace.specs.Settings.{Limits}
+use Rattle.run_trace.specs.Settings.{SettingsValue}
 use Rattle.run_trace.specs.declared.entry.Kind.{Kind}
 use Rattle.run_trace.specs.declared.entry.Kind.TheVariants.{Took, Ran, Chunk, Begin, End as EndOf, PutOff, Mark, More, Sweep, Fuel}
 use Rattle.run_ledger.specs.declared.data.Heap.{Heap}
@@ -20,7 +20,7 @@ use Rattle.run_ledger.specs.declared.data.RunEnd.TheVariants.{Pool}
 use Rattle.run_ledger.specs.Entries.{after_kind, chunk_units, with_chunk}
 use Rattle.run_ledger.specs.Heaps.{chunk_words, collected, emptied, forked_heap, fresh, heap_of, in_use, is_small, let_go, merged, or_fresh, placed, put_last, swept_heap, with_heap, within}
 use Rattle.run_ledger.specs.Steps.{allocated_by, allocated_in, at_fork, join_heaps, moved_on, moved_to, on_asked, settled, stepped_to, task_step, task_steps}
-use Rattle.ledger_steps.proofs.Ahead.{heap_then, with_at, with_off}
+use Rattle.ledger_step_laws.proofs.Ahead.{heap_then, with_at, with_off}
 use Rattle.world_core.specs.Applied.{is_own}
 
 -- who holds a task in the one held it in the other
@@ -139,7 +139,7 @@ chunk_held l t next false end = one_held l t (with_chunk next) (λ h k e. by h k
     by h k false e = e
 
 -- an entry of any other kind leaves it so for each worker
-pub kind_held : (p : ProgramText) (s : Limits) (l : Ledger) (w : ℕ) (kind : Kind) → WasHeldBut w l (after_kind p s l w kind)
+pub kind_held : (p : ProgramText) (s : SettingsValue) (l : Ledger) (w : ℕ) (kind : Kind) → WasHeldBut w l (after_kind p s l w kind)
 kind_held p s l w (Took t) = took_held l t w
 kind_held p s l w (Ran t n) = λ u k ne e. steps_held p n l t u k e
 kind_held p s l w (Chunk t) = λ u k ne e. chunk_held l t (asked p l.machine t) (nat_lt s.chunks (in_use l + chunk_units (asked p l.machine t))) (Pool (in_use l)) u k e
@@ -152,7 +152,7 @@ kind_held p s l w (Sweep t g) = λ u k ne e. one_held l t swept_heap (λ h j q. 
 kind_held p s l w Fuel = λ u k ne e. e
 
 -- and one for a task that no worker takes or holds leaves it so for all
-pub apart_held : (p : ProgramText) (s : Limits) (l : Ledger) (w : ℕ) (kind : Kind) → is_own kind ≡ false → WasHeld l (after_kind p s l w kind)
+pub apart_held : (p : ProgramText) (s : SettingsValue) (l : Ledger) (w : ℕ) (kind : Kind) → is_own kind ≡ false → WasHeld l (after_kind p s l w kind)
 apart_held p s l w (Took t) h = absurd cc
 apart_held p s l w (Ran t n) h = absurd cc
 apart_held p s l w (Chunk t) h = absurd cc

@@ -2,14 +2,14 @@
 use Rattle.std.specs.Prelude.{◌≡◌, ℕ, ◌==◌, Bool, true, false, Option, Some, None, List, Result, Ok, Err, if◌then◌else◌}
 use Rattle.run_trace.specs.declared.entry.Kind.{Kind}
 use Rattle.run_trace.specs.declared.entry.Kind.TheVariants.{Fuel, Mark, More, Sweep}
-use Rattle.run_trace.specs.Entry.{Event}
+use Rattle.run_trace.specs.Entry.{EntryValue}
 use Rattle.run_ledger.specs.declared.data.Refused.{Refused}
 use Rattle.run_ledger.specs.declared.data.Refused.TheVariants.{Collecting, NotCollecting, NotOut}
 use Rattle.shared_value.specs.declared.answer.NotEntered.{NotEntered}
 use Rattle.shared_value.specs.declared.answer.NotEntered.TheVariants.{NoMemory, Refuses}
 use Rattle.shared_value.specs.Entered.{Enters, refused}
 use Rattle.shared_value.specs.Fits.{AllFit, OthersFit}
-use Rattle.shared_value.specs.World.{World}
+use Rattle.shared_value.specs.SharedValue.{SharedValue}
 use Rattle.child_tasks.specs.Joins.{SameButPlaces}
 use Rattle.shared_tree.specs.declared.ran.Ran.{Ran}
 use Rattle.shared_tree.specs.declared.ran.Ran.TheVariants.{Done, Ended, Forked, Goes, Over}
@@ -18,14 +18,14 @@ use Rattle.world_core.specs.declared.held.Held.TheVariants.{Nothing, Part, Copie
 use Rattle.world_core.specs.declared.held.Made.{Made}
 use Rattle.world_core.specs.declared.world.NotApplied.{NotApplied}
 use Rattle.world_core.specs.declared.world.NotApplied.TheVariants.{Stopped, Refuses as IsRefused, NoMemory as WantsMemory}
-use Rattle.world_core.specs.Whole.{AllHold, Holds, Whole}
+use Rattle.world_core.specs.WorldValue.{AllHold, Holds, WorldValue}
 
 -- the same shared value, but for how many entries more its journal has room for
-abbrev pub SameButRoomier : World → World → Type 0
+abbrev pub SameButRoomier : SharedValue → SharedValue → Type 0
 SameButRoomier w after = after ≡ record w { journal = record { items = w.journal.items; room = after.journal.room } }
 
 -- the same, but for the places that heaps and sets have for more too
-pub record SameButReserved (w after : World) : Type 0 where
+pub record SameButReserved (w after : SharedValue) : Type 0 where
   pub journal : after.journal.items ≡ w.journal.items
   pub rest : SameButPlaces w (record after { journal = w.journal })
 
@@ -61,59 +61,59 @@ is_own (Sweep t given) = false
 is_own Fuel = false
 is_own _ = true
 
-pub record EntersFor (w after : World) (k : ℕ) (e : Event) (hand : Held) : Type 0 where
+pub record EntersFor (w after : SharedValue) (k : ℕ) (e : EntryValue) (hand : Held) : Type 0 where
   pub free : refused w e ≡ None
   pub enters : Enters w after e
   pub others : OthersFit w after k
   pub holds : Holds after false k hand
 
-pub record RefusesFor (w after : World) (k : ℕ) (e : Event) (cause : Refused) (hand : Held) : Type 0 where
+pub record RefusesFor (w after : SharedValue) (k : ℕ) (e : EntryValue) (cause : Refused) (hand : Held) : Type 0 where
   pub cause_is : refused w e ≡ Some cause
   pub same : after ≡ w
   pub holds : Holds after true k hand
 
-pub record WantsFor (w after : World) (k : ℕ) (hand : Held) : Type 0 where
+pub record WantsFor (w after : SharedValue) (k : ℕ) (hand : Held) : Type 0 where
   pub same : SameButPlaces w after
   pub still : AllFit w after
   pub holds : Holds after true k hand
 
-abbrev pub AnswersFor : World → World → ℕ → Event → Held → Result (Unit {0}) NotEntered → Type 0
+abbrev pub AnswersFor : SharedValue → SharedValue → ℕ → EntryValue → Held → Result (Unit {0}) NotEntered → Type 0
 AnswersFor w after k e hand (Ok x) = EntersFor w after k e hand
 AnswersFor w after k e hand (Err (Refuses cause)) = RefusesFor w after k e cause hand
 AnswersFor w after k e hand (Err NoMemory) = WantsFor w after k hand
 
-abbrev pub MakesFor : World → World → ℕ → Event → Made → Type 0
+abbrev pub MakesFor : SharedValue → SharedValue → ℕ → EntryValue → Made → Type 0
 MakesFor w after k e made = AnswersFor w after k e made.hand made.answer
 
 -- ---- AN ENTRY FOR A TASK THAT NO WORKER HOLDS, or the end for spent fuel
 
-pub record EntersApart (w after : World) (e : Event) : Type 0 where
+pub record EntersApart (w after : SharedValue) (e : EntryValue) : Type 0 where
   pub free : refused w e ≡ None
   pub enters : Enters w after e
   pub fit : AllFit w after
 
-abbrev pub AnswersApart : World → World → Event → Result (Unit {0}) NotEntered → Type 0
+abbrev pub AnswersApart : SharedValue → SharedValue → EntryValue → Result (Unit {0}) NotEntered → Type 0
 AnswersApart w after e (Ok x) = EntersApart w after e
 AnswersApart w after e (Err (Refuses cause)) = (refused w e ≡ Some cause) × (after ≡ w)
 AnswersApart w after e (Err NoMemory) = after ≡ w
 
 -- ---- AN ENTRY, and what all workers hold then
 
-pub record EntersAll (w after : World) (e : Event) (hands : List Held) : Type 0 where
+pub record EntersAll (w after : SharedValue) (e : EntryValue) (hands : List Held) : Type 0 where
   pub free : refused w e ≡ None
   pub enters : Enters w after e
   pub holds : AllHold after false hands
 
-pub record RefusesAll (w after : World) (e : Event) (cause : Refused) (hands : List Held) : Type 0 where
+pub record RefusesAll (w after : SharedValue) (e : EntryValue) (cause : Refused) (hands : List Held) : Type 0 where
   pub cause_is : refused w e ≡ Some cause
   pub same : SameButRoomier w after
   pub holds : AllHold after true hands
 
-pub record WantsAll (w after : World) (hands : List Held) : Type 0 where
+pub record WantsAll (w after : SharedValue) (hands : List Held) : Type 0 where
   pub same : SameButReserved w after
   pub holds : AllHold after true hands
 
-abbrev pub AnswersAll : World → World → Event → List Held → Result (Unit {0}) NotEntered → Type 0
+abbrev pub AnswersAll : SharedValue → SharedValue → EntryValue → List Held → Result (Unit {0}) NotEntered → Type 0
 AnswersAll w after e hands (Ok x) = EntersAll w after e hands
 AnswersAll w after e hands (Err (Refuses cause)) = RefusesAll w after e cause hands
 AnswersAll w after e hands (Err NoMemory) = WantsAll w after hands
@@ -121,26 +121,26 @@ AnswersAll w after e hands (Err NoMemory) = WantsAll w after hands
 -- ---- AN ENTRY OF THE WORLD
 
 -- it is made: the world went on and goes on
-pub record Applies (x y : Whole) (e : Event) : Type 0 where
+pub record Applies (x y : WorldValue) (e : EntryValue) : Type 0 where
   pub went : x.stopped ≡ false
   pub free : refused x.shared e ≡ None
   pub enters : Enters x.shared y.shared e
   pub goes : y.stopped ≡ false
 
 -- it is refused: the world went on, and has stopped; its shared value is as it was
-pub record IsStoppedBy (x y : Whole) (e : Event) (cause : Refused) : Type 0 where
+pub record IsStoppedBy (x y : WorldValue) (e : EntryValue) (cause : Refused) : Type 0 where
   pub went : x.stopped ≡ false
   pub cause_is : refused x.shared e ≡ Some cause
   pub same : SameButRoomier x.shared y.shared
   pub stops : y.stopped ≡ true
 
 -- memory was wanting: the world went on, and has stopped; its shared value stands as it did
-pub record WantedMemory (x y : Whole) : Type 0 where
+pub record WantedMemory (x y : WorldValue) : Type 0 where
   pub went : x.stopped ≡ false
   pub same : SameButReserved x.shared y.shared
   pub stops : y.stopped ≡ true
 
-abbrev pub AppliesTo : Whole → Whole → Event → Result (Unit {0}) NotApplied → Type 0
+abbrev pub AppliesTo : WorldValue → WorldValue → EntryValue → Result (Unit {0}) NotApplied → Type 0
 AppliesTo x y e (Ok u) = Applies x y e
 AppliesTo x y e (Err Stopped) = (x.stopped ≡ true) × (y ≡ x)
 AppliesTo x y e (Err (IsRefused cause)) = IsStoppedBy x y e cause

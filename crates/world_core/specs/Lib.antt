@@ -1,5 +1,5 @@
 pub mod Next
-pub mod Whole
+pub mod WorldValue
 pub mod Applied
 pub mod Together
 pub mod Replay

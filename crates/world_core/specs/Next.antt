@@ -4,11 +4,11 @@ use Rattle.task_machine.specs.declared.part.Private.{Private}
 use Rattle.task_machine.specs.declared.part.Paused.{Paused}
 use Rattle.task_machine.specs.declared.part.Paused.TheVariants.{Shared, Due, NeedChunk, Spent}
 use Rattle.task_machine.specs.Run.{Pauses}
-use Rattle.shared_value.specs.World.{World}
+use Rattle.shared_value.specs.SharedValue.{SharedValue}
 use Rattle.own_steps.specs.Alone.{machine_after}
 
 -- what comes next of the part's task, by the machine after its fresh steps
-abbrev pub IsNext : World → Private → Paused → Type 0
+abbrev pub IsNext : SharedValue → Private → Paused → Type 0
 IsNext w p why = Pauses w.program p (machine_after w p) why
 
 -- how many steps can stand in one entry: the private ones, and one more that isn't

@@ -2,48 +2,48 @@
 use Rattle.std.specs.Prelude.{◌≡◌, ℕ, Some, List, slice_get}
 use Rattle.run_ledger.specs.declared.data.Ledger.{Ledger}
 use Rattle.leaf_copy_gc.specs.declared.lists.Moved.{Moved}
-use Rattle.ledger_steps.specs.Accounts.{Rests, aside}
+use Rattle.ledger_step_laws.specs.Accounts.{Rests, aside}
 use Rattle.core_relation.specs.Fits.{Part as PartOf}
 use Rattle.core_relation.specs.Frames.{all_ahead, with_homes}
 use Rattle.core_relation.specs.Stands.{Stands}
-use Rattle.core_relation.specs.Value.{In}
+use Rattle.core_relation.specs.Memory.{In}
 use Rattle.core_relation.specs.Whole.{handed}
 use Rattle.task_machine.specs.declared.part.Private.{Private}
 use Rattle.shared_value.specs.Fits.{part_of}
-use Rattle.shared_value.specs.World.{World, accounts, value_of}
+use Rattle.shared_value.specs.SharedValue.{SharedValue, accounts, value_of}
 use Rattle.leaf_collections.specs.LeafEnd.{FitsCopied}
 use Rattle.world_core.specs.declared.held.Held.{Held}
 use Rattle.world_core.specs.declared.held.Held.TheVariants.{Nothing, Part, Copied}
-use Rattle.world_core.specs.Whole.{HoldsCopy, Whole}
+use Rattle.world_core.specs.WorldValue.{HoldsCopy, WorldValue}
 
 -- the part that a worker holds; of one that was copied, what it was before
-abbrev pub IsPartIn : World → ℕ → Held → PartOf → Type 0
+abbrev pub IsPartIn : SharedValue → ℕ → Held → PartOf → Type 0
 IsPartIn w k Nothing q = ⊥
 IsPartIn w k (Part p) q = q ≡ part_of w.settings p
 IsPartIn w k (Copied p moved) q = (H : HoldsCopy w k p moved) × (q ≡ part_of w.settings H.before)
 
 -- a worker holds it
-pub record IsHeldBy (x : Whole) (k : ℕ) (q : PartOf) : Type 0 where
+pub record IsHeldBy (x : WorldValue) (k : ℕ) (q : PartOf) : Type 0 where
   pub hand : Held
   pub is : slice_get x.hands k ≡ Some hand
   pub part : IsPartIn x.shared k hand q
 
 -- a worker that holds something holds one of these
-abbrev pub HoldsOneOf : World → ℕ → Held → List PartOf → Type 0
+abbrev pub HoldsOneOf : SharedValue → ℕ → Held → List PartOf → Type 0
 HoldsOneOf w k Nothing qs = Unit {0}
 HoldsOneOf w k h qs = (q : PartOf) × In qs q × IsPartIn w k h q
 
 -- these are the parts that workers hold
-pub record AreParts (x : Whole) (qs : List PartOf) : Type 0 where
+pub record AreParts (x : WorldValue) (qs : List PartOf) : Type 0 where
   pub each : (q : PartOf) → In qs q → (k : ℕ) × IsHeldBy x k q
   pub all : (k : ℕ) (h : Held) → slice_get x.hands k ≡ Some h → HoldsOneOf x.shared k h qs
 
 -- the accounts with the fresh steps of all parts, their tasks at rest: the machine's end is left aside, and once the run is done the
 -- root is handed back
-abbrev pub with_parts : World → List PartOf → Ledger
+abbrev pub with_parts : SharedValue → List PartOf → Ledger
 with_parts w qs = all_ahead w.program qs (aside (handed (accounts w)))
 
-pub record PartsStand (x : Whole) : Type 0 where
+pub record PartsStand (x : WorldValue) : Type 0 where
   pub parts : List PartOf
   pub are : AreParts x parts
   -- with all their homes
@@ -52,6 +52,6 @@ pub record PartsStand (x : Whole) : Type 0 where
   pub rest : (t : ℕ) → Rests (with_parts x.shared parts) t
 
 -- the parts stand together, and the copy of each heap between the begin and the end of its collection is one
-pub record StandsTogether (x : Whole) : Type 0 where
+pub record StandsTogether (x : WorldValue) : Type 0 where
   pub parts : PartsStand x
   pub copies : (k : ℕ) (p : Private) (moved : Moved) → slice_get x.hands k ≡ Some (Copied p moved) → FitsCopied x.shared k p moved

@@ -4,7 +4,7 @@ ghost use Rattle.std.specs.Prelude.{◌≡◌, ◌<◌, None, OnOk, false, lengt
 ghost use Rattle.run_trace.specs.Entry.{IsKind};
 ghost use Rattle.shared_value.specs.Causes.{first_cause};
 ghost use Rattle.world_core.specs.Applied.{is_own, AnswersAll, MakesFor};
-ghost use Rattle.world_core.specs.Whole.{AllHold, Holds};
+ghost use Rattle.world_core.specs.WorldValue.{AllHold, Holds};
 
 use crate::apply_apart::apply_apart;
 use crate::apply_begin::apply_begin;

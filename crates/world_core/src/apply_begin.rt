@@ -5,9 +5,9 @@ ghost use Rattle.task_machine.specs.declared.part.Private.{Private as PartOf};
 ghost use Rattle.shared_value.specs.Causes.{first_cause};
 ghost use Rattle.shared_value.specs.LeafBegin.{HasBegun};
 ghost use Rattle.shared_value.specs.Fits.{Fits};
-ghost use Rattle.shared_value.specs.World.{accounts};
+ghost use Rattle.shared_value.specs.SharedValue.{accounts};
 ghost use Rattle.world_core.specs.Applied.{MakesFor};
-ghost use Rattle.world_core.specs.Whole.{Holds, HoldsCopy, HoldsPart};
+ghost use Rattle.world_core.specs.WorldValue.{Holds, HoldsCopy, HoldsPart};
 
 use crate::held::{Held, Made, idle_part};
 use counted_tree::Counted;

@@ -3,7 +3,7 @@
 ghost use Rattle.std.specs.Prelude.{◌≡◌, ◌<◌, None, false};
 ghost use Rattle.shared_value.specs.Causes.{first_cause};
 ghost use Rattle.world_core.specs.Applied.{MakesFor};
-ghost use Rattle.world_core.specs.Whole.{Holds, HoldsPart};
+ghost use Rattle.world_core.specs.WorldValue.{Holds, HoldsPart};
 
 use crate::held::{Held, Made, idle_part};
 use counted_tree::Counted;

@@ -4,7 +4,7 @@ ghost use Rattle.std.specs.Prelude.{◌≡◌, ◌<◌, None, false};
 ghost use Rattle.run_ledger.specs.Entries.{ends_as};
 ghost use Rattle.shared_value.specs.Causes.{first_cause};
 ghost use Rattle.world_core.specs.Applied.{MakesFor};
-ghost use Rattle.world_core.specs.Whole.{Holds, HoldsCopy};
+ghost use Rattle.world_core.specs.WorldValue.{Holds, HoldsCopy};
 
 use crate::held::{Held, Made, copied_part};
 use counted_tree::Counted;

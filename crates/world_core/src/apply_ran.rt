@@ -6,7 +6,7 @@ ghost use Rattle.shared_value.specs.Fits.{Fits};
 ghost use Rattle.own_steps.specs.Alone.{alone_event, IsShared};
 ghost use Rattle.world_core.specs.Applied.{hand_of, MakesFor};
 ghost use Rattle.world_core.specs.Next.{standing_by, IsNext};
-ghost use Rattle.world_core.specs.Whole.{Holds, HoldsPart};
+ghost use Rattle.world_core.specs.WorldValue.{Holds, HoldsPart};
 
 use crate::held::{Held, Made, idle_part};
 use counted_tree::Counted;

@@ -1,10 +1,10 @@
 // The whole as one value: the shared value and what every worker holds, to which entries are applied one by one.
 
 ghost use Rattle.std.specs.Prelude.{◌≡◌, [], IfOk, false, replicate};
-ghost use Rattle.shared_value.specs.Stands.{IsWorld};
+ghost use Rattle.shared_value.specs.Stands.{IsSharedValue};
 ghost use Rattle.world_core.specs.Applied.{AppliesTo};
 ghost use Rattle.world_core.specs.Together.{StandsTogether};
-ghost use Rattle.world_core.specs.Whole.{IsWhole};
+ghost use Rattle.world_core.specs.WorldValue.{IsWhole};
 
 use crate::apply::make_entry;
 use crate::held::Held;
@@ -37,9 +37,9 @@ pub struct World {
 }
 
 impl Model for World {
-    ghost use Rattle.world_core.specs.Whole.{IsWhole, Whole};
+    ghost use Rattle.world_core.specs.WorldValue.{IsWhole, WorldValue};
 
-    ghost Value = { Whole };
+    ghost Value = { WorldValue };
 
     ghost view = { λ s. record { shared = s.shared; hands = s.hands; stopped = s.stopped } };
 
@@ -99,7 +99,7 @@ impl World {
     /// What every world keeps: the shared value stands for its journal, which is legal, and what each worker holds fits
     /// it; with the homes of all parts put in it stands for its accounts.
     pub fn stands(&self)
-        ensures shared { IsWorld self.now.shared }
+        ensures shared { IsSharedValue self.now.shared }
         ensures whole { IsWhole self.now }
         ensures together { StandsTogether self.now }
     {

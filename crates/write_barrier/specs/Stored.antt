@@ -2,7 +2,7 @@
 use Rattle.std.specs.Prelude.{◌≡◌, ℕ, ◌<◌, Bool, true, false, List, ◌++◌, ◌==◌, ◌&&◌, if◌then◌else◌, not, Option, Some, None, IsSome, IfSome, option_map, option_to_list, slice_get}
 use Rattle.object_layout.specs.declared.word.Addr.{Addr}
 use Rattle.heap_tree.specs.Node.{Node, is_on_path}
-use Rattle.chunk_pool.specs.Chunks.{Chunks, held_at, owner_of}
+use Rattle.chunk_pool.specs.PoolValue.{PoolValue, held_at, owner_of}
 use Rattle.remembered_set.specs.declared.remembered.Source.{Source}
 use Rattle.remembered_set.specs.Sources.{noted}
 use Rattle.write_barrier.specs.declared.sets.SetOf.{SetOf}
@@ -26,12 +26,12 @@ abbrev pub IsRoomy : List SetOf → ℕ → Type 0
 IsRoomy sets h = IfSome (slice_get sets h) (λ s. s.keeps ≡ true → 0 < s.kept.room)
 
 -- the heap that a reference points into, if it isn't nil: that of the owner of its chunk
-abbrev pub heap_of : Chunks → Option Addr → Option ℕ
+abbrev pub heap_of : PoolValue → Option Addr → Option ℕ
 heap_of pool None = None
 heap_of pool (Some a) = owner_of pool a.chunk
 
 -- a reference, if it isn't nil, points into a chunk in use, whose owner was made
-abbrev pub IsOwned : ℕ → Chunks → Option Addr → Type 0
+abbrev pub IsOwned : ℕ → PoolValue → Option Addr → Type 0
 IsOwned made pool None = Unit {0}
 IsOwned made pool (Some a) = IsSome (held_at pool a.chunk) × ((o : ℕ) → owner_of pool a.chunk ≡ Some o → o < made)
 
@@ -48,7 +48,7 @@ is_down nodes (Some from) None = false
 is_down nodes (Some from) (Some into) = is_on_path nodes from into && not (from == into)
 
 -- the heap in whose set a reference that is written into an object is noted
-abbrev pub noted_in : List Node → Chunks → Addr → Option Addr → Option ℕ
+abbrev pub noted_in : List Node → PoolValue → Addr → Option Addr → Option ℕ
 noted_in nodes pool object value =
     if is_down nodes (heap_of pool (Some object)) (heap_of pool value) then heap_of pool value else None
 
@@ -62,6 +62,6 @@ abbrev pub with_kept : Option ℕ → Option Addr → ℕ → Content → Conten
 with_kept heap overwritten t c = if is_of heap t && c.keeps then record c { kept = c.kept ++ option_to_list overwritten } else c
 
 -- the set of task t once a reference was written into a field in place of another one
-abbrev pub content_after : List Node → Chunks → Source → Option Addr → Option Addr → ℕ → Content → Content
+abbrev pub content_after : List Node → PoolValue → Source → Option Addr → Option Addr → ℕ → Content → Content
 content_after nodes pool source overwritten value t c =
     with_kept (heap_of pool overwritten) overwritten t (with_source (noted_in nodes pool source.object value) source t c)

@@ -10,19 +10,19 @@ use Rattle.run_ledger.specs.declared.data.Heap.{Heap}
 use Rattle.run_ledger.specs.declared.data.Ledger.{Ledger}
 use Rattle.run_ledger.specs.Heaps.{heap_of}
 use Rattle.run_ledger.specs.Sound.{SoundLedger}
-use Rattle.core_relation.specs.Value.{Home, Value, In, object_name, objects, objects_in, sources, Lies}
-use Rattle.ledger_steps.specs.Accounts.{own, Rests, StepsAlone}
+use Rattle.core_relation.specs.Memory.{Home, Memory, In, object_name, objects, objects_in, sources, Lies}
+use Rattle.ledger_step_laws.specs.Accounts.{own, Rests, StepsAlone}
 use Rattle.core_relation.specs.Layout.{AreLaidOut}
 use Rattle.core_relation.specs.Stands.{Place, HasNames, HomeStands, Stands}
 use Rattle.core_relation.proofs.objects.Carry.{object_kept, task_kept}
 use Rattle.core_relation.proofs.objects.Members.{object_held}
 
 -- a home's objects are those of its task
-pub home_own : (v : Value) (l : Ledger) → SoundLedger l → (t : ℕ) → HomeStands v l t → (o : Located) → In (objects v t) o → own l (object_name o) ≡ t
+pub home_own : (v : Memory) (l : Ledger) → SoundLedger l → (t : ℕ) → HomeStands v l t → (o : Located) → In (objects v t) o → own l (object_name o) ≡ t
 home_own v l S t H o i = (S.owners t (object_name o) (object_held (v.homes t).chunks (heap_of l t) H.names o i)).1
 
 -- what a home's account says stays with it
-pub home_kept : (v v' : Value) (l l' : Ledger) (t : ℕ) → v'.homes t ≡ v.homes t → ((k : ℕ) → v.owner k ≡ Some t → v'.owner k ≡ Some t) → heap_of l' t ≡ heap_of l t → length (row_of (slice_get l'.machine.store t)) ≡ length (row_of (slice_get l.machine.store t))
+pub home_kept : (v v' : Memory) (l l' : Ledger) (t : ℕ) → v'.homes t ≡ v.homes t → ((k : ℕ) → v.owner k ≡ Some t → v'.owner k ≡ Some t) → heap_of l' t ≡ heap_of l t → length (row_of (slice_get l'.machine.store t)) ≡ length (row_of (slice_get l.machine.store t))
     → is_joined (slice_get l'.machine.tasks t) ≡ is_joined (slice_get l.machine.tasks t) → HomeStands v l t → HomeStands v' l' t
 home_kept v v' l l' t eh ow el er ej H = record {
   names = subst (λ (h : Home). HasNames h.chunks (heap_of l' t)) (sym eh) (subst (HasNames (v.homes t).chunks) (sym el) H.names);
@@ -36,7 +36,7 @@ home_kept v v' l l' t eh ow el er ej H = record {
   laid = subst (λ (h : Home). AreLaidOut h.chunks (heap_of l' t).reserved) (sym eh) (subst (λ (h : Heap). AreLaidOut (v.homes t).chunks h.reserved) (sym el) H.laid);
 }
 
-module _ (v : Value) (l l' : Ledger) (t w : ℕ) (S : SoundLedger l) (V : Stands v l) (A : StepsAlone l l' t)
+module _ (v : Memory) (l l' : Ledger) (t w : ℕ) (S : SoundLedger l) (V : Stands v l) (A : StepsAlone l l' t)
     (out : (heap_of l t).worker ≡ Some w) (out' : (heap_of l' t).worker ≡ Some w) (runs : is_waiting (slice_get l.machine.tasks t) ≡ false) where
   other : (u : ℕ) → Rests l' u → u ≡ t → ⊥
   other u r e = let e' : (heap_of l' u).worker ≡ Some w = ap (λ k. (heap_of l' k).worker) e ∙ out' in absurd cc

@@ -18,9 +18,9 @@ use Rattle.run_ledger.specs.declared.data.Ledger.{Ledger}
 use Rattle.run_ledger.specs.Heaps.{heap_of, or_fresh}
 use Rattle.run_ledger.specs.Sound.{SoundLedger, Spares, survivors_at, collecting}
 use Rattle.remembered_set.specs.declared.remembered.Source.{Source}
-use Rattle.core_relation.specs.Value.{Home, Value, In, object_name, objects, objects_in, sources, Lies, led_object, rewritten, rewritten_home}
+use Rattle.core_relation.specs.Memory.{Home, Memory, In, object_name, objects, objects_in, sources, Lies, led_object, rewritten, rewritten_home}
 use Rattle.core_relation.specs.Reads.{IsRead, FramesAreRead, HoldsRead, TaskIsRead}
-use Rattle.ledger_steps.specs.Accounts.{own, Rests, ChangesHeap}
+use Rattle.ledger_step_laws.specs.Accounts.{own, Rests, ChangesHeap}
 use Rattle.core_relation.specs.Stands.{Place, HomeStands, IsSource, Stands}
 use Rattle.core_relation.specs.Changes.{Moves}
 use Rattle.core_relation.specs.Frames.{Collects}
@@ -31,7 +31,7 @@ use Rattle.core_relation.proofs.changes.Alone.{home_own}
 use Rattle.core_relation.proofs.changes.Sweep.{refers, is_kept, Live, live_task, live_ref}
 use Rattle.core_relation.proofs.objects.LaidOut.{rewritten_words}
 use Rattle.core_relation.proofs.objects.Mapped.{from_mapped, lies_mapped, home_mapped}
-use Rattle.ledger_steps.proofs.Tree.{own_live, leaf_alone, holder_live}
+use Rattle.ledger_step_laws.proofs.Tree.{own_live, leaf_alone, holder_live}
 use Rattle.core_relation.proofs.changes.Shown.{collection_shown, noted_mutable}
 use Rattle.core_relation.proofs.changes.Giving.{gives_kept}
 
@@ -43,7 +43,7 @@ collecting_is : (o : Option Heap) → is_some (or_fresh o).begun ≡ true → co
 collecting_is None e = e
 collecting_is (Some h) e = e
 
-module _ (v v' : Value) (l l' : Ledger) (t : ℕ) (x : Task) (f : Addr → Addr) (S : SoundLedger l) (V : Stands v l) (B : Collects l t x)
+module _ (v v' : Memory) (l l' : Ledger) (t : ℕ) (x : Task) (f : Addr → Addr) (S : SoundLedger l) (V : Stands v l) (B : Collects l t x)
     (L : ChangesHeap l l' t) (C : Moves v v' l l' t (heap_of l t).survivors f) where
   abbrev survivors : List Name
   survivors = (heap_of l t).survivors

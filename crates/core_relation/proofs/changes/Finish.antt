@@ -12,18 +12,18 @@ use Rattle.run_ledger.specs.declared.data.Ledger.{Ledger}
 use Rattle.run_ledger.specs.Heaps.{heap_of}
 use Rattle.run_ledger.specs.Sound.{SoundLedger}
 use Rattle.task_frames.specs.declared.frames.Frame.{Frame}
-use Rattle.core_relation.specs.Value.{Value, In, object_name, objects_in, Lies}
+use Rattle.core_relation.specs.Memory.{Memory, In, object_name, objects_in, Lies}
 use Rattle.core_relation.specs.Reads.{Reads, FramesAreRead, HoldsRead, TaskIsRead}
-use Rattle.ledger_steps.specs.Accounts.{Rests}
+use Rattle.ledger_step_laws.specs.Accounts.{Rests}
 use Rattle.core_relation.specs.Layout.{AreLaidOut}
 use Rattle.core_relation.specs.Stands.{Place, HasNames, HomeStands, Stands}
-use Rattle.ledger_steps.specs.Kinds.{EndsTask}
+use Rattle.ledger_step_laws.specs.Kinds.{EndsTask}
 use Rattle.core_relation.specs.Changes.{EndsHome, StepsAtHome, register}
 use Rattle.core_relation.proofs.objects.Carry.{field_of, object_kept, read_kept}
 use Rattle.core_relation.proofs.changes.Own.{stepped, place_own}
 
 -- a home's account stays, and so do its chunks and counts
-pub home_alike : (v v' : Value) (l l' : Ledger) (t : ℕ) → (v'.homes t).chunks ≡ (v.homes t).chunks → (v'.homes t).room ≡ (v.homes t).room → (v'.homes t).since ≡ (v.homes t).since → (v'.homes t).count ≡ (v.homes t).count
+pub home_alike : (v v' : Memory) (l l' : Ledger) (t : ℕ) → (v'.homes t).chunks ≡ (v.homes t).chunks → (v'.homes t).room ≡ (v.homes t).room → (v'.homes t).since ≡ (v.homes t).since → (v'.homes t).count ≡ (v.homes t).count
     → ((k : ℕ) → v.owner k ≡ Some t → v'.owner k ≡ Some t) → heap_of l' t ≡ heap_of l t → length (row_of (slice_get l'.machine.store t)) ≡ length (row_of (slice_get l.machine.store t)) → is_joined (slice_get l'.machine.tasks t) ≡ is_joined (slice_get l.machine.tasks t) → HomeStands v l t → HomeStands v' l' t
 home_alike v v' l l' t ec eo es en ow el er ej H = record {
   names = subst (λ ks. HasNames ks (heap_of l' t)) (sym ec) (subst (HasNames (v.homes t).chunks) (sym el) H.names);
@@ -37,7 +37,7 @@ home_alike v v' l l' t ec eo es en ow el er ej H = record {
   laid = subst (λ ks. AreLaidOut ks (heap_of l' t).reserved) (sym ec) (subst (λ (h : Heap). AreLaidOut (v.homes t).chunks h.reserved) (sym el) H.laid);
 }
 
-module _ (v v' : Value) (l l' : Ledger) (t : ℕ) (x : Task) (f : Frame) (fs : List Frame) (S : SoundLedger l) (S' : SoundLedger l') (V : Stands v l) (rests : Rests l t) (L : EndsTask l l' t x) (C : EndsHome v v' t f fs) where
+module _ (v v' : Memory) (l l' : Ledger) (t : ℕ) (x : Task) (f : Frame) (fs : List Frame) (S : SoundLedger l) (S' : SoundLedger l') (V : Stands v l) (rests : Rests l t) (L : EndsTask l l' t x) (C : EndsHome v v' t f fs) where
   rests' : Rests l' t
   rests' = ap (λ (h : Heap). h.worker) L.heap ∙ rests
 

@@ -17,12 +17,12 @@ use Rattle.run_ledger.specs.Heaps.{heap_of, fresh}
 use Rattle.run_ledger.specs.Sound.{SoundLedger}
 use Rattle.task_frames.specs.declared.frames.Frame.{Frame}
 use Rattle.remembered_set.specs.declared.remembered.Source.{Source}
-use Rattle.core_relation.specs.Value.{Home, Value, In, object_name, objects, objects_in, sources, Lies}
+use Rattle.core_relation.specs.Memory.{Home, Memory, In, object_name, objects, objects_in, sources, Lies}
 use Rattle.core_relation.specs.Reads.{FramesAreRead, HoldsRead, TaskIsRead}
-use Rattle.ledger_steps.specs.Accounts.{own, Rests}
+use Rattle.ledger_step_laws.specs.Accounts.{own, Rests}
 use Rattle.core_relation.specs.Layout.{AreLaidOut}
 use Rattle.core_relation.specs.Stands.{Place, names_of, small_chunks, large_chunks, HasNames, HomeStands, IsSource, Stands, IsShown}
-use Rattle.ledger_steps.specs.Kinds.{ForksTask}
+use Rattle.ledger_step_laws.specs.Kinds.{ForksTask}
 use Rattle.core_relation.specs.Changes.{ForksHome, advanced, entered, child_home}
 use Rattle.core_relation.proofs.objects.Carry.{object_kept, task_kept, frames_kept}
 use Rattle.core_relation.proofs.objects.LaidOut.{none_laid}
@@ -38,7 +38,7 @@ entered_read : (at : Name → Addr → Type 0) (fs : List Frame) (t d g : ℕ) (
 entered_read at [] t d g f xs h = absurd h
 entered_read at (y ∷ fs) t d g f xs h = (record { function = refl; next = refl; ints = h.0.ints; refs = h.0.refs }, tt)
 
-module _ (v v' : Value) (l l' : Ledger) (t a b g h : ℕ) (x : Task) (S : SoundLedger l) (V : Stands v l) (runs : x.status ≡ Running) (rests : Rests l t) (F : ForksTask l l' t a b g h x) (C : ForksHome v v' t a b g h) where
+module _ (v v' : Memory) (l l' : Ledger) (t a b g h : ℕ) (x : Task) (S : SoundLedger l) (V : Stands v l) (runs : x.status ≡ Running) (rests : Rests l t) (F : ForksTask l l' t a b g h x) (C : ForksHome v v' t a b g h) where
   abbrev IsOther : ℕ → Type 0
   IsOther z = (z ≡ t → ⊥) × (z ≡ a → ⊥) × (z ≡ b → ⊥)
 

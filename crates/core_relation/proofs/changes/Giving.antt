@@ -10,19 +10,19 @@ use Rattle.hh_model.specs.Step.{is_joined, is_on_path, is_over, is_waiting, wait
 use Rattle.run_ledger.specs.declared.data.Heap.{Heap}
 use Rattle.run_ledger.specs.declared.data.Ledger.{Ledger}
 use Rattle.run_ledger.specs.Sound.{SoundLedger}
-use Rattle.ledger_steps.specs.Accounts.{Rests}
-use Rattle.ledger_steps.specs.Kinds.{ForksTask}
-use Rattle.ledger_steps.proofs.Tree.{leaf_alone}
-use Rattle.core_relation.specs.Value.{Chunk, Home, Value, frozen_chunk, frozen_chunks}
+use Rattle.ledger_step_laws.specs.Accounts.{Rests}
+use Rattle.ledger_step_laws.specs.Kinds.{ForksTask}
+use Rattle.ledger_step_laws.proofs.Tree.{leaf_alone}
+use Rattle.core_relation.specs.Memory.{Chunk, Home, Memory, frozen_chunk, frozen_chunks}
 use Rattle.core_relation.specs.Changes.{ForksHome}
 use Rattle.core_relation.specs.Stands.{Gives, HasNumber, HomeStands, Stands}
 use Rattle.core_relation.proofs.objects.Members.{map_in}
 
-abbrev pub EachGives : Value → Ledger → Type 0
+abbrev pub EachGives : Memory → Ledger → Type 0
 EachGives v l = (t u : ℕ) → Rests l t → is_joined (slice_get l.machine.tasks t) ≡ false → is_on_path l.machine.tasks u t ≡ true → (u ≡ t → ⊥) → is_waiting (slice_get l.machine.tasks u) ≡ true → Rests l u → Gives v u t
 
 -- where the views of both stay, and the one who gave gets no chunk
-pub gives_kept : (v v' : Value) (u t : ℕ) → (v'.homes t).view ≡ (v.homes t).view → (v'.homes u).view ≡ (v.homes u).view → ((n : ℕ) → v'.owner n ≡ Some u → v.owner n ≡ Some u) → Gives v u t → Gives v' u t
+pub gives_kept : (v v' : Memory) (u t : ℕ) → (v'.homes t).view ≡ (v.homes t).view → (v'.homes u).view ≡ (v.homes u).view → ((n : ℕ) → v'.owner n ≡ Some u → v.owner n ≡ Some u) → Gives v u t → Gives v' u t
 gives_kept v v' u t et eu own G = record {
   place = G.place;
   behind = ap (drop (suc G.place)) et ∙ (G.behind ∙ sym eu);
@@ -41,13 +41,13 @@ waits_live (Some y) e = by y.status e
     by Joined e = absurd (false≢true e)
 
 -- a heap's level has only chunks of its task
-level_is_own : (v : Value) (l : Ledger) (t n : ℕ) → HomeStands v l t → HasNumber (frozen_chunks (v.homes t).chunks) n → v.owner n ≡ Some t
+level_is_own : (v : Memory) (l : Ledger) (t n : ℕ) → HomeStands v l t → HasNumber (frozen_chunks (v.homes t).chunks) n → v.owner n ≡ Some t
 level_is_own v l t n H has =
     let k = map_in frozen_chunk (v.homes t).chunks has.0 has.1 in
     ap v.owner (sym (ap (λ (c : Chunk). c.number) k.2 ∙ has.2)) ∙ H.owned k.0 k.1
 
 -- A FORK
-module _ (v v' : Value) (l l' : Ledger) (t a b g h : ℕ) (x : Task) (S : SoundLedger l) (V : Stands v l) (T : EachGives v l) (rests : Rests l t) (runs : x.status ≡ Running)
+module _ (v v' : Memory) (l l' : Ledger) (t a b g h : ℕ) (x : Task) (S : SoundLedger l) (V : Stands v l) (T : EachGives v l) (rests : Rests l t) (runs : x.status ≡ Running)
     (live : is_joined (slice_get l.machine.tasks t) ≡ false) (F : ForksTask l l' t a b g h x) (C : ForksHome v v' t a b g h)
     (same : (z : ℕ) → (z ≡ a → ⊥) → (z ≡ b → ⊥) → (v'.homes z).view ≡ (v.homes z).view) where
   idle : is_waiting (slice_get l.machine.tasks t) ≡ false

@@ -22,19 +22,19 @@ use Rattle.run_ledger.specs.Heaps.{heap_of, emptied}
 use Rattle.run_ledger.specs.Sound.{SoundLedger}
 use Rattle.task_frames.specs.declared.frames.Frame.{Frame}
 use Rattle.remembered_set.specs.declared.remembered.Source.{Source}
-use Rattle.core_relation.specs.Value.{Chunk, Home, no_home, Value, In, object_name, objects, objects_in, sources, Lies}
+use Rattle.core_relation.specs.Memory.{Chunk, Home, no_home, Memory, In, object_name, objects, objects_in, sources, Lies}
 use Rattle.core_relation.specs.Reads.{Reads, IsRead, FrameIsRead, FramesAreRead, HoldsRead, TaskIsRead}
-use Rattle.ledger_steps.specs.Accounts.{own, Rests}
+use Rattle.ledger_step_laws.specs.Accounts.{own, Rests}
 use Rattle.core_relation.specs.Layout.{AreLaidOut}
 use Rattle.core_relation.specs.Stands.{Place, HasNames, names_of, small_chunks, large_chunks, Gives, HomeStands, IsSource, Stands, IsShown}
-use Rattle.ledger_steps.specs.Kinds.{JoinsTasks, CanJoin}
+use Rattle.ledger_step_laws.specs.Kinds.{JoinsTasks, CanJoin}
 use Rattle.core_relation.specs.Changes.{JoinsHomes, with_results, top_with_results}
 use Rattle.core_relation.proofs.objects.Carry.{object_kept, task_kept, frames_kept, read_kept, all_set}
 use Rattle.core_relation.proofs.objects.Members.{in_chunk, in_objects}
 use Rattle.core_relation.proofs.objects.LaidOut.{none_laid, laid_both}
 use Rattle.core_relation.proofs.objects.Merged.{small_both, large_both}
 use Rattle.core_relation.proofs.changes.Alone.{home_own, home_kept}
-use Rattle.ledger_steps.proofs.Tree.{leaf_alone}
+use Rattle.ledger_step_laws.proofs.Tree.{leaf_alone}
 use Rattle.core_relation.proofs.changes.Shown.{join_shown}
 use Rattle.core_relation.proofs.changes.Giving.{gives_kept, waits_live}
 
@@ -47,7 +47,7 @@ joined_holds at h y e = by y.status e
     by (Ended k n) e = absurd (false≢true e)
     by Joined e = tt
 
-module _ (v v' : Value) (l l' : Ledger) (p c d : ℕ) (x : Task) (rl rr : ℤ × Option Name) (al ar : ℤ × Option Addr) (S : SoundLedger l) (V : Stands v l)
+module _ (v v' : Memory) (l l' : Ledger) (p c d : ℕ) (x : Task) (rl rr : ℤ × Option Name) (al ar : ℤ × Option Addr) (S : SoundLedger l) (V : Stands v l)
     (J : JoinsTasks l l' p c d x rl rr) (T : CanJoin l p c d x) (H : JoinsHomes v v' p c d al ar)
     (gl : (al.0 ≡ rl.0) × Reads (Place v l) al.1 rl.1) (gr : (ar.0 ≡ rr.0) × Reads (Place v l) ar.1 rr.1) where
   abbrev par : ℕ → Option ℕ

@@ -13,10 +13,10 @@ use Rattle.run_ledger.specs.declared.data.Ledger.{Ledger}
 use Rattle.run_ledger.specs.Heaps.{heap_of, or_fresh, merged, emptied, forked_heap}
 use Rattle.run_ledger.specs.declared.data.Heap.{Heap}
 use Rattle.task_frames.specs.declared.frames.Frame.{Frame}
-use Rattle.core_relation.specs.Value.{Home, Value, In, objects_in, mapped_chunk, put_at}
-use Rattle.ledger_steps.specs.Accounts.{own, StepsAlone, WritesOne, AlikeFor}
+use Rattle.core_relation.specs.Memory.{Home, Memory, In, objects_in, mapped_chunk, put_at}
+use Rattle.ledger_step_laws.specs.Accounts.{own, StepsAlone, WritesOne, AlikeFor}
 use Rattle.core_relation.specs.Fits.{with_home}
-use Rattle.ledger_steps.specs.Kinds.{ForksTask, JoinsTasks, CanJoin, StoresOne, StoresNumber, EndsTask}
+use Rattle.ledger_step_laws.specs.Kinds.{ForksTask, JoinsTasks, CanJoin, StoresOne, StoresNumber, EndsTask}
 use Rattle.core_relation.specs.Changes.{ForksHome, JoinsHomes, WritesAt, StoresAt, StoresNumberAt, EndsHome, child_home, advanced, top_with_results}
 use Rattle.core_relation.proofs.objects.Untouched.{chunks_unwritten}
 use Rattle.core_relation.proofs.changes.With.{at_home, off_home}
@@ -184,11 +184,11 @@ module _ (l l' k k' : Ledger) (u : ℕ) (A : StepsAlone l k u) (A' : StepsAlone 
 
 -- THE VALUE, with u's home in it
 
-module _ (v v' : Value) (u : ℕ) (h : Home) where
-  abbrev w : Value
+module _ (v v' : Memory) (u : ℕ) (h : Home) where
+  abbrev w : Memory
   w = with_home v u h
 
-  abbrev w' : Value
+  abbrev w' : Memory
   w' = with_home v' u h
 
   homes_too : (z : ℕ) → v'.homes z ≡ v.homes z → w'.homes z ≡ w.homes z

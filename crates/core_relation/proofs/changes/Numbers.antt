@@ -15,17 +15,17 @@ use Rattle.run_ledger.specs.declared.data.Ledger.{Ledger}
 use Rattle.run_ledger.specs.Heaps.{heap_of}
 use Rattle.run_ledger.specs.Sound.{SoundLedger}
 use Rattle.task_frames.specs.declared.frames.Frame.{Frame}
-use Rattle.core_relation.specs.Value.{Value, In, sources, Lies}
+use Rattle.core_relation.specs.Memory.{Memory, In, sources, Lies}
 use Rattle.core_relation.specs.Reads.{Reads, FramesAreRead, HoldsRead, TaskIsRead}
-use Rattle.ledger_steps.specs.Accounts.{own, Rests}
+use Rattle.ledger_step_laws.specs.Accounts.{own, Rests}
 use Rattle.core_relation.specs.Stands.{Place, Stands}
-use Rattle.ledger_steps.specs.Kinds.{StoresNumber}
+use Rattle.ledger_step_laws.specs.Kinds.{StoresNumber}
 use Rattle.core_relation.specs.Changes.{StoresNumberAt, with_number, number, register}
 use Rattle.core_relation.proofs.objects.Carry.{field_of}
-use Rattle.ledger_steps.proofs.Tree.{leaf_alone}
+use Rattle.ledger_step_laws.proofs.Tree.{leaf_alone}
 use Rattle.core_relation.proofs.changes.Write.{written}
 
-module _ (v v' : Value) (l l' : Ledger) (t : ℕ) (x : Task) (n : Name) (y : Object) (o w i : ℕ) (f : Frame) (fs : List Frame) (a : Addr) (S : SoundLedger l) (V : Stands v l) (rests : Rests l t)
+module _ (v v' : Memory) (l l' : Ledger) (t : ℕ) (x : Task) (n : Name) (y : Object) (o w i : ℕ) (f : Frame) (fs : List Frame) (a : Addr) (S : SoundLedger l) (V : Stands v l) (rests : Rests l t)
     (L : StoresNumber l l' t x n y o w i) (C : StoresNumberAt v v' t f fs a w i) (at_a : register f o ≡ Some a) where
   frames : FramesAreRead (Place v l) (f ∷ fs) (x.top ∷ x.below)
   frames = subst (λ zs. FramesAreRead (Place v l) zs (x.top ∷ x.below)) C.frames (subst (HoldsRead (Place v l) (v.homes t) x) L.runs (V.tasks t x rests L.task))

@@ -15,9 +15,9 @@ use Rattle.run_ledger.specs.declared.data.Ledger.{Ledger}
 use Rattle.run_ledger.specs.Heaps.{heap_of}
 use Rattle.run_ledger.specs.Sound.{SoundLedger}
 use Rattle.remembered_set.specs.declared.remembered.Source.{Source}
-use Rattle.core_relation.specs.Value.{Home, Value, In, object_name, objects, objects_in, sources, Lies, shown_at}
+use Rattle.core_relation.specs.Memory.{Home, Memory, In, object_name, objects, objects_in, sources, Lies, shown_at}
 use Rattle.core_relation.specs.Reads.{IsRead, TaskIsRead}
-use Rattle.ledger_steps.specs.Accounts.{own, Rests, StepsAlone}
+use Rattle.ledger_step_laws.specs.Accounts.{own, Rests, StepsAlone}
 use Rattle.core_relation.specs.Stands.{Place, Gives, HomeStands, IsSource, Stands, IsShown}
 use Rattle.core_relation.specs.Changes.{StepsAtHome, HomeIsRead, Allocates}
 use Rattle.core_relation.proofs.objects.Carry.{object_kept, task_kept}
@@ -25,9 +25,9 @@ use Rattle.core_relation.proofs.objects.Members.{in_chunk}
 use Rattle.core_relation.proofs.changes.Alone.{home_own, home_kept}
 use Rattle.core_relation.proofs.changes.Sweep.{refers}
 use Rattle.core_relation.proofs.changes.Giving.{gives_kept}
-use Rattle.ledger_steps.proofs.Tree.{own_live, leaf_alone}
+use Rattle.ledger_step_laws.proofs.Tree.{own_live, leaf_alone}
 
-module _ (v v' : Value) (l l' : Ledger) (t : ℕ) (S : SoundLedger l) (S' : SoundLedger l') (V : Stands v l) (A : StepsAlone l l' t) (rests : Rests l t) (rests' : Rests l' t)
+module _ (v v' : Memory) (l l' : Ledger) (t : ℕ) (S : SoundLedger l) (S' : SoundLedger l') (V : Stands v l) (A : StepsAlone l l' t) (rests : Rests l t) (rests' : Rests l' t)
     (idle : is_waiting (slice_get l.machine.tasks t) ≡ false) (C : StepsAtHome v v' t) where
   rest : (u : ℕ) → Rests l' u → Rests l u
   rest u r = elim (cases_eq u t) [

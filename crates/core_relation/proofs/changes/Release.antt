@@ -10,9 +10,9 @@ use Rattle.hh_model.specs.Step.{is_joined, is_waiting, is_on_path}
 use Rattle.run_ledger.specs.declared.data.Heap.{Heap}
 use Rattle.run_ledger.specs.declared.data.Ledger.{Ledger}
 use Rattle.run_ledger.specs.Heaps.{heap_of}
-use Rattle.core_relation.specs.Value.{Home, Value, In, object_name, objects, objects_in, sources, Lies, shown_at}
+use Rattle.core_relation.specs.Memory.{Home, Memory, In, object_name, objects, objects_in, sources, Lies, shown_at}
 use Rattle.core_relation.specs.Reads.{TaskIsRead}
-use Rattle.ledger_steps.specs.Accounts.{own, Rests, Takes}
+use Rattle.ledger_step_laws.specs.Accounts.{own, Rests, Takes}
 use Rattle.core_relation.specs.Stands.{Place, Stands}
 use Rattle.core_relation.specs.Changes.{SameBut}
 use Rattle.core_relation.proofs.changes.Same.{own_same, path_same, store_same, source_same}
@@ -20,7 +20,7 @@ use Rattle.core_relation.proofs.objects.Carry.{object_kept, task_kept}
 use Rattle.core_relation.proofs.changes.Alone.{home_kept}
 use Rattle.core_relation.proofs.changes.Giving.{gives_kept}
 
-module _ (v v' : Value) (l l' : Ledger) (t w : ℕ) (V : Stands v l) (idle : is_waiting (slice_get l.machine.tasks t) ≡ false) (L : Takes l l' t w) (C : SameBut v v' t) where
+module _ (v v' : Memory) (l l' : Ledger) (t w : ℕ) (V : Stands v l) (idle : is_waiting (slice_get l.machine.tasks t) ≡ false) (L : Takes l l' t w) (C : SameBut v v' t) where
   other : (u : ℕ) → Rests l' u → u ≡ t → ⊥
   other u r e = let e' : (heap_of l' u).worker ≡ Some w = ap (λ k. (heap_of l' k).worker) e ∙ L.worker in absurd cc
 

@@ -7,15 +7,15 @@ use Rattle.hh_model.specs.declared.data.Name.{Name}
 use Rattle.hh_model.specs.declared.data.State.{State}
 use Rattle.hh_model.specs.Step.{is_joined, is_on_path, is_waiting}
 use Rattle.run_ledger.specs.declared.data.Ledger.{Ledger}
-use Rattle.core_relation.specs.Value.{Value, In, object_name, objects, sources, Lies, shown_at}
-use Rattle.ledger_steps.specs.Accounts.{own, Rests, SameTasks}
+use Rattle.core_relation.specs.Memory.{Memory, In, object_name, objects, sources, Lies, shown_at}
+use Rattle.ledger_step_laws.specs.Accounts.{own, Rests, SameTasks}
 use Rattle.core_relation.specs.Stands.{Place, Stands}
 use Rattle.core_relation.specs.Changes.{SameObjects}
 use Rattle.core_relation.proofs.changes.Same.{own_same, path_same, store_same, source_same}
 use Rattle.core_relation.proofs.objects.Carry.{object_kept, task_kept, same_holding}
 use Rattle.core_relation.proofs.changes.Giving.{gives_kept}
 
-module _ (v v' : Value) (l l' : Ledger) (V : Stands v l) (L : SameTasks l l') (C : SameObjects v v' l l') where
+module _ (v v' : Memory) (l l' : Ledger) (V : Stands v l) (L : SameTasks l l') (C : SameObjects v v' l l') where
   rest : (u : ℕ) → Rests l' u → Rests l u
   rest u r = sym (L.worker u) ∙ r
 

@@ -16,12 +16,12 @@ use Rattle.run_ledger.specs.declared.data.Ledger.{Ledger}
 use Rattle.run_ledger.specs.Heaps.{heap_of}
 use Rattle.run_ledger.specs.Sound.{SoundLedger}
 use Rattle.remembered_set.specs.declared.remembered.Source.{Source}
-use Rattle.core_relation.specs.Value.{Chunk, Home, Value, In, object_name, objects, objects_in, sources, led, is_source, rewritten_refs, rewritten, is_at, put_at, frozen_chunk, frozen_chunks, chunk_of, seen_at, seen_in, shown_at, as_shown}
-use Rattle.ledger_steps.specs.Accounts.{own, Rests}
+use Rattle.core_relation.specs.Memory.{Chunk, Home, Memory, In, object_name, objects, objects_in, sources, led, is_source, rewritten_refs, rewritten, is_at, put_at, frozen_chunk, frozen_chunks, chunk_of, seen_at, seen_in, shown_at, as_shown}
+use Rattle.ledger_step_laws.specs.Accounts.{own, Rests}
 use Rattle.core_relation.specs.Stands.{HomeStands, IsShown, Stands}
-use Rattle.ledger_steps.specs.Kinds.{ForksTask, JoinsTasks, CanJoin}
+use Rattle.ledger_step_laws.specs.Kinds.{ForksTask, JoinsTasks, CanJoin}
 use Rattle.core_relation.specs.Changes.{ForksHome, advanced, JoinsHomes, KeepsJust, Moves, WritesAt}
-use Rattle.ledger_steps.proofs.Tree.{leaf_alone}
+use Rattle.ledger_step_laws.proofs.Tree.{leaf_alone}
 use Rattle.core_relation.proofs.objects.Members.{in_map, in_chunk, in_objects}
 use Rattle.core_relation.proofs.objects.Mapped.{from_mapped}
 
@@ -37,7 +37,7 @@ pub is_at_it : (a : Addr) (o : Located) → o.at ≡ a → is_at a o ≡ true
 is_at_it a o e =
     and_from (o.at.chunk == a.chunk) (o.at.offset == a.offset) (eq-eqb o.at.chunk a.chunk (ap (λ (b : Addr). b.chunk) e)) (eq-eqb o.at.offset a.offset (ap (λ (b : Addr). b.offset) e))
 
-abbrev AreShown : Value → Ledger → Type 0
+abbrev AreShown : Memory → Ledger → Type 0
 AreShown v l = (t : ℕ) → Rests l t → is_joined (slice_get l.machine.tasks t) ≡ false → IsShown v l t
 
 -- THE LEVEL OF A HOME
@@ -108,7 +108,7 @@ module _ (o : Located) where
       by false e = one_seen os once i e ∙ sym (cond-false o.mutable None (Some o) e)
 
 -- the level of a home shows each of its objects
-level_shows : (v : Value) (l : Ledger) (t : ℕ) (o : Located) (below : List (List Chunk)) → HomeStands v l t → In (objects v t) o → shown_at (frozen_chunks (v.homes t).chunks ∷ below) o.at ≡ as_shown o
+level_shows : (v : Memory) (l : Ledger) (t : ℕ) (o : Located) (below : List (List Chunk)) → HomeStands v l t → In (objects v t) o → shown_at (frozen_chunks (v.homes t).chunks ∷ below) o.at ≡ as_shown o
 level_shows v l t o below H i =
     let c = in_chunk (v.homes t).chunks o i in
     let at = H.inside c.0 o c.1 c.2 in
@@ -116,14 +116,14 @@ level_shows v l t o below H i =
     ∙ as_kept o c.0.objects (λ p j e. H.once p o (in_objects (v.homes t).chunks c.0 p c.1 j) i e) c.2
 
 -- and no object of another's
-level_passes : (v : Value) (l : Ledger) (t u : ℕ) (o : Located) (below : List (List Chunk)) → HomeStands v l t → HomeStands v l u → (u ≡ t → ⊥) → In (objects v u) o → shown_at (frozen_chunks (v.homes t).chunks ∷ below) o.at ≡ shown_at below o.at
+level_passes : (v : Memory) (l : Ledger) (t u : ℕ) (o : Located) (below : List (List Chunk)) → HomeStands v l t → HomeStands v l u → (u ≡ t → ⊥) → In (objects v u) o → shown_at (frozen_chunks (v.homes t).chunks ∷ below) o.at ≡ shown_at below o.at
 level_passes v l t u o below H K ne i =
     let c = in_chunk (v.homes u).chunks o i in
     ap (λ z. seen_in z o.at (shown_at below o.at)) (none_found (v.homes t).chunks o.at.chunk (λ k j e.
     ne (same_Some u t (sym (K.owned c.0 c.1) ∙ (ap v.owner (sym (K.inside c.0 o c.1 c.2) ∙ sym e) ∙ H.owned k j)))))
 
 -- A FORK
-module _ (v v' : Value) (l l' : Ledger) (t a b g h : ℕ) (x : Task) (V : Stands v l) (T : AreShown v l) (rests : Rests l t)
+module _ (v v' : Memory) (l l' : Ledger) (t a b g h : ℕ) (x : Task) (V : Stands v l) (T : AreShown v l) (rests : Rests l t)
     (live : is_joined (slice_get l.machine.tasks t) ≡ false) (F : ForksTask l l' t a b g h x) (C : ForksHome v v' t a b g h)
     (same : (z : ℕ) → (z ≡ a → ⊥) → (z ≡ b → ⊥) → (v'.homes z).view ≡ (v.homes z).view) where
   -- an object of any home was there before, and its task is none of the children
@@ -165,7 +165,7 @@ module _ (v v' : Value) (l l' : Ledger) (t a b g h : ℕ) (x : Task) (V : Stands
       ap (λ s. shown_at s o.at) (same z na nb) ∙ T z rz lz u o (sym (F.paths u z na nb) ∙ up) ne w.0 w.1
 
 -- A JOIN: the parent runs on, so it stands above nobody else that is live
-module _ (v v' : Value) (l l' : Ledger) (p c d : ℕ) (x : Task) (rl rr : ℤ × Option Name) (al ar : ℤ × Option Addr) (nobody : (z : ℕ) → is_joined (slice_get l.machine.tasks z) ≡ false → is_on_path l.machine.tasks p z ≡ true → (z ≡ p → ⊥) × (z ≡ c → ⊥) × (z ≡ d → ⊥) → ⊥) (T : AreShown v l) (J : JoinsTasks l l' p c d x rl rr) (C : JoinsHomes v v' p c d al ar)
+module _ (v v' : Memory) (l l' : Ledger) (p c d : ℕ) (x : Task) (rl rr : ℤ × Option Name) (al ar : ℤ × Option Addr) (nobody : (z : ℕ) → is_joined (slice_get l.machine.tasks z) ≡ false → is_on_path l.machine.tasks p z ≡ true → (z ≡ p → ⊥) × (z ≡ c → ⊥) × (z ≡ d → ⊥) → ⊥) (T : AreShown v l) (J : JoinsTasks l l' p c d x rl rr) (C : JoinsHomes v v' p c d al ar)
     (K : CanJoin l p c d x) (z : ℕ) (same : (v'.homes z).view ≡ (v.homes z).view) where
   pub join_shown : Rests l z → is_joined (slice_get l.machine.tasks z) ≡ false → is_joined (slice_get l'.machine.tasks z) ≡ false → IsShown v' l' z
   join_shown rz lz lz' u o up ne r i = elim (cases_eq u p) [
@@ -184,7 +184,7 @@ module _ (v v' : Value) (l l' : Ledger) (p c d : ℕ) (x : Task) (rl rr : ℤ ×
   ]
 
 -- A WRITE: what is written is mutable, and stays so
-module _ (v v' : Value) (l l' : Ledger) (t : ℕ) (a : Addr) (f : Located → Located) (T : AreShown v l) (C : WritesAt v v' t a f)
+module _ (v v' : Memory) (l l' : Ledger) (t : ℕ) (a : Addr) (f : Located → Located) (T : AreShown v l) (C : WritesAt v v' t a f)
     (kind : (o : Located) → (f o).mutable ≡ o.mutable) (written : (u : ℕ) (o : Located) → In (objects v u) o → Rests l u → o.at ≡ a → o.mutable ≡ true)
     (same : (z : ℕ) → (v'.homes z).view ≡ (v.homes z).view) (paths : (u z : ℕ) → is_on_path l'.machine.tasks u z ≡ is_on_path l.machine.tasks u z) (rests : (u : ℕ) → Rests l' u → Rests l u) where
   one_name : (o : Located) → object_name (put_at a f o) ≡ object_name o
@@ -218,7 +218,7 @@ module _ (v v' : Value) (l l' : Ledger) (t : ℕ) (a : Addr) (f : Located → Lo
       (one_shown (shown_at (v.homes z).view w.0.at) u w.0 (rests u r) w.1 (T z rz lz u w.0 (sym (paths u z) ∙ up) ne (rests u r) w.1))
 
 -- A SWEEP: objects only go
-module _ (v v' : Value) (l l' : Ledger) (t : ℕ) (names : List Name) (T : AreShown v l) (C : KeepsJust v v' l l' t names)
+module _ (v v' : Memory) (l l' : Ledger) (t : ℕ) (names : List Name) (T : AreShown v l) (C : KeepsJust v v' l l' t names)
     (same : (z : ℕ) → (v'.homes z).view ≡ (v.homes z).view) (paths : (u z : ℕ) → is_on_path l'.machine.tasks u z ≡ is_on_path l.machine.tasks u z) (rests : (u : ℕ) → Rests l' u → Rests l u) where
   pub sweep_shown : (z : ℕ) → Rests l z → is_joined (slice_get l.machine.tasks z) ≡ false → IsShown v' l' z
   sweep_shown z rz lz u o up ne r i = ap (λ s. shown_at s o.at) (same z) ∙ T z rz lz u o (sym (paths u z) ∙ up) ne (rests u r) (elim (cases_eq u t) [
@@ -241,7 +241,7 @@ module _ (f : Addr → Addr) (ss : List Source) where
       ap₂ (λ x xs. x ∷ xs) (cond-false (list_any (is_source a i) ss) (led f r) r out) (refs_left a (suc i) rs none)
 
 -- what is remembered is mutable
-pub noted_mutable : (v : Value) (l : Ledger) (t u : ℕ) (o : Located) (s : Source) → Stands v l → In (objects v u) o → Rests l u → In (sources v t) s → s.object ≡ o.at → o.mutable ≡ true
+pub noted_mutable : (v : Memory) (l : Ledger) (t u : ℕ) (o : Located) (s : Source) → Stands v l → In (objects v u) o → Rests l u → In (sources v t) s → s.object ≡ o.at → o.mutable ≡ true
 noted_mutable v l t u o s V i r j e =
     let k = V.sources t s j in
     let q = k.place.here k.rests in
@@ -253,7 +253,7 @@ noted_mutable v l t u o s V i r j e =
     let is : k.object ≡ x.0 = same_Some k.object x.0 (sym k.is ∙ (ap (object_at l.machine.store) (sym q.2.name ∙ ap object_name same) ∙ x.1)) in
     x.2.mutable ∙ (ap (λ (z : Object). z.mutable) (sym is) ∙ k.mutable)
 
-module _ (v v' : Value) (l l' : Ledger) (t : ℕ) (names : List Name) (f : Addr → Addr) (S : SoundLedger l) (T : AreShown v l) (C : Moves v v' l l' t names f) (idle : is_waiting (slice_get l.machine.tasks t) ≡ false)
+module _ (v v' : Memory) (l l' : Ledger) (t : ℕ) (names : List Name) (f : Addr → Addr) (S : SoundLedger l) (T : AreShown v l) (C : Moves v v' l l' t names f) (idle : is_waiting (slice_get l.machine.tasks t) ≡ false)
     (noted : (u : ℕ) (o : Located) (s : Source) → In (objects v u) o → Rests l u → In (sources v t) s → s.object ≡ o.at → o.mutable ≡ true)
     (same : (z : ℕ) → (v'.homes z).view ≡ (v.homes z).view) (paths : (u z : ℕ) → is_on_path l'.machine.tasks u z ≡ is_on_path l.machine.tasks u z) (rests : (u : ℕ) → Rests l' u → Rests l u) where
   abbrev ss : List Source

@@ -19,15 +19,15 @@ use Rattle.run_ledger.specs.Heaps.{heap_of}
 use Rattle.run_ledger.specs.Sound.{SoundLedger, InHeaps}
 use Rattle.task_frames.specs.declared.frames.Frame.{Frame}
 use Rattle.remembered_set.specs.declared.remembered.Source.{Source}
-use Rattle.core_relation.specs.Value.{Value, In, sources, Lies}
+use Rattle.core_relation.specs.Memory.{Memory, In, sources, Lies}
 use Rattle.core_relation.specs.Reads.{Reads, FrameIsRead, FramesAreRead, HoldsRead, TaskIsRead}
-use Rattle.ledger_steps.specs.Accounts.{own, Rests}
+use Rattle.ledger_step_laws.specs.Accounts.{own, Rests}
 use Rattle.core_relation.specs.Stands.{Place, IsSource, Stands}
-use Rattle.ledger_steps.specs.Kinds.{StoresOne, onward_with}
+use Rattle.ledger_step_laws.specs.Kinds.{StoresOne, onward_with}
 use Rattle.core_relation.specs.Changes.{StoresAt, with_field, register, gone_on}
 use Rattle.core_relation.proofs.objects.Carry.{all_set, field_of}
 use Rattle.core_relation.proofs.changes.Sweep.{snapshot_is}
-use Rattle.ledger_steps.proofs.Tree.{own_live, leaf_alone}
+use Rattle.ledger_step_laws.proofs.Tree.{own_live, leaf_alone}
 use Rattle.core_relation.proofs.changes.Write.{written}
 
 -- of two names that a running task holds, where the owner of the one isn't on the path of the other's: the other's owner stands
@@ -60,7 +60,7 @@ pub goes_on : (at : Name → Addr → Type 0) (c : Option (ℕ × ℤ)) (f : Fra
 goes_on at None f z R = record { function = R.function; next = ap (λ k. k + 1) R.next; ints = R.ints; refs = R.refs }
 goes_on at (Some c) f z R = record { function = R.function; next = ap (λ k. k + 1) R.next; ints = ap (λ ns. slice_set ns c.0 c.1) R.ints; refs = R.refs }
 
-module _ (v v' : Value) (l l' : Ledger) (t : ℕ) (x : Task) (n : Name) (y : Object) (o w i : ℕ) (c : Option (ℕ × ℤ)) (f : Frame) (fs : List Frame) (a : Addr) (S : SoundLedger l) (V : Stands v l) (rests : Rests l t)
+module _ (v v' : Memory) (l l' : Ledger) (t : ℕ) (x : Task) (n : Name) (y : Object) (o w i : ℕ) (c : Option (ℕ × ℤ)) (f : Frame) (fs : List Frame) (a : Addr) (S : SoundLedger l) (V : Stands v l) (rests : Rests l t)
     (L : StoresOne l l' t x n y o w i c) (C : StoresAt v v' l t f fs a w i c) (at_a : register f o ≡ Some a) where
   frames : FramesAreRead (Place v l) (f ∷ fs) (x.top ∷ x.below)
   frames = subst (λ zs. FramesAreRead (Place v l) zs (x.top ∷ x.below)) C.frames (subst (HoldsRead (Place v l) (v.homes t) x) L.runs (V.tasks t x rests L.task))

@@ -17,9 +17,9 @@ use Rattle.run_ledger.specs.declared.data.Ledger.{Ledger}
 use Rattle.run_ledger.specs.Heaps.{heap_of, or_fresh}
 use Rattle.run_ledger.specs.Sound.{SoundLedger, Keeps, InHeaps, Spares, snapshot_at}
 use Rattle.remembered_set.specs.declared.remembered.Source.{Source}
-use Rattle.core_relation.specs.Value.{Home, Value, In, object_name, objects, objects_in, sources, Lies}
+use Rattle.core_relation.specs.Memory.{Home, Memory, In, object_name, objects, objects_in, sources, Lies}
 use Rattle.core_relation.specs.Reads.{TaskIsRead}
-use Rattle.ledger_steps.specs.Accounts.{own, Rests, ChangesHeap}
+use Rattle.ledger_step_laws.specs.Accounts.{own, Rests, ChangesHeap}
 use Rattle.core_relation.specs.Stands.{Place, HomeStands, IsSource, Stands}
 use Rattle.core_relation.specs.Changes.{KeepsJust}
 use Rattle.core_relation.proofs.changes.Same.{own_same, path_same, store_same, source_same}
@@ -37,7 +37,7 @@ pub refers : (store : List (List Object)) (n r : Name) (x : Object) → object_a
 refers store n r x is i = subst (λ o. In (refs_of o) r) (sym is) (named_from_in x.refs r i)
 
 -- an object of a home is kept by the ledger
-pub is_kept : (v : Value) (l : Ledger) (u : ℕ) → HomeStands v l u → (o : Located) → In (objects v u) o → Keeps l.heaps (object_name o)
+pub is_kept : (v : Memory) (l : Ledger) (u : ℕ) → HomeStands v l u → (o : Located) → In (objects v u) o → Keeps l.heaps (object_name o)
 is_kept v l u H o i = (u, object_held (v.homes u).chunks (heap_of l u) H.names o i)
 
 -- with its owner's heap kept to some names, whatever is read of it bears one of them
@@ -56,7 +56,7 @@ module _ (l : Ledger) (t : ℕ) (S : SoundLedger l) (names : List Name) (spares 
       let q = spares.of_object n r (k, λ j. f ((S.owners t n j).1)) (refers l.machine.store n r x is i) in
       q.1 (in_heap r q.0 e)
 
-module _ (v v' : Value) (l l' : Ledger) (t : ℕ) (names : List Name) (S : SoundLedger l) (V : Stands v l) (waits : is_waiting (slice_get l.machine.tasks t) ≡ true) (rests : Rests l t)
+module _ (v v' : Memory) (l l' : Ledger) (t : ℕ) (names : List Name) (S : SoundLedger l) (V : Stands v l) (waits : is_waiting (slice_get l.machine.tasks t) ≡ true) (rests : Rests l t)
     (L : ChangesHeap l l' t) (C : KeepsJust v v' l l' t (heap_of l t).snapshot) where
   abbrev snapshot : List Name
   snapshot = (heap_of l t).snapshot

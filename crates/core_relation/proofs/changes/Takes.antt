@@ -2,7 +2,7 @@
 use Rattle.std.proofs.Common.{◌≡◌, ℕ, arith, false, Some, None, length, slice_get, inl, inr, refl, ap, sym, ◌∙◌}
 use Rattle.std.proofs.lemmas.Bool.{cases_eq}
 use Rattle.hh_lang.specs.Form.{ProgramText}
-use Rattle.run_trace.specs.Settings.{Limits}
+use Rattle.run_trace.specs.Settings.{SettingsValue}
 use Rattle.hh_model.specs.declared.data.State.{State}
 use Rattle.hh_model.specs.Effect.{row_of}
 use Rattle.hh_model.specs.Step.{is_joined, is_waiting}
@@ -10,20 +10,20 @@ use Rattle.run_ledger.specs.declared.data.Heap.{Heap}
 use Rattle.run_ledger.specs.declared.data.Ledger.{Ledger}
 use Rattle.run_ledger.specs.Heaps.{heap_of, or_fresh, with_heap, let_go}
 use Rattle.run_ledger.specs.Steps.{task_steps}
-use Rattle.core_relation.specs.Value.{Home, Value, objects_in}
-use Rattle.ledger_steps.specs.Accounts.{Rests, rested}
+use Rattle.core_relation.specs.Memory.{Home, Memory, objects_in}
+use Rattle.ledger_step_laws.specs.Accounts.{Rests, rested}
 use Rattle.core_relation.specs.Stands.{Stands}
 use Rattle.core_relation.specs.Fits.{Part, FitsAt, with_home, part_for}
-use Rattle.ledger_steps.proofs.Ahead.{heap_then, with_at, with_off, with_machine}
+use Rattle.ledger_step_laws.proofs.Ahead.{heap_then, with_at, with_off, with_machine}
 use Rattle.core_relation.proofs.changes.Alone.{home_kept}
-use Rattle.ledger_steps.proofs.Entries.{took_takes}
+use Rattle.ledger_step_laws.proofs.Entries.{took_takes}
 use Rattle.core_relation.proofs.changes.Release.{released}
 use Rattle.core_relation.proofs.changes.Renew.{renewed}
 use Rattle.core_relation.proofs.changes.With.{at_home, off_home}
 
 -- TAKEN
 
-module _ (p : ProgramText) (s : Limits) (v : Value) (l : Ledger) (t w : ℕ) (h : Heap) (is : slice_get l.heaps t ≡ Some h) (V : Stands v l) (rests : Rests l t) (idle : is_waiting (slice_get l.machine.tasks t) ≡ false) where
+module _ (p : ProgramText) (s : SettingsValue) (v : Memory) (l : Ledger) (t w : ℕ) (h : Heap) (is : slice_get l.heaps t ≡ Some h) (V : Stands v l) (rests : Rests l t) (idle : is_waiting (slice_get l.machine.tasks t) ≡ false) where
   abbrev l' : Ledger
   l' = with_heap l t (λ h. record h { worker = Some w })
 
@@ -81,7 +81,7 @@ module _ (p : ProgramText) (s : Limits) (v : Value) (l : Ledger) (t w : ℕ) (h 
   }
 
 -- PRIVATE STEPS ARE ENTERED: the part's steps are no longer fresh
-module _ (p : ProgramText) (s : Limits) (q : Part) (v : Value) (l : Ledger) (w : ℕ) (F : FitsAt p s q v l) (out : (heap_of (task_steps p l q.task q.fresh) q.task).worker ≡ Some w) where
+module _ (p : ProgramText) (s : SettingsValue) (q : Part) (v : Memory) (l : Ledger) (w : ℕ) (F : FitsAt p s q v l) (out : (heap_of (task_steps p l q.task q.fresh) q.task).worker ≡ Some w) where
   abbrev then_ : Ledger
   then_ = task_steps p l q.task q.fresh
 

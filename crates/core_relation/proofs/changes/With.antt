@@ -8,25 +8,25 @@ use Rattle.run_ledger.specs.declared.data.Heap.{Heap}
 use Rattle.run_ledger.specs.declared.data.Ledger.{Ledger}
 use Rattle.run_ledger.specs.Heaps.{heap_of}
 use Rattle.remembered_set.specs.declared.remembered.Source.{Source}
-use Rattle.core_relation.specs.Value.{Home, Value, In, objects_in, sources, led_frame, led_object, rewritten_home}
+use Rattle.core_relation.specs.Memory.{Home, Memory, In, objects_in, sources, led_frame, led_object, rewritten_home}
 use Rattle.core_relation.specs.Fits.{with_home}
-use Rattle.ledger_steps.specs.Accounts.{StepsAlone, ChangesHeap}
+use Rattle.ledger_step_laws.specs.Accounts.{StepsAlone, ChangesHeap}
 use Rattle.core_relation.specs.Changes.{KeepsJust, Moves}
 use Rattle.core_relation.proofs.changes.Alone.{home_kept}
 use Rattle.core_relation.proofs.objects.Untouched.{home_untouched}
 
-pub at_home : (v : Value) (t : ℕ) (h : Home) → (with_home v t h).homes t ≡ h
+pub at_home : (v : Memory) (t : ℕ) (h : Home) → (with_home v t h).homes t ≡ h
 at_home v t h = cond-true (t == t) h (v.homes t) (eq-eqb t t refl)
 
-pub off_home : (v : Value) (t : ℕ) (h : Home) (u : ℕ) → (u ≡ t → ⊥) → (with_home v t h).homes u ≡ v.homes u
+pub off_home : (v : Memory) (t : ℕ) (h : Home) (u : ℕ) → (u ≡ t → ⊥) → (with_home v t h).homes u ≡ v.homes u
 off_home v t h u ne = cond-false (u == t) h (v.homes u) (ne_eqb u t ne)
 
 -- l and l' before and after the entry, k and k' with the steps of u
-module _ (v v' : Value) (l l' k k' : Ledger) (t u : ℕ) (h : Home) (apart : t ≡ u → ⊥) (A : StepsAlone l k u) (A' : StepsAlone l' k' u) where
-  abbrev w : Value
+module _ (v v' : Memory) (l l' k k' : Ledger) (t u : ℕ) (h : Home) (apart : t ≡ u → ⊥) (A : StepsAlone l k u) (A' : StepsAlone l' k' u) where
+  abbrev w : Memory
   w = with_home v u h
 
-  abbrev w' : Value
+  abbrev w' : Memory
   w' = with_home v' u h
 
   here : w.homes t ≡ v.homes t
@@ -67,7 +67,7 @@ module _ (v v' : Value) (l l' k k' : Ledger) (t u : ℕ) (h : Home) (apart : t �
   }
 
 -- two homes are put in, in this order or that
-pub with_both : (v : Value) (t u : ℕ) (g h : Home) → (t ≡ u → ⊥) → (z : ℕ) → (with_home (with_home v t g) u h).homes z ≡ (with_home (with_home v u h) t g).homes z
+pub with_both : (v : Memory) (t u : ℕ) (g h : Home) → (t ≡ u → ⊥) → (z : ℕ) → (with_home (with_home v t g) u h).homes z ≡ (with_home (with_home v u h) t g).homes z
 with_both v t u g h ne z = elim (cases_eq z t) [
   | inl e ↦
       let off : z ≡ u → ⊥ = λ f. ne (sym e ∙ f) in
@@ -79,12 +79,12 @@ with_both v t u g h ne z = elim (cases_eq z t) [
 ]
 
 -- the end of t's collection, where no remembered field lies in u's home
-pub moves_with : (v v' : Value) (l l' k k' : Ledger) (t u : ℕ) (h : Home) → (t ≡ u → ⊥) → StepsAlone l k u → StepsAlone l' k' u → (names : List Name) (f : Addr → Addr)
+pub moves_with : (v v' : Memory) (l l' k k' : Ledger) (t u : ℕ) (h : Home) → (t ≡ u → ⊥) → StepsAlone l k u → StepsAlone l' k' u → (names : List Name) (f : Addr → Addr)
     → ((o : Located) (s : Source) → In (objects_in h.chunks) o → In (sources v t) s → s.object.chunk ≡ o.at.chunk → ⊥)
     → Moves v v' l l' t names f → Moves (with_home v u h) (with_home v' u h) k k' t names f
 moves_with v v' l l' k k' t u h apart A A' names f none C =
-    let w : Value = with_home v u h in
-    let w' : Value = with_home v' u h in
+    let w : Memory = with_home v u h in
+    let w' : Memory = with_home v' u h in
     let here : (with_home v u h).homes t ≡ v.homes t = off_home v u h t apart in
     let here' : (with_home v' u h).homes t ≡ v'.homes t = off_home v' u h t apart in
     record {

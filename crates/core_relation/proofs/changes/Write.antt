@@ -15,9 +15,9 @@ use Rattle.run_ledger.specs.declared.data.Ledger.{Ledger}
 use Rattle.run_ledger.specs.Heaps.{heap_of}
 use Rattle.run_ledger.specs.Sound.{SoundLedger}
 use Rattle.remembered_set.specs.declared.remembered.Source.{Source}
-use Rattle.core_relation.specs.Value.{Value, In, object_name, objects, objects_in, sources, Lies, is_at, put_at}
+use Rattle.core_relation.specs.Memory.{Memory, In, object_name, objects, objects_in, sources, Lies, is_at, put_at}
 use Rattle.core_relation.specs.Reads.{IsRead, TaskIsRead}
-use Rattle.ledger_steps.specs.Accounts.{own, Rests, WritesOne}
+use Rattle.ledger_step_laws.specs.Accounts.{own, Rests, WritesOne}
 use Rattle.core_relation.specs.Layout.{words}
 use Rattle.core_relation.specs.Stands.{Place, IsSource, Stands}
 use Rattle.core_relation.specs.Changes.{WritesAt, WritesWell}
@@ -28,9 +28,9 @@ use Rattle.core_relation.proofs.changes.Alone.{home_own}
 pub use Rattle.core_relation.proofs.changes.Shown.{at_is, is_at_it}
 use Rattle.core_relation.proofs.changes.Shown.{write_shown}
 use Rattle.core_relation.proofs.changes.Giving.{gives_kept}
-use Rattle.ledger_steps.proofs.Rested.{name_cases}
+use Rattle.ledger_step_laws.proofs.Rested.{name_cases}
 
-module _ (v v' : Value) (l l' : Ledger) (t : ℕ) (n : Name) (a : Addr) (x x' : Object) (f : Located → Located) (S : SoundLedger l) (V : Stands v l)
+module _ (v v' : Memory) (l l' : Ledger) (t : ℕ) (n : Name) (a : Addr) (x x' : Object) (f : Located → Located) (S : SoundLedger l) (V : Stands v l)
     (L : WritesOne l l' t n x x') (C : WritesAt v v' t a f) (W : WritesWell v v' l l' t n a x x' f) where
   abbrev one : Located → Located
   one o = put_at a f o

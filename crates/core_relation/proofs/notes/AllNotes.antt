@@ -15,22 +15,22 @@ use Rattle.run_ledger.specs.declared.data.Heap.{Heap}
 use Rattle.run_ledger.specs.declared.data.Ledger.{Ledger}
 use Rattle.run_ledger.specs.Heaps.{heap_of, within}
 use Rattle.run_ledger.specs.Sound.{SoundLedger}
-use Rattle.core_relation.specs.Value.{Home, In, Value, is_at, object_name, objects, objects_in, put_at, rewritten, sources}
+use Rattle.core_relation.specs.Memory.{Home, In, Memory, is_at, object_name, objects, objects_in, put_at, rewritten, sources}
 use Rattle.listed.proofs.Members.{in_append_right}
 use Rattle.task_frames.specs.declared.frames.Frame.{Frame}
-use Rattle.ledger_steps.specs.Accounts.{Rests, StepsAlone, ChangesHeap}
+use Rattle.ledger_step_laws.specs.Accounts.{Rests, StepsAlone, ChangesHeap}
 use Rattle.core_relation.specs.Stands.{Stands}
 use Rattle.core_relation.specs.Begins.{AreRoots, IsRoot}
 use Rattle.core_relation.specs.Since.{NotedAt, SameNotes, AllNoted, NotesStay, Noting, ForksNotes, JoinsNotes, OthersNotes, StoresNotes}
 use Rattle.core_relation.specs.Changes.{KeepsJust, Moves, ForksHome, JoinsHomes, StoresAt, StoresNumberAt, WritesAt, register, with_number}
-use Rattle.ledger_steps.specs.Kinds.{CanJoin, ForksTask, JoinsTasks, StoresOne, StoresNumber}
+use Rattle.ledger_step_laws.specs.Kinds.{CanJoin, ForksTask, JoinsTasks, StoresOne, StoresNumber}
 use Rattle.core_relation.proofs.objects.Mapped.{to_mapped}
 use Rattle.core_relation.proofs.objects.Members.{in_chunk, in_objects}
 use Rattle.core_relation.proofs.notes.Rooted.{noted_by, rewritten_at, root_apart, root_by, root_kept, root_same}
 use Rattle.core_relation.proofs.notes.Notes.{notes_stay, notes_with, same_whole, moves_whole, numbers_whole, no_notes, fork_notes, store_notes}
 
 -- the accounts of u's heap stay
-same_notes : (v v' : Value) (l l' : Ledger) (u : ℕ) → NotesStay v v' u → ((k : ℕ) → v'.owner k ≡ Some u → v.owner k ≡ Some u) → is_waiting (slice_get l'.machine.tasks u) ≡ is_waiting (slice_get l.machine.tasks u) → (heap_of l' u).swept ≡ (heap_of l u).swept → (heap_of l' u).snapshot ≡ (heap_of l u).snapshot
+same_notes : (v v' : Memory) (l l' : Ledger) (u : ℕ) → NotesStay v v' u → ((k : ℕ) → v'.owner k ≡ Some u → v.owner k ≡ Some u) → is_waiting (slice_get l'.machine.tasks u) ≡ is_waiting (slice_get l.machine.tasks u) → (heap_of l' u).swept ≡ (heap_of l u).swept → (heap_of l' u).snapshot ≡ (heap_of l u).snapshot
     → (v'.homes u).frames ≡ (v.homes u).frames → ((b : Addr) → IsRoot v l u b → IsRoot v' l' u b) → SameNotes v v' l l' u
 same_notes v v' l l' u N none_new w s n f r = record { keeps = N.keeps; kept = N.kept; waits = w; swept = s; snapshot = n; none_new = none_new; frames = f; rooted = r }
 
@@ -38,7 +38,7 @@ same_notes v v' l l' u N none_new w s n f r = record { keeps = N.keeps; kept = N
 needless : (l' : Ledger) (u : ℕ) → is_waiting (slice_get l'.machine.tasks u) ≡ false → (is_waiting (slice_get l'.machine.tasks u) && not (heap_of l' u).swept) ≡ false
 needless l' u e = ap (λ b. b && not (heap_of l' u).swept) e
 
-not_waiting : (v' : Value) (l' : Ledger) (u : ℕ) → (v'.noted u).keeps ≡ false → is_waiting (slice_get l'.machine.tasks u) ≡ false → NotedAt v' l' u
+not_waiting : (v' : Memory) (l' : Ledger) (u : ℕ) → (v'.noted u).keeps ≡ false → is_waiting (slice_get l'.machine.tasks u) ≡ false → NotedAt v' l' u
 not_waiting v' l' u k e = no_notes v' l' u (record { keeps = k; needless = needless l' u e })
 
 joined_rests : (o : Option Task) → is_joined o ≡ true → is_waiting o ≡ false
@@ -51,14 +51,14 @@ joined_rests (Some x) h = by x.status h
     by (Ended k n) h = refl
     by Joined h = refl
 
-forks_root : (v v' : Value) (l l' : Ledger) (t a b g h : ℕ) (x : Task) → Stands v l → x.status ≡ Running → ForksTask l l' t a b g h x → ForksHome v v' t a b g h → (u : ℕ) → (u ≡ a → ⊥) → (u ≡ b → ⊥) → (c : Addr) → IsRoot v l u c → IsRoot v' l' u c
+forks_root : (v v' : Memory) (l l' : Ledger) (t a b g h : ℕ) (x : Task) → Stands v l → x.status ≡ Running → ForksTask l l' t a b g h x → ForksHome v v' t a b g h → (u : ℕ) → (u ≡ a → ⊥) → (u ≡ b → ⊥) → (c : Addr) → IsRoot v l u c → IsRoot v' l' u c
 forks_root v v' l l' t a b g h x V runs F C u oa ob c r =
     let nt = root_apart v l V t (ap is_waiting F.task ∙ ap (λ s. is_waiting (Some (record x { status = s }))) runs) u c r in
     let na = root_apart v l V a (ap is_waiting F.unmade_left) u c r in
     let nb = root_apart v l V b (ap is_waiting F.unmade_right) u c r in
     root_same v v' l l' u (noted_by v v' u (C.sources u oa ob)) (λ k o. C.owner k ∙ o) c r (ap (λ (z : Heap). z.worker) (F.heaps r.home nt na nb) ∙ r.rests) (ap (λ (z : Home). objects_in z.chunks) (C.others r.home nt na nb))
 
-pub forks_note : (v v' : Value) (l l' : Ledger) (t a b g h : ℕ) (x : Task) (roots : List Addr) → SoundLedger l → Stands v l → x.status ≡ Running → Rests l t → ((u : ℕ) → is_waiting (slice_get l.machine.tasks u) ≡ true → Rests l u)
+pub forks_note : (v v' : Memory) (l l' : Ledger) (t a b g h : ℕ) (x : Task) (roots : List Addr) → SoundLedger l → Stands v l → x.status ≡ Running → Rests l t → ((u : ℕ) → is_waiting (slice_get l.machine.tasks u) ≡ true → Rests l u)
     → (F : ForksTask l l' t a b g h x) → ForksHome v v' t a b g h → AreRoots v l t roots → F.names ≡ within l t → ForksNotes v v' t a b → AllNoted v l → AllNoted v' l'
 forks_note v v' l l' t a b g h x roots S V runs rests at_rest F C R names N H u = elim (cases_eq u t) [
   | inl e ↦ subst (NotedAt v' l') (sym e) (fork_notes v v' l l' t a b g h x roots S V runs rests at_rest F C R names N.kept N.marked N.keeps)
@@ -75,7 +75,7 @@ forks_note v v' l l' t a b g h x roots S V runs rests at_rest F C R names N H u 
   ]
 ]
 
-joins_root : (v v' : Value) (l l' : Ledger) (p c d : ℕ) (x : Task) (rl rr : ℤ × Option Name) (al ar : ℤ × Option Addr) → Stands v l → JoinsTasks l l' p c d x rl rr → CanJoin l p c d x → JoinsHomes v v' p c d al ar
+joins_root : (v v' : Memory) (l l' : Ledger) (p c d : ℕ) (x : Task) (rl rr : ℤ × Option Name) (al ar : ℤ × Option Addr) → Stands v l → JoinsTasks l l' p c d x rl rr → CanJoin l p c d x → JoinsHomes v v' p c d al ar
     → (u : ℕ) → (u ≡ p → ⊥) → (u ≡ c → ⊥) → (u ≡ d → ⊥) → (b : Addr) → IsRoot v l u b → IsRoot v' l' u b
 joins_root v v' l l' p c d x rl rr al ar V J K C u np nc nd b r =
     let rc = root_apart v l V c K.left_idle u b r in
@@ -93,7 +93,7 @@ joins_root v v' l l' p c d x rl rr al ar V J K C u np nc nd b r =
           (ap (λ (z : Home). objects_in z.chunks) (C.others r.home rp rc rd))
     ]
 
-pub joins_note : (v v' : Value) (l l' : Ledger) (p c d : ℕ) (x : Task) (rl rr : ℤ × Option Name) (al ar : ℤ × Option Addr) → Stands v l → JoinsTasks l l' p c d x rl rr → CanJoin l p c d x → JoinsHomes v v' p c d al ar → JoinsNotes v v' p c d → AllNoted v l → AllNoted v' l'
+pub joins_note : (v v' : Memory) (l l' : Ledger) (p c d : ℕ) (x : Task) (rl rr : ℤ × Option Name) (al ar : ℤ × Option Addr) → Stands v l → JoinsTasks l l' p c d x rl rr → CanJoin l p c d x → JoinsHomes v v' p c d al ar → JoinsNotes v v' p c d → AllNoted v l → AllNoted v' l'
 joins_note v v' l l' p c d x rl rr al ar V J K C N H u = elim (cases_eq u p) [
   | inl e ↦ subst (NotedAt v' l') (sym e) (not_waiting v' l' p N.parent (ap is_waiting J.resumed))
   | inr np ↦ elim (cases_eq u c) [
@@ -109,7 +109,7 @@ joins_note v v' l l' p c d x rl rr al ar V J K C N H u = elim (cases_eq u p) [
   ]
 ]
 
-sweeps_root : (v v' : Value) (l l' : Ledger) (t : ℕ) → Stands v l → ChangesHeap l l' t → KeepsJust v v' l l' t (heap_of l t).snapshot → (u : ℕ) → (u ≡ t → ⊥) → (b : Addr) → IsRoot v l u b → IsRoot v' l' u b
+sweeps_root : (v v' : Memory) (l l' : Ledger) (t : ℕ) → Stands v l → ChangesHeap l l' t → KeepsJust v v' l l' t (heap_of l t).snapshot → (u : ℕ) → (u ≡ t → ⊥) → (b : Addr) → IsRoot v l u b → IsRoot v' l' u b
 sweeps_root v v' l l' t V L C u nt b r = elim (cases_eq r.home t) [
   | inl e ↦
       let i = C.kept r.object (subst (λ z. In (objects v z) r.object) e r.there) (subst (λ z. In (heap_of l z).snapshot (object_name r.object)) e (root_kept v l V u b r)) in
@@ -118,7 +118,7 @@ sweeps_root v v' l l' t V L C u nt b r = elim (cases_eq r.home t) [
       root_same v v' l l' u (noted_by v v' u (C.sources u)) (λ k o. C.owners k u nt o) b r (ap (λ (z : Heap). z.worker) (L.others r.home ne) ∙ r.rests) (ap (λ (z : Home). objects_in z.chunks) (C.others r.home ne))
 ]
 
-pub sweeps_note : (v v' : Value) (l l' : Ledger) (t : ℕ) → Stands v l → ChangesHeap l l' t → (heap_of l' t).swept ≡ true → KeepsJust v v' l l' t (heap_of l t).snapshot → OthersNotes v v' t → AllNoted v l → AllNoted v' l'
+pub sweeps_note : (v v' : Memory) (l l' : Ledger) (t : ℕ) → Stands v l → ChangesHeap l l' t → (heap_of l' t).swept ≡ true → KeepsJust v v' l l' t (heap_of l t).snapshot → OthersNotes v v' t → AllNoted v l → AllNoted v' l'
 sweeps_note v v' l l' t V L swept C N H u = elim (cases_eq u t) [
   | inl e ↦ subst (NotedAt v' l') (sym e) (no_notes v' l' t (record { keeps = N.none; needless = by (is_waiting (slice_get l'.machine.tasks t)) (heap_of l' t).swept swept }))
   | inr nt ↦
@@ -134,14 +134,14 @@ sweeps_note v v' l l' t V L swept C N H u = elim (cases_eq u t) [
     by true false e = absurd (false≢true e)
     by false false e = refl
 
-ends_root : (v v' : Value) (l l' : Ledger) (t : ℕ) (names : List Name) (f : Addr → Addr) → Stands v l → is_waiting (slice_get l.machine.tasks t) ≡ false → ChangesHeap l l' t → Moves v v' l l' t names f → (u : ℕ) → (u ≡ t → ⊥) → (b : Addr) → IsRoot v l u b → IsRoot v' l' u b
+ends_root : (v v' : Memory) (l l' : Ledger) (t : ℕ) (names : List Name) (f : Addr → Addr) → Stands v l → is_waiting (slice_get l.machine.tasks t) ≡ false → ChangesHeap l l' t → Moves v v' l l' t names f → (u : ℕ) → (u ≡ t → ⊥) → (b : Addr) → IsRoot v l u b → IsRoot v' l' u b
 ends_root v v' l l' t names f V idle L C u nt b r =
     let ne = root_apart v l V t idle u b r in
     root_by v v' l l' u (noted_by v v' u (C.sources u)) (λ k o. C.owners k u nt o) b r (ap (λ (z : Heap). z.worker) (L.others r.home ne) ∙ r.rests) (rewritten f (sources v t) r.object)
     (subst (λ (h : Home). In (objects_in h.chunks) (rewritten f (sources v t) r.object)) (sym (C.others r.home ne)) (to_mapped (rewritten f (sources v t)) (λ o. refl) (λ o. refl) (v.homes r.home).chunks r.object r.there)) refl
     (rewritten_at f (sources v t) r.object.at 0 r.object.refs r.source.field b (C.same b u nt r.into) r.holds)
 
-pub ends_note : (v v' : Value) (l l' : Ledger) (t : ℕ) (names : List Name) (f : Addr → Addr) → Stands v l → is_waiting (slice_get l.machine.tasks t) ≡ false → ChangesHeap l l' t → Moves v v' l l' t names f → OthersNotes v v' t → AllNoted v l → AllNoted v' l'
+pub ends_note : (v v' : Memory) (l l' : Ledger) (t : ℕ) (names : List Name) (f : Addr → Addr) → Stands v l → is_waiting (slice_get l.machine.tasks t) ≡ false → ChangesHeap l l' t → Moves v v' l l' t names f → OthersNotes v v' t → AllNoted v l → AllNoted v' l'
 ends_note v v' l l' t names f V idle L C N H u = elim (cases_eq u t) [
   | inl e ↦ subst (NotedAt v' l') (sym e) (not_waiting v' l' t N.none (ap (λ (m : State). is_waiting (slice_get m.tasks t)) L.machine ∙ idle))
   | inr nt ↦
@@ -152,7 +152,7 @@ ends_note v v' l l' t names f V idle L C N H u = elim (cases_eq u t) [
 ]
 
 -- a step of t alone, also its end
-pub steps_note : (v v' : Value) (l l' : Ledger) (t : ℕ) → is_waiting (slice_get l.machine.tasks t) ≡ false → StepsAlone l l' t → ((u : ℕ) → (u ≡ t → ⊥) → v'.homes u ≡ v.homes u) → ((k : ℕ) → v'.owner k ≡ v.owner k) → ((u : ℕ) → sources v' u ≡ sources v u)
+pub steps_note : (v v' : Memory) (l l' : Ledger) (t : ℕ) → is_waiting (slice_get l.machine.tasks t) ≡ false → StepsAlone l l' t → ((u : ℕ) → (u ≡ t → ⊥) → v'.homes u ≡ v.homes u) → ((k : ℕ) → v'.owner k ≡ v.owner k) → ((u : ℕ) → sources v' u ≡ sources v u)
     → ((u : ℕ) (b : Addr) (r : IsRoot v l u b) → r.home ≡ t → ⊥) → OthersNotes v v' t → AllNoted v l → AllNoted v' l'
 steps_note v v' l l' t idle A C owner same apart N H u = elim (cases_eq u t) [
   | inl e ↦ subst (NotedAt v' l') (sym e) (not_waiting v' l' t N.none (A.tree.waits t ∙ idle))
@@ -165,7 +165,7 @@ steps_note v v' l l' t idle A C owner same apart N H u = elim (cases_eq u t) [
 ]
 
 -- an entry that moves nothing
-pub quiet_notes : (v v' : Value) (l l' : Ledger) → l'.machine ≡ l.machine → ((u : ℕ) → Rests l u → Rests l' u) → ((u : ℕ) → (v'.homes u).frames ≡ (v.homes u).frames) → ((k u : ℕ) → v.owner k ≡ Some u → v'.owner k ≡ Some u) → ((u : ℕ) → sources v' u ≡ sources v u) → ((u : ℕ) → (heap_of l' u).swept ≡ (heap_of l u).swept) → ((u : ℕ) → (heap_of l' u).snapshot ≡ (heap_of l u).snapshot) → ((u : ℕ) → objects v' u ≡ objects v u) → ((u : ℕ) → is_waiting (slice_get l.machine.tasks u) ≡ true → length (v'.homes u).chunks ≡ length (v.homes u).chunks)
+pub quiet_notes : (v v' : Memory) (l l' : Ledger) → l'.machine ≡ l.machine → ((u : ℕ) → Rests l u → Rests l' u) → ((u : ℕ) → (v'.homes u).frames ≡ (v.homes u).frames) → ((k u : ℕ) → v.owner k ≡ Some u → v'.owner k ≡ Some u) → ((u : ℕ) → sources v' u ≡ sources v u) → ((u : ℕ) → (heap_of l' u).swept ≡ (heap_of l u).swept) → ((u : ℕ) → (heap_of l' u).snapshot ≡ (heap_of l u).snapshot) → ((u : ℕ) → objects v' u ≡ objects v u) → ((u : ℕ) → is_waiting (slice_get l.machine.tasks u) ≡ true → length (v'.homes u).chunks ≡ length (v.homes u).chunks)
     → ((k u : ℕ) → v'.owner k ≡ Some u → (v.owner k ≡ Some u) ⊎ (is_waiting (slice_get l.machine.tasks u) ≡ false)) → ((u : ℕ) → Noting v v' l l' u) → AllNoted v l → AllNoted v' l'
 quiet_notes v v' l l' m rest frames owner noted swept snapshot same chunks taken N H u = by (is_waiting (slice_get l.machine.tasks u)) refl (N u)
   where
@@ -186,7 +186,7 @@ quiet_notes v v' l l' m rest frames owner noted swept snapshot same chunks taken
     by true e (inl n) = notes_stay v v' l l' u (same_notes v v' l l' u n.0 (none_new e) waits (swept u) (snapshot u) (frames u) rooted) n.0.marked n.1 (same_whole v v' u (same u) (chunks u e)) (H u)
     by true e (inr (inr n)) = notes_with v v' l l' u (record { keeps = n.keeps; kept = n.kept; waits = waits; swept = swept u; snapshot = snapshot u; none_new = none_new e; frames = frames u; rooted = rooted }) (same_whole v v' u (same u) (chunks u e)) (λ g. n.marks) (H u)
 
-numbers_root : (v v' : Value) (l l' : Ledger) (w : ℕ) (a : Addr) (i : ℕ) (k : ℤ) → WritesAt v v' w a (with_number i k) → ((z : ℕ) → (heap_of l' z).worker ≡ (heap_of l z).worker) → (u : ℕ) (b : Addr) → IsRoot v l u b → IsRoot v' l' u b
+numbers_root : (v v' : Memory) (l l' : Ledger) (w : ℕ) (a : Addr) (i : ℕ) (k : ℤ) → WritesAt v v' w a (with_number i k) → ((z : ℕ) → (heap_of l' z).worker ≡ (heap_of l z).worker) → (u : ℕ) (b : Addr) → IsRoot v l u b → IsRoot v' l' u b
 numbers_root v v' l l' w a i k C rest u b r =
     root_by v v' l l' u (C.noted u) (λ c o. C.owner c ∙ o) b r (rest r.home ∙ r.rests) (one r.object)
     (subst (λ ks. In (objects_in ks) (one r.object)) (sym (C.chunks r.home)) (to_mapped one one_name one_at (v.homes r.home).chunks r.object r.there)) (one_at r.object) (ap (λ rs. slice_get rs r.source.field) (one_refs r.object) ∙ r.holds)
@@ -215,7 +215,7 @@ numbers_root v v' l l' w a i k C rest u b r =
         by true = refl
         by false = refl
 
-pub numbers_note : (v v' : Value) (l l' : Ledger) (t : ℕ) (x : Task) (n : Name) (y : Object) (o w i : ℕ) (f : Frame) (fs : List Frame) (a : Addr) → StoresNumber l l' t x n y o w i → StoresNumberAt v v' t f fs a w i → OthersNotes v v' t → AllNoted v l → AllNoted v' l'
+pub numbers_note : (v v' : Memory) (l l' : Ledger) (t : ℕ) (x : Task) (n : Name) (y : Object) (o w i : ℕ) (f : Frame) (fs : List Frame) (a : Addr) → StoresNumber l l' t x n y o w i → StoresNumberAt v v' t f fs a w i → OthersNotes v v' t → AllNoted v l → AllNoted v' l'
 numbers_note v v' l l' t x n y o w i f fs a L C N H u = elim (cases_eq u t) [
   | inl e ↦ subst (NotedAt v' l') (sym e) (not_waiting v' l' t N.none (L.writes.tree.waits t ∙ (ap is_waiting L.task ∙ ap (λ s. is_waiting (Some (record x { status = s }))) L.runs)))
   | inr nt ↦
@@ -225,7 +225,7 @@ numbers_note v v' l l' t x n y o w i f fs a L C N H u = elim (cases_eq u t) [
       (numbers_whole v v' t a i _ u C.writes) (H u)
 ]
 
-pub stores_note : (v v' : Value) (l l' : Ledger) (t : ℕ) (x : Task) (n : Name) (y : Object) (o w i : ℕ) (c : Option (ℕ × ℤ)) (f : Frame) (fs : List Frame) (a : Addr) → SoundLedger l → Stands v l → Rests l t
+pub stores_note : (v v' : Memory) (l l' : Ledger) (t : ℕ) (x : Task) (n : Name) (y : Object) (o w i : ℕ) (c : Option (ℕ × ℤ)) (f : Frame) (fs : List Frame) (a : Addr) → SoundLedger l → Stands v l → Rests l t
     → StoresOne l l' t x n y o w i c → StoresAt v v' l t f fs a w i c → register f o ≡ Some a → StoresNotes v v' t a i → AllNoted v l → AllNoted v' l'
 stores_note v v' l l' t x n y o w i c f fs a S V rests L C at_a N H u = elim (cases_eq u t) [
   | inl e ↦ subst (NotedAt v' l') (sym e) (not_waiting v' l' t N.none (L.writes.tree.waits t ∙ (ap is_waiting L.task ∙ ap (λ s. is_waiting (Some (record x { status = s }))) L.runs)))

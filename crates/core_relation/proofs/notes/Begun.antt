@@ -7,15 +7,15 @@ use Rattle.run_ledger.specs.declared.data.Heap.{Heap}
 use Rattle.run_ledger.specs.declared.data.Ledger.{Ledger}
 use Rattle.run_ledger.specs.Heaps.{heap_of}
 use Rattle.run_ledger.specs.Sound.{SoundLedger}
-use Rattle.core_relation.specs.Value.{Home, Value, In, object_name, objects_in}
-use Rattle.ledger_steps.specs.Accounts.{Rests}
+use Rattle.core_relation.specs.Memory.{Home, Memory, In, object_name, objects_in}
+use Rattle.ledger_step_laws.specs.Accounts.{Rests}
 use Rattle.task_machine.specs.declared.part.Begun.{Begun}
 use Rattle.core_relation.specs.Stands.{Stands}
 use Rattle.core_relation.specs.Begins.{IsReachedAt, AreRoots}
 use Rattle.core_relation.specs.Whole.{BegunStands, Begins}
 use Rattle.core_relation.proofs.notes.Roots.{reached_both}
 
-pub begins : (v v' : Value) (l l' : Ledger) (t : ℕ) (x : Task) (b : Begun) → SoundLedger l → Stands v l → slice_get l.machine.tasks t ≡ Some x → x.status ≡ Running → Rests l t → ((u : ℕ) → is_waiting (slice_get l.machine.tasks u) ≡ true → Rests l u)
+pub begins : (v v' : Memory) (l l' : Ledger) (t : ℕ) (x : Task) (b : Begun) → SoundLedger l → Stands v l → slice_get l.machine.tasks t ≡ Some x → x.status ≡ Running → Rests l t → ((u : ℕ) → is_waiting (slice_get l.machine.tasks u) ≡ true → Rests l u)
     → AreRoots v l t b.roots → Begins v v' l l' t b → BegunStands v' l' t b
 begins v v' l l' t x b S V is runs rests at_rest R B = record {
   few = ap (λ (h : Heap). h.begun) B.heap;
@@ -29,7 +29,7 @@ begins v v' l l' t x b S V is runs rests at_rest R B = record {
       );
 }
 
-pub begun_stays : (v v' : Value) (l l' : Ledger) (t : ℕ) (b : Begun) → v'.homes t ≡ v.homes t → ((k : ℕ) → v.owner k ≡ Some t → v'.owner k ≡ Some t) → heap_of l' t ≡ heap_of l t → BegunStands v l t b → BegunStands v' l' t b
+pub begun_stays : (v v' : Memory) (l l' : Ledger) (t : ℕ) (b : Begun) → v'.homes t ≡ v.homes t → ((k : ℕ) → v.owner k ≡ Some t → v'.owner k ≡ Some t) → heap_of l' t ≡ heap_of l t → BegunStands v l t b → BegunStands v' l' t b
 begun_stays v v' l l' t b home owner heap B = record {
   few = ap (λ (h : Heap). h.begun) heap ∙ B.few;
   once = B.once;

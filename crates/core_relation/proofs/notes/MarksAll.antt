@@ -10,8 +10,8 @@ use Rattle.run_ledger.specs.declared.data.Ledger.{Ledger}
 use Rattle.run_ledger.specs.Heaps.{held_in, heap_of, marked_in}
 use Rattle.run_ledger.specs.Reachable.{is_name}
 use Rattle.run_ledger.proofs.Members.{same_from_is_name, is_name_itself}
-use Rattle.ledger_steps.specs.Accounts.{Rests}
-use Rattle.core_relation.specs.Value.{Value, In, object_name, objects}
+use Rattle.ledger_step_laws.specs.Accounts.{Rests}
+use Rattle.core_relation.specs.Memory.{Memory, In, object_name, objects}
 use Rattle.core_relation.specs.Stands.{Stands}
 use Rattle.core_relation.specs.CopyLaws.{MarksAreAll}
 use Rattle.core_relation.proofs.objects.Members.{held_object}
@@ -85,7 +85,7 @@ all_of xs ys o f le n i = elim (is_in n xs) [
 
 -- THE NAMES OF WHAT IS MARKED
 
-module _ (v : Value) (l : Ledger) (t : ℕ) (V : Stands v l) (rests : Rests l t) where
+module _ (v : Memory) (l : Ledger) (t : ℕ) (V : Stands v l) (rests : Rests l t) where
   abbrev Each : List Addr → Type 0
   Each bs = (a : Addr) → In bs a → (q : Located) × In (objects v t) q × (q.at ≡ a) × In (heap_of l t).snapshot (object_name q)
 
@@ -135,7 +135,7 @@ module _ (v : Value) (l : Ledger) (t : ℕ) (V : Stands v l) (rests : Rests l t)
   )
 
 -- marked are no more than the snapshot has
-pub few_marked : (v : Value) (l : Ledger) (t : ℕ) (marked : List Addr) → Stands v l → Rests l t → ((a : Addr) → In marked a → (q : Located) × In (objects v t) q × (q.at ≡ a) × In (heap_of l t).snapshot (object_name q)) → IsDistinct same_address marked
+pub few_marked : (v : Memory) (l : Ledger) (t : ℕ) (marked : List Addr) → Stands v l → Rests l t → ((a : Addr) → In marked a → (q : Located) × In (objects v t) q × (q.at ≡ a) × In (heap_of l t).snapshot (object_name q)) → IsDistinct same_address marked
     → length marked ≤ length (heap_of l t).snapshot
 few_marked v l t marked V rests each once =
     let ns = names v l t V rests marked each in
@@ -144,7 +144,7 @@ few_marked v l t marked V rests each once =
     omega (arith, le, as_many)
 
 -- and no fewer, where each object of it is marked
-pub all_marked : (v : Value) (l : Ledger) (t : ℕ) (marked : List Addr) → Stands v l → Rests l t → ((a : Addr) → In marked a → (q : Located) × In (objects v t) q × (q.at ≡ a) × In (heap_of l t).snapshot (object_name q))
+pub all_marked : (v : Memory) (l : Ledger) (t : ℕ) (marked : List Addr) → Stands v l → Rests l t → ((a : Addr) → In marked a → (q : Located) × In (objects v t) q × (q.at ≡ a) × In (heap_of l t).snapshot (object_name q))
     → IsDistinct is_name (heap_of l t).snapshot → ((n : Name) → In (heap_of l t).snapshot n → In (held_in (heap_of l t)) n) → ((q : Located) → In (objects v t) q → In (heap_of l t).snapshot (object_name q) → In marked q.at) → length (heap_of l t).snapshot ≤ length marked
 all_marked v l t marked V rests each distinct held every =
     let ns = names v l t V rests marked each in

@@ -5,11 +5,11 @@ use Rattle.object_layout.specs.Graph.{IsHeld, Leads}
 use Rattle.object_layout.specs.Objects.{Located}
 use Rattle.hh_model.specs.declared.data.Name.{Name}
 use Rattle.listed.proofs.Members.{contains_from_in, in_append_cases, in_append_left, in_append_right, in_from_contains}
-use Rattle.walks.proofs.Reached.{reached_more, reached_start, reached_within}
-use Rattle.inner_mark_gc.specs.Marks.{IsMarking, Marks}
+use Rattle.walk_laws.proofs.Reached.{reached_more, reached_start, reached_within}
+use Rattle.inner_mark_gc.specs.MarkingValue.{IsMarking, MarkingValue}
 use Rattle.inner_mark_gc.specs.Snapshot.{Fork, IsInSnapshot, Starts}
 use Rattle.inner_mark_gc.proofs.GoingOn.{marking_goes_on}
-use Rattle.core_relation.specs.Value.{In, Value, object_name, objects}
+use Rattle.core_relation.specs.Memory.{In, Memory, object_name, objects}
 use Rattle.core_relation.specs.Marking.{GoesOn}
 use Rattle.core_relation.specs.Since.{kept}
 
@@ -40,7 +40,7 @@ module _ (f : Fork) (kept more : List Addr) (of : (a : Addr) → In more a → I
   )
 
 -- THE MARKING of t's heap
-module _ (v v' : Value) (t : ℕ) (snapshot : List Name) (m : Marks) (more : List Addr) (grows : kept v' t ≡ kept v t ++ more)
+module _ (v v' : Memory) (t : ℕ) (snapshot : List Name) (m : MarkingValue) (more : List Addr) (grows : kept v' t ≡ kept v t ++ more)
     (there : (o : Located) → In (objects v t) o → (q : Located) × In (objects v' t) q × (q.at ≡ o.at) × (object_name q ≡ object_name o))
     (were : (q : Located) → In (objects v' t) q → (o : Located) × In (objects v t) o × (q.at ≡ o.at) × (object_name q ≡ object_name o) × ((a : Addr) → v.owner a.chunk ≡ Some t → In o.refs (Some a) → In q.refs (Some a) ⊎ In (kept v' t) a))
     (none_new : (k : ℕ) → v'.owner k ≡ Some t → v.owner k ≡ Some t) (count : length (objects v' t) ≡ length (objects v t)) (chunks : length (v'.homes t).chunks ≡ length (v.homes t).chunks)

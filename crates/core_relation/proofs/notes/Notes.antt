@@ -18,18 +18,18 @@ use Rattle.run_ledger.specs.declared.data.Heap.{Heap}
 use Rattle.run_ledger.specs.declared.data.Ledger.{Ledger}
 use Rattle.run_ledger.specs.Heaps.{heap_of, heap_at, within}
 use Rattle.run_ledger.specs.Sound.{SoundLedger, InHeaps, names_of, snapshot_at}
-use Rattle.inner_mark_gc.specs.Marks.{Marks}
+use Rattle.inner_mark_gc.specs.MarkingValue.{MarkingValue}
 use Rattle.listed.proofs.Members.{in_append_right}
 use Rattle.task_frames.specs.declared.frames.Frame.{Frame}
 use Rattle.remembered_set.specs.declared.remembered.Source.{Source}
-use Rattle.core_relation.specs.Value.{Chunk, Home, Value, In, object_name, objects, objects_in, sources, led, is_source, rewritten, rewritten_refs, rewritten_home, is_at, mapped_chunk, put_at}
-use Rattle.ledger_steps.specs.Accounts.{own, Rests}
+use Rattle.core_relation.specs.Memory.{Chunk, Home, Memory, In, object_name, objects, objects_in, sources, led, is_source, rewritten, rewritten_refs, rewritten_home, is_at, mapped_chunk, put_at}
+use Rattle.ledger_step_laws.specs.Accounts.{own, Rests}
 use Rattle.core_relation.specs.Stands.{Place, Stands}
 use Rattle.core_relation.specs.Begins.{IsReachedAt, AreRoots}
 use Rattle.core_relation.specs.Marking.{GoesOn, MarkedBy}
 use Rattle.core_relation.specs.Since.{Since, Keeps, kept, NotedAt, SameNotes, NoNotes, StaysWhole}
 use Rattle.core_relation.specs.Changes.{Moves, ForksHome, WritesAt, StoresAt, with_field, with_number, register}
-use Rattle.ledger_steps.specs.Kinds.{ForksTask, StoresOne}
+use Rattle.ledger_step_laws.specs.Kinds.{ForksTask, StoresOne}
 use Rattle.core_relation.proofs.objects.Mapped.{count_mapped, from_mapped, length_map, to_mapped}
 use Rattle.core_relation.proofs.notes.MarksGoOn.{goes_on}
 use Rattle.core_relation.proofs.objects.Members.{object_held}
@@ -40,12 +40,12 @@ use Rattle.core_relation.proofs.changes.Store as store
 
 -- WHAT IS MARKED stays so, where its objects do
 
-pub marks_carry : (v v' : Value) (l l' : Ledger) (t : ℕ) (o o' : Option Marks) → o' ≡ o → (heap_of l' t).marked ≡ (heap_of l t).marked
+pub marks_carry : (v v' : Memory) (l l' : Ledger) (t : ℕ) (o o' : Option MarkingValue) → o' ≡ o → (heap_of l' t).marked ≡ (heap_of l t).marked
     → ((q : Located) → In (objects v t) q → In (heap_of l t).snapshot (object_name q) → (z : Located) × In (objects v' t) z × (z.at ≡ q.at) × In (heap_of l' t).snapshot (object_name z))
-    → ((m : Marks) → GoesOn v t (heap_of l t).snapshot m → GoesOn v' t (heap_of l' t).snapshot m) → MarkedBy v l t o → MarkedBy v' l' t o'
+    → ((m : MarkingValue) → GoesOn v t (heap_of l t).snapshot m → GoesOn v' t (heap_of l' t).snapshot m) → MarkedBy v l t o → MarkedBy v' l' t o'
 marks_carry v v' l l' t o o' same account stay further M = subst (MarkedBy v' l' t) (sym same) (by o M)
   where
-    by : (o : Option Marks) → MarkedBy v l t o → MarkedBy v' l' t o
+    by : (o : Option MarkingValue) → MarkedBy v l t o → MarkedBy v' l' t o
     by None M = account ∙ M
     by (Some m) M = (
       record {
@@ -62,7 +62,7 @@ append_nil : (xs : List Addr) → xs ++ [] ≡ xs
 append_nil [] = refl
 append_nil (x ∷ xs) = ap (λ ys. x ∷ ys) (append_nil xs)
 
-module _ (v v' : Value) (l l' : Ledger) (t : ℕ) (N : SameNotes v v' l l' t) where
+module _ (v v' : Memory) (l l' : Ledger) (t : ℕ) (N : SameNotes v v' l l' t) where
   since_stays : StaysWhole v v' t → Since v l t → Since v' l' t
   since_stays S H = record {
     home = H.home;
@@ -97,7 +97,7 @@ module _ (v v' : Value) (l l' : Ledger) (t : ℕ) (N : SameNotes v v' l l' t) wh
   notes_with S M H = record { keeps = keeps_same H; since = λ e. since_stays S (H.since (sym N.keeps ∙ e)); marks = M }
 
   -- a marking can go on
-  still_goes : StaysWhole v v' t → (m : Marks) → GoesOn v t (heap_of l t).snapshot m → GoesOn v' t (heap_of l' t).snapshot m
+  still_goes : StaysWhole v v' t → (m : MarkingValue) → GoesOn v t (heap_of l t).snapshot m → GoesOn v' t (heap_of l' t).snapshot m
   still_goes S m G =
       subst (λ ns. GoesOn v' t ns m) (sym N.snapshot)
       (goes_on v v' t (heap_of l t).snapshot m [] (N.kept ∙ sym (append_nil (kept v t))) S.there (λ q i. let o = S.were q i in (o.0, o.1, o.2, o.3, λ a c r. inl (o.4 a c r))) N.none_new S.count S.chunks (λ b i. absurd i) G)
@@ -107,7 +107,7 @@ module _ (v v' : Value) (l l' : Ledger) (t : ℕ) (N : SameNotes v v' l l' t) wh
       marks_carry v v' l l' t (v.noted t).marked (v'.noted t).marked marked account
       (λ q i j. let z = S.there q i in (z.0, z.1, z.2, subst (λ ns. In ns (object_name z.0)) (sym N.snapshot) (subst (In (heap_of l t).snapshot) (sym z.3) j))) (still_goes S) (H.marks (sym N.keeps ∙ e))) H
 
-pub same_whole : (v v' : Value) (t : ℕ) → objects v' t ≡ objects v t → length (v'.homes t).chunks ≡ length (v.homes t).chunks → StaysWhole v v' t
+pub same_whole : (v v' : Memory) (t : ℕ) → objects v' t ≡ objects v t → length (v'.homes t).chunks ≡ length (v.homes t).chunks → StaysWhole v v' t
 same_whole v v' t e chunks = record {
   count = ap (λ (os : List Located). length os) e;
   chunks = chunks;
@@ -125,7 +125,7 @@ rewritten_keeps f ss a i (r ∷ rs) b e (inl g) = inl (by (list_any (is_source a
     by false = g
 rewritten_keeps f ss a i (r ∷ rs) b e (inr j) = inr (rewritten_keeps f ss a (suc i) rs b e j)
 
-pub moves_whole : (v v' : Value) (l l' : Ledger) (u t : ℕ) (names : List Name) (f : Addr → Addr) → (t ≡ u → ⊥) → Moves v v' l l' u names f → StaysWhole v v' t
+pub moves_whole : (v v' : Memory) (l l' : Ledger) (u t : ℕ) (names : List Name) (f : Addr → Addr) → (t ≡ u → ⊥) → Moves v v' l l' u names f → StaysWhole v v' t
 moves_whole v v' l l' u t names f ne M =
     let e : v'.homes t ≡ rewritten_home f (sources v u) (v.homes t) = M.others t ne in
     record {
@@ -143,7 +143,7 @@ moves_whole v v' l l' u t names f ne M =
     }
 
 -- so does a store of a number
-pub numbers_whole : (v v' : Value) (w : ℕ) (a : Addr) (i : ℕ) (k : ℤ) (t : ℕ) → WritesAt v v' w a (with_number i k) → StaysWhole v v' t
+pub numbers_whole : (v v' : Memory) (w : ℕ) (a : Addr) (i : ℕ) (k : ℤ) (t : ℕ) → WritesAt v v' w a (with_number i k) → StaysWhole v v' t
 numbers_whole v v' w a i k t C = record {
   count = ap (λ ks. length (objects_in ks)) (C.chunks t) ∙ count_mapped one one_name one_at (v.homes t).chunks;
   chunks = ap (λ (ks : List Chunk). length ks) (C.chunks t) ∙ length_map (mapped_chunk one) (v.homes t).chunks;
@@ -183,7 +183,7 @@ numbers_whole v v' w a i k t C = record {
         by false = refl
 
 -- in any store each object stays where it lies
-pub writes_stay : (v v' : Value) (w : ℕ) (a : Addr) (f : Located → Located) (t : ℕ) → WritesAt v v' w a f → (q : Located) → In (objects v t) q → (z : Located) × In (objects v' t) z × (z.at ≡ q.at) × (object_name z ≡ object_name q)
+pub writes_stay : (v v' : Memory) (w : ℕ) (a : Addr) (f : Located → Located) (t : ℕ) → WritesAt v v' w a f → (q : Located) → In (objects v t) q → (z : Located) × In (objects v' t) z × (z.at ≡ q.at) × (object_name z ≡ object_name q)
 writes_stay v v' w a f t C q j = (put_at a f q, subst (λ ks. In (objects_in ks) (put_at a f q)) (sym (C.chunks t)) (to_mapped (put_at a f) one_name one_at (v.homes t).chunks q j), one_at q, one_name q)
   where
     one_name : (o : Located) → object_name (put_at a f o) ≡ object_name o
@@ -202,12 +202,12 @@ writes_stay v v' w a f t C q j = (put_at a f q, subst (λ ks. In (objects_in ks)
 
 -- NOTHING IS NOTED
 
-pub no_notes : (v' : Value) (l' : Ledger) (t : ℕ) → NoNotes v' l' t → NotedAt v' l' t
+pub no_notes : (v' : Memory) (l' : Ledger) (t : ℕ) → NoNotes v' l' t → NotedAt v' l' t
 no_notes v' l' t N = record { keeps = N.keeps ∙ sym N.needless; since = λ e. absurd (both_ways (v'.noted t).keeps N.keeps e); marks = λ e. absurd (both_ways (v'.noted t).keeps N.keeps e) }
 
 -- A FORK
 
-pub fork_notes : (v v' : Value) (l l' : Ledger) (t a b g h : ℕ) (x : Task) (roots : List Addr) → SoundLedger l → Stands v l → x.status ≡ Running → Rests l t → ((u : ℕ) → is_waiting (slice_get l.machine.tasks u) ≡ true → Rests l u)
+pub fork_notes : (v v' : Memory) (l l' : Ledger) (t a b g h : ℕ) (x : Task) (roots : List Addr) → SoundLedger l → Stands v l → x.status ≡ Running → Rests l t → ((u : ℕ) → is_waiting (slice_get l.machine.tasks u) ≡ true → Rests l u)
     → (F : ForksTask l l' t a b g h x) → ForksHome v v' t a b g h → AreRoots v l t roots → F.names ≡ within l t → kept v' t ≡ [] → (v'.noted t).marked ≡ None → (v'.noted t).keeps ≡ true → NotedAt v' l' t
 fork_notes v v' l l' t a b g h x roots S V runs rests at_rest F C R names none unmarked keeps = record {
   keeps = keeps ∙ sym (ap₂ (λ a b. a && not b) (ap is_waiting F.waits) (ap (λ (z : Heap). z.swept) F.heap));
@@ -217,7 +217,7 @@ fork_notes v v' l l' t a b g h x roots S V runs rests at_rest F C R names none u
 
 -- A STORE OF A REFERENCE: what it overwrites is of the snapshot
 
-module _ (v v' : Value) (l l' : Ledger) (t : ℕ) (x : Task) (n : Name) (y : Object) (o w i : ℕ) (c : Option (ℕ × ℤ)) (f : Frame) (fs : List Frame) (a : Addr) (S : SoundLedger l) (V : Stands v l) (rests : Rests l t)
+module _ (v v' : Memory) (l l' : Ledger) (t : ℕ) (x : Task) (n : Name) (y : Object) (o w i : ℕ) (c : Option (ℕ × ℤ)) (f : Frame) (fs : List Frame) (a : Addr) (S : SoundLedger l) (V : Stands v l) (rests : Rests l t)
     (L : StoresOne l l' t x n y o w i c) (C : StoresAt v v' l t f fs a w i c) (at_a : register f o ≡ Some a) (u : ℕ) (wait : is_waiting (slice_get l.machine.tasks u) ≡ true) where
   place : Place v l n a
   place = store.place v v' l l' t x n y o w i c f fs a S V rests L C at_a
@@ -266,7 +266,7 @@ module _ (v v' : Value) (l l' : Ledger) (t : ℕ) (x : Task) (n : Name) (y : Obj
       by false = refl
 
   -- a marking can go on
-  store_goes : Since v' l' u → Keeps v v' u a i → (m : Marks) → GoesOn v u (heap_of l u).snapshot m → GoesOn v' u (heap_of l' u).snapshot m
+  store_goes : Since v' l' u → Keeps v v' u a i → (m : MarkingValue) → GoesOn v u (heap_of l u).snapshot m → GoesOn v' u (heap_of l' u).snapshot m
   store_goes H' K m G =
       let back : (q : Located) → In (objects v' u) q → (o : Located) × In (objects v u) o × (one o ≡ q) = λ q j. from_mapped one one_name one_at (v.homes u).chunks q (subst (λ ks. In (objects_in ks) q) (C.writes.chunks u) j) in
       let same : (heap_of l' u).snapshot ≡ (heap_of l u).snapshot = ap (λ (g : Heap). g.snapshot) (L.writes.heaps u) in

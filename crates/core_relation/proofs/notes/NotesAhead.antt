@@ -8,10 +8,10 @@ use Rattle.hh_model.proofs.Runs.{running_tells}
 use Rattle.std.proofs.Common.{length}
 use Rattle.run_ledger.specs.declared.data.Ledger.{Ledger}
 use Rattle.run_ledger.specs.Heaps.{heap_of, or_fresh, let_go}
-use Rattle.ledger_steps.specs.Accounts.{Rests, StepsAlone, rested}
+use Rattle.ledger_step_laws.specs.Accounts.{Rests, StepsAlone, rested}
 use Rattle.core_relation.specs.Fits.{with_home}
 use Rattle.core_relation.proofs.notes.Rooted.{root_apart}
-use Rattle.ledger_steps.proofs.Ahead.{with_machine, with_off}
+use Rattle.ledger_step_laws.proofs.Ahead.{with_machine, with_off}
 use Rattle.core_relation.proofs.parts.Statements.{NotesAhead, NotesBack}
 use Rattle.core_relation.proofs.notes.AllNotes.{steps_note}
 use Rattle.core_relation.proofs.parts.Parts.{ahead_alone}

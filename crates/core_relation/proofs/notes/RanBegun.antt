@@ -4,20 +4,20 @@ use Rattle.std.proofs.lemmas.Bool.{cases_eq}
 use Rattle.hh_lang.specs.declared.instr.Instr.{Instr}
 use Rattle.hh_lang.specs.declared.instr.Instr.TheVariants.{Set, Mov, Movr, Nil as NilOf, Calc, Same, Jmp, Jz, Newm, Pack, Getr, Geti, Putr, Puti, Cntr, Cnti, Freeze, Cas, Call, Par, Ret, Out}
 use Rattle.hh_lang.specs.Form.{ProgramText}
-use Rattle.run_trace.specs.Settings.{Limits}
+use Rattle.run_trace.specs.Settings.{SettingsValue}
 use Rattle.run_ledger.specs.declared.data.Heap.{Heap}
 use Rattle.run_ledger.specs.declared.data.Ledger.{Ledger}
 use Rattle.run_ledger.specs.Heaps.{heap_of, or_fresh, let_go}
 use Rattle.run_ledger.specs.Steps.{task_steps}
 use Rattle.task_frames.specs.declared.frames.Frame.{Frame}
-use Rattle.ledger_steps.specs.Accounts.{Rests, StepsAlone, rested}
-use Rattle.ledger_steps.specs.Kinds.{EndsTask}
-use Rattle.ledger_steps.specs.Last.{WritesOther, LastKind, Private, Reading, Writing, Printing, Forking, Ending, Joining, Finishing, Halting, IsOfKind, GoesOn, Splits, Runs}
-use Rattle.ledger_steps.proofs.Ahead.{private_alone, steps_alone_all, with_off}
-use Rattle.ledger_steps.proofs.Along.{steps_know}
-use Rattle.ledger_steps.proofs.Rested.{rested_view}
-use Rattle.ledger_steps.proofs.Split.{worker_step}
-use Rattle.core_relation.specs.Value.{Home, Value}
+use Rattle.ledger_step_laws.specs.Accounts.{Rests, StepsAlone, rested}
+use Rattle.ledger_step_laws.specs.Kinds.{EndsTask}
+use Rattle.ledger_step_laws.specs.Last.{WritesOther, LastKind, Private, Reading, Writing, Printing, Forking, Ending, Joining, Finishing, Halting, IsOfKind, GoesOn, Splits, Runs}
+use Rattle.ledger_step_laws.proofs.Ahead.{private_alone, steps_alone_all, with_off}
+use Rattle.ledger_step_laws.proofs.Along.{steps_know}
+use Rattle.ledger_step_laws.proofs.Rested.{rested_view}
+use Rattle.ledger_step_laws.proofs.Split.{worker_step}
+use Rattle.core_relation.specs.Memory.{Home, Memory}
 use Rattle.core_relation.specs.Fits.{with_home}
 use Rattle.core_relation.specs.Changes.{EndsHome}
 use Rattle.core_relation.specs.Makes.{Stores, Makes}
@@ -29,14 +29,14 @@ use Rattle.core_relation.proofs.changes.With.{at_home, off_home}
 none_some : {A : Type 0} {w : ℕ} → ◌≡◌ {A = Option ℕ} None (Some w) → A
 none_some e = absurd cc
 
-module _ (p : ProgramText) (s : Limits) (v v' : Value) (l l' : Ledger) (t w k : ℕ) (h : Home) (E : Runs p s l l' t w k) (alive : l.end ≡ None) (resting : (u : ℕ) → Rests l u → (v.homes u).begun ≡ None) (own : h.begun ≡ None) (accounts : (u : ℕ) → Rests l' u → (heap_of l' u).begun ≡ None) (still : (heap_of (task_steps p l t k) t).begun ≡ None) where
+module _ (p : ProgramText) (s : SettingsValue) (v v' : Memory) (l l' : Ledger) (t w k : ℕ) (h : Home) (E : Runs p s l l' t w k) (alive : l.end ≡ None) (resting : (u : ℕ) → Rests l u → (v.homes u).begun ≡ None) (own : h.begun ≡ None) (accounts : (u : ℕ) → Rests l' u → (heap_of l' u).begun ≡ None) (still : (heap_of (task_steps p l t k) t).begun ≡ None) where
   abbrev m : Ledger
   m = task_steps p l t k
 
   abbrev S : Splits p s l l' t k
   S = E.splits
 
-  abbrev vt : Value
+  abbrev vt : Memory
   vt = with_home v t h
 
   abbrev Idle : Ledger → Type 0
@@ -63,7 +63,7 @@ module _ (p : ProgramText) (s : Limits) (v v' : Value) (l l' : Ledger) (t w k : 
   ]
 
   stays : v' ≡ v → (heap_of l' t).worker ≡ Some w → ((u : ℕ) → (u ≡ t → ⊥) → heap_of l' u ≡ heap_of m u) → Idle l'
-  stays e out heaps = held out heaps (λ u ne. ap (λ (z : Value). (z.homes u).begun) e)
+  stays e out heaps = held out heaps (λ u ne. ap (λ (z : Memory). (z.homes u).begun) e)
 
   goes : l'.machine.end ≡ None → Idle l' → Idle (handed l')
   goes on = subst Idle (sym (handed_on l' (ran_end p s l l' t w k E (alive_machine p s l l' t w k E) on ∙ alive)))

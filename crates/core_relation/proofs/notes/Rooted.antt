@@ -10,8 +10,8 @@ use Rattle.run_ledger.specs.declared.data.Ledger.{Ledger}
 use Rattle.run_ledger.specs.Heaps.{heap_of}
 use Rattle.task_frames.specs.declared.frames.Frame.{Frame}
 use Rattle.remembered_set.specs.declared.remembered.Source.{Source}
-use Rattle.core_relation.specs.Value.{Value, In, object_name, objects, sources, led, is_source, rewritten_refs}
-use Rattle.ledger_steps.specs.Accounts.{own, Rests}
+use Rattle.core_relation.specs.Memory.{Memory, In, object_name, objects, sources, led, is_source, rewritten_refs}
+use Rattle.ledger_step_laws.specs.Accounts.{own, Rests}
 use Rattle.core_relation.specs.Stands.{Stands}
 use Rattle.core_relation.specs.Begins.{IsRoot}
 use Rattle.core_relation.specs.Changes.{advanced}
@@ -20,25 +20,25 @@ use Rattle.core_relation.proofs.objects.Members.{in_chunk}
 -- THE HOME OF A ROOT
 
 -- an object lies in a chunk of its home's task
-pub lies_in : (v : Value) (l : Ledger) → Stands v l → (z : ℕ) (q : Located) → Rests l z → In (objects v z) q → v.owner q.at.chunk ≡ Some z
+pub lies_in : (v : Memory) (l : Ledger) → Stands v l → (z : ℕ) (q : Located) → Rests l z → In (objects v z) q → v.owner q.at.chunk ≡ Some z
 lies_in v l V z q r i =
     let k = in_chunk (v.homes z).chunks q i in
     ap v.owner ((V.homes z r).inside k.0 q k.1 k.2) ∙ (V.homes z r).owned k.0 k.1
 
-pub root_owner : (v : Value) (l : Ledger) (V : Stands v l) (u : ℕ) (b : Addr) (r : IsRoot v l u b) → own l (V.sources u r.source r.noted).name ≡ r.home
+pub root_owner : (v : Memory) (l : Ledger) (V : Stands v l) (u : ℕ) (b : Addr) (r : IsRoot v l u b) → own l (V.sources u r.source r.noted).name ≡ r.home
 root_owner v l V u b r =
     let s = V.sources u r.source r.noted in
     same_Some (own l s.name) r.home (sym s.place.chunk ∙ (ap (λ (a : Addr). v.owner a.chunk) (sym r.at) ∙ lies_in v l V r.home r.object r.rests r.there))
 
 -- it waits
-pub root_waits : (v : Value) (l : Ledger) → Stands v l → (u : ℕ) (b : Addr) → (r : IsRoot v l u b) → is_waiting (slice_get l.machine.tasks r.home) ≡ true
+pub root_waits : (v : Memory) (l : Ledger) → Stands v l → (u : ℕ) (b : Addr) → (r : IsRoot v l u b) → is_waiting (slice_get l.machine.tasks r.home) ≡ true
 root_waits v l V u b r = ap (λ z. is_waiting (slice_get l.machine.tasks z)) (sym (root_owner v l V u b r)) ∙ (V.sources u r.source r.noted).waits
 
-pub root_apart : (v : Value) (l : Ledger) → Stands v l → (t : ℕ) → is_waiting (slice_get l.machine.tasks t) ≡ false → (u : ℕ) (b : Addr) (r : IsRoot v l u b) → r.home ≡ t → ⊥
+pub root_apart : (v : Memory) (l : Ledger) → Stands v l → (t : ℕ) → is_waiting (slice_get l.machine.tasks t) ≡ false → (u : ℕ) (b : Addr) (r : IsRoot v l u b) → r.home ≡ t → ⊥
 root_apart v l V t idle u b r e = both_ways (is_waiting (slice_get l.machine.tasks t)) idle (ap (λ z. is_waiting (slice_get l.machine.tasks z)) (sym e) ∙ root_waits v l V u b r)
 
 -- and its snapshot has the object
-pub root_kept : (v : Value) (l : Ledger) → Stands v l → (u : ℕ) (b : Addr) → (r : IsRoot v l u b) → In (heap_of l r.home).snapshot (object_name r.object)
+pub root_kept : (v : Memory) (l : Ledger) → Stands v l → (u : ℕ) (b : Addr) → (r : IsRoot v l u b) → In (heap_of l r.home).snapshot (object_name r.object)
 root_kept v l V u b r =
     let s = V.sources u r.source r.noted in
     let own_home = root_owner v l V u b r in
@@ -49,7 +49,7 @@ root_kept v l V u b r =
     subst (In (heap_of l r.home).snapshot) name (subst (λ z. In (heap_of l z).snapshot s.name) own_home s.kept)
 
 -- A ROOT STAYS where its object does, with the field
-module _ (v v' : Value) (l l' : Ledger) (u : ℕ) (noted : (s : Source) → In (sources v u) s → In (sources v' u) s) (into : (k : ℕ) → v.owner k ≡ Some u → v'.owner k ≡ Some u) where
+module _ (v v' : Memory) (l l' : Ledger) (u : ℕ) (noted : (s : Source) → In (sources v u) s → In (sources v' u) s) (into : (k : ℕ) → v.owner k ≡ Some u → v'.owner k ≡ Some u) where
   pub root_by : (b : Addr) (r : IsRoot v l u b) → Rests l' r.home → (q : Located) → In (objects v' r.home) q → q.at ≡ r.object.at → slice_get q.refs r.source.field ≡ Some (Some b) → IsRoot v' l' u b
   root_by b r rests q i at holds = record { source = r.source; home = r.home; object = q; rests = rests; noted = noted r.source r.noted; there = i; at = at ∙ r.at; holds = holds; into = into b.chunk r.into }
 
@@ -57,7 +57,7 @@ module _ (v v' : Value) (l l' : Ledger) (u : ℕ) (noted : (s : Source) → In (
   root_same b r rests same = root_by b r rests r.object (subst (λ os. In os r.object) (sym same) r.there) refl r.holds
 
 -- where sources are the same list
-pub noted_by : (v v' : Value) (u : ℕ) → sources v' u ≡ sources v u → (s : Source) → In (sources v u) s → In (sources v' u) s
+pub noted_by : (v v' : Memory) (u : ℕ) → sources v' u ≡ sources v u → (s : Source) → In (sources v u) s → In (sources v' u) s
 noted_by v v' u e s i = subst (λ ss. In ss s) (sym e) i
 
 -- the end of another task's collection leads what points into that task's heap alone

@@ -3,7 +3,7 @@ use Rattle.std.proofs.Common.{◌≡◌, ℕ, zero, suc, ◌==◌, not, Bool, tr
 use Rattle.std.proofs.lemmas.Bool.{and_from, and_parts, eqb-false}
 use Rattle.std.proofs.lemmas.Option.{same_Some}
 use Rattle.listed.proofs.Members.{in_from_contains, contains_from_in, in_append_left, in_append_right, in_append_cases, in_kept, in_from_kept, in_flat, got_in}
-use Rattle.walks.specs.Reached.{IsWalk}
+use Rattle.walk_laws.specs.Reached.{IsWalk}
 use Rattle.object_layout.specs.declared.word.Addr.{Addr}
 use Rattle.object_layout.specs.Objects.{Located}
 use Rattle.hh_model.specs.declared.data.Name.{Name}
@@ -21,15 +21,15 @@ use Rattle.run_ledger.proofs.Reached.{reached_root, reached_more, reached_is_wal
 use Rattle.run_ledger.specs.Sound.{SoundLedger}
 use Rattle.run_ledger.proofs.Sound.{in_held, held_keeps}
 use Rattle.task_frames.specs.declared.frames.Frame.{Frame}
-use Rattle.core_relation.specs.Value.{Home, Value, In, object_name, objects, sources}
+use Rattle.core_relation.specs.Memory.{Home, Memory, In, object_name, objects, sources}
 use Rattle.core_relation.specs.Reads.{AllRead, FramesAreRead, HoldsRead}
-use Rattle.ledger_steps.specs.Accounts.{own, Rests}
+use Rattle.ledger_step_laws.specs.Accounts.{own, Rests}
 use Rattle.core_relation.specs.Stands.{Place, Stands}
 use Rattle.core_relation.specs.Begins.{StartsAt, LeadsAt, IsReachedAt, AreRoots}
 use Rattle.core_relation.proofs.objects.Members.{object_held, held_object, in_chunk, from_flat}
 use Rattle.core_relation.proofs.changes.Alone.{home_own}
 use Rattle.core_relation.proofs.changes.Sweep.{refers, is_kept}
-use Rattle.ledger_steps.proofs.Tree.{own_live, leaf_alone}
+use Rattle.ledger_step_laws.proofs.Tree.{own_live, leaf_alone}
 
 -- READ LISTS, BOTH WAYS
 
@@ -78,7 +78,7 @@ frame_address at (g ∷ fs) (x ∷ xs) n h i = elim (in_append_cases (named x.re
   | inr j ↦ let q = frame_address at fs xs n h.1 j in (q.0, q.1, inr q.2, q.3, q.4)
 ]
 
-module _ (v : Value) (l : Ledger) (t : ℕ) (x : Task) (roots : List Addr) (S : SoundLedger l) (V : Stands v l) (is : slice_get l.machine.tasks t ≡ Some x) (runs : x.status ≡ Running) (rests : Rests l t)
+module _ (v : Memory) (l : Ledger) (t : ℕ) (x : Task) (roots : List Addr) (S : SoundLedger l) (V : Stands v l) (is : slice_get l.machine.tasks t ≡ Some x) (runs : x.status ≡ Running) (rests : Rests l t)
     (at_rest : (u : ℕ) → is_waiting (slice_get l.machine.tasks u) ≡ true → Rests l u) (R : AreRoots v l t roots) where
   abbrev h : Home
   h = v.homes t

@@ -13,12 +13,12 @@ use Rattle.run_ledger.specs.declared.data.Heap.{Heap}
 use Rattle.run_ledger.specs.declared.data.Ledger.{Ledger}
 use Rattle.run_ledger.specs.Heaps.{heap_of, within}
 use Rattle.run_ledger.specs.Sound.{SoundLedger}
-use Rattle.core_relation.specs.Value.{Home, Value, In, object_name, objects, objects_in, is_at, put_at}
-use Rattle.ledger_steps.specs.Accounts.{Rests, WritesOne}
+use Rattle.core_relation.specs.Memory.{Home, Memory, In, object_name, objects, objects_in, is_at, put_at}
+use Rattle.ledger_step_laws.specs.Accounts.{Rests, WritesOne}
 use Rattle.core_relation.specs.Stands.{Stands}
 use Rattle.core_relation.specs.Begins.{IsReachedAt, IsRoot, AreRoots}
 use Rattle.core_relation.specs.Since.{Since, Keeps, kept}
-use Rattle.ledger_steps.specs.Kinds.{ForksTask}
+use Rattle.ledger_step_laws.specs.Kinds.{ForksTask}
 use Rattle.core_relation.specs.Changes.{ForksHome, WritesAt, with_field}
 use Rattle.core_relation.proofs.objects.Mapped.{from_mapped, to_mapped}
 use Rattle.core_relation.proofs.notes.Rooted.{in_advanced, lies_in, noted_by, root_apart, root_by, root_same}
@@ -26,7 +26,7 @@ use Rattle.core_relation.proofs.notes.Roots.{reached_both, index_of}
 use Rattle.core_relation.proofs.changes.Write.{at_is}
 
 -- AT THE FORK
-pub since_fork : (v v' : Value) (l l' : Ledger) (t a b g h : ℕ) (x : Task) (roots : List Addr) → SoundLedger l → Stands v l → x.status ≡ Running → Rests l t → ((u : ℕ) → is_waiting (slice_get l.machine.tasks u) ≡ true → Rests l u)
+pub since_fork : (v v' : Memory) (l l' : Ledger) (t a b g h : ℕ) (x : Task) (roots : List Addr) → SoundLedger l → Stands v l → x.status ≡ Running → Rests l t → ((u : ℕ) → is_waiting (slice_get l.machine.tasks u) ≡ true → Rests l u)
     → (F : ForksTask l l' t a b g h x) → ForksHome v v' t a b g h → AreRoots v l t roots → ((n : Name) → In (within l t) n ↔ In F.names n) → kept v' t ≡ [] → Since v' l' t
 since_fork v v' l l' t a b g h x roots S V runs rests at_rest F C R same none =
     let back : (q : Located) → In (objects v' t) q → In (objects v t) q = λ q i. subst (λ (y : Home). In (objects_in y.chunks) q) C.home i in
@@ -54,7 +54,7 @@ since_fork v v' l l' t a b g h x roots S V runs rests at_rest F C R same none =
     }
 
 -- A WRITE, of any object, of t's heap or another
-module _ (v v' : Value) (l : Ledger) (t i : ℕ) (a : Addr) (value : Option Addr) (V : Stands v l) (rests : Rests l t) (K : Keeps v v' t a i) where
+module _ (v v' : Memory) (l : Ledger) (t i : ℕ) (a : Addr) (value : Option Addr) (V : Stands v l) (rests : Rests l t) (K : Keeps v v' t a i) where
   -- a reference stays in the object, or was in the field that is written
   pub write_stays : (q : Located) (b : Addr) → In (objects v t) q → In q.refs (Some b) → v.owner b.chunk ≡ Some t → In (put_at a (with_field i value) q).refs (Some b) ⊎ In (kept v' t) b
   write_stays q b j k o = by (is_at a q) refl
@@ -71,7 +71,7 @@ module _ (v v' : Value) (l : Ledger) (t i : ℕ) (a : Addr) (value : Option Addr
           let r = index_of q.refs (Some b) k in
           subst (λ (s : Located). In s.refs (Some b) ⊎ In (kept v' t) b) (sym (cond-true (is_at a q) (with_field i value q) q e)) (at r.0 r.1 e)
 
-module _ (v v' : Value) (l l' : Ledger) (t w i : ℕ) (n : Name) (y y' : Object) (a : Addr) (value : Option Addr) (V : Stands v l) (rests : Rests l t) (frames : (v'.homes t).frames ≡ (v.homes t).frames) (H : Since v l t) (L : WritesOne l l' w n y y') (C : WritesAt v v' w a (with_field i value)) (K : Keeps v v' t a i)
+module _ (v v' : Memory) (l l' : Ledger) (t w i : ℕ) (n : Name) (y y' : Object) (a : Addr) (value : Option Addr) (V : Stands v l) (rests : Rests l t) (frames : (v'.homes t).frames ≡ (v.homes t).frames) (H : Since v l t) (L : WritesOne l l' w n y y') (C : WritesAt v v' w a (with_field i value)) (K : Keeps v v' t a i)
     (of_snapshot : (u : ℕ) (q : Located) (b : Addr) → v.owner a.chunk ≡ Some u → In (objects v u) q → q.at ≡ a → slice_get q.refs i ≡ Some (Some b) → v.owner b.chunk ≡ Some t → (o : Located) × In (objects v t) o × (o.at ≡ b) × In (heap_of l t).snapshot (object_name o)) where
   abbrev one : Located → Located
   one q = put_at a (with_field i value) q

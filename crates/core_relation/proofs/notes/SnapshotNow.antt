@@ -2,7 +2,7 @@
 use Rattle.std.proofs.Common.{◌≡◌, ◌⊎◌, ◌↔◌, ℕ, true, Some, List, ◌∷◌, slice_get, inl, inr, refl, ap, sym, subst, ◌∙◌}
 use Rattle.std.proofs.lemmas.Option.{same_Some}
 use Rattle.listed.proofs.Members.{got_in}
-use Rattle.walks.proofs.Reached.{reached_more, reached_start, reached_within}
+use Rattle.walk_laws.proofs.Reached.{reached_more, reached_start, reached_within}
 use Rattle.object_layout.specs.declared.word.Addr.{Addr}
 use Rattle.object_layout.specs.Objects.{Located}
 use Rattle.hh_model.specs.declared.data.Name.{Name}
@@ -15,8 +15,8 @@ use Rattle.run_ledger.specs.declared.data.Ledger.{Ledger}
 use Rattle.run_ledger.specs.Heaps.{heap_at, heap_of}
 use Rattle.run_ledger.specs.Sound.{InHeaps, Keeps, SoundLedger, Spares, names_of, snapshot_at}
 use Rattle.task_frames.specs.declared.frames.Frame.{Frame}
-use Rattle.ledger_steps.specs.Accounts.{Rests, own}
-use Rattle.core_relation.specs.Value.{In, Value, object_name, objects}
+use Rattle.ledger_step_laws.specs.Accounts.{Rests, own}
+use Rattle.core_relation.specs.Memory.{In, Memory, object_name, objects}
 use Rattle.core_relation.specs.Reads.{FramesAreRead, HoldsRead}
 use Rattle.core_relation.specs.Stands.{Place, Stands}
 use Rattle.core_relation.specs.Begins.{IsReachedAt, IsRoot, LeadsAt, StartsAt}
@@ -28,7 +28,7 @@ use Rattle.core_relation.proofs.notes.Rooted.{lies_in, root_owner}
 use Rattle.core_relation.proofs.notes.Roots.{frame_name, index_of, name_at}
 use Rattle.core_relation.proofs.changes.Sweep.{is_kept, refers, snapshot_is}
 
-module _ (v : Value) (l : Ledger) (t : ℕ) (x : Task) (S : SoundLedger l) (V : Stands v l) (is : slice_get l.machine.tasks t ≡ Some x) (wait : is_waiting (slice_get l.machine.tasks t) ≡ true) (rests : Rests l t) (H : Since v l t) where
+module _ (v : Memory) (l : Ledger) (t : ℕ) (x : Task) (S : SoundLedger l) (V : Stands v l) (is : slice_get l.machine.tasks t ≡ Some x) (wait : is_waiting (slice_get l.machine.tasks t) ≡ true) (rests : Rests l t) (H : Since v l t) where
   -- FROM THE FORK ON
   still_start : (a : Addr) → StartsAt H.home H.roots a → StartsNow v l t a
   still_start a s =

@@ -6,7 +6,7 @@ use Rattle.object_layout.specs.declared.word.Addr.{Addr}
 use Rattle.object_layout.specs.Objects.{Located}
 use Rattle.run_ledger.specs.Heaps.{units}
 use Rattle.remembered_set.specs.declared.remembered.Source.{Source}
-use Rattle.core_relation.specs.Value.{Chunk, In, objects_in, mapped_chunk, rewritten, rewritten_refs}
+use Rattle.core_relation.specs.Memory.{Chunk, In, objects_in, mapped_chunk, rewritten, rewritten_refs}
 use Rattle.core_relation.specs.Layout.{words, AreApart, HoldsLarge, has_none, reserved_chunks, AreLaidOut}
 use Rattle.core_relation.proofs.objects.Members.{in_chunk, in_objects, map_in}
 

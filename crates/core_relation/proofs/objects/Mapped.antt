@@ -8,7 +8,7 @@ use Rattle.hh_model.specs.Step.{is_joined}
 use Rattle.run_ledger.specs.declared.data.Heap.{Heap}
 use Rattle.run_ledger.specs.declared.data.Ledger.{Ledger}
 use Rattle.run_ledger.specs.Heaps.{heap_of}
-use Rattle.core_relation.specs.Value.{Chunk, Home, Value, In, object_name, objects_in, Lies, mapped_chunk, mapped_home}
+use Rattle.core_relation.specs.Memory.{Chunk, Home, Memory, In, object_name, objects_in, Lies, mapped_chunk, mapped_home}
 use Rattle.core_relation.specs.Layout.{words, AreLaidOut}
 use Rattle.core_relation.specs.Stands.{names_of, small_chunks, large_chunks, HasNames, HomeStands}
 use Rattle.core_relation.proofs.objects.LaidOut.{laid_mapped}
@@ -68,7 +68,7 @@ module _ (one : Located → Located) (same_name : (o : Located) → object_name 
   pub lies_mapped : (ks : List Chunk) (n : Name) (a : Addr) → Lies ks n a → Lies (map chunk ks) n a
   lies_mapped ks n a q = (one q.0, to_mapped ks q.0 q.1, record { name = same_name q.0 ∙ q.2.name; at = same_at q.0 ∙ q.2.at })
 
-  pub home_mapped_by : (v v' : Value) (l l' : Ledger) (t : ℕ) → (v'.homes t).chunks ≡ map chunk (v.homes t).chunks → (v'.homes t).room ≡ (v.homes t).room → (v'.homes t).since ≡ (v.homes t).since → (v'.homes t).count ≡ (v.homes t).count
+  pub home_mapped_by : (v v' : Memory) (l l' : Ledger) (t : ℕ) → (v'.homes t).chunks ≡ map chunk (v.homes t).chunks → (v'.homes t).room ≡ (v.homes t).room → (v'.homes t).since ≡ (v.homes t).since → (v'.homes t).count ≡ (v.homes t).count
       → ((k : ℕ) → v.owner k ≡ Some t → v'.owner k ≡ Some t) → heap_of l' t ≡ heap_of l t → length (row_of (slice_get l'.machine.store t)) ≡ length (row_of (slice_get l.machine.store t))
       → is_joined (slice_get l'.machine.tasks t) ≡ is_joined (slice_get l.machine.tasks t) → ((o : Located) → words (one o) ≡ words o) → HomeStands v l t → HomeStands v' l' t
   home_mapped_by v v' l l' t ec eo es en ow el er ej same_words H = record {
@@ -95,7 +95,7 @@ module _ (one : Located → Located) (same_name : (o : Located) → object_name 
     laid = subst (λ ks. AreLaidOut ks (heap_of l' t).reserved) (sym ec) (subst (λ (h : Heap). AreLaidOut (map chunk (v.homes t).chunks) h.reserved) (sym el) (laid_mapped one same_at same_words (v.homes t).chunks (heap_of l t).reserved H.laid));
   }
 
-  pub home_mapped : (v v' : Value) (l l' : Ledger) (t : ℕ) → v'.homes t ≡ mapped_home one (v.homes t) → ((k : ℕ) → v.owner k ≡ Some t → v'.owner k ≡ Some t) → heap_of l' t ≡ heap_of l t → slice_get l'.machine.store t ≡ slice_get l.machine.store t
+  pub home_mapped : (v v' : Memory) (l l' : Ledger) (t : ℕ) → v'.homes t ≡ mapped_home one (v.homes t) → ((k : ℕ) → v.owner k ≡ Some t → v'.owner k ≡ Some t) → heap_of l' t ≡ heap_of l t → slice_get l'.machine.store t ≡ slice_get l.machine.store t
       → is_joined (slice_get l'.machine.tasks t) ≡ is_joined (slice_get l.machine.tasks t) → ((o : Located) → words (one o) ≡ words o) → HomeStands v l t → HomeStands v' l' t
   home_mapped v v' l l' t eh ow el er ej same_words H =
       home_mapped_by v v' l l' t (ap (λ (h : Home). h.chunks) eh) (ap (λ (h : Home). h.room) eh) (ap (λ (h : Home). h.since) eh) (ap (λ (h : Home). h.count) eh) ow el (ap (λ r. length (row_of r)) er) ej same_words H

@@ -3,7 +3,7 @@ use Rattle.std.proofs.Common.{◌≡◌, ℕ, ◌+◌, true, false, Some, None, 
 use Rattle.hh_lang.specs.declared.instr.Instr.{Instr}
 use Rattle.hh_lang.specs.declared.instr.Instr.TheVariants.{Set, Mov, Movr, Nil as NilOf, Calc, Same, Jmp, Jz, Newm, Pack, Getr, Geti, Putr, Puti, Cntr, Cnti, Freeze, Cas, Call, Par, Ret, Out}
 use Rattle.hh_lang.specs.Form.{ProgramText}
-use Rattle.run_trace.specs.Settings.{Limits}
+use Rattle.run_trace.specs.Settings.{SettingsValue}
 use Rattle.hh_model.specs.declared.data.Name.{Name}
 use Rattle.hh_model.specs.declared.data.Object.{Object}
 use Rattle.hh_model.specs.declared.data.Frame.{Frame}
@@ -20,12 +20,12 @@ use Rattle.run_ledger.specs.declared.data.Ledger.{Ledger}
 use Rattle.run_ledger.specs.Heaps.{heap_of, let_go}
 use Rattle.run_ledger.specs.Sound.{SoundLedger}
 use Rattle.run_ledger.specs.Steps.{task_steps, touched}
-use Rattle.ledger_steps.specs.Accounts.{StepsAlone, AlikeFor, Leaves, own, rested}
-use Rattle.ledger_steps.specs.Last.{Wrote, WritesOther, LastKind, Private, Reading, Writing, Printing, Forking, Ending, Joining, Finishing, Halting, IsOfKind, GoesOn, Splits, Runs}
-use Rattle.ledger_steps.proofs.Ahead.{private_alone, alone_along, steps_alone_all, with_machine, with_off}
-use Rattle.ledger_steps.proofs.Along.{steps_know}
-use Rattle.ledger_steps.proofs.Tree.{leaf_alone}
-use Rattle.core_relation.specs.Value.{Home, Value, In}
+use Rattle.ledger_step_laws.specs.Accounts.{StepsAlone, AlikeFor, Leaves, own, rested}
+use Rattle.ledger_step_laws.specs.Last.{Wrote, WritesOther, LastKind, Private, Reading, Writing, Printing, Forking, Ending, Joining, Finishing, Halting, IsOfKind, GoesOn, Splits, Runs}
+use Rattle.ledger_step_laws.proofs.Ahead.{private_alone, alone_along, steps_alone_all, with_machine, with_off}
+use Rattle.ledger_step_laws.proofs.Along.{steps_know}
+use Rattle.ledger_step_laws.proofs.Tree.{leaf_alone}
+use Rattle.core_relation.specs.Memory.{Home, Memory, In}
 use Rattle.core_relation.specs.Makes.{taken_by}
 use Rattle.core_relation.specs.Fits.{Part, FitsAt, ahead, part_for}
 use Rattle.core_relation.specs.Frames.{IsOut, AreOut}
@@ -117,7 +117,7 @@ mutable_is x y y' f (Par g h) W = absurd W
 mutable_is x y y' f Ret W = absurd W
 mutable_is x y y' f (Out a) W = absurd W
 
-module _ (p : ProgramText) (s : Limits) (v : Value) (l l' : Ledger) (t w k : ℕ) (h : Home) (E : Runs p s l l' t w k) (on : l'.machine.end ≡ None) where
+module _ (p : ProgramText) (s : SettingsValue) (v : Memory) (l l' : Ledger) (t w k : ℕ) (h : Home) (E : Runs p s l l' t w k) (on : l'.machine.end ≡ None) where
   abbrev q : Part
   q = part_for s t h k
 

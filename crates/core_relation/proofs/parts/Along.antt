@@ -2,7 +2,7 @@
 use Rattle.std.proofs.Common.{◌≡◌, ℕ, true, false, Some, length, slice_get, inl, inr, ap, sym, ◌∙◌}
 use Rattle.std.proofs.lemmas.Bool.{cases_eq}
 use Rattle.hh_lang.specs.Form.{ProgramText}
-use Rattle.run_trace.specs.Settings.{Limits}
+use Rattle.run_trace.specs.Settings.{SettingsValue}
 use Rattle.hh_model.specs.declared.data.Task.{Task}
 use Rattle.hh_model.specs.declared.data.State.{State}
 use Rattle.hh_model.specs.Effect.{object_at, row_of}
@@ -13,18 +13,18 @@ use Rattle.run_ledger.specs.declared.data.Ledger.{Ledger}
 use Rattle.run_ledger.specs.Heaps.{heap_of, or_fresh, let_go}
 use Rattle.run_ledger.specs.Steps.{task_steps}
 use Rattle.run_ledger.specs.Sound.{collecting}
-use Rattle.core_relation.specs.Value.{Value}
-use Rattle.ledger_steps.specs.Accounts.{own, rested, StepsAlone, AlikeFor, Knows}
+use Rattle.core_relation.specs.Memory.{Memory}
+use Rattle.ledger_step_laws.specs.Accounts.{own, rested, StepsAlone, AlikeFor, Knows}
 use Rattle.core_relation.specs.Fits.{Part, FitsAt, ahead}
 use Rattle.core_relation.specs.Frames.{IsSteady}
-use Rattle.ledger_steps.proofs.Ahead.{with_at, with_machine, heap_then}
+use Rattle.ledger_step_laws.proofs.Ahead.{with_at, with_machine, heap_then}
 use Rattle.core_relation.proofs.parts.Parts.{ahead_alone, ahead_sound}
 use Rattle.core_relation.proofs.parts.Frame.{step_frame}
-use Rattle.ledger_steps.proofs.Along.{alike_steps}
-use Rattle.ledger_steps.proofs.Tree.{leaf_alone}
+use Rattle.ledger_step_laws.proofs.Along.{alike_steps}
+use Rattle.ledger_step_laws.proofs.Tree.{leaf_alone}
 
 -- THE FRAME LAW FOR PRIVATE STEPS: t steps from l to l', and the part of u has taken its steps by either account
-module _ (p : ProgramText) (s : Limits) (q : Part) where
+module _ (p : ProgramText) (s : SettingsValue) (q : Part) where
   pub rested_alike : (l l' : Ledger) → AlikeFor q.task l l' → AlikeFor q.task (rested l q.task) (rested l' q.task)
   rested_alike l l' A =
       let e = with_machine l q.task let_go in
@@ -93,7 +93,7 @@ module _ (p : ProgramText) (s : Limits) (q : Part) where
       }
 
   -- a part of another task that steps alone keeps fitting
-  pub fits_alone : (v : Value) (l l' : Ledger) (t w : ℕ) (x : Task) → (t ≡ q.task → ⊥) → StepsAlone l l' t → l'.machine.field_limit ≡ l.machine.field_limit → l'.machine.end ≡ l.machine.end → slice_get l'.heaps q.task ≡ slice_get l.heaps q.task
+  pub fits_alone : (v : Memory) (l l' : Ledger) (t w : ℕ) (x : Task) → (t ≡ q.task → ⊥) → StepsAlone l l' t → l'.machine.field_limit ≡ l.machine.field_limit → l'.machine.end ≡ l.machine.end → slice_get l'.heaps q.task ≡ slice_get l.heaps q.task
       → (heap_of l t).worker ≡ Some w → (heap_of l' t).worker ≡ Some w → is_waiting (slice_get l.machine.tasks t) ≡ false
       → Knows l → Knows l' → IsSteady q l → slice_get l.machine.tasks q.task ≡ Some x → is_running (Some x) ≡ true → can_step l.machine q.task ≡ true → FitsAt p s q v l → FitsAt p s q v l'
   fits_alone v l l' t w x ne B limit end heap out out' idle K K' c is run can F =

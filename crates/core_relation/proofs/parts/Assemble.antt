@@ -14,20 +14,20 @@ use Rattle.run_ledger.specs.declared.data.Ledger.{Ledger}
 use Rattle.run_ledger.specs.Heaps.{heap_of}
 use Rattle.run_ledger.specs.Sound.{SoundLedger}
 use Rattle.remembered_set.specs.declared.remembered.Source.{Source}
-use Rattle.core_relation.specs.Value.{Home, Value, In, object_name, objects, objects_in, sources, Lies, shown_at}
+use Rattle.core_relation.specs.Memory.{Home, Memory, In, object_name, objects, objects_in, sources, Lies, shown_at}
 use Rattle.core_relation.specs.Reads.{IsRead, TaskIsRead}
-use Rattle.ledger_steps.specs.Accounts.{own, Rests, StepsAlone}
+use Rattle.ledger_step_laws.specs.Accounts.{own, Rests, StepsAlone}
 use Rattle.core_relation.specs.Stands.{Gives, Place, HomeStands, IsSource, Stands, IsShown}
 use Rattle.core_relation.specs.Changes.{SameBut}
 use Rattle.core_relation.proofs.objects.Carry.{object_kept, task_kept, object_both, task_both}
 use Rattle.core_relation.proofs.changes.Alone.{home_own, home_kept}
 use Rattle.core_relation.proofs.changes.Sweep.{refers}
 use Rattle.core_relation.proofs.changes.Giving.{gives_kept}
-use Rattle.ledger_steps.proofs.Tree.{leaf_alone}
+use Rattle.ledger_step_laws.proofs.Tree.{leaf_alone}
 
 -- v1 has t's home, v2 has u's, and v has both; l1 and l2 are the accounts for them. What the tasks own is apart: from l1 to l
 -- only what u owns changes, from l2 to l only what t owns.
-module _ (v v1 v2 : Value) (l l1 l2 : Ledger) (t u : ℕ) (apart : t ≡ u → ⊥) (S1 : SoundLedger l1) (S2 : SoundLedger l2) (V1 : Stands v1 l1) (V2 : Stands v2 l2)
+module _ (v v1 v2 : Memory) (l l1 l2 : Ledger) (t u : ℕ) (apart : t ≡ u → ⊥) (S1 : SoundLedger l1) (S2 : SoundLedger l2) (V1 : Stands v1 l1) (V2 : Stands v2 l2)
     (A1 : StepsAlone l1 l u) (A2 : StepsAlone l2 l t) (C1 : SameBut v1 v u) (C2 : SameBut v2 v t)
     (idle_t : is_waiting (slice_get l.machine.tasks t) ≡ false) (idle_u : is_waiting (slice_get l.machine.tasks u) ≡ false)
     (live_t : is_joined (slice_get l.machine.tasks t) ≡ false) (live_u : is_joined (slice_get l.machine.tasks u) ≡ false) where

@@ -11,12 +11,12 @@ use Rattle.hh_model.specs.Effect.{object_at}
 use Rattle.hh_model.specs.Step.{is_on_path}
 use Rattle.run_ledger.specs.declared.data.Heap.{Heap}
 use Rattle.run_ledger.specs.declared.data.Ledger.{Ledger}
-use Rattle.core_relation.specs.Value.{Home, Value}
+use Rattle.core_relation.specs.Memory.{Home, Memory}
 use Rattle.core_relation.specs.Reads.{Reads}
-use Rattle.ledger_steps.specs.Accounts.{own, Rests, StepsAlone, WritesOne, AlikeFor}
+use Rattle.ledger_step_laws.specs.Accounts.{own, Rests, StepsAlone, WritesOne, AlikeFor}
 use Rattle.core_relation.specs.Stands.{Place, Stands}
 use Rattle.core_relation.specs.Fits.{with_home}
-use Rattle.ledger_steps.specs.Kinds.{ForksTask, JoinsTasks, CanJoin}
+use Rattle.ledger_step_laws.specs.Kinds.{ForksTask, JoinsTasks, CanJoin}
 use Rattle.core_relation.specs.Changes.{ForksHome, JoinsHomes}
 use Rattle.core_relation.proofs.parts.Assemble.{assembled}
 use Rattle.core_relation.specs.Frames.{Beside}
@@ -26,7 +26,7 @@ use Rattle.core_relation.proofs.changes.With.{off_home, with_both}
 use Rattle.core_relation.proofs.changes.Lifts.{forks_too, forks_with, joins_too, joins_with}
 
 -- both fit together
-pub together : (v : Value) (lt k K : Ledger) (t u : ℕ) (g h : Home) → Beside lt k K t u → Stands (with_home v t g) lt → Stands (with_home v u h) k → Stands (with_home (with_home v t g) u h) K
+pub together : (v : Memory) (lt k K : Ledger) (t u : ℕ) (g h : Home) → Beside lt k K t u → Stands (with_home v t g) lt → Stands (with_home v u h) k → Stands (with_home (with_home v t g) u h) K
 together v lt k K t u g h B Vt Vu =
     assembled (with_home (with_home v t g) u h) (with_home v t g) (with_home v u h) K lt k t u B.apart B.sound_t B.sound_u Vt Vu B.steps_t B.steps_u
     (record { homes = λ z ne. off_home (with_home v t g) u h z ne; owner = λ i. refl; sources = λ z. refl })
@@ -34,7 +34,7 @@ together v lt k K t u g h B Vt Vu =
     B.idle_t B.idle_u B.live_t B.live_u
 
 -- t forks: from lt to l', and with u's steps from K to k'
-pub fork_frame : (v v' : Value) (lt l' k k' K : Ledger) (t u a b f i : ℕ) (g h : Home) (x : Task) → Beside lt k K t u → (a ≡ u → ⊥) → (b ≡ u → ⊥) → StepsAlone l' k' u → AlikeFor u K k'
+pub fork_frame : (v v' : Memory) (lt l' k k' K : Ledger) (t u a b f i : ℕ) (g h : Home) (x : Task) → Beside lt k K t u → (a ≡ u → ⊥) → (b ≡ u → ⊥) → StepsAlone l' k' u → AlikeFor u K k'
     → x.status ≡ Running → Rests lt t → ForksTask lt l' t a b f i x → ForksHome (with_home v t g) v' t a b f i
     → Stands (with_home v t g) lt → Stands (with_home v u h) k → Stands (with_home v' u h) k'
 fork_frame v v' lt l' k k' K t u a b f i g h x B na nb A' E runs rests F C Vt Vu =
@@ -43,7 +43,7 @@ fork_frame v v' lt l' k k' K t u a b f i g h x B na nb A' E runs rests F C Vt Vu
     (forks_too lt l' K k' u B.steps_t A' E t a b f i x B.apart na nb F) (forks_with (with_home v t g) v' u h t a b f i B.apart na nb C)
 
 -- t ends, with its sibling's end before, and both join p: from lt to l', and with u's steps from K to k'
-pub join_frame : (v v' : Value) (lt l' k k' K : Ledger) (t u p c d : ℕ) (g h : Home) (x : Task) (rl rr : ℤ × Option Name) (al ar : ℤ × Option Addr) → Beside lt k K t u → (p ≡ u → ⊥) → (c ≡ u → ⊥) → (d ≡ u → ⊥)
+pub join_frame : (v v' : Memory) (lt l' k k' K : Ledger) (t u p c d : ℕ) (g h : Home) (x : Task) (rl rr : ℤ × Option Name) (al ar : ℤ × Option Addr) → Beside lt k K t u → (p ≡ u → ⊥) → (c ≡ u → ⊥) → (d ≡ u → ⊥)
     → StepsAlone l' k' u → AlikeFor u K k' → JoinsTasks lt l' p c d x rl rr → CanJoin K p c d x → JoinsHomes (with_home v t g) v' p c d al ar
     → (al.0 ≡ rl.0) × Reads (Place (with_home (with_home v t g) u h) K) al.1 rl.1 → (ar.0 ≡ rr.0) × Reads (Place (with_home (with_home v t g) u h) K) ar.1 rr.1
     → Stands (with_home v t g) lt → Stands (with_home v u h) k → Stands (with_home v' u h) k'

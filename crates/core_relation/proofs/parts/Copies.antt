@@ -3,7 +3,7 @@ use Rattle.std.proofs.Common.{◌≡◌, ℕ, Option, Some, None, map, length, s
 use Rattle.std.proofs.lemmas.Option.{same_Some}
 use Rattle.object_layout.specs.declared.word.Addr.{Addr}
 use Rattle.hh_lang.specs.Form.{ProgramText}
-use Rattle.run_trace.specs.Settings.{Limits}
+use Rattle.run_trace.specs.Settings.{SettingsValue}
 use Rattle.hh_model.specs.declared.data.Status.TheVariants.{Running}
 use Rattle.hh_model.specs.declared.data.Task.{Task}
 use Rattle.hh_model.specs.declared.data.State.{State}
@@ -13,29 +13,29 @@ use Rattle.run_ledger.specs.declared.data.Heap.{Heap}
 use Rattle.run_ledger.specs.declared.data.Ledger.{Ledger}
 use Rattle.run_ledger.specs.Heaps.{heap_of, or_fresh, let_go, collected, with_heap}
 use Rattle.run_ledger.specs.Sound.{SoundLedger}
-use Rattle.core_relation.specs.Value.{Home, Value, In, object_name, objects_in, sources, led_object, led_frame, rewritten_home}
+use Rattle.core_relation.specs.Memory.{Home, Memory, In, object_name, objects_in, sources, led_object, led_frame, rewritten_home}
 use Rattle.core_relation.specs.Layout.{AreLaidOut}
 use Rattle.core_relation.specs.Stands.{names_of, small_chunks, large_chunks, HasNames, HomeStands, Stands}
 use Rattle.core_relation.specs.Fits.{Part, FitsAt, with_home, ahead}
-use Rattle.ledger_steps.specs.Accounts.{rested, ChangesHeap}
+use Rattle.ledger_step_laws.specs.Accounts.{rested, ChangesHeap}
 use Rattle.core_relation.specs.Changes.{Moves}
 use Rattle.core_relation.specs.Whole.{BegunBy}
 use Rattle.core_relation.specs.Copies.{PartFits, before, CopyFits, EndsAt}
-use Rattle.ledger_steps.proofs.Ahead.{with_machine, with_off, with_at, heap_then}
+use Rattle.ledger_step_laws.proofs.Ahead.{with_machine, with_off, with_at, heap_then}
 use Rattle.core_relation.proofs.notes.Begun.{begun_stays}
 use Rattle.core_relation.proofs.changes.Collect.{collected as collection}
-use Rattle.ledger_steps.proofs.Rested.{rested_worker, rested_view, rested_sound}
-use Rattle.ledger_steps.proofs.Entries.{end_changes}
+use Rattle.ledger_step_laws.proofs.Rested.{rested_worker, rested_view, rested_sound}
+use Rattle.ledger_step_laws.proofs.Entries.{end_changes}
 use Rattle.task_machine.specs.declared.part.Begun.{Begun}
 use Rattle.core_relation.proofs.changes.With.{at_home, off_home}
 
 -- a begun collection stands past what leaves its part
-pub begun_by_stays : (v v' : Value) (l l' : Ledger) (t : ℕ) (o : Option Begun) → v'.homes t ≡ v.homes t → ((k : ℕ) → v.owner k ≡ Some t → v'.owner k ≡ Some t) → heap_of l' t ≡ heap_of l t → BegunBy v l t o → BegunBy v' l' t o
+pub begun_by_stays : (v v' : Memory) (l l' : Ledger) (t : ℕ) (o : Option Begun) → v'.homes t ≡ v.homes t → ((k : ℕ) → v.owner k ≡ Some t → v'.owner k ≡ Some t) → heap_of l' t ≡ heap_of l t → BegunBy v l t o → BegunBy v' l' t o
 begun_by_stays v v' l l' t None home owner heap B = ap (λ (h : Heap). h.begun) heap ∙ B
 begun_by_stays v v' l l' t (Some b) home owner heap B = begun_stays v v' l l' t b home owner heap B
 
 -- so what others enter leaves a part with its collection fitting, where it leaves it fitting
-pub part_stays : (p : ProgramText) (s : Limits) (q : Part) (v v' : Value) (l l' : Ledger) → ((k : ℕ) → v.owner k ≡ Some q.task → v'.owner k ≡ Some q.task) → heap_of (ahead p q l') q.task ≡ heap_of (ahead p q l) q.task → FitsAt p s q v' l' → PartFits p s q v l → PartFits p s q v' l'
+pub part_stays : (p : ProgramText) (s : SettingsValue) (q : Part) (v v' : Memory) (l l' : Ledger) → ((k : ℕ) → v.owner k ≡ Some q.task → v'.owner k ≡ Some q.task) → heap_of (ahead p q l') q.task ≡ heap_of (ahead p q l) q.task → FitsAt p s q v' l' → PartFits p s q v l → PartFits p s q v' l'
 part_stays p s q v v' l l' owner heap F G = record {
   fits = F;
   begun = begun_by_stays (with_home v q.task q.home) (with_home v' q.task q.home) (ahead p q l) (ahead p q l') q.task q.home.begun (at_home v' q.task q.home ∙ sym (at_home v q.task q.home)) owner heap G.begun;
@@ -45,7 +45,7 @@ pub rested_heap : (l l' : Ledger) (t : ℕ) → slice_get l'.heaps t ≡ slice_g
 rested_heap l l' t e = ap or_fresh (with_at l' t let_go ∙ (ap (heap_then let_go) e ∙ sym (with_at l t let_go)))
 
 -- and a copy
-pub copy_stays : (p : ProgramText) (s : Limits) (t : ℕ) (h h' : Home) (f : Addr → Addr) (v v' : Value) (l l' : Ledger) → ((k : ℕ) → v.owner k ≡ Some t → v'.owner k ≡ Some t) → slice_get l'.heaps t ≡ slice_get l.heaps t
+pub copy_stays : (p : ProgramText) (s : SettingsValue) (t : ℕ) (h h' : Home) (f : Addr → Addr) (v v' : Memory) (l l' : Ledger) → ((k : ℕ) → v.owner k ≡ Some t → v'.owner k ≡ Some t) → slice_get l'.heaps t ≡ slice_get l.heaps t
     → collected l'.machine (heap_of l t) ≡ collected l.machine (heap_of l t) → FitsAt p s (before s t h) v' l' → CopyFits p s t h h' f v l → CopyFits p s t h h' f v' l'
 copy_stays p s t h h' f v v' l l' owner heap same F C =
     let e : heap_of l' t ≡ heap_of l t = ap or_fresh heap in
@@ -73,7 +73,7 @@ copy_stays p s t h h' f v v' l l' owner heap same F C =
 
 -- THE END OF THE COLLECTION
 
-module _ (p : ProgramText) (s : Limits) (t : ℕ) (h h' : Home) (f : Addr → Addr) (v v' : Value) (l : Ledger) (x : Task) (w : ℕ) (S : SoundLedger l) (is : slice_get l.machine.tasks t ≡ Some x) (runs : x.status ≡ Running)
+module _ (p : ProgramText) (s : SettingsValue) (t : ℕ) (h h' : Home) (f : Addr → Addr) (v v' : Memory) (l : Ledger) (x : Task) (w : ℕ) (S : SoundLedger l) (is : slice_get l.machine.tasks t ≡ Some x) (runs : x.status ≡ Running)
     (hs : Heap) (there : slice_get l.heaps t ≡ Some hs) (C : CopyFits p s t h h' f v l) (E : EndsAt v v' t h' f) where
   abbrev l' : Ledger
   l' = with_heap l t (collected l.machine)
@@ -84,10 +84,10 @@ module _ (p : ProgramText) (s : Limits) (t : ℕ) (h h' : Home) (f : Addr → Ad
   abbrev lt' : Ledger
   lt' = rested l' t
 
-  abbrev V : Value
+  abbrev V : Memory
   V = with_home v t h
 
-  abbrev V' : Value
+  abbrev V' : Memory
   V' = with_home v' t h'
 
   machine' : l'.machine ≡ l.machine

@@ -3,7 +3,7 @@ use Rattle.std.proofs.Common.{◌≡◌, ℕ, true, Some, slice_get, inl, inr, r
 use Rattle.std.proofs.lemmas.Bool.{cases_eq}
 use Rattle.object_layout.specs.declared.word.Addr.{Addr}
 use Rattle.hh_lang.specs.Form.{ProgramText}
-use Rattle.run_trace.specs.Settings.{Limits}
+use Rattle.run_trace.specs.Settings.{SettingsValue}
 use Rattle.hh_model.specs.declared.data.Status.TheVariants.{Running}
 use Rattle.hh_model.specs.declared.data.Task.{Task}
 use Rattle.hh_model.specs.declared.data.State.{State}
@@ -12,18 +12,18 @@ use Rattle.run_ledger.specs.declared.data.Ledger.{Ledger}
 use Rattle.run_ledger.specs.Heaps.{heap_of, or_fresh, let_go}
 use Rattle.run_ledger.specs.Steps.{task_steps}
 use Rattle.run_ledger.specs.Sound.{collecting}
-use Rattle.core_relation.specs.Value.{Home, Value}
-use Rattle.ledger_steps.specs.Accounts.{ArePrivate, rested, StepsAlone, ChangesHeap, Knows}
+use Rattle.core_relation.specs.Memory.{Home, Memory}
+use Rattle.ledger_step_laws.specs.Accounts.{ArePrivate, rested, StepsAlone, ChangesHeap, Knows}
 use Rattle.core_relation.specs.Fits.{Part, FitsAt, ahead, with_home, part_for}
 use Rattle.core_relation.specs.Changes.{Moves}
 use Rattle.core_relation.specs.Frames.{IsSteady, IsOut, Beside, EndsBeside}
-use Rattle.ledger_steps.proofs.Ahead.{SameOf, with_off, with_machine}
+use Rattle.ledger_step_laws.proofs.Ahead.{SameOf, with_off, with_machine}
 use Rattle.core_relation.proofs.parts.Parts.{ahead_alone, ahead_same}
-use Rattle.ledger_steps.proofs.Rested.{rested_sound, rested_worker, rested_view}
+use Rattle.ledger_step_laws.proofs.Rested.{rested_sound, rested_worker, rested_view}
 use Rattle.core_relation.proofs.parts.Pair.{beside}
 use Rattle.core_relation.proofs.parts.Frame.{collect_frame}
 
-module _ (p : ProgramText) (s : Limits) (t : ℕ) (g g' : Home) (r : Part) (v v' : Value) (l l' : Ledger) (w : ℕ) (x y : Task) (f : Addr → Addr) (K : Knows l) (K' : Knows l') where
+module _ (p : ProgramText) (s : SettingsValue) (t : ℕ) (g g' : Home) (r : Part) (v v' : Memory) (l l' : Ledger) (w : ℕ) (x y : Task) (f : Addr → Addr) (K : Knows l) (K' : Knows l') where
   -- the part of t, that has begun its collection
   abbrev q : Part
   q = part_for s t g 0

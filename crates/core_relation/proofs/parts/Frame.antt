@@ -12,8 +12,8 @@ use Rattle.run_ledger.specs.declared.data.Ledger.{Ledger}
 use Rattle.run_ledger.specs.Heaps.{heap_of}
 use Rattle.run_ledger.specs.Sound.{SoundLedger}
 use Rattle.remembered_set.specs.declared.remembered.Source.{Source}
-use Rattle.core_relation.specs.Value.{Home, Value, In, objects, objects_in, sources}
-use Rattle.ledger_steps.specs.Accounts.{own, Rests, StepsAlone, ChangesHeap}
+use Rattle.core_relation.specs.Memory.{Home, Memory, In, objects, objects_in, sources}
+use Rattle.ledger_step_laws.specs.Accounts.{own, Rests, StepsAlone, ChangesHeap}
 use Rattle.core_relation.specs.Stands.{Stands}
 use Rattle.core_relation.specs.Fits.{with_home}
 use Rattle.core_relation.specs.Changes.{KeepsJust, Moves}
@@ -27,7 +27,7 @@ use Rattle.core_relation.proofs.parts.Assemble.{assembled}
 use Rattle.core_relation.proofs.changes.With.{at_home, off_home, with_both, heap_with, keeps_with, moves_with}
 
 -- a sweep of t's heap: the part of u, with home h, whose steps lead from l to k and from l' to k'
-pub sweep_frame : (v v' : Value) (l l' k k' : Ledger) (t u : ℕ) (h : Home) → (t ≡ u → ⊥) → StepsAlone l k u → StepsAlone l' k' u → k'.machine ≡ k.machine → heap_of k' u ≡ heap_of k u
+pub sweep_frame : (v v' : Memory) (l l' k k' : Ledger) (t u : ℕ) (h : Home) → (t ≡ u → ⊥) → StepsAlone l k u → StepsAlone l' k' u → k'.machine ≡ k.machine → heap_of k' u ≡ heap_of k u
     → SoundLedger k → is_waiting (slice_get l.machine.tasks t) ≡ true → Rests l t → ChangesHeap l l' t → KeepsJust v v' l l' t (heap_of l t).snapshot
     → Stands (with_home v u h) k → Stands (with_home v' u h) k'
 sweep_frame v v' l l' k k' t u h apart A A' em eh S waits rests L C V =
@@ -37,16 +37,16 @@ sweep_frame v v' l l' k k' t u h apart A A' em eh S waits rests L C V =
     (subst (λ (i : Heap). KeepsJust (with_home v u h) (with_home v' u h) k k' t i.snapshot) (sym heap) (keeps_with v v' l l' k k' t u h apart A A' (heap_of l t).snapshot C))
 
 -- private steps of t, whose home isn't in the value: those of u lead from l to k and from l' to k'
-pub step_frame : (v : Value) (k k' : Ledger) (t w u : ℕ) (h : Home) → SoundLedger k → StepsAlone k k' t → (heap_of k t).worker ≡ Some w → (heap_of k' t).worker ≡ Some w → is_waiting (slice_get k.machine.tasks t) ≡ false
+pub step_frame : (v : Memory) (k k' : Ledger) (t w u : ℕ) (h : Home) → SoundLedger k → StepsAlone k k' t → (heap_of k t).worker ≡ Some w → (heap_of k' t).worker ≡ Some w → is_waiting (slice_get k.machine.tasks t) ≡ false
     → Stands (with_home v u h) k → Stands (with_home v u h) k'
 step_frame v k k' t w u h S A out out' runs V = steps_alone (with_home v u h) k k' t w S V A out out' runs
 
-module _ (v v' : Value) (lt lt' k k' K K' : Ledger) (t u w : ℕ) (g g' h : Home) (x : Task) (f : Addr → Addr) (E : EndsBeside v v' lt lt' k k' K K' t u w g g' h x f)
+module _ (v v' : Memory) (lt lt' k k' K K' : Ledger) (t u w : ℕ) (g g' h : Home) (x : Task) (f : Addr → Addr) (E : EndsBeside v v' lt lt' k k' K K' t u w g g' h x f)
     (Vt : Stands (with_home v t g) lt) (Vu : Stands (with_home v u h) k) where
-  abbrev both : Value
+  abbrev both : Memory
   both = with_home (with_home v t g) u h
 
-  abbrev both' : Value
+  abbrev both' : Memory
   both' = with_home (with_home v' t g') u h
 
   idle_t : is_waiting (slice_get K.machine.tasks t) ≡ false

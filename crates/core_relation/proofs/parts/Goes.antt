@@ -5,7 +5,7 @@ use Rattle.std.proofs.lemmas.Option.{same_Some}
 use Rattle.object_layout.specs.declared.word.Addr.{Addr}
 use Rattle.object_layout.specs.Objects.{Located}
 use Rattle.hh_lang.specs.Form.{ProgramText}
-use Rattle.run_trace.specs.Settings.{Limits}
+use Rattle.run_trace.specs.Settings.{SettingsValue}
 use Rattle.hh_model.specs.declared.data.Name.{Name}
 use Rattle.hh_model.specs.declared.data.Object.{Object}
 use Rattle.hh_model.specs.declared.data.Status.TheVariants.{Running}
@@ -19,22 +19,22 @@ use Rattle.run_ledger.specs.Heaps.{heap_of, or_fresh, let_go}
 use Rattle.run_ledger.specs.Steps.{task_steps}
 use Rattle.run_ledger.specs.Sound.{collecting}
 use Rattle.task_frames.specs.declared.frames.Frame.{Frame}
-use Rattle.core_relation.specs.Value.{Home, Value, In, objects, objects_in}
-use Rattle.ledger_steps.specs.Accounts.{own, Rests, ArePrivate, rested, StepsAlone, AlikeFor, Knows}
+use Rattle.core_relation.specs.Memory.{Home, Memory, In, objects, objects_in}
+use Rattle.ledger_step_laws.specs.Accounts.{own, Rests, ArePrivate, rested, StepsAlone, AlikeFor, Knows}
 use Rattle.core_relation.specs.Stands.{Stands}
 use Rattle.core_relation.specs.Fits.{Part, FitsAt, ahead, with_home}
-use Rattle.ledger_steps.specs.Kinds.{StoresOne, StoresNumber}
+use Rattle.ledger_step_laws.specs.Kinds.{StoresOne, StoresNumber}
 use Rattle.core_relation.specs.Changes.{StoresAt, StoresNumberAt, register}
 use Rattle.core_relation.specs.Frames.{IsSteady, IsOut, Beside}
-use Rattle.ledger_steps.proofs.Ahead.{SameOf, with_machine, with_off}
+use Rattle.ledger_step_laws.proofs.Ahead.{SameOf, with_machine, with_off}
 use Rattle.core_relation.proofs.parts.Beside.{together, alike_writes}
-use Rattle.ledger_steps.proofs.Rested.{rested_worker, rested_knows}
+use Rattle.ledger_step_laws.proofs.Rested.{rested_worker, rested_knows}
 use Rattle.core_relation.proofs.changes.Lifts.{stores_too, stores_with, numbers_too, numbers_with}
 use Rattle.core_relation.proofs.objects.Members.{in_chunk}
 use Rattle.core_relation.proofs.parts.Pair.{beside}
 use Rattle.core_relation.proofs.parts.Parts.{ahead_alone, ahead_same}
 use Rattle.core_relation.proofs.changes.Release.{released}
-use Rattle.ledger_steps.proofs.Tree.{leaf_alone}
+use Rattle.ledger_step_laws.proofs.Tree.{leaf_alone}
 use Rattle.core_relation.proofs.changes.With.{at_home, off_home, with_both}
 use Rattle.core_relation.proofs.parts.Others.{private', out', alone', alike'}
 use Rattle.core_relation.proofs.changes.Numbers as numbers
@@ -42,7 +42,7 @@ use Rattle.core_relation.proofs.parts.Pair as pair
 use Rattle.core_relation.proofs.changes.Store as store
 
 -- q's worker goes on with the task: its home is g' then, and the value stands for the accounts in which it rests
-module _ (p : ProgramText) (s : Limits) (q r : Part) (v : Value) (l l' : Ledger) (x y : Task) (K : Knows l) (K' : Knows l') (F : FitsAt p s q v l) (G : FitsAt p s r v l) (O : IsOut l q x) (P : IsOut l r y) (ne : q.task ≡ r.task → ⊥)
+module _ (p : ProgramText) (s : SettingsValue) (q r : Part) (v : Memory) (l l' : Ledger) (x y : Task) (K : Knows l) (K' : Knows l') (F : FitsAt p s q v l) (G : FitsAt p s r v l) (O : IsOut l q x) (P : IsOut l r y) (ne : q.task ≡ r.task → ⊥)
     (w : ℕ) (out : (heap_of l' q.task).worker ≡ Some w) (limit : l'.machine.field_limit ≡ (ahead p q l).machine.field_limit) (end : l'.machine.end ≡ (ahead p q l).machine.end) (heap : slice_get l'.heaps r.task ≡ slice_get (ahead p q l).heaps r.task) where
   abbrev lq : Ledger
   lq = ahead p q l
@@ -81,7 +81,7 @@ module _ (p : ProgramText) (s : Limits) (q r : Part) (v : Value) (l l' : Ledger)
   before = together v lq (ahead p r l) both q.task r.task q.home r.home BB F.stands G.stands
 
   -- the part fits what is given back
-  module _ (E : AlikeFor r.task lq lt') (v' : Value) (g' : Home) (idle : is_waiting (slice_get then_.machine.tasks q.task) ≡ false) (V : Stands (with_home (with_home v' q.task g') r.task r.home) then_) where
+  module _ (E : AlikeFor r.task lq lt') (v' : Memory) (g' : Home) (idle : is_waiting (slice_get then_.machine.tasks q.task) ≡ false) (V : Stands (with_home (with_home v' q.task g') r.task r.home) then_) where
     pri : ArePrivate p s lt' r.task r.fresh
     pri = private' p s q r v l lt' x y K K2 F G O P ne E
 
@@ -140,7 +140,7 @@ module _ (p : ProgramText) (s : Limits) (q r : Part) (v : Value) (l l' : Ledger)
         not_own (same_Some (own lq n) r.task (sym owns ∙ (ap v.owner (sym e) ∙ mine)))
 
   -- it stores a reference
-  pub fits_store : (v' : Value) (g' : Home) (z : Task) (n : Name) (yy : Object) (o b i : ℕ) (c : Option (ℕ × ℤ)) (f : Frame) (fs : List Frame) (a : Addr) → StoresOne lq lt' q.task z n yy o b i c
+  pub fits_store : (v' : Memory) (g' : Home) (z : Task) (n : Name) (yy : Object) (o b i : ℕ) (c : Option (ℕ × ℤ)) (f : Frame) (fs : List Frame) (a : Addr) → StoresOne lq lt' q.task z n yy o b i c
       → StoresAt (with_home v q.task q.home) (with_home v' q.task g') lq q.task f fs a b i c → register f o ≡ Some a → FitsAt p s r v' l'
   fits_store v' g' z n yy o b i c f fs a L C at_a =
       let rests : Rests lq q.task = rested_worker (task_steps p l q.task q.fresh) q.task in
@@ -158,7 +158,7 @@ module _ (p : ProgramText) (s : Limits) (q r : Part) (v : Value) (l l' : Ledger)
       (stores_with vt vt' r.task r.home lq both q.task f fs a b i c ne BB.steps_t.tree.paths (none_there z n L.task L.runs holds a place.chunk) C) at_a)
 
   -- or a number
-  pub fits_number : (v' : Value) (g' : Home) (z : Task) (n : Name) (yy : Object) (o b i : ℕ) (f : Frame) (fs : List Frame) (a : Addr) → StoresNumber lq lt' q.task z n yy o b i
+  pub fits_number : (v' : Memory) (g' : Home) (z : Task) (n : Name) (yy : Object) (o b i : ℕ) (f : Frame) (fs : List Frame) (a : Addr) → StoresNumber lq lt' q.task z n yy o b i
       → StoresNumberAt (with_home v q.task q.home) (with_home v' q.task g') q.task f fs a b i → register f o ≡ Some a → FitsAt p s r v' l'
   fits_number v' g' z n yy o b i f fs a L C at_a =
       let rests : Rests lq q.task = rested_worker (task_steps p l q.task q.fresh) q.task in

@@ -2,14 +2,14 @@
 use Rattle.std.proofs.Common.{◌≡◌, ℕ, arith, Some, inl, inr, refl, ap, sym, ◌∙◌}
 use Rattle.std.proofs.lemmas.Bool.{cases_eq}
 use Rattle.hh_lang.specs.Form.{ProgramText}
-use Rattle.run_trace.specs.Settings.{Limits}
+use Rattle.run_trace.specs.Settings.{SettingsValue}
 use Rattle.run_ledger.specs.declared.data.Ledger.{Ledger}
 use Rattle.run_ledger.specs.Heaps.{heap_of, or_fresh, let_go}
 use Rattle.run_ledger.specs.Steps.{task_steps}
-use Rattle.ledger_steps.specs.Accounts.{rested}
-use Rattle.ledger_steps.proofs.Ahead.{with_machine, with_off}
-use Rattle.ledger_steps.proofs.Rested.{rested_worker, rested_view}
-use Rattle.core_relation.specs.Value.{Home, Value}
+use Rattle.ledger_step_laws.specs.Accounts.{rested}
+use Rattle.ledger_step_laws.proofs.Ahead.{with_machine, with_off}
+use Rattle.ledger_step_laws.proofs.Rested.{rested_worker, rested_view}
+use Rattle.core_relation.specs.Memory.{Home, Memory}
 use Rattle.core_relation.specs.Stands.{Stands}
 use Rattle.core_relation.specs.Fits.{FitsAt, with_home, ahead, part_for}
 use Rattle.core_relation.proofs.parts.Statements.{StoresFit, NumbersFit, QuietFitsAt, StepsFit}
@@ -18,7 +18,7 @@ use Rattle.core_relation.proofs.changes.Own.{stepped}
 use Rattle.core_relation.proofs.changes.Renew.{renewed}
 use Rattle.core_relation.proofs.changes.Store.{stored}
 
-fits_now : (p : ProgramText) (s : Limits) (t : ℕ) (g : Home) (v : Value) (l : Ledger) (w : ℕ) → (heap_of l t).worker ≡ Some w → Stands (with_home v t g) (rested l t) → FitsAt p s (part_for s t g 0) v l
+fits_now : (p : ProgramText) (s : SettingsValue) (t : ℕ) (g : Home) (v : Memory) (l : Ledger) (w : ℕ) → (heap_of l t).worker ≡ Some w → Stands (with_home v t g) (rested l t) → FitsAt p s (part_for s t g 0) v l
 fits_now p s t g v l w out V = record { worker = w; out = out; few = omega arith; private = tt; stands = V }
 
 pub stores_fit : StoresFit

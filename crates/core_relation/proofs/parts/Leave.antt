@@ -1,16 +1,16 @@
 -- What an entry leaves to others: the laws, from the lemmas.
 use Rattle.std.proofs.Common.{◌≡◌, ℕ, true, false, Option, Some, None, slice_get, ap, sym, ◌∙◌}
 use Rattle.hh_lang.specs.Form.{ProgramText}
-use Rattle.run_trace.specs.Settings.{Limits}
+use Rattle.run_trace.specs.Settings.{SettingsValue}
 use Rattle.hh_model.specs.declared.data.Task.{Task}
 use Rattle.hh_model.specs.Step.{is_joined, is_on_path, is_waiting}
 use Rattle.hh_model.proofs.Runs.{running_tells}
-use Rattle.ledger_steps.proofs.Tree.{leaf_alone}
+use Rattle.ledger_step_laws.proofs.Tree.{leaf_alone}
 use Rattle.run_ledger.specs.declared.data.Heap.{Heap}
 use Rattle.run_ledger.specs.declared.data.Ledger.{Ledger}
 use Rattle.run_ledger.specs.Heaps.{heap_of, or_fresh}
-use Rattle.core_relation.specs.Value.{Value}
-use Rattle.ledger_steps.specs.Accounts.{Rests, Knows, Leaves}
+use Rattle.core_relation.specs.Memory.{Memory}
+use Rattle.ledger_step_laws.specs.Accounts.{Rests, Knows, Leaves}
 use Rattle.core_relation.specs.Fits.{Part, FitsAt, ahead}
 use Rattle.core_relation.specs.Frames.{AreOut}
 use Rattle.core_relation.proofs.parts.Statements.{ForksLeaveFitting, JoinsLeaveFitting, FinishesLeaveFitting, StoresLeaveFitting, NumbersLeaveFitting, TakingsLeaveFitting, QuietLeavesFitting}
@@ -24,7 +24,7 @@ use Rattle.core_relation.proofs.parts.Pair as pair
 none_some : {w : ℕ} → ◌≡◌ {A = Option ℕ} None (Some w) → ⊥
 none_some e = absurd cc
 
-module _ (p : ProgramText) (s : Limits) (q r : Part) (v : Value) (l l' : Ledger) (x y : Task) (K : Knows l) (F : FitsAt p s q v l) (G : FitsAt p s r v l) (A : AreOut l q r x y) where
+module _ (p : ProgramText) (s : SettingsValue) (q r : Part) (v : Memory) (l l' : Ledger) (x y : Task) (K : Knows l) (F : FitsAt p s q v l) (G : FitsAt p s r v l) (A : AreOut l q r x y) where
   -- a task that no worker holds isn't r's
   pub held_then : (z : ℕ) → Rests (ahead p q l) z → r.task ≡ z → ⊥
   held_then z h e = none_some (sym h ∙ (ap (λ k. (heap_of (ahead p q l) k).worker) (sym e) ∙ (ap (λ o. (or_fresh o).worker) (pair.alike p s q r v l x y K F G A.first A.second A.apart).heap ∙ G.out)))

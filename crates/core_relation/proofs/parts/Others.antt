@@ -2,7 +2,7 @@
 use Rattle.std.proofs.Common.{◌≡◌, ℕ, ℤ, pos, true, unwrap_or, Option, Some, None, List, ◌∷◌, slice_get, inl, inr, ap, ap₂, sym, subst, ◌∙◌}
 use Rattle.object_layout.specs.declared.word.Addr.{Addr}
 use Rattle.hh_lang.specs.Form.{ProgramText}
-use Rattle.run_trace.specs.Settings.{Limits}
+use Rattle.run_trace.specs.Settings.{SettingsValue}
 use Rattle.hh_model.specs.declared.data.Name.{Name}
 use Rattle.hh_model.specs.declared.data.Status.TheVariants.{Running}
 use Rattle.hh_model.specs.declared.data.Task.{Task}
@@ -13,19 +13,19 @@ use Rattle.run_ledger.specs.Heaps.{heap_of, or_fresh}
 use Rattle.run_ledger.specs.Steps.{task_steps}
 use Rattle.run_ledger.specs.Sound.{collecting}
 use Rattle.task_frames.specs.declared.frames.Frame.{Frame}
-use Rattle.core_relation.specs.Value.{Home, Value}
+use Rattle.core_relation.specs.Memory.{Home, Memory}
 use Rattle.core_relation.specs.Reads.{Reads, FramesAreRead, HoldsRead}
-use Rattle.ledger_steps.specs.Accounts.{Rests, ArePrivate, StepsAlone, AlikeFor, Knows}
+use Rattle.ledger_step_laws.specs.Accounts.{Rests, ArePrivate, StepsAlone, AlikeFor, Knows}
 use Rattle.core_relation.specs.Stands.{Place, Stands}
 use Rattle.core_relation.specs.Fits.{Part, FitsAt, ahead, with_home}
-use Rattle.ledger_steps.specs.Kinds.{ForksTask, JoinsTasks, CanJoin, EndsTask}
+use Rattle.ledger_step_laws.specs.Kinds.{ForksTask, JoinsTasks, CanJoin, EndsTask}
 use Rattle.core_relation.specs.Changes.{ForksHome, JoinsHomes, EndsHome, register, HasResult}
 use Rattle.core_relation.specs.Frames.{IsSteady, IsOut, Beside}
-use Rattle.ledger_steps.proofs.Along.{alike_steps}
+use Rattle.ledger_step_laws.proofs.Along.{alike_steps}
 use Rattle.core_relation.proofs.parts.Along.{rested_alike, alone_ahead}
 use Rattle.core_relation.proofs.parts.Beside.{together, fork_frame, join_frame}
 use Rattle.core_relation.proofs.objects.Carry.{field_of}
-use Rattle.ledger_steps.proofs.Rested.{rested_worker}
+use Rattle.ledger_step_laws.proofs.Rested.{rested_worker}
 use Rattle.core_relation.proofs.changes.Lifts.{can_too, ends_too, ends_with}
 use Rattle.core_relation.proofs.changes.Finish.{finished}
 use Rattle.core_relation.proofs.parts.Pair.{beside}
@@ -35,7 +35,7 @@ use Rattle.core_relation.proofs.parts.Pair as pair
 
 -- RESULTS
 
-pub result_read : (v : Value) (l : Ledger) (c : ℕ) (r : ℤ × Option Name) (a : ℤ × Option Addr) → Stands v l → Rests l c → HasResult v l c r a → (a.0 ≡ r.0) × Reads (Place v l) a.1 r.1
+pub result_read : (v : Memory) (l : Ledger) (c : ℕ) (r : ℤ × Option Name) (a : ℤ × Option Addr) → Stands v l → Rests l c → HasResult v l c r a → (a.0 ≡ r.0) × Reads (Place v l) a.1 r.1
 result_read v l c r a V rests (inl E) =
     let k : ((v.homes c).result.0 ≡ r.0) × Reads (Place v l) (v.homes c).result.1 r.1 = subst (HoldsRead (Place v l) (v.homes c) E.task) E.ended (V.tasks c E.task rests E.is) in
     subst (λ (q : ℤ × Option Addr). (q.0 ≡ r.0) × Reads (Place v l) q.1 r.1) E.result k
@@ -47,7 +47,7 @@ result_read v l c r a V rests (inr E) =
     (ap (λ is. unwrap_or (slice_get is 0) (pos 0)) k.0.ints, field_of (Place v l) E.frame.refs E.task.top.refs 0 k.0.refs))
 
 -- THE PART OF r, WHERE ALL THAT IT GOES BY STAYS: q's steps lead from l to lq, and what is entered then leads to l'
-module _ (p : ProgramText) (s : Limits) (q r : Part) (v : Value) (l l' : Ledger) (x y : Task) (K : Knows l) (K' : Knows l') (F : FitsAt p s q v l) (G : FitsAt p s r v l) (O : IsOut l q x) (P : IsOut l r y) (ne : q.task ≡ r.task → ⊥)
+module _ (p : ProgramText) (s : SettingsValue) (q r : Part) (v : Memory) (l l' : Ledger) (x y : Task) (K : Knows l) (K' : Knows l') (F : FitsAt p s q v l) (G : FitsAt p s r v l) (O : IsOut l q x) (P : IsOut l r y) (ne : q.task ≡ r.task → ⊥)
     (E : AlikeFor r.task (ahead p q l) l') where
   abbrev lq : Ledger
   lq = ahead p q l
@@ -111,17 +111,17 @@ module _ (p : ProgramText) (s : Limits) (q r : Part) (v : Value) (l l' : Ledger)
       none_some : {w : ℕ} → ◌≡◌ {A = Option ℕ} None (Some w) → ⊥
       none_some e = absurd cc
 
-  pub fits_by : (v' : Value) → Stands (with_home v' r.task r.home) lr' → FitsAt p s r v' l'
+  pub fits_by : (v' : Memory) → Stands (with_home v' r.task r.home) lr' → FitsAt p s r v' l'
   fits_by v' V = record { worker = G.worker; out = out'; few = G.few; private = then'.0; stands = V }
 
   -- q's task forks
-  pub fits_fork : (v' : Value) (a b f i : ℕ) (z : Task) → z.status ≡ Running → ForksTask lq l' q.task a b f i z → ForksHome (with_home v q.task q.home) v' q.task a b f i → FitsAt p s r v' l'
+  pub fits_fork : (v' : Memory) (a b f i : ℕ) (z : Task) → z.status ≡ Running → ForksTask lq l' q.task a b f i z → ForksHome (with_home v q.task q.home) v' q.task a b f i → FitsAt p s r v' l'
   fits_fork v' a b f i z runs L C =
       fits_by v' (fork_frame v v' lq l' (ahead p r l) lr' both q.task r.task a b f i q.home r.home z B (apart' a (ap (λ (h : Heap). h.worker) L.heap_left)) (apart' b (ap (λ (h : Heap). h.worker) L.heap_right)) alone' alike'
       runs (rested_worker (task_steps p l q.task q.fresh) q.task) L C F.stands G.stands)
 
   -- q's task ends, and joins with its sibling
-  pub fits_join : (v' : Value) (j c d : ℕ) (z : Task) (rl rr : ℤ × Option Name) (al ar : ℤ × Option Addr) → JoinsTasks lq l' j c d z rl rr → CanJoin lq j c d z → JoinsHomes (with_home v q.task q.home) v' j c d al ar
+  pub fits_join : (v' : Memory) (j c d : ℕ) (z : Task) (rl rr : ℤ × Option Name) (al ar : ℤ × Option Addr) → JoinsTasks lq l' j c d z rl rr → CanJoin lq j c d z → JoinsHomes (with_home v q.task q.home) v' j c d al ar
       → HasResult (with_home v q.task q.home) lq c rl al → HasResult (with_home v q.task q.home) lq d rr ar → FitsAt p s r v' l'
   fits_join v' j c d z rl rr al ar L T C gl gr =
       let nj = apart_then j T.rests in
@@ -139,7 +139,7 @@ module _ (p : ProgramText) (s : Limits) (q r : Part) (v : Value) (l l' : Ledger)
       result_too c k a nc (inr e) = inr (record { task = e.task; is = B.steps_t.tasks c nc ∙ e.is; runs = e.runs; hands = e.hands; frame = e.frame; below = e.below; frames = ap (λ (h : Home). h.frames) (off_home (with_home v q.task q.home) r.task r.home c nc) ∙ e.frames; result = e.result })
 
   -- q's task ends, and its sibling goes on
-  pub fits_finish : (v' : Value) (z : Task) (f : Frame) (fs : List Frame) → EndsTask lq l' q.task z → EndsHome (with_home v q.task q.home) v' q.task f fs → FitsAt p s r v' l'
+  pub fits_finish : (v' : Memory) (z : Task) (f : Frame) (fs : List Frame) → EndsTask lq l' q.task z → EndsHome (with_home v q.task q.home) v' q.task f fs → FitsAt p s r v' l'
   fits_finish v' z f fs L C =
       let A = B.steps_t in
       let M : StepsAlone both lr' q.task = alone_ahead p s r lq l' both lr' q.task L.alone A alone' alike' in

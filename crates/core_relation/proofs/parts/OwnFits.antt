@@ -1,7 +1,7 @@
 -- After an entry of its own that isn't of steps what a worker holds fits.
 use Rattle.std.proofs.Common.{◌≡◌, None, is_none, slice_get, inl, refl, ap, sym, subst, ◌∙◌}
 use Rattle.std.proofs.lemmas.Bool.{and_parts}
-use Rattle.run_trace.specs.Entry.{Event}
+use Rattle.run_trace.specs.Entry.{EntryValue}
 use Rattle.run_trace.specs.declared.entry.Kind.TheVariants.{End as EndOf}
 use Rattle.hh_model.specs.declared.data.State.{State}
 use Rattle.hh_model.specs.Step.{is_running}
@@ -11,8 +11,8 @@ use Rattle.run_ledger.specs.Entries.{after, is_out}
 use Rattle.run_ledger.specs.Journals.{ledger_of}
 use Rattle.run_ledger.proofs.Journals.{none_unless, entry_tells, legal_sound}
 use Rattle.run_ledger.proofs.Steps.{heap_of_task}
-use Rattle.ledger_steps.proofs.Entries.{end_changes}
-use Rattle.ledger_steps.proofs.Split.{legal_alive}
+use Rattle.ledger_step_laws.proofs.Entries.{end_changes}
+use Rattle.ledger_step_laws.proofs.Split.{legal_alive}
 use Rattle.core_relation.specs.Copies.{PartFits}
 use Rattle.core_relation.specs.Fits.{part_for}
 use Rattle.core_relation.specs.WorkerLaws.{QuietFits, EndsFit}
@@ -35,7 +35,7 @@ quiet_fits_then p s journal legal v v' e t h g accepted quiet Q C B =
 
 pub ends_fit_then : EndsFit
 ends_fit_then p s journal legal v v' w t taken given left h h' f accepted K E none =
-    let e : Event = record { worker = w; kind = EndOf t taken given left } in
+    let e : EntryValue = record { worker = w; kind = EndOf t taken given left } in
     let l : Ledger = ledger_of p s journal in
     let l' : Ledger = after p s l e in
     let tells = entry_tells p s l e (ap is_none accepted) in

@@ -1,7 +1,7 @@
 -- Two parts that fit a value fit it together.
 use Rattle.std.proofs.Common.{◌≡◌, true, false, Some, inl, inr, ap, sym, ◌∙◌}
 use Rattle.hh_lang.specs.Form.{ProgramText}
-use Rattle.run_trace.specs.Settings.{Limits}
+use Rattle.run_trace.specs.Settings.{SettingsValue}
 use Rattle.hh_model.specs.declared.data.Task.{Task}
 use Rattle.hh_model.specs.declared.data.State.{State}
 use Rattle.hh_model.specs.Step.{is_running, is_waiting, is_joined}
@@ -10,23 +10,23 @@ use Rattle.run_ledger.specs.declared.data.Ledger.{Ledger}
 use Rattle.run_ledger.specs.Heaps.{let_go}
 use Rattle.run_ledger.specs.Steps.{task_steps}
 use Rattle.run_ledger.specs.Sound.{collecting}
-use Rattle.core_relation.specs.Value.{Value}
+use Rattle.core_relation.specs.Memory.{Memory}
 use Rattle.core_relation.specs.Stands.{Stands}
 use Rattle.core_relation.specs.Fits.{Part, FitsAt, ahead, with_home}
-use Rattle.ledger_steps.specs.Accounts.{ArePrivate, StepsAlone, AlikeFor, Knows}
+use Rattle.ledger_step_laws.specs.Accounts.{ArePrivate, StepsAlone, AlikeFor, Knows}
 use Rattle.core_relation.specs.Frames.{IsSteady, IsOut, Beside}
-use Rattle.ledger_steps.proofs.Ahead.{with_machine, with_off}
-use Rattle.ledger_steps.proofs.Along.{alike_steps, steps_limit, steps_end, steps_off, steps_know}
+use Rattle.ledger_step_laws.proofs.Ahead.{with_machine, with_off}
+use Rattle.ledger_step_laws.proofs.Along.{alike_steps, steps_limit, steps_end, steps_off, steps_know}
 use Rattle.core_relation.proofs.parts.Along.{rested_alike, alone_ahead, alike_alone}
 use Rattle.core_relation.proofs.parts.Beside.{together}
 use Rattle.core_relation.proofs.parts.Parts.{ahead_alone, ahead_sound}
-use Rattle.ledger_steps.proofs.Rested.{rested_knows}
-use Rattle.ledger_steps.proofs.Tree.{leaf_alone}
+use Rattle.ledger_step_laws.proofs.Rested.{rested_knows}
+use Rattle.ledger_step_laws.proofs.Tree.{leaf_alone}
 
-pub knows_ahead : (p : ProgramText) (s : Limits) (q : Part) (v : Value) (l : Ledger) (x : Task) → Knows l → FitsAt p s q v l → IsOut l q x → Knows (ahead p q l)
+pub knows_ahead : (p : ProgramText) (s : SettingsValue) (q : Part) (v : Memory) (l : Ledger) (x : Task) → Knows l → FitsAt p s q v l → IsOut l q x → Knows (ahead p q l)
 knows_ahead p s q v l x K F O = rested_knows (task_steps p l q.task q.fresh) q.task (steps_know p s q.task q.fresh l x K O.steady O.task O.runs O.can F.private)
 
-module _ (p : ProgramText) (s : Limits) (q r : Part) (v : Value) (l : Ledger) (x y : Task) (K : Knows l) (F : FitsAt p s q v l) (G : FitsAt p s r v l) (O : IsOut l q x) (P : IsOut l r y) (ne : q.task ≡ r.task → ⊥) where
+module _ (p : ProgramText) (s : SettingsValue) (q r : Part) (v : Memory) (l : Ledger) (x y : Task) (K : Knows l) (F : FitsAt p s q v l) (G : FitsAt p s r v l) (O : IsOut l q x) (P : IsOut l r y) (ne : q.task ≡ r.task → ⊥) where
   abbrev lq : Ledger
   lq = ahead p q l
 

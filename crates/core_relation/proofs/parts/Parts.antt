@@ -2,22 +2,22 @@
 -- proved.
 use Rattle.std.proofs.Common.{◌≡◌, ℕ, true, false, slice_get, ◌⊎◌, inl, inr, refl, ap, sym, subst, ◌∙◌}
 use Rattle.hh_lang.specs.Form.{ProgramText}
-use Rattle.run_trace.specs.Settings.{Limits}
+use Rattle.run_trace.specs.Settings.{SettingsValue}
 use Rattle.hh_model.specs.Step.{is_waiting}
 use Rattle.run_ledger.specs.declared.data.Ledger.{Ledger}
 use Rattle.run_ledger.specs.Heaps.{heap_of, or_fresh}
 use Rattle.run_ledger.specs.Steps.{task_steps}
 use Rattle.run_ledger.specs.Sound.{SoundLedger, collecting}
-use Rattle.core_relation.specs.Value.{Value}
-use Rattle.ledger_steps.specs.Accounts.{Rests, ArePrivate, StepsAlone, ChangesHeap}
+use Rattle.core_relation.specs.Memory.{Memory}
+use Rattle.ledger_step_laws.specs.Accounts.{Rests, ArePrivate, StepsAlone, ChangesHeap}
 use Rattle.core_relation.specs.Fits.{Part, FitsAt, ahead}
 use Rattle.core_relation.specs.Changes.{KeepsJust}
 use Rattle.core_relation.specs.Frames.{IsSteady}
-use Rattle.ledger_steps.proofs.Ahead.{SameOf, steps_alone_all, steps_sound, steps_same, rested_alone, rested_same}
+use Rattle.ledger_step_laws.proofs.Ahead.{SameOf, steps_alone_all, steps_sound, steps_same, rested_alone, rested_same}
 use Rattle.core_relation.proofs.parts.Frame.{sweep_frame}
-use Rattle.ledger_steps.proofs.Rested.{rested_sound}
+use Rattle.ledger_step_laws.proofs.Rested.{rested_sound}
 
-module _ (p : ProgramText) (s : Limits) (q : Part) where
+module _ (p : ProgramText) (s : SettingsValue) (q : Part) where
   many_alone : (k : ℕ) (l : Ledger) → SoundLedger l → (k ≡ 0) ⊎ (collecting (slice_get l.heaps q.task) ≡ false) → ArePrivate p s l q.task k → StepsAlone l (task_steps p l q.task k) q.task
   many_alone k l S (inr c) h = steps_alone_all p s q.task k l (S, c) h
   many_alone k l S (inl e) h = subst (λ j. StepsAlone l (task_steps p l q.task j) q.task) (sym e) (record {
@@ -43,7 +43,7 @@ module _ (p : ProgramText) (s : Limits) (q : Part) where
   ahead_same l l' E h = let r = steps_same p s q.task q.fresh l l' E h in (r.0, rested_same (task_steps p l q.task q.fresh) (task_steps p l' q.task q.fresh) q.task r.1)
 
   -- a sweep of another task's heap keeps the part fitting
-  pub fits_sweep : (v v' : Value) (l l' : Ledger) (t : ℕ) → SoundLedger l → SoundLedger l' → IsSteady q l → (t ≡ q.task → ⊥) → is_waiting (slice_get l.machine.tasks t) ≡ true → Rests l t
+  pub fits_sweep : (v v' : Memory) (l l' : Ledger) (t : ℕ) → SoundLedger l → SoundLedger l' → IsSteady q l → (t ≡ q.task → ⊥) → is_waiting (slice_get l.machine.tasks t) ≡ true → Rests l t
       → ChangesHeap l l' t → slice_get l'.heaps q.task ≡ slice_get l.heaps q.task → KeepsJust v v' l l' t (heap_of l t).snapshot → FitsAt p s q v l → FitsAt p s q v' l'
   fits_sweep v v' l l' t S S' c apart waits rests L same C F =
       let E : SameOf q.task l l' = record { machine = L.machine; heap = same } in

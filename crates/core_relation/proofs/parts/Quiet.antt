@@ -2,7 +2,7 @@
 use Rattle.std.proofs.Common.{◌≡◌, ℕ, false, Option, Some, None, length, slice_get, inl, inr, refl, ap, sym, subst, ◌∙◌}
 use Rattle.std.proofs.lemmas.Bool.{cases_eq}
 use Rattle.hh_lang.specs.Form.{ProgramText}
-use Rattle.run_trace.specs.Settings.{Limits}
+use Rattle.run_trace.specs.Settings.{SettingsValue}
 use Rattle.hh_model.specs.declared.data.State.{State}
 use Rattle.hh_model.specs.Effect.{row_of}
 use Rattle.hh_model.specs.Step.{is_joined, is_waiting}
@@ -11,16 +11,16 @@ use Rattle.run_ledger.specs.declared.data.Ledger.{Ledger}
 use Rattle.run_ledger.specs.Heaps.{heap_of, or_fresh}
 use Rattle.run_ledger.specs.Steps.{task_steps}
 use Rattle.run_ledger.specs.Sound.{Sound, SoundLedger, collecting}
-use Rattle.core_relation.specs.Value.{Home, Value, objects_in}
-use Rattle.ledger_steps.specs.Accounts.{Rests, aside, ArePrivate, StepsAlone, Takes, SameTasks}
+use Rattle.core_relation.specs.Memory.{Home, Memory, objects_in}
+use Rattle.ledger_step_laws.specs.Accounts.{Rests, aside, ArePrivate, StepsAlone, Takes, SameTasks}
 use Rattle.core_relation.specs.Stands.{HomeStands}
 use Rattle.core_relation.specs.Fits.{StillFits, Part, FitsAt, ahead, with_home}
 use Rattle.core_relation.specs.Changes.{SameBut, SameObjects}
 use Rattle.core_relation.specs.Frames.{IsSteady}
-use Rattle.ledger_steps.specs.Last.{Halts}
-use Rattle.ledger_steps.proofs.Ahead.{SameOf}
+use Rattle.ledger_step_laws.specs.Last.{Halts}
+use Rattle.ledger_step_laws.proofs.Ahead.{SameOf}
 use Rattle.core_relation.proofs.changes.Alone.{home_kept}
-use Rattle.ledger_steps.proofs.Rested.{rested_worker}
+use Rattle.ledger_step_laws.proofs.Rested.{rested_worker}
 use Rattle.core_relation.proofs.parts.Parts.{ahead_alone, ahead_same}
 use Rattle.core_relation.proofs.changes.Release.{released}
 use Rattle.core_relation.proofs.changes.Renew.{renewed}
@@ -29,7 +29,7 @@ use Rattle.core_relation.proofs.changes.With.{at_home, off_home}
 none_some : {w : ℕ} → ◌≡◌ {A = Option ℕ} None (Some w) → ⊥
 none_some e = absurd cc
 
-module _ (p : ProgramText) (s : Limits) (q : Part) (v : Value) (l l' : Ledger) (S : SoundLedger l) (S' : SoundLedger l') (c : IsSteady q l) (E : SameOf q.task l l') (F : FitsAt p s q v l) where
+module _ (p : ProgramText) (s : SettingsValue) (q : Part) (v : Memory) (l l' : Ledger) (S : SoundLedger l) (S' : SoundLedger l') (c : IsSteady q l) (E : SameOf q.task l l') (F : FitsAt p s q v l) where
   abbrev u : ℕ
   u = q.task
 
@@ -66,7 +66,7 @@ module _ (p : ProgramText) (s : Limits) (q : Part) (v : Value) (l l' : Ledger) (
   out' = ap (λ o. (or_fresh o).worker) E.heap ∙ F.out
 
   -- a worker takes another task
-  pub fits_took : (v' : Value) (t w : ℕ) → Rests l t → is_waiting (slice_get l.machine.tasks t) ≡ false → Takes l l' t w → SameBut v v' t → FitsAt p s q v' l'
+  pub fits_took : (v' : Memory) (t w : ℕ) → Rests l t → is_waiting (slice_get l.machine.tasks t) ≡ false → Takes l l' t w → SameBut v v' t → FitsAt p s q v' l'
   fits_took v' t w rests idle L C =
       let ne : t ≡ u → ⊥ = λ e. none_some (sym rests ∙ (ap (λ j. (heap_of l j).worker) e ∙ F.out)) in
       record {
@@ -112,7 +112,7 @@ module _ (p : ProgramText) (s : Limits) (q : Part) (v : Value) (l l' : Ledger) (
   }
 
   -- nothing moves
-  pub fits_quiet : (v' : Value) → SameTasks l l' → SameObjects v v' l l' → FitsAt p s q v' l'
+  pub fits_quiet : (v' : Memory) → SameTasks l l' → SameObjects v v' l l' → FitsAt p s q v' l'
   fits_quiet v' L C = record {
     worker = F.worker;
     out = out';
@@ -164,7 +164,7 @@ module _ (p : ProgramText) (s : Limits) (q : Part) (v : Value) (l l' : Ledger) (
 pub aside_is : (l : Ledger) → l.machine.end ≡ None → aside l ≡ l
 aside_is l e = λ i. record l { machine = record l.machine { end = sym e i } }
 
-pub fits_halt : (p : ProgramText) (s : Limits) (v : Value) (l l' : Ledger) → SoundLedger l → l.machine.end ≡ None → Halts l l' → (r : Part) → IsSteady r l → FitsAt p s r v l → StillFits p s r v l'
+pub fits_halt : (p : ProgramText) (s : SettingsValue) (v : Memory) (l l' : Ledger) → SoundLedger l → l.machine.end ≡ None → Halts l l' → (r : Part) → IsSteady r l → FitsAt p s r v l → StillFits p s r v l'
 fits_halt p s v l l' S on H r c F =
     let m : (aside l').machine ≡ l.machine = ap (λ (z : State). record z { end = None }) H.machine ∙ ap (λ (z : Ledger). z.machine) (aside_is l on) in
     let S' : SoundLedger (aside l') =

@@ -2,7 +2,7 @@
 use Rattle.std.proofs.Common.{◌≡◌, ◌⊎◌, ◌+◌, ◌++◌, ◌∷◌, [], ℕ, Bool, true, false, cond, Option, Some, None, nat_lt, slice_get, inl, inr, refl, ap, sym, subst, ◌∙◌}
 use Rattle.std.proofs.lemmas.Bool.{both_ways, cases_eq}
 use Rattle.hh_lang.specs.Form.{ProgramText}
-use Rattle.run_trace.specs.Settings.{Limits}
+use Rattle.run_trace.specs.Settings.{SettingsValue}
 use Rattle.run_trace.specs.declared.entry.Kind.{Kind}
 use Rattle.run_trace.specs.declared.entry.Kind.TheVariants.{Took, Ran, Chunk, Begin, End as EndOf, PutOff, Mark, More, Sweep, Fuel}
 use Rattle.hh_model.specs.Step.{asked, is_waiting}
@@ -14,9 +14,9 @@ use Rattle.run_ledger.specs.Steps.{on_asked}
 use Rattle.run_ledger.specs.Entries.{after_kind, chunk_units, with_chunk, kind_refusal}
 use Rattle.run_ledger.proofs.Journals.{wait_tells}
 use Rattle.std.proofs.Common.{is_none}
-use Rattle.ledger_steps.specs.Accounts.{SameTasks}
-use Rattle.ledger_steps.proofs.Ahead.{with_at, with_off, heap_then}
-use Rattle.ledger_steps.proofs.Entries.{same_tasks}
+use Rattle.ledger_step_laws.specs.Accounts.{SameTasks}
+use Rattle.ledger_step_laws.proofs.Ahead.{with_at, with_off, heap_then}
+use Rattle.ledger_step_laws.proofs.Entries.{same_tasks}
 use Rattle.core_relation.specs.Counts.{IsQuiet, IsMarked}
 use Rattle.core_relation.specs.Worker.{IsBy}
 use Rattle.core_relation.proofs.whole.Counts.{chunk_worker, chunk_snapshot}
@@ -32,7 +32,7 @@ view_then view l t f same u = elim (cases_eq u t) [
     by None = refl
     by (Some h) = same h
 
-module _ (p : ProgramText) (s : Limits) (l : Ledger) where
+module _ (p : ProgramText) (s : SettingsValue) (l : Ledger) where
   -- what a quiet entry leaves
   abbrev pub Quiet : Ledger → Type 0
   Quiet l' = SameTasks l l' × ((u : ℕ) → (heap_of l' u).swept ≡ (heap_of l u).swept)

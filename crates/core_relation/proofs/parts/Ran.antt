@@ -4,7 +4,7 @@ use Rattle.std.proofs.lemmas.Option.{same_Some}
 use Rattle.hh_lang.specs.declared.instr.Instr.{Instr}
 use Rattle.hh_lang.specs.declared.instr.Instr.TheVariants.{Set, Mov, Movr, Nil as NilOf, Calc, Same, Jmp, Jz, Newm, Pack, Getr, Geti, Putr, Puti, Cntr, Cnti, Freeze, Cas, Call, Par, Ret, Out}
 use Rattle.hh_lang.specs.Form.{ProgramText}
-use Rattle.run_trace.specs.Settings.{Limits}
+use Rattle.run_trace.specs.Settings.{SettingsValue}
 use Rattle.hh_model.specs.declared.data.End.{End}
 use Rattle.hh_model.specs.declared.data.Task.{Task}
 use Rattle.hh_model.specs.declared.data.State.{State}
@@ -14,14 +14,14 @@ use Rattle.hh_model.proofs.Runs.{running_tells}
 use Rattle.run_ledger.specs.declared.data.Ledger.{Ledger}
 use Rattle.run_ledger.specs.Heaps.{heap_of, let_go}
 use Rattle.run_ledger.specs.Steps.{task_steps}
-use Rattle.ledger_steps.specs.Accounts.{StepsAlone, Knows, Leaves, rested}
-use Rattle.ledger_steps.specs.Kinds.{StoresOne}
-use Rattle.ledger_steps.specs.Last.{WritesOther, Halts, LastKind, Private, Reading, Writing, Printing, Forking, Ending, Joining, Finishing, Halting, IsOfKind, GoesOn, Splits, Runs}
-use Rattle.ledger_steps.proofs.Ahead.{private_alone, alone_along, steps_alone_all, with_machine, with_off}
-use Rattle.ledger_steps.proofs.Along.{steps_limit, steps_end, steps_off, steps_know}
-use Rattle.ledger_steps.proofs.Split.{worker_step, steps_worker}
-use Rattle.ledger_steps.proofs.Wrote.{is_store, is_swap, is_number}
-use Rattle.core_relation.specs.Value.{Home, Value}
+use Rattle.ledger_step_laws.specs.Accounts.{StepsAlone, Knows, Leaves, rested}
+use Rattle.ledger_step_laws.specs.Kinds.{StoresOne}
+use Rattle.ledger_step_laws.specs.Last.{WritesOther, Halts, LastKind, Private, Reading, Writing, Printing, Forking, Ending, Joining, Finishing, Halting, IsOfKind, GoesOn, Splits, Runs}
+use Rattle.ledger_step_laws.proofs.Ahead.{private_alone, alone_along, steps_alone_all, with_machine, with_off}
+use Rattle.ledger_step_laws.proofs.Along.{steps_limit, steps_end, steps_off, steps_know}
+use Rattle.ledger_step_laws.proofs.Split.{worker_step, steps_worker}
+use Rattle.ledger_step_laws.proofs.Wrote.{is_store, is_swap, is_number}
+use Rattle.core_relation.specs.Memory.{Home, Memory}
 use Rattle.core_relation.specs.Fits.{Part, FitsAt, StillFits, with_home, ahead, part_for}
 use Rattle.core_relation.specs.Changes.{StoresAt, StoresNumberAt}
 use Rattle.core_relation.specs.Frames.{IsOut, IsSteady, AreOut}
@@ -30,10 +30,10 @@ use Rattle.core_relation.proofs.parts.Along.{fits_alone}
 use Rattle.core_relation.proofs.parts.Leave as leave
 use Rattle.core_relation.proofs.parts.Quiet.{aside_is, fits_halt}
 use Rattle.core_relation.proofs.changes.Takes.{ran_fits}
-use Rattle.ledger_steps.proofs.Root.{root_alone}
+use Rattle.ledger_step_laws.proofs.Root.{root_alone}
 use Rattle.run_ledger.specs.Sound.{collecting}
 
-module _ (p : ProgramText) (s : Limits) (v v' : Value) (l l' : Ledger) (t w k : ℕ) (h : Home) (E : Runs p s l l' t w k) (on : l'.machine.end ≡ None) where
+module _ (p : ProgramText) (s : SettingsValue) (v v' : Memory) (l l' : Ledger) (t w k : ℕ) (h : Home) (E : Runs p s l l' t w k) (on : l'.machine.end ≡ None) where
   abbrev q : Part
   q = part_for s t h k
 
@@ -69,7 +69,7 @@ module _ (p : ProgramText) (s : Limits) (v v' : Value) (l l' : Ledger) (t w k : 
     -- the value stays, and the last step changes what t owns alone
     stays : v' ≡ v → StepsAlone m l' t → (heap_of l' t).worker ≡ Some w → FitsAt p s r v' l'
     stays same A out' =
-        subst (λ (z : Value). FitsAt p s r z l') (sym same)
+        subst (λ (z : Memory). FitsAt p s r z l') (sym same)
         (fits_alone p s r v l l' t w y ne (alone_along p s t l m l' alone_m A) limit end heap (sym (steps_worker p s t k l S.private) ∙ E.held) out' idle E.knows E.knows_then P.steady P.task P.runs P.can G)
 
     stores : FitsAt p s q v l → (W : WritesOther m l' t S.task S.line) (o i b : ℕ) (c : Option (ℕ × ℤ)) (L : (j : ℕ) × (place_in (length W.object.refs) (int_in S.task.top i) ≡ Some j) × StoresOne (rested m t) (rested l' t) t S.task W.name W.object o b j c)
@@ -134,7 +134,7 @@ module _ (p : ProgramText) (s : Limits) (v v' : Value) (l l' : Ledger) (t w k : 
 
 -- ALSO WHERE THE RUN ENDS, the machine's end left aside
 
-module _ (p : ProgramText) (s : Limits) (v v' : Value) (l l' : Ledger) (t w k : ℕ) (h : Home) (E : Runs p s l l' t w k) where
+module _ (p : ProgramText) (s : SettingsValue) (v v' : Memory) (l l' : Ledger) (t w k : ℕ) (h : Home) (E : Runs p s l l' t w k) where
   abbrev mk : Ledger
   mk = task_steps p l t k
 
@@ -186,7 +186,7 @@ module _ (p : ProgramText) (s : Limits) (v v' : Value) (l l' : Ledger) (t w k : 
     all Finishing d on F C =
         absurd (off (root_alone mk known.sound E.root t r.task T.task y T.at.task (ap runs T.at.runs) d.root (alone.tasks r.task off ∙ P.task) P.runs))
     all Halting n on F C =
-        subst (λ (z : Value). StillFits p s r z l') (sym C) (fits_halt p s v mk l' known.sound going n r steady fits_then)
+        subst (λ (z : Memory). StillFits p s r z l') (sym C) (fits_halt p s v mk l' known.sound going n r steady fits_then)
 
     pub ran_leaves_still : FitsAt p s (part_for s t h (taken_by T.kind k)) v l → Makes p v v' mk l' t h T.task T.line T.kind T.last → StillFits p s r v' l'
     ran_leaves_still = all T.kind T.last T.on

@@ -5,7 +5,7 @@ use Rattle.listed.proofs.Members.{got_same}
 use Rattle.hh_lang.specs.declared.instr.Instr.{Instr}
 use Rattle.hh_lang.specs.declared.instr.Instr.TheVariants.{Set, Mov, Movr, Nil as NilOf, Calc, Same, Jmp, Jz, Newm, Pack, Getr, Geti, Putr, Puti, Cntr, Cnti, Freeze, Cas, Call, Par, Ret, Out}
 use Rattle.hh_lang.specs.Form.{ProgramText}
-use Rattle.run_trace.specs.Settings.{Limits}
+use Rattle.run_trace.specs.Settings.{SettingsValue}
 use Rattle.hh_model.specs.declared.data.State.{State}
 use Rattle.hh_model.specs.declared.data.Task.{Task}
 use Rattle.hh_model.specs.Effect.{int_in, object_at, onward, place_in, row_of}
@@ -15,16 +15,16 @@ use Rattle.run_ledger.specs.Heaps.{heap_of, or_fresh, let_go}
 use Rattle.run_ledger.specs.Steps.{task_steps}
 use Rattle.run_ledger.proofs.Machine.{task_step_machine}
 use Rattle.run_ledger.specs.Sound.{SoundLedger}
-use Rattle.ledger_steps.specs.Accounts.{StepsAlone, Knows, aside, rested}
-use Rattle.ledger_steps.specs.Kinds.{StoresOne}
-use Rattle.ledger_steps.specs.Last.{WritesOther, LastKind, Private, Reading, Writing, Printing, Forking, Ending, Joining, Finishing, Halting, IsOfKind, GoesOn, Runs, Splits, stepped_by}
-use Rattle.ledger_steps.proofs.Ahead.{steps_sound, with_machine, with_off}
-use Rattle.ledger_steps.proofs.Along.{steps_end, steps_know}
-use Rattle.ledger_steps.proofs.Private.{private_on}
-use Rattle.ledger_steps.proofs.Rested.{rested_sound, rested_view}
-use Rattle.ledger_steps.proofs.Split.{steps_go, steps_last, worker_step}
-use Rattle.ledger_steps.proofs.Wrote.{is_store, is_swap, is_number}
-use Rattle.core_relation.specs.Value.{Home, Value}
+use Rattle.ledger_step_laws.specs.Accounts.{StepsAlone, Knows, aside, rested}
+use Rattle.ledger_step_laws.specs.Kinds.{StoresOne}
+use Rattle.ledger_step_laws.specs.Last.{WritesOther, LastKind, Private, Reading, Writing, Printing, Forking, Ending, Joining, Finishing, Halting, IsOfKind, GoesOn, Runs, Splits, stepped_by}
+use Rattle.ledger_step_laws.proofs.Ahead.{steps_sound, with_machine, with_off}
+use Rattle.ledger_step_laws.proofs.Along.{steps_end, steps_know}
+use Rattle.ledger_step_laws.proofs.Private.{private_on}
+use Rattle.ledger_step_laws.proofs.Rested.{rested_sound, rested_view}
+use Rattle.ledger_step_laws.proofs.Split.{steps_go, steps_last, worker_step}
+use Rattle.ledger_step_laws.proofs.Wrote.{is_store, is_swap, is_number}
+use Rattle.core_relation.specs.Memory.{Home, Memory}
 use Rattle.core_relation.specs.Fits.{Part, FitsAt, part_for, ahead, with_home}
 use Rattle.core_relation.specs.Copies.{PartFits}
 use Rattle.core_relation.specs.Changes.{StoresNumberAt}
@@ -65,7 +65,7 @@ both_rested l l' t A = record {
     el : (rested l' t).machine ≡ l'.machine
     el = with_machine l' t let_go
 
-module _ (p : ProgramText) (s : Limits) (v v' : Value) (l l' : Ledger) (t w k : ℕ) (h g : Home) (E : Runs p s l l' t w k) where
+module _ (p : ProgramText) (s : SettingsValue) (v v' : Memory) (l l' : Ledger) (t w k : ℕ) (h g : Home) (E : Runs p s l l' t w k) where
   abbrev m : Ledger
   m = task_steps p l t k
 
@@ -125,7 +125,7 @@ module _ (p : ProgramText) (s : Limits) (v v' : Value) (l l' : Ledger) (t w k : 
   -- a read or an output
   steps : FitsAt p s q v l → v' ≡ v → (m' : State) → l' ≡ stepped_by m m' → StepsAlone m l' t → StepsTo v l' t h g → FitsAt p s (part_for s t g 0) v' l'
   steps F e m' goes A G =
-      subst (λ (z : Value). FitsAt p s (part_for s t g 0) z l') (sym e)
+      subst (λ (z : Memory). FitsAt p s (part_for s t g 0) z l') (sym e)
       (steps_fit p s q v v l l' g w sound (rested_sound l' t E.knows_then.sound) F (held m' goes) (both_rested m l' t A) idle G.0 G.1)
 
   -- a store of a reference, and of a number
@@ -193,7 +193,7 @@ module _ (p : ProgramText) (s : Limits) (v v' : Value) (l l' : Ledger) (t w k : 
       let out : (heap_of (task_steps p l t (suc k)) t).worker ≡ Some w = ap (λ (z : Ledger). (heap_of z t).worker) (steps_last p l t k) ∙ (worker_step p s t m K ∙ E.held) in
       let V : FitsAt p s (part_for s t h 0) v l' = subst (FitsAt p s (part_for s t h 0) v) last (ran_fits p s (part_for s t h (suc k)) v l w F.fits out) in
       goes (on tt) x.task is (ap runs (x.status ∙ S.at.runs)) (ap (λ (z : Home). z.begun) G ∙ own (suc k) F)
-      (subst (λ (z : Value). FitsAt p s (part_for s t g 0) z l') (sym C) (subst (λ (j : Home). FitsAt p s (part_for s t j 0) v l') (sym G) V))
+      (subst (λ (z : Memory). FitsAt p s (part_for s t g 0) z l') (sym C) (subst (λ (j : Home). FitsAt p s (part_for s t j 0) v l') (sym G) V))
   by Reading K on F C G =
       goes (on tt) (record S.task { top = K.frame }) (set_task (record S.task { top = K.frame }) _ K.goes refl) runs_now (G.2 ∙ own k F) (steps F.fits C _ K.goes K.alone G)
   by Writing K on F C G =
@@ -207,7 +207,7 @@ module _ (p : ProgramText) (s : Limits) (v v' : Value) (l l' : Ledger) (t w k : 
   by Finishing K on F C G = absurd G
   by Halting K on F C G =
       fits (aside l') refl S.task (ap (λ (z : State). slice_get z.tasks t) K.machine ∙ S.at.task) runs_now (ap (λ hs. (or_fresh (slice_get hs t)).begun) K.heaps ∙ still k) (ap (λ (z : Home). z.begun) G ∙ own k F)
-      (subst (λ (z : Value). FitsAt p s (part_for s t g 0) z (aside l')) (sym C) (subst (λ (j : Home). FitsAt p s (part_for s t j 0) v (aside l')) (sym G) (halt_fits p s v v l l' t w k h E F.fits K)))
+      (subst (λ (z : Memory). FitsAt p s (part_for s t g 0) z (aside l')) (sym C) (subst (λ (j : Home). FitsAt p s (part_for s t j 0) v (aside l')) (sym G) (halt_fits p s v v l l' t w k h E F.fits K)))
 
 pub ran_fits_then : RanFits
 ran_fits_then p s v v' l l' t w k h g E Q C G =

@@ -5,7 +5,7 @@ use Rattle.listed.proofs.Members.{got_same}
 use Rattle.object_layout.specs.declared.word.Addr.{Addr}
 use Rattle.object_layout.specs.Objects.{Located}
 use Rattle.hh_lang.specs.Form.{ProgramText}
-use Rattle.run_trace.specs.Settings.{Limits}
+use Rattle.run_trace.specs.Settings.{SettingsValue}
 use Rattle.hh_model.specs.declared.data.Name.{Name}
 use Rattle.hh_model.specs.declared.data.Object.{Object}
 use Rattle.hh_model.specs.declared.data.Status.TheVariants.{Running}
@@ -17,13 +17,13 @@ use Rattle.run_ledger.specs.declared.data.Ledger.{Ledger}
 use Rattle.run_ledger.specs.Heaps.{heap_of, or_fresh, let_go}
 use Rattle.run_ledger.specs.Steps.{task_steps}
 use Rattle.run_ledger.specs.Sound.{SoundLedger}
-use Rattle.ledger_steps.specs.Accounts.{Rests, StepsAlone, rested}
-use Rattle.ledger_steps.specs.Kinds.{onward_with}
-use Rattle.ledger_steps.specs.Last.{stepped_by}
-use Rattle.ledger_steps.proofs.Ahead.{with_machine, with_off}
-use Rattle.ledger_steps.proofs.Last.{rest_heaps}
-use Rattle.ledger_steps.proofs.Rested.{rested_worker, rested_sound}
-use Rattle.core_relation.specs.Value.{Home, Value, In, object_name, objects, objects_in, Lies}
+use Rattle.ledger_step_laws.specs.Accounts.{Rests, StepsAlone, rested}
+use Rattle.ledger_step_laws.specs.Kinds.{onward_with}
+use Rattle.ledger_step_laws.specs.Last.{stepped_by}
+use Rattle.ledger_step_laws.proofs.Ahead.{with_machine, with_off}
+use Rattle.ledger_step_laws.proofs.Last.{rest_heaps}
+use Rattle.ledger_step_laws.proofs.Rested.{rested_worker, rested_sound}
+use Rattle.core_relation.specs.Memory.{Home, Memory, In, object_name, objects, objects_in, Lies}
 use Rattle.core_relation.specs.Reads.{IsRead, FrameIsRead, FramesAreRead, HoldsRead, TaskIsRead}
 use Rattle.core_relation.specs.Stands.{Place}
 use Rattle.core_relation.specs.Fits.{FitsAt, with_home, part_for}
@@ -36,12 +36,12 @@ use Rattle.core_relation.specs.Makes.{StepsTo}
 use Rattle.core_relation.specs.WorkerLaws.{FramesGo, NumbersGo}
 use Rattle.hh_model.specs.declared.data.Frame.{Frame as ModelFrame}
 use Rattle.task_frames.specs.declared.frames.Frame.{Frame}
-use Rattle.ledger_steps.proofs.Along.{steps_know}
+use Rattle.ledger_step_laws.proofs.Along.{steps_know}
 use Rattle.core_relation.proofs.changes.Own.{place_own}
 use Rattle.core_relation.proofs.changes.Store.{goes_on}
 use Rattle.core_relation.proofs.changes.With.{at_home, off_home}
 
-module _ (p : ProgramText) (s : Limits) (t k : ℕ) (h : Home) (v : Value) (l l' : Ledger) (w : ℕ) (x : Task) (top : ModelFrame) (outs : List ℤ) (f gone : Frame) (fs : List Frame) (S : SoundLedger (task_steps p l t k)) (S' : SoundLedger l')
+module _ (p : ProgramText) (s : SettingsValue) (t k : ℕ) (h : Home) (v : Memory) (l l' : Ledger) (w : ℕ) (x : Task) (top : ModelFrame) (outs : List ℤ) (f gone : Frame) (fs : List Frame) (S : SoundLedger (task_steps p l t k)) (S' : SoundLedger l')
     (F : FitsAt p s (part_for s t h k) v l) (held : (heap_of (task_steps p l t k) t).worker ≡ Some w) (is : slice_get (task_steps p l t k).machine.tasks t ≡ Some x) (runs : x.status ≡ Running) (A : StepsAlone (task_steps p l t k) l' t)
     (goes : l' ≡ stepped_by (task_steps p l t k) (record (task_steps p l t k).machine { tasks = slice_set (task_steps p l t k).machine.tasks t (record x { top = top }); outputs = outs })) (frames : h.frames ≡ f ∷ fs)
     (reads : FrameIsRead (Place (with_home v t h) (rested (task_steps p l t k) t)) f x.top → FrameIsRead (Place (with_home v t h) (rested (task_steps p l t k) t)) gone top) where
@@ -51,10 +51,10 @@ module _ (p : ProgramText) (s : Limits) (t k : ℕ) (h : Home) (v : Value) (l l'
   abbrev g : Home
   g = record h { frames = gone ∷ fs }
 
-  abbrev vt : Value
+  abbrev vt : Memory
   vt = with_home v t h
 
-  abbrev vt' : Value
+  abbrev vt' : Memory
   vt' = with_home v t g
 
   abbrev lt : Ledger

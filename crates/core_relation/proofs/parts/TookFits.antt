@@ -2,8 +2,8 @@
 use Rattle.std.proofs.Common.{length, ◌≡◌, ℕ, Some, None, is_none, slice_get, inl, inr, refl, ap, sym, subst, ◌∙◌}
 use Rattle.std.proofs.lemmas.Bool.{and_parts, cases_eq}
 use Rattle.hh_lang.specs.Form.{ProgramText}
-use Rattle.run_trace.specs.Entry.{Event}
-use Rattle.run_trace.specs.Settings.{Limits}
+use Rattle.run_trace.specs.Entry.{EntryValue}
+use Rattle.run_trace.specs.Settings.{SettingsValue}
 use Rattle.run_trace.specs.declared.entry.Kind.TheVariants.{Took}
 use Rattle.hh_model.specs.Step.{is_running}
 use Rattle.hh_model.specs.declared.data.State.{State}
@@ -13,12 +13,12 @@ use Rattle.run_ledger.specs.Entries.{after, is_ready}
 use Rattle.run_ledger.specs.Journals.{ledger_of}
 use Rattle.run_ledger.proofs.Journals.{none_unless, entry_tells, legal_sound}
 use Rattle.run_ledger.proofs.Steps.{heap_of_task}
-use Rattle.ledger_steps.specs.Accounts.{Rests, rested}
-use Rattle.ledger_steps.proofs.Ahead.{heap_then, with_at}
-use Rattle.ledger_steps.proofs.Entries.{took_takes}
-use Rattle.ledger_steps.proofs.Rested.{rested_view}
-use Rattle.ledger_steps.proofs.Split.{legal_alive}
-use Rattle.core_relation.specs.Value.{Home, Value, objects_in}
+use Rattle.ledger_step_laws.specs.Accounts.{Rests, rested}
+use Rattle.ledger_step_laws.proofs.Ahead.{heap_then, with_at}
+use Rattle.ledger_step_laws.proofs.Entries.{took_takes}
+use Rattle.ledger_step_laws.proofs.Rested.{rested_view}
+use Rattle.ledger_step_laws.proofs.Split.{legal_alive}
+use Rattle.core_relation.specs.Memory.{Home, Memory, objects_in}
 use Rattle.core_relation.specs.Fits.{Part, FitsAt, part_for, ahead, with_home}
 use Rattle.core_relation.specs.Changes.{SameBut}
 use Rattle.core_relation.specs.Copies.{PartFits}
@@ -35,7 +35,7 @@ use Rattle.core_relation.proofs.changes.With.{at_home, off_home}
 use Rattle.core_relation.proofs.parts.WorkersPast.{none_at}
 
 -- what the value has in the part's place doesn't matter
-module _ (p : ProgramText) (s : Limits) (q : Part) (v v' : Value) (l : Ledger) (C : SameBut v v' q.task) (F : FitsAt p s q v l) where
+module _ (p : ProgramText) (s : SettingsValue) (q : Part) (v v' : Memory) (l : Ledger) (C : SameBut v v' q.task) (F : FitsAt p s q v l) where
   abbrev k : Ledger
   k = ahead p q l
 
@@ -68,7 +68,7 @@ module _ (p : ProgramText) (s : Limits) (q : Part) (v v' : Value) (l : Ledger) (
 
 pub took_fits_then : TookFits
 took_fits_then p s journal legal v v' c w t accepted handed C =
-    let e : Event = record { worker = w; kind = Took t } in
+    let e : EntryValue = record { worker = w; kind = Took t } in
     let l : Ledger = ledger_of p s journal in
     let l' : Ledger = after p s l e in
     let q : Part = part_for s t (v.homes t) 0 in

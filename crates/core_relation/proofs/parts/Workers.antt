@@ -3,20 +3,20 @@ use Rattle.std.proofs.Common.{◌≡◌, ℕ, true, Option, Some, None, slice_ge
 use Rattle.hh_lang.specs.declared.instr.Instr.{Instr}
 use Rattle.hh_lang.specs.declared.instr.Instr.TheVariants.{Set, Mov, Movr, Nil as NilOf, Calc, Same, Jmp, Jz, Newm, Pack, Getr, Geti, Putr, Puti, Cntr, Cnti, Freeze, Cas, Call, Par, Ret, Out}
 use Rattle.hh_lang.specs.Form.{ProgramText}
-use Rattle.run_trace.specs.Settings.{Limits}
+use Rattle.run_trace.specs.Settings.{SettingsValue}
 use Rattle.hh_model.specs.declared.data.State.{State}
 use Rattle.hh_model.specs.Step.{can_step, goes_on, is_joined, is_running, is_waiting, runs}
 use Rattle.hh_model.proofs.Runs.{running_tells}
-use Rattle.ledger_steps.proofs.Tree.{leaf_alone}
+use Rattle.ledger_step_laws.proofs.Tree.{leaf_alone}
 use Rattle.run_ledger.specs.declared.data.Ledger.{Ledger}
 use Rattle.run_ledger.specs.Heaps.{heap_of, or_fresh}
 use Rattle.run_ledger.specs.Steps.{task_steps}
 use Rattle.run_ledger.specs.Sound.{collecting}
-use Rattle.ledger_steps.specs.Accounts.{AlikeFor, ArePrivate, Knows, aside}
-use Rattle.ledger_steps.specs.Last.{WritesOther, LastKind, Private, Reading, Writing, Printing, Forking, Ending, Joining, Finishing, Halting, IsOfKind, GoesOn, Halts, Runs, Splits}
-use Rattle.ledger_steps.proofs.Ahead.{SameOf, steps_alone_all}
-use Rattle.ledger_steps.proofs.Along.{alike_steps, steps_know, steps_limit, steps_end, steps_off}
-use Rattle.core_relation.specs.Value.{Home, Value}
+use Rattle.ledger_step_laws.specs.Accounts.{AlikeFor, ArePrivate, Knows, aside}
+use Rattle.ledger_step_laws.specs.Last.{WritesOther, LastKind, Private, Reading, Writing, Printing, Forking, Ending, Joining, Finishing, Halting, IsOfKind, GoesOn, Halts, Runs, Splits}
+use Rattle.ledger_step_laws.proofs.Ahead.{SameOf, steps_alone_all}
+use Rattle.ledger_step_laws.proofs.Along.{alike_steps, steps_know, steps_limit, steps_end, steps_off}
+use Rattle.core_relation.specs.Memory.{Home, Memory}
 use Rattle.core_relation.specs.Fits.{Part, FitsAt, part_for, ahead}
 use Rattle.core_relation.specs.Frames.{AreOut, IsOut, IsSteady}
 use Rattle.core_relation.specs.Copies.{PartFits}
@@ -31,12 +31,12 @@ use Rattle.core_relation.proofs.parts.Leave.{held_then}
 use Rattle.core_relation.proofs.parts.Parts.{ahead_same}
 use Rattle.core_relation.proofs.parts.Quiet.{aside_is}
 use Rattle.core_relation.proofs.parts.Ran as ran
-use Rattle.ledger_steps.proofs.Root.{root_alone}
+use Rattle.ledger_step_laws.proofs.Root.{root_alone}
 
 none_some : {A B : Type 0} {x : A} → ◌≡◌ {A = Option A} None (Some x) → B
 none_some e = absurd cc
 
-module _ (p : ProgramText) (s : Limits) (r : Part) (v : Value) (l : Ledger) (on : l.machine.end ≡ None) (F : Fits p s r v l) where
+module _ (p : ProgramText) (s : SettingsValue) (r : Part) (v : Memory) (l : Ledger) (on : l.machine.end ≡ None) (F : Fits p s r v l) where
   -- by the accounts as they are
   pub part_now : PartFits p s r v l
   part_now = subst (PartFits p s r v) (aside_is l on) F.part
@@ -47,7 +47,7 @@ module _ (p : ProgramText) (s : Limits) (r : Part) (v : Value) (l : Ledger) (on 
   pub out : IsOut l r F.task
   out = record { task = F.is; runs = F.runs; can = can; steady = F.steady }
 
-  pub to : (v' : Value) (l' : Ledger) → slice_get l'.machine.tasks r.task ≡ Some F.task → IsSteady r l' → ((k : ℕ) → v.owner k ≡ Some r.task → v'.owner k ≡ Some r.task)
+  pub to : (v' : Memory) (l' : Ledger) → slice_get l'.machine.tasks r.task ≡ Some F.task → IsSteady r l' → ((k : ℕ) → v.owner k ≡ Some r.task → v'.owner k ≡ Some r.task)
       → heap_of (ahead p r (aside l')) r.task ≡ heap_of (ahead p r l) r.task → FitsAt p s r v' (aside l') → Fits p s r v' l'
   to v' l' is steady owner heap fits = record { task = F.task; is = is; runs = F.runs; steady = steady; part = part_stays p s r v v' l (aside l') owner heap fits part_now; leaf = F.leaf; fields = F.fields }
 
@@ -59,7 +59,7 @@ module _ (p : ProgramText) (s : Limits) (r : Part) (v : Value) (l : Ledger) (on 
       by (inr c) = inr (ap collecting e ∙ c)
 
   -- where the machine and the account of its heap stay
-  pub to_same : (v' : Value) (l' : Ledger) → l'.machine ≡ l.machine → slice_get l'.heaps r.task ≡ slice_get l.heaps r.task → ((k : ℕ) → v.owner k ≡ Some r.task → v'.owner k ≡ Some r.task) → FitsAt p s r v' l' → Fits p s r v' l'
+  pub to_same : (v' : Memory) (l' : Ledger) → l'.machine ≡ l.machine → slice_get l'.heaps r.task ≡ slice_get l.heaps r.task → ((k : ℕ) → v.owner k ≡ Some r.task → v'.owner k ≡ Some r.task) → FitsAt p s r v' l' → Fits p s r v' l'
   to_same v' l' m h owner fits =
       let on' : l'.machine.end ≡ None = ap (λ (z : State). z.end) m ∙ on in
       let same = ahead_same p s r l l' (record { machine = m; heap = h }) part_now.fits.private in
@@ -68,7 +68,7 @@ module _ (p : ProgramText) (s : Limits) (r : Part) (v : Value) (l : Ledger) (on 
 
 -- AN ENTRY OF STEPS
 
-module _ (p : ProgramText) (s : Limits) (v v' : Value) (l l' : Ledger) (t w k : ℕ) (h : Home) (E : Runs p s l l' t w k) (r : Part) (ne : t ≡ r.task → ⊥) (R : Fits p s r v l) where
+module _ (p : ProgramText) (s : SettingsValue) (v v' : Memory) (l l' : Ledger) (t w k : ℕ) (h : Home) (E : Runs p s l l' t w k) (r : Part) (ne : t ≡ r.task → ⊥) (R : Fits p s r v l) where
   abbrev m : Ledger
   m = task_steps p l t k
 
@@ -129,17 +129,17 @@ module _ (p : ProgramText) (s : Limits) (v v' : Value) (l l' : Ledger) (t w k : 
   owner_writes W (Out a) C = absurd C
 
   owner_by : (kind : LastKind) (K : IsOfKind p m l' t S.task S.line kind) → FitsAt p s (part_for s t h (taken_by kind k)) v l → Makes p v v' m l' t h S.task S.line kind K → (i : ℕ) → v.owner i ≡ Some r.task → v'.owner i ≡ Some r.task
-  owner_by Private K F C i o = ap (λ (z : Value). z.owner i) C ∙ o
-  owner_by Reading K F C i o = ap (λ (z : Value). z.owner i) C ∙ o
+  owner_by Private K F C i o = ap (λ (z : Memory). z.owner i) C ∙ o
+  owner_by Reading K F C i o = ap (λ (z : Memory). z.owner i) C ∙ o
   owner_by Writing K F C i o = owner_writes K S.line.instr C i ∙ o
-  owner_by Printing K F C i o = ap (λ (z : Value). z.owner i) C ∙ o
+  owner_by Printing K F C i o = ap (λ (z : Memory). z.owner i) C ∙ o
   owner_by Forking K F C i o = C.owner i ∙ o
   owner_by Ending K F C i o = C.2.owner i ∙ o
   owner_by Joining K F C i o =
       let A : AreOut l (part_for s t h k) r E.task R.task = record { first = record { task = E.at; runs = E.runs; can = E.can; steady = inr E.collects }; second = P; apart = ne } in
       C.2.owners i r.task (held_then p s (part_for s t h k) r v l l' E.task R.task E.knows F G A K.left K.can.left_rests) (held_then p s (part_for s t h k) r v l l' E.task R.task E.knows F G A (K.left + 1) K.can.right_rests) o
   owner_by Finishing K F C i o = C.2.owner i ∙ o
-  owner_by Halting K F C i o = ap (λ (z : Value). z.owner i) C ∙ o
+  owner_by Halting K F C i o = ap (λ (z : Memory). z.owner i) C ∙ o
 
   -- what is left of the machine by a halt
   halted : Halts m l' → SameOf r.task m (aside l')

@@ -3,8 +3,8 @@ use Rattle.std.proofs.Common.{◌≡◌, ℕ, true, false, Option, Some, None, i
 use Rattle.std.proofs.lemmas.Bool.{and_parts}
 use Rattle.std.proofs.Common.{length}
 use Rattle.hh_lang.specs.Form.{ProgramText}
-use Rattle.run_trace.specs.Entry.{Event}
-use Rattle.run_trace.specs.Settings.{Limits}
+use Rattle.run_trace.specs.Entry.{EntryValue}
+use Rattle.run_trace.specs.Settings.{SettingsValue}
 use Rattle.run_trace.specs.declared.entry.Kind.TheVariants.{Took, Sweep, End as EndOf}
 use Rattle.hh_model.specs.declared.data.State.{State}
 use Rattle.hh_model.specs.Store.{IsStored}
@@ -18,12 +18,12 @@ use Rattle.run_ledger.specs.Journals.{ledger_of, is_legal}
 use Rattle.run_ledger.proofs.Journals.{none_unless, entry_sound, entry_tells, wait_tells, legal_sound}
 use Rattle.run_ledger.specs.Sound.{SoundLedger}
 use Rattle.run_ledger.proofs.Steps.{heap_of_task}
-use Rattle.ledger_steps.specs.Accounts.{Rests, Knows}
-use Rattle.ledger_steps.proofs.Ahead.{with_off}
-use Rattle.ledger_steps.proofs.Entries.{took_takes, sweep_changes, end_changes}
-use Rattle.ledger_steps.proofs.Known.{legal_knows}
-use Rattle.ledger_steps.proofs.Split.{legal_alive, legal_idle}
-use Rattle.core_relation.specs.Value.{Value}
+use Rattle.ledger_step_laws.specs.Accounts.{Rests, Knows}
+use Rattle.ledger_step_laws.proofs.Ahead.{with_off}
+use Rattle.ledger_step_laws.proofs.Entries.{took_takes, sweep_changes, end_changes}
+use Rattle.ledger_step_laws.proofs.Known.{legal_knows}
+use Rattle.ledger_step_laws.proofs.Split.{legal_alive, legal_idle}
+use Rattle.core_relation.specs.Memory.{Memory}
 use Rattle.core_relation.specs.Fits.{Part, FitsAt}
 use Rattle.core_relation.specs.Worker.{Fits}
 use Rattle.core_relation.specs.WorkerLaws.{TookLeaves, QuietLeaves, SweepsLeave, EndsLeave}
@@ -45,7 +45,7 @@ knows_same l l' e S K = record {
   rows = subst (λ (m : State). length m.store ≡ length m.tasks) (sym e) K.rows;
 }
 
-module _ (p : ProgramText) (s : Limits) (journal : List Event) (legal : is_legal p s journal ≡ true) (e : Event) (accepted : refusal p s (ledger_of p s journal) e ≡ None) where
+module _ (p : ProgramText) (s : SettingsValue) (journal : List EntryValue) (legal : is_legal p s journal ≡ true) (e : EntryValue) (accepted : refusal p s (ledger_of p s journal) e ≡ None) where
   abbrev l : Ledger
   l = ledger_of p s journal
 
@@ -61,7 +61,7 @@ module _ (p : ProgramText) (s : Limits) (journal : List Event) (legal : is_legal
   alive : l.machine.end ≡ None
   alive = legal_alive p s journal legal on
 
-  module _ (v : Value) (r : Part) (R : Fits p s r v l) where
+  module _ (v : Memory) (r : Part) (R : Fits p s r v l) where
     abbrev G : FitsAt p s r v l
     G = (part_now p s r v l alive R).fits
 
@@ -78,7 +78,7 @@ none_at (Some w) h = absurd cc
 
 pub took_leaves : TookLeaves
 took_leaves p s journal legal v v' w t accepted C r R =
-    let e : Event = record { worker = w; kind = Took t } in
+    let e : EntryValue = record { worker = w; kind = Took t } in
     let l : Ledger = ledger_of p s journal in
     let S = legal_sound p s journal legal in
     let ready = (none_unless (is_ready l t) _ _ (entry_tells p s l e (ap is_none accepted)).2).0 in
@@ -103,7 +103,7 @@ quiet_leaves p s journal legal v v' e accepted quiet C r ne R =
 
 pub sweeps_leave : SweepsLeave
 sweeps_leave p s journal legal v v' w t given accepted C r R =
-    let e : Event = record { worker = w; kind = Sweep t given } in
+    let e : EntryValue = record { worker = w; kind = Sweep t given } in
     let l : Ledger = ledger_of p s journal in
     let alive = alive p s journal legal e accepted in
     let wait = (wait_tells l t _ (entry_tells p s l e (ap is_none accepted)).2).0 in
@@ -116,7 +116,7 @@ sweeps_leave p s journal legal v v' w t given accepted C r R =
 
 pub ends_leave : EndsLeave
 ends_leave p s journal legal v v' w t taken given left h h' f accepted K E r ne R =
-    let e : Event = record { worker = w; kind = EndOf t taken given left } in
+    let e : EntryValue = record { worker = w; kind = EndOf t taken given left } in
     let l : Ledger = ledger_of p s journal in
     let alive = alive p s journal legal e accepted in
     let held = none_unless (is_out l w t) _ _ (entry_tells p s l e (ap is_none accepted)).2 in

@@ -2,8 +2,8 @@
 use Rattle.std.proofs.Common.{◌≡◌, ℕ, ◌+◌, Bool, true, false, Option, Some, None, List, [], ◌∷◌, ◌++◌, cond, slice_get, nat_lt, option_map, is_none, inl, inr, refl, ap, ap₂, sym, subst, ◌∙◌, arith}
 use Rattle.std.proofs.lemmas.Bool.{cases_eq, and_parts}
 use Rattle.hh_lang.specs.Form.{ProgramText, IsProgram}
-use Rattle.run_trace.specs.Settings.{Limits}
-use Rattle.run_trace.specs.Entry.{Event}
+use Rattle.run_trace.specs.Settings.{SettingsValue}
+use Rattle.run_trace.specs.Entry.{EntryValue}
 use Rattle.run_trace.specs.declared.entry.Kind.{Kind}
 use Rattle.run_trace.specs.declared.entry.Kind.TheVariants.{Took, Ran, Chunk, Begin, End as EndOf, PutOff, Mark, More, Sweep, Fuel}
 use Rattle.hh_model.specs.declared.data.Status.{Status}
@@ -20,10 +20,10 @@ use Rattle.run_ledger.specs.Entries.{refusal, after, after_kind, chunk_units, wi
 use Rattle.run_ledger.specs.Journals.{ledger_of, is_legal}
 use Rattle.run_ledger.proofs.Journals.{none_unless, entry_tells, legal_sound}
 use Rattle.run_ledger.proofs.Steps.{heap_of_task}
-use Rattle.ledger_steps.specs.Accounts.{SameTasks, Takes}
+use Rattle.ledger_step_laws.specs.Accounts.{SameTasks, Takes}
 use Rattle.run_ledger.specs.Use.{ChunkGoes, UseGoes}
 use Rattle.run_ledger.proofs.Weights.{total, total_set}
-use Rattle.ledger_steps.proofs.Entries.{same_tasks, took_takes}
+use Rattle.ledger_step_laws.proofs.Entries.{same_tasks, took_takes}
 use Rattle.run_ledger.proofs.Use.{entries_use}
 use Rattle.core_relation.proofs.whole.Hands.{none_held}
 use Rattle.std.proofs.lemmas.Option.{same_Some}
@@ -150,7 +150,7 @@ not_holding : (o : Option ℕ) → is_none (refused_holding o None) ≡ true →
 not_holding None h = refl
 not_holding (Some t) h = absurd cc
 
-module _ (p : ProgramText) (s : Limits) (journal : List Event) (program : IsProgram p) (legal : is_legal p s journal ≡ true) (c c' : Totals) (T : TotalsStand c (ledger_of p s journal)) where
+module _ (p : ProgramText) (s : SettingsValue) (journal : List EntryValue) (program : IsProgram p) (legal : is_legal p s journal ≡ true) (c c' : Totals) (T : TotalsStand c (ledger_of p s journal)) where
   abbrev l : Ledger
   l = ledger_of p s journal
 
@@ -181,5 +181,5 @@ module _ (p : ProgramText) (s : Limits) (journal : List Event) (program : IsProg
   by_kind w (Sweep t g) h U C = heap_totals c c' l t swept_heap (λ g. refl) (λ g. refl) C.0 (let x : c'.used + g ≡ c.used = C.1 in let y : in_use (with_heap l t swept_heap) + g ≡ in_use l = U in let z : c.used ≡ in_use l = T.used in omega (arith, x, y, z)) C.2 T
   by_kind w Fuel h U C = same_totals c c' l (after_kind p s l w Fuel) (same_itself l (after_kind p s l w Fuel) refl refl) refl C.0 (C.1 ∙ T.used) (C.2 ∙ ap (λ k. Some (FuelEnd k)) T.steps) T
 
-  pub counts_stand : (e : Event) → refusal p s l e ≡ None → CountsGo p s l c c' e.worker e.kind → TotalsStand c' (after p s l e)
+  pub counts_stand : (e : EntryValue) → refusal p s l e ≡ None → CountsGo p s l c c' e.worker e.kind → TotalsStand c' (after p s l e)
   counts_stand e accepted C = by_kind e.worker e.kind (ap is_none accepted) (entries_use p s journal e program legal accepted) C

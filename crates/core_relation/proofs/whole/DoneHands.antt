@@ -3,7 +3,7 @@ use Rattle.std.proofs.Common.{◌≡◌, ℕ, Bool, true, false, Option, Some, N
 use Rattle.std.proofs.lemmas.Bool.{cases_eq}
 use Rattle.std.proofs.lemmas.Option.{same_Some}
 use Rattle.hh_lang.specs.Form.{ProgramText}
-use Rattle.run_trace.specs.Settings.{Limits}
+use Rattle.run_trace.specs.Settings.{SettingsValue}
 use Rattle.hh_model.specs.declared.data.End.{End}
 use Rattle.hh_model.specs.declared.data.End.TheVariants.{Done}
 use Rattle.hh_model.specs.declared.data.State.{State}
@@ -12,12 +12,12 @@ use Rattle.hh_model.specs.Step.{is_running, runs}
 use Rattle.run_ledger.specs.declared.data.Ledger.{Ledger}
 use Rattle.run_ledger.specs.Heaps.{or_fresh, let_go}
 use Rattle.run_ledger.specs.Steps.{task_steps}
-use Rattle.ledger_steps.specs.Accounts.{Rests, rested}
-use Rattle.ledger_steps.specs.Last.{EndsDone, LastKind, Private, Reading, Writing, Printing, Forking, Ending, Joining, Finishing, Halting, IsOfKind, GoesOn, Runs}
-use Rattle.ledger_steps.proofs.Ahead.{with_off}
-use Rattle.ledger_steps.proofs.Along.{steps_know}
-use Rattle.ledger_steps.proofs.Rested.{rested_worker}
-use Rattle.ledger_steps.proofs.Root.{root_alone}
+use Rattle.ledger_step_laws.specs.Accounts.{Rests, rested}
+use Rattle.ledger_step_laws.specs.Last.{EndsDone, LastKind, Private, Reading, Writing, Printing, Forking, Ending, Joining, Finishing, Halting, IsOfKind, GoesOn, Runs}
+use Rattle.ledger_step_laws.proofs.Ahead.{with_off}
+use Rattle.ledger_step_laws.proofs.Along.{steps_know}
+use Rattle.ledger_step_laws.proofs.Rested.{rested_worker}
+use Rattle.ledger_step_laws.proofs.Root.{root_alone}
 use Rattle.core_relation.specs.Whole.{handed}
 use Rattle.core_relation.specs.EntryLaws.{DoneHandsAll}
 use Rattle.core_relation.proofs.whole.HandedBack.{handed_done}
@@ -25,7 +25,7 @@ use Rattle.core_relation.proofs.whole.HandedBack.{handed_done}
 none_some : {A : Type 0} {e : End} → ◌≡◌ {A = Option End} None (Some e) → A
 none_some e = absurd cc
 
-module _ (p : ProgramText) (s : Limits) (l l' : Ledger) (t w k : ℕ) (E : Runs p s l l' t w k) (done : l'.machine.end ≡ Some Done) where
+module _ (p : ProgramText) (s : SettingsValue) (l l' : Ledger) (t w k : ℕ) (E : Runs p s l l' t w k) (done : l'.machine.end ≡ Some Done) where
   abbrev m : Ledger
   m = task_steps p l t k
 

@@ -1,7 +1,7 @@
 -- The value before any entry stands for the first accounts.
 use Rattle.std.proofs.Common.{◌≡◌, ℕ, zero, suc, true, Option, Some, None, slice_get, option_map, replicate, refl, sym, subst, ◌∙◌}
 use Rattle.hh_lang.specs.Form.{ProgramText}
-use Rattle.run_trace.specs.Settings.{Limits}
+use Rattle.run_trace.specs.Settings.{SettingsValue}
 use Rattle.hh_model.specs.Step.{is_waiting, root}
 use Rattle.run_ledger.specs.Journals.{opening}
 use Rattle.std.proofs.lemmas.Bool.{false≢true}
@@ -10,9 +10,9 @@ use Rattle.object_layout.specs.declared.word.Addr.{Addr}
 use Rattle.object_layout.specs.Objects.{Located}
 use Rattle.hh_model.specs.declared.data.Name.{Name}
 use Rattle.hh_model.specs.declared.data.Task.{Task}
-use Rattle.core_relation.specs.Value.{In, objects}
+use Rattle.core_relation.specs.Memory.{In, objects}
 use Rattle.core_relation.specs.Reads.{AllRead, TaskIsRead}
-use Rattle.ledger_steps.specs.Accounts.{Rests}
+use Rattle.ledger_step_laws.specs.Accounts.{Rests}
 use Rattle.core_relation.specs.Stands.{Place, HomeStands, Stands}
 pub use Rattle.core_relation.specs.First.{first}
 use Rattle.core_relation.specs.First.{first_totals}
@@ -31,7 +31,7 @@ nils at (suc n) = (tt, nils at n)
 none_some : {A : Type 0} {t : ℕ} → ◌≡◌ {A = Option ℕ} None (Some t) → A
 none_some e = absurd cc
 
-pub first_stands : (p : ProgramText) (s : Limits) → Stands (first p) (opening p s)
+pub first_stands : (p : ProgramText) (s : SettingsValue) → Stands (first p) (opening p s)
 first_stands p s = record {
   made = λ k t e. none_some e;
   homes = λ t r. home t;
@@ -83,7 +83,7 @@ first_stands p s = record {
 
 -- THE WHOLE
 
-first_tree : (p : ProgramText) (s : Limits) → TotalsStand first_totals (opening p s)
+first_tree : (p : ProgramText) (s : SettingsValue) → TotalsStand first_totals (opening p s)
 first_tree p s = record {
   node = node;
   hand = λ w t. ((λ e. none_some e), (λ e. none_some (sym (worker t) ∙ e)));

@@ -3,8 +3,8 @@ use Rattle.std.proofs.Common.{◌≡◌, ◌&&◌, not, ℕ, true, false, Option
 use Rattle.std.proofs.lemmas.Bool.{false≢true, cases_eq, and_parts, and_from}
 use Rattle.object_layout.specs.declared.word.Addr.{Addr}
 use Rattle.hh_lang.specs.Form.{ProgramText, IsProgram}
-use Rattle.run_trace.specs.Settings.{Limits}
-use Rattle.run_trace.specs.Entry.{Event}
+use Rattle.run_trace.specs.Settings.{SettingsValue}
+use Rattle.run_trace.specs.Entry.{EntryValue}
 use Rattle.run_trace.specs.declared.entry.Kind.TheVariants.{Took, End as EndOf, Sweep}
 use Rattle.hh_model.specs.declared.data.Status.{Status}
 use Rattle.hh_model.specs.declared.data.Status.TheVariants.{Running, Waiting, Ended, Joined}
@@ -23,13 +23,13 @@ use Rattle.run_ledger.proofs.Holders.{tasks_are_held_once}
 use Rattle.run_ledger.proofs.Journals.{none_unless, entry_tells, wait_tells, legal_sound}
 use Rattle.run_ledger.specs.Sound.{SoundLedger}
 use Rattle.run_ledger.proofs.Steps.{heap_of_task}
-use Rattle.ledger_steps.specs.Accounts.{Rests, StepsAlone, Takes, rested}
-use Rattle.ledger_steps.proofs.Ahead.{with_at, with_machine, heap_then}
-use Rattle.ledger_steps.proofs.Entries.{took_takes, sweep_changes, end_changes}
-use Rattle.ledger_steps.proofs.Known.{legal_knows}
-use Rattle.ledger_steps.proofs.Split.{legal_alive, legal_idle}
+use Rattle.ledger_step_laws.specs.Accounts.{Rests, StepsAlone, Takes, rested}
+use Rattle.ledger_step_laws.proofs.Ahead.{with_at, with_machine, heap_then}
+use Rattle.ledger_step_laws.proofs.Entries.{took_takes, sweep_changes, end_changes}
+use Rattle.ledger_step_laws.proofs.Known.{legal_knows}
+use Rattle.ledger_step_laws.proofs.Split.{legal_alive, legal_idle}
 use Rattle.task_machine.specs.declared.part.Begun.{Begun}
-use Rattle.core_relation.specs.Value.{Home, Value}
+use Rattle.core_relation.specs.Memory.{Home, Memory}
 use Rattle.core_relation.specs.Stands.{Stands}
 use Rattle.core_relation.specs.Since.{AllNoted, MarksOn, NotesStay, OthersNotes}
 use Rattle.core_relation.specs.Changes.{SameBut, SameObjects, KeepsJust}
@@ -51,13 +51,13 @@ use Rattle.core_relation.proofs.whole.Together.{whole_stands, whole_notes, copie
 
 -- ONE ENTRY MORE is legal
 
-pub legal_more : (p : ProgramText) (s : Limits) (e : Event) (journal : List Event) (l : Ledger) → is_legal_from p s l journal ≡ true → is_none (refusal p s (after_all p s l journal) e) ≡ true → is_legal_from p s l (journal ++ e ∷ []) ≡ true
+pub legal_more : (p : ProgramText) (s : SettingsValue) (e : EntryValue) (journal : List EntryValue) (l : Ledger) → is_legal_from p s l journal ≡ true → is_none (refusal p s (after_all p s l journal) e) ≡ true → is_legal_from p s l (journal ++ e ∷ []) ≡ true
 legal_more p s e [] l h r = and_from (is_none (refusal p s l e)) true r refl
 legal_more p s e (d ∷ journal) l h r =
     let both = and_parts (is_none (refusal p s l d)) (is_legal_from p s (after p s l d) journal) h in
     and_from (is_none (refusal p s l d)) (is_legal_from p s (after p s l d) (journal ++ e ∷ [])) both.0 (legal_more p s e journal (after p s l d) both.1 r)
 
-pub after_more : (p : ProgramText) (s : Limits) (e : Event) (journal : List Event) (l : Ledger) → after_all p s l (journal ++ e ∷ []) ≡ after p s (after_all p s l journal) e
+pub after_more : (p : ProgramText) (s : SettingsValue) (e : EntryValue) (journal : List EntryValue) (l : Ledger) → after_all p s l (journal ++ e ∷ []) ≡ after p s (after_all p s l journal) e
 after_more p s e [] l = refl
 after_more p s e (d ∷ journal) l = after_more p s e journal (after p s l d)
 
@@ -66,10 +66,10 @@ idle_by : (o k : Option ℕ) → (is_some o ≡ true → is_some k ≡ true) →
 idle_by None k f e = refl
 idle_by (Some b) k f e = absurd (false≢true (ap is_some (sym e) ∙ f refl))
 
-pub legal_rests : (p : ProgramText) (s : Limits) (journal : List Event) → is_legal p s journal ≡ true → (t : ℕ) → Rests (ledger_of p s journal) t → (heap_of (ledger_of p s journal) t).begun ≡ None
+pub legal_rests : (p : ProgramText) (s : SettingsValue) (journal : List EntryValue) → is_legal p s journal ≡ true → (t : ℕ) → Rests (ledger_of p s journal) t → (heap_of (ledger_of p s journal) t).begun ≡ None
 legal_rests p s journal legal t r = idle_by (heap_of (ledger_of p s journal) t).begun (heap_of (ledger_of p s journal) t).worker ((tasks_are_held_once p s journal legal).collecting t) r
 
-pub home_rests : (v : Value) (l : Ledger) (t : ℕ) (o : Option Begun) → BegunBy v l t o → (heap_of l t).begun ≡ None → o ≡ None
+pub home_rests : (v : Memory) (l : Ledger) (t : ℕ) (o : Option Begun) → BegunBy v l t o → (heap_of l t).begun ≡ None → o ≡ None
 home_rests v l t None B e = refl
 home_rests v l t (Some b) B e = absurd (none_some (sym e ∙ B.few))
   where
@@ -117,19 +117,19 @@ takes_alone l l' t w L = record {
   store = λ n ne. ap (λ (m : Machine). object_at m.store n) L.machine;
 }
 
-module _ (p : ProgramText) (s : Limits) (journal : List Event) (program : IsProgram p) (legal : is_legal p s journal ≡ true) (v v' : Value) (c c' : Totals) where
+module _ (p : ProgramText) (s : SettingsValue) (journal : List EntryValue) (program : IsProgram p) (legal : is_legal p s journal ≡ true) (v v' : Memory) (c c' : Totals) where
   abbrev l : Ledger
   l = ledger_of p s journal
 
   S : SoundLedger l
   S = legal_sound p s journal legal
 
-  pub rests_then : (e : Event) → refusal p s l e ≡ None → (t : ℕ) → Rests (after p s l e) t → (heap_of (after p s l e) t).begun ≡ None
+  pub rests_then : (e : EntryValue) → refusal p s l e ≡ None → (t : ℕ) → Rests (after p s l e) t → (heap_of (after p s l e) t).begun ≡ None
   rests_then e accepted = subst (λ (k : Ledger). (t : ℕ) → Rests k t → (heap_of k t).begun ≡ None) (after_more p s e journal (opening p s))
       (legal_rests p s (journal ++ e ∷ []) (legal_more p s e journal (opening p s) legal (ap is_none accepted)))
 
   -- from its parts
-  pub put_together : (e : Event) → refusal p s l e ≡ None → StandsFor v c l → Stands v' (after p s l e) → AllNoted v' (after p s l e) → ((u : ℕ) → Rests (after p s l e) u → Rests l u) → ((u : ℕ) → Rests (after p s l e) u → (v'.homes u).begun ≡ (v.homes u).begun) → CountsGo p s l c c' e.worker e.kind → StandsFor v' c' (after p s l e)
+  pub put_together : (e : EntryValue) → refusal p s l e ≡ None → StandsFor v c l → Stands v' (after p s l e) → AllNoted v' (after p s l e) → ((u : ℕ) → Rests (after p s l e) u → Rests l u) → ((u : ℕ) → Rests (after p s l e) u → (v'.homes u).begun ≡ (v.homes u).begun) → CountsGo p s l c c' e.worker e.kind → StandsFor v' c' (after p s l e)
   put_together e accepted W V' N' back begun C =
       whole_stands v' c' (after p s l e) V' (counts_stand p s journal program legal c c' W.totals e accepted C) (rests_then e accepted)
       (λ u r. begun u r ∙ home_rests v l u (v.homes u).begun (W.begun u (back u r)) (legal_rests p s journal legal u (back u r))) N'
@@ -151,7 +151,7 @@ module _ (p : ProgramText) (s : Limits) (journal : List Event) (program : IsProg
       none_some : {k : ℕ} → ◌≡◌ {A = Option ℕ} None (Some k) → ⊥
       none_some q = absurd cc
 
-  pub quiet_stands_for : (e : Event) → refusal p s l e ≡ None → IsQuiet e.kind → StandsFor v c l → SameObjects v v' l (after p s l e)
+  pub quiet_stands_for : (e : EntryValue) → refusal p s l e ≡ None → IsQuiet e.kind → StandsFor v c l → SameObjects v v' l (after p s l e)
       → ((u : ℕ) → (IsMarked e.kind u → ⊥) → NotesStay v v' u) → ((u : ℕ) → IsMarked e.kind u → MarksOn v v' (after p s l e) u) → CountsGo p s l c c' e.worker e.kind → StandsFor v' c' (after p s l e)
   quiet_stands_for e accepted quiet W B N M C =
       let Q = quiet_by p s l e.worker e.kind quiet in
@@ -167,7 +167,7 @@ module _ (p : ProgramText) (s : Limits) (journal : List Event) (program : IsProg
   pub sweeps_stand_for : (w t given : ℕ) → refusal p s l (record { worker = w; kind = Sweep t given }) ≡ None → StandsFor v c l → KeepsJust v v' l (after p s l (record { worker = w; kind = Sweep t given })) t (heap_of l t).snapshot → OthersNotes v v' t
       → (v'.homes t).begun ≡ None → CountsGo p s l c c' w (Sweep t given) → StandsFor v' c' (after p s l (record { worker = w; kind = Sweep t given }))
   sweeps_stand_for w t given accepted W B N begun C =
-      let e : Event = record { worker = w; kind = Sweep t given } in
+      let e : EntryValue = record { worker = w; kind = Sweep t given } in
       let wait = (wait_tells l t _ (entry_tells p s l e (ap is_none accepted)).2).0 in
       let marked = (none_unless (is_some (heap_of l t).marked) _ _ (wait_tells l t _ (entry_tells p s l e (ap is_none accepted)).2).2).0 in
       let L = sweep_changes l t in
@@ -186,7 +186,7 @@ module _ (p : ProgramText) (s : Limits) (journal : List Event) (program : IsProg
   pub ends_stand_for : (w t taken given left : ℕ) (h h' : Home) (f : Addr → Addr) → refusal p s l (record { worker = w; kind = EndOf t taken given left }) ≡ None → StandsFor v c l → CopyFits p s t h h' f v l → EndsAt v v' t h' f → h'.begun ≡ None → OthersNotes v v' t
       → CountsGo p s l c c' w (EndOf t taken given left) → StandsFor v' c' (after p s l (record { worker = w; kind = EndOf t taken given left }))
   ends_stand_for w t taken given left h h' f accepted W K E none N C =
-      let e : Event = record { worker = w; kind = EndOf t taken given left } in
+      let e : EntryValue = record { worker = w; kind = EndOf t taken given left } in
       let tells = entry_tells p s l e (ap is_none accepted) in
       let r = none_unless (is_out l w t) _ _ tells.2 in
       let run = (and_parts (is_running (slice_get l.machine.tasks t)) _ r.0).0 in

@@ -5,7 +5,7 @@ use Rattle.std.proofs.lemmas.Option.{same_Some}
 use Rattle.std.specs.Prelude.{◌↔◌}
 use Rattle.listed.proofs.Members.{got_same, got_other}
 use Rattle.hh_lang.specs.Form.{ProgramText}
-use Rattle.run_trace.specs.Settings.{Limits}
+use Rattle.run_trace.specs.Settings.{SettingsValue}
 use Rattle.hh_model.specs.declared.data.Status.{Status}
 use Rattle.hh_model.specs.declared.data.Status.TheVariants.{Running, Waiting, Ended, Joined}
 use Rattle.hh_model.specs.declared.data.State.{State as Machine}
@@ -21,15 +21,15 @@ use Rattle.run_ledger.proofs.Bounds.{task_steps_steps}
 use Rattle.run_ledger.proofs.Machine.{task_step_machine}
 use Rattle.heap_tree.specs.declared.state.State.TheVariants.{Ready, Out, Waiting as Waits, Ended as HasEnded, Joined as HasJoined}
 use Rattle.heap_tree.specs.Node.{Node}
-use Rattle.ledger_steps.specs.Accounts.{StepsAlone, rested}
-use Rattle.ledger_steps.specs.Kinds.{ForksTask, EndsTask}
-use Rattle.ledger_steps.specs.Last.{LastKind, Private, Reading, Writing, Printing, Forking, Ending, Joining, Finishing, Halting, IsOfKind, GoesOn, EndsLast, Halts, Splits, Runs, stepped_by}
-use Rattle.ledger_steps.proofs.Ahead.{private_alone, steps_alone_all, with_machine, with_off}
-use Rattle.ledger_steps.proofs.Along.{steps_know}
-use Rattle.ledger_steps.proofs.Kin.{private_kin, steps_kin}
-use Rattle.ledger_steps.proofs.Private.{private_on}
-use Rattle.ledger_steps.proofs.Rested.{rested_worker}
-use Rattle.ledger_steps.proofs.Split.{worker_step, steps_worker, steps_go}
+use Rattle.ledger_step_laws.specs.Accounts.{StepsAlone, rested}
+use Rattle.ledger_step_laws.specs.Kinds.{ForksTask, EndsTask}
+use Rattle.ledger_step_laws.specs.Last.{LastKind, Private, Reading, Writing, Printing, Forking, Ending, Joining, Finishing, Halting, IsOfKind, GoesOn, EndsLast, Halts, Splits, Runs, stepped_by}
+use Rattle.ledger_step_laws.proofs.Ahead.{private_alone, steps_alone_all, with_machine, with_off}
+use Rattle.ledger_step_laws.proofs.Along.{steps_know}
+use Rattle.ledger_step_laws.proofs.Kin.{private_kin, steps_kin}
+use Rattle.ledger_step_laws.proofs.Private.{private_on}
+use Rattle.ledger_step_laws.proofs.Rested.{rested_worker}
+use Rattle.ledger_step_laws.proofs.Split.{worker_step, steps_worker, steps_go}
 use Rattle.core_relation.specs.Whole.{Totals, TotalsStand, state_by, handed}
 use Rattle.core_relation.specs.RanCounts.{node_then, NodesStay, NodeGoes, NodesFork, NodesJoin, HandsStay, LetsGo, RanCounts}
 use Rattle.core_relation.proofs.whole.Counts.{node_of, same_use, with_steps}
@@ -58,7 +58,7 @@ joined_node w w' (Some x) (Some y) p is h e = ap₂ (λ q s. Some (record { pare
     by (Ended k r) h = absurd cc
     by Joined h = refl
 
-module _ (p : ProgramText) (s : Limits) (l l' : Ledger) (t w k : ℕ) (E : Runs p s l l' t w k) (c c' : Totals) (T : TotalsStand c l) where
+module _ (p : ProgramText) (s : SettingsValue) (l l' : Ledger) (t w k : ℕ) (E : Runs p s l l' t w k) (c c' : Totals) (T : TotalsStand c l) where
   abbrev m : Ledger
   m = task_steps p l t k
 

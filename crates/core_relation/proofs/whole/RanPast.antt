@@ -4,7 +4,7 @@ use Rattle.std.proofs.lemmas.Option.{same_Some}
 use Rattle.hh_lang.specs.declared.instr.Instr.{Instr}
 use Rattle.hh_lang.specs.declared.instr.Instr.TheVariants.{Set, Mov, Movr, Nil as NilOf, Calc, Same, Jmp, Jz, Newm, Pack, Getr, Geti, Putr, Puti, Cntr, Cnti, Freeze, Cas, Call, Par, Ret, Out}
 use Rattle.hh_lang.specs.Form.{ProgramText}
-use Rattle.run_trace.specs.Settings.{Limits}
+use Rattle.run_trace.specs.Settings.{SettingsValue}
 use Rattle.hh_model.specs.declared.data.State.{State}
 use Rattle.hh_model.specs.Effect.{place_in, int_in, object_at, row_of}
 use Rattle.hh_model.specs.Step.{is_waiting, is_joined, is_on_path, owner_of}
@@ -13,15 +13,15 @@ use Rattle.run_ledger.specs.declared.data.Ledger.{Ledger}
 use Rattle.run_ledger.specs.Heaps.{heap_of, or_fresh, let_go}
 use Rattle.run_ledger.specs.Steps.{task_steps}
 use Rattle.run_ledger.specs.Sound.{SoundLedger}
-use Rattle.ledger_steps.specs.Accounts.{StepsAlone, Knows, rested}
-use Rattle.ledger_steps.specs.Kinds.{StoresOne}
-use Rattle.ledger_steps.specs.Last.{WritesOther, Halts, LastKind, Private, Reading, Writing, Printing, Forking, Ending, Joining, Finishing, Halting, IsOfKind, GoesOn, Splits, Runs}
-use Rattle.ledger_steps.proofs.Ahead.{private_alone, alone_along, steps_alone_all, with_machine}
-use Rattle.ledger_steps.proofs.Along.{steps_know}
-use Rattle.ledger_steps.proofs.Rested.{rested_worker, rested_sound}
-use Rattle.ledger_steps.proofs.Split.{worker_step, steps_worker}
-use Rattle.ledger_steps.proofs.Wrote.{is_store, is_swap, is_number, waits_rest}
-use Rattle.core_relation.specs.Value.{Home, Value}
+use Rattle.ledger_step_laws.specs.Accounts.{StepsAlone, Knows, rested}
+use Rattle.ledger_step_laws.specs.Kinds.{StoresOne}
+use Rattle.ledger_step_laws.specs.Last.{WritesOther, Halts, LastKind, Private, Reading, Writing, Printing, Forking, Ending, Joining, Finishing, Halting, IsOfKind, GoesOn, Splits, Runs}
+use Rattle.ledger_step_laws.proofs.Ahead.{private_alone, alone_along, steps_alone_all, with_machine}
+use Rattle.ledger_step_laws.proofs.Along.{steps_know}
+use Rattle.ledger_step_laws.proofs.Rested.{rested_worker, rested_sound}
+use Rattle.ledger_step_laws.proofs.Split.{worker_step, steps_worker}
+use Rattle.ledger_step_laws.proofs.Wrote.{is_store, is_swap, is_number, waits_rest}
+use Rattle.core_relation.specs.Memory.{Home, Memory}
 use Rattle.core_relation.specs.Stands.{Stands}
 use Rattle.core_relation.specs.Fits.{Part, FitsAt, with_home, part_for}
 use Rattle.core_relation.specs.Changes.{StoresNumberAt}
@@ -42,7 +42,7 @@ use Rattle.core_relation.proofs.parts.Others.{result_read}
 use Rattle.core_relation.proofs.notes.Rooted.{root_apart}
 use Rattle.core_relation.proofs.changes.Takes.{ran_stands}
 
-module _ (p : ProgramText) (s : Limits) (v v' : Value) (l l' : Ledger) (t w k : ℕ) (h : Home) (E : Runs p s l l' t w k) (alive : l.end ≡ None) (V : Stands v l) (N : AllNoted v l) where
+module _ (p : ProgramText) (s : SettingsValue) (v v' : Memory) (l l' : Ledger) (t w k : ℕ) (h : Home) (E : Runs p s l l' t w k) (alive : l.end ≡ None) (V : Stands v l) (N : AllNoted v l) where
   abbrev q : Part
   q = part_for s t h k
 
@@ -53,7 +53,7 @@ module _ (p : ProgramText) (s : Limits) (v v' : Value) (l l' : Ledger) (t w k : 
   S = E.splits
 
   -- the value with the part's home in it, and its accounts
-  abbrev vt : Value
+  abbrev vt : Memory
   vt = with_home v t h
 
   abbrev lt : Ledger
@@ -90,7 +90,7 @@ module _ (p : ProgramText) (s : Limits) (v v' : Value) (l l' : Ledger) (t w k : 
   stays : v' ≡ v → StepsAlone m l' t → (heap_of l' t).worker ≡ Some w → Both
   stays same A out' =
       let AA = alone_along p s t l m l' alone_m A in
-      subst (λ (z : Value). Stands z l' × AllNoted z l') (sym same) (
+      subst (λ (z : Memory). Stands z l' × AllNoted z l') (sym same) (
         steps_alone v l l' t w E.knows.sound V AA (sym (steps_worker p s t k l S.private) ∙ E.held) out' idle,
         steps_note v v l l' t idle AA (λ u ne. refl) (λ i. refl) (λ u. refl) (root_apart v l V t idle) (record { none = (N t).keeps ∙ ap (λ b. b && not (heap_of l t).swept) idle; others = λ u ne. record { keeps = refl; kept = refl; marked = refl } }) N,
       )

@@ -1,6 +1,6 @@
 -- The whole relation past an entry of steps.
 use Rattle.std.proofs.Common.{suc, ◌≡◌, ℕ, false, Option, Some, None, is_none, slice_get, refl, ap, subst, ◌∙◌}
-use Rattle.run_trace.specs.Entry.{Event}
+use Rattle.run_trace.specs.Entry.{EntryValue}
 use Rattle.run_trace.specs.declared.entry.Kind.TheVariants.{Ran}
 use Rattle.run_ledger.specs.declared.data.Heap.{Heap}
 use Rattle.run_ledger.specs.declared.data.Ledger.{Ledger}
@@ -10,8 +10,8 @@ use Rattle.run_ledger.specs.Entries.{after}
 use Rattle.run_ledger.specs.Journals.{ledger_of}
 use Rattle.run_ledger.proofs.Journals.{entry_tells}
 use Rattle.run_ledger.specs.Sound.{collecting}
-use Rattle.ledger_steps.proofs.Ahead.{steps_sound}
-use Rattle.ledger_steps.proofs.Rested.{rested_view}
+use Rattle.ledger_step_laws.proofs.Ahead.{steps_sound}
+use Rattle.ledger_step_laws.proofs.Rested.{rested_view}
 use Rattle.run_ledger.proofs.Use.{entries_use}
 use Rattle.core_relation.specs.Fits.{part_for, with_home}
 use Rattle.core_relation.specs.Makes.{taken_by}
@@ -33,7 +33,7 @@ none_collects (Some h) e = none_of h.begun e
 pub ran_stands_for : RanStandsFor
 ran_stands_for p s journal program legal v v' c c' w t k h accepted E handed Q C M N =
     let l : Ledger = ledger_of p s journal in
-    let e : Event = record { worker = w; kind = Ran t (suc k) } in
+    let e : EntryValue = record { worker = w; kind = Ran t (suc k) } in
     let alive : l.end ≡ None = none_of l.end (entry_tells p s l e (ap is_none accepted)).0 in
     let W : StandsFor v c l = subst (StandsFor v c) (handed_on l alive) handed in
     let F = part_now p s (part_for s t h (taken_by E.splits.kind k)) v l (alive_machine p s l (after p s l e) t w k E) Q in

@@ -2,10 +2,10 @@
 use Rattle.std.proofs.Common.{refl, subst, ◌≡◌, ℕ, Option, Some, None, ap, sym, ◌∙◌, Bool, true, slice_get, inl}
 use Rattle.run_ledger.specs.declared.data.Ledger.{Ledger}
 use Rattle.run_ledger.specs.Heaps.{heap_of}
-use Rattle.core_relation.specs.Value.{Value}
-use Rattle.ledger_steps.specs.Accounts.{rested}
+use Rattle.core_relation.specs.Memory.{Memory}
+use Rattle.ledger_step_laws.specs.Accounts.{rested}
 use Rattle.core_relation.specs.Whole.{BegunBy, by_end, handed}
-use Rattle.ledger_steps.specs.Last.{EndsDone}
+use Rattle.ledger_step_laws.specs.Last.{EndsDone}
 use Rattle.core_relation.specs.Copies.{PartFits, before}
 use Rattle.core_relation.proofs.parts.Quiet.{aside_is}
 use Rattle.core_relation.specs.CopyLaws.{CopiesStay, CopiesEnd}
@@ -17,11 +17,11 @@ use Rattle.hh_model.specs.declared.data.End.{End}
 use Rattle.hh_model.specs.declared.data.Status.TheVariants.{Running}
 use Rattle.hh_model.specs.Step.{can_step, goes_on, is_running}
 use Rattle.run_ledger.specs.Heaps.{with_heap, collected}
-use Rattle.ledger_steps.proofs.Ahead.{with_off}
-use Rattle.ledger_steps.proofs.Entries.{end_changes}
+use Rattle.ledger_step_laws.proofs.Ahead.{with_off}
+use Rattle.ledger_step_laws.proofs.Entries.{end_changes}
 use Rattle.core_relation.proofs.parts.Ends.{fits_end}
 use Rattle.core_relation.proofs.parts.Copies.{copy_stays, copy_fits, moves}
-use Rattle.ledger_steps.proofs.SameWords.{collected_alike}
+use Rattle.ledger_step_laws.proofs.SameWords.{collected_alike}
 use Rattle.task_machine.specs.declared.part.Begun.{Begun}
 
 pub copies_stay : CopiesStay
@@ -31,7 +31,7 @@ copies_stay p s t h h' f v v' l l' S A owner on F C =
 pub copies_end : CopiesEnd
 copies_end p s t h h' f v v' l x hs S is runs there C E none = (moves p s t h h' f v v' l x 0 S is runs hs there C E, copy_fits p s t h h' f v v' l x 0 S is runs hs there C E none)
 
-pub none_begun : (v : Value) (l : Ledger) (t : ℕ) (o : Option Begun) → o ≡ None → (heap_of l t).begun ≡ None → BegunBy v l t o
+pub none_begun : (v : Memory) (l : Ledger) (t : ℕ) (o : Option Begun) → o ≡ None → (heap_of l t).begun ≡ None → BegunBy v l t o
 none_begun v l t None e h = h
 none_begun v l t (Some b) e h = absurd cc
 

@@ -2,9 +2,9 @@ use Rattle.std.proofs.Common.{◌∙◌, ◌≤◌, ◌+◌, ap, take}
 use Rattle.std.proofs.lemmas.List.{take_more}
 use Rattle.std.proofs.lemmas.List.Elements.{All-push}
 use Rattle.object_layout.specs.Chunks.{held_in, held_words, one_each, small_part}
-use Rattle.object_layout.specs.Content.{Content}
+use Rattle.object_layout.specs.ChunkValue.{ChunkValue}
 use Rattle.object_layout.specs.Place.{words_in}
-use Rattle.alloc_path.specs.Heap.{counted}
+use Rattle.alloc_path.specs.LeafHeapValue.{counted}
 use Rattle.alloc_path.proofs.HeapLemmas as heap
 use Rattle.alloc_path.proofs.counts.counts_of.Goals as goal
 
@@ -22,5 +22,5 @@ loop-chunk-preserved c =
       small = heap.sum_more small_part ks i k c.loop-chunk-test.true c.chunk-item.is _ _ c.loop-chunk.invariant.small (c.saturating_add-small.ensures ∙ ap (λ n. counted (c.loop-chunk.small + n)) c.counts_in-more.ensures.small);
       within =
           rw (next, ← c.chunk-item.is)
-          (All-push (λ (k : Content). words_in k.cells ≤ k.size) (take i ks) k c.loop-chunk.invariant.within c.counts_in-more.ensures.within);
+          (All-push (λ (k : ChunkValue). words_in k.cells ≤ k.size) (take i ks) k c.loop-chunk.invariant.within c.counts_in-more.ensures.within);
     }

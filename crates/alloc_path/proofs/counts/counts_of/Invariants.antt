@@ -1,6 +1,6 @@
 use Rattle.std.proofs.Common.{◌≡◌, take}
 use Rattle.object_layout.specs.Chunks.{held_words, object_count, small_words}
-use Rattle.alloc_path.specs.Heap.{counted, AreWithin}
+use Rattle.alloc_path.specs.LeafHeapValue.{counted, AreWithin}
 use Rattle.alloc_path.proofs.counts.counts_of.Given as goal
 
 abbrev pub invariant-loop-chunk : goal.invariant-loop-chunk

@@ -1,6 +1,6 @@
 use Rattle.std.proofs.Common.{◌≡◌, ap, sym, ◌∙◌, subst, arith, List, [], ◌∷◌, ◌++◌, ℕ}
 use Rattle.object_layout.specs.Cell.{Born, Cell, IsObject, Moved, size_of, with_mark}
-use Rattle.object_layout.specs.Content.{Content}
+use Rattle.object_layout.specs.ChunkValue.{ChunkValue}
 use Rattle.object_layout.specs.Place.{cell_at, object_at, put_cell, IsObjectAt}
 use Rattle.object_layout.proofs.PlaceLemmas as place
 use Rattle.alloc_path.proofs.own.move_behind.Goals as goal
@@ -37,13 +37,13 @@ pub returns-clause-copied : goal.returns-clause-copied
 returns-clause-copied c =
     let cs : List Cell = c.args.from.now.cells in
     let named : Cell = with_mark (cell_at cs c.args.at) (Born c.args.birth) in
-    let to : Content = c.args.to.now in
-    let same : object_at c.set_birth.new.chunk.cells c.args.at ≡ named = ap (λ (k : Content). object_at k.cells c.args.at) c.set_birth.ensures ∙ read cs c.args.at named c.requires.object tt in
-    c.copy_behind-offset.ensures.copied ∙ ap (λ (d : Cell). let r : Content = record to { cells = to.cells ++ d ∷ [] } in r) same
+    let to : ChunkValue = c.args.to.now in
+    let same : object_at c.set_birth.new.chunk.cells c.args.at ≡ named = ap (λ (k : ChunkValue). object_at k.cells c.args.at) c.set_birth.ensures ∙ read cs c.args.at named c.requires.object tt in
+    c.copy_behind-offset.ensures.copied ∙ ap (λ (d : Cell). let r : ChunkValue = record to { cells = to.cells ++ d ∷ [] } in r) same
 
 pub returns-clause-left : goal.returns-clause-left
 returns-clause-left c =
-    let k : Content = c.args.from.now in
+    let k : ChunkValue = c.args.from.now in
     let at : ℕ = c.args.at in
     let named : Cell = with_mark (cell_at k.cells at) (Born c.args.birth) in
     let gone : Cell → Cell = λ d. with_mark d (Moved (record { chunk = c.number.result; offset = c.copy_behind-offset.result })) in
@@ -51,5 +51,5 @@ returns-clause-left c =
     ap (λ (d : Cell). put_cell (put_cell k.cells at named) at (gone d)) (put k.cells at named c.requires.object)
     ∙ place.put_cell-put_cell k.cells at named (gone named) in
     c.forward.ensures
-    ∙ (ap (λ (x : Content). let r : Content = record x { cells = put_cell x.cells at (gone (cell_at x.cells at)) } in r) c.set_birth.ensures
-    ∙ ap (λ (xs : List Cell). let r : Content = record k { cells = xs } in r) again)
+    ∙ (ap (λ (x : ChunkValue). let r : ChunkValue = record x { cells = put_cell x.cells at (gone (cell_at x.cells at)) } in r) c.set_birth.ensures
+    ∙ ap (λ (xs : List Cell). let r : ChunkValue = record k { cells = xs } in r) again)

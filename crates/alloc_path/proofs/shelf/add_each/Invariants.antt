@@ -1,6 +1,6 @@
 use Rattle.std.proofs.Common.{◌≡◌, ℕ, None, cond, take}
 use Rattle.std.specs.Option.{option_or}
-use Rattle.kept_pieces.specs.Kept.{is_among}
+use Rattle.kept_pieces.specs.PiecesValue.{is_among}
 use Rattle.alloc_path.specs.View.{level_of, piece_in}
 use Rattle.alloc_path.proofs.shelf.add_each.Given as goal
 

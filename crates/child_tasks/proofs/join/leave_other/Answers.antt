@@ -3,7 +3,7 @@ use Rattle.listed.proofs.Members.{got_other}
 use Rattle.object_layout.specs.declared.word.Addr.{Addr}
 use Rattle.fork_join.specs.declared.sides.EndedChild.{EndedChild}
 use Rattle.shared_value.specs.declared.task_at_rest.Rest.{Rest}
-use Rattle.shared_value.specs.World.{flat, rest_at}
+use Rattle.shared_value.specs.SharedValue.{flat, rest_at}
 use Rattle.shared_value.proofs.TaskTaken.{put_there}
 use Rattle.child_tasks.proofs.join.leave_other.Goals as goal
 

@@ -1,7 +1,7 @@
 use Rattle.std.proofs.Common.{Option, None, List, ap, ◌∙◌}
 use Rattle.listed.proofs.Members.{got_other}
 use Rattle.shared_value.specs.declared.task_at_rest.Rest.{Rest}
-use Rattle.shared_value.specs.World.{flat, rest_at}
+use Rattle.shared_value.specs.SharedValue.{flat, rest_at}
 use Rattle.shared_value.proofs.TaskTaken.{put_there}
 use Rattle.child_tasks.proofs.join.leave_own.Goals as goal
 

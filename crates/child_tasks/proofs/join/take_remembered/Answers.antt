@@ -1,7 +1,7 @@
 use Rattle.std.proofs.Common.{Some, option_map, ap, ◌∙◌, ◌≡◌, Option, IfSome, length-set, slice_get, subst, sym}
 use Rattle.std.proofs.lemmas.Option.{slice_get-get_or}
 use Rattle.listed.proofs.Members.{got_other}
-use Rattle.remembered_set.specs.Sources.{Notes}
+use Rattle.remembered_set.specs.Sources.{RememberedValue}
 use Rattle.write_barrier.specs.declared.sets.SetOf.{SetOf}
 use Rattle.write_barrier.specs.Stored.{content_of}
 use Rattle.shared_value.proofs.TaskTaken.{put_there}
@@ -21,5 +21,5 @@ pub returns-clause-many : goal.returns-clause-many
 returns-clause-many c = length-set c.args.sets.now.items c.args.t c.replace-set.new.dest
 
 pub returns-clause-whole : goal.returns-clause-whole
-returns-clause-whole c = subst (λ (n : Notes). IfSome (slice_get c.args.sets.now.items c.args.t) (λ (z : SetOf). n ≡ z.remembered)) (sym c.into_remembered.ensures)
+returns-clause-whole c = subst (λ (n : RememberedValue). IfSome (slice_get c.args.sets.now.items c.args.t) (λ (z : SetOf). n ≡ z.remembered)) (sym c.into_remembered.ensures)
     (whole_if c.replace-set.result c.index_mut.result.now (slice_get c.args.sets.now.items c.args.t) c.replace-set.ensures.value (slice_get-get_or c.args.sets.now.items c.args.t c.index_mut.result.now c.requires.made ∙ ap Some (sym c.index_mut.ensures.value)))

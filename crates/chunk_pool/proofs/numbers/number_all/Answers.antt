@@ -1,8 +1,8 @@
 use Rattle.std.proofs.Common.{◌≡◌, ◌+◌, ◌-◌, ◌≤◌, [], ◌∷◌, ◌++◌, length, ap, ◌∙◌, sym, subst, arith, rules, length-append}
 use Rattle.std.specs.Prelude.{All}
 use Rattle.std.proofs.lemmas.List.Elements.{All-head}
-use Rattle.object_layout.specs.Content.{Content}
-use Rattle.chunk_pool.specs.Chunks.{IsBlank, NumbersBehind, one_unit}
+use Rattle.object_layout.specs.ChunkValue.{ChunkValue}
+use Rattle.chunk_pool.specs.PoolValue.{IsBlank, NumbersBehind, one_unit}
 use Rattle.chunk_pool.proofs.Numbering.{all_left, all_right, behind_more}
 use Rattle.chunk_pool.proofs.UnitLemmas.{chunks_set}
 use Rattle.chunk_pool.proofs.numbers.number_all.Goals as goal
@@ -14,7 +14,7 @@ loop-chunk-preserved c =
     let both : All IsBlank (c.pop.new.self.items ++ c.in-Some.chunk ∷ []) = rw items at c.loop-chunk.invariant.blank in
     let blank : IsBlank c.in-Some.chunk = All-head IsBlank c.in-Some.chunk [] (all_right c.pop.new.self.items (c.in-Some.chunk ∷ []) both) in
     let same : c.number_one.new.chunk ≡ record c.in-Some.chunk { number = c.number_one.new.chunk.number } = c.number_one.ensures.chunk in
-    let new : IsBlank c.number_one.new.chunk = record { size = ap (λ (k : Content). k.size) same ∙ blank.size; cells = ap (λ (k : Content). k.cells) same ∙ blank.cells } in
+    let new : IsBlank c.number_one.new.chunk = record { size = ap (λ (k : ChunkValue). k.size) same ∙ blank.size; cells = ap (λ (k : ChunkValue). k.cells) same ∙ blank.cells } in
     let u = c.number_one.ensures.updates in
     let first : length c.loop-chunk.blank.items ≤ length c.args.blank.now.items = c.loop-chunk.invariant.fewer in
     let step : length c.args.blank.now.items - length c.pop.new.self.items ≡ length c.args.blank.now.items - length c.loop-chunk.blank.items + 1 = omega arith in

@@ -1,14 +1,14 @@
 use Rattle.std.proofs.Common.{◌∙◌, ap, refl}
 use Rattle.std.specs.Prelude.{Some}
 use Rattle.run_report.proofs.Writing.{whole_text}
-use Rattle.shared_value.specs.World.{World, accounts}
+use Rattle.shared_value.specs.SharedValue.{SharedValue, accounts}
 use Rattle.counted_tree.specs.Counts.{totals_of}
 use Rattle.command_answers.proofs.Runs.{ended_run}
 use Rattle.command_answers.proofs.ended.answer_ended.Goals as goal
 
 pub returns-in-Ok-clause-answer : goal.returns-in-Ok-clause-answer
 returns-in-Ok-clause-answer c =
-    let w : World = c.args.shared in
+    let w : SharedValue = c.args.shared in
     ended_run w c.args.end c.args.extras _ c.stands.ensures c.requires c.of_end.ensures
     (c.from_vec.ensures
     ∙ (c.in-Ok.ensures ∙ whole_text w.program w.settings w.journal.items c.args.extras.report c.args.extras.trace w.settings.version (accounts w) (totals_of w) c.args.end refl refl refl c.requires))

@@ -1,8 +1,8 @@
 use Rattle.std.proofs.Common.{◌≡◌, ℕ, Bool, true, List, length, refl, subst, ◌∙◌}
 use Rattle.std.specs.Prelude.{IfOk, string_bytes}
 use Rattle.hh_lang.specs.Form.{ProgramText}
-use Rattle.run_trace.specs.Entry.{Event}
-use Rattle.run_trace.specs.Settings.{Limits}
+use Rattle.run_trace.specs.Entry.{EntryValue}
+use Rattle.run_trace.specs.Settings.{SettingsValue}
 use Rattle.run_ledger.specs.declared.data.Report.{Report}
 use Rattle.run_ledger.specs.Journals.{ledger_of, opening}
 use Rattle.run_ledger.specs.Report.{report_of}
@@ -10,14 +10,14 @@ use Rattle.run_ledger.specs.Text.{report_lines}
 use Rattle.run_report.specs.Totals.{report_from, totals_from}
 use Rattle.run_report.specs.Written.{report_part}
 use Rattle.run_report.proofs.Writing.{report_shown}
-use Rattle.shared_value.specs.World.{World, accounts}
+use Rattle.shared_value.specs.SharedValue.{SharedValue, accounts}
 use Rattle.counted_tree.specs.Counts.{totals_of}
 use Rattle.command_answers.proofs.ended.report_lines.Goals as goal
 
-from_totals : (p : ProgramText) (s : Limits) (journal : List Event) → report_of p s journal ≡ report_from (ledger_of p s journal) (length journal) (totals_from p s (opening p s) journal)
+from_totals : (p : ProgramText) (s : SettingsValue) (journal : List EntryValue) → report_of p s journal ≡ report_from (ledger_of p s journal) (length journal) (totals_from p s (opening p s) journal)
 from_totals p s journal = refl
 
-shown : (w : World) (asked : Bool) (r : Report) → asked ≡ true → r ≡ report_of w.program w.settings w.journal.items
+shown : (w : SharedValue) (asked : Bool) (r : Report) → asked ≡ true → r ≡ report_of w.program w.settings w.journal.items
     → report_lines r ≡ report_part asked (accounts w) (length w.journal.items) (totals_of w)
 shown w asked r wants is = report_shown asked (accounts w) (length w.journal.items) (totals_of w) r wants (is ∙ from_totals w.program w.settings w.journal.items)
 

@@ -1,6 +1,6 @@
 use Rattle.std.proofs.Common.{List, subst, sym}
 use Rattle.std.proofs.lemmas.Result.{IfOk-weaker}
-use Rattle.run_trace.specs.Entry.{Event}
+use Rattle.run_trace.specs.Entry.{EntryValue}
 use Rattle.refusal_lines.specs.declared.refusal.Refusal.TheVariants.{Entry}
 use Rattle.command_answers.specs.Answers.{Refuses, short_of}
 use Rattle.command_answers.proofs.Imaged.{image_ended, image_short}
@@ -9,7 +9,7 @@ use Rattle.command_answers.proofs.image.answer_made.Goals as goal
 pub returns-in-None : goal.returns-in-None
 returns-in-None c =
     IfOk-weaker c.trace_short.result _ _ (λ a h. image_short c.args.shared.now a c.stands.ensures (sym c.in-None.ensures)
-    (subst (λ (j : List Event). Refuses (Entry (short_of j)) a) c.journal.ensures h)) c.trace_short.ensures
+    (subst (λ (j : List EntryValue). Refuses (Entry (short_of j)) a) c.journal.ensures h)) c.trace_short.ensures
 
 pub returns-in-Some : goal.returns-in-Some
 returns-in-Some c =

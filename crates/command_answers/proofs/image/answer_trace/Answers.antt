@@ -3,7 +3,7 @@ use Rattle.std.specs.Prelude.{Some}
 use Rattle.std.proofs.lemmas.Result.{IfOk-weaker}
 use Rattle.run_ledger.specs.Journals.{first_refused}
 use Rattle.run_ledger.specs.declared.data.RefusedAt.{RefusedAt}
-use Rattle.shared_value.specs.World.{World}
+use Rattle.shared_value.specs.SharedValue.{SharedValue}
 use Rattle.refusal_lines.specs.declared.refusal.Refusal.TheVariants.{Entry}
 use Rattle.command_answers.specs.Answers.{IsImaged, Refuses}
 use Rattle.command_answers.proofs.Imaged.{imaged}
@@ -17,7 +17,7 @@ returns-in-Ok c =
     let has = c.in-Ok.ensures.replayed in
     IfOk-weaker c.answer_made-answer.result _ _
     (λ a h. imaged c.args.settings c.args.read.now c.with_version-settings.result c.as_slice.result.now c.shared.result.now a c.with_version-settings.ensures c.as_slice.ensures
-    (ap (λ (w : World). w.program) is ∙ has.program) (ap (λ (w : World). w.settings) is ∙ has.settings) (ap (λ (w : World). w.journal.items) is ∙ has.journal) h) c.answer_made-answer.ensures
+    (ap (λ (w : SharedValue). w.program) is ∙ has.program) (ap (λ (w : SharedValue). w.settings) is ∙ has.settings) (ap (λ (w : SharedValue). w.journal.items) is ∙ has.journal) h) c.answer_made-answer.ensures
 
 pub returns-in-Err-RefusedAt : goal.returns-in-Err-RefusedAt
 returns-in-Err-RefusedAt c =

@@ -1,18 +1,18 @@
 use Rattle.std.proofs.Common.{ap, sym, ◌∙◌}
 use Rattle.std.proofs.lemmas.Result.{IfOk-weaker}
-use Rattle.shared_value.specs.World.{World, accounts}
+use Rattle.shared_value.specs.SharedValue.{SharedValue, accounts}
 use Rattle.command_answers.proofs.Runs.{made_ended, made_short}
 use Rattle.command_answers.proofs.replay.answer_made.Goals as goal
 
 pub returns-in-None-clause-answer : goal.returns-in-None-clause-answer
 returns-in-None-clause-answer c =
-    let none = ap (λ (w : World). (accounts w).end) (sym c.shared.ensures) ∙ sym c.in-None.ensures in
+    let none = ap (λ (w : SharedValue). (accounts w).end) (sym c.shared.ensures) ∙ sym c.in-None.ensures in
     IfOk-weaker c.answer_short.result _ _ (λ a h. made_short c.args.shared c.args.extras a c.stands.ensures none h) c.answer_short.ensures.answer
 
 pub returns-in-Some-clause-answer : goal.returns-in-Some-clause-answer
 returns-in-Some-clause-answer c =
-    let ended = ap (λ (w : World). (accounts w).end) (sym c.shared.ensures) ∙ sym c.in-Some.ensures in
+    let ended = ap (λ (w : SharedValue). (accounts w).end) (sym c.shared.ensures) ∙ sym c.in-Some.ensures in
     IfOk-weaker c.answer_ended.result _ _ (λ a h. made_ended c.args.shared c.in-Some.end c.args.extras a c.stands.ensures ended h) c.answer_ended.ensures.answer
 
 pub answer_ended-requires : goal.answer_ended-requires
-answer_ended-requires c = ap (λ (w : World). (accounts w).end) (sym c.shared.ensures) ∙ sym c.in-Some.ensures
+answer_ended-requires c = ap (λ (w : SharedValue). (accounts w).end) (sym c.shared.ensures) ∙ sym c.in-Some.ensures

@@ -2,7 +2,7 @@ use Rattle.std.proofs.Common.{sym, subst, ◌∙◌, ◌≡◌}
 use Rattle.std.specs.Prelude.{IfOk, IfSome, Option, Some}
 use Rattle.std.proofs.lemmas.Result.{IfErr-weaker, IfOk-weaker}
 use Rattle.run_ledger.specs.Journals.{end_of}
-use Rattle.shared_value.specs.World.{World}
+use Rattle.shared_value.specs.SharedValue.{SharedValue}
 use Rattle.worker_run.specs.Outcomes.{IsRun, finish_of}
 use Rattle.run_report.specs.declared.whole.Extras.{Extras}
 use Rattle.command_answers.specs.Answers.{extras_of}
@@ -15,8 +15,8 @@ answer_left-requires g c = λ w end was told.
     let p = c.args.program.now in
     let s = c.args.options.settings in
     let o = c.run_on_workers-outcome.result in
-    let run = subst (λ (x : Option World). IfSome x (IsRun p s)) was c.run_on_workers-outcome.ensures.run in
-    let finish = subst (λ (x : Option World). IfSome x (λ v. o.finish ≡ finish_of (end_of p s v.journal.items))) was c.run_on_workers-outcome.ensures.finish in
+    let run = subst (λ (x : Option SharedValue). IfSome x (IsRun p s)) was c.run_on_workers-outcome.ensures.run in
+    let finish = subst (λ (x : Option SharedValue). IfSome x (λ v. o.finish ≡ finish_of (end_of p s v.journal.items))) was c.run_on_workers-outcome.ensures.finish in
     told_end p s w end run (sym told ∙ finish)
 
 pub returns-clause-answer : goal.returns-clause-answer
@@ -24,7 +24,7 @@ returns-clause-answer g c =
     let p = c.args.program.now in
     let s = c.args.options.settings in
     IfOk-weaker c.answer_left.result _ _
-    (λ a h. workers_run p s (extras_of c.args.options) h.0 a (subst (λ (x : Option World). IfSome x (IsRun p s)) h.2 c.run_on_workers-outcome.ensures.run) h.4)
+    (λ a h. workers_run p s (extras_of c.args.options) h.0 a (subst (λ (x : Option SharedValue). IfSome x (IsRun p s)) h.2 c.run_on_workers-outcome.ensures.run) h.4)
     (subst (λ (x : Extras). IfOk c.answer_left.result (AnswersLeft c.run_on_workers-outcome.result x)) c.extras_of.ensures c.answer_left.ensures.answer)
 
 pub returns-clause-wanted : goal.returns-clause-wanted

@@ -4,7 +4,7 @@ use Rattle.run_ledger.specs.declared.data.Refused.TheVariants.{NotWaiting, Swept
 use Rattle.run_ledger.specs.Entries.{refused_unless}
 use Rattle.heap_tree.specs.Node.{Node, state_of}
 use Rattle.write_barrier.specs.declared.sets.SetOf.{SetOf}
-use Rattle.shared_value.specs.World.{noted_in}
+use Rattle.shared_value.specs.SharedValue.{noted_in}
 use Rattle.heap_marking.specs.MarkCauses.{is_state_waiting, waiting_cause_in}
 use Rattle.heap_marking.proofs.causes.waiting_cause.Goals as goal
 

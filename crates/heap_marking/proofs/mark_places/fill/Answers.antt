@@ -1,10 +1,10 @@
 use Rattle.std.proofs.Common.{◌≡◌, ℕ, zero, suc, ◌++◌, ◌∷◌, [], List, Option, None, arith, refl, ap, ◌∙◌}
-use Rattle.inner_mark_gc.specs.Marks.{Marks}
-use Rattle.shared_value.specs.World.{marks_at}
+use Rattle.inner_mark_gc.specs.MarkingValue.{MarkingValue}
+use Rattle.shared_value.specs.SharedValue.{marks_at}
 use Rattle.heap_marking.proofs.mark_places.fill.Goals as goal
 
 -- tasks behind the last have no marking
-none_more : (ms : List (Option Marks)) (t : ℕ) → marks_at (ms ++ None ∷ []) t ≡ marks_at ms t
+none_more : (ms : List (Option MarkingValue)) (t : ℕ) → marks_at (ms ++ None ∷ []) t ≡ marks_at ms t
 none_more [] zero = refl
 none_more [] (suc t) = refl
 none_more (m ∷ ms) zero = refl

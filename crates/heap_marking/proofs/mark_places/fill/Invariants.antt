@@ -1,5 +1,5 @@
 use Rattle.std.proofs.Common.{◌≡◌, ◌-◌, ◌≤◌, ℕ, vec_capacity, vec_len}
-use Rattle.shared_value.specs.World.{marks_at}
+use Rattle.shared_value.specs.SharedValue.{marks_at}
 use Rattle.heap_marking.proofs.mark_places.fill.Given as goal
 
 abbrev pub invariant-loop-marks : goal.invariant-loop-marks

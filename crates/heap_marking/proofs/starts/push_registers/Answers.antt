@@ -2,7 +2,7 @@ use Rattle.std.proofs.Common.{ℕ, ◌<◌, ◌++◌, List, Option, arith, lengt
 use Rattle.std.specs.List.{flat_map}
 use Rattle.object_layout.specs.declared.word.Addr.{Addr}
 use Rattle.task_frames.specs.declared.frames.Frame.{Frame}
-use Rattle.task_frames.specs.Stack.{frames_of, references_of}
+use Rattle.task_frames.specs.FramesValue.{frames_of, references_of}
 use Rattle.remembered_set.specs.Moved.{into}
 use Rattle.leaf_copy_gc.specs.Survivors.{held_by}
 use Rattle.heap_marking.proofs.FrameReferences.{frames_more}

@@ -1,6 +1,6 @@
 use Rattle.std.proofs.Common.{◌≡◌, ◌++◌, take}
 use Rattle.std.specs.List.{flat_map}
-use Rattle.task_frames.specs.Stack.{frames_of}
+use Rattle.task_frames.specs.FramesValue.{frames_of}
 use Rattle.remembered_set.specs.Moved.{into}
 use Rattle.leaf_copy_gc.specs.Survivors.{held_by}
 use Rattle.heap_marking.proofs.starts.push_registers.Given as goal

@@ -2,10 +2,10 @@ use Rattle.std.proofs.Common.{false, true, ◌≡◌, ◌<◌, arith, Some, leng
 use Rattle.std.proofs.lemmas.Option.{same_Some}
 use Rattle.std.specs.Prelude.{IsSome}
 use Rattle.listed.proofs.Members.{got_within}
-use Rattle.alloc_path.specs.Heap.{Heap}
-use Rattle.inner_mark_gc.specs.Marks.{Marks}
+use Rattle.alloc_path.specs.LeafHeapValue.{LeafHeapValue}
+use Rattle.inner_mark_gc.specs.MarkingValue.{MarkingValue}
 use Rattle.shared_value.specs.declared.task_at_rest.Rest.{Rest}
-use Rattle.shared_value.specs.World.{flat, marks_at, rest_at}
+use Rattle.shared_value.specs.SharedValue.{flat, marks_at, rest_at}
 use Rattle.shared_value.proofs.Replaced.{set_twice}
 use Rattle.heap_marking.specs.Sweeping.{SweepsHome}
 use Rattle.heap_marking.proofs.sweep.drop_unmarked.Goals as goal
@@ -34,13 +34,13 @@ returns-clause-swept c = λ r m there marked.
     let at : marks_at c.args.marks.now c.args.t ≡ Some c.into_inner.result = ap flat c.at_mut-2.ensures.value ∙ (sym c.replace-2.ensures.value ∙ (c.in-Some-replace.is ∙ ap Some (sym c.into_inner.ensures))) in
     let same_r : c.get_mut.result.now ≡ r = same_Some c.get_mut.result.now r (sym is ∙ there) in
     let same_m : c.into_inner.result ≡ m = same_Some c.into_inner.result m (sym at ∙ marked) in
-    let Swept : Rest → Marks → Type 0 = λ x y. SweepsHome c.args.homes.now c.set.new.self c.args.pool.now c.sweep.new.pool c.args.t x y in
-    subst (λ (x : Rest). Swept x m) same_r (subst (λ (y : Marks). Swept c.get_mut.result.now y) same_m (record {
+    let Swept : Rest → MarkingValue → Type 0 = λ x y. SweepsHome c.args.homes.now c.set.new.self c.args.pool.now c.sweep.new.pool c.args.t x y in
+    subst (λ (x : Rest). Swept x m) same_r (subst (λ (y : MarkingValue). Swept c.get_mut.result.now y) same_m (record {
       slots = c.sweep.new.heap.slots;
       spare = c.sweep.new.heap.spare;
       homes = c.set.ensures
           ∙ (set_twice c.args.homes.now c.args.t c.replace.new.dest _
-          ∙ ap (λ (h : Heap). slice_set c.args.homes.now c.args.t (Some (let z : Rest = record c.get_mut.result.now { heap = h } in z))) c.sweep.ensures.heap);
+          ∙ ap (λ (h : LeafHeapValue). slice_set c.args.homes.now c.args.t (Some (let z : Rest = record c.get_mut.result.now { heap = h } in z))) c.sweep.ensures.heap);
       given = c.sweep.ensures.pool;
     }))
 

@@ -2,7 +2,7 @@ use Rattle.std.proofs.Common.{◌≡◌, ◌+◌, ◌-◌, ◌<◌, ◌≤◌, �
 use Rattle.object_layout.specs.Cell.{moved_to}
 use Rattle.object_layout.specs.Place.{IsCellAt, cells_from}
 use Rattle.object_layout.specs.Objects.{Located, objects_from}
-use Rattle.core_relation.specs.Value.{In}
+use Rattle.core_relation.specs.Memory.{In}
 use Rattle.heap_reading.specs.Image.{IsInWords, shown}
 use Rattle.heap_reading.proofs.seen.seen_in.Given as goal
 

@@ -1,5 +1,5 @@
 use Rattle.std.proofs.Common.{take}
-use Rattle.alloc_path.specs.Heap.{IsFresh}
+use Rattle.alloc_path.specs.LeafHeapValue.{IsFresh}
 use Rattle.inner_mark_gc.proofs.sweep.find.Given as goal
 
 abbrev pub invariant-loop-i : goal.invariant-loop-i

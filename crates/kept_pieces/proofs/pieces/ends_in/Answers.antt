@@ -1,6 +1,6 @@
 use Rattle.std.proofs.Common.{◌≡◌, ◌∙◌, Some, ap, sym, subst, true}
 use Rattle.std.proofs.lemmas.Bool.{eqb-true}
-use Rattle.kept_pieces.specs.Kept.{is_among}
+use Rattle.kept_pieces.specs.PiecesValue.{is_among}
 use Rattle.kept_pieces.proofs.Levels as levels
 use Rattle.kept_pieces.proofs.pieces.ends_in.Goals as goal
 

@@ -4,35 +4,35 @@ use Rattle.std.proofs.lemmas.List.Elements.{All-cons, All-get_or, All-nil}
 use Rattle.std.proofs.lemmas.Iterator.Consumers.{YieldsList-turn}
 use Rattle.std.proofs.lemmas.Iterator.Adapters.{YieldsList-from_vec}
 use Rattle.std.specs.Prelude.{IsSome}
-use Rattle.object_layout.specs.Content.{Content}
-use Rattle.chunk_pool.specs.Chunks.{held_at}
-use Rattle.alloc_path.specs.Heap.{IsFresh}
+use Rattle.object_layout.specs.ChunkValue.{ChunkValue}
+use Rattle.chunk_pool.specs.PoolValue.{held_at}
+use Rattle.alloc_path.specs.LeafHeapValue.{IsFresh}
 use Rattle.alloc_path.proofs.HeapLemmas.{apart_before}
 use Rattle.inner_mark_gc.proofs.Giving.{given_both, given_one}
 use Rattle.leaf_collections.proofs.leaf_end.give_all.Goals as goal
 
 pub give-requires : goal.give-requires
 give-requires c =
-    let ks : List Content = c.args.chunks.items in
-    let k : Content = c.in-Some.chunk in
+    let ks : List ChunkValue = c.args.chunks.items in
+    let k : ChunkValue = c.in-Some.chunk in
     let n = length c.loop-chunk.yielded in
     let t = YieldsList-turn (YieldsList-from_vec c.args.chunks.items (search rules) (search rules)) c.loop-chunk.yielded _ c.loop-chunk.yielded_by _ c.next.new.self c.in-Some.chunk c.in-Some.is c.next.ensures.steps in
-    let fresh = subst (λ (xs : List Content). IsFresh xs k.number) (sym c.loop-chunk.invariant.taken) (subst (λ (x : Content). IsFresh (take n ks) x.number) (sym t.1) (apart_before ks c.requires.apart n k t.0)) in
-    let used = subst (λ (x : Content). IsSome (held_at c.args.pool.now x.number)) (sym t.1) (All-get_or (λ (x : Content). IsSome (held_at c.args.pool.now x.number)) ks n k t.0 c.requires.in_use) in
+    let fresh = subst (λ (xs : List ChunkValue). IsFresh xs k.number) (sym c.loop-chunk.invariant.taken) (subst (λ (x : ChunkValue). IsFresh (take n ks) x.number) (sym t.1) (apart_before ks c.requires.apart n k t.0)) in
+    let used = subst (λ (x : ChunkValue). IsSome (held_at c.args.pool.now x.number)) (sym t.1) (All-get_or (λ (x : ChunkValue). IsSome (held_at c.args.pool.now x.number)) ks n k t.0 c.requires.in_use) in
     subst (λ o. IsSome o) (sym (c.loop-chunk.invariant.pool.others k.number fresh)) used
 
 pub loop-chunk-preserved : goal.loop-chunk-preserved
 loop-chunk-preserved c =
-    let ks : List Content = c.args.chunks.items in
-    let k : Content = c.in-Some.chunk in
+    let ks : List ChunkValue = c.args.chunks.items in
+    let k : ChunkValue = c.in-Some.chunk in
     let n = length c.loop-chunk.yielded in
     let t = YieldsList-turn (YieldsList-from_vec c.args.chunks.items (search rules) (search rules)) c.loop-chunk.yielded _ c.loop-chunk.yielded_by _ c.next.new.self c.in-Some.chunk c.in-Some.is c.next.ensures.steps in
-    let fresh = subst (λ (xs : List Content). IsFresh xs k.number) (sym c.loop-chunk.invariant.taken) (subst (λ (x : Content). IsFresh (take n ks) x.number) (sym t.1) (apart_before ks c.requires.apart n k t.0)) in
+    let fresh = subst (λ (xs : List ChunkValue). IsFresh xs k.number) (sym c.loop-chunk.invariant.taken) (subst (λ (x : ChunkValue). IsFresh (take n ks) x.number) (sym t.1) (apart_before ks c.requires.apart n k t.0)) in
     let count : length (c.loop-chunk.yielded ++ k ∷ []) ≡ length c.loop-chunk.yielded + 1 = length_push c.loop-chunk.yielded k in
     record {
       taken =
-          ap (λ (xs : List Content). xs ++ k ∷ []) c.loop-chunk.invariant.taken
-          ∙ (ap (λ (x : Content). take n ks ++ x ∷ []) t.1
+          ap (λ (xs : List ChunkValue). xs ++ k ∷ []) c.loop-chunk.invariant.taken
+          ∙ (ap (λ (x : ChunkValue). take n ks ++ x ∷ []) t.1
           ∙ (sym (take_more ks n k t.0)
           ∙ ap (λ m. take m ks) (sym count)));
       pool = given_both c.args.pool.now c.loop-chunk.pool c.give.new.self c.loop-chunk.yielded (k ∷ []) c.loop-chunk.invariant.pool (given_one c.loop-chunk.pool c.give.new.self k c.give.ensures)

@@ -1,13 +1,13 @@
 use Rattle.std.proofs.Common.{◌≡◌, ℕ, List, length, fold, reverse, refl, sym, ap, ◌∙◌, subst, arith, Option, All}
 use Rattle.std.proofs.lemmas.List.{length-map, length-reverse}
 use Rattle.object_layout.specs.declared.word.Addr.{Addr}
-use Rattle.object_layout.specs.Content.{Content}
+use Rattle.object_layout.specs.ChunkValue.{ChunkValue}
 use Rattle.object_layout.specs.Graph.{IsClosed, IsSound}
 use Rattle.object_layout.proofs.Distinct.{once_from}
-use Rattle.alloc_path.specs.Heap.{Heap}
+use Rattle.alloc_path.specs.LeafHeapValue.{LeafHeapValue}
 use Rattle.leaf_copy_gc.specs.declared.lists.Survivor.{Survivor}
 use Rattle.leaf_copy_gc.specs.Survivors.{olds, outside, with_chunks}
-use Rattle.leaf_copy_gc.specs.Collection.{Collection}
+use Rattle.leaf_copy_gc.specs.CollectorValue.{CollectorValue}
 use Rattle.leaf_copy_gc.specs.Redirected.{led_chunk}
 use Rattle.leaf_copy_gc.specs.Collected.{laying_of, redirection}
 use Rattle.leaf_copy_gc.specs.Evacuated.{Begins, IsEvacuated}
@@ -24,7 +24,7 @@ use Rattle.leaf_copy_gc.proofs.collection.collect.Goals as goal
 
 pub evacuate-requires-clause-begins : goal.evacuate-requires-clause-begins
 evacuate-requires-clause-begins c =
-    let news : List Content = c.args.to_chunks.chunks.items in
+    let news : List ChunkValue = c.args.to_chunks.chunks.items in
     let enough = c.requires.enough in
     let count = length-reverse news in
     subst Begins (sym c.of-collector.ensures) (record {
@@ -36,93 +36,93 @@ evacuate-requires-clause-begins c =
     })
 
 pub evacuate-requires-clause-closed : goal.evacuate-requires-clause-closed
-evacuate-requires-clause-closed c = subst (λ (z : Collection). IsClosed z.heap.chunks) (sym c.of-collector.ensures) c.requires.closed
+evacuate-requires-clause-closed c = subst (λ (z : CollectorValue). IsClosed z.heap.chunks) (sym c.of-collector.ensures) c.requires.closed
 
 pub evacuate-requires-clause-outside : goal.evacuate-requires-clause-outside
-evacuate-requires-clause-outside c = subst (λ (z : Collection). All (IsSound z.heap.chunks) (outside c.args.frames.now c.args.roots.now)) (sym c.of-collector.ensures) c.requires.outside
+evacuate-requires-clause-outside c = subst (λ (z : CollectorValue). All (IsSound z.heap.chunks) (outside c.args.frames.now c.args.roots.now)) (sym c.of-collector.ensures) c.requires.outside
 
 pub exchange-are_large-requires-clause-apart : goal.exchange-are_large-requires-clause-apart
 exchange-are_large-requires-clause-apart c =
-    let h : List Content = c.args.heap.chunks in
-    let news : List Content = c.args.to_chunks.chunks.items in
-    let b : Collection = record { heap = c.args.heap; found = c.args.to_chunks.found.items; laying = record { laid = c.args.to_chunks.laid.items; spare = reverse news }; moved = c.args.to_chunks.lists.moved.items } in
-    let k : Collection = record { heap = c.collector.inside.heap; found = c.collector.inside.found.items; laying = record { laid = c.collector.inside.laid.items; spare = reverse c.collector.inside.spare.items }; moved = c.collector.inside.moved.items } in
-    let e : IsEvacuated b c.args.frames.now c.args.roots.now k c.evacuate.new.frames = subst (λ (z : Collection). IsEvacuated b c.args.frames.now c.args.roots.now z c.evacuate.new.frames) (sym c.collector.view_is) (subst (λ (y : Collection). IsEvacuated y c.args.frames.now c.args.roots.now c.evacuate.new.self c.evacuate.new.frames) c.of-collector.ensures c.evacuate.ensures) in
-    let g : Heap = c.collector.inside.heap in
+    let h : List ChunkValue = c.args.heap.chunks in
+    let news : List ChunkValue = c.args.to_chunks.chunks.items in
+    let b : CollectorValue = record { heap = c.args.heap; found = c.args.to_chunks.found.items; laying = record { laid = c.args.to_chunks.laid.items; spare = reverse news }; moved = c.args.to_chunks.lists.moved.items } in
+    let k : CollectorValue = record { heap = c.collector.inside.heap; found = c.collector.inside.found.items; laying = record { laid = c.collector.inside.laid.items; spare = reverse c.collector.inside.spare.items }; moved = c.collector.inside.moved.items } in
+    let e : IsEvacuated b c.args.frames.now c.args.roots.now k c.evacuate.new.frames = subst (λ (z : CollectorValue). IsEvacuated b c.args.frames.now c.args.roots.now z c.evacuate.new.frames) (sym c.collector.view_is) (subst (λ (y : CollectorValue). IsEvacuated y c.args.frames.now c.args.roots.now c.evacuate.new.self c.evacuate.new.frames) c.of-collector.ensures c.evacuate.ensures) in
+    let g : LeafHeapValue = c.collector.inside.heap in
     let ss : List Survivor = c.collector.inside.found.items in
-    let laid : List Content = c.collector.inside.laid.items in
+    let laid : List ChunkValue = c.collector.inside.laid.items in
     let r : Option ℕ = c.reserved-reserved.result in
     let s = e.survivors in
     collecting.now_apart h g.chunks ss news r laid e.left c.requires.tidy c.requires.apart c.requires.new (once_from (olds ss) s.once) s.names c.reserved-reserved.ensures.empty e.laid
 
 pub exchange-are_large-requires-clause-small : goal.exchange-are_large-requires-clause-small
 exchange-are_large-requires-clause-small c =
-    let h : List Content = c.args.heap.chunks in
-    let news : List Content = c.args.to_chunks.chunks.items in
-    let b : Collection = record { heap = c.args.heap; found = c.args.to_chunks.found.items; laying = record { laid = c.args.to_chunks.laid.items; spare = reverse news }; moved = c.args.to_chunks.lists.moved.items } in
-    let k : Collection = record { heap = c.collector.inside.heap; found = c.collector.inside.found.items; laying = record { laid = c.collector.inside.laid.items; spare = reverse c.collector.inside.spare.items }; moved = c.collector.inside.moved.items } in
-    let e : IsEvacuated b c.args.frames.now c.args.roots.now k c.evacuate.new.frames = subst (λ (z : Collection). IsEvacuated b c.args.frames.now c.args.roots.now z c.evacuate.new.frames) (sym c.collector.view_is) (subst (λ (y : Collection). IsEvacuated y c.args.frames.now c.args.roots.now c.evacuate.new.self c.evacuate.new.frames) c.of-collector.ensures c.evacuate.ensures) in
-    let g : Heap = c.collector.inside.heap in
+    let h : List ChunkValue = c.args.heap.chunks in
+    let news : List ChunkValue = c.args.to_chunks.chunks.items in
+    let b : CollectorValue = record { heap = c.args.heap; found = c.args.to_chunks.found.items; laying = record { laid = c.args.to_chunks.laid.items; spare = reverse news }; moved = c.args.to_chunks.lists.moved.items } in
+    let k : CollectorValue = record { heap = c.collector.inside.heap; found = c.collector.inside.found.items; laying = record { laid = c.collector.inside.laid.items; spare = reverse c.collector.inside.spare.items }; moved = c.collector.inside.moved.items } in
+    let e : IsEvacuated b c.args.frames.now c.args.roots.now k c.evacuate.new.frames = subst (λ (z : CollectorValue). IsEvacuated b c.args.frames.now c.args.roots.now z c.evacuate.new.frames) (sym c.collector.view_is) (subst (λ (y : CollectorValue). IsEvacuated y c.args.frames.now c.args.roots.now c.evacuate.new.self c.evacuate.new.frames) c.of-collector.ensures c.evacuate.ensures) in
+    let g : LeafHeapValue = c.collector.inside.heap in
     let ss : List Survivor = c.collector.inside.found.items in
-    let laid : List Content = c.collector.inside.laid.items in
+    let laid : List ChunkValue = c.collector.inside.laid.items in
     let r : Option ℕ = c.reserved-reserved.result in
     let s = e.survivors in
     collecting.small_last h g.chunks ss news r laid e.left c.requires.tidy c.requires.apart c.requires.new (once_from (olds ss) s.once) s.names c.reserved-reserved.ensures.empty e.laid
 
 pub exchange-are_large-requires-clause-back : goal.exchange-are_large-requires-clause-back
 exchange-are_large-requires-clause-back c =
-    let h : List Content = c.args.heap.chunks in
-    let news : List Content = c.args.to_chunks.chunks.items in
-    let b : Collection = record { heap = c.args.heap; found = c.args.to_chunks.found.items; laying = record { laid = c.args.to_chunks.laid.items; spare = reverse news }; moved = c.args.to_chunks.lists.moved.items } in
-    let k : Collection = record { heap = c.collector.inside.heap; found = c.collector.inside.found.items; laying = record { laid = c.collector.inside.laid.items; spare = reverse c.collector.inside.spare.items }; moved = c.collector.inside.moved.items } in
-    let e : IsEvacuated b c.args.frames.now c.args.roots.now k c.evacuate.new.frames = subst (λ (z : Collection). IsEvacuated b c.args.frames.now c.args.roots.now z c.evacuate.new.frames) (sym c.collector.view_is) (subst (λ (y : Collection). IsEvacuated y c.args.frames.now c.args.roots.now c.evacuate.new.self c.evacuate.new.frames) c.of-collector.ensures c.evacuate.ensures) in
-    let g : Heap = c.collector.inside.heap in
+    let h : List ChunkValue = c.args.heap.chunks in
+    let news : List ChunkValue = c.args.to_chunks.chunks.items in
+    let b : CollectorValue = record { heap = c.args.heap; found = c.args.to_chunks.found.items; laying = record { laid = c.args.to_chunks.laid.items; spare = reverse news }; moved = c.args.to_chunks.lists.moved.items } in
+    let k : CollectorValue = record { heap = c.collector.inside.heap; found = c.collector.inside.found.items; laying = record { laid = c.collector.inside.laid.items; spare = reverse c.collector.inside.spare.items }; moved = c.collector.inside.moved.items } in
+    let e : IsEvacuated b c.args.frames.now c.args.roots.now k c.evacuate.new.frames = subst (λ (z : CollectorValue). IsEvacuated b c.args.frames.now c.args.roots.now z c.evacuate.new.frames) (sym c.collector.view_is) (subst (λ (y : CollectorValue). IsEvacuated y c.args.frames.now c.args.roots.now c.evacuate.new.self c.evacuate.new.frames) c.of-collector.ensures c.evacuate.ensures) in
+    let g : LeafHeapValue = c.collector.inside.heap in
     let ss : List Survivor = c.collector.inside.found.items in
-    let laid : List Content = c.collector.inside.laid.items in
+    let laid : List ChunkValue = c.collector.inside.laid.items in
     let r : Option ℕ = c.reserved-reserved.result in
     let s = e.survivors in
     let n = nums.alike_length h g.chunks e.left.alike in
-    let none = ap (λ (ks : List Content). length ks) c.requires.reserved.back in
+    let none = ap (λ (ks : List ChunkValue). length ks) c.requires.reserved.back in
     let room = c.requires.reserved.back_room in
     omega arith
 
 pub exchange-are_large-requires-clause-spare : goal.exchange-are_large-requires-clause-spare
 exchange-are_large-requires-clause-spare c =
-    let h : List Content = c.args.heap.chunks in
-    let news : List Content = c.args.to_chunks.chunks.items in
-    let b : Collection = record { heap = c.args.heap; found = c.args.to_chunks.found.items; laying = record { laid = c.args.to_chunks.laid.items; spare = reverse news }; moved = c.args.to_chunks.lists.moved.items } in
-    let k : Collection = record { heap = c.collector.inside.heap; found = c.collector.inside.found.items; laying = record { laid = c.collector.inside.laid.items; spare = reverse c.collector.inside.spare.items }; moved = c.collector.inside.moved.items } in
-    let e : IsEvacuated b c.args.frames.now c.args.roots.now k c.evacuate.new.frames = subst (λ (z : Collection). IsEvacuated b c.args.frames.now c.args.roots.now z c.evacuate.new.frames) (sym c.collector.view_is) (subst (λ (y : Collection). IsEvacuated y c.args.frames.now c.args.roots.now c.evacuate.new.self c.evacuate.new.frames) c.of-collector.ensures c.evacuate.ensures) in
-    let g : Heap = c.collector.inside.heap in
+    let h : List ChunkValue = c.args.heap.chunks in
+    let news : List ChunkValue = c.args.to_chunks.chunks.items in
+    let b : CollectorValue = record { heap = c.args.heap; found = c.args.to_chunks.found.items; laying = record { laid = c.args.to_chunks.laid.items; spare = reverse news }; moved = c.args.to_chunks.lists.moved.items } in
+    let k : CollectorValue = record { heap = c.collector.inside.heap; found = c.collector.inside.found.items; laying = record { laid = c.collector.inside.laid.items; spare = reverse c.collector.inside.spare.items }; moved = c.collector.inside.moved.items } in
+    let e : IsEvacuated b c.args.frames.now c.args.roots.now k c.evacuate.new.frames = subst (λ (z : CollectorValue). IsEvacuated b c.args.frames.now c.args.roots.now z c.evacuate.new.frames) (sym c.collector.view_is) (subst (λ (y : CollectorValue). IsEvacuated y c.args.frames.now c.args.roots.now c.evacuate.new.self c.evacuate.new.frames) c.of-collector.ensures c.evacuate.ensures) in
+    let g : LeafHeapValue = c.collector.inside.heap in
     let ss : List Survivor = c.collector.inside.found.items in
-    let laid : List Content = c.collector.inside.laid.items in
+    let laid : List ChunkValue = c.collector.inside.laid.items in
     let r : Option ℕ = c.reserved-reserved.result in
     let s = e.survivors in
-    let same : length laid ≡ length (laying_of h ss (reverse news)).laid = ap (λ (ks : List Content). length ks) e.laid ∙ length-map (laying_of h ss (reverse news)).laid (led_chunk (redirection h ss (reverse news))) in
+    let same : length laid ≡ length (laying_of h ss (reverse news)).laid = ap (λ (ks : List ChunkValue). length ks) e.laid ∙ length-map (laying_of h ss (reverse news)).laid (led_chunk (redirection h ss (reverse news))) in
     let count = places.count_laid (before (reverse news)) h (smalls h (olds ss)) in
     let turned = length-reverse news in
-    let kept = ap (λ (x : Heap). x.spare) e.kept in
+    let kept = ap (λ (x : LeafHeapValue). x.spare) e.kept in
     let room = c.requires.reserved.spare in
     omega arith
 
 pub give_rest-requires : goal.give_rest-requires
 give_rest-requires c =
-    let h : List Content = c.args.heap.chunks in
-    let news : List Content = c.args.to_chunks.chunks.items in
-    let b : Collection = record { heap = c.args.heap; found = c.args.to_chunks.found.items; laying = record { laid = c.args.to_chunks.laid.items; spare = reverse news }; moved = c.args.to_chunks.lists.moved.items } in
-    let k : Collection = record { heap = c.collector.inside.heap; found = c.collector.inside.found.items; laying = record { laid = c.collector.inside.laid.items; spare = reverse c.collector.inside.spare.items }; moved = c.collector.inside.moved.items } in
-    let e : IsEvacuated b c.args.frames.now c.args.roots.now k c.evacuate.new.frames = subst (λ (z : Collection). IsEvacuated b c.args.frames.now c.args.roots.now z c.evacuate.new.frames) (sym c.collector.view_is) (subst (λ (y : Collection). IsEvacuated y c.args.frames.now c.args.roots.now c.evacuate.new.self c.evacuate.new.frames) c.of-collector.ensures c.evacuate.ensures) in
-    let g : Heap = c.collector.inside.heap in
+    let h : List ChunkValue = c.args.heap.chunks in
+    let news : List ChunkValue = c.args.to_chunks.chunks.items in
+    let b : CollectorValue = record { heap = c.args.heap; found = c.args.to_chunks.found.items; laying = record { laid = c.args.to_chunks.laid.items; spare = reverse news }; moved = c.args.to_chunks.lists.moved.items } in
+    let k : CollectorValue = record { heap = c.collector.inside.heap; found = c.collector.inside.found.items; laying = record { laid = c.collector.inside.laid.items; spare = reverse c.collector.inside.spare.items }; moved = c.collector.inside.moved.items } in
+    let e : IsEvacuated b c.args.frames.now c.args.roots.now k c.evacuate.new.frames = subst (λ (z : CollectorValue). IsEvacuated b c.args.frames.now c.args.roots.now z c.evacuate.new.frames) (sym c.collector.view_is) (subst (λ (y : CollectorValue). IsEvacuated y c.args.frames.now c.args.roots.now c.evacuate.new.self c.evacuate.new.frames) c.of-collector.ensures c.evacuate.ensures) in
+    let g : LeafHeapValue = c.collector.inside.heap in
     let ss : List Survivor = c.collector.inside.found.items in
-    let laid : List Content = c.collector.inside.laid.items in
+    let laid : List ChunkValue = c.collector.inside.laid.items in
     let r : Option ℕ = c.reserved-reserved.result in
     let s = e.survivors in
     let n = nums.alike_length h g.chunks e.left.alike in
-    let none = ap (λ (ks : List Content). length ks) c.requires.reserved.back in
+    let none = ap (λ (ks : List ChunkValue). length ks) c.requires.reserved.back in
     let room = c.requires.reserved.back_room in
     let count = c.exchange-are_large.ensures.back_count in
     let same = c.exchange-are_large.ensures.back_room in
-    let rest = ap (λ (ks : List Content). length ks) e.spare in
+    let rest = ap (λ (ks : List ChunkValue). length ks) e.spare in
     let all = places.count_laid (before (reverse news)) h (smalls h (olds ss)) in
     let turned = length-reverse news in
     let turned_rest = length-reverse c.collector.inside.spare.items in
@@ -130,49 +130,49 @@ give_rest-requires c =
 
 pub name_larges-requires-clause-can : goal.name_larges-requires-clause-can
 name_larges-requires-clause-can c =
-    let h : List Content = c.args.heap.chunks in
-    let news : List Content = c.args.to_chunks.chunks.items in
-    let b : Collection = record { heap = c.args.heap; found = c.args.to_chunks.found.items; laying = record { laid = c.args.to_chunks.laid.items; spare = reverse news }; moved = c.args.to_chunks.lists.moved.items } in
-    let k : Collection = record { heap = c.collector.inside.heap; found = c.collector.inside.found.items; laying = record { laid = c.collector.inside.laid.items; spare = reverse c.collector.inside.spare.items }; moved = c.collector.inside.moved.items } in
-    let e : IsEvacuated b c.args.frames.now c.args.roots.now k c.evacuate.new.frames = subst (λ (z : Collection). IsEvacuated b c.args.frames.now c.args.roots.now z c.evacuate.new.frames) (sym c.collector.view_is) (subst (λ (y : Collection). IsEvacuated y c.args.frames.now c.args.roots.now c.evacuate.new.self c.evacuate.new.frames) c.of-collector.ensures c.evacuate.ensures) in
-    let g : Heap = c.collector.inside.heap in
+    let h : List ChunkValue = c.args.heap.chunks in
+    let news : List ChunkValue = c.args.to_chunks.chunks.items in
+    let b : CollectorValue = record { heap = c.args.heap; found = c.args.to_chunks.found.items; laying = record { laid = c.args.to_chunks.laid.items; spare = reverse news }; moved = c.args.to_chunks.lists.moved.items } in
+    let k : CollectorValue = record { heap = c.collector.inside.heap; found = c.collector.inside.found.items; laying = record { laid = c.collector.inside.laid.items; spare = reverse c.collector.inside.spare.items }; moved = c.collector.inside.moved.items } in
+    let e : IsEvacuated b c.args.frames.now c.args.roots.now k c.evacuate.new.frames = subst (λ (z : CollectorValue). IsEvacuated b c.args.frames.now c.args.roots.now z c.evacuate.new.frames) (sym c.collector.view_is) (subst (λ (y : CollectorValue). IsEvacuated y c.args.frames.now c.args.roots.now c.evacuate.new.self c.evacuate.new.frames) c.of-collector.ensures c.evacuate.ensures) in
+    let g : LeafHeapValue = c.collector.inside.heap in
     let ss : List Survivor = c.collector.inside.found.items in
-    let laid : List Content = c.collector.inside.laid.items in
+    let laid : List ChunkValue = c.collector.inside.laid.items in
     let r : Option ℕ = c.reserved-reserved.result in
     let s = e.survivors in
-    let chunks = ap (λ (x : Heap). x.chunks) c.exchange-are_large.ensures.heap in
+    let chunks = ap (λ (x : LeafHeapValue). x.chunks) c.exchange-are_large.ensures.heap in
     subst (CanName c.exchange-are_large.new.heap.chunks) (sym c.deref-2.ensures.value)
-    (subst (λ (ks : List Content). CanName ks ss) (sym chunks) (collecting.can_name h g.chunks ss news r laid e.left c.requires.tidy c.requires.apart c.requires.new (once_from (olds ss) s.once) s.names c.reserved-reserved.ensures.empty e.laid))
+    (subst (λ (ks : List ChunkValue). CanName ks ss) (sym chunks) (collecting.can_name h g.chunks ss news r laid e.left c.requires.tidy c.requires.apart c.requires.new (once_from (olds ss) s.once) s.names c.reserved-reserved.ensures.empty e.laid))
 
 pub name_larges-requires-clause-none : goal.name_larges-requires-clause-none
 name_larges-requires-clause-none c =
-    let h : List Content = c.args.heap.chunks in
-    let news : List Content = c.args.to_chunks.chunks.items in
-    let b : Collection = record { heap = c.args.heap; found = c.args.to_chunks.found.items; laying = record { laid = c.args.to_chunks.laid.items; spare = reverse news }; moved = c.args.to_chunks.lists.moved.items } in
-    let k : Collection = record { heap = c.collector.inside.heap; found = c.collector.inside.found.items; laying = record { laid = c.collector.inside.laid.items; spare = reverse c.collector.inside.spare.items }; moved = c.collector.inside.moved.items } in
-    let e : IsEvacuated b c.args.frames.now c.args.roots.now k c.evacuate.new.frames = subst (λ (z : Collection). IsEvacuated b c.args.frames.now c.args.roots.now z c.evacuate.new.frames) (sym c.collector.view_is) (subst (λ (y : Collection). IsEvacuated y c.args.frames.now c.args.roots.now c.evacuate.new.self c.evacuate.new.frames) c.of-collector.ensures c.evacuate.ensures) in
-    let g : Heap = c.collector.inside.heap in
+    let h : List ChunkValue = c.args.heap.chunks in
+    let news : List ChunkValue = c.args.to_chunks.chunks.items in
+    let b : CollectorValue = record { heap = c.args.heap; found = c.args.to_chunks.found.items; laying = record { laid = c.args.to_chunks.laid.items; spare = reverse news }; moved = c.args.to_chunks.lists.moved.items } in
+    let k : CollectorValue = record { heap = c.collector.inside.heap; found = c.collector.inside.found.items; laying = record { laid = c.collector.inside.laid.items; spare = reverse c.collector.inside.spare.items }; moved = c.collector.inside.moved.items } in
+    let e : IsEvacuated b c.args.frames.now c.args.roots.now k c.evacuate.new.frames = subst (λ (z : CollectorValue). IsEvacuated b c.args.frames.now c.args.roots.now z c.evacuate.new.frames) (sym c.collector.view_is) (subst (λ (y : CollectorValue). IsEvacuated y c.args.frames.now c.args.roots.now c.evacuate.new.self c.evacuate.new.frames) c.of-collector.ensures c.evacuate.ensures) in
+    let g : LeafHeapValue = c.collector.inside.heap in
     let ss : List Survivor = c.collector.inside.found.items in
-    let laid : List Content = c.collector.inside.laid.items in
+    let laid : List ChunkValue = c.collector.inside.laid.items in
     let r : Option ℕ = c.reserved-reserved.result in
     let s = e.survivors in
-    let chunks = ap (λ (x : Heap). x.chunks) c.exchange-are_large.ensures.heap in
+    let chunks = ap (λ (x : LeafHeapValue). x.chunks) c.exchange-are_large.ensures.heap in
     λ no. ap (λ (xs : List Survivor). fold named c.exchange-are_large.new.heap.chunks xs) c.deref-2.ensures.value
-    ∙ (ap (λ (ks : List Content). fold named ks ss) chunks ∙ (collecting.none_named h g.chunks ss news r laid e.left c.requires.tidy c.requires.apart c.requires.new (once_from (olds ss) s.once) s.names c.reserved-reserved.ensures.empty e.laid (c.exchange-are_large.ensures.none no) ∙ sym chunks))
+    ∙ (ap (λ (ks : List ChunkValue). fold named ks ss) chunks ∙ (collecting.none_named h g.chunks ss news r laid e.left c.requires.tidy c.requires.apart c.requires.new (once_from (olds ss) s.once) s.names c.reserved-reserved.ensures.empty e.laid (c.exchange-are_large.ensures.none no) ∙ sym chunks))
 
 pub returns-clause-collected : goal.returns-clause-collected
 returns-clause-collected c =
-    let h : List Content = c.args.heap.chunks in
-    let news : List Content = c.args.to_chunks.chunks.items in
-    let b : Collection = record { heap = c.args.heap; found = c.args.to_chunks.found.items; laying = record { laid = c.args.to_chunks.laid.items; spare = reverse news }; moved = c.args.to_chunks.lists.moved.items } in
-    let k : Collection = record { heap = c.collector.inside.heap; found = c.collector.inside.found.items; laying = record { laid = c.collector.inside.laid.items; spare = reverse c.collector.inside.spare.items }; moved = c.collector.inside.moved.items } in
-    let e : IsEvacuated b c.args.frames.now c.args.roots.now k c.evacuate.new.frames = subst (λ (z : Collection). IsEvacuated b c.args.frames.now c.args.roots.now z c.evacuate.new.frames) (sym c.collector.view_is) (subst (λ (y : Collection). IsEvacuated y c.args.frames.now c.args.roots.now c.evacuate.new.self c.evacuate.new.frames) c.of-collector.ensures c.evacuate.ensures) in
-    let g : Heap = c.collector.inside.heap in
+    let h : List ChunkValue = c.args.heap.chunks in
+    let news : List ChunkValue = c.args.to_chunks.chunks.items in
+    let b : CollectorValue = record { heap = c.args.heap; found = c.args.to_chunks.found.items; laying = record { laid = c.args.to_chunks.laid.items; spare = reverse news }; moved = c.args.to_chunks.lists.moved.items } in
+    let k : CollectorValue = record { heap = c.collector.inside.heap; found = c.collector.inside.found.items; laying = record { laid = c.collector.inside.laid.items; spare = reverse c.collector.inside.spare.items }; moved = c.collector.inside.moved.items } in
+    let e : IsEvacuated b c.args.frames.now c.args.roots.now k c.evacuate.new.frames = subst (λ (z : CollectorValue). IsEvacuated b c.args.frames.now c.args.roots.now z c.evacuate.new.frames) (sym c.collector.view_is) (subst (λ (y : CollectorValue). IsEvacuated y c.args.frames.now c.args.roots.now c.evacuate.new.self c.evacuate.new.frames) c.of-collector.ensures c.evacuate.ensures) in
+    let g : LeafHeapValue = c.collector.inside.heap in
     let ss : List Survivor = c.collector.inside.found.items in
-    let laid : List Content = c.collector.inside.laid.items in
+    let laid : List ChunkValue = c.collector.inside.laid.items in
     let r : Option ℕ = c.reserved-reserved.result in
     let s = e.survivors in
-    let r_is : r ≡ c.args.heap.reserved = c.reserved-reserved.ensures.place ∙ ap (λ (x : Heap). x.reserved) e.kept in
+    let r_is : r ≡ c.args.heap.reserved = c.reserved-reserved.ensures.place ∙ ap (λ (x : LeafHeapValue). x.reserved) e.kept in
     let permuted = subst (λ (ms : List (Addr × Addr)). IsPermutation ms c.sort.new.list.items) e.moved c.sort.ensures.permutation in
     record {
       survivors = ss;
@@ -183,24 +183,24 @@ returns-clause-collected c =
       moved = permuted;
       order = orders.moved_in_order (before (reverse news)) h (smalls h (olds ss)) c.sort.new.list.items permuted c.sort.ensures.sorted (moves.once_smalls h (olds ss) (once_from (olds ss) s.once))
           (λ a i. orders.survivor_place h (outside c.args.frames.now c.args.roots.now) c.requires.closed c.requires.outside a ((s.exactly a).0 (contains_from_in (olds ss) a (moves.in_smalls h (olds ss) a i).0)));
-      taken = c.count_of-taken.ensures ∙ ap (λ (ks : List Content). counted32 (length ks)) (c.deref.ensures.value ∙ e.laid);
-      given = c.units_of.ensures ∙ ap (λ (ks : List Content). counted32 (unit_count ks)) c.deref-3.ensures.value;
+      taken = c.count_of-taken.ensures ∙ ap (λ (ks : List ChunkValue). counted32 (length ks)) (c.deref.ensures.value ∙ e.laid);
+      given = c.units_of.ensures ∙ ap (λ (ks : List ChunkValue). counted32 (unit_count ks)) c.deref-3.ensures.value;
       left = c.counted.ensures ∙ (ap counted32 c.words.ensures ∙ omega arith);
       back = c.give_rest.ensures ∙ collecting.back_is h g.chunks ss news r laid e.left c.requires.tidy c.requires.apart c.requires.new (once_from (olds ss) s.once) s.names c.reserved-reserved.ensures.empty e.laid c.args.heap r_is c.args.to_chunks.lists.back.items c.requires.reserved.back c.collector.inside.spare.items e.spare c.exchange-are_large.new.back.items c.exchange-are_large.ensures.back;
     }
 
 pub returns-clause-settled : goal.returns-clause-settled
 returns-clause-settled c =
-    let h : List Content = c.args.heap.chunks in
-    let news : List Content = c.args.to_chunks.chunks.items in
-    let b : Collection = record { heap = c.args.heap; found = c.args.to_chunks.found.items; laying = record { laid = c.args.to_chunks.laid.items; spare = reverse news }; moved = c.args.to_chunks.lists.moved.items } in
-    let k : Collection = record { heap = c.collector.inside.heap; found = c.collector.inside.found.items; laying = record { laid = c.collector.inside.laid.items; spare = reverse c.collector.inside.spare.items }; moved = c.collector.inside.moved.items } in
-    let e : IsEvacuated b c.args.frames.now c.args.roots.now k c.evacuate.new.frames = subst (λ (z : Collection). IsEvacuated b c.args.frames.now c.args.roots.now z c.evacuate.new.frames) (sym c.collector.view_is) (subst (λ (y : Collection). IsEvacuated y c.args.frames.now c.args.roots.now c.evacuate.new.self c.evacuate.new.frames) c.of-collector.ensures c.evacuate.ensures) in
-    let g : Heap = c.collector.inside.heap in
+    let h : List ChunkValue = c.args.heap.chunks in
+    let news : List ChunkValue = c.args.to_chunks.chunks.items in
+    let b : CollectorValue = record { heap = c.args.heap; found = c.args.to_chunks.found.items; laying = record { laid = c.args.to_chunks.laid.items; spare = reverse news }; moved = c.args.to_chunks.lists.moved.items } in
+    let k : CollectorValue = record { heap = c.collector.inside.heap; found = c.collector.inside.found.items; laying = record { laid = c.collector.inside.laid.items; spare = reverse c.collector.inside.spare.items }; moved = c.collector.inside.moved.items } in
+    let e : IsEvacuated b c.args.frames.now c.args.roots.now k c.evacuate.new.frames = subst (λ (z : CollectorValue). IsEvacuated b c.args.frames.now c.args.roots.now z c.evacuate.new.frames) (sym c.collector.view_is) (subst (λ (y : CollectorValue). IsEvacuated y c.args.frames.now c.args.roots.now c.evacuate.new.self c.evacuate.new.frames) c.of-collector.ensures c.evacuate.ensures) in
+    let g : LeafHeapValue = c.collector.inside.heap in
     let ss : List Survivor = c.collector.inside.found.items in
-    let laid : List Content = c.collector.inside.laid.items in
+    let laid : List ChunkValue = c.collector.inside.laid.items in
     let r : Option ℕ = c.reserved-reserved.result in
     let s = e.survivors in
     collecting.settled_now h g.chunks ss news r laid e.left c.requires.tidy c.requires.apart c.requires.new (once_from (olds ss) s.once) s.names c.reserved-reserved.ensures.empty e.laid
-    c.exchange-are_large.new.heap c.name_larges.new.heap c.reset_since.new.self (ap (λ (x : Heap). x.chunks) c.exchange-are_large.ensures.heap)
+    c.exchange-are_large.new.heap c.name_larges.new.heap c.reset_since.new.self (ap (λ (x : LeafHeapValue). x.chunks) c.exchange-are_large.ensures.heap)
     (c.name_larges.ensures ∙ ap (λ (xs : List Survivor). with_chunks c.exchange-are_large.new.heap (fold named c.exchange-are_large.new.heap.chunks xs)) c.deref-2.ensures.value) c.reset_since.ensures

@@ -1,12 +1,12 @@
 use Rattle.std.proofs.Common.{◌++◌, sym, subst}
-use Rattle.alloc_path.specs.Heap.{AreApart, AreTidy, Heap}
+use Rattle.alloc_path.specs.LeafHeapValue.{AreApart, AreTidy, LeafHeapValue}
 use Rattle.leaf_copy_gc.proofs.Numbers as nums
 use Rattle.leaf_copy_gc.proofs.collection.copy.Goals as goal
 
 pub collect-space-requires-clause-tidy : goal.collect-space-requires-clause-tidy
-collect-space-requires-clause-tidy g c = subst (λ (h : Heap). AreTidy h.chunks) (sym c.open.ensures.space) c.open.ensures.settled.tidy
+collect-space-requires-clause-tidy g c = subst (λ (h : LeafHeapValue). AreTidy h.chunks) (sym c.open.ensures.space) c.open.ensures.settled.tidy
 
 pub collect-space-requires-clause-apart : goal.collect-space-requires-clause-apart
 collect-space-requires-clause-apart g c =
-    subst (λ (h : Heap). AreApart (h.chunks ++ c.args.to_chunks.chunks.items)) (sym c.open.ensures.space)
+    subst (λ (h : LeafHeapValue). AreApart (h.chunks ++ c.args.to_chunks.chunks.items)) (sym c.open.ensures.space)
     (nums.apart_append c.args.heap.now.chunks c.args.to_chunks.chunks.items c.open.ensures.settled.apart c.requires.apart c.requires.fresh)

@@ -1,5 +1,5 @@
 use Rattle.std.proofs.Common.{◌∙◌, take}
-use Rattle.alloc_path.specs.Heap.{units}
+use Rattle.alloc_path.specs.LeafHeapValue.{units}
 use Rattle.leaf_copy_gc.specs.Exchanged.{unit_count}
 use Rattle.leaf_copy_gc.proofs.Exchanges as exchanges
 use Rattle.leaf_copy_gc.proofs.exchange.units_of.Goals as goal

@@ -1,6 +1,6 @@
 use Rattle.std.proofs.Common.{◌≡◌, ◌+◌, List, arith, refl, sym, ap, ◌∙◌, subst, All}
 use Rattle.object_layout.specs.Cell.{Cell, IsObject, size_of}
-use Rattle.object_layout.specs.Content.{Content}
+use Rattle.object_layout.specs.ChunkValue.{ChunkValue}
 use Rattle.object_layout.specs.Place.{IsCellAt, cell_at, words_in}
 use Rattle.object_layout.proofs.PlaceLemmas as place
 use Rattle.leaf_copy_gc.specs.Search.{IsTarget}
@@ -48,4 +48,4 @@ returns c =
     let f = followed_ref c.args.heap.now.chunks in
     let w = c.loop-at.invariant.within in
     let at : c.loop-at.at ≡ words_in c.args.chunk.now.cells = omega arith in
-    c.loop-at.invariant.chunk ∙ ap (λ (xs : List Cell). let r : Content = record c.args.chunk.now { cells = xs } in r) (ap (led_before f c.args.chunk.now.cells) at ∙ follows.before_all f c.args.chunk.now.cells)
+    c.loop-at.invariant.chunk ∙ ap (λ (xs : List Cell). let r : ChunkValue = record c.args.chunk.now { cells = xs } in r) (ap (led_before f c.args.chunk.now.cells) at ∙ follows.before_all f c.args.chunk.now.cells)

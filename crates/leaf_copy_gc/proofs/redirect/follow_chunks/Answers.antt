@@ -1,12 +1,12 @@
 use Rattle.std.proofs.Common.{set, ◌∙◌, ap, sym}
 use Rattle.std.proofs.lemmas.List.Edits.{map_over_more}
-use Rattle.object_layout.specs.Content.{Content}
+use Rattle.object_layout.specs.ChunkValue.{ChunkValue}
 use Rattle.leaf_copy_gc.specs.Redirected.{followed_ref, led_chunk}
 use Rattle.leaf_copy_gc.proofs.redirect.follow_chunks.Goals as goal
 
 pub loop-chunk-preserved : goal.loop-chunk-preserved
 loop-chunk-preserved c =
-    let x : Content = c.chunk-item.result in
+    let x : ChunkValue = c.chunk-item.result in
     let f = led_chunk (followed_ref c.args.heap.now.chunks) in
-    ap (λ (k : Content). set c.loop-chunk.chunks c.loop-chunk.chunk-index k) (c.follow_chunk.ensures ∙ ap f (sym c.chunk-item.is))
+    ap (λ (k : ChunkValue). set c.loop-chunk.chunks c.loop-chunk.chunk-index k) (c.follow_chunk.ensures ∙ ap f (sym c.chunk-item.is))
     ∙ map_over_more f c.args.chunks.now c.loop-chunk.chunks c.loop-chunk.chunk-index x c.loop-chunk-test.true c.loop-chunk.invariant c.chunk-item.is

@@ -1,7 +1,7 @@
 use Rattle.std.proofs.Common.{◌<◌, length, ap, ◌∙◌, sym, subst, arith, length-append, List, Option, All}
 use Rattle.object_layout.specs.declared.word.Addr.{Addr}
 use Rattle.task_frames.specs.declared.frames.Frame.{Frame}
-use Rattle.task_frames.specs.Stack.{frames_of, references_of}
+use Rattle.task_frames.specs.FramesValue.{frames_of, references_of}
 use Rattle.leaf_copy_gc.specs.Survivors.{held_by}
 use Rattle.leaf_copy_gc.specs.Search.{IsTarget}
 use Rattle.leaf_copy_gc.specs.Redirected.{followed_ref}

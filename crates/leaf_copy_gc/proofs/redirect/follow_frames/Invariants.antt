@@ -1,5 +1,5 @@
 use Rattle.std.proofs.Common.{◌≡◌, ◌++◌, take, drop, map}
-use Rattle.task_frames.specs.Stack.{frames_of}
+use Rattle.task_frames.specs.FramesValue.{frames_of}
 use Rattle.leaf_copy_gc.specs.Redirected.{followed_ref, led_frame}
 use Rattle.leaf_copy_gc.proofs.redirect.follow_frames.Given as goal
 

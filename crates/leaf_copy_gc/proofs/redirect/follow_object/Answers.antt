@@ -1,10 +1,10 @@
 use Rattle.std.proofs.Common.{◌≡◌, ◌<◌, length, ap, ◌∙◌, subst, sym, arith, slice_get, Some, Option, List}
 use Rattle.object_layout.specs.declared.word.Addr.{Addr}
 use Rattle.object_layout.specs.Cell.{Cell, with_ref}
-use Rattle.object_layout.specs.Content.{Content}
+use Rattle.object_layout.specs.ChunkValue.{ChunkValue}
 use Rattle.object_layout.specs.Chunks.{cell_of, place_in, put_object}
 use Rattle.object_layout.proofs.ChunkLaws as laws
-use Rattle.alloc_path.specs.Heap.{Heap}
+use Rattle.alloc_path.specs.LeafHeapValue.{LeafHeapValue}
 use Rattle.alloc_path.proofs.HeapLemmas as heaps
 use Rattle.leaf_copy_gc.specs.Survivors.{with_chunks}
 use Rattle.leaf_copy_gc.specs.Redirected.{followed_ref}
@@ -30,51 +30,51 @@ pub ref_in-requires-clause-object : goal.ref_in-requires-clause-object
 ref_in-requires-clause-object c =
     let count = c.refs_in-field-end.ensures in
     let l : c.loop-field.field < length (cell_of c.args.heap.now.chunks c.args.object).refs = omega arith in
-    let chunks = ap (λ (h : Heap). h.chunks) c.loop-field.invariant.led in
+    let chunks = ap (λ (h : LeafHeapValue). h.chunks) c.loop-field.invariant.led in
     rw chunks (follows.heap_object c.args.heap.now.chunks c.args.object c.requires.0 c.loop-field.field l)
 
 pub ref_in-requires-clause-field : goal.ref_in-requires-clause-field
 ref_in-requires-clause-field c =
     let count = c.refs_in-field-end.ensures in
     let l : c.loop-field.field < length (cell_of c.args.heap.now.chunks c.args.object).refs = omega arith in
-    let chunks = ap (λ (h : Heap). h.chunks) c.loop-field.invariant.led in
+    let chunks = ap (λ (h : LeafHeapValue). h.chunks) c.loop-field.invariant.led in
     rw chunks (follows.heap_cell c.args.heap.now.chunks c.args.object c.requires.0 c.loop-field.field l)
 
 pub set_ref_in-requires-clause-field : goal.set_ref_in-requires-clause-field
 set_ref_in-requires-clause-field c =
     let count = c.refs_in-field-end.ensures in
     let l : c.loop-field.field < length (cell_of c.args.heap.now.chunks c.args.object).refs = omega arith in
-    let chunks = ap (λ (h : Heap). h.chunks) c.loop-field.invariant.led in
+    let chunks = ap (λ (h : LeafHeapValue). h.chunks) c.loop-field.invariant.led in
     rw chunks (follows.heap_field c.args.heap.now.chunks c.args.object c.requires.0 c.loop-field.field l)
 
 pub follow_near-now-requires-clause-target : goal.follow_near-now-requires-clause-target
 follow_near-now-requires-clause-target c =
-    let h : List Content = c.args.heap.now.chunks in
+    let h : List ChunkValue = c.args.heap.now.chunks in
     let count = c.refs_in-field-end.ensures in
     let l : c.loop-field.field < length (cell_of h c.args.object).refs = omega arith in
-    let chunks = ap (λ (z : Heap). z.chunks) c.loop-field.invariant.led in
-    subst (λ (ks : List Content). IsTarget ks c.ref_in.result) (sym chunks)
+    let chunks = ap (λ (z : LeafHeapValue). z.chunks) c.loop-field.invariant.led in
+    subst (λ (ks : List ChunkValue). IsTarget ks c.ref_in.result) (sym chunks)
     (follows.heap_target h c.args.object c.requires.0 c.loop-field.field l c.ref_in.result
     (follows.heap_read h c.args.object c.requires.0 c.loop-field.field l c.ref_in.result
-    (subst (λ (ks : List Content). slice_get (cell_of ks c.args.object).refs c.loop-field.field ≡ Some c.ref_in.result) chunks c.ref_in.ensures.value)) c.requires.1)
+    (subst (λ (ks : List ChunkValue). slice_get (cell_of ks c.args.object).refs c.loop-field.field ≡ Some c.ref_in.result) chunks c.ref_in.ensures.value)) c.requires.1)
 
 pub loop-field-preserved : goal.loop-field-preserved
 loop-field-preserved c =
-    let h : List Content = c.args.heap.now.chunks in
-    let s : Heap = c.loop-field.heap in
+    let h : List ChunkValue = c.args.heap.now.chunks in
+    let s : LeafHeapValue = c.loop-field.heap in
     let count = c.refs_in-field-end.ensures in
     let l : c.loop-field.field < length (cell_of h c.args.object).refs = omega arith in
-    let chunks = ap (λ (z : Heap). z.chunks) c.loop-field.invariant.led in
+    let chunks = ap (λ (z : LeafHeapValue). z.chunks) c.loop-field.invariant.led in
     let written : Cell = with_ref (cell_of s.chunks c.args.object) c.loop-field.field c.follow_near-now.result in
-    let now : c.set_ref_in.new.self.chunks ≡ put_object s.chunks c.args.object written = ap (λ (z : Heap). z.chunks) c.set_ref_in.ensures in
-    let step : Heap → Option Addr → Heap = λ z v. with_chunks z (put_object z.chunks c.args.object (with_ref (cell_of z.chunks c.args.object) c.loop-field.field v)) in
+    let now : c.set_ref_in.new.self.chunks ≡ put_object s.chunks c.args.object written = ap (λ (z : LeafHeapValue). z.chunks) c.set_ref_in.ensures in
+    let step : LeafHeapValue → Option Addr → LeafHeapValue = λ z v. with_chunks z (put_object z.chunks c.args.object (with_ref (cell_of z.chunks c.args.object) c.loop-field.field v)) in
     record {
       led = c.set_ref_in.ensures
           ∙ (ap (step s) c.follow_near-now.ensures.value
-          ∙ (ap (λ (z : Heap). step z (followed_ref z.chunks c.ref_in.result)) c.loop-field.invariant.led
+          ∙ (ap (λ (z : LeafHeapValue). step z (followed_ref z.chunks c.ref_in.result)) c.loop-field.invariant.led
           ∙ ap (with_chunks c.args.heap.now) (follows.heap_more h c.args.object c.requires.0 c.loop-field.field l c.ref_in.result
           (follows.heap_read h c.args.object c.requires.0 c.loop-field.field l c.ref_in.result
-          (subst (λ (ks : List Content). slice_get (cell_of ks c.args.object).refs c.loop-field.field ≡ Some c.ref_in.result) chunks c.ref_in.ensures.value)))));
-      place = ap (λ (ks : List Content). place_in ks c.args.object.chunk) now ∙ (laws.place_in-put s.chunks c.args.object written c.args.object.chunk ∙ c.loop-field.invariant.place);
-      known = ap (λ (ks : List Content). place_in ks c.follow_near-now.new.near.number) now ∙ (laws.place_in-put s.chunks c.args.object written c.follow_near-now.new.near.number ∙ c.follow_near-now.ensures.known);
+          (subst (λ (ks : List ChunkValue). slice_get (cell_of ks c.args.object).refs c.loop-field.field ≡ Some c.ref_in.result) chunks c.ref_in.ensures.value)))));
+      place = ap (λ (ks : List ChunkValue). place_in ks c.args.object.chunk) now ∙ (laws.place_in-put s.chunks c.args.object written c.args.object.chunk ∙ c.loop-field.invariant.place);
+      known = ap (λ (ks : List ChunkValue). place_in ks c.follow_near-now.new.near.number) now ∙ (laws.place_in-put s.chunks c.args.object written c.follow_near-now.new.near.number ∙ c.follow_near-now.ensures.known);
     }

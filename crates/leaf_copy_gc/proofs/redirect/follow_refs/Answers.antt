@@ -1,7 +1,7 @@
 use Rattle.std.proofs.Common.{◌<◌, length, ap, arith}
 use Rattle.object_layout.specs.declared.word.Header.{Header}
 use Rattle.object_layout.specs.Cell.{Cell}
-use Rattle.object_layout.specs.Content.{Content}
+use Rattle.object_layout.specs.ChunkValue.{ChunkValue}
 use Rattle.object_layout.specs.Place.{cell_at}
 use Rattle.object_layout.proofs.PlaceLemmas as place
 use Rattle.leaf_copy_gc.specs.Redirected.{followed_ref}
@@ -17,7 +17,7 @@ ref_at-requires c =
     let same = ap (λ (d : Cell). length d.refs) (place.object_is c.args.chunk.now.cells c.args.at c.requires.object) in
     let kind = ap (λ (h : Header). h.nrefs) c.header_at-field-end.ensures.kind in
     let l : c.loop-field.field < length (cell_at c.args.chunk.now.cells c.args.at).refs = omega arith in
-    let cells = ap (λ (k : Content). k.cells) c.loop-field.invariant.led in
+    let cells = ap (λ (k : ChunkValue). k.cells) c.loop-field.invariant.led in
     rw cells (follows.field (followed_ref c.args.heap.now.chunks) c.args.chunk.now.cells c.args.at c.requires.object c.loop-field.field l)
 
 pub set_ref-requires-clause-field : goal.set_ref-requires-clause-field
@@ -25,7 +25,7 @@ set_ref-requires-clause-field c =
     let same = ap (λ (d : Cell). length d.refs) (place.object_is c.args.chunk.now.cells c.args.at c.requires.object) in
     let kind = ap (λ (h : Header). h.nrefs) c.header_at-field-end.ensures.kind in
     let l : c.loop-field.field < length (cell_at c.args.chunk.now.cells c.args.at).refs = omega arith in
-    let cells = ap (λ (k : Content). k.cells) c.loop-field.invariant.led in
+    let cells = ap (λ (k : ChunkValue). k.cells) c.loop-field.invariant.led in
     rw cells (follows.field (followed_ref c.args.heap.now.chunks) c.args.chunk.now.cells c.args.at c.requires.object c.loop-field.field l)
 
 pub follow_near-now-requires-clause-target : goal.follow_near-now-requires-clause-target
@@ -33,7 +33,7 @@ follow_near-now-requires-clause-target c =
     let same = ap (λ (d : Cell). length d.refs) (place.object_is c.args.chunk.now.cells c.args.at c.requires.object) in
     let kind = ap (λ (h : Header). h.nrefs) c.header_at-field-end.ensures.kind in
     let l : c.loop-field.field < length (cell_at c.args.chunk.now.cells c.args.at).refs = omega arith in
-    let cells = ap (λ (k : Content). k.cells) c.loop-field.invariant.led in
+    let cells = ap (λ (k : ChunkValue). k.cells) c.loop-field.invariant.led in
     let was = follows.was (followed_ref c.args.heap.now.chunks) c.args.chunk.now.cells c.args.at c.requires.object c.loop-field.field l c.ref_at.result (rw cells at c.ref_at.ensures.value) in
     follows.got_all (IsTarget c.args.heap.now.chunks) (cell_at c.args.chunk.now.cells c.args.at).refs c.loop-field.field c.ref_at.result was c.requires.targets
 
@@ -42,7 +42,7 @@ loop-field-preserved c =
     let same = ap (λ (d : Cell). length d.refs) (place.object_is c.args.chunk.now.cells c.args.at c.requires.object) in
     let kind = ap (λ (h : Header). h.nrefs) c.header_at-field-end.ensures.kind in
     let l : c.loop-field.field < length (cell_at c.args.chunk.now.cells c.args.at).refs = omega arith in
-    let cells = ap (λ (k : Content). k.cells) c.loop-field.invariant.led in
+    let cells = ap (λ (k : ChunkValue). k.cells) c.loop-field.invariant.led in
     record {
       led = rw (c.set_ref.ensures, c.follow_near-now.ensures.value, c.loop-field.invariant.led, follows.more (followed_ref c.args.heap.now.chunks) c.args.chunk.now.cells c.args.at c.requires.object c.loop-field.field l c.ref_at.result (rw cells at c.ref_at.ensures.value));
       known = c.follow_near-now.ensures.known;

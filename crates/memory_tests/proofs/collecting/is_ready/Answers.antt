@@ -1,6 +1,6 @@
 use Rattle.std.proofs.Common.{◌≡◌, ◌∙◌, ◌≤◌, ℕ, List, ap, arith, subst}
-use Rattle.object_layout.specs.Content.{Content}
-use Rattle.alloc_path.specs.Heap.{IsFresh}
+use Rattle.object_layout.specs.ChunkValue.{ChunkValue}
+use Rattle.alloc_path.specs.LeafHeapValue.{IsFresh}
 use Rattle.leaf_copy_gc.specs.Laid.{small_words}
 use Rattle.memory_tests.proofs.collecting.is_ready.Goals as goal
 
@@ -11,6 +11,6 @@ returns c = λ h.
     record {
       closed = c.is_fit_heap.ensures c.if-not-is_fit_heap.false;
       outside = c.outside_is_sound.ensures c.if-not-outside_is_sound.false;
-      fresh = subst (λ (ks : List Content). IsFresh ks c.args.number) c.chunks-2.ensures.chunks (c.is_fresh.ensures h);
+      fresh = subst (λ (ks : List ChunkValue). IsFresh ks c.args.number) c.chunks-2.ensures.chunks (c.is_fresh.ensures h);
       few = subst (λ (n : ℕ). n ≤ 1024) q few;
     }

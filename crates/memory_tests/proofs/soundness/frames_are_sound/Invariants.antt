@@ -1,6 +1,6 @@
 use Rattle.std.proofs.Common.{ℕ, ◌<◌}
 use Rattle.std.specs.Prelude.{All}
-use Rattle.task_frames.specs.Stack.{frames_of, references_of}
+use Rattle.task_frames.specs.FramesValue.{frames_of, references_of}
 use Rattle.leaf_copy_gc.specs.Survivors.{IsSound}
 use Rattle.memory_tests.proofs.soundness.frames_are_sound.Given as goal
 

@@ -1,6 +1,6 @@
 use Rattle.std.proofs.Common.{map}
 use Rattle.std.proofs.lemmas.List.Elements.{All-append}
-use Rattle.task_frames.specs.Stack.{frames_of}
+use Rattle.task_frames.specs.FramesValue.{frames_of}
 use Rattle.leaf_copy_gc.specs.Survivors.{as_reference, held_by, IsSound}
 use Rattle.memory_tests.proofs.soundness.outside_is_sound.Goals as goal
 

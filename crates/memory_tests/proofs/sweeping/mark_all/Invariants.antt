@@ -1,4 +1,4 @@
-use Rattle.inner_mark_gc.specs.Marks.{IsOf}
+use Rattle.inner_mark_gc.specs.MarkingValue.{IsOf}
 use Rattle.memory_tests.proofs.sweeping.mark_all.Given as goal
 
 abbrev pub invariant-loop-calls : goal.invariant-loop-calls

@@ -4,7 +4,7 @@ use Rattle.std.proofs.lemmas.List.{with_items_is}
 use Rattle.object_layout.specs.Cell.{size_of}
 use Rattle.object_layout.specs.Layout.{words_of_cell}
 use Rattle.object_layout.specs.Place.{cell_at}
-use Rattle.object_layout.specs.Content.{HoldsCells}
+use Rattle.object_layout.specs.ChunkValue.{HoldsCells}
 use Rattle.object_layout.proofs.HoldLemmas as hold
 use Rattle.object_layout.proofs.PlaceLemmas as place
 use Rattle.object_layout.proofs.chunk.copy_behind.Goals as goal

@@ -4,7 +4,7 @@ use Rattle.std.specs.Prelude.{bit_or}
 use Rattle.std.proofs.Common.{◌≡◌, ◌+◌, ◌<◌, length, set, arith, ◌∙◌}
 use Rattle.object_layout.specs.Cell.{with_mark, Hole}
 use Rattle.object_layout.specs.Place.{cell_at, put_cell}
-use Rattle.object_layout.specs.Content.{HoldsCells}
+use Rattle.object_layout.specs.ChunkValue.{HoldsCells}
 use Rattle.object_layout.proofs.HoldLemmas as hold
 use Rattle.object_layout.proofs.PlaceLemmas as place
 use Rattle.object_layout.proofs.ReadLemmas as read

@@ -3,7 +3,7 @@ use Rattle.std.proofs.Common.{to_z, of_z, w64, rules}
 use Rattle.std.proofs.lemmas.Int.{to_z-of_z}
 use Rattle.object_layout.specs.Cell.{with_int}
 use Rattle.object_layout.specs.Chunks.{with_cell}
-use Rattle.object_layout.specs.Content.{Content}
+use Rattle.object_layout.specs.ChunkValue.{ChunkValue}
 use Rattle.object_layout.specs.Place.{cell_at, object_at}
 use Rattle.object_layout.proofs.FillLemmas.{ints_begun, ints_done, ints_more, ints_within}
 use Rattle.object_layout.proofs.chunk.fill_ints.Goals as goal
@@ -21,7 +21,7 @@ loop-k-preserved c =
     let back : to_z w64 (of_z w64 c.item-value.result) ≡ c.item-value.result = to_z-of_z w64 c.item-value.result (search rules) in
     c.set_int.ensures
     ∙ (ap (λ v. with_cell c.loop-k.chunk a (with_int (cell_at c.loop-k.chunk.cells a) c.loop-k.k v)) back
-    ∙ (ap (λ (z : Content). with_cell z a (with_int (cell_at z.cells a) c.loop-k.k c.item-value.result)) c.loop-k.invariant
+    ∙ (ap (λ (z : ChunkValue). with_cell z a (with_int (cell_at z.cells a) c.loop-k.k c.item-value.result)) c.loop-k.invariant
     ∙ ints_more h a c.requires.object vs c.loop-k.k (c.loop-k.k + 1) c.item-value.result c.item-value.ensures inside (omega arith) refl))
 
 pub set_int-requires : goal.set_int-requires
@@ -31,7 +31,7 @@ set_int-requires c =
     let vs = c.args.ints.now in
     let fields = c.requires.fields in
     let inside : c.loop-k.k < length vs = c.loop-k-test.true in
-    let P : Content → Type 0 = λ z. c.loop-k.k < length (object_at z.cells a).ints in
+    let P : ChunkValue → Type 0 = λ z. c.loop-k.k < length (object_at z.cells a).ints in
     subst P (sym c.loop-k.invariant) (ints_within h a c.requires.object vs c.loop-k.k (omega arith) (omega arith))
 
 pub returns : goal.returns

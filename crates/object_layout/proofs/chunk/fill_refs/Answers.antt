@@ -1,7 +1,7 @@
 use Rattle.std.proofs.Common.{◌≡◌, ◌+◌, ◌<◌, length, refl, ap, sym, subst, ◌∙◌, arith}
 use Rattle.object_layout.specs.Cell.{with_ref}
 use Rattle.object_layout.specs.Chunks.{with_cell}
-use Rattle.object_layout.specs.Content.{Content}
+use Rattle.object_layout.specs.ChunkValue.{ChunkValue}
 use Rattle.object_layout.specs.Place.{cell_at, object_at}
 use Rattle.object_layout.proofs.FillLemmas.{refs_begun, refs_done, refs_more, refs_within}
 use Rattle.object_layout.proofs.chunk.fill_refs.Goals as goal
@@ -17,7 +17,7 @@ loop-k-preserved c =
     let fields = c.requires.fields in
     let inside : c.loop-k.k < length vs = c.loop-k-test.true in
     c.set_ref.ensures
-    ∙ (ap (λ (z : Content). with_cell z a (with_ref (cell_at z.cells a) c.loop-k.k c.item-value.result)) c.loop-k.invariant
+    ∙ (ap (λ (z : ChunkValue). with_cell z a (with_ref (cell_at z.cells a) c.loop-k.k c.item-value.result)) c.loop-k.invariant
     ∙ refs_more h a c.requires.object vs c.loop-k.k (c.loop-k.k + 1) c.item-value.result c.item-value.ensures inside (omega arith) refl)
 
 pub set_ref-requires-clause-field : goal.set_ref-requires-clause-field
@@ -27,7 +27,7 @@ set_ref-requires-clause-field c =
     let vs = c.args.refs.now in
     let fields = c.requires.fields in
     let inside : c.loop-k.k < length vs = c.loop-k-test.true in
-    let P : Content → Type 0 = λ z. c.loop-k.k < length (object_at z.cells a).refs in
+    let P : ChunkValue → Type 0 = λ z. c.loop-k.k < length (object_at z.cells a).refs in
     subst P (sym c.loop-k.invariant) (refs_within h a c.requires.object vs c.loop-k.k (omega arith) (omega arith))
 
 pub returns : goal.returns

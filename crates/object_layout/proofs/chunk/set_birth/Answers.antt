@@ -5,7 +5,7 @@ use Rattle.object_layout.specs.declared.word.Header.{Header}
 use Rattle.object_layout.specs.Cell.{with_mark, Born}
 use Rattle.object_layout.specs.Layout.{header_word}
 use Rattle.object_layout.specs.Place.{cell_at, put_cell}
-use Rattle.object_layout.specs.Content.{HoldsCells}
+use Rattle.object_layout.specs.ChunkValue.{HoldsCells}
 use Rattle.object_layout.proofs.HoldLemmas as hold
 use Rattle.object_layout.proofs.PlaceLemmas as place
 use Rattle.object_layout.proofs.chunk.set_birth.Goals as goal

@@ -6,7 +6,7 @@ use Rattle.std.specs.Int.{w64}
 use Rattle.std.proofs.Common.{◌≡◌, ◌+◌, length, set, arith, ap}
 use Rattle.object_layout.specs.Cell.{with_int}
 use Rattle.object_layout.specs.Place.{cell_at, put_cell}
-use Rattle.object_layout.specs.Content.{HoldsCells}
+use Rattle.object_layout.specs.ChunkValue.{HoldsCells}
 use Rattle.object_layout.proofs.HoldLemmas as hold
 use Rattle.object_layout.proofs.PlaceLemmas as place
 use Rattle.object_layout.proofs.chunk.set_int.Goals as goal

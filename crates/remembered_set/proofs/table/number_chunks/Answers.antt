@@ -1,11 +1,11 @@
 use Rattle.std.proofs.Common.{List, ap, eqb, sym, ◌∙◌}
 use Rattle.std.specs.List.{list_any}
 use Rattle.std.proofs.lemmas.List.{take_all}
-use Rattle.object_layout.specs.Content.{Content}
+use Rattle.object_layout.specs.ChunkValue.{ChunkValue}
 use Rattle.object_layout.proofs.Owning.{found_any}
 use Rattle.remembered_set.proofs.table.number_chunks.Goals as goal
 
 pub returns-clause-known : goal.returns-clause-known
 returns-clause-known c = λ n.
     c.loop-chunk.invariant.known n
-    ∙ (ap (λ (ks : List Content). list_any (λ (k : Content). eqb k.number n) ks) (take_all c.loop-chunk.chunk-index c.args.chunks.now c.loop-chunk-test.false) ∙ sym (found_any c.args.chunks.now n))
+    ∙ (ap (λ (ks : List ChunkValue). list_any (λ (k : ChunkValue). eqb k.number n) ks) (take_all c.loop-chunk.chunk-index c.args.chunks.now c.loop-chunk-test.false) ∙ sym (found_any c.args.chunks.now n))

@@ -2,12 +2,12 @@ use Rattle.std.proofs.Common.{◌≡◌, ◌==◌, ℕ, ◌+◌, ◌≤◌, take
 use Rattle.std.specs.Prelude.{nat_eq}
 use Rattle.std.specs.HashSet.{contains, hash_set_len, spare}
 use Rattle.std.specs.List.{list_any}
-use Rattle.object_layout.specs.Content.{Content}
+use Rattle.object_layout.specs.ChunkValue.{ChunkValue}
 use Rattle.remembered_set.proofs.table.number_chunks.Given as goal
 
 abbrev pub invariant-loop-chunk : goal.invariant-loop-chunk
 invariant-loop-chunk l = record {
   few : hash_set_len l.numbers ≤ l.chunk-index;
   room : hash_set_len l.fn.numbers + spare l.fn.numbers ≤ hash_set_len l.numbers + spare l.numbers;
-  known : (number : ℕ) → contains nat_eq l.numbers number ≡ list_any (λ (k : Content). k.number == number) (take l.chunk-index l.chunks);
+  known : (number : ℕ) → contains nat_eq l.numbers number ≡ list_any (λ (k : ChunkValue). k.number == number) (take l.chunk-index l.chunks);
 }

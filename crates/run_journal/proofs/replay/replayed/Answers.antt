@@ -1,9 +1,9 @@
 use Rattle.std.proofs.Common.{subst}
 use Rattle.run_ledger.specs.Journals.{first_refused_from}
-use Rattle.run_journal.specs.Opened.{Opened}
+use Rattle.run_journal.specs.BookValue.{BookValue}
 use Rattle.run_journal.specs.Replay.{ReplayFails}
 use Rattle.run_journal.proofs.replay.replayed.Goals as goal
 
 pub returns-in-Err-clause-fails : goal.returns-in-Err-clause-fails
 returns-in-Err-clause-fails c =
-    subst (λ (b : Opened). ReplayFails (first_refused_from b.program b.limits b.ledger 1 c.args.journal.now) c.in-Err.error) c.in-Ok.ensures c.in-Err.ensures.fails
+    subst (λ (b : BookValue). ReplayFails (first_refused_from b.program b.limits b.ledger 1 c.args.journal.now) c.in-Err.error) c.in-Ok.ensures c.in-Err.ensures.fails

@@ -1,6 +1,6 @@
 use Rattle.std.proofs.Common.{rules, refl, ap, sym, ◌∙◌}
 use Rattle.run_report.proofs.Sums.{accounts_on, refused_on}
-use Rattle.run_journal.specs.Opened.{Opened}
+use Rattle.run_journal.specs.BookValue.{BookValue}
 use Rattle.run_timeline.specs.Words.{words_held}
 use Rattle.run_timeline.proofs.Steps.{text_on}
 use Rattle.run_timeline.proofs.timeline.enter_all.Goals as goal
@@ -27,7 +27,7 @@ loop-entry-preserved c =
       limits = search rules;
       stopped = search rules;
       index = search rules;
-      held = k.ensures.held ∙ sym (ap (λ (b : Opened). words_held b.ledger) k.ensures.entered);
+      held = k.ensures.held ∙ sym (ap (λ (b : BookValue). words_held b.ledger) k.ensures.entered);
       accounts = accounts_on c.args.journal.now l.book c.enter.new.book l.entry-index c.entry-item.result c.loop-entry-test.true c.entry-item.is k.ensures.entered i.accounts;
       refused = refused_on c.args.journal.now l.book c.enter.new.book l.entry-index c.entry-item.result c.loop-entry-test.true c.entry-item.is k.ensures.entered l.index k.ensures.legal i.refused;
       text =

@@ -2,7 +2,7 @@ use Rattle.std.proofs.Common.{◌++◌, ◌+◌, ap, subst, length, ◌∙◌}
 use Rattle.std.specs.List.{flat_map}
 use Rattle.json_text.specs.Json.{further}
 use Rattle.run_ledger.specs.Journals.{end_of, first_refused}
-use Rattle.run_journal.specs.Opened.{Opened}
+use Rattle.run_journal.specs.BookValue.{BookValue}
 use Rattle.run_journal.specs.Replay.{ReplayFails}
 use Rattle.run_timeline.specs.Timeline.{events_of}
 use Rattle.run_timeline.specs.Pieces.{beginning, ending}
@@ -12,7 +12,7 @@ use Rattle.run_timeline.proofs.timeline.timeline_text.Goals as goal
 pub returns-in-Err-clause-fails : goal.returns-in-Err-clause-fails
 returns-in-Err-clause-fails c =
     fails_whole (first_refused c.args.program.now c.args.settings c.args.journal.now) (end_of c.args.program.now c.args.settings c.args.journal.now) (length c.args.journal.now + 1) c.in-Err.error
-    (subst (λ (b : Opened). ReplayFails (first_refused b.program b.limits c.args.journal.now) c.in-Err.error) c.in-Ok.ensures c.in-Err.ensures.fails)
+    (subst (λ (b : BookValue). ReplayFails (first_refused b.program b.limits c.args.journal.now) c.in-Err.error) c.in-Ok.ensures c.in-Err.ensures.fails)
 
 pub returns-in-Ok-end-clause-text : goal.returns-in-Ok-end-clause-text
 returns-in-Ok-end-clause-text c =

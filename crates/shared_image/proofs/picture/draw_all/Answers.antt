@@ -1,5 +1,5 @@
 use Rattle.std.proofs.Common.{List, map, sym, subst}
-use Rattle.shared_value.specs.World.{World}
+use Rattle.shared_value.specs.SharedValue.{SharedValue}
 use Rattle.image_check.specs.declared.line.Task.{Task}
 use Rattle.image_check.specs.declared.line.Chunk.{Chunk}
 use Rattle.heap_image.specs.declared.picture.Picture.{Picture}
@@ -10,7 +10,7 @@ use Rattle.shared_image.proofs.picture.draw_all.Goals as goal
 
 pub returns-clause-drawn : goal.returns-clause-drawn
 returns-clause-drawn c =
-    let w : World = c.args.shared.now in
+    let w : SharedValue = c.args.shared.now in
     let ts : List Task = c.in_ok-draw_tasks.field-0 in
     let cs : List Chunk = c.in_ok-draw_chunks.field-0 in
     let os = c.in_ok-draw_objects.field-0 in
@@ -21,7 +21,7 @@ returns-clause-drawn c =
 
 pub returns-clause-sound : goal.returns-clause-sound
 returns-clause-sound c =
-    let w : World = c.args.shared.now in
+    let w : SharedValue = c.args.shared.now in
     let p : Picture = record { tasks = c.in_ok-draw_tasks.field-0; chunks = c.in_ok-draw_chunks.field-0; objects = c.in_ok-draw_objects.field-0; fields = c.in_ok-draw_fields.field-0 } in
     let ts : List Task = c.in_ok-draw_tasks.field-0 in
     let cs : List Chunk = c.in_ok-draw_chunks.field-0 in

@@ -1,7 +1,7 @@
 use Rattle.std.proofs.Common.{◌++◌, None, get_or, map, ap, ◌∙◌}
 use Rattle.std.proofs.lemmas.Option.{slice_get-get_or}
 use Rattle.heap_tree.specs.declared.state.State.TheVariants.{Ready}
-use Rattle.shared_value.specs.World.{World}
+use Rattle.shared_value.specs.SharedValue.{SharedValue}
 use Rattle.heap_reading.specs.declared.live.Live.{Live}
 use Rattle.shared_image.specs.Drawn.{drawn_field}
 use Rattle.shared_image.proofs.Rounds.{fields_step}
@@ -9,7 +9,7 @@ use Rattle.shared_image.proofs.picture.draw_fields.Goals as goal
 
 pub loop-task-preserved : goal.loop-task-preserved
 loop-task-preserved c =
-    let w : World = c.args.shared.now in
+    let w : SharedValue = c.args.shared.now in
     let xs = c.args.live.now in
     let i = c.loop-task.task-index in
     let none : Live = record { number = 0; parent = None; state = Ready } in

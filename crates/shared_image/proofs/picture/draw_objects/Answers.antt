@@ -1,14 +1,14 @@
 use Rattle.std.proofs.Common.{◌++◌, map, take_all, ap, sym, subst, ◌∙◌}
 use Rattle.std.proofs.lemmas.Option.{slice_get-get_or}
-use Rattle.core_relation.specs.Value.{In}
-use Rattle.shared_value.specs.World.{World}
+use Rattle.core_relation.specs.Memory.{In}
+use Rattle.shared_value.specs.SharedValue.{SharedValue}
 use Rattle.shared_image.specs.Drawn.{drawn_object}
 use Rattle.shared_image.proofs.Rounds.{objects_step, words_all, words_step}
 use Rattle.shared_image.proofs.picture.draw_objects.Goals as goal
 
 pub loop-chunk-preserved : goal.loop-chunk-preserved
 loop-chunk-preserved c =
-    let w : World = c.args.shared.now in
+    let w : SharedValue = c.args.shared.now in
     let cs = c.args.in_use.now in
     let i = c.loop-chunk.chunk-index in
     let is = slice_get-get_or cs i _ c.loop-chunk-test.true in

@@ -1,5 +1,5 @@
 use Rattle.std.proofs.Common.{take}
-use Rattle.core_relation.specs.Value.{In}
+use Rattle.core_relation.specs.Memory.{In}
 use Rattle.heap_reading.specs.declared.live.InUse.{InUse}
 use Rattle.heap_reading.specs.Image.{AreAll, AreInWords, objects_of}
 use Rattle.heap_image.specs.Picture.{ObjectBefore}

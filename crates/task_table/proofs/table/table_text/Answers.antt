@@ -1,7 +1,7 @@
 use Rattle.std.proofs.Common.{◌≡◌, ◌++◌, List, ap, ◌∙◌}
 use Rattle.run_ledger.specs.declared.data.Ledger.{Ledger}
 use Rattle.run_ledger.specs.Journals.{opening, ledger_of}
-use Rattle.run_journal.specs.Opened.{Opened}
+use Rattle.run_journal.specs.BookValue.{BookValue}
 use Rattle.task_table.specs.declared.row.Row.{Row}
 use Rattle.task_table.specs.Rows.{rows_from}
 use Rattle.task_table.specs.Table.{first_line, lines_from, rows_of}
@@ -12,7 +12,7 @@ returns-in-Ok-text_of-clause-text c =
     let p = c.args.program.now in
     let journal = c.args.journal.now in
     let ledger : c.enter_all.new.book.ledger ≡ ledger_of p c.args.settings journal =
-    ap (λ (b : Opened). b.ledger) c.in-Ok-enter_all.ensures.book ∙ (λ j. ledger_of (c.in-Ok.ensures j).program (c.in-Ok.ensures j).limits journal) in
+    ap (λ (b : BookValue). b.ledger) c.in-Ok-enter_all.ensures.book ∙ (λ j. ledger_of (c.in-Ok.ensures j).program (c.in-Ok.ensures j).limits journal) in
     let rows : c.as_slice.result.now ≡ rows_of p c.args.settings journal =
     c.as_slice.ensures ∙ c.in-Ok-enter_all.ensures.rows
     ∙ (λ j. rows_from (c.in-Ok.ensures j).program (c.in-Ok.ensures j).limits (opening (c.in-Ok.ensures j).program (c.in-Ok.ensures j).limits) (c.in-Ok-first_rows.ensures j) journal) in

@@ -1,11 +1,11 @@
 use Rattle.std.proofs.Common.{subst, sym}
 use Rattle.task_machine.specs.declared.part.Private.{Private}
 use Rattle.turn_entries.specs.Parts.{AtSome, HasGrown, MayRun}
-use Rattle.shared_value.specs.World.{World}
+use Rattle.shared_value.specs.SharedValue.{SharedValue}
 use Rattle.worker_run.proofs.local.run_part.Goals as goal
 
 pub take_steps-requires-clause-may : goal.take_steps-requires-clause-may
-take_steps-requires-clause-may g c κs within = subst (λ (q : Private). AtSome c.args.program.now (λ (w : World). MayRun w c.args.worker q)) (sym c.get_mut.ensures.value) c.requires
+take_steps-requires-clause-may g c κs within = subst (λ (q : Private). AtSome c.args.program.now (λ (w : SharedValue). MayRun w c.args.worker q)) (sym c.get_mut.ensures.value) c.requires
 
 pub returns-in-Ok : goal.returns-in-Ok
 returns-in-Ok g c = subst (λ (q : Private). HasGrown c.args.program.now c.args.worker q c.take_steps.new.part c.in-Ok.why) c.get_mut.ensures.value c.in-Ok.ensures

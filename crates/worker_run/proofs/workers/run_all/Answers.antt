@@ -1,5 +1,5 @@
 use Rattle.std.proofs.Common.{rules, ◌≡◌, ◌++◌, List, take, drop, length, ap, subst, ◌∙◌}
-use Rattle.shared_value.specs.World.{World}
+use Rattle.shared_value.specs.SharedValue.{SharedValue}
 use Rattle.turn_lock.specs.Turn.{identity}
 use Rattle.worker_run.specs.declared.desk.Desk.{Desk}
 use Rattle.worker_run.specs.Desks.{HasOfEach, HaveSeen}
@@ -9,8 +9,8 @@ use Rattle.worker_run.proofs.workers.run_all.Goals as goal
 
 pub returns-clause-run : goal.returns-clause-run
 returns-clause-run g c =
-    is_run c.args.program.now c.args.settings c.into_shared-shared.result c.stands.ensures (ap (λ (w : World). w.program) c.into_shared-shared.ensures.same ∙ c.close.ensures.program)
-    (ap (λ (w : World). w.settings) c.into_shared-shared.ensures.same ∙ c.close.ensures.settings) c.into_shared-shared.ensures.paced
+    is_run c.args.program.now c.args.settings c.into_shared-shared.result c.stands.ensures (ap (λ (w : SharedValue). w.program) c.into_shared-shared.ensures.same ∙ c.close.ensures.program)
+    (ap (λ (w : SharedValue). w.settings) c.into_shared-shared.ensures.same ∙ c.close.ensures.settings) c.into_shared-shared.ensures.paced
 
 pub returns-clause-gave : goal.returns-clause-gave
 returns-clause-gave g c =

@@ -1,7 +1,7 @@
 use Rattle.std.proofs.Common.{false, ap, subst, sym, ◌∙◌}
-use Rattle.run_trace.specs.Entry.{Event}
+use Rattle.run_trace.specs.Entry.{EntryValue}
 use Rattle.shared_value.specs.Causes.{first_cause}
-use Rattle.shared_value.specs.World.{World}
+use Rattle.shared_value.specs.SharedValue.{SharedValue}
 use Rattle.world_core.specs.Applied.{AnswersAll}
 use Rattle.world_core.proofs.Applying.{made_all, stopped_before}
 use Rattle.world_core.proofs.apply.make_own.Goals as goal
@@ -9,10 +9,10 @@ use Rattle.world_core.proofs.apply.make_own.Goals as goal
 pub returns-in-Some-clause-made : goal.returns-in-Some-clause-made
 returns-in-Some-clause-made c =
     stopped_before c.args.shared.now c.args.worker c.args.kind c.in-Some.cause c.args.hands.now c.stands.ensures c.requires.own
-    (ap (λ (z : World). first_cause z.end z.steps z.settings c.args.worker false) (sym c.shared.ensures) ∙ (sym c.refused_first.ensures ∙ c.in-Some.is)) c.requires.hold
+    (ap (λ (z : SharedValue). first_cause z.end z.steps z.settings c.args.worker false) (sym c.shared.ensures) ∙ (sym c.refused_first.ensures ∙ c.in-Some.is)) c.requires.hold
 
 pub returns-clause-made : goal.returns-clause-made
 returns-clause-made c =
-    let e : Event = record { worker = c.args.worker; kind = c.args.kind } in
+    let e : EntryValue = record { worker = c.args.worker; kind = c.args.kind } in
     subst (λ hs. AnswersAll c.args.shared.now c.make_for-hand.new.shared e hs c.make_for-hand.result.answer) (sym c.set.ensures)
     (made_all c.args.shared.now c.make_for-hand.new.shared e c.stands.ensures c.args.hands.now c.at_mut.result.now c.at_mut.ensures.value c.requires.hold c.replace-hand.new.dest c.make_for-hand.result.hand c.make_for-hand.result.answer c.make_for-hand.ensures)

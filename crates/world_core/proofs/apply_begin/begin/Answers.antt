@@ -1,4 +1,4 @@
-use Rattle.run_trace.specs.Entry.{Event}
+use Rattle.run_trace.specs.Entry.{EntryValue}
 use Rattle.run_trace.specs.declared.entry.Kind.TheVariants.{Begin}
 use Rattle.shared_value.proofs.EntryMade.{entry_on}
 use Rattle.world_core.proofs.BegunPart.{begin_on}
@@ -7,7 +7,7 @@ use Rattle.world_core.proofs.apply_begin.begin.Goals as goal
 
 pub copy_begun-moved-requires-clause-goes : goal.copy_begun-moved-requires-clause-goes
 copy_begun-moved-requires-clause-goes c =
-    begin_on c.args.shared.now c.leaf_begin.new.self c.args.worker c.args.part.task (let e : Event = record { worker = c.args.worker; kind = Begin c.args.part.task } in entry_on c.args.shared.now e c.in-Ok.ensures.refused) c.in-Ok.ensures.enters
+    begin_on c.args.shared.now c.leaf_begin.new.self c.args.worker c.args.part.task (let e : EntryValue = record { worker = c.args.worker; kind = Begin c.args.part.task } in entry_on c.args.shared.now e c.in-Ok.ensures.refused) c.in-Ok.ensures.enters
 
 pub returns-in-Err : goal.returns-in-Err
 returns-in-Err c =

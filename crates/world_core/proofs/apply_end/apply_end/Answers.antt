@@ -1,5 +1,5 @@
 use Rattle.std.proofs.Common.{false, subst, sym, ◌∙◌}
-use Rattle.world_core.specs.Whole.{Holds}
+use Rattle.world_core.specs.WorldValue.{Holds}
 use Rattle.world_core.proofs.HandCauses.{copied_refused}
 use Rattle.world_core.proofs.Making.{apart_made, miscounts}
 use Rattle.world_core.proofs.apply_end.apply_end.Goals as goal

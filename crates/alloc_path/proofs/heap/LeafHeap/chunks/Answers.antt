@@ -1,5 +1,5 @@
 use Rattle.std.proofs.Common.{rules}
-use Rattle.alloc_path.specs.Heap.{AreWithin, IsSettled}
+use Rattle.alloc_path.specs.LeafHeapValue.{AreWithin, IsSettled}
 use Rattle.alloc_path.proofs.Near.{are_near}
 use Rattle.alloc_path.proofs.heap.LeafHeap.chunks.Goals as goal
 

@@ -1,10 +1,10 @@
 use Rattle.std.proofs.Common.{ap, subst, sym}
-use Rattle.alloc_path.specs.Heap.{Heap, IsSettled}
+use Rattle.alloc_path.specs.LeafHeapValue.{LeafHeapValue, IsSettled}
 use Rattle.alloc_path.proofs.Settled as settled
 use Rattle.alloc_path.proofs.heap.LeafHeap.merge.Goals as goal
 
 pub invariant_of-self : goal.invariant_of-self
 invariant_of-self c =
     let apart = rw (← c.left.view_is, ← c.right.view_is, ← c.self.view_is) at c.requires.apart in
-    subst IsSettled (sym (ap (λ (h : Heap). h.chunks) c.merge.ensures.merged))
+    subst IsSettled (sym (ap (λ (h : LeafHeapValue). h.chunks) c.merge.ensures.merged))
     (settled.settled_merged c.left.inside.space.chunks c.right.inside.space.chunks c.self.inside.space.chunks c.left.invariant c.right.invariant c.self.invariant apart)

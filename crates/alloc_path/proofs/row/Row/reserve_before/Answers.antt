@@ -1,14 +1,14 @@
 use Rattle.std.proofs.Common.{◌≡◌, ◌-◌, List, arith, length}
 use Rattle.std.proofs.lemmas.List.{drop_at, take_at}
 use Rattle.std.specs.Prelude.{vec_len}
-use Rattle.object_layout.specs.Content.{Content}
+use Rattle.object_layout.specs.ChunkValue.{ChunkValue}
 use Rattle.alloc_path.proofs.Rows as rows
 use Rattle.alloc_path.proofs.row.Row.reserve_before.Goals as goal
 
 pub returns-clause-items : goal.returns-clause-items
 returns-clause-items c =
-    let xs : List Content = c.self.inside.chunks.items in
-    let es : List Content = c.in_ok-empty.empty.items in
+    let xs : List ChunkValue = c.self.inside.chunks.items in
+    let es : List ChunkValue = c.in_ok-empty.empty.items in
     let made = c.in_ok-empty.ensures in
     let all = c.in_ok-append.ensures.len in
     let own : length xs ≡ vec_len c.append.new.self - c.max-added.result = omega arith in

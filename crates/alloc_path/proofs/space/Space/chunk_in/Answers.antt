@@ -1,5 +1,5 @@
 use Rattle.std.proofs.Common.{ap, sym, ◌∙◌, arith}
-use Rattle.object_layout.specs.Content.{Content}
+use Rattle.object_layout.specs.ChunkValue.{ChunkValue}
 use Rattle.object_layout.specs.Place.{cell_at}
 use Rattle.object_layout.proofs.ChunkLaws as chunks
 use Rattle.alloc_path.proofs.HeapLemmas as heap
@@ -16,4 +16,4 @@ returns c =
     let place = at.0 in
     let l = at.1 in
     let found = chunks.cell_of-found c.self.inside.chunks.items c.args.object c.at.result.now (omega arith) in
-    rw (← c.self.view_is) (ap (λ (k : Content). cell_at k.cells c.args.object.offset) (rw place at c.at.ensures) ∙ sym found)
+    rw (← c.self.view_is) (ap (λ (k : ChunkValue). cell_at k.cells c.args.object.offset) (rw place at c.at.ensures) ∙ sym found)

@@ -1,5 +1,5 @@
 use Rattle.std.proofs.Common.{ap, sym, ◌∙◌}
-use Rattle.object_layout.specs.Content.{Content}
+use Rattle.object_layout.specs.ChunkValue.{ChunkValue}
 use Rattle.object_layout.specs.Place.{cell_at}
 use Rattle.object_layout.proofs.ChunkLaws as chunks
 use Rattle.alloc_path.proofs.space.Space.chunk_of.Goals as goal
@@ -9,4 +9,4 @@ returns c =
     let in' = rw (← c.self.view_is) at c.requires in
     let place = rw (← c.self.view_is) at c.own_place.ensures in
     let found = chunks.cell_of-found c.self.inside.chunks.items c.args.object c.at.result.now in' in
-    rw (← c.self.view_is) (ap (λ (k : Content). cell_at k.cells c.args.object.offset) (rw place at c.at.ensures) ∙ sym found)
+    rw (← c.self.view_is) (ap (λ (k : ChunkValue). cell_at k.cells c.args.object.offset) (rw place at c.at.ensures) ∙ sym found)

@@ -1,5 +1,5 @@
 use Rattle.std.proofs.Common.{◌≡◌, ◌≢◌, ◌^◌, ◌<◌, ◌≤◌, ℕ, List, Option, None, get_or, sym, ap, ◌∙◌, arith}
-use Rattle.object_layout.specs.Content.{Content}
+use Rattle.object_layout.specs.ChunkValue.{ChunkValue}
 use Rattle.slab.specs.Slab.{Slab}
 use Rattle.chunk_pool.specs.declared.pool.Held.{Held}
 use Rattle.chunk_pool.proofs.UnitLemmas.{takes, takes_within}
@@ -30,7 +30,7 @@ returns-clause-taken c =
     λ k ne. u.others k ne ∙ ap (λ (xs : List (Option Held)). get_or xs k None) same in
     let all = takes p.limit p.used p.slots.slots c.insert_reserved.new.self.slots c.self.invariant.0 c.insert_reserved.result others h free u.changed in
     let number : c.insert_reserved.result ≡ c.in-Ok-chunk_of.chunk.number =
-    let a : c.in-Ok-chunk_of.chunk.number ≡ c.in-Ok.number = ap (λ (x : Content). x.number) c.in-Ok-chunk_of.ensures.chunk in
+    let a : c.in-Ok-chunk_of.chunk.number ≡ c.in-Ok.number = ap (λ (x : ChunkValue). x.number) c.in-Ok-chunk_of.ensures.chunk in
     let b : c.in-Ok.number ≡ c.vacant_key.result = c.in-Ok.ensures.1 in
     c.insert_reserved.ensures.key ∙ (sym c.vacant_key.ensures.value ∙ (sym b ∙ sym a)) in
     rw (← c.self.view_is, ← number) all

@@ -1,5 +1,5 @@
 use Rattle.std.proofs.Common.{◌≡◌, None, sym, subst}
-use Rattle.shared_value.specs.World.{World}
+use Rattle.shared_value.specs.SharedValue.{SharedValue}
 use Rattle.shared_value.specs.Entered.{refused, IsCaused}
 use Rattle.shared_value.specs.Fits.{AllFit, Fits}
 use Rattle.own_steps.specs.Alone.{alone_event, IsShared}
@@ -9,25 +9,25 @@ use Rattle.counted_tree.proofs.EntryCounted.{is_made, ran_enters, unchanged_kept
 use Rattle.counted_tree.proofs.counted.Counted.ran.Goals as goal
 
 pub ran-requires-clause-fits : goal.ran-requires-clause-fits
-ran-requires-clause-fits c = subst (λ (z : World). Fits z c.args.worker c.args.part) (sym c.self.view_is) c.requires.fits
+ran-requires-clause-fits c = subst (λ (z : SharedValue). Fits z c.args.worker c.args.part) (sym c.self.view_is) c.requires.fits
 
 pub ran-requires-clause-shared : goal.ran-requires-clause-shared
-ran-requires-clause-shared c = subst (λ (z : World). IsShared z c.args.part) (sym c.self.view_is) c.requires.shared
+ran-requires-clause-shared c = subst (λ (z : SharedValue). IsShared z c.args.part) (sym c.self.view_is) c.requires.shared
 
 pub returns-in-Ok-clause-refused : goal.returns-in-Ok-clause-refused
-returns-in-Ok-clause-refused c = subst (λ (z : World). refused z (alone_event c.args.worker c.args.part) ≡ None) c.self.view_is c.in-Ok.ensures.refused
+returns-in-Ok-clause-refused c = subst (λ (z : SharedValue). refused z (alone_event c.args.worker c.args.part) ≡ None) c.self.view_is c.in-Ok.ensures.refused
 
 pub returns-in-Ok-clause-answered : goal.returns-in-Ok-clause-answered
-returns-in-Ok-clause-answered c = subst (λ (z : World). RanTo z c.ran.new.self c.args.worker c.args.part c.in-Ok.ran) c.self.view_is c.in-Ok.ensures.answered
+returns-in-Ok-clause-answered c = subst (λ (z : SharedValue). RanTo z c.ran.new.self c.args.worker c.args.part c.in-Ok.ran) c.self.view_is c.in-Ok.ensures.answered
 
 pub returns-in-Err-clause-same : goal.returns-in-Err-clause-same
-returns-in-Err-clause-same c = subst (λ (z : World). IsUnchanged c.in-Err.failed.cause z c.ran.new.self) c.self.view_is c.in-Err.ensures.same
+returns-in-Err-clause-same c = subst (λ (z : SharedValue). IsUnchanged c.in-Err.failed.cause z c.ran.new.self) c.self.view_is c.in-Err.ensures.same
 
 pub returns-in-Err-clause-refused : goal.returns-in-Err-clause-refused
-returns-in-Err-clause-refused c = subst (λ (z : World). IsCaused c.in-Err.failed.cause (refused z (alone_event c.args.worker c.args.part))) c.self.view_is c.in-Err.ensures.refused
+returns-in-Err-clause-refused c = subst (λ (z : SharedValue). IsCaused c.in-Err.failed.cause (refused z (alone_event c.args.worker c.args.part))) c.self.view_is c.in-Err.ensures.refused
 
 pub returns-in-Err-clause-still : goal.returns-in-Err-clause-still
-returns-in-Err-clause-still c = subst (λ (z : World). AllFit z c.ran.new.self) c.self.view_is c.in-Err.ensures.still
+returns-in-Err-clause-still c = subst (λ (z : SharedValue). AllFit z c.ran.new.self) c.self.view_is c.in-Err.ensures.still
 
 pub count-requires : goal.count-requires
 count-requires c = is_made c.self.inside.shared c.ran.new.self c.self.inside.counts (alone_event c.args.worker c.args.part) 0 c.stands.ensures (ran_enters c.self.inside.shared c.ran.new.self c.args.worker c.args.part c.in-Ok.ran c.in-Ok.ensures.answered) c.in-Ok.ensures.refused c.self.invariant tt

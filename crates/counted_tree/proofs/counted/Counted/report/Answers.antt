@@ -3,7 +3,7 @@ use Rattle.run_ledger.specs.declared.data.Report.{Report}
 use Rattle.run_ledger.specs.Heaps.{in_use}
 use Rattle.run_ledger.specs.Report.{report_of}
 use Rattle.run_report.specs.declared.totals.Totals.{Totals}
-use Rattle.shared_value.specs.World.{World}
+use Rattle.shared_value.specs.SharedValue.{SharedValue}
 use Rattle.counted_tree.proofs.counted.Counted.report.Goals as goal
 
 -- the same numbers
@@ -16,8 +16,8 @@ told a b e1 e2 e3 e4 e5 e6 e7 e8 e9 e10 e11 e12 =
 
 pub returns : goal.returns
 returns c =
-    let w : World = c.self.inside.shared in
+    let w : SharedValue = c.self.inside.shared in
     let t = c.self.invariant.totals in
     told _ (report_of w.program w.settings w.journal.items) c.tasks.ensures c.steps.ensures (ap length c.journal.ensures) (ap (λ (z : Totals). z.leaf) t) (ap (λ (z : Totals). z.putoff) t) (ap (λ (z : Totals). z.leaf_freed) t)
     (ap (λ (z : Totals). z.inner) t) (ap (λ (z : Totals). z.inner_freed) t) c.in_use.ensures (ap (λ (z : Totals). z.peak) t) c.held-held.ensures.objects c.held-held.ensures.words
-    ∙ ap (λ (z : World). report_of z.program z.settings z.journal.items) c.self.view_is
+    ∙ ap (λ (z : SharedValue). report_of z.program z.settings z.journal.items) c.self.view_is

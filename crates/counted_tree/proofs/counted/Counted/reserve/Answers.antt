@@ -1,7 +1,7 @@
 use Rattle.std.proofs.Common.{sym, subst}
 use Rattle.shared_value.specs.Fits.{Fits}
-use Rattle.shared_value.specs.World.{World}
+use Rattle.shared_value.specs.SharedValue.{SharedValue}
 use Rattle.counted_tree.proofs.counted.Counted.reserve.Goals as goal
 
 pub returns-clause-fit : goal.returns-clause-fit
-returns-clause-fit c = λ k p F. c.reserve.ensures.fit k p (subst (λ (z : World). Fits z k p) (sym c.self.view_is) F)
+returns-clause-fit c = λ k p F. c.reserve.ensures.fit k p (subst (λ (z : SharedValue). Fits z k p) (sym c.self.view_is) F)

@@ -1,7 +1,7 @@
 use Rattle.std.proofs.Common.{◌≡◌, Some, None, refl, sym, subst}
-use Rattle.run_trace.specs.Entry.{Event}
+use Rattle.run_trace.specs.Entry.{EntryValue}
 use Rattle.run_trace.specs.declared.entry.Kind.TheVariants.{Sweep}
-use Rattle.shared_value.specs.World.{World, accounts}
+use Rattle.shared_value.specs.SharedValue.{SharedValue, accounts}
 use Rattle.shared_value.specs.Entered.{refused}
 use Rattle.shared_value.specs.Fits.{AllFit}
 use Rattle.run_ledger.specs.Heaps.{heap_of, words_in}
@@ -10,21 +10,21 @@ use Rattle.counted_tree.proofs.EntryCounted.{sweep_had, is_made}
 use Rattle.counted_tree.proofs.counted.Counted.sweep.Goals as goal
 
 pub returns-in-Ok-clause-refused : goal.returns-in-Ok-clause-refused
-returns-in-Ok-clause-refused c = subst (λ (z : World). None ≡ refused z (record { worker = c.args.worker; kind = Sweep c.args.t c.args.given })) c.self.view_is c.in-Ok.ensures.refused
+returns-in-Ok-clause-refused c = subst (λ (z : SharedValue). None ≡ refused z (record { worker = c.args.worker; kind = Sweep c.args.t c.args.given })) c.self.view_is c.in-Ok.ensures.refused
 
 pub returns-in-Err-clause-refused : goal.returns-in-Err-clause-refused
-returns-in-Err-clause-refused c = subst (λ (z : World). Some c.in-Err.cause ≡ refused z (record { worker = c.args.worker; kind = Sweep c.args.t c.args.given })) c.self.view_is c.in-Err.ensures.refused
+returns-in-Err-clause-refused c = subst (λ (z : SharedValue). Some c.in-Err.cause ≡ refused z (record { worker = c.args.worker; kind = Sweep c.args.t c.args.given })) c.self.view_is c.in-Err.ensures.refused
 
 pub returns-in-Ok-clause-fits : goal.returns-in-Ok-clause-fits
-returns-in-Ok-clause-fits c = subst (λ (z : World). AllFit z c.sweep.new.self) c.self.view_is c.in-Ok.ensures.fits
+returns-in-Ok-clause-fits c = subst (λ (z : SharedValue). AllFit z c.sweep.new.self) c.self.view_is c.in-Ok.ensures.fits
 
 pub count-requires : goal.count-requires
 count-requires c =
-    let w : World = c.self.inside.shared in
-    let e : Event = record { worker = c.args.worker; kind = Sweep c.args.t c.args.given } in
+    let w : SharedValue = c.self.inside.shared in
+    let e : EntryValue = record { worker = c.args.worker; kind = Sweep c.args.t c.args.given } in
     let free : refused w e ≡ None = sym c.in-Ok.ensures.refused in
     let had : c.words_held-words.result ≡ words_in (accounts w).machine (heap_of (accounts w) c.args.t) = sweep_had w c.stands.ensures e c.args.t c.args.given refl free c.words_held-words.result c.words_held-words.ensures in
     is_made w c.sweep.new.self c.self.inside.counts e c.words_held-words.result c.stands.ensures c.in-Ok.ensures.enters free c.self.invariant had
 
 pub invariant_of-self-in-Err : goal.invariant_of-self-in-Err
-invariant_of-self-in-Err c = subst (λ (z : World). KeepsCounts z c.self.inside.counts) (sym c.in-Err.ensures.same) c.self.invariant
+invariant_of-self-in-Err c = subst (λ (z : SharedValue). KeepsCounts z c.self.inside.counts) (sym c.in-Err.ensures.same) c.self.invariant

@@ -1,8 +1,8 @@
 use Rattle.std.proofs.Common.{◌≡◌, ap, sym, subst, ◌∙◌}
-use Rattle.run_trace.specs.Entry.{Event}
+use Rattle.run_trace.specs.Entry.{EntryValue}
 use Rattle.run_report.specs.declared.totals.Totals.{Totals}
 use Rattle.run_report.specs.Totals.{AreFew, counted, joined}
-use Rattle.shared_value.specs.World.{World}
+use Rattle.shared_value.specs.SharedValue.{SharedValue}
 use Rattle.counted_tree.specs.declared.counting.Counts.{Counts}
 use Rattle.counted_tree.specs.Counts.{IsMade}
 use Rattle.counted_tree.proofs.EntryCounted.{counts_then, totals_few}
@@ -10,23 +10,23 @@ use Rattle.counted_tree.proofs.counting.Counts.count.Goals as goal
 
 pub join-self-requires : goal.join-self-requires
 join-self-requires c =
-    let w : World = c.requires.0 in
-    let v : World = c.args.shared.now in
+    let w : SharedValue = c.requires.0 in
+    let v : SharedValue = c.args.shared.now in
     let before : Counts = c.args.self.now in
-    let x : Event = c.last_entry-entry.result in
+    let x : EntryValue = c.last_entry-entry.result in
     let same : x ≡ c.requires.1 = c.last_entry-entry.ensures.last w c.requires.1 c.requires.2.enters in
-    let M : IsMade w v before x c.args.words = subst (λ (z : Event). IsMade w v before z c.args.words) (sym same) c.requires.2 in
+    let M : IsMade w v before x c.args.words = subst (λ (z : EntryValue). IsMade w v before z c.args.words) (sym same) c.requires.2 in
     let adds : c.counted-counted.result ≡ counted x.kind c.lost-lost.result c.in_use-used.result = c.counted-counted.ensures ∙ ap (λ k. counted k c.lost-lost.result c.in_use-used.result) c.kind.ensures.value in
     subst (λ (z : Totals). AreFew (joined before.totals z)) (sym adds) (totals_few w v before x c.args.words M c.last_entry-entry.ensures.short c.lost-lost.result c.in_use-used.result (c.lost-lost.ensures w M) c.in_use-used.ensures)
 
 pub returns : goal.returns
 returns c =
-    let w : World = c.requires.0 in
-    let v : World = c.args.shared.now in
+    let w : SharedValue = c.requires.0 in
+    let v : SharedValue = c.args.shared.now in
     let before : Counts = c.args.self.now in
-    let x : Event = c.last_entry-entry.result in
+    let x : EntryValue = c.last_entry-entry.result in
     let same : x ≡ c.requires.1 = c.last_entry-entry.ensures.last w c.requires.1 c.requires.2.enters in
-    let M : IsMade w v before x c.args.words = subst (λ (z : Event). IsMade w v before z c.args.words) (sym same) c.requires.2 in
+    let M : IsMade w v before x c.args.words = subst (λ (z : EntryValue). IsMade w v before z c.args.words) (sym same) c.requires.2 in
     let adds : c.counted-counted.result ≡ counted x.kind c.lost-lost.result c.in_use-used.result = c.counted-counted.ensures ∙ ap (λ k. counted k c.lost-lost.result c.in_use-used.result) c.kind.ensures.value in
     counts_then w v before x c.args.words M (record { totals = c.join-self.result; begun = c.keep_begun.new.begun }) c.lost-lost.result c.in_use-used.result (c.lost-lost.ensures w M) c.in_use-used.ensures
     (c.join-self.ensures ∙ ap (joined before.totals) adds) c.keep_begun.ensures

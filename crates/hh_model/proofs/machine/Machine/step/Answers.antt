@@ -1,17 +1,17 @@
 use Rattle.std.proofs.Common.{◌<◌, ◌+◌, ◌^◌, ap, sym, subst, arith}
 use Rattle.hh_model.specs.declared.data.State.{State}
-use Rattle.hh_model.specs.Machine.{Progress, IsReached}
+use Rattle.hh_model.specs.Machine.{MachineValue, IsOfRun}
 use Rattle.hh_model.proofs.Counts.{reached_sound, step_reached}
 use Rattle.hh_model.proofs.machine.Machine.step.Goals as goal
 
 pub step-requires-clause-sound : goal.step-requires-clause-sound
 step-requires-clause-sound c =
-    let g : Progress = record { program = c.self.inside.program.now; state = c.self.inside.state; steps = c.self.inside.steps } in
-    let few : c.self.inside.steps < 2 ^ 30 = omega (arith, ap (λ (h : Progress). h.steps) c.self.view_is) in
+    let g : MachineValue = record { program = c.self.inside.program.now; state = c.self.inside.state; steps = c.self.inside.steps } in
+    let few : c.self.inside.steps < 2 ^ 30 = omega (arith, ap (λ (h : MachineValue). h.steps) c.self.view_is) in
     reached_sound g c.self.invariant few
 
 pub invariant_of-self : goal.invariant_of-self
 invariant_of-self c =
-    let g : Progress = record { program = c.self.inside.program.now; state = c.self.inside.state; steps = c.self.inside.steps } in
-    let here : State → Type 0 = λ m. IsReached (record { program = c.self.inside.program.now; state = m; steps = c.self.inside.steps + 1 }) in
+    let g : MachineValue = record { program = c.self.inside.program.now; state = c.self.inside.state; steps = c.self.inside.steps } in
+    let here : State → Type 0 = λ m. IsOfRun (record { program = c.self.inside.program.now; state = m; steps = c.self.inside.steps + 1 }) in
     subst here (sym c.in-Ok.ensures.ok) (step_reached g c.args.t c.self.invariant)

@@ -2,7 +2,7 @@ use Rattle.std.proofs.Common.{◌≡◌, List, All, get_or, true, refl, sym, ap,
 use Rattle.std.proofs.lemmas.Bool.{false≢true}
 use Rattle.std.proofs.lemmas.List.{take_all}
 use Rattle.object_layout.specs.declared.word.Addr.{Addr}
-use Rattle.inner_mark_gc.specs.Marks.{Marks, has_address}
+use Rattle.inner_mark_gc.specs.MarkingValue.{MarkingValue, has_address}
 use Rattle.inner_mark_gc.proofs.Finding as finding
 use Rattle.inner_mark_gc.proofs.marking.Marking.has_all.Goals as goal
 
@@ -13,7 +13,7 @@ pub returns-then-not-contains : goal.returns-then-not-contains
 returns-then-not-contains c =
     let object : Addr = get_or c.args.objects.now c.loop-object.object-index none in
     let known = c.self.invariant object in
-    let found = ap (λ (m : Marks). has_address m.found object) c.self.view_is in
+    let found = ap (λ (m : MarkingValue). has_address m.found object) c.self.view_is in
     let missing = c.if-not-contains.true in
     let e = c.contains.ensures in
     (λ t. absurd (false≢true t), λ all. absurd (false≢true (sym (sym found ∙ (sym known ∙ (sym e ∙ missing))) ∙ all c.loop-object.object-index none c.loop-object-test.true)))
@@ -22,7 +22,7 @@ pub loop-object-preserved : goal.loop-object-preserved
 loop-object-preserved c =
     let object : Addr = get_or c.args.objects.now c.loop-object.object-index none in
     let known = c.self.invariant object in
-    let found = ap (λ (m : Marks). has_address m.found object) c.self.view_is in
+    let found = ap (λ (m : MarkingValue). has_address m.found object) c.self.view_is in
     let there = c.if-not-contains.false in
     let e = c.contains.ensures in
     finding.all_more (λ a. has_address c.args.self.now.found a ≡ true) c.args.objects.now c.loop-object.object-index none c.loop-object-test.true c.loop-object.invariant (sym found ∙ (sym known ∙ (sym e ∙ there)))

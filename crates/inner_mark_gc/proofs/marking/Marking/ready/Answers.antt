@@ -1,7 +1,7 @@
 use Rattle.std.proofs.Common.{◌≡◌, List, All, length, drop, true, sym, ap, subst, arith, rules, vec_len}
 use Rattle.object_layout.specs.declared.word.Addr.{Addr}
 use Rattle.listed.proofs.Members.{contains_from_in, in_from_contains}
-use Rattle.inner_mark_gc.specs.Marks.{Marks, has_address}
+use Rattle.inner_mark_gc.specs.MarkingValue.{MarkingValue, has_address}
 use Rattle.inner_mark_gc.proofs.Addresses as addresses
 use Rattle.inner_mark_gc.proofs.Finding as finding
 use Rattle.inner_mark_gc.proofs.Marked as marked
@@ -9,15 +9,15 @@ use Rattle.inner_mark_gc.proofs.marking.Marking.ready.Goals as goal
 
 pub returns-then-self-len-clause-ready : goal.returns-then-self-len-clause-ready
 returns-then-self-len-clause-ready c = λ f s k.
-    let m : Marks = c.args.self.now in
+    let m : MarkingValue = c.args.self.now in
     let v = c.self.view_is in
-    let is_marked : c.self.inside.marked ≡ m.marked = ap (λ (n : Marks). n.marked) v in
-    let is_found : length c.self.inside.found.items ≡ length m.found = ap (λ (n : Marks). length n.found) v in
+    let is_marked : c.self.inside.marked ≡ m.marked = ap (λ (n : MarkingValue). n.marked) v in
+    let is_found : length c.self.inside.found.items ≡ length m.found = ap (λ (n : MarkingValue). length n.found) v in
     let is_len : vec_len c.self.inside.found ≡ length c.self.inside.found.items = search rules in
     let n : c.len.result ≡ vec_len c.self.inside.found = c.len.ensures in
     let t : c.self.inside.marked ≡ c.len.result = c.if-self-len.true in
     let all_marked : m.marked ≡ length m.found = omega arith in
-    let rest = finding.rest_is c.args.kept.now c.self.inside.followed m.followed (ap (λ (n : Marks). n.followed) v) in
+    let rest = finding.rest_is c.args.kept.now c.self.inside.followed m.followed (ap (λ (n : MarkingValue). n.followed) v) in
     let e = c.has_all.ensures in (
       λ r. marked.nothing_left f c.args.kept.now m k all_marked (λ a d. contains_from_in m.found a (addresses.has_in m.found a (finding.held_in (λ a. has_address m.found a ≡ true) (drop m.followed c.args.kept.now) a (subst (λ (xs : List Addr). All (λ a. has_address m.found a ≡ true) xs) rest (e.0 r)) d))),
       λ all. e.1 (subst (λ (xs : List Addr). All (λ a. has_address m.found a ≡ true) xs) (sym rest) (finding.all_from (λ a. has_address m.found a ≡ true) (drop m.followed c.args.kept.now)
@@ -26,10 +26,10 @@ returns-then-self-len-clause-ready c = λ f s k.
 
 pub returns-else-self-len-clause-ready : goal.returns-else-self-len-clause-ready
 returns-else-self-len-clause-ready c = λ f s k.
-    let m : Marks = c.args.self.now in
+    let m : MarkingValue = c.args.self.now in
     let v = c.self.view_is in
-    let is_marked : c.self.inside.marked ≡ m.marked = ap (λ (n : Marks). n.marked) v in
-    let is_found : length c.self.inside.found.items ≡ length m.found = ap (λ (n : Marks). length n.found) v in
+    let is_marked : c.self.inside.marked ≡ m.marked = ap (λ (n : MarkingValue). n.marked) v in
+    let is_found : length c.self.inside.found.items ≡ length m.found = ap (λ (n : MarkingValue). length n.found) v in
     let is_len : vec_len c.self.inside.found ≡ length c.self.inside.found.items = search rules in
     let n : c.len.result ≡ vec_len c.self.inside.found = c.len.ensures in
     let t = c.if-self-len.false in (
@@ -39,10 +39,10 @@ returns-else-self-len-clause-ready c = λ f s k.
 
 pub returns-then-self-len-clause-done : goal.returns-then-self-len-clause-done
 returns-then-self-len-clause-done c = λ r.
-    let m : Marks = c.args.self.now in
+    let m : MarkingValue = c.args.self.now in
     let v = c.self.view_is in
-    let is_marked : c.self.inside.marked ≡ m.marked = ap (λ (n : Marks). n.marked) v in
-    let is_found : length c.self.inside.found.items ≡ length m.found = ap (λ (n : Marks). length n.found) v in
+    let is_marked : c.self.inside.marked ≡ m.marked = ap (λ (n : MarkingValue). n.marked) v in
+    let is_found : length c.self.inside.found.items ≡ length m.found = ap (λ (n : MarkingValue). length n.found) v in
     let is_len : vec_len c.self.inside.found ≡ length c.self.inside.found.items = search rules in
     let n : c.len.result ≡ vec_len c.self.inside.found = c.len.ensures in
     let t : c.self.inside.marked ≡ c.len.result = c.if-self-len.true in

@@ -1,7 +1,7 @@
 use Rattle.std.proofs.Common.{◌≡◌, ◌+◌, ◌<◌, ◌≤◌, length, sym, ap, ◌∙◌, subst, arith, rules, vec_len}
 use Rattle.std.proofs.lemmas.Option.{slice_get-get_or}
 use Rattle.object_layout.specs.declared.word.Addr.{Addr}
-use Rattle.inner_mark_gc.specs.Marks.{Marks}
+use Rattle.inner_mark_gc.specs.MarkingValue.{MarkingValue}
 use Rattle.inner_mark_gc.proofs.Marked as marked
 use Rattle.inner_mark_gc.proofs.marking.Marking.some.Goals as goal
 
@@ -26,8 +26,8 @@ loop-count-preserved c =
     let finds = c.mark_next.ensures.finds none in
     let t : c.self.inside.marked < c.len.result = c.if-self-len.true in
     let v = c.self.view_is in
-    let is_marked : c.self.inside.marked ≡ c.loop-count.self.marked = ap (λ (m : Marks). m.marked) v in
-    let is_found : length c.self.inside.found.items ≡ length c.loop-count.self.found = ap (λ (m : Marks). length m.found) v in
+    let is_marked : c.self.inside.marked ≡ c.loop-count.self.marked = ap (λ (m : MarkingValue). m.marked) v in
+    let is_found : length c.self.inside.found.items ≡ length c.loop-count.self.found = ap (λ (m : MarkingValue). length m.found) v in
     let is_len : vec_len c.self.inside.found ≡ length c.self.inside.found.items = search rules in
     let n : c.len.result ≡ vec_len c.self.inside.found = c.len.ensures in
     let less : c.loop-count.self.marked < length c.loop-count.self.found = omega arith in
@@ -50,8 +50,8 @@ pub returns-else-self-len-clause-left : goal.returns-else-self-len-clause-left
 returns-else-self-len-clause-left c = λ f s k less.
     let t : c.len.result ≤ c.self.inside.marked = c.if-self-len.false in
     let v = c.self.view_is in
-    let is_marked : c.self.inside.marked ≡ c.loop-count.self.marked = ap (λ (m : Marks). m.marked) v in
-    let is_found : length c.self.inside.found.items ≡ length c.loop-count.self.found = ap (λ (m : Marks). length m.found) v in
+    let is_marked : c.self.inside.marked ≡ c.loop-count.self.marked = ap (λ (m : MarkingValue). m.marked) v in
+    let is_found : length c.self.inside.found.items ≡ length c.loop-count.self.found = ap (λ (m : MarkingValue). length m.found) v in
     let is_len : vec_len c.self.inside.found ≡ length c.self.inside.found.items = search rules in
     let n : c.len.result ≡ vec_len c.self.inside.found = c.len.ensures in
     let within : c.loop-count.self.marked ≤ length c.loop-count.self.found = c.loop-count.invariant.own.marked in

@@ -1,5 +1,5 @@
 use Rattle.std.proofs.Common.{◌≡◌, ◌+◌, ◌-◌, ◌≤◌, length, take}
-use Rattle.inner_mark_gc.specs.Marks.{marked_of, IsMarking, IsOf}
+use Rattle.inner_mark_gc.specs.MarkingValue.{marked_of, IsMarking, IsOf}
 use Rattle.inner_mark_gc.specs.Snapshot.{Fork, IsSince}
 use Rattle.inner_mark_gc.proofs.marking.Marking.some.Given as goal
 

@@ -1,15 +1,15 @@
 use Rattle.std.proofs.Common.{◌≡◌, ◌∙◌, ℕ, List, ap, sym}
 use Rattle.object_layout.specs.Cell.{Cell}
-use Rattle.object_layout.specs.Content.{Content}
+use Rattle.object_layout.specs.ChunkValue.{ChunkValue}
 use Rattle.object_layout.specs.Place.{cell_at, put_cell}
 use Rattle.object_layout.proofs.PlaceLemmas as place
-use Rattle.inner_mark_gc.specs.Marks.{has_address}
+use Rattle.inner_mark_gc.specs.MarkingValue.{has_address}
 use Rattle.inner_mark_gc.proofs.Sweeping as sweeping
 use Rattle.inner_mark_gc.proofs.marking.Marking.sweep_at.Goals as goal
 
 -- a cell put where it is
-put_same : (k : Content) (at : ℕ) (d : Cell) → d ≡ cell_at k.cells at → k ≡ record k { cells = put_cell k.cells at d }
-put_same k at d e = ap (λ (cs : List Cell). let r : Content = record k { cells = cs } in r) (sym (ap (put_cell k.cells at) e ∙ place.put_cell-itself k.cells at))
+put_same : (k : ChunkValue) (at : ℕ) (d : Cell) → d ≡ cell_at k.cells at → k ≡ record k { cells = put_cell k.cells at d }
+put_same k at d e = ap (λ (cs : List Cell). let r : ChunkValue = record k { cells = cs } in r) (sym (ap (put_cell k.cells at) e ∙ place.put_cell-itself k.cells at))
 
 pub returns-then-not-is_object_at : goal.returns-then-not-is_object_at
 returns-then-not-is_object_at c =
@@ -26,5 +26,5 @@ returns-then-not-leaves_object_at c =
     let some = sym (sweeping.object_is (cell_at c.args.chunk.now.cells c.args.at).mark c.is_object_at.result c.is_object_at.ensures) ∙ c.if-not-is_object_at.false in
     let gone = sym c.leaves_object_at.ensures ∙ c.if-not-leaves_object_at.true in
     c.drop_at.ensures
-    ∙ ap (λ (d : Cell). let r : Content = record c.args.chunk.now { cells = put_cell c.args.chunk.now.cells c.args.at d } in r)
+    ∙ ap (λ (d : Cell). let r : ChunkValue = record c.args.chunk.now { cells = put_cell c.args.chunk.now.cells c.args.at d } in r)
     (sweeping.dropped_is (has_address c.args.self.now.found (record { chunk = c.args.chunk.now.number; offset = c.args.at })) (cell_at c.args.chunk.now.cells c.args.at) some gone)

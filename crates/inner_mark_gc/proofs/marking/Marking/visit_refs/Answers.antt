@@ -3,7 +3,7 @@ use Rattle.std.proofs.lemmas.Option.{slice_get-get_or}
 use Rattle.object_layout.specs.declared.word.Addr.{Addr}
 use Rattle.object_layout.specs.declared.word.Header.{Header}
 use Rattle.object_layout.specs.Cell.{Cell}
-use Rattle.object_layout.specs.Content.{Content}
+use Rattle.object_layout.specs.ChunkValue.{ChunkValue}
 use Rattle.object_layout.specs.Chunks.{cell_of, object_of}
 use Rattle.object_layout.specs.Graph.{IsHeld, IsSound, Leads}
 use Rattle.object_layout.proofs.ChunkLaws as laws
@@ -13,13 +13,13 @@ use Rattle.inner_mark_gc.proofs.marking.Marking.visit_refs.Goals as goal
 pub own_header-field-end-requires : goal.own_header-field-end-requires
 own_header-field-end-requires c = laws.born_object c.args.heap.now.chunks c.args.object c.requires.object
 
-sound_at : (ks : List Content) (rs : List (Option Addr)) (k : ℕ) (r : Option Addr) → All (IsSound ks) rs → k < length rs → slice_get rs k ≡ Some r → IsSound ks r
+sound_at : (ks : List ChunkValue) (rs : List (Option Addr)) (k : ℕ) (r : Option Addr) → All (IsSound ks) rs → k < length rs → slice_get rs k ≡ Some r → IsSound ks r
 sound_at ks rs k r all l is =
     let got : slice_get rs k ≡ Some (get_or rs k r) = slice_get-get_or rs k r l in
     let e : get_or rs k r ≡ r = cc in
     subst (IsSound ks) e (all k r l)
 
-refs_are : (ks : List Content) (b : Addr) → IsHeld ks b → (object_of ks b).refs ≡ (cell_of ks b).refs
+refs_are : (ks : List ChunkValue) (b : Addr) → IsHeld ks b → (object_of ks b).refs ≡ (cell_of ks b).refs
 refs_are ks b held = ap (λ (d : Cell). d.refs) (laws.object_is ks b (laws.born_object ks b held))
 
 pub visit-requires-clause-sound : goal.visit-requires-clause-sound

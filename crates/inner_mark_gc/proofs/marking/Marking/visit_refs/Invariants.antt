@@ -1,5 +1,5 @@
 use Rattle.std.proofs.Common.{take, Some, Contains}
-use Rattle.inner_mark_gc.specs.Marks.{Finds, HasRoom}
+use Rattle.inner_mark_gc.specs.MarkingValue.{Finds, HasRoom}
 use Rattle.object_layout.specs.Chunks.{object_of}
 use Rattle.object_layout.specs.Graph.{IsHeld}
 use Rattle.inner_mark_gc.proofs.marking.Marking.visit_refs.Given as goal

@@ -1,6 +1,6 @@
 use Rattle.std.proofs.Common.{◌∙◌, ◌+◌, List, [], ◌∷◌, ◌++◌, ap, filter, sym, take}
 use Rattle.std.proofs.lemmas.List.{take_more}
-use Rattle.object_layout.specs.Content.{Content}
+use Rattle.object_layout.specs.ChunkValue.{ChunkValue}
 use Rattle.alloc_path.specs.Units.{counted32, unit_count}
 use Rattle.inner_mark_gc.specs.Swept.{goes}
 use Rattle.inner_mark_gc.proofs.Giving as giving
@@ -8,11 +8,11 @@ use Rattle.inner_mark_gc.proofs.marking.Marking.would_give.Goals as goal
 
 pub loop-chunk-preserved : goal.loop-chunk-preserved
 loop-chunk-preserved c =
-    let ks : List Content = c.chunks-chunks.result.now in
-    let k : Content = c.chunk-item.result in
+    let ks : List ChunkValue = c.chunks-chunks.result.now in
+    let k : ChunkValue = c.chunk-item.result in
     let p = goes c.args.self.now.found c.number_of-reserved.result in
     let more = take_more ks c.loop-chunk.chunk-index k c.loop-chunk-test.true in
     let sum = giving.counted_more p (take c.loop-chunk.chunk-index ks) k c.loop-chunk.units c.saturating_add-units.result c.loop-chunk.invariant
     (c.saturating_add-units.ensures ∙ ap (λ n. counted32 (c.loop-chunk.units + n)) c.units_gone.ensures) in
-    sum ∙ ap (λ (x : Content). counted32 (unit_count (filter (goes c.args.self.now.found c.number_of-reserved.result) (take c.loop-chunk.chunk-index ks ++ x ∷ [])))) c.chunk-item.is
-    ∙ ap (λ (xs : List Content). counted32 (unit_count (filter (goes c.args.self.now.found c.number_of-reserved.result) xs))) (sym more)
+    sum ∙ ap (λ (x : ChunkValue). counted32 (unit_count (filter (goes c.args.self.now.found c.number_of-reserved.result) (take c.loop-chunk.chunk-index ks ++ x ∷ [])))) c.chunk-item.is
+    ∙ ap (λ (xs : List ChunkValue). counted32 (unit_count (filter (goes c.args.self.now.found c.number_of-reserved.result) xs))) (sym more)

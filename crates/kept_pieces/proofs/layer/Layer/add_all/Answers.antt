@@ -1,8 +1,8 @@
 use Rattle.std.proofs.Common.{◌≡◌, ◌∙◌, ◌++◌, ◌∷◌, [], ℕ, Option, ap, sym, take, rules}
 use Rattle.std.specs.Option.{option_or}
 use Rattle.std.proofs.lemmas.List.{map-append, take_more}
-use Rattle.object_layout.specs.Content.{Content}
-use Rattle.object_layout.specs.Piece.{Frozen, frozen_of}
+use Rattle.object_layout.specs.ChunkValue.{ChunkValue}
+use Rattle.object_layout.specs.Piece.{PieceValue, frozen_of}
 use Rattle.kept_pieces.specs.Level.{level_of, piece_in}
 use Rattle.kept_pieces.proofs.Levels as levels
 use Rattle.kept_pieces.proofs.layer.Layer.add_all.Goals as goal
@@ -14,6 +14,6 @@ loop-chunk-preserved c = λ n.
     let k = c.chunk-item.result in
     rw (take_more ks i k c.loop-chunk-test.true, ← c.chunk-item.is, map-append frozen_of (take i ks) (k ∷ []))
     (c.in_ok-add.ensures n
-    ∙ (ap (λ (o : Option Frozen). option_or o (piece_in (level_of (k ∷ [])) n)) (c.loop-chunk.invariant n)
+    ∙ (ap (λ (o : Option PieceValue). option_or o (piece_in (level_of (k ∷ [])) n)) (c.loop-chunk.invariant n)
     ∙ (levels.or_three (piece_in c.args.self.now n) (piece_in (level_of (take i ks)) n) (piece_in (level_of (k ∷ [])) n)
     ∙ ap (option_or (piece_in c.args.self.now n)) (sym (levels.found_in_both (level_of (take i ks)) (level_of (k ∷ [])) n)))))

@@ -2,7 +2,7 @@ use Rattle.std.proofs.Common.{◌≡◌, ◌∙◌, ◌∷◌, [], ◌<◌, ◌�
 use Rattle.std.proofs.lemmas.List.{length-map, map-append}
 use Rattle.std.specs.Arc.{arc_value}
 use Rattle.std.specs.HashMap.{get, spare}
-use Rattle.object_layout.specs.Piece.{Frozen}
+use Rattle.object_layout.specs.Piece.{PieceValue}
 use Rattle.kept_pieces.specs.Level.{Level}
 use Rattle.kept_pieces.proofs.Levels as levels
 use Rattle.kept_pieces.proofs.layer.Layer.put.Goals as goal
@@ -10,7 +10,7 @@ use Rattle.kept_pieces.proofs.layer.Layer.put.Goals as goal
 pub returns-then-contains_key : goal.returns-then-contains_key
 returns-then-contains_key c = λ n.
     let l : Level = map arc_value c.self.inside.pieces.items in
-    let number : c.number-number.result ≡ (arc_value c.args.piece).number = c.number-number.ensures ∙ ap (λ (f : Frozen). f.number) c.deref.ensures in
+    let number : c.number-number.result ≡ (arc_value c.args.piece).number = c.number-number.ensures ∙ ap (λ (f : PieceValue). f.number) c.deref.ensures in
     let same : get nat_eq c.reserve.new.self c.number-number.result ≡ get nat_eq c.self.inside.table c.number-number.result = search rules in
     rw (← c.self.view_is, c.in_ok-reserve-2.ensures.items)
     (levels.known_where l (arc_value c.args.piece) c.number-number.result number (get nat_eq c.reserve.new.self c.number-number.result) (same ∙ c.self.invariant c.number-number.result) (sym c.contains_key.ensures ∙ c.if-contains_key.true) n)
@@ -18,7 +18,7 @@ returns-then-contains_key c = λ n.
 pub invariant_of-self-2 : goal.invariant_of-self-2
 invariant_of-self-2 c = λ q.
     let l : Level = map arc_value c.self.inside.pieces.items in
-    let number : c.number-number.result ≡ (arc_value c.args.piece).number = c.number-number.ensures ∙ ap (λ (f : Frozen). f.number) c.deref.ensures in
+    let number : c.number-number.result ≡ (arc_value c.args.piece).number = c.number-number.ensures ∙ ap (λ (f : PieceValue). f.number) c.deref.ensures in
     let same : get nat_eq c.reserve.new.self c.number-number.result ≡ get nat_eq c.self.inside.table c.number-number.result = search rules in
     let before : get nat_eq c.reserve.new.self q ≡ get nat_eq c.self.inside.table q = search rules in
     let none = levels.unknown_where (get nat_eq c.reserve.new.self c.number-number.result) _ (same ∙ c.self.invariant c.number-number.result) (sym c.contains_key.ensures ∙ c.if-contains_key.false) in

@@ -2,7 +2,7 @@ use Rattle.std.proofs.Common.{◌∙◌, ◌∷◌, [], Option, ap, map, sym, ta
 use Rattle.std.specs.Arc.{arc_value}
 use Rattle.std.specs.Option.{option_or}
 use Rattle.std.proofs.lemmas.List.{map-append, take_more}
-use Rattle.object_layout.specs.Piece.{Frozen}
+use Rattle.object_layout.specs.Piece.{PieceValue}
 use Rattle.kept_pieces.specs.Level.{piece_in}
 use Rattle.kept_pieces.proofs.Levels as levels
 use Rattle.kept_pieces.proofs.layer.Layer.share.Goals as goal
@@ -15,6 +15,6 @@ loop-piece-preserved c = λ n.
     let put = rw c.in_ok-try_clone.ensures at (c.in_ok-put.ensures n) in
     rw (take_more xs i p c.loop-piece-test.true, ← c.piece-item.is, map-append arc_value (take i xs) (p ∷ []))
     (put
-    ∙ (ap (λ (o : Option Frozen). option_or o (piece_in (arc_value p ∷ []) n)) (c.loop-piece.invariant n)
+    ∙ (ap (λ (o : Option PieceValue). option_or o (piece_in (arc_value p ∷ []) n)) (c.loop-piece.invariant n)
     ∙ (levels.or_three (piece_in c.args.self.now n) (piece_in (map arc_value (take i xs)) n) (piece_in (arc_value p ∷ []) n)
     ∙ ap (option_or (piece_in c.args.self.now n)) (sym (levels.found_in_both (map arc_value (take i xs)) (arc_value p ∷ []) n)))))

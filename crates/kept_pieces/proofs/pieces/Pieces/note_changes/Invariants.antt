@@ -1,5 +1,5 @@
 use Rattle.std.proofs.Common.{take}
-use Rattle.kept_pieces.specs.Kept.{numbers_of, NotesChanges}
+use Rattle.kept_pieces.specs.PiecesValue.{numbers_of, NotesChanges}
 use Rattle.kept_pieces.proofs.pieces.Pieces.note_changes.Given as goal
 
 abbrev pub invariant-loop-chunk : goal.invariant-loop-chunk

@@ -1,26 +1,26 @@
 use Rattle.std.proofs.Common.{◌≡◌, ◌<◌, true, length, sym, ap, ◌∙◌, subst}
 use Rattle.object_layout.specs.Cell.{size_of, IsObject}
 use Rattle.object_layout.specs.Chunks.{cell_of, place_in}
-use Rattle.leaf_copy_gc.specs.Collection.{Collection}
+use Rattle.leaf_copy_gc.specs.CollectorValue.{CollectorValue}
 use Rattle.leaf_copy_gc.specs.Copying.{copied}
 use Rattle.leaf_copy_gc.specs.Laid.{is_small, HasRoom}
 use Rattle.leaf_copy_gc.proofs.collector.Collector.copy_small.Goals as goal
 
 pub copy_if_small-requires-clause-place : goal.copy_if_small-requires-clause-place
 copy_if_small-requires-clause-place c =
-    ap (λ (z : Collection). place_in z.heap.chunks c.args.survivor.old.chunk) c.place_of-place.ensures.same ∙ c.place_of-place.ensures.place
+    ap (λ (z : CollectorValue). place_in z.heap.chunks c.args.survivor.old.chunk) c.place_of-place.ensures.same ∙ c.place_of-place.ensures.place
 
 pub copy_if_small-requires-clause-object : goal.copy_if_small-requires-clause-object
 copy_if_small-requires-clause-object c =
-    subst (λ (z : Collection). IsObject (cell_of z.heap.chunks c.args.survivor.old).mark) (sym c.place_of-place.ensures.same) c.requires.object
+    subst (λ (z : CollectorValue). IsObject (cell_of z.heap.chunks c.args.survivor.old).mark) (sym c.place_of-place.ensures.same) c.requires.object
 
 pub copy_if_small-requires-clause-room : goal.copy_if_small-requires-clause-room
 copy_if_small-requires-clause-room c =
-    subst (λ (z : Collection). is_small z.heap.chunks c.args.survivor.old ≡ true → HasRoom z.laying (size_of (cell_of z.heap.chunks c.args.survivor.old))) (sym c.place_of-place.ensures.same) c.requires.room
+    subst (λ (z : CollectorValue). is_small z.heap.chunks c.args.survivor.old ≡ true → HasRoom z.laying (size_of (cell_of z.heap.chunks c.args.survivor.old))) (sym c.place_of-place.ensures.same) c.requires.room
 
 pub copy_if_small-requires-clause-list : goal.copy_if_small-requires-clause-list
 copy_if_small-requires-clause-list c =
-    subst (λ (z : Collection). length z.moved < length z.found) (sym c.place_of-place.ensures.same) c.requires.list
+    subst (λ (z : CollectorValue). length z.moved < length z.found) (sym c.place_of-place.ensures.same) c.requires.list
 
 pub returns : goal.returns
-returns c = c.copy_if_small.ensures ∙ ap (λ (z : Collection). copied z c.args.survivor) c.place_of-place.ensures.same
+returns c = c.copy_if_small.ensures ∙ ap (λ (z : CollectorValue). copied z c.args.survivor) c.place_of-place.ensures.same

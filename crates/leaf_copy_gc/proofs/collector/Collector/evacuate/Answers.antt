@@ -1,9 +1,9 @@
 use Rattle.std.proofs.Common.{List, map, sym, subst, ap, All, Option}
-use Rattle.object_layout.specs.Content.{Content}
+use Rattle.object_layout.specs.ChunkValue.{ChunkValue}
 use Rattle.object_layout.specs.declared.word.Addr.{Addr}
-use Rattle.task_frames.specs.Stack.{frames_of}
+use Rattle.task_frames.specs.FramesValue.{frames_of}
 use Rattle.leaf_copy_gc.specs.Survivors.{as_reference, held_by, outside}
-use Rattle.leaf_copy_gc.specs.Collection.{Collection}
+use Rattle.leaf_copy_gc.specs.CollectorValue.{CollectorValue}
 use Rattle.leaf_copy_gc.specs.Search.{IsTarget}
 use Rattle.leaf_copy_gc.specs.Redirected.{CanFollow}
 use Rattle.leaf_copy_gc.proofs.FrameLemmas as frames
@@ -16,9 +16,9 @@ discover-requires-clause-none c = c.requires.begins.found
 
 pub copy_all-requires-clause-ready : goal.copy_all-requires-clause-ready
 copy_all-requires-clause-ready c =
-    let b : Collection = c.args.self.now in
-    let d : Collection = c.discover.new.self in
-    let s : Collection = c.sort_found.new.self in
+    let b : CollectorValue = c.args.self.now in
+    let d : CollectorValue = c.discover.new.self in
+    let s : CollectorValue = c.sort_found.new.self in
     let from : List (Option Addr) = outside c.args.frames.now c.args.roots.now in
     let are : AreFound b from d s = record {
       begins = c.requires.begins;
@@ -34,9 +34,9 @@ copy_all-requires-clause-ready c =
 
 pub copy_all-requires-clause-none : goal.copy_all-requires-clause-none
 copy_all-requires-clause-none c =
-    let b : Collection = c.args.self.now in
-    let d : Collection = c.discover.new.self in
-    let s : Collection = c.sort_found.new.self in
+    let b : CollectorValue = c.args.self.now in
+    let d : CollectorValue = c.discover.new.self in
+    let s : CollectorValue = c.sort_found.new.self in
     let from : List (Option Addr) = outside c.args.frames.now c.args.roots.now in
     let are : AreFound b from d s = record {
       begins = c.requires.begins;
@@ -52,9 +52,9 @@ copy_all-requires-clause-none c =
 
 pub lead_chunks-requires : goal.lead_chunks-requires
 lead_chunks-requires c =
-    let b : Collection = c.args.self.now in
-    let d : Collection = c.discover.new.self in
-    let s : Collection = c.sort_found.new.self in
+    let b : CollectorValue = c.args.self.now in
+    let d : CollectorValue = c.discover.new.self in
+    let s : CollectorValue = c.sort_found.new.self in
     let from : List (Option Addr) = outside c.args.frames.now c.args.roots.now in
     let are : AreFound b from d s = record {
       begins = c.requires.begins;
@@ -70,9 +70,9 @@ lead_chunks-requires c =
 
 pub lead_frames-requires : goal.lead_frames-requires
 lead_frames-requires c =
-    let b : Collection = c.args.self.now in
-    let d : Collection = c.discover.new.self in
-    let s : Collection = c.sort_found.new.self in
+    let b : CollectorValue = c.args.self.now in
+    let d : CollectorValue = c.discover.new.self in
+    let s : CollectorValue = c.sort_found.new.self in
     let from : List (Option Addr) = outside c.args.frames.now c.args.roots.now in
     let are : AreFound b from d s = record {
       begins = c.requires.begins;
@@ -84,17 +84,17 @@ lead_frames-requires c =
       permuted = c.sort_found.ensures.permutation;
       ordered = c.sort_found.ensures.order;
     } in
-    let t : Collection = c.copy_all.new.self in
-    let u : Collection = c.lead_chunks.new.self in
-    let same = ap (λ (z : Collection). z.heap.chunks) c.lead_chunks.ensures in
+    let t : CollectorValue = c.copy_all.new.self in
+    let u : CollectorValue = c.lead_chunks.new.self in
+    let same = ap (λ (z : CollectorValue). z.heap.chunks) c.lead_chunks.ensures in
     frames.first_part (IsTarget u.heap.chunks) (held_by (frames_of c.args.frames.now)) (map as_reference c.args.roots.now)
-    (subst (λ (ks : List Content). All (IsTarget ks) from) (sym same) (phases.from_targets b from c.requires.closed c.requires.outside d s are t c.copy_all.ensures))
+    (subst (λ (ks : List ChunkValue). All (IsTarget ks) from) (sym same) (phases.from_targets b from c.requires.closed c.requires.outside d s are t c.copy_all.ensures))
 
 pub lead_larges-requires : goal.lead_larges-requires
 lead_larges-requires c =
-    let b : Collection = c.args.self.now in
-    let d : Collection = c.discover.new.self in
-    let s : Collection = c.sort_found.new.self in
+    let b : CollectorValue = c.args.self.now in
+    let d : CollectorValue = c.discover.new.self in
+    let s : CollectorValue = c.sort_found.new.self in
     let from : List (Option Addr) = outside c.args.frames.now c.args.roots.now in
     let are : AreFound b from d s = record {
       begins = c.requires.begins;
@@ -106,15 +106,15 @@ lead_larges-requires c =
       permuted = c.sort_found.ensures.permutation;
       ordered = c.sort_found.ensures.order;
     } in
-    let t : Collection = c.copy_all.new.self in
-    let u : Collection = c.lead_chunks.new.self in
-    subst (λ (z : Collection). CanFollow z.heap.chunks z.found) (sym c.lead_chunks.ensures) (phases.can_follow b from c.requires.closed c.requires.outside d s are t c.copy_all.ensures)
+    let t : CollectorValue = c.copy_all.new.self in
+    let u : CollectorValue = c.lead_chunks.new.self in
+    subst (λ (z : CollectorValue). CanFollow z.heap.chunks z.found) (sym c.lead_chunks.ensures) (phases.can_follow b from c.requires.closed c.requires.outside d s are t c.copy_all.ensures)
 
 pub returns : goal.returns
 returns c =
-    let b : Collection = c.args.self.now in
-    let d : Collection = c.discover.new.self in
-    let s : Collection = c.sort_found.new.self in
+    let b : CollectorValue = c.args.self.now in
+    let d : CollectorValue = c.discover.new.self in
+    let s : CollectorValue = c.sort_found.new.self in
     let from : List (Option Addr) = outside c.args.frames.now c.args.roots.now in
     let are : AreFound b from d s = record {
       begins = c.requires.begins;

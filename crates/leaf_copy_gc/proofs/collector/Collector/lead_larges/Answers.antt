@@ -1,12 +1,12 @@
 use Rattle.std.proofs.Common.{List, arith, ◌∙◌}
-use Rattle.object_layout.specs.Content.{Content}
+use Rattle.object_layout.specs.ChunkValue.{ChunkValue}
 use Rattle.leaf_copy_gc.specs.declared.lists.Survivor.{Survivor}
 use Rattle.leaf_copy_gc.proofs.Places as places
 use Rattle.leaf_copy_gc.proofs.collector.Collector.lead_larges.Goals as goal
 
 pub invariant_of-self : goal.invariant_of-self
 invariant_of-self c =
-    let h : List Content = c.self.inside.heap.chunks in
+    let h : List ChunkValue = c.self.inside.heap.chunks in
     let ss : List Survivor = c.deref.result.now in
     let objects = places.fewer_led h ss in
     let chunks = places.length_led h ss in

@@ -1,10 +1,10 @@
 use Rattle.std.proofs.Common.{List, arith, subst, sym, ap, ◌∙◌, option_map}
 use Rattle.object_layout.specs.declared.word.Birth.{Birth}
 use Rattle.object_layout.specs.Cell.{Cell, Moved, with_mark}
-use Rattle.object_layout.specs.Content.{Content}
+use Rattle.object_layout.specs.ChunkValue.{ChunkValue}
 use Rattle.object_layout.specs.Chunks.{cell_of}
 use Rattle.object_layout.proofs.ChunkLaws as laws
-use Rattle.leaf_copy_gc.specs.Collection.{Collection}
+use Rattle.leaf_copy_gc.specs.CollectorValue.{CollectorValue}
 use Rattle.leaf_copy_gc.specs.Search.{IsTarget}
 use Rattle.leaf_copy_gc.specs.declared.discovery.Live.{Live}
 use Rattle.leaf_copy_gc.proofs.FoundLemmas as founds
@@ -16,28 +16,28 @@ name l = l.birth
 
 pub forward_in-requires-clause-object : goal.forward_in-requires-clause-object
 forward_in-requires-clause-object c =
-    let h : List Content = c.self.inside.heap.chunks in
+    let h : List ChunkValue = c.self.inside.heap.chunks in
     let live = founds.visit_live h c.in-Some.address c.in-Some-live_at.live.birth (option_map name c.live_at.result) c.live_at.ensures.birth (ap (option_map name) c.in-Some-live_at.is) in
-    let t = subst (IsTarget h) c.in-Some.is (subst (λ (z : Collection). IsTarget z.heap.chunks c.args.reference) (sym c.self.view_is) c.requires) in
+    let t = subst (IsTarget h) c.in-Some.is (subst (λ (z : CollectorValue). IsTarget z.heap.chunks c.args.reference) (sym c.self.view_is) c.requires) in
     (t (puts.live_chunk h c.in-Some.address live)).0
 
 pub forward_in-requires-clause-to : goal.forward_in-requires-clause-to
 forward_in-requires-clause-to c =
-    let h : List Content = c.self.inside.heap.chunks in
+    let h : List ChunkValue = c.self.inside.heap.chunks in
     let live = founds.visit_live h c.in-Some.address c.in-Some-live_at.live.birth (option_map name c.live_at.result) c.live_at.ensures.birth (ap (option_map name) c.in-Some-live_at.is) in
-    let t = subst (IsTarget h) c.in-Some.is (subst (λ (z : Collection). IsTarget z.heap.chunks c.args.reference) (sym c.self.view_is) c.requires) in
+    let t = subst (IsTarget h) c.in-Some.is (subst (λ (z : CollectorValue). IsTarget z.heap.chunks c.args.reference) (sym c.self.view_is) c.requires) in
     (t (puts.live_chunk h c.in-Some.address live)).1
 
 pub push_reserved-requires : goal.push_reserved-requires
 push_reserved-requires c =
-    let h : List Content = c.self.inside.heap.chunks in
+    let h : List ChunkValue = c.self.inside.heap.chunks in
     let live = founds.visit_live h c.in-Some.address c.in-Some-live_at.live.birth (option_map name c.live_at.result) c.live_at.ensures.birth (ap (option_map name) c.in-Some-live_at.is) in
     let count = puts.count_found h c.in-Some.address c.in-Some.address live in
     omega arith
 
 pub invariant_of-self : goal.invariant_of-self
 invariant_of-self c =
-    let h : List Content = c.self.inside.heap.chunks in
+    let h : List ChunkValue = c.self.inside.heap.chunks in
     let live = founds.visit_live h c.in-Some.address c.in-Some-live_at.live.birth (option_map name c.live_at.result) c.live_at.ensures.birth (ap (option_map name) c.in-Some-live_at.is) in
     let count = puts.count_found h c.in-Some.address c.in-Some.address live in
     let found : Cell = with_mark (cell_of h c.in-Some.address) (Moved c.in-Some.address) in

@@ -1,8 +1,8 @@
 use Rattle.std.proofs.Common.{◌≡◌, ◌<◌, length, List, Option, sym, ap, ◌∙◌, subst, fold, All, arith, length-append}
 use Rattle.object_layout.specs.declared.word.Addr.{Addr}
-use Rattle.task_frames.specs.Stack.{frames_of, references_of}
+use Rattle.task_frames.specs.FramesValue.{frames_of, references_of}
 use Rattle.leaf_copy_gc.specs.Survivors.{held_by}
-use Rattle.leaf_copy_gc.specs.Collection.{Collection}
+use Rattle.leaf_copy_gc.specs.CollectorValue.{CollectorValue}
 use Rattle.leaf_copy_gc.specs.Search.{visited, IsTarget}
 use Rattle.leaf_copy_gc.proofs.FoundLemmas as founds
 use Rattle.leaf_copy_gc.proofs.ListLemmas as lists
@@ -17,12 +17,12 @@ visit_all-requires c =
 
 pub loop-frame-preserved : goal.loop-frame-preserved
 loop-frame-preserved c =
-    let s : Collection = c.loop-frame.self in
+    let s : CollectorValue = c.loop-frame.self in
     let fs = frames_of c.args.frames.now in
     let refs = references_of fs c.loop-frame.frame in
     let step : c.visit_all.new.self ≡ fold visited s refs = c.visit_all.ensures ∙ ap (fold visited s) c.references_in-references.ensures in
     let within : c.loop-frame.frame < length fs = omega (arith, length-append c.args.frames.now.below) in
     record {
-      visited = step ∙ (ap (λ (t : Collection). fold visited t refs) c.loop-frame.invariant.visited ∙ sym (lists.fold_frames visited c.args.self.now fs c.loop-frame.frame within));
-      targets = founds.fold_all_targets s refs c.visit_all.new.self.heap.chunks (ap (λ (t : Collection). t.heap.chunks) step) (held_by fs) c.loop-frame.invariant.targets;
+      visited = step ∙ (ap (λ (t : CollectorValue). fold visited t refs) c.loop-frame.invariant.visited ∙ sym (lists.fold_frames visited c.args.self.now fs c.loop-frame.frame within));
+      targets = founds.fold_all_targets s refs c.visit_all.new.self.heap.chunks (ap (λ (t : CollectorValue). t.heap.chunks) step) (held_by fs) c.loop-frame.invariant.targets;
     }

@@ -1,5 +1,5 @@
 use Rattle.std.proofs.Common.{◌≡◌, take, fold, All}
-use Rattle.task_frames.specs.Stack.{frames_of}
+use Rattle.task_frames.specs.FramesValue.{frames_of}
 use Rattle.leaf_copy_gc.specs.Survivors.{held_by}
 use Rattle.leaf_copy_gc.specs.Search.{visited, IsTarget}
 use Rattle.leaf_copy_gc.proofs.collector.Collector.visit_frames.Given as goal

@@ -1,21 +1,21 @@
 use Rattle.std.proofs.Common.{fold, sym, ap, ◌∙◌, subst, All}
 use Rattle.object_layout.specs.Cell.{IsObject}
 use Rattle.object_layout.specs.Chunks.{cell_of, place_in}
-use Rattle.leaf_copy_gc.specs.Collection.{Collection}
+use Rattle.leaf_copy_gc.specs.CollectorValue.{CollectorValue}
 use Rattle.leaf_copy_gc.specs.Search.{visited, IsTarget}
 use Rattle.leaf_copy_gc.proofs.collector.Collector.visit_refs.Goals as goal
 
 pub visit_fields-requires-clause-place : goal.visit_fields-requires-clause-place
 visit_fields-requires-clause-place c =
-    ap (λ (z : Collection). place_in z.heap.chunks c.args.object.chunk) c.place_of-place.ensures.same ∙ c.place_of-place.ensures.place
+    ap (λ (z : CollectorValue). place_in z.heap.chunks c.args.object.chunk) c.place_of-place.ensures.same ∙ c.place_of-place.ensures.place
 
 pub visit_fields-requires-clause-object : goal.visit_fields-requires-clause-object
 visit_fields-requires-clause-object c =
-    subst (λ (z : Collection). IsObject (cell_of z.heap.chunks c.args.object).mark) (sym c.place_of-place.ensures.same) c.requires.object
+    subst (λ (z : CollectorValue). IsObject (cell_of z.heap.chunks c.args.object).mark) (sym c.place_of-place.ensures.same) c.requires.object
 
 pub visit_fields-requires-clause-targets : goal.visit_fields-requires-clause-targets
 visit_fields-requires-clause-targets c =
-    subst (λ (z : Collection). All (IsTarget z.heap.chunks) (cell_of z.heap.chunks c.args.object).refs) (sym c.place_of-place.ensures.same) c.requires.targets
+    subst (λ (z : CollectorValue). All (IsTarget z.heap.chunks) (cell_of z.heap.chunks c.args.object).refs) (sym c.place_of-place.ensures.same) c.requires.targets
 
 pub returns : goal.returns
-returns c = c.visit_fields.ensures ∙ ap (λ (z : Collection). fold visited z (cell_of z.heap.chunks c.args.object).refs) c.place_of-place.ensures.same
+returns c = c.visit_fields.ensures ∙ ap (λ (z : CollectorValue). fold visited z (cell_of z.heap.chunks c.args.object).refs) c.place_of-place.ensures.same

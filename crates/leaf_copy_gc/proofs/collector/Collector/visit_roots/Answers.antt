@@ -1,7 +1,7 @@
 use Rattle.std.proofs.Common.{Some, Option, get_or, map, sym, ap, ◌∙◌}
 use Rattle.object_layout.specs.declared.word.Addr.{Addr}
 use Rattle.leaf_copy_gc.specs.Survivors.{as_reference}
-use Rattle.leaf_copy_gc.specs.Collection.{Collection}
+use Rattle.leaf_copy_gc.specs.CollectorValue.{CollectorValue}
 use Rattle.leaf_copy_gc.specs.Search.{visited, IsTarget}
 use Rattle.leaf_copy_gc.proofs.FoundLemmas as founds
 use Rattle.leaf_copy_gc.proofs.ListLemmas as lists
@@ -19,9 +19,9 @@ visit-requires c =
 pub loop-root-preserved : goal.loop-root-preserved
 unfolding nowhere
 loop-root-preserved c =
-    let s : Collection = c.loop-root.self in
+    let s : CollectorValue = c.loop-root.self in
     let r : Option Addr = Some (get_or c.args.roots.now c.loop-root.root-index nowhere) in
     record {
-      visited = c.visit.ensures ∙ (ap (λ (t : Collection). visited t r) c.loop-root.invariant.visited ∙ sym (lists.fold_map_read visited as_reference c.args.self.now c.args.roots.now c.loop-root.root-index nowhere c.loop-root-test.true));
-      targets = founds.visited_all_targets s r c.visit.new.self.heap.chunks (ap (λ (t : Collection). t.heap.chunks) c.visit.ensures) (map as_reference c.args.roots.now) c.loop-root.invariant.targets;
+      visited = c.visit.ensures ∙ (ap (λ (t : CollectorValue). visited t r) c.loop-root.invariant.visited ∙ sym (lists.fold_map_read visited as_reference c.args.self.now c.args.roots.now c.loop-root.root-index nowhere c.loop-root-test.true));
+      targets = founds.visited_all_targets s r c.visit.new.self.heap.chunks (ap (λ (t : CollectorValue). t.heap.chunks) c.visit.ensures) (map as_reference c.args.roots.now) c.loop-root.invariant.targets;
     }

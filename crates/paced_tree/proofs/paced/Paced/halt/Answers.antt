@@ -1,7 +1,7 @@
 use Rattle.std.proofs.Common.{sym, subst, ◌∙◌}
 use Rattle.shared_value.specs.Fits.{Fits}
-use Rattle.shared_value.specs.World.{World}
+use Rattle.shared_value.specs.SharedValue.{SharedValue}
 use Rattle.paced_tree.proofs.paced.Paced.halt.Goals as goal
 
 pub returns-clause-fits : goal.returns-clause-fits
-returns-clause-fits c = λ k p F. c.halt.ensures.fits k p (subst (λ (z : World). Fits z k p) (sym (c.get_mut.ensures.value ∙ c.self.view_is)) F)
+returns-clause-fits c = λ k p F. c.halt.ensures.fits k p (subst (λ (z : SharedValue). Fits z k p) (sym (c.get_mut.ensures.value ∙ c.self.view_is)) F)

@@ -1,6 +1,6 @@
 use Rattle.std.proofs.Common.{◌≡◌, Some, None, refl, sym, subst, ◌∙◌}
-use Rattle.run_trace.specs.Entry.{Event}
-use Rattle.shared_value.specs.World.{World}
+use Rattle.run_trace.specs.Entry.{EntryValue}
+use Rattle.shared_value.specs.SharedValue.{SharedValue}
 use Rattle.shared_value.specs.Entered.{refused}
 use Rattle.shared_value.specs.Fits.{OthersFit}
 use Rattle.leaf_collections.specs.LeafEnd.{end_event}
@@ -10,18 +10,18 @@ use Rattle.paced_tree.proofs.paced.Paced.leaf_end.Goals as goal
 
 pub invariant_of-self : goal.invariant_of-self
 invariant_of-self c =
-    let e : Event = end_event c.args.worker c.args.part.now c.args.moved in
-    other_then c.get_mut-shared.result.now c.leaf_end.new.self e c.self.inside.paces c.note_other.new.paces c.stands.ensures (subst (λ (z : World). KeepsPaces z c.self.inside.paces) (sym c.get_mut-shared.ensures.value) c.self.invariant) c.in-Ok.ensures.enters (sym c.in-Ok.ensures.refused)
-    (subst (λ (z : World). Pays z e) (sym (c.get_mut-shared.ensures.value ∙ c.self.view_is)) c.requires.pays) (λ x. refl) c.note_other.ensures
+    let e : EntryValue = end_event c.args.worker c.args.part.now c.args.moved in
+    other_then c.get_mut-shared.result.now c.leaf_end.new.self e c.self.inside.paces c.note_other.new.paces c.stands.ensures (subst (λ (z : SharedValue). KeepsPaces z c.self.inside.paces) (sym c.get_mut-shared.ensures.value) c.self.invariant) c.in-Ok.ensures.enters (sym c.in-Ok.ensures.refused)
+    (subst (λ (z : SharedValue). Pays z e) (sym (c.get_mut-shared.ensures.value ∙ c.self.view_is)) c.requires.pays) (λ x. refl) c.note_other.ensures
 
 pub returns-in-Ok-clause-refused : goal.returns-in-Ok-clause-refused
-returns-in-Ok-clause-refused c = subst (λ (z : World). None ≡ refused z (end_event c.args.worker c.args.part.now c.args.moved)) (c.get_mut-shared.ensures.value ∙ c.self.view_is) c.in-Ok.ensures.refused
+returns-in-Ok-clause-refused c = subst (λ (z : SharedValue). None ≡ refused z (end_event c.args.worker c.args.part.now c.args.moved)) (c.get_mut-shared.ensures.value ∙ c.self.view_is) c.in-Ok.ensures.refused
 
 pub returns-in-Err-clause-refused : goal.returns-in-Err-clause-refused
-returns-in-Err-clause-refused c = subst (λ (z : World). Some c.in-Err.failed.cause ≡ refused z (end_event c.args.worker c.args.part.now c.args.moved)) (c.get_mut-shared.ensures.value ∙ c.self.view_is) c.in-Err.ensures.refused
+returns-in-Err-clause-refused c = subst (λ (z : SharedValue). Some c.in-Err.failed.cause ≡ refused z (end_event c.args.worker c.args.part.now c.args.moved)) (c.get_mut-shared.ensures.value ∙ c.self.view_is) c.in-Err.ensures.refused
 
 pub returns-in-Ok-clause-others : goal.returns-in-Ok-clause-others
-returns-in-Ok-clause-others c = subst (λ (z : World). OthersFit z c.leaf_end.new.self c.args.worker) (c.get_mut-shared.ensures.value ∙ c.self.view_is) c.in-Ok.ensures.others
+returns-in-Ok-clause-others c = subst (λ (z : SharedValue). OthersFit z c.leaf_end.new.self c.args.worker) (c.get_mut-shared.ensures.value ∙ c.self.view_is) c.in-Ok.ensures.others
 
 pub invariant_of-self-in-Err : goal.invariant_of-self-in-Err
-invariant_of-self-in-Err c = subst (λ (z : World). KeepsPaces z c.self.inside.paces) (sym (c.in-Err.ensures.same ∙ c.get_mut-shared.ensures.value)) c.self.invariant
+invariant_of-self-in-Err c = subst (λ (z : SharedValue). KeepsPaces z c.self.inside.paces) (sym (c.in-Err.ensures.same ∙ c.get_mut-shared.ensures.value)) c.self.invariant

@@ -1,9 +1,9 @@
 use Rattle.std.proofs.Common.{◌≡◌, None, true, is_some, slice_get, sym, subst, inr, ◌∙◌}
 use Rattle.hh_model.specs.Step.{is_waiting}
-use Rattle.run_trace.specs.Entry.{Event}
+use Rattle.run_trace.specs.Entry.{EntryValue}
 use Rattle.run_trace.specs.declared.entry.Kind.TheVariants.{Mark}
 use Rattle.run_ledger.specs.Heaps.{heap_of}
-use Rattle.shared_value.specs.World.{World, accounts}
+use Rattle.shared_value.specs.SharedValue.{SharedValue, accounts}
 use Rattle.shared_value.specs.Entered.{refused, IsCaused}
 use Rattle.shared_value.specs.Fits.{AllFit}
 use Rattle.paced_tree.specs.Owed.{KeepsNoted, KeepsPaces, NotesAt, Pays}
@@ -13,45 +13,45 @@ use Rattle.paced_tree.proofs.Noted.{paced_then}
 use Rattle.paced_tree.proofs.paced.Paced.mark.Goals as goal
 
 pub invariant_of-self : goal.invariant_of-self
-invariant_of-self c = marks_kept c.get_mut-shared.result.now c.self.inside.paces c.reserve_mark.new.paces c.args.worker c.reserve_mark.ensures.same (subst (λ (z : World). KeepsPaces z c.self.inside.paces) (sym c.get_mut-shared.ensures.value) c.self.invariant)
+invariant_of-self c = marks_kept c.get_mut-shared.result.now c.self.inside.paces c.reserve_mark.new.paces c.args.worker c.reserve_mark.ensures.same (subst (λ (z : SharedValue). KeepsPaces z c.self.inside.paces) (sym c.get_mut-shared.ensures.value) c.self.invariant)
 
 pub returns-then-is_err-clause-refused : goal.returns-then-is_err-clause-refused
-returns-then-is_err-clause-refused c = subst (λ (z : World). IsCaused c.no_place.result (refused z (record { worker = c.args.worker; kind = Mark c.args.t }))) (c.shared.ensures ∙ (c.get_mut-shared.ensures.value ∙ c.self.view_is)) c.no_place.ensures
+returns-then-is_err-clause-refused c = subst (λ (z : SharedValue). IsCaused c.no_place.result (refused z (record { worker = c.args.worker; kind = Mark c.args.t }))) (c.shared.ensures ∙ (c.get_mut-shared.ensures.value ∙ c.self.view_is)) c.no_place.ensures
 
 pub note_mark-requires-clause-goes : goal.note_mark-requires-clause-goes
 note_mark-requires-clause-goes c =
-    subst (λ (z : World). (accounts z).end ≡ None) (sym c.shared-in-Ok.ensures)
+    subst (λ (z : SharedValue). (accounts z).end ≡ None) (sym c.shared-in-Ok.ensures)
     (mark_goes c.get_mut-shared.result.now c.mark.new.self c.args.worker c.args.t c.stands.ensures c.in-Ok.ensures.enters c.in-Ok.ensures.refused)
 
 pub note_mark-requires-clause-waits : goal.note_mark-requires-clause-waits
 note_mark-requires-clause-waits c =
-    subst (λ (z : World). is_waiting (slice_get (accounts z).machine.tasks c.args.t) ≡ true) (sym c.shared-in-Ok.ensures)
+    subst (λ (z : SharedValue). is_waiting (slice_get (accounts z).machine.tasks c.args.t) ≡ true) (sym c.shared-in-Ok.ensures)
     (mark_waits c.get_mut-shared.result.now c.mark.new.self c.args.worker c.args.t c.stands.ensures c.in-Ok.ensures.enters c.in-Ok.ensures.refused)
 
 pub note_mark-requires-clause-marked : goal.note_mark-requires-clause-marked
 note_mark-requires-clause-marked c =
-    subst (λ (z : World). is_some (heap_of (accounts z) c.args.t).marked ≡ true) (sym c.shared-in-Ok.ensures)
+    subst (λ (z : SharedValue). is_some (heap_of (accounts z) c.args.t).marked ≡ true) (sym c.shared-in-Ok.ensures)
     (mark_marked c.get_mut-shared.result.now c.mark.new.self c.args.worker c.args.t c.stands.ensures c.in-Ok.ensures.enters c.in-Ok.ensures.refused)
 
 pub invariant_of-self-in-Ok : goal.invariant_of-self-in-Ok
 invariant_of-self-in-Ok c =
-    let w : World = c.get_mut-shared.result.now in
-    let e : Event = record { worker = c.args.worker; kind = Mark c.args.t } in
-    let K : KeepsPaces w c.reserve_mark.new.paces = marks_kept w c.self.inside.paces c.reserve_mark.new.paces c.args.worker c.reserve_mark.ensures.same (subst (λ (z : World). KeepsPaces z c.self.inside.paces) (sym c.get_mut-shared.ensures.value) c.self.invariant) in
+    let w : SharedValue = c.get_mut-shared.result.now in
+    let e : EntryValue = record { worker = c.args.worker; kind = Mark c.args.t } in
+    let K : KeepsPaces w c.reserve_mark.new.paces = marks_kept w c.self.inside.paces c.reserve_mark.new.paces c.args.worker c.reserve_mark.ensures.same (subst (λ (z : SharedValue). KeepsPaces z c.self.inside.paces) (sym c.get_mut-shared.ensures.value) c.self.invariant) in
     paced_then w c.mark.new.self e c.reserve_mark.new.paces c.note_mark.new.paces c.stands.ensures K c.in-Ok.ensures.enters c.in-Ok.ensures.refused
-    (inr (subst (λ (z : World). Pays z e) (sym (c.get_mut-shared.ensures.value ∙ c.self.view_is)) c.requires.pays)) c.note_mark.ensures.many
-    (λ on. subst (λ (z : World). NotesAt c.reserve_mark.new.paces c.note_mark.new.paces c.args.worker (KeepsNoted (accounts z) (Mark c.args.t))) c.shared-in-Ok.ensures c.note_mark.ensures)
+    (inr (subst (λ (z : SharedValue). Pays z e) (sym (c.get_mut-shared.ensures.value ∙ c.self.view_is)) c.requires.pays)) c.note_mark.ensures.many
+    (λ on. subst (λ (z : SharedValue). NotesAt c.reserve_mark.new.paces c.note_mark.new.paces c.args.worker (KeepsNoted (accounts z) (Mark c.args.t))) c.shared-in-Ok.ensures c.note_mark.ensures)
 
 pub invariant_of-self-in-Err : goal.invariant_of-self-in-Err
 invariant_of-self-in-Err c =
-    let K : KeepsPaces c.get_mut-shared.result.now c.reserve_mark.new.paces = marks_kept c.get_mut-shared.result.now c.self.inside.paces c.reserve_mark.new.paces c.args.worker c.reserve_mark.ensures.same (subst (λ (z : World). KeepsPaces z c.self.inside.paces) (sym c.get_mut-shared.ensures.value) c.self.invariant) in
-    subst (λ (z : World). KeepsPaces z c.reserve_mark.new.paces) (sym c.in-Err.ensures.same) K
+    let K : KeepsPaces c.get_mut-shared.result.now c.reserve_mark.new.paces = marks_kept c.get_mut-shared.result.now c.self.inside.paces c.reserve_mark.new.paces c.args.worker c.reserve_mark.ensures.same (subst (λ (z : SharedValue). KeepsPaces z c.self.inside.paces) (sym c.get_mut-shared.ensures.value) c.self.invariant) in
+    subst (λ (z : SharedValue). KeepsPaces z c.reserve_mark.new.paces) (sym c.in-Err.ensures.same) K
 
 pub returns-in-Ok-clause-refused : goal.returns-in-Ok-clause-refused
-returns-in-Ok-clause-refused c = subst (λ (z : World). refused z (record { worker = c.args.worker; kind = Mark c.args.t }) ≡ None) (c.get_mut-shared.ensures.value ∙ c.self.view_is) c.in-Ok.ensures.refused
+returns-in-Ok-clause-refused c = subst (λ (z : SharedValue). refused z (record { worker = c.args.worker; kind = Mark c.args.t }) ≡ None) (c.get_mut-shared.ensures.value ∙ c.self.view_is) c.in-Ok.ensures.refused
 
 pub returns-in-Ok-clause-fits : goal.returns-in-Ok-clause-fits
-returns-in-Ok-clause-fits c = subst (λ (z : World). AllFit z c.mark.new.self) (c.get_mut-shared.ensures.value ∙ c.self.view_is) c.in-Ok.ensures.fits
+returns-in-Ok-clause-fits c = subst (λ (z : SharedValue). AllFit z c.mark.new.self) (c.get_mut-shared.ensures.value ∙ c.self.view_is) c.in-Ok.ensures.fits
 
 pub returns-in-Err-clause-refused : goal.returns-in-Err-clause-refused
-returns-in-Err-clause-refused c = subst (λ (z : World). IsCaused c.in-Err.cause (refused z (record { worker = c.args.worker; kind = Mark c.args.t }))) (c.get_mut-shared.ensures.value ∙ c.self.view_is) c.in-Err.ensures.refused
+returns-in-Err-clause-refused c = subst (λ (z : SharedValue). IsCaused c.in-Err.cause (refused z (record { worker = c.args.worker; kind = Mark c.args.t }))) (c.get_mut-shared.ensures.value ∙ c.self.view_is) c.in-Err.ensures.refused

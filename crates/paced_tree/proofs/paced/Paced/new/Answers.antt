@@ -1,11 +1,11 @@
 use Rattle.std.proofs.Common.{ap, sym, subst, ◌∙◌}
-use Rattle.run_trace.specs.Settings.{Limits}
-use Rattle.shared_value.specs.World.{World}
+use Rattle.run_trace.specs.Settings.{SettingsValue}
+use Rattle.shared_value.specs.SharedValue.{SharedValue}
 use Rattle.paced_tree.specs.Owed.{AreIdle, KeepsPaces}
 use Rattle.paced_tree.proofs.Idle.{opening_kept}
 use Rattle.paced_tree.proofs.paced.Paced.new.Goals as goal
 
 pub invariant_of-result : goal.invariant_of-result
 invariant_of-result c =
-    subst (λ (z : World). KeepsPaces z c.in_ok-paces.paces) (sym c.in_ok-apart.ensures) (opening_kept c.in_ok-shared.shared c.in_ok-paces.paces c.in_ok-shared.ensures.journal
-    (subst (AreIdle c.in_ok-paces.paces) (c.workers.ensures.value ∙ ap (λ (s : Limits). s.workers) (sym c.in_ok-shared.ensures.settings)) c.in_ok-paces.ensures))
+    subst (λ (z : SharedValue). KeepsPaces z c.in_ok-paces.paces) (sym c.in_ok-apart.ensures) (opening_kept c.in_ok-shared.shared c.in_ok-paces.paces c.in_ok-shared.ensures.journal
+    (subst (AreIdle c.in_ok-paces.paces) (c.workers.ensures.value ∙ ap (λ (s : SettingsValue). s.workers) (sym c.in_ok-shared.ensures.settings)) c.in_ok-paces.ensures))

@@ -1,7 +1,7 @@
 use Rattle.std.proofs.Common.{◌≡◌, Some, None, refl, sym, subst, ◌∙◌}
-use Rattle.run_trace.specs.Entry.{Event}
+use Rattle.run_trace.specs.Entry.{EntryValue}
 use Rattle.run_trace.specs.declared.entry.Kind.TheVariants.{More}
-use Rattle.shared_value.specs.World.{World}
+use Rattle.shared_value.specs.SharedValue.{SharedValue}
 use Rattle.shared_value.specs.Entered.{refused}
 use Rattle.shared_value.specs.Fits.{AllFit}
 use Rattle.paced_tree.specs.Owed.{KeepsPaces, Pays}
@@ -10,18 +10,18 @@ use Rattle.paced_tree.proofs.paced.Paced.some.Goals as goal
 
 pub invariant_of-self : goal.invariant_of-self
 invariant_of-self c =
-    let e : Event = record { worker = c.args.worker; kind = More c.args.t c.args.n } in
-    other_then c.get_mut-shared.result.now c.some.new.self e c.self.inside.paces c.note_other.new.paces c.stands.ensures (subst (λ (z : World). KeepsPaces z c.self.inside.paces) (sym c.get_mut-shared.ensures.value) c.self.invariant) c.in-Ok.ensures.enters (sym c.in-Ok.ensures.refused)
-    (subst (λ (z : World). Pays z e) (sym (c.get_mut-shared.ensures.value ∙ c.self.view_is)) c.requires.pays) (λ x. refl) c.note_other.ensures
+    let e : EntryValue = record { worker = c.args.worker; kind = More c.args.t c.args.n } in
+    other_then c.get_mut-shared.result.now c.some.new.self e c.self.inside.paces c.note_other.new.paces c.stands.ensures (subst (λ (z : SharedValue). KeepsPaces z c.self.inside.paces) (sym c.get_mut-shared.ensures.value) c.self.invariant) c.in-Ok.ensures.enters (sym c.in-Ok.ensures.refused)
+    (subst (λ (z : SharedValue). Pays z e) (sym (c.get_mut-shared.ensures.value ∙ c.self.view_is)) c.requires.pays) (λ x. refl) c.note_other.ensures
 
 pub returns-in-Ok-clause-refused : goal.returns-in-Ok-clause-refused
-returns-in-Ok-clause-refused c = subst (λ (z : World). None ≡ refused z (record { worker = c.args.worker; kind = More c.args.t c.args.n })) (c.get_mut-shared.ensures.value ∙ c.self.view_is) c.in-Ok.ensures.refused
+returns-in-Ok-clause-refused c = subst (λ (z : SharedValue). None ≡ refused z (record { worker = c.args.worker; kind = More c.args.t c.args.n })) (c.get_mut-shared.ensures.value ∙ c.self.view_is) c.in-Ok.ensures.refused
 
 pub returns-in-Err-clause-refused : goal.returns-in-Err-clause-refused
-returns-in-Err-clause-refused c = subst (λ (z : World). Some c.in-Err.cause ≡ refused z (record { worker = c.args.worker; kind = More c.args.t c.args.n })) (c.get_mut-shared.ensures.value ∙ c.self.view_is) c.in-Err.ensures.refused
+returns-in-Err-clause-refused c = subst (λ (z : SharedValue). Some c.in-Err.cause ≡ refused z (record { worker = c.args.worker; kind = More c.args.t c.args.n })) (c.get_mut-shared.ensures.value ∙ c.self.view_is) c.in-Err.ensures.refused
 
 pub returns-in-Ok-clause-fits : goal.returns-in-Ok-clause-fits
-returns-in-Ok-clause-fits c = subst (λ (z : World). AllFit z c.some.new.self) (c.get_mut-shared.ensures.value ∙ c.self.view_is) c.in-Ok.ensures.fits
+returns-in-Ok-clause-fits c = subst (λ (z : SharedValue). AllFit z c.some.new.self) (c.get_mut-shared.ensures.value ∙ c.self.view_is) c.in-Ok.ensures.fits
 
 pub invariant_of-self-in-Err : goal.invariant_of-self-in-Err
-invariant_of-self-in-Err c = subst (λ (z : World). KeepsPaces z c.self.inside.paces) (sym (c.in-Err.ensures.same ∙ c.get_mut-shared.ensures.value)) c.self.invariant
+invariant_of-self-in-Err c = subst (λ (z : SharedValue). KeepsPaces z c.self.inside.paces) (sym (c.in-Err.ensures.same ∙ c.get_mut-shared.ensures.value)) c.self.invariant

@@ -1,6 +1,6 @@
 use Rattle.std.proofs.Common.{◌∙◌, ap}
-use Rattle.run_journal.specs.Opened.{Opened}
+use Rattle.run_journal.specs.BookValue.{BookValue}
 use Rattle.run_journal.proofs.book.Book.in_use.Goals as goal
 
 pub in_use-requires : goal.in_use-requires
-in_use-requires c = c.self.invariant.agrees (ap (λ (o : Opened). o.stopped) c.self.view_is ∙ c.requires)
+in_use-requires c = c.self.invariant.agrees (ap (λ (o : BookValue). o.stopped) c.self.view_is ∙ c.requires)

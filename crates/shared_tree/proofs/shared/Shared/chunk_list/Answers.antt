@@ -1,5 +1,5 @@
 use Rattle.std.proofs.Common.{ℕ, ◌+◌, ◌<◌, List, refl, subst, sym, ◌∙◌}
-use Rattle.shared_value.specs.World.{World}
+use Rattle.shared_value.specs.SharedValue.{SharedValue}
 use Rattle.heap_reading.specs.declared.live.InUse.{InUse}
 use Rattle.heap_reading.specs.Image.{AreAll, ChunkBefore, IsInUse}
 use Rattle.heap_reading.proofs.LiveRead.{chunk_once, one_below, skip_below}
@@ -11,7 +11,7 @@ number_of c = c.number
 
 pub loop-number-preserved : goal.loop-number-preserved
 loop-number-preserved c =
-    let w : World = c.args.self.now in
+    let w : SharedValue = c.args.self.now in
     let k = c.loop-number.number in
     let Next : List InUse → Type 0 = AreAll ChunkBefore (λ x. IsInUse w x × (x.number < k + 1)) in
     elim c.match-chunk_in_use.branch [

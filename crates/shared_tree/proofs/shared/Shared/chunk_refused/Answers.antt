@@ -1,7 +1,7 @@
 use Rattle.std.proofs.Common.{◌≡◌, false, is_some, ap, sym, subst, ◌∙◌}
 use Rattle.run_trace.specs.declared.entry.Kind.TheVariants.{Chunk}
 use Rattle.task_machine.specs.declared.part.Private.{Private}
-use Rattle.shared_value.specs.World.{World}
+use Rattle.shared_value.specs.SharedValue.{SharedValue}
 use Rattle.shared_value.specs.Causes.{chunk_cause, first_cause}
 use Rattle.shared_value.specs.Entered.{refused}
 use Rattle.shared_value.specs.Fits.{Fits}
@@ -12,19 +12,19 @@ use Rattle.shared_tree.proofs.shared.Shared.chunk_refused.Goals as goal
 
 pub returns-then-is_some : goal.returns-then-is_some
 returns-then-is_some c =
-    let w : World = the_view c.self.inside in
+    let w : SharedValue = the_view c.self.inside in
     let p : Private = c.args.part.now in
     c.first_cause-first.ensures
-    ∙ subst (λ (z : World). first_cause w.end w.steps w.settings c.args.worker false ≡ refused z (record { worker = c.args.worker; kind = Chunk p.task })) c.self.view_is
+    ∙ subst (λ (z : SharedValue). first_cause w.end w.steps w.settings c.args.worker false ≡ refused z (record { worker = c.args.worker; kind = Chunk p.task })) c.self.view_is
     (sym (first_answer w c.self.invariant (record { worker = c.args.worker; kind = Chunk p.task }) (ap is_some (sym c.first_cause-first.ensures) ∙ (sym c.is_some.ensures ∙ c.if-is_some.true))))
 
 pub returns : goal.returns
 returns c =
-    let w : World = the_view c.self.inside in
+    let w : SharedValue = the_view c.self.inside in
     let p : Private = c.args.part.now in
     let h : is_some (first_cause w.end w.steps w.settings c.args.worker false) ≡ false = ap is_some (sym c.first_cause-first.ensures) ∙ (sym c.is_some.ensures ∙ c.if-is_some.false) in
-    let F : Fits w c.args.worker p = subst (λ (z : World). Fits z c.args.worker p) (sym c.self.view_is) c.requires.fits in
+    let F : Fits w c.args.worker p = subst (λ (z : SharedValue). Fits z c.args.worker p) (sym c.self.view_is) c.requires.fits in
     let F0 : Fits w c.args.worker (record p { fresh = 0 }) = subst (λ n. Fits w c.args.worker (record p { fresh = n })) c.requires.fresh F in
     c.cause_by.ensures
     ∙ (ap (chunk_cause p) c.words_asked.ensures.asked
-    ∙ subst (λ (z : World). chunk_cause p (part_asks w.program p) ≡ refused z (record { worker = c.args.worker; kind = Chunk p.task })) c.self.view_is (sym (chunk_answer w c.args.worker p c.self.invariant F0 h)))
+    ∙ subst (λ (z : SharedValue). chunk_cause p (part_asks w.program p) ≡ refused z (record { worker = c.args.worker; kind = Chunk p.task })) c.self.view_is (sym (chunk_answer w c.args.worker p c.self.invariant F0 h)))

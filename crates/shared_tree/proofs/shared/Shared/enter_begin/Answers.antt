@@ -1,14 +1,14 @@
 use Rattle.std.proofs.Common.{refl, ◌≡◌, ℕ, ◌-◌, ◌++◌, ◌∷◌, [], List, None, Some, map, arith, ap, sym, subst, ◌∙◌, ◌<◌}
-use Rattle.listed.specs.Space.{Space}
-use Rattle.run_trace.specs.Entry.{Event}
+use Rattle.listed.specs.RoomyValue.{RoomyValue}
+use Rattle.run_trace.specs.Entry.{EntryValue}
 use Rattle.run_trace.specs.declared.entry.Kind.TheVariants.{Begin}
 use Rattle.object_layout.specs.Chunks.{small_words}
-use Rattle.object_layout.specs.Content.{Content}
-use Rattle.chunk_pool.specs.Chunks.{Chunks}
-use Rattle.alloc_path.specs.Heap.{counted, with_places}
+use Rattle.object_layout.specs.ChunkValue.{ChunkValue}
+use Rattle.chunk_pool.specs.PoolValue.{PoolValue}
+use Rattle.alloc_path.specs.LeafHeapValue.{counted, with_places}
 use Rattle.task_machine.specs.declared.part.Private.{Private}
-use Rattle.shared_value.specs.World.{World}
-use Rattle.shared_value.specs.Stands.{IsWorld}
+use Rattle.shared_value.specs.SharedValue.{SharedValue}
+use Rattle.shared_value.specs.Stands.{IsSharedValue}
 use Rattle.shared_value.specs.Fits.{Fits, OthersFit}
 use Rattle.shared_value.specs.Due.{take_by}
 use Rattle.shared_value.specs.Entered.{refused}
@@ -36,16 +36,16 @@ pub roots-requires-clause-fresh : goal.roots-requires-clause-fresh
 roots-requires-clause-fresh c = c.requires.fresh
 
 pub returns-in_err-roots-clause-fits : goal.returns-in_err-roots-clause-fits
-returns-in_err-roots-clause-fits c = subst (λ (z : World). Fits z c.args.worker c.args.part.now) (sym c.roots.ensures.same) c.requires.fits
+returns-in_err-roots-clause-fits c = subst (λ (z : SharedValue). Fits z c.args.worker c.args.part.now) (sym c.roots.ensures.same) c.requires.fits
 
 pub begin_with-requires : goal.begin_with-requires
 begin_with-requires c =
-    let w : World = the_view c.self.inside in
+    let w : SharedValue = the_view c.self.inside in
     let p : Private = c.args.part.now in
     let k : ℕ = c.args.worker in
     let same : w ≡ c.args.self.now = c.self.view_is ∙ c.roots.ensures.same in
-    let F : Fits w k p = subst (λ (z : World). Fits z k p) (sym same) c.requires.fits in
-    let free : refused w (record { worker = k; kind = Begin p.task }) ≡ None = subst (λ (z : World). refused z (record { worker = k; kind = Begin p.task }) ≡ None) (sym same) c.requires.free in
+    let F : Fits w k p = subst (λ (z : SharedValue). Fits z k p) (sym same) c.requires.fits in
+    let free : refused w (record { worker = k; kind = Begin p.task }) ≡ None = subst (λ (z : SharedValue). refused z (record { worker = k; kind = Begin p.task }) ≡ None) (sym same) c.requires.free in
     let n : ℕ = c.chunks_for-count.result in
     let count = counts n c.small_words.result p c.chunks_for-count.ensures.take c.small_words.ensures in
     record {
@@ -55,101 +55,101 @@ begin_with-requires c =
     }
 
 pub invariant_of-self : goal.invariant_of-self
-invariant_of-self c = subst (λ (z : Chunks). IsWorld (record (the_view c.self.inside) { pool = z })) (sym c.in_err-to.ensures.same) c.self.invariant
+invariant_of-self c = subst (λ (z : PoolValue). IsSharedValue (record (the_view c.self.inside) { pool = z })) (sym c.in_err-to.ensures.same) c.self.invariant
 
 pub returns-in_err-to-clause-fits : goal.returns-in_err-to-clause-fits
 returns-in_err-to-clause-fits c =
-    let w : World = the_view c.self.inside in
+    let w : SharedValue = the_view c.self.inside in
     let p : Private = c.args.part.now in
     let k : ℕ = c.args.worker in
     let q : Private = c.begin_with.new.part in
-    let F : Fits w k p = subst (λ (z : World). Fits z k p) (sym (c.self.view_is ∙ c.roots.ensures.same)) c.requires.fits in
-    subst (λ (z : Chunks). Fits (record w { pool = z }) k q) (sym c.in_err-to.ensures.same)
+    let F : Fits w k p = subst (λ (z : SharedValue). Fits z k p) (sym (c.self.view_is ∙ c.roots.ensures.same)) c.requires.fits in
+    subst (λ (z : PoolValue). Fits (record w { pool = z }) k q) (sym c.in_err-to.ensures.same)
     (subst (λ (x : Private). Fits w k x) (sym c.in_err-to.ensures.back) (places_fit w k p q.heap.slots q.heap.spare F))
 
 pub push_reserved-requires : goal.push_reserved-requires
-push_reserved-requires c = subst (λ (z : World). 0 < z.journal.room) (sym (c.self.view_is ∙ c.roots.ensures.same)) c.requires.room
+push_reserved-requires c = subst (λ (z : SharedValue). 0 < z.journal.room) (sym (c.self.view_is ∙ c.roots.ensures.same)) c.requires.room
 
 -- the journal with the entry, as the call names the task
-entry_so : (j : Space Event) (k t u : ℕ) → t ≡ u → (x : Event) (j' : Space Event) → x ≡ record { worker = k; kind = Begin t } → j' ≡ record { items = j.items ++ x ∷ []; room = j.room - 1 }
+entry_so : (j : RoomyValue EntryValue) (k t u : ℕ) → t ≡ u → (x : EntryValue) (j' : RoomyValue EntryValue) → x ≡ record { worker = k; kind = Begin t } → j' ≡ record { items = j.items ++ x ∷ []; room = j.room - 1 }
     → j' ≡ record { items = j.items ++ record { worker = k; kind = Begin u } ∷ []; room = j.room - 1 }
 entry_so j k t u same x j' is made = journal_by j j' x (record { worker = k; kind = Begin u }) (is ∙ ap (λ n. record { worker = k; kind = Begin n }) same) made
 
 pub invariant_of-self-2 : goal.invariant_of-self-2
 invariant_of-self-2 c =
-    let w : World = the_view c.self.inside in
+    let w : SharedValue = the_view c.self.inside in
     let p : Private = c.args.part.now in
     let k : ℕ = c.args.worker in
-    let e : Event = record { worker = k; kind = Begin p.task } in
+    let e : EntryValue = record { worker = k; kind = Begin p.task } in
     let same : w ≡ c.args.self.now = c.self.view_is ∙ c.roots.ensures.same in
-    let F : Fits w k p = subst (λ (z : World). Fits z k p) (sym same) c.requires.fits in
-    let free : refused w e ≡ None = subst (λ (z : World). refused z e ≡ None) (sym same) c.requires.free in
+    let F : Fits w k p = subst (λ (z : SharedValue). Fits z k p) (sym same) c.requires.fits in
+    let free : refused w e ≡ None = subst (λ (z : SharedValue). refused z e ≡ None) (sym same) c.requires.free in
     let n : ℕ = c.chunks_for-count.result in
     let few = counts n c.small_words.result p c.chunks_for-count.ensures.take c.small_words.ensures in
     let count : n ≡ take_by (small_words p.heap.chunks) = begin_count w k p c.self.invariant F c.requires.fresh free n few in
-    let roots : c.deref.result.now ≡ roots_of w p = c.deref.ensures.value ∙ (c.in_ok-roots.ensures.roots ∙ ap (λ (z : World). roots_of z p) (sym same)) in
-    let pool : Chunks = c.begin_with.new.pool in
-    let news : List Content = c.in_ok-to.to.chunks.items in
+    let roots : c.deref.result.now ≡ roots_of w p = c.deref.ensures.value ∙ (c.in_ok-roots.ensures.roots ∙ ap (λ (z : SharedValue). roots_of z p) (sym same)) in
+    let pool : PoolValue = c.begin_with.new.pool in
+    let news : List ChunkValue = c.in_ok-to.to.chunks.items in
     let journal : c.push_reserved.new.self ≡ record { items = w.journal.items ++ e ∷ []; room = w.journal.room - 1 } = entry_so w.journal k c.args.task p.task c.requires.task c.new.result c.push_reserved.new.self c.new.ensures c.push_reserved.ensures in
-    subst (λ (j : Space Event). IsWorld (record w { pool = pool; journal = j })) (sym journal)
+    subst (λ (j : RoomyValue EntryValue). IsSharedValue (record w { pool = pool; journal = j })) (sym journal)
     (begins_world w k p c.self.invariant F c.requires.fresh free pool news [] p.task n refl count refl c.in_ok-to.ensures.taken c.deref.result.now roots (map number_of news) refl (record { items = []; room = w.journal.room - 1 }))
 
 pub returns-clause-others : goal.returns-clause-others
 returns-clause-others c =
-    let w : World = the_view c.self.inside in
+    let w : SharedValue = the_view c.self.inside in
     let p : Private = c.args.part.now in
     let k : ℕ = c.args.worker in
-    let e : Event = record { worker = k; kind = Begin p.task } in
+    let e : EntryValue = record { worker = k; kind = Begin p.task } in
     let same : w ≡ c.args.self.now = c.self.view_is ∙ c.roots.ensures.same in
-    let F : Fits w k p = subst (λ (z : World). Fits z k p) (sym same) c.requires.fits in
-    let free : refused w e ≡ None = subst (λ (z : World). refused z e ≡ None) (sym same) c.requires.free in
+    let F : Fits w k p = subst (λ (z : SharedValue). Fits z k p) (sym same) c.requires.fits in
+    let free : refused w e ≡ None = subst (λ (z : SharedValue). refused z e ≡ None) (sym same) c.requires.free in
     let n : ℕ = c.chunks_for-count.result in
     let few = counts n c.small_words.result p c.chunks_for-count.ensures.take c.small_words.ensures in
     let count : n ≡ take_by (small_words p.heap.chunks) = begin_count w k p c.self.invariant F c.requires.fresh free n few in
-    let roots : c.deref.result.now ≡ roots_of w p = c.deref.ensures.value ∙ (c.in_ok-roots.ensures.roots ∙ ap (λ (z : World). roots_of z p) (sym same)) in
-    let pool : Chunks = c.begin_with.new.pool in
-    let news : List Content = c.in_ok-to.to.chunks.items in
+    let roots : c.deref.result.now ≡ roots_of w p = c.deref.ensures.value ∙ (c.in_ok-roots.ensures.roots ∙ ap (λ (z : SharedValue). roots_of z p) (sym same)) in
+    let pool : PoolValue = c.begin_with.new.pool in
+    let news : List ChunkValue = c.in_ok-to.to.chunks.items in
     let journal : c.push_reserved.new.self ≡ record { items = w.journal.items ++ e ∷ []; room = w.journal.room - 1 } = entry_so w.journal k c.args.task p.task c.requires.task c.new.result c.push_reserved.new.self c.new.ensures c.push_reserved.ensures in
-    subst (λ (z : World). OthersFit z (record w { pool = pool; journal = c.push_reserved.new.self }) k) same
-    (subst (λ (j : Space Event). OthersFit w (record w { pool = pool; journal = j }) k) (sym journal)
+    subst (λ (z : SharedValue). OthersFit z (record w { pool = pool; journal = c.push_reserved.new.self }) k) same
+    (subst (λ (j : RoomyValue EntryValue). OthersFit w (record w { pool = pool; journal = j }) k) (sym journal)
     (begins_apart w k p c.self.invariant F c.requires.fresh free pool news [] p.task n refl count refl c.in_ok-to.ensures.taken c.deref.result.now roots (map number_of news) refl (record { items = []; room = w.journal.room - 1 })))
 
 pub returns-clause-fits : goal.returns-clause-fits
 returns-clause-fits c =
-    let w : World = the_view c.self.inside in
+    let w : SharedValue = the_view c.self.inside in
     let p : Private = c.args.part.now in
     let k : ℕ = c.args.worker in
-    let e : Event = record { worker = k; kind = Begin p.task } in
+    let e : EntryValue = record { worker = k; kind = Begin p.task } in
     let same : w ≡ c.args.self.now = c.self.view_is ∙ c.roots.ensures.same in
-    let F : Fits w k p = subst (λ (z : World). Fits z k p) (sym same) c.requires.fits in
-    let free : refused w e ≡ None = subst (λ (z : World). refused z e ≡ None) (sym same) c.requires.free in
+    let F : Fits w k p = subst (λ (z : SharedValue). Fits z k p) (sym same) c.requires.fits in
+    let free : refused w e ≡ None = subst (λ (z : SharedValue). refused z e ≡ None) (sym same) c.requires.free in
     let n : ℕ = c.chunks_for-count.result in
     let few = counts n c.small_words.result p c.chunks_for-count.ensures.take c.small_words.ensures in
     let count : n ≡ take_by (small_words p.heap.chunks) = begin_count w k p c.self.invariant F c.requires.fresh free n few in
-    let roots : c.deref.result.now ≡ roots_of w p = c.deref.ensures.value ∙ (c.in_ok-roots.ensures.roots ∙ ap (λ (z : World). roots_of z p) (sym same)) in
-    let pool : Chunks = c.begin_with.new.pool in
-    let news : List Content = c.in_ok-to.to.chunks.items in
+    let roots : c.deref.result.now ≡ roots_of w p = c.deref.ensures.value ∙ (c.in_ok-roots.ensures.roots ∙ ap (λ (z : SharedValue). roots_of z p) (sym same)) in
+    let pool : PoolValue = c.begin_with.new.pool in
+    let news : List ChunkValue = c.in_ok-to.to.chunks.items in
     let journal : c.push_reserved.new.self ≡ record { items = w.journal.items ++ e ∷ []; room = w.journal.room - 1 } = entry_so w.journal k c.args.task p.task c.requires.task c.new.result c.push_reserved.new.self c.new.ensures c.push_reserved.ensures in
     let q : Private = c.begin_with.new.part in
     subst (λ (x : Private). Fits (record w { pool = pool; journal = c.push_reserved.new.self }) k x) (sym c.in_ok-to.ensures.begun)
-    (subst (λ (j : Space Event). Fits (record w { pool = pool; journal = j }) k (record p { heap = with_places p.heap q.heap.slots q.heap.spare; begun = Some (record { roots = c.deref.result.now; news = map number_of news }) })) (sym journal)
+    (subst (λ (j : RoomyValue EntryValue). Fits (record w { pool = pool; journal = j }) k (record p { heap = with_places p.heap q.heap.slots q.heap.spare; begun = Some (record { roots = c.deref.result.now; news = map number_of news }) })) (sym journal)
     (begins_fit w k p c.self.invariant F c.requires.fresh free pool news [] p.task n refl count refl c.in_ok-to.ensures.taken c.deref.result.now roots (map number_of news) refl (record { items = []; room = w.journal.room - 1 }) q.heap.slots q.heap.spare))
 
 pub returns-clause-begun : goal.returns-clause-begun
 returns-clause-begun c =
-    let w : World = the_view c.self.inside in
+    let w : SharedValue = the_view c.self.inside in
     let p : Private = c.args.part.now in
     let k : ℕ = c.args.worker in
-    let e : Event = record { worker = k; kind = Begin p.task } in
+    let e : EntryValue = record { worker = k; kind = Begin p.task } in
     let same : w ≡ c.args.self.now = c.self.view_is ∙ c.roots.ensures.same in
-    let F : Fits w k p = subst (λ (z : World). Fits z k p) (sym same) c.requires.fits in
-    let free : refused w e ≡ None = subst (λ (z : World). refused z e ≡ None) (sym same) c.requires.free in
+    let F : Fits w k p = subst (λ (z : SharedValue). Fits z k p) (sym same) c.requires.fits in
+    let free : refused w e ≡ None = subst (λ (z : SharedValue). refused z e ≡ None) (sym same) c.requires.free in
     let n : ℕ = c.chunks_for-count.result in
     let few = counts n c.small_words.result p c.chunks_for-count.ensures.take c.small_words.ensures in
     let count : n ≡ take_by (small_words p.heap.chunks) = begin_count w k p c.self.invariant F c.requires.fresh free n few in
-    let roots : c.deref.result.now ≡ roots_of w p = c.deref.ensures.value ∙ (c.in_ok-roots.ensures.roots ∙ ap (λ (z : World). roots_of z p) (sym same)) in
-    let pool : Chunks = c.begin_with.new.pool in
-    let news : List Content = c.in_ok-to.to.chunks.items in
+    let roots : c.deref.result.now ≡ roots_of w p = c.deref.ensures.value ∙ (c.in_ok-roots.ensures.roots ∙ ap (λ (z : SharedValue). roots_of z p) (sym same)) in
+    let pool : PoolValue = c.begin_with.new.pool in
+    let news : List ChunkValue = c.in_ok-to.to.chunks.items in
     let journal : c.push_reserved.new.self ≡ record { items = w.journal.items ++ e ∷ []; room = w.journal.room - 1 } = entry_so w.journal k c.args.task p.task c.requires.task c.new.result c.push_reserved.new.self c.new.ensures c.push_reserved.ensures in
     let q : Private = c.begin_with.new.part in
     subst (λ rs. HasBegun p q rs c.in_ok-to.to) c.deref.ensures.value

@@ -4,8 +4,8 @@ use Rattle.heap_tree.specs.Node.{state_of, with_state}
 use Rattle.heap_tree.specs.Pairs.{sibling}
 use Rattle.task_machine.specs.declared.part.Private.{Private}
 use Rattle.shared_value.specs.declared.task_at_rest.Rest.{Rest}
-use Rattle.shared_value.specs.Stands.{IsWorld}
-use Rattle.shared_value.specs.World.{World}
+use Rattle.shared_value.specs.Stands.{IsSharedValue}
+use Rattle.shared_value.specs.SharedValue.{SharedValue}
 use Rattle.shared_value.specs.Fits.{Fits}
 use Rattle.shared_value.specs.Entered.{refused}
 use Rattle.shared_value.proofs.JournalGoesOn.{four_changed}
@@ -20,73 +20,73 @@ use Rattle.shared_tree.proofs.shared.Shared.enter_end.Goals as goal
 
 pub enter_alone-requires-clause-small : goal.enter_alone-requires-clause-small
 enter_alone-requires-clause-small c =
-    let w : World = the_view c.self.inside in
+    let w : SharedValue = the_view c.self.inside in
     let p : Private = c.args.part in
     let k : ℕ = c.args.worker in
-    let F : Fits w k p = subst (λ (z : World). Fits z k p) (sym c.self.view_is) c.requires.fits in
-    let at : IsAtEnd w p = subst (λ (z : World). IsAtEnd z p) (sym c.self.view_is) c.requires.ends in
-    let free : refused w (alone_event k p) ≡ None = subst (λ (z : World). refused z (alone_event k p) ≡ None) (sym c.self.view_is) c.requires.free in
+    let F : Fits w k p = subst (λ (z : SharedValue). Fits z k p) (sym c.self.view_is) c.requires.fits in
+    let at : IsAtEnd w p = subst (λ (z : SharedValue). IsAtEnd z p) (sym c.self.view_is) c.requires.ends in
+    let free : refused w (alone_event k p) ≡ None = subst (λ (z : SharedValue). refused z (alone_event k p) ≡ None) (sym c.self.view_is) c.requires.free in
     alone_small w k p c.self.invariant F (end_shared w p at) free
 
 pub set_state-requires : goal.set_state-requires
 set_state-requires c =
-    let w : World = the_view c.self.inside in
+    let w : SharedValue = the_view c.self.inside in
     let p : Private = c.args.part in
     let k : ℕ = c.args.worker in
-    let F : Fits w k p = subst (λ (z : World). Fits z k p) (sym c.self.view_is) c.requires.fits in
-    let at : IsAtEnd w p = subst (λ (z : World). IsAtEnd z p) (sym c.self.view_is) c.requires.ends in
-    let free : refused w (alone_event k p) ≡ None = subst (λ (z : World). refused z (alone_event k p) ≡ None) (sym c.self.view_is) c.requires.free in
-    let I : IsWorld w = c.self.invariant in
-    let no : state_of w.tree (sibling p.task) ≡ Some Ended → ⊥ = λ e. c.requires.alone (subst (λ (z : World). state_of z.tree (sibling p.task) ≡ Some Ended) c.self.view_is e) in
+    let F : Fits w k p = subst (λ (z : SharedValue). Fits z k p) (sym c.self.view_is) c.requires.fits in
+    let at : IsAtEnd w p = subst (λ (z : SharedValue). IsAtEnd z p) (sym c.self.view_is) c.requires.ends in
+    let free : refused w (alone_event k p) ≡ None = subst (λ (z : SharedValue). refused z (alone_event k p) ≡ None) (sym c.self.view_is) c.requires.free in
+    let I : IsSharedValue w = c.self.invariant in
+    let no : state_of w.tree (sibling p.task) ≡ Some Ended → ⊥ = λ e. c.requires.alone (subst (λ (z : SharedValue). state_of z.tree (sibling p.task) ≡ Some Ended) c.self.view_is e) in
     has_node w k p I F at free no
 
 pub set-requires-2 : goal.set-requires-2
 set-requires-2 c =
-    let w : World = the_view c.self.inside in
+    let w : SharedValue = the_view c.self.inside in
     let p : Private = c.args.part in
     let k : ℕ = c.args.worker in
-    let F : Fits w k p = subst (λ (z : World). Fits z k p) (sym c.self.view_is) c.requires.fits in
-    let at : IsAtEnd w p = subst (λ (z : World). IsAtEnd z p) (sym c.self.view_is) c.requires.ends in
-    let free : refused w (alone_event k p) ≡ None = subst (λ (z : World). refused z (alone_event k p) ≡ None) (sym c.self.view_is) c.requires.free in
-    let I : IsWorld w = c.self.invariant in
-    let no : state_of w.tree (sibling p.task) ≡ Some Ended → ⊥ = λ e. c.requires.alone (subst (λ (z : World). state_of z.tree (sibling p.task) ≡ Some Ended) c.self.view_is e) in
+    let F : Fits w k p = subst (λ (z : SharedValue). Fits z k p) (sym c.self.view_is) c.requires.fits in
+    let at : IsAtEnd w p = subst (λ (z : SharedValue). IsAtEnd z p) (sym c.self.view_is) c.requires.ends in
+    let free : refused w (alone_event k p) ≡ None = subst (λ (z : SharedValue). refused z (alone_event k p) ≡ None) (sym c.self.view_is) c.requires.free in
+    let I : IsSharedValue w = c.self.invariant in
+    let no : state_of w.tree (sibling p.task) ≡ Some Ended → ⊥ = λ e. c.requires.alone (subst (λ (z : SharedValue). state_of z.tree (sibling p.task) ≡ Some Ended) c.self.view_is e) in
     has_home w k p I F at free no
 
 pub invariant_of-self : goal.invariant_of-self
 invariant_of-self c =
-    let w : World = the_view c.self.inside in
+    let w : SharedValue = the_view c.self.inside in
     let p : Private = c.args.part in
     let k : ℕ = c.args.worker in
-    let F : Fits w k p = subst (λ (z : World). Fits z k p) (sym c.self.view_is) c.requires.fits in
-    let at : IsAtEnd w p = subst (λ (z : World). IsAtEnd z p) (sym c.self.view_is) c.requires.ends in
-    let free : refused w (alone_event k p) ≡ None = subst (λ (z : World). refused z (alone_event k p) ≡ None) (sym c.self.view_is) c.requires.free in
-    let I : IsWorld w = c.self.invariant in
-    let no : state_of w.tree (sibling p.task) ≡ Some Ended → ⊥ = λ e. c.requires.alone (subst (λ (z : World). state_of z.tree (sibling p.task) ≡ Some Ended) c.self.view_is e) in
-    let v : World = record w { steps = w.steps + (p.fresh + 1) } in
-    along w k p _ _ c.enter_alone.ensures.steps c.enter_alone.ensures.journal (λ n j. IsWorld (record w { steps = n; tree = c.set_state.new.self; homes = c.set-2.new.self; hands = c.set.new.self; journal = j }))
-    (subst IsWorld (sym (four_changed v (with_state w.tree p.task Ended) _ (slice_set w.homes p.task (Some (ended_rest p))) _ (slice_set w.hands k None) _ (entered w k p) _
+    let F : Fits w k p = subst (λ (z : SharedValue). Fits z k p) (sym c.self.view_is) c.requires.fits in
+    let at : IsAtEnd w p = subst (λ (z : SharedValue). IsAtEnd z p) (sym c.self.view_is) c.requires.ends in
+    let free : refused w (alone_event k p) ≡ None = subst (λ (z : SharedValue). refused z (alone_event k p) ≡ None) (sym c.self.view_is) c.requires.free in
+    let I : IsSharedValue w = c.self.invariant in
+    let no : state_of w.tree (sibling p.task) ≡ Some Ended → ⊥ = λ e. c.requires.alone (subst (λ (z : SharedValue). state_of z.tree (sibling p.task) ≡ Some Ended) c.self.view_is e) in
+    let v : SharedValue = record w { steps = w.steps + (p.fresh + 1) } in
+    along w k p _ _ c.enter_alone.ensures.steps c.enter_alone.ensures.journal (λ n j. IsSharedValue (record w { steps = n; tree = c.set_state.new.self; homes = c.set-2.new.self; hands = c.set.new.self; journal = j }))
+    (subst IsSharedValue (sym (four_changed v (with_state w.tree p.task Ended) _ (slice_set w.homes p.task (Some (ended_rest p))) _ (slice_set w.hands k None) _ (entered w k p) _
     c.set_state.ensures (c.set-2.ensures ∙ ap (λ (r : Rest). slice_set w.homes p.task (Some r)) (c.put_rest-rest.ensures ∙ c.at_end.ensures)) c.set.ensures refl))
     (alone_world w k p I F at free no (record { items = []; room = w.journal.room - 1 })))
 
 pub returns-clause-ended : goal.returns-clause-ended
 returns-clause-ended c =
-    let w : World = the_view c.self.inside in
+    let w : SharedValue = the_view c.self.inside in
     let p : Private = c.args.part in
     let k : ℕ = c.args.worker in
-    let F : Fits w k p = subst (λ (z : World). Fits z k p) (sym c.self.view_is) c.requires.fits in
-    let at : IsAtEnd w p = subst (λ (z : World). IsAtEnd z p) (sym c.self.view_is) c.requires.ends in
-    let free : refused w (alone_event k p) ≡ None = subst (λ (z : World). refused z (alone_event k p) ≡ None) (sym c.self.view_is) c.requires.free in
-    let I : IsWorld w = c.self.invariant in
-    let no : state_of w.tree (sibling p.task) ≡ Some Ended → ⊥ = λ e. c.requires.alone (subst (λ (z : World). state_of z.tree (sibling p.task) ≡ Some Ended) c.self.view_is e) in
-    let v : World = record w { steps = w.steps + (p.fresh + 1) } in
-    subst (λ (z : World). EndsChild z (record v { steps = c.enter_alone.new.steps; tree = c.set_state.new.self; homes = c.set-2.new.self; hands = c.set.new.self; journal = c.enter_alone.new.journal }) k p None) c.self.view_is
+    let F : Fits w k p = subst (λ (z : SharedValue). Fits z k p) (sym c.self.view_is) c.requires.fits in
+    let at : IsAtEnd w p = subst (λ (z : SharedValue). IsAtEnd z p) (sym c.self.view_is) c.requires.ends in
+    let free : refused w (alone_event k p) ≡ None = subst (λ (z : SharedValue). refused z (alone_event k p) ≡ None) (sym c.self.view_is) c.requires.free in
+    let I : IsSharedValue w = c.self.invariant in
+    let no : state_of w.tree (sibling p.task) ≡ Some Ended → ⊥ = λ e. c.requires.alone (subst (λ (z : SharedValue). state_of z.tree (sibling p.task) ≡ Some Ended) c.self.view_is e) in
+    let v : SharedValue = record w { steps = w.steps + (p.fresh + 1) } in
+    subst (λ (z : SharedValue). EndsChild z (record v { steps = c.enter_alone.new.steps; tree = c.set_state.new.self; homes = c.set-2.new.self; hands = c.set.new.self; journal = c.enter_alone.new.journal }) k p None) c.self.view_is
     (along w k p _ _ c.enter_alone.ensures.steps c.enter_alone.ensures.journal (λ n j. EndsChild w (record v { steps = n; tree = c.set_state.new.self; homes = c.set-2.new.self; hands = c.set.new.self; journal = j }) k p None)
-    (subst (λ (z : World). EndsChild w z k p None) (sym (four_changed v (with_state w.tree p.task Ended) _ (slice_set w.homes p.task (Some (ended_rest p))) _ (slice_set w.hands k None) _ (entered w k p) _
+    (subst (λ (z : SharedValue). EndsChild w z k p None) (sym (four_changed v (with_state w.tree p.task Ended) _ (slice_set w.homes p.task (Some (ended_rest p))) _ (slice_set w.hands k None) _ (entered w k p) _
     c.set_state.ensures (c.set-2.ensures ∙ ap (λ (r : Rest). slice_set w.homes p.task (Some r)) (c.put_rest-rest.ensures ∙ c.at_end.ensures)) c.set.ensures refl))
     (alone_ends w k p I F at free no (record { items = []; room = w.journal.room - 1 }))))
 
 pub returns-clause-hand : goal.returns-clause-hand
-returns-clause-hand c = c.set.ensures ∙ ap (λ (z : World). slice_set z.hands c.args.worker None) c.self.view_is
+returns-clause-hand c = c.set.ensures ∙ ap (λ (z : SharedValue). slice_set z.hands c.args.worker None) c.self.view_is
 
 pub enter_alone-requires-clause-room : goal.enter_alone-requires-clause-room
-enter_alone-requires-clause-room c = subst (λ (z : World). 0 < z.journal.room) (sym c.self.view_is) c.requires.room
+enter_alone-requires-clause-room c = subst (λ (z : SharedValue). 0 < z.journal.room) (sym c.self.view_is) c.requires.room

@@ -1,13 +1,13 @@
 use Rattle.std.proofs.Common.{◌≡◌, ℕ, ◌+◌, ◌-◌, ◌<◌, arith, Option, None, List, [], ◌∷◌, length, length-append, slice_set, refl, ap, sym, subst, ◌∙◌}
-use Rattle.listed.specs.Space.{Space}
-use Rattle.run_trace.specs.Entry.{Event}
+use Rattle.listed.specs.RoomyValue.{RoomyValue}
+use Rattle.run_trace.specs.Entry.{EntryValue}
 use Rattle.heap_tree.specs.Node.{Node, depth_of, forked}
 use Rattle.write_barrier.specs.declared.sets.SetOf.{SetOf}
 use Rattle.fork_join.specs.declared.forks.Child.{Child}
 use Rattle.task_machine.specs.declared.part.Private.{Private}
 use Rattle.shared_value.specs.declared.task_at_rest.Rest.{Rest}
-use Rattle.shared_value.specs.Stands.{IsWorld}
-use Rattle.shared_value.specs.World.{World}
+use Rattle.shared_value.specs.Stands.{IsSharedValue}
+use Rattle.shared_value.specs.SharedValue.{SharedValue}
 use Rattle.shared_value.specs.Fits.{Fits}
 use Rattle.shared_value.specs.Entered.{refused}
 use Rattle.shared_value.proofs.JournalGoesOn.{four_changed}
@@ -22,121 +22,121 @@ use Rattle.shared_tree.proofs.shared.Shared.enter_fork.Goals as goal
 
 pub grow-grown-requires-clause-out : goal.grow-grown-requires-clause-out
 grow-grown-requires-clause-out c =
-    let w : World = the_view c.self.inside in
+    let w : SharedValue = the_view c.self.inside in
     let p : Private = c.args.part in
     let k : ℕ = c.args.worker in
-    let F : Fits w k p = subst (λ (z : World). Fits z k p) (sym c.self.view_is) c.requires.fits in
-    let at : IsAtFork w p = subst (λ (z : World). IsAtFork z p) (sym c.self.view_is) c.requires.forks in
-    let free : refused w (alone_event k p) ≡ None = subst (λ (z : World). refused z (alone_event k p) ≡ None) (sym c.self.view_is) c.requires.free in
+    let F : Fits w k p = subst (λ (z : SharedValue). Fits z k p) (sym c.self.view_is) c.requires.fits in
+    let at : IsAtFork w p = subst (λ (z : SharedValue). IsAtFork z p) (sym c.self.view_is) c.requires.forks in
+    let free : refused w (alone_event k p) ≡ None = subst (λ (z : SharedValue). refused z (alone_event k p) ≡ None) (sym c.self.view_is) c.requires.free in
     tree_out w c.self.invariant (on w k p c.self.invariant F at free) k p F
 
 pub grow-grown-requires-clause-few : goal.grow-grown-requires-clause-few
 grow-grown-requires-clause-few c =
-    let w : World = the_view c.self.inside in
+    let w : SharedValue = the_view c.self.inside in
     let p : Private = c.args.part in
     let k : ℕ = c.args.worker in
-    let F : Fits w k p = subst (λ (z : World). Fits z k p) (sym c.self.view_is) c.requires.fits in
-    let at : IsAtFork w p = subst (λ (z : World). IsAtFork z p) (sym c.self.view_is) c.requires.forks in
-    let free : refused w (alone_event k p) ≡ None = subst (λ (z : World). refused z (alone_event k p) ≡ None) (sym c.self.view_is) c.requires.free in
+    let F : Fits w k p = subst (λ (z : SharedValue). Fits z k p) (sym c.self.view_is) c.requires.fits in
+    let at : IsAtFork w p = subst (λ (z : SharedValue). IsAtFork z p) (sym c.self.view_is) c.requires.forks in
+    let free : refused w (alone_event k p) ≡ None = subst (λ (z : SharedValue). refused z (alone_event k p) ≡ None) (sym c.self.view_is) c.requires.free in
     few_tasks w k p c.self.invariant F at free
 
 pub enter_alone-requires-clause-small : goal.enter_alone-requires-clause-small
 enter_alone-requires-clause-small c =
-    let w : World = the_view c.self.inside in
+    let w : SharedValue = the_view c.self.inside in
     let p : Private = c.args.part in
     let k : ℕ = c.args.worker in
-    let F : Fits w k p = subst (λ (z : World). Fits z k p) (sym c.self.view_is) c.requires.fits in
-    let at : IsAtFork w p = subst (λ (z : World). IsAtFork z p) (sym c.self.view_is) c.requires.forks in
-    let free : refused w (alone_event k p) ≡ None = subst (λ (z : World). refused z (alone_event k p) ≡ None) (sym c.self.view_is) c.requires.free in
+    let F : Fits w k p = subst (λ (z : SharedValue). Fits z k p) (sym c.self.view_is) c.requires.fits in
+    let at : IsAtFork w p = subst (λ (z : SharedValue). IsAtFork z p) (sym c.self.view_is) c.requires.forks in
+    let free : refused w (alone_event k p) ≡ None = subst (λ (z : SharedValue). refused z (alone_event k p) ≡ None) (sym c.self.view_is) c.requires.free in
     alone_small w k p c.self.invariant F (fork_shared w p at) free
 
 pub fork_sets-requires-clause-made : goal.fork_sets-requires-clause-made
 fork_sets-requires-clause-made c =
-    let w : World = the_view c.self.inside in
+    let w : SharedValue = the_view c.self.inside in
     let p : Private = c.args.part in
     let k : ℕ = c.args.worker in
-    let F : Fits w k p = subst (λ (z : World). Fits z k p) (sym c.self.view_is) c.requires.fits in
-    let at : IsAtFork w p = subst (λ (z : World). IsAtFork z p) (sym c.self.view_is) c.requires.forks in
-    let free : refused w (alone_event k p) ≡ None = subst (λ (z : World). refused z (alone_event k p) ≡ None) (sym c.self.view_is) c.requires.free in
-    let B : (n : ℕ) × ForksTo w p c.args.left c.args.right n = subst (λ (z : World). (n : ℕ) × ForksTo z p c.args.left c.args.right n) (sym c.self.view_is) c.requires.by in
-    let low : depth_of w.tree p.task < 1000 = subst (λ (z : World). depth_of z.tree p.task < 1000) (sym c.self.view_is) c.requires.shallow in
-    let I : IsWorld w = c.self.invariant in
+    let F : Fits w k p = subst (λ (z : SharedValue). Fits z k p) (sym c.self.view_is) c.requires.fits in
+    let at : IsAtFork w p = subst (λ (z : SharedValue). IsAtFork z p) (sym c.self.view_is) c.requires.forks in
+    let free : refused w (alone_event k p) ≡ None = subst (λ (z : SharedValue). refused z (alone_event k p) ≡ None) (sym c.self.view_is) c.requires.free in
+    let B : (n : ℕ) × ForksTo w p c.args.left c.args.right n = subst (λ (z : SharedValue). (n : ℕ) × ForksTo z p c.args.left c.args.right n) (sym c.self.view_is) c.requires.by in
+    let low : depth_of w.tree p.task < 1000 = subst (λ (z : SharedValue). depth_of z.tree p.task < 1000) (sym c.self.view_is) c.requires.shallow in
+    let I : IsSharedValue w = c.self.invariant in
     subst (λ (xs : List SetOf). p.task < length xs) (sym c.in-Ok-grown.ensures.sets) (own_set w k p I F at free c.args.left c.args.right B.0 B.1 low)
 
 pub put_homes-requires-clause-made : goal.put_homes-requires-clause-made
 put_homes-requires-clause-made c =
-    let w : World = the_view c.self.inside in
+    let w : SharedValue = the_view c.self.inside in
     let p : Private = c.args.part in
     let k : ℕ = c.args.worker in
-    let F : Fits w k p = subst (λ (z : World). Fits z k p) (sym c.self.view_is) c.requires.fits in
-    let at : IsAtFork w p = subst (λ (z : World). IsAtFork z p) (sym c.self.view_is) c.requires.forks in
-    let free : refused w (alone_event k p) ≡ None = subst (λ (z : World). refused z (alone_event k p) ≡ None) (sym c.self.view_is) c.requires.free in
-    let B : (n : ℕ) × ForksTo w p c.args.left c.args.right n = subst (λ (z : World). (n : ℕ) × ForksTo z p c.args.left c.args.right n) (sym c.self.view_is) c.requires.by in
-    let low : depth_of w.tree p.task < 1000 = subst (λ (z : World). depth_of z.tree p.task < 1000) (sym c.self.view_is) c.requires.shallow in
-    let I : IsWorld w = c.self.invariant in
+    let F : Fits w k p = subst (λ (z : SharedValue). Fits z k p) (sym c.self.view_is) c.requires.fits in
+    let at : IsAtFork w p = subst (λ (z : SharedValue). IsAtFork z p) (sym c.self.view_is) c.requires.forks in
+    let free : refused w (alone_event k p) ≡ None = subst (λ (z : SharedValue). refused z (alone_event k p) ≡ None) (sym c.self.view_is) c.requires.free in
+    let B : (n : ℕ) × ForksTo w p c.args.left c.args.right n = subst (λ (z : SharedValue). (n : ℕ) × ForksTo z p c.args.left c.args.right n) (sym c.self.view_is) c.requires.by in
+    let low : depth_of w.tree p.task < 1000 = subst (λ (z : SharedValue). depth_of z.tree p.task < 1000) (sym c.self.view_is) c.requires.shallow in
+    let I : IsSharedValue w = c.self.invariant in
     let made : p.task < length w.homes = own_home w k p I F at free c.args.left c.args.right B.0 B.1 low in
     subst (λ xs. p.task < length xs) (sym c.in-Ok-grown.ensures.homes) (let e = length-append w.homes (None ∷ (None ∷ [])) in omega (arith, made, e))
 
 pub put_homes-requires-clause-next : goal.put_homes-requires-clause-next
 put_homes-requires-clause-next c =
-    let w : World = the_view c.self.inside in
+    let w : SharedValue = the_view c.self.inside in
     let p : Private = c.args.part in
     let k : ℕ = c.args.worker in
-    let F : Fits w k p = subst (λ (z : World). Fits z k p) (sym c.self.view_is) c.requires.fits in
-    let at : IsAtFork w p = subst (λ (z : World). IsAtFork z p) (sym c.self.view_is) c.requires.forks in
-    let free : refused w (alone_event k p) ≡ None = subst (λ (z : World). refused z (alone_event k p) ≡ None) (sym c.self.view_is) c.requires.free in
+    let F : Fits w k p = subst (λ (z : SharedValue). Fits z k p) (sym c.self.view_is) c.requires.fits in
+    let at : IsAtFork w p = subst (λ (z : SharedValue). IsAtFork z p) (sym c.self.view_is) c.requires.forks in
+    let free : refused w (alone_event k p) ≡ None = subst (λ (z : SharedValue). refused z (alone_event k p) ≡ None) (sym c.self.view_is) c.requires.free in
     next_small w k p c.self.invariant F (fork_shared w p at) free
 
 pub invariant_of-self-2 : goal.invariant_of-self-2
 invariant_of-self-2 c =
-    let w : World = the_view c.self.inside in
+    let w : SharedValue = the_view c.self.inside in
     let p : Private = c.args.part in
     let k : ℕ = c.args.worker in
-    let F : Fits w k p = subst (λ (z : World). Fits z k p) (sym c.self.view_is) c.requires.fits in
-    let at : IsAtFork w p = subst (λ (z : World). IsAtFork z p) (sym c.self.view_is) c.requires.forks in
-    let free : refused w (alone_event k p) ≡ None = subst (λ (z : World). refused z (alone_event k p) ≡ None) (sym c.self.view_is) c.requires.free in
-    let B : (n : ℕ) × ForksTo w p c.args.left c.args.right n = subst (λ (z : World). (n : ℕ) × ForksTo z p c.args.left c.args.right n) (sym c.self.view_is) c.requires.by in
-    let low : depth_of w.tree p.task < 1000 = subst (λ (z : World). depth_of z.tree p.task < 1000) (sym c.self.view_is) c.requires.shallow in
-    let I : IsWorld w = c.self.invariant in
+    let F : Fits w k p = subst (λ (z : SharedValue). Fits z k p) (sym c.self.view_is) c.requires.fits in
+    let at : IsAtFork w p = subst (λ (z : SharedValue). IsAtFork z p) (sym c.self.view_is) c.requires.forks in
+    let free : refused w (alone_event k p) ≡ None = subst (λ (z : SharedValue). refused z (alone_event k p) ≡ None) (sym c.self.view_is) c.requires.free in
+    let B : (n : ℕ) × ForksTo w p c.args.left c.args.right n = subst (λ (z : SharedValue). (n : ℕ) × ForksTo z p c.args.left c.args.right n) (sym c.self.view_is) c.requires.by in
+    let low : depth_of w.tree p.task < 1000 = subst (λ (z : SharedValue). depth_of z.tree p.task < 1000) (sym c.self.view_is) c.requires.shallow in
+    let I : IsSharedValue w = c.self.invariant in
     let made : p.task < length w.homes = own_home w k p I F at free c.args.left c.args.right B.0 B.1 low in
     let first : c.in-Ok-grown.first ≡ part_child p (length w.homes) c.args.left c.in-Ok-grown.first.heap.slots c.in-Ok-grown.first.heap.spare = c.in-Ok-grown.ensures.left_child ∙ ap (λ n. part_child p n c.args.left c.in-Ok-grown.first.heap.slots c.in-Ok-grown.first.heap.spare) (sym I.made) in
     let second : c.in-Ok-grown.second ≡ part_child p (length w.homes + 1) c.args.right c.in-Ok-grown.second.heap.slots c.in-Ok-grown.second.heap.spare = c.in-Ok-grown.ensures.right_child ∙ ap (λ n. part_child p (n + 1) c.args.right c.in-Ok-grown.second.heap.slots c.in-Ok-grown.second.heap.spare) (sym I.made) in
     let H : HomesFork w.homes c.put_homes.new.homes p c.args.left c.args.right = homes_fork_by w.homes c.grow-grown.new.homes c.put_homes.new.homes p c.args.left c.args.right c.in-Ok-grown.first c.in-Ok-grown.second made c.in-Ok-grown.ensures.homes first second c.put_homes.ensures in
     let N : SetsFork w.sets c.fork_sets.new.sets.items p.task = subst (λ (xs : List SetOf). SetsFork xs c.fork_sets.new.sets.items p.task) c.in-Ok-grown.ensures.sets c.fork_sets.ensures in
-    let j : Space Event = record { items = []; room = w.journal.room - 1 } in
-    let v : World = record w { steps = w.steps + (p.fresh + 1); sets = c.fork_sets.new.sets.items; marks = c.clear_marks.new.marks } in
-    along w k p _ _ c.enter_alone.ensures.steps c.enter_alone.ensures.journal (λ n j. IsWorld (record v { steps = n; tree = c.grow-grown.new.tree; homes = c.put_homes.new.homes; hands = c.set.new.self; journal = j }))
-    (subst IsWorld (sym (four_changed v (forked w.tree p.task) _ c.put_homes.new.homes c.put_homes.new.homes (slice_set w.hands k None) _ (entered w k p) _
+    let j : RoomyValue EntryValue = record { items = []; room = w.journal.room - 1 } in
+    let v : SharedValue = record w { steps = w.steps + (p.fresh + 1); sets = c.fork_sets.new.sets.items; marks = c.clear_marks.new.marks } in
+    along w k p _ _ c.enter_alone.ensures.steps c.enter_alone.ensures.journal (λ n j. IsSharedValue (record v { steps = n; tree = c.grow-grown.new.tree; homes = c.put_homes.new.homes; hands = c.set.new.self; journal = j }))
+    (subst IsSharedValue (sym (four_changed v (forked w.tree p.task) _ c.put_homes.new.homes c.put_homes.new.homes (slice_set w.hands k None) _ (entered w k p) _
     c.in-Ok-grown.ensures.tree refl c.set.ensures refl))
     (alone_world w k p I F at free c.args.left c.args.right B.0 B.1 low c.put_homes.new.homes c.fork_sets.new.sets.items H N c.clear_marks.new.marks c.clear_marks.ensures j))
 
 pub returns-clause-answered : goal.returns-clause-answered
 returns-clause-answered c =
-    let w : World = the_view c.self.inside in
+    let w : SharedValue = the_view c.self.inside in
     let p : Private = c.args.part in
     let k : ℕ = c.args.worker in
-    let F : Fits w k p = subst (λ (z : World). Fits z k p) (sym c.self.view_is) c.requires.fits in
-    let at : IsAtFork w p = subst (λ (z : World). IsAtFork z p) (sym c.self.view_is) c.requires.forks in
-    let free : refused w (alone_event k p) ≡ None = subst (λ (z : World). refused z (alone_event k p) ≡ None) (sym c.self.view_is) c.requires.free in
-    let B : (n : ℕ) × ForksTo w p c.args.left c.args.right n = subst (λ (z : World). (n : ℕ) × ForksTo z p c.args.left c.args.right n) (sym c.self.view_is) c.requires.by in
-    let low : depth_of w.tree p.task < 1000 = subst (λ (z : World). depth_of z.tree p.task < 1000) (sym c.self.view_is) c.requires.shallow in
-    let I : IsWorld w = c.self.invariant in
+    let F : Fits w k p = subst (λ (z : SharedValue). Fits z k p) (sym c.self.view_is) c.requires.fits in
+    let at : IsAtFork w p = subst (λ (z : SharedValue). IsAtFork z p) (sym c.self.view_is) c.requires.forks in
+    let free : refused w (alone_event k p) ≡ None = subst (λ (z : SharedValue). refused z (alone_event k p) ≡ None) (sym c.self.view_is) c.requires.free in
+    let B : (n : ℕ) × ForksTo w p c.args.left c.args.right n = subst (λ (z : SharedValue). (n : ℕ) × ForksTo z p c.args.left c.args.right n) (sym c.self.view_is) c.requires.by in
+    let low : depth_of w.tree p.task < 1000 = subst (λ (z : SharedValue). depth_of z.tree p.task < 1000) (sym c.self.view_is) c.requires.shallow in
+    let I : IsSharedValue w = c.self.invariant in
     let made : p.task < length w.homes = own_home w k p I F at free c.args.left c.args.right B.0 B.1 low in
     let first : c.in-Ok-grown.first ≡ part_child p (length w.homes) c.args.left c.in-Ok-grown.first.heap.slots c.in-Ok-grown.first.heap.spare = c.in-Ok-grown.ensures.left_child ∙ ap (λ n. part_child p n c.args.left c.in-Ok-grown.first.heap.slots c.in-Ok-grown.first.heap.spare) (sym I.made) in
     let second : c.in-Ok-grown.second ≡ part_child p (length w.homes + 1) c.args.right c.in-Ok-grown.second.heap.slots c.in-Ok-grown.second.heap.spare = c.in-Ok-grown.ensures.right_child ∙ ap (λ n. part_child p (n + 1) c.args.right c.in-Ok-grown.second.heap.slots c.in-Ok-grown.second.heap.spare) (sym I.made) in
     let H : HomesFork w.homes c.put_homes.new.homes p c.args.left c.args.right = homes_fork_by w.homes c.grow-grown.new.homes c.put_homes.new.homes p c.args.left c.args.right c.in-Ok-grown.first c.in-Ok-grown.second made c.in-Ok-grown.ensures.homes first second c.put_homes.ensures in
     let N : SetsFork w.sets c.fork_sets.new.sets.items p.task = subst (λ (xs : List SetOf). SetsFork xs c.fork_sets.new.sets.items p.task) c.in-Ok-grown.ensures.sets c.fork_sets.ensures in
-    let j : Space Event = record { items = []; room = w.journal.room - 1 } in
-    let v : World = record w { steps = w.steps + (p.fresh + 1); sets = c.fork_sets.new.sets.items; marks = c.clear_marks.new.marks } in
-    subst (λ (z : World). ForksOn z (record v { steps = c.enter_alone.new.steps; tree = c.grow-grown.new.tree; homes = c.put_homes.new.homes; hands = c.set.new.self; journal = c.enter_alone.new.journal }) k p c.in-Ok-grown.first.task c.in-Ok-grown.second.task) c.self.view_is
+    let j : RoomyValue EntryValue = record { items = []; room = w.journal.room - 1 } in
+    let v : SharedValue = record w { steps = w.steps + (p.fresh + 1); sets = c.fork_sets.new.sets.items; marks = c.clear_marks.new.marks } in
+    subst (λ (z : SharedValue). ForksOn z (record v { steps = c.enter_alone.new.steps; tree = c.grow-grown.new.tree; homes = c.put_homes.new.homes; hands = c.set.new.self; journal = c.enter_alone.new.journal }) k p c.in-Ok-grown.first.task c.in-Ok-grown.second.task) c.self.view_is
     (along w k p _ _ c.enter_alone.ensures.steps c.enter_alone.ensures.journal (λ n j. ForksOn w (record v { steps = n; tree = c.grow-grown.new.tree; homes = c.put_homes.new.homes; hands = c.set.new.self; journal = j }) k p c.in-Ok-grown.first.task c.in-Ok-grown.second.task)
-    (subst (λ (z : World). ForksOn w z k p c.in-Ok-grown.first.task c.in-Ok-grown.second.task) (sym (four_changed v (forked w.tree p.task) _ c.put_homes.new.homes c.put_homes.new.homes (slice_set w.hands k None) _ (entered w k p) _
+    (subst (λ (z : SharedValue). ForksOn w z k p c.in-Ok-grown.first.task c.in-Ok-grown.second.task) (sym (four_changed v (forked w.tree p.task) _ c.put_homes.new.homes c.put_homes.new.homes (slice_set w.hands k None) _ (entered w k p) _
     c.in-Ok-grown.ensures.tree refl c.set.ensures refl))
     (alone_forks w k p I F at free c.args.left c.args.right B.0 B.1 low c.put_homes.new.homes c.fork_sets.new.sets.items H N c.clear_marks.new.marks c.clear_marks.ensures j c.in-Ok-grown.first.task c.in-Ok-grown.second.task
     (ap (λ (z : Child). z.task) c.in-Ok-grown.ensures.left_child) (ap (λ (z : Child). z.task) c.in-Ok-grown.ensures.right_child))))
 
 -- the same value, by what a call left that failed
-unchanged_by : (w : World) (n : List Node) (hs : List (Option Rest)) (ss : List SetOf) → n ≡ w.tree → hs ≡ w.homes → ss ≡ w.sets → record w { tree = n; homes = hs; sets = ss } ≡ w
+unchanged_by : (w : SharedValue) (n : List Node) (hs : List (Option Rest)) (ss : List SetOf) → n ≡ w.tree → hs ≡ w.homes → ss ≡ w.sets → record w { tree = n; homes = hs; sets = ss } ≡ w
 unchanged_by w n hs ss en eh es =
     ap (λ (x : List Node). record w { tree = x; homes = hs; sets = ss }) en
     ∙ (ap (λ (x : List (Option Rest)). record w { homes = x; sets = ss }) eh ∙ ap (λ (x : List SetOf). record w { sets = x }) es)
@@ -144,20 +144,20 @@ unchanged_by w n hs ss en eh es =
 pub invariant_of-self : goal.invariant_of-self
 invariant_of-self c =
     let e = unchanged_by (the_view c.self.inside) c.grow-grown.new.tree c.grow-grown.new.homes c.grow-grown.new.sets.items c.in_default-grown.ensures.same_tree c.in_default-grown.ensures.same_homes c.in_default-grown.ensures.sets in
-    subst IsWorld (sym e) c.self.invariant
+    subst IsSharedValue (sym e) c.self.invariant
 
 pub returns-in_default-grown-clause-same : goal.returns-in_default-grown-clause-same
 returns-in_default-grown-clause-same c =
     unchanged_by (the_view c.self.inside) c.grow-grown.new.tree c.grow-grown.new.homes c.grow-grown.new.sets.items c.in_default-grown.ensures.same_tree c.in_default-grown.ensures.same_homes c.in_default-grown.ensures.sets ∙ c.self.view_is
 
 pub returns-clause-hand : goal.returns-clause-hand
-returns-clause-hand c = c.set.ensures ∙ ap (λ (z : World). slice_set z.hands c.args.worker None) c.self.view_is
+returns-clause-hand c = c.set.ensures ∙ ap (λ (z : SharedValue). slice_set z.hands c.args.worker None) c.self.view_is
 
 pub grow-grown-requires-clause-shallow : goal.grow-grown-requires-clause-shallow
-grow-grown-requires-clause-shallow c = subst (λ (z : World). depth_of z.tree c.args.part.task < 1000) (sym c.self.view_is) c.requires.shallow
+grow-grown-requires-clause-shallow c = subst (λ (z : SharedValue). depth_of z.tree c.args.part.task < 1000) (sym c.self.view_is) c.requires.shallow
 
 pub enter_alone-requires-clause-room : goal.enter_alone-requires-clause-room
-enter_alone-requires-clause-room c = subst (λ (z : World). 0 < z.journal.room) (sym c.self.view_is) c.requires.room
+enter_alone-requires-clause-room c = subst (λ (z : SharedValue). 0 < z.journal.room) (sym c.self.view_is) c.requires.room
 
 pub fork_sets-requires-clause-room : goal.fork_sets-requires-clause-room
 fork_sets-requires-clause-room c = c.in-Ok-grown.ensures.room

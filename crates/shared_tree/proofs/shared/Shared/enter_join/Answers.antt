@@ -1,19 +1,19 @@
 use Rattle.std.proofs.Common.{◌≡◌, ℕ, ◌+◌, ◌-◌, arith, Option, Some, None, List, [], length, length-set, slice_set, refl, ap, sym, subst, ◌∙◌}
 use Rattle.std.specs.Prelude.{IsSome}
-use Rattle.listed.specs.Space.{Space}
-use Rattle.run_trace.specs.Entry.{Event}
-use Rattle.chunk_pool.specs.Chunks.{Chunks}
+use Rattle.listed.specs.RoomyValue.{RoomyValue}
+use Rattle.run_trace.specs.Entry.{EntryValue}
+use Rattle.chunk_pool.specs.PoolValue.{PoolValue}
 use Rattle.heap_tree.specs.declared.state.State.TheVariants.{Ended}
 use Rattle.heap_tree.specs.Node.{Node, parent_of, state_of, with_state}
 use Rattle.heap_tree.specs.Pairs.{sibling}
-use Rattle.remembered_set.specs.Sources.{Notes}
+use Rattle.remembered_set.specs.Sources.{RememberedValue}
 use Rattle.write_barrier.specs.declared.sets.SetOf.{SetOf}
 use Rattle.fork_join.specs.declared.sides.EndedChild.{EndedChild}
 use Rattle.fork_join.specs.Joined.{joined_nodes}
 use Rattle.task_machine.specs.declared.part.Private.{Private}
 use Rattle.shared_value.specs.declared.task_at_rest.Rest.{Rest}
-use Rattle.shared_value.specs.World.{World, rest_at}
-use Rattle.shared_value.specs.Stands.{IsWorld}
+use Rattle.shared_value.specs.SharedValue.{SharedValue, rest_at}
+use Rattle.shared_value.specs.Stands.{IsSharedValue}
 use Rattle.shared_value.specs.Fits.{Fits}
 use Rattle.shared_value.specs.Entered.{refused}
 use Rattle.shared_value.proofs.JournalGoesOn.{four_changed}
@@ -32,83 +32,83 @@ use Rattle.shared_tree.proofs.shared.Shared.enter_join.Goals as goal
 
 pub sibling_of-other-requires-clause-child : goal.sibling_of-other-requires-clause-child
 sibling_of-other-requires-clause-child c =
-    let w : World = the_view c.self.inside in
+    let w : SharedValue = the_view c.self.inside in
     let p : Private = c.args.part in
     let k : ℕ = c.args.worker in
-    let I : IsWorld w = c.self.invariant in
-    let F : Fits w k p = subst (λ (z : World). Fits z k p) (sym c.self.view_is) c.requires.fits in
-    let at : IsAtEnd w p = subst (λ (z : World). IsAtEnd z p) (sym c.self.view_is) c.requires.ends in
-    let free : refused w (alone_event k p) ≡ None = subst (λ (z : World). refused z (alone_event k p) ≡ None) (sym c.self.view_is) c.requires.free in
-    let ended : state_of w.tree (sibling p.task) ≡ Some Ended = subst (λ (z : World). state_of z.tree (sibling p.task) ≡ Some Ended) (sym c.self.view_is) c.requires.ended in
-    let par : parent_of w.tree p.task ≡ Some c.args.parent = subst (λ (z : World). parent_of z.tree p.task ≡ Some c.args.parent) (sym c.self.view_is) c.requires.parent in
+    let I : IsSharedValue w = c.self.invariant in
+    let F : Fits w k p = subst (λ (z : SharedValue). Fits z k p) (sym c.self.view_is) c.requires.fits in
+    let at : IsAtEnd w p = subst (λ (z : SharedValue). IsAtEnd z p) (sym c.self.view_is) c.requires.ends in
+    let free : refused w (alone_event k p) ≡ None = subst (λ (z : SharedValue). refused z (alone_event k p) ≡ None) (sym c.self.view_is) c.requires.free in
+    let ended : state_of w.tree (sibling p.task) ≡ Some Ended = subst (λ (z : SharedValue). state_of z.tree (sibling p.task) ≡ Some Ended) (sym c.self.view_is) c.requires.ended in
+    let par : parent_of w.tree p.task ≡ Some c.args.parent = subst (λ (z : SharedValue). parent_of z.tree p.task ≡ Some c.args.parent) (sym c.self.view_is) c.requires.parent in
     let low = parent_low w k p I F at free in
     omega (arith, low)
 
 pub sibling_of-other-requires-clause-few : goal.sibling_of-other-requires-clause-few
 sibling_of-other-requires-clause-few c =
-    let w : World = the_view c.self.inside in
+    let w : SharedValue = the_view c.self.inside in
     let p : Private = c.args.part in
     let k : ℕ = c.args.worker in
-    let I : IsWorld w = c.self.invariant in
-    let F : Fits w k p = subst (λ (z : World). Fits z k p) (sym c.self.view_is) c.requires.fits in
-    let at : IsAtEnd w p = subst (λ (z : World). IsAtEnd z p) (sym c.self.view_is) c.requires.ends in
-    let free : refused w (alone_event k p) ≡ None = subst (λ (z : World). refused z (alone_event k p) ≡ None) (sym c.self.view_is) c.requires.free in
-    let ended : state_of w.tree (sibling p.task) ≡ Some Ended = subst (λ (z : World). state_of z.tree (sibling p.task) ≡ Some Ended) (sym c.self.view_is) c.requires.ended in
-    let par : parent_of w.tree p.task ≡ Some c.args.parent = subst (λ (z : World). parent_of z.tree p.task ≡ Some c.args.parent) (sym c.self.view_is) c.requires.parent in
+    let I : IsSharedValue w = c.self.invariant in
+    let F : Fits w k p = subst (λ (z : SharedValue). Fits z k p) (sym c.self.view_is) c.requires.fits in
+    let at : IsAtEnd w p = subst (λ (z : SharedValue). IsAtEnd z p) (sym c.self.view_is) c.requires.ends in
+    let free : refused w (alone_event k p) ≡ None = subst (λ (z : SharedValue). refused z (alone_event k p) ≡ None) (sym c.self.view_is) c.requires.free in
+    let ended : state_of w.tree (sibling p.task) ≡ Some Ended = subst (λ (z : SharedValue). state_of z.tree (sibling p.task) ≡ Some Ended) (sym c.self.view_is) c.requires.ended in
+    let par : parent_of w.tree p.task ≡ Some c.args.parent = subst (λ (z : SharedValue). parent_of z.tree p.task ≡ Some c.args.parent) (sym c.self.view_is) c.requires.parent in
     let few = few_tasks w k p I F at free in
     let made = own_made w k p I F at free in
     omega (arith, few, made)
 
 pub enter_alone-requires-clause-small : goal.enter_alone-requires-clause-small
 enter_alone-requires-clause-small c =
-    let w : World = the_view c.self.inside in
+    let w : SharedValue = the_view c.self.inside in
     let p : Private = c.args.part in
     let k : ℕ = c.args.worker in
-    let I : IsWorld w = c.self.invariant in
-    let F : Fits w k p = subst (λ (z : World). Fits z k p) (sym c.self.view_is) c.requires.fits in
-    let at : IsAtEnd w p = subst (λ (z : World). IsAtEnd z p) (sym c.self.view_is) c.requires.ends in
-    let free : refused w (alone_event k p) ≡ None = subst (λ (z : World). refused z (alone_event k p) ≡ None) (sym c.self.view_is) c.requires.free in
-    let ended : state_of w.tree (sibling p.task) ≡ Some Ended = subst (λ (z : World). state_of z.tree (sibling p.task) ≡ Some Ended) (sym c.self.view_is) c.requires.ended in
-    let par : parent_of w.tree p.task ≡ Some c.args.parent = subst (λ (z : World). parent_of z.tree p.task ≡ Some c.args.parent) (sym c.self.view_is) c.requires.parent in
+    let I : IsSharedValue w = c.self.invariant in
+    let F : Fits w k p = subst (λ (z : SharedValue). Fits z k p) (sym c.self.view_is) c.requires.fits in
+    let at : IsAtEnd w p = subst (λ (z : SharedValue). IsAtEnd z p) (sym c.self.view_is) c.requires.ends in
+    let free : refused w (alone_event k p) ≡ None = subst (λ (z : SharedValue). refused z (alone_event k p) ≡ None) (sym c.self.view_is) c.requires.free in
+    let ended : state_of w.tree (sibling p.task) ≡ Some Ended = subst (λ (z : SharedValue). state_of z.tree (sibling p.task) ≡ Some Ended) (sym c.self.view_is) c.requires.ended in
+    let par : parent_of w.tree p.task ≡ Some c.args.parent = subst (λ (z : SharedValue). parent_of z.tree p.task ≡ Some c.args.parent) (sym c.self.view_is) c.requires.parent in
     alone_small w k p I F (end_shared w p at) free
 
 pub set_state-requires : goal.set_state-requires
 set_state-requires c =
-    let w : World = the_view c.self.inside in
+    let w : SharedValue = the_view c.self.inside in
     let p : Private = c.args.part in
     let k : ℕ = c.args.worker in
-    let I : IsWorld w = c.self.invariant in
-    let F : Fits w k p = subst (λ (z : World). Fits z k p) (sym c.self.view_is) c.requires.fits in
-    let at : IsAtEnd w p = subst (λ (z : World). IsAtEnd z p) (sym c.self.view_is) c.requires.ends in
-    let free : refused w (alone_event k p) ≡ None = subst (λ (z : World). refused z (alone_event k p) ≡ None) (sym c.self.view_is) c.requires.free in
-    let ended : state_of w.tree (sibling p.task) ≡ Some Ended = subst (λ (z : World). state_of z.tree (sibling p.task) ≡ Some Ended) (sym c.self.view_is) c.requires.ended in
-    let par : parent_of w.tree p.task ≡ Some c.args.parent = subst (λ (z : World). parent_of z.tree p.task ≡ Some c.args.parent) (sym c.self.view_is) c.requires.parent in
+    let I : IsSharedValue w = c.self.invariant in
+    let F : Fits w k p = subst (λ (z : SharedValue). Fits z k p) (sym c.self.view_is) c.requires.fits in
+    let at : IsAtEnd w p = subst (λ (z : SharedValue). IsAtEnd z p) (sym c.self.view_is) c.requires.ends in
+    let free : refused w (alone_event k p) ≡ None = subst (λ (z : SharedValue). refused z (alone_event k p) ≡ None) (sym c.self.view_is) c.requires.free in
+    let ended : state_of w.tree (sibling p.task) ≡ Some Ended = subst (λ (z : SharedValue). state_of z.tree (sibling p.task) ≡ Some Ended) (sym c.self.view_is) c.requires.ended in
+    let par : parent_of w.tree p.task ≡ Some c.args.parent = subst (λ (z : SharedValue). parent_of z.tree p.task ≡ Some c.args.parent) (sym c.self.view_is) c.requires.parent in
     own_made w k p I F at free
 
 pub take_remembered-own_noted-requires : goal.take_remembered-own_noted-requires
 take_remembered-own_noted-requires c =
-    let w : World = the_view c.self.inside in
+    let w : SharedValue = the_view c.self.inside in
     let p : Private = c.args.part in
     let k : ℕ = c.args.worker in
-    let I : IsWorld w = c.self.invariant in
-    let F : Fits w k p = subst (λ (z : World). Fits z k p) (sym c.self.view_is) c.requires.fits in
-    let at : IsAtEnd w p = subst (λ (z : World). IsAtEnd z p) (sym c.self.view_is) c.requires.ends in
-    let free : refused w (alone_event k p) ≡ None = subst (λ (z : World). refused z (alone_event k p) ≡ None) (sym c.self.view_is) c.requires.free in
-    let ended : state_of w.tree (sibling p.task) ≡ Some Ended = subst (λ (z : World). state_of z.tree (sibling p.task) ≡ Some Ended) (sym c.self.view_is) c.requires.ended in
-    let par : parent_of w.tree p.task ≡ Some c.args.parent = subst (λ (z : World). parent_of z.tree p.task ≡ Some c.args.parent) (sym c.self.view_is) c.requires.parent in
+    let I : IsSharedValue w = c.self.invariant in
+    let F : Fits w k p = subst (λ (z : SharedValue). Fits z k p) (sym c.self.view_is) c.requires.fits in
+    let at : IsAtEnd w p = subst (λ (z : SharedValue). IsAtEnd z p) (sym c.self.view_is) c.requires.ends in
+    let free : refused w (alone_event k p) ≡ None = subst (λ (z : SharedValue). refused z (alone_event k p) ≡ None) (sym c.self.view_is) c.requires.free in
+    let ended : state_of w.tree (sibling p.task) ≡ Some Ended = subst (λ (z : SharedValue). state_of z.tree (sibling p.task) ≡ Some Ended) (sym c.self.view_is) c.requires.ended in
+    let par : parent_of w.tree p.task ≡ Some c.args.parent = subst (λ (z : SharedValue). parent_of z.tree p.task ≡ Some c.args.parent) (sym c.self.view_is) c.requires.parent in
     record { made = own_set w k p I F at free ended }
 
 pub take_remembered-other_noted-requires : goal.take_remembered-other_noted-requires
 take_remembered-other_noted-requires c =
-    let w : World = the_view c.self.inside in
+    let w : SharedValue = the_view c.self.inside in
     let p : Private = c.args.part in
     let k : ℕ = c.args.worker in
-    let I : IsWorld w = c.self.invariant in
-    let F : Fits w k p = subst (λ (z : World). Fits z k p) (sym c.self.view_is) c.requires.fits in
-    let at : IsAtEnd w p = subst (λ (z : World). IsAtEnd z p) (sym c.self.view_is) c.requires.ends in
-    let free : refused w (alone_event k p) ≡ None = subst (λ (z : World). refused z (alone_event k p) ≡ None) (sym c.self.view_is) c.requires.free in
-    let ended : state_of w.tree (sibling p.task) ≡ Some Ended = subst (λ (z : World). state_of z.tree (sibling p.task) ≡ Some Ended) (sym c.self.view_is) c.requires.ended in
-    let par : parent_of w.tree p.task ≡ Some c.args.parent = subst (λ (z : World). parent_of z.tree p.task ≡ Some c.args.parent) (sym c.self.view_is) c.requires.parent in
+    let I : IsSharedValue w = c.self.invariant in
+    let F : Fits w k p = subst (λ (z : SharedValue). Fits z k p) (sym c.self.view_is) c.requires.fits in
+    let at : IsAtEnd w p = subst (λ (z : SharedValue). IsAtEnd z p) (sym c.self.view_is) c.requires.ends in
+    let free : refused w (alone_event k p) ≡ None = subst (λ (z : SharedValue). refused z (alone_event k p) ≡ None) (sym c.self.view_is) c.requires.free in
+    let ended : state_of w.tree (sibling p.task) ≡ Some Ended = subst (λ (z : SharedValue). state_of z.tree (sibling p.task) ≡ Some Ended) (sym c.self.view_is) c.requires.ended in
+    let par : parent_of w.tree p.task ≡ Some c.args.parent = subst (λ (z : SharedValue). parent_of z.tree p.task ≡ Some c.args.parent) (sym c.self.view_is) c.requires.parent in
     let made = other_set w k p I F at free ended in
     let o = c.sibling_of-other.ensures in
     let n = c.take_remembered-own_noted.ensures.many in
@@ -116,15 +116,15 @@ take_remembered-other_noted-requires c =
 
 pub take_remembered-noted-requires : goal.take_remembered-noted-requires
 take_remembered-noted-requires c =
-    let w : World = the_view c.self.inside in
+    let w : SharedValue = the_view c.self.inside in
     let p : Private = c.args.part in
     let k : ℕ = c.args.worker in
-    let I : IsWorld w = c.self.invariant in
-    let F : Fits w k p = subst (λ (z : World). Fits z k p) (sym c.self.view_is) c.requires.fits in
-    let at : IsAtEnd w p = subst (λ (z : World). IsAtEnd z p) (sym c.self.view_is) c.requires.ends in
-    let free : refused w (alone_event k p) ≡ None = subst (λ (z : World). refused z (alone_event k p) ≡ None) (sym c.self.view_is) c.requires.free in
-    let ended : state_of w.tree (sibling p.task) ≡ Some Ended = subst (λ (z : World). state_of z.tree (sibling p.task) ≡ Some Ended) (sym c.self.view_is) c.requires.ended in
-    let par : parent_of w.tree p.task ≡ Some c.args.parent = subst (λ (z : World). parent_of z.tree p.task ≡ Some c.args.parent) (sym c.self.view_is) c.requires.parent in
+    let I : IsSharedValue w = c.self.invariant in
+    let F : Fits w k p = subst (λ (z : SharedValue). Fits z k p) (sym c.self.view_is) c.requires.fits in
+    let at : IsAtEnd w p = subst (λ (z : SharedValue). IsAtEnd z p) (sym c.self.view_is) c.requires.ends in
+    let free : refused w (alone_event k p) ≡ None = subst (λ (z : SharedValue). refused z (alone_event k p) ≡ None) (sym c.self.view_is) c.requires.free in
+    let ended : state_of w.tree (sibling p.task) ≡ Some Ended = subst (λ (z : SharedValue). state_of z.tree (sibling p.task) ≡ Some Ended) (sym c.self.view_is) c.requires.ended in
+    let par : parent_of w.tree p.task ≡ Some c.args.parent = subst (λ (z : SharedValue). parent_of z.tree p.task ≡ Some c.args.parent) (sym c.self.view_is) c.requires.parent in
     let e = parent_is w k p I F at free ended c.args.parent par in
     let made = parent_set w k p I F at free ended in
     let n = c.take_remembered-own_noted.ensures.many in
@@ -133,30 +133,30 @@ take_remembered-noted-requires c =
 
 pub leave_own-own-requires : goal.leave_own-own-requires
 leave_own-own-requires c =
-    let w : World = the_view c.self.inside in
+    let w : SharedValue = the_view c.self.inside in
     let p : Private = c.args.part in
     let k : ℕ = c.args.worker in
-    let I : IsWorld w = c.self.invariant in
-    let F : Fits w k p = subst (λ (z : World). Fits z k p) (sym c.self.view_is) c.requires.fits in
-    let at : IsAtEnd w p = subst (λ (z : World). IsAtEnd z p) (sym c.self.view_is) c.requires.ends in
-    let free : refused w (alone_event k p) ≡ None = subst (λ (z : World). refused z (alone_event k p) ≡ None) (sym c.self.view_is) c.requires.free in
-    let ended : state_of w.tree (sibling p.task) ≡ Some Ended = subst (λ (z : World). state_of z.tree (sibling p.task) ≡ Some Ended) (sym c.self.view_is) c.requires.ended in
-    let par : parent_of w.tree p.task ≡ Some c.args.parent = subst (λ (z : World). parent_of z.tree p.task ≡ Some c.args.parent) (sym c.self.view_is) c.requires.parent in
+    let I : IsSharedValue w = c.self.invariant in
+    let F : Fits w k p = subst (λ (z : SharedValue). Fits z k p) (sym c.self.view_is) c.requires.fits in
+    let at : IsAtEnd w p = subst (λ (z : SharedValue). IsAtEnd z p) (sym c.self.view_is) c.requires.ends in
+    let free : refused w (alone_event k p) ≡ None = subst (λ (z : SharedValue). refused z (alone_event k p) ≡ None) (sym c.self.view_is) c.requires.free in
+    let ended : state_of w.tree (sibling p.task) ≡ Some Ended = subst (λ (z : SharedValue). state_of z.tree (sibling p.task) ≡ Some Ended) (sym c.self.view_is) c.requires.ended in
+    let par : parent_of w.tree p.task ≡ Some c.args.parent = subst (λ (z : SharedValue). parent_of z.tree p.task ≡ Some c.args.parent) (sym c.self.view_is) c.requires.parent in
     let made = own_made w k p I F at free in
     let n = I.made in
     record { made = omega (arith, made, n) }
 
 pub leave_other-beside-requires : goal.leave_other-beside-requires
 leave_other-beside-requires c =
-    let w : World = the_view c.self.inside in
+    let w : SharedValue = the_view c.self.inside in
     let p : Private = c.args.part in
     let k : ℕ = c.args.worker in
-    let I : IsWorld w = c.self.invariant in
-    let F : Fits w k p = subst (λ (z : World). Fits z k p) (sym c.self.view_is) c.requires.fits in
-    let at : IsAtEnd w p = subst (λ (z : World). IsAtEnd z p) (sym c.self.view_is) c.requires.ends in
-    let free : refused w (alone_event k p) ≡ None = subst (λ (z : World). refused z (alone_event k p) ≡ None) (sym c.self.view_is) c.requires.free in
-    let ended : state_of w.tree (sibling p.task) ≡ Some Ended = subst (λ (z : World). state_of z.tree (sibling p.task) ≡ Some Ended) (sym c.self.view_is) c.requires.ended in
-    let par : parent_of w.tree p.task ≡ Some c.args.parent = subst (λ (z : World). parent_of z.tree p.task ≡ Some c.args.parent) (sym c.self.view_is) c.requires.parent in
+    let I : IsSharedValue w = c.self.invariant in
+    let F : Fits w k p = subst (λ (z : SharedValue). Fits z k p) (sym c.self.view_is) c.requires.fits in
+    let at : IsAtEnd w p = subst (λ (z : SharedValue). IsAtEnd z p) (sym c.self.view_is) c.requires.ends in
+    let free : refused w (alone_event k p) ≡ None = subst (λ (z : SharedValue). refused z (alone_event k p) ≡ None) (sym c.self.view_is) c.requires.free in
+    let ended : state_of w.tree (sibling p.task) ≡ Some Ended = subst (λ (z : SharedValue). state_of z.tree (sibling p.task) ≡ Some Ended) (sym c.self.view_is) c.requires.ended in
+    let par : parent_of w.tree p.task ≡ Some c.args.parent = subst (λ (z : SharedValue). parent_of z.tree p.task ≡ Some c.args.parent) (sym c.self.view_is) c.requires.parent in
     let made = other_made w k p I F at free ended in
     let o = c.sibling_of-other.ensures in
     let n = I.made in
@@ -165,15 +165,15 @@ leave_other-beside-requires c =
 
 pub take_block-above-requires-clause-made : goal.take_block-above-requires-clause-made
 take_block-above-requires-clause-made c =
-    let w : World = the_view c.self.inside in
+    let w : SharedValue = the_view c.self.inside in
     let p : Private = c.args.part in
     let k : ℕ = c.args.worker in
-    let I : IsWorld w = c.self.invariant in
-    let F : Fits w k p = subst (λ (z : World). Fits z k p) (sym c.self.view_is) c.requires.fits in
-    let at : IsAtEnd w p = subst (λ (z : World). IsAtEnd z p) (sym c.self.view_is) c.requires.ends in
-    let free : refused w (alone_event k p) ≡ None = subst (λ (z : World). refused z (alone_event k p) ≡ None) (sym c.self.view_is) c.requires.free in
-    let ended : state_of w.tree (sibling p.task) ≡ Some Ended = subst (λ (z : World). state_of z.tree (sibling p.task) ≡ Some Ended) (sym c.self.view_is) c.requires.ended in
-    let par : parent_of w.tree p.task ≡ Some c.args.parent = subst (λ (z : World). parent_of z.tree p.task ≡ Some c.args.parent) (sym c.self.view_is) c.requires.parent in
+    let I : IsSharedValue w = c.self.invariant in
+    let F : Fits w k p = subst (λ (z : SharedValue). Fits z k p) (sym c.self.view_is) c.requires.fits in
+    let at : IsAtEnd w p = subst (λ (z : SharedValue). IsAtEnd z p) (sym c.self.view_is) c.requires.ends in
+    let free : refused w (alone_event k p) ≡ None = subst (λ (z : SharedValue). refused z (alone_event k p) ≡ None) (sym c.self.view_is) c.requires.free in
+    let ended : state_of w.tree (sibling p.task) ≡ Some Ended = subst (λ (z : SharedValue). state_of z.tree (sibling p.task) ≡ Some Ended) (sym c.self.view_is) c.requires.ended in
+    let par : parent_of w.tree p.task ≡ Some c.args.parent = subst (λ (z : SharedValue). parent_of z.tree p.task ≡ Some c.args.parent) (sym c.self.view_is) c.requires.parent in
     let e = parent_is w k p I F at free ended c.args.parent par in
     let made = parent_made w k p I F at free ended in
     let n = I.made in
@@ -188,15 +188,15 @@ some_calls (Some r) h = refl
 
 pub take_block-above-requires-clause-there : goal.take_block-above-requires-clause-there
 take_block-above-requires-clause-there c =
-    let w : World = the_view c.self.inside in
+    let w : SharedValue = the_view c.self.inside in
     let p : Private = c.args.part in
     let k : ℕ = c.args.worker in
-    let I : IsWorld w = c.self.invariant in
-    let F : Fits w k p = subst (λ (z : World). Fits z k p) (sym c.self.view_is) c.requires.fits in
-    let at : IsAtEnd w p = subst (λ (z : World). IsAtEnd z p) (sym c.self.view_is) c.requires.ends in
-    let free : refused w (alone_event k p) ≡ None = subst (λ (z : World). refused z (alone_event k p) ≡ None) (sym c.self.view_is) c.requires.free in
-    let ended : state_of w.tree (sibling p.task) ≡ Some Ended = subst (λ (z : World). state_of z.tree (sibling p.task) ≡ Some Ended) (sym c.self.view_is) c.requires.ended in
-    let par : parent_of w.tree p.task ≡ Some c.args.parent = subst (λ (z : World). parent_of z.tree p.task ≡ Some c.args.parent) (sym c.self.view_is) c.requires.parent in
+    let I : IsSharedValue w = c.self.invariant in
+    let F : Fits w k p = subst (λ (z : SharedValue). Fits z k p) (sym c.self.view_is) c.requires.fits in
+    let at : IsAtEnd w p = subst (λ (z : SharedValue). IsAtEnd z p) (sym c.self.view_is) c.requires.ends in
+    let free : refused w (alone_event k p) ≡ None = subst (λ (z : SharedValue). refused z (alone_event k p) ≡ None) (sym c.self.view_is) c.requires.free in
+    let ended : state_of w.tree (sibling p.task) ≡ Some Ended = subst (λ (z : SharedValue). state_of z.tree (sibling p.task) ≡ Some Ended) (sym c.self.view_is) c.requires.ended in
+    let par : parent_of w.tree p.task ≡ Some c.args.parent = subst (λ (z : SharedValue). parent_of z.tree p.task ≡ Some c.args.parent) (sym c.self.view_is) c.requires.parent in
     let q : ℕ = entry.q w k p I F at free ended in
     let same : rest_at c.leave_other-beside.new.homes q ≡ rest_at w.homes q =
     c.leave_other-beside.ensures.others q (λ f. entry.parent_other w k p I F at free ended (f ∙ c.sibling_of-other.ensures)) ∙ c.leave_own-own.ensures.others q (entry.parent_apart w k p I F at free ended) in
@@ -205,26 +205,26 @@ take_block-above-requires-clause-there c =
 
 pub join_children-rest-requires-clause-work : goal.join_children-rest-requires-clause-work
 join_children-rest-requires-clause-work c =
-    let w : World = the_view c.self.inside in
+    let w : SharedValue = the_view c.self.inside in
     let p : Private = c.args.part in
     let k : ℕ = c.args.worker in
-    let I : IsWorld w = c.self.invariant in
-    let F : Fits w k p = subst (λ (z : World). Fits z k p) (sym c.self.view_is) c.requires.fits in
-    let at : IsAtEnd w p = subst (λ (z : World). IsAtEnd z p) (sym c.self.view_is) c.requires.ends in
-    let free : refused w (alone_event k p) ≡ None = subst (λ (z : World). refused z (alone_event k p) ≡ None) (sym c.self.view_is) c.requires.free in
-    let ended : state_of w.tree (sibling p.task) ≡ Some Ended = subst (λ (z : World). state_of z.tree (sibling p.task) ≡ Some Ended) (sym c.self.view_is) c.requires.ended in
-    let par : parent_of w.tree p.task ≡ Some c.args.parent = subst (λ (z : World). parent_of z.tree p.task ≡ Some c.args.parent) (sym c.self.view_is) c.requires.parent in
+    let I : IsSharedValue w = c.self.invariant in
+    let F : Fits w k p = subst (λ (z : SharedValue). Fits z k p) (sym c.self.view_is) c.requires.fits in
+    let at : IsAtEnd w p = subst (λ (z : SharedValue). IsAtEnd z p) (sym c.self.view_is) c.requires.ends in
+    let free : refused w (alone_event k p) ≡ None = subst (λ (z : SharedValue). refused z (alone_event k p) ≡ None) (sym c.self.view_is) c.requires.free in
+    let ended : state_of w.tree (sibling p.task) ≡ Some Ended = subst (λ (z : SharedValue). state_of z.tree (sibling p.task) ≡ Some Ended) (sym c.self.view_is) c.requires.ended in
+    let par : parent_of w.tree p.task ≡ Some c.args.parent = subst (λ (z : SharedValue). parent_of z.tree p.task ≡ Some c.args.parent) (sym c.self.view_is) c.requires.parent in
     let e = parent_is w k p I F at free ended c.args.parent par in
-    let places : HasPlaces w p c.args.parent = subst (λ (z : World). HasPlaces z p c.args.parent) (sym c.self.view_is) c.requires.places in
+    let places : HasPlaces w p c.args.parent = subst (λ (z : SharedValue). HasPlaces z p c.args.parent) (sym c.self.view_is) c.requires.places in
     let o : c.sibling_of-other.result ≡ sibling p.task = c.sibling_of-other.ensures in
     let x1 : List SetOf = c.take_remembered-own_noted.new.sets.items in
     let x2 : List SetOf = c.take_remembered-other_noted.new.sets.items in
     let x3 : List SetOf = c.take_remembered-noted.new.sets.items in
     let h1 : List (Option Rest) = c.leave_own-own.new.homes in
     let h2 : List (Option Rest) = c.leave_other-beside.new.homes in
-    let n1 : Notes = c.take_remembered-own_noted.result in
-    let n2 : Notes = c.take_remembered-other_noted.result in
-    let n3 : Notes = c.take_remembered-noted.result in
+    let n1 : RememberedValue = c.take_remembered-own_noted.result in
+    let n2 : RememberedValue = c.take_remembered-other_noted.result in
+    let n3 : RememberedValue = c.take_remembered-noted.result in
     let above : Rest = c.take_block-above.result in
     let left : EndedChild = c.in_order-children.result.0 in
     let right : EndedChild = c.in_order-children.result.1 in
@@ -256,26 +256,26 @@ join_children-rest-requires-clause-work c =
 
 pub join_children-rest-requires-clause-can : goal.join_children-rest-requires-clause-can
 join_children-rest-requires-clause-can c =
-    let w : World = the_view c.self.inside in
+    let w : SharedValue = the_view c.self.inside in
     let p : Private = c.args.part in
     let k : ℕ = c.args.worker in
-    let I : IsWorld w = c.self.invariant in
-    let F : Fits w k p = subst (λ (z : World). Fits z k p) (sym c.self.view_is) c.requires.fits in
-    let at : IsAtEnd w p = subst (λ (z : World). IsAtEnd z p) (sym c.self.view_is) c.requires.ends in
-    let free : refused w (alone_event k p) ≡ None = subst (λ (z : World). refused z (alone_event k p) ≡ None) (sym c.self.view_is) c.requires.free in
-    let ended : state_of w.tree (sibling p.task) ≡ Some Ended = subst (λ (z : World). state_of z.tree (sibling p.task) ≡ Some Ended) (sym c.self.view_is) c.requires.ended in
-    let par : parent_of w.tree p.task ≡ Some c.args.parent = subst (λ (z : World). parent_of z.tree p.task ≡ Some c.args.parent) (sym c.self.view_is) c.requires.parent in
+    let I : IsSharedValue w = c.self.invariant in
+    let F : Fits w k p = subst (λ (z : SharedValue). Fits z k p) (sym c.self.view_is) c.requires.fits in
+    let at : IsAtEnd w p = subst (λ (z : SharedValue). IsAtEnd z p) (sym c.self.view_is) c.requires.ends in
+    let free : refused w (alone_event k p) ≡ None = subst (λ (z : SharedValue). refused z (alone_event k p) ≡ None) (sym c.self.view_is) c.requires.free in
+    let ended : state_of w.tree (sibling p.task) ≡ Some Ended = subst (λ (z : SharedValue). state_of z.tree (sibling p.task) ≡ Some Ended) (sym c.self.view_is) c.requires.ended in
+    let par : parent_of w.tree p.task ≡ Some c.args.parent = subst (λ (z : SharedValue). parent_of z.tree p.task ≡ Some c.args.parent) (sym c.self.view_is) c.requires.parent in
     let e = parent_is w k p I F at free ended c.args.parent par in
-    let places : HasPlaces w p c.args.parent = subst (λ (z : World). HasPlaces z p c.args.parent) (sym c.self.view_is) c.requires.places in
+    let places : HasPlaces w p c.args.parent = subst (λ (z : SharedValue). HasPlaces z p c.args.parent) (sym c.self.view_is) c.requires.places in
     let o : c.sibling_of-other.result ≡ sibling p.task = c.sibling_of-other.ensures in
     let x1 : List SetOf = c.take_remembered-own_noted.new.sets.items in
     let x2 : List SetOf = c.take_remembered-other_noted.new.sets.items in
     let x3 : List SetOf = c.take_remembered-noted.new.sets.items in
     let h1 : List (Option Rest) = c.leave_own-own.new.homes in
     let h2 : List (Option Rest) = c.leave_other-beside.new.homes in
-    let n1 : Notes = c.take_remembered-own_noted.result in
-    let n2 : Notes = c.take_remembered-other_noted.result in
-    let n3 : Notes = c.take_remembered-noted.result in
+    let n1 : RememberedValue = c.take_remembered-own_noted.result in
+    let n2 : RememberedValue = c.take_remembered-other_noted.result in
+    let n3 : RememberedValue = c.take_remembered-noted.result in
     let above : Rest = c.take_block-above.result in
     let left : EndedChild = c.in_order-children.result.0 in
     let right : EndedChild = c.in_order-children.result.1 in
@@ -308,15 +308,15 @@ join_children-rest-requires-clause-can c =
 
 pub set-requires-2 : goal.set-requires-2
 set-requires-2 c =
-    let w : World = the_view c.self.inside in
+    let w : SharedValue = the_view c.self.inside in
     let p : Private = c.args.part in
     let k : ℕ = c.args.worker in
-    let I : IsWorld w = c.self.invariant in
-    let F : Fits w k p = subst (λ (z : World). Fits z k p) (sym c.self.view_is) c.requires.fits in
-    let at : IsAtEnd w p = subst (λ (z : World). IsAtEnd z p) (sym c.self.view_is) c.requires.ends in
-    let free : refused w (alone_event k p) ≡ None = subst (λ (z : World). refused z (alone_event k p) ≡ None) (sym c.self.view_is) c.requires.free in
-    let ended : state_of w.tree (sibling p.task) ≡ Some Ended = subst (λ (z : World). state_of z.tree (sibling p.task) ≡ Some Ended) (sym c.self.view_is) c.requires.ended in
-    let par : parent_of w.tree p.task ≡ Some c.args.parent = subst (λ (z : World). parent_of z.tree p.task ≡ Some c.args.parent) (sym c.self.view_is) c.requires.parent in
+    let I : IsSharedValue w = c.self.invariant in
+    let F : Fits w k p = subst (λ (z : SharedValue). Fits z k p) (sym c.self.view_is) c.requires.fits in
+    let at : IsAtEnd w p = subst (λ (z : SharedValue). IsAtEnd z p) (sym c.self.view_is) c.requires.ends in
+    let free : refused w (alone_event k p) ≡ None = subst (λ (z : SharedValue). refused z (alone_event k p) ≡ None) (sym c.self.view_is) c.requires.free in
+    let ended : state_of w.tree (sibling p.task) ≡ Some Ended = subst (λ (z : SharedValue). state_of z.tree (sibling p.task) ≡ Some Ended) (sym c.self.view_is) c.requires.ended in
+    let par : parent_of w.tree p.task ≡ Some c.args.parent = subst (λ (z : SharedValue). parent_of z.tree p.task ≡ Some c.args.parent) (sym c.self.view_is) c.requires.parent in
     let e = parent_is w k p I F at free ended c.args.parent par in
     let made = parent_made w k p I F at free ended in
     let n = I.made in
@@ -327,15 +327,15 @@ set-requires-2 c =
 
 pub put_remembered-requires-clause-made : goal.put_remembered-requires-clause-made
 put_remembered-requires-clause-made c =
-    let w : World = the_view c.self.inside in
+    let w : SharedValue = the_view c.self.inside in
     let p : Private = c.args.part in
     let k : ℕ = c.args.worker in
-    let I : IsWorld w = c.self.invariant in
-    let F : Fits w k p = subst (λ (z : World). Fits z k p) (sym c.self.view_is) c.requires.fits in
-    let at : IsAtEnd w p = subst (λ (z : World). IsAtEnd z p) (sym c.self.view_is) c.requires.ends in
-    let free : refused w (alone_event k p) ≡ None = subst (λ (z : World). refused z (alone_event k p) ≡ None) (sym c.self.view_is) c.requires.free in
-    let ended : state_of w.tree (sibling p.task) ≡ Some Ended = subst (λ (z : World). state_of z.tree (sibling p.task) ≡ Some Ended) (sym c.self.view_is) c.requires.ended in
-    let par : parent_of w.tree p.task ≡ Some c.args.parent = subst (λ (z : World). parent_of z.tree p.task ≡ Some c.args.parent) (sym c.self.view_is) c.requires.parent in
+    let I : IsSharedValue w = c.self.invariant in
+    let F : Fits w k p = subst (λ (z : SharedValue). Fits z k p) (sym c.self.view_is) c.requires.fits in
+    let at : IsAtEnd w p = subst (λ (z : SharedValue). IsAtEnd z p) (sym c.self.view_is) c.requires.ends in
+    let free : refused w (alone_event k p) ≡ None = subst (λ (z : SharedValue). refused z (alone_event k p) ≡ None) (sym c.self.view_is) c.requires.free in
+    let ended : state_of w.tree (sibling p.task) ≡ Some Ended = subst (λ (z : SharedValue). state_of z.tree (sibling p.task) ≡ Some Ended) (sym c.self.view_is) c.requires.ended in
+    let par : parent_of w.tree p.task ≡ Some c.args.parent = subst (λ (z : SharedValue). parent_of z.tree p.task ≡ Some c.args.parent) (sym c.self.view_is) c.requires.parent in
     let e = parent_is w k p I F at free ended c.args.parent par in
     let made = parent_set w k p I F at free ended in
     let n = c.take_remembered-own_noted.ensures.many in
@@ -345,26 +345,26 @@ put_remembered-requires-clause-made c =
 
 pub invariant_of-self : goal.invariant_of-self
 invariant_of-self c =
-    let w : World = the_view c.self.inside in
+    let w : SharedValue = the_view c.self.inside in
     let p : Private = c.args.part in
     let k : ℕ = c.args.worker in
-    let I : IsWorld w = c.self.invariant in
-    let F : Fits w k p = subst (λ (z : World). Fits z k p) (sym c.self.view_is) c.requires.fits in
-    let at : IsAtEnd w p = subst (λ (z : World). IsAtEnd z p) (sym c.self.view_is) c.requires.ends in
-    let free : refused w (alone_event k p) ≡ None = subst (λ (z : World). refused z (alone_event k p) ≡ None) (sym c.self.view_is) c.requires.free in
-    let ended : state_of w.tree (sibling p.task) ≡ Some Ended = subst (λ (z : World). state_of z.tree (sibling p.task) ≡ Some Ended) (sym c.self.view_is) c.requires.ended in
-    let par : parent_of w.tree p.task ≡ Some c.args.parent = subst (λ (z : World). parent_of z.tree p.task ≡ Some c.args.parent) (sym c.self.view_is) c.requires.parent in
+    let I : IsSharedValue w = c.self.invariant in
+    let F : Fits w k p = subst (λ (z : SharedValue). Fits z k p) (sym c.self.view_is) c.requires.fits in
+    let at : IsAtEnd w p = subst (λ (z : SharedValue). IsAtEnd z p) (sym c.self.view_is) c.requires.ends in
+    let free : refused w (alone_event k p) ≡ None = subst (λ (z : SharedValue). refused z (alone_event k p) ≡ None) (sym c.self.view_is) c.requires.free in
+    let ended : state_of w.tree (sibling p.task) ≡ Some Ended = subst (λ (z : SharedValue). state_of z.tree (sibling p.task) ≡ Some Ended) (sym c.self.view_is) c.requires.ended in
+    let par : parent_of w.tree p.task ≡ Some c.args.parent = subst (λ (z : SharedValue). parent_of z.tree p.task ≡ Some c.args.parent) (sym c.self.view_is) c.requires.parent in
     let e = parent_is w k p I F at free ended c.args.parent par in
-    let places : HasPlaces w p c.args.parent = subst (λ (z : World). HasPlaces z p c.args.parent) (sym c.self.view_is) c.requires.places in
+    let places : HasPlaces w p c.args.parent = subst (λ (z : SharedValue). HasPlaces z p c.args.parent) (sym c.self.view_is) c.requires.places in
     let o : c.sibling_of-other.result ≡ sibling p.task = c.sibling_of-other.ensures in
     let x1 : List SetOf = c.take_remembered-own_noted.new.sets.items in
     let x2 : List SetOf = c.take_remembered-other_noted.new.sets.items in
     let x3 : List SetOf = c.take_remembered-noted.new.sets.items in
     let h1 : List (Option Rest) = c.leave_own-own.new.homes in
     let h2 : List (Option Rest) = c.leave_other-beside.new.homes in
-    let n1 : Notes = c.take_remembered-own_noted.result in
-    let n2 : Notes = c.take_remembered-other_noted.result in
-    let n3 : Notes = c.take_remembered-noted.result in
+    let n1 : RememberedValue = c.take_remembered-own_noted.result in
+    let n2 : RememberedValue = c.take_remembered-other_noted.result in
+    let n3 : RememberedValue = c.take_remembered-noted.result in
     let above : Rest = c.take_block-above.result in
     let left : EndedChild = c.in_order-children.result.0 in
     let right : EndedChild = c.in_order-children.result.1 in
@@ -393,8 +393,8 @@ invariant_of-self c =
       right_is = c.in_order-children.ensures.right;
     } in
     let rest : Rest = c.join_children-rest.result.0 in
-    let noted : Notes = c.join_children-rest.result.1 in
-    let pool : Chunks = c.join_children-rest.new.pool in
+    let noted : RememberedValue = c.join_children-rest.result.1 in
+    let pool : PoolValue = c.join_children-rest.new.pool in
     let sets : List SetOf = c.put_remembered.new.sets.items in
     let homes : List (Option Rest) = c.set-2.new.self in
     let P : Put w p c.args.parent x3 h2 n3 above left right pool rest noted sets homes = record {
@@ -406,35 +406,35 @@ invariant_of-self c =
       at = c.put_remembered.ensures.at;
       others = c.put_remembered.ensures.others;
     } in
-    let j : Space Event = record { items = []; room = w.journal.room - 1 } in
+    let j : RoomyValue EntryValue = record { items = []; room = w.journal.room - 1 } in
     let both = both_made w k p I F at free ended c.args.parent c.sibling_of-other.result par o n1 n2 n3 x1 x2 x3 h1 h2 above c.leave_own-own.result c.leave_other-beside.result left right pool rest noted sets homes j T P in
-    let v : World = record w { pool = pool; sets = sets; steps = w.steps + (p.fresh + 1) } in
+    let v : SharedValue = record w { pool = pool; sets = sets; steps = w.steps + (p.fresh + 1) } in
     let tree : c.join_children-rest.new.tree ≡ joined_nodes (with_state w.tree p.task Ended) c.args.parent left.side.task right.side.task = c.join_children-rest.ensures.tree ∙ ap (λ ns. joined_nodes ns c.args.parent left.side.task right.side.task) c.set_state.ensures in
     let same = four_changed v (joined_nodes (with_state w.tree p.task Ended) c.args.parent left.side.task right.side.task) c.join_children-rest.new.tree homes homes (slice_set w.hands k None) c.set.new.self (entered w k p) _ tree refl c.set.ensures refl in
-    along w k p _ _ c.enter_alone.ensures.steps c.enter_alone.ensures.journal (λ n j. IsWorld (record v { steps = n; tree = c.join_children-rest.new.tree; homes = homes; hands = c.set.new.self; journal = j })) (subst IsWorld (sym same) both.0)
+    along w k p _ _ c.enter_alone.ensures.steps c.enter_alone.ensures.journal (λ n j. IsSharedValue (record v { steps = n; tree = c.join_children-rest.new.tree; homes = homes; hands = c.set.new.self; journal = j })) (subst IsSharedValue (sym same) both.0)
 
 pub returns-clause-joined : goal.returns-clause-joined
 returns-clause-joined c =
-    let w : World = the_view c.self.inside in
+    let w : SharedValue = the_view c.self.inside in
     let p : Private = c.args.part in
     let k : ℕ = c.args.worker in
-    let I : IsWorld w = c.self.invariant in
-    let F : Fits w k p = subst (λ (z : World). Fits z k p) (sym c.self.view_is) c.requires.fits in
-    let at : IsAtEnd w p = subst (λ (z : World). IsAtEnd z p) (sym c.self.view_is) c.requires.ends in
-    let free : refused w (alone_event k p) ≡ None = subst (λ (z : World). refused z (alone_event k p) ≡ None) (sym c.self.view_is) c.requires.free in
-    let ended : state_of w.tree (sibling p.task) ≡ Some Ended = subst (λ (z : World). state_of z.tree (sibling p.task) ≡ Some Ended) (sym c.self.view_is) c.requires.ended in
-    let par : parent_of w.tree p.task ≡ Some c.args.parent = subst (λ (z : World). parent_of z.tree p.task ≡ Some c.args.parent) (sym c.self.view_is) c.requires.parent in
+    let I : IsSharedValue w = c.self.invariant in
+    let F : Fits w k p = subst (λ (z : SharedValue). Fits z k p) (sym c.self.view_is) c.requires.fits in
+    let at : IsAtEnd w p = subst (λ (z : SharedValue). IsAtEnd z p) (sym c.self.view_is) c.requires.ends in
+    let free : refused w (alone_event k p) ≡ None = subst (λ (z : SharedValue). refused z (alone_event k p) ≡ None) (sym c.self.view_is) c.requires.free in
+    let ended : state_of w.tree (sibling p.task) ≡ Some Ended = subst (λ (z : SharedValue). state_of z.tree (sibling p.task) ≡ Some Ended) (sym c.self.view_is) c.requires.ended in
+    let par : parent_of w.tree p.task ≡ Some c.args.parent = subst (λ (z : SharedValue). parent_of z.tree p.task ≡ Some c.args.parent) (sym c.self.view_is) c.requires.parent in
     let e = parent_is w k p I F at free ended c.args.parent par in
-    let places : HasPlaces w p c.args.parent = subst (λ (z : World). HasPlaces z p c.args.parent) (sym c.self.view_is) c.requires.places in
+    let places : HasPlaces w p c.args.parent = subst (λ (z : SharedValue). HasPlaces z p c.args.parent) (sym c.self.view_is) c.requires.places in
     let o : c.sibling_of-other.result ≡ sibling p.task = c.sibling_of-other.ensures in
     let x1 : List SetOf = c.take_remembered-own_noted.new.sets.items in
     let x2 : List SetOf = c.take_remembered-other_noted.new.sets.items in
     let x3 : List SetOf = c.take_remembered-noted.new.sets.items in
     let h1 : List (Option Rest) = c.leave_own-own.new.homes in
     let h2 : List (Option Rest) = c.leave_other-beside.new.homes in
-    let n1 : Notes = c.take_remembered-own_noted.result in
-    let n2 : Notes = c.take_remembered-other_noted.result in
-    let n3 : Notes = c.take_remembered-noted.result in
+    let n1 : RememberedValue = c.take_remembered-own_noted.result in
+    let n2 : RememberedValue = c.take_remembered-other_noted.result in
+    let n3 : RememberedValue = c.take_remembered-noted.result in
     let above : Rest = c.take_block-above.result in
     let left : EndedChild = c.in_order-children.result.0 in
     let right : EndedChild = c.in_order-children.result.1 in
@@ -463,8 +463,8 @@ returns-clause-joined c =
       right_is = c.in_order-children.ensures.right;
     } in
     let rest : Rest = c.join_children-rest.result.0 in
-    let noted : Notes = c.join_children-rest.result.1 in
-    let pool : Chunks = c.join_children-rest.new.pool in
+    let noted : RememberedValue = c.join_children-rest.result.1 in
+    let pool : PoolValue = c.join_children-rest.new.pool in
     let sets : List SetOf = c.put_remembered.new.sets.items in
     let homes : List (Option Rest) = c.set-2.new.self in
     let P : Put w p c.args.parent x3 h2 n3 above left right pool rest noted sets homes = record {
@@ -476,14 +476,14 @@ returns-clause-joined c =
       at = c.put_remembered.ensures.at;
       others = c.put_remembered.ensures.others;
     } in
-    let j : Space Event = record { items = []; room = w.journal.room - 1 } in
+    let j : RoomyValue EntryValue = record { items = []; room = w.journal.room - 1 } in
     let both = both_made w k p I F at free ended c.args.parent c.sibling_of-other.result par o n1 n2 n3 x1 x2 x3 h1 h2 above c.leave_own-own.result c.leave_other-beside.result left right pool rest noted sets homes j T P in
-    let v : World = record w { pool = pool; sets = sets; steps = w.steps + (p.fresh + 1) } in
+    let v : SharedValue = record w { pool = pool; sets = sets; steps = w.steps + (p.fresh + 1) } in
     let tree : c.join_children-rest.new.tree ≡ joined_nodes (with_state w.tree p.task Ended) c.args.parent left.side.task right.side.task = c.join_children-rest.ensures.tree ∙ ap (λ ns. joined_nodes ns c.args.parent left.side.task right.side.task) c.set_state.ensures in
     let same = four_changed v (joined_nodes (with_state w.tree p.task Ended) c.args.parent left.side.task right.side.task) c.join_children-rest.new.tree homes homes (slice_set w.hands k None) c.set.new.self (entered w k p) _ tree refl c.set.ensures refl in
-    subst (λ (z : World). EndsChild z (record v { steps = c.enter_alone.new.steps; tree = c.join_children-rest.new.tree; homes = homes; hands = c.set.new.self; journal = c.enter_alone.new.journal }) k p (Some c.args.parent)) c.self.view_is
+    subst (λ (z : SharedValue). EndsChild z (record v { steps = c.enter_alone.new.steps; tree = c.join_children-rest.new.tree; homes = homes; hands = c.set.new.self; journal = c.enter_alone.new.journal }) k p (Some c.args.parent)) c.self.view_is
     (along w k p _ _ c.enter_alone.ensures.steps c.enter_alone.ensures.journal (λ n j. EndsChild w (record v { steps = n; tree = c.join_children-rest.new.tree; homes = homes; hands = c.set.new.self; journal = j }) k p (Some c.args.parent))
-    (subst (λ (z : World). EndsChild w z k p (Some c.args.parent)) (sym same) both.1))
+    (subst (λ (z : SharedValue). EndsChild w z k p (Some c.args.parent)) (sym same) both.1))
 
 pub returns-clause-hand : goal.returns-clause-hand
-returns-clause-hand c = c.set.ensures ∙ ap (λ (z : World). slice_set z.hands c.args.worker None) c.self.view_is
+returns-clause-hand c = c.set.ensures ∙ ap (λ (z : SharedValue). slice_set z.hands c.args.worker None) c.self.view_is

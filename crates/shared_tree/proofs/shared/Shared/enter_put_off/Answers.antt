@@ -1,10 +1,10 @@
 use Rattle.std.proofs.Common.{◌≡◌, ℕ, ◌-◌, ◌++◌, ◌∷◌, [], None, ap, sym, subst, ◌∙◌}
-use Rattle.listed.specs.Space.{Space}
-use Rattle.run_trace.specs.Entry.{Event}
+use Rattle.listed.specs.RoomyValue.{RoomyValue}
+use Rattle.run_trace.specs.Entry.{EntryValue}
 use Rattle.run_trace.specs.declared.entry.Kind.TheVariants.{PutOff}
 use Rattle.task_machine.specs.declared.part.Private.{Private}
-use Rattle.shared_value.specs.World.{World}
-use Rattle.shared_value.specs.Stands.{IsWorld}
+use Rattle.shared_value.specs.SharedValue.{SharedValue}
+use Rattle.shared_value.specs.Stands.{IsSharedValue}
 use Rattle.shared_value.specs.Fits.{Fits, OthersFit}
 use Rattle.shared_value.specs.Entered.{refused}
 use Rattle.shared_value.proofs.JournalGoesOn.{journal_by}
@@ -13,41 +13,41 @@ use Rattle.shared_tree.specs.contracts.shared.Shared.{the_view}
 use Rattle.shared_tree.proofs.shared.Shared.enter_put_off.Goals as goal
 
 -- the journal with the entry, as the call names the task
-entry_so : (j : Space Event) (k t u : ℕ) → t ≡ u → (x : Event) (j' : Space Event) → x ≡ record { worker = k; kind = PutOff t } → j' ≡ record { items = j.items ++ x ∷ []; room = j.room - 1 }
+entry_so : (j : RoomyValue EntryValue) (k t u : ℕ) → t ≡ u → (x : EntryValue) (j' : RoomyValue EntryValue) → x ≡ record { worker = k; kind = PutOff t } → j' ≡ record { items = j.items ++ x ∷ []; room = j.room - 1 }
     → j' ≡ record { items = j.items ++ record { worker = k; kind = PutOff u } ∷ []; room = j.room - 1 }
 entry_so j k t u same x j' is made = journal_by j j' x (record { worker = k; kind = PutOff u }) (is ∙ ap (λ n. record { worker = k; kind = PutOff n }) same) made
 
 pub invariant_of-self : goal.invariant_of-self
 invariant_of-self c =
-    let w : World = the_view c.self.inside in
+    let w : SharedValue = the_view c.self.inside in
     let p : Private = c.args.part.now in
     let k : ℕ = c.args.worker in
-    let e : Event = record { worker = k; kind = PutOff p.task } in
-    let F : Fits w k p = subst (λ (z : World). Fits z k p) (sym c.self.view_is) c.requires.fits in
-    let free : refused w e ≡ None = subst (λ (z : World). refused z e ≡ None) (sym c.self.view_is) c.requires.free in
-    subst (λ (j : Space Event). IsWorld (record w { journal = j })) (sym (entry_so w.journal k c.args.task p.task c.requires.task c.new.result c.push_reserved.new.self c.new.ensures c.push_reserved.ensures))
+    let e : EntryValue = record { worker = k; kind = PutOff p.task } in
+    let F : Fits w k p = subst (λ (z : SharedValue). Fits z k p) (sym c.self.view_is) c.requires.fits in
+    let free : refused w e ≡ None = subst (λ (z : SharedValue). refused z e ≡ None) (sym c.self.view_is) c.requires.free in
+    subst (λ (j : RoomyValue EntryValue). IsSharedValue (record w { journal = j })) (sym (entry_so w.journal k c.args.task p.task c.requires.task c.new.result c.push_reserved.new.self c.new.ensures c.push_reserved.ensures))
     (put_off_stands w k p F c.requires.fresh c.self.invariant free (record { items = []; room = w.journal.room - 1 }))
 
 pub returns-clause-fits : goal.returns-clause-fits
 returns-clause-fits c =
-    let w : World = the_view c.self.inside in
+    let w : SharedValue = the_view c.self.inside in
     let p : Private = c.args.part.now in
     let k : ℕ = c.args.worker in
-    let e : Event = record { worker = k; kind = PutOff p.task } in
-    let F : Fits w k p = subst (λ (z : World). Fits z k p) (sym c.self.view_is) c.requires.fits in
-    let free : refused w e ≡ None = subst (λ (z : World). refused z e ≡ None) (sym c.self.view_is) c.requires.free in
+    let e : EntryValue = record { worker = k; kind = PutOff p.task } in
+    let F : Fits w k p = subst (λ (z : SharedValue). Fits z k p) (sym c.self.view_is) c.requires.fits in
+    let free : refused w e ≡ None = subst (λ (z : SharedValue). refused z e ≡ None) (sym c.self.view_is) c.requires.free in
     subst (λ (q : Private). Fits (record w { journal = c.push_reserved.new.self }) k q) (sym c.reset_since.ensures.changed)
-    (subst (λ (j : Space Event). Fits (record w { journal = j }) k (record p { heap = reset p.heap })) (sym (entry_so w.journal k c.args.task p.task c.requires.task c.new.result c.push_reserved.new.self c.new.ensures c.push_reserved.ensures))
+    (subst (λ (j : RoomyValue EntryValue). Fits (record w { journal = j }) k (record p { heap = reset p.heap })) (sym (entry_so w.journal k c.args.task p.task c.requires.task c.new.result c.push_reserved.new.self c.new.ensures c.push_reserved.ensures))
     (put_off_fits w k p F c.requires.fresh c.self.invariant free (record { items = []; room = w.journal.room - 1 })))
 
 pub returns-clause-others : goal.returns-clause-others
 returns-clause-others c =
-    let w : World = the_view c.self.inside in
+    let w : SharedValue = the_view c.self.inside in
     let p : Private = c.args.part.now in
     let k : ℕ = c.args.worker in
-    let e : Event = record { worker = k; kind = PutOff p.task } in
-    let F : Fits w k p = subst (λ (z : World). Fits z k p) (sym c.self.view_is) c.requires.fits in
-    let free : refused w e ≡ None = subst (λ (z : World). refused z e ≡ None) (sym c.self.view_is) c.requires.free in
-    subst (λ (z : World). OthersFit z (record w { journal = c.push_reserved.new.self }) k) c.self.view_is
-    (subst (λ (j : Space Event). OthersFit w (record w { journal = j }) k) (sym (entry_so w.journal k c.args.task p.task c.requires.task c.new.result c.push_reserved.new.self c.new.ensures c.push_reserved.ensures))
+    let e : EntryValue = record { worker = k; kind = PutOff p.task } in
+    let F : Fits w k p = subst (λ (z : SharedValue). Fits z k p) (sym c.self.view_is) c.requires.fits in
+    let free : refused w e ≡ None = subst (λ (z : SharedValue). refused z e ≡ None) (sym c.self.view_is) c.requires.free in
+    subst (λ (z : SharedValue). OthersFit z (record w { journal = c.push_reserved.new.self }) k) c.self.view_is
+    (subst (λ (j : RoomyValue EntryValue). OthersFit w (record w { journal = j }) k) (sym (entry_so w.journal k c.args.task p.task c.requires.task c.new.result c.push_reserved.new.self c.new.ensures c.push_reserved.ensures))
     (put_off_apart w k p F c.requires.fresh c.self.invariant free (record { items = []; room = w.journal.room - 1 })))

@@ -1,5 +1,5 @@
 use Rattle.std.proofs.Common.{ap, refl, sym, arith, ◌∙◌}
-use Rattle.shared_value.specs.World.{accounts}
+use Rattle.shared_value.specs.SharedValue.{accounts}
 use Rattle.heap_marking.proofs.PaceKeeps.{keeps_items}
 use Rattle.heap_marking.proofs.PaceOwes.{drop_keeps}
 use Rattle.shared_tree.proofs.shared.Shared.forget.Goals as goal

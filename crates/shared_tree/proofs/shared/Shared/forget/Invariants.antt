@@ -1,6 +1,6 @@
 use Rattle.std.proofs.Common.{◌≤◌}
 use Rattle.run_ledger.specs.declared.data.WorkerPace.{WorkerPace}
-use Rattle.shared_value.specs.World.{accounts}
+use Rattle.shared_value.specs.SharedValue.{accounts}
 use Rattle.heap_marking.specs.Pace.{KeepsPace}
 use Rattle.shared_tree.proofs.shared.Shared.forget.Given as goal
 

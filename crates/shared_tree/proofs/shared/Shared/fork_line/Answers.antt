@@ -2,7 +2,7 @@ use Rattle.std.proofs.Common.{◌≡◌, ℕ, Option, Some, None, ap₂, sym, su
 use Rattle.hh_lang.specs.declared.program.Line.{Line}
 use Rattle.hh_lang.specs.Form.{line_at}
 use Rattle.task_machine.specs.declared.part.Private.{Private}
-use Rattle.shared_value.specs.World.{World}
+use Rattle.shared_value.specs.SharedValue.{SharedValue}
 use Rattle.shared_value.specs.Fits.{Fits}
 use Rattle.shared_value.specs.Entered.{refused}
 use Rattle.shared_value.specs.Next.{next_line}
@@ -20,24 +20,24 @@ none_some line e = cc
 
 pub unreachable-requires : goal.unreachable-requires
 unreachable-requires c =
-    let w : World = the_view c.self.inside in
+    let w : SharedValue = the_view c.self.inside in
     let p : Private = c.args.part.now in
-    let held : MayBeEntered w p = subst (λ (z : World). MayBeEntered z p) (sym c.self.view_is) c.requires.held in
+    let held : MayBeEntered w p = subst (λ (z : SharedValue). MayBeEntered z p) (sym c.self.view_is) c.requires.held in
     let k : ℕ = held.worker in
     let F : Fits w k p = held.fits in
-    let at : IsAtFork w p = subst (λ (z : World). IsAtFork z p) (sym c.self.view_is) c.requires.forks in
+    let at : IsAtFork w p = subst (λ (z : SharedValue). IsAtFork z p) (sym c.self.view_is) c.requires.forks in
     let free : refused w (alone_event k p) ≡ None = held.free in
     let line = some_line w k p c.self.invariant F (fork_shared w p at) (runs_on w k p c.self.invariant F (fork_shared w p at) free) in
     none_some line.0 (sym c.in_default.is ∙ (c.line.ensures ∙ (ap₂ (line_at w.program) c.fun.ensures c.next.ensures ∙ line.1)))
 
 pub unreachable-requires-in_default-instr : goal.unreachable-requires-in_default-instr
 unreachable-requires-in_default-instr c =
-    let w : World = the_view c.self.inside in
+    let w : SharedValue = the_view c.self.inside in
     let p : Private = c.args.part.now in
-    let held : MayBeEntered w p = subst (λ (z : World). MayBeEntered z p) (sym c.self.view_is) c.requires.held in
+    let held : MayBeEntered w p = subst (λ (z : SharedValue). MayBeEntered z p) (sym c.self.view_is) c.requires.held in
     let k : ℕ = held.worker in
     let F : Fits w k p = held.fits in
-    let at : IsAtFork w p = subst (λ (z : World). IsAtFork z p) (sym c.self.view_is) c.requires.forks in
+    let at : IsAtFork w p = subst (λ (z : SharedValue). IsAtFork z p) (sym c.self.view_is) c.requires.forks in
     let free : refused w (alone_event k p) ≡ None = held.free in
     let is : next_line w.program p ≡ Some c.in-Some.line = ap₂ (line_at w.program) (sym c.fun.ensures) (sym c.next.ensures) ∙ (sym c.line.ensures ∙ c.in-Some.is) in
     let par = par_is c.in-Some.line.instr (is_par_line w k p c.self.invariant F at free c.in-Some.line is) in
@@ -45,13 +45,13 @@ unreachable-requires-in_default-instr c =
 
 pub returns : goal.returns
 returns c =
-    let w : World = the_view c.self.inside in
+    let w : SharedValue = the_view c.self.inside in
     let p : Private = c.args.part.now in
-    let held : MayBeEntered w p = subst (λ (z : World). MayBeEntered z p) (sym c.self.view_is) c.requires.held in
+    let held : MayBeEntered w p = subst (λ (z : SharedValue). MayBeEntered z p) (sym c.self.view_is) c.requires.held in
     let k : ℕ = held.worker in
     let F : Fits w k p = held.fits in
-    let at : IsAtFork w p = subst (λ (z : World). IsAtFork z p) (sym c.self.view_is) c.requires.forks in
+    let at : IsAtFork w p = subst (λ (z : SharedValue). IsAtFork z p) (sym c.self.view_is) c.requires.forks in
     let free : refused w (alone_event k p) ≡ None = held.free in
     let is : next_line w.program p ≡ Some c.in-Some.line = ap₂ (line_at w.program) (sym c.fun.ensures) (sym c.next.ensures) ∙ (sym c.line.ensures ∙ c.in-Some.is) in
-    subst (λ (z : World). ForksTo z p c.in-Par.left c.in-Par.right c.in-Some.line.number) c.self.view_is
+    subst (λ (z : SharedValue). ForksTo z p c.in-Par.left c.in-Par.right c.in-Some.line.number) c.self.view_is
     (forks_to w k p c.self.invariant F at free c.in-Some.line c.in-Par.left c.in-Par.right is c.in-Par.is)

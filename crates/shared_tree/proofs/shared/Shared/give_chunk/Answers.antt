@@ -1,18 +1,18 @@
 use Rattle.std.proofs.Common.{◌≡◌, ℕ, ◌+◌, ◌-◌, ◌<◌, ◌≤◌, None, Some, [], inl, inr, Ok, Err, refl, ap, sym, subst, ◌∙◌, Result}
 use Rattle.std.proofs.lemmas.Bool.{cases_lt}
 use Rattle.std.specs.Prelude.{OnErr}
-use Rattle.listed.specs.Space.{Space}
-use Rattle.run_trace.specs.Entry.{Event}
+use Rattle.listed.specs.RoomyValue.{RoomyValue}
+use Rattle.run_trace.specs.Entry.{EntryValue}
 use Rattle.run_trace.specs.declared.entry.Kind.TheVariants.{Chunk}
 use Rattle.run_ledger.specs.declared.data.RunEnd.TheVariants.{Pool as PoolOf}
 use Rattle.run_ledger.specs.Entries.{chunk_units}
 use Rattle.chunk_pool.specs.declared.pool.NotTaken.{NotTaken}
 use Rattle.chunk_pool.specs.declared.pool.NotTaken.TheVariants.{Full}
-use Rattle.chunk_pool.specs.Chunks.{Chunks, units_in_use}
-use Rattle.alloc_path.specs.Heap.{Heap, IsFresh, added, with_places}
+use Rattle.chunk_pool.specs.PoolValue.{PoolValue, units_in_use}
+use Rattle.alloc_path.specs.LeafHeapValue.{LeafHeapValue, IsFresh, added, with_places}
 use Rattle.task_machine.specs.declared.part.Private.{Private}
-use Rattle.shared_value.specs.World.{World}
-use Rattle.shared_value.specs.Stands.{IsWorld}
+use Rattle.shared_value.specs.SharedValue.{SharedValue}
+use Rattle.shared_value.specs.Stands.{IsSharedValue}
 use Rattle.shared_value.specs.Fits.{Fits, OthersFit}
 use Rattle.shared_value.specs.Next.{part_asks}
 use Rattle.shared_value.specs.Entered.{Enters, refused}
@@ -21,7 +21,7 @@ use Rattle.leaf_collections.proofs.ChunkGiven.{given_fresh, given_others, given_
 use Rattle.shared_tree.specs.contracts.shared.Shared.{the_view}
 use Rattle.shared_tree.proofs.shared.Shared.give_chunk.Goals as goal
 
-room_of_space : Space Event → ℕ → Space Event
+room_of_space : RoomyValue EntryValue → ℕ → RoomyValue EntryValue
 room_of_space j n = record { items = []; room = n }
 
 -- not full
@@ -33,42 +33,42 @@ within_by limit used f = elim (cases_lt limit used) [ inl lt ↦ absurd (f lt) |
 
 pub add_spare-requires-clause-fresh : goal.add_spare-requires-clause-fresh
 add_spare-requires-clause-fresh c =
-    let w : World = the_view c.self.inside in
+    let w : SharedValue = the_view c.self.inside in
     let p : Private = c.args.part.now in
     let k : ℕ = c.args.worker in
-    let F : Fits w k p = subst (λ (z : World). Fits z k p) (sym c.self.view_is) c.requires.fits in
-    let free : refused w (record { worker = k; kind = Chunk p.task }) ≡ None = subst (λ (z : World). refused z (record { worker = k; kind = Chunk p.task }) ≡ None) (sym c.self.view_is) c.requires.free in
+    let F : Fits w k p = subst (λ (z : SharedValue). Fits z k p) (sym c.self.view_is) c.requires.fits in
+    let free : refused w (record { worker = k; kind = Chunk p.task }) ≡ None = subst (λ (z : SharedValue). refused z (record { worker = k; kind = Chunk p.task }) ≡ None) (sym c.self.view_is) c.requires.free in
     let sized : c.units_for-units.result ≡ chunk_units (part_asks w.program p) = c.units_for-units.ensures.units ∙ ap chunk_units c.words_asked.ensures.asked in
-    subst (λ (h : Heap). IsFresh h.chunks c.in-Ok.chunk.number) (sym c.make_room.ensures.kept)
+    subst (λ (h : LeafHeapValue). IsFresh h.chunks c.in-Ok.chunk.number) (sym c.make_room.ensures.kept)
     (given_fresh w k p c.self.invariant F c.requires.fresh free c.take.new.self c.in-Ok.chunk c.in-Ok.chunk.number c.units_for-units.result c.in-Ok.ensures.chunk sized
     (within_by w.pool.limit (units_in_use w.pool + c.units_for-units.result) (λ lt. not_full c.in-Ok.chunk (c.in-Ok.ensures.full.1 lt))) c.in-Ok.ensures.taken (record { items = []; room = 0 }))
 
 pub invariant_of-self : goal.invariant_of-self
 invariant_of-self c =
-    let w : World = the_view c.self.inside in
+    let w : SharedValue = the_view c.self.inside in
     let p : Private = c.args.part.now in
     let k : ℕ = c.args.worker in
-    let F : Fits w k p = subst (λ (z : World). Fits z k p) (sym c.self.view_is) c.requires.fits in
-    let e : Event = record { worker = k; kind = Chunk p.task } in
-    let free : refused w e ≡ None = subst (λ (z : World). refused z e ≡ None) (sym c.self.view_is) c.requires.free in
+    let F : Fits w k p = subst (λ (z : SharedValue). Fits z k p) (sym c.self.view_is) c.requires.fits in
+    let e : EntryValue = record { worker = k; kind = Chunk p.task } in
+    let free : refused w e ≡ None = subst (λ (z : SharedValue). refused z e ≡ None) (sym c.self.view_is) c.requires.free in
     let sized : c.units_for-units.result ≡ chunk_units (part_asks w.program p) = c.units_for-units.ensures.units ∙ ap chunk_units c.words_asked.ensures.asked in
-    subst (λ (j : Space Event). IsWorld (record w { pool = c.take.new.self; journal = j })) (sym (journal_by w.journal _ _ e c.new.ensures c.push_reserved.ensures))
+    subst (λ (j : RoomyValue EntryValue). IsSharedValue (record w { pool = c.take.new.self; journal = j })) (sym (journal_by w.journal _ _ e c.new.ensures c.push_reserved.ensures))
     (given_world w k p c.self.invariant F c.requires.fresh free c.take.new.self c.in-Ok.chunk c.in-Ok.chunk.number c.units_for-units.result c.in-Ok.ensures.chunk sized
     (within_by w.pool.limit (units_in_use w.pool + c.units_for-units.result) (λ lt. not_full c.in-Ok.chunk (c.in-Ok.ensures.full.1 lt))) c.in-Ok.ensures.taken (record { items = []; room = w.journal.room - 1 }))
 
 pub returns-in-Ok-clause-fits : goal.returns-in-Ok-clause-fits
 returns-in-Ok-clause-fits c =
-    let w : World = the_view c.self.inside in
+    let w : SharedValue = the_view c.self.inside in
     let p : Private = c.args.part.now in
     let k : ℕ = c.args.worker in
-    let F : Fits w k p = subst (λ (z : World). Fits z k p) (sym c.self.view_is) c.requires.fits in
-    let e : Event = record { worker = k; kind = Chunk p.task } in
-    let free : refused w e ≡ None = subst (λ (z : World). refused z e ≡ None) (sym c.self.view_is) c.requires.free in
+    let F : Fits w k p = subst (λ (z : SharedValue). Fits z k p) (sym c.self.view_is) c.requires.fits in
+    let e : EntryValue = record { worker = k; kind = Chunk p.task } in
+    let free : refused w e ≡ None = subst (λ (z : SharedValue). refused z e ≡ None) (sym c.self.view_is) c.requires.free in
     let sized : c.units_for-units.result ≡ chunk_units (part_asks w.program p) = c.units_for-units.ensures.units ∙ ap chunk_units c.words_asked.ensures.asked in
     let heap : c.add_spare.new.self ≡ with_places (added (with_places p.heap c.make_room.new.self.slots c.make_room.new.self.spare) c.in-Ok.chunk) c.add_spare.new.self.slots c.add_spare.new.self.spare =
-    c.add_spare.ensures.added ∙ ap (λ (h : Heap). with_places (added h c.in-Ok.chunk) c.add_spare.new.self.slots c.add_spare.new.self.spare) c.make_room.ensures.kept in
-    subst (λ (h : Heap). Fits (record w { pool = c.take.new.self; journal = c.push_reserved.new.self }) k (record p { heap = h })) (sym heap)
-    (subst (λ (j : Space Event). Fits (record w { pool = c.take.new.self; journal = j }) k (record p { heap = with_places (added (with_places p.heap c.make_room.new.self.slots c.make_room.new.self.spare) c.in-Ok.chunk) c.add_spare.new.self.slots c.add_spare.new.self.spare }))
+    c.add_spare.ensures.added ∙ ap (λ (h : LeafHeapValue). with_places (added h c.in-Ok.chunk) c.add_spare.new.self.slots c.add_spare.new.self.spare) c.make_room.ensures.kept in
+    subst (λ (h : LeafHeapValue). Fits (record w { pool = c.take.new.self; journal = c.push_reserved.new.self }) k (record p { heap = h })) (sym heap)
+    (subst (λ (j : RoomyValue EntryValue). Fits (record w { pool = c.take.new.self; journal = j }) k (record p { heap = with_places (added (with_places p.heap c.make_room.new.self.slots c.make_room.new.self.spare) c.in-Ok.chunk) c.add_spare.new.self.slots c.add_spare.new.self.spare }))
     (sym (journal_by w.journal _ _ e c.new.ensures c.push_reserved.ensures))
     (given_part w k p c.self.invariant F c.requires.fresh free c.take.new.self c.in-Ok.chunk c.in-Ok.chunk.number c.units_for-units.result c.in-Ok.ensures.chunk sized
     (within_by w.pool.limit (units_in_use w.pool + c.units_for-units.result) (λ lt. not_full c.in-Ok.chunk (c.in-Ok.ensures.full.1 lt))) c.in-Ok.ensures.taken (record { items = []; room = w.journal.room - 1 })
@@ -76,114 +76,114 @@ returns-in-Ok-clause-fits c =
 
 pub returns-in-Ok-clause-others : goal.returns-in-Ok-clause-others
 returns-in-Ok-clause-others c =
-    let w : World = the_view c.self.inside in
+    let w : SharedValue = the_view c.self.inside in
     let p : Private = c.args.part.now in
     let k : ℕ = c.args.worker in
-    let F : Fits w k p = subst (λ (z : World). Fits z k p) (sym c.self.view_is) c.requires.fits in
-    let e : Event = record { worker = k; kind = Chunk p.task } in
-    let free : refused w e ≡ None = subst (λ (z : World). refused z e ≡ None) (sym c.self.view_is) c.requires.free in
+    let F : Fits w k p = subst (λ (z : SharedValue). Fits z k p) (sym c.self.view_is) c.requires.fits in
+    let e : EntryValue = record { worker = k; kind = Chunk p.task } in
+    let free : refused w e ≡ None = subst (λ (z : SharedValue). refused z e ≡ None) (sym c.self.view_is) c.requires.free in
     let sized : c.units_for-units.result ≡ chunk_units (part_asks w.program p) = c.units_for-units.ensures.units ∙ ap chunk_units c.words_asked.ensures.asked in
-    subst (λ (z : World). OthersFit z (record w { pool = c.take.new.self; journal = c.push_reserved.new.self }) k) c.self.view_is
-    (subst (λ (j : Space Event). OthersFit w (record w { pool = c.take.new.self; journal = j }) k) (sym (journal_by w.journal _ _ e c.new.ensures c.push_reserved.ensures))
+    subst (λ (z : SharedValue). OthersFit z (record w { pool = c.take.new.self; journal = c.push_reserved.new.self }) k) c.self.view_is
+    (subst (λ (j : RoomyValue EntryValue). OthersFit w (record w { pool = c.take.new.self; journal = j }) k) (sym (journal_by w.journal _ _ e c.new.ensures c.push_reserved.ensures))
     (given_others w k p c.self.invariant F c.requires.fresh free c.take.new.self c.in-Ok.chunk c.in-Ok.chunk.number c.units_for-units.result c.in-Ok.ensures.chunk sized
     (within_by w.pool.limit (units_in_use w.pool + c.units_for-units.result) (λ lt. not_full c.in-Ok.chunk (c.in-Ok.ensures.full.1 lt))) c.in-Ok.ensures.taken (record { items = []; room = w.journal.room - 1 })))
 
 -- the value where the run ended, by what the code made of it
-pool_same : (w : World) (pool : Chunks) (j j' : Space Event) (n : ℕ) → pool ≡ w.pool → j' ≡ j → n ≡ units_in_use pool → record w { journal = j; end = Some (PoolOf (units_in_use w.pool)) } ≡ record w { pool = pool; journal = j'; end = Some (PoolOf n) }
+pool_same : (w : SharedValue) (pool : PoolValue) (j j' : RoomyValue EntryValue) (n : ℕ) → pool ≡ w.pool → j' ≡ j → n ≡ units_in_use pool → record w { journal = j; end = Some (PoolOf (units_in_use w.pool)) } ≡ record w { pool = pool; journal = j'; end = Some (PoolOf n) }
 pool_same w pool j j' n ep ej en =
     sym (ap (λ m. record w { pool = pool; journal = j'; end = Some (PoolOf m) }) en
-    ∙ (ap (λ (z : Chunks). record w { pool = z; journal = j'; end = Some (PoolOf (units_in_use z)) }) ep ∙ ap (λ (z : Space Event). record w { journal = z; end = Some (PoolOf (units_in_use w.pool)) }) ej))
+    ∙ (ap (λ (z : PoolValue). record w { pool = z; journal = j'; end = Some (PoolOf (units_in_use z)) }) ep ∙ ap (λ (z : RoomyValue EntryValue). record w { journal = z; end = Some (PoolOf (units_in_use w.pool)) }) ej))
 
 pub invariant_of-self-in-Err-Full : goal.invariant_of-self-in-Err-Full
 invariant_of-self-in-Err-Full c =
-    let w : World = the_view c.self.inside in
+    let w : SharedValue = the_view c.self.inside in
     let p : Private = c.args.part.now in
     let k : ℕ = c.args.worker in
-    let F : Fits w k p = subst (λ (z : World). Fits z k p) (sym c.self.view_is) c.requires.fits in
-    let e : Event = record { worker = k; kind = Chunk p.task } in
-    let free : refused w e ≡ None = subst (λ (z : World). refused z e ≡ None) (sym c.self.view_is) c.requires.free in
+    let F : Fits w k p = subst (λ (z : SharedValue). Fits z k p) (sym c.self.view_is) c.requires.fits in
+    let e : EntryValue = record { worker = k; kind = Chunk p.task } in
+    let free : refused w e ≡ None = subst (λ (z : SharedValue). refused z e ≡ None) (sym c.self.view_is) c.requires.free in
     let sized : c.units_for-units.result ≡ chunk_units (part_asks w.program p) = c.units_for-units.ensures.units ∙ ap chunk_units c.words_asked.ensures.asked in
-    subst IsWorld (pool_same w c.take.new.self (record { items = _; room = w.journal.room - 1 }) c.push_reserved-in-Err-Full.new.self c.in_use.result c.in-Err-Full.ensures.err (journal_by w.journal _ _ e c.new-in-Err-Full.ensures c.push_reserved-in-Err-Full.ensures) c.in_use.ensures.units)
+    subst IsSharedValue (pool_same w c.take.new.self (record { items = _; room = w.journal.room - 1 }) c.push_reserved-in-Err-Full.new.self c.in_use.result c.in-Err-Full.ensures.err (journal_by w.journal _ _ e c.new-in-Err-Full.ensures c.push_reserved-in-Err-Full.ensures) c.in_use.ensures.units)
     (pool_world w k p c.self.invariant F c.requires.fresh free c.units_for-units.result sized (c.in-Err-Full.ensures.full.0 (ap (λ (x : NotTaken). Err x) c.in-Err-Full.field-0-is)) (record { items = []; room = w.journal.room - 1 }))
 
 pub returns-in-Err-Full-clause-fits : goal.returns-in-Err-Full-clause-fits
 returns-in-Err-Full-clause-fits c =
-    let w : World = the_view c.self.inside in
+    let w : SharedValue = the_view c.self.inside in
     let p : Private = c.args.part.now in
     let k : ℕ = c.args.worker in
-    let F : Fits w k p = subst (λ (z : World). Fits z k p) (sym c.self.view_is) c.requires.fits in
-    let e : Event = record { worker = k; kind = Chunk p.task } in
-    let free : refused w e ≡ None = subst (λ (z : World). refused z e ≡ None) (sym c.self.view_is) c.requires.free in
+    let F : Fits w k p = subst (λ (z : SharedValue). Fits z k p) (sym c.self.view_is) c.requires.fits in
+    let e : EntryValue = record { worker = k; kind = Chunk p.task } in
+    let free : refused w e ≡ None = subst (λ (z : SharedValue). refused z e ≡ None) (sym c.self.view_is) c.requires.free in
     let sized : c.units_for-units.result ≡ chunk_units (part_asks w.program p) = c.units_for-units.ensures.units ∙ ap chunk_units c.words_asked.ensures.asked in
-    subst (λ (h : Heap). Fits (record w { pool = c.take.new.self; journal = c.push_reserved-in-Err-Full.new.self; end = Some (PoolOf c.in_use.result) }) k (record p { heap = h })) (sym c.make_room.ensures.kept)
-    (subst (λ (z : World). Fits z k (record p { heap = with_places p.heap c.make_room.new.self.slots c.make_room.new.self.spare }))
+    subst (λ (h : LeafHeapValue). Fits (record w { pool = c.take.new.self; journal = c.push_reserved-in-Err-Full.new.self; end = Some (PoolOf c.in_use.result) }) k (record p { heap = h })) (sym c.make_room.ensures.kept)
+    (subst (λ (z : SharedValue). Fits z k (record p { heap = with_places p.heap c.make_room.new.self.slots c.make_room.new.self.spare }))
     (pool_same w c.take.new.self (record { items = _; room = w.journal.room - 1 }) c.push_reserved-in-Err-Full.new.self c.in_use.result c.in-Err-Full.ensures.err (journal_by w.journal _ _ e c.new-in-Err-Full.ensures c.push_reserved-in-Err-Full.ensures) c.in_use.ensures.units)
     (pool_part w k p c.self.invariant F c.requires.fresh free c.units_for-units.result sized (c.in-Err-Full.ensures.full.0 (ap (λ (x : NotTaken). Err x) c.in-Err-Full.field-0-is)) (record { items = []; room = w.journal.room - 1 })
     c.make_room.new.self.slots c.make_room.new.self.spare))
 
 pub returns-in-Err-Full-clause-others : goal.returns-in-Err-Full-clause-others
 returns-in-Err-Full-clause-others c =
-    let w : World = the_view c.self.inside in
+    let w : SharedValue = the_view c.self.inside in
     let p : Private = c.args.part.now in
     let k : ℕ = c.args.worker in
-    let F : Fits w k p = subst (λ (z : World). Fits z k p) (sym c.self.view_is) c.requires.fits in
-    let e : Event = record { worker = k; kind = Chunk p.task } in
-    let free : refused w e ≡ None = subst (λ (z : World). refused z e ≡ None) (sym c.self.view_is) c.requires.free in
+    let F : Fits w k p = subst (λ (z : SharedValue). Fits z k p) (sym c.self.view_is) c.requires.fits in
+    let e : EntryValue = record { worker = k; kind = Chunk p.task } in
+    let free : refused w e ≡ None = subst (λ (z : SharedValue). refused z e ≡ None) (sym c.self.view_is) c.requires.free in
     let sized : c.units_for-units.result ≡ chunk_units (part_asks w.program p) = c.units_for-units.ensures.units ∙ ap chunk_units c.words_asked.ensures.asked in
-    subst (λ (z : World). OthersFit z (record w { pool = c.take.new.self; journal = c.push_reserved-in-Err-Full.new.self; end = Some (PoolOf c.in_use.result) }) k) c.self.view_is
-    (subst (λ (z : World). OthersFit w z k)
+    subst (λ (z : SharedValue). OthersFit z (record w { pool = c.take.new.self; journal = c.push_reserved-in-Err-Full.new.self; end = Some (PoolOf c.in_use.result) }) k) c.self.view_is
+    (subst (λ (z : SharedValue). OthersFit w z k)
     (pool_same w c.take.new.self (record { items = _; room = w.journal.room - 1 }) c.push_reserved-in-Err-Full.new.self c.in_use.result c.in-Err-Full.ensures.err (journal_by w.journal _ _ e c.new-in-Err-Full.ensures c.push_reserved-in-Err-Full.ensures) c.in_use.ensures.units)
     (pool_others w k p c.self.invariant F c.requires.fresh free c.units_for-units.result sized (c.in-Err-Full.ensures.full.0 (ap (λ (x : NotTaken). Err x) c.in-Err-Full.field-0-is)) (record { items = []; room = w.journal.room - 1 })))
 
 pub returns-in-Err-NoMemory-clause-fits : goal.returns-in-Err-NoMemory-clause-fits
 returns-in-Err-NoMemory-clause-fits c =
-    let w : World = the_view c.self.inside in
+    let w : SharedValue = the_view c.self.inside in
     let p : Private = c.args.part.now in
     let k : ℕ = c.args.worker in
-    let F : Fits w k p = subst (λ (z : World). Fits z k p) (sym c.self.view_is) c.requires.fits in
-    subst (λ (z : Chunks). Fits (record w { pool = z }) k (record p { heap = c.make_room.new.self })) (sym c.in-Err-NoMemory.ensures.err)
-    (subst (λ (h : Heap). Fits w k (record p { heap = h })) (sym c.make_room.ensures.kept) (places_fit w k p c.make_room.new.self.slots c.make_room.new.self.spare F))
+    let F : Fits w k p = subst (λ (z : SharedValue). Fits z k p) (sym c.self.view_is) c.requires.fits in
+    subst (λ (z : PoolValue). Fits (record w { pool = z }) k (record p { heap = c.make_room.new.self })) (sym c.in-Err-NoMemory.ensures.err)
+    (subst (λ (h : LeafHeapValue). Fits w k (record p { heap = h })) (sym c.make_room.ensures.kept) (places_fit w k p c.make_room.new.self.slots c.make_room.new.self.spare F))
 
 pub returns-in_err-make_room-clause-fits : goal.returns-in_err-make_room-clause-fits
 returns-in_err-make_room-clause-fits c =
     let p : Private = c.args.part.now in
-    subst (λ (h : Heap). Fits c.args.self.now c.args.worker (record p { heap = h })) (sym c.make_room.ensures.kept)
+    subst (λ (h : LeafHeapValue). Fits c.args.self.now c.args.worker (record p { heap = h })) (sym c.make_room.ensures.kept)
     (places_fit c.args.self.now c.args.worker p c.make_room.new.self.slots c.make_room.new.self.spare c.requires.fits)
 
 pub returns-in-Ok-clause-enters : goal.returns-in-Ok-clause-enters
 returns-in-Ok-clause-enters c =
-    let w : World = the_view c.self.inside in
-    let e : Event = record { worker = c.args.worker; kind = Chunk c.args.part.now.task } in
-    subst (λ (z : World). Enters z (record w { pool = c.take.new.self; journal = c.push_reserved.new.self }) e) c.self.view_is
-    (record { journal = ap (λ (j : Space Event). j.items) (journal_by w.journal _ _ e c.new.ensures c.push_reserved.ensures); program = refl; settings = refl; halted = refl })
+    let w : SharedValue = the_view c.self.inside in
+    let e : EntryValue = record { worker = c.args.worker; kind = Chunk c.args.part.now.task } in
+    subst (λ (z : SharedValue). Enters z (record w { pool = c.take.new.self; journal = c.push_reserved.new.self }) e) c.self.view_is
+    (record { journal = ap (λ (j : RoomyValue EntryValue). j.items) (journal_by w.journal _ _ e c.new.ensures c.push_reserved.ensures); program = refl; settings = refl; halted = refl })
 
 pub returns-in-Err-Full-clause-enters : goal.returns-in-Err-Full-clause-enters
 returns-in-Err-Full-clause-enters c =
-    let w : World = the_view c.self.inside in
-    let e : Event = record { worker = c.args.worker; kind = Chunk c.args.part.now.task } in
-    subst (λ (z : World). Enters z (record w { pool = c.take.new.self; journal = c.push_reserved-in-Err-Full.new.self; end = Some (PoolOf c.in_use.result) }) e) c.self.view_is
-    (record { journal = ap (λ (j : Space Event). j.items) (journal_by w.journal _ _ e c.new-in-Err-Full.ensures c.push_reserved-in-Err-Full.ensures); program = refl; settings = refl; halted = refl })
+    let w : SharedValue = the_view c.self.inside in
+    let e : EntryValue = record { worker = c.args.worker; kind = Chunk c.args.part.now.task } in
+    subst (λ (z : SharedValue). Enters z (record w { pool = c.take.new.self; journal = c.push_reserved-in-Err-Full.new.self; end = Some (PoolOf c.in_use.result) }) e) c.self.view_is
+    (record { journal = ap (λ (j : RoomyValue EntryValue). j.items) (journal_by w.journal _ _ e c.new-in-Err-Full.ensures c.push_reserved-in-Err-Full.ensures); program = refl; settings = refl; halted = refl })
 
 pub returns-in-Err-NoMemory-clause-same : goal.returns-in-Err-NoMemory-clause-same
-returns-in-Err-NoMemory-clause-same c = ap (λ (z : Chunks). record (the_view c.self.inside) { pool = z }) c.in-Err-NoMemory.ensures.err ∙ c.self.view_is
+returns-in-Err-NoMemory-clause-same c = ap (λ (z : PoolValue). record (the_view c.self.inside) { pool = z }) c.in-Err-NoMemory.ensures.err ∙ c.self.view_is
 
 on_err : {A E P : Type 0} (r : Result A E) → P → OnErr r P
 on_err (Ok x) p = tt
 on_err (Err e) p = p
 
 pub invariant_of-self-in-Err-NoMemory : goal.invariant_of-self-in-Err-NoMemory
-invariant_of-self-in-Err-NoMemory c = subst (λ (z : Chunks). IsWorld (record (the_view c.self.inside) { pool = z })) (sym c.in-Err-NoMemory.ensures.err) c.self.invariant
+invariant_of-self-in-Err-NoMemory c = subst (λ (z : PoolValue). IsSharedValue (record (the_view c.self.inside) { pool = z })) (sym c.in-Err-NoMemory.ensures.err) c.self.invariant
 
 pub push_reserved-requires : goal.push_reserved-requires
-push_reserved-requires c = subst (λ (z : World). 0 < z.journal.room) (sym c.self.view_is) c.requires.room
+push_reserved-requires c = subst (λ (z : SharedValue). 0 < z.journal.room) (sym c.self.view_is) c.requires.room
 
 pub push_reserved-requires-in-Err-Full : goal.push_reserved-requires-in-Err-Full
-push_reserved-requires-in-Err-Full c = subst (λ (z : World). 0 < z.journal.room) (sym c.self.view_is) c.requires.room
+push_reserved-requires-in-Err-Full c = subst (λ (z : SharedValue). 0 < z.journal.room) (sym c.self.view_is) c.requires.room
 
 pub returns-in-Err-NoMemory-clause-back : goal.returns-in-Err-NoMemory-clause-back
 returns-in-Err-NoMemory-clause-back c =
     let p : Private = c.args.part.now in
-    ap (λ (h : Heap). record p { heap = h }) c.make_room.ensures.kept
+    ap (λ (h : LeafHeapValue). record p { heap = h }) c.make_room.ensures.kept
 
 pub returns-in-Err-NoMemory-clause-rest : goal.returns-in-Err-NoMemory-clause-rest
 returns-in-Err-NoMemory-clause-rest c = refl
@@ -194,7 +194,7 @@ returns-in-Ok-clause-rest c = refl
 pub returns-in_err-make_room-clause-back : goal.returns-in_err-make_room-clause-back
 returns-in_err-make_room-clause-back c =
     let p : Private = c.args.part.now in
-    on_err c.from_residual.result (ap (λ (h : Heap). record p { heap = h }) c.make_room.ensures.kept)
+    on_err c.from_residual.result (ap (λ (h : LeafHeapValue). record p { heap = h }) c.make_room.ensures.kept)
 
 pub returns-in_err-make_room-clause-same : goal.returns-in_err-make_room-clause-same
 returns-in_err-make_room-clause-same c = on_err c.from_residual.result refl

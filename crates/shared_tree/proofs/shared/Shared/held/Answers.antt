@@ -3,8 +3,8 @@ use Rattle.std.proofs.lemmas.List.Sums.{sum_by-append}
 use Rattle.run_ledger.specs.declared.data.Ledger.{Ledger}
 use Rattle.run_ledger.specs.Heaps.{words_at, words_sum}
 use Rattle.run_ledger.specs.Report.{kept}
-use Rattle.alloc_path.specs.Heap.{counted}
-use Rattle.shared_value.specs.World.{World, accounts}
+use Rattle.alloc_path.specs.LeafHeapValue.{counted}
+use Rattle.shared_value.specs.SharedValue.{SharedValue, accounts}
 use Rattle.heap_reading.specs.HeldNames.{kept_of}
 use Rattle.heap_reading.proofs.KeptNames.{counted_few, counted_more, homes_few, kept_before, kept_homes, kept_more, objects_few, words_few}
 use Rattle.shared_tree.specs.contracts.shared.Shared.{the_view}
@@ -31,19 +31,19 @@ loop-t-preserved c =
 
 pub returns-clause-objects : goal.returns-clause-objects
 returns-clause-objects c =
-    let w : World = the_view c.self.inside in
+    let w : SharedValue = the_view c.self.inside in
     let end : c.loop-t.t ≡ length w.homes = omega arith in
     let is : length (kept_before (accounts w) c.loop-t.t) ≡ length (kept (accounts w)) = ap (λ n. length (kept_before (accounts w) n)) end ∙ ap length (kept_homes w c.self.invariant) in
     c.loop-t.invariant.objects
-    ∙ (ap (λ (z : World). counted (length (kept_before (accounts z) c.loop-t.t))) (sym c.self.view_is)
-    ∙ (ap counted is ∙ (counted_few (length (kept (accounts w))) (objects_few w c.self.invariant) ∙ ap (λ (z : World). length (kept (accounts z))) c.self.view_is)))
+    ∙ (ap (λ (z : SharedValue). counted (length (kept_before (accounts z) c.loop-t.t))) (sym c.self.view_is)
+    ∙ (ap counted is ∙ (counted_few (length (kept (accounts w))) (objects_few w c.self.invariant) ∙ ap (λ (z : SharedValue). length (kept (accounts z))) c.self.view_is)))
 
 pub returns-clause-words : goal.returns-clause-words
 returns-clause-words c =
-    let w : World = the_view c.self.inside in
+    let w : SharedValue = the_view c.self.inside in
     let end : c.loop-t.t ≡ length w.homes = omega arith in
     let is : words_sum (accounts w).machine (kept_before (accounts w) c.loop-t.t) ≡ words_sum (accounts w).machine (kept (accounts w)) =
     ap (λ n. words_sum (accounts w).machine (kept_before (accounts w) n)) end ∙ ap (words_sum (accounts w).machine) (kept_homes w c.self.invariant) in
     c.loop-t.invariant.words
-    ∙ (ap (λ (z : World). counted (words_sum (accounts z).machine (kept_before (accounts z) c.loop-t.t))) (sym c.self.view_is)
-    ∙ (ap counted is ∙ (counted_few (words_sum (accounts w).machine (kept (accounts w))) (words_few w c.self.invariant) ∙ ap (λ (z : World). words_sum (accounts z).machine (kept (accounts z))) c.self.view_is)))
+    ∙ (ap (λ (z : SharedValue). counted (words_sum (accounts z).machine (kept_before (accounts z) c.loop-t.t))) (sym c.self.view_is)
+    ∙ (ap counted is ∙ (counted_few (words_sum (accounts w).machine (kept (accounts w))) (words_few w c.self.invariant) ∙ ap (λ (z : SharedValue). words_sum (accounts z).machine (kept (accounts z))) c.self.view_is)))

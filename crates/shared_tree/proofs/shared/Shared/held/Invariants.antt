@@ -1,7 +1,7 @@
 use Rattle.std.proofs.Common.{◌≡◌, length}
 use Rattle.run_ledger.specs.Heaps.{words_sum}
-use Rattle.alloc_path.specs.Heap.{counted}
-use Rattle.shared_value.specs.World.{accounts}
+use Rattle.alloc_path.specs.LeafHeapValue.{counted}
+use Rattle.shared_value.specs.SharedValue.{accounts}
 use Rattle.heap_reading.proofs.KeptNames.{kept_before}
 use Rattle.shared_tree.proofs.shared.Shared.held.Given as goal
 

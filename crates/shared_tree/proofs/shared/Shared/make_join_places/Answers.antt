@@ -6,8 +6,8 @@ use Rattle.heap_tree.specs.Pairs.{sibling}
 use Rattle.write_barrier.specs.declared.sets.SetOf.{SetOf}
 use Rattle.task_machine.specs.declared.part.Private.{Private}
 use Rattle.shared_value.specs.declared.task_at_rest.Rest.{Rest}
-use Rattle.shared_value.specs.World.{World, rest_at}
-use Rattle.shared_value.specs.Stands.{IsWorld}
+use Rattle.shared_value.specs.SharedValue.{SharedValue, rest_at}
+use Rattle.shared_value.specs.Stands.{IsSharedValue}
 use Rattle.shared_value.specs.Fits.{Fits}
 use Rattle.shared_value.specs.Entered.{refused}
 use Rattle.own_steps.specs.Alone.{alone_event}
@@ -22,16 +22,16 @@ use Rattle.shared_tree.proofs.shared.Shared.make_join_places.Goals as goal
 
 pub make_places-requires : goal.make_places-requires
 make_places-requires c =
-    let w : World = the_view c.self.inside in
+    let w : SharedValue = the_view c.self.inside in
     let p : Private = c.args.part.now in
-    let held : MayBeEntered w p = subst (λ (z : World). MayBeEntered z p) (sym c.self.view_is) c.requires.held in
+    let held : MayBeEntered w p = subst (λ (z : SharedValue). MayBeEntered z p) (sym c.self.view_is) c.requires.held in
     let k : ℕ = held.worker in
-    let I : IsWorld w = c.self.invariant in
+    let I : IsSharedValue w = c.self.invariant in
     let F : Fits w k p = held.fits in
-    let at : IsAtEnd w p = subst (λ (z : World). IsAtEnd z p) (sym c.self.view_is) c.requires.ends in
+    let at : IsAtEnd w p = subst (λ (z : SharedValue). IsAtEnd z p) (sym c.self.view_is) c.requires.ends in
     let free : refused w (alone_event k p) ≡ None = held.free in
-    let ended : state_of w.tree (sibling p.task) ≡ Some Ended = subst (λ (z : World). state_of z.tree (sibling p.task) ≡ Some Ended) (sym c.self.view_is) c.requires.ended in
-    let par : parent_of w.tree p.task ≡ Some c.args.parent = subst (λ (z : World). parent_of z.tree p.task ≡ Some c.args.parent) (sym c.self.view_is) c.requires.parent in
+    let ended : state_of w.tree (sibling p.task) ≡ Some Ended = subst (λ (z : SharedValue). state_of z.tree (sibling p.task) ≡ Some Ended) (sym c.self.view_is) c.requires.ended in
+    let par : parent_of w.tree p.task ≡ Some c.args.parent = subst (λ (z : SharedValue). parent_of z.tree p.task ≡ Some c.args.parent) (sym c.self.view_is) c.requires.parent in
     let e = parent_is w k p I F at free ended c.args.parent par in
     let low = parent_low w k p I F at free in
     let few = few_tasks w k p I F at free in
@@ -49,17 +49,17 @@ make_places-requires c =
 
 pub invariant_of-self : goal.invariant_of-self
 invariant_of-self c =
-    let w : World = the_view c.self.inside in
+    let w : SharedValue = the_view c.self.inside in
     let hs : List (Option Rest) = c.make_places.new.homes in
     let ss : List SetOf = c.make_places.new.sets.items in
     places_world w (record w { homes = hs; sets = ss }) (placed_same w hs ss c.args.parent c.make_places.ensures.many c.make_places.ensures.others c.make_places.ensures.same c.make_places.ensures.many_sets c.make_places.ensures.same_sets) c.self.invariant
 
 pub returns-clause-same : goal.returns-clause-same
 returns-clause-same c =
-    let w : World = the_view c.self.inside in
+    let w : SharedValue = the_view c.self.inside in
     let hs : List (Option Rest) = c.make_places.new.homes in
     let ss : List SetOf = c.make_places.new.sets.items in
-    subst (λ (z : World). SameButPlaces z (record w { homes = hs; sets = ss })) c.self.view_is (placed_same w hs ss c.args.parent c.make_places.ensures.many c.make_places.ensures.others c.make_places.ensures.same c.make_places.ensures.many_sets c.make_places.ensures.same_sets)
+    subst (λ (z : SharedValue). SameButPlaces z (record w { homes = hs; sets = ss })) c.self.view_is (placed_same w hs ss c.args.parent c.make_places.ensures.many c.make_places.ensures.others c.make_places.ensures.same c.make_places.ensures.many_sets c.make_places.ensures.same_sets)
 
 -- where both are so of a call that was done, what follows is so
 both_done : {A E : Type 0} (P Q S : Type 0) (r : Result A E) → (P → Q → S) → OnOk r P → OnOk r Q → OnOk r S
@@ -68,16 +68,16 @@ both_done P Q S (Err e) f p q = tt
 
 pub returns-clause-places : goal.returns-clause-places
 returns-clause-places c =
-    let w : World = the_view c.self.inside in
+    let w : SharedValue = the_view c.self.inside in
     let p : Private = c.args.part.now in
-    let held : MayBeEntered w p = subst (λ (z : World). MayBeEntered z p) (sym c.self.view_is) c.requires.held in
+    let held : MayBeEntered w p = subst (λ (z : SharedValue). MayBeEntered z p) (sym c.self.view_is) c.requires.held in
     let k : ℕ = held.worker in
-    let I : IsWorld w = c.self.invariant in
+    let I : IsSharedValue w = c.self.invariant in
     let F : Fits w k p = held.fits in
-    let at : IsAtEnd w p = subst (λ (z : World). IsAtEnd z p) (sym c.self.view_is) c.requires.ends in
+    let at : IsAtEnd w p = subst (λ (z : SharedValue). IsAtEnd z p) (sym c.self.view_is) c.requires.ends in
     let free : refused w (alone_event k p) ≡ None = held.free in
-    let ended : state_of w.tree (sibling p.task) ≡ Some Ended = subst (λ (z : World). state_of z.tree (sibling p.task) ≡ Some Ended) (sym c.self.view_is) c.requires.ended in
-    let par : parent_of w.tree p.task ≡ Some c.args.parent = subst (λ (z : World). parent_of z.tree p.task ≡ Some c.args.parent) (sym c.self.view_is) c.requires.parent in
+    let ended : state_of w.tree (sibling p.task) ≡ Some Ended = subst (λ (z : SharedValue). state_of z.tree (sibling p.task) ≡ Some Ended) (sym c.self.view_is) c.requires.ended in
+    let par : parent_of w.tree p.task ≡ Some c.args.parent = subst (λ (z : SharedValue). parent_of z.tree p.task ≡ Some c.args.parent) (sym c.self.view_is) c.requires.parent in
     let e = parent_is w k p I F at free ended c.args.parent par in
     let hs : List (Option Rest) = c.make_places.new.homes in
     let ss : List SetOf = c.make_places.new.sets.items in

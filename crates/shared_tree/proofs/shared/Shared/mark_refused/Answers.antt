@@ -1,12 +1,12 @@
 use Rattle.std.proofs.Common.{◌≡◌, ℕ, true, false, List, is_some, ap, sym, subst, ◌∙◌}
 use Rattle.run_trace.specs.declared.entry.Kind.TheVariants.{Mark}
 use Rattle.run_ledger.specs.Heaps.{heap_of, words_in}
-use Rattle.alloc_path.specs.Heap.{counted}
+use Rattle.alloc_path.specs.LeafHeapValue.{counted}
 use Rattle.write_barrier.specs.declared.sets.SetOf.{SetOf}
 use Rattle.shared_value.specs.Causes.{first_cause}
 use Rattle.shared_value.specs.Entered.{refused}
-use Rattle.shared_value.specs.World.{World, accounts, marks_at}
-use Rattle.shared_value.specs.Stands.{IsWorld}
+use Rattle.shared_value.specs.SharedValue.{SharedValue, accounts, marks_at}
+use Rattle.shared_value.specs.Stands.{IsSharedValue}
 use Rattle.leaf_collections.proofs.WhyNoChunk.{first_answer}
 use Rattle.heap_marking.specs.MarkCauses.{waiting_cause, waiting_cause_in, words_cause}
 use Rattle.heap_marking.proofs.MarkEntries.{mark_as_marking, mark_as_waiting, mark_as_words}
@@ -15,53 +15,53 @@ use Rattle.shared_tree.proofs.shared.Shared.mark_refused.Goals as goal
 
 pub returns-then-is_some : goal.returns-then-is_some
 returns-then-is_some c =
-    let z : World = c.args.self.now in
+    let z : SharedValue = c.args.self.now in
     let k : ℕ = c.args.worker in
     let t : ℕ = c.args.t in
-    let I : IsWorld z = subst IsWorld c.self.view_is c.self.invariant in
-    let w : World = the_view c.self.inside in
+    let I : IsSharedValue z = subst IsSharedValue c.self.view_is c.self.invariant in
+    let w : SharedValue = the_view c.self.inside in
     let some : is_some (first_cause w.end w.steps w.settings k false) ≡ true = ap is_some (sym c.first_cause-first.ensures) ∙ (sym c.is_some.ensures ∙ c.if-is_some.true) in
     c.first_cause-first.ensures
-    ∙ subst (λ (y : World). first_cause w.end w.steps w.settings k false ≡ refused y (record { worker = k; kind = Mark t })) c.self.view_is (sym (first_answer w c.self.invariant (record { worker = k; kind = Mark t }) some))
+    ∙ subst (λ (y : SharedValue). first_cause w.end w.steps w.settings k false ≡ refused y (record { worker = k; kind = Mark t })) c.self.view_is (sym (first_answer w c.self.invariant (record { worker = k; kind = Mark t }) some))
 
 pub returns-then-is_some-2 : goal.returns-then-is_some-2
 returns-then-is_some-2 c =
-    let z : World = c.args.self.now in
+    let z : SharedValue = c.args.self.now in
     let k : ℕ = c.args.worker in
     let t : ℕ = c.args.t in
-    let I : IsWorld z = subst IsWorld c.self.view_is c.self.invariant in
+    let I : IsSharedValue z = subst IsSharedValue c.self.view_is c.self.invariant in
     let first : is_some (first_cause z.end z.steps z.settings k false) ≡ false =
-    ap (λ (y : World). is_some (first_cause y.end y.steps y.settings k false)) (sym c.self.view_is) ∙ (ap is_some (sym c.first_cause-first.ensures) ∙ (sym c.is_some.ensures ∙ c.if-is_some.false)) in
+    ap (λ (y : SharedValue). is_some (first_cause y.end y.steps y.settings k false)) (sym c.self.view_is) ∙ (ap is_some (sym c.first_cause-first.ensures) ∙ (sym c.is_some.ensures ∙ c.if-is_some.false)) in
     let waiting : c.waiting_cause-waiting.result ≡ waiting_cause z t =
-    c.waiting_cause-waiting.ensures ∙ (ap (λ (xs : List SetOf). waiting_cause_in c.self.inside.tree xs t) c.deref.ensures.value ∙ ap (λ (y : World). waiting_cause y t) c.self.view_is) in
+    c.waiting_cause-waiting.ensures ∙ (ap (λ (xs : List SetOf). waiting_cause_in c.self.inside.tree xs t) c.deref.ensures.value ∙ ap (λ (y : SharedValue). waiting_cause y t) c.self.view_is) in
     mark_as_waiting z I k t c.waiting_cause-waiting.result first waiting (sym c.is_some-2.ensures ∙ c.if-is_some-2.true)
 
 pub returns-then-is_marking : goal.returns-then-is_marking
 returns-then-is_marking c =
-    let z : World = c.args.self.now in
+    let z : SharedValue = c.args.self.now in
     let k : ℕ = c.args.worker in
     let t : ℕ = c.args.t in
-    let I : IsWorld z = subst IsWorld c.self.view_is c.self.invariant in
+    let I : IsSharedValue z = subst IsSharedValue c.self.view_is c.self.invariant in
     let first : is_some (first_cause z.end z.steps z.settings k false) ≡ false =
-    ap (λ (y : World). is_some (first_cause y.end y.steps y.settings k false)) (sym c.self.view_is) ∙ (ap is_some (sym c.first_cause-first.ensures) ∙ (sym c.is_some.ensures ∙ c.if-is_some.false)) in
+    ap (λ (y : SharedValue). is_some (first_cause y.end y.steps y.settings k false)) (sym c.self.view_is) ∙ (ap is_some (sym c.first_cause-first.ensures) ∙ (sym c.is_some.ensures ∙ c.if-is_some.false)) in
     let waiting : c.waiting_cause-waiting.result ≡ waiting_cause z t =
-    c.waiting_cause-waiting.ensures ∙ (ap (λ (xs : List SetOf). waiting_cause_in c.self.inside.tree xs t) c.deref.ensures.value ∙ ap (λ (y : World). waiting_cause y t) c.self.view_is) in
-    let marks : is_some (marks_at z.marks t) ≡ c.is_marking.result = ap (λ (y : World). is_some (marks_at y.marks t)) (sym c.self.view_is) ∙ sym c.is_marking.ensures in
+    c.waiting_cause-waiting.ensures ∙ (ap (λ (xs : List SetOf). waiting_cause_in c.self.inside.tree xs t) c.deref.ensures.value ∙ ap (λ (y : SharedValue). waiting_cause y t) c.self.view_is) in
+    let marks : is_some (marks_at z.marks t) ≡ c.is_marking.result = ap (λ (y : SharedValue). is_some (marks_at y.marks t)) (sym c.self.view_is) ∙ sym c.is_marking.ensures in
     mark_as_marking z I k t c.waiting_cause-waiting.result first waiting (sym c.is_some-2.ensures ∙ c.if-is_some-2.false) (marks ∙ c.if-is_marking.true)
 
 pub returns : goal.returns
 returns c =
-    let z : World = c.args.self.now in
+    let z : SharedValue = c.args.self.now in
     let k : ℕ = c.args.worker in
     let t : ℕ = c.args.t in
-    let I : IsWorld z = subst IsWorld c.self.view_is c.self.invariant in
+    let I : IsSharedValue z = subst IsSharedValue c.self.view_is c.self.invariant in
     let first : is_some (first_cause z.end z.steps z.settings k false) ≡ false =
-    ap (λ (y : World). is_some (first_cause y.end y.steps y.settings k false)) (sym c.self.view_is) ∙ (ap is_some (sym c.first_cause-first.ensures) ∙ (sym c.is_some.ensures ∙ c.if-is_some.false)) in
+    ap (λ (y : SharedValue). is_some (first_cause y.end y.steps y.settings k false)) (sym c.self.view_is) ∙ (ap is_some (sym c.first_cause-first.ensures) ∙ (sym c.is_some.ensures ∙ c.if-is_some.false)) in
     let waiting : c.waiting_cause-waiting.result ≡ waiting_cause z t =
-    c.waiting_cause-waiting.ensures ∙ (ap (λ (xs : List SetOf). waiting_cause_in c.self.inside.tree xs t) c.deref.ensures.value ∙ ap (λ (y : World). waiting_cause y t) c.self.view_is) in
-    let marks : is_some (marks_at z.marks t) ≡ c.is_marking.result = ap (λ (y : World). is_some (marks_at y.marks t)) (sym c.self.view_is) ∙ sym c.is_marking.ensures in
+    c.waiting_cause-waiting.ensures ∙ (ap (λ (xs : List SetOf). waiting_cause_in c.self.inside.tree xs t) c.deref.ensures.value ∙ ap (λ (y : SharedValue). waiting_cause y t) c.self.view_is) in
+    let marks : is_some (marks_at z.marks t) ≡ c.is_marking.result = ap (λ (y : SharedValue). is_some (marks_at y.marks t)) (sym c.self.view_is) ∙ sym c.is_marking.ensures in
     let words : ℕ = counted (words_in (accounts z).machine (heap_of (accounts z) t)) in
     c.words_cause.ensures
     ∙ (ap (words_cause c.self.inside.settings) c.words_at.ensures
-    ∙ (ap (λ (y : World). words_cause y.settings words) c.self.view_is
+    ∙ (ap (λ (y : SharedValue). words_cause y.settings words) c.self.view_is
     ∙ mark_as_words z I k t c.waiting_cause-waiting.result first waiting (sym c.is_some-2.ensures ∙ c.if-is_some-2.false) (marks ∙ c.if-is_marking.false)))

@@ -5,12 +5,12 @@ use Rattle.run_ledger.specs.Heaps.{heap_of}
 use Rattle.object_layout.specs.Graph.{IsHeld}
 use Rattle.remembered_set.specs.Moved.{AreFields}
 use Rattle.write_barrier.specs.declared.sets.SetOf.{SetOf}
-use Rattle.inner_mark_gc.specs.Marks.{Marks}
+use Rattle.inner_mark_gc.specs.MarkingValue.{MarkingValue}
 use Rattle.core_relation.specs.Marking.{GoesOn}
 use Rattle.shared_value.specs.declared.task_at_rest.Rest.{Rest}
 use Rattle.shared_value.specs.RestingHeaps.{refs_in}
 use Rattle.shared_value.specs.Roots.{heaps_of, sources_of}
-use Rattle.shared_value.specs.World.{World, accounts, rest_at, value_of}
+use Rattle.shared_value.specs.SharedValue.{SharedValue, accounts, rest_at, value_of}
 use Rattle.shared_value.proofs.EntryMade.{entry_on}
 use Rattle.heap_marking.specs.MarkCauses.{waiting_cause}
 use Rattle.heap_marking.specs.Starts.{IsBegun, starts_in}
@@ -21,11 +21,11 @@ use Rattle.shared_tree.proofs.shared.Shared.marking_of.Goals as goal
 
 pub begin_marking-requires : goal.begin_marking-requires
 begin_marking-requires c =
-    let w : World = the_view c.self.inside in
+    let w : SharedValue = the_view c.self.inside in
     let k : ℕ = c.requires.free.0 in
     let t : ℕ = c.args.t in
-    let free : waiting_cause w t ≡ None = ap (λ (z : World). waiting_cause z t) c.self.view_is ∙ mark_waits c.args.self.now c.stands.ensures k t c.requires.free.1 in
-    let on : (accounts w).end ≡ None = ap (λ (z : World). (accounts z).end) c.self.view_is ∙ entry_on c.args.self.now (record { worker = k; kind = Mark t }) c.requires.free.1 in
+    let free : waiting_cause w t ≡ None = ap (λ (z : SharedValue). waiting_cause z t) c.self.view_is ∙ mark_waits c.args.self.now c.stands.ensures k t c.requires.free.1 in
+    let on : (accounts w).end ≡ None = ap (λ (z : SharedValue). (accounts z).end) c.self.view_is ∙ entry_on c.args.self.now (record { worker = k; kind = Mark t }) c.requires.free.1 in
     let sets : c.deref.result.now ≡ w.sets = c.deref.ensures.value in
     record {
       there = ap is_some (rest w c.self.invariant on t free).1;
@@ -40,23 +40,23 @@ done P S (Err e) f p = p
 
 pub returns-clause-none : goal.returns-clause-none
 returns-clause-none c =
-    let w : World = the_view c.self.inside in
+    let w : SharedValue = the_view c.self.inside in
     let k : ℕ = c.requires.free.0 in
     let t : ℕ = c.args.t in
-    let free : waiting_cause w t ≡ None = ap (λ (z : World). waiting_cause z t) c.self.view_is ∙ mark_waits c.args.self.now c.stands.ensures k t c.requires.free.1 in
-    let on : (accounts w).end ≡ None = ap (λ (z : World). (accounts z).end) c.self.view_is ∙ entry_on c.args.self.now (record { worker = k; kind = Mark t }) c.requires.free.1 in
-    done (λ (m : Marks). IfSome (rest_at w.homes t) (λ (r : Rest). IsBegun r.heap.chunks (starts_in (heaps_of w) (sources_of (slice_get c.deref.result.now t)) r) m)) (λ m. m.marked ≡ 0) c.begin_marking.result
+    let free : waiting_cause w t ≡ None = ap (λ (z : SharedValue). waiting_cause z t) c.self.view_is ∙ mark_waits c.args.self.now c.stands.ensures k t c.requires.free.1 in
+    let on : (accounts w).end ≡ None = ap (λ (z : SharedValue). (accounts z).end) c.self.view_is ∙ entry_on c.args.self.now (record { worker = k; kind = Mark t }) c.requires.free.1 in
+    done (λ (m : MarkingValue). IfSome (rest_at w.homes t) (λ (r : Rest). IsBegun r.heap.chunks (starts_in (heaps_of w) (sources_of (slice_get c.deref.result.now t)) r) m)) (λ m. m.marked ≡ 0) c.begin_marking.result
     (λ m B. (mark_begun w c.self.invariant t on free m (subst (λ (xs : List SetOf). IfSome (rest_at w.homes t) (λ (r : Rest). IsBegun r.heap.chunks (starts_in (heaps_of w) (sources_of (slice_get xs t)) r) m)) c.deref.ensures.value B)).0)
     c.begin_marking.ensures.begun
 
 pub returns-clause-goes : goal.returns-clause-goes
 returns-clause-goes c =
-    let w : World = the_view c.self.inside in
+    let w : SharedValue = the_view c.self.inside in
     let k : ℕ = c.requires.free.0 in
     let t : ℕ = c.args.t in
-    let free : waiting_cause w t ≡ None = ap (λ (z : World). waiting_cause z t) c.self.view_is ∙ mark_waits c.args.self.now c.stands.ensures k t c.requires.free.1 in
-    let on : (accounts w).end ≡ None = ap (λ (z : World). (accounts z).end) c.self.view_is ∙ entry_on c.args.self.now (record { worker = k; kind = Mark t }) c.requires.free.1 in
-    subst (λ (z : World). IfOk c.begin_marking.result (λ m. GoesOn (value_of z) t (heap_of (accounts z) t).snapshot m)) c.self.view_is
-    (done (λ (m : Marks). IfSome (rest_at w.homes t) (λ (r : Rest). IsBegun r.heap.chunks (starts_in (heaps_of w) (sources_of (slice_get c.deref.result.now t)) r) m)) (λ m. GoesOn (value_of w) t (heap_of (accounts w) t).snapshot m) c.begin_marking.result
+    let free : waiting_cause w t ≡ None = ap (λ (z : SharedValue). waiting_cause z t) c.self.view_is ∙ mark_waits c.args.self.now c.stands.ensures k t c.requires.free.1 in
+    let on : (accounts w).end ≡ None = ap (λ (z : SharedValue). (accounts z).end) c.self.view_is ∙ entry_on c.args.self.now (record { worker = k; kind = Mark t }) c.requires.free.1 in
+    subst (λ (z : SharedValue). IfOk c.begin_marking.result (λ m. GoesOn (value_of z) t (heap_of (accounts z) t).snapshot m)) c.self.view_is
+    (done (λ (m : MarkingValue). IfSome (rest_at w.homes t) (λ (r : Rest). IsBegun r.heap.chunks (starts_in (heaps_of w) (sources_of (slice_get c.deref.result.now t)) r) m)) (λ m. GoesOn (value_of w) t (heap_of (accounts w) t).snapshot m) c.begin_marking.result
     (λ m B. (mark_begun w c.self.invariant t on free m (subst (λ (xs : List SetOf). IfSome (rest_at w.homes t) (λ (r : Rest). IsBegun r.heap.chunks (starts_in (heaps_of w) (sources_of (slice_get xs t)) r) m)) c.deref.ensures.value B)).1)
     c.begin_marking.ensures.begun)

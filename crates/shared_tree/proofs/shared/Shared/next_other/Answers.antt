@@ -2,7 +2,7 @@ use Rattle.std.proofs.Common.{◌≡◌, ℕ, Option, Some, None, ap, ap₂, sym
 use Rattle.std.proofs.lemmas.Option.{same_Some}
 use Rattle.hh_lang.specs.Form.{line_at}
 use Rattle.task_machine.specs.declared.part.Private.{Private}
-use Rattle.shared_value.specs.World.{World, accounts}
+use Rattle.shared_value.specs.SharedValue.{SharedValue, accounts}
 use Rattle.shared_value.specs.Fits.{Fits}
 use Rattle.shared_value.specs.Entered.{refused}
 use Rattle.shared_value.specs.Next.{next_line}
@@ -21,101 +21,101 @@ none_some e = cc
 
 pub unreachable-requires : goal.unreachable-requires
 unreachable-requires c =
-    let w : World = the_view c.self.inside in
+    let w : SharedValue = the_view c.self.inside in
     let p : Private = c.args.part.now in
-    let held : MayBeEntered w p = subst (λ (z : World). MayBeEntered z p) (sym c.self.view_is) c.requires.held in
+    let held : MayBeEntered w p = subst (λ (z : SharedValue). MayBeEntered z p) (sym c.self.view_is) c.requires.held in
     let k : ℕ = held.worker in
     let F : Fits w k p = held.fits in
-    let shared : IsShared w p = subst (λ (z : World). IsShared z p) (sym c.self.view_is) c.requires.shared in
+    let shared : IsShared w p = subst (λ (z : SharedValue). IsShared z p) (sym c.self.view_is) c.requires.shared in
     let free : refused w (alone_event k p) ≡ None = held.free in
     let on : (accounts w).end ≡ None = runs_on w k p c.self.invariant F shared free in
-    let other : IsOther w p = subst (λ (z : World). IsOther z p) (sym c.self.view_is) c.requires.other in
+    let other : IsOther w p = subst (λ (z : SharedValue). IsOther z p) (sym c.self.view_is) c.requires.other in
     let it = some_line w k p c.self.invariant F shared on in
     none_some (sym c.in_default.is ∙ (c.line.ensures ∙ (ap₂ (line_at w.program) c.fun.ensures c.next.ensures ∙ it.1)))
 
 pub unreachable-requires-in_default-named : goal.unreachable-requires-in_default-named
 unreachable-requires-in_default-named c =
-    let w : World = the_view c.self.inside in
+    let w : SharedValue = the_view c.self.inside in
     let p : Private = c.args.part.now in
-    let held : MayBeEntered w p = subst (λ (z : World). MayBeEntered z p) (sym c.self.view_is) c.requires.held in
+    let held : MayBeEntered w p = subst (λ (z : SharedValue). MayBeEntered z p) (sym c.self.view_is) c.requires.held in
     let k : ℕ = held.worker in
     let F : Fits w k p = held.fits in
-    let shared : IsShared w p = subst (λ (z : World). IsShared z p) (sym c.self.view_is) c.requires.shared in
+    let shared : IsShared w p = subst (λ (z : SharedValue). IsShared z p) (sym c.self.view_is) c.requires.shared in
     let free : refused w (alone_event k p) ≡ None = held.free in
     let on : (accounts w).end ≡ None = runs_on w k p c.self.invariant F shared free in
-    let other : IsOther w p = subst (λ (z : World). IsOther z p) (sym c.self.view_is) c.requires.other in
+    let other : IsOther w p = subst (λ (z : SharedValue). IsOther z p) (sym c.self.view_is) c.requires.other in
     let next : next_line w.program p ≡ Some c.in-Some.line = ap₂ (line_at w.program) (sym c.fun.ensures) (sym c.next.ensures) ∙ (sym c.line.ensures ∙ c.in-Some.is) in
     none_some (sym c.in_default-named.is ∙ (c.named.ensures ∙ lines.named w k p c.self.invariant F shared other on c.in-Some.line next))
 
 pub owner-owner-requires : goal.owner-owner-requires
 owner-owner-requires c =
-    let w : World = the_view c.self.inside in
+    let w : SharedValue = the_view c.self.inside in
     let p : Private = c.args.part.now in
-    let held : MayBeEntered w p = subst (λ (z : World). MayBeEntered z p) (sym c.self.view_is) c.requires.held in
+    let held : MayBeEntered w p = subst (λ (z : SharedValue). MayBeEntered z p) (sym c.self.view_is) c.requires.held in
     let k : ℕ = held.worker in
     let F : Fits w k p = held.fits in
-    let shared : IsShared w p = subst (λ (z : World). IsShared z p) (sym c.self.view_is) c.requires.shared in
+    let shared : IsShared w p = subst (λ (z : SharedValue). IsShared z p) (sym c.self.view_is) c.requires.shared in
     let free : refused w (alone_event k p) ≡ None = held.free in
     let on : (accounts w).end ≡ None = runs_on w k p c.self.invariant F shared free in
-    let other : IsOther w p = subst (λ (z : World). IsOther z p) (sym c.self.view_is) c.requires.other in
+    let other : IsOther w p = subst (λ (z : SharedValue). IsOther z p) (sym c.self.view_is) c.requires.other in
     let next : next_line w.program p ≡ Some c.in-Some.line = ap₂ (line_at w.program) (sym c.fun.ensures) (sym c.next.ensures) ∙ (sym c.line.ensures ∙ c.in-Some.is) in
     lines.used_there w k p c.self.invariant F shared other on c.in-Some.line next c.in-Some-named.object (sym c.named.ensures ∙ c.in-Some-named.is)
 
 pub at-requires : goal.at-requires
 at-requires c =
-    let w : World = the_view c.self.inside in
+    let w : SharedValue = the_view c.self.inside in
     let p : Private = c.args.part.now in
-    let held : MayBeEntered w p = subst (λ (z : World). MayBeEntered z p) (sym c.self.view_is) c.requires.held in
+    let held : MayBeEntered w p = subst (λ (z : SharedValue). MayBeEntered z p) (sym c.self.view_is) c.requires.held in
     let k : ℕ = held.worker in
     let F : Fits w k p = held.fits in
-    let shared : IsShared w p = subst (λ (z : World). IsShared z p) (sym c.self.view_is) c.requires.shared in
+    let shared : IsShared w p = subst (λ (z : SharedValue). IsShared z p) (sym c.self.view_is) c.requires.shared in
     let free : refused w (alone_event k p) ≡ None = held.free in
     let on : (accounts w).end ≡ None = runs_on w k p c.self.invariant F shared free in
-    let other : IsOther w p = subst (λ (z : World). IsOther z p) (sym c.self.view_is) c.requires.other in
+    let other : IsOther w p = subst (λ (z : SharedValue). IsOther z p) (sym c.self.view_is) c.requires.other in
     let next : next_line w.program p ≡ Some c.in-Some.line = ap₂ (line_at w.program) (sym c.fun.ensures) (sym c.next.ensures) ∙ (sym c.line.ensures ∙ c.in-Some.is) in
     lines.home_there w k p c.self.invariant F shared other on c.in-Some.line next c.in-Some-named.object (sym c.named.ensures ∙ c.in-Some-named.is) c.owner-owner.result c.owner-owner.ensures
 
 pub unreachable-requires-in_default-at : goal.unreachable-requires-in_default-at
 unreachable-requires-in_default-at c =
-    let w : World = the_view c.self.inside in
+    let w : SharedValue = the_view c.self.inside in
     let p : Private = c.args.part.now in
-    let held : MayBeEntered w p = subst (λ (z : World). MayBeEntered z p) (sym c.self.view_is) c.requires.held in
+    let held : MayBeEntered w p = subst (λ (z : SharedValue). MayBeEntered z p) (sym c.self.view_is) c.requires.held in
     let k : ℕ = held.worker in
     let F : Fits w k p = held.fits in
-    let shared : IsShared w p = subst (λ (z : World). IsShared z p) (sym c.self.view_is) c.requires.shared in
+    let shared : IsShared w p = subst (λ (z : SharedValue). IsShared z p) (sym c.self.view_is) c.requires.shared in
     let free : refused w (alone_event k p) ≡ None = held.free in
     let on : (accounts w).end ≡ None = runs_on w k p c.self.invariant F shared free in
-    let other : IsOther w p = subst (λ (z : World). IsOther z p) (sym c.self.view_is) c.requires.other in
+    let other : IsOther w p = subst (λ (z : SharedValue). IsOther z p) (sym c.self.view_is) c.requires.other in
     let next : next_line w.program p ≡ Some c.in-Some.line = ap₂ (line_at w.program) (sym c.fun.ensures) (sym c.next.ensures) ∙ (sym c.line.ensures ∙ c.in-Some.is) in
     let there = lines.rest_is w k p c.self.invariant F shared other on c.in-Some.line next c.in-Some-named.object (sym c.named.ensures ∙ c.in-Some-named.is) c.owner-owner.result c.owner-owner.ensures in
     none_some (sym c.in_default-at.is ∙ same_Some _ _ (sym c.at.ensures ∙ there))
 
 pub step_on-does-requires : goal.step_on-does-requires
 step_on-does-requires c =
-    let w : World = the_view c.self.inside in
+    let w : SharedValue = the_view c.self.inside in
     let p : Private = c.args.part.now in
-    let held : MayBeEntered w p = subst (λ (z : World). MayBeEntered z p) (sym c.self.view_is) c.requires.held in
+    let held : MayBeEntered w p = subst (λ (z : SharedValue). MayBeEntered z p) (sym c.self.view_is) c.requires.held in
     let k : ℕ = held.worker in
     let F : Fits w k p = held.fits in
-    let shared : IsShared w p = subst (λ (z : World). IsShared z p) (sym c.self.view_is) c.requires.shared in
+    let shared : IsShared w p = subst (λ (z : SharedValue). IsShared z p) (sym c.self.view_is) c.requires.shared in
     let free : refused w (alone_event k p) ≡ None = held.free in
     let on : (accounts w).end ≡ None = runs_on w k p c.self.invariant F shared free in
-    let other : IsOther w p = subst (λ (z : World). IsOther z p) (sym c.self.view_is) c.requires.other in
+    let other : IsOther w p = subst (λ (z : SharedValue). IsOther z p) (sym c.self.view_is) c.requires.other in
     let next : next_line w.program p ≡ Some c.in-Some.line = ap₂ (line_at w.program) (sym c.fun.ensures) (sym c.next.ensures) ∙ (sym c.line.ensures ∙ c.in-Some.is) in
     lines.can_read w k p c.self.invariant F shared other on c.in-Some.line next c.in-Some-named.object (sym c.named.ensures ∙ c.in-Some-named.is) c.owner-owner.result c.owner-owner.ensures c.get.result.now (c.at.ensures ∙ ap Some (c.in-Some-at.is ∙ ap Some (sym c.get.ensures)))
 
 pub returns : goal.returns
 returns c =
-    let w : World = the_view c.self.inside in
+    let w : SharedValue = the_view c.self.inside in
     let p : Private = c.args.part.now in
-    let held : MayBeEntered w p = subst (λ (z : World). MayBeEntered z p) (sym c.self.view_is) c.requires.held in
+    let held : MayBeEntered w p = subst (λ (z : SharedValue). MayBeEntered z p) (sym c.self.view_is) c.requires.held in
     let k : ℕ = held.worker in
     let F : Fits w k p = held.fits in
-    let shared : IsShared w p = subst (λ (z : World). IsShared z p) (sym c.self.view_is) c.requires.shared in
+    let shared : IsShared w p = subst (λ (z : SharedValue). IsShared z p) (sym c.self.view_is) c.requires.shared in
     let free : refused w (alone_event k p) ≡ None = held.free in
     let on : (accounts w).end ≡ None = runs_on w k p c.self.invariant F shared free in
-    let other : IsOther w p = subst (λ (z : World). IsOther z p) (sym c.self.view_is) c.requires.other in
+    let other : IsOther w p = subst (λ (z : SharedValue). IsOther z p) (sym c.self.view_is) c.requires.other in
     let next : next_line w.program p ≡ Some c.in-Some.line = ap₂ (line_at w.program) (sym c.fun.ensures) (sym c.next.ensures) ∙ (sym c.line.ensures ∙ c.in-Some.is) in
-    subst (λ (z : World). TellsOther z p c.step_on-does.result c.in-Some.line.number) c.self.view_is
+    subst (λ (z : SharedValue). TellsOther z p c.step_on-does.result c.in-Some.line.number) c.self.view_is
     (subst (λ (e : OtherStep). TellsOther w p e c.in-Some.line.number) (sym c.step_on-does.ensures)
     (lines.does_so w k p c.self.invariant F shared other on c.in-Some.line next c.in-Some-named.object (sym c.named.ensures ∙ c.in-Some-named.is) c.owner-owner.result c.owner-owner.ensures c.get.result.now (c.at.ensures ∙ ap Some (c.in-Some-at.is ∙ ap Some (sym c.get.ensures)))))

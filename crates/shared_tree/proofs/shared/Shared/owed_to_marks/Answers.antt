@@ -1,6 +1,6 @@
 use Rattle.std.proofs.Common.{Some, None, List, subst, sym, ◌∙◌}
 use Rattle.run_ledger.specs.declared.data.Ledger.{Ledger}
-use Rattle.shared_value.specs.World.{accounts}
+use Rattle.shared_value.specs.SharedValue.{accounts}
 use Rattle.heap_marking.specs.declared.pace.Fork.{Fork}
 use Rattle.heap_marking.specs.Pace.{IsLastGoing}
 use Rattle.heap_marking.proofs.PaceOwes.{owed_marks}

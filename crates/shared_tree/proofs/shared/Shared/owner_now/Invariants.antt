@@ -1,6 +1,6 @@
 use Rattle.std.proofs.Common.{◌≡◌}
 use Rattle.hh_model.specs.Step.{owner_of}
-use Rattle.shared_value.specs.World.{accounts}
+use Rattle.shared_value.specs.SharedValue.{accounts}
 use Rattle.shared_tree.proofs.shared.Shared.owner_now.Given as goal
 
 abbrev pub invariant-loop-self : goal.invariant-loop-self

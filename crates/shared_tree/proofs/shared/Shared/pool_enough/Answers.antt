@@ -1,7 +1,7 @@
 use Rattle.std.proofs.Common.{◌+◌, nat_le, ap, ap₂, sym, subst, ◌∙◌}
 use Rattle.run_ledger.specs.Entries.{is_pool_enough}
 use Rattle.task_machine.specs.declared.part.Private.{Private}
-use Rattle.shared_value.specs.World.{World, accounts}
+use Rattle.shared_value.specs.SharedValue.{SharedValue, accounts}
 use Rattle.shared_value.specs.Due.{IsHeld, take_by}
 use Rattle.shared_value.specs.Fits.{Fits}
 use Rattle.shared_value.proofs.FreeChunks.{enough_is}
@@ -10,9 +10,9 @@ use Rattle.shared_tree.proofs.shared.Shared.pool_enough.Goals as goal
 
 pub returns : goal.returns
 returns c =
-    let w : World = the_view c.self.inside in
+    let w : SharedValue = the_view c.self.inside in
     let p : Private = c.args.part.now in
-    let held : IsHeld w p = subst (λ (z : World). IsHeld z p) (sym c.self.view_is) c.requires.held in
+    let held : IsHeld w p = subst (λ (z : SharedValue). IsHeld z p) (sym c.self.view_is) c.requires.held in
     let F : Fits w held.0 (record p { fresh = 0 }) = subst (λ n. Fits w held.0 (record p { fresh = n })) c.requires.fresh held.1 in
     ap₂ (λ a b. nat_le a b) (ap₂ (λ a b. a + b) c.in_use-used.ensures.units (c.chunks_for.ensures.take ∙ ap take_by c.small_words-words.ensures)) c.chunks.ensures.value
-    ∙ (enough_is w held.0 p c.self.invariant F ∙ ap (λ (z : World). is_pool_enough z.settings (accounts z) p.task) c.self.view_is)
+    ∙ (enough_is w held.0 p c.self.invariant F ∙ ap (λ (z : SharedValue). is_pool_enough z.settings (accounts z) p.task) c.self.view_is)

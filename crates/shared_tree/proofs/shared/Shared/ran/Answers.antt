@@ -1,6 +1,6 @@
 use Rattle.std.proofs.Common.{◌≡◌, None, subst}
 use Rattle.std.specs.Result.{OnErr}
-use Rattle.shared_value.specs.World.{World}
+use Rattle.shared_value.specs.SharedValue.{SharedValue}
 use Rattle.shared_value.specs.Entered.{refused}
 use Rattle.shared_value.specs.Fits.{AllFit, Fits}
 use Rattle.own_steps.specs.Alone.{Answered, IsBeyond, IsShared, alone_event}
@@ -32,7 +32,7 @@ ran_joint-requires-clause-joint c =
 pub returns-in-Ok-Beyond-clause-still : goal.returns-in-Ok-Beyond-clause-still
 returns-in-Ok-Beyond-clause-still c =
     let B : IsBeyond c.args.self.now c.ran_alone.new.self c.args.part c.in-Ok-Beyond.part = subst (λ (a : Alone). Answered c.args.self.now c.ran_alone.new.self c.args.worker c.args.part a) c.in-Ok-Beyond.field-0-is c.in-Ok-Beyond.ensures.answered in
-    subst (λ (w : World). OnErr c.ran_joint.result (AllFit w c.ran_joint.new.self)) B.same c.ran_joint.ensures.still
+    subst (λ (w : SharedValue). OnErr c.ran_joint.result (AllFit w c.ran_joint.new.self)) B.same c.ran_joint.ensures.still
 
 pub returns-in-Err-clause-same : goal.returns-in-Err-clause-same
 returns-in-Err-clause-same c = same_by c.args.self.now c.ran_alone.new.self c.in-Err.failed.cause c.in-Err.ensures.same

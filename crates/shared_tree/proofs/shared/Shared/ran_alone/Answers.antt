@@ -3,7 +3,7 @@ use Rattle.std.proofs.lemmas.Int.{to_z-of_z}
 use Rattle.task_machine.specs.declared.part.Private.{Private}
 use Rattle.shared_value.specs.declared.next_step.Ending.{Ending}
 use Rattle.shared_value.specs.declared.next_step.Ending.TheVariants.{Beyond, Prints, Returns}
-use Rattle.shared_value.specs.World.{World}
+use Rattle.shared_value.specs.SharedValue.{SharedValue}
 use Rattle.shared_value.specs.Entered.{RanAnswers, refused}
 use Rattle.own_steps.specs.Alone.{Tells, alone_event}
 use Rattle.own_steps.proofs.AloneEntries.{child_beyond, other_beyond, trap_is}
@@ -11,7 +11,7 @@ use Rattle.shared_tree.proofs.shared.Shared.ran_alone.Goals as goal
 
 pub returns-else-part-eq0-clause-answered : goal.returns-else-part-eq0-clause-answered
 returns-else-part-eq0-clause-answered c =
-    let w : World = c.args.self.now in
+    let w : SharedValue = c.args.self.now in
     let p : Private = c.args.part in
     let k : ℕ = c.args.worker in
     let free : refused w (alone_event k p) ≡ None = sym c.alone_refused.ensures ∙ c.in_default.is in
@@ -20,7 +20,7 @@ returns-else-part-eq0-clause-answered c =
 
 pub returns-in-Beyond-clause-answered : goal.returns-in-Beyond-clause-answered
 returns-in-Beyond-clause-answered c =
-    let w : World = c.args.self.now in
+    let w : SharedValue = c.args.self.now in
     let p : Private = c.args.part in
     let k : ℕ = c.args.worker in
     let free : refused w (alone_event k p) ≡ None = sym c.alone_refused.ensures ∙ c.in_default.is in
@@ -29,7 +29,7 @@ returns-in-Beyond-clause-answered c =
 
 pub enter_halt-requires-clause-ends : goal.enter_halt-requires-clause-ends
 enter_halt-requires-clause-ends c =
-    let w : World = c.args.self.now in
+    let w : SharedValue = c.args.self.now in
     let p : Private = c.args.part in
     trap_is w p c.in-Traps.kind c.next_ending-ending.result.1 (subst (λ (e : Ending). Tells w p e c.next_ending-ending.result.1) c.in-Traps.is c.next_ending-ending.ensures)
 

@@ -6,7 +6,7 @@ use Rattle.heap_tree.specs.Pairs.{sibling}
 use Rattle.task_machine.specs.declared.part.Private.{Private}
 use Rattle.shared_value.specs.declared.answer.NotEntered.TheVariants.{NoMemory}
 use Rattle.shared_value.specs.declared.answer.NotRan.{NotRan}
-use Rattle.shared_value.specs.World.{World}
+use Rattle.shared_value.specs.SharedValue.{SharedValue}
 use Rattle.shared_value.specs.Entered.{RanAnswers, refused}
 use Rattle.shared_value.specs.Fits.{AllFit, Fits}
 use Rattle.own_steps.specs.Alone.{alone_event}
@@ -17,28 +17,28 @@ use Rattle.child_tasks.proofs.JoinPlaces.{places_ends, places_fit, places_same, 
 use Rattle.shared_tree.proofs.shared.Shared.ran_ending.Goals as goal
 
 -- where nothing has changed for want of memory, no place was made either
-unchanged : (w after : World) (r : Result (Option ℕ) NotRan) → IfErr r (λ e. e.cause ≡ NoMemory) → OnErr r (after ≡ w) → IfErr r (λ e. IsUnchanged e.cause w after)
+unchanged : (w after : SharedValue) (r : Result (Option ℕ) NotRan) → IfErr r (λ e. e.cause ≡ NoMemory) → OnErr r (after ≡ w) → IfErr r (λ e. IsUnchanged e.cause w after)
 unchanged w after (Ok x) m e = m
 unchanged w after (Err x) m e = subst (λ c. IsUnchanged c w after) (sym m) (subst (SameButPlaces w) (sym e) (same_world w))
 
-still : (w after : World) (r : Result (Option ℕ) NotRan) → OnErr r (after ≡ w) → OnErr r (AllFit w after)
+still : (w after : SharedValue) (r : Result (Option ℕ) NotRan) → OnErr r (after ≡ w) → OnErr r (AllFit w after)
 still w after (Ok x) e = e
-still w after (Err x) e = λ k p F. subst (λ (z : World). Fits z k p) (sym e) F
+still w after (Err x) e = λ k p F. subst (λ (z : SharedValue). Fits z k p) (sym e) F
 
 none_some : {q : ℕ} → ◌≡◌ {A = Option ℕ} None (Some q) → ⊥
 none_some e = cc
 
 pub unreachable-requires : goal.unreachable-requires
 unreachable-requires c =
-    let w : World = c.args.self.now in
+    let w : SharedValue = c.args.self.now in
     let p : Private = c.args.part in
     let k : ℕ = c.args.worker in
     let free : refused w (alone_event k p) ≡ None = sym c.alone_refused.ensures ∙ c.in_default.is in
-    none_some (sym c.in_default-parent.is ∙ (c.parent.ensures ∙ (ap (λ (z : World). parent_of z.tree p.task) c.self.view_is ∙ tree_parent w k p c.stands.ensures c.requires.fits c.requires.ends free)))
+    none_some (sym c.in_default-parent.is ∙ (c.parent.ensures ∙ (ap (λ (z : SharedValue). parent_of z.tree p.task) c.self.view_is ∙ tree_parent w k p c.stands.ensures c.requires.fits c.requires.ends free)))
 
 pub enter_join-requires-clause-fits : goal.enter_join-requires-clause-fits
 enter_join-requires-clause-fits c =
-    let w : World = c.args.self.now in
+    let w : SharedValue = c.args.self.now in
     let p : Private = c.args.part in
     let k : ℕ = c.args.worker in
     let free : refused w (alone_event k p) ≡ None = sym c.alone_refused.ensures ∙ c.in_default.is in
@@ -46,7 +46,7 @@ enter_join-requires-clause-fits c =
 
 pub enter_join-requires-clause-ends : goal.enter_join-requires-clause-ends
 enter_join-requires-clause-ends c =
-    let w : World = c.args.self.now in
+    let w : SharedValue = c.args.self.now in
     let p : Private = c.args.part in
     let k : ℕ = c.args.worker in
     let free : refused w (alone_event k p) ≡ None = sym c.alone_refused.ensures ∙ c.in_default.is in
@@ -54,7 +54,7 @@ enter_join-requires-clause-ends c =
 
 pub enter_join-requires-clause-free : goal.enter_join-requires-clause-free
 enter_join-requires-clause-free c =
-    let w : World = c.args.self.now in
+    let w : SharedValue = c.args.self.now in
     let p : Private = c.args.part in
     let k : ℕ = c.args.worker in
     let free : refused w (alone_event k p) ≡ None = sym c.alone_refused.ensures ∙ c.in_default.is in
@@ -62,7 +62,7 @@ enter_join-requires-clause-free c =
 
 pub returns-in-Ok-make_join_places-clause-answered : goal.returns-in-Ok-make_join_places-clause-answered
 returns-in-Ok-make_join_places-clause-answered c =
-    let w : World = c.args.self.now in
+    let w : SharedValue = c.args.self.now in
     let p : Private = c.args.part in
     let k : ℕ = c.args.worker in
     let free : refused w (alone_event k p) ≡ None = sym c.alone_refused.ensures ∙ c.in_default.is in
@@ -70,7 +70,7 @@ returns-in-Ok-make_join_places-clause-answered c =
 
 pub returns-in-Err-clause-still : goal.returns-in-Err-clause-still
 returns-in-Err-clause-still c =
-    let w : World = c.args.self.now in
+    let w : SharedValue = c.args.self.now in
     let p : Private = c.args.part in
     let k : ℕ = c.args.worker in
     let free : refused w (alone_event k p) ≡ None = sym c.alone_refused.ensures ∙ c.in_default.is in
@@ -78,8 +78,8 @@ returns-in-Err-clause-still c =
 
 pub returns-in-Ok-make_join_places-clause-hand : goal.returns-in-Ok-make_join_places-clause-hand
 returns-in-Ok-make_join_places-clause-hand c =
-    let w : World = c.args.self.now in
-    c.enter_join.ensures.hand ∙ ap (λ (z : World). slice_set z.hands c.args.worker None) c.make_join_places.ensures.same.rest
+    let w : SharedValue = c.args.self.now in
+    c.enter_join.ensures.hand ∙ ap (λ (z : SharedValue). slice_set z.hands c.args.worker None) c.make_join_places.ensures.same.rest
 
 not_yes : false ≡ true → ⊥
 not_yes e = cc
@@ -92,28 +92,28 @@ pub returns-in-Some-clause-refused : goal.returns-in-Some-clause-refused
 returns-in-Some-clause-refused c = sym c.alone_refused.ensures ∙ c.in-Some.is
 
 pub ran_first-requires-clause-alone : goal.ran_first-requires-clause-alone
-ran_first-requires-clause-alone c = λ e. not_yes (c.if-not-is_ended.ensures.1 (state_is c.state.ensures (ap (λ (z : World). state_of z.tree) c.self.view_is) c.sibling_of.ensures ∙ e))
+ran_first-requires-clause-alone c = λ e. not_yes (c.if-not-is_ended.ensures.1 (state_is c.state.ensures (ap (λ (z : SharedValue). state_of z.tree) c.self.view_is) c.sibling_of.ensures ∙ e))
 
 pub make_join_places-requires-clause-held : goal.make_join_places-requires-clause-held
 make_join_places-requires-clause-held c = record { worker = c.args.worker; fits = c.requires.fits; free = sym c.alone_refused.ensures ∙ c.in_default.is }
 
 pub make_join_places-requires-clause-ended : goal.make_join_places-requires-clause-ended
-make_join_places-requires-clause-ended c = sym (state_is c.state.ensures (ap (λ (z : World). state_of z.tree) c.self.view_is) c.sibling_of.ensures) ∙ c.if-not-is_ended.ensures.0 refl
+make_join_places-requires-clause-ended c = sym (state_is c.state.ensures (ap (λ (z : SharedValue). state_of z.tree) c.self.view_is) c.sibling_of.ensures) ∙ c.if-not-is_ended.ensures.0 refl
 
 pub make_join_places-requires-clause-parent : goal.make_join_places-requires-clause-parent
-make_join_places-requires-clause-parent c = ap (λ (z : World). parent_of z.tree c.args.part.task) (sym c.self.view_is) ∙ (sym c.parent.ensures ∙ c.in-Some-parent.is)
+make_join_places-requires-clause-parent c = ap (λ (z : SharedValue). parent_of z.tree c.args.part.task) (sym c.self.view_is) ∙ (sym c.parent.ensures ∙ c.in-Some-parent.is)
 
 pub enter_join-requires-clause-ended : goal.enter_join-requires-clause-ended
-enter_join-requires-clause-ended c = ap (λ (z : World). state_of z.tree (sibling c.args.part.task)) c.make_join_places.ensures.same.rest ∙ (sym (state_is c.state.ensures (ap (λ (z : World). state_of z.tree) c.self.view_is) c.sibling_of.ensures) ∙ c.if-not-is_ended.ensures.0 refl)
+enter_join-requires-clause-ended c = ap (λ (z : SharedValue). state_of z.tree (sibling c.args.part.task)) c.make_join_places.ensures.same.rest ∙ (sym (state_is c.state.ensures (ap (λ (z : SharedValue). state_of z.tree) c.self.view_is) c.sibling_of.ensures) ∙ c.if-not-is_ended.ensures.0 refl)
 
 pub enter_join-requires-clause-parent : goal.enter_join-requires-clause-parent
-enter_join-requires-clause-parent c = ap (λ (z : World). parent_of z.tree c.args.part.task) c.make_join_places.ensures.same.rest ∙ (ap (λ (z : World). parent_of z.tree c.args.part.task) (sym c.self.view_is) ∙ (sym c.parent.ensures ∙ c.in-Some-parent.is))
+enter_join-requires-clause-parent c = ap (λ (z : SharedValue). parent_of z.tree c.args.part.task) c.make_join_places.ensures.same.rest ∙ (ap (λ (z : SharedValue). parent_of z.tree c.args.part.task) (sym c.self.view_is) ∙ (sym c.parent.ensures ∙ c.in-Some-parent.is))
 
 pub enter_join-requires-clause-places : goal.enter_join-requires-clause-places
 enter_join-requires-clause-places c = c.in-Ok-make_join_places.ensures.places
 
 pub enter_join-requires-clause-room : goal.enter_join-requires-clause-room
-enter_join-requires-clause-room c = subst (λ (z : World). 0 < z.journal.room) (sym c.make_join_places.ensures.same.rest) c.requires.room
+enter_join-requires-clause-room c = subst (λ (z : SharedValue). 0 < z.journal.room) (sym c.make_join_places.ensures.same.rest) c.requires.room
 
 pub returns-in-Err-clause-same : goal.returns-in-Err-clause-same
 returns-in-Err-clause-same c = c.make_join_places.ensures.same
@@ -147,7 +147,7 @@ alone_refused-requires-clause-shared c = end_shared c.args.self.now c.args.part 
 
 pub sibling_of-requires-clause-child : goal.sibling_of-requires-clause-child
 sibling_of-requires-clause-child c =
-    let w : World = c.args.self.now in
+    let w : SharedValue = c.args.self.now in
     let p : Private = c.args.part in
     let k : ℕ = c.args.worker in
     let free : refused w (alone_event k p) ≡ None = sym c.alone_refused.ensures ∙ c.in_default.is in
@@ -156,7 +156,7 @@ sibling_of-requires-clause-child c =
 
 pub sibling_of-requires-clause-few : goal.sibling_of-requires-clause-few
 sibling_of-requires-clause-few c =
-    let w : World = c.args.self.now in
+    let w : SharedValue = c.args.self.now in
     let p : Private = c.args.part in
     let k : ℕ = c.args.worker in
     let free : refused w (alone_event k p) ≡ None = sym c.alone_refused.ensures ∙ c.in_default.is in

@@ -3,7 +3,7 @@ use Rattle.listed.proofs.Members.{got_within}
 use Rattle.hh_model.specs.declared.data.Trap.TheVariants.{Depth}
 use Rattle.heap_tree.specs.Node.{depth_of}
 use Rattle.task_machine.specs.declared.part.Private.{Private}
-use Rattle.shared_value.specs.World.{World}
+use Rattle.shared_value.specs.SharedValue.{SharedValue}
 use Rattle.shared_value.specs.Entered.{refused}
 use Rattle.own_steps.specs.Alone.{alone_event}
 use Rattle.own_steps.proofs.AloneEntries.{trap_is}
@@ -12,20 +12,20 @@ use Rattle.shared_tree.proofs.shared.Shared.ran_forking.Goals as goal
 
 pub depth-requires : goal.depth-requires
 depth-requires c =
-    let w : World = c.args.self.now in
+    let w : SharedValue = c.args.self.now in
     let p : Private = c.args.part in
     let k : ℕ = c.args.worker in
     let free : refused w (alone_event k p) ≡ None = sym c.alone_refused.ensures ∙ c.in_default.is in
     let n = node_out w c.stands.ensures (on w k p c.stands.ensures c.requires.fits c.requires.forks free) k p c.requires.fits in
-    subst (λ (z : World). p.task < length z.tree) (sym c.self.view_is) (got_within w.tree p.task n.0 n.1)
+    subst (λ (z : SharedValue). p.task < length z.tree) (sym c.self.view_is) (got_within w.tree p.task n.0 n.1)
 
 pub enter_halt-requires-clause-ends : goal.enter_halt-requires-clause-ends
 enter_halt-requires-clause-ends c =
-    let w : World = c.args.self.now in
+    let w : SharedValue = c.args.self.now in
     let p : Private = c.args.part in
     let k : ℕ = c.args.worker in
     let free : refused w (alone_event k p) ≡ None = sym c.alone_refused.ensures ∙ c.in_default.is in
-    let deep : 1000 ≤ depth_of w.tree p.task = subst (λ (z : World). 1000 ≤ depth_of z.tree p.task) c.self.view_is (subst (λ n. 1000 ≤ n) c.depth.ensures c.if-depth-lt-DEPTH_LIMIT.false) in
+    let deep : 1000 ≤ depth_of w.tree p.task = subst (λ (z : SharedValue). 1000 ≤ depth_of z.tree p.task) c.self.view_is (subst (λ n. 1000 ≤ n) c.depth.ensures c.if-depth-lt-DEPTH_LIMIT.false) in
     let line = c.fork_line-left.result in
     trap_is w p Depth line.2 (deep_traps w k p c.stands.ensures c.requires.fits c.requires.forks free line.0 line.1 line.2 c.fork_line-left.ensures deep)
 
@@ -47,7 +47,7 @@ enter_fork-requires-clause-by c = (c.fork_line-left.result.2, c.fork_line-left.e
 pub enter_fork-requires-clause-shallow : goal.enter_fork-requires-clause-shallow
 enter_fork-requires-clause-shallow c =
     let shallow = subst (λ n. n < 1000) c.depth.ensures c.if-depth-lt-DEPTH_LIMIT.true in
-    subst (λ (z : World). depth_of z.tree c.args.part.task < 1000) c.self.view_is shallow
+    subst (λ (z : SharedValue). depth_of z.tree c.args.part.task < 1000) c.self.view_is shallow
 
 pub enter_halt-requires-clause-free : goal.enter_halt-requires-clause-free
 enter_halt-requires-clause-free c = sym c.alone_refused.ensures ∙ c.in_default.is

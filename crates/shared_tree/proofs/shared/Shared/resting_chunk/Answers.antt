@@ -1,9 +1,9 @@
 use Rattle.std.proofs.Common.{◌≡◌, Some, None, [], IfSome, ap, ◌∙◌, sym, subst, false, option_map, option_copied, true, if◌then◌else◌}
 use Rattle.chunk_pool.specs.declared.pool.Held.{Held}
-use Rattle.chunk_pool.specs.Chunks.{owner_of}
+use Rattle.chunk_pool.specs.PoolValue.{owner_of}
 use Rattle.heap_tree.specs.Node.{state_of}
 use Rattle.shared_value.specs.Objects.{chunk_of, chunks_of}
-use Rattle.shared_value.specs.World.{World, flat, rest_at, value_of}
+use Rattle.shared_value.specs.SharedValue.{SharedValue, flat, rest_at, value_of}
 use Rattle.heap_reading.specs.HeldNames.{is_state_running}
 use Rattle.heap_reading.specs.Image.{objects_of, objects_numbered, objects_owned}
 use Rattle.heap_reading.proofs.ObjectsRead.{none_numbered, resting_objects, some_numbered}
@@ -12,11 +12,11 @@ use Rattle.shared_tree.proofs.shared.Shared.resting_chunk.Goals as goal
 -- the objects of the number are those of its chunk in the heap that was found
 objects_are : (c : goal.After-chunk) → objects_of c.args.self.now c.args.number ≡ objects_numbered c.args.number (chunks_of c.get-in-Some-Some.result.now.heap.chunks)
 objects_are c =
-    let w : World = c.args.self.now in
+    let w : SharedValue = c.args.self.now in
     let t = c.in_ok-owner.field-0.owner in
-    let held : owner_of w.pool c.args.number ≡ Some t = ap (λ (z : World). owner_of z.pool c.args.number) (sym c.self.view_is) ∙ ap (option_map (λ (h : Held). h.owner)) (sym c.held.ensures ∙ c.in_ok-owner.was) in
-    let idle : is_state_running (state_of w.tree t) ≡ false = ap (λ (z : World). is_state_running (state_of z.tree t)) (sym c.self.view_is) ∙ (sym (ap is_state_running c.state.ensures) ∙ (sym c.is_running.ensures ∙ c.if-is_running.false)) in
-    let there : rest_at w.homes t ≡ Some c.get-in-Some-Some.result.now = ap (λ (z : World). rest_at z.homes t) (sym c.self.view_is) ∙ (ap flat (sym c.get.ensures) ∙ ((ap (λ o. flat (option_copied o)) c.in-Some-Some.is ∙ c.in-Some-Some.field-0-is) ∙ ap Some (sym c.get-in-Some-Some.ensures))) in
+    let held : owner_of w.pool c.args.number ≡ Some t = ap (λ (z : SharedValue). owner_of z.pool c.args.number) (sym c.self.view_is) ∙ ap (option_map (λ (h : Held). h.owner)) (sym c.held.ensures ∙ c.in_ok-owner.was) in
+    let idle : is_state_running (state_of w.tree t) ≡ false = ap (λ (z : SharedValue). is_state_running (state_of z.tree t)) (sym c.self.view_is) ∙ (sym (ap is_state_running c.state.ensures) ∙ (sym c.is_running.ensures ∙ c.if-is_running.false)) in
+    let there : rest_at w.homes t ≡ Some c.get-in-Some-Some.result.now = ap (λ (z : SharedValue). rest_at z.homes t) (sym c.self.view_is) ∙ (ap flat (sym c.get.ensures) ∙ ((ap (λ o. flat (option_copied o)) c.in-Some-Some.is ∙ c.in-Some-Some.field-0-is) ∙ ap Some (sym c.get-in-Some-Some.ensures))) in
     resting_objects w c.args.number t c.get-in-Some-Some.result.now held idle there
 
 pub returns-in-Some-Some-clause-none : goal.returns-in-Some-Some-clause-none
@@ -28,14 +28,14 @@ returns-in-Some-Some-clause-some c =
 
 pub returns-then-is_running-clause-none : goal.returns-then-is_running-clause-none
 returns-then-is_running-clause-none c = λ none.
-    let w : World = c.args.self.now in
+    let w : SharedValue = c.args.self.now in
     let t = c.in_ok-owner.field-0.owner in
-    let held : owner_of w.pool c.args.number ≡ Some t = ap (λ (z : World). owner_of z.pool c.args.number) (sym c.self.view_is) ∙ ap (option_map (λ (h : Held). h.owner)) (sym c.held.ensures ∙ c.in_ok-owner.was) in
-    let runs : is_state_running (state_of w.tree t) ≡ true = ap (λ (z : World). is_state_running (state_of z.tree t)) (sym c.self.view_is) ∙ (sym (ap is_state_running c.state.ensures) ∙ (sym c.is_running.ensures ∙ c.if-is_running.true)) in
+    let held : owner_of w.pool c.args.number ≡ Some t = ap (λ (z : SharedValue). owner_of z.pool c.args.number) (sym c.self.view_is) ∙ ap (option_map (λ (h : Held). h.owner)) (sym c.held.ensures ∙ c.in_ok-owner.was) in
+    let runs : is_state_running (state_of w.tree t) ≡ true = ap (λ (z : SharedValue). is_state_running (state_of z.tree t)) (sym c.self.view_is) ∙ (sym (ap is_state_running c.state.ensures) ∙ (sym c.is_running.ensures ∙ c.if-is_running.true)) in
     ap (objects_owned w c.args.number) held ∙ ap (λ b. if b then [] else objects_numbered c.args.number ((value_of w).homes t).chunks) runs
 
 pub returns-in_err-owner-clause-none : goal.returns-in_err-owner-clause-none
 returns-in_err-owner-clause-none c = λ none.
-    let w : World = c.args.self.now in
-    let held : owner_of w.pool c.args.number ≡ None = ap (λ (z : World). owner_of z.pool c.args.number) (sym c.self.view_is) ∙ ap (option_map (λ (h : Held). h.owner)) (sym c.held.ensures ∙ c.in_err-owner.was) in
+    let w : SharedValue = c.args.self.now in
+    let held : owner_of w.pool c.args.number ≡ None = ap (λ (z : SharedValue). owner_of z.pool c.args.number) (sym c.self.view_is) ∙ ap (option_map (λ (h : Held). h.owner)) (sym c.held.ensures ∙ c.in_err-owner.was) in
     ap (objects_owned w c.args.number) held

@@ -3,8 +3,8 @@ use Rattle.run_trace.specs.declared.entry.Kind.TheVariants.{More}
 use Rattle.write_barrier.specs.declared.sets.SetOf.{SetOf}
 use Rattle.shared_value.specs.Causes.{first_cause}
 use Rattle.shared_value.specs.Entered.{refused}
-use Rattle.shared_value.specs.World.{World}
-use Rattle.shared_value.specs.Stands.{IsWorld}
+use Rattle.shared_value.specs.SharedValue.{SharedValue}
+use Rattle.shared_value.specs.Stands.{IsSharedValue}
 use Rattle.leaf_collections.proofs.WhyNoChunk.{first_answer}
 use Rattle.heap_marking.specs.MarkCauses.{marking_cause, marking_cause_in}
 use Rattle.heap_marking.proofs.MarkEntries.{some_as_left, some_as_marking}
@@ -13,47 +13,47 @@ use Rattle.shared_tree.proofs.shared.Shared.some_refused.Goals as goal
 
 pub returns-then-is_some : goal.returns-then-is_some
 returns-then-is_some c n =
-    let z : World = c.args.self.now in
+    let z : SharedValue = c.args.self.now in
     let k : ℕ = c.args.worker in
     let t : ℕ = c.args.t in
-    let I : IsWorld z = subst IsWorld c.self.view_is c.self.invariant in
-    let w : World = the_view c.self.inside in
+    let I : IsSharedValue z = subst IsSharedValue c.self.view_is c.self.invariant in
+    let w : SharedValue = the_view c.self.inside in
     let some : is_some (first_cause w.end w.steps w.settings k false) ≡ true = ap is_some (sym c.first_cause-first.ensures) ∙ (sym c.is_some.ensures ∙ c.if-is_some.true) in
     c.first_cause-first.ensures
-    ∙ subst (λ (y : World). first_cause w.end w.steps w.settings k false ≡ refused y (record { worker = k; kind = More t n })) c.self.view_is (sym (first_answer w c.self.invariant (record { worker = k; kind = More t n }) some))
+    ∙ subst (λ (y : SharedValue). first_cause w.end w.steps w.settings k false ≡ refused y (record { worker = k; kind = More t n })) c.self.view_is (sym (first_answer w c.self.invariant (record { worker = k; kind = More t n }) some))
 
 pub returns-then-is_some-2 : goal.returns-then-is_some-2
 returns-then-is_some-2 c n =
-    let z : World = c.args.self.now in
+    let z : SharedValue = c.args.self.now in
     let k : ℕ = c.args.worker in
     let t : ℕ = c.args.t in
-    let I : IsWorld z = subst IsWorld c.self.view_is c.self.invariant in
+    let I : IsSharedValue z = subst IsSharedValue c.self.view_is c.self.invariant in
     let first : is_some (first_cause z.end z.steps z.settings k false) ≡ false =
-    ap (λ (y : World). is_some (first_cause y.end y.steps y.settings k false)) (sym c.self.view_is) ∙ (ap is_some (sym c.first_cause-first.ensures) ∙ (sym c.is_some.ensures ∙ c.if-is_some.false)) in
+    ap (λ (y : SharedValue). is_some (first_cause y.end y.steps y.settings k false)) (sym c.self.view_is) ∙ (ap is_some (sym c.first_cause-first.ensures) ∙ (sym c.is_some.ensures ∙ c.if-is_some.false)) in
     let marking : c.marking_cause-marking.result ≡ marking_cause z t =
-    c.marking_cause-marking.ensures ∙ (ap (λ (xs : List SetOf). marking_cause_in c.self.inside.tree xs c.self.inside.marks t) c.deref.ensures.value ∙ ap (λ (y : World). marking_cause y t) c.self.view_is) in
+    c.marking_cause-marking.ensures ∙ (ap (λ (xs : List SetOf). marking_cause_in c.self.inside.tree xs c.self.inside.marks t) c.deref.ensures.value ∙ ap (λ (y : SharedValue). marking_cause y t) c.self.view_is) in
     some_as_marking z I k t n c.marking_cause-marking.result first marking (sym c.is_some-2.ensures ∙ c.if-is_some-2.true)
 
 pub returns-then-is_marked : goal.returns-then-is_marked
 returns-then-is_marked c n =
-    let z : World = c.args.self.now in
+    let z : SharedValue = c.args.self.now in
     let k : ℕ = c.args.worker in
     let t : ℕ = c.args.t in
-    let I : IsWorld z = subst IsWorld c.self.view_is c.self.invariant in
+    let I : IsSharedValue z = subst IsSharedValue c.self.view_is c.self.invariant in
     let first : is_some (first_cause z.end z.steps z.settings k false) ≡ false =
-    ap (λ (y : World). is_some (first_cause y.end y.steps y.settings k false)) (sym c.self.view_is) ∙ (ap is_some (sym c.first_cause-first.ensures) ∙ (sym c.is_some.ensures ∙ c.if-is_some.false)) in
+    ap (λ (y : SharedValue). is_some (first_cause y.end y.steps y.settings k false)) (sym c.self.view_is) ∙ (ap is_some (sym c.first_cause-first.ensures) ∙ (sym c.is_some.ensures ∙ c.if-is_some.false)) in
     let marking : c.marking_cause-marking.result ≡ marking_cause z t =
-    c.marking_cause-marking.ensures ∙ (ap (λ (xs : List SetOf). marking_cause_in c.self.inside.tree xs c.self.inside.marks t) c.deref.ensures.value ∙ ap (λ (y : World). marking_cause y t) c.self.view_is) in
+    c.marking_cause-marking.ensures ∙ (ap (λ (xs : List SetOf). marking_cause_in c.self.inside.tree xs c.self.inside.marks t) c.deref.ensures.value ∙ ap (λ (y : SharedValue). marking_cause y t) c.self.view_is) in
     some_as_left z I k t n c.marking_cause-marking.result first marking (sym c.is_some-2.ensures ∙ c.if-is_some-2.false) true (sym c.if-is_marked.true ∙ c.is_marked.ensures)
 
 pub returns-else-is_marked : goal.returns-else-is_marked
 returns-else-is_marked c n =
-    let z : World = c.args.self.now in
+    let z : SharedValue = c.args.self.now in
     let k : ℕ = c.args.worker in
     let t : ℕ = c.args.t in
-    let I : IsWorld z = subst IsWorld c.self.view_is c.self.invariant in
+    let I : IsSharedValue z = subst IsSharedValue c.self.view_is c.self.invariant in
     let first : is_some (first_cause z.end z.steps z.settings k false) ≡ false =
-    ap (λ (y : World). is_some (first_cause y.end y.steps y.settings k false)) (sym c.self.view_is) ∙ (ap is_some (sym c.first_cause-first.ensures) ∙ (sym c.is_some.ensures ∙ c.if-is_some.false)) in
+    ap (λ (y : SharedValue). is_some (first_cause y.end y.steps y.settings k false)) (sym c.self.view_is) ∙ (ap is_some (sym c.first_cause-first.ensures) ∙ (sym c.is_some.ensures ∙ c.if-is_some.false)) in
     let marking : c.marking_cause-marking.result ≡ marking_cause z t =
-    c.marking_cause-marking.ensures ∙ (ap (λ (xs : List SetOf). marking_cause_in c.self.inside.tree xs c.self.inside.marks t) c.deref.ensures.value ∙ ap (λ (y : World). marking_cause y t) c.self.view_is) in
+    c.marking_cause-marking.ensures ∙ (ap (λ (xs : List SetOf). marking_cause_in c.self.inside.tree xs c.self.inside.marks t) c.deref.ensures.value ∙ ap (λ (y : SharedValue). marking_cause y t) c.self.view_is) in
     some_as_left z I k t n c.marking_cause-marking.result first marking (sym c.is_some-2.ensures ∙ c.if-is_some-2.false) false (sym c.if-is_marked.false ∙ c.is_marked.ensures)

@@ -4,8 +4,8 @@ use Rattle.hh_model.specs.declared.data.Task.{Task}
 use Rattle.run_ledger.specs.Heaps.{heap_of}
 use Rattle.heap_tree.specs.Node.{Node}
 use Rattle.core_relation.specs.Whole.{handed, state_by}
-use Rattle.shared_value.specs.World.{World, accounts}
-use Rattle.shared_value.specs.Stands.{IsWorld}
+use Rattle.shared_value.specs.SharedValue.{SharedValue, accounts}
+use Rattle.shared_value.specs.Stands.{IsSharedValue}
 use Rattle.shared_value.proofs.BeforeTheEnd.{goes_by}
 use Rattle.shared_value.proofs.SameLength.{same_length}
 use Rattle.shared_tree.specs.contracts.shared.Shared.{the_view}
@@ -19,7 +19,7 @@ abbrev told : Option ℕ → Task → Node
 told o x = record { parent = x.parent; state = state_by x.status o }
 
 -- as many tasks as nodes
-tree_long : (w : World) → IsWorld w → length w.tree ≡ length (accounts w).machine.tasks
+tree_long : (w : SharedValue) → IsSharedValue w → length w.tree ≡ length (accounts w).machine.tasks
 tree_long w I =
     let k = accounts w in
     same_length w.tree (handed k).machine.tasks
@@ -28,5 +28,5 @@ tree_long w I =
 
 pub returns : goal.returns
 returns c =
-    let w : World = the_view c.self.inside in
-    c.made.ensures.count ∙ (tree_long w c.self.invariant ∙ ap (λ (z : World). length (accounts z).machine.tasks) c.self.view_is)
+    let w : SharedValue = the_view c.self.inside in
+    c.made.ensures.count ∙ (tree_long w c.self.invariant ∙ ap (λ (z : SharedValue). length (accounts z).machine.tasks) c.self.view_is)

@@ -1,7 +1,7 @@
 use Rattle.std.proofs.Common.{◌≡◌, ℕ, Some, None, ap, sym, ◌∙◌}
 use Rattle.run_ledger.specs.Heaps.{heap_of, words_in}
-use Rattle.alloc_path.specs.Heap.{counted}
-use Rattle.shared_value.specs.World.{World, accounts, flat, rest_at}
+use Rattle.alloc_path.specs.LeafHeapValue.{counted}
+use Rattle.shared_value.specs.SharedValue.{SharedValue, accounts, flat, rest_at}
 use Rattle.heap_marking.specs.MarkCauses.{waiting_cause}
 use Rattle.heap_marking.proofs.MarkEntries.{words_now}
 use Rattle.heap_marking.proofs.WaitingHome.{never_gone}
@@ -10,19 +10,19 @@ use Rattle.shared_tree.proofs.shared.Shared.words_at.Goals as goal
 
 pub unreachable-requires : goal.unreachable-requires
 unreachable-requires c =
-    let w : World = the_view c.self.inside in
+    let w : SharedValue = the_view c.self.inside in
     let t : ℕ = c.args.t in
-    let on : (accounts w).end ≡ None = ap (λ (z : World). (accounts z).end) c.self.view_is ∙ c.requires.goes in
-    let free : waiting_cause w t ≡ None = ap (λ (z : World). waiting_cause z t) c.self.view_is ∙ c.requires.waits in
+    let on : (accounts w).end ≡ None = ap (λ (z : SharedValue). (accounts z).end) c.self.view_is ∙ c.requires.goes in
+    let free : waiting_cause w t ≡ None = ap (λ (z : SharedValue). waiting_cause z t) c.self.view_is ∙ c.requires.waits in
     never_gone w c.self.invariant on t free (ap flat c.at.ensures ∙ c.in-None.is)
 
 pub returns : goal.returns
 returns c =
-    let w : World = the_view c.self.inside in
+    let w : SharedValue = the_view c.self.inside in
     let t : ℕ = c.args.t in
-    let on : (accounts w).end ≡ None = ap (λ (z : World). (accounts z).end) c.self.view_is ∙ c.requires.goes in
-    let free : waiting_cause w t ≡ None = ap (λ (z : World). waiting_cause z t) c.self.view_is ∙ c.requires.waits in
+    let on : (accounts w).end ≡ None = ap (λ (z : SharedValue). (accounts z).end) c.self.view_is ∙ c.requires.goes in
+    let free : waiting_cause w t ≡ None = ap (λ (z : SharedValue). waiting_cause z t) c.self.view_is ∙ c.requires.waits in
     let there : rest_at w.homes t ≡ Some c.get.result.now = (ap flat c.at.ensures ∙ c.in-Some.is) ∙ ap Some (sym c.get.ensures) in
     c.words.ensures
     ∙ (ap counted (sym (words_now w c.self.invariant t on free c.get.result.now there))
-    ∙ ap (λ (z : World). counted (words_in (accounts z).machine (heap_of (accounts z) t))) c.self.view_is)
+    ∙ ap (λ (z : SharedValue). counted (words_in (accounts z).machine (heap_of (accounts z) t))) c.self.view_is)

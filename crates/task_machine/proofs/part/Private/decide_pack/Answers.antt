@@ -1,6 +1,6 @@
 use Rattle.std.proofs.Common.{◌≡◌, ◌+◌, arith, ap, sym, subst, ◌∙◌, is_some}
 use Rattle.std.proofs.lemmas.Option.{slice_get_within}
-use Rattle.alloc_path.specs.Heap.{place_for}
+use Rattle.alloc_path.specs.LeafHeapValue.{place_for}
 use Rattle.task_machine.specs.declared.plan.Plan.{Plan}
 use Rattle.task_machine.specs.declared.plan.Plan.TheVariants.{Pack}
 use Rattle.task_machine.specs.Ready.{IsReady}

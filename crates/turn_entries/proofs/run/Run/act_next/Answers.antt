@@ -1,6 +1,6 @@
 use Rattle.std.proofs.Common.{◌<◌, ap, sym, subst, ◌∙◌}
-use Rattle.run_trace.specs.Settings.{Limits}
-use Rattle.shared_value.specs.World.{World, accounts}
+use Rattle.run_trace.specs.Settings.{SettingsValue}
+use Rattle.shared_value.specs.SharedValue.{SharedValue, accounts}
 use Rattle.turn_entries.specs.Next.{going_kind}
 use Rattle.turn_entries.proofs.Turning.{acts_then, brings_then, not_over, roomier}
 use Rattle.turn_entries.proofs.run.Run.act_next.Goals as goal
@@ -10,9 +10,9 @@ act_on-requires c =
     let S = roomier c.args.self.paced c.reserve.new.self c.reserve.ensures.same c.reserve.ensures.fit in
     record {
       room = c.in-Ok.ensures.room;
-      worker = subst (λ (s : Limits). c.args.worker < s.workers) (sym S.settings) c.requires.worker;
-      goes = ap (λ (z : World). (accounts z).end) c.reserve.ensures.same ∙ c.requires.goes;
-      on = ap (λ (z : World). z.halted) c.reserve.ensures.same ∙ c.requires.on;
+      worker = subst (λ (s : SettingsValue). c.args.worker < s.workers) (sym S.settings) c.requires.worker;
+      goes = ap (λ (z : SharedValue). (accounts z).end) c.reserve.ensures.same ∙ c.requires.goes;
+      on = ap (λ (z : SharedValue). z.halted) c.reserve.ensures.same ∙ c.requires.on;
       met = c.requires.met;
       brings = brings_then c.args.self.paced c.reserve.new.self S c.args.worker c.args.ready c.requires.brings;
     }

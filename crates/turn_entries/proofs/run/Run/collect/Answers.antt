@@ -2,7 +2,7 @@ use Rattle.std.proofs.Common.{Some, ap}
 use Rattle.std.proofs.Common.{rules, ◌≡◌, true, false}
 use Rattle.run_trace.specs.declared.entry.Kind.TheVariants.{Begin, PutOff}
 use Rattle.run_ledger.specs.Entries.{is_pool_enough}
-use Rattle.shared_value.specs.World.{accounts}
+use Rattle.shared_value.specs.SharedValue.{accounts}
 use Rattle.turn_entries.specs.Next.{due_kind}
 use Rattle.turn_entries.proofs.Coming.{acts_same, due_begins, due_waits}
 use Rattle.turn_entries.proofs.run.Run.collect.Goals as goal

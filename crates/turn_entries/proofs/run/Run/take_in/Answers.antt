@@ -1,7 +1,7 @@
 use Rattle.std.proofs.Common.{refl, ap, sym, subst, ◌∙◌, is_some}
 use Rattle.run_trace.specs.declared.entry.Kind.TheVariants.{Took}
 use Rattle.shared_value.specs.Entered.{cause_of}
-use Rattle.shared_value.specs.World.{World}
+use Rattle.shared_value.specs.SharedValue.{SharedValue}
 use Rattle.turn_entries.specs.Parts.{MayRun}
 use Rattle.turn_entries.specs.Values.{is_over}
 use Rattle.turn_entries.proofs.Going.{may}
@@ -18,7 +18,7 @@ pub returns-in-Err : goal.returns-in-Err
 returns-in-Err c = λ ready. (
   unchanged c.args.self.paced c.took.new.self c.in-Err.ensures.same,
   (
-    ap (λ (w : World). is_over (record { paced = w })) c.in-Err.ensures.same ∙ not_over c.args.self c.requires.enter.on c.requires.enter.goes,
+    ap (λ (w : SharedValue). is_over (record { paced = w })) c.in-Err.ensures.same ∙ not_over c.args.self c.requires.enter.on c.requires.enter.goes,
     c.args.task,
     refl,
     ap is_some (sym c.took.ensures.refused ∙ ap cause_of c.in-Err.is),

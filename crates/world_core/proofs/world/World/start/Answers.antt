@@ -1,25 +1,25 @@
 use Rattle.std.proofs.Common.{◌≡◌, ℕ, zero, suc, false, Some, List, [], replicate, length, slice_get, refl, ap, subst, sym, ◌∙◌}
 use Rattle.std.proofs.lemmas.Option.{same_Some}
 use Rattle.hh_lang.specs.Form.{ProgramText}
-use Rattle.run_trace.specs.Entry.{Event}
-use Rattle.run_trace.specs.Settings.{Limits}
+use Rattle.run_trace.specs.Entry.{EntryValue}
+use Rattle.run_trace.specs.Settings.{SettingsValue}
 use Rattle.run_ledger.specs.Heaps.{heap_of}
 use Rattle.run_ledger.specs.Journals.{ledger_of, opening}
 use Rattle.core_relation.specs.Whole.{handed}
-use Rattle.shared_value.specs.World.{World}
+use Rattle.shared_value.specs.SharedValue.{SharedValue}
 use Rattle.child_tasks.specs.Hands.{HoldsNone}
 use Rattle.world_core.specs.declared.held.Held.{Held}
 use Rattle.world_core.specs.declared.held.Held.TheVariants.{Nothing}
-use Rattle.world_core.specs.Whole.{AllHold, Holds}
+use Rattle.world_core.specs.WorldValue.{AllHold, Holds}
 use Rattle.world_core.proofs.world.World.start.Goals as goal
 
 -- before the first entry no worker holds a task
-none_held : (p : ProgramText) (s : Limits) (t k : ℕ) → (heap_of (opening p s) t).worker ≡ Some k → ⊥
+none_held : (p : ProgramText) (s : SettingsValue) (t k : ℕ) → (heap_of (opening p s) t).worker ≡ Some k → ⊥
 none_held p s zero k h = absurd cc
 none_held p s (suc t) k h = absurd cc
 
-holds_none : (w : World) (k : ℕ) → w.journal.items ≡ [] → HoldsNone w k
-holds_none w k none t h = none_held w.program w.settings t k (ap (λ (j : List Event). (heap_of (handed (ledger_of w.program w.settings j)) t).worker) (sym none) ∙ h)
+holds_none : (w : SharedValue) (k : ℕ) → w.journal.items ≡ [] → HoldsNone w k
+holds_none w k none t h = none_held w.program w.settings t k (ap (λ (j : List EntryValue). (heap_of (handed (ledger_of w.program w.settings j)) t).worker) (sym none) ∙ h)
 
 -- hands that hold nothing
 each_nothing : (n k : ℕ) (h : Held) → slice_get (replicate n Nothing) k ≡ Some h → Nothing ≡ h
@@ -31,11 +31,11 @@ as_many : (n : ℕ) → length (replicate n Nothing) ≡ n
 as_many zero = refl
 as_many (suc n) = ap suc (as_many n)
 
-first_hold : (w : World) (n : ℕ) → w.journal.items ≡ [] → AllHold w false (replicate n Nothing)
+first_hold : (w : SharedValue) (n : ℕ) → w.journal.items ≡ [] → AllHold w false (replicate n Nothing)
 first_hold w n none k h at = subst (λ (x : Held). Holds w false k x) (each_nothing n k h at) (holds_none w k none)
 
 pub invariant_of-result : goal.invariant_of-result
 invariant_of-result c = record {
-  count = ap length c.in_ok-hands.ensures ∙ (as_many c.workers.result ∙ (c.workers.ensures.value ∙ ap (λ (s : Limits). s.workers) (sym c.in_ok-shared.ensures.settings)));
+  count = ap length c.in_ok-hands.ensures ∙ (as_many c.workers.result ∙ (c.workers.ensures.value ∙ ap (λ (s : SettingsValue). s.workers) (sym c.in_ok-shared.ensures.settings)));
   hands = subst (λ (hs : List Held). AllHold c.in_ok-shared.shared false hs) (sym c.in_ok-hands.ensures) (first_hold c.in_ok-shared.shared c.workers.result c.in_ok-shared.ensures.journal);
 }

@@ -1,0 +1,136 @@
+-- A task's own heap, as callers see it.
+use Rattle.std.specs.Prelude.{◌≡◌, All, ℕ, ◌+◌, ◌-◌, ◌*◌, ◌/◌, ◌^◌, ◌<◌, ◌≤◌, List, [], ◌∷◌, ◌++◌, ◌==◌, if◌then◌else◌, Option, Some, None, length, min, nat_le, option_map}
+use Rattle.object_layout.specs.declared.word.Addr.{Addr}
+use Rattle.object_layout.specs.Cell.{Cell, IsObject, moved_to, size_of}
+use Rattle.object_layout.specs.ChunkValue.{ChunkValue}
+use Rattle.object_layout.specs.Place.{words_in}
+use Rattle.object_layout.specs.Chunks.{cell_of, chunk_at, held_words, object_count, place_in, push_object, small_words}
+pub use Rattle.object_layout.specs.Chunks.{AreApart, IsFresh}
+use Rattle.kept_pieces.specs.PiecesValue.{PiecesValue, Shows}
+
+-- its chunks in the order in which they came; at which place the small chunk stands that is being
+-- filled, and at which the chunk that is reserved for a large object; the words that were placed
+-- since the count began; and for how many chunks more its list and its table have places
+pub record LeafHeapValue : Type 0 where
+  pub chunks : List ChunkValue
+  pub current : Option ℕ
+  pub reserved : Option ℕ
+  pub since : ℕ
+  pub slots : ℕ
+  pub spare : ℕ
+
+-- a number of words, as far as 64 bits count
+abbrev pub counted : ℕ → ℕ
+counted n = min n (2 ^ 64 - 1)
+
+-- words in units of 1,024, rounded up
+abbrev pub units : ℕ → ℕ
+units w = (w + 1023) / 1024
+
+-- the words left in the chunk at a place
+abbrev pub room_at : List ChunkValue → Option ℕ → ℕ
+room_at ks None = 0
+room_at ks (Some i) = (chunk_at ks i).size - words_in (chunk_at ks i).cells
+
+abbrev pub room_of : LeafHeapValue → ℕ
+room_of h = room_at h.chunks h.current
+
+-- a small object goes into the chunk being filled, where the room is at least its words
+abbrev pub small_place : List ChunkValue → Option ℕ → ℕ → Option ℕ
+small_place ks at w = if nat_le w (room_at ks at) then at else None
+
+-- a large object goes into the reserved chunk, where that has just its units
+abbrev pub large_place : List ChunkValue → Option ℕ → ℕ → Option ℕ
+large_place ks None w = None
+large_place ks (Some i) w = if (chunk_at ks i).size == 1024 * units w then Some i else None
+
+-- the place of the chunk into which an object of so many words goes; None where there is none
+abbrev pub place_for : LeafHeapValue → ℕ → Option ℕ
+place_for h w = if nat_le w 1024 then small_place h.chunks h.current w else large_place h.chunks h.reserved w
+
+-- the heap with an object more in the chunk at this place
+abbrev pub placed_at : LeafHeapValue → ℕ → Cell → LeafHeapValue
+placed_at h i c = record h {
+  chunks = push_object h.chunks i c;
+  reserved = if nat_le (size_of c) 1024 then h.reserved else None;
+  since = counted (h.since + size_of c);
+}
+
+abbrev pub placed : LeafHeapValue → Option ℕ → Cell → LeafHeapValue
+placed h None c = h
+placed h (Some i) c = placed_at h i c
+
+-- the heap with an empty chunk more: it is filled from then on, or reserved where it is a large one
+abbrev pub added : LeafHeapValue → ChunkValue → LeafHeapValue
+added h k = if k.size == 1024
+    then record h { chunks = h.chunks ++ k ∷ []; current = Some (length h.chunks) }
+    else record h { chunks = h.chunks ++ k ∷ []; reserved = Some (length h.chunks) }
+
+-- the heap with other chunks in place of all of its own
+abbrev pub exchanged : LeafHeapValue → List ChunkValue → Option ℕ → Option ℕ → LeafHeapValue
+exchanged h ks filled kept = record h { chunks = ks; current = filled; reserved = kept }
+
+-- the heap with the chunks of two others before its own; it goes on filling its own chunk
+abbrev pub merged : LeafHeapValue → LeafHeapValue → LeafHeapValue → LeafHeapValue
+merged h left right = record h {
+  chunks = left.chunks ++ (right.chunks ++ h.chunks);
+  current = option_map (λ i. i + (length left.chunks + length right.chunks)) h.current;
+  reserved = option_map (λ i. i + (length left.chunks + length right.chunks)) h.reserved;
+  since = counted (h.since + (left.since + right.since));
+}
+
+-- the same heap, with places for other numbers of chunks
+abbrev pub with_places : LeafHeapValue → ℕ → ℕ → LeafHeapValue
+with_places h slots spare = record h { slots = slots; spare = spare }
+
+-- ---- what a heap keeps
+
+-- the chunk being filled is a small one
+abbrev pub IsCurrent : List ChunkValue → Option ℕ → Type 0
+IsCurrent ks None = Unit {0}
+IsCurrent ks (Some i) = (i < length ks) × ((chunk_at ks i).size ≡ 1024)
+
+-- the reserved chunk is a large one, and empty
+abbrev pub IsReserved : List ChunkValue → Option ℕ → Type 0
+IsReserved ks None = Unit {0}
+IsReserved ks (Some i) = (i < length ks) × ((1024 < (chunk_at ks i).size) × ((chunk_at ks i).cells ≡ []))
+
+-- all words of these chunks lie inside them
+abbrev pub AreWithin : List ChunkValue → Type 0
+AreWithin ks = All (λ k. words_in k.cells ≤ k.size) ks
+
+-- the table has how far each chunk stands before a base, and nothing else, all words lie inside their chunks, the counts are those of the words, of the objects, and
+-- of the words of small objects, and the pieces that are kept show what their chunks hold
+pub record IsKept (chunks : List ChunkValue) (pieces : PiecesValue) (filled kept : Option ℕ) (count many part base : ℕ) (place : ℕ → Option ℕ) (entries : ℕ) : Type 0 where
+  pub current : IsCurrent chunks filled
+  pub reserved : IsReserved chunks kept
+  pub within : AreWithin chunks
+  pub words : count ≡ counted (held_words chunks)
+  pub objects : many ≡ counted (object_count chunks)
+  pub small : part ≡ counted (small_words chunks)
+  pub least : 2 ^ 63 ≤ base
+  pub moved : base ≤ 2 ^ 63 + length chunks
+  pub table : (number : ℕ) → place number ≡ option_map (λ i. base - i) (place_in chunks number)
+  pub each : entries ≡ length chunks
+  pub shown : Shows pieces chunks
+
+-- ---- what a heap keeps between collections
+
+-- no object was moved; a large one has its chunk, of just its units, to itself; and a large chunk holds no more than one
+pub record IsTidy (k : ChunkValue) : Type 0 where
+  pub unmoved : All (λ c. moved_to c.mark ≡ None) k.cells
+  pub alone : All (λ c. 1024 < size_of c → length k.cells ≡ 1) k.cells
+  pub exact : All (λ c. 1024 < size_of c → k.size ≡ 1024 * units (size_of c)) k.cells
+  pub few : 1024 < k.size → length k.cells ≤ 1
+
+abbrev pub AreTidy : List ChunkValue → Type 0
+AreTidy ks = All IsTidy ks
+
+-- each object begins within the first 1,024 words of its chunk
+abbrev pub AreNear : List ChunkValue → Type 0
+AreNear ks = (a : Addr) → IsObject (cell_of ks a).mark → a.offset < 1024
+
+-- all chunks are so, and no two have one number
+pub record IsSettled (ks : List ChunkValue) : Type 0 where
+  pub tidy : AreTidy ks
+  pub apart : AreApart ks

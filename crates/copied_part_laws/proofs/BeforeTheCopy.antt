@@ -1,0 +1,134 @@
+-- What is known of a heap before its collection ends; and that no name stands twice in it.
+use Rattle.std.proofs.Common.{◌≡◌, ℕ, ◌+◌, ◌≤◌, ◌==◌, arith, Bool, true, false, cond, List, [], ◌∷◌, ◌++◌, map, inl, inr, refl, ap, sym, subst, ◌∙◌}
+use Rattle.std.specs.List.{flat_map}
+use Rattle.std.proofs.lemmas.Bool.{eqb-true}
+use Rattle.listed.proofs.Members.{in_append_cases, in_append_left, in_append_right}
+use Rattle.hh_model.specs.declared.data.Name.{Name}
+use Rattle.hh_model.specs.declared.data.State.{State}
+use Rattle.run_ledger.specs.declared.data.Heap.{Heap as Account}
+use Rattle.run_ledger.specs.Heaps.{words_at}
+use Rattle.object_layout.specs.declared.word.Birth.{Birth}
+use Rattle.object_layout.specs.Cell.{Born, Cell, Hole, Mark, Moved, size_of}
+use Rattle.object_layout.specs.ChunkValue.{ChunkValue}
+use Rattle.object_layout.specs.Objects.{Located, located, located_by, objects_from}
+use Rattle.alloc_path.specs.LeafHeapValue.{AreApart, LeafHeapValue}
+use Rattle.leaf_copy_gc.specs.declared.lists.Survivor.{Survivor}
+use Rattle.leaf_copy_gc.specs.Survivors.{olds}
+use Rattle.core_relation.specs.Memory.{In, object_name, objects_in}
+use Rattle.core_relation.specs.Layout.{AreLaidOut, words}
+use Rattle.core_relation.specs.Stands.{HasNames}
+use Rattle.core_relation.proofs.objects.Members.{in_map, in_objects}
+use Rattle.task_machine.specs.Accounts.{named_by, names_in, small_lists}
+use Rattle.task_machine.specs.Place.{name_of}
+use Rattle.shared_value.specs.Objects.{chunk_of, chunks_of}
+use Rattle.shared_value.specs.Stands.{HeapForm}
+use Rattle.shared_value.proofs.CellsRead.{fresh_off}
+use Rattle.copied_part_laws.proofs.SurvivorOrder.{Single}
+use Rattle.copied_part_laws.proofs.ObjectsApart.{span}
+
+-- a heap with these survivors, and its account in this state of the machine
+pub record Old (h : LeafHeapValue) (ss : List Survivor) (m : State) (a : Account) : Type 0 where
+  pub form : HeapForm h
+  pub names : HasNames (chunks_of h.chunks) a
+  pub named : (o q : Located) → In (objects_in (chunks_of h.chunks)) o → In (objects_in (chunks_of h.chunks)) q → object_name o ≡ object_name q → o ≡ q
+  pub words : (o : Located) → In (objects_in (chunks_of h.chunks)) o → words_at m (object_name o) ≡ words o
+  pub laid : AreLaidOut (chunks_of h.chunks) a.reserved
+  pub lives : (o : Located) → In (objects_in (chunks_of h.chunks)) o → In (olds ss) o.at → In a.survivors (object_name o)
+  pub dies : (o : Located) → In (objects_in (chunks_of h.chunks)) o → In a.survivors (object_name o) → In (olds ss) o.at
+
+-- ---- NAMES THAT ARE READ
+
+pub there : (number base : ℕ) (c : Cell) (m : Mark) (b : Birth) (os : List Located) → m ≡ Born b → In (located_by number base c m os) (located number base b c)
+there number base c m b os e = subst (λ z. In (located_by number base c z os) (located number base b c)) (sym e) (inl refl)
+
+pub behind : (number base : ℕ) (c : Cell) (m : Mark) (os : List Located) (o : Located) → In os o → In (located_by number base c m os) o
+behind number base c (Born b) os o i = inr i
+behind number base c (Moved to) os o i = i
+behind number base c Hole os o i = i
+
+-- a name of cells is that of an object of theirs
+pub name_seen : (cs : List Cell) (number base : ℕ) (n : Name) → In (names_in cs) n → (o : Located) × In (objects_from number base cs) o × (object_name o ≡ n)
+name_seen [] number base n i = absurd i
+name_seen (c ∷ cs) number base n i = by c.mark i refl (name_seen cs number (base + size_of c) n)
+  where
+    by : (m : Mark) → In (named_by m (names_in cs)) n → c.mark ≡ m → (In (names_in cs) n → (o : Located) × In (objects_from number (base + size_of c) cs) o × (object_name o ≡ n)) → (o : Located) × In (objects_from number base (c ∷ cs)) o × (object_name o ≡ n)
+    by (Born b) (inl e) q go = (located number base b c, there number base c c.mark b (objects_from number (base + size_of c) cs) q, e)
+    by (Born b) (inr j) q go = let r = go j in (r.0, behind number base c c.mark (objects_from number (base + size_of c) cs) r.0 r.1, r.2)
+    by (Moved to) j q go = let r = go j in (r.0, behind number base c c.mark (objects_from number (base + size_of c) cs) r.0 r.1, r.2)
+    by Hole j q go = let r = go j in (r.0, behind number base c c.mark (objects_from number (base + size_of c) cs) r.0 r.1, r.2)
+
+-- and the names of all objects are those of the cells
+pub names_are : (cs : List Cell) (number base : ℕ) → map object_name (objects_from number base cs) ≡ names_in cs
+names_are [] number base = refl
+names_are (c ∷ cs) number base = by c.mark (names_are cs number (base + size_of c))
+  where
+    by : (m : Mark) → map object_name (objects_from number (base + size_of c) cs) ≡ names_in cs → map object_name (located_by number base c m (objects_from number (base + size_of c) cs)) ≡ named_by m (names_in cs)
+    by (Born b) e = ap (λ ns. name_of b ∷ ns) e
+    by (Moved to) e = e
+    by Hole e = e
+
+-- a name of small chunks is that of an object of theirs
+pub small_seen : (ks : List ChunkValue) (n : Name) → In (flat_map (λ ns. ns) (small_lists ks)) n → (k : ChunkValue) × In ks k × (k.size ≡ 1024) × In (names_in k.cells) n
+small_seen [] n i = absurd i
+small_seen (k ∷ ks) n i = by (k.size == 1024) refl i (small_seen ks n)
+  where
+    by : (b : Bool) → (k.size == 1024) ≡ b → In (flat_map (λ ns. ns) (cond b (names_in k.cells ∷ small_lists ks) (small_lists ks))) n → (In (flat_map (λ ns. ns) (small_lists ks)) n → (j : ChunkValue) × In ks j × (j.size ≡ 1024) × In (names_in j.cells) n)
+        → (j : ChunkValue) × In (k ∷ ks) j × (j.size ≡ 1024) × In (names_in j.cells) n
+    by true q j go = elim (in_append_cases (names_in k.cells) (flat_map (λ ns. ns) (small_lists ks)) n j) [
+      | inl x ↦ (k, inl refl, eqb-true k.size 1024 q, x)
+      | inr x ↦ let r = go x in (r.0, inr r.1, r.2, r.3)
+    ]
+    by false q j go = let r = go j in (r.0, inr r.1, r.2, r.3)
+
+-- ---- NO NAME TWICE
+
+abbrev Injective : List Located → Type 0
+Injective os = (o q : Located) → In os o → In os q → object_name o ≡ object_name q → o ≡ q
+
+single_append : (xs ys : List Name) → Single xs → Single ys → ((n : Name) → In xs n → In ys n → ⊥) → Single (xs ++ ys)
+single_append [] ys s t f = t
+single_append (x ∷ xs) ys s t f = ((λ i. elim (in_append_cases xs ys x i) [ inl j ↦ s.0 j | inr j ↦ f x (inl refl) j ]), single_append xs ys s.1 t (λ n i j. f n (inr i) j))
+
+pub single_cells : (cs : List Cell) (number base : ℕ) → Injective (objects_from number base cs) → Single (names_in cs)
+single_cells [] number base f = tt
+single_cells (c ∷ cs) number base f = by c.mark refl (single_cells cs number (base + size_of c) (λ o q i j e. f o q (behind number base c c.mark os o i) (behind number base c c.mark os q j) e))
+  where
+    os : List Located
+    os = objects_from number (base + size_of c) cs
+
+    by : (m : Mark) → c.mark ≡ m → Single (names_in cs) → Single (named_by m (names_in cs))
+    by (Born b) e go = (
+      (λ i.
+          let r = name_seen cs number (base + size_of c) (name_of b) i in
+          let same : located number base b c ≡ r.0 = f (located number base b c) r.0 (there number base c c.mark b os e) (behind number base c c.mark os r.0 r.1) (sym r.2) in
+          let at : base ≡ r.0.at.offset = ap (λ (o : Located). o.at.offset) same in
+          let le : base + size_of c ≤ r.0.at.offset = (span cs number (base + size_of c) r.0 r.1).from in
+          omega (arith, at, le)),
+      go,
+    )
+    by (Moved to) e go = go
+    by Hole e go = go
+
+pub single_small : (ks : List ChunkValue) → AreApart ks → Injective (objects_in (chunks_of ks)) → Single (flat_map (λ ns. ns) (small_lists ks))
+single_small [] A f = tt
+single_small (k ∷ ks) A f = by (k.size == 1024) (single_small ks A.1 (λ o q i j e. f o q (right o i) (right q j) e))
+  where
+    left : (o : Located) → In (objects_from k.number 0 k.cells) o → In (objects_in (chunks_of (k ∷ ks))) o
+    left o i = in_append_left (objects_from k.number 0 k.cells) (objects_in (chunks_of ks)) o i
+
+    right : (o : Located) → In (objects_in (chunks_of ks)) o → In (objects_in (chunks_of (k ∷ ks))) o
+    right o i = in_append_right (objects_from k.number 0 k.cells) (objects_in (chunks_of ks)) o i
+
+    clash : (n : Name) → In (names_in k.cells) n → In (flat_map (λ ns. ns) (small_lists ks)) n → ⊥
+    clash n i j =
+        let o = name_seen k.cells k.number 0 n i in
+        let s = small_seen ks n j in
+        let q = name_seen s.0.cells s.0.number 0 n s.3 in
+        let same : o.0 ≡ q.0 = f o.0 q.0 (left o.0 o.1) (right q.0 (in_objects (chunks_of ks) (chunk_of s.0) q.0 (in_map chunk_of ks s.0 s.1) q.1)) (o.2 ∙ sym q.2) in
+        let here : o.0.at.chunk ≡ k.number = (span k.cells k.number 0 o.0 o.1).chunk in
+        let off : q.0.at.chunk ≡ s.0.number = (span s.0.cells s.0.number 0 q.0 q.1).chunk in
+        fresh_off ks s.0 k.number A.0 s.1 (sym off ∙ (ap (λ (x : Located). x.at.chunk) (sym same) ∙ here))
+
+    by : (b : Bool) → Single (flat_map (λ ns. ns) (small_lists ks)) → Single (flat_map (λ ns. ns) (cond b (names_in k.cells ∷ small_lists ks) (small_lists ks)))
+    by true go = single_append (names_in k.cells) (flat_map (λ ns. ns) (small_lists ks)) (single_cells k.cells k.number 0 (λ o q i j e. f o q (left o i) (left q j) e)) go clash
+    by false go = go

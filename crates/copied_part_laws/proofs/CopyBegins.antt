@@ -1,0 +1,33 @@
+-- A part that has just begun its collection can be copied.
+use Rattle.std.proofs.Common.{◌≡◌, ℕ, ◌+◌, ◌-◌, ◌*◌, ◌/◌, ◌≤◌, max, arith, All, List, length, refl, ap, sym, subst, ◌∙◌}
+use Rattle.run_ledger.specs.Heaps.{units}
+use Rattle.object_layout.specs.ChunkValue.{ChunkValue}
+use Rattle.object_layout.specs.Chunks.{small_words}
+use Rattle.alloc_path.specs.LeafHeapValue.{LeafHeapValue, IsFresh}
+use Rattle.leaf_copy_gc.specs.Laid.{small_words as small_laid}
+use Rattle.leaf_copy_gc.specs.declared.lists.ToChunks.{ToChunks}
+use Rattle.leaf_copy_gc.proofs.Needs.{needs_are_counted}
+use Rattle.task_machine.specs.declared.part.Private.{Private}
+use Rattle.shared_value.specs.Due.{take_by}
+use Rattle.copied_part_laws.specs.Handed.{BegunIsCopying}
+
+enough_taken : (needed counted n : ℕ) → needed ≡ counted → n ≡ take_by counted → 2 * ((needed + 1023) / 1024) ≤ n + 1
+enough_taken needed counted n e q = omega (arith, e, q)
+
+pub begun_is_copying : BegunIsCopying
+begun_is_copying w k old new roots to B world fits fresh =
+    let chunks : new.heap.chunks ≡ old.heap.chunks = ap (λ (p : Private). p.heap.chunks) B.part in
+    let need : small_laid new.heap.chunks ≡ small_words new.heap.chunks = (needs_are_counted new.heap.chunks (record { tidy = fits.form.tidy; apart = fits.form.shaped.apart })).0 in
+    record {
+      world = world;
+      fits = fits;
+      fresh = fresh;
+      begun = ap (λ (p : Private). p.begun) B.part;
+      new = record {
+        apart = B.apart;
+        fresh = subst (λ ks. All (λ (c : ChunkValue). IsFresh ks c.number) to.chunks.items) (sym chunks) B.fresh;
+        new = B.empty;
+        enough = enough_taken (small_laid new.heap.chunks) (small_words new.heap.chunks) (length to.chunks.items) need (B.count ∙ ap (λ ks. take_by (small_words ks)) (sym chunks));
+      };
+      numbers = refl;
+    }

@@ -1,0 +1,154 @@
+-- A part that was copied fits the shared value for the end of its collection.
+use Rattle.std.proofs.Common.{◌≡◌, ℕ, zero, suc, ◌/◌, ◌++◌, ◌≤◌, arith, All, Option, Some, None, List, [], ◌∷◌, length, slice_get, sum_by, refl, ap, sym, subst, ◌∙◌}
+use Rattle.std.specs.Prelude.{pos, reverse}
+use Rattle.std.proofs.lemmas.List.{length-map}
+use Rattle.std.proofs.lemmas.List.Sums.{sum_by-cons}
+use Rattle.run_ledger.specs.declared.data.Heap.{Heap as Account}
+use Rattle.run_ledger.specs.declared.data.Ledger.{Ledger}
+use Rattle.run_ledger.specs.Heaps.{end_numbers, heap_of, in_use, or_fresh, units_in}
+use Rattle.run_ledger.proofs.Space.{use_is_bounded}
+use Rattle.object_layout.specs.ChunkValue.{ChunkValue}
+use Rattle.chunk_pool.specs.declared.pool.Held.{Held}
+use Rattle.chunk_pool.specs.PoolValue.{owner_of}
+use Rattle.alloc_path.specs.LeafHeapValue.{AreApart, LeafHeapValue, IsFresh}
+use Rattle.alloc_path.specs.Units.{counted32, unit_count}
+use Rattle.task_frames.specs.FramesValue.{FramesValue}
+use Rattle.leaf_copy_gc.specs.declared.lists.Moved.{Moved}
+use Rattle.leaf_copy_gc.specs.Survivors.{outside}
+use Rattle.leaf_copy_gc.specs.Collected.{back_of}
+use Rattle.leaf_copy_gc.specs.Lists.{IsCollected}
+use Rattle.leaf_copy_gc.proofs.Telling.{moves_are_told}
+use Rattle.inner_mark_gc.specs.Swept.{units_kept}
+use Rattle.ledger_step_laws.specs.Accounts.{aside}
+use Rattle.ledger_step_laws.proofs.Rested.{rested_view}
+use Rattle.core_relation.specs.Copies.{PartFits, before}
+use Rattle.core_relation.specs.Fits.{part_for}
+use Rattle.core_relation.specs.Memory.{Home, In}
+use Rattle.core_relation.proofs.objects.Members.{in_map}
+use Rattle.task_machine.specs.declared.part.Begun.{Begun}
+use Rattle.task_machine.specs.declared.part.Private.{Private}
+use Rattle.shared_value.specs.Fits.{home_of_part}
+use Rattle.shared_value.specs.Measured.{AreMeasured, AreUnits, news_of}
+use Rattle.shared_value.proofs.UnitsMeasured.{measured_both}
+use Rattle.shared_value.specs.SharedValue.{SharedValue, accounts, frames_of, home_with, value_of}
+use Rattle.leaf_collections.specs.LeafEnd.{AreBack, FitsCopied}
+use Rattle.copied_part_laws.specs.Copied.{IsBegun, part_home}
+use Rattle.copied_part_laws.specs.Handed.{CopiedFits, IsCopying}
+use Rattle.copied_part_laws.proofs.ChunksGivenBack as back
+use Rattle.copied_part_laws.proofs.CopyMade as copying
+use Rattle.copied_part_laws.proofs.CopyMade.{copies_fit}
+use Rattle.copied_part_laws.proofs.BeforeTheCopy.{Old}
+use Rattle.copied_part_laws.proofs.CopyCounts as counting
+use Rattle.copied_part_laws.proofs.CopySays.{numbers_are_said}
+
+-- one of the numbers that are summed
+one_of_sum : {A : Type 0} (g : A → ℕ) (xs : List A) (t : ℕ) (x : A) → slice_get xs t ≡ Some x → g x ≤ sum_by g xs
+one_of_sum g [] t x e = absurd cc
+one_of_sum g (y ∷ ys) zero x e = let s = sum_by-cons g y ys in let q : g y ≡ g x = ap g (let z : y ≡ x = cc in z) in omega (arith, s, q)
+one_of_sum g (y ∷ ys) (suc t) x e = let s = sum_by-cons g y ys in let r = one_of_sum g ys t x e in omega (arith, s, r)
+
+heap_least : (l : Ledger) (t : ℕ) → units_in l.machine (heap_of l t) ≤ in_use l
+heap_least l t = by (slice_get l.heaps t) refl
+  where
+    by : (o : Option Account) → slice_get l.heaps t ≡ o → units_in l.machine (or_fresh o) ≤ in_use l
+    by None e = omega arith
+    by (Some h) e = one_of_sum (units_in l.machine) l.heaps t h e
+
+aside_least : (l : Ledger) (t : ℕ) → units_in (aside l).machine (heap_of (aside l) t) ≤ in_use l
+aside_least l t = heap_least l t
+
+said_same : (l : Ledger) (t : ℕ) (said : ℕ × ℕ × ℕ) → said ≡ end_numbers (aside l).machine (heap_of (aside l) t) → said ≡ end_numbers l.machine (heap_of l t)
+said_same l t said e = e
+
+module _ (w : SharedValue) (k : ℕ) (p : Private) (b : Begun) (news : List ChunkValue) (C : IsCopying w k p b news) where
+  abbrev pub l : Ledger
+  l = aside (accounts w)
+
+  abbrev pub H : Home
+  H = part_home p.heap p.view p.allocations p.frames (Some b)
+
+  home_is : home_of_part p ≡ H
+  home_is = ap (λ o. record (home_with p.heap p.view p.allocations (frames_of p.frames) (pos 0, None)) { begun = o }) C.begun
+
+  fits : PartFits w.program w.settings (before w.settings p.task H) (value_of w) (aside (accounts w))
+  fits =
+      subst (λ n. PartFits w.program w.settings (part_for w.settings p.task H n) (value_of w) (aside (accounts w))) C.fresh
+      (subst (λ (h : Home). PartFits w.program w.settings (part_for w.settings p.task h p.fresh) (value_of w) (aside (accounts w))) home_is C.fits.fits.part)
+
+  pub begun : IsBegun w.program w.settings p.task p.heap p.view p.allocations p.frames b news (value_of w) (aside (accounts w))
+  begun = record {
+    form = C.fits.form;
+    fits = fits;
+    new = C.new;
+    took = λ c i. subst (λ ns. In ns c.number) (sym C.numbers) (in_map (λ (c : ChunkValue). c.number) news c i);
+    all = ap (λ (ns : List ℕ). length ns) C.numbers ∙ length-map news (λ (c : ChunkValue). c.number);
+  }
+
+  few : units_in (aside (accounts w)).machine (heap_of (aside (accounts w)) p.task) ≤ 65536
+  few =
+      let a : units_in (aside (accounts w)).machine (heap_of (aside (accounts w)) p.task) ≤ in_use (accounts w) = aside_least (accounts w) p.task in
+      let u : in_use (accounts w) ≤ w.settings.chunks = (use_is_bounded w.program w.settings w.journal.items C.world.legal).now in
+      let c : w.settings.chunks ≤ 65536 = C.world.limits.chunks.1 in
+      omega (arith, a, u, c)
+
+  -- the pool has its chunks and the new ones with their units
+  units : AreUnits w.pool p.task b.news
+  units = subst (λ o. AreUnits w.pool p.task (news_of o)) C.begun C.fits.measured.1
+
+  all_measured : AreMeasured w.pool p.task (p.heap.chunks ++ news)
+  all_measured =
+      measured_both w.pool p.task p.heap.chunks news C.fits.measured.0 (λ c i.
+      units c.number (subst (λ ns. In ns c.number) (sym C.numbers) (in_map (λ (c : ChunkValue). c.number) news c i))
+      ∙ ap (λ n. let h : Held = record { owner = p.task; units = n / 1024 } in Some h) (sym (back.size_of_new news c C.new.new i)))
+
+  module _ (h' : LeafHeapValue) (s' : FramesValue) (out : Moved) (D : IsCollected p.heap p.frames b.roots news h' s' out) where
+    -- what is known of the heap before
+    O : Old p.heap D.survivors (aside (accounts w)).machine (heap_of (aside (accounts w)) p.task)
+    O = copying.O w.program w.settings p.task p.heap p.view p.allocations p.frames b news (value_of w) (aside (accounts w)) begun h' s' out D
+
+    abbrev Back : List ChunkValue
+    Back = back_of p.heap D.survivors (reverse news)
+
+    began : (heap_of (aside (accounts w)) p.task).begun ≡ Some (length news)
+    began = sym (rested_view (λ x. x.begun) (λ x. refl) (aside (accounts w)) p.task) ∙ ((copying.began w.program w.settings p.task p.heap p.view p.allocations p.frames b news (value_of w) (aside (accounts w)) begun).few ∙ ap Some begun.all)
+
+    given_is : unit_count Back ≡ out.given
+    given_is =
+        counting.given_is p.heap (outside p.frames b.roots) D.survivors news D.are C.new (aside (accounts w)).machine (heap_of (aside (accounts w)) p.task) O began
+        ∙ sym (D.given ∙ (ap (λ ks. counted32 (unit_count ks)) D.back ∙ counting.given_counted p.heap (outside p.frames b.roots) D.survivors news D.are C.new (aside (accounts w)).machine (heap_of (aside (accounts w)) p.task) O began few))
+
+    are_back : AreBack w (record p { heap = h'; frames = s' }) out.back.items out.given
+    are_back = record {
+      apart = subst AreApart (sym D.back) (back.back_apart p.heap (outside p.frames b.roots) D.survivors news D.are C.new (aside (accounts w)).machine (heap_of (aside (accounts w)) p.task) O);
+      owned = subst (All (λ c. owner_of w.pool c.number ≡ Some p.task)) (sym D.back)
+          (back.back_owned p.heap (outside p.frames b.roots) D.survivors news D.are C.new (aside (accounts w)).machine (heap_of (aside (accounts w)) p.task) O w.pool p.task all_measured);
+      gone = subst (All (λ c. IsFresh h'.chunks c.number)) (sym D.back)
+          (subst (λ (x : LeafHeapValue). All (λ c. IsFresh x.chunks c.number) Back) (sym D.heap) (back.back_gone p.heap (outside p.frames b.roots) D.survivors news D.are C.new (aside (accounts w)).machine (heap_of (aside (accounts w)) p.task) O));
+      units = ap (units_kept w.pool) D.back
+          ∙ (back.back_units p.heap (outside p.frames b.roots) D.survivors news D.are C.new (aside (accounts w)).machine (heap_of (aside (accounts w)) p.task) O w.pool p.task all_measured ∙ given_is);
+    }
+
+    measured : AreMeasured w.pool p.task h'.chunks
+    measured = subst (λ (x : LeafHeapValue). AreMeasured w.pool p.task x.chunks) (sym D.heap)
+        (back.heap_measured p.heap (outside p.frames b.roots) D.survivors news D.are C.new (aside (accounts w)).machine (heap_of (aside (accounts w)) p.task) O w.pool p.task all_measured)
+
+    pub copied : FitsCopied w k (record p { heap = h'; frames = s' }) out
+    copied =
+        let made = copies_fit w.program w.settings p.task p.heap p.view p.allocations p.frames b news (value_of w) (aside (accounts w)) begun h' s' out D in
+        record {
+          home = H;
+          held = C.fits.held;
+          copy = made.0;
+          form = made.1;
+          measured = measured;
+          fresh = C.fresh;
+          leaf_limit = C.fits.leaf_limit;
+          field_limit = C.fits.field_limit;
+          numbers = said_same (accounts w) p.task _ (numbers_are_said w.program w.settings p.task p.heap p.view p.allocations p.frames b news (value_of w) (aside (accounts w)) begun few h' s' out D);
+          order = D.order;
+          places = (moves_are_told p.heap (outside p.frames b.roots) D.survivors news out.moved.items D.are C.new D.moved).places;
+          back = are_back;
+        }
+
+pub copied_fits : CopiedFits
+copied_fits w k p b news C h' s' out D = copied w k p b news C h' s' out D

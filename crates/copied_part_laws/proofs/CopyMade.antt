@@ -1,0 +1,261 @@
+-- What a leaf collection makes of a part is a copy of it.
+use Rattle.std.proofs.Common.{◌≡◌, ℕ, suc, ◌+◌, arith, Option, Some, None, is_some, List, [], ◌∷◌, ◌++◌, length, map, filter, inl, inr, refl, ap, ap₂, sym, subst, ◌∙◌}
+use Rattle.std.specs.Prelude.{reverse, unwrap_or}
+use Rattle.listed.proofs.Members.{contains_from_in, in_append_cases, in_from_contains}
+use Rattle.hh_lang.specs.Form.{ProgramText}
+use Rattle.hh_model.specs.declared.data.Name.{Name}
+use Rattle.hh_model.specs.declared.data.Object.{Object}
+use Rattle.hh_model.specs.declared.data.State.{State}
+use Rattle.hh_model.specs.Effect.{object_at}
+use Rattle.run_trace.specs.Settings.{SettingsValue}
+use Rattle.run_ledger.specs.declared.data.Heap.{Heap as Account}
+use Rattle.run_ledger.specs.declared.data.Ledger.{Ledger}
+use Rattle.run_ledger.specs.Heaps.{heap_of, let_go, words_at, words_of}
+use Rattle.object_layout.specs.declared.word.Addr.{Addr}
+use Rattle.object_layout.specs.ChunkValue.{ChunkValue}
+use Rattle.object_layout.specs.Objects.{Located}
+use Rattle.alloc_path.specs.LeafHeapValue.{LeafHeapValue, with_places}
+use Rattle.alloc_path.specs.View.{Level}
+use Rattle.task_frames.specs.declared.frames.Frame.{Frame}
+use Rattle.task_frames.specs.FramesValue.{FramesValue, frames_of as all_frames}
+use Rattle.leaf_copy_gc.specs.declared.lists.Moved.{Moved}
+use Rattle.leaf_copy_gc.specs.declared.lists.Survivor.{Survivor}
+use Rattle.leaf_copy_gc.specs.Survivors.{olds, outside}
+use Rattle.leaf_copy_gc.specs.Redirected.{led_chunk, led_frame as led_frame_by, new_address}
+use Rattle.leaf_copy_gc.specs.Exchanged.{reserved_of, unreserved}
+use Rattle.leaf_copy_gc.specs.Collected.{AreSurvivors, collected, keeps, kept_of, laid_of}
+use Rattle.leaf_copy_gc.specs.Laws.{TellsMoves}
+use Rattle.leaf_copy_gc.specs.Lists.{IsCollected}
+use Rattle.leaf_copy_gc.proofs.Extent as extent
+use Rattle.leaf_copy_gc.proofs.Telling.{moves_are_told}
+use Rattle.ledger_step_laws.specs.Accounts.{rested}
+use Rattle.ledger_step_laws.proofs.Ahead.{with_machine}
+use Rattle.ledger_step_laws.proofs.Rested.{rested_view, rested_worker}
+use Rattle.task_machine.specs.declared.part.Begun.{Begun}
+use Rattle.core_relation.specs.Memory.{Chunk, Home, In, Memory, led, led_frame, led_object, object_name, objects_in}
+use Rattle.core_relation.specs.Layout.{AreLaidOut, words}
+use Rattle.core_relation.specs.Reads.{AllRead}
+use Rattle.core_relation.specs.Begins.{IsReachedAt}
+use Rattle.core_relation.specs.Stands.{HasNames, HomeStands, Place, Stands}
+use Rattle.core_relation.specs.Fits.{with_home}
+use Rattle.core_relation.specs.Whole.{BegunStands}
+use Rattle.core_relation.specs.Copies.{CopyFits, IsCopy}
+use Rattle.core_relation.proofs.objects.Members.{in_map, map_in}
+use Rattle.core_relation.proofs.changes.With.{at_home}
+use Rattle.shared_value.specs.Objects.{chunk_of, chunks_of}
+use Rattle.shared_value.specs.Stands.{HeapForm}
+use Rattle.shared_value.specs.SharedValue.{frames_of}
+use Rattle.copied_part_laws.specs.Copied.{CopiesFit, IsBegun, part_home}
+use Rattle.copied_part_laws.proofs.CopiedForm as forming
+use Rattle.copied_part_laws.proofs.BeforeTheCopy.{Old}
+use Rattle.copied_part_laws.proofs.NamesLaid.{room_last}
+use Rattle.copied_part_laws.proofs.ObjectsApart.{held_by, inside, once, span}
+use Rattle.copied_part_laws.proofs.ObjectsMoved as moving
+use Rattle.copied_part_laws.proofs.CopiedNames as naming
+use Rattle.copied_part_laws.proofs.SurvivorsReached.{reached_back, reached_to}
+
+-- ---- FRAMES
+
+last_same : (xs ys : List Frame) (x y : Frame) → xs ++ x ∷ [] ≡ ys ++ y ∷ [] → (xs ≡ ys) × (x ≡ y)
+last_same [] [] x y e = (refl, cc)
+last_same [] (z ∷ []) x y e = absurd cc
+last_same [] (z ∷ (w ∷ ys)) x y e = absurd cc
+last_same (z ∷ []) [] x y e = absurd cc
+last_same (z ∷ (w ∷ xs)) [] x y e = absurd cc
+last_same (z ∷ xs) (w ∷ ys) x y e =
+    let head : z ≡ w = cc in
+    let tail : xs ++ x ∷ [] ≡ ys ++ y ∷ [] = cc in
+    let r = last_same xs ys x y tail in
+    (ap₂ (λ q qs. q ∷ qs) head r.0, r.1)
+
+map_last : (f : Frame → Frame) (xs : List Frame) (x : Frame) → map f (xs ++ x ∷ []) ≡ map f xs ++ f x ∷ []
+map_last f [] x = refl
+map_last f (z ∷ xs) x = ap (λ qs. f z ∷ qs) (map_last f xs x)
+
+-- frames with their references led
+frames_led : (f : Addr → Addr) (s s' : FramesValue) → all_frames s' ≡ map (led_frame_by (led f)) (all_frames s) → frames_of s' ≡ map (led_frame f) (frames_of s)
+frames_led f s s' e =
+    let r = last_same s'.below (map (led_frame_by (led f)) s.below) s'.top (led_frame_by (led f) s.top) (e ∙ map_last (led_frame_by (led f)) s.below s.top) in
+    ap₂ (λ x xs. x ∷ xs) r.1 r.0
+
+-- ---- WORDS
+
+read_length : (at : Name → Addr → Type 0) (rs : List (Option Addr)) (xs : List (Option Name)) → AllRead at rs xs → length xs ≡ length rs
+read_length at [] [] h = refl
+read_length at [] (x ∷ xs) h = absurd h
+read_length at (r ∷ rs) [] h = absurd h
+read_length at (r ∷ rs) (x ∷ xs) h = ap suc (read_length at rs xs h.1)
+
+module _ (p : ProgramText) (st : SettingsValue) (t : ℕ) (h : LeafHeapValue) (view : List Level) (count : ℕ) (s : FramesValue) (b : Begun) (news : List ChunkValue) (v : Memory) (l : Ledger) (B : IsBegun p st t h view count s b news v l) where
+  abbrev pub H : Home
+  H = part_home h view count s (Some b)
+
+  abbrev pub V : Memory
+  V = with_home v t H
+
+  abbrev pub lt : Ledger
+  lt = rested l t
+
+  abbrev pub a : Account
+  a = heap_of l t
+
+  pub stands : Stands V lt
+  stands = B.fits.fits.stands
+
+  pub home : HomeStands V lt t
+  home = stands.homes t (rested_worker l t)
+
+  pub here : V.homes t ≡ H
+  here = at_home v t H
+
+  pub began : BegunStands V lt t b
+  began = B.fits.begun
+
+  pub machine : lt.machine ≡ l.machine
+  machine = with_machine l t let_go
+
+  pub there : (o : Located) → In (objects_in (chunks_of h.chunks)) o → In (objects_in (V.homes t).chunks) o
+  there o i = subst (λ (z : Home). In (objects_in z.chunks) o) (sym here) i
+
+  names : HasNames (chunks_of h.chunks) a
+  names =
+      let n : HasNames (chunks_of h.chunks) (heap_of lt t) = subst (λ (z : Home). HasNames z.chunks (heap_of lt t)) here home.names in
+      record { small = n.small ∙ rested_view (λ x. x.chunks) (λ x. refl) l t; large = n.large ∙ rested_view (λ x. x.large) (λ x. refl) l t }
+
+  laid : AreLaidOut (chunks_of h.chunks) a.reserved
+  laid = subst (AreLaidOut (chunks_of h.chunks)) (rested_view (λ x. x.reserved) (λ x. refl) l t) (subst (λ (z : Home). AreLaidOut z.chunks (heap_of lt t).reserved) here home.laid)
+
+  survivors_same : (heap_of lt t).survivors ≡ a.survivors
+  survivors_same = rested_view (λ x. x.survivors) (λ x. refl) l t
+
+  read_words : (o : Located) → In (objects_in (chunks_of h.chunks)) o → words_at l.machine (object_name o) ≡ words o
+  read_words o i =
+      let c = stands.contents t o (rested_worker l t) (there o i) in
+      let x : Object = c.0 in
+      let e : words_at l.machine (object_name o) ≡ words_of (Some c.0) = ap (λ (m : State). words_of (object_at m.store (object_name o))) (sym machine) ∙ ap words_of c.1 in
+      let r : length c.0.refs ≡ length o.refs = read_length (Place V lt) o.refs c.0.refs c.2.refs in
+      let n : length c.0.ints ≡ length o.ints = ap (λ zs. length zs) (sym c.2.ints) in
+      e ∙ (let q : 2 + length c.0.refs + length c.0.ints ≡ 2 + length o.refs + length o.ints = omega (arith, r, n) in q)
+
+  -- its chunks are t's
+  pub owned_chunk : (k : ChunkValue) → In h.chunks k → v.owner k.number ≡ Some t
+  owned_chunk k i = home.owned (chunk_of k) (subst (λ (z : Home). In z.chunks (chunk_of k)) (sym here) (in_map chunk_of h.chunks k i))
+
+  module _ (ss : List Survivor) (S : AreSurvivors h.chunks (outside s b.roots) ss) where
+    lives : (o : Located) → In (objects_in (chunks_of h.chunks)) o → In (olds ss) o.at → In a.survivors (object_name o)
+    lives o i j =
+        let w : IsReachedAt H b.roots o.at = reached_back h.chunks B.form.shaped.apart H s b.roots refl refl o.at ((S.exactly o.at).0 (contains_from_in (olds ss) o.at j)) in
+        subst (λ ns. In ns (object_name o)) survivors_same ((began.survivors o (there o i)).0 (subst (λ (z : Home). IsReachedAt z b.roots o.at) (sym here) w))
+
+    dies : (o : Located) → In (objects_in (chunks_of h.chunks)) o → In a.survivors (object_name o) → In (olds ss) o.at
+    dies o i j =
+        let w : IsReachedAt (V.homes t) b.roots o.at = (began.survivors o (there o i)).1 (subst (λ ns. In ns (object_name o)) (sym survivors_same) j) in
+        in_from_contains (olds ss) o.at ((S.exactly o.at).1 (reached_to h.chunks B.form.shaped.apart H s b.roots refl refl o.at (subst (λ (z : Home). IsReachedAt z b.roots o.at) here w)))
+
+    pub old : Old h ss l.machine a
+    old = record {
+      form = B.form;
+      names = names;
+      named = λ o q i j e. home.named o q (there o i) (there q j) e;
+      words = read_words;
+      laid = laid;
+      lives = lives;
+      dies = dies;
+    }
+
+  -- ---- THE COPY
+
+  module _ (h' : LeafHeapValue) (s' : FramesValue) (out : Moved) (C : IsCollected h s b.roots news h' s' out) where
+    abbrev pub ss : List Survivor
+    ss = C.survivors
+
+    pub O : Old h C.survivors l.machine a
+    O = old C.survivors C.are
+
+    abbrev to : Addr → Addr
+    to = moving.to h (outside s b.roots) C.survivors news C.are B.new (naming.settled h (outside s b.roots) C.survivors news C.are B.new l.machine a O) (naming.reserved h (outside s b.roots) C.survivors news C.are B.new l.machine a O)
+
+    abbrev L : List ChunkValue
+    L = laid_of h C.survivors (reverse news)
+
+    abbrev K : List ChunkValue
+    K = kept_of h C.survivors (reverse news)
+
+    abbrev R : List ChunkValue
+    R = reserved_of h.chunks h.reserved
+
+    abbrev N : LeafHeapValue
+    N = with_places (collected h C.survivors (reverse news)) h'.slots h'.spare
+
+    told : TellsMoves h C.survivors news out.moved.items
+    told = moves_are_told h (outside s b.roots) C.survivors news out.moved.items C.are B.new C.moved
+
+    f_is : new_address out.moved.items ≡ to
+    f_is = λ i x. ap (λ (o : Option Addr). unwrap_or o x) (told.same x) i
+
+    came : (o' : Located) → In (objects_in (chunks_of (L ++ (K ++ R)))) o' → (o : Located) × In (objects_in (chunks_of h.chunks)) o × In a.survivors (object_name o) × (o' ≡ led_object to o)
+    came o' i =
+        let c = moving.came h (outside s b.roots) C.survivors news C.are B.new (naming.settled h (outside s b.roots) C.survivors news C.are B.new l.machine a O) (naming.reserved h (outside s b.roots) C.survivors news C.are B.new l.machine a O) o' i in
+        (c.object, c.there, lives C.survivors C.are c.object c.there c.survives, c.is)
+
+    named_now : (o q : Located) → In (objects_in (chunks_of (L ++ (K ++ R)))) o → In (objects_in (chunks_of (L ++ (K ++ R)))) q → object_name o ≡ object_name q → o ≡ q
+    named_now o q i j e =
+        let x = came o i in
+        let z = came q j in
+        let same : x.0 ≡ z.0 = home.named x.0 z.0 (there x.0 x.1) (there z.0 z.1) (ap object_name (sym x.3) ∙ (e ∙ ap object_name z.3)) in
+        x.3 ∙ (ap (led_object to) same ∙ sym z.3)
+
+    owned_each : (k : ChunkValue) → In (L ++ (K ++ R)) k → v.owner k.number ≡ Some t
+    owned_each k i = elim (in_append_cases L (K ++ R) k i) [
+      | inl j ↦
+          let n = moving.laid_new h (outside s b.roots) C.survivors news C.are B.new (naming.settled h (outside s b.roots) C.survivors news C.are B.new l.machine a O) (naming.reserved h (outside s b.roots) C.survivors news C.are B.new l.machine a O) k.number (extent.number_there L k j) in
+          let c = extent.chunk_in news k.number n in
+          began.owned k.number (subst (In b.news) c.1.1 (B.took c.0 c.1.0))
+      | inr j ↦ elim (in_append_cases K R k j) [
+        | inl d ↦
+            let x = map_in (led_chunk (moving.g h (outside s b.roots) C.survivors news C.are B.new (naming.settled h (outside s b.roots) C.survivors news C.are B.new l.machine a O) (naming.reserved h (outside s b.roots) C.survivors news C.are B.new l.machine a O))) (filter (keeps C.survivors) (unreserved h.chunks h.reserved)) k d in
+            let A = moving.alone h (outside s b.roots) C.survivors news C.are B.new (naming.settled h (outside s b.roots) C.survivors news C.are B.new l.machine a O) (naming.reserved h (outside s b.roots) C.survivors news C.are B.new l.machine a O) x.0 x.1 in
+            ap (λ (z : ChunkValue). v.owner z.number) (sym x.2) ∙ owned_chunk x.0 A.there
+        | inr d ↦ owned_chunk k (moving.of_reserved h.chunks h.reserved B.form.shaped.reserved k d).0
+      ]
+    ]
+
+    same_out : (x : Addr) → ((c : Chunk) → In (chunks_of h.chunks) c → c.number ≡ x.chunk → ⊥) → to x ≡ x
+    same_out x out' =
+        moving.to_itself h (outside s b.roots) C.survivors news C.are B.new (naming.settled h (outside s b.roots) C.survivors news C.are B.new l.machine a O) (naming.reserved h (outside s b.roots) C.survivors news C.are B.new l.machine a O) x
+        (λ i.
+        let j = (moving.in_xs h (outside s b.roots) C.survivors news C.are B.new (naming.settled h (outside s b.roots) C.survivors news C.are B.new l.machine a O) (naming.reserved h (outside s b.roots) C.survivors news C.are B.new l.machine a O) x i).0 in
+        let q = moving.seen_there h (outside s b.roots) C.survivors news C.are B.new (naming.settled h (outside s b.roots) C.survivors news C.are B.new l.machine a O) (naming.reserved h (outside s b.roots) C.survivors news C.are B.new l.machine a O) x j in
+        let k = held_by h.chunks q.0 q.1 in
+        out' (chunk_of k.chunk) (in_map chunk_of h.chunks k.chunk k.there) (sym (span k.chunk.cells k.chunk.number 0 q.0 k.object).chunk ∙ ap (λ (z : Addr). z.chunk) q.2))
+
+    copy_now : IsCopy v l t H (part_home N view count s' None) to
+    copy_now = record {
+      names = naming.names h (outside s b.roots) C.survivors news C.are B.new l.machine a O;
+      room = room_last L (K ++ R) ∙ naming.room_now h (outside s b.roots) C.survivors news C.are B.new l.machine a O;
+      since = refl;
+      view = refl;
+      count = refl;
+      inside = λ c o i j. inside (L ++ (K ++ R)) c o i j;
+      once = once (L ++ (K ++ R)) (moving.apart_now h (outside s b.roots) C.survivors news C.are B.new (naming.settled h (outside s b.roots) C.survivors news C.are B.new l.machine a O) (naming.reserved h (outside s b.roots) C.survivors news C.are B.new l.machine a O));
+      named = named_now;
+      laid = forming.laid_now h (outside s b.roots) C.survivors news C.are B.new l.machine a O;
+      owned = λ c i. (let k = map_in chunk_of (L ++ (K ++ R)) c i in ap (λ (z : Chunk). v.owner z.number) (sym k.2) ∙ owned_each k.0 k.1);
+      kept = λ o i j. moving.kept h (outside s b.roots) C.survivors news C.are B.new (naming.settled h (outside s b.roots) C.survivors news C.are B.new l.machine a O) (naming.reserved h (outside s b.roots) C.survivors news C.are B.new l.machine a O) o i (dies C.survivors C.are o i j);
+      only = came;
+      frames = frames_led to s s' (C.frames ∙ ap (λ (w : Option Addr → Option Addr). map (led_frame_by w) (all_frames s)) (moving.g_is h (outside s b.roots) C.survivors news C.are B.new (naming.settled h (outside s b.roots) C.survivors news C.are B.new l.machine a O) (naming.reserved h (outside s b.roots) C.survivors news C.are B.new l.machine a O)));
+      same = same_out;
+    }
+
+    pub fits : CopyFits p st t H (part_home h' view count s' None) (new_address out.moved.items) v l
+    fits = record {
+      old = B.fits;
+      collects = ap is_some (sym (rested_view (λ x. x.begun) (λ x. refl) l t) ∙ began.few);
+      copy = subst (λ w. IsCopy v l t H (part_home h' view count s' None) w) (sym f_is) (subst (λ (z : LeafHeapValue). IsCopy v l t H (part_home z view count s' None) to) (sym C.heap) copy_now);
+    }
+
+    pub form : HeapForm h'
+    form = subst HeapForm (sym C.heap) (forming.form_now h (outside s b.roots) C.survivors news C.are B.new l.machine a O h'.slots h'.spare)
+
+pub copies_fit : CopiesFit
+copies_fit p st t h view count s b news v l B h' s' out C = (fits p st t h view count s b news v l B h' s' out C, form p st t h view count s b news v l B h' s' out C)

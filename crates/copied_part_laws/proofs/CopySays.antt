@@ -1,0 +1,115 @@
+-- What a collection says, and where it can begin to copy.
+use Rattle.std.proofs.Common.{◌≡◌, ℕ, ◌+◌, ◌<◌, ◌==◌, arith, Bool, true, false, cond, All, Option, Some, None, List, [], ◌∷◌, length, map, slice_get, inl, inr, refl, ap, sym, subst, ◌∙◌}
+use Rattle.std.proofs.lemmas.Option.{same_Some}
+use Rattle.listed.proofs.Members.{flat_in, got_in, in_append_cases}
+use Rattle.hh_lang.specs.Form.{ProgramText}
+use Rattle.hh_model.specs.declared.data.Frame.{Frame as ModelFrame}
+use Rattle.hh_model.specs.declared.data.Name.{Name}
+use Rattle.hh_model.specs.declared.data.State.{State}
+use Rattle.hh_model.specs.declared.data.Status.TheVariants.{Running}
+use Rattle.hh_model.specs.declared.data.Task.{Task}
+use Rattle.run_trace.specs.Settings.{SettingsValue}
+use Rattle.run_ledger.specs.declared.data.Ledger.{Ledger}
+use Rattle.run_ledger.specs.Heaps.{heap_of}
+use Rattle.object_layout.specs.declared.word.Addr.{Addr}
+use Rattle.object_layout.specs.ChunkValue.{ChunkValue}
+use Rattle.object_layout.specs.Chunks.{held_words}
+use Rattle.object_layout.specs.Graph.{IsClosed, IsSound}
+use Rattle.alloc_path.specs.LeafHeapValue.{LeafHeapValue}
+use Rattle.alloc_path.specs.Units.{counted32, unit_count}
+use Rattle.alloc_path.specs.View.{Level}
+use Rattle.task_frames.specs.declared.frames.Frame.{Frame}
+use Rattle.task_frames.specs.FramesValue.{FramesValue, frames_of as all_frames}
+use Rattle.leaf_copy_gc.specs.Survivors.{as_reference, held_by as refs_held, outside, references_in}
+use Rattle.leaf_copy_gc.proofs.ListLemmas.{all_from, read_in}
+use Rattle.ledger_step_laws.specs.Accounts.{Rests}
+use Rattle.ledger_step_laws.proofs.Rested.{rested_view, rested_worker}
+use Rattle.task_machine.specs.declared.part.Begun.{Begun}
+use Rattle.core_relation.specs.Memory.{Home, In, Memory, objects_in}
+use Rattle.core_relation.specs.Reads.{AllRead, FramesAreRead, HoldsRead, TaskIsRead}
+use Rattle.core_relation.specs.Stands.{Place}
+use Rattle.shared_value.specs.Objects.{chunks_of}
+use Rattle.shared_value.specs.SharedValue.{frames_of}
+use Rattle.heap_marking.proofs.HeapClosed as reads
+use Rattle.copied_part_laws.specs.Copied.{BegunCanCopy, CanCopy, IsBegun, NumbersAreSaid}
+use Rattle.copied_part_laws.proofs.CopyMade as copying
+use Rattle.copied_part_laws.proofs.CopyCounts as counting
+
+-- ---- NUMBERS
+
+pub numbers_are_said : NumbersAreSaid
+numbers_are_said p s t h view count frames b news v l B few h' frames' out C =
+    let O = copying.O p s t h view count frames b news v l B h' frames' out C in
+    let began : (heap_of l t).begun ≡ Some (length news) = sym (rested_view (λ x. x.begun) (λ x. refl) l t) ∙ ((copying.began p s t h view count frames b news v l B).few ∙ ap Some B.all) in
+    let taken = C.taken ∙ counting.taken_counted h (outside frames b.roots) C.survivors news C.are B.new l.machine (heap_of l t) O began few in
+    let given = C.given ∙ (ap (λ ks. counted32 (unit_count ks)) C.back ∙ counting.given_counted h (outside frames b.roots) C.survivors news C.are B.new l.machine (heap_of l t) O began few) in
+    let left = C.left ∙ (ap (λ (x : LeafHeapValue). counted32 (held_words x.chunks)) C.heap ∙ counting.left_counted h (outside frames b.roots) C.survivors news C.are B.new l.machine (heap_of l t) O began few) in
+    λ i. (taken i, given i, left i)
+
+-- ---- REFERENCES THAT LEAD TO OBJECTS
+
+read_one : (at : Name → Addr → Type 0) (rs : List (Option Addr)) (xs : List (Option Name)) (r : Addr) → AllRead at rs xs → In rs (Some r) → (n : Name) × at n r
+read_one at [] xs r h i = absurd i
+read_one at (x ∷ rs) [] r h i = absurd h
+read_one at (None ∷ rs) (y ∷ xs) r h (inl e) = absurd cc
+read_one at (Some x ∷ rs) (None ∷ xs) r h (inl e) = absurd h.0
+read_one at (Some x ∷ rs) (Some n ∷ xs) r h (inl e) = (n, subst (at n) (same_Some x r e) h.0)
+read_one at (x ∷ rs) (y ∷ xs) r h (inr i) = read_one at rs xs r h.1 i
+
+frame_one : (at : Name → Addr → Type 0) (fs : List Frame) (xs : List ModelFrame) (f : Frame) (r : Addr) → FramesAreRead at fs xs → In fs f → In f.refs (Some r) → (n : Name) × at n r
+frame_one at [] xs f r h i j = absurd i
+frame_one at (x ∷ fs) [] f r h i j = absurd h
+frame_one at (x ∷ fs) (y ∷ xs) f r h (inl e) j = read_one at x.refs y.refs r h.0.refs (subst (λ (z : Frame). In z.refs (Some r)) (sym e) j)
+frame_one at (x ∷ fs) (y ∷ xs) f r h (inr i) j = frame_one at fs xs f r h.1 i j
+
+module _ (p : ProgramText) (st : SettingsValue) (t : ℕ) (h : LeafHeapValue) (view : List Level) (count : ℕ) (s : FramesValue) (b : Begun) (news : List ChunkValue) (v : Memory) (l : Ledger) (B : IsBegun p st t h view count s b news v l) where
+  abbrev V : Memory
+  V = copying.V p st t h view count s b news v l B
+
+  abbrev lt : Ledger
+  lt = copying.lt p st t h view count s b news v l B
+
+  abbrev At : Name → Addr → Type 0
+  At n r = Place V lt n r
+
+  home : (V.homes t).chunks ≡ chunks_of h.chunks
+  home = ap (λ (z : Home). z.chunks) (copying.here p st t h view count s b news v l B)
+
+  -- where a name is read
+  sound_at : (n : Name) (r : Addr) → At n r → IsSound h.chunks (Some r)
+  sound_at = reads.sound_at V lt (copying.stands p st t h view count s b news v l B) t (rested_worker l t) h.chunks home B.form.shaped.apart B.form.near
+
+  closed : IsClosed h.chunks
+  closed = reads.closed V lt (copying.stands p st t h view count s b news v l B) t (rested_worker l t) h.chunks home B.form.shaped.apart B.form.near
+
+  module _ (x : Task) (is : slice_get l.machine.tasks t ≡ Some x) (runs : x.status ≡ Running) (rooted : All (IsSound h.chunks) (map as_reference b.roots)) where
+    read : FramesAreRead At (frames_of s) (x.top ∷ x.below)
+    read =
+        let T : TaskIsRead At (V.homes t) x = (copying.stands p st t h view count s b news v l B).tasks t x (rested_worker l t) (ap (λ (m : State). slice_get m.tasks t) (copying.machine p st t h view count s b news v l B) ∙ is) in
+        subst (λ (z : Home). FramesAreRead At z.frames (x.top ∷ x.below)) (copying.here p st t h view count s b news v l B) (subst (HoldsRead At (V.homes t) x) runs T)
+
+    from_stack : (f : Frame) → In (all_frames s) f → In (frames_of s) f
+    from_stack f i = elim (in_append_cases s.below (s.top ∷ []) f i) [
+      | inl j ↦ inr j
+      | inr (inl e) ↦ inl e
+      | inr (inr z) ↦ absurd z
+    ]
+
+    held : (r : Option Addr) → In (refs_held (all_frames s)) r → IsSound h.chunks r
+    held None i = tt
+    held (Some r) i =
+        let f = flat_in references_in (all_frames s) (Some r) i in
+        let n = frame_one At (frames_of s) (x.top ∷ x.below) f.1 r read (from_stack f.1 (got_in (all_frames s) f.0 f.1 f.2)) f.3 in
+        sound_at n.0 r n.1
+
+    root : (r : Option Addr) → In (map as_reference b.roots) r → IsSound h.chunks r
+    root r i = read_in (IsSound h.chunks) (map as_reference b.roots) r i rooted
+
+    pub can_copy : CanCopy h s b.roots
+    can_copy = record {
+      closed = closed;
+      outside = all_from (IsSound h.chunks) (outside s b.roots) (λ r i. elim (in_append_cases (refs_held (all_frames s)) (map as_reference b.roots) r i) [ inl j ↦ held r j | inr j ↦ root r j ]);
+    }
+
+pub begun_can_copy : BegunCanCopy
+begun_can_copy p s t h view count frames b news v l x B is runs rooted = can_copy p s t h view count frames b news v l B x is runs rooted

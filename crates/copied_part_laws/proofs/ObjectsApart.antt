@@ -1,0 +1,161 @@
+-- Where the objects of chunks lie: each within its own chunk, and none over another.
+use Rattle.std.proofs.Common.{◌≡◌, ◌⊎◌, ℕ, ◌+◌, ◌*◌, ◌/◌, ◌≤◌, ◌==◌, not, arith, Bool, true, false, List, [], ◌∷◌, map, inl, inr, refl, ap, sym, subst, ◌∙◌, ne_eqb}
+use Rattle.std.specs.List.{AllByRecursion, IsDistinct}
+use Rattle.std.proofs.lemmas.Bool.{cases_eq, eqb-true}
+use Rattle.object_layout.specs.declared.word.Addr.{Addr}
+use Rattle.object_layout.specs.Cell.{Born, Cell, Hole, Mark, Moved, size_of}
+use Rattle.object_layout.specs.ChunkValue.{ChunkValue}
+use Rattle.object_layout.specs.Place.{words_in}
+use Rattle.object_layout.specs.Objects.{Located, located_by, objects_from}
+use Rattle.alloc_path.specs.LeafHeapValue.{AreApart}
+use Rattle.core_relation.specs.Memory.{Chunk, In, objects_in}
+use Rattle.core_relation.specs.Layout.{AreApart as ObjectsApart, AreLaidOut, HoldsLarge, reserved_chunks, reserved_units, words}
+use Rattle.core_relation.proofs.objects.Members.{in_chunk, map_in}
+use Rattle.shared_value.specs.Objects.{chunk_of, chunks_of}
+use Rattle.shared_value.proofs.CellsRead.{fresh_off}
+
+-- ---- IN ONE CHUNK
+
+-- the object lies in the chunk of this number, between two offsets
+pub record Span (number base stop : ℕ) (o : Located) : Type 0 where
+  pub chunk : o.at.chunk ≡ number
+  pub from : base ≤ o.at.offset
+  pub upto : o.at.offset + words o ≤ stop
+
+wider : (number base stop base' stop' : ℕ) (o : Located) → base' ≤ base → stop ≤ stop' → Span number base stop o → Span number base' stop' o
+wider number base stop base' stop' o b s S = let f : base ≤ o.at.offset = S.from in let u : o.at.offset + words o ≤ stop = S.upto in record { chunk = S.chunk; from = omega (arith, b, f); upto = omega (arith, s, u) }
+
+pub first_span : (number base : ℕ) (c : Cell) (b : Mark) (x : Located) (stop : ℕ) → In (located_by number base c b []) x → base + size_of c ≤ stop → Span number base stop x
+first_span number base c (Born b) x stop (inl e) le = subst (Span number base stop) e (record { chunk = refl; from = omega arith; upto = omega (arith, le) })
+first_span number base c (Born b) x stop (inr i) le = absurd i
+first_span number base c (Moved to) x stop i le = absurd i
+first_span number base c Hole x stop i le = absurd i
+
+-- the first object, or one of the others
+pub first_or : (number base : ℕ) (c : Cell) (m : Mark) (os : List Located) (o : Located) → In (located_by number base c m os) o → In (located_by number base c m []) o ⊎ In os o
+first_or number base c (Born b) os o (inl e) = inl (inl e)
+first_or number base c (Born b) os o (inr i) = inr i
+first_or number base c (Moved to) os o i = inr i
+first_or number base c Hole os o i = inr i
+
+pub span : (cs : List Cell) (number base : ℕ) (o : Located) → In (objects_from number base cs) o → Span number base (base + words_in cs) o
+span [] number base o i = absurd i
+span (c ∷ cs) number base o i = elim (first_or number base c c.mark (objects_from number (base + size_of c) cs) o i) [
+  | inl f ↦ first_span number base c c.mark o (base + words_in (c ∷ cs)) f (omega arith)
+  | inr r ↦ wider number (base + size_of c) (base + size_of c + words_in cs) base (base + words_in (c ∷ cs)) o (omega arith) (omega arith) (span cs number (base + size_of c) o r)
+]
+
+only_first : (number base : ℕ) (c : Cell) (m : Mark) (o q : Located) → In (located_by number base c m []) o → In (located_by number base c m []) q → o ≡ q
+only_first number base c (Born b) o q (inl e) (inl d) = sym e ∙ d
+only_first number base c (Born b) o q (inl e) (inr j) = absurd j
+only_first number base c (Born b) o q (inr i) j = absurd i
+only_first number base c (Moved to) o q i j = absurd i
+only_first number base c Hole o q i j = absurd i
+
+pub apart_here : (cs : List Cell) (number base : ℕ) (o q : Located) → In (objects_from number base cs) o → In (objects_from number base cs) q → (o ≡ q) ⊎ ObjectsApart o q
+apart_here [] number base o q i j = absurd i
+apart_here (c ∷ cs) number base o q i j =
+    by (first_or number base c c.mark (objects_from number (base + size_of c) cs) o i) (first_or number base c c.mark (objects_from number (base + size_of c) cs) q j) (apart_here cs number (base + size_of c) o q)
+  where
+    before : (x y : Located) → In (located_by number base c c.mark []) x → In (objects_from number (base + size_of c) cs) y → x.at.offset + words x ≤ y.at.offset
+    before x y f r =
+        let a : x.at.offset + words x ≤ base + size_of c = (first_span number base c c.mark x (base + size_of c) f (omega arith)).upto in
+        let b : base + size_of c ≤ y.at.offset = (span cs number (base + size_of c) y r).from in
+        omega (arith, a, b)
+
+    by : In (located_by number base c c.mark []) o ⊎ In (objects_from number (base + size_of c) cs) o → In (located_by number base c c.mark []) q ⊎ In (objects_from number (base + size_of c) cs) q
+        → (In (objects_from number (base + size_of c) cs) o → In (objects_from number (base + size_of c) cs) q → (o ≡ q) ⊎ ObjectsApart o q) → (o ≡ q) ⊎ ObjectsApart o q
+    by (inl f) (inl g) go = inl (only_first number base c c.mark o q f g)
+    by (inl f) (inr r) go = inr (inr (inl (before o q f r)))
+    by (inr r) (inl g) go = inr (inr (inr (before q o g r)))
+    by (inr r) (inr s) go = go r s
+
+-- ---- IN A LIST OF CHUNKS
+
+pub one_number : (ks : List ChunkValue) → AreApart ks → (k j : ChunkValue) → In ks k → In ks j → k.number ≡ j.number → k ≡ j
+one_number [] A k j i h q = absurd i
+one_number (x ∷ xs) A k j (inl e) (inl d) q = sym e ∙ d
+one_number (x ∷ xs) A k j (inl e) (inr h) q = absurd (fresh_off xs j x.number A.0 h (sym (ap (λ (z : ChunkValue). z.number) e ∙ q)))
+one_number (x ∷ xs) A k j (inr i) (inl d) q = absurd (fresh_off xs k x.number A.0 i (q ∙ sym (ap (λ (z : ChunkValue). z.number) d)))
+one_number (x ∷ xs) A k j (inr i) (inr h) q = one_number xs A.1 k j i h q
+
+-- the chunk in which an object is read
+pub record Holds (ks : List ChunkValue) (o : Located) : Type 0 where
+  pub chunk : ChunkValue
+  pub there : In ks chunk
+  pub object : In (objects_from chunk.number 0 chunk.cells) o
+
+pub held_by : (ks : List ChunkValue) (o : Located) → In (objects_in (chunks_of ks)) o → Holds ks o
+held_by ks o i =
+    let c = in_chunk (chunks_of ks) o i in
+    let k = map_in chunk_of ks c.0 c.1 in
+    record { chunk = k.0; there = k.1; object = subst (λ (z : Chunk). In z.objects o) (sym k.2) c.2 }
+
+pub inside : (ks : List ChunkValue) (c : Chunk) (o : Located) → In (chunks_of ks) c → In c.objects o → o.at.chunk ≡ c.number
+inside ks c o i j =
+    let k = map_in chunk_of ks c i in
+    (span k.0.cells k.0.number 0 o (subst (λ (z : Chunk). In z.objects o) (sym k.2) j)).chunk ∙ ap (λ (z : Chunk). z.number) k.2
+
+pub once : (ks : List ChunkValue) → AreApart ks → (o q : Located) → In (objects_in (chunks_of ks)) o → In (objects_in (chunks_of ks)) q → o.at ≡ q.at → o ≡ q
+once ks A o q i j e =
+    let h = held_by ks o i in
+    let g = held_by ks q j in
+    let so = span h.chunk.cells h.chunk.number 0 o h.object in
+    let sq = span g.chunk.cells g.chunk.number 0 q g.object in
+    let same : g.chunk ≡ h.chunk = one_number ks A g.chunk h.chunk g.there h.there (sym sq.chunk ∙ (ap (λ (a : Addr). a.chunk) (sym e) ∙ so.chunk)) in
+    elim (apart_here h.chunk.cells h.chunk.number 0 o q h.object (subst (λ (z : ChunkValue). In (objects_from z.number 0 z.cells) q) same g.object)) [
+      | inl d ↦ d
+      | inr (inl ne) ↦ absurd (ne (ap (λ (a : Addr). a.chunk) e))
+      | inr (inr (inl le)) ↦ let f : o.at.offset ≡ q.at.offset = ap (λ (a : Addr). a.offset) e in absurd (omega (arith, f, le))
+      | inr (inr (inr le)) ↦ let f : o.at.offset ≡ q.at.offset = ap (λ (a : Addr). a.offset) e in absurd (omega (arith, f, le))
+    ]
+
+apart : (ks : List ChunkValue) → AreApart ks → (o q : Located) → In (objects_in (chunks_of ks)) o → In (objects_in (chunks_of ks)) q → (o ≡ q) ⊎ ObjectsApart o q
+apart ks A o q i j = elim (cases_eq o.at.chunk q.at.chunk) [
+  | inr ne ↦ inr (inl ne)
+  | inl e ↦
+      let h = held_by ks o i in
+      let g = held_by ks q j in
+      let so = span h.chunk.cells h.chunk.number 0 o h.object in
+      let sq = span g.chunk.cells g.chunk.number 0 q g.object in
+      let same : g.chunk ≡ h.chunk = one_number ks A g.chunk h.chunk g.there h.there (sym sq.chunk ∙ (sym e ∙ so.chunk)) in
+      apart_here h.chunk.cells h.chunk.number 0 o q h.object (subst (λ (z : ChunkValue). In (objects_from z.number 0 z.cells) q) same g.object)
+]
+
+numbers_once : (ks : List ChunkValue) → AreApart ks → IsDistinct (λ a b. a == b) (map (λ (c : Chunk). c.number) (chunks_of ks))
+unfolding IsDistinct
+numbers_once [] A = tt
+numbers_once (k ∷ ks) A = (all ks (λ j i e. fresh_off ks j k.number A.0 i (sym e)), numbers_once ks A.1)
+  where
+    all : (js : List ChunkValue) → ((j : ChunkValue) → In js j → k.number ≡ j.number → ⊥) → AllByRecursion (λ y. (k.number == y) ≡ false) (map (λ (c : Chunk). c.number) (chunks_of js))
+    all [] f = tt
+    all (j ∷ js) f = (ne_eqb k.number j.number (f j (inl refl)), all js (λ x i. f x (inr i)))
+
+small_units : (k : ChunkValue) → (chunk_of k).large ≡ false → (chunk_of k).units ≡ 1
+small_units k e = by (k.size == 1024) refl e
+  where
+    by : (b : Bool) → (k.size == 1024) ≡ b → not b ≡ false → k.size / 1024 ≡ 1
+    by true q h = ap (λ n. n / 1024) (eqb-true k.size 1024 q)
+    by false q h = absurd cc
+
+-- how chunks are laid out, by what is known of each
+pub laid_out : (ks : List ChunkValue) (spare : ℕ) → AreApart ks → ((k : ChunkValue) → In ks k → words_in k.cells ≤ k.size) → ((k : ChunkValue) → In ks k → k.size ≡ 1024 * (k.size / 1024))
+    → ((k : ChunkValue) → In ks k → (chunk_of k).large ≡ true → HoldsLarge (chunk_of k)) → map (λ (c : Chunk). c.units) (reserved_chunks (chunks_of ks)) ≡ reserved_units spare → AreLaidOut (chunks_of ks) spare
+laid_out ks spare A W whole large R = record {
+  numbers = numbers_once ks A;
+  within = λ c o i j.
+      let k = map_in chunk_of ks c i in
+      let s = span k.0.cells k.0.number 0 o (subst (λ (z : Chunk). In z.objects o) (sym k.2) j) in
+      let u : o.at.offset + words o ≤ 0 + words_in k.0.cells = s.upto in
+      let w : words_in k.0.cells ≤ k.0.size = W k.0 k.1 in
+      let q : k.0.size ≡ 1024 * (k.0.size / 1024) = whole k.0 k.1 in
+      subst (λ n. o.at.offset + words o ≤ 1024 * n) (ap (λ (z : Chunk). z.units) k.2) (omega (arith, u, w, q));
+  apart = apart ks A;
+  small = λ c i h.
+      let k = map_in chunk_of ks c i in
+      ap (λ (z : Chunk). z.units) (sym k.2) ∙ small_units k.0 (ap (λ (z : Chunk). z.large) k.2 ∙ h);
+  large = λ c i h.
+      let k = map_in chunk_of ks c i in
+      subst HoldsLarge k.2 (large k.0 k.1 (ap (λ (z : Chunk). z.large) k.2 ∙ h));
+  reserved = R;
+}

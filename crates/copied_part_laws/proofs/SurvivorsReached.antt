@@ -1,0 +1,106 @@
+-- The survivors of a leaf collection are what the registers and the roots reach, as the relation has it.
+use Rattle.std.proofs.Common.{◌≡◌, ℕ, zero, suc, Option, Some, List, [], ◌∷◌, map, inl, inr, ap, sym, subst, ◌∙◌}
+use Rattle.listed.proofs.Members.{contains_from_in, flat_in, got_in, in_append_cases, in_append_left, in_append_right, in_flat, in_from_contains}
+use Rattle.walk_laws.specs.Reached.{IsWalk}
+use Rattle.object_layout.specs.declared.word.Addr.{Addr}
+use Rattle.object_layout.specs.Chunks.{cell_of}
+use Rattle.object_layout.specs.ChunkValue.{ChunkValue}
+use Rattle.object_layout.specs.Graph.{IsHeld, Leads}
+use Rattle.object_layout.specs.Objects.{Located}
+use Rattle.alloc_path.specs.LeafHeapValue.{AreApart}
+use Rattle.task_frames.specs.declared.frames.Frame.{Frame}
+use Rattle.task_frames.specs.FramesValue.{FramesValue, frames_of as all_frames}
+use Rattle.leaf_copy_gc.specs.Survivors.{IsSurvivor, Starts, as_reference, held_by, outside, references_in}
+use Rattle.core_relation.specs.Memory.{Home, In, objects_in}
+use Rattle.core_relation.specs.Begins.{IsAt, IsReachedAt, LeadsAt, StartsAt}
+use Rattle.core_relation.proofs.objects.Members.{in_map, map_in}
+use Rattle.shared_value.specs.Objects.{chunks_of}
+use Rattle.shared_value.specs.SharedValue.{frames_of}
+use Rattle.heap_marking.proofs.HeapClosed.{held_seen, seen_held}
+
+module _ (ks : List ChunkValue) (A : AreApart ks) (home : Home) (s : FramesValue) (roots : List Addr) (chunks : home.chunks ≡ chunks_of ks) (frames : home.frames ≡ frames_of s) where
+  -- ---- OBJECTS
+
+  in_chunks : (o : Located) → In (objects_in home.chunks) o → In (objects_in (chunks_of ks)) o
+  in_chunks o i = subst (λ cs. In (objects_in cs) o) chunks i
+
+  live_at : (a : Addr) (o : Located) → IsAt home a o → IsHeld ks a
+  live_at a o at = subst (IsHeld ks) at.1 (seen_held ks A o (in_chunks o at.0)).0
+
+  refs_at : (a : Addr) (o : Located) → IsAt home a o → o.refs ≡ (cell_of ks a).refs
+  refs_at a o at = sym (seen_held ks A o (in_chunks o at.0)).1 ∙ ap (λ (z : Addr). (cell_of ks z).refs) at.1
+
+  pub object_at : (a : Addr) → IsHeld ks a → (o : Located) × IsAt home a o
+  object_at a l = let o = held_seen ks a l in (o.0, (subst (λ cs. In (objects_in cs) o.0) (sym chunks) o.1, o.2))
+
+  -- ---- REGISTERS
+
+  in_stack : (f : Frame) → In (frames_of s) f → In (all_frames s) f
+  in_stack f (inl e) = in_append_right s.below (s.top ∷ []) f (inl e)
+  in_stack f (inr i) = in_append_left s.below (s.top ∷ []) f i
+
+  from_stack : (g : Frame) → In (all_frames s) g → In (frames_of s) g
+  from_stack g i = elim (in_append_cases s.below (s.top ∷ []) g i) [
+    | inl j ↦ inr j
+    | inr (inl e) ↦ inl e
+    | inr (inr z) ↦ absurd z
+  ]
+
+  held_to : (a : Addr) (f : Frame) → In home.frames f → In f.refs (Some a) → In (held_by (all_frames s)) (Some a)
+  held_to a f i j = in_flat references_in (all_frames s) f (Some a) (in_stack f (subst (λ fs. In fs f) frames i)) j
+
+  held_back : (a : Addr) → In (held_by (all_frames s)) (Some a) → (f : Frame) × In home.frames f × In f.refs (Some a)
+  held_back a i =
+      let g = flat_in references_in (all_frames s) (Some a) i in
+      (g.1, subst (λ fs. In fs g.1) (sym frames) (from_stack g.1 (got_in (all_frames s) g.0 g.1 g.2)), g.3)
+
+  root_back : (rs : List Addr) (a : Addr) → In (map as_reference rs) (Some a) → In rs a
+  root_back rs a i = let r = map_in as_reference rs (Some a) i in subst (In rs) (some_same r.0 r.2) r.1
+    where
+      some_same : (b : Addr) → ◌≡◌ {A = Option Addr} (Some b) (Some a) → b ≡ a
+      some_same b e = cc
+
+  -- ---- WALKS
+
+  starts_to : (a : Addr) → StartsAt home roots a → Starts ks (outside s roots) a
+  starts_to a w = (
+    live_at a w.0 w.1,
+    contains_from_in (outside s roots) (Some a) (elim w.2 [
+      | inl f ↦ in_append_left (held_by (all_frames s)) (map as_reference roots) (Some a) (held_to a f.0 f.1 f.2)
+      | inr r ↦ in_append_right (held_by (all_frames s)) (map as_reference roots) (Some a) (in_map as_reference roots a r)
+    ]),
+  )
+
+  starts_back : (a : Addr) → Starts ks (outside s roots) a → StartsAt home roots a
+  starts_back a w =
+      let o = object_at a w.0 in (
+        o.0,
+        o.1,
+        elim (in_append_cases (held_by (all_frames s)) (map as_reference roots) (Some a) (in_from_contains (outside s roots) (Some a) w.1)) [
+          | inl h ↦ inl (held_back a h)
+          | inr r ↦ inr (root_back roots a r)
+        ],
+      )
+
+  leads_to : (m a : Addr) → LeadsAt home m a → Leads ks m a
+  leads_to m a w = (live_at m w.0 w.2, live_at a w.1 w.4, contains_from_in (cell_of ks m).refs (Some a) (subst (λ rs. In rs (Some a)) (refs_at m w.0 w.2) w.3))
+
+  leads_back : (m a : Addr) → Leads ks m a → LeadsAt home m a
+  leads_back m a w =
+      let o = object_at m w.0 in
+      let q = object_at a w.1 in
+      (o.0, q.0, o.1, subst (λ rs. In rs (Some a)) (sym (refs_at m o.0 o.1)) (in_from_contains (cell_of ks m).refs (Some a) w.2), q.1)
+
+  walk_to : (k : ℕ) (a : Addr) → IsWalk (StartsAt home roots) (LeadsAt home) k a → IsWalk (Starts ks (outside s roots)) (Leads ks) k a
+  walk_to zero a w = starts_to a w
+  walk_to (suc k) a w = (w.0, walk_to k w.0 w.1, leads_to w.0 a w.2)
+
+  walk_back : (k : ℕ) (a : Addr) → IsWalk (Starts ks (outside s roots)) (Leads ks) k a → IsWalk (StartsAt home roots) (LeadsAt home) k a
+  walk_back zero a w = starts_back a w
+  walk_back (suc k) a w = (w.0, walk_back k w.0 w.1, leads_back w.0 a w.2)
+
+  pub reached_to : (a : Addr) → IsReachedAt home roots a → IsSurvivor ks (outside s roots) a
+  reached_to a w = (w.0, walk_to w.0 a w.1)
+
+  pub reached_back : (a : Addr) → IsSurvivor ks (outside s roots) a → IsReachedAt home roots a
+  reached_back a w = (w.0, walk_back w.0 a w.1)

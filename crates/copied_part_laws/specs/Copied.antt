@@ -1,0 +1,62 @@
+-- What a leaf collection makes of a part: the home before it and after it, and where it leads addresses.
+use Rattle.std.specs.Prelude.{◌≡◌, ℕ, ◌≤◌, pos, All, Some, None, List, Option, length, map, slice_get}
+use Rattle.hh_lang.specs.Form.{ProgramText}
+use Rattle.hh_model.specs.declared.data.Status.TheVariants.{Running}
+use Rattle.hh_model.specs.declared.data.Task.{Task}
+use Rattle.run_trace.specs.Settings.{SettingsValue}
+use Rattle.run_ledger.specs.declared.data.Ledger.{Ledger}
+use Rattle.run_ledger.specs.Heaps.{end_numbers, heap_of, units_in}
+use Rattle.object_layout.specs.declared.word.Addr.{Addr}
+use Rattle.object_layout.specs.ChunkValue.{ChunkValue}
+use Rattle.object_layout.specs.Graph.{IsClosed, IsSound}
+use Rattle.alloc_path.specs.LeafHeapValue.{LeafHeapValue}
+use Rattle.alloc_path.specs.View.{Level}
+use Rattle.task_frames.specs.FramesValue.{FramesValue}
+use Rattle.leaf_copy_gc.specs.declared.lists.Moved.{Moved}
+use Rattle.leaf_copy_gc.specs.Laws.{CanTake}
+use Rattle.leaf_copy_gc.specs.Lists.{IsCollected}
+use Rattle.leaf_copy_gc.specs.Redirected.{new_address}
+use Rattle.leaf_copy_gc.specs.Survivors.{as_reference, outside}
+use Rattle.task_machine.specs.declared.part.Begun.{Begun}
+use Rattle.core_relation.specs.Memory.{Home, In, Memory}
+use Rattle.core_relation.specs.Copies.{CopyFits, PartFits, before}
+use Rattle.shared_value.specs.Stands.{HeapForm}
+use Rattle.shared_value.specs.SharedValue.{frames_of, home_with}
+
+-- the home of a part, with the collection that it has begun, or none
+abbrev pub part_home : LeafHeapValue → List Level → ℕ → FramesValue → Option Begun → Home
+part_home h view count s begun = record (home_with h view count (frames_of s) (pos 0, None)) { begun = begun }
+
+-- a part of t, with the collection b that it has begun, fits; its heap h is formed as every heap is, and the new chunks are those that the
+-- collection took
+pub record IsBegun (p : ProgramText) (s : SettingsValue) (t : ℕ) (h : LeafHeapValue) (view : List Level) (count : ℕ) (frames : FramesValue) (b : Begun) (news : List ChunkValue) (v : Memory) (l : Ledger) : Type 0 where
+  pub form : HeapForm h
+  pub fits : PartFits p s (before s t (part_home h view count frames (Some b))) v l
+  pub new : CanTake h.chunks news
+  pub took : (k : ChunkValue) → In news k → In b.news k.number
+  pub all : length b.news ≡ length news
+
+-- WHAT COPYING MAKES OF IT fits for the end of the collection, and its heap is formed again as every heap is
+abbrev pub CopiesFit : Type 0
+CopiesFit =
+    (p : ProgramText) (s : SettingsValue) (t : ℕ) (h : LeafHeapValue) (view : List Level) (count : ℕ) (frames : FramesValue) (b : Begun) (news : List ChunkValue) (v : Memory) (l : Ledger) → IsBegun p s t h view count frames b news v l
+    → (h' : LeafHeapValue) (frames' : FramesValue) (out : Moved) → IsCollected h frames b.roots news h' frames' out
+    → CopyFits p s t (part_home h view count frames (Some b)) (part_home h' view count frames' None) (new_address out.moved.items) v l × HeapForm h'
+
+-- the numbers that it comes to are those that its entry is to say, where the heap has no more units than a run may use
+abbrev pub NumbersAreSaid : Type 0
+NumbersAreSaid =
+    (p : ProgramText) (s : SettingsValue) (t : ℕ) (h : LeafHeapValue) (view : List Level) (count : ℕ) (frames : FramesValue) (b : Begun) (news : List ChunkValue) (v : Memory) (l : Ledger) → IsBegun p s t h view count frames b news v l
+    → units_in l.machine (heap_of l t) ≤ 65536 → (h' : LeafHeapValue) (frames' : FramesValue) (out : Moved) → IsCollected h frames b.roots news h' frames' out
+    → ◌≡◌ {A = ℕ × ℕ × ℕ} (out.taken, out.given, out.left) (end_numbers l.machine (heap_of l t))
+
+-- WHERE IT CAN BE COPIED, as far as its roots can: each reference of its frames and of its objects into its heap leads to an
+-- object there
+pub record CanCopy (h : LeafHeapValue) (frames : FramesValue) (roots : List Addr) : Type 0 where
+  pub closed : IsClosed h.chunks
+  pub outside : All (IsSound h.chunks) (outside frames roots)
+
+abbrev pub BegunCanCopy : Type 0
+BegunCanCopy =
+    (p : ProgramText) (s : SettingsValue) (t : ℕ) (h : LeafHeapValue) (view : List Level) (count : ℕ) (frames : FramesValue) (b : Begun) (news : List ChunkValue) (v : Memory) (l : Ledger) (x : Task) → IsBegun p s t h view count frames b news v l
+    → slice_get l.machine.tasks t ≡ Some x → x.status ≡ Running → All (IsSound h.chunks) (map as_reference b.roots) → CanCopy h frames b.roots

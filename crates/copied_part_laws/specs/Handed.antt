@@ -1,0 +1,38 @@
+-- A part that was copied fits the shared value for the end of its collection.
+use Rattle.std.specs.Prelude.{◌≡◌, ℕ, ◌/◌, ◌++◌, Some, List, map}
+use Rattle.object_layout.specs.ChunkValue.{ChunkValue}
+use Rattle.object_layout.specs.declared.word.Addr.{Addr}
+use Rattle.alloc_path.specs.LeafHeapValue.{LeafHeapValue}
+use Rattle.task_frames.specs.FramesValue.{FramesValue}
+use Rattle.leaf_copy_gc.specs.declared.lists.Moved.{Moved}
+use Rattle.leaf_copy_gc.specs.declared.lists.ToChunks.{ToChunks}
+use Rattle.leaf_copy_gc.specs.Laws.{CanTake}
+use Rattle.leaf_copy_gc.specs.Lists.{IsCollected}
+use Rattle.core_relation.specs.Memory.{In}
+use Rattle.task_machine.specs.declared.part.Begun.{Begun}
+use Rattle.task_machine.specs.declared.part.Private.{Private}
+use Rattle.shared_value.specs.Fits.{Fits}
+use Rattle.shared_value.specs.LeafBegin.{HasBegun, number_of}
+use Rattle.shared_value.specs.Stands.{IsSharedValue}
+use Rattle.shared_value.specs.SharedValue.{SharedValue}
+use Rattle.leaf_collections.specs.LeafEnd.{FitsCopied}
+
+-- a part that fits with its begun collection, before the run's end, and the chunks that this took
+pub record IsCopying (w : SharedValue) (worker : ℕ) (p : Private) (b : Begun) (news : List ChunkValue) : Type 0 where
+  pub world : IsSharedValue w
+  pub fits : Fits w worker p
+  pub fresh : p.fresh ≡ 0
+  pub begun : p.begun ≡ Some b
+  pub new : CanTake p.heap.chunks news
+  pub numbers : b.news ≡ map (λ k. k.number) news
+
+abbrev pub CopiedFits : Type 0
+CopiedFits =
+    (w : SharedValue) (worker : ℕ) (p : Private) (b : Begun) (news : List ChunkValue) → IsCopying w worker p b news
+    → (h' : LeafHeapValue) (frames' : FramesValue) (out : Moved) → IsCollected p.heap p.frames b.roots news h' frames' out → FitsCopied w worker (record p { heap = h'; frames = frames' }) out
+
+-- a part that has just begun its collection is so
+abbrev pub BegunIsCopying : Type 0
+BegunIsCopying =
+    (w : SharedValue) (worker : ℕ) (old new : Private) (roots : List Addr) (to : ToChunks) → HasBegun old new roots to → IsSharedValue w → Fits w worker new → new.fresh ≡ 0
+    → IsCopying w worker new (record { roots = roots; news = map number_of to.chunks.items }) to.chunks.items

@@ -1,0 +1,147 @@
+-- The memory behind the shared value, as contracts see it: for each task its heap and frames, its remembered set, and
+-- who owns each chunk.
+use Rattle.std.specs.Prelude.{ℕ, suc, ℤ, pos, Bool, false, not, Option, Some, None, List, ◌≡◌, ◌==◌, ◌&&◌, [], ◌∷◌, filter, map, if◌then◌else◌}
+use Rattle.std.specs.List.{flat_map, list_any}
+use Rattle.object_layout.specs.declared.word.Addr.{Addr}
+use Rattle.object_layout.specs.Objects.{Located}
+use Rattle.hh_model.specs.declared.data.Name.{Name}
+use Rattle.inner_mark_gc.specs.MarkingValue.{MarkingValue}
+pub use Rattle.listed.specs.Members.{In}
+use Rattle.task_frames.specs.declared.frames.Frame.{Frame}
+use Rattle.remembered_set.specs.declared.remembered.Source.{Source}
+use Rattle.task_machine.specs.declared.part.Begun.{Begun}
+use Rattle.task_machine.specs.Place.{name_of}
+
+-- the name that an object bears
+abbrev pub object_name : Located → Name
+object_name o = name_of o.birth
+
+pub record Chunk : Type 0 where
+  pub number : ℕ
+  -- its words, in units of 1,024
+  pub units : ℕ
+  -- a chunk of its own for one large object, or reserved for one
+  pub large : Bool
+  pub objects : List Located
+
+-- what goes with a task: its heap, its frames (the top one first), the result that it ended with, and how many objects it
+-- has allocated
+pub record Home : Type 0 where
+  pub chunks : List Chunk
+  pub room : ℕ
+  pub since : ℕ
+  pub count : ℕ
+  pub frames : List Frame
+  pub result : ℤ × Option Addr
+  pub begun : Option Begun
+  -- what is immutable in the heaps above, the parent's first, as it was when each forked
+  pub view : List (List Chunk)
+
+-- of a task that isn't made, or has joined
+abbrev pub no_home : Home
+no_home = record { chunks = []; room = 0; since = 0; count = 0; frames = []; result = (pos 0, None); begun = None; view = [] }
+
+-- what is noted of a heap: the fields that point down into it, the overwritten references into it, whether these are kept, and
+-- what is found and marked, while it is being marked
+pub record Noted : Type 0 where
+  pub sources : List Source
+  pub kept : List Addr
+  pub keeps : Bool
+  pub marked : Option MarkingValue
+
+-- the homes of the tasks that no worker holds (of the others they mean nothing), what is noted of each heap, and which task
+-- owns the chunk of a number, where that is in use
+pub record Memory : Type 0 where
+  pub homes : ℕ → Home
+  pub noted : ℕ → Noted
+  pub owner : ℕ → Option ℕ
+
+-- the objects of chunks
+abbrev pub objects_in : List Chunk → List Located
+objects_in ks = flat_map (λ k. k.objects) ks
+
+abbrev pub objects : Memory → ℕ → List Located
+objects v t = objects_in (v.homes t).chunks
+
+abbrev pub sources : Memory → ℕ → List Source
+sources v t = (v.noted t).sources
+
+-- THE ADDRESS MAP: an object of this name lies at this address
+pub record LiesAt (n : Name) (a : Addr) (o : Located) : Type 0 where
+  pub name : object_name o ≡ n
+  pub at : o.at ≡ a
+
+abbrev pub Lies : List Chunk → Name → Addr → Type 0
+Lies ks n a = (o : Located) × In (objects_in ks) o × LiesAt n a o
+
+-- WHERE REFERENCES ARE LED
+
+abbrev pub led : (Addr → Addr) → Option Addr → Option Addr
+led f None = None
+led f (Some a) = Some (f a)
+
+-- an object that was copied, and a frame, each with its references led
+abbrev pub led_object : (Addr → Addr) → Located → Located
+led_object f o = record o { at = f o.at; refs = map (led f) o.refs }
+
+abbrev pub led_frame : (Addr → Addr) → Frame → Frame
+led_frame f x = record x { refs = map (led f) x.refs }
+
+abbrev pub is_source : Addr → ℕ → Source → Bool
+is_source a i s = (s.object.chunk == a.chunk) && ((s.object.offset == a.offset) && (s.field == i))
+
+-- the reference fields of the object at a, from the i-th on, with the remembered ones led
+abbrev pub rewritten_refs : (Addr → Addr) → List Source → Addr → ℕ → List (Option Addr) → List (Option Addr)
+rewritten_refs f ss a i [] = []
+rewritten_refs f ss a i (r ∷ rs) = (if list_any (is_source a i) ss then led f r else r) ∷ rewritten_refs f ss a (suc i) rs
+
+abbrev pub rewritten : (Addr → Addr) → List Source → Located → Located
+rewritten f ss o = record o { refs = rewritten_refs f ss o.at 0 o.refs }
+
+-- a home with each object changed
+abbrev pub mapped_chunk : (Located → Located) → Chunk → Chunk
+mapped_chunk one k = record k { objects = map one k.objects }
+
+abbrev pub mapped_home : (Located → Located) → Home → Home
+mapped_home one h = record h { chunks = map (mapped_chunk one) h.chunks }
+
+abbrev pub rewritten_home : (Addr → Addr) → List Source → Home → Home
+rewritten_home f ss h = mapped_home (rewritten f ss) h
+
+-- the object at an address changed, any other as it is
+abbrev pub is_at : Addr → Located → Bool
+is_at a o = (o.at.chunk == a.chunk) && (o.at.offset == a.offset)
+
+abbrev pub put_at : Addr → (Located → Located) → Located → Located
+put_at a f o = if is_at a o then f o else o
+
+-- VIEWS
+
+-- what is immutable of a chunk, and of these chunks: of a chunk that a view shows nobody asks how large it is
+abbrev pub frozen_chunk : Chunk → Chunk
+frozen_chunk k = record { number = k.number; units = 0; large = false; objects = filter (λ o. not o.mutable) k.objects }
+
+abbrev pub frozen_chunks : List Chunk → List Chunk
+frozen_chunks ks = map frozen_chunk ks
+
+-- the first chunk of a number
+abbrev pub chunk_of : List Chunk → ℕ → Option Chunk
+chunk_of [] a = None
+chunk_of (k ∷ ks) a = if k.number == a then Some k else chunk_of ks a
+
+abbrev pub seen_at : List Located → Addr → Option Located
+seen_at [] a = None
+seen_at (o ∷ os) a = if is_at a o then Some o else seen_at os a
+
+abbrev pub seen_in : Option Chunk → Addr → Option Located → Option Located
+seen_in None a below = below
+seen_in (Some k) a below = seen_at k.objects a
+
+-- the nearest level that has the address's chunk decides
+abbrev pub shown_at : List (List Chunk) → Addr → Option Located
+shown_at [] a = None
+shown_at (ks ∷ kss) a = seen_in (chunk_of ks a.chunk) a (shown_at kss a)
+
+-- an object that is mutable isn't shown
+abbrev pub as_shown : Located → Option Located
+as_shown o = if o.mutable then None else Some o

@@ -1,0 +1,51 @@
+-- A task is let go of.
+use Rattle.std.proofs.Common.{◌≡◌, ℕ, Some, length, slice_get, ◌⊎◌, inl, inr, refl, ap, sym, subst, ◌∙◌, Option, None}
+use Rattle.std.proofs.lemmas.Bool.{cases_eq}
+use Rattle.hh_model.specs.declared.data.Name.{Name}
+use Rattle.run_ledger.specs.declared.data.Heap.{Heap}
+use Rattle.run_ledger.specs.declared.data.Ledger.{Ledger}
+use Rattle.run_ledger.specs.Heaps.{heap_of, or_fresh, let_go, with_heap_at}
+use Rattle.run_ledger.specs.Sound.{SoundLedger}
+use Rattle.run_ledger.proofs.Sound.{renewed}
+use Rattle.ledger_step_laws.specs.Accounts.{Rests, rested, Knows}
+use Rattle.hh_model.specs.declared.data.State.{State}
+use Rattle.ledger_step_laws.proofs.Ahead.{heap_then, with_at, with_machine}
+use Rattle.hh_model.specs.Store.{IsStored}
+use Rattle.hh_model.specs.Closed.{Closed}
+
+pub name_cases : (m n : Name) → (m ≡ n) ⊎ (m ≡ n → ⊥)
+name_cases m n = elim (cases_eq m.task n.task) [
+  | inl e ↦ elim (cases_eq m.count n.count) [
+    | inl f ↦ inl (λ i. record { task = e i; count = f i })
+    | inr ne ↦ inr (λ q. ne (ap (λ (k : Name). k.count) q))
+  ]
+  | inr ne ↦ inr (λ q. ne (ap (λ (k : Name). k.task) q))
+]
+
+pub rested_worker : (l : Ledger) (t : ℕ) → Rests (rested l t) t
+rested_worker l t = ap (λ o. (or_fresh o).worker) (with_at l t let_go) ∙ by (slice_get l.heaps t)
+  where
+    by : (o : Option Heap) → (or_fresh (heap_then let_go o)).worker ≡ None
+    by None = refl
+    by (Some h) = refl
+
+pub rested_view : {A : Type 0} (view : Heap → A) → ((h : Heap) → view (let_go h) ≡ view h) → (l : Ledger) (t : ℕ) → view (heap_of (rested l t) t) ≡ view (heap_of l t)
+rested_view view same l t = ap (λ o. view (or_fresh o)) (with_at l t let_go) ∙ by (slice_get l.heaps t)
+  where
+    by : (o : Option Heap) → view (or_fresh (heap_then let_go o)) ≡ view (or_fresh o)
+    by None = refl
+    by (Some h) = same h
+
+pub rested_sound : (l : Ledger) (t : ℕ) → SoundLedger l → SoundLedger (rested l t)
+rested_sound l t S = by (slice_get l.heaps t) refl
+  where
+    by : (o : Option Heap) → slice_get l.heaps t ≡ o → SoundLedger (with_heap_at l t let_go o)
+    by None e = S
+    by (Some h) e = renewed l.machine.tasks l.machine.edges l.machine.store l.heaps S t h (let_go h) e (λ n i. i) (λ n i. i) refl refl refl
+
+pub rested_knows : (l : Ledger) (t : ℕ) → Knows l → Knows (rested l t)
+rested_knows l t K = record {
+  sound = rested_sound l t K.sound;
+  stored = subst (λ (m : State). Closed m.tasks m.store (IsStored m)) (sym (with_machine l t let_go)) K.stored;
+  rows = subst (λ (m : State). length m.store ≡ length m.tasks) (sym (with_machine l t let_go)) K.rows;
+}

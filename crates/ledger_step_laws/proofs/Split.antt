@@ -1,0 +1,274 @@
+-- An accepted entry of steps is private steps and one more of a known kind.
+use Rattle.std.proofs.Common.{◌≡◌, ℕ, zero, suc, ◌+◌, ◌-◌, ◌≤◌, ◌||◌, min, nat_le, arith, Bool, true, false, cond, Option, Some, None, List, [], ◌∷◌, ◌++◌, length, slice_get, replicate, inl, inr, refl, ap, sym, subst, ◌∙◌, is_none, is_some}
+use Rattle.std.proofs.lemmas.Bool.{false≢true, both_ways, and_parts, cond-true, eqb-true, leb-true}
+use Rattle.std.proofs.Math.Nat.{min-le_right}
+use Rattle.hh_lang.specs.declared.program.Line.{Line}
+use Rattle.hh_lang.specs.Form.{ProgramText, IsProgram}
+use Rattle.run_trace.specs.declared.entry.Kind.{Kind}
+use Rattle.run_trace.specs.declared.entry.Kind.TheVariants.{Took, Ran, Chunk, Begin, End as EndOf, PutOff, Mark, More, Sweep, Fuel}
+use Rattle.run_trace.specs.Entry.{EntryValue}
+use Rattle.run_trace.specs.Settings.{SettingsValue, field_limit}
+use Rattle.hh_model.specs.declared.data.Name.{Name}
+use Rattle.hh_model.specs.declared.data.Task.{Task}
+use Rattle.hh_model.specs.declared.data.End.{End}
+use Rattle.hh_model.specs.declared.data.State.{State}
+use Rattle.hh_model.specs.Effect.{row_of}
+use Rattle.hh_model.specs.Step.{step, can_step, goes_on, is_running, fetched, run, run_from, asked}
+use Rattle.hh_model.proofs.Next.{always_next}
+use Rattle.hh_model.proofs.Steps.{runs_is, step_cases}
+use Rattle.hh_model.proofs.Taken.{step_idle}
+use Rattle.run_ledger.specs.declared.data.Heap.{Heap}
+use Rattle.run_ledger.specs.declared.data.Ledger.{Ledger}
+use Rattle.run_ledger.specs.Heaps.{heap_of, let_go, or_fresh, placed, is_small, put_last}
+use Rattle.run_ledger.specs.Steps.{task_step, task_steps, standing, is_due, is_in_need, is_private, most_steps, stepped_to, settled, allocated_in, allocated_by}
+use Rattle.run_ledger.specs.Entries.{refusal, kind_refusal, after, after_kind, is_out, is_held_by, long_at}
+use Rattle.run_ledger.specs.Journals.{ledger_of, is_legal, is_legal_from, after_all, opening, tasks_of}
+use Rattle.run_ledger.proofs.Going.{machine_goes_on}
+use Rattle.run_ledger.proofs.Booked.{task_steps_booked}
+use Rattle.run_ledger.proofs.Journals.{none_unless, out_tells, entry_tells, entry_sound}
+use Rattle.run_ledger.proofs.Space.{legal_booked}
+use Rattle.run_ledger.proofs.Stocks.{legal_stocked}
+use Rattle.run_ledger.proofs.Holders.{tasks_are_held_once}
+use Rattle.run_ledger.proofs.Machine.{machine_is_run, kind_machine, task_step_machine}
+use Rattle.run_ledger.proofs.Steps.{step_leaves}
+use Rattle.run_ledger.specs.Sound.{collecting}
+use Rattle.ledger_step_laws.specs.Accounts.{ArePrivate, rested, StepsAlone, Knows, Leaves}
+use Rattle.ledger_step_laws.specs.Last.{GoesOn, IsApart, IdleRest, OnlyAskersReserve, IsAt, IsOfKind, LastKind, Splits, Runs}
+use Rattle.ledger_step_laws.proofs.Ahead.{heap_after, with_at, with_off, with_machine, heap_then, steps_alone_all, steps_sound}
+use Rattle.ledger_step_laws.proofs.Along.{step_knows, steps_know}
+use Rattle.ledger_step_laws.proofs.Commute.{alike_self, goes_running, goes_can}
+use Rattle.hh_model.proofs.Root.{run_root}
+use Rattle.ledger_step_laws.proofs.Known.{legal_knows, run_knows}
+use Rattle.ledger_step_laws.proofs.Last.{last_step}
+use Rattle.ledger_step_laws.proofs.Reserved.{booked_askers, private_stand}
+
+pub steps_last : (p : ProgramText) (l : Ledger) (t j : ℕ) → task_steps p l t (suc j) ≡ task_step p (task_steps p l t j) t
+steps_last p l t zero = refl
+steps_last p l t (suc j) = steps_last p (task_step p l t) t j
+
+-- THE STEPS THAT CAN STAND IN ONE ENTRY
+
+module _ (p : ProgramText) (s : SettingsValue) (t : ℕ) where
+  abbrev Stand : Ledger → ℕ → Type 0
+  Stand l k = ArePrivate p s l t k × (is_due s p (task_steps p l t k) t ≡ false) × (is_in_need p (task_steps p l t k) t ≡ false)
+
+  off : (l : Ledger) (k : ℕ) → suc k ≤ standing s p l t (suc k) → (is_due s p l t ≡ false) × (is_in_need p l t ≡ false) × (suc k ≤ cond (is_private p l.machine t) (suc (standing s p (task_step p l t) t k)) 1)
+  off l k h = by (is_due s p l t) (is_in_need p l t) h
+    where
+      by : (d n : Bool) → suc k ≤ cond (d || n) 0 (cond (is_private p l.machine t) (suc (standing s p (task_step p l t) t k)) 1) → (d ≡ false) × (n ≡ false) × (suc k ≤ cond (is_private p l.machine t) (suc (standing s p (task_step p l t) t k)) 1)
+      by true n h = absurd (omega (arith, h))
+      by false true h = absurd (omega (arith, h))
+      by false false h = (refl, refl, h)
+
+  more : (l : Ledger) (k : ℕ) → suc (suc k) ≤ cond (is_private p l.machine t) (suc (standing s p (task_step p l t) t (suc k))) 1 → (is_private p l.machine t ≡ true) × (suc k ≤ standing s p (task_step p l t) t (suc k))
+  more l k h = by (is_private p l.machine t) h
+    where
+      by : (v : Bool) → suc (suc k) ≤ cond v (suc (standing s p (task_step p l t) t (suc k))) 1 → (v ≡ true) × (suc k ≤ standing s p (task_step p l t) t (suc k))
+      by false h = absurd (omega (arith, h))
+      by true h = (refl, omega (arith, h))
+
+  stands : (k : ℕ) (l : Ledger) → suc k ≤ standing s p l t (suc k) → Stand l k
+  stands zero l h = let r = off l zero h in (tt, r.0, r.1)
+  stands (suc k) l h =
+      let r = off l (suc k) h in
+      let n = more l k r.2 in
+      let d = stands k (task_step p l t) n.1 in
+      ((r.0, r.1, n.0, d.0), d.1, d.2)
+
+  -- a private step leaves who holds the task
+  pub worker_step : (l : Ledger) → is_private p l.machine t ≡ true → (heap_of (task_step p l t) t).worker ≡ (heap_of l t).worker
+  worker_step l h = ap (λ o. (or_fresh o).worker) (heap_after p l t h) ∙ by (can_step l.machine t) (asked p l.machine t)
+    where
+      placed_worker : (z : Heap) (n : Name) (w : ℕ) → (placed z n w).worker ≡ z.worker
+      placed_worker z n w = go (is_small w)
+        where
+          go : (b : Bool) → (cond b (record z { chunks = put_last z.chunks n; room = z.room - w; since = z.since + w }) (record z { large = z.large ++ n ∷ []; reserved = 0; since = z.since + w })).worker ≡ z.worker
+          go true = refl
+          go false = refl
+
+      by : (b : Bool) (o : Option ℕ) → (or_fresh (cond b (slice_get (allocated_by l t o).heaps t) (slice_get l.heaps t))).worker ≡ (heap_of l t).worker
+      by false o = refl
+      by true None = refl
+      by true (Some w) =
+          let n : Name = record { task = t; count = length (row_of (slice_get l.machine.store t)) } in
+          ap (λ o. (or_fresh o).worker) (with_at l t (λ z. placed z n w)) ∙ heap (slice_get l.heaps t) n w
+        where
+          heap : (o : Option Heap) (n : Name) (w : ℕ) → (or_fresh (heap_then (λ z. placed z n w) o)).worker ≡ (or_fresh o).worker
+          heap None n w = refl
+          heap (Some z) n w = placed_worker z n w
+
+  pub steps_worker : (k : ℕ) (l : Ledger) → ArePrivate p s l t k → (heap_of (task_steps p l t k) t).worker ≡ (heap_of l t).worker
+  steps_worker zero l h = refl
+  steps_worker (suc k) l h = steps_worker k (task_step p l t) h.3 ∙ worker_step l h.2
+
+  -- and the task runs on
+  pub steps_go : (k : ℕ) (l : Ledger) (x : Task) → Knows l → collecting (slice_get l.heaps t) ≡ false → slice_get l.machine.tasks t ≡ Some x → is_running (Some x) ≡ true → can_step l.machine t ≡ true → ArePrivate p s l t k
+      → (y : Task) × (slice_get (task_steps p l t k).machine.tasks t ≡ Some y) × (is_running (Some y) ≡ true) × (can_step (task_steps p l t k).machine t ≡ true)
+  steps_go zero l x K c is run can h = (x, is, run, can)
+  steps_go (suc k) l x K c is run can h =
+      let a = step_knows p s t l x K c is run can h.2 in
+      let g = goes_running l l t x K K (alike_self t l) is run p can h.2 in
+      steps_go k (task_step p l t) g.0 a.0 a.1 g.1 g.2 (goes_can l l t x K K (alike_self t l) is run p can h.2) h.3
+
+-- who doesn't run is held by nobody, where t has stepped alone too
+pub idle_alone : (l k : Ledger) (t : ℕ) (y : Task) → IdleRest l → StepsAlone l k t → slice_get k.machine.tasks t ≡ Some y → is_running (Some y) ≡ true → IdleRest k
+idle_alone l k t y H A is run u h =
+    let ne : u ≡ t → ⊥ = λ e. both_ways (is_running (slice_get k.machine.tasks u)) h (ap (λ j. is_running (slice_get k.machine.tasks j)) e ∙ (ap is_running is ∙ run)) in
+    ap (λ (z : Heap). z.worker) (A.heaps u ne) ∙ H u (ap is_running (sym (A.tasks u ne)) ∙ h)
+
+none_of : {A : Type 0} (o : Option A) → is_some o ≡ false → o ≡ None
+none_of None h = refl
+none_of (Some x) h = absurd (false≢true (sym h))
+
+-- where the accounts of a legal journal haven't ended, neither has the machine
+pub legal_alive : (p : ProgramText) (s : SettingsValue) (journal : List EntryValue) → is_legal p s journal ≡ true → (ledger_of p s journal).end ≡ None → (ledger_of p s journal).machine.end ≡ None
+legal_alive p s journal legal = machine_goes_on p s journal
+
+-- THE LAW
+
+run_on : (p : ProgramText) (ts us : List ℕ) (m : State) → run_from p m (ts ++ us) ≡ run_from p (run_from p m ts) us
+run_on p [] us m = refl
+run_on p (t ∷ ts) us m = run_on p ts us (step p m t)
+
+pub legal_idle : (p : ProgramText) (s : SettingsValue) (journal : List EntryValue) → is_legal p s journal ≡ true → (ledger_of p s journal).end ≡ None → IdleRest (ledger_of p s journal)
+legal_idle p s journal legal on u h = by (heap_of (ledger_of p s journal) u).worker refl
+  where
+    by : (o : Option ℕ) → (heap_of (ledger_of p s journal) u).worker ≡ o → o ≡ None
+    by None e = refl
+    by (Some w) e = absurd (both_ways (is_running (slice_get (ledger_of p s journal).machine.tasks u)) h ((tasks_are_held_once p s journal legal).runs on u w e))
+
+module _ (p : ProgramText) (s : SettingsValue) (journal : List EntryValue) (w t k : ℕ) (I : IsProgram p) (legal : is_legal p s journal ≡ true) (accepted : refusal p s (ledger_of p s journal) (record { worker = w; kind = Ran t (suc k) }) ≡ None) where
+  abbrev l : Ledger
+  l = ledger_of p s journal
+
+  abbrev lj : Ledger
+  lj = task_steps p l t k
+
+  on : l.end ≡ None
+  on = none_of l.end (entry_tells p s l (record { worker = w; kind = Ran t (suc k) }) (ap is_none accepted)).0
+
+  allowed : is_none (kind_refusal p s l w (Ran t (suc k))) ≡ true
+  allowed = (entry_tells p s l (record { worker = w; kind = Ran t (suc k) }) (ap is_none accepted)).2
+
+  out : (is_running (slice_get l.machine.tasks t) ≡ true) × (collecting (slice_get l.heaps t) ≡ false) × (is_none (long_at (suc k) (min most_steps (standing s p l t (suc k)))) ≡ true)
+  out = out_tells l w t _ allowed
+
+  pub holds : (heap_of l t).worker ≡ Some w
+  holds = by (heap_of l t).worker (and_parts (is_running (slice_get l.machine.tasks t)) (is_held_by (heap_of l t).worker w) (none_unless (is_out l w t) _ _ allowed).0).1
+    where
+      by : (o : Option ℕ) → is_held_by o w ≡ true → o ≡ Some w
+      by None h = absurd (false≢true h)
+      by (Some z) h = ap Some (eqb-true z w h)
+
+  fits_one : suc k ≤ standing s p l t (suc k)
+  fits_one =
+      let h : nat_le (suc k) (min most_steps (standing s p l t (suc k))) ≡ true = (none_unless (nat_le (suc k) (min most_steps (standing s p l t (suc k)))) _ _ out.2).0 in
+      le_min (suc k) most_steps (standing s p l t (suc k)) h
+    where
+      le_min : (a b c : ℕ) → nat_le a (min b c) ≡ true → a ≤ c
+      le_min a b c h = let q : a ≤ min b c = leb-true a (min b c) h in let r : min b c ≤ c = min-le_right b c in omega (arith, q, r)
+
+  pub stand : ArePrivate p s l t k × (is_due s p lj t ≡ false) × (is_in_need p lj t ≡ false)
+  stand = stands p s t k l fits_one
+
+  K : Knows l
+  K = legal_knows p s journal legal
+
+  task_there : (x : Task) × (slice_get l.machine.tasks t ≡ Some x) × (is_running (Some x) ≡ true)
+  task_there = by (slice_get l.machine.tasks t) refl out.0
+    where
+      by : (o : Option Task) → slice_get l.machine.tasks t ≡ o → is_running o ≡ true → (x : Task) × (slice_get l.machine.tasks t ≡ Some x) × (is_running (Some x) ≡ true)
+      by None e h = absurd (false≢true h)
+      by (Some x) e h = (x, e, h)
+
+  can : can_step l.machine t ≡ true
+  can = ap (λ o. goes_on o (is_running (slice_get l.machine.tasks t))) (legal_alive p s journal legal on) ∙ out.0
+
+  pub goes : (y : Task) × (slice_get lj.machine.tasks t ≡ Some y) × (is_running (Some y) ≡ true) × (can_step lj.machine t ≡ true)
+  goes = steps_go p s t k l task_there.0 K out.1 task_there.1 task_there.2 can stand.0
+
+  pub knows : Knows lj
+  knows = steps_know p s t k l task_there.0 K (inr out.1) task_there.1 task_there.2 can stand.0
+
+  pub idle : IdleRest lj
+  idle = idle_alone l lj t goes.0 (legal_idle p s journal legal on) (steps_alone_all p s t k l (K.sound, out.1) stand.0) goes.1 goes.2
+
+  spare : OnlyAskersReserve p lj
+  spare = booked_askers p s lj (task_steps_booked p s k l t (K.sound, out.1) (legal_stocked p s journal legal) (legal_booked p s journal legal) (private_stand p s t k l stand.0))
+
+  -- there is a next instruction
+  machine_run : lj.machine ≡ run p (field_limit s.version) (tasks_of journal ++ replicate k t)
+  machine_run =
+      kind_machine p s l w (Ran t k)
+      ∙ (ap (λ m. run_from p m (replicate k t)) (machine_is_run p s journal) ∙ sym (run_on p (tasks_of journal) (replicate k t) _))
+
+  next : (line : Line) × (fetched p goes.0.top ≡ Some line)
+  next = always_next p (field_limit s.version) (tasks_of journal ++ replicate k t) t goes.0 goes.0.top I (ap (λ (m : State). slice_get m.tasks t) (sym machine_run) ∙ goes.1) (0, omega arith, refl)
+
+  at : IsAt p lj t goes.0 next.0
+  at = record { task = goes.1; runs = runs_is goes.0.status goes.2; next = next.1 }
+
+  known : (kind : LastKind) × IsOfKind p lj (after p s l (record { worker = w; kind = Ran t (suc k) })) t goes.0 next.0 kind × (GoesOn kind → (after p s l (record { worker = w; kind = Ran t (suc k) })).machine.end ≡ None) × IsApart p lj t kind
+  known = subst (λ (z : Ledger). (kind : LastKind) × IsOfKind p lj z t goes.0 next.0 kind × (GoesOn kind → z.machine.end ≡ None) × IsApart p lj t kind) (sym (steps_last p l t k)) (last_step p lj t goes.0 next.0 knows idle spare goes.3 at)
+
+  pub split : Splits p s l (after p s l (record { worker = w; kind = Ran t (suc k) })) t k
+  split = record {
+    private = stand.0;
+    due = stand.1;
+    need = stand.2;
+    task = goes.0;
+    line = next.0;
+    at = at;
+    after = steps_last p l t k;
+    kind = known.0;
+    last = known.1;
+    apart = known.3;
+    on = known.2;
+  }
+
+  -- what the last step leaves to another task that runs
+  still : collecting (slice_get lj.heaps t) ≡ false
+  still = (steps_sound p s t k l (K.sound, out.1)).1
+
+  pub leaves : (u : ℕ) → (u ≡ t → ⊥) → is_running (slice_get l.machine.tasks u) ≡ true → (after p s l (record { worker = w; kind = Ran t (suc k) })).machine.end ≡ None → Leaves u (rested lj t) (after p s l (record { worker = w; kind = Ran t (suc k) }))
+  leaves u ne runs_u end =
+      let e : after p s l (record { worker = w; kind = Ran t (suc k) }) ≡ task_step p lj t = steps_last p l t k in
+      let stepped : task_step p lj t ≡ stepped_to (allocated_in p lj t) t (step p lj.machine t) = cond-true (can_step lj.machine t) _ (record lj { steps = lj.steps + 1 }) goes.3 in
+      let A : StepsAlone l lj t = steps_alone_all p s t k l (K.sound, out.1) stand.0 in
+      record {
+        limit = ap (λ (z : Ledger). z.machine.field_limit) e ∙ (ap (λ (m : State). m.field_limit) (task_step_machine p lj t) ∙ (limit lj.machine ∙ ap (λ (m : State). m.field_limit) (sym (with_machine lj t let_go))));
+        end = end ∙ (sym (ended lj.machine.end (is_running (slice_get lj.machine.tasks t)) goes.3) ∙ ap (λ (m : State). m.end) (sym (with_machine lj t let_go)));
+        heap =
+            ap (λ (z : Ledger). slice_get z.heaps u) (e ∙ stepped)
+            ∙ ((step_leaves p lj t (knows.sound, still) goes.3).4 u ne (inl (ap is_running (A.tasks u ne) ∙ runs_u)) ∙ sym (with_off lj t u let_go ne));
+      }
+    where
+      limit : (m : State) → (step p lj.machine t).field_limit ≡ lj.machine.field_limit
+      limit m = step_cases p lj.machine t knows.sound.kept (λ m. m.field_limit ≡ lj.machine.field_limit) refl (λ x e i r h. refl) (λ x y store outs i r a b c d e f g h. refl) (λ x o e i r a b c. refl) (λ x g h i r a b. refl)
+          (λ o c xp xl xr rl rr a b d e f g h i j k' n q. refl)
+
+      ended : (o : Option End) (b : Bool) → goes_on o b ≡ true → o ≡ None
+      ended None b h = refl
+      ended (Some e) b h = absurd (false≢true h)
+
+  pub split_leaves : ((heap_of lj t).worker ≡ Some w) × (can_step lj.machine t ≡ true) × Knows lj × IdleRest lj
+      × ((u : ℕ) → (u ≡ t → ⊥) → is_running (slice_get l.machine.tasks u) ≡ true → (after p s l (record { worker = w; kind = Ran t (suc k) })).machine.end ≡ None → Leaves u (rested lj t) (after p s l (record { worker = w; kind = Ran t (suc k) })))
+  split_leaves = (steps_worker p s t k l stand.0 ∙ holds, goes.3, knows, idle, leaves)
+
+  pub entry_runs : Runs p s l (after p s l (record { worker = w; kind = Ran t (suc k) })) t w k
+  entry_runs = record {
+    knows = K;
+    knows_then = run_knows p (field_limit s.version) (tasks_of journal ++ replicate (suc k) t) (after p s l (record { worker = w; kind = Ran t (suc k) }))
+        (entry_sound p s l (record { worker = w; kind = Ran t (suc k) }) K.sound (ap is_none accepted))
+        (kind_machine p s l w (Ran t (suc k)) ∙ (ap (λ m. run_from p m (replicate (suc k) t)) (machine_is_run p s journal) ∙ sym (run_on p (tasks_of journal) (replicate (suc k) t) _)));
+    task = task_there.0;
+    at = task_there.1;
+    runs = task_there.2;
+    can = can;
+    collects = out.1;
+    splits = split;
+    held = steps_worker p s t k l stand.0 ∙ holds;
+    idle = idle;
+    root = subst (λ (m : State). (u : ℕ) (x : Task) → slice_get m.tasks u ≡ Some x → x.parent ≡ None → u ≡ 0) (sym machine_run) (run_root p (field_limit s.version) (tasks_of journal ++ replicate k t));
+    leaves = leaves;
+  }

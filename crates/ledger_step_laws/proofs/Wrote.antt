@@ -1,0 +1,106 @@
+-- A write of another task's object is a store of a reference or of a number.
+use Rattle.std.proofs.Common.{◌≡◌, ℕ, ℤ, pos, negsuc, ◌<◌, nat_lt, Bool, true, false, cond, Option, Some, None, slice_get, length, inl, inr, refl, ap, sym, subst, ◌∙◌}
+use Rattle.std.proofs.lemmas.Bool.{ltb-true, cases_eq}
+use Rattle.std.proofs.lemmas.Option.{same_Some}
+use Rattle.listed.proofs.Members.{got_same}
+use Rattle.hh_lang.specs.declared.instr.Instr.TheVariants.{Putr, Puti, Cas}
+use Rattle.hh_lang.specs.declared.program.Line.{Line}
+use Rattle.hh_lang.specs.Form.{ProgramText}
+use Rattle.hh_model.specs.declared.data.Status.{Status}
+use Rattle.hh_model.specs.declared.data.Status.TheVariants.{Running, Waiting, Ended, Joined}
+use Rattle.hh_model.specs.declared.data.Task.{Task}
+use Rattle.hh_model.specs.declared.data.State.{State}
+use Rattle.hh_model.specs.Effect.{place_in, int_in, ref_in, same_name, flat}
+use Rattle.hh_model.specs.Step.{is_waiting, is_running, runs, waits}
+use Rattle.run_ledger.specs.declared.data.Ledger.{Ledger}
+use Rattle.run_ledger.specs.Heaps.{heap_of, or_fresh, let_go}
+use Rattle.run_ledger.specs.Steps.{touched}
+use Rattle.ledger_step_laws.specs.Accounts.{Rests, rested, WritesOne}
+use Rattle.ledger_step_laws.specs.Kinds.{StoresOne, StoresNumber}
+use Rattle.ledger_step_laws.specs.Last.{IdleRest, IsAt, Wrote, WritesOther}
+use Rattle.ledger_step_laws.proofs.Ahead.{with_machine, with_off}
+use Rattle.ledger_step_laws.proofs.Rested.{rested_worker}
+
+place_less : (n : ℕ) (k : ℤ) (i : ℕ) → place_in n k ≡ Some i → i < n
+place_less n (pos k) i e = by (nat_lt k n) refl e
+  where
+    by : (b : Bool) → nat_lt k n ≡ b → cond b (Some k) None ≡ Some i → i < n
+    by true h e = subst (λ j. j < n) (same_Some k i e) (ltb-true k n h)
+    by false h e = absurd cc
+place_less n (negsuc k) i e = absurd cc
+
+waiting_stops : (o : Option Task) → is_waiting o ≡ true → is_running o ≡ false
+waiting_stops None h = refl
+waiting_stops (Some x) h = by x.status h
+  where
+    by : (s : Status) → waits s ≡ true → runs s ≡ false
+    by Running h = absurd cc
+    by Waiting h = refl
+    by (Ended k n) h = refl
+    by Joined h = refl
+
+-- who waits rests, also where t is let go of
+pub waits_rest : (l : Ledger) (t : ℕ) → IdleRest l → (u : ℕ) → is_waiting (slice_get (rested l t).machine.tasks u) ≡ true → Rests (rested l t) u
+waits_rest l t idle u h = elim (cases_eq u t) [
+  | inl e ↦ ap (λ k. (heap_of (rested l t) k).worker) e ∙ rested_worker l t
+  | inr ne ↦ ap (λ o. (or_fresh o).worker) (with_off l t u let_go ne) ∙ idle u (waiting_stops (slice_get l.machine.tasks u) (ap (λ (m : State). is_waiting (slice_get m.tasks u)) (sym (with_machine l t let_go)) ∙ h))
+]
+
+module _ (p : ProgramText) (l l' : Ledger) (t : ℕ) (x : Task) (line : Line) (idle : IdleRest l) (I : IsAt p l t x line) (W : WritesOther l l' t x line) where
+  at_rested : slice_get (rested l t).machine.tasks t ≡ Some x
+  at_rested = ap (λ (m : State). slice_get m.tasks t) (with_machine l t let_go) ∙ I.task
+
+  goes : slice_get (rested l' t).machine.tasks t ≡ Some (record x { top = W.frame })
+  goes = ap (λ (m : State). slice_get m.tasks t) (with_machine l' t let_go) ∙ (ap (λ (k : Ledger). slice_get k.machine.tasks t) W.goes ∙ got_same l.machine.tasks t x (record x { top = W.frame }) I.task)
+
+  pub is_store : (o k v : ℕ) → line.instr ≡ Putr o k v → (i : ℕ) × (place_in (length W.object.refs) (int_in x.top k) ≡ Some i) × StoresOne (rested l t) (rested l' t) t x W.name W.object o v i None
+  is_store o k v e =
+      let how : Wrote x (Putr o k v) W.object W.written W.frame = subst (λ j. Wrote x j W.object W.written W.frame) e W.wrote in (
+        how.0,
+        how.1,
+        record {
+          task = at_rested;
+          runs = I.runs;
+          object = ap (touched x.top) (sym e) ∙ W.touches;
+          field = place_less (length W.object.refs) (int_in x.top k) how.0 how.1;
+          mutable = how.2;
+          goes = goes ∙ ap (λ f. Some (record x { top = f })) how.4;
+          writes = subst (WritesOne (rested l t) (rested l' t) t W.name W.object) how.3 W.writes;
+          waits = waits_rest l t idle;
+        },
+      )
+
+  pub is_swap : (d o k e v : ℕ) → line.instr ≡ Cas d o k e v
+      → (i : ℕ) × (place_in (length W.object.refs) (int_in x.top k) ≡ Some i) × (same_name (flat (slice_get W.object.refs i)) (ref_in x.top e) ≡ true) × StoresOne (rested l t) (rested l' t) t x W.name W.object o v i (Some (d, pos 1))
+  is_swap d o k e v is =
+      let how : Wrote x (Cas d o k e v) W.object W.written W.frame = subst (λ j. Wrote x j W.object W.written W.frame) is W.wrote in (
+        how.0,
+        how.1,
+        how.5,
+        record {
+          task = at_rested;
+          runs = I.runs;
+          object = ap (touched x.top) (sym is) ∙ W.touches;
+          field = place_less (length W.object.refs) (int_in x.top k) how.0 how.1;
+          mutable = how.2;
+          goes = goes ∙ ap (λ f. Some (record x { top = f })) how.4;
+          writes = subst (WritesOne (rested l t) (rested l' t) t W.name W.object) how.3 W.writes;
+          waits = waits_rest l t idle;
+        },
+      )
+
+  pub is_number : (o k v : ℕ) → line.instr ≡ Puti o k v → (i : ℕ) × (place_in (length W.object.ints) (int_in x.top k) ≡ Some i) × StoresNumber (rested l t) (rested l' t) t x W.name W.object o v i
+  is_number o k v e =
+      let how : Wrote x (Puti o k v) W.object W.written W.frame = subst (λ j. Wrote x j W.object W.written W.frame) e W.wrote in (
+        how.0,
+        how.1,
+        record {
+          task = at_rested;
+          runs = I.runs;
+          object = ap (touched x.top) (sym e) ∙ W.touches;
+          mutable = how.2;
+          goes = goes ∙ ap (λ f. Some (record x { top = f })) how.4;
+          writes = subst (WritesOne (rested l t) (rested l' t) t W.name W.object) how.3 W.writes;
+          waits = waits_rest l t idle;
+        },
+      )

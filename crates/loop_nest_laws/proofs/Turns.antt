@@ -1,0 +1,309 @@
+-- A frame from step to step.
+use Rattle.std.proofs.Common.{◌≡◌, ℕ, ℤ, zero, suc, ◌+◌, ◌-◌, ◌≤◌, Bool, true, false, Option, Some, None, List, [], ◌∷◌, length, take, slice_get, ◌⊎◌, inl, inr, refl, ap, sym, subst, ◌∙◌, arith}
+use Rattle.std.proofs.lemmas.Bool.{false≢true, cases_eq, both_ways}
+use Rattle.std.proofs.lemmas.Option.{same_Some}
+use Rattle.listed.proofs.Members.{got_same}
+use Rattle.hh_lang.specs.declared.instr.Instr.{Instr}
+use Rattle.hh_lang.specs.declared.instr.Instr.TheVariants.{Call, Par, Ret}
+use Rattle.hh_lang.specs.declared.program.Line.{Line}
+use Rattle.hh_lang.specs.Form.{ProgramText}
+use Rattle.hh_model.specs.declared.data.Name.{Name}
+use Rattle.hh_model.specs.declared.data.Object.{Object}
+use Rattle.hh_model.specs.declared.data.Frame.{Frame}
+use Rattle.hh_model.specs.declared.data.Status.{Status}
+use Rattle.hh_model.specs.declared.data.Status.TheVariants.{Running}
+use Rattle.hh_model.specs.declared.data.Task.{Task}
+use Rattle.hh_model.specs.declared.data.End.{End}
+use Rattle.hh_model.specs.declared.data.State.{State}
+use Rattle.hh_model.specs.Effect.{Goes, Setting, effect}
+use Rattle.hh_model.specs.Step.{is_running, is_joined, runs, is_over, waits, result_in, is_waiting, can_step, goes_on, setting, follow, fetched, step, run_from, start, parent_of}
+use Rattle.hh_model.specs.Winner.{after, IsTurn}
+use Rattle.hh_model.proofs.Kept.{Kept, start_kept, run_kept}
+use Rattle.hh_model.proofs.Runs.{running_tells, ended_tells}
+use Rattle.hh_model.proofs.Taken.{step_taken, step_idle, can_runs}
+use Rattle.hh_model.proofs.Winner.{run_next, run_past}
+use Rattle.loop_nest_laws.specs.Frames.{Activation, StandsAt, Takes}
+use Rattle.loop_nest_laws.proofs.Moves.{Steps, Hands, kept, now, JoinsIn, Moves, stays, goes, calls, gives, forks, ends, resumes, joins, step_moved}
+
+-- an instruction that begins no frame
+abbrev pub IsPlain : Instr → Type 0
+IsPlain (Call g) = ⊥
+IsPlain (Par g h) = ⊥
+IsPlain _ = Unit {0}
+
+-- a running task hasn't ended
+pub ended_stands : (s : Status) (r : ℤ × Option Name) → runs s ≡ true → result_in s ≡ Some r → ⊥
+ended_stands Running r a b = absurd cc
+ended_stands _ r a b = false≢true a
+
+-- a task whose child hasn't joined waits, so it doesn't run
+pub hands_tells : (p : ProgramText) (m : State) (u t : ℕ) (x : Task) (r : ℤ × Option Name) → Hands p m u t x r → is_over x.status ≡ false
+hands_tells p m u t x r (kept e) = (ended_tells x.status r e).0
+hands_tells p m u t x r (now g none e) = (running_tells x.status g.own.run).0
+
+module _ (p : ProgramText) (limit : ℕ) (ts : List ℕ) where
+  abbrev pub at : ℕ → State
+  at i = after p limit ts i
+
+  pub kept_at : (i : ℕ) → Kept (at i)
+  kept_at i = run_kept p (start p limit) (take i ts) (start_kept p limit)
+
+  pub at_next : (i u : ℕ) → slice_get ts i ≡ Some u → at (suc i) ≡ step p (at i) u
+  at_next i u e = run_next p (start p limit) ts i u e
+
+  -- WHAT BECOMES OF A TASK
+
+  abbrev pub MoveAt : ℕ → ℕ → Task → Task → Type 0
+  MoveAt i t x y = (y ≡ x) ⊎ ((u : ℕ) × (slice_get ts i ≡ Some u) × Moves p (at i) u (at (suc i)) t x y)
+
+  move_by : (i t : ℕ) (x : Task) → slice_get (at i).tasks t ≡ Some x → (o : Option ℕ) → slice_get ts i ≡ o → (y : Task) × (slice_get (at (suc i)).tasks t ≡ Some y) × MoveAt i t x y
+  move_by i t x is None e = (x, ap (λ (m : State). slice_get m.tasks t) (run_past p (start p limit) ts i e) ∙ is, inl refl)
+  move_by i t x is (Some u) e =
+      let next = at_next i u e in
+      let moved = step_moved p (at i) u (kept_at i) t x is in (
+        moved.0,
+        ap (λ (m : State). slice_get m.tasks t) next ∙ moved.1,
+        inr (u, e, subst (λ m. Moves p (at i) u m t x moved.0) (sym next) moved.2),
+      )
+
+  pub move_at : (i t : ℕ) (x : Task) → slice_get (at i).tasks t ≡ Some x → (y : Task) × (slice_get (at (suc i)).tasks t ≡ Some y) × MoveAt i t x y
+  move_at i t x is = move_by i t x is (slice_get ts i) refl
+
+  -- TURNS
+
+  pub turn_of : (i u t : ℕ) (x : Task) → slice_get ts i ≡ Some u → Steps p (at i) u t x → IsTurn p limit ts i t
+  turn_of i u t x e s = record { task = e ∙ ap Some s.same; can = subst (λ k. can_step (at i) k ≡ true) s.same s.can }
+
+  turn_by : (i t : ℕ) (o : Option ℕ) → slice_get ts i ≡ o → IsTurn p limit ts i t ⊎ (IsTurn p limit ts i t → ⊥)
+  turn_by i t None e = inr (λ turn. let h : None ≡ Some t = sym e ∙ turn.task in absurd cc)
+  turn_by i t (Some u) e = elim (cases_eq u t) [
+    | inl same ↦ by_can (can_step (at i) t) refl same
+    | inr ne ↦ inr (λ turn. ne (same_Some u t (sym e ∙ turn.task)))
+  ]
+    where
+      by_can : (b : Bool) → can_step (at i) t ≡ b → u ≡ t → IsTurn p limit ts i t ⊎ (IsTurn p limit ts i t → ⊥)
+      by_can true c same = inl (record { task = e ∙ ap Some same; can = c })
+      by_can false c same = inr (λ turn. both_ways (can_step (at i) t) c turn.can)
+
+  pub turn_or_not : (i t : ℕ) → IsTurn p limit ts i t ⊎ (IsTurn p limit ts i t → ⊥)
+  turn_or_not i t = turn_by i t (slice_get ts i) refl
+
+  pub turn_runs : (i t : ℕ) (x : Task) → IsTurn p limit ts i t → slice_get (at i).tasks t ≡ Some x → is_running (Some x) ≡ true
+  turn_runs i t x turn is = ap is_running (sym is) ∙ can_runs (at i) t turn.can
+
+  -- a task that a step resumes waited
+  pub joins_waits : (i u t : ℕ) (x : Task) (rl rr : ℤ × Option Name) → slice_get (at i).tasks t ≡ Some x → JoinsIn p (at i) u t x rl rr → waits x.status ≡ true
+  joins_waits i u t x rl rr is j =
+      let K = kept_at i in
+      ap is_waiting (sym is)
+      ∙ K.tree.waits j.left t (ap parent_of j.il ∙ j.pl) (ap (λ (o : Option Task). is_joined o) j.il ∙ hands_tells p (at i) u j.left j.xl rl j.gl)
+
+  -- a running task stays as it is where the step isn't its own
+  pub unturned : (i t : ℕ) (x : Task) → slice_get (at i).tasks t ≡ Some x → is_running (Some x) ≡ true → (IsTurn p limit ts i t → ⊥) → slice_get (at (suc i)).tasks t ≡ Some x
+  unturned i t x is run other = let moved = move_at i t x is in by moved.0 moved.1 moved.2
+    where
+      waits_not : waits x.status ≡ true → ⊥
+      waits_not h = both_ways (waits x.status) (running_tells x.status run).1 h
+
+      by : (y : Task) → slice_get (at (suc i)).tasks t ≡ Some y → MoveAt i t x y → slice_get (at (suc i)).tasks t ≡ Some x
+      by y iy (inl e) = iy ∙ ap Some e
+      by y iy (inr (u, e, stays same)) = iy ∙ ap Some same
+      by y iy (inr (u, e, goes s f same)) = absurd (other (turn_of i u t x e s))
+      by y iy (inr (u, e, calls s g same)) = absurd (other (turn_of i u t x e s))
+      by y iy (inr (u, e, gives s f last same)) = absurd (other (turn_of i u t x e s.own))
+      by y iy (inr (u, e, forks s same)) = absurd (other (turn_of i u t x e s))
+      by y iy (inr (u, e, ends s none same)) = absurd (other (turn_of i u t x e s.own))
+      by y iy (inr (u, e, resumes rl rr j same)) = absurd (waits_not (joins_waits i u t x rl rr is j))
+      by y iy (inr (u, e, joins parent xp rl rr r pp ip (kept h) same)) = absurd (ended_stands x.status r run h)
+      by y iy (inr (u, e, joins parent xp rl rr r pp ip (now g none h) same)) = absurd (other (turn_of i u t x e g.own))
+
+  -- ENDS
+
+  end_goes : (o : Option End) (b : Bool) → goes_on o b ≡ true → o ≡ None
+  end_goes None b h = refl
+  end_goes (Some e) b h = absurd (false≢true h)
+
+  ended_idle : (o : Option End) (e : End) (b : Bool) → o ≡ Some e → goes_on o b ≡ false
+  ended_idle None e b h = absurd cc
+  ended_idle (Some z) e b h = refl
+
+  end_by : (i : ℕ) (e : End) → (at i).end ≡ Some e → (o : Option ℕ) → slice_get ts i ≡ o → at (suc i) ≡ at i
+  end_by i e is None h = run_past p (start p limit) ts i h
+  end_by i e is (Some u) h = at_next i u h ∙ step_idle p (at i) u (ended_idle (at i).end e (is_running (slice_get (at i).tasks u)) is)
+
+  -- once the machine has ended no task has a turn
+  pub ended_over : (n i t : ℕ) (e : End) → (at i).end ≡ Some e → IsTurn p limit ts (n + i) t → ⊥
+  ended_over zero i t e is turn = now_over (subst (λ k. IsTurn p limit ts k t) (let h : zero + i ≡ i = omega arith in h) turn)
+    where
+      no_end : (o : Option End) (e : End) → o ≡ Some e → o ≡ None → ⊥
+      no_end o e a b = let h : None ≡ Some e = sym b ∙ a in absurd cc
+
+      now_over : IsTurn p limit ts i t → ⊥
+      now_over turn = no_end (at i).end e is (end_goes (at i).end (is_running (slice_get (at i).tasks t)) turn.can)
+  ended_over (suc n) i t e is turn =
+      ended_over n (suc i) t e (ap (λ (m : State). m.end) (end_by i e is (slice_get ts i) refl) ∙ is)
+      (subst (λ k. IsTurn p limit ts k t) (let e : suc n + i ≡ n + suc i = omega arith in e) turn)
+
+  -- A FRAME ON TOP
+
+  -- the frame a is on top of its running task after i steps: it is f, those frames wait below, and the task lies that deep
+  pub record OnTop (a : Activation) (bs : List Frame) (d i : ℕ) (f : Frame) : Type 0 where
+    pub x : Task
+    pub is : slice_get (at i).tasks a.task ≡ Some x
+    pub run : is_running (Some x) ≡ true
+    pub top : x.top ≡ f
+    pub below : x.below ≡ bs
+    pub depth : x.depth ≡ d
+    pub stands : StandsAt p limit ts a i
+    pub high : length bs ≡ a.height
+
+  pub stands_on : (a : Activation) (i : ℕ) (y : Task) → StandsAt p limit ts a i → slice_get (at (suc i)).tasks a.task ≡ Some y → a.height ≤ length y.below → StandsAt p limit ts a (suc i)
+  stands_on a i y s iy le = record {
+    begun = let h : a.since ≤ i = s.begun in omega arith;
+    high = λ j from to. elim (cases_eq j (suc i)) [
+      | inl e ↦ (y, ap (λ k. slice_get (at k).tasks a.task) e ∙ iy, le)
+      | inr ne ↦ s.high j from (omega arith)
+    ];
+  }
+
+  module _ (a : Activation) (bs : List Frame) (d m : ℕ) (w : Takes p limit ts a m) where
+    -- the frame's own next step
+    pub record NextTurn (i : ℕ) (f : Frame) : Type 0 where
+      pub k : ℕ
+      pub from : i ≤ k
+      pub to : k ≤ m
+      pub on : OnTop a bs d k f
+      pub turn : IsTurn p limit ts k a.task
+      pub none : (j : ℕ) → Takes p limit ts a j → i ≤ j → k ≤ j
+
+    turn_in : (n i : ℕ) (f : Frame) → n + i ≡ m → OnTop a bs d i f → NextTurn i f
+    turn_in zero i f e on = record {
+      k = i;
+      from = omega arith;
+      to = omega arith;
+      on = on;
+      turn = subst (λ k. IsTurn p limit ts k a.task) (let h : m ≡ i = omega arith in h) w.turn;
+      none = λ j takes le. le;
+    }
+    turn_in (suc n) i f e on = elim (turn_or_not i a.task) [
+      | inl turn ↦ record { k = i; from = omega arith; to = omega arith; on = on; turn = turn; none = λ j takes le. le }
+      | inr other ↦
+          let later = unturned i a.task on.x on.is on.run other in
+          let same : length on.x.below ≡ a.height = ap length on.below ∙ on.high in
+          let next = turn_in n (suc i) f (omega arith) (record {
+            x = on.x;
+            is = later;
+            run = on.run;
+            top = on.top;
+            below = on.below;
+            depth = on.depth;
+            stands = stands_on a i on.x on.stands later (omega arith);
+            high = on.high;
+          }) in
+          let from : suc i ≤ next.k = next.from in
+          record {
+            k = next.k;
+            from = omega arith;
+            to = next.to;
+            on = next.on;
+            turn = next.turn;
+            none = λ j takes le. next.none j takes (elim (cases_eq i j) [
+              | inl same ↦ absurd (other (subst (λ k. IsTurn p limit ts k a.task) (sym same) takes.turn))
+              | inr ne ↦ omega arith
+            ]);
+          }
+    ]
+
+    pub next_turn : (i : ℕ) (f : Frame) → i ≤ m → OnTop a bs d i f → NextTurn i f
+    next_turn i f le on = turn_in (m - i) i f (omega arith) on
+
+    -- PLAIN STEPS
+
+    -- the frame becomes g by plain steps of its own
+    pub record Reaches (i : ℕ) (g : Frame) : Type 0 where
+      pub k : ℕ
+      pub from : i ≤ k
+      pub to : k ≤ m
+      pub on : OnTop a bs d k g
+      pub plain : (j : ℕ) (v : Takes p limit ts a j) → i ≤ j → IsPlain v.line.instr ⊎ (k ≤ j)
+
+    pub here : (i : ℕ) (g : Frame) → i ≤ m → OnTop a bs d i g → Reaches i g
+    here i g le on = record { k = i; from = omega arith; to = le; on = on; plain = λ j v from. inr from }
+
+    pub then : (i : ℕ) (g h : Frame) (r : Reaches i g) → Reaches r.k h → Reaches i h
+    then i g h r s =
+        let one : i ≤ r.k = r.from in
+        let two : r.k ≤ s.k = s.from in
+        record {
+          k = s.k;
+          from = omega arith;
+          to = s.to;
+          on = s.on;
+          plain = λ j v from. elim (r.plain j v from) [ inl plain ↦ inl plain | inr le ↦ s.plain j v le ];
+        }
+
+    -- what the frame's own steps fetch
+    pub fetches : (k : ℕ) (f : Frame) (line : Line) → OnTop a bs d k f → fetched p f ≡ Some line → (v : Takes p limit ts a k) → v.line ≡ line
+    fetches k f line on at v =
+        let same : v.task ≡ on.x = same_Some v.task on.x (sym v.next.task ∙ on.is) in
+        same_Some v.line line (sym v.next.fetched ∙ (ap (λ (x : Task). fetched p x.top) same ∙ (ap (fetched p) on.top ∙ at)))
+
+    -- a step of its own
+    abbrev pub takes_of : (k : ℕ) (f : Frame) (line : Line) → OnTop a bs d k f → IsTurn p limit ts k a.task → fetched p f ≡ Some line → Takes p limit ts a k
+    takes_of k f line on turn at = record {
+      task = on.x;
+      line = line;
+      turn = turn;
+      next = record { task = on.is; fetched = ap (fetched p) on.top ∙ at };
+      stands = on.stands;
+      on_top = ap length on.below ∙ on.high;
+    }
+
+    -- a step that isn't a return isn't the last one
+    pub not_last : (k : ℕ) (f : Frame) (line : Line) → OnTop a bs d k f → fetched p f ≡ Some line → w.line.instr ≡ Ret → (line.instr ≡ Ret → ⊥) → k ≤ m → suc k ≤ m
+    not_last k f line on at ret other le = elim (cases_eq k m) [
+      | inl e ↦ absurd (other (last k e on))
+      | inr ne ↦ omega arith
+    ]
+      where
+        last : (k : ℕ) → k ≡ m → OnTop a bs d k f → line.instr ≡ Ret
+        last k e on =
+            let on' : OnTop a bs d m f = subst (λ j. OnTop a bs d j f) e on in
+            ap (λ (l : Line). l.instr) (sym (fetches m f line on' at w)) ∙ ret
+
+    pub goes_to : (i : ℕ) (f : Frame) (line : Line) (g : Frame) → w.line.instr ≡ Ret → i ≤ m → OnTop a bs d i f → fetched p f ≡ Some line → IsPlain line.instr → (line.instr ≡ Ret → ⊥)
+        → ((s : Setting) (store : List (List Object)) → effect s f store line.instr ≡ Goes g store) → Reaches i g
+    goes_to i f line g ret le on fetch plain other does =
+        let next = next_turn i f le on in
+        let x = next.on.x in
+        let later : at (suc next.k) ≡ follow (at next.k) a.task x line.number (Goes g (at next.k).store) =
+        at_next next.k a.task next.turn.task
+        ∙ (step_taken p (at next.k) a.task x line next.turn.can next.on.is (ap (fetched p) next.on.top ∙ fetch)
+        ∙ ap (follow (at next.k) a.task x line.number) (ap (λ h. effect (setting (at next.k) a.task x) h (at next.k).store line.instr) next.on.top ∙ does (setting (at next.k) a.task x) (at next.k).store)) in
+        let is : slice_get (at (suc next.k)).tasks a.task ≡ Some (record x { top = g }) = ap (λ (m : State). slice_get m.tasks a.task) later ∙ got_same (at next.k).tasks a.task x (record x { top = g }) next.on.is in
+        let same : length x.below ≡ a.height = ap length next.on.below ∙ next.on.high in
+        let from : i ≤ next.k = next.from in
+        record {
+          k = suc next.k;
+          from = omega arith;
+          to = not_last next.k f line next.on fetch ret other next.to;
+          on = record {
+            x = record x { top = g };
+            is = is;
+            run = next.on.run;
+            top = refl;
+            below = next.on.below;
+            depth = next.on.depth;
+            stands = stands_on a next.k (record x { top = g }) next.on.stands is (omega arith);
+            high = next.on.high;
+          };
+          plain = λ j v from. elim (cases_eq j next.k) [
+            | inl e ↦ inl (here_plain next.k next.on j e v)
+            | inr ne ↦ inr (let h : next.k ≤ j = next.none j v from in omega arith)
+          ];
+        }
+      where
+        here_plain : (k : ℕ) → OnTop a bs d k f → (j : ℕ) → j ≡ k → (v : Takes p limit ts a j) → IsPlain v.line.instr
+        here_plain k on j e v =
+            let on' : OnTop a bs d j f = subst (λ q. OnTop a bs d q f) (sym e) on in
+            subst (λ (l : Line). IsPlain l.instr) (sym (fetches j f line on' fetch v)) plain

@@ -1,5 +1,0 @@
-use Rattle.made_programs.proofs.Made as proved
-use Rattle.made_programs.proofs.laws.made_are_programs.Goals as goal
-
-pub returns : goal.returns
-returns c = proved.made_are_programs

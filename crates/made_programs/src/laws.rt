@@ -1,8 +1,0 @@
-// What holds of made texts.
-
-ghost use Rattle.made_programs.specs.Laws.{MadeArePrograms};
-
-/// From whatever seed, a made text has no fault: it is read as its program.
-pub fn made_are_programs()
-    ensures { MadeArePrograms }
-{}

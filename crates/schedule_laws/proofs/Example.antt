@@ -1,0 +1,114 @@
+-- A whole run in order, and another one of the same program in which tasks have other numbers: so the law speaks of
+-- something.
+use Rattle.std.proofs.Common.{◌≡◌, ℕ, pos, ◌&&◌, ◌||◌, not, Bool, true, false, Some, List, [], ◌∷◌, map, ◌⊎◌, inl, inr, refl, sym, subst, ◌∙◌}
+use Rattle.std.proofs.lemmas.Bool.{false≢true}
+use Rattle.listed.proofs.Members.{In}
+use Rattle.hh_lang.specs.declared.instr.Instr.{Instr}
+use Rattle.hh_lang.specs.declared.instr.Instr.TheVariants.{Set, Calc, Newm, Geti, Puti, Par, Ret, Out}
+use Rattle.hh_lang.specs.declared.instr.Operator.TheVariants.{Add}
+use Rattle.hh_lang.specs.declared.program.Fun.{Fun}
+use Rattle.hh_lang.specs.Form.{ProgramText}
+use Rattle.hh_model.specs.declared.data.Edge.{Edge}
+use Rattle.hh_model.specs.declared.data.Strand.{Strand}
+use Rattle.hh_model.specs.declared.data.End.TheVariants.{Done}
+use Rattle.hh_model.specs.Precedence.{Precedes, precedes}
+use Rattle.hh_model.specs.Step.{parents, run}
+use Rattle.race_report.specs.declared.data.Access.{Access}
+use Rattle.race_report.specs.Accesses.{accesses}
+use Rattle.renaming_laws.proofs.Runs.{kept_here}
+use Rattle.schedule_laws.specs.Clashes.{Clash}
+use Rattle.schedule_laws.specs.Laws.{SomeRunSpeaksUp}
+use Rattle.schedule_laws.proofs.Splits.{InOrder, from_order}
+
+fun : List Instr → Fun
+fun code = record { name = []; code = map (λ i. record { instr = i; number = 1 }) code }
+
+-- the root makes an object of one number field, writes it and forks two tasks; each of them forks two, which read the
+-- field. The sums are joined, and the root prints 84
+p : ProgramText
+unfolding fun
+p = record {
+  functions =
+      fun (Set 1 (pos 1) ∷ Newm 2 15 1 ∷ Set 2 (pos 21) ∷ Puti 2 15 2 ∷ Par 1 1 ∷ Calc Add 0 0 1 ∷ Out 0 ∷ Ret ∷ [])
+      ∷ fun (Par 2 2 ∷ Calc Add 0 0 1 ∷ Ret ∷ [])
+      ∷ fun (Geti 0 2 15 ∷ Ret ∷ [])
+      ∷ [];
+  main = 0;
+}
+
+-- the left task forks first, or the right one
+ts : List ℕ
+ts = 0 ∷ 0 ∷ 0 ∷ 0 ∷ 0 ∷ 1 ∷ 2 ∷ 3 ∷ 3 ∷ 4 ∷ 4 ∷ 5 ∷ 5 ∷ 6 ∷ 6 ∷ 1 ∷ 1 ∷ 2 ∷ 2 ∷ 0 ∷ 0 ∷ 0 ∷ []
+
+us : List ℕ
+us = 0 ∷ 0 ∷ 0 ∷ 0 ∷ 0 ∷ 2 ∷ 1 ∷ 3 ∷ 3 ∷ 4 ∷ 4 ∷ 5 ∷ 5 ∷ 6 ∷ 6 ∷ 1 ∷ 1 ∷ 2 ∷ 2 ∷ 0 ∷ 0 ∷ 0 ∷ []
+
+-- TESTS of order
+
+abbrev first_tested : List Edge → Access → List Access → Bool
+first_tested es a [] = true
+first_tested es a (b ∷ bs) = (not (a.writes || b.writes) || precedes es a.strand b.strand) && first_tested es a bs
+
+abbrev tested : List Edge → List Access → Bool
+tested es [] = true
+tested es (a ∷ rest) = first_tested es a rest && tested es rest
+
+and_true : (a b : Bool) → (a && b) ≡ true → (a ≡ true) × (b ≡ true)
+and_true true b h = (refl, h)
+and_true false b h = absurd (false≢true h)
+
+module _ (es : List Edge) (right : (u v : Strand) → precedes es u v ≡ true → Precedes es u v) where
+  pair : (a b : Access) → (not (a.writes || b.writes) || precedes es a.strand b.strand) ≡ true → Clash a b → Precedes es a.strand b.strand
+  pair a b h C = right a.strand b.strand (by a.writes b.writes (precedes es a.strand b.strand) h C.writes)
+    where
+      by : (x y z : Bool) → (not (x || y) || z) ≡ true → (x ≡ true) ⊎ (y ≡ true) → z ≡ true
+      by true y z h w = h
+      by false true z h w = h
+      by false false z h (inl w) = absurd (false≢true w)
+      by false false z h (inr w) = absurd (false≢true w)
+
+  first_right : (a : Access) (rest : List Access) → first_tested es a rest ≡ true → (b : Access) → In rest b → Clash a b → Precedes es a.strand b.strand
+  first_right a [] h b i C = absurd i
+  first_right a (c ∷ rest) h b (inl e) C =
+      let k = and_true (not (a.writes || c.writes) || precedes es a.strand c.strand) (first_tested es a rest) h in
+      subst (λ (w : Access). Precedes es a.strand w.strand) e (pair a c k.0 (subst (Clash a) (sym e) C))
+  first_right a (c ∷ rest) h b (inr j) C = first_right a rest (and_true (not (a.writes || c.writes) || precedes es a.strand c.strand) (first_tested es a rest) h).1 b j C
+
+  pub in_order : (all : List Access) → tested es all ≡ true → InOrder es all
+  in_order [] h = tt
+  in_order (a ∷ rest) h = let k = and_true (first_tested es a rest) (tested es rest) h in (first_right a rest k.0, in_order rest k.1)
+
+done : (run p 1022 ts).end ≡ Some Done
+unfolding p ts fun
+done = refl
+
+done_too : (run p 1022 us).end ≡ Some Done
+unfolding p us fun
+done_too = refl
+
+test : tested (run p 1022 ts).edges (accesses p 1022 ts) ≡ true
+unfolding p ts fun
+test = refl
+
+left_first : parents (run p 1022 ts).tasks 3 ≡ Some 1
+unfolding p ts fun
+left_first = refl
+
+right_first : parents (run p 1022 us).tasks 3 ≡ Some 2
+unfolding p us fun
+right_first = refl
+
+pub some_run_speaks_up : SomeRunSpeaksUp
+some_run_speaks_up = (
+  p,
+  1022,
+  ts,
+  us,
+  record {
+    done = done;
+    ordered = from_order (run p 1022 ts).edges (accesses p 1022 ts) (in_order (run p 1022 ts).edges (λ u v e. ((kept_here p 1022 ts).tree.right u v).0 e) (accesses p 1022 ts) test);
+  },
+  done_too,
+  3,
+  λ e. (let h : Some 1 ≡ Some 2 = sym left_first ∙ (e ∙ right_first) in cc),
+)

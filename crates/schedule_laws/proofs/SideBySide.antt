@@ -1,0 +1,47 @@
+-- Of two tasks that run at one time neither's strand precedes the other's.
+use Rattle.std.proofs.Common.{◌≡◌, ℕ, false, length, ap, sym, ◌∙◌, arith}
+use Rattle.std.proofs.lemmas.Bool.{both_ways}
+use Rattle.listed.proofs.Members.{got_within}
+use Rattle.hh_model.specs.declared.data.Task.{Task}
+use Rattle.hh_model.specs.declared.data.State.{State}
+use Rattle.hh_model.specs.Precedence.{precedes}
+use Rattle.hh_model.specs.Step.{is_joined, is_waiting, joined, owner_in, parents, path_in, run, run_from, start, strand, strand_of}
+use Rattle.hh_model.specs.Tree.{joins_in, joins_of, waiting}
+use Rattle.hh_model.proofs.Kept.{Kept, run_kept, start_kept}
+use Rattle.hh_model.proofs.Paths.{owner_live}
+use Rattle.hh_model.proofs.Runs.{running_tells}
+use Rattle.hh_model.proofs.Tree.{not_above}
+use Rattle.race_report.specs.LabelLaw.{Runs}
+use Rattle.race_report.proofs.LabelSteps.{begun_running, run_keeps}
+use Rattle.schedule_laws.specs.Steps.{RunningTasksAreApart}
+
+module _ (m : State) (K : Kept m) (t u : ℕ) (x y : Task) (two : t ≡ u → ⊥) (R : Runs m t x) (S : Runs m u y) where
+  live : joined m.tasks t ≡ false
+  live = ap is_joined R.is ∙ (running_tells x.status R.running).0
+
+  idle : waiting m.tasks t ≡ false
+  idle = ap is_waiting R.is ∙ (running_tells x.status R.running).1
+
+  live_u : joined m.tasks u ≡ false
+  live_u = ap is_joined S.is ∙ (running_tells y.status S.running).0
+
+  off_path : path_in (parents m.tasks) t u ≡ false
+  off_path = not_above (length m.tasks) (parents m.tasks) (joined m.tasks) (waiting m.tasks) (joins_in m.tasks) m.edges K.tree t u live_u two idle
+
+  now : precedes m.edges (strand t x.joins) (strand u (joins_in m.tasks u)) ≡ path_in (parents m.tasks) (owner_in (parents m.tasks) (joined m.tasks) t) u
+  now =
+      let e : joins_in m.tasks t ≡ x.joins = ap joins_of R.is in
+      K.tree.path t x.joins u (got_within m.tasks t x R.is) (omega arith) (got_within m.tasks u y S.is) live_u
+
+  pub apart : precedes m.edges (strand_of t x) (strand_of u y) ≡ false
+  apart =
+      ap (λ j. precedes m.edges (strand t x.joins) (strand u j)) (sym (ap joins_of S.is))
+      ∙ (now ∙ (ap (λ o. path_in (parents m.tasks) o u) (owner_live (parents m.tasks) K.tree.low (joined m.tasks) t t live) ∙ off_path))
+
+pub running_tasks_are_apart : RunningTasksAreApart
+running_tasks_are_apart p limit ts more t u x y two R S w =
+    let m = run p limit ts in
+    let K : Kept m = run_kept p (start p limit) ts (start_kept p limit) in
+    let K' : Kept (run_from p m more) = run_kept p m more K in
+    let stays = (run_keeps p m more K).fixed (strand_of t x) (strand_of u y) (begun_running m u y S) in
+    both_ways (precedes (run_from p m more).edges (strand_of t x) (strand_of u y)) (stays ∙ apart m K t u x y two R S) ((K'.tree.right (strand_of t x) (strand_of u y)).1 w)

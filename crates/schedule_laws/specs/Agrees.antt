@@ -1,0 +1,34 @@
+-- Two runs that come to the same.
+use Rattle.std.specs.Prelude.{◌≡◌, ◌↔◌, ℕ, List, length, Contains}
+use Rattle.hh_lang.specs.Form.{ProgramText}
+use Rattle.hh_model.specs.declared.data.Strand.{Strand}
+use Rattle.hh_model.specs.Step.{run}
+use Rattle.race_report.specs.declared.data.Field.{Field}
+use Rattle.race_report.specs.declared.data.Access.{Access}
+use Rattle.race_report.specs.Accesses.{accesses}
+use Rattle.renaming_laws.specs.Renaming.{IsRenaming, name_to, strand_to}
+use Rattle.renaming_laws.specs.Alike.{AreAlike}
+use Rattle.schedule_laws.specs.Prints.{prints, printed_by, PrintsAreOrdered, turns}
+use Rattle.schedule_laws.specs.Ordered.{IsOrdered}
+
+-- fields and accesses of renamed tasks
+abbrev pub field_to : (ℕ → ℕ) → Field → Field
+field_to f x = record x { name = name_to f x.name }
+
+abbrev pub access_to : (ℕ → ℕ) → Access → Access
+access_to f a = record a { strand = strand_to f a.strand; field = field_to f a.field }
+
+-- the run by us comes to the same as that by ts, but for the numbers of tasks
+pub record Agrees (p : ProgramText) (limit : ℕ) (ts us : List ℕ) : Type 0 where
+  -- f gives each task of the first run its number in the other one, and g takes it back
+  pub f : ℕ → ℕ
+  pub g : ℕ → ℕ
+  pub renaming : IsRenaming (length (run p limit ts).tasks) f g
+  -- all tasks with all that they hold, all objects, all edges and the end
+  pub alike : AreAlike f (run p limit ts) (run p limit us)
+  pub turns : turns p limit us ≡ turns p limit ts
+  pub accesses : (a : Access) → Contains (accesses p limit us) (access_to f a) ↔ Contains (accesses p limit ts) a
+  pub ordered : IsOrdered p limit us
+  -- each strand prints the same numbers in the same order; where the prints are in order, so are the outputs
+  pub printed : (s : Strand) → printed_by (strand_to f s) (prints p limit us) ≡ printed_by s (prints p limit ts)
+  pub outputs : PrintsAreOrdered (run p limit ts).edges (prints p limit ts) → (run p limit us).outputs ≡ (run p limit ts).outputs

@@ -1,0 +1,58 @@
+-- One whole run without races speaks for all schedules.
+use Rattle.std.specs.Prelude.{◌≡◌, ◌<◌, ◌++◌, ℕ, true, Some, None, List, []}
+use Rattle.hh_lang.specs.Form.{ProgramText}
+use Rattle.run_trace.specs.Entry.{EntryValue}
+use Rattle.run_trace.specs.Settings.{SettingsValue, field_limit}
+use Rattle.hh_model.specs.declared.data.End.{End}
+use Rattle.hh_model.specs.declared.data.End.TheVariants.{Done}
+use Rattle.hh_model.specs.Step.{can_step, parents, run}
+use Rattle.run_ledger.specs.Journals.{machine_of, tasks_of}
+use Rattle.schedule_laws.specs.Prints.{turns}
+use Rattle.race_report.specs.Accesses.{accesses}
+use Rattle.race_report.specs.Report.{IsReport}
+use Rattle.schedule_laws.specs.Ordered.{IsOrdered, SwapsContend}
+use Rattle.schedule_laws.specs.Agrees.{Agrees}
+
+-- a whole run in order: it ended by the return of main
+pub record SpeaksUp (p : ProgramText) (limit : ℕ) (ts : List ℕ) : Type 0 where
+  pub done : (run p limit ts).end ≡ Some Done
+  pub ordered : IsOrdered p limit ts
+
+-- THE LAW: every list of steps is the beginning of one that comes to the same
+abbrev pub OneRunSpeaksForAll : Type 0
+OneRunSpeaksForAll =
+    (p : ProgramText) (limit : ℕ) (ts us : List ℕ) → SpeaksUp p limit ts → (more : List ℕ) × Agrees p limit ts (us ++ more)
+
+-- so a run that ends, ends alike; it isn't stopped and doesn't trap
+abbrev pub EveryEndAgrees : Type 0
+EveryEndAgrees =
+    (p : ProgramText) (limit : ℕ) (ts us : List ℕ) (e : End) → SpeaksUp p limit ts → (run p limit us).end ≡ Some e → (e ≡ Done) × Agrees p limit ts us
+
+-- and one that hasn't ended can go on, has taken fewer steps, and is in order as far as it came
+pub record GoesOn (p : ProgramText) (limit : ℕ) (ts us : List ℕ) : Type 0 where
+  pub t : ℕ
+  pub can : can_step (run p limit us) t ≡ true
+  pub fewer : turns p limit us < turns p limit ts
+  pub ordered : IsOrdered p limit us
+
+abbrev pub EveryRunGoesOn : Type 0
+EveryRunGoesOn =
+    (p : ProgramText) (limit : ℕ) (ts us : List ℕ) → SpeaksUp p limit ts → (run p limit us).end ≡ None → GoesOn p limit ts us
+
+-- over journals: where the machine of one is done, `races` tells none of it, and no compare and swaps contend in it,
+-- the machine of each journal of the program with as many fields allowed agrees as soon as it has an end
+abbrev pub JournalsAgree : Type 0
+JournalsAgree =
+    (p : ProgramText) (s s' : SettingsValue) (journal journal' : List EntryValue) (e : End)
+    → let limit = field_limit s.version in
+    let ts = tasks_of journal in
+    let m = machine_of p s journal in
+    field_limit s'.version ≡ limit → m.end ≡ Some Done → IsReport m.edges (accesses p limit ts) [] → (SwapsContend m.edges (accesses p limit ts) → ⊥) → (machine_of p s' journal').end ≡ Some e
+    → (e ≡ Done) × Agrees p limit ts (tasks_of journal')
+
+-- and the law speaks of something: some program has a whole run in order, and another one that ends too, in which a
+-- task's parent has another number
+abbrev pub SomeRunSpeaksUp : Type 0
+SomeRunSpeaksUp =
+    (p : ProgramText) × (limit : ℕ) × (ts : List ℕ) × (us : List ℕ) × SpeaksUp p limit ts × ((run p limit us).end ≡ Some Done)
+    × (t : ℕ) × (parents (run p limit ts).tasks t ≡ parents (run p limit us).tasks t → ⊥)

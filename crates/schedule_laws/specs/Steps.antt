@@ -1,0 +1,110 @@
+-- Steps of two tasks that run at one time: what one leaves of the other's, and that they commute.
+use Rattle.std.specs.Prelude.{◌≡◌, ◌⊎◌, ◌<◌, ℕ, true, false, Option, Some, None, List, length, slice_get}
+use Rattle.hh_lang.specs.declared.instr.Instr.TheVariants.{Freeze}
+use Rattle.hh_lang.specs.declared.program.Line.{Line}
+use Rattle.hh_lang.specs.Form.{ProgramText}
+use Rattle.hh_model.specs.declared.data.Name.{Name}
+use Rattle.hh_model.specs.declared.data.Object.{Object}
+use Rattle.hh_model.specs.declared.data.Task.{Task}
+use Rattle.hh_model.specs.declared.data.End.{End}
+use Rattle.hh_model.specs.declared.data.End.TheVariants.{Done, Trapped, Entangled}
+use Rattle.hh_model.specs.declared.data.State.{State}
+use Rattle.hh_model.specs.Effect.{object_at, ref_in}
+use Rattle.hh_model.specs.Precedence.{Precedes}
+use Rattle.hh_model.specs.Step.{can_step, owner_of, run, run_from, step, strand_of}
+use Rattle.hh_model.specs.Store.{IsNext}
+use Rattle.race_report.specs.declared.data.Field.{Field}
+use Rattle.race_report.specs.declared.data.Access.{Access}
+use Rattle.race_report.specs.Accesses.{access_of}
+use Rattle.race_report.specs.LabelLaw.{Runs}
+use Rattle.renaming_laws.specs.Renaming.{IsRenaming}
+use Rattle.renaming_laws.specs.Alike.{AreAlike}
+use Rattle.schedule_laws.specs.Prints.{print_of}
+use Rattle.schedule_laws.specs.Clashes.{Clash}
+
+-- STRANDS
+
+-- of two tasks that run at one time neither's strand precedes the other's, by the edges of that time or of any later
+-- one
+abbrev pub RunningTasksAreApart : Type 0
+RunningTasksAreApart =
+    (p : ProgramText) (limit : ℕ) (ts more : List ℕ) (t u : ℕ) (x y : Task)
+    → let m = run p limit ts in (t ≡ u → ⊥) → Runs m t x → Runs m u y → Precedes (run_from p m more).edges (strand_of t x) (strand_of u y) → ⊥
+
+-- FIELDS
+
+-- the next step of t makes a write access to this field
+abbrev pub WritesField : ProgramText → State → ℕ → Field → Type 0
+WritesField p m t field = (a : Access) × (access_of p m t ≡ Some a) × (a.field ≡ field) × (a.writes ≡ true)
+
+-- the next step of t freezes the object, which t owns
+abbrev pub FreezesNext : ProgramText → State → ℕ → Name → Type 0
+FreezesNext p m t n = (x : Task) × (line : Line) × (o : ℕ) × IsNext p m t x line × (line.instr ≡ Freeze o) × (ref_in x.top o ≡ Some n) × (owner_of m.tasks n.task ≡ t)
+
+-- of an object a step changes only the field that its access writes, and whether it is mutable only by a freeze
+pub record ChangesOnly (p : ProgramText) (m : State) (t : ℕ) (n : Name) (old new : Object) : Type 0 where
+  pub strand : new.strand ≡ old.strand
+  pub references : length new.refs ≡ length old.refs
+  pub numbers : length new.ints ≡ length old.ints
+  pub refs : (k : ℕ) → (slice_get new.refs k ≡ slice_get old.refs k) ⊎ WritesField p m t (record { name = n; is_number = false; index = k })
+  pub ints : (k : ℕ) → (slice_get new.ints k ≡ slice_get old.ints k) ⊎ WritesField p m t (record { name = n; is_number = true; index = k })
+  pub mutable : (new.mutable ≡ old.mutable) ⊎ FreezesNext p m t n
+
+-- every object stays, and so do its fields but the one that the step writes
+abbrev pub FieldsStay : Type 0
+FieldsStay =
+    (p : ProgramText) (limit : ℕ) (ts : List ℕ) (t : ℕ) (n : Name) (old : Object)
+    → let m = run p limit ts in object_at m.store n ≡ Some old → (new : Object) × (object_at (step p m t).store n ≡ Some new) × ChangesOnly p m t n old new
+
+-- TWO STEPS
+
+-- t and u are two tasks, each can take a step, and what these access doesn't clash
+pub record AreBeside (p : ProgramText) (m : State) (t u : ℕ) : Type 0 where
+  pub two : t ≡ u → ⊥
+  pub first : can_step m t ≡ true
+  pub second : can_step m u ≡ true
+  pub free : (a b : Access) → access_of p m t ≡ Some a → access_of p m u ≡ Some b → Clash a b → ⊥
+
+-- no end, or the same one; but the owner whom a stop names may have joined
+abbrev pub EndAlike : Option End → Option End → Type 0
+EndAlike None None = Unit {0}
+EndAlike (Some Done) (Some Done) = Unit {0}
+EndAlike (Some (Trapped kind t line)) (Some (Trapped kind' t' line')) = (kind' ≡ kind) × (t' ≡ t) × (line' ≡ line)
+EndAlike (Some (Entangled reader owner)) (Some (Entangled reader' owner')) = reader' ≡ reader
+EndAlike _ _ = ⊥
+
+-- u's step isn't changed by that of t before it
+pub record LeavesStep (p : ProgramText) (m : State) (t u : ℕ) : Type 0 where
+  pub can : can_step (step p m t) u ≡ true
+  pub access : access_of p (step p m t) u ≡ access_of p m u
+  pub print : print_of p (step p m t) u ≡ print_of p m u
+  pub ends : EndAlike (step p m u).end (step p (step p m t) u).end
+
+-- a step that doesn't end the run leaves the next step of a task beside it
+abbrev pub StepsLeaveSteps : Type 0
+StepsLeaveSteps =
+    (p : ProgramText) (limit : ℕ) (ts : List ℕ) (t u : ℕ)
+    → let m = run p limit ts in AreBeside p m t u → (step p m t).end ≡ None → LeavesStep p m t u
+
+-- accesses that clash in one state clash after t's step too: u's is then of the same field, by the same strand, and is
+-- the same one where t's doesn't write. So a clash of steps that stand side by side is one of the accesses that the run
+-- makes
+abbrev pub ClashesStay : Type 0
+ClashesStay =
+    (p : ProgramText) (limit : ℕ) (ts : List ℕ) (t u : ℕ) (a b : Access)
+    → let m = run p limit ts in (t ≡ u → ⊥) → can_step m t ≡ true → can_step m u ≡ true → (step p m t).end ≡ None
+    → access_of p m t ≡ Some a → access_of p m u ≡ Some b → Clash a b
+    → (c : Access) × (access_of p (step p m t) u ≡ Some c) × Clash a c × (c.strand ≡ b.strand)
+
+-- in either order they come to the same, but for the numbers of tasks that both made
+pub record Commutes (p : ProgramText) (m : State) (t u : ℕ) : Type 0 where
+  pub f : ℕ → ℕ
+  pub renaming : IsRenaming (length (step p (step p m t) u).tasks) f f
+  pub old : (v : ℕ) → v < length m.tasks → f v ≡ v
+  pub alike : AreAlike f (step p (step p m t) u) (step p (step p m u) t)
+
+-- steps of two tasks beside one another commute
+abbrev pub StepsCommute : Type 0
+StepsCommute =
+    (p : ProgramText) (limit : ℕ) (ts : List ℕ) (t u : ℕ)
+    → let m = run p limit ts in AreBeside p m t u → (step p m t).end ≡ None → (step p m u).end ≡ None → Commutes p m t u

@@ -1,0 +1,133 @@
+-- The shared value as contracts see it, and what it holds as the relation to the accounts speaks of it.
+use Rattle.std.specs.Prelude.{ℕ, ℤ, pos, Bool, false, Option, Some, None, List, [], ◌∷◌, replicate, slice_get}
+use Rattle.listed.specs.RoomyValue.{RoomyValue}
+use Rattle.hh_lang.specs.Form.{ProgramText}
+use Rattle.run_trace.specs.Entry.{EntryValue}
+use Rattle.run_trace.specs.Settings.{SettingsValue}
+use Rattle.run_ledger.specs.declared.data.Ledger.{Ledger}
+use Rattle.run_ledger.specs.declared.data.RunEnd.{RunEnd}
+use Rattle.run_ledger.specs.Journals.{ledger_of}
+use Rattle.object_layout.specs.declared.word.Addr.{Addr}
+use Rattle.chunk_pool.specs.PoolValue.{PoolValue, owner_of, units_in_use}
+use Rattle.alloc_path.specs.LeafHeapValue.{LeafHeapValue, room_of}
+use Rattle.alloc_path.specs.View.{Level}
+use Rattle.task_frames.specs.declared.frames.Frame.{Frame}
+use Rattle.task_frames.specs.FramesValue.{FramesValue}
+use Rattle.heap_tree.specs.Node.{Node}
+use Rattle.write_barrier.specs.declared.sets.SetOf.{SetOf}
+use Rattle.inner_mark_gc.specs.MarkingValue.{MarkingValue}
+pub use Rattle.core_relation.specs.Memory.{no_home}
+use Rattle.core_relation.specs.Memory.{Home, Noted, Memory}
+use Rattle.core_relation.specs.Whole.{Totals}
+use Rattle.shared_value.specs.declared.task_at_rest.Rest.{Rest}
+use Rattle.shared_value.specs.declared.task_at_rest.Work.{Work}
+use Rattle.shared_value.specs.declared.task_at_rest.Work.TheVariants.{Calls, Result}
+use Rattle.shared_value.specs.Objects.{chunks_of, levels_of}
+
+pub record SharedValue : Type 0 where
+  pub program : ProgramText
+  pub settings : SettingsValue
+  -- the tasks made, by number
+  pub tree : List Node
+  pub pool : PoolValue
+  -- what goes with each task that no worker holds
+  pub homes : List (Option Rest)
+  pub sets : List SetOf
+  -- what is marked of each heap that is being marked; tasks behind the last have none
+  pub marks : List (Option MarkingValue)
+  -- the task that each worker holds
+  pub hands : List (Option ℕ)
+  pub outputs : List ℤ
+  pub journal : RoomyValue EntryValue
+  pub steps : ℕ
+  pub end : Option RunEnd
+  -- some worker has met want of memory, and no more entries are to be made
+  pub halted : Bool
+
+-- all but its journal
+abbrev pub without_journal : SharedValue → SharedValue
+without_journal w = record w { journal = record { items = []; room = 0 } }
+
+-- the accounts of its journal
+abbrev pub accounts : SharedValue → Ledger
+accounts w = ledger_of w.program w.settings w.journal.items
+
+-- the root before its first step
+abbrev pub first_rest : ProgramText → ℕ → ℕ → Rest
+first_rest p slots spare = record {
+  work = Calls (record { below = []; top = record { function = p.main; next = 0; ints = replicate 16 (pos 0); refs = replicate 16 None } });
+  heap = record { chunks = []; current = None; reserved = None; since = 0; slots = slots; spare = spare };
+  view = [];
+  allocations = 0;
+}
+
+-- ---- HOMES
+
+-- the top frame, and then those that wait, the oldest first
+abbrev pub frames_of : FramesValue → List Frame
+frames_of s = s.top ∷ s.below
+
+-- a heap, a view and a count of allocations, and the frames of a task at work
+abbrev pub home_with : LeafHeapValue → List Level → ℕ → List Frame → ℤ × Option Addr → Home
+home_with h view count frames result = record {
+  chunks = chunks_of h.chunks;
+  room = room_of h;
+  since = h.since;
+  count = count;
+  frames = frames;
+  result = result;
+  begun = None;
+  view = levels_of view;
+}
+
+abbrev pub home_by : LeafHeapValue → List Level → ℕ → Work → Home
+home_by h view count (Calls s) = home_with h view count (frames_of s) (pos 0, None)
+home_by h view count (Result k r) = home_with h view count [] (k, r)
+
+abbrev pub home_of : Rest → Home
+home_of r = home_by r.heap r.view r.allocations r.work
+
+abbrev pub flat : {A : Type 0} → Option (Option A) → Option A
+flat None = None
+flat (Some o) = o
+
+abbrev pub home_in : Option Rest → Home
+home_in None = no_home
+home_in (Some r) = home_of r
+
+abbrev pub rest_at : List (Option Rest) → ℕ → Option Rest
+rest_at homes t = flat (slice_get homes t)
+
+-- ---- WHAT IS NOTED
+
+abbrev pub noted_in : Option SetOf → Noted
+noted_in None = record { sources = []; kept = []; keeps = false; marked = None }
+noted_in (Some s) = record { sources = s.remembered.sources; kept = s.kept.items; keeps = s.keeps; marked = None }
+
+-- ---- THE WHOLE
+
+abbrev pub value_by : List (Option Rest) → List SetOf → PoolValue → Memory
+value_by homes sets pool = record {
+  homes = λ t. home_in (rest_at homes t);
+  noted = λ t. noted_in (slice_get sets t);
+  owner = owner_of pool;
+}
+
+abbrev pub marks_at : List (Option MarkingValue) → ℕ → Option MarkingValue
+marks_at marks t = flat (slice_get marks t)
+
+abbrev pub with_marks : List (Option MarkingValue) → Memory → Memory
+with_marks marks v = record v { noted = λ t. record (v.noted t) { marked = marks_at marks t } }
+
+abbrev pub value_of : SharedValue → Memory
+value_of w = with_marks w.marks (value_by w.homes w.sets w.pool)
+
+abbrev pub totals_of : SharedValue → Totals
+totals_of w = record {
+  node = slice_get w.tree;
+  hand = λ k. flat (slice_get w.hands k);
+  used = units_in_use w.pool;
+  steps = w.steps;
+  outputs = w.outputs;
+  end = w.end;
+}

@@ -1,0 +1,76 @@
+-- A task's frames as callers see them.
+use Rattle.std.specs.Prelude.{◌≡◌, ℕ, zero, suc, ◌+◌, ℤ, Option, Some, None, List, [], ◌∷◌, ◌++◌, length, nat_lt, slice_get, slice_set, if◌then◌else◌}
+use Rattle.object_layout.specs.declared.word.Addr.{Addr}
+use Rattle.task_frames.specs.declared.frames.Frame.{Frame}
+
+-- the frame that runs, and those that wait for a return, the oldest first
+pub record FramesValue : Type 0 where
+  pub below : List Frame
+  pub top : Frame
+
+-- how many frames there are
+abbrev pub depth_of : FramesValue → ℕ
+depth_of s = length s.below + 1
+
+-- all frames, the oldest first
+abbrev pub frames_of : FramesValue → List Frame
+frames_of s = s.below ++ s.top ∷ []
+
+abbrev pub reference_in : Option Frame → ℕ → Option (Option Addr)
+reference_in None i = None
+reference_in (Some f) i = slice_get f.refs i
+
+-- a reference register of a frame, counted from the oldest, where there is such a frame and register
+abbrev pub reference_at : FramesValue → ℕ → ℕ → Option (Option Addr)
+reference_at s frame i = reference_in (slice_get (frames_of s) frame) i
+
+-- ---- what calls make of a stack
+
+-- a call: the caller waits, and the new frame has its registers
+abbrev pub pushed : FramesValue → ℕ → FramesValue
+pushed s fun = record { below = s.below ++ s.top ∷ []; top = record s.top { function = fun; next = 0 } }
+
+-- a fork: a child has one frame, with the registers of the top frame
+abbrev pub branched : FramesValue → ℕ → FramesValue
+branched s fun = record { below = []; top = record s.top { function = fun; next = 0 } }
+
+-- a return: the youngest of those that waited is on top
+abbrev pub IsPopped : FramesValue → FramesValue → Type 0
+IsPopped old new = old.below ≡ frames_of new
+
+abbrev pub with_next : FramesValue → ℕ → FramesValue
+with_next s next = record s { top = record s.top { next = next } }
+
+abbrev pub with_int : FramesValue → ℕ → ℤ → FramesValue
+with_int s i value = record s { top = record s.top { ints = slice_set s.top.ints i value } }
+
+abbrev pub ref_written : Frame → ℕ → Option Addr → Frame
+ref_written f i value = record f { refs = slice_set f.refs i value }
+
+abbrev pub with_reference : FramesValue → ℕ → Option Addr → FramesValue
+with_reference s i value = record s { top = ref_written s.top i value }
+
+abbrev pub written_in : List Frame → ℕ → ℕ → Option Addr → Option Frame → List Frame
+written_in frames frame i value None = frames
+written_in frames frame i value (Some f) = slice_set frames frame (ref_written f i value)
+
+-- one reference register of one frame written, counted from the oldest
+abbrev pub with_reference_at : FramesValue → ℕ → ℕ → Option Addr → FramesValue
+with_reference_at s frame i value =
+    if nat_lt frame (length s.below)
+    then record s { below = written_in s.below frame i value (slice_get s.below frame) }
+    else with_reference s i value
+
+-- ---- all reference registers of one frame
+
+-- those of the frame at a place of the list; none past its end
+abbrev pub references_of : List Frame → ℕ → List (Option Addr)
+references_of [] i = []
+references_of (f ∷ fs) zero = f.refs
+references_of (f ∷ fs) (suc i) = references_of fs i
+
+-- the frames with other reference registers in the frame at a place
+abbrev pub references_written : List Frame → ℕ → List (Option Addr) → List Frame
+references_written [] i refs = []
+references_written (f ∷ fs) zero refs = record f { refs = refs } ∷ fs
+references_written (f ∷ fs) (suc i) refs = f ∷ references_written fs i refs

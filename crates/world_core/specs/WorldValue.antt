@@ -1,0 +1,54 @@
+-- The whole world as one value: the shared value, and what each worker holds.
+use Rattle.std.specs.Prelude.{◌≡◌, ℕ, Bool, false, Some, None, List, length, map, slice_get}
+use Rattle.object_layout.specs.ChunkValue.{ChunkValue}
+use Rattle.leaf_copy_gc.specs.declared.lists.Moved.{Moved}
+use Rattle.leaf_copy_gc.specs.Laws.{CanTake}
+use Rattle.leaf_copy_gc.specs.Lists.{IsCollected}
+use Rattle.task_machine.specs.declared.part.Begun.{Begun}
+use Rattle.task_machine.specs.declared.part.Private.{Private}
+use Rattle.shared_value.specs.Fits.{Fits}
+use Rattle.shared_value.specs.LeafBegin.{number_of}
+use Rattle.shared_value.specs.SharedValue.{SharedValue}
+use Rattle.child_tasks.specs.Hands.{HoldsNone}
+use Rattle.world_core.specs.declared.held.Held.{Held}
+use Rattle.world_core.specs.declared.held.Held.TheVariants.{Nothing, Part, Copied}
+
+pub record WorldValue : Type 0 where
+  pub shared : SharedValue
+  -- by worker
+  pub hands : List Held
+  -- an entry was refused, or memory was wanting
+  pub stopped : Bool
+
+-- a part amid no leaf collection fits, and has no step that isn't entered unless the world has stopped
+pub record HoldsPart (w : SharedValue) (stopped : Bool) (k : ℕ) (p : Private) : Type 0 where
+  pub fits : Fits w k p
+  pub idle : p.begun ≡ None
+  pub entered : stopped ≡ false → p.fresh ≡ 0
+
+-- a part that was copied when its collection began: what it was before fits, and this is the copy
+pub record HoldsCopy (w : SharedValue) (k : ℕ) (p : Private) (moved : Moved) : Type 0 where
+  pub before : Private
+  pub begun : Begun
+  -- the chunks that its collection took
+  pub news : List ChunkValue
+  pub fits : Fits w k before
+  pub fresh : before.fresh ≡ 0
+  pub amid : before.begun ≡ Some begun
+  pub new : CanTake before.heap.chunks news
+  pub numbers : begun.news ≡ map number_of news
+  pub copy : IsCollected before.heap before.frames begun.roots news p.heap p.frames moved
+  pub part : p ≡ record before { heap = p.heap; frames = p.frames }
+
+-- WHAT A WORKER HOLDS fits; one that holds nothing has no task
+abbrev pub Holds : SharedValue → Bool → ℕ → Held → Type 0
+Holds w stopped k Nothing = HoldsNone w k
+Holds w stopped k (Part p) = HoldsPart w stopped k p
+Holds w stopped k (Copied p moved) = HoldsCopy w k p moved
+
+abbrev pub AllHold : SharedValue → Bool → List Held → Type 0
+AllHold w stopped hands = (k : ℕ) (h : Held) → slice_get hands k ≡ Some h → Holds w stopped k h
+
+pub record IsWhole (x : WorldValue) : Type 0 where
+  pub count : length x.hands ≡ x.shared.settings.workers
+  pub hands : AllHold x.shared x.stopped x.hands
