@@ -18,7 +18,7 @@ pub(crate) struct Near {
 }
 
 impl Near {
-    /// What is known of some number before any was asked for.
+    /// Before the first look-up: what is known of the number 0.
     pub(crate) fn of(heap: &Space) -> Near
         ensures { Knows result heap.now.chunks }
     {
