@@ -6,6 +6,7 @@ use Rattle.hh_model.specs.declared.data.State.{State as Machine}
 use Rattle.hh_model.specs.Effect.{object_at}
 use Rattle.hh_model.specs.Step.{run}
 use Rattle.hh_model.proofs.Stopped.{reads_are_decided}
+use Rattle.hh_model.proofs.Leaves.{can_going}
 use Rattle.run_trace.specs.Entry.{EntryValue}
 use Rattle.run_trace.specs.Settings.{SettingsValue, field_limit}
 use Rattle.run_ledger.specs.declared.data.Ledger.{Ledger}
@@ -25,7 +26,7 @@ use Rattle.heap_reading.proofs.KeptNames.{handed_held}
 use Rattle.heap_reading.proofs.TreeNow.{same_machine}
 use Rattle.command_answers.specs.Runs.{HandsBack}
 use Rattle.command_answers.specs.Headline.{FreesNoReachable, HeapIsHeld, HeapsAreHeld, RunsHoldTheHeadline, StopsUnordered}
-use Rattle.command_answers.proofs.Taken.{step_taken, still_going}
+use Rattle.command_answers.proofs.Taken.{step_taken}
 
 -- THE HEAPS of a value that stands for its journal
 module _ (w : SharedValue) (I : IsSharedValue w) (t : ℕ) (R : Rests (handed (accounts w)) t) where
@@ -67,7 +68,7 @@ held p s journal shared B =
 stops : (p : ProgramText) (s : SettingsValue) (journal : List EntryValue) (shared : Option SharedValue) → HandsBack p s journal shared → (before later : List ℕ) (t : ℕ) → tasks_of journal ≡ before ++ t ∷ later → StopsUnordered p (run p (field_limit s.version) before) t
 stops p s journal shared B before later t e =
     let taken = step_taken p s journal before later t (subst IsProgram B.program B.stands.form) B.legal e in
-    record { taken = taken; reads = λ x d n o next. reads_are_decided p (field_limit s.version) before t x d n o (still_going (run p (field_limit s.version) before) t taken) next }
+    record { taken = taken; reads = λ x d n o next. reads_are_decided p (field_limit s.version) before t x d n o (can_going (run p (field_limit s.version) before) t taken) next }
 
 pub runs_hold_the_headline : RunsHoldTheHeadline
 runs_hold_the_headline p s extras a W = record {

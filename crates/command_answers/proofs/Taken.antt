@@ -1,11 +1,11 @@
 -- Each step of a legal journal is taken: its task runs, and the machine goes on.
-use Rattle.std.proofs.Common.{◌≡◌, ℕ, zero, suc, ◌+◌, true, Option, Some, None, List, [], ◌∷◌, ◌++◌, length, replicate, slice_get, is_none, ◌⊎◌, inl, inr, refl, ap, sym, subst, ◌∙◌, arith, append_assoc}
-use Rattle.std.proofs.lemmas.Bool.{false≢true, and_parts}
+use Rattle.std.proofs.Common.{◌≡◌, ℕ, zero, suc, ◌+◌, true, None, List, [], ◌∷◌, ◌++◌, length, replicate, is_none, ◌⊎◌, inl, inr, refl, ap, sym, subst, ◌∙◌, arith, append_assoc}
+use Rattle.std.proofs.lemmas.Bool.{and_parts}
 use Rattle.std.proofs.lemmas.List.{length-append, length-replicate}
+use Rattle.listed.proofs.Options.{none_is}
 use Rattle.hh_lang.specs.Form.{IsProgram, ProgramText}
-use Rattle.hh_model.specs.declared.data.End.{End}
-use Rattle.hh_model.specs.declared.data.State.{State}
-use Rattle.hh_model.specs.Step.{can_step, goes_on, is_running, run, run_from, step}
+use Rattle.hh_model.specs.Step.{can_step, run, run_from}
+use Rattle.hh_model.proofs.Counts.{run_on}
 use Rattle.run_trace.specs.declared.entry.Kind.{Kind}
 use Rattle.run_trace.specs.declared.entry.Kind.TheVariants.{Took, Ran, Chunk, Begin, End as EndOf, PutOff, Mark, More, Sweep, Fuel}
 use Rattle.run_trace.specs.Entry.{EntryValue}
@@ -13,7 +13,7 @@ use Rattle.run_trace.specs.Settings.{SettingsValue, field_limit}
 use Rattle.run_ledger.specs.declared.data.Ledger.{Ledger}
 use Rattle.run_ledger.specs.Entries.{after, refusal}
 use Rattle.run_ledger.specs.Journals.{is_legal, is_legal_from, ledger_of, tasks_in, tasks_of}
-use Rattle.run_ledger.proofs.Cuts.{journals_can_be_cut, none_is}
+use Rattle.run_ledger.proofs.Cuts.{journals_can_be_cut}
 use Rattle.run_ledger.proofs.Fewer.{fewer_steps_are_legal}
 use Rattle.run_ledger.proofs.Machine.{entries_move_machine, kind_machine}
 use Rattle.ledger_step_laws.proofs.Split.{split_leaves}
@@ -56,10 +56,6 @@ count_of k u b c t e =
     let f : length (replicate k u) ≡ length (b ++ t ∷ c) = ap length e in
     let g : length (t ∷ c) ≡ suc (length c) = refl in
     omega (arith, a, d, f, g)
-
-run_on : (p : ProgramText) (ts us : List ℕ) (m : State) → run_from p m (ts ++ us) ≡ run_from p (run_from p m ts) us
-run_on p [] us m = refl
-run_on p (t ∷ ts) us m = run_on p ts us (step p m t)
 
 -- STEPS OF ENTRIES
 
@@ -105,13 +101,6 @@ module _ (p : ProgramText) (s : SettingsValue) (I : IsProgram p) where
             subst (λ z. can_step (run_from p l.machine z) t ≡ true) (sym r.1)
             (ap (λ m. can_step m t) (run_on p (tasks_in e.kind) r.0 l.machine) ∙ (ap (λ m. can_step (run_from p m r.0) t) (sym moved) ∙ next))
       ]
-
-pub still_going : (m : State) (t : ℕ) → can_step m t ≡ true → m.end ≡ None
-still_going m t h = by m.end h
-  where
-    by : (o : Option End) → goes_on o (is_running (slice_get m.tasks t)) ≡ true → o ≡ None
-    by None g = refl
-    by (Some e) g = absurd (false≢true g)
 
 pub step_taken : (p : ProgramText) (s : SettingsValue) (journal : List EntryValue) (before later : List ℕ) (t : ℕ) → IsProgram p → is_legal p s journal ≡ true → tasks_of journal ≡ before ++ t ∷ later → can_step (run p (field_limit s.version) before) t ≡ true
 step_taken p s journal before later t I legal e = steps_from p s I journal [] legal before later t e

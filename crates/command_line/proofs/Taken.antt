@@ -250,7 +250,7 @@ asked_at = option_and_then (λ p. asked p.0 p.1)
 pub line_of : (words : List Text) → fault_of app words ≡ [] → asked_at (subcommand_of app words) ≡ command_line words
 line_of words e = ap (λ (k : Kinds). cond (is_empty k) (asked_at (subcommand_of app words)) None) (sym e)
 
-among : (k : ErrorKind) (ks : Kinds) → IsAmong k ks → is_empty ks ≡ false
+pub among : (k : ErrorKind) (ks : Kinds) → IsAmong k ks → is_empty ks ≡ false
 among k [] h = absurd h
 among k (x ∷ xs) h = never_zero (length xs)
 

@@ -1,19 +1,13 @@
 -- The texts of graphs balance.
-use Rattle.std.proofs.Common.{◌≡◌, ℕ, List, [], ◌∷◌, ◌++◌, refl, ap, sym, ◌∙◌, append_assoc, subst}
+use Rattle.std.proofs.Common.{◌≡◌, ℕ, List, [], ◌∷◌, ◌++◌, refl, append_assoc, subst}
 use Rattle.std.specs.Prelude.{codes}
 use Rattle.std.specs.List.{flat_map}
 use Rattle.quoted_text.specs.Quoted.{quoted}
 use Rattle.quoted_text.specs.Balanced.{Outside, read_all, IsBalanced}
 use Rattle.quoted_text.proofs.Balanced as balanced
-use Rattle.dot_text.specs.Dot.{Attributes, Statement, Statements, Setting, Node, Edge, Cluster, NoStatement, Statement_, attribute, setting, node_begin, edge_begin, statement_end, graph_begin, cluster_begin, braces_end, dot, all_dot, graph}
+use Rattle.quoted_text.proofs.Balanced.{joined}
+use Rattle.dot_text.specs.Dot.{Attributes, Statement, Statements, Setting, Node, Edge, Cluster, NoStatement, Statement_, attribute, edge_begin, statement_end, dot, all_dot}
 use Rattle.dot_text.specs.Laws.{GraphsBalance}
-
-joined : (a b : List ℕ) → IsBalanced a → IsBalanced b → IsBalanced (a ++ b)
-joined a b h k = balanced.joined_balance.joined a b h k
-
--- what stands outside strings and brackets alone
-abbrev IsClear : List ℕ → Type 0
-IsClear a = (ws : List ℕ) → read_all (Outside ws) a ≡ Outside ws
 
 word : (w : List ℕ) → IsBalanced (quoted w)
 word w = balanced.quoted_balance w

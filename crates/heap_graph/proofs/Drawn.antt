@@ -1,8 +1,7 @@
 -- How the text of a graph is put together.
-use Rattle.std.proofs.Common.{◌≡◌, ◌<◌, ◌+◌, ℕ, zero, suc, List, [], ◌∷◌, ◌++◌, length, take, get_or, refl, ap, sym, ◌∙◌, append_assoc, append-nil}
+use Rattle.std.proofs.Common.{◌≡◌, ℕ, zero, suc, List, [], ◌∷◌, ◌++◌, refl, ap, sym, ◌∙◌, append_assoc, append-nil}
 use Rattle.std.specs.Prelude.{◌≢◌, codes, Some, None}
 use Rattle.std.specs.List.{flat_map}
-use Rattle.std.proofs.lemmas.List.{take_more, flat_map_more}
 use Rattle.dot_text.specs.Dot.{Statement, Attributes, Node, Edge, attribute, node_begin, edge_begin, statement_end, setting, cluster_begin, braces_end, dot, all_dot}
 use Rattle.image_check.specs.Tasks.{Tasks, parent_of}
 use Rattle.heap_graph.specs.Drawn.{path, path_above, boxed, point, titled, statements}
@@ -97,11 +96,3 @@ path_below m n tasks t p before now later q e f g =
     g ∙ ap (λ x. x ++ t ∷ []) f ∙ append_assoc before (path m tasks p) (t ∷ [])
     ∙ ap (λ o. before ++ (path_above (path m tasks) o ++ t ∷ [])) (sym e)
     ∙ ap (λ k. before ++ path k tasks t) q
-
--- one item more
-pub lines_more : {X : Type 0} (f : X → List ℕ) (xs : List X) (i : ℕ) (d : X) (before now later : List ℕ) → i < length xs
-    → now ≡ before ++ flat_map f (take i xs) → later ≡ now ++ f (get_or xs i d) → later ≡ before ++ flat_map f (take (i + 1) xs)
-lines_more f xs i d before now later lt e g =
-    g ∙ ap (λ x. x ++ f (get_or xs i d)) e
-    ∙ flat_map_more f before (take i xs) (get_or xs i d)
-    ∙ ap (λ ys. before ++ flat_map f ys) (sym (take_more xs i d lt))

@@ -1,7 +1,6 @@
 -- What is left to be written, item by item.
-use Rattle.std.proofs.Common.{◌≡◌, ◌<◌, ◌≤◌, ◌+◌, ℕ, Bool, suc, List, [], ◌∷◌, ◌++◌, length, drop, get_or, ap, sym, ◌∙◌, append_assoc, append-nil, arith}
-use Rattle.std.proofs.Math.Seq.{drop-cons}
-use Rattle.std.proofs.lemmas.List.{length-drop, drop_all}
+use Rattle.std.proofs.Common.{◌≡◌, ◌<◌, ◌≤◌, ◌+◌, ℕ, Bool, List, [], ◌∷◌, ◌++◌, length, drop, get_or, ap, sym, ◌∙◌, append_assoc, append-nil, arith}
+use Rattle.std.proofs.lemmas.List.{length-drop, drop_all, drop_more}
 use Rattle.std.proofs.lemmas.Grind.{flat_map-append}
 use Rattle.std.specs.List.{flat_map}
 use Rattle.std.specs.Prelude.{Some, slice_get}
@@ -13,22 +12,18 @@ use Rattle.heap_graph.specs.Kinds.{port_at, edge_by, edges_from}
 use Rattle.heap_graph.specs.Overview.{Links, with_link_to, with_links, link_edge, links_drawn}
 use Rattle.heap_graph.specs.Drawn.{port_title, port_titles}
 
--- the items from a place on: that one, and those behind it
-cut_at : {X : Type 0} (xs : List X) (i : ℕ) (d : X) → i < length xs → drop i xs ≡ get_or xs i d ∷ drop (i + 1) xs
-cut_at xs i d lt = let e : suc i ≡ i + 1 = omega arith in drop-cons xs i d lt ∙ ap (λ n. get_or xs i d ∷ drop n xs) e
-
 -- one piece more is written of what is left
 pub piece_more : (now later piece left rest all : List ℕ) → now ++ left ≡ all → left ≡ piece ++ rest → later ≡ now ++ piece → later ++ rest ≡ all
 piece_more now later piece left rest all e f g =
     ap (λ x. x ++ rest) g ∙ append_assoc now piece rest ∙ ap (λ x. now ++ x) (sym f) ∙ e
 
 pub ports_cut : (xs : List ℕ) (i d : ℕ) → i < length xs → port_titles i (drop i xs) ≡ port_title i (get_or xs i d) ++ port_titles (i + 1) (drop (i + 1) xs)
-ports_cut xs i d lt = ap (port_titles i) (cut_at xs i d lt)
+ports_cut xs i d lt = ap (port_titles i) (drop_more xs i d lt)
 
 pub edges_cut : (r : Read) (t a : ℕ) (long : Bool) (xs : List ℕ) (i d : ℕ) → i < length xs
     → flat_map dot (edges_from r t a long i (drop i xs)) ≡ flat_map dot (edge_by r t a (port_at long i) (get_or xs i d) (owner_at r.chunks (get_or xs i d))) ++ flat_map dot (edges_from r t a long (i + 1) (drop (i + 1) xs))
 edges_cut r t a long xs i d lt =
-    ap (λ ys. flat_map dot (edges_from r t a long i ys)) (cut_at xs i d lt)
+    ap (λ ys. flat_map dot (edges_from r t a long i ys)) (drop_more xs i d lt)
     ∙ flat_map-append dot (edge_by r t a (port_at long i) (get_or xs i d) (owner_at r.chunks (get_or xs i d))) (edges_from r t a long (i + 1) (drop (i + 1) xs))
 
 -- nothing is left
@@ -43,13 +38,13 @@ line_cut f x xs = flat_map-append dot (f x) (flat_map f xs)
 pub links_cut : (r : Read) (m n : Links) (t : ℕ) (xs : List ℕ) (i d : ℕ) → i < length xs → n ≡ with_link_to m t (owner_at r.chunks (get_or xs i d))
     → with_links r m t (drop i xs) ≡ with_links r n t (drop (i + 1) xs)
 links_cut r m n t xs i d lt e =
-    ap (with_links r m t) (cut_at xs i d lt) ∙ ap (λ l. with_links r l t (drop (i + 1) xs)) (sym e)
+    ap (with_links r m t) (drop_more xs i d lt) ∙ ap (λ l. with_links r l t (drop (i + 1) xs)) (sym e)
 
 -- the edge of the pair at a place, and those behind it
 pub pairs_cut : (r : Read) (ls : Links) (i : ℕ) (l : (ℕ × ℕ) × ℕ) → slice_get ls i ≡ Some l
     → flat_map dot (links_drawn r (drop i ls)) ≡ dot (link_edge r l) ++ flat_map dot (links_drawn r (drop (i + 1) ls))
 pairs_cut r ls i l e =
-    ap (λ ys. flat_map dot (links_drawn r ys)) (cut_at ls i l (slice_get_within ls i l e))
+    ap (λ ys. flat_map dot (links_drawn r ys)) (drop_more ls i l (slice_get_within ls i l e))
     ∙ ap (λ x. dot (link_edge r x) ++ flat_map dot (links_drawn r (drop (i + 1) ls))) (get_or_from_slice_get ls i l l e)
 
 -- WORDS
@@ -60,5 +55,5 @@ nothing_behind ws i n le e = let short : length ws ≤ n = omega (arith, length-
 pub behind_more : (ws : List (List ℕ)) (i : ℕ) (x : List ℕ) (xs : List (List ℕ)) → drop i ws ≡ x ∷ xs → xs ≡ drop (i + 1) ws
 behind_more ws i x xs e =
     let lt : i < length ws = omega (arith, length-drop i ws, ap length e) in
-    let f : drop i ws ≡ get_or ws i x ∷ drop (i + 1) ws = cut_at ws i x lt in
+    let f : drop i ws ≡ get_or ws i x ∷ drop (i + 1) ws = drop_more ws i x lt in
     cc (e, f)

@@ -13,9 +13,10 @@ use Rattle.image_check.specs.declared.read.Read.{Read}
 use Rattle.image_check.specs.Line.{said_by}
 use Rattle.image_check.specs.Place.{chunk_number}
 use Rattle.image_check.specs.Tasks.{Tasks, parent_of, owner_at}
+use Rattle.quoted_text.specs.Labels.{task_name}
 use Rattle.dot_text.specs.Dot.{Statement, Statements, Setting, Node, Cluster, NoStatement, Statement_, alone}
 use Rattle.heap_graph.specs.declared.held.Held.{Held}
-use Rattle.heap_graph.specs.Names.{task_name, task_cluster, chunk_name, chunk_cluster, object_name, task_title, chunk_title}
+use Rattle.heap_graph.specs.Names.{task_cluster, chunk_name, chunk_cluster, object_name, task_title, chunk_title}
 use Rattle.heap_graph.specs.Kinds.{field_limit, is_long, edges_of}
 use Rattle.heap_graph.specs.Held.{Heaps, held_of, is_drawn}
 

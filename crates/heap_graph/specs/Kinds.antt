@@ -5,8 +5,9 @@ use Rattle.image_check.specs.declared.read.Read.{Read}
 use Rattle.image_check.specs.declared.tasks.Relation.{Relation}
 use Rattle.image_check.specs.declared.tasks.Relation.TheVariants.{Own, Above, Below, Apart}
 use Rattle.image_check.specs.Tasks.{relation_of, is_running, owner_at}
+use Rattle.quoted_text.specs.Labels.{task_name}
 use Rattle.dot_text.specs.Dot.{Attributes, Statement, Edge}
-use Rattle.heap_graph.specs.Names.{task_name, task_cluster, object_name, port_name}
+use Rattle.heap_graph.specs.Names.{task_cluster, object_name, port_name}
 
 -- inside a heap grey, up to an ancestor blue, down to a descendant red and bold; in a sound image no heap refers to
 -- another one, and each reference down is remembered

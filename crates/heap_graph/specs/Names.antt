@@ -6,11 +6,8 @@ use Rattle.image_check.specs.declared.line.Chunk.{Chunk}
 use Rattle.image_check.specs.Line.{state_word}
 use Rattle.heap_graph.specs.declared.held.Held.{Held}
 
--- a task's cluster has a point in it, for edges that lead into its heap
-abbrev pub task_name : ℕ → List ℕ
-task_name t = codes "task " ++ decimal t
-
--- Graphviz draws what is called cluster as a box
+-- Graphviz draws what is called cluster as a box; a task's has a point in it, of the task's name, for edges that lead into
+-- its heap
 abbrev pub task_cluster : ℕ → List ℕ
 task_cluster t = codes "cluster task " ++ decimal t
 

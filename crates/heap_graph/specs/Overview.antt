@@ -14,9 +14,10 @@ use Rattle.image_check.specs.Line.{said_by}
 use Rattle.image_check.specs.Tasks.{relation_of, owner_at, is_running}
 use Rattle.image_check.specs.Sets.{same_birth}
 use Rattle.dot_text.specs.Dot.{Attributes, Statement, Node, Edge}
-use Rattle.heap_graph.specs.Names.{task_name, port_name, heap_title}
+use Rattle.heap_graph.specs.Names.{port_name, heap_title}
 use Rattle.heap_graph.specs.Kinds.{kind_attributes}
 use Rattle.still_counts.specs.Counts.{raised_by}
+use Rattle.quoted_text.specs.Labels.{task_name}
 use Rattle.heap_graph.specs.Held.{Heaps, held_of, is_drawn}
 
 -- HEAPS

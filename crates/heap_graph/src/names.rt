@@ -1,7 +1,8 @@
 // What tasks, chunks, objects and fields are called in a graph.
 
 ghost use Rattle.std.specs.Prelude.{◌≡◌, IfOk, string_bytes};
-ghost use Rattle.heap_graph.specs.Names.{task_name, task_cluster, chunk_name, chunk_cluster, object_name, port_name, task_title, chunk_title, heap_title};
+ghost use Rattle.quoted_text.specs.Labels.{task_name};
+ghost use Rattle.heap_graph.specs.Names.{task_cluster, chunk_name, chunk_cluster, object_name, port_name, task_title, chunk_title, heap_title};
 
 use crate::held::Held;
 use image_check::{Chunk, Task};

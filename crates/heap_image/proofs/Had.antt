@@ -3,6 +3,7 @@ use Rattle.std.proofs.Common.{◌≡◌, ◌≤◌, ℕ, Bool, true, false, List
 use Rattle.std.specs.Prelude.{Option, Some, None, ◌==◌, nat_eq}
 use Rattle.listed.specs.Members.{In}
 use Rattle.listed.proofs.Members.{in_append_left, in_append_right}
+use Rattle.listed.proofs.Places.{in_map}
 use Rattle.image_check.specs.declared.line.Object.{Object}
 use Rattle.image_check.specs.declared.line.Remembered.{Remembered}
 use Rattle.image_check.specs.declared.line.Said.{Said}
@@ -109,11 +110,6 @@ field_had w (s ∷ ss) f (inl e) =
 field_had w (s ∷ ss) f (inr h) = field_had (with_line w s) ss f h
 
 -- A PICTURE
-
-in_map : {A B : Type 0} (f : A → B) (xs : List A) (x : A) → In xs x → In (map f xs) (f x)
-in_map f [] x h = absurd h
-in_map f (y ∷ ys) x (inl e) = inl (ap f e)
-in_map f (y ∷ ys) x (inr h) = inr (in_map f ys x h)
 
 abbrev pub whole_picture : Picture → Whole
 whole_picture p = with_said nothing_had (Title ∷ behind_title p)

@@ -1,8 +1,9 @@
 -- Each line says what it was written for.
 use Rattle.std.proofs.Common.{◌≡◌, ◌≤◌, ◌+◌, ◌-◌, ◌%◌, ℕ, suc, Bool, true, false, List, [], ◌∷◌, ◌++◌, length, map, arith, refl, ap, ◌∙◌, inl, inr}
-use Rattle.std.specs.Prelude.{ℤ, Option, Some, None, nat_lt, nat_le, ◌==◌}
+use Rattle.std.specs.Prelude.{ℤ, Option, Some, None, nat_le, ◌==◌}
 use Rattle.std.specs.Fmt.{decimal, signed_decimal}
 use Rattle.listed.specs.Members.{In}
+use Rattle.listed.proofs.Numbers.{above_zero}
 use Rattle.hh_lang.specs.Number.{fits_i64}
 use Rattle.run_trace.specs.Line.{spaced}
 use Rattle.run_trace.proofs.Words.{IsProper, AreProper, words_spaced}
@@ -121,17 +122,14 @@ kind_again false = refl
 one_less : (k : ℕ) → suc k - 1 ≡ k
 one_less k = omega arith
 
-some_left : (k : ℕ) → nat_lt 0 (suc k) ≡ true
-some_left k = grind arith
-
 numbers_again : (ns : List ℤ) → ((n : ℤ) → In ns n → fits_i64 n ≡ true) → references_in 0 (length ns) (map signed_decimal ns) ≡ Some []
 numbers_again [] h = refl
-numbers_again (n ∷ ns) h = rw (some_left (length ns), signed_again n (h n (inl refl)), one_less (length ns)) (numbers_again ns (λ v i. h v (inr i)))
+numbers_again (n ∷ ns) h = rw (above_zero (length ns), signed_again n (h n (inl refl)), one_less (length ns)) (numbers_again ns (λ v i. h v (inr i)))
 
 references_again : (rs : List ℕ) (ns : List ℤ) → ((v : ℕ) → In rs v → IsLong v) → ((n : ℤ) → In ns n → fits_i64 n ≡ true)
     → references_in (length rs) (length ns) (map decimal rs ++ map signed_decimal ns) ≡ Some rs
 references_again [] ns h g = numbers_again ns g
-references_again (r ∷ rs) ns h g = rw (some_left (length rs), long_again r (h r (inl refl)), one_less (length rs)) rw (references_again rs ns (λ v i. h v (inr i)) g) refl
+references_again (r ∷ rs) ns h g = rw (above_zero (length rs), long_again r (h r (inl refl)), one_less (length rs)) rw (references_again rs ns (λ v i. h v (inr i)) g) refl
 
 counts_fit : (r i : ℕ) → r + i ≤ 1000000 → is_field_count r i ≡ true
 counts_fit r i h =

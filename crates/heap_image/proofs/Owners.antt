@@ -2,6 +2,7 @@
 use Rattle.std.proofs.Common.{◌≡◌, ◌<◌, ℕ, Bool, true, false, cond, refl, ap, sym, ◌∙◌, arith}
 use Rattle.std.specs.Prelude.{Option, Some, None, ◌==◌}
 use Rattle.std.proofs.lemmas.Option.{same_Some}
+use Rattle.listed.proofs.Numbers.{not_zero}
 use Rattle.image_check.specs.declared.line.Chunk.{Chunk}
 use Rattle.image_check.specs.Table.{found}
 use Rattle.image_check.specs.Place.{chunk_number}
@@ -11,9 +12,6 @@ use Rattle.heap_image.specs.Picture.{ChunkBefore, LiesIn, IsOwned, IsSoundPictur
 use Rattle.heap_image.proofs.Splits.{same_item}
 use Rattle.heap_image.proofs.Tables.{found_in, found_from}
 use Rattle.heap_image.proofs.States.{chunk_number_of, chunk_itself, chunk_table}
-
-not_nil : (a : ℕ) → 0 < a → (a == 0) ≡ false
-not_nil a h = grind (arith, h)
 
 above_nil : (a : ℕ) → (a == 0) ≡ false → 0 < a
 above_nil a e = grind (arith, e)
@@ -27,7 +25,7 @@ module _ (p : Picture) (s : IsSoundPicture p) where
 
   pub chunk_found : (a : ℕ) (c : Chunk) → LiesIn p a c → chunk_at cs a ≡ Some c
   chunk_found a c h =
-      rw (not_nil a h.1)
+      rw (not_zero a h.1)
       (ap (found cs) h.2 ∙ found_in chunk_number_of chunk_itself p.chunks c (λ d i e. same_item ChunkBefore chunk_number_of lower p.chunks s.chunks_rise d c i h.0 e) h.0)
 
   pub owner_found : (a t : ℕ) → IsOwned p a t → owner_at cs a ≡ Some t

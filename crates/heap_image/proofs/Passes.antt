@@ -2,6 +2,7 @@
 use Rattle.std.proofs.Common.{◌≡◌, ◌<◌, ◌+◌, ℕ, Bool, true, false, List, [], ◌∷◌, ◌++◌, map, arith, refl, ap, sym, subst, ◌∙◌, inl, inr, append_assoc, append-nil}
 use Rattle.std.specs.Prelude.{Option, Some, None, not, ◌||◌}
 use Rattle.listed.specs.Members.{In}
+use Rattle.text_lines.specs.Lines.{is_last}
 use Rattle.image_check.specs.declared.line.Said.{Said}
 use Rattle.image_check.specs.declared.read.Position.{Position}
 use Rattle.image_check.specs.declared.read.Read.{Read}
@@ -9,7 +10,7 @@ use Rattle.image_check.specs.declared.whole.Whole.{Whole}
 use Rattle.image_check.specs.declared.cause.Fault.{Fault}
 use Rattle.image_check.specs.Line.{said_by}
 use Rattle.image_check.specs.Read.{rises, position_of, after_line, with_line, with_lines}
-use Rattle.image_check.specs.Fault.{cause_on, cause_by, is_misplaced, has_wrong_place, breaks_form, is_last, or_later, fault_from, after_lines}
+use Rattle.image_check.specs.Fault.{cause_on, cause_by, is_misplaced, has_wrong_place, breaks_form, or_later, fault_from, after_lines}
 use Rattle.heap_image.proofs.Splits.{IsCut}
 
 -- WHAT IS SAID IN PLACE OF LINES

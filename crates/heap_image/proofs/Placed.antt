@@ -1,7 +1,7 @@
 -- An object of a sound picture is born once, and lies apart from the one before.
-use Rattle.std.proofs.Common.{◌≡◌, ◌<◌, ◌≤◌, ℕ, Bool, true, false, List, refl, sym, arith}
+use Rattle.std.proofs.Common.{◌≡◌, ◌<◌, ◌≤◌, Bool, true, false, List, refl, sym, arith}
 use Rattle.std.specs.Prelude.{Option, None, ◌==◌, nat_lt}
-use Rattle.std.proofs.lemmas.Bool.{and_parts}
+use Rattle.std.proofs.lemmas.Bool.{and_parts, le-ltb}
 use Rattle.listed.specs.Members.{In}
 use Rattle.image_check.specs.declared.line.Birth.{Birth}
 use Rattle.image_check.specs.declared.line.Chunk.{Chunk}
@@ -33,14 +33,8 @@ other_birth x y ne = by (same_birth (x.task, x.count) (y.task, y.count)) refl
 
 -- PLACES
 
-within : (words past : ℕ) → past ≤ words → nat_lt words past ≡ false
-within words past h = grind (arith, h)
-
-behind : (at past : ℕ) → past ≤ at → nat_lt at past ≡ false
-behind at past h = grind (arith, h)
-
 apart_by : (o q : Picked) (b : Bool) → (chunk_number o.address == chunk_number q.address) ≡ b → o.address < q.address → AreApart o q → overlaps (ends_at o) (as_read q) ≡ false
-apart_by o q true e lt h = let g : nat_lt (offset q.address) (end_of o) ≡ false = behind (offset q.address) (end_of o) (h lt (equal (chunk_number o.address) (chunk_number q.address) e)) in rw (e, g) refl
+apart_by o q true e lt h = let g : nat_lt (offset q.address) (end_of o) ≡ false = le-ltb (offset q.address) (end_of o) (h lt (equal (chunk_number o.address) (chunk_number q.address) e)) in rw (e, g) refl
 apart_by o q false e lt h = rw e refl
 
 module _ (p : Picture) (s : IsSoundPicture p) (a : List Picked) (o : Picked) (b : List Picked) (c : IsCut p.objects a o b) where
@@ -61,4 +55,4 @@ module _ (p : Picture) (s : IsSoundPicture p) (a : List Picked) (o : Picked) (b 
       apart_by y o (chunk_number y.address == chunk_number o.address) refl (earlier y i) (s.apart y o (in_front p.objects a o b c y i) (in_middle p.objects a o b c)))
 
   pub uncrowded : (k : Chunk) → end_of o ≤ k.words → is_crowded (objects_read p a) k (as_read o) ≡ false
-  uncrowded k h = let e : nat_lt k.words (end_of o) ≡ false = within k.words (end_of o) h in rw e overlaps_none
+  uncrowded k h = let e : nat_lt k.words (end_of o) ≡ false = le-ltb k.words (end_of o) h in rw e overlaps_none

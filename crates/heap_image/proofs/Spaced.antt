@@ -1,11 +1,10 @@
 -- How lines are put together.
-use Rattle.std.proofs.Common.{◌≡◌, ◌<◌, ◌+◌, ℕ, ℤ, List, [], ◌∷◌, ◌++◌, length, take, get_or, map, ap, sym, ◌∙◌, append_assoc, append-nil}
+use Rattle.std.proofs.Common.{◌≡◌, ℕ, ℤ, List, [], ◌∷◌, ◌++◌, length, map, ap, sym, ◌∙◌, append_assoc, append-nil}
 use Rattle.std.specs.Prelude.{codes, Result, Ok, Err, OnOk, if◌then◌else◌, Option, Some, None}
 use Rattle.std.specs.Result.{is_ok}
 use Rattle.std.specs.List.{flat_map}
 use Rattle.std.specs.Fmt.{decimal, signed_decimal}
 use Rattle.std.proofs.lemmas.Grind.{flat_map-append}
-use Rattle.std.proofs.lemmas.List.{take_more, flat_map_more}
 use Rattle.std.proofs.lemmas.List.Folds.{flat_map-map}
 use Rattle.run_trace.specs.Line.{spaced}
 use Rattle.heap_image.specs.declared.picture.Picked.{Picked}
@@ -62,14 +61,6 @@ pub child_line : (t : Task) (p : ℕ) (w : List ℕ) → t.parent ≡ Some p →
 child_line t p w e f = task_by t.number t.parent (Some p) t.state w e f
 
 -- LINES
-
--- a line more behind the lines of the items before
-pub lines_more : {X : Type 0} (f : X → List ℕ) (xs : List X) (i : ℕ) (d : X) (before now later : List ℕ) → i < length xs
-    → now ≡ before ++ flat_map f (take i xs) → later ≡ now ++ f (get_or xs i d) → later ≡ before ++ flat_map f (take (i + 1) xs)
-lines_more f xs i d before now later lt e g =
-    g ∙ ap (λ x. x ++ f (get_or xs i d)) e
-    ∙ flat_map_more f before (take i xs) (get_or xs i d)
-    ∙ ap (λ ys. before ++ flat_map f ys) (sym (take_more xs i d lt))
 
 -- a head and the fields behind it make the line of an object
 pub object_made : (o : Picked) (before head bytes begun first more : List ℕ) (rs : List ℕ) (ns : List ℤ) → head ≡ spaced (head_words o) → bytes ≡ head → begun ≡ before ++ bytes

@@ -2,6 +2,7 @@
 use Rattle.std.proofs.Common.{◌≡◌, ℕ, zero, suc, Bool, true, false, List, [], ◌∷◌, ◌++◌, map, refl, ap, sym, ◌∙◌, inl, inr, arith}
 use Rattle.std.specs.Prelude.{Some, None, nat_eq, is_some, slice_get}
 use Rattle.std.proofs.lemmas.Option.{same_Some}
+use Rattle.std.proofs.lemmas.Bool.{ne_eqb}
 use Rattle.listed.specs.Members.{In}
 use Rattle.image_check.specs.Table.{found, has, with_entry, with_new}
 use Rattle.image_check.specs.Sets.{is_among, with_item}
@@ -9,13 +10,6 @@ use Rattle.image_check.proofs.Entries.{itself}
 
 equal : (x y : ℕ) → nat_eq x y ≡ true → x ≡ y
 equal x y e = grind (arith, e)
-
-differs : (x y : ℕ) → (x ≡ y → ⊥) → nat_eq x y ≡ false
-differs x y ne = by (nat_eq x y) refl
-  where
-    by : (b : Bool) → nat_eq x y ≡ b → nat_eq x y ≡ false
-    by true e = absurd (ne (equal x y e))
-    by false e = e
 
 module _ {A B : Type 0} (f : A → B) where
   pub mapped_at : (xs : List A) (i : ℕ) (x : A) → slice_get xs i ≡ Some x → slice_get (map f xs) i ≡ Some (f x)
@@ -46,7 +40,7 @@ module _ {X V : Type 0} (key : X → ℕ) (val : X → V) where
 
   pub found_none : (xs : List X) (n : ℕ) → ((y : X) → In xs y → key y ≡ n → ⊥) → found (table xs) n ≡ None
   found_none [] n fresh = refl
-  found_none (y ∷ ys) n fresh = rw (differs n (key y) (λ e. fresh y (inl refl) (sym e))) (found_none ys n (λ z i. fresh z (inr i)))
+  found_none (y ∷ ys) n fresh = rw (ne_eqb n (key y) (λ e. fresh y (inl refl) (sym e))) (found_none ys n (λ z i. fresh z (inr i)))
 
   pub found_from : (xs : List X) (n : ℕ) (v : V) → found (table xs) n ≡ Some v → (x : X) × In xs x × (key x ≡ n) × (val x ≡ v)
   found_from [] n v h = absurd cc
@@ -59,7 +53,7 @@ module _ {X V : Type 0} (key : X → ℕ) (val : X → V) where
   -- an entry more, under a number that none has
   pub entry_more : (xs : List X) (x : X) → ((y : X) → In xs y → key y ≡ key x → ⊥) → with_entry (table xs) (key x) (val x) ≡ table (xs ++ x ∷ [])
   entry_more [] x fresh = refl
-  entry_more (y ∷ ys) x fresh = rw (differs (key x) (key y) (λ e. fresh y (inl refl) (sym e))) (ap (λ es. entry y ∷ es) (entry_more ys x (λ z i. fresh z (inr i))))
+  entry_more (y ∷ ys) x fresh = rw (ne_eqb (key x) (key y) (λ e. fresh y (inl refl) (sym e))) (ap (λ es. entry y ∷ es) (entry_more ys x (λ z i. fresh z (inr i))))
 
   table_more : (xs : List X) (x : X) → table xs ++ entry x ∷ [] ≡ table (xs ++ x ∷ [])
   table_more [] x = refl

@@ -2,24 +2,16 @@
 use Rattle.std.proofs.Common.{◌≡◌, ◌<◌, ◌^◌, ℕ, suc, true, false, List, [], ◌∷◌, arith, refl, sym}
 use Rattle.std.specs.Prelude.{ℤ, pos, negsuc, nat_lt, ◌==◌, codes, Some}
 use Rattle.std.specs.Str.{bytes_eq}
-use Rattle.std.specs.Str.Parse.{IsNumeral, AllDigits, digits_value, starts_with_minus}
-use Rattle.std.specs.Char.{digit_value}
+use Rattle.std.specs.Str.Parse.{IsNumeral, digits_value}
 use Rattle.std.specs.Fmt.{decimal, signed_decimal}
 use Rattle.std.proofs.lemmas.Fmt.{decimal_is_IsNumeral}
 use Rattle.hh_lang.specs.Number.{is_numeral, fits_i64, signed_number}
-use Rattle.hh_lang.proofs.Tests.{numeral_passes}
-use Rattle.run_trace.proofs.Words.{IsPlain, ArePlain, IsProper}
+use Rattle.hh_lang.proofs.Tests.{no_minus, numeral_passes, positive, unsigned}
+use Rattle.run_trace.proofs.Words.{IsProper, digits_are_plain}
 use Rattle.image_check.specs.Line.{number_below, short_number, long_number}
 use Rattle.image_check.proofs.Numbers.{as_option}
 
 -- PROPER WORDS
-
-digit_is_plain : (c : ℕ) → digit_value c < 10 → IsPlain c
-digit_is_plain c h = (grind arith, grind arith)
-
-digits_are_plain : (ds : List ℕ) → AllDigits 10 ds → ArePlain ds
-digits_are_plain [] h = tt
-digits_are_plain (c ∷ cs) h = (digit_is_plain c h.0, digits_are_plain cs h.1)
 
 numeral : (n : ℕ) → n < 2 ^ 64 → IsNumeral 10 (decimal n)
 numeral n lt = (decimal_is_IsNumeral n lt).0
@@ -45,22 +37,12 @@ long_again n lt = number_again (2 ^ 64) n lt lt
 
 -- NUMBERS WITH A SIGN
 
-no_minus : (c : ℕ) → digit_value c < 10 → (c == 45) ≡ false
-no_minus c h = grind arith
-
-unsigned : (ds : List ℕ) → IsNumeral 10 ds → starts_with_minus ds ≡ false
-unsigned [] h = absurd (let a : 0 < 0 = h.0 in omega arith)
-unsigned (c ∷ cs) h = no_minus c h.1.0
-
 pub no_hyphen : (ds : List ℕ) → IsNumeral 10 ds → bytes_eq ds (codes "-") ≡ false
 no_hyphen [] h = refl
 no_hyphen (c ∷ cs) h = let e : (c == 45) ≡ false = no_minus c h.1.0 in rw e refl
 
 pub decimal_no_hyphen : (n : ℕ) → n < 2 ^ 32 → bytes_eq (decimal n) (codes "-") ≡ false
 decimal_no_hyphen n lt = no_hyphen (decimal n) (numeral n (short_is_long n lt))
-
-positive : (ds : List ℕ) (n : ℕ) → starts_with_minus ds ≡ false → is_numeral ds ≡ true → digits_value 10 ds ≡ n → fits_i64 (pos n) ≡ true → signed_number ds ≡ Some (pos n)
-positive ds n e f g h = rw (e, f, g) rw h refl
 
 negative : (ds : List ℕ) (n : ℕ) → is_numeral ds ≡ true → digits_value 10 ds ≡ suc n → fits_i64 (negsuc n) ≡ true → signed_number (45 ∷ ds) ≡ Some (negsuc n)
 negative ds n f g h = rw (f, g) rw h refl

@@ -2,32 +2,30 @@
 use Rattle.std.specs.Prelude.{◌≡◌, ◌<◌, ◌≤◌, ◌+◌, ◌^◌, ◌%◌, ℕ, ℤ, true, Option, Some, None, length}
 use Rattle.hh_lang.specs.Number.{fits_i64}
 use Rattle.listed.specs.Members.{In}
+use Rattle.run_trace.specs.Entry.{IsWord}
 use Rattle.image_check.specs.declared.line.Task.{Task}
 use Rattle.image_check.specs.declared.line.Chunk.{Chunk}
 use Rattle.image_check.specs.declared.line.Remembered.{Remembered}
 use Rattle.heap_image.specs.declared.picture.Picked.{Picked}
 use Rattle.heap_image.specs.declared.picture.Picture.{Picture}
 
--- tasks, chunks and births have numbers of 32 bits
-abbrev pub IsShort : ℕ → Type 0
-IsShort n = n < 2 ^ 32
-
+-- an address or a place; tasks, chunks and births have numbers of 32 bits
 abbrev pub IsLong : ℕ → Type 0
 IsLong n = n < 2 ^ 64
 
 -- task 0 alone has no parent
 abbrev pub HasFitParent : ℕ → Option ℕ → Type 0
 HasFitParent t None = t ≡ 0
-HasFitParent t (Some p) = (0 < t) × IsShort p
+HasFitParent t (Some p) = (0 < t) × IsWord p
 
 pub record IsTaskForm (t : Task) : Type 0 where
-  pub number : IsShort t.number
+  pub number : IsWord t.number
   pub parent : HasFitParent t.number t.parent
 
 -- a chunk's words are a multiple of 1,024, up to 65,536 times as many
 pub record IsChunkForm (c : Chunk) : Type 0 where
-  pub number : IsShort c.number
-  pub owner : IsShort c.owner
+  pub number : IsWord c.number
+  pub owner : IsWord c.owner
   pub whole : c.words % 1024 ≡ 0
   pub least : 1024 ≤ c.words
   pub most : c.words ≤ 67108864
@@ -35,14 +33,14 @@ pub record IsChunkForm (c : Chunk) : Type 0 where
 -- an object has at most a million fields
 pub record IsObjectForm (o : Picked) : Type 0 where
   pub address : IsLong o.address
-  pub task : IsShort o.birth.task
-  pub count : IsShort o.birth.count
+  pub task : IsWord o.birth.task
+  pub count : IsWord o.birth.count
   pub sized : length o.references + length o.numbers ≤ 1000000
   pub references : (v : ℕ) → In o.references v → IsLong v
   pub numbers : (n : ℤ) → In o.numbers n → fits_i64 n ≡ true
 
 pub record IsFieldForm (f : Remembered) : Type 0 where
-  pub task : IsShort f.task
+  pub task : IsWord f.task
   pub address : IsLong f.address
   pub place : IsLong f.place
 

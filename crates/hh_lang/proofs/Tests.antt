@@ -1,9 +1,9 @@
 -- The tests on texts of numbers say what the relations say.
 use Rattle.std.proofs.Common.{◌≡◌, ◌<◌, ◌^◌, ℕ, Bool, true, false, List, [], ◌∷◌, cond, length, arith, refl, ap}
-use Rattle.std.specs.Prelude.{ℤ, pos, negsuc, ◌&&◌, nat_lt, Option, Some, None, SomeIff, FitsSigned}
+use Rattle.std.specs.Prelude.{ℤ, pos, negsuc, ◌&&◌, ◌==◌, nat_lt, Option, Some, None, SomeIff, FitsSigned}
 use Rattle.std.specs.Int.{w64}
 use Rattle.std.specs.Char.{digit_value}
-use Rattle.std.specs.Str.Parse.{IsNumeral, AllDigits}
+use Rattle.std.specs.Str.Parse.{IsNumeral, AllDigits, digits_value, starts_with_minus}
 use Rattle.std.proofs.lemmas.Bool.{and_parts}
 use Rattle.hh_lang.specs.Number.{IsNumber, digits_of, number_of, are_digits, is_numeral, fits_i64, signed_number}
 
@@ -18,7 +18,7 @@ passed_digits : (ds : List ℕ) → are_digits ds ≡ true → AllDigits 10 ds
 passed_digits [] e = tt
 passed_digits (c ∷ cs) e = let both = and_parts (nat_lt (digit_value c) 10) (are_digits cs) e in (below_ten (digit_value c) both.0, passed_digits cs both.1)
 
-fits_passes : (z : ℤ) → FitsSigned w64 z → fits_i64 z ≡ true
+pub fits_passes : (z : ℤ) → FitsSigned w64 z → fits_i64 z ≡ true
 fits_passes (pos n) h = let f : n < 2 ^ 63 = h.sfits in grind (arith, f)
 fits_passes (negsuc n) h = let f : n < 2 ^ 63 = h.sfits in grind (arith, f)
 
@@ -31,6 +31,17 @@ numeral_passes ds h = let i = digits_pass ds h.1 in let l : 0 < length ds = h.0 
 
 pub passed_numeral : (ds : List ℕ) → is_numeral ds ≡ true → IsNumeral 10 ds
 passed_numeral ds e = let both = and_parts (nat_lt 0 (length ds)) (are_digits ds) e in (grind (arith, both.0), passed_digits ds both.1)
+
+-- a numeral has no sign, and is read as what its digits say
+pub no_minus : (c : ℕ) → digit_value c < 10 → (c == 45) ≡ false
+no_minus c h = grind arith
+
+pub unsigned : (ds : List ℕ) → IsNumeral 10 ds → starts_with_minus ds ≡ false
+unsigned [] h = absurd (let a : 0 < 0 = h.0 in omega arith)
+unsigned (c ∷ cs) h = no_minus c h.1.0
+
+pub positive : (ds : List ℕ) (n : ℕ) → starts_with_minus ds ≡ false → is_numeral ds ≡ true → digits_value 10 ds ≡ n → fits_i64 (pos n) ≡ true → signed_number ds ≡ Some (pos n)
+positive ds n e f g h = rw (e, f, g) rw h refl
 
 abbrev test : List ℕ → Bool
 test bs = is_numeral (digits_of bs) && fits_i64 (number_of bs)

@@ -31,3 +31,8 @@ fits_i64 (negsuc n) = nat_lt n (2 ^ 63)
 -- the number that a text writes, if it writes one that fits
 abbrev pub signed_number : List ℕ → Option ℤ
 signed_number bs = if is_numeral (digits_of bs) && fits_i64 (number_of bs) then Some (number_of bs) else None
+
+-- a number in front of others, where there is each of them
+abbrev pub onto_number : Option ℕ → Option (List ℕ) → Option (List ℕ)
+onto_number (Some n) (Some ns) = Some (n ∷ ns)
+onto_number _ _ = None

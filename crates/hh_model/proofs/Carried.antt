@@ -1,6 +1,7 @@
 -- Where the names come from that an instruction leaves in registers and fields.
-use Rattle.std.proofs.Common.{◌≡◌, ℕ, pos, zero, suc, ◌+◌, ◌==◌, Bool, true, false, cond, Option, Some, None, List, [], ◌∷◌, ◌++◌, length, set, slice_get, slice_set, ◌⊎◌, inl, inr, refl, ap, sym, subst, ◌∙◌, take, replicate, is_some}
+use Rattle.std.proofs.Common.{◌≡◌, ℕ, pos, zero, suc, ◌+◌, ◌==◌, Bool, true, false, cond, Option, Some, None, List, [], ◌∷◌, ◌++◌, length, set, slice_get, slice_set, ◌⊎◌, inl, inr, refl, ap, sym, subst, ◌∙◌, replicate, is_some}
 use Rattle.listed.proofs.Members.{In, got_in}
+use Rattle.listed.proofs.Places.{in_take}
 use Rattle.hh_lang.specs.declared.instr.Instr.{Instr}
 use Rattle.hh_lang.specs.declared.instr.Instr.TheVariants.{Set, Mov, Movr, Nil as NilOf, Calc, Same, Jmp, Jz, Newm, Pack, Getr, Geti, Putr, Puti, Cntr, Cnti, Freeze, Cas, Call, Par, Ret, Out}
 use Rattle.hh_model.specs.declared.data.Name.{Name}
@@ -33,12 +34,6 @@ in_set_cases (x ∷ xs) zero y z (inl e) = inl e
 in_set_cases (x ∷ xs) zero y z (inr h) = inr (inr h)
 in_set_cases (x ∷ xs) (suc k) y z (inl e) = inr (inl e)
 in_set_cases (x ∷ xs) (suc k) y z (inr h) = elim (in_set_cases xs k y z h) [ inl e ↦ inl e | inr i ↦ inr (inr i) ]
-
-pub in_take : {A : Type 0} (k : ℕ) (xs : List A) (z : A) → In (take k xs) z → In xs z
-in_take zero xs z h = absurd h
-in_take (suc k) [] z h = h
-in_take (suc k) (x ∷ xs) z (inl e) = inl e
-in_take (suc k) (x ∷ xs) z (inr h) = inr (in_take k xs z h)
 
 pub none_in : (k : ℕ) (n : Name) → In (replicate k None) (Some n) → ⊥
 none_in zero n h = h

@@ -5,6 +5,7 @@ use Rattle.std.proofs.lemmas.Option.{same_Some}
 use Rattle.hh_model.specs.declared.data.Strand.{Strand}
 use Rattle.std.proofs.Common.{◌≡◌, ℕ, ℤ, zero, suc, pos, negsuc, ◌+◌, ◌≤◌, nat_le, take, replicate, arith, ◌==◌, Bool, true, false, cond, Option, Some, None, List, [], ◌∷◌, ◌++◌, length, slice_get, slice_set, ◌⊎◌, inl, inr, refl, sym, subst, eqb-true}
 use Rattle.listed.proofs.Members.{In}
+use Rattle.listed.proofs.Places.{in_take}
 use Rattle.hh_lang.specs.declared.instr.Instr.{Instr}
 use Rattle.hh_lang.specs.declared.instr.Instr.TheVariants.{Set, Mov, Movr, Nil as NilOf, Calc, Same, Jmp, Jz, Newm, Pack, Getr, Geti, Putr, Puti, Cntr, Cnti, Freeze, Cas, Call, Par, Ret, Out}
 use Rattle.hh_model.specs.declared.data.Name.{Name}
@@ -16,7 +17,7 @@ use Rattle.hh_model.specs.Effect.{Effect, Goes, Prints, Calls, Forks, Returns, T
 use Rattle.hh_model.specs.Precedence.{precedes}
 use Rattle.hh_model.specs.Names.{refs_of, refs_at}
 use Rattle.hh_model.specs.Store.{IsWriteTo}
-use Rattle.hh_model.proofs.Carried.{at_in, flat_at, in_take, none_in, named_from_in}
+use Rattle.hh_model.proofs.Carried.{at_in, flat_at, none_in, named_from_in}
 
 -- its fields of both kinds together are within the limit, or those of each kind are no more than the registers
 abbrev pub IsSized : ℕ → Frame → Object → Type 0
@@ -104,7 +105,7 @@ take_few zero xs = omega arith
 take_few (suc k) [] = omega arith
 take_few (suc k) (x ∷ xs) = let h = take_few k xs in omega (arith, h)
 
-counts_within : (limit : ℕ) (x y : ℤ) (n : ℕ × ℕ) → counts_in limit x y ≡ Some n → n.0 + n.1 ≤ limit
+pub counts_within : (limit : ℕ) (x y : ℤ) (n : ℕ × ℕ) → counts_in limit x y ≡ Some n → n.0 + n.1 ≤ limit
 counts_within limit (pos a) (pos b) n e = by (nat_le (a + b) limit) refl e
   where
     by : (v : Bool) → nat_le (a + b) limit ≡ v → cond v (Some (a, b)) None ≡ Some n → n.0 + n.1 ≤ limit

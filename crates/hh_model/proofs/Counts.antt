@@ -128,6 +128,10 @@ module _ (p : ProgramText) (m : State) (t : ℕ) (K : Kept m) (k : ℕ) (I : Cou
 
 -- RUNS
 
+pub run_on : (p : ProgramText) (ts us : List ℕ) (m : State) → run_from p m (ts ++ us) ≡ run_from p (run_from p m ts) us
+run_on p [] us m = refl
+run_on p (t ∷ ts) us m = run_on p ts us (step p m t)
+
 pub run_push : (p : ProgramText) (m : State) (ts : List ℕ) (t : ℕ) → run_from p m (ts ++ t ∷ []) ≡ step p (run_from p m ts) t
 run_push p m [] t = refl
 run_push p m (u ∷ ts) t = run_push p (step p m u) ts t

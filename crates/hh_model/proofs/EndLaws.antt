@@ -3,6 +3,7 @@ use Rattle.std.proofs.Common.{◌≡◌, ℕ, true, false, Option, Some, None, L
 use Rattle.std.proofs.lemmas.Bool.{cases_eq, false≢true}
 use Rattle.std.proofs.lemmas.Option.{same_Some}
 use Rattle.listed.proofs.Members.{got_same, got_other}
+use Rattle.listed.proofs.Options.{none_some}
 use Rattle.hh_lang.specs.Form.{ProgramText}
 use Rattle.hh_model.specs.declared.data.Task.{Task}
 use Rattle.hh_model.specs.declared.data.End.{End}
@@ -17,9 +18,6 @@ use Rattle.hh_model.proofs.Root.{OneRoot, one_root, run_root}
 use Rattle.hh_model.proofs.Steps.{step_cases}
 use Rattle.hh_model.proofs.Taken.{step_idle}
 
-no_end : {e : End} {A : Type 0} → ◌≡◌ {A = Option End} None (Some e) → A
-no_end e = absurd cc
-
 pub still : (m : State) → m.end ≡ None → unended m ≡ m
 still m none = λ i. record m { end = (sym none) i }
 
@@ -29,7 +27,7 @@ module _ (p : ProgramText) (m : State) (t : ℕ) (K : Kept m) (R : OneRoot m.tas
   Ended m' = m'.end ≡ Some e → (unended m' ≡ m) ⊎ EndsDone m e m'
 
   same : (m' : State) → m'.end ≡ m.end → Ended m'
-  same m' q h = no_end (sym none ∙ (sym q ∙ h))
+  same m' q h = none_some (sym none ∙ (sym q ∙ h))
 
   done : (x : Task) (parent : Option ℕ) (o : Option End) → slice_get m.tasks t ≡ Some x → is_running (Some x) ≡ true → x.parent ≡ parent
       → ((parent ≡ None) × (o ≡ Some Done)) ⊎ (is_some parent ≡ true) × (o ≡ m.end) → Ended (record m { tasks = slice_set m.tasks t (ended_task x (result_of x.top)); end = o })
@@ -42,15 +40,15 @@ module _ (p : ProgramText) (m : State) (t : ℕ) (K : Kept m) (R : OneRoot m.tas
         running = run;
         ended = λ i. record m { tasks = slice_set m.tasks (first i) (ended_task x (result_of x.top)); end = (sym none) i };
       })
-  done x parent o is run pp (inr child) h = no_end (sym none ∙ (sym child.1 ∙ h))
+  done x parent o is run pp (inr child) h = none_some (sym none ∙ (sym child.1 ∙ h))
 
   last_step : Ended (step p m t)
   last_step =
       step_cases p m t K Ended (same m refl) (λ x e' is run why h. inl (still m none))
-      (λ x y store outs is run ep ed es ej names fields alters grows h. no_end (sym none ∙ h))
+      (λ x y store outs is run ep ed es ej names fields alters grows h. none_some (sym none ∙ h))
       (λ x parent o is run pp which result. done x parent o is run pp which)
-      (λ x g h is run next top q. no_end (sym none ∙ q))
-      (λ parent l xp xl xr rl rr ip il ir pl left dl dr wl wr nl nr side h. no_end (sym none ∙ h))
+      (λ x g h is run next top q. none_some (sym none ∙ q))
+      (λ parent l xp xl xr rl rr ip il ir pl left dl dr wl wr nl nr side h. none_some (sym none ∙ h))
 
 -- nothing changes after the end
 idle_by : (m : State) (t : ℕ) (o : Option End) (e : End) → m.end ≡ Some e → can_step m t ≡ false
@@ -91,7 +89,7 @@ module _ (p : ProgramText) (limit : ℕ) (all : List ℕ) (e : End) where
     ends_by before t rest more is going whole (Some q) ends = ends_here before t rest q is going ends whole h
 
     ends_from : (rest before : List ℕ) → all ≡ before ++ rest → (At before).end ≡ None → run_from p (At before) rest ≡ At all → IsEnded p limit all e
-    ends_from [] before is going whole = no_end (sym going ∙ (ap (λ (m : State). m.end) whole ∙ h))
+    ends_from [] before is going whole = none_some (sym going ∙ (ap (λ (m : State). m.end) whole ∙ h))
     ends_from (t ∷ rest) before is going whole =
         ends_by before t rest
         (λ none. ends_from rest (before ++ t ∷ []) (is ∙ sym (append_assoc before (t ∷ []) rest)) none (ap (λ m. run_from p m rest) (run_push p (start p limit) before t) ∙ whole))

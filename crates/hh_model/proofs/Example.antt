@@ -1,11 +1,11 @@
 -- A run with two compare and swaps on one field, so that the law of one winner speaks of something.
-use Rattle.std.proofs.Common.{◌≡◌, ℕ, zero, suc, pos, ◌≤◌, Bool, true, false, Option, Some, None, List, [], ◌∷◌, slice_get, refl, ap, sym, ◌∙◌, arith, map}
+use Rattle.std.proofs.Common.{◌≡◌, ℕ, zero, suc, pos, ◌≤◌, Bool, true, false, Option, Some, None, List, [], ◌∷◌, slice_get, refl, ap, sym, ◌∙◌, arith}
 use Rattle.std.proofs.lemmas.Bool.{false≢true}
 use Rattle.hh_lang.specs.declared.instr.Instr.{Instr}
 use Rattle.hh_lang.specs.declared.instr.Instr.TheVariants.{Set, Newm, Pack, Cas, Par, Putr, Ret}
-use Rattle.hh_lang.specs.declared.program.Fun.{Fun}
 use Rattle.hh_lang.specs.declared.program.Line.{Line}
 use Rattle.hh_lang.specs.Form.{ProgramText}
+use Rattle.hh_lang.proofs.Examples.{fun}
 use Rattle.hh_model.specs.declared.data.Name.{Name}
 use Rattle.hh_model.specs.declared.data.Object.{Object}
 use Rattle.hh_model.specs.declared.data.State.{State}
@@ -15,12 +15,8 @@ use Rattle.hh_model.specs.Step.{fetched, root, strand}
 use Rattle.hh_model.specs.Store.{IsNext}
 use Rattle.hh_model.specs.Winner.{Field, IsCas, IsPutr, IsTurn, IsUntried, OnlyFromNil, SomeCasWins, Yields, after}
 
-fun : List Instr → Fun
-fun code = record { name = []; code = map (λ i. record { instr = i; number = 1 }) code }
-
 -- the root makes an object of one reference field, and forks; each child makes an object, and would set the field to it
 p : ProgramText
-unfolding fun
 p = record { functions = fun (Set 0 (pos 1) ∷ Newm 0 0 1 ∷ Par 1 1 ∷ Ret ∷ []) ∷ fun (Pack 1 0 0 ∷ Cas 2 0 1 2 1 ∷ Ret ∷ []) ∷ []; main = 0 }
 
 ts : List ℕ
@@ -88,7 +84,7 @@ brought_at (Some s) = brought s.0 s.1.instr
 -- EACH STEP IN TURN
 
 no_putr_at : (i : ℕ) → putr_at (at_step i) ≡ false
-unfolding at_step p ts fun
+unfolding at_step p ts
 no_putr_at zero = refl
 no_putr_at (suc zero) = refl
 no_putr_at (suc (suc zero)) = refl
@@ -99,7 +95,7 @@ no_putr_at (suc (suc (suc (suc (suc (suc zero)))))) = refl
 no_putr_at (suc (suc (suc (suc (suc (suc (suc i))))))) = refl
 
 expects_nil : (i : ℕ) → expected_at (at_step i) ≡ None
-unfolding at_step p ts fun
+unfolding at_step p ts
 expects_nil zero = refl
 expects_nil (suc zero) = refl
 expects_nil (suc (suc zero)) = refl
@@ -110,7 +106,7 @@ expects_nil (suc (suc (suc (suc (suc (suc zero)))))) = refl
 expects_nil (suc (suc (suc (suc (suc (suc (suc i))))))) = refl
 
 brings_some : (i : ℕ) → (n : Name) × (brought_at (at_step i) ≡ Some n)
-unfolding at_step p ts fun
+unfolding at_step p ts
 brings_some zero = (record { task = 0; count = 0 }, refl)
 brings_some (suc zero) = (record { task = 0; count = 0 }, refl)
 brings_some (suc (suc zero)) = (record { task = 0; count = 0 }, refl)
@@ -121,7 +117,7 @@ brings_some (suc (suc (suc (suc (suc (suc zero)))))) = (record { task = 2; count
 brings_some (suc (suc (suc (suc (suc (suc (suc i))))))) = (record { task = 0; count = 0 }, refl)
 
 untried_at : (i : ℕ) → cas_at (at_step i) ≡ true → 4 ≤ i
-unfolding at_step p ts fun
+unfolding at_step p ts
 untried_at zero h = absurd (false≢true h)
 untried_at (suc zero) h = absurd (false≢true h)
 untried_at (suc (suc zero)) h = absurd (false≢true h)
@@ -163,7 +159,7 @@ field_at : ℕ → Object
 field_at i = or_empty (object_at (after p 1022 ts i).store (record { task = 0; count = 0 }))
 
 abbrev first : IsCas p 1022 ts field 4
-unfolding p ts fun field task_at field_at
+unfolding p ts field task_at field_at
 first = record {
   t = 1;
   task = task_at 4 1;
@@ -180,7 +176,7 @@ first = record {
 }
 
 abbrev second : IsCas p 1022 ts field 6
-unfolding p ts fun field task_at field_at
+unfolding p ts field task_at field_at
 second = record {
   t = 2;
   task = task_at 6 2;
@@ -197,11 +193,11 @@ second = record {
 }
 
 wins : Yields p 1022 ts field 4 first (pos 1)
-unfolding p ts fun field task_at field_at
+unfolding p ts field task_at field_at
 wins = refl
 
 loses : Yields p 1022 ts field 6 second (pos 0)
-unfolding p ts fun field task_at field_at
+unfolding p ts field task_at field_at
 loses = refl
 
 -- by two tasks

@@ -6,7 +6,8 @@ use Rattle.listed.proofs.Members.{got_same, got_other, got_past, got_within, sam
 use Rattle.hh_lang.specs.Form.{ProgramText}
 use Rattle.hh_model.specs.declared.data.Name.{Name}
 use Rattle.hh_model.specs.declared.data.Object.{Object}
-use Rattle.hh_model.specs.declared.data.Status.TheVariants.{Waiting}
+use Rattle.hh_model.specs.declared.data.Status.{Status}
+use Rattle.hh_model.specs.declared.data.Status.TheVariants.{Running, Waiting, Ended, Joined}
 use Rattle.hh_model.specs.declared.data.Task.{Task}
 use Rattle.hh_model.specs.declared.data.End.{End}
 use Rattle.hh_model.specs.declared.data.State.{State}
@@ -225,13 +226,29 @@ steps_leave_owners p limit ts t u ne run_u = leaves_owner p (run p limit ts) t (
 
 -- WAITING
 
-wait_task : (o : Option Task) → is_waiting o ≡ true → (x : Task) × (o ≡ Some x) × (waits x.status ≡ true)
+pub wait_task : (o : Option Task) → is_waiting o ≡ true → (x : Task) × (o ≡ Some x) × (waits x.status ≡ true)
 wait_task None h = absurd (false≢true h)
 wait_task (Some x) h = (x, refl, h)
 
-goes_tells : (o : Option End) (b : Bool) → goes_on o b ≡ true → o ≡ None
+pub waiting_stops : (o : Option Task) → is_waiting o ≡ true → is_running o ≡ false
+waiting_stops None e = refl
+waiting_stops (Some x) e = by x.status e
+  where
+    by : (s : Status) → waits s ≡ true → runs s ≡ false
+    by Running e = absurd (false≢true e)
+    by Waiting e = refl
+    by (Ended n r) e = refl
+    by Joined e = refl
+
+pub wait_there : (o : Option Task) → is_waiting o ≡ true → (x : Task) × (o ≡ Some x)
+wait_there o h = let w = wait_task o h in (w.0, w.1)
+
+pub goes_tells : (o : Option End) (b : Bool) → goes_on o b ≡ true → o ≡ None
 goes_tells None b h = refl
 goes_tells (Some e) b h = absurd (false≢true h)
+
+pub can_going : (m : State) (t : ℕ) → can_step m t ≡ true → m.end ≡ None
+can_going m t can = goes_tells m.end (is_running (slice_get m.tasks t)) can
 
 module _ (p : ProgramText) (m : State) (t : ℕ) (K : Kept m) where
   module _ (u : ℕ) (ne : u ≡ t → ⊥) where

@@ -1,12 +1,11 @@
 -- Lists that were written, and their last items.
 use Rattle.std.proofs.Common.{◌≡◌, ℕ, zero, suc, ◌<◌, Some, List, [], ◌∷◌, ◌++◌, length, slice_get, slice_set, refl, ap, sym, arith}
+use Rattle.std.proofs.lemmas.List.{set-set}
 use Rattle.hh_model.specs.Step.{last_of, front_of}
 
--- an item in range is there
-pub got_some : {A : Type 0} (xs : List A) (k : ℕ) → k < length xs → (x : A) × (slice_get xs k ≡ Some x)
-got_some [] k lt = absurd (omega arith)
-got_some (x ∷ xs) zero lt = (x, refl)
-got_some (x ∷ xs) (suc k) lt = got_some xs k (omega arith)
+-- the last write stays, in the words of a step (`returns.rt` cites it)
+pub set_again : {A : Type 0} (xs : List A) (k : ℕ) (x y : A) → slice_set (slice_set xs k x) k y ≡ slice_set xs k y
+set_again xs k x y = set-set xs k x y
 
 -- what stands there already changes nothing
 pub set_got : {A : Type 0} (xs : List A) (k : ℕ) (x : A) → slice_get xs k ≡ Some x → slice_set xs k x ≡ xs
@@ -28,8 +27,3 @@ pub set_front : {A : Type 0} (xs ys : List A) (k : ℕ) (x : A) → k < length x
 set_front [] ys k x lt = absurd (omega arith)
 set_front (y ∷ xs) ys zero x lt = refl
 set_front (y ∷ xs) ys (suc k) x lt = ap (λ zs. y ∷ zs) (set_front xs ys k x (omega arith))
-
-pub set_again : {A : Type 0} (xs : List A) (k : ℕ) (x y : A) → slice_set (slice_set xs k x) k y ≡ slice_set xs k y
-set_again [] k x y = refl
-set_again (z ∷ xs) zero x y = refl
-set_again (z ∷ xs) (suc k) x y = ap (λ zs. z ∷ zs) (set_again xs k x y)

@@ -1,7 +1,8 @@
 -- Each frame of each task has a next instruction.
-use Rattle.std.proofs.Common.{◌≡◌, ℕ, ℤ, zero, suc, pos, ◌+◌, ◌-◌, ◌<◌, ◌==◌, Bool, true, false, cond, Option, Some, None, List, [], ◌∷◌, ◌++◌, length, slice_get, slice_set, nat_lt, All, IsSomeAnd, inl, inr, refl, ap, sym, subst, ◌∙◌, arith}
-use Rattle.std.proofs.lemmas.Option.{slice_get_within, get_or_from_slice_get}
+use Rattle.std.proofs.Common.{◌≡◌, ℕ, ℤ, zero, suc, pos, ◌+◌, ◌-◌, ◌<◌, ◌==◌, Bool, true, false, cond, Option, Some, None, List, [], ◌∷◌, ◌++◌, length, slice_get, slice_set, nat_lt, IsSomeAnd, inl, inr, refl, ap, sym, subst, ◌∙◌, arith}
+use Rattle.std.proofs.lemmas.Option.{slice_get_within}
 use Rattle.listed.proofs.Members.{In, in_append_cases, in_from_contains, got_cases}
+use Rattle.listed.proofs.Places.{all_at, got_some}
 use Rattle.hh_lang.specs.declared.instr.Instr.{Instr}
 use Rattle.hh_lang.specs.declared.instr.Instr.TheVariants.{Set, Mov, Movr, Nil as NilOf, Calc, Same, Jmp, Jz, Newm, Pack, Getr, Geti, Putr, Puti, Cntr, Cnti, Freeze, Cas, Call, Par, Ret, Out}
 use Rattle.hh_lang.specs.declared.program.Line.{Line}
@@ -19,14 +20,11 @@ use Rattle.hh_model.specs.Effect.{Effect, Goes, Prints, Calls, Forks, Returns, T
 use Rattle.hh_model.specs.Precedence.{precedes}
 use Rattle.hh_model.specs.Step.{fetched, step, start, run_from, root, stepped, follow, setting, can_step, forked, child, entry_frame, frame_limit, depth_limit, returned_to, last_return, child_ended_by, ended_task, joined_task, resumed, join_of, result_of, back_in, last_of, front_of, is_left, sibling, kept_by, or_same}
 use Rattle.hh_model.specs.NextLaw.{HasNext, AlwaysNext, PacksAreFew}
-use Rattle.hh_model.proofs.Lists.{got_some}
 use Rattle.hh_model.proofs.Closed.{grown_cases, three_cases}
 use Rattle.hh_model.proofs.Steps.{last_in}
+use Rattle.hh_model.proofs.Sizes.{front_in}
 
 -- PROGRAMS
-
-all_at : {A : Type 0} (P : A → Type 0) (xs : List A) (k : ℕ) (x : A) → All P xs → slice_get xs k ≡ Some x → P x
-all_at P xs k x all e = subst P (get_or_from_slice_get xs k x x e) (all k x (slice_get_within xs k x e))
 
 -- behind an instruction that isn't a return there is another one
 behind : (code : List Line) (k : ℕ) (l : Line) → EndsWithReturn code → slice_get code k ≡ Some l → (IsReturn l.instr → ⊥) → (m : Line) × (slice_get code (k + 1) ≡ Some m)
@@ -160,12 +158,6 @@ Placed p x = (f : Frame) → In (x.top ∷ x.below) f → HasNext p f
 
 abbrev pub AllPlaced : ProgramText → List Task → Type 0
 AllPlaced p tasks = (t : ℕ) (x : Task) → slice_get tasks t ≡ Some x → Placed p x
-
-front_in : (fs : List Frame) (f : Frame) → In (front_of fs) f → In fs f
-front_in [] f h = h
-front_in (g ∷ []) f h = absurd h
-front_in (g ∷ k ∷ fs) f (inl e) = inl e
-front_in (g ∷ k ∷ fs) f (inr h) = inr (front_in (k ∷ fs) f h)
 
 module _ (p : ProgramText) (I : IsProgram p) (m : State) (t : ℕ) (A : AllPlaced p m.tasks) where
   set_placed : (y : Task) → Placed p y → AllPlaced p (slice_set m.tasks t y)

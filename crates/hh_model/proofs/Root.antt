@@ -3,6 +3,8 @@ use Rattle.std.proofs.Common.{◌≡◌, ℕ, ℤ, zero, suc, ◌+◌, ◌<◌, 
 use Rattle.std.proofs.lemmas.Bool.{cases_eq, both_ways, false≢true, or_right}
 use Rattle.std.proofs.lemmas.Option.{same_Some}
 use Rattle.listed.proofs.Members.{got_same, got_other, got_within}
+use Rattle.listed.proofs.Places.{got_some}
+use Rattle.listed.proofs.Options.{some_none}
 use Rattle.hh_lang.specs.Form.{ProgramText}
 use Rattle.hh_model.specs.declared.data.Name.{Name}
 use Rattle.hh_model.specs.declared.data.Status.TheVariants.{Waiting}
@@ -11,7 +13,6 @@ use Rattle.hh_model.specs.declared.data.State.{State}
 use Rattle.hh_model.specs.Effect.{onward}
 use Rattle.hh_model.specs.Step.{step, run, run_from, start, parents, joined, parent_of, path_in, is_on_path, is_running, is_waiting, is_joined, child, ended_task, result_of, joined_task, resumed}
 use Rattle.hh_model.specs.Tree.{Kept, HasOneRoot, RunsHaveOneRoot, waiting, joins_in}
-use Rattle.hh_model.proofs.Lists.{got_some}
 use Rattle.hh_model.proofs.Closed.{grown_cases}
 use Rattle.hh_model.proofs.Kept.{step_kept, start_kept, run_kept}
 use Rattle.hh_model.proofs.Paths.{path_child, path_itself}
@@ -31,16 +32,13 @@ written tasks t x y is same R u z at none = elim (cases_eq u t) [
   | inr ne ↦ R u z (sym (got_other tasks t u y ne) ∙ at) none
 ]
 
-no_root : {A : Type 0} {p : ℕ} → ◌≡◌ {A = Option ℕ} (Some p) None → A
-no_root e = absurd cc
-
 module _ (p : ProgramText) (m : State) (t : ℕ) (K : Kept m) (R : OneRoot m.tasks) where
   forked : (x : Task) (g h : ℕ) → slice_get m.tasks t ≡ Some x → OneRoot (slice_set m.tasks t (record x { status = Waiting; top = onward x.top }) ++ child t (x.depth + 1) g x.top ∷ child t (x.depth + 1) h x.top ∷ [])
   forked x g h is u z at none = elim (grown_cases (slice_set m.tasks t (record x { status = Waiting; top = onward x.top })) (child t (x.depth + 1) g x.top) (child t (x.depth + 1) h x.top) u z at) [
     | inl old ↦ written m.tasks t x (record x { status = Waiting; top = onward x.top }) is refl R u z old none
     | inr new ↦ elim new [
-      | inl c ↦ no_root (ap (λ (k : Task). k.parent) (sym c.1) ∙ none)
-      | inr c ↦ no_root (ap (λ (k : Task). k.parent) (sym c.1) ∙ none)
+      | inl c ↦ some_none (ap (λ (k : Task). k.parent) (sym c.1) ∙ none)
+      | inr c ↦ some_none (ap (λ (k : Task). k.parent) (sym c.1) ∙ none)
     ]
   ]
 

@@ -86,7 +86,7 @@ WideTask x = (f : Frame) → In (x.top ∷ x.below) f → IsWide f
 abbrev pub AllWide : List Task → Type 0
 AllWide tasks = (t : ℕ) (x : Task) → slice_get tasks t ≡ Some x → WideTask x
 
-front_in : (fs : List Frame) (f : Frame) → In (front_of fs) f → In fs f
+pub front_in : (fs : List Frame) (f : Frame) → In (front_of fs) f → In fs f
 front_in [] f h = h
 front_in (g ∷ []) f h = absurd h
 front_in (g ∷ k ∷ fs) f (inl e) = inl e

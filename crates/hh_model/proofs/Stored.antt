@@ -3,6 +3,7 @@ use Rattle.std.proofs.Common.{◌≡◌, ℕ, zero, suc, ◌+◌, Bool, true, fa
 use Rattle.std.proofs.lemmas.Bool.{false≢true}
 use Rattle.std.proofs.lemmas.Option.{same_Some}
 use Rattle.listed.proofs.Members.{In, in_from_contains, got_same, got_back, got_within}
+use Rattle.listed.proofs.Places.{got_some}
 use Rattle.hh_lang.specs.declared.instr.Instr.{Instr}
 use Rattle.hh_lang.specs.declared.instr.Instr.TheVariants.{Set, Mov, Movr, Nil as NilOf, Calc, Same, Jmp, Jz, Newm, Pack, Getr, Geti, Putr, Puti, Cntr, Cnti, Freeze, Cas, Call, Par, Ret, Out}
 use Rattle.hh_lang.specs.declared.program.Line.{Line}
@@ -17,7 +18,6 @@ use Rattle.hh_model.specs.Effect.{Effect, Setting, effect, made, row_of, object_
 use Rattle.hh_model.specs.Names.{refs_of, task_names, words_asked, words_for}
 use Rattle.hh_model.specs.Step.{setting, fetched, step, follow, root, start, run, run_from, can_step, is_running, asked, asked_line}
 use Rattle.hh_model.specs.Store.{IsStored, NamesAreStored}
-use Rattle.hh_model.proofs.Lists.{got_some}
 use Rattle.hh_model.proofs.Stores.{put_cases, made_cases}
 use Rattle.hh_model.proofs.Carried.{named_from_in, next_name}
 use Rattle.hh_model.proofs.Kept.{Kept, start_kept, step_kept, empty_rows}

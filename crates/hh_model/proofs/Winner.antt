@@ -3,6 +3,7 @@ use Rattle.std.proofs.Common.{◌≡◌, ℕ, ℤ, zero, suc, pos, negsuc, ◌+�
 use Rattle.std.proofs.lemmas.Bool.{cases_eq, cases_lt, both_ways, lt-ltb, ltb-true}
 use Rattle.std.proofs.lemmas.Option.{same_Some}
 use Rattle.listed.proofs.Members.{In, got_same, got_other, got_in, got_within}
+use Rattle.listed.proofs.Places.{got_some}
 use Rattle.hh_lang.specs.declared.instr.Instr.{Instr}
 use Rattle.hh_lang.specs.declared.instr.Instr.TheVariants.{Putr, Puti, Freeze, Cas}
 use Rattle.hh_lang.specs.declared.program.Line.{Line}
@@ -16,7 +17,6 @@ use Rattle.hh_model.specs.Effect.{Goes, Setting, effect, object_at, put_object, 
 use Rattle.hh_model.specs.Step.{step, run_from, start, setting, can_step, follow}
 use Rattle.hh_model.specs.Store.{IsWriteTo, IsNext, StaysAs}
 use Rattle.hh_model.specs.Winner.{Field, FieldHolds, MayWrite, after, IsCas, expects, brings, Yields, OnlyFromNil, IsUntried, OneWinner}
-use Rattle.hh_model.proofs.Lists.{got_some}
 use Rattle.hh_model.proofs.Stores.{put_cases, made_cases}
 use Rattle.hh_model.proofs.Changes.{WritesField}
 use Rattle.hh_model.proofs.Kept.{Kept, start_kept, run_kept, empty_rows, no_objects}

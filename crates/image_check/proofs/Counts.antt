@@ -2,7 +2,7 @@
 use Rattle.std.proofs.Common.{◌≡◌, ◌<◌, ◌≤◌, ◌+◌, ℕ, suc, true, false, List, [], ◌∷◌, length, refl, ap, sym, ◌∙◌, arith, inl, inr, ◌⊎◌}
 use Rattle.std.specs.Prelude.{Option, Some, None, nat_eq}
 use Rattle.std.proofs.lemmas.Bool.{not-false}
-use Rattle.text_lines.specs.Lines.{lines_of}
+use Rattle.text_lines.specs.Lines.{is_last, lines_of}
 use Rattle.image_check.specs.declared.line.Said.{Said}
 use Rattle.image_check.specs.declared.line.Said.TheVariants.{Nothing, Wrong, Title, OfTask, OfChunk, OfObject, OfRemembered, OfEnd}
 use Rattle.image_check.specs.declared.read.Position.{Position}
@@ -11,7 +11,7 @@ use Rattle.image_check.specs.declared.whole.Whole.{Whole}
 use Rattle.image_check.specs.Line.{said_by}
 use Rattle.image_check.specs.Table.{with_entry}
 use Rattle.image_check.specs.Read.{position, rises, after_line, nothing_read, whole_of}
-use Rattle.image_check.specs.Fault.{has_wrong_place, is_misplaced, fault_from, after_lines, onto_count, object_count, is_last}
+use Rattle.image_check.specs.Fault.{has_wrong_place, is_misplaced, fault_from, after_lines, onto_count, object_count}
 use Rattle.image_check.specs.Sound.{ObjectsAreCounted}
 use Rattle.image_check.proofs.Steps.{clear, faultless, formed}
 

@@ -1,28 +1,15 @@
 -- A line more is checked.
-use Rattle.std.proofs.Common.{Bor, ◌≡◌, ◌+◌, ℕ, Bool, true, false, List, [], ◌∷◌, cond, length, refl, ap, sym, ◌∙◌, subst}
-use Rattle.std.specs.Prelude.{Option, Some, None, Result, Ok, Err, IfNone, IfOk, IsErr, IsOkAnd, MatchResult, not, is_some, MatchOption, ◌==◌}
-use Rattle.std.specs.List.{onto_first}
-use Rattle.text_lines.specs.Lines.{lines_of}
+use Rattle.std.proofs.Common.{Bor, ◌≡◌, ◌+◌, ℕ, Bool, true, false, List, [], ◌∷◌, length, refl, ap, sym, ◌∙◌, subst}
+use Rattle.std.specs.Prelude.{Option, Some, None, Result, Ok, Err, IfNone, IfOk, IsErr, IsOkAnd, MatchResult, not, is_some, MatchOption}
+use Rattle.text_lines.specs.Lines.{is_last, lines_of}
+use Rattle.text_lines.proofs.Last.{some_line}
 use Rattle.image_check.specs.declared.read.Read.{Read}
 use Rattle.image_check.specs.declared.whole.Whole.{Whole}
 use Rattle.image_check.specs.declared.cause.Cause.{Cause}
 use Rattle.image_check.specs.declared.cause.Fault.{Fault}
 use Rattle.image_check.specs.Line.{said_by}
 use Rattle.image_check.specs.Read.{nothing_read, after_line, whole_of}
-use Rattle.image_check.specs.Fault.{cause_on, is_last, or_later, fault_from, lines_fault, after_lines, objects_in, Answers}
-
--- no text is without a line
-more_by : (x : ℕ) (ps : List (List ℕ)) → is_last (onto_first x ps) ≡ false
-more_by x [] = refl
-more_by x (p ∷ ps) = refl
-
-either_line : (b : Bool) (ps : List (List ℕ)) (x : ℕ) → is_last (cond b ([] ∷ ps) (onto_first x ps)) ≡ false
-either_line true ps x = refl
-either_line false ps x = more_by x ps
-
-pub some_line : (text : List ℕ) → is_last (lines_of text) ≡ false
-some_line [] = refl
-some_line (c ∷ cs) = either_line (c == 10) (lines_of cs) c
+use Rattle.image_check.specs.Fault.{cause_on, or_later, fault_from, lines_fault, after_lines, objects_in, Answers}
 
 -- the lines behind the first, and whether there are any
 pub record Below (rest line : List ℕ) (more : Option (Bor (List ℕ))) : Type 0 where

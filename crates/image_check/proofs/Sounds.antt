@@ -2,8 +2,8 @@
 use Rattle.std.proofs.Common.{◌≡◌, ◌+◌, ℕ, zero, suc, Bool, true, false, cond, List, [], ◌∷◌, refl, ap, sym, ◌∙◌, arith, inl, inr, ◌⊎◌, subst}
 use Rattle.std.specs.Prelude.{Option, Some, None, ◌==◌, ◌&&◌, ◌||◌, not}
 use Rattle.std.specs.List.{list_any}
-use Rattle.std.proofs.lemmas.Bool.{not-false, or_cases, or_parts}
-use Rattle.text_lines.specs.Lines.{lines_of}
+use Rattle.std.proofs.lemmas.Bool.{not-false, or_cases, or_parts, both_ways}
+use Rattle.text_lines.specs.Lines.{is_last, lines_of}
 use Rattle.image_check.specs.declared.line.Birth.{Birth}
 use Rattle.image_check.specs.declared.line.Object.{Object}
 use Rattle.image_check.specs.declared.line.Said.{Said}
@@ -16,7 +16,7 @@ use Rattle.image_check.specs.Table.{has}
 use Rattle.image_check.specs.Read.{nothing_read, nothing_had, after_line, with_lines, whole_of}
 use Rattle.image_check.specs.declared.tasks.Relation.TheVariants.{Own, Above, Below, Apart}
 use Rattle.image_check.specs.Tasks.{Tasks, Chunks, is_above, owner_in, owner_at}
-use Rattle.image_check.specs.Fault.{cause_on, is_last, fault_from, lines_fault, is_astray, relation_to, is_apart, is_below, crosses, forgets, is_forgotten, owner_runs}
+use Rattle.image_check.specs.Fault.{cause_on, fault_from, lines_fault, is_astray, relation_to, is_apart, is_below, crosses, forgets, is_forgotten, owner_runs}
 use Rattle.image_check.specs.Sound.{LineSays, ReferenceIs, IsObjectAt, IsRemembered, IsInRunning, LeadsSomewhere, KeepsToPath, IsSoundObject, all_read, HasSoundObjects, HasDistinctBirths, FaultlessIsSound}
 use Rattle.image_check.proofs.Paths.{above}
 use Rattle.image_check.proofs.Steps.{clear, faultless, IsWell, well, met}
@@ -40,14 +40,10 @@ still_born r (OfObject o) b e = item_kept same_birth r.births (named o.birth) b 
 still_born r (OfRemembered f) b e = e
 still_born r (OfEnd n) b e = e
 
-not_both : (b : Bool) → b ≡ true → b ≡ false → ⊥
-not_both true e f = absurd (cc)
-not_both false e f = absurd (cc)
-
 born_again : (w : Whole) (r : Read) (last : Bool) (s : Said) (p : Object) (b : ℕ × ℕ) → is_among same_birth r.births b ≡ true → cause_on w r last s ≡ None → s ≡ OfObject p → named p.birth ≡ b → ⊥
 born_again w r last s p b among c says e =
-    not_both (is_among same_birth r.births b) among
-    (ap (λ x. is_among same_birth r.births x) (sym e) ∙ (well w r last p (ap (λ x. cause_on w r last x) (sym says) ∙ c)).fresh)
+    both_ways (is_among same_birth r.births b)
+    (ap (λ x. is_among same_birth r.births x) (sym e) ∙ (well w r last p (ap (λ x. cause_on w r last x) (sym says) ∙ c)).fresh) among
 
 born_once : (w : Whole) (r : Read) (n : ℕ) (ls : List (List ℕ)) (b : ℕ × ℕ) → is_among same_birth r.births b ≡ true → fault_from w r n ls ≡ None → (j : ℕ) (p : Object) → LineSays ls j (OfObject p) → named p.birth ≡ b → ⊥
 born_once w r n [] b among none j p says e = says

@@ -3,6 +3,7 @@ use Rattle.std.proofs.Common.{◌≡◌, ◌<◌, ◌+◌, ℕ, zero, suc, Bool,
 use Rattle.std.specs.Prelude.{length, nat_le, Option, Some, None, ◌&&◌, not}
 use Rattle.std.specs.List.{list_any}
 use Rattle.std.proofs.lemmas.Bool.{or_parts}
+use Rattle.text_lines.specs.Lines.{is_last}
 use Rattle.image_check.specs.declared.line.Chunk.{Chunk}
 use Rattle.image_check.specs.declared.line.Object.{Object}
 use Rattle.image_check.specs.declared.line.Said.{Said}
@@ -17,7 +18,7 @@ use Rattle.image_check.specs.Line.{said_by}
 use Rattle.image_check.specs.Sets.{is_among, same_birth}
 use Rattle.image_check.specs.Read.{position, position_of, rises, after_line, last_after}
 use Rattle.image_check.specs.Tasks.{is_running, chunk_at}
-use Rattle.image_check.specs.Fault.{has_wrong_place, is_misplaced, is_end, breaks_form, cause_by, cause_on, is_last, or_later, fault_from, lines_fault, image_fault, image_limit, too_long, after_lines, is_astray, crosses, forgets, is_crowded, object_cause_in, references_cause}
+use Rattle.image_check.specs.Fault.{has_wrong_place, is_misplaced, is_end, breaks_form, cause_by, cause_on, or_later, fault_from, lines_fault, image_fault, image_limit, too_long, after_lines, is_astray, crosses, forgets, is_crowded, object_cause_in, references_cause}
 use Rattle.image_check.specs.Sound.{LineSays}
 
 -- BOOLEANS

@@ -1,7 +1,7 @@
 -- The first fault of an image.
 use Rattle.std.specs.Prelude.{◌≡◌, ◌<◌, ℕ, ◌+◌, ◌==◌, ◌&&◌, ◌||◌, Bool, true, false, not, Option, Some, None, Result, Ok, Err, List, [], ◌∷◌, length, nat_lt, nat_le, if◌then◌else◌}
 use Rattle.std.specs.List.{list_any}
-use Rattle.text_lines.specs.Lines.{lines_of}
+use Rattle.text_lines.specs.Lines.{is_last, lines_of}
 use Rattle.image_check.specs.declared.line.Chunk.{Chunk}
 use Rattle.image_check.specs.declared.line.Object.{Object}
 use Rattle.image_check.specs.declared.line.Remembered.{Remembered}
@@ -162,10 +162,6 @@ CanFollow r (OfObject o) = 0 < o.address
 CanFollow r _ = Unit {0}
 
 -- THE FIRST LINE WITH A FAULT
-
-abbrev pub is_last : List (List ℕ) → Bool
-is_last [] = true
-is_last (l ∷ ls) = false
 
 abbrev pub or_later : Option Cause → ℕ → Option Fault → Option Fault
 or_later (Some cause) number later = Some (record { line = number; cause = cause })

@@ -1,11 +1,11 @@
 -- The texts of values.
-use Rattle.std.proofs.Common.{◌≡◌, ◌<◌, ◌+◌, ◌/◌, ◌%◌, ◌==◌, ℕ, zero, suc, Bool, true, false, List, [], ◌∷◌, ◌++◌, refl, ap, sym, ◌∙◌, arith, append_assoc}
-use Rattle.std.specs.Prelude.{if◌then◌else◌}
+use Rattle.std.proofs.Common.{◌≡◌, ◌/◌, ◌%◌, ◌==◌, ℕ, zero, suc, Bool, true, false, List, [], ◌∷◌, ◌++◌, refl, ap, ◌∙◌, arith, append_assoc}
 use Rattle.std.specs.List.{flat_map}
 use Rattle.std.specs.Fmt.{decimal, digits, digits_onto, digit_glyph}
 use Rattle.quoted_text.specs.Quoted.{quoted}
 use Rattle.quoted_text.specs.Balanced.{Outside, read_all, IsBalanced, is_plain, ArePlain}
 use Rattle.quoted_text.proofs.Balanced as balanced
+use Rattle.quoted_text.proofs.Balanced.{joined}
 use Rattle.json_text.specs.Json.{Json, Values, Members, Number, Word, Array, Object, NoValue, Value, NoMember, Member, json, first_values, more_values, first_members, more_members, values, further, with_members}
 use Rattle.json_text.specs.Laws.{ValuesBalance, ArraysAreJoined, MembersAreJoined}
 
@@ -26,9 +26,6 @@ number_balances : (n : ℕ) → IsBalanced (decimal n)
 number_balances n = balanced.plain_balance (decimal n) (unfold digits in plain_onto 64 n [] tt)
 
 -- VALUES
-
-joined : (a b : List ℕ) → IsBalanced a → IsBalanced b → IsBalanced (a ++ b)
-joined a b h k = balanced.joined_balance.joined a b h k
 
 nothing : IsBalanced []
 nothing ws = refl

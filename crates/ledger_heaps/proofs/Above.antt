@@ -3,6 +3,7 @@ use Rattle.std.proofs.Common.{◌≡◌, ℕ, zero, suc, ◌==◌, Bool, true, f
 use Rattle.std.specs.List.{flat_map}
 use Rattle.std.proofs.lemmas.Bool.{and_parts, and_from, or_cases, or_left, or_right, false≢true, not-true}
 use Rattle.listed.proofs.Members.{In, contains_from_in, in_flat, flat_in, in_kept, in_from_kept, got_in}
+use Rattle.listed.proofs.Options.{same_truth}
 use Rattle.hh_model.specs.declared.data.Name.{Name}
 use Rattle.hh_model.specs.declared.data.State.{State}
 use Rattle.hh_model.specs.Names.{refs_at}
@@ -19,14 +20,9 @@ pub one_up : (par : ℕ → Option ℕ) (k at p : ℕ) → par at ≡ Some p →
 one_up par k at p e = ap (λ (o : Option ℕ). through o [] (λ q. q ∷ ancestors_by par k q)) e
 
 -- tests that hold of the same names are the same
-pub same_test : (b c : Bool) → (b ≡ true → c ≡ true) → (c ≡ true → b ≡ true) → b ≡ c
-same_test true c f g = sym (f refl)
-same_test false true f g = g refl
-same_test false false f g = refl
-
 pub same_holds : (ns ms : List Name) → ((n : Name) → In ns n → In ms n) → ((n : Name) → In ms n → In ns n) → (n : Name) → holds_name ns n ≡ holds_name ms n
 same_holds ns ms f g n =
-    same_test (holds_name ns n) (holds_name ms n) (λ h. holds_from_in ms n (f n (in_from_holds ns n h))) (λ h. holds_from_in ns n (g n (in_from_holds ms n h)))
+    same_truth (holds_name ns n) (holds_name ms n) (λ h. holds_from_in ms n (f n (in_from_holds ns n h))) (λ h. holds_from_in ns n (g n (in_from_holds ms n h)))
 
 -- PATHS
 

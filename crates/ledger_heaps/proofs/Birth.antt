@@ -1,5 +1,5 @@
 -- A sorted list is the list in order of birth.
-use Rattle.std.proofs.Common.{◌≡◌, ℕ, suc, ◌+◌, ◌<◌, ◌≤◌, Bool, true, false, cond, List, [], ◌∷◌, length, get_or, nat_lt, nat_eq, ◌⊎◌, inl, inr, refl, ap, sym, subst, ◌∙◌, arith, sum_by}
+use Rattle.std.proofs.Common.{◌≡◌, ℕ, suc, ◌+◌, ◌<◌, Bool, true, false, cond, List, [], ◌∷◌, length, get_or, nat_lt, nat_eq, inl, inr, refl, ap, sym, subst, ◌∙◌, arith, sum_by}
 use Rattle.std.specs.declared.cmp.Ordering.TheVariants.{Less, Equal, Greater}
 use Rattle.std.specs.Ordering.{nat_cmp, ordering_then, is_lt}
 use Rattle.std.specs.List.Sorted.{IsPermutation, IsSortedWithin}
@@ -13,26 +13,12 @@ use Rattle.run_ledger.specs.Heaps.{name_le, insert_name, by_birth}
 use Rattle.run_ledger.proofs.Held.{insert_cases}
 use Rattle.run_ledger.proofs.Members.{is_name_itself, same_from_is_name}
 use Rattle.run_ledger.proofs.Weights.{birth_weight}
+use Rattle.run_ledger.proofs.Collections.{Born, born_from, born_is, born_on, same_name}
 
 -- THE ORDER
 
-abbrev Below : Name → Name → Type 0
-Below a b = (a.task < b.task) ⊎ ((a.task ≡ b.task) × (a.count ≤ b.count))
-
-below_from : (a b : Name) → name_le a b ≡ true → Below a b
-below_from a b h = grind (arith)
-
-from_below : (a b : Name) → Below a b → name_le a b ≡ true
-from_below a b h = grind (arith)
-
-below_trans : (a b c : Name) → Below a b → Below b c → Below a c
-below_trans a b c (inl h) (inl k) = inl (omega arith)
-below_trans a b c (inl h) (inr k) = inl (let e = k.0 in omega arith)
-below_trans a b c (inr h) (inl k) = inl (let e = h.0 in omega arith)
-below_trans a b c (inr h) (inr k) = inr (h.0 ∙ k.0, (let x = h.1 in let y = k.1 in omega arith))
-
 le_trans : (a b c : Name) → name_le a b ≡ true → name_le b c ≡ true → name_le a c ≡ true
-le_trans a b c h k = from_below a c (below_trans a b c (below_from a b h) (below_from b c k))
+le_trans a b c h k = born_from a c (born_on a b c (born_is a b h) (born_is b c k))
 
 le_other : (a b : Name) → name_le a b ≡ false → name_le b a ≡ true
 le_other a b h = grind (arith)
@@ -40,17 +26,14 @@ le_other a b h = grind (arith)
 le_itself : (a : Name) → name_le a a ≡ true
 le_itself a = grind (arith)
 
-same_names : (a b : Name) → a.task ≡ b.task → a.count ≡ b.count → a ≡ b
-same_names a b e k = λ i. record { task = e i; count = k i }
-
-below_both : (a b : Name) → Below a b → Below b a → a ≡ b
+below_both : (a b : Name) → Born a b → Born b a → a ≡ b
 below_both a b (inl h) (inl k) = absurd (omega arith)
 below_both a b (inl h) (inr k) = absurd (let e = k.0 in omega arith)
 below_both a b (inr h) (inl k) = absurd (let e = h.0 in omega arith)
-below_both a b (inr h) (inr k) = same_names a b h.0 (let x = h.1 in let y = k.1 in omega arith)
+below_both a b (inr h) (inr k) = same_name a b h.0 (let x = h.1 in let y = k.1 in omega arith)
 
 le_both : (a b : Name) → name_le a b ≡ true → name_le b a ≡ true → a ≡ b
-le_both a b h k = below_both a b (below_from a b h) (below_from b a k)
+le_both a b h k = below_both a b (born_is a b h) (born_is b a k)
 
 -- LISTS IN ORDER
 
@@ -134,7 +117,7 @@ abbrev name_cmp_lt : Name → Name → Bool
 name_cmp_lt a b = is_lt (ordering_then (nat_cmp a.task b.task) (nat_cmp a.count b.count))
 
 below_from_cmp : (a b : Name) (p q r last : Bool) → nat_lt b.task a.task ≡ p → nat_eq b.task a.task ≡ q → nat_lt b.count a.count ≡ r
-    → is_lt (ordering_then (cond p Less (cond q Equal Greater)) (cond r Less (cond last Equal Greater))) ≡ false → Below a b
+    → is_lt (ordering_then (cond p Less (cond q Equal Greater)) (cond r Less (cond last Equal Greater))) ≡ false → Born a b
 below_from_cmp a b true q r last lt eq less h = absurd (false≢true (sym h))
 below_from_cmp a b false false r last lt eq less h = inl (grind arith)
 below_from_cmp a b false true true last lt eq less h = absurd (false≢true (sym h))
@@ -142,7 +125,7 @@ below_from_cmp a b false true false last lt eq less h = inr (grind arith, grind 
 
 le_from_cmp : (a b : Name) → name_cmp_lt b a ≡ false → name_le a b ≡ true
 le_from_cmp a b h =
-    from_below a b (below_from_cmp a b (nat_lt b.task a.task) (nat_eq b.task a.task) (nat_lt b.count a.count) (nat_eq b.count a.count) refl refl refl h)
+    born_from a b (below_from_cmp a b (nat_lt b.task a.task) (nat_eq b.task a.task) (nat_lt b.count a.count) (nat_eq b.count a.count) refl refl refl h)
 
 up_more : (n m : Name) (ns : List Name) → Up (m ∷ ns) → name_le n m ≡ true → (x : Name) → In (m ∷ ns) x → name_le n x ≡ true
 up_more n m ns rest next x (inl e) = subst (λ y. name_le n y ≡ true) e next

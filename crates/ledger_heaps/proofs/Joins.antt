@@ -1,6 +1,6 @@
 -- The heaps of a join, written in place.
-use Rattle.std.proofs.Common.{◌≡◌, ℕ, zero, suc, ◌+◌, ◌<◌, List, [], ◌∷◌, Option, Some, slice_get, slice_set, refl, ap, sym, ◌∙◌, arith}
-use Rattle.std.proofs.lemmas.List.{set-set}
+use Rattle.std.proofs.Common.{◌≡◌, ℕ, ◌+◌, ◌<◌, List, Option, Some, slice_get, slice_set, ap, sym, ◌∙◌, arith}
+use Rattle.std.proofs.lemmas.List.{set-set, set_comm}
 use Rattle.listed.proofs.Members.{got_other}
 use Rattle.hh_model.proofs.Lists.{set_got}
 use Rattle.run_ledger.specs.declared.data.Heap.{Heap}
@@ -8,13 +8,6 @@ use Rattle.run_ledger.specs.declared.data.Ledger.{Ledger}
 use Rattle.run_ledger.specs.Heaps.{emptied, heap_of, merged, or_fresh, with_heap_at}
 use Rattle.run_ledger.specs.Steps.{join_heaps}
 use Rattle.ledger_heaps.specs.Accounts.{since_at}
-
-set_swap : {A : Type 0} (xs : List A) (i j : ℕ) (x y : A) → (i ≡ j → ⊥) → slice_set (slice_set xs i x) j y ≡ slice_set (slice_set xs j y) i x
-set_swap [] i j x y ne = refl
-set_swap (z ∷ xs) zero zero x y ne = absurd (ne refl)
-set_swap (z ∷ xs) zero (suc j) x y ne = refl
-set_swap (z ∷ xs) (suc i) zero x y ne = refl
-set_swap (z ∷ xs) (suc i) (suc j) x y ne = ap (λ zs. z ∷ zs) (set_swap xs i j x y (λ e. ne (ap suc e)))
 
 module _ (heaps : List Heap) (p a : ℕ) (order : p < a) (hole gap own left right : Heap)
     (at_left : slice_get heaps a ≡ Some left)
@@ -38,10 +31,10 @@ module _ (heaps : List Heap) (p a : ℕ) (order : p < a) (hole gap own left righ
       → slice_set (slice_set (slice_set (slice_set (slice_set heaps a hole) (a + 1) gap) p m) a l) (a + 1) r ≡ slice_set (slice_set (slice_set heaps p m) a l) (a + 1) r
   written m l r =
       let into : slice_set (slice_set (slice_set heaps a hole) (a + 1) gap) p m ≡ slice_set (slice_set (slice_set heaps p m) a hole) (a + 1) gap =
-      set_swap (slice_set heaps a hole) (a + 1) p gap m (λ e. omega arith) ∙ ap (λ hs. slice_set hs (a + 1) gap) (set_swap heaps a p hole m (λ e. omega arith)) in
+      set_comm (slice_set heaps a hole) (a + 1) p gap m (λ e. omega arith) ∙ ap (λ hs. slice_set hs (a + 1) gap) (set_comm heaps a p hole m (λ e. omega arith)) in
       let H = slice_set heaps p m in
       ap (λ hs. slice_set (slice_set hs a l) (a + 1) r) into
-      ∙ ap (λ hs. slice_set hs (a + 1) r) (set_swap (slice_set H a hole) (a + 1) a gap l (λ e. omega arith) ∙ ap (λ hs. slice_set hs (a + 1) gap) (set-set H a hole l))
+      ∙ ap (λ hs. slice_set hs (a + 1) r) (set_comm (slice_set H a hole) (a + 1) a gap l (λ e. omega arith) ∙ ap (λ hs. slice_set hs (a + 1) gap) (set-set H a hole l))
       ∙ set-set (slice_set H a l) (a + 1) gap r
 
   pub join_undone : (m l r : Heap) → m ≡ own → l ≡ left → r ≡ right → slice_set (slice_set (slice_set (slice_set (slice_set heaps a hole) (a + 1) gap) p m) a l) (a + 1) r ≡ heaps

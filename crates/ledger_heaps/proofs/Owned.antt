@@ -46,8 +46,3 @@ one_more_owned tasks heaps i h at now before u lt = elim (cases_eq u i) [
       ap (λ v. owns tasks v (held_in (or_fresh (slice_get heaps v)))) e ∙ (ap (λ (o : Option Heap). owns tasks i (held_in (or_fresh o))) at ∙ now)
   | inr ne ↦ before u (omega arith)
 ]
-
-pub got_from : {A : Type 0} (xs : List A) (i : ℕ) (x : A) → i < length xs → x ≡ get_or xs i x → slice_get xs i ≡ Some x
-got_from [] i x lt e = absurd (omega arith)
-got_from (y ∷ xs) zero x lt e = ap Some (sym e)
-got_from (y ∷ xs) (suc i) x lt e = got_from xs i x (omega arith) e

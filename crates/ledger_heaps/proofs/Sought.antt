@@ -1,7 +1,7 @@
 -- A search that meets the roots, then follows the references of each name that it met, meets just what is reached.
-use Rattle.std.proofs.Common.{◌≡◌, ℕ, Bool, true, false, ◌&&◌, ◌||◌, not, List, [], ◌∷◌, ◌++◌, filter, length, ◌⊎◌, inl, inr, refl, ap, sym, subst, ◌∙◌, zero, suc, cond, arith}
+use Rattle.std.proofs.Common.{◌≡◌, ℕ, Bool, true, false, ◌&&◌, ◌||◌, not, List, [], ◌∷◌, ◌++◌, filter, length, inl, inr, refl, ap, sym, subst, ◌∙◌, zero, suc, cond, arith}
 use Rattle.std.specs.List.{list_any}
-use Rattle.std.proofs.lemmas.Bool.{false≢true, or_cases, or_left, or_right, not-true, and_from}
+use Rattle.std.proofs.lemmas.Bool.{false≢true, or_cases, or_left, or_right, not-true, and_from, and_parts, cases_Bool}
 use Rattle.std.proofs.Math.Bool.{and-false, and-true}
 use Rattle.listed.proofs.Members.{In, in_from_contains, contains_from_in, in_kept, in_from_kept}
 use Rattle.hh_model.specs.declared.data.Name.{Name}
@@ -22,26 +22,14 @@ pub record Sought (store : List (List Object)) (names roots : List Name) (u : Na
   pub sound : (n : Name) → holds_name names n ≡ true → u n ≡ false → holds_name (reached store names roots) n ≡ true
   pub closed : (m n : Name) → holds_name names m ≡ true → u m ≡ false → holds_name w m ≡ false → holds_name (refs_at store m) n ≡ true → u n ≡ false
 
-cases : (b : Bool) → (b ≡ true) ⊎ (b ≡ false)
-cases true = inl refl
-cases false = inr refl
-
-left_of : (a b : Bool) → (a && b) ≡ true → a ≡ true
-left_of true b h = refl
-left_of false b h = absurd (false≢true h)
-
-right_of : (a b : Bool) → (a && b) ≡ true → b ≡ true
-right_of true b h = h
-right_of false b h = absurd (false≢true h)
-
 module _ (store : List (List Object)) (names roots : List Name) where
   pub sought_start : (u v : Name → Bool) (w : List Name) → ((n : Name) → u n ≡ holds_name names n) → Meets roots u v [] w → Sought store names roots v w
   sought_start u v w all met = record {
-    inside = λ n h. sym (all n) ∙ left_of (u n) (not (holds_name roots n)) (sym (met.unmet n) ∙ h);
-    start = λ n h. not-true (holds_name roots n) (right_of (u n) (not (holds_name roots n)) (sym (met.unmet n) ∙ h));
+    inside = λ n h. sym (all n) ∙ (and_parts (u n) (not (holds_name roots n)) (sym (met.unmet n) ∙ h)).0;
+    start = λ n h. not-true (holds_name roots n) (and_parts (u n) (not (holds_name roots n)) (sym (met.unmet n) ∙ h)).1;
     waits = λ n h.
         let both : (u n && holds_name roots n) ≡ true = sym (met.waiting n) ∙ h in
-        (sym (all n) ∙ left_of (u n) (holds_name roots n) both, met.unmet n ∙ ap (λ b. u n && not b) (right_of (u n) (holds_name roots n) both) ∙ and-false (u n));
+        (sym (all n) ∙ (and_parts (u n) (holds_name roots n) both).0, met.unmet n ∙ ap (λ b. u n && not b) ((and_parts (u n) (holds_name roots n) both).1) ∙ and-false (u n));
     sound = λ n i h. is_root n i (met_at n i h);
     closed = λ m n i h out r. absurd (false≢true (sym out ∙ (met.waiting m ∙ and_from (u m) (holds_name roots m) (all m ∙ i) (met_at m i h))));
   }
@@ -69,7 +57,7 @@ module _ (store : List (List Object)) (names roots : List Name) where
     stays n h = met.unmet n ∙ ap (λ b. b && not (holds_name (refs_at store name) n)) h
 
     was : (n : Name) → v n ≡ true → u n ≡ true
-    was n h = left_of (u n) (not (holds_name (refs_at store name) n)) (sym (met.unmet n) ∙ h)
+    was n h = (and_parts (u n) (not (holds_name (refs_at store name) n)) (sym (met.unmet n) ∙ h)).0
 
     gone : (n : Name) → holds_name (refs_at store name) n ≡ true → v n ≡ false
     gone n h = met.unmet n ∙ (ap (λ b. u n && not b) h ∙ and-false (u n))
@@ -87,13 +75,13 @@ module _ (store : List (List Object)) (names roots : List Name) where
     waits_now n h = elim (or_cases (holds_name front n) (u n && holds_name (refs_at store name) n) (sym (met.waiting n) ∙ h)) [
       | inl e ↦ let r = S.waits n (front_waits n e) in (r.0, stays n r.1)
       | inr e ↦ (
-        S.inside n (left_of (u n) (holds_name (refs_at store name) n) e),
-        gone n (right_of (u n) (holds_name (refs_at store name) n) e),
+        S.inside n ((and_parts (u n) (holds_name (refs_at store name) n) e).0),
+        gone n ((and_parts (u n) (holds_name (refs_at store name) n) e).1),
       )
     ]
 
     sound_now : (n : Name) → holds_name names n ≡ true → v n ≡ false → holds_name (reached store names roots) n ≡ true
-    sound_now n i h = elim (cases (u n)) [
+    sound_now n i h = elim (cases_Bool (u n)) [
       | inl e ↦
           let at = S.waits name waited in
           holds_from_in (reached store names roots) n
@@ -104,14 +92,14 @@ module _ (store : List (List Object)) (names roots : List Name) where
     ]
 
     met_before : (m : Name) → v m ≡ false → holds_name w m ≡ false → u m ≡ false
-    met_before m h out = elim (cases (u m)) [
+    met_before m h out = elim (cases_Bool (u m)) [
       | inl e ↦
           absurd (false≢true (sym out ∙ (met.waiting m ∙ or_right (holds_name front m) (u m && holds_name (refs_at store name) m) (and_from (u m) (holds_name (refs_at store name) m) e (newly m e h)))))
       | inr e ↦ e
     ]
 
     not_front : (m : Name) → holds_name w m ≡ false → holds_name front m ≡ false
-    not_front m out = elim (cases (holds_name front m)) [
+    not_front m out = elim (cases_Bool (holds_name front m)) [
       | inl e ↦ absurd (false≢true (sym out ∙ (met.waiting m ∙ or_left (holds_name front m) (u m && holds_name (refs_at store name) m) e)))
       | inr e ↦ e
     ]
@@ -120,7 +108,7 @@ module _ (store : List (List Object)) (names roots : List Name) where
     neither m f n = holds_append front (name ∷ []) m ∙ (ap (λ b. b || (is_name m name || false)) f ∙ ap (λ b. b || false) n)
 
     closed_now : (m n : Name) → holds_name names m ≡ true → v m ≡ false → holds_name w m ≡ false → holds_name (refs_at store m) n ≡ true → v n ≡ false
-    closed_now m n i h out r = elim (cases (is_name m name)) [
+    closed_now m n i h out r = elim (cases_Bool (is_name m name)) [
       | inl e ↦ gone n (subst (λ x. holds_name (refs_at store x) n ≡ true) (same_from_is_name m name e) r)
       | inr e ↦ stays n (S.closed m n i (met_before m h out) (neither m (not_front m out) e) r)
     ]

@@ -3,6 +3,7 @@ use Rattle.std.proofs.Common.{◌≡◌, ℕ, ℤ, zero, suc, ◌+◌, ◌-◌, 
 use Rattle.std.proofs.lemmas.Bool.{cases_eq, both_ways, cond-true, cond-false}
 use Rattle.std.proofs.lemmas.Option.{same_Some}
 use Rattle.listed.proofs.Members.{got_same, got_within}
+use Rattle.listed.proofs.Places.{got_some}
 use Rattle.hh_lang.specs.declared.instr.Instr.TheVariants.{Ret}
 use Rattle.hh_lang.specs.declared.program.Line.{Line}
 use Rattle.hh_lang.specs.Form.{ProgramText}
@@ -16,7 +17,6 @@ use Rattle.hh_model.specs.declared.data.State.{State}
 use Rattle.hh_model.specs.Effect.{effect}
 use Rattle.hh_model.specs.Step.{runs, waits, is_left, sibling, parents, parent_of, result_of, setting, follow, fetched, last_of, front_of, back_in, last_return, returned_to, child_ended_by, kept_by, ended_task, joined_task, resumed, join_of, or_same}
 use Rattle.hh_model.specs.Winner.{IsTurn}
-use Rattle.hh_model.proofs.Lists.{got_some}
 use Rattle.hh_model.proofs.Runs.{three_left, three_right}
 use Rattle.hh_model.proofs.Taken.{step_taken}
 use Rattle.loop_nest_laws.specs.Frames.{Activation, Takes}

@@ -1,28 +1,23 @@
 -- A loop over two numbers that has returned, so that the law speaks of something.
 use Rattle.std.proofs.Common.{◌≡◌, ℕ, pos, ◌≤◌, Option, Some, None, List, [], ◌∷◌, ◌++◌, length, slice_get, refl, ap, sym, subst, arith, replicate}
-use Rattle.std.specs.Prelude.{map}
 use Rattle.std.proofs.lemmas.Option.{same_Some}
 use Rattle.hh_lang.specs.declared.instr.Operator.TheVariants.{Add}
-use Rattle.hh_lang.specs.declared.instr.Instr.{Instr}
 use Rattle.hh_lang.specs.declared.instr.Instr.TheVariants.{Set, Calc, Call, Ret}
-use Rattle.hh_lang.specs.declared.program.Fun.{Fun}
 use Rattle.hh_lang.specs.Form.{ProgramText}
 use Rattle.hh_model.specs.declared.data.Task.{Task}
 use Rattle.hh_model.specs.Effect.{int_in}
 use Rattle.hh_model.specs.Step.{root}
 use Rattle.hh_model.specs.Winner.{after}
 use Rattle.hh_lang.specs.Loop.{Loop, IsLoop, whole_code, left_code, right_code}
+use Rattle.hh_lang.proofs.Examples.{fun}
 use Rattle.loop_nest_laws.specs.LoopLaw.{IsInRange, SomeLoopReturns, IsLoopStep, HasReturned, CallsEachNumber}
 use Rattle.loop_nest_laws.proofs.Law.{loops_call_each_number}
 
 loop : Loop
 loop = record { body = 1; whole = 2; left = 3; right = 4 }
 
-fun : List Instr → Fun
-fun code = record { name = []; code = map (λ i. record { instr = i; number = 1 }) code }
-
 p : ProgramText
-unfolding loop fun
+unfolding loop
 p = record {
   functions =
       fun (Set 0 (pos 5) ∷ Set 1 (pos 7) ∷ Call 2 ∷ Ret ∷ [])
@@ -35,7 +30,7 @@ ts : List ℕ
 ts = replicate 10 0 ++ replicate 17 1 ++ replicate 17 2 ++ replicate 3 0
 
 is_loop : IsLoop p loop
-unfolding p loop fun
+unfolding p loop
 is_loop = record { whole = refl; left = refl; right = refl; apart = λ e. omega arith }
 
 task_of : Option Task → Task
@@ -48,11 +43,11 @@ task_at i = task_of (slice_get (after p 1022 ts i).tasks 0)
 
 -- its last number, in i0
 sum_is : int_in (task_at 47).top 0 ≡ pos 22
-unfolding p ts loop fun task_of task_at
+unfolding p ts loop task_of task_at
 sum_is = refl
 
 abbrev s : IsLoopStep p 1022 ts loop 2
-unfolding p ts loop fun task_of task_at
+unfolding p ts loop task_of task_at
 s = record {
   t = 0;
   task = task_at 2;
@@ -63,7 +58,7 @@ s = record {
 }
 
 returned : HasReturned p 1022 ts loop 2 s 47
-unfolding p ts loop fun task_of task_at s
+unfolding p ts loop task_of task_at s
 returned = record {
   later = omega arith;
   began = record {
@@ -83,9 +78,9 @@ in_range = record { first_fits = record { sfits = omega arith }; last_fits = rec
 
 -- so the law holds of it
 calls_each : CallsEachNumber p 1022 ts loop 2 s 47
-unfolding p ts loop fun task_of task_at s
+unfolding p ts loop task_of task_at s
 calls_each = loops_call_each_number p 1022 ts loop 2 47 s is_loop in_range returned
 
 pub some_loop_returns : SomeLoopReturns
-unfolding p ts loop fun task_of task_at s
+unfolding p ts loop task_of task_at s
 some_loop_returns = (p, 1022, ts, loop, 2, 47, s, is_loop, in_range, returned, refl)

@@ -1,7 +1,8 @@
 -- Registers that an instruction writes, and the others.
-use Rattle.std.proofs.Common.{◌≡◌, ℕ, ℤ, pos, zero, suc, ◌<◌, Option, Some, None, List, [], ◌∷◌, length, slice_get, slice_set, inl, inr, refl, ap, ◌∙◌, arith, length-set}
-use Rattle.std.specs.Prelude.{unwrap_or, map}
+use Rattle.std.proofs.Common.{◌≡◌, ℕ, ℤ, pos, ◌<◌, Option, Some, None, List, [], ◌∷◌, length, slice_get, slice_set, inl, inr, refl, ap, ◌∙◌, arith, length-set}
+use Rattle.std.specs.Prelude.{unwrap_or}
 use Rattle.listed.proofs.Members.{got_other}
+use Rattle.listed.proofs.Places.{got_set, map_got}
 use Rattle.hh_lang.specs.declared.instr.Instr.{Instr}
 use Rattle.hh_lang.specs.declared.program.Line.{Line}
 use Rattle.hh_lang.specs.Form.{ProgramText, code_of}
@@ -11,11 +12,6 @@ use Rattle.hh_model.specs.Effect.{int_in, ref_in, flat, with_int, with_ref}
 use Rattle.hh_model.specs.Step.{fetched}
 use Rattle.hh_lang.specs.Loop.{instrs_of}
 use Rattle.loop_nest_laws.specs.LoopLaw.{IsUsed}
-
-got_set : {A : Type 0} (xs : List A) (k : ℕ) (y : A) → k < length xs → slice_get (slice_set xs k y) k ≡ Some y
-got_set [] k y lt = absurd (omega arith)
-got_set (x ∷ xs) zero y lt = refl
-got_set (x ∷ xs) (suc k) y lt = got_set xs k y (omega arith)
 
 pub int_set : (f : Frame) (d : ℕ) (v : ℤ) → d < length f.ints → int_in (with_int f d v) d ≡ v
 int_set f d v lt = ap (λ o. unwrap_or o (pos 0)) (got_set f.ints d v lt)
@@ -30,16 +26,11 @@ nil_set f = by f.refs
     by [] = refl
     by (r ∷ rs) = refl
 
-got_map : {A B : Type 0} (g : A → B) (xs : List A) (k : ℕ) (y : B) → slice_get (map g xs) k ≡ Some y → (x : A) × (slice_get xs k ≡ Some x) × (g x ≡ y)
-got_map g [] k y e = absurd cc
-got_map g (x ∷ xs) zero y e = (x, refl, (let h : g x ≡ y = cc in h))
-got_map g (x ∷ xs) (suc k) y e = got_map g xs k y e
-
 -- the instruction at a place of a function
 pub code_at : (p : ProgramText) (q : ℕ) (code : List Instr) → instrs_of p q ≡ code → (f : Frame) (k : ℕ) (instr : Instr) → f.function ≡ q → f.next ≡ k → slice_get code k ≡ Some instr
     → (line : Line) × (fetched p f ≡ Some line) × (line.instr ≡ instr)
 code_at p q code is f k instr fun next at =
-    let got = got_map (λ (l : Line). l.instr) (code_of (slice_get p.functions q)) k instr (ap (λ c. slice_get c k) is ∙ at) in
+    let got = map_got (λ (l : Line). l.instr) (code_of (slice_get p.functions q)) k instr (ap (λ c. slice_get c k) is ∙ at) in
     (got.0, ap (λ z. slice_get (code_of (slice_get p.functions z)) f.next) fun ∙ (ap (λ z. slice_get (code_of (slice_get p.functions q)) z) next ∙ got.1), got.2)
 
 -- the frame goes over the numbers from first to last - 1, and has all else from the frame g

@@ -8,6 +8,7 @@ use Rattle.std.proofs.lemmas.List.Elements.{All-from_recursion}
 use Rattle.std.proofs.lemmas.Str.{is_utf8-from_IsUtf8, IsUtf8-from_ascii}
 use Rattle.std.proofs.lemmas.Str.Ascii.{IsAscii-from_all}
 use Rattle.std.proofs.lemmas.Bool.{and_parts, ltb-true, and_from}
+use Rattle.text_lines.specs.Lines.{is_last}
 use Rattle.hh_lang.specs.Number.{signed_number}
 use Rattle.hh_lang.specs.declared.instr.Instr.TheVariants as does
 use Rattle.run_trace.specs.Line.{spaced}
@@ -20,11 +21,12 @@ use Rattle.program_reader.specs.Operands.{int_register}
 use Rattle.program_reader.specs.Sense.{fork, plain, sense_of, two}
 use Rattle.program_reader.specs.Head.{operands_of}
 use Rattle.program_reader.specs.Around.{head_of_line, operands_of_line, orders_above, outline_of}
-use Rattle.program_reader.specs.Fault.{fault_from, is_last, spot_of}
+use Rattle.program_reader.specs.Fault.{fault_from, spot_of}
 use Rattle.program_reader.specs.Laws.{turned}
 use Rattle.made_program_laws.proofs.Names.{is_a_name, name_of, number_again}
-use Rattle.made_program_laws.proofs.Rows.{Lines, after_rows, amount_small, before_rows, begin_words, body_rows, cell_rows, children_rows, first_rows, function_by, function_rows, garbage_small, i3, i4, i5, i7, loop_rows, par_words, proper_begin, proper_par, proper_set, result_rows, rounds_small, rows_of, set_words, side_small, sum_rows}
+use Rattle.made_program_laws.proofs.Rows.{Lines, after_rows, before_rows, begin_words, body_rows, cell_rows, children_rows, first_rows, function_by, function_rows, i3, i4, i5, i7, loop_rows, par_words, proper_begin, proper_par, proper_set, result_rows, rows_of, set_words, sum_rows}
 use Rattle.program_reader.proofs.Passing.{Within, begin_free, end_free, has_place, is_instr, is_order, is_read, label_passes, not_last, orders_pass, passes}
+use Rattle.program_make.proofs.Lengths.{amount_small, garbage_small, rounds_small, side_small}
 use Rattle.made_program_laws.proofs.Between.{Between, Named, above_of, begun_name_is, between}
 
 -- LINES WITH NUMBERS

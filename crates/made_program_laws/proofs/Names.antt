@@ -1,16 +1,16 @@
 -- The numbers and the names of functions in made texts, as they are read.
 use Rattle.std.proofs.Common.{◌≡◌, ◌≤◌, ◌<◌, ◌^◌, ℕ, suc, Bool, true, false, List, [], ◌∷◌, ◌++◌, length, arith, refl, ap, sym, ◌∙◌, ◌||◌, nat_lt, nat_le, true≢false}
-use Rattle.std.specs.Prelude.{Some, codes, pos, ◌==◌}
+use Rattle.std.specs.Prelude.{Some, codes, pos}
 use Rattle.std.specs.Char.{digit_value}
 use Rattle.std.specs.Fmt.{decimal}
 use Rattle.std.specs.List.{list_any, list_all}
 use Rattle.std.specs.Str.{bytes_eq}
-use Rattle.std.specs.Str.Parse.{IsNumeral, AllDigits, digits_value, starts_with_minus}
+use Rattle.std.specs.Str.Parse.{IsNumeral, AllDigits, digits_value}
 use Rattle.std.proofs.lemmas.Fmt.{decimal_is_IsNumeral, decimal_injective, length-decimal-le}
 use Rattle.std.proofs.lemmas.Slice.Eq.{bytes_eq-Decides}
 use Rattle.std.proofs.Math.Bool.{or-false}
-use Rattle.hh_lang.specs.Number.{is_numeral, fits_i64, signed_number}
-use Rattle.hh_lang.proofs.Tests.{numeral_passes}
+use Rattle.hh_lang.specs.Number.{fits_i64, signed_number}
+use Rattle.hh_lang.proofs.Tests.{numeral_passes, positive, unsigned}
 use Rattle.run_trace.proofs.Words.{IsProper, decimal_is_proper}
 use Rattle.program_reader.specs.Names.{Entry, entry_of, is_name, is_name_byte, is_noted}
 
@@ -28,16 +28,6 @@ numeral n lt = decimal_is_IsNumeral n (wide n lt)
 
 pub proper_number : (n : ℕ) → n < 1000 → IsProper (decimal n)
 proper_number n lt = decimal_is_proper n (omega (arith, lt))
-
-no_minus : (c : ℕ) → digit_value c < 10 → (c == 45) ≡ false
-no_minus c h = grind arith
-
-unsigned : (ds : List ℕ) → IsNumeral 10 ds → starts_with_minus ds ≡ false
-unsigned [] h = absurd (let a : 0 < 0 = h.0 in omega arith)
-unsigned (c ∷ cs) h = no_minus c h.1.0
-
-positive : (ds : List ℕ) (n : ℕ) → starts_with_minus ds ≡ false → is_numeral ds ≡ true → digits_value 10 ds ≡ n → fits_i64 (pos n) ≡ true → signed_number ds ≡ Some (pos n)
-positive ds n e f g h = rw (e, f, g) rw h refl
 
 fits : (n : ℕ) → n < 1000 → fits_i64 (pos n) ≡ true
 fits n lt = grind (arith, lt)

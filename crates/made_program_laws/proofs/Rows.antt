@@ -1,17 +1,16 @@
 -- The lines of made texts.
-use Rattle.std.proofs.Common.{◌≡◌, ◌≤◌, ◌<◌, ◌+◌, ◌*◌, ◌++◌, ◌%◌, ◌/◌, ℕ, zero, suc, Bool, true, false, cond, List, [], ◌∷◌, arith, refl, ap, sym, ◌∙◌, append_assoc, mod-lt, nat_lt}
-use Rattle.std.specs.Prelude.{codes, nat_eq}
+use Rattle.std.proofs.Common.{◌≡◌, ◌≤◌, ◌<◌, ◌+◌, ◌*◌, ◌++◌, ℕ, zero, suc, Bool, true, false, cond, List, [], ◌∷◌, arith, refl, ap, sym, ◌∙◌, append_assoc, nat_lt}
+use Rattle.std.specs.Prelude.{codes}
 use Rattle.std.specs.Fmt.{decimal}
 use Rattle.std.proofs.lemmas.Bool.{ltb-true}
 use Rattle.text_lines.specs.Lines.{lines_of}
 use Rattle.run_trace.specs.Line.{spaced}
 use Rattle.run_trace.proofs.Words.{AreProper, IsProper, line_first}
-use Rattle.program_make.specs.Draws.{after_three, amount, drawn, garbage, next_value, rounds, value_after}
+pub use Rattle.program_reader.proofs.Passing.{Lines}
+use Rattle.program_make.specs.Draws.{amount, garbage, rounds, value_after}
 use Rattle.program_make.specs.Text.{children_lines, first_functions, first_lines, function_text, last_lines, main_text, numbered, par_line, side}
+use Rattle.program_make.proofs.Lengths.{amount_small, garbage_small, rounds_small, side_small}
 use Rattle.made_program_laws.proofs.Names.{name_of, proper_name, proper_number}
-
-abbrev pub Lines : Type 0
-Lines = List (List ℕ)
 
 -- THE LINES
 
@@ -86,23 +85,6 @@ abbrev pub main_rows : Lines
 main_rows = codes "fn main" ∷ (main_order_rows ++ codes "end" ∷ [] ∷ [])
 
 -- WHAT IS DRAWN IS SMALL
-
-pub amount_small : (x : ℕ) → amount x < 1000
-amount_small x = mod-lt (next_value x / 65536) (omega arith)
-
-pub garbage_small : (x : ℕ) → garbage x < 1000
-garbage_small x = let h : drawn (next_value (next_value x)) 60 < 60 = mod-lt (next_value (next_value x) / 65536) (omega arith) in omega (arith, h)
-
-pub rounds_small : (x : ℕ) → rounds x < 1000
-rounds_small x = let h : drawn (after_three x) 40 < 40 = mod-lt (after_three x / 65536) (omega arith) in omega (arith, h)
-
-pub side_small : (i : ℕ) → side i < 1000
-side_small i = by (nat_eq i 0) (nat_eq (i % 2) 0)
-  where
-    by : (b c : Bool) → cond b 0 (cond c 1 0) < 1000
-    by true c = omega arith
-    by false true = omega arith
-    by false false = omega arith
 
 -- TEXTS AND THEIR LINES
 

@@ -1,7 +1,7 @@
 // The answer of a call that failed outside.
 
 ghost use Rattle.std.specs.Prelude.{◌≡◌};
-ghost use Rattle.outside_io.specs.Fault.{raised};
+ghost use Rattle.still_counts.specs.Counts.{raised};
 
 /// A read or a write failed outside. The count of faults of the object that answers it has risen, or stands at its end.
 #[derive(Clone, Copy, PartialEq, Eq)]

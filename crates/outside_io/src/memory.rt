@@ -1,7 +1,8 @@
 // Sources and sinks in memory, which tell their bytes and fail at chosen calls.
 
 ghost use Rattle.std.specs.Prelude.{◌≡◌, ◌<◌, ◌≤◌, ◌↔◌, ◌++◌, [], ◌⊎◌, length, take, drop, min, List, ℕ, IfOk, OnOk, OnErr, IsErr, IsTrue, Contains, Some};
-ghost use Rattle.outside_io.specs.Fault.{HasRisen, raised};
+ghost use Rattle.still_counts.specs.Counts.{raised};
+ghost use Rattle.outside_io.specs.Fault.{HasRisen};
 ghost use Rattle.outside_io.specs.Told.{Gives, with_more};
 
 use crate::fault::{Failed, one_more};

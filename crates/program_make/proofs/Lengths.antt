@@ -61,16 +61,16 @@ last_short size times where_to ls lt lw =
 
 -- WHAT IS DRAWN IS SMALL
 
-amount_small : (x : ℕ) → amount x < 1000
+pub amount_small : (x : ℕ) → amount x < 1000
 amount_small x = mod-lt (next_value x / 65536) (omega arith)
 
-garbage_small : (x : ℕ) → garbage x < 1000
+pub garbage_small : (x : ℕ) → garbage x < 1000
 garbage_small x = let h : drawn (next_value (next_value x)) 60 < 60 = mod-lt (next_value (next_value x) / 65536) (omega arith) in omega (arith, h)
 
-rounds_small : (x : ℕ) → rounds x < 1000
+pub rounds_small : (x : ℕ) → rounds x < 1000
 rounds_small x = let h : drawn (after_three x) 40 < 40 = mod-lt (after_three x / 65536) (omega arith) in omega (arith, h)
 
-side_small : (i : ℕ) → side i < 1000
+pub side_small : (i : ℕ) → side i < 1000
 side_small i = by (nat_eq i 0) (nat_eq (i % 2) 0)
   where
     by : (b c : Bool) → cond b 0 (cond c 1 0) < 1000

@@ -1,5 +1,5 @@
 -- Counts as operands, by what `read_u32` answers.
-use Rattle.std.proofs.Common.{◌≡◌, ◌<◌, ◌≤◌, ◌^◌, ℕ, Bool, true, false, List, [], ◌∷◌, cond, length, arith, refl, ap, nat_lt, ◌&&◌}
+use Rattle.std.proofs.Common.{◌≡◌, ◌<◌, ◌≤◌, ◌^◌, ℕ, Bool, true, false, List, cond, arith, refl, ap, ◌&&◌}
 use Rattle.std.specs.Prelude.{nat_le, Option, Some, None, SomeIff}
 use Rattle.std.specs.Str.Parse.{IsNumeral, digits_value}
 use Rattle.hh_lang.specs.Number.{is_numeral}

@@ -1,7 +1,7 @@
 -- Reading on over the bytes of a text.
 use Rattle.std.proofs.Common.{◌≡◌, ◌<◌, ◌≤◌, ◌+◌, ◌++◌, ◌^◌, ℕ, Bool, true, false, cond, List, [], ◌∷◌, length, take, drop, arith, refl, ap, sym, subst, ◌∙◌, nat_lt, nat_eq}
 use Rattle.std.specs.Prelude.{Option, Some, None, IfNone, ◌==◌, codes}
-use Rattle.std.specs.List.{position_or_len, onto_first}
+use Rattle.std.specs.List.{position_or_len}
 use Rattle.std.proofs.lemmas.List.{drop_all}
 use Rattle.hh_lang.specs.Form.{IsProgram}
 use Rattle.hh_lang.specs.declared.program.Fun.{Fun}
@@ -12,30 +12,18 @@ use Rattle.program_reader.specs.declared.head.Head.TheVariants.{Begin}
 use Rattle.program_reader.specs.declared.sense.Sense.{Sense}
 use Rattle.program_reader.specs.declared.sense.Outline.{Outline}
 use Rattle.program_reader.specs.declared.reader.Reader.{Reader}
-use Rattle.text_lines.specs.Lines.{lines_of}
+use Rattle.text_lines.specs.Lines.{is_last, lines_of}
+use Rattle.text_lines.proofs.Last.{some_line}
 use Rattle.program_reader.specs.Names.{is_noted}
 use Rattle.program_reader.specs.Sense.{IsSmall, only_name, sense_of}
 use Rattle.program_reader.specs.Around.{outline_of, head_of_line, operands_of_line}
-use Rattle.program_reader.specs.Fault.{is_last, fault_on, first_fault}
+use Rattle.program_reader.specs.Fault.{fault_on, first_fault}
 use Rattle.program_reader.specs.Program.{functions_from, program_of, unless_refused, reading_of}
 use Rattle.program_reader.specs.Reading.{spot_in, after_begin, after_line, line_taken, program_in}
 use Rattle.program_reader.proofs.Lines.{lines_first, lines_last, lines_cut, lines_behind}
 use Rattle.program_reader.proofs.Rounds.{IsReading, next_line, refused_at, no_fault, functions_done, at_last, has_main}
 use Rattle.program_reader.proofs.Sounds.{fun_names, entry_names}
 use Rattle.program_reader.proofs.Whole.{is_program}
-
-more_by : (x : ℕ) (ps : List (List ℕ)) → is_last (onto_first x ps) ≡ false
-more_by x [] = refl
-more_by x (p ∷ ps) = refl
-
-either_line : (b : Bool) (ps : List (List ℕ)) (x : ℕ) → is_last (cond b ([] ∷ ps) (onto_first x ps)) ≡ false
-either_line true ps x = refl
-either_line false ps x = more_by x ps
-
--- a text has a line
-some_line : (text : List ℕ) → is_last (lines_of text) ≡ false
-some_line [] = refl
-some_line (c ∷ cs) = either_line (c == 10) (lines_of cs) c
 
 last_by : (rest : List ℕ) (end : ℕ) (b : Bool) → end ≤ length rest → nat_lt end (length rest) ≡ b → nat_eq end (length rest) ≡ is_last (lines_behind rest end b)
 last_by rest end true le e = (let f : nat_eq end (length rest) ≡ false = grind (arith, e) in f) ∙ sym (some_line (drop (end + 1) rest))

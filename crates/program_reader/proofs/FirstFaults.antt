@@ -6,9 +6,7 @@ use Rattle.program_reader.specs.declared.cause.Refused.{Refused}
 use Rattle.program_reader.specs.declared.sense.Outline.{Outline}
 use Rattle.program_reader.specs.Fault.{spot_of, fault_on, fault_from, or_later}
 use Rattle.program_reader.specs.Laws.{turned}
-
-abbrev Lines : Type 0
-Lines = List (List ℕ)
+use Rattle.program_reader.proofs.Passing.{Lines}
 
 -- the first cause on a line below others
 abbrev at : Outline → Lines → List ℕ → Lines → Option Cause

@@ -7,6 +7,7 @@ use Rattle.std.proofs.lemmas.List.Quantifiers.{position-Some}
 use Rattle.std.proofs.lemmas.Option.{get_or_from_slice_get}
 use Rattle.std.proofs.lemmas.Slice.Eq.{bytes_eq-Decides}
 use Rattle.listed.proofs.Members.{got_back, got_front}
+use Rattle.listed.proofs.Places.{got_some}
 use Rattle.hh_lang.specs.declared.instr.Instr.{Instr}
 use Rattle.hh_lang.specs.declared.program.Line.{Line}
 use Rattle.hh_lang.specs.declared.program.Fun.{Fun}
@@ -103,11 +104,6 @@ map_on_line number (i ∷ is) = ap (λ c. i ∷ c) (map_on_line number is)
 triple : (k : ℕ) → 3 * suc k ≡ suc (suc (suc (3 * k)))
 triple k = omega arith
 
-there : {A : Type 0} (xs : List A) (k : ℕ) → k < length xs → (x : A) × (slice_get xs k ≡ Some x)
-there [] k lt = absurd (omega arith)
-there (x ∷ xs) zero lt = (x, refl)
-there (x ∷ xs) (suc k) lt = there xs k (omega arith)
-
 module _ (o : Outline) where
   -- the three functions of the loop at a place
   loop_at : (j : ℕ) (es : List Entry) (k : ℕ) (e : Entry) → slice_get es k ≡ Some e → (s : ℕ) (fun : Fun) → slice_get (loop_functions o (loop_function o (j + k)) e) s ≡ Some fun → s < 3 → slice_get (loops_from o j es) (3 * k + s) ≡ Some fun
@@ -138,7 +134,7 @@ place_names : (es : List Entry) (name : List ℕ) (k : ℕ) → place_of es name
 place_names es name k place =
     let d : Entry = record { name = []; number = 0 } in
     let within = position-Some (λ (e : Entry). bytes_eq name e.name) es k d place in
-    let e = there es k within.0 in
+    let e = got_some es k within.0 in
     let at = position-Some (λ (e : Entry). bytes_eq name e.name) es k e.0 place in
     let same : get_or es k e.0 ≡ e.0 = get_or_from_slice_get es k e.0 e.0 e.1 in
     (e.0, e.1, sym ((bytes_eq-Decides name e.0.name).0 (ap (λ (z : Entry). bytes_eq name z.name) (sym same) ∙ at.1)))

@@ -5,6 +5,7 @@ use Rattle.std.specs.Str.{is_utf8}
 use Rattle.std.specs.List.{list_all}
 use Rattle.std.proofs.lemmas.Bool.{and_parts}
 use Rattle.std.proofs.lemmas.List.{take_all}
+use Rattle.text_lines.specs.Lines.{is_last}
 use Rattle.hh_lang.specs.declared.instr.Instr.{Instr}
 use Rattle.program_reader.specs.declared.head.Head.{Head}
 use Rattle.program_reader.specs.declared.head.Head.TheVariants.{Blank, Begin, End, Label, Order, Unknown}
@@ -16,7 +17,7 @@ use Rattle.program_reader.specs.declared.labels.Labels.{Labels}
 use Rattle.program_reader.specs.Names.{Entry, entry_of, is_noted, noted, place_of}
 use Rattle.program_reader.specs.Sense.{sense_of, only_name, named}
 use Rattle.program_reader.specs.Around.{head_of_line, operands_of_line, is_inside, is_open_after, ends_body, label_line, labels_above, labels_after, labels_onto, noted_if, begins, begun_above, begun_name, orders, orders_above, outline_above}
-use Rattle.program_reader.specs.Fault.{Spot, spot_of, is_among, is_last, is_begin, is_misplaced, fault_by, fault_on, fault_from, or_later}
+use Rattle.program_reader.specs.Fault.{Spot, spot_of, is_among, is_begin, is_misplaced, fault_by, fault_on, fault_from, or_later}
 use Rattle.program_reader.specs.Laws.{turned}
 use Rattle.program_reader.proofs.Causes.{gives_none, gives_fault}
 use Rattle.program_reader.proofs.Steps.{new_name}
@@ -256,7 +257,7 @@ none_begin (l ∷ ls) above all =
 
 -- A NAME THAT IS NOTED HAS A PLACE
 
-some_place : (r : Option ℕ) (n : ℕ) → comes_before r n ≡ true → (k : ℕ) × (r ≡ Some k)
+pub some_place : (r : Option ℕ) (n : ℕ) → comes_before r n ≡ true → (k : ℕ) × (r ≡ Some k)
 some_place None n e = absurd (true≢false (sym e))
 some_place (Some k) n e = (k, refl)
 

@@ -4,6 +4,7 @@ use Rattle.std.specs.Prelude.{Option, Some, None, ◌&&◌, ◌||◌, not, codes
 use Rattle.std.specs.Str.{is_utf8}
 use Rattle.std.proofs.lemmas.List.{append-nil}
 use Rattle.std.proofs.lemmas.List.Elements.{All-nil}
+use Rattle.std.proofs.lemmas.Bool.{both_ways}
 use Rattle.hh_lang.specs.Form.{IsFunction}
 use Rattle.program_reader.specs.declared.cause.Cause.{Cause}
 use Rattle.program_reader.specs.declared.cause.Cause.TheVariants.{NotUtf8}
@@ -16,17 +17,17 @@ use Rattle.program_reader.specs.Names.{is_noted}
 use Rattle.program_reader.specs.declared.sense.Outline.{Outline}
 use Rattle.program_reader.specs.declared.labels.Labels.{Labels}
 use Rattle.program_reader.specs.declared.reader.Reader.{Reader}
-use Rattle.text_lines.specs.Lines.{lines_of}
+use Rattle.text_lines.specs.Lines.{is_last, lines_of}
 use Rattle.program_reader.specs.Sense.{sense_of, only_name, named}
 use Rattle.program_reader.specs.Around.{begun_name, head_of_line, operands_of_line, is_open_after, outline_of, outline_onto, outline_above, outline_line, no_labels, labels_above, labels_onto, ends_body, label_line}
-use Rattle.program_reader.specs.Fault.{is_last, is_misplaced, is_begin, fault_by, fault_on, fault_from, first_fault, or_later, has_wrong_operand}
+use Rattle.program_reader.specs.Fault.{is_misplaced, is_begin, fault_by, fault_on, fault_from, first_fault, or_later, has_wrong_operand}
 use Rattle.program_reader.specs.Program.{code_from, functions_from}
 use Rattle.program_reader.specs.Reading.{spot_in, after_line, after_begin, after_order, line_taken, nothing_read, IsCounted}
 use Rattle.program_reader.proofs.Causes.{IsFaultless, faultless}
 use Rattle.program_reader.proofs.LabelSteps.{goes_on}
 use Rattle.program_reader.proofs.Ranges.{all_functions, order_in, AreInside, onto_inside, above_inside}
 use Rattle.program_reader.proofs.Spots.{Follows, same_fault}
-use Rattle.program_reader.proofs.Steps.{Told, not_both, wrong_none, After, after, made, made_more}
+use Rattle.program_reader.proofs.Steps.{Told, wrong_none, After, after, made, made_more}
 use Rattle.program_reader.proofs.Sounds.{Sound, SoundAt, sound_more}
 
 utf8_by : (b : Bool) (x : Option Cause) → cond b x (Some NotUtf8) ≡ None → x ≡ None
@@ -133,8 +134,8 @@ pub at_first : (text : List ℕ) (o : Outline) → o ≡ outline_of text → IsR
 at_first text o e = record {
   above = [];
   counted = refl;
-  follows = record { inside = refl; begun = refl; named = refl; whole = sym e; orders = refl; opened = λ t. absurd (not_both false t refl) };
-  sound = record { names = refl; done = All-nil (IsFunction (all_functions o)); code = λ t. absurd (not_both false t refl); placed = λ t. absurd (not_both false t refl); short = omega arith; begun = omega arith; labeled = omega arith; orders = omega arith };
+  follows = record { inside = refl; begun = refl; named = refl; whole = sym e; orders = refl; opened = λ t. absurd (both_ways false refl t) };
+  sound = record { names = refl; done = All-nil (IsFunction (all_functions o)); code = λ t. absurd (both_ways false refl t); placed = λ t. absurd (both_ways false refl t); short = omega arith; begun = omega arith; labeled = omega arith; orders = omega arith };
   fault = ap (λ p. fault_from p [] (lines_of text)) e;
   functions = refl;
 }

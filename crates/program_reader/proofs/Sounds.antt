@@ -3,6 +3,7 @@ use Rattle.std.proofs.Common.{◌≡◌, ◌<◌, ◌≤◌, ◌+◌, ◌++◌, 
 use Rattle.std.specs.Prelude.{Option, Some, None, ◌&&◌}
 use Rattle.std.specs.List.{All}
 use Rattle.std.proofs.lemmas.List.Elements.{All-nil}
+use Rattle.std.proofs.lemmas.Bool.{both_ways}
 use Rattle.hh_lang.specs.declared.instr.Instr.TheVariants.{Ret}
 use Rattle.hh_lang.specs.declared.program.Line.{Line}
 use Rattle.hh_lang.specs.declared.program.Fun.{Fun}
@@ -22,7 +23,7 @@ use Rattle.program_reader.specs.Reading.{spot_in, after_begin, after_end, after_
 use Rattle.program_reader.proofs.Causes.{IsFaultless}
 use Rattle.program_reader.proofs.Ranges.{all_functions, IsInRange}
 use Rattle.program_reader.proofs.Spots.{Follows, first_named}
-use Rattle.program_reader.proofs.Steps.{Told, not_both, wrong_none, outside_begin, inside_end, unknown_never, push_length, push_map, push_all, new_name}
+use Rattle.program_reader.proofs.Steps.{Told, wrong_none, outside_begin, inside_end, unknown_never, push_length, push_map, push_all, new_name}
 
 abbrev pub fun_names : List Fun → List (List ℕ)
 fun_names fs = map (λ f. f.name) fs
@@ -86,8 +87,8 @@ module _ (o : Outline) (r : Reader) (above : List (List ℕ)) (l : List ℕ) (ls
       record {
         names = push_map (λ u. u.name) r.done fun ∙ before;
         done = push_all (IsFunction (all_functions o)) r.done fun g.done function;
-        code = λ t. absurd (not_both false t refl);
-        placed = λ t. absurd (not_both false t refl);
+        code = λ t. absurd (both_ways false refl t);
+        placed = λ t. absurd (both_ways false refl t);
         short = omega arith;
         begun = omega (arith, g.begun);
         labeled = omega (arith, g.labeled);
@@ -106,9 +107,9 @@ module _ (o : Outline) (r : Reader) (above : List (List ℕ)) (l : List ℕ) (ls
     orders = omega (arith, g.orders);
   }
   order_sound Fits t w a b = absurd t
-  order_sound WrongOperand t w a b = absurd (not_both true refl w)
-  order_sound NoSuchFunction t w a b = absurd (not_both true refl a)
-  order_sound NoSuchLabel t w a b = absurd (not_both true refl b)
+  order_sound WrongOperand t w a b = absurd (both_ways true w refl)
+  order_sound NoSuchFunction t w a b = absurd (both_ways true a refl)
+  order_sound NoSuchLabel t w a b = absurd (both_ways true b refl)
 
   pub sound_more : (h : Head) → (ends_body h ≡ true → labels_onto (labels_above above) (l ∷ ls) ≡ labels_above above) → Told o r.labels h ws x → IsFaultless o (spot_in o r last) h ws x
       → Sound o (after_line r h ws x n ls) (noted_if (outline_above above).functions (begun_name h ws) (length above + 1)) (labels_after h ws (labels_above above)).next (length above + 1)

@@ -2,6 +2,7 @@
 use Rattle.std.proofs.Common.{◌≡◌, ◌+◌, ℕ, Bool, true, false, cond, List, [], ◌∷◌, length, take, refl, ap, sym, ◌∙◌}
 use Rattle.std.specs.Prelude.{Some}
 use Rattle.std.specs.Str.{is_utf8}
+use Rattle.text_lines.specs.Lines.{is_last}
 use Rattle.program_reader.specs.declared.cause.Cause.TheVariants.{NotUtf8, Word}
 use Rattle.program_reader.specs.declared.head.Head.{Head}
 use Rattle.program_reader.specs.declared.head.Head.TheVariants.{Blank, Begin, End, Label, Order, Unknown}
@@ -10,7 +11,7 @@ use Rattle.program_reader.specs.declared.sense.Outline.{Outline}
 use Rattle.program_reader.specs.declared.reader.Reader.{Reader}
 use Rattle.program_reader.specs.Sense.{sense_of, only_name, named, alone}
 use Rattle.program_reader.specs.Around.{head_of_line, operands_of_line, is_inside, outline_above, outline_onto, labels_above, labels_onto, begun_above, orders_above}
-use Rattle.program_reader.specs.Fault.{Spot, spot_of, is_last, is_misplaced, fault_by, fault_on}
+use Rattle.program_reader.specs.Fault.{Spot, spot_of, is_misplaced, fault_by, fault_on}
 use Rattle.program_reader.specs.Reading.{spot_in}
 use Rattle.program_reader.proofs.Causes.{gives_word}
 use Rattle.program_reader.proofs.Prefixes.{functions_on, labels_on, first_are}

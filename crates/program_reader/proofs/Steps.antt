@@ -3,6 +3,7 @@ use Rattle.std.proofs.Common.{◌≡◌, ◌<◌, ◌+◌, ◌++◌, ℕ, zero, 
 use Rattle.std.specs.Prelude.{Option, Some, None, ◌&&◌, ◌||◌}
 use Rattle.std.specs.List.{All}
 use Rattle.std.proofs.lemmas.List.Elements.{All-append}
+use Rattle.std.proofs.lemmas.Bool.{both_ways}
 use Rattle.hh_lang.specs.declared.instr.Instr.{Instr}
 use Rattle.hh_lang.specs.declared.instr.Instr.TheVariants.{Ret}
 use Rattle.hh_lang.specs.declared.program.Line.{Line}
@@ -26,11 +27,8 @@ use Rattle.program_reader.proofs.Spots.{IsOpen, Follows, first_named, first_labe
 
 -- ---- small facts
 
-pub not_both : (b : Bool) → b ≡ true → b ≡ false → ⊥
-not_both b t f = cc
-
 pub wrong_none : (x : Sense) → x ≡ named None → has_wrong_operand x ≡ false → ⊥
-wrong_none x e f = not_both (has_wrong_operand x) (ap has_wrong_operand e) f
+wrong_none x e f = both_ways (has_wrong_operand x) f (ap has_wrong_operand e)
 
 fits_named : (x : Sense) (name : Option (List ℕ)) → x ≡ named name → has_wrong_operand x ≡ false → x ≡ Fits
 fits_named x None e f = absurd (wrong_none x e f)
@@ -38,7 +36,7 @@ fits_named x (Some name) e f = e
 
 fits_alone : (x : Sense) (ws : List (List ℕ)) → x ≡ alone ws → has_wrong_operand x ≡ false → x ≡ Fits
 fits_alone x [] e f = e
-fits_alone x (w ∷ ws) e f = absurd (not_both (has_wrong_operand x) (ap has_wrong_operand e) f)
+fits_alone x (w ∷ ws) e f = absurd (both_ways (has_wrong_operand x) f (ap has_wrong_operand e))
 
 pub outside_begin : (b : Bool) (c : Bool) → ((b && true) || c) ≡ false → b ≡ false
 outside_begin true c e = absurd (cc)
@@ -106,7 +104,7 @@ module _ (o : Outline) (r : Reader) (above : List (List ℕ)) (l : List ℕ) (ls
     begun = omega (arith, f.begun);
     named = f.named;
     orders = omega (arith, f.orders);
-    opened = λ t. absurd (not_both false t refl);
+    opened = λ t. absurd (both_ways false refl t);
   }
 
   label_labeled : (p : IsOpen r above (l ∷ ls)) (name : Option (List ℕ)) → x ≡ named name → has_wrong_operand x ≡ false → is_among (take r.labeled r.labels.entries) name ≡ false → length (noted_if (labels_above above).entries name (labels_above above).next) ≡ r.labeled + 1
@@ -139,9 +137,9 @@ module _ (o : Outline) (r : Reader) (above : List (List ℕ)) (l : List ℕ) (ls
   order_after : (v : _) (y : Sense) → On (Order v) → IsInRange (all_functions o) (r.labels.next + 1) y → has_wrong_operand y ≡ false → names_no_function y ≡ false → names_no_label y ≡ false → After (after_order r y n) above (Order v) ws None ls
   order_after v (Does i) on t w g j = order_does v i on
   order_after v Fits on t w g j = absurd t
-  order_after v WrongOperand on t w g j = absurd (not_both true refl w)
-  order_after v NoSuchFunction on t w g j = absurd (not_both true refl g)
-  order_after v NoSuchLabel on t w g j = absurd (not_both true refl j)
+  order_after v WrongOperand on t w g j = absurd (both_ways true w refl)
+  order_after v NoSuchFunction on t w g j = absurd (both_ways true g refl)
+  order_after v NoSuchLabel on t w g j = absurd (both_ways true j refl)
 
   blank_after : On Blank → After r above Blank ws None ls
   blank_after on = record {
@@ -178,9 +176,9 @@ module _ (o : Outline) (r : Reader) (ls : List (List ℕ)) (n : ℕ) (last : Boo
   order_made : (v : _) (y : Sense) → IsInRange (all_functions o) (r.labels.next + 1) y → has_wrong_operand y ≡ false → names_no_function y ≡ false → names_no_label y ≡ false → made r (code_by (Order v) y n code) rest ≡ made (after_order r y n) code rest
   order_made v (Does i) t w g j = ap (λ c. cond r.inside (r.done ++ record { name = r.name; code = c } ∷ rest) (r.done ++ rest)) (sym (append_assoc r.code (line_of i n ∷ []) code))
   order_made v Fits t w g j = absurd t
-  order_made v WrongOperand t w g j = absurd (not_both true refl w)
-  order_made v NoSuchFunction t w g j = absurd (not_both true refl g)
-  order_made v NoSuchLabel t w g j = absurd (not_both true refl j)
+  order_made v WrongOperand t w g j = absurd (both_ways true w refl)
+  order_made v NoSuchFunction t w g j = absurd (both_ways true g refl)
+  order_made v NoSuchLabel t w g j = absurd (both_ways true j refl)
 
   pub made_more : (h : Head) → Told o r.labels h ws x → IsFaultless o (spot_in o r last) h ws x → made r (code_by h x n code) (with_function (begun_name h ws) new rest) ≡ made (after_line r h ws x n ls) (cond (is_begin h) new code) rest
   made_more Blank t q = ap (λ y. made r (code_by Blank y n code) rest) (fits_alone x ws t q.operand)

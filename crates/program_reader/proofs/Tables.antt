@@ -6,6 +6,8 @@ use Rattle.std.specs.Map.{keys_of, lookup}
 use Rattle.std.specs.Str.{bytes_eq}
 use Rattle.indexmap.specs.IndexMap.{IndexMap, insert_entry}
 use Rattle.indexmap.proofs.CallerLemmas.{insert_entry-new}
+use Rattle.listed.proofs.Options.{none_of}
+use Rattle.listed.proofs.Numbers.{above_zero}
 use Rattle.program_reader.specs.Names.{Entry, entry_of, is_noted, noted, place_of, numbered_of}
 
 abbrev pub Pairs : Type 0
@@ -45,10 +47,6 @@ shown_last : (es : Pairs) (k : Bor (List ℕ)) (number : ℕ) → shown (es ++ (
 shown_last [] k number = refl
 shown_last (e ∷ es) k number = ap (λ xs. entry_of e.0.now e.1 ∷ xs) (shown_last es k number)
 
-none_of : {X : Type 0} (o : Option X) → is_some o ≡ false → o ≡ None
-none_of None e = refl
-none_of (Some x) e = absurd (cc)
-
 pub added_last : {S : Type 0} (k : Bor (List ℕ)) (number : ℕ) (m : IndexMap (Bor (List ℕ)) ℕ S) → is_some (lookup (is_key k.now) m.entries) ≡ false → shown (insert_entry (λ x y. bytes_eq x.now y.now) m.entries k number) ≡ noted (shown m.entries) k.now number
 added_last k number m h =
     ap shown (insert_entry-new (λ x y. bytes_eq x.now y.now) m k number (none_of (lookup (is_key k.now) m.entries) h))
@@ -63,15 +61,12 @@ kept_all name number es h = ap (λ t. cond t (shown es) (shown es ++ entry_of na
 less_more : (a b : ℕ) → nat_lt (1 + a) (suc b) ≡ nat_lt a b
 less_more a b = grind arith
 
-less_first : (b : ℕ) → nat_lt 0 (suc b) ≡ true
-less_first b = grind arith
-
 none_less : (b : Bool) → false ≡ (b && false)
 none_less true = refl
 none_less false = refl
 
 any_more : {X : Type 0} (p : X → Bool) (x : X) (xs : List X) (n : ℕ) (b : Bool) → p x ≡ b → list_any p (take n xs) ≡ (nat_lt (position_or_len p xs) n && nat_lt (position_or_len p xs) (length xs)) → (b || list_any p (take n xs)) ≡ (nat_lt (cond (not b) (1 + position_or_len p xs) 0) (suc n) && nat_lt (cond (not b) (1 + position_or_len p xs) 0) (suc (length xs)))
-any_more p x xs n true e h = rw (less_first n, less_first (length xs)) refl
+any_more p x xs n true e h = rw (above_zero n, above_zero (length xs)) refl
 any_more p x xs n false e h = rw (less_more (position_or_len p xs) n, less_more (position_or_len p xs) (length xs)) h
 
 any_first : {X : Type 0} (p : X → Bool) (xs : List X) (n : ℕ) → list_any p (take n xs) ≡ (nat_lt (position_or_len p xs) n && nat_lt (position_or_len p xs) (length xs))

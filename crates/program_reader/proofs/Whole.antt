@@ -17,7 +17,8 @@ use Rattle.program_reader.specs.Program.{number_of, on_line, whole_code, left_co
 use Rattle.program_reader.specs.Reading.{program_in}
 use Rattle.program_reader.proofs.Ranges.{all_functions, place_below}
 use Rattle.program_reader.proofs.Sounds.{fun_names, entry_names}
-use Rattle.program_reader.proofs.Tables.{comes_before, noted_before}
+use Rattle.program_reader.proofs.Tables.{noted_before}
+use Rattle.program_reader.proofs.Passing.{some_place}
 
 -- the same as All, item by item
 abbrev Each : {A : Type 0} → (A → Type 0) → List A → Type 0
@@ -99,10 +100,6 @@ renamed None a b e h = h
 renamed (Some f) a b e h = h ∙ e
 
 -- a name that is noted has a place
-some_place : (r : Option ℕ) (n : ℕ) → comes_before r n ≡ true → (k : ℕ) × (r ≡ Some k)
-some_place None n e = absurd (cc)
-some_place (Some k) n e = (k, refl)
-
 main_place : (o : Outline) → is_noted o.functions (codes "main") ≡ true → (k : ℕ) × (place_of o.functions (codes "main") ≡ Some k)
 main_place o h = some_place (place_of o.functions (codes "main")) (length o.functions) (noted_before o.functions (codes "main") (length o.functions) ∙ ap (λ es. is_noted es (codes "main")) (take_all (length o.functions) o.functions (omega arith)) ∙ h)
 

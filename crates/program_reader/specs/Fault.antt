@@ -9,7 +9,7 @@ use Rattle.program_reader.specs.declared.head.Head.TheVariants.{Blank, Begin, La
 use Rattle.program_reader.specs.declared.sense.Sense.{Sense}
 use Rattle.program_reader.specs.declared.sense.Sense.TheVariants.{WrongOperand, NoSuchFunction, NoSuchLabel}
 use Rattle.program_reader.specs.declared.sense.Outline.{Outline}
-use Rattle.text_lines.specs.Lines.{lines_of}
+use Rattle.text_lines.specs.Lines.{is_last, lines_of}
 use Rattle.program_reader.specs.Names.{Entry, is_noted}
 use Rattle.program_reader.specs.Sense.{sense_of, only_name}
 use Rattle.program_reader.specs.Around.{head_of_line, operands_of_line, is_inside, is_open_after, outline_above, outline_of, labels_above, labels_onto, begun_above, orders_above}
@@ -30,10 +30,6 @@ pub record Spot : Type 0 where
   pub labeled : List Entry
   -- all labels of its function
   pub labels : List Entry
-
-abbrev pub is_last : List (List ℕ) → Bool
-is_last [] = true
-is_last (l ∷ ls) = false
 
 abbrev pub spot_of : List (List ℕ) → List ℕ → List (List ℕ) → Spot
 spot_of above line below = record {

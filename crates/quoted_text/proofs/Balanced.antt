@@ -79,10 +79,13 @@ bracketed first shut opens shuts a h ws =
     ∙ ap (λ r. read_all r (shut ∷ [])) (h (shut ∷ ws))
     ∙ shuts ws
 
+pub joined : (a b : List ℕ) → IsBalanced a → IsBalanced b → IsBalanced (a ++ b)
+joined a b h k ws = read_on (Outside ws) a b ∙ ap (λ r. read_all r b) (h ws) ∙ k ws
+
 pub joined_balance : JoinedBalance
 joined_balance = record {
   nothing = λ ws. refl;
-  joined = λ a b h k ws. read_on (Outside ws) a b ∙ ap (λ r. read_all r b) (h ws) ∙ k ws;
+  joined = joined;
   brackets = bracketed 91 93 (λ ws. refl) (λ ws. refl);
   braces = bracketed 123 125 (λ ws. refl) (λ ws. refl);
 }

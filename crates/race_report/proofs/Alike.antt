@@ -1,7 +1,7 @@
 -- Of accesses of one strand and kind the first is enough.
 use Rattle.std.proofs.Common.{◌≡◌, ℕ, zero, suc, ◌<◌, Bool, true, false, cond, not, ◌==◌, ◌||◌, ◌&&◌, Some, None, List, [], ◌∷◌, ◌++◌, length, slice_get, filter, ◌⊎◌, inl, inr, refl, ap, sym, subst, ◌∙◌, append_assoc, append-nil, eqb-true}
 use Rattle.std.specs.Bool.{beq}
-use Rattle.std.proofs.lemmas.Bool.{or_cases, both_ways}
+use Rattle.std.proofs.lemmas.Bool.{or_cases, both_ways, and_parts}
 use Rattle.indexmap.specs.IndexSet.{insert_key}
 use Rattle.listed.proofs.Members.{In, in_append_left, in_append_right, in_append_cases, got_front, got_within, in_from_kept}
 use Rattle.race_report.specs.declared.data.Access.{Access}
@@ -104,10 +104,6 @@ module _ (x : Seen) where
 
 -- ONE STRAND
 
-both_true : (a b : Bool) → (a && b) ≡ true → (a ≡ true) × (b ≡ true)
-both_true true b e = (refl, e)
-both_true false b e = absurd cc
-
 same_bool : (a b : Bool) → beq a b ≡ true → a ≡ b
 same_bool true true e = refl
 same_bool true false e = absurd cc
@@ -122,9 +118,9 @@ StrandsTell zs =
 
 alike_clashes : (u w x : Seen) → same_way (way_of w.access) (way_of u.access) ≡ true → (u.access.strand ≡ w.access.strand → label_precedes u.label x.label ≡ label_precedes w.label x.label) → clashes u x ≡ clashes w x
 alike_clashes u w x h label =
-    let p = both_true ((w.access.strand.task == u.access.strand.task) && (w.access.strand.joins == u.access.strand.joins)) (beq w.access.writes u.access.writes && beq w.access.swaps u.access.swaps) h in
-    let s = both_true (w.access.strand.task == u.access.strand.task) (w.access.strand.joins == u.access.strand.joins) p.0 in
-    let k = both_true (beq w.access.writes u.access.writes) (beq w.access.swaps u.access.swaps) p.1 in
+    let p = and_parts ((w.access.strand.task == u.access.strand.task) && (w.access.strand.joins == u.access.strand.joins)) (beq w.access.writes u.access.writes && beq w.access.swaps u.access.swaps) h in
+    let s = and_parts (w.access.strand.task == u.access.strand.task) (w.access.strand.joins == u.access.strand.joins) p.0 in
+    let k = and_parts (beq w.access.writes u.access.writes) (beq w.access.swaps u.access.swaps) p.1 in
     let task : u.access.strand.task ≡ w.access.strand.task = sym (eqb-true w.access.strand.task u.access.strand.task s.0) in
     let joins : u.access.strand.joins ≡ w.access.strand.joins = sym (eqb-true w.access.strand.joins u.access.strand.joins s.1) in
     let strand : u.access.strand ≡ w.access.strand = (λ i. record { task = task i; joins = joins i }) in

@@ -3,6 +3,7 @@ use Rattle.std.proofs.Common.{◌≡◌, ℕ, zero, suc, ◌<◌, ◌≤◌, Boo
 use Rattle.std.proofs.lemmas.Bool.{both_ways}
 use Rattle.std.proofs.lemmas.Option.{same_Some}
 use Rattle.listed.proofs.Members.{In, in_kept, got_front, got_within, got_in}
+use Rattle.listed.proofs.Places.{got_last}
 use Rattle.race_report.specs.declared.data.Seen.{Seen}
 use Rattle.race_report.specs.declared.data.Open.{Open}
 use Rattle.race_report.specs.declared.data.Watch.{Watch}
@@ -23,10 +24,6 @@ push_got [] x z zero e = inr (refl, sym (same_Some x z e))
 push_got [] x z (suc k) e = absurd cc
 push_got (y ∷ xs) x z zero e = inl (omega arith, e)
 push_got (y ∷ xs) x z (suc k) e = elim (push_got xs x z k e) [ inl old ↦ inl (let lt = old.0 in omega arith, old.1) | inr new ↦ inr (let at = new.0 in omega arith, new.1) ]
-
-push_last : {A : Type 0} (xs : List A) (x : A) → slice_get (xs ++ x ∷ []) (length xs) ≡ Some x
-push_last [] x = refl
-push_last (y ∷ xs) x = push_last xs x
 
 filter_push : (p : Seen → Bool) (xs : List Seen) (x : Seen) → filter p (xs ++ x ∷ []) ≡ filter p xs ++ filter p (x ∷ [])
 filter_push p [] x = refl
@@ -209,7 +206,7 @@ module _ (q : Key) where
             clash = record {
               order = lt;
               first = got_front ss (x ∷ []) F.i lt ∙ F.is;
-              second = push_last ss x;
+              second = got_last ss x;
               key_u = same_key_is (key u) q F.has;
               key_v = kx;
               clash = F.clash;

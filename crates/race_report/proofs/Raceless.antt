@@ -1,5 +1,5 @@
 -- A run without races is never entangled.
-use Rattle.std.proofs.Common.{◌≡◌, ℕ, zero, suc, ◌+◌, ◌-◌, ◌++◌, Bool, true, false, cond, Option, Some, None, List, [], ◌∷◌, slice_get, nat_lt, inl, inr, refl, ap, sym, ◌∙◌}
+use Rattle.std.proofs.Common.{◌≡◌, ℕ, zero, suc, ◌+◌, Bool, true, false, cond, Option, Some, None, List, [], ◌∷◌, slice_get, nat_lt, inl, inr, refl, ap, sym, ◌∙◌}
 use Rattle.std.proofs.lemmas.Bool.{false≢true}
 use Rattle.listed.proofs.Members.{in_from_contains}
 use Rattle.hh_lang.specs.Form.{ProgramText}
@@ -11,18 +11,17 @@ use Rattle.hh_model.specs.declared.data.Edge.{Edge}
 use Rattle.hh_model.specs.declared.data.End.{End}
 use Rattle.hh_model.specs.declared.data.End.TheVariants.{Entangled}
 use Rattle.hh_model.specs.declared.data.State.{State}
-use Rattle.hh_model.specs.declared.data.Status.{Status}
-use Rattle.hh_model.specs.declared.data.Status.TheVariants.{Running, Waiting, Ended, Joined}
 use Rattle.hh_model.specs.declared.data.Task.{Task}
-use Rattle.hh_model.specs.Step.{asked, can_step, goes_on, is_left, is_running, run, step}
+use Rattle.hh_model.specs.Step.{asked, can_step, goes_on, is_running, run, step}
 use Rattle.run_ledger.specs.declared.data.Heap.{Heap}
 use Rattle.run_ledger.specs.declared.data.Ledger.{Ledger}
 use Rattle.run_ledger.specs.declared.data.RunEnd.TheVariants.{Machine, Pool}
-use Rattle.run_ledger.specs.Heaps.{emptied, forked_heap, fresh, heap_at, in_use, let_go, with_heap, with_heap_at, within}
-use Rattle.run_ledger.specs.Steps.{allocated_by, allocated_in, join_heaps, moved_on, moved_to, settled, stepped_to, task_step, task_steps}
+use Rattle.run_ledger.specs.Heaps.{in_use, with_heap}
+use Rattle.run_ledger.specs.Steps.{allocated_in, moved_to, settled, stepped_to, task_step, task_steps}
 use Rattle.run_ledger.specs.Entries.{after, after_kind, chunk_units, with_chunk}
 use Rattle.run_ledger.specs.Journals.{after_all, end_of, machine_of, opening, tasks_of}
 use Rattle.run_ledger.proofs.Machine.{heap_machine, machine_is_run}
+use Rattle.run_ledger.proofs.Holders.{allocated_end, heap_end, moved_on_end}
 use Rattle.race_report.specs.declared.data.Access.{Access}
 use Rattle.race_report.specs.Accesses.{accesses}
 use Rattle.race_report.specs.Report.{IsReport}
@@ -43,25 +42,8 @@ abbrev EndsAlike : Ledger → Type 0
 EndsAlike l = (e : End) → l.end ≡ Some (Machine e) → l.machine.end ≡ Some e
 
 -- the heaps' accounts change alone
-heap_end : (l : Ledger) (t : ℕ) (f : Heap → Heap) → (with_heap l t f).end ≡ l.end
-heap_end l t f = by (heap_at l t)
-  where
-    by : (o : Option Heap) → (with_heap_at l t f o).end ≡ l.end
-    by None = refl
-    by (Some h) = refl
-
 heap_alike : (l : Ledger) (t : ℕ) (f : Heap → Heap) → EndsAlike l → EndsAlike (with_heap l t f)
 heap_alike l t f E e h = ap (λ (m : State). m.end) (heap_machine l t f) ∙ E e (sym (heap_end l t f) ∙ h)
-
-join_end : (l : Ledger) (p c : ℕ) → (join_heaps l p c).end ≡ l.end
-join_end l p c = heap_end _ (c + 1) emptied ∙ (heap_end _ c emptied ∙ heap_end l p _)
-
-moved_end : (l : Ledger) (t : ℕ) (parent : Option ℕ) (s : Status) → (moved_on l t parent s).end ≡ l.end
-moved_end l t parent Running = refl
-moved_end l t parent Waiting = heap_end (record l { heaps = l.heaps ++ fresh ∷ fresh ∷ [] }) t (forked_heap (within l t))
-moved_end l t parent (Ended k n) = heap_end l t let_go
-moved_end l t None Joined = refl
-moved_end l t (Some p) Joined = join_end l p (cond (is_left t) t (t - 1))
 
 settled_alike : (l : Ledger) (t : ℕ) (o : Option End) → l.machine.end ≡ o → ((e : End) → l.end ≡ Some (Machine e) → ⊥) → EndsAlike (settled l t o)
 settled_alike l t (Some z) is on e h = is ∙ (let same : Some z ≡ Some e = same_end h in same)
@@ -72,11 +54,7 @@ settled_alike l t None is on e h = absurd (on e (by (slice_get l.machine.tasks t
   where
     by : (o : Option Task) → (moved_to l t o).end ≡ Some (Machine e) → l.end ≡ Some (Machine e)
     by None q = q
-    by (Some x) q = sym (moved_end l t x.parent x.status) ∙ q
-
-allocated_end : (l : Ledger) (t : ℕ) (next : Option ℕ) → (allocated_by l t next).end ≡ l.end
-allocated_end l t None = refl
-allocated_end l t (Some w) = heap_end l t _
+    by (Some x) q = sym (moved_on_end l t x.parent x.status) ∙ q
 
 step_alike : (p : ProgramText) (l : Ledger) (t : ℕ) → EndsAlike l → EndsAlike (task_step p l t)
 step_alike p l t E = by (can_step l.machine t) refl

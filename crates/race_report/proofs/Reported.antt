@@ -1,7 +1,7 @@
 -- The races that are found are the report.
 use Rattle.std.proofs.Common.{◌≡◌, ℕ, zero, suc, ◌<◌, Bool, true, false, not, ◌||◌, ◌&&◌, Option, Some, None, List, [], ◌∷◌, length, map, slice_get, get_or, Contains, ◌⊎◌, inl, inr, refl, ap, ap₂, sym, subst, ◌∙◌, arith}
 use Rattle.std.proofs.lemmas.Bool.{both_ways, false_from_ne_true}
-use Rattle.std.proofs.lemmas.Option.{same_Some}
+use Rattle.std.proofs.lemmas.Option.{get_or_from_slice_get, same_Some}
 use Rattle.std.specs.declared.cmp.Ordering.TheVariants.{Less}
 use Rattle.std.specs.BTreeMap as tree
 use Rattle.std.specs.BTreeMap.{BTreeMap}
@@ -9,6 +9,8 @@ use Rattle.std.proofs.lemmas.Map.Entries.{btree_map_get_place, place_from_lookup
 use Rattle.std.proofs.lemmas.Map.Keys.{Less-from_sorted}
 use Rattle.std.proofs.Math.Bool.{not-not}
 use Rattle.listed.proofs.Members.{In, in_from_contains, contains_from_in, got_in, got_within}
+use Rattle.listed.proofs.Places.{got_map, in_got, map_got}
+use Rattle.listed.proofs.Options.{and_not_parts}
 use Rattle.hh_lang.specs.Form.{ProgramText}
 use Rattle.hh_model.specs.declared.data.Edge.{Edge}
 use Rattle.hh_model.specs.Precedence.{Precedes, precedes}
@@ -33,21 +35,6 @@ use Rattle.race_report.proofs.Keys.{key_total}
 use Rattle.race_report.proofs.SeenLabels.{seen_accesses, seen_tells}
 
 -- LISTS
-
-got_map : {A B : Type 0} (f : A → B) (xs : List A) (i : ℕ) (x : A) → slice_get xs i ≡ Some x → slice_get (map f xs) i ≡ Some (f x)
-got_map f [] i x e = absurd cc
-got_map f (y ∷ xs) zero x e = ap (λ z. Some (f z)) (same_Some y x e)
-got_map f (y ∷ xs) (suc i) x e = got_map f xs i x e
-
-map_got : {A B : Type 0} (f : A → B) (xs : List A) (i : ℕ) (y : B) → slice_get (map f xs) i ≡ Some y → (x : A) × (slice_get xs i ≡ Some x) × (f x ≡ y)
-map_got f [] i y e = absurd cc
-map_got f (x ∷ xs) zero y e = (x, refl, same_Some (f x) y e)
-map_got f (x ∷ xs) (suc i) y e = map_got f xs i y e
-
-got_or_at : {A : Type 0} (xs : List A) (i : ℕ) (x d : A) → slice_get xs i ≡ Some x → get_or xs i d ≡ x
-got_or_at [] i x d e = absurd cc
-got_or_at (y ∷ xs) zero x d e = same_Some y x e
-got_or_at (y ∷ xs) (suc i) x d e = got_or_at xs i x d e
 
 -- KEYS
 
@@ -97,11 +84,6 @@ clash_from u v = by u.writes v.writes u.swaps v.swaps
     by false false c d (inl e) y = absurd cc
     by false false c d (inr e) y = absurd cc
 
-and_tells : (a b : Bool) → (a && not b) ≡ true → (a ≡ true) × (b ≡ false)
-and_tells true true h = absurd cc
-and_tells true false h = (refl, refl)
-and_tells false b h = absurd cc
-
 module _ (sight : Sight) (p : ProgramText) (limit : ℕ) (ts : List ℕ) where
   abbrev edges : List Edge
   edges = (run p limit ts).edges
@@ -126,7 +108,7 @@ module _ (sight : Sight) (p : ProgramText) (limit : ℕ) (ts : List ℕ) where
 
   race_from : (q : Key) (i j : ℕ) (u v : Seen) → Clash q ss i j u v → RaceAt edges all v.access.field i j u.access v.access
   race_from q i j u v C =
-      let both = and_tells (clash u.access v.access) (label_precedes u.label v.label) C.clash in
+      let both = and_not_parts (clash u.access v.access) (label_precedes u.label v.label) C.clash in
       let parts = clash_parts u.access v.access both.0 in
       record {
         order = C.order;
@@ -226,11 +208,6 @@ strands_tell sight p limit ts i k j u w v li lk eu ew ev same =
     ∙ ap (λ s. precedes (run p limit ts).edges s v.access.strand) same
     ∙ sym (seen_tells sight p (start p limit) (start_kept p limit) ts w v k j lk ew ev)
 
-in_place : {A : Type 0} (xs : List A) (x : A) → In xs x → (i : ℕ) × (slice_get xs i ≡ Some x)
-in_place [] x h = absurd h
-in_place (y ∷ xs) x (inl e) = (0, ap (λ z. Some z) e)
-in_place (y ∷ xs) x (inr h) = let k = in_place xs x h in (suc k.0, k.1)
-
 module _ (sight : Sight) (p : ProgramText) (limit : ℕ) (ts : List ℕ) (kept : BTreeMap Key Watch) (ordered : tree.IsOrdered key_cmp kept)
     (is : (q : Key) → tree.get key_cmp kept q ≡ kept_from q None (seen sight p limit ts)) where
   -- a race that is kept is the pair of a field, which is the key's
@@ -255,7 +232,7 @@ module _ (sight : Sight) (p : ProgramText) (limit : ℕ) (ts : List ℕ) (kept :
 
   each : (r : Race) → Contains (races_in (tree.values kept)) r → (field : Field) × (u : Access) × (v : Access) × IsPair (run p limit ts).edges (looked sight p limit ts) field u v × (r ≡ race_of u v)
   each r c =
-      let at = in_place (tree.values kept) (Found r) (race_in (tree.values kept) r (in_from_contains (races_in (tree.values kept)) r c)) in
+      let at = in_got (tree.values kept) (Found r) (race_in (tree.values kept) r (in_from_contains (races_in (tree.values kept)) r c)) in
       let t = (told_place at.0 r at.1).1 in
       (t.v.field, t.u, t.v, t.pair, t.same)
 
@@ -290,7 +267,7 @@ module _ (sight : Sight) (p : ProgramText) (limit : ℕ) (ts : List ℕ) (kept :
       let y = told_place at.1 s at.4 in
       let size : at.1 < length (tree.keys kept) = got_within (tree.keys kept) at.1 y.0 y.2 in
       let less : key_cmp (get_or (tree.keys kept) at.0 x.0) (get_or (tree.keys kept) at.1 x.0) ≡ Less = Less-from_sorted key_cmp (tree.keys kept) at.0 at.1 x.0 ordered at.2 size in
-      ap₂ key_cmp (key_is x.0 r x.1 ∙ sym (got_or_at (tree.keys kept) at.0 x.0 x.0 x.2)) (key_is y.0 s y.1 ∙ sym (got_or_at (tree.keys kept) at.1 y.0 x.0 y.2)) ∙ less
+      ap₂ key_cmp (key_is x.0 r x.1 ∙ sym (get_or_from_slice_get (tree.keys kept) at.0 x.0 x.0 x.2)) (key_is y.0 s y.1 ∙ sym (get_or_from_slice_get (tree.keys kept) at.1 y.0 x.0 y.2)) ∙ less
 
   pub reported : IsReport (run p limit ts).edges (looked sight p limit ts) (races_in (tree.values kept))
   reported = record { each = each; every = every; rising = rising }

@@ -1,6 +1,7 @@
 -- A step of a renamed task is the renamed step.
 use Rattle.std.proofs.Common.{◌≡◌, ℕ, ℤ, ◌+◌, ◌≤◌, Bool, Option, Some, None, List, [], ◌∷◌, ◌++◌, length, map, slice_get, slice_set, inl, inr, refl, ap, sym, subst, ◌∙◌, arith, length-append, length-set}
 use Rattle.listed.proofs.Members.{In, in_append_cases, in_append_left, in_append_right}
+use Rattle.listed.proofs.Places.{in_map}
 use Rattle.hh_model.specs.declared.data.Name.{Name}
 use Rattle.hh_model.specs.declared.data.Edge.{Edge}
 use Rattle.hh_model.specs.declared.data.Object.{Object}
@@ -15,7 +16,7 @@ use Rattle.hh_model.specs.Step.{can_step, edge, ended_by, goes_on, is_running, j
 use Rattle.renaming_laws.specs.Renaming.{IsRenaming, or_none, name_to, ref_to, edge_to, object_to, frame_to, status_to, task_to, end_to}
 use Rattle.renaming_laws.specs.Alike.{AreAlike}
 use Rattle.renaming_laws.proofs.Effects.{set_carried}
-use Rattle.renaming_laws.proofs.Lists.{ListTo, from_map, got_map, in_map, push_to, set_to}
+use Rattle.renaming_laws.proofs.Lists.{ListTo, from_map, got_map, push_to, set_to}
 
 abbrev pub result_to : (ℕ → ℕ) → ℤ × Option Name → ℤ × Option Name
 result_to f r = (r.0, ref_to f r.1)

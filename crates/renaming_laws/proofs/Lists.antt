@@ -29,11 +29,6 @@ front_map h [] = refl
 front_map h (x ∷ []) = refl
 front_map h (x ∷ y ∷ xs) = ap (λ zs. h x ∷ zs) (front_map h (y ∷ xs))
 
-pub in_map : {A B : Type 0} (h : A → B) (xs : List A) (x : A) → In xs x → In (map h xs) (h x)
-in_map h [] x i = absurd i
-in_map h (y ∷ ys) x (inl e) = inl (ap h e)
-in_map h (y ∷ ys) x (inr i) = inr (in_map h ys x i)
-
 pub from_map : {A B : Type 0} (h : A → B) (k : B → A) → ((x : A) → k (h x) ≡ x) → (xs : List A) (x : A) → In (map h xs) (h x) → In xs x
 from_map h k back [] x i = absurd i
 from_map h k back (y ∷ ys) x (inl e) = inl (sym (back y) ∙ (ap k e ∙ back x))

@@ -2,6 +2,7 @@
 use Rattle.std.proofs.Common.{◌≡◌, ℕ, zero, suc, ◌<◌, ◌≤◌, Bool, true, false, cond, Option, Some, None, slice_get, ◌⊎◌, inl, inr, refl, ap, sym, subst, ◌∙◌, arith}
 use Rattle.std.proofs.lemmas.Bool.{cases_Bool}
 use Rattle.listed.proofs.Members.{In}
+use Rattle.listed.proofs.Options.{same_truth}
 use Rattle.hh_model.specs.declared.data.Strand.{Strand}
 use Rattle.hh_model.specs.declared.data.Edge.{Edge}
 use Rattle.hh_model.specs.declared.data.Status.{Status}
@@ -15,10 +16,6 @@ use Rattle.hh_model.proofs.Paths.{owner_live}
 use Rattle.renaming_laws.specs.Renaming.{IsRenaming, or_none, strand_to, edge_to, status_to, task_to}
 use Rattle.renaming_laws.specs.Alike.{AreAlike}
 use Rattle.renaming_laws.proofs.Carried.{walk_to}
-
-same_truth : (a b : Bool) → (a ≡ true → b ≡ true) → (b ≡ true → a ≡ true) → a ≡ b
-same_truth true b to back = sym (to refl)
-same_truth false b to back = elim (cases_Bool b) [ inl e ↦ back e ∙ sym e | inr e ↦ sym e ]
 
 pub over_to : (f : ℕ → ℕ) (s : Status) → is_over (status_to f s) ≡ is_over s
 over_to f Running = refl

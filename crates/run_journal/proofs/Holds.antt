@@ -1,6 +1,6 @@
 -- Who holds which task, by the task that each worker took last.
-use Rattle.std.proofs.Common.{◌≡◌, ℕ, zero, suc, ◌+◌, ◌-◌, ◌<◌, Bool, true, false, cond, Option, Some, None, List, [], ◌∷◌, ◌++◌, length, slice_get, slice_set, nat_lt, inl, inr, refl, ap, sym, subst, ◌∙◌, arith, eq-eqb, ◌⊎◌, is_none, unwrap_or}
-use Rattle.std.proofs.lemmas.Bool.{both_ways, cases_eq, eqb-true, false≢true}
+use Rattle.std.proofs.Common.{◌≡◌, ℕ, zero, suc, ◌+◌, ◌-◌, ◌<◌, Bool, true, false, cond, Option, Some, None, List, [], ◌∷◌, ◌++◌, length, slice_get, slice_set, nat_lt, inl, inr, refl, ap, sym, subst, ◌∙◌, arith, ◌⊎◌, is_none, unwrap_or}
+use Rattle.std.proofs.lemmas.Bool.{both_ways, cases_eq, false≢true}
 use Rattle.std.proofs.lemmas.Option.{same_Some, none-some}
 use Rattle.listed.proofs.Members.{got_same, got_other}
 use Rattle.run_trace.specs.declared.entry.Kind.{Kind}
@@ -21,6 +21,8 @@ use Rattle.run_ledger.proofs.Sound.{SoundLedger}
 use Rattle.run_ledger.proofs.Steps.{SoundAt, step_leaves, task_step_sound, worker_at}
 use Rattle.run_ledger.proofs.Stocks.{with_heap_any}
 use Rattle.run_ledger.proofs.Journals.{none_unless, out_tells}
+use Rattle.run_ledger.proofs.Frames.{held_is}
+use Rattle.run_ledger.proofs.Accepted.{is_held}
 use Rattle.run_journal.specs.Book.{AccountsValue, Agrees, taken_after}
 
 -- WHO HOLDS A TASK
@@ -35,13 +37,6 @@ Found w base heaps =
     ((held_from w base heaps ≡ None) × ((u : ℕ) → (or_fresh (slice_get heaps u)).worker ≡ Some w → ⊥))
     ⊎ ((u : ℕ) × (held_from w base heaps ≡ Some (base + u)) × ((or_fresh (slice_get heaps u)).worker ≡ Some w))
 
-held_some : (o : Option ℕ) (w : ℕ) → is_held_by o w ≡ true → o ≡ Some w
-held_some None w e = absurd (false≢true e)
-held_some (Some v) w e = ap Some (eqb-true v w e)
-
-held_true : (o : Option ℕ) (w : ℕ) → o ≡ Some w → is_held_by o w ≡ true
-held_true o w e = ap (λ q. is_held_by q w) e ∙ eq-eqb w w refl
-
 found : (w base : ℕ) (heaps : List Heap) → Found w base heaps
 found w base [] = inl (refl, λ u e. absurd (none-some _ e))
 found w base (h ∷ heaps) = by (is_held_by h.worker w) refl (found w (base + 1) heaps)
@@ -49,11 +44,11 @@ found w base (h ∷ heaps) = by (is_held_by h.worker w) refl (found w (base + 1)
     by : (v : Bool) → is_held_by h.worker w ≡ v → Found w (base + 1) heaps
         → ((cond v (Some base) (held_from w (base + 1) heaps) ≡ None) × ((u : ℕ) → (or_fresh (slice_get (h ∷ heaps) u)).worker ≡ Some w → ⊥))
         ⊎ ((u : ℕ) × (cond v (Some base) (held_from w (base + 1) heaps) ≡ Some (base + u)) × ((or_fresh (slice_get (h ∷ heaps) u)).worker ≡ Some w))
-    by true e rest = inr (zero, ap Some (let q : base ≡ base + 0 = omega arith in q), held_some h.worker w e)
+    by true e rest = inr (zero, ap Some (let q : base ≡ base + 0 = omega arith in q), held_is h.worker w e)
     by false e (inl none) = inl (none.0, go)
       where
         go : (u : ℕ) → (or_fresh (slice_get (h ∷ heaps) u)).worker ≡ Some w → ⊥
-        go zero q = both_ways (is_held_by h.worker w) e (held_true h.worker w q)
+        go zero q = both_ways (is_held_by h.worker w) e (is_held h.worker w q)
         go (suc u) q = none.1 u q
     by false e (inr some) = inr (suc some.0, some.1 ∙ ap Some (let q : base + 1 + some.0 ≡ base + suc some.0 = omega arith in q), some.2)
 

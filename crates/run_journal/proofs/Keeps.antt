@@ -1,23 +1,19 @@
 -- What heaps of tasks that don't run hold, counted.
-use Rattle.std.proofs.Common.{◌≡◌, ℕ, zero, suc, ◌+◌, ◌*◌, ◌≤◌, Bool, true, false, cond, List, [], ◌∷◌, ◌++◌, slice_get, length, inl, inr, refl, ap, sym, subst, arith, length-append}
+use Rattle.std.proofs.Common.{◌≡◌, ℕ, zero, suc, ◌*◌, ◌≤◌, true, List, [], ◌∷◌, slice_get, length, sym, subst, arith, length-append}
 use Rattle.std.specs.List.{flat_map}
-use Rattle.std.proofs.lemmas.List.Sums.{sum_by-append, sum_by-cons}
-use Rattle.listed.proofs.Members.{In, contains_from_in}
+use Rattle.std.proofs.lemmas.List.Sums.{sum_by-append}
+use Rattle.listed.proofs.Members.{contains_from_in}
 use Rattle.run_trace.specs.Entry.{EntryValue}
 use Rattle.run_trace.specs.Settings.{SettingsValue, AreLimits}
 use Rattle.hh_lang.specs.Form.{ProgramText}
-use Rattle.hh_model.specs.declared.data.Name.{Name}
-use Rattle.hh_model.specs.declared.data.State.{State}
-use Rattle.hh_model.specs.declared.data.Task.{Task}
-use Rattle.hh_model.specs.Store.{IsStored}
-use Rattle.hh_model.specs.Step.{is_running}
 use Rattle.run_ledger.specs.declared.data.Heap.{Heap}
 use Rattle.run_ledger.specs.declared.data.Ledger.{Ledger}
-use Rattle.run_ledger.specs.Heaps.{heap_of, or_fresh, held, held_in, words_of, words_at, words_sum, in_use}
+use Rattle.run_ledger.specs.Heaps.{heap_of, or_fresh, held, held_in, words_at, words_sum, in_use}
 use Rattle.run_ledger.specs.Journals.{ledger_of, is_legal}
-use Rattle.run_ledger.specs.Report.{kept_from, kept}
+use Rattle.run_ledger.specs.Report.{kept}
 use Rattle.run_ledger.specs.Laws.{HoldsOnce}
 use Rattle.run_ledger.specs.Space.{AllFit}
+use Rattle.run_ledger.proofs.KeptNames.{kept_least, stored_most}
 use Rattle.run_ledger.proofs.Stocks.{names_are_held_once}
 use Rattle.run_ledger.proofs.Space.{heaps_fit, use_is_bounded}
 use Rattle.run_journal.specs.BookValue.{IsLegalLedger}
@@ -25,32 +21,11 @@ use Rattle.run_journal.specs.Kept.{IsCountable}
 
 -- COUNTS
 
--- names of stored objects are no more than the words of these
-stored_most : (m : State) (ns : List Name) → ((n : Name) → In ns n → IsStored m n) → length ns ≤ words_sum m ns
-stored_most m [] stored = omega arith
-stored_most m (n ∷ ns) stored =
-    let o = stored n (inl refl) in
-    let a : words_at m n ≡ 2 + length o.0.refs + length o.0.ints = ap words_of o.1 in
-    let b = sum_by-cons (words_at m) n ns in
-    let c = stored_most m ns (λ k i. stored k (inr i)) in
-    omega arith
-
 -- one heap holds no more names than all
 one_of_all : (heaps : List Heap) (t : ℕ) → length (held_in (or_fresh (slice_get heaps t))) ≤ length (flat_map held_in heaps)
 one_of_all [] t = omega arith
 one_of_all (h ∷ heaps) zero = let a = length-append (held_in h) (flat_map held_in heaps) in omega arith
 one_of_all (h ∷ heaps) (suc t) = let a = length-append (held_in h) (flat_map held_in heaps) in let b = one_of_all heaps t in omega arith
-
-module _ (g : List Name → ℕ) (add : (xs ys : List Name) → g (xs ++ ys) ≡ g xs + g ys) where
-  kept_least : (tasks : List Task) (heaps : List Heap) (t : ℕ) → g (kept_from tasks heaps t) ≤ g (flat_map held_in heaps)
-  kept_least tasks [] t = omega arith
-  kept_least tasks (h ∷ hs) t = by (is_running (slice_get tasks t)) (kept_least tasks hs (t + 1)) (add (held_in h) (flat_map held_in hs)) (add (held_in h) (kept_from tasks hs (t + 1)))
-    where
-      by : (b : Bool) → g (kept_from tasks hs (t + 1)) ≤ g (flat_map held_in hs) → g (held_in h ++ flat_map held_in hs) ≡ g (held_in h) + g (flat_map held_in hs)
-          → g (held_in h ++ kept_from tasks hs (t + 1)) ≡ g (held_in h) + g (kept_from tasks hs (t + 1))
-          → g (cond b (kept_from tasks hs (t + 1)) (held_in h ++ kept_from tasks hs (t + 1))) ≤ g (held_in h ++ flat_map held_in hs)
-      by true r a b = omega arith
-      by false r a b = omega arith
 
 -- the accounts of legal journals
 module _ (p : ProgramText) (s : SettingsValue) (A : AreLimits s) where

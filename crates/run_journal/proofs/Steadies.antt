@@ -23,7 +23,7 @@ use Rattle.run_ledger.proofs.Machine.{stepped_machine}
 use Rattle.run_ledger.proofs.Sound.{SoundLedger, names_of, collecting}
 use Rattle.run_ledger.proofs.Moves.{Moves}
 use Rattle.run_ledger.proofs.Steps.{SoundAt, heap_of_task, can_tells, task_step_sound}
-use Rattle.run_ledger.proofs.Weights.{weight, weight_additive, total, total_set, Additive, moves_total, collected_weight, swept_weight}
+use Rattle.run_ledger.proofs.Weights.{weight, weight_additive, total, total_set, moves_total, collected_weight, swept_weight}
 use Rattle.run_ledger.proofs.Stocks.{StockedLedger, G, L, with_heap_any, chunk_lighter, allocated_total, task_step_stocked, legal_stocked}
 use Rattle.run_ledger.proofs.Booked.{BookedLedger, task_steps_booked}
 use Rattle.run_ledger.proofs.Chunks.{heap_words}
@@ -31,16 +31,11 @@ use Rattle.run_ledger.proofs.Space.{legal_booked}
 use Rattle.run_ledger.proofs.Journals.{legal_sound, entry_tells, out_tells}
 use Rattle.run_ledger.proofs.Cuts.{after_cut, cut_legal}
 use Rattle.run_ledger.proofs.Bounds.{asked_bounds, stands_by, ran_tells, task_steps_steps, steps_are_bounded}
+use Rattle.run_ledger.proofs.Since.{since_additive, since_in}
 use Rattle.run_journal.specs.Book.{Steady, StaysSteady}
 use Rattle.run_journal.proofs.Stepped.{small_enough, placed_is}
 use Rattle.run_journal.proofs.Snaps.{one_each, Snaps, snaps_set, snaps_allocated, snaps_settled, sound_paired}
 use Rattle.run_journal.proofs.Uses.{one_of, step_used}
-
-abbrev since_in : Heap → ℕ
-since_in h = h.since
-
-since_additive : Additive since_in
-since_additive = record { let_go = λ h. refl; fresh = refl; forked = λ ns h. refl; merged = λ p l r. omega arith }
 
 -- the most words of one object, in the runs that legal journals have
 abbrev most : ℕ
@@ -55,10 +50,6 @@ record Light (l : Ledger) : Type 0 where
   store : store_words l.machine.store ≤ l.steps * most
 
 -- ONE STEP
-
-allocated_steps : (l : Ledger) (t : ℕ) (o : Option ℕ) → (allocated_by l t o).steps ≡ l.steps
-allocated_steps l t None = refl
-allocated_steps l t (Some w) = with_heap_any (λ k. k.steps ≡ l.steps) l t _ refl (λ h e. refl)
 
 module _ (p : ProgramText) (s : SettingsValue) (A : AreLimits s) (l : Ledger) (t : ℕ) (S : SoundAt t l) (I : StockedLedger l) (B : BookedLedger p s l) (X : Light l) (can : can_step l.machine t ≡ true)
     (fine : (is_due s p l t || is_in_need p l t) ≡ false) where

@@ -15,25 +15,14 @@ use Rattle.run_ledger.specs.declared.data.Heap.{Heap}
 use Rattle.run_ledger.specs.declared.data.Ledger.{Ledger}
 use Rattle.run_ledger.specs.Heaps.{heap_of, or_fresh, heap_at, fresh, with_heap, with_heap_at, held_in, in_use, placed, is_small, lacks_room, units, units_in, within, forked_heap}
 use Rattle.run_ledger.specs.Steps.{allocated_in, allocated_by, task_step, settled, moved_to, moved_on, at_fork, is_in_need, on_asked}
+use Rattle.run_ledger.proofs.Machine.{heap_machine}
 use Rattle.run_journal.proofs.Snaps.{settled_paired}
 use Rattle.ledger_heaps.specs.Accounts.{AreOwned}
 use Rattle.run_journal.specs.Book.{AccountsValue, Steady, ArePaired, Forks, next_large, used_by, used_after, went_on}
 
-with_machine : (l : Ledger) (t : ℕ) (f : Heap → Heap) (o : Option Heap) → (with_heap_at l t f o).machine ≡ l.machine
-with_machine l t f None = refl
-with_machine l t f (Some h) = refl
-
-with_steps : (l : Ledger) (t : ℕ) (f : Heap → Heap) (o : Option Heap) → (with_heap_at l t f o).steps ≡ l.steps
-with_steps l t f None = refl
-with_steps l t f (Some h) = refl
-
 pub allocated_machine : (l : Ledger) (t : ℕ) (o : Option ℕ) → (allocated_by l t o).machine ≡ l.machine
 allocated_machine l t None = refl
-allocated_machine l t (Some w) = with_machine l t _ (heap_at l t)
-
-pub allocated_steps : (l : Ledger) (t : ℕ) (o : Option ℕ) → (allocated_by l t o).steps ≡ l.steps
-allocated_steps l t None = refl
-allocated_steps l t (Some w) = with_steps l t _ (heap_at l t)
+allocated_machine l t (Some w) = heap_machine l t _
 
 -- the machine's step after an allocation
 abbrev pub advanced : ProgramText → Ledger → ℕ → Ledger

@@ -1,6 +1,5 @@
 -- The count of the chunks in use, as it is kept from entry to entry and from step to step.
-use Rattle.std.proofs.Common.{◌≡◌, ℕ, zero, suc, ◌+◌, ◌-◌, ◌<◌, ◌≤◌, ◌==◌, ◌||◌, not, Bool, true, false, cond, Option, Some, None, List, [], ◌∷◌, ◌++◌, length, slice_get, slice_set, sum_by, nat_lt, refl, ap, sym, subst, ◌∙◌, arith, length-append, map}
-use Rattle.std.specs.List.{flat_map}
+use Rattle.std.proofs.Common.{◌≡◌, ℕ, zero, suc, ◌+◌, ◌-◌, ◌≤◌, ◌==◌, ◌||◌, not, Bool, true, false, cond, Option, Some, None, List, [], ◌∷◌, ◌++◌, length, slice_get, slice_set, sum_by, nat_lt, refl, ap, sym, subst, ◌∙◌, arith, map}
 use Rattle.std.proofs.lemmas.Bool.{ltb-false}
 use Rattle.std.proofs.lemmas.List.Sums.{sum_by-append, sum_by-cons}
 use Rattle.listed.proofs.Members.{In, in_append_right}
@@ -12,15 +11,15 @@ use Rattle.hh_model.specs.Step.{step, can_step, asked}
 use Rattle.hh_model.proofs.Carried.{next_name}
 use Rattle.run_ledger.specs.declared.data.Heap.{Heap}
 use Rattle.run_ledger.specs.declared.data.Ledger.{Ledger}
-use Rattle.run_ledger.specs.Heaps.{units, is_small, words_of, words_at, units_sum, begun_in, units_in, fresh, heap_of, or_fresh, with_heap, with_heap_at, in_use, placed, put_last, small_in, lacks_room, collected, large_survivors, swept_heap, sweep_number, in_snapshot, without_empty}
+use Rattle.run_ledger.specs.Heaps.{units, is_small, words_of, words_at, units_sum, begun_in, units_in, fresh, heap_of, or_fresh, with_heap_at, in_use, placed, put_last, small_in, lacks_room, collected, large_survivors, swept_heap, sweep_number, in_snapshot, without_empty}
 use Rattle.run_ledger.specs.Steps.{allocated_by, allocated_in, stepped_to, task_step, is_due, is_in_need}
 use Rattle.run_ledger.proofs.Chunks.{sum_same}
 use Rattle.run_ledger.proofs.Machine.{stepped_machine}
 use Rattle.run_ledger.proofs.Sound.{names_of}
 use Rattle.run_ledger.proofs.Steps.{SoundAt, StepLeaves, heap_of_task, can_tells}
 use Rattle.run_ledger.proofs.Grown.{Grown}
-use Rattle.run_ledger.proofs.Weights.{total, total_set, Additive, moves_total}
-use Rattle.run_ledger.proofs.Stocks.{StockedLedger, G, L, with_heap_any}
+use Rattle.run_ledger.proofs.Weights.{total, total_set, moves_total}
+use Rattle.run_ledger.proofs.Stocks.{StockedLedger, G, L}
 use Rattle.run_ledger.proofs.Booked.{BookedLedger, put_length, total_same, units_additive}
 use Rattle.run_ledger.proofs.Bounds.{asked_bounds}
 use Rattle.ledger_heaps.proofs.Kept.{survivors_units, snapshot_units, fewer_chunks}
@@ -136,10 +135,6 @@ use_set l t h h' e = total_set (units_in l.machine) l.heaps t h h' e
 
 pub use_least : (l : Ledger) (t : ℕ) (h : Heap) → slice_get l.heaps t ≡ Some h → units_in l.machine h ≤ in_use l
 use_least l t h e = let a = one_of (units_in l.machine) l.heaps t refl in let b = ap (λ o. units_in l.machine (or_fresh o)) e in omega arith
-
--- and has as many chunks as before
-pub use_same : (l : Ledger) (t : ℕ) (f : Heap → Heap) → ((h : Heap) → units_in l.machine (f h) ≡ units_in l.machine h) → in_use (with_heap l t f) ≡ in_use l
-use_same l t f same = with_heap_any (λ q. in_use q ≡ in_use l) l t f refl (λ h e. let a = use_set l t h (f h) e in let b = same h in omega arith)
 
 -- a leaf collection ends
 pub use_collected : (l : Ledger) (t : ℕ) (h : Heap) → slice_get l.heaps t ≡ Some h → (given : ℕ)

@@ -12,8 +12,9 @@ use Rattle.run_ledger.specs.Entries.{after_kind, with_chunk, chunk_units}
 use Rattle.ledger_heaps.specs.declared.collection.Collected.{Collected}
 use Rattle.ledger_heaps.specs.Parts.{with_collected}
 use Rattle.run_ledger.proofs.Stocks.{with_heap_any}
+use Rattle.run_ledger.proofs.Use.{same_use}
 use Rattle.run_journal.specs.Book.{AccountsValue, Agrees, went_on, places_in}
-use Rattle.run_journal.proofs.Uses.{use_set, use_least, use_same, use_collected, use_swept}
+use Rattle.run_journal.proofs.Uses.{use_set, use_least, use_collected, use_swept}
 
 -- the chunks in use stay as they are
 same_went : (s new : AccountsValue) (l : Ledger) → Agrees s → in_use l ≡ in_use s.ledger → new ≡ record s { ledger = l } → new ≡ went_on s l
@@ -22,16 +23,16 @@ same_went s new l A same e = e ∙ ap (λ (u : ℕ). record s { ledger = l; used
 module _ (s new : AccountsValue) (w t : ℕ) (A : Agrees s) where
   pub went_took : (taken : List (Option ℕ)) → new ≡ record s { ledger = after_kind s.program s.limits s.ledger w (Took t); taken = taken } → new ≡ record (went_on s (after_kind s.program s.limits s.ledger w (Took t))) { taken = taken }
   went_took taken e =
-      e ∙ ap (λ (u : ℕ). record s { ledger = after_kind s.program s.limits s.ledger w (Took t); used = u; taken = taken }) (A.used ∙ sym (use_same s.ledger t _ (λ h. refl)))
+      e ∙ ap (λ (u : ℕ). record s { ledger = after_kind s.program s.limits s.ledger w (Took t); used = u; taken = taken }) (A.used ∙ sym (same_use s.ledger t _ (λ h. refl)))
 
   pub went_put_off : new ≡ record s { ledger = after_kind s.program s.limits s.ledger w (PutOff t) } → new ≡ went_on s (after_kind s.program s.limits s.ledger w (PutOff t))
-  went_put_off e = same_went s new _ A (use_same s.ledger t _ (λ h. refl)) e
+  went_put_off e = same_went s new _ A (same_use s.ledger t _ (λ h. refl)) e
 
   pub went_mark : new ≡ record s { ledger = after_kind s.program s.limits s.ledger w (Mark t) } → new ≡ went_on s (after_kind s.program s.limits s.ledger w (Mark t))
-  went_mark e = same_went s new _ A (use_same s.ledger t _ (λ h. refl)) e
+  went_mark e = same_went s new _ A (same_use s.ledger t _ (λ h. refl)) e
 
   pub went_more : (n : ℕ) → new ≡ record s { ledger = after_kind s.program s.limits s.ledger w (More t n) } → new ≡ went_on s (after_kind s.program s.limits s.ledger w (More t n))
-  went_more n e = same_went s new _ A (use_same s.ledger t _ (λ h. refl)) e
+  went_more n e = same_went s new _ A (same_use s.ledger t _ (λ h. refl)) e
 
 pub went_fuel : (s new : AccountsValue) (w : ℕ) → Agrees s → new ≡ record s { ledger = after_kind s.program s.limits s.ledger w Fuel } → new ≡ went_on s (after_kind s.program s.limits s.ledger w Fuel)
 went_fuel s new w A e = same_went s new _ A refl e

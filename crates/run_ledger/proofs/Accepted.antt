@@ -1,6 +1,7 @@
 -- An entry is accepted exactly where it finds what it asks.
 use Rattle.std.proofs.Common.{◌≡◌, ℕ, zero, suc, ◌+◌, ◌<◌, ◌≤◌, ◌==◌, ◌&&◌, not, min, Bool, true, false, cond, Option, Some, None, List, [], ◌∷◌, slice_get, nat_le, nat_lt, ◌⊎◌, inl, inr, refl, ap, sym, ◌∙◌, is_none, is_some, arith, eqb-true, eq-eqb, ne_eqb}
 use Rattle.std.proofs.lemmas.Bool.{false≢true, and_parts, and_from, eqb-false, leb-true, leb-false, le-leb, lt-leb, ltb-true, lt-ltb}
+use Rattle.listed.proofs.Options.{none_is, none_of, some_none}
 use Rattle.run_trace.specs.declared.entry.Kind.{Kind}
 use Rattle.run_trace.specs.declared.entry.Kind.TheVariants.{Took, Ran, Chunk, Begin, End as EndOf, PutOff, Mark, More, Sweep, Fuel}
 use Rattle.run_trace.specs.Settings.{SettingsValue}
@@ -13,15 +14,12 @@ use Rattle.run_ledger.specs.Heaps.{end_numbers, heap_of, in_use, left_in, take_o
 use Rattle.run_ledger.specs.Steps.{is_due, is_in_need, most_steps, standing}
 use Rattle.run_ledger.specs.Entries.{counted, held_from, is_fuel, is_held_by, is_out, is_pool_enough, is_ready, kind_refusal, long_at, on_due, on_running, on_waiting, refused_holding, refused_if, refused_unless}
 use Rattle.run_ledger.specs.Accepted.{Allows, AcceptedIsAllowed, IsAt, IsOut, IsUnswept}
-use Rattle.run_ledger.proofs.Cuts.{none_is}
 use Rattle.run_ledger.proofs.Frames.{held_is}
 use Rattle.run_ledger.proofs.Holders.{holding_none, worker_of}
 use Rattle.run_ledger.proofs.Steps.{worker_at}
+use Rattle.run_ledger.proofs.Fewer.{long_none}
 
 -- TESTS
-
-some_none : {A B : Type 0} {x : A} → ◌≡◌ {A = Option A} (Some x) None → B
-some_none e = absurd cc
 
 if_in : (b : Bool) (c : Refused) (rest : Option Refused) → refused_if b c rest ≡ None → (b ≡ false) × (rest ≡ None)
 if_in true c rest h = some_none h
@@ -37,11 +35,7 @@ if_of b c rest e h = ap (λ v. refused_if v c rest) e ∙ h
 unless_of : (b : Bool) (c : Refused) (rest : Option Refused) → b ≡ true → rest ≡ None → refused_unless b c rest ≡ None
 unless_of b c rest e h = ap (λ v. refused_unless v c rest) e ∙ h
 
-none_of : {A : Type 0} (o : Option A) → is_some o ≡ false → o ≡ None
-none_of None h = refl
-none_of (Some x) h = absurd (false≢true (sym h))
-
-is_held : (o : Option ℕ) (w : ℕ) → o ≡ Some w → is_held_by o w ≡ true
+pub is_held : (o : Option ℕ) (w : ℕ) → o ≡ Some w → is_held_by o w ≡ true
 is_held o w e = ap (λ q. is_held_by q w) e ∙ eq-eqb w w refl
 
 -- WHERE A WORKER IS
@@ -105,9 +99,6 @@ three a b c n ea eb ec = λ i. (ea i, eb i, ec i)
 long_in : (k m : ℕ) → long_at k m ≡ None → k ≤ m
 long_in k m h = leb-true k m (unless_in (nat_le k m) _ _ h).0
 
-long_of : (k m : ℕ) → k ≤ m → long_at k m ≡ None
-long_of k m le = unless_of (nat_le k m) _ None (le-leb k m le) refl
-
 -- EACH KIND
 
 module _ (p : ProgramText) (s : SettingsValue) (l : Ledger) (w : ℕ) where
@@ -167,7 +158,7 @@ module _ (p : ProgramText) (s : SettingsValue) (l : Ledger) (w : ℕ) where
   allowed : (kind : Kind) → Allows p s l w kind → kind_refusal p s l w kind ≡ None
   allowed (Took t) A =
       unless_of (is_ready l t) _ _ (and_from (is_running (slice_get l.machine.tasks t)) (is_none (heap_of l t).worker) A.0 (ap is_none A.1)) (free_out l w A.2)
-  allowed (Ran t k) A = let a = A.1 in let b = A.2 in at_of l w t _ A.0 (long_of k (min most_steps (standing s p l t k)) (omega arith))
+  allowed (Ran t k) A = let a = A.1 in let b = A.2 in at_of l w t _ A.0 (long_none k (min most_steps (standing s p l t k)) (omega arith))
   allowed (Chunk t) A = at_of l w t _ A.0 (if_of (is_due s p l t) _ _ A.1 (unless_of (is_in_need p l t) _ _ A.2 refl))
   allowed (Begin t) A = at_of l w t _ A.0 (unless_of (is_due s p l t) _ _ A.1 (unless_of (is_pool_enough s l t) _ _ (le-leb (in_use l + take_of l.machine (heap_of l t)) s.chunks A.2) refl))
   allowed (EndOf t x g n) A =

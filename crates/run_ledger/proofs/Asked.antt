@@ -13,7 +13,7 @@ use Rattle.hh_model.specs.Step.{asked_by, asked_line, fetched, is_running}
 use Rattle.hh_model.proofs.Next.{packs_are_few}
 use Rattle.run_ledger.specs.Space.{ProgramsAskFew}
 
-counts_few : (limit : ℕ) (a b : ℤ) (w : ℕ) → words_for (counts_in limit a b) ≡ Some w → w ≤ limit + 34
+pub counts_few : (limit : ℕ) (a b : ℤ) (w : ℕ) → words_for (counts_in limit a b) ≡ Some w → w ≤ limit + 34
 counts_few limit (pos a) (pos b) w e = by (nat_le (a + b) limit) refl e
   where
     by : (v : Bool) → nat_le (a + b) limit ≡ v → words_for (cond v (Some (a, b)) None) ≡ Some w → w ≤ limit + 34

@@ -11,16 +11,19 @@ use Rattle.run_ledger.proofs.Held.{laid_flat, collected_down, collected_up, swep
 
 -- BIRTH
 
-abbrev Born : Name → Name → Type 0
+abbrev pub Born : Name → Name → Type 0
 Born a b = (a.task < b.task) ⊎ ((a.task ≡ b.task) × (a.count ≤ b.count))
 
-born_is : (a b : Name) → name_le a b ≡ true → Born a b
+pub same_name : (a b : Name) → a.task ≡ b.task → a.count ≡ b.count → a ≡ b
+same_name a b e k = λ i. record { task = e i; count = k i }
+
+pub born_is : (a b : Name) → name_le a b ≡ true → Born a b
 born_is a b h = elim (or_cases (nat_lt a.task b.task) ((a.task == b.task) && nat_le a.count b.count) h) [
   | inl l ↦ inl (ltb-true a.task b.task l)
   | inr e ↦ let q = and_parts (a.task == b.task) (nat_le a.count b.count) e in inr (eqb-true a.task b.task q.0, leb-true a.count b.count q.1)
 ]
 
-born_from : (a b : Name) → Born a b → name_le a b ≡ true
+pub born_from : (a b : Name) → Born a b → name_le a b ≡ true
 born_from a b (inl l) = or_left (nat_lt a.task b.task) ((a.task == b.task) && nat_le a.count b.count) (lt-ltb a.task b.task l)
 born_from a b (inr e) =
     or_right (nat_lt a.task b.task) ((a.task == b.task) && nat_le a.count b.count)
@@ -37,7 +40,7 @@ born_either a b = elim (cases_lt a.task b.task) [
   ]
 ]
 
-born_on : (a b c : Name) → Born a b → Born b c → Born a c
+pub born_on : (a b c : Name) → Born a b → Born b c → Born a c
 born_on a b c (inl x) (inl y) = inl (omega arith)
 born_on a b c (inl x) (inr y) = inl (let e : b.task ≡ c.task = y.0 in omega arith)
 born_on a b c (inr x) (inl y) = inl (let e : a.task ≡ b.task = x.0 in omega arith)

@@ -30,7 +30,7 @@ kind_steps p s l w (More t n) = heap_steps l t _ ∙ omega arith
 kind_steps p s l w (Sweep t g) = heap_steps l t _ ∙ omega arith
 kind_steps p s l w Fuel = omega arith
 
-all_steps : (p : ProgramText) (s : SettingsValue) (journal : List EntryValue) (l : Ledger) → (after_all p s l journal).steps ≡ l.steps + length (tasks_of journal)
+pub all_steps : (p : ProgramText) (s : SettingsValue) (journal : List EntryValue) (l : Ledger) → (after_all p s l journal).steps ≡ l.steps + length (tasks_of journal)
 all_steps p s [] l = omega arith
 all_steps p s (e ∷ es) l =
     let a = all_steps p s es (after p s l e) in

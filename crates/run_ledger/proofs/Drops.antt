@@ -1,5 +1,5 @@
 -- What is held is what was allocated and wasn't dropped.
-use Rattle.std.proofs.Common.{◌≡◌, ℕ, zero, suc, ◌+◌, ◌≤◌, Bool, true, false, cond, Option, Some, None, List, [], ◌∷◌, ◌++◌, slice_get, slice_set, nat_lt, Contains, ◌⊎◌, inl, inr, refl, sym, subst, ◌∙◌, arith, is_some, is_none}
+use Rattle.std.proofs.Common.{◌≡◌, ℕ, zero, suc, ◌+◌, ◌≤◌, Bool, true, false, cond, Option, Some, None, List, [], ◌∷◌, slice_get, slice_set, nat_lt, Contains, ◌⊎◌, inl, inr, refl, sym, subst, ◌∙◌, arith, is_some, is_none}
 use Rattle.std.proofs.lemmas.Bool.{false≢true, both_ways, cases_eq, and_parts}
 use Rattle.listed.proofs.Members.{In, in_from_contains, contains_from_in, got_same, got_other}
 use Rattle.run_trace.specs.declared.entry.Kind.{Kind}
@@ -18,7 +18,7 @@ use Rattle.run_ledger.specs.declared.data.Heap.{Heap}
 use Rattle.run_ledger.specs.declared.data.Ledger.{Ledger}
 use Rattle.run_ledger.specs.declared.data.RunEnd.TheVariants.{Pool}
 use Rattle.run_ledger.specs.Reachable.{is_name, holds_name}
-use Rattle.run_ledger.specs.Heaps.{held_in, held, heap_at, heap_of, or_fresh, with_heap, with_heap_at, chunk_words, is_small, in_use, collected, swept_heap}
+use Rattle.run_ledger.specs.Heaps.{held_in, held, heap_at, heap_of, or_fresh, with_heap, with_heap_at, is_small, in_use, collected, swept_heap}
 use Rattle.run_ledger.specs.Steps.{allocated_by, allocated_in, stepped_to, task_step, task_steps, on_asked}
 use Rattle.run_ledger.specs.Entries.{refusal, kind_refusal, after_kind, after, chunk_units, with_chunk}
 use Rattle.run_ledger.specs.Journals.{opening, after_all, ledger_of, is_legal_from}
@@ -29,9 +29,10 @@ use Rattle.run_ledger.proofs.Held.{collected_down, collected_up, swept_down, swe
 use Rattle.run_ledger.proofs.Sound.{Keeps, InHeaps, names_of, SoundLedger, held_keeps, in_held}
 use Rattle.run_ledger.proofs.Steps.{SoundAt, heap_of_task, can_tells, task_step_sound}
 use Rattle.run_ledger.proofs.Grown.{Grown, next_unstored}
-use Rattle.run_ledger.proofs.Weights.{weight, total_set, chunk_weight}
+use Rattle.run_ledger.proofs.Weights.{weight, total_set}
 use Rattle.run_ledger.proofs.Stocks.{copies, copies_keeps, keeps_copies, hit, hit_itself, StockedLedger, with_heap_any, allocated_total, G, same_copies, task_step_stocked, kind_stocked, legal_stocked, opening_stocked}
 use Rattle.run_ledger.proofs.Journals.{out_tells, entry_tells, entry_sound, opening_sound}
+use Rattle.run_ledger.proofs.Words.{chunk_even}
 
 -- from one state and its heaps to the next: of what was held all but the dropped is still held, and nothing else is but
 -- what is new; and all that is new is held
@@ -192,10 +193,6 @@ cut_any l t f names S I dn up = by (heap_at l t) refl
     by : (o : Option Heap) → heap_at l t ≡ o → Flows (Lost l t (names (or_fresh o))) l (with_heap_at l t f o)
     by None e = none_lost l t (names (or_fresh None)) S e
     by (Some h) e = cut_flows l t h (f h) (names h) S I e (dn h) (up h)
-
-chunk_even : (next : Option ℕ) (h : Heap) (g : Name → ℕ) (b : Bool) → weight g (cond b (record h { chunks = h.chunks ++ [] ∷ []; room = chunk_words }) (record h { reserved = chunk_units next })) ≡ weight g h
-chunk_even next h g true = chunk_weight g h chunk_words
-chunk_even next h g false = refl
 
 chunk_flows : (l : Ledger) (t : ℕ) (next : Option ℕ) (full : Bool) (end : Ledger) → Flows Nothing l end → Flows Nothing l (cond full end (with_heap l t (with_chunk next)))
 chunk_flows l t next true end E = E

@@ -3,6 +3,8 @@ use Rattle.std.proofs.Common.{◌≡◌, ℕ, zero, suc, pos, ◌+◌, ◌<◌, 
 use Rattle.std.proofs.lemmas.Bool.{false≢true, leb-false}
 use Rattle.std.proofs.lemmas.Option.{same_Some}
 use Rattle.listed.proofs.Members.{got_within}
+use Rattle.listed.proofs.Places.{got_some}
+use Rattle.listed.proofs.Options.{none_some}
 use Rattle.hh_lang.specs.declared.instr.Instr.{Instr}
 use Rattle.hh_lang.specs.declared.instr.Instr.TheVariants.{Set, Mov, Movr, Nil as NilOf, Calc, Same, Jmp, Jz, Newm, Pack, Getr, Geti, Putr, Puti, Cntr, Cnti, Freeze, Cas, Call, Par, Ret, Out}
 use Rattle.hh_lang.specs.declared.program.Line.{Line}
@@ -17,7 +19,6 @@ use Rattle.hh_model.specs.Names.{words_asked, words_for}
 use Rattle.hh_model.specs.Step.{setting, fetched, step, follow, can_step, is_running, asked, asked_line}
 use Rattle.hh_model.proofs.Carried.{next_name}
 use Rattle.hh_model.proofs.Closed.{asked_at}
-use Rattle.hh_model.proofs.Lists.{got_some}
 use Rattle.hh_model.proofs.Stored.{made_here}
 use Rattle.hh_model.proofs.Taken.{can_runs, step_taken}
 use Rattle.run_ledger.specs.Heaps.{chunk_words, is_small, words_of, words_at}
@@ -33,9 +34,6 @@ MakesJust s f store w e = (d : ℕ) × (o : Object) × (e ≡ made s f store d o
 length_same : {A : Type 0} (k : ℕ) (x : A) → length (replicate k x) ≡ k
 length_same zero x = refl
 length_same (suc k) x = ap suc (length_same k x)
-
-none_some : {A : Type 0} {w : ℕ} → ◌≡◌ {A = Option ℕ} None (Some w) → A
-none_some e = absurd cc
 
 newm_just : (s : Setting) (f : Frame) (store : List (List Object)) (d : ℕ) (o : Option (ℕ × ℕ)) (w : ℕ) → words_for o ≡ Some w
     → MakesJust s f store w (or_trap Size o (λ n. made s f store d (record { strand = s.strand; mutable = true; refs = replicate n.0 None; ints = replicate n.1 (pos 0) })))

@@ -1,6 +1,7 @@
 -- An entry of fewer steps isn't refused where one of more isn't.
 use Rattle.std.proofs.Common.{◌≡◌, ℕ, zero, suc, ◌≤◌, ◌&&◌, ◌||◌, not, min, Bool, true, false, cond, Option, None, nat_le, nat_lt, ap, sym, ◌∙◌, is_some, is_none, arith}
 use Rattle.std.proofs.lemmas.Bool.{le-leb}
+use Rattle.listed.proofs.Options.{none_is}
 use Rattle.run_trace.specs.declared.entry.Kind.TheVariants.{Ran}
 use Rattle.run_trace.specs.Settings.{SettingsValue}
 use Rattle.hh_lang.specs.Form.{ProgramText}
@@ -12,7 +13,6 @@ use Rattle.run_ledger.specs.Steps.{task_step, is_due, is_in_need, is_private, mo
 use Rattle.run_ledger.specs.Entries.{refused_if, refused_unless, is_out, long_at}
 use Rattle.run_ledger.specs.Cuts.{FewerStepsAreLegal}
 use Rattle.run_ledger.proofs.Bounds.{ran_tells}
-use Rattle.run_ledger.proofs.Cuts.{none_is}
 use Rattle.run_ledger.proofs.Journals.{entry_tells, out_tells}
 
 fewer_by : (j k : ℕ) (a b : Bool) (rest rest' : ℕ) → j ≤ k → (j ≤ k → k ≤ rest → j ≤ rest') → suc k ≤ cond a 0 (cond b (suc rest) 1) → suc j ≤ cond a 0 (cond b (suc rest') 1)
@@ -27,7 +27,7 @@ fewer_stand s p t (suc j) (suc k) l le h =
     fewer_by j k (is_due s p l t || is_in_need p l t) (is_private p l.machine t) (standing s p (task_step p l t) t k) (standing s p (task_step p l t) t j) (omega arith)
     (λ q r. fewer_stand s p t j k (task_step p l t) q r) h
 
-long_none : (k m : ℕ) → k ≤ m → long_at k m ≡ None
+pub long_none : (k m : ℕ) → k ≤ m → long_at k m ≡ None
 long_none k m le = ap (λ b. refused_unless b (Long m) None) (le-leb k m le)
 
 pub fewer_steps_are_legal : FewerStepsAreLegal

@@ -33,7 +33,7 @@ use Rattle.run_ledger.proofs.Steps.{can_tells, heap_of_task}
 
 -- WHAT IS REACHED, in stores with the same references
 
-abbrev once_by : (Name → List Name) → List Name → List Name → List Name
+abbrev pub once_by : (Name → List Name) → List Name → List Name → List Name
 once_by refs names found = filter (λ n. holds_name found n || list_any (λ m. holds_name (refs m) n) found) names
 
 reached_same : (store store' : List (List Object)) → refs_at store' ≡ refs_at store → (names roots : List Name) (k : ℕ) → reached_by store' names roots k ≡ reached_by store names roots k

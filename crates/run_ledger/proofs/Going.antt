@@ -36,14 +36,14 @@ settled_none l t None h = refl
 stepped_goes : (l : Ledger) (t : ℕ) (m : State) → Goes (stepped_to l t m)
 stepped_goes l t m h = ap (λ (z : State). z.end) (stepped_machine l t m) ∙ settled_none (record l { machine = m; steps = l.steps + 1 }) t m.end h
 
-step_goes : (p : ProgramText) (l : Ledger) (t : ℕ) → Goes l → Goes (task_step p l t)
+pub step_goes : (p : ProgramText) (l : Ledger) (t : ℕ) → Goes l → Goes (task_step p l t)
 step_goes p l t g = by (can_step l.machine t)
   where
     by : (c : Bool) → Goes (cond c (stepped_to (allocated_in p l t) t (step p l.machine t)) (record l { steps = l.steps + 1 }))
     by true = stepped_goes (allocated_in p l t) t (step p l.machine t)
     by false = g
 
-steps_go : (p : ProgramText) (k : ℕ) (l : Ledger) (t : ℕ) → Goes l → Goes (task_steps p l t k)
+pub steps_go : (p : ProgramText) (k : ℕ) (l : Ledger) (t : ℕ) → Goes l → Goes (task_steps p l t k)
 steps_go p zero l t g = g
 steps_go p (suc k) l t g = steps_go p k (task_step p l t) t (step_goes p l t g)
 

@@ -5,6 +5,7 @@ use Rattle.std.proofs.Common.{◌≡◌, ℕ, ℤ, zero, suc, pos, ◌+◌, ◌-
 use Rattle.std.proofs.lemmas.Bool.{false≢true}
 use Rattle.std.proofs.lemmas.Option.{same_Some}
 use Rattle.listed.proofs.Members.{got_within}
+use Rattle.listed.proofs.Places.{got_some}
 use Rattle.hh_lang.specs.declared.instr.Instr.{Instr}
 use Rattle.hh_lang.specs.declared.instr.Instr.TheVariants.{Set, Mov, Movr, Nil as NilOf, Calc, Same, Jmp, Jz, Newm, Pack, Getr, Geti, Putr, Puti, Cntr, Cnti, Freeze, Cas, Call, Par, Ret, Out}
 use Rattle.hh_lang.specs.declared.program.Line.{Line}
@@ -26,7 +27,6 @@ use Rattle.hh_model.proofs.Stores.{put_cases, made_cases, in_row}
 use Rattle.hh_model.proofs.Carried.{next_name}
 use Rattle.hh_model.proofs.Kept.{Kept, empty_rows}
 use Rattle.hh_model.proofs.Closed.{asked_at}
-use Rattle.hh_model.proofs.Lists.{got_some}
 use Rattle.hh_model.proofs.Objects.{object_later}
 use Rattle.hh_model.proofs.Stored.{made_here}
 use Rattle.hh_model.proofs.Taken.{can_runs, step_taken, step_none}

@@ -140,7 +140,7 @@ into_by n m ms x rest true (inr i) = inr i
 into_by n m ms x rest false (inl e) = inr (rest (inl e))
 into_by n m ms x rest false (inr i) = elim i [ inl e ↦ inl e | inr j ↦ inr (rest (inr j)) ]
 
-in_insert : (n : Name) (ms : List Name) (x : Name) → (n ≡ x) ⊎ In ms x → In (insert_name n ms) x
+pub in_insert : (n : Name) (ms : List Name) (x : Name) → (n ≡ x) ⊎ In ms x → In (insert_name n ms) x
 in_insert n [] x (inl e) = inl e
 in_insert n [] x (inr i) = absurd i
 in_insert n (m ∷ ms) x i = into_by n m ms x (in_insert n ms x) (name_le n m) i
@@ -149,7 +149,7 @@ pub birth_cases : (ns : List Name) (x : Name) → In (by_birth ns) x → In ns x
 birth_cases [] x i = i
 birth_cases (n ∷ ns) x i = elim (insert_cases n (by_birth ns) x i) [ inl e ↦ inl e | inr j ↦ inr (birth_cases ns x j) ]
 
-in_birth : (ns : List Name) (x : Name) → In ns x → In (by_birth ns) x
+pub in_birth : (ns : List Name) (x : Name) → In ns x → In (by_birth ns) x
 in_birth [] x i = i
 in_birth (n ∷ ns) x (inl e) = in_insert n (by_birth ns) x (inl e)
 in_birth (n ∷ ns) x (inr i) = in_insert n (by_birth ns) x (inr (in_birth ns x i))

@@ -10,12 +10,11 @@ use Rattle.run_trace.specs.Settings.{SettingsValue}
 use Rattle.hh_lang.specs.Form.{ProgramText}
 use Rattle.hh_model.specs.declared.data.Name.{Name}
 use Rattle.hh_model.specs.declared.data.Object.{Object}
-use Rattle.hh_model.specs.declared.data.Task.{Task}
 use Rattle.hh_model.specs.declared.data.State.{State}
-use Rattle.hh_model.specs.Step.{asked, can_step, is_running, is_waiting, step, waits}
+use Rattle.hh_model.specs.Step.{asked, can_step, is_running, step}
 use Rattle.hh_model.specs.Tree.{waiting}
 use Rattle.hh_model.proofs.Closed.{waits_is}
-use Rattle.hh_model.proofs.Leaves.{waits_alone}
+use Rattle.hh_model.proofs.Leaves.{wait_task, waits_alone}
 use Rattle.run_ledger.specs.declared.data.Heap.{Heap}
 use Rattle.run_ledger.specs.declared.data.Ledger.{Ledger}
 use Rattle.run_ledger.specs.declared.data.RunEnd.TheVariants.{Pool}
@@ -29,19 +28,19 @@ use Rattle.run_ledger.proofs.Booked.{wait_run}
 use Rattle.run_ledger.proofs.Cuts.{after_cut, cut_legal}
 use Rattle.run_ledger.proofs.Frames.{left_step}
 use Rattle.run_ledger.proofs.Held.{chunk_up, swept_up}
-use Rattle.run_ledger.proofs.Journals.{entry_sound, entry_tells, none_unless, opening_sound, out_runs, out_tells}
+use Rattle.run_ledger.proofs.Journals.{collecting_is, entry_sound, entry_tells, none_unless, opening_sound, out_runs, out_tells}
 use Rattle.run_ledger.proofs.Machine.{stepped_machine}
 use Rattle.run_ledger.proofs.Moves.{moves_each}
 use Rattle.run_ledger.proofs.OfNames.{flat_fresh, flat_set, held_fresh, held_set, within_same}
 use Rattle.run_ledger.proofs.Sound.{SoundLedger, collecting}
-use Rattle.run_ledger.proofs.Steps.{SoundAt, heap_of_task, step_leaves, task_step_sound, can_tells}
+use Rattle.run_ledger.proofs.Steps.{SoundAt, heap_of_task, step_leaves, task_step_sound, can_tells, task_steps_sound}
 use Rattle.run_ledger.proofs.Stocks.{copies, distinct, hit, legal_stocked, with_heap_any}
 use Rattle.run_ledger.proofs.Weights.{kept_weight, weight}
 
 -- ONE HEAP OF A LEDGER
 
 -- what of a heap a change keeps
-heap_view : {A : Type 0} (view : Heap → A) (l : Ledger) (u : ℕ) (f : Heap → Heap) → ((h : Heap) → view (f h) ≡ view h) → (t : ℕ) → view (heap_of (with_heap l u f) t) ≡ view (heap_of l t)
+pub heap_view : {A : Type 0} (view : Heap → A) (l : Ledger) (u : ℕ) (f : Heap → Heap) → ((h : Heap) → view (f h) ≡ view h) → (t : ℕ) → view (heap_of (with_heap l u f) t) ≡ view (heap_of l t)
 heap_view view l u f same t = with_heap_any (λ k. view (heap_of k t) ≡ view (heap_of l t)) l u f refl (λ h e. elim (cases_eq t u) [
   | inl q ↦
       ap (λ v. view (or_fresh (slice_get (slice_set l.heaps u (f h)) v))) q
@@ -49,7 +48,7 @@ heap_view view l u f same t = with_heap_any (λ k. view (heap_of k t) ≡ view (
   | inr ne ↦ ap (λ o. view (or_fresh o)) (got_other l.heaps u t (f h) ne)
 ])
 
-heap_off : (l : Ledger) (u : ℕ) (f : Heap → Heap) (t : ℕ) → (t ≡ u → ⊥) → heap_of (with_heap l u f) t ≡ heap_of l t
+pub heap_off : (l : Ledger) (u : ℕ) (f : Heap → Heap) (t : ℕ) → (t ≡ u → ⊥) → heap_of (with_heap l u f) t ≡ heap_of l t
 heap_off l u f t ne = with_heap_any (λ k. heap_of k t ≡ heap_of l t) l u f refl (λ h e. ap or_fresh (got_other l.heaps u t (f h) ne))
 
 heap_here : (l : Ledger) (t : ℕ) (f : Heap → Heap) → (heap_of (with_heap l t f) t ≡ f (heap_of l t)) ⊎ (heap_of (with_heap l t f) t ≡ fresh)
@@ -58,10 +57,6 @@ heap_here l t f = by (heap_at l t) refl
     by : (o : Option Heap) → heap_at l t ≡ o → (heap_of (with_heap_at l t f o) t ≡ f (heap_of l t)) ⊎ (heap_of (with_heap_at l t f o) t ≡ fresh)
     by None e = inr (ap or_fresh e)
     by (Some h) e = inl (ap or_fresh (got_same l.heaps t h (f h) e) ∙ ap (λ o. f (or_fresh o)) (sym e))
-
-collecting_is : (o : Option Heap) → is_some (or_fresh o).begun ≡ collecting o
-collecting_is None = refl
-collecting_is (Some h) = refl
 
 no_begun : {A : Type 0} (h : Heap) → h ≡ fresh → is_some h.begun ≡ true → A
 no_begun h e c = absurd (false≢true (ap (λ (g : Heap). is_some g.begun) (sym e) ∙ c))
@@ -156,15 +151,11 @@ module _ (p : ProgramText) (t u : ℕ) (ne : t ≡ u → ⊥) where
   on_steps (suc k) l S c =
       on_both t l (task_step p l u) (task_steps p (task_step p l u) u k) (on_step_by l S (is_running (slice_get l.machine.tasks t)) refl) (on_steps k (task_step p l u) (task_step_sound p l u S)) c
 
-steps_at : (p : ProgramText) (k : ℕ) (l : Ledger) (t : ℕ) → SoundAt t l → SoundAt t (task_steps p l t k)
-steps_at p zero l t S = S
-steps_at p (suc k) l t S = steps_at p k (task_step p l t) t (task_step_sound p l t S)
-
 on_kind : (p : ProgramText) (s : SettingsValue) (l : Ledger) (t w : ℕ) (kind : Kind) → SoundLedger l → is_none (kind_refusal p s l w kind) ≡ true → begins t kind ≡ false → GoesOn t l (after_kind p s l w kind)
 on_kind p s l t w (Took u) S h off = on_view t u l _ (λ g. refl) (λ g. refl)
 on_kind p s l t w (Ran u k) S h off = elim (cases_eq t u) [
   | inl e ↦ λ c.
-      let A = (steps_at p k l u (S, (out_tells l w u _ h).1)).1 in
+      let A = (task_steps_sound p k l u (S, (out_tells l w u _ h).1)).1 in
       absurd (false≢true (sym A ∙ (sym (collecting_is (slice_get (task_steps p l u k).heaps u)) ∙ (ap (λ v. is_some (heap_of (task_steps p l u k) v).begun) (sym e) ∙ c))))
   | inr ne ↦ on_steps p t u ne k l (S, (out_tells l w u _ h).1)
 ]
@@ -302,10 +293,6 @@ module _ (c : Ledger) (t : ℕ) (h : Heap) (is : slice_get c.heaps t ≡ Some h)
 alloc_heap : (l : Ledger) (t : ℕ) (h : Heap) (o : Option ℕ) → slice_get l.heaps t ≡ Some h → (g : Heap) × (slice_get (allocated_by l t o).heaps t ≡ Some g)
 alloc_heap l t h None is = (h, is)
 alloc_heap l t h (Some w) is = (_, ap (λ (k : Ledger). slice_get k.heaps t) (ap (with_heap_at l t _) is) ∙ got_same l.heaps t h _ is)
-
-wait_task : (o : Option Task) → is_waiting o ≡ true → (x : Task) × (o ≡ Some x) × (waits x.status ≡ true)
-wait_task None h = absurd (false≢true h)
-wait_task (Some x) h = (x, refl, h)
 
 -- a step after which the task waits is a fork
 pub forks_at : (p : ProgramText) (l b : Ledger) (t : ℕ) → SoundAt t l → can_step l.machine t ≡ true → waiting (step p l.machine t).tasks t ≡ true

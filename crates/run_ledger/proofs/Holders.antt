@@ -2,6 +2,7 @@
 use Rattle.std.proofs.Common.{◌≡◌, ℕ, zero, suc, ◌+◌, ◌-◌, Bool, true, false, cond, Option, Some, None, List, [], ◌∷◌, ◌++◌, slice_get, slice_set, nat_lt, inl, inr, refl, ap, sym, subst, ◌∙◌, is_some, is_none, eq-eqb}
 use Rattle.std.proofs.lemmas.Bool.{false≢true, both_ways, cases_eq, and_parts}
 use Rattle.listed.proofs.Members.{got_same, got_other}
+use Rattle.listed.proofs.Options.{none_some}
 use Rattle.run_trace.specs.declared.entry.Kind.{Kind}
 use Rattle.run_trace.specs.declared.entry.Kind.TheVariants.{Took, Ran, Chunk, Begin, End as EndOf, PutOff, Mark, More, Sweep, Fuel}
 use Rattle.run_trace.specs.Entry.{EntryValue}
@@ -30,28 +31,28 @@ use Rattle.run_ledger.proofs.Moves.{moves_each}
 use Rattle.run_ledger.proofs.Steps.{SoundAt, StepLeaves, step_leaves, heap_of_task, can_tells, task_step_sound, worker_at}
 use Rattle.run_ledger.proofs.Booked.{step_others}
 use Rattle.run_ledger.proofs.Stocks.{with_heap_any}
-use Rattle.run_ledger.proofs.Journals.{none_unless, out_tells, entry_tells, entry_sound, opening_sound, legal_sound}
+use Rattle.run_ledger.proofs.Journals.{none_unless, out_tells, entry_tells, entry_sound, opening_sound, legal_sound, fresh_idle}
 
 -- THE END OF THE LEDGER
 
-heap_at_end : (l : Ledger) (t : ℕ) (f : Heap → Heap) (o : Option Heap) → (with_heap_at l t f o).end ≡ l.end
+pub heap_at_end : (l : Ledger) (t : ℕ) (f : Heap → Heap) (o : Option Heap) → (with_heap_at l t f o).end ≡ l.end
 heap_at_end l t f None = refl
 heap_at_end l t f (Some h) = refl
 
-heap_end : (l : Ledger) (t : ℕ) (f : Heap → Heap) → (with_heap l t f).end ≡ l.end
+pub heap_end : (l : Ledger) (t : ℕ) (f : Heap → Heap) → (with_heap l t f).end ≡ l.end
 heap_end l t f = heap_at_end l t f (heap_at l t)
 
-join_end : (l : Ledger) (p c : ℕ) → (join_heaps l p c).end ≡ l.end
+pub join_end : (l : Ledger) (p c : ℕ) → (join_heaps l p c).end ≡ l.end
 join_end l p c = heap_end _ (c + 1) emptied ∙ (heap_end _ c emptied ∙ heap_end l p _)
 
-moved_on_end : (l : Ledger) (t : ℕ) (parent : Option ℕ) (s : Status) → (moved_on l t parent s).end ≡ l.end
+pub moved_on_end : (l : Ledger) (t : ℕ) (parent : Option ℕ) (s : Status) → (moved_on l t parent s).end ≡ l.end
 moved_on_end l t parent Running = refl
 moved_on_end l t parent Waiting = heap_end (record l { heaps = l.heaps ++ fresh ∷ fresh ∷ [] }) t (forked_heap (within l t))
 moved_on_end l t parent (Ended k n) = heap_end l t let_go
 moved_on_end l t None Joined = refl
 moved_on_end l t (Some p) Joined = join_end l p (cond (is_left t) t _)
 
-moved_to_end : (l : Ledger) (t : ℕ) (o : Option Task) → (moved_to l t o).end ≡ l.end
+pub moved_to_end : (l : Ledger) (t : ℕ) (o : Option Task) → (moved_to l t o).end ≡ l.end
 moved_to_end l t None = refl
 moved_to_end l t (Some x) = moved_on_end l t x.parent x.status
 
@@ -59,7 +60,7 @@ settled_end : (l : Ledger) (t : ℕ) (o : Option End) → (settled l t o).end �
 settled_end l t (Some e) h = absurd cc
 settled_end l t None h = (refl, sym (moved_to_end l t (slice_get l.machine.tasks t)) ∙ h)
 
-allocated_end : (l : Ledger) (t : ℕ) (o : Option ℕ) → (allocated_by l t o).end ≡ l.end
+pub allocated_end : (l : Ledger) (t : ℕ) (o : Option ℕ) → (allocated_by l t o).end ≡ l.end
 allocated_end l t None = refl
 allocated_end l t (Some w) = heap_end l t _
 
@@ -72,9 +73,6 @@ pub record Manned (m : State) (end : Option RunEnd) (heaps : List Heap) : Type 0
 
 abbrev pub MannedLedger : Ledger → Type 0
 MannedLedger l = Manned l.machine l.end l.heaps
-
-none_held : {A : Type 0} {w : ℕ} → ◌≡◌ {A = Option ℕ} None (Some w) → A
-none_held q = absurd cc
 
 -- a heap's account changes, and its worker and its begun collection don't
 same_manned : (l : Ledger) (t : ℕ) (f : Heap → Heap) → ((h : Heap) → (f h).worker ≡ h.worker) → ((h : Heap) → slice_get l.heaps t ≡ Some h → is_some (f h).begun ≡ true → is_some h.worker ≡ true) → MannedLedger l → MannedLedger (with_heap l t f)
@@ -145,14 +143,14 @@ module _ (p : ProgramText) (l : Ledger) (t : ℕ) (S : SoundAt t l) (I : MannedL
 
   was_k : (u : ℕ) (h : Heap) → slice_get k.heaps u ≡ Some h → Was u h
   was_k =
-      moves_each Was t l.machine.tasks b.heaps k.heaps leaves.2 (λ u h e w q. ap worker_at e ∙ q) (λ h q w e. none_held e) (λ u w e. none_held e) (λ ns h q w e. none_held e)
-      (λ u h x y v z is wait none q qx qy w e. ap worker_at is ∙ e) (λ u h none q w e. none_held e)
+      moves_each Was t l.machine.tasks b.heaps k.heaps leaves.2 (λ u h e w q. ap worker_at e ∙ q) (λ h q w e. none_some e) (λ u w e. none_some e) (λ ns h q w e. none_some e)
+      (λ u h x y v z is wait none q qx qy w e. ap worker_at is ∙ e) (λ u h none q w e. none_some e)
 
   was : (u w : ℕ) → worker_at (slice_get k.heaps u) ≡ Some w → worker_at (slice_get l.heaps u) ≡ Some w
   was u w q = sym (worker_b (asked p l.machine t) u) ∙ by (slice_get k.heaps u) refl q
     where
       by : (o : Option Heap) → slice_get k.heaps u ≡ o → worker_at o ≡ Some w → worker_at (slice_get b.heaps u) ≡ Some w
-      by None e r = none_held r
+      by None e r = none_some r
       by (Some h) e r = was_k u h e w r
 
   -- a leaf collection goes on in a task that was held before
@@ -178,7 +176,7 @@ module _ (p : ProgramText) (l : Ledger) (t : ℕ) (S : SoundAt t l) (I : MannedL
       | inl over ↦ absurd (false≢true (sym (ap is_some (ap (λ (m : State). m.end) machine_is ∙ ends.0)) ∙ over))
       | inr more ↦ elim more [
         | inl r ↦ ap (λ v. is_running (slice_get k.machine.tasks v)) e ∙ r
-        | inr none ↦ none_held (sym none ∙ (ap (λ v. worker_at (slice_get k.heaps v)) (sym e) ∙ q))
+        | inr none ↦ none_some (sym none ∙ (ap (λ v. worker_at (slice_get k.heaps v)) (sym e) ∙ q))
       ]
     ]
     | inr ne ↦
@@ -218,7 +216,7 @@ task_steps_manned p (suc k) l t S I = task_steps_manned p k (task_step p l t) t 
 
 -- who isn't found holding a task holds none
 pub holding_none : (w t : ℕ) (heaps : List Heap) → held_from w t heaps ≡ None → (u : ℕ) → worker_at (slice_get heaps u) ≡ Some w → ⊥
-holding_none w t [] h u q = none_held q
+holding_none w t [] h u q = none_some q
 holding_none w t (g ∷ heaps) h u q = by (is_held_by g.worker w) refl h (λ v free r. holding_none w (t + 1) heaps free v r) u q
   where
     held_is : g.worker ≡ Some w → is_held_by g.worker w ≡ true
@@ -233,7 +231,7 @@ holding_none w t (g ∷ heaps) h u q = by (is_held_by g.worker w) refl h (λ v f
     by false e free more zero q' = both_ways (is_held_by g.worker w) e (held_is q')
     by false e free more (suc u') q' = more u' free q'
 
-none_holding : (o : Option ℕ) → is_none (refused_holding o None) ≡ true → o ≡ None
+pub none_holding : (o : Option ℕ) → is_none (refused_holding o None) ≡ true → o ≡ None
 none_holding None h = refl
 none_holding (Some t) h = absurd (false≢true h)
 
@@ -307,15 +305,11 @@ journal_manned p s (e ∷ es) l S I h =
     journal_manned p s es (after p s l e) (entry_sound p s l e S both.0) (kind_manned p s l e.worker e.kind S (entry_tells p s l e both.0).2 I) both.1
 
 first_free : (u w : ℕ) → worker_at (slice_get (fresh ∷ []) u) ≡ Some w → ⊥
-first_free zero w q = none_held q
-first_free (suc u) w q = none_held q
-
-first_idle : (u : ℕ) → collecting (slice_get (fresh ∷ []) u) ≡ true → ⊥
-first_idle zero c = false≢true c
-first_idle (suc u) c = false≢true c
+first_free zero w q = none_some q
+first_free (suc u) w q = none_some q
 
 opening_manned : (p : ProgramText) (s : SettingsValue) → MannedLedger (opening p s)
-opening_manned p s = record { runs = λ on u w q. absurd (first_free u w q); one = λ u v w q r. absurd (first_free u w q); out = λ u c. absurd (first_idle u c) }
+opening_manned p s = record { runs = λ on u w q. absurd (first_free u w q); one = λ u v w q r. absurd (first_free u w q); out = λ u c. absurd (fresh_idle u c) }
 
 pub worker_of : (l : Ledger) (t : ℕ) → (heap_of l t).worker ≡ worker_at (slice_get l.heaps t)
 worker_of l t = by (slice_get l.heaps t)

@@ -44,7 +44,7 @@ pub none_unless : (b : Bool) (c : Refused) (rest : Option Refused) → is_none (
 none_unless true c rest h = (refl, h)
 none_unless false c rest h = absurd (false≢true h)
 
-collecting_is : (o : Option Heap) → is_some (or_fresh o).begun ≡ collecting o
+pub collecting_is : (o : Option Heap) → is_some (or_fresh o).begun ≡ collecting o
 collecting_is None = refl
 collecting_is (Some h) = refl
 
@@ -201,7 +201,7 @@ fresh_names : (u : ℕ) (n : Name) → InHeaps (fresh ∷ []) u n → ⊥
 fresh_names zero n i = i
 fresh_names (suc u) n i = i
 
-fresh_idle : (u : ℕ) → collecting (slice_get (fresh ∷ []) u) ≡ true → ⊥
+pub fresh_idle : (u : ℕ) → collecting (slice_get (fresh ∷ []) u) ≡ true → ⊥
 fresh_idle zero c = false≢true c
 fresh_idle (suc u) c = false≢true c
 

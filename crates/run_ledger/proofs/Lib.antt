@@ -37,3 +37,4 @@ pub mod Forked
 pub mod RunOn
 pub mod Accepted
 pub mod PaceLaw
+pub mod KeptNames

@@ -12,6 +12,7 @@ use Rattle.hh_model.specs.declared.data.Task.{Task}
 use Rattle.hh_model.specs.declared.data.End.{End}
 use Rattle.hh_model.specs.declared.data.State.{State}
 use Rattle.hh_model.specs.Step.{is_left, can_step, or_same, stepped, fetched, step, asked, run_from}
+use Rattle.hh_model.proofs.Counts.{run_on}
 use Rattle.run_ledger.specs.declared.data.Heap.{Heap}
 use Rattle.run_ledger.specs.declared.data.Ledger.{Ledger}
 use Rattle.run_ledger.specs.Heaps.{with_heap, with_heap_at, heap_at, within, fresh, let_go, emptied, forked_heap, in_use}
@@ -74,10 +75,6 @@ kind_machine p s l w (Mark t) = heap_machine l t _
 kind_machine p s l w (More t n) = heap_machine l t _
 kind_machine p s l w (Sweep t g) = heap_machine l t _
 kind_machine p s l w Fuel = refl
-
-run_on : (p : ProgramText) (ts us : List ℕ) (m : State) → run_from p m (ts ++ us) ≡ run_from p (run_from p m ts) us
-run_on p [] us m = refl
-run_on p (t ∷ ts) us m = run_on p ts us (step p m t)
 
 all_machine : (p : ProgramText) (s : SettingsValue) (journal : List EntryValue) (l : Ledger) → (after_all p s l journal).machine ≡ run_from p l.machine (tasks_of journal)
 all_machine p s [] l = refl

@@ -1,6 +1,6 @@
 -- What the pace asks for is never refused.
 use Rattle.std.proofs.Common.{◌≡◌, ℕ, zero, suc, ◌+◌, ◌<◌, ◌≤◌, ◌==◌, not, Bool, true, false, cond, Option, Some, None, List, [], ◌∷◌, ◌++◌, slice_get, slice_set, nat_lt, nat_le, ◌⊎◌, inl, inr, refl, ap, sym, subst, ◌∙◌, arith, is_some, is_none, eq-eqb, replicate, length}
-use Rattle.std.proofs.lemmas.Bool.{false≢true, both_ways, cases_eq, and_parts, eqb-true}
+use Rattle.std.proofs.lemmas.Bool.{false≢true, both_ways, cases_eq, and_parts, eqb-true, not-true}
 use Rattle.std.proofs.lemmas.Option.{same_Some}
 use Rattle.listed.proofs.Members.{In, got_same, got_other, got_within, in_append_cases}
 use Rattle.run_trace.specs.declared.entry.Kind.{Kind}
@@ -95,7 +95,7 @@ waiting_moves p m t u x K ne at w =
 -- FORKS THAT WERE MARKED
 
 -- the heap is marked or swept
-abbrev Touched : Heap → Type 0
+abbrev pub Touched : Heap → Type 0
 Touched h = (is_some h.marked ≡ true) ⊎ (h.swept ≡ true)
 
 -- the task has joined since that fork, or waits on it and its heap is marked or swept
@@ -265,13 +265,9 @@ opening_known p s v fork i = absurd (none s.workers v i)
 -- WHAT IS OWED
 
 -- what waiting on a fork tells
-waits_tells : (o : Option Task) (joins : ℕ) → waits_since o joins ≡ true → (x : Task) × (o ≡ Some x) × (waits x.status ≡ true) × (x.joins ≡ joins)
+pub waits_tells : (o : Option Task) (joins : ℕ) → waits_since o joins ≡ true → (x : Task) × (o ≡ Some x) × (waits x.status ≡ true) × (x.joins ≡ joins)
 waits_tells None joins h = absurd (false≢true h)
 waits_tells (Some x) joins h = let q = and_parts (waits x.status) (x.joins == joins) h in (x, refl, q.0, eqb-true x.joins joins q.1)
-
-not_false : (v : Bool) → not v ≡ true → v ≡ false
-not_false false h = refl
-not_false true h = absurd (false≢true h)
 
 none_some : (o : Option ℕ) → is_none o ≡ true → is_some o ≡ false
 none_some None h = refl
@@ -293,7 +289,7 @@ module _ (p : ProgramText) (s : SettingsValue) (l : Ledger) (w : ℕ) where
       let b = and_parts (is_unmarked (heap_of l fork.task)) (nat_le s.inner (words_in l.machine (heap_of l fork.task))) a.1 in
       let c = and_parts (is_none (heap_of l fork.task).marked) (not (heap_of l fork.task).swept) b.0 in
       unless_true (is_waiting (slice_get l.machine.tasks fork.task)) _ _ (is_waiting_on fork a.0)
-      ∙ (if_false (heap_of l fork.task).swept _ _ (not_false (heap_of l fork.task).swept c.1)
+      ∙ (if_false (heap_of l fork.task).swept _ _ (not-true (heap_of l fork.task).swept c.1)
       ∙ (if_false (is_some (heap_of l fork.task).marked) _ _ (none_some (heap_of l fork.task).marked c.0)
       ∙ unless_true (nat_le s.inner (words_in l.machine (heap_of l fork.task))) _ None b.1))
 
@@ -301,7 +297,7 @@ module _ (p : ProgramText) (s : SettingsValue) (l : Ledger) (w : ℕ) where
   marking fork K h =
       let a = and_parts (waits_on l fork) (not (heap_of l fork.task).swept) h in
       let q = waits_tells (slice_get l.machine.tasks fork.task) fork.joins a.0 in
-      let unswept = not_false (heap_of l fork.task).swept a.1 in (
+      let unswept = not-true (heap_of l fork.task).swept a.1 in (
         is_waiting_on fork a.0,
         unswept,
         elim K [

@@ -1,9 +1,10 @@
 -- What the pace keeps of each worker is what the entries say, and paced journals keep the three rules.
 use Rattle.std.proofs.Common.{◌≡◌, ℕ, zero, suc, ◌<◌, ◌≤◌, ◌==◌, ◌&&◌, not, Bool, true, false, cond, Option, Some, None, List, [], ◌∷◌, ◌++◌, length, slice_get, slice_set, replicate, is_none, is_some, nat_lt, nat_le, ◌⊎◌, inl, inr, refl, ap, sym, subst, ◌∙◌, arith, append_assoc, append-nil, eqb-true, eq-eqb}
-use Rattle.std.proofs.lemmas.Bool.{false≢true, both_ways, cases_eq, and_parts, and_from, ltb-true, leb-true, le-leb}
+use Rattle.std.proofs.lemmas.Bool.{false≢true, both_ways, cases_eq, and_parts, and_from, ltb-true, leb-true, le-leb, not-true}
 use Rattle.std.proofs.lemmas.List.{length-set}
 use Rattle.std.proofs.lemmas.Option.{same_Some}
 use Rattle.listed.proofs.Members.{In, got_other, in_append_right}
+use Rattle.listed.proofs.Options.{none_is}
 use Rattle.run_trace.specs.declared.entry.Kind.{Kind}
 use Rattle.run_trace.specs.declared.entry.Kind.TheVariants.{Took, Ran, Chunk, Begin, End as EndOf, PutOff, Mark, More, Sweep, Fuel}
 use Rattle.run_trace.specs.Entry.{EntryValue}
@@ -25,7 +26,7 @@ use Rattle.run_ledger.specs.Journals.{after_all, is_legal, is_legal_from, ledger
 use Rattle.run_ledger.specs.Pace.{fork_of, gives, idle, is_mark_of, is_more_of, is_sweep_of, is_to_mark, is_under_way, is_unmarked, marked_at_once, more_of, noted, or_idle, owed, owed_after, owed_to_marks, pace_after, pace_after_all, pace_at_end, pace_of, pace_opening, previous_by, waits_on, waits_since}
 use Rattle.run_ledger.specs.Cuts.{Paced}
 use Rattle.run_ledger.specs.PaceLaw.{GoesOnMarking, IsLastBy, IsNewest, IsPaceOf, IsPrevious, IsToMark, IsUnderWay, KeepsRules, KeepsThePace, NoneBy, PaceIsOfEntries, PacedKeepsThePace, WaitsOn, fork_by, fork_marked, marked_forks, marked_task}
-use Rattle.run_ledger.proofs.Cuts.{cut_legal, none_is}
+use Rattle.run_ledger.proofs.Cuts.{cut_legal}
 use Rattle.run_ledger.proofs.Journals.{none_unless, none_where}
 use Rattle.run_ledger.proofs.Machine.{heap_machine}
 use Rattle.run_ledger.proofs.Paced.{paced_is_meant}
@@ -131,7 +132,7 @@ is_sweep t given kind e = ap (is_sweep_of t) e ∙ eq-eqb t t refl
 
 -- WHAT IS KEPT OF A WORKER
 
-pace_same : (pace : List WorkerPace) (w : ℕ) (y : WorkerPace) → w < length pace → pace_of (slice_set pace w y) w ≡ y
+pub pace_same : (pace : List WorkerPace) (w : ℕ) (y : WorkerPace) → w < length pace → pace_of (slice_set pace w y) w ≡ y
 pace_same [] w y lt = absurd (omega arith)
 pace_same (x ∷ pace) zero y lt = refl
 pace_same (x ∷ pace) (suc w) y lt = pace_same pace w y (omega arith)
@@ -139,12 +140,12 @@ pace_same (x ∷ pace) (suc w) y lt = pace_same pace w y (omega arith)
 pace_other : (pace : List WorkerPace) (w v : ℕ) (y : WorkerPace) → (v ≡ w → ⊥) → pace_of (slice_set pace w y) v ≡ pace_of pace v
 pace_other pace w v y ne = ap or_idle (got_other pace w v y ne)
 
-idle_at : (n w : ℕ) → pace_of (replicate n idle) w ≡ idle
+pub idle_at : (n w : ℕ) → pace_of (replicate n idle) w ≡ idle
 idle_at zero w = refl
 idle_at (suc n) zero = refl
 idle_at (suc n) (suc w) = idle_at n w
 
-length_opening : (n : ℕ) → length (replicate n idle) ≡ n
+pub length_opening : (n : ℕ) → length (replicate n idle) ≡ n
 length_opening zero = refl
 length_opening (suc n) = ap suc (length_opening n)
 
@@ -314,14 +315,10 @@ waits_from l fork h = by (slice_get l.machine.tasks fork.task) refl h
 from_waits : (l : Ledger) (fork : Strand) → WaitsOn l fork → waits_on l fork ≡ true
 from_waits l fork W = ap (λ o. waits_since o fork.joins) W.1 ∙ and_from (waits W.0.status) (W.0.joins == fork.joins) W.2 (eq-eqb W.0.joins fork.joins W.3)
 
-not_false : (v : Bool) → not v ≡ true → v ≡ false
-not_false false h = refl
-not_false true h = absurd (false≢true h)
-
 way_from : (l : Ledger) (fork : Strand) → is_under_way l fork ≡ true → IsUnderWay l fork
 way_from l fork h =
     let q = and_parts (waits_on l fork) (not (heap_of l fork.task).swept) h in
-    record { waits = waits_from l fork q.0; unswept = not_false (heap_of l fork.task).swept q.1 }
+    record { waits = waits_from l fork q.0; unswept = not-true (heap_of l fork.task).swept q.1 }
 
 from_way : (l : Ledger) (fork : Strand) → IsUnderWay l fork → is_under_way l fork ≡ true
 from_way l fork U = and_from (waits_on l fork) (not (heap_of l fork.task).swept) (from_waits l fork U.waits) (ap not U.unswept)
@@ -385,7 +382,7 @@ module _ (p : ProgramText) (s : SettingsValue) (before : List EntryValue) (w : �
           forked = F;
           waits = waits_from l fork a.0;
           unmarked = none_is (heap_of l fork.task).marked c.0;
-          unswept = not_false (heap_of l fork.task).swept c.1;
+          unswept = not-true (heap_of l fork.task).swept c.1;
           words = leb-true s.inner (words_in l.machine (heap_of l fork.task)) b.1;
         }
 

@@ -31,10 +31,10 @@ use Rattle.run_ledger.proofs.Stocks.{with_heap_any}
 use Rattle.run_ledger.proofs.Bounds.{task_step_steps}
 use Rattle.run_ledger.proofs.Journals.{out_tells, entry_tells, entry_sound, opening_sound}
 
-abbrev since_in : Heap → ℕ
+abbrev pub since_in : Heap → ℕ
 since_in h = h.since
 
-since_additive : Additive since_in
+pub since_additive : Additive since_in
 since_additive = record { let_go = λ h. refl; fresh = refl; forked = λ ns h. refl; merged = λ p l r. omega arith }
 
 module _ (p : ProgramText) (limit most : ℕ) (asks : AsksAtMost p limit most) where
@@ -141,7 +141,7 @@ since_is_bounded p s journal most legal asks t =
     let b = I.1 in
     omega arith
 
-limit_small : (v : Version) → field_limit v ≤ 1000000
+pub limit_small : (v : Version) → field_limit v ≤ 1000000
 limit_small One = omega arith
 limit_small Two = omega arith
 

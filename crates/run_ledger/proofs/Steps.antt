@@ -760,7 +760,7 @@ module _ (p : ProgramText) (l : Ledger) (S : SoundLedger l) (t : ℕ) (x : Task)
       (λ parent c xp xl xr rl rr ip il ir pl left dl dr wl wr nl nr side. join_case parent c xp xl xr rl rr ip il ir pl left dl dr wl wr side)
       (step_kept p m t S.kept) (disentangled_step p m t S.kept S.apart) all1 spares1
 
-goes_tells : (o : Option End) (b : Bool) → goes_on o b ≡ true → (o ≡ None) × (b ≡ true)
+pub goes_tells : (o : Option End) (b : Bool) → goes_on o b ≡ true → (o ≡ None) × (b ≡ true)
 goes_tells None b h = (refl, h)
 goes_tells (Some e) b h = absurd (false≢true h)
 
@@ -772,7 +772,7 @@ can_tells m t h = goes_tells m.end (is_running (slice_get m.tasks t)) h
 abbrev pub StepLeaves : ℕ → Ledger → Ledger → Ledger → Type 0
 StepLeaves t l b k = SoundLedger k × (collecting (slice_get k.heaps t) ≡ false) × Moves t l.machine.tasks b.heaps k.heaps × StandsAfter t k × LeavesOthers t l k
 
-running_at : (ts : List Task) (t : ℕ) (o : Option Task) → slice_get ts t ≡ o → is_running o ≡ true → (x : Task) × (slice_get ts t ≡ Some x) × (is_running (Some x) ≡ true)
+pub running_at : (ts : List Task) (t : ℕ) (o : Option Task) → slice_get ts t ≡ o → is_running o ≡ true → (x : Task) × (slice_get ts t ≡ Some x) × (is_running (Some x) ≡ true)
 running_at ts t None e h = absurd (false≢true h)
 running_at ts t (Some x) e h = (x, e, h)
 

@@ -150,7 +150,7 @@ changed l t f h more less e d =
     omega arith
 
 -- and by none
-same_use : (l : Ledger) (t : ℕ) (f : Heap → Heap) → ((h : Heap) → units_in l.machine (f h) ≡ units_in l.machine h) → in_use (with_heap l t f) ≡ in_use l
+pub same_use : (l : Ledger) (t : ℕ) (f : Heap → Heap) → ((h : Heap) → units_in l.machine (f h) ≡ units_in l.machine h) → in_use (with_heap l t f) ≡ in_use l
 same_use l t f same = by (heap_at l t) refl
   where
     by : (o : Option Heap) → heap_at l t ≡ o → in_use (with_heap_at l t f o) ≡ in_use l

@@ -107,7 +107,7 @@ drops l t f less none = by (heap_at l t) refl
     by None e = let z : words_in l.machine fresh ≡ 0 = refl in omega arith
     by (Some h) e = let a = total_set (words_in l.machine) l.heaps t h (f h) e in let b = less h (words_at l.machine) in omega arith
 
-chunk_even : (next : Option ℕ) (h : Heap) (g : Name → ℕ) (b : Bool) → weight g (cond b (record h { chunks = h.chunks ++ [] ∷ []; room = chunk_words }) (record h { reserved = chunk_units next })) ≡ weight g h
+pub chunk_even : (next : Option ℕ) (h : Heap) (g : Name → ℕ) (b : Bool) → weight g (cond b (record h { chunks = h.chunks ++ [] ∷ []; room = chunk_words }) (record h { reserved = chunk_units next })) ≡ weight g h
 chunk_even next h g true = chunk_weight g h chunk_words
 chunk_even next h g false = refl
 

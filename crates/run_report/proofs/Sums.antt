@@ -1,5 +1,6 @@
 -- The totals of a journal, entry by entry.
 use Rattle.std.proofs.Common.{◌≡◌, ℕ, zero, suc, ◌+◌, ◌-◌, ◌<◌, ◌≤◌, ◌^◌, ◌&&◌, true, is_none, take, ap₂, subst, Option, Some, None, List, [], ◌∷◌, ◌++◌, length, drop, get_or, max, refl, ap, sym, ◌∙◌, arith, length-append, length-take-le}
+use Rattle.std.proofs.lemmas.List.{take_all}
 use Rattle.listed.proofs.Members.{got_same}
 use Rattle.run_trace.specs.declared.entry.Kind.{Kind}
 use Rattle.run_trace.specs.declared.entry.Kind.TheVariants.{Took, Ran, Chunk, Begin, End, PutOff, Mark, More, Sweep, Fuel}
@@ -156,12 +157,6 @@ take_next [] i e lt is = absurd (omega arith)
 take_next (x ∷ xs) zero e lt is = ap (λ y. y ∷ []) (sym is)
 take_next (x ∷ xs) (suc i) e lt is = let q : suc i + 1 ≡ suc (i + 1) = omega arith in ap (λ k. take k (x ∷ xs)) q ∙ ap (λ ys. x ∷ ys) (take_next xs i e (omega arith) is)
 
-take_all : {A : Type 0} (xs : List A) (i : ℕ) → length xs ≤ i → take i xs ≡ xs
-take_all [] zero le = refl
-take_all [] (suc i) le = refl
-take_all (x ∷ xs) zero le = absurd (omega arith)
-take_all (x ∷ xs) (suc i) le = ap (λ ys. x ∷ ys) (take_all xs i (omega arith))
-
 -- a book that has come to the entry i, and the totals of the entries before it
 pub record IsAt (journal : List EntryValue) (b : BookValue) (i : ℕ) (sums : Totals) : Type 0 where
   pub legal : is_legal b.program b.limits (take i journal) ≡ true
@@ -204,7 +199,7 @@ module _ (journal : List EntryValue) (b : BookValue) (i : ℕ) (e : EntryValue) 
 pub at_end : (journal : List EntryValue) (b : BookValue) (i : ℕ) (sums : Totals) (p : ProgramText) (s : SettingsValue) → length journal ≤ i → b.program ≡ p → b.limits ≡ s → IsAt journal b i sums
     → sums ≡ totals_from p s (opening p s) journal
 at_end journal b i sums p s ge ep es at =
-    at.sums_are ∙ (ap (totals_from b.program b.limits (opening b.program b.limits)) (take_all journal i ge) ∙ ap₂ (λ q k. totals_from q k (opening q k) journal) ep es)
+    at.sums_are ∙ (ap (totals_from b.program b.limits (opening b.program b.limits)) (take_all i journal ge) ∙ ap₂ (λ q k. totals_from q k (opening q k) journal) ep es)
 
 module _ (journal : List EntryValue) (b b' : BookValue) (i : ℕ) (e : EntryValue) (lt : i < length journal) (is : e ≡ get_or journal i e) (eb : b' ≡ record b { ledger = after b.program b.limits b.ledger e }) where
   pub accounts_on : after_all b.program b.limits b.ledger (drop i journal) ≡ ledger_of b.program b.limits journal

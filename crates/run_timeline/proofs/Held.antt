@@ -1,16 +1,15 @@
 -- The words that are held follow from entry to entry.
-use Rattle.std.proofs.Common.{◌≡◌, ℕ, zero, suc, ◌+◌, ◌-◌, ◌<◌, ◌≤◌, true, false, ◌⊎◌, inl, inr, ◌&&◌, Bool, cond, Option, Some, None, List, [], ◌∷◌, ◌++◌, length, slice_get, replicate, refl, ap, ap₂, sym, subst, ◌∙◌, arith, is_some, is_none}
+use Rattle.std.proofs.Common.{◌≡◌, ℕ, zero, suc, ◌+◌, ◌-◌, ◌<◌, ◌≤◌, true, false, inl, inr, ◌&&◌, cond, Option, Some, None, List, [], ◌∷◌, ◌++◌, length, slice_get, replicate, refl, ap, ap₂, sym, subst, ◌∙◌, arith, is_some, is_none}
 use Rattle.std.proofs.lemmas.Bool.{cases_Bool, cases_lt}
-use Rattle.std.proofs.lemmas.Option.{same_Some}
-use Rattle.listed.proofs.Members.{got_same, got_within}
+use Rattle.listed.proofs.Members.{got_within}
+use Rattle.listed.proofs.Places.{got_some}
 use Rattle.hh_lang.specs.Form.{ProgramText}
 use Rattle.hh_model.specs.declared.data.Name.{Name}
-use Rattle.hh_model.specs.declared.data.Object.{Object}
 use Rattle.hh_model.specs.declared.data.State.{State}
 use Rattle.hh_model.specs.Counts.{Counted}
-use Rattle.hh_model.specs.Effect.{object_at, row_of}
+use Rattle.hh_model.specs.Effect.{row_of}
 use Rattle.hh_model.specs.Store.{IsStored}
-use Rattle.hh_model.specs.Step.{asked, can_step, fetched, or_same, run, run_from, start, step, stepped}
+use Rattle.hh_model.specs.Step.{asked, can_step, fetched, or_same, run_from, start, step, stepped}
 use Rattle.hh_model.proofs.Carried.{next_name}
 use Rattle.hh_model.proofs.Counts.{counted_step, runs_are_counted}
 use Rattle.hh_model.proofs.Kept.{Kept, run_kept, start_kept, step_kept}
@@ -19,12 +18,11 @@ use Rattle.run_trace.specs.declared.entry.Kind.{Kind}
 use Rattle.run_trace.specs.declared.entry.Kind.TheVariants.{Took, Ran, Chunk, Begin, End, PutOff, Mark, More, Sweep, Fuel}
 use Rattle.run_trace.specs.Entry.{EntryValue}
 use Rattle.run_trace.specs.Settings.{SettingsValue, field_limit}
-use Rattle.run_ledger.specs.declared.data.Heap.{Heap}
 use Rattle.run_ledger.specs.declared.data.Ledger.{Ledger}
-use Rattle.run_ledger.specs.Heaps.{collected, fresh, heap_at, heap_of, held_in, or_fresh, swept_heap, with_heap, with_heap_at, words_at, words_in}
+use Rattle.run_ledger.specs.Heaps.{collected, held_in, swept_heap, words_at}
 use Rattle.run_ledger.specs.Entries.{after, after_kind, refusal}
 use Rattle.run_ledger.specs.Journals.{after_all, is_legal, ledger_of, opening, tasks_in, tasks_of}
-use Rattle.run_ledger.specs.Report.{freed_by_end, freed_by_sweep, lost, tally}
+use Rattle.run_ledger.specs.Report.{freed_by_end, freed_by_sweep, tally}
 use Rattle.run_ledger.specs.Space.{store_words}
 use Rattle.run_ledger.proofs.Cuts.{after_cut, joined_legal}
 use Rattle.run_ledger.proofs.Grown.{Grown, grown}
@@ -36,11 +34,6 @@ use Rattle.run_report.proofs.Sums.{lost_is}
 use Rattle.run_timeline.specs.Words.{WordsFollowEntries, objects_by, objects_made, words_by, words_held, words_made}
 
 -- OBJECTS OF ONE TASK
-
-got_some : {A : Type 0} (xs : List A) (k : ℕ) → k < length xs → (x : A) × (slice_get xs k ≡ Some x)
-got_some [] k lt = absurd (omega arith)
-got_some (x ∷ xs) zero lt = (x, refl)
-got_some (x ∷ xs) (suc k) lt = got_some xs k (omega arith)
 
 module _ (p : ProgramText) (t : ℕ) where
   abbrev at : ℕ → Name

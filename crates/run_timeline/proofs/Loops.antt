@@ -17,11 +17,12 @@ use Rattle.run_journal.specs.declared.replay.ReplayError.TheVariants.{RefusedAt 
 use Rattle.run_journal.specs.Replay.{ReplayFails}
 use Rattle.run_journal.proofs.Replays.{cut}
 use Rattle.quoted_text.specs.Quoted.{quoted}
+use Rattle.quoted_text.specs.Labels.{task_name}
 use Rattle.json_text.specs.Json.{Json, Word, NoMember, Member, Members, json, further, more_member, more_members}
 use Rattle.json_text.proofs.Texts.{arrays_are_joined}
 use Rattle.run_timeline.specs.Words.{counts_of}
 use Rattle.run_timeline.specs.Events.{process, lane, arrow_begins, arrow_ends, arguments, two_numbers, event, end_time}
-use Rattle.run_timeline.specs.Entries.{entry_events, forked, task_name, task_begins}
+use Rattle.run_timeline.specs.Entries.{entry_events, forked, task_begins}
 use Rattle.run_timeline.specs.Timeline.{events_from, events_of, lanes, timeline}
 use Rattle.run_timeline.specs.Pieces.{beginning, ending, span_head, head}
 use Rattle.run_timeline.proofs.Made.{span_made, event_made}

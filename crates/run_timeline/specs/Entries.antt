@@ -1,7 +1,6 @@
 -- The events of one entry.
 use Rattle.std.specs.Prelude.{ℕ, ◌+◌, ◌*◌, ◌-◌, ◌==◌, Option, Some, None, List, [], ◌∷◌, ◌++◌, codes, length, slice_get, if◌then◌else◌}
 use Rattle.std.specs.List.{join_with_byte}
-use Rattle.std.specs.Fmt.{decimal}
 use Rattle.hh_lang.specs.Form.{ProgramText, line_at}
 use Rattle.hh_lang.specs.declared.program.Line.{Line}
 use Rattle.hh_model.specs.declared.data.Status.{Status}
@@ -17,6 +16,7 @@ use Rattle.run_ledger.specs.declared.data.RunEnd.TheVariants.{Machine}
 use Rattle.run_ledger.specs.declared.data.Ledger.{Ledger}
 use Rattle.run_ledger.specs.Heaps.{in_use}
 use Rattle.run_ledger.specs.Text.{end_words}
+use Rattle.quoted_text.specs.Labels.{task_name}
 use Rattle.json_text.specs.Json.{Json, Members, Number, Word, NoMember, Member}
 use Rattle.run_timeline.specs.declared.words.Counts.{Counts}
 use Rattle.run_timeline.specs.Words.{words_held}
@@ -60,9 +60,6 @@ slice before n e =
     arguments (numbers_of e.kind)))
 
 -- TASKS
-
-abbrev pub task_name : ℕ → List ℕ
-task_name t = codes "task " ++ decimal t
 
 abbrev pub task_begins : ℕ → ℕ → ℕ → Members → Json
 task_begins t n w more = span (codes "b") (task_name t) (codes "task") t n w more

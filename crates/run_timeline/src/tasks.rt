@@ -5,7 +5,8 @@ ghost use Rattle.std.specs.List.{flat_map};
 ghost use Rattle.json_text.specs.Json.{further, NoMember, more_members};
 ghost use Rattle.hh_model.specs.declared.data.Task.{Task as TaskText};
 ghost use Rattle.run_timeline.specs.Events.{arguments, two_numbers};
-ghost use Rattle.run_timeline.specs.Entries.{task_name, task_begins, task_ends, number_of, fork_line, next_line, first_taken, taken, forked, joined, ended_by, ended, collection, marking, told_by, counter, counted, end_name, end_members, run_end, run_ended};
+ghost use Rattle.quoted_text.specs.Labels.{task_name};
+ghost use Rattle.run_timeline.specs.Entries.{task_begins, task_ends, number_of, fork_line, next_line, first_taken, taken, forked, joined, ended_by, ended, collection, marking, told_by, counter, counted, end_name, end_members, run_end, run_ended};
 
 use crate::events::{
     add_comma, add_span, begin_arguments, begin_arrow, begin_event, begin_span, end_arguments,

@@ -29,10 +29,10 @@ AreProper (w ∷ ws) = IsProper w × AreProper ws
 
 -- DECIMALS
 
-digit_is_plain : (c : ℕ) → digit_value c < 10 → IsPlain c
+pub digit_is_plain : (c : ℕ) → digit_value c < 10 → IsPlain c
 digit_is_plain c h = (grind arith, grind arith)
 
-digits_are_plain : (ds : List ℕ) → AllDigits 10 ds → ArePlain ds
+pub digits_are_plain : (ds : List ℕ) → AllDigits 10 ds → ArePlain ds
 digits_are_plain [] h = tt
 digits_are_plain (c ∷ cs) h = (digit_is_plain c h.0, digits_are_plain cs h.1)
 

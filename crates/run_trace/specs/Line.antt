@@ -3,7 +3,7 @@ use Rattle.std.specs.Prelude.{ℕ, ◌^◌, ◌&&◌, Bool, Option, Some, None, 
 use Rattle.std.specs.Str.{bytes_eq, is_utf8}
 use Rattle.std.specs.Str.Parse.{digits_value}
 use Rattle.std.specs.Fmt.{decimal}
-use Rattle.hh_lang.specs.Number.{is_numeral}
+use Rattle.hh_lang.specs.Number.{is_numeral, onto_number}
 use Rattle.text_lines.specs.Lines.{words_of}
 use Rattle.run_trace.specs.declared.entry.Kind.{Kind}
 use Rattle.run_trace.specs.declared.entry.Kind.TheVariants.{Took, Ran, Chunk, Begin, End, PutOff, Mark, More, Sweep, Fuel}
@@ -16,10 +16,6 @@ use Rattle.run_trace.specs.Entry.{EntryValue}
 -- decimal digits without a sign, of a number of 32 bits
 abbrev pub unsigned_number : List ℕ → Option ℕ
 unsigned_number bs = if is_numeral bs && nat_lt (digits_value 10 bs) (2 ^ 32) then Some (digits_value 10 bs) else None
-
-abbrev pub onto_number : Option ℕ → Option (List ℕ) → Option (List ℕ)
-onto_number (Some n) (Some ns) = Some (n ∷ ns)
-onto_number _ _ = None
 
 -- the numbers that words write, if each of them writes one
 abbrev pub numbers_in : List (List ℕ) → Option (List ℕ)

@@ -1,5 +1,6 @@
 -- Steps of two tasks that run at one time commute.
 use Rattle.std.proofs.Common.{◌≡◌, ℕ, Bool, true, false, Option, Some, None, List, slice_get, ◌⊎◌, inl, inr, refl, ap, sym, subst, ◌∙◌}
+use Rattle.std.proofs.lemmas.List.{set_comm}
 use Rattle.listed.proofs.Members.{In}
 use Rattle.hh_lang.specs.declared.program.Line.{Line}
 use Rattle.hh_lang.specs.Form.{ProgramText}
@@ -25,7 +26,7 @@ use Rattle.schedule_laws.proofs.Leaving.{D, K, N, can_there, free_may, going, he
 use Rattle.schedule_laws.proofs.Lows.{run_low}
 use Rattle.schedule_laws.proofs.Moves.{Two, both_to}
 use Rattle.schedule_laws.proofs.Siblings.{commute_two}
-use Rattle.schedule_laws.proofs.Swapping.{Agree, set_set}
+use Rattle.schedule_laws.proofs.Swapping.{Agree}
 
 pub even_same : (m m' : State) → m' ≡ m → Even m m'
 even_same m m' e = record {
@@ -85,11 +86,11 @@ module _ (p : ProgramText) (limit : ℕ) (ts : List ℕ) where
                 B.free a.0 c.0 a.1 c.1 (record { field = a.2 ∙ (named ∙ sym c.2); writes = inl a.3 })
 
             by : (d e : Edit) → EditsBy (setting m t x) x.top m.store lt.instr k d → EditsBy (setting m u y) y.top m.store lu.instr n e → edited e (edited d o) ≡ edited d (edited e o)
-            by (SetRef i v) (SetRef j w) ht hu = ap (λ rs. record o { refs = rs }) (set_set o.refs i j v w (clash false i j ht hu))
+            by (SetRef i v) (SetRef j w) ht hu = ap (λ rs. record o { refs = rs }) (set_comm o.refs i j v w (clash false i j ht hu))
             by (SetRef i v) (SetNumber j w) ht hu = refl
             by (SetRef i v) Freezes ht hu = refl
             by (SetNumber i v) (SetRef j w) ht hu = refl
-            by (SetNumber i v) (SetNumber j w) ht hu = ap (λ rs. record o { ints = rs }) (set_set o.ints i j v w (clash true i j ht hu))
+            by (SetNumber i v) (SetNumber j w) ht hu = ap (λ rs. record o { ints = rs }) (set_comm o.ints i j v w (clash true i j ht hu))
             by (SetNumber i v) Freezes ht hu = refl
             by Freezes (SetRef j w) ht hu = refl
             by Freezes (SetNumber j w) ht hu = refl

@@ -1,6 +1,7 @@
 -- Two moves of tasks that run at one time, in either order.
-use Rattle.std.proofs.Common.{◌≡◌, ℕ, zero, suc, ◌+◌, ◌<◌, true, Option, Some, None, List, [], ◌∷◌, ◌++◌, length, map, slice_get, inl, inr, refl, ap, sym, subst, ◌∙◌, arith, length-append}
+use Rattle.std.proofs.Common.{◌≡◌, ℕ, ◌+◌, ◌<◌, true, Option, Some, None, List, ◌++◌, length, map, slice_get, inl, inr, refl, ap, sym, subst, ◌∙◌, arith, length-append}
 use Rattle.listed.proofs.Members.{In, in_append_cases, in_append_left, in_append_right}
+use Rattle.listed.proofs.Places.{got_none}
 use Rattle.hh_model.specs.declared.data.Name.{Name}
 use Rattle.hh_model.specs.declared.data.Edge.{Edge}
 use Rattle.hh_model.specs.declared.data.Object.{Object}
@@ -20,11 +21,6 @@ use Rattle.schedule_laws.proofs.StoreSteps.{after_change}
 use Rattle.schedule_laws.proofs.Swapping.{Agree, AllAt, Stored, all_at, changed_front, changed_length, changes_swap, sets, sets_front, sets_length, sets_swap}
 use Rattle.schedule_laws.proofs.Moves.{Move, Moves, change_in, edges_in, news, puts, rows_in}
 use Rattle.schedule_laws.proofs.Apart.{Kind, kind_within, kinds_apart}
-
-got_none : {A : Type 0} (xs : List A) (k : ℕ) → k < length xs → slice_get xs k ≡ None → ⊥
-got_none [] k lt e = omega arith
-got_none (x ∷ xs) zero lt e = cc
-got_none (x ∷ xs) (suc k) lt e = got_none xs k (omega arith) e
 
 -- TWO STATES THAT ARE THE SAME but for the order of edges and the outputs
 pub record Even (m m' : State) : Type 0 where

@@ -1,13 +1,12 @@
 -- A whole run in order, and another one of the same program in which tasks have other numbers: so the law speaks of
 -- something.
-use Rattle.std.proofs.Common.{◌≡◌, ℕ, pos, ◌&&◌, ◌||◌, not, Bool, true, false, Some, List, [], ◌∷◌, map, ◌⊎◌, inl, inr, refl, sym, subst, ◌∙◌}
-use Rattle.std.proofs.lemmas.Bool.{false≢true}
+use Rattle.std.proofs.Common.{◌≡◌, ℕ, pos, ◌&&◌, ◌||◌, not, Bool, true, false, Some, List, [], ◌∷◌, ◌⊎◌, inl, inr, refl, sym, subst, ◌∙◌}
+use Rattle.std.proofs.lemmas.Bool.{and_parts, false≢true}
 use Rattle.listed.proofs.Members.{In}
-use Rattle.hh_lang.specs.declared.instr.Instr.{Instr}
 use Rattle.hh_lang.specs.declared.instr.Instr.TheVariants.{Set, Calc, Newm, Geti, Puti, Par, Ret, Out}
 use Rattle.hh_lang.specs.declared.instr.Operator.TheVariants.{Add}
-use Rattle.hh_lang.specs.declared.program.Fun.{Fun}
 use Rattle.hh_lang.specs.Form.{ProgramText}
+use Rattle.hh_lang.proofs.Examples.{fun}
 use Rattle.hh_model.specs.declared.data.Edge.{Edge}
 use Rattle.hh_model.specs.declared.data.Strand.{Strand}
 use Rattle.hh_model.specs.declared.data.End.TheVariants.{Done}
@@ -20,13 +19,9 @@ use Rattle.schedule_laws.specs.Clashes.{Clash}
 use Rattle.schedule_laws.specs.Laws.{SomeRunSpeaksUp}
 use Rattle.schedule_laws.proofs.Splits.{InOrder, from_order}
 
-fun : List Instr → Fun
-fun code = record { name = []; code = map (λ i. record { instr = i; number = 1 }) code }
-
 -- the root makes an object of one number field, writes it and forks two tasks; each of them forks two, which read the
 -- field. The sums are joined, and the root prints 84
 p : ProgramText
-unfolding fun
 p = record {
   functions =
       fun (Set 1 (pos 1) ∷ Newm 2 15 1 ∷ Set 2 (pos 21) ∷ Puti 2 15 2 ∷ Par 1 1 ∷ Calc Add 0 0 1 ∷ Out 0 ∷ Ret ∷ [])
@@ -53,10 +48,6 @@ abbrev tested : List Edge → List Access → Bool
 tested es [] = true
 tested es (a ∷ rest) = first_tested es a rest && tested es rest
 
-and_true : (a b : Bool) → (a && b) ≡ true → (a ≡ true) × (b ≡ true)
-and_true true b h = (refl, h)
-and_true false b h = absurd (false≢true h)
-
 module _ (es : List Edge) (right : (u v : Strand) → precedes es u v ≡ true → Precedes es u v) where
   pair : (a b : Access) → (not (a.writes || b.writes) || precedes es a.strand b.strand) ≡ true → Clash a b → Precedes es a.strand b.strand
   pair a b h C = right a.strand b.strand (by a.writes b.writes (precedes es a.strand b.strand) h C.writes)
@@ -70,32 +61,32 @@ module _ (es : List Edge) (right : (u v : Strand) → precedes es u v ≡ true �
   first_right : (a : Access) (rest : List Access) → first_tested es a rest ≡ true → (b : Access) → In rest b → Clash a b → Precedes es a.strand b.strand
   first_right a [] h b i C = absurd i
   first_right a (c ∷ rest) h b (inl e) C =
-      let k = and_true (not (a.writes || c.writes) || precedes es a.strand c.strand) (first_tested es a rest) h in
+      let k = and_parts (not (a.writes || c.writes) || precedes es a.strand c.strand) (first_tested es a rest) h in
       subst (λ (w : Access). Precedes es a.strand w.strand) e (pair a c k.0 (subst (Clash a) (sym e) C))
-  first_right a (c ∷ rest) h b (inr j) C = first_right a rest (and_true (not (a.writes || c.writes) || precedes es a.strand c.strand) (first_tested es a rest) h).1 b j C
+  first_right a (c ∷ rest) h b (inr j) C = first_right a rest (and_parts (not (a.writes || c.writes) || precedes es a.strand c.strand) (first_tested es a rest) h).1 b j C
 
   pub in_order : (all : List Access) → tested es all ≡ true → InOrder es all
   in_order [] h = tt
-  in_order (a ∷ rest) h = let k = and_true (first_tested es a rest) (tested es rest) h in (first_right a rest k.0, in_order rest k.1)
+  in_order (a ∷ rest) h = let k = and_parts (first_tested es a rest) (tested es rest) h in (first_right a rest k.0, in_order rest k.1)
 
 done : (run p 1022 ts).end ≡ Some Done
-unfolding p ts fun
+unfolding p ts
 done = refl
 
 done_too : (run p 1022 us).end ≡ Some Done
-unfolding p us fun
+unfolding p us
 done_too = refl
 
 test : tested (run p 1022 ts).edges (accesses p 1022 ts) ≡ true
-unfolding p ts fun
+unfolding p ts
 test = refl
 
 left_first : parents (run p 1022 ts).tasks 3 ≡ Some 1
-unfolding p ts fun
+unfolding p ts
 left_first = refl
 
 right_first : parents (run p 1022 us).tasks 3 ≡ Some 2
-unfolding p us fun
+unfolding p us
 right_first = refl
 
 pub some_run_speaks_up : SomeRunSpeaksUp

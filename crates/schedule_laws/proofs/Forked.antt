@@ -3,6 +3,7 @@ use Rattle.std.proofs.Common.{◌≡◌, ℕ, zero, suc, ◌+◌, ◌-◌, ◌%�
 use Rattle.std.proofs.lemmas.List.{map-append}
 use Rattle.std.proofs.lemmas.Option.{same_Some}
 use Rattle.listed.proofs.Members.{In, got_back, got_cases, got_front, got_past, got_within}
+use Rattle.listed.proofs.Places.{in_got, in_map}
 use Rattle.hh_model.specs.declared.data.Edge.{Edge}
 use Rattle.hh_model.specs.declared.data.Object.{Object}
 use Rattle.hh_model.specs.declared.data.Status.TheVariants.{Waiting}
@@ -17,7 +18,7 @@ use Rattle.hh_model.specs.Tree.{Kept}
 use Rattle.renaming_laws.specs.Laws.{swap}
 use Rattle.renaming_laws.specs.Renaming.{IsRenaming, or_none, edge_to, object_to, task_to}
 use Rattle.renaming_laws.proofs.Fixed.{KeepsTask, row_fixed, task_fixed}
-use Rattle.renaming_laws.proofs.Lists.{from_map, in_map}
+use Rattle.renaming_laws.proofs.Lists.{from_map}
 use Rattle.renaming_laws.proofs.Swaps.{at_first, at_low, at_second, stands, swapped}
 use Rattle.schedule_laws.proofs.Commuting.{in_swap}
 use Rattle.schedule_laws.proofs.Lows.{LowIn, object_low}
@@ -28,11 +29,6 @@ two_cases [] c d (suc zero) z e = inr (inr (sym (same_Some d z e)))
 two_cases [] c d (suc (suc k)) z e = absurd cc
 two_cases (x ∷ xs) c d zero z e = inl e
 two_cases (x ∷ xs) c d (suc k) z e = two_cases xs c d k z e
-
-in_got : {A : Type 0} (xs : List A) (x : A) → In xs x → (k : ℕ) × (slice_get xs k ≡ Some x)
-in_got [] x i = absurd i
-in_got (y ∷ ys) x (inl e) = (0, ap Some e)
-in_got (y ∷ ys) x (inr i) = let z = in_got ys x i in (suc z.0, z.1)
 
 module _ {A : Type 0} (n : ℕ) (odd : n % 2 ≡ 1) (xs : List A) (long : length xs ≡ n) where
   at_front : (a b : List A) (k : ℕ) → k < n → slice_get ((xs ++ a) ++ b) k ≡ slice_get xs k

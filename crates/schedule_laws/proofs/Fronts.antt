@@ -1,6 +1,6 @@
 -- A step that can be taken now comes to the front of a run in order: with it first, the run comes to the same.
 use Rattle.std.proofs.Common.{◌≡◌, ℕ, suc, ◌+◌, ◌<◌, ◌≤◌, Bool, true, false, cond, Option, Some, None, List, [], ◌∷◌, ◌++◌, length, map, slice_get, ◌⊎◌, inl, inr, refl, ap, sym, subst, ◌∙◌, arith}
-use Rattle.std.proofs.lemmas.Bool.{cases_Bool, cases_eq, false≢true}
+use Rattle.std.proofs.lemmas.Bool.{cases_Bool, cases_eq}
 use Rattle.std.proofs.lemmas.Option.{same_Some}
 use Rattle.listed.proofs.Members.{In, got_within, in_append_right}
 use Rattle.hh_lang.specs.declared.instr.Instr.{Instr}
@@ -18,7 +18,7 @@ use Rattle.hh_model.specs.declared.data.State.{State}
 use Rattle.hh_model.specs.Counts.{Counted}
 use Rattle.hh_model.specs.Effect.{Effect, Goes, Prints, Calls, Forks, Returns, Traps, Stops, effect, object_at}
 use Rattle.hh_model.specs.Precedence.{Precedes}
-use Rattle.hh_model.specs.Step.{can_step, fetched, goes_on, is_running, owner_of, run, run_from, setting, start, step, strand_of}
+use Rattle.hh_model.specs.Step.{can_step, fetched, is_running, owner_of, run, run_from, setting, start, step, strand_of}
 use Rattle.hh_model.specs.Tree.{Kept}
 use Rattle.hh_model.proofs.Counts.{counted_step, run_push}
 use Rattle.hh_model.proofs.EndLaws.{ended_stays}
@@ -27,6 +27,7 @@ use Rattle.hh_model.proofs.Root.{runs_have_one_root}
 use Rattle.hh_model.proofs.Steps.{step_cases}
 use Rattle.hh_model.proofs.Stored.{names_are_stored}
 use Rattle.hh_model.proofs.Taken.{can_made, can_runs, step_idle}
+use Rattle.hh_model.proofs.Leaves.{can_going}
 use Rattle.race_report.specs.declared.data.Field.{Field}
 use Rattle.race_report.specs.declared.data.Access.{Access}
 use Rattle.race_report.specs.Accesses.{access_of, accesses_from, line_access, task_access, with_some}
@@ -87,13 +88,6 @@ done_root p m t K going =
   where
     not_yet : m.end ≡ Some Done → (x : Task) × (slice_get m.tasks t ≡ Some x) × (x.parent ≡ None)
     not_yet h = absurd (let q : None ≡ Some Done = sym going ∙ h in cc)
-
-can_going : (m : State) (u : ℕ) → can_step m u ≡ true → m.end ≡ None
-can_going m u can = by m.end can
-  where
-    by : (o : Option End) → goes_on o (is_running (slice_get m.tasks u)) ≡ true → o ≡ None
-    by None h = refl
-    by (Some e) h = absurd (false≢true h)
 
 none_or : (o : Option End) → (o ≡ None) ⊎ ((e : End) × (o ≡ Some e))
 none_or None = inl refl

@@ -2,6 +2,7 @@
 use Rattle.std.proofs.Common.{◌≡◌, ℕ, ℤ, suc, ◌+◌, ◌-◌, ◌==◌, ◌&&◌, Bool, true, false, cond, Option, Some, None, List, [], ◌∷◌, ◌++◌, length, map, nat_lt, slice_get, inl, inr, refl, ap, ap₂, sym, subst, ◌∙◌, arith, append-nil, append_assoc}
 use Rattle.std.proofs.lemmas.Bool.{cases_Bool}
 use Rattle.listed.proofs.Members.{In, in_append_right}
+use Rattle.listed.proofs.Places.{in_got}
 use Rattle.hh_lang.specs.declared.program.Line.{Line}
 use Rattle.hh_lang.specs.Form.{ProgramText}
 use Rattle.hh_model.specs.declared.data.Name.{Name}
@@ -19,7 +20,6 @@ use Rattle.renaming_laws.specs.Renaming.{strand_to}
 use Rattle.renaming_laws.proofs.Effects.{same_task}
 use Rattle.schedule_laws.specs.Prints.{Print, PrintsAreOrdered, line_print, print_by, print_of, printed_by, prints_from, task_print}
 use Rattle.schedule_laws.proofs.Carrying.{print_to}
-use Rattle.schedule_laws.proofs.Splits.{in_got}
 
 abbrev pub numbers : List Print → List ℤ
 numbers [] = []

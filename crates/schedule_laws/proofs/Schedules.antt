@@ -2,6 +2,7 @@
 use Rattle.std.proofs.Common.{◌≡◌, ℕ, ◌+◌, ◌<◌, Bool, true, false, cond, Option, Some, None, List, [], ◌∷◌, ◌++◌, length, map, slice_get, inl, inr, refl, ap, sym, subst, ◌∙◌, arith}
 use Rattle.std.proofs.lemmas.Option.{same_Some}
 use Rattle.listed.proofs.Members.{In, contains_from_in, in_append_cases, in_append_left, in_append_right, in_from_contains}
+use Rattle.listed.proofs.Places.{in_map}
 use Rattle.hh_lang.specs.Form.{ProgramText}
 use Rattle.hh_model.specs.declared.data.Strand.{Strand}
 use Rattle.hh_model.specs.declared.data.Edge.{Edge}
@@ -17,7 +18,7 @@ use Rattle.race_report.specs.Accesses.{access_of, accesses_from, task_access, wi
 use Rattle.renaming_laws.specs.Renaming.{IsRenaming, or_none, end_to, strand_to}
 use Rattle.renaming_laws.specs.Alike.{AreAlike}
 use Rattle.renaming_laws.proofs.Carried.{walk_to}
-use Rattle.renaming_laws.proofs.Lists.{from_map, in_map}
+use Rattle.renaming_laws.proofs.Lists.{from_map}
 use Rattle.renaming_laws.proofs.Runs.{kept_here, step_grows}
 use Rattle.renaming_laws.proofs.Unnamed.{itself}
 use Rattle.schedule_laws.specs.Agrees.{Agrees, access_to, field_to}

@@ -1,7 +1,8 @@
 -- The two last returns into one join, in either order; and with them all steps of two tasks that run at one time.
 use Rattle.std.proofs.Common.{◌≡◌, ℕ, ℤ, ◌+◌, ◌-◌, ◌%◌, ◌<◌, true, false, cond, Option, Some, None, List, [], ◌∷◌, ◌++◌, length, slice_get, slice_set, ◌⊎◌, inl, inr, refl, ap, sym, subst, ◌∙◌, arith, append-nil, eq-eqb}
-use Rattle.std.proofs.lemmas.Bool.{cases_Bool, cases_eq, cond-false, cond-true, eqb-false, eqb-true, false≢true}
+use Rattle.std.proofs.lemmas.Bool.{cases_Bool, cases_eq, cond-false, cond-true, eqb-false, eqb-true}
 use Rattle.std.proofs.lemmas.Option.{same_Some}
+use Rattle.std.proofs.lemmas.List.{set-set, set_comm}
 use Rattle.listed.proofs.Members.{In, got_other, got_same}
 use Rattle.hh_lang.specs.declared.instr.Instr.{Instr}
 use Rattle.hh_model.specs.declared.data.Name.{Name}
@@ -9,13 +10,13 @@ use Rattle.hh_model.specs.declared.data.Status.TheVariants.{Running}
 use Rattle.hh_model.specs.declared.data.Task.{Task}
 use Rattle.hh_model.specs.declared.data.State.{State}
 use Rattle.hh_model.specs.Disentangled.{Disentangled}
-use Rattle.hh_model.specs.Step.{child_ended_by, edge, ended_task, is_left, is_running, is_waiting, joined_task, kept_by, parent_of, parents, result_of, resumed, setting, sibling, strand}
+use Rattle.hh_model.specs.Step.{child_ended_by, edge, ended_task, is_left, is_running, joined_task, kept_by, parent_of, parents, result_of, resumed, setting, sibling, strand}
 use Rattle.hh_model.specs.Store.{NamesAreStoredIn}
 use Rattle.hh_model.specs.Tree.{Kept}
-use Rattle.hh_model.proofs.Lists.{set_again}
 use Rattle.hh_model.proofs.Root.{runs_tell}
+use Rattle.hh_model.proofs.Leaves.{wait_there}
 use Rattle.renaming_laws.proofs.Changed.{Change, ChangesBy, Edits, Grows, Same}
-use Rattle.schedule_laws.proofs.Swapping.{Agree, set_set, sets}
+use Rattle.schedule_laws.proofs.Swapping.{Agree, sets}
 use Rattle.schedule_laws.proofs.Moves.{Acts, Joins, Last, Moves, Two, change_in, last_move, last_moves}
 use Rattle.schedule_laws.proofs.Apart.{plain_quiet, run_keeps_none}
 use Rattle.schedule_laws.proofs.Commuting.{Even}
@@ -24,10 +25,10 @@ use Rattle.schedule_laws.proofs.Lows.{LowIn}
 
 -- a child's record is written over by the join
 join_over : (ts : List Task) (q l : ℕ) (a b c : Task) (k : ℕ) (z : Task) → (k ≡ l) ⊎ (k ≡ l + 1) → sets ((l, a) ∷ (l + 1, b) ∷ (q, c) ∷ []) (slice_set ts k z) ≡ sets ((l, a) ∷ (l + 1, b) ∷ (q, c) ∷ []) ts
-join_over ts q l a b c k z (inl e) = subst (λ j. sets ((l, a) ∷ (l + 1, b) ∷ (q, c) ∷ []) (slice_set ts j z) ≡ sets ((l, a) ∷ (l + 1, b) ∷ (q, c) ∷ []) ts) (sym e) (ap (λ w. slice_set (slice_set w (l + 1) b) q c) (set_again ts l z a))
+join_over ts q l a b c k z (inl e) = subst (λ j. sets ((l, a) ∷ (l + 1, b) ∷ (q, c) ∷ []) (slice_set ts j z) ≡ sets ((l, a) ∷ (l + 1, b) ∷ (q, c) ∷ []) ts) (sym e) (ap (λ w. slice_set (slice_set w (l + 1) b) q c) (set-set ts l z a))
 join_over ts q l a b c k z (inr e) =
     subst (λ j. sets ((l, a) ∷ (l + 1, b) ∷ (q, c) ∷ []) (slice_set ts j z) ≡ sets ((l, a) ∷ (l + 1, b) ∷ (q, c) ∷ []) ts) (sym e)
-    (ap (λ w. slice_set (slice_set w (l + 1) b) q c) (set_set ts (l + 1) l z a (λ h. (let h' : l + 1 ≡ l = h in omega arith))) ∙ ap (λ w. slice_set w q c) (set_again (slice_set ts l a) (l + 1) z b))
+    (ap (λ w. slice_set (slice_set w (l + 1) b) q c) (set_comm ts (l + 1) l z a (λ h. (let h' : l + 1 ≡ l = h in omega arith))) ∙ ap (λ w. slice_set w q c) (set-set (slice_set ts l a) (l + 1) z b))
 
 joined_even : (m m1 m2 m12 m21 : State) (t u q l : ℕ) (z z' a b c : Task) → (t ≡ l) ⊎ (t ≡ l + 1) → (u ≡ l) ⊎ (u ≡ l + 1) → Moves m m1 t (Acts z Same) → Moves m m2 u (Acts z' Same)
     → Moves m1 m12 u (Joins q l a b c) → Moves m2 m21 t (Joins q l a b c) → Even m12 m21
@@ -45,10 +46,6 @@ joined_even m m1 m2 m12 m21 t u q l z z' a b c at au Ht Hu Hu1 Ht2 =
       edges = λ e. (subst (λ es. In es e) edges, subst (λ es. In es e) (sym edges));
       end = Ht2.end ∙ (Hu.end ∙ (sym Ht.end ∙ sym Hu1.end));
     }
-
-wait_there : (o : Option Task) → is_waiting o ≡ true → (x : Task) × (o ≡ Some x)
-wait_there None e = absurd (false≢true e)
-wait_there (Some x) e = (x, refl)
 
 module _ (m : State) (K : Kept m) (D : Disentangled m.tasks m.store) (N : NamesAreStoredIn m) (L : LowIn m) (rows : length m.store ≡ length m.tasks) (going : m.end ≡ None)
     (t u : ℕ) (two : t ≡ u → ⊥) (x y : Task) (is : slice_get m.tasks t ≡ Some x) (iu : slice_get m.tasks u ≡ Some y) (running_t : x.status ≡ Running) (running_u : y.status ≡ Running)

@@ -1,7 +1,8 @@
 -- Lists of what steps make, of which one is moved to the front.
-use Rattle.std.proofs.Common.{◌≡◌, ℕ, zero, suc, Option, Some, None, List, [], ◌∷◌, ◌++◌, map, slice_get, ◌⊎◌, inl, inr, refl, ap, sym, subst, ◌∙◌, arith}
+use Rattle.std.proofs.Common.{◌≡◌, ℕ, zero, suc, Option, Some, None, List, [], ◌∷◌, ◌++◌, map, ◌⊎◌, inl, inr, refl, ap, sym, subst, ◌∙◌, arith}
 use Rattle.std.proofs.lemmas.Option.{same_Some}
 use Rattle.listed.proofs.Members.{In, got_in, in_append_cases, in_append_left, in_append_right}
+use Rattle.listed.proofs.Places.{in_got}
 use Rattle.hh_model.specs.declared.data.Edge.{Edge}
 use Rattle.hh_model.specs.Precedence.{Precedes}
 use Rattle.race_report.specs.declared.data.Access.{Access}
@@ -53,11 +54,6 @@ module _ {X : Type 0} (to : (ℕ → ℕ) → X → X) (Bad : X → X → Type 0
 abbrev pub InOrder : List Edge → List Access → Type 0
 InOrder es [] = Unit {0}
 InOrder es (a ∷ rest) = ((b : Access) → In rest b → Clash a b → Precedes es a.strand b.strand) × InOrder es rest
-
-pub in_got : {A : Type 0} (xs : List A) (x : A) → In xs x → (k : ℕ) × (slice_get xs k ≡ Some x)
-in_got [] x i = absurd i
-in_got (y ∷ ys) x (inl e) = (0, ap Some e)
-in_got (y ∷ ys) x (inr i) = let z = in_got ys x i in (suc z.0, z.1)
 
 pub to_order : (es : List Edge) (xs : List Access) → AreOrdered es xs → InOrder es xs
 to_order es [] h = tt

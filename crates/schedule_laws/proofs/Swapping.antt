@@ -1,20 +1,14 @@
 -- Writes of lists at different places, in either order.
 use Rattle.std.proofs.Common.{◌≡◌, ℕ, zero, suc, ◌<◌, Option, Some, None, List, [], ◌∷◌, ◌++◌, length, slice_get, slice_set, inl, inr, refl, ap, sym, subst, ◌∙◌, length-set}
 use Rattle.std.proofs.lemmas.Bool.{cases_eq}
+use Rattle.std.proofs.lemmas.List.{set-set, set_comm}
 use Rattle.listed.proofs.Members.{got_front, got_other, got_same, got_within}
 use Rattle.hh_model.specs.declared.data.Name.{Name}
 use Rattle.hh_model.specs.declared.data.Object.{Object}
 use Rattle.hh_model.specs.declared.data.Task.{Task}
 use Rattle.hh_model.specs.Effect.{object_at, row_of}
-use Rattle.hh_model.proofs.Lists.{set_again, set_front}
+use Rattle.hh_model.proofs.Lists.{set_front}
 use Rattle.renaming_laws.proofs.Changed.{Change, Same, Grows, Edits, Edit, changed, edited, edited_row, put_in}
-
-pub set_set : {A : Type 0} (xs : List A) (i j : ℕ) (x y : A) → (i ≡ j → ⊥) → slice_set (slice_set xs i x) j y ≡ slice_set (slice_set xs j y) i x
-set_set [] i j x y ne = refl
-set_set (z ∷ zs) zero zero x y ne = absurd (ne refl)
-set_set (z ∷ zs) zero (suc j) x y ne = refl
-set_set (z ∷ zs) (suc i) zero x y ne = refl
-set_set (z ∷ zs) (suc i) (suc j) x y ne = ap (λ ws. z ∷ ws) (set_set zs i j x y (λ e. ne (ap suc e)))
 
 -- TASKS
 
@@ -47,7 +41,7 @@ sets_front (x ∷ xs) ts more h =
 
 set_past : (xs : List (ℕ × Task)) (ts : List Task) (k : ℕ) (z : Task) → AllAt (λ j. k ≡ j → ⊥) xs → slice_set (sets xs ts) k z ≡ sets xs (slice_set ts k z)
 set_past [] ts k z h = refl
-set_past (x ∷ xs) ts k z h = set_past xs (slice_set ts x.0 x.1) k z h.1 ∙ ap (sets xs) (sym (set_set ts k x.0 z x.1 h.0))
+set_past (x ∷ xs) ts k z h = set_past xs (slice_set ts x.0 x.1) k z h.1 ∙ ap (sets xs) (sym (set_comm ts k x.0 z x.1 h.0))
 
 pub sets_swap : (xs ys : List (ℕ × Task)) (ts : List Task) → AllAt (λ k. AllAt (λ j. k ≡ j → ⊥) ys) xs → sets xs (sets ys ts) ≡ sets ys (sets xs ts)
 sets_swap [] ys ts h = refl
@@ -61,13 +55,13 @@ alter store k h = slice_set store k (h (row_of (slice_get store k)))
 alter_other : (store : List (List Object)) (j k : ℕ) (g h : List Object → List Object) → (j ≡ k → ⊥) → alter (alter store j g) k h ≡ alter (alter store k h) j g
 alter_other store j k g h ne =
     ap (λ w. slice_set (alter store j g) k (h (row_of w))) (got_other store j k (g (row_of (slice_get store j))) (λ e. ne (sym e)))
-    ∙ (set_set store j k (g (row_of (slice_get store j))) (h (row_of (slice_get store k))) ne
+    ∙ (set_comm store j k (g (row_of (slice_get store j))) (h (row_of (slice_get store k))) ne
     ∙ ap (λ w. slice_set (alter store k h) j (g (row_of w))) (sym (got_other store k j (h (row_of (slice_get store k))) ne)))
 
 alter_here : (store : List (List Object)) (k : ℕ) (row : List Object) (g h : List Object → List Object) → slice_get store k ≡ Some row → alter (alter store k g) k h ≡ slice_set store k (h (g row))
 alter_here store k row g h is =
     ap (λ w. slice_set (alter store k g) k (h (row_of w))) (got_same store k row (g (row_of (slice_get store k))) is)
-    ∙ (set_again store k (g (row_of (slice_get store k))) (h (g (row_of (slice_get store k)))) ∙ ap (λ w. slice_set store k (h (g (row_of w)))) is)
+    ∙ (set-set store k (g (row_of (slice_get store k))) (h (g (row_of (slice_get store k)))) ∙ ap (λ w. slice_set store k (h (g (row_of w)))) is)
 
 alter_same : (store : List (List Object)) (j k : ℕ) (row : List Object) (g h : List Object → List Object) → j ≡ k → slice_get store k ≡ Some row → h (g row) ≡ g (h row) → alter (alter store j g) k h ≡ alter (alter store k h) j g
 alter_same store j k row g h e is same =
@@ -105,13 +99,13 @@ edit_edit : (row : List Object) (c c' : ℕ) (e d : Edit) (old old' : Object) �
     → edited_row (edited_row row c' d) c e ≡ edited_row (edited_row row c e) c' d
 edit_edit row c c' e d old old' is is' same = elim (cases_eq c c') [
   | inl h ↦ subst (λ j. edited_row (edited_row row j d) c e ≡ edited_row (edited_row row c e) j d) h (here e d is (same h) ∙ sym (here d e is refl))
-  | inr ne ↦ apart row c c' e d old old' is is' ne ∙ (set_set row c' c (edited d old') (edited e old) (λ h. ne (sym h)) ∙ sym (apart row c' c d e old' old is' is (λ h. ne (sym h))))
+  | inr ne ↦ apart row c c' e d old old' is is' ne ∙ (set_comm row c' c (edited d old') (edited e old) (λ h. ne (sym h)) ∙ sym (apart row c' c d e old' old is' is (λ h. ne (sym h))))
 ]
   where
     here : (e d : Edit) → slice_get row c ≡ Some old → {z : Object} → edited e (edited d old) ≡ z → edited_row (edited_row row c d) c e ≡ slice_set row c z
     here e d is {z} h =
         ap (λ w. edited_row (put_in row c d w) c e) is
-        ∙ (ap (put_in (slice_set row c (edited d old)) c e) (got_same row c old (edited d old) is) ∙ (set_again row c (edited d old) (edited e (edited d old)) ∙ ap (slice_set row c) h))
+        ∙ (ap (put_in (slice_set row c (edited d old)) c e) (got_same row c old (edited d old) is) ∙ (set-set row c (edited d old) (edited e (edited d old)) ∙ ap (slice_set row c) h))
 
     apart : (row : List Object) (c c' : ℕ) (e d : Edit) (old old' : Object) → slice_get row c ≡ Some old → slice_get row c' ≡ Some old' → (c ≡ c' → ⊥)
         → edited_row (edited_row row c' d) c e ≡ slice_set (slice_set row c' (edited d old')) c (edited e old)

@@ -1,5 +1,6 @@
 -- Verdicts are exact, and speak for all schedules.
-use Rattle.std.proofs.Common.{◌≡◌, ℕ, suc, ◌+◌, ◌-◌, ◌^◌, ◌<◌, ◌==◌, min, lit<, Bool, false, cond, Option, Some, None, List, [], ◌∷◌, length, refl, ap, sym, subst, ◌∙◌, arith}
+use Rattle.std.proofs.Common.{◌≡◌, ℕ, ◌+◌, ◌-◌, ◌^◌, ◌<◌, ◌==◌, min, lit<, cond, Option, Some, None, List, [], ◌∷◌, length, refl, ap, sym, subst, ◌∙◌, arith}
+use Rattle.listed.proofs.Numbers.{not_zero}
 use Rattle.hh_lang.specs.Form.{ProgramText}
 use Rattle.run_trace.specs.Entry.{EntryValue}
 use Rattle.run_trace.specs.Settings.{SettingsValue, field_limit}
@@ -22,14 +23,11 @@ use Rattle.schedule_laws.proofs.Schedules.{every_end_agrees}
 use Rattle.schedule_report.specs.declared.data.Clashes.{Clashes}
 use Rattle.schedule_report.specs.declared.data.Verdict.{Verdict}
 use Rattle.schedule_report.specs.declared.data.Verdict.TheVariants.{Agree, AgreeButForPrints, MayDiffer}
-use Rattle.schedule_report.specs.Schedules.{AreClashes, IsWhole, verdict_of}
+use Rattle.schedule_report.specs.Schedules.{AreClashes, verdict_of}
 use Rattle.schedule_report.specs.Laws.{AgreeingRunsSpeakForAll, Follows, HasPrintsOrdered, Means, SaysAgree, VerdictsAreExact}
 use Rattle.schedule_report.proofs.Empty.{empty_report, none_races}
 use Rattle.schedule_report.proofs.Swapped.{no_contention, none_contends}
 use Rattle.schedule_report.proofs.Printed.{no_prints_race, prints_in_order}
-
-not_zero : (n : ℕ) → 0 < n → (n == 0) ≡ false
-not_zero n lt = grind arith
 
 module _ (p : ProgramText) (s : SettingsValue) (journal : List EntryValue) (c : Clashes) (A : AreClashes p s journal c) where
   abbrev limit : ℕ

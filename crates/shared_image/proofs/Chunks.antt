@@ -1,8 +1,9 @@
 -- The objects of a chunk in order, and in which chunk an object is found.
 use Rattle.std.proofs.Common.{◌≡◌, ℕ, ◌+◌, ◌*◌, ◌<◌, ◌≤◌, ◌==◌, arith, Bool, true, false, cond, Option, Some, None, List, [], ◌∷◌, map, eqb-true, inl, inr, refl, ap, sym, subst, ◌∙◌}
-use Rattle.std.specs.List.{AllByRecursion, IsDistinct}
+use Rattle.std.specs.List.{IsDistinct}
 use Rattle.std.proofs.lemmas.Bool.{eq-eqb, false≢true}
 use Rattle.std.proofs.lemmas.Map.Keys.{IsDistinct-head, IsDistinct-tail}
+use Rattle.listed.proofs.Places.{each_in}
 use Rattle.object_layout.specs.Cell.{Born, Cell, Hole, Mark, Moved, size_of}
 use Rattle.object_layout.specs.ChunkValue.{ChunkValue}
 use Rattle.object_layout.specs.Objects.{Located, located_by, objects_from}
@@ -63,11 +64,6 @@ numbered_in n (k ∷ ks) o i = by (numbered_in n ks o) (k.number == n) refl i
     by go true e j = (k, inl refl, eqb-true k.number n e, j)
     by go false e j = let r = go j in (r.0, inr r.1, r.2, r.3)
 
-all_at : {A : Type 0} (Q : A → Type 0) (xs : List A) (x : A) → AllByRecursion Q xs → In xs x → Q x
-all_at Q [] x all i = absurd i
-all_at Q (y ∷ ys) x all (inl e) = subst Q e all.0
-all_at Q (y ∷ ys) x all (inr i) = all_at Q ys x all.1 i
-
 in_numbered : (n : ℕ) (ks : List Chunk) (c : Chunk) (o : Located) → IsDistinct (λ a b. a == b) (map (λ (z : Chunk). z.number) ks) → In ks c → c.number ≡ n → In c.objects o → In (objects_numbered n ks) o
 in_numbered n [] c o d i e j = absurd i
 in_numbered n (k ∷ ks) c o d i e j = by (λ h. in_numbered n ks c o (IsDistinct-tail (λ a b. a == b) k.number (map (λ (z : Chunk). z.number) ks) d) h e j) (k.number == n) refl i
@@ -75,7 +71,7 @@ in_numbered n (k ∷ ks) c o d i e j = by (λ h. in_numbered n ks c o (IsDistinc
     by : (In ks c → In (objects_numbered n ks) o) → (b : Bool) → (k.number == n) ≡ b → In (k ∷ ks) c → In (cond b k.objects (objects_numbered n ks)) o
     by go true f (inl same) = subst (λ (z : Chunk). In z.objects o) (sym same) j
     by go true f (inr i) =
-        let other : (k.number == c.number) ≡ false = all_at (λ b. (k.number == b) ≡ false) (map (λ (z : Chunk). z.number) ks) c.number (IsDistinct-head (λ a b. a == b) k.number (map (λ (z : Chunk). z.number) ks) d) (in_map (λ (z : Chunk). z.number) ks c i) in
+        let other : (k.number == c.number) ≡ false = each_in (λ b. (k.number == b) ≡ false) (map (λ (z : Chunk). z.number) ks) c.number (IsDistinct-head (λ a b. a == b) k.number (map (λ (z : Chunk). z.number) ks) d) (in_map (λ (z : Chunk). z.number) ks c i) in
         absurd (false≢true (sym other ∙ (ap (λ z. k.number == z) e ∙ f)))
     by go false f (inl same) = absurd (false≢true (sym f ∙ (ap (λ (z : Chunk). z.number == n) same ∙ eq-eqb c.number n e)))
     by go false f (inr i) = go i

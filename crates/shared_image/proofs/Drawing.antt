@@ -3,11 +3,14 @@ use Rattle.std.proofs.Common.{◌≡◌, ◌⊎◌, ℕ, ◌+◌, ◌*◌, ◌<�
 use Rattle.std.proofs.lemmas.Bool.{cases_Bool}
 use Rattle.std.proofs.lemmas.List.{length-map}
 use Rattle.std.proofs.lemmas.Option.{same_Some, slice_get-map}
+use Rattle.listed.proofs.Places.{got_some, in_got}
+use Rattle.listed.proofs.Members.{got_in}
 use Rattle.hh_model.specs.declared.data.Name.{Name}
 use Rattle.hh_model.specs.declared.data.Object.{Object}
 use Rattle.hh_model.specs.declared.data.Task.{Task}
 use Rattle.hh_model.specs.Effect.{object_at}
 use Rattle.hh_model.specs.Step.{joined}
+use Rattle.hh_model.proofs.Leaves.{waiting_stops}
 use Rattle.object_layout.specs.declared.word.Addr.{Addr}
 use Rattle.object_layout.specs.Cell.{IsRef}
 use Rattle.object_layout.specs.Layout.{word_of_ref}
@@ -33,10 +36,10 @@ use Rattle.heap_image.specs.declared.picture.Picked.{Picked}
 use Rattle.heap_image.specs.declared.picture.Picture.{Picture}
 use Rattle.heap_image.specs.Picture.{AreApart, IsAncestor, IsFit, IsOwned, IsPlaced, IsRunning, KeepsToPath, LeadsSomewhere, end_of}
 use Rattle.shared_image.specs.Drawn.{AreHeldInWords, IsHandedBack, IsPictureOf, drawn_field, drawn_object}
-use Rattle.shared_image.proofs.Resting.{R as Known_R, H as Known_H, content as Known_content, own_is as Known_own_is, live as Known_live, chunk as Known_chunk, owner as Known_owner, near as Known_near, measured as Known_measured, S, made, read_length, waits_idle}
+use Rattle.shared_image.proofs.Resting.{R as Known_R, H as Known_H, content as Known_content, own_is as Known_own_is, live as Known_live, chunk as Known_chunk, owner as Known_owner, near as Known_near, measured as Known_measured, S, made, read_length}
 use Rattle.shared_image.proofs.Known.{T, k, owners, rests, runs, task_live}
-use Rattle.shared_image.proofs.Links.{chunk_in, made_at, not_running, on_path, owned_at, owner_is, running}
-use Rattle.shared_image.proofs.Numbers.{all_in, before_offset, chunk_of_word, got_at, in_at, offset_of_word, word_some}
+use Rattle.shared_image.proofs.Links.{chunk_in, not_running, on_path, owned_at, owner_is, running}
+use Rattle.shared_image.proofs.Numbers.{all_in, before_offset, chunk_of_word, offset_of_word, word_some}
 
 module _ (w : SharedValue) (I : IsSharedValue w) (F : AreHeldInWords w) (p : Picture) (P : IsPictureOf w p) where
   abbrev v : Memory
@@ -127,7 +130,7 @@ module _ (w : SharedValue) (I : IsSharedValue w) (F : AreHeldInWords w) (p : Pic
     pub leads : (x : ℕ) → In q.references x → LeadsSomewhere p x
     leads x j =
         let r = map_in word_of_ref o.refs x j in
-        let n = in_at o.refs r.0 r.1 in
+        let n = in_got o.refs r.0 r.1 in
         subst (LeadsSomewhere p) r.2 (leads_by n.0 r.0 n.1 (ref_near r.0 r.1))
 
     -- a field that the set of another task's heap has
@@ -136,7 +139,7 @@ module _ (w : SharedValue) (I : IsSharedValue w) (F : AreHeldInWords w) (p : Pic
         let s : Source = record { object = o.at; field = n } in
         let K : IsSource v (k w I) u s = (S w I).sources u s j in
         let mine : own (k w I) K.name ≡ t = same_Some (own (k w I) K.name) t (sym K.place.chunk ∙ owner) in
-        let y = made_at TT u lt in
+        let y = got_some TT u lt in
         let x = task_live w I u y.0 y.1 lives in
         let f : Remembered = record { task = u; address = q.address; place = n } in
         let above : (u ≡ own (k w I) K.name) ⊎ IsAncestor p.tasks (own (k w I) K.name) u = on_path w I p P (own (k w I) K.name) u K.above lives in (
@@ -149,7 +152,7 @@ module _ (w : SharedValue) (I : IsSharedValue w) (F : AreHeldInWords w) (p : Pic
         let m = reference n a e in
         let z = own (k w I) m.0 in
         let lives : joined TT z ≡ false = (owners w I).live m.0.task in
-        let ref = ref_near (Some a) (got_at o.refs n (Some a) e) in
+        let ref = ref_near (Some a) (got_in o.refs n (Some a) e) in
         let eh : h ≡ t = owner_is w I p P o.at t h near owner live oh in
         let eu : u ≡ z = owner_is w I p P a z u ref.0 m.2.chunk lives ou in
         let goes : KeepsToPath p q.address n t z = elim ((S w I).remembered t o content.0 n m.0 R i content.1 m.1) [
@@ -204,7 +207,7 @@ module _ (w : SharedValue) (I : IsSharedValue w) (F : AreHeldInWords w) (p : Pic
   fits u s lives j =
       let K : IsSource v (k w I) u s = (S w I).sources u s j in
       let t = own (k w I) K.name in
-      let idle : IsHandedBack w t = runs w I t ∙ waits_idle (slice_get TT t) K.waits in
+      let idle : IsHandedBack w t = runs w I t ∙ waiting_stops (slice_get TT t) K.waits in
       let d = K.place.here K.rests in
       let c = content t idle d.0 d.1 in
       let object : c.0 ≡ K.object = same_Some c.0 K.object (sym c.1 ∙ (ap (object_at (k w I).machine.store) d.2.name ∙ K.is)) in

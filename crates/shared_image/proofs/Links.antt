@@ -1,8 +1,9 @@
 -- The tasks and the chunks of a picture.
-use Rattle.std.proofs.Common.{◌≡◌, ◌⊎◌, ℕ, zero, suc, ◌*◌, ◌<◌, arith, true, false, Option, Some, None, List, [], ◌∷◌, length, option_map, slice_get, inl, inr, refl, ap, sym, subst, ◌∙◌}
+use Rattle.std.proofs.Common.{◌≡◌, ◌⊎◌, ℕ, zero, suc, ◌*◌, ◌<◌, true, false, Option, Some, None, List, [], ◌∷◌, length, option_map, slice_get, inl, inr, refl, ap, sym, subst, ◌∙◌}
 use Rattle.std.proofs.lemmas.Bool.{false≢true}
 use Rattle.std.proofs.lemmas.Option.{same_Some}
 use Rattle.listed.specs.Members.{In}
+use Rattle.listed.proofs.Places.{got_some}
 use Rattle.hh_model.specs.declared.data.State.{State as Machine}
 use Rattle.hh_model.specs.declared.data.Task.{Task}
 use Rattle.hh_model.specs.Paths.{IsWalkUp}
@@ -51,11 +52,6 @@ held_in : (o : Option Held) (t : ℕ) → option_map (λ (h : Held). h.owner) o 
 held_in None t e = absurd cc
 held_in (Some h) t e = (h, refl, same_Some h.owner t e)
 
-pub made_at : {A : Type 0} (xs : List A) (t : ℕ) → t < length xs → (x : A) × (slice_get xs t ≡ Some x)
-made_at [] t lt = absurd (omega arith)
-made_at (x ∷ xs) zero lt = (x, refl)
-made_at (x ∷ xs) (suc t) lt = made_at xs t (omega (arith, lt))
-
 module _ (w : SharedValue) (I : IsSharedValue w) (p : Picture) (P : IsPictureOf w p) where
   abbrev TT : List Task
   TT = T w I
@@ -68,7 +64,7 @@ module _ (w : SharedValue) (I : IsSharedValue w) (p : Picture) (P : IsPictureOf 
   task_in t y e live = let x = task_live w I t y e live in (drawn_task x.0, (P.tasks.each (drawn_task x.0)).1 (x.0, x.1, refl), x.2, x.3)
 
   pub has_task : (t : ℕ) → t < length TT → joined TT t ≡ false → HasTask p t
-  has_task t lt live = let y = made_at TT t lt in let q = task_in t y.0 y.1 live in (q.0, q.1, q.2)
+  has_task t lt live = let y = got_some TT t lt in let q = task_in t y.0 y.1 live in (q.0, q.1, q.2)
 
   pub parent_live : (t q : ℕ) → parents TT t ≡ Some q → joined TT t ≡ false → joined TT q ≡ false
   parent_live t q e live = (tree w I).apart q ((tree w I).waits t q e live)
@@ -101,7 +97,7 @@ module _ (w : SharedValue) (I : IsSharedValue w) (p : Picture) (P : IsPictureOf 
 
   pub running : (t : ℕ) → t < length TT → joined TT t ≡ false → is_state_running (state_of w.tree t) ≡ true → IsRunning p t
   running t lt live e =
-      let y = made_at TT t lt in
+      let y = got_some TT t lt in
       let x = task_live w I t y.0 y.1 live in
       let state : state_of w.tree t ≡ Some x.0.state = ap (λ n. state_of w.tree n) (sym x.2) ∙ ap (option_map (λ (n : Node). n.state)) x.1.is in
       (drawn_task x.0, (P.tasks.each (drawn_task x.0)).1 (x.0, x.1, refl), x.2, drawn_running x.0.state (sym (ap is_state_running state) ∙ e))

@@ -1,11 +1,9 @@
 -- Addresses as numbers, sizes of chunks, and numbers of 64 bits.
-use Rattle.std.proofs.Common.{◌≡◌, ℕ, ℤ, zero, suc, pos, negsuc, ◌+◌, ◌-◌, ◌*◌, ◌/◌, ◌%◌, ◌^◌, ◌<◌, arith, true, Some, List, [], ◌∷◌, All, slice_get, inl, inr, refl, ap, subst}
-use Rattle.std.specs.Prelude.{FitsSigned}
-use Rattle.std.specs.Int.{w64}
+use Rattle.std.proofs.Common.{◌≡◌, ℕ, zero, suc, ◌+◌, ◌-◌, ◌*◌, ◌/◌, ◌%◌, ◌^◌, ◌<◌, arith, Some, List, [], ◌∷◌, All, inl, inr, refl, subst}
 use Rattle.std.proofs.lemmas.List.Elements.{All-head, All-tail}
 use Rattle.std.proofs.lemmas.Option.{same_Some}
 use Rattle.listed.specs.Members.{In}
-use Rattle.hh_lang.specs.Number.{fits_i64}
+use Rattle.listed.proofs.Members.{got_in}
 use Rattle.object_layout.specs.declared.word.Addr.{Addr}
 use Rattle.object_layout.specs.Layout.{word_of_ref}
 use Rattle.heap_reading.specs.Image.{Rises}
@@ -34,31 +32,16 @@ word_long a lt short = let f : a.chunk * 1024 + a.offset + 1 < 2 ^ 43 = omega (a
 pub before_offset : (a b : Addr) → a.chunk ≡ b.chunk → word_of_ref (Some a) < word_of_ref (Some b) → a.offset < b.offset
 before_offset a b e lt = let f : a.chunk * 1024 + a.offset + 1 < b.chunk * 1024 + b.offset + 1 = lt in omega (arith, e, f)
 
--- NUMBERS
-pub fits_passes : (z : ℤ) → FitsSigned w64 z → fits_i64 z ≡ true
-fits_passes (pos n) h = let f : n < 2 ^ 63 = h.sfits in grind (arith, f)
-fits_passes (negsuc n) h = let f : n < 2 ^ 63 = h.sfits in grind (arith, f)
-
 -- LISTS
 pub all_in : {A : Type 0} (P : A → Type 0) (xs : List A) (x : A) → All P xs → In xs x → P x
 all_in P [] x all i = absurd i
 all_in P (y ∷ ys) x all (inl e) = subst P e (All-head P y ys all)
 all_in P (y ∷ ys) x all (inr i) = all_in P ys x (All-tail P y ys all) i
 
-pub got_at : {A : Type 0} (xs : List A) (i : ℕ) (x : A) → slice_get xs i ≡ Some x → In xs x
-got_at [] i x e = absurd cc
-got_at (y ∷ ys) zero x e = inl (same_Some y x e)
-got_at (y ∷ ys) (suc i) x e = inr (got_at ys i x e)
-
-pub in_at : {A : Type 0} (xs : List A) (x : A) → In xs x → (i : ℕ) × (slice_get xs i ≡ Some x)
-in_at [] x i = absurd i
-in_at (y ∷ ys) x (inl e) = (zero, ap Some e)
-in_at (y ∷ ys) x (inr i) = let r = in_at ys x i in (suc r.0, r.1)
-
 -- an order by what is behind is one by places
 pub rises_at : {A : Type 0} (before : A → A → Type 0) (xs : List A) → Rises before xs → RisesAt before xs
 rises_at before [] up i j x y lt e f = absurd cc
 rises_at before (z ∷ zs) up zero zero x y lt e f = absurd (omega arith)
 rises_at before (z ∷ zs) up (suc i) zero x y lt e f = absurd (omega arith)
-rises_at before (z ∷ zs) up zero (suc j) x y lt e f = subst (λ k. before k y) (same_Some z x e) (up.0 y (got_at zs j y f))
+rises_at before (z ∷ zs) up zero (suc j) x y lt e f = subst (λ k. before k y) (same_Some z x e) (up.0 y (got_in zs j y f))
 rises_at before (z ∷ zs) up (suc i) (suc j) x y lt e f = rises_at before zs up.1 i j x y (omega (arith, lt)) e f

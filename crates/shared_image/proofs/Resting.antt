@@ -4,11 +4,9 @@ use Rattle.std.proofs.lemmas.Bool.{false≢true}
 use Rattle.std.proofs.lemmas.Option.{slice_get_within}
 use Rattle.hh_model.specs.declared.data.Name.{Name}
 use Rattle.hh_model.specs.declared.data.Object.{Object}
-use Rattle.hh_model.specs.declared.data.Status.{Status}
-use Rattle.hh_model.specs.declared.data.Status.TheVariants.{Running, Waiting, Ended, Joined}
 use Rattle.hh_model.specs.declared.data.Task.{Task}
 use Rattle.hh_model.specs.Effect.{object_at}
-use Rattle.hh_model.specs.Step.{is_running, is_waiting, joined, runs as status_runs, waits}
+use Rattle.hh_model.specs.Step.{joined}
 use Rattle.run_ledger.specs.Heaps.{heap_of}
 use Rattle.object_layout.specs.declared.word.Addr.{Addr}
 use Rattle.object_layout.specs.Objects.{Located}
@@ -39,16 +37,6 @@ some_within {A = A} xs t e = by (slice_get xs t) refl e
     by : (o : Option A) → slice_get xs t ≡ o → is_some o ≡ true → t < length xs
     by None is z = absurd (false≢true z)
     by (Some x) is z = slice_get_within xs t x is
-
-pub waits_idle : (o : Option Task) → is_waiting o ≡ true → is_running o ≡ false
-waits_idle None e = refl
-waits_idle (Some y) e = by y.status e
-  where
-    by : (s : Status) → waits s ≡ true → status_runs s ≡ false
-    by Running z = absurd (false≢true z)
-    by Waiting z = refl
-    by (Ended n r) z = refl
-    by Joined z = refl
 
 module _ (w : SharedValue) (I : IsSharedValue w) where
   abbrev v : Memory

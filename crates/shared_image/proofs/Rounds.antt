@@ -1,6 +1,7 @@
 -- A picture grows chunk by chunk, and task by task.
-use Rattle.std.proofs.Common.{◌≡◌, ◌⊎◌, ℕ, ◌+◌, ◌*◌, ◌<◌, Option, Some, None, List, [], ◌∷◌, ◌++◌, length, map, option_map, slice_get, take, inl, inr, refl, sym, subst}
-use Rattle.listed.proofs.Members.{in_append_cases, in_append_left, in_append_right}
+use Rattle.std.proofs.Common.{◌≡◌, ◌⊎◌, ℕ, ◌+◌, ◌*◌, ◌<◌, Option, Some, None, List, [], ◌∷◌, ◌++◌, map, option_map, slice_get, take, inl, inr, refl, sym, subst}
+use Rattle.listed.proofs.Members.{in_append_left}
+use Rattle.listed.proofs.Places.{got_in_take, in_take_more}
 use Rattle.hh_model.specs.Step.{owner_of}
 use Rattle.chunk_pool.specs.declared.pool.Held.{Held}
 use Rattle.chunk_pool.specs.PoolValue.{held_at}
@@ -26,15 +27,6 @@ use Rattle.shared_image.proofs.Resting.{owner}
 front : {A : Type 0} (xs : List A) (i : ℕ) (x y : A) → slice_get xs i ≡ Some x → In (take i xs) y → In (take (i + 1) xs) y
 front xs i x y e j = subst (λ zs. In zs y) (sym (take_next xs i x e)) (in_append_left (take i xs) (x ∷ []) y j)
 
-last : {A : Type 0} (xs : List A) (i : ℕ) (x : A) → slice_get xs i ≡ Some x → In (take (i + 1) xs) x
-last xs i x e = subst (λ zs. In zs x) (sym (take_next xs i x e)) (in_append_right (take i xs) (x ∷ []) x (inl refl))
-
-front_or_last : {A : Type 0} (xs : List A) (i : ℕ) (x y : A) → slice_get xs i ≡ Some x → In (take (i + 1) xs) y → In (take i xs) y ⊎ (x ≡ y)
-front_or_last xs i x y e j = elim (in_append_cases (take i xs) (x ∷ []) y (subst (λ zs. In zs y) (take_next xs i x e) j)) [
-  | inl h ↦ inl h
-  | inr h ↦ elim h [ inl same ↦ inr same | inr none ↦ absurd none ]
-]
-
 module _ (w : SharedValue) (I : IsSharedValue w) where
   -- CHUNKS
   module _ (cs : List InUse) (i : ℕ) (c : InUse) (all : AreAll InUseBefore (IsInUse w) cs) (is : slice_get cs i ≡ Some c) where
@@ -53,16 +45,16 @@ module _ (w : SharedValue) (I : IsSharedValue w) where
 
         join : (x : Picked) → AreObjectsOf w (take i cs) x ⊎ Here x → AreObjectsOf w (take (i + 1) cs) x
         join x (inl X) = (X.0, X.1, front cs i c X.0 is X.2, X.3, X.4)
-        join x (inr Y) = (c, Y.0, last cs i c is, Y.1, Y.2)
+        join x (inr Y) = (c, Y.0, got_in_take cs i c is, Y.1, Y.2)
 
         split : (x : Picked) → AreObjectsOf w (take (i + 1) cs) x → AreObjectsOf w (take i cs) x ⊎ Here x
-        split x X = elim (front_or_last cs i c X.0 is X.2) [
+        split x X = elim (in_take_more cs i c X.0 is X.2) [
           | inl j ↦ inl (X.0, X.1, j, X.3, X.4)
           | inr e ↦ inr (X.1, subst (λ (z : InUse). In (objects_of w z.number) X.1) (sym e) X.3, X.4)
         ]
 
     pub words_step : ((d : InUse) → In (take i cs) d → AreInWords (objects_of w d.number)) → AreInWords (objects_of w c.number) → (d : InUse) → In (take (i + 1) cs) d → AreInWords (objects_of w d.number)
-    words_step so now d j = elim (front_or_last cs i c d is j) [
+    words_step so now d j = elim (in_take_more cs i c d is j) [
       | inl h ↦ so d h
       | inr e ↦ subst (λ (z : InUse). AreInWords (objects_of w z.number)) e now
     ]
@@ -103,10 +95,10 @@ module _ (w : SharedValue) (I : IsSharedValue w) where
 
         join : (f : Remembered) → AreFieldsOf w (take i xs) f ⊎ Its f → AreFieldsOf w (take (i + 1) xs) f
         join f (inl X) = (X.0, X.1, front xs i x X.0 is X.2, X.3, X.4)
-        join f (inr Y) = (x, Y.0, last xs i x is, Y.1, Y.2)
+        join f (inr Y) = (x, Y.0, got_in_take xs i x is, Y.1, Y.2)
 
         split : (f : Remembered) → AreFieldsOf w (take (i + 1) xs) f → AreFieldsOf w (take i xs) f ⊎ Its f
-        split f X = elim (front_or_last xs i x X.0 is X.2) [
+        split f X = elim (in_take_more xs i x X.0 is X.2) [
           | inl j ↦ inl (X.0, X.1, j, X.3, X.4)
           | inr e ↦ inr (X.1, subst (λ (z : Live). IsNoted w z.number X.1) (sym e) X.3, subst (λ (z : Live). f ≡ drawn_field z.number X.1) (sym e) X.4)
         ]

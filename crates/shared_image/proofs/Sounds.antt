@@ -4,6 +4,7 @@ use Rattle.std.specs.Prelude.{FitsSigned}
 use Rattle.std.specs.Int.{w64}
 use Rattle.std.proofs.lemmas.List.{length-map}
 use Rattle.std.proofs.lemmas.Option.{slice_get_within}
+use Rattle.hh_lang.proofs.Tests.{fits_passes}
 use Rattle.hh_model.specs.declared.data.State.{State as Machine}
 use Rattle.hh_model.specs.declared.data.Task.{Task as TaskOf}
 use Rattle.hh_model.specs.Step.{joined, owner_of, parent_of as parents_in, parents}
@@ -37,7 +38,7 @@ use Rattle.shared_image.proofs.Known.{T, few, fields_few, k, live_task, owners, 
 use Rattle.shared_image.proofs.Links.{has_task, parent_live}
 use Rattle.shared_image.proofs.Drawing.{births, apart, content, fits, keeps, leads, near, owner, placed, ref_near}
 use Rattle.shared_image.proofs.Resting.{made, read_length}
-use Rattle.shared_image.proofs.Numbers.{all_in, fits_passes, rises_at, word_long}
+use Rattle.shared_image.proofs.Numbers.{all_in, rises_at, word_long}
 
 units_most : (slots : List (Option Held)) (n : ℕ) (h : Held) → held_in slots n ≡ Some h → h.units ≤ units_in slots
 units_most [] n h e = absurd cc

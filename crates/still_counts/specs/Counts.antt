@@ -1,5 +1,12 @@
 -- Counts of 64 bits that stand still at their last value.
 use Rattle.std.specs.Prelude.{ℕ, ◌+◌, ◌-◌, ◌^◌, min}
 
+abbrev pub last_count : ℕ
+last_count = 2 ^ 64 - 1
+
 abbrev pub raised_by : ℕ → ℕ → ℕ
-raised_by n k = min (n + k) (2 ^ 64 - 1)
+raised_by n k = min (n + k) last_count
+
+-- by one
+abbrev pub raised : ℕ → ℕ
+raised n = min (n + 1) last_count

@@ -1,11 +1,10 @@
 -- One entry more, and one line more, of a table.
-use Rattle.std.proofs.Common.{◌≡◌, ◌<◌, ◌+◌, ℕ, suc, List, [], ◌∷◌, ◌++◌, length, drop, get_or, ap, subst, sym, ◌∙◌, append_assoc, arith}
+use Rattle.std.proofs.Common.{◌≡◌, ◌<◌, ◌+◌, ℕ, List, ◌++◌, length, drop, get_or, ap, sym, ◌∙◌, append_assoc}
 use Rattle.std.specs.Prelude.{slice_get}
-use Rattle.std.proofs.Math.Seq.{drop-cons}
+use Rattle.std.proofs.lemmas.List.{drop_more}
 use Rattle.hh_lang.specs.Form.{ProgramText}
 use Rattle.hh_model.specs.declared.data.Object.{Object}
 use Rattle.run_trace.specs.Entry.{EntryValue}
-use Rattle.run_trace.specs.Settings.{SettingsValue}
 use Rattle.run_ledger.specs.declared.data.Ledger.{Ledger}
 use Rattle.run_ledger.specs.Entries.{after}
 use Rattle.run_journal.specs.BookValue.{BookValue}
@@ -27,16 +26,13 @@ module _ (journal : List EntryValue) (b b' : BookValue) (i : ℕ) (e : EntryValu
       ∙ ap (rows_from b.program b.limits b.ledger rows) (sym (cut b.program b.limits b.ledger 0 journal i e lt is))
       ∙ inv
 
-cut_at : {X : Type 0} (xs : List X) (i : ℕ) (d : X) → i < length xs → drop i xs ≡ get_or xs i d ∷ drop (i + 1) xs
-cut_at xs i d lt = let e : suc i ≡ i + 1 = omega arith in drop-cons xs i d lt ∙ ap (λ n. get_or xs i d ∷ drop n xs) e
-
 -- the line of a row, and the lines behind it
 pub lines_on : (p : ProgramText) (l : Ledger) (rows : List Row) (i t : ℕ) (r : Row) (now later all : List ℕ) → i < length rows → r ≡ get_or rows i r
     → now ++ lines_from p l t (drop i rows) ≡ all → later ≡ now ++ line_at p l t (slice_get l.machine.tasks t) r → later ++ lines_from p l (t + 1) (drop (i + 1) rows) ≡ all
 lines_on p l rows i t r now later all lt is inv e =
     ap (λ x. x ++ lines_from p l (t + 1) (drop (i + 1) rows)) (e ∙ ap (λ x. now ++ line_at p l t (slice_get l.machine.tasks t) x) is)
     ∙ append_assoc now (line_at p l t (slice_get l.machine.tasks t) (get_or rows i r)) (lines_from p l (t + 1) (drop (i + 1) rows))
-    ∙ ap (λ x. now ++ lines_from p l t x) (sym (cut_at rows i r lt))
+    ∙ ap (λ x. now ++ lines_from p l t x) (sym (drop_more rows i r lt))
     ∙ inv
 
 -- the words of an object more
@@ -45,4 +41,4 @@ pub words_on : (os : List Object) (i n m : ℕ) (o : Object) → i < length os �
 words_on os i n m o lt is e =
     ap (λ k. words_onto k (drop (i + 1) os)) e
     ∙ ap (λ (x : Object). words_onto (raised_by (raised_by (raised_by n 2) (length x.refs)) (length x.ints)) (drop (i + 1) os)) is
-    ∙ ap (words_onto n) (sym (cut_at os i o lt))
+    ∙ ap (words_onto n) (sym (drop_more os i o lt))

@@ -6,6 +6,11 @@ use Rattle.std.specs.List.{slice_split}
 abbrev pub lines_of : List ℕ → List (List ℕ)
 lines_of text = slice_split (λ c. c == 10) text
 
+-- no line is left
+abbrev pub is_last : List (List ℕ) → Bool
+is_last [] = true
+is_last (l ∷ ls) = false
+
 -- space, tab and carriage return
 abbrev pub is_blank : ℕ → Bool
 is_blank c = (c == 32) || (c == 9) || (c == 13)

@@ -1,5 +1,5 @@
+use Rattle.listed.proofs.Places.{lines_more}
 use Rattle.heap_graph.specs.Pieces.{opened}
-use Rattle.heap_graph.proofs.Drawn.{lines_more}
 use Rattle.heap_graph.proofs.draw.begin_boxes.Goals as goal
 
 pub loop-task-preserved : goal.loop-task-preserved

@@ -1,8 +1,9 @@
 use Rattle.std.proofs.Common.{◌++◌, ap, ◌∙◌}
 use Rattle.std.specs.Prelude.{codes}
 use Rattle.std.proofs.lemmas.Result.{on_ok_weaker}
+use Rattle.quoted_text.specs.Labels.{task_name}
 use Rattle.dot_text.specs.Dot.{attribute, node_begin}
-use Rattle.heap_graph.specs.Names.{task_name, heap_title}
+use Rattle.heap_graph.specs.Names.{heap_title}
 use Rattle.heap_graph.specs.Held.{held_of}
 use Rattle.heap_graph.proofs.Drawn.{node_made}
 use Rattle.heap_graph.proofs.overview.add_heap_node.Goals as goal

@@ -1,6 +1,7 @@
-use Rattle.std.proofs.Common.{◌<◌, ◌≡◌, ◌≤◌, ◌+◌, ℕ, false, length, drop, take, ap, arith, sym, subst, ◌∙◌, eq-eqb, nat_eq}
+use Rattle.std.proofs.Common.{◌<◌, ◌≡◌, ◌≤◌, ◌+◌, false, length, drop, take, ap, arith, sym, subst, ◌∙◌, eq-eqb, nat_eq}
 use Rattle.std.specs.Prelude.{Option, Some, None, IfNone}
 use Rattle.std.proofs.lemmas.List.{length-drop}
+use Rattle.std.proofs.lemmas.Bool.{ne_eqb}
 use Rattle.program_reader.specs.declared.cause.Cause.{Cause}
 use Rattle.text_lines.specs.Lines.{lines_of}
 use Rattle.program_reader.specs.Reading.{line_taken}
@@ -11,9 +12,6 @@ use Rattle.program_reader.proofs.read.read_lines.Goals as goal
 if_none : (f : Option Cause) (P : Type 0) → f ≡ None → IfNone f P → P
 if_none None P e h = h
 if_none (Some x) P e h = absurd (cc)
-
-apart : (a b : ℕ) → (a ≡ b → ⊥) → nat_eq a b ≡ false
-apart a b h = grind arith
 
 pub loop-cause-init : goal.loop-cause-init
 loop-cause-init c = record {
@@ -53,6 +51,6 @@ loop-cause-preserved c =
     let few : c.loop-cause.number ≤ 16777217 = omega (arith, c.loop-cause.invariant.fits, c.requires.sized) in
     record {
       reading = subst (IsReading c.args.outline.now c.args.text.now c.read_line.new.self (c.loop-cause.number + 1)) (sym below)
-          (goes_on c.args.outline.now c.args.text.now c.loop-cause.reader c.loop-cause.number c.line_end-end.result c.loop-cause.rest.now (nat_eq c.line_end-end.result (length c.loop-cause.rest.now)) c.loop-cause.invariant.reading c.line_end-end.ensures.end c.line_end-end.ensures.within (λ j. nat_eq c.line_end-end.result (length c.loop-cause.rest.now)) c.read_line.new.self few fault taken (apart c.line_end-end.result (length c.loop-cause.rest.now) c.if-last.false));
+          (goes_on c.args.outline.now c.args.text.now c.loop-cause.reader c.loop-cause.number c.line_end-end.result c.loop-cause.rest.now (nat_eq c.line_end-end.result (length c.loop-cause.rest.now)) c.loop-cause.invariant.reading c.line_end-end.ensures.end c.line_end-end.ensures.within (λ j. nat_eq c.line_end-end.result (length c.loop-cause.rest.now)) c.read_line.new.self few fault taken (ne_eqb c.line_end-end.result (length c.loop-cause.rest.now) c.if-last.false));
       fits = grind (arith, len, lt, length-drop, c.loop-cause.invariant.fits);
     }

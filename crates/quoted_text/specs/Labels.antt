@@ -1,0 +1,6 @@
+-- What pictures call a task.
+use Rattle.std.specs.Prelude.{ℕ, List, ◌++◌, codes}
+use Rattle.std.specs.Fmt.{decimal}
+
+abbrev pub task_name : ℕ → List ℕ
+task_name t = codes "task " ++ decimal t

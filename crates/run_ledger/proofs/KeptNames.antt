@@ -1,0 +1,35 @@
+-- What heaps hold, counted by the names of stored objects, and by the heaps of tasks that don't run.
+use Rattle.std.proofs.Common.{◌≡◌, ℕ, zero, suc, ◌+◌, ◌≤◌, Bool, true, false, cond, List, [], ◌∷◌, ◌++◌, slice_get, length, inl, refl, ap, arith, inr}
+use Rattle.std.specs.List.{flat_map}
+use Rattle.std.proofs.lemmas.List.Sums.{sum_by-cons}
+use Rattle.listed.proofs.Members.{In}
+use Rattle.hh_model.specs.declared.data.Name.{Name}
+use Rattle.hh_model.specs.declared.data.State.{State}
+use Rattle.hh_model.specs.declared.data.Task.{Task}
+use Rattle.hh_model.specs.Store.{IsStored}
+use Rattle.hh_model.specs.Step.{is_running}
+use Rattle.run_ledger.specs.declared.data.Heap.{Heap}
+use Rattle.run_ledger.specs.Heaps.{held_in, words_of, words_at, words_sum}
+use Rattle.run_ledger.specs.Report.{kept_from}
+
+-- names of stored objects are no more than the words of these
+pub stored_most : (m : State) (ns : List Name) → ((n : Name) → In ns n → IsStored m n) → length ns ≤ words_sum m ns
+stored_most m [] stored = omega arith
+stored_most m (n ∷ ns) stored =
+    let o = stored n (inl refl) in
+    let a : words_at m n ≡ 2 + length o.0.refs + length o.0.ints = ap words_of o.1 in
+    let b = sum_by-cons (words_at m) n ns in
+    let c = stored_most m ns (λ k i. stored k (inr i)) in
+    omega arith
+
+-- tasks that don't run hold no more than all
+module _ (g : List Name → ℕ) (add : (xs ys : List Name) → g (xs ++ ys) ≡ g xs + g ys) where
+  pub kept_least : (tasks : List Task) (heaps : List Heap) (t : ℕ) → g (kept_from tasks heaps t) ≤ g (flat_map held_in heaps)
+  kept_least tasks [] t = omega arith
+  kept_least tasks (h ∷ hs) t = by (is_running (slice_get tasks t)) (kept_least tasks hs (t + 1)) (add (held_in h) (flat_map held_in hs)) (add (held_in h) (kept_from tasks hs (t + 1)))
+    where
+      by : (b : Bool) → g (kept_from tasks hs (t + 1)) ≤ g (flat_map held_in hs) → g (held_in h ++ flat_map held_in hs) ≡ g (held_in h) + g (flat_map held_in hs)
+          → g (held_in h ++ kept_from tasks hs (t + 1)) ≡ g (held_in h) + g (kept_from tasks hs (t + 1))
+          → g (cond b (kept_from tasks hs (t + 1)) (held_in h ++ kept_from tasks hs (t + 1))) ≤ g (held_in h ++ flat_map held_in hs)
+      by true r a b = omega arith
+      by false r a b = omega arith
