@@ -4,6 +4,7 @@ ghost use Rattle.std.specs.Prelude.{◌≡◌, ℕ, ◌<◌, ◌≤◌, Option, 
 ghost use Rattle.run_trace.specs.declared.entry.Kind.TheVariants.{Took, Ran, Chunk, Begin, End, PutOff, Mark, More, Sweep, Fuel};
 ghost use Rattle.run_trace.specs.Entry.{IsKind};
 ghost use Rattle.run_ledger.specs.Heaps.{heap_of};
+ghost use Rattle.run_ledger.specs.Steps.{most_steps};
 ghost use Rattle.run_ledger.specs.Entries.{refusal, after, kind_refusal, after_kind, is_pool_enough};
 ghost use Rattle.run_journal.specs.Book.{Steady, Agrees, StaysSteady, FailsFor, general_refusal, went_on, taken_after};
 
@@ -37,7 +38,7 @@ impl<'p> Accounts<'p> {
     }
 
     fn enter_ran(&mut self, worker: u32, task: u32, steps: u32) -> Result<(), ApplyError>
-        requires few { steps ≤ 257 }
+        requires few { steps ≤ most_steps }
         requires stays { is_some (heap_of self.old.ledger task).begun ≡ false → StaysSteady self.old.limits self.old.program self.old.ledger task steps }
         requires agrees { Agrees self.old }
         ensures none { OnOk result (kind_refusal self.old.program self.old.limits self.old.ledger worker (Ran task steps) ≡ None) }

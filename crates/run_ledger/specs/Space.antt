@@ -1,7 +1,7 @@
 -- Laws of space by count.
 use Rattle.std.specs.Prelude.{◌≡◌, ℕ, ◌+◌, ◌*◌, ◌<◌, ◌≤◌, true, false, List, [], ◌∷◌, ◌++◌, Some, length, Contains, sum_by}
 use Rattle.run_trace.specs.declared.entry.Kind.TheVariants.{Ran, End, Sweep}
-use Rattle.run_trace.specs.Entry.{EntryValue}
+use Rattle.run_trace.specs.Entry.{EntryValue, private_limit}
 use Rattle.run_trace.specs.Settings.{SettingsValue, field_limit}
 use Rattle.hh_lang.specs.Form.{ProgramText, IsProgram}
 use Rattle.hh_model.specs.declared.data.Name.{Name}
@@ -18,9 +18,9 @@ use Rattle.run_ledger.specs.Sound.{SoundAt}
 use Rattle.hh_model.specs.Counts.{Counted}
 use Rattle.run_ledger.specs.Report.{report_of}
 
--- the steps of a legal journal are at most the fuel and 256 more
+-- the steps of a legal journal are at most the fuel and the private steps of one entry more
 abbrev pub StepsAreBounded : Type 0
-StepsAreBounded = (p : ProgramText) (s : SettingsValue) (journal : List EntryValue) → is_legal p s journal ≡ true → (ledger_of p s journal).steps ≤ s.fuel + 256
+StepsAreBounded = (p : ProgramText) (s : SettingsValue) (journal : List EntryValue) → is_legal p s journal ≡ true → (ledger_of p s journal).steps ≤ s.fuel + private_limit
 
 -- before each allocation among k steps of t, its words since the last collection are below the limit, and the object has
 -- its place

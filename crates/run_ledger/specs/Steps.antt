@@ -1,5 +1,6 @@
 -- The accounts of a task's steps: allocations, forks, ends and joins; and which steps are private, due or in need.
 use Rattle.std.specs.Prelude.{ℕ, zero, suc, ◌+◌, ◌-◌, ◌==◌, ◌&&◌, ◌||◌, not, Bool, true, false, Option, Some, None, List, [], ◌∷◌, ◌++◌, slice_get, length, if◌then◌else◌, nat_le, is_none}
+use Rattle.run_trace.specs.Entry.{private_limit}
 use Rattle.run_trace.specs.Settings.{SettingsValue}
 use Rattle.hh_lang.specs.declared.instr.Instr.{Instr}
 use Rattle.hh_lang.specs.declared.instr.Instr.TheVariants.{Getr, Geti, Putr, Puti, Cntr, Cnti, Freeze, Cas, Par, Ret, Out}
@@ -158,7 +159,7 @@ is_in_need p l t = on_asked (asked p l.machine t) (lacks_room (heap_of l t))
 
 -- the most steps of one entry
 abbrev pub most_steps : ℕ
-most_steps = 257
+most_steps = private_limit + 1
 
 -- how many of the next k steps of a task can stand in one entry, its limit left aside: those before the first that is due
 -- or in need, up to the first that isn't private

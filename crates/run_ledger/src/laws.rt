@@ -91,7 +91,7 @@ pub fn owed_can_be_given()
     ensures { OwedCanBeGiven }
 {}
 
-/// The steps of a legal journal are at most the fuel and 256 more.
+/// The steps of a legal journal are at most the fuel and the private steps of one entry more.
 pub fn steps_are_bounded()
     ensures { StepsAreBounded }
 {}

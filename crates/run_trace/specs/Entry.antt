@@ -1,5 +1,5 @@
 -- Entries of journals, with their numbers in range.
-use Rattle.std.specs.Prelude.{ℕ, ◌<◌, ◌≤◌, ◌^◌}
+use Rattle.std.specs.Prelude.{ℕ, ◌+◌, ◌<◌, ◌≤◌, ◌^◌}
 use Rattle.run_trace.specs.declared.entry.Kind.{Kind}
 use Rattle.run_trace.specs.declared.entry.Kind.TheVariants.{Took, Ran, Chunk, Begin, End, PutOff, Mark, More, Sweep, Fuel}
 
@@ -12,9 +12,13 @@ pub record EntryValue : Type 0 where
 abbrev pub IsWord : ℕ → Type 0
 IsWord n = n < 2 ^ 32
 
--- at least one step, and at most 256 private ones with one behind them
+-- one entry has at most so many private steps
+abbrev pub private_limit : ℕ
+private_limit = 256
+
+-- at least one step, and at most so many private ones with one behind them
 abbrev pub IsStepCount : ℕ → Type 0
-IsStepCount k = (1 ≤ k) × (k ≤ 257)
+IsStepCount k = (1 ≤ k) × (k ≤ private_limit + 1)
 
 abbrev pub IsMarkCount : ℕ → Type 0
 IsMarkCount n = (1 ≤ n) × (n ≤ 1024)

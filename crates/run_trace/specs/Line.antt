@@ -1,5 +1,5 @@
 -- What a line of a trace text says, and how an entry is written.
-use Rattle.std.specs.Prelude.{ℕ, ◌^◌, ◌&&◌, Bool, Option, Some, None, List, [], ◌∷◌, ◌++◌, codes, nat_le, nat_lt, if◌then◌else◌}
+use Rattle.std.specs.Prelude.{ℕ, ◌+◌, ◌^◌, ◌&&◌, Bool, Option, Some, None, List, [], ◌∷◌, ◌++◌, codes, nat_le, nat_lt, if◌then◌else◌}
 use Rattle.std.specs.Str.{bytes_eq, is_utf8}
 use Rattle.std.specs.Str.Parse.{digits_value}
 use Rattle.std.specs.Fmt.{decimal}
@@ -9,7 +9,7 @@ use Rattle.run_trace.specs.declared.entry.Kind.{Kind}
 use Rattle.run_trace.specs.declared.entry.Kind.TheVariants.{Took, Ran, Chunk, Begin, End, PutOff, Mark, More, Sweep, Fuel}
 use Rattle.run_trace.specs.declared.line.Said.{Said}
 use Rattle.run_trace.specs.declared.line.Said.TheVariants.{Nothing, Says, Wrong}
-use Rattle.run_trace.specs.Entry.{EntryValue}
+use Rattle.run_trace.specs.Entry.{EntryValue, private_limit}
 
 -- READING
 
@@ -40,7 +40,7 @@ within least most n = nat_le least n && nat_le n most
 -- entries that name a task and a count
 abbrev pub kind_of_count : List ℕ → ℕ → ℕ → Option Kind
 kind_of_count verb t n =
-    if bytes_eq verb (codes "ran") then (if within 1 257 n then Some (Ran t n) else None)
+    if bytes_eq verb (codes "ran") then (if within 1 (private_limit + 1) n then Some (Ran t n) else None)
     else if bytes_eq verb (codes "some") then (if within 1 1024 n then Some (More t n) else None)
     else where_said verb (codes "sweep") (Sweep t n) None
 

@@ -5,12 +5,15 @@ ghost use Rattle.run_trace.specs.Entry.{IsKind};
 
 use std::marker::Model;
 
+/// One entry has at most so many private steps, and one step behind them.
+pub const PRIVATE_LIMIT: u32 = 256;
+
 /// What an entry says. Tasks are named by their numbers.
 #[derive(Clone, Copy, PartialEq, Eq)]
 pub enum Kind {
     /// The worker takes the task, which is ready.
     Took(u32),
-    /// The task took so many steps, 1 to 257; all but the last are private.
+    /// The task took so many steps, 1 to `PRIVATE_LIMIT + 1`; all but the last are private.
     Ran(u32, u32),
     /// The task's next step needs more words than it has room for: it gets a chunk more, or the run ends for want of chunks.
     Chunk(u32),
