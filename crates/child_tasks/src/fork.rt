@@ -1,6 +1,7 @@
 // What a fork makes of the tree, the homes and the sets.
 
 ghost use Rattle.std.specs.Prelude.{◌≡◌, ◌<◌, ◌≤◌, ◌+◌, ◌-◌, ◌^◌, ◌++◌, ◌∷◌, [], OnErr, OnOk, IfOk, None, Some, true, length, slice_set, vec_len, vec_capacity};
+ghost use Rattle.hh_model.specs.Step.{depth_limit};
 ghost use Rattle.heap_tree.specs.Node.{depth_of, forked, state_of};
 ghost use Rattle.child_tasks.specs.Forks.{begun_rest, part_child, waiting_rest, SetsFork};
 
@@ -68,7 +69,7 @@ pub fn grow(
     right: u32,
 ) -> Result<(Child, Child), AllocError>
     requires out { state_of tree.old part.now.task ≡ Some State.Out }
-    requires shallow { depth_of tree.old part.now.task < 1000 }
+    requires shallow { depth_of tree.old part.now.task < depth_limit }
     requires few { length tree.old < 2 ^ 31 }
     ensures tree { OnOk result (tree.new ≡ forked tree.old part.now.task) }
     ensures homes { OnOk result (homes.new ≡ homes.old ++ None ∷ (None ∷ [])) }
