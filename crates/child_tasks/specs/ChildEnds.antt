@@ -6,6 +6,7 @@ use Rattle.hh_lang.specs.declared.program.Line.{Line}
 use Rattle.hh_lang.specs.Form.{ProgramText}
 use Rattle.hh_model.specs.declared.data.Task.{Task}
 use Rattle.hh_model.specs.Step.{fetched, is_running, parents}
+use Rattle.run_trace.specs.Entry.{private_limit}
 use Rattle.run_ledger.specs.Steps.{has_no_caller}
 use Rattle.task_machine.specs.declared.part.Private.{Private}
 use Rattle.shared_value.specs.SharedValue.{SharedValue, accounts}
@@ -31,7 +32,7 @@ is_last_by p (Some x) = is_last_line x (fetched p x.top)
 -- and stands in one entry with its fresh ones
 pub record IsAtEnd (w : SharedValue) (p : Private) : Type 0 where
   pub ends : is_last_by w.program (slice_get (machine_after w p).tasks p.task) ≡ true
-  pub few : p.fresh ≤ 256
+  pub few : p.fresh ≤ private_limit
 
 -- ---- WHAT A CALL MAKES OF IT
 

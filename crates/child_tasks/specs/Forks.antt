@@ -6,6 +6,7 @@ use Rattle.hh_lang.specs.declared.program.Line.{Line}
 use Rattle.hh_lang.specs.Form.{ProgramText}
 use Rattle.hh_model.specs.declared.data.Task.{Task}
 use Rattle.hh_model.specs.Step.{fetched}
+use Rattle.run_trace.specs.Entry.{private_limit}
 use Rattle.run_ledger.specs.Steps.{task_steps}
 use Rattle.alloc_path.specs.View.{view_below}
 use Rattle.task_frames.specs.FramesValue.{with_next}
@@ -33,7 +34,7 @@ is_fork_by p (Some x) = is_fork (fetched p x.top)
 -- the part's next step is a fork, and stands in one entry with its fresh ones
 pub record IsAtFork (w : SharedValue) (p : Private) : Type 0 where
   pub forks : is_fork_by w.program (slice_get (machine_after w p).tasks p.task) ≡ true
-  pub few : p.fresh ≤ 256
+  pub few : p.fresh ≤ private_limit
 
 -- the functions that its children begin, and the line of the text where it stands
 pub record ForksTo (w : SharedValue) (p : Private) (left right number : ℕ) : Type 0 where

@@ -11,7 +11,7 @@ use Rattle.hh_model.specs.declared.data.Task.{Task}
 use Rattle.hh_model.specs.declared.data.Trap.{Trap}
 use Rattle.hh_model.specs.Step.{ended_by, fetched, step}
 use Rattle.run_trace.specs.declared.entry.Kind.TheVariants.{Ran}
-use Rattle.run_trace.specs.Entry.{EntryValue}
+use Rattle.run_trace.specs.Entry.{EntryValue, private_limit}
 use Rattle.run_ledger.specs.declared.data.RunEnd.TheVariants.{Machine}
 use Rattle.run_ledger.specs.Steps.{has_no_caller, owns, touched}
 use Rattle.run_ledger.proofs.Bounds.{ran_tells}
@@ -53,7 +53,7 @@ module _ (w : SharedValue) (k : ℕ) (p : Private) (I : IsSharedValue w) (F : Fi
   runs_on = last.on w k p I F shared last_free
 
   -- the counts are small
-  pub alone_small : (w.steps < 1000000000) × (p.fresh ≤ 256)
+  pub alone_small : (w.steps < 1000000000) × (p.fresh ≤ private_limit)
   alone_small =
       let a = ran_tells w.program w.settings (accounts w) k p.task (suc p.fresh) (ap is_none last_free) in
       let b : w.steps ≡ (accounts w).steps = steps_now w I in

@@ -10,7 +10,7 @@ use Rattle.hh_model.specs.declared.data.Task.{Task}
 use Rattle.hh_model.specs.Effect.{int_in}
 use Rattle.hh_model.specs.Step.{ended_by, fetched, step}
 use Rattle.run_trace.specs.declared.entry.Kind.TheVariants.{Ran}
-use Rattle.run_trace.specs.Entry.{EntryValue}
+use Rattle.run_trace.specs.Entry.{EntryValue, private_limit}
 use Rattle.run_ledger.specs.declared.data.Ledger.{Ledger}
 use Rattle.run_ledger.specs.declared.data.RunEnd.{RunEnd}
 use Rattle.run_ledger.specs.declared.data.RunEnd.TheVariants.{Machine}
@@ -45,7 +45,7 @@ then_accounts w p = task_steps w.program (accounts w) p.task p.fresh
 -- the part's next step isn't private, and stands in one entry with its fresh ones
 pub record IsShared (w : SharedValue) (p : Private) : Type 0 where
   pub last : is_private w.program (machine_after w p) p.task ≡ false
-  pub few : p.fresh ≤ 256
+  pub few : p.fresh ≤ private_limit
 
 -- the steps are entered, and the part goes on
 pub record GoesAlone (w after : SharedValue) (k : ℕ) (p q : Private) : Type 0 where

@@ -2,7 +2,7 @@
 use Rattle.std.specs.Prelude.{◌≡◌, ℕ, ◌≤◌, Option, Some, None}
 use Rattle.std.specs.declared.snapshot.Snapshot.{Snapshot}
 use Rattle.hh_lang.specs.Form.{ProgramText}
-use Rattle.run_trace.specs.Entry.{EntryValue}
+use Rattle.run_trace.specs.Entry.{EntryValue, private_limit}
 use Rattle.task_machine.specs.declared.part.Private.{Private}
 use Rattle.task_machine.specs.declared.part.Paused.{Paused}
 use Rattle.task_machine.specs.declared.part.Paused.TheVariants.{Spent}
@@ -38,14 +38,14 @@ pub record GoesOn (p : ProgramText) (w : SharedValue) : Type 0 where
 -- the part may take steps
 pub record MayRun (w : SharedValue) (k : ℕ) (part : Private) : Type 0 where
   pub fits : Fits w k part
-  pub few : part.fresh ≤ 256
+  pub few : part.fresh ≤ private_limit
   pub idle : part.begun ≡ None
 
 -- the part has taken private steps, as many as one entry holds at most, and this is why they paused
 pub record IsPaused (w : SharedValue) (k : ℕ) (part : Private) (why : Paused) : Type 0 where
   pub may : MayRun w k part
   pub next : Pauses w.program part (machine_after w part) why
-  pub spent : why ≡ Spent → part.fresh ≡ 256
+  pub spent : why ≡ Spent → part.fresh ≡ private_limit
 
 -- the part's leaf collection has begun, and its heap may be copied
 pub record MayCopy (w : SharedValue) (k : ℕ) (c : Collecting) : Type 0 where

@@ -6,13 +6,11 @@ ghost use Rattle.turn_entries.specs.Parts.{AtSome, GrowsTo, HasGrown, MayCopy, M
 use hh_lang::Program;
 use leaf_copy_gc::copy;
 use outside_io::Gate;
+use run_trace::PRIVATE_LIMIT;
 use std::alloc::AllocError;
 use std::snapshot::Snapshot;
 use task_machine::{Paused, Private, run_local};
 use turn_entries::{Collecting, Copied, HeldPart, Ready};
-
-// The most private steps of one entry.
-const MOST_STEPS: u32 = 256;
 
 // Takes steps of a part until they pause, at most as many as one entry holds, and settles its heap where a fork comes
 // next.
@@ -25,7 +23,7 @@ fn take_steps<G: Gate>(
     requires may { AtSome program.now (λ w. MayRun w worker part.old) }
     ensures { IfOk result (HasGrown program.now worker part.old part.new) }
 {
-    let budget = MOST_STEPS - part.fresh;
+    let budget = PRIVATE_LIMIT - part.fresh;
     match run_local(part, program, budget, gate, worker) {
         Ok(why) => {
             part.settle_before_fork(program);

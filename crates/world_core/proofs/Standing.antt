@@ -6,6 +6,7 @@ use Rattle.hh_model.specs.declared.data.State.{State}
 use Rattle.hh_model.specs.Step.{asked}
 use Rattle.run_trace.specs.declared.entry.Kind.TheVariants.{Ran}
 use Rattle.run_trace.specs.Settings.{SettingsValue}
+use Rattle.run_trace.specs.Entry.{private_limit}
 use Rattle.run_ledger.specs.declared.data.Ledger.{Ledger}
 use Rattle.run_ledger.specs.declared.data.Refused.TheVariants.{Collecting, Long}
 use Rattle.run_ledger.specs.Entries.{long_at, refused_if}
@@ -99,7 +100,7 @@ module _ (w : SharedValue) (k : ℕ) (p : Private) (I : IsSharedValue w) (F : Fi
           ∙ (sym (ap (λ z. on_asked z (lacks_place p.heap)) e) ∙ q))
 
   -- how many of more steps stand
-  stands : (why : Paused) → IsNext w p why → why ≢ Spent → (m : ℕ) → p.fresh ≤ 256 → standing w.settings w.program l t (p.fresh + suc m) ≡ standing_by p why
+  stands : (why : Paused) → IsNext w p why → why ≢ Spent → (m : ℕ) → p.fresh ≤ private_limit → standing w.settings w.program l t (p.fresh + suc m) ≡ standing_by p why
   stands why next more m few = standing_then w.program w.settings t p.fresh (p.fresh + suc m) (suc m) l refl V.private ∙ by why next more
     where
       by : (why : Paused) → IsNext w p why → why ≢ Spent → p.fresh + standing w.settings w.program M t (suc m) ≡ standing_by p why

@@ -12,13 +12,10 @@ use crate::held::{Held, Made, idle_part};
 use counted_tree::Counted;
 use outside_io::EmptyGate;
 use run_ledger::Refused;
-use run_trace::Kind;
+use run_trace::{Kind, PRIVATE_LIMIT};
 use shared_tree::{NotEntered, Ran, Shared};
 use std::alloc::AllocError;
 use task_machine::{Paused, Private, run_local};
-
-/// The most private steps that a part takes in a row.
-const BUDGET: u32 = 256;
 
 // Takes more private steps, as many as the budget or as come before one that isn't, and says what comes next.
 fn run_more(
@@ -64,10 +61,10 @@ fn run_part(
 {
     shared.stands();
     shared.may_run(worker, part);
-    if steps <= BUDGET {
+    if steps <= PRIVATE_LIMIT {
         return run_more(shared, worker, part, steps);
     }
-    match run_more(shared, worker, part, BUDGET)? {
+    match run_more(shared, worker, part, PRIVATE_LIMIT)? {
         Paused::Spent => run_more(shared, worker, part, 1),
         why => Ok(why),
     }

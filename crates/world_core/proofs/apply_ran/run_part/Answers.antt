@@ -1,4 +1,5 @@
 use Rattle.std.proofs.Common.{arith, refl}
+use Rattle.run_trace.specs.Entry.{private_limit}
 use Rattle.world_core.proofs.Entries.{few_allocations}
 use Rattle.world_core.proofs.apply_ran.run_part.Goals as goal
 
@@ -6,7 +7,7 @@ pub run_more-requires-clause-counted : goal.run_more-requires-clause-counted
 run_more-requires-clause-counted c = few_allocations c.args.shared.now c.args.part.now c.args.steps c.stands.ensures (c.requires.holds.entered refl) c.may_run.ensures c.requires.few
 
 pub run_more-requires-2-clause-counted : goal.run_more-requires-2-clause-counted
-run_more-requires-2-clause-counted c = few_allocations c.args.shared.now c.args.part.now 256 c.stands.ensures (c.requires.holds.entered refl) c.may_run.ensures (omega arith)
+run_more-requires-2-clause-counted c = few_allocations c.args.shared.now c.args.part.now private_limit c.stands.ensures (c.requires.holds.entered refl) c.may_run.ensures (omega arith)
 
 pub run_more-requires-in-Spent-clause-counted : goal.run_more-requires-in-Spent-clause-counted
 run_more-requires-in-Spent-clause-counted c =
