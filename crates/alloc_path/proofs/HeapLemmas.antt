@@ -3,7 +3,7 @@ use Rattle.std.proofs.Common.{◌≡◌, ℕ, zero, suc, ◌+◌, ◌-◌, ◌*�
 use Rattle.std.proofs.lemmas.List.Elements.{All-append, All-get_or, All-push, All-set}
 use Rattle.std.specs.Option.{option_or}
 use Rattle.std.specs.Borrow.{Bor}
-use Rattle.std.specs.Prelude.{cond, IfSome, option_copied, Result, Ok, Err, IfOk, IsOk, OnOk, is_some, option_map}
+use Rattle.std.specs.Prelude.{cond, IfSome, option_copied, Result, Ok, Err, IfOk, IsOk, is_some, option_map}
 use Rattle.std.proofs.lemmas.Bool.{cases_Bool, cases_lt, eqb-true, eq-eqb, ne_eqb, lt-ltb, le-ltb, le-leb, lt-leb}
 use Rattle.std.proofs.lemmas.List.{get_or_read, get_or_append_left, get_or-append_right, take_more}
 use Rattle.object_layout.specs.declared.word.Addr.{Addr}
@@ -498,11 +498,6 @@ module _ (ks : List ChunkValue) (k : ChunkValue) (empty : k.cells ≡ []) where
       shown = shown;
     }
 
--- a call that succeeds does what it does on success
-pub on_ok : {T E P : Type 0} (r : Result T E) → IsOk r → OnOk r P → P
-on_ok (Ok x) s p = p
-on_ok (Err e) s p = cc
-
 -- a new key adds an entry
 pub new_entry : {X E : Type 0} (r : Result (Option X) E) (was : Option X) (m n : ℕ) → IsOk r → IfOk r (λ o. o ≡ was) → IfOk r (λ o. n ≡ m + cond (is_some o) 0 1) → was ≡ None → n ≡ m + 1
 new_entry (Ok o) was m n s e l none = let f = e ∙ none in rw f at l
@@ -613,11 +608,11 @@ entry_more xs k fresh base i len q old was new writes before =
     either false n o = refl
 
 -- chunks that are apart are so in each part of the list
-fresh_front : (xs ks : List ChunkValue) (n : ℕ) → IsFresh (xs ++ ks) n → IsFresh xs n
+pub fresh_front : (xs ks : List ChunkValue) (n : ℕ) → IsFresh (xs ++ ks) n → IsFresh xs n
 fresh_front [] ks n h = refl
 fresh_front (x ∷ xs) ks n h = fresh_cons x xs n (fresh_head x (xs ++ ks) n h) (fresh_front xs ks n (fresh_tail x (xs ++ ks) n h))
 
-fresh_behind : (xs ks : List ChunkValue) (n : ℕ) → IsFresh (xs ++ ks) n → IsFresh ks n
+pub fresh_behind : (xs ks : List ChunkValue) (n : ℕ) → IsFresh (xs ++ ks) n → IsFresh ks n
 fresh_behind [] ks n h = h
 fresh_behind (x ∷ xs) ks n h = fresh_behind xs ks n (fresh_tail x (xs ++ ks) n h)
 

@@ -1,6 +1,5 @@
 -- What a heap keeps between collections, where an object is written or placed, a chunk added, or heaps merged.
 use Rattle.std.proofs.Common.{◌≡◌, ℕ, zero, suc, ◌+◌, ◌-◌, ◌*◌, ◌<◌, ◌≤◌, Bool, true, false, cond, List, [], ◌∷◌, ◌++◌, length, get_or, set, refl, sym, ap, ◌∙◌, subst, arith, inl, inr, eqb, Option, Some, None, All}
-use Rattle.std.specs.Prelude.{nat_le}
 use Rattle.std.proofs.lemmas.Bool.{cases_Bool, cases_lt, le-leb, lt-leb}
 use Rattle.std.proofs.lemmas.List.{get_or_read}
 use Rattle.std.proofs.lemmas.List.Elements.{All-append, All-cons, All-get_or, All-head, All-nil, All-push, All-set, All-tail}
@@ -8,7 +7,9 @@ use Rattle.object_layout.specs.declared.word.Addr.{Addr}
 use Rattle.object_layout.specs.Cell.{Cell, moved_to, no_cell, size_of}
 use Rattle.object_layout.specs.ChunkValue.{ChunkValue}
 use Rattle.object_layout.specs.Place.{cell_at, put_cell, words_in}
-use Rattle.object_layout.specs.Chunks.{cell_of, chunk_at, no_chunk, place_of, put_object, with_cell}
+use Rattle.object_layout.specs.Chunks.{cell_of, chunk_at, no_chunk, put_object, with_cell}
+use Rattle.object_layout.proofs.ChunkLaws.{length-put, place_of-put}
+use Rattle.object_layout.proofs.PlaceLemmas.{All-put_cell}
 use Rattle.kept_pieces.specs.PiecesValue.{PiecesValue}
 use Rattle.alloc_path.specs.LeafHeapValue.{added, AreApart, AreTidy, LeafHeapValue, IsFresh, IsKept, IsSettled, IsTidy, place_for, units}
 use Rattle.alloc_path.proofs.HeapLemmas as heap
@@ -30,13 +31,6 @@ either : (P : Cell → Type 0) (b : Bool) (xs ys : List Cell) → All P xs → A
 either P true xs ys a b = a
 either P false xs ys a b = b
 
-put_all : (P : Cell → Type 0) (cs : List Cell) (at : ℕ) (d : Cell) → P d → All P cs → All P (put_cell cs at d)
-put_all P [] at d p a = a
-put_all P (c ∷ cs) zero d p a = All-cons P d cs p (All-tail P c cs a)
-put_all P (c ∷ cs) (suc n) d p a =
-    All-cons P c (cond (nat_le (size_of c) (suc n)) (put_cell cs (suc n - size_of c) d) cs) (All-head P c cs a)
-    (either P (nat_le (size_of c) (suc n)) (put_cell cs (suc n - size_of c) d) cs (put_all P cs (suc n - size_of c) d p (All-tail P c cs a)) (All-tail P c cs a))
-
 put_length : (cs : List Cell) (at : ℕ) (d : Cell) → length (put_cell cs at d) ≡ length cs
 put_length [] at d = refl
 put_length (c ∷ cs) zero d = refl
@@ -50,15 +44,15 @@ put_length (c ∷ cs) (suc n) d =
 
 put_tidy : (k : ChunkValue) (at : ℕ) (d : Cell) → IsTidy k → moved_to d.mark ≡ None → size_of d ≡ size_of (cell_at k.cells at) → IsTidy (with_cell k at d)
 put_tidy k at d t m s = record {
-  unmoved = put_all (λ (c : Cell). moved_to c.mark ≡ None) k.cells at d m t.unmoved;
+  unmoved = All-put_cell (λ (c : Cell). moved_to c.mark ≡ None) k.cells at d m t.unmoved;
   alone =
       let P : Cell → Type 0 = λ (c : Cell). 1024 < size_of c → length k.cells ≡ 1 in
       let here : P d = subst (λ (n : ℕ). 1024 < n → length k.cells ≡ 1) (sym s) (at_offset P k.cells at (λ l. absurd (omega arith)) t.alone) in
-      subst (λ (n : ℕ). All (λ (c : Cell). 1024 < size_of c → n ≡ 1) (put_cell k.cells at d)) (sym (put_length k.cells at d)) (put_all P k.cells at d here t.alone);
+      subst (λ (n : ℕ). All (λ (c : Cell). 1024 < size_of c → n ≡ 1) (put_cell k.cells at d)) (sym (put_length k.cells at d)) (All-put_cell P k.cells at d here t.alone);
   exact =
       let P : Cell → Type 0 = λ (c : Cell). 1024 < size_of c → k.size ≡ 1024 * units (size_of c) in
       let here : P d = subst (λ (n : ℕ). 1024 < n → k.size ≡ 1024 * units n) (sym s) (at_offset P k.cells at (λ l. absurd (omega arith)) t.exact) in
-      put_all P k.cells at d here t.exact;
+      All-put_cell P k.cells at d here t.exact;
   few = λ l. subst (λ (n : ℕ). n ≤ 1) (sym (put_length k.cells at d)) (t.few l);
 }
 
@@ -70,28 +64,12 @@ put_all_tidy (k ∷ ks) a d t m s =
       | inr e ↦ let here = rw e at s in rw e (All-cons IsTidy k (put_object ks a d) (All-head IsTidy k ks t) (put_all_tidy ks a d (All-tail IsTidy k ks t) m here))
     ]
 
-put_place : (ks : List ChunkValue) (a : Addr) (d : Cell) (n : ℕ) → place_of (put_object ks a d) n ≡ place_of ks n
-put_place [] a d n = refl
-put_place (k ∷ ks) a d n =
-    elim (cases_Bool (eqb k.number a.chunk)) [
-      | inl e ↦ rw e refl
-      | inr e ↦ rw (e, put_place ks a d n) refl
-    ]
-
-put_count : (ks : List ChunkValue) (a : Addr) (d : Cell) → length (put_object ks a d) ≡ length ks
-put_count [] a d = refl
-put_count (k ∷ ks) a d =
-    elim (cases_Bool (eqb k.number a.chunk)) [
-      | inl e ↦ rw e refl
-      | inr e ↦ rw (e, put_count ks a d) refl
-    ]
-
-put_apart : (ks : List ChunkValue) (a : Addr) (d : Cell) → AreApart ks → AreApart (put_object ks a d)
+pub put_apart : (ks : List ChunkValue) (a : Addr) (d : Cell) → AreApart ks → AreApart (put_object ks a d)
 put_apart [] a d h = h
 put_apart (k ∷ ks) a d h =
     elim (cases_Bool (eqb k.number a.chunk)) [
       | inl e ↦ rw e h
-      | inr e ↦ rw e (rw (put_place ks a d k.number, put_count ks a d) h.0, put_apart ks a d h.1)
+      | inr e ↦ rw e (rw (place_of-put ks a d k.number, length-put ks a d) h.0, put_apart ks a d h.1)
     ]
 
 pub unmoved_at : (ks : List ChunkValue) (a : Addr) → AreTidy ks → moved_to (cell_of ks a).mark ≡ None

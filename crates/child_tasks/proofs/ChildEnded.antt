@@ -4,6 +4,7 @@ use Rattle.std.proofs.lemmas.Bool.{cases_eq}
 use Rattle.std.proofs.lemmas.Option.{same_Some}
 use Rattle.listed.proofs.Members.{got_other, got_same}
 use Rattle.listed.specs.RoomyValue.{RoomyValue}
+use Rattle.listed.proofs.Places.{got_set}
 use Rattle.hh_model.specs.declared.data.State.{State as MachineState}
 use Rattle.hh_model.specs.declared.data.Task.{Task}
 use Rattle.hh_model.specs.Step.{child_ended_by, ended_task, is_running, parent_of, parents, result_of, with_task}
@@ -14,6 +15,7 @@ use Rattle.run_ledger.specs.Heaps.{heap_of}
 use Rattle.heap_tree.specs.declared.state.State.TheVariants.{Ended}
 use Rattle.heap_tree.specs.Node.{Node, state_of as state_in_tree, with_state}
 use Rattle.ledger_step_laws.specs.Last.{EndsFirst, Ending, Runs, Splits}
+use Rattle.ledger_step_laws.proofs.Wrote.{waiting_stops}
 use Rattle.core_relation.specs.Memory.{Home, Memory}
 use Rattle.core_relation.specs.Changes.{EndsHome}
 use Rattle.core_relation.specs.Fits.{part_for, with_home}
@@ -33,13 +35,12 @@ use Rattle.shared_value.specs.Fits.{Fits, OthersFit, home_of_part, part_of}
 use Rattle.shared_value.specs.Entered.{refused}
 use Rattle.shared_value.proofs.EntryMade.{accounts_are, entered, entered_world, hand_is, held_apart, part_fits, unheld_before}
 use Rattle.shared_value.proofs.BeforeTheEnd.{end_now, stands_now}
-use Rattle.shared_value.proofs.TaskTaken.{made_by, node_by, node_off, put_there, worker_there}
+use Rattle.shared_value.proofs.TaskTaken.{made_by, node_by, node_off, worker_there}
 use Rattle.own_steps.specs.Alone.{IsShared, alone_event, ended_rest}
 use Rattle.own_steps.proofs.LastStepEntry as last
 use Rattle.own_steps.proofs.LastStepEntry.{last_event}
 use Rattle.child_tasks.specs.ChildEnds.{EndsChild, IsAtEnd, running_parent, where_running}
 use Rattle.child_tasks.proofs.ChildReturns as steps
-use Rattle.child_tasks.proofs.ChildReturns.{waits_stop}
 use Rattle.child_tasks.proofs.LastReturnKinds.{ends}
 
 module _ (w : SharedValue) (k : ℕ) (p : Private) (I : IsSharedValue w) (F : Fits w k p) (at_end : IsAtEnd w p) (free : refused w (alone_event k p) ≡ None) (open_ : state_in_tree w.tree (steps.other w k p I F at_end free) ≡ Some Ended → ⊥) where
@@ -108,7 +109,7 @@ module _ (w : SharedValue) (k : ℕ) (p : Private) (I : IsSharedValue w) (F : Fi
   parent_then =
       let par : parents L.machine.tasks t ≡ Some q = ap parent_of at_then ∙ steps.parent_is w k p I F at_end free in
       let same : slice_get L.machine.tasks q ≡ slice_get M.machine.tasks q = ap (λ (m : MachineState). slice_get m.tasks q) machine_is ∙ got_other M.machine.tasks t q z (steps.parent_apart w k p I F at_end free) in
-      let stops : is_running (slice_get L.machine.tasks q) ≡ false = ap is_running same ∙ waits_stop (slice_get M.machine.tasks q) (steps.parent_waits w k p I F at_end free) in
+      let stops : is_running (slice_get L.machine.tasks q) ≡ false = ap is_running same ∙ waiting_stops (slice_get M.machine.tasks q) (steps.parent_waits w k p I F at_end free) in
       ap (where_running L.machine.tasks) par ∙ ap (λ b. if b then Some q else None) stops
 
   -- ---- THE HOME THAT IS HANDED BACK
@@ -147,7 +148,7 @@ module _ (w : SharedValue) (k : ℕ) (p : Private) (I : IsSharedValue w) (F : Fi
     v' = value_of w'
 
     rest_now : rest_at homes t ≡ Some rest
-    rest_now = ap flat (put_there w.homes t (Some rest) has_home)
+    rest_now = ap flat (got_set w.homes t (Some rest) has_home)
 
     rest_off : (u : ℕ) → (u ≡ t → ⊥) → rest_at homes u ≡ rest_at w.homes u
     rest_off u ne = ap flat (got_other w.homes t u (Some rest) ne)
@@ -176,7 +177,7 @@ module _ (w : SharedValue) (k : ℕ) (p : Private) (I : IsSharedValue w) (F : Fi
     counts : RanCounts w.program (totals_of w) (totals_of w') M L t k p.fresh S.task S.line Ending D
     counts = record {
       tree = record { node = node_by w.tree t Ended (slice_get w.tree t) refl; others = λ u ne. node_off w.tree t Ended (slice_get w.tree t) u ne };
-      hand = record { hand = ap flat (put_there w.hands k None (worker_there w (last_event k p) I free_last)); others = λ u ne. ap flat (got_other w.hands k u None ne) };
+      hand = record { hand = ap flat (got_set w.hands k None (worker_there w (last_event k p) I free_last)); others = λ u ne. ap flat (got_other w.hands k u None ne) };
       outputs = refl;
       end = refl;
       used = refl;

@@ -3,6 +3,7 @@ use Rattle.std.proofs.Common.{◌≡◌, ℕ, ℤ, suc, ◌+◌, ◌-◌, ◌<�
 use Rattle.std.proofs.lemmas.Bool.{cases_eq, and_parts, cond-false, cond-true, false≢true}
 use Rattle.std.proofs.lemmas.Option.{same_Some}
 use Rattle.listed.proofs.Members.{got_within}
+use Rattle.listed.proofs.Options.{none_some}
 use Rattle.hh_lang.specs.declared.instr.Instr.{Instr}
 use Rattle.hh_lang.specs.declared.instr.Instr.TheVariants.{Ret}
 use Rattle.hh_lang.specs.declared.program.Line.{Line}
@@ -13,7 +14,7 @@ use Rattle.hh_model.specs.declared.data.Status.{Status}
 use Rattle.hh_model.specs.declared.data.Status.TheVariants.{Running, Waiting as WaitingOf, Ended as EndedWith, Joined as JoinedOf}
 use Rattle.hh_model.specs.declared.data.Task.{Task}
 use Rattle.hh_model.specs.Effect.{effect}
-use Rattle.hh_model.specs.Step.{child_ended_by, fetched, follow, is_joined, is_left, is_over, is_running, is_waiting, kept_by, last_of, last_return, parent_of, parents, result_in, result_of, returned_to, runs, setting, sibling, step, waits}
+use Rattle.hh_model.specs.Step.{child_ended_by, fetched, follow, is_joined, is_left, is_over, is_waiting, kept_by, last_of, last_return, parent_of, parents, result_in, result_of, returned_to, runs, setting, sibling, step, waits}
 use Rattle.hh_model.specs.Tree.{TreeOf}
 use Rattle.run_ledger.specs.declared.data.Ledger.{Ledger}
 use Rattle.run_ledger.specs.Heaps.{heap_of}
@@ -26,6 +27,7 @@ use Rattle.heap_tree.specs.Node.{Node, parent_of as parent_in_tree, state_of as 
 use Rattle.ledger_step_laws.specs.Last.{Splits}
 use Rattle.core_relation.specs.Whole.{state_by}
 use Rattle.task_machine.specs.declared.part.Private.{Private}
+use Rattle.task_machine.proofs.Allocations.{is_some_place}
 use Rattle.shared_value.specs.Entered.{refused}
 use Rattle.shared_value.specs.Fits.{Fits}
 use Rattle.shared_value.specs.Stands.{IsSharedValue}
@@ -47,10 +49,6 @@ last_open : (x : Task) (i : Instr) (b : Bool) → is_last x i ≡ true → (not 
 last_open x Ret b e = ap (λ c. not c && b) (and_parts (has_no_caller x.below) (is_some x.parent) e).0
 last_open x _ b e = absurd cc
 
-some_is : (o : Option ℕ) → is_some o ≡ true → (q : ℕ) × (o ≡ Some q)
-some_is None e = absurd (false≢true e)
-some_is (Some q) e = (q, refl)
-
 lone_is : (fs : List Framed) → has_no_caller fs ≡ true → fs ≡ []
 lone_is [] e = refl
 lone_is (f ∷ fs) e = absurd (false≢true e)
@@ -58,7 +56,7 @@ lone_is (f ∷ fs) e = absurd (false≢true e)
 last_is : (x : Task) (i : Instr) → is_last x i ≡ true → (i ≡ Ret) × (x.below ≡ []) × (q : ℕ) × (x.parent ≡ Some q)
 last_is x Ret e =
     let b = and_parts (has_no_caller x.below) (is_some x.parent) e in
-    let q = some_is x.parent b.1 in
+    let q = is_some_place x.parent b.1 in
     (refl, lone_is x.below b.0, q.0, q.1)
 last_is x _ e = absurd cc
 
@@ -95,9 +93,6 @@ status_tells k JoinedOf st e = ((λ q. let z = sym q ∙ e in absurd cc), (λ n.
 abbrev state_in : Option Node → Option State
 state_in o = option_map (λ (n : Node). n.state) o
 
-none_some : {A B : Type 0} {x : A} → ◌≡◌ {A = Option A} None (Some x) → B
-none_some e = absurd cc
-
 node_tells : (k : Option ℕ) (n : Option Node) (o : Option Task) → n ≡ option_map (told k) o
     → (state_in n ≡ Some Ended → (r : ℤ × Option Name) × (kept_by o ≡ Some r)) × ((state_in n ≡ Some Ended → ⊥) → kept_by o ≡ None)
 node_tells k None None e = ((λ q. none_some q), (λ n. refl))
@@ -106,16 +101,6 @@ node_tells k (Some n) None e = none_some (sym e)
 node_tells k (Some n) (Some x) e =
     let s = status_tells k x.status n.state (ap (λ (z : Node). z.state) (same_Some n (told k x) e)) in
     ((λ q. s.0 (same_Some n.state Ended q)), (λ never. s.1 (λ q. never (ap Some q))))
-
-pub waits_stop : (o : Option Task) → is_waiting o ≡ true → is_running o ≡ false
-waits_stop None e = refl
-waits_stop (Some x) e = by x.status e
-  where
-    by : (s : Status) → waits s ≡ true → runs s ≡ false
-    by Running e = absurd (false≢true e)
-    by WaitingOf e = refl
-    by (EndedWith n r) e = refl
-    by JoinedOf e = refl
 
 sibling_by : (t : ℕ) (b : Bool) → is_left t ≡ b → 0 < t → sibling t ≡ t → ⊥
 sibling_by t true e pos same = let s : sibling t ≡ t + 1 = cond-true (is_left t) (t + 1) (t - 1) e in omega (arith, s, same)

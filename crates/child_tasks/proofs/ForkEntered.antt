@@ -4,6 +4,7 @@ use Rattle.std.proofs.lemmas.Bool.{cases_eq, cases_lt, cond-true, lt-ltb}
 use Rattle.std.proofs.lemmas.Option.{same_Some}
 use Rattle.listed.proofs.Members.{got_back, got_front, got_other, got_past, got_within}
 use Rattle.listed.specs.RoomyValue.{RoomyValue}
+use Rattle.listed.proofs.Places.{got_set, got_some}
 use Rattle.hh_lang.specs.declared.instr.Instr.{Instr}
 use Rattle.hh_lang.specs.declared.instr.Instr.TheVariants.{Par}
 use Rattle.hh_model.specs.declared.data.State.{State as MachineState}
@@ -42,12 +43,13 @@ use Rattle.shared_value.specs.Measured.{AreMeasured, RestsAreMeasured}
 use Rattle.shared_value.specs.Stands.{HeapForm, IsSharedValue}
 use Rattle.shared_value.specs.Fits.{Fits, OthersFit, home_of_part, part_of}
 use Rattle.shared_value.specs.Entered.{refused}
+use Rattle.shared_value.proofs.FieldsNoted.{noted_of}
 use Rattle.shared_value.proofs.EntryMade.{hand_is, held_apart, unheld_before}
 use Rattle.shared_value.proofs.MarkingEntryMade.{entered_marks, marked_fits, marked_world}
 use Rattle.shared_value.proofs.Levels.{level_is}
 use Rattle.shared_value.proofs.PartFitsMachine as link
 use Rattle.shared_value.proofs.BeforeTheEnd.{end_now}
-use Rattle.shared_value.proofs.TaskTaken.{item_there, made_by, node_by, node_off, put_there, worker_there}
+use Rattle.shared_value.proofs.TaskTaken.{made_by, node_by, node_off, worker_there}
 use Rattle.own_steps.specs.Alone.{IsShared, alone_event}
 use Rattle.own_steps.proofs.LastStepEntry as last
 use Rattle.own_steps.proofs.LastStepEntry.{last_event}
@@ -55,7 +57,7 @@ use Rattle.child_tasks.specs.Forks.{ForksTo, HomesFork, IsAtFork, SetsFork, keep
 use Rattle.child_tasks.proofs.NextStepForks as steps
 use Rattle.child_tasks.proofs.LastForkKinds.{forks}
 use Rattle.child_tasks.proofs.RootsListed.{roots_are}
-use Rattle.child_tasks.proofs.SetsNoted.{empty_form, keeping_kept, keeping_sources, noted_by, noted_of}
+use Rattle.child_tasks.proofs.SetsNoted.{empty_form, keeping_kept, keeping_sources, noted_by}
 
 abbrev left_of : Instr → ℕ
 left_of (Par g h) = g
@@ -220,7 +222,7 @@ module _ (w : SharedValue) (k : ℕ) (p : Private) (I : IsSharedValue w) (F : Fi
 
     -- what is kept from now on
     set_there : (s : SetOf) × (slice_get w.sets t ≡ Some s)
-    set_there = item_there w.sets t (subst (λ n. t < n) (sym I.noted) has_node)
+    set_there = got_some w.sets t (subst (λ n. t < n) (sym I.noted) has_node)
 
     keeps_now : (v'.noted t).keeps ≡ true
     keeps_now = ap (λ (z : Noted). z.keeps) (noted_then t ∙ ap noted_of (N.parent ∙ ap (λ o. option_map keeping (option_map content_of o)) set_there.1))
@@ -271,7 +273,7 @@ module _ (w : SharedValue) (k : ℕ) (p : Private) (I : IsSharedValue w) (F : Fi
     counts : RanCounts w.program (totals_of w) (totals_of w') M L t k p.fresh S.task S.line Forking Q
     counts = record {
       tree = nodes_fork;
-      hand = record { hand = ap flat (put_there w.hands k None (worker_there w (last_event k p) I free_last)); others = λ u ne. ap flat (got_other w.hands k u None ne) };
+      hand = record { hand = ap flat (got_set w.hands k None (worker_there w (last_event k p) I free_last)); others = λ u ne. ap flat (got_other w.hands k u None ne) };
       outputs = refl;
       end = refl;
       used = refl;

@@ -4,6 +4,7 @@ use Rattle.std.proofs.lemmas.Bool.{cases_lt}
 use Rattle.std.proofs.lemmas.Option.{get_or_from_slice_get}
 use Rattle.listed.proofs.Members.{got_back, got_front, got_other, got_past, got_same, got_within}
 use Rattle.listed.specs.RoomyValue.{RoomyValue}
+use Rattle.listed.proofs.Places.{got_set, got_some}
 use Rattle.run_trace.specs.declared.entry.Kind.TheVariants.{Ran}
 use Rattle.run_trace.specs.Entry.{EntryValue}
 use Rattle.heap_tree.specs.Node.{depth_of, forked}
@@ -18,7 +19,6 @@ use Rattle.shared_value.specs.SharedValue.{SharedValue, accounts, flat, rest_at}
 use Rattle.shared_value.specs.Stands.{IsSharedValue}
 use Rattle.shared_value.specs.Fits.{Fits, OthersFit}
 use Rattle.shared_value.specs.Entered.{refused}
-use Rattle.shared_value.proofs.TaskTaken.{item_there, put_there}
 use Rattle.own_steps.specs.Alone.{alone_event}
 use Rattle.own_steps.proofs.LastStepEntry.{last_event}
 use Rattle.child_tasks.specs.Forks.{ForksOn, ForksTo, HomesFork, IsAtFork, SetsFork, begun_rest, keeping, nothing_noted, part_child, waiting_rest}
@@ -50,17 +50,17 @@ module _ (homes : List (Option Rest)) (p : Private) (made : p.task < length home
   put_count = length-set (slice_set (slice_set grown n x) (n + 1) y) p.task z ∙ long_two
 
   pub put_own : slice_get put_all p.task ≡ Some z
-  put_own = put_there (slice_set (slice_set grown n x) (n + 1) y) p.task z (omega (arith, made, long_two))
+  put_own = got_set (slice_set (slice_set grown n x) (n + 1) y) p.task z (omega (arith, made, long_two))
 
   pub put_first : slice_get put_all n ≡ Some x
   put_first =
       got_other (slice_set (slice_set grown n x) (n + 1) y) p.task n z (λ e. omega (arith, e, made))
-      ∙ (got_other (slice_set grown n x) (n + 1) n y (λ e. omega (arith, e)) ∙ put_there grown n x (omega (arith, long)))
+      ∙ (got_other (slice_set grown n x) (n + 1) n y (λ e. omega (arith, e)) ∙ got_set grown n x (omega (arith, long)))
 
   pub put_second : slice_get put_all (n + 1) ≡ Some y
   put_second =
       got_other (slice_set (slice_set grown n x) (n + 1) y) p.task (n + 1) z (λ e. omega (arith, e, made))
-      ∙ put_there (slice_set grown n x) (n + 1) y (omega (arith, long_one))
+      ∙ got_set (slice_set grown n x) (n + 1) y (omega (arith, long_one))
 
   pub put_other : (u : ℕ) → (u ≡ p.task → ⊥) → (u ≡ n → ⊥) → (u ≡ n + 1 → ⊥) → rest_at put_all u ≡ rest_at homes u
   put_other u nt na nb =
@@ -175,4 +175,4 @@ sets_fork sets t s s' x y is es ex ey =
 
 -- the item at a place that is there
 pub item_is : {A : Type 0} (xs : List A) (i : ℕ) (x : A) → i < length xs → x ≡ get_or xs i x → slice_get xs i ≡ Some x
-item_is xs i x lt e = let y = item_there xs i lt in y.1 ∙ ap Some (sym (e ∙ get_or_from_slice_get xs i y.0 x y.1))
+item_is xs i x lt e = let y = got_some xs i lt in y.1 ∙ ap Some (sym (e ∙ get_or_from_slice_get xs i y.0 x y.1))

@@ -4,6 +4,8 @@ use Rattle.std.proofs.lemmas.Bool.{cases_eq}
 use Rattle.std.proofs.lemmas.Option.{same_Some}
 use Rattle.listed.proofs.Members.{got_other}
 use Rattle.listed.specs.RoomyValue.{RoomyValue}
+use Rattle.listed.proofs.Places.{got_set}
+use Rattle.listed.proofs.Options.{none_some}
 use Rattle.hh_model.specs.declared.data.Task.{Task}
 use Rattle.run_trace.specs.declared.entry.Kind.TheVariants.{Ran}
 use Rattle.run_trace.specs.Entry.{EntryValue}
@@ -37,9 +39,10 @@ use Rattle.shared_value.specs.SharedValue.{SharedValue, no_home, noted_in, accou
 use Rattle.shared_value.specs.Stands.{HeapForm, IsSharedValue}
 use Rattle.shared_value.specs.Fits.{Fits, OthersFit, home_of_part, part_of}
 use Rattle.shared_value.specs.Entered.{refused}
+use Rattle.shared_value.proofs.FieldsNoted.{noted_of}
 use Rattle.shared_value.proofs.EntryMade.{accounts_are, entered, entered_world, held_apart, part_fits}
 use Rattle.shared_value.proofs.BeforeTheEnd.{end_now}
-use Rattle.shared_value.proofs.TaskTaken.{put_there, worker_there}
+use Rattle.shared_value.proofs.TaskTaken.{worker_there}
 use Rattle.own_steps.specs.Alone.{alone_event}
 use Rattle.own_steps.proofs.LastStepEntry as last
 use Rattle.own_steps.proofs.LastStepEntry.{last_event}
@@ -47,15 +50,12 @@ use Rattle.child_tasks.specs.ChildEnds.{EndsChild, IsAtEnd, running_parent}
 use Rattle.child_tasks.specs.Joins.{AreSides, HomesJoin, IsRestOf, SetsJoin, sources_at}
 use Rattle.child_tasks.proofs.ChildReturns as steps
 use Rattle.child_tasks.proofs.JoinUnits.{joined_measured, others_measured}
-use Rattle.child_tasks.proofs.SetsNoted.{noted_by, noted_of}
+use Rattle.child_tasks.proofs.SetsNoted.{noted_by}
 use Rattle.child_tasks.proofs.JoinHomes.{Merges, by_content, joins_homes}
 use Rattle.child_tasks.proofs.JoinTree.{joined_long, left_node, other_node, parent_node, right_node}
 use Rattle.child_tasks.proofs.MergedHeapForm.{merged_form}
 use Rattle.child_tasks.proofs.SiblingReturned as before
 use Rattle.child_tasks.proofs.JoinedHomes as both
-
-none_some : {A B : Type 0} {x : A} → ◌≡◌ {A = Option A} None (Some x) → B
-none_some e = absurd cc
 
 module _ (w : SharedValue) (k : ℕ) (p : Private) (I : IsSharedValue w) (F : Fits w k p) (at_end : IsAtEnd w p) (free : refused w (alone_event k p) ≡ None) (ended : state_in_tree w.tree (steps.other w k p I F at_end free) ≡ Some Ended) where
   abbrev t : ℕ
@@ -232,7 +232,7 @@ module _ (w : SharedValue) (k : ℕ) (p : Private) (I : IsSharedValue w) (F : Fi
       counts : RanCounts w.program (totals_of w) (totals_of w') M L t k p.fresh x S.line Joining Q
       counts = record {
         tree = nodes_so;
-        hand = record { hand = ap flat (put_there w.hands k None (worker_there w (last_event k p) I free_last)); others = λ u ne. ap flat (got_other w.hands k u None ne) };
+        hand = record { hand = ap flat (got_set w.hands k None (worker_there w (last_event k p) I free_last)); others = λ u ne. ap flat (got_other w.hands k u None ne) };
         outputs = refl;
         end = refl;
         used = relabelled.units;

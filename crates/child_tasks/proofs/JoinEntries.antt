@@ -6,6 +6,8 @@ use Rattle.std.proofs.lemmas.Bool.{cases_eq}
 use Rattle.std.proofs.lemmas.Option.{same_Some}
 use Rattle.listed.proofs.Members.{got_within}
 use Rattle.listed.specs.RoomyValue.{RoomyValue}
+use Rattle.listed.proofs.Places.{got_some}
+use Rattle.listed.proofs.Options.{none_some}
 use Rattle.run_trace.specs.Entry.{EntryValue}
 use Rattle.chunk_pool.specs.PoolValue.{PoolValue}
 use Rattle.task_frames.specs.FramesValue.{FramesValue}
@@ -27,7 +29,7 @@ use Rattle.shared_value.specs.Stands.{IsSharedValue}
 use Rattle.shared_value.specs.Fits.{Fits, IsAtWork}
 use Rattle.shared_value.specs.Entered.{refused}
 use Rattle.shared_value.proofs.BeforeTheEnd.{stands_now}
-use Rattle.shared_value.proofs.TaskTaken.{item_there, told}
+use Rattle.shared_value.proofs.TaskTaken.{told}
 use Rattle.own_steps.specs.Alone.{alone_event}
 use Rattle.child_tasks.specs.ChildEnds.{EndsChild, IsAtEnd}
 use Rattle.child_tasks.specs.Forks.{nothing_noted}
@@ -39,9 +41,6 @@ use Rattle.child_tasks.proofs.JoinedHomes as both_sides
 use Rattle.child_tasks.proofs.SiblingReturned as before
 use Rattle.child_tasks.proofs.JoinEntered as joined
 use Rattle.child_tasks.proofs.TwoChildren.{both, count_of, each, in_pairs, right_next, sides, waits_in}
-
-none_some : {A B : Type 0} {x : A} → ◌≡◌ {A = Option A} None (Some x) → B
-none_some e = absurd cc
 
 module _ (w : SharedValue) (k : ℕ) (p : Private) (I : IsSharedValue w) (F : Fits w k p) (at_end : IsAtEnd w p) (free : refused w (alone_event k p) ≡ None) (ended : state_in_tree w.tree (sibling p.task) ≡ Some Ended) where
   abbrev pub q : ℕ
@@ -176,7 +175,7 @@ module _ (w : SharedValue) (k : ℕ) (p : Private) (I : IsSharedValue w) (F : Fi
     -- THE PLACES
     module _ (places : HasPlaces w p q) (own_is : own_notes.sources ≡ sources_at w.sets p.task) (other_is : other_notes.sources ≡ sources_at w.sets s') (set_is : IfSome (slice_get w.sets q) (λ z. notes ≡ z.remembered)) where
       set_there : (z : SetOf) × (slice_get w.sets q ≡ Some z)
-      set_there = item_there w.sets q (subst (λ n. q < n) (sym I.noted) parent_made)
+      set_there = got_some w.sets q (subst (λ n. q < n) (sym I.noted) parent_made)
 
       of_set : (o : Option SetOf) (z : SetOf) → o ≡ Some z → (P : SetOf → Type 0) → IfSome o P → P z
       of_set o z e P h = subst (λ i. IfSome i P) e h

@@ -1,17 +1,17 @@
 -- What a join makes of two homes and their parent's, in the words of the relation.
-use Rattle.std.proofs.Common.{◌≡◌, ◌⊎◌, ℕ, ℤ, ◌+◌, ◌<◌, ◌^◌, ◌++◌, arith, true, false, Option, Some, None, List, [], option_map, inl, inr, refl, ap, ap₂, sym, subst, ◌∙◌, eqb, eq-eqb, eqb-true, append_assoc}
-use Rattle.std.specs.Prelude.{Contains, IsSome}
+use Rattle.std.proofs.Common.{◌≡◌, ◌⊎◌, ℕ, ℤ, ◌+◌, ◌<◌, ◌^◌, ◌++◌, arith, true, false, Option, Some, None, List, [], inl, inr, refl, ap, ap₂, sym, subst, ◌∙◌, eqb, eq-eqb, append_assoc}
+use Rattle.std.specs.Prelude.{Contains}
 use Rattle.std.proofs.lemmas.Bool.{cases_Bool, false≢true}
 use Rattle.std.proofs.lemmas.List.{map-append}
 use Rattle.std.proofs.lemmas.Option.{same_Some}
-use Rattle.listed.proofs.Members.{any_from_in, contains_from_in, in_append_cases, in_append_left, in_append_right, in_from_any, in_from_contains}
+use Rattle.listed.proofs.Members.{any_from_in, contains_from_in, in_append_cases, in_append_left, in_append_right, in_from_contains}
+use Rattle.listed.proofs.Places.{in_map}
 use Rattle.run_ledger.specs.declared.data.Ledger.{Ledger}
 use Rattle.object_layout.specs.declared.word.Addr.{Addr}
 use Rattle.object_layout.specs.Chunks.{has_chunk}
 use Rattle.object_layout.specs.ChunkValue.{ChunkValue}
 use Rattle.object_layout.proofs.Owning.{found_any}
-use Rattle.chunk_pool.specs.declared.pool.Held.{Held}
-use Rattle.chunk_pool.specs.PoolValue.{PoolValue, held_at, owner_of}
+use Rattle.chunk_pool.specs.PoolValue.{PoolValue, owner_of}
 use Rattle.alloc_path.specs.LeafHeapValue.{LeafHeapValue, counted, merged, room_of, with_places}
 use Rattle.alloc_path.specs.View.{Level}
 use Rattle.task_frames.specs.FramesValue.{FramesValue}
@@ -25,34 +25,23 @@ use Rattle.ledger_step_laws.specs.Accounts.{Rests, own}
 use Rattle.core_relation.specs.Memory.{Chunk, Home, no_home, In, Memory, sources}
 use Rattle.core_relation.specs.Changes.{IsLifted, JoinsHomes, top_with_results}
 use Rattle.core_relation.specs.Stands.{Stands}
-use Rattle.core_relation.proofs.objects.Members.{in_chunk, in_map, map_in}
+use Rattle.core_relation.proofs.objects.Members.{in_chunk, map_in}
 use Rattle.shared_value.specs.declared.task_at_rest.Work.{Work}
 use Rattle.shared_value.specs.declared.task_at_rest.Work.TheVariants.{Calls, Result}
 use Rattle.shared_value.specs.Objects.{chunk_of, chunks_of}
 use Rattle.shared_value.specs.SharedValue.{home_by}
+use Rattle.shared_value.proofs.FieldsLed.{by_chunks}
+use Rattle.shared_value.proofs.FieldsNoted.{noted_of}
+use Rattle.shared_value.proofs.RootsHeld.{chunk_in}
+use Rattle.shared_value.proofs.UnitsMeasured.{owner_held}
 use Rattle.child_tasks.specs.Joins.{sources_by}
-use Rattle.child_tasks.proofs.SetsNoted.{noted_of}
 
 -- ---- CHUNKS BY NUMBER
-
-pub has_in : (ks : List ChunkValue) (n : ℕ) → has_chunk ks n ≡ true → (k : ChunkValue) × In ks k × (k.number ≡ n)
-has_in ks n e = let f = in_from_any (λ (k : ChunkValue). eqb k.number n) ks (sym (found_any ks n) ∙ e) in (f.0, f.1, eqb-true f.0.number n f.2)
 
 pub in_has : (ks : List ChunkValue) (k : ChunkValue) → In ks k → has_chunk ks k.number ≡ true
 in_has ks k i = found_any ks k.number ∙ any_from_in (λ (c : ChunkValue). eqb c.number k.number) ks k i (eq-eqb k.number k.number refl)
 
-held_by : (o : Option Held) (u : ℕ) → option_map (λ (h : Held). h.owner) o ≡ Some u → IsSome o
-held_by None u e = absurd (let n : ◌≡◌ {A = Option ℕ} None (Some u) = e in cc)
-held_by (Some h) u e = refl
-
-pub owner_held : (pool : PoolValue) (n u : ℕ) → owner_of pool n ≡ Some u → IsSome (held_at pool n)
-owner_held pool n u e = held_by (held_at pool n) u e
-
 -- ---- HOMES
-
-pub by_chunks : (h : LeafHeapValue) (view : List Level) (n : ℕ) (x : Work) → (home_by h view n x).chunks ≡ chunks_of h.chunks
-by_chunks h view n (Calls s) = refl
-by_chunks h view n (Result k r) = refl
 
 pub by_since : (h : LeafHeapValue) (view : List Level) (n : ℕ) (x : Work) → (home_by h view n x).since ≡ h.since
 by_since h view n (Calls s) = refl
@@ -148,7 +137,7 @@ module _ (v v' : Memory) (l : Ledger) (V : Stands v l) (pool pool' : PoolValue) 
   -- who owned a number that is given
   was : (n : ℕ) → has_chunk both n ≡ true → (v.owner n ≡ Some c) ⊎ (v.owner n ≡ Some d)
   was n has =
-      let k = has_in both n has in
+      let k = chunk_in both n has in
       elim (in_append_cases J.left_heap.chunks J.right_heap.chunks k.0 k.1) [
         | inl i ↦ inl (ap v.owner (sym k.2) ∙ left_owned k.0 i)
         | inr i ↦ inr (ap v.owner (sym k.2) ∙ right_owned k.0 i)
@@ -173,7 +162,7 @@ module _ (v v' : Memory) (l : Ledger) (V : Stands v l) (pool pool' : PoolValue) 
 
   -- an object of a source lies in the parent's chunks exactly where the parent owns its chunk
   in_own : (s : Source) → has_chunk ks s.object.chunk ≡ true → v.owner s.object.chunk ≡ Some q
-  in_own s has = let k = has_in ks s.object.chunk has in ap v.owner (sym k.2) ∙ own_owned k.0 k.1
+  in_own s has = let k = chunk_in ks s.object.chunk has in ap v.owner (sym k.2) ∙ own_owned k.0 k.1
 
   own_in : (u : ℕ) (s : Source) → In (sources v u) s → v.owner s.object.chunk ≡ Some q → has_chunk ks s.object.chunk ≡ true
   own_in u s i e =

@@ -4,6 +4,7 @@ use Rattle.std.specs.Prelude.{IfSome}
 use Rattle.std.proofs.lemmas.Bool.{cases_eq}
 use Rattle.std.proofs.lemmas.Option.{same_Some}
 use Rattle.std.proofs.Math.Path.{fun_ext}
+use Rattle.listed.proofs.Options.{none_some}
 use Rattle.alloc_path.specs.LeafHeapValue.{LeafHeapValue, with_places}
 use Rattle.alloc_path.specs.View.{Level}
 use Rattle.heap_tree.specs.Pairs.{sibling}
@@ -20,10 +21,12 @@ use Rattle.shared_value.specs.SharedValue.{SharedValue, accounts, marks_at, home
 use Rattle.shared_value.specs.Measured.{AreMeasured, IsUnheld}
 use Rattle.shared_value.specs.Stands.{HeapForm, IsSharedValue}
 use Rattle.shared_value.specs.Fits.{Fits, part_of}
+use Rattle.shared_value.proofs.FieldsNoted.{noted_of}
+use Rattle.shared_value.proofs.HeapForms.{places_form}
 use Rattle.own_steps.specs.Alone.{alone_event}
 use Rattle.child_tasks.specs.ChildEnds.{EndsChild}
 use Rattle.child_tasks.specs.Joins.{HasPlaces, IsSameRest, SameButPlaces, chunk_count, sources_at, sources_by}
-use Rattle.child_tasks.proofs.SetsNoted.{noted_by, noted_of}
+use Rattle.child_tasks.proofs.SetsNoted.{noted_by}
 
 same_home : (h : LeafHeapValue) (view : List Level) (n slots spare : ℕ) (x : Work) → home_by (with_places h slots spare) view n x ≡ home_by h view n x
 same_home h view n slots spare (Calls s) = refl
@@ -32,12 +35,6 @@ same_home h view n slots spare (Result k r) = refl
 home_same : (o o' : Option Rest) → IsSameRest o o' → home_in o' ≡ home_in o
 home_same None o' e = ap home_in e
 home_same (Some r) o' e = ap home_in e.2 ∙ same_home r.heap r.view r.allocations e.0 e.1 r.work
-
-form_places : (h : LeafHeapValue) (slots spare : ℕ) → HeapForm h → HeapForm (with_places h slots spare)
-form_places h slots spare F = record { shaped = record { apart = F.shaped.apart; current = F.shaped.current; reserved = F.shaped.reserved }; near = F.near; tidy = F.tidy; within = F.within; last = F.last; last_large = F.last_large; since = F.since; whole = F.whole; spare = F.spare }
-
-none_some : {A B : Type 0} {x : A} → ◌≡◌ {A = Option A} None (Some x) → B
-none_some e = absurd cc
 
 module _ (w : SharedValue) (homes : List (Option Rest)) (sets : List SetOf) (many : length homes ≡ length w.homes) (same : (u : ℕ) → IsSameRest (rest_at w.homes u) (rest_at homes u)) (many_sets : length sets ≡ length w.sets)
     (same_sets : (u : ℕ) → content_at sets u ≡ content_at w.sets u) where
@@ -54,7 +51,7 @@ module _ (w : SharedValue) (homes : List (Option Rest)) (sets : List SetOf) (man
   module _ (I : IsSharedValue w) where
     form_then : (u : ℕ) (r : Rest) (o : Option Rest) → rest_at w.homes u ≡ o → IsSameRest o (rest_at homes u) → rest_at homes u ≡ Some r → HeapForm r.heap
     form_then u r None e S is = none_some (sym S ∙ is)
-    form_then u r (Some z) e S is = subst (λ (y : Rest). HeapForm y.heap) (same_Some _ r (sym S.2 ∙ is)) (form_places z.heap S.0 S.1 (I.heaps u z e))
+    form_then u r (Some z) e S is = subst (λ (y : Rest). HeapForm y.heap) (same_Some _ r (sym S.2 ∙ is)) (places_form z.heap S.0 S.1 (I.heaps u z e))
 
     measured_then : (u : ℕ) (r : Rest) (o : Option Rest) → rest_at w.homes u ≡ o → IsSameRest o (rest_at homes u) → rest_at homes u ≡ Some r → IsUnheld w.hands u → AreMeasured w.pool u r.heap.chunks
     measured_then u r None e S is f = none_some (sym S ∙ is)

@@ -1,6 +1,7 @@
 -- Homes and sets that a join takes from and puts into, one after another.
 use Rattle.std.proofs.Common.{◌≡◌, ℕ, ◌<◌, false, Option, Some, None, List, [], length, length-set, slice_get, slice_set, option_map, ap, sym, subst, ◌∙◌}
 use Rattle.listed.proofs.Members.{got_other}
+use Rattle.listed.proofs.Places.{got_set}
 use Rattle.alloc_path.specs.LeafHeapValue.{LeafHeapValue}
 use Rattle.task_frames.specs.FramesValue.{FramesValue}
 use Rattle.remembered_set.specs.Sources.{RememberedValue}
@@ -10,7 +11,6 @@ use Rattle.task_machine.specs.declared.part.Private.{Private}
 use Rattle.shared_value.specs.declared.task_at_rest.Rest.{Rest}
 use Rattle.shared_value.specs.declared.task_at_rest.Work.TheVariants.{Calls}
 use Rattle.shared_value.specs.SharedValue.{flat, rest_at}
-use Rattle.shared_value.proofs.TaskTaken.{put_there}
 use Rattle.child_tasks.specs.Forks.{nothing_noted}
 use Rattle.child_tasks.specs.Joins.{HomesJoin}
 
@@ -24,7 +24,7 @@ homes_join h h1 h2 h4 p q s frames heap above rest qt qs st lt n1 own o1 n2 othe
     let away : (u : ℕ) → (u ≡ q → ⊥) → rest_at h4 u ≡ rest_at h2 u = λ u ne. ap (λ xs. rest_at xs u) e ∙ ap flat (got_other (slice_set h2 q None) q u (Some rest) ne ∙ got_other h2 q u None ne) in
     record {
       many = long ∙ (n2 ∙ n1);
-      parent_home = ap (λ xs. rest_at xs q) e ∙ (ap flat (put_there (slice_set h2 q None) q (Some rest) (subst (λ n. q < n) (sym (length-set h2 q None)) lt)) ∙ ap Some er);
+      parent_home = ap (λ xs. rest_at xs q) e ∙ (ap flat (got_set (slice_set h2 q None) q (Some rest) (subst (λ n. q < n) (sym (length-set h2 q None)) lt)) ∙ ap Some er);
       own_home = away p.task (λ f. qt (sym f)) ∙ (o2 p.task (λ f. st (sym f)) ∙ own);
       other_home = away s (λ f. qs (sym f)) ∙ other;
       others = λ u nq nt ns. away u nq ∙ (o2 u ns ∙ o1 u nt);

@@ -1,9 +1,7 @@
 -- The nodes of a join, and what the status of a task tells.
-use Rattle.std.proofs.Common.{◌≡◌, ◌⊎◌, ℕ, ℤ, true, Option, Some, None, List, [], ◌∷◌, length, slice_get, option_map, inl, inr, refl, ap, ap₂, sym, subst, ◌∙◌}
+use Rattle.std.proofs.Common.{◌≡◌, ◌⊎◌, ℕ, ℤ, true, Option, Some, None, List, length, slice_get, option_map, inl, inr, refl, ap, ap₂, sym, subst, ◌∙◌}
 use Rattle.std.proofs.lemmas.Bool.{cases_eq, false≢true}
 use Rattle.std.proofs.lemmas.Option.{same_Some}
-use Rattle.std.specs.Prelude.{All}
-use Rattle.std.proofs.lemmas.List.Elements.{All-cons, All-nil}
 use Rattle.hh_model.specs.declared.data.Name.{Name}
 use Rattle.hh_model.specs.declared.data.State.{State as MachineState}
 use Rattle.hh_model.specs.declared.data.Status.{Status}
@@ -13,12 +11,10 @@ use Rattle.hh_model.specs.Step.{is_over, is_waiting, kept_by, result_in, waits}
 use Rattle.object_layout.specs.declared.word.Addr.{Addr}
 use Rattle.alloc_path.specs.LeafHeapValue.{LeafHeapValue, room_of}
 use Rattle.alloc_path.specs.View.{Level}
-use Rattle.task_frames.specs.FramesValue.{FramesValue}
 use Rattle.heap_tree.specs.declared.state.State.TheVariants.{Ended, Joined, Ready}
 use Rattle.heap_tree.specs.declared.state.State.{State}
 use Rattle.heap_tree.specs.Node.{Node, with_state}
 use Rattle.fork_join.specs.Joined.{joined_nodes}
-use Rattle.core_relation.specs.Memory.{In}
 use Rattle.core_relation.specs.Reads.{HoldsRead, TaskIsRead}
 use Rattle.core_relation.specs.RanCounts.{node_then}
 use Rattle.shared_value.specs.declared.task_at_rest.Work.{Work}
@@ -26,6 +22,7 @@ use Rattle.shared_value.specs.declared.task_at_rest.Work.TheVariants.{Calls, Res
 use Rattle.shared_value.specs.declared.task_at_rest.Rest.{Rest}
 use Rattle.shared_value.specs.SharedValue.{home_by, home_in, home_of}
 use Rattle.shared_value.proofs.TaskTaken.{made_by, node_by, node_off}
+pub use Rattle.shared_value.proofs.TaskTaken.{HasCalls}
 
 -- ---- THE TREE
 
@@ -112,11 +109,6 @@ pub record IsOver (m : MachineState) (t : ℕ) : Type 0 where
   pub over : is_over task.status ≡ true
   pub end : m.end ≡ None
 
--- all items of a list
-pub all_in : {A : Type 0} (P : A → Type 0) (xs : List A) → ((x : A) → In xs x → P x) → All P xs
-all_in P [] each = All-nil P
-all_in P (x ∷ xs) each = All-cons P x xs (each x (inl refl)) (all_in P xs (λ y i. each y (inr i)))
-
 -- ---- A TASK THAT WAITS HAS FRAMES
 
 pub waiting_is : (x : Task) → is_waiting (Some x) ≡ true → x.status ≡ WaitingOf
@@ -127,10 +119,6 @@ waiting_is x e = by x.status e
     by WaitingOf e = refl
     by (EndedOf n r) e = absurd (false≢true e)
     by JoinedOf e = absurd (false≢true e)
-
-abbrev pub HasCalls : Option Rest → Type 0
-HasCalls None = ⊥
-HasCalls (Some r) = (s : FramesValue) × (r.work ≡ Calls s)
 
 pub waiting_calls : (at : Name → Addr → Type 0) (o : Option Rest) (x : Task) → x.status ≡ WaitingOf → TaskIsRead at (home_in o) x → HasCalls o
 waiting_calls at None x e h = absurd (subst (HoldsRead at (home_in None) x) e h)

@@ -3,6 +3,7 @@ use Rattle.std.proofs.Common.{◌≡◌, ℕ, ℤ, ◌+◌, ◌++◌, Option, So
 use Rattle.std.proofs.lemmas.Bool.{cases_eq}
 use Rattle.std.proofs.lemmas.Option.{same_Some}
 use Rattle.listed.proofs.Members.{in_append_cases, in_append_left, in_append_right}
+use Rattle.listed.proofs.Options.{none_some}
 use Rattle.run_ledger.specs.declared.data.Heap.{Heap as Account}
 use Rattle.run_ledger.specs.declared.data.Ledger.{Ledger}
 use Rattle.object_layout.specs.declared.word.Addr.{Addr}
@@ -27,15 +28,13 @@ use Rattle.shared_value.specs.Entered.{refused}
 use Rattle.shared_value.proofs.EntryMade.{hand_is, held_apart, unheld_at_rest, unheld_before}
 use Rattle.shared_value.proofs.PartFitsMachine as link
 use Rattle.shared_value.proofs.UnitsMeasured.{measured_both, measured_kept, part_kept, relabelled_keeps, relabelled_measured, relabelled_own}
+use Rattle.shared_value.proofs.RootsHeld.{chunk_in}
 use Rattle.own_steps.specs.Alone.{alone_event}
 use Rattle.child_tasks.specs.ChildEnds.{IsAtEnd}
 use Rattle.child_tasks.specs.Joins.{AreSides, HomesJoin, IsRestOf}
 use Rattle.child_tasks.proofs.ChildReturns as steps
-use Rattle.child_tasks.proofs.JoinHomes.{has_in, in_has}
+use Rattle.child_tasks.proofs.JoinHomes.{in_has}
 use Rattle.child_tasks.proofs.JoinedHomes as both
-
-none_some : {A B : Type 0} {x : A} → ◌≡◌ {A = Option A} None (Some x) → B
-none_some e = absurd cc
 
 module _ (w : SharedValue) (k : ℕ) (p : Private) (I : IsSharedValue w) (F : Fits w k p) (at_end : IsAtEnd w p) (free : refused w (alone_event k p) ≡ None) (ended : state_in_tree w.tree (steps.other w k p I F at_end free) ≡ Some Ended) where
   abbrev t : ℕ
@@ -99,7 +98,7 @@ module _ (w : SharedValue) (k : ℕ) (p : Private) (I : IsSharedValue w) (F : Fi
       units_stay : (u : ℕ) → (u ≡ c → ⊥) → (u ≡ c + 1 → ⊥) → KeepsUnits w.pool pool u
       units_stay u nc nd =
           relabelled_keeps w.pool pool (lh.chunks ++ rh.chunks) q relabelled u (λ n units h has.
-          let x = has_in (lh.chunks ++ rh.chunks) n has in
+          let x = chunk_in (lh.chunks ++ rh.chunks) n has in
           elim (in_append_cases lh.chunks rh.chunks x.0 x.1) [
             | inl i ↦ nc (owner_of_one u n units c lh.chunks x.0 i x.2 both_measured.0 h)
             | inr i ↦ nd (owner_of_one u n units (c + 1) rh.chunks x.0 i x.2 both_measured.1 h)

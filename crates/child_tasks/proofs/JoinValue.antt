@@ -2,6 +2,7 @@
 use Rattle.std.proofs.Common.{◌≡◌, ℕ, ◌+◌, ◌<◌, ◌++◌, false, Option, Some, None, List, [], ◌∷◌, length, slice_get, slice_set, ap₂, sym, subst, ◌∙◌}
 use Rattle.std.specs.Prelude.{IfSome}
 use Rattle.listed.specs.RoomyValue.{RoomyValue}
+use Rattle.listed.proofs.Places.{got_some}
 use Rattle.run_trace.specs.Entry.{EntryValue}
 use Rattle.chunk_pool.specs.PoolValue.{PoolValue}
 use Rattle.task_frames.specs.FramesValue.{FramesValue}
@@ -20,7 +21,6 @@ use Rattle.shared_value.specs.SharedValue.{SharedValue, rest_at}
 use Rattle.shared_value.specs.Stands.{IsSharedValue}
 use Rattle.shared_value.specs.Fits.{Fits, IsAtWork}
 use Rattle.shared_value.specs.Entered.{refused}
-use Rattle.shared_value.proofs.TaskTaken.{item_there}
 use Rattle.own_steps.specs.Alone.{alone_event}
 use Rattle.child_tasks.specs.ChildEnds.{EndsChild, IsAtEnd}
 use Rattle.child_tasks.specs.Forks.{nothing_noted}
@@ -95,18 +95,18 @@ module _ (w : SharedValue) (k : ℕ) (p : Private) (I : IsSharedValue w) (F : Fi
     right_so = K.right_is ∙ ap₂ (λ a b. right_of (is_left a.side.task) a b) K.own_is K.other_home.2
 
     own_sources : own_notes.sources ≡ sources_at w.sets p.task
-    own_sources = let z = item_there w.sets p.task (entry.own_set w k p I F at_end free ended) in taken_sources (slice_get w.sets p.task) own_notes z.0 z.1 K.own_set
+    own_sources = let z = got_some w.sets p.task (entry.own_set w k p I F at_end free ended) in taken_sources (slice_get w.sets p.task) own_notes z.0 z.1 K.own_set
 
     other_sources : other_notes.sources ≡ sources_at w.sets s
     other_sources =
-        let z = item_there w.sets s (entry.other_set w k p I F at_end free ended) in
+        let z = got_some w.sets s (entry.other_set w k p I F at_end free ended) in
         taken_sources (slice_get w.sets s) other_notes z.0 z.1 (subst (λ o. IfSome o (λ i. other_notes ≡ i.remembered)) (K.o1 s (entry.other_apart w k p I F at_end free ended)) K.other_set)
 
     set_is : IfSome (slice_get w.sets q) (λ i. notes ≡ i.remembered)
     set_is = subst (λ o. IfSome o (λ i. notes ≡ i.remembered)) (K.o2 q (entry.parent_other w k p I F at_end free ended) ∙ K.o1 q (entry.parent_apart w k p I F at_end free ended)) K.parent_set
 
     set_sources : notes.sources ≡ sources_at w.sets q
-    set_sources = let z = item_there w.sets q (entry.parent_set w k p I F at_end free ended) in taken_sources (slice_get w.sets q) notes z.0 z.1 set_is
+    set_sources = let z = got_some w.sets q (entry.parent_set w k p I F at_end free ended) in taken_sources (slice_get w.sets q) notes z.0 z.1 set_is
 
     at_work_q : IsAtWork above.work
     at_work_q = entry.at_work w k p I F at_end free ended above beside own_notes other_notes notes above_of beside_of

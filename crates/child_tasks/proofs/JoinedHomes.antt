@@ -3,6 +3,7 @@ use Rattle.std.proofs.Common.{◌≡◌, ◌⊎◌, ℕ, ℤ, ◌+◌, ◌<◌, 
 use Rattle.std.specs.Prelude.{IsSome}
 use Rattle.std.proofs.lemmas.Bool.{cases_Bool}
 use Rattle.std.proofs.lemmas.Option.{same_Some}
+use Rattle.listed.proofs.Places.{all_from, in_map}
 use Rattle.hh_model.specs.declared.data.Name.{Name}
 use Rattle.hh_model.specs.declared.data.State.{State as MachineState}
 use Rattle.hh_model.specs.declared.data.Task.{Task}
@@ -25,7 +26,6 @@ use Rattle.core_relation.specs.Memory.{Chunk, Home, In, Memory}
 use Rattle.core_relation.specs.Changes.{HasResult}
 use Rattle.core_relation.specs.Fits.{with_home}
 use Rattle.core_relation.specs.Stands.{Stands}
-use Rattle.core_relation.proofs.objects.Members.{in_map}
 use Rattle.task_machine.specs.declared.part.Private.{Private}
 use Rattle.task_machine.specs.Accounts.{AreReserved}
 use Rattle.shared_value.specs.declared.task_at_rest.Rest.{Rest}
@@ -36,15 +36,17 @@ use Rattle.shared_value.specs.SharedValue.{SharedValue, accounts, home_by, home_
 use Rattle.shared_value.specs.Stands.{HeapForm, IsSharedValue}
 use Rattle.shared_value.specs.Fits.{Fits, home_of_part}
 use Rattle.shared_value.specs.Entered.{refused}
+use Rattle.shared_value.proofs.RootsHeld.{chunk_in}
 use Rattle.own_steps.specs.Alone.{alone_event}
 use Rattle.own_steps.proofs.LastStepEntry as last
-use Rattle.own_steps.proofs.LastStepEntry.{last_event}
 use Rattle.child_tasks.specs.ChildEnds.{IsAtEnd}
 use Rattle.child_tasks.specs.Joins.{AreSides, IsRestOf, part_result, work_result}
 use Rattle.child_tasks.proofs.ChildReturns as steps
 use Rattle.child_tasks.proofs.SetsNoted.{empty_form}
-use Rattle.child_tasks.proofs.JoinHomes.{by_chunks, has_in, in_has, owner_held}
-use Rattle.child_tasks.proofs.JoinTree.{all_in, kept_is}
+use Rattle.shared_value.proofs.FieldsLed.{by_chunks}
+use Rattle.shared_value.proofs.UnitsMeasured.{owner_held}
+use Rattle.child_tasks.proofs.JoinHomes.{in_has}
+use Rattle.child_tasks.proofs.JoinTree.{kept_is}
 use Rattle.child_tasks.proofs.MergedHeapForm.{none_reserved}
 use Rattle.child_tasks.proofs.SiblingReturned as before
 
@@ -99,7 +101,7 @@ module _ (w : SharedValue) (k : ℕ) (p : Private) (I : IsSharedValue w) (F : Fi
 
   owner_at : (u : ℕ) (g : LeafHeapValue) → HasHome u g → Rests R u → (n : ℕ) → has_chunk g.chunks n ≡ true → v.owner n ≡ Some u
   owner_at u g e rests n has =
-      let y = has_in g.chunks n has in
+      let y = chunk_in g.chunks n has in
       ap v.owner (sym y.2) ∙ (W.homes u rests).owned (chunk_of y.0) (subst (λ (ks : List Chunk). In ks (chunk_of y.0)) (sym (ap (λ (i : Home). i.chunks) e.3 ∙ by_chunks g e.2 e.0 e.1)) (in_map chunk_of g.chunks y.0 y.1))
 
   -- no two heaps have a chunk of one number
@@ -248,10 +250,10 @@ module _ (w : SharedValue) (k : ℕ) (p : Private) (I : IsSharedValue w) (F : Fi
 
     -- and are in use
     pub left_used : AreInUse w.pool lh.chunks
-    left_used = all_in (λ y. IsSome (held_at w.pool y.number)) lh.chunks (λ y i. owner_held w.pool y.number c (owner_at c lh child_homes.0 rests_c y.number (in_has lh.chunks y i)))
+    left_used = all_from (λ y. IsSome (held_at w.pool y.number)) lh.chunks (λ y i. owner_held w.pool y.number c (owner_at c lh child_homes.0 rests_c y.number (in_has lh.chunks y i)))
 
     pub right_used : AreInUse w.pool rh.chunks
-    right_used = all_in (λ y. IsSome (held_at w.pool y.number)) rh.chunks (λ y i. owner_held w.pool y.number (c + 1) (owner_at (c + 1) rh child_homes.1 rests_d y.number (in_has rh.chunks y i)))
+    right_used = all_from (λ y. IsSome (held_at w.pool y.number)) rh.chunks (λ y i. owner_held w.pool y.number (c + 1) (owner_at (c + 1) rh child_homes.1 rests_d y.number (in_has rh.chunks y i)))
 
     pub child_of_two : (t ≡ c) ⊎ (t ≡ c + 1)
     child_of_two = by side

@@ -1,11 +1,11 @@
 -- A last step that leaves its task waiting is a fork.
-use Rattle.std.proofs.Common.{◌≡◌, ◌⊎◌, ℕ, ◌+◌, true, false, Option, Some, None, slice_get, inl, inr, refl, ap, sym, subst, ◌∙◌}
+use Rattle.std.proofs.Common.{◌≡◌, ◌⊎◌, ℕ, ◌+◌, true, false, Some, None, slice_get, inl, inr, refl, ap, sym, subst, ◌∙◌}
 use Rattle.std.proofs.lemmas.Bool.{both_ways, false≢true}
 use Rattle.std.proofs.lemmas.Option.{same_Some}
-use Rattle.hh_lang.specs.declared.instr.Instr.TheVariants.{Out, Par}
+use Rattle.listed.proofs.Options.{none_some}
+use Rattle.hh_lang.specs.declared.instr.Instr.TheVariants.{Par}
 use Rattle.hh_lang.specs.declared.program.Line.{Line}
 use Rattle.hh_lang.specs.Form.{ProgramText}
-use Rattle.hh_model.specs.declared.data.End.{End}
 use Rattle.hh_model.specs.declared.data.State.{State}
 use Rattle.hh_model.specs.declared.data.Status.{Status}
 use Rattle.hh_model.specs.declared.data.Status.TheVariants.{Running, Waiting, Ended, Joined}
@@ -15,12 +15,7 @@ use Rattle.run_ledger.specs.declared.data.Ledger.{Ledger}
 use Rattle.run_ledger.specs.Steps.{is_private}
 use Rattle.ledger_step_laws.specs.Last.{EndsLast, ForksOn, IsOfKind, JustReads, LastKind, Wrote}
 use Rattle.ledger_step_laws.specs.Last.{Private, Reading, Writing, Printing, Forking, Ending, Joining, Finishing, Halting}
-
-none_end : {A : Type 0} {e : End} → ◌≡◌ {A = Option End} None (Some e) → A
-none_end e = absurd cc
-
-prints_not : {A : Type 0} {g h a : ℕ} → Par g h ≡ Out a → A
-prints_not e = absurd cc
+use Rattle.own_steps.proofs.LastKinds.{forks_not}
 
 module _ (p : ProgramText) (m l' : Ledger) (t : ℕ) (x : Task) (line : Line) (shared : is_private p m.machine t ≡ false) (g h : ℕ) (by : line.instr ≡ Par g h) (y : Task) (is : slice_get l'.machine.tasks t ≡ Some y) (wait : waits y.status ≡ true) (goes : l'.machine.end ≡ None) where
   joined_not : {A : Type 0} → EndsLast m l' t x → A
@@ -43,9 +38,9 @@ module _ (p : ProgramText) (m l' : Ledger) (t : ℕ) (x : Task) (line : Line) (s
   forks Private private = absurd (both_ways (is_private p m.machine t) shared private)
   forks Reading r = absurd (subst (λ i. JustReads x i r.object r.frame) by r.reads)
   forks Writing r = absurd (subst (λ i. Wrote x i r.object r.written r.frame) by r.wrote)
-  forks Printing q = prints_not (sym by ∙ q.by)
+  forks Printing q = forks_not (sym by ∙ q.by)
   forks Forking f = f
   forks Ending e = let same = same_Some _ y (sym e.ends.ended ∙ is) in absurd (false≢true (ap (λ (z : Task). waits z.status) same ∙ wait))
   forks Joining j = joined_not j
-  forks Finishing d = none_end (sym goes ∙ d.ended)
-  forks Halting h = none_end (sym goes ∙ ap (λ (z : State). z.end) h.machine)
+  forks Finishing d = none_some (sym goes ∙ d.ended)
+  forks Halting h = none_some (sym goes ∙ ap (λ (z : State). z.end) h.machine)

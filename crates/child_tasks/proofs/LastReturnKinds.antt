@@ -1,11 +1,11 @@
 -- Of which kind a last return is, by what it leaves of its task.
-use Rattle.std.proofs.Common.{◌≡◌, ◌⊎◌, ℕ, ◌+◌, true, false, Option, Some, None, slice_get, inl, inr, ap, sym, subst, ◌∙◌}
+use Rattle.std.proofs.Common.{◌≡◌, ◌⊎◌, ℕ, ◌+◌, true, false, Some, None, slice_get, inl, inr, ap, sym, subst, ◌∙◌}
 use Rattle.std.proofs.lemmas.Bool.{both_ways, false≢true}
 use Rattle.std.proofs.lemmas.Option.{same_Some}
+use Rattle.listed.proofs.Options.{none_some}
 use Rattle.hh_lang.specs.declared.instr.Instr.TheVariants.{Out, Par, Ret}
 use Rattle.hh_lang.specs.declared.program.Line.{Line}
 use Rattle.hh_lang.specs.Form.{ProgramText}
-use Rattle.hh_model.specs.declared.data.End.{End}
 use Rattle.hh_model.specs.declared.data.State.{State}
 use Rattle.hh_model.specs.declared.data.Task.{Task}
 use Rattle.hh_model.specs.Step.{is_joined, is_over}
@@ -13,9 +13,6 @@ use Rattle.run_ledger.specs.declared.data.Ledger.{Ledger}
 use Rattle.run_ledger.specs.Steps.{is_private}
 use Rattle.ledger_step_laws.specs.Last.{EndsFirst, EndsLast, IsOfKind, JustReads, LastKind, Wrote}
 use Rattle.ledger_step_laws.specs.Last.{Private, Reading, Writing, Printing, Forking, Ending, Joining, Finishing, Halting}
-
-none_end : {A : Type 0} {e : End} → ◌≡◌ {A = Option End} None (Some e) → A
-none_end e = absurd cc
 
 prints_not : {A : Type 0} {a : ℕ} → Ret ≡ Out a → A
 prints_not e = absurd cc
@@ -47,8 +44,8 @@ module _ (p : ProgramText) (m l' : Ledger) (t : ℕ) (x : Task) (line : Line) (s
     ends Forking f = forks_not (sym by ∙ f.by)
     ends Ending e = e
     ends Joining j = joined_not j
-    ends Finishing d = none_end (sym goes ∙ d.ended)
-    ends Halting h = none_end (sym goes ∙ ap (λ (z : State). z.end) h.machine)
+    ends Finishing d = none_some (sym goes ∙ d.ended)
+    ends Halting h = none_some (sym goes ∙ ap (λ (z : State). z.end) h.machine)
 
   -- or it has joined
   module _ (over : is_over y.status ≡ true) where
@@ -60,5 +57,5 @@ module _ (p : ProgramText) (m l' : Ledger) (t : ℕ) (x : Task) (line : Line) (s
     joins Forking f = forks_not (sym by ∙ f.by)
     joins Ending e = let same = same_Some _ y (sym e.ends.ended ∙ is) in absurd (false≢true (ap (λ (z : Task). is_over z.status) same ∙ over))
     joins Joining j = j
-    joins Finishing d = none_end (sym goes ∙ d.ended)
-    joins Halting h = none_end (sym goes ∙ ap (λ (z : State). z.end) h.machine)
+    joins Finishing d = none_some (sym goes ∙ d.ended)
+    joins Halting h = none_some (sym goes ∙ ap (λ (z : State). z.end) h.machine)

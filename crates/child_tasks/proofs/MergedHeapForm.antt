@@ -4,19 +4,18 @@ use Rattle.std.proofs.lemmas.Bool.{cases_lt}
 use Rattle.std.proofs.lemmas.List.{get_or_append_left, get_or-append-add}
 use Rattle.std.proofs.lemmas.List.Elements.{All-append}
 use Rattle.listed.proofs.Members.{in_append_cases}
+use Rattle.listed.proofs.Places.{in_map}
+use Rattle.listed.proofs.Options.{none_some}
 use Rattle.object_layout.specs.Chunks.{AreApart, chunk_at, no_chunk}
 use Rattle.object_layout.specs.ChunkValue.{ChunkValue}
 use Rattle.object_layout.specs.Place.{words_in}
 use Rattle.object_layout.specs.Objects.{Located}
 use Rattle.alloc_path.specs.LeafHeapValue.{LeafHeapValue, IsCurrent, IsReserved, IsTidy, counted, merged, with_places}
 use Rattle.core_relation.specs.Memory.{Chunk, In, objects_in}
-use Rattle.core_relation.proofs.objects.Members.{in_chunk, in_map, in_objects, map_in}
+use Rattle.core_relation.proofs.objects.Members.{in_chunk, in_objects, map_in}
 use Rattle.task_machine.specs.Accounts.{AreReserved, IsLastLarge, IsLastSmall}
 use Rattle.shared_value.specs.Objects.{chunk_of, chunks_of}
 use Rattle.shared_value.specs.Stands.{HeapForm}
-
-none_some : {A B : Type 0} {x : A} → ◌≡◌ {A = Option A} None (Some x) → B
-none_some e = absurd cc
 
 -- the content that an object lies in
 pub object_content : (ks : List ChunkValue) (o : Located) → In (objects_in (chunks_of ks)) o → (c : ChunkValue) × In ks c × In (chunk_of c).objects o

@@ -2,6 +2,7 @@
 use Rattle.std.proofs.Common.{◌≡◌, ℕ, suc, ◌<◌, ◌≤◌, ◌^◌, ◌&&◌, arith, not, nat_lt, Bool, true, false, Option, Some, None, length, slice_get, option_map, is_none, is_some, inl, inr, refl, ap, ap₂, sym, subst, ◌∙◌}
 use Rattle.std.proofs.lemmas.Bool.{cases_eq, cond-false, ltb-true}
 use Rattle.std.proofs.lemmas.Option.{same_Some}
+use Rattle.listed.proofs.Options.{some_map}
 use Rattle.hh_lang.specs.declared.instr.Instr.{Instr}
 use Rattle.hh_lang.specs.declared.instr.Instr.TheVariants.{Par}
 use Rattle.hh_lang.specs.declared.program.Line.{Line}
@@ -75,10 +76,6 @@ module _ (w : SharedValue) (p : Private) where
 task_parent : (w : Option ℕ) (o : Option Task) → parent_in (option_map (told w) o) ≡ parent_of o
 task_parent w None = refl
 task_parent w (Some x) = refl
-
-some_map : {A B : Type 0} (f : A → B) (o : Option A) → is_some (option_map f o) ≡ is_some o
-some_map f None = refl
-some_map f (Some x) = refl
 
 module _ (w : SharedValue) (I : IsSharedValue w) (on : (accounts w).end ≡ None) where
   abbrev S0 : StandsFor (value_of w) (totals_of w) (accounts w)

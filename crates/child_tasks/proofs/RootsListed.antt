@@ -2,6 +2,7 @@
 use Rattle.std.proofs.Common.{◌≡◌, ◌↔◌, ℕ, Option, Some, None, List, [], ◌∷◌, slice_get, inl, inr, refl, ap, sym, subst, ◌∙◌}
 use Rattle.std.proofs.lemmas.Bool.{cases_eq}
 use Rattle.std.proofs.lemmas.Option.{same_Some}
+use Rattle.listed.proofs.Options.{none_some}
 use Rattle.run_ledger.specs.declared.data.Ledger.{Ledger}
 use Rattle.object_layout.specs.declared.word.Addr.{Addr}
 use Rattle.object_layout.specs.Objects.{Located}
@@ -27,9 +28,6 @@ OneRoot v l t s = (o : Option Addr) × ((a : Addr) → (o ≡ Some a) ↔ RootBy
 
 abbrev pub RootsOf : Memory → Ledger → ℕ → List Source → Type 0
 RootsOf v l t ss = (roots : List Addr) × ((a : Addr) → In roots a ↔ ((s : Source) × In ss s × RootBy v l t s a))
-
-none_some : {A B : Type 0} {x : A} → ◌≡◌ {A = Option A} None (Some x) → B
-none_some e = absurd cc
 
 module _ (v : Memory) (l : Ledger) (t : ℕ) (V : Stands v l) where
   owned : (u : ℕ) (o : Located) → Rests l u → In (objects v u) o → v.owner o.at.chunk ≡ Some u

@@ -1,24 +1,16 @@
 -- What is noted of a heap by what its set holds, and the form of an empty heap.
-use Rattle.std.proofs.Common.{◌≡◌, ℕ, arith, false, Option, Some, None, List, [], slice_get, option_map, refl}
+use Rattle.std.proofs.Common.{◌≡◌, ℕ, arith, Option, Some, None, List, [], slice_get, option_map, refl}
 use Rattle.write_barrier.specs.declared.sets.SetOf.{SetOf}
-use Rattle.write_barrier.specs.Stored.{Content, content_at, content_of}
-use Rattle.core_relation.specs.Memory.{Noted}
+use Rattle.write_barrier.specs.Stored.{Content, content_at}
 use Rattle.shared_value.specs.SharedValue.{noted_in}
 use Rattle.shared_value.specs.Stands.{HeapForm}
+use Rattle.shared_value.proofs.FieldsNoted.{noted_is, noted_of}
 use Rattle.child_tasks.specs.Forks.{keeping}
 
 -- ---- WHAT IS NOTED, by what a set holds
 
-abbrev pub noted_of : Option Content → Noted
-noted_of None = record { sources = []; kept = []; keeps = false; marked = None }
-noted_of (Some c) = record { sources = c.sources; kept = c.kept; keeps = c.keeps; marked = None }
-
 pub noted_by : (sets : List SetOf) (u : ℕ) → noted_in (slice_get sets u) ≡ noted_of (content_at sets u)
-noted_by sets u = by (slice_get sets u)
-  where
-    by : (o : Option SetOf) → noted_in o ≡ noted_of (option_map content_of o)
-    by None = refl
-    by (Some s) = refl
+noted_by sets u = noted_is (slice_get sets u)
 
 pub keeping_sources : (o : Option Content) → (noted_of (option_map keeping o)).sources ≡ (noted_of o).sources
 keeping_sources None = refl

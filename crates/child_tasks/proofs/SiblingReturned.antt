@@ -8,6 +8,7 @@ use Rattle.hh_model.specs.declared.data.State.{State as MachineState}
 use Rattle.hh_model.specs.declared.data.Status.TheVariants.{Waiting as WaitingOf, Ended as EndedOf}
 use Rattle.hh_model.specs.declared.data.Task.{Task}
 use Rattle.hh_model.specs.Step.{child_ended_by, is_joined, is_left, is_running, is_waiting, join_of, joined_task, kept_by, or_same, parents, result_of, resumed}
+use Rattle.run_trace.specs.Entry.{private_limit}
 use Rattle.run_ledger.specs.declared.data.Ledger.{Ledger}
 use Rattle.run_ledger.specs.Heaps.{heap_of, let_go, or_fresh}
 use Rattle.run_ledger.specs.Space.{CountsFew}
@@ -43,7 +44,8 @@ use Rattle.own_steps.proofs.LastStepEntry as last
 use Rattle.own_steps.proofs.LastStepEntry.{last_event}
 use Rattle.child_tasks.specs.ChildEnds.{IsAtEnd, running_parent, where_running}
 use Rattle.child_tasks.proofs.ChildReturns as steps
-use Rattle.child_tasks.proofs.JoinHomes.{by_chunks, by_since}
+use Rattle.shared_value.proofs.FieldsLed.{by_chunks}
+use Rattle.child_tasks.proofs.JoinHomes.{by_since}
 use Rattle.child_tasks.proofs.JoinTree.{HasCalls, IsOver, by_room, kept_is, waiting_calls, waiting_is, waits_is}
 use Rattle.child_tasks.proofs.LastReturnKinds.{joins}
 
@@ -223,7 +225,7 @@ module _ (w : SharedValue) (k : ℕ) (p : Private) (I : IsSharedValue w) (F : Fi
       let a = ran_tells w.program w.settings l k t (suc p.fresh) (ap is_none free_last) in
       let more : M.steps ≡ l.steps + p.fresh = task_steps_steps w.program p.fresh l t in
       let fuel = I.limits.fuel.1 in
-      let fresh : p.fresh ≤ 256 = at_end.few in
+      let fresh : p.fresh ≤ private_limit = at_end.few in
       let b : M.steps ≤ 1000000256 = omega (arith, more, a.2, fuel, fresh) in
       let c : (heap_of M u).since ≤ 1000034 * M.steps = few.below u in
       let e : (heap_of R u).since ≡ (heap_of M u).since = elim (cases_eq u t) [

@@ -3,6 +3,7 @@ use Rattle.std.proofs.Common.{◌≡◌, ℕ, ◌+◌, ◌-◌, ◌%◌, ◌<◌
 use Rattle.std.specs.Prelude.{IfSome}
 use Rattle.std.proofs.lemmas.Bool.{cond-false, cond-true, eqb-false}
 use Rattle.std.proofs.lemmas.Option.{same_Some}
+use Rattle.listed.proofs.Options.{none_some}
 use Rattle.hh_model.specs.declared.data.Status.TheVariants.{Waiting as WaitingOf}
 use Rattle.hh_model.specs.declared.data.Task.{Task}
 use Rattle.heap_tree.specs.declared.state.State.TheVariants.{Waiting}
@@ -18,9 +19,6 @@ use Rattle.shared_value.proofs.TaskTaken.{told}
 use Rattle.child_tasks.specs.Joins.{AreSides, IsRestOf, chunk_count, left_of, other_child, own_child, right_of, sources_by}
 
 -- ---- A TASK THAT WAITS, in the tree
-
-none_some : {A B : Type 0} {x : A} → ◌≡◌ {A = Option A} None (Some x) → B
-none_some e = absurd cc
 
 pub waits_in : (wk : Option ℕ) (n : Option Node) (x : Task) → x.status ≡ WaitingOf → n ≡ Some (told wk x) → option_map (λ (i : Node). i.state) n ≡ Some Waiting
 waits_in wk None x e h = none_some h

@@ -1,5 +1,5 @@
 -- What is known of a heap before its collection ends; and that no name stands twice in it.
-use Rattle.std.proofs.Common.{◌≡◌, ℕ, ◌+◌, ◌≤◌, ◌==◌, arith, Bool, true, false, cond, List, [], ◌∷◌, ◌++◌, map, inl, inr, refl, ap, sym, subst, ◌∙◌}
+use Rattle.std.proofs.Common.{◌≡◌, ℕ, ◌+◌, ◌≤◌, ◌==◌, arith, Bool, true, false, cond, List, [], ◌∷◌, ◌++◌, inl, inr, refl, ap, sym, ◌∙◌}
 use Rattle.std.specs.List.{flat_map}
 use Rattle.std.proofs.lemmas.Bool.{eqb-true}
 use Rattle.listed.proofs.Members.{in_append_cases, in_append_left, in_append_right}
@@ -7,10 +7,10 @@ use Rattle.hh_model.specs.declared.data.Name.{Name}
 use Rattle.hh_model.specs.declared.data.State.{State}
 use Rattle.run_ledger.specs.declared.data.Heap.{Heap as Account}
 use Rattle.run_ledger.specs.Heaps.{words_at}
-use Rattle.object_layout.specs.declared.word.Birth.{Birth}
 use Rattle.object_layout.specs.Cell.{Born, Cell, Hole, Mark, Moved, size_of}
 use Rattle.object_layout.specs.ChunkValue.{ChunkValue}
-use Rattle.object_layout.specs.Objects.{Located, located, located_by, objects_from}
+use Rattle.object_layout.specs.Objects.{Located, located, objects_from}
+use Rattle.object_layout.proofs.ObjectLemmas.{behind, first}
 use Rattle.alloc_path.specs.LeafHeapValue.{AreApart, LeafHeapValue}
 use Rattle.leaf_copy_gc.specs.declared.lists.Survivor.{Survivor}
 use Rattle.leaf_copy_gc.specs.Survivors.{olds}
@@ -38,34 +38,16 @@ pub record Old (h : LeafHeapValue) (ss : List Survivor) (m : State) (a : Account
 
 -- ---- NAMES THAT ARE READ
 
-pub there : (number base : ℕ) (c : Cell) (m : Mark) (b : Birth) (os : List Located) → m ≡ Born b → In (located_by number base c m os) (located number base b c)
-there number base c m b os e = subst (λ z. In (located_by number base c z os) (located number base b c)) (sym e) (inl refl)
-
-pub behind : (number base : ℕ) (c : Cell) (m : Mark) (os : List Located) (o : Located) → In os o → In (located_by number base c m os) o
-behind number base c (Born b) os o i = inr i
-behind number base c (Moved to) os o i = i
-behind number base c Hole os o i = i
-
 -- a name of cells is that of an object of theirs
 pub name_seen : (cs : List Cell) (number base : ℕ) (n : Name) → In (names_in cs) n → (o : Located) × In (objects_from number base cs) o × (object_name o ≡ n)
 name_seen [] number base n i = absurd i
 name_seen (c ∷ cs) number base n i = by c.mark i refl (name_seen cs number (base + size_of c) n)
   where
     by : (m : Mark) → In (named_by m (names_in cs)) n → c.mark ≡ m → (In (names_in cs) n → (o : Located) × In (objects_from number (base + size_of c) cs) o × (object_name o ≡ n)) → (o : Located) × In (objects_from number base (c ∷ cs)) o × (object_name o ≡ n)
-    by (Born b) (inl e) q go = (located number base b c, there number base c c.mark b (objects_from number (base + size_of c) cs) q, e)
+    by (Born b) (inl e) q go = (located number base b c, first number base c c.mark b (objects_from number (base + size_of c) cs) q, e)
     by (Born b) (inr j) q go = let r = go j in (r.0, behind number base c c.mark (objects_from number (base + size_of c) cs) r.0 r.1, r.2)
     by (Moved to) j q go = let r = go j in (r.0, behind number base c c.mark (objects_from number (base + size_of c) cs) r.0 r.1, r.2)
     by Hole j q go = let r = go j in (r.0, behind number base c c.mark (objects_from number (base + size_of c) cs) r.0 r.1, r.2)
-
--- and the names of all objects are those of the cells
-pub names_are : (cs : List Cell) (number base : ℕ) → map object_name (objects_from number base cs) ≡ names_in cs
-names_are [] number base = refl
-names_are (c ∷ cs) number base = by c.mark (names_are cs number (base + size_of c))
-  where
-    by : (m : Mark) → map object_name (objects_from number (base + size_of c) cs) ≡ names_in cs → map object_name (located_by number base c m (objects_from number (base + size_of c) cs)) ≡ named_by m (names_in cs)
-    by (Born b) e = ap (λ ns. name_of b ∷ ns) e
-    by (Moved to) e = e
-    by Hole e = e
 
 -- a name of small chunks is that of an object of theirs
 pub small_seen : (ks : List ChunkValue) (n : Name) → In (flat_map (λ ns. ns) (small_lists ks)) n → (k : ChunkValue) × In ks k × (k.size ≡ 1024) × In (names_in k.cells) n
@@ -100,7 +82,7 @@ single_cells (c ∷ cs) number base f = by c.mark refl (single_cells cs number (
     by (Born b) e go = (
       (λ i.
           let r = name_seen cs number (base + size_of c) (name_of b) i in
-          let same : located number base b c ≡ r.0 = f (located number base b c) r.0 (there number base c c.mark b os e) (behind number base c c.mark os r.0 r.1) (sym r.2) in
+          let same : located number base b c ≡ r.0 = f (located number base b c) r.0 (first number base c c.mark b os e) (behind number base c c.mark os r.0 r.1) (sym r.2) in
           let at : base ≡ r.0.at.offset = ap (λ (o : Located). o.at.offset) same in
           let le : base + size_of c ≤ r.0.at.offset = (span cs number (base + size_of c) r.0 r.1).from in
           omega (arith, at, le)),

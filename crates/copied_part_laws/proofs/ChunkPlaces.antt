@@ -1,8 +1,9 @@
 -- Which chunk stands where, behind laid and kept ones.
-use Rattle.std.proofs.Common.{◌≡◌, ℕ, zero, suc, ◌+◌, ◌-◌, ◌<◌, ◌≤◌, arith, Option, Some, None, List, [], ◌∷◌, ◌++◌, length, length-append, inl, inr, refl, ap, sym, subst, ◌∙◌}
+use Rattle.std.proofs.Common.{◌≡◌, ℕ, zero, suc, ◌+◌, ◌-◌, ◌<◌, ◌≤◌, arith, Option, Some, None, List, [], ◌∷◌, ◌++◌, length, length-append, refl, ap, sym, subst, ◌∙◌}
 use Rattle.hh_model.specs.declared.data.State.{State}
 use Rattle.object_layout.specs.ChunkValue.{ChunkValue}
 use Rattle.object_layout.specs.Chunks.{chunk_at}
+use Rattle.object_layout.proofs.ObjectLemmas.{chunk_there}
 use Rattle.alloc_path.specs.LeafHeapValue.{IsCurrent, IsReserved}
 use Rattle.leaf_copy_gc.specs.Exchanged.{last_place, reserved_of, reserved_place}
 use Rattle.core_relation.specs.Memory.{In}
@@ -21,11 +22,6 @@ at_front [] js j lt = absurd (omega (arith, lt))
 at_front (k ∷ ks) js zero lt = refl
 at_front (k ∷ ks) js (suc j) lt = at_front ks js j (omega (arith, lt))
 
-pub in_at : (ks : List ChunkValue) (i : ℕ) → i < length ks → In ks (chunk_at ks i)
-in_at [] i l = absurd (omega (arith, l))
-in_at (k ∷ ks) zero l = inl refl
-in_at (k ∷ ks) (suc i) l = inr (in_at ks i (omega (arith, l)))
-
 pub current_of : (m : State) (ks js : List ChunkValue) → Told m ks → IsCurrent (ks ++ js) (last_place ks)
 current_of m [] js t = tt
 current_of m (k ∷ ks) js t = along k ks t
@@ -38,7 +34,7 @@ pub last_small : (ks js : List ChunkValue) → ((k : ChunkValue) → In js k →
 last_small [] js big = tt
 last_small (k ∷ ks) js big = λ j lt le size.
     let n = length-append (k ∷ ks) js in
-    let b : 1024 < (chunk_at js (j - suc (length ks))).size = big (chunk_at js (j - suc (length ks))) (in_at js (j - suc (length ks)) (omega (arith, lt, le, n))) in
+    let b : 1024 < (chunk_at js (j - suc (length ks))).size = big (chunk_at js (j - suc (length ks))) (chunk_there js (j - suc (length ks)) (omega (arith, lt, le, n))) in
     let e = ap (λ (z : ChunkValue). z.size) (at_behind (k ∷ ks) js j (omega (arith, lt))) in
     omega (arith, b, e, size)
 

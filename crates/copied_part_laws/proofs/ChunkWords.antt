@@ -11,18 +11,18 @@ use Rattle.object_layout.specs.Cell.{Born, Cell, Hole, Mark, Moved, moved_to, si
 use Rattle.object_layout.specs.ChunkValue.{ChunkValue}
 use Rattle.object_layout.specs.Chunks.{cell_of, held_in as held_cells, held_size, held_words}
 use Rattle.object_layout.specs.Objects.{Located, located, objects_from}
+use Rattle.object_layout.proofs.ObjectLemmas.{behind, first}
 use Rattle.alloc_path.specs.LeafHeapValue.{units as chunk_units}
 use Rattle.alloc_path.specs.Units.{unit_count}
 use Rattle.leaf_copy_gc.specs.Laid.{AreNew, Laying, laid_all, laid_one, room_in}
 use Rattle.leaf_copy_gc.specs.Exchanged.{emptied}
-use Rattle.leaf_copy_gc.proofs.Numbers.{Distinct, new_reverse, numbers, removed_at}
+use Rattle.leaf_copy_gc.proofs.Numbers.{numbers}
 use Rattle.leaf_copy_gc.proofs.Numbers as nums
 use Rattle.core_relation.specs.Memory.{In, object_name, objects_in}
 use Rattle.core_relation.specs.Layout.{words}
 use Rattle.task_machine.specs.Accounts.{large_names, named_by, names_in, small_lists}
 use Rattle.task_machine.specs.Place.{name_of}
 use Rattle.shared_value.specs.Objects.{chunks_of}
-use Rattle.copied_part_laws.proofs.BeforeTheCopy.{behind, there}
 use Rattle.copied_part_laws.proofs.ObjectsPlaced.{opened_new}
 
 -- ---- WORDS HELD
@@ -35,7 +35,7 @@ module _ (m : State) where
     where
       by : (k : Mark) → c.mark ≡ k → moved_to k ≡ None → held_cells cs ≡ words_sum m (names_in cs) → held_size k (size_of c) + held_cells cs ≡ words_sum m (named_by k (names_in cs))
       by (Born b) e n go =
-          let w : words_at m (name_of b) ≡ 2 + length c.refs + length c.ints = g (located number base b c) (there number base c c.mark b (objects_from number (base + size_of c) cs) e) in
+          let w : words_at m (name_of b) ≡ 2 + length c.refs + length c.ints = g (located number base b c) (first number base c c.mark b (objects_from number (base + size_of c) cs) e) in
           let s = sum_by-cons (words_at m) (name_of b) (names_in cs) in
           omega (arith, w, s, go)
       by (Moved to) e n go = absurd cc

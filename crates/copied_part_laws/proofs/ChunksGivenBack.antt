@@ -5,6 +5,7 @@ use Rattle.std.proofs.lemmas.Bool.{false≢true}
 use Rattle.std.proofs.lemmas.List.{reverse-append}
 use Rattle.std.specs.Prelude.{option_map}
 use Rattle.listed.proofs.Members.{in_append_cases, in_append_left, in_append_right, in_from_kept}
+use Rattle.listed.proofs.Places.{all_from}
 use Rattle.hh_model.specs.declared.data.State.{State}
 use Rattle.run_ledger.specs.declared.data.Heap.{Heap as Account}
 use Rattle.object_layout.specs.declared.word.Addr.{Addr}
@@ -21,9 +22,10 @@ use Rattle.leaf_copy_gc.specs.Exchanged.{emptied, reserved_of, unreserved}
 use Rattle.leaf_copy_gc.specs.Collected.{AreSurvivors, back_of, keeps, kept_of, laid_of, laying_of, leaves}
 use Rattle.leaf_copy_gc.specs.Laws.{CanTake}
 use Rattle.leaf_copy_gc.proofs.Extent as extent
-use Rattle.leaf_copy_gc.proofs.ListLemmas.{all_from}
 use Rattle.leaf_copy_gc.proofs.Numbers.{Distinct, numbers}
 use Rattle.leaf_copy_gc.proofs.Numbers as nums
+use Rattle.leaf_copy_gc.proofs.Naming.{in_unreserved}
+use Rattle.leaf_copy_gc.proofs.Reading.{within_of}
 use Rattle.inner_mark_gc.specs.Swept.{units_kept}
 use Rattle.core_relation.specs.Memory.{In}
 use Rattle.core_relation.proofs.objects.Members.{map_in}
@@ -103,7 +105,7 @@ module _ (h : LeafHeapValue) (from : List (Option Addr)) (ss : List Survivor) (n
       let d = extent.chunk_in K n j in
       let x = map_in (led_chunk (moving.g h from ss news S T (naming.settled h from ss news S T m a O) (naming.reserved h from ss news S T m a O))) (filter (keeps ss) U) d.0 d.1.0 in
       let k = in_from_kept (keeps ss) U x.0 x.1 in
-      let same : c.0 ≡ x.0 = one_number h.chunks (naming.settled h from ss news S T m a O).apart c.0 x.0 (moving.of_unreserved h.chunks h.reserved c.0 l.0) (moving.of_unreserved h.chunks h.reserved x.0 k.0)
+      let same : c.0 ≡ x.0 = one_number h.chunks (naming.settled h from ss news S T m a O).apart c.0 x.0 (in_unreserved h.chunks h.reserved c.0 l.0) (in_unreserved h.chunks h.reserved x.0 k.0)
       (c.1.1 ∙ sym (ap (λ (z : ChunkValue). z.number) x.2 ∙ d.1.1)) in
       both_not (keeps ss x.0) k.1 (ap (leaves ss) (sym same) ∙ l.1)
     where
@@ -116,10 +118,10 @@ module _ (h : LeafHeapValue) (from : List (Option Addr)) (ss : List Survivor) (n
       let d = extent.chunk_in K n j in
       let x = map_in (led_chunk (moving.g h from ss news S T (naming.settled h from ss news S T m a O) (naming.reserved h from ss news S T m a O))) (filter (keeps ss) U) d.0 d.1.0 in
       let k = in_from_kept (keeps ss) U x.0 x.1 in
-      subst (In (numbers h.chunks)) (ap (λ (z : ChunkValue). z.number) x.2 ∙ d.1.1) (extent.number_there h.chunks x.0 (moving.of_unreserved h.chunks h.reserved x.0 k.0))
+      subst (In (numbers h.chunks)) (ap (λ (z : ChunkValue). z.number) x.2 ∙ d.1.1) (extent.number_there h.chunks x.0 (in_unreserved h.chunks h.reserved x.0 k.0))
 
   within : nums.Within h.chunks h.reserved
-  within = moving.within_of h.chunks h.reserved (naming.reserved h from ss news S T m a O)
+  within = within_of h.chunks h.reserved (naming.reserved h from ss news S T m a O)
 
   laid_same : numbers L ≡ numbers y.laid
   laid_same = moving.laid_numbers h from ss news S T (naming.settled h from ss news S T m a O) (naming.reserved h from ss news S T m a O)
@@ -173,7 +175,7 @@ module _ (h : LeafHeapValue) (from : List (Option Addr)) (ss : List Survivor) (n
     | inl j ↦
         let x = map_in emptied (filter (leaves ss) U) k j in
         let p = in_from_kept (leaves ss) U x.0 x.1 in
-        record { chunk = x.0; there = in_append_left h.chunks news x.0 (moving.of_unreserved h.chunks h.reserved x.0 p.0); number = ap (λ (z : ChunkValue). z.number) x.2; size = ap (λ (z : ChunkValue). z.size) x.2 }
+        record { chunk = x.0; there = in_append_left h.chunks news x.0 (in_unreserved h.chunks h.reserved x.0 p.0); number = ap (λ (z : ChunkValue). z.number) x.2; size = ap (λ (z : ChunkValue). z.size) x.2 }
     | inr j ↦
         let n = new_number k.number (extent.number_there y.spare k (reversed y.spare k j)) in
         let c = extent.chunk_in news k.number n in
@@ -194,7 +196,7 @@ module _ (h : LeafHeapValue) (from : List (Option Addr)) (ss : List Survivor) (n
       | inl q ↦
           let x = map_in (led_chunk (moving.g h from ss news S T (naming.settled h from ss news S T m a O) (naming.reserved h from ss news S T m a O))) (filter (keeps ss) U) k q in
           let p = in_from_kept (keeps ss) U x.0 x.1 in
-          record { chunk = x.0; there = in_append_left h.chunks news x.0 (moving.of_unreserved h.chunks h.reserved x.0 p.0); number = ap (λ (z : ChunkValue). z.number) x.2; size = ap (λ (z : ChunkValue). z.size) x.2 }
+          record { chunk = x.0; there = in_append_left h.chunks news x.0 (in_unreserved h.chunks h.reserved x.0 p.0); number = ap (λ (z : ChunkValue). z.number) x.2; size = ap (λ (z : ChunkValue). z.size) x.2 }
       | inr q ↦ record { chunk = k; there = in_append_left h.chunks news k (moving.of_reserved h.chunks h.reserved (naming.reserved h from ss news S T m a O) k q).0; number = refl; size = refl }
     ]
   ]

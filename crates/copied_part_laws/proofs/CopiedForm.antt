@@ -4,6 +4,7 @@ use Rattle.std.specs.Prelude.{reverse}
 use Rattle.std.proofs.lemmas.Bool.{cases_lt, cond-false, cond-true, false≢true}
 use Rattle.std.proofs.lemmas.List.{length-map}
 use Rattle.listed.proofs.Members.{in_append_cases}
+use Rattle.listed.proofs.Places.{all_from, read_in}
 use Rattle.hh_model.specs.declared.data.State.{State}
 use Rattle.run_ledger.specs.declared.data.Heap.{Heap as Account}
 use Rattle.run_ledger.specs.Heaps.{units}
@@ -15,6 +16,7 @@ use Rattle.object_layout.specs.Chunks.{cell_of, chunk_at}
 use Rattle.object_layout.specs.Objects.{Located, led_object as led_fields, objects_from}
 use Rattle.object_layout.proofs.ObjectChanges.{led_are_read}
 use Rattle.object_layout.proofs.PlaceLemmas.{words_in-push}
+use Rattle.object_layout.proofs.ObjectLemmas.{chunk_there}
 use Rattle.alloc_path.specs.LeafHeapValue.{LeafHeapValue, IsReserved, room_of, with_places}
 use Rattle.leaf_copy_gc.specs.declared.lists.Survivor.{Survivor}
 use Rattle.leaf_copy_gc.specs.Survivors.{olds}
@@ -23,10 +25,10 @@ use Rattle.leaf_copy_gc.specs.Redirected.{led as led_cell_by, led_chunk}
 use Rattle.leaf_copy_gc.specs.Exchanged.{reserved_of, unreserved}
 use Rattle.leaf_copy_gc.specs.Collected.{AreSurvivors, collected, keeps, kept_of, laid_of, laying_of}
 use Rattle.leaf_copy_gc.specs.Laws.{CanTake}
-use Rattle.leaf_copy_gc.proofs.ListLemmas.{all_from, read_in}
 use Rattle.leaf_copy_gc.proofs.Numbers.{new_reverse}
 use Rattle.leaf_copy_gc.proofs.Reading as reading
 use Rattle.leaf_copy_gc.proofs.Tidied.{all_tidy}
+use Rattle.leaf_copy_gc.proofs.Reading.{within_of}
 use Rattle.core_relation.specs.Memory.{Chunk, In, led, objects_in}
 use Rattle.core_relation.specs.Layout.{AreLaidOut, HoldsLarge, has_none, reserved_chunks, reserved_units, words}
 use Rattle.core_relation.proofs.objects.Members.{in_map, map_in}
@@ -38,7 +40,7 @@ use Rattle.copied_part_laws.proofs.BeforeTheCopy.{Old}
 use Rattle.copied_part_laws.proofs.NamesLaid.{Told, words_led}
 use Rattle.copied_part_laws.proofs.ObjectsApart.{Holds, held_by, laid_out, span}
 use Rattle.copied_part_laws.proofs.ObjectsMoved as moving
-use Rattle.copied_part_laws.proofs.ChunkPlaces.{at_behind, at_front, current_of, in_at, last_behind, last_small, place_behind, reserved_behind}
+use Rattle.copied_part_laws.proofs.ChunkPlaces.{at_behind, at_front, current_of, last_behind, last_small, place_behind, reserved_behind}
 use Rattle.copied_part_laws.proofs.ObjectsPlaced.{opened_new}
 use Rattle.copied_part_laws.proofs.CopiedNames as naming
 
@@ -255,18 +257,18 @@ module _ (h : LeafHeapValue) (from : List (Option Addr)) (ss : List Survivor) (n
       reserved = reserved_behind h.chunks L K h.reserved O.form.shaped.reserved;
     };
     near = near_each;
-    tidy = all_tidy g h.chunks ss news h.reserved O.form.tidy T.new (moving.within_of h.chunks h.reserved O.form.shaped.reserved) L refl;
+    tidy = all_tidy g h.chunks ss news h.reserved O.form.tidy T.new (within_of h.chunks h.reserved O.form.shaped.reserved) L refl;
     within = all_from (λ k. words_in k.cells ≤ k.size) (L ++ (K ++ R)) within_each;
     last = last_small L (K ++ R) (λ k i. (part k i).big);
     last_large = last_behind h.chunks L K h.reserved;
     since = omega arith;
     whole = whole_each;
     spare = λ i lt big none. elim (cases_lt i (length L)) [
-      | inl f ↦ absurd (big (ap (λ (z : ChunkValue). z.size) (at_front L (K ++ R) i f) ∙ told_in m L (chunk_at L i) told (in_at L i f)))
+      | inl f ↦ absurd (big (ap (λ (z : ChunkValue). z.size) (at_front L (K ++ R) i f) ∙ told_in m L (chunk_at L i) told (chunk_there L i f)))
       | inr le ↦ elim (cases_lt i (length L + length K)) [
         | inl f ↦
             let e : chunk_at (L ++ (K ++ R)) i ≡ chunk_at K (i - length L) = at_behind L (K ++ R) i le ∙ at_front K R (i - length L) (omega (arith, f, le)) in
-            absurd (kept_full (chunk_at K (i - length L)) (in_at K (i - length L) (omega (arith, f, le))) (ap (λ (z : ChunkValue). (chunk_of z).objects) (sym e) ∙ none))
+            absurd (kept_full (chunk_at K (i - length L)) (chunk_there K (i - length L) (omega (arith, f, le))) (ap (λ (z : ChunkValue). (chunk_of z).objects) (sym e) ∙ none))
         | inr more ↦ place_behind h.chunks L K h.reserved i more lt
       ]
     ];

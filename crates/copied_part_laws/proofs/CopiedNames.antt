@@ -5,6 +5,7 @@ use Rattle.std.specs.List.{flat_map, list_any}
 use Rattle.std.proofs.lemmas.Bool.{cases_Bool, cases_lt, cond-false, cond-true, eqb-true, false≢true, le-leb, leb-true, lt-leb}
 use Rattle.std.proofs.lemmas.List.{append-nil}
 use Rattle.listed.proofs.Members.{in_append_cases, in_flat, in_from_kept, in_kept}
+use Rattle.listed.proofs.Places.{in_map, read_in}
 use Rattle.hh_model.specs.declared.data.Name.{Name}
 use Rattle.hh_model.specs.declared.data.State.{State}
 use Rattle.run_ledger.specs.declared.data.Heap.{Heap as Account}
@@ -28,26 +29,26 @@ use Rattle.leaf_copy_gc.specs.Redirected.{led_chunk}
 use Rattle.leaf_copy_gc.specs.Exchanged.{reserved_of, unreserved}
 use Rattle.leaf_copy_gc.specs.Collected.{AreSurvivors, keeps, kept_of, laid_of, laying_of}
 use Rattle.leaf_copy_gc.specs.Laws.{CanTake}
-use Rattle.leaf_copy_gc.proofs.ListLemmas.{in_map as into_map, read_in}
 use Rattle.leaf_copy_gc.proofs.Moves.{in_small, olds_small, small_ones}
 use Rattle.leaf_copy_gc.proofs.Moves as moves
-use Rattle.leaf_copy_gc.proofs.Naming.{in_unmap}
+use Rattle.leaf_copy_gc.proofs.Naming.{in_unmap, in_unreserved}
 use Rattle.leaf_copy_gc.proofs.Numbers.{new_reverse}
 use Rattle.leaf_copy_gc.proofs.Reading as reading
 use Rattle.leaf_copy_gc.proofs.Rebuilt.{any_here, any_none, first_of}
 use Rattle.core_relation.specs.Memory.{Chunk, In, object_name, objects_in}
 use Rattle.core_relation.specs.Layout.{words}
 use Rattle.core_relation.specs.Stands.{HasNames, names_of, small_chunks}
-use Rattle.core_relation.proofs.objects.Members.{from_flat, in_map, in_objects, map_in}
+use Rattle.core_relation.proofs.objects.Members.{from_flat, in_objects, map_in}
 use Rattle.task_machine.specs.Accounts.{large_names, names_in, small_lists}
 use Rattle.shared_value.specs.Objects.{chunk_of, chunks_of}
 use Rattle.shared_value.proofs.CellsRead.{object_seen, seen_object}
-use Rattle.shared_value.proofs.HeapCounts.{large_are, small_names}
+use Rattle.shared_value.proofs.HeapCounts.{large_are, names_are, small_names}
+use Rattle.shared_value.proofs.HeapLaidOut.{inside_from}
 use Rattle.copied_part_laws.proofs.SurvivorOrder.{Single, single_names, small_survivors_are, sorted_names}
-use Rattle.copied_part_laws.proofs.BeforeTheCopy.{Old, names_are, single_small}
+use Rattle.copied_part_laws.proofs.BeforeTheCopy.{Old, single_small}
 use Rattle.copied_part_laws.proofs.LargeNames.{large_both, large_led, large_unreserved, none_large}
 use Rattle.copied_part_laws.proofs.NamesLaid.{Told, birth_name, lay_all, lists_led, lists_of, none_small, room_told, small_both, told_large, told_led, told_small}
-use Rattle.copied_part_laws.proofs.ObjectsApart.{held_by, inside, once}
+use Rattle.copied_part_laws.proofs.ObjectsApart.{held_by, once}
 use Rattle.copied_part_laws.proofs.ObjectsMoved as moving
 
 module _ (h : LeafHeapValue) (from : List (Option Addr)) (ss : List Survivor) (news : List ChunkValue) (S : AreSurvivors h.chunks from ss) (T : CanTake h.chunks news) (m : State) (a : Account) (O : Old h ss m a) where
@@ -169,7 +170,7 @@ module _ (h : LeafHeapValue) (from : List (Option Addr)) (ss : List Survivor) (n
       let k = in_from_kept (λ (s : Survivor). is_small h.chunks s.old) ss s.0 s.1 in
       let there = object_there s.0 k.0 in (
         subst (In (small_in a)) s.2 (small_is (object_of s.0) there k.1),
-        holds_from_in a.survivors n (subst (In a.survivors) s.2 (O.lives (object_of s.0) there (into_map old_of ss s.0 k.0))),
+        holds_from_in a.survivors n (subst (In a.survivors) s.2 (O.lives (object_of s.0) there (in_map old_of ss s.0 k.0))),
       ))
       (λ n i e.
       let o = is_small_one n i in
@@ -235,7 +236,7 @@ module _ (h : LeafHeapValue) (from : List (Option Addr)) (ss : List Survivor) (n
     in_h = in_objects (chunks_of h.chunks) (chunk_of k) o (in_map chunk_of h.chunks k i) in_k
 
     o_first : o.at ≡ first_of k
-    o_first = let c = inside h.chunks (chunk_of k) o (in_map chunk_of h.chunks k i) in_k in λ j. record { chunk = c j; offset = zero' j }
+    o_first = let c = inside_from h.chunks (chunk_of k) o (in_map chunk_of h.chunks k i) in_k in λ j. record { chunk = c j; offset = zero' j }
 
     first_big : nat_le (size_of (cell_at k.cells 0)) 1024 ≡ false
     first_big =
@@ -311,7 +312,7 @@ module _ (h : LeafHeapValue) (from : List (Option Addr)) (ss : List Survivor) (n
       ∙ (ap (λ zs. large_names K ++ zs) (none_large R (λ k i. (moving.of_reserved h.chunks h.reserved reserved k i).2))
       ∙ (append-nil (large_names K)
       ∙ (large_led g (filter (keeps ss) (unreserved h.chunks h.reserved))
-      ∙ (large_kept (unreserved h.chunks h.reserved) (λ k i. moving.of_unreserved h.chunks h.reserved k i)
+      ∙ (large_kept (unreserved h.chunks h.reserved) (λ k i. in_unreserved h.chunks h.reserved k i)
       ∙ (ap (filter (holds_name a.survivors)) (large_unreserved h.chunks h.reserved reserved)
       ∙ ap (filter (holds_name a.survivors)) (sym (large_are h.chunks) ∙ O.names.large))))))))
 

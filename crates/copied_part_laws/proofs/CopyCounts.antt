@@ -5,6 +5,7 @@ use Rattle.std.specs.List.{flat_map}
 use Rattle.std.proofs.lemmas.Bool.{cases_Bool, cond-false, eqb-true, false≢true}
 use Rattle.std.proofs.lemmas.List.{length-map, length-reverse}
 use Rattle.std.proofs.lemmas.List.Sums.{sum_by-append, sum_by-cons}
+use Rattle.listed.proofs.Places.{read_in}
 use Rattle.hh_model.specs.declared.data.Name.{Name}
 use Rattle.hh_model.specs.declared.data.State.{State}
 use Rattle.run_ledger.specs.declared.data.Heap.{Heap as Account}
@@ -26,19 +27,20 @@ use Rattle.leaf_copy_gc.specs.Laid.{Laying, before, smalls}
 use Rattle.leaf_copy_gc.specs.Exchanged.{emptied, reserved_of, unreserved}
 use Rattle.leaf_copy_gc.specs.Collected.{AreSurvivors, back_of, keeps, kept_of, laid_of, laying_of, leaves}
 use Rattle.leaf_copy_gc.specs.Laws.{CanTake}
-use Rattle.leaf_copy_gc.proofs.Numbers.{Distinct, new_reverse, numbers, removed_at}
+use Rattle.leaf_copy_gc.proofs.Numbers.{new_reverse, numbers, removed_at}
 use Rattle.leaf_copy_gc.proofs.Numbers as nums
 use Rattle.leaf_copy_gc.proofs.Extent as extent
-use Rattle.leaf_copy_gc.proofs.ListLemmas.{read_in}
 use Rattle.leaf_copy_gc.proofs.Tidied.{all_tidy}
+use Rattle.leaf_copy_gc.proofs.Naming.{in_unreserved}
+use Rattle.leaf_copy_gc.proofs.Reading.{within_of}
 use Rattle.core_relation.specs.Memory.{In, object_name, objects_in}
 use Rattle.core_relation.specs.Layout.{words}
 use Rattle.core_relation.proofs.objects.Members.{in_map, in_objects, map_in}
 use Rattle.task_machine.specs.Accounts.{large_names, names_in, small_lists}
 use Rattle.shared_value.specs.Objects.{chunk_of, chunks_of}
-use Rattle.shared_value.proofs.HeapCounts.{large_are, small_names}
+use Rattle.shared_value.proofs.HeapCounts.{large_are, names_are, small_names}
 use Rattle.copied_part_laws.proofs.CopiedForm as forming
-use Rattle.copied_part_laws.proofs.BeforeTheCopy.{Old, names_are}
+use Rattle.copied_part_laws.proofs.BeforeTheCopy.{Old}
 use Rattle.copied_part_laws.proofs.NamesLaid.{Told}
 use Rattle.copied_part_laws.proofs.LargeNames.{large_unreserved}
 use Rattle.copied_part_laws.proofs.ObjectsMoved as moving
@@ -84,7 +86,7 @@ module _ (h : LeafHeapValue) (from : List (Option Addr)) (ss : List Survivor) (n
   -- ---- THE WORDS LEFT
 
   tidy_now : AreTidy (L ++ (K ++ R))
-  tidy_now = all_tidy (forming.g h from ss news S T m a O) h.chunks ss news h.reserved O.form.tidy T.new (moving.within_of h.chunks h.reserved O.form.shaped.reserved) L refl
+  tidy_now = all_tidy (forming.g h from ss news S T m a O) h.chunks ss news h.reserved O.form.tidy T.new (within_of h.chunks h.reserved O.form.shaped.reserved) L refl
 
   words_now : (o : Located) → In (objects_in (chunks_of (L ++ (K ++ R)))) o → words_at m (object_name o) ≡ words o
   words_now o i =
@@ -110,7 +112,7 @@ module _ (h : LeafHeapValue) (from : List (Option Addr)) (ss : List Survivor) (n
 
   -- each large chunk but the reserved one has its object
   pub has_one : (k : ChunkValue) → In U k → (k.size == 1024) ≡ false → naming.One h from ss news S T m a O k
-  has_one k i big = elim (naming.one_of h from ss news S T m a O k (moving.of_unreserved h.chunks h.reserved k i) big) [
+  has_one k i big = elim (naming.one_of h from ss news S T m a O k (in_unreserved h.chunks h.reserved k i) big) [
     | inr o ↦ o
     | inl none ↦ absurd (empty_not k i big none)
   ]
@@ -129,7 +131,7 @@ module _ (h : LeafHeapValue) (from : List (Option Addr)) (ss : List Survivor) (n
 
       empty_not : (k : ChunkValue) → In (unreserved h.chunks h.reserved) k → (k.size == 1024) ≡ false → names_in k.cells ≡ [] → ⊥
       empty_not k i big none =
-          let at = index_of h.chunks k (moving.of_unreserved h.chunks h.reserved k i) in
+          let at = index_of h.chunks k (in_unreserved h.chunks h.reserved k i) in
           let r : h.reserved ≡ Some at.0 = O.form.spare at.0 at.1 (λ e. false≢true (sym big ∙ eq-eqb k.size 1024 (ap (λ (z : ChunkValue). z.size) (sym at.2) ∙ e))) (ap (λ (z : ChunkValue). (chunk_of z).objects) at.2 ∙ no_objects k none) in
           let j : In (remove h.chunks at.0) k = subst (λ o. In (unreserved h.chunks o) k) r i in
           removed_at h.chunks at.0 at.1 (moving.once_h h from ss news S T (naming.settled h from ss news S T m a O) (naming.reserved h from ss news S T m a O))
@@ -140,7 +142,7 @@ module _ (h : LeafHeapValue) (from : List (Option Addr)) (ss : List Survivor) (n
   leaving (k ∷ us) f = by (k.size == 1024) refl (leaving us (λ j i. f j (inr i)))
     where
       old : In h.chunks k
-      old = moving.of_unreserved h.chunks h.reserved k (f k (inl refl))
+      old = in_unreserved h.chunks h.reserved k (f k (inl refl))
 
       small : (k.size == 1024) ≡ true → unit_count (filter (leaves ss) us) + Units (large_names (filter (keeps ss) us)) ≡ length (small_lists us) + Units (large_names us)
           → unit_count (k ∷ filter (leaves ss) us) + Units (large_names (filter (keeps ss) us)) ≡ suc (length (small_lists us)) + Units (large_names us)
@@ -208,7 +210,7 @@ module _ (h : LeafHeapValue) (from : List (Option Addr)) (ss : List Survivor) (n
         let two = units_new (reverse y.spare) (new_reverse y.spare fresh) in
         let rev = length-reverse y.spare in
         let go = leaving U (λ k i. i) in
-        let kept = ap Units (naming.large_kept h from ss news S T m a O U (λ k i. moving.of_unreserved h.chunks h.reserved k i)) in
+        let kept = ap Units (naming.large_kept h from ss news S T m a O U (λ k i. in_unreserved h.chunks h.reserved k i)) in
         let names : large_names U ≡ a.large = large_unreserved h.chunks h.reserved O.form.shaped.reserved ∙ (sym (large_are h.chunks) ∙ O.names.large) in
         let all = ap Units names in
         let then_ : Units (filter (holds_name a.survivors) (large_names U)) ≡ Units Then.large = ap (λ ns. Units (filter (holds_name a.survivors) ns)) names in

@@ -1,11 +1,10 @@
 -- A part that was copied fits the shared value for the end of its collection.
-use Rattle.std.proofs.Common.{◌≡◌, ℕ, zero, suc, ◌/◌, ◌++◌, ◌≤◌, arith, All, Option, Some, None, List, [], ◌∷◌, length, slice_get, sum_by, refl, ap, sym, subst, ◌∙◌}
+use Rattle.std.proofs.Common.{◌≡◌, ℕ, zero, suc, ◌/◌, ◌++◌, ◌≤◌, arith, All, Some, None, List, [], ◌∷◌, length, slice_get, sum_by, refl, ap, sym, subst, ◌∙◌}
 use Rattle.std.specs.Prelude.{pos, reverse}
 use Rattle.std.proofs.lemmas.List.{length-map}
 use Rattle.std.proofs.lemmas.List.Sums.{sum_by-cons}
-use Rattle.run_ledger.specs.declared.data.Heap.{Heap as Account}
 use Rattle.run_ledger.specs.declared.data.Ledger.{Ledger}
-use Rattle.run_ledger.specs.Heaps.{end_numbers, heap_of, in_use, or_fresh, units_in}
+use Rattle.run_ledger.specs.Heaps.{end_numbers, heap_of, in_use, units_in}
 use Rattle.run_ledger.proofs.Space.{use_is_bounded}
 use Rattle.object_layout.specs.ChunkValue.{ChunkValue}
 use Rattle.chunk_pool.specs.declared.pool.Held.{Held}
@@ -32,6 +31,7 @@ use Rattle.shared_value.specs.Measured.{AreMeasured, AreUnits, news_of}
 use Rattle.shared_value.proofs.UnitsMeasured.{measured_both}
 use Rattle.shared_value.specs.SharedValue.{SharedValue, accounts, frames_of, home_with, value_of}
 use Rattle.leaf_collections.specs.LeafEnd.{AreBack, FitsCopied}
+use Rattle.heap_marking.proofs.SweptUnits.{few_units}
 use Rattle.copied_part_laws.specs.Copied.{IsBegun, part_home}
 use Rattle.copied_part_laws.specs.Handed.{CopiedFits, IsCopying}
 use Rattle.copied_part_laws.proofs.ChunksGivenBack as back
@@ -47,15 +47,8 @@ one_of_sum g [] t x e = absurd cc
 one_of_sum g (y ∷ ys) zero x e = let s = sum_by-cons g y ys in let q : g y ≡ g x = ap g (let z : y ≡ x = cc in z) in omega (arith, s, q)
 one_of_sum g (y ∷ ys) (suc t) x e = let s = sum_by-cons g y ys in let r = one_of_sum g ys t x e in omega (arith, s, r)
 
-heap_least : (l : Ledger) (t : ℕ) → units_in l.machine (heap_of l t) ≤ in_use l
-heap_least l t = by (slice_get l.heaps t) refl
-  where
-    by : (o : Option Account) → slice_get l.heaps t ≡ o → units_in l.machine (or_fresh o) ≤ in_use l
-    by None e = omega arith
-    by (Some h) e = one_of_sum (units_in l.machine) l.heaps t h e
-
 aside_least : (l : Ledger) (t : ℕ) → units_in (aside l).machine (heap_of (aside l) t) ≤ in_use l
-aside_least l t = heap_least l t
+aside_least l t = few_units l t
 
 said_same : (l : Ledger) (t : ℕ) (said : ℕ × ℕ × ℕ) → said ≡ end_numbers (aside l).machine (heap_of (aside l) t) → said ≡ end_numbers l.machine (heap_of l t)
 said_same l t said e = e

@@ -45,11 +45,12 @@ use Rattle.core_relation.proofs.changes.With.{at_home}
 use Rattle.shared_value.specs.Objects.{chunk_of, chunks_of}
 use Rattle.shared_value.specs.Stands.{HeapForm}
 use Rattle.shared_value.specs.SharedValue.{frames_of}
+use Rattle.shared_value.proofs.HeapLaidOut.{inside_from}
 use Rattle.copied_part_laws.specs.Copied.{CopiesFit, IsBegun, part_home}
 use Rattle.copied_part_laws.proofs.CopiedForm as forming
 use Rattle.copied_part_laws.proofs.BeforeTheCopy.{Old}
 use Rattle.copied_part_laws.proofs.NamesLaid.{room_last}
-use Rattle.copied_part_laws.proofs.ObjectsApart.{held_by, inside, once, span}
+use Rattle.copied_part_laws.proofs.ObjectsApart.{held_by, once, span}
 use Rattle.copied_part_laws.proofs.ObjectsMoved as moving
 use Rattle.copied_part_laws.proofs.CopiedNames as naming
 use Rattle.copied_part_laws.proofs.SurvivorsReached.{reached_back, reached_to}
@@ -236,7 +237,7 @@ module _ (p : ProgramText) (st : SettingsValue) (t : ℕ) (h : LeafHeapValue) (v
       since = refl;
       view = refl;
       count = refl;
-      inside = λ c o i j. inside (L ++ (K ++ R)) c o i j;
+      inside_from = λ c o i j. inside_from (L ++ (K ++ R)) c o i j;
       once = once (L ++ (K ++ R)) (moving.apart_now h (outside s b.roots) C.survivors news C.are B.new (naming.settled h (outside s b.roots) C.survivors news C.are B.new l.machine a O) (naming.reserved h (outside s b.roots) C.survivors news C.are B.new l.machine a O));
       named = named_now;
       laid = forming.laid_now h (outside s b.roots) C.survivors news C.are B.new l.machine a O;

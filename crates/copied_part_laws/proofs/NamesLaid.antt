@@ -8,7 +8,7 @@ use Rattle.hh_model.specs.declared.data.State.{State}
 use Rattle.run_ledger.specs.Heaps.{chunk_words, lay, laid_onto, room_behind, words_at, words_sum}
 use Rattle.object_layout.specs.declared.word.Addr.{Addr}
 use Rattle.object_layout.specs.declared.word.Birth.{Birth}
-use Rattle.object_layout.specs.Cell.{Born, Cell, Hole, Mark, Moved, size_of}
+use Rattle.object_layout.specs.Cell.{Born, Cell, size_of}
 use Rattle.object_layout.specs.ChunkValue.{ChunkValue}
 use Rattle.object_layout.specs.Place.{words_in}
 use Rattle.object_layout.specs.Chunks.{cell_of}
@@ -23,6 +23,7 @@ use Rattle.leaf_copy_gc.proofs.LastChunk.{some_room}
 use Rattle.core_relation.specs.Memory.{In}
 use Rattle.task_machine.specs.Accounts.{large_names, named_by, names_in, small_lists}
 use Rattle.task_machine.specs.Place.{name_of}
+use Rattle.task_machine.proofs.Counted.{names-push}
 use Rattle.copied_part_laws.proofs.ObjectsPlaced.{opened_new}
 
 abbrev pub lists_of : List ChunkValue → List (List Name)
@@ -30,15 +31,6 @@ lists_of ks = map (λ (k : ChunkValue). names_in k.cells) ks
 
 abbrev pub birth_name : Survivor → Name
 birth_name s = name_of s.birth
-
-names_appended : (cs : List Cell) (c : Cell) (b : Birth) → c.mark ≡ Born b → names_in (cs ++ c ∷ []) ≡ names_in cs ++ name_of b ∷ []
-names_appended [] c b e = ap (λ m. named_by m []) e
-names_appended (d ∷ cs) c b e = ap (named_by d.mark) (names_appended cs c b e) ∙ along d.mark (names_in cs)
-  where
-    along : (m : Mark) (ns : List Name) → named_by m (ns ++ name_of b ∷ []) ≡ named_by m ns ++ name_of b ∷ []
-    along (Born x) ns = refl
-    along (Moved to) ns = refl
-    along Hole ns = refl
 
 module _ (m : State) where
   -- small chunks, the words of whose names are their words
@@ -49,7 +41,7 @@ module _ (m : State) where
   module _ (c : Cell) (b : Birth) (mark : c.mark ≡ Born b) (words : words_at m (name_of b) ≡ size_of c) where
     more_words : (cs : List Cell) → words_sum m (names_in cs) ≡ words_in cs → words_sum m (names_in (cs ++ c ∷ [])) ≡ words_in (cs ++ c ∷ [])
     more_words cs e =
-        let a = ap (words_sum m) (names_appended cs c b mark) in
+        let a = ap (words_sum m) (names-push cs c b mark) in
         let s = sum_by-append (words_at m) (names_in cs) (name_of b ∷ []) in
         let o = sum_by-cons (words_at m) (name_of b) [] in
         let w = words_in-push cs c in
@@ -66,17 +58,17 @@ module _ (m : State) where
         let size : k.size ≡ 1024 = t.0.0 in
         let sum : words_sum m (names_in k.cells) ≡ words_in k.cells = t.0.1 in
         let fits : words_sum m (names_in k.cells) + words_at m (name_of b) ≤ chunk_words = omega (arith, size, sum, le, words) in
-        ap (λ ns. ns ∷ []) (names_appended k.cells c b mark)
+        ap (λ ns. ns ∷ []) (names-push k.cells c b mark)
         ∙ sym (cond-true (nat_le (words_sum m (names_in k.cells) + words_at m (name_of b)) chunk_words) ((names_in k.cells ++ name_of b ∷ []) ∷ []) (names_in k.cells ∷ (name_of b ∷ []) ∷ []) (le-leb (words_sum m (names_in k.cells) + words_at m (name_of b)) chunk_words fits))
     lay_here (k ∷ (l ∷ ks)) t some le = ap (λ zs. names_in k.cells ∷ zs) (lay_here (l ∷ ks) t.1 (omega arith) le)
 
     lay_next : (ks : List ChunkValue) (k : ChunkValue) → Told ks → k.cells ≡ [] → room_in ks < size_of c → lists_of (placed (ks ++ k ∷ []) c) ≡ lay m (lists_of ks) (name_of b)
-    lay_next [] k t e lt = ap (λ ns. ns ∷ []) (names_appended k.cells c b mark ∙ ap (λ cs. names_in cs ++ name_of b ∷ []) e)
+    lay_next [] k t e lt = ap (λ ns. ns ∷ []) (names-push k.cells c b mark ∙ ap (λ cs. names_in cs ++ name_of b ∷ []) e)
     lay_next (x ∷ []) k t e lt =
         let size : x.size ≡ 1024 = t.0.0 in
         let sum : words_sum m (names_in x.cells) ≡ words_in x.cells = t.0.1 in
         let over : chunk_words < words_sum m (names_in x.cells) + words_at m (name_of b) = omega (arith, size, sum, lt, words) in
-        ap (λ ns. names_in x.cells ∷ ns ∷ []) (names_appended k.cells c b mark ∙ ap (λ cs. names_in cs ++ name_of b ∷ []) e)
+        ap (λ ns. names_in x.cells ∷ ns ∷ []) (names-push k.cells c b mark ∙ ap (λ cs. names_in cs ++ name_of b ∷ []) e)
         ∙ sym (cond-false (nat_le (words_sum m (names_in x.cells) + words_at m (name_of b)) chunk_words) ((names_in x.cells ++ name_of b ∷ []) ∷ []) (names_in x.cells ∷ (name_of b ∷ []) ∷ []) (lt-leb (words_sum m (names_in x.cells) + words_at m (name_of b)) chunk_words over))
     lay_next (x ∷ (z ∷ rest)) k t e lt = ap (λ zs. names_in x.cells ∷ zs) (lay_next (z ∷ rest) k t.1 e lt)
 

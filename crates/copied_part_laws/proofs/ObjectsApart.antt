@@ -1,7 +1,6 @@
 -- Where the objects of chunks lie: each within its own chunk, and none over another.
-use Rattle.std.proofs.Common.{◌≡◌, ◌⊎◌, ℕ, ◌+◌, ◌*◌, ◌/◌, ◌≤◌, ◌==◌, not, arith, Bool, true, false, List, [], ◌∷◌, map, inl, inr, refl, ap, sym, subst, ◌∙◌, ne_eqb}
-use Rattle.std.specs.List.{AllByRecursion, IsDistinct}
-use Rattle.std.proofs.lemmas.Bool.{cases_eq, eqb-true}
+use Rattle.std.proofs.Common.{◌≡◌, ◌⊎◌, ℕ, ◌+◌, ◌*◌, ◌/◌, ◌≤◌, arith, true, List, [], ◌∷◌, map, inl, inr, refl, ap, sym, subst, ◌∙◌}
+use Rattle.std.proofs.lemmas.Bool.{cases_eq}
 use Rattle.object_layout.specs.declared.word.Addr.{Addr}
 use Rattle.object_layout.specs.Cell.{Born, Cell, Hole, Mark, Moved, size_of}
 use Rattle.object_layout.specs.ChunkValue.{ChunkValue}
@@ -13,6 +12,8 @@ use Rattle.core_relation.specs.Layout.{AreApart as ObjectsApart, AreLaidOut, Hol
 use Rattle.core_relation.proofs.objects.Members.{in_chunk, map_in}
 use Rattle.shared_value.specs.Objects.{chunk_of, chunks_of}
 use Rattle.shared_value.proofs.CellsRead.{fresh_off}
+use Rattle.shared_value.proofs.HeapLaidOut.{apart_here, distinct_from}
+use Rattle.leaf_collections.proofs.MoreChunksLaid.{small_units}
 
 -- ---- IN ONE CHUNK
 
@@ -52,24 +53,6 @@ only_first number base c (Born b) o q (inr i) j = absurd i
 only_first number base c (Moved to) o q i j = absurd i
 only_first number base c Hole o q i j = absurd i
 
-pub apart_here : (cs : List Cell) (number base : ℕ) (o q : Located) → In (objects_from number base cs) o → In (objects_from number base cs) q → (o ≡ q) ⊎ ObjectsApart o q
-apart_here [] number base o q i j = absurd i
-apart_here (c ∷ cs) number base o q i j =
-    by (first_or number base c c.mark (objects_from number (base + size_of c) cs) o i) (first_or number base c c.mark (objects_from number (base + size_of c) cs) q j) (apart_here cs number (base + size_of c) o q)
-  where
-    before : (x y : Located) → In (located_by number base c c.mark []) x → In (objects_from number (base + size_of c) cs) y → x.at.offset + words x ≤ y.at.offset
-    before x y f r =
-        let a : x.at.offset + words x ≤ base + size_of c = (first_span number base c c.mark x (base + size_of c) f (omega arith)).upto in
-        let b : base + size_of c ≤ y.at.offset = (span cs number (base + size_of c) y r).from in
-        omega (arith, a, b)
-
-    by : In (located_by number base c c.mark []) o ⊎ In (objects_from number (base + size_of c) cs) o → In (located_by number base c c.mark []) q ⊎ In (objects_from number (base + size_of c) cs) q
-        → (In (objects_from number (base + size_of c) cs) o → In (objects_from number (base + size_of c) cs) q → (o ≡ q) ⊎ ObjectsApart o q) → (o ≡ q) ⊎ ObjectsApart o q
-    by (inl f) (inl g) go = inl (only_first number base c c.mark o q f g)
-    by (inl f) (inr r) go = inr (inr (inl (before o q f r)))
-    by (inr r) (inl g) go = inr (inr (inr (before q o g r)))
-    by (inr r) (inr s) go = go r s
-
 -- ---- IN A LIST OF CHUNKS
 
 pub one_number : (ks : List ChunkValue) → AreApart ks → (k j : ChunkValue) → In ks k → In ks j → k.number ≡ j.number → k ≡ j
@@ -90,11 +73,6 @@ held_by ks o i =
     let c = in_chunk (chunks_of ks) o i in
     let k = map_in chunk_of ks c.0 c.1 in
     record { chunk = k.0; there = k.1; object = subst (λ (z : Chunk). In z.objects o) (sym k.2) c.2 }
-
-pub inside : (ks : List ChunkValue) (c : Chunk) (o : Located) → In (chunks_of ks) c → In c.objects o → o.at.chunk ≡ c.number
-inside ks c o i j =
-    let k = map_in chunk_of ks c i in
-    (span k.0.cells k.0.number 0 o (subst (λ (z : Chunk). In z.objects o) (sym k.2) j)).chunk ∙ ap (λ (z : Chunk). z.number) k.2
 
 pub once : (ks : List ChunkValue) → AreApart ks → (o q : Located) → In (objects_in (chunks_of ks)) o → In (objects_in (chunks_of ks)) q → o.at ≡ q.at → o ≡ q
 once ks A o q i j e =
@@ -122,27 +100,11 @@ apart ks A o q i j = elim (cases_eq o.at.chunk q.at.chunk) [
       apart_here h.chunk.cells h.chunk.number 0 o q h.object (subst (λ (z : ChunkValue). In (objects_from z.number 0 z.cells) q) same g.object)
 ]
 
-numbers_once : (ks : List ChunkValue) → AreApart ks → IsDistinct (λ a b. a == b) (map (λ (c : Chunk). c.number) (chunks_of ks))
-unfolding IsDistinct
-numbers_once [] A = tt
-numbers_once (k ∷ ks) A = (all ks (λ j i e. fresh_off ks j k.number A.0 i (sym e)), numbers_once ks A.1)
-  where
-    all : (js : List ChunkValue) → ((j : ChunkValue) → In js j → k.number ≡ j.number → ⊥) → AllByRecursion (λ y. (k.number == y) ≡ false) (map (λ (c : Chunk). c.number) (chunks_of js))
-    all [] f = tt
-    all (j ∷ js) f = (ne_eqb k.number j.number (f j (inl refl)), all js (λ x i. f x (inr i)))
-
-small_units : (k : ChunkValue) → (chunk_of k).large ≡ false → (chunk_of k).units ≡ 1
-small_units k e = by (k.size == 1024) refl e
-  where
-    by : (b : Bool) → (k.size == 1024) ≡ b → not b ≡ false → k.size / 1024 ≡ 1
-    by true q h = ap (λ n. n / 1024) (eqb-true k.size 1024 q)
-    by false q h = absurd cc
-
 -- how chunks are laid out, by what is known of each
 pub laid_out : (ks : List ChunkValue) (spare : ℕ) → AreApart ks → ((k : ChunkValue) → In ks k → words_in k.cells ≤ k.size) → ((k : ChunkValue) → In ks k → k.size ≡ 1024 * (k.size / 1024))
     → ((k : ChunkValue) → In ks k → (chunk_of k).large ≡ true → HoldsLarge (chunk_of k)) → map (λ (c : Chunk). c.units) (reserved_chunks (chunks_of ks)) ≡ reserved_units spare → AreLaidOut (chunks_of ks) spare
 laid_out ks spare A W whole large R = record {
-  numbers = numbers_once ks A;
+  numbers = distinct_from ks A;
   within = λ c o i j.
       let k = map_in chunk_of ks c i in
       let s = span k.0.cells k.0.number 0 o (subst (λ (z : Chunk). In z.objects o) (sym k.2) j) in

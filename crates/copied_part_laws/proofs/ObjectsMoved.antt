@@ -1,18 +1,20 @@
 -- Where the objects of a heap went in its collection: each survivor is read at its new address, and nothing else is there.
-use Rattle.std.proofs.Common.{◌≡◌, ℕ, zero, suc, ◌<◌, ◌≤◌, not, arith, true, Option, Some, None, List, [], ◌∷◌, ◌++◌, length, map, filter, inl, inr, refl, ap, sym, subst, ◌∙◌}
-use Rattle.std.specs.Prelude.{nat_le, remove, reverse, unwrap_or}
+use Rattle.std.proofs.Common.{◌≡◌, ℕ, ◌<◌, ◌≤◌, not, arith, true, Option, Some, None, List, [], ◌∷◌, ◌++◌, map, filter, inl, inr, refl, ap, sym, subst, ◌∙◌}
+use Rattle.std.specs.Prelude.{nat_le, reverse, unwrap_or}
 use Rattle.std.specs.List.{list_any}
 use Rattle.std.proofs.lemmas.Bool.{and_parts, cases_Bool, cases_lt, false≢true, le-leb, leb-true}
 use Rattle.listed.proofs.Members.{contains_from_in, in_append_cases, in_append_left, in_from_any, in_from_kept}
+use Rattle.listed.proofs.Places.{in_map, read_in}
 use Rattle.object_layout.specs.declared.word.Addr.{Addr}
 use Rattle.object_layout.specs.declared.word.Birth.{Birth}
 use Rattle.object_layout.specs.Cell.{Born, Cell, size_of}
 use Rattle.object_layout.specs.ChunkValue.{ChunkValue}
 use Rattle.object_layout.specs.Place.{cell_at}
-use Rattle.object_layout.specs.Chunks.{cell_of, chunk_at}
-use Rattle.object_layout.proofs.Distinct.{Once, once_from}
+use Rattle.object_layout.specs.Chunks.{cell_of}
+use Rattle.object_layout.proofs.Distinct.{Once, once_from, same_is}
 use Rattle.object_layout.proofs.ObjectChanges.{led_are_read}
 use Rattle.object_layout.specs.Objects.{Located, led_object as led_fields, located, located_by, objects_from}
+use Rattle.object_layout.proofs.ObjectLemmas.{chunk_there}
 use Rattle.alloc_path.specs.LeafHeapValue.{AreApart, LeafHeapValue, IsReserved, IsSettled, IsTidy}
 use Rattle.remembered_set.specs.Moved.{new_of, same_address}
 use Rattle.leaf_copy_gc.specs.declared.lists.Survivor.{Survivor}
@@ -22,18 +24,19 @@ use Rattle.leaf_copy_gc.specs.Redirected.{led as led_cell_by, led_chunk, new_add
 use Rattle.leaf_copy_gc.specs.Exchanged.{reserved_of, unreserved}
 use Rattle.leaf_copy_gc.specs.Collected.{AreSurvivors, keeps, kept_of, laid_of, laying_of, moves_of, redirection}
 use Rattle.leaf_copy_gc.specs.Laws.{CanTake}
-use Rattle.leaf_copy_gc.proofs.ListLemmas.{in_map as into_map, read_in}
 use Rattle.leaf_copy_gc.proofs.Extent as extent
 use Rattle.leaf_copy_gc.proofs.Moves as moves
 use Rattle.leaf_copy_gc.proofs.Naming as naming
 use Rattle.leaf_copy_gc.proofs.Numbers as nums
-use Rattle.leaf_copy_gc.proofs.Numbers.{Distinct, Within, numbers}
+use Rattle.leaf_copy_gc.proofs.Numbers.{Distinct, numbers}
 use Rattle.leaf_copy_gc.proofs.Order.{first_in, firsts, in_first}
 use Rattle.leaf_copy_gc.proofs.Reading as reading
 use Rattle.leaf_copy_gc.proofs.Rebuilt as rebuilt
-use Rattle.leaf_copy_gc.proofs.Rebuilt.{NoneThere, first_of}
+use Rattle.leaf_copy_gc.proofs.Rebuilt.{first_of}
+use Rattle.leaf_copy_gc.proofs.Naming.{in_unreserved}
+use Rattle.leaf_copy_gc.proofs.Reading.{none_of, within_of}
 use Rattle.core_relation.specs.Memory.{In, led, led_object, objects_in}
-use Rattle.core_relation.proofs.objects.Members.{in_map, in_objects, map_in}
+use Rattle.core_relation.proofs.objects.Members.{in_objects, map_in}
 use Rattle.shared_value.specs.Objects.{chunk_of, chunks_of}
 use Rattle.shared_value.proofs.CellsRead.{object_seen, seen_object}
 use Rattle.copied_part_laws.proofs.ObjectsApart.{Holds, held_by}
@@ -52,34 +55,10 @@ from_first [] a i = absurd i
 from_first (m ∷ ms) a (inl e) = (m, inl refl, e)
 from_first (m ∷ ms) a (inr i) = let r = from_first ms a i in (r.0, inr r.1, r.2)
 
-in_removed : (ks : List ChunkValue) (i : ℕ) (k : ChunkValue) → In (remove ks i) k → In ks k
-in_removed [] zero k j = j
-in_removed [] (suc i) k j = j
-in_removed (x ∷ ks) zero k j = inr j
-in_removed (x ∷ ks) (suc i) k (inl e) = inl e
-in_removed (x ∷ ks) (suc i) k (inr j) = inr (in_removed ks i k j)
-
-pub of_unreserved : (ks : List ChunkValue) (r : Option ℕ) (k : ChunkValue) → In (unreserved ks r) k → In ks k
-of_unreserved ks None k i = i
-of_unreserved ks (Some j) k i = in_removed ks j k i
-
-pub within_of : (ks : List ChunkValue) (o : Option ℕ) → IsReserved ks o → Within ks o
-within_of ks None w = tt
-within_of ks (Some i) w = w.0
-
-pub none_of : (ks : List ChunkValue) (o : Option ℕ) → IsReserved ks o → NoneThere ks o
-none_of ks None w = tt
-none_of ks (Some i) w = w.1.1
-
-in_at : (ks : List ChunkValue) (i : ℕ) → i < length ks → In ks (chunk_at ks i)
-in_at [] i l = absurd (omega (arith, l))
-in_at (k ∷ ks) zero l = inl refl
-in_at (k ∷ ks) (suc i) l = inr (in_at ks i (omega (arith, l)))
-
 -- the reserved chunk is of the heap, and empty
 pub of_reserved : (ks : List ChunkValue) (r : Option ℕ) → IsReserved ks r → (k : ChunkValue) → In (reserved_of ks r) k → In ks k × (1024 < k.size) × (k.cells ≡ [])
 of_reserved ks None w k i = absurd i
-of_reserved ks (Some j) w k (inl e) = (subst (In ks) e (in_at ks j w.0), subst (λ (z : ChunkValue). 1024 < z.size) e w.1.0, subst (λ (z : ChunkValue). z.cells ≡ []) e w.1.1)
+of_reserved ks (Some j) w k (inl e) = (subst (In ks) e (chunk_there ks j w.0), subst (λ (z : ChunkValue). 1024 < z.size) e w.1.0, subst (λ (z : ChunkValue). z.cells ≡ []) e w.1.1)
 of_reserved ks (Some j) w k (inr i) = absurd i
 
 module _ (h : LeafHeapValue) (from : List (Option Addr)) (ss : List Survivor) (news : List ChunkValue) (S : AreSurvivors h.chunks from ss) (T : CanTake h.chunks news)
@@ -235,7 +214,7 @@ module _ (h : LeafHeapValue) (from : List (Option Addr)) (ss : List Survivor) (n
   pub alone : (k : ChunkValue) → In (filter (keeps ss) (unreserved h.chunks h.reserved)) k → Alone k
   alone k i =
       let p = in_from_kept (keeps ss) (unreserved h.chunks h.reserved) k i in
-      let there : In h.chunks k = of_unreserved h.chunks h.reserved k p.0 in
+      let there : In h.chunks k = in_unreserved h.chunks h.reserved k p.0 in
       let both = and_parts (not (nat_le (size_of (cell_at k.cells 0)) 1024)) (list_any (λ (s : Survivor). same_address s.old (first_of k)) ss) p.1 in
       let big : 1024 < size_of (cell_at k.cells 0) = elim (cases_lt 1024 (size_of (cell_at k.cells 0))) [
         | inl b ↦ b
@@ -246,7 +225,7 @@ module _ (h : LeafHeapValue) (from : List (Option Addr)) (ss : List Survivor) (n
         there = there;
         one = rebuilt.one_cell k.cells (rebuilt.alone_first k (read_in IsTidy h.chunks k there settled.tidy) big);
         big = big;
-        survives = subst (In (olds ss)) (moves.address_from s.0.old (first_of k) s.2) (into_map old_of ss s.0 s.1);
+        survives = subst (In (olds ss)) (same_is s.0.old (first_of k) s.2) (in_map old_of ss s.0 s.1);
       }
 
   -- and that is read there

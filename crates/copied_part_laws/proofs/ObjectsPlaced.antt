@@ -9,10 +9,10 @@ use Rattle.object_layout.specs.ChunkValue.{ChunkValue}
 use Rattle.object_layout.specs.Place.{words_in}
 use Rattle.object_layout.specs.Chunks.{cell_of}
 use Rattle.object_layout.specs.Objects.{Located, located, located_by, objects_from}
+use Rattle.object_layout.proofs.ObjectChanges.{objects_appended}
 use Rattle.leaf_copy_gc.specs.Laid.{AreNew, Laying, laid_all, laid_at, laid_one, next_place, open_next, opened, placed, relocations, room_in}
 use Rattle.core_relation.specs.Memory.{In, objects_in}
 use Rattle.shared_value.specs.Objects.{chunks_of}
-use Rattle.shared_value.proofs.CellsRead.{objects_appended}
 
 -- ---- OBJECTS LAID INTO NEW CHUNKS
 

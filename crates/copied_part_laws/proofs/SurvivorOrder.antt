@@ -1,19 +1,19 @@
 -- Survivors in order of birth: there is one list of the same names in that order.
-use Rattle.std.proofs.Common.{◌≡◌, ◌⊎◌, ℕ, suc, ◌+◌, ◌<◌, ◌≤◌, ◌==◌, ◌&&◌, arith, Bool, true, false, cond, List, [], ◌∷◌, length, get_or, map, filter, is_lt, nat_le, nat_lt, inl, inr, refl, ap₂, sym, subst, ◌∙◌, eq-eqb}
-use Rattle.std.proofs.lemmas.Bool.{and_from, and_parts, cases_lt, eqb-true, false≢true, le-leb, le-ltb, leb-true, lt-ltb, ltb-true, or_cases, or_left, or_right}
+use Rattle.std.proofs.Common.{◌≡◌, ℕ, suc, ◌+◌, ◌<◌, ◌≤◌, arith, Bool, true, false, cond, List, [], ◌∷◌, length, get_or, map, filter, is_lt, inl, inr, refl, ap₂, sym, subst, ◌∙◌, eq-eqb}
+use Rattle.std.proofs.lemmas.Bool.{cases_lt, false≢true, le-ltb, lt-ltb}
 use Rattle.listed.proofs.Members.{contains_from_in, in_from_contains, in_from_kept, in_kept}
+use Rattle.listed.proofs.Places.{in_map}
 use Rattle.hh_model.specs.declared.data.Name.{Name}
 use Rattle.hh_model.specs.declared.data.State.{State}
 use Rattle.run_ledger.specs.declared.data.Heap.{Heap}
 use Rattle.run_ledger.specs.Heaps.{by_birth, insert_name, name_le, small_in, small_survivors}
 use Rattle.run_ledger.specs.Laws.{AreByBirth}
 use Rattle.run_ledger.specs.Reachable.{holds_name}
-use Rattle.run_ledger.proofs.Collections.{collections_keep_just}
-use Rattle.run_ledger.proofs.Held.{birth_cases, insert_cases}
+use Rattle.run_ledger.proofs.Collections.{Born, born_from, born_is, born_on, collections_keep_just, same_name}
+use Rattle.run_ledger.proofs.Held.{birth_cases, in_birth, insert_cases}
 use Rattle.object_layout.proofs.Distinct.{Once}
 use Rattle.leaf_copy_gc.specs.declared.lists.Survivor.{Survivor}
 use Rattle.leaf_copy_gc.specs.Survivors.{olds, old_of, survivor_order}
-use Rattle.leaf_copy_gc.proofs.ListLemmas.{in_map as into_map}
 use Rattle.core_relation.specs.Memory.{In}
 use Rattle.core_relation.proofs.objects.Members.{map_in}
 use Rattle.copied_part_laws.proofs.NamesLaid.{birth_name}
@@ -25,31 +25,7 @@ Single (n ∷ ns) = (In ns n → ⊥) × Single ns
 
 -- ---- BIRTHS
 
-abbrev BornBy : Name → Name → Type 0
-BornBy a b = (a.task < b.task) ⊎ ((a.task ≡ b.task) × (a.count ≤ b.count))
-
-born_is : (a b : Name) → name_le a b ≡ true → BornBy a b
-born_is a b h = elim (or_cases (nat_lt a.task b.task) ((a.task == b.task) && nat_le a.count b.count) h) [
-  | inl l ↦ inl (ltb-true a.task b.task l)
-  | inr e ↦ let q = and_parts (a.task == b.task) (nat_le a.count b.count) e in inr (eqb-true a.task b.task q.0, leb-true a.count b.count q.1)
-]
-
-born_from : (a b : Name) → BornBy a b → name_le a b ≡ true
-born_from a b (inl l) = or_left (nat_lt a.task b.task) ((a.task == b.task) && nat_le a.count b.count) (lt-ltb a.task b.task l)
-born_from a b (inr e) =
-    or_right (nat_lt a.task b.task) ((a.task == b.task) && nat_le a.count b.count)
-    (and_from (a.task == b.task) (nat_le a.count b.count) (eq-eqb a.task b.task e.0) (le-leb a.count b.count e.1))
-
-born_on : (a b c : Name) → BornBy a b → BornBy b c → BornBy a c
-born_on a b c (inl x) (inl y) = inl (omega (arith, x, y))
-born_on a b c (inl x) (inr y) = inl (let e : b.task ≡ c.task = y.0 in omega (arith, x, e))
-born_on a b c (inr x) (inl y) = inl (let e : a.task ≡ b.task = x.0 in omega (arith, y, e))
-born_on a b c (inr x) (inr y) = inr (x.0 ∙ y.0, let d : a.count ≤ b.count = x.1 in let e : b.count ≤ c.count = y.1 in omega (arith, d, e))
-
-same_name : (a b : Name) → a.task ≡ b.task → a.count ≡ b.count → a ≡ b
-same_name a b t c = λ i. record { task = t i; count = c i }
-
-born_both : (a b : Name) → BornBy a b → BornBy b a → a ≡ b
+born_both : (a b : Name) → Born a b → Born b a → a ≡ b
 born_both a b (inl x) (inl y) = absurd (omega (arith, x, y))
 born_both a b (inl x) (inr y) = absurd (let e : b.task ≡ a.task = y.0 in omega (arith, x, e))
 born_both a b (inr x) (inl y) = absurd (let e : a.task ≡ b.task = x.0 in omega (arith, y, e))
@@ -79,9 +55,9 @@ AreSorted ss = (k : ℕ) (d : Survivor) → 0 ≤ k → k + 1 < length ss → is
 
 abbrev Rising : List Survivor → Type 0
 Rising [] = Unit {0}
-Rising (s ∷ ss) = ((t : Survivor) → In ss t → BornBy (birth_name s) (birth_name t)) × Rising ss
+Rising (s ∷ ss) = ((t : Survivor) → In ss t → Born (birth_name s) (birth_name t)) × Rising ss
 
-not_before : (s t : Survivor) → is_lt (survivor_order t s) ≡ false → BornBy (birth_name s) (birth_name t)
+not_before : (s t : Survivor) → is_lt (survivor_order t s) ≡ false → Born (birth_name s) (birth_name t)
 not_before s t h =
     elim (cases_lt t.birth.task s.birth.task) [
       | inl l ↦ absurd (false≢true (sym (rw (lt-ltb t.birth.task s.birth.task l) at h)))
@@ -108,9 +84,9 @@ rising (s ∷ []) h = ((λ t i. absurd i), tt)
 rising (s ∷ (t ∷ ss)) h =
     let e : 0 + 1 ≡ 1 = omega arith in
     let now = subst (λ (j : ℕ). is_lt (survivor_order (get_or (s ∷ (t ∷ ss)) j s) s) ≡ false) e (h 0 s (omega arith) (omega arith)) in
-    let first : BornBy (birth_name s) (birth_name t) = not_before s t now in
+    let first : Born (birth_name s) (birth_name t) = not_before s t now in
     let rest : Rising (t ∷ ss) = rising (t ∷ ss) (sorted_tail s (t ∷ ss) h) in
-    ((λ u i. elim i [ inl q ↦ subst (λ (z : Survivor). BornBy (birth_name s) (birth_name z)) q first | inr j ↦ born_on (birth_name s) (birth_name t) (birth_name u) first (rest.0 u j) ]), rest)
+    ((λ u i. elim i [ inl q ↦ subst (λ (z : Survivor). Born (birth_name s) (birth_name z)) q first | inr j ↦ born_on (birth_name s) (birth_name t) (birth_name u) first (rest.0 u j) ]), rest)
 
 some_rising : (p : Survivor → Bool) (ss : List Survivor) → Rising ss → Rising (filter p ss)
 some_rising p [] r = tt
@@ -123,7 +99,7 @@ some_rising p (s ∷ ss) r = by (p s) (some_rising p ss r.1)
 names_rising : (ss : List Survivor) → Rising ss → AreByBirth (map birth_name ss)
 names_rising [] r = tt
 names_rising (s ∷ ss) r = (
-  (λ k c. let t = map_in birth_name ss k (in_from_contains (map birth_name ss) k c) in born_from (birth_name s) k (subst (BornBy (birth_name s)) t.2 (r.0 t.0 t.1))),
+  (λ k c. let t = map_in birth_name ss k (in_from_contains (map birth_name ss) k c) in born_from (birth_name s) k (subst (Born (birth_name s)) t.2 (r.0 t.0 t.1))),
   names_rising ss r.1,
 )
 
@@ -135,27 +111,11 @@ sorted_names p ss h = names_rising (filter p ss) (some_rising p ss (rising ss h)
 pub single_names : (zs : List Survivor) → Once (olds zs) → ((s t : Survivor) → In zs s → In zs t → birth_name s ≡ birth_name t → s.old ≡ t.old) → Single (map birth_name zs)
 single_names [] o f = tt
 single_names (s ∷ zs) o f = (
-  (λ i. let t = map_in birth_name zs (birth_name s) i in o.0 (contains_from_in (olds zs) s.old (subst (In (olds zs)) (sym (f s t.0 (inl refl) (inr t.1) (sym t.2))) (into_map old_of zs t.0 t.1)))),
+  (λ i. let t = map_in birth_name zs (birth_name s) i in o.0 (contains_from_in (olds zs) s.old (subst (In (olds zs)) (sym (f s t.0 (inl refl) (inr t.1) (sym t.2))) (in_map old_of zs t.0 t.1)))),
   single_names zs o.1 (λ x u i j e. f x u (inr i) (inr j) e),
 )
 
 -- ---- THE ACCOUNT'S
-
-in_insert : (n : Name) (ms : List Name) (x : Name) → (n ≡ x) ⊎ In ms x → In (insert_name n ms) x
-in_insert n [] x (inl e) = inl e
-in_insert n [] x (inr i) = absurd i
-in_insert n (m ∷ ms) x i = by (name_le n m) i (in_insert n ms x)
-  where
-    by : (b : Bool) → (n ≡ x) ⊎ In (m ∷ ms) x → ((n ≡ x) ⊎ In ms x → In (insert_name n ms) x) → In (cond b (n ∷ m ∷ ms) (m ∷ insert_name n ms)) x
-    by true j go = j
-    by false (inl e) go = inr (go (inl e))
-    by false (inr (inl e)) go = inl e
-    by false (inr (inr j)) go = inr (go (inr j))
-
-in_birth : (ns : List Name) (x : Name) → In ns x → In (by_birth ns) x
-in_birth [] x i = i
-in_birth (n ∷ ns) x (inl e) = in_insert n (by_birth ns) x (inl e)
-in_birth (n ∷ ns) x (inr i) = in_insert n (by_birth ns) x (inr (in_birth ns x i))
 
 single_insert : (n : Name) (ms : List Name) → (In ms n → ⊥) → Single ms → Single (insert_name n ms)
 single_insert n [] f s = ((λ i. i), tt)

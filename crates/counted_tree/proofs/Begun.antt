@@ -1,5 +1,5 @@
 -- A leaf collection that goes on: whose heap it is, and how many words that has, over one entry more.
-use Rattle.std.proofs.Common.{◌≡◌, ℕ, zero, suc, ◌+◌, ◌-◌, ◌&&◌, ◌==◌, not, nat_le, Bool, true, false, cond, Option, Some, None, List, [], ◌∷◌, ◌++◌, slice_get, nat_lt, inl, inr, refl, ap, ap₂, sym, subst, ◌∙◌, is_some, is_none}
+use Rattle.std.proofs.Common.{◌≡◌, ℕ, zero, suc, ◌+◌, ◌&&◌, ◌==◌, not, nat_le, Bool, true, false, cond, Option, Some, None, List, [], ◌∷◌, ◌++◌, slice_get, nat_lt, inl, inr, refl, ap, ap₂, sym, subst, ◌∙◌, is_some, is_none}
 use Rattle.std.proofs.lemmas.Bool.{false≢true, both_ways, cases_eq, and_parts, eqb-false, eqb-true}
 use Rattle.std.proofs.lemmas.List.Sums.{sum_by-cons}
 use Rattle.listed.proofs.Members.{In, contains_from_in}
@@ -24,20 +24,17 @@ use Rattle.run_ledger.specs.Journals.{is_legal, ledger_of, opening}
 use Rattle.run_ledger.specs.Laws.{HoldsOnce, HoldsTasks, LeavesTask}
 use Rattle.run_ledger.specs.Sound.{SoundAt, SoundLedger, collecting}
 use Rattle.run_ledger.proofs.Cuts.{joined_legal, none_is}
-use Rattle.run_ledger.proofs.Frames.{entries_leave_others, left_step}
+use Rattle.run_ledger.proofs.Frames.{entries_leave_others, held_is, left_step}
 use Rattle.run_ledger.proofs.Holders.{tasks_are_held_once}
-use Rattle.run_ledger.proofs.Journals.{entry_tells, legal_sound, none_unless, none_where, out_tells, wait_tells}
+use Rattle.run_ledger.proofs.Journals.{collecting_is, entry_tells, legal_sound, none_unless, none_where, out_tells, wait_tells}
 use Rattle.run_ledger.proofs.Moves.{moves_each}
 use Rattle.run_ledger.proofs.Steps.{step_leaves, task_step_sound, task_steps_sound}
 use Rattle.run_ledger.proofs.Stocks.{names_are_held_once}
 use Rattle.run_ledger.proofs.Waiters.{waiters_are_free}
+use Rattle.run_ledger.proofs.History.{heap_off}
 use Rattle.ledger_step_laws.proofs.Ahead.{heap_then, with_at, with_machine, with_off}
-use Rattle.shared_value.proofs.StepsEntered.{collecting_of}
 
 -- ONE HEAP OF A LEDGER
-
-heap_off : (l : Ledger) (u : ℕ) (f : Heap → Heap) (t : ℕ) → (t ≡ u → ⊥) → heap_of (with_heap l u f) t ≡ heap_of l t
-heap_off l u f t ne = ap or_fresh (with_off l u t f ne)
 
 -- what of a heap a change keeps
 pub heap_view : {A : Type 0} (view : Heap → A) (l : Ledger) (t : ℕ) (f : Heap → Heap) → ((h : Heap) → view (f h) ≡ view h) → view (heap_of (with_heap l t f) t) ≡ view (heap_of l t)
@@ -118,10 +115,6 @@ went_same l l' t k m h w c = record {
 some_none : {A : Type 0} (o : Option ℕ) → o ≡ None → is_some o ≡ true → A
 some_none o e s = absurd (false≢true (ap is_some (sym e) ∙ s))
 
-pub held_is : (o : Option ℕ) (w : ℕ) → is_held_by o w ≡ true → o ≡ Some w
-held_is None w h = absurd (false≢true h)
-held_is (Some v) w h = ap Some (eqb-true v w h)
-
 module _ (p : ProgramText) (s : SettingsValue) (journal : List EntryValue) (e : EntryValue) (legal : is_legal p s journal ≡ true) (free : refusal p s (ledger_of p s journal) e ≡ None) where
   abbrev l : Ledger
   l = ledger_of p s journal
@@ -154,7 +147,7 @@ module _ (p : ProgramText) (s : SettingsValue) (journal : List EntryValue) (e : 
 
     went_idle : (u : ℕ) (f : Heap → Heap) → ((h : Heap) → (f h).begun ≡ h.begun) → collecting (slice_get l.heaps u) ≡ false → Went (with_heap l u f)
     went_idle u f same idle = went_by u f (λ q c w.
-        both_ways (collecting (slice_get l.heaps u)) idle (sym (collecting_of (slice_get l.heaps u)) ∙ (ap is_some (sym (heap_view (λ (h : Heap). h.begun) l u f same)) ∙ c)))
+        both_ways (collecting (slice_get l.heaps u)) idle (sym (collecting_is (slice_get l.heaps u)) ∙ (ap is_some (sym (heap_view (λ (h : Heap). h.begun) l u f same)) ∙ c)))
 
     went_waiting : (u : ℕ) (f : Heap → Heap) → ((h : Heap) → (f h).worker ≡ h.worker) → (heap_of l u).worker ≡ None → Went (with_heap l u f)
     went_waiting u f same rests = went_by u f (λ q c w. none_some (sym rests ∙ (sym (heap_view (λ (h : Heap). h.worker) l u f same) ∙ w)))
@@ -167,10 +160,10 @@ module _ (p : ProgramText) (s : SettingsValue) (journal : List EntryValue) (e : 
     went_steps u n out idle is w c = elim (cases_eq t u) [
       | inl q ↦
           absurd (both_ways (collecting (slice_get (task_steps p l u n).heaps u)) (task_steps_sound p n l u (S, idle)).1
-          (sym (collecting_of (slice_get (task_steps p l u n).heaps u)) ∙ (ap (λ v. is_some (heap_of (task_steps p l u n) v).begun) (sym q) ∙ c)))
+          (sym (collecting_is (slice_get (task_steps p l u n).heaps u)) ∙ (ap (λ v. is_some (heap_of (task_steps p l u n) v).begun) (sym q) ∙ c)))
       | inr ne ↦
-          let before : collecting (slice_get l.heaps t) ≡ true = on_steps p t u ne n l (S, idle) (sym (collecting_of (slice_get (task_steps p l u n).heaps t)) ∙ c) in
-          let begun : is_some (heap_of l t).begun ≡ true = collecting_of (slice_get l.heaps t) ∙ before in
+          let before : collecting (slice_get l.heaps t) ≡ true = on_steps p t u ne n l (S, idle) (sym (collecting_is (slice_get (task_steps p l u n).heaps t)) ∙ c) in
+          let begun : is_some (heap_of l t).begun ≡ true = collecting_is (slice_get l.heaps t) ∙ before in
           by ne begun (heap_of l t).worker refl (H.collecting t begun)
     ]
       where

@@ -1,8 +1,9 @@
 -- What is kept of the entries of a journal, over one entry more.
-use Rattle.std.proofs.Common.{◌≡◌, ℕ, zero, suc, ◌+◌, ◌-◌, ◌<◌, ◌==◌, ◌^◌, Bool, true, false, cond, Some, None, List, [], ◌∷◌, ◌++◌, length, length-set, get_or, slice_get, slice_set, inl, inr, refl, ap, ap₂, sym, subst, ◌∙◌, is_some, arith, length-append}
+use Rattle.std.proofs.Common.{◌≡◌, ℕ, zero, suc, ◌+◌, ◌-◌, ◌<◌, ◌==◌, ◌^◌, Bool, true, false, cond, Some, None, List, [], ◌∷◌, ◌++◌, length, length-set, slice_get, slice_set, inl, inr, refl, ap, ap₂, sym, subst, ◌∙◌, is_some, arith, length-append}
 use Rattle.std.proofs.lemmas.Bool.{cases_eq, eqb-true, ltb-true}
-use Rattle.std.proofs.lemmas.Option.{same_Some, slice_get-get_or}
-use Rattle.listed.proofs.Members.{got_back, got_other, got_same}
+use Rattle.std.proofs.lemmas.Option.{same_Some}
+use Rattle.listed.proofs.Members.{got_back, got_other}
+use Rattle.listed.proofs.Places.{got_set}
 use Rattle.hh_lang.specs.Form.{ProgramText}
 use Rattle.run_trace.specs.declared.entry.Kind.{Kind}
 use Rattle.run_trace.specs.declared.entry.Kind.TheVariants.{Took, Ran, Chunk, Begin, End as EndOf, PutOff, Mark, More, Sweep, Fuel}
@@ -19,7 +20,7 @@ use Rattle.run_ledger.specs.Report.{lost}
 use Rattle.object_layout.specs.Chunks.{held_words}
 use Rattle.alloc_path.specs.LeafHeapValue.{counted as counted64}
 use Rattle.ledger_step_laws.proofs.Ahead.{with_machine}
-use Rattle.core_relation.proofs.whole.Past.{waiting_stops}
+use Rattle.ledger_step_laws.proofs.Wrote.{waiting_stops}
 use Rattle.run_report.specs.Totals.{AreFew, cleared_words, counted, entry_totals, joined, no_totals, totals_from}
 use Rattle.run_report.proofs.Sums.{legal_few, lost_is, totals_last}
 use Rattle.task_machine.specs.declared.part.Private.{Private}
@@ -44,9 +45,6 @@ use Rattle.counted_tree.proofs.Begun.{WentOn, begin_apart, begin_words, begin_wo
 use Rattle.counted_tree.proofs.PartWords.{part_words, words_small}
 
 -- LISTS
-
-set_here : {A : Type 0} (xs : List A) (k : ℕ) (y : A) → k < length xs → slice_get (slice_set xs k y) k ≡ Some y
-set_here xs k y lt = got_same xs k (get_or xs k y) y (slice_get-get_or xs k y lt)
 
 pub last_of : {A : Type 0} (xs : List A) (e x : A) → slice_get (xs ++ e ∷ []) (length (xs ++ e ∷ []) - 1) ≡ Some x → x ≡ e
 last_of xs e x h =
@@ -155,7 +153,7 @@ module _ (w v : SharedValue) (c : Counts) (e : EntryValue) (words : ℕ) (M : Is
     | inl q ↦
         let k_is : k ≡ e.worker = same_Some k e.worker (sym h ∙ (ap (λ z. (heap_of l' z).worker) q ∙ begin_worker p s w.journal.items e M.stands.legal M.free t k u is)) in
         ap (slice_get (slice_set c.begun e.worker words)) k_is
-        ∙ (set_here c.begun e.worker words worker_few
+        ∙ (got_set c.begun e.worker words worker_few
         ∙ ap Some (has ∙ (sym (begin_words p s w.journal.items e M.stands.legal M.free t k u is) ∙ ap (λ z. words_in l'.machine (heap_of l' z)) (sym q))))
     | inr ne ↦
         let W : WentOn l l' t k = went_on p s w.journal.items e M.stands.legal M.free t k (ap (begins t) is ∙ off ne (u == t) refl) h b in

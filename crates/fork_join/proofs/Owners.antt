@@ -1,7 +1,7 @@
 -- Whose a number is once chunks have another owner.
-use Rattle.std.proofs.Common.{◌≡◌, ℕ, Bool, true, false, cond, ◌||◌, List, ◌++◌, ◌⊎◌, inl, inr, refl, sym, ap, ◌∙◌, Option, Some, None}
+use Rattle.std.proofs.Common.{◌≡◌, ℕ, Bool, true, false, cond, List, ◌++◌, ◌⊎◌, inl, inr, refl, sym, ap, ◌∙◌, Option, Some, None}
 use Rattle.std.specs.Prelude.{IsSome, option_map}
-use Rattle.std.proofs.lemmas.Bool.{cases_Bool, cases_eq, false≢true, or_left, or_right}
+use Rattle.std.proofs.lemmas.Bool.{cases_Bool, cases_eq, false≢true, or_from, or_left, or_right}
 use Rattle.object_layout.specs.ChunkValue.{ChunkValue}
 use Rattle.object_layout.specs.Chunks.{has_chunk}
 use Rattle.object_layout.proofs.Owning.{has_append}
@@ -42,10 +42,6 @@ used_by : (u : ℕ) (h : Option Held) → owner h ≡ Some u → IsSome h
 used_by u None e = absurd (let n : None ≡ Some u = e in cc)
 used_by u (Some h) e = refl
 
-neither : (a b : Bool) → a ≡ false → b ≡ false → (a || b) ≡ false
-neither true b e f = e
-neither false b e f = f
-
 module _ (old new : PoolValue) (sources after : ℕ → List Source) (p c d : ℕ) (ks ls rs : List ChunkValue) (op : Owns old p ks) (oc : Owns old c ls) (od : Owns old d rs)
     (J : Merges old new sources after p c d ks ls rs) where
   pub owner_left : (n : ℕ) → owner_of old n ≡ Some c → owner_of new n ≡ Some p
@@ -64,7 +60,7 @@ module _ (old new : PoolValue) (sources after : ℕ → List Source) (p c d : �
 
   pub owners : (n u : ℕ) → (u ≡ c → ⊥) → (u ≡ d → ⊥) → owner_of old n ≡ Some u → owner_of new n ≡ Some u
   owners n u nc nd e =
-      (joined_are_owned old new (ls ++ rs) p J.pool n).1 (has_append ls rs n ∙ neither (has_chunk ls n) (has_chunk rs n) (isnt c u n ls oc nc e) (isnt d u n rs od nd e)) ∙ e
+      (joined_are_owned old new (ls ++ rs) p J.pool n).1 (has_append ls rs n ∙ or_from (has_chunk ls n) (has_chunk rs n) (isnt c u n ls oc nc e) (isnt d u n rs od nd e)) ∙ e
 
   -- who owned a number, and who owns it now
   abbrev pub Moved : ℕ → ℕ → ℕ → Type 0

@@ -1,5 +1,5 @@
 -- What an accepted entry leaves of forks and of the heaps of the tasks that wait.
-use Rattle.std.proofs.Common.{◌≡◌, ◌⊎◌, ℕ, zero, suc, ◌+◌, ◌<◌, ◌≤◌, Bool, true, false, cond, Option, Some, None, List, [], ◌∷◌, ◌++◌, slice_get, slice_set, inl, inr, refl, ap, sym, subst, ◌∙◌, arith, is_some, is_none, nat_lt}
+use Rattle.std.proofs.Common.{◌≡◌, ℕ, zero, suc, ◌+◌, ◌<◌, ◌≤◌, Bool, true, false, cond, Option, Some, None, List, [], ◌∷◌, ◌++◌, slice_get, slice_set, inl, inr, refl, ap, sym, subst, ◌∙◌, arith, is_none, nat_lt}
 use Rattle.std.proofs.lemmas.Bool.{false≢true, both_ways, cases_eq}
 use Rattle.listed.proofs.Members.{got_other, got_same}
 use Rattle.hh_lang.specs.Form.{ProgramText}
@@ -20,18 +20,14 @@ use Rattle.run_ledger.specs.Entries.{after, after_kind, chunk_units, kind_refusa
 use Rattle.run_ledger.specs.Sound.{SoundAt, SoundLedger}
 use Rattle.run_ledger.proofs.Journals.{entry_tells, out_tells}
 use Rattle.run_ledger.proofs.Machine.{stepped_machine}
-use Rattle.run_ledger.proofs.OwedEntries.{joins_grow}
+use Rattle.run_ledger.proofs.OwedEntries.{Touched, joins_grow}
 use Rattle.run_ledger.proofs.Steps.{can_tells, step_leaves, task_step_sound}
 use Rattle.run_ledger.proofs.Stocks.{with_heap_any}
 use Rattle.heap_marking.proofs.StepsKeepForks.{TreeMoves, step_moves, tree_same}
 
--- a heap that is marked or swept
-abbrev pub IsTouched : Heap → Type 0
-IsTouched h = (is_some h.marked ≡ true) ⊎ (h.swept ≡ true)
-
--- it stays so
+-- a heap that is marked or swept stays so
 abbrev pub StaysTouched : Heap → Heap → Type 0
-StaysTouched h h' = (IsTouched h → IsTouched h') × (h.swept ≡ true → h'.swept ≡ true)
+StaysTouched h h' = (Touched h → Touched h') × (h.swept ≡ true → h'.swept ≡ true)
 
 pub record Moves (l l' : Ledger) : Type 0 where
   pub tree : TreeMoves l.machine.tasks l'.machine.tasks

@@ -2,16 +2,16 @@
 use Rattle.std.proofs.Common.{◌≡◌, ℕ, ◌<◌, ◌&&◌, not, Bool, true, false, Option, Some, None, option_map, slice_get, inl, inr, refl, ap, sym, subst, ◌∙◌, ◌-◌, ◌^◌, arith, is_some, is_none, nat_le, ap₂}
 use Rattle.std.proofs.lemmas.Bool.{false≢true, both_ways, and_parts, cases_lt, le-leb}
 use Rattle.std.proofs.lemmas.Option.{same_Some}
+use Rattle.listed.proofs.Options.{none_is}
 use Rattle.hh_model.specs.declared.data.Status.{Status}
 use Rattle.hh_model.specs.declared.data.Status.TheVariants.{Running, Waiting, Ended, Joined}
 use Rattle.hh_model.specs.declared.data.State.{State as Machine}
 use Rattle.hh_model.specs.declared.data.Task.{Task}
-use Rattle.hh_model.specs.Step.{is_joined, is_over, is_waiting, joined, parent_of as parent_in_machine, parents}
+use Rattle.hh_model.specs.Step.{is_joined, is_over, is_waiting, joined, parents}
 use Rattle.hh_model.specs.Tree.{waiting}
 use Rattle.run_trace.specs.Settings.{field_limit}
 use Rattle.run_trace.specs.Entry.{EntryValue}
 use Rattle.run_ledger.specs.declared.data.Ledger.{Ledger}
-use Rattle.run_ledger.specs.declared.data.Refused.{Refused}
 use Rattle.run_ledger.specs.declared.data.Refused.TheVariants.{NotMarking, NotWaiting, Swept}
 use Rattle.run_ledger.specs.Entries.{after, refused_unless}
 use Rattle.run_ledger.specs.Heaps.{heap_of, words_in}
@@ -20,7 +20,7 @@ use Rattle.run_ledger.specs.Sound.{SoundLedger}
 use Rattle.run_ledger.proofs.Machine.{machine_is_run}
 use Rattle.run_ledger.proofs.Journals.{legal_sound}
 use Rattle.alloc_path.specs.LeafHeapValue.{counted}
-use Rattle.heap_tree.specs.Node.{Node, parent_in, parent_of, state_of as state_in}
+use Rattle.heap_tree.specs.Node.{Node, parent_of, state_of as state_in}
 use Rattle.core_relation.specs.Whole.{StandsFor, state_by}
 use Rattle.shared_value.specs.Causes.{or_else}
 use Rattle.shared_value.specs.Entered.{Enters}
@@ -28,6 +28,7 @@ use Rattle.shared_value.specs.Stands.{IsSharedValue}
 use Rattle.shared_value.specs.SharedValue.{SharedValue, accounts, marks_at, noted_in, totals_of, value_of}
 use Rattle.shared_value.proofs.JournalGoesOn.{accounts_then}
 use Rattle.shared_value.proofs.BeforeTheEnd.{stands_now}
+use Rattle.shared_value.proofs.TaskTaken.{same_parent, told}
 use Rattle.heap_marking.specs.declared.pace.Fork.{Fork}
 use Rattle.heap_marking.specs.MarkCauses.{is_state_waiting, marking_cause, waiting_cause}
 use Rattle.heap_marking.specs.Pace.{IsForkIn, IsForkOf, KeepsPace, PacesStay, is_going, is_live_child, is_parent, is_state_joined, is_to_begin}
@@ -44,20 +45,11 @@ by_status Waiting o = refl
 by_status (Ended n r) o = refl
 by_status Joined o = refl
 
-abbrev told : Option ℕ → Task → Node
-told o x = record { parent = x.parent; state = state_by x.status o }
-
 joined_by : (n : Option Node) (x : Option Task) (o : Option ℕ) → n ≡ option_map (told o) x → is_state_joined (option_map (λ m. m.state) n) ≡ is_joined x
 joined_by None None o e = refl
 joined_by None (Some x) o e = absurd cc
 joined_by (Some m) None o e = absurd cc
 joined_by (Some m) (Some x) o e = ap (λ (y : Node). is_state_joined (Some y.state)) (same_Some m (told o x) e) ∙ by_status x.status o
-
-parent_by : (n : Option Node) (x : Option Task) (o : Option ℕ) → n ≡ option_map (told o) x → parent_in n ≡ parent_in_machine x
-parent_by None None o e = refl
-parent_by None (Some x) o e = absurd cc
-parent_by (Some m) None o e = absurd cc
-parent_by (Some m) (Some x) o e = ap (λ y. y.parent) (same_Some m (told o x) e)
 
 free_by : (a k s : Bool) → k ≡ (a && not s) → is_none (refused_unless a NotWaiting (refused_unless k Swept None)) ≡ (a && not s)
 free_by false k s e = refl
@@ -66,10 +58,6 @@ free_by true k s e = is_free k ∙ e
     is_free : (k : Bool) → is_none (refused_unless k Swept None) ≡ k
     is_free true = refl
     is_free false = refl
-
-none_is : (o : Option Refused) → is_none o ≡ true → o ≡ None
-none_is None h = refl
-none_is (Some c) h = absurd (false≢true h)
 
 counted_le : (a n : ℕ) → a < 2 ^ 32 → nat_le a (counted n) ≡ nat_le a n
 counted_le a n few = elim (cases_lt n (2 ^ 64 - 1)) [
@@ -88,7 +76,7 @@ module _ (w : SharedValue) (I : IsSharedValue w) (on : (accounts w).end ≡ None
   joined_is t = joined_by (slice_get w.tree t) (slice_get l.machine.tasks t) (heap_of l t).worker (S.totals.node t)
 
   pub parent_is : (t : ℕ) → parent_of w.tree t ≡ parents l.machine.tasks t
-  parent_is t = parent_by (slice_get w.tree t) (slice_get l.machine.tasks t) (heap_of l t).worker (S.totals.node t)
+  parent_is t = same_parent (slice_get w.tree t) (slice_get l.machine.tasks t) (heap_of l t).worker (S.totals.node t)
 
   pub waiting_is : (t : ℕ) → is_state_waiting (state_in w.tree t) ≡ is_waiting (slice_get l.machine.tasks t)
   waiting_is t = waits_by (slice_get w.tree t) (slice_get l.machine.tasks t) (heap_of l t).worker (S.totals.node t)

@@ -1,22 +1,20 @@
 -- The heap of a task, as its home stands: each reference into it leads to an object.
-use Rattle.std.proofs.Common.{◌≡◌, ℕ, ◌<◌, true, Option, Some, None, List, All, is_some, length, nat_lt, refl, ap, sym, subst, ◌∙◌}
+use Rattle.std.proofs.Common.{◌≡◌, ℕ, ◌<◌, true, Option, Some, None, List, is_some, length, nat_lt, refl, ap, sym, subst, ◌∙◌}
 use Rattle.std.proofs.lemmas.Bool.{cond-true, lt-ltb}
 use Rattle.std.proofs.lemmas.Option.{same_Some}
+use Rattle.listed.proofs.Places.{all_from, in_got, in_map}
 use Rattle.hh_model.specs.declared.data.Name.{Name}
 use Rattle.run_ledger.specs.declared.data.Ledger.{Ledger}
 use Rattle.object_layout.specs.declared.word.Addr.{Addr}
-use Rattle.object_layout.specs.declared.word.Birth.{Birth}
 use Rattle.object_layout.specs.Cell.{Born, Hole, IsBorn, Mark, Moved}
 use Rattle.object_layout.specs.Chunks.{AreApart, cell_of, has_chunk, place_of}
 use Rattle.object_layout.specs.ChunkValue.{ChunkValue}
 use Rattle.object_layout.specs.Graph.{IsClosed, IsHeld, IsSound}
 use Rattle.object_layout.specs.Objects.{Located, located}
-use Rattle.leaf_copy_gc.proofs.ListLemmas.{all_from}
 use Rattle.ledger_step_laws.specs.Accounts.{Rests, own}
 use Rattle.core_relation.specs.Memory.{Chunk, In, Memory, objects, objects_in}
 use Rattle.core_relation.specs.Stands.{Place, Stands}
-use Rattle.core_relation.proofs.objects.Members.{in_map}
-use Rattle.core_relation.proofs.notes.Roots.{index_of, name_at}
+use Rattle.core_relation.proofs.notes.Roots.{name_at}
 use Rattle.shared_value.specs.Objects.{AreNear, chunk_of, chunks_of}
 use Rattle.shared_value.proofs.CellsRead.{object_seen, seen_object}
 use Rattle.shared_value.proofs.RootsHeld.{chunk_in}
@@ -57,6 +55,6 @@ module _ (v : Memory) (l : Ledger) (V : Stands v l) (t : ℕ) (rests : Rests l t
       one (Some a) i =
           let o = held_seen ks b held in
           let c = V.contents t o.0 rests (subst (λ (cs : List Chunk). In (objects_in cs) o.0) (sym home) o.1) in
-          let j = index_of o.0.refs (Some a) (subst (λ (rs : List (Option Addr)). In rs (Some a)) o.3 i) in
+          let j = in_got o.0.refs (Some a) (subst (λ (rs : List (Option Addr)). In rs (Some a)) o.3 i) in
           let n = name_at (Place v l) o.0.refs c.0.refs j.0 a c.2.refs j.1 in
           sound_at n.0 a n.2

@@ -20,21 +20,21 @@ use Rattle.inner_mark_gc.specs.MarkingValue.{IsMarking, IsOf, MarkingValue}
 use Rattle.inner_mark_gc.specs.Snapshot.{Fork, IsInSnapshot, Starts}
 use Rattle.ledger_step_laws.specs.Accounts.{Rests}
 use Rattle.ledger_step_laws.proofs.Split.{legal_idle}
+use Rattle.ledger_step_laws.proofs.Wrote.{waiting_stops}
 use Rattle.core_relation.specs.Memory.{In, Memory, object_name, objects, objects_in}
 use Rattle.core_relation.specs.Begins.{IsAt, IsRoot, LeadsAt}
 use Rattle.core_relation.specs.Marking.{GoesOn}
 use Rattle.core_relation.specs.Now.{IsReachedNow, StartsNow}
 use Rattle.core_relation.specs.Since.{kept}
 use Rattle.core_relation.specs.Whole.{StandsFor}
-use Rattle.core_relation.proofs.whole.Past.{waiting_stops}
 use Rattle.core_relation.proofs.notes.SnapshotNow.{snapshot_now}
 use Rattle.shared_value.specs.declared.task_at_rest.Rest.{Rest}
 use Rattle.shared_value.specs.Objects.{chunks_of}
 use Rattle.shared_value.specs.SharedValue.{SharedValue, accounts, home_in, rest_at, totals_of, value_of}
 use Rattle.shared_value.specs.Stands.{HeapForm, IsSharedValue}
 use Rattle.shared_value.proofs.BeforeTheEnd.{stands_now}
-use Rattle.shared_value.proofs.RootsByAccounts.{home_chunks}
 use Rattle.shared_value.proofs.ObjectCounts.{objects_counted}
+use Rattle.shared_value.proofs.FieldsLed.{home_chunks}
 use Rattle.heap_marking.specs.Marking.{MarksBegin}
 use Rattle.heap_marking.proofs.HeapClosed.{held_seen, seen_held}
 

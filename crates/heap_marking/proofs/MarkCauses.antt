@@ -18,6 +18,7 @@ use Rattle.core_relation.specs.Whole.{StandsFor, state_by}
 use Rattle.shared_value.specs.Causes.{or_else}
 use Rattle.shared_value.specs.SharedValue.{accounts, marks_at, noted_in, totals_of, value_of}
 use Rattle.shared_value.proofs.BeforeTheEnd.{stands_now}
+use Rattle.shared_value.proofs.TaskTaken.{told}
 use Rattle.heap_marking.specs.MarkCauses.{MarksRefuse, is_state_waiting}
 
 -- WHO WAITS
@@ -28,9 +29,6 @@ by_status Running (Some w) = refl
 by_status Waiting o = refl
 by_status (Ended n r) o = refl
 by_status Joined o = refl
-
-abbrev told : Option ℕ → Task → Node
-told o x = record { parent = x.parent; state = state_by x.status o }
 
 pub waits_by : (n : Option Node) (x : Option Task) (o : Option ℕ) → n ≡ option_map (told o) x → is_state_waiting (option_map (λ m. m.state) n) ≡ is_waiting x
 waits_by None None o e = refl

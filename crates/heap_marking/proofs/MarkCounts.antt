@@ -4,6 +4,7 @@ use Rattle.std.specs.Prelude.{unwrap_or}
 use Rattle.std.proofs.Math.Nat.{min-eq_left, min-eq_right}
 use Rattle.std.proofs.lemmas.Bool.{cases_lt}
 use Rattle.listed.proofs.Members.{contains_from_in, in_from_contains}
+use Rattle.listed.proofs.Places.{in_take}
 use Rattle.walk_laws.proofs.Reached.{reached_within}
 use Rattle.hh_model.specs.declared.data.Name.{Name}
 use Rattle.run_ledger.specs.declared.data.Heap.{Heap}
@@ -16,7 +17,6 @@ use Rattle.object_layout.specs.Graph.{IsHeld, Leads}
 use Rattle.object_layout.specs.Objects.{Located}
 use Rattle.inner_mark_gc.specs.MarkingValue.{MarkingValue, marked_of}
 use Rattle.inner_mark_gc.specs.Snapshot.{IsInSnapshot, Starts}
-use Rattle.inner_mark_gc.proofs.Marked.{in_take}
 use Rattle.ledger_step_laws.specs.Accounts.{Rests}
 use Rattle.ledger_step_laws.proofs.Ahead.{heap_then, with_at}
 use Rattle.core_relation.specs.Memory.{In, Memory, object_name, objects}

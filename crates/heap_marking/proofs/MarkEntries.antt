@@ -1,10 +1,11 @@
 -- Entries that mark a heap: why they are refused, and what they leave.
-use Rattle.std.proofs.Common.{◌≡◌, ◌==◌, ◌↔◌, ℕ, zero, suc, ◌+◌, ◌-◌, ◌^◌, ◌<◌, ◌≤◌, arith, All, Bool, true, false, min, Option, Some, None, List, [], ◌∷◌, length, is_none, is_some, slice_get, slice_set, take, inl, inr, refl, ap, sym, subst, ◌∙◌, le-leb}
+use Rattle.std.proofs.Common.{◌≡◌, ◌==◌, ◌↔◌, ℕ, ◌+◌, ◌-◌, ◌^◌, ◌<◌, ◌≤◌, arith, All, Bool, true, false, min, Option, Some, None, List, length, is_none, is_some, slice_get, slice_set, take, inl, inr, refl, ap, sym, subst, ◌∙◌, le-leb}
 use Rattle.std.specs.Prelude.{IfSome, slice_index_or}
 use Rattle.std.proofs.lemmas.Bool.{cases_lt}
 use Rattle.std.proofs.lemmas.Option.{get_or_from_slice_get}
 use Rattle.listed.proofs.Members.{got_other, got_same, got_within}
-use Rattle.hh_model.specs.declared.data.Task.{Task}
+use Rattle.listed.proofs.Options.{none_of}
+use Rattle.listed.proofs.Places.{got_set}
 use Rattle.run_trace.specs.declared.entry.Kind.TheVariants.{Mark, More}
 use Rattle.run_trace.specs.Entry.{EntryValue}
 use Rattle.run_trace.specs.Settings.{SettingsValue}
@@ -16,6 +17,7 @@ use Rattle.run_ledger.specs.Entries.{after, kind_refusal, refused_if, refused_un
 use Rattle.run_ledger.specs.Heaps.{heap_of, left_in, or_fresh, with_heap, words_in}
 use Rattle.run_ledger.specs.Sound.{SoundLedger}
 use Rattle.run_ledger.proofs.Journals.{entry_tells, legal_sound}
+use Rattle.run_ledger.proofs.Steps.{heap_there}
 use Rattle.object_layout.specs.declared.word.Addr.{Addr}
 use Rattle.object_layout.specs.Chunks.{held_words}
 use Rattle.object_layout.specs.Graph.{IsHeld}
@@ -26,9 +28,9 @@ use Rattle.inner_mark_gc.specs.MarkingValue.{IsAllMarked, IsMarking, IsOf, Marki
 use Rattle.inner_mark_gc.specs.Snapshot.{Fork, IsSince}
 use Rattle.ledger_step_laws.proofs.Ahead.{heap_then, with_at}
 use Rattle.ledger_step_laws.proofs.Split.{legal_idle}
+use Rattle.ledger_step_laws.proofs.Wrote.{waiting_stops}
 use Rattle.core_relation.specs.Marking.{GoesOn}
 use Rattle.core_relation.specs.Since.{kept}
-use Rattle.core_relation.proofs.whole.Past.{waiting_stops}
 use Rattle.shared_value.specs.declared.task_at_rest.Rest.{Rest}
 use Rattle.shared_value.specs.Causes.{first_cause, or_else}
 use Rattle.shared_value.specs.Entered.{refused}
@@ -41,9 +43,8 @@ use Rattle.shared_value.proofs.HeapWords.{words_are}
 use Rattle.shared_value.proofs.EntryMade.{entry_on}
 use Rattle.shared_value.proofs.FirstCauses.{found_first, nothing_first}
 use Rattle.shared_value.proofs.BeforeTheEnd.{stands_now}
-use Rattle.shared_value.proofs.CausesTold.{nothing, on_is, refused_is}
-use Rattle.shared_value.proofs.TaskTaken.{put_there}
-use Rattle.shared_value.proofs.RootsByAccounts.{home_chunks}
+use Rattle.shared_value.proofs.CausesTold.{on_is, refused_is}
+use Rattle.shared_value.proofs.FieldsLed.{home_chunks}
 use Rattle.heap_marking.specs.MarkCauses.{marking_cause, waiting_cause, words_cause}
 use Rattle.heap_marking.specs.Marking.{marked_more}
 use Rattle.heap_marking.specs.Starts.{IsBegun, starts_by, starts_in, starts_of}
@@ -57,7 +58,7 @@ use Rattle.heap_marking.proofs.WaitingHome as homes
 
 -- WHY THEY ARE REFUSED
 
-or_none : (a b : Option Refused) → or_else a b ≡ None → (a ≡ None) × (b ≡ None)
+pub or_none : (a b : Option Refused) → or_else a b ≡ None → (a ≡ None) × (b ≡ None)
 or_none None b e = (refl, e)
 or_none (Some c) b e = absurd cc
 
@@ -89,7 +90,7 @@ module _ (w : SharedValue) (I : IsSharedValue w) (k t : ℕ) where
   mark_answer : is_some (first_cause w.end w.steps w.settings k false) ≡ false → refused w (record { worker = k; kind = Mark t }) ≡ or_else (waiting_cause w t) (refused_if (is_some (marks_at w.marks t)) Marking (words_cause w.settings (counted (words_in l.machine (heap_of l t)))))
   mark_answer h =
       refused_is w I (record { worker = k; kind = Mark t })
-      ∙ (ap (λ o. or_else o (kind_refusal w.program w.settings l k (Mark t))) (nothing (first_cause w.end w.steps w.settings k false) h)
+      ∙ (ap (λ o. or_else o (kind_refusal w.program w.settings l k (Mark t))) (none_of (first_cause w.end w.steps w.settings k false) h)
       ∙ ((marks_refuse w k t I (on_is w I k false h)).mark
       ∙ ap (λ o. or_else (waiting_cause w t) (refused_if (is_some (marks_at w.marks t)) Marking o)) (sym (due_by w.settings (words_in l.machine (heap_of l t)) few))))
     where
@@ -114,7 +115,7 @@ module _ (w : SharedValue) (I : IsSharedValue w) (k t : ℕ) where
   some_answer : (n : ℕ) → is_some (first_cause w.end w.steps w.settings k false) ≡ false → refused w (record { worker = k; kind = More t n }) ≡ or_else (marking_cause w t) (refused_if (left_in (heap_of l t) == 0) Marked None)
   some_answer n h =
       refused_is w I (record { worker = k; kind = More t n })
-      ∙ (ap (λ o. or_else o (kind_refusal w.program w.settings l k (More t n))) (nothing (first_cause w.end w.steps w.settings k false) h) ∙ (marks_refuse w k t I (on_is w I k false h)).more n)
+      ∙ (ap (λ o. or_else o (kind_refusal w.program w.settings l k (More t n))) (none_of (first_cause w.end w.steps w.settings k false) h) ∙ (marks_refuse w k t I (on_is w I k false h)).more n)
 
   pub some_as_marking : (n : ℕ) (o : Option Refused) → is_some (first_cause w.end w.steps w.settings k false) ≡ false → o ≡ marking_cause w t → is_some o ≡ true → o ≡ refused w (record { worker = k; kind = More t n })
   some_as_marking n o h is some = is ∙ (found_first (marking_cause w t) _ (ap is_some (sym is) ∙ some) ∙ sym (some_answer n h))
@@ -183,14 +184,6 @@ mark_begun w I t on free m B =
 
 -- WHAT THEY LEAVE
 
-account_there : (ts : List Task) (hs : List Account) (k : ℕ) → length hs ≡ length ts → k < length ts → (h : Account) × (slice_get hs k ≡ Some h)
-account_there ts hs k same lt = by hs k (omega (arith, same, lt))
-  where
-    by : (hs : List Account) (k : ℕ) → k < length hs → (h : Account) × (slice_get hs k ≡ Some h)
-    by [] k lt = absurd (omega (arith, lt))
-    by (h ∷ hs) zero lt = (h, refl)
-    by (h ∷ hs) (suc k) lt = by hs k (omega (arith, lt))
-
 module _ (w : SharedValue) (I : IsSharedValue w) (k t : ℕ) (m : MarkingValue) (marks : List (Option MarkingValue)) (room : ℕ) (at : marks_at marks t ≡ Some m) (others : (u : ℕ) → (u ≡ t → ⊥) → marks_at marks u ≡ marks_at w.marks u) where
   -- a marking that has marked nothing yet
   pub mark_enters : refused w (record { worker = k; kind = Mark t }) ≡ None → m.marked ≡ 0 → GoesOn (value_of w) t (heap_of (accounts w) t).snapshot m
@@ -201,7 +194,7 @@ module _ (w : SharedValue) (I : IsSharedValue w) (k t : ℕ) (m : MarkingValue) 
       let waits = mark_waits w I k t free in
       let S : SoundLedger l = legal_sound w.program w.settings w.journal.items I.legal in
       let x = homes.task w I on t waits in
-      let h = account_there l.machine.tasks l.heaps t S.lengths (got_within l.machine.tasks t x.0 x.1) in
+      let h = heap_there l.machine.tasks l.heaps t S.lengths (got_within l.machine.tasks t x.0 x.1) in
       let f : Account → Account = λ h. record h { marked = Some 0 } in
       let then_ : (heap_of (with_heap l t f) t).marked ≡ Some 0 = ap (λ o. (or_fresh o).marked) (with_at l t f ∙ ap (heap_then f) h.1) in
       marks_enter w k (Mark t) t m marks room I free refl at others (then_ ∙ ap Some (ap (λ n. length (take n m.found)) (sym none))) G
@@ -232,6 +225,6 @@ module _ (w : SharedValue) (I : IsSharedValue w) (k t n : ℕ) (free : refused w
 -- a marking that was taken out and put back
 pub put_back : (ms : List (Option MarkingValue)) (t : ℕ) (o : Option MarkingValue) (m : MarkingValue) → t < length ms → (marks_at (slice_set (slice_set ms t o) t (Some m)) t ≡ Some m) × ((u : ℕ) → (u ≡ t → ⊥) → marks_at (slice_set (slice_set ms t o) t (Some m)) u ≡ marks_at ms u)
 put_back ms t o m lt = (
-  ap flat (got_same (slice_set ms t o) t o (Some m) (put_there ms t o lt)),
+  ap flat (got_same (slice_set ms t o) t o (Some m) (got_set ms t o lt)),
   λ u ne. ap flat (got_other (slice_set ms t o) t u (Some m) ne ∙ got_other ms t u o ne),
 )

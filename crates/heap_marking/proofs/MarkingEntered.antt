@@ -1,9 +1,8 @@
 -- An entry that marks a heap further: the shared value that it leaves, and the parts.
-use Rattle.std.proofs.Common.{◌≡◌, ℕ, zero, suc, ◌+◌, min, Bool, true, false, Option, Some, None, List, [], ◌∷◌, Contains, length, slice_get, take, inl, inr, refl, ap, sym, subst, ◌∙◌}
-use Rattle.std.specs.List.{AllByRecursion, IsDistinct}
-use Rattle.std.specs.Prelude.{◌==◌}
-use Rattle.std.proofs.lemmas.Bool.{and_parts, cases_eq, eqb-true}
-use Rattle.listed.proofs.Members.{contains_from_in, in_from_contains}
+use Rattle.std.proofs.Common.{◌≡◌, ℕ, ◌+◌, min, Option, Some, None, List, Contains, length, slice_get, inl, inr, refl, ap, sym, subst, ◌∙◌}
+use Rattle.std.proofs.lemmas.Bool.{cases_eq}
+use Rattle.listed.proofs.Members.{contains_from_in}
+use Rattle.listed.proofs.Places.{in_take}
 use Rattle.walk_laws.proofs.Reached.{reached_within}
 use Rattle.hh_model.specs.declared.data.State.{State}
 use Rattle.hh_model.specs.Effect.{row_of}
@@ -15,13 +14,11 @@ use Rattle.run_ledger.specs.declared.data.Ledger.{Ledger}
 use Rattle.run_ledger.specs.Heaps.{heap_of, left_in, marked_in, or_fresh, with_heap}
 use Rattle.run_ledger.specs.Entries.{after}
 use Rattle.object_layout.specs.declared.word.Addr.{Addr}
-use Rattle.object_layout.specs.Chunks.{same_address}
 use Rattle.object_layout.specs.Graph.{IsHeld, Leads}
 use Rattle.object_layout.proofs.Distinct.{distinct_take}
 use Rattle.object_layout.specs.Objects.{Located}
 use Rattle.inner_mark_gc.specs.MarkingValue.{MarkingValue, marked_of}
 use Rattle.inner_mark_gc.specs.Snapshot.{IsInSnapshot, Starts}
-use Rattle.inner_mark_gc.proofs.Marked.{in_take}
 use Rattle.ledger_step_laws.proofs.Ahead.{heap_then, with_at, with_machine, with_off}
 use Rattle.ledger_step_laws.specs.Accounts.{Rests}
 use Rattle.core_relation.specs.Memory.{In, Memory, object_name, objects}

@@ -1,8 +1,8 @@
 -- A marking that can go on marks more: what it asks of the heap, and that it can go on then.
-use Rattle.std.proofs.Common.{◌≡◌, ◌⊎◌, ◌↔◌, ℕ, ◌+◌, ◌<◌, ◌≤◌, true, Option, Some, None, List, [], ◌∷◌, All, Contains, is_some, length, nat_lt, slice_get, inl, inr, refl, ap, sym, subst, ◌∙◌}
+use Rattle.std.proofs.Common.{◌≡◌, ◌⊎◌, ◌↔◌, ℕ, ◌+◌, ◌<◌, ◌≤◌, true, Option, Some, None, List, All, Contains, length, slice_get, inl, inr, refl, ap, sym, subst, ◌∙◌}
 use Rattle.std.proofs.lemmas.Bool.{false≢true}
-use Rattle.std.proofs.lemmas.List.Elements.{All-cons, All-nil}
 use Rattle.listed.proofs.Members.{contains_from_in, in_from_contains}
+use Rattle.listed.proofs.Places.{all_from}
 use Rattle.walk_laws.proofs.Reached.{reached_more, reached_within}
 use Rattle.hh_model.specs.declared.data.Task.{Task}
 use Rattle.hh_model.specs.Step.{is_waiting}
@@ -17,7 +17,6 @@ use Rattle.object_layout.specs.Graph.{IsClosed, IsHeld, Leads}
 use Rattle.object_layout.specs.Objects.{Located}
 use Rattle.inner_mark_gc.specs.MarkingValue.{IsAllMarked, IsMarking, IsOf, MarkingValue, marked_of}
 use Rattle.inner_mark_gc.specs.Snapshot.{Fork, IsInSnapshot, IsSince, Starts}
-use Rattle.ledger_step_laws.specs.Accounts.{Rests}
 use Rattle.core_relation.specs.Memory.{In, Memory, object_name, objects, objects_in}
 use Rattle.core_relation.specs.Begins.{LeadsAt}
 use Rattle.core_relation.specs.Marking.{GoesOn, MarksStand}
@@ -35,10 +34,6 @@ use Rattle.shared_value.proofs.BeforeTheEnd.{stands_now}
 use Rattle.heap_marking.specs.Marking.{MarksGoFurther}
 use Rattle.heap_marking.proofs.HeapClosed.{closed as is_closed}
 use Rattle.heap_marking.proofs.MarkBegun as begun
-
-all_in : {A : Type 0} (P : A → Type 0) (xs : List A) → ((x : A) → In xs x → P x) → All P xs
-all_in P [] f = All-nil P
-all_in P (x ∷ xs) f = All-cons P x xs (f x (inl refl)) (all_in P xs (λ y i. f y (inr i)))
 
 module _ (w : SharedValue) (I : IsSharedValue w) (on : (accounts w).end ≡ None) (t : ℕ) (r : Rest) (there : rest_at w.homes t ≡ Some r) (wait : is_waiting (slice_get (accounts w).machine.tasks t) ≡ true) (keeps : ((value_of w).noted t).keeps ≡ true)
     (m : MarkingValue) (G : GoesOn (value_of w) t (heap_of (accounts w) t).snapshot m) where
@@ -142,7 +137,7 @@ module _ (w : SharedValue) (I : IsSharedValue w) (on : (accounts w).end ≡ None
 
   -- what was kept is there
   pub kept_held : All (IsHeld ks) (kept v t)
-  kept_held = all_in (IsHeld ks) (kept v t) (λ b i. let o = (stands.since t keeps).each b i in subst (IsHeld ks) o.2 (begun.is_held w I on t r there wait keeps o.0 o.1))
+  kept_held = all_from (IsHeld ks) (kept v t) (λ b i. let o = (stands.since t keeps).each b i in subst (IsHeld ks) o.2 (begun.is_held w I on t r there wait keeps o.0 o.1))
 
   -- and each reference into a chunk of the heap leads to an object
   pub closed : IsClosed ks

@@ -2,6 +2,7 @@
 use Rattle.std.proofs.Common.{◌≡◌, ◌↔◌, ℕ, true, All, Option, Some, None, List, [], ◌∷◌, slice_get, inl, inr, refl, ap, sym, subst, ◌∙◌}
 use Rattle.std.specs.List.{flat_map}
 use Rattle.listed.proofs.Members.{in_append_cases, in_append_left, in_append_right, in_flat}
+use Rattle.listed.proofs.Places.{all_from}
 use Rattle.hh_model.specs.declared.data.Status.{Status}
 use Rattle.hh_model.specs.declared.data.Status.TheVariants.{Running, Waiting, Ended, Joined}
 use Rattle.hh_model.specs.declared.data.Task.{Task}
@@ -18,15 +19,14 @@ use Rattle.task_frames.specs.FramesValue.{frames_of as stacked}
 use Rattle.remembered_set.specs.declared.remembered.Source.{Source}
 use Rattle.remembered_set.specs.Moved.{AreFields, into, targets_of}
 use Rattle.leaf_copy_gc.specs.Survivors.{references_in}
-use Rattle.inner_mark_gc.proofs.Finding.{all_from}
 use Rattle.ledger_step_laws.specs.Accounts.{Rests}
 use Rattle.ledger_step_laws.proofs.Split.{legal_idle}
+use Rattle.ledger_step_laws.proofs.Wrote.{waiting_stops}
 use Rattle.core_relation.specs.Begins.{AreRoots, IsAt}
 use Rattle.core_relation.specs.Reads.{FramesAreRead, HoldsRead}
 use Rattle.core_relation.specs.Stands.{Place, Stands}
 use Rattle.core_relation.specs.Memory.{Home, In, Memory, objects, objects_in, sources}
 use Rattle.core_relation.proofs.objects.Members.{from_flat, in_chunk}
-use Rattle.core_relation.proofs.whole.Past.{waiting_stops}
 use Rattle.core_relation.proofs.notes.Roots.{frame_name}
 use Rattle.shared_value.specs.declared.task_at_rest.Rest.{Rest}
 use Rattle.shared_value.specs.declared.task_at_rest.Work.{Work}
@@ -39,7 +39,9 @@ use Rattle.shared_value.specs.Stands.{IsSharedValue}
 use Rattle.shared_value.proofs.BeforeTheEnd.{stands_now}
 use Rattle.shared_value.proofs.RootsHeld as held
 use Rattle.shared_value.proofs.RootsHeld.{into_tells, into_there}
-use Rattle.shared_value.proofs.RootsByAccounts.{home_chunks, noted_sources, read_at_rest}
+use Rattle.shared_value.proofs.RootsByAccounts.{read_at_rest}
+use Rattle.shared_value.proofs.FieldsLed.{home_chunks}
+use Rattle.shared_value.proofs.FieldsNoted.{noted_sources}
 use Rattle.heap_marking.specs.Marking.{IsStart}
 use Rattle.heap_marking.specs.Starts.{registers_of, starts_by, starts_in, starts_of}
 use Rattle.heap_marking.proofs.MarkBegun as begun

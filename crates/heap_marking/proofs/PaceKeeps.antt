@@ -1,10 +1,11 @@
 -- What is kept of a worker's entries stays right past entries that leave forks and touched heaps, and is right with one
 -- entry more.
 use Rattle.std.proofs.Common.{◌≡◌, ◌⊎◌, ℕ, ◌<◌, ◌≤◌, ◌==◌, ◌&&◌, not, Bool, true, false, cond, Option, Some, None, List, [], ◌∷◌, ◌++◌, slice_get, inl, inr, refl, ap, sym, subst, ◌∙◌, arith, is_some, eq-eqb}
-use Rattle.std.proofs.lemmas.Bool.{false≢true, both_ways, and_from, and_parts, eqb-true}
+use Rattle.std.proofs.lemmas.Bool.{false≢true, both_ways, and_from, and_parts, eqb-true, not-true}
 use Rattle.hh_model.specs.declared.data.Strand.{Strand}
 use Rattle.hh_model.specs.declared.data.Task.{Task}
 use Rattle.hh_model.specs.Step.{is_waiting, joined, parents, strand_of, waits}
+use Rattle.hh_model.proofs.Leaves.{wait_task}
 use Rattle.run_ledger.specs.declared.data.Heap.{Heap}
 use Rattle.run_ledger.specs.declared.data.Ledger.{Ledger}
 use Rattle.run_ledger.specs.declared.data.Previous.{Previous as PreviousEntry}
@@ -12,19 +13,17 @@ use Rattle.run_ledger.specs.declared.data.Previous.TheVariants.{Other as OtherEn
 use Rattle.run_ledger.specs.declared.data.WorkerPace.{WorkerPace}
 use Rattle.run_ledger.specs.Heaps.{heap_of}
 use Rattle.run_ledger.specs.Pace.{fork_of, previous_by, waits_on, waits_since}
+use Rattle.run_ledger.proofs.OwedEntries.{waits_tells as since_tells}
+use Rattle.run_ledger.proofs.OwedEntries.{Touched}
 use Rattle.heap_marking.specs.declared.pace.Fork.{Fork}
 use Rattle.heap_marking.specs.declared.pace.Pace.{Pace}
 use Rattle.heap_marking.specs.declared.pace.Previous.{Previous}
 use Rattle.heap_marking.specs.declared.pace.Previous.TheVariants.{Other, Ran, Forked}
 use Rattle.heap_marking.specs.Pace.{HasGoneOn, IsForkOf, IsOver, KeepsMarks, KeepsPace, KeepsPrevious, TellsFork, TellsMark, is_parent, previous_of}
 use Rattle.heap_marking.proofs.StepsKeepForks.{WaitsOn}
-use Rattle.heap_marking.proofs.ForksStay.{IsTouched, Moves}
+use Rattle.heap_marking.proofs.ForksStay.{Moves}
 
 -- WAITING ON A FORK
-since_tells : (o : Option Task) (joins : ℕ) → waits_since o joins ≡ true → (x : Task) × (o ≡ Some x) × (waits x.status ≡ true) × (x.joins ≡ joins)
-since_tells None joins h = absurd (false≢true h)
-since_tells (Some x) joins h = let q = and_parts (waits x.status) (x.joins == joins) h in (x, refl, q.0, eqb-true x.joins joins q.1)
-
 pub waits_tells : (l : Ledger) (s : Strand) → waits_on l s ≡ true → (x : Task) × (slice_get l.machine.tasks s.task ≡ Some x) × (waits x.status ≡ true) × (x.joins ≡ s.joins)
 waits_tells l s h = since_tells (slice_get l.machine.tasks s.task) s.joins h
 
@@ -90,7 +89,7 @@ module _ (l l' : Ledger) (M : Moves l l') where
   mark_moves : (f : Fork) (s : Strand) → TellsMark l f s → TellsMark l' f s
   mark_moves f s T = record {
     fork = tells_moves f s T.fork;
-    marked = still s IsTouched T.marked (λ x at w at' h. (M.heaps s.task x at w at').0 h) (told f s T.fork (joined l.machine.tasks f.left) refl);
+    marked = still s Touched T.marked (λ x at w at' h. (M.heaps s.task x at w at').0 h) (told f s T.fork (joined l.machine.tasks f.left) refl);
   }
 
   over_moves : (s : Strand) → IsOver l s → IsOver l' s
@@ -126,28 +125,20 @@ parent_tells : (o : Option ℕ) (t : ℕ) → is_parent o t ≡ true → o ≡ S
 parent_tells None t h = absurd (false≢true h)
 parent_tells (Some p) t h = ap Some (eqb-true p t h)
 
-not_tells : (b : Bool) → not b ≡ true → b ≡ false
-not_tells false h = refl
-not_tells true h = absurd (false≢true h)
-
 -- a child of t that hasn't joined, as the tasks tell it
 abbrev pub lives_below : List Task → ℕ → ℕ → Bool
 lives_below tasks t c = is_parent (parents tasks c) t && not (joined tasks c)
 
 pub child_tells : (tasks : List Task) (t c : ℕ) → lives_below tasks t c ≡ true → (parents tasks c ≡ Some t) × (joined tasks c ≡ false)
-child_tells tasks t c h = let q = and_parts (is_parent (parents tasks c) t) (not (joined tasks c)) h in (parent_tells (parents tasks c) t q.0, not_tells (joined tasks c) q.1)
+child_tells tasks t c h = let q = and_parts (is_parent (parents tasks c) t) (not (joined tasks c)) h in (parent_tells (parents tasks c) t q.0, not-true (joined tasks c) q.1)
 
 pub child_from : (tasks : List Task) (t c : ℕ) → parents tasks c ≡ Some t → joined tasks c ≡ false → lives_below tasks t c ≡ true
 child_from tasks t c p j = and_from (is_parent (parents tasks c) t) (not (joined tasks c)) (ap (λ o. is_parent o t) p ∙ eq-eqb t t refl) (ap not j)
 
-waits_task : (o : Option Task) → is_waiting o ≡ true → (x : Task) × (o ≡ Some x) × (waits x.status ≡ true)
-waits_task None h = absurd (false≢true h)
-waits_task (Some x) h = (x, refl, h)
-
 -- told by a child that hasn't joined
 pub fork_from : (l : Ledger) (t c : ℕ) → parents l.machine.tasks c ≡ Some t → joined l.machine.tasks c ≡ false → is_waiting (slice_get l.machine.tasks t) ≡ true → IsForkOf l t (Some (record { task = t; left = c })) (slice_get l.machine.tasks t)
 fork_from l t c p j w =
-    let q = waits_task (slice_get l.machine.tasks t) w in
+    let q = wait_task (slice_get l.machine.tasks t) w in
     subst (IsForkOf l t (Some (record { task = t; left = c }))) (sym q.1) (
       q.2,
       record {

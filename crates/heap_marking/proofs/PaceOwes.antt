@@ -1,8 +1,9 @@
 -- What is owed is told by what is kept.
 use Rattle.std.proofs.Common.{◌≡◌, ℕ, zero, suc, ◌+◌, ◌<◌, ◌&&◌, not, Bool, true, false, cond, Option, Some, None, List, [], ◌∷◌, ◌++◌, length, slice_get, inl, inr, refl, ap, sym, subst, ◌∙◌, arith, is_some, nat_le, length-append, get_or}
-use Rattle.std.proofs.lemmas.Bool.{false≢true, both_ways, cases_lt}
+use Rattle.std.proofs.lemmas.Bool.{both_ways, cases_lt}
 use Rattle.std.proofs.lemmas.Option.{same_Some}
 use Rattle.listed.proofs.Members.{got_back, got_front, got_within}
+use Rattle.listed.proofs.Options.{and_not_parts}
 use Rattle.hh_model.specs.declared.data.Strand.{Strand}
 use Rattle.hh_model.specs.Step.{is_waiting, joined}
 use Rattle.run_trace.specs.Settings.{SettingsValue}
@@ -90,14 +91,9 @@ abbrev pub IsMarkedThen : Ledger → Option Fork → Type 0
 IsMarkedThen l None = Unit {0}
 IsMarkedThen l (Some f) = (is_going l f ≡ true) × (is_some (heap_of l f.task).marked ≡ true)
 
-under_parts : (a b : Bool) → (a && not b) ≡ true → (a ≡ true) × (b ≡ false)
-under_parts true true h = absurd (false≢true h)
-under_parts true false h = (refl, refl)
-under_parts false b h = absurd (false≢true h)
-
 marked_now : (l : Ledger) (f : Fork) (s : Strand) → TellsMark l f s → is_going l f ≡ true → is_some (heap_of l f.task).marked ≡ true
 marked_now l f s T on =
-    let q = under_parts (waits_on l s) (heap_of l s.task).swept (sym (going_is l f s T.fork) ∙ on) in
+    let q = and_not_parts (waits_on l s) (heap_of l s.task).swept (sym (going_is l f s T.fork) ∙ on) in
     ap (λ u. is_some (heap_of l u).marked) (T.fork).task ∙ elim (T.marked q.0) [ inl m ↦ m | inr sw ↦ absurd (both_ways (heap_of l s.task).swept q.1 sw) ]
 
 pub owed_marks : (l : Ledger) (forks : List Fork) (ss : List Strand) (r : Option Fork) → KeepsMarks l forks ss → IsLastGoing l forks r → (owed_to_marks l ss ≡ owed_to l r) × IsMarkedThen l r

@@ -5,6 +5,7 @@ use Rattle.std.proofs.lemmas.Bool.{cases_eq, eqb-true}
 use Rattle.std.proofs.lemmas.Option.{same_Some}
 use Rattle.listed.specs.RoomyValue.{RoomyValue}
 use Rattle.listed.proofs.Members.{got_other, got_same, got_within}
+use Rattle.listed.proofs.Places.{all_from}
 use Rattle.run_trace.specs.declared.entry.Kind.TheVariants.{Sweep}
 use Rattle.run_trace.specs.Entry.{EntryValue}
 use Rattle.run_ledger.specs.declared.data.Ledger.{Ledger}
@@ -19,7 +20,6 @@ use Rattle.write_barrier.specs.declared.sets.SetOf.{SetOf}
 use Rattle.write_barrier.specs.Stored.{Content as SetContent, content_at, content_of}
 use Rattle.inner_mark_gc.specs.MarkingValue.{MarkingValue, marked_of}
 use Rattle.inner_mark_gc.specs.Swept.{AreGiven, gone_of}
-use Rattle.inner_mark_gc.proofs.Finding.{all_from}
 use Rattle.ledger_step_laws.proofs.Ahead.{with_machine}
 use Rattle.core_relation.specs.Changes.{KeepsJust}
 use Rattle.core_relation.specs.Counts.{CountsGo}
@@ -39,6 +39,7 @@ use Rattle.shared_value.specs.SharedValue.{SharedValue, accounts, flat, home_in,
 use Rattle.shared_value.proofs.EntryMade.{entry_on}
 use Rattle.shared_value.proofs.MarkingEntryMade.{entered_marks, marked_fits, marked_world}
 use Rattle.shared_value.proofs.UnitsMeasured.{given_keeps, measured_kept, part_kept}
+use Rattle.shared_value.proofs.TaskTaken.{some_flat}
 use Rattle.heap_marking.specs.MarkCauses.{marking_cause}
 use Rattle.heap_marking.specs.Sweeping.{CanSweep, SweepsHome, forgotten}
 use Rattle.heap_marking.proofs.MarkCauses.{marks_refuse}
@@ -80,11 +81,6 @@ noted_by (Some s) (Some s') e =
 is_there : {A : Type 0} (o : Option A) (x : A) → o ≡ Some x → IsSome o
 is_there (Some y) x q = refl
 is_there None x q = absurd cc
-
-flat_some : {A : Type 0} (o : Option (Option A)) (x : A) → flat o ≡ Some x → o ≡ Some (Some x)
-flat_some None x e = absurd cc
-flat_some (Some None) x e = absurd cc
-flat_some (Some (Some y)) x e = ap Some e
 
 module _ (w : SharedValue) (k t given : ℕ) (I : IsSharedValue w) (free : refused w (record { worker = k; kind = Sweep t given }) ≡ None) where
   abbrev e : EntryValue
@@ -136,7 +132,7 @@ module _ (w : SharedValue) (k t given : ℕ) (I : IsSharedValue w) (free : refus
 
   pub has_set : t < length w.sets
   has_set =
-      let within : t < length w.homes = got_within w.homes t (Some r) (flat_some (slice_get w.homes t) r there) in
+      let within : t < length w.homes = got_within w.homes t (Some r) (some_flat (slice_get w.homes t) r there) in
       let made : length w.homes ≡ length w.tree = I.made in
       let noted : length w.sets ≡ length w.tree = I.noted in
       omega (arith, within, made, noted)
@@ -159,7 +155,7 @@ module _ (w : SharedValue) (k t given : ℕ) (I : IsSharedValue w) (free : refus
     v' = value_of w'
 
     rest_then : rest_at homes t ≡ Some rest'
-    rest_then = ap flat (got_same w.homes t (Some r) (Some rest') (flat_some (slice_get w.homes t) r there))
+    rest_then = ap flat (got_same w.homes t (Some r) (Some rest') (some_flat (slice_get w.homes t) r there))
 
     rest_off : (u : ℕ) → (u ≡ t → ⊥) → rest_at homes u ≡ rest_at w.homes u
     rest_off u ne = ap flat (got_other w.homes t u (Some rest') ne)

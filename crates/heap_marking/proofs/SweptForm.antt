@@ -3,6 +3,8 @@ use Rattle.std.proofs.Common.{◌≡◌, ℕ, ◌-◌, ◌*◌, ◌/◌, ◌≤�
 use Rattle.std.proofs.lemmas.Bool.{false≢true}
 use Rattle.std.proofs.lemmas.List.Elements.{All-get_or}
 use Rattle.listed.proofs.Members.{in_from_kept}
+use Rattle.listed.proofs.Places.{all_from, in_map, read_in}
+use Rattle.listed.proofs.Options.{none_some}
 use Rattle.run_ledger.specs.declared.data.Heap.{Heap as Account}
 use Rattle.run_ledger.specs.Heaps.{in_snapshot, is_empty, is_last_empty, swept_heap}
 use Rattle.run_ledger.specs.Reachable.{holds_name}
@@ -11,27 +13,22 @@ use Rattle.object_layout.specs.Chunks.{chunk_at, no_chunk, place_in}
 use Rattle.object_layout.specs.ChunkValue.{ChunkValue}
 use Rattle.object_layout.specs.Place.{words_in}
 use Rattle.object_layout.specs.Objects.{Located}
+use Rattle.object_layout.proofs.ObjectLemmas.{chunk_there}
 use Rattle.alloc_path.specs.LeafHeapValue.{AreWithin, LeafHeapValue, IsCurrent, IsSettled, IsTidy, room_at, room_of}
 use Rattle.alloc_path.proofs.HeapLemmas as heap
 use Rattle.inner_mark_gc.specs.Swept.{gone_of, number_at, place_at, swept}
-use Rattle.inner_mark_gc.proofs.Finding.{all_from}
 use Rattle.inner_mark_gc.proofs.Kept as kept_chunks
 use Rattle.core_relation.specs.Layout.{HoldsLarge, has_none}
 use Rattle.core_relation.specs.Memory.{In, objects_in}
-use Rattle.core_relation.proofs.objects.Members.{in_objects, in_map}
+use Rattle.core_relation.proofs.objects.Members.{in_objects}
 use Rattle.task_machine.specs.Accounts.{IsLastSmall}
 use Rattle.shared_value.specs.Objects.{chunk_of, chunks_of}
 use Rattle.shared_value.specs.Stands.{HeapForm}
-use Rattle.shared_value.proofs.HeapCounts.{chunk_there}
 use Rattle.shared_value.proofs.PlacedForm.{Formed}
 use Rattle.shared_value.proofs.HeapLaidOut.{place_there}
-use Rattle.shared_value.proofs.FieldsNoted.{all_at}
 use Rattle.heap_marking.proofs.SweptCells.{is_there, large_kept, words_kept}
 use Rattle.heap_marking.proofs.SweptChunks.{AreFilled, Agrees, gone, has, has_is, has_names, kept_in, left, names, objects_left, swept_is}
 use Rattle.heap_marking.proofs.SweptPlaces.{goes_off, last_empty, left_was, small_names_of, stays_before}
-
-none_some : {A B : Type 0} {x : A} → ◌≡◌ {A = Option A} None (Some x) → B
-none_some e = absurd cc
 
 -- a large chunk holds one object
 abbrev pub HoldLarge : List ChunkValue → Type 0
@@ -53,7 +50,7 @@ module _ (kept : List Addr) (h : LeafHeapValue) (F : HeapForm h) (none : h.reser
 
   pub filled : AreFilled h.chunks
   filled k i = record {
-    unmoved = (all_at IsTidy h.chunks k i F.tidy).unmoved;
+    unmoved = (read_in IsTidy h.chunks k i F.tidy).unmoved;
     whole = F.whole k i;
     large = L k i;
     some = λ q e.
@@ -71,7 +68,7 @@ module _ (kept : List Addr) (h : LeafHeapValue) (F : HeapForm h) (none : h.reser
   within_left : AreWithin (left kept h.chunks)
   within_left = all_from (λ (k : ChunkValue). words_in k.cells ≤ k.size) (left kept h.chunks) (λ k i.
       let x = left_was kept h.chunks k i in
-      let w : words_in x.0.cells ≤ x.0.size = all_at (λ (k : ChunkValue). words_in k.cells ≤ k.size) h.chunks x.0 x.1 F.within in
+      let w : words_in x.0.cells ≤ x.0.size = read_in (λ (k : ChunkValue). words_in k.cells ≤ k.size) h.chunks x.0 x.1 F.within in
       subst (λ (z : ChunkValue). words_in z.cells ≤ z.size) x.3 (subst (λ n. n ≤ x.0.size) (sym (words_kept kept x.0.number x.0.cells 0)) w))
 
   large_left : HoldLarge (left kept h.chunks)

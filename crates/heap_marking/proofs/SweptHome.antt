@@ -4,6 +4,7 @@ use Rattle.std.proofs.lemmas.Bool.{cases_eq, false≢true}
 use Rattle.std.proofs.lemmas.Option.{same_Some}
 use Rattle.std.proofs.lemmas.List.Elements.{All-head, All-tail}
 use Rattle.listed.proofs.Members.{in_from_kept, in_kept}
+use Rattle.listed.proofs.Places.{all_from, in_map}
 use Rattle.hh_model.specs.declared.data.State.{State}
 use Rattle.hh_model.specs.Effect.{row_of}
 use Rattle.hh_model.specs.Step.{is_joined}
@@ -22,13 +23,12 @@ use Rattle.alloc_path.specs.View.{Level}
 use Rattle.alloc_path.proofs.HeapLemmas.{fresh_cons}
 use Rattle.inner_mark_gc.specs.MarkingValue.{marked_of}
 use Rattle.inner_mark_gc.specs.Swept.{AreGiven, gone_of, goes, swept, units_kept}
-use Rattle.inner_mark_gc.proofs.Finding.{all_from}
 use Rattle.ledger_step_laws.proofs.Ahead.{heap_then, with_at}
 use Rattle.core_relation.specs.Changes.{KeepsJust}
 use Rattle.core_relation.specs.Layout.{AreLaidOut}
 use Rattle.core_relation.specs.Stands.{HasNames, HomeStands}
 use Rattle.core_relation.specs.Memory.{Chunk, Home, In, Memory, object_name, objects, objects_in, sources}
-use Rattle.core_relation.proofs.objects.Members.{in_map, map_in}
+use Rattle.core_relation.proofs.objects.Members.{map_in}
 use Rattle.shared_value.specs.declared.task_at_rest.Rest.{Rest}
 use Rattle.shared_value.specs.declared.task_at_rest.Work.{Work}
 use Rattle.shared_value.specs.declared.task_at_rest.Work.TheVariants.{Calls, Result}
@@ -38,14 +38,14 @@ use Rattle.shared_value.specs.Stands.{HeapForm, IsSharedValue}
 use Rattle.shared_value.specs.SharedValue.{SharedValue, accounts, home_by, home_of, value_of}
 use Rattle.shared_value.proofs.HeapForms.{places_form}
 use Rattle.shared_value.proofs.EntryMade.{unheld_at_rest}
-use Rattle.shared_value.proofs.HeapLaidOut.{inside_from, laid_from}
+use Rattle.shared_value.proofs.HeapLaidOut.{inside_from, laid_from, same_chunk}
 use Rattle.shared_value.proofs.FieldsLed.{home_chunks}
 use Rattle.shared_value.proofs.FieldsNoted.{fresh_by, owner_none}
 use Rattle.heap_marking.specs.MarkCauses.{marking_cause}
 use Rattle.heap_marking.proofs.SweptCells.{is_there}
 use Rattle.heap_marking.proofs.SweptChunks.{gone, has, left, objects_left}
 use Rattle.heap_marking.proofs.SweptForm as form
-use Rattle.heap_marking.proofs.SweptPlaces.{left_was, one_number}
+use Rattle.heap_marking.proofs.SweptPlaces.{left_was}
 use Rattle.heap_marking.proofs.SweptStart as start
 use Rattle.heap_marking.proofs.SweptStart.{room_there, since_there}
 use Rattle.heap_marking.proofs.SweptUnits.{know, names_left}
@@ -128,7 +128,7 @@ module _ (w : SharedValue) (I : IsSharedValue w) (on : (accounts w).end ≡ None
   left_off : (x : ChunkValue) → In ks x → has kept x ≡ true → IsFresh (gone kept ks) x.number
   left_off x i h = fresh_by (gone kept ks) x.number (λ c j e.
       let g = gone_was c j in
-      false≢true (sym g.1 ∙ (ap (has kept) (one_number ks c x F.shaped.apart g.0 i e) ∙ h)))
+      false≢true (sym g.1 ∙ (ap (has kept) (same_chunk ks c x F.shaped.apart g.0 i e) ∙ h)))
 
   owned_was : (c : ChunkValue) → In ks c → owner_of w.pool c.number ≡ Some t
   owned_was c i = (start.H w I on t free).owned (chunk_of c) (subst (λ cs. In cs (chunk_of c)) (sym (start.chunks_here w I on t free)) (in_map chunk_of ks c i))

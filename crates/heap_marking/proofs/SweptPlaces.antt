@@ -1,5 +1,5 @@
 -- Where the chunks stand that a sweep leaves: in the order in which they stood.
-use Rattle.std.proofs.Common.{◌≡◌, ℕ, zero, suc, ◌+◌, ◌<◌, ◌==◌, arith, Bool, true, false, cond, not, Some, None, List, [], ◌∷◌, filter, length, map, inl, inr, refl, ap, sym, subst, ◌∙◌, eq-eqb, ne_eqb}
+use Rattle.std.proofs.Common.{◌≡◌, ℕ, zero, suc, ◌+◌, ◌<◌, ◌==◌, arith, Bool, true, false, cond, not, Some, None, List, [], ◌∷◌, filter, length, map, refl, ap, sym, subst, ◌∙◌, eq-eqb, ne_eqb}
 use Rattle.std.proofs.lemmas.Bool.{cond-false, cond-true, eqb-true, false≢true}
 use Rattle.listed.proofs.Members.{in_from_kept}
 use Rattle.hh_model.specs.declared.data.Name.{Name}
@@ -7,6 +7,7 @@ use Rattle.run_ledger.specs.Heaps.{is_empty, is_last_empty}
 use Rattle.object_layout.specs.declared.word.Addr.{Addr}
 use Rattle.object_layout.specs.Chunks.{chunk_at, place_of}
 use Rattle.object_layout.specs.ChunkValue.{ChunkValue}
+use Rattle.object_layout.proofs.ObjectLemmas.{chunk_there}
 use Rattle.alloc_path.specs.LeafHeapValue.{AreApart, IsFresh}
 use Rattle.inner_mark_gc.specs.Swept.{stays, swept_chunk}
 use Rattle.core_relation.specs.Stands.{names_of, small_chunks}
@@ -15,17 +16,9 @@ use Rattle.core_relation.proofs.objects.Members.{map_in}
 use Rattle.task_machine.specs.Accounts.{IsLastSmall}
 use Rattle.shared_value.specs.Objects.{chunk_of, chunks_of}
 use Rattle.shared_value.proofs.CellsRead.{fresh_off}
-use Rattle.shared_value.proofs.HeapCounts.{chunk_there}
-use Rattle.shared_value.proofs.HeapLaidOut.{place_there}
+use Rattle.shared_value.proofs.HeapLaidOut.{place_there, same_chunk}
 use Rattle.shared_value.proofs.FieldsNoted.{fresh_by}
 use Rattle.heap_marking.proofs.SweptChunks.{has, left}
-
-pub one_number : (ks : List ChunkValue) (j k : ChunkValue) → AreApart ks → In ks j → In ks k → j.number ≡ k.number → j ≡ k
-one_number [] j k A i i' e = absurd i
-one_number (y ∷ ys) j k A (inl a) (inl b) e = sym a ∙ b
-one_number (y ∷ ys) j k A (inl a) (inr b) e = absurd (fresh_off ys k y.number A.0 b (sym e ∙ ap (λ (z : ChunkValue). z.number) (sym a)))
-one_number (y ∷ ys) j k A (inr a) (inl b) e = absurd (fresh_off ys j y.number A.0 a (e ∙ ap (λ (z : ChunkValue). z.number) (sym b)))
-one_number (y ∷ ys) j k A (inr a) (inr b) e = one_number ys j k A.1 a b e
 
 -- in the list a chunk of this number stands, and such ones behind it
 pub record StandsBefore (ls : List ChunkValue) (n : ℕ) (k : ChunkValue) (Q : ChunkValue → Type 0) : Type 0 where
@@ -93,7 +86,7 @@ module _ (kept : List Addr) where
   pub goes_off : (ks : List ChunkValue) → AreApart ks → (k : ChunkValue) → In ks k → has kept k ≡ false → IsFresh (left kept ks) k.number
   goes_off ks A k i h = fresh_by (left kept ks) k.number (λ c j e.
       let m = left_was ks c j in
-      let same : m.0 ≡ k = one_number ks m.0 k A m.1 i (ap (λ (z : ChunkValue). z.number) m.3 ∙ e) in
+      let same : m.0 ≡ k = same_chunk ks m.0 k A m.1 i (ap (λ (z : ChunkValue). z.number) m.3 ∙ e) in
       false≢true (sym h ∙ (ap (has kept) (sym same) ∙ m.2)))
 
 -- THE LAST LIST of names is that of the last small chunk

@@ -1,5 +1,6 @@
 -- Why a sweep is refused.
-use Rattle.std.proofs.Common.{◌≡◌, ◌==◌, ℕ, false, Option, Some, None, is_some, refl, ap, ◌∙◌}
+use Rattle.std.proofs.Common.{◌≡◌, ◌==◌, ℕ, false, Option, None, is_some, ap, ◌∙◌}
+use Rattle.listed.proofs.Options.{none_of}
 use Rattle.run_trace.specs.declared.entry.Kind.TheVariants.{Sweep}
 use Rattle.run_ledger.specs.declared.data.Refused.{Refused}
 use Rattle.run_ledger.specs.declared.data.Refused.TheVariants.{Left}
@@ -18,12 +19,8 @@ abbrev pub sweep_cause : SharedValue → ℕ → ℕ → Option Refused
 sweep_cause w t given =
     refused_unless (left_in (heap_of (accounts w) t) == 0) (Left (marked_in (heap_of (accounts w) t))) (counted given (sweep_number (accounts w).machine (heap_of (accounts w) t)) None)
 
-nothing : (o : Option Refused) → is_some o ≡ false → o ≡ None
-nothing None h = refl
-nothing (Some c) h = absurd cc
-
 -- where nothing comes before what it says
 pub sweep_answer : (w : SharedValue) (k t given : ℕ) → IsSharedValue w → is_some (first_cause w.end w.steps w.settings k false) ≡ false → refused w (record { worker = k; kind = Sweep t given }) ≡ or_else (marking_cause w t) (sweep_cause w t given)
 sweep_answer w k t given I h =
     refused_is w I (record { worker = k; kind = Sweep t given })
-    ∙ (ap (λ o. or_else o (kind_refusal w.program w.settings (accounts w) k (Sweep t given))) (nothing (first_cause w.end w.steps w.settings k false) h) ∙ (marks_refuse w k t I (on_is w I k false h)).sweep given)
+    ∙ (ap (λ o. or_else o (kind_refusal w.program w.settings (accounts w) k (Sweep t given))) (none_of (first_cause w.end w.steps w.settings k false) h) ∙ (marks_refuse w k t I (on_is w I k false h)).sweep given)

@@ -1,6 +1,8 @@
 -- What is known of a heap that is marked to its end, before it is swept.
-use Rattle.std.proofs.Common.{◌≡◌, ℕ, zero, suc, arith, not, Bool, true, false, Option, Some, None, slice_get, refl, ap, sym, subst, ◌∙◌}
+use Rattle.std.proofs.Common.{◌≡◌, ℕ, zero, suc, arith, not, true, Option, Some, None, slice_get, refl, ap, sym, subst, ◌∙◌}
 use Rattle.listed.proofs.Members.{contains_from_in, in_from_contains}
+use Rattle.listed.proofs.Places.{in_map}
+use Rattle.listed.proofs.Options.{same_truth}
 use Rattle.hh_model.specs.declared.data.Status.{Status}
 use Rattle.hh_model.specs.declared.data.Status.TheVariants.{Running, Waiting, Ended, Joined}
 use Rattle.hh_model.specs.declared.data.Task.{Task}
@@ -25,7 +27,6 @@ use Rattle.object_layout.specs.Objects.{Located}
 use Rattle.core_relation.specs.Memory.{Home, In, Memory, object_name, objects, objects_in}
 use Rattle.core_relation.specs.Whole.{StandsFor}
 use Rattle.core_relation.proofs.notes.MarksAll.{marks_are_all}
-use Rattle.core_relation.proofs.objects.Members.{in_map}
 use Rattle.task_machine.specs.Accounts.{AreReserved, IsCounted}
 use Rattle.shared_value.specs.declared.task_at_rest.Rest.{Rest}
 use Rattle.shared_value.specs.declared.task_at_rest.Work.{Work}
@@ -68,11 +69,6 @@ since_there r = by r.work
     by : (x : Work) → (home_by r.heap r.view r.allocations x).since ≡ r.heap.since
     by (Calls s) = refl
     by (Result n b) = refl
-
-same_truth : (a b : Bool) → (a ≡ true → b ≡ true) → (b ≡ true → a ≡ true) → a ≡ b
-same_truth true b f g = sym (f refl)
-same_truth false true f g = g refl
-same_truth false false f g = refl
 
 module _ (w : SharedValue) (I : IsSharedValue w) (on : (accounts w).end ≡ None) (t : ℕ) (free : marking_cause w t ≡ None) where
   abbrev l : Ledger

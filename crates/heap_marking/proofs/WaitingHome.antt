@@ -10,11 +10,11 @@ use Rattle.run_ledger.specs.declared.data.Refused.TheVariants.{NotWaiting, Swept
 use Rattle.run_ledger.specs.Entries.{refused_unless}
 use Rattle.run_ledger.specs.Heaps.{heap_of}
 use Rattle.ledger_step_laws.proofs.Split.{legal_idle}
+use Rattle.ledger_step_laws.proofs.Wrote.{waiting_stops}
 use Rattle.core_relation.specs.Reads.{HoldsRead}
 use Rattle.core_relation.specs.Stands.{Place}
 use Rattle.core_relation.specs.Memory.{Memory}
 use Rattle.core_relation.specs.Whole.{StandsFor}
-use Rattle.core_relation.proofs.whole.Past.{waiting_stops}
 use Rattle.shared_value.specs.declared.task_at_rest.Rest.{Rest}
 use Rattle.shared_value.specs.SharedValue.{SharedValue, accounts, flat, home_in, no_home, noted_in, rest_at, totals_of, value_of}
 use Rattle.shared_value.specs.Stands.{IsSharedValue}

@@ -1,23 +1,24 @@
 -- The remembered fields of a heap in order.
-use Rattle.std.proofs.Common.{◌≡◌, ℕ, suc, ◌+◌, ◌*◌, ◌^◌, ◌<◌, ◌≤◌, ◌==◌, ◌&&◌, ◌||◌, ◌⊎◌, arith, Bool, true, false, cond, Option, Some, None, List, [], ◌∷◌, ◌++◌, length, map, get_or, nat_lt, nat_eq, slice_get, inl, inr, refl, ap, sym, subst, ◌∙◌}
+use Rattle.std.proofs.Common.{◌≡◌, ℕ, suc, ◌+◌, ◌*◌, ◌<◌, ◌≤◌, ◌==◌, ◌&&◌, ◌||◌, ◌⊎◌, arith, Bool, true, false, cond, Option, Some, None, List, [], ◌∷◌, length, map, get_or, nat_lt, nat_eq, slice_get, inl, inr, refl, ap, sym, subst, ◌∙◌}
 use Rattle.std.specs.declared.cmp.Ordering.TheVariants.{Less, Equal, Greater}
 use Rattle.std.specs.List.{AllByRecursion, IsDistinct, list_any}
 use Rattle.std.specs.List.Sorted.{IsPermutation, IsSortedWithin}
 use Rattle.std.specs.Ordering.{nat_cmp, ordering_then, is_lt}
-use Rattle.std.specs.Prelude.{Contains}
 use Rattle.std.proofs.lemmas.Bool.{cases_eq, false≢true}
 use Rattle.std.proofs.lemmas.Option.{slice_get_past}
 use Rattle.std.proofs.lemmas.List.Sorted.{Contains-permutation, IsPermutation-sym}
-use Rattle.std.proofs.lemmas.Map.Keys.{IsDistinct-IsPermutation, IsDistinct-cons, IsDistinct-head, IsDistinct-tail}
+use Rattle.std.proofs.lemmas.Map.Keys.{IsDistinct-IsPermutation, IsDistinct-head, IsDistinct-tail}
 use Rattle.listed.proofs.Members.{In, any_from_in, contains_from_in, in_from_contains}
+use Rattle.listed.proofs.Places.{each_in, in_map}
 use Rattle.object_layout.specs.declared.word.Addr.{Addr}
 use Rattle.object_layout.specs.Layout.{word_of_ref}
 use Rattle.object_layout.specs.Objects.{Located}
 use Rattle.remembered_set.specs.declared.remembered.Source.{Source}
 use Rattle.remembered_set.specs.Sources.{StandOnce, has_source, same_source}
+use Rattle.remembered_set.proofs.Noting.{same_self}
 use Rattle.write_barrier.specs.declared.sets.SetOf.{SetOf}
 use Rattle.ledger_step_laws.specs.Accounts.{own}
-use Rattle.core_relation.specs.Memory.{In as HasItem, objects_in, sources}
+use Rattle.core_relation.specs.Memory.{objects_in, sources}
 use Rattle.core_relation.specs.Whole.{handed}
 use Rattle.shared_value.specs.declared.task_at_rest.Rest.{Rest}
 use Rattle.shared_value.specs.Stands.{IsSharedValue}
@@ -45,24 +46,12 @@ same_from : (f g : Field) → is_field f g ≡ true → f ≡ g
 unfolding is_field
 same_from f g h = same_fields f g (grind arith) (grind arith)
 
-by_all : {A : Type 0} (P : A → Type 0) (xs : List A) (x : A) → AllByRecursion P xs → In xs x → P x
-by_all P (y ∷ ys) x all (inl e) = subst P e all.0
-by_all P (y ∷ ys) x all (inr i) = by_all P ys x all.1 i
-by_all P [] x all i = absurd i
-
 -- FIELDS THAT DIFFER
-in_map : {A B : Type 0} (f : A → B) (xs : List A) (x : A) → In xs x → In (map f xs) (f x)
-in_map f (y ∷ ys) x (inl e) = inl (ap f e)
-in_map f (y ∷ ys) x (inr i) = inr (in_map f ys x i)
-in_map f [] x i = absurd i
 
 map_in : {A B : Type 0} (f : A → B) (xs : List A) (y : B) → In (map f xs) y → (x : A) × In xs x × (y ≡ f x)
 map_in f (x ∷ xs) y (inl e) = (x, inl refl, sym e)
 map_in f (x ∷ xs) y (inr i) = let r = map_in f xs y i in (r.0, inr r.1, r.2)
 map_in f [] y i = absurd i
-
-same_itself : (s : Source) → same_source s s ≡ true
-same_itself s = grind arith
 
 module _ (ss : List Source) (apart : (s t : Source) → In ss s → In ss t → field_of s ≡ field_of t → s ≡ t) where
   unlike : (s : Source) (ts : List Source) → In ss s → ((t : Source) → In ts t → In ss t) → has_source ts s ≡ false → AllByRecursion (λ y. is_field (field_of s) y ≡ false) (map field_of ts)
@@ -77,7 +66,7 @@ module _ (ss : List Source) (apart : (s t : Source) → In ss s → In ss t → 
       by false e = refl
       by true e =
           let same : s ≡ t = apart s t here (all t (inl refl)) (same_from (field_of s) (field_of t) e) in
-          absurd (false≢true (sym off ∙ any_from_in (same_source s) (t ∷ ts) t (inl refl) (subst (λ z. same_source s z ≡ true) same (same_itself s))))
+          absurd (false≢true (sym off ∙ any_from_in (same_source s) (t ∷ ts) t (inl refl) (subst (λ z. same_source s z ≡ true) same (same_self s))))
 
   distinct : (ts : List Source) → ((t : Source) → In ts t → In ss t) → StandOnce ts → IsDistinct is_field (map field_of ts)
   unfolding IsDistinct
@@ -131,26 +120,16 @@ before_from f g (inr h) off = elim (cases_eq f.field g.field) [
 rises_from : (fs : List Field) → Rises Below fs → IsDistinct is_field fs → Rises FieldBefore fs
 rises_from [] up d = tt
 rises_from (f ∷ fs) up d =
-    ((λ g i. before_from f g (up.0 g i) (by_all (λ y. is_field f y ≡ false) fs g (IsDistinct-head is_field f fs d) i)), rises_from fs up.1 (IsDistinct-tail is_field f fs d))
+    ((λ g i. before_from f g (up.0 g i) (each_in (λ y. is_field f y ≡ false) fs g (IsDistinct-head is_field f fs d) i)), rises_from fs up.1 (IsDistinct-tail is_field f fs d))
 
 -- OF A SHARED VALUE
-same_item : {A : Type 0} (xs : List A) (x : A) → In xs x → HasItem xs x
-same_item (y ∷ ys) x (inl e) = inl e
-same_item (y ∷ ys) x (inr i) = inr (same_item ys x i)
-same_item [] x i = absurd i
-
-item_same : {A : Type 0} (xs : List A) (x : A) → HasItem xs x → In xs x
-item_same (y ∷ ys) x (inl e) = inl e
-item_same (y ∷ ys) x (inr i) = inr (item_same ys x i)
-item_same [] x i = absurd i
-
 module _ (w : SharedValue) (I : IsSharedValue w) where
-  near_in : (o : Option Rest) (u : ℕ) → rest_at w.homes u ≡ o → (a : Addr) → (q : Located) → HasItem (objects_in (home_in o).chunks) q → q.at ≡ a → a.offset < 1024
+  near_in : (o : Option Rest) (u : ℕ) → rest_at w.homes u ≡ o → (a : Addr) → (q : Located) → In (objects_in (home_in o).chunks) q → q.at ≡ a → a.offset < 1024
   near_in None u e a q i at = absurd i
-  near_in (Some r) u e a q i at = subst (λ (z : Addr). z.offset < 1024) at ((I.heaps u r e).near q (subst (λ ks. HasItem (objects_in ks) q) (home_chunks r) i))
+  near_in (Some r) u e a q i at = subst (λ (z : Addr). z.offset < 1024) at ((I.heaps u r e).near q (subst (λ ks. In (objects_in ks) q) (home_chunks r) i))
 
   -- words can hold where the objects of remembered fields lie
-  pub source_near : (t : ℕ) (s : Source) → HasItem (sources (value_of w) t) s → s.object.offset < 1024
+  pub source_near : (t : ℕ) (s : Source) → In (sources (value_of w) t) s → s.object.offset < 1024
   source_near t s i =
       let k = I.stands.homes.sources t s i in
       let o = k.place.here k.rests in
@@ -165,7 +144,7 @@ module _ (w : SharedValue) (I : IsSharedValue w) where
       let none : sources (value_of w) t ≡ [] = ap (λ o. (noted_in o).sources) (slice_get_past w.sets t (subst (λ n. n ≤ t) (sym I.noted) past)) in
       record {
         rising = tt;
-        each = λ f. ((λ i. absurd i), (λ h. absurd (subst (λ xs. HasItem xs h.0) none h.1)));
+        each = λ f. ((λ i. absurd i), (λ h. absurd (subst (λ xs. In xs h.0) none h.1)));
       }
 
   module _ (t : ℕ) (set : SetOf) (is : slice_get w.sets t ≡ Some set) where
@@ -176,7 +155,7 @@ module _ (w : SharedValue) (I : IsSharedValue w) where
     noted_is = ap (λ o. (noted_in o).sources) is
 
     near : (s : Source) → In ss s → s.object.offset < 1024
-    near s i = source_near t s (subst (λ xs. HasItem xs s) (sym noted_is) (same_item ss s i))
+    near s i = source_near t s (subst (λ xs. In xs s) (sym noted_is) i)
 
     apart : (s u : Source) → In ss s → In ss u → field_of s ≡ field_of u → s ≡ u
     apart s u i j e =
@@ -196,10 +175,10 @@ module _ (w : SharedValue) (I : IsSharedValue w) where
         there f i =
             let j : In fs f = in_from_contains fs f (Contains-permutation gs fs f (IsPermutation-sym fs gs moved) (contains_from_in gs f i)) in
             let r = map_in field_of ss f (subst (λ xs. In xs f) all j) in
-            (r.0, subst (λ xs. HasItem xs r.0) (sym noted_is) (same_item ss r.0 r.1), r.2)
+            (r.0, subst (λ xs. In xs r.0) (sym noted_is) r.1, r.2)
 
         back : (f : Field) → IsNoted w t f → In gs f
         back f h =
-            let i : In ss h.0 = item_same ss h.0 (subst (λ xs. HasItem xs h.0) noted_is h.1) in
+            let i : In ss h.0 = subst (λ xs. In xs h.0) noted_is h.1 in
             let j : In fs (field_of h.0) = subst (λ xs. In xs (field_of h.0)) (sym all) (in_map field_of ss h.0 i) in
             subst (In gs) (sym h.2) (in_from_contains gs (field_of h.0) (Contains-permutation fs gs (field_of h.0) moved (contains_from_in fs (field_of h.0) j)))

@@ -1,31 +1,31 @@
 -- No worker holds a task that doesn't run, whether or not the run has ended: once it is done the root is handed back,
 -- and no task runs.
-use Rattle.std.proofs.Common.{◌≡◌, ◌⊎◌, ℕ, zero, suc, ◌+◌, ◌-◌, Bool, true, false, cond, Option, Some, None, is_none, List, [], ◌∷◌, ◌++◌, ◌&&◌, nat_lt, slice_get, inl, inr, refl, ap, sym, subst, ◌∙◌}
+use Rattle.std.proofs.Common.{◌≡◌, ◌⊎◌, ℕ, zero, suc, ◌+◌, Bool, true, false, cond, Option, Some, None, is_none, List, [], ◌∷◌, ◌++◌, ◌&&◌, nat_lt, slice_get, inl, inr, refl, ap, sym, subst, ◌∙◌}
 use Rattle.std.proofs.lemmas.Bool.{cases_eq}
+use Rattle.listed.proofs.Options.{none_of}
 use Rattle.hh_lang.specs.Form.{IsProgram, ProgramText}
 use Rattle.hh_model.specs.declared.data.End.{End}
 use Rattle.hh_model.specs.declared.data.End.TheVariants.{Done}
 use Rattle.hh_model.specs.declared.data.State.{State}
-use Rattle.hh_model.specs.declared.data.Status.{Status}
-use Rattle.hh_model.specs.declared.data.Status.TheVariants.{Running, Waiting, Ended, Joined}
 use Rattle.hh_model.specs.declared.data.Task.{Task}
-use Rattle.hh_model.specs.Step.{asked, can_step, goes_on, is_left, is_running, runs, step}
+use Rattle.hh_model.specs.Step.{asked, can_step, is_running, runs, step}
+use Rattle.hh_model.proofs.Leaves.{goes_tells}
 use Rattle.run_trace.specs.declared.entry.Kind.{Kind}
 use Rattle.run_trace.specs.declared.entry.Kind.TheVariants.{Took, Ran, Chunk, Begin, End as EndOf, PutOff, Mark, More, Sweep, Fuel}
 use Rattle.run_trace.specs.Entry.{EntryValue}
 use Rattle.run_trace.specs.Settings.{SettingsValue}
-use Rattle.run_ledger.specs.declared.data.Heap.{Heap}
 use Rattle.run_ledger.specs.declared.data.Ledger.{Ledger}
 use Rattle.run_ledger.specs.declared.data.Refused.{Refused}
 use Rattle.run_ledger.specs.declared.data.RunEnd.{RunEnd}
 use Rattle.run_ledger.specs.declared.data.RunEnd.TheVariants.{Machine, Pool}
-use Rattle.run_ledger.specs.Heaps.{emptied, forked_heap, fresh, heap_at, heap_of, in_use, let_go, merged, or_fresh, with_heap, with_heap_at, within}
-use Rattle.run_ledger.specs.Steps.{allocated_by, allocated_in, join_heaps, moved_on, moved_to, settled, stepped_to, task_step, task_steps}
+use Rattle.run_ledger.specs.Heaps.{in_use, let_go, or_fresh, with_heap}
+use Rattle.run_ledger.specs.Steps.{allocated_in, settled, stepped_to, task_step, task_steps}
 use Rattle.run_ledger.specs.Entries.{after, chunk_units, refusal, with_chunk}
 use Rattle.run_ledger.specs.Journals.{is_legal, ledger_of}
 use Rattle.run_ledger.proofs.Journals.{entry_tells}
 use Rattle.run_ledger.proofs.Cuts.{journals_can_be_cut}
 use Rattle.run_ledger.proofs.Machine.{stepped_machine}
+use Rattle.run_ledger.proofs.Holders.{allocated_end, heap_end, moved_to_end}
 use Rattle.ledger_step_laws.specs.Accounts.{Rests, rested}
 use Rattle.ledger_step_laws.specs.Last.{EndsDone, GoesOn, Halts, IdleRest, IsOfKind, LastKind, Private, Reading, Writing, Printing, Forking, Ending, Joining, Finishing, Halting, Runs}
 use Rattle.ledger_step_laws.proofs.Ahead.{with_machine}
@@ -36,46 +36,14 @@ use Rattle.core_relation.specs.Whole.{handed}
 use Rattle.core_relation.proofs.whole.DoneHands.{done_hands_all}
 use Rattle.core_relation.proofs.whole.HandedBack.{handed_halt, handed_on}
 use Rattle.shared_value.proofs.JournalGoesOn.{accounts_then, legal_then}
-use Rattle.shared_value.proofs.EntryMade.{none_by}
 
 -- WHILE THE MACHINE GOES ON SO DOES THE RUN, over steps of a task
 abbrev Goes : Ledger → Type 0
 Goes l = l.machine.end ≡ None → l.end ≡ None
 
-heap_end : (l : Ledger) (t : ℕ) (f : Heap → Heap) → (with_heap l t f).end ≡ l.end
-heap_end l t f = by (heap_at l t)
-  where
-    by : (o : Option Heap) → (with_heap_at l t f o).end ≡ l.end
-    by None = refl
-    by (Some h) = refl
-
-join_end : (l : Ledger) (p c : ℕ) → (join_heaps l p c).end ≡ l.end
-join_end l p c =
-    let f : Heap → Heap = λ h. merged h (heap_of l c) (heap_of l (c + 1)) in
-    heap_end (with_heap (with_heap l p f) c emptied) (c + 1) emptied ∙ (heap_end (with_heap l p f) c emptied ∙ heap_end l p f)
-
-moved_on_end : (l : Ledger) (t : ℕ) (parent : Option ℕ) (s : Status) → (moved_on l t parent s).end ≡ l.end
-moved_on_end l t parent Running = refl
-moved_on_end l t parent Waiting = heap_end (record l { heaps = l.heaps ++ fresh ∷ fresh ∷ [] }) t (forked_heap (within l t))
-moved_on_end l t parent (Ended k n) = heap_end l t let_go
-moved_on_end l t None Joined = refl
-moved_on_end l t (Some p) Joined = join_end l p (cond (is_left t) t (t - 1))
-
-moved_end : (l : Ledger) (t : ℕ) (o : Option Task) → (moved_to l t o).end ≡ l.end
-moved_end l t None = refl
-moved_end l t (Some x) = moved_on_end l t x.parent x.status
-
 settled_end : (l : Ledger) (t : ℕ) (o : Option End) → o ≡ None → (settled l t o).end ≡ l.end
-settled_end l t None e = moved_end l t (slice_get l.machine.tasks t)
+settled_end l t None e = moved_to_end l t (slice_get l.machine.tasks t)
 settled_end l t (Some x) e = absurd cc
-
-allocated_end : (l : Ledger) (t : ℕ) (o : Option ℕ) → (allocated_by l t o).end ≡ l.end
-allocated_end l t None = refl
-allocated_end l t (Some w) = heap_end l t _
-
-alive : (o : Option End) (b : Bool) → goes_on o b ≡ true → o ≡ None
-alive None b h = refl
-alive (Some e) b h = absurd cc
 
 step_goes : (p : ProgramText) (l : Ledger) (t : ℕ) → Goes l → Goes (task_step p l t)
 step_goes p l t g = by (can_step l.machine t) refl
@@ -84,7 +52,7 @@ step_goes p l t g = by (can_step l.machine t) refl
     by false e = g
     by true e = λ h.
         settled_end (record (allocated_in p l t) { machine = step p l.machine t; steps = (allocated_in p l t).steps + 1 }) t (step p l.machine t).end (sym (ap (λ (z : State). z.end) (stepped_machine (allocated_in p l t) t (step p l.machine t))) ∙ h)
-        ∙ (allocated_end l t (asked p l.machine t) ∙ g (alive l.machine.end (is_running (slice_get l.machine.tasks t)) e))
+        ∙ (allocated_end l t (asked p l.machine t) ∙ g (goes_tells l.machine.end (is_running (slice_get l.machine.tasks t)) e))
 
 steps_go : (p : ProgramText) (k : ℕ) (l : Ledger) (t : ℕ) → Goes l → Goes (task_steps p l t k)
 steps_go p zero l t g = g
@@ -218,7 +186,7 @@ journal_idles p s journal I legal = elim (last_of journal) [
     by before e h =
         let cut = (journals_can_be_cut p s before (e ∷ [])).legal.0 h in
         let free : refusal p s (ledger_of p s before) e ≡ None = first (refusal p s (ledger_of p s before) e) cut.1 in
-        let on : (ledger_of p s before).end ≡ None = none_by (ledger_of p s before).end (entry_tells p s (ledger_of p s before) e (ap is_none free)).0 in
+        let on : (ledger_of p s before).end ≡ None = none_of (ledger_of p s before).end (entry_tells p s (ledger_of p s before) e (ap is_none free)).0 in
         subst Idles (sym (accounts_then p s before e)) (entry_idle p s before I cut.0 on e.worker e.kind free)
       where
         first : (o : Option Refused) → (is_none o && true) ≡ true → o ≡ None

@@ -45,6 +45,7 @@ use Rattle.shared_value.proofs.SameLength.{same_length}
 use Rattle.shared_value.proofs.FieldsLed.{home_chunks}
 use Rattle.shared_value.proofs.ObjectCounts.{objects_counted}
 use Rattle.shared_value.proofs.BeforeTheEnd.{goes_by}
+use Rattle.shared_value.proofs.TaskTaken.{told}
 use Rattle.heap_reading.specs.HeldNames.{is_state_running, kept_of}
 use Rattle.heap_reading.proofs.IdleTasks.{journal_idle}
 
@@ -55,9 +56,6 @@ by_status Running (Some w) = refl
 by_status Waiting o = refl
 by_status (Ended n r) o = refl
 by_status Joined o = refl
-
-abbrev told : Option ℕ → Task → Node
-told o x = record { parent = x.parent; state = state_by x.status o }
 
 runs_by : (n : Option Node) (x : Option Task) (o : Option ℕ) → n ≡ option_map (told o) x → is_state_running (option_map (λ m. m.state) n) ≡ is_running x
 runs_by None None o e = refl

@@ -1,5 +1,5 @@
 -- The tree of a shared value and the machine's tasks, whether or not the run has ended.
-use Rattle.std.proofs.Common.{◌≡◌, ℕ, Bool, true, false, Option, Some, None, List, [], ◌∷◌, option_map, slice_get, inl, inr, refl, ap, sym, subst, ◌∙◌}
+use Rattle.std.proofs.Common.{◌≡◌, ℕ, Bool, true, false, Option, Some, None, List, [], ◌∷◌, option_map, slice_get, refl, ap, sym, subst, ◌∙◌}
 use Rattle.std.proofs.lemmas.Bool.{false≢true}
 use Rattle.std.proofs.lemmas.Option.{same_Some}
 use Rattle.hh_model.specs.declared.data.State.{State as Machine}
@@ -21,6 +21,7 @@ use Rattle.core_relation.specs.Whole.{handed, state_by}
 use Rattle.shared_value.specs.SharedValue.{SharedValue, accounts}
 use Rattle.shared_value.specs.Stands.{IsSharedValue}
 use Rattle.shared_value.proofs.BeforeTheEnd.{goes_by}
+use Rattle.shared_value.proofs.TaskTaken.{told}
 
 -- WHO HAS JOINED
 has_joined : State → Bool
@@ -49,9 +50,6 @@ live_state Out off = refl
 live_state Waits off = refl
 live_state HasEnded off = refl
 live_state HasJoined off = absurd (off refl)
-
-abbrev told : Option ℕ → Task → Node
-told o x = record { parent = x.parent; state = state_by x.status o }
 
 -- a node and the task that it stands for
 pub record IsNodeOf (worker : Option ℕ) (n : Node) (x : Task) : Type 0 where

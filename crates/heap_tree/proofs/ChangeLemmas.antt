@@ -9,7 +9,7 @@ use Rattle.heap_tree.specs.Node.{Node, parent_in, parent_of, set_at, state_of, w
 use Rattle.heap_tree.specs.Pairs.{ArePaired, sibling}
 use Rattle.heap_tree.specs.Laws.{ForkMakes, ForksMake, PairsStay, StatesChange}
 use Rattle.listed.proofs.Members.{got_front, view_step}
-use Rattle.heap_tree.proofs.ListLemmas.{got_last}
+use Rattle.listed.proofs.Places.{got_last}
 
 -- ---- a change of state
 

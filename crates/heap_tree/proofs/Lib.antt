@@ -1,4 +1,3 @@
-pub mod ListLemmas
 pub mod WalkLemmas
 pub mod RankLemmas
 pub mod CostLemmas

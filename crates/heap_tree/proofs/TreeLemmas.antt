@@ -12,7 +12,8 @@ use Rattle.heap_tree.specs.Walk.{ancestor, IsUpFrom, depth_in, path_in}
 use Rattle.heap_tree.specs.Node.{Node, parent_in, parent_of, state_of, depth_of, is_on_path, set_at, with_state, child_of, forked, IsTree}
 use Rattle.heap_tree.specs.Links.{node_of, parent_kept, depth_kept, jump_kept, parent_at, depth_at, jump_at, next_jump, AreLinked, IsLinked}
 use Rattle.listed.proofs.Members.{got_front, got_past, view_step}
-use Rattle.heap_tree.proofs.ListLemmas.{got_last}
+use Rattle.listed.proofs.Options.{same_truth}
+use Rattle.listed.proofs.Places.{got_last}
 use Rattle.heap_tree.proofs.WalkLemmas.{depth_in_is, walk_depth, walk_from_path, path_from_walk}
 use Rattle.heap_tree.proofs.GrowLemmas.{linked_one_more}
 
@@ -46,11 +47,6 @@ up_seen es t d r linked made up = rw (depth_seen es t linked made, parents_seen 
 
 -- ---- the test of a path
 
-same_bool : (x y : Bool) → (x ≡ true → y ≡ true) → (y ≡ true → x ≡ true) → x ≡ y
-same_bool true y to from = sym (to refl)
-same_bool false true to from = absurd (false≢true (from refl))
-same_bool false false to from = refl
-
 module _ (es : List Entry) (linked : IsLinked es) where
   path_walks : (a t : ℕ) → IsUpFrom (parent_at es) t a → path_in (parent_at es) a t ≡ true
   path_walks = path_from_walk (length es) (parent_at es) (depth_at es) (jump_at es) linked.links
@@ -63,7 +59,7 @@ module _ (es : List Entry) (linked : IsLinked es) where
 
   kept_here : (t a r : ℕ) → ancestor (parent_at es) (depth_at es t - depth_at es a) t ≡ Some r → (r == a) ≡ path_in (parent_at es) a t
   kept_here t a r up =
-      same_bool (r == a) (path_in (parent_at es) a t)
+      same_truth (r == a) (path_in (parent_at es) a t)
       (λ same. path_walks a t (depth_at es t - depth_at es a, up ∙ ap Some (eqb-true r a same)))
       (λ on.
       let w = walks_path a t on in
@@ -73,7 +69,7 @@ module _ (es : List Entry) (linked : IsLinked es) where
 
   kept_deeper : (t a : ℕ) → depth_at es t < depth_at es a → path_in (parent_at es) a t ≡ false
   kept_deeper t a lt =
-      same_bool (path_in (parent_at es) a t) false
+      same_truth (path_in (parent_at es) a t) false
       (λ on.
       let w = walks_path a t on in
       let d : depth_at es t ≡ depth_at es a + w.0 = (walks_deep w.0 t a w.1).0 in

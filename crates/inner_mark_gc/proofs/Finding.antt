@@ -12,6 +12,7 @@ use Rattle.object_layout.specs.declared.word.Addr.{Addr}
 use Rattle.object_layout.specs.ChunkValue.{ChunkValue}
 use Rattle.object_layout.specs.Graph.{IsHeld, IsSound}
 use Rattle.listed.proofs.Members.{In, in_append_left, contains_from_in, in_from_contains}
+use Rattle.listed.proofs.Places.{all_from, got_in_take, in_take_more}
 use Rattle.inner_mark_gc.specs.MarkingValue.{Finds, HasRoom, MarkingValue, noted}
 use Rattle.inner_mark_gc.specs.Snapshot.{object_count}
 use Rattle.inner_mark_gc.proofs.Addresses.{noted_is}
@@ -95,16 +96,6 @@ finds_both P Q R old mid new f g split left right = record {
 
 -- ---- the first so many of a list
 
-pub in_take_more : {X : Type 0} (xs : List X) (k : ℕ) (x y : X) → slice_get xs k ≡ Some x → In (take (k + 1) xs) y → In (take k xs) y ⊎ (x ≡ y)
-in_take_more [] k x y e i = absurd cc
-in_take_more (z ∷ zs) zero x y e (inl f) = let g : z ≡ x = cc in inr (sym g ∙ f)
-in_take_more (z ∷ zs) zero x y e (inr j) = absurd j
-in_take_more (z ∷ zs) (suc k) x y e i = let n : suc k + 1 ≡ suc (k + 1) = omega arith in go (in_take_more zs k x y e) (subst (λ (m : ℕ). In (take m (z ∷ zs)) y) n i)
-  where
-    go : (In (take (k + 1) zs) y → In (take k zs) y ⊎ (x ≡ y)) → In (z ∷ take (k + 1) zs) y → In (z ∷ take k zs) y ⊎ (x ≡ y)
-    go rest (inl f) = inl (inl f)
-    go rest (inr j) = elim (rest j) [ inl h ↦ inl (inr h) | inr f ↦ inr f ]
-
 pub take_more_in : {X : Type 0} (xs : List X) (k : ℕ) (y : X) → In (take k xs) y → In (take (k + 1) xs) y
 take_more_in [] zero y i = absurd i
 take_more_in [] (suc k) y i = absurd i
@@ -114,11 +105,6 @@ take_more_in (z ∷ zs) (suc k) y i = let n : suc k + 1 ≡ suc (k + 1) = omega 
     go : (In (take k zs) y → In (take (k + 1) zs) y) → In (z ∷ take k zs) y → In (z ∷ take (k + 1) zs) y
     go rest (inl f) = inl f
     go rest (inr j) = inr (rest j)
-
-pub got_in_take : {X : Type 0} (xs : List X) (k : ℕ) (x : X) → slice_get xs k ≡ Some x → In (take (k + 1) xs) x
-got_in_take [] k x e = absurd cc
-got_in_take (z ∷ zs) zero x e = inl cc
-got_in_take (z ∷ zs) (suc k) x e = let n : suc k + 1 ≡ suc (k + 1) = omega arith in rw n (inr (got_in_take zs k x e))
 
 -- one element more of a list whose elements are found
 pub finds_more : {X : Type 0} (H : Addr → Type 0) (of : Addr → X) (xs : List X) (k : ℕ) (x : X) (old mid new : MarkingValue) → slice_get xs k ≡ Some x
@@ -194,23 +180,10 @@ finds_counted P Q old mid old2 new to back f e n m k = record {
   followed = k;
 }
 
-pub read_any : {X : Type 0} (xs : List X) (k : ℕ) (d e : X) → k < length xs → get_or xs k d ≡ get_or xs k e
-read_any [] k d e l = absurd (omega arith)
-read_any (x ∷ xs) zero d e l = refl
-read_any (x ∷ xs) (suc k) d e l = read_any xs k d e (omega arith)
-
 pub rest_is : (xs : List Addr) (n m : ℕ) → n ≡ m → take (length xs - n) (drop n xs) ≡ drop m xs
 rest_is xs n m e =
     let l : length (drop n xs) ≡ length xs - n = length-drop n xs in
     take_all (length xs - n) (drop n xs) (omega arith) ∙ ap (λ (k : ℕ). drop k xs) e
-
-in_read : {X : Type 0} (ys : List X) (k : ℕ) (d : X) → k < length ys → In ys (get_or ys k d)
-in_read [] k d l = absurd (omega arith)
-in_read (y ∷ ys) zero d l = inl refl
-in_read (y ∷ ys) (suc k) d l = inr (in_read ys k d (omega arith))
-
-pub all_from : {X : Type 0} (P : X → Type 0) (xs : List X) → ((x : X) → In xs x → P x) → All P xs
-all_from P xs h = λ k d l. h (get_or xs k d) (in_read xs k d l)
 
 pub all_more : (P : Addr → Type 0) (xs : List Addr) (k : ℕ) (d : Addr) → k < length xs → All P (take k xs) → P (get_or xs k d) → All P (take (k + 1) xs)
 all_more P xs k d l all p = all_from P (take (k + 1) xs) (λ x i. elim (in_take_more xs k (get_or xs k d) x (slice_get-get_or xs k d l) i) [

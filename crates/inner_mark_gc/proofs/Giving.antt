@@ -8,19 +8,11 @@ use Rattle.object_layout.specs.ChunkValue.{ChunkValue}
 use Rattle.object_layout.specs.Chunks.{place_in, place_of}
 use Rattle.alloc_path.specs.LeafHeapValue.{AreApart, IsFresh}
 use Rattle.alloc_path.specs.Units.{counted32, unit_count}
-use Rattle.alloc_path.proofs.HeapLemmas.{fresh_cons, fresh_head, fresh_tail}
+use Rattle.alloc_path.proofs.HeapLemmas.{fresh_behind, fresh_cons, fresh_front, fresh_head, fresh_tail}
 use Rattle.chunk_pool.specs.PoolValue.{PoolValue, Gives, held_at, units_held}
 use Rattle.inner_mark_gc.specs.Swept.{AreGiven, units_kept}
 
 -- ---- fresh numbers
-
-pub fresh_left : (ks ls : List ChunkValue) (n : ℕ) → IsFresh (ks ++ ls) n → IsFresh ks n
-fresh_left [] ls n f = refl
-fresh_left (k ∷ ks) ls n f = fresh_cons k ks n (fresh_head k (ks ++ ls) n f) (fresh_left ks ls n (fresh_tail k (ks ++ ls) n f))
-
-pub fresh_right : (ks ls : List ChunkValue) (n : ℕ) → IsFresh (ks ++ ls) n → IsFresh ls n
-fresh_right [] ls n f = f
-fresh_right (k ∷ ks) ls n f = fresh_right ks ls n (fresh_tail k (ks ++ ls) n f)
 
 fresh_step : (k : ChunkValue) (ks : List ChunkValue) (n : ℕ) (b : Bool) → IsFresh (k ∷ ks) n → (ls : List ChunkValue) → IsFresh ls n → IsFresh (cond b (k ∷ ls) ls) n
 fresh_step k ks n true f ls g = fresh_cons k ls n (fresh_head k ks n f) g
@@ -43,7 +35,7 @@ apart_filtered p (k ∷ ks) a = apart_step k (filter p ks) (p k) (fresh_filtered
 pub fresh_before : (ks : List ChunkValue) (k : ChunkValue) (ls : List ChunkValue) → AreApart (ks ++ k ∷ ls) → IsFresh ks k.number
 fresh_before [] k ls a = refl
 fresh_before (x ∷ ks) k ls a =
-    fresh_cons x ks k.number (λ e. fresh_head k ls x.number (fresh_right ks (k ∷ ls) x.number a.0) (sym e)) (fresh_before ks k ls a.1)
+    fresh_cons x ks k.number (λ e. fresh_head k ls x.number (fresh_behind ks (k ∷ ls) x.number a.0) (sym e)) (fresh_before ks k ls a.1)
 
 fresh_both : (ks ls : List ChunkValue) (n : ℕ) → IsFresh ks n → IsFresh ls n → IsFresh (ks ++ ls) n
 fresh_both [] ls n f g = g
@@ -123,7 +115,7 @@ units_same p q ks (l ∷ ls) g a =
 pub given_both : (p q r : PoolValue) (ks ls : List ChunkValue) → AreGiven p q ks → AreGiven q r ls → All (λ l. IsFresh ks l.number) ls → AreGiven p r (ks ++ ls)
 given_both p q r ks ls g h a = record {
   free = All-append (λ k. held_at r k.number ≡ None) ks ls (still_free q r ks ls g.free h) h.free;
-  others = λ n f. h.others n (fresh_right ks ls n f) ∙ g.others n (fresh_left ks ls n f);
+  others = λ n f. h.others n (fresh_behind ks ls n f) ∙ g.others n (fresh_front ks ls n f);
   limit = h.limit ∙ g.limit;
   units =
       let one = g.units in

@@ -1,7 +1,7 @@
 -- The chunks that a sweep leaves: what they are, and what is read in them.
 use Rattle.std.proofs.Common.{◌≡◌, ℕ, zero, suc, ◌+◌, ◌*◌, ◌<◌, ◌≤◌, Bool, true, false, cond, one-add, List, [], ◌∷◌, length, map, filter, refl, sym, ap, ◌∙◌, subst, arith, ◌⊎◌, inl, inr, eqb, Option, Some, None, All}
 use Rattle.std.specs.Prelude.{◌||◌, nat_lt}
-use Rattle.std.proofs.lemmas.Bool.{cases_Bool, eq-eqb, eqb-true, false≢true, ne_eqb}
+use Rattle.std.proofs.lemmas.Bool.{cases_Bool, eq-eqb, eqb-true, ne_eqb, or_parts}
 use Rattle.std.proofs.lemmas.List.{length-map}
 use Rattle.std.proofs.lemmas.List.Elements.{All-cons, All-filter, All-head, All-map, All-tail, All-weaker}
 use Rattle.object_layout.specs.declared.word.Addr.{Addr}
@@ -12,6 +12,7 @@ use Rattle.object_layout.specs.Chunks.{cell_of, chunk_at, object_of, place_of}
 use Rattle.object_layout.specs.Graph.{IsHeld}
 use Rattle.object_layout.proofs.ChunkLaws as laws
 use Rattle.listed.proofs.Members.{In, contains_from_in, in_from_contains}
+use Rattle.listed.proofs.Places.{in_take}
 use Rattle.alloc_path.specs.LeafHeapValue.{AreApart, IsCurrent, IsFresh, IsReserved, IsSettled, IsTidy, units}
 use Rattle.alloc_path.proofs.HeapLemmas.{fresh_at, fresh_cons, fresh_head, fresh_tail, none_there}
 use Rattle.inner_mark_gc.specs.Laws.{AllMarkedIsDone, EachLeftHolds, SweptAreRead, SweptIsSnapshot}
@@ -20,7 +21,7 @@ use Rattle.inner_mark_gc.specs.Snapshot.{IsInSnapshot}
 use Rattle.inner_mark_gc.specs.Swept.{has_number, has_object, number_at, place_at, stays, swept, swept_cell, swept_cells, swept_chunk}
 use Rattle.inner_mark_gc.proofs.Addresses.{has_in, in_has}
 use Rattle.inner_mark_gc.proofs.Giving.{apart_filtered, fresh_filtered}
-use Rattle.inner_mark_gc.proofs.Marked.{all_found_marked, in_take}
+use Rattle.inner_mark_gc.proofs.Marked.{all_found_marked}
 use Rattle.inner_mark_gc.proofs.Sweeping.{none_read, read_swept, size_swept}
 
 -- ---- numbers
@@ -157,10 +158,6 @@ as_swept : (b : Bool) (c : Cell) → as_object (swept_cell b c) ≡ cond b (as_o
 as_swept true c = refl
 as_swept false c = refl
 
-second_false : (b c : Bool) → (b || c) ≡ false → c ≡ false
-second_false true c e = absurd (false≢true (sym e))
-second_false false c e = e
-
 nowhere : (ks : List ChunkValue) (a : Addr) → IsFresh ks a.chunk → cell_of ks a ≡ no_cell
 nowhere ks a f = laws.cell_of-none ks a (none_there ks a.chunk f)
 
@@ -192,7 +189,7 @@ module _ (kept : List Addr) (reserved : Option ℕ) (a : Addr) where
           let f : IsFresh ks a.chunk = subst (IsFresh ks) q p.0 in
           let out : cell_of (map (swept_chunk kept) (filter (stays kept reserved) ks)) a ≡ no_cell = nowhere (map (swept_chunk kept) (filter (stays kept reserved) ks)) a (fresh_in (swept_chunk kept) (λ k. refl) (stays kept reserved) ks a.chunk f) in
           ap as_object out
-          ∙ (sym (none_read (swept_cells kept k.number 0 k.cells) a.offset (second_false (has_number reserved k) (has_object (swept_cells kept k.number 0 k.cells)) (sym s)))
+          ∙ (sym (none_read (swept_cells kept k.number 0 k.cells) a.offset (or_parts (has_number reserved k) (has_object (swept_cells kept k.number 0 k.cells)) (sym s)).1)
           ∙ in_chunk k q)
 
       other : eqb k.number a.chunk ≡ false → as_object (cell_of (map (swept_chunk kept) (filter (stays kept reserved) ks)) a) ≡ cond (has_address kept a) (as_object (cell_of ks a)) no_cell → (b : Bool) →

@@ -7,11 +7,12 @@ use Rattle.object_layout.specs.ChunkValue.{ChunkValue}
 use Rattle.object_layout.specs.Graph.{IsHeld, Leads}
 use Rattle.object_layout.proofs.Distinct.{once_from}
 use Rattle.listed.proofs.Members.{In, in_append_left, in_append_right, in_append_cases, contains_from_in, in_from_contains}
+use Rattle.listed.proofs.Places.{got_in_take, in_take, in_take_more}
 use Rattle.walk_laws.proofs.Reached.{reached_start, reached_within}
 use Rattle.inner_mark_gc.specs.MarkingValue.{Finds, IsAllMarked, IsMarking, IsOf, MarkingValue, marked_of}
 use Rattle.inner_mark_gc.specs.Snapshot.{Fork, IsInSnapshot, IsSince, Starts}
 use Rattle.inner_mark_gc.proofs.Addresses.{once_within}
-use Rattle.inner_mark_gc.proofs.Finding.{got_in_take, held_in, in_take_more, still_found}
+use Rattle.inner_mark_gc.proofs.Finding.{held_in, still_found}
 
 -- ---- lists in two parts
 
@@ -25,12 +26,6 @@ pub in_drop : {X : Type 0} (n : ℕ) (xs : List X) (x : X) → In (drop n xs) x 
 in_drop zero xs x i = i
 in_drop (suc n) [] x i = absurd i
 in_drop (suc n) (y ∷ ys) x i = inr (in_drop n ys x i)
-
-pub in_take : {X : Type 0} (n : ℕ) (xs : List X) (x : X) → In (take n xs) x → In xs x
-in_take zero xs x i = absurd i
-in_take (suc n) [] x i = absurd i
-in_take (suc n) (y ∷ ys) x (inl e) = inl e
-in_take (suc n) (y ∷ ys) x (inr i) = inr (in_take n ys x i)
 
 pub take_grown : (xs ys rest : List Addr) (n : ℕ) → ys ≡ xs ++ rest → n ≤ length xs → take n ys ≡ take n xs
 take_grown xs ys rest n e l = ap (λ (zs : List Addr). take n zs) e ∙ take-append-le n xs rest l

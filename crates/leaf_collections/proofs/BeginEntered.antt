@@ -2,6 +2,7 @@
 use Rattle.std.proofs.Common.{◌≡◌, ℕ, ◌+◌, ◌^◌, ◌<◌, ◌≤◌, ◌++◌, arith, Some, None, List, [], ◌∷◌, length, map, All, ap, sym, subst, ◌∙◌}
 use Rattle.std.specs.Prelude.{vec_len}
 use Rattle.listed.specs.RoomyValue.{RoomyValue}
+use Rattle.listed.proofs.Places.{all_from}
 use Rattle.run_trace.specs.declared.entry.Kind.TheVariants.{Begin}
 use Rattle.run_trace.specs.Entry.{EntryValue}
 use Rattle.object_layout.specs.declared.word.Addr.{Addr}
@@ -15,6 +16,7 @@ use Rattle.leaf_copy_gc.specs.declared.lists.ToChunks.{ToChunks}
 use Rattle.leaf_copy_gc.specs.Laid.{AreNew}
 use Rattle.leaf_copy_gc.specs.Lists.{AreReserved}
 use Rattle.leaf_copy_gc.specs.Survivors.{as_reference}
+use Rattle.leaf_copy_gc.proofs.FoundLemmas.{born_live}
 use Rattle.core_relation.specs.Memory.{In}
 use Rattle.core_relation.proofs.objects.Members.{map_in}
 use Rattle.task_machine.specs.declared.part.Private.{Private}
@@ -33,7 +35,7 @@ use Rattle.leaf_collections.proofs.CollectionPutOff.{without_fresh}
 use Rattle.leaf_collections.proofs.WhyNoCollection.{begin_idle, begin_within}
 use Rattle.leaf_collections.proofs.CollectionBegins.{begin_others, begin_world}
 use Rattle.leaf_collections.proofs.PartCollecting.{begin_part, new_fresh}
-use Rattle.leaf_collections.proofs.NewChunks.{born_is, each_at, new_of}
+use Rattle.leaf_collections.proofs.NewChunks.{new_of}
 
 module _ (w : SharedValue) (k : ℕ) (p : Private) (I : IsSharedValue w) (F : Fits w k p) (none : p.fresh ≡ 0) (free : refused w (record { worker = k; kind = Begin p.task }) ≡ None) where
   F0 : Fits w k (record p { fresh = 0 })
@@ -103,15 +105,15 @@ module _ (w : SharedValue) (k : ℕ) (p : Private) (I : IsSharedValue w) (F : Fi
     sound_root a i = λ lt.
         let q = root_here w k p I F0 goes a (subst (λ rs. In rs a) er i) in
         let y = seen_object p.heap.chunks q.0 F.form.shaped.apart q.1 in
-        (subst (λ z. IsBorn (cell_of p.heap.chunks z).mark) q.2 (born_is (cell_of p.heap.chunks q.0.at).mark q.0.birth y.mark), subst (λ (z : Addr). z.offset < 1024) q.2 (F.form.near q.0 q.1))
+        (subst (λ z. IsBorn (cell_of p.heap.chunks z).mark) q.2 (born_live (cell_of p.heap.chunks q.0.at).mark q.0.birth y.mark), subst (λ (z : Addr). z.offset < 1024) q.2 (F.form.near q.0 q.1))
 
     pub begins_with : (new : Private) (to : ToChunks) → to.chunks.items ≡ news → new ≡ record p { heap = with_places p.heap new.heap.slots new.heap.spare; begun = Some begun_so } → AreReserved new.heap (vec_len to.chunks) to → HasBegun p new roots to
     begins_with new to items part reserved = record {
       part = part ∙ ap (λ ns. record p { heap = with_places p.heap new.heap.slots new.heap.spare; begun = Some (record { roots = roots; news = ns }) }) (en ∙ ap (map number_of) (sym items));
-      sound = each_at (IsSound p.heap.chunks) (map as_reference roots) (λ r i. let x = map_in as_reference roots r i in subst (IsSound p.heap.chunks) x.2 (sound_root x.0 x.1));
+      sound = all_from (IsSound p.heap.chunks) (map as_reference roots) (λ r i. let x = map_in as_reference roots r i in subst (IsSound p.heap.chunks) x.2 (sound_root x.0 x.1));
       apart = subst AreApart (sym (items ∙ news_are)) T.numbers.numbered.apart;
       fresh = subst (All (λ (z : ChunkValue). IsFresh p.heap.chunks z.number)) (sym (items ∙ news_are))
-          (each_at (λ (z : ChunkValue). IsFresh p.heap.chunks z.number) T.numbers.chunks (new_fresh w k p I F0 free pool news 0 0 T j));
+          (all_from (λ (z : ChunkValue). IsFresh p.heap.chunks z.number) T.numbers.chunks (new_fresh w k p I F0 free pool news 0 0 T j));
       empty = subst AreNew (sym (items ∙ news_are)) (new_of T.numbers.chunks T.numbers.blank);
       count = ap length (items ∙ news_are) ∙ T.numbers.count;
       reserved = reserved;

@@ -3,6 +3,7 @@ use Rattle.std.proofs.Common.{◌≡◌, ◌⊎◌, ℕ, zero, suc, ◌+◌, ◌
 use Rattle.std.proofs.lemmas.Bool.{both_ways, cases_eq, cases_lt, cond-false, cond-true, false≢true, leb-false}
 use Rattle.std.proofs.lemmas.Option.{same_Some}
 use Rattle.listed.specs.RoomyValue.{RoomyValue}
+use Rattle.listed.proofs.Places.{in_map}
 use Rattle.hh_model.specs.declared.data.State.{State}
 use Rattle.hh_model.specs.Effect.{row_of}
 use Rattle.hh_model.specs.Step.{asked, is_joined, is_waiting, waits}
@@ -37,7 +38,6 @@ use Rattle.core_relation.specs.Since.{NotesStay}
 use Rattle.core_relation.specs.Whole.{BegunBy, StandsFor}
 use Rattle.core_relation.specs.Fits.{with_home}
 use Rattle.core_relation.proofs.changes.Alone.{home_kept}
-use Rattle.core_relation.proofs.objects.Members.{in_map}
 use Rattle.core_relation.proofs.changes.With.{at_home, off_home}
 use Rattle.task_machine.specs.declared.part.Private.{Private}
 use Rattle.task_machine.specs.Accounts.{AreReserved, IsCounted}

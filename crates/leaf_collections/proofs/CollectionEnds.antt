@@ -4,6 +4,7 @@ use Rattle.std.proofs.lemmas.Bool.{cases_eq, false≢true}
 use Rattle.std.proofs.lemmas.Option.{same_Some}
 use Rattle.std.proofs.lemmas.List.Elements.{All-head, All-tail}
 use Rattle.listed.specs.RoomyValue.{RoomyValue}
+use Rattle.listed.proofs.Places.{each_from, in_map, read_in}
 use Rattle.hh_model.specs.declared.data.Object.{Object}
 use Rattle.hh_model.specs.declared.data.Status.{Status}
 use Rattle.hh_model.specs.declared.data.Status.TheVariants.{Running, Waiting, Ended, Joined}
@@ -48,7 +49,7 @@ use Rattle.core_relation.specs.Fits.{Part, part_for}
 use Rattle.core_relation.specs.Whole.{StandsFor, StandsForAll, by_end}
 use Rattle.core_relation.specs.Worker.{Fits as FitsValue}
 use Rattle.core_relation.proofs.whole.EntriesWhole.{ends_stand_for}
-use Rattle.core_relation.proofs.objects.Members.{in_map, map_in}
+use Rattle.core_relation.proofs.objects.Members.{map_in}
 use Rattle.core_relation.proofs.parts.OwnFits.{ends_fit_then}
 use Rattle.core_relation.proofs.parts.WorkersPast.{ends_leave}
 use Rattle.core_relation.proofs.parts.Quiet.{aside_is}
@@ -68,7 +69,7 @@ use Rattle.shared_value.proofs.EntryMade.{accounts_are, entered, entered_world, 
 use Rattle.shared_value.proofs.JournalGoesOn.{legal_then}
 use Rattle.shared_value.proofs.FreeChunks.{refs_long}
 use Rattle.shared_value.proofs.HeldTasks.{fits_held, stands_for_held}
-use Rattle.shared_value.proofs.FieldsNoted.{all_at, all_rec, are_once, fresh_by, noted_sources, owner_none}
+use Rattle.shared_value.proofs.FieldsNoted.{are_once, fresh_by, noted_sources, owner_none}
 use Rattle.shared_value.proofs.FieldsLed.{AreFormed, Led, SourceThere, home_chunks, lead_all}
 use Rattle.shared_value.proofs.UnitsMeasured.{given_keeps, measured_given, measured_kept, part_kept}
 use Rattle.shared_value.proofs.BeforeTheEnd.{stands_now}
@@ -139,7 +140,7 @@ module _ (w : SharedValue) (k : ℕ) (p : Private) (moved : Moved) (I : IsShared
           }
 
   pub are_fields : AreFields refs_in (heaps_of w) ss
-  are_fields = all_rec (λ s. s.field < length (refs_in (heaps_of w) s.object)) ss (λ s i. (at s i).field)
+  are_fields = each_from (λ s. s.field < length (refs_in (heaps_of w) s.object)) ss (λ s i. (at s i).field)
 
   formed : AreFormed (heaps_of w) Good
   formed = record {
@@ -150,7 +151,7 @@ module _ (w : SharedValue) (k : ℕ) (p : Private) (moved : Moved) (I : IsShared
 
   -- the chunks given back are in use
   pub back_in_use : (c : ChunkValue) → In moved.back.items c → is_some (held_at w.pool c.number) ≡ true
-  back_in_use c i = by (held_at w.pool c.number) (all_at (λ (c : ChunkValue). owner_of w.pool c.number ≡ Some p.task) moved.back.items c i F.back.owned)
+  back_in_use c i = by (held_at w.pool c.number) (read_in (λ (c : ChunkValue). owner_of w.pool c.number ≡ Some p.task) moved.back.items c i F.back.owned)
     where
       by : (o : Option Held) → option_map (λ (h : Held). h.owner) o ≡ Some p.task → is_some o ≡ true
       by None q = absurd cc
@@ -200,7 +201,7 @@ module _ (w : SharedValue) (k : ℕ) (p : Private) (moved : Moved) (I : IsShared
 
     -- WHO OWNS CHUNKS
     back_mine : (c : ChunkValue) → In moved.back.items c → owner_of w.pool c.number ≡ Some t
-    back_mine c i = all_at (λ (c : ChunkValue). owner_of w.pool c.number ≡ Some p.task) moved.back.items c i F.back.owned
+    back_mine c i = read_in (λ (c : ChunkValue). owner_of w.pool c.number ≡ Some p.task) moved.back.items c i F.back.owned
 
     stays : (n : ℕ) → IsFresh moved.back.items n → owner_of pool n ≡ owner_of w.pool n
     stays n fr = ap (option_map (λ (h : Held). h.owner)) (G.others n fr)
@@ -211,7 +212,7 @@ module _ (w : SharedValue) (k : ℕ) (p : Private) (moved : Moved) (I : IsShared
     mine : (c : Chunk) → In (chunks_of p.heap.chunks) c → owner_of pool c.number ≡ Some t
     mine c i =
         let x = map_in chunk_of p.heap.chunks c i in
-        stays c.number (fresh_by moved.back.items c.number (λ b j q. fresh_off p.heap.chunks x.0 b.number (all_at (λ (b : ChunkValue). IsFresh p.heap.chunks b.number) moved.back.items b j F.back.gone) x.1 (ap (λ (z : Chunk). z.number) x.2 ∙ sym q)))
+        stays c.number (fresh_by moved.back.items c.number (λ b j q. fresh_off p.heap.chunks x.0 b.number (read_in (λ (b : ChunkValue). IsFresh p.heap.chunks b.number) moved.back.items b j F.back.gone) x.1 (ap (λ (z : Chunk). z.number) x.2 ∙ sym q)))
         ∙ C.copy.owned c i
 
     owned : (n u : ℕ) → owner_of pool n ≡ Some u → owner_of w.pool n ≡ Some u
@@ -294,7 +295,7 @@ module _ (w : SharedValue) (k : ℕ) (p : Private) (moved : Moved) (I : IsShared
 
     -- THE UNITS
     own_apart : (c : ChunkValue) → In p.heap.chunks c → IsFresh moved.back.items c.number
-    own_apart c i = fresh_by moved.back.items c.number (λ b j q. fresh_off p.heap.chunks c b.number (all_at (λ (b : ChunkValue). IsFresh p.heap.chunks b.number) moved.back.items b j F.back.gone) i (sym q))
+    own_apart c i = fresh_by moved.back.items c.number (λ b j q. fresh_off p.heap.chunks c b.number (read_in (λ (b : ChunkValue). IsFresh p.heap.chunks b.number) moved.back.items b j F.back.gone) i (sym q))
 
     units_stay : (u : ℕ) → (u ≡ t → ⊥) → KeepsUnits w.pool pool u
     units_stay u ne = given_keeps w.pool pool moved.back.items t u G F.back.owned ne

@@ -11,10 +11,11 @@ use Rattle.core_relation.specs.Memory.{Chunk, In}
 use Rattle.core_relation.proofs.objects.Members.{map_in}
 use Rattle.task_machine.specs.Accounts.{IsLastLarge, IsLastSmall}
 use Rattle.task_machine.specs.Fits.{IsShaped}
+use Rattle.task_machine.proofs.Added.{chunk_at-front, chunk_at-last}
 use Rattle.shared_value.specs.Objects.{AreNear, chunk_of, chunks_of}
 use Rattle.shared_value.specs.Stands.{HeapForm}
 use Rattle.shared_value.proofs.CellsRead.{fresh_off}
-use Rattle.leaf_collections.proofs.MoreChunksRead.{all_more, chunk_at-front, chunk_at-last, chunk_with, in_more, none_in, objects_more}
+use Rattle.leaf_collections.proofs.MoreChunksRead.{all_more, chunk_with, in_more, none_in, objects_more}
 
 abbrev units_of : List Chunk → List ℕ
 units_of cs = map (λ (c : Chunk). c.units) cs
@@ -44,7 +45,7 @@ reserved_more (x ∷ xs) k = by ((chunk_of x).large && has_none (chunk_of x).obj
     by true e = ap (λ ns. (chunk_of x).units ∷ ns) e
     by false e = e
 
-small_units : (k : ChunkValue) → (chunk_of k).large ≡ false → (chunk_of k).units ≡ 1
+pub small_units : (k : ChunkValue) → (chunk_of k).large ≡ false → (chunk_of k).units ≡ 1
 small_units k e = by (k.size == 1024) refl e
   where
     by : (b : Bool) → (k.size == 1024) ≡ b → not b ≡ false → k.size / 1024 ≡ 1

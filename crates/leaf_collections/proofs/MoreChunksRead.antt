@@ -1,5 +1,5 @@
 -- A heap with an empty chunk more: the objects that are read, and its account.
-use Rattle.std.proofs.Common.{◌≡◌, ◌⊎◌, ℕ, zero, suc, ◌+◌, ◌-◌, ◌*◌, ◌<◌, ◌≤◌, ◌==◌, arith, Bool, true, false, cond, Option, Some, None, List, [], ◌∷◌, ◌++◌, length, length-append, map, All, inl, inr, ne_eqb, refl, ap, sym, subst, ◌∙◌}
+use Rattle.std.proofs.Common.{◌≡◌, ◌⊎◌, ℕ, zero, suc, ◌-◌, ◌*◌, ◌<◌, ◌≤◌, ◌==◌, arith, Bool, true, false, cond, Option, Some, None, List, [], ◌∷◌, ◌++◌, length, map, All, inl, inr, ne_eqb, refl, ap, sym, subst, ◌∙◌}
 use Rattle.std.proofs.lemmas.Bool.{cases_lt, cond-false, leb-false}
 use Rattle.hh_model.specs.declared.data.Name.{Name}
 use Rattle.run_ledger.specs.declared.data.Heap.{Heap as Account}
@@ -14,21 +14,10 @@ use Rattle.core_relation.specs.Memory.{Chunk, In, object_name, objects_in}
 use Rattle.core_relation.specs.Stands.{large_chunks}
 use Rattle.task_machine.specs.Accounts.{AreReserved, IsCounted, IsLastLarge, IsLastSmall, large_names, names_in, small_lists}
 use Rattle.task_machine.specs.Fits.{IsShaped}
+use Rattle.task_machine.proofs.Added.{chunk_at-front, chunk_at-last, longer}
 use Rattle.shared_value.specs.Objects.{chunk_of, chunks_of}
 
 -- ---- LISTS OF CHUNKS
-
-pub chunk_at-front : (ks : List ChunkValue) (k : ChunkValue) (i : ℕ) → i < length ks → chunk_at (ks ++ k ∷ []) i ≡ chunk_at ks i
-chunk_at-front [] k i lt = absurd (omega (arith, lt))
-chunk_at-front (x ∷ xs) k zero lt = refl
-chunk_at-front (x ∷ xs) k (suc i) lt = chunk_at-front xs k i (omega (arith, lt))
-
-pub chunk_at-last : (ks : List ChunkValue) (k : ChunkValue) → chunk_at (ks ++ k ∷ []) (length ks) ≡ k
-chunk_at-last [] k = refl
-chunk_at-last (x ∷ xs) k = chunk_at-last xs k
-
-longer : (ks : List ChunkValue) (k : ChunkValue) → length (ks ++ k ∷ []) ≡ length ks + 1
-longer ks k = length-append ks (k ∷ [])
 
 -- each chunk is one of before or the new one
 pub in_more : (ks : List ChunkValue) (k : ChunkValue) (c : Chunk) → In (chunks_of (ks ++ k ∷ [])) c → In (chunks_of ks) c ⊎ (chunk_of k ≡ c)

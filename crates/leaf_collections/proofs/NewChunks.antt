@@ -1,13 +1,11 @@
 -- Chunks that are new and apart, and who waits while one of them is taken.
-use Rattle.std.proofs.Common.{◌≡◌, ℕ, zero, suc, ◌==◌, arith, true, false, Option, Some, None, List, [], ◌∷◌, length, map, All, slice_get, inl, inr, refl, ap, sym, subst, ◌∙◌, ne_eqb}
+use Rattle.std.proofs.Common.{◌≡◌, ℕ, suc, ◌==◌, arith, true, false, Option, Some, None, List, [], ◌∷◌, map, All, slice_get, inl, inr, refl, sym, subst, ◌∙◌, ne_eqb}
 use Rattle.std.specs.List.{AllByRecursion, IsDistinct}
 use Rattle.std.proofs.lemmas.Bool.{false≢true}
 use Rattle.hh_model.specs.declared.data.Task.{Task}
 use Rattle.hh_model.specs.Step.{is_running}
 use Rattle.run_ledger.specs.Heaps.{heap_of}
 use Rattle.run_ledger.proofs.Holders.{tasks_are_held_once}
-use Rattle.object_layout.specs.declared.word.Birth.{Birth}
-use Rattle.object_layout.specs.Cell.{Born, IsBorn, Mark}
 use Rattle.object_layout.specs.ChunkValue.{ChunkValue}
 use Rattle.chunk_pool.specs.PoolValue.{IsBlank}
 use Rattle.alloc_path.specs.LeafHeapValue.{AreApart}
@@ -27,11 +25,6 @@ all_at P [] a x i = absurd i
 all_at P (y ∷ ys) a x (inl e) = subst P e (a 0 y (omega arith))
 all_at P (y ∷ ys) a x (inr i) = all_at P ys (λ j d lt. a (suc j) d (omega (arith, lt))) x i
 
-pub each_at : {A : Type 0} (P : A → Type 0) (xs : List A) → ((x : A) → In xs x → P x) → All P xs
-each_at P [] f i d lt = absurd (omega (arith, lt))
-each_at P (y ∷ ys) f zero d lt = f y (inl refl)
-each_at P (y ∷ ys) f (suc i) d lt = each_at P ys (λ x j. f x (inr j)) i d (omega (arith, lt))
-
 -- chunks that are apart have distinct numbers
 numbers_off : (n : ℕ) (xs : List ChunkValue) → ((c : ChunkValue) → In xs c → c.number ≡ n → ⊥) → AllByRecursion (λ y. (n == y) ≡ false) (map number_of xs)
 numbers_off n [] f = tt
@@ -42,16 +35,9 @@ unfolding IsDistinct
 distinct_numbers [] a = tt
 distinct_numbers (k ∷ ks) a = (numbers_off k.number ks (λ c i e. fresh_off ks c k.number a.0 i e), distinct_numbers ks a.1)
 
-pub length_map : {A B : Type 0} (f : A → B) (xs : List A) → length (map f xs) ≡ length xs
-length_map f [] = refl
-length_map f (x ∷ xs) = ap suc (length_map f xs)
-
 pub new_of : (xs : List ChunkValue) → All IsBlank xs → AreNew xs
 new_of [] a = tt
 new_of (x ∷ xs) a = let z : IsBlank x = a 0 x (omega arith) in ((z.cells, z.size), new_of xs (λ i d lt. a (suc i) d (omega (arith, lt))))
-
-pub born_is : (m : Mark) (b : Birth) → m ≡ Born b → IsBorn m
-born_is m b q = subst IsBorn (sym q) tt
 
 -- WHO WAITS RESTS
 idle_by : (o : Option Task) → is_running o ≡ false → is_running o ≡ true → ⊥

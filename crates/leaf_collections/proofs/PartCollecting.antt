@@ -2,6 +2,7 @@
 use Rattle.std.proofs.Common.{◌≡◌, ℕ, true, false, Option, Some, None, List, [], length, map, slice_get, is_some, ◌⊎◌, inl, inr, refl, ap, ap₂, sym, subst, ◌∙◌}
 use Rattle.std.proofs.lemmas.Bool.{cases_eq}
 use Rattle.listed.specs.RoomyValue.{RoomyValue}
+use Rattle.listed.proofs.Places.{in_map}
 use Rattle.hh_model.specs.declared.data.State.{State}
 use Rattle.hh_model.specs.Effect.{row_of}
 use Rattle.hh_model.specs.Step.{is_joined, is_waiting}
@@ -13,6 +14,7 @@ use Rattle.run_ledger.specs.Heaps.{heap_of, let_go, or_fresh, take_of, with_heap
 use Rattle.object_layout.specs.Chunks.{place_in, small_words}
 use Rattle.object_layout.specs.ChunkValue.{ChunkValue}
 use Rattle.object_layout.specs.Objects.{Located}
+use Rattle.object_layout.proofs.ObjectLemmas.{has_own}
 use Rattle.chunk_pool.specs.PoolValue.{PoolValue, TakesAll}
 use Rattle.alloc_path.specs.LeafHeapValue.{LeafHeapValue, IsFresh, with_places}
 use Rattle.ledger_step_laws.specs.Accounts.{Rests, rested}
@@ -29,7 +31,7 @@ use Rattle.core_relation.specs.Memory.{Chunk, Home, In, Memory, objects, objects
 use Rattle.core_relation.specs.Whole.{BegunStands, Begins}
 use Rattle.core_relation.proofs.changes.Alone.{home_kept}
 use Rattle.core_relation.proofs.notes.Begun.{begins}
-use Rattle.core_relation.proofs.objects.Members.{in_map, map_in}
+use Rattle.core_relation.proofs.objects.Members.{map_in}
 use Rattle.core_relation.proofs.changes.With.{at_home, off_home}
 use Rattle.task_machine.specs.declared.part.Begun.{Begun}
 use Rattle.task_machine.specs.declared.part.Private.{Private}
@@ -50,11 +52,11 @@ use Rattle.shared_value.proofs.NothingMoves.{quiet_own}
 use Rattle.shared_value.proofs.PartFitsMachine as link
 use Rattle.shared_value.proofs.UnitsMeasured.{all_taken_units, measured_kept}
 use Rattle.shared_value.proofs.StepsEntered.{fits_now, home_is, status}
-use Rattle.shared_value.proofs.RootsHeld.{has_it}
 use Rattle.shared_value.proofs.RootsByAccounts.{are_roots}
 use Rattle.leaf_collections.proofs.WhyNoCollection.{begin_idle}
 use Rattle.leaf_collections.proofs.CollectionBegins as first
-use Rattle.leaf_collections.proofs.NewChunks.{distinct_numbers, idle_rest, length_map}
+use Rattle.core_relation.proofs.objects.Mapped.{length_map}
+use Rattle.leaf_collections.proofs.NewChunks.{distinct_numbers, idle_rest}
 
 module _ (w : SharedValue) (k : ℕ) (p : Private) (I : IsSharedValue w) (F : Fits w k (record p { fresh = 0 })) (free : refused w (record { worker = k; kind = Begin p.task }) ≡ None) where
   abbrev P : Private
@@ -243,7 +245,7 @@ module _ (w : SharedValue) (k : ℕ) (p : Private) (I : IsSharedValue w) (F : Fi
       home = here' ∙ ap (λ (z : Home). record z { begun = Some b }) (sym here);
       heap = account_same ∙ ap₂ (λ n ns. record (heap_of (rested l t) t) { begun = Some n; survivors = ns }) take_rested (sym (within_rested l t t));
       once = distinct_numbers ks T.numbers.numbered.apart;
-      owned = λ n i. let x = new_is n i in ap v'.owner (sym x.2) ∙ first.owner_new w k p I F free pool news slots spare T j x.0.number (has_it ks x.0 x.0.number x.1 refl);
+      owned = λ n i. let x = new_is n i in ap v'.owner (sym x.2) ∙ first.owner_new w k p I F free pool news slots spare T j x.0.number (has_own ks x.0 x.0.number x.1 refl);
       apart = new_apart;
     }
 

@@ -1,5 +1,6 @@
 -- Why no chunk is given to a part.
 use Rattle.std.proofs.Common.{◌≡◌, ℕ, true, false, Option, Some, None, is_none, is_some, nat_le, refl, ap, ap₂, sym, ◌∙◌}
+use Rattle.listed.proofs.Options.{none_of}
 use Rattle.hh_model.specs.Step.{asked}
 use Rattle.run_trace.specs.declared.entry.Kind.TheVariants.{Chunk}
 use Rattle.run_trace.specs.Entry.{EntryValue}
@@ -67,15 +68,11 @@ module _ (w : SharedValue) (k : ℕ) (p : Private) (I : IsSharedValue w) (F : Fi
       ∙ ap (refused_if (is_some p.begun) Collecting) (by_asks (asked w.program l.machine t) refl ∙ ap (need_cause p) asks)
 
 -- where nothing comes before it
-nothing : (o : Option Refused) → is_some o ≡ false → o ≡ None
-nothing None h = refl
-nothing (Some c) h = absurd cc
-
 pub chunk_answer : (w : SharedValue) (k : ℕ) (p : Private) → IsSharedValue w → Fits w k (record p { fresh = 0 }) → is_some (first_cause w.end w.steps w.settings k false) ≡ false
     → refused w (record { worker = k; kind = Chunk p.task }) ≡ chunk_cause p (part_asks w.program p)
 chunk_answer w k p I F h =
     refused_is w I (record { worker = k; kind = Chunk p.task })
-    ∙ (ap (λ o. or_else o (kind_refusal w.program w.settings (accounts w) k (Chunk p.task))) (nothing (first_cause w.end w.steps w.settings k false) h) ∙ chunk_is w k p I F (on_is w I k false h))
+    ∙ (ap (λ o. or_else o (kind_refusal w.program w.settings (accounts w) k (Chunk p.task))) (none_of (first_cause w.end w.steps w.settings k false) h) ∙ chunk_is w k p I F (on_is w I k false h))
 
 -- or something does
 some_first : (a rest : Option Refused) → is_some a ≡ true → or_else a rest ≡ a

@@ -10,6 +10,7 @@ use Rattle.object_layout.specs.Chunks.{cell_of}
 use Rattle.object_layout.specs.Graph.{IsClosed, IsHeld, IsSound, Leads}
 use Rattle.object_layout.proofs.Distinct.{Once, once_push}
 use Rattle.listed.proofs.Members.{In, in_append_left, in_append_right, in_append_cases, contains_from_in, in_from_contains}
+use Rattle.listed.proofs.Places.{all_from, in_read, read_in}
 use Rattle.walk_laws.proofs.Reached.{reached_within}
 use Rattle.leaf_copy_gc.specs.declared.lists.Survivor.{Survivor}
 use Rattle.leaf_copy_gc.specs.Survivors.{olds, old_of, IsSurvivor, Starts}
@@ -18,7 +19,7 @@ use Rattle.leaf_copy_gc.specs.Search.{found_in, all_found, visited, visited_at, 
 use Rattle.leaf_copy_gc.proofs.Puts as puts
 use Rattle.leaf_copy_gc.proofs.FoundLemmas as marks
 use Rattle.leaf_copy_gc.proofs.FoundLemmas.{birth_live, live_birth, born_live}
-use Rattle.leaf_copy_gc.proofs.ListLemmas.{in_read, read_in, all_from, fold_append}
+use Rattle.leaf_copy_gc.proofs.ListLemmas.{fold_append}
 use Rattle.leaf_copy_gc.specs.Survivors.{held_by, as_reference, with_chunks}
 use Rattle.task_frames.specs.declared.frames.Frame.{Frame}
 

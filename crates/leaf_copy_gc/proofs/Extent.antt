@@ -1,22 +1,16 @@
 -- Chunks of the same numbers, sizes and objects are the same.
-use Rattle.std.proofs.Common.{◌≡◌, ℕ, zero, suc, ◌+◌, ◌-◌, List, [], ◌∷◌, ◌++◌, map, refl, sym, ap, ◌∙◌, subst, arith, inl, inr, ◌⊎◌, eqb, eqb-true, eq-eqb}
+use Rattle.std.proofs.Common.{◌≡◌, ℕ, suc, ◌+◌, List, [], ◌∷◌, ◌++◌, map, refl, sym, ap, ◌∙◌, subst, arith, inl, inr, ◌⊎◌, eqb, eqb-true, eq-eqb}
 use Rattle.std.specs.Prelude.{nat_le}
-use Rattle.std.proofs.lemmas.Bool.{cases_Bool, le-leb}
+use Rattle.std.proofs.lemmas.Bool.{cases_Bool}
 use Rattle.object_layout.specs.declared.word.Addr.{Addr}
 use Rattle.object_layout.specs.Cell.{Cell, no_cell, size_of}
 use Rattle.object_layout.specs.ChunkValue.{ChunkValue}
 use Rattle.object_layout.specs.Place.{cell_at}
 use Rattle.object_layout.specs.Chunks.{cell_of}
 use Rattle.listed.proofs.Members.{In}
+use Rattle.object_layout.proofs.ObjectLemmas.{cell_skip}
 use Rattle.leaf_copy_gc.specs.Collected.{AreAlike}
 use Rattle.leaf_copy_gc.proofs.Numbers.{numbers, Distinct, alike_numbers}
-
-pub past_cell : (c : Cell) (cs : List Cell) (p n : ℕ) → n ≡ size_of c + p → cell_at (c ∷ cs) n ≡ cell_at cs p
-past_cell c cs p zero e = absurd (omega arith)
-past_cell c cs p (suc n) e =
-    let t = le-leb (size_of c) (suc n) (omega arith) in
-    let f : suc n - size_of c ≡ p = omega arith in
-    rw (t, f) refl
 
 cells_same : (cs ds : List Cell) → map size_of ds ≡ map size_of cs → ((at : ℕ) → cell_at cs at ≡ cell_at ds at) → cs ≡ ds
 cells_same [] [] s e = refl
@@ -26,7 +20,7 @@ cells_same (c ∷ cs) (d ∷ ds) s e =
     let head : c ≡ d = e 0 in
     let size : size_of d ≡ size_of c = ap size_of (sym head) in
     let rest : map size_of ds ≡ map size_of cs = cc in
-    λ i. head i ∷ cells_same cs ds rest (λ at. sym (past_cell c cs at (size_of c + at) refl) ∙ (e (size_of c + at) ∙ past_cell d ds at (size_of c + at) (omega arith))) i
+    λ i. head i ∷ cells_same cs ds rest (λ at. sym (cell_skip c cs at (size_of c + at) refl) ∙ (e (size_of c + at) ∙ cell_skip d ds at (size_of c + at) (omega arith))) i
 
 same_content : (k l : ChunkValue) → l.number ≡ k.number → l.size ≡ k.size → k.cells ≡ l.cells → k ≡ l
 same_content k l n s e = λ i. record { number = sym n i; size = sym s i; cells = e i }

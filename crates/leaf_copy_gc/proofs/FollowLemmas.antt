@@ -10,6 +10,7 @@ use Rattle.object_layout.specs.Place.{cell_at, object_at, put_cell, words_in, Is
 use Rattle.object_layout.specs.Chunks.{cell_of, object_of, put_object}
 use Rattle.object_layout.proofs.PlaceLemmas as place
 use Rattle.object_layout.proofs.ChunkLaws as laws
+use Rattle.object_layout.proofs.ChunkLaws.{length-put, place_of-put, put_object-put_object}
 use Rattle.leaf_copy_gc.specs.Search.{IsTarget}
 use Rattle.leaf_copy_gc.specs.Redirected.{led, followed, followed_ref}
 use Rattle.leaf_copy_gc.proofs.Upto as upto
@@ -68,7 +69,7 @@ mark_put h x c m s a =
 
 module _ (h : List ChunkValue) (x : Addr) (c : Cell) (m : c.mark ≡ (cell_of h x).mark) (s : size_of c ≡ size_of (cell_of h x)) where
   followed_put : (a : Addr) → followed (put_object h x c) a ≡ followed h a
-  followed_put a = rw (puts.place_put h x c a.chunk, puts.length_put h x c, mark_put h x c m s a) refl
+  followed_put a = rw (place_of-put h x c a.chunk, length-put h x c, mark_put h x c m s a) refl
 
   pub followed_ref_put : (r : Option Addr) → followed_ref (put_object h x c) r ≡ followed_ref h r
   followed_ref_put None = refl
@@ -78,8 +79,8 @@ module _ (h : List ChunkValue) (x : Addr) (c : Cell) (m : c.mark ≡ (cell_of h 
   target_put None t = t
   target_put (Some a) t =
       λ l.
-      let p = puts.place_put h x c a.chunk in
-      let n = puts.length_put h x c in
+      let p = place_of-put h x c a.chunk in
+      let n = length-put h x c in
       let w = t (omega arith) in
       (subst IsObject (sym (mark_put h x c m s a)) w.0, w.1)
 
@@ -132,7 +133,7 @@ module _ (h : List ChunkValue) (a : Addr) (o : IsObject (cell_of h a).mark) wher
           let same = followed_ref_put h a (led_upto (followed_ref h) k (cell_of h a)) refl (upto.size-upto (followed_ref h) (cell_of h a) k (omega arith)) r in
           ap (λ (v : Option Addr). put_object now a (with_ref (cell_of now a) k v)) same
           ∙ (ap (λ (c : Cell). put_object now a (with_ref c k (followed_ref h r))) (laws.cell_of-put_same h a (led_upto (followed_ref h) k (cell_of h a)) o)
-          ∙ (puts.put_put h a (led_upto (followed_ref h) k (cell_of h a)) (with_ref (led_upto (followed_ref h) k (cell_of h a)) k (followed_ref h r))
+          ∙ (put_object-put_object h a (led_upto (followed_ref h) k (cell_of h a)) (with_ref (led_upto (followed_ref h) k (cell_of h a)) k (followed_ref h r))
           ∙ ap (put_object h a) (upto.upto_more (followed_ref h) (cell_of h a) k l r heap_got)))
 
 -- ---- the objects of a chunk, one after another

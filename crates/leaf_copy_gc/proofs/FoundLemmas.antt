@@ -8,6 +8,7 @@ use Rattle.object_layout.specs.Chunks.{cell_of, place_in, place_of}
 use Rattle.object_layout.specs.Graph.{IsHeld, IsSound}
 use Rattle.object_layout.proofs.ChunkLaws as laws
 use Rattle.listed.proofs.Members.{In}
+use Rattle.object_layout.proofs.ChunkLaws.{length-put, place_of-put}
 use Rattle.leaf_copy_gc.specs.CollectorValue.{CollectorValue}
 use Rattle.leaf_copy_gc.specs.Search.{found_in, all_found, birth_in, visited, visited_at, IsTarget}
 use Rattle.leaf_copy_gc.proofs.Puts as puts
@@ -52,11 +53,11 @@ found_push h (x ∷ xs) a = found_push (found_in h x) xs a
 
 pub found_place : (h : List ChunkValue) (xs : List Addr) (n : ℕ) → place_of (all_found h xs) n ≡ place_of h n
 found_place h [] n = refl
-found_place h (x ∷ xs) n = found_place (found_in h x) xs n ∙ puts.place_put h x (with_mark (cell_of h x) (Moved x)) n
+found_place h (x ∷ xs) n = found_place (found_in h x) xs n ∙ place_of-put h x (with_mark (cell_of h x) (Moved x)) n
 
 pub found_length : (h : List ChunkValue) (xs : List Addr) → length (all_found h xs) ≡ length h
 found_length h [] = refl
-found_length h (x ∷ xs) = found_length (found_in h x) xs ∙ puts.length_put h x (with_mark (cell_of h x) (Moved x))
+found_length h (x ∷ xs) = found_length (found_in h x) xs ∙ length-put h x (with_mark (cell_of h x) (Moved x))
 
 -- ---- objects stay objects
 
@@ -64,8 +65,8 @@ target_stays : (h : List ChunkValue) (x : Addr) (r : Option Addr) → IsTarget h
 target_stays h x None t = t
 target_stays h x (Some a) t =
     λ l.
-    let p = puts.place_put h x (with_mark (cell_of h x) (Moved x)) a.chunk in
-    let n = puts.length_put h x (with_mark (cell_of h x) (Moved x)) in
+    let p = place_of-put h x (with_mark (cell_of h x) (Moved x)) a.chunk in
+    let n = length-put h x (with_mark (cell_of h x) (Moved x)) in
     let w = t (omega arith) in
     (puts.mark_object h x (Moved x) tt a w.0, w.1)
 

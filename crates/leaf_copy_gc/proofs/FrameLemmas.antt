@@ -4,9 +4,9 @@ use Rattle.object_layout.specs.declared.word.Addr.{Addr}
 use Rattle.task_frames.specs.declared.frames.Frame.{Frame}
 use Rattle.task_frames.specs.FramesValue.{references_of, references_written}
 use Rattle.listed.proofs.Members.{In, in_append_left, in_append_right}
+use Rattle.listed.proofs.Places.{all_from, read_in}
 use Rattle.leaf_copy_gc.specs.Survivors.{held_by}
 use Rattle.leaf_copy_gc.specs.Redirected.{led_frame}
-use Rattle.leaf_copy_gc.proofs.ListLemmas.{read_in, all_from}
 
 module _ (f : Option Addr → Option Addr) where
   -- the frame that comes next is as it was

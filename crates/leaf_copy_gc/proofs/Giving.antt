@@ -3,6 +3,7 @@ use Rattle.std.proofs.Common.{◌≡◌, ℕ, Bool, true, false, cond, List, [],
 use Rattle.std.specs.Prelude.{nat_lt, reverse}
 use Rattle.std.specs.List.Sorted.{IsPermutation}
 use Rattle.std.proofs.lemmas.List.Sorted.{IsPermutation-append, IsPermutation-append_comm, IsPermutation-append_left, IsPermutation-append_right, IsPermutation-filter_both, IsPermutation-map, IsPermutation-refl, IsPermutation-remove, IsPermutation-reverse, IsPermutation-trans}
+use Rattle.std.proofs.lemmas.List.{get_or_default}
 use Rattle.object_layout.specs.declared.word.Addr.{Addr}
 use Rattle.object_layout.specs.Cell.{Cell, size_of}
 use Rattle.object_layout.specs.ChunkValue.{ChunkValue}
@@ -15,7 +16,6 @@ use Rattle.leaf_copy_gc.specs.Redirected.{led_chunk}
 use Rattle.leaf_copy_gc.specs.Exchanged.{emptied, reserved_of, unreserved}
 use Rattle.leaf_copy_gc.specs.Collected.{back_of, collected, keeps, kept_of, laid_of, laying_of, leaves, redirection}
 use Rattle.leaf_copy_gc.specs.Laws.{labels, ChunksAreKept}
-use Rattle.leaf_copy_gc.proofs.ListLemmas.{read_any}
 
 abbrev Label : Type 0
 Label = ℕ × ℕ
@@ -65,7 +65,7 @@ Perm xs ys = IsPermutation xs ys
 
 within : (ks : List ChunkValue) (o : Option ℕ) → IsReserved ks o → IsPermutation ks (reserved_of ks o ++ unreserved ks o)
 within ks None w = IsPermutation-refl ks
-within ks (Some i) w = IsPermutation-remove ks i (chunk_at ks i) w.0 (read_any ks i no_chunk (chunk_at ks i) w.0)
+within ks (Some i) w = IsPermutation-remove ks i (chunk_at ks i) w.0 (get_or_default ks i no_chunk (chunk_at ks i) w.0)
 
 of_labels : (xs ys : List ChunkValue) → IsPermutation xs ys → Perm (labels xs) (labels ys)
 of_labels xs ys p = IsPermutation-map (λ k. (k.number, k.size)) xs ys p

@@ -10,13 +10,13 @@ use Rattle.object_layout.specs.Chunks.{cell_of, put_object}
 use Rattle.object_layout.proofs.Distinct.{Once}
 use Rattle.object_layout.proofs.ChunkLaws as laws
 use Rattle.listed.proofs.Members.{In, contains_from_in}
+use Rattle.listed.proofs.Places.{in_map}
 use Rattle.leaf_copy_gc.specs.declared.lists.Survivor.{Survivor}
 use Rattle.leaf_copy_gc.specs.Survivors.{olds, old_of}
 use Rattle.leaf_copy_gc.specs.Search.{IsTarget}
 use Rattle.leaf_copy_gc.specs.Laid.{is_small}
 use Rattle.leaf_copy_gc.specs.Redirected.{followed_ref, followed_at, followed_large, led, HasTargets, CanFollow}
 use Rattle.leaf_copy_gc.specs.Collected.{AreAlike}
-use Rattle.leaf_copy_gc.proofs.ListLemmas.{in_map}
 use Rattle.leaf_copy_gc.proofs.Puts as puts
 use Rattle.leaf_copy_gc.proofs.FollowLemmas as follows
 

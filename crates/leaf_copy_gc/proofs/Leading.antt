@@ -11,6 +11,7 @@ use Rattle.object_layout.specs.Graph.{IsClosed, IsHeld, IsSound}
 use Rattle.object_layout.proofs.Distinct.{Once}
 use Rattle.object_layout.proofs.ChunkLaws as laws
 use Rattle.listed.proofs.Members.{In, in_from_contains, contains_from_in}
+use Rattle.listed.proofs.Places.{in_map, in_read, read_in}
 use Rattle.leaf_copy_gc.specs.declared.lists.Survivor.{Survivor}
 use Rattle.leaf_copy_gc.specs.Survivors.{IsSurvivor, olds, old_of, HaveNames}
 use Rattle.leaf_copy_gc.specs.Search.{all_found, IsTarget}
@@ -18,7 +19,6 @@ use Rattle.leaf_copy_gc.specs.Laid.{Laying, is_small, smalls, laid_all, laid_one
 use Rattle.leaf_copy_gc.specs.CollectorValue.{CollectorValue}
 use Rattle.leaf_copy_gc.specs.Copying.{copied, copied_one, IsReady}
 use Rattle.leaf_copy_gc.specs.Redirected.{followed, followed_ref, new_address, redirected, led, led_chunk, HasTargets}
-use Rattle.leaf_copy_gc.proofs.ListLemmas.{in_map, in_read, read_in}
 use Rattle.leaf_copy_gc.proofs.Puts as puts
 use Rattle.leaf_copy_gc.proofs.FoundLemmas as marks
 use Rattle.leaf_copy_gc.proofs.Discovered.{survivor_live}

@@ -1,10 +1,10 @@
 -- Lists, read and folded in steps.
-use Rattle.std.proofs.Common.{◌≡◌, ℕ, zero, suc, ◌+◌, ◌<◌, List, [], ◌∷◌, ◌++◌, length, get_or, take, map, fold, refl, sym, ap, ◌∙◌, subst, arith, inl, inr, All, Option, Some, slice_get}
+use Rattle.std.proofs.Common.{◌≡◌, ℕ, zero, suc, ◌+◌, ◌<◌, List, [], ◌∷◌, ◌++◌, length, get_or, take, map, fold, refl, sym, ap, ◌∙◌, arith, Option, Some, slice_get}
 use Rattle.std.proofs.lemmas.List.{append-nil}
 use Rattle.object_layout.specs.declared.word.Addr.{Addr}
 use Rattle.task_frames.specs.declared.frames.Frame.{Frame}
 use Rattle.task_frames.specs.FramesValue.{references_of}
-use Rattle.listed.proofs.Members.{In, contains_from_in, in_append_left, in_append_right}
+use Rattle.listed.proofs.Members.{In, in_append_left, in_append_right}
 use Rattle.leaf_copy_gc.specs.Survivors.{held_by}
 
 -- one step more of a fold
@@ -12,28 +12,6 @@ pub fold_read : {S X : Type 0} (f : S → X → S) (s : S) (xs : List X) (k : �
 fold_read f s [] k d l = absurd (omega arith)
 fold_read f s (y ∷ ys) zero d l = refl
 fold_read f s (y ∷ ys) (suc k) d l = let n : suc k + 1 ≡ suc (k + 1) = omega arith in rw n (fold_read f (f s y) ys k d (omega arith))
-
--- a place within a list reads the same, whatever stands for nothing
-pub read_any : {X : Type 0} (xs : List X) (k : ℕ) (d e : X) → k < length xs → get_or xs k d ≡ get_or xs k e
-read_any [] k d e l = absurd (omega arith)
-read_any (x ∷ xs) zero d e l = refl
-read_any (x ∷ xs) (suc k) d e l = read_any xs k d e (omega arith)
-
-pub in_read : {X : Type 0} (xs : List X) (k : ℕ) (x : X) → k < length xs → In xs (get_or xs k x)
-in_read [] k x l = absurd (omega arith)
-in_read (y ∷ ys) zero x l = inl refl
-in_read (y ∷ ys) (suc k) x l = inr (in_read ys k x (omega arith))
-
-pub read_in : {X : Type 0} (P : X → Type 0) (xs : List X) (x : X) → In xs x → All P xs → P x
-read_in P xs x i all = let c = contains_from_in xs x i in subst P c.2 (all c.0 x c.1)
-
-pub all_from : {X : Type 0} (P : X → Type 0) (xs : List X) → ((x : X) → In xs x → P x) → All P xs
-all_from P xs h = λ k d l. h (get_or xs k d) (in_there xs k d l)
-  where
-    in_there : {X : Type 0} (ys : List X) (k : ℕ) (d : X) → k < length ys → In ys (get_or ys k d)
-    in_there [] k d l = absurd (omega arith)
-    in_there (y ∷ ys) zero d l = inl refl
-    in_there (y ∷ ys) (suc k) d l = inr (in_there ys k d (omega arith))
 
 pub fold_append : {S X : Type 0} (f : S → X → S) (s : S) (xs ys : List X) → fold f s (xs ++ ys) ≡ fold f (fold f s xs) ys
 fold_append f s [] ys = refl
@@ -45,11 +23,6 @@ pub fold_map_read : {S X Y : Type 0} (f : S → Y → S) (g : X → Y) (s : S) (
 fold_map_read f g s [] k d l = absurd (omega arith)
 fold_map_read f g s (y ∷ ys) zero d l = refl
 fold_map_read f g s (y ∷ ys) (suc k) d l = let n : suc k + 1 ≡ suc (k + 1) = omega arith in rw n (fold_map_read f g (f s (g y)) ys k d (omega arith))
-
-pub in_map : {X Y : Type 0} (f : X → Y) (xs : List X) (x : X) → In xs x → In (map f xs) (f x)
-in_map f [] x i = i
-in_map f (y ∷ ys) x (inl e) = inl (ap f e)
-in_map f (y ∷ ys) x (inr i) = inr (in_map f ys x i)
 
 -- ---- the references of frames
 
@@ -72,8 +45,3 @@ pub fold_got : {S X : Type 0} (f : S → X → S) (s : S) (xs : List X) (k : ℕ
 fold_got f s [] k x e = absurd cc
 fold_got f s (y ∷ ys) zero x e = let h : y ≡ x = cc in ap (f s) h
 fold_got f s (y ∷ ys) (suc k) x e = let n : suc k + 1 ≡ suc (k + 1) = omega arith in rw n (fold_got f (f s y) ys k x e)
-
-pub in_read_any : {X : Type 0} (ys : List X) (k : ℕ) (d : X) → k < length ys → In ys (get_or ys k d)
-in_read_any [] k d l = absurd (omega arith)
-in_read_any (y ∷ ys) zero d l = inl refl
-in_read_any (y ∷ ys) (suc k) d l = inr (in_read_any ys k d (omega arith))

@@ -13,6 +13,8 @@ use Rattle.object_layout.proofs.Distinct.{Once}
 use Rattle.object_layout.proofs.ChunkLaws as laws
 use Rattle.remembered_set.specs.Moved.{new_of, same_address}
 use Rattle.listed.proofs.Members.{In, contains_from_in, in_from_contains}
+use Rattle.listed.proofs.Places.{in_map}
+use Rattle.object_layout.proofs.ChunkLaws.{length-put, place_of-put}
 use Rattle.leaf_copy_gc.specs.declared.lists.Survivor.{Survivor}
 use Rattle.leaf_copy_gc.specs.Survivors.{olds, old_of}
 use Rattle.leaf_copy_gc.specs.Search.{all_found, found_in, IsTarget}
@@ -20,7 +22,6 @@ use Rattle.leaf_copy_gc.specs.Laid.{Laying, is_small, smalls, laid_one, laid_at,
 use Rattle.leaf_copy_gc.specs.CollectorValue.{CollectorValue}
 use Rattle.leaf_copy_gc.specs.Copying.{copied, copied_one, survivor_cell, IsReady}
 use Rattle.leaf_copy_gc.specs.Redirected.{new_address}
-use Rattle.leaf_copy_gc.proofs.ListLemmas.{in_map}
 use Rattle.leaf_copy_gc.proofs.Puts as puts
 use Rattle.leaf_copy_gc.proofs.FoundLemmas as marks
 
@@ -39,13 +40,6 @@ addr_other a b n =
           absurd (n (λ i. record { chunk = c i; offset = o i }))
       | inr f ↦ f
     ]
-
-pub address_from : (a b : Addr) → same_address a b ≡ true → a ≡ b
-address_from a b t =
-    let both = and_parts (eqb a.chunk b.chunk) (eqb a.offset b.offset) t in
-    let c : a.chunk ≡ b.chunk = eqb-true a.chunk b.chunk both.0 in
-    let o : a.offset ≡ b.offset = eqb-true a.offset b.offset both.1 in
-    λ i. record { chunk = c i; offset = o i }
 
 pub new_none : (y : Laying) (h : List ChunkValue) (xs : List Addr) (a : Addr) → (In xs a → ⊥) → new_of (relocations y h xs) a ≡ None
 new_none y h [] a n = refl
@@ -107,8 +101,8 @@ target_mark : (g : List ChunkValue) (x to : Addr) (r : Option Addr) → IsTarget
 target_mark g x to None t = t
 target_mark g x to (Some a) t =
     λ l.
-    let p = puts.place_put g x (with_mark (cell_of g x) (Moved to)) a.chunk in
-    let n = puts.length_put g x (with_mark (cell_of g x) (Moved to)) in
+    let p = place_of-put g x (with_mark (cell_of g x) (Moved to)) a.chunk in
+    let n = length-put g x (with_mark (cell_of g x) (Moved to)) in
     let w = t (omega arith) in
     (puts.mark_object g x (Moved to) tt a w.0, w.1)
 
@@ -209,11 +203,11 @@ module _ (h : List ChunkValue) where
 
   pub copied_place : (k : CollectorValue) (ss : List Survivor) (n : ℕ) → place_of (fold copied_one k ss).heap.chunks n ≡ place_of k.heap.chunks n
   copied_place k [] n = refl
-  copied_place k (s ∷ ss) n = copied_place (copied_one k s) ss n ∙ puts.place_put k.heap.chunks s.old (with_mark (cell_of k.heap.chunks s.old) (Moved (laid_at k.laying (size_of (cell_of k.heap.chunks s.old))))) n
+  copied_place k (s ∷ ss) n = copied_place (copied_one k s) ss n ∙ place_of-put k.heap.chunks s.old (with_mark (cell_of k.heap.chunks s.old) (Moved (laid_at k.laying (size_of (cell_of k.heap.chunks s.old))))) n
 
   pub copied_length : (k : CollectorValue) (ss : List Survivor) → length (fold copied_one k ss).heap.chunks ≡ length k.heap.chunks
   copied_length k [] = refl
-  copied_length k (s ∷ ss) = copied_length (copied_one k s) ss ∙ puts.length_put k.heap.chunks s.old (with_mark (cell_of k.heap.chunks s.old) (Moved (laid_at k.laying (size_of (cell_of k.heap.chunks s.old)))))
+  copied_length k (s ∷ ss) = copied_length (copied_one k s) ss ∙ length-put k.heap.chunks s.old (with_mark (cell_of k.heap.chunks s.old) (Moved (laid_at k.laying (size_of (cell_of k.heap.chunks s.old)))))
 
   pub copied_target : (k : CollectorValue) (ss : List Survivor) (r : Option Addr) → IsTarget k.heap.chunks r → IsTarget (fold copied_one k ss).heap.chunks r
   copied_target k [] r t = t

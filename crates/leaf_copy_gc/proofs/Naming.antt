@@ -16,12 +16,14 @@ use Rattle.remembered_set.specs.Moved.{same_address}
 use Rattle.alloc_path.specs.LeafHeapValue.{AreTidy, IsTidy}
 use Rattle.alloc_path.proofs.HeapLemmas.{none_there}
 use Rattle.listed.proofs.Members.{In, contains_from_in, in_from_kept, in_append_cases}
+use Rattle.listed.proofs.Places.{in_map, read_in}
+use Rattle.object_layout.proofs.ChunkLaws.{length-put, place_of-put}
+use Rattle.object_layout.proofs.ObjectLemmas.{chunk_there}
 use Rattle.leaf_copy_gc.specs.declared.lists.Survivor.{Survivor}
 use Rattle.leaf_copy_gc.specs.Survivors.{olds, old_of, HaveNames}
 use Rattle.leaf_copy_gc.specs.Redirected.{led, led_chunk}
 use Rattle.leaf_copy_gc.specs.Exchanged.{unreserved, reserved_of, named, CanName}
 use Rattle.leaf_copy_gc.specs.Collected.{AreAlike, keeps}
-use Rattle.leaf_copy_gc.proofs.ListLemmas.{in_map, read_in}
 use Rattle.leaf_copy_gc.proofs.Puts as puts
 use Rattle.leaf_copy_gc.proofs.Larges as larges
 use Rattle.leaf_copy_gc.proofs.Numbers as nums
@@ -42,11 +44,11 @@ name_other g s a true n = puts.mark_other g s.old (Born s.birth) a n
 name_other g s a false n = refl
 
 place_at : (g : List ChunkValue) (s : Survivor) (n : ℕ) (b : Bool) → place_of (cond b (put_object g s.old (with_mark (cell_of g s.old) (Born s.birth))) g) n ≡ place_of g n
-place_at g s n true = puts.place_put g s.old (with_mark (cell_of g s.old) (Born s.birth)) n
+place_at g s n true = place_of-put g s.old (with_mark (cell_of g s.old) (Born s.birth)) n
 place_at g s n false = refl
 
 length_at : (g : List ChunkValue) (s : Survivor) (b : Bool) → length (cond b (put_object g s.old (with_mark (cell_of g s.old) (Born s.birth))) g) ≡ length g
-length_at g s true = puts.length_put g s.old (with_mark (cell_of g s.old) (Born s.birth))
+length_at g s true = length-put g s.old (with_mark (cell_of g s.old) (Born s.birth))
 length_at g s false = refl
 
 alike_at : (g : List ChunkValue) (s : Survivor) (b : Bool) → AreAlike g (cond b (put_object g s.old (with_mark (cell_of g s.old) (Born s.birth))) g)
@@ -113,21 +115,16 @@ owned_in ks n l =
       | inr m ↦ let z = none_there ks n (nums.fresh_from ks n m) in absurd (omega arith)
     ]
 
-in_removed : (ks : List ChunkValue) (i : ℕ) (k : ChunkValue) → In (remove ks i) k → In ks k
+pub in_removed : (ks : List ChunkValue) (i : ℕ) (k : ChunkValue) → In (remove ks i) k → In ks k
 in_removed [] zero k j = j
 in_removed [] (suc i) k j = j
 in_removed (x ∷ ks) zero k j = inr j
 in_removed (x ∷ ks) (suc i) k (inl e) = inl e
 in_removed (x ∷ ks) (suc i) k (inr j) = inr (in_removed ks i k j)
 
-in_unreserved : (ks : List ChunkValue) (r : Option ℕ) (k : ChunkValue) → In (unreserved ks r) k → In ks k
+pub in_unreserved : (ks : List ChunkValue) (r : Option ℕ) (k : ChunkValue) → In (unreserved ks r) k → In ks k
 in_unreserved ks None k i = i
 in_unreserved ks (Some j) k i = in_removed ks j k i
-
-in_at : (ks : List ChunkValue) (i : ℕ) → i < length ks → In ks (chunk_at ks i)
-in_at [] i l = absurd (omega arith)
-in_at (k ∷ ks) zero l = inl refl
-in_at (k ∷ ks) (suc i) l = inr (in_at ks i (omega arith))
 
 in_append_numbers : (ks ls : List ChunkValue) (n : ℕ) → In (numbers (ks ++ ls)) n → In (numbers ks) n ⊎ In (numbers ls) n
 in_append_numbers [] ls n i = inr i
@@ -195,7 +192,7 @@ module _ (h : List ChunkValue) (ss : List Survivor) (f : Option Addr → Option 
       go : (o : Option ℕ) → Within h o → NoneThere h o → In (numbers (reserved_of h o)) a.chunk → ⊥
       go None w z i = i
       go (Some x) w z (inl e) =
-          let there : cell_of h a ≡ no_cell = extent.chunk_there h (chunk_at h x) d (in_at h x w) a e ∙ ap (λ (cs : List Cell). cell_at cs a.offset) z in
+          let there : cell_of h a ≡ no_cell = extent.chunk_there h (chunk_at h x) d (chunk_there h x w) a e ∙ ap (λ (cs : List Cell). cell_at cs a.offset) z in
           let dead = subst (λ (c : Cell). IsBorn c.mark) there (lives a j) in dead
       go (Some x) w z (inr i) = i
 

@@ -205,13 +205,13 @@ laid_small y h (a ∷ xs) s n =
     let o = small_opened y (nat_lt (room_in y.laid) (size_of (cell_of h a))) s n in
     laid_small (laid_one y (cell_of h a)) h xs (small_placed (opened y (size_of (cell_of h a))).laid (cell_of h a) o.0) o.1
 
-small_map : (f : ChunkValue → ChunkValue) → ((k : ChunkValue) → (f k).size ≡ k.size) → (ks : List ChunkValue) → AreSmall ks → AreSmall (map f ks)
-small_map f e [] s = tt
-small_map f e (k ∷ ks) s = (e k ∙ s.0, small_map f e ks s.1)
+pub small_of_map : (f : ChunkValue → ChunkValue) → ((k : ChunkValue) → (f k).size ≡ k.size) → (ks : List ChunkValue) → AreSmall ks → AreSmall (map f ks)
+small_of_map f e [] s = tt
+small_of_map f e (k ∷ ks) s = (e k ∙ s.0, small_of_map f e ks s.1)
 
-numbers_map : (f : ChunkValue → ChunkValue) → ((k : ChunkValue) → (f k).number ≡ k.number) → (ks : List ChunkValue) → numbers (map f ks) ≡ numbers ks
-numbers_map f e [] = refl
-numbers_map f e (k ∷ ks) = λ i. e k i ∷ numbers_map f e ks i
+pub numbers_of_map : (f : ChunkValue → ChunkValue) → ((k : ChunkValue) → (f k).number ≡ k.number) → (ks : List ChunkValue) → numbers (map f ks) ≡ numbers ks
+numbers_of_map f e [] = refl
+numbers_of_map f e (k ∷ ks) = λ i. e k i ∷ numbers_of_map f e ks i
 
 last_small : (k : ChunkValue) (ks : List ChunkValue) → AreSmall (k ∷ ks) → (chunk_at (k ∷ ks) (length ks)).size ≡ 1024
 last_small k [] s = s.0
@@ -233,12 +233,6 @@ alike_length [] [] a = refl
 alike_length [] (l ∷ ls) a = absurd a
 alike_length (k ∷ ks) [] a = absurd a
 alike_length (k ∷ ks) (l ∷ ls) a = let ih = alike_length ks ls a.1 in omega arith
-
-pub numbers_of_map : (f : ChunkValue → ChunkValue) → ((k : ChunkValue) → (f k).number ≡ k.number) → (ks : List ChunkValue) → numbers (map f ks) ≡ numbers ks
-numbers_of_map f e ks = numbers_map f e ks
-
-pub small_of_map : (f : ChunkValue → ChunkValue) → ((k : ChunkValue) → (f k).size ≡ k.size) → (ks : List ChunkValue) → AreSmall ks → AreSmall (map f ks)
-small_of_map f e ks s = small_map f e ks s
 
 -- ---- in reverse
 

@@ -12,10 +12,10 @@ use Rattle.object_layout.specs.Graph.{IsClosed, IsHeld, IsSound, Leads}
 use Rattle.object_layout.proofs.Distinct.{Once}
 use Rattle.remembered_set.specs.Moved.{number_of, AreInOrder}
 use Rattle.listed.proofs.Members.{In, contains_from_in, in_from_contains}
+use Rattle.listed.proofs.Places.{read_in}
 use Rattle.walk_laws.proofs.Reached.{reached_within}
 use Rattle.leaf_copy_gc.specs.Survivors.{IsSurvivor, Starts}
 use Rattle.leaf_copy_gc.specs.Laid.{Laying, laid_one, relocations}
-use Rattle.leaf_copy_gc.proofs.ListLemmas.{read_in}
 use Rattle.leaf_copy_gc.proofs.Puts.{live_chunk}
 use Rattle.leaf_copy_gc.proofs.Evacuated.{once_sorted}
 

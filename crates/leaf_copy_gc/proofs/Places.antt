@@ -9,6 +9,7 @@ use Rattle.object_layout.specs.ChunkValue.{ChunkValue}
 use Rattle.object_layout.specs.Place.{cell_at, put_cell}
 use Rattle.object_layout.specs.Chunks.{cell_of, place_in, put_object}
 use Rattle.object_layout.proofs.ChunkLaws as laws
+use Rattle.object_layout.proofs.ChunkLaws.{length-put}
 use Rattle.alloc_path.specs.LeafHeapValue.{LeafHeapValue}
 use Rattle.leaf_copy_gc.specs.declared.lists.Survivor.{Survivor}
 use Rattle.leaf_copy_gc.specs.Survivors.{born_in, born_of, live_count, with_chunks}
@@ -58,7 +59,7 @@ fewer_led h (s ∷ ss) = let a = fewer_at h s (is_small h s.old) in let ih = few
 
 length_at : (h : List ChunkValue) (s : Survivor) (b : Bool) → length (cond b h (followed_at h s.old)) ≡ length h
 length_at h s true = refl
-length_at h s false = puts.length_put h s.old _
+length_at h s false = length-put h s.old _
 
 pub length_led : (h : List ChunkValue) (ss : List Survivor) → length (fold followed_large h ss) ≡ length h
 length_led h [] = refl

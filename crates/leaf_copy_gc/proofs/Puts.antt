@@ -36,31 +36,6 @@ in_or_not (x ∷ xs) a =
 
 -- ---- one object put elsewhere
 
-pub place_put : (h : List ChunkValue) (x : Addr) (c : Cell) (n : ℕ) → place_of (put_object h x c) n ≡ place_of h n
-place_put [] x c n = refl
-place_put (k ∷ ks) x c n =
-    ⊎_elim
-    (λ (e : eqb k.number x.chunk ≡ true). rw e)
-    (λ (e : eqb k.number x.chunk ≡ false). rw (e, place_put ks x c n))
-    (cases_Bool (eqb k.number x.chunk))
-
-pub length_put : (h : List ChunkValue) (x : Addr) (c : Cell) → length (put_object h x c) ≡ length h
-length_put [] x c = refl
-length_put (k ∷ ks) x c =
-    ⊎_elim
-    (λ (e : eqb k.number x.chunk ≡ true). rw e)
-    (λ (e : eqb k.number x.chunk ≡ false). let ih = length_put ks x c in rw e (omega arith))
-    (cases_Bool (eqb k.number x.chunk))
-
--- the later of two puts at one address stands
-pub put_put : (h : List ChunkValue) (a : Addr) (c d : Cell) → put_object (put_object h a c) a d ≡ put_object h a d
-put_put [] a c d = refl
-put_put (k ∷ ks) a c d =
-    ⊎_elim
-    (λ (e : eqb k.number a.chunk ≡ true). rw (e, e, place.put_cell-put_cell) refl)
-    (λ (e : eqb k.number a.chunk ≡ false). rw (e, e, put_put ks a c d) refl)
-    (cases_Bool (eqb k.number a.chunk))
-
 -- what was put is there, or no object or hole is
 cell_put : (cs : List Cell) (at : ℕ) (c : Cell) → (cell_at (put_cell cs at c) at ≡ c) ⊎ ((cell_at (put_cell cs at c) at ≡ cell_at cs at) × (cell_at cs at ≡ no_cell))
 cell_put cs at c =

@@ -14,13 +14,13 @@ use Rattle.object_layout.proofs.PlaceLemmas as place
 use Rattle.object_layout.proofs.ChunkLaws as laws
 use Rattle.object_layout.proofs.Distinct.{once_from}
 use Rattle.listed.proofs.Members.{In, in_append_left, in_from_contains, in_kept}
+use Rattle.listed.proofs.Places.{read_in}
 use Rattle.alloc_path.specs.LeafHeapValue.{AreTidy, LeafHeapValue, IsReserved, IsSettled, IsTidy}
 use Rattle.leaf_copy_gc.specs.declared.lists.Survivor.{Survivor}
 use Rattle.leaf_copy_gc.specs.Survivors.{olds}
 use Rattle.leaf_copy_gc.specs.Exchanged.{reserved_of, unreserved}
 use Rattle.leaf_copy_gc.specs.Collected.{AreSurvivors, collected, keeps, kept_of, laid_of, moves_of, redirection}
 use Rattle.leaf_copy_gc.specs.Laws.{CanTake, LargeAreRead, MovedAreRead}
-use Rattle.leaf_copy_gc.proofs.ListLemmas.{read_in}
 use Rattle.leaf_copy_gc.proofs.Moves as moves
 use Rattle.leaf_copy_gc.proofs.Naming.{in_unmap}
 use Rattle.leaf_copy_gc.proofs.Naming as naming
@@ -108,13 +108,10 @@ relocated y h (a ∷ xs) d room o m (inl e) =
     (all_other (laid_one y c) h xs (laid_at y (size_of c)) (subst (λ (z : Cell). IsObject z.mark) (sym there) (o a (inl refl))) ∙ there)
 relocated y h (a ∷ xs) d room o m (inr i) = relocated (laid_one y (cell_of h a)) h xs (one_numbers y (cell_of h a) d) room.1 (λ b j. o b (inr j)) m i
 
-moved_in : (y : Laying) (h : List ChunkValue) (xs : List Addr) (m : Addr × Addr) → In (relocations y h xs) m → In xs m.0
-moved_in y h [] m i = absurd i
-moved_in y h (a ∷ xs) m (inl e) = inl (ap (λ (p : Addr × Addr). p.0) e)
-moved_in y h (a ∷ xs) m (inr i) = inr (moved_in (laid_one y (cell_of h a)) h xs m i)
-
 pub moved_from : (y : Laying) (h : List ChunkValue) (xs : List Addr) (m : Addr × Addr) → In (relocations y h xs) m → In xs m.0
-moved_from y h xs m i = moved_in y h xs m i
+moved_from y h [] m i = absurd i
+moved_from y h (a ∷ xs) m (inl e) = inl (ap (λ (p : Addr × Addr). p.0) e)
+moved_from y h (a ∷ xs) m (inr i) = inr (moved_from (laid_one y (cell_of h a)) h xs m i)
 
 -- ---- with references led
 
@@ -189,11 +186,11 @@ unreserved_in ks (Some i) w k j n = elim (removed_or_at ks i k j) [
   | inr z ↦ absurd (n (ap (λ (x : ChunkValue). x.cells) z ∙ w.1.1))
 ]
 
-within_of : (ks : List ChunkValue) (o : Option ℕ) → IsReserved ks o → Within ks o
+pub within_of : (ks : List ChunkValue) (o : Option ℕ) → IsReserved ks o → Within ks o
 within_of ks None w = tt
 within_of ks (Some i) w = w.0
 
-none_of : (ks : List ChunkValue) (o : Option ℕ) → IsReserved ks o → NoneThere ks o
+pub none_of : (ks : List ChunkValue) (o : Option ℕ) → IsReserved ks o → NoneThere ks o
 none_of ks None w = tt
 none_of ks (Some i) w = w.1.1
 

@@ -8,7 +8,7 @@ use Rattle.listed.proofs.Members.{In, contains_from_in, in_from_contains}
 use Rattle.object_layout.specs.declared.word.Addr.{Addr}
 use Rattle.object_layout.specs.ChunkValue.{ChunkValue}
 use Rattle.object_layout.specs.Chunks.{cell_of, has_chunk}
-use Rattle.object_layout.proofs.Distinct.{Once, once_from}
+use Rattle.object_layout.proofs.Distinct.{Once, once_from, same_is}
 use Rattle.object_layout.proofs.ChunkLaws as laws
 use Rattle.object_layout.proofs.Owning.{fresh_none}
 use Rattle.alloc_path.specs.LeafHeapValue.{LeafHeapValue}
@@ -56,7 +56,7 @@ found_by ms a e o i =
 picked : (ms : List Moved) (a b : Addr) → new_of ms a ≡ Some b → (m : Moved) × In ms m × (m.0 ≡ a)
 picked [] a b e = absurd (let z : None ≡ Some b = e in cc)
 picked (x ∷ ms) a b e = elim (cases_Bool (same_address x.0 a)) [
-  | inl t ↦ (x, inl refl, moves.address_from x.0 a t)
+  | inl t ↦ (x, inl refl, same_is x.0 a t)
   | inr f ↦ let r = picked ms a b (rw f at e) in (r.0, inr r.1, r.2)
 ]
 

@@ -17,13 +17,14 @@ use Rattle.hh_model.proofs.Runs.{grown_at, grown_left, grown_right, grown_other,
 use Rattle.run_ledger.specs.declared.data.Heap.{Heap}
 use Rattle.run_ledger.specs.declared.data.Ledger.{Ledger}
 use Rattle.run_ledger.specs.Heaps.{heap_of, or_fresh, with_heap, with_heap_at, let_go, held, held_in, roots_of, frames_of, is_above, fresh, within, swept_heap, collected, forked_heap, merged, emptied}
-use Rattle.std.specs.List.{flat_map, list_any}
+use Rattle.std.specs.List.{flat_map}
 use Rattle.std.proofs.lemmas.Option.{same_Some}
 use Rattle.hh_model.specs.Names.{refs_at, refs_of, registers}
-use Rattle.run_ledger.specs.Reachable.{holds_name, once_more, reached_by, reached}
+use Rattle.run_ledger.specs.Reachable.{once_more, reached_by, reached}
 use Rattle.run_ledger.specs.Steps.{at_fork, join_heaps}
 use Rattle.ledger_step_laws.specs.Accounts.{rested, ChangesHeap, Takes, SameTasks}
 use Rattle.run_ledger.specs.Sound.{SoundLedger}
+use Rattle.run_ledger.proofs.Forked.{once_by}
 use Rattle.ledger_step_laws.specs.Kinds.{ForksTask, JoinsTasks}
 use Rattle.ledger_step_laws.proofs.Ahead.{with_at, with_off, with_machine, heap_then}
 
@@ -73,9 +74,6 @@ took_takes l t w h is = record {
 }
 
 -- WHAT IS REACHED
-
-abbrev once_by : (Name → List Name) → List Name → List Name → List Name
-once_by refs names found = filter (λ n. holds_name found n || list_any (λ m. holds_name (refs m) n) found) names
 
 once_same : (store store' : List (List Object)) → ((k : Name) → refs_at store' k ≡ refs_at store k) → (names found : List Name) → once_more store' names found ≡ once_more store names found
 once_same store store' e names found = ap (λ (f : Name → List Name). once_by f names found) (fun_ext e)

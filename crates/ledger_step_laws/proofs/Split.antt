@@ -1,11 +1,11 @@
 -- An accepted entry of steps is private steps and one more of a known kind.
-use Rattle.std.proofs.Common.{◌≡◌, ℕ, zero, suc, ◌+◌, ◌-◌, ◌≤◌, ◌||◌, min, nat_le, arith, Bool, true, false, cond, Option, Some, None, List, [], ◌∷◌, ◌++◌, length, slice_get, replicate, inl, inr, refl, ap, sym, subst, ◌∙◌, is_none, is_some}
+use Rattle.std.proofs.Common.{◌≡◌, ℕ, zero, suc, ◌+◌, ◌-◌, ◌≤◌, ◌||◌, min, nat_le, arith, Bool, true, false, cond, Option, Some, None, List, [], ◌∷◌, ◌++◌, length, slice_get, replicate, inl, inr, refl, ap, sym, subst, ◌∙◌, is_none}
 use Rattle.std.proofs.lemmas.Bool.{false≢true, both_ways, and_parts, cond-true, eqb-true, leb-true}
 use Rattle.std.proofs.Math.Nat.{min-le_right}
+use Rattle.listed.proofs.Options.{none_of}
 use Rattle.hh_lang.specs.declared.program.Line.{Line}
 use Rattle.hh_lang.specs.Form.{ProgramText, IsProgram}
-use Rattle.run_trace.specs.declared.entry.Kind.{Kind}
-use Rattle.run_trace.specs.declared.entry.Kind.TheVariants.{Took, Ran, Chunk, Begin, End as EndOf, PutOff, Mark, More, Sweep, Fuel}
+use Rattle.run_trace.specs.declared.entry.Kind.TheVariants.{Ran}
 use Rattle.run_trace.specs.Entry.{EntryValue}
 use Rattle.run_trace.specs.Settings.{SettingsValue, field_limit}
 use Rattle.hh_model.specs.declared.data.Name.{Name}
@@ -16,13 +16,12 @@ use Rattle.hh_model.specs.Effect.{row_of}
 use Rattle.hh_model.specs.Step.{step, can_step, goes_on, is_running, fetched, run, run_from, asked}
 use Rattle.hh_model.proofs.Next.{always_next}
 use Rattle.hh_model.proofs.Steps.{runs_is, step_cases}
-use Rattle.hh_model.proofs.Taken.{step_idle}
 use Rattle.run_ledger.specs.declared.data.Heap.{Heap}
 use Rattle.run_ledger.specs.declared.data.Ledger.{Ledger}
 use Rattle.run_ledger.specs.Heaps.{heap_of, let_go, or_fresh, placed, is_small, put_last}
-use Rattle.run_ledger.specs.Steps.{task_step, task_steps, standing, is_due, is_in_need, is_private, most_steps, stepped_to, settled, allocated_in, allocated_by}
-use Rattle.run_ledger.specs.Entries.{refusal, kind_refusal, after, after_kind, is_out, is_held_by, long_at}
-use Rattle.run_ledger.specs.Journals.{ledger_of, is_legal, is_legal_from, after_all, opening, tasks_of}
+use Rattle.run_ledger.specs.Steps.{task_step, task_steps, standing, is_due, is_in_need, is_private, most_steps, stepped_to, allocated_in, allocated_by}
+use Rattle.run_ledger.specs.Entries.{refusal, kind_refusal, after, is_out, is_held_by, long_at}
+use Rattle.run_ledger.specs.Journals.{ledger_of, is_legal, tasks_of}
 use Rattle.run_ledger.proofs.Going.{machine_goes_on}
 use Rattle.run_ledger.proofs.Booked.{task_steps_booked}
 use Rattle.run_ledger.proofs.Journals.{none_unless, out_tells, entry_tells, entry_sound}
@@ -38,6 +37,7 @@ use Rattle.ledger_step_laws.proofs.Ahead.{heap_after, with_at, with_off, with_ma
 use Rattle.ledger_step_laws.proofs.Along.{step_knows, steps_know}
 use Rattle.ledger_step_laws.proofs.Commute.{alike_self, goes_running, goes_can}
 use Rattle.hh_model.proofs.Root.{run_root}
+use Rattle.hh_model.proofs.Counts.{run_on}
 use Rattle.ledger_step_laws.proofs.Known.{legal_knows, run_knows}
 use Rattle.ledger_step_laws.proofs.Last.{last_step}
 use Rattle.ledger_step_laws.proofs.Reserved.{booked_askers, private_stand}
@@ -116,19 +116,11 @@ idle_alone l k t y H A is run u h =
     let ne : u ≡ t → ⊥ = λ e. both_ways (is_running (slice_get k.machine.tasks u)) h (ap (λ j. is_running (slice_get k.machine.tasks j)) e ∙ (ap is_running is ∙ run)) in
     ap (λ (z : Heap). z.worker) (A.heaps u ne) ∙ H u (ap is_running (sym (A.tasks u ne)) ∙ h)
 
-none_of : {A : Type 0} (o : Option A) → is_some o ≡ false → o ≡ None
-none_of None h = refl
-none_of (Some x) h = absurd (false≢true (sym h))
-
 -- where the accounts of a legal journal haven't ended, neither has the machine
 pub legal_alive : (p : ProgramText) (s : SettingsValue) (journal : List EntryValue) → is_legal p s journal ≡ true → (ledger_of p s journal).end ≡ None → (ledger_of p s journal).machine.end ≡ None
 legal_alive p s journal legal = machine_goes_on p s journal
 
 -- THE LAW
-
-run_on : (p : ProgramText) (ts us : List ℕ) (m : State) → run_from p m (ts ++ us) ≡ run_from p (run_from p m ts) us
-run_on p [] us m = refl
-run_on p (t ∷ ts) us m = run_on p ts us (step p m t)
 
 pub legal_idle : (p : ProgramText) (s : SettingsValue) (journal : List EntryValue) → is_legal p s journal ≡ true → (ledger_of p s journal).end ≡ None → IdleRest (ledger_of p s journal)
 legal_idle p s journal legal on u h = by (heap_of (ledger_of p s journal) u).worker refl

@@ -29,7 +29,7 @@ place_less n (pos k) i e = by (nat_lt k n) refl e
     by false h e = absurd cc
 place_less n (negsuc k) i e = absurd cc
 
-waiting_stops : (o : Option Task) → is_waiting o ≡ true → is_running o ≡ false
+pub waiting_stops : (o : Option Task) → is_waiting o ≡ true → is_running o ≡ false
 waiting_stops None h = refl
 waiting_stops (Some x) h = by x.status h
   where

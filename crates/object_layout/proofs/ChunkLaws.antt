@@ -10,6 +10,7 @@ use Rattle.object_layout.specs.ChunkValue.{ChunkValue}
 use Rattle.object_layout.specs.Place.{cell_at, words_in}
 use Rattle.object_layout.proofs.PlaceLemmas as place
 use Rattle.object_layout.specs.Chunks.{cell_of, chunk_at, next_address, no_chunk, object_of, place_in, place_of, push_object, put_object, with_cell}
+use Rattle.object_layout.proofs.PlaceLemmas.{object_of_born}
 
 -- ---- where a chunk is found
 
@@ -58,13 +59,8 @@ chunk_of_object ks a o =
     (cases_lt (place_of ks a.chunk) (length ks))
 
 -- what bears its birth name is an object
-born_marked : (m : Mark) → IsBorn m → IsObject m
-born_marked (Born b) h = tt
-born_marked (Moved to) h = absurd h
-born_marked Hole h = absurd h
-
 pub born_object : (ks : List ChunkValue) (a : Addr) → IsBorn (cell_of ks a).mark → IsObject (cell_of ks a).mark
-born_object ks a h = born_marked (cell_of ks a).mark h
+born_object ks a h = object_of_born (cell_of ks a).mark h
 
 -- an object is the cell that begins there
 marked_is : (m : Mark) (c : Cell) → m ≡ c.mark → IsObject c.mark → as_object c ≡ c

@@ -21,15 +21,15 @@ along_append number at c (Born b) xs ys = refl
 along_append number at c (Moved to) xs ys = refl
 along_append number at c Hole xs ys = refl
 
-appended : (cs : List Cell) (number base : ℕ) (c : Cell) → objects_from number base (cs ++ c ∷ []) ≡ objects_from number base cs ++ located_by number (base + words_in cs) c c.mark []
-appended [] number base c = ap (λ n. located_by number n c c.mark []) (let e : base ≡ base + 0 = omega arith in e)
-appended (d ∷ cs) number base c =
-    ap (located_by number base d d.mark) (appended cs number (base + size_of d) c ∙ ap (λ n. objects_from number (base + size_of d) cs ++ located_by number n c c.mark []) (let e : base + size_of d + words_in cs ≡ base + (size_of d + words_in cs) = omega arith in e))
+pub objects_appended : (cs : List Cell) (number base : ℕ) (c : Cell) → objects_from number base (cs ++ c ∷ []) ≡ objects_from number base cs ++ located_by number (base + words_in cs) c c.mark []
+objects_appended [] number base c = ap (λ n. located_by number n c c.mark []) (let e : base ≡ base + 0 = omega arith in e)
+objects_appended (d ∷ cs) number base c =
+    ap (located_by number base d d.mark) (objects_appended cs number (base + size_of d) c ∙ ap (λ n. objects_from number (base + size_of d) cs ++ located_by number n c c.mark []) (let e : base + size_of d + words_in cs ≡ base + (size_of d + words_in cs) = omega arith in e))
     ∙ along_append number base d d.mark (objects_from number (base + size_of d) cs) (located_by number (base + (size_of d + words_in cs)) c c.mark [])
 
 pub appended_is_last : AppendedIsLast
 appended_is_last k c b e =
-    appended k.cells k.number 0 c
+    objects_appended k.cells k.number 0 c
     ∙ (ap (λ m. objects_of k ++ located_by k.number (0 + words_in k.cells) c m []) e
     ∙ ap (λ n. objects_of k ++ located k.number n b c ∷ []) (let z : 0 + words_in k.cells ≡ words_in k.cells = omega arith in z))
 

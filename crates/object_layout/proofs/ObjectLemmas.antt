@@ -1,12 +1,12 @@
 -- The objects that are read from cells, and the cells.
-use Rattle.std.proofs.Common.{◌≡◌, ℕ, zero, suc, ◌+◌, ◌-◌, ◌≤◌, ◌==◌, arith, Bool, true, false, cond, List, [], ◌∷◌, nat_le, inl, inr, refl, ap, sym, subst, ◌∙◌, eq-eqb, ne_eqb, le-leb}
+use Rattle.std.proofs.Common.{◌≡◌, ℕ, zero, suc, ◌+◌, ◌-◌, ◌<◌, ◌≤◌, ◌==◌, arith, Bool, true, false, cond, List, [], ◌∷◌, length, nat_le, inl, inr, refl, ap, sym, subst, ◌∙◌, eq-eqb, ne_eqb, le-leb}
 use Rattle.std.proofs.lemmas.Bool.{cond-true, cond-false, eqb-true, leb-true, false≢true}
 use Rattle.listed.proofs.Members.{In, any_from_in, contains_from_in, flat_in, got_in, in_flat, in_from_contains}
 use Rattle.object_layout.specs.declared.word.Addr.{Addr}
 use Rattle.object_layout.specs.declared.word.Birth.{Birth}
 use Rattle.object_layout.specs.Cell.{Born, Cell, Hole, Mark, Moved, no_cell, size_of}
 use Rattle.object_layout.specs.ChunkValue.{ChunkValue}
-use Rattle.object_layout.specs.Chunks.{cell_of, has_chunk, AreApart}
+use Rattle.object_layout.specs.Chunks.{cell_of, chunk_at, has_chunk, AreApart}
 use Rattle.object_layout.specs.Place.{cell_at}
 use Rattle.object_layout.specs.Objects.{Located, located, located_by, objects_from, objects_in, objects_of}
 use Rattle.object_layout.specs.ObjectLaws.{LiesThere, ObjectsHaveChunks, ObjectsLieThere}
@@ -14,23 +14,23 @@ use Rattle.object_layout.proofs.Owning.{found_any, fresh_none}
 
 -- ---- the cells of one chunk
 
-behind : (number at : ℕ) (c : Cell) (m : Mark) (os : List Located) (o : Located) → In os o → In (located_by number at c m os) o
+pub behind : (number at : ℕ) (c : Cell) (m : Mark) (os : List Located) (o : Located) → In os o → In (located_by number at c m os) o
 behind number at c (Born b) os o i = inr i
 behind number at c (Moved to) os o i = i
 behind number at c Hole os o i = i
 
-first : (number at : ℕ) (c : Cell) (m : Mark) (b : Birth) (os : List Located) → m ≡ Born b → In (located_by number at c m os) (located number at b c)
+pub first : (number at : ℕ) (c : Cell) (m : Mark) (b : Birth) (os : List Located) → m ≡ Born b → In (located_by number at c m os) (located number at b c)
 first number at c m b os e = subst (λ z. In (located_by number at c z os) (located number at b c)) (sym e) (inl refl)
 
 -- what begins behind a cell
-cell_skip : (c : Cell) (cs : List Cell) (off k : ℕ) → k ≡ size_of c + off → cell_at (c ∷ cs) k ≡ cell_at cs off
+pub cell_skip : (c : Cell) (cs : List Cell) (off k : ℕ) → k ≡ size_of c + off → cell_at (c ∷ cs) k ≡ cell_at cs off
 cell_skip c cs off zero e = absurd (omega (arith, e))
 cell_skip c cs off (suc n) e =
     cond-true (nat_le (size_of c) (suc n)) (cell_at cs (suc n - size_of c)) no_cell (le-leb (size_of c) (suc n) (omega (arith, e)))
     ∙ ap (cell_at cs) (omega (arith, e))
 
 -- a cell that bears a name is read
-cell_read : (cs : List Cell) (number base off at : ℕ) (b : Birth) → at ≡ base + off → (cell_at cs off).mark ≡ Born b → In (objects_from number base cs) (located number at b (cell_at cs off))
+pub cell_read : (cs : List Cell) (number base off at : ℕ) (b : Birth) → at ≡ base + off → (cell_at cs off).mark ≡ Born b → In (objects_from number base cs) (located number at b (cell_at cs off))
 cell_read [] number base off at b ea e = absurd cc
 cell_read (c ∷ cs) number base zero at b ea e =
     subst (λ n. In (objects_from number base (c ∷ cs)) (located number n b c)) (let q : base ≡ at = omega (arith, ea) in q) (first number base c c.mark b (objects_from number (base + size_of c) cs) e)
@@ -74,13 +74,13 @@ read_cell (c ∷ cs) number base o i = by c.mark refl i (read_cell cs number (ba
 
 -- ---- chunks
 
-record InChunk (ks : List ChunkValue) (a : Addr) : Type 0 where
-  chunk : ChunkValue
-  there : In ks chunk
-  number : chunk.number ≡ a.chunk
-  cell : cell_of ks a ≡ cell_at chunk.cells a.offset
+pub record InChunk (ks : List ChunkValue) (a : Addr) : Type 0 where
+  pub chunk : ChunkValue
+  pub there : In ks chunk
+  pub number : chunk.number ≡ a.chunk
+  pub cell : cell_of ks a ≡ cell_at chunk.cells a.offset
 
-find_chunk : (ks : List ChunkValue) (a : Addr) (b : Birth) → (cell_of ks a).mark ≡ Born b → InChunk ks a
+pub find_chunk : (ks : List ChunkValue) (a : Addr) (b : Birth) → (cell_of ks a).mark ≡ Born b → InChunk ks a
 find_chunk [] a b e = absurd cc
 find_chunk (k ∷ ks) a b e = by (k.number == a.chunk) refl e (find_chunk ks a b)
   where
@@ -91,13 +91,19 @@ find_chunk (k ∷ ks) a b e = by (k.number == a.chunk) refl e (find_chunk ks a b
         record { chunk = f.chunk; there = inr f.there; number = f.number; cell = cond-false (k.number == a.chunk) (cell_at k.cells a.offset) (cell_of ks a) q ∙ f.cell }
 
 -- an object at an address is read there
-object_read : (ks : List ChunkValue) (a : Addr) (b : Birth) → (cell_of ks a).mark ≡ Born b → In (objects_in ks) (located a.chunk a.offset b (cell_of ks a))
+pub object_read : (ks : List ChunkValue) (a : Addr) (b : Birth) → (cell_of ks a).mark ≡ Born b → In (objects_in ks) (located a.chunk a.offset b (cell_of ks a))
 object_read ks a b e =
     let f = find_chunk ks a b e in
     let m : (cell_at f.chunk.cells a.offset).mark ≡ Born b = ap (λ (x : Cell). x.mark) (sym f.cell) ∙ e in
     subst (λ n. In (objects_in ks) (located n a.offset b (cell_of ks a))) f.number
     (subst (λ (x : Cell). In (objects_in ks) (located f.chunk.number a.offset b x)) (sym f.cell)
     (in_flat objects_of ks f.chunk (located f.chunk.number a.offset b (cell_at f.chunk.cells a.offset)) f.there (cell_read f.chunk.cells f.chunk.number 0 a.offset a.offset b (omega arith) m)))
+
+-- a chunk at a place of the list is of the list
+pub chunk_there : (ks : List ChunkValue) (i : ℕ) → i < length ks → In ks (chunk_at ks i)
+chunk_there [] i lt = absurd (omega arith)
+chunk_there (k ∷ ks) zero lt = inl refl
+chunk_there (k ∷ ks) (suc i) lt = inr (chunk_there ks i (omega arith))
 
 -- a chunk of the list has its number there
 pub has_own : (ks : List ChunkValue) (k : ChunkValue) (n : ℕ) → In ks k → k.number ≡ n → has_chunk ks n ≡ true

@@ -1,9 +1,10 @@
 -- A chunk is found by its number exactly where the list has it.
-use Rattle.std.proofs.Common.{◌≡◌, ℕ, suc, ◌+◌, Bool, true, false, cond, ◌||◌, List, [], ◌∷◌, ◌++◌, length, refl, sym, ap, ap₂, ◌∙◌, inl, inr, eqb, arith, Option, Some, None}
+use Rattle.std.proofs.Common.{◌≡◌, ℕ, suc, ◌+◌, Bool, true, false, cond, ◌||◌, List, [], ◌∷◌, ◌++◌, length, refl, sym, ap, ap₂, ◌∙◌, inl, inr, eqb, arith, Some, None}
 use Rattle.std.specs.Prelude.{is_some, nat_lt, ◌↔◌}
 use Rattle.std.specs.List.{list_any}
-use Rattle.std.proofs.lemmas.Bool.{cases_Bool, eq-eqb, false≢true, lt-ltb, ne_eqb}
+use Rattle.std.proofs.lemmas.Bool.{cases_Bool, eq-eqb, false≢true, lt-ltb, ne_eqb, or_from, or_parts}
 use Rattle.std.proofs.lemmas.List.Folds.{list_any-append}
+use Rattle.listed.proofs.Options.{none_of}
 use Rattle.object_layout.specs.ChunkValue.{ChunkValue}
 use Rattle.object_layout.specs.Laws.{ApartTogether}
 use Rattle.object_layout.specs.Chunks.{has_chunk, place_in, place_of, AreApart, IsFresh}
@@ -27,12 +28,8 @@ some_by false i = refl
 pub found_any : (ks : List ChunkValue) (n : ℕ) → has_chunk ks n ≡ list_any (λ k. eqb k.number n) ks
 found_any ks n = some_by (nat_lt (place_of ks n) (length ks)) (place_of ks n) ∙ has_by_place ks n
 
-none_by : {A : Type 0} (o : Option A) → is_some o ≡ false → o ≡ None
-none_by None e = refl
-none_by (Some x) e = absurd cc
-
 pub fresh_none : (ks : List ChunkValue) (n : ℕ) → IsFresh ks n ↔ (has_chunk ks n ≡ false)
-fresh_none ks n = ((λ e. ap is_some e), (λ e. none_by (place_in ks n) e))
+fresh_none ks n = ((λ e. ap is_some e), (λ e. none_of (place_in ks n) e))
 
 -- a list followed by another has the chunks of both
 pub has_append : (ks ls : List ChunkValue) (n : ℕ) → has_chunk (ks ++ ls) n ≡ (has_chunk ks n || has_chunk ls n)
@@ -46,17 +43,6 @@ has_one k n = found_any (k ∷ []) n ∙ or_none (eqb k.number n)
     or_none : (b : Bool) → (b || false) ≡ b
     or_none true = refl
     or_none false = refl
-
-or_false : (a b : Bool) → a ≡ false → b ≡ false → (a || b) ≡ false
-or_false a b e f = rw (e, f) refl
-
-left_false : (a b : Bool) → (a || b) ≡ false → a ≡ false
-left_false true b e = e
-left_false false b e = refl
-
-right_false : (a b : Bool) → (a || b) ≡ false → b ≡ false
-right_false true b e = absurd cc
-right_false false b e = e
 
 any_first : (k : ChunkValue) (ks : List ChunkValue) → has_chunk (k ∷ ks) k.number ≡ true
 any_first k ks = found_any (k ∷ ks) k.number ∙ ap (λ b. b || list_any (λ y. eqb y.number k.number) ks) (eq-eqb k.number k.number refl)
@@ -72,7 +58,7 @@ pub apart_together : ApartTogether
 apart_together [] ls A B off = B
 apart_together (k ∷ ks) ls A B off = (
   (fresh_none (ks ++ ls) k.number).1
-      (has_append ks ls k.number ∙ or_false (has_chunk ks k.number) (has_chunk ls k.number) ((fresh_none ks k.number).0 A.0) (off k.number (any_first k ks))),
+      (has_append ks ls k.number ∙ or_from (has_chunk ks k.number) (has_chunk ls k.number) ((fresh_none ks k.number).0 A.0) (off k.number (any_first k ks))),
   apart_together ks ls A.1 B (λ n e. off n (any_rest k ks n e)),
 )
 
@@ -81,11 +67,11 @@ pub apart_more : (ks : List ChunkValue) (k : ChunkValue) → AreApart ks → has
 apart_more [] k A f = ((fresh_none [] k.number).1 refl, tt)
 apart_more (x ∷ xs) k A f =
     let both : (eqb x.number k.number || list_any (λ y. eqb y.number k.number) xs) ≡ false = sym (found_any (x ∷ xs) k.number) ∙ f in
-    let ne : eqb x.number k.number ≡ false = left_false (eqb x.number k.number) (list_any (λ y. eqb y.number k.number) xs) both in
-    let rest : has_chunk xs k.number ≡ false = found_any xs k.number ∙ right_false (eqb x.number k.number) (list_any (λ y. eqb y.number k.number) xs) both in
+    let ne : eqb x.number k.number ≡ false = (or_parts (eqb x.number k.number) (list_any (λ y. eqb y.number k.number) xs) both).0 in
+    let rest : has_chunk xs k.number ≡ false = found_any xs k.number ∙ (or_parts (eqb x.number k.number) (list_any (λ y. eqb y.number k.number) xs) both).1 in
     let apart : eqb k.number x.number ≡ false = ne_eqb k.number x.number (λ e. eq_false x.number k.number ne (sym e)) in (
       (fresh_none (xs ++ k ∷ []) x.number).1
-          (has_append xs (k ∷ []) x.number ∙ or_false (has_chunk xs x.number) (has_chunk (k ∷ []) x.number) ((fresh_none xs x.number).0 A.0) (has_one k x.number ∙ apart)),
+          (has_append xs (k ∷ []) x.number ∙ or_from (has_chunk xs x.number) (has_chunk (k ∷ []) x.number) ((fresh_none xs x.number).0 A.0) (has_one k x.number ∙ apart)),
       apart_more xs k A.1 rest,
     )
   where

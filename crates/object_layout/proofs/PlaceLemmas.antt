@@ -302,7 +302,7 @@ cell_of_object cs at h =
     (λ (o : (IsCellAt cs at → ⊥) × (cell_at cs at ≡ no_cell)). absurd (rw o.1 at h))
     (cell_or_none cs at)
 
-object_of_born : (m : Mark) → IsBorn m → IsObject m
+pub object_of_born : (m : Mark) → IsBorn m → IsObject m
 object_of_born (Born b) h = tt
 object_of_born (Moved to) h = absurd h
 object_of_born Hole h = absurd h

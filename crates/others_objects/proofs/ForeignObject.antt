@@ -1,6 +1,6 @@
 -- Before the run's end the object in a register of a part that fits lies, where another task owns it, in that task's
 -- heap, which no worker holds.
-use Rattle.std.proofs.Common.{◌≡◌, ℕ, suc, pos, true, Option, Some, None, List, [], ◌∷◌, length, slice_get, unwrap_or, inl, refl, ap, sym, subst, ◌∙◌}
+use Rattle.std.proofs.Common.{◌≡◌, ℕ, pos, true, Option, Some, None, ◌∷◌, slice_get, unwrap_or, inl, refl, ap, sym, subst, ◌∙◌}
 use Rattle.std.proofs.lemmas.Option.{same_Some}
 use Rattle.hh_model.specs.declared.data.Name.{Name}
 use Rattle.hh_model.specs.declared.data.Object.{Object}
@@ -37,12 +37,6 @@ use Rattle.shared_value.proofs.CellsRead.{seen_object}
 use Rattle.shared_value.proofs.PartFitsMachine as link
 
 -- as many references are read as there are
-pub reads_length : (at : Name → Addr → Type 0) (rs : List (Option Addr)) (xs : List (Option Name)) → AllRead at rs xs → length rs ≡ length xs
-reads_length at [] [] h = refl
-reads_length at [] (x ∷ xs) h = absurd h
-reads_length at (r ∷ rs) [] h = absurd h
-reads_length at (r ∷ rs) (x ∷ xs) h = ap suc (reads_length at rs xs h.1)
-
 -- the address of a name that is read
 pub reads_name : (at : Name → Addr → Type 0) (r : Option Addr) (x : Option Name) (n : Name) → Reads at r x → x ≡ Some n → (a : Addr) × (r ≡ Some a) × at n a
 reads_name at None None n h e = absurd cc

@@ -1,9 +1,10 @@
 -- The next line of a part whose step works on an object that another task owns:
 -- the object, and what the step does with it.
-use Rattle.std.proofs.Common.{◌≡◌, ℕ, ◌<◌, not, true, Option, Some, None, List, length, slice_get, option_map, is_some, refl, ap, ap₂, sym, subst, ◌∙◌}
+use Rattle.std.proofs.Common.{◌≡◌, ℕ, ◌<◌, not, true, Option, Some, None, List, length, slice_get, is_some, refl, ap, ap₂, sym, subst, ◌∙◌}
 use Rattle.std.specs.Prelude.{IsSome}
 use Rattle.std.proofs.lemmas.Bool.{eq-eqb, false≢true}
 use Rattle.std.proofs.lemmas.Option.{same_Some}
+use Rattle.listed.proofs.Options.{none_some}
 use Rattle.hh_lang.specs.declared.instr.Instr.{Instr}
 use Rattle.hh_lang.specs.declared.instr.Instr.TheVariants.{Getr, Geti, Putr, Puti, Cntr, Cnti, Freeze, Cas}
 use Rattle.hh_lang.specs.declared.program.Line.{Line}
@@ -20,7 +21,6 @@ use Rattle.object_layout.specs.declared.word.Addr.{Addr}
 use Rattle.object_layout.specs.Cell.{Cell}
 use Rattle.object_layout.specs.Chunks.{cell_of, object_of}
 use Rattle.chunk_pool.specs.PoolValue.{held_at, owner_of as pool_owner}
-use Rattle.chunk_pool.specs.declared.pool.Held.{Held}
 use Rattle.task_frames.specs.declared.frames.Frame.{Frame}
 use Rattle.write_barrier.specs.Stored.{IsOwned}
 use Rattle.ledger_step_laws.specs.Accounts.{own, rested}
@@ -31,12 +31,14 @@ use Rattle.core_relation.proofs.notes.Roots.{name_at}
 use Rattle.task_machine.specs.declared.part.Private.{Private}
 use Rattle.task_machine.specs.Plan.{ref_of}
 use Rattle.task_machine.proofs.Owned.{born_is, born_object}
-use Rattle.shared_value.specs.SharedValue.{SharedValue, accounts, flat, value_of}
+use Rattle.shared_value.specs.SharedValue.{SharedValue, accounts, value_of}
 use Rattle.shared_value.specs.Stands.{IsSharedValue}
 use Rattle.shared_value.specs.Fits.{Fits, home_of_part}
 use Rattle.shared_value.specs.Next.{next_line}
 use Rattle.shared_value.specs.declared.task_at_rest.Rest.{Rest}
 use Rattle.shared_value.proofs.PartFitsMachine as link
+use Rattle.shared_value.proofs.TaskTaken.{some_flat}
+use Rattle.shared_value.proofs.UnitsMeasured.{owner_held}
 use Rattle.own_steps.specs.Alone.{IsShared}
 use Rattle.own_steps.proofs.LastSteps.{machine_same}
 use Rattle.others_objects.specs.Other.{IsOther, IsReadable, SaysOther, TellsOther, is_other, is_other_by, is_other_line, object_named, other_step, then_places}
@@ -51,9 +53,6 @@ pub record HasRegister (f : ModelFrame) (i : Instr) (n : Name) : Type 0 where
   pub holds : ref_in f register ≡ Some n
   pub at : (g : Frame) → object_named g i ≡ ref_of g register
 
-none_named : {A : Type 0} {n : Name} → ◌≡◌ {A = Option Name} None (Some n) → A
-none_named e = absurd cc
-
 register_of : (f : ModelFrame) (i : Instr) (n : Name) → touched f i ≡ Some n → HasRegister f i n
 register_of f (Getr d o k) n e = record { register = o; holds = e; at = λ g. refl }
 register_of f (Geti d o k) n e = record { register = o; holds = e; at = λ g. refl }
@@ -63,7 +62,7 @@ register_of f (Cntr d o) n e = record { register = o; holds = e; at = λ g. refl
 register_of f (Cnti d o) n e = record { register = o; holds = e; at = λ g. refl }
 register_of f (Freeze o) n e = record { register = o; holds = e; at = λ g. refl }
 register_of f (Cas d o k v b) n e = record { register = o; holds = e; at = λ g. refl }
-register_of f _ n e = none_named e
+register_of f _ n e = none_some e
 
 -- a name that another task owns
 pub record Touches (tasks : List Task) (t : ℕ) (f : ModelFrame) (i : Instr) : Type 0 where
@@ -74,14 +73,6 @@ pub record Touches (tasks : List Task) (t : ℕ) (f : ModelFrame) (i : Instr) : 
 touches_by : (tasks : List Task) (t : ℕ) (f : ModelFrame) (i : Instr) (o : Option Name) → touched f i ≡ o → not (owns tasks t o) ≡ true → Touches tasks t f i
 touches_by tasks t f i None e h = absurd (false≢true h)
 touches_by tasks t f i (Some n) e h = record { name = n; touches = e; apart = λ q. false≢true (sym (ap not (eq-eqb (owner_of tasks n.task) t q)) ∙ h) }
-
-pub some_held : (o : Option Held) (u : ℕ) → option_map (λ (h : Held). h.owner) o ≡ Some u → IsSome o
-some_held None u e = absurd cc
-some_held (Some h) u e = refl
-
-some_flat : (o : Option (Option Rest)) (r : Rest) → flat o ≡ Some r → o ≡ Some (Some r)
-some_flat None r e = absurd cc
-some_flat (Some q) r e = ap Some e
 
 module _ (w : SharedValue) (k : ℕ) (p : Private) (I : IsSharedValue w) (F : Fits w k p) (shared : IsShared w p) (other : IsOther w p) (on : (accounts w).end ≡ None) where
   abbrev pub t : ℕ
@@ -110,7 +101,7 @@ module _ (w : SharedValue) (k : ℕ) (p : Private) (I : IsSharedValue w) (F : Fi
   owned b u e = made_there w I on u (sym ((link.alone w k p I F on).tree.made u) ∙ (link.W w k p I F on).made b u e)
 
   pub in_use : (b : ℕ) (u : ℕ) → pool_owner w.pool b ≡ Some u → IsSome (held_at w.pool b)
-  in_use b u e = some_held (held_at w.pool b) u e
+  in_use b u e = owner_held w.pool b u e
 
   pub reader_there : t < length w.tree
   reader_there = made_there w I on t (ap is_some F.fits.is)

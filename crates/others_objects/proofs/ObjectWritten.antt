@@ -34,6 +34,7 @@ use Rattle.shared_value.specs.Objects.{chunks_of}
 use Rattle.shared_value.specs.Measured.{AreMeasured, RestsAreMeasured}
 use Rattle.shared_value.specs.Stands.{HeapForm, IsSharedValue}
 use Rattle.shared_value.specs.Fits.{Fits, home_of_part}
+use Rattle.shared_value.proofs.FieldsLed.{by_chunks}
 use Rattle.shared_value.proofs.CellsRead.{seen_object}
 use Rattle.shared_value.proofs.PartFitsMachine as link
 use Rattle.shared_value.proofs.UnitsMeasured.{measured_written}
@@ -45,10 +46,6 @@ use Rattle.others_objects.proofs.ForeignObject.{IsForeign}
 home_written : (h h' : LeafHeapValue) (view : List Level) (count : ℕ) (x : Work) → room_of h' ≡ room_of h → h'.since ≡ h.since → home_by h' view count x ≡ record (home_by h view count x) { chunks = chunks_of h'.chunks }
 home_written h h' view count (Calls s) er es = ap₂ (λ n m. record (home_by h view count (Calls s)) { chunks = chunks_of h'.chunks; room = n; since = m }) er es
 home_written h h' view count (Result k b) er es = ap₂ (λ n m. record (home_by h view count (Result k b)) { chunks = chunks_of h'.chunks; room = n; since = m }) er es
-
-chunks_are : (h : LeafHeapValue) (view : List Level) (count : ℕ) (x : Work) → (home_by h view count x).chunks ≡ chunks_of h.chunks
-chunks_are h view count (Calls s) = refl
-chunks_are h view count (Result k b) = refl
 
 -- the homes of the tasks that no worker holds
 abbrev pub resting : Ledger → (ℕ → Home) → ℕ → Home
@@ -167,7 +164,7 @@ module _ (w : SharedValue) (k : ℕ) (p : Private) (I : IsSharedValue w) (F : Fi
       home_owner =
           ap home_in (ap flat (got_same w.homes u (Some r) (Some r') was_there))
           ∙ (home_written r.heap r'.heap r.view r.allocations r.work (room_written r.heap a d form mark size) refl
-          ∙ (ap (λ (ks : List Chunk). record (home_of r) { chunks = ks }) (chunks_changed ∙ ap (map (mapped_chunk (put_at a f))) (sym (chunks_are r.heap r.view r.allocations r.work)))
+          ∙ (ap (λ (ks : List Chunk). record (home_of r) { chunks = ks }) (chunks_changed ∙ ap (map (mapped_chunk (put_at a f))) (sym (by_chunks r.heap r.view r.allocations r.work)))
           ∙ ap (λ o. changed (home_in o)) (sym O.there)))
 
       home_other : (z : ℕ) → (z ≡ t → ⊥) → (z ≡ u → ⊥) → Rests l z → v'.homes z ≡ changed ((value_of w).homes z)
@@ -238,7 +235,7 @@ module _ (w : SharedValue) (k : ℕ) (p : Private) (I : IsSharedValue w) (F : Fi
       read_old o i at =
           let j : In (objects_in (resting l (value_of w).homes u).chunks) o = subst (λ (x : Home). In (objects_in x.chunks) o) (off_home v0 t h u O.apart) i in
           let k' : In (objects_in (home_in (rest_at w.homes u)).chunks) o = subst (λ (x : Home). In (objects_in x.chunks) o) (resting_is l (value_of w).homes u O.rests) j in
-          let m : In (objects_in (chunks_of r.heap.chunks)) o = subst (λ ks. In (objects_in ks) o) (chunks_are r.heap r.view r.allocations r.work) (subst (λ x. In (objects_in (home_in x).chunks) o) O.there k') in
+          let m : In (objects_in (chunks_of r.heap.chunks)) o = subst (λ ks. In (objects_in ks) o) (by_chunks r.heap r.view r.allocations r.work) (subst (λ x. In (objects_in (home_in x).chunks) o) O.there k') in
           let y = seen_object r.heap.chunks o form.shaped.apart m in
           (o.birth, y.is ∙ ap (λ (z : Addr). located o.at.chunk o.at.offset o.birth (cell_of r.heap.chunks z)) at)
 

@@ -41,10 +41,11 @@ use Rattle.shared_value.specs.SharedValue.{SharedValue, accounts, value_of}
 use Rattle.shared_value.specs.Stands.{IsSharedValue}
 use Rattle.shared_value.specs.Fits.{Fits, home_of_part}
 use Rattle.shared_value.proofs.PartFitsMachine as link
+use Rattle.shared_value.proofs.FreeChunks.{refs_long}
 use Rattle.others_objects.specs.declared.other.OtherStep.{OtherStep}
 use Rattle.others_objects.specs.declared.other.OtherStep.TheVariants.{SetsNumber, SetsReference, Stops, Traps, StoresReference, Swaps, StoresNumber}
 use Rattle.others_objects.specs.Other.{ReadsTo, SaysOther, object_named, or_frozen, or_range, other_step, reads_into, swaps, yields}
-use Rattle.others_objects.proofs.ForeignObject.{IsForeign, holds, number_at, reads_length, register_at, x}
+use Rattle.others_objects.proofs.ForeignObject.{IsForeign, holds, number_at, register_at, x}
 use Rattle.others_objects.proofs.TreePaths.{paths_same}
 use Rattle.others_objects.proofs.ForeignAddresses.{tests_same}
 
@@ -128,7 +129,7 @@ module _ (w : SharedValue) (k : ℕ) (p : Private) (I : IsSharedValue w) (F : Fi
     object_is r e go = ap (λ z. with_object m.store z go) e ∙ ap (λ z. or_trap NilTrap z (go n)) O.is
 
     refs_index : (j : ℕ) → place_in (length c.refs) (int_of p.frames.top j) ≡ place_in (length q.refs) (int_in top j)
-    refs_index j = ap₂ place_in (reads_length place c.refs q.refs O.refs) (number_at w k p I F on j)
+    refs_index j = ap₂ place_in (refs_long place c.refs q.refs O.refs) (number_at w k p I F on j)
 
     ints_index : (j : ℕ) → place_in (length c.ints) (int_of p.frames.top j) ≡ place_in (length q.ints) (int_in top j)
     ints_index j = ap₂ place_in (ap length O.ints) (number_at w k p I F on j)
@@ -196,7 +197,7 @@ module _ (w : SharedValue) (k : ℕ) (p : Private) (I : IsSharedValue w) (F : Fi
         (object_is (ref_in top o) (named (Geti d o j) e) _ ∙ ap (λ r. or_trap Range r (λ i. Goes (onward (with_int top d (unwrap_or (slice_get q.ints i) (pos 0)))) m.store)) (sym (ints_index j)))
         (λ i found h. subst (λ (zs : List ℤ). Says (SetsNumber d (unwrap_or (slice_get zs i) (pos 0)))) (sym O.ints) (reads (Geti d o j) e (onward (with_int top d (unwrap_or (slice_get q.ints i) (pos 0)))) tt h))
     says (Cntr d o) e =
-        subst (λ z. Says (SetsNumber d (pos z))) (sym (reads_length place c.refs q.refs O.refs)) (reads (Cntr d o) e (onward (with_int top d (pos (length q.refs)))) tt (object_is (ref_in top o) (named (Cntr d o) e) _))
+        subst (λ z. Says (SetsNumber d (pos z))) (sym (refs_long place c.refs q.refs O.refs)) (reads (Cntr d o) e (onward (with_int top d (pos (length q.refs)))) tt (object_is (ref_in top o) (named (Cntr d o) e) _))
     says (Cnti d o) e =
         subst (λ (zs : List ℤ). Says (SetsNumber d (pos (length zs)))) (sym O.ints) (reads (Cnti d o) e (onward (with_int top d (pos (length q.ints)))) tt (object_is (ref_in top o) (named (Cnti d o) e) _))
     says (Freeze o) e =

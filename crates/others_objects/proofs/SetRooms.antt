@@ -9,8 +9,8 @@ use Rattle.task_machine.specs.declared.part.Private.{Private}
 use Rattle.shared_value.specs.SharedValue.{SharedValue, accounts, marks_at, noted_in, totals_of, value_of}
 use Rattle.shared_value.specs.Stands.{IsSharedValue}
 use Rattle.shared_value.specs.Fits.{Fits, part_of}
+use Rattle.shared_value.proofs.FieldsNoted.{noted_is, noted_of}
 use Rattle.others_objects.specs.Other.{SameButRoom}
-use Rattle.others_objects.proofs.WriteNoted.{noted_is, noted_of}
 
 module _ (w : SharedValue) (sets : List SetOf) (many : length sets ≡ length w.sets) (same : (t : ℕ) → content_at sets t ≡ content_at w.sets t) where
   abbrev roomier : SharedValue

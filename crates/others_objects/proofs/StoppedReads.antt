@@ -1,7 +1,7 @@
 -- A register is written only where the read isn't stopped.
-use Rattle.std.proofs.Common.{◌≡◌, ℕ, zero, suc, ◌+◌, ◌++◌, arith, Option, Some, None, [], ◌∷◌, refl, ap, sym, ◌∙◌}
+use Rattle.std.proofs.Common.{◌≡◌, ℕ, zero, suc, ◌+◌, ◌++◌, arith, [], ◌∷◌, refl, ap, sym, ◌∙◌}
+use Rattle.listed.proofs.Options.{none_some}
 use Rattle.hh_lang.specs.Form.{ProgramText}
-use Rattle.hh_model.specs.declared.data.End.{End}
 use Rattle.hh_model.specs.declared.data.State.{State}
 use Rattle.hh_model.specs.Step.{step}
 use Rattle.run_trace.specs.Settings.{SettingsValue}
@@ -20,9 +20,6 @@ steps_last : (p : ProgramText) (t i : ℕ) (l : Ledger) → task_steps p l t (su
 steps_last p t zero l = refl
 steps_last p t (suc i) l = steps_last p t i (task_step p l t)
 
-no_end : {A : Type 0} {e : End} → ◌≡◌ {A = Option End} None (Some e) → A
-no_end q = absurd cc
-
 pub stopped_reads : StoppedReadsWriteNothing
 stopped_reads w v k p q I F shared on G reader owner stop =
     let l : Ledger = accounts w in
@@ -35,4 +32,4 @@ stopped_reads w v k p q I F shared on G reader owner stop =
     let machine : (accounts v).machine ≡ step w.program (machine_after w p) p.task =
     ap (λ (z : Ledger). z.machine) then_
     ∙ (task_step_machine w.program (task_steps w.program l p.task p.fresh) p.task ∙ ap (λ (m : State). step w.program m p.task) (sym (machine_same w k p I F shared on))) in
-    no_end (sym (machine_goes_on v.program v.settings v.journal.items G.goes) ∙ (ap (λ (m : State). m.end) machine ∙ stop))
+    none_some (sym (machine_goes_on v.program v.settings v.journal.items G.goes) ∙ (ap (λ (m : State). m.end) machine ∙ stop))

@@ -36,6 +36,8 @@ use Rattle.shared_value.specs.Stands.{IsSharedValue}
 use Rattle.shared_value.specs.Fits.{Fits, home_of_part}
 use Rattle.shared_value.specs.Entered.{refused}
 use Rattle.shared_value.proofs.PartFitsMachine as link
+use Rattle.shared_value.proofs.RootsHeld.{got_index}
+use Rattle.shared_value.proofs.UnitsMeasured.{owner_held}
 use Rattle.own_steps.specs.Alone.{GoesAlone, IsShared, alone_event}
 use Rattle.own_steps.proofs.AloneEntries.{is_safe, last_free}
 use Rattle.own_steps.proofs.LastStepEntry as last
@@ -44,11 +46,10 @@ use Rattle.others_objects.specs.declared.other.OtherStep.TheVariants.{StoresNumb
 use Rattle.others_objects.specs.Other.{IsWritable, SaysOther, TellsOther, WritesNumber, WritesReference, put_rest, store_frames, store_of, then_places}
 use Rattle.others_objects.proofs.ForeignObject.{IsForeign, register_at, x}
 use Rattle.others_objects.proofs.OtherEntries as entries
-use Rattle.others_objects.proofs.NextOtherLine.{some_held}
 use Rattle.others_objects.proofs.TreePaths.{made_there}
 use Rattle.others_objects.proofs.StoresByCalls as stored
 use Rattle.others_objects.proofs.StoreValue.{reads_address}
-use Rattle.others_objects.proofs.StoreKinds.{Made, by_cas, by_putr, reads_cas, reads_puti, reads_putr, stands_at}
+use Rattle.others_objects.proofs.StoreKinds.{Made, by_cas, by_putr, reads_cas, reads_puti, reads_putr}
 
 abbrev pub flag_of : Option ℕ → Option (ℕ × ℤ)
 flag_of swap = option_map (λ d. let z : ℕ × ℤ = (d, pos 1) in z) swap
@@ -93,7 +94,7 @@ module _ (w : SharedValue) (k : ℕ) (p : Private) (I : IsSharedValue w) (F : Fi
   place = Place (with_home (value_of w) t h) (rested M t)
 
   placed : (n : Name) (e : Addr) → place n e → IsOwned (length w.tree) w.pool (Some e)
-  placed n e P = (some_held (held_at w.pool e.chunk) (own (rested M t) n) P.chunk, λ u q. owned e.chunk u q)
+  placed n e P = (owner_held w.pool e.chunk (own (rested M t) n) P.chunk, λ u q. owned e.chunk u q)
 
   -- what a register holds may be written
   register_owned : (b : ℕ) → IsOwned (length w.tree) w.pool (ref_of p.frames.top b)
@@ -170,7 +171,7 @@ module _ (w : SharedValue) (k : ℕ) (p : Private) (I : IsSharedValue w) (F : Fi
         store.b store.j i (flag_of swap) store.writes.place store.pack (store_frames swap p.frames).top (store_top swap p.frames)
 
     held_owned : IsOwned (length w.tree) w.pool (slice_index_or (object_of foreign.rest.heap.chunks a).refs i None)
-    held_owned = by (slice_index_or (object_of foreign.rest.heap.chunks a).refs i None) (ap (λ (q : Cell). slice_get q.refs i) (sym cell_is) ∙ stands_at (object_of foreign.rest.heap.chunks a).refs i None field_there)
+    held_owned = by (slice_index_or (object_of foreign.rest.heap.chunks a).refs i None) (ap (λ (q : Cell). slice_get q.refs i) (sym cell_is) ∙ got_index (object_of foreign.rest.heap.chunks a).refs i None field_there)
       where
         by : (q : Option Addr) → slice_get cell.refs i ≡ Some q → IsOwned (length w.tree) w.pool q
         by None e = tt
@@ -181,7 +182,7 @@ module _ (w : SharedValue) (k : ℕ) (p : Private) (I : IsSharedValue w) (F : Fi
       owner = owner;
       rest = foreign.rest;
       owns = foreign.place.chunk;
-      used = some_held (held_at w.pool a.chunk) owner foreign.place.chunk;
+      used = owner_held w.pool a.chunk owner foreign.place.chunk;
       inside = owned a.chunk owner foreign.place.chunk;
       home = subst (λ m. owner < m) (sym I.made) (owned a.chunk owner foreign.place.chunk);
       there = foreign.there;
@@ -257,7 +258,7 @@ module _ (w : SharedValue) (k : ℕ) (p : Private) (I : IsSharedValue w) (F : Fi
     same_owner z e = same_Some z owner_number (sym e ∙ foreign_number.place.chunk)
 
     pub used_number : IsSome (held_at w.pool a.chunk)
-    used_number = some_held (held_at w.pool a.chunk) owner_number foreign_number.place.chunk
+    used_number = owner_held w.pool a.chunk owner_number foreign_number.place.chunk
 
     pub home_number : (z : ℕ) → pool_owner w.pool a.chunk ≡ Some z → z < length w.homes
     home_number z e = subst (λ m. z < m) (sym I.made) (owned a.chunk z e)

@@ -1,7 +1,6 @@
 -- What a store makes of the value and of what is noted, by its instruction; and that it is no read.
-use Rattle.std.proofs.Common.{◌≡◌, ℕ, ℤ, pos, negsuc, zero, suc, ◌<◌, arith, true, false, Bool, cond, Some, None, List, [], ◌∷◌, length, slice_get, nat_lt, refl, ap, sym, subst, ◌∙◌}
-use Rattle.std.specs.Prelude.{slice_index_or}
-use Rattle.std.proofs.lemmas.Bool.{both_ways, ltb-true}
+use Rattle.std.proofs.Common.{◌≡◌, ℕ, pos, true, Some, None, length, slice_get, refl, ap, sym, subst, ◌∙◌}
+use Rattle.std.proofs.lemmas.Bool.{both_ways}
 use Rattle.std.proofs.lemmas.Option.{same_Some}
 use Rattle.hh_lang.specs.declared.instr.Instr.{Instr}
 use Rattle.hh_lang.specs.declared.instr.Instr.TheVariants.{Putr, Puti, Cas}
@@ -16,21 +15,6 @@ use Rattle.core_relation.specs.Fits.{with_home}
 use Rattle.core_relation.specs.Makes.{Stores, StoresHome, StoresInto}
 use Rattle.core_relation.specs.Marks.{StoreMarks}
 use Rattle.core_relation.specs.Since.{StoresNotes}
-
--- a field that is found is there
-pub found_less : (n : ℕ) (z : ℤ) (i : ℕ) → place_in n z ≡ Some i → i < n
-found_less n (pos k) i e = by (nat_lt k n) refl e
-  where
-    by : (b : Bool) → nat_lt k n ≡ b → cond b (Some k) None ≡ Some i → i < n
-    by true q h = let s : k ≡ i = same_Some k i h in let lt : k < n = ltb-true k n q in omega (arith, s, lt)
-    by false q h = absurd cc
-found_less n (negsuc k) i e = absurd cc
-
--- what stands at a place that is there
-pub stands_at : {A : Type 0} (xs : List A) (i : ℕ) (d : A) → i < length xs → slice_get xs i ≡ Some (slice_index_or xs i d)
-stands_at [] i d lt = absurd (omega (arith, lt))
-stands_at (x ∷ xs) zero d lt = refl
-stands_at (x ∷ xs) (suc i) d lt = stands_at xs i d (omega (arith, lt))
 
 -- a write by its instruction: what it makes of the value, and of what is noted
 abbrev pub Made : (v v' : Memory) (m : Ledger) (t : ℕ) (h : Home) (x : Task) (y : Object) (i : Instr) → Home → Type 0

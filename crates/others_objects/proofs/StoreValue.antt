@@ -1,6 +1,7 @@
 -- A store into an object of another task: what it makes of the value, and what it notes.
-use Rattle.std.proofs.Common.{◌≡◌, ◌⊎◌, ℕ, ℤ, ◌+◌, ◌<◌, ◌≤◌, ◌&&◌, not, arith, true, false, Bool, Option, Some, None, List, ◌∷◌, length, length-set, slice_get, option_map, inl, inr, refl, ap, ap₂, sym, subst, ◌∙◌}
+use Rattle.std.proofs.Common.{◌≡◌, ◌⊎◌, ℕ, ℤ, ◌+◌, ◌<◌, ◌≤◌, ◌&&◌, not, arith, true, false, Option, Some, None, List, ◌∷◌, length, length-set, slice_get, option_map, inl, inr, refl, ap, ap₂, sym, subst, ◌∙◌}
 use Rattle.std.proofs.lemmas.Option.{same_Some}
+use Rattle.std.proofs.lemmas.Bool.{false_from_ne_true}
 use Rattle.hh_model.specs.declared.data.Name.{Name}
 use Rattle.hh_model.specs.declared.data.Task.{Task}
 use Rattle.hh_model.specs.Effect.{ref_in}
@@ -45,10 +46,6 @@ reads_address at None (Some n) a h e = absurd h
 reads_address at (Some b) None a h e = absurd h
 reads_address at (Some b) (Some n) a h e = (n, refl, subst (at n) (same_Some b a e) h)
 
-false_by : (b : Bool) → (b ≡ true → ⊥) → b ≡ false
-false_by true f = absurd (f refl)
-false_by false f = refl
-
 module _ (w : SharedValue) (k : ℕ) (p : Private) (I : IsSharedValue w) (F : Fits w k p) (on : (accounts w).end ≡ None) where
   abbrev t : ℕ
   t = p.task
@@ -81,7 +78,7 @@ module _ (w : SharedValue) (k : ℕ) (p : Private) (I : IsSharedValue w) (F : Fi
   -- of two tasks only one stands above the other
   one_way : (a u : ℕ) → tree_path w.tree a u ≡ true → (a ≡ u → ⊥) → is_on_path L.machine.tasks u a ≡ false
   one_way a u path ne =
-      false_by (is_on_path L.machine.tasks u a) (λ back.
+      false_from_ne_true (is_on_path L.machine.tasks u a) (λ back.
       let low = (link.sound w k p I F on).kept.tree.low in
       let x : a ≤ u = path_le (parents L.machine.tasks) low u a u (sym (path_is a u) ∙ path) in
       let y : u ≤ a = path_le (parents L.machine.tasks) low a u a back in

@@ -33,22 +33,25 @@ use Rattle.core_relation.specs.Since.{StoresNotes}
 use Rattle.task_machine.specs.declared.part.Private.{Private}
 use Rattle.task_machine.specs.Plan.{int_of, ref_of}
 use Rattle.task_machine.proofs.Owned.{born_object}
+use Rattle.task_machine.proofs.Asked.{place_within}
 use Rattle.shared_value.specs.declared.task_at_rest.Rest.{Rest}
 use Rattle.shared_value.specs.SharedValue.{SharedValue, accounts, value_of}
 use Rattle.shared_value.specs.Stands.{IsSharedValue}
 use Rattle.shared_value.specs.Fits.{Fits, OthersFit, home_of_part}
 use Rattle.shared_value.specs.Entered.{refused}
 use Rattle.shared_value.proofs.PartFitsMachine as link
+use Rattle.shared_value.proofs.FreeChunks.{refs_long}
+use Rattle.shared_value.proofs.RootsHeld.{got_index}
 use Rattle.own_steps.specs.Alone.{GoesAlone, IsShared}
 use Rattle.own_steps.proofs.LastStepEntry as last
 use Rattle.own_steps.proofs.LastStepEntry.{last_event}
 use Rattle.own_steps.proofs.OtherStepKinds.{same_object, writing}
 use Rattle.others_objects.specs.Other.{put_rest}
-use Rattle.others_objects.proofs.ForeignObject.{IsForeign, in_register, reads_length, x}
+use Rattle.others_objects.proofs.ForeignObject.{IsForeign, in_register, x}
 use Rattle.others_objects.proofs.ObjectWritten as other
 use Rattle.others_objects.proofs.StoreValue as stores
 use Rattle.others_objects.proofs.WriteEntered as written
-use Rattle.others_objects.proofs.StoreKinds.{Made, found_less, stands_at}
+use Rattle.others_objects.proofs.StoreKinds.{Made}
 
 module _ (w : SharedValue) (k : ℕ) (p : Private) (I : IsSharedValue w) (F : Fits w k p) (shared : IsShared w p) (free : refused w (last_event k p) ≡ None) where
   abbrev pub t : ℕ
@@ -130,7 +133,7 @@ module _ (w : SharedValue) (k : ℕ) (p : Private) (I : IsSharedValue w) (F : Fi
       same_foreign = same_Some foreign.object y (sym foreign.is ∙ (ap (λ (m : State). object_at m.store n) (link.machine_is w k p I F on) ∙ is))
 
       pub refs_many : length (cell_of foreign.rest.heap.chunks a).refs ≡ length y.refs
-      refs_many = reads_length _ (cell_of foreign.rest.heap.chunks a).refs foreign.object.refs foreign.refs ∙ ap (λ (q : Object). length q.refs) same_foreign
+      refs_many = refs_long _ (cell_of foreign.rest.heap.chunks a).refs foreign.object.refs foreign.refs ∙ ap (λ (q : Object). length q.refs) same_foreign
 
       pub ints_many : length (cell_of foreign.rest.heap.chunks a).ints ≡ length y.ints
       ints_many = ap length foreign.ints ∙ ap (λ (q : Object). length q.ints) same_foreign
@@ -153,11 +156,11 @@ module _ (w : SharedValue) (k : ℕ) (p : Private) (I : IsSharedValue w) (F : Fi
 
         pub field_there : i < length (object_of rest.heap.chunks a).refs
         field_there =
-            let lt : i < length y.refs = found_less (length y.refs) (int_in S.task.top j) i place in
+            let lt : i < length y.refs = place_within (length y.refs) (int_in S.task.top j) i place in
             subst (λ m. i < m) (sym (ap (λ (q : Cell). length q.refs) object_same ∙ refs_many)) lt
 
         was : slice_get cell.refs i ≡ Some overwritten
-        was = ap (λ (q : Cell). slice_get q.refs i) (sym object_same) ∙ stands_at (object_of rest.heap.chunks a).refs i None field_there
+        was = ap (λ (q : Cell). slice_get q.refs i) (sym object_same) ∙ got_index (object_of rest.heap.chunks a).refs i None field_there
 
         abbrev value : Option Addr
         value = ref_of p.frames.top b
@@ -227,7 +230,7 @@ module _ (w : SharedValue) (k : ℕ) (p : Private) (I : IsSharedValue w) (F : Fi
 
         pub number_there : i < length (object_of rest_n.heap.chunks a).ints
         number_there =
-            let lt : i < length y.ints = found_less (length y.ints) (int_in S.task.top j) i place in
+            let lt : i < length y.ints = place_within (length y.ints) (int_in S.task.top j) i place in
             subst (λ m. i < m) (sym (ap (λ (q : Cell). length q.ints) same_n ∙ ints_many)) lt
 
         abbrev number : ℤ

@@ -4,14 +4,14 @@ use Rattle.std.proofs.lemmas.Bool.{false≢true}
 use Rattle.std.proofs.lemmas.Option.{same_Some}
 use Rattle.listed.proofs.Members.{got_within}
 use Rattle.hh_model.specs.declared.data.Task.{Task}
-use Rattle.hh_model.specs.Step.{is_on_path, parent_of, parents, path_by, through}
+use Rattle.hh_model.specs.Step.{is_on_path, parents, path_by, through}
 use Rattle.run_ledger.specs.declared.data.Ledger.{Ledger}
 use Rattle.run_ledger.specs.Heaps.{heap_of}
-use Rattle.heap_tree.specs.Node.{Node, parent_in, parent_of as tree_parent, is_on_path as tree_path}
-use Rattle.core_relation.specs.Whole.{state_by}
+use Rattle.heap_tree.specs.Node.{Node, parent_of as tree_parent, is_on_path as tree_path}
 use Rattle.shared_value.specs.SharedValue.{SharedValue, accounts}
 use Rattle.shared_value.specs.Stands.{IsSharedValue}
 use Rattle.shared_value.proofs.BeforeTheEnd.{stands_now}
+use Rattle.shared_value.proofs.TaskTaken.{same_parent, told}
 
 same_through : (f g : ℕ → Bool) → ((u : ℕ) → f u ≡ g u) → (o q : Option ℕ) → o ≡ q → through o false f ≡ through q false g
 same_through f g e None None h = refl
@@ -24,16 +24,7 @@ same_by : (f g : ℕ → Option ℕ) → ((u : ℕ) → f u ≡ g u) → (more a
 same_by f g e zero a t = refl
 same_by f g e (suc more) a t = ap (λ b. (a == t) || b) (same_through (path_by f more a) (path_by g more a) (λ u. same_by f g e more a u) (f t) (g t) (e t))
 
-abbrev seen_task : Option ℕ → Task → Node
-seen_task worker x = record { parent = x.parent; state = state_by x.status worker }
-
-same_parent : (o : Option Node) (q : Option Task) (worker : Option ℕ) → o ≡ option_map (seen_task worker) q → parent_in o ≡ parent_of q
-same_parent None None k e = refl
-same_parent None (Some x) k e = absurd cc
-same_parent (Some n) None k e = absurd cc
-same_parent (Some n) (Some x) k e = ap (λ (z : Node). z.parent) (same_Some n (seen_task k x) e)
-
-there : (o : Option Node) (q : Option Task) (worker : Option ℕ) → o ≡ option_map (seen_task worker) q → is_some q ≡ true → (n : Node) × (o ≡ Some n)
+there : (o : Option Node) (q : Option Task) (worker : Option ℕ) → o ≡ option_map (told worker) q → is_some q ≡ true → (n : Node) × (o ≡ Some n)
 there (Some n) q k e h = (n, refl)
 there None None k e h = absurd (false≢true h)
 there None (Some x) k e h = absurd cc
@@ -42,7 +33,7 @@ module _ (w : SharedValue) (I : IsSharedValue w) (on : (accounts w).end ≡ None
   abbrev l : Ledger
   l = accounts w
 
-  same_node : (u : ℕ) → slice_get w.tree u ≡ option_map (seen_task (heap_of l u).worker) (slice_get l.machine.tasks u)
+  same_node : (u : ℕ) → slice_get w.tree u ≡ option_map (told (heap_of l u).worker) (slice_get l.machine.tasks u)
   same_node u = (stands_now w I on).totals.node u
 
   pub paths_same : (a t : ℕ) → tree_path w.tree a t ≡ is_on_path l.machine.tasks a t

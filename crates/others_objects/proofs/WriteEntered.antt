@@ -1,13 +1,11 @@
 -- A write of an object of another task is entered.
-use Rattle.std.proofs.Common.{◌≡◌, ℕ, suc, ◌+◌, true, false, Option, Some, None, List, length, length-set, slice_get, inl, inr, refl, ap, sym, subst, ◌∙◌}
+use Rattle.std.proofs.Common.{◌≡◌, ℕ, suc, ◌+◌, true, Option, Some, None, List, length, length-set, slice_get, inl, inr, refl, ap, sym, subst, ◌∙◌}
 use Rattle.std.proofs.lemmas.Bool.{cases_eq, false≢true}
 use Rattle.listed.proofs.Members.{got_other, got_same}
 use Rattle.listed.specs.RoomyValue.{RoomyValue}
 use Rattle.hh_model.specs.declared.data.Name.{Name}
-use Rattle.hh_model.specs.declared.data.Status.{Status}
-use Rattle.hh_model.specs.declared.data.Status.TheVariants.{Running, Waiting, Ended, Joined}
 use Rattle.hh_model.specs.declared.data.Task.{Task}
-use Rattle.hh_model.specs.Step.{is_running, is_waiting, runs, waits}
+use Rattle.hh_model.specs.Step.{is_running, is_waiting, runs}
 use Rattle.run_trace.specs.Entry.{EntryValue}
 use Rattle.run_ledger.specs.declared.data.Heap.{Heap}
 use Rattle.run_ledger.specs.declared.data.Ledger.{Ledger}
@@ -22,6 +20,7 @@ use Rattle.task_frames.specs.declared.frames.Frame.{Frame}
 use Rattle.write_barrier.specs.declared.sets.SetOf.{SetOf}
 use Rattle.ledger_step_laws.specs.Accounts.{Rests}
 use Rattle.ledger_step_laws.specs.Last.{Runs, Splits, Writing, WritesOther}
+use Rattle.ledger_step_laws.proofs.Wrote.{waiting_stops}
 use Rattle.core_relation.specs.Memory.{Home, Memory}
 use Rattle.core_relation.specs.Fits.{part_for, with_home}
 use Rattle.core_relation.specs.Makes.{Stores, StoresHome}
@@ -49,18 +48,8 @@ use Rattle.others_objects.proofs.ObjectWritten as other
 use Rattle.others_objects.proofs.ObjectWritten.{resting_is}
 
 -- who waits doesn't run
-waits_not : (o : Option Task) → is_waiting o ≡ true → is_running o ≡ false
-waits_not None h = absurd (false≢true h)
-waits_not (Some x) h = by x.status h
-  where
-    by : (s : Status) → waits s ≡ true → runs s ≡ false
-    by Running e = absurd (false≢true e)
-    by Waiting e = refl
-    by (Ended k r) e = refl
-    by Joined e = refl
-
 running_not : {A : Type 0} (o : Option Task) → is_waiting o ≡ true → is_running o ≡ true → A
-running_not o h r = absurd (false≢true (sym (waits_not o h) ∙ r))
+running_not o h r = absurd (false≢true (sym (waiting_stops o h) ∙ r))
 
 none_held : {A : Type 0} (k : ℕ) → ◌≡◌ {A = Option ℕ} None (Some k) → A
 none_held k e = absurd cc
@@ -165,7 +154,7 @@ module _ (w : SharedValue) (k : ℕ) (p : Private) (I : IsSharedValue w) (F : Fi
       ]
 
       waits_then : (u : ℕ) → is_waiting (slice_get L.machine.tasks u) ≡ true → Rests L u
-      waits_then u h' = ap (λ (z : Heap). z.worker) (heap_then u) ∙ R.idle u (waits_not (slice_get M.machine.tasks u) (sym (waits_same u) ∙ h'))
+      waits_then u h' = ap (λ (z : Heap). z.worker) (heap_then u) ∙ R.idle u (waiting_stops (slice_get M.machine.tasks u) (sym (waits_same u) ∙ h'))
 
       module _ (j : RoomyValue EntryValue) where
         abbrev steps : ℕ

@@ -1,53 +1,29 @@
 -- What the write of a reference notes, in the sets of the heaps.
-use Rattle.std.proofs.Common.{◌≡◌, ◌⊎◌, ℕ, zero, suc, arith, ◌<◌, ◌==◌, ◌&&◌, ◌||◌, ◌++◌, not, Bool, true, false, cond, Option, Some, None, List, [], ◌∷◌, length, slice_get, option_map, inl, inr, refl, ap, ap₂, sym, subst, ◌∙◌, eq-eqb, ne_eqb}
+use Rattle.std.proofs.Common.{◌≡◌, ◌⊎◌, ℕ, ◌<◌, ◌==◌, ◌&&◌, ◌++◌, not, Bool, true, false, cond, Option, Some, None, List, [], ◌∷◌, length, slice_get, option_map, inl, inr, refl, ap, ap₂, sym, subst, ◌∙◌, eq-eqb, ne_eqb}
 use Rattle.std.specs.Prelude.{option_to_list}
 use Rattle.std.proofs.lemmas.Bool.{and_parts, cond-true, eqb-true, false≢true, both_ways}
 use Rattle.std.proofs.lemmas.Option.{same_Some}
 use Rattle.listed.proofs.Members.{in_append_cases, in_append_left, in_append_right}
+use Rattle.listed.proofs.Places.{got_none}
 use Rattle.object_layout.specs.declared.word.Addr.{Addr}
 use Rattle.chunk_pool.specs.PoolValue.{PoolValue, owner_of}
 use Rattle.heap_tree.specs.Node.{Node, is_on_path}
 use Rattle.remembered_set.specs.declared.remembered.Source.{Source}
-use Rattle.remembered_set.specs.Sources.{has_source, noted, same_source}
+use Rattle.remembered_set.specs.Sources.{has_source, noted}
+use Rattle.remembered_set.proofs.LiftLemmas.{source_in}
 use Rattle.write_barrier.specs.declared.sets.SetOf.{SetOf}
 use Rattle.write_barrier.specs.Stored.{Content, content_after, content_at, content_of, heap_of, is_down, is_of, noted_in as noted_heap, with_source}
 use Rattle.core_relation.specs.Memory.{In, Noted}
 use Rattle.shared_value.specs.SharedValue.{noted_in}
+use Rattle.shared_value.proofs.FieldsNoted.{noted_is, noted_of}
 
 -- ---- ONE SET
-
--- what is noted, by what a set holds
-abbrev pub noted_of : Option Content → Noted
-noted_of None = record { sources = []; kept = []; keeps = false; marked = None }
-noted_of (Some c) = record { sources = c.sources; kept = c.kept; keeps = c.keeps; marked = None }
-
-pub noted_is : (o : Option SetOf) → noted_in o ≡ noted_of (option_map content_of o)
-noted_is None = refl
-noted_is (Some s) = refl
-
-source_is : (s x : Source) → same_source s x ≡ true → x ≡ s
-source_is s x e =
-    let q = and_parts (s.object.chunk == x.object.chunk && s.object.offset == x.object.offset) (s.field == x.field) e in
-    let r = and_parts (s.object.chunk == x.object.chunk) (s.object.offset == x.object.offset) q.0 in
-    let chunk : s.object.chunk ≡ x.object.chunk = eqb-true s.object.chunk x.object.chunk r.0 in
-    let offset : s.object.offset ≡ x.object.offset = eqb-true s.object.offset x.object.offset r.1 in
-    let field : s.field ≡ x.field = eqb-true s.field x.field q.1 in
-    let object : x.object ≡ s.object = ap₂ (λ a b. let z : Addr = record { chunk = a; offset = b } in z) (sym chunk) (sym offset) in
-    ap₂ (λ o f. let z : Source = record { object = o; field = f } in z) object (sym field)
-
-has_in : (xs : List Source) (s : Source) → has_source xs s ≡ true → In xs s
-has_in [] s e = absurd (false≢true e)
-has_in (x ∷ xs) s e = by (same_source s x) refl e (has_in xs s)
-  where
-    by : (b : Bool) → same_source s x ≡ b → (b || has_source xs s) ≡ true → (has_source xs s ≡ true → In xs s) → In (x ∷ xs) s
-    by true q h go = inl (source_is s x q)
-    by false q h go = inr (go h)
 
 noted_there : (xs : List Source) (s : Source) → In (noted xs s) s
 noted_there xs s = by (has_source xs s) refl
   where
     by : (b : Bool) → has_source xs s ≡ b → In (cond b xs (xs ++ s ∷ [])) s
-    by true e = has_in xs s e
+    by true e = source_in xs s e
     by false e = in_append_right xs (s ∷ []) s (inl refl)
 
 noted_grows : (xs : List Source) (s y : Source) → In xs y → In (noted xs s) y
@@ -70,11 +46,6 @@ of_is (Some h) t e = ap Some (eqb-true h t e)
 
 is_of_it : (t : ℕ) → is_of (Some t) t ≡ true
 is_of_it t = eq-eqb t t refl
-
-none_there : {A : Type 0} (xs : List A) (n : ℕ) → n < length xs → slice_get xs n ≡ None → ⊥
-none_there [] n lt e = absurd (omega (arith, lt))
-none_there (x ∷ xs) zero lt e = absurd cc
-none_there (x ∷ xs) (suc n) lt e = none_there xs n (omega (arith, lt)) e
 
 -- ---- THE WRITE
 module _ (tree : List Node) (pool : PoolValue) (sets sets' : List SetOf) (a : Addr) (i : ℕ) (overwritten value : Option Addr) (u : ℕ) (owner : owner_of pool a.chunk ≡ Some u)
@@ -187,7 +158,7 @@ module _ (tree : List Node) (pool : PoolValue) (sets sets' : List SetOf) (a : Ad
 
       by : (o : Option SetOf) → slice_get sets t ≡ o → In (noted_of (option_map (after t) (option_map content_of o))).sources source
       by (Some s) e = one (content_of s)
-      by None e = absurd (none_there sets t lt e)
+      by None e = absurd (got_none sets t lt e)
 
   -- and nothing else is
   abbrev pub IsNew : ℕ → Source → Type 0

@@ -1,6 +1,7 @@
 -- A part that fits the shared value fits it again after private steps.
 use Rattle.std.proofs.Common.{arith, ◌≡◌, ℕ, ◌+◌, ◌-◌, ◌*◌, ◌/◌, ◌≤◌, ◌^◌, not, Some, None, min, ne_eqb, inr, refl, ap, sym, subst, ◌∙◌}
 use Rattle.std.proofs.lemmas.List.Elements.{All-from_get_or, All-get_or}
+use Rattle.listed.proofs.Places.{in_map}
 use Rattle.hh_model.specs.declared.data.Name.{Name}
 use Rattle.run_ledger.specs.declared.data.Ledger.{Ledger}
 use Rattle.run_ledger.specs.Heaps.{heap_of}
@@ -10,6 +11,7 @@ use Rattle.object_layout.specs.ChunkValue.{ChunkValue}
 use Rattle.object_layout.specs.Chunks.{chunk_at, no_chunk}
 use Rattle.object_layout.specs.Place.{words_in}
 use Rattle.object_layout.specs.Cell.{IsObject}
+use Rattle.object_layout.proofs.ObjectLemmas.{chunk_there}
 use Rattle.chunk_pool.specs.declared.pool.Held.{Held}
 use Rattle.chunk_pool.specs.PoolValue.{held_at}
 use Rattle.alloc_path.specs.LeafHeapValue.{AreTidy, AreWithin, IsTidy}
@@ -21,7 +23,7 @@ use Rattle.core_relation.specs.Changes.{StepsAtHome}
 use Rattle.core_relation.specs.Copies.{PartFits}
 use Rattle.core_relation.specs.Fits.{with_home}
 use Rattle.core_relation.specs.Stands.{HomeStands, Place, Stands}
-use Rattle.core_relation.proofs.objects.Members.{in_chunk, in_map}
+use Rattle.core_relation.proofs.objects.Members.{in_chunk}
 use Rattle.core_relation.proofs.changes.Own.{stepped}
 use Rattle.core_relation.specs.Whole.{BegunBy}
 use Rattle.core_relation.proofs.changes.With.{at_home, off_home}
@@ -39,7 +41,6 @@ use Rattle.shared_value.specs.Stands.{HeapForm, IsSharedValue}
 use Rattle.shared_value.specs.Fits.{Fits, home_of_part, part_of}
 use Rattle.shared_value.specs.Links.{above_of}
 use Rattle.shared_value.proofs.CellsRead.{object_seen, seen_object}
-use Rattle.shared_value.proofs.HeapCounts.{chunk_there}
 use Rattle.shared_value.proofs.PlacedForm.{Formed, formed_tidy}
 use Rattle.shared_value.proofs.CollectionUnderWay.{steady}
 use Rattle.shared_value.proofs.HeapLaidOut.{place_there}

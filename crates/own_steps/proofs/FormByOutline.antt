@@ -1,36 +1,29 @@
 -- What is known of a heap's chunks is told by its outline, so it stays known when private steps are taken.
-use Rattle.std.proofs.Common.{◌≡◌, ℕ, zero, suc, pos, ◌+◌, ◌-◌, ◌*◌, ◌<◌, ◌≤◌, ◌==◌, arith, Bool, true, false, cond, Option, Some, None, List, [], ◌∷◌, length, map, replicate, nat_lt, slice_get, All, inl, inr, refl, ap, ap₂, sym, subst, ◌∙◌}
-use Rattle.std.proofs.lemmas.Option.{same_Some}
+use Rattle.std.proofs.Common.{◌≡◌, ℕ, zero, suc, pos, ◌+◌, ◌-◌, ◌*◌, ◌<◌, ◌≤◌, arith, Bool, true, false, cond, Option, Some, None, List, [], ◌∷◌, length, map, replicate, slice_get, All, inl, inr, refl, ap, sym, subst, ◌∙◌}
 use Rattle.std.proofs.lemmas.List.{length-map, length-replicate}
 use Rattle.std.proofs.lemmas.List.Elements.{All-cons, All-head, All-map, All-nil, All-tail, All-weaker}
-use Rattle.hh_lang.specs.declared.instr.Instr.{Instr}
-use Rattle.hh_lang.specs.declared.instr.Instr.TheVariants.{Newm, Pack}
 use Rattle.hh_lang.specs.declared.program.Line.{Line}
 use Rattle.hh_lang.specs.Form.{ProgramText}
-use Rattle.hh_model.specs.declared.data.Frame.{Frame}
 use Rattle.hh_model.specs.declared.data.State.{State}
 use Rattle.hh_model.specs.declared.data.Task.{Task}
-use Rattle.hh_model.specs.Effect.{counts_in, int_in, row_of}
-use Rattle.hh_model.specs.Names.{words_asked}
+use Rattle.hh_model.specs.Effect.{row_of}
 use Rattle.hh_model.specs.Step.{asked, asked_by, asked_line, fetched, is_running}
 use Rattle.run_ledger.specs.Heaps.{units as units_for}
 use Rattle.object_layout.specs.Cell.{Born, Cell, Hole, Mark, Moved, moved_to, size_of}
-use Rattle.object_layout.specs.Chunks.{chunk_at, place_in, place_of}
+use Rattle.object_layout.specs.Chunks.{chunk_at}
 use Rattle.object_layout.specs.ChunkValue.{ChunkValue}
-use Rattle.object_layout.specs.Place.{words_in}
 use Rattle.object_layout.specs.Objects.{Located, located_by, objects_from}
-use Rattle.alloc_path.specs.LeafHeapValue.{AreApart, LeafHeapValue, IsCurrent, IsReserved, IsTidy, place_for, placed, units}
+use Rattle.alloc_path.specs.LeafHeapValue.{LeafHeapValue, IsTidy, place_for, placed, units}
 use Rattle.core_relation.specs.Layout.{HoldsLarge, words}
 use Rattle.task_machine.specs.declared.part.Private.{Private}
 use Rattle.task_machine.specs.Fits.{IsShaped}
 use Rattle.task_machine.specs.Outline.{blank, outline_after, outline_by, outline_of, outline_of_cell, outline_of_chunk, steps}
 use Rattle.task_machine.specs.Place.{Places}
 use Rattle.task_machine.specs.Run.{Ran}
-use Rattle.task_machine.proofs.Outlines.{outline_at}
+use Rattle.task_machine.proofs.Outlines.{outline_at, outline_size, outline_words}
+use Rattle.task_machine.proofs.Accounted.{outline_apart, outline_current, outline_kept, words_by}
 use Rattle.shared_value.specs.Objects.{chunk_of}
-use Rattle.shared_value.proofs.NextStepAsks.{counts_two}
 use Rattle.shared_value.proofs.PlacedForm.{Formed, IsFormed, formed_placed}
-use Rattle.shared_value.proofs.OutlineKept.{outline_size}
 
 -- ---- OBJECTS
 
@@ -76,10 +69,6 @@ large_back k (inr h) =
 
 -- ---- CHUNKS
 
-words_outlined : (cs : List Cell) → words_in (map outline_of_cell cs) ≡ words_in cs
-words_outlined [] = refl
-words_outlined (c ∷ cs) = ap₂ (λ n k. n + k) (outline_size c) (words_outlined cs)
-
 all_back : (P : Cell → Type 0) (cs : List Cell) → All P (map outline_of_cell cs) → All (λ c. P (outline_of_cell c)) cs
 all_back P [] a = All-nil (λ c. P (outline_of_cell c))
 all_back P (c ∷ cs) a = All-cons (λ c. P (outline_of_cell c)) c cs (All-head P (outline_of_cell c) (map outline_of_cell cs) a) (all_back P cs (All-tail P (outline_of_cell c) (map outline_of_cell cs) a))
@@ -113,7 +102,7 @@ module _ (k : ChunkValue) where
   formed_on : IsFormed k → IsFormed (outline_of_chunk k)
   formed_on F = record {
     tidy = tidy_on F.tidy;
-    within = subst (λ n. n ≤ k.size) (sym (words_outlined k.cells)) F.within;
+    within = subst (λ n. n ≤ k.size) (sym (outline_words k.cells)) F.within;
     whole = F.whole;
     large = λ big. large_on k (F.large big);
   }
@@ -121,32 +110,12 @@ module _ (k : ChunkValue) where
   formed_back : IsFormed (outline_of_chunk k) → IsFormed k
   formed_back F = record {
     tidy = tidy_back F.tidy;
-    within = subst (λ n. n ≤ k.size) (words_outlined k.cells) F.within;
+    within = subst (λ n. n ≤ k.size) (outline_words k.cells) F.within;
     whole = F.whole;
     large = λ big. large_back k (F.large big);
   }
 
 -- ---- THE SHAPE
-
-place_of_outline : (ks : List ChunkValue) (n : ℕ) → place_of (map outline_of_chunk ks) n ≡ place_of ks n
-place_of_outline [] n = refl
-place_of_outline (k ∷ ks) n = ap (λ z. cond (k.number == n) 0 (1 + z)) (place_of_outline ks n)
-
-place_in_outline : (ks : List ChunkValue) (n : ℕ) → place_in (map outline_of_chunk ks) n ≡ place_in ks n
-place_in_outline ks n = ap₂ (λ z len. cond (nat_lt z len) (Some z) None) (place_of_outline ks n) (length-map ks outline_of_chunk)
-
-apart_on : (ks : List ChunkValue) → AreApart ks → AreApart (map outline_of_chunk ks)
-apart_on [] h = h
-apart_on (k ∷ ks) h = (place_in_outline ks k.number ∙ h.0, apart_on ks h.1)
-
-current_on : (ks : List ChunkValue) (o : Option ℕ) → IsCurrent ks o → IsCurrent (map outline_of_chunk ks) o
-current_on ks None h = tt
-current_on ks (Some i) h = (let e = length-map ks outline_of_chunk in let lt = h.0 in omega (arith, lt, e), ap (λ (k : ChunkValue). k.size) (outline_at ks i) ∙ h.1)
-
-reserved_on : (ks : List ChunkValue) (o : Option ℕ) → IsReserved ks o → IsReserved (map outline_of_chunk ks) o
-reserved_on ks None h = tt
-reserved_on ks (Some i) h =
-    (let e = length-map ks outline_of_chunk in let lt = h.0 in omega (arith, lt, e), (subst (λ n. 1024 < n) (ap (λ (k : ChunkValue). k.size) (sym (outline_at ks i))) h.1.0, ap (λ (k : ChunkValue). k.cells) (outline_at ks i) ∙ ap (map outline_of_cell) h.1.1))
 
 -- ---- THE HEAP
 
@@ -154,7 +123,7 @@ pub formed_outline : (h : LeafHeapValue) → Formed h → Formed (outline_of h)
 formed_outline h F =
     let len : length (map outline_of_chunk h.chunks) ≡ length h.chunks = length-map h.chunks outline_of_chunk in
     record {
-      shaped = record { apart = apart_on h.chunks F.shaped.apart; current = current_on h.chunks h.current F.shaped.current; reserved = reserved_on h.chunks h.reserved F.shaped.reserved };
+      shaped = record { apart = outline_apart h.chunks F.shaped.apart; current = outline_current h.chunks h.current F.shaped.current; reserved = outline_kept h.chunks h.reserved F.shaped.reserved };
       each = λ i lt. subst IsFormed (sym (outline_at h.chunks i)) (formed_on (chunk_at h.chunks i) (F.each i (omega (arith, lt, len))));
       spare = λ i lt big empty.
           let at : chunk_at (map outline_of_chunk h.chunks) i ≡ outline_of_chunk (chunk_at h.chunks i) = outline_at h.chunks i in
@@ -176,18 +145,13 @@ formed_from h S F =
 
 -- ---- STEPS
 
-instr_two : (limit : ℕ) (f : Frame) (i : Instr) (w : ℕ) → words_asked limit f i ≡ Some w → 2 ≤ w
-instr_two limit f (Newm d a b) w e = counts_two (counts_in limit (int_in f a) (int_in f b)) w e
-instr_two limit f (Pack d r i) w e = let q : 2 + r + i ≡ w = same_Some (2 + r + i) w e in omega (arith, q)
-instr_two limit f _ w e = absurd cc
-
 -- an object has at least two words
 pub asked_two : (p : ProgramText) (m : State) (t w : ℕ) → asked p m t ≡ Some w → 2 ≤ w
 asked_two p m t w e = by_task (slice_get m.tasks t) e
   where
     by_line : (x : Task) (o : Option Line) → asked_line m.field_limit x.top o ≡ Some w → 2 ≤ w
     by_line x None h = absurd cc
-    by_line x (Some line) h = instr_two m.field_limit x.top line.instr w h
+    by_line x (Some line) h = words_by m.field_limit x.top line.instr w h
 
     by_run : (b : Bool) (o : Option ℕ) → cond b o None ≡ Some w → o ≡ Some w
     by_run true o h = h

@@ -1,13 +1,12 @@
 -- Of which kind a last step is, by what it made of the machine.
-use Rattle.std.proofs.Common.{◌≡◌, ◌⊎◌, ℕ, ◌+◌, true, false, Option, Some, None, slice_get, inl, inr, refl, ap, sym, ◌∙◌}
+use Rattle.std.proofs.Common.{◌≡◌, ◌⊎◌, ℕ, ◌+◌, true, false, Some, None, slice_get, inl, inr, refl, ap, sym, ◌∙◌}
 use Rattle.std.proofs.lemmas.Bool.{both_ways, false≢true}
 use Rattle.std.proofs.lemmas.Option.{same_Some}
+use Rattle.listed.proofs.Options.{none_some}
 use Rattle.hh_lang.specs.declared.instr.Instr.TheVariants.{Out, Par}
 use Rattle.hh_lang.specs.declared.program.Line.{Line}
 use Rattle.hh_lang.specs.Form.{ProgramText}
-use Rattle.hh_model.specs.declared.data.End.{End}
 use Rattle.hh_model.specs.declared.data.End.TheVariants.{Done}
-use Rattle.hh_model.specs.declared.data.Name.{Name}
 use Rattle.hh_model.specs.declared.data.State.{State}
 use Rattle.hh_model.specs.declared.data.Status.{Status}
 use Rattle.hh_model.specs.declared.data.Status.TheVariants.{Running, Waiting, Ended, Joined}
@@ -18,13 +17,7 @@ use Rattle.run_ledger.specs.Steps.{is_private, touched}
 use Rattle.ledger_step_laws.specs.Last.{EndsDone, EndsLast, GoesOn, IsOfKind, LastKind, Prints}
 use Rattle.ledger_step_laws.specs.Last.{Private, Reading, Writing, Printing, Forking, Ending, Joining, Finishing, Halting}
 
-none_end : {A : Type 0} {e : End} → ◌≡◌ {A = Option End} None (Some e) → A
-none_end e = absurd cc
-
-none_name : {A : Type 0} {n : Name} → ◌≡◌ {A = Option Name} None (Some n) → A
-none_name e = absurd cc
-
-forks_not : {A : Type 0} {g h a : ℕ} → Par g h ≡ Out a → A
+pub forks_not : {A : Type 0} {g h a : ℕ} → Par g h ≡ Out a → A
 forks_not e = absurd cc
 
 module _ (p : ProgramText) (m l' : Ledger) (t : ℕ) (x : Task) (line : Line) (shared : is_private p m.machine t ≡ false) where
@@ -51,27 +44,27 @@ module _ (p : ProgramText) (m l' : Ledger) (t : ℕ) (x : Task) (line : Line) (s
 
     pub prints : (kind : LastKind) → Last kind → Prints m l' t x line
     prints Private private = absurd (both_ways (is_private p m.machine t) shared private)
-    prints Reading r = none_name (sym (ap (touched x.top) il) ∙ r.touches)
-    prints Writing r = none_name (sym (ap (touched x.top) il) ∙ r.touches)
+    prints Reading r = none_some (sym (ap (touched x.top) il) ∙ r.touches)
+    prints Writing r = none_some (sym (ap (touched x.top) il) ∙ r.touches)
     prints Printing q = q
     prints Forking f = forks_not (sym f.by ∙ il)
     prints Ending e =
         let same = same_Some _ y (sym e.ends.ended ∙ is) in
         absurd (false≢true (ap (λ (z : Task). runs z.status) same ∙ run))
     prints Joining j = joined_not j
-    prints Finishing d = none_end (sym goes ∙ d.ended)
-    prints Halting h = none_end (sym goes ∙ ap (λ (z : State). z.end) h.machine)
+    prints Finishing d = none_some (sym goes ∙ d.ended)
+    prints Halting h = none_some (sym goes ∙ ap (λ (z : State). z.end) h.machine)
 
   -- the run is done, and the task has ended
   module _ (ended : l'.machine.end ≡ Some Done) (y : Task) (is' : slice_get l'.machine.tasks t ≡ Some y) (over : runs y.status ≡ false) (is : slice_get m.machine.tasks t ≡ Some x) (run : runs x.status ≡ true) where
     pub done : (of : LastKind) → Last of → (GoesOn of → l'.machine.end ≡ None) → EndsDone m l' t x
     done Private private on = absurd (both_ways (is_private p m.machine t) shared private)
-    done Reading r on = none_end (sym (on tt) ∙ ended)
-    done Writing r on = none_end (sym (on tt) ∙ ended)
-    done Printing q on = none_end (sym (on tt) ∙ ended)
-    done Forking f on = none_end (sym (on tt) ∙ ended)
-    done Ending f on = none_end (sym (on tt) ∙ ended)
-    done Joining j on = none_end (sym (on tt) ∙ ended)
+    done Reading r on = none_some (sym (on tt) ∙ ended)
+    done Writing r on = none_some (sym (on tt) ∙ ended)
+    done Printing q on = none_some (sym (on tt) ∙ ended)
+    done Forking f on = none_some (sym (on tt) ∙ ended)
+    done Ending f on = none_some (sym (on tt) ∙ ended)
+    done Joining j on = none_some (sym (on tt) ∙ ended)
     done Finishing d on = d
     done Halting h on =
         let same : y ≡ x = same_Some y x (sym is' ∙ (ap (λ (z : State). slice_get z.tasks t) h.machine ∙ is)) in

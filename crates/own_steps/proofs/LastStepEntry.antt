@@ -1,7 +1,7 @@
 -- An entry of a part's fresh steps and its next one: what is known of the accounts before and after it.
-use Rattle.std.proofs.Common.{◌≡◌, ℕ, suc, true, false, Option, Some, None, slice_get, is_none, is_some, min, inr, refl, ap, ap₂, sym, subst, ◌∙◌}
-use Rattle.std.proofs.lemmas.Bool.{false≢true}
+use Rattle.std.proofs.Common.{◌≡◌, ℕ, suc, true, false, Option, Some, None, slice_get, is_none, min, inr, ap, ap₂, sym, subst, ◌∙◌}
 use Rattle.std.proofs.lemmas.Option.{same_Some}
+use Rattle.listed.proofs.Options.{none_of}
 use Rattle.hh_lang.specs.declared.program.Line.{Line}
 use Rattle.hh_model.specs.declared.data.Task.{Task}
 use Rattle.hh_model.specs.Effect.{effect}
@@ -52,11 +52,7 @@ module _ (w : SharedValue) (k : ℕ) (p : Private) (I : IsSharedValue w) (F : Fi
   L = after w.program w.settings l (last_event k p)
 
   pub on : l.end ≡ None
-  on = none_some l.end (entry_tells w.program w.settings l (last_event k p) (ap is_none free)).0
-    where
-      none_some : {A : Type 0} (o : Option A) → is_some o ≡ false → o ≡ None
-      none_some None h = refl
-      none_some (Some x) h = absurd (false≢true (sym h))
+  on = none_of l.end (entry_tells w.program w.settings l (last_event k p) (ap is_none free)).0
 
   pub runs_so : Runs w.program w.settings l L t k p.fresh
   runs_so = entry_runs w.program w.settings w.journal.items k t p.fresh I.form I.legal free

@@ -1,12 +1,13 @@
 -- A part whose next step isn't private, before the run's end: what that step does, and how an entry with it splits.
-use Rattle.std.proofs.Common.{◌≡◌, ℕ, zero, suc, ◌+◌, ◌≤◌, ◌||◌, arith, Bool, true, false, cond, min, nat_le, Option, Some, None, is_some, refl, ap, ap₂, sym, subst, ◌∙◌, le-leb}
-use Rattle.std.proofs.lemmas.Bool.{cond-false, cond-true, false≢true}
+use Rattle.std.proofs.Common.{◌≡◌, ℕ, zero, suc, ◌+◌, ◌≤◌, ◌||◌, arith, true, false, cond, min, nat_le, Option, Some, None, is_some, refl, ap, ap₂, sym, subst, ◌∙◌, le-leb}
+use Rattle.std.proofs.lemmas.Bool.{cond-false, cond-true}
+use Rattle.listed.proofs.Options.{none_of}
 use Rattle.hh_lang.specs.declared.program.Line.{Line}
 use Rattle.hh_lang.specs.Form.{ProgramText}
 use Rattle.hh_model.specs.declared.data.State.{State}
 use Rattle.hh_model.specs.Step.{asked, fetched}
 use Rattle.run_trace.specs.declared.entry.Kind.TheVariants.{Ran}
-use Rattle.run_trace.specs.Entry.{EntryValue}
+use Rattle.run_trace.specs.Entry.{EntryValue, private_limit}
 use Rattle.run_trace.specs.Settings.{SettingsValue}
 use Rattle.run_ledger.specs.declared.data.Ledger.{Ledger}
 use Rattle.run_ledger.specs.declared.data.Refused.{Refused}
@@ -33,7 +34,7 @@ use Rattle.shared_value.proofs.PartFitsMachine as link
 use Rattle.shared_value.proofs.CollectionUnderWay.{at_part}
 use Rattle.shared_value.proofs.BeforeTheEnd.{end_now}
 use Rattle.shared_value.proofs.CausesTold.{refused_is}
-use Rattle.shared_value.proofs.StepsEntered.{fits_now, goes}
+use Rattle.shared_value.proofs.StepsEntered.{end_by, fits_now, goes}
 use Rattle.own_steps.specs.Alone.{IsShared, Tells, alone_event, machine_after}
 use Rattle.own_steps.proofs.NextStepEnds.{asks_none, ending_tells}
 
@@ -100,7 +101,7 @@ module _ (w : SharedValue) (k : ℕ) (p : Private) (I : IsSharedValue w) (F : Fi
 
   pub last_kind : kind_refusal w.program w.settings l k (Ran t (suc p.fresh)) ≡ refused_if (is_some p.begun) Collecting None
   last_kind =
-      let few : p.fresh ≤ 256 = shared.few in
+      let few : p.fresh ≤ private_limit = shared.few in
       let m : ℕ = min most_steps (standing w.settings w.program l t (suc p.fresh)) in
       let fits : nat_le (suc p.fresh) m ≡ true = le-leb (suc p.fresh) m (omega (arith, stands_so, few)) in
       at_part w k p F on (refused_unless (nat_le (suc p.fresh) m) (Long m) None) ∙ ap (λ b. refused_if (is_some p.begun) Collecting (refused_unless b (Long m) None)) fits
@@ -110,21 +111,13 @@ module _ (w : SharedValue) (k : ℕ) (p : Private) (I : IsSharedValue w) (F : Fi
 pub event_is : (k : ℕ) (p : Private) → alone_event k p ≡ record { worker = k; kind = Ran p.task (suc p.fresh) }
 event_is k p = ap (λ n. let e : EntryValue = record { worker = k; kind = Ran p.task n } in e) (let q : p.fresh + 1 ≡ suc p.fresh = omega arith in q)
 
-end_by : (a b c : Bool) (x y z : Refused) → refused_if a x (refused_if b y (refused_unless c z None)) ≡ None → a ≡ false
-end_by true b c x y z h = absurd cc
-end_by false b c x y z h = refl
-
 else_same : (o rest other : Option Refused) → (o ≡ None → rest ≡ other) → or_else o rest ≡ or_else o other
 else_same None rest other h = h refl
 else_same (Some c) rest other h = refl
-
-nothing_some : {A : Type 0} (o : Option A) → is_some o ≡ false → o ≡ None
-nothing_some None h = refl
-nothing_some (Some x) h = absurd (false≢true (sym h))
 
 pub alone_answer : (w : SharedValue) (k : ℕ) (p : Private) → IsSharedValue w → Fits w k p → IsShared w p → refused w (alone_event k p) ≡ or_else (first_cause w.end w.steps w.settings k false) (refused_if (is_some p.begun) Collecting None)
 alone_answer w k p I F shared =
     ap (refused w) (event_is k p)
     ∙ (refused_is w I (record { worker = k; kind = Ran p.task (suc p.fresh) })
     ∙ else_same (first_cause w.end w.steps w.settings k false) (kind_refusal w.program w.settings (accounts w) k (Ran p.task (suc p.fresh))) (refused_if (is_some p.begun) Collecting None)
-    (λ h. last_kind w k p I F shared (sym (end_now w I) ∙ nothing_some w.end (end_by (is_some w.end) _ _ _ _ _ h))))
+    (λ h. last_kind w k p I F shared (sym (end_now w I) ∙ none_of w.end (end_by (is_some w.end) _ _ _ _ _ h))))

@@ -2,6 +2,7 @@
 use Rattle.std.proofs.Common.{◌≡◌, ◌⊎◌, ℕ, ◌+◌, true, false, Option, Some, None, length, slice_get, inl, inr, refl, ap, sym, subst, ◌∙◌}
 use Rattle.std.proofs.lemmas.Bool.{both_ways, false≢true}
 use Rattle.std.proofs.lemmas.Option.{same_Some}
+use Rattle.listed.proofs.Options.{none_some}
 use Rattle.hh_lang.specs.declared.instr.Instr.{Instr}
 use Rattle.hh_lang.specs.declared.instr.Instr.TheVariants.{Putr, Puti, Cas}
 use Rattle.hh_lang.specs.declared.program.Line.{Line}
@@ -23,12 +24,6 @@ use Rattle.run_ledger.specs.Steps.{is_private, touched}
 use Rattle.ledger_step_laws.specs.Last.{EndsLast, GoesOn, Halts, IsOfKind, JustReads, LastKind, ReadsOther, WritesOther, Wrote}
 use Rattle.ledger_step_laws.specs.Last.{Private, Reading, Writing, Printing, Forking, Ending, Joining, Finishing, Halting}
 use Rattle.ledger_step_laws.proofs.Ahead.{with_machine}
-
-none_end : {A : Type 0} {e : End} → ◌≡◌ {A = Option End} None (Some e) → A
-none_end e = absurd cc
-
-none_name : {A : Type 0} {n : Name} → ◌≡◌ {A = Option Name} None (Some n) → A
-none_name e = absurd cc
 
 -- what an instruction reads and writes nothing of, it doesn't write
 reads_or_writes : {A : Type 0} (x : Task) (i : Instr) (y y' y'' : Object) (f f' : ModelFrame) → JustReads x i y f → Wrote x i y' y'' f' → y ≡ y' → A
@@ -68,12 +63,12 @@ module _ (p : ProgramText) (m l' : Ledger) (t : ℕ) (x : Task) (line : Line) (s
     works Private private = absurd (both_ways (is_private p m.machine t) shared private)
     works Reading r = inl r
     works Writing r = inr r
-    works Printing q = none_name (ap (touched x.top) (sym q.by) ∙ touches)
-    works Forking f = none_name (ap (touched x.top) (sym f.by) ∙ touches)
+    works Printing q = none_some (ap (touched x.top) (sym q.by) ∙ touches)
+    works Forking f = none_some (ap (touched x.top) (sym f.by) ∙ touches)
     works Ending e = absurd (false≢true (ap (λ (y : Task). runs y.status) (same_Some _ z (sym e.ends.ended ∙ is)) ∙ run))
     works Joining j = joined_not j
-    works Finishing d = none_end (sym goes ∙ d.ended)
-    works Halting h = none_end (sym goes ∙ ap (λ (s : State). s.end) h.machine)
+    works Finishing d = none_some (sym goes ∙ d.ended)
+    works Halting h = none_some (sym goes ∙ ap (λ (s : State). s.end) h.machine)
 
     module _ (y : Object) (at : object_at m.machine.store n ≡ Some y) where
       pub same_object : (W : WritesOther m l' t x line) → y ≡ W.object
@@ -97,11 +92,11 @@ module _ (p : ProgramText) (m l' : Ledger) (t : ℕ) (x : Task) (line : Line) (s
   -- the run has ended otherwise than as done
   pub halts_by : (e : End) → (e ≡ Done → ⊥) → l'.machine ≡ ended_by m.machine e → (of : LastKind) → Last of → (GoesOn of → l'.machine.end ≡ None) → Halts m l'
   halts_by e other is Private private on = absurd (both_ways (is_private p m.machine t) shared private)
-  halts_by e other is Reading r on = none_end (sym (on tt) ∙ ap (λ (z : State). z.end) is)
-  halts_by e other is Writing r on = none_end (sym (on tt) ∙ ap (λ (z : State). z.end) is)
-  halts_by e other is Printing q on = none_end (sym (on tt) ∙ ap (λ (z : State). z.end) is)
-  halts_by e other is Forking f on = none_end (sym (on tt) ∙ ap (λ (z : State). z.end) is)
-  halts_by e other is Ending f on = none_end (sym (on tt) ∙ ap (λ (z : State). z.end) is)
-  halts_by e other is Joining j on = none_end (sym (on tt) ∙ ap (λ (z : State). z.end) is)
+  halts_by e other is Reading r on = none_some (sym (on tt) ∙ ap (λ (z : State). z.end) is)
+  halts_by e other is Writing r on = none_some (sym (on tt) ∙ ap (λ (z : State). z.end) is)
+  halts_by e other is Printing q on = none_some (sym (on tt) ∙ ap (λ (z : State). z.end) is)
+  halts_by e other is Forking f on = none_some (sym (on tt) ∙ ap (λ (z : State). z.end) is)
+  halts_by e other is Ending f on = none_some (sym (on tt) ∙ ap (λ (z : State). z.end) is)
+  halts_by e other is Joining j on = none_some (sym (on tt) ∙ ap (λ (z : State). z.end) is)
   halts_by e other is Finishing d on = absurd (other (same_Some e Done (sym (ap (λ (z : State). z.end) is) ∙ d.ended)))
   halts_by e other is Halting h on = h

@@ -4,6 +4,7 @@ use Rattle.std.proofs.lemmas.Bool.{cases_eq}
 use Rattle.std.proofs.lemmas.Option.{same_Some}
 use Rattle.listed.proofs.Members.{got_other, got_same, got_within}
 use Rattle.listed.specs.RoomyValue.{RoomyValue}
+use Rattle.listed.proofs.Places.{got_set}
 use Rattle.hh_lang.specs.declared.instr.Instr.{Instr}
 use Rattle.hh_lang.specs.declared.instr.Instr.TheVariants.{Ret}
 use Rattle.hh_model.specs.declared.data.End.TheVariants.{Done}
@@ -42,7 +43,7 @@ use Rattle.shared_value.specs.Fits.{Fits, OthersFit, home_of_part, part_of}
 use Rattle.shared_value.specs.Entered.{refused}
 use Rattle.shared_value.proofs.EntryMade.{accounts_are, entered, entered_world, hand_is, held_apart, part_fits, unheld_before}
 use Rattle.shared_value.proofs.BeforeTheEnd.{end_now, stands_now}
-use Rattle.shared_value.proofs.TaskTaken.{made_by, node_by, node_off, put_there, told, worker_there}
+use Rattle.shared_value.proofs.TaskTaken.{made_by, node_by, node_off, told, worker_there}
 use Rattle.own_steps.specs.Alone.{IsShared, Tells, ended_rest}
 use Rattle.own_steps.proofs.LastKinds.{done}
 use Rattle.own_steps.proofs.LastStepEntry as last
@@ -149,7 +150,7 @@ module _ (w : SharedValue) (k : ℕ) (p : Private) (I : IsSharedValue w) (F : Fi
     v' = value_of w'
 
     rest_now : rest_at homes t ≡ Some rest
-    rest_now = ap flat (put_there w.homes t (Some rest) has_home)
+    rest_now = ap flat (got_set w.homes t (Some rest) has_home)
 
     rest_off : (u : ℕ) → (u ≡ t → ⊥) → rest_at homes u ≡ rest_at w.homes u
     rest_off u ne = ap flat (got_other w.homes t u (Some rest) ne)
@@ -178,7 +179,7 @@ module _ (w : SharedValue) (k : ℕ) (p : Private) (I : IsSharedValue w) (F : Fi
     counts : RanCounts w.program (totals_of w) (totals_of w') M L t k p.fresh S.task S.line Finishing D
     counts = record {
       tree = record { node = node_by w.tree t Ended (slice_get w.tree t) refl; others = λ u ne. node_off w.tree t Ended (slice_get w.tree t) u ne };
-      hand = record { hand = ap flat (put_there w.hands k None (worker_there w (last_event k p) I free)); others = λ u ne. ap flat (got_other w.hands k u None ne) };
+      hand = record { hand = ap flat (got_set w.hands k None (worker_there w (last_event k p) I free)); others = λ u ne. ap flat (got_other w.hands k u None ne) };
       outputs = refl;
       end = refl;
       used = refl;

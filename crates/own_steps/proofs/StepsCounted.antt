@@ -10,6 +10,7 @@ use Rattle.run_ledger.specs.Heaps.{heap_of, let_go, or_fresh}
 use Rattle.run_ledger.specs.Sound.{collecting}
 use Rattle.run_ledger.specs.Steps.{task_steps}
 use Rattle.run_ledger.proofs.Sound.{SoundLedger}
+use Rattle.run_ledger.proofs.Since.{limit_small}
 use Rattle.alloc_path.specs.LeafHeapValue.{LeafHeapValue as HeapOfCode}
 use Rattle.ledger_step_laws.specs.Accounts.{ArePrivate, StepsAlone, own, rested}
 use Rattle.ledger_step_laws.proofs.Ahead.{heap_then, rested_alone, steps_alone_all, steps_sound, with_at, with_machine}
@@ -31,7 +32,7 @@ use Rattle.shared_value.proofs.PartFitsMachine as link
 use Rattle.shared_value.proofs.Packs.{packs_few}
 use Rattle.shared_value.proofs.StepsEntered.{status}
 use Rattle.shared_value.proofs.StepAccounts.{After, hold_same}
-use Rattle.own_steps.proofs.WordsFew.{asks_few, limit_small, since_after}
+use Rattle.own_steps.proofs.WordsFew.{asks_few, since_after}
 use Rattle.own_steps.proofs.NextPrivateSteps.{Follows, follows, private_more, ran_machine, ran_private, steps_more}
 
 -- ---- ACCOUNTS

@@ -4,6 +4,7 @@ use Rattle.std.proofs.lemmas.Bool.{cases_eq, cases_lt}
 use Rattle.std.proofs.lemmas.Option.{same_Some}
 use Rattle.std.proofs.Math.Path.{fun_ext}
 use Rattle.listed.proofs.Members.{got_within}
+use Rattle.listed.proofs.Options.{some_none}
 use Rattle.hh_lang.specs.Form.{ProgramText}
 use Rattle.hh_model.specs.declared.data.State.{State}
 use Rattle.hh_model.specs.declared.data.Task.{Task}
@@ -18,9 +19,6 @@ use Rattle.heap_tree.specs.Walk.{depth_by, depth_in, through}
 pub record AreDeep (tasks : List Task) : Type 0 where
   pub root : (u : ℕ) (x : Task) → slice_get tasks u ≡ Some x → x.parent ≡ None → x.depth ≡ 0
   pub child : (u q : ℕ) (x y : Task) → slice_get tasks u ≡ Some x → x.parent ≡ Some q → slice_get tasks q ≡ Some y → x.depth ≡ y.depth + 1
-
-some_none : {A : Type 0} {q : ℕ} → ◌≡◌ {A = Option ℕ} (Some q) None → A
-some_none e = absurd cc
 
 got_task : (xs : List Task) (j : ℕ) → j < length xs → (y : Task) × (slice_get xs j ≡ Some y)
 got_task [] j lt = absurd (omega (arith, lt))

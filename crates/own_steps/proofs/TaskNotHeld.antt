@@ -1,6 +1,5 @@
 -- An entry for a task that its worker doesn't hold is refused.
 use Rattle.std.proofs.Common.{◌≡◌, ◌≢◌, ℕ, ◌⊎◌, ◌&&◌, Bool, true, false, Option, Some, None, slice_get, refl, ap, sym, ◌∙◌, inl, inr}
-use Rattle.std.proofs.lemmas.Bool.{eqb-true, false≢true}
 use Rattle.std.proofs.lemmas.Option.{same_Some}
 use Rattle.hh_model.specs.Step.{is_running}
 use Rattle.run_trace.specs.declared.entry.Kind.{Kind}
@@ -10,15 +9,12 @@ use Rattle.run_ledger.specs.declared.data.Refused.{Refused}
 use Rattle.run_ledger.specs.declared.data.Refused.TheVariants.{NotOut}
 use Rattle.run_ledger.specs.Heaps.{heap_of}
 use Rattle.run_ledger.specs.Entries.{is_fuel, is_held_by, is_out, kind_refusal, refused_unless}
+use Rattle.run_ledger.proofs.Frames.{held_is}
 use Rattle.shared_value.specs.SharedValue.{SharedValue, accounts}
 use Rattle.shared_value.specs.Stands.{IsSharedValue}
 use Rattle.shared_value.specs.Causes.{first_cause, or_else, task_held}
 use Rattle.shared_value.specs.Entered.{refused}
 use Rattle.shared_value.proofs.CausesTold.{refused_is}
-
-held_is : (o : Option ℕ) (k : ℕ) → is_held_by o k ≡ true → o ≡ Some k
-held_is None k h = absurd (false≢true h)
-held_is (Some u) k h = ap Some (eqb-true u k h)
 
 and_false : (a b : Bool) → b ≡ false → (a && b) ≡ false
 and_false true b h = h

@@ -1,6 +1,6 @@
 -- The words that a heap counts stay few as private steps are taken: 64 bits count them.
-use Rattle.std.proofs.Common.{◌≡◌, ℕ, ℤ, zero, suc, pos, negsuc, ◌+◌, ◌-◌, ◌<◌, ◌≤◌, ◌^◌, ◌++◌, arith, Bool, true, false, cond, Option, Some, None, [], ◌∷◌, length, slice_get, nat_le, refl, subst}
-use Rattle.std.proofs.lemmas.Bool.{leb-false, leb-true}
+use Rattle.std.proofs.Common.{◌≡◌, ℕ, zero, suc, ◌+◌, ◌-◌, ◌<◌, ◌≤◌, ◌^◌, ◌++◌, arith, Bool, true, false, cond, Option, Some, None, [], ◌∷◌, length, slice_get, nat_le, refl, subst}
+use Rattle.std.proofs.lemmas.Bool.{leb-false}
 use Rattle.std.proofs.lemmas.Option.{same_Some}
 use Rattle.hh_lang.specs.declared.instr.Instr.{Instr}
 use Rattle.hh_lang.specs.declared.instr.Instr.TheVariants.{Newm, Pack}
@@ -10,28 +10,18 @@ use Rattle.hh_model.specs.declared.data.Frame.{Frame}
 use Rattle.hh_model.specs.declared.data.Name.{Name}
 use Rattle.hh_model.specs.declared.data.State.{State}
 use Rattle.hh_model.specs.declared.data.Task.{Task}
-use Rattle.hh_model.specs.Effect.{counts_in, int_in, row_of}
-use Rattle.hh_model.specs.Names.{words_asked, words_for}
+use Rattle.hh_model.specs.Effect.{int_in, row_of}
+use Rattle.hh_model.specs.Names.{words_asked}
 use Rattle.hh_model.specs.Step.{asked, asked_by, asked_line, fetched, is_running}
 use Rattle.run_trace.specs.Settings.{field_limit}
-use Rattle.run_trace.specs.declared.settings.Version.{Version}
-use Rattle.run_trace.specs.declared.settings.Version.TheVariants.{One, Two}
 use Rattle.run_ledger.specs.declared.data.Heap.{Heap}
 use Rattle.run_ledger.specs.Heaps.{is_small, placed, put_last}
 use Rattle.run_ledger.specs.Space.{AsksAtMost}
 use Rattle.run_ledger.specs.Steps.{on_asked}
+use Rattle.run_ledger.proofs.Asked.{counts_few}
 use Rattle.task_machine.specs.Accounts.{account_after, account_by}
 use Rattle.task_machine.specs.Outline.{steps}
 use Rattle.shared_value.proofs.Packs.{IsFew, PacksFew}
-
-counts_few : (limit : ℕ) (a b : ℤ) (w : ℕ) → words_for (counts_in limit a b) ≡ Some w → w ≤ limit + 34
-counts_few limit (pos a) (pos b) w e = by (nat_le (a + b) limit) refl e
-  where
-    by : (v : Bool) → nat_le (a + b) limit ≡ v → words_for (cond v (Some (a, b)) None) ≡ Some w → w ≤ limit + 34
-    by true q h = let r : a + b ≤ limit = leb-true (a + b) limit q in let z : 2 + a + b ≡ w = same_Some (2 + a + b) w h in omega (arith, r, z)
-    by false q h = absurd cc
-counts_few limit (pos a) (negsuc b) w e = absurd cc
-counts_few limit (negsuc a) b w e = absurd cc
 
 instr_few : (limit : ℕ) (f : Frame) (i : Instr) (w : ℕ) → IsFew i → words_asked limit f i ≡ Some w → w ≤ limit + 34
 instr_few limit f (Newm d a b) w h e = counts_few limit (int_in f a) (int_in f b) w e
@@ -74,7 +64,3 @@ pub since_after : (p : ProgramText) (m : State) (t : ℕ) (a : Heap) (leaf most 
 since_after p m t a leaf most few lt zero due le = few
 since_after p m t a leaf most few lt (suc k) due le =
     since_by (steps p m t k) t (account_after p m t a k) (asked p (steps p m t k) t) leaf most (since_after p m t a leaf most few lt k (λ i l. due i (omega (arith, l))) (λ i l. le i (omega (arith, l)))) (due k (omega arith)) (le k (omega arith)) lt
-
-pub limit_small : (v : Version) → field_limit v ≤ 1000000
-limit_small One = omega arith
-limit_small Two = omega arith

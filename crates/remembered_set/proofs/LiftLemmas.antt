@@ -1,7 +1,7 @@
 -- What a set holds once others were lifted into it.
 use Rattle.std.proofs.Common.{◌≡◌, Bool, true, false, cond, List, [], ◌∷◌, ◌++◌, fold, ◌⊎◌, inl, inr, refl, sym, ap, subst}
 use Rattle.std.specs.Prelude.{not}
-use Rattle.std.proofs.lemmas.Bool.{false≢true}
+use Rattle.std.proofs.lemmas.Bool.{not-true}
 use Rattle.object_layout.specs.Chunks.{has_chunk}
 use Rattle.listed.proofs.Members.{In, any_from_in, contains_from_in, in_append_cases, in_append_left, in_append_right, in_from_any, in_from_contains, in_from_kept, in_kept}
 use Rattle.remembered_set.specs.declared.remembered.Source.{Source}
@@ -9,12 +9,12 @@ use Rattle.remembered_set.specs.Sources.{has_source, lifted, noted, outside, sam
 use Rattle.remembered_set.specs.Laws.{KnownAreThere, LiftedAreThere, NotedAreThere}
 use Rattle.remembered_set.proofs.Noting.{same_is, same_self}
 
-there : (xs : List Source) (s : Source) → has_source xs s ≡ true → In xs s
-there xs s e = let f = in_from_any (same_source s) xs e in subst (λ (y : Source). In xs y) (sym (same_is s f.0 f.2)) f.1
+pub source_in : (xs : List Source) (s : Source) → has_source xs s ≡ true → In xs s
+source_in xs s e = let f = in_from_any (same_source s) xs e in subst (λ (y : Source). In xs y) (sym (same_is s f.0 f.2)) f.1
 
 pub known_are_there : KnownAreThere
 known_are_there xs s = (
-  (λ e. contains_from_in xs s (there xs s e)),
+  (λ e. contains_from_in xs s (source_in xs s e)),
   (λ h. any_from_in (same_source s) xs s (in_from_contains xs s h) (same_self s)),
 )
 
@@ -23,7 +23,7 @@ old_by true xs s t h = h
 old_by false xs s t h = in_append_left xs (s ∷ []) t h
 
 new_by : (b : Bool) (xs : List Source) (s : Source) → has_source xs s ≡ b → In (cond b xs (xs ++ s ∷ [])) s
-new_by true xs s e = there xs s e
+new_by true xs s e = source_in xs s e
 new_by false xs s e = in_append_right xs (s ∷ []) s (inl refl)
 
 cases_by : (b : Bool) (xs : List Source) (s t : Source) → In (cond b xs (xs ++ s ∷ [])) t → In xs t ⊎ (s ≡ t)
@@ -55,16 +55,12 @@ in_all_cases (y ∷ ys) xs t h = elim (in_all_cases ys (noted xs y) t h) [
   | inr a ↦ inr (inr a)
 ]
 
-not_true : (b : Bool) → not b ≡ true → b ≡ false
-not_true true e = absurd (false≢true e)
-not_true false e = refl
-
 pub lifted_are_there : LiftedAreThere
 lifted_are_there xs ys ks t =
     let p = λ (s : Source). not (has_chunk ks s.object.chunk) in (
       (λ h. elim (in_all_cases (outside ks ys) xs t (in_from_contains (lifted xs ys ks) t h)) [
         | inl a ↦ inl (contains_from_in xs t a)
-        | inr a ↦ let r = in_from_kept p ys t a in inr (contains_from_in ys t r.0, not_true (has_chunk ks t.object.chunk) r.1)
+        | inr a ↦ let r = in_from_kept p ys t a in inr (contains_from_in ys t r.0, not-true (has_chunk ks t.object.chunk) r.1)
       ]),
       (λ h. contains_from_in (lifted xs ys ks) t (elim h [
         | inl a ↦ in_all_old (outside ks ys) xs t (in_from_contains xs t a)

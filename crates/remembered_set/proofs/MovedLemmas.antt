@@ -1,7 +1,7 @@
 -- Where a relocation list in order leads an address.
 use Rattle.std.proofs.Common.{◌≡◌, ℕ, zero, suc, ◌+◌, ◌^◌, ◌<◌, ◌≤◌, true, false, List, [], ◌∷◌, length, get_or, refl, ap, arith, ⊎_elim, eqb, Some, None}
-use Rattle.std.specs.Prelude.{slice_get}
 use Rattle.std.proofs.lemmas.Bool.{and_from, and_parts, cases_Bool, cases_lt, eq-eqb, eqb-true}
+use Rattle.std.proofs.lemmas.List.{get_or_default}
 use Rattle.object_layout.specs.declared.word.Addr.{Addr}
 use Rattle.remembered_set.specs.Moved.{new_of, number_of, same_address, AreInOrder, ArePlaces}
 
@@ -47,16 +47,11 @@ new_of-found (m ∷ ms) h a (suc i) d l e =
     (λ (f : same_address m.0 a ≡ false). rw f (new_of-found ms (tail_in_order m ms h) a i d (omega arith) e))
     (cases_Bool (same_address m.0 a))
 
-get_or-any : {X : Type 0} (xs : List X) (i : ℕ) (d e : X) → i < length xs → get_or xs i d ≡ get_or xs i e
-get_or-any [] i d e l = absurd (omega arith)
-get_or-any (x ∷ xs) zero d e l = refl
-get_or-any (x ∷ xs) (suc i) d e l = get_or-any xs i d e (omega arith)
-
 -- one step of a search
 module _ (ms : List (Addr × Addr)) (order : AreInOrder ms) (m w : ℕ) (e : Addr × Addr) (l : m < length ms) where
   pub below_more : number_of (get_or ms m e).0 < w → (i : ℕ) (d : Addr × Addr) → i < m + 1 → number_of (get_or ms i d).0 < w
   below_more less i d k =
-      let same = ap (λ (x : Addr × Addr). number_of x.0) (get_or-any ms m e d l) in
+      let same = ap (λ (x : Addr × Addr). number_of x.0) (get_or_default ms m e d l) in
       ⊎_elim
       (λ (b : i < m). let o = order i m d b l in omega arith)
       (λ (b : m ≤ i). let i' : i ≡ m = omega arith in rw i' (omega arith))
@@ -64,7 +59,7 @@ module _ (ms : List (Addr × Addr)) (order : AreInOrder ms) (m w : ℕ) (e : Add
 
   pub above_more : w < number_of (get_or ms m e).0 → (i : ℕ) (d : Addr × Addr) → m ≤ i → i < length ms → w < number_of (get_or ms i d).0
   above_more more i d k in' =
-      let same = ap (λ (x : Addr × Addr). number_of x.0) (get_or-any ms m e d l) in
+      let same = ap (λ (x : Addr × Addr). number_of x.0) (get_or_default ms m e d l) in
       ⊎_elim
       (λ (b : m < i). let o = order m i d b in' in omega arith)
       (λ (b : i ≤ m). let i' : i ≡ m = omega arith in rw i' (omega arith))
@@ -77,8 +72,3 @@ place_of_new (m ∷ ms) a b h e =
     (λ (s : same_address m.0 a ≡ true). let f : m.1 ≡ b = let g = rw s at e in cc in rw (← f) h.0)
     (λ (s : same_address m.0 a ≡ false). place_of_new ms a b h.1 (rw s at e))
     (cases_Bool (same_address m.0 a))
-
-pub read_at : {X : Type 0} (xs : List X) (k : ℕ) (x d : X) → slice_get xs k ≡ Some x → get_or xs k d ≡ x
-read_at [] k x d e = cc
-read_at (y ∷ ys) zero x d e = cc
-read_at (y ∷ ys) (suc k) x d e = read_at ys k x d e

@@ -1,25 +1,17 @@
 -- Sources that are noted stand once.
 use Rattle.std.proofs.Common.{◌≡◌, ℕ, Bool, true, false, cond, ◌||◌, List, [], ◌∷◌, ◌++◌, refl, sym, ap, ◌∙◌, eqb, eqb-true, eq-eqb}
 use Rattle.std.specs.Prelude.{◌&&◌}
-use Rattle.std.proofs.lemmas.Bool.{false≢true}
+use Rattle.std.proofs.lemmas.Bool.{and_parts, false≢true, or_parts}
 use Rattle.remembered_set.specs.declared.remembered.Source.{Source}
 use Rattle.remembered_set.specs.Sources.{has_source, noted, same_source, StandOnce}
-
-left : (a b : Bool) → (a && b) ≡ true → a ≡ true
-left true b e = refl
-left false b e = e
-
-right : (a b : Bool) → (a && b) ≡ true → b ≡ true
-right true b e = e
-right false b e = absurd (false≢true e)
 
 -- the test of sources tells them apart
 pub same_is : (a b : Source) → same_source a b ≡ true → a ≡ b
 same_is a b e =
-    let both = left ((eqb a.object.chunk b.object.chunk) && (eqb a.object.offset b.object.offset)) (eqb a.field b.field) e in
-    let field : a.field ≡ b.field = eqb-true a.field b.field (right ((eqb a.object.chunk b.object.chunk) && (eqb a.object.offset b.object.offset)) (eqb a.field b.field) e) in
-    let chunk : a.object.chunk ≡ b.object.chunk = eqb-true a.object.chunk b.object.chunk (left (eqb a.object.chunk b.object.chunk) (eqb a.object.offset b.object.offset) both) in
-    let offset : a.object.offset ≡ b.object.offset = eqb-true a.object.offset b.object.offset (right (eqb a.object.chunk b.object.chunk) (eqb a.object.offset b.object.offset) both) in
+    let both = (and_parts ((eqb a.object.chunk b.object.chunk) && (eqb a.object.offset b.object.offset)) (eqb a.field b.field) e).0 in
+    let field : a.field ≡ b.field = eqb-true a.field b.field (and_parts ((eqb a.object.chunk b.object.chunk) && (eqb a.object.offset b.object.offset)) (eqb a.field b.field) e).1 in
+    let chunk : a.object.chunk ≡ b.object.chunk = eqb-true a.object.chunk b.object.chunk (and_parts (eqb a.object.chunk b.object.chunk) (eqb a.object.offset b.object.offset) both).0 in
+    let offset : a.object.offset ≡ b.object.offset = eqb-true a.object.offset b.object.offset (and_parts (eqb a.object.chunk b.object.chunk) (eqb a.object.offset b.object.offset) both).1 in
     let one : a ≡ record { object = record { chunk = b.object.chunk; offset = a.object.offset }; field = a.field } =
     ap (λ (n : ℕ). let s : Source = record { object = record { chunk = n; offset = a.object.offset }; field = a.field } in s) chunk in
     let two : record { object = record { chunk = b.object.chunk; offset = a.object.offset }; field = a.field } ≡ record { object = b.object; field = a.field } =
@@ -40,14 +32,6 @@ or_both true b c e f = e
 or_both false true c e f = e
 or_both false false c e f = f
 
-first_off : (a b : Bool) → (a || b) ≡ false → a ≡ false
-first_off true b e = e
-first_off false b e = refl
-
-rest_off : (a b : Bool) → (a || b) ≡ false → b ≡ false
-rest_off true b e = absurd (false≢true (sym e))
-rest_off false b e = e
-
 has_more : (xs : List Source) (s t : Source) → has_source (xs ++ s ∷ []) t ≡ (has_source xs t || same_source t s)
 has_more [] s t = or_none (same_source t s)
 has_more (x ∷ xs) s t = ap (λ b. same_source t x || b) (has_more xs s t) ∙ assoc (same_source t x) (has_source xs t) (same_source t s)
@@ -63,9 +47,9 @@ apart_by true x s e n = absurd (false≢true (sym n ∙ (ap (λ (y : Source). sa
 once_more : (xs : List Source) (s : Source) → has_source xs s ≡ false → StandOnce xs → StandOnce (xs ++ s ∷ [])
 once_more [] s e h = (refl, tt)
 once_more (x ∷ xs) s e h =
-    let apart : same_source x s ≡ false = apart_by (same_source x s) x s refl (first_off (same_source s x) (has_source xs s) e) in (
+    let apart : same_source x s ≡ false = apart_by (same_source x s) x s refl (or_parts (same_source s x) (has_source xs s) e).0 in (
       has_more xs s x ∙ (ap (λ b. b || same_source x s) h.0 ∙ apart),
-      once_more xs s (rest_off (same_source s x) (has_source xs s) e) h.1,
+      once_more xs s (or_parts (same_source s x) (has_source xs s) e).1 h.1,
     )
 
 once_by : (b : Bool) (xs : List Source) (s : Source) → has_source xs s ≡ b → StandOnce xs → StandOnce (cond b xs (xs ++ s ∷ []))

@@ -1,6 +1,7 @@
 -- How other tasks have part in a part's next step, by the line that comes next; what is left where memory is wanting.
 use Rattle.std.specs.Result.{IfErr, OnErr}
 use Rattle.std.proofs.Common.{◌≡◌, ℕ, Result, Ok, Err, ◌||◌, not, true, Bool, false, Option, Some, None, List, length, slice_get, slice_set, option_map, is_some, refl, ap, sym, subst, ◌∙◌}
+use Rattle.listed.proofs.Places.{got_set}
 use Rattle.hh_lang.specs.declared.instr.Instr.{Instr}
 use Rattle.hh_lang.specs.declared.instr.Instr.TheVariants.{Par, Ret}
 use Rattle.hh_lang.specs.declared.program.Line.{Line}
@@ -26,7 +27,7 @@ use Rattle.shared_value.specs.declared.answer.NotEntered.TheVariants.{NoMemory, 
 use Rattle.shared_value.specs.Links.{above_of}
 use Rattle.shared_value.specs.Next.{is_beyond, is_beyond_by, is_beyond_line, is_joint, next_line}
 use Rattle.shared_value.proofs.SameLength.{same_length}
-use Rattle.shared_value.proofs.TaskTaken.{put_there, worker_there}
+use Rattle.shared_value.proofs.TaskTaken.{worker_there}
 use Rattle.own_steps.specs.Alone.{IsBeyond, IsShared, alone_event, machine_after}
 use Rattle.own_steps.proofs.AloneEntries.{runs_on}
 use Rattle.own_steps.proofs.LastSteps.{fits_machine, machine_same}
@@ -106,7 +107,7 @@ module _ (w : SharedValue) (k : ℕ) (p : Private) (I : IsSharedValue w) (F : Fi
 
 pub holds_none : (w after : SharedValue) (k : ℕ) (p : Private) → IsSharedValue w → IsSharedValue after → refused w (alone_event k p) ≡ None → after.hands ≡ slice_set w.hands k None → HoldsNone after k
 holds_none w after k p I I' free hand t held =
-    no_task (sym (ap (λ hs. flat (slice_get hs k)) hand ∙ ap flat (put_there w.hands k None (worker_there w (alone_event k p) I free))) ∙ (I'.stands.totals.hand k t).1 held)
+    no_task (sym (ap (λ hs. flat (slice_get hs k)) hand ∙ ap flat (got_set w.hands k None (worker_there w (alone_event k p) I free))) ∙ (I'.stands.totals.hand k t).1 held)
   where
     no_task : ◌≡◌ {A = Option ℕ} None (Some t) → ⊥
     no_task e = cc

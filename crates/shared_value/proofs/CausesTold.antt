@@ -2,6 +2,7 @@
 use Rattle.std.proofs.Common.{◌≡◌, ℕ, ◌<◌, ◌&&◌, not, Bool, true, false, Option, Some, None, slice_get, option_map, is_some, is_none, nat_le, nat_lt, refl, ap, ap₂, sym, ◌∙◌}
 use Rattle.std.proofs.lemmas.Option.{same_Some}
 use Rattle.std.proofs.lemmas.Bool.{ltb-true}
+use Rattle.listed.proofs.Options.{none_of}
 use Rattle.hh_model.specs.declared.data.Task.{Task}
 use Rattle.hh_model.specs.declared.data.Status.{Status}
 use Rattle.hh_model.specs.declared.data.Status.TheVariants.{Running, Waiting, Ended, Joined}
@@ -66,10 +67,6 @@ worker_by false true c x y z h = absurd cc
 worker_by false false true x y z h = refl
 worker_by false false false x y z h = absurd cc
 
-pub nothing : (o : Option Refused) → is_some o ≡ false → o ≡ None
-nothing None h = refl
-nothing (Some c) h = absurd cc
-
 pub worker_is : (w : SharedValue) (k : ℕ) (fuel : Bool) → is_some (first_cause w.end w.steps w.settings k fuel) ≡ false → k < w.settings.workers
 worker_is w k fuel h = ltb-true k w.settings.workers (worker_by (is_some w.end) (nat_le w.settings.fuel w.steps && not fuel) (nat_lt k w.settings.workers) Over (Spent w.steps) NoWorker h)
 
@@ -78,14 +75,10 @@ end_by : (a b c : Bool) (x y z : Refused) → is_some (refused_if a x (refused_i
 end_by true b c x y z h = absurd cc
 end_by false b c x y z h = refl
 
-none_by : {A : Type 0} (o : Option A) → is_some o ≡ false → o ≡ None
-none_by None h = refl
-none_by (Some x) h = absurd cc
-
 pub on_is : (w : SharedValue) → IsSharedValue w → (k : ℕ) (fuel : Bool) → is_some (first_cause w.end w.steps w.settings k fuel) ≡ false → (accounts w).end ≡ None
-on_is w I k fuel h = sym (end_now w I) ∙ none_by w.end (end_by (is_some w.end) (nat_le w.settings.fuel w.steps && not fuel) (nat_lt k w.settings.workers) Over (Spent w.steps) NoWorker h)
+on_is w I k fuel h = sym (end_now w I) ∙ none_of w.end (end_by (is_some w.end) (nat_le w.settings.fuel w.steps && not fuel) (nat_lt k w.settings.workers) Over (Spent w.steps) NoWorker h)
 
 pub took_answer : (w : SharedValue) → IsSharedValue w → (k t : ℕ) → is_some (first_cause w.end w.steps w.settings k false) ≡ false → refused w (record { worker = k; kind = Took t }) ≡ took_cause w k t
 took_answer w I k t h =
     refused_is w I (record { worker = k; kind = Took t })
-    ∙ (ap (λ o. or_else o (kind_refusal w.program w.settings (accounts w) k (Took t))) (nothing (first_cause w.end w.steps w.settings k false) h) ∙ took_is w I (on_is w I k false h) k t (worker_is w k false h))
+    ∙ (ap (λ o. or_else o (kind_refusal w.program w.settings (accounts w) k (Took t))) (none_of (first_cause w.end w.steps w.settings k false) h) ∙ took_is w I (on_is w I k false h) k t (worker_is w k false h))

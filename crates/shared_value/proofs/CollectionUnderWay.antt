@@ -1,6 +1,7 @@
 -- A part has begun a leaf collection exactly where its account says so.
 use Rattle.std.proofs.Common.{◌≡◌, ℕ, Bool, true, false, Option, Some, None, List, slice_get, is_none, is_some, refl, ap, sym, ◌∙◌, eq-eqb}
 use Rattle.std.proofs.lemmas.Bool.{and_from, false≢true}
+use Rattle.listed.proofs.Options.{none_of}
 use Rattle.hh_model.specs.declared.data.Name.{Name}
 use Rattle.hh_model.specs.Step.{is_running}
 use Rattle.run_ledger.specs.declared.data.Heap.{Heap}
@@ -23,10 +24,6 @@ use Rattle.shared_value.specs.SharedValue.{SharedValue, accounts, value_of}
 use Rattle.shared_value.specs.Fits.{Fits, home_of_part, part_of}
 use Rattle.shared_value.proofs.BeforeTheEnd.{alive, part_now, status}
 use Rattle.shared_value.proofs.StepAccounts.{After, after_all, hold_same}
-
-none_by : {A : Type 0} (o : Option A) → is_some o ≡ false → o ≡ None
-none_by None h = refl
-none_by (Some x) h = absurd (false≢true (sym h))
 
 idle_of : (out begun : Bool) (rest : Option Refused) → is_none (refused_unless out NotOut (refused_if begun Collecting rest)) ≡ true → begun ≡ false
 idle_of true false rest h = refl
@@ -80,11 +77,11 @@ module _ (w : SharedValue) (k : ℕ) (p : Private) (F : Fits w k p) (on : (accou
 
   -- where an entry of the task isn't refused, it isn't
   pub none_begun : (rest : Option Refused) → is_none (on_running l k t rest) ≡ true → p.begun ≡ None
-  none_begun rest h = none_by p.begun (sym begun_is ∙ idle_of (is_out l k t) (is_some (heap_of l t).begun) rest h)
+  none_begun rest h = none_of p.begun (sym begun_is ∙ idle_of (is_out l k t) (is_some (heap_of l t).begun) rest h)
 
   module _ (none : p.begun ≡ None) where
     pub account_idle : (heap_of l t).begun ≡ None
-    account_idle = none_by (heap_of l t).begun (begun_is ∙ ap is_some none)
+    account_idle = none_of (heap_of l t).begun (begun_is ∙ ap is_some none)
 
     pub steady : collecting (slice_get l.heaps t) ≡ false
     steady = by (slice_get l.heaps t) account_idle

@@ -1,8 +1,9 @@
 -- An entry is made: the shared value that the entry leaves.
-use Rattle.std.proofs.Common.{◌≡◌, ℕ, ℤ, Option, Some, None, List, [], ◌∷◌, ◌++◌, length, slice_get, slice_set, is_none, is_some, false, inl, inr, refl, ap, sym, subst, ◌∙◌}
-use Rattle.std.proofs.lemmas.Bool.{cases_eq, false≢true}
+use Rattle.std.proofs.Common.{◌≡◌, ℕ, ℤ, Option, Some, None, List, [], ◌∷◌, ◌++◌, length, slice_get, slice_set, is_none, inl, inr, refl, ap, sym, subst, ◌∙◌}
+use Rattle.std.proofs.lemmas.Bool.{cases_eq}
 use Rattle.std.proofs.lemmas.Option.{same_Some}
 use Rattle.listed.proofs.Members.{got_other}
+use Rattle.listed.proofs.Options.{none_of}
 use Rattle.hh_model.specs.declared.data.End.TheVariants.{Done, Trapped, Entangled}
 use Rattle.run_trace.specs.Entry.{EntryValue}
 use Rattle.run_ledger.specs.declared.data.Ledger.{Ledger}
@@ -29,13 +30,9 @@ use Rattle.shared_value.specs.Entered.{refused}
 use Rattle.shared_value.proofs.JournalGoesOn.{accounts_then, legal_then}
 use Rattle.shared_value.proofs.BeforeTheEnd.{stands_now}
 
-pub none_by : {A : Type 0} (o : Option A) → is_some o ≡ false → o ≡ None
-none_by None h = refl
-none_by (Some x) h = absurd (false≢true (sym h))
-
 -- nothing is refused after the run's end but as over
 pub entry_on : (w : SharedValue) (e : EntryValue) → refused w e ≡ None → (accounts w).end ≡ None
-entry_on w e free = none_by (accounts w).end (entry_tells w.program w.settings (accounts w) e (ap is_none free)).0
+entry_on w e free = none_of (accounts w).end (entry_tells w.program w.settings (accounts w) e (ap is_none free)).0
 
 -- who holds a heap once the root is handed back held it before
 none_worker : {A : Type 0} (o : Option ℕ) (u : ℕ) → o ≡ None → o ≡ Some u → A

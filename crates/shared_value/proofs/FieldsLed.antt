@@ -1,5 +1,5 @@
 -- The remembered fields of a heap are led to where its objects are now: what is read then in the heaps that no worker holds.
-use Rattle.std.proofs.Common.{◌≡◌, ◌⊎◌, ℕ, ◌+◌, ◌-◌, ◌==◌, ◌&&◌, arith, Bool, true, false, cond, Option, Some, None, List, [], ◌∷◌, fold, length, map, slice_get, inl, inr, refl, ap, ap₂, sym, subst, ◌∙◌, eq-eqb}
+use Rattle.std.proofs.Common.{◌≡◌, ℕ, ◌+◌, ◌-◌, ◌==◌, arith, Bool, true, false, cond, Option, Some, None, List, [], ◌∷◌, fold, length, map, slice_get, inl, inr, refl, ap, ap₂, sym, subst, ◌∙◌}
 use Rattle.std.specs.Prelude.{slice_index_or, slice_set, unwrap_or}
 use Rattle.std.proofs.lemmas.Bool.{cases_eq, false≢true}
 use Rattle.std.proofs.lemmas.List.{length-set}
@@ -17,14 +17,17 @@ use Rattle.alloc_path.specs.LeafHeapValue.{LeafHeapValue, room_of}
 use Rattle.alloc_path.specs.FieldLaws.{with_ref_of}
 use Rattle.alloc_path.specs.LeafHeapValue.{room_at}
 use Rattle.alloc_path.specs.PlaceLaws.{KeepsCounts}
+use Rattle.alloc_path.specs.View.{Level}
 use Rattle.alloc_path.proofs.Counting.{writes_keep_counts}
 use Rattle.remembered_set.specs.declared.remembered.Source.{Source}
 use Rattle.remembered_set.specs.Moved.{held_by, new_reference, redirected, written}
 use Rattle.leaf_copy_gc.specs.Redirected.{new_address}
+use Rattle.leaf_copy_gc.proofs.Puts.{same_or_other}
 use Rattle.core_relation.specs.Memory.{Chunk, In, led, mapped_chunk, mapped_home, objects_in, put_at, rewritten_home}
 use Rattle.core_relation.proofs.objects.Members.{in_chunk, map_in}
 use Rattle.core_relation.specs.Memory.{is_at}
 use Rattle.core_relation.proofs.changes.Write.{at_is}
+use Rattle.core_relation.proofs.changes.Shown.{is_at_it}
 use Rattle.shared_value.specs.declared.heaps.Heaps.{Heaps}
 use Rattle.shared_value.specs.declared.task_at_rest.Rest.{Rest}
 use Rattle.shared_value.specs.declared.task_at_rest.Work.{Work}
@@ -68,12 +71,12 @@ rest_set homes z r x e = by (slice_get homes z) refl e
 rest_off : (homes : List (Option Rest)) (z u : ℕ) (x : Option Rest) → (u ≡ z → ⊥) → rest_at (slice_set homes z x) u ≡ rest_at homes u
 rest_off homes z u x ne = ap flat (got_other homes z u x ne)
 
+pub by_chunks : (h : LeafHeapValue) (view : List Level) (n : ℕ) (x : Work) → (home_by h view n x).chunks ≡ chunks_of h.chunks
+by_chunks h view n (Calls s) = refl
+by_chunks h view n (Result k r) = refl
+
 pub home_chunks : (r : Rest) → (home_of r).chunks ≡ chunks_of r.heap.chunks
-home_chunks r = by r.work
-  where
-    by : (x : Work) → (home_by r.heap r.view r.allocations x).chunks ≡ chunks_of r.heap.chunks
-    by (Calls s) = refl
-    by (Result n b) = refl
+home_chunks r = by_chunks r.heap r.view r.allocations r.work
 
 room_written : (h : LeafHeapValue) (a : Addr) (d : Cell) → d.mark ≡ (cell_of h.chunks a).mark → size_of d ≡ size_of (cell_of h.chunks a) → room_at (put_object h.chunks a d) h.current ≡ room_of h
 room_written h a d mark size = by h.current
@@ -84,18 +87,6 @@ room_written h a d mark size = by h.current
     by : (o : Option ℕ) → room_at (put_object h.chunks a d) o ≡ room_at h.chunks o
     by None = refl
     by (Some i) = ap₂ (λ n m. n - m) (K.shape i).size (K.shape i).used
-
-at_itself : (a : Addr) (o : Located) → o.at ≡ a → is_at a o ≡ true
-at_itself a o e = ap₂ (λ x y. x && y) (eq-eqb o.at.chunk a.chunk (ap (λ (z : Addr). z.chunk) e)) (eq-eqb o.at.offset a.offset (ap (λ (z : Addr). z.offset) e))
-
-addr_cases : (a b : Addr) → (a ≡ b) ⊎ (a ≡ b → ⊥)
-addr_cases a b = elim (cases_eq a.chunk b.chunk) [
-  | inr ne ↦ inr (λ e. ne (ap (λ (z : Addr). z.chunk) e))
-  | inl c ↦ elim (cases_eq a.offset b.offset) [
-    | inr ne ↦ inr (λ e. ne (ap (λ (z : Addr). z.offset) e))
-    | inl o ↦ inl (λ i. record { chunk = c i; offset = o i })
-  ]
-]
 
 put_number : (ks : List ChunkValue) (a : Addr) (d : Cell) (k : ChunkValue) → In (put_object ks a d) k → (j : ChunkValue) × In ks j × (j.number ≡ k.number)
 put_number [] a d k i = absurd i
@@ -198,7 +189,7 @@ module _ (ms : List (Addr × Addr)) where
             let at : o.at ≡ s.object = at_is s.object o e in
             let q = at_source u good o i at in
             led_there o (held_by refs_in H s) at q.1 is ∙ same_refs o q.1
-        by u good o i false e = elsewhere o (λ at. false≢true (sym e ∙ at_itself s.object o at))
+        by u good o i false e = elsewhere o (λ at. false≢true (sym e ∙ is_at_it s.object o at))
 
     -- it is led to where its object is now
     module _ (x : Option Addr) (is : led f (held_by refs_in H s) ≡ x) where
@@ -215,7 +206,7 @@ module _ (ms : List (Addr × Addr)) where
       size = ap (λ n. 2 + (n + length c.ints)) (length-set c.refs s.field x)
 
       mark_kept : (b : Addr) → (cell_of (put_object T.rest.heap.chunks s.object d) b).mark ≡ (cell_of T.rest.heap.chunks b).mark
-      mark_kept b = elim (addr_cases b s.object) [
+      mark_kept b = elim (same_or_other b s.object) [
         | inl e ↦
             subst (λ z. (cell_of (put_object T.rest.heap.chunks s.object d) z).mark ≡ (cell_of T.rest.heap.chunks z).mark) (sym e)
             (ap (λ (z : Cell). z.mark) (laws.cell_of-put_same T.rest.heap.chunks s.object d (subst IsObject (sym T.born) tt)))
@@ -255,7 +246,7 @@ module _ (ms : List (Addr × Addr)) where
               let at : o.at ≡ s.object = at_is s.object o e in
               let q = at_source T.home T.good o i at in
               (λ k. record o { mutable = sym q.2 k; refs = slice_set c.refs s.field x; ints = sym q.3 k }) ∙ sym (led_there o x at q.1 is)
-          by false e = sym (elsewhere o (λ at. false≢true (sym e ∙ at_itself s.object o at)))
+          by false e = sym (elsewhere o (λ at. false≢true (sym e ∙ is_at_it s.object o at)))
 
       homes_now : (u : ℕ) → Good u → home_in (rest_at homes' u) ≡ mapped_home (lead_one f s) (home_in (rest_at H.homes u))
       homes_now u good = elim (cases_eq u T.home) [

@@ -1,8 +1,7 @@
--- Remembered fields as the relation has them, and numbers of chunks.
-use Rattle.std.proofs.Common.{◌≡◌, ℕ, ◌==◌, ◌&&◌, All, Bool, true, false, Option, Some, None, List, [], ◌∷◌, option_map, inl, inr, refl, ap, ap₂, sym, subst, ◌∙◌, eq-eqb}
-use Rattle.std.specs.List.{AllByRecursion, list_any}
+-- What sets of remembered fields hold, as the relation has it, and numbers of chunks.
+use Rattle.std.proofs.Common.{◌≡◌, ℕ, ◌==◌, ◌&&◌, Bool, true, false, Option, Some, None, List, [], ◌∷◌, option_map, inl, inr, refl, ap, ap₂, sym, ◌∙◌, eq-eqb}
+use Rattle.std.specs.List.{list_any}
 use Rattle.std.proofs.lemmas.Bool.{eqb-true, false≢true}
-use Rattle.std.proofs.lemmas.List.Elements.{All-head, All-tail}
 use Rattle.listed.proofs.Members.{any_from_in, in_from_any}
 use Rattle.object_layout.specs.ChunkValue.{ChunkValue}
 use Rattle.chunk_pool.specs.declared.pool.Held.{Held}
@@ -12,10 +11,21 @@ use Rattle.alloc_path.proofs.HeapLemmas.{fresh_cons}
 use Rattle.remembered_set.specs.declared.remembered.Source.{Source}
 use Rattle.remembered_set.specs.Sources.{StandOnce, same_source}
 use Rattle.write_barrier.specs.declared.sets.SetOf.{SetOf}
-use Rattle.core_relation.specs.Memory.{In, is_source}
+use Rattle.write_barrier.specs.Stored.{Content, content_of}
+use Rattle.core_relation.specs.Memory.{In, Noted, is_source}
 use Rattle.shared_value.specs.SharedValue.{noted_in}
 use Rattle.shared_value.specs.Roots.{sources_of}
 use Rattle.shared_value.proofs.FieldsLedTogether.{AreOnce}
+
+-- ---- WHAT IS NOTED, by what a set holds
+
+abbrev pub noted_of : Option Content → Noted
+noted_of None = record { sources = []; kept = []; keeps = false; marked = None }
+noted_of (Some c) = record { sources = c.sources; kept = c.kept; keeps = c.keeps; marked = None }
+
+pub noted_is : (o : Option SetOf) → noted_in o ≡ noted_of (option_map content_of o)
+noted_is None = refl
+noted_is (Some s) = refl
 
 -- ---- SOURCES
 
@@ -51,15 +61,6 @@ are_once (s ∷ ss) o = (off (list_any (is_source s.object s.field) ss) refl, ar
 pub fresh_by : (ks : List ChunkValue) (n : ℕ) → ((k : ChunkValue) → In ks k → k.number ≡ n → ⊥) → IsFresh ks n
 fresh_by [] n f = refl
 fresh_by (k ∷ ks) n f = fresh_cons k ks n (f k (inl refl)) (fresh_by ks n (λ j i. f j (inr i)))
-
-pub all_at : {A : Type 0} (P : A → Type 0) (xs : List A) (x : A) → In xs x → All P xs → P x
-all_at P [] x i a = absurd i
-all_at P (y ∷ ys) x (inl e) a = subst P e (All-head P y ys a)
-all_at P (y ∷ ys) x (inr i) a = all_at P ys x i (All-tail P y ys a)
-
-pub all_rec : {A : Type 0} (P : A → Type 0) (xs : List A) → ((x : A) → In xs x → P x) → AllByRecursion P xs
-all_rec P [] f = tt
-all_rec P (x ∷ xs) f = (f x (inl refl), all_rec P xs (λ y i. f y (inr i)))
 
 pub owner_none : (pool : PoolValue) (n u : ℕ) → held_at pool n ≡ None → owner_of pool n ≡ Some u → ⊥
 owner_none pool n u e o = none_some (ap (option_map (λ (h : Held). h.owner)) (sym e) ∙ o)

@@ -7,6 +7,7 @@ use Rattle.object_layout.specs.Cell.{Born, Cell, Hole, Mark, Moved, size_of}
 use Rattle.object_layout.specs.Chunks.{chunk_at}
 use Rattle.object_layout.specs.ChunkValue.{ChunkValue}
 use Rattle.object_layout.specs.Objects.{Located, located_by, objects_from}
+use Rattle.object_layout.proofs.ObjectLemmas.{chunk_there}
 use Rattle.alloc_path.specs.LeafHeapValue.{LeafHeapValue, IsReserved, room_of}
 use Rattle.core_relation.specs.Layout.{has_none, reserved_chunks, reserved_units}
 use Rattle.core_relation.specs.Stands.{HasNames, large_chunks, names_of, small_chunks}
@@ -23,7 +24,7 @@ names_by number at c (Born b) os ns e = ap (λ xs. name_of b ∷ xs) e
 names_by number at c (Moved to) os ns e = e
 names_by number at c Hole os ns e = e
 
-names_are : (cs : List Cell) (number base : ℕ) → map object_name (objects_from number base cs) ≡ names_in cs
+pub names_are : (cs : List Cell) (number base : ℕ) → map object_name (objects_from number base cs) ≡ names_in cs
 names_are [] number base = refl
 names_are (c ∷ cs) number base = names_by number base c c.mark (objects_from number (base + size_of c) cs) (names_in cs) (names_are cs number (base + size_of c))
 
@@ -87,11 +88,6 @@ spare_tells k h = by (k.size == 1024) refl (chunk_of k).objects refl h
     by true q os e g = absurd (false≢true g)
     by false q [] e g = ((λ s. false≢true (sym q ∙ ap (λ n. n == 1024) s)), e)
     by false q (o ∷ os) e g = absurd (false≢true g)
-
-pub chunk_there : (ks : List ChunkValue) (i : ℕ) → i < length ks → In ks (chunk_at ks i)
-chunk_there [] i lt = absurd (omega (arith, lt))
-chunk_there (k ∷ ks) zero lt = inl refl
-chunk_there (k ∷ ks) (suc i) lt = inr (chunk_there ks i (omega (arith, lt)))
 
 module _ (h : LeafHeapValue) (F : HeapForm h) (units : ℕ) (laid : map (λ (c : Chunk). c.units) (reserved_chunks (chunks_of h.chunks)) ≡ reserved_units units) where
   none_reserved : h.reserved ≡ None → units ≡ 0

@@ -1,7 +1,7 @@
 -- How a heap is laid out, by what of its chunks is known.
 use Rattle.std.proofs.Common.{◌≡◌, ◌⊎◌, ℕ, zero, suc, ◌+◌, ◌*◌, ◌/◌, ◌<◌, ◌≤◌, ◌==◌, ◌&&◌, not, arith, Bool, true, false, Option, Some, None, List, [], ◌∷◌, length, map, inl, inr, refl, ap, ap₂, sym, subst, ◌∙◌, ne_eqb}
 use Rattle.std.specs.List.{AllByRecursion, IsDistinct}
-use Rattle.std.proofs.lemmas.Bool.{cases_eq, cond-true, cond-false, eqb-true, false≢true}
+use Rattle.std.proofs.lemmas.Bool.{cases_eq, cond-true, cond-false, eqb-true, false≢true, false_from_ne_true}
 use Rattle.std.proofs.lemmas.Option.{same_Some}
 use Rattle.object_layout.specs.declared.word.Birth.{Birth}
 use Rattle.object_layout.specs.Cell.{Born, Cell, Hole, Mark, Moved, size_of}
@@ -38,7 +38,7 @@ between (c ∷ cs) number base o i = by c.mark i (between cs number (base + size
     by (Moved to) j go = behind (go j)
     by Hole j go = behind (go j)
 
-apart_here : (cs : List Cell) (number base : ℕ) (o q : Located) → In (objects_from number base cs) o → In (objects_from number base cs) q → (o ≡ q) ⊎ AreApart o q
+pub apart_here : (cs : List Cell) (number base : ℕ) (o q : Located) → In (objects_from number base cs) o → In (objects_from number base cs) q → (o ≡ q) ⊎ AreApart o q
 apart_here [] number base o q i j = absurd i
 apart_here (c ∷ cs) number base o q i j = by c.mark i j (apart_here cs number (base + size_of c) o q)
   where
@@ -56,14 +56,14 @@ apart_here (c ∷ cs) number base o q i j = by c.mark i j (apart_here cs number 
 
 -- ---- CHUNKS
 
-same_chunk : (ks : List ChunkValue) (j k : ChunkValue) → HaveNumbersApart ks → In ks j → In ks k → j.number ≡ k.number → j ≡ k
+pub same_chunk : (ks : List ChunkValue) (j k : ChunkValue) → HaveNumbersApart ks → In ks j → In ks k → j.number ≡ k.number → j ≡ k
 same_chunk [] j k A i i' e = absurd i
 same_chunk (y ∷ ys) j k A (inl a) (inl b) e = sym a ∙ b
 same_chunk (y ∷ ys) j k A (inl a) (inr b) e = absurd (fresh_off ys k y.number A.0 b (sym e ∙ ap (λ (z : ChunkValue). z.number) (sym a)))
 same_chunk (y ∷ ys) j k A (inr a) (inl b) e = absurd (fresh_off ys j y.number A.0 a (e ∙ ap (λ (z : ChunkValue). z.number) (sym b)))
 same_chunk (y ∷ ys) j k A (inr a) (inr b) e = same_chunk ys j k A.1 a b e
 
-distinct_from : (ks : List ChunkValue) → HaveNumbersApart ks → IsDistinct (λ a b. a == b) (map (λ (k : Chunk). k.number) (chunks_of ks))
+pub distinct_from : (ks : List ChunkValue) → HaveNumbersApart ks → IsDistinct (λ a b. a == b) (map (λ (k : Chunk). k.number) (chunks_of ks))
 unfolding IsDistinct
 distinct_from [] A = tt
 distinct_from (k ∷ ks) A = (all ks (λ j i. fresh_off ks j k.number A.0 i), distinct_from ks A.1)
@@ -89,14 +89,10 @@ inside_from ks k o i j =
 
 -- ---- THE RESERVED CHUNK
 
-not_true : (b : Bool) → (b ≡ true → ⊥) → b ≡ false
-not_true true f = absurd (f refl)
-not_true false f = refl
-
 none_spare : (ks : List ChunkValue) → ((j : ℕ) → j < length ks → is_spare (chunk_of (chunk_at ks j)) ≡ true → ⊥) → reserved_chunks (chunks_of ks) ≡ []
 none_spare [] f = refl
 none_spare (k ∷ ks) f =
-    cond-false (is_spare (chunk_of k)) (chunk_of k ∷ reserved_chunks (chunks_of ks)) (reserved_chunks (chunks_of ks)) (not_true (is_spare (chunk_of k)) (f 0 (omega arith)))
+    cond-false (is_spare (chunk_of k)) (chunk_of k ∷ reserved_chunks (chunks_of ks)) (reserved_chunks (chunks_of ks)) (false_from_ne_true (is_spare (chunk_of k)) (f 0 (omega arith)))
     ∙ none_spare ks (λ j lt. f (suc j) (omega (arith, lt)))
 
 one_spare : (ks : List ChunkValue) (i : ℕ) → i < length ks → is_spare (chunk_of (chunk_at ks i)) ≡ true → ((j : ℕ) → j < length ks → is_spare (chunk_of (chunk_at ks j)) ≡ true → i ≡ j) → reserved_chunks (chunks_of ks) ≡ chunk_of (chunk_at ks i) ∷ []
@@ -105,7 +101,7 @@ one_spare (k ∷ ks) zero lt s f =
     cond-true (is_spare (chunk_of k)) (chunk_of k ∷ reserved_chunks (chunks_of ks)) (reserved_chunks (chunks_of ks)) s
     ∙ ap (λ cs. chunk_of k ∷ cs) (none_spare ks (λ j l t. let e : 0 ≡ suc j = f (suc j) (omega (arith, l)) t in omega (arith, e)))
 one_spare (k ∷ ks) (suc i) lt s f =
-    cond-false (is_spare (chunk_of k)) (chunk_of k ∷ reserved_chunks (chunks_of ks)) (reserved_chunks (chunks_of ks)) (not_true (is_spare (chunk_of k)) (λ t. let e : suc i ≡ 0 = f 0 (omega arith) t in omega (arith, e)))
+    cond-false (is_spare (chunk_of k)) (chunk_of k ∷ reserved_chunks (chunks_of ks)) (reserved_chunks (chunks_of ks)) (false_from_ne_true (is_spare (chunk_of k)) (λ t. let e : suc i ≡ 0 = f 0 (omega arith) t in omega (arith, e)))
     ∙ one_spare ks i (omega (arith, lt)) s (λ j l t. let e : suc i ≡ suc j = f (suc j) (omega (arith, l)) t in omega (arith, e))
 
 some_units : (n : ℕ) → 1 ≤ n → n ∷ [] ≡ reserved_units n

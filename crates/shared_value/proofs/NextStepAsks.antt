@@ -29,6 +29,7 @@ use Rattle.task_machine.specs.Place.{FrameStands, Places}
 use Rattle.task_machine.specs.Plan.{int_of}
 use Rattle.task_machine.proofs.Agreement.{same_line}
 use Rattle.task_machine.proofs.Fitting.{int_same}
+use Rattle.task_machine.proofs.Accounted.{words_for_some}
 use Rattle.shared_value.specs.SharedValue.{SharedValue, accounts, value_of}
 use Rattle.shared_value.specs.Stands.{IsSharedValue}
 use Rattle.shared_value.specs.Fits.{Fits, home_of_part, part_of}
@@ -55,12 +56,8 @@ asked_same p part m above G =
     ∙ ap₂ (λ n o. line_asks n part.frames.top o) (sym G.limit) (sym (same_line p part m above G))))
 
 -- an object has at least two words
-pub counts_two : (o : Option (ℕ × ℕ)) (w : ℕ) → words_for o ≡ Some w → 2 ≤ w
-counts_two None w e = absurd cc
-counts_two (Some c) w e = let q : 2 + c.0 + c.1 ≡ w = same_Some (2 + c.0 + c.1) w e in omega (arith, q)
-
 instr_two : (limit : ℕ) (f : Frame) (i : Instr) (w : ℕ) → instr_asks limit f i ≡ Some w → 2 ≤ w
-instr_two limit f (Newm d a b) w e = counts_two (counts_in limit (int_of f a) (int_of f b)) w e
+instr_two limit f (Newm d a b) w e = words_for_some (counts_in limit (int_of f a) (int_of f b)) w e
 instr_two limit f (Pack d r i) w e = let q : 2 + r + i ≡ w = same_Some (2 + r + i) w e in omega (arith, q)
 instr_two limit f _ w e = absurd cc
 

@@ -3,6 +3,7 @@ use Rattle.std.proofs.Common.{◌≡◌, ℕ, ◌+◌, ◌-◌, ◌*◌, ◌/◌
 use Rattle.std.proofs.lemmas.Bool.{cond-true, eqb-true, false≢true}
 use Rattle.std.proofs.lemmas.List.{length-map}
 use Rattle.std.proofs.lemmas.List.Elements.{All-cons, All-head, All-nil, All-tail}
+use Rattle.listed.proofs.Places.{in_map}
 use Rattle.object_layout.specs.declared.word.Addr.{Addr}
 use Rattle.object_layout.specs.Cell.{Born, Cell, Hole, Mark, Moved, moved_to, size_of}
 use Rattle.object_layout.specs.Chunks.{cell_of, chunk_at, put_object, with_cell}
@@ -13,16 +14,15 @@ use Rattle.object_layout.proofs.ChunkLaws.{length-put}
 use Rattle.object_layout.proofs.ObjectChanges.{put_changes_one}
 use Rattle.alloc_path.specs.LeafHeapValue.{AreApart, LeafHeapValue, IsTidy, room_at, room_of, units}
 use Rattle.core_relation.specs.Memory.{Chunk, In, is_at, mapped_chunk, objects_in, put_at}
-use Rattle.core_relation.proofs.objects.Members.{in_chunk, in_map, map_in, in_objects}
+use Rattle.core_relation.proofs.objects.Members.{in_chunk, map_in, in_objects}
 use Rattle.core_relation.proofs.changes.Write.{at_is}
 use Rattle.task_machine.specs.Accounts.{IsLastLarge, IsLastSmall}
 use Rattle.task_machine.specs.Outline.{outline_of_cell, outline_of_chunk}
-use Rattle.task_machine.proofs.Outlines.{outline_at, written_outline}
+use Rattle.task_machine.proofs.Outlines.{outline_at, outline_size, written_outline}
 use Rattle.task_machine.proofs.Written.{shape_written}
 use Rattle.shared_value.specs.Objects.{AreNear, chunk_of, chunks_of}
 use Rattle.shared_value.specs.Stands.{HeapForm}
 use Rattle.shared_value.proofs.CellsRead.{fresh_off, numbered}
-use Rattle.shared_value.proofs.OutlineKept.{outline_size}
 
 -- ---- WHAT IS READ
 

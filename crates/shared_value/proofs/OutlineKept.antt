@@ -1,27 +1,25 @@
 -- A run of private steps keeps the places of objects: it only adds to chunks that are there.
-use Rattle.std.proofs.Common.{◌≡◌, ℕ, zero, suc, ◌+◌, ◌-◌, arith, Bool, true, false, cond, Option, Some, None, List, [], ◌∷◌, length, map, nat_le, pos, slice_set, ◌==◌, inl, inr, refl, ap, sym, subst, ◌∙◌}
-use Rattle.std.proofs.lemmas.List.{length-replicate}
+use Rattle.std.proofs.Common.{◌≡◌, ℕ, zero, suc, ◌-◌, Bool, true, false, cond, Option, Some, None, List, [], ◌∷◌, map, nat_le, slice_set, ◌==◌, inl, inr, refl, ap, sym, subst, ◌∙◌}
+use Rattle.listed.proofs.Places.{in_map}
 use Rattle.hh_lang.specs.Form.{ProgramText}
 use Rattle.hh_model.specs.declared.data.State.{State}
 use Rattle.hh_model.specs.Step.{asked}
 use Rattle.object_layout.specs.declared.word.Addr.{Addr}
-use Rattle.object_layout.specs.declared.word.Birth.{Birth}
-use Rattle.object_layout.specs.Cell.{Born, Cell, IsObject, Mark, no_cell, size_of}
+use Rattle.object_layout.specs.Cell.{Cell, no_cell, size_of}
 use Rattle.object_layout.specs.Chunks.{cell_of, chunk_at}
 use Rattle.object_layout.specs.ChunkValue.{ChunkValue}
 use Rattle.object_layout.specs.Place.{cell_at}
 use Rattle.alloc_path.specs.LeafHeapValue.{LeafHeapValue, place_for, placed}
 use Rattle.alloc_path.proofs.PlacedLaws.{cell_of-others}
 use Rattle.core_relation.specs.Memory.{In}
-use Rattle.core_relation.proofs.objects.Members.{in_map, map_in}
+use Rattle.core_relation.proofs.objects.Members.{map_in}
 use Rattle.task_machine.specs.declared.part.Private.{Private}
 use Rattle.task_machine.specs.Outline.{outline_after, outline_by, outline_of, outline_of_cell, outline_of_chunk, steps}
 use Rattle.task_machine.specs.Place.{Places}
 use Rattle.task_machine.specs.Run.{Ran}
+use Rattle.task_machine.proofs.Outlines.{outline_size}
+use Rattle.task_machine.proofs.Owned.{born_is}
 use Rattle.shared_value.specs.Again.{KeepsPlaces}
-
-pub outline_size : (c : Cell) → size_of (outline_of_cell c) ≡ size_of c
-outline_size c = ap (λ n. 2 + (0 + n)) (length-replicate (length c.refs + length c.ints) (pos 0)) ∙ omega arith
 
 mark_at : (cs : List Cell) (off : ℕ) → (cell_at (map outline_of_cell cs) off).mark ≡ (cell_at cs off).mark
 mark_at [] off = refl
@@ -55,13 +53,10 @@ numbers_set (x ∷ xs) zero y k e s (inr h) = (k, inr h, refl, refl)
 numbers_set (x ∷ xs) (suc i) y k e s (inl q) = (x, inl refl, ap (λ (z : ChunkValue). z.number) q, ap (λ (z : ChunkValue). z.size) q)
 numbers_set (x ∷ xs) (suc i) y k e s (inr h) = let r = numbers_set xs i y k e s h in (r.0, inr r.1, r.2, r.3)
 
-born_object : (m : Mark) (b : Birth) → m ≡ Born b → IsObject m
-born_object m b e = subst IsObject (sym e) tt
-
 placed_keeps : (h : LeafHeapValue) (o : Option ℕ) (c : Cell) → KeepsPlaces h (placed h o c)
 placed_keeps h None c = record { stays = λ a b e. e; numbers = λ k i. (k, i, refl, refl) }
 placed_keeps h (Some i) c = record {
-  stays = λ a b e. ap (λ (z : Cell). z.mark) (cell_of-others h.chunks i c a (born_object (cell_of h.chunks a).mark b e)) ∙ e;
+  stays = λ a b e. ap (λ (z : Cell). z.mark) (cell_of-others h.chunks i c a (born_is (cell_of h.chunks a).mark b e)) ∙ e;
   numbers = λ k j. numbers_set h.chunks i _ k refl refl j;
 }
 

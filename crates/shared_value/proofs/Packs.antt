@@ -1,6 +1,6 @@
 -- In a program a pack takes few registers.
-use Rattle.std.proofs.Common.{◌≡◌, ℕ, ◌≤◌, Option, Some, None, List, length, slice_get, All, refl, subst}
-use Rattle.std.proofs.lemmas.Option.{slice_get_within, get_or_from_slice_get}
+use Rattle.std.proofs.Common.{◌≡◌, ℕ, ◌≤◌, Option, Some, None, length, slice_get, refl}
+use Rattle.listed.proofs.Places.{all_at}
 use Rattle.hh_lang.specs.declared.instr.Instr.{Instr}
 use Rattle.hh_lang.specs.declared.instr.Instr.TheVariants.{Pack}
 use Rattle.hh_lang.specs.declared.program.Fun.{Fun}
@@ -17,9 +17,6 @@ PacksFew p = (f place : ℕ) (line : Line) → line_at p f place ≡ Some line �
 few_of : (functions places : ℕ) (i : Instr) → NamesExist functions places i → IsFew i
 few_of functions places (Pack d r i) h = h
 few_of functions places _ h = tt
-
-all_at : {A : Type 0} (P : A → Type 0) (xs : List A) (k : ℕ) (x : A) → All P xs → slice_get xs k ≡ Some x → P x
-all_at P xs k x all e = subst P (get_or_from_slice_get xs k x x e) (all k x (slice_get_within xs k x e))
 
 pub packs_few : (p : ProgramText) → IsProgram p → PacksFew p
 packs_few p I f place line at = by (slice_get p.functions f) refl at

@@ -3,6 +3,7 @@ use Rattle.std.proofs.Common.{◌≡◌, ℕ, ◌+◌, ◌<◌, ◌≤◌, ◌==
 use Rattle.std.specs.Prelude.{option_map}
 use Rattle.std.proofs.lemmas.Bool.{cases_eq, cond-true, cond-false, eqb-true, ltb-true, false≢true, both_ways}
 use Rattle.std.proofs.lemmas.Option.{same_Some}
+use Rattle.listed.proofs.Places.{in_got, in_map}
 use Rattle.hh_lang.specs.Form.{ProgramText}
 use Rattle.hh_model.specs.declared.data.Frame.{Frame as Framed}
 use Rattle.hh_model.specs.declared.data.Name.{Name}
@@ -13,7 +14,7 @@ use Rattle.hh_model.specs.declared.data.Task.{Task}
 use Rattle.hh_model.specs.declared.data.State.{State}
 use Rattle.hh_model.specs.Effect.{object_at}
 use Rattle.hh_model.specs.Step.{is_joined, is_over, is_on_path, is_running, is_waiting, owner_of, parents, run, run_from, runs, start, step, waits}
-use Rattle.hh_model.proofs.Counts.{step_limit}
+use Rattle.hh_model.proofs.Counts.{run_on, step_limit}
 use Rattle.hh_model.proofs.Kept.{Kept, step_kept, start_kept}
 use Rattle.hh_model.proofs.Paths.{path_along, path_le}
 use Rattle.run_trace.specs.Settings.{field_limit}
@@ -50,9 +51,8 @@ use Rattle.core_relation.specs.Stands.{HomeStands, Place, Stands}
 use Rattle.core_relation.specs.Fits.{FitsAt as FitsValue, ahead, with_home}
 use Rattle.core_relation.proofs.changes.Alone.{home_own}
 use Rattle.core_relation.proofs.objects.Carry.{object_kept, task_kept}
-use Rattle.core_relation.proofs.objects.Members.{in_chunk, in_map}
+use Rattle.core_relation.proofs.objects.Members.{in_chunk}
 use Rattle.core_relation.proofs.parts.Parts.{ahead_alone, ahead_sound}
-use Rattle.core_relation.proofs.notes.Roots.{index_of}
 use Rattle.core_relation.proofs.changes.Shown.{noted_mutable}
 use Rattle.core_relation.proofs.changes.With.{at_home, off_home}
 use Rattle.core_relation.proofs.parts.Quiet.{aside_is}
@@ -148,10 +148,6 @@ module _ (place : Name → Option Addr) where
   frames_stand (f ∷ fs) (x ∷ xs) h = (frame_stands f x h.0, frames_stand fs xs h.1)
 
 -- ---- RUNS
-
-run_on : (p : ProgramText) (ts us : List ℕ) (m : State) → run_from p m (ts ++ us) ≡ run_from p (run_from p m ts) us
-run_on p [] us m = refl
-run_on p (t ∷ ts) us m = run_on p ts us (step p m t)
 
 pub limit_from : (p : ProgramText) (ts : List ℕ) (m : State) → Kept m → (run_from p m ts).field_limit ≡ m.field_limit
 limit_from p [] m K = refl
@@ -334,7 +330,7 @@ module _ (w : SharedValue) (k : ℕ) (p : Private) (I : IsSharedValue w) (F : Fi
   -- a reference of an own object goes up or inside
   refs_up : (o : Located) (x : Object) → In (objects v' t) o → object_at L.machine.store (object_name o) ≡ Some x → (n : Name) → In x.refs (Some n) → is_on_path L.machine.tasks (own L n) t ≡ true
   refs_up o x i e n j =
-      let at = index_of x.refs (Some n) j in
+      let at = in_got x.refs (Some n) j in
       elim (W.remembered t o x at.0 n at_rest i e at.1) [
         | inl path ↦ path
         | inr s ↦
@@ -461,7 +457,7 @@ module _ (w : SharedValue) (k : ℕ) (p : Private) (I : IsSharedValue w) (F : Fi
     -- an immutable object refers only up, so to what others own
     ref_up : q.mutable ≡ false → (k : Name) → In read.0.refs (Some k) → is_on_path L.machine.tasks (own L k) u ≡ true
     ref_up frozen k j =
-        let at = index_of read.0.refs (Some k) j in
+        let at = in_got read.0.refs (Some k) j in
         elim (W.remembered u q read.0 at.0 k rest_then in_then read.1 at.1) [
           | inl up ↦ up
           | inr s ↦ absurd (both_ways q.mutable frozen (noted_mutable v' L (own L k) u q _ W in_then rest_then s refl))

@@ -3,11 +3,6 @@ use Rattle.std.proofs.Common.{◌≡◌, ℕ, zero, suc, Some, List, [], ◌∷�
 use Rattle.std.specs.Prelude.{OnErr, OnOk}
 use Rattle.std.proofs.lemmas.Option.{same_Some}
 
-pub set_twice : {A : Type 0} (xs : List A) (k : ℕ) (y z : A) → slice_set (slice_set xs k y) k z ≡ slice_set xs k z
-set_twice [] k y z = refl
-set_twice (x ∷ xs) zero y z = refl
-set_twice (x ∷ xs) (suc k) y z = ap (λ ys. x ∷ ys) (set_twice xs k y z)
-
 pub set_back : {A : Type 0} (xs : List A) (k : ℕ) (x y : A) → slice_get xs k ≡ Some x → slice_set (slice_set xs k y) k x ≡ xs
 set_back [] k x y e = refl
 set_back (z ∷ zs) zero x y e = ap (λ w. w ∷ zs) (sym (same_Some z x e))

@@ -7,7 +7,6 @@ use Rattle.object_layout.specs.Chunks.{cell_of, object_of}
 use Rattle.object_layout.specs.Objects.{Located}
 use Rattle.remembered_set.specs.declared.remembered.Source.{Source}
 use Rattle.remembered_set.specs.Moved.{AreFields}
-use Rattle.write_barrier.specs.declared.sets.SetOf.{SetOf}
 use Rattle.ledger_step_laws.specs.Accounts.{Rests, rested}
 use Rattle.ledger_step_laws.proofs.Rested.{rested_worker}
 use Rattle.core_relation.specs.Begins.{AreRoots}
@@ -18,10 +17,8 @@ use Rattle.core_relation.proofs.objects.Members.{in_chunk}
 use Rattle.core_relation.proofs.changes.With.{at_home, off_home}
 use Rattle.task_machine.specs.declared.part.Private.{Private}
 use Rattle.shared_value.specs.declared.task_at_rest.Rest.{Rest}
-use Rattle.shared_value.specs.declared.task_at_rest.Work.{Work}
-use Rattle.shared_value.specs.declared.task_at_rest.Work.TheVariants.{Calls, Result}
 use Rattle.shared_value.specs.Objects.{chunks_of}
-use Rattle.shared_value.specs.SharedValue.{SharedValue, accounts, home_by, home_in, home_of, noted_in, rest_at, value_of}
+use Rattle.shared_value.specs.SharedValue.{SharedValue, accounts, home_in, rest_at, value_of}
 use Rattle.shared_value.specs.Stands.{IsSharedValue}
 use Rattle.shared_value.specs.Fits.{Fits, home_of_part}
 use Rattle.shared_value.specs.RestingHeaps.{refs_for, refs_in, refs_of_rest}
@@ -29,17 +26,8 @@ use Rattle.shared_value.specs.Roots.{heaps_of, roots_of, sources_of}
 use Rattle.shared_value.proofs.CellsRead.{seen_object}
 use Rattle.shared_value.proofs.RootsHeld as held
 use Rattle.shared_value.proofs.StepsEntered.{fits_now}
-
-pub home_chunks : (r : Rest) → (home_of r).chunks ≡ chunks_of r.heap.chunks
-home_chunks r = by r.work
-  where
-    by : (x : Work) → (home_by r.heap r.view r.allocations x).chunks ≡ chunks_of r.heap.chunks
-    by (Calls s) = refl
-    by (Result n b) = refl
-
-pub noted_sources : (o : Option SetOf) → (noted_in o).sources ≡ sources_of o
-noted_sources None = refl
-noted_sources (Some s) = refl
+use Rattle.shared_value.proofs.FieldsLed.{home_chunks}
+use Rattle.shared_value.proofs.FieldsNoted.{noted_sources}
 
 object_refs : (c : Cell) {b : _} → c.mark ≡ Born b → (marked_object c.mark c).refs ≡ c.refs
 object_refs c e = ap (λ m. (marked_object m c).refs) e

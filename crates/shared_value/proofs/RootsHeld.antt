@@ -1,10 +1,10 @@
 -- What remembered fields hold of a heap at rest, as far as it points into the heap, are its roots.
 use Rattle.std.proofs.Common.{◌≡◌, ℕ, zero, suc, ◌<◌, arith, Bool, true, false, cond, Option, Some, None, List, [], ◌∷◌, inl, inr, length, slice_get, is_some, refl, ap, sym, subst, ◌∙◌}
 use Rattle.std.specs.Prelude.{slice_index_or}
-use Rattle.std.specs.List.{AllByRecursion}
 use Rattle.std.proofs.lemmas.Bool.{false≢true}
 use Rattle.std.proofs.lemmas.Option.{get_or_from_slice_get, same_Some}
 use Rattle.listed.proofs.Members.{in_append_cases, in_append_left, in_append_right}
+use Rattle.listed.proofs.Places.{each_from, in_map}
 use Rattle.hh_model.specs.declared.data.Name.{Name}
 use Rattle.hh_model.specs.declared.data.Object.{Object}
 use Rattle.hh_model.specs.Effect.{object_at}
@@ -13,36 +13,27 @@ use Rattle.object_layout.specs.declared.word.Addr.{Addr}
 use Rattle.object_layout.specs.Chunks.{has_chunk, place_in}
 use Rattle.object_layout.specs.ChunkValue.{ChunkValue}
 use Rattle.object_layout.specs.Objects.{Located}
+use Rattle.object_layout.proofs.ObjectLemmas.{has_own}
 use Rattle.remembered_set.specs.declared.remembered.Source.{Source}
 use Rattle.remembered_set.specs.Moved.{AreFields, held_by, into, targets_of}
 use Rattle.ledger_step_laws.specs.Accounts.{Rests, own}
 use Rattle.core_relation.specs.Begins.{AreRoots, IsRoot}
 use Rattle.core_relation.specs.Stands.{IsSource, Place, Stands}
 use Rattle.core_relation.specs.Memory.{Chunk, In, Lies, Memory, objects, objects_in, sources}
-use Rattle.core_relation.proofs.objects.Members.{in_chunk, in_map, map_in}
+use Rattle.core_relation.proofs.objects.Members.{in_chunk, map_in}
 use Rattle.core_relation.proofs.notes.Roots.{name_at}
 use Rattle.shared_value.specs.declared.heaps.Heaps.{Heaps}
 use Rattle.shared_value.specs.Objects.{chunk_of, chunks_of}
 use Rattle.shared_value.specs.RestingHeaps.{refs_in}
-use Rattle.shared_value.proofs.CellsRead.{fresh_off}
 use Rattle.shared_value.proofs.FreeChunks.{refs_long}
 use Rattle.shared_value.proofs.PartFitsMachine.{placed_in}
 
 -- ---- LISTS
 
-got_index : {A : Type 0} (xs : List A) (i : ℕ) (d : A) → i < length xs → slice_get xs i ≡ Some (slice_index_or xs i d)
+pub got_index : {A : Type 0} (xs : List A) (i : ℕ) (d : A) → i < length xs → slice_get xs i ≡ Some (slice_index_or xs i d)
 got_index [] i d lt = absurd (omega (arith, lt))
 got_index (x ∷ xs) zero d lt = refl
 got_index (x ∷ xs) (suc i) d lt = got_index xs i d (omega (arith, lt))
-
-got_less : {A : Type 0} (xs : List A) (i : ℕ) (x : A) → slice_get xs i ≡ Some x → i < length xs
-got_less [] i x e = absurd cc
-got_less (y ∷ ys) zero x e = omega arith
-got_less (y ∷ ys) (suc i) x e = let r = got_less ys i x e in omega (arith, r)
-
-all_in : {A : Type 0} (P : A → Type 0) (xs : List A) → ((x : A) → In xs x → P x) → AllByRecursion P xs
-all_in P [] f = tt
-all_in P (x ∷ xs) f = (f x (inl refl), all_in P xs (λ y i. f y (inr i)))
 
 pub into_tells : (ks : List ChunkValue) (o : Option Addr) (a : Addr) → In (into ks o) a → (o ≡ Some a) × (has_chunk ks a.chunk ≡ true)
 into_tells ks None a i = absurd i
@@ -78,13 +69,6 @@ chunk_in ks number h = by (place_in ks number) refl h
     by : (o : Option ℕ) → place_in ks number ≡ o → is_some o ≡ true → (k : ChunkValue) × In ks k × (k.number ≡ number)
     by None e h = absurd (false≢true h)
     by (Some i) e h = placed_in ks number i e
-
-pub has_it : (ks : List ChunkValue) (k : ChunkValue) (number : ℕ) → In ks k → k.number ≡ number → has_chunk ks number ≡ true
-has_it ks k number i q = by (place_in ks number) refl
-  where
-    by : (o : Option ℕ) → place_in ks number ≡ o → is_some o ≡ true
-    by None e = absurd (fresh_off ks k number e i q)
-    by (Some j) e = refl
 
 -- ---- A VALUE THAT STANDS, and a heap at rest with these chunks and remembered fields; heaps by whose words the objects of all other
 -- heaps are read
@@ -130,7 +114,7 @@ module _ (v : Memory) (l : Ledger) (t : ℕ) (W : Stands v l) (at_rest : Rests l
 
   -- EACH SOURCE IS A FIELD
   pub are_fields : AreFields refs_in hs ss
-  are_fields = all_in (λ s. s.field < length (refs_in hs s.object)) ss (λ s i. let A = source_at s i in subst (λ rs. s.field < length rs) (sym A.refs) A.field)
+  are_fields = each_from (λ s. s.field < length (refs_in hs s.object)) ss (λ s i. let A = source_at s i in subst (λ rs. s.field < length rs) (sym A.refs) A.field)
 
   -- an address in a chunk of the heap that stands for a name is the place of its object
   pub lies_here : (n : Name) (a : Addr) → Place v l n a → v.owner a.chunk ≡ Some t → (q : Located) × In (objects_in (chunks_of ks)) q × (q.at ≡ a)
@@ -149,7 +133,7 @@ module _ (v : Memory) (l : Ledger) (t : ℕ) (W : Stands v l) (at_rest : Rests l
   object_chunk q i =
       let c = in_chunk (chunks_of ks) q i in
       let d = map_in chunk_of ks c.0 c.1 in
-      has_it ks d.0 q.at.chunk d.1 (ap (λ (z : Chunk). z.number) d.2 ∙ sym ((W.homes t at_rest).inside c.0 q (subst (λ cs. In cs c.0) (sym here) c.1) c.2))
+      has_own ks d.0 q.at.chunk d.1 (ap (λ (z : Chunk). z.number) d.2 ∙ sym ((W.homes t at_rest).inside c.0 q (subst (λ cs. In cs c.0) (sym here) c.1) c.2))
 
   -- the object in the heap to which a reference of another home's object leads
   leads_here : (u : ℕ) → Rests l u → (o : Located) → In (objects v u) o → (i : ℕ) (a : Addr) → slice_get o.refs i ≡ Some (Some a) → v.owner a.chunk ≡ Some t → (q : Located) × In (objects_in (chunks_of ks)) q × (q.at ≡ a)

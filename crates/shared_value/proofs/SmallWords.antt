@@ -10,13 +10,13 @@ use Rattle.object_layout.specs.Chunks.{held_size, small_part, small_words, sum_i
 use Rattle.object_layout.specs.ChunkValue.{ChunkValue}
 use Rattle.object_layout.specs.Place.{words_in}
 use Rattle.object_layout.specs.Objects.{Located, located, located_by, objects_from}
+use Rattle.object_layout.proofs.ObjectLemmas.{behind}
 use Rattle.alloc_path.specs.LeafHeapValue.{AreTidy, AreWithin}
 use Rattle.core_relation.specs.Layout.{HoldsLarge, words}
 use Rattle.core_relation.specs.Memory.{In, object_name}
 use Rattle.task_machine.specs.Accounts.{named_by, names_in, small_lists}
 use Rattle.task_machine.specs.Place.{name_of}
 use Rattle.shared_value.specs.Objects.{chunk_of}
-use Rattle.shared_value.proofs.CellsRead.{behind}
 
 -- the machine's object of this name has as many words
 abbrev pub SameWords : State → Located → Type 0

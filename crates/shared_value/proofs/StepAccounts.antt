@@ -12,9 +12,10 @@ use Rattle.hh_model.specs.Step.{step, can_step, goes_on, is_running, runs, asked
 use Rattle.run_trace.specs.Settings.{SettingsValue}
 use Rattle.run_ledger.specs.declared.data.Heap.{Heap}
 use Rattle.run_ledger.specs.declared.data.Ledger.{Ledger}
-use Rattle.run_ledger.specs.Heaps.{or_fresh, fresh, with_heap, with_heap_at, heap_at, placed, put_last, is_small}
+use Rattle.run_ledger.specs.Heaps.{or_fresh, fresh, placed, put_last, is_small}
 use Rattle.run_ledger.specs.Steps.{allocated_by, allocated_in, settled, moved_to, moved_on, stepped_to, task_step, task_steps, is_private, is_due, is_in_need, standing}
 use Rattle.run_ledger.specs.Entries.{held_from, is_held_by}
+use Rattle.run_ledger.proofs.Holders.{allocated_end}
 use Rattle.ledger_step_laws.specs.Accounts.{ArePrivate}
 use Rattle.ledger_step_laws.proofs.Ahead.{private_off, with_at, heap_then}
 use Rattle.ledger_step_laws.proofs.Private.{GoesOn, private_on}
@@ -72,17 +73,6 @@ after_both l k m t x A B = record {
   heap = B.heap ∙ A.heap;
 }
 
-heap_end : (l : Ledger) (t : ℕ) (f : Heap → Heap) → (with_heap l t f).end ≡ l.end
-heap_end l t f = by (heap_at l t)
-  where
-    by : (o : Option Heap) → (with_heap_at l t f o).end ≡ l.end
-    by None = refl
-    by (Some h) = refl
-
-alloc_end : (l : Ledger) (t : ℕ) (o : Option ℕ) → (allocated_by l t o).end ≡ l.end
-alloc_end l t None = refl
-alloc_end l t (Some w) = heap_end l t _
-
 then_hold : (f : Heap → Heap) → ((h : Heap) → hold (f h) ≡ hold h) → (o : Option Heap) → option_map hold (heap_then f o) ≡ option_map hold o
 then_hold f same None = refl
 then_hold f same (Some h) = ap Some (same h)
@@ -123,7 +113,7 @@ module _ (p : ProgramText) (l : Ledger) (t : ℕ) (x : Task) (going : l.machine.
     outputs = ap (λ (m : State). m.outputs) G.is;
     limit = ap (λ (m : State). m.field_limit) G.is;
     goes = ap (λ (m : State). m.end) G.is;
-    end = alloc_end l t (asked p l.machine t);
+    end = allocated_end l t (asked p l.machine t);
     heaps = λ u ne. ap (λ (k : Ledger). slice_get k.heaps u) (sym step_is) ∙ private_off p l t private u ne;
     heap = alloc_hold l t (asked p l.machine t);
   }

@@ -4,23 +4,25 @@ use Rattle.std.proofs.lemmas.Bool.{and_from, false≢true}
 use Rattle.listed.specs.RoomyValue.{RoomyValue}
 use Rattle.hh_lang.specs.Form.{ProgramText}
 use Rattle.hh_model.specs.declared.data.Status.TheVariants.{Running}
-use Rattle.hh_model.specs.Step.{is_running}
+use Rattle.hh_model.specs.declared.data.State.{State}
+use Rattle.hh_model.specs.Step.{is_running, step}
 use Rattle.run_trace.specs.declared.entry.Kind.TheVariants.{Ran}
 use Rattle.run_trace.specs.Entry.{EntryValue}
 use Rattle.run_trace.specs.Settings.{SettingsValue}
-use Rattle.run_ledger.specs.declared.data.Heap.{Heap}
 use Rattle.run_ledger.specs.declared.data.Ledger.{Ledger}
 use Rattle.run_ledger.specs.declared.data.Refused.{Refused}
 use Rattle.run_ledger.specs.declared.data.Refused.TheVariants.{NotOut, Collecting, Long}
-use Rattle.run_ledger.specs.Heaps.{heap_of, or_fresh}
+use Rattle.run_ledger.specs.Heaps.{heap_of, let_go}
 use Rattle.run_ledger.specs.Steps.{is_private, task_step, task_steps, most_steps, standing}
 use Rattle.run_ledger.specs.Entries.{after, is_out, is_held_by, kind_refusal, refused_if, refused_unless}
 use Rattle.run_ledger.proofs.Bounds.{ran_tells}
 use Rattle.run_ledger.proofs.Sound.{collecting}
-use Rattle.ledger_step_laws.specs.Accounts.{ArePrivate}
+use Rattle.run_ledger.proofs.Journals.{collecting_is}
+use Rattle.run_ledger.proofs.Machine.{heap_machine, task_step_machine}
+use Rattle.ledger_step_laws.specs.Accounts.{ArePrivate, aside}
 use Rattle.ledger_step_laws.specs.Last.{Private as PrivateKind, Runs}
 use Rattle.ledger_step_laws.proofs.Rested.{rested_worker}
-use Rattle.ledger_step_laws.proofs.Split.{entry_runs}
+use Rattle.ledger_step_laws.proofs.Split.{entry_runs, steps_last}
 use Rattle.core_relation.specs.Layout.{reserved_chunks, reserved_units}
 use Rattle.core_relation.specs.Memory.{Chunk, Home, Memory}
 use Rattle.core_relation.specs.Fits.{FitsAt, ahead, part_for, with_home}
@@ -34,9 +36,11 @@ use Rattle.core_relation.proofs.changes.With.{at_home}
 use Rattle.core_relation.proofs.parts.Workers.{ran_leaves}
 use Rattle.task_machine.specs.declared.part.Private.{Private}
 use Rattle.task_machine.specs.Accounts.{IsCounted}
+use Rattle.task_machine.specs.Fits.{unended}
+use Rattle.task_machine.specs.Outline.{steps}
 use Rattle.shared_value.specs.SharedValue.{SharedValue, accounts, totals_of, value_of}
 use Rattle.shared_value.specs.Stands.{IsSharedValue}
-use Rattle.shared_value.specs.Fits.{Fits, OthersFit, home_of_part, part_of}
+use Rattle.shared_value.specs.Fits.{Fits, OthersFit, beyond, home_of_part, part_of}
 use Rattle.shared_value.specs.Entered.{refused}
 use Rattle.shared_value.specs.Causes.{first_cause, or_else}
 use Rattle.shared_value.proofs.HeapCounts.{counted_from}
@@ -45,6 +49,14 @@ use Rattle.shared_value.proofs.BeforeTheEnd as now
 use Rattle.shared_value.proofs.BeforeTheEnd.{end_now, steps_now}
 use Rattle.shared_value.proofs.CausesTold.{refused_is}
 use Rattle.shared_value.proofs.StepAccounts.{After, after_all, all_stand}
+
+-- the machine behind a task's steps, and behind a part's fresh ones
+pub machine_steps : (p : ProgramText) (l : Ledger) (t k : ℕ) → (task_steps p l t k).machine ≡ steps p l.machine t k
+machine_steps p l t zero = refl
+machine_steps p l t (suc k) = ap (λ (z : Ledger). z.machine) (steps_last p l t k) ∙ (task_step_machine p (task_steps p l t k) t ∙ ap (λ (m : State). step p m t) (machine_steps p l t k))
+
+pub beyond_machine : (p : ProgramText) (l : Ledger) (q : Private) → (beyond p l q).machine ≡ steps p (unended l.machine) q.task q.fresh
+beyond_machine p l q = heap_machine (task_steps p (aside l) q.task q.fresh) q.task let_go ∙ machine_steps p (aside l) q.task q.fresh
 
 -- a part that fits, before the run's end
 module _ (w : SharedValue) (k : ℕ) (p : Private) (I : IsSharedValue w) (F : Fits w k p) (on : (accounts w).end ≡ None) where
@@ -77,17 +89,13 @@ module _ (w : SharedValue) (k : ℕ) (p : Private) (I : IsSharedValue w) (F : Fi
 
 -- WHY IT IS REFUSED
 
-pub collecting_of : (o : Option Heap) → is_some (or_fresh o).begun ≡ collecting o
-collecting_of None = refl
-collecting_of (Some h) = refl
-
 free_by : (out begun fits : Bool) (m : ℕ) → out ≡ true → begun ≡ false → fits ≡ true → refused_unless out NotOut (refused_if begun Collecting (refused_unless fits (Long m) None)) ≡ None
 free_by true false true m a b c = refl
 free_by false begun fits m a b c = absurd cc
 free_by true true fits m a b c = absurd cc
 free_by true false false m a b c = absurd cc
 
-end_by : (a b c : Bool) (x y z : Refused) → refused_if a x (refused_if b y (refused_unless c z None)) ≡ None → a ≡ false
+pub end_by : (a b c : Bool) (x y z : Refused) → refused_if a x (refused_if b y (refused_unless c z None)) ≡ None → a ≡ false
 end_by true b c x y z h = absurd cc
 end_by false b c x y z h = refl
 
@@ -105,7 +113,7 @@ module _ (w : SharedValue) (k : ℕ) (p : Private) (I : IsSharedValue w) (F : Fi
       let fits : nat_le p.fresh (min most_steps (standing w.settings w.program l p.task p.fresh)) ≡ true = le-leb p.fresh (min most_steps (standing w.settings w.program l p.task p.fresh)) (omega (arith, stand, few)) in
       free_by (is_out l k p.task) (is_some (heap_of l p.task).begun) (nat_le p.fresh (min most_steps (standing w.settings w.program l p.task p.fresh))) (min most_steps (standing w.settings w.program l p.task p.fresh))
       (and_from (is_running (slice_get l.machine.tasks p.task)) (is_held_by (heap_of l p.task).worker k) (ap is_running F.fits.is ∙ F.fits.runs) (ap (λ o. is_held_by o k) F.held ∙ eq-eqb k k refl))
-      (collecting_of (slice_get l.heaps p.task) ∙ steady_by F.fits.steady)
+      (collecting_is (slice_get l.heaps p.task) ∙ steady_by F.fits.steady)
       fits
     where
       -- a part with fresh steps is amid no leaf collection

@@ -1,12 +1,15 @@
 -- A worker takes a task.
-use Rattle.std.proofs.Common.{◌≡◌, ℕ, zero, suc, ◌<◌, Bool, true, false, not, ◌&&◌, nat_le, nat_lt, Option, Some, None, List, [], ◌∷◌, length, length-set, slice_get, slice_set, option_map, is_none, is_some, inl, inr, refl, ap, sym, subst, ◌∙◌, arith}
+use Rattle.std.proofs.Common.{◌≡◌, ℕ, ◌<◌, Bool, true, false, not, ◌&&◌, nat_le, nat_lt, Option, Some, None, List, length, length-set, slice_get, slice_set, option_map, is_none, is_some, inl, inr, refl, ap, sym, subst, ◌∙◌, arith}
 use Rattle.std.proofs.lemmas.Bool.{cases_eq, and_parts, false≢true, ltb-true}
+use Rattle.std.proofs.lemmas.Option.{same_Some}
 use Rattle.listed.specs.RoomyValue.{RoomyValue}
 use Rattle.listed.proofs.Members.{got_same, got_other, got_within}
+use Rattle.listed.proofs.Places.{got_set}
+use Rattle.listed.proofs.Options.{none_is}
 use Rattle.hh_model.specs.declared.data.Name.{Name}
 use Rattle.hh_model.specs.declared.data.Task.{Task}
 use Rattle.hh_model.specs.declared.data.Status.TheVariants.{Running}
-use Rattle.hh_model.specs.Step.{is_running}
+use Rattle.hh_model.specs.Step.{is_running, parent_of}
 use Rattle.hh_model.proofs.Steps.{runs_is}
 use Rattle.run_trace.specs.declared.entry.Kind.TheVariants.{Took}
 use Rattle.run_trace.specs.Entry.{EntryValue}
@@ -21,7 +24,7 @@ use Rattle.object_layout.specs.declared.word.Addr.{Addr}
 use Rattle.task_frames.specs.FramesValue.{FramesValue}
 use Rattle.heap_tree.specs.declared.state.State.{State}
 use Rattle.heap_tree.specs.declared.state.State.TheVariants.{Out}
-use Rattle.heap_tree.specs.Node.{Node, set_at, with_state}
+use Rattle.heap_tree.specs.Node.{Node, set_at, with_state, parent_in}
 use Rattle.ledger_step_laws.specs.Accounts.{Rests}
 use Rattle.core_relation.specs.Memory.{Home, Memory}
 use Rattle.core_relation.specs.Changes.{SameBut}
@@ -50,9 +53,15 @@ use Rattle.shared_value.proofs.BeforeTheEnd.{hand_now, stands_now}
 abbrev pub told : Option ℕ → Task → Node
 told w x = record { parent = x.parent; state = state_by x.status w }
 
-none_of : {A : Type 0} (o : Option A) → is_none o ≡ true → o ≡ None
-none_of None h = refl
-none_of (Some x) h = absurd (false≢true h)
+pub same_parent : (o : Option Node) (q : Option Task) (worker : Option ℕ) → o ≡ option_map (told worker) q → parent_in o ≡ parent_of q
+same_parent None None k e = refl
+same_parent None (Some x) k e = absurd cc
+same_parent (Some n) None k e = absurd cc
+same_parent (Some n) (Some x) k e = ap (λ (z : Node). z.parent) (same_Some n (told k x) e)
+
+pub some_flat : {A : Type 0} (o : Option (Option A)) (x : A) → flat o ≡ Some x → o ≡ Some (Some x)
+some_flat None x e = absurd cc
+some_flat (Some o) x e = ap Some e
 
 -- there is a task where one runs
 task_of : (o : Option Task) → is_running o ≡ true → (x : Task) × (o ≡ Some x) × (x.status ≡ Running)
@@ -84,15 +93,6 @@ worker_there w e I free =
     let lt : e.worker < w.settings.workers =
     ltb-true e.worker w.settings.workers (worker_free (is_some (accounts w).end) (nat_le w.settings.fuel (accounts w).steps && not (is_fuel e.kind)) (nat_lt e.worker w.settings.workers) Over (Spent (accounts w).steps) NoWorker (kind_refusal w.program w.settings (accounts w) e.worker e.kind) free) in
     omega (arith, lt, I.workers)
-
-pub item_there : {A : Type 0} (xs : List A) (i : ℕ) → i < length xs → (x : A) × (slice_get xs i ≡ Some x)
-item_there [] i lt = absurd (omega (arith, lt))
-item_there (x ∷ xs) zero lt = (x, refl)
-item_there (x ∷ xs) (suc i) lt = item_there xs i (omega (arith, lt))
-
--- what is put stands there
-pub put_there : {A : Type 0} (xs : List A) (i : ℕ) (y : A) → i < length xs → slice_get (slice_set xs i y) i ≡ Some y
-put_there xs i y lt = let x = item_there xs i lt in got_same xs i x.0 y x.1
 
 pub made_by : (xs : List Node) (t : ℕ) (s : State) (o : Option Node) → length (set_at xs t s o) ≡ length xs
 made_by xs t s None = refl
@@ -134,7 +134,7 @@ module _ (w : SharedValue) (k t : ℕ) (I : IsSharedValue w) (free : refused w (
   running = (and_parts (is_running (slice_get l.machine.tasks t)) (is_none (heap_of l t).worker) ready).0
 
   rests : Rests l t
-  rests = none_of (heap_of l t).worker (and_parts (is_running (slice_get l.machine.tasks t)) (is_none (heap_of l t).worker) ready).1
+  rests = none_is (heap_of l t).worker (and_parts (is_running (slice_get l.machine.tasks t)) (is_none (heap_of l t).worker) ready).1
 
   -- the worker holds nothing
   hand_free : is_none (refused_holding (held_from k 0 l.heaps) None) ≡ true
@@ -180,7 +180,7 @@ module _ (w : SharedValue) (k t : ℕ) (I : IsSharedValue w) (free : refused w (
 
     counts : TakesNode (totals_of w) (totals_of w') k t
     counts = record {
-      hand = ap flat (put_there w.hands k (Some t) (worker_there w e I free));
+      hand = ap flat (got_set w.hands k (Some t) (worker_there w e I free));
       hands = λ c ne. ap flat (got_other w.hands k c (Some t) ne);
       node = node_by w.tree t Out (slice_get w.tree t) refl;
       others = λ u ne. node_off w.tree t Out (slice_get w.tree t) u ne;
@@ -195,7 +195,7 @@ module _ (w : SharedValue) (k t : ℕ) (I : IsSharedValue w) (free : refused w (
 
     heaps_then : (u : ℕ) (r : Rest) → rest_at w'.homes u ≡ Some r → HeapForm r.heap
     heaps_then u r is = elim (cases_eq u t) [
-      | inl q ↦ gone (sym (ap (rest_at w'.homes) q ∙ ap flat (put_there w.homes t None has_home)) ∙ is)
+      | inl q ↦ gone (sym (ap (rest_at w'.homes) q ∙ ap flat (got_set w.homes t None has_home)) ∙ is)
       | inr ne ↦ I.heaps u r (sym (homes_off u ne) ∙ is)
     ]
       where
@@ -204,7 +204,7 @@ module _ (w : SharedValue) (k t : ℕ) (I : IsSharedValue w) (free : refused w (
 
     measured_then : RestsAreMeasured w.pool w'.homes w'.hands
     measured_then u r is f = elim (cases_eq u t) [
-      | inl q ↦ gone (sym (ap (rest_at w'.homes) q ∙ ap flat (put_there w.homes t None has_home)) ∙ is)
+      | inl q ↦ gone (sym (ap (rest_at w'.homes) q ∙ ap flat (got_set w.homes t None has_home)) ∙ is)
       | inr ne ↦ I.measured u r (sym (homes_off u ne) ∙ is) (unheld_before w.hands k (Some t) u f (λ h. none_holds (held_from k 0 l.heaps) (sym (hand_now w I on k) ∙ h) hand_free))
     ]
       where

@@ -1,7 +1,10 @@
 -- Chunks that the pool has with their units stay so, whatever is taken, given back or relabelled.
 use Rattle.std.proofs.Common.{◌≡◌, ℕ, ◌*◌, ◌/◌, ◌==◌, ◌++◌, arith, All, Bool, true, false, cond, Option, Some, None, is_some, List, [], ◌∷◌, map, option_map, inl, inr, refl, ap, sym, subst, ◌∙◌}
+use Rattle.std.specs.Prelude.{IsSome}
 use Rattle.std.proofs.lemmas.Bool.{cases_Bool, cases_eq, cond-false, cond-true, false≢true}
 use Rattle.std.proofs.lemmas.Option.{same_Some}
+use Rattle.listed.proofs.Options.{none_some}
+use Rattle.listed.proofs.Places.{read_in}
 use Rattle.object_layout.specs.declared.word.Addr.{Addr}
 use Rattle.object_layout.specs.Cell.{Cell}
 use Rattle.object_layout.specs.Chunks.{has_chunk, place_in, put_object, with_cell}
@@ -17,10 +20,15 @@ use Rattle.task_machine.specs.declared.part.Private.{Private}
 use Rattle.shared_value.specs.LeafBegin.{number_of}
 use Rattle.shared_value.specs.Measured.{AreMeasured, AreUnits, IsMeasured, KeepsUnits}
 use Rattle.shared_value.proofs.CellsRead.{fresh_off}
-use Rattle.shared_value.proofs.FieldsNoted.{all_at, fresh_by}
+use Rattle.shared_value.proofs.FieldsNoted.{fresh_by}
 
-none_some : {A : Type 0} (x : A) → ◌≡◌ {A = Option A} None (Some x) → ⊥
-none_some x q = absurd cc
+-- the pool has the chunks that it has for a task
+pub owner_held : (pool : PoolValue) (n u : ℕ) → owner_of pool n ≡ Some u → IsSome (held_at pool n)
+owner_held pool n u e = by (held_at pool n) e
+  where
+    by : (o : Option Held) → option_map (λ (h : Held). h.owner) o ≡ Some u → IsSome o
+    by None q = none_some q
+    by (Some h) q = refl
 
 -- a chunk of so many units for a task
 abbrev of_units : ℕ → ℕ → Held
@@ -44,7 +52,7 @@ measured_both pool t (x ∷ ks) js A B k (inr i) = measured_both pool t ks js (�
 -- A CHUNK IS TAKEN
 pub taken_keeps : (old new : PoolValue) (number : ℕ) (held : Held) → Takes old new number held → (t : ℕ) → KeepsUnits old new t
 taken_keeps old new number held T t n units e = elim (cases_eq n number) [
-  | inl q ↦ absurd (none_some (of_units t units) (sym T.was_free ∙ (ap (held_at old) (sym q) ∙ e)))
+  | inl q ↦ absurd (none_some (sym T.was_free ∙ (ap (held_at old) (sym q) ∙ e)))
   | inr ne ↦ T.rest.others n ne ∙ e
 ]
 
@@ -62,7 +70,7 @@ module _ (old new : PoolValue) (owner count : ℕ) (was is : List ChunkValue) (T
       off false q = refl
       off true q =
           let fresh : IsFresh T.numbers.chunks n = fresh_by T.numbers.chunks n
-          (λ c j z. none_some (of_units t units) (sym (all_at (λ (c : ChunkValue). held_in old.slots c.number ≡ None) T.numbers.chunks c j T.numbers.numbered.were_free) ∙ (ap (held_in old.slots) z ∙ e))) in
+          (λ c j z. none_some (sym (read_in (λ (c : ChunkValue). held_in old.slots c.number ≡ None) T.numbers.chunks c j T.numbers.numbered.were_free) ∙ (ap (held_in old.slots) z ∙ e))) in
           absurd (false≢true (sym (ap is_some fresh) ∙ q))
 
   pub all_taken_units : AreUnits new owner (map number_of T.numbers.chunks)
@@ -77,7 +85,7 @@ module _ (old new : PoolValue) (owner count : ℕ) (was is : List ChunkValue) (T
 -- CHUNKS ARE GIVEN BACK: what is another task's stays
 pub given_keeps : (old new : PoolValue) (gs : List ChunkValue) (t u : ℕ) → AreGiven old new gs → All (λ g. owner_of old g.number ≡ Some t) gs → (u ≡ t → ⊥) → KeepsUnits old new u
 given_keeps old new gs t u G owned ne n units e =
-    G.others n (fresh_by gs n (λ g j q. ne (same_Some u t (sym (ap (option_map (λ (h : Held). h.owner)) e) ∙ (ap (owner_of old) (sym q) ∙ all_at (λ (g : ChunkValue). owner_of old g.number ≡ Some t) gs g j owned)))))
+    G.others n (fresh_by gs n (λ g j q. ne (same_Some u t (sym (ap (option_map (λ (h : Held). h.owner)) e) ∙ (ap (owner_of old) (sym q) ∙ read_in (λ (g : ChunkValue). owner_of old g.number ≡ Some t) gs g j owned)))))
     ∙ e
 
 -- and of the task's own all others

@@ -1,6 +1,7 @@
 -- The root before its first step fits the machine before its first; and parts that entries have changed fit still.
-use Rattle.std.proofs.Common.{◌≡◌, ℕ, Option, Some, None, List, [], replicate, refl, ap, sym, subst, ◌∙◌, arith}
+use Rattle.std.proofs.Common.{◌≡◌, ℕ, Option, None, List, [], replicate, refl, ap, sym, subst, ◌∙◌, arith}
 use Rattle.std.specs.Prelude.{pos}
+use Rattle.std.proofs.lemmas.Option.{none-some}
 use Rattle.object_layout.specs.declared.word.Birth.{Birth}
 use Rattle.object_layout.specs.Cell.{Born, Hole}
 use Rattle.object_layout.specs.ChunkValue.{ChunkValue}
@@ -8,11 +9,12 @@ use Rattle.alloc_path.specs.LeafHeapValue.{AreApart, LeafHeapValue, IsCurrent, I
 use Rattle.hh_lang.specs.Form.{ProgramText}
 use Rattle.hh_model.specs.declared.data.State.{State}
 use Rattle.hh_model.specs.Step.{is_running, owner_of, root, start}
+use Rattle.hh_model.proofs.EndLaws.{still}
 use Rattle.task_machine.specs.declared.part.Begun.{Begun}
 use Rattle.task_machine.specs.declared.part.Private.{Private}
 use Rattle.task_machine.specs.Place.{Places}
 use Rattle.task_machine.specs.Begin.{FitsAsWell, FitsFromThere, nowhere}
-use Rattle.task_machine.specs.Fits.{Fits, FitsNow, HeapStands, IsShaped, after_fresh, unended}
+use Rattle.task_machine.specs.Fits.{Fits, FitsNow, HeapStands, IsShaped, after_fresh}
 use Rattle.task_machine.proofs.Stands.{at_nils}
 
 -- its part
@@ -29,20 +31,17 @@ first_part p h leaf limit = record {
   begun = None;
 }
 
-none_some : {A : Type 0} (x : A) → None ≡ Some x → ⊥
-none_some x e = cc
-
 no_birth : (b : Birth) → Hole ≡ Born b → ⊥
 no_birth b e = cc
 
 empty_stands : (p : ProgramText) (limit : ℕ) → HeapStands nowhere (owner_of (start p limit).tasks) 0 (start p limit).store [] nowhere
 empty_stands p limit = record {
   objects = λ a b e. absurd (no_birth b e);
-  own = λ n a o e. absurd (none_some a e);
+  own = λ n a o e. absurd (none-some a e);
   others = λ n o. refl;
-  once = λ n k a e f. absurd (none_some a e);
-  apart = λ n a e. absurd (none_some a e);
-  within = λ n a e. absurd (none_some a e);
+  once = λ n k a e f. absurd (none-some a e);
+  apart = λ n a e. absurd (none-some a e);
+  within = λ n a e. absurd (none-some a e);
 }
 
 empty_shape : (h : LeafHeapValue) → h.chunks ≡ [] → h.current ≡ None → h.reserved ≡ None → IsShaped h
@@ -67,7 +66,7 @@ root_now p h leaf limit k c r =
       stack = record { top = record { function = refl; next = refl; ints = refl; refs = at_nils nowhere 16 }; below = tt };
       heap = subst Q (sym k) (empty_stands p limit);
       shape = empty_shape h k c r;
-      shown = λ n a o e. absurd (none_some a e);
+      shown = λ n a o e. absurd (none-some a e);
     }
 
 pub root_fits : (p : ProgramText) (h : LeafHeapValue) (leaf limit : ℕ) → h.chunks ≡ [] → h.current ≡ None → h.reserved ≡ None → Fits p (first_part p h leaf limit) (start p limit) nowhere
@@ -131,10 +130,6 @@ begun_fits old begun = record {
   behind = λ p m above F. behind_changed p old m above F old.heap begun F.now.heap F.now.shape;
 }
 
--- where a state has no end there is none to leave aside
-unended_is : (m : State) → m.end ≡ None → unended m ≡ m
-unended_is m h = ap (λ e. let w : State = record m { end = e } in w) (sym h)
-
 -- how many steps are fresh is nothing that a part as it is now has to fit
 pub fresh_fits : (old : Private) → FitsFromThere old (record old { fresh = 0 })
 fresh_fits old = record {
@@ -143,5 +138,5 @@ fresh_fits old = record {
       let here = after_fresh p old m in
       let N = now_changed p old here above F.now old.heap 0 old.begun F.now.heap F.now.shape in
       let P : State → Type 0 = λ w. FitsNow p (record old { fresh = 0 }) w above in
-      record { running = ap is_running F.now.is ∙ F.now.running; private = λ i lt. absurd (omega arith); now = subst P (sym (unended_is here F.now.going)) N };
+      record { running = ap is_running F.now.is ∙ F.now.running; private = λ i lt. absurd (omega arith); now = subst P (sym (still here F.now.going)) N };
 }

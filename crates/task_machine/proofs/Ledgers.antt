@@ -1,24 +1,18 @@
 -- The steps of a task in the ledger: its machine and its account follow.
-use Rattle.std.proofs.Common.{◌≡◌, ℕ, zero, suc, ◌≤◌, arith, Bool, true, Option, Some, None, length, slice_get, refl, ap, ◌∙◌}
-use Rattle.std.proofs.lemmas.Bool.{false≢true}
+use Rattle.std.proofs.Common.{◌≡◌, ℕ, zero, suc, ◌≤◌, arith, true, Option, Some, None, length, slice_get, refl, ap, ◌∙◌}
 use Rattle.listed.proofs.Members.{got_same}
 use Rattle.hh_lang.specs.Form.{ProgramText}
-use Rattle.hh_model.specs.declared.data.End.{End}
 use Rattle.hh_model.specs.declared.data.State.{State}
 use Rattle.hh_model.specs.Effect.{row_of}
-use Rattle.hh_model.specs.Step.{asked, can_step, goes_on, is_running, step}
+use Rattle.hh_model.specs.Step.{asked, can_step, is_running, step}
 use Rattle.run_ledger.specs.declared.data.Heap.{Heap as Account}
 use Rattle.run_ledger.specs.declared.data.Ledger.{Ledger}
 use Rattle.run_ledger.specs.Heaps.{placed, with_heap_at}
 use Rattle.run_ledger.specs.Steps.{allocated_by, task_step, task_steps}
 use Rattle.run_ledger.proofs.RunOn.{steps_run_on}
+use Rattle.run_ledger.proofs.Steps.{goes_tells}
 use Rattle.task_machine.specs.Accounts.{AccountsAreSteps, FollowsSteps, account_after, account_by}
 use Rattle.task_machine.specs.Outline.{steps}
-
--- a task that can take a step runs, and the machine goes on
-goes_parts : (o : Option End) (b : Bool) → goes_on o b ≡ true → (o ≡ None) × (b ≡ true)
-goes_parts None b h = (refl, h)
-goes_parts (Some e) b h = absurd (false≢true h)
 
 -- what an allocation makes of the account
 allocated_account : (l : Ledger) (t : ℕ) (h : Account) (o : Option ℕ) → slice_get l.heaps t ≡ Some h → slice_get (allocated_by l t o).heaps t ≡ Some (account_by l.machine t h o)
@@ -39,7 +33,7 @@ module _ (p : ProgramText) (l : Ledger) (t : ℕ) (h : Account) (there : slice_g
       let b : Ledger = task_steps p l t k in
       let old : State = steps p l.machine t k in
       let now : can_step b.machine t ≡ true = ap (λ m. can_step m t) F.machine ∙ can k (omega arith) in
-      let new = goes_parts (step p old t).end (is_running (slice_get (step p old t).tasks t)) (can (suc k) (omega arith)) in
+      let new = goes_tells (step p old t).end (is_running (slice_get (step p old t).tasks t)) (can (suc k) (omega arith)) in
       let ends : (step p b.machine t).end ≡ None = ap (λ m. (step p m t).end) F.machine ∙ new.0 in
       let runs : is_running (slice_get (step p b.machine t).tasks t) ≡ true = ap (λ m. is_running (slice_get (step p m t).tasks t)) F.machine ∙ new.1 in
       let last = steps_last k l ∙ steps_run_on p b t now ends runs in

@@ -1,5 +1,5 @@
 -- Entries that give what is owed.
-use Rattle.std.proofs.Common.{◌≡◌, ℕ, ◌==◌, ◌&&◌, Bool, true, false, Option, Some, None, refl, ap, sym, subst, ◌∙◌, eq-eqb, arith}
+use Rattle.std.proofs.Common.{◌≡◌, ℕ, ◌==◌, ◌&&◌, Bool, true, false, Option, None, refl, ap, sym, subst, ◌∙◌, eq-eqb, arith}
 use Rattle.run_trace.specs.declared.entry.Kind.{Kind}
 use Rattle.run_trace.specs.declared.entry.Kind.TheVariants.{Mark, More, Sweep}
 use Rattle.run_ledger.specs.declared.data.Owed.TheVariants.{Mark as OwesMark, More as OwesMore, Sweep as OwesSweep, Nothing}
@@ -10,11 +10,11 @@ use Rattle.run_ledger.specs.Entries.{kind_refusal, refused_unless}
 use Rattle.run_ledger.specs.Heaps.{heap_of, left_in, marked_in, sweep_number}
 use Rattle.run_ledger.specs.Pace.{gives}
 use Rattle.run_ledger.proofs.OwedEntries.{owed_can_be_given}
-use Rattle.shared_value.specs.Causes.{or_else}
 use Rattle.shared_value.specs.Stands.{IsSharedValue}
 use Rattle.shared_value.specs.SharedValue.{SharedValue, accounts}
 use Rattle.heap_marking.specs.MarkCauses.{marking_cause}
 use Rattle.heap_marking.proofs.MarkCauses.{marks_refuse}
+use Rattle.heap_marking.proofs.MarkEntries.{or_none}
 use Rattle.paced_tree.specs.Owed.{Pays, owed_by}
 
 module _ (w : SharedValue) (k : ℕ) where
@@ -31,10 +31,6 @@ module _ (w : SharedValue) (k : ℕ) where
   pays_sweep t given owes = subst (λ o. gives o (Sweep t given) ≡ true) (sym owes) (eq-eqb t t refl)
 
 -- a heap whose sweep is owed is being marked, and nothing is left of it to mark
-none_first : (o rest : Option Refused) → or_else o rest ≡ None → (o ≡ None) × (rest ≡ None)
-none_first None rest e = (refl, e)
-none_first (Some cause) rest e = absurd cc
-
 none_unless : (n : ℕ) (cause : Refused) (rest : Option Refused) → refused_unless (n == 0) cause rest ≡ None → n ≡ 0
 none_unless n cause rest e = by (n == 0) refl e
   where
@@ -48,5 +44,5 @@ sweep_is_owed w k t I on owes =
     let number = sweep_number (accounts w).machine h in
     let can : kind_refusal w.program w.settings (accounts w) k (Sweep t number) ≡ None =
     subst (CanBeGiven w.program w.settings (accounts w) k) owes (owed_can_be_given w.program w.settings w.journal.items k I.legal) in
-    let both = none_first (marking_cause w t) _ (sym ((marks_refuse w k t I on).sweep number) ∙ can) in
+    let both = or_none (marking_cause w t) _ (sym ((marks_refuse w k t I on).sweep number) ∙ can) in
     (both.0, none_unless (left_in h) (Left (marked_in h)) _ both.1)

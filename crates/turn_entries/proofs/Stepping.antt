@@ -4,20 +4,17 @@ use Rattle.hh_lang.specs.Form.{ProgramText}
 use Rattle.hh_model.specs.declared.data.State.{State}
 use Rattle.hh_model.specs.Counts.{Counted}
 use Rattle.hh_model.specs.Effect.{row_of}
-use Rattle.hh_model.specs.Step.{step}
 use Rattle.hh_model.specs.Tree.{Kept}
 use Rattle.hh_model.proofs.Counts.{steps_count}
 use Rattle.hh_model.proofs.Kept.{run_kept, start_kept, step_kept}
 use Rattle.run_trace.specs.Settings.{field_limit}
+use Rattle.run_trace.specs.Entry.{private_limit}
 use Rattle.run_ledger.specs.declared.data.Ledger.{Ledger}
-use Rattle.run_ledger.specs.Heaps.{let_go}
-use Rattle.run_ledger.specs.Steps.{task_steps}
 use Rattle.run_ledger.specs.Journals.{tasks_of}
 use Rattle.run_ledger.proofs.Bounds.{steps_are_bounded}
 use Rattle.run_ledger.proofs.Counted.{journals_are_counted}
-use Rattle.run_ledger.proofs.Machine.{heap_machine, machine_is_run, task_step_machine}
-use Rattle.ledger_step_laws.specs.Accounts.{aside}
-use Rattle.ledger_step_laws.proofs.Split.{steps_last}
+use Rattle.run_ledger.proofs.Machine.{machine_is_run}
+use Rattle.run_ledger.proofs.Since.{limit_small}
 use Rattle.task_machine.specs.declared.part.Private.{Private}
 use Rattle.task_machine.specs.declared.part.Paused.{Paused}
 use Rattle.task_machine.specs.declared.part.Paused.TheVariants.{Spent}
@@ -27,24 +24,15 @@ use Rattle.task_machine.specs.Outline.{steps}
 use Rattle.task_machine.specs.Ready.{FitsSome}
 use Rattle.task_machine.specs.Run.{KeepsRest, Pauses, PausesBy, Runs}
 use Rattle.task_machine.proofs.Behind.{steps_more}
-use Rattle.shared_value.specs.Fits.{Fits, beyond}
+use Rattle.shared_value.specs.Fits.{Fits}
 use Rattle.shared_value.specs.Links.{FitsFirst}
 use Rattle.shared_value.specs.Stands.{IsSharedValue}
 use Rattle.shared_value.specs.SharedValue.{SharedValue, accounts}
 use Rattle.shared_value.proofs.PartFitsMachine.{second_gives_first}
+use Rattle.shared_value.proofs.StepsEntered.{beyond_machine}
 use Rattle.own_steps.specs.Alone.{machine_after}
-use Rattle.own_steps.proofs.WordsFew.{limit_small}
 use Rattle.own_steps.proofs.FitsAfterSteps.{parts_fit_again}
 use Rattle.turn_entries.specs.Parts.{AtSome, HasGrown, IsPaused, MayRun}
-
--- ---- THE MACHINE BEHIND THE FRESH STEPS
-
-machine_steps : (p : ProgramText) (l : Ledger) (t k : ℕ) → (task_steps p l t k).machine ≡ steps p l.machine t k
-machine_steps p l t zero = refl
-machine_steps p l t (suc k) = ap (λ (z : Ledger). z.machine) (steps_last p l t k) ∙ (task_step_machine p (task_steps p l t k) t ∙ ap (λ (m : State). step p m t) (machine_steps p l t k))
-
-beyond_machine : (p : ProgramText) (l : Ledger) (q : Private) → (beyond p l q).machine ≡ steps p (unended l.machine) q.task q.fresh
-beyond_machine p l q = heap_machine (task_steps p (aside l) q.task q.fresh) q.task let_go ∙ machine_steps p (aside l) q.task q.fresh
 
 -- ---- ITS OBJECTS are counted
 
@@ -62,7 +50,7 @@ module _ (w : SharedValue) (k : ℕ) (part : Private) (I : IsSharedValue w) (on 
   pub first : FitsFirst w part
   first = second_gives_first w k part I F on
 
-  pub few_allocations : (n : ℕ) → part.fresh ≤ 256 → n ≤ 256 → part.allocations + n < 4294967296
+  pub few_allocations : (n : ℕ) → part.fresh ≤ private_limit → n ≤ private_limit → part.allocations + n < 4294967296
   few_allocations n few most =
       let l : Ledger = accounts w in
       let counts = (journals_are_counted w.program w.settings w.journal.items).counts in
@@ -81,7 +69,7 @@ module _ (w : SharedValue) (k : ℕ) (part : Private) (I : IsSharedValue w) (on 
 -- ---- AFTER A RUN OF STEPS
 
 module _ (w : SharedValue) (text : ProgramText) (same : w.program ≡ text) (k : ℕ) (I : IsSharedValue w) (old new : Private) (fits : Fits w k old) (on : (accounts w).end ≡ None) (idle : old.begun ≡ None) (n : ℕ)
-    (runs : Runs text old n new) (accounts_kept : KeepsAccounts text old n new) (rest : KeepsRest old new) (few : old.fresh + n ≤ 256) where
+    (runs : Runs text old n new) (accounts_kept : KeepsAccounts text old n new) (rest : KeepsRest old new) (few : old.fresh + n ≤ private_limit) where
   F : FitsFirst w old
   F = first w k old I on fits
 
@@ -104,7 +92,7 @@ module _ (w : SharedValue) (text : ProgramText) (same : w.program ≡ text) (k :
       ∙ (ap (λ (t : ℕ). steps w.program (unended (accounts w).machine) t new.fresh) (sym ran_task)
       ∙ sym (beyond_machine w.program (accounts w) new)))
 
-  pub paused_then : (why : Paused) → PausesBy text old n new why → (why ≡ Spent → new.fresh ≡ 256) → IsPaused w k new why
+  pub paused_then : (why : Paused) → PausesBy text old n new why → (why ≡ Spent → new.fresh ≡ private_limit) → IsPaused w k new why
   paused_then why by spent = record {
     may = record {
       fits = parts_fit_again w k old new n I fits on idle R C rest (omega (arith, few));
@@ -120,11 +108,11 @@ module _ (p : ProgramText) (k : ℕ) (part : Private) (A : AtSome p (λ w. MayRu
   pub fits_some : FitsSome p part
   fits_some = subst (λ q. FitsSome q part) A.1.program (machine_after A.0 part, _, first A.0 k part A.1.world A.1.goes A.2.fits)
 
-  pub few_then : (n : ℕ) → n ≤ 256 → part.allocations + n < 4294967296
+  pub few_then : (n : ℕ) → n ≤ private_limit → part.allocations + n < 4294967296
   few_then n most = few_allocations A.0 k part A.1.world A.1.goes A.2.fits n A.2.few most
 
   pub limit_then : part.field_limit < 2 ^ 20
   limit_then = few_fields A.0 k part A.1.world A.1.goes A.2.fits
 
-  pub grows : (new : Private) (n : ℕ) → Runs p part n new → KeepsAccounts p part n new → KeepsRest part new → part.fresh + n ≤ 256 → (why : Paused) → PausesBy p part n new why → (why ≡ Spent → new.fresh ≡ 256) → HasGrown p k part new why
+  pub grows : (new : Private) (n : ℕ) → Runs p part n new → KeepsAccounts p part n new → KeepsRest part new → part.fresh + n ≤ private_limit → (why : Paused) → PausesBy p part n new why → (why ≡ Spent → new.fresh ≡ private_limit) → HasGrown p k part new why
   grows new n runs kept rest few why by spent = λ w G f. paused_then w p G.program k G.world part new f G.goes A.2.idle n runs kept rest few why by spent

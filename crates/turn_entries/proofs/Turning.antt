@@ -1,5 +1,5 @@
 -- Values before and after a turn.
-use Rattle.std.proofs.Common.{◌≡◌, ℕ, ◌++◌, ◌∷◌, [], ◌||◌, Bool, true, false, not, List, Option, Some, None, is_some, length, refl, ap, sym, subst, ◌∙◌, inl, inr}
+use Rattle.std.proofs.Common.{◌≡◌, ℕ, ◌++◌, ◌∷◌, [], ◌||◌, Bool, true, false, List, Option, Some, None, is_some, length, refl, ap, sym, subst, ◌∙◌, inl, inr}
 use Rattle.std.proofs.lemmas.Bool.{false≢true}
 use Rattle.run_trace.specs.Entry.{EntryValue}
 use Rattle.run_trace.specs.declared.entry.Kind.{Kind}
@@ -95,14 +95,6 @@ none_over false (Some e) a b = absurd cc
 
 pub not_over : (r : Run) → r.paced.halted ≡ false → (accounts r.paced).end ≡ None → is_over r ≡ false
 not_over r on goes = none_over r.paced.halted (accounts r.paced).end on goes
-
-pub not_true : (b : Bool) → not b ≡ true → b ≡ false
-not_true true h = absurd (false≢true h)
-not_true false h = refl
-
-pub not_false : (b : Bool) → not b ≡ false → b ≡ true
-not_false true h = refl
-not_false false h = absurd (false≢true (sym h))
 
 pub ended_over : (r : Run) → is_some (accounts r.paced).end ≡ true → is_over r ≡ true
 ended_over r h = by r.paced.halted (is_some (accounts r.paced).end) h

@@ -4,6 +4,7 @@ use Rattle.std.specs.List.{AllByRecursion, IsDistinct, list_any}
 use Rattle.std.proofs.lemmas.Bool.{cases_eq, both_ways, and_from, and_parts, eq-eqb, eqb-true, cond-true, cond-false, false_from_ne_true}
 use Rattle.std.proofs.lemmas.Option.{same_Some}
 use Rattle.listed.proofs.Members.{in_from_any}
+use Rattle.listed.proofs.Places.{in_map}
 use Rattle.object_layout.specs.declared.word.Addr.{Addr}
 use Rattle.object_layout.specs.Objects.{Located}
 use Rattle.hh_model.specs.declared.data.Task.{Task}
@@ -22,7 +23,7 @@ use Rattle.core_relation.specs.Stands.{HomeStands, IsShown, Stands}
 use Rattle.ledger_step_laws.specs.Kinds.{ForksTask, JoinsTasks, CanJoin}
 use Rattle.core_relation.specs.Changes.{ForksHome, advanced, JoinsHomes, KeepsJust, Moves, WritesAt}
 use Rattle.ledger_step_laws.proofs.Tree.{leaf_alone}
-use Rattle.core_relation.proofs.objects.Members.{in_map, in_chunk, in_objects}
+use Rattle.core_relation.proofs.objects.Members.{in_chunk, in_objects}
 use Rattle.core_relation.proofs.objects.Mapped.{from_mapped}
 
 -- which object lies there

@@ -1,6 +1,7 @@
 -- An entry of steps leaves no collection that has begun in a home at rest.
-use Rattle.std.proofs.Common.{◌≡◌, ℕ, ◌+◌, Option, Some, None, List, length, slice_get, inl, inr, refl, ap, sym, subst, ◌∙◌}
+use Rattle.std.proofs.Common.{◌≡◌, ℕ, ◌+◌, Some, None, List, length, slice_get, inl, inr, refl, ap, sym, subst, ◌∙◌}
 use Rattle.std.proofs.lemmas.Bool.{cases_eq}
+use Rattle.listed.proofs.Options.{none_some}
 use Rattle.hh_lang.specs.declared.instr.Instr.{Instr}
 use Rattle.hh_lang.specs.declared.instr.Instr.TheVariants.{Set, Mov, Movr, Nil as NilOf, Calc, Same, Jmp, Jz, Newm, Pack, Getr, Geti, Putr, Puti, Cntr, Cnti, Freeze, Cas, Call, Par, Ret, Out}
 use Rattle.hh_lang.specs.Form.{ProgramText}
@@ -25,9 +26,6 @@ use Rattle.core_relation.specs.Whole.{handed}
 use Rattle.core_relation.proofs.whole.HandedBack.{alive_machine, handed_on, handed_halt, handed_done}
 use Rattle.core_relation.proofs.whole.RunsOn.{ran_end}
 use Rattle.core_relation.proofs.changes.With.{at_home, off_home}
-
-none_some : {A : Type 0} {w : ℕ} → ◌≡◌ {A = Option ℕ} None (Some w) → A
-none_some e = absurd cc
 
 module _ (p : ProgramText) (s : SettingsValue) (v v' : Memory) (l l' : Ledger) (t w k : ℕ) (h : Home) (E : Runs p s l l' t w k) (alive : l.end ≡ None) (resting : (u : ℕ) → Rests l u → (v.homes u).begun ≡ None) (own : h.begun ≡ None) (accounts : (u : ℕ) → Rests l' u → (heap_of l' u).begun ≡ None) (still : (heap_of (task_steps p l t k) t).begun ≡ None) where
   abbrev m : Ledger

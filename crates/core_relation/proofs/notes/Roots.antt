@@ -3,6 +3,7 @@ use Rattle.std.proofs.Common.{◌≡◌, ℕ, zero, suc, ◌==◌, not, Bool, tr
 use Rattle.std.proofs.lemmas.Bool.{and_from, and_parts, eqb-false}
 use Rattle.std.proofs.lemmas.Option.{same_Some}
 use Rattle.listed.proofs.Members.{in_from_contains, contains_from_in, in_append_left, in_append_right, in_append_cases, in_kept, in_from_kept, in_flat, got_in}
+use Rattle.listed.proofs.Places.{in_got}
 use Rattle.walk_laws.specs.Reached.{IsWalk}
 use Rattle.object_layout.specs.declared.word.Addr.{Addr}
 use Rattle.object_layout.specs.Objects.{Located}
@@ -51,17 +52,12 @@ address_at at (None ∷ rs) (Some m ∷ xs) zero n h e = absurd h.0
 address_at at (Some a ∷ rs) (Some m ∷ xs) zero n h e = (a, refl, subst (λ k. at k a) (same_Some m n (same_Some (Some m) (Some n) e)) h.0)
 address_at at (r ∷ rs) (x ∷ xs) (suc i) n h e = address_at at rs xs i n h.1 e
 
-pub index_of : {A : Type 0} (xs : List A) (x : A) → In xs x → (i : ℕ) × (slice_get xs i ≡ Some x)
-index_of [] x i = absurd i
-index_of (y ∷ ys) x (inl e) = (0, ap Some e)
-index_of (y ∷ ys) x (inr i) = let r = index_of ys x i in (suc r.0, r.1)
-
 pub frame_name : (at : Name → Addr → Type 0) (fs : List Frame) (xs : List ModelFrame) (f : Frame) (a : Addr) → FramesAreRead at fs xs → In fs f → In f.refs (Some a) → (n : Name) × In (registers xs) n × at n a
 frame_name at [] [] f a h i j = absurd i
 frame_name at [] (x ∷ xs) f a h i j = absurd h
 frame_name at (g ∷ fs) [] f a h i j = absurd h
 frame_name at (g ∷ fs) (x ∷ xs) f a h (inl e) j =
-    let k = index_of g.refs (Some a) (subst (λ (z : Frame). In z.refs (Some a)) (sym e) j) in
+    let k = in_got g.refs (Some a) (subst (λ (z : Frame). In z.refs (Some a)) (sym e) j) in
     let q = name_at at g.refs x.refs k.0 a h.0.refs k.1 in
     (q.0, in_append_left (named x.refs) (registers xs) q.0 (named_from_in x.refs q.0 (got_in x.refs k.0 (Some q.0) q.1)), q.2)
 frame_name at (g ∷ fs) (x ∷ xs) f a h (inr i) j = let q = frame_name at fs xs f a h.1 i j in (q.0, in_append_right (named x.refs) (registers xs) q.0 q.1, q.2)
@@ -72,7 +68,7 @@ frame_address at [] (x ∷ xs) n h i = absurd h
 frame_address at (g ∷ fs) [] n h i = absurd h
 frame_address at (g ∷ fs) (x ∷ xs) n h i = elim (in_append_cases (named x.refs) (registers xs) n i) [
   | inl j ↦
-      let k = index_of x.refs (Some n) (in_from_named x.refs n j) in
+      let k = in_got x.refs (Some n) (in_from_named x.refs n j) in
       let q = address_at at g.refs x.refs k.0 n h.0.refs k.1 in
       (g, q.0, inl refl, got_in g.refs k.0 (Some q.0) q.1, q.2)
   | inr j ↦ let q = frame_address at fs xs n h.1 j in (q.0, q.1, inr q.2, q.3, q.4)
@@ -154,7 +150,7 @@ module _ (v : Memory) (l : Ledger) (t : ℕ) (x : Task) (roots : List Addr) (S :
   to_names (suc k) o a i e w =
       let d = w.2 in
       let c = V.contents t d.0 rests d.2.0 in
-      let j = index_of d.0.refs (Some a) d.3 in
+      let j = in_got d.0.refs (Some a) d.3 in
       let f = name_at (Place v l) d.0.refs c.0.refs j.0 a c.2.refs j.1 in
       let m = bears t o f.0 a rests i e f.2 in
       reached_more l.machine.store names (roots_of l t) (object_name d.0) (object_name o) (to_names k d.0 w.0 d.2.0 d.2.1 w.1)
@@ -201,7 +197,7 @@ module _ (v : Memory) (l : Ledger) (t : ℕ) (x : Task) (roots : List Addr) (S :
           let ru : Rests l k.0 = subst (Rests l) mine ab.0 in
           let q = held_object (v.homes k.0).chunks (heap_of l k.0) (V.homes k.0 ru).names m k.1 in
           let c = V.contents k.0 q.0 ru q.1 in
-          let j = index_of c.0.refs (Some (object_name o)) (in_from_named c.0.refs (object_name o) (subst (λ z. In (refs_of z) (object_name o)) (ap (object_at l.machine.store) (sym q.2) ∙ c.1) r)) in
+          let j = in_got c.0.refs (Some (object_name o)) (in_from_named c.0.refs (object_name o) (subst (λ z. In (refs_of z) (object_name o)) (ap (object_at l.machine.store) (sym q.2) ∙ c.1) r)) in
           let b = address_at (Place v l) q.0.refs c.0.refs j.0 (object_name o) c.2.refs j.1 in
           let at : b.0 ≡ o.at = lies_at o (object_name o) b.0 i refl b.2 in
           let own_o : own l (object_name o) ≡ t = home_own v l S t (V.homes t rests) o i in
@@ -228,7 +224,7 @@ module _ (v : Memory) (l : Ledger) (t : ℕ) (x : Task) (roots : List Addr) (S :
       let more = to_addresses k w.0 q.0 q.1 q.2 w.1 in
       let c = V.contents t q.0 rests q.1 in
       let r : In (refs_at l.machine.store (object_name q.0)) (object_name o) = subst (λ z. In (refs_at l.machine.store z) (object_name o)) (sym q.2) (subst (In (refs_at l.machine.store w.0)) (sym e) (in_from_contains (refs_at l.machine.store w.0) n w.2.1)) in
-      let j = index_of c.0.refs (Some (object_name o)) (in_from_named c.0.refs (object_name o) (subst (λ z. In (refs_of z) (object_name o)) c.1 r)) in
+      let j = in_got c.0.refs (Some (object_name o)) (in_from_named c.0.refs (object_name o) (subst (λ z. In (refs_of z) (object_name o)) c.1 r)) in
       let b = address_at (Place v l) q.0.refs c.0.refs j.0 (object_name o) c.2.refs j.1 in
       let there : In q.0.refs (Some o.at) = subst (λ (a : Addr). In q.0.refs (Some a)) (lies_at o (object_name o) b.0 i refl b.2) (got_in q.0.refs j.0 (Some b.0) b.1) in
       (suc more.0, (q.0.at, more.1, (q.0, o, (q.1, refl), there, (i, refl))))

@@ -2,6 +2,7 @@
 use Rattle.std.proofs.Common.{◌≡◌, ℕ, Bool, true, false, cond, Option, Some, List, [], slice_get, slice_set, ◌⊎◌, ◌↔◌, inl, inr, refl, ap, sym, subst, ◌∙◌}
 use Rattle.std.proofs.lemmas.Bool.{cases_eq, cond-true, cond-false}
 use Rattle.listed.proofs.Members.{got_in, got_other, in_append_left}
+use Rattle.listed.proofs.Places.{in_got}
 use Rattle.object_layout.specs.declared.word.Addr.{Addr}
 use Rattle.object_layout.specs.Objects.{Located}
 use Rattle.hh_model.specs.declared.data.Name.{Name}
@@ -22,7 +23,7 @@ use Rattle.ledger_step_laws.specs.Kinds.{ForksTask}
 use Rattle.core_relation.specs.Changes.{ForksHome, WritesAt, with_field}
 use Rattle.core_relation.proofs.objects.Mapped.{from_mapped, to_mapped}
 use Rattle.core_relation.proofs.notes.Rooted.{in_advanced, lies_in, noted_by, root_apart, root_by, root_same}
-use Rattle.core_relation.proofs.notes.Roots.{reached_both, index_of}
+use Rattle.core_relation.proofs.notes.Roots.{reached_both}
 use Rattle.core_relation.proofs.changes.Write.{at_is}
 
 -- AT THE FORK
@@ -68,7 +69,7 @@ module _ (v v' : Memory) (l : Ledger) (t i : ℕ) (a : Addr) (value : Option Add
       by : (z : Bool) → is_at a q ≡ z → In (put_at a (with_field i value) q).refs (Some b) ⊎ In (kept v' t) b
       by false e = inl (subst (λ (s : Located). In s.refs (Some b)) (sym (cond-false (is_at a q) (with_field i value q) q e)) k)
       by true e =
-          let r = index_of q.refs (Some b) k in
+          let r = in_got q.refs (Some b) k in
           subst (λ (s : Located). In s.refs (Some b) ⊎ In (kept v' t) b) (sym (cond-true (is_at a q) (with_field i value q) q e)) (at r.0 r.1 e)
 
 module _ (v v' : Memory) (l l' : Ledger) (t w i : ℕ) (n : Name) (y y' : Object) (a : Addr) (value : Option Addr) (V : Stands v l) (rests : Rests l t) (frames : (v'.homes t).frames ≡ (v.homes t).frames) (H : Since v l t) (L : WritesOne l l' w n y y') (C : WritesAt v v' w a (with_field i value)) (K : Keeps v v' t a i)

@@ -2,6 +2,7 @@
 use Rattle.std.proofs.Common.{◌≡◌, ◌⊎◌, ◌↔◌, ℕ, true, Some, List, ◌∷◌, slice_get, inl, inr, refl, ap, sym, subst, ◌∙◌}
 use Rattle.std.proofs.lemmas.Option.{same_Some}
 use Rattle.listed.proofs.Members.{got_in}
+use Rattle.listed.proofs.Places.{in_got}
 use Rattle.walk_laws.proofs.Reached.{reached_more, reached_start, reached_within}
 use Rattle.object_layout.specs.declared.word.Addr.{Addr}
 use Rattle.object_layout.specs.Objects.{Located}
@@ -25,7 +26,7 @@ use Rattle.core_relation.specs.Since.{Since, kept}
 use Rattle.core_relation.proofs.changes.Alone.{home_own}
 use Rattle.core_relation.proofs.objects.Members.{object_held}
 use Rattle.core_relation.proofs.notes.Rooted.{lies_in, root_owner}
-use Rattle.core_relation.proofs.notes.Roots.{frame_name, index_of, name_at}
+use Rattle.core_relation.proofs.notes.Roots.{frame_name, name_at}
 use Rattle.core_relation.proofs.changes.Sweep.{is_kept, refers, snapshot_is}
 
 module _ (v : Memory) (l : Ledger) (t : ℕ) (x : Task) (S : SoundLedger l) (V : Stands v l) (is : slice_get l.machine.tasks t ≡ Some x) (wait : is_waiting (slice_get l.machine.tasks t) ≡ true) (rests : Rests l t) (H : Since v l t) where
@@ -131,7 +132,7 @@ module _ (v : Memory) (l : Ledger) (t : ℕ) (x : Task) (S : SoundLedger l) (V :
 
   more_live : (b a : Addr) → Kept b → LeadsAt (v.homes t) b a → Kept a
   more_live b a k d =
-      let i = index_of d.0.refs (Some a) d.3 in
+      let i = in_got d.0.refs (Some a) d.3 in
       leads_live t rests d.0 d.2.0 (is_kept v l t (V.homes t rests) d.0 d.2.0, λ h. subst (λ ns. In ns (object_name d.0)) (sym (snapshot_is (slice_get l.heaps t))) (k d.0 d.2.0 d.2.1)) i.0 a i.1
 
   pub snapshot_now : (q : Located) → In (objects v t) q → IsReachedNow v l t q.at ↔ In (heap_of l t).snapshot (object_name q)

@@ -1,5 +1,6 @@
 -- A home whose objects are changed, but for their names and addresses.
 use Rattle.std.proofs.Common.{suc, ◌≡◌, ℕ, Bool, true, false, not, cond, Some, List, [], ◌∷◌, ◌++◌, map, length, slice_get, refl, ap, ap₂, sym, subst, ◌∙◌}
+use Rattle.listed.proofs.Places.{in_map}
 use Rattle.object_layout.specs.declared.word.Addr.{Addr}
 use Rattle.object_layout.specs.Objects.{Located}
 use Rattle.hh_model.specs.declared.data.Name.{Name}
@@ -12,7 +13,7 @@ use Rattle.core_relation.specs.Memory.{Chunk, Home, Memory, In, object_name, obj
 use Rattle.core_relation.specs.Layout.{words, AreLaidOut}
 use Rattle.core_relation.specs.Stands.{names_of, small_chunks, large_chunks, HasNames, HomeStands}
 use Rattle.core_relation.proofs.objects.LaidOut.{laid_mapped}
-use Rattle.core_relation.proofs.objects.Members.{in_map, map_in}
+use Rattle.core_relation.proofs.objects.Members.{map_in}
 
 pub length_map : {A B : Type 0} (f : A → B) (xs : List A) → length (map f xs) ≡ length xs
 length_map f [] = refl

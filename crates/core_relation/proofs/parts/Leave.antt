@@ -1,5 +1,6 @@
 -- What an entry leaves to others: the laws, from the lemmas.
-use Rattle.std.proofs.Common.{◌≡◌, ℕ, true, false, Option, Some, None, slice_get, ap, sym, ◌∙◌}
+use Rattle.std.proofs.Common.{◌≡◌, ℕ, true, false, slice_get, ap, sym, ◌∙◌}
+use Rattle.listed.proofs.Options.{none_some}
 use Rattle.hh_lang.specs.Form.{ProgramText}
 use Rattle.run_trace.specs.Settings.{SettingsValue}
 use Rattle.hh_model.specs.declared.data.Task.{Task}
@@ -20,9 +21,6 @@ use Rattle.core_relation.proofs.parts.Others.{fits_fork, fits_join, fits_finish}
 use Rattle.core_relation.proofs.parts.Goes.{fits_store, fits_number}
 use Rattle.core_relation.proofs.parts.Quiet.{fits_took, fits_quiet}
 use Rattle.core_relation.proofs.parts.Pair as pair
-
-none_some : {w : ℕ} → ◌≡◌ {A = Option ℕ} None (Some w) → ⊥
-none_some e = absurd cc
 
 module _ (p : ProgramText) (s : SettingsValue) (q r : Part) (v : Memory) (l l' : Ledger) (x y : Task) (K : Knows l) (F : FitsAt p s q v l) (G : FitsAt p s r v l) (A : AreOut l q r x y) where
   -- a task that no worker holds isn't r's

@@ -1,6 +1,7 @@
 -- After an entry of its own that isn't of steps what a worker holds fits.
 use Rattle.std.proofs.Common.{◌≡◌, None, is_none, slice_get, inl, refl, ap, sym, subst, ◌∙◌}
 use Rattle.std.proofs.lemmas.Bool.{and_parts}
+use Rattle.listed.proofs.Options.{none_of}
 use Rattle.run_trace.specs.Entry.{EntryValue}
 use Rattle.run_trace.specs.declared.entry.Kind.TheVariants.{End as EndOf}
 use Rattle.hh_model.specs.declared.data.State.{State}
@@ -10,14 +11,13 @@ use Rattle.run_ledger.specs.declared.data.Ledger.{Ledger}
 use Rattle.run_ledger.specs.Entries.{after, is_out}
 use Rattle.run_ledger.specs.Journals.{ledger_of}
 use Rattle.run_ledger.proofs.Journals.{none_unless, entry_tells, legal_sound}
-use Rattle.run_ledger.proofs.Steps.{heap_of_task}
+use Rattle.run_ledger.proofs.Steps.{heap_of_task, running_at}
 use Rattle.ledger_step_laws.proofs.Entries.{end_changes}
 use Rattle.ledger_step_laws.proofs.Split.{legal_alive}
 use Rattle.core_relation.specs.Copies.{PartFits}
 use Rattle.core_relation.specs.Fits.{part_for}
 use Rattle.core_relation.specs.WorkerLaws.{QuietFits, EndsFit}
 use Rattle.core_relation.proofs.parts.Handed.{quiet_fits}
-use Rattle.core_relation.proofs.whole.Past.{none_of, task_by}
 use Rattle.core_relation.proofs.parts.Quiet.{aside_is}
 use Rattle.core_relation.proofs.parts.QuietEntries.{quiet_by}
 use Rattle.core_relation.proofs.whole.Together.{copies_end}
@@ -43,7 +43,7 @@ ends_fit_then p s journal legal v v' w t taken given left h h' f accepted K E no
     let run = (and_parts (is_running (slice_get l.machine.tasks t)) _ held.0).0 in
     let S = legal_sound p s journal legal in
     let g = heap_of_task l t S run in
-    let x = task_by l.machine.tasks t (slice_get l.machine.tasks t) refl run in
+    let x = running_at l.machine.tasks t (slice_get l.machine.tasks t) refl run in
     let L = end_changes l t in
     let on : l'.machine.end ≡ None = ap (λ (z : State). z.end) L.machine ∙ legal_alive p s journal legal (none_of l.end tells.0) in
     let part : PartFits p s (part_for s t h' 0) v' l' = (copies_end p s t h h' f v v' l x.0 g.0 S x.1 (runs_is x.0.status x.2) g.1 K E none).1 in

@@ -1,6 +1,7 @@
 -- Entries that move nothing, and those by which a worker takes a task, leave each part fitting.
-use Rattle.std.proofs.Common.{◌≡◌, ℕ, false, Option, Some, None, length, slice_get, inl, inr, refl, ap, sym, subst, ◌∙◌}
+use Rattle.std.proofs.Common.{◌≡◌, ℕ, false, Some, None, length, slice_get, inl, inr, refl, ap, sym, subst, ◌∙◌}
 use Rattle.std.proofs.lemmas.Bool.{cases_eq}
+use Rattle.listed.proofs.Options.{none_some}
 use Rattle.hh_lang.specs.Form.{ProgramText}
 use Rattle.run_trace.specs.Settings.{SettingsValue}
 use Rattle.hh_model.specs.declared.data.State.{State}
@@ -25,9 +26,6 @@ use Rattle.core_relation.proofs.parts.Parts.{ahead_alone, ahead_same}
 use Rattle.core_relation.proofs.changes.Release.{released}
 use Rattle.core_relation.proofs.changes.Renew.{renewed}
 use Rattle.core_relation.proofs.changes.With.{at_home, off_home}
-
-none_some : {w : ℕ} → ◌≡◌ {A = Option ℕ} None (Some w) → ⊥
-none_some e = absurd cc
 
 module _ (p : ProgramText) (s : SettingsValue) (q : Part) (v : Memory) (l l' : Ledger) (S : SoundLedger l) (S' : SoundLedger l') (c : IsSteady q l) (E : SameOf q.task l l') (F : FitsAt p s q v l) where
   abbrev u : ℕ

@@ -1,5 +1,5 @@
 -- What an entry leaves that moves no object and leaves the tasks to whom they are.
-use Rattle.std.proofs.Common.{◌≡◌, ◌⊎◌, ◌+◌, ◌++◌, ◌∷◌, [], ℕ, Bool, true, false, cond, Option, Some, None, nat_lt, slice_get, inl, inr, refl, ap, sym, subst, ◌∙◌}
+use Rattle.std.proofs.Common.{◌≡◌, ◌⊎◌, ◌+◌, ◌++◌, ◌∷◌, [], ℕ, Bool, true, false, cond, Option, Some, nat_lt, slice_get, inl, inr, refl, ap, sym, ◌∙◌}
 use Rattle.std.proofs.lemmas.Bool.{both_ways, cases_eq}
 use Rattle.hh_lang.specs.Form.{ProgramText}
 use Rattle.run_trace.specs.Settings.{SettingsValue}
@@ -14,23 +14,13 @@ use Rattle.run_ledger.specs.Steps.{on_asked}
 use Rattle.run_ledger.specs.Entries.{after_kind, chunk_units, with_chunk, kind_refusal}
 use Rattle.run_ledger.proofs.Journals.{wait_tells}
 use Rattle.std.proofs.Common.{is_none}
+use Rattle.run_ledger.proofs.History.{heap_view}
 use Rattle.ledger_step_laws.specs.Accounts.{SameTasks}
-use Rattle.ledger_step_laws.proofs.Ahead.{with_at, with_off, heap_then}
+use Rattle.ledger_step_laws.proofs.Ahead.{with_off}
 use Rattle.ledger_step_laws.proofs.Entries.{same_tasks}
 use Rattle.core_relation.specs.Counts.{IsQuiet, IsMarked}
 use Rattle.core_relation.specs.Worker.{IsBy}
 use Rattle.core_relation.proofs.whole.Counts.{chunk_worker, chunk_snapshot}
-
--- a view of heaps that one change leaves
-pub view_then : {A : Type 0} (view : Heap → A) (l : Ledger) (t : ℕ) (f : Heap → Heap) → ((h : Heap) → view (f h) ≡ view h) → (u : ℕ) → view (heap_of (with_heap l t f) u) ≡ view (heap_of l u)
-view_then view l t f same u = elim (cases_eq u t) [
-  | inl e ↦ subst (λ z. view (heap_of (with_heap l t f) z) ≡ view (heap_of l z)) (sym e) (ap (λ o. view (or_fresh o)) (with_at l t f) ∙ by (slice_get l.heaps t))
-  | inr ne ↦ ap (λ o. view (or_fresh o)) (with_off l t u f ne)
-]
-  where
-    by : (o : Option Heap) → view (or_fresh (heap_then f o)) ≡ view (or_fresh o)
-    by None = refl
-    by (Some h) = same h
 
 module _ (p : ProgramText) (s : SettingsValue) (l : Ledger) where
   -- what a quiet entry leaves
@@ -38,7 +28,7 @@ module _ (p : ProgramText) (s : SettingsValue) (l : Ledger) where
   Quiet l' = SameTasks l l' × ((u : ℕ) → (heap_of l' u).swept ≡ (heap_of l u).swept)
 
   quiet_heap : (t : ℕ) (f : Heap → Heap) → ((h : Heap) → (f h).worker ≡ h.worker) → ((h : Heap) → (f h).snapshot ≡ h.snapshot) → ((h : Heap) → (f h).swept ≡ h.swept) → Quiet (with_heap l t f)
-  quiet_heap t f w n q = (same_tasks l t f w n, view_then (λ h. h.swept) l t f q)
+  quiet_heap t f w n q = (same_tasks l t f w n, heap_view (λ h. h.swept) l t f q)
 
   chunk_swept : (o : Option ℕ) (h : Heap) → (with_chunk o h).swept ≡ h.swept
   chunk_swept o h = by (on_asked o is_small)
@@ -101,10 +91,10 @@ module _ (p : ProgramText) (s : SettingsValue) (l : Ledger) where
 
       by : (b : Bool) → (heap_of (cond b (record l { end = Some (Pool (in_use l)) }) (with_heap l t (with_chunk (asked p l.machine t)))) u).marked ≡ (heap_of l u).marked
       by true = refl
-      by false = view_then (λ h. h.marked) l t (with_chunk (asked p l.machine t)) (chunk_marked (asked p l.machine t)) u
-  marked_or w (Begin t) q u = inr ((λ e. e), view_then (λ h. h.marked) l t _ (λ h. refl) u)
+      by false = heap_view (λ h. h.marked) l t (with_chunk (asked p l.machine t)) (chunk_marked (asked p l.machine t)) u
+  marked_or w (Begin t) q u = inr ((λ e. e), heap_view (λ h. h.marked) l t _ (λ h. refl) u)
   marked_or w (EndOf t a g n) q u = absurd q
-  marked_or w (PutOff t) q u = inr ((λ e. e), view_then (λ h. h.marked) l t _ (λ h. refl) u)
+  marked_or w (PutOff t) q u = inr ((λ e. e), heap_view (λ h. h.marked) l t _ (λ h. refl) u)
   marked_or w (Mark t) q u = elim (cases_eq u t) [ inl e ↦ inl (sym e) | inr ne ↦ inr ((λ e. ne (sym e)), ap (λ o. (or_fresh o).marked) (with_off l t u _ ne)) ]
   marked_or w (More t n) q u = elim (cases_eq u t) [ inl e ↦ inl (sym e) | inr ne ↦ inr ((λ e. ne (sym e)), ap (λ o. (or_fresh o).marked) (with_off l t u _ ne)) ]
   marked_or w (Sweep t g) q u = absurd q

@@ -1,6 +1,7 @@
 -- The home of a task that a worker takes fits.
 use Rattle.std.proofs.Common.{length, ◌≡◌, ℕ, Some, None, is_none, slice_get, inl, inr, refl, ap, sym, subst, ◌∙◌}
 use Rattle.std.proofs.lemmas.Bool.{and_parts, cases_eq}
+use Rattle.listed.proofs.Options.{none_is, none_of}
 use Rattle.hh_lang.specs.Form.{ProgramText}
 use Rattle.run_trace.specs.Entry.{EntryValue}
 use Rattle.run_trace.specs.Settings.{SettingsValue}
@@ -12,7 +13,7 @@ use Rattle.run_ledger.specs.Heaps.{heap_of, or_fresh}
 use Rattle.run_ledger.specs.Entries.{after, is_ready}
 use Rattle.run_ledger.specs.Journals.{ledger_of}
 use Rattle.run_ledger.proofs.Journals.{none_unless, entry_tells, legal_sound}
-use Rattle.run_ledger.proofs.Steps.{heap_of_task}
+use Rattle.run_ledger.proofs.Steps.{heap_of_task, running_at}
 use Rattle.ledger_step_laws.specs.Accounts.{Rests, rested}
 use Rattle.ledger_step_laws.proofs.Ahead.{heap_then, with_at}
 use Rattle.ledger_step_laws.proofs.Entries.{took_takes}
@@ -26,13 +27,12 @@ use Rattle.core_relation.specs.Whole.{StandsFor}
 use Rattle.core_relation.proofs.whole.HandedBack.{handed_on}
 use Rattle.core_relation.specs.WorkerLaws.{TookFits}
 use Rattle.core_relation.proofs.changes.Alone.{home_kept}
-use Rattle.core_relation.proofs.whole.Past.{home_rests, legal_rests, none_of, running_idle, task_by}
+use Rattle.core_relation.proofs.whole.Past.{home_rests, legal_rests, running_idle}
 use Rattle.core_relation.proofs.parts.Quiet.{aside_is}
 use Rattle.core_relation.proofs.changes.Renew.{renewed}
 use Rattle.core_relation.proofs.changes.Takes.{took_fits}
 use Rattle.core_relation.proofs.whole.Together.{none_begun}
 use Rattle.core_relation.proofs.changes.With.{at_home, off_home}
-use Rattle.core_relation.proofs.parts.WorkersPast.{none_at}
 
 -- what the value has in the part's place doesn't matter
 module _ (p : ProgramText) (s : SettingsValue) (q : Part) (v v' : Memory) (l : Ledger) (C : SameBut v v' q.task) (F : FitsAt p s q v l) where
@@ -76,8 +76,8 @@ took_fits_then p s journal legal v v' c w t accepted handed C =
     let ready = (none_unless (is_ready l t) _ _ (entry_tells p s l e (ap is_none accepted)).2).0 in
     let both = and_parts (is_running (slice_get l.machine.tasks t)) _ ready in
     let g = heap_of_task l t (legal_sound p s journal legal) both.0 in
-    let x = task_by l.machine.tasks t (slice_get l.machine.tasks t) refl both.0 in
-    let rests : Rests l t = none_at (heap_of l t).worker both.1 in
+    let x = running_at l.machine.tasks t (slice_get l.machine.tasks t) refl both.0 in
+    let rests : Rests l t = none_is (heap_of l t).worker both.1 in
     let L = took_takes l t w g.0 g.1 in
     let on : l'.machine.end ≡ None = ap (λ (z : State). z.end) L.machine ∙ legal_alive p s journal legal (none_of l.end (entry_tells p s l e (ap is_none accepted)).0) in
     let none = legal_rests p s journal legal t rests in

@@ -1,5 +1,5 @@
 -- An entry of one worker leaves what every other holds fitting.
-use Rattle.std.proofs.Common.{◌≡◌, ℕ, true, Option, Some, None, slice_get, inl, inr, ap, ap₂, sym, subst, ◌∙◌, ◌+◌}
+use Rattle.std.proofs.Common.{◌≡◌, ℕ, true, Some, None, slice_get, inl, inr, ap, ap₂, sym, subst, ◌∙◌, ◌+◌}
 use Rattle.hh_lang.specs.declared.instr.Instr.{Instr}
 use Rattle.hh_lang.specs.declared.instr.Instr.TheVariants.{Set, Mov, Movr, Nil as NilOf, Calc, Same, Jmp, Jz, Newm, Pack, Getr, Geti, Putr, Puti, Cntr, Cnti, Freeze, Cas, Call, Par, Ret, Out}
 use Rattle.hh_lang.specs.Form.{ProgramText}
@@ -32,9 +32,6 @@ use Rattle.core_relation.proofs.parts.Parts.{ahead_same}
 use Rattle.core_relation.proofs.parts.Quiet.{aside_is}
 use Rattle.core_relation.proofs.parts.Ran as ran
 use Rattle.ledger_step_laws.proofs.Root.{root_alone}
-
-none_some : {A B : Type 0} {x : A} → ◌≡◌ {A = Option A} None (Some x) → B
-none_some e = absurd cc
 
 module _ (p : ProgramText) (s : SettingsValue) (r : Part) (v : Memory) (l : Ledger) (on : l.machine.end ≡ None) (F : Fits p s r v l) where
   -- by the accounts as they are

@@ -1,7 +1,8 @@
 -- Entries that aren't of steps leave what every other worker holds fitting.
-use Rattle.std.proofs.Common.{◌≡◌, ℕ, true, false, Option, Some, None, is_none, slice_get, List, refl, ap, sym, subst, ◌∙◌}
+use Rattle.std.proofs.Common.{◌≡◌, ℕ, true, false, Some, None, is_none, slice_get, List, refl, ap, sym, subst, ◌∙◌}
 use Rattle.std.proofs.lemmas.Bool.{and_parts}
 use Rattle.std.proofs.Common.{length}
+use Rattle.listed.proofs.Options.{none_is, none_of, none_some}
 use Rattle.hh_lang.specs.Form.{ProgramText}
 use Rattle.run_trace.specs.Entry.{EntryValue}
 use Rattle.run_trace.specs.Settings.{SettingsValue}
@@ -17,25 +18,23 @@ use Rattle.run_ledger.specs.Entries.{refusal, after, is_ready, is_out}
 use Rattle.run_ledger.specs.Journals.{ledger_of, is_legal}
 use Rattle.run_ledger.proofs.Journals.{none_unless, entry_sound, entry_tells, wait_tells, legal_sound}
 use Rattle.run_ledger.specs.Sound.{SoundLedger}
-use Rattle.run_ledger.proofs.Steps.{heap_of_task}
+use Rattle.run_ledger.proofs.Steps.{heap_of_task, running_at}
 use Rattle.ledger_step_laws.specs.Accounts.{Rests, Knows}
 use Rattle.ledger_step_laws.proofs.Ahead.{with_off}
 use Rattle.ledger_step_laws.proofs.Entries.{took_takes, sweep_changes, end_changes}
 use Rattle.ledger_step_laws.proofs.Known.{legal_knows}
 use Rattle.ledger_step_laws.proofs.Split.{legal_alive, legal_idle}
+use Rattle.ledger_step_laws.proofs.Wrote.{waiting_stops}
 use Rattle.core_relation.specs.Memory.{Memory}
 use Rattle.core_relation.specs.Fits.{Part, FitsAt}
 use Rattle.core_relation.specs.Worker.{Fits}
 use Rattle.core_relation.specs.WorkerLaws.{TookLeaves, QuietLeaves, SweepsLeave, EndsLeave}
 use Rattle.core_relation.proofs.parts.Leave as leave
 use Rattle.core_relation.proofs.parts.Parts.{fits_sweep}
-use Rattle.core_relation.proofs.whole.Past.{none_of, running_idle, waiting_stops, task_by}
+use Rattle.core_relation.proofs.whole.Past.{running_idle}
 use Rattle.core_relation.proofs.parts.QuietEntries.{quiet_by, quiet_off}
 use Rattle.core_relation.proofs.whole.Together.{copies_leave}
 use Rattle.core_relation.proofs.parts.Workers.{part_now, out, to_same}
-
-none_some : {w : ℕ} → ◌≡◌ {A = Option ℕ} None (Some w) → ⊥
-none_some e = absurd cc
 
 -- what is known of accounts with the same machine
 knows_same : (l l' : Ledger) → l'.machine ≡ l.machine → SoundLedger l' → Knows l → Knows l'
@@ -72,10 +71,6 @@ module _ (p : ProgramText) (s : SettingsValue) (journal : List EntryValue) (lega
     apart : (t : ℕ) → Rests l t → t ≡ r.task → ⊥
     apart t h e = none_some (sym h ∙ (ap (λ z. (heap_of l z).worker) e ∙ G.out))
 
-pub none_at : (o : Option ℕ) → is_none o ≡ true → o ≡ None
-none_at None h = refl
-none_at (Some w) h = absurd cc
-
 pub took_leaves : TookLeaves
 took_leaves p s journal legal v v' w t accepted C r R =
     let e : EntryValue = record { worker = w; kind = Took t } in
@@ -84,7 +79,7 @@ took_leaves p s journal legal v v' w t accepted C r R =
     let ready = (none_unless (is_ready l t) _ _ (entry_tells p s l e (ap is_none accepted)).2).0 in
     let both = and_parts (is_running (slice_get l.machine.tasks t)) _ ready in
     let g = heap_of_task l t S both.0 in
-    let rests : Rests l t = none_at (heap_of l t).worker both.1 in
+    let rests : Rests l t = none_is (heap_of l t).worker both.1 in
     let alive = alive p s journal legal e accepted in
     let ne = apart p s journal legal e accepted v r R t rests in
     let L = took_takes l t w g.0 g.1 in
@@ -122,7 +117,7 @@ ends_leave p s journal legal v v' w t taken given left h h' f accepted K E r ne 
     let held = none_unless (is_out l w t) _ _ (entry_tells p s l e (ap is_none accepted)).2 in
     let run = (and_parts (is_running (slice_get l.machine.tasks t)) _ held.0).0 in
     let g = heap_of_task l t (legal_sound p s journal legal) run in
-    let x = task_by l.machine.tasks t (slice_get l.machine.tasks t) refl run in
+    let x = running_at l.machine.tasks t (slice_get l.machine.tasks t) refl run in
     let L = end_changes l t in
     let knows = legal_knows p s journal legal in
     let heap = with_off l t r.task (collected l.machine) (λ q. ne (sym q)) in

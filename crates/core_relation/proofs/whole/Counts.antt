@@ -14,20 +14,21 @@ use Rattle.hh_model.specs.Step.{asked, is_running, runs}
 use Rattle.run_ledger.specs.declared.data.Heap.{Heap}
 use Rattle.run_ledger.specs.declared.data.Ledger.{Ledger}
 use Rattle.run_ledger.specs.declared.data.RunEnd.TheVariants.{Pool, Fuel as FuelEnd}
-use Rattle.run_ledger.specs.Heaps.{chunk_words, is_small, take_of, heap_of, heap_at, with_heap, with_heap_at, in_use, collected, swept_heap, units_in}
+use Rattle.run_ledger.specs.Heaps.{chunk_words, is_small, take_of, heap_of, heap_at, with_heap, with_heap_at, in_use, collected, swept_heap}
 use Rattle.run_ledger.specs.Steps.{on_asked}
-use Rattle.run_ledger.specs.Entries.{refusal, after, after_kind, chunk_units, with_chunk, is_ready, held_from, refused_holding}
+use Rattle.run_ledger.specs.Entries.{refusal, after, after_kind, chunk_units, with_chunk, is_ready, held_from}
 use Rattle.run_ledger.specs.Journals.{ledger_of, is_legal}
 use Rattle.run_ledger.proofs.Journals.{none_unless, entry_tells, legal_sound}
 use Rattle.run_ledger.proofs.Steps.{heap_of_task}
 use Rattle.ledger_step_laws.specs.Accounts.{SameTasks, Takes}
 use Rattle.run_ledger.specs.Use.{ChunkGoes, UseGoes}
-use Rattle.run_ledger.proofs.Weights.{total, total_set}
 use Rattle.ledger_step_laws.proofs.Entries.{same_tasks, took_takes}
 use Rattle.run_ledger.proofs.Use.{entries_use}
 use Rattle.core_relation.proofs.whole.Hands.{none_held}
 use Rattle.std.proofs.lemmas.Option.{same_Some}
 use Rattle.std.specs.Prelude.{◌↔◌}
+use Rattle.listed.proofs.Options.{none_is}
+use Rattle.run_ledger.proofs.Holders.{none_holding}
 use Rattle.heap_tree.specs.declared.state.State.TheVariants.{Out}
 use Rattle.heap_tree.specs.Node.{Node}
 use Rattle.core_relation.specs.Whole.{Totals, TotalsStand, state_by}
@@ -54,14 +55,6 @@ same_itself l l' m h = record {
   worker = λ u. ap (λ hs. (heap_of (record l { heaps = hs }) u).worker) h;
   snapshot = λ u. ap (λ hs. (heap_of (record l { heaps = hs }) u).snapshot) h;
 }
-
--- the chunks in use stay where a heap's units do
-pub same_use : (l : Ledger) (t : ℕ) (f : Heap → Heap) → ((h : Heap) → units_in l.machine (f h) ≡ units_in l.machine h) → in_use (with_heap l t f) ≡ in_use l
-same_use l t f same = by (heap_at l t) refl
-  where
-    by : (o : Option Heap) → heap_at l t ≡ o → in_use (with_heap_at l t f o) ≡ in_use l
-    by None e = refl
-    by (Some h) e = let a = total_set (units_in l.machine) l.heaps t h (f h) e in let c = same h in let g : in_use l ≡ total (units_in l.machine) l.heaps = refl in omega arith
 
 pub with_steps : (l : Ledger) (t : ℕ) (f : Heap → Heap) → ((with_heap l t f).steps ≡ l.steps) × ((with_heap l t f).end ≡ l.end)
 with_steps l t f = by (heap_at l t)
@@ -142,14 +135,6 @@ took_totals c c' l t w h is run rests none used C T =
         by (Ended n r) h = absurd cc
         by Joined h = absurd cc
 
-none_at : (o : Option ℕ) → is_none o ≡ true → o ≡ None
-none_at None h = refl
-none_at (Some w) h = absurd cc
-
-not_holding : (o : Option ℕ) → is_none (refused_holding o None) ≡ true → o ≡ None
-not_holding None h = refl
-not_holding (Some t) h = absurd cc
-
 module _ (p : ProgramText) (s : SettingsValue) (journal : List EntryValue) (program : IsProgram p) (legal : is_legal p s journal ≡ true) (c c' : Totals) (T : TotalsStand c (ledger_of p s journal)) where
   abbrev l : Ledger
   l = ledger_of p s journal
@@ -163,7 +148,7 @@ module _ (p : ProgramText) (s : SettingsValue) (journal : List EntryValue) (prog
       let r = none_unless (is_ready l t) _ _ (entry_tells p s l (record { worker = w; kind = Took t }) h).2 in
       let run = (and_parts (is_running (slice_get l.machine.tasks t)) _ r.0).0 in
       let g = heap_of_task l t (legal_sound p s journal legal) run in
-      took_totals c c' l t w g.0 g.1 run (none_at (heap_of l t).worker (and_parts (is_running (slice_get l.machine.tasks t)) _ r.0).1) (none_held l w (not_holding (held_from w 0 l.heaps) r.1)) U C T
+      took_totals c c' l t w g.0 g.1 run (none_is (heap_of l t).worker (and_parts (is_running (slice_get l.machine.tasks t)) _ r.0).1) (none_held l w (none_holding (held_from w 0 l.heaps) r.1)) U C T
   by_kind w (Ran t k) h U C = absurd C
   by_kind w (Chunk t) h U C =
       chunk_totals (chunk_units (asked p l.machine t)) (after_kind p s l w (Chunk t)) (nat_lt s.chunks (in_use l + chunk_units (asked p l.machine t)))

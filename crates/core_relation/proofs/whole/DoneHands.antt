@@ -2,9 +2,9 @@
 use Rattle.std.proofs.Common.{◌≡◌, ℕ, Bool, true, false, Option, Some, None, slice_get, refl, inl, inr, ap, sym, subst, ◌∙◌}
 use Rattle.std.proofs.lemmas.Bool.{cases_eq}
 use Rattle.std.proofs.lemmas.Option.{same_Some}
+use Rattle.listed.proofs.Options.{none_some}
 use Rattle.hh_lang.specs.Form.{ProgramText}
 use Rattle.run_trace.specs.Settings.{SettingsValue}
-use Rattle.hh_model.specs.declared.data.End.{End}
 use Rattle.hh_model.specs.declared.data.End.TheVariants.{Done}
 use Rattle.hh_model.specs.declared.data.State.{State}
 use Rattle.hh_model.specs.declared.data.Task.{Task}
@@ -21,9 +21,6 @@ use Rattle.ledger_step_laws.proofs.Root.{root_alone}
 use Rattle.core_relation.specs.Whole.{handed}
 use Rattle.core_relation.specs.EntryLaws.{DoneHandsAll}
 use Rattle.core_relation.proofs.whole.HandedBack.{handed_done}
-
-none_some : {A : Type 0} {e : End} → ◌≡◌ {A = Option End} None (Some e) → A
-none_some e = absurd cc
 
 module _ (p : ProgramText) (s : SettingsValue) (l l' : Ledger) (t w k : ℕ) (E : Runs p s l l' t w k) (done : l'.machine.end ≡ Some Done) where
   abbrev m : Ledger

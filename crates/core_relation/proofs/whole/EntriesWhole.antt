@@ -1,5 +1,6 @@
 -- The whole relation past each accepted entry that isn't of steps, from whole to whole: none of them makes the run done.
 use Rattle.std.proofs.Common.{◌≡◌, ◌+◌, List, ℕ, Bool, true, false, cond, None, Some, is_none, nat_lt, refl, ap, sym, subst, ◌∙◌}
+use Rattle.listed.proofs.Options.{none_of}
 use Rattle.hh_lang.specs.Form.{ProgramText}
 use Rattle.run_trace.specs.Settings.{SettingsValue}
 use Rattle.run_trace.specs.Entry.{EntryValue}
@@ -44,7 +45,7 @@ module _ (p : ProgramText) (s : SettingsValue) (l : Ledger) (on : l.end ≡ None
 
 module _ (p : ProgramText) (s : SettingsValue) (journal : List EntryValue) (e : EntryValue) (accepted : refusal p s (ledger_of p s journal) e ≡ None) where
   on : (ledger_of p s journal).end ≡ None
-  on = past.none_of (ledger_of p s journal).end (entry_tells p s (ledger_of p s journal) e (ap is_none accepted)).0
+  on = none_of (ledger_of p s journal).end (entry_tells p s (ledger_of p s journal) e (ap is_none accepted)).0
 
   before : (v : Memory) (c : Totals) → StandsForAll v c (ledger_of p s journal) → StandsFor v c (ledger_of p s journal)
   before v c W = subst (StandsFor v c) (handed_on (ledger_of p s journal) on) W

@@ -1,23 +1,15 @@
 -- Which task a worker holds, by the accounts of heaps.
 use Rattle.std.proofs.Common.{◌≡◌, ◌+◌, ℕ, zero, suc, Bool, true, false, cond, arith, Option, Some, None, List, [], ◌∷◌, slice_get, refl, ap, sym, ◌∙◌}
-use Rattle.std.proofs.lemmas.Bool.{eq-eqb, eqb-true, false≢true}
+use Rattle.std.proofs.lemmas.Bool.{false≢true}
 use Rattle.std.proofs.lemmas.Option.{same_Some}
+use Rattle.listed.proofs.Options.{none_some}
 use Rattle.run_ledger.specs.declared.data.Heap.{Heap}
 use Rattle.run_ledger.specs.declared.data.Ledger.{Ledger}
 use Rattle.run_ledger.specs.Heaps.{heap_of, or_fresh}
 use Rattle.run_ledger.specs.Entries.{held_from, is_held_by}
+use Rattle.run_ledger.proofs.Accepted.{is_held}
+use Rattle.run_ledger.proofs.Frames.{held_is}
 use Rattle.core_relation.specs.EntryLaws.{HandsAreHeld}
-
-none_some : {A : Type 0} {w : ℕ} → ◌≡◌ {A = Option ℕ} None (Some w) → A
-none_some e = absurd cc
-
-held_is : (o : Option ℕ) (w : ℕ) → o ≡ Some w → is_held_by o w ≡ true
-held_is None w e = none_some e
-held_is (Some v) w e = eq-eqb v w (same_Some v w e)
-
-is_held : (o : Option ℕ) (w : ℕ) → is_held_by o w ≡ true → o ≡ Some w
-is_held None w h = absurd (false≢true h)
-is_held (Some v) w h = ap Some (eqb-true v w h)
 
 -- where no heap is found, the worker holds none
 none_from : (w k : ℕ) (hs : List Heap) → held_from w k hs ≡ None → (u : ℕ) → (or_fresh (slice_get hs u)).worker ≡ Some w → ⊥
@@ -26,7 +18,7 @@ none_from w k (x ∷ hs) e u h = by (λ q i. none_from w (k + 1) hs q i) u (is_h
   where
     by : (held_from w (k + 1) hs ≡ None → (i : ℕ) → (or_fresh (slice_get hs i)).worker ≡ Some w → ⊥) → (u : ℕ) (b : Bool) → is_held_by x.worker w ≡ b → (or_fresh (slice_get (x ∷ hs) u)).worker ≡ Some w → cond b (Some k) (held_from w (k + 1) hs) ≡ None → ⊥
     by more u true q h e = none_some (sym e)
-    by more zero false q h e = false≢true (sym q ∙ held_is x.worker w h)
+    by more zero false q h e = false≢true (sym q ∙ is_held x.worker w h)
     by more (suc u) false q h e = more e u h
 
 pub none_held : (l : Ledger) (w : ℕ) → held_from w 0 l.heaps ≡ None → (u : ℕ) → (heap_of l u).worker ≡ Some w → ⊥
@@ -38,7 +30,7 @@ some_from w k t [] e = none_some e
 some_from w k t (x ∷ hs) e = by (λ q. some_from w (k + 1) t hs q) (is_held_by x.worker w) refl e
   where
     by : (held_from w (k + 1) hs ≡ Some t → (u : ℕ) × (t ≡ k + 1 + u) × ((or_fresh (slice_get hs u)).worker ≡ Some w)) → (b : Bool) → is_held_by x.worker w ≡ b → cond b (Some k) (held_from w (k + 1) hs) ≡ Some t → (u : ℕ) × (t ≡ k + u) × ((or_fresh (slice_get (x ∷ hs) u)).worker ≡ Some w)
-    by more true q e = (0, (let a : k ≡ t = same_Some k t e in omega (arith, a)), is_held x.worker w q)
+    by more true q e = (0, (let a : k ≡ t = same_Some k t e in omega (arith, a)), held_is x.worker w q)
     by more false q e = let r = more e in (suc r.0, (let a : t ≡ k + 1 + r.0 = r.1 in omega (arith, a)), r.2)
 
 pub hands_are_held : HandsAreHeld

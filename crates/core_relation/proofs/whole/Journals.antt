@@ -1,11 +1,12 @@
 -- The value before any entry stands for the first accounts.
-use Rattle.std.proofs.Common.{◌≡◌, ℕ, zero, suc, true, Option, Some, None, slice_get, option_map, replicate, refl, sym, subst, ◌∙◌}
+use Rattle.std.proofs.Common.{◌≡◌, ℕ, zero, suc, true, Some, None, slice_get, option_map, replicate, refl, sym, subst, ◌∙◌}
 use Rattle.hh_lang.specs.Form.{ProgramText}
 use Rattle.run_trace.specs.Settings.{SettingsValue}
 use Rattle.hh_model.specs.Step.{is_waiting, root}
 use Rattle.run_ledger.specs.Journals.{opening}
 use Rattle.std.proofs.lemmas.Bool.{false≢true}
 use Rattle.std.proofs.lemmas.Option.{same_Some}
+use Rattle.listed.proofs.Options.{none_some}
 use Rattle.object_layout.specs.declared.word.Addr.{Addr}
 use Rattle.object_layout.specs.Objects.{Located}
 use Rattle.hh_model.specs.declared.data.Name.{Name}
@@ -27,9 +28,6 @@ use Rattle.core_relation.proofs.whole.Together.{whole_stands}
 nils : (at : Name → Addr → Type 0) (n : ℕ) → AllRead at (replicate n None) (replicate n None)
 nils at zero = tt
 nils at (suc n) = (tt, nils at n)
-
-none_some : {A : Type 0} {t : ℕ} → ◌≡◌ {A = Option ℕ} None (Some t) → A
-none_some e = absurd cc
 
 pub first_stands : (p : ProgramText) (s : SettingsValue) → Stands (first p) (opening p s)
 first_stands p s = record {

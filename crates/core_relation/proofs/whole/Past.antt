@@ -1,13 +1,12 @@
 -- The whole relation past each accepted entry that isn't of steps.
 use Rattle.std.proofs.Common.{◌≡◌, ◌&&◌, not, ℕ, true, false, Option, Some, None, List, [], ◌∷◌, ◌++◌, length, slice_get, is_none, is_some, inl, inr, refl, ap, ap₂, sym, subst, ◌∙◌}
 use Rattle.std.proofs.lemmas.Bool.{false≢true, cases_eq, and_parts, and_from}
+use Rattle.listed.proofs.Options.{none_of}
 use Rattle.object_layout.specs.declared.word.Addr.{Addr}
 use Rattle.hh_lang.specs.Form.{ProgramText, IsProgram}
 use Rattle.run_trace.specs.Settings.{SettingsValue}
 use Rattle.run_trace.specs.Entry.{EntryValue}
 use Rattle.run_trace.specs.declared.entry.Kind.TheVariants.{Took, End as EndOf, Sweep}
-use Rattle.hh_model.specs.declared.data.Status.{Status}
-use Rattle.hh_model.specs.declared.data.Status.TheVariants.{Running, Waiting, Ended, Joined}
 use Rattle.hh_model.specs.declared.data.State.{State as Machine}
 use Rattle.hh_model.specs.declared.data.Task.{Task}
 use Rattle.hh_model.specs.Effect.{object_at, row_of}
@@ -22,12 +21,14 @@ use Rattle.run_ledger.specs.Journals.{ledger_of, is_legal, is_legal_from, after_
 use Rattle.run_ledger.proofs.Holders.{tasks_are_held_once}
 use Rattle.run_ledger.proofs.Journals.{none_unless, entry_tells, wait_tells, legal_sound}
 use Rattle.run_ledger.specs.Sound.{SoundLedger}
-use Rattle.run_ledger.proofs.Steps.{heap_of_task}
+use Rattle.run_ledger.proofs.Steps.{heap_of_task, running_at}
+use Rattle.run_ledger.proofs.History.{heap_view}
 use Rattle.ledger_step_laws.specs.Accounts.{Rests, StepsAlone, Takes, rested}
 use Rattle.ledger_step_laws.proofs.Ahead.{with_at, with_machine, heap_then}
 use Rattle.ledger_step_laws.proofs.Entries.{took_takes, sweep_changes, end_changes}
 use Rattle.ledger_step_laws.proofs.Known.{legal_knows}
 use Rattle.ledger_step_laws.proofs.Split.{legal_alive, legal_idle}
+use Rattle.ledger_step_laws.proofs.Wrote.{waiting_stops}
 use Rattle.task_machine.specs.declared.part.Begun.{Begun}
 use Rattle.core_relation.specs.Memory.{Home, Memory}
 use Rattle.core_relation.specs.Stands.{Stands}
@@ -37,7 +38,7 @@ use Rattle.core_relation.specs.Whole.{Totals, BegunBy, StandsFor}
 use Rattle.core_relation.specs.Counts.{CountsGo, IsQuiet, IsMarked}
 use Rattle.core_relation.proofs.notes.AllNotes.{sweeps_note, ends_note, steps_note, quiet_notes}
 use Rattle.core_relation.proofs.whole.Counts.{counts_stand}
-use Rattle.core_relation.proofs.parts.QuietEntries.{quiet_by, marked_or, view_then}
+use Rattle.core_relation.proofs.parts.QuietEntries.{quiet_by, marked_or}
 use Rattle.core_relation.proofs.parts.Copies.{rested_changes}
 use Rattle.core_relation.proofs.notes.NotesAhead.{notes_ahead, notes_back}
 use Rattle.core_relation.proofs.notes.Rooted.{root_apart}
@@ -79,24 +80,6 @@ home_rests v l t (Some b) B e = absurd (none_some (sym e ∙ B.few))
 pub running_idle : (o : Option Task) → is_running o ≡ true → is_waiting o ≡ false
 running_idle None h = refl
 running_idle (Some x) h = (running_tells x.status h).1
-
-pub waiting_stops : (o : Option Task) → is_waiting o ≡ true → is_running o ≡ false
-waiting_stops None h = refl
-waiting_stops (Some x) h = by x.status h
-  where
-    by : (st : Status) → waits st ≡ true → runs st ≡ false
-    by Running h = absurd cc
-    by Waiting h = refl
-    by (Ended k n) h = refl
-    by Joined h = refl
-
-pub none_of : {A : Type 0} (o : Option A) → is_some o ≡ false → o ≡ None
-none_of None h = refl
-none_of (Some x) h = absurd (false≢true (sym h))
-
-pub task_by : (ts : List Task) (t : ℕ) (o : Option Task) → slice_get ts t ≡ o → is_running o ≡ true → (x : Task) × (slice_get ts t ≡ Some x) × (is_running (Some x) ≡ true)
-task_by ts t None e h = absurd (false≢true h)
-task_by ts t (Some x) e h = (x, e, h)
 
 marked_heap : (hs : List Heap) (t : ℕ) (o : Option Heap) → slice_get hs t ≡ o → is_some (or_fresh o).marked ≡ true → (h : Heap) × (slice_get hs t ≡ Some h)
 marked_heap hs t None e h = absurd (false≢true h)
@@ -175,10 +158,10 @@ module _ (p : ProgramText) (s : SettingsValue) (journal : List EntryValue) (prog
       let on : l.end ≡ None = none_of l.end (entry_tells p s l e (ap is_none accepted)).0 in
       let rests : Rests l t = legal_idle p s journal legal on t (waiting_stops (slice_get l.machine.tasks t) wait) in
       let swept_then : (heap_of l' t).swept ≡ true = swept_heap_at t (marked_heap l.heaps t (slice_get l.heaps t) refl marked).0 (marked_heap l.heaps t (slice_get l.heaps t) refl marked).1 in
-      let back : (u : ℕ) → Rests l' u → Rests l u = λ u r. sym (view_then (λ h. h.worker) l t swept_heap (λ h. refl) u) ∙ r in
+      let back : (u : ℕ) → Rests l' u → Rests l u = λ u r. sym (heap_view (λ h. h.worker) l t swept_heap (λ h. refl) u) ∙ r in
       put_together e accepted W (swept v v' l l' t (heap_of l t).snapshot S W.homes wait rests L B)
       (sweeps_note v v' l l' t W.homes L swept_then B N (whole_notes v c l W))
-      (λ u r. sym (view_then (λ h. h.worker) l t swept_heap (λ h. refl) u) ∙ r) (λ u r. elim (cases_eq u t) [
+      (λ u r. sym (heap_view (λ h. h.worker) l t swept_heap (λ h. refl) u) ∙ r) (λ u r. elim (cases_eq u t) [
         | inl same ↦ ap (λ z. (v'.homes z).begun) same ∙ (begun ∙ sym (home_rests v l u (v.homes u).begun (W.begun u (back u r)) (legal_rests p s journal legal u (back u r))))
         | inr ne ↦ ap (λ (h : Home). h.begun) (B.others u ne)
       ]) C
@@ -191,7 +174,7 @@ module _ (p : ProgramText) (s : SettingsValue) (journal : List EntryValue) (prog
       let r = none_unless (is_out l w t) _ _ tells.2 in
       let run = (and_parts (is_running (slice_get l.machine.tasks t)) _ r.0).0 in
       let g = heap_of_task l t S run in
-      let x = task_by l.machine.tasks t (slice_get l.machine.tasks t) refl run in
+      let x = running_at l.machine.tasks t (slice_get l.machine.tasks t) refl run in
       let idle = running_idle (slice_get l.machine.tasks t) run in
       let L = end_changes l t in
       let l' : Ledger = with_heap l t (collected l.machine) in
@@ -204,8 +187,8 @@ module _ (p : ProgramText) (s : SettingsValue) (journal : List EntryValue) (prog
       (notes_back t h' v' l' idle' M.1.fits.stands
       (ends_note (with_home v t h) (with_home v' t h') (rested l t) (rested l' t) t (heap_of (rested l t) t).survivors f K.old.fits.stands rest_idle (rested_changes p s t h h' f v v' l x.0 0 S x.1 (runs_is x.0.status x.2) g.0 g.1 K E) M.0
       (record { none = N.none; others = λ u ne. record { keeps = (N.others u ne).keeps; kept = (N.others u ne).kept; marked = (N.others u ne).marked } }) before_notes))
-      (λ u q. sym (view_then (λ z. z.worker) l t (collected l.machine) (λ z. refl) u) ∙ q)
-      (λ u q. ap (λ (z : Home). z.begun) (E.others u (other u (sym (view_then (λ z. z.worker) l t (collected l.machine) (λ z. refl) u) ∙ q)))) C
+      (λ u q. sym (heap_view (λ z. z.worker) l t (collected l.machine) (λ z. refl) u) ∙ q)
+      (λ u q. ap (λ (z : Home). z.begun) (E.others u (other u (sym (heap_view (λ z. z.worker) l t (collected l.machine) (λ z. refl) u) ∙ q)))) C
     where
       none_some : {k : ℕ} → ◌≡◌ {A = Option ℕ} None (Some k) → ⊥
       none_some q = absurd cc

@@ -19,6 +19,7 @@ use Rattle.run_ledger.specs.Heaps.{heap_of, in_use, or_fresh, let_go}
 use Rattle.run_ledger.specs.Steps.{is_private, task_steps}
 use Rattle.run_ledger.proofs.Bounds.{task_steps_steps}
 use Rattle.run_ledger.proofs.Machine.{task_step_machine}
+use Rattle.run_ledger.proofs.Use.{same_use}
 use Rattle.heap_tree.specs.declared.state.State.TheVariants.{Ready, Out, Waiting as Waits, Ended as HasEnded, Joined as HasJoined}
 use Rattle.heap_tree.specs.Node.{Node}
 use Rattle.ledger_step_laws.specs.Accounts.{StepsAlone, rested}
@@ -32,7 +33,7 @@ use Rattle.ledger_step_laws.proofs.Rested.{rested_worker}
 use Rattle.ledger_step_laws.proofs.Split.{worker_step, steps_worker, steps_go}
 use Rattle.core_relation.specs.Whole.{Totals, TotalsStand, state_by, handed}
 use Rattle.core_relation.specs.RanCounts.{node_then, NodesStay, NodeGoes, NodesFork, NodesJoin, HandsStay, LetsGo, RanCounts}
-use Rattle.core_relation.proofs.whole.Counts.{node_of, same_use, with_steps}
+use Rattle.core_relation.proofs.whole.Counts.{node_of, with_steps}
 use Rattle.core_relation.proofs.whole.HandedBack.{alive_machine, handed_on, handed_halt, handed_done}
 use Rattle.core_relation.proofs.whole.RunsOn.{ran_end}
 

@@ -1,5 +1,6 @@
 -- The whole relation past an entry of steps.
 use Rattle.std.proofs.Common.{suc, ◌≡◌, ℕ, false, Option, Some, None, is_none, slice_get, refl, ap, subst, ◌∙◌}
+use Rattle.listed.proofs.Options.{none_of}
 use Rattle.run_trace.specs.Entry.{EntryValue}
 use Rattle.run_trace.specs.declared.entry.Kind.TheVariants.{Ran}
 use Rattle.run_ledger.specs.declared.data.Heap.{Heap}
@@ -20,7 +21,7 @@ use Rattle.core_relation.specs.Whole.{StandsFor}
 use Rattle.core_relation.proofs.whole.HandedBack.{handed_on}
 use Rattle.core_relation.proofs.whole.HandedBack.{alive_machine}
 use Rattle.core_relation.proofs.parts.Workers.{part_now}
-use Rattle.core_relation.proofs.whole.Past.{home_rests, legal_rests, none_of, rests_then}
+use Rattle.core_relation.proofs.whole.Past.{home_rests, legal_rests, rests_then}
 use Rattle.core_relation.proofs.notes.RanBegun.{ran_idle}
 use Rattle.core_relation.proofs.whole.RanCounts.{ran_counts}
 use Rattle.core_relation.proofs.whole.RanPast.{ran_keeps}

@@ -2,6 +2,7 @@ use Rattle.std.proofs.Common.{◌≡◌, None, nat_eq, ◌<◌, ◌∙◌, arith
 use Rattle.std.proofs.lemmas.List.{get_or_read, length-take-le, take_more}
 use Rattle.std.specs.HashMap.{get, spare}
 use Rattle.object_layout.specs.Chunks.{chunk_at, no_chunk}
+use Rattle.kept_pieces.proofs.Levels.{on_ok}
 use Rattle.alloc_path.proofs.HeapLemmas as heap
 use Rattle.alloc_path.proofs.exchange.index_chunks.Goals as goal
 
@@ -15,7 +16,7 @@ loop-i-preserved c =
     let same : c.index-chunks-i.result ≡ chunk_at c.args.chunks.now c.loop-i.i = get_or_read c.args.chunks.now c.loop-i.i c.index-chunks-i.result inside c.index-chunks-i.is no_chunk in
     let len : length (take c.loop-i.i c.args.chunks.now) ≡ c.loop-i.i = length-take-le c.loop-i.i c.args.chunks.now (omega arith) in
     let more = take_more c.args.chunks.now c.loop-i.i c.index-chunks-i.result inside in
-    let updates = (heap.on_ok c.insert.result ok c.insert.ensures.updates).0 in
+    let updates = (on_ok c.insert.result ok c.insert.ensures.updates).0 in
     let unknown = rw (← same) at (c.requires.new c.loop-i.i inside) in
     let none : get nat_eq c.loop-i.table c.index-chunks-i.result.number ≡ None = c.loop-i.invariant.places c.index-chunks-i.result.number ∙ rw (fresh, unknown) refl in
     let entry = heap.new_entry c.insert.result _ _ _ ok c.insert.ensures.old c.insert.ensures.len (rw c.number.ensures none) in

@@ -1,11 +1,8 @@
-use Rattle.std.proofs.Common.{◌≡◌, ◌==◌, ◌%◌, Bool, true, false, refl, ap, sym}
+use Rattle.std.proofs.Common.{◌==◌, ◌%◌, true, false, ap, sym}
 use Rattle.std.proofs.lemmas.Bool.Decides.{Decides-eqb}
+use Rattle.std.proofs.lemmas.Bool.{false_from_ne_true}
 use Rattle.child_tasks.specs.Joins.{left_of, right_of}
 use Rattle.child_tasks.proofs.join.in_order.Goals as goal
-
-off : (b : Bool) → (b ≡ true → ⊥) → b ≡ false
-off true f = absurd (f refl)
-off false f = refl
 
 pub returns-then-own-eq1-clause-left : goal.returns-then-own-eq1-clause-left
 returns-then-own-eq1-clause-left c = sym (ap (λ b. left_of b c.args.own c.args.other) ((Decides-eqb (c.args.own.side.task % 2) 1).1 c.if-own-eq1.true))
@@ -14,7 +11,7 @@ pub returns-then-own-eq1-clause-right : goal.returns-then-own-eq1-clause-right
 returns-then-own-eq1-clause-right c = sym (ap (λ b. right_of b c.args.own c.args.other) ((Decides-eqb (c.args.own.side.task % 2) 1).1 c.if-own-eq1.true))
 
 pub returns-else-own-eq1-clause-left : goal.returns-else-own-eq1-clause-left
-returns-else-own-eq1-clause-left c = sym (ap (λ b. left_of b c.args.own c.args.other) (off (c.args.own.side.task % 2 == 1) (λ h. c.if-own-eq1.false ((Decides-eqb (c.args.own.side.task % 2) 1).0 h))))
+returns-else-own-eq1-clause-left c = sym (ap (λ b. left_of b c.args.own c.args.other) (false_from_ne_true (c.args.own.side.task % 2 == 1) (λ h. c.if-own-eq1.false ((Decides-eqb (c.args.own.side.task % 2) 1).0 h))))
 
 pub returns-else-own-eq1-clause-right : goal.returns-else-own-eq1-clause-right
-returns-else-own-eq1-clause-right c = sym (ap (λ b. right_of b c.args.own c.args.other) (off (c.args.own.side.task % 2 == 1) (λ h. c.if-own-eq1.false ((Decides-eqb (c.args.own.side.task % 2) 1).0 h))))
+returns-else-own-eq1-clause-right c = sym (ap (λ b. right_of b c.args.own c.args.other) (false_from_ne_true (c.args.own.side.task % 2 == 1) (λ h. c.if-own-eq1.false ((Decides-eqb (c.args.own.side.task % 2) 1).0 h))))

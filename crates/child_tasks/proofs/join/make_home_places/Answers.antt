@@ -1,9 +1,9 @@
 use Rattle.std.proofs.Common.{◌≡◌, ℕ, ◌<◌, ◌≤◌, Option, Some, None, List, length, length-set, slice_set, ap, sym, subst, Result, Ok, Err, ◌∙◌}
 use Rattle.std.specs.Prelude.{IfSome, OnOk}
+use Rattle.listed.proofs.Places.{got_set}
 use Rattle.alloc_path.specs.LeafHeapValue.{LeafHeapValue}
 use Rattle.shared_value.specs.declared.task_at_rest.Rest.{Rest}
 use Rattle.shared_value.specs.SharedValue.{flat, rest_at}
-use Rattle.shared_value.proofs.TaskTaken.{put_there}
 use Rattle.child_tasks.specs.Joins.{IsSameRest}
 use Rattle.child_tasks.proofs.join.make_home_places.Goals as goal
 
@@ -12,12 +12,12 @@ returns-in_default-clause-same c =
     let H : List (Option Rest) = c.args.homes.now in
     let t : ℕ = c.args.t in
     let none : rest_at H t ≡ None = ap flat c.at_mut.ensures.value ∙ (sym c.replace.ensures.value ∙ c.in_default.is) in
-    let after : rest_at (slice_set H t c.replace.new.dest) t ≡ None = ap flat (put_there H t c.replace.new.dest c.requires.made) ∙ c.replace.ensures.after in
+    let after : rest_at (slice_set H t c.replace.new.dest) t ≡ None = ap flat (got_set H t c.replace.new.dest c.requires.made) ∙ c.replace.ensures.after in
     subst (λ (o : Option Rest). IsSameRest o (rest_at (slice_set H t c.replace.new.dest) t)) (sym none) after
 
 -- what goes with the task once its home was put back
 put_home : (H hs : List (Option Rest)) (t : ℕ) (o : Option Rest) (r : Rest) → t < length H → hs ≡ slice_set (slice_set H t o) t (Some r) → rest_at hs t ≡ Some r
-put_home H hs t o r made is = ap (λ (xs : List (Option Rest)). rest_at xs t) is ∙ ap flat (put_there (slice_set H t o) t (Some r) (subst (λ n. t < n) (sym (length-set H t o)) made))
+put_home H hs t o r made is = ap (λ (xs : List (Option Rest)). rest_at xs t) is ∙ ap flat (got_set (slice_set H t o) t (Some r) (subst (λ n. t < n) (sym (length-set H t o)) made))
 
 pub returns-clause-same : goal.returns-clause-same
 returns-clause-same c =

@@ -1,11 +1,11 @@
 use Rattle.std.proofs.Common.{Some, option_map, ap, ◌∙◌}
 use Rattle.listed.proofs.Members.{got_other}
+use Rattle.listed.proofs.Places.{got_set}
 use Rattle.write_barrier.specs.Stored.{content_of}
-use Rattle.shared_value.proofs.TaskTaken.{put_there}
 use Rattle.child_tasks.proofs.join.put_remembered.Goals as goal
 
 pub returns-clause-at : goal.returns-clause-at
-returns-clause-at c = ap (option_map content_of) (put_there c.args.sets.now.items c.args.t c.into_set.result c.requires.made) ∙ ap Some c.into_set.ensures
+returns-clause-at c = ap (option_map content_of) (got_set c.args.sets.now.items c.args.t c.into_set.result c.requires.made) ∙ ap Some c.into_set.ensures
 
 pub returns-clause-others : goal.returns-clause-others
 returns-clause-others c = λ u ne. ap (option_map content_of) (got_other c.args.sets.now.items c.args.t u _ ne)

@@ -1,12 +1,12 @@
 use Rattle.std.proofs.Common.{false, true, ◌≡◌, ◌<◌, arith, Some, length, length-set, slice_set, ap, sym, subst, ◌∙◌, ℕ, List, Option, None, refl, slice_get}
 use Rattle.std.proofs.lemmas.Option.{same_Some}
 use Rattle.std.specs.Prelude.{IsSome}
+use Rattle.std.proofs.lemmas.List.{set-set}
 use Rattle.listed.proofs.Members.{got_within}
 use Rattle.alloc_path.specs.LeafHeapValue.{LeafHeapValue}
 use Rattle.inner_mark_gc.specs.MarkingValue.{MarkingValue}
 use Rattle.shared_value.specs.declared.task_at_rest.Rest.{Rest}
 use Rattle.shared_value.specs.SharedValue.{flat, marks_at, rest_at}
-use Rattle.shared_value.proofs.Replaced.{set_twice}
 use Rattle.heap_marking.specs.Sweeping.{SweepsHome}
 use Rattle.heap_marking.proofs.sweep.drop_unmarked.Goals as goal
 
@@ -39,7 +39,7 @@ returns-clause-swept c = λ r m there marked.
       slots = c.sweep.new.heap.slots;
       spare = c.sweep.new.heap.spare;
       homes = c.set.ensures
-          ∙ (set_twice c.args.homes.now c.args.t c.replace.new.dest _
+          ∙ (set-set c.args.homes.now c.args.t c.replace.new.dest _
           ∙ ap (λ (h : LeafHeapValue). slice_set c.args.homes.now c.args.t (Some (let z : Rest = record c.get_mut.result.now { heap = h } in z))) c.sweep.ensures.heap);
       given = c.sweep.ensures.pool;
     }))

@@ -1,8 +1,8 @@
 use Rattle.std.proofs.Common.{◌<◌, length, get_or, set, ◌∙◌, ap, None, Option, arith}
 use Rattle.std.proofs.lemmas.List.Edits.{map_over_more}
+use Rattle.std.proofs.lemmas.List.{get_or_default}
 use Rattle.object_layout.specs.declared.word.Addr.{Addr}
 use Rattle.leaf_copy_gc.specs.Redirected.{followed_ref}
-use Rattle.leaf_copy_gc.proofs.ListLemmas.{read_any}
 use Rattle.leaf_copy_gc.proofs.redirect.follow_all.Goals as goal
 
 pub loop-reference-preserved : goal.loop-reference-preserved
@@ -11,4 +11,4 @@ loop-reference-preserved c =
     let l : c.loop-reference.reference-index < length c.loop-reference.references = omega (arith, c.loop-reference.auto.references) in
     ap (λ (r : Option Addr). set c.loop-reference.references c.loop-reference.reference-index r) c.follow.ensures.value
     ∙ map_over_more (followed_ref c.args.heap.now.chunks) c.args.references.now c.loop-reference.references c.loop-reference.reference-index x c.loop-reference-test.true c.loop-reference.invariant
-    (read_any c.loop-reference.references c.loop-reference.reference-index None x l)
+    (get_or_default c.loop-reference.references c.loop-reference.reference-index None x l)

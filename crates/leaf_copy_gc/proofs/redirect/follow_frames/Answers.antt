@@ -1,4 +1,5 @@
 use Rattle.std.proofs.Common.{◌<◌, length, ap, ◌∙◌, sym, subst, arith, length-append, List, Option, All}
+use Rattle.listed.proofs.Places.{all_from, read_in}
 use Rattle.object_layout.specs.declared.word.Addr.{Addr}
 use Rattle.task_frames.specs.declared.frames.Frame.{Frame}
 use Rattle.task_frames.specs.FramesValue.{frames_of, references_of}
@@ -16,8 +17,8 @@ follow_all-requires c =
     let same = c.references_in-references.ensures
     ∙ (ap (λ (xs : List Frame). references_of xs c.loop-frame.frame) c.loop-frame.invariant ∙ frames.next_frame (followed_ref c.args.heap.now.chunks) fs c.loop-frame.frame within) in
     subst (λ (rs : List (Option Addr)). All (IsTarget c.args.heap.now.chunks) rs) (sym same)
-    (lists.all_from (IsTarget c.args.heap.now.chunks) (references_of fs c.loop-frame.frame)
-    (λ r i. lists.read_in (IsTarget c.args.heap.now.chunks) (held_by fs) r (lists.in_frames fs c.loop-frame.frame r i) c.requires))
+    (all_from (IsTarget c.args.heap.now.chunks) (references_of fs c.loop-frame.frame)
+    (λ r i. read_in (IsTarget c.args.heap.now.chunks) (held_by fs) r (lists.in_frames fs c.loop-frame.frame r i) c.requires))
 
 pub loop-frame-preserved : goal.loop-frame-preserved
 loop-frame-preserved c =

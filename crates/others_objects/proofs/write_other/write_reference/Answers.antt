@@ -1,11 +1,12 @@
 use Rattle.std.proofs.Common.{◌≡◌, ℕ, Some, slice_get, slice_set, ap, ap₂, sym, ◌∙◌}
 use Rattle.std.proofs.lemmas.Option.{same_Some}
+use Rattle.std.proofs.lemmas.List.{set-set}
 use Rattle.object_layout.specs.Cell.{with_ref}
 use Rattle.object_layout.specs.Chunks.{cell_of}
 use Rattle.alloc_path.specs.LeafHeapValue.{LeafHeapValue}
 use Rattle.shared_value.specs.declared.task_at_rest.Rest.{Rest}
 use Rattle.shared_value.specs.SharedValue.{flat}
-use Rattle.shared_value.proofs.Replaced.{on_err, on_ok, set_back, set_twice}
+use Rattle.shared_value.proofs.Replaced.{on_err, on_ok, set_back}
 use Rattle.others_objects.specs.Other.{put_rest}
 use Rattle.others_objects.proofs.write_other.write_reference.Goals as goal
 
@@ -18,7 +19,7 @@ returns-clause-written c = λ o r e f.
     let new : Rest = record c.get_mut.result.now { heap = c.store-done.new.words } in
     on_ok c.store-done.result (λ h.
     c.set.ensures
-    ∙ (set_twice c.args.homes.now u c.replace.new.dest (Some new)
+    ∙ (set-set c.args.homes.now u c.replace.new.dest (Some new)
     ∙ ap₂ (λ k x. slice_set c.args.homes.now k (Some x)) same
     (ap (λ (x : LeafHeapValue). let z : Rest = record c.get_mut.result.now { heap = x } in z) h ∙ ap (λ (x : Rest). put_rest x c.args.object (with_ref (cell_of x.heap.chunks c.args.object) c.args.field c.args.value)) is))) c.store-done.ensures.field
 

@@ -1,4 +1,5 @@
 use Rattle.std.proofs.Common.{◌∙◌, None, sym}
+use Rattle.std.proofs.lemmas.Option.{get_or_from_slice_get}
 use Rattle.remembered_set.proofs.MovedLemmas as lemma
 use Rattle.remembered_set.proofs.table.redirect.Goals as goal
 
@@ -8,6 +9,6 @@ set_ref_field-requires-clause-place g c =
 
 pub returns : goal.returns
 returns g c =
-    let held = lemma.read_at _ c.args.source.field _ None c.ref_field.ensures.value ∙ c.in-Some.is in
+    let held = get_or_from_slice_get _ c.args.source.field _ None c.ref_field.ensures.value ∙ c.in-Some.is in
     let new = sym c.new_of.ensures ∙ c.in-Some-new_of.is in
     rw (held, new) c.set_ref_field.ensures

@@ -1,5 +1,6 @@
 use Rattle.std.proofs.Common.{◌≡◌, ◌<◌, arith, length}
 use Rattle.kept_pieces.proofs.PieceLists as lists
+use Rattle.kept_pieces.proofs.Levels.{on_ok}
 use Rattle.alloc_path.proofs.HeapLemmas as heap
 use Rattle.alloc_path.proofs.space.Space.add_spare.Goals as goal
 
@@ -9,7 +10,7 @@ invariant_of-self c =
     let spare = rw (← c.self.view_is) at c.requires.spare in
     let len : c.len-place.result ≡ length c.self.inside.chunks.items = omega arith in
     let size : c.args.chunk.size ≡ 1024 = omega arith in
-    let writes = rw (c.number-number.ensures, len) at (heap.on_ok c.insert.result (c.insert.ensures.succeeds spare) c.insert.ensures.updates).0 in
+    let writes = rw (c.number-number.ensures, len) at (on_ok c.insert.result (c.insert.ensures.succeeds spare) c.insert.ensures.updates).0 in
     let none = heap.none_kept c.self.inside.chunks.items c.self.inside.base c.args.chunk.number _ (c.self.invariant.table c.args.chunk.number) fresh in
     let entries = heap.new_entry c.insert.result _ _ _ (c.insert.ensures.succeeds spare) c.insert.ensures.old c.insert.ensures.len (rw c.number-number.ensures none) in
     rw (c.push_reserved.ensures.items, len, entries)
@@ -21,7 +22,7 @@ invariant_of-self-else-is_small c =
     let spare = rw (← c.self.view_is) at c.requires.spare in
     let len : c.len-place.result ≡ length c.self.inside.chunks.items = omega arith in
     let size : 1024 < c.args.chunk.size = omega arith in
-    let writes = rw (c.number-number.ensures, len) at (heap.on_ok c.insert.result (c.insert.ensures.succeeds spare) c.insert.ensures.updates).0 in
+    let writes = rw (c.number-number.ensures, len) at (on_ok c.insert.result (c.insert.ensures.succeeds spare) c.insert.ensures.updates).0 in
     let none = heap.none_kept c.self.inside.chunks.items c.self.inside.base c.args.chunk.number _ (c.self.invariant.table c.args.chunk.number) fresh in
     let entries = heap.new_entry c.insert.result _ _ _ (c.insert.ensures.succeeds spare) c.insert.ensures.old c.insert.ensures.len (rw c.number-number.ensures none) in
     rw (c.push_reserved.ensures.items, len, entries)

@@ -1,4 +1,5 @@
 use Rattle.std.proofs.Common.{◌≡◌, ◌+◌, get_or, refl, sym, ap, ◌∙◌, subst}
+use Rattle.std.proofs.lemmas.List.{get_or_default}
 use Rattle.object_layout.specs.declared.word.Addr.{Addr}
 use Rattle.object_layout.specs.Graph.{Leads}
 use Rattle.inner_mark_gc.specs.MarkingValue.{MarkingValue}
@@ -11,7 +12,7 @@ returns-clause-finds c = λ none.
     let object : Addr = c.index-object.result.now in
     let v = c.self-2.view_is in
     let here = ap (λ (m : MarkingValue). get_or m.found m.marked object) c.self.view_is in
-    let next : object ≡ get_or c.args.self.now.found c.args.self.now.marked none = c.index-object.ensures ∙ (here ∙ finding.read_any c.args.self.now.found c.args.self.now.marked object none c.requires.next) in
+    let next : object ≡ get_or c.args.self.now.found c.args.self.now.marked none = c.index-object.ensures ∙ (here ∙ get_or_default c.args.self.now.found c.args.self.now.marked object none c.requires.next) in
     finding.finds_counted (Leads c.args.heap.now.chunks object) (Leads c.args.heap.now.chunks (get_or c.args.self.now.found c.args.self.now.marked none)) c.args.self.now c.visit_refs.new.self _ _
     (λ a i. subst (λ (b : Addr). Leads c.args.heap.now.chunks b a) next i) (λ a i. subst (λ (b : Addr). Leads c.args.heap.now.chunks b a) (sym next) i)
     finds refl (ap (λ (m : MarkingValue). m.found) v) (ap (λ (m : MarkingValue). m.marked + 1) v ∙ ap (λ n. n + 1) finds.marked) (ap (λ (m : MarkingValue). m.followed) v ∙ finds.followed)

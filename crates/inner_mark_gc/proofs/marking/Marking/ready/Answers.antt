@@ -1,6 +1,7 @@
 use Rattle.std.proofs.Common.{◌≡◌, List, All, length, drop, true, sym, ap, subst, arith, rules, vec_len}
 use Rattle.object_layout.specs.declared.word.Addr.{Addr}
 use Rattle.listed.proofs.Members.{contains_from_in, in_from_contains}
+use Rattle.listed.proofs.Places.{all_from}
 use Rattle.inner_mark_gc.specs.MarkingValue.{MarkingValue, has_address}
 use Rattle.inner_mark_gc.proofs.Addresses as addresses
 use Rattle.inner_mark_gc.proofs.Finding as finding
@@ -20,7 +21,7 @@ returns-then-self-len-clause-ready c = λ f s k.
     let rest = finding.rest_is c.args.kept.now c.self.inside.followed m.followed (ap (λ (n : MarkingValue). n.followed) v) in
     let e = c.has_all.ensures in (
       λ r. marked.nothing_left f c.args.kept.now m k all_marked (λ a d. contains_from_in m.found a (addresses.has_in m.found a (finding.held_in (λ a. has_address m.found a ≡ true) (drop m.followed c.args.kept.now) a (subst (λ (xs : List Addr). All (λ a. has_address m.found a ≡ true) xs) rest (e.0 r)) d))),
-      λ all. e.1 (subst (λ (xs : List Addr). All (λ a. has_address m.found a ≡ true) xs) (sym rest) (finding.all_from (λ a. has_address m.found a ≡ true) (drop m.followed c.args.kept.now)
+      λ all. e.1 (subst (λ (xs : List Addr). All (λ a. has_address m.found a ≡ true) xs) (sym rest) (all_from (λ a. has_address m.found a ≡ true) (drop m.followed c.args.kept.now)
           (λ x i. addresses.in_has m.found x (in_from_contains m.found x (marked.all_kept_found f c.args.kept.now c.args.heap.now.chunks m s c.requires.kept all x (contains_from_in c.args.kept.now x (marked.in_drop m.followed c.args.kept.now x i))))))),
     )
 

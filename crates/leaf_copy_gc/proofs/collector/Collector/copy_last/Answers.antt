@@ -5,12 +5,12 @@ use Rattle.object_layout.specs.Chunks.{cell_of, put_object}
 use Rattle.object_layout.specs.ChunkValue.{ChunkValue}
 use Rattle.object_layout.specs.declared.word.Addr.{Addr}
 use Rattle.object_layout.proofs.ChunkLaws as laws
+use Rattle.object_layout.proofs.ChunkLaws.{length-put}
 use Rattle.leaf_copy_gc.specs.Survivors.{with_chunks}
 use Rattle.leaf_copy_gc.specs.Laid.{next_place, placed}
 use Rattle.leaf_copy_gc.specs.Copying.{survivor_cell}
 use Rattle.leaf_copy_gc.proofs.Evacuated as evacuated
 use Rattle.leaf_copy_gc.proofs.Places as places
-use Rattle.leaf_copy_gc.proofs.Puts as puts
 use Rattle.leaf_copy_gc.proofs.collector.Collector.copy_last.Goals as goal
 
 pub returns : goal.returns
@@ -35,7 +35,7 @@ invariant_of-self c =
     let old : Addr = c.args.survivor.old in
     let objects = places.fewer_moved h old c.move_last-address.result in
     let gone : Cell = with_mark (cell_of h old) (Moved c.move_last-address.result) in
-    let chunks = puts.length_put h old gone in
+    let chunks = length-put h old gone in
     let places_are = c.self.invariant.0 in
     let room = c.push_reserved.ensures.capacity in
     rw c.move_last-address.ensures.left (

@@ -4,6 +4,7 @@ use Rattle.object_layout.specs.Cell.{Cell, Moved, with_mark}
 use Rattle.object_layout.specs.ChunkValue.{ChunkValue}
 use Rattle.object_layout.specs.Chunks.{cell_of}
 use Rattle.object_layout.proofs.ChunkLaws as laws
+use Rattle.object_layout.proofs.ChunkLaws.{length-put}
 use Rattle.leaf_copy_gc.specs.CollectorValue.{CollectorValue}
 use Rattle.leaf_copy_gc.specs.Search.{IsTarget}
 use Rattle.leaf_copy_gc.specs.declared.discovery.Live.{Live}
@@ -41,7 +42,7 @@ invariant_of-self c =
     let live = founds.visit_live h c.in-Some.address c.in-Some-live_at.live.birth (option_map name c.live_at.result) c.live_at.ensures.birth (ap (option_map name) c.in-Some-live_at.is) in
     let count = puts.count_found h c.in-Some.address c.in-Some.address live in
     let found : Cell = with_mark (cell_of h c.in-Some.address) (Moved c.in-Some.address) in
-    let same = puts.length_put h c.in-Some.address found in
+    let same = length-put h c.in-Some.address found in
     let len = c.push_reserved.ensures.len in
     let places = c.self.invariant.0 in
     rw c.forward_in.ensures (

@@ -1,4 +1,5 @@
 use Rattle.std.proofs.Common.{◌≡◌, ◌<◌, length, List, Option, sym, ap, ◌∙◌, subst, fold, All, arith, length-append}
+use Rattle.listed.proofs.Places.{all_from, read_in}
 use Rattle.object_layout.specs.declared.word.Addr.{Addr}
 use Rattle.task_frames.specs.FramesValue.{frames_of, references_of}
 use Rattle.leaf_copy_gc.specs.Survivors.{held_by}
@@ -12,8 +13,8 @@ pub visit_all-requires : goal.visit_all-requires
 visit_all-requires c =
     let same = c.references_in-references.ensures in
     subst (λ (rs : List (Option Addr)). All (IsTarget c.loop-frame.self.heap.chunks) rs) (sym same)
-    (lists.all_from (IsTarget c.loop-frame.self.heap.chunks) (references_of (frames_of c.args.frames.now) c.loop-frame.frame)
-    (λ r i. lists.read_in (IsTarget c.loop-frame.self.heap.chunks) (held_by (frames_of c.args.frames.now)) r (lists.in_frames (frames_of c.args.frames.now) c.loop-frame.frame r i) c.loop-frame.invariant.targets))
+    (all_from (IsTarget c.loop-frame.self.heap.chunks) (references_of (frames_of c.args.frames.now) c.loop-frame.frame)
+    (λ r i. read_in (IsTarget c.loop-frame.self.heap.chunks) (held_by (frames_of c.args.frames.now)) r (lists.in_frames (frames_of c.args.frames.now) c.loop-frame.frame r i) c.loop-frame.invariant.targets))
 
 pub loop-frame-preserved : goal.loop-frame-preserved
 loop-frame-preserved c =

@@ -1,4 +1,5 @@
 use Rattle.std.proofs.Common.{Some, Option, get_or, map, sym, ap, ◌∙◌}
+use Rattle.listed.proofs.Places.{in_map, in_read, read_in}
 use Rattle.object_layout.specs.declared.word.Addr.{Addr}
 use Rattle.leaf_copy_gc.specs.Survivors.{as_reference}
 use Rattle.leaf_copy_gc.specs.CollectorValue.{CollectorValue}
@@ -13,8 +14,8 @@ nowhere = record { chunk = 0; offset = 0 }
 pub visit-requires : goal.visit-requires
 unfolding nowhere
 visit-requires c =
-    lists.read_in (IsTarget c.loop-root.self.heap.chunks) (map as_reference c.args.roots.now) (Some (get_or c.args.roots.now c.loop-root.root-index nowhere))
-    (lists.in_map as_reference c.args.roots.now _ (lists.in_read_any c.args.roots.now c.loop-root.root-index nowhere c.loop-root-test.true)) c.loop-root.invariant.targets
+    read_in (IsTarget c.loop-root.self.heap.chunks) (map as_reference c.args.roots.now) (Some (get_or c.args.roots.now c.loop-root.root-index nowhere))
+    (in_map as_reference c.args.roots.now _ (in_read c.args.roots.now c.loop-root.root-index nowhere c.loop-root-test.true)) c.loop-root.invariant.targets
 
 pub loop-root-preserved : goal.loop-root-preserved
 unfolding nowhere

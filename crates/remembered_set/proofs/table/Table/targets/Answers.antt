@@ -2,9 +2,9 @@ use Rattle.std.proofs.Common.{◌∙◌, None, append_assoc, get_or}
 use Rattle.std.specs.Prelude.{nat_eq}
 use Rattle.std.specs.HashSet.{contains}
 use Rattle.std.proofs.lemmas.List.{drop_more}
+use Rattle.std.proofs.lemmas.Option.{get_or_from_slice_get}
 use Rattle.remembered_set.specs.declared.remembered.Source.{Source}
 use Rattle.remembered_set.specs.Sources.{has_chunk}
-use Rattle.remembered_set.proofs.MovedLemmas.{read_at}
 use Rattle.remembered_set.proofs.SourceLemmas as lemma
 use Rattle.remembered_set.proofs.table.Table.targets.Goals as goal
 
@@ -17,7 +17,7 @@ loop-source-preserved g c =
     let fields = rw more at c.loop-source.invariant.fields in
     let rest = rw more at c.loop-source.invariant.rest in
     let held =
-    read_at (g.W.Words.refs_at c.args.words.now (get_or c.deref-source-items.result.now c.loop-source.source-index none).object)
+    get_or_from_slice_get (g.W.Words.refs_at c.args.words.now (get_or c.deref-source-items.result.now c.loop-source.source-index none).object)
     (get_or c.deref-source-items.result.now c.loop-source.source-index none).field c.ref_field-held.result None c.ref_field-held.ensures.value in
     let same = lemma.into_same (contains nat_eq c.number_chunks.new.numbers) (has_chunk c.args.heap.now) c.number_chunks.ensures.known c.ref_field-held.result in
     record {

@@ -1,6 +1,7 @@
 use Rattle.std.proofs.Common.{◌≡◌, ℕ, All, List, None, Option, fold, is_some, slice_get, true, refl, ap, ap₂, sym, subst, ◌∙◌, ◌<◌}
 use Rattle.std.specs.Prelude.{IsSome}
 use Rattle.listed.specs.RoomyValue.{RoomyValue}
+use Rattle.listed.proofs.Places.{all_from}
 use Rattle.run_trace.specs.Entry.{EntryValue}
 use Rattle.object_layout.specs.declared.word.Addr.{Addr}
 use Rattle.object_layout.specs.ChunkValue.{ChunkValue}
@@ -9,7 +10,6 @@ use Rattle.remembered_set.specs.Moved.{AreFields, redirected, AreInOrder, ArePla
 use Rattle.remembered_set.specs.Sources.{StandOnce}
 use Rattle.write_barrier.specs.declared.sets.SetOf.{SetOf}
 use Rattle.leaf_copy_gc.specs.declared.lists.Moved.{Moved}
-use Rattle.leaf_copy_gc.proofs.ListLemmas.{all_from}
 use Rattle.task_machine.specs.declared.part.Private.{Private}
 use Rattle.shared_value.specs.declared.heaps.Heaps.{Heaps}
 use Rattle.shared_value.specs.declared.task_at_rest.Rest.{Rest}
