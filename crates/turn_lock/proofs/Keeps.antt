@@ -1,7 +1,8 @@
 -- Each step of the turn keeps its rule.
 use Rattle.std.proofs.Common.{◌≡◌, ◌≢◌, ◌⊎◌, ℕ, ◌+◌, ◌-◌, ◌*◌, ◌/◌, ◌%◌, ◌^◌, ◌<◌, ◌≤◌, true, List, [], ◌∷◌, ◌++◌, length, slice_index, set, sym, refl, ap, ◌∙◌, subst, arith, ⊎_elim, inl, inr, Option, Some, None, length-set, get_or-set_same, length-append, append-nil, append_assoc, is_some, unwrap_or, option_map, IfSome, true≢false, eq-zero-or-pos}
+use Rattle.std.proofs.lemmas.Option.{same_Some}
 use mathlib.Core.Logic.{dite}
-use mathlib.Core.Option.{none, some, some-injective}
+use mathlib.Core.Option.{none, some}
 use mathlib.Core.Option as maybe
 use native.Mathlib.Decide.{ℕ_discrete}
 use lib.ListN.{get_elem?}
@@ -24,9 +25,6 @@ set_last a =
 
 pub some_apart : {A : Type 0} (o : Option A) (x : A) → o ≡ Some x → o ≡ None → ⊥
 some_apart o x e n = true≢false (ap is_some (sym e ∙ n))
-
-pub some_one : {A : Type 0} (x y : A) → Some x ≡ Some y → x ≡ y
-some_one x y e = ap (λ o. unwrap_or o x) e
 
 apart_snoc : {E : Type 0} (by : E → ℕ) (w : ℕ) (es : List E) (e : E) → NoneBy by w es → by e ≢ w → NoneBy by w (es ++ e ∷ [])
 apart_snoc by w [] e f apart = (apart, tt)
@@ -168,7 +166,7 @@ module _ {T E P S : Type 0} (journal : T → List E) (by : E → ℕ) (fits : T 
       → (slice_index s.words 0 ≡ 2 * length (journal t) + 1) × (r.value ≡ t) × ((i : ℕ) (u : V) → get_elem? s.views i ≡ some u → i ≢ id → u.taken ≡ None)
   holder s r id v t at has = ⊎_elim (λ (f : Free s r.value). absurd (some_apart v.taken t has (f.2 id v at)))
       (λ (h : Held s r.value). dite (ℕ_discrete id h.1)
-      (λ is. let one = one_there s.views h.1 id h.2 v h.3 at (sym is) in let is_t : r.value ≡ t = some_one r.value t (sym h.5 ∙ (ap (λ (z : V). z.taken) one ∙ has)) in
+      (λ is. let one = one_there s.views h.1 id h.2 v h.3 at (sym is) in let is_t : r.value ≡ t = same_Some r.value t (sym h.5 ∙ (ap (λ (z : V). z.taken) one ∙ has)) in
       (h.0 ∙ ap (λ (z : T). 2 * length (journal z) + 1) is_t, is_t, λ i u e not. h.6 i u e (λ e'. not (e' ∙ sym is))))
       (λ apart. absurd (some_apart v.taken t has (h.6 id v at apart))))
       r.turn
@@ -237,7 +235,7 @@ module _ {T E P S : Type 0} (journal : T → List E) (by : E → ℕ) (fits : T 
             }
             (λ j u not e l. knows_more t x u v.worker more (subst (λ (z : T). SeesIt z u) h.1 (r.knows j u e l)) (λ e'. not (r.seats.once j id u v e at l live (sym e' ∙ more.by_worker)))
             (λ zero_worker. subst (λ (z : ℕ). z < u.count) (sym more.by_worker) (r.seats.counted j id u v e at l live zero_worker))),
-        ((λ y e. λ i. (with_given v (held_one x y e i) (journal (held_one x y e i)) part, [])), λ y e. subst (λ (z : T). Knows journal by fits setup z v) (some_one t y (sym has ∙ e)) before.known),
+        ((λ y e. λ i. (with_given v (held_one x y e i) (journal (held_one x y e i)) part, [])), λ y e. subst (λ (z : T). Knows journal by fits setup z v) (same_Some t y (sym has ∙ e)) before.known),
       )
 
   pub gives_keep : (slots id : ℕ) (m : M) (v : V) (t x : T) (part : Option P) → slots ≡ 1 → v.live ≡ true → v.taken ≡ Some t → m ≡ (v, (0, Some x) ∷ []) → Extends journal by fits setup t x v.worker
@@ -270,7 +268,7 @@ module _ {T E P S : Type 0} (journal : T → List E) (by : E → ℕ) (fits : T 
         hands s r id ((n + (2 ^ 64 - 1)) % 2 ^ 64) v t x v.part (wide ∙ single) at live has (omega arith)
             record { known = record { rest = []; begins = sym (append-nil (journal x)); others = tt; looked = k.known.looked; part = k.known.part; setup_is = k.known.setup_is }; below = λ _ _. tt; joined = k.joined }
             (λ j u not e l. knows_same t x u alike (subst (λ (z : T). SeesIt z u) h.1 (r.knows j u e l))),
-        ((λ y e. λ i. (with_given v (held_one x y e i) (journal (held_one x y e i)) v.part, [])), λ y e. subst (λ (z : T). Knows journal by fits setup z v) (some_one t y (sym has ∙ e)) before.known),
+        ((λ y e. λ i. (with_given v (held_one x y e i) (journal (held_one x y e i)) v.part, [])), λ y e. subst (λ (z : T). Knows journal by fits setup z v) (same_Some t y (sym has ∙ e)) before.known),
       )
 
   pub returns_keep : (slots id : ℕ) (m : M) (v : V) (t x : T) → slots ≡ 1 → v.live ≡ true → v.taken ≡ Some t → m ≡ (v, (0, Some x) ∷ []) → IsAlike journal by fits setup t x
@@ -280,4 +278,4 @@ module _ {T E P S : Type 0} (journal : T → List E) (by : E → ℕ) (fits : T 
 
 pub fitting : {P : Type 0} (fit : P → Type 0) (part : Option (Bor P)) (p : P) → option_map (λ (b : Bor P). b.now) part ≡ Some p → IfSome part (λ (b : Bor P). fit b.now) → fit p
 fitting fit None p e h = absurd (true≢false (ap is_some (sym e)))
-fitting fit (Some b) p e h = subst fit (some_one b.now p e) h
+fitting fit (Some b) p e h = subst fit (same_Some b.now p e) h

@@ -1,5 +1,6 @@
 -- The seats as `new` makes them, and as `close` joins them.
 use Rattle.std.proofs.Common.{◌≡◌, ◌⊎◌, ℕ, zero, suc, ◌+◌, ◌-◌, ◌<◌, true, List, [], ◌∷◌, ◌++◌, length, slice_get, get_or, insert, remove, sym, refl, ap, ◌∙◌, subst, arith, ⊎_elim, inl, inr, Option, Some, None, length-append, append_assoc}
+use Rattle.std.proofs.lemmas.Option.{same_Some}
 use mathlib.Core.Option.{some, some-injective, some-ne-none}
 use lib.ListN.{get_elem?}
 use Rattle.atomic_table.specs.Seated.{TableId}
@@ -8,10 +9,10 @@ use Rattle.turn_lock.specs.declared.view.View.{View}
 use Rattle.turn_lock.specs.Journal.{NoneBy}
 use Rattle.turn_lock.specs.Seats.{opening_view, newcomer, view, HasNoTurn, AreNewSeats, AreAllSeats, IsLeftBy}
 use Rattle.turn_lock.specs.Rule.{Sees, HasAll, split_view, with_joined}
-use Rattle.turn_lock.proofs.Keeps.{some_apart, some_one}
+use Rattle.turn_lock.proofs.Keeps.{some_apart}
 
 get_snoc : {A : Type 0} (l : List A) (a b : A) (j : ℕ) → slice_get (l ++ a ∷ []) j ≡ Some b → (slice_get l j ≡ Some b) ⊎ ((j ≡ length l) × (a ≡ b))
-get_snoc [] a b zero e = inr (refl, some_one a b e)
+get_snoc [] a b zero e = inr (refl, same_Some a b e)
 get_snoc [] a b (suc j) e = absurd (some_apart None b e refl)
 get_snoc (x ∷ xs) a b zero e = inl e
 get_snoc (x ∷ xs) a b (suc j) e = ⊎_elim (λ h. inl h) (λ (t : (j ≡ length xs) × (a ≡ b)). inr (ap suc t.0, t.1)) (get_snoc xs a b j e)
@@ -46,7 +47,7 @@ module _ {T E P S : Type 0} where
   are_new z v n t seats idle is long r = ((omega arith), each)
     where
       each : (k : ℕ) (s : Seat (Option T) (View T E P S)) → slice_get (t ∷ seats) k ≡ Some s → HasNoTurn z s × (view s ≡ newcomer v k n)
-      each zero s e = let one = some_one t s e in (subst (HasNoTurn z) one idle, ap view (sym one) ∙ is)
+      each zero s e = let one = same_Some t s e in (subst (HasNoTurn z) one idle, ap view (sym one) ∙ is)
       each (suc k) s e = r k s e
 
   abbrev pub joined_all : View T E P S → List (Seat (Option T) (View T E P S)) → View T E P S
@@ -67,7 +68,7 @@ module _ {T E P S : Type 0} where
 
   joined_at : (v : View T E P S) (ss : List (Seat (Option T) (View T E P S))) (k : ℕ) (s : Seat (Option T) (View T E P S)) → slice_get ss k ≡ Some s → get_elem? (joined_all v ss).joined k ≡ some ((view s).worker, (view s).seen)
   joined_at v [] k s e = absurd (some_apart None s e refl)
-  joined_at v (d ∷ ds) zero s e = ap (λ (z : Seat (Option T) (View T E P S)). some ((view z).worker, (view z).seen)) (some_one d s e)
+  joined_at v (d ∷ ds) zero s e = ap (λ (z : Seat (Option T) (View T E P S)). some ((view z).worker, (view z).seen)) (same_Some d s e)
   joined_at v (d ∷ ds) (suc k) s e = joined_at v ds k s e
 
   joined_from : (v : View T E P S) (ss : List (Seat (Option T) (View T E P S))) (j k : ℕ) (l : List E) → v.joined ≡ [] → get_elem? (joined_all v ss).joined j ≡ some (k, l)
@@ -127,11 +128,11 @@ module _ {T E P S : Type 0} (journal : T → List E) (by : E → ℕ) (fits : T 
     begins = λ k s e. let b = begins k s e in (b.0, b.1, subst (λ (n : ℕ). NoneBy by n b.0) (number k s (ap (λ (l : List Chair). slice_get l k) is ∙ e)) b.2);
     longest = ⊎_elim (λ (h : (joined_all (view s0) done).seen ≡ journal x). (0, s0, refl, sym (lasts (view s0) done).seen ∙ h))
         (λ (h : (j : ℕ) × (k : ℕ) × (l : List E) × (get_elem? (joined_all (view s0) done).joined j ≡ some (k, l)) × (l ≡ journal x)). let f = joined_from (view s0) done h.0 h.1 h.2 none_joined h.3 in (suc h.0, f.0, f.1, f.2 ∙ h.4)) whole;
-    same_setup = λ s e. ap (λ (z : Chair). (view z).setup) (sym (some_one s0 s e)) ∙ (sym (lasts (view s0) done).setup ∙ knows.known.setup_is);
+    same_setup = λ s e. ap (λ (z : Chair). (view z).setup) (sym (same_Some s0 s e)) ∙ (sym (lasts (view s0) done).setup ∙ knows.known.setup_is);
   }
     where
       begins : (k : ℕ) (s : Chair) → slice_get (s0 ∷ done) k ≡ Some s → (more : List E) × (journal x ≡ (view s).seen ++ more) × NoneBy by (view s).worker more
-      begins zero s e = subst (λ (z : Chair). (more : List E) × (journal x ≡ (view z).seen ++ more) × NoneBy by (view z).worker more) (some_one s0 s e)
+      begins zero s e = subst (λ (z : Chair). (more : List E) × (journal x ≡ (view z).seen ++ more) × NoneBy by (view z).worker more) (same_Some s0 s e)
           (knows.known.rest, knows.known.begins ∙ ap (λ (l : List E). l ++ knows.known.rest) (lasts (view s0) done).seen, subst (λ (n : ℕ). NoneBy by n knows.known.rest) (lasts (view s0) done).worker knows.known.others)
       begins (suc k) s e = let j = knows.joined k (view s).worker (view s).seen (joined_at (view s0) done k s e) in (j.2, j.3, j.4)
 

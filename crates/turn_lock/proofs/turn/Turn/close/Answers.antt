@@ -1,9 +1,9 @@
 use Rattle.std.proofs.Common.{rules, ◌≡◌, ◌-◌, [], ◌∷◌, ◌++◌, slice_get, ap, sym, ◌∙◌, subst, Some}
+use Rattle.std.proofs.lemmas.Option.{same_Some}
 use mathlib.Core.Option.{some-injective}
 use Rattle.turn_lock.specs.Seats.{view}
 use Rattle.turn_lock.specs.Rule.{Sees, HasAll}
 use Rattle.turn_lock.proofs.SplitJoin.{merges, ends}
-use Rattle.turn_lock.proofs.Keeps.{some_one}
 use Rattle.turn_lock.proofs.SeatLists.{joined_all, removed_first, may_join, is_last, gathers, emptied}
 use Rattle.turn_lock.proofs.Laws.{own_at_end}
 use Rattle.turn_lock.proofs.turn.Turn.close.Goals as goal
@@ -41,7 +41,7 @@ returns-clause-value g c = let inv = c.loop-other.invariant in let s0 = c.remove
     let is : all ≡ s0 ∷ inv.0 = cut ∙ ap (λ l. s0 ∷ l) (sym c.remove-first.ensures.items ∙ (inv.1 ∙ ap (λ l. l ++ inv.0) none_left)) in
     let last = is_last c.args.self.table.shared.table_id all s0 inv.0 c.requires is in let now = inv.3 in let f = c.close_with.ensures.values.2 in
     let e = ends g.T.Kept.journal g.T.Kept.worker_of g.T.Kept.fits g.T.Kept.setup _ _ f.0 f.1 (ap (λ m. m.0.live) now ∙ last.live) (ap (λ m. m.0.worker) now ∙ last.first) (ap (λ m. m.0.count) now ∙ last.alone) (ap (λ m. m.0.taken) now ∙ last.idle) in
-    let home = f.4 0 (Some e.0) e.1 in let one : e.0 ≡ c.value_at_home.result = some_one e.0 c.value_at_home.result (some-injective (Some e.0) (Some c.value_at_home.result) (sym home ∙ c.value_at_home.ensures)) in
+    let home = f.4 0 (Some e.0) e.1 in let one : e.0 ≡ c.value_at_home.result = same_Some e.0 c.value_at_home.result (some-injective (Some e.0) (Some c.value_at_home.result) (sym home ∙ c.value_at_home.ensures)) in
     let at0 = ap (λ l. slice_get l 0) is in let own_view : c.loop-other.first.me.0 ≡ joined_all (view s0) inv.0 = ap (λ m. m.0) now in
     gathers g.T.Kept.journal g.T.Kept.worker_of g.T.Kept.fits g.T.Kept.setup c.value_at_home.result all s0 inv.0 is (c.requires.first_seat s0 at0).1 (λ k s e. (c.requires.each_seat k s e).1)
     (subst (λ x. Sees g.T.Kept.journal g.T.Kept.worker_of g.T.Kept.fits g.T.Kept.setup x (joined_all (view s0) inv.0)) one (subst (λ v. Sees g.T.Kept.journal g.T.Kept.worker_of g.T.Kept.fits g.T.Kept.setup e.0 v) own_view e.3))
