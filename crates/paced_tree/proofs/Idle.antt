@@ -1,5 +1,5 @@
 -- What is kept before the first entry, and where no entry is made.
-use Rattle.std.proofs.Common.{◌≡◌, ℕ, zero, suc, ◌+◌, ◌<◌, List, [], ◌∷◌, ◌++◌, length, slice_get, replicate, inl, inr, refl, ap, sym, subst, ◌∙◌, arith, length-append}
+use Rattle.std.proofs.Common.{◌≡◌, ℕ, ◌+◌, ◌<◌, List, [], ◌∷◌, ◌++◌, length, slice_get, inl, inr, refl, ap, sym, subst, ◌∙◌, arith, length-append}
 use Rattle.std.proofs.lemmas.Bool.{cases_eq, cases_lt}
 use Rattle.std.proofs.lemmas.Option.{same_Some}
 use Rattle.listed.proofs.Members.{got_back, got_front, got_within}
@@ -7,6 +7,7 @@ use Rattle.run_trace.specs.Settings.{SettingsValue}
 use Rattle.run_ledger.specs.Journals.{ledger_of}
 use Rattle.run_ledger.specs.Pace.{idle, is_paced, pace_at_end, pace_of}
 use Rattle.run_ledger.specs.declared.data.Ledger.{Ledger}
+use Rattle.run_ledger.proofs.PaceLaw.{idle_at}
 use Rattle.shared_value.specs.declared.answer.NotEntered.{NotEntered}
 use Rattle.shared_value.specs.declared.answer.NotEntered.TheVariants.{NoMemory, Refuses}
 use Rattle.shared_value.specs.SharedValue.{SharedValue, accounts}
@@ -35,11 +36,6 @@ idle_push paces n q I p m = record {
   ];
 }
 
-idle_of : (n k : ℕ) → pace_of (replicate n idle) k ≡ idle
-idle_of zero k = refl
-idle_of (suc n) zero = refl
-idle_of (suc n) (suc k) = idle_of n k
-
 idle_kept : (l : Ledger) (q : Pace) → q.previous ≡ Other → q.marks.items ≡ [] → KeepsPace l q idle
 idle_kept l q p m = record { previous = subst (λ a. KeepsPrevious l a idle.previous) (sym p) tt; marks = m }
 
@@ -48,7 +44,7 @@ pub opening_kept : (w : SharedValue) (paces : List Pace) → w.journal.items ≡
 opening_kept w paces none I = record {
   paced = ap (is_paced w.program w.settings) none;
   workers = I.many;
-  keeps = λ on k q at. subst (λ x. KeepsPace (accounts w) q x) (sym (ap (λ j. pace_of (pace_at_end w.program w.settings j) k) none ∙ idle_of w.settings.workers k)) (idle_kept (accounts w) q (I.each k q at).0 (I.each k q at).1);
+  keeps = λ on k q at. subst (λ x. KeepsPace (accounts w) q x) (sym (ap (λ j. pace_of (pace_at_end w.program w.settings j) k) none ∙ idle_at w.settings.workers k)) (idle_kept (accounts w) q (I.each k q at).0 (I.each k q at).1);
 }
 
 -- WITHOUT AN ENTRY

@@ -1,37 +1,27 @@
 -- What the entry that begins a marking tells of the accounts after it.
-use Rattle.std.proofs.Common.{◌≡◌, ℕ, zero, suc, ◌<◌, true, Option, Some, None, List, [], ◌∷◌, length, slice_get, refl, ap, ◌∙◌, arith, is_some, is_none}
+use Rattle.std.proofs.Common.{◌≡◌, ℕ, ◌<◌, true, Option, Some, None, List, length, slice_get, refl, ap, ◌∙◌, arith, is_some, is_none}
 use Rattle.listed.proofs.Members.{got_within}
+use Rattle.listed.proofs.Places.{got_some}
 use Rattle.hh_model.specs.declared.data.State.{State}
 use Rattle.hh_model.specs.declared.data.Task.{Task}
 use Rattle.hh_model.specs.Step.{is_waiting}
 use Rattle.run_trace.specs.declared.entry.Kind.TheVariants.{Mark}
 use Rattle.run_ledger.specs.declared.data.Heap.{Heap}
 use Rattle.run_ledger.specs.declared.data.Ledger.{Ledger}
-use Rattle.run_ledger.specs.Heaps.{heap_at, heap_of, or_fresh, with_heap, with_heap_at}
+use Rattle.run_ledger.specs.Heaps.{heap_of, or_fresh, with_heap}
 use Rattle.run_ledger.specs.Sound.{SoundLedger}
 use Rattle.run_ledger.proofs.Journals.{entry_tells, legal_sound, wait_tells}
+use Rattle.run_ledger.proofs.Holders.{heap_end}
 use Rattle.ledger_step_laws.proofs.Ahead.{heap_then, with_at, with_machine}
 use Rattle.shared_value.specs.Entered.{refused, Enters}
 use Rattle.shared_value.specs.Stands.{IsSharedValue}
 use Rattle.shared_value.specs.SharedValue.{SharedValue, accounts}
+use Rattle.shared_value.proofs.EntryMade.{entry_on}
 use Rattle.heap_marking.proofs.ForksTold.{entered_accounts}
-use Rattle.paced_tree.proofs.Noted.{went_on}
-
-there : (xs : List Heap) (k : ℕ) → k < length xs → (h : Heap) × (slice_get xs k ≡ Some h)
-there [] k lt = absurd (omega arith)
-there (x ∷ xs) zero lt = (x, refl)
-there (x ∷ xs) (suc k) lt = there xs k (omega arith)
 
 made_by : (ts : List Task) (t : ℕ) (o : Option Task) → slice_get ts t ≡ o → is_waiting o ≡ true → t < length ts
 made_by ts t None e w = absurd (let q : is_waiting None ≡ true = w in cc)
 made_by ts t (Some x) e w = got_within ts t x e
-
-end_same : (l : Ledger) (t : ℕ) (f : Heap → Heap) → (with_heap l t f).end ≡ l.end
-end_same l t f = by (heap_at l t)
-  where
-    by : (o : Option Heap) → (with_heap_at l t f o).end ≡ l.end
-    by None = refl
-    by (Some h) = refl
 
 module _ (w w' : SharedValue) (k t : ℕ) (I : IsSharedValue w) (E : Enters w w' (record { worker = k; kind = Mark t })) (free : refused w (record { worker = k; kind = Mark t }) ≡ None) where
   abbrev l : Ledger
@@ -50,7 +40,7 @@ module _ (w w' : SharedValue) (k t : ℕ) (I : IsSharedValue w) (E : Enters w w'
   sound = legal_sound w.program w.settings w.journal.items I.legal
 
   pub mark_goes : (accounts w').end ≡ None
-  mark_goes = ap (λ (m : Ledger). m.end) is ∙ (end_same l t begins ∙ went_on w (record { worker = k; kind = Mark t }) free)
+  mark_goes = ap (λ (m : Ledger). m.end) is ∙ (heap_end l t begins ∙ entry_on w (record { worker = k; kind = Mark t }) free)
 
   pub mark_waits : is_waiting (slice_get (accounts w').machine.tasks t) ≡ true
   mark_waits = ap (λ (m : Ledger). is_waiting (slice_get m.machine.tasks t)) is ∙ (ap (λ (m : State). is_waiting (slice_get m.tasks t)) (with_machine l t begins) ∙ waited)
@@ -58,5 +48,5 @@ module _ (w w' : SharedValue) (k t : ℕ) (I : IsSharedValue w) (E : Enters w w'
   pub mark_marked : is_some (heap_of (accounts w') t).marked ≡ true
   mark_marked =
       let lt : t < length l.machine.tasks = made_by l.machine.tasks t (slice_get l.machine.tasks t) refl waited in
-      let h = there l.heaps t (omega (arith, sound.lengths, lt)) in
+      let h = got_some l.heaps t (omega (arith, sound.lengths, lt)) in
       ap (λ (m : Ledger). is_some (heap_of m t).marked) is ∙ ap (λ o. is_some (or_fresh o).marked) (with_at l t begins ∙ ap (heap_then begins) h.1)

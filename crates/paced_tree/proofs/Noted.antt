@@ -1,6 +1,6 @@
 -- An entry that pays keeps what a paced value keeps.
-use Rattle.std.proofs.Common.{◌≡◌, ◌≢◌, ◌⊎◌, ℕ, zero, suc, ◌<◌, ◌≤◌, true, false, Option, Some, None, List, [], ◌∷◌, ◌++◌, length, slice_get, slice_set, replicate, inl, inr, refl, ap, sym, subst, ◌∙◌, arith, length-set, is_some, is_none}
-use Rattle.std.proofs.lemmas.Bool.{cases_eq, both_ways}
+use Rattle.std.proofs.Common.{◌≡◌, ◌≢◌, ◌⊎◌, ℕ, zero, suc, ◌<◌, ◌≤◌, true, Option, Some, None, List, [], ◌∷◌, ◌++◌, length, slice_get, slice_set, inl, inr, refl, ap, sym, subst, ◌∙◌, arith, length-set, is_some}
+use Rattle.std.proofs.lemmas.Bool.{cases_eq}
 use Rattle.std.specs.Prelude.{OnErr, OnOk, Result, Ok, Err}
 use Rattle.listed.proofs.Members.{got_other, got_within}
 use Rattle.hh_lang.specs.Form.{ProgramText}
@@ -14,13 +14,14 @@ use Rattle.run_ledger.specs.declared.data.WorkerPace.{WorkerPace}
 use Rattle.run_ledger.specs.Entries.{after, is_fuel}
 use Rattle.run_ledger.specs.Heaps.{heap_of}
 use Rattle.run_ledger.specs.Journals.{after_all, opening}
-use Rattle.run_ledger.specs.Pace.{idle, is_paced, noted, or_idle, pace_after, pace_after_all, pace_at_end, pace_of, pace_opening}
-use Rattle.run_ledger.proofs.Journals.{none_where}
+use Rattle.run_ledger.specs.Pace.{is_paced, noted, or_idle, pace_after, pace_after_all, pace_at_end, pace_of, pace_opening}
 use Rattle.run_ledger.proofs.Paced.{pace_goes_on}
 use Rattle.run_ledger.specs.declared.data.Refused.{Refused}
+use Rattle.run_ledger.proofs.PaceLaw.{length_opening, pace_same}
 use Rattle.shared_value.specs.Entered.{cause_of, refused, Enters}
 use Rattle.shared_value.specs.Stands.{IsSharedValue}
 use Rattle.shared_value.specs.SharedValue.{SharedValue, accounts}
+use Rattle.shared_value.proofs.EntryMade.{entry_on}
 use Rattle.heap_marking.specs.declared.pace.Pace.{Pace}
 use Rattle.heap_marking.specs.declared.pace.Previous.TheVariants.{Other}
 use Rattle.heap_marking.specs.declared.pace.Fork.{Fork}
@@ -39,17 +40,8 @@ module _ (p : ProgramText) (s : SettingsValue) where
   all_length [] l pace = refl
   all_length (e ∷ journal) l pace = all_length journal (after p s l e) (pace_after (after p s l e) pace e) ∙ length-set pace e.worker _
 
-idle_length : (n : ℕ) → length (replicate n idle) ≡ n
-idle_length zero = refl
-idle_length (suc n) = ap suc (idle_length n)
-
 paces_many : (w : SharedValue) → length (pace_at_end w.program w.settings w.journal.items) ≡ w.settings.workers
-paces_many w = all_length w.program w.settings w.journal.items (opening w.program w.settings) (pace_opening w.settings) ∙ idle_length w.settings.workers
-
-set_same : (pace : List WorkerPace) (k : ℕ) (y : WorkerPace) → k < length pace → pace_of (slice_set pace k y) k ≡ y
-set_same [] k y lt = absurd (omega arith)
-set_same (x ∷ pace) zero y lt = refl
-set_same (x ∷ pace) (suc k) y lt = set_same pace k y (omega arith)
+paces_many w = all_length w.program w.settings w.journal.items (opening w.program w.settings) (pace_opening w.settings) ∙ length_opening w.settings.workers
 
 module _ (w w' : SharedValue) (e : EntryValue) (E : Enters w w' e) where
   paces_then : pace_at_end w'.program w'.settings w'.journal.items ≡ pace_after (accounts w') (pace_at_end w.program w.settings w.journal.items) e
@@ -63,19 +55,11 @@ module _ (w w' : SharedValue) (e : EntryValue) (E : Enters w w' e) where
   noted_own : e.worker < w.settings.workers → noted_of w' e.worker ≡ noted (accounts w') (noted_of w e.worker) e.kind
   noted_own lt =
       ap (λ paces. pace_of paces e.worker) paces_then
-      ∙ set_same (pace_at_end w.program w.settings w.journal.items) e.worker (noted (accounts w') (noted_of w e.worker) e.kind) (let n : length (pace_at_end w.program w.settings w.journal.items) ≡ w.settings.workers = paces_many w in omega arith)
+      ∙ pace_same (pace_at_end w.program w.settings w.journal.items) e.worker (noted (accounts w') (noted_of w e.worker) e.kind) (let n : length (pace_at_end w.program w.settings w.journal.items) ≡ w.settings.workers = paces_many w in omega arith)
 
   noted_other : (k : ℕ) → k ≢ e.worker → noted_of w' k ≡ noted_of w k
   noted_other k ne =
       ap (λ paces. pace_of paces k) paces_then ∙ ap or_idle (got_other (pace_at_end w.program w.settings w.journal.items) e.worker k (noted (accounts w') (noted_of w e.worker) e.kind) ne)
-
--- WHAT AN ACCEPTED ENTRY TELLS
-none_end : {A : Type 0} (o : Option A) → is_some o ≡ false → o ≡ None
-none_end None h = refl
-none_end (Some x) h = absurd (both_ways (is_some (Some x)) h refl)
-
-pub went_on : (w : SharedValue) (e : EntryValue) → refused w e ≡ None → (accounts w).end ≡ None
-went_on w e free = none_end (accounts w).end (none_where (is_some (accounts w).end) _ _ (ap is_none free)).0
 
 -- KEPT
 pub paced_then : (w w' : SharedValue) (e : EntryValue) (old new : List Pace) → IsSharedValue w → KeepsPaces w old → Enters w w' e → refused w e ≡ None → (is_fuel e.kind ≡ true) ⊎ Pays w e → length new ≡ length old
@@ -90,7 +74,7 @@ paced_then w w' e old new I K E free pays many notes = record {
 }
   where
     before : (k : ℕ) (q : Pace) → slice_get old k ≡ Some q → KeepsPace (accounts w') q (noted_of w k)
-    before k q at = paces_stay w w' e q (noted_of w k) I E free (K.keeps (went_on w e free) k q at)
+    before k q at = paces_stay w w' e q (noted_of w k) I E free (K.keeps (entry_on w e free) k q at)
 
     keeps : (accounts w').end ≡ None → (k : ℕ) (q : Pace) → slice_get new k ≡ Some q → KeepsPace (accounts w') q (noted_of w' k)
     keeps on k q at = elim (cases_eq k e.worker) [
