@@ -3,6 +3,7 @@ use Rattle.std.proofs.Common.{◌≡◌, ℕ, All, Some, None, List, map, refl, 
 use Rattle.run_trace.specs.declared.entry.Kind.TheVariants.{Begin}
 use Rattle.run_ledger.specs.declared.data.Ledger.{Ledger}
 use Rattle.run_ledger.specs.Heaps.{take_of, within}
+use Rattle.run_ledger.proofs.Holders.{heap_end}
 use Rattle.object_layout.specs.declared.word.Addr.{Addr}
 use Rattle.object_layout.specs.ChunkValue.{ChunkValue}
 use Rattle.alloc_path.specs.LeafHeapValue.{LeafHeapValue}
@@ -27,7 +28,6 @@ use Rattle.copied_part_laws.proofs.CopyBegins.{begun_is_copying}
 use Rattle.copied_part_laws.proofs.CopyHanded.{begun}
 use Rattle.copied_part_laws.proofs.CopySays.{begun_can_copy}
 use Rattle.world_core.specs.WorldValue.{HoldsCopy}
-use Rattle.world_core.proofs.Entries.{heap_end}
 use Rattle.world_core.proofs.Holding.{then_accounts}
 
 module _ (w : SharedValue) (k : ℕ) (before p : Private) (roots : List Addr) (to : ToChunks) (H : HasBegun before p roots to) (I : IsSharedValue w) (F : Fits w k p) (fresh : p.fresh ≡ 0) (on : (accounts w).end ≡ None) where

@@ -1,20 +1,12 @@
--- What lemmas of several entries need: the machine behind a part's fresh steps, how few allocations there are, and good results.
-use Rattle.std.proofs.Common.{◌≡◌, ℕ, zero, suc, ◌+◌, ◌<◌, ◌≤◌, Option, Some, None, Result, Ok, Err, length, slice_get, refl, ap, subst, ◌∙◌, arith}
+-- What lemmas of several entries need: refusals, how few allocations there are, and good results.
+use Rattle.std.proofs.Common.{◌≡◌, ℕ, ◌+◌, ◌<◌, ◌≤◌, Option, Some, None, Result, Ok, Err, length, slice_get, refl, ap, subst, ◌∙◌, arith}
 use Rattle.std.specs.Result.{IfOk}
-use Rattle.hh_lang.specs.Form.{ProgramText}
 use Rattle.hh_model.specs.declared.data.State.{State}
 use Rattle.hh_model.specs.Effect.{row_of}
-use Rattle.hh_model.specs.Step.{step}
-use Rattle.run_ledger.specs.declared.data.Heap.{Heap}
 use Rattle.run_ledger.specs.declared.data.Ledger.{Ledger}
 use Rattle.run_ledger.specs.declared.data.Refused.{Refused}
-use Rattle.run_ledger.specs.Heaps.{heap_at, let_go, with_heap, with_heap_at}
-use Rattle.run_ledger.specs.Steps.{task_steps}
 use Rattle.run_ledger.proofs.Bounds.{steps_are_bounded}
 use Rattle.run_ledger.proofs.Counted.{journals_are_counted}
-use Rattle.run_ledger.proofs.Machine.{heap_machine, task_step_machine}
-use Rattle.ledger_step_laws.proofs.Split.{steps_last}
-use Rattle.ledger_step_laws.specs.Accounts.{aside}
 use Rattle.task_machine.specs.declared.part.Private.{Private}
 use Rattle.task_machine.specs.Outline.{steps}
 use Rattle.task_machine.specs.Fits.{unended}
@@ -22,24 +14,7 @@ use Rattle.shared_value.specs.SharedValue.{SharedValue, accounts}
 use Rattle.shared_value.specs.Stands.{IsSharedValue}
 use Rattle.shared_value.specs.Fits.{beyond}
 use Rattle.shared_value.specs.Links.{FitsFirst}
-
--- ---- THE MACHINE BEHIND THE FRESH STEPS
-
-machine_steps : (p : ProgramText) (l : Ledger) (t k : ℕ) → (task_steps p l t k).machine ≡ steps p l.machine t k
-machine_steps p l t zero = refl
-machine_steps p l t (suc k) = ap (λ (z : Ledger). z.machine) (steps_last p l t k) ∙ (task_step_machine p (task_steps p l t k) t ∙ ap (λ (m : State). step p m t) (machine_steps p l t k))
-
-pub beyond_machine : (p : ProgramText) (l : Ledger) (q : Private) → (beyond p l q).machine ≡ steps p (unended l.machine) q.task q.fresh
-beyond_machine p l q = heap_machine (task_steps p (aside l) q.task q.fresh) q.task let_go ∙ machine_steps p (aside l) q.task q.fresh
-
--- ---- A HEAP'S ACCOUNT changed leaves the end
-
-pub heap_end : (l : Ledger) (t : ℕ) (f : Heap → Heap) → (with_heap l t f).end ≡ l.end
-heap_end l t f = by (heap_at l t)
-  where
-    by : (o : Option Heap) → (with_heap_at l t f o).end ≡ l.end
-    by None = refl
-    by (Some h) = refl
+use Rattle.shared_value.proofs.StepsEntered.{beyond_machine}
 
 -- ---- REFUSALS
 

@@ -1,7 +1,6 @@
 -- Why an entry of a worker is refused by what the worker holds.
 use Rattle.std.proofs.Common.{◌≡◌, ◌≢◌, ℕ, ◌==◌, Bool, true, false, cond, min, Option, Some, None, slice_get, is_some, refl, ap, sym, subst, ◌∙◌, eq-eqb}
 use Rattle.std.proofs.lemmas.Bool.{and_from, eqb-true, false≢true}
-use Rattle.std.proofs.lemmas.Option.{same_Some}
 use Rattle.hh_model.specs.Step.{is_running}
 use Rattle.run_trace.specs.declared.entry.Kind.{Kind}
 use Rattle.run_trace.specs.declared.entry.Kind.TheVariants.{Begin, Chunk, End, PutOff, Ran}
@@ -45,9 +44,6 @@ copy_fits w k p moved I H =
     subst (λ q. FitsCopied w k q moved) (sym H.part) (copied_fits w k H.before H.begun H.news (copying w k p moved I H) p.heap p.frames moved H.copy)
 
 -- ---- TESTS
-
-some_twice : {A : Type 0} (x y : A) → Some x ≡ Some y → x ≡ y
-some_twice x y e = same_Some x y e
 
 -- ---- A WORKER THAT MAY MAKE ENTRIES
 

@@ -13,10 +13,10 @@ use Rattle.shared_value.specs.SharedValue.{SharedValue, accounts, value_of}
 use Rattle.shared_value.specs.Stands.{IsSharedValue}
 use Rattle.shared_value.specs.Fits.{Fits}
 use Rattle.shared_value.specs.Links.{FitsFirst, above_of}
+use Rattle.shared_value.proofs.StepsEntered.{beyond_machine}
 use Rattle.own_steps.specs.Alone.{machine_after}
 use Rattle.own_steps.proofs.FitsAfterSteps.{parts_fit_again}
 use Rattle.world_core.specs.Next.{IsNext}
-use Rattle.world_core.proofs.Entries.{beyond_machine}
 
 module _ (w : SharedValue) (text : ProgramText) (same : w.program ≡ text) (k : ℕ) (I : IsSharedValue w) (old new : Private) (fits : Fits w k old) (on : (accounts w).end ≡ None) (F : FitsFirst w old) (idle : old.begun ≡ None) (n : ℕ) (runs : Runs text old n new)
     (accounts_kept : KeepsAccounts text old n new) (rest : KeepsRest old new) (few : old.fresh + n ≤ 257) where

@@ -2,6 +2,7 @@
 use Rattle.std.proofs.Common.{◌≡◌, ℕ, true, false, Option, Some, None, Result, Ok, Err, is_some, option_map, refl, ap, sym, subst, ◌∙◌}
 use Rattle.std.specs.Result.{OnErr, OnOk}
 use Rattle.std.proofs.lemmas.Bool.{false≢true}
+use Rattle.listed.proofs.Options.{none_some}
 use Rattle.run_trace.specs.Entry.{EntryValue}
 use Rattle.run_trace.specs.declared.entry.Kind.TheVariants.{End}
 use Rattle.run_ledger.specs.declared.data.Refused.{Refused}
@@ -31,10 +32,6 @@ use Rattle.world_core.specs.Applied.{AnswersFor, EntersFor, MakesFor, RefusesFor
 use Rattle.world_core.specs.WorldValue.{Holds, HoldsCopy, HoldsPart}
 use Rattle.world_core.proofs.HandCauses.{copy_fits, said}
 use Rattle.world_core.proofs.Holding.{part_stops, places_same, stops}
-use Rattle.world_core.proofs.WasHeld.{nobody}
-
-none_some : {A : Type 0} {c : Refused} → ◌≡◌ {A = Option Refused} None (Some c) → A
-none_some e = absurd cc
 
 -- ---- REFUSED
 
@@ -88,7 +85,7 @@ ran_made w after k p (Over q) idle free R = record {
   others = R.others;
   holds = record { fits = R.fits; idle = ap (λ (z : Private). z.begun) R.part ∙ idle; entered = λ h. ap (λ (z : Private). z.fresh) R.part };
 }
-ran_made w after k p Done idle free R = record { free = free; enters = R.enters; others = R.others; holds = λ t held. nobody (sym (R.rest t) ∙ held) }
+ran_made w after k p Done idle free R = record { free = free; enters = R.enters; others = R.others; holds = λ t held. none_some (sym (R.rest t) ∙ held) }
 
 -- behind the causes that come first it isn't refused
 pub alone_free : (w : SharedValue) (k : ℕ) (p : Private) → IsSharedValue w → Fits w k p → IsShared w p → p.begun ≡ None → first_cause w.end w.steps w.settings k false ≡ None → refused w (alone_event k p) ≡ None

@@ -1,8 +1,10 @@
 -- The parts that workers hold stand together in the shared value.
-use Rattle.std.proofs.Common.{◌≡◌, ℕ, zero, suc, ◌<◌, Bool, Option, Some, None, List, [], ◌∷◌, length, slice_get, inl, inr, refl, ap, sym, subst, ◌∙◌, arith}
+use Rattle.std.proofs.Common.{◌≡◌, ℕ, zero, suc, Bool, Option, Some, None, List, [], ◌∷◌, slice_get, inl, inr, refl, ap, sym, subst, ◌∙◌, arith}
 use Rattle.std.proofs.lemmas.Bool.{false≢true}
 use Rattle.std.proofs.lemmas.Option.{same_Some}
 use Rattle.listed.proofs.Members.{got_within}
+use Rattle.listed.proofs.Places.{got_some}
+use Rattle.listed.proofs.Options.{none_some}
 use Rattle.hh_lang.specs.Form.{ProgramText}
 use Rattle.hh_model.specs.Step.{is_running}
 use Rattle.hh_model.specs.declared.data.End.TheVariants.{Done, Entangled, Trapped}
@@ -24,8 +26,9 @@ use Rattle.core_relation.proofs.parts.All.{all_fit_together}
 use Rattle.core_relation.specs.Whole.{by_end, handed}
 use Rattle.shared_value.specs.Fits.{part_of}
 use Rattle.shared_value.specs.Stands.{IsSharedValue}
-use Rattle.shared_value.specs.SharedValue.{SharedValue, accounts, flat, value_of}
+use Rattle.shared_value.specs.SharedValue.{SharedValue, accounts, value_of}
 use Rattle.shared_value.proofs.EntryMade.{held_by_end}
+use Rattle.shared_value.proofs.TaskTaken.{some_flat}
 use Rattle.heap_reading.proofs.IdleTasks.{done_idles}
 use Rattle.world_core.specs.declared.held.Held.{Held}
 use Rattle.world_core.specs.declared.held.Held.TheVariants.{Nothing, Part, Copied}
@@ -33,7 +36,7 @@ use Rattle.world_core.specs.Together.{AreParts, HoldsOneOf, IsPartIn, PartsStand
 use Rattle.world_core.specs.WorldValue.{Holds, IsWhole, WorldValue}
 use Rattle.world_core.proofs.Aside.{fits_aside, knows_aside, stands_aside}
 use Rattle.world_core.proofs.HandCauses.{copy_fits}
-use Rattle.world_core.proofs.WasHeld.{WasHeld, nobody, one_held, steps_held, then_held}
+use Rattle.world_core.proofs.WasHeld.{WasHeld, one_held, steps_held, then_held}
 
 -- ---- THE PARTS
 
@@ -113,7 +116,7 @@ module _ (w : SharedValue) (holders : HoldsTasks (accounts w)) where
 ahead_held : (p : ProgramText) (q : PartOf) (l : Ledger) → WasHeld l (ahead p q l)
 ahead_held p q l =
     let m : Ledger = task_steps p l q.task q.fresh in
-    then_held l m (ahead p q l) (steps_held p q.fresh l q.task) (one_held m q.task let_go (λ h k e. nobody e))
+    then_held l m (ahead p q l) (steps_held p q.fresh l q.task) (one_held m q.task let_go (λ h k e. none_some e))
 
 all_ahead_held : (p : ProgramText) (qs : List PartOf) (l : Ledger) → WasHeld l (all_ahead p qs l)
 all_ahead_held p [] l = λ u k e. e
@@ -124,7 +127,7 @@ still_free l l' t W free = by (heap_of l' t).worker refl
   where
     by : (o : Option ℕ) → (heap_of l' t).worker ≡ o → o ≡ None
     by None e = refl
-    by (Some k) e = nobody (sym free ∙ W t k e)
+    by (Some k) e = none_some (sym free ∙ W t k e)
 
 freed : (p : ProgramText) (qs : List PartOf) (l : Ledger) (t : ℕ) (q : PartOf) → In qs q → q.task ≡ t → Rests (all_ahead p qs l) t
 freed p [] l t q m e = absurd m
@@ -134,15 +137,6 @@ freed p (r ∷ qs) l t q (inl same) e =
 freed p (r ∷ qs) l t q (inr m) e = freed p qs (ahead p r l) t q m e
 
 -- ---- TOGETHER
-
-some_flat : {A : Type 0} (o : Option (Option A)) (x : A) → flat o ≡ Some x → o ≡ Some (Some x)
-some_flat None x e = absurd cc
-some_flat (Some o) x e = ap Some e
-
-there : {A : Type 0} (xs : List A) (k : ℕ) → k < length xs → (x : A) × (slice_get xs k ≡ Some x)
-there [] k lt = absurd (omega (arith, lt))
-there (x ∷ xs) zero lt = (x, refl)
-there (x ∷ xs) (suc k) lt = there xs k (omega (arith, lt))
 
 module _ (x : WorldValue) (I : IsSharedValue x.shared) (W : IsWhole x) where
   abbrev w : SharedValue
@@ -205,7 +199,7 @@ module _ (x : WorldValue) (I : IsSharedValue x.shared) (W : IsWhole x) where
       listed = some_flat (slice_get w.hands k) t ((I.stands.totals.hand k t).1 e)
 
       hand : (h : Held) × (slice_get x.hands k ≡ Some h)
-      hand = there x.hands k (let a = got_within w.hands k (Some t) listed in let b = I.workers in let c = W.count in omega (arith, a, b, c))
+      hand = got_some x.hands k (let a = got_within w.hands k (Some t) listed in let b = I.workers in let c = W.count in omega (arith, a, b, c))
 
       at : (q : PartOf) (u : ℕ) → q.task ≡ u → In R.parts q → (heap_of l u).worker ≡ Some k → Rests (with_parts w R.parts) t
       at q u is m held = freed w.program R.parts L t q m (is ∙ holds_tasks.one u t k held (held_by_end l l.end t k e))

@@ -2,6 +2,7 @@
 use Rattle.std.proofs.Common.{◌≡◌, ◌≢◌, ℕ, zero, suc, ◌+◌, ◌-◌, Bool, true, false, cond, Option, Some, None, List, [], ◌∷◌, ◌++◌, slice_get, nat_lt, inl, inr, ap, sym, ◌∙◌}
 use Rattle.std.proofs.lemmas.Bool.{cases_eq}
 use Rattle.std.proofs.lemmas.Option.{same_Some}
+use Rattle.listed.proofs.Options.{none_some}
 use Rattle.hh_lang.specs.Form.{ProgramText}
 use Rattle.hh_model.specs.declared.data.End.{End}
 use Rattle.hh_model.specs.declared.data.Name.{Name}
@@ -30,9 +31,6 @@ WasHeld l l' = (u k : ℕ) → (heap_of l' u).worker ≡ Some k → (heap_of l u
 pub then_held : (a b c : Ledger) → WasHeld a b → WasHeld b c → WasHeld a c
 then_held a b c f g u k e = f u k (g u k e)
 
-pub nobody : {A : Type 0} {k : ℕ} → ◌≡◌ {A = Option ℕ} None (Some k) → A
-nobody e = absurd cc
-
 -- one account changes, and who holds its task held it
 pub one_held : (l : Ledger) (t : ℕ) (f : Heap → Heap) → ((h : Heap) (k : ℕ) → (f h).worker ≡ Some k → h.worker ≡ Some k) → WasHeld l (with_heap l t f)
 one_held l t f keeps u k e = elim (cases_eq u t) [
@@ -41,7 +39,7 @@ one_held l t f keeps u k e = elim (cases_eq u t) [
 ]
   where
     by : (o : Option Heap) → (or_fresh (heap_then f o)).worker ≡ Some k → (or_fresh o).worker ≡ Some k
-    by None h = nobody h
+    by None h = none_some h
     by (Some h) q = keeps h k q
 
 -- ---- A STEP
@@ -59,28 +57,28 @@ allocated_held l t (Some w) = one_held l t _ (λ h k e. placed_held (record { ta
 
 -- heaps of nobody are added
 more_held : (hs : List Heap) (u k : ℕ) → (or_fresh (slice_get (hs ++ fresh ∷ fresh ∷ []) u)).worker ≡ Some k → (or_fresh (slice_get hs u)).worker ≡ Some k
-more_held [] zero k e = nobody e
-more_held [] (suc zero) k e = nobody e
-more_held [] (suc (suc u)) k e = nobody e
+more_held [] zero k e = none_some e
+more_held [] (suc zero) k e = none_some e
+more_held [] (suc (suc u)) k e = none_some e
 more_held (h ∷ hs) zero k e = e
 more_held (h ∷ hs) (suc u) k e = more_held hs u k e
 
 fork_held : (l : Ledger) (t : ℕ) → WasHeld l (at_fork l t)
 fork_held l t =
     let more : Ledger = record l { heaps = l.heaps ++ fresh ∷ fresh ∷ [] } in
-    then_held l more (at_fork l t) (λ u k e. more_held l.heaps u k e) (one_held more t (forked_heap (within l t)) (λ h k e. nobody e))
+    then_held l more (at_fork l t) (λ u k e. more_held l.heaps u k e) (one_held more t (forked_heap (within l t)) (λ h k e. none_some e))
 
 join_held : (l : Ledger) (parent left : ℕ) → WasHeld l (join_heaps l parent left)
 join_held l parent left =
     let a : Ledger = with_heap l parent (λ h. merged h (heap_of l left) (heap_of l (left + 1))) in
     let b : Ledger = with_heap a left emptied in
     then_held l a (join_heaps l parent left) (one_held l parent (λ h. merged h (heap_of l left) (heap_of l (left + 1))) (λ h k e. e))
-    (then_held a b (join_heaps l parent left) (one_held a left emptied (λ h k e. nobody e)) (one_held b (left + 1) emptied (λ h k e. nobody e)))
+    (then_held a b (join_heaps l parent left) (one_held a left emptied (λ h k e. none_some e)) (one_held b (left + 1) emptied (λ h k e. none_some e)))
 
 moved_on_held : (l : Ledger) (t : ℕ) (parent : Option ℕ) (s : Status) → WasHeld l (moved_on l t parent s)
 moved_on_held l t parent Running = λ u k e. e
 moved_on_held l t parent Waiting = fork_held l t
-moved_on_held l t parent (Ended n r) = one_held l t let_go (λ h k e. nobody e)
+moved_on_held l t parent (Ended n r) = one_held l t let_go (λ h k e. none_some e)
 moved_on_held l t None Joined = λ u k e. e
 moved_on_held l t (Some p) Joined = join_held l p (cond (is_left t) t (t - 1))
 
@@ -127,7 +125,7 @@ took_held l t w u k ne e = elim (cases_eq u t) [
     f = λ h. record h { worker = Some w }
 
     by : (o : Option Heap) → (or_fresh (heap_then f o)).worker ≡ Some k → (heap_of l u).worker ≡ Some k
-    by None h = nobody h
+    by None h = none_some h
     by (Some h) q = absurd (ne (sym (same_Some w k q)))
 
 chunk_held : (l : Ledger) (t : ℕ) (next : Option ℕ) (full : Bool) (end : RunEnd) → WasHeld l (cond full (record l { end = Some end }) (with_heap l t (with_chunk next)))
