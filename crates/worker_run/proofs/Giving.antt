@@ -1,6 +1,7 @@
 -- A desk before and after a turn.
-use Rattle.std.proofs.Common.{◌≡◌, inl, inr, ℕ, suc, ◌+◌, ◌^◌, ◌<◌, ◌≤◌, ◌==◌, Bool, true, false, cond, List, [], ◌∷◌, length, refl, sym, ap, ap₂, ◌∙◌, subst, arith, Option, Some, length-append, unwrap_or}
+use Rattle.std.proofs.Common.{◌≡◌, inl, inr, ℕ, suc, ◌+◌, ◌^◌, ◌<◌, ◌≤◌, ◌==◌, Bool, true, false, cond, List, [], ◌∷◌, length, refl, sym, ap, ap₂, ◌∙◌, subst, arith, Option, Some, length-append}
 use Rattle.std.specs.declared.snapshot.Snapshot.{Snapshot}
+use Rattle.std.proofs.lemmas.Option.{same_Some}
 use Rattle.atomic_table.specs.Seated.{TableId}
 use Rattle.hh_lang.specs.Form.{ProgramText}
 use Rattle.run_trace.specs.Entry.{EntryValue}
@@ -28,9 +29,6 @@ use Rattle.turn_entries.proofs.Turning.{ended_over}
 use Rattle.worker_run.specs.declared.desk.Desk.{Desk}
 use Rattle.worker_run.specs.Desks.{GivesOne, HasEntry, HasStopped, IsDesk, SameDesk, TakesTurn, entries_of}
 
-some_one : {A : Type 0} (a b : A) → Some a ≡ Some b → a ≡ b
-some_one a b e = ap (λ o. unwrap_or o a) e
-
 -- of a worker's entries there are no more
 own_within : (w : ℕ) (es : List EntryValue) → length (entries_by worker_of w es) ≤ length es
 own_within w [] = omega arith
@@ -49,7 +47,7 @@ same_text w p s a b = ap₂ (λ (x : ProgramText) (y : SettingsValue). record { 
 -- ---- THE TURN IS TAKEN: v is what the seat knew
 module _ (p : ProgramText) (d : Desk) (value : Run) (v : Sight) (K : Knows journal_of worker_of FitsKept setup_of value v) (number : v.worker ≡ d.worker) (under : v.setup ≡ Some (record { program = p; settings = d.settings })) where
   setup_taken : setup_of value ≡ record { program = p; settings = d.settings }
-  setup_taken = some_one (setup_of value) _ (sym K.setup_is ∙ under)
+  setup_taken = same_Some (setup_of value) _ (sym K.setup_is ∙ under)
 
   pub program_taken : value.paced.program ≡ p
   program_taken = ap (λ (s : Setup). s.program) setup_taken

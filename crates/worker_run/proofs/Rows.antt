@@ -1,9 +1,10 @@
 -- Desks and their seats.
-use Rattle.std.proofs.Common.{◌≡◌, ℕ, zero, suc, ◌<◌, ◌^◌, true, List, [], ◌∷◌, ◌++◌, length, map, take, drop, take_all, drop_of_length-le, option_map, slice_get, get_or, remove, refl, sym, ap, ◌∙◌, subst, arith, Option, Some, None, append_assoc, append-nil, true≢false, is_some, unwrap_or}
-use Rattle.std.proofs.lemmas.Option.{slice_get_within, slice_get-get_or, slice_get-map}
+use Rattle.std.proofs.Common.{◌≡◌, ℕ, zero, suc, ◌<◌, ◌^◌, true, List, [], ◌∷◌, ◌++◌, length, map, take, drop, take_all, drop_of_length-le, slice_get, get_or, remove, sym, ap, ◌∙◌, subst, arith, Option, Some, append_assoc, append-nil}
+use Rattle.std.proofs.lemmas.Option.{slice_get_within, slice_get-get_or, same_Some, none-some}
 use Rattle.std.proofs.lemmas.List.{map-append, length-map}
 use Rattle.atomic_table.specs.Seated.{TableId}
 use Rattle.atomic_table.specs.declared.shared.Seat.{Seat}
+use Rattle.listed.proofs.Places.{got_map, map_got}
 use Rattle.hh_lang.specs.Form.{ProgramText}
 use Rattle.run_trace.specs.Entry.{EntryValue}
 use Rattle.run_trace.specs.Settings.{SettingsValue}
@@ -28,12 +29,6 @@ use Rattle.worker_run.specs.Rounds.{AllGoRound}
 abbrev pub Chair : Type 0
 Chair = Seat (Option Run) Sight
 
-some_one : {A : Type 0} (a b : A) → Some a ≡ Some b → a ≡ b
-some_one a b e = ap (λ o. unwrap_or o a) e
-
-some_apart : {A : Type 0} (a : A) → None ≡ Some a → ⊥
-some_apart a e = true≢false (sym (ap is_some e))
-
 pub removed_first : {A : Type 0} (l : List A) (x : A) → 0 < length l → x ≡ get_or l 0 x → x ∷ remove l 0 ≡ l
 removed_first [] x h e = absurd (omega arith)
 removed_first (y ∷ ys) x h e = ap (λ z. z ∷ ys) e
@@ -47,16 +42,12 @@ rest_of [] x h e k y at = absurd (omega arith)
 rest_of (z ∷ zs) x h e k y at = at
 
 pub none_new : (s : SettingsValue) → AreNewDesks s []
-none_new s = λ k d at. absurd (some_apart d at)
-
-pub none_left : {A : Type 0} (l : List A) → length l ≡ 0 → l ≡ []
-none_left [] e = refl
-none_left (x ∷ xs) e = absurd (omega (arith, e))
+none_new s = λ k d at. absurd (none-some d at)
 
 -- one more at the end
 pub all_more : {A : Type 0} (P : ℕ → A → Type 0) (xs : List A) (x : A) → ((k : ℕ) (y : A) → slice_get xs k ≡ Some y → P k y) → P (length xs) x → (k : ℕ) (y : A) → slice_get (xs ++ x ∷ []) k ≡ Some y → P k y
-all_more P [] x each last zero y e = subst (P 0) (some_one x y e) last
-all_more P [] x each last (suc k) y e = absurd (some_apart y e)
+all_more P [] x each last zero y e = subst (P 0) (same_Some x y e) last
+all_more P [] x each last (suc k) y e = absurd (none-some y e)
 all_more P (z ∷ zs) x each last zero y e = each 0 y e
 all_more P (z ∷ zs) x each last (suc k) y e = all_more (λ j. P (suc j)) zs x (λ j w f. each (suc j) w f) last k y e
 
@@ -68,14 +59,6 @@ moved_on f done left x y is some first = ap (λ l. l ++ remove left 0) (map-appe
 pub whole_written : {A : Type 0} (len : ℕ) (new old : List A) → length new ≡ length old → len ≡ length old → take len (new ++ drop (length new) old) ≡ new
 whole_written len new old e is = ap (λ l. take len (new ++ l)) (drop_of_length-le old (omega arith)) ∙ (ap (take len) (append-nil new) ∙ take_all len new (omega arith))
 
-from_place : {A B : Type 0} (f : A → B) (xs : List A) (k : ℕ) (y : B) → slice_get (map f xs) k ≡ Some y → (x : A) × (slice_get xs k ≡ Some x) × (f x ≡ y)
-from_place f [] k y e = absurd (some_apart y e)
-from_place f (x ∷ xs) zero y e = (x, refl, some_one (f x) y e)
-from_place f (x ∷ xs) (suc k) y e = from_place f xs k y e
-
-to_place : {A B : Type 0} (f : A → B) (xs : List A) (k : ℕ) (x : A) → slice_get xs k ≡ Some x → slice_get (map f xs) k ≡ Some (f x)
-to_place f xs k x e = slice_get-map f xs k ∙ ap (option_map f) e
-
 abbrev seat_of : Desk → Chair
 seat_of d = d.seat
 
@@ -85,7 +68,7 @@ pub kept_desks : (z : TableId) (p : ProgramText) (s : SettingsValue) (before aft
 kept_desks z p s before after all long kept = record {
   count = long ∙ all.count;
   seats = kept_are_all z (map seat_of before) (map seat_of after) all.seats (length-map after seat_of ∙ (long ∙ sym (length-map before seat_of)))
-      (λ k x y at to. let d = from_place seat_of before k x at in let e = from_place seat_of after k y to in let one = kept k d.0 e.0 d.1 e.1 in
+      (λ k x y at to. let d = map_got seat_of before k x at in let e = map_got seat_of after k y to in let one = kept k d.0 e.0 d.1 e.1 in
       (subst (HasNoTurn z) e.2 one.0.idle, subst (λ (t : Chair). SameWorkerOf x t) e.2 (subst (λ (t : Chair). SameWorkerOf t e.0.seat) d.2 one.1.seat)));
   each_desk = λ k e at. let h = slice_get_within after k e at in let d = slice_get-get_or before k e (omega arith) in let one = kept k (get_or before k e) e d at in
       (one.0, one.1.worker ∙ (all.each_desk k (get_or before k e) d).1, one.1.settings ∙ (all.each_desk k (get_or before k e) d).2);
@@ -116,7 +99,7 @@ new_desks z v n p s seats desks some workers few none_seen none_joined under new
 }
   where
     at : (k : ℕ) (d : Desk) → slice_get desks k ≡ Some d → slice_get seats k ≡ Some d.seat
-    at k d e = ap (λ l. slice_get l k) (sym same) ∙ to_place seat_of desks k d e
+    at k d e = ap (λ l. slice_get l k) (sym same) ∙ got_map seat_of desks k d e
 
     nothing : (k : ℕ) (d : Desk) → slice_get desks k ≡ Some d → entries_of d ≡ []
     nothing k d e = ap (λ (l : List EntryValue). entries_by worker_of (view d.seat).worker l) (ap (λ (u : Sight). u.seen) (new.1 k d.seat (at k d e)).1 ∙ none_seen)
@@ -125,7 +108,7 @@ new_desks z v n p s seats desks some workers few none_seen none_joined under new
 
 module _ (z : TableId) (p : ProgramText) (s : SettingsValue) (desks : List Desk) (seats : List Chair) (value : Run) (all : AreAllDesks z p s desks) (is : seats ≡ map (λ d. d.seat) desks) where
   seat_there : (k : ℕ) (d : Desk) → slice_get desks k ≡ Some d → slice_get seats k ≡ Some d.seat
-  seat_there k d e = ap (λ (l : List Chair). slice_get l k) is ∙ to_place seat_of desks k d e
+  seat_there k d e = ap (λ (l : List Chair). slice_get l k) is ∙ got_map seat_of desks k d e
 
   pub of_each : HasOwnEntries journal_of worker_of FitsKept setup_of value seats → HasOfEach (journal_of value) desks
   of_each own = λ k d e. let same = own k d.seat (seat_there k d e) in (same, (all.each_desk k d e).0.gave ∙ ap length (sym same))
@@ -133,13 +116,13 @@ module _ (z : TableId) (p : ProgramText) (s : SettingsValue) (desks : List Desk)
   pub have_seen : IsLeftBy journal_of worker_of FitsKept setup_of value seats → HaveSeen (journal_of value) desks
   have_seen left = record {
     begins = λ k d e. left.begins k d.seat (seat_there k d e);
-    whole = (let l = left.longest in let d = from_place seat_of desks l.0 l.1 (ap (λ (x : List Chair). slice_get x l.0) (sym is) ∙ l.2) in (l.0, d.0, d.1, ap (λ (c : Chair). (view c).seen) d.2 ∙ l.3));
+    whole = (let l = left.longest in let d = map_got seat_of desks l.0 l.1 (ap (λ (x : List Chair). slice_get x l.0) (sym is) ∙ l.2) in (l.0, d.0, d.1, ap (λ (c : Chair). (view c).seen) d.2 ∙ l.3));
   }
 
   setup_at_end : IsLeftBy journal_of worker_of FitsKept setup_of value seats → setup_of value ≡ record { program = p; settings = s }
   setup_at_end left =
       let some = all.seats.some_seat in let long = length-map desks seat_of in let d = first_there desks (omega (arith, some, long)) in
-      some_one (setup_of value) _ (sym (left.same_setup d.0.seat (seat_there 0 d.0 d.1)) ∙ ((all.each_desk 0 d.0 d.1).0.under ∙ ap (λ (x : SettingsValue). Some (record { program = p; settings = x })) (all.each_desk 0 d.0 d.1).2))
+      same_Some (setup_of value) _ (sym (left.same_setup d.0.seat (seat_there 0 d.0 d.1)) ∙ ((all.each_desk 0 d.0 d.1).0.under ∙ ap (λ (x : SettingsValue). Some (record { program = p; settings = x })) (all.each_desk 0 d.0 d.1).2))
 
   pub settings_at_end : IsLeftBy journal_of worker_of FitsKept setup_of value seats → value.paced.settings ≡ s
   settings_at_end left = ap (λ (x : Setup). x.settings) (setup_at_end left)

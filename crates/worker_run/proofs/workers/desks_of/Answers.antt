@@ -1,9 +1,10 @@
 use Rattle.std.proofs.Common.{rules, List, suc, ◌≡◌, ◌+◌, ◌<◌, ◌++◌, ◌∷◌, [], ap, ◌∙◌, refl, map, length, length-append, subst, slice_get, Some, sym, arith, vec_len, ◌^◌, append-nil}
+use Rattle.turn_lock.proofs.SeatLists.{emptied}
 use Rattle.steal_scheduler.specs.declared.hand.Hand.{Hand}
 use Rattle.steal_scheduler.specs.Hands.{thefts}
 use Rattle.worker_run.specs.declared.desk.Desk.{Desk}
 use Rattle.worker_run.specs.Desks.{AreNewDesks}
-use Rattle.worker_run.proofs.Rows.{Chair, all_more, first_of, moved_on, none_left, none_new, rest_of}
+use Rattle.worker_run.proofs.Rows.{Chair, all_more, first_of, moved_on, none_new, rest_of}
 use Rattle.worker_run.proofs.workers.desks_of.Goals as goal
 
 pub loop-alloc-init : goal.loop-alloc-init
@@ -60,7 +61,7 @@ returns-clause-hands c =
     let inv = c.loop-alloc.invariant in
     let room = inv.room in
     let none : length c.loop-alloc.hands.items ≡ 0 = search (rules, room) in
-    sym (append-nil (map (λ (d : Desk). d.hand) c.loop-alloc.desks.items)) ∙ (ap (λ (l : List Hand). map (λ (d : Desk). d.hand) c.loop-alloc.desks.items ++ l) (sym (none_left c.loop-alloc.hands.items none)) ∙ inv.held)
+    sym (append-nil (map (λ (d : Desk). d.hand) c.loop-alloc.desks.items)) ∙ (ap (λ (l : List Hand). map (λ (d : Desk). d.hand) c.loop-alloc.desks.items ++ l) (sym (emptied c.loop-alloc.hands.items none)) ∙ inv.held)
 
 pub returns-clause-new : goal.returns-clause-new
 returns-clause-new c = c.loop-alloc.invariant.new
