@@ -1,5 +1,5 @@
 -- The laws of what tasks see.
-use Rattle.std.proofs.Common.{◌≡◌, ℕ, zero, suc, ◌<◌, ◌++◌, true, false, Some, None, List, [], ◌∷◌, ◌⊎◌, inl, inr, slice_get, refl, ap, sym, subst, ◌∙◌}
+use Rattle.std.proofs.Common.{◌≡◌, ℕ, false, Some, List, [], ◌∷◌, ◌⊎◌, inl, inr, slice_get, ap, sym, subst, ◌∙◌}
 use Rattle.std.proofs.lemmas.Option.{same_Some}
 use Rattle.listed.specs.Members.{In as InList}
 use Rattle.hh_lang.specs.Form.{ProgramText}
@@ -7,21 +7,19 @@ use Rattle.hh_model.specs.declared.data.Name.{Name}
 use Rattle.hh_model.specs.declared.data.State.{State}
 use Rattle.hh_model.specs.Effect.{object_at}
 use Rattle.hh_model.specs.Names.{refs_of}
-use Rattle.hh_model.specs.Step.{run_from, start, step}
+use Rattle.hh_model.specs.Step.{start}
 use Rattle.hh_model.proofs.Carried.{named_from_in}
 use Rattle.hh_model.proofs.Frozen.{run_upward}
 use Rattle.hh_model.proofs.Objects.{objects_stay}
-use Rattle.run_trace.specs.Entry.{EntryValue}
-use Rattle.run_trace.specs.Settings.{SettingsValue}
+use Rattle.hh_model.proofs.Counts.{run_on}
 use Rattle.run_ledger.specs.declared.data.Ledger.{Ledger}
 use Rattle.run_ledger.specs.Journals.{ledger_of}
 use Rattle.run_ledger.specs.Sound.{Keeps, SoundLedger, collecting}
 use Rattle.run_ledger.specs.Steps.{task_steps}
 use Rattle.run_ledger.proofs.Steps.{task_steps_sound}
-use Rattle.ledger_step_laws.specs.Accounts.{Rests}
 use Rattle.ledger_step_laws.proofs.Known.{legal_knows}
 use Rattle.object_layout.specs.Objects.{Located}
-use Rattle.core_relation.specs.Memory.{Chunk, In, Memory, objects}
+use Rattle.core_relation.specs.Memory.{In, Memory, objects}
 use Rattle.core_relation.specs.Stands.{HomeStands}
 use Rattle.core_relation.proofs.objects.Members.{in_chunk}
 use Rattle.task_machine.specs.Run.{Runs}
@@ -29,10 +27,6 @@ use Rattle.shared_value.proofs.PartFitsMachine as link
 use Rattle.view_laws.specs.Laws.{FrozenReferUp, FrozenStay, LeadTo, LevelsAreApart, ReadsStay, SeenNamesAreHeld}
 
 -- ---- IMMUTABLE OBJECTS
-
-run_on : (p : ProgramText) (ts more : List ℕ) (m : State) → run_from p m (ts ++ more) ≡ run_from p (run_from p m ts) more
-run_on p [] more m = refl
-run_on p (t ∷ ts) more m = run_on p ts more (step p m t)
 
 pub frozen_stay : FrozenStay
 frozen_stay p limit ts more n o is frozen =
