@@ -1,6 +1,7 @@
 // A part's steps are entered with a fork.
 
 ghost use Rattle.std.specs.Prelude.{◌≡◌, ◌<◌, ℕ, OnErr, IfErr, IfOk, None, Some};
+ghost use Rattle.hh_model.specs.Step.{depth_limit};
 ghost use Rattle.heap_tree.specs.Node.{depth_of};
 ghost use Rattle.shared_value.specs.Entered.{refused, RanAnswers};
 ghost use Rattle.shared_value.specs.Fits.{Fits};
@@ -13,12 +14,9 @@ use crate::shared::Shared;
 use crate::steps_entered::enter_alone;
 use child_tasks::{ForkBlocks, Forking, clear_marks, fork_sets, grow, put_homes};
 use hh_lang::Instr;
-use hh_model::{End, Trap};
+use hh_model::{DEPTH_LIMIT, End, Trap};
 use shared_value::{NotEntered, NotRan};
 use task_machine::Private;
-
-// At this depth a task can't fork.
-const DEPTH_LIMIT: u32 = 1000;
 
 impl Shared {
     // The functions that the children begin, and the line of the text where the fork stands.
@@ -49,7 +47,7 @@ impl Shared {
         requires forks { IsAtFork self.old part }
         requires free { refused self.old (alone_event worker part) ≡ None }
         requires by { (line : ℕ) × ForksTo self.old part left right line }
-        requires shallow { depth_of self.old.tree part.task < 1000 }
+        requires shallow { depth_of self.old.tree part.task < depth_limit }
         ensures memory { IfErr result (λ e. e.cause ≡ NotEntered.NoMemory) }
         ensures same { OnErr result (self.new ≡ self.old) }
         ensures back { IfErr result (λ e. e.part ≡ part) }
