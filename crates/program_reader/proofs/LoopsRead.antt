@@ -23,7 +23,7 @@ use Rattle.text_lines.specs.Lines.{lines_of}
 use Rattle.program_reader.specs.Names.{Entry, is_noted, noted, place_of}
 use Rattle.program_reader.specs.Sense.{sense_of, loop_function, looping, only_name}
 use Rattle.program_reader.specs.Around.{head_of_line, operands_of_line, begun_name, noted_if, outline_line, outline_above, outline_onto, outline_of, no_labels, labels_onto}
-use Rattle.program_reader.specs.Fault.{spot_of, is_misplaced, has_wrong_operand, leaves_open, is_among, is_second, names_no_function, names_no_label, lacks_main, is_too_many, first_cause, fault_by, fault_on, or_later, fault_from}
+use Rattle.program_reader.specs.Fault.{spot_of, is_misplaced, has_wrong_operand, leaves_open, is_named_in, is_second, names_no_function, names_no_label, lacks_main, is_too_many, first_cause, fault_by, fault_on, or_later, fault_from}
 use Rattle.program_reader.specs.Program.{on_line, function_of, loop_functions, loops_from, number_of, whole_code, left_code, right_code, with_function, functions_from, code_from}
 use Rattle.hh_lang.specs.Loop.{instrs_of}
 use Rattle.program_reader.specs.LoopLaw.{LoopsAreRead}
@@ -58,7 +58,7 @@ one_if (Some name) = 1
 noted_new : (es : List Entry) (name : List ℕ) (number : ℕ) → is_noted es name ≡ false → length (noted es name number) ≡ length es + 1
 noted_new es name number new = ap (λ b. length (cond b es (es ++ record { name = name; number = number } ∷ []))) new ∙ length-append es (record { name = name; number = number } ∷ [])
 
-noted_if_new : (es : List Entry) (name : Option (List ℕ)) (number : ℕ) → is_among es name ≡ false → length (noted_if es name number) ≡ length es + one_if name
+noted_if_new : (es : List Entry) (name : Option (List ℕ)) (number : ℕ) → is_named_in es name ≡ false → length (noted_if es name number) ≡ length es + one_if name
 noted_if_new es None number new = omega arith
 noted_if_new es (Some name) number new = noted_new es name number new
 

@@ -17,7 +17,7 @@ use Rattle.program_reader.specs.declared.labels.Labels.{Labels}
 use Rattle.program_reader.specs.Names.{Entry, entry_of, is_noted, noted, place_of}
 use Rattle.program_reader.specs.Sense.{sense_of, only_name, named}
 use Rattle.program_reader.specs.Around.{head_of_line, operands_of_line, is_inside, is_open_after, ends_body, label_line, labels_above, labels_after, labels_onto, noted_if, begins, begun_above, begun_name, orders, orders_above, outline_above}
-use Rattle.program_reader.specs.Fault.{Spot, spot_of, is_among, is_begin, is_misplaced, fault_by, fault_on, fault_from, or_later}
+use Rattle.program_reader.specs.Fault.{Spot, spot_of, is_named_in, is_begin, is_misplaced, fault_by, fault_on, fault_from, or_later}
 use Rattle.program_reader.specs.Laws.{turned}
 use Rattle.program_reader.proofs.Causes.{gives_none, gives_fault}
 use Rattle.program_reader.proofs.Steps.{new_name}
@@ -61,7 +61,7 @@ module _ (o : Outline) (s : Spot) (l : List ℕ) (utf8 : is_utf8 l ≡ true) whe
   pub label_free : (name : List ℕ) → head_of_line l ≡ Label → only_name (operands_of_line l) ≡ Some name → s.inside ≡ true → s.last ≡ false → is_noted s.labeled name ≡ false → fault_on o s l ≡ None
   label_free name eh en inside last new =
       by_sense Label (operands_of_line l) Fits eh refl (ap named en)
-      (sym (gives_none o s Label (operands_of_line l) Fits (ap (λ b. is_misplaced b Label) inside) refl (shut s.inside s.last inside last) (ap (λ n. is_among s.labeled n) en ∙ new) refl refl (main_later s.last (not (is_noted o.functions (codes "main"))) last) refl))
+      (sym (gives_none o s Label (operands_of_line l) Fits (ap (λ b. is_misplaced b Label) inside) refl (shut s.inside s.last inside last) (ap (λ n. is_named_in s.labeled n) en ∙ new) refl refl (main_later s.last (not (is_noted o.functions (codes "main"))) last) refl))
 
   -- the end of a function
   pub end_free : head_of_line l ≡ End → operands_of_line l ≡ [] → s.inside ≡ true → s.last ≡ false → fault_on o s l ≡ None
@@ -73,7 +73,7 @@ module _ (o : Outline) (s : Spot) (l : List ℕ) (utf8 : is_utf8 l ≡ true) whe
   pub begin_free : (name : List ℕ) → head_of_line l ≡ Begin → only_name (operands_of_line l) ≡ Some name → s.inside ≡ false → s.last ≡ false → is_noted s.named name ≡ false → nat_le 1024 s.begun ≡ false → fault_on o s l ≡ None
   begin_free name eh en outside last new few =
       by_sense Begin (operands_of_line l) Fits eh refl (ap named en)
-      (sym (gives_none o s Begin (operands_of_line l) Fits (ap (λ b. is_misplaced b Begin) outside) refl (shut_begin s.inside s.last outside last) (ap (λ n. is_among s.named n) en ∙ new) refl refl (main_later s.last (not (is_noted o.functions (codes "main"))) last) few))
+      (sym (gives_none o s Begin (operands_of_line l) Fits (ap (λ b. is_misplaced b Begin) outside) refl (shut_begin s.inside s.last outside last) (ap (λ n. is_named_in s.named n) en ∙ new) refl refl (main_later s.last (not (is_noted o.functions (codes "main"))) last) few))
 
   -- an empty line behind all functions
   pub blank_free : head_of_line l ≡ Blank → operands_of_line l ≡ [] → s.inside ≡ false → is_noted o.functions (codes "main") ≡ true → fault_on o s l ≡ None

@@ -17,7 +17,7 @@ use Rattle.program_reader.specs.declared.reader.Reader.{Reader}
 use Rattle.program_reader.specs.Names.{Entry, is_noted}
 use Rattle.program_reader.specs.Sense.{only_name, named}
 use Rattle.program_reader.specs.Around.{noted_if, begun_name, outline_above, labels_after, labels_above, labels_onto, ends_body}
-use Rattle.program_reader.specs.Fault.{is_among, has_wrong_operand, names_no_function, names_no_label}
+use Rattle.program_reader.specs.Fault.{is_named_in, has_wrong_operand, names_no_function, names_no_label}
 use Rattle.program_reader.specs.Program.{line_of}
 use Rattle.program_reader.specs.Reading.{spot_in, after_begin, after_end, after_order, after_line}
 use Rattle.program_reader.proofs.Causes.{IsFaultless}
@@ -58,7 +58,7 @@ ends (l ∷ []) n = tt
 ends (l ∷ m ∷ ls) n = ends (m ∷ ls) n
 
 module _ (o : Outline) (r : Reader) (above : List (List ℕ)) (l : List ℕ) (ls : List (List ℕ)) (n : ℕ) (last : Bool) (f : Follows o r above (l ∷ ls)) (g : SoundAt o r above) (few : length above < 2 ^ 31) (ws : List (List ℕ)) (x : Sense) where
-  begin_sound : (name : Option (List ℕ)) → r.inside ≡ false → x ≡ named name → has_wrong_operand x ≡ false → is_among (take r.begun o.functions) name ≡ false → Sound o (after_begin r name ls) (noted_if (outline_above above).functions name (length above + 1)) 0 (length above + 1)
+  begin_sound : (name : Option (List ℕ)) → r.inside ≡ false → x ≡ named name → has_wrong_operand x ≡ false → is_named_in (take r.begun o.functions) name ≡ false → Sound o (after_begin r name ls) (noted_if (outline_above above).functions name (length above + 1)) 0 (length above + 1)
   begin_sound None i e w a = absurd (wrong_none x e w)
   begin_sound (Some name) i e w a =
       let fresh : is_noted (outline_above above).functions name ≡ false = ap (λ es. is_noted es name) (sym (first_named o r above (l ∷ ls) f)) ∙ a in

@@ -18,7 +18,7 @@ use Rattle.program_reader.specs.declared.reader.Reader.{Reader}
 use Rattle.program_reader.specs.Names.{Entry, is_noted, noted}
 use Rattle.program_reader.specs.Sense.{only_name, named, alone}
 use Rattle.program_reader.specs.Around.{is_inside, is_open_after, noted_if, begun_name, outline_above, label_line, labels_after, labels_above, labels_onto, ends_body, begins, begun_above, orders, orders_above}
-use Rattle.program_reader.specs.Fault.{is_misplaced, has_wrong_operand, is_begin, is_among, names_no_function, names_no_label}
+use Rattle.program_reader.specs.Fault.{is_misplaced, has_wrong_operand, is_begin, is_named_in, names_no_function, names_no_label}
 use Rattle.program_reader.specs.Program.{line_of, code_by, with_function}
 use Rattle.program_reader.specs.Reading.{spot_in, after_begin, after_end, after_order, after_line}
 use Rattle.program_reader.proofs.Causes.{IsFaultless}
@@ -85,7 +85,7 @@ pub record After (r : Reader) (above : List (List ℕ)) (h : Head) (ws : List (L
   pub opened : r.inside ≡ true → (r.labels ≡ labels_onto (labels_after h ws (labels_above above)) ls) × (length (labels_after h ws (labels_above above)).entries ≡ r.labeled)
 
 module _ (o : Outline) (r : Reader) (above : List (List ℕ)) (l : List ℕ) (ls : List (List ℕ)) (n : ℕ) (last : Bool) (f : Follows o r above (l ∷ ls)) (ws : List (List ℕ)) (x : Sense) where
-  begin_after : (name : Option (List ℕ)) → x ≡ named name → has_wrong_operand x ≡ false → is_among (take r.begun o.functions) name ≡ false → After (after_begin r name ls) above Begin ws name ls
+  begin_after : (name : Option (List ℕ)) → x ≡ named name → has_wrong_operand x ≡ false → is_named_in (take r.begun o.functions) name ≡ false → After (after_begin r name ls) above Begin ws name ls
   begin_after None e w a = absurd (wrong_none x e w)
   begin_after (Some name) e w a =
       let fresh : is_noted (outline_above above).functions name ≡ false = ap (λ es. is_noted es name) (sym (first_named o r above (l ∷ ls) f)) ∙ a in
@@ -107,13 +107,13 @@ module _ (o : Outline) (r : Reader) (above : List (List ℕ)) (l : List ℕ) (ls
     opened = λ t. absurd (both_ways false refl t);
   }
 
-  label_labeled : (p : IsOpen r above (l ∷ ls)) (name : Option (List ℕ)) → x ≡ named name → has_wrong_operand x ≡ false → is_among (take r.labeled r.labels.entries) name ≡ false → length (noted_if (labels_above above).entries name (labels_above above).next) ≡ r.labeled + 1
+  label_labeled : (p : IsOpen r above (l ∷ ls)) (name : Option (List ℕ)) → x ≡ named name → has_wrong_operand x ≡ false → is_named_in (take r.labeled r.labels.entries) name ≡ false → length (noted_if (labels_above above).entries name (labels_above above).next) ≡ r.labeled + 1
   label_labeled p None e w a = absurd (wrong_none x e w)
   label_labeled p (Some name) e w a =
       let fresh : is_noted (labels_above above).entries name ≡ false = ap (λ es. is_noted es name) (sym (first_labeled r above (l ∷ ls) p)) ∙ a in
       ap length (new_name (labels_above above).entries name (labels_above above).next fresh) ∙ push_length (labels_above above).entries (record { name = name; number = (labels_above above).next }) ∙ ap (λ k. k + 1) p.labeled
 
-  label_after : (ends_body Label ≡ false → labels_onto (labels_above above) (l ∷ ls) ≡ labels_onto (label_line Label ws (labels_above above)) ls) → x ≡ named (only_name ws) → has_wrong_operand x ≡ false → is_among (take r.labeled r.labels.entries) (only_name ws) ≡ false → After (record r { labeled = r.labeled + 1 }) above Label ws None ls
+  label_after : (ends_body Label ≡ false → labels_onto (labels_above above) (l ∷ ls) ≡ labels_onto (label_line Label ws (labels_above above)) ls) → x ≡ named (only_name ws) → has_wrong_operand x ≡ false → is_named_in (take r.labeled r.labels.entries) (only_name ws) ≡ false → After (record r { labeled = r.labeled + 1 }) above Label ws None ls
   label_after on e w a = record {
     inside = f.inside;
     begun = omega (arith, f.begun);

@@ -64,14 +64,14 @@ is_begin _ = false
 abbrev pub leaves_open : Spot → Head → Bool
 leaves_open s h = (s.inside && is_begin h) || (s.last && is_open_after h s.inside)
 
-abbrev pub is_among : List Entry → Option (List ℕ) → Bool
-is_among es (Some name) = is_noted es name
-is_among es None = false
+abbrev pub is_named_in : List Entry → Option (List ℕ) → Bool
+is_named_in es (Some name) = is_noted es name
+is_named_in es None = false
 
 -- a second `fn` with one name, or a second `lab` in one function
 abbrev pub is_second : Spot → Head → List (List ℕ) → Bool
-is_second s Begin ws = is_among s.named (only_name ws)
-is_second s Label ws = is_among s.labeled (only_name ws)
+is_second s Begin ws = is_named_in s.named (only_name ws)
+is_second s Label ws = is_named_in s.labeled (only_name ws)
 is_second s _ ws = false
 
 abbrev pub names_no_function : Sense → Bool
