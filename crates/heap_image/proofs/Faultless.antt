@@ -15,7 +15,7 @@ use Rattle.heap_image.specs.declared.picture.Picked.{Picked}
 use Rattle.heap_image.specs.declared.picture.Picture.{Picture}
 use Rattle.heap_image.specs.Picture.{Rises, ObjectBefore, IsSoundPicture}
 use Rattle.heap_image.specs.Text.{text_of}
-use Rattle.heap_image.specs.Told.{object_told, SoundIsFaultless}
+use Rattle.heap_image.specs.Told.{object_said, SoundIsFaultless}
 use Rattle.heap_image.proofs.Splits.{behind_first, rises_from}
 use Rattle.heap_image.proofs.Told.{pictures_are_read, six_behind}
 use Rattle.heap_image.proofs.Passes.{none_left, fault_of, after_said, with_said, fault_said, lines_said, whole_said, more_left, faultless_items, read_items}
@@ -54,7 +54,7 @@ module _ (p : Picture) (s : IsSoundPicture p) where
   from_fields = map OfRemembered p.fields ++ last_two
 
   abbrev from_objects : List Said
-  from_objects = map object_told p.objects ++ from_fields
+  from_objects = map object_said p.objects ++ from_fields
 
   abbrev from_chunks : List Said
   from_chunks = map OfChunk p.chunks ++ from_objects
@@ -63,7 +63,7 @@ module _ (p : Picture) (s : IsSoundPicture p) where
   more_fields = more_left (map OfRemembered p.fields) last_two refl
 
   more_objects : none_left from_objects ≡ false
-  more_objects = more_left (map object_told p.objects) from_fields more_fields
+  more_objects = more_left (map object_said p.objects) from_fields more_fields
 
   more_chunks : none_left from_chunks ≡ false
   more_chunks = more_left (map OfChunk p.chunks) from_objects more_objects
@@ -78,7 +78,7 @@ module _ (p : Picture) (s : IsSoundPicture p) where
   fields_faultless n = faultless_items w OfRemembered (fields_read p) p.fields n last_two refl (field_step p s w (has_all p)) end_faultless
 
   objects_faultless : (n : ℕ) → fault_of w (objects_read p []) n from_objects ≡ None
-  objects_faultless n = faultless_items w object_told (objects_read p) p.objects n from_fields more_fields (object_step p s w (has_all p)) fields_faultless
+  objects_faultless n = faultless_items w object_said (objects_read p) p.objects n from_fields more_fields (object_step p s w (has_all p)) fields_faultless
 
   chunks_faultless : (n : ℕ) → fault_of w (chunks_read p []) n from_chunks ≡ None
   chunks_faultless n = faultless_items w OfChunk (chunks_read p) p.chunks n from_objects more_objects (chunk_step p s w (has_all p)) objects_faultless
@@ -93,7 +93,7 @@ module _ (p : Picture) (s : IsSoundPicture p) where
       ap (λ (r : Read). r.objects)
       (read_items w OfTask tasks_read p.tasks from_chunks (task_step p s w (has_all p))
       ∙ read_items w OfChunk (chunks_read p) p.chunks from_objects (chunk_step p s w (has_all p))
-      ∙ read_items w object_told (objects_read p) p.objects from_fields (object_step p s w (has_all p))
+      ∙ read_items w object_said (objects_read p) p.objects from_fields (object_step p s w (has_all p))
       ∙ read_items w OfRemembered (fields_read p) p.fields last_two (field_step p s w (has_all p)))
 
   -- THE TEXT
@@ -101,7 +101,7 @@ module _ (p : Picture) (s : IsSoundPicture p) where
   said : map said_by (lines_of (text_of p)) ≡ Title ∷ behind_title p
   said =
       pictures_are_read p s.form (few p s)
-      ∙ six_behind (Title ∷ []) (map OfTask p.tasks) (map OfChunk p.chunks) (map object_told p.objects) (map OfRemembered p.fields) (OfEnd (length p.objects) ∷ []) (Nothing ∷ [])
+      ∙ six_behind (Title ∷ []) (map OfTask p.tasks) (map OfChunk p.chunks) (map object_said p.objects) (map OfRemembered p.fields) (OfEnd (length p.objects) ∷ []) (Nothing ∷ [])
 
   whole : whole_of (text_of p) ≡ w
   whole = whole_said nothing_had (lines_of (text_of p)) ∙ ap (with_said nothing_had) said

@@ -15,7 +15,7 @@ use Rattle.image_check.specs.Read.{most, nothing_had, with_line}
 use Rattle.image_check.proofs.Entries.{found_put, found_beside}
 use Rattle.image_check.proofs.Members.{equal, item_kept, item_added}
 use Rattle.heap_image.specs.declared.picture.Picture.{Picture}
-use Rattle.heap_image.specs.Told.{object_told}
+use Rattle.heap_image.specs.Told.{object_said}
 use Rattle.heap_image.proofs.Passes.{with_said}
 use Rattle.heap_image.proofs.Leads.{HasAll, HasObject}
 
@@ -24,7 +24,7 @@ abbrev pub behind_title : Picture → List Said
 behind_title p =
     map OfTask p.tasks
     ++ (map OfChunk p.chunks
-    ++ (map object_told p.objects
+    ++ (map object_said p.objects
     ++ (map OfRemembered p.fields
     ++ (OfEnd (length p.objects) ∷ Nothing ∷ []))))
 
@@ -116,6 +116,6 @@ whole_picture p = with_said nothing_had (Title ∷ behind_title p)
 
 pub has_all : (p : Picture) → HasAll p (whole_picture p)
 has_all p = record {
-  objects = λ o h. object_had nothing_had (Title ∷ behind_title p) _ (inr (in_append_right (map OfTask p.tasks) _ _ (in_append_right (map OfChunk p.chunks) _ _ (in_append_left (map object_told p.objects) _ _ (in_map object_told p.objects o h)))));
-  fields = λ f h. field_had nothing_had (Title ∷ behind_title p) f (inr (in_append_right (map OfTask p.tasks) _ _ (in_append_right (map OfChunk p.chunks) _ _ (in_append_right (map object_told p.objects) _ _ (in_append_left (map OfRemembered p.fields) _ _ (in_map OfRemembered p.fields f h))))));
+  objects = λ o h. object_had nothing_had (Title ∷ behind_title p) _ (inr (in_append_right (map OfTask p.tasks) _ _ (in_append_right (map OfChunk p.chunks) _ _ (in_append_left (map object_said p.objects) _ _ (in_map object_said p.objects o h)))));
+  fields = λ f h. field_had nothing_had (Title ∷ behind_title p) f (inr (in_append_right (map OfTask p.tasks) _ _ (in_append_right (map OfChunk p.chunks) _ _ (in_append_right (map object_said p.objects) _ _ (in_append_left (map OfRemembered p.fields) _ _ (in_map OfRemembered p.fields f h))))));
 }

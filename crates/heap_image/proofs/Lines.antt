@@ -19,7 +19,7 @@ use Rattle.image_check.specs.Line.{said_by, said_by_words, state_named, state_wo
 use Rattle.heap_image.specs.declared.picture.Picked.{Picked}
 use Rattle.heap_image.specs.Form.{IsLong, HasFitParent, IsTaskForm, IsChunkForm, IsObjectForm, IsFieldForm}
 use Rattle.heap_image.specs.Text.{parent_word, kind_word, title_words, task_words, chunk_words, head_words, object_words, field_words, end_words}
-use Rattle.heap_image.specs.Told.{object_told}
+use Rattle.heap_image.specs.Told.{object_said}
 use Rattle.heap_image.proofs.Words.{proper_decimal, proper_signed, short_is_long, short_again, long_again, signed_again, decimal_no_hyphen}
 
 -- words that are written with one space between them say this
@@ -150,7 +150,7 @@ head_proper o h =
     let i = right_long (length o.references) (length o.numbers) h.sized in
     (grind arith, (proper_decimal o.address h.address, (proper_decimal o.birth.task (short_is_long o.birth.task h.task), (proper_decimal o.birth.count (short_is_long o.birth.count h.count), (kind_proper o.mutable, (proper_decimal (length o.references) r, one (length o.numbers) i))))))
 
-pub object_tells : (o : Picked) → IsObjectForm o → Tells (object_words o) (object_told o)
+pub object_tells : (o : Picked) → IsObjectForm o → Tells (object_words o) (object_said o)
 object_tells o h = record {
   proper =
       proper_append (head_words o ++ map decimal o.references) (map signed_decimal o.numbers)

@@ -20,7 +20,7 @@ use Rattle.image_check.specs.Fault.{cause_on, lacks_parent, is_astray, crosses, 
 use Rattle.heap_image.specs.declared.picture.Picked.{Picked}
 use Rattle.heap_image.specs.declared.picture.Picture.{Picture}
 use Rattle.heap_image.specs.Picture.{TaskBefore, ChunkBefore, ObjectBefore, FieldBefore, IsOwned, IsFit, IsSoundPicture}
-use Rattle.heap_image.specs.Told.{as_read, object_told}
+use Rattle.heap_image.specs.Told.{as_read, object_said}
 use Rattle.heap_image.proofs.Splits.{IsCut, in_front, in_middle, one_of_three, before_it, behind_it, same_item}
 use Rattle.heap_image.proofs.Tables.{found_in, entry_more, new_more, item_more}
 use Rattle.heap_image.proofs.Passes.{IsStep, last_of, last_more, last_from, formed, lower}
@@ -140,9 +140,9 @@ module _ (p : Picture) (s : IsSoundPicture p) (w : Whole) (all : HasAll p w) whe
         ∙ in_its_chunk k.chunk (uncrowded p s a o b c k.chunk k.inside) (resting p s k.chunk.owner k.rests)
         (none_astray p s w all a o here) (none_crosses p s w all a o here k.chunk.owner owned) (none_left_out p s w all a o here k.chunk.owner owned)
 
-    pub object_step : IsStep w object_told (objects_read p) a o
+    pub object_step : IsStep w object_said (objects_read p) a o
     object_step = record {
-      clear = formed w (objects_read p a) (object_told o) (behind_objects p a) (object_at o) refl refl refl object_up object_clear;
+      clear = formed w (objects_read p a) (object_said o) (behind_objects p a) (object_at o) refl refl refl object_up object_clear;
       reads = λ j. record {
         last = Some (last_more object_at (behind_chunks p p.chunks) a o j);
         tasks = task_table p.tasks;

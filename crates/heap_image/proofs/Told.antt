@@ -10,7 +10,7 @@ use Rattle.image_check.specs.declared.line.Said.TheVariants.{Nothing, Title, OfT
 use Rattle.image_check.specs.Line.{said_by}
 use Rattle.heap_image.specs.Form.{IsLong}
 use Rattle.heap_image.specs.Text.{line, title_words, task_words, chunk_words, object_words, field_words, end_words, task_line, chunk_line, object_line, field_line}
-use Rattle.heap_image.specs.Told.{object_told, PicturesAreRead}
+use Rattle.heap_image.specs.Told.{object_said, PicturesAreRead}
 use Rattle.heap_image.proofs.Lines.{Tells, line_tells, title_tells, task_tells, chunk_tells, object_tells, field_tells, end_tells}
 
 -- all that the lines of a text say
@@ -54,7 +54,7 @@ pictures_are_read p h few =
     ∙ first_said title_words Title (flat_map task_line p.tasks ++ (flat_map chunk_line p.chunks ++ (flat_map object_line p.objects ++ (flat_map field_line p.fields ++ (end_line (length p.objects)))))) title_tells
     ∙ ap (λ ss. Title ∷ ss) (items_said task_words OfTask p.tasks (flat_map chunk_line p.chunks ++ (flat_map object_line p.objects ++ (flat_map field_line p.fields ++ (end_line (length p.objects))))) (λ t i. task_tells t (h.tasks t i)))
     ∙ ap (λ ss. Title ∷ (map OfTask p.tasks ++ ss)) (items_said chunk_words OfChunk p.chunks (flat_map object_line p.objects ++ (flat_map field_line p.fields ++ (end_line (length p.objects)))) (λ c i. chunk_tells c (h.chunks c i)))
-    ∙ ap (λ ss. Title ∷ (map OfTask p.tasks ++ (map OfChunk p.chunks ++ ss))) (items_said object_words object_told p.objects (flat_map field_line p.fields ++ (end_line (length p.objects))) (λ o i. object_tells o (h.objects o i)))
-    ∙ ap (λ ss. Title ∷ (map OfTask p.tasks ++ (map OfChunk p.chunks ++ (map object_told p.objects ++ ss)))) (items_said field_words OfRemembered p.fields (end_line (length p.objects)) (λ f i. field_tells f (h.fields f i)))
-    ∙ ap (λ ss. Title ∷ (map OfTask p.tasks ++ (map OfChunk p.chunks ++ (map object_told p.objects ++ (map OfRemembered p.fields ++ ss))))) (end_said (length p.objects) few)
-    ∙ sym (six_behind (Title ∷ []) (map OfTask p.tasks) (map OfChunk p.chunks) (map object_told p.objects) (map OfRemembered p.fields) (OfEnd (length p.objects) ∷ []) (Nothing ∷ []))
+    ∙ ap (λ ss. Title ∷ (map OfTask p.tasks ++ (map OfChunk p.chunks ++ ss))) (items_said object_words object_said p.objects (flat_map field_line p.fields ++ (end_line (length p.objects))) (λ o i. object_tells o (h.objects o i)))
+    ∙ ap (λ ss. Title ∷ (map OfTask p.tasks ++ (map OfChunk p.chunks ++ (map object_said p.objects ++ ss)))) (items_said field_words OfRemembered p.fields (end_line (length p.objects)) (λ f i. field_tells f (h.fields f i)))
+    ∙ ap (λ ss. Title ∷ (map OfTask p.tasks ++ (map OfChunk p.chunks ++ (map object_said p.objects ++ (map OfRemembered p.fields ++ ss))))) (end_said (length p.objects) few)
+    ∙ sym (six_behind (Title ∷ []) (map OfTask p.tasks) (map OfChunk p.chunks) (map object_said p.objects) (map OfRemembered p.fields) (OfEnd (length p.objects) ∷ []) (Nothing ∷ []))

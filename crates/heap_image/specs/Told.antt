@@ -16,22 +16,22 @@ use Rattle.heap_image.specs.Text.{text_of}
 abbrev pub as_read : Picked → Object
 as_read o = record { address = o.address; birth = o.birth; references = o.references; numbers = length o.numbers }
 
-abbrev pub object_told : Picked → Said
-object_told o = OfObject (as_read o)
+abbrev pub object_said : Picked → Said
+object_said o = OfObject (as_read o)
 
 -- all that a picture has, line by line
-abbrev pub told_by : Picture → List Said
-told_by p =
+abbrev pub all_said : Picture → List Said
+all_said p =
     (Title ∷ [])
     ++ map OfTask p.tasks
     ++ map OfChunk p.chunks
-    ++ map object_told p.objects
+    ++ map object_said p.objects
     ++ map OfRemembered p.fields
     ++ OfEnd (length p.objects) ∷ []
 
 -- the lines of its text say all that a picture has, in order, and nothing else; behind the last line feed is nothing
 abbrev pub PicturesAreRead : Type 0
-PicturesAreRead = (p : Picture) → IsInForm p → IsLong (length p.objects) → map said_by (lines_of (text_of p)) ≡ told_by p ++ Nothing ∷ []
+PicturesAreRead = (p : Picture) → IsInForm p → IsLong (length p.objects) → map said_by (lines_of (text_of p)) ≡ all_said p ++ Nothing ∷ []
 
 -- the verifier finds no fault in the text of a picture, but that it may be too long, and counts its objects
 pub record IsFaultless (p : Picture) : Type 0 where
