@@ -7,9 +7,9 @@ abbrev pub most_bytes : ℕ
 most_bytes = 16777216
 
 -- the bytes that a source tells: those of the file, or, where none is named, those that are left
-abbrev pub told : Option (List ℕ) → (List ℕ → Option (List ℕ)) → Option (List ℕ) → Option (List ℕ)
-told left named None = left
-told left named (Some file) = named file
+abbrev pub source_bytes : Option (List ℕ) → (List ℕ → Option (List ℕ)) → Option (List ℕ) → Option (List ℕ)
+source_bytes left named None = left
+source_bytes left named (Some file) = named file
 
 -- the input: all of the bytes, or the first ones as far as one past the limit
 abbrev pub input_of : ℕ → List ℕ → List ℕ

@@ -3,7 +3,7 @@
 ghost use Rattle.std.specs.Prelude.{◌≡◌, ◌<◌, ◌≤◌, ◌+◌, ◌++◌, length, take, drop, IfOk, OnOk, OnErr, IfErr, Some, Option, List, ℕ, option_map};
 ghost use Rattle.outside_io.specs.Fault.{HasRisen};
 ghost use Rattle.outside_io.specs.Told.{Gives};
-ghost use Rattle.all_bytes.specs.Bytes.{most_bytes, told, input_of, Grows};
+ghost use Rattle.all_bytes.specs.Bytes.{most_bytes, source_bytes, input_of, Grows};
 
 use outside_io::{Failed, Source};
 use std::alloc::{AllocError, Global};
@@ -64,7 +64,7 @@ fn read_left<S: Source>(alloc: Global, source: &mut S, limit: usize) -> Result<V
 
 // Goes to the beginning of a file; standard input stays where it is.
 fn open<S: Source>(source: &mut S, file: Option<&str>) -> Result<(), ReadError>
-    ensures told { OnOk result (S.left source.new ≡ told (S.left source.old) (S.named source.old) (option_map (λ s. s.now) file.entry)) }
+    ensures told { OnOk result (S.left source.new ≡ source_bytes (S.left source.old) (S.named source.old) (option_map (λ s. s.now) file.entry)) }
     ensures failed { IfErr result (λ e. HasRisen (S.faults source.old) (S.faults source.new)) }
     ensures never_falls { S.faults source.old ≤ S.faults source.new }
 {
@@ -86,8 +86,8 @@ pub fn read_file<S: Source>(
 ) -> Result<Vec<u8>, ReadError>
     requires { limit ≤ most_bytes }
     ensures within { IfOk result (λ input. length input.items ≤ limit + 1) }
-    ensures input { IfOk result (λ input. (whole : List ℕ) → told (S.left source.old) (S.named source.old) (option_map (λ s. s.now) file.entry) ≡ Some whole → input.items ≡ input_of limit whole) }
-    ensures taken { OnOk result ((whole : List ℕ) → told (S.left source.old) (S.named source.old) (option_map (λ s. s.now) file.entry) ≡ Some whole → S.left source.new ≡ Some (drop (limit + 1) whole)) }
+    ensures input { IfOk result (λ input. (whole : List ℕ) → source_bytes (S.left source.old) (S.named source.old) (option_map (λ s. s.now) file.entry) ≡ Some whole → input.items ≡ input_of limit whole) }
+    ensures taken { OnOk result ((whole : List ℕ) → source_bytes (S.left source.old) (S.named source.old) (option_map (λ s. s.now) file.entry) ≡ Some whole → S.left source.new ≡ Some (drop (limit + 1) whole)) }
     ensures failed { IfErr result (λ e. e ≡ ReadError.Fault → HasRisen (S.faults source.old) (S.faults source.new)) }
     ensures never_falls { S.faults source.old ≤ S.faults source.new }
 {

@@ -1,6 +1,6 @@
 -- The inputs of commands: whose bytes they are, and how many of them are read at most.
 use Rattle.std.specs.Prelude.{ℕ, Bool, true, false, List, [], Option, Some, None, Result, Err, length, nat_le, if◌then◌else◌}
-use Rattle.all_bytes.specs.Bytes.{told}
+use Rattle.all_bytes.specs.Bytes.{source_bytes}
 use Rattle.hh_lang.specs.Form.{ProgramText}
 use Rattle.program_reader.specs.declared.cause.Refused.{Refused}
 use Rattle.program_reader.specs.Program.{reading_of}
@@ -37,12 +37,12 @@ reads None = false
 reads (Some line) = is_reading line
 
 -- the bytes that a source tells for a command; `make` reads none
-abbrev pub told_for : Option (List ℕ) → (List ℕ → Option (List ℕ)) → CommandLine → Option (List ℕ)
-told_for left named (Check file) = told left named file
-told_for left named (Run file options) = told left named file
-told_for left named (Replay file options) = told left named file
-told_for left named (Model file options) = told left named file
-told_for left named (Races file limits) = told left named file
-told_for left named (Image file limits) = told left named file
-told_for left named (Make seed size run) = Some []
-told_for left named (Verify file) = told left named file
+abbrev pub source_bytes_for : Option (List ℕ) → (List ℕ → Option (List ℕ)) → CommandLine → Option (List ℕ)
+source_bytes_for left named (Check file) = source_bytes left named file
+source_bytes_for left named (Run file options) = source_bytes left named file
+source_bytes_for left named (Replay file options) = source_bytes left named file
+source_bytes_for left named (Model file options) = source_bytes left named file
+source_bytes_for left named (Races file limits) = source_bytes left named file
+source_bytes_for left named (Image file limits) = source_bytes left named file
+source_bytes_for left named (Make seed size run) = Some []
+source_bytes_for left named (Verify file) = source_bytes left named file

@@ -2,8 +2,8 @@
 
 ghost use Rattle.std.specs.Prelude.{◌≡◌, ◌≤◌, ◌+◌, true, false, length, drop, option_map, IfOk, OnOk, IfErr, Some, List, ℕ};
 ghost use Rattle.outside_io.specs.Fault.{HasRisen};
-ghost use Rattle.all_bytes.specs.Bytes.{input_of, most_bytes, told};
-ghost use Rattle.command_answers.specs.Input.{limit_of, is_reading, program_in, told_for};
+ghost use Rattle.all_bytes.specs.Bytes.{input_of, most_bytes, source_bytes};
+ghost use Rattle.command_answers.specs.Input.{limit_of, is_reading, program_in, source_bytes_for};
 
 use all_bytes::{ReadError, read_file};
 use command_line::{CommandLine, FileName};
@@ -46,8 +46,8 @@ fn read_named<S: Source>(
 ) -> Result<Vec<u8>, ReadError>
     requires { limit ≤ most_bytes }
     ensures within { IfOk result (λ input. length input.items ≤ limit + 1) }
-    ensures input { IfOk result (λ input. (whole : List ℕ) → told (S.left source.old) (S.named source.old) file.now ≡ Some whole → input.items ≡ input_of limit whole) }
-    ensures taken { OnOk result ((whole : List ℕ) → told (S.left source.old) (S.named source.old) file.now ≡ Some whole → S.left source.new ≡ Some (drop (limit + 1) whole)) }
+    ensures input { IfOk result (λ input. (whole : List ℕ) → source_bytes (S.left source.old) (S.named source.old) file.now ≡ Some whole → input.items ≡ input_of limit whole) }
+    ensures taken { OnOk result ((whole : List ℕ) → source_bytes (S.left source.old) (S.named source.old) file.now ≡ Some whole → S.left source.new ≡ Some (drop (limit + 1) whole)) }
     ensures failed { IfErr result (λ e. e ≡ ReadError.Fault → HasRisen (S.faults source.old) (S.faults source.new)) }
 {
     read_file(alloc, source, name_of(file), limit)
@@ -60,8 +60,8 @@ pub fn read_input<S: Source>(
     line: &CommandLine,
 ) -> Result<Vec<u8>, ReadError>
     ensures within { IfOk result (λ input. length input.items ≤ limit_of line.now + 1) }
-    ensures input { IfOk result (λ input. (whole : List ℕ) → told_for (S.left source.old) (S.named source.old) line.now ≡ Some whole → input.items ≡ input_of (limit_of line.now) whole) }
-    ensures taken { OnOk result (is_reading line.now ≡ true → (whole : List ℕ) → told_for (S.left source.old) (S.named source.old) line.now ≡ Some whole → S.left source.new ≡ Some (drop (limit_of line.now + 1) whole)) }
+    ensures input { IfOk result (λ input. (whole : List ℕ) → source_bytes_for (S.left source.old) (S.named source.old) line.now ≡ Some whole → input.items ≡ input_of (limit_of line.now) whole) }
+    ensures taken { OnOk result (is_reading line.now ≡ true → (whole : List ℕ) → source_bytes_for (S.left source.old) (S.named source.old) line.now ≡ Some whole → S.left source.new ≡ Some (drop (limit_of line.now + 1) whole)) }
     ensures untouched { is_reading line.now ≡ false → S.left source.new ≡ S.left source.old }
     ensures failed { IfErr result (λ e. e ≡ ReadError.Fault → (is_reading line.now ≡ true) × HasRisen (S.faults source.old) (S.faults source.new)) }
 {

@@ -4,7 +4,7 @@ ghost use Rattle.std.specs.Prelude.{◌≡◌, ◌≢◌, ◌≤◌, ◌+◌, dr
 ghost use Rattle.outside_io.specs.Fault.{HasRisen};
 ghost use Rattle.command_line.specs.CommandLine.{command_line, HasSize};
 ghost use Rattle.all_bytes.specs.Bytes.{input_of};
-ghost use Rattle.command_answers.specs.Input.{limit_of, is_reading, told_for, reads};
+ghost use Rattle.command_answers.specs.Input.{limit_of, is_reading, source_bytes_for, reads};
 ghost use Rattle.command_answers.specs.Delivery.{DeliversLine, DeliversWords, GivesFound, IsAnswered};
 
 use crate::answers::answer_line;
@@ -76,13 +76,13 @@ pub fn command<R: Threads + Wait + Sync, S: Source, K: Sink, G: Gate>(
     ensures words { command_line (map string_bytes words.now) ≡ None → DeliversWords result (K.written sink.old) (K.written sink.new) }
 
     // A command answers by its input: the bytes of its file or those that are left, as far as one past its limit.
-    ensures input { (line : CommandLine) (whole : List ℕ) → command_line (map string_bytes words.now) ≡ Some line → told_for (S.left source.old) (S.named source.old) line ≡ Some whole → DeliversLine line (input_of (limit_of line) whole) result (K.written sink.old) (K.written sink.new) }
+    ensures input { (line : CommandLine) (whole : List ℕ) → command_line (map string_bytes words.now) ≡ Some line → source_bytes_for (S.left source.old) (S.named source.old) line ≡ Some whole → DeliversLine line (input_of (limit_of line) whole) result (K.written sink.old) (K.written sink.new) }
 
     // Whatever the source tells, a command answers by some input of at most so many bytes.
     ensures some_input { (line : CommandLine) → command_line (map string_bytes words.now) ≡ Some line → (input : List ℕ) × (length input ≤ limit_of line + 1) × DeliversLine line input result (K.written sink.old) (K.written sink.new) }
 
     // All of its input was taken. Where no input is read, the source isn't touched.
-    ensures taken { (line : CommandLine) (whole : List ℕ) → command_line (map string_bytes words.now) ≡ Some line → is_reading line ≡ true → result.status ≢ Status.ReadFault → result.status ≢ Status.NoMemory → told_for (S.left source.old) (S.named source.old) line ≡ Some whole → S.left source.new ≡ Some (drop (limit_of line + 1) whole) }
+    ensures taken { (line : CommandLine) (whole : List ℕ) → command_line (map string_bytes words.now) ≡ Some line → is_reading line ≡ true → result.status ≢ Status.ReadFault → result.status ≢ Status.NoMemory → source_bytes_for (S.left source.old) (S.named source.old) line ≡ Some whole → S.left source.new ≡ Some (drop (limit_of line + 1) whole) }
     ensures untouched { reads (command_line (map string_bytes words.now)) ≡ false → S.left source.new ≡ S.left source.old }
 
     // Faults are told only where one rose.

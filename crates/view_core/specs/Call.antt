@@ -1,19 +1,19 @@
 -- A whole call: the words, the input, and what is written where.
 use Rattle.std.specs.Prelude.{◌≡◌, ◌⊎◌, ℕ, Bool, true, false, List, [], Option, Some}
 use Rattle.outside_io.specs.Told.{with_more}
-use Rattle.all_bytes.specs.Bytes.{told, WroteSome}
+use Rattle.all_bytes.specs.Bytes.{source_bytes, WroteSome}
 use Rattle.view_line.specs.ViewLine.{Asked, AsksUsage, AsksHeaps, AsksTimeline, AsksTasks, AsksSchedules}
 use Rattle.view_core.specs.declared.shown.Status.{Status}
 use Rattle.view_core.specs.declared.shown.Status.TheVariants.{Done, Differ, ReadFault, WriteFault, NoMemory}
 use Rattle.view_core.specs.declared.shown.Shown.{Shown}
 
 -- the bytes that a source tells for a view; the usage reads none
-abbrev pub told_for : Option (List ℕ) → (List ℕ → Option (List ℕ)) → Asked → Option (List ℕ)
-told_for left named AsksUsage = Some []
-told_for left named (AsksHeaps file p limit) = told left named file
-told_for left named (AsksTimeline r) = told left named r.0
-told_for left named (AsksTasks r) = told left named r.0
-told_for left named (AsksSchedules r) = told left named r.0
+abbrev pub source_bytes_for : Option (List ℕ) → (List ℕ → Option (List ℕ)) → Asked → Option (List ℕ)
+source_bytes_for left named AsksUsage = Some []
+source_bytes_for left named (AsksHeaps file p limit) = source_bytes left named file
+source_bytes_for left named (AsksTimeline r) = source_bytes left named r.0
+source_bytes_for left named (AsksTasks r) = source_bytes left named r.0
+source_bytes_for left named (AsksSchedules r) = source_bytes left named r.0
 
 -- what standard output and standard error took
 pub record Streams : Type 0 where

@@ -8,7 +8,7 @@ ghost use Rattle.trace_input.specs.Input.{trace_limit};
 ghost use Rattle.refusal_lines.specs.Refusals.{words_line};
 ghost use Rattle.view_line.specs.ViewLine.{Asked, asked_of, view_line};
 ghost use Rattle.view_core.specs.Shown.{Says, ShowsView};
-ghost use Rattle.view_core.specs.Call.{told_for, is_picture, Wrote, WroteBy, Ends};
+ghost use Rattle.view_core.specs.Call.{source_bytes_for, is_picture, Wrote, WroteBy, Ends};
 
 use crate::refusals::refused;
 use crate::shown::{Shown, Status};
@@ -32,7 +32,7 @@ fn name_of(file: &Option<String>) -> Option<&str>
 
 // Reads the input of a view.
 fn read_for<S: Source>(alloc: Global, source: &mut S, view: &View) -> Result<Vec<u8>, ReadError>
-    ensures input { IfOk result (λ input. (whole : List ℕ) → told_for (S.left source.old) (S.named source.old) (asked_of view.now) ≡ Some whole → input.items ≡ input_of trace_limit whole) }
+    ensures input { IfOk result (λ input. (whole : List ℕ) → source_bytes_for (S.left source.old) (S.named source.old) (asked_of view.now) ≡ Some whole → input.items ≡ input_of trace_limit whole) }
     ensures failed { IfErr result (λ e. e ≡ ReadError.Fault → HasRisen (S.faults source.old) (S.faults source.new)) }
 {
     match view {
@@ -114,7 +114,7 @@ fn answer<S: Source, K: Sink, E: Sink>(
     out: &mut K,
     error: &mut E,
 ) -> Status
-    ensures { (whole : List ℕ) → told_for (S.left source.old) (S.named source.old) (asked_of view.now) ≡ Some whole → Ends (ShowsView (asked_of view.now) (input_of trace_limit whole)) result (record { out = K.written out.old; error = E.written error.old }) (record { out = K.written out.new; error = E.written error.new }) }
+    ensures { (whole : List ℕ) → source_bytes_for (S.left source.old) (S.named source.old) (asked_of view.now) ≡ Some whole → Ends (ShowsView (asked_of view.now) (input_of trace_limit whole)) result (record { out = K.written out.old; error = E.written error.old }) (record { out = K.written out.new; error = E.written error.new }) }
 {
     match read_for(alloc, source, view) {
         Err(ReadError::Fault) => Status::ReadFault,
@@ -135,7 +135,7 @@ pub fn view<S: Source, K: Sink, E: Sink>(
     error: &mut E,
 ) -> Status
     ensures words { view_line (map string_bytes words.now) ≡ None → Ends (Says Status.Words words_line) result (record { out = K.written out.old; error = E.written error.old }) (record { out = K.written out.new; error = E.written error.new }) }
-    ensures input { (v : Asked) (whole : List ℕ) → view_line (map string_bytes words.now) ≡ Some v → told_for (S.left source.old) (S.named source.old) v ≡ Some whole → Ends (ShowsView v (input_of trace_limit whole)) result (record { out = K.written out.old; error = E.written error.old }) (record { out = K.written out.new; error = E.written error.new }) }
+    ensures input { (v : Asked) (whole : List ℕ) → view_line (map string_bytes words.now) ≡ Some v → source_bytes_for (S.left source.old) (S.named source.old) v ≡ Some whole → Ends (ShowsView v (input_of trace_limit whole)) result (record { out = K.written out.old; error = E.written error.old }) (record { out = K.written out.new; error = E.written error.new }) }
 {
     match read_view(alloc, words) {
         Err(AllocError) => Status::NoMemory,
