@@ -2,7 +2,7 @@
 use Rattle.std.specs.Prelude.{◌≡◌, ◌⊎◌, ◌↔◌, ◌++◌, ◌∷◌, ◌+◌, ◌<◌, ◌≤◌, ℕ, min, true, Option, Some, None, List, [], All, length, slice_get}
 use Rattle.hh_model.specs.Step.{is_waiting}
 use Rattle.run_trace.specs.declared.entry.Kind.{Kind}
-use Rattle.run_trace.specs.declared.entry.Kind.TheVariants.{Mark, More}
+use Rattle.run_trace.specs.declared.entry.Kind.TheVariants.{More}
 use Rattle.run_trace.specs.Entry.{EntryValue}
 use Rattle.run_ledger.specs.declared.data.Ledger.{Ledger}
 use Rattle.run_ledger.specs.Heaps.{heap_of, left_in}
@@ -22,6 +22,7 @@ use Rattle.shared_value.specs.SharedValue.{SharedValue, accounts, marks_at, rest
 use Rattle.shared_value.specs.Stands.{IsSharedValue}
 use Rattle.shared_value.specs.Fits.{AllFit}
 use Rattle.shared_value.specs.Entered.{refused}
+use Rattle.core_relation.specs.Counts.{IsMarked}
 
 -- where a marking of the heap of t begins: at an object of it that a register of t names, or to which a remembered
 -- field refers
@@ -40,17 +41,11 @@ MarksBegin =
 abbrev pub marked_more : SharedValue → EntryValue → List (Option MarkingValue) → ℕ → SharedValue
 marked_more w e marks room = record w { marks = marks; journal = record { items = w.journal.items ++ e ∷ []; room = room } }
 
--- the entry begins the marking of the heap of t, or goes on with it
-abbrev pub MarksJust : Kind → ℕ → Type 0
-MarksJust (Mark u) t = u ≡ t
-MarksJust (More u n) t = u ≡ t
-MarksJust _ t = ⊥
-
 -- a marking that can go on, of as many objects as the account says then, is entered
 abbrev pub MarksEnter : Type 0
 MarksEnter =
     (w : SharedValue) (k : ℕ) (kind : Kind) (t : ℕ) (m : MarkingValue) (marks : List (Option MarkingValue)) (room : ℕ) → let e : EntryValue = record { worker = k; kind = kind } in let l : Ledger = accounts w in
-    IsSharedValue w → refused w e ≡ None → MarksJust kind t → marks_at marks t ≡ Some m → ((u : ℕ) → (u ≡ t → ⊥) → marks_at marks u ≡ marks_at w.marks u)
+    IsSharedValue w → refused w e ≡ None → IsMarked kind t → marks_at marks t ≡ Some m → ((u : ℕ) → (u ≡ t → ⊥) → marks_at marks u ≡ marks_at w.marks u)
     → (heap_of (after w.program w.settings l e) t).marked ≡ Some (length (marked_of m)) → GoesOn (value_of w) t (heap_of l t).snapshot m
     → IsSharedValue (marked_more w e marks room) × AllFit w (marked_more w e marks room)
 
