@@ -67,12 +67,12 @@ abbrev pub entered : Row → Row
 entered r = record r { entries = raised_by r.entries 1 }
 
 -- what an entry of a worker, with which the heap lost so many words, tells of its task
-abbrev pub told : ℕ → ℕ → Kind → Row → Row
-told w lost (Took t) r = record (entered r) { worker = first_of r.worker w }
-told w lost (Ran t k) r = record (entered r) { steps = raised_by r.steps k }
-told w lost (End t taken given left) r = record (entered r) { dropped = raised_by r.dropped lost }
-told w lost (Sweep t given) r = record (entered r) { dropped = raised_by r.dropped lost }
-told w lost _ r = entered r
+abbrev pub row_after : ℕ → ℕ → Kind → Row → Row
+row_after w lost (Took t) r = record (entered r) { worker = first_of r.worker w }
+row_after w lost (Ran t k) r = record (entered r) { steps = raised_by r.steps k }
+row_after w lost (End t taken given left) r = record (entered r) { dropped = raised_by r.dropped lost }
+row_after w lost (Sweep t given) r = record (entered r) { dropped = raised_by r.dropped lost }
+row_after w lost _ r = entered r
 
 -- the task that an entry tells of
 abbrev pub task_in : Kind → Option ℕ
@@ -91,9 +91,9 @@ abbrev pub with_row : List Row → ℕ → (Row → Row) → Option Row → List
 with_row rows t f None = rows
 with_row rows t f (Some r) = slice_set rows t (f r)
 
-abbrev pub told_of : List Row → ℕ → ℕ → Kind → Option ℕ → List Row
-told_of rows w lost kind None = rows
-told_of rows w lost kind (Some t) = with_row rows t (told w lost kind) (slice_get rows t)
+abbrev pub rows_after : List Row → ℕ → ℕ → Kind → Option ℕ → List Row
+rows_after rows w lost kind None = rows
+rows_after rows w lost kind (Some t) = with_row rows t (row_after w lost kind) (slice_get rows t)
 
 -- the rows of the children that a task has just forked
 abbrev pub children : ProgramText → State → ℕ → ℕ → Option ℕ → List Row
@@ -102,7 +102,7 @@ children p m made now (Some t) = if now == made then [] else fresh_row (fork_of 
 
 -- the rows behind an entry, in front of which so many tasks were made, and with which the heap lost so many words
 abbrev pub rows_by : ProgramText → State → ℕ → ℕ → EntryValue → List Row → List Row
-rows_by p m made lost e rows = told_of rows e.worker lost e.kind (task_in e.kind) ++ children p m made (length m.tasks) (task_in e.kind)
+rows_by p m made lost e rows = rows_after rows e.worker lost e.kind (task_in e.kind) ++ children p m made (length m.tasks) (task_in e.kind)
 
 -- by the accounts in front of it and behind it
 abbrev pub rows_with : ProgramText → Ledger → Ledger → EntryValue → List Row → List Row

@@ -1,7 +1,7 @@
 // What an entry tells of tasks.
 
 ghost use Rattle.std.specs.Prelude.{◌≡◌, ◌<◌, ◌+◌, ◌^◌, ◌++◌, OnOk, Some, length, option_copied, slice_get};
-ghost use Rattle.task_table.specs.Rows.{name_in, function_name, half_begin, last_byte, loop_number, made_by, fork_of, fresh_row, first_of, entered, told, task_in, with_row, told_of, children, rows_by};
+ghost use Rattle.task_table.specs.Rows.{name_in, function_name, half_begin, last_byte, loop_number, made_by, fork_of, fresh_row, first_of, entered, row_after, task_in, with_row, rows_after, children, rows_by};
 
 use crate::row::{Fork, Row};
 use hh_lang::{IntReg, Program};
@@ -101,8 +101,8 @@ fn entered(row: Row) -> Row
 }
 
 // With what an entry tells.
-fn told(worker: u32, lost: u64, kind: Kind, row: Row) -> Row
-    ensures { result ≡ told worker lost kind row }
+fn row_after(worker: u32, lost: u64, kind: Kind, row: Row) -> Row
+    ensures { result ≡ row_after worker lost kind row }
 {
     let mut more = entered(row);
     match kind {
@@ -142,11 +142,11 @@ fn row_at(rows: &Listed<Row>, task: usize) -> Option<Row>
 
 // Tells of a task.
 fn tell(rows: &mut Listed<Row>, worker: u32, lost: u64, kind: Kind, task: u32)
-    ensures { rows.new ≡ told_of rows.old worker lost kind (Some task) }
+    ensures { rows.new ≡ rows_after rows.old worker lost kind (Some task) }
 {
     match row_at(rows, task as usize) {
         None => {}
-        Some(row) => rows.set(task as usize, told(worker, lost, kind, row)),
+        Some(row) => rows.set(task as usize, row_after(worker, lost, kind, row)),
     }
 }
 
