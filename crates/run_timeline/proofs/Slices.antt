@@ -20,7 +20,7 @@ use Rattle.json_text.specs.Json.{Json}
 use Rattle.run_timeline.specs.declared.words.Counts.{Counts}
 use Rattle.run_timeline.specs.Words.{counts_of, words_held}
 use Rattle.run_timeline.specs.Events.{arrow_begins, arrow_ends}
-use Rattle.run_timeline.specs.Entries.{slice, told_by, taken, first_taken, forked, ended, ended_by, joined, chunks_counted, counter, counted, run_ended, words_counted, entry_events}
+use Rattle.run_timeline.specs.Entries.{slice, begins_and_ends, taken, first_taken, forked, ended, ended_by, joined, chunks_counted, counter, counted, run_ended, words_counted, entry_events}
 use Rattle.run_timeline.specs.Timeline.{events_from, events_of, no_entry}
 use Rattle.run_timeline.specs.Laws.{is_slice, SlicesAreEntries}
 
@@ -71,7 +71,7 @@ none_ended : (t n w : ℕ) (o : Option Task) → slices (ended t n w o) ≡ 0
 none_ended t n w None = refl
 none_ended t n w (Some x) = none_by t n w x.parent x.status
 
-none_told : (p : ProgramText) (made : ℕ) (m : State) (n w : ℕ) (k : Kind) → slices (told_by p made m n w k) ≡ 0
+none_told : (p : ProgramText) (made : ℕ) (m : State) (n w : ℕ) (k : Kind) → slices (begins_and_ends p made m n w k) ≡ 0
 none_told p made m n w (Took t) = none_taken p m t n w (slice_get m.tasks t)
 none_told p made m n w (Ran t k) =
     let a = none_forked made (length m.tasks) n w in
@@ -99,7 +99,7 @@ none_run_ended p m n w (Some e) = refl
 
 one_slice : (p : ProgramText) (was : Counts) (l : Ledger) (before n : ℕ) (e : EntryValue) → slices (entry_events p was l before n e) ≡ 1
 one_slice p was l before n e =
-    let ts = told_by p was.tasks l.machine n e.worker e.kind in
+    let ts = begins_and_ends p was.tasks l.machine n e.worker e.kind in
     let cs = chunks_counted was.chunks (in_use l) n in
     let ws = words_counted was.words (words_held l) n in
     let es = run_ended p l.machine n e.worker l.end in

@@ -120,14 +120,14 @@ abbrev pub marking : List ℕ → ℕ → ℕ → ℕ → Json
 marking phase t n w = span phase (codes "marking") (codes "inner") t n w NoMember
 
 -- what begins and ends with an entry, in front of which so many tasks were made, and behind which the machine is this
-abbrev pub told_by : ProgramText → ℕ → State → ℕ → ℕ → Kind → List Json
-told_by p made m n w (Took t) = taken p m t n w (slice_get m.tasks t)
-told_by p made m n w (Ran t k) = forked made (length m.tasks) n w ++ ended t n w (slice_get m.tasks t)
-told_by p made m n w (Begin t) = collection (codes "b") t n w ∷ []
-told_by p made m n w (End t taken given left) = collection (codes "e") t n w ∷ []
-told_by p made m n w (Mark t) = marking (codes "b") t n w ∷ []
-told_by p made m n w (Sweep t given) = marking (codes "e") t n w ∷ []
-told_by p made m n w _ = []
+abbrev pub begins_and_ends : ProgramText → ℕ → State → ℕ → ℕ → Kind → List Json
+begins_and_ends p made m n w (Took t) = taken p m t n w (slice_get m.tasks t)
+begins_and_ends p made m n w (Ran t k) = forked made (length m.tasks) n w ++ ended t n w (slice_get m.tasks t)
+begins_and_ends p made m n w (Begin t) = collection (codes "b") t n w ∷ []
+begins_and_ends p made m n w (End t taken given left) = collection (codes "e") t n w ∷ []
+begins_and_ends p made m n w (Mark t) = marking (codes "b") t n w ∷ []
+begins_and_ends p made m n w (Sweep t given) = marking (codes "e") t n w ∷ []
+begins_and_ends p made m n w _ = []
 
 -- COUNTERS
 
@@ -168,7 +168,7 @@ run_ended p m n w (Some e) = run_end p m n w e ∷ []
 -- behind it they are these
 abbrev pub entry_events : ProgramText → Counts → Ledger → ℕ → ℕ → EntryValue → List Json
 entry_events p was l before n e =
-    (slice before n e ∷ told_by p was.tasks l.machine n e.worker e.kind)
+    (slice before n e ∷ begins_and_ends p was.tasks l.machine n e.worker e.kind)
     ++ chunks_counted was.chunks (in_use l) n
     ++ words_counted was.words (words_held l) n
     ++ run_ended p l.machine n e.worker l.end

@@ -6,7 +6,7 @@ ghost use Rattle.json_text.specs.Json.{further, NoMember, more_members};
 ghost use Rattle.hh_model.specs.declared.data.Task.{Task as TaskText};
 ghost use Rattle.run_timeline.specs.Events.{arguments, two_numbers};
 ghost use Rattle.quoted_text.specs.Labels.{task_name};
-ghost use Rattle.run_timeline.specs.Entries.{task_begins, task_ends, number_of, fork_line, next_line, first_taken, taken, forked, joined, ended_by, ended, collection, marking, told_by, counter, counted, end_name, end_members, run_end, run_ended};
+ghost use Rattle.run_timeline.specs.Entries.{task_begins, task_ends, number_of, fork_line, next_line, first_taken, taken, forked, joined, ended_by, ended, collection, marking, begins_and_ends, counter, counted, end_name, end_members, run_end, run_ended};
 
 use crate::events::{
     add_comma, add_span, begin_arguments, begin_arrow, begin_event, begin_span, end_arguments,
@@ -245,7 +245,7 @@ fn add_ran(
 }
 
 /// Adds what begins and ends with an entry.
-pub(crate) fn add_told(
+pub(crate) fn add_begins_and_ends(
     alloc: Global,
     text: &mut Vec<u8>,
     program: &Program,
@@ -257,7 +257,7 @@ pub(crate) fn add_told(
 ) -> Result<(), AllocError>
     requires few { made + 1 < 2 ^ 64 }
     requires first { 0 < number }
-    ensures { OnOk result (text.new.items ≡ text.old.items ++ flat_map further (told_by program.now made state.now number worker kind)) }
+    ensures { OnOk result (text.new.items ≡ text.old.items ++ flat_map further (begins_and_ends program.now made state.now number worker kind)) }
 {
     match kind {
         Kind::Took(task) => add_taken(alloc, text, program, state, task, number, worker),

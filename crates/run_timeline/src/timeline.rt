@@ -15,7 +15,7 @@ ghost use Rattle.run_timeline.specs.Pieces.{beginning, ending};
 
 use crate::entry::add_slice;
 use crate::events::{add_lane, add_process};
-use crate::tasks::{add_counted, add_run_ended, add_told};
+use crate::tasks::{add_begins_and_ends, add_counted, add_run_ended};
 use crate::words::{Counts, cleared_words, objects_by, words_behind};
 use hh_lang::Program;
 use run_journal::{ApplyError, Book, ReplayError};
@@ -46,7 +46,7 @@ fn add_entered(
     ensures { OnOk result (text.new.items ≡ text.old.items ++ flat_map further (entry_events program.now was book.now.ledger before number entry)) }
 {
     add_slice(alloc, text, before, number, entry.worker(), entry.kind())?;
-    add_told(
+    add_begins_and_ends(
         alloc,
         text,
         program,

@@ -2,7 +2,7 @@ use Rattle.std.specs.Prelude.{codes}
 use Rattle.std.proofs.lemmas.Result.{on_ok_weaker}
 use Rattle.run_timeline.specs.Entries.{collection, marking}
 use Rattle.run_timeline.proofs.Loops.{one_told}
-use Rattle.run_timeline.proofs.tasks.add_told.Goals as goal
+use Rattle.run_timeline.proofs.tasks.add_begins_and_ends.Goals as goal
 
 pub returns-in-Begin : goal.returns-in-Begin
 returns-in-Begin c = rw c.in-Begin.is (on_ok_weaker c.add_span.result (one_told (collection (codes "b") c.in-Begin.task c.args.number c.args.worker) c.args.text.now.items c.add_span.new.text.items) c.add_span.ensures)
