@@ -16,7 +16,7 @@ use Rattle.heap_marking.specs.declared.pace.Pace.{Pace}
 use Rattle.heap_marking.specs.declared.pace.Previous.TheVariants.{Other}
 use Rattle.heap_marking.specs.Pace.{KeepsPace, KeepsPrevious}
 use Rattle.heap_marking.proofs.PaceKeeps.{keeps_items}
-use Rattle.paced_tree.specs.Owed.{AreIdle, KeepsPaces, NotesAt, SameMarks, noted_of}
+use Rattle.paced_tree.specs.Owed.{AreIdle, KeepsPaces, NotesAt, SameMarks, worker_pace}
 
 -- A LIST OF IDLE PACES
 pub idle_none : AreIdle [] 0
@@ -57,7 +57,7 @@ same_kept w w' paces ep es ej K =
       paced = ap (λ p. is_paced p w'.settings w'.journal.items) ep ∙ (ap (λ s. is_paced w.program s w'.journal.items) es ∙ (ap (is_paced w.program w.settings) ej ∙ K.paced));
       workers = K.workers ∙ ap (λ (s : SettingsValue). s.workers) (sym es);
       keeps = λ on k q at.
-          subst (λ l. KeepsPace l q (noted_of w' k)) (sym ledger)
+          subst (λ l. KeepsPace l q (worker_pace w' k)) (sym ledger)
           (subst (λ ps. KeepsPace (accounts w) q (pace_of ps k)) (sym paces_at) (K.keeps (ap (λ (l : Ledger). l.end) (sym ledger) ∙ on) k q at));
     }
 
@@ -67,7 +67,7 @@ marks_kept w old new j N K = record {
   paced = K.paced;
   workers = N.many ∙ K.workers;
   keeps = λ on k q at. elim (cases_eq k j) [
-    | inl e ↦ let o = N.own q (ap (slice_get new) (sym e) ∙ at) in keeps_items (accounts w) o.0 q (noted_of w k) o.2.0 o.2.1 (K.keeps on k o.0 (ap (slice_get old) e ∙ o.1))
+    | inl e ↦ let o = N.own q (ap (slice_get new) (sym e) ∙ at) in keeps_items (accounts w) o.0 q (worker_pace w k) o.2.0 o.2.1 (K.keeps on k o.0 (ap (slice_get old) e ∙ o.1))
     | inr ne ↦ K.keeps on k q (sym (N.others k ne) ∙ at)
   ];
 }

@@ -28,7 +28,7 @@ use Rattle.heap_marking.specs.declared.pace.Fork.{Fork}
 use Rattle.heap_marking.specs.Pace.{IsForkOf, KeepsPace, previous_of}
 use Rattle.heap_marking.proofs.PaceKeeps.{mark_kept, steps_kept}
 use Rattle.heap_marking.proofs.ForksTold.{entered_accounts, paces_stay}
-use Rattle.paced_tree.specs.Owed.{KeepsNoted, KeepsPaces, NotesAt, NotesOther, Pays, noted_of}
+use Rattle.paced_tree.specs.Owed.{KeepsNoted, KeepsPaces, NotesAt, NotesOther, Pays, worker_pace}
 
 -- WHAT IS NOTED after one entry more
 module _ (p : ProgramText) (s : SettingsValue) where
@@ -52,14 +52,14 @@ module _ (w w' : SharedValue) (e : EntryValue) (E : Enters w w' e) where
       ∙ (all_then w.program w.settings w.journal.items (opening w.program w.settings) (pace_opening w.settings) e
       ∙ ap (λ l. pace_after l (pace_at_end w.program w.settings w.journal.items) e) (sym (entered_accounts w w' e E)))))
 
-  noted_own : e.worker < w.settings.workers → noted_of w' e.worker ≡ noted (accounts w') (noted_of w e.worker) e.kind
+  noted_own : e.worker < w.settings.workers → worker_pace w' e.worker ≡ noted (accounts w') (worker_pace w e.worker) e.kind
   noted_own lt =
       ap (λ paces. pace_of paces e.worker) paces_then
-      ∙ pace_same (pace_at_end w.program w.settings w.journal.items) e.worker (noted (accounts w') (noted_of w e.worker) e.kind) (let n : length (pace_at_end w.program w.settings w.journal.items) ≡ w.settings.workers = paces_many w in omega arith)
+      ∙ pace_same (pace_at_end w.program w.settings w.journal.items) e.worker (noted (accounts w') (worker_pace w e.worker) e.kind) (let n : length (pace_at_end w.program w.settings w.journal.items) ≡ w.settings.workers = paces_many w in omega arith)
 
-  noted_other : (k : ℕ) → k ≢ e.worker → noted_of w' k ≡ noted_of w k
+  noted_other : (k : ℕ) → k ≢ e.worker → worker_pace w' k ≡ worker_pace w k
   noted_other k ne =
-      ap (λ paces. pace_of paces k) paces_then ∙ ap or_idle (got_other (pace_at_end w.program w.settings w.journal.items) e.worker k (noted (accounts w') (noted_of w e.worker) e.kind) ne)
+      ap (λ paces. pace_of paces k) paces_then ∙ ap or_idle (got_other (pace_at_end w.program w.settings w.journal.items) e.worker k (noted (accounts w') (worker_pace w e.worker) e.kind) ne)
 
 -- KEPT
 pub paced_then : (w w' : SharedValue) (e : EntryValue) (old new : List Pace) → IsSharedValue w → KeepsPaces w old → Enters w w' e → refused w e ≡ None → (is_fuel e.kind ≡ true) ⊎ Pays w e → length new ≡ length old
@@ -73,17 +73,17 @@ paced_then w w' e old new I K E free pays many notes = record {
   keeps = keeps;
 }
   where
-    before : (k : ℕ) (q : Pace) → slice_get old k ≡ Some q → KeepsPace (accounts w') q (noted_of w k)
-    before k q at = paces_stay w w' e q (noted_of w k) I E free (K.keeps (entry_on w e free) k q at)
+    before : (k : ℕ) (q : Pace) → slice_get old k ≡ Some q → KeepsPace (accounts w') q (worker_pace w k)
+    before k q at = paces_stay w w' e q (worker_pace w k) I E free (K.keeps (entry_on w e free) k q at)
 
-    keeps : (accounts w').end ≡ None → (k : ℕ) (q : Pace) → slice_get new k ≡ Some q → KeepsPace (accounts w') q (noted_of w' k)
+    keeps : (accounts w').end ≡ None → (k : ℕ) (q : Pace) → slice_get new k ≡ Some q → KeepsPace (accounts w') q (worker_pace w' k)
     keeps on k q at = elim (cases_eq k e.worker) [
       | inl same ↦
           let o = (notes on).own q (ap (slice_get new) (sym same) ∙ at) in
           let lt : k < length new = got_within new k q at in
           let n : length new ≡ w.settings.workers = many ∙ K.workers in
           let below : e.worker < w.settings.workers = omega arith in
-          subst (λ x. KeepsPace (accounts w') q x) (sym (ap (noted_of w') same ∙ noted_own w w' e E below)) (o.2 (noted_of w e.worker) (before e.worker o.0 o.1))
+          subst (λ x. KeepsPace (accounts w') q x) (sym (ap (worker_pace w') same ∙ noted_own w w' e E below)) (o.2 (worker_pace w e.worker) (before e.worker o.0 o.1))
       | inr ne ↦ subst (λ x. KeepsPace (accounts w') q x) (sym (noted_other w w' e E k ne)) (before k q (sym ((notes on).others k ne) ∙ at))
     ]
 

@@ -12,12 +12,12 @@ use Rattle.heap_marking.specs.declared.pace.Previous.TheVariants.{Other}
 use Rattle.heap_marking.specs.Pace.{KeepsPace}
 
 -- what the journal keeps of the worker's entries
-abbrev pub noted_of : SharedValue → ℕ → WorkerPace
-noted_of w k = pace_of (pace_at_end w.program w.settings w.journal.items) k
+abbrev pub worker_pace : SharedValue → ℕ → WorkerPace
+worker_pace w k = pace_of (pace_at_end w.program w.settings w.journal.items) k
 
 -- what its next entry has to be
 abbrev pub owed_by : SharedValue → ℕ → Owed
-owed_by w k = owed w.settings (accounts w) (noted_of w k)
+owed_by w k = owed w.settings (accounts w) (worker_pace w k)
 
 -- the entry gives it
 abbrev pub Pays : SharedValue → EntryValue → Type 0
@@ -27,7 +27,7 @@ Pays w e = gives (owed_by w e.worker) e.kind ≡ true
 pub record KeepsPaces (w : SharedValue) (paces : List Pace) : Type 0 where
   pub paced : is_paced w.program w.settings w.journal.items ≡ true
   pub workers : length paces ≡ w.settings.workers
-  pub keeps : (accounts w).end ≡ None → (k : ℕ) (q : Pace) → slice_get paces k ≡ Some q → KeepsPace (accounts w) q (noted_of w k)
+  pub keeps : (accounts w).end ≡ None → (k : ℕ) (q : Pace) → slice_get paces k ≡ Some q → KeepsPace (accounts w) q (worker_pace w k)
 
 -- NOTING AN ENTRY
 

@@ -1,6 +1,6 @@
 use Rattle.std.proofs.Common.{◌≡◌, None, ap, sym, subst, ◌∙◌}
 use Rattle.shared_value.specs.SharedValue.{SharedValue, accounts}
-use Rattle.paced_tree.specs.Owed.{KeepsPaces, noted_of, owed_by}
+use Rattle.paced_tree.specs.Owed.{KeepsPaces, worker_pace, owed_by}
 use Rattle.paced_tree.proofs.paced.Paced.owed.Goals as goal
 
 pub returns : goal.returns
@@ -8,4 +8,4 @@ returns c =
     let w : SharedValue = c.shared.result.now in
     let on : (accounts w).end ≡ None = subst (λ (z : SharedValue). (accounts z).end ≡ None) (sym c.shared.ensures) c.requires.goes in
     let K : KeepsPaces w c.self.inside.paces = subst (λ (z : SharedValue). KeepsPaces z c.self.inside.paces) (c.self.view_is ∙ sym c.shared.ensures) c.self.invariant in
-    c.owed.ensures (noted_of w c.args.worker) (K.keeps on c.args.worker c.at.result.now c.at.ensures) ∙ ap (λ (z : SharedValue). owed_by z c.args.worker) c.shared.ensures
+    c.owed.ensures (worker_pace w c.args.worker) (K.keeps on c.args.worker c.at.result.now c.at.ensures) ∙ ap (λ (z : SharedValue). owed_by z c.args.worker) c.shared.ensures
