@@ -25,7 +25,7 @@ use Rattle.heap_tree.specs.declared.state.State.{State}
 use Rattle.heap_tree.specs.declared.state.State.TheVariants.{Ended}
 use Rattle.heap_tree.specs.Node.{Node, parent_of as parent_in_tree, state_of as state_in_tree}
 use Rattle.ledger_step_laws.specs.Last.{Splits}
-use Rattle.core_relation.specs.Whole.{state_by}
+use Rattle.core_relation.specs.Whole.{state_by, as_node}
 use Rattle.task_machine.specs.declared.part.Private.{Private}
 use Rattle.task_machine.proofs.Allocations.{is_some_place}
 use Rattle.shared_value.specs.Entered.{refused}
@@ -35,7 +35,6 @@ use Rattle.shared_value.specs.SharedValue.{SharedValue, accounts}
 use Rattle.shared_value.proofs.PartFitsMachine as link
 use Rattle.shared_value.proofs.BeforeTheEnd.{stands_now}
 use Rattle.shared_value.proofs.StepAccounts.{After}
-use Rattle.shared_value.proofs.TaskTaken.{told}
 use Rattle.own_steps.specs.Alone.{IsShared, alone_event, machine_after}
 use Rattle.own_steps.proofs.AloneEntries.{last_free, runs_on}
 use Rattle.own_steps.proofs.LastStepEntry as last
@@ -93,13 +92,13 @@ status_tells k JoinedOf st e = ((λ q. let z = sym q ∙ e in absurd cc), (λ n.
 abbrev state_in : Option Node → Option State
 state_in o = option_map (λ (n : Node). n.state) o
 
-node_tells : (k : Option ℕ) (n : Option Node) (o : Option Task) → n ≡ option_map (told k) o
+node_tells : (k : Option ℕ) (n : Option Node) (o : Option Task) → n ≡ option_map (as_node k) o
     → (state_in n ≡ Some Ended → (r : ℤ × Option Name) × (kept_by o ≡ Some r)) × ((state_in n ≡ Some Ended → ⊥) → kept_by o ≡ None)
 node_tells k None None e = ((λ q. none_some q), (λ n. refl))
 node_tells k None (Some x) e = none_some e
 node_tells k (Some n) None e = none_some (sym e)
 node_tells k (Some n) (Some x) e =
-    let s = status_tells k x.status n.state (ap (λ (z : Node). z.state) (same_Some n (told k x) e)) in
+    let s = status_tells k x.status n.state (ap (λ (z : Node). z.state) (same_Some n (as_node k x) e)) in
     ((λ q. s.0 (same_Some n.state Ended q)), (λ never. s.1 (λ q. never (ap Some q))))
 
 sibling_by : (t : ℕ) (b : Bool) → is_left t ≡ b → 0 < t → sibling t ≡ t → ⊥

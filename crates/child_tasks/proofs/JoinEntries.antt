@@ -29,7 +29,7 @@ use Rattle.shared_value.specs.Stands.{IsSharedValue}
 use Rattle.shared_value.specs.Fits.{Fits, IsAtWork}
 use Rattle.shared_value.specs.Entered.{refused}
 use Rattle.shared_value.proofs.BeforeTheEnd.{stands_now}
-use Rattle.shared_value.proofs.TaskTaken.{told}
+use Rattle.core_relation.specs.Whole.{as_node}
 use Rattle.own_steps.specs.Alone.{alone_event}
 use Rattle.child_tasks.specs.ChildEnds.{EndsChild, IsAtEnd}
 use Rattle.child_tasks.specs.Forks.{nothing_noted}
@@ -88,7 +88,7 @@ module _ (w : SharedValue) (k : ℕ) (p : Private) (I : IsSharedValue w) (F : Fi
   parent_waits : state_in_tree w.tree q ≡ Some Waiting
   parent_waits =
       let x = before.waiting_parent w k p I F at_end free ended in
-      waits_in _ (slice_get w.tree q) x.0 x.2 ((stands_now w I (steps.on w k p I F at_end free)).totals.node q ∙ ap (option_map (told _)) x.1)
+      waits_in _ (slice_get w.tree q) x.0 x.2 ((stands_now w I (steps.on w k p I F at_end free)).totals.node q ∙ ap (option_map (as_node _)) x.1)
 
   other_parent : parent_in_tree w.tree s' ≡ Some q
   other_parent = tree_parents w I (steps.on w k p I F at_end free) s' ∙ (sym (steps.then_parents w k p I F at_end free s') ∙ steps.other_parent w k p I F at_end free)

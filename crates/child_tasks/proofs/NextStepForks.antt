@@ -21,7 +21,7 @@ use Rattle.run_ledger.proofs.Counted.{journals_are_counted}
 use Rattle.heap_tree.specs.declared.state.State.TheVariants.{Out}
 use Rattle.heap_tree.specs.Node.{Node, depth_of, parent_in, parent_of as parent_in_tree, state_of as state_in_tree}
 use Rattle.ledger_step_laws.specs.Last.{Splits}
-use Rattle.core_relation.specs.Whole.{StandsFor, state_by}
+use Rattle.core_relation.specs.Whole.{StandsFor, state_by, as_node}
 use Rattle.task_machine.specs.declared.part.Private.{Private}
 use Rattle.task_machine.specs.Fits.{FitsNow as FitsMachine}
 use Rattle.task_machine.specs.Place.{Places}
@@ -37,7 +37,6 @@ use Rattle.shared_value.proofs.PartFitsMachine as link
 use Rattle.shared_value.proofs.BeforeTheEnd.{stands_now}
 use Rattle.shared_value.proofs.StepsEntered.{status}
 use Rattle.shared_value.proofs.StepAccounts.{After}
-use Rattle.shared_value.proofs.TaskTaken.{told}
 use Rattle.shared_value.proofs.SameLength.{same_length}
 use Rattle.own_steps.specs.Alone.{IsShared, Tells, alone_event, machine_after}
 use Rattle.own_steps.proofs.AloneEntries.{last_free, runs_on}
@@ -73,7 +72,7 @@ module _ (w : SharedValue) (p : Private) where
 
 -- ---- THE TREE AND THE TASKS
 
-task_parent : (w : Option ℕ) (o : Option Task) → parent_in (option_map (told w) o) ≡ parent_of o
+task_parent : (w : Option ℕ) (o : Option Task) → parent_in (option_map (as_node w) o) ≡ parent_of o
 task_parent w None = refl
 task_parent w (Some x) = refl
 
@@ -88,14 +87,14 @@ module _ (w : SharedValue) (I : IsSharedValue w) (on : (accounts w).end ≡ None
   pub tree_long : length w.tree ≡ length (accounts w).machine.tasks
   tree_long =
       same_length w.tree (accounts w).machine.tasks
-      (λ u. ap is_some (S0.totals.node u) ∙ some_map (told (heap_of (accounts w) u).worker) (slice_get (accounts w).machine.tasks u))
+      (λ u. ap is_some (S0.totals.node u) ∙ some_map (as_node (heap_of (accounts w) u).worker) (slice_get (accounts w).machine.tasks u))
 
   -- the task of a part is out
   module _ (k : ℕ) (p : Private) (F : Fits w k p) where
     pub node_out : (n : Node) × (slice_get w.tree p.task ≡ Some n) × (n.state ≡ Out)
     node_out =
-        let is : slice_get w.tree p.task ≡ Some (told (heap_of (accounts w) p.task).worker F.fits.task) = S0.totals.node p.task ∙ ap (option_map (told (heap_of (accounts w) p.task).worker)) F.fits.is in
-        (told (heap_of (accounts w) p.task).worker F.fits.task, is, ap₂ state_by (status w k p I F on) F.held)
+        let is : slice_get w.tree p.task ≡ Some (as_node (heap_of (accounts w) p.task).worker F.fits.task) = S0.totals.node p.task ∙ ap (option_map (as_node (heap_of (accounts w) p.task).worker)) F.fits.is in
+        (as_node (heap_of (accounts w) p.task).worker F.fits.task, is, ap₂ state_by (status w k p I F on) F.held)
 
     pub tree_out : state_in_tree w.tree p.task ≡ Some Out
     tree_out = ap (option_map (λ (n : Node). n.state)) node_out.1 ∙ ap Some node_out.2

@@ -15,15 +15,15 @@ use Rattle.write_barrier.specs.Stored.{content_of}
 use Rattle.fork_join.specs.declared.sides.EndedChild.{EndedChild}
 use Rattle.task_machine.specs.declared.part.Private.{Private}
 use Rattle.shared_value.specs.declared.task_at_rest.Rest.{Rest}
-use Rattle.shared_value.proofs.TaskTaken.{told}
+use Rattle.core_relation.specs.Whole.{as_node}
 use Rattle.child_tasks.specs.Joins.{AreSides, IsRestOf, chunk_count, left_of, other_child, own_child, right_of, sources_by}
 
 -- ---- A TASK THAT WAITS, in the tree
 
-pub waits_in : (wk : Option ℕ) (n : Option Node) (x : Task) → x.status ≡ WaitingOf → n ≡ Some (told wk x) → option_map (λ (i : Node). i.state) n ≡ Some Waiting
+pub waits_in : (wk : Option ℕ) (n : Option Node) (x : Task) → x.status ≡ WaitingOf → n ≡ Some (as_node wk x) → option_map (λ (i : Node). i.state) n ≡ Some Waiting
 waits_in wk None x e h = none_some h
 waits_in wk (Some n) x e h =
-    ap Some (ap (λ (z : Node). z.state) (same_Some n (told wk x) h) ∙ ap (λ s. (told wk (record x { status = s })).state) e)
+    ap Some (ap (λ (z : Node). z.state) (same_Some n (as_node wk x) h) ∙ ap (λ s. (as_node wk (record x { status = s })).state) e)
 
 -- ---- SIDES
 

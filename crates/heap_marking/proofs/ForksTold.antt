@@ -21,14 +21,14 @@ use Rattle.run_ledger.proofs.Machine.{machine_is_run}
 use Rattle.run_ledger.proofs.Journals.{legal_sound}
 use Rattle.alloc_path.specs.LeafHeapValue.{counted}
 use Rattle.heap_tree.specs.Node.{Node, parent_of, state_of as state_in}
-use Rattle.core_relation.specs.Whole.{StandsFor, state_by}
+use Rattle.core_relation.specs.Whole.{StandsFor, state_by, as_node}
 use Rattle.shared_value.specs.Causes.{or_else}
 use Rattle.shared_value.specs.Entered.{Enters}
 use Rattle.shared_value.specs.Stands.{IsSharedValue}
 use Rattle.shared_value.specs.SharedValue.{SharedValue, accounts, marks_at, noted_in, totals_of, value_of}
 use Rattle.shared_value.proofs.JournalGoesOn.{accounts_then}
 use Rattle.shared_value.proofs.BeforeTheEnd.{stands_now}
-use Rattle.shared_value.proofs.TaskTaken.{same_parent, told}
+use Rattle.shared_value.proofs.TaskTaken.{same_parent}
 use Rattle.heap_marking.specs.declared.pace.Fork.{Fork}
 use Rattle.heap_marking.specs.MarkCauses.{is_state_waiting, marking_cause, waiting_cause}
 use Rattle.heap_marking.specs.Pace.{IsForkIn, IsForkOf, KeepsPace, PacesStay, is_going, is_live_child, is_parent, is_state_joined, is_to_begin}
@@ -45,11 +45,11 @@ by_status Waiting o = refl
 by_status (Ended n r) o = refl
 by_status Joined o = refl
 
-joined_by : (n : Option Node) (x : Option Task) (o : Option ℕ) → n ≡ option_map (told o) x → is_state_joined (option_map (λ m. m.state) n) ≡ is_joined x
+joined_by : (n : Option Node) (x : Option Task) (o : Option ℕ) → n ≡ option_map (as_node o) x → is_state_joined (option_map (λ m. m.state) n) ≡ is_joined x
 joined_by None None o e = refl
 joined_by None (Some x) o e = absurd cc
 joined_by (Some m) None o e = absurd cc
-joined_by (Some m) (Some x) o e = ap (λ (y : Node). is_state_joined (Some y.state)) (same_Some m (told o x) e) ∙ by_status x.status o
+joined_by (Some m) (Some x) o e = ap (λ (y : Node). is_state_joined (Some y.state)) (same_Some m (as_node o x) e) ∙ by_status x.status o
 
 free_by : (a k s : Bool) → k ≡ (a && not s) → is_none (refused_unless a NotWaiting (refused_unless k Swept None)) ≡ (a && not s)
 free_by false k s e = refl

@@ -14,11 +14,10 @@ use Rattle.heap_tree.specs.Node.{Node}
 use Rattle.inner_mark_gc.specs.MarkingValue.{MarkingValue}
 use Rattle.core_relation.specs.Marking.{MarkedBy}
 use Rattle.core_relation.specs.Memory.{Memory}
-use Rattle.core_relation.specs.Whole.{StandsFor, state_by}
+use Rattle.core_relation.specs.Whole.{StandsFor, state_by, as_node}
 use Rattle.shared_value.specs.Causes.{or_else}
 use Rattle.shared_value.specs.SharedValue.{accounts, marks_at, noted_in, totals_of, value_of}
 use Rattle.shared_value.proofs.BeforeTheEnd.{stands_now}
-use Rattle.shared_value.proofs.TaskTaken.{told}
 use Rattle.heap_marking.specs.MarkCauses.{MarksRefuse, is_state_waiting}
 
 -- WHO WAITS
@@ -30,11 +29,11 @@ by_status Waiting o = refl
 by_status (Ended n r) o = refl
 by_status Joined o = refl
 
-pub waits_by : (n : Option Node) (x : Option Task) (o : Option ℕ) → n ≡ option_map (told o) x → is_state_waiting (option_map (λ m. m.state) n) ≡ is_waiting x
+pub waits_by : (n : Option Node) (x : Option Task) (o : Option ℕ) → n ≡ option_map (as_node o) x → is_state_waiting (option_map (λ m. m.state) n) ≡ is_waiting x
 waits_by None None o e = refl
 waits_by None (Some x) o e = absurd cc
 waits_by (Some m) None o e = absurd cc
-waits_by (Some m) (Some x) o e = ap (λ (y : Node). is_state_waiting (Some y.state)) (same_Some m (told o x) e) ∙ by_status x.status o
+waits_by (Some m) (Some x) o e = ap (λ (y : Node). is_state_waiting (Some y.state)) (same_Some m (as_node o x) e) ∙ by_status x.status o
 
 -- WHAT IS MARKED
 pub marked_by : (v : Memory) (l : Ledger) (t : ℕ) (o : Option MarkingValue) → MarkedBy v l t o → is_some (heap_of l t).marked ≡ is_some o

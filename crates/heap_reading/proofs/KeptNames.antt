@@ -35,7 +35,7 @@ use Rattle.ledger_step_laws.proofs.Ahead.{with_off}
 use Rattle.ledger_step_laws.proofs.Rested.{rested_view}
 use Rattle.core_relation.specs.Stands.{HasNames, Stands, large_chunks, names_of, small_chunks}
 use Rattle.core_relation.specs.Memory.{In, object_name, objects_in}
-use Rattle.core_relation.specs.Whole.{by_end, handed, state_by}
+use Rattle.core_relation.specs.Whole.{by_end, handed, state_by, as_node}
 use Rattle.shared_value.specs.declared.task_at_rest.Rest.{Rest}
 use Rattle.shared_value.specs.Objects.{chunk_of, chunks_of}
 use Rattle.shared_value.specs.SharedValue.{SharedValue, accounts, home_in, rest_at, value_of}
@@ -45,7 +45,6 @@ use Rattle.shared_value.proofs.SameLength.{same_length}
 use Rattle.shared_value.proofs.FieldsLed.{home_chunks}
 use Rattle.shared_value.proofs.ObjectCounts.{objects_counted}
 use Rattle.shared_value.proofs.BeforeTheEnd.{goes_by}
-use Rattle.shared_value.proofs.TaskTaken.{told}
 use Rattle.heap_reading.specs.HeldNames.{is_state_running, kept_of}
 use Rattle.heap_reading.proofs.IdleTasks.{journal_idle}
 
@@ -57,11 +56,11 @@ by_status Waiting o = refl
 by_status (Ended n r) o = refl
 by_status Joined o = refl
 
-runs_by : (n : Option Node) (x : Option Task) (o : Option ℕ) → n ≡ option_map (told o) x → is_state_running (option_map (λ m. m.state) n) ≡ is_running x
+runs_by : (n : Option Node) (x : Option Task) (o : Option ℕ) → n ≡ option_map (as_node o) x → is_state_running (option_map (λ m. m.state) n) ≡ is_running x
 runs_by None None o e = refl
 runs_by None (Some x) o e = absurd cc
 runs_by (Some m) None o e = absurd cc
-runs_by (Some m) (Some x) o e = ap (λ (y : Node). is_state_running (Some y.state)) (same_Some m (told o x) e) ∙ by_status x.status o
+runs_by (Some m) (Some x) o e = ap (λ (y : Node). is_state_running (Some y.state)) (same_Some m (as_node o x) e) ∙ by_status x.status o
 
 -- HOW MANY names small chunks and large ones have
 small_many : List ChunkValue → ℕ
@@ -250,7 +249,7 @@ module _ (w : SharedValue) (I : IsSharedValue w) where
   homes_long =
       I.made
       ∙ (same_length w.tree (handed k).machine.tasks
-      (λ u. ap is_some (I.stands.totals.node u) ∙ some_map (told (heap_of (handed k) u).worker) (slice_get (handed k).machine.tasks u))
+      (λ u. ap is_some (I.stands.totals.node u) ∙ some_map (as_node (heap_of (handed k) u).worker) (slice_get (handed k).machine.tasks u))
       ∙ ap (λ (m : Machine). length m.tasks) (goes_by k k.end).machine)
     where
       some_map : {A B : Type 0} (f : A → B) (o : Option A) → is_some (option_map f o) ≡ is_some o

@@ -17,11 +17,10 @@ use Rattle.run_ledger.proofs.Journals.{legal_sound}
 use Rattle.heap_tree.specs.declared.state.State.{State}
 use Rattle.heap_tree.specs.declared.state.State.TheVariants.{Ready, Out, Waiting as Waits, Ended as HasEnded, Joined as HasJoined}
 use Rattle.heap_tree.specs.Node.{Node, parent_in, parent_of}
-use Rattle.core_relation.specs.Whole.{handed, state_by}
+use Rattle.core_relation.specs.Whole.{handed, state_by, as_node}
 use Rattle.shared_value.specs.SharedValue.{SharedValue, accounts}
 use Rattle.shared_value.specs.Stands.{IsSharedValue}
 use Rattle.shared_value.proofs.BeforeTheEnd.{goes_by}
-use Rattle.shared_value.proofs.TaskTaken.{told}
 
 -- WHO HAS JOINED
 has_joined : State → Bool
@@ -56,16 +55,16 @@ pub record IsNodeOf (worker : Option ℕ) (n : Node) (x : Task) : Type 0 where
   pub parent : n.parent ≡ x.parent
   pub state : n.state ≡ state_by x.status worker
 
-task_by : (worker : Option ℕ) (n : Node) (x : Option Task) → Some n ≡ option_map (told worker) x → (y : Task) × (x ≡ Some y) × IsNodeOf worker n y
+task_by : (worker : Option ℕ) (n : Node) (x : Option Task) → Some n ≡ option_map (as_node worker) x → (y : Task) × (x ≡ Some y) × IsNodeOf worker n y
 task_by worker n None e = absurd cc
 task_by worker n (Some y) e =
-    let same = same_Some n (told worker y) e in
+    let same = same_Some n (as_node worker y) e in
     (y, refl, record { parent = ap (λ (z : Node). z.parent) same; state = ap (λ (z : Node). z.state) same })
 
-node_by : (worker : Option ℕ) (n : Option Node) (x : Task) → n ≡ Some (told worker x) → (m : Node) × (n ≡ Some m) × IsNodeOf worker m x
+node_by : (worker : Option ℕ) (n : Option Node) (x : Task) → n ≡ Some (as_node worker x) → (m : Node) × (n ≡ Some m) × IsNodeOf worker m x
 node_by worker None x e = absurd cc
 node_by worker (Some m) x e =
-    let same = same_Some m (told worker x) e in
+    let same = same_Some m (as_node worker x) e in
     (m, refl, record { parent = ap (λ (z : Node). z.parent) same; state = ap (λ (z : Node). z.state) same })
 
 -- OWNERS
@@ -96,14 +95,14 @@ module _ (w : SharedValue) (I : IsSharedValue w) where
   abbrev worker : ℕ → Option ℕ
   worker t = (heap_of (handed l) t).worker
 
-  nodes : (t : ℕ) → slice_get w.tree t ≡ option_map (told (worker t)) (slice_get l.machine.tasks t)
-  nodes t = I.stands.totals.node t ∙ ap (λ (m : Machine). option_map (told (worker t)) (slice_get m.tasks t)) same_machine
+  nodes : (t : ℕ) → slice_get w.tree t ≡ option_map (as_node (worker t)) (slice_get l.machine.tasks t)
+  nodes t = I.stands.totals.node t ∙ ap (λ (m : Machine). option_map (as_node (worker t)) (slice_get m.tasks t)) same_machine
 
   pub task_of : (t : ℕ) (n : Node) → slice_get w.tree t ≡ Some n → (x : Task) × (slice_get l.machine.tasks t ≡ Some x) × IsNodeOf (worker t) n x
   task_of t n e = task_by (worker t) n (slice_get l.machine.tasks t) (sym e ∙ nodes t)
 
   pub node_at : (t : ℕ) (x : Task) → slice_get l.machine.tasks t ≡ Some x → (n : Node) × (slice_get w.tree t ≡ Some n) × IsNodeOf (worker t) n x
-  node_at t x e = node_by (worker t) (slice_get w.tree t) x (nodes t ∙ ap (option_map (told (worker t))) e)
+  node_at t x e = node_by (worker t) (slice_get w.tree t) x (nodes t ∙ ap (option_map (as_node (worker t))) e)
 
   pub joined_now : (t : ℕ) (n : Node) → slice_get w.tree t ≡ Some n → n.state ≡ HasJoined → joined l.machine.tasks t ≡ true
   unfolding has_joined
@@ -125,7 +124,7 @@ module _ (w : SharedValue) (I : IsSharedValue w) where
   pub unmade_now : (t : ℕ) → slice_get w.tree t ≡ None → slice_get l.machine.tasks t ≡ None
   unmade_now t e = by (slice_get l.machine.tasks t) (sym (nodes t) ∙ e)
     where
-      by : (o : Option Task) → option_map (told (worker t)) o ≡ None → o ≡ None
+      by : (o : Option Task) → option_map (as_node (worker t)) o ≡ None → o ≡ None
       by None z = refl
       by (Some x) z = absurd cc
 

@@ -11,7 +11,8 @@ use Rattle.heap_tree.specs.Node.{Node, parent_of as tree_parent, is_on_path as t
 use Rattle.shared_value.specs.SharedValue.{SharedValue, accounts}
 use Rattle.shared_value.specs.Stands.{IsSharedValue}
 use Rattle.shared_value.proofs.BeforeTheEnd.{stands_now}
-use Rattle.shared_value.proofs.TaskTaken.{same_parent, told}
+use Rattle.shared_value.proofs.TaskTaken.{same_parent}
+use Rattle.core_relation.specs.Whole.{as_node}
 
 same_through : (f g : ℕ → Bool) → ((u : ℕ) → f u ≡ g u) → (o q : Option ℕ) → o ≡ q → through o false f ≡ through q false g
 same_through f g e None None h = refl
@@ -24,7 +25,7 @@ same_by : (f g : ℕ → Option ℕ) → ((u : ℕ) → f u ≡ g u) → (more a
 same_by f g e zero a t = refl
 same_by f g e (suc more) a t = ap (λ b. (a == t) || b) (same_through (path_by f more a) (path_by g more a) (λ u. same_by f g e more a u) (f t) (g t) (e t))
 
-there : (o : Option Node) (q : Option Task) (worker : Option ℕ) → o ≡ option_map (told worker) q → is_some q ≡ true → (n : Node) × (o ≡ Some n)
+there : (o : Option Node) (q : Option Task) (worker : Option ℕ) → o ≡ option_map (as_node worker) q → is_some q ≡ true → (n : Node) × (o ≡ Some n)
 there (Some n) q k e h = (n, refl)
 there None None k e h = absurd (false≢true h)
 there None (Some x) k e h = absurd cc
@@ -33,7 +34,7 @@ module _ (w : SharedValue) (I : IsSharedValue w) (on : (accounts w).end ≡ None
   abbrev l : Ledger
   l = accounts w
 
-  same_node : (u : ℕ) → slice_get w.tree u ≡ option_map (told (heap_of l u).worker) (slice_get l.machine.tasks u)
+  same_node : (u : ℕ) → slice_get w.tree u ≡ option_map (as_node (heap_of l u).worker) (slice_get l.machine.tasks u)
   same_node u = (stands_now w I on).totals.node u
 
   pub paths_same : (a t : ℕ) → tree_path w.tree a t ≡ is_on_path l.machine.tasks a t

@@ -27,7 +27,7 @@ use Rattle.core_relation.specs.Changes.{EndsHome}
 use Rattle.core_relation.specs.Fits.{part_for, with_home}
 use Rattle.core_relation.specs.RanCounts.{RanCounts}
 use Rattle.core_relation.specs.Since.{OthersNotes}
-use Rattle.core_relation.specs.Whole.{StandsFor, handed}
+use Rattle.core_relation.specs.Whole.{StandsFor, handed, as_node}
 use Rattle.core_relation.specs.Worker.{Fits as FitsValue}
 use Rattle.core_relation.proofs.whole.DoneHands.{done_hands_all}
 use Rattle.core_relation.proofs.whole.RanWhole.{ran_stands_for}
@@ -43,7 +43,7 @@ use Rattle.shared_value.specs.Fits.{Fits, OthersFit, home_of_part, part_of}
 use Rattle.shared_value.specs.Entered.{refused}
 use Rattle.shared_value.proofs.EntryMade.{accounts_are, entered, entered_world, hand_is, held_apart, part_fits, unheld_before}
 use Rattle.shared_value.proofs.BeforeTheEnd.{end_now, stands_now}
-use Rattle.shared_value.proofs.TaskTaken.{made_by, node_by, node_off, told, worker_there}
+use Rattle.shared_value.proofs.TaskTaken.{made_by, node_by, node_off, worker_there}
 use Rattle.own_steps.specs.Alone.{IsShared, Tells, ended_rest}
 use Rattle.own_steps.proofs.LastKinds.{done}
 use Rattle.own_steps.proofs.LastStepEntry as last
@@ -115,11 +115,11 @@ module _ (w : SharedValue) (k : ℕ) (p : Private) (I : IsSharedValue w) (F : Fi
   abbrev rest : Rest
   rest = ended_rest p
 
-  node_there : slice_get w.tree t ≡ Some (told (heap_of l t).worker F.fits.task)
-  node_there = S0.totals.node t ∙ ap (option_map (told (heap_of l t).worker)) F.fits.is
+  node_there : slice_get w.tree t ≡ Some (as_node (heap_of l t).worker F.fits.task)
+  node_there = S0.totals.node t ∙ ap (option_map (as_node (heap_of l t).worker)) F.fits.is
 
   pub has_node : t < length w.tree
-  has_node = got_within w.tree t (told (heap_of l t).worker F.fits.task) node_there
+  has_node = got_within w.tree t (as_node (heap_of l t).worker F.fits.task) node_there
 
   pub has_home : t < length w.homes
   has_home = subst (λ n. t < n) (sym I.made) has_node

@@ -19,13 +19,12 @@ use Rattle.inner_mark_gc.specs.MarkingValue.{MarkingValue}
 use Rattle.ledger_step_laws.specs.Accounts.{Rests}
 use Rattle.core_relation.specs.Memory.{Noted, Memory}
 use Rattle.core_relation.specs.Stands.{Stands}
-use Rattle.core_relation.specs.Whole.{BegunBy, StandsFor}
+use Rattle.core_relation.specs.Whole.{BegunBy, StandsFor, as_node}
 use Rattle.core_relation.proofs.whole.Journals.{first, first_stands}
 use Rattle.shared_value.specs.declared.task_at_rest.Rest.{Rest}
 use Rattle.shared_value.specs.SharedValue.{SharedValue, flat, rest_at, value_of, totals_of, first_rest}
 use Rattle.shared_value.specs.Measured.{AreMeasured, RestsAreMeasured}
 use Rattle.shared_value.specs.Stands.{HeapForm, IsSharedValue}
-use Rattle.shared_value.proofs.TaskTaken.{told}
 
 all_long : (n : ℕ) → let xs : List (Option ℕ) = replicate n None in length xs ≡ n
 all_long zero = refl
@@ -75,7 +74,7 @@ module _ (p : ProgramText) (s : SettingsValue) (lims : AreLimits s) (form : IsPr
   waits_none zero = refl
   waits_none (suc t) = refl
 
-  node_is : (t : ℕ) → (totals_of w).node t ≡ option_map (told (heap_of l t).worker) (slice_get l.machine.tasks t)
+  node_is : (t : ℕ) → (totals_of w).node t ≡ option_map (as_node (heap_of l t).worker) (slice_get l.machine.tasks t)
   node_is zero = refl
   node_is (suc t) = refl
 

@@ -33,7 +33,7 @@ use Rattle.core_relation.specs.Reads.{TaskIsRead, HoldsRead}
 use Rattle.core_relation.specs.Stands.{Place}
 use Rattle.core_relation.specs.Fits.{part_for}
 use Rattle.core_relation.specs.Worker.{Fits as FitsValue}
-use Rattle.core_relation.specs.Whole.{StandsFor, state_by}
+use Rattle.core_relation.specs.Whole.{StandsFor, as_node}
 use Rattle.core_relation.proofs.whole.EntriesWhole.{took_stands_for}
 use Rattle.core_relation.proofs.parts.TookFits.{took_fits_then}
 use Rattle.core_relation.proofs.parts.WorkersPast.{took_leaves}
@@ -50,14 +50,11 @@ use Rattle.shared_value.proofs.EntryMade.{accounts_are, entered, entered_world, 
 use Rattle.shared_value.proofs.BeforeTheEnd.{hand_now, stands_now}
 
 -- a task as its account says
-abbrev pub told : Option ℕ → Task → Node
-told w x = record { parent = x.parent; state = state_by x.status w }
-
-pub same_parent : (o : Option Node) (q : Option Task) (worker : Option ℕ) → o ≡ option_map (told worker) q → parent_in o ≡ parent_of q
+pub same_parent : (o : Option Node) (q : Option Task) (worker : Option ℕ) → o ≡ option_map (as_node worker) q → parent_in o ≡ parent_of q
 same_parent None None k e = refl
 same_parent None (Some x) k e = absurd cc
 same_parent (Some n) None k e = absurd cc
-same_parent (Some n) (Some x) k e = ap (λ (z : Node). z.parent) (same_Some n (told k x) e)
+same_parent (Some n) (Some x) k e = ap (λ (z : Node). z.parent) (same_Some n (as_node k x) e)
 
 pub some_flat : {A : Type 0} (o : Option (Option A)) (x : A) → flat o ≡ Some x → o ≡ Some (Some x)
 some_flat None x e = absurd cc

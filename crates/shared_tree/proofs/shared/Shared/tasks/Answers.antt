@@ -1,9 +1,7 @@
-use Rattle.std.proofs.Common.{◌≡◌, ℕ, Option, Some, None, is_some, length, option_map, slice_get, refl, ap, ◌∙◌}
+use Rattle.std.proofs.Common.{◌≡◌, Option, Some, None, is_some, length, option_map, slice_get, refl, ap, ◌∙◌}
 use Rattle.hh_model.specs.declared.data.State.{State}
-use Rattle.hh_model.specs.declared.data.Task.{Task}
 use Rattle.run_ledger.specs.Heaps.{heap_of}
-use Rattle.heap_tree.specs.Node.{Node}
-use Rattle.core_relation.specs.Whole.{handed, state_by}
+use Rattle.core_relation.specs.Whole.{as_node, handed}
 use Rattle.shared_value.specs.SharedValue.{SharedValue, accounts}
 use Rattle.shared_value.specs.Stands.{IsSharedValue}
 use Rattle.shared_value.proofs.BeforeTheEnd.{goes_by}
@@ -15,15 +13,12 @@ some_map : {A B : Type 0} (f : A → B) (o : Option A) → is_some (option_map f
 some_map f None = refl
 some_map f (Some x) = refl
 
-abbrev told : Option ℕ → Task → Node
-told o x = record { parent = x.parent; state = state_by x.status o }
-
 -- as many tasks as nodes
 tree_long : (w : SharedValue) → IsSharedValue w → length w.tree ≡ length (accounts w).machine.tasks
 tree_long w I =
     let k = accounts w in
     same_length w.tree (handed k).machine.tasks
-    (λ u. ap is_some (I.stands.totals.node u) ∙ some_map (told (heap_of (handed k) u).worker) (slice_get (handed k).machine.tasks u))
+    (λ u. ap is_some (I.stands.totals.node u) ∙ some_map (as_node (heap_of (handed k) u).worker) (slice_get (handed k).machine.tasks u))
     ∙ ap (λ (m : State). length m.tasks) (goes_by k k.end).machine
 
 pub returns : goal.returns
