@@ -13,7 +13,7 @@ use Rattle.object_layout.specs.Cell.{Cell, size_of}
 use Rattle.object_layout.specs.ChunkValue.{ChunkValue}
 use Rattle.object_layout.specs.Place.{words_in}
 use Rattle.object_layout.specs.Chunks.{cell_of, chunk_at}
-use Rattle.object_layout.specs.Objects.{Located, led_object as led_fields, objects_from}
+use Rattle.object_layout.specs.Objects.{Located, led_object, objects_from}
 use Rattle.object_layout.proofs.ObjectChanges.{led_are_read}
 use Rattle.object_layout.proofs.PlaceLemmas.{words_in-push}
 use Rattle.object_layout.proofs.ObjectLemmas.{chunk_there}
@@ -140,14 +140,14 @@ module _ (h : LeafHeapValue) (from : List (Option Addr)) (ss : List Survivor) (n
 
   led_holds : (k : ChunkValue) → HoldsLarge (chunk_of k) → HoldsLarge (chunk_of (led_chunk g k))
   led_holds k H = elim H [
-    | inl none ↦ inl (objects ∙ ap (map (led_fields (led to))) none)
-    | inr q ↦ inr (led_fields (led to) q.0, objects ∙ ap (map (led_fields (led to))) q.1, q.2, q.3 ∙ ap (λ n. units (2 + n + length q.0.ints)) (sym (length-map q.0.refs (led to))))
+    | inl none ↦ inl (objects ∙ ap (map (led_object (led to))) none)
+    | inr q ↦ inr (led_object (led to) q.0, objects ∙ ap (map (led_object (led to))) q.1, q.2, q.3 ∙ ap (λ n. units (2 + n + length q.0.ints)) (sym (length-map q.0.refs (led to))))
   ]
     where
       to : Addr → Addr
       to = moving.to h from ss news S T (naming.settled h from ss news S T m a O) (naming.reserved h from ss news S T m a O)
 
-      objects : objects_from k.number 0 (map (led_cell_by g) k.cells) ≡ map (led_fields (led to)) (objects_from k.number 0 k.cells)
+      objects : objects_from k.number 0 (map (led_cell_by g) k.cells) ≡ map (led_object (led to)) (objects_from k.number 0 k.cells)
       objects =
           ap (λ (w : Option Addr → Option Addr). objects_from k.number 0 (map (led_cell_by w) k.cells)) (moving.g_is h from ss news S T (naming.settled h from ss news S T m a O) (naming.reserved h from ss news S T m a O))
           ∙ led_are_read (led to) k

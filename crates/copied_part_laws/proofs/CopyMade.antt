@@ -32,7 +32,7 @@ use Rattle.ledger_step_laws.specs.Accounts.{rested}
 use Rattle.ledger_step_laws.proofs.Ahead.{with_machine}
 use Rattle.ledger_step_laws.proofs.Rested.{rested_view, rested_worker}
 use Rattle.task_machine.specs.declared.part.Begun.{Begun}
-use Rattle.core_relation.specs.Memory.{Chunk, Home, In, Memory, led, led_frame, led_object, object_name, objects_in}
+use Rattle.core_relation.specs.Memory.{Chunk, Home, In, Memory, led, led_frame, copied_object, object_name, objects_in}
 use Rattle.core_relation.specs.Layout.{AreLaidOut, words}
 use Rattle.core_relation.specs.Reads.{AllRead}
 use Rattle.core_relation.specs.Begins.{IsReachedAt}
@@ -194,7 +194,7 @@ module _ (p : ProgramText) (st : SettingsValue) (t : ℕ) (h : LeafHeapValue) (v
     f_is : new_address out.moved.items ≡ to
     f_is = λ i x. ap (λ (o : Option Addr). unwrap_or o x) (told.same x) i
 
-    came : (o' : Located) → In (objects_in (chunks_of (L ++ (K ++ R)))) o' → (o : Located) × In (objects_in (chunks_of h.chunks)) o × In a.survivors (object_name o) × (o' ≡ led_object to o)
+    came : (o' : Located) → In (objects_in (chunks_of (L ++ (K ++ R)))) o' → (o : Located) × In (objects_in (chunks_of h.chunks)) o × In a.survivors (object_name o) × (o' ≡ copied_object to o)
     came o' i =
         let c = moving.came h (outside s b.roots) C.survivors news C.are B.new (naming.settled h (outside s b.roots) C.survivors news C.are B.new l.machine a O) (naming.reserved h (outside s b.roots) C.survivors news C.are B.new l.machine a O) o' i in
         (c.object, c.there, lives C.survivors C.are c.object c.there c.survives, c.is)
@@ -204,7 +204,7 @@ module _ (p : ProgramText) (st : SettingsValue) (t : ℕ) (h : LeafHeapValue) (v
         let x = came o i in
         let z = came q j in
         let same : x.0 ≡ z.0 = home.named x.0 z.0 (there x.0 x.1) (there z.0 z.1) (ap object_name (sym x.3) ∙ (e ∙ ap object_name z.3)) in
-        x.3 ∙ (ap (led_object to) same ∙ sym z.3)
+        x.3 ∙ (ap (copied_object to) same ∙ sym z.3)
 
     owned_each : (k : ChunkValue) → In (L ++ (K ++ R)) k → v.owner k.number ≡ Some t
     owned_each k i = elim (in_append_cases L (K ++ R) k i) [

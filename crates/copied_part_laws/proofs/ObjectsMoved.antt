@@ -13,7 +13,7 @@ use Rattle.object_layout.specs.Place.{cell_at}
 use Rattle.object_layout.specs.Chunks.{cell_of}
 use Rattle.object_layout.proofs.Distinct.{Once, once_from, same_is}
 use Rattle.object_layout.proofs.ObjectChanges.{led_are_read}
-use Rattle.object_layout.specs.Objects.{Located, led_object as led_fields, located, located_by, objects_from}
+use Rattle.object_layout.specs.Objects.{Located, led_object, located, located_by, objects_from}
 use Rattle.object_layout.proofs.ObjectLemmas.{chunk_there}
 use Rattle.alloc_path.specs.LeafHeapValue.{AreApart, LeafHeapValue, IsReserved, IsSettled, IsTidy}
 use Rattle.remembered_set.specs.Moved.{new_of, same_address}
@@ -35,7 +35,7 @@ use Rattle.leaf_copy_gc.proofs.Rebuilt as rebuilt
 use Rattle.leaf_copy_gc.proofs.Rebuilt.{first_of}
 use Rattle.leaf_copy_gc.proofs.Naming.{in_unreserved}
 use Rattle.leaf_copy_gc.proofs.Reading.{none_of, within_of}
-use Rattle.core_relation.specs.Memory.{In, led, led_object, objects_in}
+use Rattle.core_relation.specs.Memory.{In, led, copied_object, objects_in}
 use Rattle.core_relation.proofs.objects.Members.{in_objects, map_in}
 use Rattle.shared_value.specs.Objects.{chunk_of, chunks_of}
 use Rattle.shared_value.proofs.CellsRead.{object_seen, seen_object}
@@ -147,15 +147,15 @@ module _ (h : LeafHeapValue) (from : List (Option Addr)) (ss : List Survivor) (n
   -- ---- what was there is there now
 
   there_now : (o : Located) (a : Addr) (b : Birth) → o ≡ located o.at.chunk o.at.offset b (cell_of h.chunks o.at) → (cell_of h.chunks o.at).mark ≡ Born b → to o.at ≡ a
-      → cell_of ks' a ≡ led_cell_by g (cell_of h.chunks o.at) → In (objects_in (chunks_of ks')) (led_object to o)
+      → cell_of ks' a ≡ led_cell_by g (cell_of h.chunks o.at) → In (objects_in (chunks_of ks')) (copied_object to o)
   there_now o a b is mark leads read =
       let i : In (objects_in (chunks_of ks')) (located a.chunk a.offset b (cell_of ks' a)) = object_seen ks' a b (ap (λ (c : Cell). c.mark) read ∙ mark) in
       let e : located a.chunk a.offset b (cell_of ks' a) ≡ located a.chunk a.offset b (led_cell_by (led to) (cell_of h.chunks o.at)) =
       ap (located a.chunk a.offset b) read ∙ ap (λ (w : Option Addr → Option Addr). located a.chunk a.offset b (led_cell_by w (cell_of h.chunks o.at))) g_is in
-      let d : led_object to (located o.at.chunk o.at.offset b (cell_of h.chunks o.at)) ≡ located a.chunk a.offset b (led_cell_by (led to) (cell_of h.chunks o.at)) = λ k. record (led_object to (located o.at.chunk o.at.offset b (cell_of h.chunks o.at))) { at = leads k } in
-      subst (In (objects_in (chunks_of ks'))) (e ∙ sym (ap (led_object to) is ∙ d)) i
+      let d : copied_object to (located o.at.chunk o.at.offset b (cell_of h.chunks o.at)) ≡ located a.chunk a.offset b (led_cell_by (led to) (cell_of h.chunks o.at)) = λ k. record (copied_object to (located o.at.chunk o.at.offset b (cell_of h.chunks o.at))) { at = leads k } in
+      subst (In (objects_in (chunks_of ks'))) (e ∙ sym (ap (copied_object to) is ∙ d)) i
 
-  pub kept : (o : Located) → In (objects_in (chunks_of h.chunks)) o → In (olds ss) o.at → In (objects_in (chunks_of ks')) (led_object to o)
+  pub kept : (o : Located) → In (objects_in (chunks_of h.chunks)) o → In (olds ss) o.at → In (objects_in (chunks_of ks')) (copied_object to o)
   kept o i j = elim (cases_Bool (is_small h.chunks o.at)) [
     | inl small ↦
         let l = seen_object h.chunks o settled.apart i in
@@ -177,13 +177,13 @@ module _ (h : LeafHeapValue) (from : List (Option Addr)) (ss : List Survivor) (n
     pub object : Located
     pub there : In (objects_in (chunks_of h.chunks)) object
     pub survives : In (olds ss) object.at
-    pub is : o' ≡ led_object to object
+    pub is : o' ≡ copied_object to object
 
   -- an object of a chunk whose references were led
-  led_back : (k : ChunkValue) (o' : Located) → In (objects_from k.number 0 (map (led_cell_by g) k.cells)) o' → (q : Located) × In (objects_from k.number 0 k.cells) q × (led_fields (led to) q ≡ o')
+  led_back : (k : ChunkValue) (o' : Located) → In (objects_from k.number 0 (map (led_cell_by g) k.cells)) o' → (q : Located) × In (objects_from k.number 0 k.cells) q × (led_object (led to) q ≡ o')
   led_back k o' i =
       let j : In (objects_from k.number 0 (map (led_cell_by (led to)) k.cells)) o' = subst (λ (w : Option Addr → Option Addr). In (objects_from k.number 0 (map (led_cell_by w) k.cells)) o') g_is i in
-      map_in (led_fields (led to)) (objects_from k.number 0 k.cells) o' (subst (λ os. In os o') (led_are_read (led to) k) j)
+      map_in (led_object (led to)) (objects_from k.number 0 k.cells) o' (subst (λ os. In os o') (led_are_read (led to) k) j)
 
   from_laid : (k : ChunkValue) (o' : Located) → In y.laid k → In (objects_from k.number 0 (map (led_cell_by g) k.cells)) o' → Came o'
   from_laid k o' i j =
@@ -195,12 +195,12 @@ module _ (h : LeafHeapValue) (from : List (Option Addr)) (ss : List Survivor) (n
             let m : Addr × Addr = r.0 in
             let b = seen_only m.1.chunk m.1.offset (cell_of h.chunks m.0) (cell_of h.chunks m.0).mark q.0 r.2 in
             let o : Located = located m.0.chunk m.0.offset b.0 (cell_of h.chunks m.0) in
-            let e : led_fields (led to) (located m.1.chunk m.1.offset b.0 (cell_of h.chunks m.0)) ≡ led_object to o = λ k. record (led_object to o) { at = sym (to_new m r.1) k } in
+            let e : led_object (led to) (located m.1.chunk m.1.offset b.0 (cell_of h.chunks m.0)) ≡ copied_object to o = λ k. record (copied_object to o) { at = sym (to_new m r.1) k } in
             record {
               object = o;
               there = object_seen h.chunks m.0 b.0 b.1;
               survives = (in_xs m.0 (moved_small m r.1)).0;
-              is = sym q.2 ∙ (ap (led_fields (led to)) (sym b.2) ∙ e);
+              is = sym q.2 ∙ (ap (led_object (led to)) (sym b.2) ∙ e);
             }
       ]
 
@@ -257,7 +257,7 @@ module _ (h : LeafHeapValue) (from : List (Option Addr)) (ss : List Survivor) (n
         object = q.0;
         there = in_objects (chunks_of h.chunks) (chunk_of k) q.0 (in_map chunk_of h.chunks k A.there) q.1;
         survives = subst (In (olds ss)) (sym at) A.survives;
-        is = sym q.2 ∙ (λ k. record (led_fields (led to) q.0) { at = sym stays k });
+        is = sym q.2 ∙ (λ k. record (led_object (led to) q.0) { at = sym stays k });
       }
 
   pub came : (o' : Located) → In (objects_in (chunks_of ks')) o' → Came o'

@@ -3,7 +3,7 @@
 use Rattle.std.specs.Prelude.{ℕ, suc, ℤ, pos, Bool, false, not, Option, Some, None, List, ◌≡◌, ◌==◌, ◌&&◌, [], ◌∷◌, filter, map, if◌then◌else◌}
 use Rattle.std.specs.List.{flat_map, list_any}
 use Rattle.object_layout.specs.declared.word.Addr.{Addr}
-use Rattle.object_layout.specs.Objects.{Located}
+use Rattle.object_layout.specs.Objects.{Located, led_object}
 use Rattle.hh_model.specs.declared.data.Name.{Name}
 use Rattle.inner_mark_gc.specs.MarkingValue.{MarkingValue}
 pub use Rattle.listed.specs.Members.{In}
@@ -81,8 +81,8 @@ led f None = None
 led f (Some a) = Some (f a)
 
 -- an object that was copied, and a frame, each with its references led
-abbrev pub led_object : (Addr → Addr) → Located → Located
-led_object f o = record o { at = f o.at; refs = map (led f) o.refs }
+abbrev pub copied_object : (Addr → Addr) → Located → Located
+copied_object f o = record (led_object (led f) o) { at = f o.at }
 
 abbrev pub led_frame : (Addr → Addr) → Frame → Frame
 led_frame f x = record x { refs = map (led f) x.refs }

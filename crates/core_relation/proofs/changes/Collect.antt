@@ -18,7 +18,7 @@ use Rattle.run_ledger.specs.declared.data.Ledger.{Ledger}
 use Rattle.run_ledger.specs.Heaps.{heap_of, or_fresh}
 use Rattle.run_ledger.specs.Sound.{SoundLedger, Spares, survivors_at, collecting}
 use Rattle.remembered_set.specs.declared.remembered.Source.{Source}
-use Rattle.core_relation.specs.Memory.{Home, Memory, In, object_name, objects, objects_in, sources, Lies, led_object, rewritten, rewritten_home}
+use Rattle.core_relation.specs.Memory.{Home, Memory, In, object_name, objects, objects_in, sources, Lies, copied_object, rewritten, rewritten_home}
 use Rattle.core_relation.specs.Reads.{IsRead, FramesAreRead, HoldsRead, TaskIsRead}
 use Rattle.ledger_step_laws.specs.Accounts.{own, Rests, ChangesHeap}
 use Rattle.core_relation.specs.Stands.{Place, HomeStands, IsSource, Stands}
@@ -67,10 +67,10 @@ module _ (v v' : Memory) (l l' : Ledger) (t : ℕ) (x : Task) (f : Addr → Addr
   moved : (n : Name) (a : Addr) → own l n ≡ t → Live l t S survivors spares n → Place v l n a → Place v' l' n (f a)
   moved n a e g p =
       let q : Lies (v.homes t).chunks n a = subst (λ u. Lies (v.homes u).chunks n a) e (p.here (subst (Rests l) (sym e) B.rests)) in
-      let i : In (objects v' t) (led_object f q.0) = C.kept q.0 q.1 (subst (In survivors) (sym q.2.name) (g e)) in
-      let q' : Lies (v'.homes t).chunks n (f a) = (led_object f q.0, i, record { name = q.2.name; at = ap f q.2.at }) in
-      let k = in_chunk (v'.homes t).chunks (led_object f q.0) i in
-      let at : (f a).chunk ≡ k.0.number = ap (λ (b : Addr). (f b).chunk) (sym q.2.at) ∙ C.home.inside k.0 (led_object f q.0) k.1 k.2 in
+      let i : In (objects v' t) (copied_object f q.0) = C.kept q.0 q.1 (subst (In survivors) (sym q.2.name) (g e)) in
+      let q' : Lies (v'.homes t).chunks n (f a) = (copied_object f q.0, i, record { name = q.2.name; at = ap f q.2.at }) in
+      let k = in_chunk (v'.homes t).chunks (copied_object f q.0) i in
+      let at : (f a).chunk ≡ k.0.number = ap (λ (b : Addr). (f b).chunk) (sym q.2.at) ∙ C.home.inside k.0 (copied_object f q.0) k.1 k.2 in
       let e' : own l' n ≡ t = own_same l l' L.machine n ∙ e in
       record {
         chunk = ap v'.owner at ∙ (C.home.owned k.0 k.1 ∙ ap Some (sym e'));

@@ -8,7 +8,7 @@ use Rattle.run_ledger.specs.declared.data.Heap.{Heap}
 use Rattle.run_ledger.specs.declared.data.Ledger.{Ledger}
 use Rattle.run_ledger.specs.Heaps.{heap_of}
 use Rattle.remembered_set.specs.declared.remembered.Source.{Source}
-use Rattle.core_relation.specs.Memory.{Home, Memory, In, objects_in, sources, led_frame, led_object, rewritten_home}
+use Rattle.core_relation.specs.Memory.{Home, Memory, In, objects_in, sources, led_frame, copied_object, rewritten_home}
 use Rattle.core_relation.specs.Fits.{with_home}
 use Rattle.ledger_step_laws.specs.Accounts.{StepsAlone, ChangesHeap}
 use Rattle.core_relation.specs.Changes.{KeepsJust, Moves}
@@ -89,7 +89,7 @@ moves_with v v' l l' k k' t u h apart A A' names f none C =
     let here' : (with_home v' u h).homes t ≡ v'.homes t = off_home v' u h t apart in
     record {
       home = home_kept v' (with_home v' u h) l' k' t here' (λ i e. e) (A'.heaps t apart) (A'.rows t apart) (A'.tree.joins t) C.home;
-      kept = λ o i j. subst (λ (y : Home). In (objects_in y.chunks) (led_object f o)) (sym here') (C.kept o (subst (λ (y : Home). In (objects_in y.chunks) o) here i) j);
+      kept = λ o i j. subst (λ (y : Home). In (objects_in y.chunks) (copied_object f o)) (sym here') (C.kept o (subst (λ (y : Home). In (objects_in y.chunks) o) here i) j);
       only = λ o i. let q = C.only o (subst (λ (y : Home). In (objects_in y.chunks) o) here' i) in (q.0, subst (λ (y : Home). In (objects_in y.chunks) q.0) (sym here) q.1, q.2, q.3);
       frames = ap (λ (y : Home). y.frames) here' ∙ (C.frames ∙ ap (λ (y : Home). map (led_frame f) y.frames) (sym here));
       view = ap (λ (y : Home). y.view) here' ∙ (C.view ∙ ap (λ (y : Home). y.view) (sym here));

@@ -13,7 +13,7 @@ use Rattle.run_ledger.specs.declared.data.Heap.{Heap}
 use Rattle.run_ledger.specs.declared.data.Ledger.{Ledger}
 use Rattle.run_ledger.specs.Heaps.{heap_of, or_fresh, let_go, collected, with_heap}
 use Rattle.run_ledger.specs.Sound.{SoundLedger}
-use Rattle.core_relation.specs.Memory.{Home, Memory, In, object_name, objects_in, sources, led_object, led_frame, rewritten_home}
+use Rattle.core_relation.specs.Memory.{Home, Memory, In, object_name, objects_in, sources, copied_object, led_frame, rewritten_home}
 use Rattle.core_relation.specs.Layout.{AreLaidOut}
 use Rattle.core_relation.specs.Stands.{names_of, small_chunks, large_chunks, HasNames, HomeStands, Stands}
 use Rattle.core_relation.specs.Fits.{Part, FitsAt, with_home, ahead}
@@ -140,7 +140,7 @@ module _ (p : ProgramText) (s : SettingsValue) (t : ℕ) (h h' : Home) (f : Addr
   pub moves : Moves V V' lt lt' t (heap_of lt t).survivors f
   moves = record {
     home = home;
-    kept = λ o i j. subst (λ (z : Home). In (objects_in z.chunks) (led_object f o)) (sym new_home) (C.copy.kept o (subst (λ (z : Home). In (objects_in z.chunks) o) old_home i) (subst (λ ns. In ns (object_name o)) survivors j));
+    kept = λ o i j. subst (λ (z : Home). In (objects_in z.chunks) (copied_object f o)) (sym new_home) (C.copy.kept o (subst (λ (z : Home). In (objects_in z.chunks) o) old_home i) (subst (λ ns. In ns (object_name o)) survivors j));
     only = λ o i.
         let r = C.copy.only o (subst (λ (z : Home). In (objects_in z.chunks) o) new_home i) in
         (r.0, subst (λ (z : Home). In (objects_in z.chunks) r.0) (sym old_home) r.1, subst (λ ns. In ns (object_name r.0)) (sym survivors) r.2, r.3);
