@@ -11,6 +11,7 @@ use Rattle.task_frames.specs.declared.frames.Frame.{Frame}
 use Rattle.remembered_set.specs.declared.remembered.Source.{Source}
 use Rattle.task_machine.specs.declared.part.Begun.{Begun}
 use Rattle.task_machine.specs.Place.{name_of}
+use Rattle.object_layout.specs.Chunks.{same_address}
 
 -- the name that an object bears
 abbrev pub object_name : Located → Name
@@ -109,11 +110,8 @@ abbrev pub rewritten_home : (Addr → Addr) → List Source → Home → Home
 rewritten_home f ss h = mapped_home (rewritten f ss) h
 
 -- the object at an address changed, any other as it is
-abbrev pub is_at : Addr → Located → Bool
-is_at a o = (o.at.chunk == a.chunk) && (o.at.offset == a.offset)
-
 abbrev pub put_at : Addr → (Located → Located) → Located → Located
-put_at a f o = if is_at a o then f o else o
+put_at a f o = if same_address o.at a then f o else o
 
 -- VIEWS
 
@@ -131,7 +129,7 @@ chunk_of (k ∷ ks) a = if k.number == a then Some k else chunk_of ks a
 
 abbrev pub seen_at : List Located → Addr → Option Located
 seen_at [] a = None
-seen_at (o ∷ os) a = if is_at a o then Some o else seen_at os a
+seen_at (o ∷ os) a = if same_address o.at a then Some o else seen_at os a
 
 abbrev pub seen_in : Option Chunk → Addr → Option Located → Option Located
 seen_in None a below = below

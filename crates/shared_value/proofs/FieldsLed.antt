@@ -8,7 +8,7 @@ use Rattle.listed.proofs.Members.{got_other, got_same}
 use Rattle.object_layout.specs.declared.word.Addr.{Addr}
 use Rattle.object_layout.specs.declared.word.Birth.{Birth}
 use Rattle.object_layout.specs.Cell.{Born, Cell, IsObject, marked_object, size_of, with_ref}
-use Rattle.object_layout.specs.Chunks.{cell_of, put_object, with_cell}
+use Rattle.object_layout.specs.Chunks.{cell_of, put_object, same_address, with_cell}
 use Rattle.object_layout.specs.ChunkValue.{ChunkValue}
 use Rattle.object_layout.proofs.ChunkLaws as laws
 use Rattle.object_layout.specs.Objects.{Located, with_fields}
@@ -25,7 +25,6 @@ use Rattle.leaf_copy_gc.specs.Redirected.{new_address}
 use Rattle.leaf_copy_gc.proofs.Puts.{same_or_other}
 use Rattle.core_relation.specs.Memory.{Chunk, In, led, mapped_chunk, mapped_home, objects_in, put_at, rewritten_home}
 use Rattle.core_relation.proofs.objects.Members.{in_chunk, map_in}
-use Rattle.core_relation.specs.Memory.{is_at}
 use Rattle.core_relation.proofs.changes.Write.{at_is}
 use Rattle.core_relation.proofs.changes.Shown.{is_at_it}
 use Rattle.shared_value.specs.declared.heaps.Heaps.{Heaps}
@@ -177,14 +176,14 @@ module _ (ms : List (Addr × Addr)) where
       pool = refl;
       count = refl;
       formed = F;
-      homes = λ u good. sym (home_stays (lead_one f s) (home_in (rest_at H.homes u)) (λ o i. by u good o i (is_at s.object o) refl));
+      homes = λ u good. sym (home_stays (lead_one f s) (home_in (rest_at H.homes u)) (λ o i. by u good o i (same_address o.at s.object) refl));
       there = λ x y. y;
     }
       where
         same_refs : (o : Located) → o.refs ≡ c.refs → record o { refs = slice_set c.refs s.field (held_by refs_in H s) } ≡ o
         same_refs o e = ap (λ rs. record o { refs = rs }) (set_itself c.refs s.field (held_by refs_in H s) (sym held_is) ∙ sym e)
 
-        by : (u : ℕ) → Good u → (o : Located) → In (objects_in (home_in (rest_at H.homes u)).chunks) o → (v : Bool) → is_at s.object o ≡ v → lead_one f s o ≡ o
+        by : (u : ℕ) → Good u → (o : Located) → In (objects_in (home_in (rest_at H.homes u)).chunks) o → (v : Bool) → same_address o.at s.object ≡ v → lead_one f s o ≡ o
         by u good o i true e =
             let at : o.at ≡ s.object = at_is s.object o e in
             let q = at_source u good o i at in
@@ -239,9 +238,9 @@ module _ (ms : List (Addr × Addr)) where
       ]
 
       one_is : (o : Located) → In (objects_in (home_in (rest_at H.homes T.home)).chunks) o → put_at s.object (with_fields d) o ≡ lead_one f s o
-      one_is o i = by (is_at s.object o) refl
+      one_is o i = by (same_address o.at s.object) refl
         where
-          by : (v : Bool) → is_at s.object o ≡ v → cond v (with_fields d o) o ≡ lead_one f s o
+          by : (v : Bool) → same_address o.at s.object ≡ v → cond v (with_fields d o) o ≡ lead_one f s o
           by true e =
               let at : o.at ≡ s.object = at_is s.object o e in
               let q = at_source T.home T.good o i at in

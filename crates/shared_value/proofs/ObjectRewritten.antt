@@ -6,14 +6,14 @@ use Rattle.std.proofs.lemmas.List.Elements.{All-cons, All-head, All-nil, All-tai
 use Rattle.listed.proofs.Places.{in_map}
 use Rattle.object_layout.specs.declared.word.Addr.{Addr}
 use Rattle.object_layout.specs.Cell.{Born, Cell, Hole, Mark, Moved, moved_to, size_of}
-use Rattle.object_layout.specs.Chunks.{cell_of, chunk_at, put_object, with_cell}
+use Rattle.object_layout.specs.Chunks.{cell_of, chunk_at, put_object, same_address, with_cell}
 use Rattle.object_layout.specs.ChunkValue.{ChunkValue}
 use Rattle.object_layout.specs.Place.{cell_at, words_in}
 use Rattle.object_layout.specs.Objects.{Located, changed_at, located_by, objects_from, objects_of, with_fields}
 use Rattle.object_layout.proofs.ChunkLaws.{length-put}
 use Rattle.object_layout.proofs.ObjectChanges.{put_changes_one}
 use Rattle.alloc_path.specs.LeafHeapValue.{AreApart, LeafHeapValue, IsTidy, room_at, room_of, units}
-use Rattle.core_relation.specs.Memory.{Chunk, In, is_at, mapped_chunk, objects_in, put_at}
+use Rattle.core_relation.specs.Memory.{Chunk, In, mapped_chunk, objects_in, put_at}
 use Rattle.core_relation.proofs.objects.Members.{in_chunk, map_in, in_objects}
 use Rattle.core_relation.proofs.changes.Write.{at_is}
 use Rattle.task_machine.specs.Accounts.{IsLastLarge, IsLastSmall}
@@ -29,9 +29,9 @@ use Rattle.shared_value.proofs.CellsRead.{fresh_off, numbered}
 -- objects that lie elsewhere stay
 pub elsewhere : (a : Addr) (f : Located → Located) (os : List Located) → ((o : Located) → In os o → o.at ≡ a → ⊥) → map (put_at a f) os ≡ os
 elsewhere a f [] h = refl
-elsewhere a f (o ∷ os) h = ap₂ (λ x xs. x ∷ xs) (by (is_at a o) refl) (elsewhere a f os (λ q i. h q (inr i)))
+elsewhere a f (o ∷ os) h = ap₂ (λ x xs. x ∷ xs) (by (same_address o.at a) refl) (elsewhere a f os (λ q i. h q (inr i)))
   where
-    by : (b : Bool) → is_at a o ≡ b → cond b (f o) o ≡ o
+    by : (b : Bool) → same_address o.at a ≡ b → cond b (f o) o ≡ o
     by true e = absurd (h o (inl refl) (at_is a o e))
     by false e = refl
 
@@ -45,9 +45,9 @@ chunks_elsewhere a f (k ∷ ks) h =
 -- two changes that are the same at the object
 pub put_same : (a : Addr) (f g : Located → Located) (os : List Located) → ((o : Located) → In os o → o.at ≡ a → f o ≡ g o) → map (put_at a f) os ≡ map (put_at a g) os
 put_same a f g [] h = refl
-put_same a f g (o ∷ os) h = ap₂ (λ x xs. x ∷ xs) (by (is_at a o) refl) (put_same a f g os (λ q i. h q (inr i)))
+put_same a f g (o ∷ os) h = ap₂ (λ x xs. x ∷ xs) (by (same_address o.at a) refl) (put_same a f g os (λ q i. h q (inr i)))
   where
-    by : (b : Bool) → is_at a o ≡ b → cond b (f o) o ≡ cond b (g o) o
+    by : (b : Bool) → same_address o.at a ≡ b → cond b (f o) o ≡ cond b (g o) o
     by true e = h o (inl refl) (at_is a o e)
     by false e = refl
 
@@ -178,7 +178,7 @@ module _ (h : LeafHeapValue) (a : Addr) (d : Cell) (form : HeapForm h) (mark : d
       let c = in_chunk (map (mapped_chunk (put_at a (with_fields d))) (chunks_of h.chunks)) o j in
       let k = map_in (mapped_chunk (put_at a (with_fields d))) (chunks_of h.chunks) c.0 c.1 in
       let q = map_in (put_at a (with_fields d)) k.0.objects o (subst (λ (z : Chunk). In z.objects o) (sym k.2) c.2) in
-      subst (λ (z : Addr). z.offset < 1024) (by q.0 (is_at a q.0) ∙ ap (λ (z : Located). z.at) q.2) (form.near q.0 (in_objects (chunks_of h.chunks) k.0 q.0 k.1 q.1))
+      subst (λ (z : Addr). z.offset < 1024) (by q.0 (same_address q.0.at a) ∙ ap (λ (z : Located). z.at) q.2) (form.near q.0 (in_objects (chunks_of h.chunks) k.0 q.0 k.1 q.1))
     where
       by : (q : Located) (b : Bool) → q.at ≡ (cond b (with_fields d q) q).at
       by q true = refl

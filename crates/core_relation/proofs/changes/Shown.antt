@@ -17,7 +17,7 @@ use Rattle.run_ledger.specs.declared.data.Ledger.{Ledger}
 use Rattle.run_ledger.specs.Heaps.{heap_of}
 use Rattle.run_ledger.specs.Sound.{SoundLedger}
 use Rattle.remembered_set.specs.declared.remembered.Source.{Source}
-use Rattle.core_relation.specs.Memory.{Chunk, Home, Memory, In, object_name, objects, objects_in, sources, led, is_source, rewritten_refs, rewritten, is_at, put_at, frozen_chunk, frozen_chunks, chunk_of, seen_at, seen_in, shown_at, as_shown}
+use Rattle.core_relation.specs.Memory.{Chunk, Home, Memory, In, object_name, objects, objects_in, sources, led, is_source, rewritten_refs, rewritten, put_at, frozen_chunk, frozen_chunks, chunk_of, seen_at, seen_in, shown_at, as_shown}
 use Rattle.ledger_step_laws.specs.Accounts.{own, Rests}
 use Rattle.core_relation.specs.Stands.{HomeStands, IsShown, Stands}
 use Rattle.ledger_step_laws.specs.Kinds.{ForksTask, JoinsTasks, CanJoin}
@@ -25,16 +25,17 @@ use Rattle.core_relation.specs.Changes.{ForksHome, advanced, JoinsHomes, KeepsJu
 use Rattle.ledger_step_laws.proofs.Tree.{leaf_alone}
 use Rattle.core_relation.proofs.objects.Members.{in_chunk, in_objects}
 use Rattle.core_relation.proofs.objects.Mapped.{from_mapped}
+use Rattle.object_layout.specs.Chunks.{same_address}
 
 -- which object lies there
-pub at_is : (a : Addr) (o : Located) → is_at a o ≡ true → o.at ≡ a
+pub at_is : (a : Addr) (o : Located) → same_address o.at a ≡ true → o.at ≡ a
 at_is a o e =
     let p = and_parts (o.at.chunk == a.chunk) (o.at.offset == a.offset) e in
     let c : o.at.chunk ≡ a.chunk = eqb-true o.at.chunk a.chunk p.0 in
     let f : o.at.offset ≡ a.offset = eqb-true o.at.offset a.offset p.1 in
     λ i. record { chunk = c i; offset = f i }
 
-pub is_at_it : (a : Addr) (o : Located) → o.at ≡ a → is_at a o ≡ true
+pub is_at_it : (a : Addr) (o : Located) → o.at ≡ a → same_address o.at a ≡ true
 is_at_it a o e =
     and_from (o.at.chunk == a.chunk) (o.at.offset == a.offset) (eq-eqb o.at.chunk a.chunk (ap (λ (b : Addr). b.chunk) e)) (eq-eqb o.at.offset a.offset (ap (λ (b : Addr). b.offset) e))
 
@@ -79,7 +80,7 @@ module _ (o : Located) where
       by more true e = ap (λ z. seen_at z o.at) (cond-false (not p.mutable) (p ∷ kept ps) (kept ps) (ap not e)) ∙ more
       by more false e =
           ap (λ z. seen_at z o.at) (cond-true (not p.mutable) (p ∷ kept ps) (kept ps) (ap not e))
-          ∙ (cond-false (is_at o.at p) (Some p) (seen_at (kept ps) o.at) (false_from_ne_true (is_at o.at p) (λ h.
+          ∙ (cond-false (same_address p.at o.at) (Some p) (seen_at (kept ps) o.at) (false_from_ne_true (same_address p.at o.at) (λ h.
           both_ways p.mutable e (ap (λ (q : Located). q.mutable) (once p (inl refl) (at_is o.at p h)) ∙ m))) ∙ more)
 
   one_seen : (os : List Located) → Once os → In os o → o.mutable ≡ false → seen_at (kept os) o.at ≡ Some o
@@ -92,12 +93,12 @@ module _ (o : Located) where
             | inl f ↦ absurd (both_ways p.mutable (ap (λ (q : Located). q.mutable) f ∙ m) e)
             | inr j ↦ more j
           ]
-      by more false e = ap (λ z. seen_at z o.at) (cond-true (not p.mutable) (p ∷ kept ps) (kept ps) (ap not e)) ∙ here (is_at o.at p) refl
+      by more false e = ap (λ z. seen_at z o.at) (cond-true (not p.mutable) (p ∷ kept ps) (kept ps) (ap not e)) ∙ here (same_address p.at o.at) refl
         where
-          here : (b : Bool) → is_at o.at p ≡ b → cond (is_at o.at p) (Some p) (seen_at (kept ps) o.at) ≡ Some o
-          here true h = cond-true (is_at o.at p) (Some p) (seen_at (kept ps) o.at) h ∙ ap Some (once p (inl refl) (at_is o.at p h))
-          here false h = cond-false (is_at o.at p) (Some p) (seen_at (kept ps) o.at) h ∙ elim i [
-            | inl f ↦ absurd (both_ways (is_at o.at p) h (is_at_it o.at p (ap (λ (q : Located). q.at) f)))
+          here : (b : Bool) → same_address p.at o.at ≡ b → cond (same_address p.at o.at) (Some p) (seen_at (kept ps) o.at) ≡ Some o
+          here true h = cond-true (same_address p.at o.at) (Some p) (seen_at (kept ps) o.at) h ∙ ap Some (once p (inl refl) (at_is o.at p h))
+          here false h = cond-false (same_address p.at o.at) (Some p) (seen_at (kept ps) o.at) h ∙ elim i [
+            | inl f ↦ absurd (both_ways (same_address p.at o.at) h (is_at_it o.at p (ap (λ (q : Located). q.at) f)))
             | inr j ↦ more j
           ]
 
@@ -189,27 +190,27 @@ module _ (v v' : Memory) (l l' : Ledger) (t : ℕ) (a : Addr) (f : Located → L
     (kind : (o : Located) → (f o).mutable ≡ o.mutable) (written : (u : ℕ) (o : Located) → In (objects v u) o → Rests l u → o.at ≡ a → o.mutable ≡ true)
     (same : (z : ℕ) → (v'.homes z).view ≡ (v.homes z).view) (paths : (u z : ℕ) → is_on_path l'.machine.tasks u z ≡ is_on_path l.machine.tasks u z) (rests : (u : ℕ) → Rests l' u → Rests l u) where
   one_name : (o : Located) → object_name (put_at a f o) ≡ object_name o
-  one_name o = by (is_at a o)
+  one_name o = by (same_address o.at a)
     where
       by : (b : Bool) → object_name (cond b (f o) o) ≡ object_name o
       by true = C.same_name o
       by false = refl
 
   one_at : (o : Located) → (put_at a f o).at ≡ o.at
-  one_at o = by (is_at a o)
+  one_at o = by (same_address o.at a)
     where
       by : (b : Bool) → (cond b (f o) o).at ≡ o.at
       by true = C.same_at o
       by false = refl
 
   one_shown : (s : Option Located) (u : ℕ) (q : Located) → Rests l u → In (objects v u) q → s ≡ as_shown q → s ≡ as_shown (put_at a f q)
-  one_shown s u q r i e = by (is_at a q) refl
+  one_shown s u q r i e = by (same_address q.at a) refl
     where
-      by : (b : Bool) → is_at a q ≡ b → s ≡ as_shown (put_at a f q)
+      by : (b : Bool) → same_address q.at a ≡ b → s ≡ as_shown (put_at a f q)
       by true h =
           let m : q.mutable ≡ true = written u q i r (at_is a q h) in
-          e ∙ (cond-true q.mutable None (Some q) m ∙ sym (ap as_shown (cond-true (is_at a q) (f q) q h) ∙ cond-true (f q).mutable None (Some (f q)) (kind q ∙ m)))
-      by false h = e ∙ sym (ap as_shown (cond-false (is_at a q) (f q) q h))
+          e ∙ (cond-true q.mutable None (Some q) m ∙ sym (ap as_shown (cond-true (same_address q.at a) (f q) q h) ∙ cond-true (f q).mutable None (Some (f q)) (kind q ∙ m)))
+      by false h = e ∙ sym (ap as_shown (cond-false (same_address q.at a) (f q) q h))
 
   pub write_shown : (z : ℕ) → Rests l z → is_joined (slice_get l.machine.tasks z) ≡ false → IsShown v' l' z
   write_shown z rz lz u o up ne r i =

@@ -15,7 +15,7 @@ use Rattle.run_ledger.specs.declared.data.Ledger.{Ledger}
 use Rattle.run_ledger.specs.Heaps.{heap_of}
 use Rattle.run_ledger.specs.Sound.{SoundLedger}
 use Rattle.remembered_set.specs.declared.remembered.Source.{Source}
-use Rattle.core_relation.specs.Memory.{Memory, In, object_name, objects, objects_in, sources, Lies, is_at, put_at}
+use Rattle.core_relation.specs.Memory.{Memory, In, object_name, objects, objects_in, sources, Lies, put_at}
 use Rattle.core_relation.specs.Reads.{IsRead, TaskIsRead}
 use Rattle.ledger_step_laws.specs.Accounts.{own, Rests, WritesOne}
 use Rattle.core_relation.specs.Layout.{words}
@@ -29,6 +29,7 @@ pub use Rattle.core_relation.proofs.changes.Shown.{at_is, is_at_it}
 use Rattle.core_relation.proofs.changes.Shown.{write_shown}
 use Rattle.core_relation.proofs.changes.Giving.{gives_kept}
 use Rattle.ledger_step_laws.proofs.Rested.{name_cases}
+use Rattle.object_layout.specs.Chunks.{same_address}
 
 module _ (v v' : Memory) (l l' : Ledger) (t : ℕ) (n : Name) (a : Addr) (x x' : Object) (f : Located → Located) (S : SoundLedger l) (V : Stands v l)
     (L : WritesOne l l' t n x x') (C : WritesAt v v' t a f) (W : WritesWell v v' l l' t n a x x' f) where
@@ -36,21 +37,21 @@ module _ (v v' : Memory) (l l' : Ledger) (t : ℕ) (n : Name) (a : Addr) (x x' :
   one o = put_at a f o
 
   one_name : (o : Located) → object_name (one o) ≡ object_name o
-  one_name o = by (is_at a o)
+  one_name o = by (same_address o.at a)
     where
       by : (b : Bool) → object_name (cond b (f o) o) ≡ object_name o
       by true = C.same_name o
       by false = refl
 
   one_at : (o : Located) → (one o).at ≡ o.at
-  one_at o = by (is_at a o)
+  one_at o = by (same_address o.at a)
     where
       by : (b : Bool) → (cond b (f o) o).at ≡ o.at
       by true = C.same_at o
       by false = refl
 
   one_words : (o : Located) → words (one o) ≡ words o
-  one_words o = by (is_at a o)
+  one_words o = by (same_address o.at a)
     where
       by : (b : Bool) → words (cond b (f o) o) ≡ words o
       by true = C.same_words o
@@ -96,11 +97,11 @@ module _ (v v' : Memory) (l l' : Ledger) (t : ℕ) (n : Name) (a : Addr) (x x' :
   Cases o = ((object_name o ≡ n) × (o.at ≡ a) × (one o ≡ f o)) ⊎ ((object_name o ≡ n → ⊥) × (one o ≡ o))
 
   cases : (u : ℕ) (o : Located) → Rests l u → In (objects v u) o → Cases o
-  cases u o r i = by (is_at a o) refl
+  cases u o r i = by (same_address o.at a) refl
     where
-      by : (b : Bool) → is_at a o ≡ b → Cases o
-      by true e = let at : o.at ≡ a = at_is a o e in inl (written_is u o r i at, at, cond-true (is_at a o) (f o) o e)
-      by false e = inr ((λ g. both_ways (is_at a o) e (is_at_it a o (name_is u o r i g))), cond-false (is_at a o) (f o) o e)
+      by : (b : Bool) → same_address o.at a ≡ b → Cases o
+      by true e = let at : o.at ≡ a = at_is a o e in inl (written_is u o r i at, at, cond-true (same_address o.at a) (f o) o e)
+      by false e = inr ((λ g. both_ways (same_address o.at a) e (is_at_it a o (name_is u o r i g))), cond-false (same_address o.at a) (f o) o e)
 
   abbrev Content : Located → Type 0
   Content o = (y : Object) × (object_at l'.machine.store (object_name o) ≡ Some y) × IsRead (Place v' l') o y

@@ -15,7 +15,7 @@ use Rattle.run_ledger.specs.declared.data.Heap.{Heap}
 use Rattle.run_ledger.specs.declared.data.Ledger.{Ledger}
 use Rattle.run_ledger.specs.Heaps.{heap_of, within}
 use Rattle.run_ledger.specs.Sound.{SoundLedger}
-use Rattle.core_relation.specs.Memory.{Home, In, Memory, is_at, object_name, objects, objects_in, put_at, rewritten, sources}
+use Rattle.core_relation.specs.Memory.{Home, In, Memory, object_name, objects, objects_in, put_at, rewritten, sources}
 use Rattle.listed.proofs.Members.{in_append_right}
 use Rattle.task_frames.specs.declared.frames.Frame.{Frame}
 use Rattle.ledger_step_laws.specs.Accounts.{Rests, StepsAlone, ChangesHeap}
@@ -28,6 +28,7 @@ use Rattle.core_relation.proofs.objects.Mapped.{to_mapped}
 use Rattle.core_relation.proofs.objects.Members.{in_chunk, in_objects}
 use Rattle.core_relation.proofs.notes.Rooted.{noted_by, rewritten_at, root_apart, root_by, root_kept, root_same}
 use Rattle.core_relation.proofs.notes.Notes.{notes_stay, notes_with, same_whole, moves_whole, numbers_whole, no_notes, fork_notes, store_notes}
+use Rattle.object_layout.specs.Chunks.{same_address}
 
 -- the accounts of u's heap stay
 same_notes : (v v' : Memory) (l l' : Ledger) (u : ℕ) → NotesStay v v' u → ((k : ℕ) → v'.owner k ≡ Some u → v.owner k ≡ Some u) → is_waiting (slice_get l'.machine.tasks u) ≡ is_waiting (slice_get l.machine.tasks u) → (heap_of l' u).swept ≡ (heap_of l u).swept → (heap_of l' u).snapshot ≡ (heap_of l u).snapshot
@@ -195,21 +196,21 @@ numbers_root v v' l l' w a i k C rest u b r =
     one q = put_at a (with_number i k) q
 
     one_name : (q : Located) → object_name (put_at a (with_number i k) q) ≡ object_name q
-    one_name q = by (is_at a q)
+    one_name q = by (same_address q.at a)
       where
         by : (b : Bool) → object_name (cond b (with_number i k q) q) ≡ object_name q
         by true = refl
         by false = refl
 
     one_at : (q : Located) → (put_at a (with_number i k) q).at ≡ q.at
-    one_at q = by (is_at a q)
+    one_at q = by (same_address q.at a)
       where
         by : (b : Bool) → (cond b (with_number i k q) q).at ≡ q.at
         by true = refl
         by false = refl
 
     one_refs : (q : Located) → (put_at a (with_number i k) q).refs ≡ q.refs
-    one_refs q = by (is_at a q)
+    one_refs q = by (same_address q.at a)
       where
         by : (b : Bool) → (cond b (with_number i k q) q).refs ≡ q.refs
         by true = refl

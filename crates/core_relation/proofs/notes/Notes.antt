@@ -22,7 +22,7 @@ use Rattle.inner_mark_gc.specs.MarkingValue.{MarkingValue}
 use Rattle.listed.proofs.Members.{in_append_right}
 use Rattle.task_frames.specs.declared.frames.Frame.{Frame}
 use Rattle.remembered_set.specs.declared.remembered.Source.{Source}
-use Rattle.core_relation.specs.Memory.{Chunk, Home, Memory, In, object_name, objects, objects_in, sources, led, is_source, rewritten, rewritten_refs, rewritten_home, is_at, mapped_chunk, put_at}
+use Rattle.core_relation.specs.Memory.{Chunk, Home, Memory, In, object_name, objects, objects_in, sources, led, is_source, rewritten, rewritten_refs, rewritten_home, mapped_chunk, put_at}
 use Rattle.ledger_step_laws.specs.Accounts.{own, Rests}
 use Rattle.core_relation.specs.Stands.{Place, Stands}
 use Rattle.core_relation.specs.Begins.{IsReachedAt, AreRoots}
@@ -36,6 +36,7 @@ use Rattle.core_relation.proofs.objects.Members.{object_held}
 use Rattle.core_relation.proofs.notes.Roots.{name_at}
 use Rattle.core_relation.proofs.notes.Snapshot.{since_fork, since_write, write_stays}
 use Rattle.core_relation.proofs.changes.Sweep.{snapshot_is, refers}
+use Rattle.object_layout.specs.Chunks.{same_address}
 use Rattle.core_relation.proofs.changes.Store as store
 
 -- WHAT IS MARKED stays so, where its objects do
@@ -162,21 +163,21 @@ numbers_whole v v' w a i k t C = record {
     one q = put_at a (with_number i k) q
 
     one_name : (q : Located) → object_name (put_at a (with_number i k) q) ≡ object_name q
-    one_name q = by (is_at a q)
+    one_name q = by (same_address q.at a)
       where
         by : (b : Bool) → object_name (cond b (with_number i k q) q) ≡ object_name q
         by true = refl
         by false = refl
 
     one_at : (q : Located) → (put_at a (with_number i k) q).at ≡ q.at
-    one_at q = by (is_at a q)
+    one_at q = by (same_address q.at a)
       where
         by : (b : Bool) → (cond b (with_number i k q) q).at ≡ q.at
         by true = refl
         by false = refl
 
     one_refs : (q : Located) → (put_at a (with_number i k) q).refs ≡ q.refs
-    one_refs q = by (is_at a q)
+    one_refs q = by (same_address q.at a)
       where
         by : (b : Bool) → (cond b (with_number i k q) q).refs ≡ q.refs
         by true = refl
@@ -187,14 +188,14 @@ pub writes_stay : (v v' : Memory) (w : ℕ) (a : Addr) (f : Located → Located)
 writes_stay v v' w a f t C q j = (put_at a f q, subst (λ ks. In (objects_in ks) (put_at a f q)) (sym (C.chunks t)) (to_mapped (put_at a f) one_name one_at (v.homes t).chunks q j), one_at q, one_name q)
   where
     one_name : (o : Located) → object_name (put_at a f o) ≡ object_name o
-    one_name o = by (is_at a o)
+    one_name o = by (same_address o.at a)
       where
         by : (b : Bool) → object_name (cond b (f o) o) ≡ object_name o
         by true = C.same_name o
         by false = refl
 
     one_at : (o : Located) → (put_at a f o).at ≡ o.at
-    one_at o = by (is_at a o)
+    one_at o = by (same_address o.at a)
       where
         by : (b : Bool) → (cond b (f o) o).at ≡ o.at
         by true = C.same_at o
@@ -252,14 +253,14 @@ module _ (v v' : Memory) (l l' : Ledger) (t : ℕ) (x : Task) (n : Name) (y : Ob
   one q = put_at a (with_field i (register f w)) q
 
   one_name : (q : Located) → object_name (one q) ≡ object_name q
-  one_name q = by (is_at a q)
+  one_name q = by (same_address q.at a)
     where
       by : (b : Bool) → object_name (cond b (with_field i (register f w) q) q) ≡ object_name q
       by true = refl
       by false = refl
 
   one_at : (q : Located) → (one q).at ≡ q.at
-  one_at q = by (is_at a q)
+  one_at q = by (same_address q.at a)
     where
       by : (b : Bool) → (cond b (with_field i (register f w) q) q).at ≡ q.at
       by true = refl

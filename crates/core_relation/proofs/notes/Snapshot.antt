@@ -14,7 +14,7 @@ use Rattle.run_ledger.specs.declared.data.Heap.{Heap}
 use Rattle.run_ledger.specs.declared.data.Ledger.{Ledger}
 use Rattle.run_ledger.specs.Heaps.{heap_of, within}
 use Rattle.run_ledger.specs.Sound.{SoundLedger}
-use Rattle.core_relation.specs.Memory.{Home, Memory, In, object_name, objects, objects_in, is_at, put_at}
+use Rattle.core_relation.specs.Memory.{Home, Memory, In, object_name, objects, objects_in, put_at}
 use Rattle.ledger_step_laws.specs.Accounts.{Rests, WritesOne}
 use Rattle.core_relation.specs.Stands.{Stands}
 use Rattle.core_relation.specs.Begins.{IsReachedAt, IsRoot, AreRoots}
@@ -25,6 +25,7 @@ use Rattle.core_relation.proofs.objects.Mapped.{from_mapped, to_mapped}
 use Rattle.core_relation.proofs.notes.Rooted.{in_advanced, lies_in, noted_by, root_apart, root_by, root_same}
 use Rattle.core_relation.proofs.notes.Roots.{reached_both}
 use Rattle.core_relation.proofs.changes.Write.{at_is}
+use Rattle.object_layout.specs.Chunks.{same_address}
 
 -- AT THE FORK
 pub since_fork : (v v' : Memory) (l l' : Ledger) (t a b g h : ℕ) (x : Task) (roots : List Addr) → SoundLedger l → Stands v l → x.status ≡ Running → Rests l t → ((u : ℕ) → is_waiting (slice_get l.machine.tasks u) ≡ true → Rests l u)
@@ -58,19 +59,19 @@ since_fork v v' l l' t a b g h x roots S V runs rests at_rest F C R same none =
 module _ (v v' : Memory) (l : Ledger) (t i : ℕ) (a : Addr) (value : Option Addr) (V : Stands v l) (rests : Rests l t) (K : Keeps v v' t a i) where
   -- a reference stays in the object, or was in the field that is written
   pub write_stays : (q : Located) (b : Addr) → In (objects v t) q → In q.refs (Some b) → v.owner b.chunk ≡ Some t → In (put_at a (with_field i value) q).refs (Some b) ⊎ In (kept v' t) b
-  write_stays q b j k o = by (is_at a q) refl
+  write_stays q b j k o = by (same_address q.at a) refl
     where
-      at : (r : ℕ) → slice_get q.refs r ≡ Some (Some b) → is_at a q ≡ true → In (slice_set q.refs i value) (Some b) ⊎ In (kept v' t) b
+      at : (r : ℕ) → slice_get q.refs r ≡ Some (Some b) → same_address q.at a ≡ true → In (slice_set q.refs i value) (Some b) ⊎ In (kept v' t) b
       at r e z = elim (cases_eq r i) [
         | inl f ↦ inr (K.old t q b (ap (λ (y : Addr). v.owner y.chunk) (sym (at_is a q z)) ∙ lies_in v l V t q rests j) j (at_is a q z) (ap (slice_get q.refs) (sym f) ∙ e) o)
         | inr ne ↦ inl (got_in (slice_set q.refs i value) r (Some b) (got_other q.refs i r value ne ∙ e))
       ]
 
-      by : (z : Bool) → is_at a q ≡ z → In (put_at a (with_field i value) q).refs (Some b) ⊎ In (kept v' t) b
-      by false e = inl (subst (λ (s : Located). In s.refs (Some b)) (sym (cond-false (is_at a q) (with_field i value q) q e)) k)
+      by : (z : Bool) → same_address q.at a ≡ z → In (put_at a (with_field i value) q).refs (Some b) ⊎ In (kept v' t) b
+      by false e = inl (subst (λ (s : Located). In s.refs (Some b)) (sym (cond-false (same_address q.at a) (with_field i value q) q e)) k)
       by true e =
           let r = in_got q.refs (Some b) k in
-          subst (λ (s : Located). In s.refs (Some b) ⊎ In (kept v' t) b) (sym (cond-true (is_at a q) (with_field i value q) q e)) (at r.0 r.1 e)
+          subst (λ (s : Located). In s.refs (Some b) ⊎ In (kept v' t) b) (sym (cond-true (same_address q.at a) (with_field i value q) q e)) (at r.0 r.1 e)
 
 module _ (v v' : Memory) (l l' : Ledger) (t w i : ℕ) (n : Name) (y y' : Object) (a : Addr) (value : Option Addr) (V : Stands v l) (rests : Rests l t) (frames : (v'.homes t).frames ≡ (v.homes t).frames) (H : Since v l t) (L : WritesOne l l' w n y y') (C : WritesAt v v' w a (with_field i value)) (K : Keeps v v' t a i)
     (of_snapshot : (u : ℕ) (q : Located) (b : Addr) → v.owner a.chunk ≡ Some u → In (objects v u) q → q.at ≡ a → slice_get q.refs i ≡ Some (Some b) → v.owner b.chunk ≡ Some t → (o : Located) × In (objects v t) o × (o.at ≡ b) × In (heap_of l t).snapshot (object_name o)) where
@@ -78,14 +79,14 @@ module _ (v v' : Memory) (l l' : Ledger) (t w i : ℕ) (n : Name) (y y' : Object
   one q = put_at a (with_field i value) q
 
   one_name : (q : Located) → object_name (one q) ≡ object_name q
-  one_name q = by (is_at a q)
+  one_name q = by (same_address q.at a)
     where
       by : (b : Bool) → object_name (cond b (with_field i value q) q) ≡ object_name q
       by true = refl
       by false = refl
 
   one_at : (q : Located) → (one q).at ≡ q.at
-  one_at q = by (is_at a q)
+  one_at q = by (same_address q.at a)
     where
       by : (b : Bool) → (cond b (with_field i value q) q).at ≡ q.at
       by true = refl
@@ -111,19 +112,19 @@ module _ (v v' : Memory) (l l' : Ledger) (t w i : ℕ) (n : Name) (y y' : Object
 
   -- a root stays one, or was in the field that is written
   root_then : (b : Addr) → IsRoot v l t b → IsRoot v' l' t b ⊎ In (kept v' t) b
-  root_then b r = by (is_at a r.object) refl
+  root_then b r = by (same_address r.object.at a) refl
     where
       goes_on : slice_get (one r.object).refs r.source.field ≡ Some (Some b) → IsRoot v' l' t b ⊎ In (kept v' t) b
       goes_on e =
           inl (root_by v v' l l' t (C.noted t) (λ k o. C.owner k ∙ o) b r (ap (λ (y : Heap). y.worker) (L.heaps r.home) ∙ r.rests) (one r.object) (then_ r.home r.object r.there) (one_at r.object) e)
 
-      by : (z : Bool) → is_at a r.object ≡ z → IsRoot v' l' t b ⊎ In (kept v' t) b
-      by false e = goes_on (ap (λ (s : Located). slice_get s.refs r.source.field) (cond-false (is_at a r.object) (with_field i value r.object) r.object e) ∙ r.holds)
+      by : (z : Bool) → same_address r.object.at a ≡ z → IsRoot v' l' t b ⊎ In (kept v' t) b
+      by false e = goes_on (ap (λ (s : Located). slice_get s.refs r.source.field) (cond-false (same_address r.object.at a) (with_field i value r.object) r.object e) ∙ r.holds)
       by true e = elim (cases_eq r.source.field i) [
         | inl f ↦
             let at : r.object.at ≡ a = at_is a r.object e in
             inr (K.old r.home r.object b (ap (λ (y : Addr). v.owner y.chunk) (sym at) ∙ lies_in v l V r.home r.object r.rests r.there) r.there at (ap (slice_get r.object.refs) (sym f) ∙ r.holds) r.into)
-        | inr ne ↦ goes_on (ap (λ (s : Located). slice_get s.refs r.source.field) (cond-true (is_at a r.object) (with_field i value r.object) r.object e) ∙ (got_other r.object.refs i r.source.field value ne ∙ r.holds))
+        | inr ne ↦ goes_on (ap (λ (s : Located). slice_get s.refs r.source.field) (cond-true (same_address r.object.at a) (with_field i value r.object) r.object e) ∙ (got_other r.object.refs i r.source.field value ne ∙ r.holds))
       ]
 
   pub since_write : Since v' l' t
