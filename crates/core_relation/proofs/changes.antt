@@ -1,4 +1,4 @@
--- What a value stands for after each kind of change: steps, forks, joins, stores, collections, sweeps.
+-- What a memory stands for after each kind of change: steps, forks, joins, stores, collections, sweeps.
 pub mod Alone
 pub mod Sweep
 pub mod Collect

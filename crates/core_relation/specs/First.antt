@@ -1,4 +1,4 @@
--- The value before any entry: the root is ready, with one frame, and nothing else is there.
+-- The memory before any entry: the root is ready, with one frame, and nothing else is there.
 use Rattle.std.specs.Prelude.{ℕ, zero, suc, pos, false, Option, Some, None, [], ◌∷◌, replicate}
 use Rattle.hh_lang.specs.Form.{ProgramText}
 use Rattle.heap_tree.specs.declared.state.State.TheVariants.{Ready}

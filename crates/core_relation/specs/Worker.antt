@@ -1,4 +1,4 @@
--- What a worker holds fits a value.
+-- What a worker holds fits a memory.
 use Rattle.std.specs.Prelude.{◌≡◌, ℕ, true, Some, List, [], ◌∷◌, slice_get}
 use Rattle.hh_lang.specs.Form.{ProgramText}
 use Rattle.run_trace.specs.Settings.{SettingsValue, field_limit}
@@ -13,7 +13,7 @@ use Rattle.core_relation.specs.Fits.{Part}
 use Rattle.core_relation.specs.Frames.{IsSteady, NotOf}
 use Rattle.core_relation.specs.Copies.{PartFits}
 
--- its task runs, and with its home the value stands for the accounts after its fresh steps, in which the task rests; the
+-- its task runs, and with its home the memory stands for the accounts after its fresh steps, in which the task rests; the
 -- machine's end is left aside
 pub record Fits (p : ProgramText) (s : SettingsValue) (q : Part) (v : Memory) (l : Ledger) : Type 0 where
   pub task : Task

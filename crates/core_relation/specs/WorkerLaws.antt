@@ -103,7 +103,7 @@ NumbersGo =
     StepsAlone m l' t → l' ≡ stepped_by m (record m.machine { tasks = slice_set m.machine.tasks t (record E.splits.task { top = onward_with c E.splits.task.top }); outputs = outs }) → h.frames ≡ f ∷ fs
     → StepsTo v l' t h (record h { frames = gone_on c f ∷ fs })
 
--- PARTS TOGETHER: any number of parts that fit a value fit it together, with all homes and the steps of all
+-- PARTS TOGETHER: any number of parts that fit a memory fit it together, with all homes and the steps of all
 abbrev pub AllFitTogether : Type 0
 AllFitTogether =
     (p : ProgramText) (s : SettingsValue) (qs : List Part) (v : Memory) (l : Ledger) → Knows l → l.machine.end ≡ None → Stands v l → AllFit p s qs v l → Stands (with_homes v qs) (all_ahead p qs l)

@@ -1,4 +1,4 @@
--- A private step of a task whose home isn't in the value: the value stands for the accounts after it too.
+-- A private step of a task whose home isn't in the memory: the memory stands for the accounts after it too.
 use Rattle.std.proofs.Common.{◌≡◌, ℕ, false, Some, length, slice_get, inl, inr, refl, ap, sym, subst, ◌∙◌}
 use Rattle.std.proofs.lemmas.Bool.{both_ways}
 use Rattle.object_layout.specs.declared.word.Addr.{Addr}

@@ -1,4 +1,4 @@
--- What the last step of an entry changes of the accounts and of the value, it changes so of those with the steps and the home
+-- What the last step of an entry changes of the accounts and of the memory, it changes so of those with the steps and the home
 -- of another task's part.
 use Rattle.std.proofs.Common.{◌≡◌, ℕ, ℤ, ◌+◌, false, Option, List, ◌++◌, map, length, slice_get, ◌⊎◌, inl, inr, refl, ap, ap₂, sym, subst, ◌∙◌}
 use Rattle.std.proofs.lemmas.Bool.{cases_eq, both_ways}
@@ -182,7 +182,7 @@ module _ (l l' k k' : Ledger) (u : ℕ) (A : StepsAlone l k u) (A' : StepsAlone 
     store = λ n. store_too n (W.store n);
   }
 
--- THE VALUE, with u's home in it
+-- THE MEMORY, with u's home in it
 
 module _ (v v' : Memory) (u : ℕ) (h : Home) where
   abbrev w : Memory

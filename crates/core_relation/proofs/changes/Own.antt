@@ -1,4 +1,4 @@
--- A private step of a task whose home is in the value: what is shown of its home is enough.
+-- A private step of a task whose home is in the memory: what is shown of its home is enough.
 use Rattle.std.proofs.Common.{◌≡◌, ℕ, true, false, Option, Some, None, slice_get, ◌⊎◌, inl, inr, refl, ap, sym, subst, ◌∙◌}
 use Rattle.std.proofs.lemmas.Bool.{cases_eq, both_ways}
 use Rattle.listed.proofs.Members.{got_in}

@@ -1,4 +1,4 @@
--- A task is taken, and private steps are entered: the value stands, and the part fits.
+-- A task is taken, and private steps are entered: the memory stands, and the part fits.
 use Rattle.std.proofs.Common.{◌≡◌, ℕ, arith, false, Some, None, length, slice_get, inl, inr, refl, ap, sym, ◌∙◌}
 use Rattle.std.proofs.lemmas.Bool.{cases_eq}
 use Rattle.hh_lang.specs.Form.{ProgramText}
@@ -91,7 +91,7 @@ module _ (p : ProgramText) (s : SettingsValue) (q : Part) (v : Memory) (l : Ledg
   pub ran_fits : FitsAt p s entered v then_
   ran_fits = record { worker = w; out = out; few = omega arith; private = tt; stands = F.stands }
 
-  -- and the value stands without it
+  -- and the memory stands without it
   pub ran_stands : is_waiting (slice_get then_.machine.tasks q.task) ≡ false → Stands v then_
   ran_stands idle =
       released (with_home v q.task q.home) v (rested then_ q.task) then_ q.task w F.stands (ap (λ (m : State). is_waiting (slice_get m.tasks q.task)) (with_machine then_ q.task let_go) ∙ idle)

@@ -1,4 +1,4 @@
--- What an entry changes of a value, it changes so of the value with another task's home in it.
+-- What an entry changes of a memory, it changes so of the memory with another task's home in it.
 use Rattle.std.proofs.Common.{◌≡◌, ℕ, ◌==◌, List, map, inl, inr, refl, ap, sym, subst, ◌∙◌, ne_eqb}
 use Rattle.std.proofs.lemmas.Bool.{cases_eq, cond-true, cond-false, eq-eqb}
 use Rattle.object_layout.specs.declared.word.Addr.{Addr}

@@ -1,4 +1,4 @@
--- The notes of a value with a part's home in it, by the accounts with the part's steps, and back.
+-- The notes of a memory with a part's home in it, by the accounts with the part's steps, and back.
 use Rattle.std.proofs.Common.{is_some, ◌≡◌, ℕ, false, Option, Some, None, slice_get, refl, ap, sym, subst, ◌∙◌}
 use Rattle.std.specs.Prelude.{◌&&◌, not}
 use Rattle.hh_model.specs.declared.data.State.{State}

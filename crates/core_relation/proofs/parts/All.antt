@@ -1,4 +1,4 @@
--- All parts that fit a value fit it together.
+-- All parts that fit a memory fit it together.
 use Rattle.std.proofs.Common.{None, ◌≡◌, List, [], ◌∷◌, ap, ap₂, ◌∙◌}
 use Rattle.hh_lang.specs.Form.{ProgramText}
 use Rattle.run_trace.specs.Settings.{SettingsValue}
@@ -16,7 +16,7 @@ use Rattle.core_relation.proofs.parts.Workers.{out, part_now}
 use Rattle.core_relation.specs.Frames.{IsOut, NotOf, AllFitAt, with_homes, all_ahead}
 use Rattle.core_relation.proofs.parts.Pair as pair
 
--- a part fits the value with another's home in it, by the accounts with the other's steps
+-- a part fits the memory with another's home in it, by the accounts with the other's steps
 module _ (p : ProgramText) (s : SettingsValue) (q r : Part) (v : Memory) (l : Ledger) (x y : Task) (K : Knows l) (F : FitsAt p s q v l) (G : FitsAt p s r v l) (O : IsOut l q x) (P : IsOut l r y) (ne : q.task ≡ r.task → ⊥) where
   pub fits_on_top : FitsAt p s r (with_home v q.task q.home) (ahead p q l)
   fits_on_top = record {

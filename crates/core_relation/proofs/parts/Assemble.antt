@@ -1,4 +1,4 @@
--- Two parts that fit a value fit it together: with both homes in it, it stands for the accounts in which both tasks rest.
+-- Two parts that fit a memory fit it together: with both homes in it, it stands for the accounts in which both tasks rest.
 use Rattle.std.proofs.Common.{◌≡◌, ℕ, true, false, Some, slice_get, ◌⊎◌, inl, inr, ap, sym, subst, ◌∙◌}
 use Rattle.std.proofs.lemmas.Bool.{cases_eq, both_ways}
 use Rattle.std.proofs.lemmas.Option.{same_Some}

@@ -36,7 +36,7 @@ sweep_frame v v' l l' k k' t u h apart A A' em eh S waits rests L C V =
     (heap_with v v' l l' k k' t u h apart A A' L em eh)
     (subst (λ (i : Heap). KeepsJust (with_home v u h) (with_home v' u h) k k' t i.snapshot) (sym heap) (keeps_with v v' l l' k k' t u h apart A A' (heap_of l t).snapshot C))
 
--- private steps of t, whose home isn't in the value: those of u lead from l to k and from l' to k'
+-- private steps of t, whose home isn't in the memory: those of u lead from l to k and from l' to k'
 pub step_frame : (v : Memory) (k k' : Ledger) (t w u : ℕ) (h : Home) → SoundLedger k → StepsAlone k k' t → (heap_of k t).worker ≡ Some w → (heap_of k' t).worker ≡ Some w → is_waiting (slice_get k.machine.tasks t) ≡ false
     → Stands (with_home v u h) k → Stands (with_home v u h) k'
 step_frame v k k' t w u h S A out out' runs V = steps_alone (with_home v u h) k k' t w S V A out out' runs
@@ -80,7 +80,7 @@ module _ (v v' : Memory) (lt lt' k k' K K' : Ledger) (t u w : ℕ) (g g' h : Hom
   after : Stands both' K'
   after = collected both both' K K' t x f E.sound before E.collects (heap_with (with_home v t g) (with_home v' t g') lt lt' K K' t u h E.apart E.steps_t E.steps_t' E.ends E.machine E.heap) moves
 
-  -- what the worker of t holds fits the value after it, and so does the part of u
+  -- what the worker of t holds fits the memory after it, and so does the part of u
   pub collect_frame : Stands (with_home v' u h) k'
   collect_frame =
       released both' (with_home v' u h) K' k' t w after (ap (λ (m : State). is_waiting (slice_get m.tasks t)) E.machine ∙ idle_t) E.takes

@@ -41,7 +41,7 @@ use Rattle.core_relation.proofs.changes.Numbers as numbers
 use Rattle.core_relation.proofs.parts.Pair as pair
 use Rattle.core_relation.proofs.changes.Store as store
 
--- q's worker goes on with the task: its home is g' then, and the value stands for the accounts in which it rests
+-- q's worker goes on with the task: its home is g' then, and the memory stands for the accounts in which it rests
 module _ (p : ProgramText) (s : SettingsValue) (q r : Part) (v : Memory) (l l' : Ledger) (x y : Task) (K : Knows l) (K' : Knows l') (F : FitsAt p s q v l) (G : FitsAt p s r v l) (O : IsOut l q x) (P : IsOut l r y) (ne : q.task ≡ r.task → ⊥)
     (w : ℕ) (out : (heap_of l' q.task).worker ≡ Some w) (limit : l'.machine.field_limit ≡ (ahead p q l).machine.field_limit) (end : l'.machine.end ≡ (ahead p q l).machine.end) (heap : slice_get l'.heaps r.task ≡ slice_get (ahead p q l).heaps r.task) where
   abbrev lq : Ledger

@@ -1,4 +1,4 @@
--- Two parts that fit a value fit it together.
+-- Two parts that fit a memory fit it together.
 use Rattle.std.proofs.Common.{◌≡◌, true, false, Some, inl, inr, ap, sym, ◌∙◌}
 use Rattle.hh_lang.specs.Form.{ProgramText}
 use Rattle.run_trace.specs.Settings.{SettingsValue}
@@ -86,6 +86,6 @@ module _ (p : ProgramText) (s : SettingsValue) (q r : Part) (v : Memory) (l : Le
     live_u = more.tree.joins r.task ∙ (N.tree.joins r.task ∙ (ap is_joined P.task ∙ (tells y P.runs).0));
   }
 
-  -- so the value with both homes stands for the accounts with the steps of both
+  -- so the memory with both homes stands for the accounts with the steps of both
   pub fit_together : Stands (with_home (with_home v q.task q.home) r.task r.home) both
   fit_together = together v lq lr both q.task r.task q.home r.home beside F.stands G.stands

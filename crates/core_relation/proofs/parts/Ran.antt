@@ -66,7 +66,7 @@ module _ (p : ProgramText) (s : SettingsValue) (v v' : Memory) (l l' : Ledger) (
     pub heap : slice_get l'.heaps r.task ≡ slice_get l.heaps r.task
     heap = left.heap ∙ (with_off m t r.task let_go (λ e. ne (sym e)) ∙ steps_off p s t k l r.task (λ e. ne (sym e)) S.private)
 
-    -- the value stays, and the last step changes what t owns alone
+    -- the memory stays, and the last step changes what t owns alone
     stays : v' ≡ v → StepsAlone m l' t → (heap_of l' t).worker ≡ Some w → FitsAt p s r v' l'
     stays same A out' =
         subst (λ (z : Memory). FitsAt p s r z l') (sym same)

@@ -34,7 +34,7 @@ use Rattle.core_relation.proofs.changes.Takes.{took_fits}
 use Rattle.core_relation.proofs.whole.Together.{none_begun}
 use Rattle.core_relation.proofs.changes.With.{at_home, off_home}
 
--- what the value has in the part's place doesn't matter
+-- what the memory has in the part's place doesn't matter
 module _ (p : ProgramText) (s : SettingsValue) (q : Part) (v v' : Memory) (l : Ledger) (C : SameBut v v' q.task) (F : FitsAt p s q v l) where
   abbrev k : Ledger
   k = ahead p q l

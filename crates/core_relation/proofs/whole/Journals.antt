@@ -1,4 +1,4 @@
--- The value before any entry stands for the first accounts.
+-- The memory before any entry stands for the first accounts.
 use Rattle.std.proofs.Common.{◌≡◌, ℕ, zero, suc, true, Some, None, slice_get, option_map, replicate, refl, sym, subst, ◌∙◌}
 use Rattle.hh_lang.specs.Form.{ProgramText}
 use Rattle.run_trace.specs.Settings.{SettingsValue}

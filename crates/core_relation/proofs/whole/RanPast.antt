@@ -52,7 +52,7 @@ module _ (p : ProgramText) (s : SettingsValue) (v v' : Memory) (l l' : Ledger) (
   abbrev S : Splits p s l l' t k
   S = E.splits
 
-  -- the value with the part's home in it, and its accounts
+  -- the memory with the part's home in it, and its accounts
   abbrev vt : Memory
   vt = with_home v t h
 
@@ -86,7 +86,7 @@ module _ (p : ProgramText) (s : SettingsValue) (v v' : Memory) (l l' : Ledger) (
   abbrev Handed : Type 0
   Handed = Stands v' (handed l') × AllNoted v' (handed l')
 
-  -- the value stays, and the last step changes what t owns alone
+  -- the memory stays, and the last step changes what t owns alone
   stays : v' ≡ v → StepsAlone m l' t → (heap_of l' t).worker ≡ Some w → Both
   stays same A out' =
       let AA = alone_along p s t l m l' alone_m A in
