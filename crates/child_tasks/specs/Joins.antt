@@ -4,7 +4,7 @@ use Rattle.object_layout.specs.declared.word.Addr.{Addr}
 use Rattle.object_layout.specs.ChunkValue.{ChunkValue}
 use Rattle.chunk_pool.specs.PoolValue.{PoolValue}
 use Rattle.alloc_path.specs.LeafHeapValue.{AreApart, LeafHeapValue, merged, with_places}
-use Rattle.task_frames.specs.FramesValue.{FramesValue}
+use Rattle.task_frames.specs.FramesValue.{FramesValue, int_of, ref_of}
 use Rattle.heap_tree.specs.Pairs.{sibling}
 use Rattle.heap_tree.specs.Node.{Node}
 use Rattle.remembered_set.specs.declared.remembered.Source.{Source}
@@ -16,7 +16,6 @@ use Rattle.fork_join.specs.declared.sides.EndedChild.{EndedChild}
 use Rattle.fork_join.specs.declared.sides.Side.{Side}
 use Rattle.fork_join.specs.Joined.{AreInUse, HasRoom, HaveEnded}
 use Rattle.task_machine.specs.declared.part.Private.{Private}
-use Rattle.task_machine.specs.Plan.{int_of, ref_of}
 use Rattle.shared_value.specs.declared.task_at_rest.Rest.{Rest}
 use Rattle.shared_value.specs.declared.task_at_rest.Work.{Work}
 use Rattle.shared_value.specs.declared.task_at_rest.Work.TheVariants.{Calls, Result}

@@ -25,7 +25,7 @@ use Rattle.core_relation.specs.Stands.{Place}
 use Rattle.core_relation.proofs.objects.Carry.{field_of}
 use Rattle.core_relation.proofs.changes.With.{at_home}
 use Rattle.task_machine.specs.declared.part.Private.{Private}
-use Rattle.task_machine.specs.Plan.{int_of, ref_of}
+use Rattle.task_frames.specs.FramesValue.{int_of, ref_of}
 use Rattle.shared_value.specs.declared.task_at_rest.Rest.{Rest}
 use Rattle.shared_value.specs.declared.task_at_rest.Work.{Work}
 use Rattle.shared_value.specs.declared.task_at_rest.Work.TheVariants.{Calls, Result}

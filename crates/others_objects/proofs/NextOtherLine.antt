@@ -29,7 +29,7 @@ use Rattle.core_relation.specs.Fits.{with_home}
 use Rattle.core_relation.specs.Stands.{Place}
 use Rattle.core_relation.proofs.notes.Roots.{name_at}
 use Rattle.task_machine.specs.declared.part.Private.{Private}
-use Rattle.task_machine.specs.Plan.{ref_of}
+use Rattle.task_frames.specs.FramesValue.{ref_of}
 use Rattle.task_machine.proofs.Owned.{born_is, born_object}
 use Rattle.shared_value.specs.SharedValue.{SharedValue, accounts, value_of}
 use Rattle.shared_value.specs.Stands.{IsSharedValue}

@@ -15,7 +15,7 @@ use Rattle.object_layout.specs.declared.word.Addr.{Addr}
 use Rattle.object_layout.specs.Cell.{Cell, IsPlace, with_int as cell_int, with_ref as cell_ref}
 use Rattle.object_layout.specs.Chunks.{cell_of, object_of}
 use Rattle.chunk_pool.specs.PoolValue.{held_at, owner_of as pool_owner}
-use Rattle.task_frames.specs.FramesValue.{FramesValue}
+use Rattle.task_frames.specs.FramesValue.{FramesValue, ref_of}
 use Rattle.write_barrier.specs.declared.sets.SetOf.{SetOf}
 use Rattle.write_barrier.specs.Stored.{IsOwned, content_after, content_at}
 use Rattle.ledger_step_laws.specs.Accounts.{own, rested}
@@ -28,7 +28,6 @@ use Rattle.core_relation.specs.Since.{StoresNotes}
 use Rattle.core_relation.specs.Stands.{Place}
 use Rattle.core_relation.proofs.notes.Roots.{name_at}
 use Rattle.task_machine.specs.declared.part.Private.{Private}
-use Rattle.task_machine.specs.Plan.{ref_of}
 use Rattle.task_machine.proofs.Owned.{born_is, born_object}
 use Rattle.shared_value.specs.declared.task_at_rest.Rest.{Rest}
 use Rattle.shared_value.specs.SharedValue.{SharedValue, accounts, flat, rest_at, value_of}

@@ -21,14 +21,14 @@ use Rattle.write_barrier.specs.declared.sets.SetOf.{SetOf}
 use Rattle.write_barrier.specs.Stored.{content_after, content_at}
 use Rattle.ledger_step_laws.specs.Accounts.{own}
 use Rattle.core_relation.specs.Memory.{Home, In, Memory, objects, sources}
-use Rattle.core_relation.specs.Changes.{StoresAt, StoresNumberAt, gone_on, register, with_field, with_number}
+use Rattle.core_relation.specs.Changes.{StoresAt, StoresNumberAt, gone_on, with_field, with_number}
+use Rattle.task_frames.specs.FramesValue.{ref_of, int_of}
 use Rattle.core_relation.specs.Fits.{with_home}
 use Rattle.core_relation.specs.Reads.{Reads}
 use Rattle.core_relation.specs.Since.{Keeps, OthersNotes, StoresNotes}
 use Rattle.core_relation.specs.Stands.{Place}
 use Rattle.core_relation.proofs.changes.Store as store
 use Rattle.task_machine.specs.declared.part.Private.{Private}
-use Rattle.task_machine.specs.Plan.{int_of, ref_of}
 use Rattle.shared_value.specs.SharedValue.{SharedValue, accounts, value_of}
 use Rattle.shared_value.specs.Stands.{IsSharedValue}
 use Rattle.shared_value.specs.Fits.{Fits, home_of_part}
@@ -122,7 +122,7 @@ module _ (w : SharedValue) (k : ℕ) (p : Private) (I : IsSharedValue w) (F : Fi
       fields_of : (s : Located) → length (f s).refs ≡ length s.refs
       fields_of s = length-set s.refs i value
 
-      down : (e : Addr) (y z : ℕ) → register p.frames.top b ≡ Some e → v0.owner a.chunk ≡ Some y → v0.owner e.chunk ≡ Some z → is_on_path L.machine.tasks z y ≡ false → In (sources new z) (record { object = a; field = i })
+      down : (e : Addr) (y z : ℕ) → ref_of p.frames.top b ≡ Some e → v0.owner a.chunk ≡ Some y → v0.owner e.chunk ≡ Some z → is_on_path L.machine.tasks z y ≡ false → In (sources new z) (record { object = a; field = i })
       down e y z er ea ee off =
           let r = reads_address (Place (with_home (value_of w) t h) L) (ref_of p.frames.top b) (ref_in X.top b) e (register_at w k p I F on b) er in
           let yn : y ≡ u = same_Some y u (sym ea ∙ O.place.chunk) in
@@ -134,7 +134,7 @@ module _ (w : SharedValue) (k : ℕ) (p : Private) (I : IsSharedValue w) (F : Fi
           noting.notes_down w.tree w.pool w.sets sets a i overwritten value u O.place.chunk C e z er ee (path_is u z ∙ (ap (is_on_path L.machine.tasks u) zr ∙ above)) (λ q. apart (q ∙ zr)) (made e.chunk z ee)
 
       only : (z : ℕ) (s : Source) → In (sources new z) s
-          → In (sources old z) s ⊎ ((e : Addr) × (y : ℕ) × (register p.frames.top b ≡ Some e) × (v0.owner e.chunk ≡ Some z) × (v0.owner a.chunk ≡ Some y) × (is_on_path L.machine.tasks z y ≡ false) × (s ≡ record { object = a; field = i }))
+          → In (sources old z) s ⊎ ((e : Addr) × (y : ℕ) × (ref_of p.frames.top b ≡ Some e) × (v0.owner e.chunk ≡ Some z) × (v0.owner a.chunk ≡ Some y) × (is_on_path L.machine.tasks z y ≡ false) × (s ≡ record { object = a; field = i }))
       only z s j = elim (noting.notes_only w.tree w.pool w.sets sets a i overwritten value u O.place.chunk C z s j) [
         | inl before ↦ inl before
         | inr added ↦ inr (added.0, u, added.1, added.2, O.place.chunk, one_way u z added.3 added.4, added.5)

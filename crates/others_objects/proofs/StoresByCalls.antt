@@ -31,7 +31,7 @@ use Rattle.core_relation.specs.Fits.{with_home}
 use Rattle.core_relation.specs.Makes.{StoresInto}
 use Rattle.core_relation.specs.Since.{StoresNotes}
 use Rattle.task_machine.specs.declared.part.Private.{Private}
-use Rattle.task_machine.specs.Plan.{int_of, ref_of}
+use Rattle.task_frames.specs.FramesValue.{int_of, ref_of}
 use Rattle.task_machine.proofs.Owned.{born_object}
 use Rattle.task_machine.proofs.Asked.{place_within}
 use Rattle.shared_value.specs.declared.task_at_rest.Rest.{Rest}

@@ -22,7 +22,7 @@ use Rattle.object_layout.specs.ChunkValue.{ChunkValue}
 use Rattle.object_layout.specs.References.{same_reference}
 use Rattle.chunk_pool.specs.PoolValue.{PoolValue, held_at, owner_of}
 use Rattle.task_frames.specs.declared.frames.Frame.{Frame}
-use Rattle.task_frames.specs.FramesValue.{FramesValue, with_int as with_number, with_next}
+use Rattle.task_frames.specs.FramesValue.{FramesValue, with_int as with_number, with_next, int_of, ref_of}
 use Rattle.heap_tree.specs.Node.{Node, is_on_path}
 use Rattle.write_barrier.specs.Stored.{content_at, IsOwned}
 use Rattle.ledger_step_laws.specs.Accounts.{rested}
@@ -31,7 +31,6 @@ use Rattle.core_relation.specs.Fits.{with_home}
 use Rattle.core_relation.specs.Reads.{Reads}
 use Rattle.core_relation.specs.Stands.{Place}
 use Rattle.task_machine.specs.declared.part.Private.{Private}
-use Rattle.task_machine.specs.Plan.{int_of, ref_of}
 use Rattle.shared_value.specs.declared.task_at_rest.Rest.{Rest}
 use Rattle.shared_value.specs.SharedValue.{SharedValue, rest_at, value_of}
 use Rattle.shared_value.specs.Fits.{Fits, home_of_part}

@@ -5,7 +5,7 @@ ghost use Rattle.hh_model.specs.Effect.{place_in};
 ghost use Rattle.object_layout.specs.Cell.{IsObject};
 ghost use Rattle.object_layout.specs.Chunks.{cell_of, object_of};
 ghost use Rattle.write_barrier.specs.Stored.{IsOwned};
-ghost use Rattle.task_machine.specs.Plan.{int_of, ref_of};
+ghost use Rattle.task_frames.specs.FramesValue.{int_of, ref_of};
 ghost use Rattle.others_objects.specs.Other.{object_named, or_frozen, or_range, other_step, reads_into, swaps, IsReadable};
 
 use alloc_path::LeafHeap;

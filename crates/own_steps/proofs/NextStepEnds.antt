@@ -28,7 +28,7 @@ use Rattle.object_layout.specs.Chunks.{object_of, place_in as chunk_in}
 use Rattle.task_machine.specs.declared.part.Private.{Private}
 use Rattle.task_machine.specs.Fits.{FitsNow as Fits}
 use Rattle.task_machine.specs.Place.{IsAt, Places}
-use Rattle.task_machine.specs.Plan.{int_of, ref_of}
+use Rattle.task_frames.specs.FramesValue.{int_of, ref_of}
 use Rattle.task_machine.proofs.Fitting.{is_alone, step_by, x}
 use Rattle.task_machine.proofs.Owned.{other_at, own_object}
 use Rattle.task_machine.proofs.OwnReads.{Own, ints_index, nil_effect, object_effect, owned_here, refs_index}

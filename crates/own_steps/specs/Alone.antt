@@ -18,7 +18,7 @@ use Rattle.run_ledger.specs.Steps.{is_private, owns, task_steps, touched}
 use Rattle.ledger_step_laws.specs.Accounts.{Rests}
 use Rattle.core_relation.specs.Whole.{handed}
 use Rattle.task_machine.specs.declared.part.Private.{Private}
-use Rattle.task_machine.specs.Plan.{int_of, ref_of}
+use Rattle.task_frames.specs.FramesValue.{int_of, ref_of}
 use Rattle.shared_value.specs.declared.next_step.Ending.{Ending}
 use Rattle.shared_value.specs.declared.next_step.Ending.TheVariants.{Prints, Returns, Traps, Beyond}
 use Rattle.shared_value.specs.declared.task_at_rest.Rest.{Rest}

@@ -26,7 +26,7 @@ use Rattle.task_machine.specs.declared.part.Private.{Private}
 use Rattle.task_machine.specs.Accounts.{AreReserved, IsCounted}
 use Rattle.task_machine.specs.Fits.{FitsNow as FitsMachine}
 use Rattle.task_machine.specs.Place.{FrameStands, Places}
-use Rattle.task_machine.specs.Plan.{int_of}
+use Rattle.task_frames.specs.FramesValue.{int_of}
 use Rattle.task_machine.proofs.Agreement.{same_line}
 use Rattle.task_machine.proofs.Fitting.{int_same}
 use Rattle.task_machine.proofs.Accounted.{words_for_some}

@@ -18,7 +18,7 @@ use Rattle.object_layout.specs.Chunks.{object_of, place_in}
 use Rattle.object_layout.specs.ChunkValue.{ChunkValue}
 use Rattle.task_frames.specs.declared.frames.Frame.{Frame}
 use Rattle.task_machine.specs.declared.part.Private.{Private}
-use Rattle.task_machine.specs.Plan.{int_of, ref_of}
+use Rattle.task_frames.specs.FramesValue.{int_of, ref_of}
 use Rattle.shared_value.specs.declared.next_step.Ending.{Ending}
 use Rattle.shared_value.specs.declared.next_step.Ending.TheVariants.{Prints, Returns, Traps, Beyond}
 

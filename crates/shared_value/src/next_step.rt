@@ -2,7 +2,7 @@
 
 ghost use Rattle.std.specs.Prelude.{◌≡◌, ◌<◌, ◌^◌, length, IfSome};
 ghost use Rattle.hh_model.specs.Effect.{counts_in, place_in};
-ghost use Rattle.task_machine.specs.Plan.{int_of, ref_of};
+ghost use Rattle.task_frames.specs.FramesValue.{int_of, ref_of};
 ghost use Rattle.task_machine.specs.Ready.{IsSafe};
 ghost use Rattle.shared_value.specs.Next.{ending, instr_asks, on_own, part_asks, unwritten};
 

@@ -1,5 +1,5 @@
 -- A task's frames as callers see them.
-use Rattle.std.specs.Prelude.{◌≡◌, ℕ, zero, suc, ◌+◌, ℤ, Option, Some, None, List, [], ◌∷◌, ◌++◌, length, nat_lt, slice_get, slice_set, if◌then◌else◌}
+use Rattle.std.specs.Prelude.{◌≡◌, ℕ, zero, suc, ◌+◌, ℤ, pos, Option, Some, None, List, [], ◌∷◌, ◌++◌, length, nat_lt, slice_get, slice_set, unwrap_or, if◌then◌else◌}
 use Rattle.object_layout.specs.declared.word.Addr.{Addr}
 use Rattle.task_frames.specs.declared.frames.Frame.{Frame}
 
@@ -15,6 +15,13 @@ depth_of s = length s.below + 1
 -- all frames, the oldest first
 abbrev pub frames_of : FramesValue → List Frame
 frames_of s = s.below ++ s.top ∷ []
+
+-- what a register of a frame holds, 0 or nil where there is no such register
+abbrev pub int_of : Frame → ℕ → ℤ
+int_of f i = unwrap_or (slice_get f.ints i) (pos 0)
+
+abbrev pub ref_of : Frame → ℕ → Option Addr
+ref_of f i = unwrap_or (slice_get f.refs i) None
 
 abbrev pub reference_in : Option Frame → ℕ → Option (Option Addr)
 reference_in None i = None

@@ -13,7 +13,8 @@ use Rattle.task_machine.specs.declared.plan.Plan.{Plan}
 use Rattle.task_machine.specs.declared.plan.Plan.TheVariants.{Pause, SetInt, SetReference, Return, New, Pack, WriteReference, WriteInt, Swap, Freeze}
 use Rattle.task_machine.specs.declared.plan.Spot.{Spot}
 use Rattle.object_layout.specs.References.{same_reference}
-use Rattle.task_machine.specs.Plan.{counts_ints, counts_refs, own_or_shown, reads_int, reads_ref, shown_of, allocating, int_of, or_shared, own_in, planned, ref_of, unless_frozen}
+use Rattle.task_machine.specs.Plan.{counts_ints, counts_refs, own_or_shown, reads_int, reads_ref, shown_of, allocating, or_shared, own_in, planned, unless_frozen}
+use Rattle.task_frames.specs.FramesValue.{int_of, ref_of}
 use Rattle.task_machine.specs.Run.{IsCall, IsCallPlan}
 
 abbrev Not : Plan → Type 0

@@ -35,7 +35,8 @@ use Rattle.task_machine.specs.declared.part.Private.{Private}
 use Rattle.task_machine.specs.declared.plan.Plan.{Plan}
 use Rattle.task_machine.specs.Place.{Places, IsAt, ObjectStands}
 use Rattle.task_machine.specs.Fits.{FitsNow, IsOwn, IsRun, IsShownBy}
-use Rattle.task_machine.specs.Plan.{counts_ints, counts_refs, int_of, own_or_shown, planned, reads_int, reads_ref, ref_of, or_shared, spot_at, with_seen}
+use Rattle.task_machine.specs.Plan.{counts_ints, counts_refs, own_or_shown, planned, reads_int, reads_ref, or_shared, spot_at, with_seen}
+use Rattle.task_frames.specs.FramesValue.{int_of, ref_of}
 use Rattle.task_machine.specs.Steps.{Agrees}
 use Rattle.task_machine.proofs.Stands.{at_get, at_length}
 use Rattle.task_machine.proofs.Owned.{other_at, own_object}

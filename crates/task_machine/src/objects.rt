@@ -4,7 +4,8 @@ ghost use Rattle.std.specs.Prelude.{◌≡◌, ◌<◌, ◌^◌, IfSome, Some};
 ghost use Rattle.object_layout.specs.Cell.{header_of, IsObject};
 ghost use Rattle.object_layout.specs.Chunks.{cell_of, object_of};
 ghost use Rattle.object_layout.specs.Place.{cell_at};
-ghost use Rattle.task_machine.specs.Plan.{own_in, planned, ref_of};
+ghost use Rattle.task_machine.specs.Plan.{own_in, planned};
+ghost use Rattle.task_frames.specs.FramesValue.{ref_of};
 ghost use Rattle.task_machine.specs.Ready.{IsReady, IsSafe, IsThere};
 
 use crate::arithmetic::field_index;

@@ -2,7 +2,8 @@
 
 ghost use Rattle.std.specs.Prelude.{◌≡◌, IfSome, Some, option_map};
 ghost use Rattle.object_layout.specs.Cell.{header_of};
-ghost use Rattle.task_machine.specs.Plan.{counts_ints, counts_refs, or_shared, reads_int, reads_ref, ref_of, shown_of};
+ghost use Rattle.task_machine.specs.Plan.{counts_ints, counts_refs, or_shared, reads_int, reads_ref, shown_of};
+ghost use Rattle.task_frames.specs.FramesValue.{ref_of};
 
 use crate::arithmetic::field_index;
 use crate::decide::SHARED;

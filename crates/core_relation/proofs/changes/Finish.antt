@@ -18,7 +18,8 @@ use Rattle.ledger_step_laws.specs.Accounts.{Rests}
 use Rattle.core_relation.specs.Layout.{AreLaidOut}
 use Rattle.core_relation.specs.Stands.{Place, HasNames, HomeStands, Stands}
 use Rattle.ledger_step_laws.specs.Kinds.{EndsTask}
-use Rattle.core_relation.specs.Changes.{EndsHome, StepsAtHome, register}
+use Rattle.core_relation.specs.Changes.{EndsHome, StepsAtHome}
+use Rattle.task_frames.specs.FramesValue.{ref_of}
 use Rattle.core_relation.proofs.objects.Carry.{field_of, object_kept, read_kept}
 use Rattle.core_relation.proofs.changes.Own.{stepped, place_own}
 
@@ -61,7 +62,7 @@ module _ (v v' : Memory) (l l' : Ledger) (t : ℕ) (x : Task) (f : Frame) (fs : 
       subst (λ (k : Task). TaskIsRead (Place v' l') (v'.homes t) k) (same_Some ended z (sym L.ended ∙ e)) (
         ap (λ q. q.0) C.result ∙ ap (λ zs. unwrap_or (slice_get zs 0) (pos 0)) frames.0.ints,
         subst (λ q. Reads (Place v' l') q.1 (result_of x.top).1) (sym C.result)
-            (read_kept (Place v l) (Place v' l') (register f 0) (result_of x.top).1 (λ n k. place n) (field_of (Place v l) f.refs x.top.refs 0 frames.0.refs)),
+            (read_kept (Place v l) (Place v' l') (ref_of f 0) (result_of x.top).1 (λ n k. place n) (field_of (Place v l) f.refs x.top.refs 0 frames.0.refs)),
       )
 
   pub finished : Stands v' l'

@@ -20,13 +20,14 @@ use Rattle.core_relation.specs.Reads.{Reads, FramesAreRead, HoldsRead, TaskIsRea
 use Rattle.ledger_step_laws.specs.Accounts.{own, Rests}
 use Rattle.core_relation.specs.Stands.{Place, Stands}
 use Rattle.ledger_step_laws.specs.Kinds.{StoresNumber}
-use Rattle.core_relation.specs.Changes.{StoresNumberAt, with_number, number, register}
+use Rattle.core_relation.specs.Changes.{StoresNumberAt, with_number}
+use Rattle.task_frames.specs.FramesValue.{ref_of, int_of}
 use Rattle.core_relation.proofs.objects.Carry.{field_of}
 use Rattle.ledger_step_laws.proofs.Tree.{leaf_alone}
 use Rattle.core_relation.proofs.changes.Write.{written}
 
 module _ (v v' : Memory) (l l' : Ledger) (t : ℕ) (x : Task) (n : Name) (y : Object) (o w i : ℕ) (f : Frame) (fs : List Frame) (a : Addr) (S : SoundLedger l) (V : Stands v l) (rests : Rests l t)
-    (L : StoresNumber l l' t x n y o w i) (C : StoresNumberAt v v' t f fs a w i) (at_a : register f o ≡ Some a) where
+    (L : StoresNumber l l' t x n y o w i) (C : StoresNumberAt v v' t f fs a w i) (at_a : ref_of f o ≡ Some a) where
   frames : FramesAreRead (Place v l) (f ∷ fs) (x.top ∷ x.below)
   frames = subst (λ zs. FramesAreRead (Place v l) zs (x.top ∷ x.below)) C.frames (subst (HoldsRead (Place v l) (v.homes t) x) L.runs (V.tasks t x rests L.task))
 
@@ -34,7 +35,7 @@ module _ (v v' : Memory) (l l' : Ledger) (t : ℕ) (x : Task) (n : Name) (y : Ob
   holds j m e = names_run x m L.runs (in_registers (x.top ∷ x.below) x.top m (inl refl) (at_in x.top.refs j m e))
 
   pub place : Place v l n a
-  place = subst (λ z. Reads (Place v l) z (Some n)) at_a (subst (Reads (Place v l) (register f o)) L.object (field_of (Place v l) f.refs x.top.refs o frames.0.refs))
+  place = subst (λ z. Reads (Place v l) z (Some n)) at_a (subst (Reads (Place v l) (ref_of f o)) L.object (field_of (Place v l) f.refs x.top.refs o frames.0.refs))
 
   pub rests_n : Rests l (own l n)
   rests_n = elim (cases_eq (own l n) t) [
@@ -71,7 +72,7 @@ module _ (v v' : Memory) (l l' : Ledger) (t : ℕ) (x : Task) (n : Name) (y : Ob
       (record { function = frames.0.function; next = ap (λ k. k + 1) frames.0.next; ints = frames.0.ints; refs = frames.0.refs }, frames.1)))
 
   pub numbered : Stands v' l'
-  numbered = written v v' l l' t n a y y' (with_number i (number f w)) S V L.writes C.writes (record {
+  numbered = written v v' l l' t n a y y' (with_number i (int_of f w)) S V L.writes C.writes (record {
     place = place;
     rests = rests_n;
     mutable = L.mutable;

@@ -24,7 +24,8 @@ use Rattle.core_relation.specs.Reads.{Reads, FrameIsRead, FramesAreRead, HoldsRe
 use Rattle.ledger_step_laws.specs.Accounts.{own, Rests}
 use Rattle.core_relation.specs.Stands.{Place, IsSource, Stands}
 use Rattle.ledger_step_laws.specs.Kinds.{StoresOne, onward_with}
-use Rattle.core_relation.specs.Changes.{StoresAt, with_field, register, gone_on}
+use Rattle.core_relation.specs.Changes.{StoresAt, with_field, gone_on}
+use Rattle.task_frames.specs.FramesValue.{ref_of}
 use Rattle.core_relation.proofs.objects.Carry.{all_set, field_of}
 use Rattle.core_relation.proofs.changes.Sweep.{snapshot_is}
 use Rattle.ledger_step_laws.proofs.Tree.{own_live, leaf_alone}
@@ -61,7 +62,7 @@ goes_on at None f z R = record { function = R.function; next = ap (λ k. k + 1) 
 goes_on at (Some c) f z R = record { function = R.function; next = ap (λ k. k + 1) R.next; ints = ap (λ ns. slice_set ns c.0 c.1) R.ints; refs = R.refs }
 
 module _ (v v' : Memory) (l l' : Ledger) (t : ℕ) (x : Task) (n : Name) (y : Object) (o w i : ℕ) (c : Option (ℕ × ℤ)) (f : Frame) (fs : List Frame) (a : Addr) (S : SoundLedger l) (V : Stands v l) (rests : Rests l t)
-    (L : StoresOne l l' t x n y o w i c) (C : StoresAt v v' l t f fs a w i c) (at_a : register f o ≡ Some a) where
+    (L : StoresOne l l' t x n y o w i c) (C : StoresAt v v' l t f fs a w i c) (at_a : ref_of f o ≡ Some a) where
   frames : FramesAreRead (Place v l) (f ∷ fs) (x.top ∷ x.below)
   frames = subst (λ zs. FramesAreRead (Place v l) zs (x.top ∷ x.below)) C.frames (subst (HoldsRead (Place v l) (v.homes t) x) L.runs (V.tasks t x rests L.task))
 
@@ -69,22 +70,22 @@ module _ (v v' : Memory) (l l' : Ledger) (t : ℕ) (x : Task) (n : Name) (y : Ob
   holds j m e = names_run x m L.runs (in_registers (x.top ∷ x.below) x.top m (inl refl) (at_in x.top.refs j m e))
 
   -- a register is read through the map
-  reads : (j : ℕ) → Reads (Place v l) (register f j) (ref_in x.top j)
+  reads : (j : ℕ) → Reads (Place v l) (ref_of f j) (ref_in x.top j)
   reads j = field_of (Place v l) f.refs x.top.refs j frames.0.refs
 
   pub place : Place v l n a
-  place = subst (λ z. Reads (Place v l) z (Some n)) at_a (subst (Reads (Place v l) (register f o)) L.object (reads o))
+  place = subst (λ z. Reads (Place v l) z (Some n)) at_a (subst (Reads (Place v l) (ref_of f o)) L.object (reads o))
 
   -- what the register w holds
-  value : (r : Name) → ref_in x.top w ≡ Some r → (b : Addr) × (register f w ≡ Some b) × Place v l r b
-  value r e = by (register f w) refl (subst (Reads (Place v l) (register f w)) e (reads w))
+  value : (r : Name) → ref_in x.top w ≡ Some r → (b : Addr) × (ref_of f w ≡ Some b) × Place v l r b
+  value r e = by (ref_of f w) refl (subst (Reads (Place v l) (ref_of f w)) e (reads w))
     where
-      by : (z : Option Addr) → register f w ≡ z → Reads (Place v l) z (Some r) → (b : Addr) × (register f w ≡ Some b) × Place v l r b
+      by : (z : Option Addr) → ref_of f w ≡ z → Reads (Place v l) z (Some r) → (b : Addr) × (ref_of f w ≡ Some b) × Place v l r b
       by None h k = absurd k
       by (Some b) h k = (b, h, k)
 
   -- and the name of what lies at an address that it holds
-  named : (b : Addr) → register f w ≡ Some b → (r : Name) × (ref_in x.top w ≡ Some r) × Place v l r b
+  named : (b : Addr) → ref_of f w ≡ Some b → (r : Name) × (ref_in x.top w ≡ Some r) × Place v l r b
   named b e = by (ref_in x.top w) refl (subst (λ z. Reads (Place v l) z (ref_in x.top w)) e (reads w))
     where
       by : (z : Option Name) → ref_in x.top w ≡ z → Reads (Place v l) (Some b) z → (r : Name) × (ref_in x.top w ≡ Some r) × Place v l r b
@@ -116,7 +117,7 @@ module _ (v v' : Memory) (l l' : Ledger) (t : ℕ) (x : Task) (n : Name) (y : Ob
     | inr old ↦ elim (at_old old (place.here rests_n)) [ inl p ↦ inl p | inr s ↦ inr (C.writes.noted (own l r) (record { object = a; field = j }) s) ]
   ]
     where
-      by : (b : Bool) → is_on_path l.machine.tasks (own l r) (own l n) ≡ b → (c : Addr) × (register f w ≡ Some c) × Place v l r c → j ≡ i → (is_on_path l.machine.tasks (own l r) (own l n) ≡ true) ⊎ In (sources v' (own l r)) (record { object = a; field = j })
+      by : (b : Bool) → is_on_path l.machine.tasks (own l r) (own l n) ≡ b → (c : Addr) × (ref_of f w ≡ Some c) × Place v l r c → j ≡ i → (is_on_path l.machine.tasks (own l r) (own l n) ≡ true) ⊎ In (sources v' (own l r)) (record { object = a; field = j })
       by true h q k = inl h
       by false h q k = inr (subst (λ z. In (sources v' (own l r)) (record { object = a; field = z })) (sym k) (C.down q.0 (own l n) (own l r) q.1 place.chunk q.2.chunk h))
 
@@ -131,7 +132,7 @@ module _ (v v' : Memory) (l l' : Ledger) (t : ℕ) (x : Task) (n : Name) (y : Ob
     | inr new ↦ noted u s new.0 new.1 new.2 new.3 new.4 new.5 new.6
   ]
     where
-      noted : (u : ℕ) (s : Source) (b : Addr) (c : ℕ) → register f w ≡ Some b → v.owner b.chunk ≡ Some u → v.owner a.chunk ≡ Some c → is_on_path l.machine.tasks u c ≡ false → s ≡ record { object = a; field = i } → IsSource v l u s
+      noted : (u : ℕ) (s : Source) (b : Addr) (c : ℕ) → ref_of f w ≡ Some b → v.owner b.chunk ≡ Some u → v.owner a.chunk ≡ Some c → is_on_path l.machine.tasks u c ≡ false → s ≡ record { object = a; field = i } → IsSource v l u s
       noted u s b c e eb ea off es =
           let m = named b e in
           let mine : own l m.0 ≡ u = same_Some (own l m.0) u (sym m.2.chunk ∙ eb) in
@@ -163,12 +164,12 @@ module _ (v v' : Memory) (l l' : Ledger) (t : ℕ) (x : Task) (n : Name) (y : Ob
       (goes_on (Place v l) c f x.top frames.0, frames.1)))
 
   pub stored : Stands v' l'
-  stored = written v v' l l' t n a y y' (with_field i (register f w)) S V L.writes C.writes (record {
+  stored = written v v' l l' t n a y y' (with_field i (ref_of f w)) S V L.writes C.writes (record {
     place = place;
     rests = rests_n;
     mutable = L.mutable;
     still = L.mutable;
-    reads = λ q k. record { mutable = k.mutable; ints = k.ints; refs = all_set (Place v l) q.refs y.refs i (register f w) (ref_in x.top w) k.refs (reads w) };
+    reads = λ q k. record { mutable = k.mutable; ints = k.ints; refs = all_set (Place v l) q.refs y.refs i (ref_of f w) (ref_in x.top w) k.refs (reads w) };
     minds = minds;
     sources = source;
     task = task;

@@ -22,7 +22,8 @@ use Rattle.ledger_step_laws.specs.Accounts.{Rests, StepsAlone, ChangesHeap}
 use Rattle.core_relation.specs.Stands.{Stands}
 use Rattle.core_relation.specs.Begins.{AreRoots, IsRoot}
 use Rattle.core_relation.specs.Since.{NotedAt, SameNotes, AllNoted, NotesStay, Noting, ForksNotes, JoinsNotes, OthersNotes, StoresNotes}
-use Rattle.core_relation.specs.Changes.{KeepsJust, Moves, ForksHome, JoinsHomes, StoresAt, StoresNumberAt, WritesAt, register, with_number}
+use Rattle.core_relation.specs.Changes.{KeepsJust, Moves, ForksHome, JoinsHomes, StoresAt, StoresNumberAt, WritesAt, with_number}
+use Rattle.task_frames.specs.FramesValue.{ref_of}
 use Rattle.ledger_step_laws.specs.Kinds.{CanJoin, ForksTask, JoinsTasks, StoresOne, StoresNumber}
 use Rattle.core_relation.proofs.objects.Mapped.{to_mapped}
 use Rattle.core_relation.proofs.objects.Members.{in_chunk, in_objects}
@@ -227,7 +228,7 @@ numbers_note v v' l l' t x n y o w i f fs a L C N H u = elim (cases_eq u t) [
 ]
 
 pub stores_note : (v v' : Memory) (l l' : Ledger) (t : ℕ) (x : Task) (n : Name) (y : Object) (o w i : ℕ) (c : Option (ℕ × ℤ)) (f : Frame) (fs : List Frame) (a : Addr) → SoundLedger l → Stands v l → Rests l t
-    → StoresOne l l' t x n y o w i c → StoresAt v v' l t f fs a w i c → register f o ≡ Some a → StoresNotes v v' t a i → AllNoted v l → AllNoted v' l'
+    → StoresOne l l' t x n y o w i c → StoresAt v v' l t f fs a w i c → ref_of f o ≡ Some a → StoresNotes v v' t a i → AllNoted v l → AllNoted v' l'
 stores_note v v' l l' t x n y o w i c f fs a S V rests L C at_a N H u = elim (cases_eq u t) [
   | inl e ↦ subst (NotedAt v' l') (sym e) (not_waiting v' l' t N.none (L.writes.tree.waits t ∙ (ap is_waiting L.task ∙ ap (λ s. is_waiting (Some (record x { status = s }))) L.runs)))
   | inr nt ↦ by nt (is_waiting (slice_get l.machine.tasks u)) refl ((v.noted u).keeps) refl

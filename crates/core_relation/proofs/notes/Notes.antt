@@ -28,7 +28,8 @@ use Rattle.core_relation.specs.Stands.{Place, Stands}
 use Rattle.core_relation.specs.Begins.{IsReachedAt, AreRoots}
 use Rattle.core_relation.specs.Marking.{GoesOn, MarkedBy}
 use Rattle.core_relation.specs.Since.{Since, Keeps, kept, NotedAt, SameNotes, NoNotes, StaysWhole}
-use Rattle.core_relation.specs.Changes.{Moves, ForksHome, WritesAt, StoresAt, with_field, with_number, register}
+use Rattle.core_relation.specs.Changes.{Moves, ForksHome, WritesAt, StoresAt, with_field, with_number}
+use Rattle.task_frames.specs.FramesValue.{ref_of}
 use Rattle.ledger_step_laws.specs.Kinds.{ForksTask, StoresOne}
 use Rattle.core_relation.proofs.objects.Mapped.{count_mapped, from_mapped, length_map, to_mapped}
 use Rattle.core_relation.proofs.notes.MarksGoOn.{goes_on}
@@ -219,7 +220,7 @@ fork_notes v v' l l' t a b g h x roots S V runs rests at_rest F C R names none u
 -- A STORE OF A REFERENCE: what it overwrites is of the snapshot
 
 module _ (v v' : Memory) (l l' : Ledger) (t : ℕ) (x : Task) (n : Name) (y : Object) (o w i : ℕ) (c : Option (ℕ × ℤ)) (f : Frame) (fs : List Frame) (a : Addr) (S : SoundLedger l) (V : Stands v l) (rests : Rests l t)
-    (L : StoresOne l l' t x n y o w i c) (C : StoresAt v v' l t f fs a w i c) (at_a : register f o ≡ Some a) (u : ℕ) (wait : is_waiting (slice_get l.machine.tasks u) ≡ true) where
+    (L : StoresOne l l' t x n y o w i c) (C : StoresAt v v' l t f fs a w i c) (at_a : ref_of f o ≡ Some a) (u : ℕ) (wait : is_waiting (slice_get l.machine.tasks u) ≡ true) where
   place : Place v l n a
   place = store.place v v' l l' t x n y o w i c f fs a S V rests L C at_a
 
@@ -250,19 +251,19 @@ module _ (v v' : Memory) (l l' : Ledger) (t : ℕ) (x : Task) (n : Name) (y : Ob
       (k.0, k', k.2.at, subst (λ ns. In ns (object_name k.0)) (snapshot_is (slice_get l.heaps u)) (subst (In (snapshot_at (slice_get l.heaps u))) (sym k.2.name) (P.1 (subst (InHeaps l.heaps u) k.2.name held))))
 
   abbrev one : Located → Located
-  one q = put_at a (with_field i (register f w)) q
+  one q = put_at a (with_field i (ref_of f w)) q
 
   one_name : (q : Located) → object_name (one q) ≡ object_name q
   one_name q = by (same_address q.at a)
     where
-      by : (b : Bool) → object_name (cond b (with_field i (register f w) q) q) ≡ object_name q
+      by : (b : Bool) → object_name (cond b (with_field i (ref_of f w) q) q) ≡ object_name q
       by true = refl
       by false = refl
 
   one_at : (q : Located) → (one q).at ≡ q.at
   one_at q = by (same_address q.at a)
     where
-      by : (b : Bool) → (cond b (with_field i (register f w) q) q).at ≡ q.at
+      by : (b : Bool) → (cond b (with_field i (ref_of f w) q) q).at ≡ q.at
       by true = refl
       by false = refl
 
@@ -278,7 +279,7 @@ module _ (v v' : Memory) (l l' : Ledger) (t : ℕ) (x : Task) (n : Name) (y : Ob
         o.1,
         ap (λ (z : Located). z.at) (sym o.2) ∙ one_at o.0,
         ap object_name (sym o.2) ∙ one_name o.0,
-        λ b c r. subst (λ (z : Located). In z.refs (Some b) ⊎ In (kept v' u) b) o.2 (write_stays v v' l u i a (register f w) V (L.waits u wait) K o.0 b o.1 r c),
+        λ b c r. subst (λ (z : Located). In z.refs (Some b) ⊎ In (kept v' u) b) o.2 (write_stays v v' l u i a (ref_of f w) V (L.waits u wait) K o.0 b o.1 r c),
       ))
       (λ k g. sym (C.writes.owner k) ∙ g) (ap (λ ks. length (objects_in ks)) (C.writes.chunks u) ∙ count_mapped one one_name one_at (v.homes u).chunks) (ap (λ (ks : List Chunk). length ks) (C.writes.chunks u) ∙ length_map (mapped_chunk one) (v.homes u).chunks)
       (λ b j.
@@ -294,9 +295,9 @@ module _ (v v' : Memory) (l l' : Ledger) (t : ℕ) (x : Task) (n : Name) (y : Ob
   pub store_notes : (v'.noted u).keeps ≡ (v.noted u).keeps → (heap_of l' u).swept ≡ (heap_of l u).swept → Keeps v v' u a i → NotedAt v l u → NotedAt v' l' u
   store_notes keeps swept K H = record {
     keeps = keeps ∙ (H.keeps ∙ ap₂ (λ a b. a && not b) (sym (L.writes.tree.waits u)) (sym swept));
-    since = λ e. since_write v v' l l' u t i n y _ a (register f w) V (L.waits u wait) (C.writes.frames u apart) (H.since (sym keeps ∙ e)) L.writes C.writes K of_snapshot;
+    since = λ e. since_write v v' l l' u t i n y _ a (ref_of f w) V (L.waits u wait) (C.writes.frames u apart) (H.since (sym keeps ∙ e)) L.writes C.writes K of_snapshot;
     marks = λ e.
         marks_carry v v' l l' u (v.noted u).marked (v'.noted u).marked K.marked (ap (λ (z : Heap). z.marked) (L.writes.heaps u))
         (λ q j m. let z = writes_stay v v' t a _ u C.writes q j in (z.0, z.1, z.2, subst (λ (g : Heap). In g.snapshot (object_name z.0)) (sym (L.writes.heaps u)) (subst (In (heap_of l u).snapshot) (sym z.3) m)))
-        (store_goes (since_write v v' l l' u t i n y _ a (register f w) V (L.waits u wait) (C.writes.frames u apart) (H.since (sym keeps ∙ e)) L.writes C.writes K of_snapshot) K) (H.marks (sym keeps ∙ e));
+        (store_goes (since_write v v' l l' u t i n y _ a (ref_of f w) V (L.waits u wait) (C.writes.frames u apart) (H.since (sym keeps ∙ e)) L.writes C.writes K of_snapshot) K) (H.marks (sym keeps ∙ e));
   }

@@ -24,7 +24,8 @@ use Rattle.ledger_step_laws.specs.Accounts.{own, Rests, ArePrivate, rested, Step
 use Rattle.core_relation.specs.Stands.{Stands}
 use Rattle.core_relation.specs.Fits.{Part, FitsAt, ahead, with_home}
 use Rattle.ledger_step_laws.specs.Kinds.{StoresOne, StoresNumber}
-use Rattle.core_relation.specs.Changes.{StoresAt, StoresNumberAt, register}
+use Rattle.core_relation.specs.Changes.{StoresAt, StoresNumberAt}
+use Rattle.task_frames.specs.FramesValue.{ref_of}
 use Rattle.core_relation.specs.Frames.{IsSteady, IsOut, Beside}
 use Rattle.ledger_step_laws.proofs.Ahead.{SameOf, with_machine, with_off}
 use Rattle.core_relation.proofs.parts.Beside.{together, alike_writes}
@@ -141,7 +142,7 @@ module _ (p : ProgramText) (s : SettingsValue) (q r : Part) (v : Memory) (l l' :
 
   -- it stores a reference
   pub fits_store : (v' : Memory) (g' : Home) (z : Task) (n : Name) (yy : Object) (o b i : ℕ) (c : Option (ℕ × ℤ)) (f : Frame) (fs : List Frame) (a : Addr) → StoresOne lq lt' q.task z n yy o b i c
-      → StoresAt (with_home v q.task q.home) (with_home v' q.task g') lq q.task f fs a b i c → register f o ≡ Some a → FitsAt p s r v' l'
+      → StoresAt (with_home v q.task q.home) (with_home v' q.task g') lq q.task f fs a b i c → ref_of f o ≡ Some a → FitsAt p s r v' l'
   fits_store v' g' z n yy o b i c f fs a L C at_a =
       let rests : Rests lq q.task = rested_worker (task_steps p l q.task q.fresh) q.task in
       let vt = with_home v q.task q.home in
@@ -159,7 +160,7 @@ module _ (p : ProgramText) (s : SettingsValue) (q r : Part) (v : Memory) (l l' :
 
   -- or a number
   pub fits_number : (v' : Memory) (g' : Home) (z : Task) (n : Name) (yy : Object) (o b i : ℕ) (f : Frame) (fs : List Frame) (a : Addr) → StoresNumber lq lt' q.task z n yy o b i
-      → StoresNumberAt (with_home v q.task q.home) (with_home v' q.task g') q.task f fs a b i → register f o ≡ Some a → FitsAt p s r v' l'
+      → StoresNumberAt (with_home v q.task q.home) (with_home v' q.task g') q.task f fs a b i → ref_of f o ≡ Some a → FitsAt p s r v' l'
   fits_number v' g' z n yy o b i f fs a L C at_a =
       let rests : Rests lq q.task = rested_worker (task_steps p l q.task q.fresh) q.task in
       let vt = with_home v q.task q.home in

@@ -19,7 +19,8 @@ use Rattle.ledger_step_laws.specs.Accounts.{Rests, ArePrivate, StepsAlone, Alike
 use Rattle.core_relation.specs.Stands.{Place, Stands}
 use Rattle.core_relation.specs.Fits.{Part, FitsAt, ahead, with_home}
 use Rattle.ledger_step_laws.specs.Kinds.{ForksTask, JoinsTasks, CanJoin, EndsTask}
-use Rattle.core_relation.specs.Changes.{ForksHome, JoinsHomes, EndsHome, register, HasResult}
+use Rattle.core_relation.specs.Changes.{ForksHome, JoinsHomes, EndsHome, HasResult}
+use Rattle.task_frames.specs.FramesValue.{ref_of}
 use Rattle.core_relation.specs.Frames.{IsSteady, IsOut, Beside}
 use Rattle.ledger_step_laws.proofs.Along.{alike_steps}
 use Rattle.core_relation.proofs.parts.Along.{rested_alike, alone_ahead}
@@ -43,7 +44,7 @@ result_read v l c r a V rests (inr E) =
     let k : FramesAreRead (Place v l) (E.frame ∷ E.below) (E.task.top ∷ E.task.below) =
     subst (λ fs. FramesAreRead (Place v l) fs (E.task.top ∷ E.task.below)) E.frames (subst (HoldsRead (Place v l) (v.homes c) E.task) E.runs (V.tasks c E.task rests E.is)) in
     subst (λ (q : ℤ × Option Addr). (q.0 ≡ r.0) × Reads (Place v l) q.1 r.1) (sym E.result)
-    (subst (λ (q : ℤ × Option Name). ((unwrap_or (slice_get E.frame.ints 0) (pos 0)) ≡ q.0) × Reads (Place v l) (register E.frame 0) q.1) (sym E.hands)
+    (subst (λ (q : ℤ × Option Name). ((unwrap_or (slice_get E.frame.ints 0) (pos 0)) ≡ q.0) × Reads (Place v l) (ref_of E.frame 0) q.1) (sym E.hands)
     (ap (λ is. unwrap_or (slice_get is 0) (pos 0)) k.0.ints, field_of (Place v l) E.frame.refs E.task.top.refs 0 k.0.refs))
 
 -- THE PART OF r, WHERE ALL THAT IT GOES BY STAYS: q's steps lead from l to lq, and what is entered then leads to l'

@@ -19,7 +19,8 @@ use Rattle.core_relation.specs.Stands.{Stands}
 use Rattle.core_relation.specs.Memory.{Home, Memory}
 use Rattle.ledger_step_laws.specs.Accounts.{Rests, rested, StepsAlone, Takes, SameTasks, Knows, Leaves}
 use Rattle.core_relation.specs.Fits.{Part, FitsAt, with_home, ahead, part_for}
-use Rattle.core_relation.specs.Changes.{SameBut, SameObjects, JoinsHomes, ForksHome, StoresAt, register, StepsAtHome, HomeIsRead, HasResult, EndsHome, StoresNumberAt}
+use Rattle.core_relation.specs.Changes.{SameBut, SameObjects, JoinsHomes, ForksHome, StoresAt, StepsAtHome, HomeIsRead, HasResult, EndsHome, StoresNumberAt}
+use Rattle.task_frames.specs.FramesValue.{ref_of}
 use Rattle.ledger_step_laws.specs.Kinds.{JoinsTasks, CanJoin, ForksTask, StoresOne, EndsTask, StoresNumber}
 use Rattle.core_relation.specs.Frames.{IsSteady, IsOut, AreOut}
 
@@ -46,13 +47,13 @@ FinishesLeaveFitting =
 abbrev pub StoresLeaveFitting : Type 0
 StoresLeaveFitting =
     (p : ProgramText) (s : SettingsValue) (q : Part) (v v' : Memory) (l l' : Ledger) (g : Home) (w : ℕ) (z : Task) (n : Name) (o : Object) (ro rv i : ℕ) (c : Option (ℕ × ℤ)) (f : Frame) (fs : List Frame) (a : Addr) → Knows l → Knows l' → FitsAt p s q v l
-    → (heap_of l' q.task).worker ≡ Some w → StoresOne (ahead p q l) (rested l' q.task) q.task z n o ro rv i c → StoresAt (with_home v q.task q.home) (with_home v' q.task g) (ahead p q l) q.task f fs a rv i c → register f ro ≡ Some a
+    → (heap_of l' q.task).worker ≡ Some w → StoresOne (ahead p q l) (rested l' q.task) q.task z n o ro rv i c → StoresAt (with_home v q.task q.home) (with_home v' q.task g) (ahead p q l) q.task f fs a rv i c → ref_of f ro ≡ Some a
     → (r : Part) (x y : Task) → AreOut l q r x y → Leaves r.task (ahead p q l) l' → FitsAt p s r v l → FitsAt p s r v' l'
 
 abbrev pub NumbersLeaveFitting : Type 0
 NumbersLeaveFitting =
     (p : ProgramText) (s : SettingsValue) (q : Part) (v v' : Memory) (l l' : Ledger) (g : Home) (w : ℕ) (z : Task) (n : Name) (o : Object) (ro rv i : ℕ) (f : Frame) (fs : List Frame) (a : Addr) → Knows l → Knows l' → FitsAt p s q v l
-    → (heap_of l' q.task).worker ≡ Some w → StoresNumber (ahead p q l) (rested l' q.task) q.task z n o ro rv i → StoresNumberAt (with_home v q.task q.home) (with_home v' q.task g) q.task f fs a rv i → register f ro ≡ Some a
+    → (heap_of l' q.task).worker ≡ Some w → StoresNumber (ahead p q l) (rested l' q.task) q.task z n o ro rv i → StoresNumberAt (with_home v q.task q.home) (with_home v' q.task g) q.task f fs a rv i → ref_of f ro ≡ Some a
     → (r : Part) (x y : Task) → AreOut l q r x y → Leaves r.task (ahead p q l) l' → FitsAt p s r v l → FitsAt p s r v' l'
 
 abbrev pub TakingsLeaveFitting : Type 0
@@ -69,13 +70,13 @@ QuietLeavesFitting =
 abbrev pub StoresFit : Type 0
 StoresFit =
     (p : ProgramText) (s : SettingsValue) (q : Part) (v v' : Memory) (l l' : Ledger) (g : Home) (w : ℕ) (z : Task) (n : Name) (o : Object) (ro rv i : ℕ) (c : Option (ℕ × ℤ)) (f : Frame) (fs : List Frame) (a : Addr) → SoundLedger (ahead p q l) → FitsAt p s q v l
-    → (heap_of l' q.task).worker ≡ Some w → StoresOne (ahead p q l) (rested l' q.task) q.task z n o ro rv i c → StoresAt (with_home v q.task q.home) (with_home v' q.task g) (ahead p q l) q.task f fs a rv i c → register f ro ≡ Some a
+    → (heap_of l' q.task).worker ≡ Some w → StoresOne (ahead p q l) (rested l' q.task) q.task z n o ro rv i c → StoresAt (with_home v q.task q.home) (with_home v' q.task g) (ahead p q l) q.task f fs a rv i c → ref_of f ro ≡ Some a
     → FitsAt p s (part_for s q.task g 0) v' l'
 
 abbrev pub NumbersFit : Type 0
 NumbersFit =
     (p : ProgramText) (s : SettingsValue) (q : Part) (v v' : Memory) (l l' : Ledger) (g : Home) (w : ℕ) (z : Task) (n : Name) (o : Object) (ro rv i : ℕ) (f : Frame) (fs : List Frame) (a : Addr) → SoundLedger (ahead p q l) → FitsAt p s q v l
-    → (heap_of l' q.task).worker ≡ Some w → StoresNumber (ahead p q l) (rested l' q.task) q.task z n o ro rv i → StoresNumberAt (with_home v q.task q.home) (with_home v' q.task g) q.task f fs a rv i → register f ro ≡ Some a
+    → (heap_of l' q.task).worker ≡ Some w → StoresNumber (ahead p q l) (rested l' q.task) q.task z n o ro rv i → StoresNumberAt (with_home v q.task q.home) (with_home v' q.task g) q.task f fs a rv i → ref_of f ro ≡ Some a
     → FitsAt p s (part_for s q.task g 0) v' l'
 
 abbrev pub QuietFitsAt : Type 0
