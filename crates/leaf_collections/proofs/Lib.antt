@@ -3,6 +3,7 @@ pub mod WhyNotDue
 pub mod CollectionPutOff
 pub mod WhyNoCollection
 pub mod NewChunks
+pub mod FallingChunks
 pub mod CollectionBegins
 pub mod PartCollecting
 pub mod BeginEntered

@@ -1,1 +1,2 @@
+pub mod LeafBegin
 pub mod LeafEnd

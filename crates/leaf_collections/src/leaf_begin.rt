@@ -1,9 +1,11 @@
 // What a leaf collection needs as it begins.
 
-ghost use Rattle.std.specs.Prelude.{◌≡◌, ◌+◌, ◌<◌, ◌≤◌, ◌^◌, [], ◌++◌, IfOk, None, OnErr, Some, length, map, vec_len};
+ghost use Rattle.std.specs.Prelude.{◌≡◌, ◌+◌, ◌<◌, ◌≤◌, ◌^◌, ◌↔◌, [], ◌++◌, Err, IfOk, None, OnErr, OnOk, Some, length, map, vec_len};
+ghost use Rattle.std.specs.List.Sorted.{IsPermutation};
 ghost use Rattle.chunk_pool.specs.PoolValue.{units_in_use, TakesAll};
 ghost use Rattle.alloc_path.specs.LeafHeapValue.{with_places};
 ghost use Rattle.leaf_copy_gc.specs.Lists.{AreReserved};
+ghost use Rattle.leaf_collections.specs.LeafBegin.{AreFalling};
 ghost use Rattle.shared_value.specs.LeafBegin.{number_of};
 
 use alloc_path::LeafHeap;
@@ -44,6 +46,34 @@ fn prepare(
     Ok(Prepared { roots, numbers, to })
 }
 
+// Puts chunks in order of their numbers, the greatest first.
+fn put_falling(chunks: &mut Vec<Chunk>)
+    ensures permutation { IsPermutation chunks.old.items chunks.new.items }
+    ensures falling { AreFalling chunks.new.items }
+{
+    chunks.sort_unstable_by_key(|chunk| chunk.number());
+    chunks.reverse();
+}
+
+// Takes so many chunks for a task into an empty list, the one with the greatest number first.
+fn take_falling(
+    pool: &mut Pool,
+    task: u32,
+    count: u32,
+    chunks: &mut Vec<Chunk>,
+) -> Result<(), NotTaken>
+    requires few { count < 2 ^ 22 }
+    requires none { chunks.old.items ≡ [] }
+    ensures full { (result ≡ Err NotTaken.Full) ↔ (pool.old.limit < units_in_use pool.old + count) }
+    ensures taken { OnOk result (TakesAll pool.old pool.new task count [] chunks.new.items) }
+    ensures falling { OnOk result (AreFalling chunks.new.items) }
+    ensures err { OnErr result (pool.new ≡ pool.old) }
+{
+    pool.take_all(task, count, chunks)?;
+    put_falling(chunks);
+    Ok(())
+}
+
 // Puts down the numbers of chunks.
 fn note_numbers(numbers: &mut Roomy<u32>, chunks: &[Chunk])
     requires { length chunks.now ≤ numbers.old.room }
@@ -56,6 +86,10 @@ fn note_numbers(numbers: &mut Roomy<u32>, chunks: &[Chunk])
 
 /// Takes so many chunks for a collection of a part, and all memory that it needs, and lets the part begin it from these
 /// roots. For want of memory nothing changes but the places of the part's heap.
+///
+/// The numbers of the chunks fall. The collection fills the last chunk first, so the numbers of those that it fills
+/// rise, and it moves what it moves to rising addresses. What stays until the next collection then comes in order in
+/// that one's relocation list, which is made in order of birth.
 pub fn begin_with(
     alloc: Global,
     pool: &mut Pool,
@@ -69,6 +103,7 @@ pub fn begin_with(
     ensures same { OnErr result (pool.new ≡ pool.old) }
     ensures back { OnErr result (part.new ≡ record part.old { heap = with_places part.old.heap part.new.heap.slots part.new.heap.spare }) }
     ensures taken { IfOk result (λ to. TakesAll pool.old pool.new part.old.task count [] to.chunks.items) }
+    ensures falling { IfOk result (λ to. AreFalling to.chunks.items) }
     ensures begun { IfOk result (λ to. part.new ≡ record part.old { heap = with_places part.old.heap part.new.heap.slots part.new.heap.spare; begun = Some (record { roots = roots.now; news = map number_of to.chunks.items }) }) }
     ensures reserved { IfOk result (λ to. AreReserved part.new.heap (vec_len to.chunks) to) }
 {
@@ -78,7 +113,7 @@ pub fn begin_with(
         mut numbers,
         mut to,
     } = prepared;
-    match pool.take_all(part.task, count, &mut to.chunks) {
+    match take_falling(pool, part.task, count, &mut to.chunks) {
         Ok(()) => {}
         Err(NotTaken::NoMemory) => return Err(AllocError),
         Err(NotTaken::Full) => unreachable!(),
