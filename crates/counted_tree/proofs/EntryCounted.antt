@@ -37,7 +37,7 @@ use Rattle.shared_tree.specs.declared.ran.Ran.{Ran as RanOf}
 use Rattle.shared_tree.specs.declared.ran.Ran.TheVariants.{Goes as GoesOn, Forked as ForksInto, Ended as EndsWith, Over as IsOver, Done as IsDone}
 use Rattle.shared_tree.specs.Ran.{RanTo}
 use Rattle.heap_marking.proofs.ForksTold.{entered_accounts}
-use Rattle.heap_reading.specs.HeldNames.{kept_of}
+use Rattle.heap_reading.specs.HeldNames.{held_unless_running}
 use Rattle.heap_reading.proofs.KeptNames.{counted_few}
 use Rattle.counted_tree.specs.declared.counting.Counts.{Counts}
 use Rattle.counted_tree.specs.Counts.{HasWords, IsMade, KeepsCounts, begun_with, totals_of}
@@ -215,7 +215,7 @@ module _ (w v : SharedValue) (c : Counts) (e : EntryValue) (words : ℕ) (M : Is
       ∙ (ap (λ (z : Ledger). words_in l.machine (heap_of l t) - words_in z.machine (heap_of z t)) (sym then_is) ∙ ap (λ k. cleared_words l k - cleared_words (accounts v) k) (sym is)))
 
   -- and with a sweep
-  pub sweep_lost : IsSharedValue v → (t given rest : ℕ) → e.kind ≡ Sweep t given → rest ≡ counted64 (words_sum (accounts v).machine (kept_of (accounts v) t))
+  pub sweep_lost : IsSharedValue v → (t given rest : ℕ) → e.kind ≡ Sweep t given → rest ≡ counted64 (words_sum (accounts v).machine (held_unless_running (accounts v) t))
       → words - rest ≡ cleared_words l e.kind - cleared_words (accounts v) e.kind
   sweep_lost I t given rest is r =
       let has : words ≡ words_in l.machine (heap_of l t) = subst (λ z. HasWords l z words) is M.had in
@@ -223,7 +223,7 @@ module _ (w v : SharedValue) (c : Counts) (e : EntryValue) (words : ℕ) (M : Is
       let then_is : accounts v ≡ with_heap l t swept_heap = now_is ∙ ap (after_kind p s l e.worker) is in
       let same : (accounts v).machine ≡ l.machine = ap (λ (z : Ledger). z.machine) then_is ∙ with_machine l t swept_heap in
       let idle : is_running (slice_get (accounts v).machine.tasks t) ≡ false = ap (λ (m : State). is_running (slice_get m.tasks t)) same ∙ waiting_stops (slice_get l.machine.tasks t) waits in
-      let kept : kept_of (accounts v) t ≡ held_in (heap_of (accounts v) t) = ap (λ b. cond b [] (held_in (heap_of (accounts v) t))) idle in
+      let kept : held_unless_running (accounts v) t ≡ held_in (heap_of (accounts v) t) = ap (λ b. cond b [] (held_in (heap_of (accounts v) t))) idle in
       let rest_is : rest ≡ words_in (accounts v).machine (heap_of (accounts v) t) = r ∙ (ap (λ ns. counted64 (words_sum (accounts v).machine ns)) kept ∙ counted_few _ (words_small v I t)) in
       ap₂ (λ a b. a - b) has rest_is ∙ ap (λ k. cleared_words l k - cleared_words (accounts v) k) (sym is)
 
@@ -235,10 +235,10 @@ begin_had w I k q F words is =
     is ∙ (ap counted64 (sym (part_words w k q F)) ∙ counted_few (words_in (accounts w).machine (heap_of (accounts w) q.task)) (words_small w I q.task))
 
 -- and one that is swept
-pub sweep_had : (w : SharedValue) → IsSharedValue w → (e : EntryValue) (t given : ℕ) → e.kind ≡ Sweep t given → refused w e ≡ None → (words : ℕ) → words ≡ counted64 (words_sum (accounts w).machine (kept_of (accounts w) t))
+pub sweep_had : (w : SharedValue) → IsSharedValue w → (e : EntryValue) (t given : ℕ) → e.kind ≡ Sweep t given → refused w e ≡ None → (words : ℕ) → words ≡ counted64 (words_sum (accounts w).machine (held_unless_running (accounts w) t))
     → words ≡ words_in (accounts w).machine (heap_of (accounts w) t)
 sweep_had w I e t given is free words r =
     let l : Ledger = accounts w in
     let waits : is_waiting (slice_get l.machine.tasks t) ≡ true = sweep_waits w.program w.settings w.journal.items e I.legal free t given is in
-    let kept : kept_of l t ≡ held_in (heap_of l t) = ap (λ b. cond b [] (held_in (heap_of l t))) (waiting_stops (slice_get l.machine.tasks t) waits) in
+    let kept : held_unless_running l t ≡ held_in (heap_of l t) = ap (λ b. cond b [] (held_in (heap_of l t))) (waiting_stops (slice_get l.machine.tasks t) waits) in
     r ∙ (ap (λ ns. counted64 (words_sum l.machine ns)) kept ∙ counted_few (words_in l.machine (heap_of l t)) (words_small w I t))

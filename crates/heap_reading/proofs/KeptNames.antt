@@ -19,7 +19,7 @@ use Rattle.run_ledger.specs.declared.data.Ledger.{Ledger}
 use Rattle.run_ledger.specs.declared.data.RunEnd.{RunEnd}
 use Rattle.run_ledger.specs.declared.data.RunEnd.TheVariants.{Fuel, Machine as MachineEnd, Pool}
 use Rattle.run_ledger.specs.Heaps.{heap_of, held, held_in, in_use, let_go, or_fresh, small_in, words_at, words_of, words_sum}
-use Rattle.run_ledger.specs.Report.{kept, kept_from}
+use Rattle.run_ledger.specs.Report.{held_not_running, held_not_running_from}
 use Rattle.run_ledger.proofs.Holders.{tasks_are_held_once}
 use Rattle.run_ledger.proofs.Bounds.{steps_are_bounded}
 use Rattle.run_ledger.proofs.Counted.{journals_are_counted}
@@ -45,7 +45,7 @@ use Rattle.shared_value.proofs.SameLength.{same_length}
 use Rattle.shared_value.proofs.FieldsLed.{home_chunks}
 use Rattle.shared_value.proofs.ObjectCounts.{objects_counted}
 use Rattle.shared_value.proofs.BeforeTheEnd.{goes_by}
-use Rattle.heap_reading.specs.HeldNames.{is_state_running, kept_of}
+use Rattle.heap_reading.specs.HeldNames.{is_state_running, held_unless_running}
 use Rattle.heap_reading.proofs.IdleTasks.{journal_idle}
 
 -- WHO RUNS, by the tree
@@ -128,7 +128,7 @@ module _ (w : SharedValue) (I : IsSharedValue w) (t : ℕ) where
       runs_by (slice_get w.tree t) (slice_get (handed l).machine.tasks t) (heap_of (handed l) t).worker (I.stands.totals.node t)
       ∙ ap (λ (m : Machine). is_running (slice_get m.tasks t)) same_machine
 
-  pub none_of : is_running (slice_get l.machine.tasks t) ≡ true → kept_of l t ≡ []
+  pub none_of : is_running (slice_get l.machine.tasks t) ≡ true → held_unless_running l t ≡ []
   none_of e = ap (λ b. cond b [] (held_in (heap_of l t))) e
 
   module _ (idle : is_running (slice_get l.machine.tasks t) ≡ false) where
@@ -138,30 +138,30 @@ module _ (w : SharedValue) (I : IsSharedValue w) (t : ℕ) where
     V : Stands (value_of w) (handed l)
     V = I.stands.homes
 
-    kept_is : kept_of l t ≡ held_in (heap_of l t)
+    kept_is : held_unless_running l t ≡ held_in (heap_of l t)
     kept_is = ap (λ b. cond b [] (held_in (heap_of l t))) idle
 
     names_are : (ks : List ChunkValue) → ((value_of w).homes t).chunks ≡ chunks_of ks → HasNames (chunks_of ks) (heap_of (handed l) t)
     names_are ks here = subst (λ cs. HasNames cs (heap_of (handed l) t)) here (V.homes t rests).names
 
-    many_by : (ks : List ChunkValue) → ((value_of w).homes t).chunks ≡ chunks_of ks → length (objects_in (chunks_of ks)) ≡ length (kept_of l t)
+    many_by : (ks : List ChunkValue) → ((value_of w).homes t).chunks ≡ chunks_of ks → length (objects_in (chunks_of ks)) ≡ length (held_unless_running l t)
     many_by ks here = sym (held_many (heap_of (handed l) t) ks (names_are ks here)) ∙ (ap length (handed_held l t) ∙ ap length (sym kept_is))
 
     here_by : (o : Option Rest) → rest_at w.homes t ≡ o → ((value_of w).homes t).chunks ≡ (home_in o).chunks
     here_by o e = ap (λ x. (home_in x).chunks) e
 
     -- its objects and their words
-    pub objects_are : (r : Rest) → rest_at w.homes t ≡ Some r → object_count r.heap.chunks ≡ length (kept_of l t)
+    pub objects_are : (r : Rest) → rest_at w.homes t ≡ Some r → object_count r.heap.chunks ≡ length (held_unless_running l t)
     objects_are r there = objects_counted r.heap.chunks (I.heaps t r there).tidy ∙ many_by r.heap.chunks (here_by (Some r) there ∙ home_chunks r)
 
-    pub words_kept : (r : Rest) → rest_at w.homes t ≡ Some r → held_words r.heap.chunks ≡ words_sum l.machine (kept_of l t)
+    pub words_kept : (r : Rest) → rest_at w.homes t ≡ Some r → held_words r.heap.chunks ≡ words_sum l.machine (held_unless_running l t)
     words_kept r there =
         sym (words_are (value_of w) (handed l) t r.heap.chunks V rests (here_by (Some r) there ∙ home_chunks r) (I.heaps t r there).tidy)
         ∙ ap₂ (λ (m : Machine) ns. words_sum m ns) same_machine (handed_held l t ∙ sym kept_is)
 
     -- without a home it holds nothing
-    pub nothing_kept : rest_at w.homes t ≡ None → kept_of l t ≡ []
-    nothing_kept none = empty (kept_of l t) (many_by [] (here_by None none))
+    pub nothing_kept : rest_at w.homes t ≡ None → held_unless_running l t ≡ []
+    nothing_kept none = empty (held_unless_running l t) (many_by [] (here_by None none))
       where
         empty : (ns : List Name) → 0 ≡ length ns → ns ≡ []
         empty [] e = refl
@@ -170,17 +170,17 @@ module _ (w : SharedValue) (I : IsSharedValue w) (t : ℕ) where
 -- TASK BY TASK
 abbrev pub kept_before : Ledger → ℕ → List Name
 kept_before l zero = []
-kept_before l (suc t) = kept_before l t ++ kept_of l t
+kept_before l (suc t) = kept_before l t ++ held_unless_running l t
 
-pub kept_more : (l : Ledger) (t : ℕ) → kept_before l (t + 1) ≡ kept_before l t ++ kept_of l t
+pub kept_more : (l : Ledger) (t : ℕ) → kept_before l (t + 1) ≡ kept_before l t ++ held_unless_running l t
 kept_more l t = ap (kept_before l) (let e : t + 1 ≡ suc t = omega arith in e)
 
 -- what the heaps from t on hold
-kept_on : (l : Ledger) (hs : List Account) (t : ℕ) → ((i : ℕ) → slice_get hs i ≡ slice_get l.heaps (t + i)) → kept_before l t ++ kept_from l.machine.tasks hs t ≡ kept_before l (t + length hs)
+kept_on : (l : Ledger) (hs : List Account) (t : ℕ) → ((i : ℕ) → slice_get hs i ≡ slice_get l.heaps (t + i)) → kept_before l t ++ held_not_running_from l.machine.tasks hs t ≡ kept_before l (t + length hs)
 kept_on l [] t same = append-nil (kept_before l t) ∙ ap (kept_before l) (let e : t ≡ t + 0 = omega arith in e)
 kept_on l (h ∷ hs) t same =
     by (is_running (slice_get l.machine.tasks t)) refl
-    ∙ (ap (λ ns. ns ++ kept_from l.machine.tasks hs (t + 1)) (sym (kept_more l t))
+    ∙ (ap (λ ns. ns ++ held_not_running_from l.machine.tasks hs (t + 1)) (sym (kept_more l t))
     ∙ (kept_on l hs (t + 1) (λ i. same (suc i) ∙ ap (slice_get l.heaps) (let e : t + suc i ≡ t + 1 + i = omega arith in e))
     ∙ ap (kept_before l) (let e : t + 1 + length hs ≡ t + suc (length hs) = omega arith in e)))
   where
@@ -188,14 +188,14 @@ kept_on l (h ∷ hs) t same =
     here = ap or_fresh (ap (slice_get l.heaps) (let e : t ≡ t + 0 = omega arith in e) ∙ sym (same 0))
 
     by : (b : Bool) → is_running (slice_get l.machine.tasks t) ≡ b
-        → kept_before l t ++ cond b (kept_from l.machine.tasks hs (t + 1)) (held_in h ++ kept_from l.machine.tasks hs (t + 1)) ≡ (kept_before l t ++ kept_of l t) ++ kept_from l.machine.tasks hs (t + 1)
+        → kept_before l t ++ cond b (held_not_running_from l.machine.tasks hs (t + 1)) (held_in h ++ held_not_running_from l.machine.tasks hs (t + 1)) ≡ (kept_before l t ++ held_unless_running l t) ++ held_not_running_from l.machine.tasks hs (t + 1)
     by true e =
-        ap (λ ns. ns ++ kept_from l.machine.tasks hs (t + 1)) (sym (append-nil (kept_before l t)) ∙ ap (λ b. kept_before l t ++ cond b [] (held_in (heap_of l t))) (sym e))
+        ap (λ ns. ns ++ held_not_running_from l.machine.tasks hs (t + 1)) (sym (append-nil (kept_before l t)) ∙ ap (λ b. kept_before l t ++ cond b [] (held_in (heap_of l t))) (sym e))
     by false e =
-        sym (append_assoc (kept_before l t) (held_in h) (kept_from l.machine.tasks hs (t + 1)))
-        ∙ ap (λ ns. (kept_before l t ++ ns) ++ kept_from l.machine.tasks hs (t + 1)) (sym (ap (λ b. cond b [] (held_in (heap_of l t))) e ∙ ap held_in here))
+        sym (append_assoc (kept_before l t) (held_in h) (held_not_running_from l.machine.tasks hs (t + 1)))
+        ∙ ap (λ ns. (kept_before l t ++ ns) ++ held_not_running_from l.machine.tasks hs (t + 1)) (sym (ap (λ b. cond b [] (held_in (heap_of l t))) e ∙ ap held_in here))
 
-pub kept_all : (l : Ledger) → kept_before l (length l.heaps) ≡ kept l
+pub kept_all : (l : Ledger) → kept_before l (length l.heaps) ≡ held_not_running l
 kept_all l = ap (kept_before l) (let e : length l.heaps ≡ 0 + length l.heaps = omega arith in e) ∙ sym (kept_on l l.heaps 0 (λ i. ap (slice_get l.heaps) (let e : i ≡ 0 + i = omega arith in e)))
 
 -- 64 BITS COUNT IT
@@ -209,13 +209,13 @@ stored_most m (n ∷ ns) stored =
     omega (arith, a, b, c)
 
 module _ (g : List Name → ℕ) (add : (xs ys : List Name) → g (xs ++ ys) ≡ g xs + g ys) where
-  kept_least : (tasks : List Task) (heaps : List Account) (t : ℕ) → g (kept_from tasks heaps t) ≤ g (flat_map held_in heaps)
+  kept_least : (tasks : List Task) (heaps : List Account) (t : ℕ) → g (held_not_running_from tasks heaps t) ≤ g (flat_map held_in heaps)
   kept_least tasks [] t = omega arith
-  kept_least tasks (h ∷ hs) t = by (is_running (slice_get tasks t)) (kept_least tasks hs (t + 1)) (add (held_in h) (flat_map held_in hs)) (add (held_in h) (kept_from tasks hs (t + 1)))
+  kept_least tasks (h ∷ hs) t = by (is_running (slice_get tasks t)) (kept_least tasks hs (t + 1)) (add (held_in h) (flat_map held_in hs)) (add (held_in h) (held_not_running_from tasks hs (t + 1)))
     where
-      by : (b : Bool) → g (kept_from tasks hs (t + 1)) ≤ g (flat_map held_in hs) → g (held_in h ++ flat_map held_in hs) ≡ g (held_in h) + g (flat_map held_in hs)
-          → g (held_in h ++ kept_from tasks hs (t + 1)) ≡ g (held_in h) + g (kept_from tasks hs (t + 1))
-          → g (cond b (kept_from tasks hs (t + 1)) (held_in h ++ kept_from tasks hs (t + 1))) ≤ g (held_in h ++ flat_map held_in hs)
+      by : (b : Bool) → g (held_not_running_from tasks hs (t + 1)) ≤ g (flat_map held_in hs) → g (held_in h ++ flat_map held_in hs) ≡ g (held_in h) + g (flat_map held_in hs)
+          → g (held_in h ++ held_not_running_from tasks hs (t + 1)) ≡ g (held_in h) + g (held_not_running_from tasks hs (t + 1))
+          → g (cond b (held_not_running_from tasks hs (t + 1)) (held_in h ++ held_not_running_from tasks hs (t + 1))) ≤ g (held_in h ++ flat_map held_in hs)
       by true r a b = omega (arith, r, a)
       by false r a b = omega (arith, r, a, b)
 
@@ -230,17 +230,17 @@ module _ (w : SharedValue) (I : IsSharedValue w) where
       let f : words_sum k.machine (held k) ≤ 1024 * in_use k = (heaps_fit w.program w.settings w.journal.items I.legal).words in
       omega (arith, u, c, f)
 
-  pub words_few : words_sum k.machine (kept k) ≤ 2 ^ 26
+  pub words_few : words_sum k.machine (held_not_running k) ≤ 2 ^ 26
   words_few =
-      let a : words_sum k.machine (kept k) ≤ words_sum k.machine (held k) = kept_least (words_sum k.machine) (sum_by-append (words_at k.machine)) k.machine.tasks k.heaps 0 in
+      let a : words_sum k.machine (held_not_running k) ≤ words_sum k.machine (held k) = kept_least (words_sum k.machine) (sum_by-append (words_at k.machine)) k.machine.tasks k.heaps 0 in
       let f = few_words in
       omega (arith, a, f)
 
-  pub objects_few : length (kept k) ≤ 2 ^ 26
+  pub objects_few : length (held_not_running k) ≤ 2 ^ 26
   objects_few =
       let H = names_are_held_once w.program w.settings w.journal.items I.legal in
       let o : length (held k) ≤ words_sum k.machine (held k) = stored_most k.machine (held k) (λ n i. H.stored n (contains_from_in (held k) n i)) in
-      let a : length (kept k) ≤ length (held k) = kept_least length length-append k.machine.tasks k.heaps 0 in
+      let a : length (held_not_running k) ≤ length (held k) = kept_least length length-append k.machine.tasks k.heaps 0 in
       let f = few_words in
       omega (arith, o, a, f)
 
@@ -264,7 +264,7 @@ module _ (w : SharedValue) (I : IsSharedValue w) where
       let h = homes_long in
       omega (arith, c, s, d, h)
 
-  pub kept_homes : kept_before k (length w.homes) ≡ kept k
+  pub kept_homes : kept_before k (length w.homes) ≡ held_not_running k
   kept_homes = ap (kept_before k) (homes_long ∙ sym (tasks_are_held_once w.program w.settings w.journal.items I.legal).as_many) ∙ kept_all k
 
 -- one more task counted

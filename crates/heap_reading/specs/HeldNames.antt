@@ -16,5 +16,5 @@ is_state_running (Some Ended) = false
 is_state_running (Some Joined) = false
 
 -- the names that the heap of the task t holds, unless the task runs
-abbrev pub kept_of : Ledger → ℕ → List Name
-kept_of l t = if is_running (slice_get l.machine.tasks t) then [] else held_in (heap_of l t)
+abbrev pub held_unless_running : Ledger → ℕ → List Name
+held_unless_running l t = if is_running (slice_get l.machine.tasks t) then [] else held_in (heap_of l t)

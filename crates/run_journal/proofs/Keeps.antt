@@ -10,14 +10,14 @@ use Rattle.run_ledger.specs.declared.data.Heap.{Heap}
 use Rattle.run_ledger.specs.declared.data.Ledger.{Ledger}
 use Rattle.run_ledger.specs.Heaps.{heap_of, or_fresh, held, held_in, words_at, words_sum, in_use}
 use Rattle.run_ledger.specs.Journals.{ledger_of, is_legal}
-use Rattle.run_ledger.specs.Report.{kept}
+use Rattle.run_ledger.specs.Report.{held_not_running}
 use Rattle.run_ledger.specs.Laws.{HoldsOnce}
 use Rattle.run_ledger.specs.Space.{AllFit}
 use Rattle.run_ledger.proofs.KeptNames.{kept_least, stored_most}
 use Rattle.run_ledger.proofs.Stocks.{names_are_held_once}
 use Rattle.run_ledger.proofs.Space.{heaps_fit, use_is_bounded}
 use Rattle.run_journal.specs.BookValue.{IsLegalLedger}
-use Rattle.run_journal.specs.Kept.{IsCountable}
+use Rattle.run_journal.specs.Held.{IsCountable}
 
 -- COUNTS
 
@@ -40,8 +40,8 @@ module _ (p : ProgramText) (s : SettingsValue) (A : AreLimits s) where
       let o : length (held l) ≤ words_sum l.machine (held l) = stored_most l.machine (held l) (λ n i. H.stored n (contains_from_in (held l) n i)) in
       record {
         each = λ t. let a : length (held_in (heap_of l t)) ≤ length (held l) = one_of_all l.heaps t in omega arith;
-        objects = let a : length (kept l) ≤ length (held l) = kept_least length length-append l.machine.tasks l.heaps 0 in omega arith;
-        words = let a : words_sum l.machine (kept l) ≤ words_sum l.machine (held l) = kept_least (words_sum l.machine) (sum_by-append (words_at l.machine)) l.machine.tasks l.heaps 0 in omega arith;
+        objects = let a : length (held_not_running l) ≤ length (held l) = kept_least length length-append l.machine.tasks l.heaps 0 in omega arith;
+        words = let a : words_sum l.machine (held_not_running l) ≤ words_sum l.machine (held l) = kept_least (words_sum l.machine) (sum_by-append (words_at l.machine)) l.machine.tasks l.heaps 0 in omega arith;
       }
 
   pub ledger_countable : (l : Ledger) → IsLegalLedger p s l → IsCountable l

@@ -1,4 +1,4 @@
 pub mod Book
-pub mod Kept
+pub mod Held
 pub mod BookValue
 pub mod Replay

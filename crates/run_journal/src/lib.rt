@@ -16,5 +16,5 @@ mod steps;
 
 pub use book::Book;
 pub use enter::ApplyError;
-pub use reads::Kept;
+pub use reads::Held;
 pub use replay::{ReplayError, model_replay, replayed};

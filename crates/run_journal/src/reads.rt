@@ -2,9 +2,9 @@
 
 ghost use Rattle.std.specs.Prelude.{◌≡◌, ◌<◌, ◌^◌, false, length};
 ghost use Rattle.run_ledger.specs.Heaps.{heap_of, held_in, words_in, words_sum};
-ghost use Rattle.run_ledger.specs.Report.{kept};
+ghost use Rattle.run_ledger.specs.Report.{held_not_running};
 ghost use Rattle.run_journal.specs.Book.{Steady};
-ghost use Rattle.run_journal.specs.Kept.{IsCountable, kept_of};
+ghost use Rattle.run_journal.specs.Held.{IsCountable, held_unless_running};
 
 use crate::accounts::Accounts;
 use crate::book::Book;
@@ -13,7 +13,7 @@ use run_ledger::Heap;
 
 /// What is held in the heaps of tasks that don't run.
 #[derive(Clone, Copy)]
-pub struct Kept {
+pub struct Held {
     /// How many objects.
     pub objects: u64,
     /// Their words.
@@ -34,41 +34,41 @@ fn objects_in(heap: &Heap) -> u64
 
 impl<'p> Accounts<'p> {
     // What is held in the task's heap, unless the task runs.
-    fn kept_in(&self, task: u32, heap: &Heap) -> Kept
+    fn held_unless_running(&self, task: u32, heap: &Heap) -> Held
         requires objects { length (held_in heap.now) < 2 ^ 62 }
         requires words { words_in self.now.ledger.machine heap.now < 2 ^ 62 }
-        ensures objects { result.objects ≡ length (kept_of self.now.ledger.machine.tasks task heap.now) }
-        ensures words { result.words ≡ words_sum self.now.ledger.machine (kept_of self.now.ledger.machine.tasks task heap.now) }
+        ensures objects { result.objects ≡ length (held_unless_running self.now.ledger.machine.tasks task heap.now) }
+        ensures words { result.words ≡ words_sum self.now.ledger.machine (held_unless_running self.now.ledger.machine.tasks task heap.now) }
     {
         if self.is_running(task) {
-            return Kept {
+            return Held {
                 objects: 0,
                 words: 0,
             };
         }
-        Kept {
+        Held {
             objects: objects_in(heap),
             words: words_in(self.machine.state(), heap),
         }
     }
 
     // What is held in the heaps of tasks that don't run.
-    fn kept(&self) -> Kept
+    fn held(&self) -> Held
         requires steady { Steady self.now.ledger }
         requires countable { IsCountable self.now.ledger }
-        ensures objects { result.objects ≡ length (kept self.now.ledger) }
-        ensures words { result.words ≡ words_sum self.now.ledger.machine (kept self.now.ledger) }
+        ensures objects { result.objects ≡ length (held_not_running self.now.ledger) }
+        ensures words { result.words ≡ words_sum self.now.ledger.machine (held_not_running self.now.ledger) }
     {
-        let mut kept = Kept {
+        let mut held = Held {
             objects: 0,
             words: 0,
         };
         for (task, heap) in self.heaps.as_slice().iter().enumerate() {
-            let here = self.kept_in(task as u32, heap);
-            kept.objects += here.objects;
-            kept.words += here.words;
+            let here = self.held_unless_running(task as u32, heap);
+            held.objects += here.objects;
+            held.words += here.words;
         }
-        kept
+        held
     }
 
     // How many tasks were made.
@@ -97,12 +97,12 @@ impl<'p> Book<'p> {
     }
 
     /// What is held in the heaps of tasks that don't run.
-    pub fn kept(&self) -> Kept
+    pub fn held(&self) -> Held
         requires { self.now.stopped ≡ false }
-        ensures objects { result.objects ≡ length (kept self.now.ledger) }
-        ensures words { result.words ≡ words_sum self.now.ledger.machine (kept self.now.ledger) }
+        ensures objects { result.objects ≡ length (held_not_running self.now.ledger) }
+        ensures words { result.words ≡ words_sum self.now.ledger.machine (held_not_running self.now.ledger) }
     {
         self.accounts.bounds();
-        self.accounts.kept()
+        self.accounts.held()
     }
 }

@@ -10,7 +10,7 @@ use Rattle.hh_model.specs.Store.{IsStored}
 use Rattle.hh_model.specs.Step.{is_running}
 use Rattle.run_ledger.specs.declared.data.Heap.{Heap}
 use Rattle.run_ledger.specs.Heaps.{held_in, words_of, words_at, words_sum}
-use Rattle.run_ledger.specs.Report.{kept_from}
+use Rattle.run_ledger.specs.Report.{held_not_running_from}
 
 -- names of stored objects are no more than the words of these
 pub stored_most : (m : State) (ns : List Name) → ((n : Name) → In ns n → IsStored m n) → length ns ≤ words_sum m ns
@@ -24,12 +24,12 @@ stored_most m (n ∷ ns) stored =
 
 -- tasks that don't run hold no more than all
 module _ (g : List Name → ℕ) (add : (xs ys : List Name) → g (xs ++ ys) ≡ g xs + g ys) where
-  pub kept_least : (tasks : List Task) (heaps : List Heap) (t : ℕ) → g (kept_from tasks heaps t) ≤ g (flat_map held_in heaps)
+  pub kept_least : (tasks : List Task) (heaps : List Heap) (t : ℕ) → g (held_not_running_from tasks heaps t) ≤ g (flat_map held_in heaps)
   kept_least tasks [] t = omega arith
-  kept_least tasks (h ∷ hs) t = by (is_running (slice_get tasks t)) (kept_least tasks hs (t + 1)) (add (held_in h) (flat_map held_in hs)) (add (held_in h) (kept_from tasks hs (t + 1)))
+  kept_least tasks (h ∷ hs) t = by (is_running (slice_get tasks t)) (kept_least tasks hs (t + 1)) (add (held_in h) (flat_map held_in hs)) (add (held_in h) (held_not_running_from tasks hs (t + 1)))
     where
-      by : (b : Bool) → g (kept_from tasks hs (t + 1)) ≤ g (flat_map held_in hs) → g (held_in h ++ flat_map held_in hs) ≡ g (held_in h) + g (flat_map held_in hs)
-          → g (held_in h ++ kept_from tasks hs (t + 1)) ≡ g (held_in h) + g (kept_from tasks hs (t + 1))
-          → g (cond b (kept_from tasks hs (t + 1)) (held_in h ++ kept_from tasks hs (t + 1))) ≤ g (held_in h ++ flat_map held_in hs)
+      by : (b : Bool) → g (held_not_running_from tasks hs (t + 1)) ≤ g (flat_map held_in hs) → g (held_in h ++ flat_map held_in hs) ≡ g (held_in h) + g (flat_map held_in hs)
+          → g (held_in h ++ held_not_running_from tasks hs (t + 1)) ≡ g (held_in h) + g (held_not_running_from tasks hs (t + 1))
+          → g (cond b (held_not_running_from tasks hs (t + 1)) (held_in h ++ held_not_running_from tasks hs (t + 1))) ≤ g (held_in h ++ flat_map held_in hs)
       by true r a b = omega arith
       by false r a b = omega arith

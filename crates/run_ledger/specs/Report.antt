@@ -52,12 +52,12 @@ peak_from p s l [] = 0
 peak_from p s l (e ∷ es) = max (in_use (after p s l e)) (peak_from p s (after p s l e) es)
 
 -- the names held in the heaps of tasks that don't run
-abbrev pub kept_from : List Task → List Heap → ℕ → List Name
-kept_from tasks [] t = []
-kept_from tasks (h ∷ hs) t = if is_running (slice_get tasks t) then kept_from tasks hs (t + 1) else held_in h ++ kept_from tasks hs (t + 1)
+abbrev pub held_not_running_from : List Task → List Heap → ℕ → List Name
+held_not_running_from tasks [] t = []
+held_not_running_from tasks (h ∷ hs) t = if is_running (slice_get tasks t) then held_not_running_from tasks hs (t + 1) else held_in h ++ held_not_running_from tasks hs (t + 1)
 
-abbrev pub kept : Ledger → List Name
-kept l = kept_from l.machine.tasks l.heaps 0
+abbrev pub held_not_running : Ledger → List Name
+held_not_running l = held_not_running_from l.machine.tasks l.heaps 0
 
 -- what a journal came to
 abbrev pub report_of : ProgramText → SettingsValue → List EntryValue → Report
@@ -74,6 +74,6 @@ report_of p s journal =
       inner_freed = tally p s freed_by_sweep first journal;
       chunks = in_use last;
       peak = peak_from p s first journal;
-      held = length (kept last);
-      words = words_sum last.machine (kept last);
+      held = length (held_not_running last);
+      words = words_sum last.machine (held_not_running last);
     }

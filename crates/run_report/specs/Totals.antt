@@ -9,7 +9,7 @@ use Rattle.run_ledger.specs.declared.data.Ledger.{Ledger}
 use Rattle.run_ledger.specs.declared.data.Report.{Report}
 use Rattle.run_ledger.specs.Heaps.{heap_of, words_in, words_sum, in_use}
 use Rattle.run_ledger.specs.Entries.{after}
-use Rattle.run_ledger.specs.Report.{tally, count_end, count_putoff, count_sweep, freed_by_end, freed_by_sweep, peak_from, kept}
+use Rattle.run_ledger.specs.Report.{tally, count_end, count_putoff, count_sweep, freed_by_end, freed_by_sweep, peak_from, held_not_running}
 use Rattle.run_report.specs.declared.totals.Totals.{Totals}
 
 -- the totals of no entry
@@ -76,6 +76,6 @@ report_from l turns totals = record {
   inner_freed = totals.inner_freed;
   chunks = in_use l;
   peak = totals.peak;
-  held = length (kept l);
-  words = words_sum l.machine (kept l);
+  held = length (held_not_running l);
+  words = words_sum l.machine (held_not_running l);
 }

@@ -111,7 +111,7 @@ pub(crate) fn report(book: &Book, turns: usize, totals: Totals) -> Report
     requires { book.now.stopped ≡ false }
     ensures { result ≡ report_from book.now.ledger turns totals }
 {
-    let kept = book.kept();
+    let held = book.held();
     Report {
         tasks: book.tasks() as u64,
         steps: book.steps(),
@@ -123,7 +123,7 @@ pub(crate) fn report(book: &Book, turns: usize, totals: Totals) -> Report
         inner_freed: totals.inner_freed,
         chunks: book.in_use(),
         peak: totals.peak,
-        held: kept.objects,
-        words: kept.words,
+        held: held.objects,
+        words: held.words,
     }
 }

@@ -2,10 +2,10 @@ use Rattle.std.proofs.Common.{◌≡◌, ℕ, arith, length, length-append, ap, 
 use Rattle.std.proofs.lemmas.List.Sums.{sum_by-append}
 use Rattle.run_ledger.specs.declared.data.Ledger.{Ledger}
 use Rattle.run_ledger.specs.Heaps.{words_at, words_sum}
-use Rattle.run_ledger.specs.Report.{kept}
+use Rattle.run_ledger.specs.Report.{held_not_running}
 use Rattle.alloc_path.specs.LeafHeapValue.{counted}
 use Rattle.shared_value.specs.SharedValue.{SharedValue, accounts}
-use Rattle.heap_reading.specs.HeldNames.{kept_of}
+use Rattle.heap_reading.specs.HeldNames.{held_unless_running}
 use Rattle.heap_reading.proofs.KeptNames.{counted_few, counted_more, homes_few, kept_before, kept_homes, kept_more, objects_few, words_few}
 use Rattle.shared_tree.specs.contracts.shared.Shared.{the_view}
 use Rattle.shared_tree.proofs.shared.Shared.held.Goals as goal
@@ -22,28 +22,28 @@ loop-t-preserved c =
     let t : ℕ = c.loop-t.t in
     record {
       objects = c.saturating_add-objects.ensures
-          ∙ (counted_more c.loop-t.objects c.held_of-held.result.0 (length (kept_before l t)) (length (kept_of l t)) c.loop-t.invariant.objects c.held_of-held.ensures.objects
-          ∙ ap counted (sym (ap length (kept_more l t) ∙ length-append (kept_before l t) (kept_of l t))));
+          ∙ (counted_more c.loop-t.objects c.held_of-held.result.0 (length (kept_before l t)) (length (held_unless_running l t)) c.loop-t.invariant.objects c.held_of-held.ensures.objects
+          ∙ ap counted (sym (ap length (kept_more l t) ∙ length-append (kept_before l t) (held_unless_running l t))));
       words = c.saturating_add-words.ensures
-          ∙ (counted_more c.loop-t.words c.held_of-held.result.1 (words_sum l.machine (kept_before l t)) (words_sum l.machine (kept_of l t)) c.loop-t.invariant.words c.held_of-held.ensures.words
-          ∙ ap counted (sym (ap (words_sum l.machine) (kept_more l t) ∙ sum_by-append (words_at l.machine) (kept_before l t) (kept_of l t))));
+          ∙ (counted_more c.loop-t.words c.held_of-held.result.1 (words_sum l.machine (kept_before l t)) (words_sum l.machine (held_unless_running l t)) c.loop-t.invariant.words c.held_of-held.ensures.words
+          ∙ ap counted (sym (ap (words_sum l.machine) (kept_more l t) ∙ sum_by-append (words_at l.machine) (kept_before l t) (held_unless_running l t))));
     }
 
 pub returns-clause-objects : goal.returns-clause-objects
 returns-clause-objects c =
     let w : SharedValue = the_view c.self.inside in
     let end : c.loop-t.t ≡ length w.homes = omega arith in
-    let is : length (kept_before (accounts w) c.loop-t.t) ≡ length (kept (accounts w)) = ap (λ n. length (kept_before (accounts w) n)) end ∙ ap length (kept_homes w c.self.invariant) in
+    let is : length (kept_before (accounts w) c.loop-t.t) ≡ length (held_not_running (accounts w)) = ap (λ n. length (kept_before (accounts w) n)) end ∙ ap length (kept_homes w c.self.invariant) in
     c.loop-t.invariant.objects
     ∙ (ap (λ (z : SharedValue). counted (length (kept_before (accounts z) c.loop-t.t))) (sym c.self.view_is)
-    ∙ (ap counted is ∙ (counted_few (length (kept (accounts w))) (objects_few w c.self.invariant) ∙ ap (λ (z : SharedValue). length (kept (accounts z))) c.self.view_is)))
+    ∙ (ap counted is ∙ (counted_few (length (held_not_running (accounts w))) (objects_few w c.self.invariant) ∙ ap (λ (z : SharedValue). length (held_not_running (accounts z))) c.self.view_is)))
 
 pub returns-clause-words : goal.returns-clause-words
 returns-clause-words c =
     let w : SharedValue = the_view c.self.inside in
     let end : c.loop-t.t ≡ length w.homes = omega arith in
-    let is : words_sum (accounts w).machine (kept_before (accounts w) c.loop-t.t) ≡ words_sum (accounts w).machine (kept (accounts w)) =
+    let is : words_sum (accounts w).machine (kept_before (accounts w) c.loop-t.t) ≡ words_sum (accounts w).machine (held_not_running (accounts w)) =
     ap (λ n. words_sum (accounts w).machine (kept_before (accounts w) n)) end ∙ ap (words_sum (accounts w).machine) (kept_homes w c.self.invariant) in
     c.loop-t.invariant.words
     ∙ (ap (λ (z : SharedValue). counted (words_sum (accounts z).machine (kept_before (accounts z) c.loop-t.t))) (sym c.self.view_is)
-    ∙ (ap counted is ∙ (counted_few (words_sum (accounts w).machine (kept (accounts w))) (words_few w c.self.invariant) ∙ ap (λ (z : SharedValue). words_sum (accounts z).machine (kept (accounts z))) c.self.view_is)))
+    ∙ (ap counted is ∙ (counted_few (words_sum (accounts w).machine (held_not_running (accounts w))) (words_few w c.self.invariant) ∙ ap (λ (z : SharedValue). words_sum (accounts z).machine (held_not_running (accounts z))) c.self.view_is)))

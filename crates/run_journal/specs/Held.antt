@@ -6,14 +6,14 @@ use Rattle.hh_model.specs.Step.{is_running}
 use Rattle.run_ledger.specs.declared.data.Heap.{Heap}
 use Rattle.run_ledger.specs.declared.data.Ledger.{Ledger}
 use Rattle.run_ledger.specs.Heaps.{heap_of, held_in, words_sum}
-use Rattle.run_ledger.specs.Report.{kept}
+use Rattle.run_ledger.specs.Report.{held_not_running}
 
 -- what the heap of the task t holds, unless the task runs
-abbrev pub kept_of : List Task → ℕ → Heap → List Name
-kept_of tasks t h = if is_running (slice_get tasks t) then [] else held_in h
+abbrev pub held_unless_running : List Task → ℕ → Heap → List Name
+held_unless_running tasks t h = if is_running (slice_get tasks t) then [] else held_in h
 
 -- the counts of what is held fit their types; those of every legal journal do
 pub record IsCountable (l : Ledger) : Type 0 where
   pub each : (t : ℕ) → length (held_in (heap_of l t)) < 2 ^ 62
-  pub objects : length (kept l) < 2 ^ 62
-  pub words : words_sum l.machine (kept l) < 2 ^ 62
+  pub objects : length (held_not_running l) < 2 ^ 62
+  pub words : words_sum l.machine (held_not_running l) < 2 ^ 62
