@@ -21,7 +21,7 @@ use Rattle.alloc_path.specs.LeafHeapValue.{LeafHeapValue, IsReserved, room_of, w
 use Rattle.leaf_copy_gc.specs.declared.lists.Survivor.{Survivor}
 use Rattle.leaf_copy_gc.specs.Survivors.{olds}
 use Rattle.leaf_copy_gc.specs.Laid.{AreNew, HaveRoom, Laying, before, laid_all, laid_one, open_next, opened, placed, room_in, smalls}
-use Rattle.leaf_copy_gc.specs.Redirected.{led as led_cell_by, led_chunk}
+use Rattle.leaf_copy_gc.specs.Redirected.{led_cell, led_chunk}
 use Rattle.leaf_copy_gc.specs.Exchanged.{reserved_of, unreserved}
 use Rattle.leaf_copy_gc.specs.Collected.{AreSurvivors, collected, keeps, kept_of, laid_of, laying_of}
 use Rattle.leaf_copy_gc.specs.Laws.{CanTake}
@@ -147,9 +147,9 @@ module _ (h : LeafHeapValue) (from : List (Option Addr)) (ss : List Survivor) (n
       to : Addr → Addr
       to = moving.to h from ss news S T (naming.settled h from ss news S T m a O) (naming.reserved h from ss news S T m a O)
 
-      objects : objects_from k.number 0 (map (led_cell_by g) k.cells) ≡ map (led_object (led to)) (objects_from k.number 0 k.cells)
+      objects : objects_from k.number 0 (map (led_cell g) k.cells) ≡ map (led_object (led to)) (objects_from k.number 0 k.cells)
       objects =
-          ap (λ (w : Option Addr → Option Addr). objects_from k.number 0 (map (led_cell_by w) k.cells)) (moving.g_is h from ss news S T (naming.settled h from ss news S T m a O) (naming.reserved h from ss news S T m a O))
+          ap (λ (w : Option Addr → Option Addr). objects_from k.number 0 (map (led_cell w) k.cells)) (moving.g_is h from ss news S T (naming.settled h from ss news S T m a O) (naming.reserved h from ss news S T m a O))
           ∙ led_are_read (led to) k
 
   kept_part : (k : ChunkValue) → In K k → Part k
@@ -227,7 +227,7 @@ module _ (h : LeafHeapValue) (from : List (Option Addr)) (ss : List Survivor) (n
   kept_full : (k : ChunkValue) → In K k → (chunk_of k).objects ≡ [] → ⊥
   kept_full k i e =
       let x = map_in (led_chunk g) (filter (keeps ss) (unreserved h.chunks h.reserved)) k i in
-      let e' : objects_from x.0.number 0 (map (led_cell_by g) x.0.cells) ≡ [] = ap (λ (z : ChunkValue). objects_from z.number 0 z.cells) x.2 ∙ e in
+      let e' : objects_from x.0.number 0 (map (led_cell g) x.0.cells) ≡ [] = ap (λ (z : ChunkValue). objects_from z.number 0 z.cells) x.2 ∙ e in
       moving.kept_some h from ss news S T (naming.settled h from ss news S T m a O) (naming.reserved h from ss news S T m a O) x.0 x.1 e'
 
   pub laid_now : AreLaidOut (chunks_of (L ++ (K ++ R))) a.reserved

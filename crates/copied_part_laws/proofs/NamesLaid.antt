@@ -17,7 +17,7 @@ use Rattle.alloc_path.specs.LeafHeapValue.{room_at}
 use Rattle.leaf_copy_gc.specs.declared.lists.Survivor.{Survivor}
 use Rattle.leaf_copy_gc.specs.Survivors.{olds}
 use Rattle.leaf_copy_gc.specs.Laid.{AreNew, HasRoom, HaveRoom, Laying, laid_all, laid_one, open_next, opened, placed, room_in}
-use Rattle.leaf_copy_gc.specs.Redirected.{led as led_cell_by, led_chunk}
+use Rattle.leaf_copy_gc.specs.Redirected.{led_cell, led_chunk}
 use Rattle.leaf_copy_gc.specs.Exchanged.{last_place}
 use Rattle.leaf_copy_gc.proofs.LastChunk.{some_room}
 use Rattle.core_relation.specs.Memory.{In}
@@ -119,20 +119,20 @@ module _ (m : State) where
 -- ---- REFERENCES LED
 
 module _ (f : Option Addr → Option Addr) where
-  pub size_led : (c : Cell) → size_of (led_cell_by f c) ≡ size_of c
+  pub size_led : (c : Cell) → size_of (led_cell f c) ≡ size_of c
   size_led c = ap (λ n. 2 + (n + length c.ints)) (length-map c.refs f)
 
-  pub names_led : (cs : List Cell) → names_in (map (led_cell_by f) cs) ≡ names_in cs
+  pub names_led : (cs : List Cell) → names_in (map (led_cell f) cs) ≡ names_in cs
   names_led [] = refl
   names_led (c ∷ cs) = ap (named_by c.mark) (names_led cs)
 
-  pub words_led : (cs : List Cell) → words_in (map (led_cell_by f) cs) ≡ words_in cs
+  pub words_led : (cs : List Cell) → words_in (map (led_cell f) cs) ≡ words_in cs
   words_led [] = refl
   words_led (c ∷ cs) = let a = size_led c in let b = words_led cs in omega (arith, a, b)
 
   pub lists_led : (ks : List ChunkValue) → lists_of (map (led_chunk f) ks) ≡ lists_of ks
   lists_led [] = refl
-  lists_led (k ∷ ks) = ap (λ zs. names_in (map (led_cell_by f) k.cells) ∷ zs) (lists_led ks) ∙ ap (λ ns. ns ∷ lists_of ks) (names_led k.cells)
+  lists_led (k ∷ ks) = ap (λ zs. names_in (map (led_cell f) k.cells) ∷ zs) (lists_led ks) ∙ ap (λ ns. ns ∷ lists_of ks) (names_led k.cells)
 
   pub room_led : (ks : List ChunkValue) → room_in (map (led_chunk f) ks) ≡ room_in ks
   room_led [] = refl

@@ -20,7 +20,7 @@ use Rattle.remembered_set.specs.Moved.{new_of, same_address}
 use Rattle.leaf_copy_gc.specs.declared.lists.Survivor.{Survivor}
 use Rattle.leaf_copy_gc.specs.Survivors.{olds, old_of}
 use Rattle.leaf_copy_gc.specs.Laid.{Laying, before, is_small, smalls}
-use Rattle.leaf_copy_gc.specs.Redirected.{led as led_cell_by, led_chunk, new_address}
+use Rattle.leaf_copy_gc.specs.Redirected.{led_cell, led_chunk, new_address}
 use Rattle.leaf_copy_gc.specs.Exchanged.{reserved_of, unreserved}
 use Rattle.leaf_copy_gc.specs.Collected.{AreSurvivors, keeps, kept_of, laid_of, laying_of, moves_of, redirection}
 use Rattle.leaf_copy_gc.specs.Laws.{CanTake}
@@ -147,12 +147,12 @@ module _ (h : LeafHeapValue) (from : List (Option Addr)) (ss : List Survivor) (n
   -- ---- what was there is there now
 
   there_now : (o : Located) (a : Addr) (b : Birth) → o ≡ located o.at.chunk o.at.offset b (cell_of h.chunks o.at) → (cell_of h.chunks o.at).mark ≡ Born b → to o.at ≡ a
-      → cell_of ks' a ≡ led_cell_by g (cell_of h.chunks o.at) → In (objects_in (chunks_of ks')) (copied_object to o)
+      → cell_of ks' a ≡ led_cell g (cell_of h.chunks o.at) → In (objects_in (chunks_of ks')) (copied_object to o)
   there_now o a b is mark leads read =
       let i : In (objects_in (chunks_of ks')) (located a.chunk a.offset b (cell_of ks' a)) = object_seen ks' a b (ap (λ (c : Cell). c.mark) read ∙ mark) in
-      let e : located a.chunk a.offset b (cell_of ks' a) ≡ located a.chunk a.offset b (led_cell_by (led to) (cell_of h.chunks o.at)) =
-      ap (located a.chunk a.offset b) read ∙ ap (λ (w : Option Addr → Option Addr). located a.chunk a.offset b (led_cell_by w (cell_of h.chunks o.at))) g_is in
-      let d : copied_object to (located o.at.chunk o.at.offset b (cell_of h.chunks o.at)) ≡ located a.chunk a.offset b (led_cell_by (led to) (cell_of h.chunks o.at)) = λ k. record (copied_object to (located o.at.chunk o.at.offset b (cell_of h.chunks o.at))) { at = leads k } in
+      let e : located a.chunk a.offset b (cell_of ks' a) ≡ located a.chunk a.offset b (led_cell (led to) (cell_of h.chunks o.at)) =
+      ap (located a.chunk a.offset b) read ∙ ap (λ (w : Option Addr → Option Addr). located a.chunk a.offset b (led_cell w (cell_of h.chunks o.at))) g_is in
+      let d : copied_object to (located o.at.chunk o.at.offset b (cell_of h.chunks o.at)) ≡ located a.chunk a.offset b (led_cell (led to) (cell_of h.chunks o.at)) = λ k. record (copied_object to (located o.at.chunk o.at.offset b (cell_of h.chunks o.at))) { at = leads k } in
       subst (In (objects_in (chunks_of ks'))) (e ∙ sym (ap (copied_object to) is ∙ d)) i
 
   pub kept : (o : Located) → In (objects_in (chunks_of h.chunks)) o → In (olds ss) o.at → In (objects_in (chunks_of ks')) (copied_object to o)
@@ -162,7 +162,7 @@ module _ (h : LeafHeapValue) (from : List (Option Addr)) (ss : List Survivor) (n
         let x : In xs o.at = moves.to_smalls h.chunks (olds ss) o.at j small in
         let m = from_first ms o.at (subst (λ as'. In as' o.at) (sym firsts_are) x) in
         let e : to o.at ≡ m.0.1 = ap to (sym m.2) ∙ to_new m.0 m.1 in
-        let read : cell_of ks' m.0.1 ≡ led_cell_by g (cell_of h.chunks o.at) = reading.moved_are_read h from ss news S T m.0.0 m.0.1 (contains_from_in ms m.0 m.1) ∙ ap (λ (z : Addr). led_cell_by g (cell_of h.chunks z)) m.2 in
+        let read : cell_of ks' m.0.1 ≡ led_cell g (cell_of h.chunks o.at) = reading.moved_are_read h from ss news S T m.0.0 m.0.1 (contains_from_in ms m.0 m.1) ∙ ap (λ (z : Addr). led_cell g (cell_of h.chunks z)) m.2 in
         there_now o m.0.1 o.birth l.is l.mark e read
     | inr large ↦
         let l = seen_object h.chunks o settled.apart i in
@@ -180,12 +180,12 @@ module _ (h : LeafHeapValue) (from : List (Option Addr)) (ss : List Survivor) (n
     pub is : o' ≡ copied_object to object
 
   -- an object of a chunk whose references were led
-  led_back : (k : ChunkValue) (o' : Located) → In (objects_from k.number 0 (map (led_cell_by g) k.cells)) o' → (q : Located) × In (objects_from k.number 0 k.cells) q × (led_object (led to) q ≡ o')
+  led_back : (k : ChunkValue) (o' : Located) → In (objects_from k.number 0 (map (led_cell g) k.cells)) o' → (q : Located) × In (objects_from k.number 0 k.cells) q × (led_object (led to) q ≡ o')
   led_back k o' i =
-      let j : In (objects_from k.number 0 (map (led_cell_by (led to)) k.cells)) o' = subst (λ (w : Option Addr → Option Addr). In (objects_from k.number 0 (map (led_cell_by w) k.cells)) o') g_is i in
+      let j : In (objects_from k.number 0 (map (led_cell (led to)) k.cells)) o' = subst (λ (w : Option Addr → Option Addr). In (objects_from k.number 0 (map (led_cell w) k.cells)) o') g_is i in
       map_in (led_object (led to)) (objects_from k.number 0 k.cells) o' (subst (λ os. In os o') (led_are_read (led to) k) j)
 
-  from_laid : (k : ChunkValue) (o' : Located) → In y.laid k → In (objects_from k.number 0 (map (led_cell_by g) k.cells)) o' → Came o'
+  from_laid : (k : ChunkValue) (o' : Located) → In y.laid k → In (objects_from k.number 0 (map (led_cell g) k.cells)) o' → Came o'
   from_laid k o' i j =
       let q = led_back k o' j in
       let there : In (objects_in (chunks_of y.laid)) q.0 = in_objects (chunks_of y.laid) (chunk_of k) q.0 (in_map chunk_of y.laid k i) q.1 in
@@ -229,20 +229,20 @@ module _ (h : LeafHeapValue) (from : List (Option Addr)) (ss : List Survivor) (n
       }
 
   -- and that is read there
-  pub kept_some : (k : ChunkValue) → In (filter (keeps ss) (unreserved h.chunks h.reserved)) k → objects_from k.number 0 (map (led_cell_by g) k.cells) ≡ [] → ⊥
+  pub kept_some : (k : ChunkValue) → In (filter (keeps ss) (unreserved h.chunks h.reserved)) k → objects_from k.number 0 (map (led_cell g) k.cells) ≡ [] → ⊥
   kept_some k i e =
       let A = alone k i in
       let s = naming.in_unmap ss (first_of k) A.survives in
       let born : (cell_of h.chunks (first_of k)).mark ≡ Born s.0.birth = ap (λ (z : Addr). (cell_of h.chunks z).mark) (sym s.1.1) ∙ read_in (λ (x : Survivor). (cell_of h.chunks x.old).mark ≡ Born x.birth) ss s.0 s.1.0 S.names in
       let mark : (cell_at k.cells 0).mark ≡ Born s.0.birth = ap (λ (c : Cell). c.mark) (sym (extent.chunk_there h.chunks k once_h A.there (first_of k) refl)) ∙ born in
-      let c : Cell = led_cell_by g (cell_at k.cells 0) in
-      let here : objects_from k.number 0 (map (led_cell_by g) k.cells) ≡ located k.number 0 s.0.birth c ∷ [] = ap (λ cs. objects_from k.number 0 (map (led_cell_by g) cs)) A.one ∙ ap (λ m. located_by k.number 0 c m []) mark in
+      let c : Cell = led_cell g (cell_at k.cells 0) in
+      let here : objects_from k.number 0 (map (led_cell g) k.cells) ≡ located k.number 0 s.0.birth c ∷ [] = ap (λ cs. objects_from k.number 0 (map (led_cell g) cs)) A.one ∙ ap (λ m. located_by k.number 0 c m []) mark in
       absurd (none_some (sym e ∙ here))
     where
       none_some : {o : Located} → [] ≡ o ∷ [] → ⊥
       none_some q = absurd cc
 
-  from_kept : (k : ChunkValue) (o' : Located) → In (filter (keeps ss) (unreserved h.chunks h.reserved)) k → In (objects_from k.number 0 (map (led_cell_by g) k.cells)) o' → Came o'
+  from_kept : (k : ChunkValue) (o' : Located) → In (filter (keeps ss) (unreserved h.chunks h.reserved)) k → In (objects_from k.number 0 (map (led_cell g) k.cells)) o' → Came o'
   from_kept k o' i j =
       let A = alone k i in
       let q = led_back k o' j in

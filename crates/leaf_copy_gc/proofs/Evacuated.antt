@@ -20,7 +20,7 @@ use Rattle.leaf_copy_gc.specs.Search.{all_found, found_in}
 use Rattle.leaf_copy_gc.specs.Laid.{before, is_small, smalls, relocations, AreNew, laid_at}
 use Rattle.leaf_copy_gc.specs.CollectorValue.{CollectorValue}
 use Rattle.leaf_copy_gc.specs.Copying.{copied, copied_one}
-use Rattle.leaf_copy_gc.specs.Redirected.{followed_ref, followed_large, redirected, led}
+use Rattle.leaf_copy_gc.specs.Redirected.{followed_ref, followed_large, redirected, led_cell}
 use Rattle.leaf_copy_gc.specs.Collected.{AreAlike, IsLeft}
 use Rattle.leaf_copy_gc.proofs.Puts as puts
 use Rattle.leaf_copy_gc.proofs.Moves as moves
@@ -52,7 +52,7 @@ module _ (h : List ChunkValue) (from : List (Option Addr)) (closed : IsClosed h)
       (subst (λ (z : CollectorValue). AreAlike h z.heap.chunks) (sym is) (larges.alike_then h k.heap.chunks (fold copied k ss).heap.chunks (subst (AreAlike h) (sym k_old) (alike_found h found)) (alike_copied k ss)))
       (larges.alike_larges t.heap.chunks ss)
 
-  large : (a : Addr) → Contains (olds ss) a → is_small h a ≡ false → cell_of (fold followed_large t.heap.chunks ss) a ≡ led (redirected (relocations (before spare) h (smalls h (olds ss)))) (with_mark (cell_of h a) (Moved a))
+  large : (a : Addr) → Contains (olds ss) a → is_small h a ≡ false → cell_of (fold followed_large t.heap.chunks ss) a ≡ led_cell (redirected (relocations (before spare) h (smalls h (olds ss)))) (with_mark (cell_of h a) (Moved a))
   large a c s =
       let i = in_from_contains (olds ss) a c in
       let marked = leading.large_marked h from closed sound ss found spare kept once all names k k_old k_laying k_moved new t is a i s in
@@ -60,7 +60,7 @@ module _ (h : List ChunkValue) (from : List (Option Addr)) (closed : IsClosed h)
       let small : is_small t.heap.chunks a ≡ false = ap (λ (d : Cell). nat_le (size_of d) 1024) marked ∙ s in
       let refs = leading.refs_same t.heap.chunks (relocations (before spare) h (smalls h (olds ss))) (cell_of h a).refs (leading.leads_refs h from closed sound ss found spare kept once all names k k_old k_laying k_moved new t is a i) in
       larges.larges_led t.heap.chunks ss (followed_ref t.heap.chunks) once (λ r. refl) a i object small
-      ∙ (ap (led (followed_ref t.heap.chunks)) marked
+      ∙ (ap (led_cell (followed_ref t.heap.chunks)) marked
       ∙ ap (λ (rs : List (Option Addr)). let d : Cell = record (with_mark (cell_of h a) (Moved a)) { refs = rs } in d) refs)
 
   others : (a : Addr) → (Contains (olds ss) a → ⊥) → cell_of (fold followed_large t.heap.chunks ss) a ≡ cell_of h a

@@ -12,7 +12,7 @@ use Rattle.object_layout.proofs.PlaceLemmas as place
 use Rattle.object_layout.proofs.ChunkLaws as laws
 use Rattle.object_layout.proofs.ChunkLaws.{length-put, place_of-put, put_object-put_object}
 use Rattle.leaf_copy_gc.specs.Search.{IsTarget}
-use Rattle.leaf_copy_gc.specs.Redirected.{led, followed, followed_ref}
+use Rattle.leaf_copy_gc.specs.Redirected.{led_cell, followed, followed_ref}
 use Rattle.leaf_copy_gc.proofs.Upto as upto
 use Rattle.leaf_copy_gc.proofs.Upto.{led_upto}
 use Rattle.leaf_copy_gc.proofs.Puts as puts
@@ -22,7 +22,7 @@ got_all P [] k x e a = absurd cc
 got_all P (y ∷ ys) zero x e a = let h : y ≡ x = cc in subst P h (All-head P y ys a)
 got_all P (y ∷ ys) (suc k) x e a = got_all P ys k x e (All-tail P y ys a)
 
-pub size_led : (f : Option Addr → Option Addr) (c : Cell) → size_of (led f c) ≡ size_of c
+pub size_led : (f : Option Addr → Option Addr) (c : Cell) → size_of (led_cell f c) ≡ size_of c
 size_led f c = let e = length-map c.refs f in omega arith
 
 -- ---- an object of a chunk, as far as its references below k
@@ -142,7 +142,7 @@ module _ (h : List ChunkValue) (a : Addr) (o : IsObject (cell_of h a).mark) wher
 abbrev pub led_before : (Option Addr → Option Addr) → List Cell → ℕ → List Cell
 led_before f cs zero = cs
 led_before f [] (suc n) = []
-led_before f (c ∷ cs) (suc n) = led f c ∷ led_before f cs (suc n - size_of c)
+led_before f (c ∷ cs) (suc n) = led_cell f c ∷ led_before f cs (suc n - size_of c)
 
 module _ (f : Option Addr → Option Addr) where
   pub before_object : (cs : List Cell) (at : ℕ) → IsCellAt cs at → IsCellAt (led_before f cs at) at
@@ -159,29 +159,29 @@ module _ (f : Option Addr → Option Addr) where
       let w : size_of c ≤ suc n = o.0 in
       rw (size_led f c, le-leb (size_of c) (suc n) w) (before_cell cs (suc n - size_of c) o.1)
 
-  past : (c : Cell) (cs : List Cell) (p n : ℕ) → n ≡ size_of c + p → led_before f (c ∷ cs) n ≡ led f c ∷ led_before f cs p
+  past : (c : Cell) (cs : List Cell) (p n : ℕ) → n ≡ size_of c + p → led_before f (c ∷ cs) n ≡ led_cell f c ∷ led_before f cs p
   past c cs p zero e = absurd (omega arith)
   past c cs p (suc n) e = let g : suc n - size_of c ≡ p = omega arith in rw g refl
 
   pub before_more : (cs : List Cell) (at : ℕ) → IsCellAt cs at →
-      put_cell (led_before f cs at) at (led f (cell_at (led_before f cs at) at)) ≡ led_before f cs (at + size_of (cell_at cs at))
+      put_cell (led_before f cs at) at (led_cell f (cell_at (led_before f cs at) at)) ≡ led_before f cs (at + size_of (cell_at cs at))
   before_more [] at o = absurd o
   before_more (c ∷ cs) zero o = let e : zero + size_of c ≡ size_of c + 0 = omega arith in sym (past c cs 0 (zero + size_of c) e)
   before_more (c ∷ cs) (suc n) o =
       let w : size_of c ≤ suc n = o.0 in
       let e : suc n + size_of (cell_at cs (suc n - size_of c)) ≡ size_of c + ((suc n - size_of c) + size_of (cell_at cs (suc n - size_of c))) = omega arith in
       rw (size_led f c, le-leb (size_of c) (suc n) w)
-      (ap (λ (xs : List Cell). led f c ∷ xs) (before_more cs (suc n - size_of c) o.1)
+      (ap (λ (xs : List Cell). led_cell f c ∷ xs) (before_more cs (suc n - size_of c) o.1)
       ∙ sym (past c cs _ _ e))
 
-  pub before_all : (cs : List Cell) → led_before f cs (words_in cs) ≡ map (led f) cs
+  pub before_all : (cs : List Cell) → led_before f cs (words_in cs) ≡ map (led_cell f) cs
   before_all [] = refl
-  before_all (c ∷ cs) = past c cs (words_in cs) _ refl ∙ ap (λ (xs : List Cell). led f c ∷ xs) (before_all cs)
+  before_all (c ∷ cs) = past c cs (words_in cs) _ refl ∙ ap (λ (xs : List Cell). led_cell f c ∷ xs) (before_all cs)
 
   -- one object more
   module _ (k now after : ChunkValue) (at : ℕ) (o : IsCellAt k.cells at)
       (is : now ≡ record k { cells = led_before f k.cells at })
-      (done : after ≡ record now { cells = put_cell now.cells at (led f (cell_at now.cells at)) }) where
+      (done : after ≡ record now { cells = put_cell now.cells at (led_cell f (cell_at now.cells at)) }) where
     now_cells : now.cells ≡ led_before f k.cells at
     now_cells = ap (λ (x : ChunkValue). x.cells) is
 
@@ -191,23 +191,23 @@ module _ (f : Option Addr → Option Addr) where
     pub there : cell_at now.cells at ≡ cell_at k.cells at
     there = ap (λ (xs : List Cell). cell_at xs at) now_cells ∙ before_cell k.cells at o
 
-    after_cells : after.cells ≡ put_cell now.cells at (led f (cell_at now.cells at))
+    after_cells : after.cells ≡ put_cell now.cells at (led_cell f (cell_at now.cells at))
     after_cells = ap (λ (x : ChunkValue). x.cells) done
 
     pub after_object : IsCellAt after.cells at
     after_object =
         subst (λ (xs : List Cell). IsCellAt xs at) (sym after_cells)
-        (place.IsCellAt-put now.cells at at (led f (cell_at now.cells at)) (size_led f (cell_at now.cells at)) begins_there)
+        (place.IsCellAt-put now.cells at at (led_cell f (cell_at now.cells at)) (size_led f (cell_at now.cells at)) begins_there)
 
     pub after_size : size_of (cell_at after.cells at) ≡ size_of (cell_at k.cells at)
     after_size =
         ap (λ (xs : List Cell). size_of (cell_at xs at)) after_cells
-        ∙ (ap size_of (place.cell_at-put_same now.cells at (led f (cell_at now.cells at)) begins_there)
+        ∙ (ap size_of (place.cell_at-put_same now.cells at (led_cell f (cell_at now.cells at)) begins_there)
         ∙ (size_led f (cell_at now.cells at)
         ∙ ap size_of there))
 
     pub after_is : (next : ℕ) → next ≡ at + size_of (cell_at k.cells at) → after ≡ record k { cells = led_before f k.cells next }
     after_is next e =
         done
-        ∙ (ap (λ (x : ChunkValue). let r : ChunkValue = record x { cells = put_cell x.cells at (led f (cell_at x.cells at)) } in r) is
+        ∙ (ap (λ (x : ChunkValue). let r : ChunkValue = record x { cells = put_cell x.cells at (led_cell f (cell_at x.cells at)) } in r) is
         ∙ ap (λ (xs : List Cell). let r : ChunkValue = record k { cells = xs } in r) (before_more k.cells at o ∙ ap (led_before f k.cells) (sym e)))

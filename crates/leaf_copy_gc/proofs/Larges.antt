@@ -15,7 +15,7 @@ use Rattle.leaf_copy_gc.specs.declared.lists.Survivor.{Survivor}
 use Rattle.leaf_copy_gc.specs.Survivors.{olds, old_of}
 use Rattle.leaf_copy_gc.specs.Search.{IsTarget}
 use Rattle.leaf_copy_gc.specs.Laid.{is_small}
-use Rattle.leaf_copy_gc.specs.Redirected.{followed_ref, followed_at, followed_large, led, HasTargets, CanFollow}
+use Rattle.leaf_copy_gc.specs.Redirected.{followed_ref, followed_at, followed_large, led_cell, HasTargets, CanFollow}
 use Rattle.leaf_copy_gc.specs.Collected.{AreAlike}
 use Rattle.leaf_copy_gc.proofs.Puts as puts
 use Rattle.leaf_copy_gc.proofs.FollowLemmas as follows
@@ -57,7 +57,7 @@ alike_put (k ∷ ks) x c s =
 
 large_at : (g : List ChunkValue) (s : Survivor) (a : Addr) (b : Bool) → (s.old ≡ a → ⊥) → cell_of (cond b g (followed_at g s.old)) a ≡ cell_of g a
 large_at g s a true n = refl
-large_at g s a false n = laws.cell_of-put_other g s.old a (led (followed_ref g) (cell_of g s.old)) (follows.size_led (followed_ref g) (cell_of g s.old)) (λ e. n (sym e))
+large_at g s a false n = laws.cell_of-put_other g s.old a (led_cell (followed_ref g) (cell_of g s.old)) (follows.size_led (followed_ref g) (cell_of g s.old)) (λ e. n (sym e))
 
 pub larges_other : (g : List ChunkValue) (ss : List Survivor) (a : Addr) → (In (olds ss) a → ⊥) → cell_of (fold followed_large g ss) a ≡ cell_of g a
 larges_other g [] a n = refl
@@ -65,15 +65,15 @@ larges_other g (s ∷ ss) a n = larges_other (followed_large g s) ss a (λ i. n 
 
 target_at : (g : List ChunkValue) (s : Survivor) (b : Bool) (r : Option Addr) → IsTarget g r → IsTarget (cond b g (followed_at g s.old)) r
 target_at g s true r t = t
-target_at g s false r t = follows.target_put g s.old (led (followed_ref g) (cell_of g s.old)) refl (follows.size_led (followed_ref g) (cell_of g s.old)) r t
+target_at g s false r t = follows.target_put g s.old (led_cell (followed_ref g) (cell_of g s.old)) refl (follows.size_led (followed_ref g) (cell_of g s.old)) r t
 
 followed_at_same : (g : List ChunkValue) (s : Survivor) (b : Bool) (r : Option Addr) → followed_ref (cond b g (followed_at g s.old)) r ≡ followed_ref g r
 followed_at_same g s true r = refl
-followed_at_same g s false r = follows.followed_ref_put g s.old (led (followed_ref g) (cell_of g s.old)) refl (follows.size_led (followed_ref g) (cell_of g s.old)) r
+followed_at_same g s false r = follows.followed_ref_put g s.old (led_cell (followed_ref g) (cell_of g s.old)) refl (follows.size_led (followed_ref g) (cell_of g s.old)) r
 
 alike_at : (g : List ChunkValue) (s : Survivor) (b : Bool) → AreAlike g (cond b g (followed_at g s.old))
 alike_at g s true = alike_itself g
-alike_at g s false = alike_put g s.old (led (followed_ref g) (cell_of g s.old)) (follows.size_led (followed_ref g) (cell_of g s.old))
+alike_at g s false = alike_put g s.old (led_cell (followed_ref g) (cell_of g s.old)) (follows.size_led (followed_ref g) (cell_of g s.old))
 
 pub alike_larges : (g : List ChunkValue) (ss : List Survivor) → AreAlike g (fold followed_large g ss)
 alike_larges g [] = alike_itself g
@@ -92,24 +92,24 @@ can_follow g (s ∷ ss) o t = (
   can_follow (followed_large g s) ss o.1 (λ u i. subst (HasTargets (followed_large g s)) (sym (large_at g s u.old (is_small g s.old) (not_again s ss o u i))) (targets_after g s (cell_of g u.old) (t u (inr i)))),
 )
 
-large_here : (g : List ChunkValue) (a : Addr) (f : Option Addr → Option Addr) → IsObject (cell_of g a).mark → ((r : Option Addr) → followed_ref g r ≡ f r) → (b : Bool) → b ≡ false → cell_of (cond b g (followed_at g a)) a ≡ led f (cell_of g a)
+large_here : (g : List ChunkValue) (a : Addr) (f : Option Addr → Option Addr) → IsObject (cell_of g a).mark → ((r : Option Addr) → followed_ref g r ≡ f r) → (b : Bool) → b ≡ false → cell_of (cond b g (followed_at g a)) a ≡ led_cell f (cell_of g a)
 large_here g a f o same true e = absurd (false≢true (sym e))
-large_here g a f o same false e = laws.cell_of-put_same g a (led (followed_ref g) (cell_of g a)) o ∙ ap (λ (w : Option Addr → Option Addr). led w (cell_of g a)) (λ i r. same r i)
+large_here g a f o same false e = laws.cell_of-put_same g a (led_cell (followed_ref g) (cell_of g a)) o ∙ ap (λ (w : Option Addr → Option Addr). led_cell w (cell_of g a)) (λ i r. same r i)
 
 -- a large survivor's references are led by the addresses in the old heap
 pub larges_led : (g : List ChunkValue) (ss : List Survivor) (f : Option Addr → Option Addr) → Once (olds ss) → ((r : Option Addr) → followed_ref g r ≡ f r)
-    → (a : Addr) → In (olds ss) a → IsObject (cell_of g a).mark → is_small g a ≡ false → cell_of (fold followed_large g ss) a ≡ led f (cell_of g a)
+    → (a : Addr) → In (olds ss) a → IsObject (cell_of g a).mark → is_small g a ≡ false → cell_of (fold followed_large g ss) a ≡ led_cell f (cell_of g a)
 larges_led g [] f o same a i ob l = absurd i
 larges_led g (s ∷ ss) f o same a i ob l =
     elim (puts.same_or_other s.old a) [
       | inl e ↦
           let rest : In (olds ss) a → ⊥ = λ j. o.0 (contains_from_in (olds ss) s.old (subst (In (olds ss)) (sym e) j)) in
           larges_other (followed_large g s) ss a rest
-          ∙ subst (λ (y : Addr). cell_of (cond (is_small g y) g (followed_at g y)) a ≡ led f (cell_of g a)) (sym e) (large_here g a f ob same (is_small g a) l)
+          ∙ subst (λ (y : Addr). cell_of (cond (is_small g y) g (followed_at g y)) a ≡ led_cell f (cell_of g a)) (sym e) (large_here g a f ob same (is_small g a) l)
       | inr n ↦
           let j : In (olds ss) a = elim i [ inl e ↦ absurd (n e) | inr z ↦ z ] in
           let here : cell_of (followed_large g s) a ≡ cell_of g a = large_at g s a (is_small g s.old) n in
           larges_led (followed_large g s) ss f o.1 (λ r. followed_at_same g s (is_small g s.old) r ∙ same r) a j
           (subst (λ (c : Cell). IsObject c.mark) (sym here) ob) (ap (λ (c : Cell). nat_le (size_of c) 1024) here ∙ l)
-          ∙ ap (led f) here
+          ∙ ap (led_cell f) here
     ]

@@ -18,7 +18,7 @@ use Rattle.leaf_copy_gc.specs.Search.{all_found, IsTarget}
 use Rattle.leaf_copy_gc.specs.Laid.{Laying, is_small, smalls, laid_all, laid_one, opened, open_next, placed, room_in, relocations, before, AreNew, HaveRoom, small_words}
 use Rattle.leaf_copy_gc.specs.CollectorValue.{CollectorValue}
 use Rattle.leaf_copy_gc.specs.Copying.{copied, copied_one, IsReady}
-use Rattle.leaf_copy_gc.specs.Redirected.{followed, followed_ref, new_address, redirected, led, led_chunk, HasTargets}
+use Rattle.leaf_copy_gc.specs.Redirected.{followed, followed_ref, new_address, redirected, led_cell, led_chunk, HasTargets}
 use Rattle.leaf_copy_gc.proofs.Puts as puts
 use Rattle.leaf_copy_gc.proofs.FoundLemmas as marks
 use Rattle.leaf_copy_gc.proofs.Discovered.{survivor_live}
@@ -82,11 +82,11 @@ module _ (old : List ChunkValue) (ps : List (Addr × Addr)) where
   pub refs_targets : (rs : List (Option Addr)) → All (Leads old ps) rs → All (IsTarget old) rs
   refs_targets rs q = λ k d l. (q k d l).1
 
-  cell_same : (c : Cell) → CellLeads old ps c → led (followed_ref old) c ≡ led (redirected ps) c
+  cell_same : (c : Cell) → CellLeads old ps c → led_cell (followed_ref old) c ≡ led_cell (redirected ps) c
   cell_same c q = ap (λ (rs : List (Option Addr)). let d : Cell = record c { refs = rs } in d) (refs_same c.refs q.1)
 
   chunk_same : (k : ChunkValue) → All (CellLeads old ps) k.cells → led_chunk (followed_ref old) k ≡ led_chunk (redirected ps) k
-  chunk_same k q = ap (λ (cs : List Cell). let d : ChunkValue = record k { cells = cs } in d) (map_same (led (followed_ref old)) (led (redirected ps)) k.cells (λ i d l. cell_same _ (q i d l)))
+  chunk_same k q = ap (λ (cs : List Cell). let d : ChunkValue = record k { cells = cs } in d) (map_same (led_cell (followed_ref old)) (led_cell (redirected ps)) k.cells (λ i d l. cell_same _ (q i d l)))
 
   pub chunks_same : (ks : List ChunkValue) → Each (CellLeads old ps) ks → map (led_chunk (followed_ref old)) ks ≡ map (led_chunk (redirected ps)) ks
   chunks_same [] e = refl

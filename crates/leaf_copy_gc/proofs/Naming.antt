@@ -21,7 +21,7 @@ use Rattle.object_layout.proofs.ChunkLaws.{length-put, place_of-put}
 use Rattle.object_layout.proofs.ObjectLemmas.{chunk_there}
 use Rattle.leaf_copy_gc.specs.declared.lists.Survivor.{Survivor}
 use Rattle.leaf_copy_gc.specs.Survivors.{olds, old_of, HaveNames}
-use Rattle.leaf_copy_gc.specs.Redirected.{led, led_chunk}
+use Rattle.leaf_copy_gc.specs.Redirected.{led_cell, led_chunk}
 use Rattle.leaf_copy_gc.specs.Exchanged.{unreserved, reserved_of, named, CanName}
 use Rattle.leaf_copy_gc.specs.Collected.{AreAlike, keeps}
 use Rattle.leaf_copy_gc.proofs.Puts as puts
@@ -236,12 +236,12 @@ module _ (h : List ChunkValue) (ss : List Survivor) (f : Option Addr → Option 
         ∙ extent.mapped_there (led_chunk f) (λ k. refl) (filter (keeps ss) (unreserved h r)) k kept_once i a q)
 
   -- a survivor in the heap is marked, with its references led
-  now_marked : (a : Addr) (k : ChunkValue) → In (olds ss) a → In (filter (keeps ss) (unreserved h r)) k → a ≡ first_of k → cell_of Now a ≡ led f (with_mark (cell_at k.cells 0) (Moved (first_of k)))
+  now_marked : (a : Addr) (k : ChunkValue) → In (olds ss) a → In (filter (keeps ss) (unreserved h r)) k → a ≡ first_of k → cell_of Now a ≡ led_cell f (with_mark (cell_at k.cells 0) (Moved (first_of k)))
   now_marked a k j i e =
       let p = kept_in k i in
       now_kept a (not_laid a j) k i (ap (λ (x : Addr). x.chunk) (sym e))
       ∙ (ap (λ (o : ℕ). cell_at (marked_chunk ss f k).cells o) (ap (λ (x : Addr). x.offset) e)
-      ∙ ap (λ (cs : List Cell). cell_at (map (λ (c : Cell). led f (with_mark c (Moved (first_of k)))) cs) 0) (kept_alone k p.0 p.1).0)
+      ∙ ap (λ (cs : List Cell). cell_at (map (λ (c : Cell). led_cell f (with_mark c (Moved (first_of k)))) cs) 0) (kept_alone k p.0 p.1).0)
 
   pub ready : CanName Now ss
   ready = can_name Now ss once (λ s i l.
@@ -249,7 +249,7 @@ module _ (h : List ChunkValue) (ss : List Survivor) (f : Option Addr → Option 
       let k = locate s.old j (owned_in Now s.old.chunk l) in
       subst (λ (c : Cell). IsObject c.mark) (sym (now_marked s.old k.0 j k.1.0 k.1.1)) tt)
 
-  named_cell : (c : Cell) (b : Birth) → c.mark ≡ Born b → led f (with_mark c (Born b)) ≡ led f c
+  named_cell : (c : Cell) (b : Birth) → c.mark ≡ Born b → led_cell f (with_mark c (Born b)) ≡ led_cell f c
   named_cell c b e = λ i. record { mark = sym e i; mutable = c.mutable; refs = map f c.refs; ints = c.ints }
 
   elsewhere : (a : Addr) (k : ChunkValue) → In (filter (keeps ss) (unreserved h r)) k → k.number ≡ a.chunk → (In (olds ss) a → ⊥) → (o : ℕ) → o ≡ a.offset
@@ -261,10 +261,10 @@ module _ (h : List ChunkValue) (ss : List Survivor) (f : Option Addr → Option 
   elsewhere a k i q n (suc m) z =
       let p = kept_in k i in
       let one = (kept_alone k p.0 p.1).0 in
-      let mark : Cell → Cell = λ c. led f (with_mark c (Moved (first_of k))) in
+      let mark : Cell → Cell = λ c. led_cell f (with_mark c (Moved (first_of k))) in
       let left : cell_at (map mark k.cells) (suc m) ≡ no_cell = ap (λ (cs : List Cell). cell_at (map mark cs) (suc m)) one ∙ extent.alone_cell (mark (cell_at k.cells 0)) m in
-      let right : cell_at (map (led f) k.cells) (suc m) ≡ no_cell = ap (λ (cs : List Cell). cell_at (map (led f) cs) (suc m)) one ∙ extent.alone_cell (led f (cell_at k.cells 0)) m in
-      subst (λ (o : ℕ). cell_at (map mark k.cells) o ≡ cell_at (map (led f) k.cells) o) z (left ∙ sym right)
+      let right : cell_at (map (led_cell f) k.cells) (suc m) ≡ no_cell = ap (λ (cs : List Cell). cell_at (map (led_cell f) cs) (suc m)) one ∙ extent.alone_cell (led_cell f (cell_at k.cells 0)) m in
+      subst (λ (o : ℕ). cell_at (map mark k.cells) o ≡ cell_at (map (led_cell f) k.cells) o) z (left ∙ sym right)
 
   kept_same : (a : Addr) → (In (numbers laid) a.chunk → ⊥) → (k : ChunkValue) → In (filter (keeps ss) (unreserved h r)) k → k.number ≡ a.chunk → cell_of (fold named Now ss) a ≡ cell_of Goal a
   kept_same a out k i q =
@@ -284,9 +284,9 @@ module _ (h : List ChunkValue) (ss : List Survivor) (f : Option Addr → Option 
             let step : cell_of (fold named Now ss) a ≡ with_mark (cell_of Now a) (Born s.birth) =
             subst (λ (x : Addr). cell_of (fold named Now ss) x ≡ with_mark (cell_of Now x) (Born s.birth)) u.1.1
             (names_same Now ss once s u.1.0 (subst (λ (x : Addr). place_of Now x.chunk < length Now) (sym u.1.1) owned) (subst (λ (x : Addr). IsObject (cell_of Now x).mark) (sym u.1.1) object)) in
-            let right : cell_of Goal a ≡ led f (cell_at k.cells 0) =
+            let right : cell_of Goal a ≡ led_cell f (cell_at k.cells 0) =
             goal_kept a out k i q ∙ (ap (λ (o : ℕ). cell_at (led_chunk f k).cells o) (ap (λ (x : Addr). x.offset) e)
-            ∙ ap (λ (cs : List Cell). cell_at (map (led f) cs) 0) (kept_alone k p.0 p.1).0) in
+            ∙ ap (λ (cs : List Cell). cell_at (map (led_cell f) cs) 0) (kept_alone k p.0 p.1).0) in
             step ∙ (ap (λ (c : Cell). with_mark c (Born s.birth)) (now_marked a k j i e) ∙ (named_cell (cell_at k.cells 0) s.birth was ∙ sym right))
         | inr n ↦ names_other Now ss a n ∙ (now_kept a out k i q ∙ (elsewhere a k i q n a.offset refl ∙ sym (goal_kept a out k i q)))
       ]
@@ -325,9 +325,9 @@ module _ (h : List ChunkValue) (ss : List Survivor) (f : Option Addr → Option 
 
   -- ---- their shapes
 
-  sizes_marked : (cs : List Cell) (m : Mark) → map size_of (map (led f) cs) ≡ map size_of (map (λ (c : Cell). led f (with_mark c m)) cs)
+  sizes_marked : (cs : List Cell) (m : Mark) → map size_of (map (led_cell f) cs) ≡ map size_of (map (λ (c : Cell). led_cell f (with_mark c m)) cs)
   sizes_marked [] m = refl
-  sizes_marked (c ∷ cs) m = ap (λ (ns : List ℕ). size_of (led f c) ∷ ns) (sizes_marked cs m)
+  sizes_marked (c ∷ cs) m = ap (λ (ns : List ℕ). size_of (led_cell f c) ∷ ns) (sizes_marked cs m)
 
   alike_marked : (ks : List ChunkValue) → AreAlike (map (marked_chunk ss f) ks) (map (led_chunk f) ks)
   alike_marked [] = tt

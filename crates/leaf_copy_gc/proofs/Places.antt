@@ -17,7 +17,7 @@ use Rattle.leaf_copy_gc.specs.CollectorValue.{CollectorValue}
 use Rattle.leaf_copy_gc.specs.Search.{birth_in, visited, visited_at}
 use Rattle.leaf_copy_gc.specs.Laid.{Laying, is_small, laid_all, laid_one, next_place, open_next, opened, room_in}
 use Rattle.leaf_copy_gc.specs.Copying.{copied, copied_one}
-use Rattle.leaf_copy_gc.specs.Redirected.{followed_at, followed_large, followed_ref, led}
+use Rattle.leaf_copy_gc.specs.Redirected.{followed_at, followed_large, followed_ref, led_cell}
 use Rattle.leaf_copy_gc.proofs.FoundLemmas as marks
 use Rattle.leaf_copy_gc.proofs.Puts as puts
 use Rattle.leaf_copy_gc.proofs.Rooms as rooms
@@ -67,7 +67,7 @@ length_led h (s ∷ ss) = length_led (followed_large h s) ss ∙ length_at h s (
 
 place_at : (h : List ChunkValue) (s : Survivor) (b : Bool) (n : ℕ) → place_in (cond b h (followed_at h s.old)) n ≡ place_in h n
 place_at h s true n = refl
-place_at h s false n = laws.place_in-put h s.old (led (followed_ref h) (cell_of h s.old)) n
+place_at h s false n = laws.place_in-put h s.old (led_cell (followed_ref h) (cell_of h s.old)) n
 
 -- and each chunk stands where it stood
 pub place_led : (h : List ChunkValue) (ss : List Survivor) (n : ℕ) → place_in (fold followed_large h ss) n ≡ place_in h n

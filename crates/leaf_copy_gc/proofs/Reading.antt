@@ -29,7 +29,7 @@ use Rattle.leaf_copy_gc.proofs.Rebuilt.{NoneThere, first_of}
 use Rattle.remembered_set.specs.Moved.{same_address}
 use Rattle.leaf_copy_gc.proofs.Rooms as rooms
 use Rattle.leaf_copy_gc.specs.Laid.{Laying, HaveRoom, before, is_small, small_words, smalls, laid_all, laid_at, laid_one, next_place, opened, open_next, placed, relocations, room_in}
-use Rattle.leaf_copy_gc.specs.Redirected.{led, led_chunk}
+use Rattle.leaf_copy_gc.specs.Redirected.{led_cell, led_chunk}
 use Rattle.leaf_copy_gc.proofs.FollowLemmas.{size_led}
 use Rattle.leaf_copy_gc.proofs.LastChunk.{some_room}
 use Rattle.leaf_copy_gc.proofs.Numbers as nums
@@ -115,20 +115,20 @@ moved_from y h (a ∷ xs) m (inr i) = inr (moved_from (laid_one y (cell_of h a))
 
 -- ---- with references led
 
-led_cell : (f : Option Addr → Option Addr) (cs : List Cell) (at : ℕ) → cell_at (map (led f) cs) at ≡ led f (cell_at cs at)
-led_cell f [] at = refl
-led_cell f (c ∷ cs) zero = refl
-led_cell f (c ∷ cs) (suc n) =
+led_cell_at : (f : Option Addr → Option Addr) (cs : List Cell) (at : ℕ) → cell_at (map (led_cell f) cs) at ≡ led_cell f (cell_at cs at)
+led_cell_at f [] at = refl
+led_cell_at f (c ∷ cs) zero = refl
+led_cell_at f (c ∷ cs) (suc n) =
     elim (cases_lt (suc n) (size_of c)) [
       | inl above ↦ rw (size_led f c, lt-leb (size_of c) (suc n) above) refl
-      | inr within ↦ rw (size_led f c, le-leb (size_of c) (suc n) within) (led_cell f cs (suc n - size_of c))
+      | inr within ↦ rw (size_led f c, le-leb (size_of c) (suc n) within) (led_cell_at f cs (suc n - size_of c))
     ]
 
-pub led_there : (f : Option Addr → Option Addr) (ks : List ChunkValue) (a : Addr) → cell_of (map (led_chunk f) ks) a ≡ led f (cell_of ks a)
+pub led_there : (f : Option Addr → Option Addr) (ks : List ChunkValue) (a : Addr) → cell_of (map (led_chunk f) ks) a ≡ led_cell f (cell_of ks a)
 led_there f [] a = refl
 led_there f (k ∷ ks) a =
     elim (cases_Bool (eqb k.number a.chunk)) [
-      | inl e ↦ rw e (led_cell f k.cells a.offset)
+      | inl e ↦ rw e (led_cell_at f k.cells a.offset)
       | inr e ↦ rw e (led_there f ks a)
     ]
 
@@ -155,14 +155,14 @@ module _ (h : LeafHeapValue) (from : List (Option Addr)) (ss : List Survivor) (n
   once_news : Distinct (numbers (reverse news))
   once_news = nums.distinct_reverse news (nums.apart_distinct news t.apart)
 
-  pub moved_read : (old new : Addr) → Contains (moves_of h.chunks ss (reverse news)) (old, new) → cell_of (collected h ss (reverse news)).chunks new ≡ led (redirection h.chunks ss (reverse news)) (cell_of h.chunks old)
+  pub moved_read : (old new : Addr) → Contains (moves_of h.chunks ss (reverse news)) (old, new) → cell_of (collected h ss (reverse news)).chunks new ≡ led_cell (redirection h.chunks ss (reverse news)) (cell_of h.chunks old)
   moved_read old new c =
       let xs = smalls h.chunks (olds ss) in
       let i = in_from_contains (moves_of h.chunks ss (reverse news)) (old, new) c in
       let there : cell_of (laid_all (before (reverse news)) h.chunks xs).laid new ≡ cell_of h.chunks old = relocated (before (reverse news)) h.chunks xs once_news room (λ a j. laws.born_object h.chunks a (small a j).0) (old, new) i in
       let object : IsObject (cell_of h.chunks old).mark = laws.born_object h.chunks old (small old (moved_from (before (reverse news)) h.chunks xs (old, new) i)).0 in
-      let read : cell_of (laid_of h ss (reverse news)) new ≡ led (redirection h.chunks ss (reverse news)) (cell_of h.chunks old) =
-      led_there (redirection h.chunks ss (reverse news)) (laid_all (before (reverse news)) h.chunks xs).laid new ∙ ap (led (redirection h.chunks ss (reverse news))) there in
+      let read : cell_of (laid_of h ss (reverse news)) new ≡ led_cell (redirection h.chunks ss (reverse news)) (cell_of h.chunks old) =
+      led_there (redirection h.chunks ss (reverse news)) (laid_all (before (reverse news)) h.chunks xs).laid new ∙ ap (led_cell (redirection h.chunks ss (reverse news))) there in
       extent.in_first (laid_of h ss (reverse news)) (kept_of h ss (reverse news) ++ reserved_of h.chunks h.reserved) new
       (object_number (laid_of h ss (reverse news)) new (subst (λ (d : Cell). IsObject d.mark) (sym read) object)) ∙ read
 
@@ -229,10 +229,10 @@ module _ (h : LeafHeapValue) (from : List (Option Addr)) (ss : List Survivor) (n
     own : (k : ChunkValue) × (In h.chunks k × (k.number ≡ a.chunk))
     own = extent.chunk_in h.chunks a.chunk (object_number h.chunks a (laws.born_object h.chunks a live))
 
-    pub large_read : cell_of (collected h ss (reverse news)).chunks a ≡ led (redirection h.chunks ss (reverse news)) (cell_of h.chunks a)
+    pub large_read : cell_of (collected h ss (reverse news)).chunks a ≡ led_cell (redirection h.chunks ss (reverse news)) (cell_of h.chunks a)
     large_read = in_its own.0 own.1.0 own.1.1
       where
-        in_its : (k : ChunkValue) → In h.chunks k → k.number ≡ a.chunk → cell_of (collected h ss (reverse news)).chunks a ≡ led (redirection h.chunks ss (reverse news)) (cell_of h.chunks a)
+        in_its : (k : ChunkValue) → In h.chunks k → k.number ≡ a.chunk → cell_of (collected h ss (reverse news)).chunks a ≡ led_cell (redirection h.chunks ss (reverse news)) (cell_of h.chunks a)
         in_its k j q =
             let f = redirection h.chunks ss (reverse news) in
             let there : cell_of h.chunks a ≡ cell_at k.cells a.offset = extent.chunk_there h.chunks k once_h j a q in
@@ -248,7 +248,7 @@ module _ (h : LeafHeapValue) (from : List (Option Addr)) (ss : List Survivor) (n
             let stays = in_kept (keeps ss) (unreserved h.chunks h.reserved) k (unreserved_in h.chunks h.reserved reserved k j full) kept in
             let out = λ (z : In (numbers (laid_of h ss (reverse news))) a.chunk). laid_apart a.chunk z (object_number h.chunks a (laws.born_object h.chunks a live)) in
             naming.goal_kept h.chunks ss f h.reserved (laid_of h ss (reverse news)) tidy once_h (once_from (olds ss) s.once) s.names laid_apart laid_once (within_of h.chunks h.reserved reserved) (none_of h.chunks h.reserved reserved) a out k stays q
-            ∙ (led_cell f k.cells a.offset ∙ ap (led f) (sym there))
+            ∙ (led_cell_at f k.cells a.offset ∙ ap (led_cell f) (sym there))
           where
             at_first : (k : ChunkValue) → k.number ≡ a.chunk → k.cells ≡ cell_at k.cells 0 ∷ [] → IsBorn (cell_at k.cells a.offset).mark → (o : ℕ) → o ≡ a.offset → a ≡ first_of k
             at_first k q alone born zero z = λ e. record { chunk = sym q e; offset = sym z e }

@@ -15,7 +15,7 @@ use Rattle.listed.proofs.Members.{In, contains_from_in, in_from_contains}
 use Rattle.leaf_copy_gc.specs.declared.lists.Survivor.{Survivor}
 use Rattle.leaf_copy_gc.specs.Survivors.{olds}
 use Rattle.leaf_copy_gc.specs.Laid.{is_small}
-use Rattle.leaf_copy_gc.specs.Redirected.{led}
+use Rattle.leaf_copy_gc.specs.Redirected.{led_cell}
 use Rattle.leaf_copy_gc.specs.Exchanged.{emptied, goes, stays, unreserved, reserved_of}
 use Rattle.leaf_copy_gc.specs.Collected.{AreAlike, keeps, leaves}
 use Rattle.leaf_copy_gc.proofs.Puts as puts
@@ -72,11 +72,11 @@ first_of k = record { chunk = k.number; offset = 0 }
 module _ (ss : List Survivor) (f : Option Addr → Option Addr) where
   -- the chunk of a large survivor, marked as found and with its references led
   abbrev pub marked_chunk : ChunkValue → ChunkValue
-  marked_chunk k = record k { cells = map (λ (c : Cell). led f (with_mark c (Moved (first_of k)))) k.cells }
+  marked_chunk k = record k { cells = map (λ (c : Cell). led_cell f (with_mark c (Moved (first_of k)))) k.cells }
 
   abbrev pub LeftIn : List ChunkValue → List ChunkValue → Type 0
   LeftIn hs gs = (a : Addr) → In (numbers hs) a.chunk →
-      (Contains (olds ss) a → is_small hs a ≡ false → cell_of gs a ≡ led f (with_mark (cell_of hs a) (Moved a)))
+      (Contains (olds ss) a → is_small hs a ≡ false → cell_of gs a ≡ led_cell f (with_mark (cell_of hs a) (Moved a)))
       × ((Contains (olds ss) a → ⊥) → cell_of gs a ≡ cell_of hs a)
 
   left_tail : (k l : ChunkValue) (ks ls : List ChunkValue) → l.number ≡ k.number → (In (numbers ks) k.number → ⊥) → LeftIn (k ∷ ks) (l ∷ ls) → LeftIn ks ls
@@ -85,7 +85,7 @@ module _ (ss : List Survivor) (f : Option Addr → Option Addr) where
       let was = extent.later k ks a out in
       let is = extent.later l ls a (λ e. out (sym n ∙ e)) in
       let both = left a (inr i) in (
-        λ c s. sym is ∙ (both.0 c (ap (λ (d : Cell). nat_le (size_of d) 1024) was ∙ s) ∙ ap (λ (d : Cell). led f (with_mark d (Moved a))) was),
+        λ c s. sym is ∙ (both.0 c (ap (λ (d : Cell). nat_le (size_of d) 1024) was ∙ s) ∙ ap (λ (d : Cell). led_cell f (with_mark d (Moved a))) was),
         λ c. sym is ∙ (both.1 c ∙ was),
       )
 
@@ -99,7 +99,7 @@ module _ (ss : List Survivor) (f : Option Addr → Option Addr) where
   and_false b = refl
 
   module _ (k l : ChunkValue) (tidy : IsTidy k) (n : l.number ≡ k.number) (size : l.size ≡ k.size) (sizes : map size_of l.cells ≡ map size_of k.cells)
-      (large : Contains (olds ss) (first_of k) → nat_le (size_of (cell_at k.cells 0)) 1024 ≡ false → cell_at l.cells 0 ≡ led f (with_mark (cell_at k.cells 0) (Moved (first_of k))))
+      (large : Contains (olds ss) (first_of k) → nat_le (size_of (cell_at k.cells 0)) 1024 ≡ false → cell_at l.cells 0 ≡ led_cell f (with_mark (cell_at k.cells 0) (Moved (first_of k))))
       (other : (Contains (olds ss) (first_of k) → ⊥) → cell_at l.cells 0 ≡ cell_at k.cells 0) where
     same_size : nat_le (size_of (cell_at l.cells 0)) 1024 ≡ nat_le (size_of (cell_at k.cells 0)) 1024
     same_size = ap (λ (m : ℕ). nat_le m 1024) (first_size k.cells l.cells sizes)
@@ -122,8 +122,8 @@ module _ (ss : List Survivor) (f : Option Addr → Option Addr) where
               let one = alone_first k tidy big in
               let was = one_cell k.cells one in
               let is = one_cell l.cells (one_length k.cells l.cells sizes one) in
-              let cells : l.cells ≡ map (λ (c : Cell). led f (with_mark c (Moved (first_of k)))) k.cells =
-              is ∙ (ap (λ (c : Cell). c ∷ []) (large (contains_from_in (olds ss) (first_of k) i) e) ∙ sym (ap (map (λ (c : Cell). led f (with_mark c (Moved (first_of k))))) was)) in
+              let cells : l.cells ≡ map (λ (c : Cell). led_cell f (with_mark c (Moved (first_of k)))) k.cells =
+              is ∙ (ap (λ (c : Cell). c ∷ []) (large (contains_from_in (olds ss) (first_of k) i) e) ∙ sym (ap (map (λ (c : Cell). led_cell f (with_mark c (Moved (first_of k))))) was)) in
               (λ j. record { number = n j; size = size j; cells = cells j })
           | inr m ↦ absurd (false≢true (sym (any_none ss (first_of k) m) ∙ t))
         ]
@@ -150,7 +150,7 @@ module _ (ss : List Survivor) (f : Option Addr → Option Addr) where
       let is = extent.here l ls (first_of k) a.0.0 in
       let both = left (first_of k) (inl refl) in (
         pair k l (All-head IsTidy k ks t) a.0.0 a.0.1 a.0.2
-            (λ c s. sym is ∙ (both.0 c (ap (λ (x : Cell). nat_le (size_of x) 1024) was ∙ s) ∙ ap (λ (x : Cell). led f (with_mark x (Moved (first_of k)))) was))
+            (λ c s. sym is ∙ (both.0 c (ap (λ (x : Cell). nat_le (size_of x) 1024) was ∙ s) ∙ ap (λ (x : Cell). led_cell f (with_mark x (Moved (first_of k)))) was))
             (λ c. sym is ∙ (both.1 c ∙ was)),
         pairs ks ls a.1 (All-tail IsTidy k ks t) d.1 (left_tail k l ks ls a.0.0 d.0 left),
       )

@@ -14,7 +14,7 @@ use Rattle.listed.proofs.Members.{In}
 use Rattle.leaf_copy_gc.specs.declared.lists.Survivor.{Survivor}
 use Rattle.leaf_copy_gc.specs.Survivors.{olds}
 use Rattle.leaf_copy_gc.specs.Laid.{before, laid_all, laid_one, opened, open_next, placed, room_in, smalls, AreNew, Laying}
-use Rattle.leaf_copy_gc.specs.Redirected.{led, led_chunk}
+use Rattle.leaf_copy_gc.specs.Redirected.{led_cell, led_chunk}
 use Rattle.leaf_copy_gc.specs.Exchanged.{reserved_of, unreserved}
 use Rattle.leaf_copy_gc.specs.Collected.{keeps, laying_of}
 use Rattle.leaf_copy_gc.proofs.Moves.{in_smalls}
@@ -62,19 +62,19 @@ laid_tidy k a = record {
 
 led_tidy : (f : Option Addr → Option Addr) (k : ChunkValue) → IsTidy k → IsTidy (led_chunk f k)
 led_tidy f k t = record {
-  unmoved = All-map (λ (c : Cell). moved_to c.mark ≡ None) (led f) k.cells t.unmoved;
+  unmoved = All-map (λ (c : Cell). moved_to c.mark ≡ None) (led_cell f) k.cells t.unmoved;
   alone =
-      let count : length (map (led f) k.cells) ≡ length k.cells = length-map k.cells (led f) in
-      All-map (λ (c : Cell). 1024 < size_of c → length (map (led f) k.cells) ≡ 1) (led f) k.cells
-      (All-weaker (λ (c : Cell). 1024 < size_of c → length k.cells ≡ 1) (λ (c : Cell). 1024 < size_of (led f c) → length (map (led f) k.cells) ≡ 1)
+      let count : length (map (led_cell f) k.cells) ≡ length k.cells = length-map k.cells (led_cell f) in
+      All-map (λ (c : Cell). 1024 < size_of c → length (map (led_cell f) k.cells) ≡ 1) (led_cell f) k.cells
+      (All-weaker (λ (c : Cell). 1024 < size_of c → length k.cells ≡ 1) (λ (c : Cell). 1024 < size_of (led_cell f c) → length (map (led_cell f) k.cells) ≡ 1)
       (λ c p l. let n : length (map f c.refs) ≡ length c.refs = length-map c.refs f in count ∙ p (omega arith)) k.cells t.alone);
   exact =
-      All-map (λ (c : Cell). 1024 < size_of c → k.size ≡ 1024 * units (size_of c)) (led f) k.cells
-      (All-weaker (λ (c : Cell). 1024 < size_of c → k.size ≡ 1024 * units (size_of c)) (λ (c : Cell). 1024 < size_of (led f c) → k.size ≡ 1024 * units (size_of (led f c)))
+      All-map (λ (c : Cell). 1024 < size_of c → k.size ≡ 1024 * units (size_of c)) (led_cell f) k.cells
+      (All-weaker (λ (c : Cell). 1024 < size_of c → k.size ≡ 1024 * units (size_of c)) (λ (c : Cell). 1024 < size_of (led_cell f c) → k.size ≡ 1024 * units (size_of (led_cell f c)))
       (λ c p l.
       let n : length (map f c.refs) ≡ length c.refs = length-map c.refs f in
       p (omega arith) ∙ ap (λ (m : ℕ). 1024 * units (2 + (m + length c.ints))) (sym n)) k.cells t.exact);
-  few = λ l. let n : length (map (led f) k.cells) ≡ length k.cells = length-map k.cells (led f) in let m : length k.cells ≤ 1 = t.few l in omega arith;
+  few = λ l. let n : length (map (led_cell f) k.cells) ≡ length k.cells = length-map k.cells (led_cell f) in let m : length k.cells ≤ 1 = t.few l in omega arith;
 }
 
 all_led : (f : Option Addr → Option Addr) (ks : List ChunkValue) → AreTidy ks → AreTidy (map (led_chunk f) ks)

@@ -4,7 +4,7 @@ use Rattle.std.proofs.lemmas.List.{length-map, get_or-append_right, get_or-drop,
 use Rattle.std.proofs.lemmas.List.Edits.{map_over_more}
 use Rattle.object_layout.specs.declared.word.Addr.{Addr}
 use Rattle.object_layout.specs.Cell.{Cell, with_ref, size_of}
-use Rattle.leaf_copy_gc.specs.Redirected.{led}
+use Rattle.leaf_copy_gc.specs.Redirected.{led_cell}
 
 -- as far as the references below k
 abbrev pub led_upto : (Option Addr → Option Addr) → ℕ → Cell → Cell
@@ -30,7 +30,7 @@ module _ (f : Option Addr → Option Addr) (c : Cell) where
   pub upto_none : led_upto f 0 c ≡ c
   upto_none = refl
 
-  pub upto_all : (n : ℕ) → n ≡ length c.refs → led_upto f n c ≡ led f c
+  pub upto_all : (n : ℕ) → n ≡ length c.refs → led_upto f n c ≡ led_cell f c
   upto_all n e = rw (e, take_all (length c.refs) c.refs (omega arith), drop_all (length c.refs) c.refs (omega arith), append-nil) refl
 
   module _ (k : ℕ) (l : k < length c.refs) where

@@ -12,7 +12,7 @@ use Rattle.object_layout.specs.Chunks.{same_address}
 use Rattle.leaf_copy_gc.specs.declared.lists.Survivor.{Survivor}
 use Rattle.leaf_copy_gc.specs.Survivors.{HaveNames, IsSurvivor, olds, survivor_order}
 use Rattle.leaf_copy_gc.specs.Laid.{Laying, before, is_small, laid_all, relocations, smalls}
-use Rattle.leaf_copy_gc.specs.Redirected.{led, led_chunk, redirected}
+use Rattle.leaf_copy_gc.specs.Redirected.{led_cell, led_chunk, redirected}
 use Rattle.leaf_copy_gc.specs.Exchanged.{emptied, last_place, reserved_of, reserved_place, unreserved}
 
 -- exactly what the references from outside lead to, each once, under its name, in order of birth
@@ -46,7 +46,7 @@ AreAlike (k ∷ ks) (l ∷ ls) = ((l.number ≡ k.number) × (l.size ≡ k.size)
 -- a large survivor is where it was, marked as found, with its references led; what doesn't survive is as it was
 pub record IsLeft (h g : List ChunkValue) (ss : List Addr) (f : Option Addr → Option Addr) : Type 0 where
   pub alike : AreAlike h g
-  pub large : (a : Addr) → Contains ss a → is_small h a ≡ false → cell_of g a ≡ led f (with_mark (cell_of h a) (Moved a))
+  pub large : (a : Addr) → Contains ss a → is_small h a ≡ false → cell_of g a ≡ led_cell f (with_mark (cell_of h a) (Moved a))
   pub others : (a : Addr) → (Contains ss a → ⊥) → cell_of g a ≡ cell_of h a
 
 -- ---- what a heap becomes

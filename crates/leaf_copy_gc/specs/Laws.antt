@@ -9,7 +9,7 @@ use Rattle.leaf_copy_gc.specs.declared.lists.Survivor.{Survivor}
 use Rattle.leaf_copy_gc.specs.Survivors.{live_count, olds}
 use Rattle.leaf_copy_gc.specs.Laid.{AreNew, is_small, small_words}
 use Rattle.remembered_set.specs.Moved.{new_of, ArePlaces}
-use Rattle.leaf_copy_gc.specs.Redirected.{led, redirected}
+use Rattle.leaf_copy_gc.specs.Redirected.{led_cell, redirected}
 use Rattle.leaf_copy_gc.specs.Collected.{AreSurvivors, back_of, collected, moves_of, redirection}
 
 -- so many chunks are new, numbered apart, and enough for the heap
@@ -25,7 +25,7 @@ MovedAreRead =
     (h : LeafHeapValue) (from : List (Option Addr)) (ss : List Survivor) (news : List ChunkValue)
     → AreSurvivors h.chunks from ss → CanTake h.chunks news
     → (old new : Addr) → Contains (moves_of h.chunks ss (reverse news)) (old, new)
-    → cell_of (collected h ss (reverse news)).chunks new ≡ led (redirection h.chunks ss (reverse news)) (cell_of h.chunks old)
+    → cell_of (collected h ss (reverse news)).chunks new ≡ led_cell (redirection h.chunks ss (reverse news)) (cell_of h.chunks old)
 
 -- a large survivor is read where it was, as it was, its references led
 abbrev pub LargeAreRead : Type 0
@@ -33,7 +33,7 @@ LargeAreRead =
     (h : LeafHeapValue) (from : List (Option Addr)) (ss : List Survivor) (news : List ChunkValue)
     → AreSurvivors h.chunks from ss → CanTake h.chunks news → IsSettled h.chunks → IsReserved h.chunks h.reserved
     → (a : Addr) → Contains (olds ss) a → is_small h.chunks a ≡ false
-    → cell_of (collected h ss (reverse news)).chunks a ≡ led (redirection h.chunks ss (reverse news)) (cell_of h.chunks a)
+    → cell_of (collected h ss (reverse news)).chunks a ≡ led_cell (redirection h.chunks ss (reverse news)) (cell_of h.chunks a)
 
 -- in a heap as it is between collections, what a collection needs is what the heap counts
 abbrev pub NeedsAreCounted : Type 0

@@ -4,7 +4,7 @@ use Rattle.object_layout.specs.declared.word.Addr.{Addr}
 use Rattle.object_layout.specs.Cell.{Cell, IsObject, moved_to}
 use Rattle.object_layout.specs.ChunkValue.{ChunkValue}
 use Rattle.object_layout.specs.Chunks.{cell_of, place_of, put_object}
-pub use Rattle.object_layout.specs.Objects.{led, led_chunk}
+pub use Rattle.object_layout.specs.Objects.{led_cell, led_chunk}
 use Rattle.remembered_set.specs.Moved.{new_of}
 use Rattle.task_frames.specs.declared.frames.Frame.{Frame}
 use Rattle.leaf_copy_gc.specs.declared.lists.Survivor.{Survivor}
@@ -41,7 +41,7 @@ HasTargets h c = IsObject c.mark × All (IsTarget h) c.refs
 
 -- the heap with the references of one object led to where their objects are now
 abbrev pub followed_at : List ChunkValue → Addr → List ChunkValue
-followed_at h a = put_object h a (led (followed_ref h) (cell_of h a))
+followed_at h a = put_object h a (led_cell (followed_ref h) (cell_of h a))
 
 -- the same, where the object is large
 abbrev pub followed_large : List ChunkValue → Survivor → List ChunkValue

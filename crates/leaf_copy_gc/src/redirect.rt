@@ -8,7 +8,7 @@ ghost use Rattle.task_frames.specs.FramesValue.{frames_of};
 ghost use Rattle.leaf_copy_gc.specs.Survivors.{held_by, with_chunks};
 ghost use Rattle.leaf_copy_gc.specs.Near.{Knows};
 ghost use Rattle.leaf_copy_gc.specs.Search.{IsTarget};
-ghost use Rattle.leaf_copy_gc.specs.Redirected.{followed, followed_at, followed_large, followed_ref, led, led_chunk, led_frame, CanFollow, HasTargets};
+ghost use Rattle.leaf_copy_gc.specs.Redirected.{followed, followed_at, followed_large, followed_ref, led_cell, led_chunk, led_frame, CanFollow, HasTargets};
 
 use crate::collector::Collector;
 use crate::copying::{SMALL, size_at};
@@ -64,7 +64,7 @@ fn follow_refs(chunk: &mut Chunk, at: u32, heap: &Space, near: &mut Near)
     requires object { IsObjectAt chunk.old.cells at }
     requires targets { All (IsTarget heap.now.chunks) (cell_at chunk.old.cells at).refs }
     ensures known { Knows near.new heap.now.chunks }
-    ensures led { chunk.new ≡ record chunk.old { cells = put_cell chunk.old.cells at (led (followed_ref heap.now.chunks) (cell_at chunk.old.cells at)) } }
+    ensures led { chunk.new ≡ record chunk.old { cells = put_cell chunk.old.cells at (led_cell (followed_ref heap.now.chunks) (cell_at chunk.old.cells at)) } }
 {
     for field in 0..header_at(chunk, at).nrefs {
         let now = follow_near(heap, near, ref_at(chunk, at, field));

@@ -9,7 +9,7 @@ use Rattle.object_layout.specs.Cell.{Born, Cell, Hole, Mark, Moved, no_cell, siz
 use Rattle.object_layout.specs.ChunkValue.{ChunkValue}
 use Rattle.object_layout.specs.Chunks.{cell_of, put_object, with_cell}
 use Rattle.object_layout.specs.Place.{cell_at, put_cell, words_in}
-use Rattle.object_layout.specs.Objects.{Located, changed_at, led, led_object, located, located_by, objects_from, objects_of, sifted_cells, swept_cell, with_fields}
+use Rattle.object_layout.specs.Objects.{Located, changed_at, led_cell, led_object, located, located_by, objects_from, objects_of, sifted_cells, swept_cell, with_fields}
 use Rattle.object_layout.specs.ObjectLaws.{AppendedIsLast, LedAreRead, PutChangesOne, SiftedAreKept}
 use Rattle.object_layout.proofs.Owning.{fresh_none}
 use Rattle.object_layout.proofs.ObjectLemmas.{has_own}
@@ -154,13 +154,13 @@ sifted_are_kept keep k = sifted_kept keep k.cells k.number 0
 
 -- ---- references are led
 
-led_read : (f : Option Addr → Option Addr) (cs : List Cell) (number base : ℕ) → objects_from number base (map (led f) cs) ≡ map (led_object f) (objects_from number base cs)
+led_read : (f : Option Addr → Option Addr) (cs : List Cell) (number base : ℕ) → objects_from number base (map (led_cell f) cs) ≡ map (led_object f) (objects_from number base cs)
 led_read f [] number base = refl
 led_read f (c ∷ cs) number base =
-    ap (λ n. located_by number base (led f c) c.mark (objects_from number (base + (2 + (n + length c.ints))) (map (led f) cs))) (length-map c.refs f)
-    ∙ (ap (located_by number base (led f c) c.mark) (led_read f cs number (base + size_of c)) ∙ along c.mark (objects_from number (base + size_of c) cs))
+    ap (λ n. located_by number base (led_cell f c) c.mark (objects_from number (base + (2 + (n + length c.ints))) (map (led_cell f) cs))) (length-map c.refs f)
+    ∙ (ap (located_by number base (led_cell f c) c.mark) (led_read f cs number (base + size_of c)) ∙ along c.mark (objects_from number (base + size_of c) cs))
   where
-    along : (m : Mark) (os : List Located) → located_by number base (led f c) m (map (led_object f) os) ≡ map (led_object f) (located_by number base c m os)
+    along : (m : Mark) (os : List Located) → located_by number base (led_cell f c) m (map (led_object f) os) ≡ map (led_object f) (located_by number base c m os)
     along (Born b) os = refl
     along (Moved to) os = refl
     along Hole os = refl

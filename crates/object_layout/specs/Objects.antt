@@ -47,11 +47,11 @@ abbrev pub changed_at : Addr → Cell → Located → Located
 changed_at a d o = if same_address o.at a then with_fields d o else o
 
 -- each reference of a cell, of a chunk's cells and of an object led elsewhere
-abbrev pub led : (Option Addr → Option Addr) → Cell → Cell
-led f c = record c { refs = map f c.refs }
+abbrev pub led_cell : (Option Addr → Option Addr) → Cell → Cell
+led_cell f c = record c { refs = map f c.refs }
 
 abbrev pub led_chunk : (Option Addr → Option Addr) → ChunkValue → ChunkValue
-led_chunk f k = record k { cells = map (led f) k.cells }
+led_chunk f k = record k { cells = map (led_cell f) k.cells }
 
 abbrev pub led_object : (Option Addr → Option Addr) → Located → Located
 led_object f o = record o { refs = map f o.refs }
