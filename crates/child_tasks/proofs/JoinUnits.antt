@@ -8,8 +8,8 @@ use Rattle.run_ledger.specs.declared.data.Heap.{Heap as Account}
 use Rattle.run_ledger.specs.declared.data.Ledger.{Ledger}
 use Rattle.object_layout.specs.declared.word.Addr.{Addr}
 use Rattle.object_layout.specs.ChunkValue.{ChunkValue}
-use Rattle.chunk_pool.specs.declared.pool.Held.{Held}
-use Rattle.chunk_pool.specs.PoolValue.{PoolValue, held_at}
+use Rattle.chunk_pool.specs.declared.pool.Slot.{Slot}
+use Rattle.chunk_pool.specs.PoolValue.{PoolValue, slot_at}
 use Rattle.alloc_path.specs.LeafHeapValue.{LeafHeapValue, merged, with_places}
 use Rattle.task_frames.specs.FramesValue.{FramesValue}
 use Rattle.heap_tree.specs.declared.state.State.TheVariants.{Ended}
@@ -92,8 +92,8 @@ module _ (w : SharedValue) (k : ℕ) (p : Private) (I : IsSharedValue w) (F : Fi
     module _ (homes : List (Option Rest)) (pool : PoolValue) (heap : LeafHeapValue) (H : HomesJoin w.homes homes p q s (with_results frames al ar) heap above) (relabelled : AreRelabelled w.pool pool (lh.chunks ++ rh.chunks) q)
         (heap_is : heap ≡ with_places (merged above.heap lh rh) heap.slots heap.spare) where
       -- what is of neither child stays
-      owner_of_one : (u n units v : ℕ) (cs : List ChunkValue) (x : ChunkValue) → In cs x → x.number ≡ n → AreMeasured w.pool v cs → held_at w.pool n ≡ Some (record { owner = u; units = units }) → u ≡ v
-      owner_of_one u n units v cs x i e M h = same_Some u v (ap (option_map (λ (z : Held). z.owner)) (sym h ∙ (ap (held_at w.pool) (sym e) ∙ M x i)))
+      owner_of_one : (u n units v : ℕ) (cs : List ChunkValue) (x : ChunkValue) → In cs x → x.number ≡ n → AreMeasured w.pool v cs → slot_at w.pool n ≡ Some (record { owner = u; units = units }) → u ≡ v
+      owner_of_one u n units v cs x i e M h = same_Some u v (ap (option_map (λ (z : Slot). z.owner)) (sym h ∙ (ap (slot_at w.pool) (sym e) ∙ M x i)))
 
       units_stay : (u : ℕ) → (u ≡ c → ⊥) → (u ≡ c + 1 → ⊥) → KeepsUnits w.pool pool u
       units_stay u nc nd =

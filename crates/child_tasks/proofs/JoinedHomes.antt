@@ -13,7 +13,7 @@ use Rattle.run_ledger.specs.Heaps.{heap_of}
 use Rattle.object_layout.specs.declared.word.Addr.{Addr}
 use Rattle.object_layout.specs.Chunks.{AreApart, has_chunk}
 use Rattle.object_layout.proofs.Owning.{apart_together, has_append}
-use Rattle.chunk_pool.specs.PoolValue.{held_at}
+use Rattle.chunk_pool.specs.PoolValue.{slot_at}
 use Rattle.alloc_path.specs.LeafHeapValue.{LeafHeapValue}
 use Rattle.alloc_path.specs.View.{Level}
 use Rattle.task_frames.specs.FramesValue.{FramesValue}
@@ -250,10 +250,10 @@ module _ (w : SharedValue) (k : ℕ) (p : Private) (I : IsSharedValue w) (F : Fi
 
     -- and are in use
     pub left_used : AreInUse w.pool lh.chunks
-    left_used = all_from (λ y. IsSome (held_at w.pool y.number)) lh.chunks (λ y i. owner_held w.pool y.number c (owner_at c lh child_homes.0 rests_c y.number (in_has lh.chunks y i)))
+    left_used = all_from (λ y. IsSome (slot_at w.pool y.number)) lh.chunks (λ y i. owner_held w.pool y.number c (owner_at c lh child_homes.0 rests_c y.number (in_has lh.chunks y i)))
 
     pub right_used : AreInUse w.pool rh.chunks
-    right_used = all_from (λ y. IsSome (held_at w.pool y.number)) rh.chunks (λ y i. owner_held w.pool y.number (c + 1) (owner_at (c + 1) rh child_homes.1 rests_d y.number (in_has rh.chunks y i)))
+    right_used = all_from (λ y. IsSome (slot_at w.pool y.number)) rh.chunks (λ y i. owner_held w.pool y.number (c + 1) (owner_at (c + 1) rh child_homes.1 rests_d y.number (in_has rh.chunks y i)))
 
     pub child_of_two : (t ≡ c) ⊎ (t ≡ c + 1)
     child_of_two = by side

@@ -6,31 +6,31 @@ use Rattle.std.proofs.lemmas.List.Elements.{All-append, All-cons, All-head, All-
 use Rattle.object_layout.specs.ChunkValue.{ChunkValue}
 use Rattle.object_layout.specs.Chunks.{has_chunk, AreApart}
 use Rattle.object_layout.proofs.Owning.{apart_more, has_append, has_one}
-use Rattle.chunk_pool.specs.declared.pool.Held.{Held}
-use Rattle.chunk_pool.specs.PoolValue.{AreNumbered, IsBlank, NumbersBehind, held_in, one_unit, units_held, units_in}
+use Rattle.chunk_pool.specs.declared.pool.Slot.{Slot}
+use Rattle.chunk_pool.specs.PoolValue.{AreNumbered, IsBlank, NumbersBehind, slot_in, one_unit, slot_units, units_in}
 use Rattle.chunk_pool.proofs.UnitLemmas.{units_changed}
 
-pub numbered_none : (xs : List (Option Held)) (owner : ℕ) → AreNumbered xs xs owner []
+pub numbered_none : (xs : List (Option Slot)) (owner : ℕ) → AreNumbered xs xs owner []
 numbered_none xs owner = record {
-  were_free = All-nil (λ k. held_in xs k.number ≡ None);
+  were_free = All-nil (λ k. slot_in xs k.number ≡ None);
   apart = tt;
   each = λ n. refl;
   units = omega arith;
 }
 
-module _ (xs ys zs : List (Option Held)) (owner : ℕ) (ks : List ChunkValue) (k : ChunkValue) (was : AreNumbered xs ys owner ks)
-    (free : held_in ys k.number ≡ None) (now : held_in zs k.number ≡ Some (one_unit owner)) (others : (n : ℕ) → n ≢ k.number → held_in zs n ≡ held_in ys n) where
-  abbrev mine : Option Held
+module _ (xs ys zs : List (Option Slot)) (owner : ℕ) (ks : List ChunkValue) (k : ChunkValue) (was : AreNumbered xs ys owner ks)
+    (free : slot_in ys k.number ≡ None) (now : slot_in zs k.number ≡ Some (one_unit owner)) (others : (n : ℕ) → n ≢ k.number → slot_in zs n ≡ slot_in ys n) where
+  abbrev mine : Option Slot
   mine = Some (one_unit owner)
 
   new : has_chunk ks k.number ≡ false
   new = elim (cases_Bool (has_chunk ks k.number)) [
-    | inl e ↦ absurd (let h : mine ≡ None = sym (cond-true (has_chunk ks k.number) mine (held_in xs k.number) e) ∙ (sym (was.each k.number) ∙ free) in cc)
+    | inl e ↦ absurd (let h : mine ≡ None = sym (cond-true (has_chunk ks k.number) mine (slot_in xs k.number) e) ∙ (sym (was.each k.number) ∙ free) in cc)
     | inr e ↦ e
   ]
 
-  first_free : held_in xs k.number ≡ None
-  first_free = sym (cond-false (has_chunk ks k.number) mine (held_in xs k.number) new) ∙ (sym (was.each k.number) ∙ free)
+  first_free : slot_in xs k.number ≡ None
+  first_free = sym (cond-false (has_chunk ks k.number) mine (slot_in xs k.number) new) ∙ (sym (was.each k.number) ∙ free)
 
   both : (n : ℕ) → has_chunk (ks ++ k ∷ []) n ≡ (has_chunk ks n || eqb k.number n)
   both n = has_append ks (k ∷ []) n ∙ ap (λ b. has_chunk ks n || b) (has_one k n)
@@ -43,34 +43,34 @@ module _ (xs ys zs : List (Option Held)) (owner : ℕ) (ks : List ChunkValue) (k
   or_same true = refl
   or_same false = refl
 
-  each : (n : ℕ) → held_in zs n ≡ cond (has_chunk (ks ++ k ∷ []) n) mine (held_in xs n)
+  each : (n : ℕ) → slot_in zs n ≡ cond (has_chunk (ks ++ k ∷ []) n) mine (slot_in xs n)
   each n = elim (cases_eq n k.number) [
     | inl e ↦
         let there : has_chunk (ks ++ k ∷ []) n ≡ true = both n ∙ (ap (λ b. has_chunk ks n || b) (eq-eqb k.number n (sym e)) ∙ or_true (has_chunk ks n)) in
-        ap (held_in zs) e ∙ (now ∙ sym (cond-true (has_chunk (ks ++ k ∷ []) n) mine (held_in xs n) there))
+        ap (slot_in zs) e ∙ (now ∙ sym (cond-true (has_chunk (ks ++ k ∷ []) n) mine (slot_in xs n) there))
     | inr ne ↦
         let same : has_chunk (ks ++ k ∷ []) n ≡ has_chunk ks n = both n ∙ (ap (λ b. has_chunk ks n || b) (ne_eqb k.number n (λ h. ne (sym h))) ∙ or_same (has_chunk ks n)) in
-        others n ne ∙ (was.each n ∙ sym (ap (λ b. cond b mine (held_in xs n)) same))
+        others n ne ∙ (was.each n ∙ sym (ap (λ b. cond b mine (slot_in xs n)) same))
   ]
 
   pub numbered_more : AreNumbered xs zs owner (ks ++ k ∷ [])
   numbered_more =
-      let change : units_in zs + units_held (get_or ys k.number None) ≡ units_in ys + units_held (get_or zs k.number None) = units_changed k.number ys zs others in
-      let a : units_held (get_or ys k.number None) ≡ 0 = ap units_held free in
-      let b : units_held (get_or zs k.number None) ≡ 1 = ap units_held now in
+      let change : units_in zs + slot_units (get_or ys k.number None) ≡ units_in ys + slot_units (get_or zs k.number None) = units_changed k.number ys zs others in
+      let a : slot_units (get_or ys k.number None) ≡ 0 = ap slot_units free in
+      let b : slot_units (get_or zs k.number None) ≡ 1 = ap slot_units now in
       let more : length (ks ++ k ∷ []) ≡ length ks + 1 = length-append ks (k ∷ []) in
       record {
-        were_free = All-append (λ x. held_in xs x.number ≡ None) ks (k ∷ []) was.were_free (All-cons (λ x. held_in xs x.number ≡ None) k [] first_free (All-nil (λ x. held_in xs x.number ≡ None)));
+        were_free = All-append (λ x. slot_in xs x.number ≡ None) ks (k ∷ []) was.were_free (All-cons (λ x. slot_in xs x.number ≡ None) k [] first_free (All-nil (λ x. slot_in xs x.number ≡ None)));
         apart = apart_more ks k was.apart new;
         each = each;
         units = let u : units_in ys ≡ units_in xs + length ks = was.units in omega (arith, change);
       }
 
-pub behind_none : (xs : List (Option Held)) (owner : ℕ) (was : List ChunkValue) → NumbersBehind xs xs owner 0 was was
+pub behind_none : (xs : List (Option Slot)) (owner : ℕ) (was : List ChunkValue) → NumbersBehind xs xs owner 0 was was
 behind_none xs owner was = record { chunks = []; behind = sym (append-nil was); count = refl; blank = All-nil IsBlank; numbered = numbered_none xs owner }
 
-pub behind_more : (xs ys zs : List (Option Held)) (owner i j : ℕ) (was is : List ChunkValue) (k : ChunkValue) → NumbersBehind xs ys owner i was is → IsBlank k → held_in ys k.number ≡ None
-    → held_in zs k.number ≡ Some (one_unit owner) → ((n : ℕ) → n ≢ k.number → held_in zs n ≡ held_in ys n) → j ≡ i + 1 → NumbersBehind xs zs owner j was (is ++ k ∷ [])
+pub behind_more : (xs ys zs : List (Option Slot)) (owner i j : ℕ) (was is : List ChunkValue) (k : ChunkValue) → NumbersBehind xs ys owner i was is → IsBlank k → slot_in ys k.number ≡ None
+    → slot_in zs k.number ≡ Some (one_unit owner) → ((n : ℕ) → n ≢ k.number → slot_in zs n ≡ slot_in ys n) → j ≡ i + 1 → NumbersBehind xs zs owner j was (is ++ k ∷ [])
 behind_more xs ys zs owner i j was is k b blank free now others e = record {
   chunks = b.chunks ++ k ∷ [];
   behind = ap (λ ks. ks ++ k ∷ []) b.behind ∙ append_assoc was b.chunks (k ∷ []);

@@ -3,12 +3,12 @@ use Rattle.std.proofs.Common.{◌≡◌, ◌≢◌, ℕ, Bool, true, false, ◌�
 use Rattle.std.specs.Prelude.{IfSome, IsSome, option_map}
 use Rattle.std.proofs.lemmas.Bool.{cases_eq, cond-true, cond-false, false≢true}
 use Rattle.object_layout.specs.Chunks.{has_chunk}
-use Rattle.chunk_pool.specs.declared.pool.Held.{Held}
-use Rattle.chunk_pool.specs.PoolValue.{PoolValue, held_at, one_unit, owner_of, KeepsOthers}
+use Rattle.chunk_pool.specs.declared.pool.Slot.{Slot}
+use Rattle.chunk_pool.specs.PoolValue.{PoolValue, slot_at, one_unit, owner_of, KeepsOthers}
 use Rattle.chunk_pool.specs.Laws.{OwnersAreTold, OwnersFrom, OwnersStay, TakenAreOwned}
 
 stay : (old new : PoolValue) (n : ℕ) → KeepsOthers old new n → OwnersStay old new n
-stay old new n kept = λ k ne. ap (λ (o : Option Held). option_map (λ (h : Held). h.owner) o) (kept.others k ne)
+stay old new n kept = λ k ne. ap (λ (o : Option Slot). option_map (λ (h : Slot). h.owner) o) (kept.others k ne)
 
 -- what is kept at the number is one of these
 from : (old new : PoolValue) (n o : ℕ) → KeepsOthers old new n → ((u : ℕ) → owner_of new n ≡ Some u → u ≡ o) → OwnersFrom old new n o
@@ -17,20 +17,20 @@ from old new n o kept here = λ k u e. elim (cases_eq k n) [
   | inr ne ↦ inr (sym (stay old new n kept k ne) ∙ e)
 ]
 
-mapped : (h : Held) (u : ℕ) (o : Option Held) → o ≡ Some h → option_map (λ (x : Held). x.owner) o ≡ Some u → u ≡ h.owner
-mapped h u o is e = let q : Some h.owner ≡ Some u = ap (λ (x : Option Held). option_map (λ (y : Held). y.owner) x) (sym is) ∙ e in cc
+mapped : (h : Slot) (u : ℕ) (o : Option Slot) → o ≡ Some h → option_map (λ (x : Slot). x.owner) o ≡ Some u → u ≡ h.owner
+mapped h u o is e = let q : Some h.owner ≡ Some u = ap (λ (x : Option Slot). option_map (λ (y : Slot). y.owner) x) (sym is) ∙ e in cc
 
-relabelled : (new : PoolValue) (n o : ℕ) (was : Option Held) → IsSome was → IfSome was (λ h. held_at new n ≡ Some (record h { owner = o })) → (u : ℕ) → owner_of new n ≡ Some u → u ≡ o
+relabelled : (new : PoolValue) (n o : ℕ) (was : Option Slot) → IsSome was → IfSome was (λ h. slot_at new n ≡ Some (record h { owner = o })) → (u : ℕ) → owner_of new n ≡ Some u → u ≡ o
 relabelled new n o None used r u e = absurd (false≢true used)
-relabelled new n o (Some h) used r u e = mapped (record h { owner = o }) u (held_at new n) r e
+relabelled new n o (Some h) used r u e = mapped (record h { owner = o }) u (slot_at new n) r e
 
 pub owners_are_told : OwnersAreTold
 owners_are_told = record {
-  taken = λ old new n held t. (from old new n held.owner t.rest (λ u e. mapped held u (held_at new n) t.taken e), stay old new n t.rest);
-  relabelled = λ old new n o used r. (from old new n o r.rest (relabelled new n o (held_at old n) used r.relabelled), stay old new n r.rest);
+  taken = λ old new n held t. (from old new n held.owner t.rest (λ u e. mapped held u (slot_at new n) t.taken e), stay old new n t.rest);
+  relabelled = λ old new n o used r. (from old new n o r.rest (relabelled new n o (slot_at old n) used r.relabelled), stay old new n r.rest);
   given = λ old new n g. (
     (λ k u e. elim (cases_eq k n) [
-      | inl is ↦ absurd (let q : None ≡ Some u = ap (λ (x : Option Held). option_map (λ (y : Held). y.owner) x) (sym g.free) ∙ (ap (owner_of new) (sym is) ∙ e) in cc)
+      | inl is ↦ absurd (let q : None ≡ Some u = ap (λ (x : Option Slot). option_map (λ (y : Slot). y.owner) x) (sym g.free) ∙ (ap (owner_of new) (sym is) ∙ e) in cc)
       | inr ne ↦ sym (stay old new n g.rest k ne) ∙ e
     ]),
     stay old new n g.rest,
@@ -39,6 +39,6 @@ owners_are_told = record {
 
 pub taken_are_owned : TakenAreOwned
 taken_are_owned old new o count was is t k = (
-  (λ e. ap (λ (x : Option Held). option_map (λ (y : Held). y.owner) x) (t.numbers.numbered.each k ∙ cond-true (has_chunk t.numbers.chunks k) (Some (one_unit o)) (held_at old k) e)),
-  (λ e. ap (λ (x : Option Held). option_map (λ (y : Held). y.owner) x) (t.numbers.numbered.each k ∙ cond-false (has_chunk t.numbers.chunks k) (Some (one_unit o)) (held_at old k) e)),
+  (λ e. ap (λ (x : Option Slot). option_map (λ (y : Slot). y.owner) x) (t.numbers.numbered.each k ∙ cond-true (has_chunk t.numbers.chunks k) (Some (one_unit o)) (slot_at old k) e)),
+  (λ e. ap (λ (x : Option Slot). option_map (λ (y : Slot). y.owner) x) (t.numbers.numbered.each k ∙ cond-false (has_chunk t.numbers.chunks k) (Some (one_unit o)) (slot_at old k) e)),
 )

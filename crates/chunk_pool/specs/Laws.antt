@@ -2,8 +2,8 @@
 use Rattle.std.specs.Prelude.{◌≡◌, ◌≢◌, ◌⊎◌, ℕ, true, false, List, IsSome, Some}
 use Rattle.object_layout.specs.ChunkValue.{ChunkValue}
 use Rattle.object_layout.specs.Chunks.{has_chunk}
-use Rattle.chunk_pool.specs.declared.pool.Held.{Held}
-use Rattle.chunk_pool.specs.PoolValue.{PoolValue, held_at, owner_of, Gives, Relabels, Takes, TakesAll}
+use Rattle.chunk_pool.specs.declared.pool.Slot.{Slot}
+use Rattle.chunk_pool.specs.PoolValue.{PoolValue, slot_at, owner_of, Gives, Relabels, Takes, TakesAll}
 
 -- after a change at one number a number belongs to the owner that this one was given, or as before
 abbrev pub OwnersFrom : PoolValue → PoolValue → ℕ → ℕ → Type 0
@@ -14,8 +14,8 @@ abbrev pub OwnersStay : PoolValue → PoolValue → ℕ → Type 0
 OwnersStay old new number = (k : ℕ) → k ≢ number → owner_of new k ≡ owner_of old k
 
 pub record OwnersAreTold : Type 0 where
-  pub taken : (old new : PoolValue) (number : ℕ) (held : Held) → Takes old new number held → OwnersFrom old new number held.owner × OwnersStay old new number
-  pub relabelled : (old new : PoolValue) (number owner : ℕ) → IsSome (held_at old number) → Relabels old new number owner → OwnersFrom old new number owner × OwnersStay old new number
+  pub taken : (old new : PoolValue) (number : ℕ) (held : Slot) → Takes old new number held → OwnersFrom old new number held.owner × OwnersStay old new number
+  pub relabelled : (old new : PoolValue) (number owner : ℕ) → IsSome (slot_at old number) → Relabels old new number owner → OwnersFrom old new number owner × OwnersStay old new number
   pub given : (old new : PoolValue) (number : ℕ) → Gives old new number → ((k u : ℕ) → owner_of new k ≡ Some u → owner_of old k ≡ Some u) × OwnersStay old new number
 
 -- the same of many that were taken: each of them belongs to the owner, any other number to whom it did

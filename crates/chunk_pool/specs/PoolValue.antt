@@ -2,33 +2,33 @@
 use Rattle.std.specs.Prelude.{◌≡◌, ◌≢◌, ℕ, ◌+◌, ◌<◌, ◌≤◌, ◌^◌, All, Option, Some, None, IfSome, List, [], ◌∷◌, ◌++◌, if◌then◌else◌, length, option_map, slice_index_or}
 use Rattle.object_layout.specs.ChunkValue.{ChunkValue}
 use Rattle.object_layout.specs.Chunks.{has_chunk, AreApart}
-use Rattle.chunk_pool.specs.declared.pool.Held.{Held}
+use Rattle.chunk_pool.specs.declared.pool.Slot.{Slot}
 
 -- the limit in units, and for each number from 0 on what is kept of its chunk, if it is in use
 pub record PoolValue : Type 0 where
   pub limit : ℕ
-  pub slots : List (Option Held)
+  pub slots : List (Option Slot)
 
 -- what is kept at a number
-abbrev pub held_in : List (Option Held) → ℕ → Option Held
-held_in slots number = slice_index_or slots number None
+abbrev pub slot_in : List (Option Slot) → ℕ → Option Slot
+slot_in slots number = slice_index_or slots number None
 
 -- what is kept of the chunk of a number, if that is in use
-abbrev pub held_at : PoolValue → ℕ → Option Held
-held_at pool number = held_in pool.slots number
+abbrev pub slot_at : PoolValue → ℕ → Option Slot
+slot_at pool number = slot_in pool.slots number
 
 -- the task that owns the chunk of a number, if that is in use
 abbrev pub owner_of : PoolValue → ℕ → Option ℕ
-owner_of pool number = option_map (λ h. h.owner) (held_at pool number)
+owner_of pool number = option_map (λ h. h.owner) (slot_at pool number)
 
 -- the units of the chunk of a number, 0 where that is not in use
-abbrev pub units_held : Option Held → ℕ
-units_held None = 0
-units_held (Some h) = h.units
+abbrev pub slot_units : Option Slot → ℕ
+slot_units None = 0
+slot_units (Some h) = h.units
 
-abbrev pub units_in : List (Option Held) → ℕ
+abbrev pub units_in : List (Option Slot) → ℕ
 units_in [] = 0
-units_in (slot ∷ slots) = units_held slot + units_in slots
+units_in (slot ∷ slots) = slot_units slot + units_in slots
 
 -- the units of all chunks in use together
 abbrev pub units_in_use : PoolValue → ℕ
@@ -37,24 +37,24 @@ units_in_use pool = units_in pool.slots
 -- the limit, and what is kept of every other number, stay
 pub record KeepsOthers (old new : PoolValue) (number : ℕ) : Type 0 where
   pub limit : new.limit ≡ old.limit
-  pub others : (other : ℕ) → other ≢ number → held_at new other ≡ held_at old other
+  pub others : (other : ℕ) → other ≢ number → slot_at new other ≡ slot_at old other
 
 -- a number that was not in use is in use for this owner and these units; all else stays
-pub record Takes (old new : PoolValue) (number : ℕ) (held : Held) : Type 0 where
-  pub was_free : held_at old number ≡ None
-  pub taken : held_at new number ≡ Some held
+pub record Takes (old new : PoolValue) (number : ℕ) (held : Slot) : Type 0 where
+  pub was_free : slot_at old number ≡ None
+  pub taken : slot_at new number ≡ Some held
   pub units : units_in_use new ≡ units_in_use old + held.units
   pub rest : KeepsOthers old new number
 
 -- a chunk of one unit for an owner
-abbrev pub one_unit : ℕ → Held
+abbrev pub one_unit : ℕ → Slot
 one_unit owner = record { owner = owner; units = 1 }
 
 -- the numbers of these chunks differ and weren't in use; each is in use for this owner and one unit; all else stays
-pub record AreNumbered (old new : List (Option Held)) (owner : ℕ) (ks : List ChunkValue) : Type 0 where
-  pub were_free : All (λ k. held_in old k.number ≡ None) ks
+pub record AreNumbered (old new : List (Option Slot)) (owner : ℕ) (ks : List ChunkValue) : Type 0 where
+  pub were_free : All (λ k. slot_in old k.number ≡ None) ks
   pub apart : AreApart ks
-  pub each : (number : ℕ) → held_in new number ≡ (if has_chunk ks number then Some (one_unit owner) else held_in old number)
+  pub each : (number : ℕ) → slot_in new number ≡ (if has_chunk ks number then Some (one_unit owner) else slot_in old number)
   pub units : units_in new ≡ units_in old + length ks
 
 -- an empty chunk of one unit
@@ -63,7 +63,7 @@ pub record IsBlank (k : ChunkValue) : Type 0 where
   pub cells : k.cells ≡ []
 
 -- so many empty chunks of one unit were numbered, and stand behind the others of a list
-pub record NumbersBehind (old new : List (Option Held)) (owner number : ℕ) (was is : List ChunkValue) : Type 0 where
+pub record NumbersBehind (old new : List (Option Slot)) (owner number : ℕ) (was is : List ChunkValue) : Type 0 where
   pub chunks : List ChunkValue
   pub behind : is ≡ was ++ chunks
   pub count : length chunks ≡ number
@@ -77,22 +77,22 @@ pub record TakesAll (old new : PoolValue) (owner count : ℕ) (was is : List Chu
 
 -- the number is no longer in use; all else stays
 pub record Gives (old new : PoolValue) (number : ℕ) : Type 0 where
-  pub free : held_at new number ≡ None
-  pub units : units_in_use new + units_held (held_at old number) ≡ units_in_use old
+  pub free : slot_at new number ≡ None
+  pub units : units_in_use new + slot_units (slot_at old number) ≡ units_in_use old
   pub rest : KeepsOthers old new number
 
 -- the chunk has another owner; all else stays
 pub record Relabels (old new : PoolValue) (number owner : ℕ) : Type 0 where
-  pub relabelled : IfSome (held_at old number) (λ h. held_at new number ≡ Some (record h { owner = owner }))
+  pub relabelled : IfSome (slot_at old number) (λ h. slot_at new number ≡ Some (record h { owner = owner }))
   pub units : units_in_use new ≡ units_in_use old
   pub rest : KeepsOthers old new number
 
 -- each number in use has 32 bits, and its chunk has a unit at least
-abbrev pub AreChunks : List (Option Held) → Type 0
-AreChunks slots = (number : ℕ) (h : Held) → held_in slots number ≡ Some h → (number < 2 ^ 32) × (0 < h.units)
+abbrev pub AreChunks : List (Option Slot) → Type 0
+AreChunks slots = (number : ℕ) (h : Slot) → slot_in slots number ≡ Some h → (number < 2 ^ 32) × (0 < h.units)
 
 -- the units in use are counted, and within the limit
-pub record IsWithin (limit used : ℕ) (slots : List (Option Held)) : Type 0 where
+pub record IsWithin (limit used : ℕ) (slots : List (Option Slot)) : Type 0 where
   pub small : limit < 2 ^ 22
   pub counted : used ≡ units_in slots
   pub within : used ≤ limit

@@ -6,4 +6,4 @@ mod numbers;
 mod pool;
 
 pub use laws::{owners_are_told, taken_are_owned};
-pub use pool::{Held, NotTaken, Pool};
+pub use pool::{NotTaken, Pool, Slot};

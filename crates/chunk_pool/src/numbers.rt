@@ -2,9 +2,9 @@
 
 ghost use Rattle.std.specs.Prelude.{◌≡◌, ◌+◌, ◌*◌, ◌^◌, ◌<◌, ◌≤◌, [], All, IfOk, None, OnOk, Some, length, vec_capacity, vec_len};
 ghost use Rattle.slab.specs.Slab.{slab_len, HasRoomFor, Updates};
-ghost use Rattle.chunk_pool.specs.PoolValue.{held_in, one_unit, AreChunks, IsBlank, NumbersBehind};
+ghost use Rattle.chunk_pool.specs.PoolValue.{slot_in, one_unit, AreChunks, IsBlank, NumbersBehind};
 
-use crate::pool::Held;
+use crate::pool::Slot;
 use object_layout::Chunk;
 use slab::Slab;
 use std::alloc::{AllocError, Global};
@@ -72,7 +72,7 @@ pub fn keep(kept: &mut Vec<Chunk>, mut chunk: Chunk)
 
 /// Makes places for so many numbers of 32 bits. A table that has no such number left is as good as no
 /// memory.
-pub fn make_numbers(slots: &mut Slab<Held>, count: u32) -> Result<(), AllocError>
+pub fn make_numbers(slots: &mut Slab<Slot>, count: u32) -> Result<(), AllocError>
     ensures slots { slots.new.slots ≡ slots.old.slots }
     ensures room { OnOk result (HasRoomFor slots.new count) }
     ensures small { OnOk result (slots.new.capacity ≤ 2 ^ 32) }
@@ -85,22 +85,22 @@ pub fn make_numbers(slots: &mut Slab<Held>, count: u32) -> Result<(), AllocError
 }
 
 // Gives a chunk the next number that isn't in use.
-fn number_one(slots: &mut Slab<Held>, owner: u32, chunk: &mut Chunk)
+fn number_one(slots: &mut Slab<Slot>, owner: u32, chunk: &mut Chunk)
     requires room { HasRoomFor slots.old 1 }
     requires small { slots.old.capacity ≤ 2 ^ 32 }
     ensures chunk { chunk.new ≡ record chunk.old { number = chunk.new.number } }
-    ensures was_free { held_in slots.old.slots chunk.new.number ≡ None }
+    ensures was_free { slot_in slots.old.slots chunk.new.number ≡ None }
     ensures updates { Updates slots.old slots.new chunk.new.number (Some (one_unit owner)) }
     ensures short { chunk.new.number < 2 ^ 32 }
     ensures len { slab_len slots.new ≡ slab_len slots.old + 1 }
     ensures capacity { slots.new.capacity ≡ slots.old.capacity }
 {
-    let number = slots.insert_reserved(Held { owner, units: 1 });
+    let number = slots.insert_reserved(Slot { owner, units: 1 });
     chunk.renumber(number as u32);
 }
 
 /// Numbers all chunks of a list for an owner, and puts them behind those of another.
-pub fn number_all(slots: &mut Slab<Held>, owner: u32, blank: &mut Vec<Chunk>, list: &mut Vec<Chunk>)
+pub fn number_all(slots: &mut Slab<Slot>, owner: u32, blank: &mut Vec<Chunk>, list: &mut Vec<Chunk>)
     requires room { HasRoomFor slots.old (length blank.old.items) }
     requires small { slots.old.capacity ≤ 2 ^ 32 }
     requires places { vec_len list.old + length blank.old.items ≤ vec_capacity list.old }

@@ -1,7 +1,7 @@
 // The pool of chunks: a limit in units, and an owner for each number in use.
 
 ghost use Rattle.std.specs.Prelude.{◌≡◌, ℕ, ◌+◌, ◌*◌, ◌^◌, ◌<◌, ◌≤◌, ◌↔◌, [], OnErr, OnOk, IfOk, Err, Some, IsSome};
-ghost use Rattle.chunk_pool.specs.PoolValue.{held_at, owner_of, units_in_use, AreChunks, Takes, TakesAll, Gives, Relabels};
+ghost use Rattle.chunk_pool.specs.PoolValue.{slot_at, owner_of, units_in_use, AreChunks, Takes, TakesAll, Gives, Relabels};
 
 use crate::numbers::{blank_chunks, chunk_of, keep, make_numbers, make_places, number_all};
 use object_layout::Chunk;
@@ -11,7 +11,7 @@ use std::marker::Model;
 
 /// What the pool keeps of a chunk in use: the task that owns it, and its units of 1,024 words.
 #[derive(Clone, Copy)]
-pub struct Held {
+pub struct Slot {
     pub owner: u32,
     pub units: u32,
 }
@@ -33,7 +33,7 @@ pub enum NotTaken {
 pub struct Pool {
     limit: u32,
     used: u32,
-    slots: Slab<Held>,
+    slots: Slab<Slot>,
     kept: Vec<Chunk>,
     alloc: Global,
 }
@@ -91,7 +91,7 @@ impl Pool {
         let Ok(chunk) = chunk_of(self.alloc, &mut self.kept, number, units) else {
             return Err(NotTaken::NoMemory);
         };
-        self.slots.insert_reserved(Held { owner, units });
+        self.slots.insert_reserved(Slot { owner, units });
         self.used += units;
         Ok(chunk)
     }
@@ -133,7 +133,7 @@ impl Pool {
 
     /// Takes a chunk back. Its number is no longer in use.
     pub fn give(&mut self, chunk: Chunk)
-        requires { IsSome (held_at self.old chunk.number) }
+        requires { IsSome (slot_at self.old chunk.number) }
         ensures { Gives self.old self.new chunk.number }
     {
         let number = chunk.number() as usize;
@@ -143,15 +143,15 @@ impl Pool {
     }
 
     /// What is kept of the chunk of a number, if that is in use.
-    pub fn held(&self, number: u32) -> Option<Held>
-        ensures { result ≡ held_at self.now number }
+    pub fn slot(&self, number: u32) -> Option<Slot>
+        ensures { result ≡ slot_at self.now number }
     {
         self.slots.get(number as usize).copied()
     }
 
     /// The numbers in use are all below this, and have 32 bits; each chunk in use has a unit at least.
     pub fn numbers(&self) -> usize
-        ensures below { (number : ℕ) → IsSome (held_at self.now number) → number < result }
+        ensures below { (number : ℕ) → IsSome (slot_at self.now number) → number < result }
         ensures chunks { AreChunks self.now.slots }
     {
         self.slots.capacity()
@@ -159,7 +159,7 @@ impl Pool {
 
     /// The task that owns the chunk of a number.
     pub fn owner(&self, number: u32) -> u32
-        requires { IsSome (held_at self.now number) }
+        requires { IsSome (slot_at self.now number) }
         ensures { owner_of self.now number ≡ Some result }
     {
         match self.slots.get(number as usize) {
@@ -170,7 +170,7 @@ impl Pool {
 
     /// Gives the chunk of a number another owner.
     pub fn relabel(&mut self, number: u32, owner: u32)
-        requires { IsSome (held_at self.old number) }
+        requires { IsSome (slot_at self.old number) }
         ensures { Relabels self.old self.new number owner }
     {
         match self.slots.get_mut(number as usize) {

@@ -10,8 +10,8 @@ use Rattle.hh_model.specs.declared.data.State.{State}
 use Rattle.run_ledger.specs.declared.data.Heap.{Heap as Account}
 use Rattle.object_layout.specs.declared.word.Addr.{Addr}
 use Rattle.object_layout.specs.ChunkValue.{ChunkValue}
-use Rattle.chunk_pool.specs.declared.pool.Held.{Held}
-use Rattle.chunk_pool.specs.PoolValue.{PoolValue, held_at, owner_of, units_held}
+use Rattle.chunk_pool.specs.declared.pool.Slot.{Slot}
+use Rattle.chunk_pool.specs.PoolValue.{PoolValue, slot_at, owner_of, slot_units}
 use Rattle.alloc_path.specs.LeafHeapValue.{AreApart, LeafHeapValue, IsFresh}
 use Rattle.alloc_path.specs.Units.{unit_count}
 use Rattle.leaf_copy_gc.specs.declared.lists.Survivor.{Survivor}
@@ -203,13 +203,13 @@ module _ (h : LeafHeapValue) (from : List (Option Addr)) (ss : List Survivor) (n
 
   -- ---- IN THE POOL
   module _ (pool : PoolValue) (t : ℕ) (M : AreMeasured pool t (h.chunks ++ news)) where
-    held_back : (k : ChunkValue) → In Back k → held_at pool k.number ≡ Some (record { owner = t; units = k.size / 1024 })
+    held_back : (k : ChunkValue) → In Back k → slot_at pool k.number ≡ Some (record { owner = t; units = k.size / 1024 })
     held_back k i =
         let W = was k i in
-        ap (held_at pool) (sym W.number) ∙ (M W.chunk W.there ∙ ap (λ n. let r : Held = record { owner = t; units = n / 1024 } in Some r) W.size)
+        ap (slot_at pool) (sym W.number) ∙ (M W.chunk W.there ∙ ap (λ n. let r : Slot = record { owner = t; units = n / 1024 } in Some r) W.size)
 
     pub back_owned : All (λ k. owner_of pool k.number ≡ Some t) Back
-    back_owned = all_from (λ (k : ChunkValue). owner_of pool k.number ≡ Some t) Back (λ k i. ap (option_map (λ (x : Held). x.owner)) (held_back k i))
+    back_owned = all_from (λ (k : ChunkValue). owner_of pool k.number ≡ Some t) Back (λ k i. ap (option_map (λ (x : Slot). x.owner)) (held_back k i))
 
     whole_back : (k : ChunkValue) → In Back k → k.size ≡ 1024 * (k.size / 1024)
     whole_back k i =
@@ -219,10 +219,10 @@ module _ (h : LeafHeapValue) (from : List (Option Addr)) (ss : List Survivor) (n
           | inr j ↦ let s = size_of_new news W.chunk T.new j in omega (arith, s)
         ])
 
-    units_all : (ks : List ChunkValue) → ((k : ChunkValue) → In ks k → held_at pool k.number ≡ Some (record { owner = t; units = k.size / 1024 })) → ((k : ChunkValue) → In ks k → k.size ≡ 1024 * (k.size / 1024)) → units_kept pool ks ≡ unit_count ks
+    units_all : (ks : List ChunkValue) → ((k : ChunkValue) → In ks k → slot_at pool k.number ≡ Some (record { owner = t; units = k.size / 1024 })) → ((k : ChunkValue) → In ks k → k.size ≡ 1024 * (k.size / 1024)) → units_kept pool ks ≡ unit_count ks
     units_all [] f g = refl
     units_all (k ∷ ks) f g =
-        let u : units_held (held_at pool k.number) ≡ k.size / 1024 = ap units_held (f k (inl refl)) in
+        let u : slot_units (slot_at pool k.number) ≡ k.size / 1024 = ap slot_units (f k (inl refl)) in
         let w = g k (inl refl) in
         let r = units_all ks (λ x i. f x (inr i)) (λ x i. g x (inr i)) in
         omega (arith, u, w, r)
@@ -233,4 +233,4 @@ module _ (h : LeafHeapValue) (from : List (Option Addr)) (ss : List Survivor) (n
     pub heap_measured : AreMeasured pool t (L ++ (K ++ R))
     heap_measured k i =
         let W = heap_was k i in
-        ap (held_at pool) (sym W.number) ∙ (M W.chunk W.there ∙ ap (λ n. let r : Held = record { owner = t; units = n / 1024 } in Some r) W.size)
+        ap (slot_at pool) (sym W.number) ∙ (M W.chunk W.there ∙ ap (λ n. let r : Slot = record { owner = t; units = n / 1024 } in Some r) W.size)

@@ -7,7 +7,7 @@ use Rattle.run_ledger.specs.declared.data.Ledger.{Ledger}
 use Rattle.run_ledger.specs.Heaps.{end_numbers, heap_of, in_use, units_in}
 use Rattle.run_ledger.proofs.Space.{use_is_bounded}
 use Rattle.object_layout.specs.ChunkValue.{ChunkValue}
-use Rattle.chunk_pool.specs.declared.pool.Held.{Held}
+use Rattle.chunk_pool.specs.declared.pool.Slot.{Slot}
 use Rattle.chunk_pool.specs.PoolValue.{owner_of}
 use Rattle.alloc_path.specs.LeafHeapValue.{AreApart, LeafHeapValue, IsFresh}
 use Rattle.alloc_path.specs.Units.{counted32, unit_count}
@@ -92,7 +92,7 @@ module _ (w : SharedValue) (k : ℕ) (p : Private) (b : Begun) (news : List Chun
   all_measured =
       measured_both w.pool p.task p.heap.chunks news C.fits.measured.0 (λ c i.
       units c.number (subst (λ ns. In ns c.number) (sym C.numbers) (in_map (λ (c : ChunkValue). c.number) news c i))
-      ∙ ap (λ n. let h : Held = record { owner = p.task; units = n / 1024 } in Some h) (sym (back.size_of_new news c C.new.new i)))
+      ∙ ap (λ n. let h : Slot = record { owner = p.task; units = n / 1024 } in Some h) (sym (back.size_of_new news c C.new.new i)))
 
   module _ (h' : LeafHeapValue) (s' : FramesValue) (out : Moved) (D : IsCollected p.heap p.frames b.roots news h' s' out) where
     -- what is known of the heap before

@@ -3,7 +3,7 @@ use Rattle.std.specs.Prelude.{◌≡◌, ℕ, true, false, Contains, IsSome, Som
 use Rattle.object_layout.specs.ChunkValue.{ChunkValue}
 use Rattle.object_layout.specs.Chunks.{has_chunk}
 use Rattle.heap_tree.specs.Node.{Node, forked, parent_of}
-use Rattle.chunk_pool.specs.PoolValue.{PoolValue, held_at, owner_of}
+use Rattle.chunk_pool.specs.PoolValue.{PoolValue, slot_at, owner_of}
 use Rattle.remembered_set.specs.declared.remembered.Source.{Source}
 use Rattle.remembered_set.specs.Sources.{lifted}
 use Rattle.fork_join.specs.Joined.{joined_nodes, AreRelabelled}
@@ -13,7 +13,7 @@ use Rattle.fork_join.specs.Placement.{Field, Owns, Placement}
 abbrev pub JoinedAreOwned : Type 0
 JoinedAreOwned =
     (old new : PoolValue) (ks : List ChunkValue) (owner : ℕ) → AreRelabelled old new ks owner → (number : ℕ)
-    → (has_chunk ks number ≡ true → IsSome (held_at old number) → owner_of new number ≡ Some owner)
+    → (has_chunk ks number ≡ true → IsSome (slot_at old number) → owner_of new number ≡ Some owner)
     × (has_chunk ks number ≡ false → owner_of new number ≡ owner_of old number)
 
 -- a fork changes no owner and no field, and no set loses a source

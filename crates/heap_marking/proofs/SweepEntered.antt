@@ -15,7 +15,7 @@ use Rattle.run_ledger.specs.Entries.{refused_unless}
 use Rattle.run_ledger.specs.Heaps.{heap_of, left_in, marked_in, sweep_number, swept_heap, with_heap}
 use Rattle.run_ledger.proofs.Journals.{entry_tells}
 use Rattle.object_layout.specs.ChunkValue.{ChunkValue}
-use Rattle.chunk_pool.specs.PoolValue.{PoolValue, held_at}
+use Rattle.chunk_pool.specs.PoolValue.{PoolValue, slot_at}
 use Rattle.write_barrier.specs.declared.sets.SetOf.{SetOf}
 use Rattle.write_barrier.specs.Stored.{Content as SetContent, content_at, content_of}
 use Rattle.inner_mark_gc.specs.MarkingValue.{MarkingValue, marked_of}
@@ -118,7 +118,7 @@ module _ (w : SharedValue) (k t given : ℕ) (I : IsSharedValue w) (free : refus
   can = record {
     done = start.done w I on t T.cause T.none_left;
     room = (start.Z w I on t T.cause).further.own.room;
-    in_use = all_from (λ (c : ChunkValue). IsSome (held_at w.pool c.number)) r.heap.chunks (λ c i. is_there (held_at w.pool c.number) _ (home.measured_was w I on t T.cause T.none_left c i));
+    in_use = all_from (λ (c : ChunkValue). IsSome (slot_at w.pool c.number)) r.heap.chunks (λ c i. is_there (slot_at w.pool c.number) _ (home.measured_was w I on t T.cause T.none_left c i));
   }
 
   pub has_home : IsSome (rest_at w.homes t)

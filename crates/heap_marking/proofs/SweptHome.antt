@@ -15,8 +15,8 @@ use Rattle.run_ledger.proofs.Members.{holds_from_in, in_from_holds}
 use Rattle.object_layout.specs.declared.word.Addr.{Addr}
 use Rattle.object_layout.specs.ChunkValue.{ChunkValue}
 use Rattle.object_layout.specs.Objects.{Located}
-use Rattle.chunk_pool.specs.declared.pool.Held.{Held}
-use Rattle.chunk_pool.specs.PoolValue.{PoolValue, held_at, owner_of, units_held}
+use Rattle.chunk_pool.specs.declared.pool.Slot.{Slot}
+use Rattle.chunk_pool.specs.PoolValue.{PoolValue, slot_at, owner_of, slot_units}
 use Rattle.alloc_path.specs.LeafHeapValue.{LeafHeapValue as HeapOfCode, IsFresh, room_of, with_places}
 use Rattle.alloc_path.specs.Units.{unit_count}
 use Rattle.alloc_path.specs.View.{Level}
@@ -143,7 +143,7 @@ module _ (w : SharedValue) (I : IsSharedValue w) (on : (accounts w).end ≡ None
       by : (gs : List ChunkValue) → ((c : ChunkValue) → In gs c → In ks c) → units_kept w.pool gs ≡ unit_count gs
       by [] f = refl
       by (c ∷ gs) f =
-          let one : units_held (held_at w.pool c.number) ≡ c.size / 1024 = ap units_held (measured_was c (f c (inl refl))) in
+          let one : slot_units (slot_at w.pool c.number) ≡ c.size / 1024 = ap slot_units (measured_was c (f c (inl refl))) in
           let whole : c.size ≡ 1024 * (c.size / 1024) = F.whole c (f c (inl refl)) in
           let go : units_kept w.pool gs ≡ unit_count gs = by gs (λ d i. f d (inr i)) in
           omega (arith, one, whole, go)
@@ -167,27 +167,27 @@ module _ (w : SharedValue) (I : IsSharedValue w) (on : (accounts w).end ≡ None
     chunks_are : heap'.chunks ≡ now
     chunks_are = ap (λ (h : HeapOfCode). h.chunks) heap_is
 
-    others : (n : ℕ) → IsFresh (gone kept ks) n → held_at pool n ≡ held_at w.pool n
+    others : (n : ℕ) → IsFresh (gone kept ks) n → slot_at pool n ≡ slot_at w.pool n
     others n f = G.others n (subst (λ gs. IsFresh gs n) (sym gone_is) f)
 
     pub measured_then : AreMeasured pool t heap'.chunks
     measured_then c i =
         let x = left_was kept ks c (subst (λ cs. In cs c) chunks_are i) in
-        subst (λ (z : ChunkValue). held_at pool z.number ≡ Some (record { owner = t; units = z.size / 1024 })) x.3 (others x.0.number (left_off x.0 x.1 x.2) ∙ measured_was x.0 x.1)
+        subst (λ (z : ChunkValue). slot_at pool z.number ≡ Some (record { owner = t; units = z.size / 1024 })) x.3 (others x.0.number (left_off x.0 x.1 x.2) ∙ measured_was x.0 x.1)
 
     -- WHO OWNS CHUNKS
     pub owners : (n u : ℕ) → (u ≡ t → ⊥) → owner_of w.pool n ≡ Some u → owner_of pool n ≡ Some u
     owners n u ne o =
-        ap (option_map (λ (h : Held). h.owner)) (others n (fresh_by (gone kept ks) n (λ c i q. ne (same_Some u t (sym o ∙ (ap (owner_of w.pool) (sym q) ∙ owned_was c (gone_was c i).0)))))) ∙ o
+        ap (option_map (λ (h : Slot). h.owner)) (others n (fresh_by (gone kept ks) n (λ c i q. ne (same_Some u t (sym o ∙ (ap (owner_of w.pool) (sym q) ∙ owned_was c (gone_was c i).0)))))) ∙ o
 
     pub owned : (n u : ℕ) → owner_of pool n ≡ Some u → owner_of w.pool n ≡ Some u
     owned n u o = by (gone_of r.heap kept) G.free (G.others n)
       where
-        by : (gs : List ChunkValue) → All (λ c. held_at pool c.number ≡ None) gs → (IsFresh gs n → held_at pool n ≡ held_at w.pool n) → owner_of w.pool n ≡ Some u
-        by [] f other = sym (ap (option_map (λ (h : Held). h.owner)) (other refl)) ∙ o
+        by : (gs : List ChunkValue) → All (λ c. slot_at pool c.number ≡ None) gs → (IsFresh gs n → slot_at pool n ≡ slot_at w.pool n) → owner_of w.pool n ≡ Some u
+        by [] f other = sym (ap (option_map (λ (h : Slot). h.owner)) (other refl)) ∙ o
         by (c ∷ gs) f other = elim (cases_eq c.number n) [
-          | inl q ↦ absurd (owner_none pool n u (subst (λ z. held_at pool z ≡ None) q (All-head (λ (c : ChunkValue). held_at pool c.number ≡ None) c gs f)) o)
-          | inr ne ↦ by gs (All-tail (λ (c : ChunkValue). held_at pool c.number ≡ None) c gs f) (λ fr. other (fresh_cons c gs n ne fr))
+          | inl q ↦ absurd (owner_none pool n u (subst (λ z. slot_at pool z ≡ None) q (All-head (λ (c : ChunkValue). slot_at pool c.number ≡ None) c gs f)) o)
+          | inr ne ↦ by gs (All-tail (λ (c : ChunkValue). slot_at pool c.number ≡ None) c gs f) (λ fr. other (fresh_cons c gs n ne fr))
         ]
 
     -- THE HOME, in a value and accounts that have it so
@@ -223,7 +223,7 @@ module _ (w : SharedValue) (I : IsSharedValue w) (on : (accounts w).end ≡ None
             ∙ ((start.H w I on t free).count (ap (λ (m : State). is_joined (slice_get m.tasks t)) (sym machine) ∙ live) ∙ ap (λ (m : State). length (row_of (slice_get m.store t))) (sym machine))));
         owned = λ c i.
             let x = chunk_was c i in
-            ap (λ (f : ℕ → Option ℕ). f c.number) owner ∙ (ap (owner_of pool) (sym x.3) ∙ (ap (option_map (λ (h : Held). h.owner)) (others x.0.number (left_off x.0 x.1 x.2)) ∙ owned_was x.0 x.1));
+            ap (λ (f : ℕ → Option ℕ). f c.number) owner ∙ (ap (owner_of pool) (sym x.3) ∙ (ap (option_map (λ (h : Slot). h.owner)) (others x.0.number (left_off x.0 x.1 x.2)) ∙ owned_was x.0 x.1));
         inside = λ c o i j. inside_from now c o (subst (λ cs. In cs c) chunks_then i) j;
         once = λ o q i j e. (start.H w I on t free).once o q (was o i).0 (was q j).0 e;
         named = λ o q i j e. (start.H w I on t free).named o q (was o i).0 (was q j).0 e;

@@ -1,6 +1,6 @@
 -- What a sweep asks of a heap and leaves of it.
 use Rattle.std.specs.Prelude.{◌≡◌, ℕ, false, All, IsSome, Option, Some, List, [], slice_set}
-use Rattle.chunk_pool.specs.PoolValue.{PoolValue, held_at}
+use Rattle.chunk_pool.specs.PoolValue.{PoolValue, slot_at}
 use Rattle.alloc_path.specs.LeafHeapValue.{LeafHeapValue, with_places}
 use Rattle.write_barrier.specs.Stored.{Content}
 use Rattle.inner_mark_gc.specs.MarkingValue.{HasRoom, IsDone, MarkingValue, marked_of}
@@ -11,7 +11,7 @@ use Rattle.shared_value.specs.declared.task_at_rest.Rest.{Rest}
 pub record CanSweep (h : LeafHeapValue) (m : MarkingValue) (pool : PoolValue) : Type 0 where
   pub done : IsDone m
   pub room : HasRoom h.chunks m
-  pub in_use : All (λ k. IsSome (held_at pool k.number)) h.chunks
+  pub in_use : All (λ k. IsSome (slot_at pool k.number)) h.chunks
 
 -- the home of t has just what is marked in its heap, and the chunks that go are given back
 pub record SweepsHome (old new : List (Option Rest)) (pool pool' : PoolValue) (t : ℕ) (r : Rest) (m : MarkingValue) : Type 0 where

@@ -3,8 +3,8 @@ use Rattle.std.proofs.Common.{◌≡◌, ℕ, ◌+◌, ◌<◌, ◌≤◌, ◌*�
 use Rattle.std.proofs.lemmas.Bool.{cases_lt}
 use Rattle.std.proofs.lemmas.Option.{same_Some}
 use Rattle.hh_model.specs.Step.{owner_of}
-use Rattle.chunk_pool.specs.declared.pool.Held.{Held}
-use Rattle.chunk_pool.specs.PoolValue.{held_at}
+use Rattle.chunk_pool.specs.declared.pool.Slot.{Slot}
+use Rattle.chunk_pool.specs.PoolValue.{slot_at}
 use Rattle.heap_tree.specs.Node.{Node}
 use Rattle.heap_tree.specs.declared.state.State.{State}
 use Rattle.shared_value.specs.SharedValue.{SharedValue, accounts}
@@ -53,7 +53,7 @@ live_once tree x y a b e =
 
 pub chunk_once : (w : SharedValue) (c d : InUse) → IsInUse w c → IsInUse w d → c.number ≡ d.number → c ≡ d
 chunk_once w c d a b e =
-    let same : a.held ≡ b.held = same_Some a.held b.held (sym a.is ∙ (ap (held_at w.pool) e ∙ b.is)) in
-    let o : c.owner ≡ d.owner = a.owner ∙ (ap (λ (h : Held). owner_of (accounts w).machine.tasks h.owner) same ∙ sym b.owner) in
-    let n : c.words ≡ d.words = a.words ∙ (ap (λ (h : Held). 1024 * h.units) same ∙ sym b.words) in
+    let same : a.held ≡ b.held = same_Some a.held b.held (sym a.is ∙ (ap (slot_at w.pool) e ∙ b.is)) in
+    let o : c.owner ≡ d.owner = a.owner ∙ (ap (λ (h : Slot). owner_of (accounts w).machine.tasks h.owner) same ∙ sym b.owner) in
+    let n : c.words ≡ d.words = a.words ∙ (ap (λ (h : Slot). 1024 * h.units) same ∙ sym b.words) in
     λ i. record { number = e i; owner = o i; words = n i }

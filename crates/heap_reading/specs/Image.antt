@@ -6,8 +6,8 @@ use Rattle.hh_model.specs.Step.{owner_of}
 use Rattle.object_layout.specs.Cell.{IsRef}
 use Rattle.object_layout.specs.Layout.{word_of_ref}
 use Rattle.object_layout.specs.Objects.{Located}
-use Rattle.chunk_pool.specs.declared.pool.Held.{Held}
-use Rattle.chunk_pool.specs.PoolValue.{held_at, owner_of as holder_of}
+use Rattle.chunk_pool.specs.declared.pool.Slot.{Slot}
+use Rattle.chunk_pool.specs.PoolValue.{slot_at, owner_of as holder_of}
 use Rattle.heap_tree.specs.declared.state.State.TheVariants.{Joined}
 use Rattle.heap_tree.specs.Node.{Node, state_of}
 use Rattle.remembered_set.specs.declared.remembered.Source.{Source}
@@ -51,8 +51,8 @@ ChunkBefore c d = c.number < d.number
 
 -- a chunk in use: its owner is the task that it was given to, followed to its parent as long as that has joined
 pub record IsInUse (w : SharedValue) (c : InUse) : Type 0 where
-  pub held : Held
-  pub is : held_at w.pool c.number ≡ Some held
+  pub held : Slot
+  pub is : slot_at w.pool c.number ≡ Some held
   pub owner : c.owner ≡ owner_of (accounts w).machine.tasks held.owner
   pub words : c.words ≡ 1024 * held.units
 

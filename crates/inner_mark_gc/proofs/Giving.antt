@@ -9,7 +9,7 @@ use Rattle.object_layout.specs.Chunks.{place_in, place_of}
 use Rattle.alloc_path.specs.LeafHeapValue.{AreApart, IsFresh}
 use Rattle.alloc_path.specs.Units.{counted32, unit_count}
 use Rattle.alloc_path.proofs.HeapLemmas.{fresh_behind, fresh_cons, fresh_front, fresh_head, fresh_tail}
-use Rattle.chunk_pool.specs.PoolValue.{PoolValue, Gives, held_at, units_held}
+use Rattle.chunk_pool.specs.PoolValue.{PoolValue, Gives, slot_at, slot_units}
 use Rattle.inner_mark_gc.specs.Swept.{AreGiven, units_kept}
 
 -- ---- fresh numbers
@@ -61,7 +61,7 @@ fresh_more ks i n d l f ne =
 
 pub given_none : (p : PoolValue) → AreGiven p p []
 given_none p = record {
-  free = All-nil (λ k. held_at p k.number ≡ None);
+  free = All-nil (λ k. slot_at p k.number ≡ None);
   others = λ n f. refl;
   limit = refl;
   units = omega arith;
@@ -69,19 +69,19 @@ given_none p = record {
 
 pub given_one : (p q : PoolValue) (k : ChunkValue) → Gives p q k.number → AreGiven p q (k ∷ [])
 given_one p q k g = record {
-  free = All-cons (λ k. held_at q k.number ≡ None) k [] g.free (All-nil (λ k. held_at q k.number ≡ None));
+  free = All-cons (λ k. slot_at q k.number ≡ None) k [] g.free (All-nil (λ k. slot_at q k.number ≡ None));
   others = λ n f. g.rest.others n (λ e. fresh_head k [] n f (sym e));
   limit = g.rest.limit;
   units = let u = g.units in omega arith;
 }
 
 -- the number is that of one of these, which is free, or it is fresh
-fresh_or_free : (r : PoolValue) (ls : List ChunkValue) (n : ℕ) → All (λ k. held_at r k.number ≡ None) ls → IsFresh ls n ⊎ (held_at r n ≡ None)
+fresh_or_free : (r : PoolValue) (ls : List ChunkValue) (n : ℕ) → All (λ k. slot_at r k.number ≡ None) ls → IsFresh ls n ⊎ (slot_at r n ≡ None)
 fresh_or_free r [] n a = inl refl
 fresh_or_free r (k ∷ ls) n a =
     elim (cases_Bool (eqb k.number n)) [
-      | inl e ↦ inr (subst (λ (m : ℕ). held_at r m ≡ None) (eqb-true k.number n e) (All-head (λ k. held_at r k.number ≡ None) k ls a))
-      | inr e ↦ elim (fresh_or_free r ls n (All-tail (λ k. held_at r k.number ≡ None) k ls a)) [
+      | inl e ↦ inr (subst (λ (m : ℕ). slot_at r m ≡ None) (eqb-true k.number n e) (All-head (λ k. slot_at r k.number ≡ None) k ls a))
+      | inr e ↦ elim (fresh_or_free r ls n (All-tail (λ k. slot_at r k.number ≡ None) k ls a)) [
         | inl f ↦ inl (fresh_cons k ls n (λ q. false≢true (sym e ∙ same k.number n q)) f)
         | inr h ↦ inr h
       ]
@@ -90,15 +90,15 @@ fresh_or_free r (k ∷ ls) n a =
     same : (a b : ℕ) → a ≡ b → eqb a b ≡ true
     same a b q = grind arith
 
-still_free : (q r : PoolValue) (ks ls : List ChunkValue) → All (λ k. held_at q k.number ≡ None) ks → AreGiven q r ls → All (λ k. held_at r k.number ≡ None) ks
-still_free q r [] ls a g = All-nil (λ k. held_at r k.number ≡ None)
+still_free : (q r : PoolValue) (ks ls : List ChunkValue) → All (λ k. slot_at q k.number ≡ None) ks → AreGiven q r ls → All (λ k. slot_at r k.number ≡ None) ks
+still_free q r [] ls a g = All-nil (λ k. slot_at r k.number ≡ None)
 still_free q r (k ∷ ks) ls a g =
-    All-cons (λ k. held_at r k.number ≡ None) k ks
+    All-cons (λ k. slot_at r k.number ≡ None) k ks
     (elim (fresh_or_free r ls k.number g.free) [
-      | inl f ↦ g.others k.number f ∙ All-head (λ k. held_at q k.number ≡ None) k ks a
+      | inl f ↦ g.others k.number f ∙ All-head (λ k. slot_at q k.number ≡ None) k ks a
       | inr h ↦ h
     ])
-    (still_free q r ks ls (All-tail (λ k. held_at q k.number ≡ None) k ks a) g)
+    (still_free q r ks ls (All-tail (λ k. slot_at q k.number ≡ None) k ks a) g)
 
 units_append : (p : PoolValue) (ks ls : List ChunkValue) → units_kept p (ks ++ ls) ≡ units_kept p ks + units_kept p ls
 units_append p [] ls = omega arith
@@ -107,14 +107,14 @@ units_append p (k ∷ ks) ls = let ih = units_append p ks ls in omega arith
 units_same : (p q : PoolValue) (ks ls : List ChunkValue) → AreGiven p q ks → All (λ l. IsFresh ks l.number) ls → units_kept q ls ≡ units_kept p ls
 units_same p q ks [] g a = refl
 units_same p q ks (l ∷ ls) g a =
-    let here : units_held (held_at q l.number) ≡ units_held (held_at p l.number) = ap units_held (g.others l.number (All-head (λ l. IsFresh ks l.number) l ls a)) in
+    let here : slot_units (slot_at q l.number) ≡ slot_units (slot_at p l.number) = ap slot_units (g.others l.number (All-head (λ l. IsFresh ks l.number) l ls a)) in
     let ih = units_same p q ks ls g (All-tail (λ l. IsFresh ks l.number) l ls a) in
     omega arith
 
 -- one after the other
 pub given_both : (p q r : PoolValue) (ks ls : List ChunkValue) → AreGiven p q ks → AreGiven q r ls → All (λ l. IsFresh ks l.number) ls → AreGiven p r (ks ++ ls)
 given_both p q r ks ls g h a = record {
-  free = All-append (λ k. held_at r k.number ≡ None) ks ls (still_free q r ks ls g.free h) h.free;
+  free = All-append (λ k. slot_at r k.number ≡ None) ks ls (still_free q r ks ls g.free h) h.free;
   others = λ n f. h.others n (fresh_behind ks ls n f) ∙ g.others n (fresh_front ks ls n f);
   limit = h.limit ∙ g.limit;
   units =
@@ -160,5 +160,5 @@ module _ (p : ChunkValue → Bool) (ks : List ChunkValue) (k : ChunkValue) where
   given_more fresh a b c g h = subst (λ (xs : List ChunkValue). AreGiven a c xs) (sym (filter_more ks)) (given_both a b c (filter p ks) (filter p (k ∷ [])) g h (fresh_some fresh (p k)))
 
 -- a chunk that isn't given back yet is still in use
-pub still_in_use : (a b : PoolValue) (p : ChunkValue → Bool) (ks : List ChunkValue) (k : ChunkValue) → IsFresh ks k.number → AreGiven a b (filter p ks) → IsSome (held_at a k.number) → IsSome (held_at b k.number)
+pub still_in_use : (a b : PoolValue) (p : ChunkValue → Bool) (ks : List ChunkValue) (k : ChunkValue) → IsFresh ks k.number → AreGiven a b (filter p ks) → IsSome (slot_at a k.number) → IsSome (slot_at b k.number)
 still_in_use a b p ks k f g s = subst (λ o. IsSome o) (sym (g.others k.number (fresh_filtered p ks k.number f))) s

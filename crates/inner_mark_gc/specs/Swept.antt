@@ -8,7 +8,7 @@ use Rattle.object_layout.specs.Chunks.{chunk_at, place_in}
 use Rattle.object_layout.specs.Objects.{sifted_cells}
 pub use Rattle.object_layout.specs.Objects.{swept_cell}
 use Rattle.alloc_path.specs.LeafHeapValue.{LeafHeapValue, IsFresh}
-use Rattle.chunk_pool.specs.PoolValue.{PoolValue, held_at, units_held, units_in_use}
+use Rattle.chunk_pool.specs.PoolValue.{PoolValue, slot_at, slot_units, units_in_use}
 use Rattle.inner_mark_gc.specs.MarkingValue.{has_address}
 
 -- ---- a chunk
@@ -73,11 +73,11 @@ swept h kept = record h {
 -- the units that the pool keeps for these chunks
 abbrev pub units_kept : PoolValue → List ChunkValue → ℕ
 units_kept pool [] = 0
-units_kept pool (k ∷ ks) = units_held (held_at pool k.number) + units_kept pool ks
+units_kept pool (k ∷ ks) = slot_units (slot_at pool k.number) + units_kept pool ks
 
 -- the numbers of these chunks are no longer in use; all else stays
 pub record AreGiven (old new : PoolValue) (ks : List ChunkValue) : Type 0 where
-  pub free : All (λ k. held_at new k.number ≡ None) ks
-  pub others : (n : ℕ) → IsFresh ks n → held_at new n ≡ held_at old n
+  pub free : All (λ k. slot_at new k.number ≡ None) ks
+  pub others : (n : ℕ) → IsFresh ks n → slot_at new n ≡ slot_at old n
   pub limit : new.limit ≡ old.limit
   pub units : units_in_use new + units_kept old ks ≡ units_in_use old

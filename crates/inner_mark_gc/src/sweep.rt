@@ -5,7 +5,7 @@ ghost use Rattle.object_layout.specs.Place.{cell_at, put_cell, IsCellAt};
 ghost use Rattle.object_layout.specs.Chunks.{place_in};
 ghost use Rattle.alloc_path.specs.LeafHeapValue.{units, with_places, AreApart};
 ghost use Rattle.alloc_path.specs.Units.{counted32, unit_count};
-ghost use Rattle.chunk_pool.specs.PoolValue.{held_at};
+ghost use Rattle.chunk_pool.specs.PoolValue.{slot_at};
 ghost use Rattle.inner_mark_gc.specs.MarkingValue.{has_address, marked_of, HasRoom, IsDone};
 ghost use Rattle.inner_mark_gc.specs.Swept.{gone_of, goes, has_number, has_object, is_object, number_at, place_at, stays, swept, swept_cell, swept_chunk, AreGiven};
 
@@ -36,7 +36,7 @@ impl Marking {
     pub fn sweep(mut self, heap: &mut LeafHeap, pool: &mut Pool) -> u32
         requires done { IsDone self }
         requires room { HasRoom heap.old.chunks self }
-        requires in_use { All (λ k. IsSome (held_at pool.old k.number)) heap.old.chunks }
+        requires in_use { All (λ k. IsSome (slot_at pool.old k.number)) heap.old.chunks }
         ensures heap { heap.new ≡ with_places (swept heap.old (marked_of self)) heap.new.slots heap.new.spare }
         ensures pool { AreGiven pool.old pool.new (gone_of heap.old (marked_of self)) }
         ensures units { result ≡ counted32 (unit_count (gone_of heap.old (marked_of self))) }
@@ -64,7 +64,7 @@ impl Marking {
         pool: &mut Pool,
     ) -> u32
         requires apart { AreApart chunks.items }
-        requires in_use { All (λ k. IsSome (held_at pool.old k.number)) chunks.items }
+        requires in_use { All (λ k. IsSome (slot_at pool.old k.number)) chunks.items }
         requires room { vec_len left.old + vec_len chunks ≤ vec_capacity left.old }
         ensures left { left.new.items ≡ left.old.items ++ map (swept_chunk self.now.found) (filter (stays self.now.found reserved) chunks.items) }
         ensures pool { AreGiven pool.old pool.new (filter (goes self.now.found reserved) chunks.items) }
@@ -86,7 +86,7 @@ impl Marking {
         left: &mut Vec<Chunk>,
         pool: &mut Pool,
     ) -> u32
-        requires in_use { IsSome (held_at pool.old chunk.number) }
+        requires in_use { IsSome (slot_at pool.old chunk.number) }
         requires room { vec_len left.old < vec_capacity left.old }
         ensures left { left.new.items ≡ left.old.items ++ map (swept_chunk self.now.found) (filter (stays self.now.found reserved) (chunk ∷ [])) }
         ensures pool { AreGiven pool.old pool.new (filter (goes self.now.found reserved) (chunk ∷ [])) }

@@ -23,7 +23,7 @@ use Rattle.run_ledger.proofs.Space.{legal_booked}
 use Rattle.object_layout.specs.Chunks.{place_in}
 use Rattle.object_layout.specs.ChunkValue.{ChunkValue}
 use Rattle.object_layout.specs.Objects.{Located}
-use Rattle.chunk_pool.specs.declared.pool.Held.{Held}
+use Rattle.chunk_pool.specs.declared.pool.Slot.{Slot}
 use Rattle.chunk_pool.specs.PoolValue.{PoolValue, Takes as PoolTakes, units_in_use}
 use Rattle.alloc_path.specs.LeafHeapValue.{LeafHeapValue, IsFresh, added, with_places}
 use Rattle.ledger_step_laws.specs.Accounts.{Rests, rested}
@@ -215,13 +215,13 @@ module _ (w : SharedValue) (k : ℕ) (p : Private) (I : IsSharedValue w) (F : Fi
 
     -- owners
     held_same_at : (c : ℕ) → (c ≡ number → ⊥) → v'.owner c ≡ v.owner c
-    held_same_at c ne = ap (option_map (λ (z : Held). z.owner)) (T.rest.others c ne)
+    held_same_at c ne = ap (option_map (λ (z : Slot). z.owner)) (T.rest.others c ne)
 
     owner_new : v'.owner number ≡ Some t
-    owner_new = ap (option_map (λ (z : Held). z.owner)) T.taken
+    owner_new = ap (option_map (λ (z : Slot). z.owner)) T.taken
 
     owner_free : v.owner number ≡ None
-    owner_free = ap (option_map (λ (z : Held). z.owner)) T.was_free
+    owner_free = ap (option_map (λ (z : Slot). z.owner)) T.was_free
 
     owner_kept : (c u : ℕ) → v.owner c ≡ Some u → v'.owner c ≡ Some u
     owner_kept c u e = elim (cases_eq c number) [

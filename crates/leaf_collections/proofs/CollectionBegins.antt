@@ -13,7 +13,7 @@ use Rattle.run_ledger.specs.declared.data.Ledger.{Ledger}
 use Rattle.run_ledger.specs.Heaps.{heap_of, or_fresh, take_of, with_heap, within}
 use Rattle.object_layout.specs.Chunks.{has_chunk, small_words}
 use Rattle.object_layout.specs.ChunkValue.{ChunkValue}
-use Rattle.chunk_pool.specs.PoolValue.{PoolValue, TakesAll, held_in, units_in_use}
+use Rattle.chunk_pool.specs.PoolValue.{PoolValue, TakesAll, slot_in, units_in_use}
 use Rattle.chunk_pool.proofs.OwnerLaws.{taken_are_owned}
 use Rattle.alloc_path.specs.LeafHeapValue.{LeafHeapValue, with_places}
 use Rattle.ledger_step_laws.specs.Accounts.{Rests}
@@ -121,7 +121,7 @@ module _ (w : SharedValue) (k : ℕ) (p : Private) (I : IsSharedValue w) (F : Fi
     owner_same c h = (taken_are_owned w.pool pool p.task (take_by (small_words p.heap.chunks)) [] news T c).1 h
 
     pub were_free : (c : ChunkValue) → In ks c → v.owner c.number ≡ None
-    were_free c i = ap (option_map (λ z. z.owner)) (all_at (λ (x : ChunkValue). held_in w.pool.slots x.number ≡ None) ks T.numbers.numbered.were_free c i)
+    were_free c i = ap (option_map (λ z. z.owner)) (all_at (λ (x : ChunkValue). slot_in w.pool.slots x.number ≡ None) ks T.numbers.numbered.were_free c i)
 
     pub owner_kept : (c u : ℕ) → v.owner c ≡ Some u → v'.owner c ≡ Some u
     owner_kept c u q = elim (cases_Bool (has_chunk ks c)) [

@@ -27,8 +27,8 @@ use Rattle.object_layout.specs.Cell.{Born, marked_object}
 use Rattle.object_layout.specs.Chunks.{cell_of}
 use Rattle.object_layout.specs.ChunkValue.{ChunkValue}
 use Rattle.object_layout.specs.Objects.{Located}
-use Rattle.chunk_pool.specs.declared.pool.Held.{Held}
-use Rattle.chunk_pool.specs.PoolValue.{PoolValue, held_at, owner_of, units_in_use}
+use Rattle.chunk_pool.specs.declared.pool.Slot.{Slot}
+use Rattle.chunk_pool.specs.PoolValue.{PoolValue, slot_at, owner_of, units_in_use}
 use Rattle.alloc_path.specs.LeafHeapValue.{IsFresh}
 use Rattle.alloc_path.proofs.HeapLemmas.{fresh_cons}
 use Rattle.remembered_set.specs.declared.remembered.Source.{Source}
@@ -150,10 +150,10 @@ module _ (w : SharedValue) (k : ℕ) (p : Private) (moved : Moved) (I : IsShared
   }
 
   -- the chunks given back are in use
-  pub back_in_use : (c : ChunkValue) → In moved.back.items c → is_some (held_at w.pool c.number) ≡ true
-  back_in_use c i = by (held_at w.pool c.number) (read_in (λ (c : ChunkValue). owner_of w.pool c.number ≡ Some p.task) moved.back.items c i F.back.owned)
+  pub back_in_use : (c : ChunkValue) → In moved.back.items c → is_some (slot_at w.pool c.number) ≡ true
+  back_in_use c i = by (slot_at w.pool c.number) (read_in (λ (c : ChunkValue). owner_of w.pool c.number ≡ Some p.task) moved.back.items c i F.back.owned)
     where
-      by : (o : Option Held) → option_map (λ (h : Held). h.owner) o ≡ Some p.task → is_some o ≡ true
+      by : (o : Option Slot) → option_map (λ (h : Slot). h.owner) o ≡ Some p.task → is_some o ≡ true
       by None q = absurd cc
       by (Some h) q = refl
 
@@ -204,7 +204,7 @@ module _ (w : SharedValue) (k : ℕ) (p : Private) (moved : Moved) (I : IsShared
     back_mine c i = read_in (λ (c : ChunkValue). owner_of w.pool c.number ≡ Some p.task) moved.back.items c i F.back.owned
 
     stays : (n : ℕ) → IsFresh moved.back.items n → owner_of pool n ≡ owner_of w.pool n
-    stays n fr = ap (option_map (λ (h : Held). h.owner)) (G.others n fr)
+    stays n fr = ap (option_map (λ (h : Slot). h.owner)) (G.others n fr)
 
     owners : (n u : ℕ) → (u ≡ t → ⊥) → owner_of w.pool n ≡ Some u → owner_of pool n ≡ Some u
     owners n u ne o = stays n (fresh_by moved.back.items n (λ c i q. ne (same_Some u t (sym o ∙ (ap (owner_of w.pool) (sym q) ∙ back_mine c i))))) ∙ o
@@ -218,11 +218,11 @@ module _ (w : SharedValue) (k : ℕ) (p : Private) (moved : Moved) (I : IsShared
     owned : (n u : ℕ) → owner_of pool n ≡ Some u → owner_of w.pool n ≡ Some u
     owned n u o = by moved.back.items G.free (G.others n)
       where
-        by : (ks : List ChunkValue) → All (λ c. held_at pool c.number ≡ None) ks → (IsFresh ks n → held_at pool n ≡ held_at w.pool n) → owner_of w.pool n ≡ Some u
-        by [] a other = sym (ap (option_map (λ (h : Held). h.owner)) (other refl)) ∙ o
+        by : (ks : List ChunkValue) → All (λ c. slot_at pool c.number ≡ None) ks → (IsFresh ks n → slot_at pool n ≡ slot_at w.pool n) → owner_of w.pool n ≡ Some u
+        by [] a other = sym (ap (option_map (λ (h : Slot). h.owner)) (other refl)) ∙ o
         by (c ∷ ks) a other = elim (cases_eq c.number n) [
-          | inl q ↦ absurd (owner_none pool n u (subst (λ z. held_at pool z ≡ None) q (All-head (λ (c : ChunkValue). held_at pool c.number ≡ None) c ks a)) o)
-          | inr ne ↦ by ks (All-tail (λ (c : ChunkValue). held_at pool c.number ≡ None) c ks a) (λ fr. other (fresh_cons c ks n ne fr))
+          | inl q ↦ absurd (owner_none pool n u (subst (λ z. slot_at pool z ≡ None) q (All-head (λ (c : ChunkValue). slot_at pool c.number ≡ None) c ks a)) o)
+          | inr ne ↦ by ks (All-tail (λ (c : ChunkValue). slot_at pool c.number ≡ None) c ks a) (λ fr. other (fresh_cons c ks n ne fr))
         ]
 
     ends : EndsAt v v'' t (home_of_part (ended p)) f

@@ -8,8 +8,8 @@ use Rattle.std.proofs.lemmas.Map.Keys.{IsDistinct-IsPermutation}
 use Rattle.object_layout.specs.ChunkValue.{ChunkValue}
 use Rattle.object_layout.specs.Chunks.{has_chunk, AreApart}
 use Rattle.object_layout.proofs.Owning.{found_any, fresh_none}
-use Rattle.chunk_pool.specs.declared.pool.Held.{Held}
-use Rattle.chunk_pool.specs.PoolValue.{PoolValue, IsBlank, NumbersBehind, TakesAll, held_in, one_unit, units_in}
+use Rattle.chunk_pool.specs.declared.pool.Slot.{Slot}
+use Rattle.chunk_pool.specs.PoolValue.{PoolValue, IsBlank, NumbersBehind, TakesAll, slot_in, one_unit, units_in}
 use Rattle.shared_value.specs.LeafBegin.{number_of}
 use Rattle.leaf_collections.proofs.NewChunks.{distinct_numbers}
 
@@ -38,7 +38,7 @@ still_apart ks ls p a = apart_by_numbers ls (IsDistinct-IsPermutation (λ j k. j
 
 -- THE POOL
 
-module _ (old new : List (Option Held)) (owner count : ℕ) (is js : List ChunkValue) (b : NumbersBehind old new owner count [] is) (p : IsPermutation is js) where
+module _ (old new : List (Option Slot)) (owner count : ℕ) (is js : List ChunkValue) (b : NumbersBehind old new owner count [] is) (p : IsPermutation is js) where
   among : IsPermutation b.chunks js
   among = subst (λ (xs : List ChunkValue). IsPermutation xs js) b.behind p
 
@@ -52,9 +52,9 @@ module _ (old new : List (Option Held)) (owner count : ℕ) (is js : List ChunkV
     count = long ∙ b.count;
     blank = All-permutation IsBlank b.chunks js among b.blank;
     numbered = record {
-      were_free = All-permutation (λ k. held_in old k.number ≡ None) b.chunks js among b.numbered.were_free;
+      were_free = All-permutation (λ k. slot_in old k.number ≡ None) b.chunks js among b.numbered.were_free;
       apart = still_apart b.chunks js among b.numbered.apart;
-      each = λ n. b.numbered.each n ∙ ap (λ c. cond c (Some (one_unit owner)) (held_in old n)) (same_numbers b.chunks js n among);
+      each = λ n. b.numbered.each n ∙ ap (λ c. cond c (Some (one_unit owner)) (slot_in old n)) (same_numbers b.chunks js n among);
       units = b.numbered.units ∙ ap (λ n. units_in old + n) (sym long);
     };
   }

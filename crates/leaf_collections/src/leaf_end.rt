@@ -1,7 +1,7 @@
 // What the end of a leaf collection does to the heaps of other tasks and to the pool.
 
 ghost use Rattle.std.specs.Prelude.{◌≡◌, ◌<◌, All, IsSome, fold, slice_get};
-ghost use Rattle.chunk_pool.specs.PoolValue.{held_at};
+ghost use Rattle.chunk_pool.specs.PoolValue.{slot_at};
 ghost use Rattle.alloc_path.specs.LeafHeapValue.{AreApart};
 ghost use Rattle.remembered_set.specs.Moved.{redirected, AreFields, AreInOrder, ArePlaces};
 ghost use Rattle.remembered_set.specs.Sources.{StandOnce};
@@ -31,7 +31,7 @@ pub fn lead(sets: &[SetOf], task: u32, heaps: &mut Heaps, moved: &[(Addr, Addr)]
 /// Gives chunks back.
 pub fn give_all(pool: &mut Pool, chunks: Vec<Chunk>)
     requires apart { AreApart chunks.items }
-    requires in_use { All (λ k. IsSome (held_at pool.old k.number)) chunks.items }
+    requires in_use { All (λ k. IsSome (slot_at pool.old k.number)) chunks.items }
     ensures { AreGiven pool.old pool.new chunks.items }
 {
     for chunk in chunks {

@@ -39,7 +39,7 @@ fn are_in_use(pool: &Pool, chunks: &[Chunk]) -> bool
 {
     match chunks.split_first() {
         None => true,
-        Some((first, rest)) => pool.held(first.number()).is_some() && are_in_use(pool, rest),
+        Some((first, rest)) => pool.slot(first.number()).is_some() && are_in_use(pool, rest),
     }
 }
 

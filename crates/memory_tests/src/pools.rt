@@ -24,7 +24,7 @@ pub fn take_and_give(pool: &mut Pool, units: u32) -> Option<(u32, u32)> {
         return None;
     };
     let (number, size) = (chunk.number(), chunk.size());
-    if pool.held(number).is_none() {
+    if pool.slot(number).is_none() {
         return None;
     }
     pool.give(chunk);
@@ -38,7 +38,7 @@ pub fn is_full(pool: &mut Pool, units: u32) -> bool {
 
 /// The owner of a number, if it is in use.
 pub fn owner(pool: &Pool, number: u32) -> Option<u32> {
-    if pool.held(number).is_none() {
+    if pool.slot(number).is_none() {
         return None;
     }
     Some(pool.owner(number))
@@ -46,7 +46,7 @@ pub fn owner(pool: &Pool, number: u32) -> Option<u32> {
 
 /// Gives a number another owner, if it is in use.
 pub fn relabel(pool: &mut Pool, number: u32, owner: u32) {
-    if pool.held(number).is_some() {
+    if pool.slot(number).is_some() {
         pool.relabel(number, owner);
     }
 }

@@ -1,7 +1,7 @@
 // Markings and sweeps of heaps that were checked.
 
 ghost use Rattle.std.specs.Prelude.{All, IfSome, IsSome, IsTrue};
-ghost use Rattle.chunk_pool.specs.PoolValue.{held_at};
+ghost use Rattle.chunk_pool.specs.PoolValue.{slot_at};
 ghost use Rattle.inner_mark_gc.specs.Snapshot.{IsClosed, IsHeld};
 ghost use Rattle.inner_mark_gc.specs.MarkingValue.{HasRoom, IsDone, IsOf};
 
@@ -41,7 +41,7 @@ fn are_objects(heap: &LeafHeap, objects: &[Addr]) -> bool
 
 // A pool in which the numbers of these chunks are in use, if it hands out just these.
 fn pool_of(alloc: Global, chunks: &[Chunk]) -> Option<Pool>
-    ensures { IfSome result (λ pool. All (λ k. IsSome (held_at pool k.number)) chunks.now) }
+    ensures { IfSome result (λ pool. All (λ k. IsSome (slot_at pool k.number)) chunks.now) }
 {
     let mut pool = Pool::new(alloc, 1000);
     for chunk in chunks {
@@ -110,7 +110,7 @@ fn sweep(
 ) -> Option<(u32, u32, u32)>
     requires done { IsDone marking }
     requires room { HasRoom heap.old.chunks marking }
-    requires in_use { All (λ k. IsSome (held_at pool.old k.number)) heap.old.chunks }
+    requires in_use { All (λ k. IsSome (slot_at pool.old k.number)) heap.old.chunks }
 {
     let would_give = marking.would_give(heap);
     let given = marking.sweep(heap, pool);

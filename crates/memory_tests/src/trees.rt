@@ -177,7 +177,7 @@ fn a_thousand_deep(rt: HostRuntime) {
 
 // What a reader gets that reads an address, if its chunk is a task's of the tree.
 fn read(tree: &Tree, pool: &Pool, reader: u32, to: Addr) -> Option<Result<Addr, Stop>> {
-    let held = pool.held(to.chunk)?;
+    let held = pool.slot(to.chunk)?;
     if reader >= tree.made() || held.owner >= tree.made() {
         return None;
     }

@@ -24,7 +24,7 @@ fn is_owned(tree: &Tree, pool: &Pool, reference: Option<Addr>) -> bool
     let Some(to) = reference else {
         return true;
     };
-    match pool.held(to.chunk) {
+    match pool.slot(to.chunk) {
         None => false,
         Some(held) => held.owner < tree.made() && to.offset < 1024,
     }

@@ -20,7 +20,7 @@ use Rattle.run_ledger.specs.Steps.{owns, task_steps, touched}
 use Rattle.object_layout.specs.declared.word.Addr.{Addr}
 use Rattle.object_layout.specs.Cell.{Cell}
 use Rattle.object_layout.specs.Chunks.{cell_of, object_of}
-use Rattle.chunk_pool.specs.PoolValue.{held_at, owner_of as pool_owner}
+use Rattle.chunk_pool.specs.PoolValue.{slot_at, owner_of as pool_owner}
 use Rattle.task_frames.specs.declared.frames.Frame.{Frame}
 use Rattle.write_barrier.specs.Stored.{IsOwned}
 use Rattle.ledger_step_laws.specs.Accounts.{own, rested}
@@ -100,7 +100,7 @@ module _ (w : SharedValue) (k : ℕ) (p : Private) (I : IsSharedValue w) (F : Fi
   pub owned : (b : ℕ) (u : ℕ) → pool_owner w.pool b ≡ Some u → u < length w.tree
   owned b u e = made_there w I on u (sym ((link.alone w k p I F on).tree.made u) ∙ (link.W w k p I F on).made b u e)
 
-  pub in_use : (b : ℕ) (u : ℕ) → pool_owner w.pool b ≡ Some u → IsSome (held_at w.pool b)
+  pub in_use : (b : ℕ) (u : ℕ) → pool_owner w.pool b ≡ Some u → IsSome (slot_at w.pool b)
   in_use b u e = owner_held w.pool b u e
 
   pub reader_there : t < length w.tree
@@ -191,7 +191,7 @@ module _ (w : SharedValue) (k : ℕ) (p : Private) (I : IsSharedValue w) (F : Fi
       same_address : a ≡ address
       same_address = same_Some a address (sym is ∙ named)
 
-      pub used_there : IsSome (held_at w.pool a.chunk)
+      pub used_there : IsSome (slot_at w.pool a.chunk)
       used_there = in_use a.chunk owner (ap (λ (z : Addr). pool_owner w.pool z.chunk) same_address ∙ owner_is)
 
       module _ (u : ℕ) (owns : pool_owner w.pool a.chunk ≡ Some u) where

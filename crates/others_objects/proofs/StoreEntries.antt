@@ -14,7 +14,7 @@ use Rattle.run_ledger.specs.Steps.{task_steps, touched}
 use Rattle.object_layout.specs.declared.word.Addr.{Addr}
 use Rattle.object_layout.specs.Cell.{Cell, IsPlace, with_int as cell_int, with_ref as cell_ref}
 use Rattle.object_layout.specs.Chunks.{cell_of, object_of}
-use Rattle.chunk_pool.specs.PoolValue.{held_at, owner_of as pool_owner}
+use Rattle.chunk_pool.specs.PoolValue.{slot_at, owner_of as pool_owner}
 use Rattle.task_frames.specs.FramesValue.{FramesValue, ref_of}
 use Rattle.write_barrier.specs.declared.sets.SetOf.{SetOf}
 use Rattle.write_barrier.specs.Stored.{IsOwned, content_after, content_at}
@@ -256,7 +256,7 @@ module _ (w : SharedValue) (k : ℕ) (p : Private) (I : IsSharedValue w) (F : Fi
     same_owner : (z : ℕ) → pool_owner w.pool a.chunk ≡ Some z → z ≡ owner_number
     same_owner z e = same_Some z owner_number (sym e ∙ foreign_number.place.chunk)
 
-    pub used_number : IsSome (held_at w.pool a.chunk)
+    pub used_number : IsSome (slot_at w.pool a.chunk)
     used_number = owner_held w.pool a.chunk owner_number foreign_number.place.chunk
 
     pub home_number : (z : ℕ) → pool_owner w.pool a.chunk ≡ Some z → z < length w.homes

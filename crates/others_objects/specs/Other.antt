@@ -20,7 +20,7 @@ use Rattle.object_layout.specs.Cell.{Cell, IsObject}
 use Rattle.object_layout.specs.Chunks.{cell_of, object_of, put_object}
 use Rattle.object_layout.specs.ChunkValue.{ChunkValue}
 use Rattle.object_layout.specs.References.{same_reference}
-use Rattle.chunk_pool.specs.PoolValue.{PoolValue, held_at, owner_of}
+use Rattle.chunk_pool.specs.PoolValue.{PoolValue, slot_at, owner_of}
 use Rattle.task_frames.specs.declared.frames.Frame.{Frame}
 use Rattle.task_frames.specs.FramesValue.{FramesValue, with_int as with_number, with_next, int_of, ref_of}
 use Rattle.heap_tree.specs.Node.{Node, is_on_path}
@@ -193,7 +193,7 @@ pub record IsWritable (made : ℕ) (pool : PoolValue) (homes : List (Option Rest
   pub owner : ℕ
   pub rest : Rest
   pub owns : owner_of pool a.chunk ≡ Some owner
-  pub used : IsSome (held_at pool a.chunk)
+  pub used : IsSome (slot_at pool a.chunk)
   pub inside : owner < made
   pub home : owner < length homes
   pub there : rest_at homes owner ≡ Some rest

@@ -3,7 +3,7 @@
 ghost use Rattle.std.specs.Prelude.{◌≡◌, ◌<◌, ◌+◌, ◌^◌, OnErr, OnOk, None, ◌≤◌, ℕ, IsSome, Some, length, option_map, slice_index_or, slice_set};
 ghost use Rattle.object_layout.specs.Cell.{with_int, with_ref, IsPlace};
 ghost use Rattle.object_layout.specs.Chunks.{cell_of, object_of};
-ghost use Rattle.chunk_pool.specs.PoolValue.{held_at, owner_of};
+ghost use Rattle.chunk_pool.specs.PoolValue.{slot_at, owner_of};
 ghost use Rattle.write_barrier.specs.Stored.{content_after, content_at, IsOwned};
 ghost use Rattle.shared_value.specs.SharedValue.{rest_at};
 ghost use Rattle.shared_value.specs.declared.task_at_rest.Rest.{Rest as RestOf};
@@ -66,7 +66,7 @@ pub fn write_number(
     field: u32,
     value: i64,
 )
-    requires used { IsSome (held_at pool.now object.chunk) }
+    requires used { IsSome (slot_at pool.now object.chunk) }
     requires home { (o : ℕ) → owner_of pool.now object.chunk ≡ Some o → o < length homes.old }
     requires there { (o : ℕ) → owner_of pool.now object.chunk ≡ Some o → IsSome (rest_at homes.old o) }
     requires field { (o : ℕ) (r : RestOf) → owner_of pool.now object.chunk ≡ Some o → rest_at homes.old o ≡ Some r → field < length (object_of r.heap.chunks object).ints }

@@ -12,8 +12,8 @@ use Rattle.object_layout.specs.Chunks.{chunk_at, no_chunk}
 use Rattle.object_layout.specs.Place.{words_in}
 use Rattle.object_layout.specs.Cell.{IsObject}
 use Rattle.object_layout.proofs.ObjectLemmas.{chunk_there}
-use Rattle.chunk_pool.specs.declared.pool.Held.{Held}
-use Rattle.chunk_pool.specs.PoolValue.{held_at}
+use Rattle.chunk_pool.specs.declared.pool.Slot.{Slot}
+use Rattle.chunk_pool.specs.PoolValue.{slot_at}
 use Rattle.alloc_path.specs.LeafHeapValue.{AreTidy, AreWithin, IsTidy}
 use Rattle.alloc_path.proofs.Near.{are_near}
 use Rattle.ledger_step_laws.specs.Accounts.{Rests, own, rested}
@@ -188,7 +188,7 @@ module _ (w : SharedValue) (k : ℕ) (p q : Private) (n : ℕ) (I : IsSharedValu
 
   measured_then : IsMeasured w.pool Q
   measured_then = (
-    λ c i. (let j = keeps.numbers c i in ap (held_at w.pool) (sym j.2) ∙ (F.measured.0 j.0 j.1 ∙ ap (λ n. let h : Held = record { owner = t; units = n / 1024 } in Some h) j.3)),
+    λ c i. (let j = keeps.numbers c i in ap (slot_at w.pool) (sym j.2) ∙ (F.measured.0 j.0 j.1 ∙ ap (λ n. let h : Slot = record { owner = t; units = n / 1024 } in Some h) j.3)),
     F.measured.1,
   )
 

@@ -3,7 +3,7 @@
 ghost use Rattle.std.specs.Prelude.{◌≡◌, ℕ, ◌+◌, ◌*◌, ◌^◌, ◌<◌, ◌≤◌, ◌↔◌, length, Some, IsSome, IsOk};
 ghost use Rattle.heap_tree.specs.Walk.{IsUpFrom};
 ghost use Rattle.heap_tree.specs.Node.{parent_of, depth_of};
-ghost use Rattle.chunk_pool.specs.PoolValue.{held_at, owner_of};
+ghost use Rattle.chunk_pool.specs.PoolValue.{slot_at, owner_of};
 ghost use Rattle.read_barrier.specs.Checked.{checked_read};
 
 use chunk_pool::Pool;
@@ -26,7 +26,7 @@ pub struct Stop {
 /// It follows the links that `check_counted` counts.
 pub fn check(tree: &Tree, pool: &Pool, reader: u32, to: Addr) -> Result<Addr, Stop>
     requires reader { reader < length tree.now }
-    requires used { IsSome (held_at pool.now to.chunk) }
+    requires used { IsSome (slot_at pool.now to.chunk) }
     requires owner { (o : ℕ) → owner_of pool.now to.chunk ≡ Some o → o < length tree.now }
     ensures value { (o : ℕ) → owner_of pool.now to.chunk ≡ Some o → result ≡ checked_read tree.now reader o to }
     ensures walk { (o : ℕ) → owner_of pool.now to.chunk ≡ Some o → (IsOk result ↔ IsUpFrom (parent_of tree.now) reader o) }
@@ -44,7 +44,7 @@ pub fn check_counted<L: Ledger>(
     links: &mut LinkCount<L>,
 ) -> Result<Addr, Stop>
     requires reader { reader < length tree.now }
-    requires used { IsSome (held_at pool.now to.chunk) }
+    requires used { IsSome (slot_at pool.now to.chunk) }
     requires owner { (o : ℕ) → owner_of pool.now to.chunk ≡ Some o → o < length tree.now }
     ensures value { (o : ℕ) → owner_of pool.now to.chunk ≡ Some o → result ≡ checked_read tree.now reader o to }
     ensures walk { (o : ℕ) → owner_of pool.now to.chunk ≡ Some o → (IsOk result ↔ IsUpFrom (parent_of tree.now) reader o) }
@@ -71,7 +71,7 @@ fn check_from<L: Ledger>(
     requires parts { blank.parts ≡ L.parts }
     requires some { 0 < blank.parts }
     requires reader { reader < length tree.now }
-    requires used { IsSome (held_at pool.now to.chunk) }
+    requires used { IsSome (slot_at pool.now to.chunk) }
     requires owner { (o : ℕ) → owner_of pool.now to.chunk ≡ Some o → o < length tree.now }
     ensures value { (o : ℕ) → owner_of pool.now to.chunk ≡ Some o → result ≡ checked_read tree.now reader o to }
     ensures walk { (o : ℕ) → owner_of pool.now to.chunk ≡ Some o → (IsOk result ↔ IsUpFrom (parent_of tree.now) reader o) }

@@ -15,8 +15,8 @@ use Rattle.object_layout.specs.declared.word.Addr.{Addr}
 use Rattle.object_layout.specs.Cell.{IsRef}
 use Rattle.object_layout.specs.Layout.{word_of_ref}
 use Rattle.object_layout.specs.Objects.{Located}
-use Rattle.chunk_pool.specs.declared.pool.Held.{Held}
-use Rattle.chunk_pool.specs.PoolValue.{held_at}
+use Rattle.chunk_pool.specs.declared.pool.Slot.{Slot}
+use Rattle.chunk_pool.specs.PoolValue.{slot_at}
 use Rattle.heap_tree.specs.Node.{state_of}
 use Rattle.remembered_set.specs.declared.remembered.Source.{Source}
 use Rattle.ledger_step_laws.specs.Accounts.{Rests, own}
@@ -74,7 +74,7 @@ module _ (w : SharedValue) (I : IsSharedValue w) (F : AreHeldInWords w) (p : Pic
     abbrev pub near : o.at.offset < 1024
     near = Known_near w I t idle o i
 
-    abbrev pub measured : held_at w.pool o.at.chunk ≡ Some (record { owner = t; units = chunk.0.units })
+    abbrev pub measured : slot_at w.pool o.at.chunk ≡ Some (record { owner = t; units = chunk.0.units })
     measured = Known_measured w I t idle o i
 
     abbrev pub q : Picked
@@ -92,8 +92,8 @@ module _ (w : SharedValue) (I : IsSharedValue w) (F : AreHeldInWords w) (p : Pic
     pub placed : IsPlaced p q
     placed =
         let c = chunk_in w I p P o.at.chunk t owner live in
-        let held : held_at w.pool o.at.chunk ≡ Some (record { owner = t; units = chunk.0.units }) = measured in
-        let units : c.1.units ≡ chunk.0.units = ap (λ (h : Held). h.units) (same_Some c.1 (record { owner = t; units = chunk.0.units }) (sym c.3 ∙ held)) in
+        let held : slot_at w.pool o.at.chunk ≡ Some (record { owner = t; units = chunk.0.units }) = measured in
+        let units : c.1.units ≡ chunk.0.units = ap (λ (h : Slot). h.units) (same_Some c.1 (record { owner = t; units = chunk.0.units }) (sym c.3 ∙ held)) in
         let within : o.at.offset + words o ≤ 1024 * chunk.0.units = H.laid.within chunk.0 o chunk.1 chunk.2 in
         let size : c.0.words ≡ 1024 * c.1.units = c.6 in
         let last : end_of q ≡ o.at.offset + words o = end_is in

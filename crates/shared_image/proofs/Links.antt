@@ -10,8 +10,8 @@ use Rattle.hh_model.specs.Paths.{IsWalkUp}
 use Rattle.hh_model.specs.Step.{is_on_path, joined, owner_of, parent_of, parents}
 use Rattle.object_layout.specs.declared.word.Addr.{Addr}
 use Rattle.object_layout.specs.Layout.{word_of_ref}
-use Rattle.chunk_pool.specs.declared.pool.Held.{Held}
-use Rattle.chunk_pool.specs.PoolValue.{held_at}
+use Rattle.chunk_pool.specs.declared.pool.Slot.{Slot}
+use Rattle.chunk_pool.specs.PoolValue.{slot_at}
 use Rattle.heap_tree.specs.declared.state.State.{State}
 use Rattle.heap_tree.specs.declared.state.State.TheVariants.{Ready, Out, Waiting, Ended, Joined}
 use Rattle.heap_tree.specs.Node.{Node, state_of}
@@ -48,7 +48,7 @@ parent_in : (o : Option Task) (q : ℕ) → parent_of o ≡ Some q → (y : Task
 parent_in None q e = absurd cc
 parent_in (Some y) q e = (y, refl, e)
 
-held_in : (o : Option Held) (t : ℕ) → option_map (λ (h : Held). h.owner) o ≡ Some t → (h : Held) × (o ≡ Some h) × (h.owner ≡ t)
+held_in : (o : Option Slot) (t : ℕ) → option_map (λ (h : Slot). h.owner) o ≡ Some t → (h : Slot) × (o ≡ Some h) × (h.owner ≡ t)
 held_in None t e = absurd cc
 held_in (Some h) t e = (h, refl, same_Some h.owner t e)
 
@@ -106,9 +106,9 @@ module _ (w : SharedValue) (I : IsSharedValue w) (p : Picture) (P : IsPictureOf 
   owner_now : (u : ℕ) → owner_of (accounts w).machine.tasks u ≡ owner_of TT u
   owner_now u = ap (λ (m : Machine). owner_of m.tasks u) (sym (same w I))
 
-  pub chunk_in : (n t : ℕ) → v.owner n ≡ Some t → joined TT t ≡ false → (c : Chunk) × (h : Held) × In p.chunks c × (held_at w.pool n ≡ Some h) × (c.number ≡ n) × (c.owner ≡ t) × (c.words ≡ 1024 * h.units)
+  pub chunk_in : (n t : ℕ) → v.owner n ≡ Some t → joined TT t ≡ false → (c : Chunk) × (h : Slot) × In p.chunks c × (slot_at w.pool n ≡ Some h) × (c.number ≡ n) × (c.owner ≡ t) × (c.words ≡ 1024 * h.units)
   chunk_in n t e live =
-      let h = held_in (held_at w.pool n) t e in
+      let h = held_in (slot_at w.pool n) t e in
       let x : InUse = record { number = n; owner = owner_of (accounts w).machine.tasks h.0.owner; words = 1024 * h.0.units } in
       let X : IsInUse w x = record { held = h.0; is = h.1; owner = refl; words = refl } in
       let owner : x.owner ≡ t = owner_now h.0.owner ∙ (ap (owner_of TT) h.2 ∙ (owners w I).own t live) in
@@ -121,6 +121,6 @@ module _ (w : SharedValue) (I : IsSharedValue w) (p : Picture) (P : IsPictureOf 
   owner_is a t u near e live h =
       let x = (P.chunks.each h.0).0 h.1.0 in
       let number : x.0.number ≡ a.chunk = sym (ap (λ (c : Chunk). c.number) x.2) ∙ (sym h.1.2 ∙ chunk_of_word a near) in
-      let holder : option_map (λ (z : Held). z.owner) (held_at w.pool x.0.number) ≡ Some t = ap v.owner number ∙ e in
-      let owner : x.1.held.owner ≡ t = same_Some x.1.held.owner t (sym (ap (option_map (λ (z : Held). z.owner)) x.1.is) ∙ holder) in
+      let holder : option_map (λ (z : Slot). z.owner) (slot_at w.pool x.0.number) ≡ Some t = ap v.owner number ∙ e in
+      let owner : x.1.held.owner ≡ t = same_Some x.1.held.owner t (sym (ap (option_map (λ (z : Slot). z.owner)) x.1.is) ∙ holder) in
       sym h.2 ∙ (ap (λ (c : Chunk). c.owner) x.2 ∙ (x.1.owner ∙ (owner_now x.1.held.owner ∙ (ap (owner_of TT) owner ∙ (owners w I).own t live))))

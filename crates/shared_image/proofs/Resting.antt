@@ -10,7 +10,7 @@ use Rattle.hh_model.specs.Step.{joined}
 use Rattle.run_ledger.specs.Heaps.{heap_of}
 use Rattle.object_layout.specs.declared.word.Addr.{Addr}
 use Rattle.object_layout.specs.Objects.{Located}
-use Rattle.chunk_pool.specs.PoolValue.{held_at}
+use Rattle.chunk_pool.specs.PoolValue.{slot_at}
 use Rattle.ledger_step_laws.specs.Accounts.{Rests, own}
 use Rattle.core_relation.specs.Reads.{AllRead, IsRead}
 use Rattle.core_relation.specs.Stands.{HomeStands, Place, Stands}
@@ -55,11 +55,11 @@ module _ (w : SharedValue) (I : IsSharedValue w) where
   near_by t None e o i = absurd i
   near_by t (Some r) e o i = (I.heaps t r e).near o (subst (λ ks. In (objects_in ks) o) (home_chunks r) i)
 
-  measured_by : (t : ℕ) → IsUnheld w.hands t → (r : Option Rest) → rest_at w.homes t ≡ r → (c : ChunkOf) → In (home_in r).chunks c → held_at w.pool c.number ≡ Some (record { owner = t; units = c.units })
+  measured_by : (t : ℕ) → IsUnheld w.hands t → (r : Option Rest) → rest_at w.homes t ≡ r → (c : ChunkOf) → In (home_in r).chunks c → slot_at w.pool c.number ≡ Some (record { owner = t; units = c.units })
   measured_by t un None e c i = absurd i
   measured_by t un (Some r) e c i =
       let q = map_in chunk_of r.heap.chunks c (subst (λ ks. In ks c) (home_chunks r) i) in
-      subst (λ (z : ChunkOf). held_at w.pool z.number ≡ Some (record { owner = t; units = z.units })) q.2 (I.measured t r e un q.0 q.1)
+      subst (λ (z : ChunkOf). slot_at w.pool z.number ≡ Some (record { owner = t; units = z.units })) q.2 (I.measured t r e un q.0 q.1)
 
   -- AN OBJECT OF A HEAP HANDED BACK
   module _ (t : ℕ) (idle : IsHandedBack w t) (o : Located) (i : In (objects v t) o) where
@@ -94,5 +94,5 @@ module _ (w : SharedValue) (I : IsSharedValue w) where
         absurd cc
 
     -- the pool has the units of its chunk
-    pub measured : held_at w.pool o.at.chunk ≡ Some (record { owner = t; units = chunk.0.units })
-    measured = ap (held_at w.pool) (H.inside chunk.0 o chunk.1 chunk.2) ∙ measured_by t unheld (rest_at w.homes t) refl chunk.0 chunk.1
+    pub measured : slot_at w.pool o.at.chunk ≡ Some (record { owner = t; units = chunk.0.units })
+    measured = ap (slot_at w.pool) (H.inside chunk.0 o chunk.1 chunk.2) ∙ measured_by t unheld (rest_at w.homes t) refl chunk.0 chunk.1

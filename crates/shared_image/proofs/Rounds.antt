@@ -3,8 +3,8 @@ use Rattle.std.proofs.Common.{◌≡◌, ◌⊎◌, ℕ, ◌+◌, ◌*◌, ◌<�
 use Rattle.listed.proofs.Members.{in_append_left}
 use Rattle.listed.proofs.Places.{got_in_take, in_take_more}
 use Rattle.hh_model.specs.Step.{owner_of}
-use Rattle.chunk_pool.specs.declared.pool.Held.{Held}
-use Rattle.chunk_pool.specs.PoolValue.{held_at}
+use Rattle.chunk_pool.specs.declared.pool.Slot.{Slot}
+use Rattle.chunk_pool.specs.PoolValue.{slot_at}
 use Rattle.object_layout.specs.Objects.{Located}
 use Rattle.core_relation.specs.Memory.{In, objects}
 use Rattle.shared_value.specs.Stands.{IsSharedValue}
@@ -61,9 +61,9 @@ module _ (w : SharedValue) (I : IsSharedValue w) where
 
   -- the chunk of an object of a heap handed back is in use
   in_use_of : (cs : List InUse) → AreAll InUseBefore (IsInUse w) cs → (t : ℕ) → IsHandedBack w t → (o : Located) → In (objects (value_of w) t) o → (c : InUse) × In cs c × (c.number ≡ o.at.chunk)
-  in_use_of cs all t idle o i = by (held_at w.pool o.at.chunk) refl (owner w I t idle o i)
+  in_use_of cs all t idle o i = by (slot_at w.pool o.at.chunk) refl (owner w I t idle o i)
     where
-      by : (h : Option Held) → held_at w.pool o.at.chunk ≡ h → option_map (λ (z : Held). z.owner) h ≡ Some t → (c : InUse) × In cs c × (c.number ≡ o.at.chunk)
+      by : (h : Option Slot) → slot_at w.pool o.at.chunk ≡ h → option_map (λ (z : Slot). z.owner) h ≡ Some t → (c : InUse) × In cs c × (c.number ≡ o.at.chunk)
       by None e f = absurd cc
       by (Some h) e f =
           let c : InUse = record { number = o.at.chunk; owner = owner_of (accounts w).machine.tasks h.owner; words = 1024 * h.units } in

@@ -15,8 +15,8 @@ use Rattle.object_layout.specs.declared.word.Addr.{Addr}
 use Rattle.object_layout.specs.Cell.{IsRef}
 use Rattle.object_layout.specs.Layout.{word_of_ref}
 use Rattle.object_layout.specs.Objects.{Located}
-use Rattle.chunk_pool.specs.declared.pool.Held.{Held}
-use Rattle.chunk_pool.specs.PoolValue.{AreChunks, held_at, held_in, units_held, units_in, units_in_use}
+use Rattle.chunk_pool.specs.declared.pool.Slot.{Slot}
+use Rattle.chunk_pool.specs.PoolValue.{AreChunks, slot_at, slot_in, slot_units, units_in, units_in_use}
 use Rattle.core_relation.specs.Stands.{Place}
 use Rattle.core_relation.specs.Memory.{In, Memory, object_name, objects}
 use Rattle.core_relation.proofs.objects.Members.{map_in}
@@ -40,9 +40,9 @@ use Rattle.shared_image.proofs.Drawing.{births, apart, content, fits, keeps, lea
 use Rattle.shared_image.proofs.Resting.{made, read_length}
 use Rattle.shared_image.proofs.Numbers.{all_in, rises_at, word_long}
 
-units_most : (slots : List (Option Held)) (n : ℕ) (h : Held) → held_in slots n ≡ Some h → h.units ≤ units_in slots
+units_most : (slots : List (Option Slot)) (n : ℕ) (h : Slot) → slot_in slots n ≡ Some h → h.units ≤ units_in slots
 units_most [] n h e = absurd cc
-units_most (s ∷ slots) zero h e = let a : units_held s ≡ h.units = ap units_held e in omega (arith, a)
+units_most (s ∷ slots) zero h e = let a : slot_units s ≡ h.units = ap slot_units e in omega (arith, a)
 units_most (s ∷ slots) (suc n) h e = let a : h.units ≤ units_in slots = units_most slots n h e in omega (arith, a)
 
 module _ (w : SharedValue) (I : IsSharedValue w) (C : AreChunks w.pool.slots) (F : AreHeldInWords w) (p : Picture) (P : IsPictureOf w p) where
@@ -69,8 +69,8 @@ module _ (w : SharedValue) (I : IsSharedValue w) (C : AreChunks w.pool.slots) (F
       let b = few w I in
       subst IsTaskForm (sym x.2) (record { number = omega (arith, a, b); parent = fit_parent x.0.number y.0 y.1 x.0.parent (sym y.2) })
 
-  held_made : (n : ℕ) (h : Held) → held_at w.pool n ≡ Some h → h.owner < length TT
-  held_made n h e = made w I n h.owner (ap (option_map (λ (z : Held). z.owner)) e)
+  held_made : (n : ℕ) (h : Slot) → slot_at w.pool n ≡ Some h → h.owner < length TT
+  held_made n h e = made w I n h.owner (ap (option_map (λ (z : Slot). z.owner)) e)
 
   owner_few : (u : ℕ) → u < length TT → owner_of (accounts w).machine.tasks u < length TT
   owner_few u lt =
@@ -78,7 +78,7 @@ module _ (w : SharedValue) (I : IsSharedValue w) (C : AreChunks w.pool.slots) (F
       let e : owner_of (accounts w).machine.tasks u ≡ owner_of TT u = ap (λ (m : Machine). owner_of m.tasks u) (sym (same w I)) in
       omega (arith, lt, le, e)
 
-  units_few : (n : ℕ) (h : Held) → held_at w.pool n ≡ Some h → h.units ≤ 65536
+  units_few : (n : ℕ) (h : Slot) → slot_at w.pool n ≡ Some h → h.units ≤ 65536
   units_few n h e =
       let a : h.units ≤ units_in_use w.pool = units_most w.pool.slots n h e in
       let b : units_in_use w.pool ≡ in_use (accounts w) = used_now w I in
@@ -101,9 +101,9 @@ module _ (w : SharedValue) (I : IsSharedValue w) (C : AreChunks w.pool.slots) (F
   -- of an object of a heap handed back
   module _ (t : ℕ) (idle : IsHandedBack w t) (o : Located) (i : In (objects v t) o) where
     short : o.at.chunk < 2 ^ 32
-    short = by (held_at w.pool o.at.chunk) refl (owner w I F p P t idle o i)
+    short = by (slot_at w.pool o.at.chunk) refl (owner w I F p P t idle o i)
       where
-        by : (h : Option Held) → held_at w.pool o.at.chunk ≡ h → option_map (λ (z : Held). z.owner) h ≡ Some t → o.at.chunk < 2 ^ 32
+        by : (h : Option Slot) → slot_at w.pool o.at.chunk ≡ h → option_map (λ (z : Slot). z.owner) h ≡ Some t → o.at.chunk < 2 ^ 32
         by None is e = absurd cc
         by (Some h) is e = (C o.at.chunk h is).0
 

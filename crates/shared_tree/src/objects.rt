@@ -19,7 +19,7 @@ impl Shared {
         ensures unmoved { IfSome result (λ k. All (λ c. moved_to c.mark ≡ None) k.now.cells) }
     {
         self.stands();
-        let owner = self.pool.held(number)?.owner;
+        let owner = self.pool.slot(number)?.owner;
         if is_running(self.tree.state(owner)) {
             return None;
         }

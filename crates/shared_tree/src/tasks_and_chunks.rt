@@ -52,7 +52,7 @@ impl Shared {
         let Ok(number) = u32::try_from(number) else {
             return None;
         };
-        match self.pool.held(number) {
+        match self.pool.slot(number) {
             None => None,
             Some(held) => Some(InUse {
                 number,

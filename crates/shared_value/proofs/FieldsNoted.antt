@@ -4,8 +4,8 @@ use Rattle.std.specs.List.{list_any}
 use Rattle.std.proofs.lemmas.Bool.{eqb-true, false≢true}
 use Rattle.listed.proofs.Members.{any_from_in, in_from_any}
 use Rattle.object_layout.specs.ChunkValue.{ChunkValue}
-use Rattle.chunk_pool.specs.declared.pool.Held.{Held}
-use Rattle.chunk_pool.specs.PoolValue.{PoolValue, held_at, owner_of}
+use Rattle.chunk_pool.specs.declared.pool.Slot.{Slot}
+use Rattle.chunk_pool.specs.PoolValue.{PoolValue, slot_at, owner_of}
 use Rattle.alloc_path.specs.LeafHeapValue.{IsFresh}
 use Rattle.alloc_path.proofs.HeapLemmas.{fresh_cons}
 use Rattle.remembered_set.specs.declared.remembered.Source.{Source}
@@ -62,8 +62,8 @@ pub fresh_by : (ks : List ChunkValue) (n : ℕ) → ((k : ChunkValue) → In ks 
 fresh_by [] n f = refl
 fresh_by (k ∷ ks) n f = fresh_cons k ks n (f k (inl refl)) (fresh_by ks n (λ j i. f j (inr i)))
 
-pub owner_none : (pool : PoolValue) (n u : ℕ) → held_at pool n ≡ None → owner_of pool n ≡ Some u → ⊥
-owner_none pool n u e o = none_some (ap (option_map (λ (h : Held). h.owner)) (sym e) ∙ o)
+pub owner_none : (pool : PoolValue) (n u : ℕ) → slot_at pool n ≡ None → owner_of pool n ≡ Some u → ⊥
+owner_none pool n u e o = none_some (ap (option_map (λ (h : Slot). h.owner)) (sym e) ∙ o)
   where
     none_some : ◌≡◌ {A = Option ℕ} None (Some u) → ⊥
     none_some q = absurd cc

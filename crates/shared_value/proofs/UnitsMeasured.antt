@@ -9,8 +9,8 @@ use Rattle.object_layout.specs.declared.word.Addr.{Addr}
 use Rattle.object_layout.specs.Cell.{Cell}
 use Rattle.object_layout.specs.Chunks.{has_chunk, place_in, put_object, with_cell}
 use Rattle.object_layout.specs.ChunkValue.{ChunkValue}
-use Rattle.chunk_pool.specs.declared.pool.Held.{Held}
-use Rattle.chunk_pool.specs.PoolValue.{PoolValue, Takes, TakesAll, held_at, held_in, one_unit, owner_of}
+use Rattle.chunk_pool.specs.declared.pool.Slot.{Slot}
+use Rattle.chunk_pool.specs.PoolValue.{PoolValue, Takes, TakesAll, slot_at, slot_in, one_unit, owner_of}
 use Rattle.alloc_path.specs.LeafHeapValue.{IsFresh}
 use Rattle.inner_mark_gc.specs.Swept.{AreGiven}
 use Rattle.fork_join.specs.Joined.{AreRelabelled, with_owner}
@@ -23,15 +23,15 @@ use Rattle.shared_value.proofs.CellsRead.{fresh_off}
 use Rattle.shared_value.proofs.FieldsNoted.{fresh_by}
 
 -- the pool has the chunks that it has for a task
-pub owner_held : (pool : PoolValue) (n u : ℕ) → owner_of pool n ≡ Some u → IsSome (held_at pool n)
-owner_held pool n u e = by (held_at pool n) e
+pub owner_held : (pool : PoolValue) (n u : ℕ) → owner_of pool n ≡ Some u → IsSome (slot_at pool n)
+owner_held pool n u e = by (slot_at pool n) e
   where
-    by : (o : Option Held) → option_map (λ (h : Held). h.owner) o ≡ Some u → IsSome o
+    by : (o : Option Slot) → option_map (λ (h : Slot). h.owner) o ≡ Some u → IsSome o
     by None q = none_some q
     by (Some h) q = refl
 
 -- a chunk of so many units for a task
-abbrev of_units : ℕ → ℕ → Held
+abbrev of_units : ℕ → ℕ → Slot
 of_units t units = record { owner = t; units = units }
 
 -- WHAT IT HAS FOR A TASK STAYS
@@ -50,33 +50,33 @@ measured_both pool t (x ∷ ks) js A B k (inl e) = A k (inl e)
 measured_both pool t (x ∷ ks) js A B k (inr i) = measured_both pool t ks js (λ c j. A c (inr j)) B k i
 
 -- A CHUNK IS TAKEN
-pub taken_keeps : (old new : PoolValue) (number : ℕ) (held : Held) → Takes old new number held → (t : ℕ) → KeepsUnits old new t
+pub taken_keeps : (old new : PoolValue) (number : ℕ) (held : Slot) → Takes old new number held → (t : ℕ) → KeepsUnits old new t
 taken_keeps old new number held T t n units e = elim (cases_eq n number) [
-  | inl q ↦ absurd (none_some (sym T.was_free ∙ (ap (held_at old) (sym q) ∙ e)))
+  | inl q ↦ absurd (none_some (sym T.was_free ∙ (ap (slot_at old) (sym q) ∙ e)))
   | inr ne ↦ T.rest.others n ne ∙ e
 ]
 
 -- and it has its units
 pub measured_new : (old new : PoolValue) (k : ChunkValue) (t units : ℕ) → Takes old new k.number (record { owner = t; units = units }) → k.size ≡ 1024 * units → AreMeasured new t (k ∷ [])
-measured_new old new k t units T e c (inl q) = subst (λ (z : ChunkValue). held_at new z.number ≡ Some (record { owner = t; units = z.size / 1024 })) q (T.taken ∙ ap (λ n. Some (of_units t n)) (let q : units ≡ k.size / 1024 = omega (arith, e) in q))
+measured_new old new k t units T e c (inl q) = subst (λ (z : ChunkValue). slot_at new z.number ≡ Some (record { owner = t; units = z.size / 1024 })) q (T.taken ∙ ap (λ n. Some (of_units t n)) (let q : units ≡ k.size / 1024 = omega (arith, e) in q))
 measured_new old new k t units T e c (inr i) = absurd i
 
 -- MANY ARE TAKEN
 module _ (old new : PoolValue) (owner count : ℕ) (was is : List ChunkValue) (T : TakesAll old new owner count was is) where
   pub all_taken_keep : (t : ℕ) → KeepsUnits old new t
-  all_taken_keep t n units e = T.numbers.numbered.each n ∙ (cond-false (has_chunk T.numbers.chunks n) (Some (one_unit owner)) (held_in old.slots n) (off (has_chunk T.numbers.chunks n) refl) ∙ e)
+  all_taken_keep t n units e = T.numbers.numbered.each n ∙ (cond-false (has_chunk T.numbers.chunks n) (Some (one_unit owner)) (slot_in old.slots n) (off (has_chunk T.numbers.chunks n) refl) ∙ e)
     where
       off : (b : Bool) → has_chunk T.numbers.chunks n ≡ b → b ≡ false
       off false q = refl
       off true q =
           let fresh : IsFresh T.numbers.chunks n = fresh_by T.numbers.chunks n
-          (λ c j z. none_some (sym (read_in (λ (c : ChunkValue). held_in old.slots c.number ≡ None) T.numbers.chunks c j T.numbers.numbered.were_free) ∙ (ap (held_in old.slots) z ∙ e))) in
+          (λ c j z. none_some (sym (read_in (λ (c : ChunkValue). slot_in old.slots c.number ≡ None) T.numbers.chunks c j T.numbers.numbered.were_free) ∙ (ap (slot_in old.slots) z ∙ e))) in
           absurd (false≢true (sym (ap is_some fresh) ∙ q))
 
   pub all_taken_units : AreUnits new owner (map number_of T.numbers.chunks)
   all_taken_units n i =
       let x = map_in number_of T.numbers.chunks n i in
-      T.numbers.numbered.each n ∙ cond-true (has_chunk T.numbers.chunks n) (Some (one_unit owner)) (held_in old.slots n) (there x.0 x.1 x.2 (place_in T.numbers.chunks n) refl)
+      T.numbers.numbered.each n ∙ cond-true (has_chunk T.numbers.chunks n) (Some (one_unit owner)) (slot_in old.slots n) (there x.0 x.1 x.2 (place_in T.numbers.chunks n) refl)
     where
       there : (c : ChunkValue) → In T.numbers.chunks c → c.number ≡ n → (o : Option ℕ) → place_in T.numbers.chunks n ≡ o → is_some o ≡ true
       there c j q None e = absurd (fresh_off T.numbers.chunks c n e j q)
@@ -85,7 +85,7 @@ module _ (old new : PoolValue) (owner count : ℕ) (was is : List ChunkValue) (T
 -- CHUNKS ARE GIVEN BACK: what is another task's stays
 pub given_keeps : (old new : PoolValue) (gs : List ChunkValue) (t u : ℕ) → AreGiven old new gs → All (λ g. owner_of old g.number ≡ Some t) gs → (u ≡ t → ⊥) → KeepsUnits old new u
 given_keeps old new gs t u G owned ne n units e =
-    G.others n (fresh_by gs n (λ g j q. ne (same_Some u t (sym (ap (option_map (λ (h : Held). h.owner)) e) ∙ (ap (owner_of old) (sym q) ∙ read_in (λ (g : ChunkValue). owner_of old g.number ≡ Some t) gs g j owned)))))
+    G.others n (fresh_by gs n (λ g j q. ne (same_Some u t (sym (ap (option_map (λ (h : Slot). h.owner)) e) ∙ (ap (owner_of old) (sym q) ∙ read_in (λ (g : ChunkValue). owner_of old g.number ≡ Some t) gs g j owned)))))
     ∙ e
 
 -- and of the task's own all others
@@ -95,24 +95,24 @@ measured_given old new gs t ks G f M k i = G.others k.number (f k i) ∙ M k i
 -- CHUNKS ARE RELABELLED
 module _ (old new : PoolValue) (ks : List ChunkValue) (owner : ℕ) (R : AreRelabelled old new ks owner) where
   -- what is of none of these tasks stays
-  pub relabelled_keeps : (t : ℕ) → ((n units : ℕ) → held_at old n ≡ Some (record { owner = t; units = units }) → has_chunk ks n ≡ true → ⊥) → KeepsUnits old new t
+  pub relabelled_keeps : (t : ℕ) → ((n units : ℕ) → slot_at old n ≡ Some (record { owner = t; units = units }) → has_chunk ks n ≡ true → ⊥) → KeepsUnits old new t
   relabelled_keeps t apart n units e = elim (cases_Bool (has_chunk ks n)) [
     | inl h ↦ absurd (apart n units e h)
-    | inr h ↦ R.each n ∙ (cond-false (has_chunk ks n) (option_map (with_owner owner) (held_at old n)) (held_at old n) h ∙ e)
+    | inr h ↦ R.each n ∙ (cond-false (has_chunk ks n) (option_map (with_owner owner) (slot_at old n)) (slot_at old n) h ∙ e)
   ]
 
   -- and what is the owner's, in any case
   pub relabelled_own : KeepsUnits old new owner
   relabelled_own n units e = elim (cases_Bool (has_chunk ks n)) [
-    | inl h ↦ R.each n ∙ (cond-true (has_chunk ks n) (option_map (with_owner owner) (held_at old n)) (held_at old n) h ∙ ap (option_map (with_owner owner)) e)
-    | inr h ↦ R.each n ∙ (cond-false (has_chunk ks n) (option_map (with_owner owner) (held_at old n)) (held_at old n) h ∙ e)
+    | inl h ↦ R.each n ∙ (cond-true (has_chunk ks n) (option_map (with_owner owner) (slot_at old n)) (slot_at old n) h ∙ ap (option_map (with_owner owner)) e)
+    | inr h ↦ R.each n ∙ (cond-false (has_chunk ks n) (option_map (with_owner owner) (slot_at old n)) (slot_at old n) h ∙ e)
   ]
 
   -- the chunks are the new owner's
   pub relabelled_measured : (t : ℕ) (js : List ChunkValue) → ((k : ChunkValue) → In js k → has_chunk ks k.number ≡ true) → AreMeasured old t js → AreMeasured new owner js
   relabelled_measured t js has M k i =
       R.each k.number
-      ∙ (cond-true (has_chunk ks k.number) (option_map (with_owner owner) (held_at old k.number)) (held_at old k.number) (has k i)
+      ∙ (cond-true (has_chunk ks k.number) (option_map (with_owner owner) (slot_at old k.number)) (slot_at old k.number) (has k i)
       ∙ ap (option_map (with_owner owner)) (M k i))
 
 -- AN OBJECT IS WRITTEN
@@ -121,7 +121,7 @@ measured_written pool t [] a d M k i = absurd i
 measured_written pool t (x ∷ ks) a d M k i = by (x.number == a.chunk) (measured_written pool t ks a d (λ c j. M c (inr j))) k i
   where
     by : (b : Bool) → AreMeasured pool t (put_object ks a d) → AreMeasured pool t (cond b (with_cell x a.offset d ∷ ks) (x ∷ put_object ks a d))
-    by true go k (inl e) = subst (λ (z : ChunkValue). held_at pool z.number ≡ Some (record { owner = t; units = z.size / 1024 })) e (M x (inl refl))
+    by true go k (inl e) = subst (λ (z : ChunkValue). slot_at pool z.number ≡ Some (record { owner = t; units = z.size / 1024 })) e (M x (inl refl))
     by true go k (inr i) = M k (inr i)
     by false go k (inl e) = M k (inl e)
     by false go k (inr i) = go k i

@@ -1,7 +1,7 @@
 -- The pool knows as many units of a chunk as the chunk has words for.
 use Rattle.std.specs.Prelude.{◌≡◌, ◌≢◌, ℕ, ◌/◌, Option, Some, None, List, [], slice_get}
 use Rattle.object_layout.specs.ChunkValue.{ChunkValue}
-use Rattle.chunk_pool.specs.PoolValue.{PoolValue, held_at, one_unit}
+use Rattle.chunk_pool.specs.PoolValue.{PoolValue, slot_at, one_unit}
 use Rattle.core_relation.specs.Memory.{In}
 use Rattle.task_machine.specs.declared.part.Begun.{Begun}
 use Rattle.task_machine.specs.declared.part.Private.{Private}
@@ -10,7 +10,7 @@ use Rattle.shared_value.specs.SharedValue.{flat, rest_at}
 
 -- it has each of these chunks for the task, with as many units as the chunk has
 abbrev pub AreMeasured : PoolValue → ℕ → List ChunkValue → Type 0
-AreMeasured pool t ks = (k : ChunkValue) → In ks k → held_at pool k.number ≡ Some (record { owner = t; units = k.size / 1024 })
+AreMeasured pool t ks = (k : ChunkValue) → In ks k → slot_at pool k.number ≡ Some (record { owner = t; units = k.size / 1024 })
 
 -- no worker holds the task
 abbrev pub IsUnheld : List (Option ℕ) → ℕ → Type 0
@@ -22,7 +22,7 @@ RestsAreMeasured pool homes hands = (t : ℕ) (r : Rest) → rest_at homes t ≡
 
 -- it has a chunk of one unit for the task at each of these numbers
 abbrev pub AreUnits : PoolValue → ℕ → List ℕ → Type 0
-AreUnits pool t ns = (n : ℕ) → In ns n → held_at pool n ≡ Some (one_unit t)
+AreUnits pool t ns = (n : ℕ) → In ns n → slot_at pool n ≡ Some (one_unit t)
 
 -- the chunks that a begun collection took
 abbrev pub news_of : Option Begun → List ℕ
@@ -35,4 +35,4 @@ IsMeasured pool p = AreMeasured pool p.task p.heap.chunks × AreUnits pool p.tas
 
 -- what it has for a task stays
 abbrev pub KeepsUnits : PoolValue → PoolValue → ℕ → Type 0
-KeepsUnits old new t = (n units : ℕ) → held_at old n ≡ Some (record { owner = t; units = units }) → held_at new n ≡ Some (record { owner = t; units = units })
+KeepsUnits old new t = (n units : ℕ) → slot_at old n ≡ Some (record { owner = t; units = units }) → slot_at new n ≡ Some (record { owner = t; units = units })

@@ -21,7 +21,7 @@ impl Heaps {
     fn owner(&self, number: u32) -> Option<u32>
         ensures { result ≡ owner_of self.now.pool number }
     {
-        match self.pool.held(number) {
+        match self.pool.slot(number) {
             Some(held) => Some(held.owner),
             None => None,
         }

@@ -2,7 +2,7 @@
 use Rattle.std.specs.Prelude.{◌≡◌, ℕ, ◌<◌, Bool, true, false, List, ◌++◌, ◌==◌, ◌&&◌, if◌then◌else◌, not, Option, Some, None, IsSome, IfSome, option_map, option_to_list, slice_get}
 use Rattle.object_layout.specs.declared.word.Addr.{Addr}
 use Rattle.heap_tree.specs.Node.{Node, is_on_path}
-use Rattle.chunk_pool.specs.PoolValue.{PoolValue, held_at, owner_of}
+use Rattle.chunk_pool.specs.PoolValue.{PoolValue, slot_at, owner_of}
 use Rattle.remembered_set.specs.declared.remembered.Source.{Source}
 use Rattle.remembered_set.specs.Sources.{noted}
 use Rattle.write_barrier.specs.declared.sets.SetOf.{SetOf}
@@ -33,7 +33,7 @@ heap_of pool (Some a) = owner_of pool a.chunk
 -- a reference, if it isn't nil, points into a chunk in use, whose owner was made
 abbrev pub IsOwned : ℕ → PoolValue → Option Addr → Type 0
 IsOwned made pool None = Unit {0}
-IsOwned made pool (Some a) = IsSome (held_at pool a.chunk) × ((o : ℕ) → owner_of pool a.chunk ≡ Some o → o < made)
+IsOwned made pool (Some a) = IsSome (slot_at pool a.chunk) × ((o : ℕ) → owner_of pool a.chunk ≡ Some o → o < made)
 
 -- whether this is the heap of task t
 abbrev pub is_of : Option ℕ → ℕ → Bool

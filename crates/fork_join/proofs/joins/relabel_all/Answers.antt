@@ -2,7 +2,7 @@ use Rattle.std.proofs.Common.{◌≡◌, List, [], ◌∷◌, ◌++◌, ap, subs
 use Rattle.std.specs.Prelude.{IsSome}
 use Rattle.std.proofs.lemmas.List.{take_more}
 use Rattle.object_layout.specs.ChunkValue.{ChunkValue}
-use Rattle.chunk_pool.specs.PoolValue.{Relabels, held_at}
+use Rattle.chunk_pool.specs.PoolValue.{Relabels, slot_at}
 use Rattle.fork_join.specs.Joined.{AreRelabelled}
 use Rattle.fork_join.proofs.Relabelling.{relabelled_both, relabelled_one, used_still}
 use Rattle.fork_join.proofs.joins.relabel_all.Goals as goal
@@ -12,7 +12,7 @@ loop-chunk-preserved c =
     let k = c.chunk-item.result in
     let i = c.loop-chunk.chunk-index in
     let ks = c.args.chunks.now in
-    let was : IsSome (held_at c.args.pool.now k.number) = subst (λ (x : ChunkValue). IsSome (held_at c.args.pool.now x.number)) (sym c.chunk-item.is) (c.requires i k c.loop-chunk-test.true) in
+    let was : IsSome (slot_at c.args.pool.now k.number) = subst (λ (x : ChunkValue). IsSome (slot_at c.args.pool.now x.number)) (sym c.chunk-item.is) (c.requires i k c.loop-chunk-test.true) in
     let used = used_still c.args.pool.now c.loop-chunk.pool (take i ks) c.args.owner c.loop-chunk.invariant k.number was in
     let step : Relabels c.loop-chunk.pool c.relabel.new.self k.number c.args.owner = subst (λ n. Relabels c.loop-chunk.pool c.relabel.new.self n c.args.owner) c.number.ensures c.relabel.ensures in
     let one = relabelled_one c.loop-chunk.pool c.relabel.new.self k c.args.owner used step in

@@ -5,7 +5,7 @@ use Rattle.std.proofs.lemmas.Iterator.Consumers.{YieldsList-turn}
 use Rattle.std.proofs.lemmas.Iterator.Adapters.{YieldsList-from_vec}
 use Rattle.std.specs.Prelude.{IsSome}
 use Rattle.object_layout.specs.ChunkValue.{ChunkValue}
-use Rattle.chunk_pool.specs.PoolValue.{held_at}
+use Rattle.chunk_pool.specs.PoolValue.{slot_at}
 use Rattle.alloc_path.specs.LeafHeapValue.{IsFresh}
 use Rattle.alloc_path.proofs.HeapLemmas.{apart_before}
 use Rattle.inner_mark_gc.proofs.Giving.{given_both, given_one}
@@ -18,7 +18,7 @@ give-requires c =
     let n = length c.loop-chunk.yielded in
     let t = YieldsList-turn (YieldsList-from_vec c.args.chunks.items (search rules) (search rules)) c.loop-chunk.yielded _ c.loop-chunk.yielded_by _ c.next.new.self c.in-Some.chunk c.in-Some.is c.next.ensures.steps in
     let fresh = subst (λ (xs : List ChunkValue). IsFresh xs k.number) (sym c.loop-chunk.invariant.taken) (subst (λ (x : ChunkValue). IsFresh (take n ks) x.number) (sym t.1) (apart_before ks c.requires.apart n k t.0)) in
-    let used = subst (λ (x : ChunkValue). IsSome (held_at c.args.pool.now x.number)) (sym t.1) (All-get_or (λ (x : ChunkValue). IsSome (held_at c.args.pool.now x.number)) ks n k t.0 c.requires.in_use) in
+    let used = subst (λ (x : ChunkValue). IsSome (slot_at c.args.pool.now x.number)) (sym t.1) (All-get_or (λ (x : ChunkValue). IsSome (slot_at c.args.pool.now x.number)) ks n k t.0 c.requires.in_use) in
     subst (λ o. IsSome o) (sym (c.loop-chunk.invariant.pool.others k.number fresh)) used
 
 pub loop-chunk-preserved : goal.loop-chunk-preserved

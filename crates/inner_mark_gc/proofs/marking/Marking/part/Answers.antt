@@ -8,7 +8,7 @@ use Rattle.object_layout.specs.ChunkValue.{ChunkValue}
 use Rattle.alloc_path.specs.LeafHeapValue.{IsFresh}
 use Rattle.alloc_path.specs.Units.{counted32}
 use Rattle.alloc_path.proofs.HeapLemmas.{apart_before}
-use Rattle.chunk_pool.specs.PoolValue.{held_at}
+use Rattle.chunk_pool.specs.PoolValue.{slot_at}
 use Rattle.inner_mark_gc.specs.Swept.{goes, stays, swept_chunk}
 use Rattle.inner_mark_gc.proofs.Giving as giving
 use Rattle.inner_mark_gc.proofs.marking.Marking.part.Goals as goal
@@ -19,7 +19,7 @@ keep_or_give-requires-clause-in_use c =
     let k : ChunkValue = c.in-Some.chunk in
     let t = YieldsList-turn (YieldsList-from_vec c.args.chunks.items (search rules) (search rules)) c.loop-chunk.yielded _ c.loop-chunk.yielded_by _ c.next.new.self c.in-Some.chunk c.in-Some.is c.next.ensures.steps in
     let fresh = subst (λ (xs : List ChunkValue). IsFresh xs k.number) (sym c.loop-chunk.invariant.taken) (subst (λ (x : ChunkValue). IsFresh (take (length c.loop-chunk.yielded) ks) x.number) (sym t.1) (apart_before ks c.requires.apart (length c.loop-chunk.yielded) k t.0)) in
-    let used = subst (λ (x : ChunkValue). IsSome (held_at c.args.pool.now x.number)) (sym t.1) (All-get_or (λ (x : ChunkValue). IsSome (held_at c.args.pool.now x.number)) ks (length c.loop-chunk.yielded) k t.0 c.requires.in_use) in
+    let used = subst (λ (x : ChunkValue). IsSome (slot_at c.args.pool.now x.number)) (sym t.1) (All-get_or (λ (x : ChunkValue). IsSome (slot_at c.args.pool.now x.number)) ks (length c.loop-chunk.yielded) k t.0 c.requires.in_use) in
     giving.still_in_use c.args.pool.now c.loop-chunk.pool (goes c.args.self.now.found c.args.reserved) c.loop-chunk.yielded k fresh c.loop-chunk.invariant.pool used
 
 pub loop-chunk-preserved : goal.loop-chunk-preserved

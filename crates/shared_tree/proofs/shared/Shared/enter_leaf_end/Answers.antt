@@ -5,7 +5,7 @@ use Rattle.listed.proofs.Places.{all_from}
 use Rattle.run_trace.specs.Entry.{EntryValue}
 use Rattle.object_layout.specs.declared.word.Addr.{Addr}
 use Rattle.object_layout.specs.ChunkValue.{ChunkValue}
-use Rattle.chunk_pool.specs.PoolValue.{PoolValue, held_at}
+use Rattle.chunk_pool.specs.PoolValue.{PoolValue, slot_at}
 use Rattle.remembered_set.specs.Moved.{AreFields, redirected, AreInOrder, ArePlaces}
 use Rattle.remembered_set.specs.Sources.{StandOnce}
 use Rattle.write_barrier.specs.declared.sets.SetOf.{SetOf}
@@ -60,7 +60,7 @@ give_all-requires-clause-in_use c =
     let is = led_from w p m c.lead.new.heaps c.replace.result c.replace-2.result c.deref.result.now c.deref-2.result.now c.replace.ensures.value c.replace-2.ensures.value c.deref.ensures.value c.deref-2.ensures.value c.lead.ensures.led in
     let once : StandOnce (sources_of (slice_get w.sets p.task)) = subst (λ (xs : List SetOf). StandOnce (sources_of (slice_get xs p.task))) c.deref.ensures.value c.lead.ensures.once in
     let pool : c.lead.new.heaps.pool ≡ w.pool = pool_same w k p m c.self.invariant F free c.lead.new.heaps is once in
-    subst (λ (z : PoolValue). All (λ (b : ChunkValue). IsSome (held_at z b.number)) m.back.items) (sym pool) (all_from (λ (b : ChunkValue). IsSome (held_at w.pool b.number)) m.back.items (λ b i. some_is (held_at w.pool b.number) (back_in_use w k p m c.self.invariant F free b i)))
+    subst (λ (z : PoolValue). All (λ (b : ChunkValue). IsSome (slot_at z b.number)) m.back.items) (sym pool) (all_from (λ (b : ChunkValue). IsSome (slot_at w.pool b.number)) m.back.items (λ b i. some_is (slot_at w.pool b.number) (back_in_use w k p m c.self.invariant F free b i)))
 
 pub invariant_of-self : goal.invariant_of-self
 invariant_of-self c =

@@ -1,5 +1,5 @@
 use Rattle.std.proofs.Common.{◌≡◌, Some, None, [], IfSome, ap, ◌∙◌, sym, subst, false, option_map, option_copied, true, if◌then◌else◌}
-use Rattle.chunk_pool.specs.declared.pool.Held.{Held}
+use Rattle.chunk_pool.specs.declared.pool.Slot.{Slot}
 use Rattle.chunk_pool.specs.PoolValue.{owner_of}
 use Rattle.heap_tree.specs.Node.{state_of}
 use Rattle.shared_value.specs.Objects.{chunk_of, chunks_of}
@@ -14,7 +14,7 @@ objects_are : (c : goal.After-chunk) → objects_of c.args.self.now c.args.numbe
 objects_are c =
     let w : SharedValue = c.args.self.now in
     let t = c.in_ok-owner.field-0.owner in
-    let held : owner_of w.pool c.args.number ≡ Some t = ap (λ (z : SharedValue). owner_of z.pool c.args.number) (sym c.self.view_is) ∙ ap (option_map (λ (h : Held). h.owner)) (sym c.held.ensures ∙ c.in_ok-owner.was) in
+    let held : owner_of w.pool c.args.number ≡ Some t = ap (λ (z : SharedValue). owner_of z.pool c.args.number) (sym c.self.view_is) ∙ ap (option_map (λ (h : Slot). h.owner)) (sym c.slot.ensures ∙ c.in_ok-owner.was) in
     let idle : is_state_running (state_of w.tree t) ≡ false = ap (λ (z : SharedValue). is_state_running (state_of z.tree t)) (sym c.self.view_is) ∙ (sym (ap is_state_running c.state.ensures) ∙ (sym c.is_running.ensures ∙ c.if-is_running.false)) in
     let there : rest_at w.homes t ≡ Some c.get-in-Some-Some.result.now = ap (λ (z : SharedValue). rest_at z.homes t) (sym c.self.view_is) ∙ (ap flat (sym c.get.ensures) ∙ ((ap (λ o. flat (option_copied o)) c.in-Some-Some.is ∙ c.in-Some-Some.field-0-is) ∙ ap Some (sym c.get-in-Some-Some.ensures))) in
     resting_objects w c.args.number t c.get-in-Some-Some.result.now held idle there
@@ -30,12 +30,12 @@ pub returns-then-is_running-clause-none : goal.returns-then-is_running-clause-no
 returns-then-is_running-clause-none c = λ none.
     let w : SharedValue = c.args.self.now in
     let t = c.in_ok-owner.field-0.owner in
-    let held : owner_of w.pool c.args.number ≡ Some t = ap (λ (z : SharedValue). owner_of z.pool c.args.number) (sym c.self.view_is) ∙ ap (option_map (λ (h : Held). h.owner)) (sym c.held.ensures ∙ c.in_ok-owner.was) in
+    let held : owner_of w.pool c.args.number ≡ Some t = ap (λ (z : SharedValue). owner_of z.pool c.args.number) (sym c.self.view_is) ∙ ap (option_map (λ (h : Slot). h.owner)) (sym c.slot.ensures ∙ c.in_ok-owner.was) in
     let runs : is_state_running (state_of w.tree t) ≡ true = ap (λ (z : SharedValue). is_state_running (state_of z.tree t)) (sym c.self.view_is) ∙ (sym (ap is_state_running c.state.ensures) ∙ (sym c.is_running.ensures ∙ c.if-is_running.true)) in
     ap (objects_owned w c.args.number) held ∙ ap (λ b. if b then [] else objects_numbered c.args.number ((value_of w).homes t).chunks) runs
 
 pub returns-in_err-owner-clause-none : goal.returns-in_err-owner-clause-none
 returns-in_err-owner-clause-none c = λ none.
     let w : SharedValue = c.args.self.now in
-    let held : owner_of w.pool c.args.number ≡ None = ap (λ (z : SharedValue). owner_of z.pool c.args.number) (sym c.self.view_is) ∙ ap (option_map (λ (h : Held). h.owner)) (sym c.held.ensures ∙ c.in_err-owner.was) in
+    let held : owner_of w.pool c.args.number ≡ None = ap (λ (z : SharedValue). owner_of z.pool c.args.number) (sym c.self.view_is) ∙ ap (option_map (λ (h : Slot). h.owner)) (sym c.slot.ensures ∙ c.in_err-owner.was) in
     ap (objects_owned w c.args.number) held
