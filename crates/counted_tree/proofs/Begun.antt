@@ -19,7 +19,8 @@ use Rattle.run_ledger.specs.declared.data.Refused.{Refused}
 use Rattle.run_ledger.specs.Frozen.{begins}
 use Rattle.run_ledger.specs.Heaps.{chunk_words, collected, end_numbers, heap_of, held_in, in_use, is_small, or_fresh, swept_heap, take_of, with_heap, within, words_at, words_in, words_of, words_sum}
 use Rattle.run_ledger.specs.Steps.{allocated_by, allocated_in, on_asked, stepped_to, task_step, task_steps}
-use Rattle.run_ledger.specs.Entries.{after, after_kind, chunk_units, ends_as, is_fuel, is_held_by, is_out, is_ready, kind_refusal, on_waiting, refusal, refused_unless, with_chunk}
+use Rattle.run_ledger.specs.Entries.{after, after_kind, chunk_units, ends_as, is_fuel, is_out, is_ready, kind_refusal, on_waiting, refusal, refused_unless, with_chunk}
+use Rattle.listed.specs.Options.{option_is}
 use Rattle.run_ledger.specs.Journals.{is_legal, ledger_of, opening}
 use Rattle.run_ledger.specs.Laws.{HoldsOnce, HoldsTasks, LeavesTask}
 use Rattle.run_ledger.specs.Sound.{SoundAt, SoundLedger, collecting}
@@ -168,7 +169,7 @@ module _ (p : ProgramText) (s : SettingsValue) (journal : List EntryValue) (e : 
     ]
       where
         mine : (heap_of l u).worker ≡ Some e.worker
-        mine = held_is (heap_of l u).worker e.worker (and_parts (is_running (slice_get l.machine.tasks u)) (is_held_by (heap_of l u).worker e.worker) out).1
+        mine = held_is (heap_of l u).worker e.worker (and_parts (is_running (slice_get l.machine.tasks u)) (option_is (heap_of l u).worker e.worker) out).1
 
         after_is : after p s l e ≡ task_steps p l u n
         after_is = ap (after_kind p s l e.worker) is
@@ -234,7 +235,7 @@ module _ (p : ProgramText) (s : SettingsValue) (journal : List EntryValue) (e : 
       mine : (heap_of l u).worker ≡ Some e.worker
       mine =
           let h : is_none (kind_refusal p s l e.worker (Begin u)) ≡ true = ap (λ z. is_none (kind_refusal p s l e.worker z)) (sym is) ∙ (entry_tells p s l e (ap is_none free)).2 in
-          held_is (heap_of l u).worker e.worker (and_parts (is_running (slice_get l.machine.tasks u)) (is_held_by (heap_of l u).worker e.worker) (none_unless (is_out l e.worker u) _ _ h).0).1
+          held_is (heap_of l u).worker e.worker (and_parts (is_running (slice_get l.machine.tasks u)) (option_is (heap_of l u).worker e.worker) (none_unless (is_out l e.worker u) _ _ h).0).1
 
       pub begin_worker : (heap_of l' u).worker ≡ Some e.worker
       begin_worker = ap (λ (z : Ledger). (heap_of z u).worker) after_is ∙ (heap_view (λ (h : Heap). h.worker) l u (λ h. record h { begun = Some (take_of l.machine h); survivors = within l u }) (λ h. refl) ∙ mine)
@@ -264,7 +265,7 @@ module _ (p : ProgramText) (s : SettingsValue) (journal : List EntryValue) (e : 
       end_begun = numbers.0
 
       pub end_worker : (heap_of l u).worker ≡ Some e.worker
-      end_worker = held_is (heap_of l u).worker e.worker (and_parts (is_running (slice_get l.machine.tasks u)) (is_held_by (heap_of l u).worker e.worker) out.0).1
+      end_worker = held_is (heap_of l u).worker e.worker (and_parts (is_running (slice_get l.machine.tasks u)) (option_is (heap_of l u).worker e.worker) out.0).1
 
       pub end_left : left ≡ words_in l.machine (collected l.machine (heap_of l u))
       end_left =

@@ -31,7 +31,8 @@ use Rattle.shared_value.proofs.BeforeTheEnd.{stands_now}
 use Rattle.shared_value.proofs.TaskTaken.{same_parent}
 use Rattle.heap_marking.specs.declared.pace.Fork.{Fork}
 use Rattle.heap_marking.specs.MarkCauses.{is_state_waiting, marking_cause, waiting_cause}
-use Rattle.heap_marking.specs.Pace.{IsForkIn, IsForkOf, KeepsPace, PacesStay, is_going, is_live_child, is_parent, is_state_joined, is_to_begin}
+use Rattle.heap_marking.specs.Pace.{IsForkIn, IsForkOf, KeepsPace, PacesStay, is_going, is_live_child, is_state_joined, is_to_begin}
+use Rattle.listed.specs.Options.{option_is}
 use Rattle.heap_marking.proofs.ForksStay.{entry_moves}
 use Rattle.heap_marking.proofs.MarkCauses.{marked_by, waits_by}
 use Rattle.heap_marking.proofs.PaceKeeps.{child_from, child_tells, fork_from, keeps_moves, lives_below}
@@ -153,7 +154,7 @@ module _ (w : SharedValue) (I : IsSharedValue w) (on : (accounts w).end ≡ None
 
   -- THE FORK on which a task waits
   child_is : (t c : ℕ) → is_live_child w.tree t c ≡ lives_below l.machine.tasks t c
-  child_is t c = ap₂ (λ o j. is_parent o t && not j) (parent_is c) (joined_is c)
+  child_is t c = ap₂ (λ o j. option_is o t && not j) (parent_is c) (joined_is c)
 
   known : SoundLedger l
   known = legal_sound w.program w.settings w.journal.items I.legal

@@ -1,5 +1,5 @@
 -- What is kept of a worker's own entries, and how it tells what the pace asks.
-use Rattle.std.specs.Prelude.{◌≡◌, ◌⊎◌, ◌==◌, ◌&&◌, ◌++◌, ◌∷◌, ◌<◌, ℕ, not, Bool, true, false, Option, Some, None, List, [], is_some, nat_le, slice_get}
+use Rattle.std.specs.Prelude.{◌≡◌, ◌⊎◌, ◌&&◌, ◌++◌, ◌∷◌, ◌<◌, ℕ, not, Bool, true, false, Option, Some, None, List, [], is_some, nat_le, slice_get}
 use Rattle.hh_model.specs.declared.data.Strand.{Strand}
 use Rattle.hh_model.specs.declared.data.Task.{Task}
 use Rattle.hh_model.specs.Step.{is_waiting, joined, parents, strand_of, waits}
@@ -22,6 +22,7 @@ use Rattle.heap_marking.specs.declared.pace.Pace.{Pace}
 use Rattle.heap_marking.specs.declared.pace.Previous.{Previous}
 use Rattle.heap_marking.specs.declared.pace.Previous.TheVariants.{Other, Ran, Forked}
 use Rattle.heap_marking.specs.MarkCauses.{is_state_waiting}
+use Rattle.listed.specs.Options.{option_is}
 
 -- ---- FORKS
 
@@ -36,10 +37,6 @@ pub record TellsFork (l : Ledger) (f : Fork) (s : Strand) : Type 0 where
   pub child : parents l.machine.tasks f.left ≡ Some s.task
   pub waits : joined l.machine.tasks f.left ≡ false → waits_on l s ≡ true
   pub past : joined l.machine.tasks f.left ≡ true → HasGoneOn l s
-
-abbrev pub is_parent : Option ℕ → ℕ → Bool
-is_parent None t = false
-is_parent (Some p) t = p == t
 
 -- the fork on which the task t waits, or none where it doesn't wait
 abbrev pub IsForkOf : Ledger → ℕ → Option Fork → Option Task → Type 0
@@ -58,7 +55,7 @@ is_state_joined (Some Joined) = true
 
 -- a child of t that hasn't joined, as the tree tells it
 abbrev pub is_live_child : List Node → ℕ → ℕ → Bool
-is_live_child tree t c = is_parent (parent_of tree c) t && not (is_state_joined (state_of tree c))
+is_live_child tree t c = option_is (parent_of tree c) t && not (is_state_joined (state_of tree c))
 
 abbrev pub IsLiveChild : List Node → ℕ → Option ℕ → Type 0
 IsLiveChild tree t (Some c) = is_live_child tree t c ≡ true

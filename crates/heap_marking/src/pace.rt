@@ -1,7 +1,8 @@
 // What is kept of a worker's own entries, as far as the pace of inner collections asks.
 
 ghost use Rattle.std.specs.Prelude.{◌≡◌, None, ◌∷◌, ◌++◌, ◌<◌, ◌-◌, [], OnOk};
-ghost use Rattle.heap_marking.specs.Pace.{is_parent, is_state_joined, previous_of, PacesStay};
+ghost use Rattle.heap_marking.specs.Pace.{is_state_joined, previous_of, PacesStay};
+ghost use Rattle.listed.specs.Options.{option_is};
 
 use heap_tree::State;
 use listed::Roomy;
@@ -98,7 +99,7 @@ pub fn is_joined(state: Option<State>) -> bool
 
 // Whether this is the parent.
 pub(crate) fn is_parent(parent: Option<u32>, t: u32) -> bool
-    ensures { result ≡ is_parent parent t }
+    ensures { result ≡ option_is parent t }
 {
     match parent {
         Some(parent) => parent == t,

@@ -20,7 +20,8 @@ use Rattle.run_ledger.specs.declared.data.Heap.{Heap}
 use Rattle.run_ledger.specs.declared.data.Ledger.{Ledger}
 use Rattle.run_ledger.specs.Heaps.{heap_of, let_go, or_fresh, placed, is_small, put_last}
 use Rattle.run_ledger.specs.Steps.{task_step, task_steps, standing, is_due, is_in_need, is_private, most_steps, stepped_to, allocated_in, allocated_by}
-use Rattle.run_ledger.specs.Entries.{refusal, kind_refusal, after, is_out, is_held_by, long_at}
+use Rattle.run_ledger.specs.Entries.{refusal, kind_refusal, after, is_out, long_at}
+use Rattle.listed.specs.Options.{option_is}
 use Rattle.run_ledger.specs.Journals.{ledger_of, is_legal, tasks_of}
 use Rattle.run_ledger.proofs.Going.{machine_goes_on}
 use Rattle.run_ledger.proofs.Booked.{task_steps_booked}
@@ -146,9 +147,9 @@ module _ (p : ProgramText) (s : SettingsValue) (journal : List EntryValue) (w t 
   out = out_tells l w t _ allowed
 
   pub holds : (heap_of l t).worker ≡ Some w
-  holds = by (heap_of l t).worker (and_parts (is_running (slice_get l.machine.tasks t)) (is_held_by (heap_of l t).worker w) (none_unless (is_out l w t) _ _ allowed).0).1
+  holds = by (heap_of l t).worker (and_parts (is_running (slice_get l.machine.tasks t)) (option_is (heap_of l t).worker w) (none_unless (is_out l w t) _ _ allowed).0).1
     where
-      by : (o : Option ℕ) → is_held_by o w ≡ true → o ≡ Some w
+      by : (o : Option ℕ) → option_is o w ≡ true → o ≡ Some w
       by None h = absurd (false≢true h)
       by (Some z) h = ap Some (eqb-true z w h)
 

@@ -1,3 +1,4 @@
 pub mod Lends
 pub mod RoomyValue
 pub mod Members
+pub mod Options

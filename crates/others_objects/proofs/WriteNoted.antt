@@ -12,7 +12,8 @@ use Rattle.remembered_set.specs.declared.remembered.Source.{Source}
 use Rattle.remembered_set.specs.Sources.{has_source, noted}
 use Rattle.remembered_set.proofs.LiftLemmas.{source_in}
 use Rattle.write_barrier.specs.declared.sets.SetOf.{SetOf}
-use Rattle.write_barrier.specs.Stored.{Content, content_after, content_at, content_of, heap_of, is_down, is_of, noted_in as noted_heap, with_source}
+use Rattle.write_barrier.specs.Stored.{Content, content_after, content_at, content_of, heap_of, is_down, noted_in as noted_heap, with_source}
+use Rattle.listed.specs.Options.{option_is}
 use Rattle.core_relation.specs.Memory.{In, Noted}
 use Rattle.shared_value.specs.SharedValue.{noted_in}
 use Rattle.shared_value.proofs.FieldsNoted.{noted_is, noted_of}
@@ -40,11 +41,11 @@ noted_only xs s y i = by (has_source xs s) i
     by true j = inl j
     by false j = elim (in_append_cases xs (s ∷ []) y j) [ inl q ↦ inl q | inr q ↦ elim q [ inl e ↦ inr e | inr n ↦ absurd n ] ]
 
-of_is : (o : Option ℕ) (t : ℕ) → is_of o t ≡ true → o ≡ Some t
+of_is : (o : Option ℕ) (t : ℕ) → option_is o t ≡ true → o ≡ Some t
 of_is None t e = absurd (false≢true e)
 of_is (Some h) t e = ap Some (eqb-true h t e)
 
-is_of_it : (t : ℕ) → is_of (Some t) t ≡ true
+is_of_it : (t : ℕ) → option_is (Some t) t ≡ true
 is_of_it t = eq-eqb t t refl
 
 -- ---- THE WRITE
@@ -67,34 +68,34 @@ module _ (tree : List Node) (pool : PoolValue) (sets sets' : List SetOf) (a : Ad
   sources_by false true t c = refl
   sources_by false false t c = refl
 
-  sources_after : (t : ℕ) (c : Content) → (after t c).sources ≡ cond (is_of into t) (noted c.sources source) c.sources
-  sources_after t c = sources_by (is_of into t) (is_of (heap_of pool overwritten) t && (with_source into source t c).keeps) t c
+  sources_after : (t : ℕ) (c : Content) → (after t c).sources ≡ cond (option_is into t) (noted c.sources source) c.sources
+  sources_after t c = sources_by (option_is into t) (option_is (heap_of pool overwritten) t && (with_source into source t c).keeps) t c
 
   kept_source : (t : ℕ) (c : Content) → (with_source into source t c).kept ≡ c.kept
-  kept_source t c = by (is_of into t)
+  kept_source t c = by (option_is into t)
     where
       by : (b : Bool) → (cond b (record c { sources = noted c.sources source }) c).kept ≡ c.kept
       by true = refl
       by false = refl
 
   keeps_source : (t : ℕ) (c : Content) → (with_source into source t c).keeps ≡ c.keeps
-  keeps_source t c = by (is_of into t)
+  keeps_source t c = by (option_is into t)
     where
       by : (b : Bool) → (cond b (record c { sources = noted c.sources source }) c).keeps ≡ c.keeps
       by true = refl
       by false = refl
 
   keeps_after : (t : ℕ) (c : Content) → (after t c).keeps ≡ c.keeps
-  keeps_after t c = by (is_of (heap_of pool overwritten) t && (with_source into source t c).keeps) ∙ keeps_source t c
+  keeps_after t c = by (option_is (heap_of pool overwritten) t && (with_source into source t c).keeps) ∙ keeps_source t c
     where
       by : (b : Bool) → (cond b (record (with_source into source t c) { kept = (with_source into source t c).kept ++ option_to_list overwritten }) (with_source into source t c)).keeps ≡ (with_source into source t c).keeps
       by true = refl
       by false = refl
 
-  kept_after : (t : ℕ) (c : Content) → (after t c).kept ≡ cond (is_of (heap_of pool overwritten) t && c.keeps) (c.kept ++ option_to_list overwritten) c.kept
+  kept_after : (t : ℕ) (c : Content) → (after t c).kept ≡ cond (option_is (heap_of pool overwritten) t && c.keeps) (c.kept ++ option_to_list overwritten) c.kept
   kept_after t c =
-      by (is_of (heap_of pool overwritten) t && (with_source into source t c).keeps)
-      ∙ ap₂ (λ b ks. cond (is_of (heap_of pool overwritten) t && b) (ks ++ option_to_list overwritten) ks) (keeps_source t c) (kept_source t c)
+      by (option_is (heap_of pool overwritten) t && (with_source into source t c).keeps)
+      ∙ ap₂ (λ b ks. cond (option_is (heap_of pool overwritten) t && b) (ks ++ option_to_list overwritten) ks) (keeps_source t c) (kept_source t c)
     where
       by : (b : Bool) → (cond b (record (with_source into source t c) { kept = (with_source into source t c).kept ++ option_to_list overwritten }) (with_source into source t c)).kept
           ≡ cond b ((with_source into source t c).kept ++ option_to_list overwritten) (with_source into source t c).kept
@@ -138,7 +139,7 @@ module _ (tree : List Node) (pool : PoolValue) (sets sets' : List SetOf) (a : Ad
 
       by : (o : Option Content) → In (noted_of o).sources s → In (noted_of (option_map (after t) o)).sources s
       by None i' = i'
-      by (Some c) i' = subst (λ xs. In xs s) (sym (sources_after t c)) (one (is_of into t) c i')
+      by (Some c) i' = subst (λ xs. In xs s) (sym (sources_after t c)) (one (option_is into t) c i')
 
   -- where it points down it is noted
   pub notes_down : (b : Addr) (t : ℕ) → value ≡ Some b → owner_of pool b.chunk ≡ Some t → is_on_path tree u t ≡ true → (u ≡ t → ⊥) → t < length sets → In (now t).sources source
@@ -153,7 +154,7 @@ module _ (tree : List Node) (pool : PoolValue) (sets sets' : List SetOf) (a : Ad
       one : (c : Content) → In (after t c).sources source
       one c =
           subst (λ xs. In xs source)
-          (sym (sources_after t c ∙ cond-true (is_of into t) (noted c.sources source) c.sources (ap (λ o. is_of o t) into_is ∙ is_of_it t)))
+          (sym (sources_after t c ∙ cond-true (option_is into t) (noted c.sources source) c.sources (ap (λ o. option_is o t) into_is ∙ is_of_it t)))
           (noted_there c.sources source)
 
       by : (o : Option SetOf) → slice_get sets t ≡ o → In (noted_of (option_map (after t) (option_map content_of o))).sources source
@@ -187,7 +188,7 @@ module _ (tree : List Node) (pool : PoolValue) (sets sets' : List SetOf) (a : Ad
       none_down (Some x) q = absurd cc
   new_by t s (Some b) ev es e = new_at t s b ev es (owner_of pool b.chunk) refl (ap (λ x. cond (is_down tree x (owner_of pool b.chunk)) (owner_of pool b.chunk) None) (sym owner) ∙ e)
 
-  new_one : (t : ℕ) (s : Source) (x : Bool) → is_of into t ≡ x → (c : Content) → In (cond x (noted c.sources source) c.sources) s → In c.sources s ⊎ IsNew t s
+  new_one : (t : ℕ) (s : Source) (x : Bool) → option_is into t ≡ x → (c : Content) → In (cond x (noted c.sources source) c.sources) s → In c.sources s ⊎ IsNew t s
   new_one t s false e c k = inl k
   new_one t s true e c k =
       elim (noted_only c.sources source s k) [
@@ -200,7 +201,7 @@ module _ (tree : List Node) (pool : PoolValue) (sets sets' : List SetOf) (a : Ad
     where
       by : (o : Option Content) → content_at sets t ≡ o → In (noted_of (option_map (after t) o)).sources s → In (was t).sources s ⊎ IsNew t s
       by None e k = absurd k
-      by (Some c) e k = elim (new_one t s (is_of into t) refl c (subst (λ xs. In xs s) (sources_after t c) k)) [
+      by (Some c) e k = elim (new_one t s (option_is into t) refl c (subst (λ xs. In xs s) (sources_after t c) k)) [
         | inl old ↦ inl (subst (λ (x : Noted). In x.sources s) (sym (was_is t ∙ ap noted_of e)) old)
         | inr n ↦ inr n
       ]
@@ -215,7 +216,7 @@ module _ (tree : List Node) (pool : PoolValue) (sets sets' : List SetOf) (a : Ad
 
       by : (o : Option Content) → In (noted_of o).kept b → In (noted_of (option_map (after t) o)).kept b
       by None k = k
-      by (Some c) k = subst (λ xs. In xs b) (sym (kept_after t c)) (one (is_of (heap_of pool overwritten) t && c.keeps) c k)
+      by (Some c) k = subst (λ xs. In xs b) (sym (kept_after t c)) (one (option_is (heap_of pool overwritten) t && c.keeps) c k)
 
   -- behind what was there
   pub kept_more : (t : ℕ) → (more : List Addr) × ((now t).kept ≡ (was t).kept ++ more)
@@ -232,20 +233,20 @@ module _ (tree : List Node) (pool : PoolValue) (sets sets' : List SetOf) (a : Ad
       by : (o : Option Content) → content_at sets t ≡ o → (more : List Addr) × ((now t).kept ≡ (was t).kept ++ more)
       by None e = ([], ap (λ (x : Noted). x.kept) (now_is t ∙ ap (λ z. noted_of (option_map (after t) z)) e) ∙ ap (λ (x : Noted). x.kept ++ []) (sym (was_is t ∙ ap noted_of e)))
       by (Some c) e =
-          let m = one (is_of (heap_of pool overwritten) t && c.keeps) c in
+          let m = one (option_is (heap_of pool overwritten) t && c.keeps) c in
           (m.0, ap (λ (x : Noted). x.kept) (now_is t ∙ ap (λ z. noted_of (option_map (after t) z)) e) ∙ (kept_after t c ∙ (m.1 ∙ ap (λ (x : Noted). x.kept ++ m.0) (sym (was_is t ∙ ap noted_of e)))))
 
   -- what is overwritten, where it points into t's heap, while that keeps
   pub keeps_old : (t : ℕ) (b : Addr) → (was t).keeps ≡ true → overwritten ≡ Some b → owner_of pool b.chunk ≡ Some t → In (now t).kept b
   keeps_old t b keeps eo eb = subst (λ (x : Noted). In x.kept b) (sym (now_is t)) (by (content_at sets t) (ap (λ (x : Noted). x.keeps) (sym (was_is t)) ∙ keeps))
     where
-      heap_is : is_of (heap_of pool overwritten) t ≡ true
-      heap_is = ap (λ o. is_of (heap_of pool o) t) eo ∙ (ap (λ o. is_of o t) eb ∙ is_of_it t)
+      heap_is : option_is (heap_of pool overwritten) t ≡ true
+      heap_is = ap (λ o. option_is (heap_of pool o) t) eo ∙ (ap (λ o. option_is o t) eb ∙ is_of_it t)
 
-      one : (c : Content) → c.keeps ≡ true → In (cond (is_of (heap_of pool overwritten) t && c.keeps) (c.kept ++ option_to_list overwritten) c.kept) b
+      one : (c : Content) → c.keeps ≡ true → In (cond (option_is (heap_of pool overwritten) t && c.keeps) (c.kept ++ option_to_list overwritten) c.kept) b
       one c k =
           subst (λ xs. In xs b)
-          (sym (cond-true (is_of (heap_of pool overwritten) t && c.keeps) (c.kept ++ option_to_list overwritten) c.kept (ap₂ (λ x y. x && y) heap_is k) ∙ ap (λ o. c.kept ++ option_to_list o) eo))
+          (sym (cond-true (option_is (heap_of pool overwritten) t && c.keeps) (c.kept ++ option_to_list overwritten) c.kept (ap₂ (λ x y. x && y) heap_is k) ∙ ap (λ o. c.kept ++ option_to_list o) eo))
           (in_append_right c.kept (b ∷ []) b (inl refl))
 
       by : (o : Option Content) → (noted_of o).keeps ≡ true → In (noted_of (option_map (after t) o)).kept b
@@ -256,23 +257,23 @@ module _ (tree : List Node) (pool : PoolValue) (sets sets' : List SetOf) (a : Ad
   pub kept_only : (t : ℕ) (b : Addr) → In (now t).kept b → In (was t).kept b ⊎ ((overwritten ≡ Some b) × (owner_of pool b.chunk ≡ Some t))
   kept_only t b j = by (content_at sets t) refl (subst (λ (x : Noted). In x.kept b) (now_is t) j)
     where
-      held : (o : Option Addr) → overwritten ≡ o → In (option_to_list o) b → is_of (heap_of pool overwritten) t ≡ true → (overwritten ≡ Some b) × (owner_of pool b.chunk ≡ Some t)
+      held : (o : Option Addr) → overwritten ≡ o → In (option_to_list o) b → option_is (heap_of pool overwritten) t ≡ true → (overwritten ≡ Some b) × (owner_of pool b.chunk ≡ Some t)
       held None eo k h = absurd k
       held (Some y) eo (inl e) h =
           let is : overwritten ≡ Some b = eo ∙ ap Some e in
-          (is, of_is (owner_of pool b.chunk) t (sym (ap (λ o. is_of (heap_of pool o) t) is) ∙ h))
+          (is, of_is (owner_of pool b.chunk) t (sym (ap (λ o. option_is (heap_of pool o) t) is) ∙ h))
       held (Some y) eo (inr n) h = absurd n
 
-      one : (c : Content) (x : Bool) → (is_of (heap_of pool overwritten) t && c.keeps) ≡ x → In (cond x (c.kept ++ option_to_list overwritten) c.kept) b → In c.kept b ⊎ ((overwritten ≡ Some b) × (owner_of pool b.chunk ≡ Some t))
+      one : (c : Content) (x : Bool) → (option_is (heap_of pool overwritten) t && c.keeps) ≡ x → In (cond x (c.kept ++ option_to_list overwritten) c.kept) b → In c.kept b ⊎ ((overwritten ≡ Some b) × (owner_of pool b.chunk ≡ Some t))
       one c false e k = inl k
       one c true e k = elim (in_append_cases c.kept (option_to_list overwritten) b k) [
         | inl old ↦ inl old
-        | inr new ↦ inr (held overwritten refl new (and_parts (is_of (heap_of pool overwritten) t) c.keeps e).0)
+        | inr new ↦ inr (held overwritten refl new (and_parts (option_is (heap_of pool overwritten) t) c.keeps e).0)
       ]
 
       by : (o : Option Content) → content_at sets t ≡ o → In (noted_of (option_map (after t) o)).kept b → In (was t).kept b ⊎ ((overwritten ≡ Some b) × (owner_of pool b.chunk ≡ Some t))
       by None e k = absurd k
-      by (Some c) e k = elim (one c (is_of (heap_of pool overwritten) t && c.keeps) refl (subst (λ xs. In xs b) (kept_after t c) k)) [
+      by (Some c) e k = elim (one c (option_is (heap_of pool overwritten) t && c.keeps) refl (subst (λ xs. In xs b) (kept_after t c) k)) [
         | inl old ↦ inl (subst (λ (x : Noted). In x.kept b) (sym (was_is t ∙ ap noted_of e)) old)
         | inr n ↦ inr n
       ]

@@ -8,7 +8,8 @@ use Rattle.run_ledger.specs.declared.data.RunEnd.{RunEnd}
 use Rattle.run_ledger.specs.declared.data.Refused.{Refused}
 use Rattle.run_ledger.specs.declared.data.Refused.TheVariants.{NotOut}
 use Rattle.run_ledger.specs.Heaps.{heap_of}
-use Rattle.run_ledger.specs.Entries.{is_fuel, is_held_by, is_out, kind_refusal, refused_unless}
+use Rattle.run_ledger.specs.Entries.{is_fuel, is_out, kind_refusal, refused_unless}
+use Rattle.listed.specs.Options.{option_is}
 use Rattle.run_ledger.proofs.Frames.{held_is}
 use Rattle.shared_value.specs.SharedValue.{SharedValue, accounts}
 use Rattle.shared_value.specs.Stands.{IsSharedValue}
@@ -26,9 +27,9 @@ unless_false true c rest e = absurd cc
 
 module _ (w : SharedValue) (I : IsSharedValue w) (k t : ℕ) where
   not_out : (heap_of (accounts w) t).worker ≢ Some k → is_out (accounts w) k t ≡ false
-  not_out apart = and_false (is_running (slice_get (accounts w).machine.tasks t)) (is_held_by (heap_of (accounts w) t).worker k) (by (is_held_by (heap_of (accounts w) t).worker k) refl)
+  not_out apart = and_false (is_running (slice_get (accounts w).machine.tasks t)) (option_is (heap_of (accounts w) t).worker k) (by (option_is (heap_of (accounts w) t).worker k) refl)
     where
-      by : (b : Bool) → is_held_by (heap_of (accounts w) t).worker k ≡ b → b ≡ false
+      by : (b : Bool) → option_is (heap_of (accounts w) t).worker k ≡ b → b ≡ false
       by false e = refl
       by true e = absurd (apart (held_is (heap_of (accounts w) t).worker k e))
 

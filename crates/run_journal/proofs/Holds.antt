@@ -15,7 +15,8 @@ use Rattle.run_ledger.specs.declared.data.Ledger.{Ledger}
 use Rattle.run_ledger.specs.declared.data.RunEnd.TheVariants.{Pool}
 use Rattle.run_ledger.specs.Heaps.{heap_of, or_fresh, with_heap, placed, put_last, is_small, in_use, chunk_words, collected, swept_heap}
 use Rattle.run_ledger.specs.Steps.{allocated_by, allocated_in, stepped_to, task_step, task_steps, on_asked}
-use Rattle.run_ledger.specs.Entries.{kind_refusal, after_kind, is_held_by, held_from, is_ready, refused_holding, with_chunk, chunk_units}
+use Rattle.run_ledger.specs.Entries.{kind_refusal, after_kind, held_from, is_ready, refused_holding, with_chunk, chunk_units}
+use Rattle.listed.specs.Options.{option_is}
 use Rattle.run_ledger.proofs.Moves.{moves_each}
 use Rattle.run_ledger.proofs.Sound.{SoundLedger}
 use Rattle.run_ledger.proofs.Steps.{SoundAt, step_leaves, task_step_sound, worker_at}
@@ -39,16 +40,16 @@ Found w base heaps =
 
 found : (w base : ℕ) (heaps : List Heap) → Found w base heaps
 found w base [] = inl (refl, λ u e. absurd (none-some _ e))
-found w base (h ∷ heaps) = by (is_held_by h.worker w) refl (found w (base + 1) heaps)
+found w base (h ∷ heaps) = by (option_is h.worker w) refl (found w (base + 1) heaps)
   where
-    by : (v : Bool) → is_held_by h.worker w ≡ v → Found w (base + 1) heaps
+    by : (v : Bool) → option_is h.worker w ≡ v → Found w (base + 1) heaps
         → ((cond v (Some base) (held_from w (base + 1) heaps) ≡ None) × ((u : ℕ) → (or_fresh (slice_get (h ∷ heaps) u)).worker ≡ Some w → ⊥))
         ⊎ ((u : ℕ) × (cond v (Some base) (held_from w (base + 1) heaps) ≡ Some (base + u)) × ((or_fresh (slice_get (h ∷ heaps) u)).worker ≡ Some w))
     by true e rest = inr (zero, ap Some (let q : base ≡ base + 0 = omega arith in q), held_is h.worker w e)
     by false e (inl none) = inl (none.0, go)
       where
         go : (u : ℕ) → (or_fresh (slice_get (h ∷ heaps) u)).worker ≡ Some w → ⊥
-        go zero q = both_ways (is_held_by h.worker w) e (is_held h.worker w q)
+        go zero q = both_ways (option_is h.worker w) e (is_held h.worker w q)
         go (suc u) q = none.1 u q
     by false e (inr some) = inr (suc some.0, some.1 ∙ ap Some (let q : base + 1 + some.0 ≡ base + suc some.0 = omega arith in q), some.2)
 

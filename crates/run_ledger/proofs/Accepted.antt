@@ -12,7 +12,8 @@ use Rattle.run_ledger.specs.declared.data.Ledger.{Ledger}
 use Rattle.run_ledger.specs.declared.data.Refused.{Refused}
 use Rattle.run_ledger.specs.Heaps.{end_numbers, heap_of, in_use, left_in, take_of, words_in}
 use Rattle.run_ledger.specs.Steps.{is_due, is_in_need, most_steps, standing}
-use Rattle.run_ledger.specs.Entries.{counted, held_from, is_fuel, is_held_by, is_out, is_pool_enough, is_ready, kind_refusal, long_at, on_due, on_running, on_waiting, refused_holding, refused_if, refused_unless}
+use Rattle.run_ledger.specs.Entries.{counted, held_from, is_fuel, is_out, is_pool_enough, is_ready, kind_refusal, long_at, on_due, on_running, on_waiting, refused_holding, refused_if, refused_unless}
+use Rattle.listed.specs.Options.{option_is}
 use Rattle.run_ledger.specs.Accepted.{Allows, AcceptedIsAllowed, IsAt, IsOut, IsUnswept}
 use Rattle.run_ledger.proofs.Frames.{held_is}
 use Rattle.run_ledger.proofs.Holders.{holding_none, worker_of}
@@ -35,18 +36,18 @@ if_of b c rest e h = ap (λ v. refused_if v c rest) e ∙ h
 unless_of : (b : Bool) (c : Refused) (rest : Option Refused) → b ≡ true → rest ≡ None → refused_unless b c rest ≡ None
 unless_of b c rest e h = ap (λ v. refused_unless v c rest) e ∙ h
 
-pub is_held : (o : Option ℕ) (w : ℕ) → o ≡ Some w → is_held_by o w ≡ true
-is_held o w e = ap (λ q. is_held_by q w) e ∙ eq-eqb w w refl
+pub is_held : (o : Option ℕ) (w : ℕ) → o ≡ Some w → option_is o w ≡ true
+is_held o w e = ap (λ q. option_is q w) e ∙ eq-eqb w w refl
 
 -- WHERE A WORKER IS
 
 out_in : (l : Ledger) (w t : ℕ) → is_out l w t ≡ true → IsOut l w t
 out_in l w t h =
-    let both = and_parts (is_running (slice_get l.machine.tasks t)) (is_held_by (heap_of l t).worker w) h in
+    let both = and_parts (is_running (slice_get l.machine.tasks t)) (option_is (heap_of l t).worker w) h in
     record { runs = both.0; held = held_is (heap_of l t).worker w both.1 }
 
 out_of : (l : Ledger) (w t : ℕ) → IsOut l w t → is_out l w t ≡ true
-out_of l w t O = and_from (is_running (slice_get l.machine.tasks t)) (is_held_by (heap_of l t).worker w) O.runs (is_held (heap_of l t).worker w O.held)
+out_of l w t O = and_from (is_running (slice_get l.machine.tasks t)) (option_is (heap_of l t).worker w) O.runs (is_held (heap_of l t).worker w O.held)
 
 at_in : (l : Ledger) (w t : ℕ) (rest : Option Refused) → on_running l w t rest ≡ None → IsAt l w t × (rest ≡ None)
 at_in l w t rest h =
@@ -69,9 +70,9 @@ waits_of l t rest U h = unless_of (is_waiting (slice_get l.machine.tasks t)) _ _
 -- whoever holds none isn't found holding one
 none_held : (w t : ℕ) (heaps : List Heap) → ((u : ℕ) → worker_at (slice_get heaps u) ≡ Some w → ⊥) → held_from w t heaps ≡ None
 none_held w t [] h = refl
-none_held w t (g ∷ heaps) h = by (is_held_by g.worker w) refl (none_held w (t + 1) heaps (λ u. h (suc u)))
+none_held w t (g ∷ heaps) h = by (option_is g.worker w) refl (none_held w (t + 1) heaps (λ u. h (suc u)))
   where
-    by : (v : Bool) → is_held_by g.worker w ≡ v → held_from w (t + 1) heaps ≡ None → cond v (Some t) (held_from w (t + 1) heaps) ≡ None
+    by : (v : Bool) → option_is g.worker w ≡ v → held_from w (t + 1) heaps ≡ None → cond v (Some t) (held_from w (t + 1) heaps) ≡ None
     by true e rest = absurd (h zero (held_is g.worker w e))
     by false e rest = rest
 

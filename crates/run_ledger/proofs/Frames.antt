@@ -17,7 +17,8 @@ use Rattle.run_ledger.specs.declared.data.RunEnd.{RunEnd}
 use Rattle.run_ledger.specs.declared.data.RunEnd.TheVariants.{Pool}
 use Rattle.run_ledger.specs.Heaps.{heap_of, or_fresh, with_heap, in_use}
 use Rattle.run_ledger.specs.Steps.{allocated_in, stepped_to, task_step, task_steps}
-use Rattle.run_ledger.specs.Entries.{refusal, kind_refusal, after_kind, after, is_out, is_ready, is_held_by, with_chunk, chunk_units}
+use Rattle.run_ledger.specs.Entries.{refusal, kind_refusal, after_kind, after, is_out, is_ready, with_chunk, chunk_units}
+use Rattle.listed.specs.Options.{option_is}
 use Rattle.run_ledger.specs.Journals.{opening, ledger_of, is_legal_from}
 use Rattle.run_ledger.specs.Laws.{EntriesLeaveOthers}
 use Rattle.run_ledger.proofs.Machine.{stepped_machine}
@@ -69,7 +70,7 @@ left_chunk : (l : Ledger) (t u : ℕ) (next : Option ℕ) (full : Bool) → (u �
 left_chunk l t u next true ne = (same_owner l.machine u, refl)
 left_chunk l t u next false ne = left_heap l t u (with_chunk next) ne
 
-pub held_is : (o : Option ℕ) (w : ℕ) → is_held_by o w ≡ true → o ≡ Some w
+pub held_is : (o : Option ℕ) (w : ℕ) → option_is o w ≡ true → o ≡ Some w
 held_is None w h = absurd (false≢true h)
 held_is (Some v) w h = ap Some (eqb-true v w h)
 
@@ -77,7 +78,7 @@ module _ (p : ProgramText) (s : SettingsValue) (l : Ledger) (w u v : ℕ) (S : S
   -- a task that the worker holds is another one
   not_out : (t : ℕ) → is_out l w t ≡ true → u ≡ t → ⊥
   not_out t h e =
-      let mine : (heap_of l t).worker ≡ Some w = held_is (heap_of l t).worker w (and_parts (is_running (slice_get l.machine.tasks t)) (is_held_by (heap_of l t).worker w) h).1 in
+      let mine : (heap_of l t).worker ≡ Some w = held_is (heap_of l t).worker w (and_parts (is_running (slice_get l.machine.tasks t)) (option_is (heap_of l t).worker w) h).1 in
       other (same_Some v w (sym held ∙ (ap (λ x. (heap_of l x).worker) e ∙ mine)))
 
   -- so is one that nobody holds, and one that waits

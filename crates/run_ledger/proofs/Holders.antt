@@ -22,7 +22,8 @@ use Rattle.run_ledger.specs.declared.data.RunEnd.{RunEnd}
 use Rattle.run_ledger.specs.declared.data.RunEnd.TheVariants.{Pool}
 use Rattle.run_ledger.specs.Heaps.{heap_at, heap_of, or_fresh, with_heap, with_heap_at, placed, is_small, fresh, forked_heap, emptied, let_go, within, in_use, collected, swept_heap, put_last, chunk_words}
 use Rattle.run_ledger.specs.Steps.{allocated_by, allocated_in, settled, moved_on, moved_to, join_heaps, stepped_to, task_step, task_steps, on_asked}
-use Rattle.run_ledger.specs.Entries.{refusal, kind_refusal, after_kind, after, is_ready, is_out, is_held_by, held_from, refused_holding, with_chunk, chunk_units}
+use Rattle.run_ledger.specs.Entries.{refusal, kind_refusal, after_kind, after, is_ready, is_out, held_from, refused_holding, with_chunk, chunk_units}
+use Rattle.listed.specs.Options.{option_is}
 use Rattle.run_ledger.specs.Journals.{opening, after_all, ledger_of, is_legal_from}
 use Rattle.run_ledger.specs.Laws.{TasksAreHeldOnce}
 use Rattle.run_ledger.proofs.Machine.{stepped_machine}
@@ -217,18 +218,18 @@ task_steps_manned p (suc k) l t S I = task_steps_manned p k (task_step p l t) t 
 -- who isn't found holding a task holds none
 pub holding_none : (w t : ℕ) (heaps : List Heap) → held_from w t heaps ≡ None → (u : ℕ) → worker_at (slice_get heaps u) ≡ Some w → ⊥
 holding_none w t [] h u q = none_some q
-holding_none w t (g ∷ heaps) h u q = by (is_held_by g.worker w) refl h (λ v free r. holding_none w (t + 1) heaps free v r) u q
+holding_none w t (g ∷ heaps) h u q = by (option_is g.worker w) refl h (λ v free r. holding_none w (t + 1) heaps free v r) u q
   where
-    held_is : g.worker ≡ Some w → is_held_by g.worker w ≡ true
-    held_is e = ap (λ o. is_held_by o w) e ∙ eq-eqb w w refl
+    held_is : g.worker ≡ Some w → option_is g.worker w ≡ true
+    held_is e = ap (λ o. option_is o w) e ∙ eq-eqb w w refl
 
     none_task : {A : Type 0} → ◌≡◌ {A = Option ℕ} (Some t) None → A
     none_task q' = absurd cc
 
-    by : (v : Bool) → is_held_by g.worker w ≡ v → cond v (Some t) (held_from w (t + 1) heaps) ≡ None
+    by : (v : Bool) → option_is g.worker w ≡ v → cond v (Some t) (held_from w (t + 1) heaps) ≡ None
         → ((u' : ℕ) → held_from w (t + 1) heaps ≡ None → worker_at (slice_get heaps u') ≡ Some w → ⊥) → (u' : ℕ) → worker_at (slice_get (g ∷ heaps) u') ≡ Some w → ⊥
     by true e free more u' q' = none_task free
-    by false e free more zero q' = both_ways (is_held_by g.worker w) e (held_is q')
+    by false e free more zero q' = both_ways (option_is g.worker w) e (held_is q')
     by false e free more (suc u') q' = more u' free q'
 
 pub none_holding : (o : Option ℕ) → is_none (refused_holding o None) ≡ true → o ≡ None
@@ -275,12 +276,12 @@ chunk_manned l t next true end I = record { runs = λ on. absurd cc; one = I.one
 chunk_manned l t next false end I =
     same_manned l t (with_chunk next) (λ h. chunk_worker_by h (chunk_units next) (on_asked next is_small)) (λ h e c. still l t I h e (sym (ap is_some (chunk_begun_by h (chunk_units next) (on_asked next is_small))) ∙ c)) I
 
-held_some : (o : Option ℕ) (w : ℕ) → is_held_by o w ≡ true → is_some o ≡ true
+held_some : (o : Option ℕ) (w : ℕ) → option_is o w ≡ true → is_some o ≡ true
 held_some None w h = h
 held_some (Some v) w h = refl
 
 out_held : (l : Ledger) (w t : ℕ) → is_out l w t ≡ true → is_some (heap_of l t).worker ≡ true
-out_held l w t h = held_some (heap_of l t).worker w (and_parts (is_running (slice_get l.machine.tasks t)) (is_held_by (heap_of l t).worker w) h).1
+out_held l w t h = held_some (heap_of l t).worker w (and_parts (is_running (slice_get l.machine.tasks t)) (option_is (heap_of l t).worker w) h).1
 
 kind_manned : (p : ProgramText) (s : SettingsValue) (l : Ledger) (w : ℕ) (kind : Kind) → SoundLedger l → is_none (kind_refusal p s l w kind) ≡ true → MannedLedger l → MannedLedger (after_kind p s l w kind)
 kind_manned p s l w (Took t) S h I =

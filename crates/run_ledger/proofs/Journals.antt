@@ -27,7 +27,8 @@ use Rattle.run_ledger.specs.declared.data.Refused.{Refused}
 use Rattle.run_ledger.specs.declared.data.RunEnd.TheVariants.{Pool}
 use Rattle.run_ledger.specs.Heaps.{held, held_in, heap_at, heap_of, or_fresh, frames_of, within, with_heap, with_heap_at, fresh, chunk_words, in_use, is_small, take_of, collected, swept_heap}
 use Rattle.run_ledger.specs.Steps.{on_asked}
-use Rattle.run_ledger.specs.Entries.{kind_refusal, refusal, refused_unless, refused_if, is_held_by, is_out, on_running, on_waiting, after_kind, after, chunk_units, is_fuel}
+use Rattle.run_ledger.specs.Entries.{kind_refusal, refusal, refused_unless, refused_if, is_out, on_running, on_waiting, after_kind, after, chunk_units, is_fuel}
+use Rattle.listed.specs.Options.{option_is}
 use Rattle.run_ledger.specs.Journals.{opening, after_all, ledger_of, is_legal_from, is_legal}
 use Rattle.run_ledger.specs.Laws.{IsHeldByTask, Refers, KeepsReachable, NothingReachableIsFreed}
 use Rattle.run_ledger.proofs.Held.{chunk_down, chunk_up, collected_down, collected_up, swept_down, swept_up}
@@ -136,7 +137,7 @@ chunk_sound p l t S false true end units E = plain l t _ S (λ h n i. chunk_down
 chunk_sound p l t S false false end units E = plain l t _ S (λ h n i. i) (λ h n i. i) (λ h. refl) (λ h. refl) (λ h. refl)
 
 pub out_runs : (l : Ledger) (w t : ℕ) → is_out l w t ≡ true → is_running (slice_get l.machine.tasks t) ≡ true
-out_runs l w t h = (and_parts (is_running (slice_get l.machine.tasks t)) (is_held_by (heap_of l t).worker w) h).0
+out_runs l w t h = (and_parts (is_running (slice_get l.machine.tasks t)) (option_is (heap_of l t).worker w) h).0
 
 -- what an entry that isn't refused tells of the task that it speaks of
 pub out_tells : (l : Ledger) (w t : ℕ) (rest : Option Refused) → is_none (on_running l w t rest) ≡ true

@@ -1,5 +1,5 @@
 -- Entries: which are refused and why, and what the others change.
-use Rattle.std.specs.Prelude.{ℕ, ◌+◌, ◌==◌, ◌&&◌, not, Bool, true, false, Option, Some, None, List, [], ◌∷◌, ◌++◌, slice_get, if◌then◌else◌, nat_lt, nat_le, min, is_some, is_none}
+use Rattle.std.specs.Prelude.{ℕ, ◌+◌, ◌&&◌, not, Bool, true, false, Option, Some, None, List, [], ◌∷◌, ◌++◌, slice_get, if◌then◌else◌, nat_lt, nat_le, min, is_some, is_none}
 use Rattle.run_trace.specs.declared.entry.Kind.{Kind}
 use Rattle.run_trace.specs.declared.entry.Kind.TheVariants.{Took, Ran, Chunk, Begin, End, PutOff, Mark, More, Sweep, Fuel}
 use Rattle.run_trace.specs.Entry.{EntryValue}
@@ -13,12 +13,9 @@ use Rattle.run_ledger.specs.declared.data.Refused.{Refused}
 use Rattle.run_ledger.specs.declared.data.Refused.TheVariants.{Over, Spent, NoWorker, NotReady, Holding, NotOut, Collecting, NotCollecting, NotWaiting, Swept, Marking, NotMarking, Long, Due, NotNeeded, NotDue, PoolShort, PoolEnough, Marked, Left, Count, NotSpent}
 use Rattle.run_ledger.specs.Heaps.{chunk_words, units, is_small, heap_of, with_heap, words_in, in_use, within, take_of, collected, end_numbers, marked_in, left_in, swept_heap, sweep_number}
 use Rattle.run_ledger.specs.Steps.{task_steps, on_asked, is_due, is_in_need, most_steps, standing}
+use Rattle.listed.specs.Options.{option_is}
 
 -- WHO HOLDS WHAT
-
-abbrev pub is_held_by : Option ℕ → ℕ → Bool
-is_held_by None w = false
-is_held_by (Some v) w = v == w
 
 -- the task runs and nobody holds it
 abbrev pub is_ready : Ledger → ℕ → Bool
@@ -26,12 +23,12 @@ is_ready l t = is_running (slice_get l.machine.tasks t) && is_none (heap_of l t)
 
 -- the task runs and the worker holds it
 abbrev pub is_out : Ledger → ℕ → ℕ → Bool
-is_out l w t = is_running (slice_get l.machine.tasks t) && is_held_by (heap_of l t).worker w
+is_out l w t = is_running (slice_get l.machine.tasks t) && option_is (heap_of l t).worker w
 
 -- the first task, from the task t on, that the worker holds
 abbrev pub held_from : ℕ → ℕ → List Heap → Option ℕ
 held_from w t [] = None
-held_from w t (h ∷ hs) = if is_held_by h.worker w then Some t else held_from w (t + 1) hs
+held_from w t (h ∷ hs) = if option_is h.worker w then Some t else held_from w (t + 1) hs
 
 -- CAUSES IN THEIR ORDER
 

@@ -14,7 +14,8 @@ use Rattle.run_ledger.specs.declared.data.Heap.{Heap}
 use Rattle.run_ledger.specs.declared.data.Ledger.{Ledger}
 use Rattle.run_ledger.specs.Heaps.{or_fresh, fresh, placed, put_last, is_small}
 use Rattle.run_ledger.specs.Steps.{allocated_by, allocated_in, settled, moved_to, moved_on, stepped_to, task_step, task_steps, is_private, is_due, is_in_need, standing}
-use Rattle.run_ledger.specs.Entries.{held_from, is_held_by}
+use Rattle.run_ledger.specs.Entries.{held_from}
+use Rattle.listed.specs.Options.{option_is}
 use Rattle.run_ledger.proofs.Holders.{allocated_end}
 use Rattle.ledger_step_laws.specs.Accounts.{ArePrivate}
 use Rattle.ledger_step_laws.proofs.Ahead.{private_off, with_at, heap_then}
@@ -145,7 +146,7 @@ held_same w i [] [] e = refl
 held_same w i [] (y ∷ ys) e = let a = e 0 in absurd cc
 held_same w i (x ∷ xs) [] e = let a = e 0 in absurd cc
 held_same w i (x ∷ xs) (y ∷ ys) e =
-    ap₂ (λ b o. cond b (Some i) o) (ap (λ o. is_held_by o w) (same_Some y.worker x.worker (e 0))) (held_same w (i + 1) xs ys (λ u. e (suc u)))
+    ap₂ (λ b o. cond b (Some i) o) (ap (λ o. option_is o w) (same_Some y.worker x.worker (e 0))) (held_same w (i + 1) xs ys (λ u. e (suc u)))
 
 pub worker_view : (o o' : Option Heap) → option_map hold o' ≡ option_map hold o → option_map worker_of o' ≡ option_map worker_of o
 worker_view o o' e = first o' ∙ (ap (option_map (λ (x : Option ℕ × Option ℕ × List Name × Bool). x.0)) e ∙ sym (first o))

@@ -14,7 +14,8 @@ use Rattle.run_ledger.specs.declared.data.Refused.{Refused}
 use Rattle.run_ledger.specs.declared.data.Refused.TheVariants.{NotOut, Collecting, Long}
 use Rattle.run_ledger.specs.Heaps.{heap_of, let_go}
 use Rattle.run_ledger.specs.Steps.{is_private, task_step, task_steps, most_steps, standing}
-use Rattle.run_ledger.specs.Entries.{after, is_out, is_held_by, kind_refusal, refused_if, refused_unless}
+use Rattle.run_ledger.specs.Entries.{after, is_out, kind_refusal, refused_if, refused_unless}
+use Rattle.listed.specs.Options.{option_is}
 use Rattle.run_ledger.proofs.Bounds.{ran_tells}
 use Rattle.run_ledger.proofs.Sound.{collecting}
 use Rattle.run_ledger.proofs.Journals.{collecting_is}
@@ -112,7 +113,7 @@ module _ (w : SharedValue) (k : ℕ) (p : Private) (I : IsSharedValue w) (F : Fi
       let few : p.fresh ≤ 257 = V.few in
       let fits : nat_le p.fresh (min most_steps (standing w.settings w.program l p.task p.fresh)) ≡ true = le-leb p.fresh (min most_steps (standing w.settings w.program l p.task p.fresh)) (omega (arith, stand, few)) in
       free_by (is_out l k p.task) (is_some (heap_of l p.task).begun) (nat_le p.fresh (min most_steps (standing w.settings w.program l p.task p.fresh))) (min most_steps (standing w.settings w.program l p.task p.fresh))
-      (and_from (is_running (slice_get l.machine.tasks p.task)) (is_held_by (heap_of l p.task).worker k) (ap is_running F.fits.is ∙ F.fits.runs) (ap (λ o. is_held_by o k) F.held ∙ eq-eqb k k refl))
+      (and_from (is_running (slice_get l.machine.tasks p.task)) (option_is (heap_of l p.task).worker k) (ap is_running F.fits.is ∙ F.fits.runs) (ap (λ o. option_is o k) F.held ∙ eq-eqb k k refl))
       (collecting_is (slice_get l.heaps p.task) ∙ steady_by F.fits.steady)
       fits
     where

@@ -8,7 +8,8 @@ use Rattle.run_ledger.specs.Laws.{HoldsTasks}
 use Rattle.run_ledger.specs.declared.data.Ledger.{Ledger}
 use Rattle.run_ledger.specs.declared.data.Refused.{Refused}
 use Rattle.run_ledger.specs.declared.data.Refused.TheVariants.{Collecting, Count, Due, NotCollecting, NotNeeded, NotOut, PoolEnough, PoolShort}
-use Rattle.run_ledger.specs.Entries.{ends_as, is_fuel, is_held_by, is_out, is_pool_enough, kind_refusal, long_at, on_due, on_running, refused_if, refused_unless}
+use Rattle.run_ledger.specs.Entries.{ends_as, is_fuel, is_out, is_pool_enough, kind_refusal, long_at, on_due, on_running, refused_if, refused_unless}
+use Rattle.listed.specs.Options.{option_is}
 use Rattle.run_ledger.specs.Heaps.{end_numbers, heap_of, in_use}
 use Rattle.run_ledger.specs.Steps.{is_due, is_in_need, most_steps, standing}
 use Rattle.run_ledger.proofs.Holders.{tasks_are_held_once}
@@ -78,7 +79,7 @@ module _ (w : SharedValue) (k : ℕ) (I : IsSharedValue w) (first : first_cause 
 
   out : (t : ℕ) → (heap_of l t).worker ≡ Some k → is_out l k t ≡ true
   out t held =
-      and_from (is_running (slice_get l.machine.tasks t)) (is_held_by (heap_of l t).worker k) (holders.runs on t k held) (ap (λ o. is_held_by o k) held ∙ eq-eqb k k refl)
+      and_from (is_running (slice_get l.machine.tasks t)) (option_is (heap_of l t).worker k) (holders.runs on t k held) (ap (λ o. option_is o k) held ∙ eq-eqb k k refl)
 
   -- a part that has begun a collection
   amid : (p : Private) (b : Begun) (rest : Option Refused) → Fits w k p → p.begun ≡ Some b → on_running l k p.task rest ≡ Some Collecting

@@ -1,11 +1,12 @@
 -- What a write of a reference does to the sets of the heaps.
-use Rattle.std.specs.Prelude.{◌≡◌, ℕ, ◌<◌, Bool, true, false, List, ◌++◌, ◌==◌, ◌&&◌, if◌then◌else◌, not, Option, Some, None, IsSome, IfSome, option_map, option_to_list, slice_get}
+use Rattle.std.specs.Prelude.{◌≡◌, ℕ, ◌<◌, Bool, true, false, List, ◌++◌, ◌&&◌, if◌then◌else◌, not, Option, Some, None, IsSome, IfSome, option_map, option_to_list, slice_get}
 use Rattle.object_layout.specs.declared.word.Addr.{Addr}
 use Rattle.heap_tree.specs.Node.{Node, is_on_path}
 use Rattle.chunk_pool.specs.PoolValue.{PoolValue, slot_at, owner_of}
 use Rattle.remembered_set.specs.declared.remembered.Source.{Source}
 use Rattle.remembered_set.specs.Sources.{noted}
 use Rattle.write_barrier.specs.declared.sets.SetOf.{SetOf}
+use Rattle.listed.specs.Options.{option_is}
 
 -- what the set of a heap holds: the fields that were seen to point down into the heap, the
 -- overwritten references that are kept for its marking, and whether it keeps such
@@ -35,11 +36,6 @@ abbrev pub IsOwned : ℕ → PoolValue → Option Addr → Type 0
 IsOwned made pool None = Unit {0}
 IsOwned made pool (Some a) = IsSome (slot_at pool a.chunk) × ((o : ℕ) → owner_of pool a.chunk ≡ Some o → o < made)
 
--- whether this is the heap of task t
-abbrev pub is_of : Option ℕ → ℕ → Bool
-is_of None t = false
-is_of (Some heap) t = heap == t
-
 -- whether a reference from an object of the one heap into the other points down: the one's task is
 -- a proper ancestor of the other's
 abbrev pub is_down : List Node → Option ℕ → Option ℕ → Bool
@@ -54,12 +50,12 @@ noted_in nodes pool object value =
 
 -- the set of task t once a down-pointer into a heap was noted: the source stands in that heap's set, once
 abbrev pub with_source : Option ℕ → Source → ℕ → Content → Content
-with_source into source t c = if is_of into t then record c { sources = noted c.sources source } else c
+with_source into source t c = if option_is into t then record c { sources = noted c.sources source } else c
 
 -- the set of task t once a reference into a heap was overwritten: it is kept for that heap while
 -- that keeps
 abbrev pub with_kept : Option ℕ → Option Addr → ℕ → Content → Content
-with_kept heap overwritten t c = if is_of heap t && c.keeps then record c { kept = c.kept ++ option_to_list overwritten } else c
+with_kept heap overwritten t c = if option_is heap t && c.keeps then record c { kept = c.kept ++ option_to_list overwritten } else c
 
 -- the set of task t once a reference was written into a field in place of another one
 abbrev pub content_after : List Node → PoolValue → Source → Option Addr → Option Addr → ℕ → Content → Content

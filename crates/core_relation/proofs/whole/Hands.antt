@@ -6,7 +6,8 @@ use Rattle.listed.proofs.Options.{none_some}
 use Rattle.run_ledger.specs.declared.data.Heap.{Heap}
 use Rattle.run_ledger.specs.declared.data.Ledger.{Ledger}
 use Rattle.run_ledger.specs.Heaps.{heap_of, or_fresh}
-use Rattle.run_ledger.specs.Entries.{held_from, is_held_by}
+use Rattle.run_ledger.specs.Entries.{held_from}
+use Rattle.listed.specs.Options.{option_is}
 use Rattle.run_ledger.proofs.Accepted.{is_held}
 use Rattle.run_ledger.proofs.Frames.{held_is}
 use Rattle.core_relation.specs.EntryLaws.{HandsAreHeld}
@@ -14,9 +15,9 @@ use Rattle.core_relation.specs.EntryLaws.{HandsAreHeld}
 -- where no heap is found, the worker holds none
 none_from : (w k : ℕ) (hs : List Heap) → held_from w k hs ≡ None → (u : ℕ) → (or_fresh (slice_get hs u)).worker ≡ Some w → ⊥
 none_from w k [] e u h = none_some h
-none_from w k (x ∷ hs) e u h = by (λ q i. none_from w (k + 1) hs q i) u (is_held_by x.worker w) refl h e
+none_from w k (x ∷ hs) e u h = by (λ q i. none_from w (k + 1) hs q i) u (option_is x.worker w) refl h e
   where
-    by : (held_from w (k + 1) hs ≡ None → (i : ℕ) → (or_fresh (slice_get hs i)).worker ≡ Some w → ⊥) → (u : ℕ) (b : Bool) → is_held_by x.worker w ≡ b → (or_fresh (slice_get (x ∷ hs) u)).worker ≡ Some w → cond b (Some k) (held_from w (k + 1) hs) ≡ None → ⊥
+    by : (held_from w (k + 1) hs ≡ None → (i : ℕ) → (or_fresh (slice_get hs i)).worker ≡ Some w → ⊥) → (u : ℕ) (b : Bool) → option_is x.worker w ≡ b → (or_fresh (slice_get (x ∷ hs) u)).worker ≡ Some w → cond b (Some k) (held_from w (k + 1) hs) ≡ None → ⊥
     by more u true q h e = none_some (sym e)
     by more zero false q h e = false≢true (sym q ∙ is_held x.worker w h)
     by more (suc u) false q h e = more e u h
@@ -27,9 +28,9 @@ none_held l w e u h = none_from w 0 l.heaps e u h
 -- where one is found, the worker holds that
 some_from : (w k t : ℕ) (hs : List Heap) → held_from w k hs ≡ Some t → (u : ℕ) × (t ≡ k + u) × ((or_fresh (slice_get hs u)).worker ≡ Some w)
 some_from w k t [] e = none_some e
-some_from w k t (x ∷ hs) e = by (λ q. some_from w (k + 1) t hs q) (is_held_by x.worker w) refl e
+some_from w k t (x ∷ hs) e = by (λ q. some_from w (k + 1) t hs q) (option_is x.worker w) refl e
   where
-    by : (held_from w (k + 1) hs ≡ Some t → (u : ℕ) × (t ≡ k + 1 + u) × ((or_fresh (slice_get hs u)).worker ≡ Some w)) → (b : Bool) → is_held_by x.worker w ≡ b → cond b (Some k) (held_from w (k + 1) hs) ≡ Some t → (u : ℕ) × (t ≡ k + u) × ((or_fresh (slice_get (x ∷ hs) u)).worker ≡ Some w)
+    by : (held_from w (k + 1) hs ≡ Some t → (u : ℕ) × (t ≡ k + 1 + u) × ((or_fresh (slice_get hs u)).worker ≡ Some w)) → (b : Bool) → option_is x.worker w ≡ b → cond b (Some k) (held_from w (k + 1) hs) ≡ Some t → (u : ℕ) × (t ≡ k + u) × ((or_fresh (slice_get (x ∷ hs) u)).worker ≡ Some w)
     by more true q e = (0, (let a : k ≡ t = same_Some k t e in omega (arith, a)), held_is x.worker w q)
     by more false q e = let r = more e in (suc r.0, (let a : t ≡ k + 1 + r.0 = r.1 in omega (arith, a)), r.2)
 

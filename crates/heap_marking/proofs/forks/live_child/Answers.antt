@@ -2,11 +2,12 @@ use Rattle.std.proofs.Common.{◌≡◌, ◌≤◌, ◌&&◌, ℕ, not, false, L
 use Rattle.std.proofs.lemmas.Bool.{cases_lt}
 use Rattle.listed.proofs.Members.{got_past}
 use Rattle.heap_tree.specs.Node.{Node, parent_in}
-use Rattle.heap_marking.specs.Pace.{is_live_child, is_parent, is_state_joined}
+use Rattle.heap_marking.specs.Pace.{is_live_child, is_state_joined}
+use Rattle.listed.specs.Options.{option_is}
 use Rattle.heap_marking.proofs.forks.live_child.Goals as goal
 
 unmade_child : (tree : List Node) (t c : ℕ) → length tree ≤ c → is_live_child tree t c ≡ false
-unmade_child tree t c le = ap (λ (o : Option Node). is_parent (parent_in o) t && not (is_state_joined (option_map (λ (n : Node). n.state) o))) (got_past tree c le)
+unmade_child tree t c le = ap (λ (o : Option Node). option_is (parent_in o) t && not (is_state_joined (option_map (λ (n : Node). n.state) o))) (got_past tree c le)
 
 pub returns : goal.returns
 returns c = λ k. elim (cases_lt k (length c.args.tree.now)) [
