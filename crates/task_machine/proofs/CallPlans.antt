@@ -6,6 +6,8 @@ use Rattle.object_layout.specs.Chunks.{object_of}
 use Rattle.alloc_path.specs.LeafHeapValue.{place_for}
 use Rattle.hh_lang.specs.declared.instr.Instr.{Instr}
 use Rattle.hh_lang.specs.declared.instr.Instr.TheVariants.{Set, Mov, Movr, Nil, Calc, Same, Jmp, Jz, Newm, Pack as PackOf, Getr, Geti, Putr, Puti, Cntr, Cnti, Freeze as FreezeOf, Cas, Call as CallOf, Par, Ret, Out}
+use Rattle.hh_lang.specs.declared.program.Line.{Line}
+use Rattle.hh_lang.specs.Form.{ProgramText, line_at}
 use Rattle.hh_model.specs.Effect.{calculated, counts_in, place_in as field_in}
 use Rattle.task_machine.specs.declared.part.Private.{Private}
 use Rattle.task_machine.specs.declared.part.Paused.TheVariants.{Shared, Due, NeedChunk}
@@ -15,7 +17,7 @@ use Rattle.task_machine.specs.declared.plan.Spot.{Spot}
 use Rattle.object_layout.specs.References.{same_reference}
 use Rattle.task_machine.specs.Plan.{counts_ints, counts_refs, own_or_shown, reads_int, reads_ref, shown_of, allocating, or_shared, own_in, planned, unless_frozen}
 use Rattle.task_frames.specs.FramesValue.{int_of, ref_of}
-use Rattle.task_machine.specs.Run.{IsCall, IsCallPlan}
+use Rattle.task_machine.specs.Run.{next_plan, planned_line, IsCall, IsCallLine, IsCallPlan, StandsAtCall}
 
 abbrev Not : Plan → Type 0
 Not q = IsCallPlan q → ⊥
@@ -84,3 +86,11 @@ module _ (part : Private) where
   call_planned (Par g k) h = h
   call_planned Ret h = either (nat_lt 0 (length part.frames.below)) Return (Pause Shared) (λ h. h) (λ h. h) h
   call_planned (Out a) h = h
+
+call_line : (part : Private) (o : Option Line) → IsCallPlan (planned_line part o) → IsCallLine o
+call_line part None h = h
+call_line part (Some line) h = call_planned part line.instr h
+
+-- where a call is planned next, the part stands at one
+pub call_stands : (p : ProgramText) (part : Private) → IsCallPlan (next_plan p part) → StandsAtCall p part
+call_stands p part h = call_line part (line_at p part.frames.top.function part.frames.top.next) h

@@ -17,6 +17,7 @@ use object_layout::{Chunk, header_at, int_at, is_same_reference, ref_at};
 
 impl Private {
     /// The object that a register names, where it is the task's own; None for nil and for another task's.
+    #[inline(always)]
     fn own(&self, register: RefReg) -> Option<Spot>
         requires safe { IsSafe self.now }
         ensures spot { result ≡ own_in self.now.heap.chunks (ref_of self.now.frames.top register) }
@@ -28,6 +29,7 @@ impl Private {
     }
 
     /// The chunk in which an own object lies.
+    #[inline(always)]
     fn chunk_of(&self, own: Spot) -> &Chunk
         requires there { IsThere self.now.heap.chunks own }
         ensures cell { cell_at result.now.cells own.object.offset ≡ cell_of self.now.heap.chunks own.object }
@@ -35,6 +37,7 @@ impl Private {
         &self.heap.chunks()[own.place]
     }
 
+    #[inline(always)]
     pub(crate) fn decide_getr(&self, target: RefReg, object: RefReg, index: IntReg) -> Plan
         requires { IsSafe self.now }
         ensures { result ≡ planned self.now (Instr.Getr target object index) }
@@ -50,6 +53,7 @@ impl Private {
         }
     }
 
+    #[inline(always)]
     pub(crate) fn decide_geti(&self, target: IntReg, object: RefReg, index: IntReg) -> Plan
         requires { IsSafe self.now }
         ensures { result ≡ planned self.now (Instr.Geti target object index) }
@@ -65,6 +69,7 @@ impl Private {
         }
     }
 
+    #[inline(always)]
     pub(crate) fn decide_putr(&self, object: RefReg, index: IntReg, value: RefReg) -> Plan
         requires { IsSafe self.now }
         ensures plan { result ≡ planned self.now (Instr.Putr object index value) }
@@ -84,6 +89,7 @@ impl Private {
         }
     }
 
+    #[inline(always)]
     pub(crate) fn decide_puti(&self, object: RefReg, index: IntReg, value: IntReg) -> Plan
         requires { IsSafe self.now }
         ensures plan { result ≡ planned self.now (Instr.Puti object index value) }
