@@ -34,8 +34,11 @@ use Rattle.shared_value.proofs.JournalGoesOn.{legal_then}
 use Rattle.own_steps.specs.Alone.{alone_event}
 use Rattle.child_tasks.specs.Joins.{IsUnchanged}
 use Rattle.shared_tree.specs.declared.ran.Ran.{Ran as RanOf}
-use Rattle.shared_tree.specs.declared.ran.Ran.TheVariants.{Goes as GoesOn, Forked as ForksInto, Ended as EndsWith, Over as IsOver, Done as IsDone}
-use Rattle.shared_tree.specs.Ran.{RanTo}
+use Rattle.shared_tree.specs.declared.ran.Ran.TheVariants.{Forked as ForksInto, Ended as EndsWith, Over as IsOver, Done as IsDone}
+use Rattle.shared_tree.specs.declared.ran_lent.Leaving.{Leaving}
+use Rattle.shared_tree.specs.declared.ran_lent.Lent.{Lent}
+use Rattle.shared_tree.specs.declared.ran_lent.Lent.TheVariants.{Goes as GoesOn, Over as HasEnded, Leaves}
+use Rattle.shared_tree.specs.Ran.{LentTo, RanTo}
 use Rattle.heap_marking.proofs.ForksTold.{entered_accounts}
 use Rattle.heap_reading.specs.HeldNames.{held_unless_running}
 use Rattle.heap_reading.proofs.KeptNames.{counted_few}
@@ -90,11 +93,16 @@ unchanged_kept w v NoMemory c S K = same_kept w v c (ap (λ (z : SharedValue). z
 
 -- steps that were entered, whatever they come to
 pub ran_enters : (w v : SharedValue) (k : ℕ) (q : Private) (r : RanOf) → RanTo w v k q r → Enters w v (alone_event k q)
-ran_enters w v k q (GoesOn x) a = a.enters
 ran_enters w v k q (ForksInto left right) a = a.0.enters
 ran_enters w v k q (EndsWith resumed) a = a.0.enters
 ran_enters w v k q (IsOver x) a = a.enters
 ran_enters w v k q IsDone a = a.enters
+
+-- and those of a part that stays
+pub lent_enters : (w v : SharedValue) (k : ℕ) (p q : Private) (l : Lent) → ((x : Leaving) → l ≡ Leaves x → ⊥) → LentTo w v k p q l → Enters w v (alone_event k p)
+lent_enters w v k p q GoesOn stays a = a.enters
+lent_enters w v k p q HasEnded stays a = a.enters
+lent_enters w v k p q (Leaves x) stays a = absurd (stays x refl)
 
 -- an entry that was made
 pub is_made : (w v : SharedValue) (c : Counts) (e : EntryValue) (words : ℕ) → IsSharedValue w → Enters w v e → refused w e ≡ None → KeepsCounts w c → HasWords (accounts w) e.kind words

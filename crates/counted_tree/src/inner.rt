@@ -22,13 +22,9 @@ impl Counted {
         ensures fits { OnOk result (AllFit self.old self.new) }
     {
         self.shared.stands();
-        match self.shared.mark(worker, t) {
-            Ok(()) => {
-                self.counts.count(&self.shared, 0);
-                Ok(())
-            }
-            Err(cause) => Err(cause),
-        }
+        self.shared.mark(worker, t)?;
+        self.counts.count(&self.shared, 0);
+        Ok(())
     }
 
     /// Up to so many objects more of a heap are marked: the answer is how many. It takes no memory.
@@ -43,13 +39,9 @@ impl Counted {
         ensures fits { OnOk result (AllFit self.old self.new) }
     {
         self.shared.stands();
-        match self.shared.some(worker, t, n) {
-            Ok(count) => {
-                self.counts.count(&self.shared, 0);
-                Ok(count)
-            }
-            Err(cause) => Err(cause),
-        }
+        let count = self.shared.some(worker, t, n)?;
+        self.counts.count(&self.shared, 0);
+        Ok(count)
     }
 
     /// The heap of a waiting task is swept: of its objects just those that were reached at the task's fork stay, each
@@ -64,12 +56,8 @@ impl Counted {
     {
         self.shared.stands();
         let words = self.shared.words_held(t);
-        match self.shared.sweep(worker, t, given) {
-            Ok(()) => {
-                self.counts.count(&self.shared, words);
-                Ok(())
-            }
-            Err(cause) => Err(cause),
-        }
+        self.shared.sweep(worker, t, given)?;
+        self.counts.count(&self.shared, words);
+        Ok(())
     }
 }

@@ -30,13 +30,9 @@ impl Counted {
         ensures others { OnOk result (OthersFit self.old self.new worker) }
     {
         self.shared.stands();
-        match self.shared.chunk(worker, part) {
-            Ok(()) => {
-                self.counts.count(&self.shared, 0);
-                Ok(())
-            }
-            Err(cause) => Err(cause),
-        }
+        self.shared.chunk(worker, part)?;
+        self.counts.count(&self.shared, 0);
+        Ok(())
     }
 
     /// A due leaf collection of a part begins: the answer is its roots, and new chunks with all that copying needs.
@@ -58,13 +54,9 @@ impl Counted {
     {
         self.shared.stands();
         let words = part.heap.words();
-        match self.shared.leaf_begin(worker, part) {
-            Ok(begun) => {
-                self.counts.count(&self.shared, words);
-                Ok(begun)
-            }
-            Err(cause) => Err(cause),
-        }
+        let begun = self.shared.leaf_begin(worker, part)?;
+        self.counts.count(&self.shared, words);
+        Ok(begun)
     }
 
     /// The leaf collection of a part ends, once its heap was copied: fields that still hold old addresses are led to
@@ -87,13 +79,9 @@ impl Counted {
         ensures others { OnOk result (OthersFit self.old self.new worker) }
     {
         self.shared.stands();
-        match self.shared.leaf_end(worker, part, moved) {
-            Ok(()) => {
-                self.counts.count(&self.shared, 0);
-                Ok(())
-            }
-            Err(failed) => Err(failed),
-        }
+        self.shared.leaf_end(worker, part, moved)?;
+        self.counts.count(&self.shared, 0);
+        Ok(())
     }
 
     /// A due leaf collection of a part is put off, since too few chunks are free for it: its words are counted from 0
@@ -111,12 +99,8 @@ impl Counted {
         ensures others { OnOk result (OthersFit self.old self.new worker) }
     {
         self.shared.stands();
-        match self.shared.put_off(worker, part) {
-            Ok(()) => {
-                self.counts.count(&self.shared, 0);
-                Ok(())
-            }
-            Err(cause) => Err(cause),
-        }
+        self.shared.put_off(worker, part)?;
+        self.counts.count(&self.shared, 0);
+        Ok(())
     }
 }

@@ -1,18 +1,18 @@
 // A worker takes a task, and steps are entered; or the run ends for spent fuel.
 
 ghost use Rattle.std.specs.Prelude.{◌≡◌, ◌<◌, OnErr, OnOk, IfErr, IfOk, None, Some};
-ghost use Rattle.shared_value.specs.Entered.{cause_of, refused, Enters, IsRefusedBy, RanAnswers};
+ghost use Rattle.shared_value.specs.Entered.{cause_of, refused, Answers, Enters, RanAnswers};
 ghost use Rattle.shared_value.specs.Fits.{AllFit, Fits, OthersFit};
 ghost use Rattle.shared_value.specs.SharedValue.{rest_at};
 ghost use Rattle.shared_value.specs.declared.task_at_rest.Rest.{Rest as RestOf};
 ghost use Rattle.own_steps.specs.Alone.{alone_event, IsShared};
 ghost use Rattle.child_tasks.specs.Joins.{IsUnchanged};
-ghost use Rattle.shared_tree.specs.Ran.{RanTo};
+ghost use Rattle.shared_tree.specs.Ran.{LeavesBy, LentTo, RanTo};
 
 use crate::counted::Counted;
 use run_ledger::Refused;
 use run_trace::Kind;
-use shared_tree::{NotRan, Ran};
+use shared_tree::{Leaving, Lent, NotEntered, NotRan, Ran};
 use task_machine::Private;
 
 impl Counted {
@@ -30,59 +30,77 @@ impl Counted {
         ensures others { OnOk result (OthersFit self.old self.new worker) }
     {
         self.shared.stands();
-        match self.shared.took(worker, t) {
-            Ok(part) => {
-                self.counts.count(&self.shared, 0);
-                Ok(part)
-            }
-            Err(cause) => Err(cause),
-        }
+        let part = self.shared.took(worker, t)?;
+        self.counts.count(&self.shared, 0);
+        Ok(part)
     }
 
     /// The fresh steps of a part, all private, are entered.
-    pub fn ran_private(&mut self, worker: u32, part: Private) -> Result<Private, NotRan>
+    pub fn ran_private(&mut self, worker: u32, part: &mut Private) -> Result<(), Refused>
         requires room { 0 < self.old.journal.room }
-        requires fits { Fits self.old worker part }
-        requires fresh { 0 < part.fresh }
-        ensures refused { IsRefusedBy result (refused self.old (record { worker = worker; kind = Kind.Ran part.task part.fresh })) }
+        requires fits { Fits self.old worker part.old }
+        requires fresh { 0 < part.old.fresh }
+        ensures refused { cause_of result ≡ refused self.old (record { worker = worker; kind = Kind.Ran part.old.task part.old.fresh }) }
         ensures same { OnErr result (self.new ≡ self.old) }
-        ensures back { IfErr result (λ e. e.part ≡ part) }
-        ensures enters { OnOk result (Enters self.old self.new (record { worker = worker; kind = Kind.Ran part.task part.fresh })) }
+        ensures back { OnErr result (part.new ≡ part.old) }
+        ensures enters { OnOk result (Enters self.old self.new (record { worker = worker; kind = Kind.Ran part.old.task part.old.fresh })) }
         ensures end { OnOk result (self.new.end ≡ self.old.end) }
-        ensures goes { IfOk result (λ p. p ≡ record part { fresh = 0 }) }
-        ensures fits { IfOk result (λ p. Fits self.new worker p) }
+        ensures goes { OnOk result (part.new ≡ record part.old { fresh = 0 }) }
+        ensures fits { Fits self.new worker part.new }
         ensures others { OnOk result (OthersFit self.old self.new worker) }
     {
         self.shared.stands();
-        match self.shared.ran_private(worker, part) {
-            Ok(part) => {
+        self.shared.ran_private(worker, part)?;
+        self.counts.count(&self.shared, 0);
+        Ok(())
+    }
+
+    /// The fresh steps of a part, and its next one, which isn't private, are entered, where that one doesn't give the
+    /// part up. Where it does, or memory is wanting, nothing is, though heaps and sets may have places for more.
+    pub fn ran_lent(&mut self, worker: u32, part: &mut Private) -> Result<Lent, NotEntered>
+        requires room { 0 < self.old.journal.room }
+        requires fits { Fits self.old worker part.old }
+        requires shared { IsShared self.old part.old }
+        ensures refused { Answers result (refused self.old (alone_event worker part.old)) }
+        ensures same { IfErr result (λ e. IsUnchanged e self.old self.new) }
+        ensures still { OnErr result (AllFit self.old self.new) }
+        ensures back { OnErr result (part.new ≡ part.old) }
+        ensures answered { IfOk result (LentTo self.old self.new worker part.old part.new) }
+    {
+        self.shared.stands();
+        let lent = self.shared.ran_lent(worker, part)?;
+        match lent {
+            Lent::Leaves(_) => Ok(lent),
+            _ => {
                 self.counts.count(&self.shared, 0);
-                Ok(part)
+                Ok(lent)
             }
-            Err(failed) => Err(failed),
         }
     }
 
-    /// The fresh steps of a part, and its next one, which isn't private, are entered. Where memory is wanting nothing
+    /// The fresh steps of a part are entered with its next one, which gives it up so. Where memory is wanting nothing
     /// is, though heaps and sets may have places for more.
-    pub fn ran(&mut self, worker: u32, part: Private) -> Result<Ran, NotRan>
+    pub fn ran_leaving(
+        &mut self,
+        worker: u32,
+        part: Private,
+        leaving: Leaving,
+    ) -> Result<Ran, NotRan>
         requires room { 0 < self.old.journal.room }
         requires fits { Fits self.old worker part }
         requires shared { IsShared self.old part }
-        ensures refused { RanAnswers result (refused self.old (alone_event worker part)) }
+        requires free { refused self.old (alone_event worker part) ≡ None }
+        requires leaves { LeavesBy self.old part leaving }
+        ensures refused { RanAnswers result None }
         ensures same { IfErr result (λ e. IsUnchanged e.cause self.old self.new) }
         ensures still { OnErr result (AllFit self.old self.new) }
         ensures back { IfErr result (λ e. e.part ≡ part) }
         ensures answered { IfOk result (RanTo self.old self.new worker part) }
     {
         self.shared.stands();
-        match self.shared.ran(worker, part) {
-            Ok(ran) => {
-                self.counts.count(&self.shared, 0);
-                Ok(ran)
-            }
-            Err(failed) => Err(failed),
-        }
+        let ran = self.shared.ran_leaving(worker, part, leaving)?;
+        self.counts.count(&self.shared, 0);
+        Ok(ran)
     }
 
     /// The run ends, since its fuel is spent.
@@ -94,12 +112,8 @@ impl Counted {
         ensures all { OnOk result (AllFit self.old self.new) }
     {
         self.shared.stands();
-        match self.shared.fuel(worker) {
-            Ok(()) => {
-                self.counts.count(&self.shared, 0);
-                Ok(())
-            }
-            Err(cause) => Err(cause),
-        }
+        self.shared.fuel(worker)?;
+        self.counts.count(&self.shared, 0);
+        Ok(())
     }
 }

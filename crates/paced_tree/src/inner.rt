@@ -38,13 +38,9 @@ impl Paced {
         if reserve_mark(&mut self.paces, worker).is_err() {
             return Err(no_place(shared.shared(), worker, t));
         }
-        match shared.mark(worker, t) {
-            Ok(()) => {
-                note_mark(shared.shared(), &mut self.paces, worker, t);
-                Ok(())
-            }
-            Err(cause) => Err(cause),
-        }
+        shared.mark(worker, t)?;
+        note_mark(shared.shared(), &mut self.paces, worker, t);
+        Ok(())
     }
 
     /// Up to so many objects more are marked: the answer is how many. It takes no memory.
@@ -61,13 +57,9 @@ impl Paced {
     {
         let shared = self.shared.get_mut();
         shared.stands();
-        match shared.some(worker, t, n) {
-            Ok(count) => {
-                note_other(&mut self.paces, worker);
-                Ok(count)
-            }
-            Err(cause) => Err(cause),
-        }
+        let count = shared.some(worker, t, n)?;
+        note_other(&mut self.paces, worker);
+        Ok(count)
     }
 
     /// The heap of a waiting task is swept: what wasn't marked is dropped. It takes no memory.
@@ -81,12 +73,8 @@ impl Paced {
     {
         let shared = self.shared.get_mut();
         shared.stands();
-        match shared.sweep(worker, t, given) {
-            Ok(()) => {
-                note_other(&mut self.paces, worker);
-                Ok(())
-            }
-            Err(cause) => Err(cause),
-        }
+        shared.sweep(worker, t, given)?;
+        note_other(&mut self.paces, worker);
+        Ok(())
     }
 }

@@ -34,13 +34,9 @@ impl Paced {
     {
         let shared = self.shared.get_mut();
         shared.stands();
-        match shared.chunk(worker, part) {
-            Ok(()) => {
-                note_other(&mut self.paces, worker);
-                Ok(())
-            }
-            Err(cause) => Err(cause),
-        }
+        shared.chunk(worker, part)?;
+        note_other(&mut self.paces, worker);
+        Ok(())
     }
 
     /// A due leaf collection of a part begins: the answer is its roots, and new chunks with all that copying needs.
@@ -63,13 +59,9 @@ impl Paced {
     {
         let shared = self.shared.get_mut();
         shared.stands();
-        match shared.leaf_begin(worker, part) {
-            Ok(begun) => {
-                note_other(&mut self.paces, worker);
-                Ok(begun)
-            }
-            Err(cause) => Err(cause),
-        }
+        let begun = shared.leaf_begin(worker, part)?;
+        note_other(&mut self.paces, worker);
+        Ok(begun)
     }
 
     /// The leaf collection of a part ends, once its heap was copied: fields that still hold old addresses are led to
@@ -94,13 +86,9 @@ impl Paced {
     {
         let shared = self.shared.get_mut();
         shared.stands();
-        match shared.leaf_end(worker, part, moved) {
-            Ok(()) => {
-                note_other(&mut self.paces, worker);
-                Ok(())
-            }
-            Err(failed) => Err(failed),
-        }
+        shared.leaf_end(worker, part, moved)?;
+        note_other(&mut self.paces, worker);
+        Ok(())
     }
 
     /// A due leaf collection of a part is put off, since too few chunks are free for it: its words are counted from 0
@@ -120,12 +108,8 @@ impl Paced {
     {
         let shared = self.shared.get_mut();
         shared.stands();
-        match shared.put_off(worker, part) {
-            Ok(()) => {
-                note_other(&mut self.paces, worker);
-                Ok(())
-            }
-            Err(cause) => Err(cause),
-        }
+        shared.put_off(worker, part)?;
+        note_other(&mut self.paces, worker);
+        Ok(())
     }
 }

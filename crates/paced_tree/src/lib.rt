@@ -9,4 +9,4 @@ mod steps;
 
 pub use counted_tree::Counted;
 pub use paced::Paced;
-pub use shared_tree::{NotEntered, Ran};
+pub use shared_tree::{Leaving, Lent, NotEntered, Ran};

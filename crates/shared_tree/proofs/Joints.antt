@@ -20,15 +20,14 @@ use Rattle.task_machine.proofs.Agreement.{same_line}
 use Rattle.shared_value.specs.SharedValue.{SharedValue, accounts, flat, rest_at, value_of}
 use Rattle.shared_value.specs.Stands.{IsSharedValue}
 use Rattle.shared_value.specs.Fits.{AllFit, Fits}
-use Rattle.shared_value.specs.Entered.{IsCaused, RanAnswers, refused}
-use Rattle.shared_value.specs.declared.answer.NotRan.{NotRan}
+use Rattle.shared_value.specs.Entered.{Answers, IsCaused, refused}
 use Rattle.shared_value.specs.declared.answer.NotEntered.{NotEntered}
 use Rattle.shared_value.specs.declared.answer.NotEntered.TheVariants.{NoMemory, Refuses}
 use Rattle.shared_value.specs.Links.{above_of}
 use Rattle.shared_value.specs.Next.{is_beyond, is_beyond_by, is_beyond_line, is_joint, next_line}
 use Rattle.shared_value.proofs.SameLength.{same_length}
 use Rattle.shared_value.proofs.TaskTaken.{worker_there}
-use Rattle.own_steps.specs.Alone.{IsBeyond, IsShared, alone_event, machine_after}
+use Rattle.own_steps.specs.Alone.{IsShared, alone_event, machine_after}
 use Rattle.own_steps.proofs.AloneEntries.{runs_on}
 use Rattle.own_steps.proofs.LastSteps.{fits_machine, machine_same}
 use Rattle.child_tasks.specs.ChildEnds.{IsAtEnd, is_last, is_last_by, is_last_line}
@@ -137,9 +136,13 @@ room_unchanged w after (Refuses cause) why S = absurd (none_cause why)
     none_cause q = cc
 room_unchanged w after NoMemory why S = same_places w after S
 
-pub results_unchanged : {A : Type 0} → (w after : SharedValue) (r : Result A NotRan) → RanAnswers r None → OnErr r (SameButRoom w after) → IfErr r (λ e. IsUnchanged e.cause w after)
+pub results_unchanged : {A : Type 0} → (w after : SharedValue) (r : Result A NotEntered) → Answers r None → OnErr r (SameButRoom w after) → IfErr r (λ e. IsUnchanged e w after)
 results_unchanged w after (Ok a) why S = tt
-results_unchanged w after (Err e) why S = room_unchanged w after e.cause why S
+results_unchanged w after (Err e) why S = room_unchanged w after e why S
+
+pub results_fit : {A : Type 0} → (w after : SharedValue) (r : Result A NotEntered) → OnErr r (SameButRoom w after) → OnErr r (AllFit w after)
+results_fit w after (Ok a) S = tt
+results_fit w after (Err e) S = S.fit
 
 -- ---- WHAT IT COMES TO
 
@@ -152,8 +155,12 @@ pub forks_to : (w after : SharedValue) (k : ℕ) (p : Private) → IsSharedValue
 forks_to w after k p I I' free (Forked left right) on hand = (on, holds_none w after k p I I' free hand)
 forks_to w after k p I I' free (Over q) over hand = over
 
-pub beyond_same : (w after : SharedValue) (p q : Private) → IsBeyond w after p q → (G : SharedValue → Private → Type 0) → G w p → G after q
-beyond_same w after p q B G g = subst (λ (z : SharedValue). G z q) (sym B.same) (subst (G w) (sym B.part) g)
+-- what is so of a value and a part is so where nothing was entered, and the other way round
+pub then_same : (w after : SharedValue) (p q : Private) → after ≡ w → q ≡ p → (G : SharedValue → Private → Type 0) → G w p → G after q
+then_same w after p q same part G g = subst (λ (z : SharedValue). G z q) (sym same) (subst (G w) (sym part) g)
+
+pub before_same : (w after : SharedValue) (p q : Private) → after ≡ w → q ≡ p → (G : SharedValue → Private → Type 0) → G after q → G w p
+before_same w after p q same part G g = then_same after w q p (sym same) (sym part) G g
 
 pub same_by : (w after : SharedValue) (e : NotEntered) → after ≡ w → IsUnchanged e w after
 same_by w after (Refuses cause) same = same

@@ -2,10 +2,9 @@
 
 ghost use Rattle.std.specs.Prelude.{◌≡◌, ◌<◌, ◌≤◌, ◌-◌, List, None};
 ghost use Rattle.hh_model.specs.declared.data.Strand.{Strand};
-ghost use Rattle.run_ledger.specs.Pace.{more_of, owed, owed_to_marks};
+ghost use Rattle.run_ledger.specs.Pace.{owed, owed_to_marks};
 ghost use Rattle.run_ledger.specs.declared.data.WorkerPace.{WorkerPace};
 ghost use Rattle.shared_value.specs.SharedValue.{accounts};
-ghost use Rattle.heap_marking.specs.MarkCauses.{marking_cause};
 ghost use Rattle.heap_marking.specs.Pace.{IsLastGoing, KeepsMarks, KeepsPace};
 
 use crate::shared::Shared;
@@ -28,30 +27,22 @@ impl Shared {
         None
     }
 
-    // What is owed to a marking that is under way.
-    fn owed_to(&self, t: u32) -> Owed
-        requires { (accounts self.now).end ≡ None }
-        ensures { marking_cause self.now t ≡ None → result ≡ more_of (accounts self.now) t }
-    {
-        if marking_cause(&self.tree, &self.sets, &self.marks, t).is_some() {
-            return Owed::Nothing;
-        }
-        if self.is_marked(t) {
-            Owed::Sweep(t)
-        } else {
-            Owed::More(t)
-        }
-    }
-
     // What is owed to a worker's markings.
     fn owed_to_marks(&self, pace: &Pace) -> Owed
         requires { (accounts self.now).end ≡ None }
         ensures { (marks : List Strand) → KeepsMarks (accounts self.now) pace.now.marks.items marks → result ≡ owed_to_marks (accounts self.now) marks }
     {
         self.stands();
-        match self.last_going(pace.marks.as_slice()) {
-            Some(fork) => self.owed_to(fork.task),
-            None => Owed::Nothing,
+        let Some(fork) = self.last_going(pace.marks.as_slice()) else {
+            return Owed::Nothing;
+        };
+        if marking_cause(&self.tree, &self.sets, &self.marks, fork.task).is_some() {
+            return Owed::Nothing;
+        }
+        if self.is_marked(fork.task) {
+            Owed::Sweep(fork.task)
+        } else {
+            Owed::More(fork.task)
         }
     }
 

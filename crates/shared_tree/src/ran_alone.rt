@@ -2,17 +2,20 @@
 
 ghost use Rattle.std.specs.Prelude.{◌≡◌, ◌≢◌, ◌<◌, ℕ, OnErr, OnOk, IfErr, IfOk, None};
 ghost use Rattle.hh_model.specs.Step.{ended_by, step};
-ghost use Rattle.shared_value.specs.Entered.{refused, RanAnswers};
-ghost use Rattle.shared_value.specs.Fits.{Fits};
-ghost use Rattle.own_steps.specs.Alone.{alone_event, then_accounts, Answered, FinishesAlone, GoesAlone, HaltsAlone, IsShared, Tells};
-ghost use Rattle.shared_tree.specs.Ran.{MayBeEntered};
+ghost use Rattle.shared_value.specs.Entered.{refused, Answers, RanAnswers};
+ghost use Rattle.shared_value.specs.Fits.{AllFit, Fits};
+ghost use Rattle.own_steps.specs.Alone.{alone_event, then_accounts, FinishesAlone, GoesAlone, HaltsAlone, IsShared, Tells};
+ghost use Rattle.child_tasks.specs.Joins.{IsUnchanged};
+ghost use Rattle.shared_tree.specs.Ran.{AloneTo, MayBeEntered, RanTo};
 
+use crate::ran::Ran;
+use crate::ran_lent::{Leaving, Lent};
 use crate::shared::Shared;
 use crate::steps_entered::enter_alone;
 use heap_tree::State;
 use hh_model::End;
 use out_of_line::Apart;
-use own_steps::{Alone, at_end};
+use own_steps::at_end;
 use run_ledger::{Refused, RunEnd};
 use shared_value::{
     Ending, NotEntered, NotRan, Rest, first_cause, last_step, put_rest, rest_block,
@@ -108,8 +111,8 @@ impl Shared {
         self.end = Some(RunEnd::Machine(End::Done));
     }
 
-    // Enters the last return of the root, where there is memory for what goes with the root then.
-    fn ran_done(&mut self, worker: u32, part: Private) -> Result<Alone, NotRan>
+    /// Enters the last return of the root, where there is memory for what goes with the root then.
+    pub(crate) fn ran_done(&mut self, worker: u32, part: Private) -> Result<Ran, NotRan>
         requires room { 0 < self.old.journal.room }
         requires fits { Fits self.old worker part }
         requires shared { IsShared self.old part }
@@ -117,14 +120,15 @@ impl Shared {
         requires returns { (line : ℕ) × Tells self.old part Ending.Returns line }
         requires root { part.task ≡ 0 }
         ensures refused { RanAnswers result None }
-        ensures same { OnErr result (self.new ≡ self.old) }
+        ensures same { IfErr result (λ e. IsUnchanged e.cause self.old self.new) }
+        ensures still { OnErr result (AllFit self.old self.new) }
         ensures back { IfErr result (λ e. e.part ≡ part) }
-        ensures answered { IfOk result (Answered self.old self.new worker part) }
+        ensures answered { IfOk result (RanTo self.old self.new worker part) }
     {
         match rest_block(*self.sets.allocator()) {
             Ok(block) => {
                 self.enter_done(worker, part, block);
-                Ok(Alone::Done)
+                Ok(Ran::Done)
             }
             Err(_) => Err(NotRan {
                 cause: NotEntered::NoMemory,
@@ -133,50 +137,40 @@ impl Shared {
         }
     }
 
-    /// The fresh steps of a part, and its next one, which isn't private, are entered where no other task has part in
-    /// that one.
-    pub fn ran_alone(&mut self, worker: u32, part: Private) -> Result<Alone, NotRan>
+    /// The fresh steps of a part, and its next one, which isn't private, are entered, where that one doesn't give the
+    /// part up. Where other tasks have part in it nothing is entered, and there is no answer.
+    pub fn ran_alone(&mut self, worker: u32, part: &mut Private) -> Result<Option<Lent>, NotEntered>
         requires room { 0 < self.old.journal.room }
-        requires fits { Fits self.old worker part }
-        requires shared { IsShared self.old part }
-        ensures refused { RanAnswers result (refused self.old (alone_event worker part)) }
+        requires fits { Fits self.old worker part.old }
+        requires shared { IsShared self.old part.old }
+        ensures refused { Answers result (refused self.old (alone_event worker part.old)) }
         ensures same { OnErr result (self.new ≡ self.old) }
-        ensures back { IfErr result (λ e. e.part ≡ part) }
-        ensures answered { IfOk result (Answered self.old self.new worker part) }
+        ensures back { OnErr result (part.new ≡ part.old) }
+        ensures answered { IfOk result (AloneTo self.old self.new worker part.old part.new) }
     {
-        if let Some(cause) = self.alone_refused(worker, &part) {
-            return Err(NotRan {
-                cause: NotEntered::Refuses(cause),
-                part,
-            });
+        if let Some(cause) = self.alone_refused(worker, part) {
+            return Err(NotEntered::Refuses(cause));
         }
         self.stands();
-        let (ending, line) = self.next_ending(&part);
+        let (ending, line) = self.next_ending(part);
         match ending {
-            Ending::Prints(value) => {
-                let mut part = part;
-                match self.enter_output(worker, &mut part, value) {
-                    Ok(()) => Ok(Alone::Goes(part)),
-                    Err(_) => Err(NotRan {
-                        cause: NotEntered::NoMemory,
-                        part,
-                    }),
-                }
-            }
+            Ending::Prints(value) => match self.enter_output(worker, part, value) {
+                Ok(()) => Ok(Some(Lent::Goes)),
+                Err(_) => Err(NotEntered::NoMemory),
+            },
             Ending::Traps(kind) => {
-                let mut part = part;
                 let end = End::Trapped(kind, part.task, line);
-                self.enter_halt(worker, &mut part, end);
-                Ok(Alone::Over(part))
+                self.enter_halt(worker, part, end);
+                Ok(Some(Lent::Over))
             }
             Ending::Returns => {
                 if part.task == 0 {
-                    self.ran_done(worker, part)
+                    Ok(Some(Lent::Leaves(Leaving::Finishes)))
                 } else {
-                    Ok(Alone::Beyond(part))
+                    Ok(None)
                 }
             }
-            Ending::Beyond => Ok(Alone::Beyond(part)),
+            Ending::Beyond => Ok(None),
         }
     }
 }

@@ -1,21 +1,21 @@
 // A part's steps are entered with one that works on an object of another task.
 
 ghost use Rattle.std.specs.Prelude.{◌≡◌, ◌<◌, ℕ, OnErr, IfErr, IfOk, None};
-ghost use Rattle.shared_value.specs.Entered.{refused, RanAnswers};
-ghost use Rattle.shared_value.specs.Fits.{Fits};
+ghost use Rattle.shared_value.specs.Entered.{refused, Answers};
+ghost use Rattle.shared_value.specs.Fits.{AllFit, Fits};
 ghost use Rattle.own_steps.specs.Alone.{alone_event, GoesAlone, IsShared};
 ghost use Rattle.child_tasks.specs.Joins.{IsUnchanged};
-ghost use Rattle.others_objects.specs.Other.{IsOther, OtherAnswered, SameButRoom, TellsOther};
-ghost use Rattle.shared_tree.specs.Ran.{MayBeEntered};
+ghost use Rattle.others_objects.specs.Other.{IsOther, SameButRoom, TellsOther};
+ghost use Rattle.shared_tree.specs.Ran.{LentTo, MayBeEntered};
 
+use crate::ran_lent::Lent;
 use crate::shared::Shared;
 use crate::steps_entered::enter_alone;
 use hh_lang::{IntReg, RefReg};
 use hh_model::End;
 use object_layout::Addr;
 use others_objects::{OtherStep, named, step_on};
-use own_steps::Alone;
-use shared_value::{NotEntered, NotRan};
+use shared_value::NotEntered;
 use task_machine::Private;
 
 impl Shared {
@@ -89,39 +89,38 @@ impl Shared {
     fn enter_other(
         &mut self,
         worker: u32,
-        part: Private,
+        part: &mut Private,
         does: OtherStep,
         line: u32,
-    ) -> Result<Alone, NotRan>
+    ) -> Result<Lent, NotEntered>
         requires room { 0 < self.old.journal.room }
-        requires fits { Fits self.old worker part }
-        requires shared { IsShared self.old part }
-        requires free { refused self.old (alone_event worker part) ≡ None }
-        requires tells { TellsOther self.old part does line }
-        ensures refused { RanAnswers result None }
+        requires fits { Fits self.old worker part.old }
+        requires shared { IsShared self.old part.old }
+        requires free { refused self.old (alone_event worker part.old) ≡ None }
+        requires tells { TellsOther self.old part.old does line }
+        ensures refused { Answers result None }
         ensures same { OnErr result (SameButRoom self.old self.new) }
-        ensures back { IfErr result (λ e. e.part ≡ part) }
-        ensures answered { IfOk result (OtherAnswered self.old self.new worker part) }
+        ensures back { OnErr result (part.new ≡ part.old) }
+        ensures answered { IfOk result (LentTo self.old self.new worker part.old part.new) }
     {
-        let mut part = part;
         match does {
             OtherStep::SetsNumber(register, value) => {
-                self.enter_number(worker, &mut part, register, value);
-                Ok(Alone::Goes(part))
+                self.enter_number(worker, part, register, value);
+                Ok(Lent::Goes)
             }
             OtherStep::SetsReference(register, value) => {
-                self.enter_reference(worker, &mut part, register, value);
-                Ok(Alone::Goes(part))
+                self.enter_reference(worker, part, register, value);
+                Ok(Lent::Goes)
             }
             OtherStep::Stops(owner) => {
                 let end = End::Entangled(part.task, owner);
-                self.enter_halt(worker, &mut part, end);
-                Ok(Alone::Over(part))
+                self.enter_halt(worker, part, end);
+                Ok(Lent::Over)
             }
             OtherStep::Traps(kind) => {
                 let end = End::Trapped(kind, part.task, line);
-                self.enter_halt(worker, &mut part, end);
-                Ok(Alone::Over(part))
+                self.enter_halt(worker, part, end);
+                Ok(Lent::Over)
             }
             OtherStep::StoresReference(object, field, value) => {
                 self.store_other(worker, part, object, field, value, None)
@@ -130,8 +129,8 @@ impl Shared {
                 self.store_other(worker, part, object, field, value, Some(register))
             }
             OtherStep::StoresNumber(object, field, value) => {
-                self.enter_store_number(worker, &mut part, object, field, value);
-                Ok(Alone::Goes(part))
+                self.enter_store_number(worker, part, object, field, value);
+                Ok(Lent::Goes)
             }
         }
     }
@@ -139,25 +138,23 @@ impl Shared {
     /// The fresh steps of a part, and its next one, which works on an object of another task, are entered. Where memory
     /// is wanting nothing is, and what the barriers note is as it was, though there may be room for more of it. A
     /// refusal changes nothing at all.
-    pub fn ran_other(&mut self, worker: u32, part: Private) -> Result<Alone, NotRan>
+    pub fn ran_other(&mut self, worker: u32, part: &mut Private) -> Result<Lent, NotEntered>
         requires room { 0 < self.old.journal.room }
-        requires fits { Fits self.old worker part }
-        requires shared { IsShared self.old part }
-        requires other { IsOther self.old part }
-        ensures refused { RanAnswers result (refused self.old (alone_event worker part)) }
+        requires fits { Fits self.old worker part.old }
+        requires shared { IsShared self.old part.old }
+        requires other { IsOther self.old part.old }
+        ensures refused { Answers result (refused self.old (alone_event worker part.old)) }
         ensures same { OnErr result (SameButRoom self.old self.new) }
-        ensures unchanged { IfErr result (λ e. IsUnchanged e.cause self.old self.new) }
-        ensures back { IfErr result (λ e. e.part ≡ part) }
-        ensures answered { IfOk result (OtherAnswered self.old self.new worker part) }
+        ensures unchanged { IfErr result (λ e. IsUnchanged e self.old self.new) }
+        ensures still { OnErr result (AllFit self.old self.new) }
+        ensures back { OnErr result (part.new ≡ part.old) }
+        ensures answered { IfOk result (LentTo self.old self.new worker part.old part.new) }
     {
-        if let Some(cause) = self.alone_refused(worker, &part) {
-            return Err(NotRan {
-                cause: NotEntered::Refuses(cause),
-                part,
-            });
+        if let Some(cause) = self.alone_refused(worker, part) {
+            return Err(NotEntered::Refuses(cause));
         }
         self.stands();
-        let (does, line) = self.next_other(&part);
+        let (does, line) = self.next_other(part);
         self.enter_other(worker, part, does, line)
     }
 }

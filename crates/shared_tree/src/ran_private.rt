@@ -1,12 +1,13 @@
 // A part's private steps are entered.
 
-ghost use Rattle.std.specs.Prelude.{◌≡◌, ◌<◌, OnErr, OnOk, IfErr, IfOk, None};
-ghost use Rattle.shared_value.specs.Entered.{refused, Enters, IsRefusedBy};
+ghost use Rattle.std.specs.Prelude.{◌≡◌, ◌<◌, OnErr, OnOk, None};
+ghost use Rattle.shared_value.specs.Entered.{cause_of, refused, Enters};
 ghost use Rattle.shared_value.specs.Fits.{Fits, OthersFit};
 
 use crate::shared::Shared;
+use run_ledger::Refused;
 use run_trace::{Entry, Kind};
-use shared_value::{NotEntered, NotRan, first_cause};
+use shared_value::first_cause;
 use task_machine::Private;
 
 impl Shared {
@@ -27,28 +28,24 @@ impl Shared {
     }
 
     /// The fresh steps of a part, all private, are entered.
-    pub fn ran_private(&mut self, worker: u32, part: Private) -> Result<Private, NotRan>
+    pub fn ran_private(&mut self, worker: u32, part: &mut Private) -> Result<(), Refused>
         requires room { 0 < self.old.journal.room }
-        requires fits { Fits self.old worker part }
-        requires fresh { 0 < part.fresh }
-        ensures refused { IsRefusedBy result (refused self.old (record { worker = worker; kind = Kind.Ran part.task part.fresh })) }
+        requires fits { Fits self.old worker part.old }
+        requires fresh { 0 < part.old.fresh }
+        ensures refused { cause_of result ≡ refused self.old (record { worker = worker; kind = Kind.Ran part.old.task part.old.fresh }) }
         ensures same { OnErr result (self.new ≡ self.old) }
-        ensures back { IfErr result (λ e. e.part ≡ part) }
-        ensures enters { OnOk result (Enters self.old self.new (record { worker = worker; kind = Kind.Ran part.task part.fresh })) }
+        ensures back { OnErr result (part.new ≡ part.old) }
+        ensures enters { OnOk result (Enters self.old self.new (record { worker = worker; kind = Kind.Ran part.old.task part.old.fresh })) }
         ensures end { OnOk result (self.new.end ≡ self.old.end) }
-        ensures goes { IfOk result (λ p. p ≡ record part { fresh = 0 }) }
-        ensures fits { IfOk result (λ p. Fits self.new worker p) }
+        ensures goes { OnOk result (part.new ≡ record part.old { fresh = 0 }) }
+        ensures fits { Fits self.new worker part.new }
         ensures others { OnOk result (OthersFit self.old self.new worker) }
     {
         if let Some(cause) = first_cause(self.end, self.steps, self.settings, worker, false) {
-            return Err(NotRan {
-                cause: NotEntered::Refuses(cause),
-                part,
-            });
+            return Err(cause);
         }
-        self.enter_steps(worker, &part);
-        let mut part = part;
+        self.enter_steps(worker, part);
         part.begin_entry();
-        Ok(part)
+        Ok(())
     }
 }

@@ -1,18 +1,19 @@
 // A part's steps are entered with one that writes an object of another task.
 
-ghost use Rattle.std.specs.Prelude.{◌≡◌, ◌<◌, ℕ, OnErr, OnOk, IfErr, IfOk, None};
-ghost use Rattle.shared_value.specs.Entered.{refused, RanAnswers};
+ghost use Rattle.std.specs.Prelude.{◌≡◌, ◌<◌, ℕ, OnErr, OnOk, IfOk, None};
+ghost use Rattle.shared_value.specs.Entered.{refused, Answers};
 ghost use Rattle.shared_value.specs.Fits.{Fits};
 ghost use Rattle.own_steps.specs.Alone.{alone_event, GoesAlone, IsShared};
-ghost use Rattle.others_objects.specs.Other.{store_of, OtherAnswered, SameButRoom, TellsOther};
+ghost use Rattle.others_objects.specs.Other.{store_of, SameButRoom, TellsOther};
+ghost use Rattle.shared_tree.specs.Ran.{LentTo};
 
+use crate::ran_lent::Lent;
 use crate::shared::Shared;
 use crate::steps_entered::enter_alone;
 use hh_lang::IntReg;
 use object_layout::Addr;
 use others_objects::{OtherStep, go_on, write_number, write_reference};
-use own_steps::Alone;
-use shared_value::{NotEntered, NotRan};
+use shared_value::NotEntered;
 use std::alloc::AllocError;
 use task_machine::Private;
 
@@ -73,33 +74,29 @@ impl Shared {
         part.fresh = 0;
     }
 
-    // The same, and what becomes of the part.
+    // The same, and what comes of it.
     pub(crate) fn store_other(
         &mut self,
         worker: u32,
-        part: Private,
+        part: &mut Private,
         object: Addr,
         field: u32,
         value: Option<Addr>,
         swap: Option<IntReg>,
-    ) -> Result<Alone, NotRan>
+    ) -> Result<Lent, NotEntered>
         requires room { 0 < self.old.journal.room }
-        requires fits { Fits self.old worker part }
-        requires shared { IsShared self.old part }
-        requires free { refused self.old (alone_event worker part) ≡ None }
-        requires stores { (line : ℕ) × TellsOther self.old part (store_of swap object field value) line }
-        ensures refused { RanAnswers result None }
+        requires fits { Fits self.old worker part.old }
+        requires shared { IsShared self.old part.old }
+        requires free { refused self.old (alone_event worker part.old) ≡ None }
+        requires stores { (line : ℕ) × TellsOther self.old part.old (store_of swap object field value) line }
+        ensures refused { Answers result None }
         ensures same { OnErr result (SameButRoom self.old self.new) }
-        ensures back { IfErr result (λ e. e.part ≡ part) }
-        ensures answered { IfOk result (OtherAnswered self.old self.new worker part) }
+        ensures back { OnErr result (part.new ≡ part.old) }
+        ensures answered { IfOk result (LentTo self.old self.new worker part.old part.new) }
     {
-        let mut part = part;
-        match self.enter_store(worker, &mut part, object, field, value, swap) {
-            Ok(()) => Ok(Alone::Goes(part)),
-            Err(_) => Err(NotRan {
-                cause: NotEntered::NoMemory,
-                part,
-            }),
+        match self.enter_store(worker, part, object, field, value, swap) {
+            Ok(()) => Ok(Lent::Goes),
+            Err(_) => Err(NotEntered::NoMemory),
         }
     }
 }

@@ -1,5 +1,5 @@
 -- Entries that aren't refused, where the worker may make one.
-use Rattle.std.proofs.Common.{◌≡◌, ℕ, ◌<◌, ◌&&◌, true, false, Bool, Option, Some, None, is_none, is_some, nat_le, nat_lt, option_map, refl, ap, sym, subst, ◌∙◌, arith}
+use Rattle.std.proofs.Common.{◌≡◌, ℕ, ◌<◌, ◌&&◌, true, false, Bool, Option, Some, None, is_none, is_some, nat_le, nat_lt, refl, ap, sym, subst, ◌∙◌, arith}
 use Rattle.std.proofs.lemmas.Bool.{false≢true}
 use Rattle.hh_model.specs.Step.{asked}
 use Rattle.run_trace.specs.declared.entry.Kind.TheVariants.{Ran, Chunk, Begin, PutOff, Fuel, Mark, More, Sweep}
@@ -52,12 +52,6 @@ not_refused o cause none some = absurd cc
 pub only_memory : (e : NotEntered) (why : Option Refused) → why ≡ None → IsCaused e why → e ≡ NoMemory
 only_memory (Refuses cause) why none h = not_refused why cause none h
 only_memory NoMemory why none h = refl
-
-pub never_refused : {A : Type 0} (e : NotEntered) (why : Option Refused) → why ≡ None → option_map (λ (cause : Refused). Refuses cause) why ≡ Some e → A
-never_refused e why none h = by (sym (ap (option_map (λ (cause : Refused). Refuses cause)) none) ∙ h)
-  where
-    by : {A : Type 0} → ◌≡◌ {A = Option NotEntered} None (Some e) → A
-    by h = absurd cc
 
 -- ---- PARTS
 

@@ -1,9 +1,9 @@
 -- Values before and after a turn.
-use Rattle.std.proofs.Common.{◌≡◌, ℕ, ◌++◌, ◌∷◌, [], ◌||◌, Bool, true, false, List, Option, Some, None, is_some, length, refl, ap, sym, subst, ◌∙◌, inl, inr}
+use Rattle.std.proofs.Common.{◌≡◌, ℕ, ◌+◌, ◌++◌, ◌∷◌, [], ◌||◌, Bool, true, false, List, Option, Some, None, is_some, length, refl, ap, sym, subst, ◌∙◌, inl, inr}
 use Rattle.std.proofs.lemmas.Bool.{false≢true}
 use Rattle.run_trace.specs.Entry.{EntryValue}
 use Rattle.run_trace.specs.declared.entry.Kind.{Kind}
-use Rattle.run_trace.specs.declared.entry.Kind.TheVariants.{Took}
+use Rattle.run_trace.specs.declared.entry.Kind.TheVariants.{Ran, Took}
 use Rattle.run_ledger.specs.declared.data.RunEnd.{RunEnd}
 use Rattle.task_machine.specs.declared.part.Paused.TheVariants.{Shared}
 use Rattle.task_machine.specs.declared.part.Private.{Private}
@@ -107,6 +107,13 @@ pub halts_with : (after : Run) (w : SharedValue) → w ≡ record after.paced { 
 halts_with after w is all = λ r k ready kind same on.
     let halts : IsSame after.paced w = record { journal = ap (λ (z : SharedValue). z.journal.items) is; program = ap (λ (z : SharedValue). z.program) is; settings = ap (λ (z : SharedValue). z.settings) is; all = all } in
     (then_same r.paced after.paced same w halts, (ap (λ (z : SharedValue). is_over (record { paced = z })) is, λ over. absurd (false≢true (sym on ∙ over))))
+
+-- ---- THE SAME WHERE A CALL BEFORE IT CHANGED NOTHING
+
+pub acts_same : (r : Run) (after : SharedValue) (k : ℕ) (p q : Private) → after ≡ r.paced → q ≡ p → (acted : Acted) → ActsFor (record r { paced = after }) k (HasPaused q Shared) (Some (Ran q.task (q.fresh + 1))) acted → ActsFor r k (HasPaused p Shared) (Some (Ran p.task (p.fresh + 1))) acted
+acts_same r after k p q same part acted A =
+    subst (λ (z : Private). ActsFor r k (HasPaused z Shared) (Some (Ran z.task (z.fresh + 1))) acted) part
+    (subst (λ (w : SharedValue). ActsFor (record r { paced = w }) k (HasPaused q Shared) (Some (Ran q.task (q.fresh + 1))) acted) same A)
 
 -- ---- THE SAME FROM THE VALUE BEFORE PLACE WAS MADE FOR AN ENTRY
 

@@ -2,6 +2,7 @@
 ghost use Rattle.std.specs.Prelude.{◌≡◌, ◌+◌, ◌<◌, Some, false};
 ghost use Rattle.run_trace.specs.declared.entry.Kind.{Kind as KindOf};
 ghost use Rattle.run_ledger.specs.declared.data.Owed.{Owed as OwedOf};
+ghost use Rattle.shared_tree.specs.Ran.{LeavesBy};
 ghost use Rattle.turn_entries.specs.Acts.{after_end, ActsAnyhow, ActsFor};
 ghost use Rattle.turn_entries.specs.Next.{brought_kind, is_wanting, paused_kind};
 ghost use Rattle.turn_entries.specs.Parts.{BringsTo, IsPaused, MayRun};
@@ -11,7 +12,7 @@ use crate::act::Acted;
 use crate::held::{Next, Ready};
 use crate::held_part::{HeldPart, PartBlock};
 use crate::run::Run;
-use paced_tree::Ran;
+use paced_tree::{Leaving, Lent, Ran};
 use std::alloc::Global;
 use task_machine::{Paused, Private};
 
@@ -69,24 +70,23 @@ impl Run {
     {
         self.paced.stands();
         let mut run = self;
-        let (part, block) = part.take_out();
-        match run.paced.ran_private(worker, part) {
-            Ok(part) => run.entered(Next::Running(block.fill(part))),
+        let mut part = part;
+        match run.paced.ran_private(worker, part.get_mut()) {
+            Ok(()) => run.entered(Next::Running(part)),
             Err(_) => unreachable!(),
         }
     }
 
-    // The fresh steps of the part are entered with its next one, which isn't private. There is a block for the part
-    // after them.
-    fn ran_in(self, worker: u32, part: Private, block: PartBlock) -> Acted
+    // The fresh steps of the part are entered with its next one, which gives it up so.
+    fn ran_in(self, worker: u32, part: Private, leaving: Leaving) -> Acted
         requires enter { MayEnter self.paced worker OwedOf.Nothing }
         requires paused { IsPaused self.paced worker part Paused.Shared }
+        requires leaves { LeavesBy self.paced part leaving }
         ensures { ActsFor self worker (Ready.Paused part Paused.Shared) (Some (KindOf.Ran part.task (part.fresh + 1))) result }
     {
         self.paced.stands();
         let mut run = self;
-        match run.paced.ran(worker, part) {
-            Ok(Ran::Goes(part)) => run.entered(Next::Running(block.fill(part))),
+        match run.paced.ran_leaving(worker, part, leaving) {
             Ok(Ran::Forked { left, right }) => run.entered(Next::Forked { left, right }),
             Ok(Ran::Ended { resumed }) => run.entered(after_end(resumed)),
             Ok(Ran::Over(_)) => run.entered(Next::Stop),
@@ -95,14 +95,34 @@ impl Run {
         }
     }
 
-    // The fresh steps of the part are entered with its next one, which isn't private.
+    // The same, where the part is taken out of its block.
+    fn enter_leaving(self, worker: u32, part: HeldPart, leaving: Leaving) -> Acted
+        requires enter { MayEnter self.paced worker OwedOf.Nothing }
+        requires paused { IsPaused self.paced worker part Paused.Shared }
+        requires leaves { LeavesBy self.paced part leaving }
+        ensures { ActsFor self worker (Ready.Paused part Paused.Shared) (Some (KindOf.Ran part.task (part.fresh + 1))) result }
+    {
+        let (part, block) = part.take_out();
+        drop(block);
+        self.ran_in(worker, part, leaving)
+    }
+
+    // The fresh steps of the part are entered with its next one, which isn't private. The part stays in its block, but
+    // where that step gives it up.
     fn enter_shared(self, worker: u32, part: HeldPart) -> Acted
         requires enter { MayEnter self.paced worker OwedOf.Nothing }
         requires paused { IsPaused self.paced worker part Paused.Shared }
         ensures { ActsFor self worker (Ready.Paused part Paused.Shared) (Some (KindOf.Ran part.task (part.fresh + 1))) result }
     {
-        let (part, block) = part.take_out();
-        self.ran_in(worker, part, block)
+        self.paced.stands();
+        let mut run = self;
+        let mut part = part;
+        match run.paced.ran_lent(worker, part.get_mut()) {
+            Ok(Lent::Goes) => run.entered(Next::Running(part)),
+            Ok(Lent::Over) => run.entered(Next::Stop),
+            Ok(Lent::Leaves(leaving)) => run.enter_leaving(worker, part, leaving),
+            Err(cause) => run.wanting(cause),
+        }
     }
 
     // The part gets a chunk.

@@ -1,5 +1,5 @@
 -- What an entry of a worker comes to, from what a call of the shared value answers.
-use Rattle.std.proofs.Common.{◌≡◌, ℕ, true, false, Option, Some, None, Result, Ok, Err, is_some, option_map, refl, ap, sym, subst, ◌∙◌}
+use Rattle.std.proofs.Common.{◌≡◌, ℕ, true, false, Some, None, Result, Ok, Err, is_some, refl, ap, sym, subst, ◌∙◌}
 use Rattle.std.specs.Result.{OnErr, OnOk}
 use Rattle.std.proofs.lemmas.Bool.{false≢true}
 use Rattle.listed.proofs.Options.{none_some}
@@ -17,12 +17,12 @@ use Rattle.shared_value.specs.Entered.{Answers, Enters, IsCaused, IsSamePart, re
 use Rattle.shared_value.specs.Fits.{AllFit, Fits, OthersFit}
 use Rattle.shared_value.specs.Stands.{IsSharedValue}
 use Rattle.shared_value.specs.SharedValue.{SharedValue}
-use Rattle.own_steps.specs.Alone.{IsShared, alone_event}
+use Rattle.own_steps.specs.Alone.{GoesAlone, HaltsAlone, IsShared, alone_event}
 use Rattle.own_steps.proofs.LastSteps.{alone_answer}
 use Rattle.child_tasks.specs.Joins.{IsUnchanged}
 use Rattle.leaf_collections.specs.LeafEnd.{ended}
 use Rattle.shared_tree.specs.declared.ran.Ran.{Ran}
-use Rattle.shared_tree.specs.declared.ran.Ran.TheVariants.{Done, Ended, Forked, Goes, Over}
+use Rattle.shared_tree.specs.declared.ran.Ran.TheVariants.{Done, Ended, Forked, Over}
 use Rattle.shared_tree.specs.Ran.{RanTo}
 use Rattle.shared_tree.proofs.Joints.{fit_by}
 use Rattle.world_core.specs.declared.held.Held.{Held}
@@ -69,22 +69,29 @@ begin_fails w after k e p q cause why same back H F =
 
 -- ---- STEPS
 
--- a shared step is entered
-pub ran_made : (w after : SharedValue) (k : ℕ) (p : Private) (r : Ran) → p.begun ≡ None → refused w (alone_event k p) ≡ None → RanTo w after k p r → EntersFor w after k (alone_event k p) (hand_of r)
-ran_made w after k p (Goes q) idle free R = record {
+-- a shared step is entered, and the task goes on
+pub goes_made : (w after : SharedValue) (k : ℕ) (p q : Private) → p.begun ≡ None → refused w (alone_event k p) ≡ None → GoesAlone w after k p q → EntersFor w after k (alone_event k p) (Part q)
+goes_made w after k p q idle free R = record {
   free = free;
   enters = R.enters;
   others = R.others;
   holds = record { fits = R.fits; idle = ap (λ (z : Private). z.begun) R.part ∙ idle; entered = λ h. ap (λ (z : Private). z.fresh) R.part };
 }
+
+-- or it has ended the run
+pub halts_made : (w after : SharedValue) (k : ℕ) (p q : Private) → p.begun ≡ None → refused w (alone_event k p) ≡ None → HaltsAlone w after k p q → EntersFor w after k (alone_event k p) (Part q)
+halts_made w after k p q idle free R = record {
+  free = free;
+  enters = R.enters;
+  others = R.others;
+  holds = record { fits = R.fits; idle = ap (λ (z : Private). z.begun) R.part ∙ idle; entered = λ h. ap (λ (z : Private). z.fresh) R.part };
+}
+
+-- and one that gives the part up
+pub ran_made : (w after : SharedValue) (k : ℕ) (p : Private) (r : Ran) → p.begun ≡ None → refused w (alone_event k p) ≡ None → RanTo w after k p r → EntersFor w after k (alone_event k p) (hand_of r)
 ran_made w after k p (Forked left right) idle free R = record { free = free; enters = R.0.enters; others = R.0.others; holds = R.1 }
 ran_made w after k p (Ended resumed) idle free R = record { free = free; enters = R.0.enters; others = R.0.others; holds = R.1 }
-ran_made w after k p (Over q) idle free R = record {
-  free = free;
-  enters = R.enters;
-  others = R.others;
-  holds = record { fits = R.fits; idle = ap (λ (z : Private). z.begun) R.part ∙ idle; entered = λ h. ap (λ (z : Private). z.fresh) R.part };
-}
+ran_made w after k p (Over q) idle free R = halts_made w after k p q idle free R
 ran_made w after k p Done idle free R = record { free = free; enters = R.enters; others = R.others; holds = λ t held. none_some (sym (R.rest t) ∙ held) }
 
 -- behind the causes that come first it isn't refused
@@ -100,13 +107,6 @@ ran_fails w after k e p q NoMemory free why same still back idle F = record {
   still = still;
   holds = record { fits = subst (Fits after k) (sym back) (still k p F); idle = ap (λ (z : Private). z.begun) back ∙ idle; entered = λ h. absurd (false≢true (sym h)) };
 }
-
--- private steps aren't refused behind the causes that come first
-pub never : {A : Type 0} (why : Option Refused) (cause : NotEntered) → why ≡ None → option_map (λ (c : Refused). Refuses c) why ≡ Some cause → A
-never why cause free is = by (sym (ap (option_map (λ (c : Refused). Refuses c)) free) ∙ is)
-  where
-    by : {A : Type 0} → ◌≡◌ {A = Option NotEntered} None (Some cause) → A
-    by h = absurd cc
 
 -- a part whose steps aren't entered, once the world stops
 pub stopped_part : (w : SharedValue) (k : ℕ) (p : Private) → Fits w k p → p.begun ≡ None → HoldsPart w true k p

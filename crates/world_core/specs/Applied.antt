@@ -12,7 +12,7 @@ use Rattle.shared_value.specs.Fits.{AllFit, OthersFit}
 use Rattle.shared_value.specs.SharedValue.{SharedValue}
 use Rattle.child_tasks.specs.Joins.{SameButPlaces}
 use Rattle.shared_tree.specs.declared.ran.Ran.{Ran}
-use Rattle.shared_tree.specs.declared.ran.Ran.TheVariants.{Done, Ended, Forked, Goes, Over}
+use Rattle.shared_tree.specs.declared.ran.Ran.TheVariants.{Done, Ended, Forked, Over}
 use Rattle.world_core.specs.declared.held.Held.{Held}
 use Rattle.world_core.specs.declared.held.Held.TheVariants.{Nothing, Part, Copied}
 use Rattle.world_core.specs.declared.held.Made.{Made}
@@ -43,9 +43,8 @@ copied_cause Nothing t = Some NotOut
 copied_cause (Part p) t = if p.task == t then Some NotCollecting else Some NotOut
 copied_cause (Copied p moved) t = if p.task == t then None else Some NotOut
 
--- what a worker holds once a step that isn't private is entered
+-- what a worker holds once a step is entered that gives its part up
 abbrev pub hand_of : Ran → Held
-hand_of (Goes p) = Part p
 hand_of (Forked left right) = Nothing
 hand_of (Ended resumed) = Nothing
 hand_of (Over p) = Part p

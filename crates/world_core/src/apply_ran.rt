@@ -4,6 +4,7 @@ ghost use Rattle.std.specs.Prelude.{◌≡◌, ◌<◌, ◌≤◌, ◌+◌, ◌^
 ghost use Rattle.shared_value.specs.Causes.{first_cause};
 ghost use Rattle.shared_value.specs.Fits.{Fits};
 ghost use Rattle.own_steps.specs.Alone.{alone_event, IsShared};
+ghost use Rattle.shared_tree.specs.Ran.{LeavesBy};
 ghost use Rattle.world_core.specs.Applied.{hand_of, MakesFor};
 ghost use Rattle.world_core.specs.Next.{standing_by, IsNext};
 ghost use Rattle.world_core.specs.WorldValue.{Holds, HoldsPart};
@@ -13,7 +14,7 @@ use counted_tree::Counted;
 use outside_io::EmptyGate;
 use run_ledger::Refused;
 use run_trace::{Kind, PRIVATE_LIMIT};
-use shared_tree::{NotEntered, Ran, Shared};
+use shared_tree::{Leaving, Lent, NotEntered, Ran, Shared};
 use std::alloc::AllocError;
 use task_machine::{Paused, Private, run_local};
 
@@ -73,35 +74,56 @@ fn run_part(
 // Enters the fresh steps of the part.
 fn enter_private(shared: &mut Counted, worker: u32, part: Private) -> Made
     requires room { 0 < shared.old.journal.room }
-    requires first { first_cause shared.old.end shared.old.steps shared.old.settings worker false ≡ None }
     requires fits { Fits shared.old worker part }
     requires idle { part.begun ≡ None }
     requires some { 0 < part.fresh }
     ensures { MakesFor shared.old shared.new worker (record { worker = worker; kind = Kind.Ran part.task part.fresh }) result }
 {
-    shared.stands();
-    match shared.ran_private(worker, part) {
-        Ok(part) => Made {
+    let mut part = part;
+    match shared.ran_private(worker, &mut part) {
+        Ok(()) => Made {
             hand: Held::Part(part),
+            answer: Ok(()),
+        },
+        Err(cause) => Made {
+            hand: Held::Part(part),
+            answer: Err(NotEntered::Refuses(cause)),
+        },
+    }
+}
+
+// What a worker holds once a step is entered that gives its part up.
+fn hand_of(ran: Ran) -> Held
+    ensures { result ≡ hand_of ran }
+{
+    match ran {
+        Ran::Forked { left, right } => Held::Nothing,
+        Ran::Ended { resumed } => Held::Nothing,
+        Ran::Over(part) => Held::Part(part),
+        Ran::Done => Held::Nothing,
+    }
+}
+
+// Enters the fresh steps of the part and the shared one that comes next, which gives the part up so.
+fn enter_leaving(shared: &mut Counted, worker: u32, part: Private, leaving: Leaving) -> Made
+    requires room { 0 < shared.old.journal.room }
+    requires first { first_cause shared.old.end shared.old.steps shared.old.settings worker false ≡ None }
+    requires fits { Fits shared.old worker part }
+    requires idle { part.begun ≡ None }
+    requires shared { IsShared shared.old part }
+    requires leaves { LeavesBy shared.old part leaving }
+    ensures { MakesFor shared.old shared.new worker (alone_event worker part) result }
+{
+    shared.stands();
+    match shared.ran_leaving(worker, part, leaving) {
+        Ok(ran) => Made {
+            hand: hand_of(ran),
             answer: Ok(()),
         },
         Err(failed) => Made {
             hand: Held::Part(failed.part),
             answer: Err(failed.cause),
         },
-    }
-}
-
-// What a worker holds once a shared step is entered.
-fn hand_of(ran: Ran) -> Held
-    ensures { result ≡ hand_of ran }
-{
-    match ran {
-        Ran::Goes(part) => Held::Part(part),
-        Ran::Forked { left, right } => Held::Nothing,
-        Ran::Ended { resumed } => Held::Nothing,
-        Ran::Over(part) => Held::Part(part),
-        Ran::Done => Held::Nothing,
     }
 }
 
@@ -115,14 +137,20 @@ fn enter_last(shared: &mut Counted, worker: u32, part: Private) -> Made
     ensures { MakesFor shared.old shared.new worker (alone_event worker part) result }
 {
     shared.stands();
-    match shared.ran(worker, part) {
-        Ok(ran) => Made {
-            hand: hand_of(ran),
+    let mut part = part;
+    match shared.ran_lent(worker, &mut part) {
+        Ok(Lent::Goes) => Made {
+            hand: Held::Part(part),
             answer: Ok(()),
         },
-        Err(failed) => Made {
-            hand: Held::Part(failed.part),
-            answer: Err(failed.cause),
+        Ok(Lent::Over) => Made {
+            hand: Held::Part(part),
+            answer: Ok(()),
+        },
+        Ok(Lent::Leaves(leaving)) => enter_leaving(shared, worker, part, leaving),
+        Err(cause) => Made {
+            hand: Held::Part(part),
+            answer: Err(cause),
         },
     }
 }

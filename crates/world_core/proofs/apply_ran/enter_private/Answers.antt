@@ -1,7 +1,11 @@
-use Rattle.std.proofs.Common.{◌∙◌}
-use Rattle.shared_value.proofs.StepsEntered.{ran_answer}
-use Rattle.world_core.proofs.Making.{never}
+use Rattle.std.proofs.Common.{ap, sym, ◌∙◌}
+use Rattle.task_machine.specs.declared.part.Private.{Private}
+use Rattle.world_core.proofs.Making.{stopped_part}
 use Rattle.world_core.proofs.apply_ran.enter_private.Goals as goal
 
 pub returns-in-Err : goal.returns-in-Err
-returns-in-Err c = never _ c.in-Err.failed.cause (ran_answer c.args.shared.now c.args.worker c.args.part c.stands.ensures c.requires.fits c.requires.some ∙ c.requires.first) c.in-Err.ensures.refused
+returns-in-Err c = record {
+  cause_is = sym c.in-Err.ensures.refused;
+  same = c.in-Err.ensures.same;
+  holds = stopped_part c.ran_private.new.self c.args.worker c.ran_private.new.part c.ran_private.ensures.fits (ap (λ (z : Private). z.begun) c.in-Err.ensures.back ∙ c.requires.idle);
+}

@@ -1,30 +1,29 @@
-use Rattle.std.proofs.Common.{◌≡◌, Some, None, sym, subst, option_map}
-use Rattle.std.specs.Prelude.{option_map}
+use Rattle.std.proofs.Common.{◌≡◌, Some, None, sym, subst}
 use Rattle.run_trace.specs.declared.entry.Kind.TheVariants.{Ran}
-use Rattle.run_ledger.specs.declared.data.Refused.{Refused}
 use Rattle.shared_value.specs.SharedValue.{SharedValue}
-use Rattle.shared_value.specs.declared.answer.NotEntered.TheVariants.{Refuses}
 use Rattle.shared_value.specs.Entered.{refused}
 use Rattle.shared_value.specs.Fits.{Fits, OthersFit}
+use Rattle.shared_tree.proofs.HandedOn.{handed_cause}
 use Rattle.counted_tree.specs.Counts.{KeepsCounts}
 use Rattle.counted_tree.proofs.EntryCounted.{is_made}
 use Rattle.counted_tree.proofs.counted.Counted.ran_private.Goals as goal
 
 pub ran_private-requires-clause-fits : goal.ran_private-requires-clause-fits
-ran_private-requires-clause-fits c = subst (λ (z : SharedValue). Fits z c.args.worker c.args.part) (sym c.self.view_is) c.requires.fits
+ran_private-requires-clause-fits c = subst (λ (z : SharedValue). Fits z c.args.worker c.args.part.now) (sym c.self.view_is) c.requires.fits
 
-pub returns-in-Ok-clause-refused : goal.returns-in-Ok-clause-refused
-returns-in-Ok-clause-refused c = subst (λ (z : SharedValue). refused z (record { worker = c.args.worker; kind = Ran c.args.part.task c.args.part.fresh }) ≡ None) c.self.view_is c.in-Ok.ensures.refused
+pub returns-clause-refused : goal.returns-clause-refused
+returns-clause-refused c = subst (λ (z : SharedValue). None ≡ refused z (record { worker = c.args.worker; kind = Ran c.args.part.now.task c.args.part.now.fresh })) c.self.view_is c.in_ok-ran_private.ensures.refused
 
-pub returns-in-Ok-clause-others : goal.returns-in-Ok-clause-others
-returns-in-Ok-clause-others c = subst (λ (z : SharedValue). OthersFit z c.ran_private.new.self c.args.worker) c.self.view_is c.in-Ok.ensures.others
+pub returns-in_err-ran_private-clause-refused : goal.returns-in_err-ran_private-clause-refused
+returns-in_err-ran_private-clause-refused c =
+    handed_cause c.from_residual.result c.in_err-ran_private.field-0.0 _ c.from_residual.ensures.1
+    (subst (λ (z : SharedValue). Some c.in_err-ran_private.field-0.0 ≡ refused z (record { worker = c.args.worker; kind = Ran c.args.part.now.task c.args.part.now.fresh })) c.self.view_is c.in_err-ran_private.ensures.refused)
 
-pub returns-in-Err-clause-refused : goal.returns-in-Err-clause-refused
-returns-in-Err-clause-refused c =
-    subst (λ (z : SharedValue). option_map (λ (cause : Refused). Refuses cause) (refused z (record { worker = c.args.worker; kind = Ran c.args.part.task c.args.part.fresh })) ≡ Some c.in-Err.failed.cause) c.self.view_is c.in-Err.ensures.refused
+pub returns-clause-others : goal.returns-clause-others
+returns-clause-others c = subst (λ (z : SharedValue). OthersFit z c.ran_private.new.self c.args.worker) c.self.view_is c.in_ok-ran_private.ensures.others
 
 pub count-requires : goal.count-requires
-count-requires c = is_made c.self.inside.shared c.ran_private.new.self c.self.inside.counts (record { worker = c.args.worker; kind = Ran c.args.part.task c.args.part.fresh }) 0 c.stands.ensures c.in-Ok.ensures.enters c.in-Ok.ensures.refused c.self.invariant tt
+count-requires c = is_made c.self.inside.shared c.ran_private.new.self c.self.inside.counts (record { worker = c.args.worker; kind = Ran c.args.part.now.task c.args.part.now.fresh }) 0 c.stands.ensures c.in_ok-ran_private.ensures.enters (sym c.in_ok-ran_private.ensures.refused) c.self.invariant tt
 
-pub invariant_of-self-in-Err : goal.invariant_of-self-in-Err
-invariant_of-self-in-Err c = subst (λ (z : SharedValue). KeepsCounts z c.self.inside.counts) (sym c.in-Err.ensures.same) c.self.invariant
+pub invariant_of-self : goal.invariant_of-self
+invariant_of-self c = subst (λ (z : SharedValue). KeepsCounts z c.self.inside.counts) (sym c.in_err-ran_private.ensures.same) c.self.invariant

@@ -5,26 +5,29 @@ use Rattle.shared_value.specs.SharedValue.{SharedValue, accounts}
 use Rattle.shared_value.specs.Entered.{refused}
 use Rattle.shared_value.specs.Fits.{AllFit}
 use Rattle.run_ledger.specs.Heaps.{heap_of, words_in}
+use Rattle.shared_tree.proofs.HandedOn.{handed_cause}
 use Rattle.counted_tree.specs.Counts.{KeepsCounts}
 use Rattle.counted_tree.proofs.EntryCounted.{sweep_had, is_made}
 use Rattle.counted_tree.proofs.counted.Counted.sweep.Goals as goal
 
-pub returns-in-Ok-clause-refused : goal.returns-in-Ok-clause-refused
-returns-in-Ok-clause-refused c = subst (λ (z : SharedValue). None ≡ refused z (record { worker = c.args.worker; kind = Sweep c.args.t c.args.given })) c.self.view_is c.in-Ok.ensures.refused
+pub returns-clause-refused : goal.returns-clause-refused
+returns-clause-refused c = subst (λ (z : SharedValue). None ≡ refused z (record { worker = c.args.worker; kind = Sweep c.args.t c.args.given })) c.self.view_is c.in_ok-sweep.ensures.refused
 
-pub returns-in-Err-clause-refused : goal.returns-in-Err-clause-refused
-returns-in-Err-clause-refused c = subst (λ (z : SharedValue). Some c.in-Err.cause ≡ refused z (record { worker = c.args.worker; kind = Sweep c.args.t c.args.given })) c.self.view_is c.in-Err.ensures.refused
+pub returns-in_err-sweep-clause-refused : goal.returns-in_err-sweep-clause-refused
+returns-in_err-sweep-clause-refused c =
+    handed_cause c.from_residual.result c.in_err-sweep.field-0.0 _ c.from_residual.ensures.1
+    (subst (λ (z : SharedValue). Some c.in_err-sweep.field-0.0 ≡ refused z (record { worker = c.args.worker; kind = Sweep c.args.t c.args.given })) c.self.view_is c.in_err-sweep.ensures.refused)
 
-pub returns-in-Ok-clause-fits : goal.returns-in-Ok-clause-fits
-returns-in-Ok-clause-fits c = subst (λ (z : SharedValue). AllFit z c.sweep.new.self) c.self.view_is c.in-Ok.ensures.fits
+pub returns-clause-fits : goal.returns-clause-fits
+returns-clause-fits c = subst (λ (z : SharedValue). AllFit z c.sweep.new.self) c.self.view_is c.in_ok-sweep.ensures.fits
 
 pub count-requires : goal.count-requires
 count-requires c =
     let w : SharedValue = c.self.inside.shared in
     let e : EntryValue = record { worker = c.args.worker; kind = Sweep c.args.t c.args.given } in
-    let free : refused w e ≡ None = sym c.in-Ok.ensures.refused in
+    let free : refused w e ≡ None = sym c.in_ok-sweep.ensures.refused in
     let had : c.words_held-words.result ≡ words_in (accounts w).machine (heap_of (accounts w) c.args.t) = sweep_had w c.stands.ensures e c.args.t c.args.given refl free c.words_held-words.result c.words_held-words.ensures in
-    is_made w c.sweep.new.self c.self.inside.counts e c.words_held-words.result c.stands.ensures c.in-Ok.ensures.enters free c.self.invariant had
+    is_made w c.sweep.new.self c.self.inside.counts e c.words_held-words.result c.stands.ensures c.in_ok-sweep.ensures.enters free c.self.invariant had
 
-pub invariant_of-self-in-Err : goal.invariant_of-self-in-Err
-invariant_of-self-in-Err c = subst (λ (z : SharedValue). KeepsCounts z c.self.inside.counts) (sym c.in-Err.ensures.same) c.self.invariant
+pub invariant_of-self : goal.invariant_of-self
+invariant_of-self c = subst (λ (z : SharedValue). KeepsCounts z c.self.inside.counts) (sym c.in_err-sweep.ensures.same) c.self.invariant

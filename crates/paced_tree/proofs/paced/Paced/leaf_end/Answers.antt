@@ -4,24 +4,27 @@ use Rattle.shared_value.specs.SharedValue.{SharedValue}
 use Rattle.shared_value.specs.Entered.{refused}
 use Rattle.shared_value.specs.Fits.{OthersFit}
 use Rattle.leaf_collections.specs.LeafEnd.{end_event}
+use Rattle.shared_tree.proofs.HandedOn.{handed_end}
 use Rattle.paced_tree.specs.Owed.{KeepsPaces, Pays}
 use Rattle.paced_tree.proofs.Noted.{other_then}
 use Rattle.paced_tree.proofs.paced.Paced.leaf_end.Goals as goal
 
-pub invariant_of-self : goal.invariant_of-self
-invariant_of-self c =
+pub invariant_of-self-2 : goal.invariant_of-self-2
+invariant_of-self-2 c =
     let e : EntryValue = end_event c.args.worker c.args.part.now c.args.moved in
-    other_then c.get_mut-shared.result.now c.leaf_end.new.self e c.self.inside.paces c.note_other.new.paces c.stands.ensures (subst (λ (z : SharedValue). KeepsPaces z c.self.inside.paces) (sym c.get_mut-shared.ensures.value) c.self.invariant) c.in-Ok.ensures.enters (sym c.in-Ok.ensures.refused)
+    other_then c.get_mut-shared.result.now c.leaf_end.new.self e c.self.inside.paces c.note_other.new.paces c.stands.ensures (subst (λ (z : SharedValue). KeepsPaces z c.self.inside.paces) (sym c.get_mut-shared.ensures.value) c.self.invariant) c.in_ok-leaf_end.ensures.enters (sym c.in_ok-leaf_end.ensures.refused)
     (subst (λ (z : SharedValue). Pays z e) (sym (c.get_mut-shared.ensures.value ∙ c.self.view_is)) c.requires.pays) (λ x. refl) c.note_other.ensures
 
-pub returns-in-Ok-clause-refused : goal.returns-in-Ok-clause-refused
-returns-in-Ok-clause-refused c = subst (λ (z : SharedValue). None ≡ refused z (end_event c.args.worker c.args.part.now c.args.moved)) (c.get_mut-shared.ensures.value ∙ c.self.view_is) c.in-Ok.ensures.refused
+pub returns-clause-refused : goal.returns-clause-refused
+returns-clause-refused c = subst (λ (z : SharedValue). None ≡ refused z (end_event c.args.worker c.args.part.now c.args.moved)) (c.get_mut-shared.ensures.value ∙ c.self.view_is) c.in_ok-leaf_end.ensures.refused
 
-pub returns-in-Err-clause-refused : goal.returns-in-Err-clause-refused
-returns-in-Err-clause-refused c = subst (λ (z : SharedValue). Some c.in-Err.failed.cause ≡ refused z (end_event c.args.worker c.args.part.now c.args.moved)) (c.get_mut-shared.ensures.value ∙ c.self.view_is) c.in-Err.ensures.refused
+pub returns-in_err-leaf_end-clause-refused : goal.returns-in_err-leaf_end-clause-refused
+returns-in_err-leaf_end-clause-refused c =
+    handed_end c.from_residual.result c.in_err-leaf_end.field-0.0 _ c.from_residual.ensures.1
+    (subst (λ (z : SharedValue). Some c.in_err-leaf_end.field-0.0.cause ≡ refused z (end_event c.args.worker c.args.part.now c.args.moved)) (c.get_mut-shared.ensures.value ∙ c.self.view_is) c.in_err-leaf_end.ensures.refused)
 
-pub returns-in-Ok-clause-others : goal.returns-in-Ok-clause-others
-returns-in-Ok-clause-others c = subst (λ (z : SharedValue). OthersFit z c.leaf_end.new.self c.args.worker) (c.get_mut-shared.ensures.value ∙ c.self.view_is) c.in-Ok.ensures.others
+pub returns-clause-others : goal.returns-clause-others
+returns-clause-others c = subst (λ (z : SharedValue). OthersFit z c.leaf_end.new.self c.args.worker) (c.get_mut-shared.ensures.value ∙ c.self.view_is) c.in_ok-leaf_end.ensures.others
 
-pub invariant_of-self-in-Err : goal.invariant_of-self-in-Err
-invariant_of-self-in-Err c = subst (λ (z : SharedValue). KeepsPaces z c.self.inside.paces) (sym (c.in-Err.ensures.same ∙ c.get_mut-shared.ensures.value)) c.self.invariant
+pub invariant_of-self : goal.invariant_of-self
+invariant_of-self c = subst (λ (z : SharedValue). KeepsPaces z c.self.inside.paces) (sym (c.in_err-leaf_end.ensures.same ∙ c.get_mut-shared.ensures.value)) c.self.invariant

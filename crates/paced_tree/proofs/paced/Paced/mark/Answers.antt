@@ -6,6 +6,7 @@ use Rattle.run_ledger.specs.Heaps.{heap_of}
 use Rattle.shared_value.specs.SharedValue.{SharedValue, accounts}
 use Rattle.shared_value.specs.Entered.{refused, IsCaused}
 use Rattle.shared_value.specs.Fits.{AllFit}
+use Rattle.shared_tree.proofs.HandedOn.{handed_answer}
 use Rattle.paced_tree.specs.Owed.{KeepsNoted, KeepsPaces, NotesAt, Pays}
 use Rattle.paced_tree.proofs.Idle.{marks_kept}
 use Rattle.paced_tree.proofs.MarkNotes.{mark_goes, mark_marked, mark_waits}
@@ -20,38 +21,40 @@ returns-then-is_err-clause-refused c = subst (λ (z : SharedValue). IsCaused c.n
 
 pub note_mark-requires-clause-goes : goal.note_mark-requires-clause-goes
 note_mark-requires-clause-goes c =
-    subst (λ (z : SharedValue). (accounts z).end ≡ None) (sym c.shared-in-Ok.ensures)
-    (mark_goes c.get_mut-shared.result.now c.mark.new.self c.args.worker c.args.t c.stands.ensures c.in-Ok.ensures.enters c.in-Ok.ensures.refused)
+    subst (λ (z : SharedValue). (accounts z).end ≡ None) (sym c.shared-2.ensures)
+    (mark_goes c.get_mut-shared.result.now c.mark.new.self c.args.worker c.args.t c.stands.ensures c.in_ok-mark.ensures.enters c.in_ok-mark.ensures.refused)
 
 pub note_mark-requires-clause-waits : goal.note_mark-requires-clause-waits
 note_mark-requires-clause-waits c =
-    subst (λ (z : SharedValue). is_waiting (slice_get (accounts z).machine.tasks c.args.t) ≡ true) (sym c.shared-in-Ok.ensures)
-    (mark_waits c.get_mut-shared.result.now c.mark.new.self c.args.worker c.args.t c.stands.ensures c.in-Ok.ensures.enters c.in-Ok.ensures.refused)
+    subst (λ (z : SharedValue). is_waiting (slice_get (accounts z).machine.tasks c.args.t) ≡ true) (sym c.shared-2.ensures)
+    (mark_waits c.get_mut-shared.result.now c.mark.new.self c.args.worker c.args.t c.stands.ensures c.in_ok-mark.ensures.enters c.in_ok-mark.ensures.refused)
 
 pub note_mark-requires-clause-marked : goal.note_mark-requires-clause-marked
 note_mark-requires-clause-marked c =
-    subst (λ (z : SharedValue). is_some (heap_of (accounts z) c.args.t).marked ≡ true) (sym c.shared-in-Ok.ensures)
-    (mark_marked c.get_mut-shared.result.now c.mark.new.self c.args.worker c.args.t c.stands.ensures c.in-Ok.ensures.enters c.in-Ok.ensures.refused)
+    subst (λ (z : SharedValue). is_some (heap_of (accounts z) c.args.t).marked ≡ true) (sym c.shared-2.ensures)
+    (mark_marked c.get_mut-shared.result.now c.mark.new.self c.args.worker c.args.t c.stands.ensures c.in_ok-mark.ensures.enters c.in_ok-mark.ensures.refused)
 
-pub invariant_of-self-in-Ok : goal.invariant_of-self-in-Ok
-invariant_of-self-in-Ok c =
+pub invariant_of-self-2 : goal.invariant_of-self-2
+invariant_of-self-2 c =
     let w : SharedValue = c.get_mut-shared.result.now in
     let e : EntryValue = record { worker = c.args.worker; kind = Mark c.args.t } in
     let K : KeepsPaces w c.reserve_mark.new.paces = marks_kept w c.self.inside.paces c.reserve_mark.new.paces c.args.worker c.reserve_mark.ensures.same (subst (λ (z : SharedValue). KeepsPaces z c.self.inside.paces) (sym c.get_mut-shared.ensures.value) c.self.invariant) in
-    paced_then w c.mark.new.self e c.reserve_mark.new.paces c.note_mark.new.paces c.stands.ensures K c.in-Ok.ensures.enters c.in-Ok.ensures.refused
+    paced_then w c.mark.new.self e c.reserve_mark.new.paces c.note_mark.new.paces c.stands.ensures K c.in_ok-mark.ensures.enters c.in_ok-mark.ensures.refused
     (inr (subst (λ (z : SharedValue). Pays z e) (sym (c.get_mut-shared.ensures.value ∙ c.self.view_is)) c.requires.pays)) c.note_mark.ensures.many
-    (λ on. subst (λ (z : SharedValue). NotesAt c.reserve_mark.new.paces c.note_mark.new.paces c.args.worker (KeepsNoted (accounts z) (Mark c.args.t))) c.shared-in-Ok.ensures c.note_mark.ensures)
+    (λ on. subst (λ (z : SharedValue). NotesAt c.reserve_mark.new.paces c.note_mark.new.paces c.args.worker (KeepsNoted (accounts z) (Mark c.args.t))) c.shared-2.ensures c.note_mark.ensures)
 
-pub invariant_of-self-in-Err : goal.invariant_of-self-in-Err
-invariant_of-self-in-Err c =
+pub invariant_of-self-in_err-mark : goal.invariant_of-self-in_err-mark
+invariant_of-self-in_err-mark c =
     let K : KeepsPaces c.get_mut-shared.result.now c.reserve_mark.new.paces = marks_kept c.get_mut-shared.result.now c.self.inside.paces c.reserve_mark.new.paces c.args.worker c.reserve_mark.ensures.same (subst (λ (z : SharedValue). KeepsPaces z c.self.inside.paces) (sym c.get_mut-shared.ensures.value) c.self.invariant) in
-    subst (λ (z : SharedValue). KeepsPaces z c.reserve_mark.new.paces) (sym c.in-Err.ensures.same) K
+    subst (λ (z : SharedValue). KeepsPaces z c.reserve_mark.new.paces) (sym c.in_err-mark.ensures.same) K
 
-pub returns-in-Ok-clause-refused : goal.returns-in-Ok-clause-refused
-returns-in-Ok-clause-refused c = subst (λ (z : SharedValue). refused z (record { worker = c.args.worker; kind = Mark c.args.t }) ≡ None) (c.get_mut-shared.ensures.value ∙ c.self.view_is) c.in-Ok.ensures.refused
+pub returns-clause-refused : goal.returns-clause-refused
+returns-clause-refused c = subst (λ (z : SharedValue). refused z (record { worker = c.args.worker; kind = Mark c.args.t }) ≡ None) (c.get_mut-shared.ensures.value ∙ c.self.view_is) c.in_ok-mark.ensures.refused
 
-pub returns-in-Ok-clause-fits : goal.returns-in-Ok-clause-fits
-returns-in-Ok-clause-fits c = subst (λ (z : SharedValue). AllFit z c.mark.new.self) (c.get_mut-shared.ensures.value ∙ c.self.view_is) c.in-Ok.ensures.fits
+pub returns-clause-fits : goal.returns-clause-fits
+returns-clause-fits c = subst (λ (z : SharedValue). AllFit z c.mark.new.self) (c.get_mut-shared.ensures.value ∙ c.self.view_is) c.in_ok-mark.ensures.fits
 
-pub returns-in-Err-clause-refused : goal.returns-in-Err-clause-refused
-returns-in-Err-clause-refused c = subst (λ (z : SharedValue). IsCaused c.in-Err.cause (refused z (record { worker = c.args.worker; kind = Mark c.args.t }))) (c.get_mut-shared.ensures.value ∙ c.self.view_is) c.in-Err.ensures.refused
+pub returns-in_err-mark-clause-refused : goal.returns-in_err-mark-clause-refused
+returns-in_err-mark-clause-refused c =
+    handed_answer c.from_residual.result c.in_err-mark.field-0.0 (refused c.args.self.now (record { worker = c.args.worker; kind = Mark c.args.t })) c.from_residual.ensures.1
+    (subst (λ (z : SharedValue). IsCaused c.in_err-mark.field-0.0 (refused z (record { worker = c.args.worker; kind = Mark c.args.t }))) (c.get_mut-shared.ensures.value ∙ c.self.view_is) c.in_err-mark.ensures.refused)

@@ -4,24 +4,27 @@ use Rattle.run_trace.specs.declared.entry.Kind.TheVariants.{More}
 use Rattle.shared_value.specs.SharedValue.{SharedValue}
 use Rattle.shared_value.specs.Entered.{refused}
 use Rattle.shared_value.specs.Fits.{AllFit}
+use Rattle.shared_tree.proofs.HandedOn.{handed_cause}
 use Rattle.paced_tree.specs.Owed.{KeepsPaces, Pays}
 use Rattle.paced_tree.proofs.Noted.{other_then}
 use Rattle.paced_tree.proofs.paced.Paced.some.Goals as goal
 
-pub invariant_of-self : goal.invariant_of-self
-invariant_of-self c =
+pub invariant_of-self-2 : goal.invariant_of-self-2
+invariant_of-self-2 c =
     let e : EntryValue = record { worker = c.args.worker; kind = More c.args.t c.args.n } in
-    other_then c.get_mut-shared.result.now c.some.new.self e c.self.inside.paces c.note_other.new.paces c.stands.ensures (subst (λ (z : SharedValue). KeepsPaces z c.self.inside.paces) (sym c.get_mut-shared.ensures.value) c.self.invariant) c.in-Ok.ensures.enters (sym c.in-Ok.ensures.refused)
+    other_then c.get_mut-shared.result.now c.some.new.self e c.self.inside.paces c.note_other.new.paces c.stands.ensures (subst (λ (z : SharedValue). KeepsPaces z c.self.inside.paces) (sym c.get_mut-shared.ensures.value) c.self.invariant) c.in_ok-count.ensures.enters (sym c.in_ok-count.ensures.refused)
     (subst (λ (z : SharedValue). Pays z e) (sym (c.get_mut-shared.ensures.value ∙ c.self.view_is)) c.requires.pays) (λ x. refl) c.note_other.ensures
 
-pub returns-in-Ok-clause-refused : goal.returns-in-Ok-clause-refused
-returns-in-Ok-clause-refused c = subst (λ (z : SharedValue). None ≡ refused z (record { worker = c.args.worker; kind = More c.args.t c.args.n })) (c.get_mut-shared.ensures.value ∙ c.self.view_is) c.in-Ok.ensures.refused
+pub returns-clause-refused : goal.returns-clause-refused
+returns-clause-refused c = subst (λ (z : SharedValue). None ≡ refused z (record { worker = c.args.worker; kind = More c.args.t c.args.n })) (c.get_mut-shared.ensures.value ∙ c.self.view_is) c.in_ok-count.ensures.refused
 
-pub returns-in-Err-clause-refused : goal.returns-in-Err-clause-refused
-returns-in-Err-clause-refused c = subst (λ (z : SharedValue). Some c.in-Err.cause ≡ refused z (record { worker = c.args.worker; kind = More c.args.t c.args.n })) (c.get_mut-shared.ensures.value ∙ c.self.view_is) c.in-Err.ensures.refused
+pub returns-in_err-count-clause-refused : goal.returns-in_err-count-clause-refused
+returns-in_err-count-clause-refused c =
+    handed_cause c.from_residual.result c.in_err-count.field-0.0 _ c.from_residual.ensures.1
+    (subst (λ (z : SharedValue). Some c.in_err-count.field-0.0 ≡ refused z (record { worker = c.args.worker; kind = More c.args.t c.args.n })) (c.get_mut-shared.ensures.value ∙ c.self.view_is) c.in_err-count.ensures.refused)
 
-pub returns-in-Ok-clause-fits : goal.returns-in-Ok-clause-fits
-returns-in-Ok-clause-fits c = subst (λ (z : SharedValue). AllFit z c.some.new.self) (c.get_mut-shared.ensures.value ∙ c.self.view_is) c.in-Ok.ensures.fits
+pub returns-clause-fits : goal.returns-clause-fits
+returns-clause-fits c = subst (λ (z : SharedValue). AllFit z c.some.new.self) (c.get_mut-shared.ensures.value ∙ c.self.view_is) c.in_ok-count.ensures.fits
 
-pub invariant_of-self-in-Err : goal.invariant_of-self-in-Err
-invariant_of-self-in-Err c = subst (λ (z : SharedValue). KeepsPaces z c.self.inside.paces) (sym (c.in-Err.ensures.same ∙ c.get_mut-shared.ensures.value)) c.self.invariant
+pub invariant_of-self : goal.invariant_of-self
+invariant_of-self c = subst (λ (z : SharedValue). KeepsPaces z c.self.inside.paces) (sym (c.in_err-count.ensures.same ∙ c.get_mut-shared.ensures.value)) c.self.invariant

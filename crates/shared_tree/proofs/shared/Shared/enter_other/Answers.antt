@@ -9,15 +9,15 @@ use Rattle.others_objects.specs.Other.{TellsOther}
 use Rattle.shared_tree.proofs.shared.Shared.enter_other.Goals as goal
 
 pub enter_reference-requires-clause-reads : goal.enter_reference-requires-clause-reads
-enter_reference-requires-clause-reads c = (c.args.line, subst (λ (d : OtherStep). TellsOther c.args.self.now c.args.part d c.args.line) c.in-SetsReference.is c.requires.tells)
+enter_reference-requires-clause-reads c = (c.args.line, subst (λ (d : OtherStep). TellsOther c.args.self.now c.args.part.now d c.args.line) c.in-SetsReference.is c.requires.tells)
 
 pub enter_number-requires-clause-reads : goal.enter_number-requires-clause-reads
 enter_number-requires-clause-reads c =
     let v : ℤ = c.in-SetsNumber.value in
     let fits : SFits w64 v = search rules in (
       c.args.line,
-      subst (λ (z : ℤ). TellsOther c.args.self.now c.args.part (SetsNumber c.in-SetsNumber.register z) c.args.line) (sym (to_z-of_z w64 v fits))
-          (subst (λ (d : OtherStep). TellsOther c.args.self.now c.args.part d c.args.line) c.in-SetsNumber.is c.requires.tells),
+      subst (λ (z : ℤ). TellsOther c.args.self.now c.args.part.now (SetsNumber c.in-SetsNumber.register z) c.args.line) (sym (to_z-of_z w64 v fits))
+          (subst (λ (d : OtherStep). TellsOther c.args.self.now c.args.part.now d c.args.line) c.in-SetsNumber.is c.requires.tells),
     )
 
 pub enter_store_number-requires-clause-stores : goal.enter_store_number-requires-clause-stores
@@ -25,25 +25,25 @@ enter_store_number-requires-clause-stores c =
     let v : ℤ = c.in-StoresNumber.value in
     let fits : SFits w64 v = search rules in (
       c.args.line,
-      subst (λ (z : ℤ). TellsOther c.args.self.now c.args.part (StoresNumber c.in-StoresNumber.object c.in-StoresNumber.field z) c.args.line) (sym (to_z-of_z w64 v fits))
-          (subst (λ (d : OtherStep). TellsOther c.args.self.now c.args.part d c.args.line) c.in-StoresNumber.is c.requires.tells),
+      subst (λ (z : ℤ). TellsOther c.args.self.now c.args.part.now (StoresNumber c.in-StoresNumber.object c.in-StoresNumber.field z) c.args.line) (sym (to_z-of_z w64 v fits))
+          (subst (λ (d : OtherStep). TellsOther c.args.self.now c.args.part.now d c.args.line) c.in-StoresNumber.is c.requires.tells),
     )
 
 pub store_other-requires-clause-stores : goal.store_other-requires-clause-stores
-store_other-requires-clause-stores c = (c.args.line, subst (λ (d : OtherStep). TellsOther c.args.self.now c.args.part d c.args.line) c.in-StoresReference.is c.requires.tells)
+store_other-requires-clause-stores c = (c.args.line, subst (λ (d : OtherStep). TellsOther c.args.self.now c.args.part.now d c.args.line) c.in-StoresReference.is c.requires.tells)
 
 pub store_other-requires-in-Swaps-clause-stores : goal.store_other-requires-in-Swaps-clause-stores
-store_other-requires-in-Swaps-clause-stores c = (c.args.line, subst (λ (d : OtherStep). TellsOther c.args.self.now c.args.part d c.args.line) c.in-Swaps.is c.requires.tells)
+store_other-requires-in-Swaps-clause-stores c = (c.args.line, subst (λ (d : OtherStep). TellsOther c.args.self.now c.args.part.now d c.args.line) c.in-Swaps.is c.requires.tells)
 
 pub enter_halt-requires-clause-ends : goal.enter_halt-requires-clause-ends
 enter_halt-requires-clause-ends c =
-    let T : TellsOther c.args.self.now c.args.part (Stops c.in-Stops.owner) c.args.line = subst (λ (d : OtherStep). TellsOther c.args.self.now c.args.part d c.args.line) c.in-Stops.is c.requires.tells in
+    let T : TellsOther c.args.self.now c.args.part.now (Stops c.in-Stops.owner) c.args.line = subst (λ (d : OtherStep). TellsOther c.args.self.now c.args.part.now d c.args.line) c.in-Stops.is c.requires.tells in
     T.says
 
 pub enter_halt-requires-in-Traps-clause-ends : goal.enter_halt-requires-in-Traps-clause-ends
 enter_halt-requires-in-Traps-clause-ends c =
-    let T : TellsOther c.args.self.now c.args.part (Traps c.in-Traps.kind) c.args.line = subst (λ (d : OtherStep). TellsOther c.args.self.now c.args.part d c.args.line) c.in-Traps.is c.requires.tells in
-    T.says ∙ ap (λ n. ended_by (then_accounts c.args.self.now c.args.part).machine (Trapped c.in-Traps.kind c.args.part.task n)) T.number_is
+    let T : TellsOther c.args.self.now c.args.part.now (Traps c.in-Traps.kind) c.args.line = subst (λ (d : OtherStep). TellsOther c.args.self.now c.args.part.now d c.args.line) c.in-Traps.is c.requires.tells in
+    T.says ∙ ap (λ n. ended_by (then_accounts c.args.self.now c.args.part.now).machine (Trapped c.in-Traps.kind c.args.part.now.task n)) T.number_is
 
 pub enter_halt-requires-clause-other : goal.enter_halt-requires-clause-other
 enter_halt-requires-clause-other c = λ e. cc

@@ -1,19 +1,38 @@
-use Rattle.std.proofs.Common.{Some, None, List, subst, sym, ◌∙◌}
+use Rattle.std.proofs.Common.{rules, ◌≡◌, Bool, cond, Some, None, List, ap, subst, sym, ◌∙◌}
+use Rattle.std.specs.Prelude.{is_some}
+use Rattle.std.proofs.lemmas.Bool.{false≢true}
 use Rattle.run_ledger.specs.declared.data.Ledger.{Ledger}
+use Rattle.run_ledger.specs.declared.data.Owed.TheVariants.{Sweep, More}
 use Rattle.shared_value.specs.SharedValue.{accounts}
+use Rattle.heap_marking.specs.MarkCauses.{marking_cause}
 use Rattle.heap_marking.specs.declared.pace.Fork.{Fork}
 use Rattle.heap_marking.specs.Pace.{IsLastGoing}
 use Rattle.heap_marking.proofs.PaceOwes.{owed_marks}
 use Rattle.heap_marking.proofs.ForksTold.{marked_free}
 use Rattle.shared_tree.proofs.shared.Shared.owed_to_marks.Goals as goal
 
-pub returns-in-Some : goal.returns-in-Some
-returns-in-Some c = λ marks K.
+pub returns-in_default : goal.returns-in_default
+returns-in_default c = λ marks K.
+    let l : Ledger = accounts c.args.self.now in
+    sym (owed_marks l c.args.pace.now.marks.items marks None K (subst (λ (fs : List Fork). IsLastGoing l fs None) c.as_slice.ensures c.in_default.ensures)).0
+
+-- a marking that is under way has no cause against it
+pub returns-then-is_some : goal.returns-then-is_some
+returns-then-is_some c = λ marks K.
     let l : Ledger = accounts c.args.self.now in
     let q = owed_marks l c.args.pace.now.marks.items marks (Some c.in-Some.fork) K (subst (λ (fs : List Fork). IsLastGoing l fs (Some c.in-Some.fork)) c.as_slice.ensures c.in-Some.ensures) in
-    c.owed_to.ensures (marked_free c.args.self.now c.stands.ensures c.requires c.in-Some.fork q.1.0 q.1.1) ∙ sym q.0
+    let free : marking_cause c.args.self.now c.in-Some.fork.task ≡ None = marked_free c.args.self.now c.stands.ensures c.requires c.in-Some.fork q.1.0 q.1.1 in
+    let told : c.marking_cause.result ≡ marking_cause c.args.self.now c.in-Some.fork.task = search rules in
+    absurd (false≢true (sym (c.if-is_some.ensures ∙ ap is_some (told ∙ free))))
 
-pub returns-in-None : goal.returns-in-None
-returns-in-None c = λ marks K.
+pub returns-then-is_marked : goal.returns-then-is_marked
+returns-then-is_marked c = λ marks K.
     let l : Ledger = accounts c.args.self.now in
-    sym (owed_marks l c.args.pace.now.marks.items marks None K (subst (λ (fs : List Fork). IsLastGoing l fs None) c.as_slice.ensures c.in-None.ensures)).0
+    let q = owed_marks l c.args.pace.now.marks.items marks (Some c.in-Some.fork) K (subst (λ (fs : List Fork). IsLastGoing l fs (Some c.in-Some.fork)) c.as_slice.ensures c.in-Some.ensures) in
+    sym (q.0 ∙ ap (λ (b : Bool). cond b (Sweep c.in-Some.fork.task) (More c.in-Some.fork.task)) (sym c.is_marked.ensures ∙ c.if-is_marked.true))
+
+pub returns-else-is_marked : goal.returns-else-is_marked
+returns-else-is_marked c = λ marks K.
+    let l : Ledger = accounts c.args.self.now in
+    let q = owed_marks l c.args.pace.now.marks.items marks (Some c.in-Some.fork) K (subst (λ (fs : List Fork). IsLastGoing l fs (Some c.in-Some.fork)) c.as_slice.ensures c.in-Some.ensures) in
+    sym (q.0 ∙ ap (λ (b : Bool). cond b (Sweep c.in-Some.fork.task) (More c.in-Some.fork.task)) (sym c.is_marked.ensures ∙ c.if-is_marked.false))

@@ -4,7 +4,7 @@ use Rattle.task_machine.specs.declared.part.Private.{Private}
 use Rattle.shared_value.specs.declared.next_step.Ending.{Ending}
 use Rattle.shared_value.specs.declared.next_step.Ending.TheVariants.{Beyond, Prints, Returns}
 use Rattle.shared_value.specs.SharedValue.{SharedValue}
-use Rattle.shared_value.specs.Entered.{RanAnswers, refused}
+use Rattle.shared_value.specs.Entered.{refused}
 use Rattle.own_steps.specs.Alone.{Tells, alone_event}
 use Rattle.own_steps.proofs.AloneEntries.{child_beyond, other_beyond, trap_is}
 use Rattle.shared_tree.proofs.shared.Shared.ran_alone.Goals as goal
@@ -12,16 +12,26 @@ use Rattle.shared_tree.proofs.shared.Shared.ran_alone.Goals as goal
 pub returns-else-part-eq0-clause-answered : goal.returns-else-part-eq0-clause-answered
 returns-else-part-eq0-clause-answered c =
     let w : SharedValue = c.args.self.now in
-    let p : Private = c.args.part in
+    let p : Private = c.args.part.now in
     let k : ℕ = c.args.worker in
     let free : refused w (alone_event k p) ≡ None = sym c.alone_refused.ensures ∙ c.in_default.is in
     let T : Tells w p Returns c.next_ending-ending.result.1 = subst (λ (e : Ending). Tells w p e c.next_ending-ending.result.1) c.in-Returns.is c.next_ending-ending.ensures in
     record { same = refl; part = refl; beyond = child_beyond w k p c.stands.ensures c.requires.fits c.requires.shared free c.next_ending-ending.result.1 T c.if-part-eq0.false }
 
+pub returns-then-part-eq0-clause-answered : goal.returns-then-part-eq0-clause-answered
+returns-then-part-eq0-clause-answered c =
+    let w : SharedValue = c.args.self.now in
+    let p : Private = c.args.part.now in
+    let number : ℕ = c.next_ending-ending.result.1 in
+    record { same = refl; part = refl; leaves = record { returns = (number, subst (λ (e : Ending). Tells w p e number) c.in-Returns.is c.next_ending-ending.ensures); root = c.if-part-eq0.true } }
+
+pub returns-then-part-eq0-clause-refused : goal.returns-then-part-eq0-clause-refused
+returns-then-part-eq0-clause-refused c = sym c.alone_refused.ensures ∙ c.in_default.is
+
 pub returns-in-Beyond-clause-answered : goal.returns-in-Beyond-clause-answered
 returns-in-Beyond-clause-answered c =
     let w : SharedValue = c.args.self.now in
-    let p : Private = c.args.part in
+    let p : Private = c.args.part.now in
     let k : ℕ = c.args.worker in
     let free : refused w (alone_event k p) ≡ None = sym c.alone_refused.ensures ∙ c.in_default.is in
     let T : Tells w p Beyond c.next_ending-ending.result.1 = subst (λ (e : Ending). Tells w p e c.next_ending-ending.result.1) c.in-Beyond.is c.next_ending-ending.ensures in
@@ -30,7 +40,7 @@ returns-in-Beyond-clause-answered c =
 pub enter_halt-requires-clause-ends : goal.enter_halt-requires-clause-ends
 enter_halt-requires-clause-ends c =
     let w : SharedValue = c.args.self.now in
-    let p : Private = c.args.part in
+    let p : Private = c.args.part.now in
     trap_is w p c.in-Traps.kind c.next_ending-ending.result.1 (subst (λ (e : Ending). Tells w p e c.next_ending-ending.result.1) c.in-Traps.is c.next_ending-ending.ensures)
 
 pub returns-in-Some-clause-refused : goal.returns-in-Some-clause-refused
@@ -44,9 +54,6 @@ returns-in-Err-clause-refused c = sym c.alone_refused.ensures ∙ c.in_default.i
 
 pub returns-in-Traps-clause-refused : goal.returns-in-Traps-clause-refused
 returns-in-Traps-clause-refused c = sym c.alone_refused.ensures ∙ c.in_default.is
-
-pub returns-then-part-eq0-clause-refused : goal.returns-then-part-eq0-clause-refused
-returns-then-part-eq0-clause-refused c = subst (RanAnswers c.ran_done.result) (sym (sym c.alone_refused.ensures ∙ c.in_default.is)) c.ran_done.ensures.refused
 
 pub returns-else-part-eq0-clause-refused : goal.returns-else-part-eq0-clause-refused
 returns-else-part-eq0-clause-refused c = sym c.alone_refused.ensures ∙ c.in_default.is
@@ -66,15 +73,12 @@ enter_output-requires-clause-prints c =
     let fits : SFits w64 v = search rules in
     let number : ℕ = c.next_ending-ending.result.1 in (
       number,
-      subst (λ (z : ℤ). Tells c.args.self.now c.args.part (Prints z) number) (sym (to_z-of_z w64 v fits))
-          (subst (λ (e : Ending). Tells c.args.self.now c.args.part e number) c.in-Prints.is c.next_ending-ending.ensures),
+      subst (λ (z : ℤ). Tells c.args.self.now c.args.part.now (Prints z) number) (sym (to_z-of_z w64 v fits))
+          (subst (λ (e : Ending). Tells c.args.self.now c.args.part.now e number) c.in-Prints.is c.next_ending-ending.ensures),
     )
 
 pub enter_halt-requires-clause-free : goal.enter_halt-requires-clause-free
 enter_halt-requires-clause-free c = sym c.alone_refused.ensures ∙ c.in_default.is
-
-pub ran_done-requires-clause-free : goal.ran_done-requires-clause-free
-ran_done-requires-clause-free c = sym c.alone_refused.ensures ∙ c.in_default.is
 
 pub returns-in-Ok-clause-answered : goal.returns-in-Ok-clause-answered
 returns-in-Ok-clause-answered c = c.in-Ok.ensures.goes
@@ -82,14 +86,8 @@ returns-in-Ok-clause-answered c = c.in-Ok.ensures.goes
 pub returns-in-Traps-clause-answered : goal.returns-in-Traps-clause-answered
 returns-in-Traps-clause-answered c = c.enter_halt.ensures
 
-pub returns-then-part-eq0-clause-answered : goal.returns-then-part-eq0-clause-answered
-returns-then-part-eq0-clause-answered c = c.ran_done.ensures.answered
-
 pub returns-in-Err-clause-same : goal.returns-in-Err-clause-same
 returns-in-Err-clause-same c = c.in-Err.ensures.same
-
-pub ran_done-requires-clause-returns : goal.ran_done-requires-clause-returns
-ran_done-requires-clause-returns c = (c.next_ending-ending.result.1, subst (λ (e : Ending). Tells c.args.self.now c.args.part e c.next_ending-ending.result.1) c.in-Returns.is c.next_ending-ending.ensures)
 
 pub enter_halt-requires-clause-other : goal.enter_halt-requires-clause-other
 enter_halt-requires-clause-other c = λ e. cc

@@ -1,14 +1,111 @@
-use Rattle.std.proofs.Common.{◌+◌, Some, sym, subst}
+use Rattle.std.proofs.Common.{◌≡◌, ℕ, ◌+◌, Option, Some, ap, sym, subst, ◌∙◌}
+use Rattle.std.specs.Prelude.{is_some}
+use Rattle.run_trace.specs.declared.entry.Kind.{Kind}
 use Rattle.run_trace.specs.declared.entry.Kind.TheVariants.{Ran}
+use Rattle.run_ledger.specs.declared.data.Owed.TheVariants.{Nothing}
+use Rattle.run_ledger.specs.declared.data.RunEnd.{RunEnd}
 use Rattle.task_machine.specs.declared.part.Private.{Private}
 use Rattle.task_machine.specs.declared.part.Paused.TheVariants.{Shared}
+use Rattle.shared_value.specs.Entered.{IsCaused, refused}
+use Rattle.shared_value.specs.Fits.{Fits}
+use Rattle.shared_value.specs.SharedValue.{SharedValue}
+use Rattle.own_steps.specs.Alone.{GoesAlone, HaltsAlone, IsShared, alone_event}
+use Rattle.shared_tree.specs.Ran.{LeavesBy, LeavesPart, LentTo}
 use Rattle.turn_entries.specs.declared.held.Ready.TheVariants.{Paused as HasPaused}
-use Rattle.turn_entries.specs.Acts.{ActsFor}
 use Rattle.turn_entries.specs.Parts.{IsPaused}
+use Rattle.turn_entries.specs.Values.{MayEnter}
+use Rattle.turn_entries.proofs.Free.{alone_free, only_memory}
+use Rattle.turn_entries.proofs.Going.{may_alone, stands_shared}
+use Rattle.turn_entries.proofs.Paying.{pays_nothing}
+use Rattle.turn_entries.proofs.Turning.{acts_same, not_over, one, unentered}
 use Rattle.turn_entries.proofs.run.Run.enter_shared.Goals as goal
 
-pub ran_in-requires-clause-paused : goal.ran_in-requires-clause-paused
-ran_in-requires-clause-paused c = subst (λ (q : Private). IsPaused c.args.self.paced c.args.worker q Shared) (sym c.take_out-part.ensures) c.requires.paused
+pub ran_lent-requires-clause-room : goal.ran_lent-requires-clause-room
+ran_lent-requires-clause-room c = c.requires.enter.room
 
-pub returns : goal.returns
-returns c = subst (λ (q : Private). ActsFor c.args.self c.args.worker (HasPaused q Shared) (Some (Ran q.task (q.fresh + 1))) c.ran_in.result) c.take_out-part.ensures c.ran_in.ensures
+pub ran_lent-requires-clause-fits : goal.ran_lent-requires-clause-fits
+ran_lent-requires-clause-fits c = subst (Fits c.args.self.paced c.args.worker) (sym c.get_mut.ensures.value) c.requires.paused.may.fits
+
+pub ran_lent-requires-clause-shared : goal.ran_lent-requires-clause-shared
+ran_lent-requires-clause-shared c = subst (IsShared c.args.self.paced) (sym c.get_mut.ensures.value) (stands_shared c.args.self.paced c.args.worker c.args.part c.requires.paused)
+
+pub ran_lent-requires-clause-pays : goal.ran_lent-requires-clause-pays
+ran_lent-requires-clause-pays c = pays_nothing c.args.self.paced c.args.worker (Ran c.get_mut.result.now.task (c.get_mut.result.now.fresh + 1)) c.requires.enter.owed
+
+pub returns-in-Ok-Goes : goal.returns-in-Ok-Goes
+returns-in-Ok-Goes c =
+    let w : SharedValue = c.args.self.paced in
+    let v : SharedValue = c.ran_lent.new.self in
+    let k : ℕ = c.args.worker in
+    let p : Private = c.args.part in
+    let q : Private = c.ran_lent.new.part in
+    let a : GoesAlone w v k c.get_mut.result.now q = subst (LentTo w v k c.get_mut.result.now q) c.in-Ok-Goes.field-0-is c.in-Ok-Goes.ensures.answered in
+    let b : GoesAlone w v k p q = subst (λ (r : Private). GoesAlone w v k r q) c.get_mut.ensures.value a in
+    let kind : Kind = Ran p.task (p.fresh + 1) in
+    c.entered.ensures c.args.self k (HasPaused p Shared) kind (one w v k kind b.enters b.others) c.requires.enter.on
+    (λ on. (on, may_alone v k p q b.fits c.requires.paused.may.idle b.part))
+
+pub returns-in-Ok-Over : goal.returns-in-Ok-Over
+returns-in-Ok-Over c =
+    let w : SharedValue = c.args.self.paced in
+    let v : SharedValue = c.ran_lent.new.self in
+    let k : ℕ = c.args.worker in
+    let p : Private = c.args.part in
+    let q : Private = c.ran_lent.new.part in
+    let a : HaltsAlone w v k c.get_mut.result.now q = subst (LentTo w v k c.get_mut.result.now q) c.in-Ok-Over.field-0-is c.in-Ok-Over.ensures.answered in
+    let b : HaltsAlone w v k p q = subst (λ (r : Private). HaltsAlone w v k r q) c.get_mut.ensures.value a in
+    let kind : Kind = Ran p.task (p.fresh + 1) in
+    c.entered-in-Ok-Over.ensures c.args.self k (HasPaused p Shared) kind (one w v k kind b.enters b.others) c.requires.enter.on
+    (λ on. ap (λ (o : Option RunEnd). is_some o) b.halts.1)
+
+pub enter_leaving-requires-clause-enter : goal.enter_leaving-requires-clause-enter
+enter_leaving-requires-clause-enter c =
+    let w : SharedValue = c.args.self.paced in
+    let v : SharedValue = c.ran_lent.new.self in
+    let k : ℕ = c.args.worker in
+    let p : Private = c.args.part in
+    let q : Private = c.ran_lent.new.part in
+    let a : LeavesPart w v c.get_mut.result.now q c.in-Ok-Leaves.leaving = subst (LentTo w v k c.get_mut.result.now q) c.in-Ok-Leaves.field-0-is c.in-Ok-Leaves.ensures.answered in
+    let part : q ≡ p = a.part ∙ c.get_mut.ensures.value in
+    subst (λ (z : SharedValue). MayEnter z k Nothing) (sym a.same) c.requires.enter
+
+pub enter_leaving-requires-clause-paused : goal.enter_leaving-requires-clause-paused
+enter_leaving-requires-clause-paused c =
+    let w : SharedValue = c.args.self.paced in
+    let v : SharedValue = c.ran_lent.new.self in
+    let k : ℕ = c.args.worker in
+    let p : Private = c.args.part in
+    let q : Private = c.ran_lent.new.part in
+    let a : LeavesPart w v c.get_mut.result.now q c.in-Ok-Leaves.leaving = subst (LentTo w v k c.get_mut.result.now q) c.in-Ok-Leaves.field-0-is c.in-Ok-Leaves.ensures.answered in
+    let part : q ≡ p = a.part ∙ c.get_mut.ensures.value in
+    subst (λ (z : SharedValue). IsPaused z k q Shared) (sym a.same) (subst (λ (r : Private). IsPaused w k r Shared) (sym part) c.requires.paused)
+
+pub enter_leaving-requires-clause-leaves : goal.enter_leaving-requires-clause-leaves
+enter_leaving-requires-clause-leaves c =
+    let w : SharedValue = c.args.self.paced in
+    let v : SharedValue = c.ran_lent.new.self in
+    let k : ℕ = c.args.worker in
+    let q : Private = c.ran_lent.new.part in
+    let a : LeavesPart w v c.get_mut.result.now q c.in-Ok-Leaves.leaving = subst (LentTo w v k c.get_mut.result.now q) c.in-Ok-Leaves.field-0-is c.in-Ok-Leaves.ensures.answered in
+    subst (λ (z : SharedValue). LeavesBy z q c.in-Ok-Leaves.leaving) (sym a.same) (subst (λ (r : Private). LeavesBy w r c.in-Ok-Leaves.leaving) (sym a.part) a.leaves)
+
+pub returns-in-Ok-Leaves : goal.returns-in-Ok-Leaves
+returns-in-Ok-Leaves c =
+    let w : SharedValue = c.args.self.paced in
+    let v : SharedValue = c.ran_lent.new.self in
+    let k : ℕ = c.args.worker in
+    let p : Private = c.args.part in
+    let q : Private = c.ran_lent.new.part in
+    let a : LeavesPart w v c.get_mut.result.now q c.in-Ok-Leaves.leaving = subst (LentTo w v k c.get_mut.result.now q) c.in-Ok-Leaves.field-0-is c.in-Ok-Leaves.ensures.answered in
+    let part : q ≡ p = a.part ∙ c.get_mut.ensures.value in
+    acts_same c.args.self v k p q a.same part c.enter_leaving.result c.enter_leaving.ensures
+
+pub wanting-requires : goal.wanting-requires
+wanting-requires c =
+    only_memory c.in-Err.cause _ (alone_free c.args.self.paced c.args.worker c.args.part c.stands.ensures c.requires.enter.free c.requires.paused.may.fits c.requires.paused.may.idle (stands_shared c.args.self.paced c.args.worker c.args.part c.requires.paused))
+    (subst (λ (r : Private). IsCaused c.in-Err.cause (refused c.args.self.paced (alone_event c.args.worker r))) c.get_mut.ensures.value c.in-Err.ensures.refused)
+
+pub returns-in-Err : goal.returns-in-Err
+returns-in-Err c =
+    c.wanting.ensures c.args.self c.args.worker (HasPaused c.args.part Shared) (Some (Ran c.args.part.task (c.args.part.fresh + 1)))
+    (unentered c.args.self.paced c.ran_lent.new.self c.in-Err.cause c.in-Err.ensures.same c.in-Err.ensures.still) (not_over c.args.self c.requires.enter.on c.requires.enter.goes)

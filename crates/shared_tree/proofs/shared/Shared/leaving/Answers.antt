@@ -15,7 +15,7 @@ use Rattle.others_objects.specs.Other.{IsOther}
 use Rattle.shared_tree.specs.Ran.{IsJoint, MayBeEntered}
 use Rattle.shared_tree.specs.contracts.shared.Shared.{the_view}
 use Rattle.shared_tree.proofs.Joints.{at_end, at_fork, at_other}
-use Rattle.shared_tree.proofs.shared.Shared.joint.Goals as goal
+use Rattle.shared_tree.proofs.shared.Shared.leaving.Goals as goal
 
 none_some : (line : Line) → ◌≡◌ {A = Option Line} None (Some line) → ⊥
 none_some line e = cc

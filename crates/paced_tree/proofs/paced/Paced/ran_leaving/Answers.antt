@@ -1,0 +1,59 @@
+use Rattle.std.proofs.Common.{◌≡◌, ◌+◌, None, sym, subst, inr, ◌∙◌}
+use Rattle.run_trace.specs.Entry.{EntryValue}
+use Rattle.run_trace.specs.declared.entry.Kind.TheVariants.{Ran}
+use Rattle.task_machine.specs.declared.part.Private.{Private}
+use Rattle.shared_value.specs.SharedValue.{SharedValue, accounts}
+use Rattle.shared_value.specs.Entered.{refused}
+use Rattle.shared_value.specs.Fits.{AllFit, Fits}
+use Rattle.own_steps.specs.Alone.{alone_event, IsShared}
+use Rattle.child_tasks.specs.Joins.{IsUnchanged}
+use Rattle.shared_tree.specs.Ran.{LeavesBy, RanTo}
+use Rattle.shared_tree.proofs.HandedOn.{failed, handed, handed_steps}
+use Rattle.counted_tree.proofs.EntryCounted.{ran_enters}
+use Rattle.paced_tree.specs.Owed.{KeepsNoted, KeepsPaces, NotesAt, Pays}
+use Rattle.paced_tree.proofs.Idle.{unchanged_kept}
+use Rattle.paced_tree.proofs.Noted.{paced_then}
+use Rattle.paced_tree.proofs.paced.Paced.ran_leaving.Goals as goal
+
+pub ran_leaving-requires-clause-fits : goal.ran_leaving-requires-clause-fits
+ran_leaving-requires-clause-fits c = subst (λ (z : SharedValue). Fits z c.args.worker c.args.part) (sym (c.get_mut-shared.ensures.value ∙ c.self.view_is)) c.requires.fits
+
+pub ran_leaving-requires-clause-shared : goal.ran_leaving-requires-clause-shared
+ran_leaving-requires-clause-shared c = subst (λ (z : SharedValue). IsShared z c.args.part) (sym (c.get_mut-shared.ensures.value ∙ c.self.view_is)) c.requires.shared
+
+pub ran_leaving-requires-clause-free : goal.ran_leaving-requires-clause-free
+ran_leaving-requires-clause-free c = subst (λ (z : SharedValue). refused z (alone_event c.args.worker c.args.part) ≡ None) (sym (c.get_mut-shared.ensures.value ∙ c.self.view_is)) c.requires.free
+
+pub ran_leaving-requires-clause-leaves : goal.ran_leaving-requires-clause-leaves
+ran_leaving-requires-clause-leaves c = subst (λ (z : SharedValue). LeavesBy z c.args.part c.args.leaving) (sym (c.get_mut-shared.ensures.value ∙ c.self.view_is)) c.requires.leaves
+
+pub invariant_of-self : goal.invariant_of-self
+invariant_of-self c = unchanged_kept c.get_mut-shared.result.now c.ran_leaving.new.self c.in_err-ran.field-0.0.cause c.self.inside.paces c.in_err-ran.ensures.same (subst (λ (z : SharedValue). KeepsPaces z c.self.inside.paces) (sym c.get_mut-shared.ensures.value) c.self.invariant)
+
+pub returns-in_err-ran-clause-refused : goal.returns-in_err-ran-clause-refused
+returns-in_err-ran-clause-refused c = handed_steps c.from_residual.result c.in_err-ran.field-0.0 None c.from_residual.ensures.1 c.in_err-ran.ensures.refused
+
+pub returns-in_err-ran-clause-same : goal.returns-in_err-ran-clause-same
+returns-in_err-ran-clause-same c =
+    handed c.from_residual.result c.in_err-ran.field-0.0 (λ e. IsUnchanged e.cause c.args.self.now c.ran_leaving.new.self) c.from_residual.ensures.1
+    (subst (λ (z : SharedValue). IsUnchanged c.in_err-ran.field-0.0.cause z c.ran_leaving.new.self) (c.get_mut-shared.ensures.value ∙ c.self.view_is) c.in_err-ran.ensures.same)
+
+pub returns-in_err-ran-clause-still : goal.returns-in_err-ran-clause-still
+returns-in_err-ran-clause-still c = failed c.from_residual.result (subst (λ (z : SharedValue). AllFit z c.ran_leaving.new.self) (c.get_mut-shared.ensures.value ∙ c.self.view_is) c.in_err-ran.ensures.still)
+
+pub returns-in_err-ran-clause-back : goal.returns-in_err-ran-clause-back
+returns-in_err-ran-clause-back c = handed c.from_residual.result c.in_err-ran.field-0.0 (λ e. e.part ≡ c.args.part) c.from_residual.ensures.1 c.in_err-ran.ensures.back
+
+pub invariant_of-self-2 : goal.invariant_of-self-2
+invariant_of-self-2 c =
+    let w : SharedValue = c.get_mut-shared.result.now in
+    let p : Private = c.args.part in
+    let e : EntryValue = alone_event c.args.worker p in
+    let free : refused w e ≡ None = subst (λ (z : SharedValue). refused z e ≡ None) (sym (c.get_mut-shared.ensures.value ∙ c.self.view_is)) c.requires.free in
+    paced_then w c.ran_leaving.new.self e c.self.inside.paces c.note_ran.new.paces c.stands.ensures (subst (λ (z : SharedValue). KeepsPaces z c.self.inside.paces) (sym c.get_mut-shared.ensures.value) c.self.invariant)
+    (ran_enters w c.ran_leaving.new.self c.args.worker p c.in_ok-ran.ran c.in_ok-ran.ensures.answered) free
+    (inr (subst (λ (z : SharedValue). Pays z e) (sym (c.get_mut-shared.ensures.value ∙ c.self.view_is)) c.requires.pays)) c.note_ran.ensures.many
+    (subst (λ (z : SharedValue). (accounts z).end ≡ None → NotesAt c.self.inside.paces c.note_ran.new.paces c.args.worker (KeepsNoted (accounts z) (Ran p.task (p.fresh + 1)))) c.shared.ensures (λ on. c.note_ran.ensures.noted on (p.fresh + 1)))
+
+pub returns-clause-answered : goal.returns-clause-answered
+returns-clause-answered c = subst (λ (z : SharedValue). RanTo z c.ran_leaving.new.self c.args.worker c.args.part c.in_ok-ran.ran) (c.get_mut-shared.ensures.value ∙ c.self.view_is) c.in_ok-ran.ensures.answered

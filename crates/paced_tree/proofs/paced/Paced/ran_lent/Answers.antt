@@ -1,0 +1,70 @@
+use Rattle.std.proofs.Common.{◌≡◌, ◌+◌, None, sym, subst, inr, ◌∙◌}
+use Rattle.run_trace.specs.Entry.{EntryValue}
+use Rattle.run_trace.specs.declared.entry.Kind.TheVariants.{Ran}
+use Rattle.task_machine.specs.declared.part.Private.{Private}
+use Rattle.shared_value.specs.SharedValue.{SharedValue, accounts}
+use Rattle.shared_value.specs.Entered.{refused, IsCaused}
+use Rattle.shared_value.specs.Fits.{AllFit, Fits}
+use Rattle.own_steps.specs.Alone.{alone_event, IsShared}
+use Rattle.child_tasks.specs.Joins.{IsUnchanged}
+use Rattle.shared_tree.specs.Ran.{LeavesPart, LentTo}
+use Rattle.shared_tree.proofs.HandedOn.{failed, handed, handed_answer}
+use Rattle.counted_tree.proofs.EntryCounted.{lent_enters}
+use Rattle.paced_tree.specs.Owed.{KeepsNoted, KeepsPaces, NotesAt, Pays}
+use Rattle.paced_tree.proofs.Idle.{unchanged_kept}
+use Rattle.paced_tree.proofs.Noted.{paced_then}
+use Rattle.paced_tree.proofs.paced.Paced.ran_lent.Goals as goal
+
+pub ran_lent-requires-clause-fits : goal.ran_lent-requires-clause-fits
+ran_lent-requires-clause-fits c = subst (λ (z : SharedValue). Fits z c.args.worker c.args.part.now) (sym (c.get_mut-shared.ensures.value ∙ c.self.view_is)) c.requires.fits
+
+pub ran_lent-requires-clause-shared : goal.ran_lent-requires-clause-shared
+ran_lent-requires-clause-shared c = subst (λ (z : SharedValue). IsShared z c.args.part.now) (sym (c.get_mut-shared.ensures.value ∙ c.self.view_is)) c.requires.shared
+
+pub invariant_of-self : goal.invariant_of-self
+invariant_of-self c = unchanged_kept c.get_mut-shared.result.now c.ran_lent.new.self c.in_err-lent.field-0.0 c.self.inside.paces c.in_err-lent.ensures.same (subst (λ (z : SharedValue). KeepsPaces z c.self.inside.paces) (sym c.get_mut-shared.ensures.value) c.self.invariant)
+
+pub returns-in_err-lent-clause-refused : goal.returns-in_err-lent-clause-refused
+returns-in_err-lent-clause-refused c =
+    handed_answer c.from_residual.result c.in_err-lent.field-0.0 (refused c.args.self.now (alone_event c.args.worker c.args.part.now)) c.from_residual.ensures.1
+    (subst (λ (z : SharedValue). IsCaused c.in_err-lent.field-0.0 (refused z (alone_event c.args.worker c.args.part.now))) (c.get_mut-shared.ensures.value ∙ c.self.view_is) c.in_err-lent.ensures.refused)
+
+pub returns-in_err-lent-clause-same : goal.returns-in_err-lent-clause-same
+returns-in_err-lent-clause-same c =
+    handed c.from_residual.result c.in_err-lent.field-0.0 (λ e. IsUnchanged e c.args.self.now c.ran_lent.new.self) c.from_residual.ensures.1
+    (subst (λ (z : SharedValue). IsUnchanged c.in_err-lent.field-0.0 z c.ran_lent.new.self) (c.get_mut-shared.ensures.value ∙ c.self.view_is) c.in_err-lent.ensures.same)
+
+pub returns-in_err-lent-clause-still : goal.returns-in_err-lent-clause-still
+returns-in_err-lent-clause-still c = failed c.from_residual.result (subst (λ (z : SharedValue). AllFit z c.ran_lent.new.self) (c.get_mut-shared.ensures.value ∙ c.self.view_is) c.in_err-lent.ensures.still)
+
+pub invariant_of-self-in_default : goal.invariant_of-self-in_default
+invariant_of-self-in_default c =
+    let w : SharedValue = c.get_mut-shared.result.now in
+    let v : SharedValue = c.ran_lent.new.self in
+    let p : Private = c.args.part.now in
+    let e : EntryValue = alone_event c.args.worker p in
+    paced_then w v e c.self.inside.paces c.note_ran.new.paces c.stands.ensures (subst (λ (z : SharedValue). KeepsPaces z c.self.inside.paces) (sym c.get_mut-shared.ensures.value) c.self.invariant)
+    (lent_enters w v c.args.worker p c.ran_lent.new.part c.in_ok-lent.lent c.in_default.not-Leaves c.in_ok-lent.ensures.answered) c.in_ok-lent.ensures.refused
+    (inr (subst (λ (z : SharedValue). Pays z e) (sym (c.get_mut-shared.ensures.value ∙ c.self.view_is)) c.requires.pays)) c.note_ran.ensures.many
+    (subst (λ (z : SharedValue). (accounts z).end ≡ None → NotesAt c.self.inside.paces c.note_ran.new.paces c.args.worker (KeepsNoted (accounts z) (Ran p.task (p.fresh + 1)))) c.shared.ensures (λ on. c.note_ran.ensures.noted on (p.fresh + 1)))
+
+pub returns-in_default-clause-refused : goal.returns-in_default-clause-refused
+returns-in_default-clause-refused c = subst (λ (z : SharedValue). refused z (alone_event c.args.worker c.args.part.now) ≡ None) (c.get_mut-shared.ensures.value ∙ c.self.view_is) c.in_ok-lent.ensures.refused
+
+pub returns-in_default-clause-answered : goal.returns-in_default-clause-answered
+returns-in_default-clause-answered c = subst (λ (z : SharedValue). LentTo z c.ran_lent.new.self c.args.worker c.args.part.now c.ran_lent.new.part c.in_ok-lent.lent) (c.get_mut-shared.ensures.value ∙ c.self.view_is) c.in_ok-lent.ensures.answered
+
+pub invariant_of-self-in-Leaves : goal.invariant_of-self-in-Leaves
+invariant_of-self-in-Leaves c =
+    let w : SharedValue = c.get_mut-shared.result.now in
+    let v : SharedValue = c.ran_lent.new.self in
+    let p : Private = c.args.part.now in
+    let q : Private = c.ran_lent.new.part in
+    let a : LeavesPart w v p q c.in-Leaves.field-0 = subst (LentTo w v c.args.worker p q) c.in-Leaves.is c.in_ok-lent.ensures.answered in
+    subst (λ (z : SharedValue). KeepsPaces z c.self.inside.paces) (sym (a.same ∙ c.get_mut-shared.ensures.value)) c.self.invariant
+
+pub returns-in-Leaves-clause-refused : goal.returns-in-Leaves-clause-refused
+returns-in-Leaves-clause-refused c = subst (λ (z : SharedValue). refused z (alone_event c.args.worker c.args.part.now) ≡ None) (c.get_mut-shared.ensures.value ∙ c.self.view_is) c.in_ok-lent.ensures.refused
+
+pub returns-in-Leaves-clause-answered : goal.returns-in-Leaves-clause-answered
+returns-in-Leaves-clause-answered c = subst (λ (z : SharedValue). LentTo z c.ran_lent.new.self c.args.worker c.args.part.now c.ran_lent.new.part c.in_ok-lent.lent) (c.get_mut-shared.ensures.value ∙ c.self.view_is) c.in_ok-lent.ensures.answered

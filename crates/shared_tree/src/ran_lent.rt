@@ -1,0 +1,92 @@
+// A part's steps are entered with its next one, which isn't private, where that one doesn't give the part up.
+
+ghost use Rattle.std.specs.Prelude.{◌≡◌, ◌<◌, OnErr, IfErr, IfOk, None};
+ghost use Rattle.shared_value.specs.Entered.{refused, Answers};
+ghost use Rattle.shared_value.specs.Fits.{AllFit, Fits};
+ghost use Rattle.own_steps.specs.Alone.{alone_event, IsShared};
+ghost use Rattle.child_tasks.specs.Joins.{IsUnchanged};
+ghost use Rattle.shared_tree.specs.Ran.{ComesTo, IsJoint, LentTo, MayBeEntered};
+
+use crate::shared::Shared;
+use hh_lang::Instr;
+use shared_value::NotEntered;
+use task_machine::Private;
+
+/// How a step gives a part up.
+#[derive(Clone, Copy)]
+pub enum Leaving {
+    /// It forks.
+    Forks,
+    /// It is the last return of a task that another one forked.
+    Ends,
+    /// It is the last return of the root.
+    Finishes,
+}
+
+/// What a part that is lent comes to by a step that isn't private.
+#[derive(Clone, Copy)]
+pub enum Lent {
+    /// Its steps are entered, and its task goes on.
+    Goes,
+    /// Its steps are entered, and the last of them has ended the run: the task stands before it.
+    Over,
+    /// Nothing is entered: its next step gives it up, and so.
+    Leaves(Leaving),
+}
+
+impl Shared {
+    // How the part's next step, in which other tasks have part, gives it up; none where it works on an object of
+    // another task.
+    fn leaving(&self, part: &Private) -> Option<Leaving>
+        requires held { MayBeEntered self.now part.now }
+        requires shared { IsShared self.now part.now }
+        requires joint { IsJoint self.now part.now }
+        ensures { ComesTo self.now part.now result }
+    {
+        let Some(line) = self.program.line(part.frames.fun(), part.frames.next()) else {
+            unreachable!()
+        };
+        match line.instr {
+            Instr::Par(_, _) => Some(Leaving::Forks),
+            Instr::Ret => Some(Leaving::Ends),
+            _ => None,
+        }
+    }
+
+    // The steps are entered with one in which other tasks have part, where it doesn't give the part up.
+    fn lent_joint(&mut self, worker: u32, part: &mut Private) -> Result<Lent, NotEntered>
+        requires room { 0 < self.old.journal.room }
+        requires fits { Fits self.old worker part.old }
+        requires shared { IsShared self.old part.old }
+        requires free { refused self.old (alone_event worker part.old) ≡ None }
+        requires joint { IsJoint self.old part.old }
+        ensures refused { Answers result None }
+        ensures same { IfErr result (λ e. IsUnchanged e self.old self.new) }
+        ensures still { OnErr result (AllFit self.old self.new) }
+        ensures back { OnErr result (part.new ≡ part.old) }
+        ensures answered { IfOk result (LentTo self.old self.new worker part.old part.new) }
+    {
+        match self.leaving(part) {
+            Some(leaving) => Ok(Lent::Leaves(leaving)),
+            None => self.ran_other(worker, part),
+        }
+    }
+
+    /// The fresh steps of a part, and its next one, which isn't private, are entered, where that one doesn't give the
+    /// part up. Where it does, or memory is wanting, nothing is, though heaps and sets may have places for more.
+    pub fn ran_lent(&mut self, worker: u32, part: &mut Private) -> Result<Lent, NotEntered>
+        requires room { 0 < self.old.journal.room }
+        requires fits { Fits self.old worker part.old }
+        requires shared { IsShared self.old part.old }
+        ensures refused { Answers result (refused self.old (alone_event worker part.old)) }
+        ensures same { IfErr result (λ e. IsUnchanged e self.old self.new) }
+        ensures still { OnErr result (AllFit self.old self.new) }
+        ensures back { OnErr result (part.new ≡ part.old) }
+        ensures answered { IfOk result (LentTo self.old self.new worker part.old part.new) }
+    {
+        match self.ran_alone(worker, part)? {
+            Some(lent) => Ok(lent),
+            None => self.lent_joint(worker, part),
+        }
+    }
+}
