@@ -237,7 +237,7 @@ module _ (p : ProgramText) (st : SettingsValue) (t : ℕ) (h : LeafHeapValue) (v
       since = refl;
       view = refl;
       count = refl;
-      inside_from = λ c o i j. inside_from (L ++ (K ++ R)) c o i j;
+      inside = λ c o i j. inside_from (L ++ (K ++ R)) c o i j;
       once = once (L ++ (K ++ R)) (moving.apart_now h (outside s b.roots) C.survivors news C.are B.new (naming.settled h (outside s b.roots) C.survivors news C.are B.new l.machine a O) (naming.reserved h (outside s b.roots) C.survivors news C.are B.new l.machine a O));
       named = named_now;
       laid = forming.laid_now h (outside s b.roots) C.survivors news C.are B.new l.machine a O;

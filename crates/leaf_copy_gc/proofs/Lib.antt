@@ -1,6 +1,6 @@
 pub mod ListLemmas
-mod Puts
-mod FoundLemmas
+pub mod Puts
+pub mod FoundLemmas
 mod Discovered
 pub mod LastChunk
 mod Upto

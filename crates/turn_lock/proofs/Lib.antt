@@ -1,5 +1,5 @@
 mod Views
 mod Keeps
 mod SplitJoin
-mod SeatLists
+pub mod SeatLists
 pub mod Laws

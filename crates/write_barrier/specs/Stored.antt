@@ -1,5 +1,5 @@
 -- What a write of a reference does to the sets of the heaps.
-use Rattle.std.specs.Prelude.{◌≡◌, ℕ, ◌<◌, Bool, true, false, List, ◌++◌, ◌&&◌, if◌then◌else◌, not, Option, Some, None, IsSome, IfSome, option_map, option_to_list, slice_get}
+use Rattle.std.specs.Prelude.{◌≡◌, ℕ, ◌<◌, Bool, true, false, List, ◌++◌, ◌==◌, ◌&&◌, if◌then◌else◌, not, Option, Some, None, IsSome, IfSome, option_map, option_to_list, slice_get}
 use Rattle.object_layout.specs.declared.word.Addr.{Addr}
 use Rattle.heap_tree.specs.Node.{Node, is_on_path}
 use Rattle.chunk_pool.specs.PoolValue.{PoolValue, slot_at, owner_of}
