@@ -1,4 +1,5 @@
 pub mod LeafHeapValue
+pub mod Counted
 pub mod Units
 pub mod FieldLaws
 pub mod PlaceLaws

@@ -2,18 +2,18 @@
 
 ghost use Rattle.std.specs.Prelude.{◌≡◌, ◌≤◌, ◌^◌, ◌<◌};
 ghost use Rattle.object_layout.specs.Place.{words_in};
-ghost use Rattle.object_layout.specs.Chunks.{held_in, held_words, object_count, one_each, small_part, small_words, sum_in};
-ghost use Rattle.alloc_path.specs.LeafHeapValue.{counted, AreWithin};
+ghost use Rattle.object_layout.specs.Chunks.{held_in, one_each, small_part, sum_in};
+ghost use Rattle.alloc_path.specs.Counted.{AreCounted};
 
 use super::space::SMALL;
 use object_layout::{Chunk, is_object_at, next_at};
 
 /// The words of objects, how many there are, and the words of the small ones.
-#[derive(Drop)]
-pub(crate) struct Counts {
-    pub(crate) words: u64,
-    pub(crate) objects: u64,
-    pub(crate) small: u64,
+#[derive(Clone, Copy)]
+pub struct Counts {
+    pub words: u64,
+    pub objects: u64,
+    pub small: u64,
 }
 
 /// The words of an object, if it is small.
@@ -24,11 +24,8 @@ pub(crate) fn small_part(words: u32) -> u32
 }
 
 /// What all objects of these chunks come to.
-pub(crate) fn counts_of(chunks: &[Chunk]) -> Counts
-    ensures words { result.words ≡ counted (held_words chunks.now) }
-    ensures objects { result.objects ≡ counted (object_count chunks.now) }
-    ensures small { result.small ≡ counted (small_words chunks.now) }
-    ensures within { AreWithin chunks.now }
+pub fn counts_of(chunks: &[Chunk]) -> Counts
+    ensures { AreCounted chunks.now result }
 {
     let mut words = 0u64;
     let mut objects = 0u64;

@@ -4,9 +4,10 @@ ghost use Rattle.std.specs.Prelude.{◌≡◌, ℕ, ◌+◌, ◌-◌, ◌^◌, �
 ghost use Rattle.std.specs.Option.{option_or};
 ghost use Rattle.std.specs.HashMap.{get, hash_map_len, spare};
 ghost use Rattle.object_layout.specs.Chunks.{chunk_at, place_in};
+ghost use Rattle.alloc_path.specs.Counted.{AreCounted};
 ghost use Rattle.alloc_path.specs.LeafHeapValue.{exchanged, merged, with_places, AreApart, IsCurrent, IsReserved};
 
-use super::counts::counts_of;
+use super::counts::Counts;
 use super::row::Row;
 use super::space::{BASE, Space};
 use object_layout::Chunk;
@@ -30,22 +31,24 @@ impl Space {
         self.chunks.take()
     }
 
-    /// Puts these chunks in place of the heap's own, which are let go: at which place the small
-    /// chunk stands that is filled from then on, and at which the reserved one. It takes no memory.
+    /// Puts these chunks in place of the heap's own, which are let go: with what they hold, counted; at which place the
+    /// small chunk stands that is filled from then on, and at which the reserved one. It takes no memory, and looks at no
+    /// object.
     pub fn put_chunks(
         &mut self,
         chunks: Vec<Chunk>,
+        counts: Counts,
         current: Option<usize>,
         reserved: Option<usize>,
     )
         requires apart { AreApart chunks.items }
+        requires counted { AreCounted chunks.items counts }
         requires current { IsCurrent chunks.items current }
         requires reserved { IsReserved chunks.items reserved }
         requires spare { length chunks.items ≤ self.old.spare }
         ensures put { self.new ≡ with_places (exchanged self.old chunks.items current reserved) self.new.slots self.new.spare }
         ensures spare { self.old.spare ≤ self.new.spare + length chunks.items }
     {
-        let counts = counts_of(&chunks);
         self.words = counts.words;
         self.objects = counts.objects;
         self.small = counts.small;

@@ -13,6 +13,7 @@ mod shelf;
 mod space;
 mod view;
 
+pub use counts::{Counts, counts_of};
 pub use heap::LeafHeap;
 pub use laws::{objects_are_near, placed_is_read, put_where_placed, writes_keep_counts};
 pub use space::{New, Space};

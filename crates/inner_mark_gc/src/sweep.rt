@@ -10,7 +10,7 @@ ghost use Rattle.inner_mark_gc.specs.MarkingValue.{has_address, marked_of, HasRo
 ghost use Rattle.inner_mark_gc.specs.Swept.{gone_of, goes, has_number, has_object, is_object, number_at, place_at, stays, swept, swept_cell, swept_chunk, AreGiven};
 
 use crate::marking::Marking;
-use alloc_path::LeafHeap;
+use alloc_path::{LeafHeap, counts_of};
 use chunk_pool::Pool;
 use object_layout::{Addr, Chunk, drop_at, is_object_at, next_at};
 
@@ -49,7 +49,8 @@ impl Marking {
         let units = self.part(chunks, reserved, &mut left, pool);
         let filled = place_of(&left, current);
         let kept = place_of(&left, reserved);
-        space.put_chunks(left, filled, kept);
+        let counts = counts_of(&left);
+        space.put_chunks(left, counts, filled, kept);
         heap.close(space);
         units
     }

@@ -21,6 +21,7 @@ pub mod Rebuilt
 pub mod Naming
 pub mod Order
 pub mod Tidied
+mod Packing
 mod Collecting
 pub mod Reading
 pub mod Needs

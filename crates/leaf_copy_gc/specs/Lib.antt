@@ -3,6 +3,7 @@ pub mod CollectorValue
 pub mod Near
 pub mod Search
 pub mod Laid
+pub mod Packed
 pub mod Copying
 pub mod Redirected
 pub mod Exchanged

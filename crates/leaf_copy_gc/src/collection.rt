@@ -11,6 +11,7 @@ ghost use Rattle.leaf_copy_gc.specs.Lists.{AreReserved, IsCollected};
 use crate::collector::Collector;
 use crate::exchange::{counted, exchange, name_larges, units_of};
 use crate::lists::{Moved, ToChunks};
+use crate::packed::counts_of_packed;
 use crate::sorting::sort;
 use alloc_path::{LeafHeap, Space};
 use object_layout::{Addr, Chunk};
@@ -81,8 +82,9 @@ fn collect(heap: Space, frames: &mut Frames, roots: &[Addr], to_chunks: ToChunks
     } = collector;
     sort(&mut moved);
     let taken = count_of(&laid);
+    let counts = counts_of_packed(&laid, moved.len());
     let reserved = heap.reserved();
-    let are_large = exchange(&mut heap, laid, reserved, &mut back);
+    let are_large = exchange(&mut heap, laid, counts, reserved, &mut back);
     give_rest(&mut back, &mut spare);
     name_larges(&mut heap, &found, are_large);
     heap.reset_since();

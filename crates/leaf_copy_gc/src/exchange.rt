@@ -2,13 +2,15 @@
 
 ghost use Rattle.std.specs.Prelude.{◌≡◌, ◌+◌, ◌-◌, ◌≤◌, ◌<◌, ◌++◌, ◌∷◌, [], length, vec_len, vec_capacity, fold, filter, map, remove, false, None, Some};
 ghost use Rattle.object_layout.specs.Chunks.{held_words};
+ghost use Rattle.alloc_path.specs.Counted.{AreCounted};
 ghost use Rattle.alloc_path.specs.LeafHeapValue.{exchanged, with_places, AreApart, IsCurrent, IsReserved};
 ghost use Rattle.leaf_copy_gc.specs.Survivors.{with_chunks};
 ghost use Rattle.leaf_copy_gc.specs.Exchanged.{counted32, emptied, goes, last_place, named, reserved_of, reserved_place, stays, unit_count, unreserved, CanName};
 
 use crate::copying::SMALL;
 use crate::lists::Survivor;
-use alloc_path::Space;
+use crate::packed::counts_with;
+use alloc_path::{Counts, Space};
 use object_layout::{Chunk, is_born_at, is_object_at, next_at};
 
 // Whether the chunk holds a large object that was found.
@@ -111,17 +113,19 @@ pub fn name_larges(heap: &mut Space, found: &[Survivor], are_large: bool)
     }
 }
 
-/// Takes the old chunks out, and puts in the new ones, those of large objects that were found, and the reserved one. It
-/// says whether there are any of large objects.
+/// Takes the old chunks out, and puts in the new ones, with what they hold, those of large objects that were found, and
+/// the reserved one. It says whether there are any of large objects.
 pub fn exchange(
     heap: &mut Space,
     mut laid: Vec<Chunk>,
+    counts: Counts,
     reserved: Option<usize>,
     back: &mut Vec<Chunk>,
 ) -> bool
     requires place { reserved ≡ heap.old.reserved }
     requires empty { IsReserved heap.old.chunks reserved }
     requires apart { AreApart (laid.items ++ (filter stays (unreserved heap.old.chunks reserved) ++ reserved_of heap.old.chunks reserved)) }
+    requires counted { AreCounted laid.items counts }
     requires small { IsCurrent laid.items (last_place laid.items) }
     requires laid { vec_len laid + length heap.old.chunks ≤ vec_capacity laid }
     requires back { vec_len back.old + length heap.old.chunks ≤ vec_capacity back.old }
@@ -137,7 +141,8 @@ pub fn exchange(
     match reserved {
         None => {
             let any = part(old, &mut laid, back);
-            heap.put_chunks(laid, current, None);
+            let counts = counts_with(&laid, counts, any);
+            heap.put_chunks(laid, counts, current, None);
             any
         }
         Some(i) => {
@@ -145,7 +150,8 @@ pub fn exchange(
             let any = part(old, &mut laid, back);
             let place = laid.len();
             laid.push_reserved(kept);
-            heap.put_chunks(laid, current, Some(place));
+            let counts = counts_with(&laid, counts, any);
+            heap.put_chunks(laid, counts, current, Some(place));
             any
         }
     }

@@ -10,6 +10,7 @@ mod exchange;
 mod laws;
 mod lists;
 mod near;
+mod packed;
 mod redirect;
 mod reserving;
 mod sorting;

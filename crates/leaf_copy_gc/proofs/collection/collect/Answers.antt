@@ -1,5 +1,6 @@
-use Rattle.std.proofs.Common.{◌≡◌, ℕ, List, length, fold, reverse, refl, sym, ap, ◌∙◌, subst, arith, Option, All}
+use Rattle.std.proofs.Common.{◌≡◌, ℕ, ◌+◌, ◌*◌, ◌/◌, ◌≤◌, List, length, fold, reverse, refl, sym, ap, ◌∙◌, subst, arith, Option, All}
 use Rattle.std.proofs.lemmas.List.{length-map, length-reverse}
+use Rattle.std.proofs.lemmas.List.Sorted.{length_permutation}
 use Rattle.object_layout.specs.declared.word.Addr.{Addr}
 use Rattle.object_layout.specs.ChunkValue.{ChunkValue}
 use Rattle.object_layout.specs.Graph.{IsClosed, IsSound}
@@ -9,17 +10,19 @@ use Rattle.leaf_copy_gc.specs.declared.lists.Survivor.{Survivor}
 use Rattle.leaf_copy_gc.specs.Survivors.{olds, outside, with_chunks}
 use Rattle.leaf_copy_gc.specs.CollectorValue.{CollectorValue}
 use Rattle.leaf_copy_gc.specs.Redirected.{led_chunk}
-use Rattle.leaf_copy_gc.specs.Collected.{laying_of, redirection}
+use Rattle.leaf_copy_gc.specs.Packed.{ArePacked}
+use Rattle.leaf_copy_gc.specs.Collected.{laying_of, moves_of, redirection}
 use Rattle.leaf_copy_gc.specs.Evacuated.{Begins, IsEvacuated}
 use Rattle.leaf_copy_gc.specs.Exchanged.{counted32, named, unit_count, CanName}
 use Rattle.leaf_copy_gc.proofs.Collecting as collecting
 use Rattle.leaf_copy_gc.proofs.Numbers as nums
 use Rattle.leaf_copy_gc.proofs.Order as orders
 use Rattle.leaf_copy_gc.proofs.Moves as moves
+use Rattle.leaf_copy_gc.proofs.Packing as packing
 use Rattle.leaf_copy_gc.proofs.Places as places
 use Rattle.std.specs.List.Sorted.{IsPermutation}
 use Rattle.listed.proofs.Members.{contains_from_in}
-use Rattle.leaf_copy_gc.specs.Laid.{before, smalls}
+use Rattle.leaf_copy_gc.specs.Laid.{before, small_words, smalls}
 use Rattle.leaf_copy_gc.proofs.collection.collect.Goals as goal
 
 pub evacuate-requires-clause-begins : goal.evacuate-requires-clause-begins
@@ -40,6 +43,24 @@ evacuate-requires-clause-closed c = subst (λ (z : CollectorValue). IsClosed z.h
 
 pub evacuate-requires-clause-outside : goal.evacuate-requires-clause-outside
 evacuate-requires-clause-outside c = subst (λ (z : CollectorValue). All (IsSound z.heap.chunks) (outside c.args.frames.now c.args.roots.now)) (sym c.of-collector.ensures) c.requires.outside
+
+pub counts_of_packed-counts-requires : goal.counts_of_packed-counts-requires
+counts_of_packed-counts-requires c =
+    let h : List ChunkValue = c.args.heap.chunks in
+    let news : List ChunkValue = c.args.to_chunks.chunks.items in
+    let b : CollectorValue = record { heap = c.args.heap; found = c.args.to_chunks.found.items; laying = record { laid = c.args.to_chunks.laid.items; spare = reverse news }; moved = c.args.to_chunks.lists.moved.items } in
+    let k : CollectorValue = record { heap = c.collector.inside.heap; found = c.collector.inside.found.items; laying = record { laid = c.collector.inside.laid.items; spare = reverse c.collector.inside.spare.items }; moved = c.collector.inside.moved.items } in
+    let e : IsEvacuated b c.args.frames.now c.args.roots.now k c.evacuate.new.frames = subst (λ (z : CollectorValue). IsEvacuated b c.args.frames.now c.args.roots.now z c.evacuate.new.frames) (sym c.collector.view_is) (subst (λ (y : CollectorValue). IsEvacuated y c.args.frames.now c.args.roots.now c.evacuate.new.self c.evacuate.new.frames) c.of-collector.ensures c.evacuate.ensures) in
+    let ss : List Survivor = c.collector.inside.found.items in
+    let laid : List ChunkValue = c.collector.inside.laid.items in
+    let s = e.survivors in
+    let turned : length (reverse news) ≡ length news = length-reverse news in
+    let enough : 2 * ((small_words h + 1023) / 1024) ≤ length (reverse news) + 1 = rw turned c.requires.enough in
+    let permuted = subst (λ (ms : List (Addr × Addr)). IsPermutation ms c.sort.new.list.items) e.moved c.sort.ensures.permutation in
+    let many : length c.sort.new.list.items ≡ length (moves_of h ss (reverse news)) = length_permutation (moves_of h ss (reverse news)) c.sort.new.list.items permuted in
+    let count : c.len.result ≡ length (moves_of h ss (reverse news)) = omega arith in
+    subst (λ (ks : List ChunkValue). ArePacked ks c.len.result) (sym c.deref-2.ensures.value)
+    (packing.packed h ss (reverse news) s.names (once_from (olds ss) s.once) (nums.new_reverse news c.requires.new) enough (redirection h ss (reverse news)) laid e.laid c.len.result count)
 
 pub exchange-are_large-requires-clause-apart : goal.exchange-are_large-requires-clause-apart
 exchange-are_large-requires-clause-apart c =
@@ -141,7 +162,7 @@ name_larges-requires-clause-can c =
     let r : Option ℕ = c.reserved-reserved.result in
     let s = e.survivors in
     let chunks = ap (λ (x : LeafHeapValue). x.chunks) c.exchange-are_large.ensures.heap in
-    subst (CanName c.exchange-are_large.new.heap.chunks) (sym c.deref-2.ensures.value)
+    subst (CanName c.exchange-are_large.new.heap.chunks) (sym c.deref-3.ensures.value)
     (subst (λ (ks : List ChunkValue). CanName ks ss) (sym chunks) (collecting.can_name h g.chunks ss news r laid e.left c.requires.tidy c.requires.apart c.requires.new (once_from (olds ss) s.once) s.names c.reserved-reserved.ensures.empty e.laid))
 
 pub name_larges-requires-clause-none : goal.name_larges-requires-clause-none
@@ -157,7 +178,7 @@ name_larges-requires-clause-none c =
     let r : Option ℕ = c.reserved-reserved.result in
     let s = e.survivors in
     let chunks = ap (λ (x : LeafHeapValue). x.chunks) c.exchange-are_large.ensures.heap in
-    λ no. ap (λ (xs : List Survivor). fold named c.exchange-are_large.new.heap.chunks xs) c.deref-2.ensures.value
+    λ no. ap (λ (xs : List Survivor). fold named c.exchange-are_large.new.heap.chunks xs) c.deref-3.ensures.value
     ∙ (ap (λ (ks : List ChunkValue). fold named ks ss) chunks ∙ (collecting.none_named h g.chunks ss news r laid e.left c.requires.tidy c.requires.apart c.requires.new (once_from (olds ss) s.once) s.names c.reserved-reserved.ensures.empty e.laid (c.exchange-are_large.ensures.none no) ∙ sym chunks))
 
 pub returns-clause-collected : goal.returns-clause-collected
@@ -178,13 +199,13 @@ returns-clause-collected c =
       survivors = ss;
       are = s;
       heap = collecting.heap_is h g.chunks ss news r laid e.left c.requires.tidy c.requires.apart c.requires.new (once_from (olds ss) s.once) s.names c.reserved-reserved.ensures.empty e.laid c.args.heap r_is refl c.exchange-are_large.new.heap c.name_larges.new.heap c.reset_since.new.self g c.exchange-are_large.ensures.heap
-          (c.name_larges.ensures ∙ ap (λ (xs : List Survivor). with_chunks c.exchange-are_large.new.heap (fold named c.exchange-are_large.new.heap.chunks xs)) c.deref-2.ensures.value) c.reset_since.ensures;
+          (c.name_larges.ensures ∙ ap (λ (xs : List Survivor). with_chunks c.exchange-are_large.new.heap (fold named c.exchange-are_large.new.heap.chunks xs)) c.deref-3.ensures.value) c.reset_since.ensures;
       frames = e.frames;
       moved = permuted;
       order = orders.moved_in_order (before (reverse news)) h (smalls h (olds ss)) c.sort.new.list.items permuted c.sort.ensures.sorted (moves.once_smalls h (olds ss) (once_from (olds ss) s.once))
           (λ a i. orders.survivor_place h (outside c.args.frames.now c.args.roots.now) c.requires.closed c.requires.outside a ((s.exactly a).0 (contains_from_in (olds ss) a (moves.in_smalls h (olds ss) a i).0)));
       taken = c.count_of-taken.ensures ∙ ap (λ (ks : List ChunkValue). counted32 (length ks)) (c.deref.ensures.value ∙ e.laid);
-      given = c.units_of.ensures ∙ ap (λ (ks : List ChunkValue). counted32 (unit_count ks)) c.deref-3.ensures.value;
+      given = c.units_of.ensures ∙ ap (λ (ks : List ChunkValue). counted32 (unit_count ks)) c.deref-4.ensures.value;
       left = c.counted.ensures ∙ (ap counted32 c.words.ensures ∙ omega arith);
       back = c.give_rest.ensures ∙ collecting.back_is h g.chunks ss news r laid e.left c.requires.tidy c.requires.apart c.requires.new (once_from (olds ss) s.once) s.names c.reserved-reserved.ensures.empty e.laid c.args.heap r_is c.args.to_chunks.lists.back.items c.requires.reserved.back c.collector.inside.spare.items e.spare c.exchange-are_large.new.back.items c.exchange-are_large.ensures.back;
     }
@@ -203,4 +224,4 @@ returns-clause-settled c =
     let s = e.survivors in
     collecting.settled_now h g.chunks ss news r laid e.left c.requires.tidy c.requires.apart c.requires.new (once_from (olds ss) s.once) s.names c.reserved-reserved.ensures.empty e.laid
     c.exchange-are_large.new.heap c.name_larges.new.heap c.reset_since.new.self (ap (λ (x : LeafHeapValue). x.chunks) c.exchange-are_large.ensures.heap)
-    (c.name_larges.ensures ∙ ap (λ (xs : List Survivor). with_chunks c.exchange-are_large.new.heap (fold named c.exchange-are_large.new.heap.chunks xs)) c.deref-2.ensures.value) c.reset_since.ensures
+    (c.name_larges.ensures ∙ ap (λ (xs : List Survivor). with_chunks c.exchange-are_large.new.heap (fold named c.exchange-are_large.new.heap.chunks xs)) c.deref-3.ensures.value) c.reset_since.ensures

@@ -1,6 +1,7 @@
 use Rattle.std.proofs.Common.{◌≡◌, ◌∙◌, ◌++◌, ◌≤◌, ap, arith, filter, length, map, sym, subst, ℕ, List, Option}
 use Rattle.object_layout.specs.declared.word.Addr.{Addr}
 use Rattle.object_layout.specs.ChunkValue.{ChunkValue}
+use Rattle.alloc_path.specs.Counted.{AreCounted}
 use Rattle.alloc_path.specs.LeafHeapValue.{AreApart, LeafHeapValue, IsCurrent, IsReserved, IsSettled}
 use Rattle.inner_mark_gc.specs.Swept.{number_at, place_at, stays, swept_chunk}
 use Rattle.inner_mark_gc.proofs.Kept as kept
@@ -16,6 +17,9 @@ put_chunks-requires-clause-apart c =
     let is : c.part-units.new.left.items ≡ map (swept_chunk c.take_list-left.new.self.found) (filter (stays c.take_list-left.new.self.found c.number_of-reserved.result) c.take_chunks-chunks.result.items) =
     c.part-units.ensures.left ∙ ap (λ (xs : List ChunkValue). xs ++ left) c.take_list-left.ensures.empty in
     subst AreApart (sym is) (kept.now_apart found reserved ks settled)
+
+pub put_chunks-requires-clause-counted : goal.put_chunks-requires-clause-counted
+put_chunks-requires-clause-counted c = subst (λ (ks : List ChunkValue). AreCounted ks c.counts_of-counts.result) c.deref-3.ensures.value c.counts_of-counts.ensures
 
 pub put_chunks-requires-clause-current : goal.put_chunks-requires-clause-current
 put_chunks-requires-clause-current c =

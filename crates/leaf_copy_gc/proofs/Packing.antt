@@ -1,0 +1,188 @@
+-- New chunks hold nothing but small objects, as many as were moved.
+use Rattle.std.proofs.Common.{◌≡◌, ℕ, suc, ◌+◌, ◌*◌, ◌/◌, ◌<◌, ◌≤◌, Bool, true, false, cond, List, [], ◌∷◌, ◌++◌, length, map, refl, sym, ap, ap₂, ◌∙◌, subst, arith, inl, inr, Option}
+use Rattle.std.specs.Prelude.{nat_lt}
+use Rattle.std.proofs.lemmas.Bool.{le-leb, leb-true}
+use Rattle.std.proofs.lemmas.List.{append-nil}
+use Rattle.std.proofs.lemmas.List.Elements.{All-push}
+use Rattle.object_layout.specs.declared.word.Addr.{Addr}
+use Rattle.object_layout.specs.Cell.{Born, Cell, Hole, IsBorn, IsObject, Mark, Moved, size_of}
+use Rattle.object_layout.specs.ChunkValue.{ChunkValue}
+use Rattle.object_layout.specs.Chunks.{cell_of, held_in, held_size, held_words, one_each, small_part, sum_in, sum_of}
+use Rattle.object_layout.specs.Graph.{IsHeld}
+use Rattle.object_layout.specs.Place.{words_in}
+use Rattle.object_layout.proofs.ChunkLaws as laws
+use Rattle.object_layout.proofs.Distinct.{Once}
+use Rattle.object_layout.proofs.PlaceLemmas as place
+use Rattle.listed.specs.Members.{In}
+use Rattle.alloc_path.specs.Counted.{AreCounted}
+use Rattle.alloc_path.specs.declared.counts.Counts.{Counts}
+use Rattle.alloc_path.proofs.HeapLemmas as heap
+use Rattle.leaf_copy_gc.specs.declared.lists.Survivor.{Survivor}
+use Rattle.leaf_copy_gc.specs.Survivors.{olds, HaveNames}
+use Rattle.leaf_copy_gc.specs.Laid.{before, is_small, laid_all, laid_one, open_next, opened, placed, relocations, room_in, small_words, smalls, AreNew, HaveRoom, Laying}
+use Rattle.leaf_copy_gc.specs.Packed.{used_words, ArePacked}
+use Rattle.leaf_copy_gc.specs.Redirected.{led_cell, led_chunk}
+use Rattle.leaf_copy_gc.specs.Collected.{laying_of, moves_of}
+use Rattle.leaf_copy_gc.proofs.FollowLemmas.{size_led}
+use Rattle.leaf_copy_gc.proofs.LastChunk.{some_room}
+use Rattle.listed.proofs.Places.{read_in}
+use Rattle.leaf_copy_gc.proofs.Moves as moves
+use Rattle.leaf_copy_gc.proofs.Naming.{in_unmap}
+use Rattle.leaf_copy_gc.proofs.Rooms as rooms
+
+-- ---- an object more
+
+used_placed : (ks : List ChunkValue) (c : Cell) → 0 < length ks → used_words (placed ks c) ≡ used_words ks + size_of c
+used_placed [] c l = absurd (omega arith)
+used_placed (k ∷ []) c l = let e = place.words_in-push k.cells c in omega arith
+used_placed (k ∷ (x ∷ ks)) c l = let ih = used_placed (x ∷ ks) c (omega arith) in omega arith
+
+held_placed : (ks : List ChunkValue) (c : Cell) → 0 < length ks → held_words (placed ks c) ≡ held_words ks + held_size c.mark (size_of c)
+held_placed [] c l = absurd (omega arith)
+held_placed (k ∷ []) c l = let e = heap.held_in-push k.cells c in omega arith
+held_placed (k ∷ (x ∷ ks)) c l = let ih = held_placed (x ∷ ks) c (omega arith) in omega arith
+
+sum_placed : (f : ℕ → ℕ) (ks : List ChunkValue) (c : Cell) → 0 < length ks → sum_of f (placed ks c) ≡ sum_of f ks + held_size c.mark (f (size_of c))
+sum_placed f [] c l = absurd (omega arith)
+sum_placed f (k ∷ []) c l = let e = heap.sum_in-push f k.cells c in omega arith
+sum_placed f (k ∷ (x ∷ ks)) c l = let ih = sum_placed f (x ∷ ks) c (omega arith) in omega arith
+
+object_held : (m : Mark) (n : ℕ) → IsObject m → held_size m n ≡ n
+object_held (Born b) n o = refl
+object_held (Moved to) n o = refl
+object_held Hole n o = absurd o
+
+part_whole : (n : ℕ) → n ≤ 1024 → small_part n ≡ n
+part_whole n l = rw (le-leb n 1024 l) refl
+
+packed_placed : (ks : List ChunkValue) (c : Cell) (n : ℕ) → 0 < length ks → IsObject c.mark → size_of c ≤ 1024 → ArePacked ks n → ArePacked (placed ks c) (n + 1)
+packed_placed ks c n some o l p =
+    let used = used_placed ks c some in
+    let held = held_placed ks c some in
+    let part = sum_placed small_part ks c some in
+    let each = sum_placed one_each ks c some in
+    let whole : held_size c.mark (size_of c) ≡ size_of c = object_held c.mark (size_of c) o in
+    let small : held_size c.mark (small_part (size_of c)) ≡ size_of c = object_held c.mark (small_part (size_of c)) o ∙ part_whole (size_of c) l in
+    let one : held_size c.mark (one_each (size_of c)) ≡ 1 = object_held c.mark 1 o in
+    record {
+      full = held ∙ (ap₂ ◌+◌ p.full whole ∙ sym used);
+      small = part ∙ (ap₂ ◌+◌ p.small small ∙ sym used);
+      count = each ∙ ap₂ ◌+◌ p.count one;
+    }
+
+-- ---- a chunk more
+
+pub used_push : (ks : List ChunkValue) (k : ChunkValue) → used_words (ks ++ k ∷ []) ≡ used_words ks + words_in k.cells
+used_push [] k = omega arith
+used_push (x ∷ ks) k = let ih = used_push ks k in omega arith
+
+packed_next : (laid spare : List ChunkValue) (n : ℕ) → AreNew spare → ArePacked laid n → ArePacked (open_next laid spare).laid n × AreNew (open_next laid spare).spare
+packed_next laid [] n new p = (p, new)
+packed_next laid (k ∷ ks) n new p =
+    let none : words_in k.cells ≡ 0 = ap words_in new.0.0 in
+    let no_held : held_words (k ∷ []) ≡ 0 = ap (λ (cs : List Cell). held_in cs + 0) new.0.0 in
+    let no_sum : (f : ℕ → ℕ) → sum_of f (k ∷ []) ≡ 0 = λ f. ap (λ (cs : List Cell). sum_in f cs + 0) new.0.0 in
+    let used : used_words (laid ++ k ∷ []) ≡ used_words laid = used_push laid k ∙ omega arith in
+    let held : held_words (laid ++ k ∷ []) ≡ held_words laid = heap.held_words-append laid (k ∷ []) ∙ omega arith in
+    let sum : (f : ℕ → ℕ) → sum_of f (laid ++ k ∷ []) ≡ sum_of f laid = λ f. let z : sum_of f (k ∷ []) ≡ 0 = no_sum f in heap.sum_of-append f laid (k ∷ []) ∙ omega arith in
+    (record { full = held ∙ (p.full ∙ sym used); small = sum small_part ∙ (p.small ∙ sym used); count = sum one_each ∙ p.count }, new.1)
+
+packed_opened : (y : Laying) (b : Bool) (n : ℕ) → AreNew y.spare → ArePacked y.laid n → ArePacked (cond b (open_next y.laid y.spare) y).laid n × AreNew (cond b (open_next y.laid y.spare) y).spare
+packed_opened y true n new p = packed_next y.laid y.spare n new p
+packed_opened y false n new p = (p, new)
+
+-- ---- all objects
+
+all_packed : (y : Laying) (h : List ChunkValue) (xs : List Addr) (n : ℕ) → ((a : Addr) → In xs a → IsObject (cell_of h a).mark × (size_of (cell_of h a) ≤ 1024)) → HaveRoom y h xs → AreNew y.spare → ArePacked y.laid n
+    → ArePacked (laid_all y h xs).laid (n + length xs)
+all_packed y h [] n f room new p = let e : n ≡ n + 0 = omega arith in subst (ArePacked y.laid) e p
+all_packed y h (a ∷ xs) n f room new p =
+    let next = packed_opened y (nat_lt (room_in y.laid) (size_of (cell_of h a))) n new p in
+    let some = some_room (opened y (size_of (cell_of h a))).laid (cell_of h a) room.0.0 in
+    let one = packed_placed (opened y (size_of (cell_of h a))).laid (cell_of h a) n some (f a (inl refl)).0 (f a (inl refl)).1 next.0 in
+    let e : n + 1 + length xs ≡ n + suc (length xs) = omega arith in
+    subst (ArePacked (laid_all (laid_one y (cell_of h a)) h xs).laid) e (all_packed (laid_one y (cell_of h a)) h xs (n + 1) (λ b i. f b (inr i)) room.1 next.1 one)
+
+length_moves : (y : Laying) (h : List ChunkValue) (xs : List Addr) → length (relocations y h xs) ≡ length xs
+length_moves y h [] = refl
+length_moves y h (a ∷ xs) = ap suc (length_moves (laid_one y (cell_of h a)) h xs)
+
+-- ---- with references led
+
+module _ (f : Option Addr → Option Addr) where
+  used_led : (cs : List Cell) → words_in (map (led_cell f) cs) ≡ words_in cs
+  used_led [] = refl
+  used_led (c ∷ cs) = ap₂ ◌+◌ (size_led f c) (used_led cs)
+
+  held_led : (cs : List Cell) → held_in (map (led_cell f) cs) ≡ held_in cs
+  held_led [] = refl
+  held_led (c ∷ cs) = ap₂ ◌+◌ (ap (held_size c.mark) (size_led f c)) (held_led cs)
+
+  sum_led : (g : ℕ → ℕ) (cs : List Cell) → sum_in g (map (led_cell f) cs) ≡ sum_in g cs
+  sum_led g [] = refl
+  sum_led g (c ∷ cs) = ap₂ ◌+◌ (ap (λ (n : ℕ). held_size c.mark (g n)) (size_led f c)) (sum_led g cs)
+
+  all_used : (ks : List ChunkValue) → used_words (map (led_chunk f) ks) ≡ used_words ks
+  all_used [] = refl
+  all_used (k ∷ ks) = ap₂ ◌+◌ (used_led k.cells) (all_used ks)
+
+  all_held : (ks : List ChunkValue) → held_words (map (led_chunk f) ks) ≡ held_words ks
+  all_held [] = refl
+  all_held (k ∷ ks) = ap₂ ◌+◌ (held_led k.cells) (all_held ks)
+
+  all_sum : (g : ℕ → ℕ) (ks : List ChunkValue) → sum_of g (map (led_chunk f) ks) ≡ sum_of g ks
+  all_sum g [] = refl
+  all_sum g (k ∷ ks) = ap₂ ◌+◌ (sum_led g k.cells) (all_sum g ks)
+
+  packed_led : (ks : List ChunkValue) (n : ℕ) → ArePacked ks n → ArePacked (map (led_chunk f) ks) n
+  packed_led ks n p = record {
+    full = all_held ks ∙ (p.full ∙ sym (all_used ks));
+    small = all_sum small_part ks ∙ (p.small ∙ sym (all_used ks));
+    count = all_sum one_each ks ∙ p.count;
+  }
+
+-- ---- the new chunks of a collection
+
+module _ (h : List ChunkValue) (ss : List Survivor) (spare : List ChunkValue) (names : HaveNames h ss) (once : Once (olds ss)) (new : AreNew spare)
+    (enough : 2 * ((small_words h + 1023) / 1024) ≤ length spare + 1) where
+  lives : (a : Addr) → In (olds ss) a → IsHeld h a
+  lives a i =
+      let u = in_unmap ss a i in
+      subst (IsHeld h) u.1.1 (subst IsBorn (sym (read_in (λ (x : Survivor). (cell_of h x.old).mark ≡ Born x.birth) ss u.0 u.1.0 names)) tt)
+
+  small : (a : Addr) → In (smalls h (olds ss)) a → IsHeld h a × (is_small h a ≡ true)
+  small a i = let p = moves.in_smalls h (olds ss) a i in (lives a p.0, p.1)
+
+  room : HaveRoom (before spare) h (smalls h (olds ss))
+  room =
+      let most = rooms.sizes_most h (smalls h (olds ss)) (moves.once_smalls h (olds ss) once) small in
+      let up : small_words h ≤ 1024 * ((small_words h + 1023) / 1024) = omega arith in
+      rooms.enough_room h ((small_words h + 1023) / 1024) spare (smalls h (olds ss)) new (omega arith) enough (λ a i. leb-true (size_of (cell_of h a)) 1024 (small a i).1)
+
+  pub packed : (f : Option Addr → Option Addr) (laid : List ChunkValue) → laid ≡ map (led_chunk f) (laying_of h ss spare).laid → (n : ℕ) → n ≡ length (moves_of h ss spare) → ArePacked laid n
+  packed f laid is n count =
+      let all = all_packed (before spare) h (smalls h (olds ss)) 0 (λ a i. (laws.born_object h a (small a i).0, leb-true (size_of (cell_of h a)) 1024 (small a i).1)) room new (record { full = refl; small = refl; count = refl }) in
+      let many = length_moves (before spare) h (smalls h (olds ss)) in
+      let e : 0 + length (smalls h (olds ss)) ≡ n = omega arith in
+      subst (λ (ks : List ChunkValue). ArePacked ks n) (sym is) (packed_led f (laying_of h ss spare).laid n (subst (ArePacked (laying_of h ss spare).laid) e all))
+
+-- ---- what was counted still counts
+
+-- where no chunk came to these
+pub counted_still : (ks ls is : List ChunkValue) (n : Counts) → is ≡ ks ++ ls → ls ≡ [] → AreCounted ks n → AreCounted is n
+counted_still ks ls is n e none c = subst (λ (xs : List ChunkValue). AreCounted xs n) (sym (e ∙ (ap (λ (xs : List ChunkValue). ks ++ xs) none ∙ append-nil ks))) c
+
+-- where an empty one came
+pub counted_empty : (ks is : List ChunkValue) (k : ChunkValue) (n : Counts) → is ≡ ks ++ k ∷ [] → k.cells ≡ [] → AreCounted ks n → AreCounted is n
+counted_empty ks is k n e none c =
+    let no_words : words_in k.cells ≡ 0 = ap words_in none in
+    let no_held : held_words (k ∷ []) ≡ 0 = ap (λ (cs : List Cell). held_in cs + 0) none in
+    let no_sum : (f : ℕ → ℕ) → sum_of f (k ∷ []) ≡ 0 = λ f. ap (λ (cs : List Cell). sum_in f cs + 0) none in
+    let held : held_words (ks ++ k ∷ []) ≡ held_words ks = heap.held_words-append ks (k ∷ []) ∙ omega arith in
+    let sum : (f : ℕ → ℕ) → sum_of f (ks ++ k ∷ []) ≡ sum_of f ks = λ f. let z : sum_of f (k ∷ []) ≡ 0 = no_sum f in heap.sum_of-append f ks (k ∷ []) ∙ omega arith in
+    subst (λ (xs : List ChunkValue). AreCounted xs n) (sym e) (record {
+      words = rw held c.words;
+      objects = rw (sum one_each) c.objects;
+      small = rw (sum small_part) c.small;
+      within = All-push (λ (x : ChunkValue). words_in x.cells ≤ x.size) ks k c.within (omega arith);
+    })
