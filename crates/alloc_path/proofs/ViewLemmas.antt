@@ -1,6 +1,6 @@
 -- The piece of a chunk that is found by its number.
 use Rattle.std.proofs.Common.{◌≡◌, ℕ, ◌+◌, ◌-◌, ◌<◌, ◌≤◌, Bool, true, false, cond, List, [], ◌∷◌, ◌++◌, get_or, length, refl, sym, take, ap, ◌∙◌, suc, subst, arith, inl, inr, eqb, Option, Some, None}
-use Rattle.std.specs.Prelude.{option_map, Err, Ok, OnErr, OnOk, Result}
+use Rattle.std.specs.Prelude.{option_map, Err, Ok, OnErr, OnOk, Result, ◌||◌}
 use Rattle.std.specs.Option.{option_or}
 use Rattle.std.proofs.lemmas.Bool.{cases_Bool, eqb-true}
 use Rattle.std.proofs.lemmas.List.{take_more}
@@ -106,6 +106,6 @@ next_number ks xs i d inside now was before n adds had =
     adds ∙ (number_more ks was before (is_among (take i xs) n) (eqb x n) n had
     ∙ ap (λ (b : Bool). option_or before (cond b (piece_in (level_of ks) n) None)) (ap (λ (b : Bool). cond (is_among (take i xs) n) true b) (alone (eqb x n)) ∙ (sym (lists.among_both (take i xs) (x ∷ []) n) ∙ ap (λ (ys : List ℕ). is_among ys n) (sym next))))
   where
-    alone : (b : Bool) → b ≡ cond b true false
+    alone : (b : Bool) → b ≡ (b || false)
     alone true = refl
     alone false = refl

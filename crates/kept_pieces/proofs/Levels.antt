@@ -1,8 +1,10 @@
 -- What is found in levels, and where it stands.
 use Rattle.std.proofs.Common.{◌≡◌, ℕ, zero, suc, ◌+◌, ◌-◌, ◌<◌, ◌≤◌, Bool, true, false, cond, List, [], ◌∷◌, ◌++◌, length, get_or, map, refl, sym, ap, ◌∙◌, arith, inl, inr, eqb, Option, Some, None}
 use Rattle.std.specs.Prelude.{insert, is_some, option_map, remove, slice_get, Err, IsOk, Ok, OnOk, Result}
+use Rattle.std.specs.Prelude.{nat_lt, not}
+use Rattle.std.specs.List.{position, position_or_len}
 use Rattle.std.specs.Option.{option_or}
-use Rattle.std.proofs.lemmas.Bool.{cases_Bool, eq-eqb, eqb-true}
+use Rattle.std.proofs.lemmas.Bool.{cases_Bool, cases_lt, eq-eqb, eqb-true, le-ltb, lt-ltb}
 use Rattle.object_layout.specs.Piece.{PieceValue}
 use Rattle.kept_pieces.specs.Level.{Level, nearest, piece_in, place_on}
 use Rattle.kept_pieces.specs.PiecesValue.{is_among}
@@ -30,6 +32,25 @@ first_two a b both ls n is = ap (λ (o : Option PieceValue). option_or o (neares
 
 -- ---- where a piece stands
 
+-- one item more in front
+place_first : {X : Type 0} (p : X → Bool) (x : X) (xs : List X) → position p (x ∷ xs) ≡ cond (p x) (Some 0) (option_map (λ i. 1 + i) (position p xs))
+place_first p x xs = by (p x)
+  where
+    by : (b : Bool) → cond (nat_lt (cond (not b) (1 + position_or_len p xs) 0) (suc (length xs))) (Some (cond (not b) (1 + position_or_len p xs) 0)) None ≡ cond b (Some 0) (option_map (λ i. 1 + i) (position p xs))
+    by true = ap (λ (c : Bool). cond c (Some 0) None) (lt-ltb 0 (suc (length xs)) (omega arith))
+    by false =
+        elim (cases_lt (position_or_len p xs) (length xs)) [
+          | inl l ↦
+              ap (λ (c : Bool). cond c (Some (1 + position_or_len p xs)) None) (lt-ltb (1 + position_or_len p xs) (suc (length xs)) (omega arith))
+              ∙ sym (ap (λ (c : Bool). option_map (λ i. 1 + i) (cond c (Some (position_or_len p xs)) None)) (lt-ltb (position_or_len p xs) (length xs) l))
+          | inr g ↦
+              ap (λ (c : Bool). cond c (Some (1 + position_or_len p xs)) None) (le-ltb (1 + position_or_len p xs) (suc (length xs)) (omega arith))
+              ∙ sym (ap (λ (c : Bool). option_map (λ i. 1 + i) (cond c (Some (position_or_len p xs)) None)) (le-ltb (position_or_len p xs) (length xs) g))
+        ]
+
+on_more : (f : PieceValue) (fs : Level) (n : ℕ) → place_on (f ∷ fs) n ≡ cond (eqb f.number n) (Some 0) (option_map (λ i. 1 + i) (place_on fs n))
+on_more f fs n = place_first (λ (g : PieceValue). eqb g.number n) f fs
+
 none_map : (o : Option ℕ) → None ≡ option_map (λ i. 1 + i) o → None ≡ o
 none_map None e = refl
 none_map (Some i) e = cc
@@ -37,9 +58,10 @@ none_map (Some i) e = cc
 pub none_there : (l : Level) (n : ℕ) → None ≡ place_on l n → piece_in l n ≡ None
 none_there [] n e = refl
 none_there (f ∷ fs) n e =
+    let e' : None ≡ cond (eqb f.number n) (Some 0) (option_map (λ i. 1 + i) (place_on fs n)) = e ∙ on_more f fs n in
     elim (cases_Bool (eqb f.number n)) [
-      | inl b ↦ let g = rw b at e in cc
-      | inr b ↦ rw b (none_there fs n (none_map (place_on fs n) (rw b at e)))
+      | inl b ↦ let g = rw b at e' in cc
+      | inr b ↦ rw b (none_there fs n (none_map (place_on fs n) (rw b at e')))
     ]
 
 -- it stands at a place, and is found there
@@ -50,9 +72,10 @@ pub record StandsAt (l : Level) (n i : ℕ) : Type 0 where
 pub some_there : (l : Level) (n i : ℕ) → Some i ≡ place_on l n → StandsAt l n i
 some_there [] n i e = cc
 some_there (f ∷ fs) n i e =
+    let e' : Some i ≡ cond (eqb f.number n) (Some 0) (option_map (λ i. 1 + i) (place_on fs n)) = e ∙ on_more f fs n in
     elim (cases_Bool (eqb f.number n)) [
-      | inl b ↦ first b i (rw b at e)
-      | inr b ↦ later b (place_on fs n) refl (λ j h. some_there fs n j h) i (rw b at e)
+      | inl b ↦ first b i (rw b at e')
+      | inr b ↦ later b (place_on fs n) refl (λ j h. some_there fs n j h) i (rw b at e')
     ]
   where
     first : eqb f.number n ≡ true → (j : ℕ) → Some j ≡ Some 0 → StandsAt (f ∷ fs) n j
@@ -71,16 +94,18 @@ some_there (f ∷ fs) n i e =
 
 -- one piece more
 pub place_push : (l : Level) (f : PieceValue) (n : ℕ) → place_on (l ++ f ∷ []) n ≡ option_or (place_on l n) (cond (eqb f.number n) (Some (length l)) None)
-place_push [] f n = alone (eqb f.number n)
+place_push [] f n = on_more f [] n ∙ alone (eqb f.number n)
   where
     alone : (b : Bool) → cond b (Some 0) (option_map (λ i. 1 + i) None) ≡ cond b (Some 0) None
     alone true = refl
     alone false = refl
 place_push (g ∷ gs) f n =
-    elim (cases_Bool (eqb g.number n)) [
+    on_more g (gs ++ f ∷ []) n
+    ∙ (elim (cases_Bool (eqb g.number n)) [
       | inl e ↦ rw e refl
       | inr e ↦ rw (e, place_push gs f n) (further (place_on gs n) (eqb f.number n))
     ]
+    ∙ ap (λ (o : Option ℕ). option_or o (cond (eqb f.number n) (Some (suc (length gs))) None)) (sym (on_more g gs n)))
   where
     further : (o : Option ℕ) (b : Bool) → option_map (λ i. 1 + i) (option_or o (cond b (Some (length gs)) None)) ≡ option_or (option_map (λ i. 1 + i) o) (cond b (Some (suc (length gs))) None)
     further (Some i) b = refl

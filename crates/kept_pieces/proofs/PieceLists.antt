@@ -1,6 +1,6 @@
 -- Pieces of chunks by their numbers, as chunks are changed, added and joined.
 use Rattle.std.proofs.Common.{◌≡◌, ℕ, zero, suc, ◌+◌, ◌-◌, ◌<◌, ◌≤◌, Bool, true, false, cond, List, [], ◌∷◌, ◌++◌, length, get_or, set, refl, sym, ap, ◌∙◌, subst, arith, inl, inr, ⊎_elim, eqb, Option, Some, None, length-append, map, option_map}
-use Rattle.std.specs.List.{list_any}
+use Rattle.std.specs.Prelude.{◌||◌}
 use Rattle.std.specs.Option.{option_or}
 use Rattle.std.proofs.lemmas.List.{map-append}
 use Rattle.std.proofs.lemmas.Bool.{cases_Bool, cases_lt, eq-eqb, eqb-true, le-leb, lt-leb, ne_eqb}
@@ -31,14 +31,6 @@ neither false b e = (refl, e)
 pub in_neither : (xs ys : List ℕ) (n : ℕ) → is_among (xs ++ ys) n ≡ false → (is_among xs n ≡ false) × (is_among ys n ≡ false)
 in_neither xs ys n e = neither (is_among xs n) (is_among ys n) (sym (among_both xs ys n) ∙ e)
 
-pub any_among : (ns : List ℕ) (m : ℕ) → list_any (λ y. eqb y m) ns ≡ is_among ns m
-any_among [] m = refl
-any_among (n ∷ ns) m =
-    elim (cases_Bool (eqb n m)) [
-      | inl e ↦ rw e refl
-      | inr e ↦ rw (e, any_among ns m) refl
-    ]
-
 -- the number of a chunk is among these exactly where a piece of it is
 pub not_among : (ks : List ChunkValue) (n : ℕ) → is_among (numbers_of ks) n ≡ false → piece_in (level_of ks) n ≡ None
 not_among [] n e = refl
@@ -67,12 +59,12 @@ nothing_changes p = record {
 pub known_before : (xs : List ℕ) (m : ℕ) → is_among xs m ≡ true → (n : ℕ) → is_among xs n ≡ is_among (xs ++ m ∷ []) n
 known_before xs m known n = sym (among_both xs (m ∷ []) n ∙ same)
   where
-    at_once : (a b : Bool) → (b ≡ true → a ≡ true) → cond a true (cond b true false) ≡ a
+    at_once : (a b : Bool) → (b ≡ true → a ≡ true) → cond a true (b || false) ≡ a
     at_once true b h = refl
     at_once false true h = let f = h refl in cc
     at_once false false h = refl
 
-    same : cond (is_among xs n) true (cond (eqb m n) true false) ≡ is_among xs n
+    same : cond (is_among xs n) true (eqb m n || false) ≡ is_among xs n
     same = at_once (is_among xs n) (eqb m n) (λ e. subst (λ (q : ℕ). is_among xs q ≡ true) (eqb-true m n e) known)
 
 -- where all was let go before, it stays so

@@ -1,6 +1,6 @@
 -- The immutable objects of the chunks of a heap, by the chunks' numbers.
-use Rattle.std.specs.Prelude.{ℕ, ◌+◌, ◌==◌, List, [], ◌∷◌, Option, Some, None, if◌then◌else◌, map, option_map}
-use Rattle.std.specs.List.{find}
+use Rattle.std.specs.Prelude.{ℕ, ◌==◌, List, [], ◌∷◌, Option, None, map}
+use Rattle.std.specs.List.{find, position}
 use Rattle.std.specs.Option.{option_or}
 use Rattle.object_layout.specs.ChunkValue.{ChunkValue}
 use Rattle.object_layout.specs.Piece.{PieceValue, frozen_of}
@@ -14,8 +14,7 @@ level_of ks = map frozen_of ks
 
 -- where the piece of a chunk's number stands
 abbrev pub place_on : Level → ℕ → Option ℕ
-place_on [] number = None
-place_on (f ∷ fs) number = if f.number == number then Some 0 else option_map (λ i. 1 + i) (place_on fs number)
+place_on l number = position (λ f. f.number == number) l
 
 -- what the chunk of a number had
 abbrev pub piece_in : Level → ℕ → Option PieceValue

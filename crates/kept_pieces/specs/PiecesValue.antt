@@ -1,5 +1,6 @@
 -- The pieces that are kept of a list of chunks.
 use Rattle.std.specs.Prelude.{◌≡◌, ℕ, ◌+◌, ◌≤◌, ◌==◌, Bool, true, false, List, [], ◌∷◌, ◌++◌, Option, Some, None, if◌then◌else◌, length, map}
+use Rattle.std.specs.List.{list_any}
 use Rattle.object_layout.specs.ChunkValue.{ChunkValue}
 use Rattle.object_layout.specs.Piece.{PieceValue}
 use Rattle.kept_pieces.specs.Level.{Level, level_of, nearest, piece_in}
@@ -11,21 +12,14 @@ pub record PiecesValue : Type 0 where
   pub places : ℕ
   pub lost : Bool
 
--- the layers, the numbers of the chunks that changed since, and for how many more there are places
-pub record Layers : Type 0 where
-  pub layers : List Level
-  pub stale : List ℕ
-  pub places : ℕ
-
--- what is kept, if not all was let go
-abbrev pub kept_of : Option Layers → PiecesValue
+-- what is kept, if anything is
+abbrev pub kept_of : Option PiecesValue → PiecesValue
 kept_of None = record { layers = []; stale = []; places = 0; lost = true }
-kept_of (Some l) = record { layers = l.layers; stale = l.stale; places = l.places; lost = false }
+kept_of (Some p) = p
 
 -- whether a number is among these
 abbrev pub is_among : List ℕ → ℕ → Bool
-is_among [] n = false
-is_among (m ∷ ms) n = if m == n then true else is_among ms n
+is_among ns n = list_any (λ m. m == n) ns
 
 abbrev pub numbers_of : List ChunkValue → List ℕ
 numbers_of ks = map (λ k. k.number) ks
