@@ -7,7 +7,8 @@ use Rattle.std.specs.Prelude.{cond, IfSome, option_copied, Result, Ok, Err, IfOk
 use Rattle.std.proofs.lemmas.Bool.{cases_Bool, cases_lt, eqb-true, eq-eqb, ne_eqb, lt-ltb, le-ltb, le-leb, lt-leb}
 use Rattle.std.proofs.lemmas.List.{get_or_read, get_or_append_left, get_or-append_right, take_more}
 use Rattle.object_layout.specs.declared.word.Addr.{Addr}
-use Rattle.object_layout.specs.Cell.{Born, Cell, Hole, IsObject, Mark, Moved, size_of}
+use Rattle.object_layout.specs.declared.word.Header.{Header}
+use Rattle.object_layout.specs.Cell.{Born, Cell, Hole, IsObject, Mark, Moved, header_of, size_of}
 use Rattle.object_layout.specs.ChunkValue.{ChunkValue}
 use Rattle.object_layout.specs.Place.{cell_at, object_at, put_cell, words_in, IsObjectAt}
 use Rattle.object_layout.specs.Chunks.{cell_of, chunk_at, held_in, held_size, held_words, no_chunk, object_count, one_each, place_in, place_of, put_object, small_part, small_words, sum_in, sum_of, with_cell}
@@ -260,13 +261,15 @@ module _ (ks : List ChunkValue) (a : Addr) (i : ℕ) (k : ChunkValue) (o : IsObj
   -- or stays, where the object is mutable before and after
   pub own_written : (p : PiecesValue) (filled kept : Option ℕ) (count many part base : ℕ) (table : ℕ → Option ℕ) (entries : ℕ) → IsKept ks p filled kept count many part base table entries →
       (d : Cell) → d.mark ≡ (cell_at k.cells a.offset).mark → d.mutable ≡ (cell_at k.cells a.offset).mutable → size_of d ≡ size_of (cell_at k.cells a.offset) →
-      (left : PiecesValue) → NotesChanges p left (written (object_at k.cells a.offset).mutable k.number) →
+      (left : PiecesValue) (number : ℕ) → number ≡ k.number → (header : Header) → header ≡ header_of (object_at k.cells a.offset) → NotesChanges p left (written header.mutable number) →
       IsKept (set ks i (with_cell k a.offset d)) left filled kept count many part base table entries
-  own_written p filled kept count many part base table entries h d m u z left noted =
+  own_written p filled kept count many part base table entries h d m u z left number same header kind noted =
       let there : IsObjectAt k.cells a.offset = subst (λ (c : Cell). IsObject c.mark) own_cell o in
       let is : object_at k.cells a.offset ≡ cell_at k.cells a.offset = place.object_is k.cells a.offset there in
+      let mutable : header.mutable ≡ (cell_at k.cells a.offset).mutable = ap (λ (x : Header). x.mutable) kind ∙ ap (λ (c : Cell). c.mutable) is in
+      let here : NotesChanges p left (written header.mutable k.number) = subst (λ (x : ℕ). NotesChanges p left (written header.mutable x)) same noted in
       own_kept p filled kept count many part base table entries h d (λ n. ap (λ (x : Mark). held_size x n) m) z left
-      (lists.written_shown p left ks h.shown i k (own_read no_chunk) a.offset d (object_at k.cells a.offset).mutable noted (ap (λ (c : Cell). c.mutable) (sym is)) u z)
+      (lists.written_shown p left ks h.shown i k (own_read no_chunk) a.offset d header.mutable here (sym mutable) u z)
 
 -- an object's words count
 pub held_object : (m : Mark) (n : ℕ) → IsObject m → held_size m n ≡ n

@@ -19,6 +19,7 @@ impl LeafHeap {
 
     /// At which place the chunk of a number stands; None where the heap has none. It looks first at the
     /// chunk that is being filled, and then in the table.
+    #[inline(always)]
     pub fn place_of(&self, number: u32) -> Option<usize>
         ensures { result ≡ place_in self.now.chunks number }
     {
@@ -90,6 +91,7 @@ impl LeafHeap {
     }
 
     /// The same, where it is known at which place the object's chunk stands.
+    #[inline(always)]
     pub fn set_ref_in(&mut self, place: usize, object: Addr, field: u32, value: Option<Addr>)
         requires place { place_in self.old.chunks object.chunk ≡ Some place }
         requires field { field < length (object_of self.old.chunks object).refs }
@@ -108,6 +110,7 @@ impl LeafHeap {
     }
 
     /// The same, where it is known at which place the object's chunk stands.
+    #[inline(always)]
     pub fn set_int_in(&mut self, place: usize, object: Addr, field: u32, value: i64)
         requires place { place_in self.old.chunks object.chunk ≡ Some place }
         requires field { field < length (object_of self.old.chunks object).ints }

@@ -9,7 +9,7 @@ ghost use Rattle.alloc_path.specs.FieldLaws.{with_ref_of};
 use super::space::Space;
 use object_layout::{
     Addr, Birth, Chunk, Header, birth_at, copy_behind, forward, freeze, header_at, int_at, ref_at,
-    set_birth, set_int, set_ref,
+    set_birth, set_int_behind, set_ref,
 };
 
 impl Space {
@@ -120,6 +120,7 @@ impl Space {
     }
 
     /// The same, where it is known at which place the object's chunk stands.
+    #[inline(always)]
     pub fn set_ref_in(&mut self, place: usize, object: Addr, field: u32, value: Option<Addr>)
         requires place { place_in self.old.chunks object.chunk ≡ Some place }
         requires field { field < length (object_of self.old.chunks object).refs }
@@ -127,7 +128,8 @@ impl Space {
         ensures { self.new ≡ with_ref_of self.old object field value }
     {
         let chunk = self.chunks.at_mut(place);
-        self.pieces.note_write(chunk, object.offset);
+        let header = header_at(chunk, object.offset);
+        self.pieces.note_write(chunk.number(), header.mutable);
         set_ref(chunk, object.offset, field, value);
     }
 
@@ -141,14 +143,16 @@ impl Space {
     }
 
     /// The same, where it is known at which place the object's chunk stands.
+    #[inline(always)]
     pub fn set_int_in(&mut self, place: usize, object: Addr, field: u32, value: i64)
         requires place { place_in self.old.chunks object.chunk ≡ Some place }
         requires field { field < length (object_of self.old.chunks object).ints }
         ensures { self.new ≡ record self.old { chunks = put_object self.old.chunks object (with_int (cell_of self.old.chunks object) field value) } }
     {
         let chunk = self.chunks.at_mut(place);
-        self.pieces.note_write(chunk, object.offset);
-        set_int(chunk, object.offset, field, value);
+        let header = header_at(chunk, object.offset);
+        self.pieces.note_write(chunk.number(), header.mutable);
+        set_int_behind(chunk, object.offset, header.nrefs, field, value);
     }
 
     /// Makes an object immutable, and changes nothing else of it.

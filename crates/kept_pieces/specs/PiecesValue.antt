@@ -49,6 +49,6 @@ pub record NotesChanges (old new : PiecesValue) (numbers : List ℕ) : Type 0 wh
   pub enough : old.lost ≡ false → length numbers ≤ old.places → new.lost ≡ false
   pub places : new.lost ≡ false → old.places ≤ new.places + length numbers
 
--- the number of a chunk of which an object is written; none where the object is mutable, since no piece shows it
+-- the number of a chunk of which an object is written or placed; none where the object is mutable, since no piece shows it
 abbrev pub written : Bool → ℕ → List ℕ
 written mutable number = if mutable then [] else number ∷ []

@@ -3,12 +3,11 @@
 ghost use Rattle.std.specs.Prelude.{◌≡◌, ℕ, ◌+◌, ◌-◌, ◌^◌, ◌<◌, ◌≤◌, ◌++◌, ◌∷◌, [], false, true, IfOk, None, OnErr, OnOk, if◌then◌else◌, length, map, vec_capacity, vec_len};
 ghost use Rattle.std.specs.Arc.{arc_value};
 ghost use Rattle.std.specs.Option.{option_or};
-ghost use Rattle.object_layout.specs.Place.{object_at, IsObjectAt};
 ghost use Rattle.kept_pieces.specs.Level.{nearest, piece_in};
 ghost use Rattle.kept_pieces.specs.PiecesValue.{is_among, is_settled, numbers_of, written, NotesChanges};
 
 use super::layer::Layer;
-use object_layout::{Chunk, header_at};
+use object_layout::Chunk;
 use out_of_line::Apart;
 use std::alloc::{AllocError, Global};
 use std::marker::Model;
@@ -126,13 +125,14 @@ impl Pieces {
         }
     }
 
-    /// The same of a chunk of which an object is about to be written: the piece stays where the object is mutable.
-    pub fn note_write(&mut self, chunk: &Chunk, at: u32)
-        requires { IsObjectAt chunk.now.cells at }
-        ensures { NotesChanges self.old self.new (written (object_at chunk.now.cells at).mutable chunk.now.number) }
+    /// The same of a chunk of which an object is about to be written, or placed: the piece stays where the object is
+    /// mutable.
+    #[inline(always)]
+    pub fn note_write(&mut self, number: u32, mutable: bool)
+        ensures { NotesChanges self.old self.new (written mutable number) }
     {
-        if !header_at(chunk, at).mutable {
-            self.note_change(chunk.number());
+        if !mutable {
+            self.note_change(number);
         }
     }
 

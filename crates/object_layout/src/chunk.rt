@@ -330,6 +330,15 @@ pub fn set_int(chunk: &mut Chunk, at: u32, field: u32, value: i64)
     ensures { chunk.new ≡ record chunk.old { cells = put_cell chunk.old.cells at (with_int (cell_at chunk.old.cells at) field value) } }
 {
     let nrefs = header_at(chunk, at).nrefs;
+    set_int_behind(chunk, at, nrefs, field, value);
+}
+
+/// The same, where it is known how many references stand before the numbers.
+pub fn set_int_behind(chunk: &mut Chunk, at: u32, nrefs: u32, field: u32, value: i64)
+    requires refs { nrefs ≡ length (object_at chunk.old.cells at).refs }
+    requires field { field < length (object_at chunk.old.cells at).ints }
+    ensures { chunk.new ≡ record chunk.old { cells = put_cell chunk.old.cells at (with_int (cell_at chunk.old.cells at) field value) } }
+{
     chunk.words[at as usize + (2 + (nrefs as usize + field as usize))] = value.cast_unsigned();
 }
 

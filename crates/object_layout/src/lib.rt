@@ -10,8 +10,8 @@ mod words;
 
 pub use chunk::{
     Chunk, birth_at, copy_behind, drop_at, forward, forwarded_at, freeze, header_at, int_at,
-    is_born_at, is_object_at, next_at, ref_at, set_birth, set_int, set_ref, write_filled,
-    write_new,
+    is_born_at, is_object_at, next_at, ref_at, set_birth, set_int, set_int_behind, set_ref,
+    write_filled, write_new,
 };
 pub use laws::{
     apart_together, appended_is_last, chunks_are_found, fresh_has_none, led_are_read,

@@ -20,8 +20,8 @@ set_ref-requires-clause-field c =
     let field = rw (← c.self.view_is) at c.requires.field in
     rw (heap.own_cell c.self.inside.chunks.items c.args.object c.args.place c.at_mut-chunk.result.now o found c.at_mut-chunk.ensures.value) at field
 
-pub note_write-requires : goal.note_write-requires
-note_write-requires c =
+pub header_at-header-requires : goal.header_at-header-requires
+header_at-header-requires c =
     let o = rw (← c.self.view_is) at (chunks.object_with_ref c.args.self.now.chunks c.args.object c.args.field c.requires.field) in
     let found = (heap.place_found c.self.inside.chunks.items c.args.object.chunk c.args.place (rw (← c.self.view_is) at c.requires.place)).0 in
     rw (heap.own_cell c.self.inside.chunks.items c.args.object c.args.place c.at_mut-chunk.result.now o found c.at_mut-chunk.ensures.value) at o
@@ -32,7 +32,7 @@ invariant_of-self c =
     let found = (heap.place_found c.self.inside.chunks.items c.args.object.chunk c.args.place (rw (← c.self.view_is) at c.requires.place)).0 in
     rw c.set_ref.ensures
     (heap.own_written c.self.inside.chunks.items c.args.object c.args.place c.at_mut-chunk.result.now o found c.at_mut-chunk.ensures.value
-    _ _ _ _ _ _ _ _ _ c.self.invariant (with_ref (cell_at c.at_mut-chunk.result.now.cells c.args.object.offset) c.args.field c.args.value) refl refl (place.size_of-with_ref (cell_at c.at_mut-chunk.result.now.cells c.args.object.offset) c.args.field c.args.value) _ c.note_write.ensures)
+    _ _ _ _ _ _ _ _ _ c.self.invariant (with_ref (cell_at c.at_mut-chunk.result.now.cells c.args.object.offset) c.args.field c.args.value) refl refl (place.size_of-with_ref (cell_at c.at_mut-chunk.result.now.cells c.args.object.offset) c.args.field c.args.value) _ c.number.result c.number.ensures c.header_at-header.result c.header_at-header.ensures.kind c.note_write.ensures)
 
 pub returns : goal.returns
 returns c =
