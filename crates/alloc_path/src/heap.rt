@@ -58,6 +58,7 @@ impl LeafHeap {
     }
 
     /// Whether `place` would place an object of so many words.
+    #[inline(always)]
     pub fn has_place(&self, words: u32) -> bool
         ensures { result ≡ is_some (place_for self.now words) }
     {
@@ -200,6 +201,7 @@ impl LeafHeap {
     }
 
     /// The same; it takes no memory.
+    #[inline(always)]
     pub fn place_spare(&mut self, new: New) -> Option<Addr>
         requires refs { new.header.nrefs < 2 ^ 20 }
         requires ints { new.header.nints < 2 ^ 20 }

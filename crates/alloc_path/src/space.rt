@@ -105,6 +105,7 @@ impl Space {
     }
 
     /// Whether `place` would place an object of so many words.
+    #[inline(always)]
     pub fn has_place(&self, words: u32) -> bool
         ensures { result ≡ is_some (place_for self.now words) }
     {
@@ -247,6 +248,7 @@ impl Space {
 
     /// Places an object, with its references nil and its numbers 0, and says where; None where a
     /// small object's words exceed the room, or no reserved chunk has just a large object's units.
+    #[inline(always)]
     pub fn place(&mut self, new: New) -> Option<Addr>
         requires refs { new.header.nrefs < 2 ^ 20 }
         requires ints { new.header.nints < 2 ^ 20 }
@@ -263,6 +265,7 @@ impl Space {
     }
 
     // The place of the chunk into which an object of so many words goes.
+    #[inline(always)]
     pub(crate) fn chunk_for(&self, words: u32) -> Option<usize>
         ensures { result ≡ place_for self.now words }
     {
@@ -287,6 +290,7 @@ impl Space {
     }
 
     // Places an object in the chunk at a place.
+    #[inline(always)]
     fn place_in_chunk(&mut self, i: usize, new: New) -> Addr
         requires refs { new.header.nrefs < 2 ^ 20 }
         requires ints { new.header.nints < 2 ^ 20 }
@@ -300,7 +304,7 @@ impl Space {
         let chunk = self.chunks.at_mut(i);
         let offset = chunk.used();
         let number = chunk.number();
-        self.pieces.note_change(number);
+        self.pieces.note_write(number, new.header.mutable);
         write_new(chunk, offset, new.header, new.birth);
         if words > SMALL {
             self.reserved = None;

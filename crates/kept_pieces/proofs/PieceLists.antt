@@ -258,3 +258,18 @@ written_shown p q ks h i k read at d true f was is s =
     let shows : frozen_from 0 (put_cell k.cells at d) ≡ frozen_from 0 k.cells = frozen_put k.cells at 0 d before after s in
     let level : level_of (set ks i (with_cell k at d)) ≡ level_of ks = same_level ks i (with_cell k at d) no_chunk (ap (λ (os : List (ℕ × Cell)). let r : PieceValue = record { number = k.number; objects = os } in r) shows ∙ ap frozen_of read) in
     still_shows p q ks (set ks i (with_cell k at d)) [] f (λ n a. ap (λ (l : Level). piece_in l n) level) (λ n a. ap (λ (l : Level). piece_in l n) (sym level) ∙ a) h
+
+-- an object is placed that no piece shows
+frozen_push : (cs : List Cell) (n : ℕ) (d : Cell) → is_frozen d ≡ false → frozen_from n (cs ++ d ∷ []) ≡ frozen_from n cs
+frozen_push [] n d hidden = rw hidden refl
+frozen_push (c ∷ cs) n d hidden = rw (frozen_push cs (n + size_of c) d hidden) refl
+
+-- the pieces of the chunks, once an object is placed behind those of the chunk at a place
+pub placed_shown : (p q : PiecesValue) (ks : List ChunkValue) → Shows p ks → (i : ℕ) (k : ChunkValue) → k ≡ get_or ks i k → (d : Cell) (number : ℕ) → number ≡ k.number → (mutable : Bool) → NotesChanges p q (written mutable number) → d.mutable ≡ mutable →
+    Shows q (set ks i (record k { cells = k.cells ++ d ∷ [] }))
+placed_shown p q ks h i k read d number same false f is = changed p q ks i number (record k { cells = k.cells ++ d ∷ [] }) k (ap (λ (x : ChunkValue). x.number) read) same f h
+placed_shown p q ks h i k read d number same true f is =
+    let hidden : is_frozen d ≡ false = ap (lasts d.mark) is ∙ unseen d.mark in
+    let shows : frozen_from 0 (k.cells ++ d ∷ []) ≡ frozen_from 0 k.cells = frozen_push k.cells 0 d hidden in
+    let level : level_of (set ks i (record k { cells = k.cells ++ d ∷ [] })) ≡ level_of ks = same_level ks i (record k { cells = k.cells ++ d ∷ [] }) k (ap (λ (os : List (ℕ × Cell)). let r : PieceValue = record { number = k.number; objects = os } in r) shows ∙ ap frozen_of read) in
+    still_shows p q ks (set ks i (record k { cells = k.cells ++ d ∷ [] })) [] f (λ n a. ap (λ (l : Level). piece_in l n) level) (λ n a. ap (λ (l : Level). piece_in l n) (sym level) ∙ a) h

@@ -1,6 +1,5 @@
 use Rattle.std.proofs.Common.{◌≡◌, ◌+◌, ◌∙◌, ap, arith, refl}
 use Rattle.object_layout.specs.Chunks.{small_part}
-use Rattle.object_layout.specs.ChunkValue.{ChunkValue}
 use Rattle.alloc_path.specs.LeafHeapValue.{counted}
 use Rattle.object_layout.specs.Cell.{new_cell, size_of}
 use Rattle.object_layout.proofs.HoldLemmas.{size_of-new}
@@ -24,14 +23,14 @@ invariant_of-self c =
           rw (w.self-inside-is, c.write_new.ensures)
           (heap.placed_kept (the_view c.self.inside) _ _ _ _ _ _ _ c.self.invariant c.args.i c.at_mut-chunk.result.now c.at_mut-chunk.ensures.value (new_cell c.args.new.header c.args.new.birth) (λ n. refl) fits
           _ (λ l. absurd (omega arith)) (λ l. refl) _ _ _ (rw size (sum ∙ omega arith)) (rw w.self-inside-is at c.saturating_add-self-inside-3.ensures) (rw w.self-inside-is at c.saturating_add-self-inside-4.ensures ∙ ap (λ n. counted (c.self.inside.small + n)) part)
-          _ (lists.changed _ _ c.self.inside.chunks.items c.args.i c.number-number.result _ c.at_mut-chunk.result.now (ap (λ (x : ChunkValue). x.number) c.at_mut-chunk.ensures.value) c.number-number.ensures c.note_change.ensures.noted c.self.invariant.shown))
+          _ (lists.placed_shown _ _ c.self.inside.chunks.items c.self.invariant.shown c.args.i c.at_mut-chunk.result.now c.at_mut-chunk.ensures.value (new_cell c.args.new.header c.args.new.birth) c.number-number.result c.number-number.ensures c.args.new.header.mutable c.note_write.ensures refl))
       | else-words-gt-SMALL w ↦
           let less = w.if-words-gt-SMALL.false in
           let sum = rw w.self-inside-is at c.saturating_add-self-inside-2.ensures in
           rw (w.self-inside-is, c.write_new.ensures)
           (heap.placed_kept (the_view c.self.inside) _ _ _ _ _ _ _ c.self.invariant c.args.i c.at_mut-chunk.result.now c.at_mut-chunk.ensures.value (new_cell c.args.new.header c.args.new.birth) (λ n. refl) fits
           _ (λ l. refl) (λ l. absurd (omega arith)) _ _ _ (rw size (sum ∙ omega arith)) (rw w.self-inside-is at c.saturating_add-self-inside-3.ensures) (rw w.self-inside-is at c.saturating_add-self-inside-4.ensures ∙ ap (λ n. counted (c.self.inside.small + n)) part)
-          _ (lists.changed _ _ c.self.inside.chunks.items c.args.i c.number-number.result _ c.at_mut-chunk.result.now (ap (λ (x : ChunkValue). x.number) c.at_mut-chunk.ensures.value) c.number-number.ensures c.note_change.ensures.noted c.self.invariant.shown))
+          _ (lists.placed_shown _ _ c.self.inside.chunks.items c.self.invariant.shown c.args.i c.at_mut-chunk.result.now c.at_mut-chunk.ensures.value (new_cell c.args.new.header c.args.new.birth) c.number-number.result c.number-number.ensures c.args.new.header.mutable c.note_write.ensures refl))
     ]
 
 pub returns-clause-settled : goal.returns-clause-settled
