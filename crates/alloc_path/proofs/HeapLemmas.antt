@@ -16,6 +16,7 @@ use Rattle.alloc_path.specs.LeafHeapValue.{AreWithin, counted, LeafHeapValue, Is
 use Rattle.kept_pieces.specs.PiecesValue.{NotesChanges, PiecesValue, Shows, written}
 use Rattle.kept_pieces.proofs.PieceLists as lists
 use Rattle.object_layout.proofs.ChunkLaws as chunks
+pub use Rattle.object_layout.proofs.ChunkLaws.{none_there, place_found, place_there}
 use Rattle.object_layout.proofs.PlaceLemmas as place
 use Rattle.object_layout.proofs.PlaceLemmas.{words_in-push}
 
@@ -177,17 +178,6 @@ module _ (k : ChunkValue) (at : ℕ) (d : Cell) (s : size_of d ≡ size_of (cell
       let here : words_in k.cells ≤ k.size = subst (λ (x : ChunkValue). words_in x.cells ≤ x.size) (sym read) (All-get_or (λ (x : ChunkValue). words_in x.cells ≤ x.size) ks i k l h) in
       let same = place.words_in-put k.cells at d s in
       All-set (λ (x : ChunkValue). words_in x.cells ≤ x.size) ks i (with_cell k at d) (rw same here) h
-
--- at which place a chunk is found
-pub place_found : (ks : List ChunkValue) (n i : ℕ) → place_in ks n ≡ Some i → (i ≡ place_of ks n) × (i < length ks)
-place_found ks n i e =
-    ⊎_elim
-    (λ (l : place_of ks n < length ks). let f : Some (place_of ks n) ≡ Some i = rw (lt-ltb (place_of ks n) (length ks) l) at e in let g : place_of ks n ≡ i = cc in (sym g, rw (← g) l))
-    (λ (l : length ks ≤ place_of ks n). let f = rw (le-ltb (place_of ks n) (length ks) l) at e in absurd (cc))
-    (cases_lt (place_of ks n) (length ks))
-
-pub place_there : (ks : List ChunkValue) (n : ℕ) → place_of ks n < length ks → place_in ks n ≡ Some (place_of ks n)
-place_there ks n l = rw (lt-ltb (place_of ks n) (length ks) l) refl
 
 -- what lies at an address, in the chunk that is found
 pub found_cell : (ks : List ChunkValue) (a : Addr) (o : Option (Bor ChunkValue)) → option_copied o ≡ option_map (λ i. chunk_at ks i) (place_in ks a.chunk) → IfSome o (λ k. cell_at k.now.cells a.offset ≡ cell_of ks a)
@@ -402,13 +392,6 @@ place_of-push_new (x ∷ xs) k q l =
     (λ (e : eqb x.number q ≡ true). let m = rw e at l in absurd (omega arith))
     (λ (e : eqb x.number q ≡ false). let m = rw e at l in rw (e, place_of-push_new xs k q (omega arith)) (omega arith))
     (cases_Bool (eqb x.number q))
-
-pub none_there : (ks : List ChunkValue) (q : ℕ) → place_in ks q ≡ None → length ks ≤ place_of ks q
-none_there ks q e =
-    ⊎_elim
-    (λ (l : place_of ks q < length ks). let f = rw (lt-ltb (place_of ks q) (length ks) l) at e in cc)
-    (λ (l : length ks ≤ place_of ks q). l)
-    (cases_lt (place_of ks q) (length ks))
 
 pub place_in-push : (ks : List ChunkValue) (k : ChunkValue) → place_in ks k.number ≡ None → (q : ℕ) →
     place_in (ks ++ k ∷ []) q ≡ cond (eqb k.number q) (Some (length ks)) (place_in ks q)
@@ -635,24 +618,6 @@ apart_across (x ∷ xs) ks h (suc i) l = apart_across xs ks h.1 i (omega arith)
 -- no entry has the number of a chunk that is fresh
 pub none_kept : (ks : List ChunkValue) (base n : ℕ) (o : Option ℕ) → o ≡ option_map (λ j. base - j) (place_in ks n) → IsFresh ks n → o ≡ None
 none_kept ks base n o e f = e ∙ rw f refl
-
--- what an entry tells
-pub entry_place : (ks : List ChunkValue) (base n before : ℕ) → length ks ≤ base → Some before ≡ option_map (λ j. base - j) (place_in ks n) → place_of ks n < length ks → base - before ≡ place_of ks n
-entry_place ks base n before l e there =
-    let f : Some before ≡ Some (base - place_of ks n) = rw (place_there ks n there) at e in
-    let g : before ≡ base - place_of ks n = cc in
-    omega arith
-
-pub found_place : (ks : List ChunkValue) (base n : ℕ) → length ks ≤ base → (before : ℕ) → Some before ≡ option_map (λ j. base - j) (place_in ks n) → (before ≤ base) × (Some (base - before) ≡ place_in ks n)
-found_place ks base n l before e =
-    ⊎_elim
-    (λ (there : place_of ks n < length ks).
-    let f : Some before ≡ Some (base - place_of ks n) = rw (place_there ks n there) at e in
-    let g : before ≡ base - place_of ks n = cc in
-    let same : base - before ≡ place_of ks n = omega arith in
-    (omega arith, ap Some same ∙ sym (place_there ks n there)))
-    (λ (gone : length ks ≤ place_of ks n). let f : Some before ≡ None = rw (le-ltb (place_of ks n) (length ks) gone) at e in absurd (cc))
-    (cases_lt (place_of ks n) (length ks))
 
 module _ (xs ks : List ChunkValue) where
   at_behind : (i : ℕ) → chunk_at (xs ++ ks) (i + length xs) ≡ chunk_at ks i

@@ -8,8 +8,8 @@ ghost use Rattle.alloc_path.specs.Counted.{AreCounted};
 ghost use Rattle.alloc_path.specs.LeafHeapValue.{exchanged, merged, with_places, AreApart, IsCurrent, IsReserved};
 
 use super::counts::Counts;
-use super::row::Row;
 use super::space::{BASE, Space};
+use chunk_rows::Row;
 use object_layout::Chunk;
 use std::collections::HashMap;
 

@@ -6,8 +6,7 @@ ghost use Rattle.object_layout.specs.Chunks.{chunk_at, held_words, next_address,
 ghost use Rattle.alloc_path.specs.LeafHeapValue.{added, counted, placed, placed_at, place_for, room_of, with_places, IsCurrent, IsFresh, IsReserved, IsSettled};
 
 use super::counts::small_part;
-use super::row::Row;
-use super::shelf::missing_pieces;
+use chunk_rows::{Row, missing_pieces};
 use kept_pieces::Pieces;
 use object_layout::{Addr, Birth, Chunk, Header, write_new};
 use std::alloc::{AllocError, AllocFailed, Global};

@@ -1,8 +1,8 @@
 -- Laws of objects by their addresses: where a chunk is found, and what is at an address after a put
 -- or a push.
 use Rattle.std.proofs.Common.{◌≡◌, ℕ, zero, suc, ◌<◌, ◌≤◌, true, false, List, [], ◌∷◌, ◌++◌, length, length-set, get_or, set, refl, sym, ap, ◌∙◌, arith, ⊎_elim, inl, inr, ◌⊎◌, eqb, one-add}
-use Rattle.std.specs.Prelude.{◌≢◌, Option, slice_set}
-use Rattle.std.proofs.lemmas.Bool.{cases_Bool, cases_lt, eqb-true}
+use Rattle.std.specs.Prelude.{◌≢◌, Option, Some, None, slice_set}
+use Rattle.std.proofs.lemmas.Bool.{cases_Bool, cases_lt, eqb-true, le-ltb, lt-ltb}
 use Rattle.std.proofs.lemmas.List.{get_or-set_same}
 use Rattle.object_layout.specs.declared.word.Addr.{Addr}
 use Rattle.object_layout.specs.Cell.{Cell, Mark, Born, Moved, Hole, IsBorn, IsObject, as_object, no_cell, with_ref, size_of}
@@ -13,6 +13,24 @@ use Rattle.object_layout.specs.Chunks.{cell_of, chunk_at, next_address, no_chunk
 use Rattle.object_layout.proofs.PlaceLemmas.{object_of_born}
 
 -- ---- where a chunk is found
+
+-- at which place a chunk is found
+pub place_found : (ks : List ChunkValue) (n i : ℕ) → place_in ks n ≡ Some i → (i ≡ place_of ks n) × (i < length ks)
+place_found ks n i e =
+    ⊎_elim
+    (λ (l : place_of ks n < length ks). let f : Some (place_of ks n) ≡ Some i = rw (lt-ltb (place_of ks n) (length ks) l) at e in let g : place_of ks n ≡ i = cc in (sym g, rw (← g) l))
+    (λ (l : length ks ≤ place_of ks n). let f = rw (le-ltb (place_of ks n) (length ks) l) at e in absurd (cc))
+    (cases_lt (place_of ks n) (length ks))
+
+pub place_there : (ks : List ChunkValue) (n : ℕ) → place_of ks n < length ks → place_in ks n ≡ Some (place_of ks n)
+place_there ks n l = rw (lt-ltb (place_of ks n) (length ks) l) refl
+
+pub none_there : (ks : List ChunkValue) (q : ℕ) → place_in ks q ≡ None → length ks ≤ place_of ks q
+none_there ks q e =
+    ⊎_elim
+    (λ (l : place_of ks q < length ks). let f = rw (lt-ltb (place_of ks q) (length ks) l) at e in cc)
+    (λ (l : length ks ≤ place_of ks q). l)
+    (cases_lt (place_of ks q) (length ks))
 
 pub place_of-le : (ks : List ChunkValue) (n : ℕ) → place_of ks n ≤ length ks
 place_of-le [] n = omega arith

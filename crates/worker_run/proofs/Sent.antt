@@ -17,8 +17,8 @@ use Rattle.shared_value.proofs.task_at_rest.Work.TheSendSync as work
 use Rattle.atomic_table.proofs.shared.Seat.TheSendSync as seat
 use Rattle.turn_lock.proofs.view.View.TheSendSync as seen
 use Rattle.steal_scheduler.proofs.hand.Hand.TheSendSync as hand
-use Rattle.alloc_path.specs.contracts.shelf.Shelf as Shelf
-use Rattle.alloc_path.specs.contracts.view.View as View
+use Rattle.chunk_rows.specs.contracts.shelf.Shelf as Shelf
+use Rattle.chunk_rows.specs.contracts.view.View as View
 use Rattle.shared_value.specs.contracts.task_at_rest.Rest as Rest
 use Rattle.shared_tree.specs.contracts.shared.Shared as Shared
 use Rattle.counted_tree.specs.contracts.counted.Counted as Counted

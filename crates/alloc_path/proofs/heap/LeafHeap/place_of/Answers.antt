@@ -2,7 +2,7 @@ use Rattle.std.proofs.Common.{◌≡◌, ◌<◌, ℕ, List, length, get_or, ap,
 use Rattle.std.proofs.lemmas.List.{get_or_read}
 use Rattle.object_layout.specs.ChunkValue.{ChunkValue}
 use Rattle.object_layout.specs.Chunks.{chunk_at, no_chunk, place_in, place_of}
-use Rattle.alloc_path.proofs.HeapLemmas as heap
+use Rattle.object_layout.proofs.ChunkLaws as chunks
 use Rattle.alloc_path.proofs.PlacedLaws as laws
 use Rattle.alloc_path.proofs.heap.LeafHeap.place_of.Goals as goal
 
@@ -10,7 +10,7 @@ use Rattle.alloc_path.proofs.heap.LeafHeap.place_of.Goals as goal
 at_place : (ks : List ChunkValue) (i n : ℕ) → i < length ks → place_of ks (chunk_at ks i).number ≡ i → (chunk_at ks i).number ≡ n → Some i ≡ place_in ks n
 at_place ks i n l own number =
     let at : place_of ks n ≡ i = subst (λ m. place_of ks m ≡ i) number own in
-    sym (heap.place_there ks n (omega arith) ∙ ap Some at)
+    sym (chunks.place_there ks n (omega arith) ∙ ap Some at)
 
 pub returns-then-number : goal.returns-then-number
 returns-then-number c =

@@ -8,27 +8,27 @@ use Rattle.alloc_path.proofs.space.Space.move_in.Goals as goal
 pub at_mut-chunk-requires : goal.at_mut-chunk-requires
 at_mut-chunk-requires c =
     let o = rw (← c.self.view_is) at c.requires.object in
-    let found = (heap.place_found c.self.inside.chunks.items c.args.object.chunk c.args.place (rw (← c.self.view_is) at c.requires.place)).0 in
+    let found = (chunks.place_found c.self.inside.chunks.items c.args.object.chunk c.args.place (rw (← c.self.view_is) at c.requires.place)).0 in
     let in' = chunks.chunk_of_object c.self.inside.chunks.items c.args.object o in
     omega arith
 
 pub move_behind-requires-clause-object : goal.move_behind-requires-clause-object
 move_behind-requires-clause-object c =
     let o = rw (← c.self.view_is) at c.requires.object in
-    let found = (heap.place_found c.self.inside.chunks.items c.args.object.chunk c.args.place (rw (← c.self.view_is) at c.requires.place)).0 in
+    let found = (chunks.place_found c.self.inside.chunks.items c.args.object.chunk c.args.place (rw (← c.self.view_is) at c.requires.place)).0 in
     rw (heap.own_cell c.self.inside.chunks.items c.args.object c.args.place c.at_mut-chunk.result.now o found c.at_mut-chunk.ensures.value) at o
 
 pub move_behind-requires-clause-room : goal.move_behind-requires-clause-room
 move_behind-requires-clause-room c =
     let o = rw (← c.self.view_is) at c.requires.object in
     let r = rw (← c.self.view_is) at c.requires.room in
-    let found = (heap.place_found c.self.inside.chunks.items c.args.object.chunk c.args.place (rw (← c.self.view_is) at c.requires.place)).0 in
+    let found = (chunks.place_found c.self.inside.chunks.items c.args.object.chunk c.args.place (rw (← c.self.view_is) at c.requires.place)).0 in
     rw (heap.own_cell c.self.inside.chunks.items c.args.object c.args.place c.at_mut-chunk.result.now o found c.at_mut-chunk.ensures.value) at r
 
 pub invariant_of-self : goal.invariant_of-self
 invariant_of-self c =
     let o = rw (← c.self.view_is) at c.requires.object in
-    let found = (heap.place_found c.self.inside.chunks.items c.args.object.chunk c.args.place (rw (← c.self.view_is) at c.requires.place)).0 in
+    let found = (chunks.place_found c.self.inside.chunks.items c.args.object.chunk c.args.place (rw (← c.self.view_is) at c.requires.place)).0 in
     rw c.move_behind.ensures.left
     (heap.own_changed c.self.inside.chunks.items c.args.object c.args.place c.at_mut-chunk.result.now o found c.at_mut-chunk.ensures.value
     _ _ _ _ _ _ _ _ _ c.self.invariant (with_mark (cell_at c.at_mut-chunk.result.now.cells c.args.object.offset) (Moved c.move_behind.result)) (λ n. sym (heap.held_object (cell_at c.at_mut-chunk.result.now.cells c.args.object.offset).mark n (rw (heap.own_cell c.self.inside.chunks.items c.args.object c.args.place c.at_mut-chunk.result.now o found c.at_mut-chunk.ensures.value) at o))) refl _ c.number.result c.number.ensures c.note_change.ensures.noted)
@@ -36,14 +36,14 @@ invariant_of-self c =
 pub returns-clause-copied : goal.returns-clause-copied
 returns-clause-copied c =
     let o = rw (← c.self.view_is) at c.requires.object in
-    let found = (heap.place_found c.self.inside.chunks.items c.args.object.chunk c.args.place (rw (← c.self.view_is) at c.requires.place)).0 in
+    let found = (chunks.place_found c.self.inside.chunks.items c.args.object.chunk c.args.place (rw (← c.self.view_is) at c.requires.place)).0 in
     let cell = heap.own_cell c.self.inside.chunks.items c.args.object c.args.place c.at_mut-chunk.result.now o found c.at_mut-chunk.ensures.value in
     rw (← c.self.view_is, cell) c.move_behind.ensures.copied
 
 pub returns-clause-left : goal.returns-clause-left
 returns-clause-left c =
     let o = rw (← c.self.view_is) at c.requires.object in
-    let found = (heap.place_found c.self.inside.chunks.items c.args.object.chunk c.args.place (rw (← c.self.view_is) at c.requires.place)).0 in
+    let found = (chunks.place_found c.self.inside.chunks.items c.args.object.chunk c.args.place (rw (← c.self.view_is) at c.requires.place)).0 in
     let cell = heap.own_cell c.self.inside.chunks.items c.args.object c.args.place c.at_mut-chunk.result.now o found c.at_mut-chunk.ensures.value in
     let put = heap.own_put c.self.inside.chunks.items c.args.object c.args.place c.at_mut-chunk.result.now o found c.at_mut-chunk.ensures.value in
     rw (← c.self.view_is, c.move_behind.ensures.left, cell, put (with_mark (cell_at c.at_mut-chunk.result.now.cells c.args.object.offset) (Moved c.move_behind.result)))

@@ -1,5 +1,5 @@
 use Rattle.std.proofs.Common.{refl}
-use Rattle.alloc_path.proofs.ViewLemmas as view
+use Rattle.chunk_rows.proofs.ViewLemmas as view
 use Rattle.alloc_path.proofs.space.Space.settle.Goals as goal
 
 pub invariant_of-self : goal.invariant_of-self

@@ -1,6 +1,6 @@
 use Rattle.std.proofs.Common.{◌≡◌, ◌+◌, ◌≤◌, ◌++◌}
 use Rattle.std.specs.Prelude.{vec_len}
-use Rattle.alloc_path.proofs.row.Row.put_before.Given as goal
+use Rattle.chunk_rows.proofs.row.Row.put_before.Given as goal
 
 abbrev pub invariant-loop-chunk : goal.invariant-loop-chunk
 invariant-loop-chunk l = record {

@@ -1,16 +1,16 @@
 -- The piece of a chunk that is found by its number.
-use Rattle.std.proofs.Common.{◌≡◌, ℕ, ◌+◌, ◌-◌, ◌<◌, ◌≤◌, Bool, true, false, cond, List, [], ◌∷◌, ◌++◌, get_or, length, refl, sym, take, ap, ◌∙◌, suc, subst, arith, inl, inr, eqb, Option, Some, None}
+use Rattle.std.proofs.Common.{◌≡◌, ℕ, ◌+◌, ◌-◌, ◌<◌, ◌≤◌, Bool, true, false, cond, List, [], ◌∷◌, ◌++◌, get_or, length, refl, sym, take, ap, ◌∙◌, suc, subst, arith, inl, inr, ⊎_elim, eqb, Option, Some, None}
 use Rattle.std.specs.Prelude.{option_map, Err, Ok, OnErr, OnOk, Result, ◌||◌}
 use Rattle.std.specs.Option.{option_or}
-use Rattle.std.proofs.lemmas.Bool.{cases_Bool, eqb-true}
+use Rattle.std.proofs.lemmas.Bool.{cases_Bool, cases_lt, eqb-true, le-ltb}
 use Rattle.std.proofs.lemmas.List.{take_more}
 use Rattle.object_layout.specs.ChunkValue.{ChunkValue}
 use Rattle.object_layout.specs.Chunks.{place_in, place_of}
 use Rattle.object_layout.specs.Piece.{PieceValue, frozen_of}
 use Rattle.kept_pieces.specs.PiecesValue.{is_among, needed, PiecesValue, Shows}
 use Rattle.kept_pieces.proofs.PieceLists as lists
-use Rattle.alloc_path.specs.View.{Level, level_of, nearest, piece_in}
-use Rattle.alloc_path.proofs.HeapLemmas as heap
+use Rattle.chunk_rows.specs.View.{Level, level_of, nearest, piece_in}
+use Rattle.object_layout.proofs.ChunkLaws as chunks
 
 further : (k : ChunkValue) (ks : List ChunkValue) (i : ℕ) (d : ChunkValue) → get_or (k ∷ ks) (1 + i) d ≡ get_or ks i d
 further k ks i d = let e : 1 + i ≡ suc i = omega arith in rw e refl
@@ -36,12 +36,24 @@ gone (k ∷ ks) n l =
       | inr e ↦ let m = rw e at l in rw e (gone ks n (omega arith))
     ]
 
+-- what an entry of the table tells
+found_place : (ks : List ChunkValue) (base n : ℕ) → length ks ≤ base → (before : ℕ) → Some before ≡ option_map (λ j. base - j) (place_in ks n) → (before ≤ base) × (Some (base - before) ≡ place_in ks n)
+found_place ks base n l before e =
+    ⊎_elim
+    (λ (inside : place_of ks n < length ks).
+    let f : Some before ≡ Some (base - place_of ks n) = rw (chunks.place_there ks n inside) at e in
+    let g : before ≡ base - place_of ks n = cc in
+    let same : base - before ≡ place_of ks n = omega arith in
+    (omega arith, ap Some same ∙ sym (chunks.place_there ks n inside)))
+    (λ (outside : length ks ≤ place_of ks n). let f : Some before ≡ None = rw (le-ltb (place_of ks n) (length ks) outside) at e in absurd (cc))
+    (cases_lt (place_of ks n) (length ks))
+
 -- the piece of the chunk at a place that the table tells
 pub one_added : (ks : List ChunkValue) (base number before : ℕ) (k : ChunkValue) → length ks ≤ base → Some before ≡ option_map (λ j. base - j) (place_in ks number) → k ≡ get_or ks (base - before) k →
     (n : ℕ) → piece_in (level_of (k ∷ [])) n ≡ cond (eqb number n) (piece_in (level_of ks) n) None
 one_added ks base number before k few tells read n =
-    let place = (heap.found_place ks base number few before tells).1 in
-    let found = heap.place_found ks number (base - before) (sym place) in
+    let place = (found_place ks base number few before tells).1 in
+    let found = chunks.place_found ks number (base - before) (sym place) in
     let at = there ks number k (let l = found.1 in omega arith) in
     let same : k ≡ get_or ks (place_of ks number) k = read ∙ ap (λ (i : ℕ). get_or ks i k) found.0 in
     let is : k.number ≡ number = ap (λ (x : ChunkValue). x.number) same ∙ at.0 in
@@ -61,7 +73,7 @@ none_added ks base number tells n o = sym (ap (option_or o) (by (eqb number n) (
     unplaced (Some i) e = cc
 
     none : piece_in (level_of ks) number ≡ None
-    none = gone ks number (heap.none_there ks number (unplaced (place_in ks number) tells))
+    none = gone ks number (chunks.none_there ks number (unplaced (place_in ks number) tells))
 
     by : (b : Bool) → (b ≡ true → piece_in (level_of ks) n ≡ None) → cond b (piece_in (level_of ks) n) None ≡ None
     by true h = h refl

@@ -1,9 +1,9 @@
 use Rattle.std.proofs.Common.{◌≡◌, ◌∙◌, ℕ, None, Option, ap, cond, eqb}
 use Rattle.std.specs.Option.{option_or}
 use Rattle.object_layout.specs.Piece.{PieceValue}
-use Rattle.alloc_path.specs.View.{level_of, piece_in}
-use Rattle.alloc_path.proofs.ViewLemmas as view
-use Rattle.alloc_path.proofs.shelf.add_one.Goals as goal
+use Rattle.chunk_rows.specs.View.{level_of, piece_in}
+use Rattle.chunk_rows.proofs.ViewLemmas as view
+use Rattle.chunk_rows.proofs.shelf.add_one.Goals as goal
 
 pub returns-in-None : goal.returns-in-None
 returns-in-None c = λ n. view.none_added c.args.chunks.now c.args.base c.args.number (c.in-None.ensures.value ∙ c.requires.table c.args.number) n (piece_in c.args.layer.now n)

@@ -1,6 +1,6 @@
-use Rattle.alloc_path.specs.View.{piece_in}
-use Rattle.alloc_path.proofs.ViewLemmas as view
-use Rattle.alloc_path.proofs.shelf.add_each.Goals as goal
+use Rattle.chunk_rows.specs.View.{piece_in}
+use Rattle.chunk_rows.proofs.ViewLemmas as view
+use Rattle.chunk_rows.proofs.shelf.add_each.Goals as goal
 
 pub loop-number-preserved : goal.loop-number-preserved
 loop-number-preserved c = λ n.

@@ -10,7 +10,7 @@ use std::mem;
 /// Chunks in a row. It has places before them, in which empty chunks without words stand, and places behind them; so chunks
 /// are put in at both ends, and none of the others moves.
 #[derive(Drop)]
-pub(crate) struct Row {
+pub struct Row {
     chunks: Vec<Chunk>,
     // How many of them only keep a place.
     before: usize,
@@ -18,7 +18,7 @@ pub(crate) struct Row {
 
 impl Model for Row {
     ghost use Rattle.std.specs.Prelude.{◌+◌, ◌-◌, ◌≤◌, drop, vec_capacity, vec_len};
-    ghost use Rattle.alloc_path.specs.Row.{RowValue};
+    ghost use Rattle.chunk_rows.specs.Row.{RowValue};
 
     ghost Value = { RowValue };
 
@@ -30,10 +30,10 @@ impl Model for Row {
 impl Row {
     ghost use Rattle.std.specs.Prelude.{◌≡◌, ◌+◌, ◌^◌, ◌<◌, ◌≤◌, [], ◌∷◌, ◌++◌, IfOk, OnOk, length, slice_index_or, vec_len};
     ghost use Rattle.std.specs.Borrow.{sem};
-    ghost use Rattle.alloc_path.specs.RowLends.{lends_chunk};
+    ghost use Rattle.chunk_rows.specs.RowLends.{lends_chunk};
 
     /// No chunk.
-    pub(crate) fn new(alloc: Global) -> Row
+    pub fn new(alloc: Global) -> Row
         ensures { result.items ≡ [] }
     {
         Row {
@@ -43,19 +43,19 @@ impl Row {
     }
 
     /// These chunks.
-    pub(crate) fn of(chunks: Vec<Chunk>) -> Row
+    pub fn of(chunks: Vec<Chunk>) -> Row
         ensures { result.items ≡ chunks.items }
     {
         Row { chunks, before: 0 }
     }
 
     /// What it takes memory from.
-    pub(crate) fn allocator(&self) -> Global {
+    pub fn allocator(&self) -> Global {
         *self.chunks.allocator()
     }
 
     /// How many chunks there are; with the places they are fewer than half of what a `usize` counts.
-    pub(crate) fn len(&self) -> usize
+    pub fn len(&self) -> usize
         ensures count { result ≡ length self.now.items }
         ensures few { length self.now.items + self.now.places < 2 ^ 63 }
     {
@@ -63,14 +63,14 @@ impl Row {
     }
 
     /// All chunks.
-    pub(crate) fn as_slice(&self) -> &[Chunk]
+    pub fn as_slice(&self) -> &[Chunk]
         ensures { result.now ≡ self.now.items }
     {
         &self.chunks[self.before..]
     }
 
     /// The chunk at a place, to be changed.
-    pub(crate) fn at_mut(&mut self, place: usize) -> &mut Chunk
+    pub fn at_mut(&mut self, place: usize) -> &mut Chunk
         requires { place < length self.old.items }
         ensures* writes_back { sem 𝓛 (lends_chunk self.entry place result) }
         ensures value { result.now ≡ slice_index_or self.old.items place result.now }
@@ -79,7 +79,7 @@ impl Row {
     }
 
     /// The chunk at a place.
-    pub(crate) fn at(&self, place: usize) -> &Chunk
+    pub fn at(&self, place: usize) -> &Chunk
         requires { place < length self.now.items }
         ensures { result.now ≡ slice_index_or self.now.items place result.now }
     {
@@ -87,7 +87,7 @@ impl Row {
     }
 
     /// Makes places for so many chunks more.
-    pub(crate) fn reserve(&mut self, more: usize) -> Result<(), AllocError>
+    pub fn reserve(&mut self, more: usize) -> Result<(), AllocError>
         ensures items { self.new.items ≡ self.old.items }
         ensures ok { OnOk result (more ≤ self.new.places) }
         ensures places { self.old.places ≤ self.new.places }
@@ -97,7 +97,7 @@ impl Row {
 
     /// Makes places before the others for so many chunks more, and at least as many as there are chunks where any is
     /// made, so that a chunk is moved for it twice at most in the long run.
-    pub(crate) fn reserve_before(&mut self, more: usize) -> Result<(), AllocError>
+    pub fn reserve_before(&mut self, more: usize) -> Result<(), AllocError>
         ensures items { self.new.items ≡ self.old.items }
         ensures ok { OnOk result (more ≤ self.new.places) }
         ensures places { self.old.places ≤ self.new.places }
@@ -114,7 +114,7 @@ impl Row {
     }
 
     /// Puts a chunk behind the others, where there is a place. It takes no memory.
-    pub(crate) fn push_reserved(&mut self, chunk: Chunk)
+    pub fn push_reserved(&mut self, chunk: Chunk)
         requires { 0 < self.old.places }
         ensures items { self.new.items ≡ self.old.items ++ chunk ∷ [] }
         ensures places { self.old.places ≡ self.new.places + 1 }
@@ -141,7 +141,7 @@ impl Row {
     }
 
     /// Puts these chunks before the others, where there are places. It takes no memory.
-    pub(crate) fn put_before(&mut self, mut more: Vec<Chunk>)
+    pub fn put_before(&mut self, mut more: Vec<Chunk>)
         requires { vec_len more ≤ self.old.places }
         ensures items { self.new.items ≡ more.items ++ self.old.items }
         ensures places { self.old.places ≤ self.new.places + vec_len more }
@@ -152,7 +152,7 @@ impl Row {
     }
 
     /// Takes all chunks out.
-    pub(crate) fn take(&mut self) -> Vec<Chunk>
+    pub fn take(&mut self) -> Vec<Chunk>
         ensures taken { result.items ≡ self.old.items }
         ensures left { self.new.items ≡ [] }
     {

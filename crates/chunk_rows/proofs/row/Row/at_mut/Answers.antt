@@ -1,6 +1,6 @@
 use Rattle.std.proofs.Common.{refl}
-use Rattle.alloc_path.proofs.Rows as rows
-use Rattle.alloc_path.proofs.row.Row.at_mut.Goals as goal
+use Rattle.chunk_rows.proofs.Rows as rows
+use Rattle.chunk_rows.proofs.row.Row.at_mut.Goals as goal
 
 pub returns : goal.returns
 returns c =

@@ -3,8 +3,8 @@ use Rattle.std.specs.Prelude.{ℕ, slice_set}
 use Rattle.std.specs.Borrow.{Fml, Lends, MutBor}
 use Rattle.object_layout.specs.ChunkValue.{ChunkValue}
 use Rattle.object_layout.specs.contracts.chunk.Chunk.{the_row as chunk_row}
-use Rattle.alloc_path.specs.Row.{RowValue}
-use Rattle.alloc_path.specs.contracts.row.Row.{the_row}
+use Rattle.chunk_rows.specs.Row.{RowValue}
+use Rattle.chunk_rows.specs.contracts.row.Row.{the_row}
 
 -- once the borrow r ends, the chunk at this place is the last one written through r
 abbrev pub lends_chunk : MutBor RowValue → ℕ → MutBor ChunkValue → Fml

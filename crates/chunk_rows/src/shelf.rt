@@ -6,7 +6,7 @@ ghost use Rattle.std.specs.HashMap.{get};
 ghost use Rattle.std.specs.Option.{option_copied, option_or};
 ghost use Rattle.object_layout.specs.Chunks.{place_in};
 ghost use Rattle.kept_pieces.specs.PiecesValue.{is_among, needed, Shows};
-ghost use Rattle.alloc_path.specs.View.{level_of, nearest, piece_in};
+ghost use Rattle.chunk_rows.specs.View.{level_of, nearest, piece_in};
 
 use super::row::Row;
 use kept_pieces::{Layer, Pieces, piece_of};
@@ -21,7 +21,7 @@ use std::sync::Arc;
 ///
 /// It shares the layers of pieces with the heap, as long as that keeps them.
 #[derive(Drop)]
-pub(crate) struct Shelf {
+pub struct Shelf {
     layers: Vec<Arc<Layer, Global>>,
     // As they were then.
     chunks: Snapshot<Row>,
@@ -30,7 +30,7 @@ pub(crate) struct Shelf {
 impl Model for Shelf {
     ghost use Rattle.std.specs.Prelude.{◌≡◌, ℕ, map};
     ghost use Rattle.std.specs.Arc.{arc_value};
-    ghost use Rattle.alloc_path.specs.View.{Level, level_of, nearest, piece_in};
+    ghost use Rattle.chunk_rows.specs.View.{Level, level_of, nearest, piece_in};
 
     ghost Value = { Level };
 
@@ -41,7 +41,7 @@ impl Model for Shelf {
 
 impl Shelf {
     /// The immutable objects that these chunks have now, of which some pieces are kept.
-    pub(crate) fn of(
+    pub fn of(
         alloc: Global,
         chunks: &Row,
         kept: &Pieces,
@@ -61,7 +61,7 @@ impl Shelf {
     }
 
     /// The immutable objects that the chunk of a number had; None where there was no such chunk.
-    pub(crate) fn piece(&self, number: u32) -> Option<&Piece>
+    pub fn piece(&self, number: u32) -> Option<&Piece>
         ensures { option_copied result ≡ piece_in self.now number }
     {
         piece_of(&self.layers, number)
@@ -90,7 +90,7 @@ fn all_layers(
 }
 
 /// The pieces of those of these chunks of which none is kept that is right.
-pub(crate) fn missing_pieces(
+pub fn missing_pieces(
     alloc: Global,
     kept: &Pieces,
     chunks: &[Chunk],

@@ -2,8 +2,8 @@ use Rattle.std.proofs.Common.{◌≡◌, ◌-◌, List, arith, length}
 use Rattle.std.proofs.lemmas.List.{drop_at, take_at}
 use Rattle.std.specs.Prelude.{vec_len}
 use Rattle.object_layout.specs.ChunkValue.{ChunkValue}
-use Rattle.alloc_path.proofs.Rows as rows
-use Rattle.alloc_path.proofs.row.Row.reserve_before.Goals as goal
+use Rattle.chunk_rows.proofs.Rows as rows
+use Rattle.chunk_rows.proofs.row.Row.reserve_before.Goals as goal
 
 pub returns-clause-items : goal.returns-clause-items
 returns-clause-items c =
