@@ -46,6 +46,15 @@ impl LeafHeap {
         self.space.own_chunk(object)
     }
 
+    /// The chunk in which an object of this heap lies, where it is known at which place that stands.
+    #[inline(always)]
+    pub fn chunk_in(&self, place: usize, object: Addr) -> &Chunk
+        requires { place_in self.now.chunks object.chunk ≡ Some place }
+        ensures { cell_at result.now.cells object.offset ≡ cell_of self.now.chunks object }
+    {
+        self.space.chunk_in(place, object)
+    }
+
     /// The kind of an object.
     pub fn own_header(&self, object: Addr) -> Header
         requires { IsObject (cell_of self.now.chunks object).mark }

@@ -34,7 +34,7 @@ impl Private {
         requires there { IsThere self.now.heap.chunks own }
         ensures cell { cell_at result.now.cells own.object.offset ≡ cell_of self.now.heap.chunks own.object }
     {
-        &self.heap.chunks()[own.place]
+        self.heap.chunk_in(own.place, own.object)
     }
 
     #[inline(always)]
