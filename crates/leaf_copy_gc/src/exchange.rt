@@ -113,6 +113,26 @@ pub fn name_larges(heap: &mut Space, found: &[Survivor], are_large: bool)
     }
 }
 
+// Puts these chunks in, with what they hold: as it was counted, unless there are large objects among them.
+fn put_counted(
+    heap: &mut Space,
+    chunks: Vec<Chunk>,
+    counts: Counts,
+    are_large: bool,
+    current: Option<usize>,
+    reserved: Option<usize>,
+)
+    requires apart { AreApart chunks.items }
+    requires counted { are_large ≡ false → AreCounted chunks.items counts }
+    requires current { IsCurrent chunks.items current }
+    requires reserved { IsReserved chunks.items reserved }
+    requires spare { length chunks.items ≤ heap.old.spare }
+    ensures { heap.new ≡ with_places (exchanged heap.old chunks.items current reserved) heap.new.slots heap.new.spare }
+{
+    let held = counts_with(&chunks, counts, are_large);
+    heap.put_chunks(chunks, held, current, reserved);
+}
+
 /// Takes the old chunks out, and puts in the new ones, with what they hold, those of large objects that were found, and
 /// the reserved one. It says whether there are any of large objects.
 pub fn exchange(
@@ -141,8 +161,7 @@ pub fn exchange(
     match reserved {
         None => {
             let any = part(old, &mut laid, back);
-            let counts = counts_with(&laid, counts, any);
-            heap.put_chunks(laid, counts, current, None);
+            put_counted(heap, laid, counts, any, current, None);
             any
         }
         Some(i) => {
@@ -150,8 +169,7 @@ pub fn exchange(
             let any = part(old, &mut laid, back);
             let place = laid.len();
             laid.push_reserved(kept);
-            let counts = counts_with(&laid, counts, any);
-            heap.put_chunks(laid, counts, current, Some(place));
+            put_counted(heap, laid, counts, any, current, Some(place));
             any
         }
     }

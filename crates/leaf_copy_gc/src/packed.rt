@@ -35,7 +35,7 @@ pub(crate) fn counts_of_packed(chunks: &[Chunk], objects: usize) -> Counts
 
 /// What chunks hold: as it was counted, unless large objects came to that.
 pub(crate) fn counts_with(chunks: &[Chunk], counts: Counts, are_large: bool) -> Counts
-    requires none { are_large ≡ false → AreCounted chunks.now counts }
+    requires { are_large ≡ false → AreCounted chunks.now counts }
     ensures { AreCounted chunks.now result }
 {
     if are_large {

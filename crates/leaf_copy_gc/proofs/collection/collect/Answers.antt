@@ -5,6 +5,7 @@ use Rattle.object_layout.specs.declared.word.Addr.{Addr}
 use Rattle.object_layout.specs.ChunkValue.{ChunkValue}
 use Rattle.object_layout.specs.Graph.{IsClosed, IsSound}
 use Rattle.object_layout.proofs.Distinct.{once_from}
+use Rattle.alloc_path.specs.Counted.{AreCounted}
 use Rattle.alloc_path.specs.LeafHeapValue.{LeafHeapValue}
 use Rattle.leaf_copy_gc.specs.declared.lists.Survivor.{Survivor}
 use Rattle.leaf_copy_gc.specs.Survivors.{olds, outside, with_chunks}
@@ -54,13 +55,17 @@ counts_of_packed-counts-requires c =
     let ss : List Survivor = c.collector.inside.found.items in
     let laid : List ChunkValue = c.collector.inside.laid.items in
     let s = e.survivors in
-    let turned : length (reverse news) ≡ length news = length-reverse news in
-    let enough : 2 * ((small_words h + 1023) / 1024) ≤ length (reverse news) + 1 = rw turned c.requires.enough in
+    let asked = c.requires.enough in
+    let turned = length-reverse news in
+    let enough : 2 * ((small_words h + 1023) / 1024) ≤ length (reverse news) + 1 = rw turned asked in
     let permuted = subst (λ (ms : List (Addr × Addr)). IsPermutation ms c.sort.new.list.items) e.moved c.sort.ensures.permutation in
     let many : length c.sort.new.list.items ≡ length (moves_of h ss (reverse news)) = length_permutation (moves_of h ss (reverse news)) c.sort.new.list.items permuted in
-    let count : c.len.result ≡ length (moves_of h ss (reverse news)) = omega arith in
+    let count : c.len.result ≡ length (moves_of h ss (reverse news)) = c.len.ensures ∙ (c.sort.new.list.ok.0 ∙ many) in
     subst (λ (ks : List ChunkValue). ArePacked ks c.len.result) (sym c.deref-2.ensures.value)
     (packing.packed h ss (reverse news) s.names (once_from (olds ss) s.once) (nums.new_reverse news c.requires.new) enough (redirection h ss (reverse news)) laid e.laid c.len.result count)
+
+pub exchange-are_large-requires-clause-counted : goal.exchange-are_large-requires-clause-counted
+exchange-are_large-requires-clause-counted c = subst (λ (ks : List ChunkValue). AreCounted ks c.counts_of_packed-counts.result) c.deref-2.ensures.value c.counts_of_packed-counts.ensures
 
 pub exchange-are_large-requires-clause-apart : goal.exchange-are_large-requires-clause-apart
 exchange-are_large-requires-clause-apart c =
