@@ -1,8 +1,9 @@
 // Copies survivors into new chunks, in their order.
 
-ghost use Rattle.std.specs.Prelude.{◌≡◌, ◌+◌, ◌≤◌, ◌<◌, [], length, fold, true, Some};
+ghost use Rattle.std.specs.Prelude.{◌≡◌, ◌+◌, ◌≤◌, ◌<◌, ◌++◌, ◌∷◌, [], length, fold, true, Some};
 ghost use Rattle.object_layout.specs.Cell.{Moved, size_of, with_mark, IsObject};
-ghost use Rattle.object_layout.specs.Chunks.{cell_of, place_in, put_object};
+ghost use Rattle.object_layout.specs.Place.{words_in};
+ghost use Rattle.object_layout.specs.Chunks.{cell_of, next_address, place_in, put_object};
 ghost use Rattle.leaf_copy_gc.specs.Survivors.{with_chunks};
 ghost use Rattle.leaf_copy_gc.specs.Laid.{is_small, next_place, opened, placed, room_in, HasRoom};
 ghost use Rattle.leaf_copy_gc.specs.Copying.{copied, copied_last, copied_one, survivor_cell, IsReady};
@@ -10,7 +11,7 @@ ghost use Rattle.leaf_copy_gc.specs.Copying.{copied, copied_last, copied_one, su
 use crate::collector::Collector;
 use crate::lists::Survivor;
 use alloc_path::Space;
-use object_layout::{Addr, Chunk, header_at};
+use object_layout::{Addr, Chunk, copy_behind, header_at, set_birth};
 
 /// How many words a small object has at most.
 pub(crate) const SMALL: u32 = 1024;
@@ -46,6 +47,25 @@ fn room_left(laid: &[Chunk]) -> u32
     chunk.size() - chunk.used()
 }
 
+// Writes a copy of an object, whose chunk stands at this place, under its birth name behind those of a new chunk, and
+// says where. Nothing of the old chunk changes.
+fn copy_out(heap: &Space, place: usize, survivor: Survivor, to: &mut Chunk) -> Addr
+    requires place { place_in heap.now.chunks survivor.old.chunk ≡ Some place }
+    requires object { IsObject (cell_of heap.now.chunks survivor.old).mark }
+    requires room { words_in to.old.cells + size_of (cell_of heap.now.chunks survivor.old) ≤ to.old.size }
+    ensures address { result ≡ next_address to.old }
+    ensures copied { to.new ≡ record to.old { cells = to.old.cells ++ survivor_cell heap.now.chunks survivor ∷ [] } }
+{
+    let from = heap.chunk_in(place, survivor.old);
+    let offset = copy_behind(from, survivor.old.offset, to);
+    let address = Addr {
+        chunk: to.number(),
+        offset,
+    };
+    set_birth(to, offset, survivor.birth);
+    address
+}
+
 // Copies an object, whose chunk stands at this place, behind those of the last new chunk, and leaves its new address.
 fn move_last(heap: &mut Space, place: usize, survivor: Survivor, laid: &mut [Chunk]) -> Addr
     requires place { place_in heap.old.chunks survivor.old.chunk ≡ Some place }
@@ -57,7 +77,9 @@ fn move_last(heap: &mut Space, place: usize, survivor: Survivor, laid: &mut [Chu
     ensures left { heap.new ≡ with_chunks heap.old (put_object heap.old.chunks survivor.old (with_mark (cell_of heap.old.chunks survivor.old) (Moved result))) }
 {
     let last = laid.len() - 1;
-    heap.move_in(place, survivor.old, survivor.birth, &mut laid[last])
+    let address = copy_out(heap, place, survivor, &mut laid[last]);
+    heap.forward_in(place, survivor.old, address);
+    address
 }
 
 impl Collector {
