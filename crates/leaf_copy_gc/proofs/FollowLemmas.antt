@@ -191,21 +191,6 @@ module _ (f : Option Addr → Option Addr) where
     pub there : cell_at now.cells at ≡ cell_at k.cells at
     there = ap (λ (xs : List Cell). cell_at xs at) now_cells ∙ before_cell k.cells at o
 
-    after_cells : after.cells ≡ put_cell now.cells at (led_cell f (cell_at now.cells at))
-    after_cells = ap (λ (x : ChunkValue). x.cells) done
-
-    pub after_object : IsCellAt after.cells at
-    after_object =
-        subst (λ (xs : List Cell). IsCellAt xs at) (sym after_cells)
-        (place.IsCellAt-put now.cells at at (led_cell f (cell_at now.cells at)) (size_led f (cell_at now.cells at)) begins_there)
-
-    pub after_size : size_of (cell_at after.cells at) ≡ size_of (cell_at k.cells at)
-    after_size =
-        ap (λ (xs : List Cell). size_of (cell_at xs at)) after_cells
-        ∙ (ap size_of (place.cell_at-put_same now.cells at (led_cell f (cell_at now.cells at)) begins_there)
-        ∙ (size_led f (cell_at now.cells at)
-        ∙ ap size_of there))
-
     pub after_is : (next : ℕ) → next ≡ at + size_of (cell_at k.cells at) → after ≡ record k { cells = led_before f k.cells next }
     after_is next e =
         done

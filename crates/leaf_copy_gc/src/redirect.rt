@@ -81,8 +81,9 @@ fn follow_chunk(chunk: &mut Chunk, heap: &Space)
     let used = chunk.used();
     let mut at = 0;
     while at < used {
+        let next = next_at(chunk, at);
         follow_refs(chunk, at, heap, &mut near);
-        at = next_at(chunk, at);
+        at = next;
     }
 }
 

@@ -23,21 +23,21 @@ follow_refs-requires-clause-targets c =
     let t : HasTargets c.args.heap.now.chunks (cell_at c.args.chunk.now.cells c.loop-at.at) = place.All-cell_at (HasTargets c.args.heap.now.chunks) c.args.chunk.now.cells c.loop-at.at o c.requires in
     subst (λ (d : Cell). All (IsTarget c.args.heap.now.chunks) d.refs) (sym (follows.there f c.args.chunk.now c.loop-at.chunk _ c.loop-at.at o c.loop-at.invariant.chunk refl)) t.1
 
-pub next_at-at-requires : goal.next_at-at-requires
-next_at-at-requires c =
+pub next_at-next-requires : goal.next_at-next-requires
+next_at-next-requires c =
     let f = followed_ref c.args.heap.now.chunks in
     let o : IsCellAt c.args.chunk.now.cells c.loop-at.at = c.loop-at.invariant.begins c.loop-at-test.true in
-    follows.after_object f c.args.chunk.now c.loop-at.chunk c.follow_refs.new.chunk c.loop-at.at o c.loop-at.invariant.chunk c.follow_refs.ensures.led
+    follows.begins_there f c.args.chunk.now c.loop-at.chunk _ c.loop-at.at o c.loop-at.invariant.chunk refl
 
 pub loop-at-preserved : goal.loop-at-preserved
 loop-at-preserved c =
     let f = followed_ref c.args.heap.now.chunks in
     let o : IsCellAt c.args.chunk.now.cells c.loop-at.at = c.loop-at.invariant.begins c.loop-at-test.true in
-    let size = follows.after_size f c.args.chunk.now c.loop-at.chunk c.follow_refs.new.chunk c.loop-at.at o c.loop-at.invariant.chunk c.follow_refs.ensures.led in
-    let next : c.next_at-at.result ≡ c.loop-at.at + size_of (cell_at c.args.chunk.now.cells c.loop-at.at) = c.next_at-at.ensures.next ∙ ap (λ n. c.loop-at.at + n) size in
+    let there = follows.there f c.args.chunk.now c.loop-at.chunk c.follow_refs.new.chunk c.loop-at.at o c.loop-at.invariant.chunk c.follow_refs.ensures.led in
+    let next : c.next_at-next.result ≡ c.loop-at.at + size_of (cell_at c.args.chunk.now.cells c.loop-at.at) = c.next_at-next.ensures.next ∙ ap (λ (d : Cell). c.loop-at.at + size_of d) there in
     let ends = place.cell_ends c.args.chunk.now.cells c.loop-at.at o in
     record {
-      chunk = follows.after_is f c.args.chunk.now c.loop-at.chunk c.follow_refs.new.chunk c.loop-at.at o c.loop-at.invariant.chunk c.follow_refs.ensures.led c.next_at-at.result next;
+      chunk = follows.after_is f c.args.chunk.now c.loop-at.chunk c.follow_refs.new.chunk c.loop-at.at o c.loop-at.invariant.chunk c.follow_refs.ensures.led c.next_at-next.result next;
       within = omega arith;
       begins = λ l. rw next (place.next_cell c.args.chunk.now.cells c.loop-at.at o (omega arith));
       known = c.follow_refs.ensures.known;
