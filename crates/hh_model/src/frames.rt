@@ -2,7 +2,7 @@
 
 ghost use Rattle.std.specs.Prelude.{◌≡◌, ◌<◌, ◌+◌, ◌^◌, ◌++◌, ◌∷◌, [], length, slice_get, IfSome, OnOk, OnErr, IfNone};
 ghost use Rattle.hh_model.specs.Effect.{onward, with_int, with_ref};
-ghost use Rattle.hh_model.specs.Step.{with_task, called, last_of, front_of};
+ghost use Rattle.hh_model.specs.Step.{with_task, called, entry_frame, last_of, front_of};
 
 use crate::data::{End, Frame, Name, State, Trap};
 use hh_lang::{IntReg, RefReg};
@@ -12,12 +12,14 @@ use std::alloc::AllocError;
 pub const FRAME_LIMIT: usize = 1000;
 
 impl State {
-    /// Puts another top frame in a task's place.
-    pub(crate) fn set_top(&mut self, t: u32, frame: Frame)
+    /// A frame that has waited becomes a task's top one, with what is handed back to it.
+    pub(crate) fn come_back(&mut self, t: u32, caller: Frame, handed_back: (i64, Option<Name>))
         requires { t < length self.old.tasks }
-        ensures { IfSome (slice_get self.old.tasks t) (λ x. self.new ≡ with_task self.old t (record x { top = frame })) }
+        ensures { IfSome (slice_get self.old.tasks t) (λ x. self.new ≡ with_task self.old t (record x { top = with_ref (with_int caller 0 handed_back.0) 0 handed_back.1 })) }
     {
-        self.tasks.at_mut(t as usize).top = frame;
+        let task = self.tasks.at_mut(t as usize);
+        task.top = caller;
+        task.top.take_result(0, handed_back);
     }
 
     /// A task goes on with the next instruction.
@@ -59,16 +61,17 @@ impl State {
         self.tasks.at_mut(t as usize).top.next = to;
     }
 
-    /// The top frame of a task waits, and another one goes on.
+    /// A frame waits below the top one, which goes on in a function.
     #[tactic(auto, using(crate::proofs::Lists::set_got))]
-    fn push_frame(&mut self, t: u32, waiting: Frame, top: Frame) -> Result<(), AllocError>
+    fn push_frame(&mut self, t: u32, waiting: Frame, function: u32) -> Result<(), AllocError>
         requires { t < length self.old.tasks }
-        ensures ok { OnOk result (IfSome (slice_get self.old.tasks t) (λ x. self.new ≡ with_task self.old t (record x { top = top; below = x.below ++ waiting ∷ [] }))) }
+        ensures ok { OnOk result (IfSome (slice_get self.old.tasks t) (λ x. self.new ≡ with_task self.old t (record x { top = entry_frame function x.top; below = x.below ++ waiting ∷ [] }))) }
         ensures err { OnErr result (self.new ≡ self.old) }
     {
         let task = self.tasks.at_mut(t as usize);
         task.below.push(waiting)?;
-        task.top = top;
+        task.top.function = function;
+        task.top.next = 0;
         Ok(())
     }
 
@@ -85,9 +88,8 @@ impl State {
             return Ok(());
         }
         let mut caller = task.top;
-        let entry = caller.entry(function);
         caller.advance();
-        self.push_frame(t, caller, entry)
+        self.push_frame(t, caller, function)
     }
 
     /// Takes off the frame that has waited least, if there is one.

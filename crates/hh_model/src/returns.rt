@@ -23,9 +23,7 @@ impl State {
         let parent = task.parent;
         let handed_back = task.top.result();
         if let Some(caller) = self.pop_frame(t) {
-            let mut frame = caller;
-            frame.take_result(0, handed_back);
-            self.set_top(t, frame);
+            self.come_back(t, caller, handed_back);
             return Ok(());
         }
         match parent {

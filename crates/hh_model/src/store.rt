@@ -101,10 +101,7 @@ impl State {
             count: self.store.at(t as usize).len() as u32,
         };
         self.add_object(t, object)?;
-        let mut top = self.tasks.at(t as usize).top;
-        top.set_reference(target, Some(name));
-        top.advance();
-        self.set_top(t, top);
+        self.set_reference(t, target, Some(name));
         Ok(())
     }
 
