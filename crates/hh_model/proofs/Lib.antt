@@ -15,6 +15,7 @@ pub mod Closed
 pub mod Disentangled
 pub mod Counts
 pub mod Taken
+pub mod Acts
 pub mod Objects
 pub mod Stored
 pub mod Numbers
