@@ -5,7 +5,7 @@ use Rattle.hh_lang.specs.Form.{IsProgram, ProgramText}
 use Rattle.hh_model.specs.declared.data.State.{State as Machine}
 use Rattle.hh_model.specs.Effect.{object_at}
 use Rattle.hh_model.specs.Step.{run}
-use Rattle.hh_model.proofs.Stopped.{reads_are_decided}
+use Rattle.model_laws.proofs.Stopped.{reads_are_decided}
 use Rattle.hh_model.proofs.Leaves.{can_going}
 use Rattle.run_trace.specs.Entry.{EntryValue}
 use Rattle.run_trace.specs.Settings.{SettingsValue, field_limit}

@@ -21,13 +21,9 @@ pub mod Stored
 pub mod Numbers
 pub mod FreeReads
 pub mod Frozen
-pub mod Winner
 pub mod Next
 pub mod PathLaws
 pub mod Root
 pub mod EndLaws
-pub mod Stopped
 pub mod Sizes
-pub mod TurnLaws
 pub mod Leaves
-pub mod Example

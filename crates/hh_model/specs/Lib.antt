@@ -11,9 +11,7 @@ pub mod Store
 pub mod Closed
 pub mod Disentangled
 pub mod Counts
-pub mod Turns
 pub mod Ends
 pub mod Leaves
 pub mod ReadLaws
-pub mod Winner
 pub mod NextLaw

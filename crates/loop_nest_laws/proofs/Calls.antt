@@ -14,7 +14,7 @@ use Rattle.hh_model.specs.declared.data.End.TheVariants.{Trapped}
 use Rattle.hh_model.specs.declared.data.State.{State}
 use Rattle.hh_model.specs.Effect.{effect, onward, int_in, ref_in, with_int, with_ref}
 use Rattle.hh_model.specs.Step.{is_running, result_in, setting, follow, fetched, last_of, front_of, back_in, entry_frame, ended_by, with_task, frame_limit}
-use Rattle.hh_model.specs.Winner.{IsTurn}
+use Rattle.model_laws.specs.Winner.{IsTurn}
 use Rattle.hh_model.proofs.Lists.{last_push, front_push}
 use Rattle.hh_model.proofs.Taken.{step_taken}
 use Rattle.loop_nest_laws.specs.Frames.{Activation, StandsAt, Takes, HandsBack, called_frame}

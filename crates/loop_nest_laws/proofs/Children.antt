@@ -14,7 +14,7 @@ use Rattle.hh_model.specs.declared.data.End.TheVariants.{Trapped}
 use Rattle.hh_model.specs.declared.data.State.{State}
 use Rattle.hh_model.specs.Effect.{effect, onward, with_int, with_ref}
 use Rattle.hh_model.specs.Step.{is_running, is_joined, is_over, is_left, sibling, parents, parent_of, result_in, result_of, setting, follow, fetched, last_of, entry_frame, ended_by, child, resumed, joined, depth_limit, strand_of, strand, edge}
-use Rattle.hh_model.specs.Winner.{IsTurn}
+use Rattle.model_laws.specs.Winner.{IsTurn}
 use Rattle.hh_model.proofs.Runs.{grown_at, grown_left, grown_right}
 use Rattle.hh_model.proofs.Taken.{step_taken}
 use Rattle.loop_nest_laws.specs.Frames.{Activation, StandsAt, Takes, HandsBack, left_frame, right_frame}

@@ -16,7 +16,7 @@ use Rattle.hh_model.specs.declared.data.End.TheVariants.{Done}
 use Rattle.hh_model.specs.declared.data.State.{State}
 use Rattle.hh_model.specs.Effect.{effect}
 use Rattle.hh_model.specs.Step.{runs, waits, is_left, sibling, parents, parent_of, result_of, setting, follow, fetched, last_of, front_of, back_in, last_return, returned_to, child_ended_by, kept_by, ended_task, joined_task, resumed, join_of, or_same}
-use Rattle.hh_model.specs.Winner.{IsTurn}
+use Rattle.model_laws.specs.Winner.{IsTurn}
 use Rattle.hh_model.proofs.Runs.{three_left, three_right}
 use Rattle.hh_model.proofs.Taken.{step_taken}
 use Rattle.loop_nest_laws.specs.Frames.{Activation, Takes}

@@ -7,7 +7,7 @@ use Rattle.hh_lang.specs.Form.{ProgramText}
 use Rattle.hh_model.specs.declared.data.Task.{Task}
 use Rattle.hh_model.specs.Effect.{int_in}
 use Rattle.hh_model.specs.Step.{root}
-use Rattle.hh_model.specs.Winner.{after}
+use Rattle.model_laws.specs.Winner.{after}
 use Rattle.hh_lang.specs.Loop.{Loop, IsLoop, whole_code, left_code, right_code}
 use Rattle.hh_lang.proofs.Examples.{fun}
 use Rattle.loop_nest_laws.specs.LoopLaw.{IsInRange, SomeLoopReturns, IsLoopStep, HasReturned, CallsEachNumber}

@@ -15,7 +15,7 @@ use Rattle.hh_model.specs.declared.data.End.TheVariants.{Trapped}
 use Rattle.hh_model.specs.declared.data.State.{State}
 use Rattle.hh_model.specs.Effect.{effect, onward, int_in, with_int, with_ref}
 use Rattle.hh_model.specs.Step.{entry_frame, ended_by, with_task, frame_limit, follow, setting, result_of, result_in, back_in}
-use Rattle.hh_model.specs.Winner.{after}
+use Rattle.model_laws.specs.Winner.{after}
 use Rattle.hh_model.proofs.Taken.{step_taken}
 use Rattle.hh_model.proofs.Sizes.{wide}
 use Rattle.hh_lang.specs.Loop.{Loop, IsLoop}

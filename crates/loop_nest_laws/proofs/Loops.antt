@@ -9,7 +9,7 @@ use Rattle.hh_model.specs.declared.data.Frame.{Frame}
 use Rattle.hh_model.specs.declared.data.Task.{Task}
 use Rattle.hh_model.specs.Effect.{int_in, int_eq}
 use Rattle.hh_model.specs.Step.{result_of, entry_frame}
-use Rattle.hh_model.specs.Winner.{after}
+use Rattle.model_laws.specs.Winner.{after}
 use Rattle.hh_lang.specs.Loop.{Loop, IsLoop}
 use Rattle.loop_nest_laws.specs.Frames.{Activation, HandsBack, called_frame, left_frame, right_frame}
 use Rattle.loop_nest_laws.specs.LoopLaw.{Finds}

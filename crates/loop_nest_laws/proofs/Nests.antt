@@ -11,7 +11,7 @@ use Rattle.hh_lang.specs.Form.{ProgramText}
 use Rattle.hh_model.specs.declared.data.Frame.{Frame}
 use Rattle.hh_model.specs.declared.data.Task.{Task}
 use Rattle.hh_model.specs.Effect.{int_in}
-use Rattle.hh_model.specs.Winner.{after}
+use Rattle.model_laws.specs.Winner.{after}
 use Rattle.hh_lang.specs.Loop.{Loop}
 use Rattle.loop_nest_laws.specs.Frames.{Activation, Takes, called_frame, left_frame, right_frame}
 use Rattle.loop_nest_laws.specs.Nest.{Starts, Begins, ComesBy, InNest, CallsBody, ForksIn}

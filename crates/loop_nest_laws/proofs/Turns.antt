@@ -17,11 +17,11 @@ use Rattle.hh_model.specs.declared.data.End.{End}
 use Rattle.hh_model.specs.declared.data.State.{State}
 use Rattle.hh_model.specs.Effect.{Goes, Setting, effect}
 use Rattle.hh_model.specs.Step.{is_running, is_joined, runs, is_over, waits, result_in, is_waiting, can_step, goes_on, setting, follow, fetched, step, run_from, start, parent_of}
-use Rattle.hh_model.specs.Winner.{after, IsTurn}
+use Rattle.model_laws.specs.Winner.{after, IsTurn}
 use Rattle.hh_model.proofs.Kept.{Kept, start_kept, run_kept}
 use Rattle.hh_model.proofs.Runs.{running_tells, ended_tells}
 use Rattle.hh_model.proofs.Taken.{step_taken, step_idle, can_runs}
-use Rattle.hh_model.proofs.Winner.{run_next, run_past}
+use Rattle.model_laws.proofs.Winner.{run_next, run_past}
 use Rattle.loop_nest_laws.specs.Frames.{Activation, StandsAt, Takes}
 use Rattle.loop_nest_laws.proofs.Moves.{Steps, Hands, kept, now, JoinsIn, Moves, stays, goes, calls, gives, forks, ends, resumes, joins, step_moved}
 

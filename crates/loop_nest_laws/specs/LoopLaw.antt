@@ -10,7 +10,7 @@ use Rattle.hh_model.specs.declared.data.Task.{Task}
 use Rattle.hh_model.specs.Effect.{int_in, with_int, with_ref, onward}
 use Rattle.hh_model.specs.Step.{is_running}
 use Rattle.hh_model.specs.Store.{IsNext}
-use Rattle.hh_model.specs.Winner.{after, IsTurn}
+use Rattle.model_laws.specs.Winner.{after, IsTurn}
 use Rattle.hh_lang.specs.Loop.{Loop, IsLoop}
 use Rattle.loop_nest_laws.specs.Frames.{Activation, StandsAt, called_frame, HandsBack}
 use Rattle.loop_nest_laws.specs.Nest.{InNest, CallsBody, ForksIn}

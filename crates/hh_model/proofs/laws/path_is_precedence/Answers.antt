@@ -1,5 +1,0 @@
-use Rattle.hh_model.proofs.Kept.{path_is_precedence}
-use Rattle.hh_model.proofs.laws.path_is_precedence.Goals as goal
-
-pub returns : goal.returns
-returns c = path_is_precedence

@@ -1,5 +1,0 @@
-use Rattle.hh_model.proofs.Kept as proved
-use Rattle.hh_model.proofs.laws.steps_keep.Goals as goal
-
-pub returns : goal.returns
-returns c = proved.step_kept

@@ -1,0 +1,4 @@
+pub mod Stopped
+pub mod Winner
+pub mod TurnLaws
+pub mod Example
