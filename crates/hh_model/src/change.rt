@@ -17,34 +17,34 @@ impl State {
         alloc: Global,
         t: u32,
         line: u32,
-        action: Action,
+        action: &Action,
     ) -> Result<(), AllocError>
         requires made { t < length self.old.tasks }
         requires sound { IsSound self.old }
         requires next { IfSome (slice_get self.old.tasks t) (λ x. x.top.next + 1 < 2 ^ 32) }
-        requires ready { IsReady self.old.store action }
-        ensures ok { OnOk result (IfSome (slice_get self.old.tasks t) (λ x. self.new ≡ follow self.old t x line (meaning (setting self.old t x) x.top self.old.store action))) }
+        requires ready { IsReady self.old.store action.now }
+        ensures ok { OnOk result (IfSome (slice_get self.old.tasks t) (λ x. self.new ≡ follow self.old t x line (meaning (setting self.old t x) x.top self.old.store action.now))) }
         ensures err { OnErr result (self.new ≡ self.old) }
     {
         match action {
-            Action::SetInt(target, value) => self.set_int(t, target, value),
-            Action::SetReference(target, value) => self.set_reference(t, target, value),
-            Action::Jump(to) => self.jump(t, to),
+            Action::SetInt(target, value) => self.set_int(t, *target, *value),
+            Action::SetReference(target, value) => self.set_reference(t, *target, *value),
+            Action::Jump(to) => self.jump(t, *to),
             Action::New(target, refs, ints) => return self.make_mutable(
-                alloc, t, target, refs, ints,
+                alloc, t, *target, *refs, *ints,
             ),
             Action::Pack(target, refs, ints) => return self.make_immutable(
-                alloc, t, target, refs, ints,
+                alloc, t, *target, *refs, *ints,
             ),
-            Action::WriteReference(name, at, value) => self.write_reference(t, name, at, value),
-            Action::WriteInt(name, at, value) => self.write_int(t, name, at, value),
-            Action::Swap(target, name, at, value) => self.swap(t, target, name, at, value),
-            Action::Freeze(name) => self.freeze(t, name),
-            Action::Print(value) => return self.print(t, value),
-            Action::Call(function) => return self.call(t, function, line),
-            Action::Fork(left, right) => return self.fork(alloc, t, left, right, line),
+            Action::WriteReference(name, at, value) => self.write_reference(t, *name, *at, *value),
+            Action::WriteInt(name, at, value) => self.write_int(t, *name, *at, *value),
+            Action::Swap(target, name, at, value) => self.swap(t, *target, *name, *at, *value),
+            Action::Freeze(name) => self.freeze(t, *name),
+            Action::Print(value) => return self.print(t, *value),
+            Action::Call(function) => return self.call(t, *function, line),
+            Action::Fork(left, right) => return self.fork(alloc, t, *left, *right, line),
             Action::Return => return self.return_frame(t),
-            Action::Trap(trap) => self.finish(End::Trapped(trap, t, line)),
+            Action::Trap(trap) => self.finish(End::Trapped(*trap, t, line)),
             Action::Stop(name) => self.finish(End::Entangled(t, self.owner(name.task))),
         }
         Ok(())

@@ -63,7 +63,7 @@ impl State {
         ensures err { OnErr result (self.new ≡ self.old) }
     {
         let action = self.decide(t, instr);
-        self.apply(alloc, t, line, action)
+        self.apply(alloc, t, line, &action)
     }
 
     /// Does an instruction of a running task: at once where it sets or copies a register, calculates or jumps, so that no
