@@ -1,13 +1,14 @@
 // The steps of one entry.
 
 ghost use Rattle.std.specs.Prelude.{◌≡◌, ◌≤◌, ◌+◌, ◌||◌, ◌&&◌, not, is_some, if◌then◌else◌, Option, Some, None, true, false, OnOk, IfOk};
+ghost use Rattle.hh_model.specs.Step.{asked};
 ghost use Rattle.run_ledger.specs.Steps.{task_step, task_steps, is_due, is_in_need, is_private, standing};
 ghost use Rattle.run_ledger.specs.Heaps.{in_use};
 ghost use Rattle.run_journal.specs.Book.{Steady, StaysSteady, stood, after_stood, is_own, used_after, went_on};
 ghost use Rattle.run_journal.specs.declared.ran.Stood.TheVariants.{More, Last};
 
 use crate::accounts::Accounts;
-use crate::private::is_own;
+use crate::private::{NextStep, next_step};
 use std::alloc::AllocError;
 
 /// Whether the next step of a task can stand in an entry, and whether a further one can behind it.
@@ -40,11 +41,12 @@ impl<'p> Accounts<'p> {
         self.machine.end().is_some()
     }
 
-    // Whether the next step of the task is its own matter.
-    fn is_own(&self, t: u32) -> bool
-        ensures { result ≡ is_own self.now.program self.now.ledger.machine t }
+    // The next step of the task.
+    fn next_step(&self, t: u32) -> NextStep
+        ensures words { result.words ≡ asked self.now.program self.now.ledger.machine t }
+        ensures own { result.own ≡ is_own self.now.program self.now.ledger.machine t }
     {
-        is_own(self.program, self.machine.state(), t)
+        next_step(self.program, self.machine.state(), t)
     }
 
     // One step of the entry, if it can stand in it.
@@ -56,14 +58,13 @@ impl<'p> Accounts<'p> {
         ensures stood { IfOk result (λ how. how ≡ stood self.old.limits self.old.program self.old.ledger t) }
         ensures after { IfOk result (λ how. self.new ≡ went_on self.old (after_stood self.old.program self.old.ledger t how)) }
     {
-        let words = self.asked(t);
-        if self.is_due_by(t, words) || self.is_in_need_by(t, words) {
+        let ahead = self.next_step(t);
+        if self.is_due_by(t, ahead.words) || self.is_in_need_by(t, ahead.words) {
             return Ok(Stood::Not);
         }
-        let own = self.is_own(t);
-        self.step(t, words)?;
+        self.step(t, ahead.words)?;
         let ended = self.has_ended();
-        Ok(stood_by(own, ended))
+        Ok(stood_by(ahead.own, ended))
     }
 
     /// Takes the first of so many steps of a task, as many as can stand in one entry, and says how many those are.

@@ -10,4 +10,4 @@ returns-clause-stood c =
     let n : is_in_need c.args.self.now.program c.args.self.now.ledger c.args.t ≡ false = search rules in
     let e : c.has_ended-ended.result ≡ is_some (task_step c.args.self.now.program c.args.self.now.ledger c.args.t).machine.end =
     c.has_ended-ended.ensures ∙ ap (λ (s : AccountsValue). is_some s.ledger.machine.end) c.in_ok-step.ensures in
-    c.stood_by.ensures ∙ stood_is c.args.self.now.limits c.args.self.now.program c.args.self.now.ledger c.args.t _ _ d n c.is_own-own.ensures e
+    c.stood_by.ensures ∙ stood_is c.args.self.now.limits c.args.self.now.program c.args.self.now.ledger c.args.t _ _ d n c.next_step-ahead.ensures.own e
