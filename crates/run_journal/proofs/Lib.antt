@@ -1,6 +1,5 @@
 pub mod Holds
 pub mod Keeps
-pub mod Machines
 pub mod Numbers
 pub mod Opens
 pub mod Replays

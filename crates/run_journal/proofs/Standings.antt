@@ -14,7 +14,8 @@ use Rattle.run_ledger.proofs.Machine.{task_step_machine}
 use Rattle.run_journal.specs.declared.ran.Stood.{Stood}
 use Rattle.run_journal.specs.declared.ran.Stood.TheVariants.{Not, Last, More}
 use Rattle.run_ledger.specs.Heaps.{in_use}
-use Rattle.run_journal.specs.Book.{AccountsValue, Steady, StaysSteady, stood, after_stood, is_own, is_own_by, is_own_line, used_after, went_on}
+use Rattle.next_steps.specs.Own.{is_own, is_own_by, is_own_line}
+use Rattle.run_journal.specs.Book.{AccountsValue, Steady, StaysSteady, stood, after_stood, used_after, went_on}
 
 -- PRIVATE STEPS
 

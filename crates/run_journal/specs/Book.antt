@@ -1,5 +1,5 @@
 -- What contracts see of accounts that are kept entry by entry.
-use Rattle.std.specs.Prelude.{◌≡◌, ℕ, ◌+◌, ◌-◌, ◌<◌, ◌≤◌, ◌^◌, ◌&&◌, ◌||◌, not, if◌then◌else◌, Bool, false, Option, Some, None, List, [], ◌∷◌, ◌++◌, nat_le, nat_lt, is_some, length, slice_get, slice_set, Contains}
+use Rattle.std.specs.Prelude.{◌≡◌, ℕ, ◌+◌, ◌-◌, ◌<◌, ◌≤◌, ◌^◌, ◌&&◌, ◌||◌, not, if◌then◌else◌, false, Option, Some, None, List, [], ◌∷◌, ◌++◌, nat_le, nat_lt, is_some, length, slice_get, slice_set, Contains}
 use Rattle.run_trace.specs.Settings.{SettingsValue}
 use Rattle.run_trace.specs.declared.entry.Kind.{Kind}
 use Rattle.run_trace.specs.declared.entry.Kind.TheVariants.{Took}
@@ -9,17 +9,16 @@ use Rattle.run_ledger.specs.Entries.{refused_if, refused_unless, is_fuel}
 use Rattle.run_journal.specs.declared.enter.ApplyError.{ApplyError}
 use Rattle.run_journal.specs.declared.enter.ApplyError.TheVariants.{Refused as RefusedFor, NoMemory}
 use Rattle.hh_lang.specs.Form.{ProgramText}
-use Rattle.hh_lang.specs.declared.program.Line.{Line}
 use Rattle.hh_model.specs.declared.data.Name.{Name}
 use Rattle.hh_model.specs.declared.data.Strand.{Strand}
 use Rattle.hh_model.specs.declared.data.Task.{Task}
 use Rattle.hh_model.specs.declared.data.State.{State}
 use Rattle.hh_model.specs.Effect.{row_of}
-use Rattle.hh_model.specs.Step.{step, can_step, asked, fetched, owner_of, strand_of, parents, is_left}
+use Rattle.hh_model.specs.Step.{step, can_step, asked, owner_of, strand_of, parents, is_left}
 use Rattle.run_ledger.specs.declared.data.Ledger.{Ledger}
 use Rattle.run_ledger.specs.declared.data.Heap.{Heap}
 use Rattle.run_ledger.specs.Heaps.{fresh, with_heap, forked_heap, heap_of, or_fresh, begun_in, held_in, is_small, units, words_at, words_in, units_in, in_use}
-use Rattle.run_ledger.specs.Steps.{is_open, join_heaps, is_due, is_in_need, is_private, task_step, task_steps, standing, works_alone}
+use Rattle.run_ledger.specs.Steps.{join_heaps, is_due, is_in_need, is_private, task_step, task_steps, standing}
 use Rattle.ledger_heaps.specs.Accounts.{AreOwned}
 use Rattle.run_journal.specs.declared.ran.Stood.{Stood}
 use Rattle.run_journal.specs.declared.ran.Stood.TheVariants.{Not, Last, More}
@@ -68,19 +67,6 @@ pub record Steady (l : Ledger) : Type 0 where
   pub snapshot : (t : ℕ) → length (heap_of l t).snapshot < 2 ^ 31
   pub owned : AreOwned l.machine.tasks l.heaps
   pub paired : ArePaired l
-
--- the next step of a running task is no output, no fork and no end of the task, and reads or writes no object that another
--- task owns, but that it may read an immutable object of an ancestor
-abbrev pub is_own_line : State → ℕ → Task → Option Line → Bool
-is_own_line m t x None = false
-is_own_line m t x (Some line) = not (is_open x line.instr) && works_alone m t x.top line.instr
-
-abbrev pub is_own_by : ProgramText → State → ℕ → Option Task → Bool
-is_own_by p m t None = false
-is_own_by p m t (Some x) = is_own_line m t x (fetched p x.top)
-
-abbrev pub is_own : ProgramText → State → ℕ → Bool
-is_own p m t = is_own_by p m t (slice_get m.tasks t)
 
 -- these heaps become those in which the task t has forked, in whose heap these names are reached
 abbrev pub Forks : List Heap → List Heap → ℕ → List Name → Type 0

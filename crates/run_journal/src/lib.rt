@@ -8,7 +8,6 @@ mod changes;
 mod counts;
 mod enter;
 mod pace;
-mod private;
 mod ran;
 mod reads;
 mod replay;

@@ -4,11 +4,12 @@ ghost use Rattle.std.specs.Prelude.{◌≡◌, ◌≤◌, ◌+◌, ◌||◌, ◌
 ghost use Rattle.hh_model.specs.Step.{asked};
 ghost use Rattle.run_ledger.specs.Steps.{task_step, task_steps, is_due, is_in_need, is_private, standing};
 ghost use Rattle.run_ledger.specs.Heaps.{in_use};
-ghost use Rattle.run_journal.specs.Book.{Steady, StaysSteady, stood, after_stood, is_own, used_after, went_on};
+ghost use Rattle.next_steps.specs.Own.{is_own};
+ghost use Rattle.run_journal.specs.Book.{Steady, StaysSteady, stood, after_stood, used_after, went_on};
 ghost use Rattle.run_journal.specs.declared.ran.Stood.TheVariants.{More, Last};
 
 use crate::accounts::Accounts;
-use crate::private::{NextStep, next_step};
+use next_steps::{NextStep, next_step};
 use std::alloc::AllocError;
 
 /// Whether the next step of a task can stand in an entry, and whether a further one can behind it.

@@ -1,6 +1,5 @@
 // The steps of tasks, with what they change of the accounts.
 
-ghost use Rattle.hh_model.specs.Effect.{row_of};
 ghost use Rattle.std.specs.Prelude.{◌≡◌, ℕ, ◌+◌, ◌<◌, ◌^◌, Option, Some, None, true, false, length, slice_get, OnOk};
 ghost use Rattle.run_ledger.specs.Heaps.{heap_of, in_use, or_fresh, with_heap, let_go};
 ghost use Rattle.run_ledger.specs.Steps.{allocated_in, allocated_by, is_in_need, task_step, at_fork, at_join, join_heaps, moved_to, settled};
@@ -9,24 +8,12 @@ ghost use Rattle.ledger_heaps.specs.Accounts.{AreOwned};
 ghost use Rattle.run_journal.specs.Book.{Steady, Forks, Joins, ArePaired, left_of, next_large, used_after, went_on};
 
 use crate::accounts::Accounts;
-use hh_model::{Machine, Name, State, Status};
+use hh_model::{Name, State, Status};
 use ledger_heaps::{CHUNK_WORDS, fresh, join, place, within};
 use listed::Listed;
+use next_steps::objects_of;
 use run_ledger::{Heap, RunEnd};
 use std::alloc::{AllocError, Global};
-
-// How many objects a task has allocated.
-fn objects_of(machine: &Machine, t: u32) -> usize
-    requires { machine.now.steps < 2 ^ 30 }
-    ensures value { result ≡ length (row_of (slice_get machine.now.state.store t)) }
-    ensures fits { result < 2 ^ 32 }
-{
-    machine.reached();
-    match machine.state().store.get(t as usize) {
-        Some(row) => row.len(),
-        None => 0,
-    }
-}
 
 impl<'p> Accounts<'p> {
     // The large object that the task's next step, which asks for so many words, allocates, if it does.

@@ -1,22 +1,11 @@
-// What a task's next step asks for, and whether it is the task's own matter: one look at its instruction tells both.
+// Whether a task's next instruction is the task's own matter.
 
-ghost use Rattle.std.specs.Prelude.{◌≡◌, ◌&&◌, not, if◌then◌else◌, Option, Some, None, slice_get};
-ghost use Rattle.hh_model.specs.Step.{asked, asked_by, asked_line, runs};
+ghost use Rattle.std.specs.Prelude.{◌≡◌, ◌&&◌, not, Option, Some, None};
 ghost use Rattle.run_ledger.specs.Steps.{is_frozen_above, is_open, is_read, owns, touched, works_alone};
-ghost use Rattle.run_journal.specs.Book.{is_own, is_own_line, is_own_by};
+ghost use Rattle.next_steps.specs.Own.{is_own_line};
 
-use hh_lang::{Instr, Line, Program};
-use hh_model::{Frame, Name, State, Status, Task};
-
-/// What is told of a task's next step before it is taken.
-#[derive(Clone, Copy)]
-pub(crate) struct NextStep {
-    /// The words that it allocates, where it allocates.
-    pub(crate) words: Option<usize>,
-    /// Whether it is no output, no fork and no end of the task, and reads or writes no object that another task owns,
-    /// but that it may read an immutable object of an ancestor.
-    pub(crate) own: bool,
-}
+use hh_lang::{Instr, Line};
+use hh_model::{Frame, Name, State, Task};
 
 // The object that an instruction reads or writes.
 fn touched(frame: &Frame, instr: Instr) -> Option<Name>
@@ -88,52 +77,12 @@ fn works_alone(machine: &State, t: u32, frame: &Frame, line: &Line) -> bool
         || (is_read(line.instr) && is_frozen_above(machine, t, touched(frame, line.instr)))
 }
 
-// The words that a task's next instruction allocates, where the task runs and it allocates.
-fn asked_at(machine: &State, task: &Task, line: Option<Line>) -> Option<usize>
-    ensures { result ≡ (if runs task.now.status then asked_line machine.now.field_limit task.now.top line else None) }
-{
-    match task.status {
-        Status::Running => {}
-        _ => return None,
-    }
-    match line {
-        None => None,
-        Some(line) => task.top.asked(machine.field_limit, line.instr),
-    }
-}
-
-// Whether a task's next instruction is the task's own matter.
-fn is_own_line(machine: &State, t: u32, task: &Task, line: Option<Line>) -> bool
+/// Whether a task's next instruction is the task's own matter.
+pub(crate) fn is_own_line(machine: &State, t: u32, task: &Task, line: Option<Line>) -> bool
     ensures { result ≡ is_own_line machine.now t task.now line }
 {
     match line {
         None => false,
         Some(line) => { !is_open(task, line.instr) && works_alone(machine, t, &task.top, &line) }
-    }
-}
-
-// The next step of a task that was made.
-fn step_of(program: &Program, machine: &State, t: u32, task: &Task) -> NextStep
-    ensures words { result.words ≡ asked_by program.now machine.now (Some task.now) }
-    ensures own { result.own ≡ is_own_by program.now machine.now t (Some task.now) }
-{
-    let line = program.line(task.top.function, task.top.next);
-    NextStep {
-        words: asked_at(machine, task, line),
-        own: is_own_line(machine, t, task, line),
-    }
-}
-
-/// The next step of a task. A task that wasn't made asks for nothing, and has no matter of its own.
-pub(crate) fn next_step(program: &Program, machine: &State, t: u32) -> NextStep
-    ensures words { result.words ≡ asked program.now machine.now t }
-    ensures own { result.own ≡ is_own program.now machine.now t }
-{
-    match machine.tasks.get(t as usize) {
-        Some(task) => step_of(program, machine, t, task),
-        None => NextStep {
-            words: None,
-            own: false,
-        },
     }
 }

@@ -1,6 +1,6 @@
 use Rattle.std.proofs.Common.{rules, arith}
-use Rattle.run_journal.proofs.Machines.{few_objects}
-use Rattle.run_journal.proofs.steps.objects_of.Goals as goal
+use Rattle.next_steps.proofs.Machines.{few_objects}
+use Rattle.next_steps.proofs.objects.objects_of.Goals as goal
 
 pub returns-in-Some-clause-fits : goal.returns-in-Some-clause-fits
 returns-in-Some-clause-fits c =
