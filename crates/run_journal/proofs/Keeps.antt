@@ -17,7 +17,7 @@ use Rattle.run_ledger.proofs.KeptNames.{kept_least, stored_most}
 use Rattle.run_ledger.proofs.Stocks.{names_are_held_once}
 use Rattle.run_ledger.proofs.Space.{heaps_fit, use_is_bounded}
 use Rattle.run_journal.specs.BookValue.{IsLegalLedger}
-use Rattle.run_journal.specs.Held.{IsCountable}
+use Rattle.run_accounts.specs.Held.{IsCountable}
 
 -- COUNTS
 

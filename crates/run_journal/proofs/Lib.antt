@@ -1,11 +1,4 @@
-pub mod Holds
 pub mod Keeps
-pub mod Numbers
 pub mod Opens
 pub mod Replays
-pub mod Snaps
-pub mod Standings
 pub mod Steadies
-pub mod Stepped
-pub mod Uses
-pub mod Went

@@ -13,9 +13,9 @@ use Rattle.run_ledger.specs.Journals.{opening, ledger_of}
 use Rattle.run_ledger.proofs.Cuts.{after_cut, joined_legal}
 use Rattle.run_ledger.proofs.Sound.{SoundLedger}
 use Rattle.run_ledger.proofs.Journals.{none_where, none_unless, entry_tells, legal_sound}
-use Rattle.run_journal.specs.Book.{AccountsValue, Agrees, Steady, StaysSteady, went_on, taken_after}
+use Rattle.run_accounts.specs.Accounts.{AccountsValue, Agrees, Steady, StaysSteady, went_on, taken_after}
 use Rattle.run_journal.specs.BookValue.{IsLegalLedger, IsOpened}
-use Rattle.run_journal.proofs.Holds.{kind_tells}
+use Rattle.run_accounts.proofs.Holds.{kind_tells}
 use Rattle.run_journal.proofs.Steadies.{legal_steady, legal_stays}
 
 module _ (p : ProgramText) (s : SettingsValue) where

@@ -8,7 +8,7 @@ use Rattle.run_ledger.specs.declared.data.Refused.{Refused}
 use Rattle.run_ledger.specs.declared.data.Refused.TheVariants.{Stopped}
 use Rattle.run_ledger.specs.Entries.{refusal}
 use Rattle.run_ledger.specs.Journals.{is_legal, ledger_of}
-use Rattle.run_journal.specs.Book.{AccountsValue, Agrees}
+use Rattle.run_accounts.specs.Accounts.{AccountsValue, Agrees}
 
 -- the program, the limits and the accounts, and whether an entry was refused or found no memory
 pub record BookValue : Type 0 where

@@ -1,4 +1,3 @@
-pub mod Book
-pub mod Held
 pub mod BookValue
+pub mod Strands
 pub mod Replay

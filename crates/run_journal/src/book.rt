@@ -6,13 +6,13 @@ ghost use Rattle.run_ledger.specs.Entries.{refusal, after};
 ghost use Rattle.run_ledger.specs.Journals.{opening};
 ghost use Rattle.run_ledger.specs.Pace.{noted};
 ghost use Rattle.run_ledger.specs.Pace.{owed as owed_by};
-ghost use Rattle.run_journal.specs.Book.{FailsFor};
+ghost use Rattle.run_accounts.specs.Accounts.{FailsFor};
 ghost use Rattle.run_journal.specs.BookValue.{BookValue, IsOpened, IsLegalLedger, cause_in};
 
-use crate::accounts::Accounts;
-use crate::enter::ApplyError;
+use crate::pace::{note, owed};
 use hh_lang::Program;
 use hh_model::State;
+use run_accounts::{Accounts, ApplyError};
 use run_ledger::{Owed, Refused, RunEnd, WorkerPace};
 use run_trace::{Entry, Kind, Settings};
 use std::alloc::{AllocError, Global};
@@ -77,28 +77,28 @@ impl<'p> Book<'p> {
     pub fn end(&self) -> Option<RunEnd>
         ensures { result ≡ self.now.ledger.end }
     {
-        self.accounts.end
+        self.accounts.end()
     }
 
     /// The steps taken.
     pub fn steps(&self) -> u64
         ensures { result ≡ self.now.ledger.steps }
     {
-        self.accounts.steps
+        self.accounts.steps()
     }
 
     /// What the steps have written out, the oldest first.
     pub fn outputs(&self) -> &[i64]
         ensures { result.now ≡ self.now.ledger.machine.outputs }
     {
-        self.accounts.machine.outputs()
+        self.accounts.outputs()
     }
 
     /// The machine that never collects, after the steps so far.
     pub fn state(&self) -> &State
         ensures { result.now ≡ self.now.ledger.machine }
     {
-        self.accounts.machine.state()
+        self.accounts.state()
     }
 
     /// Whether an entry was refused, or found no memory.
@@ -130,7 +130,7 @@ impl<'p> Book<'p> {
         ensures { result ≡ owed_by self.now.limits self.now.ledger pace.now }
     {
         self.accounts.bounds();
-        self.accounts.owed(pace)
+        owed(&self.accounts, pace)
     }
 
     /// Keeps of a worker what its entry leaves, which was the last to be entered. Want of memory changes nothing.
@@ -138,6 +138,6 @@ impl<'p> Book<'p> {
         ensures ok { OnOk result (pace.new ≡ noted self.now.ledger pace.old kind) }
         ensures err { OnErr result (pace.new ≡ pace.old) }
     {
-        self.accounts.note(pace, kind)
+        note(&self.accounts, pace, kind)
     }
 }

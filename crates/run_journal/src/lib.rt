@@ -1,19 +1,11 @@
-// Journals replayed: the accounts that are kept entry by entry, and how the run of a journal ended.
+// Journals replayed: books of accounts that entries are entered into, the pace, and how the run of a journal ended.
 #![tactic(auto)]
 
-mod accounts;
 mod book;
-mod causes;
-mod changes;
-mod counts;
-mod enter;
 mod pace;
-mod ran;
 mod reads;
 mod replay;
-mod steps;
 
 pub use book::Book;
-pub use enter::ApplyError;
-pub use reads::Held;
 pub use replay::{ReplayError, model_replay, replayed};
+pub use run_accounts::{ApplyError, Held};

@@ -5,8 +5,8 @@ ghost use Rattle.run_ledger.specs.Journals.{after_all, ledger_of, end_of, first_
 ghost use Rattle.run_journal.specs.Replay.{ReplayFails};
 
 use crate::book::Book;
-use crate::enter::ApplyError;
 use hh_lang::Program;
+use run_accounts::ApplyError;
 use run_ledger::{Refused, RefusedAt, RunEnd};
 use run_trace::{Entry, Settings};
 use std::alloc::Global;

@@ -4,7 +4,7 @@ ghost use Rattle.std.specs.Prelude.{◌≡◌, Option, None, false, IfOk, OnOk, 
 ghost use Rattle.run_trace.specs.Settings.{AreLimits};
 ghost use Rattle.run_ledger.specs.Entries.{refusal, after};
 ghost use Rattle.run_ledger.specs.Journals.{opening, ledger_of, first_refused};
-ghost use Rattle.run_journal.specs.Book.{FailsFor};
+ghost use Rattle.run_accounts.specs.Accounts.{FailsFor};
 ghost use Rattle.run_journal.specs.Replay.{ReplayFails};
 ghost use Rattle.run_report.specs.Totals.{AreFew, joined, cleared_words, entry_totals, totals_from, report_from};
 

@@ -6,7 +6,7 @@ ghost use Rattle.json_text.specs.Json.{further};
 ghost use Rattle.run_trace.specs.Settings.{AreLimits};
 ghost use Rattle.run_ledger.specs.Entries.{refusal, after};
 ghost use Rattle.run_ledger.specs.Journals.{opening, ledger_of, first_refused, refused_as_run};
-ghost use Rattle.run_journal.specs.Book.{FailsFor};
+ghost use Rattle.run_accounts.specs.Accounts.{FailsFor};
 ghost use Rattle.run_journal.specs.Replay.{ReplayFails};
 ghost use Rattle.run_timeline.specs.Words.{counts_of, words_held};
 ghost use Rattle.run_timeline.specs.Entries.{entry_events};

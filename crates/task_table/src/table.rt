@@ -4,7 +4,7 @@ ghost use Rattle.std.specs.Prelude.{◌≡◌, ◌<◌, ◌-◌, ◌+◌, ◌^�
 ghost use Rattle.run_trace.specs.Settings.{AreLimits};
 ghost use Rattle.run_ledger.specs.Entries.{refusal, after};
 ghost use Rattle.run_ledger.specs.Journals.{opening, ledger_of, first_refused, refused_as_run};
-ghost use Rattle.run_journal.specs.Book.{FailsFor};
+ghost use Rattle.run_accounts.specs.Accounts.{FailsFor};
 ghost use Rattle.run_journal.specs.Replay.{ReplayFails};
 ghost use Rattle.run_report.specs.Totals.{cleared_words};
 ghost use Rattle.task_table.specs.Rows.{fresh_row, rows_by, rows_with, rows_from};

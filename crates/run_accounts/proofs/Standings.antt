@@ -1,0 +1,193 @@
+-- The steps of one entry, one after the other.
+use Rattle.std.proofs.Common.{◌≡◌, ℕ, ◌+◌, ◌-◌, ◌<◌, ◌≤◌, ◌&&◌, ◌||◌, not, Bool, true, false, cond, zero, suc, Option, Some, None, slice_get, is_none, is_some, refl, ap, ap₂, sym, subst, ◌∙◌, arith}
+use Rattle.std.proofs.lemmas.Bool.{false≢true}
+use Rattle.hh_lang.specs.declared.program.Line.{Line}
+use Rattle.hh_lang.specs.Form.{ProgramText}
+use Rattle.run_trace.specs.Settings.{SettingsValue}
+use Rattle.hh_model.specs.declared.data.Task.{Task}
+use Rattle.hh_model.specs.declared.data.State.{State}
+use Rattle.hh_model.specs.declared.data.End.{End}
+use Rattle.hh_model.specs.Step.{step, fetched}
+use Rattle.run_ledger.specs.declared.data.Ledger.{Ledger}
+use Rattle.run_ledger.specs.Steps.{task_step, task_steps, is_due, is_in_need, is_private, is_private_by, is_private_line, standing, is_open, works_alone}
+use Rattle.run_ledger.proofs.Machine.{task_step_machine}
+use Rattle.run_accounts.specs.declared.ran.Stood.{Stood}
+use Rattle.run_accounts.specs.declared.ran.Stood.TheVariants.{Not, Last, More}
+use Rattle.run_ledger.specs.Heaps.{in_use}
+use Rattle.next_steps.specs.Own.{is_own, is_own_by, is_own_line}
+use Rattle.run_accounts.specs.Accounts.{AccountsValue, Steady, StaysSteady, stood, after_stood, used_after, went_on}
+
+-- PRIVATE STEPS
+
+three_and : (a b c : Bool) → (a && b && c) ≡ (a && (b && c))
+three_and true b c = refl
+three_and false b c = refl
+
+private_line : (p : ProgramText) (m : State) (t : ℕ) (x : Task) (o : Option Line) → is_private_line p m t x o ≡ (is_own_line m t x o && is_none (step p m t).end)
+private_line p m t x None = refl
+private_line p m t x (Some line) = sym (three_and (not (is_open x line.instr)) (works_alone m t x.top line.instr) (is_none (step p m t).end))
+
+private_by : (p : ProgramText) (m : State) (t : ℕ) (o : Option Task) → is_private_by p m t o ≡ (is_own_by p m t o && is_none (step p m t).end)
+private_by p m t None = refl
+private_by p m t (Some x) = private_line p m t x (fetched p x.top)
+
+pub private_is : (p : ProgramText) (m : State) (t : ℕ) → is_private p m t ≡ (is_own p m t && is_none (step p m t).end)
+private_is p m t = private_by p m t (slice_get m.tasks t)
+
+-- the machine after a step tells whether the step was private
+pub private_after : (p : ProgramText) (l : Ledger) (t : ℕ) → is_private p l.machine t ≡ (is_own p l.machine t && is_none (task_step p l t).machine.end)
+private_after p l t = private_is p l.machine t ∙ ap (λ (m : State). is_own p l.machine t && is_none m.end) (sym (task_step_machine p l t))
+
+-- MANY STEPS
+
+pub steps_more : (p : ProgramText) (l : Ledger) (t k : ℕ) → task_steps p l t (k + 1) ≡ task_step p (task_steps p l t k) t
+steps_more p l t k = ap (task_steps p l t) (let e : k + 1 ≡ suc k = omega arith in e) ∙ at k l
+  where
+    at : (k : ℕ) (l : Ledger) → task_steps p l t (suc k) ≡ task_step p (task_steps p l t k) t
+    at zero l = refl
+    at (suc k) l = at k (task_step p l t)
+
+module _ (s : SettingsValue) (p : ProgramText) (t : ℕ) where
+  pub stands_not : (l : Ledger) (k : ℕ) → Not ≡ stood s p l t → standing s p l t k ≡ 0
+  stands_not l zero e = refl
+  stands_not l (suc k) e = by (is_due s p l t || is_in_need p l t) (is_private p l.machine t) e
+    where
+      by : (b c : Bool) → Not ≡ cond b Not (cond c More Last) → cond b 0 (cond c (suc (standing s p (task_step p l t) t k)) 1) ≡ 0
+      by true c e = refl
+      by false true e = absurd cc
+      by false false e = absurd cc
+
+  pub stands_last : (l : Ledger) (k : ℕ) → Last ≡ stood s p l t → standing s p l t (suc k) ≡ 1
+  stands_last l k e = by (is_due s p l t || is_in_need p l t) (is_private p l.machine t) e
+    where
+      by : (b c : Bool) → Last ≡ cond b Not (cond c More Last) → cond b 0 (cond c (suc (standing s p (task_step p l t) t k)) 1) ≡ 1
+      by true c e = absurd cc
+      by false true e = absurd cc
+      by false false e = refl
+
+  pub stands_more : (l : Ledger) (k : ℕ) → More ≡ stood s p l t → standing s p l t (suc k) ≡ suc (standing s p (task_step p l t) t k)
+  stands_more l k e = by (is_due s p l t || is_in_need p l t) (is_private p l.machine t) e
+    where
+      by : (b c : Bool) → More ≡ cond b Not (cond c More Last) → cond b 0 (cond c (suc (standing s p (task_step p l t) t k)) 1) ≡ suc (standing s p (task_step p l t) t k)
+      by true c e = absurd cc
+      by false true e = refl
+      by false false e = absurd cc
+
+  pub stands_some : (l : Ledger) (k : ℕ) → (is_due s p l t || is_in_need p l t) ≡ false → 1 ≤ standing s p l t (suc k)
+  stands_some l k e = by (is_due s p l t || is_in_need p l t) (is_private p l.machine t) e
+    where
+      by : (b c : Bool) → b ≡ false → 1 ≤ cond b 0 (cond c (suc (standing s p (task_step p l t) t k)) 1)
+      by true c e = absurd (false≢true (sym e))
+      by false true e = omega arith
+      by false false e = omega arith
+
+-- how far the steps have come: so many were taken, all of them can stand, and the rest of the question is that of the rest
+pub record Ran (s : SettingsValue) (p : ProgramText) (l : Ledger) (t k done : ℕ) (now : Ledger) : Type 0 where
+  pub is : now ≡ task_steps p l t done
+  pub rest : standing s p l t k ≡ done + standing s p now t (k - done)
+
+pub ran_none : (s : SettingsValue) (p : ProgramText) (l : Ledger) (t k : ℕ) → Ran s p l t k 0 l
+ran_none s p l t k = record { is = refl; rest = let e : standing s p l t k ≡ standing s p l t (k - 0) = ap (standing s p l t) (let i : k ≡ k - 0 = omega arith in i) in omega arith }
+
+module _ (s : SettingsValue) (p : ProgramText) (l : Ledger) (t k done : ℕ) (now : Ledger) (R : Ran s p l t k done now) (lt : done < k) where
+  left_is : k - done ≡ suc (k - (done + 1))
+  left_is = omega arith
+
+  rest_is : standing s p now t (k - done) ≡ standing s p now t (suc (k - (done + 1)))
+  rest_is = ap (standing s p now t) left_is
+
+  pub ran_steady : StaysSteady s p l t k → Steady now
+  ran_steady S = subst Steady (sym R.is) (S.steady done (let e = R.rest in omega arith))
+
+  pub ran_used : StaysSteady s p l t k → (is_due s p now t || is_in_need p now t) ≡ false → used_after p now t ≡ in_use (task_step p now t)
+  ran_used S fine =
+      subst (λ q. used_after p q t ≡ in_use (task_step p q t)) (sym R.is)
+      (S.used done (let e = R.rest in omega arith) (ap (λ q. is_due s p q t || is_in_need p q t) (sym R.is) ∙ fine))
+
+  pub ran_steady_after : StaysSteady s p l t k → (is_due s p now t || is_in_need p now t) ≡ false → Steady (task_step p now t)
+  ran_steady_after S fine =
+      subst Steady (steps_more p l t done ∙ ap (λ q. task_step p q t) (sym R.is))
+      (S.steady (done + 1) (let e = R.rest in let f = stands_some s p t now (k - (done + 1)) fine in let g = rest_is in omega arith))
+
+  pub ran_not : Not ≡ stood s p now t → done ≡ standing s p l t k
+  ran_not e = let a = stands_not s p t now (k - done) e in let b = R.rest in omega arith
+
+  pub ran_last : Last ≡ stood s p now t → done + 1 ≡ standing s p l t k
+  ran_last e = let a = stands_last s p t now (k - (done + 1)) e in let b = R.rest in let g = rest_is in omega arith
+
+  pub ran_next : task_step p now t ≡ task_steps p l t (done + 1)
+  ran_next = ap (λ q. task_step p q t) R.is ∙ sym (steps_more p l t done)
+
+  pub ran_more : More ≡ stood s p now t → Ran s p l t k (done + 1) (task_step p now t)
+  ran_more e = record {
+    is = ran_next;
+    rest = let a = stands_more s p t now (k - (done + 1)) e in let b = R.rest in let g = rest_is in omega arith;
+  }
+
+pub ran_all : (s : SettingsValue) (p : ProgramText) (l : Ledger) (t k : ℕ) (now : Ledger) → Ran s p l t k k now → k ≡ standing s p l t k
+ran_all s p l t k now R = let e = R.rest in let z : standing s p now t (k - k) ≡ 0 = ap (standing s p now t) (let q : k - k ≡ 0 = omega arith in q) in omega arith
+
+-- the same, by the accounts at the entry and those that the loop has come to
+module _ (a b : AccountsValue) (t k done : ℕ) (is : b ≡ went_on a b.ledger) (R : Ran a.limits a.program a.ledger t k done b.ledger) (lt : done < k) where
+  el : b.limits ≡ a.limits
+  el = ap (λ (q : AccountsValue). q.limits) is
+
+  ep : b.program ≡ a.program
+  ep = ap (λ (q : AccountsValue). q.program) is
+
+  pub used_at : b.used ≡ in_use b.ledger
+  used_at = ap (λ (q : AccountsValue). q.used) is
+
+  pub steady_at : StaysSteady a.limits a.program a.ledger t k → Steady b.ledger
+  steady_at S = ran_steady a.limits a.program a.ledger t k done b.ledger R lt S
+
+  stands_as : (is_due b.limits b.program b.ledger t || is_in_need b.program b.ledger t) ≡ false → (is_due a.limits a.program b.ledger t || is_in_need a.program b.ledger t) ≡ false
+  stands_as fine = ap₂ (λ s p. is_due s p b.ledger t || is_in_need p b.ledger t) (sym el) (sym ep) ∙ fine
+
+  pub steady_after_at : StaysSteady a.limits a.program a.ledger t k → (is_due b.limits b.program b.ledger t || is_in_need b.program b.ledger t) ≡ false → Steady (task_step b.program b.ledger t)
+  steady_after_at S fine =
+      subst (λ p. Steady (task_step p b.ledger t)) (sym ep) (ran_steady_after a.limits a.program a.ledger t k done b.ledger R lt S (stands_as fine))
+
+  pub used_after_at : StaysSteady a.limits a.program a.ledger t k → (is_due b.limits b.program b.ledger t || is_in_need b.program b.ledger t) ≡ false → used_after b.program b.ledger t ≡ in_use (task_step b.program b.ledger t)
+  used_after_at S fine =
+      subst (λ p. used_after p b.ledger t ≡ in_use (task_step p b.ledger t)) (sym ep) (ran_used a.limits a.program a.ledger t k done b.ledger R lt S (stands_as fine))
+
+  module _ (how : Stood) (h : how ≡ stood b.limits b.program b.ledger t) where
+    stood_as : (w : Stood) → how ≡ w → w ≡ stood a.limits a.program b.ledger t
+    stood_as w e = sym e ∙ (h ∙ ap₂ (λ s p. stood s p b.ledger t) el ep)
+
+    pub not_at : how ≡ Not → done ≡ standing a.limits a.program a.ledger t k
+    not_at e = ran_not a.limits a.program a.ledger t k done b.ledger R lt (stood_as Not e)
+
+    pub last_at : how ≡ Last → done + 1 ≡ standing a.limits a.program a.ledger t k
+    last_at e = ran_last a.limits a.program a.ledger t k done b.ledger R lt (stood_as Last e)
+
+    module _ (new : AccountsValue) (n : new ≡ went_on b (after_stood b.program b.ledger t how)) where
+      new_is : (w : Stood) → how ≡ w → new ≡ went_on a (after_stood a.program b.ledger t w)
+      new_is w e =
+          n ∙ (ap (λ v. went_on b (after_stood b.program b.ledger t v)) e ∙ ap (λ (q : AccountsValue). went_on q (after_stood q.program b.ledger t w)) is)
+
+      pub new_not : how ≡ Not → new ≡ went_on a (task_steps a.program a.ledger t done)
+      new_not e = new_is Not e ∙ ap (went_on a) R.is
+
+      pub new_last : how ≡ Last → new ≡ went_on a (task_steps a.program a.ledger t (done + 1))
+      new_last e = new_is Last e ∙ ap (went_on a) (ran_next a.limits a.program a.ledger t k done b.ledger R lt)
+
+      pub new_more : how ≡ More → Ran a.limits a.program a.ledger t k (done + 1) new.ledger
+      new_more e =
+          subst (Ran a.limits a.program a.ledger t k (done + 1)) (sym (ap (λ (q : AccountsValue). q.ledger) (new_is More e)))
+          (ran_more a.limits a.program a.ledger t k done b.ledger R lt (stood_as More e))
+
+      pub new_went : how ≡ More → new ≡ went_on a new.ledger
+      new_went e = let q = new_is More e in q ∙ ap (went_on a) (sym (ap (λ (x : AccountsValue). x.ledger) q))
+
+-- how a step stood that was taken
+pub stood_is : (s : SettingsValue) (p : ProgramText) (l : Ledger) (t : ℕ) (own ended : Bool) → is_due s p l t ≡ false → is_in_need p l t ≡ false → own ≡ is_own p l.machine t
+    → ended ≡ is_some (task_step p l t).machine.end → cond (own && not ended) More Last ≡ stood s p l t
+stood_is s p l t own ended d n o e =
+    ap₂ (λ a b. cond (a && b) More Last) o (ap not e ∙ not_some (task_step p l t).machine.end)
+    ∙ (ap (λ b. cond b More Last) (sym (private_after p l t)) ∙ sym (ap₂ (λ a b. cond (a || b) Not (cond (is_private p l.machine t) More Last)) d n))
+  where
+    not_some : (o : Option End) → not (is_some o) ≡ is_none o
+    not_some None = refl
+    not_some (Some x) = refl

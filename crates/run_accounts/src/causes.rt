@@ -1,0 +1,220 @@
+// Why an entry is refused, but for the steps of tasks.
+
+ghost use Rattle.std.specs.Prelude.{◌≡◌, ◌==◌, ◌<◌, ◌^◌, Option, Some, None, is_some};
+ghost use Rattle.run_trace.specs.declared.entry.Kind.TheVariants.{Took, Chunk, Begin, End, PutOff, Mark, More, Sweep, Fuel};
+ghost use Rattle.run_ledger.specs.Entries.{kind_refusal, on_running, on_waiting, on_marking, on_due, is_pool_enough, is_out, refused_unless, counted, ends_as};
+ghost use Rattle.run_ledger.specs.Heaps.{heap_of, left_in, marked_in};
+ghost use Rattle.run_ledger.specs.declared.data.Refused.TheVariants.{NotOut, NotCollecting, Left};
+ghost use Rattle.run_accounts.specs.Accounts.{Steady, Agrees};
+
+use crate::accounts::Accounts;
+use run_ledger::Refused;
+
+impl<'p> Accounts<'p> {
+    // The worker is to be at the task, which isn't to be amid a leaf collection.
+    pub(crate) fn running_cause(&self, worker: u32, task: u32) -> Option<Refused>
+        ensures { result ≡ on_running self.now.ledger worker task None }
+    {
+        if !self.is_out(worker, task) {
+            return Some(Refused::NotOut);
+        }
+        if self.is_collecting(task) {
+            return Some(Refused::Collecting);
+        }
+        None
+    }
+
+    // The task is to wait, and its heap not to have been swept since its last fork.
+    fn waiting_cause(&self, task: u32) -> Option<Refused>
+        ensures { result ≡ on_waiting self.now.ledger task None }
+    {
+        if !self.is_waiting(task) {
+            return Some(Refused::NotWaiting);
+        }
+        if self.is_swept(task) {
+            return Some(Refused::Swept);
+        }
+        None
+    }
+
+    // Its heap is to be being marked.
+    fn marking_cause(&self, task: u32) -> Option<Refused>
+        ensures { result ≡ on_marking self.now.ledger task None }
+    {
+        if let Some(cause) = self.waiting_cause(task) {
+            return Some(cause);
+        }
+        if !self.is_marked(task) {
+            return Some(Refused::NotMarking);
+        }
+        None
+    }
+
+    // A leaf collection of the task is to be due, and the worker at it.
+    fn due_cause(&self, worker: u32, task: u32) -> Option<Refused>
+        ensures { result ≡ on_running self.now.ledger worker task (on_due self.now.limits self.now.program self.now.ledger task None) }
+    {
+        if let Some(cause) = self.running_cause(worker, task) {
+            return Some(cause);
+        }
+        if !self.is_due(task) {
+            return Some(Refused::NotDue(self.since(task)));
+        }
+        None
+    }
+
+    // Whether the chunks that are free are enough for a leaf collection of the task.
+    fn is_pool_enough(&self, task: u32) -> bool
+        requires steady { Steady self.now.ledger }
+        requires agrees { Agrees self.now }
+        ensures { result ≡ is_pool_enough self.now.limits self.now.ledger task }
+    {
+        self.in_use() + self.take(task) <= self.limits.chunks() as u64
+    }
+
+    pub(crate) fn took_cause(&self, worker: u32, task: u32) -> Option<Refused>
+        requires { Agrees self.now }
+        ensures { result ≡ kind_refusal self.now.program self.now.limits self.now.ledger worker (Took task) }
+    {
+        if !self.is_ready(task) {
+            return Some(Refused::NotReady);
+        }
+        match self.holding(worker) {
+            Some(held) => Some(Refused::Holding(held)),
+            None => None,
+        }
+    }
+
+    pub(crate) fn chunk_cause(&self, worker: u32, task: u32) -> Option<Refused>
+        ensures { result ≡ kind_refusal self.now.program self.now.limits self.now.ledger worker (Chunk task) }
+    {
+        if let Some(cause) = self.running_cause(worker, task) {
+            return Some(cause);
+        }
+        if self.is_due(task) {
+            return Some(Refused::Due(self.since(task)));
+        }
+        if !self.is_in_need(task) {
+            return Some(Refused::NotNeeded(self.room(task)));
+        }
+        None
+    }
+
+    pub(crate) fn begin_cause(&self, worker: u32, task: u32) -> Option<Refused>
+        requires steady { Steady self.now.ledger }
+        requires agrees { Agrees self.now }
+        ensures { result ≡ kind_refusal self.now.program self.now.limits self.now.ledger worker (Begin task) }
+    {
+        if let Some(cause) = self.due_cause(worker, task) {
+            return Some(cause);
+        }
+        if !self.is_pool_enough(task) {
+            return Some(Refused::PoolShort(self.in_use() as u32));
+        }
+        None
+    }
+
+    pub(crate) fn put_off_cause(&self, worker: u32, task: u32) -> Option<Refused>
+        requires steady { Steady self.now.ledger }
+        requires agrees { Agrees self.now }
+        ensures { result ≡ kind_refusal self.now.program self.now.limits self.now.ledger worker (PutOff task) }
+    {
+        if let Some(cause) = self.due_cause(worker, task) {
+            return Some(cause);
+        }
+        if self.is_pool_enough(task) {
+            return Some(Refused::PoolEnough(self.in_use() as u32));
+        }
+        None
+    }
+
+    pub(crate) fn mark_cause(&self, worker: u32, task: u32) -> Option<Refused>
+        requires { Steady self.now.ledger }
+        ensures { result ≡ kind_refusal self.now.program self.now.limits self.now.ledger worker (Mark task) }
+    {
+        if let Some(cause) = self.waiting_cause(task) {
+            return Some(cause);
+        }
+        if self.is_marked(task) {
+            return Some(Refused::Marking);
+        }
+        let words = self.words(task);
+        if words < self.limits.inner() as u64 {
+            return Some(Refused::NotDue(words));
+        }
+        None
+    }
+
+    pub(crate) fn more_cause(&self, worker: u32, task: u32, count: u32) -> Option<Refused>
+        ensures { result ≡ kind_refusal self.now.program self.now.limits self.now.ledger worker (More task count) }
+    {
+        if let Some(cause) = self.marking_cause(task) {
+            return Some(cause);
+        }
+        if self.left(task) == 0 {
+            return Some(Refused::Marked);
+        }
+        None
+    }
+
+    pub(crate) fn fuel_cause(&self, worker: u32) -> Option<Refused>
+        ensures { result ≡ kind_refusal self.now.program self.now.limits self.now.ledger worker Fuel }
+    {
+        if self.steps < self.limits.fuel() {
+            return Some(Refused::NotSpent(self.steps));
+        }
+        None
+    }
+
+    // The worker is to be at the task, whose leaf collection has begun.
+    pub(crate) fn collecting_cause(&self, worker: u32, task: u32) -> Option<Refused>
+        ensures { result ≡ refused_unless (is_out self.now.ledger worker task) NotOut (refused_unless (is_some (heap_of self.now.ledger task).begun) NotCollecting None) }
+    {
+        if !self.is_out(worker, task) {
+            return Some(Refused::NotOut);
+        }
+        if !self.is_collecting(task) {
+            return Some(Refused::NotCollecting);
+        }
+        None
+    }
+
+    // The heap is to be being marked, and nothing left to mark in it.
+    pub(crate) fn marked_cause(&self, task: u32) -> Option<Refused>
+        ensures { result ≡ on_marking self.now.ledger task (refused_unless (left_in (heap_of self.now.ledger task) == 0) (Left (marked_in (heap_of self.now.ledger task))) None) }
+    {
+        if let Some(cause) = self.marking_cause(task) {
+            return Some(cause);
+        }
+        if self.left(task) != 0 {
+            return Some(Refused::Left(self.marked(task)));
+        }
+        None
+    }
+}
+
+/// A number of an entry is to say what it should.
+pub(crate) fn count_cause(said: u32, is: u64) -> Option<Refused>
+    requires { is < 2 ^ 32 }
+    ensures { result ≡ counted said is None }
+{
+    if said as u64 == is {
+        None
+    } else {
+        Some(Refused::Count(said, is as u32))
+    }
+}
+
+/// The three numbers of the end of a leaf collection are to say what they should.
+pub(crate) fn end_cause(said: (u32, u32, u32), is: (u64, u64, u64)) -> Option<Refused>
+    requires { (is.0 < 2 ^ 32) × (is.1 < 2 ^ 32) × (is.2 < 2 ^ 32) }
+    ensures { result ≡ ends_as (said.0, said.1, said.2) (is.0, is.1, is.2) }
+{
+    if let Some(cause) = count_cause(said.0, is.0) {
+        return Some(cause);
+    }
+    if let Some(cause) = count_cause(said.1, is.1) {
+        return Some(cause);
+    }
+    count_cause(said.2, is.2)
+}

@@ -1,0 +1,264 @@
+// An entry is entered, or refused.
+
+ghost use Rattle.std.specs.Prelude.{◌≡◌, ℕ, ◌<◌, ◌≤◌, Option, Some, None, false, true, OnOk, IfErr, is_some, slice_set};
+ghost use Rattle.run_trace.specs.declared.entry.Kind.TheVariants.{Took, Ran, Chunk, Begin, End, PutOff, Mark, More, Sweep, Fuel};
+ghost use Rattle.run_trace.specs.Entry.{IsKind};
+ghost use Rattle.run_ledger.specs.Heaps.{heap_of};
+ghost use Rattle.run_ledger.specs.Steps.{most_steps};
+ghost use Rattle.run_ledger.specs.Entries.{refusal, after, kind_refusal, after_kind, is_pool_enough};
+ghost use Rattle.run_accounts.specs.Accounts.{Steady, Agrees, StaysSteady, FailsFor, general_refusal, went_on, taken_after};
+
+use crate::accounts::Accounts;
+use crate::causes::{count_cause, end_cause};
+use run_ledger::Refused;
+use run_trace::{Entry, Kind};
+
+/// Why an entry wasn't entered.
+#[derive(Clone, Copy, PartialEq, Eq)]
+pub enum ApplyError {
+    /// It is refused for this cause, the first in their order.
+    Refused(Refused),
+    /// Want of memory.
+    NoMemory,
+}
+
+impl<'p> Accounts<'p> {
+    fn enter_took(&mut self, worker: u32, task: u32) -> Result<(), ApplyError>
+        requires worker { worker < 64 }
+        requires agrees { Agrees self.old }
+        ensures none { OnOk result (kind_refusal self.old.program self.old.limits self.old.ledger worker (Took task) ≡ None) }
+        ensures ok { OnOk result (self.new ≡ record (went_on self.old (after_kind self.old.program self.old.limits self.old.ledger worker (Took task))) { taken = slice_set self.old.taken worker (Some task) }) }
+        ensures err { IfErr result (FailsFor (kind_refusal self.old.program self.old.limits self.old.ledger worker (Took task))) }
+    {
+        if let Some(cause) = self.took_cause(worker, task) {
+            return Err(ApplyError::Refused(cause));
+        }
+        self.took(worker, task);
+        Ok(())
+    }
+
+    fn enter_ran(&mut self, worker: u32, task: u32, steps: u32) -> Result<(), ApplyError>
+        requires few { steps ≤ most_steps }
+        requires stays { is_some (heap_of self.old.ledger task).begun ≡ false → StaysSteady self.old.limits self.old.program self.old.ledger task steps }
+        requires agrees { Agrees self.old }
+        ensures none { OnOk result (kind_refusal self.old.program self.old.limits self.old.ledger worker (Ran task steps) ≡ None) }
+        ensures ok { OnOk result (self.new ≡ went_on self.old (after_kind self.old.program self.old.limits self.old.ledger worker (Ran task steps))) }
+        ensures err { IfErr result (FailsFor (kind_refusal self.old.program self.old.limits self.old.ledger worker (Ran task steps))) }
+    {
+        if let Some(cause) = self.running_cause(worker, task) {
+            return Err(ApplyError::Refused(cause));
+        }
+        match self.ran(task, steps) {
+            Err(_) => Err(ApplyError::NoMemory),
+            Ok(count) => {
+                if count == steps {
+                    Ok(())
+                } else {
+                    Err(ApplyError::Refused(Refused::Long(count)))
+                }
+            }
+        }
+    }
+
+    fn enter_chunk(&mut self, worker: u32, task: u32) -> Result<(), ApplyError>
+        requires steady { Steady self.old.ledger }
+        requires agrees { Agrees self.old }
+        ensures none { OnOk result (kind_refusal self.old.program self.old.limits self.old.ledger worker (Chunk task) ≡ None) }
+        ensures ok { OnOk result (self.new ≡ went_on self.old (after_kind self.old.program self.old.limits self.old.ledger worker (Chunk task))) }
+        ensures err { IfErr result (FailsFor (kind_refusal self.old.program self.old.limits self.old.ledger worker (Chunk task))) }
+    {
+        if let Some(cause) = self.chunk_cause(worker, task) {
+            return Err(ApplyError::Refused(cause));
+        }
+        let places = self.places(task);
+        match self.chunk(worker, task) {
+            Ok(()) => {
+                self.count_places(task, places);
+                Ok(())
+            }
+            Err(_) => Err(ApplyError::NoMemory),
+        }
+    }
+
+    fn enter_begin(&mut self, worker: u32, task: u32) -> Result<(), ApplyError>
+        requires steady { Steady self.old.ledger }
+        requires agrees { Agrees self.old }
+        ensures none { OnOk result (kind_refusal self.old.program self.old.limits self.old.ledger worker (Begin task) ≡ None) }
+        ensures ok { OnOk result (self.new ≡ went_on self.old (after_kind self.old.program self.old.limits self.old.ledger worker (Begin task))) }
+        ensures err { IfErr result (FailsFor (kind_refusal self.old.program self.old.limits self.old.ledger worker (Begin task))) }
+    {
+        if let Some(cause) = self.begin_cause(worker, task) {
+            return Err(ApplyError::Refused(cause));
+        }
+        let places = self.places(task);
+        match self.begin(worker, task) {
+            Ok(()) => {
+                self.count_places(task, places);
+                Ok(())
+            }
+            Err(_) => Err(ApplyError::NoMemory),
+        }
+    }
+
+    fn enter_end(&mut self, worker: u32, task: u32, said: (u32, u32, u32)) -> Result<(), ApplyError>
+        requires steady { Steady self.old.ledger }
+        requires agrees { Agrees self.old }
+        ensures none { OnOk result (kind_refusal self.old.program self.old.limits self.old.ledger worker (End task said.0 said.1 said.2) ≡ None) }
+        ensures ok { OnOk result (self.new ≡ went_on self.old (after_kind self.old.program self.old.limits self.old.ledger worker (End task said.0 said.1 said.2))) }
+        ensures err { IfErr result (FailsFor (kind_refusal self.old.program self.old.limits self.old.ledger worker (End task said.0 said.1 said.2))) }
+    {
+        if let Some(cause) = self.collecting_cause(worker, task) {
+            return Err(ApplyError::Refused(cause));
+        }
+        let Ok(parts) = self.collected(task) else {
+            return Err(ApplyError::NoMemory);
+        };
+        if let Some(cause) = end_cause(said, (parts.taken, parts.given, parts.left)) {
+            return Err(ApplyError::Refused(cause));
+        }
+        self.count_collected(task, &parts);
+        self.put_collected(task, parts);
+        Ok(())
+    }
+
+    fn enter_put_off(&mut self, worker: u32, task: u32) -> Result<(), ApplyError>
+        requires steady { Steady self.old.ledger }
+        requires agrees { Agrees self.old }
+        ensures none { OnOk result (kind_refusal self.old.program self.old.limits self.old.ledger worker (PutOff task) ≡ None) }
+        ensures ok { OnOk result (self.new ≡ went_on self.old (after_kind self.old.program self.old.limits self.old.ledger worker (PutOff task))) }
+        ensures err { IfErr result (FailsFor (kind_refusal self.old.program self.old.limits self.old.ledger worker (PutOff task))) }
+    {
+        if let Some(cause) = self.put_off_cause(worker, task) {
+            return Err(ApplyError::Refused(cause));
+        }
+        self.put_off(worker, task);
+        Ok(())
+    }
+
+    fn enter_mark(&mut self, worker: u32, task: u32) -> Result<(), ApplyError>
+        requires steady { Steady self.old.ledger }
+        requires agrees { Agrees self.old }
+        ensures none { OnOk result (kind_refusal self.old.program self.old.limits self.old.ledger worker (Mark task) ≡ None) }
+        ensures ok { OnOk result (self.new ≡ went_on self.old (after_kind self.old.program self.old.limits self.old.ledger worker (Mark task))) }
+        ensures err { IfErr result (FailsFor (kind_refusal self.old.program self.old.limits self.old.ledger worker (Mark task))) }
+    {
+        if let Some(cause) = self.mark_cause(worker, task) {
+            return Err(ApplyError::Refused(cause));
+        }
+        self.mark(worker, task);
+        Ok(())
+    }
+
+    fn enter_more(&mut self, worker: u32, task: u32, count: u32) -> Result<(), ApplyError>
+        requires steady { Steady self.old.ledger }
+        requires agrees { Agrees self.old }
+        ensures none { OnOk result (kind_refusal self.old.program self.old.limits self.old.ledger worker (More task count) ≡ None) }
+        ensures ok { OnOk result (self.new ≡ went_on self.old (after_kind self.old.program self.old.limits self.old.ledger worker (More task count))) }
+        ensures err { IfErr result (FailsFor (kind_refusal self.old.program self.old.limits self.old.ledger worker (More task count))) }
+    {
+        if let Some(cause) = self.more_cause(worker, task, count) {
+            return Err(ApplyError::Refused(cause));
+        }
+        self.more(worker, task, count);
+        Ok(())
+    }
+
+    fn enter_sweep(&mut self, worker: u32, task: u32, given: u32) -> Result<(), ApplyError>
+        requires steady { Steady self.old.ledger }
+        requires agrees { Agrees self.old }
+        ensures none { OnOk result (kind_refusal self.old.program self.old.limits self.old.ledger worker (Sweep task given) ≡ None) }
+        ensures ok { OnOk result (self.new ≡ went_on self.old (after_kind self.old.program self.old.limits self.old.ledger worker (Sweep task given))) }
+        ensures err { IfErr result (FailsFor (kind_refusal self.old.program self.old.limits self.old.ledger worker (Sweep task given))) }
+    {
+        if let Some(cause) = self.marked_cause(task) {
+            return Err(ApplyError::Refused(cause));
+        }
+        let Ok(parts) = self.swept(task) else {
+            return Err(ApplyError::NoMemory);
+        };
+        if let Some(cause) = count_cause(given, parts.given) {
+            return Err(ApplyError::Refused(cause));
+        }
+        self.count_swept(&parts);
+        self.put_swept(task, parts);
+        Ok(())
+    }
+
+    fn enter_fuel(&mut self, worker: u32) -> Result<(), ApplyError>
+        requires { Agrees self.old }
+        ensures none { OnOk result (kind_refusal self.old.program self.old.limits self.old.ledger worker Fuel ≡ None) }
+        ensures ok { OnOk result (self.new ≡ went_on self.old (after_kind self.old.program self.old.limits self.old.ledger worker Fuel)) }
+        ensures err { IfErr result (FailsFor (kind_refusal self.old.program self.old.limits self.old.ledger worker Fuel)) }
+    {
+        if let Some(cause) = self.fuel_cause(worker) {
+            return Err(ApplyError::Refused(cause));
+        }
+        self.fuel(worker);
+        Ok(())
+    }
+
+    fn enter_kind(&mut self, worker: u32, kind: Kind) -> Result<(), ApplyError>
+        requires range { IsKind kind }
+        requires worker { worker < 64 }
+        requires steady { Steady self.old.ledger }
+        requires agrees { Agrees self.old }
+        requires stays { (t k : ℕ) → kind ≡ Ran t k → is_some (heap_of self.old.ledger t).begun ≡ false → StaysSteady self.old.limits self.old.program self.old.ledger t k }
+        ensures none { OnOk result (kind_refusal self.old.program self.old.limits self.old.ledger worker kind ≡ None) }
+        ensures ok { OnOk result (self.new ≡ record (went_on self.old (after_kind self.old.program self.old.limits self.old.ledger worker kind)) { taken = taken_after self.old.taken worker kind }) }
+        ensures err { IfErr result (FailsFor (kind_refusal self.old.program self.old.limits self.old.ledger worker kind)) }
+    {
+        match kind {
+            Kind::Took(task) => self.enter_took(worker, task),
+            Kind::Ran(task, steps) => self.enter_ran(worker, task, steps),
+            Kind::Chunk(task) => self.enter_chunk(worker, task),
+            Kind::Begin(task) => self.enter_begin(worker, task),
+            Kind::End(task, taken, given, left) => self.enter_end(
+                worker,
+                task,
+                (taken, given, left),
+            ),
+            Kind::PutOff(task) => self.enter_put_off(worker, task),
+            Kind::Mark(task) => self.enter_mark(worker, task),
+            Kind::More(task, count) => self.enter_more(worker, task, count),
+            Kind::Sweep(task, given) => self.enter_sweep(worker, task, given),
+            Kind::Fuel => self.enter_fuel(worker),
+        }
+    }
+
+    // Why an entry is refused whatever it says of tasks: the run has ended, or its fuel is spent, or there is no such worker.
+    fn general_cause(&self, worker: u32, kind: Kind) -> Option<Refused>
+        ensures { result ≡ general_refusal self.now.limits self.now.ledger worker kind }
+    {
+        if self.end.is_some() {
+            return Some(Refused::Over);
+        }
+        let ends = match kind {
+            Kind::Fuel => true,
+            _ => false,
+        };
+        if self.limits.fuel() <= self.steps && !ends {
+            return Some(Refused::Spent(self.steps));
+        }
+        if worker >= self.limits.workers() {
+            return Some(Refused::NoWorker);
+        }
+        None
+    }
+
+    /// The entry is entered, or refused for the first cause in their order. A refused one may leave steps that no entry
+    /// holds, and so may want of memory: such accounts are to be used no more.
+    pub fn enter(&mut self, entry: Entry) -> Result<(), ApplyError>
+        requires steady { Steady self.old.ledger }
+        requires agrees { Agrees self.old }
+        requires stays { (t k : ℕ) → entry.kind ≡ Ran t k → is_some (heap_of self.old.ledger t).begun ≡ false → StaysSteady self.old.limits self.old.program self.old.ledger t k }
+        ensures none { OnOk result (refusal self.old.program self.old.limits self.old.ledger entry ≡ None) }
+        ensures ok { OnOk result (self.new ≡ record (went_on self.old (after self.old.program self.old.limits self.old.ledger entry)) { taken = taken_after self.old.taken entry.worker entry.kind }) }
+        ensures err { IfErr result (FailsFor (refusal self.old.program self.old.limits self.old.ledger entry)) }
+    {
+        if let Some(cause) = self.general_cause(entry.worker(), entry.kind()) {
+            return Err(ApplyError::Refused(cause));
+        }
+        self.bounds();
+        self.enter_kind(entry.worker(), entry.kind())
+    }
+}

@@ -1,0 +1,88 @@
+// The steps of one entry.
+
+ghost use Rattle.std.specs.Prelude.{◌≡◌, ◌≤◌, ◌+◌, ◌||◌, ◌&&◌, not, is_some, if◌then◌else◌, Option, Some, None, true, false, OnOk, IfOk};
+ghost use Rattle.hh_model.specs.Step.{asked};
+ghost use Rattle.run_ledger.specs.Steps.{task_step, task_steps, is_due, is_in_need, is_private, standing};
+ghost use Rattle.run_ledger.specs.Heaps.{in_use};
+ghost use Rattle.next_steps.specs.Own.{is_own};
+ghost use Rattle.run_accounts.specs.Accounts.{Steady, StaysSteady, stood, after_stood, used_after, went_on};
+ghost use Rattle.run_accounts.specs.declared.ran.Stood.TheVariants.{More, Last};
+
+use crate::accounts::Accounts;
+use next_steps::{NextStep, next_step};
+use std::alloc::AllocError;
+
+/// Whether the next step of a task can stand in an entry, and whether a further one can behind it.
+#[derive(Clone, Copy)]
+pub(crate) enum Stood {
+    /// It can't: it is due or in need.
+    Not,
+    /// It stands, and none behind it.
+    Last,
+    /// It stands, and a further one can.
+    More,
+}
+
+// How a step stood that was taken: by whether it was the task's own matter, and whether the machine ended with it.
+fn stood_by(own: bool, ended: bool) -> Stood
+    ensures { result ≡ (if own && not ended then More else Last) }
+{
+    if own && !ended {
+        Stood::More
+    } else {
+        Stood::Last
+    }
+}
+
+impl<'p> Accounts<'p> {
+    // Whether the machine has ended.
+    fn has_ended(&self) -> bool
+        ensures { result ≡ is_some self.now.ledger.machine.end }
+    {
+        self.machine.end().is_some()
+    }
+
+    // The next step of the task.
+    fn next_step(&self, t: u32) -> NextStep
+        ensures words { result.words ≡ asked self.now.program self.now.ledger.machine t }
+        ensures own { result.own ≡ is_own self.now.program self.now.ledger.machine t }
+    {
+        next_step(self.program, self.machine.state(), t)
+    }
+
+    // One step of the entry, if it can stand in it.
+    fn stand(&mut self, t: u32) -> Result<Stood, AllocError>
+        requires before { Steady self.old.ledger }
+        requires after { (is_due self.old.limits self.old.program self.old.ledger t || is_in_need self.old.program self.old.ledger t) ≡ false → Steady (task_step self.old.program self.old.ledger t) }
+        requires used { self.old.used ≡ in_use self.old.ledger }
+        requires next { (is_due self.old.limits self.old.program self.old.ledger t || is_in_need self.old.program self.old.ledger t) ≡ false → used_after self.old.program self.old.ledger t ≡ in_use (task_step self.old.program self.old.ledger t) }
+        ensures stood { IfOk result (λ how. how ≡ stood self.old.limits self.old.program self.old.ledger t) }
+        ensures after { IfOk result (λ how. self.new ≡ went_on self.old (after_stood self.old.program self.old.ledger t how)) }
+    {
+        let ahead = self.next_step(t);
+        if self.is_due_by(t, ahead.words) || self.is_in_need_by(t, ahead.words) {
+            return Ok(Stood::Not);
+        }
+        self.step(t, ahead.words)?;
+        let ended = self.has_ended();
+        Ok(stood_by(ahead.own, ended))
+    }
+
+    /// Takes the first of so many steps of a task, as many as can stand in one entry, and says how many those are.
+    pub(crate) fn ran(&mut self, t: u32, steps: u32) -> Result<u32, AllocError>
+        requires steady { StaysSteady self.old.limits self.old.program self.old.ledger t steps }
+        requires used { self.old.used ≡ in_use self.old.ledger }
+        ensures standing { IfOk result (λ count. count ≡ standing self.old.limits self.old.program self.old.ledger t steps) }
+        ensures most { IfOk result (λ count. count ≤ steps) }
+        ensures after { IfOk result (λ count. self.new ≡ went_on self.old (task_steps self.old.program self.old.ledger t count)) }
+    {
+        for done in 0..steps {
+            match self.stand(t)? {
+                Stood::Not => return Ok(done),
+                Stood::Last => return Ok(done + 1),
+                Stood::More => {}
+            }
+        }
+        Ok(steps)
+    }
+}

@@ -1,0 +1,51 @@
+// What is told of accounts to those who keep them.
+
+ghost use Rattle.std.specs.Prelude.{◌≡◌};
+
+use crate::accounts::Accounts;
+use hh_model::State;
+use run_ledger::RunEnd;
+use run_trace::Settings;
+use std::alloc::Global;
+
+impl<'p> Accounts<'p> {
+    /// What they take memory from.
+    pub fn allocator(&self) -> Global {
+        self.alloc
+    }
+
+    /// The limits of the run.
+    pub fn limits(&self) -> Settings
+        ensures { result ≡ self.now.limits }
+    {
+        self.limits
+    }
+
+    /// How the run ended, if it has.
+    pub fn end(&self) -> Option<RunEnd>
+        ensures { result ≡ self.now.ledger.end }
+    {
+        self.end
+    }
+
+    /// The steps taken.
+    pub fn steps(&self) -> u64
+        ensures { result ≡ self.now.ledger.steps }
+    {
+        self.steps
+    }
+
+    /// What the steps have written out, the oldest first.
+    pub fn outputs(&self) -> &[i64]
+        ensures { result.now ≡ self.now.ledger.machine.outputs }
+    {
+        self.machine.outputs()
+    }
+
+    /// The machine that never collects, after the steps so far.
+    pub fn state(&self) -> &State
+        ensures { result.now ≡ self.now.ledger.machine }
+    {
+        self.machine.state()
+    }
+}

@@ -1,6 +1,0 @@
-use Rattle.run_journal.proofs.Went.{went_begin}
-use Rattle.run_journal.proofs.accounts.Accounts.enter_begin.Goals as goal
-
-pub returns-in-Ok-clause-ok : goal.returns-in-Ok-clause-ok
-returns-in-Ok-clause-ok c =
-    went_begin c.args.self.now c.begin.new.self c.count_places.new.self c.args.worker c.args.task _ c.requires.agrees c.places-places.ensures.value c.in-Ok.ensures.ok c.count_places.ensures

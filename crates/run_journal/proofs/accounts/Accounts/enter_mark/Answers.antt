@@ -1,6 +1,0 @@
-use Rattle.run_journal.proofs.Went.{went_mark}
-use Rattle.run_journal.proofs.accounts.Accounts.enter_mark.Goals as goal
-
-pub returns-clause-ok : goal.returns-clause-ok
-returns-clause-ok c =
-    went_mark c.args.self.now c.mark.new.self c.args.worker c.args.task c.requires.agrees c.mark.ensures
