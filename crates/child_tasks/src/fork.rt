@@ -10,7 +10,7 @@ use heap_tree::{State, Tree};
 use inner_mark_gc::Marking;
 use listed::Listed;
 use out_of_line::Apart;
-use shared_value::{Rest, Work, put_rest, rest_block};
+use shared_value::{Rest, Work, rest_block};
 use std::alloc::{AllocError, Global};
 use task_machine::Private;
 use write_barrier::SetOf;
@@ -158,10 +158,7 @@ pub fn put_homes(
 {
     let task = part.task;
     let (first, second) = (left.task, right.task);
-    homes.set(first as usize, Some(put_rest(blocks.left, beginning(left))));
-    homes.set(
-        second as usize,
-        Some(put_rest(blocks.right, beginning(right))),
-    );
-    homes.set(task as usize, Some(put_rest(blocks.own, waiting(part))));
+    homes.set(first as usize, Some(blocks.left.put(beginning(left))));
+    homes.set(second as usize, Some(blocks.right.put(beginning(right))));
+    homes.set(task as usize, Some(blocks.own.put(waiting(part))));
 }

@@ -19,7 +19,7 @@ use listed::Listed;
 use object_layout::Addr;
 use out_of_line::Apart;
 use remembered_set::Remembered;
-use shared_value::{Rest, Work, put_rest, take_out};
+use shared_value::{Rest, Work, take_out};
 use std::alloc::{AllocError, Global};
 use std::mem;
 use task_machine::Private;
@@ -259,7 +259,7 @@ pub fn join_children(
         view,
         allocations,
     };
-    (put_rest(above, rest), side.remembered)
+    (above.put(rest), side.remembered)
 }
 
 /// What a join takes of an own child, which leaves no home.

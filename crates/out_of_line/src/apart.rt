@@ -39,6 +39,25 @@ impl<T> Apart<T> {
         Box::into_inner(self.inner)
     }
 
+    /// Puts a value in the place of the one that is there, and hands that back. It takes no memory.
+    pub fn replace(&mut self, value: T) -> T
+        ensures put { self.new ≡ value }
+        ensures back { result ≡ self.old }
+    {
+        Box::replace(&mut self.inner, value)
+    }
+
+    /// The same block with this value, so that memory can be taken before it is known what goes there. It takes none.
+    pub fn put(self, value: T) -> Apart<T>
+    where
+        T: Drop,
+        ensures { result ≡ value }
+    {
+        let mut block = self;
+        drop(block.replace(value));
+        block
+    }
+
     /// The value, to be looked at.
     pub fn get(&self) -> &T
         ensures { result.now ≡ self.now }

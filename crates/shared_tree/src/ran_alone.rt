@@ -17,9 +17,7 @@ use hh_model::End;
 use out_of_line::Apart;
 use own_steps::at_end;
 use run_ledger::{Refused, RunEnd};
-use shared_value::{
-    Ending, NotEntered, NotRan, Rest, first_cause, last_step, put_rest, rest_block,
-};
+use shared_value::{Ending, NotEntered, NotRan, Rest, first_cause, last_step, rest_block};
 use std::alloc::AllocError;
 use task_machine::Private;
 
@@ -106,7 +104,7 @@ impl Shared {
         enter_alone(&mut self.steps, &mut self.journal, worker, &part);
         self.tree.set_state(task, State::Ended);
         self.hands.set(worker as usize, None);
-        let rest = put_rest(block, at_end(part));
+        let rest = block.put(at_end(part));
         self.homes.set(task as usize, Some(rest));
         self.end = Some(RunEnd::Machine(End::Done));
     }

@@ -19,7 +19,7 @@ use child_tasks::{
 use heap_tree::State;
 use out_of_line::Apart;
 use own_steps::at_end;
-use shared_value::{NotEntered, NotRan, Rest, put_rest, rest_block};
+use shared_value::{NotEntered, NotRan, Rest, rest_block};
 use std::alloc::AllocError;
 use task_machine::Private;
 use write_barrier::SetBlock;
@@ -39,7 +39,7 @@ impl Shared {
         enter_alone(&mut self.steps, &mut self.journal, worker, &part);
         self.tree.set_state(task, State::Ended);
         self.hands.set(worker as usize, None);
-        let rest = put_rest(block, at_end(part));
+        let rest = block.put(at_end(part));
         self.homes.set(task as usize, Some(rest));
     }
 

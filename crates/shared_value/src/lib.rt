@@ -16,4 +16,4 @@ pub use copy::copy_program;
 pub use heaps::Heaps;
 pub use next_step::{Ending, field_index, last_step, number, reference, words_asked};
 pub use roots::targets_in;
-pub use task_at_rest::{Rest, Work, opened, put_rest, rest_block, take_out};
+pub use task_at_rest::{Rest, Work, opened, rest_block, take_out};

@@ -8,7 +8,6 @@ use alloc_path::{LeafHeap, View};
 use object_layout::Addr;
 use out_of_line::Apart;
 use std::alloc::{AllocError, Global};
-use std::mem;
 use task_frames::Frames;
 use task_machine::Private;
 
@@ -82,14 +81,5 @@ pub fn rest_block(alloc: Global) -> Result<Apart<Rest>, AllocError> {
 pub fn take_out(alloc: Global, block: &mut Apart<Rest>) -> Rest
     ensures { result ≡ block.old }
 {
-    mem::replace(block.get_mut(), nothing(alloc))
-}
-
-/// Puts what goes with a task into a block. It takes no memory.
-pub fn put_rest(block: Apart<Rest>, rest: Rest) -> Apart<Rest>
-    ensures { result ≡ rest }
-{
-    let mut block = block;
-    *block.get_mut() = rest;
-    block
+    block.replace(nothing(alloc))
 }

@@ -37,15 +37,6 @@ fn chunks_block(alloc: Global) -> Result<Apart<ToChunks>, AllocError> {
     Ok(Apart::new(alloc, none)?)
 }
 
-// Puts new chunks and lists into a block. It takes no memory.
-fn put_chunks(block: Apart<ToChunks>, to_chunks: ToChunks) -> Apart<ToChunks>
-    ensures { result ≡ to_chunks }
-{
-    let mut block = block;
-    *block.get_mut() = to_chunks;
-    block
-}
-
 impl Run {
     // The collection of the part begins. There is a block for the new chunks.
     fn begin_in(self, worker: u32, part: HeldPart, block: Apart<ToChunks>) -> Acted
@@ -62,7 +53,7 @@ impl Run {
             Ok((roots, to_chunks)) => run.entered(Next::Collecting(Collecting {
                 part,
                 roots,
-                to_chunks: put_chunks(block, to_chunks),
+                to_chunks: block.put(to_chunks),
             })),
             Err(cause) => run.wanting(cause),
         }

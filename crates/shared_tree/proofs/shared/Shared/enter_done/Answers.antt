@@ -62,7 +62,7 @@ invariant_of-self c =
     let v : SharedValue = record w { steps = w.steps + (p.fresh + 1); end = Some (Machine Done) } in
     along w k p _ _ c.enter_alone.ensures.steps c.enter_alone.ensures.journal (λ n j. IsSharedValue (record w { steps = n; end = Some (Machine Done); tree = c.set_state.new.self; homes = c.set-2.new.self; hands = c.set.new.self; journal = j }))
     (subst IsSharedValue (sym (four_changed v (with_state w.tree p.task Ended) _ (slice_set w.homes p.task (Some (ended_rest p))) _ (slice_set w.hands k None) _ (entered w k p) _
-    c.set_state.ensures (c.set-2.ensures ∙ ap (λ (r : Rest). slice_set w.homes p.task (Some r)) (c.put_rest-rest.ensures ∙ c.at_end.ensures)) c.set.ensures refl))
+    c.set_state.ensures (c.set-2.ensures ∙ ap (λ (r : Rest). slice_set w.homes p.task (Some r)) (c.put-rest.ensures ∙ c.at_end.ensures)) c.set.ensures refl))
     (finished_world w k p c.self.invariant F shared free T.0 T.1 c.requires.root (record { items = []; room = w.journal.room - 1 })))
 
 pub returns : goal.returns
@@ -78,5 +78,5 @@ returns c =
     subst (λ (z : SharedValue). FinishesAlone z (record v { steps = c.enter_alone.new.steps; tree = c.set_state.new.self; homes = c.set-2.new.self; hands = c.set.new.self; journal = c.enter_alone.new.journal }) k p) c.self.view_is
     (along w k p _ _ c.enter_alone.ensures.steps c.enter_alone.ensures.journal (λ n j. FinishesAlone w (record v { steps = n; tree = c.set_state.new.self; homes = c.set-2.new.self; hands = c.set.new.self; journal = j }) k p)
     (subst (λ (z : SharedValue). FinishesAlone w z k p) (sym (four_changed v (with_state w.tree p.task Ended) _ (slice_set w.homes p.task (Some (ended_rest p))) _ (slice_set w.hands k None) _ (entered w k p) _
-    c.set_state.ensures (c.set-2.ensures ∙ ap (λ (r : Rest). slice_set w.homes p.task (Some r)) (c.put_rest-rest.ensures ∙ c.at_end.ensures)) c.set.ensures refl))
+    c.set_state.ensures (c.set-2.ensures ∙ ap (λ (r : Rest). slice_set w.homes p.task (Some r)) (c.put-rest.ensures ∙ c.at_end.ensures)) c.set.ensures refl))
     (finishes_alone w k p c.self.invariant F shared free T.0 T.1 c.requires.root (record { items = []; room = w.journal.room - 1 }))))

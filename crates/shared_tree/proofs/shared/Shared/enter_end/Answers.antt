@@ -65,7 +65,7 @@ invariant_of-self c =
     let v : SharedValue = record w { steps = w.steps + (p.fresh + 1) } in
     along w k p _ _ c.enter_alone.ensures.steps c.enter_alone.ensures.journal (λ n j. IsSharedValue (record w { steps = n; tree = c.set_state.new.self; homes = c.set-2.new.self; hands = c.set.new.self; journal = j }))
     (subst IsSharedValue (sym (four_changed v (with_state w.tree p.task Ended) _ (slice_set w.homes p.task (Some (ended_rest p))) _ (slice_set w.hands k None) _ (entered w k p) _
-    c.set_state.ensures (c.set-2.ensures ∙ ap (λ (r : Rest). slice_set w.homes p.task (Some r)) (c.put_rest-rest.ensures ∙ c.at_end.ensures)) c.set.ensures refl))
+    c.set_state.ensures (c.set-2.ensures ∙ ap (λ (r : Rest). slice_set w.homes p.task (Some r)) (c.put-rest.ensures ∙ c.at_end.ensures)) c.set.ensures refl))
     (alone_world w k p I F at free no (record { items = []; room = w.journal.room - 1 })))
 
 pub returns-clause-ended : goal.returns-clause-ended
@@ -82,7 +82,7 @@ returns-clause-ended c =
     subst (λ (z : SharedValue). EndsChild z (record v { steps = c.enter_alone.new.steps; tree = c.set_state.new.self; homes = c.set-2.new.self; hands = c.set.new.self; journal = c.enter_alone.new.journal }) k p None) c.self.view_is
     (along w k p _ _ c.enter_alone.ensures.steps c.enter_alone.ensures.journal (λ n j. EndsChild w (record v { steps = n; tree = c.set_state.new.self; homes = c.set-2.new.self; hands = c.set.new.self; journal = j }) k p None)
     (subst (λ (z : SharedValue). EndsChild w z k p None) (sym (four_changed v (with_state w.tree p.task Ended) _ (slice_set w.homes p.task (Some (ended_rest p))) _ (slice_set w.hands k None) _ (entered w k p) _
-    c.set_state.ensures (c.set-2.ensures ∙ ap (λ (r : Rest). slice_set w.homes p.task (Some r)) (c.put_rest-rest.ensures ∙ c.at_end.ensures)) c.set.ensures refl))
+    c.set_state.ensures (c.set-2.ensures ∙ ap (λ (r : Rest). slice_set w.homes p.task (Some r)) (c.put-rest.ensures ∙ c.at_end.ensures)) c.set.ensures refl))
     (alone_ends w k p I F at free no (record { items = []; room = w.journal.room - 1 }))))
 
 pub returns-clause-hand : goal.returns-clause-hand

@@ -30,7 +30,7 @@ returns-in-Ok c = λ ready.
         fits = c.leaf_begin.ensures.fits;
         fresh = ap (λ (p : Private). p.fresh) c.in-Ok.ensures.begun.part ∙ (ap (λ (p : Private). p.fresh) c.get_mut.ensures.value ∙ c.requires.fresh);
         before = c.get_mut.result.now;
-        begun = subst (λ (t : ToChunks). HasBegun c.get_mut.result.now c.leaf_begin.new.part c.in-Ok.roots.items t) (sym c.put_chunks.ensures) c.in-Ok.ensures.begun;
+        begun = subst (λ (t : ToChunks). HasBegun c.get_mut.result.now c.leaf_begin.new.part c.in-Ok.roots.items t) (sym c.put.ensures) c.in-Ok.ensures.begun;
       },
     ))
 
