@@ -1,8 +1,9 @@
 // What a join takes out of the shared value, and the places that it needs.
 
-ghost use Rattle.std.specs.Prelude.{◌≡◌, ◌<◌, ◌+◌, ◌^◌, ◌↔◌, IsSome, IsTrue, OnOk, IfOk, None, Some, slice_set, ◌≢◌, ◌≤◌, ◌++◌, ℕ, IfSome, [], false, length, slice_get};
+ghost use Rattle.std.specs.Prelude.{◌≡◌, ◌<◌, ◌+◌, ◌^◌, ◌↔◌, IsSome, IsTrue, OnOk, IfNone, IfOk, None, Some, slice_set, ◌≢◌, ◌≤◌, ◌++◌, ℕ, IfSome, [], false, length, slice_get};
 ghost use Rattle.task_frames.specs.FramesValue.{FramesValue};
 ghost use Rattle.heap_tree.specs.Pairs.{sibling, is_left};
+ghost use Rattle.remembered_set.specs.Sources.{notes_in};
 ghost use Rattle.write_barrier.specs.Stored.{content_at};
 ghost use Rattle.fork_join.specs.Joined.{joined_nodes, with_results, AreRelabelled, Joins};
 ghost use Rattle.shared_value.specs.Fits.{IsAtWork};
@@ -23,7 +24,7 @@ use shared_value::{Rest, Work, take_out};
 use std::alloc::{AllocError, Global};
 use std::mem;
 use task_machine::Private;
-use write_barrier::{SetBlock, SetOf};
+use write_barrier::{Noted, SetOf};
 
 /// The other child of the same fork.
 pub fn sibling_of(t: u32) -> u32
@@ -84,6 +85,19 @@ pub fn take_block(homes: &mut Listed<Option<Apart<Rest>>>, t: u32) -> Apart<Rest
     }
 }
 
+/// Takes out what a set remembers, and its block, if it has one; it holds nothing then.
+pub fn take_set(alloc: Global, sets: &mut Vec<SetOf>, t: u32) -> (Remembered, Option<Apart<Noted>>)
+    requires made { t < length sets.old.items }
+    ensures whole { IfSome (slice_get sets.old.items t) (λ s. result.0 ≡ s.remembered) }
+    ensures bare { IfNone result.1 (result.0 ≡ notes_in None) }
+    ensures many { length sets.new.items ≡ length sets.old.items }
+    ensures empty { content_at sets.new.items t ≡ Some nothing_noted }
+    ensures others { (u : ℕ) → u ≢ t → slice_get sets.new.items u ≡ slice_get sets.old.items u }
+{
+    let set = mem::replace(&mut sets[t as usize], SetOf::new(alloc));
+    set.into_parts()
+}
+
 /// Takes out what a set remembers; it holds nothing then.
 pub fn take_remembered(alloc: Global, sets: &mut Vec<SetOf>, t: u32) -> Remembered
     requires made { t < length sets.old.items }
@@ -92,8 +106,9 @@ pub fn take_remembered(alloc: Global, sets: &mut Vec<SetOf>, t: u32) -> Remember
     ensures empty { content_at sets.new.items t ≡ Some nothing_noted }
     ensures others { (u : ℕ) → u ≢ t → slice_get sets.new.items u ≡ slice_get sets.old.items u }
 {
-    let set = mem::replace(&mut sets[t as usize], SetOf::new(alloc));
-    set.into_remembered()
+    let (remembered, block) = take_set(alloc, sets, t);
+    drop(block);
+    remembered
 }
 
 // How many chunks the heap of a task has that no worker holds.
@@ -234,6 +249,7 @@ pub fn join_children(
     ensures tree { tree.new ≡ joined_nodes tree.old parent children.0.side.task children.1.side.task }
     ensures pool { AreRelabelled pool.old pool.new (children.0.side.heap.chunks ++ children.1.side.heap.chunks) parent }
     ensures side { Joins (parent_side parent above noted) (parent_side parent result.0 result.1) children.0.side children.1.side }
+    ensures none { noted ≡ notes_in None → result.1.sources ≡ [] }
     ensures rest { (s : FramesValue) → above.work ≡ Work.Calls s → result.0 ≡ record above { work = Work.Calls (with_results s children.0.result children.1.result); heap = result.0.heap } }
 {
     let mut above = above;
@@ -311,13 +327,15 @@ pub fn leave_other(
     }
 }
 
-/// Puts what a set remembers into it, which holds nothing.
-pub fn put_remembered(sets: &mut Vec<SetOf>, t: u32, noted: Remembered, block: SetBlock)
+/// Puts what a set remembers into it, which holds nothing; there is a block where that is something.
+pub fn put_remembered(sets: &mut Vec<SetOf>, t: u32, noted: Remembered, block: Option<Apart<Noted>>)
     requires made { t < length sets.old.items }
     requires empty { content_at sets.old.items t ≡ Some nothing_noted }
+    requires block { IfNone block (noted.sources ≡ []) }
     ensures many { length sets.new.items ≡ length sets.old.items }
     ensures at { content_at sets.new.items t ≡ Some (record { sources = noted.sources; kept = []; keeps = false }) }
     ensures others { (u : ℕ) → u ≢ t → content_at sets.new.items u ≡ content_at sets.old.items u }
 {
-    sets[t as usize] = block.into_set(noted);
+    let alloc = *sets.allocator();
+    sets[t as usize] = SetOf::remembering(alloc, noted, block);
 }

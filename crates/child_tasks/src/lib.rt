@@ -9,5 +9,5 @@ pub use first::{empty_hands, first_homes, first_sets};
 pub use fork::{ForkBlocks, Forking, clear_marks, fork_sets, grow, put_homes};
 pub use join::{
     in_order, is_ended, join_children, leave_other, leave_own, make_places, put_remembered,
-    sibling_of, take_block, take_remembered, take_rest,
+    sibling_of, take_block, take_remembered, take_rest, take_set,
 };

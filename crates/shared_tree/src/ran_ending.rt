@@ -14,7 +14,7 @@ use crate::shared::Shared;
 use crate::steps_entered::enter_alone;
 use child_tasks::{
     in_order, is_ended, join_children, leave_other, leave_own, make_places, put_remembered,
-    sibling_of, take_block, take_remembered,
+    sibling_of, take_block, take_remembered, take_set,
 };
 use heap_tree::State;
 use out_of_line::Apart;
@@ -22,7 +22,6 @@ use own_steps::at_end;
 use shared_value::{NotEntered, NotRan, Rest, rest_block};
 use std::alloc::AllocError;
 use task_machine::Private;
-use write_barrier::SetBlock;
 
 impl Shared {
     // Enters the end of a child whose sibling goes on.
@@ -83,7 +82,7 @@ impl Shared {
     }
 
     // Enters the end of a child whose sibling has ended: both join their parent, which has places for what they bring.
-    fn enter_join(&mut self, worker: u32, part: Private, parent: u32, set: SetBlock)
+    fn enter_join(&mut self, worker: u32, part: Private, parent: u32)
         requires room { 0 < self.old.journal.room }
         requires fits { Fits self.old worker part }
         requires ends { IsAtEnd self.old part }
@@ -101,7 +100,7 @@ impl Shared {
         self.tree.set_state(task, State::Ended);
         let own_noted = take_remembered(alloc, &mut self.sets, task);
         let other_noted = take_remembered(alloc, &mut self.sets, other);
-        let noted = take_remembered(alloc, &mut self.sets, parent);
+        let (noted, block) = take_set(alloc, &mut self.sets, parent);
         let own = leave_own(&mut self.homes, part, own_noted);
         let beside = leave_other(alloc, &mut self.homes, other, other_noted);
         let above = take_block(&mut self.homes, parent);
@@ -109,7 +108,7 @@ impl Shared {
         let (tree, pool) = (&mut self.tree, &mut self.pool);
         let (rest, noted) = join_children(alloc, tree, pool, parent, above, noted, children);
         self.homes.set(parent as usize, Some(rest));
-        put_remembered(&mut self.sets, parent, noted, set);
+        put_remembered(&mut self.sets, parent, noted, block);
     }
 
     /// The fresh steps of a part, and its next one, which is the last return of a task that another one forked, are
@@ -139,15 +138,9 @@ impl Shared {
         let Some(parent) = self.tree.parent(part.task) else {
             unreachable!()
         };
-        let Ok(set) = SetBlock::new(*self.sets.allocator()) else {
-            return Err(NotRan {
-                cause: NotEntered::NoMemory,
-                part,
-            });
-        };
         match self.make_join_places(&part, parent) {
             Ok(()) => {
-                self.enter_join(worker, part, parent, set);
+                self.enter_join(worker, part, parent);
                 Ok(Some(parent))
             }
             Err(_) => Err(NotRan {

@@ -6,4 +6,4 @@ mod noting;
 mod sets;
 
 pub use barrier::store;
-pub use sets::{SetBlock, SetOf};
+pub use sets::{Noted, SetOf};

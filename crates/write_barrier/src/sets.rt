@@ -1,8 +1,8 @@
 // What is noted for the collections of one heap, which takes no memory until there is something.
 
-ghost use Rattle.std.specs.Prelude.{◌≡◌, ◌<◌, ◌≤◌, ◌++◌, ◌∷◌, [], IfErr, IfOk, OnErr, OnOk, false, fold, true};
+ghost use Rattle.std.specs.Prelude.{◌≡◌, ◌<◌, ◌≤◌, ◌++◌, ◌∷◌, [], IfErr, IfNone, IfOk, None, OnErr, OnOk, false, fold, true};
 ghost use Rattle.remembered_set.specs.Moved.{redirected, targets_of, AreFields, AreInOrder, ArePlaces};
-ghost use Rattle.remembered_set.specs.Sources.{noted as noted_with, StandOnce};
+ghost use Rattle.remembered_set.specs.Sources.{noted as noted_with, notes_in, StandOnce};
 ghost use Rattle.write_barrier.specs.Held.{held_in};
 ghost use Rattle.write_barrier.specs.Stored.{content_of};
 
@@ -49,6 +49,33 @@ impl Model for SetOf {
     ghost use Rattle.write_barrier.specs.Held.{held_in};
 
     ghost view = { λ s. held_in s.form };
+}
+
+// Nothing, of a heap that keeps nothing.
+fn nothing(alloc: Global) -> Noted {
+    Noted {
+        remembered: Remembered::new(alloc),
+        kept: Roomy::new(alloc),
+        keeps: false,
+    }
+}
+
+// The set of a heap that keeps nothing, which remembers this. The block goes where there is nothing.
+fn set_in(alloc: Global, remembered: Remembered, block: Apart<Noted>) -> SetOf
+    ensures { content_of result ≡ record { sources = remembered.sources; kept = []; keeps = false } }
+{
+    if remembered.sources().is_empty() {
+        return SetOf::new(alloc);
+    }
+    let noted = Noted {
+        remembered,
+        kept: Roomy::new(alloc),
+        keeps: false,
+    };
+    SetOf {
+        alloc,
+        form: Form::Full(block.put(noted)),
+    }
 }
 
 // The block that there is, or a new one; for want of memory the form is handed back.
@@ -238,55 +265,31 @@ impl SetOf {
         }
     }
 
-    /// What it remembers alone.
-    pub fn into_remembered(self) -> Remembered
-        ensures { result ≡ self.remembered }
+    /// What it remembers, and the block that held it. Without a block it remembers nothing, and has no places.
+    pub fn into_parts(self) -> (Remembered, Option<Apart<Noted>>)
+        ensures remembered { result.0 ≡ self.remembered }
+        ensures bare { IfNone result.1 (result.0 ≡ notes_in None) }
     {
         let SetOf { alloc, form } = self;
         match form {
-            Form::Bare(_) => Remembered::new(alloc),
-            Form::Full(noted) => noted.into_inner().remembered,
+            Form::Bare(_) => (Remembered::new(alloc), None),
+            Form::Full(noted) => {
+                let mut block = noted;
+                let noted = block.replace(nothing(alloc));
+                (noted.remembered, Some(block))
+            }
         }
     }
-}
 
-/// A block for what is noted for the collections of a heap.
-#[derive(Drop)]
-pub struct SetBlock {
-    alloc: Global,
-    noted: Apart<Noted>,
-}
-
-impl SetBlock {
-    /// Takes its memory.
-    pub fn new(alloc: Global) -> Result<SetBlock, AllocError> {
-        let noted = Noted {
-            remembered: Remembered::new(alloc),
-            kept: Roomy::new(alloc),
-            keeps: false,
-        };
-        let noted = Apart::new(alloc, noted)?;
-        Ok(SetBlock { alloc, noted })
-    }
-
-    /// The set that remembers this, of a heap that keeps nothing. It takes no memory, and needs the block only if there is
-    /// something.
-    pub fn into_set(self, remembered: Remembered) -> SetOf
+    /// The set of a heap that keeps nothing, which remembers this; there is a block where there is something. It takes no
+    /// memory.
+    pub fn remembering(alloc: Global, remembered: Remembered, block: Option<Apart<Noted>>) -> SetOf
+        requires { IfNone block (remembered.sources ≡ []) }
         ensures { content_of result ≡ record { sources = remembered.sources; kept = []; keeps = false } }
     {
-        let SetBlock { alloc, noted } = self;
-        if remembered.sources().is_empty() {
-            return SetOf::new(alloc);
-        }
-        let mut noted = noted;
-        *noted.get_mut() = Noted {
-            remembered,
-            kept: Roomy::new(alloc),
-            keeps: false,
-        };
-        SetOf {
-            alloc,
-            form: Form::Full(noted),
+        match block {
+            Some(block) => set_in(alloc, remembered, block),
+            None => SetOf::new(alloc),
         }
     }
 }

@@ -5,7 +5,7 @@ use Rattle.write_barrier.specs.Stored.{content_of}
 use Rattle.child_tasks.proofs.join.put_remembered.Goals as goal
 
 pub returns-clause-at : goal.returns-clause-at
-returns-clause-at c = ap (option_map content_of) (got_set c.args.sets.now.items c.args.t c.into_set.result c.requires.made) ∙ ap Some c.into_set.ensures
+returns-clause-at c = ap (option_map content_of) (got_set c.args.sets.now.items c.args.t c.remembering.result c.requires.made) ∙ ap Some c.remembering.ensures
 
 pub returns-clause-others : goal.returns-clause-others
 returns-clause-others c = λ u ne. ap (option_map content_of) (got_other c.args.sets.now.items c.args.t u _ ne)

@@ -1,5 +1,5 @@
 use Rattle.std.proofs.Common.{◌≡◌, ℕ, ◌+◌, ◌-◌, arith, Option, Some, None, List, [], length, length-set, slice_set, refl, ap, sym, subst, ◌∙◌}
-use Rattle.std.specs.Prelude.{IsSome}
+use Rattle.std.specs.Prelude.{IfNone, IsSome}
 use Rattle.listed.specs.RoomyValue.{RoomyValue}
 use Rattle.run_trace.specs.Entry.{EntryValue}
 use Rattle.chunk_pool.specs.PoolValue.{PoolValue}
@@ -114,8 +114,8 @@ take_remembered-other_noted-requires c =
     let n = c.take_remembered-own_noted.ensures.many in
     record { made = omega (arith, made, o, n) }
 
-pub take_remembered-noted-requires : goal.take_remembered-noted-requires
-take_remembered-noted-requires c =
+pub take_set-noted-requires : goal.take_set-noted-requires
+take_set-noted-requires c =
     let w : SharedValue = the_view c.self.inside in
     let p : Private = c.args.part in
     let k : ℕ = c.args.worker in
@@ -219,12 +219,12 @@ join_children-rest-requires-clause-work c =
     let o : c.sibling_of-other.result ≡ sibling p.task = c.sibling_of-other.ensures in
     let x1 : List SetOf = c.take_remembered-own_noted.new.sets.items in
     let x2 : List SetOf = c.take_remembered-other_noted.new.sets.items in
-    let x3 : List SetOf = c.take_remembered-noted.new.sets.items in
+    let x3 : List SetOf = c.take_set-noted.new.sets.items in
     let h1 : List (Option Rest) = c.leave_own-own.new.homes in
     let h2 : List (Option Rest) = c.leave_other-beside.new.homes in
     let n1 : RememberedValue = c.take_remembered-own_noted.result in
     let n2 : RememberedValue = c.take_remembered-other_noted.result in
-    let n3 : RememberedValue = c.take_remembered-noted.result in
+    let n3 : RememberedValue = c.take_set-noted.result.0 in
     let above : Rest = c.take_block-above.result in
     let left : EndedChild = c.in_order-children.result.0 in
     let right : EndedChild = c.in_order-children.result.1 in
@@ -232,15 +232,15 @@ join_children-rest-requires-clause-work c =
       other_is = o;
       n1 = c.take_remembered-own_noted.ensures.many;
       n2 = c.take_remembered-other_noted.ensures.many;
-      n3 = c.take_remembered-noted.ensures.many;
+      n3 = c.take_set-noted.ensures.many;
       own_set = c.take_remembered-own_noted.ensures.whole;
       other_set = c.take_remembered-other_noted.ensures.whole;
-      parent_set = c.take_remembered-noted.ensures.whole;
+      parent_set = c.take_set-noted.ensures.whole;
       e1 = c.take_remembered-own_noted.ensures.empty;
       e2 = c.take_remembered-other_noted.ensures.empty;
       o1 = c.take_remembered-own_noted.ensures.others;
       o2 = c.take_remembered-other_noted.ensures.others;
-      o3 = c.take_remembered-noted.ensures.others;
+      o3 = c.take_set-noted.ensures.others;
       own_is = c.leave_own-own.ensures.child;
       m1 = c.leave_own-own.ensures.many;
       own_home = c.leave_own-own.ensures.own;
@@ -270,12 +270,12 @@ join_children-rest-requires-clause-can c =
     let o : c.sibling_of-other.result ≡ sibling p.task = c.sibling_of-other.ensures in
     let x1 : List SetOf = c.take_remembered-own_noted.new.sets.items in
     let x2 : List SetOf = c.take_remembered-other_noted.new.sets.items in
-    let x3 : List SetOf = c.take_remembered-noted.new.sets.items in
+    let x3 : List SetOf = c.take_set-noted.new.sets.items in
     let h1 : List (Option Rest) = c.leave_own-own.new.homes in
     let h2 : List (Option Rest) = c.leave_other-beside.new.homes in
     let n1 : RememberedValue = c.take_remembered-own_noted.result in
     let n2 : RememberedValue = c.take_remembered-other_noted.result in
-    let n3 : RememberedValue = c.take_remembered-noted.result in
+    let n3 : RememberedValue = c.take_set-noted.result.0 in
     let above : Rest = c.take_block-above.result in
     let left : EndedChild = c.in_order-children.result.0 in
     let right : EndedChild = c.in_order-children.result.1 in
@@ -283,15 +283,15 @@ join_children-rest-requires-clause-can c =
       other_is = o;
       n1 = c.take_remembered-own_noted.ensures.many;
       n2 = c.take_remembered-other_noted.ensures.many;
-      n3 = c.take_remembered-noted.ensures.many;
+      n3 = c.take_set-noted.ensures.many;
       own_set = c.take_remembered-own_noted.ensures.whole;
       other_set = c.take_remembered-other_noted.ensures.whole;
-      parent_set = c.take_remembered-noted.ensures.whole;
+      parent_set = c.take_set-noted.ensures.whole;
       e1 = c.take_remembered-own_noted.ensures.empty;
       e2 = c.take_remembered-other_noted.ensures.empty;
       o1 = c.take_remembered-own_noted.ensures.others;
       o2 = c.take_remembered-other_noted.ensures.others;
-      o3 = c.take_remembered-noted.ensures.others;
+      o3 = c.take_set-noted.ensures.others;
       own_is = c.leave_own-own.ensures.child;
       m1 = c.leave_own-own.ensures.many;
       own_home = c.leave_own-own.ensures.own;
@@ -340,8 +340,15 @@ put_remembered-requires-clause-made c =
     let made = parent_set w k p I F at free ended in
     let n = c.take_remembered-own_noted.ensures.many in
     let m = c.take_remembered-other_noted.ensures.many in
-    let i = c.take_remembered-noted.ensures.many in
+    let i = c.take_set-noted.ensures.many in
     omega (arith, made, e, n, m, i)
+
+if_none : {A : Type 0} (o : Option A) (P Q : Type 0) → (P → Q) → IfNone o P → IfNone o Q
+if_none None P Q f h = f h
+if_none (Some x) P Q f h = h
+
+pub put_remembered-requires-clause-block : goal.put_remembered-requires-clause-block
+put_remembered-requires-clause-block c = if_none c.take_set-noted.result.1 _ _ c.join_children-rest.ensures.none c.take_set-noted.ensures.bare
 
 pub invariant_of-self : goal.invariant_of-self
 invariant_of-self c =
@@ -359,12 +366,12 @@ invariant_of-self c =
     let o : c.sibling_of-other.result ≡ sibling p.task = c.sibling_of-other.ensures in
     let x1 : List SetOf = c.take_remembered-own_noted.new.sets.items in
     let x2 : List SetOf = c.take_remembered-other_noted.new.sets.items in
-    let x3 : List SetOf = c.take_remembered-noted.new.sets.items in
+    let x3 : List SetOf = c.take_set-noted.new.sets.items in
     let h1 : List (Option Rest) = c.leave_own-own.new.homes in
     let h2 : List (Option Rest) = c.leave_other-beside.new.homes in
     let n1 : RememberedValue = c.take_remembered-own_noted.result in
     let n2 : RememberedValue = c.take_remembered-other_noted.result in
-    let n3 : RememberedValue = c.take_remembered-noted.result in
+    let n3 : RememberedValue = c.take_set-noted.result.0 in
     let above : Rest = c.take_block-above.result in
     let left : EndedChild = c.in_order-children.result.0 in
     let right : EndedChild = c.in_order-children.result.1 in
@@ -372,15 +379,15 @@ invariant_of-self c =
       other_is = o;
       n1 = c.take_remembered-own_noted.ensures.many;
       n2 = c.take_remembered-other_noted.ensures.many;
-      n3 = c.take_remembered-noted.ensures.many;
+      n3 = c.take_set-noted.ensures.many;
       own_set = c.take_remembered-own_noted.ensures.whole;
       other_set = c.take_remembered-other_noted.ensures.whole;
-      parent_set = c.take_remembered-noted.ensures.whole;
+      parent_set = c.take_set-noted.ensures.whole;
       e1 = c.take_remembered-own_noted.ensures.empty;
       e2 = c.take_remembered-other_noted.ensures.empty;
       o1 = c.take_remembered-own_noted.ensures.others;
       o2 = c.take_remembered-other_noted.ensures.others;
-      o3 = c.take_remembered-noted.ensures.others;
+      o3 = c.take_set-noted.ensures.others;
       own_is = c.leave_own-own.ensures.child;
       m1 = c.leave_own-own.ensures.many;
       own_home = c.leave_own-own.ensures.own;
@@ -429,12 +436,12 @@ returns-clause-joined c =
     let o : c.sibling_of-other.result ≡ sibling p.task = c.sibling_of-other.ensures in
     let x1 : List SetOf = c.take_remembered-own_noted.new.sets.items in
     let x2 : List SetOf = c.take_remembered-other_noted.new.sets.items in
-    let x3 : List SetOf = c.take_remembered-noted.new.sets.items in
+    let x3 : List SetOf = c.take_set-noted.new.sets.items in
     let h1 : List (Option Rest) = c.leave_own-own.new.homes in
     let h2 : List (Option Rest) = c.leave_other-beside.new.homes in
     let n1 : RememberedValue = c.take_remembered-own_noted.result in
     let n2 : RememberedValue = c.take_remembered-other_noted.result in
-    let n3 : RememberedValue = c.take_remembered-noted.result in
+    let n3 : RememberedValue = c.take_set-noted.result.0 in
     let above : Rest = c.take_block-above.result in
     let left : EndedChild = c.in_order-children.result.0 in
     let right : EndedChild = c.in_order-children.result.1 in
@@ -442,15 +449,15 @@ returns-clause-joined c =
       other_is = o;
       n1 = c.take_remembered-own_noted.ensures.many;
       n2 = c.take_remembered-other_noted.ensures.many;
-      n3 = c.take_remembered-noted.ensures.many;
+      n3 = c.take_set-noted.ensures.many;
       own_set = c.take_remembered-own_noted.ensures.whole;
       other_set = c.take_remembered-other_noted.ensures.whole;
-      parent_set = c.take_remembered-noted.ensures.whole;
+      parent_set = c.take_set-noted.ensures.whole;
       e1 = c.take_remembered-own_noted.ensures.empty;
       e2 = c.take_remembered-other_noted.ensures.empty;
       o1 = c.take_remembered-own_noted.ensures.others;
       o2 = c.take_remembered-other_noted.ensures.others;
-      o3 = c.take_remembered-noted.ensures.others;
+      o3 = c.take_set-noted.ensures.others;
       own_is = c.leave_own-own.ensures.child;
       m1 = c.leave_own-own.ensures.many;
       own_home = c.leave_own-own.ensures.own;

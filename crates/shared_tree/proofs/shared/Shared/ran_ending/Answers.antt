@@ -60,8 +60,8 @@ enter_join-requires-clause-free c =
     let free : refused w (alone_event k p) ≡ None = sym c.alone_refused.ensures ∙ c.in_default.is in
     places_same w c.make_join_places.new.self c.make_join_places.ensures.same (λ z. refused z (alone_event k p) ≡ None) (λ hs ss g. g) free
 
-pub returns-in-Ok-make_join_places-clause-answered : goal.returns-in-Ok-make_join_places-clause-answered
-returns-in-Ok-make_join_places-clause-answered c =
+pub returns-in-Ok-clause-answered : goal.returns-in-Ok-clause-answered
+returns-in-Ok-clause-answered c =
     let w : SharedValue = c.args.self.now in
     let p : Private = c.args.part in
     let k : ℕ = c.args.worker in
@@ -76,8 +76,8 @@ returns-in-Err-clause-still c =
     let free : refused w (alone_event k p) ≡ None = sym c.alone_refused.ensures ∙ c.in_default.is in
     λ u r G. places_fit w c.make_join_places.new.self c.make_join_places.ensures.same u r G
 
-pub returns-in-Ok-make_join_places-clause-hand : goal.returns-in-Ok-make_join_places-clause-hand
-returns-in-Ok-make_join_places-clause-hand c =
+pub returns-in-Ok-clause-hand : goal.returns-in-Ok-clause-hand
+returns-in-Ok-clause-hand c =
     let w : SharedValue = c.args.self.now in
     c.enter_join.ensures.hand ∙ ap (λ (z : SharedValue). slice_set z.hands c.args.worker None) c.make_join_places.ensures.same.rest
 
@@ -110,7 +110,7 @@ pub enter_join-requires-clause-parent : goal.enter_join-requires-clause-parent
 enter_join-requires-clause-parent c = ap (λ (z : SharedValue). parent_of z.tree c.args.part.task) c.make_join_places.ensures.same.rest ∙ (ap (λ (z : SharedValue). parent_of z.tree c.args.part.task) (sym c.self.view_is) ∙ (sym c.parent.ensures ∙ c.in-Some-parent.is))
 
 pub enter_join-requires-clause-places : goal.enter_join-requires-clause-places
-enter_join-requires-clause-places c = c.in-Ok-make_join_places.ensures.places
+enter_join-requires-clause-places c = c.in-Ok.ensures.places
 
 pub enter_join-requires-clause-room : goal.enter_join-requires-clause-room
 enter_join-requires-clause-room c = subst (λ (z : SharedValue). 0 < z.journal.room) (sym c.make_join_places.ensures.same.rest) c.requires.room
@@ -121,8 +121,8 @@ returns-in-Err-clause-same c = c.make_join_places.ensures.same
 pub returns-in-Err-clause-refused : goal.returns-in-Err-clause-refused
 returns-in-Err-clause-refused c = sym c.alone_refused.ensures ∙ c.in_default.is
 
-pub returns-in-Ok-make_join_places-clause-refused : goal.returns-in-Ok-make_join_places-clause-refused
-returns-in-Ok-make_join_places-clause-refused c = sym c.alone_refused.ensures ∙ c.in_default.is
+pub returns-in-Ok-clause-refused : goal.returns-in-Ok-clause-refused
+returns-in-Ok-clause-refused c = sym c.alone_refused.ensures ∙ c.in_default.is
 
 pub returns-then-not-is_ended-clause-refused : goal.returns-then-not-is_ended-clause-refused
 returns-then-not-is_ended-clause-refused c = subst (RanAnswers c.ran_first.result) (sym (sym c.alone_refused.ensures ∙ c.in_default.is)) c.ran_first.ensures.refused
@@ -163,12 +163,3 @@ sibling_of-requires-clause-few c =
     let few = few_tasks w k p c.stands.ensures c.requires.fits c.requires.ends free in
     let made = own_made w k p c.stands.ensures c.requires.fits c.requires.ends free in
     omega (arith, few, made)
-
-pub returns-in_default-new-clause-same : goal.returns-in_default-new-clause-same
-returns-in_default-new-clause-same c = same_world c.args.self.now
-
-pub returns-in_default-new-clause-still : goal.returns-in_default-new-clause-still
-returns-in_default-new-clause-still c = λ u r G. G
-
-pub returns-in_default-new-clause-refused : goal.returns-in_default-new-clause-refused
-returns-in_default-new-clause-refused c = sym c.alone_refused.ensures ∙ c.in_default.is

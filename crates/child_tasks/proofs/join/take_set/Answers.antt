@@ -5,7 +5,7 @@ use Rattle.listed.proofs.Places.{got_set}
 use Rattle.remembered_set.specs.Sources.{RememberedValue}
 use Rattle.write_barrier.specs.declared.sets.SetOf.{SetOf}
 use Rattle.write_barrier.specs.Stored.{content_of}
-use Rattle.child_tasks.proofs.join.take_remembered.Goals as goal
+use Rattle.child_tasks.proofs.join.take_set.Goals as goal
 
 pub returns-clause-empty : goal.returns-clause-empty
 returns-clause-empty c =
@@ -21,5 +21,8 @@ pub returns-clause-many : goal.returns-clause-many
 returns-clause-many c = length-set c.args.sets.now.items c.args.t c.replace-set.new.dest
 
 pub returns-clause-whole : goal.returns-clause-whole
-returns-clause-whole c = subst (λ (n : RememberedValue). IfSome (slice_get c.args.sets.now.items c.args.t) (λ (z : SetOf). n ≡ z.remembered)) (sym c.into_remembered.ensures)
+returns-clause-whole c = subst (λ (n : RememberedValue). IfSome (slice_get c.args.sets.now.items c.args.t) (λ (z : SetOf). n ≡ z.remembered)) (sym c.into_parts.ensures.remembered)
     (whole_if c.replace-set.result c.index_mut.result.now (slice_get c.args.sets.now.items c.args.t) c.replace-set.ensures.value (slice_get-get_or c.args.sets.now.items c.args.t c.index_mut.result.now c.requires.made ∙ ap Some (sym c.index_mut.ensures.value)))
+
+pub returns-clause-bare : goal.returns-clause-bare
+returns-clause-bare c = c.into_parts.ensures.bare
