@@ -14,7 +14,7 @@ ghost use Rattle.child_tasks.specs.Joins.{chunk_count, left_of, other_child, own
 
 use alloc_path::{LeafHeap, View};
 use chunk_pool::Pool;
-use fork_join::{EndedChild, Side, join};
+use fork_join::{EndedChild, Side, join, places};
 use heap_tree::{State, Tree};
 use listed::Listed;
 use object_layout::Addr;
@@ -128,19 +128,6 @@ fn sources_of(sets: &Vec<SetOf>, t: u32) -> usize
     ensures { result ≡ length (sources_at sets.now.items t) }
 {
     sets[t as usize].sources().len()
-}
-
-// A number of places; more than 32 bits count are more than can be reserved.
-fn places(left: usize, right: usize) -> Result<u32, AllocError>
-    ensures { IfOk result (λ n. n ≡ left + right) }
-{
-    let Some(both) = left.checked_add(right) else {
-        return Err(AllocError);
-    };
-    match u32::try_from(both) {
-        Ok(count) => Ok(count),
-        Err(_) => Err(AllocError),
-    }
 }
 
 // Makes places in the heap of a task that no worker holds.

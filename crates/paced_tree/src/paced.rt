@@ -51,10 +51,7 @@ impl Model for Paced {
 fn put_apart(alloc: Global, shared: Counted) -> Result<Apart<Counted>, AllocError>
     ensures { IfOk result (λ s. s ≡ shared) }
 {
-    match Apart::new(alloc, shared) {
-        Ok(shared) => Ok(shared),
-        Err(_) => Err(AllocError),
-    }
+    Ok(Apart::new(alloc, shared)?)
 }
 
 impl Paced {

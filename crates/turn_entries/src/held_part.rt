@@ -34,10 +34,8 @@ impl Model for HeldPart {
 impl PartBlock {
     /// A block, without a part yet.
     pub fn new(alloc: Global) -> Result<PartBlock, AllocError> {
-        match Box::new(alloc, None) {
-            Ok(inner) => Ok(PartBlock { inner }),
-            Err(_) => Err(AllocError),
-        }
+        let inner = Box::new(alloc, None)?;
+        Ok(PartBlock { inner })
     }
 
     /// Puts a part into it. It takes no memory.

@@ -30,10 +30,8 @@ pub(crate) fn put(hand: &mut Hand, task: u32) -> Result<(), AllocError>
     ensures ok { OnOk result (Puts hand.old hand.new task) }
     ensures err { IfErr result (λ _. KeepsHand hand.old hand.new) }
 {
-    match hand.put(task) {
-        Ok(()) => Ok(()),
-        Err(_) => Err(AllocError),
-    }
+    hand.put(task)?;
+    Ok(())
 }
 
 /// Puts both children of a fork on the own deque, the left one on top. Where memory is wanting the right one may have
