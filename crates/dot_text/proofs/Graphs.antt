@@ -3,7 +3,7 @@ use Rattle.std.proofs.Common.{◌≡◌, ℕ, List, [], ◌∷◌, ◌++◌, ref
 use Rattle.std.specs.Prelude.{codes}
 use Rattle.std.specs.List.{flat_map}
 use Rattle.quoted_text.specs.Quoted.{quoted}
-use Rattle.quoted_text.specs.Balanced.{Outside, read_all, IsBalanced}
+use Rattle.quoted_text.specs.Balanced.{IsBalanced}
 use Rattle.quoted_text.proofs.Balanced as balanced
 use Rattle.quoted_text.proofs.Balanced.{joined}
 use Rattle.dot_text.specs.Dot.{Attributes, Statement, Statements, Setting, Node, Edge, Cluster, NoStatement, Statement_, attribute, edge_begin, statement_end, dot, all_dot}

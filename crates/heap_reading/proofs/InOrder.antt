@@ -1,5 +1,5 @@
 -- Lists that have just the items that are so, each once, in order.
-use Rattle.std.proofs.Common.{◌≡◌, ◌⊎◌, ◌↔◌, List, [], ◌∷◌, ◌++◌, inl, inr, refl, subst}
+use Rattle.std.proofs.Common.{◌≡◌, ◌⊎◌, List, [], ◌∷◌, ◌++◌, inl, inr, refl, subst}
 use Rattle.listed.specs.Members.{In}
 use Rattle.listed.proofs.Members.{in_append_cases, in_append_left, in_append_right}
 use Rattle.heap_reading.specs.Image.{AreAll, Rises}

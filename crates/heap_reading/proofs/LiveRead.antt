@@ -1,16 +1,15 @@
 -- The tasks that haven't joined, and the chunks in use, one after another.
-use Rattle.std.proofs.Common.{◌≡◌, ℕ, ◌+◌, ◌<◌, ◌≤◌, ◌*◌, ◌⊎◌, arith, Option, Some, None, List, [], ◌∷◌, ◌++◌, slice_get, inl, inr, refl, ap, ap₂, sym, subst, ◌∙◌}
+use Rattle.std.proofs.Common.{◌≡◌, ℕ, ◌+◌, ◌<◌, ◌*◌, ◌⊎◌, arith, List, [], ◌∷◌, ◌++◌, slice_get, inl, inr, ap, sym, subst, ◌∙◌}
 use Rattle.std.proofs.lemmas.Bool.{cases_lt}
 use Rattle.std.proofs.lemmas.Option.{same_Some}
 use Rattle.hh_model.specs.Step.{owner_of}
 use Rattle.chunk_pool.specs.declared.pool.Slot.{Slot}
 use Rattle.chunk_pool.specs.PoolValue.{slot_at}
 use Rattle.heap_tree.specs.Node.{Node}
-use Rattle.heap_tree.specs.declared.state.State.{State}
 use Rattle.shared_value.specs.SharedValue.{SharedValue, accounts}
 use Rattle.heap_reading.specs.declared.live.InUse.{InUse}
 use Rattle.heap_reading.specs.declared.live.Live.{Live}
-use Rattle.heap_reading.specs.Image.{AreAll, ChunkBefore, IsInUse, IsLiveIn, LiveBefore}
+use Rattle.heap_reading.specs.Image.{AreAll, IsInUse, IsLiveIn}
 use Rattle.heap_reading.proofs.InOrder.{all_more, all_none, all_same}
 
 -- one below the next number is one below this one, or this one

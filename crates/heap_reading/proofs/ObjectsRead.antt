@@ -1,10 +1,9 @@
 -- The objects of a chunk, read one after another; and which chunk has a number.
 use Rattle.std.proofs.Common.{◌≡◌, ℕ, zero, suc, ◌+◌, ◌<◌, ◌≤◌, ◌==◌, arith, Bool, true, false, cond, Option, Some, None, List, [], ◌∷◌, ◌++◌, All, length, map, take, slice_get, IfSome, Bor, option_copied, inl, inr, refl, ap, sym, subst, ◌∙◌, ◌⊎◌, append_assoc, option_map}
-use Rattle.std.proofs.lemmas.Bool.{cases_Bool}
 use Rattle.std.proofs.lemmas.List.{map-append}
 use Rattle.std.proofs.lemmas.List.Elements.{All-append, All-cons, All-nil, All-tail}
 use Rattle.std.proofs.lemmas.Option.{same_Some}
-use Rattle.object_layout.specs.Cell.{Born, Cell, Hole, IsBorn, IsObject, IsRef, Mark, Moved, moved_to, size_of}
+use Rattle.object_layout.specs.Cell.{Born, Cell, Hole, IsBorn, IsObject, Mark, Moved, moved_to, size_of}
 use Rattle.object_layout.specs.Chunks.{chunk_at, place_in, place_of}
 use Rattle.object_layout.specs.ChunkValue.{ChunkValue}
 use Rattle.object_layout.specs.Place.{cells_from}
@@ -13,7 +12,7 @@ use Rattle.object_layout.specs.Objects.{Located, located, located_by, objects_fr
 use Rattle.chunk_pool.specs.PoolValue.{owner_of}
 use Rattle.alloc_path.proofs.HeapLemmas.{none_there, place_found}
 use Rattle.heap_tree.specs.Node.{state_of}
-use Rattle.core_relation.specs.Memory.{Home, In}
+use Rattle.core_relation.specs.Memory.{In}
 use Rattle.shared_value.specs.declared.task_at_rest.Rest.{Rest}
 use Rattle.shared_value.specs.Objects.{chunk_of, chunks_of}
 use Rattle.shared_value.specs.SharedValue.{SharedValue, home_in, rest_at}

@@ -1,5 +1,5 @@
 -- The test of the owners of names.
-use Rattle.std.proofs.Common.{◌≡◌, ℕ, zero, suc, get_or, ◌+◌, ◌<◌, ◌==◌, Bool, true, false, ◌≤◌, List, [], ◌∷◌, Option, Some, length, slice_get, inl, inr, refl, ap, sym, ◌∙◌, subst, eqb-true, eq-eqb, arith}
+use Rattle.std.proofs.Common.{◌≡◌, ℕ, ◌+◌, ◌<◌, ◌==◌, Bool, true, false, ◌≤◌, List, [], ◌∷◌, Option, Some, length, slice_get, inl, inr, refl, ap, sym, ◌∙◌, subst, eqb-true, eq-eqb, arith}
 use Rattle.std.specs.List.{list_all}
 use Rattle.std.proofs.lemmas.Bool.{and_parts, and_from, false≢true, cases_lt, cases_eq}
 use Rattle.listed.proofs.Members.{In, in_from_contains, contains_from_in, got_past}

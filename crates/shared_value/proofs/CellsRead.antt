@@ -1,5 +1,5 @@
 -- The objects that are read from cells, and the cells.
-use Rattle.std.proofs.Common.{◌≡◌, ℕ, suc, ◌+◌, ◌-◌, ◌<◌, ◌==◌, arith, Bool, true, false, cond, Some, None, List, [], ◌∷◌, ◌++◌, length, nat_lt, ◌⊎◌, inl, inr, refl, ap, sym, subst, ◌∙◌, eq-eqb, le-leb}
+use Rattle.std.proofs.Common.{◌≡◌, ℕ, suc, ◌+◌, ◌<◌, ◌==◌, arith, Bool, true, false, cond, Some, None, List, [], ◌∷◌, ◌++◌, length, nat_lt, ◌⊎◌, inl, inr, refl, ap, sym, subst, ◌∙◌, eq-eqb, le-leb}
 use Rattle.std.proofs.lemmas.Bool.{cond-true, false≢true}
 use Rattle.listed.proofs.Members.{contains_from_in}
 use Rattle.object_layout.specs.declared.word.Addr.{Addr}

@@ -1,7 +1,6 @@
 -- The levels of a view as the relation has them: what a heap's level shows, and what lies at an address.
 use Rattle.std.proofs.Common.{◌≡◌, ℕ, ◌+◌, ◌==◌, ◌&&◌, Bool, true, false, not, cond, Option, Some, None, List, [], ◌∷◌, map, filter, refl, ap, ap₂, sym, ◌∙◌, eq-eqb}
 use Rattle.std.specs.Prelude.{option_map}
-use Rattle.std.specs.List.{find}
 use Rattle.std.specs.Option.{option_or}
 use Rattle.std.proofs.lemmas.Bool.{cond-true, cond-false, eqb-true, false≢true}
 use Rattle.std.proofs.lemmas.Option.{same_Some}
@@ -9,12 +8,12 @@ use Rattle.object_layout.specs.declared.word.Addr.{Addr}
 use Rattle.object_layout.specs.declared.word.Birth.{Birth}
 use Rattle.object_layout.specs.Cell.{Born, Cell, Hole, Mark, Moved, size_of}
 use Rattle.object_layout.specs.ChunkValue.{ChunkValue}
-use Rattle.object_layout.specs.Piece.{PieceValue, frozen_at, frozen_from, frozen_of, lasts}
+use Rattle.object_layout.specs.Piece.{PieceValue, frozen_at, frozen_from, lasts}
 use Rattle.object_layout.specs.Objects.{Located, located, located_by, objects_from}
 use Rattle.alloc_path.specs.View.{Level, level_of, nearest, piece_in}
 use Rattle.alloc_path.specs.View.{seen_at as view_at, seen_in as view_in}
-use Rattle.core_relation.specs.Memory.{Chunk, chunk_of as chunk_among, frozen_chunk, frozen_chunks, seen_at, seen_in, shown_at}
-use Rattle.shared_value.specs.Objects.{birth_in, chunk_of, chunks_of, levels_of, shown, shown_chunk}
+use Rattle.core_relation.specs.Memory.{Chunk, chunk_of as chunk_among, frozen_chunks, seen_at, seen_in, shown_at}
+use Rattle.shared_value.specs.Objects.{birth_in, chunks_of, levels_of, shown, shown_chunk}
 
 -- ---- THE LEVEL OF A HEAP
 

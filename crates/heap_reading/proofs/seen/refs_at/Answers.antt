@@ -1,4 +1,4 @@
-use Rattle.std.proofs.Common.{◌≡◌, ◌^◌, ◌<◌, ap, ◌∙◌, IfSome, Option, Some, None, ◌++◌, ◌∷◌, [], sym, map, take}
+use Rattle.std.proofs.Common.{◌^◌, ◌<◌, ap, ◌∙◌, IfSome, Option, Some, None, ◌++◌, ◌∷◌, [], sym, map, take}
 use Rattle.object_layout.specs.Cell.{IsPlace, IsRef}
 use Rattle.object_layout.specs.declared.word.Addr.{Addr}
 use Rattle.object_layout.specs.Layout.{word_of_ref}

@@ -1,4 +1,4 @@
-use Rattle.std.proofs.Common.{◌≡◌, ◌+◌, ◌-◌, ◌<◌, ◌≤◌, ◌⊎◌, ◌++◌, All, None, map}
+use Rattle.std.proofs.Common.{◌≡◌, ◌-◌, ◌<◌, ◌≤◌, ◌⊎◌, ◌++◌, All, None, map}
 use Rattle.object_layout.specs.Cell.{moved_to}
 use Rattle.object_layout.specs.Place.{IsCellAt, cells_from}
 use Rattle.object_layout.specs.Objects.{Located, objects_from}

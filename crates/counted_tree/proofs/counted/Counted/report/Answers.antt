@@ -1,6 +1,5 @@
 use Rattle.std.proofs.Common.{◌≡◌, ap, ◌∙◌, length}
 use Rattle.run_ledger.specs.declared.data.Report.{Report}
-use Rattle.run_ledger.specs.Heaps.{in_use}
 use Rattle.run_ledger.specs.Report.{report_of}
 use Rattle.run_report.specs.declared.totals.Totals.{Totals}
 use Rattle.shared_value.specs.SharedValue.{SharedValue}
