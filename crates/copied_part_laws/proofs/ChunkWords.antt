@@ -8,7 +8,7 @@ use Rattle.hh_model.specs.declared.data.State.{State}
 use Rattle.run_ledger.specs.Heaps.{words_at, words_sum}
 use Rattle.object_layout.specs.declared.word.Addr.{Addr}
 use Rattle.object_layout.specs.Cell.{Born, Cell, Hole, Mark, Moved, moved_to, size_of}
-use Rattle.object_layout.specs.ChunkValue.{ChunkValue}
+use Rattle.object_layout.specs.ChunkValue.{ChunkValue, number_of}
 use Rattle.object_layout.specs.Chunks.{cell_of, held_in as held_cells, held_size, held_words}
 use Rattle.object_layout.specs.Objects.{Located, located, objects_from}
 use Rattle.object_layout.proofs.ObjectLemmas.{behind, first}
@@ -17,7 +17,6 @@ use Rattle.alloc_path.specs.Units.{unit_count}
 use Rattle.leaf_copy_gc.specs.Laid.{AreNew, Laying, laid_all, laid_one, room_in}
 use Rattle.leaf_copy_gc.specs.Exchanged.{emptied}
 use Rattle.leaf_copy_gc.proofs.Numbers.{numbers}
-use Rattle.leaf_copy_gc.proofs.Numbers as nums
 use Rattle.core_relation.specs.Memory.{In, object_name, objects_in}
 use Rattle.core_relation.specs.Layout.{words}
 use Rattle.task_machine.specs.Accounts.{large_names, named_by, names_in, small_lists}
@@ -73,4 +72,4 @@ spare_new y h [] n = n
 spare_new y h (a ∷ xs) n = spare_new (laid_one y (cell_of h a)) h xs (opened_new y (nat_lt (room_in y.laid) (size_of (cell_of h a))) n)
 
 pub count_numbers : (ks : List ChunkValue) → length (numbers ks) ≡ length ks
-count_numbers ks = length-map ks nums.number_in
+count_numbers ks = length-map ks number_of

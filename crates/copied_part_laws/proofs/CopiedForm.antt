@@ -35,7 +35,7 @@ use Rattle.core_relation.proofs.objects.Members.{in_map, map_in}
 use Rattle.task_machine.specs.Accounts.{AreReserved, IsCounted}
 use Rattle.shared_value.specs.Objects.{chunk_of, chunks_of}
 use Rattle.shared_value.specs.Stands.{HeapForm}
-use Rattle.shared_value.proofs.HeapCounts.{counted_from}
+use Rattle.shared_value.proofs.HeapCounts.{counted_from, is_spare}
 use Rattle.copied_part_laws.proofs.BeforeTheCopy.{Old}
 use Rattle.copied_part_laws.proofs.NamesLaid.{Told, words_led}
 use Rattle.copied_part_laws.proofs.ObjectsApart.{Holds, held_by, laid_out, span}
@@ -85,9 +85,6 @@ told_in m (x ∷ ks) k t (inl e) = ap (λ (z : ChunkValue). z.size) (sym e) ∙ 
 told_in m (x ∷ ks) k t (inr i) = told_in m ks k t.1 i
 
 -- ---- RESERVED CHUNKS
-
-abbrev is_spare : Chunk → Bool
-is_spare k = k.large && has_none k.objects
 
 none_spare : (ks js : List ChunkValue) → ((k : ChunkValue) → In ks k → is_spare (chunk_of k) ≡ false) → reserved_chunks (chunks_of (ks ++ js)) ≡ reserved_chunks (chunks_of js)
 none_spare [] js f = refl

@@ -1,6 +1,6 @@
 -- A part that was copied fits the shared value for the end of its collection.
 use Rattle.std.specs.Prelude.{◌≡◌, ℕ, ◌/◌, ◌++◌, Some, List, map}
-use Rattle.object_layout.specs.ChunkValue.{ChunkValue}
+use Rattle.object_layout.specs.ChunkValue.{ChunkValue, number_of}
 use Rattle.object_layout.specs.declared.word.Addr.{Addr}
 use Rattle.alloc_path.specs.LeafHeapValue.{LeafHeapValue}
 use Rattle.task_frames.specs.FramesValue.{FramesValue}
@@ -12,7 +12,7 @@ use Rattle.core_relation.specs.Memory.{In}
 use Rattle.task_machine.specs.declared.part.Begun.{Begun}
 use Rattle.task_machine.specs.declared.part.Private.{Private}
 use Rattle.shared_value.specs.Fits.{Fits}
-use Rattle.shared_value.specs.LeafBegin.{HasBegun, number_of}
+use Rattle.shared_value.specs.LeafBegin.{HasBegun}
 use Rattle.shared_value.specs.Stands.{IsSharedValue}
 use Rattle.shared_value.specs.SharedValue.{SharedValue}
 use Rattle.leaf_collections.specs.LeafEnd.{FitsCopied}

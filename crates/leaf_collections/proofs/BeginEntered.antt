@@ -8,7 +8,7 @@ use Rattle.run_trace.specs.Entry.{EntryValue}
 use Rattle.object_layout.specs.declared.word.Addr.{Addr}
 use Rattle.object_layout.specs.Cell.{IsBorn}
 use Rattle.object_layout.specs.Chunks.{cell_of, small_words}
-use Rattle.object_layout.specs.ChunkValue.{ChunkValue}
+use Rattle.object_layout.specs.ChunkValue.{ChunkValue, number_of}
 use Rattle.object_layout.specs.Graph.{IsSound}
 use Rattle.chunk_pool.specs.PoolValue.{PoolValue, TakesAll, units_in_use}
 use Rattle.alloc_path.specs.LeafHeapValue.{AreApart, IsFresh, counted, with_places}
@@ -26,7 +26,7 @@ use Rattle.shared_value.specs.Stands.{IsSharedValue}
 use Rattle.shared_value.specs.Fits.{Fits, OthersFit}
 use Rattle.shared_value.specs.Due.{take_by}
 use Rattle.shared_value.specs.Entered.{refused}
-use Rattle.shared_value.specs.LeafBegin.{HasBegun, number_of}
+use Rattle.shared_value.specs.LeafBegin.{HasBegun}
 use Rattle.shared_value.specs.Roots.{roots_of}
 use Rattle.shared_value.proofs.CellsRead.{seen_object}
 use Rattle.shared_value.proofs.EntryMade.{entry_on}

@@ -12,7 +12,7 @@ use Rattle.run_ledger.specs.declared.data.Heap.{Heap as Account}
 use Rattle.run_ledger.specs.declared.data.Ledger.{Ledger}
 use Rattle.run_ledger.specs.Heaps.{heap_of, or_fresh, take_of, with_heap, within}
 use Rattle.object_layout.specs.Chunks.{has_chunk, small_words}
-use Rattle.object_layout.specs.ChunkValue.{ChunkValue}
+use Rattle.object_layout.specs.ChunkValue.{ChunkValue, number_of}
 use Rattle.chunk_pool.specs.PoolValue.{PoolValue, TakesAll, slot_in, units_in_use}
 use Rattle.chunk_pool.proofs.OwnerLaws.{taken_are_owned}
 use Rattle.alloc_path.specs.LeafHeapValue.{LeafHeapValue, with_places}
@@ -32,7 +32,6 @@ use Rattle.shared_value.specs.Stands.{IsSharedValue}
 use Rattle.shared_value.specs.Fits.{Fits, OthersFit}
 use Rattle.shared_value.specs.Due.{take_by}
 use Rattle.shared_value.specs.Entered.{refused}
-use Rattle.shared_value.specs.LeafBegin.{number_of}
 use Rattle.shared_value.specs.Roots.{roots_of}
 use Rattle.shared_value.proofs.NextStepAsks.{account_is}
 use Rattle.shared_value.proofs.EntryMade.{entered, entry_on, held_apart}

@@ -5,12 +5,11 @@ use Rattle.std.specs.List.Sorted.{IsPermutation}
 use Rattle.std.proofs.lemmas.Bool.{cases_eq, eq-eqb, ne_eqb}
 use Rattle.std.proofs.lemmas.List.Sorted.{All-permutation, IsPermutation-map, length_permutation, list_any-IsPermutation}
 use Rattle.std.proofs.lemmas.Map.Keys.{IsDistinct-IsPermutation}
-use Rattle.object_layout.specs.ChunkValue.{ChunkValue}
+use Rattle.object_layout.specs.ChunkValue.{ChunkValue, number_of}
 use Rattle.object_layout.specs.Chunks.{has_chunk, AreApart}
 use Rattle.object_layout.proofs.Owning.{found_any, fresh_none}
 use Rattle.chunk_pool.specs.declared.pool.Slot.{Slot}
 use Rattle.chunk_pool.specs.PoolValue.{PoolValue, IsBlank, NumbersBehind, TakesAll, slot_in, one_unit, units_in}
-use Rattle.shared_value.specs.LeafBegin.{number_of}
 use Rattle.leaf_collections.proofs.NewChunks.{distinct_numbers}
 
 -- THE SAME NUMBERS

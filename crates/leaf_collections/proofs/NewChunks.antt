@@ -6,7 +6,7 @@ use Rattle.hh_model.specs.declared.data.Task.{Task}
 use Rattle.hh_model.specs.Step.{is_running}
 use Rattle.run_ledger.specs.Heaps.{heap_of}
 use Rattle.run_ledger.proofs.Holders.{tasks_are_held_once}
-use Rattle.object_layout.specs.ChunkValue.{ChunkValue}
+use Rattle.object_layout.specs.ChunkValue.{ChunkValue, number_of}
 use Rattle.chunk_pool.specs.PoolValue.{IsBlank}
 use Rattle.alloc_path.specs.LeafHeapValue.{AreApart}
 use Rattle.leaf_copy_gc.specs.Laid.{AreNew}
@@ -15,7 +15,6 @@ use Rattle.ledger_step_laws.specs.Last.{IdleRest}
 use Rattle.core_relation.specs.Memory.{In}
 use Rattle.shared_value.specs.SharedValue.{SharedValue, accounts}
 use Rattle.shared_value.specs.Stands.{IsSharedValue}
-use Rattle.shared_value.specs.LeafBegin.{number_of}
 use Rattle.shared_value.proofs.CellsRead.{fresh_off}
 
 -- LISTS

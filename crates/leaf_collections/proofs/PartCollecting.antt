@@ -12,7 +12,7 @@ use Rattle.run_ledger.specs.declared.data.Heap.{Heap as Account}
 use Rattle.run_ledger.specs.declared.data.Ledger.{Ledger}
 use Rattle.run_ledger.specs.Heaps.{heap_of, let_go, or_fresh, take_of, with_heap, within}
 use Rattle.object_layout.specs.Chunks.{place_in, small_words}
-use Rattle.object_layout.specs.ChunkValue.{ChunkValue}
+use Rattle.object_layout.specs.ChunkValue.{ChunkValue, number_of}
 use Rattle.object_layout.specs.Objects.{Located}
 use Rattle.object_layout.proofs.ObjectLemmas.{has_own}
 use Rattle.chunk_pool.specs.PoolValue.{PoolValue, TakesAll}
@@ -42,7 +42,6 @@ use Rattle.shared_value.specs.Stands.{IsSharedValue}
 use Rattle.shared_value.specs.Fits.{Fits, home_of_part}
 use Rattle.shared_value.specs.Due.{take_by}
 use Rattle.shared_value.specs.Entered.{refused}
-use Rattle.shared_value.specs.LeafBegin.{number_of}
 use Rattle.shared_value.specs.Roots.{roots_of}
 use Rattle.shared_value.proofs.CollectionUnderWay.{account_idle}
 use Rattle.shared_value.proofs.HeapForms.{places_form}

@@ -2,11 +2,11 @@
 
 ghost use Rattle.std.specs.Prelude.{◌≡◌, ◌+◌, ◌<◌, ◌≤◌, ◌^◌, ◌↔◌, [], ◌++◌, Err, IfOk, None, OnErr, OnOk, Some, length, map, vec_len};
 ghost use Rattle.std.specs.List.Sorted.{IsPermutation};
+ghost use Rattle.object_layout.specs.ChunkValue.{number_of};
 ghost use Rattle.chunk_pool.specs.PoolValue.{units_in_use, TakesAll};
 ghost use Rattle.alloc_path.specs.LeafHeapValue.{with_places};
 ghost use Rattle.leaf_copy_gc.specs.Lists.{AreReserved};
 ghost use Rattle.leaf_collections.specs.LeafBegin.{AreFalling};
-ghost use Rattle.shared_value.specs.LeafBegin.{number_of};
 
 use alloc_path::LeafHeap;
 use chunk_pool::{NotTaken, Pool};

@@ -5,7 +5,7 @@ use Rattle.std.proofs.lemmas.List.{reverse-append}
 use Rattle.std.proofs.lemmas.List.Elements.{All-head, All-tail}
 use Rattle.object_layout.specs.declared.word.Addr.{Addr}
 use Rattle.object_layout.specs.Cell.{Cell, size_of}
-use Rattle.object_layout.specs.ChunkValue.{ChunkValue}
+use Rattle.object_layout.specs.ChunkValue.{ChunkValue, number_of}
 use Rattle.object_layout.specs.Chunks.{chunk_at, cell_of}
 use Rattle.alloc_path.specs.LeafHeapValue.{AreApart, IsFresh, IsCurrent}
 use Rattle.alloc_path.proofs.HeapLemmas.{fresh_cons, fresh_head, fresh_tail}
@@ -14,11 +14,8 @@ use Rattle.leaf_copy_gc.specs.Laid.{Laying, AreNew, laid_all, laid_one, opened, 
 use Rattle.leaf_copy_gc.specs.Exchanged.{last_place, reserved_of, unreserved}
 use Rattle.leaf_copy_gc.specs.Collected.{AreAlike}
 
-abbrev pub number_in : ChunkValue → ℕ
-number_in k = k.number
-
 abbrev pub numbers : List ChunkValue → List ℕ
-numbers ks = map number_in ks
+numbers ks = map number_of ks
 
 abbrev pub Distinct : List ℕ → Type 0
 Distinct [] = Unit {0}

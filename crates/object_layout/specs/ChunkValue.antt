@@ -9,6 +9,9 @@ pub record ChunkValue : Type 0 where
   pub size : ℕ
   pub cells : List Cell
 
+abbrev pub number_of : ChunkValue → ℕ
+number_of k = k.number
+
 -- words of which the first `used` hold these objects, exactly
 pub record HoldsCells (words : List ℕ) (used : ℕ) (cells : List Cell) : Type 0 where
   pub within : used ≤ length words

@@ -8,7 +8,7 @@ use Rattle.listed.proofs.Places.{read_in}
 use Rattle.object_layout.specs.declared.word.Addr.{Addr}
 use Rattle.object_layout.specs.Cell.{Cell}
 use Rattle.object_layout.specs.Chunks.{has_chunk, place_in, put_object, with_cell}
-use Rattle.object_layout.specs.ChunkValue.{ChunkValue}
+use Rattle.object_layout.specs.ChunkValue.{ChunkValue, number_of}
 use Rattle.chunk_pool.specs.declared.pool.Slot.{Slot}
 use Rattle.chunk_pool.specs.PoolValue.{PoolValue, Takes, TakesAll, slot_at, slot_in, one_unit, owner_of}
 use Rattle.alloc_path.specs.LeafHeapValue.{IsFresh}
@@ -17,7 +17,6 @@ use Rattle.fork_join.specs.Joined.{AreRelabelled, with_owner}
 use Rattle.core_relation.specs.Memory.{In}
 use Rattle.core_relation.proofs.objects.Members.{map_in}
 use Rattle.task_machine.specs.declared.part.Private.{Private}
-use Rattle.shared_value.specs.LeafBegin.{number_of}
 use Rattle.shared_value.specs.Measured.{AreMeasured, AreUnits, IsMeasured, KeepsUnits}
 use Rattle.shared_value.proofs.CellsRead.{fresh_off}
 use Rattle.shared_value.proofs.FieldsNoted.{fresh_by}

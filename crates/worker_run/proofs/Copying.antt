@@ -1,7 +1,7 @@
 -- The copy of a part whose collection has begun.
 use Rattle.std.proofs.Common.{◌≡◌, ℕ, All, List, map, ap, sym, subst, ◌∙◌}
 use Rattle.hh_lang.specs.Form.{ProgramText}
-use Rattle.object_layout.specs.ChunkValue.{ChunkValue}
+use Rattle.object_layout.specs.ChunkValue.{ChunkValue, number_of}
 use Rattle.alloc_path.specs.LeafHeapValue.{LeafHeapValue}
 use Rattle.task_frames.specs.FramesValue.{FramesValue}
 use Rattle.leaf_copy_gc.specs.declared.lists.Moved.{Moved}
@@ -13,7 +13,7 @@ use Rattle.ledger_step_laws.specs.Accounts.{aside}
 use Rattle.task_machine.specs.declared.part.Begun.{Begun}
 use Rattle.task_machine.specs.declared.part.Private.{Private}
 use Rattle.shared_value.specs.Fits.{Fits}
-use Rattle.shared_value.specs.LeafBegin.{HasBegun, number_of}
+use Rattle.shared_value.specs.LeafBegin.{HasBegun}
 use Rattle.shared_value.specs.SharedValue.{SharedValue, accounts, value_of}
 use Rattle.shared_value.proofs.StepsEntered.{status}
 use Rattle.leaf_collections.specs.LeafEnd.{FitsCopied}

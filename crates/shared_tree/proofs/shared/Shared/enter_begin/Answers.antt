@@ -3,7 +3,7 @@ use Rattle.listed.specs.RoomyValue.{RoomyValue}
 use Rattle.run_trace.specs.Entry.{EntryValue}
 use Rattle.run_trace.specs.declared.entry.Kind.TheVariants.{Begin}
 use Rattle.object_layout.specs.Chunks.{small_words}
-use Rattle.object_layout.specs.ChunkValue.{ChunkValue}
+use Rattle.object_layout.specs.ChunkValue.{ChunkValue, number_of}
 use Rattle.chunk_pool.specs.PoolValue.{PoolValue}
 use Rattle.alloc_path.specs.LeafHeapValue.{counted, with_places}
 use Rattle.task_machine.specs.declared.part.Private.{Private}
@@ -12,7 +12,7 @@ use Rattle.shared_value.specs.Stands.{IsSharedValue}
 use Rattle.shared_value.specs.Fits.{Fits, OthersFit}
 use Rattle.shared_value.specs.Due.{take_by}
 use Rattle.shared_value.specs.Entered.{refused}
-use Rattle.shared_value.specs.LeafBegin.{HasBegun, number_of}
+use Rattle.shared_value.specs.LeafBegin.{HasBegun}
 use Rattle.shared_value.specs.Roots.{roots_of}
 use Rattle.shared_value.proofs.JournalGoesOn.{journal_by}
 use Rattle.leaf_collections.proofs.BeginEntered.{begin_count, begin_few, begin_free, begins_apart, begins_fit, begins_idle, begins_with, begins_world}
