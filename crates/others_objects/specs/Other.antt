@@ -34,9 +34,7 @@ use Rattle.task_machine.specs.declared.part.Private.{Private}
 use Rattle.shared_value.specs.declared.task_at_rest.Rest.{Rest}
 use Rattle.shared_value.specs.SharedValue.{SharedValue, rest_at, value_of}
 use Rattle.shared_value.specs.Fits.{Fits, home_of_part}
-use Rattle.own_steps.specs.declared.alone.Alone.{Alone}
-use Rattle.own_steps.specs.declared.alone.Alone.TheVariants.{Goes as GoesOn, Over, Done, Beyond}
-use Rattle.own_steps.specs.Alone.{GoesAlone, HaltsAlone, machine_after, then_accounts}
+use Rattle.own_steps.specs.Alone.{machine_after, then_accounts}
 use Rattle.others_objects.specs.declared.other.OtherStep.{OtherStep}
 use Rattle.others_objects.specs.declared.other.OtherStep.TheVariants.{SetsNumber, SetsReference, Stops, Traps, StoresReference, Swaps, StoresNumber}
 
@@ -175,15 +173,6 @@ then_places w p = Place (with_home (value_of w) p.task (home_of_part p)) (rested
 
 abbrev pub TellsOther : SharedValue → Private → OtherStep → ℕ → Type 0
 TellsOther w p does number = TellsOtherOf w.program (then_places w p) p (then_accounts w p).machine p.task does number
-
--- ---- WHAT THE CALL ANSWERS
-
--- the steps are entered: the part goes on, or the run has ended
-abbrev pub OtherAnswered : SharedValue → SharedValue → ℕ → Private → Alone → Type 0
-OtherAnswered w after k p (GoesOn q) = GoesAlone w after k p q
-OtherAnswered w after k p (Over q) = HaltsAlone w after k p q
-OtherAnswered w after k p Done = ⊥
-OtherAnswered w after k p (Beyond q) = ⊥
 
 -- ---- WRITES
 

@@ -27,8 +27,6 @@ use Rattle.shared_value.specs.SharedValue.{SharedValue, accounts}
 use Rattle.shared_value.specs.Fits.{Fits, OthersFit, beyond}
 use Rattle.shared_value.specs.Next.{is_beyond, is_joint}
 use Rattle.shared_value.specs.Entered.{Enters}
-use Rattle.own_steps.specs.declared.alone.Alone.{Alone}
-use Rattle.own_steps.specs.declared.alone.Alone.TheVariants.{Goes, Over, Done as IsDone, Beyond as BeyondAlone}
 
 -- its entry
 abbrev pub alone_event : ℕ → Private → EntryValue
@@ -82,12 +80,6 @@ pub record IsBeyond (w after : SharedValue) (p q : Private) : Type 0 where
   pub same : after ≡ w
   pub part : q ≡ p
   pub beyond : is_beyond w.program (machine_after w p) p.task ≡ true
-
-abbrev pub Answered : SharedValue → SharedValue → ℕ → Private → Alone → Type 0
-Answered w after k p (Goes q) = GoesAlone w after k p q
-Answered w after k p (Over q) = HaltsAlone w after k p q
-Answered w after k p IsDone = FinishesAlone w after k p
-Answered w after k p (BeyondAlone q) = IsBeyond w after p q
 
 -- what goes with a task whose last frame returned
 abbrev pub ended_rest : Private → Rest

@@ -1,5 +1,5 @@
 -- What a call answers by the ledger's refusal, and the journal after an entry.
-use Rattle.std.specs.Prelude.{◌≡◌, ◌++◌, ◌∷◌, [], Option, Some, None, Result, Ok, Err, option_map}
+use Rattle.std.specs.Prelude.{◌≡◌, ◌++◌, ◌∷◌, [], Option, Some, None, Result, Ok, Err}
 use Rattle.run_trace.specs.Entry.{EntryValue}
 use Rattle.run_ledger.specs.declared.data.Refused.{Refused}
 use Rattle.run_ledger.specs.Entries.{refusal}
@@ -38,11 +38,6 @@ pub record Enters (w after : SharedValue) (e : EntryValue) : Type 0 where
   pub program : after.program ≡ w.program
   pub settings : after.settings ≡ w.settings
   pub halted : after.halted ≡ w.halted
-
--- a call that takes no memory is refused exactly by the ledger's refusal
-abbrev pub IsRefusedBy : {A : Type 0} → Result A NotRan → Option Refused → Type 0
-IsRefusedBy (Ok p) why = why ≡ None
-IsRefusedBy (Err e) why = option_map (λ cause. Refuses cause) why ≡ Some e.cause
 
 -- of steps, where memory can be wanting
 abbrev pub RanAnswers : {A : Type 0} → Result A NotRan → Option Refused → Type 0
