@@ -137,7 +137,11 @@ impl Shared {
 
     /// The fresh steps of a part, and its next one, which isn't private, are entered, where that one doesn't give the
     /// part up. Where other tasks have part in it nothing is entered, and there is no answer.
-    pub fn ran_alone(&mut self, worker: u32, part: &mut Private) -> Result<Option<Lent>, NotEntered>
+    pub(crate) fn ran_alone(
+        &mut self,
+        worker: u32,
+        part: &mut Private,
+    ) -> Result<Option<Lent>, NotEntered>
         requires room { 0 < self.old.journal.room }
         requires fits { Fits self.old worker part.old }
         requires shared { IsShared self.old part.old }

@@ -114,7 +114,7 @@ impl Shared {
     /// The fresh steps of a part, and its next one, which is the last return of a task that another one forked, are
     /// entered. The answer is the parent, where both its children have ended: it may be taken then. For want of memory
     /// nothing changes but the places of the parent's heap and set.
-    pub fn ran_ending(&mut self, worker: u32, part: Private) -> Result<Option<u32>, NotRan>
+    pub(crate) fn ran_ending(&mut self, worker: u32, part: Private) -> Result<Option<u32>, NotRan>
         requires room { 0 < self.old.journal.room }
         requires fits { Fits self.old worker part }
         requires ends { IsAtEnd self.old part }

@@ -85,7 +85,7 @@ impl Shared {
 
     /// The fresh steps of a part, and its next one, which is a fork, are entered: its task waits for two children, or
     /// the run ends, where too many forks are above it.
-    pub fn ran_forking(&mut self, worker: u32, part: Private) -> Result<Forking, NotRan>
+    pub(crate) fn ran_forking(&mut self, worker: u32, part: Private) -> Result<Forking, NotRan>
         requires room { 0 < self.old.journal.room }
         requires fits { Fits self.old worker part }
         requires forks { IsAtFork self.old part }

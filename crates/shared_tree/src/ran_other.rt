@@ -138,7 +138,7 @@ impl Shared {
     /// The fresh steps of a part, and its next one, which works on an object of another task, are entered. Where memory
     /// is wanting nothing is, and what the barriers note is as it was, though there may be room for more of it. A
     /// refusal changes nothing at all.
-    pub fn ran_other(&mut self, worker: u32, part: &mut Private) -> Result<Lent, NotEntered>
+    pub(crate) fn ran_other(&mut self, worker: u32, part: &mut Private) -> Result<Lent, NotEntered>
         requires room { 0 < self.old.journal.room }
         requires fits { Fits self.old worker part.old }
         requires shared { IsShared self.old part.old }
