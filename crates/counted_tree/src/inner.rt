@@ -2,9 +2,10 @@
 
 ghost use Rattle.std.specs.Prelude.{◌≡◌, ◌<◌, ◌≤◌, OnErr, OnOk, IfOk, min};
 ghost use Rattle.run_ledger.specs.Heaps.{heap_of, left_in};
-ghost use Rattle.shared_value.specs.Entered.{cause_of, refused, Answers, Enters};
+ghost use Rattle.shared_value.specs.Entered.{cause_of, refused, Enters};
 ghost use Rattle.shared_value.specs.Fits.{AllFit};
 ghost use Rattle.shared_value.specs.SharedValue.{accounts};
+ghost use Rattle.shared_tree.specs.Calls.{BeginsMarking};
 
 use crate::counted::Counted;
 use run_ledger::Refused;
@@ -16,10 +17,7 @@ impl Counted {
     /// heaps above that point down into it.
     pub fn mark(&mut self, worker: u32, t: u32) -> Result<(), NotEntered>
         requires room { 0 < self.old.journal.room }
-        ensures refused { Answers result (refused self.old (record { worker = worker; kind = Kind.Mark t })) }
-        ensures same { OnErr result (self.new ≡ self.old) }
-        ensures enters { OnOk result (Enters self.old self.new (record { worker = worker; kind = Kind.Mark t })) }
-        ensures fits { OnOk result (AllFit self.old self.new) }
+        ensures { BeginsMarking self.old self.new worker t result }
     {
         self.shared.stands();
         self.shared.mark(worker, t)?;

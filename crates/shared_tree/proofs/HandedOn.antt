@@ -4,6 +4,7 @@ use Rattle.std.specs.Prelude.{IfErr, IsErrAnd, OnErr}
 use Rattle.run_ledger.specs.declared.data.Refused.{Refused}
 use Rattle.shared_value.specs.declared.answer.NotEntered.{NotEntered}
 use Rattle.shared_value.specs.declared.answer.NotRan.{NotRan}
+use Rattle.shared_value.specs.SharedValue.{SharedValue}
 use Rattle.shared_value.specs.Entered.{Answers, IsCaused, RanAnswers, cause_of}
 use Rattle.shared_tree.specs.declared.leaf_end.NotEnded.{NotEnded}
 use Rattle.shared_tree.specs.Ends.{end_cause}
@@ -12,6 +13,11 @@ use Rattle.shared_tree.specs.Ends.{end_cause}
 pub handed : {A E : Type 0} → (r : Result A E) (e : E) (P : E → Type 0) → IsErrAnd r (λ y. y ≡ e) → P e → IfErr r P
 handed (Ok x) e P is h = absurd is
 handed (Err y) e P is h = subst P (sym is) h
+
+-- all that is so of a call that failed, told of another's value that is the same
+pub handed_on : {A E : Type 0} → (P : SharedValue → Result A E → Type 0) (w z : SharedValue) → w ≡ z → (r : Result A E) (e : E) → IsErrAnd r (λ y. y ≡ e) → P w (Err e) → P z r
+handed_on P w z same (Ok x) e is h = absurd is
+handed_on P w z same (Err y) e is h = subst (λ (v : SharedValue). P v (Err y)) same (subst (λ q. P w (Err q)) (sym is) h)
 
 -- what is so whatever the failure is
 pub failed : {A E P : Type 0} → (r : Result A E) → P → OnErr r P

@@ -3,10 +3,11 @@
 ghost use Rattle.std.specs.Prelude.{◌≡◌, ◌<◌, ℕ, IfOk, OnErr, OnOk, None};
 ghost use Rattle.run_ledger.specs.Heaps.{heap_of};
 ghost use Rattle.core_relation.specs.Marking.{GoesOn};
-ghost use Rattle.shared_value.specs.Entered.{refused, Answers, Enters};
+ghost use Rattle.shared_value.specs.Entered.{refused, Enters};
 ghost use Rattle.shared_value.specs.Fits.{AllFit};
 ghost use Rattle.shared_value.specs.SharedValue.{accounts, value_of};
 ghost use Rattle.heap_marking.specs.MarkCauses.{words_cause};
+ghost use Rattle.shared_tree.specs.Calls.{BeginsMarking};
 
 use crate::shared::Shared;
 use heap_marking::{begin_marking, is_marking, put_marking, waiting_cause, words_cause};
@@ -69,10 +70,7 @@ impl Shared {
     /// heaps above that point down into it.
     pub fn mark(&mut self, worker: u32, t: u32) -> Result<(), NotEntered>
         requires room { 0 < self.old.journal.room }
-        ensures refused { Answers result (refused self.old (record { worker = worker; kind = Kind.Mark t })) }
-        ensures same { OnErr result (self.new ≡ self.old) }
-        ensures enters { OnOk result (Enters self.old self.new (record { worker = worker; kind = Kind.Mark t })) }
-        ensures fits { OnOk result (AllFit self.old self.new) }
+        ensures { BeginsMarking self.old self.new worker t result }
     {
         if let Some(cause) = self.mark_refused(worker, t) {
             return Err(NotEntered::Refuses(cause));

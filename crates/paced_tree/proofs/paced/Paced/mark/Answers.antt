@@ -1,12 +1,12 @@
-use Rattle.std.proofs.Common.{◌≡◌, None, true, is_some, slice_get, sym, subst, inr, ◌∙◌}
+use Rattle.std.proofs.Common.{◌≡◌, None, true, Ok, is_some, slice_get, sym, subst, inr, ◌∙◌}
 use Rattle.hh_model.specs.Step.{is_waiting}
 use Rattle.run_trace.specs.Entry.{EntryValue}
 use Rattle.run_trace.specs.declared.entry.Kind.TheVariants.{Mark}
 use Rattle.run_ledger.specs.Heaps.{heap_of}
 use Rattle.shared_value.specs.SharedValue.{SharedValue, accounts}
 use Rattle.shared_value.specs.Entered.{refused, IsCaused}
-use Rattle.shared_value.specs.Fits.{AllFit}
-use Rattle.shared_tree.proofs.HandedOn.{handed_answer}
+use Rattle.shared_tree.specs.Calls.{BeginsMarking}
+use Rattle.shared_tree.proofs.HandedOn.{handed_on}
 use Rattle.paced_tree.specs.Owed.{KeepsNoted, KeepsPaces, NotesAt, Pays}
 use Rattle.paced_tree.proofs.Idle.{marks_kept}
 use Rattle.paced_tree.proofs.MarkNotes.{mark_goes, mark_marked, mark_waits}
@@ -16,8 +16,13 @@ use Rattle.paced_tree.proofs.paced.Paced.mark.Goals as goal
 pub invariant_of-self : goal.invariant_of-self
 invariant_of-self c = marks_kept c.get_mut-shared.result.now c.self.inside.paces c.reserve_mark.new.paces c.args.worker c.reserve_mark.ensures.same (subst (λ (z : SharedValue). KeepsPaces z c.self.inside.paces) (sym c.get_mut-shared.ensures.value) c.self.invariant)
 
-pub returns-then-is_err-clause-refused : goal.returns-then-is_err-clause-refused
-returns-then-is_err-clause-refused c = subst (λ (z : SharedValue). IsCaused c.no_place.result (refused z (record { worker = c.args.worker; kind = Mark c.args.t }))) (c.shared.ensures ∙ (c.get_mut-shared.ensures.value ∙ c.self.view_is)) c.no_place.ensures
+pub returns-then-is_err : goal.returns-then-is_err
+returns-then-is_err c = record {
+  refused = subst (λ (z : SharedValue). IsCaused c.no_place.result (refused z (record { worker = c.args.worker; kind = Mark c.args.t }))) (c.shared.ensures ∙ (c.get_mut-shared.ensures.value ∙ c.self.view_is)) c.no_place.ensures;
+  same = c.get_mut-shared.ensures.value ∙ c.self.view_is;
+  enters = tt;
+  fits = tt;
+}
 
 pub note_mark-requires-clause-goes : goal.note_mark-requires-clause-goes
 note_mark-requires-clause-goes c =
@@ -48,13 +53,9 @@ invariant_of-self-in_err-mark c =
     let K : KeepsPaces c.get_mut-shared.result.now c.reserve_mark.new.paces = marks_kept c.get_mut-shared.result.now c.self.inside.paces c.reserve_mark.new.paces c.args.worker c.reserve_mark.ensures.same (subst (λ (z : SharedValue). KeepsPaces z c.self.inside.paces) (sym c.get_mut-shared.ensures.value) c.self.invariant) in
     subst (λ (z : SharedValue). KeepsPaces z c.reserve_mark.new.paces) (sym c.in_err-mark.ensures.same) K
 
-pub returns-clause-refused : goal.returns-clause-refused
-returns-clause-refused c = subst (λ (z : SharedValue). refused z (record { worker = c.args.worker; kind = Mark c.args.t }) ≡ None) (c.get_mut-shared.ensures.value ∙ c.self.view_is) c.in_ok-mark.ensures.refused
+pub returns : goal.returns
+returns c = subst (λ (z : SharedValue). BeginsMarking z c.mark.new.self c.args.worker c.args.t (Ok tt)) (c.get_mut-shared.ensures.value ∙ c.self.view_is) c.in_ok-mark.ensures
 
-pub returns-clause-fits : goal.returns-clause-fits
-returns-clause-fits c = subst (λ (z : SharedValue). AllFit z c.mark.new.self) (c.get_mut-shared.ensures.value ∙ c.self.view_is) c.in_ok-mark.ensures.fits
-
-pub returns-in_err-mark-clause-refused : goal.returns-in_err-mark-clause-refused
-returns-in_err-mark-clause-refused c =
-    handed_answer c.from_residual.result c.in_err-mark.field-0.0 (refused c.args.self.now (record { worker = c.args.worker; kind = Mark c.args.t })) c.from_residual.ensures.1
-    (subst (λ (z : SharedValue). IsCaused c.in_err-mark.field-0.0 (refused z (record { worker = c.args.worker; kind = Mark c.args.t }))) (c.get_mut-shared.ensures.value ∙ c.self.view_is) c.in_err-mark.ensures.refused)
+pub returns-in_err-mark : goal.returns-in_err-mark
+returns-in_err-mark c =
+    handed_on (λ (z : SharedValue). BeginsMarking z c.mark.new.self c.args.worker c.args.t) c.get_mut-shared.result.now c.args.self.now (c.get_mut-shared.ensures.value ∙ c.self.view_is) c.from_residual.result c.in_err-mark.field-0.0 c.from_residual.ensures.1 c.in_err-mark.ensures
