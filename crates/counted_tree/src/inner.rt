@@ -1,15 +1,10 @@
 // Marking and sweeping the heaps of waiting tasks are entered.
 
-ghost use Rattle.std.specs.Prelude.{◌≡◌, ◌<◌, ◌≤◌, OnErr, OnOk, IfOk, min};
-ghost use Rattle.run_ledger.specs.Heaps.{heap_of, left_in};
-ghost use Rattle.shared_value.specs.Entered.{cause_of, refused, Enters};
-ghost use Rattle.shared_value.specs.Fits.{AllFit};
-ghost use Rattle.shared_value.specs.SharedValue.{accounts};
-ghost use Rattle.shared_tree.specs.Calls.{BeginsMarking};
+ghost use Rattle.std.specs.Prelude.{◌<◌, ◌≤◌};
+ghost use Rattle.shared_tree.specs.Calls.{BeginsMarking, MarksMore, SweepsHeap};
 
 use crate::counted::Counted;
 use run_ledger::Refused;
-use run_trace::Kind;
 use shared_tree::NotEntered;
 
 impl Counted {
@@ -30,11 +25,7 @@ impl Counted {
         requires room { 0 < self.old.journal.room }
         requires some { 0 < n }
         requires few { n ≤ 1024 }
-        ensures refused { cause_of result ≡ refused self.old (record { worker = worker; kind = Kind.More t n }) }
-        ensures same { OnErr result (self.new ≡ self.old) }
-        ensures count { IfOk result (λ k. k ≡ min n (left_in (heap_of (accounts self.old) t))) }
-        ensures enters { OnOk result (Enters self.old self.new (record { worker = worker; kind = Kind.More t n })) }
-        ensures fits { OnOk result (AllFit self.old self.new) }
+        ensures { MarksMore self.old self.new worker t n result }
     {
         self.shared.stands();
         let count = self.shared.some(worker, t, n)?;
@@ -47,10 +38,7 @@ impl Counted {
     /// It takes no memory.
     pub fn sweep(&mut self, worker: u32, t: u32, given: u32) -> Result<(), Refused>
         requires room { 0 < self.old.journal.room }
-        ensures refused { cause_of result ≡ refused self.old (record { worker = worker; kind = Kind.Sweep t given }) }
-        ensures same { OnErr result (self.new ≡ self.old) }
-        ensures enters { OnOk result (Enters self.old self.new (record { worker = worker; kind = Kind.Sweep t given })) }
-        ensures fits { OnOk result (AllFit self.old self.new) }
+        ensures { SweepsHeap self.old self.new worker t given result }
     {
         self.shared.stands();
         let words = self.shared.words_held(t);

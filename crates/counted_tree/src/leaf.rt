@@ -1,17 +1,14 @@
 // Chunks and leaf collections of parts are entered.
 
-ghost use Rattle.std.specs.Prelude.{◌≡◌, ◌<◌, OnErr, OnOk, IfErr, IfOk};
-ghost use Rattle.shared_value.specs.Entered.{cause_of, refused, Answers, Enters, IsSamePart};
-ghost use Rattle.shared_value.specs.Fits.{Fits, OthersFit};
-ghost use Rattle.shared_value.specs.LeafBegin.{HasBegun};
-ghost use Rattle.leaf_collections.specs.LeafEnd.{end_event, ended, FitsCopied};
-ghost use Rattle.shared_tree.specs.Ends.{end_cause};
+ghost use Rattle.std.specs.Prelude.{◌≡◌, ◌<◌};
+ghost use Rattle.shared_value.specs.Fits.{Fits};
+ghost use Rattle.leaf_collections.specs.LeafEnd.{FitsCopied};
+ghost use Rattle.shared_tree.specs.Calls.{BeginsLeaf, EndsLeaf, GetsChunk, PutsOff};
 
 use crate::counted::Counted;
 use leaf_copy_gc::{Moved, ToChunks};
 use object_layout::Addr;
 use run_ledger::Refused;
-use run_trace::Kind;
 use shared_tree::{NotEnded, NotEntered};
 use task_machine::Private;
 
@@ -21,13 +18,7 @@ impl Counted {
         requires room { 0 < self.old.journal.room }
         requires fits { Fits self.old worker part.old }
         requires fresh { part.old.fresh ≡ 0 }
-        ensures refused { Answers result (refused self.old (record { worker = worker; kind = Kind.Chunk part.old.task })) }
-        ensures same { OnErr result (self.new ≡ self.old) }
-        ensures back { OnErr result (IsSamePart part.old part.new) }
-        ensures rest { part.new ≡ record part.old { heap = part.new.heap } }
-        ensures enters { OnOk result (Enters self.old self.new (record { worker = worker; kind = Kind.Chunk part.old.task })) }
-        ensures fits { Fits self.new worker part.new }
-        ensures others { OnOk result (OthersFit self.old self.new worker) }
+        ensures { GetsChunk self.old self.new worker part.old part.new result }
     {
         self.shared.stands();
         self.shared.chunk(worker, part)?;
@@ -44,13 +35,7 @@ impl Counted {
         requires room { 0 < self.old.journal.room }
         requires fits { Fits self.old worker part.old }
         requires fresh { part.old.fresh ≡ 0 }
-        ensures refused { Answers result (refused self.old (record { worker = worker; kind = Kind.Begin part.old.task })) }
-        ensures same { OnErr result (self.new ≡ self.old) }
-        ensures back { OnErr result (IsSamePart part.old part.new) }
-        ensures begun { IfOk result (λ r. HasBegun part.old part.new r.0.items r.1) }
-        ensures enters { OnOk result (Enters self.old self.new (record { worker = worker; kind = Kind.Begin part.old.task })) }
-        ensures fits { Fits self.new worker part.new }
-        ensures others { OnOk result (OthersFit self.old self.new worker) }
+        ensures { BeginsLeaf self.old self.new worker part.old part.new result }
     {
         self.shared.stands();
         let words = part.heap.words();
@@ -69,14 +54,7 @@ impl Counted {
     ) -> Result<(), NotEnded>
         requires room { 0 < self.old.journal.room }
         requires fits { FitsCopied self.old worker part.old moved }
-        ensures refused { end_cause result ≡ refused self.old (end_event worker part.old moved) }
-        ensures same { OnErr result (self.new ≡ self.old) }
-        ensures back { OnErr result (part.new ≡ part.old) }
-        ensures moved { IfErr result (λ e. e.moved ≡ moved) }
-        ensures part { OnOk result (part.new ≡ ended part.old) }
-        ensures enters { OnOk result (Enters self.old self.new (end_event worker part.old moved)) }
-        ensures fits { OnOk result (Fits self.new worker part.new) }
-        ensures others { OnOk result (OthersFit self.old self.new worker) }
+        ensures { EndsLeaf self.old self.new worker part.old part.new moved result }
     {
         self.shared.stands();
         self.shared.leaf_end(worker, part, moved)?;
@@ -90,13 +68,7 @@ impl Counted {
         requires room { 0 < self.old.journal.room }
         requires fits { Fits self.old worker part.old }
         requires fresh { part.old.fresh ≡ 0 }
-        ensures refused { cause_of result ≡ refused self.old (record { worker = worker; kind = Kind.PutOff part.old.task }) }
-        ensures same { OnErr result (self.new ≡ self.old) }
-        ensures back { OnErr result (part.new ≡ part.old) }
-        ensures part { OnOk result (part.new ≡ record part.old { heap = record part.old.heap { since = 0 } }) }
-        ensures enters { OnOk result (Enters self.old self.new (record { worker = worker; kind = Kind.PutOff part.old.task })) }
-        ensures fits { Fits self.new worker part.new }
-        ensures others { OnOk result (OthersFit self.old self.new worker) }
+        ensures { PutsOff self.old self.new worker part.old part.new result }
     {
         self.shared.stands();
         self.shared.put_off(worker, part)?;

@@ -1,17 +1,15 @@
 // A worker takes a task, and steps are entered; or the run ends for spent fuel.
 
-ghost use Rattle.std.specs.Prelude.{◌≡◌, ◌<◌, OnErr, OnOk, IfErr, IfOk, None, Some};
-ghost use Rattle.shared_value.specs.Entered.{cause_of, refused, Answers, Enters, RanAnswers};
-ghost use Rattle.shared_value.specs.Fits.{AllFit, Fits, OthersFit};
-ghost use Rattle.shared_value.specs.SharedValue.{rest_at};
-ghost use Rattle.shared_value.specs.declared.task_at_rest.Rest.{Rest as RestOf};
+ghost use Rattle.std.specs.Prelude.{◌≡◌, ◌<◌, OnErr, IfErr, IfOk, None};
+ghost use Rattle.shared_value.specs.Entered.{refused, Answers, RanAnswers};
+ghost use Rattle.shared_value.specs.Fits.{AllFit, Fits};
 ghost use Rattle.own_steps.specs.Alone.{alone_event, IsShared};
 ghost use Rattle.child_tasks.specs.Joins.{IsUnchanged};
+ghost use Rattle.shared_tree.specs.Calls.{EndsForFuel, EntersSteps, TakesTask};
 ghost use Rattle.shared_tree.specs.Ran.{LeavesBy, LentTo, RanTo};
 
 use crate::counted::Counted;
 use run_ledger::Refused;
-use run_trace::Kind;
 use shared_tree::{Leaving, Lent, NotEntered, NotRan, Ran};
 use task_machine::Private;
 
@@ -19,15 +17,7 @@ impl Counted {
     /// The worker takes a ready task, and gets its part.
     pub fn took(&mut self, worker: u32, t: u32) -> Result<Private, Refused>
         requires room { 0 < self.old.journal.room }
-        ensures refused { cause_of result ≡ refused self.old (record { worker = worker; kind = Kind.Took t }) }
-        ensures same { OnErr result (self.new ≡ self.old) }
-        ensures enters { OnOk result (Enters self.old self.new (record { worker = worker; kind = Kind.Took t })) }
-        ensures task { IfOk result (λ p. p.task ≡ t) }
-        ensures fresh { IfOk result (λ p. p.fresh ≡ 0) }
-        ensures heap { IfOk result (λ p. (r : RestOf) × (rest_at self.old.homes t ≡ Some r) × (p.heap ≡ r.heap)) }
-        ensures idle { IfOk result (λ p. p.begun ≡ None) }
-        ensures fits { IfOk result (λ p. Fits self.new worker p) }
-        ensures others { OnOk result (OthersFit self.old self.new worker) }
+        ensures { TakesTask self.old self.new worker t result }
     {
         self.shared.stands();
         let part = self.shared.took(worker, t)?;
@@ -40,14 +30,7 @@ impl Counted {
         requires room { 0 < self.old.journal.room }
         requires fits { Fits self.old worker part.old }
         requires fresh { 0 < part.old.fresh }
-        ensures refused { cause_of result ≡ refused self.old (record { worker = worker; kind = Kind.Ran part.old.task part.old.fresh }) }
-        ensures same { OnErr result (self.new ≡ self.old) }
-        ensures back { OnErr result (part.new ≡ part.old) }
-        ensures enters { OnOk result (Enters self.old self.new (record { worker = worker; kind = Kind.Ran part.old.task part.old.fresh })) }
-        ensures end { OnOk result (self.new.end ≡ self.old.end) }
-        ensures goes { OnOk result (part.new ≡ record part.old { fresh = 0 }) }
-        ensures fits { Fits self.new worker part.new }
-        ensures others { OnOk result (OthersFit self.old self.new worker) }
+        ensures { EntersSteps self.old self.new worker part.old part.new result }
     {
         self.shared.stands();
         self.shared.ran_private(worker, part)?;
@@ -106,10 +89,7 @@ impl Counted {
     /// The run ends, since its fuel is spent.
     pub fn fuel(&mut self, worker: u32) -> Result<(), Refused>
         requires room { 0 < self.old.journal.room }
-        ensures refused { cause_of result ≡ refused self.old (record { worker = worker; kind = Kind.Fuel }) }
-        ensures same { OnErr result (self.new ≡ self.old) }
-        ensures enters { OnOk result (Enters self.old self.new (record { worker = worker; kind = Kind.Fuel })) }
-        ensures all { OnOk result (AllFit self.old self.new) }
+        ensures { EndsForFuel self.old self.new worker result }
     {
         self.shared.stands();
         self.shared.fuel(worker)?;

@@ -1,11 +1,8 @@
 // Marking and sweeping the heaps of waiting tasks are entered.
 
-ghost use Rattle.std.specs.Prelude.{◌≡◌, ◌<◌, ◌≤◌, OnErr, OnOk, IfOk, min};
-ghost use Rattle.run_ledger.specs.Heaps.{heap_of, left_in};
-ghost use Rattle.shared_value.specs.Entered.{cause_of, refused, Enters, IsCaused};
-ghost use Rattle.shared_value.specs.Fits.{AllFit};
-ghost use Rattle.shared_value.specs.SharedValue.{accounts};
-ghost use Rattle.shared_tree.specs.Calls.{BeginsMarking};
+ghost use Rattle.std.specs.Prelude.{◌<◌, ◌≤◌};
+ghost use Rattle.shared_value.specs.Entered.{refused, IsCaused};
+ghost use Rattle.shared_tree.specs.Calls.{BeginsMarking, MarksMore, SweepsHeap};
 ghost use Rattle.paced_tree.specs.Owed.{Pays};
 
 use crate::noting::{note_mark, note_other, reserve_mark};
@@ -47,11 +44,7 @@ impl Paced {
         requires some { 0 < n }
         requires few { n ≤ 1024 }
         requires pays { Pays self.old (record { worker = worker; kind = Kind.More t n }) }
-        ensures refused { cause_of result ≡ refused self.old (record { worker = worker; kind = Kind.More t n }) }
-        ensures same { OnErr result (self.new ≡ self.old) }
-        ensures count { IfOk result (λ k. k ≡ min n (left_in (heap_of (accounts self.old) t))) }
-        ensures enters { OnOk result (Enters self.old self.new (record { worker = worker; kind = Kind.More t n })) }
-        ensures fits { OnOk result (AllFit self.old self.new) }
+        ensures { MarksMore self.old self.new worker t n result }
     {
         let shared = self.shared.get_mut();
         shared.stands();
@@ -64,10 +57,7 @@ impl Paced {
     pub fn sweep(&mut self, worker: u32, t: u32, given: u32) -> Result<(), Refused>
         requires room { 0 < self.old.journal.room }
         requires pays { Pays self.old (record { worker = worker; kind = Kind.Sweep t given }) }
-        ensures refused { cause_of result ≡ refused self.old (record { worker = worker; kind = Kind.Sweep t given }) }
-        ensures same { OnErr result (self.new ≡ self.old) }
-        ensures enters { OnOk result (Enters self.old self.new (record { worker = worker; kind = Kind.Sweep t given })) }
-        ensures fits { OnOk result (AllFit self.old self.new) }
+        ensures { SweepsHeap self.old self.new worker t given result }
     {
         let shared = self.shared.get_mut();
         shared.stands();

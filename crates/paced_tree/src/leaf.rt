@@ -1,11 +1,9 @@
 // Chunks and leaf collections of parts are entered.
 
-ghost use Rattle.std.specs.Prelude.{◌≡◌, ◌<◌, OnErr, OnOk, IfErr, IfOk};
-ghost use Rattle.shared_value.specs.Entered.{cause_of, refused, Answers, Enters, IsSamePart};
-ghost use Rattle.shared_value.specs.Fits.{Fits, OthersFit};
-ghost use Rattle.shared_value.specs.LeafBegin.{HasBegun};
-ghost use Rattle.leaf_collections.specs.LeafEnd.{end_event, ended, FitsCopied};
-ghost use Rattle.shared_tree.specs.Ends.{end_cause};
+ghost use Rattle.std.specs.Prelude.{◌≡◌, ◌<◌};
+ghost use Rattle.shared_value.specs.Fits.{Fits};
+ghost use Rattle.leaf_collections.specs.LeafEnd.{end_event, FitsCopied};
+ghost use Rattle.shared_tree.specs.Calls.{BeginsLeaf, EndsLeaf, GetsChunk, PutsOff};
 ghost use Rattle.paced_tree.specs.Owed.{Pays};
 
 use crate::noting::note_other;
@@ -24,13 +22,7 @@ impl Paced {
         requires fits { Fits self.old worker part.old }
         requires fresh { part.old.fresh ≡ 0 }
         requires pays { Pays self.old (record { worker = worker; kind = Kind.Chunk part.old.task }) }
-        ensures refused { Answers result (refused self.old (record { worker = worker; kind = Kind.Chunk part.old.task })) }
-        ensures same { OnErr result (self.new ≡ self.old) }
-        ensures back { OnErr result (IsSamePart part.old part.new) }
-        ensures rest { part.new ≡ record part.old { heap = part.new.heap } }
-        ensures enters { OnOk result (Enters self.old self.new (record { worker = worker; kind = Kind.Chunk part.old.task })) }
-        ensures fits { Fits self.new worker part.new }
-        ensures others { OnOk result (OthersFit self.old self.new worker) }
+        ensures { GetsChunk self.old self.new worker part.old part.new result }
     {
         let shared = self.shared.get_mut();
         shared.stands();
@@ -49,13 +41,7 @@ impl Paced {
         requires fits { Fits self.old worker part.old }
         requires fresh { part.old.fresh ≡ 0 }
         requires pays { Pays self.old (record { worker = worker; kind = Kind.Begin part.old.task }) }
-        ensures refused { Answers result (refused self.old (record { worker = worker; kind = Kind.Begin part.old.task })) }
-        ensures same { OnErr result (self.new ≡ self.old) }
-        ensures back { OnErr result (IsSamePart part.old part.new) }
-        ensures begun { IfOk result (λ r. HasBegun part.old part.new r.0.items r.1) }
-        ensures enters { OnOk result (Enters self.old self.new (record { worker = worker; kind = Kind.Begin part.old.task })) }
-        ensures fits { Fits self.new worker part.new }
-        ensures others { OnOk result (OthersFit self.old self.new worker) }
+        ensures { BeginsLeaf self.old self.new worker part.old part.new result }
     {
         let shared = self.shared.get_mut();
         shared.stands();
@@ -75,14 +61,7 @@ impl Paced {
         requires room { 0 < self.old.journal.room }
         requires fits { FitsCopied self.old worker part.old moved }
         requires pays { Pays self.old (end_event worker part.old moved) }
-        ensures refused { end_cause result ≡ refused self.old (end_event worker part.old moved) }
-        ensures same { OnErr result (self.new ≡ self.old) }
-        ensures back { OnErr result (part.new ≡ part.old) }
-        ensures moved { IfErr result (λ e. e.moved ≡ moved) }
-        ensures part { OnOk result (part.new ≡ ended part.old) }
-        ensures enters { OnOk result (Enters self.old self.new (end_event worker part.old moved)) }
-        ensures fits { OnOk result (Fits self.new worker part.new) }
-        ensures others { OnOk result (OthersFit self.old self.new worker) }
+        ensures { EndsLeaf self.old self.new worker part.old part.new moved result }
     {
         let shared = self.shared.get_mut();
         shared.stands();
@@ -98,13 +77,7 @@ impl Paced {
         requires fits { Fits self.old worker part.old }
         requires fresh { part.old.fresh ≡ 0 }
         requires pays { Pays self.old (record { worker = worker; kind = Kind.PutOff part.old.task }) }
-        ensures refused { cause_of result ≡ refused self.old (record { worker = worker; kind = Kind.PutOff part.old.task }) }
-        ensures same { OnErr result (self.new ≡ self.old) }
-        ensures back { OnErr result (part.new ≡ part.old) }
-        ensures part { OnOk result (part.new ≡ record part.old { heap = record part.old.heap { since = 0 } }) }
-        ensures enters { OnOk result (Enters self.old self.new (record { worker = worker; kind = Kind.PutOff part.old.task })) }
-        ensures fits { Fits self.new worker part.new }
-        ensures others { OnOk result (OthersFit self.old self.new worker) }
+        ensures { PutsOff self.old self.new worker part.old part.new result }
     {
         let shared = self.shared.get_mut();
         shared.stands();

@@ -1,13 +1,11 @@
 -- What a call says of its failure, where it is another one's that it hands on.
-use Rattle.std.proofs.Common.{◌≡◌, Option, Some, Result, Ok, Err, ap, sym, subst, ◌∙◌}
+use Rattle.std.proofs.Common.{◌≡◌, Option, Result, Ok, Err, sym, subst}
 use Rattle.std.specs.Prelude.{IfErr, IsErrAnd, OnErr}
 use Rattle.run_ledger.specs.declared.data.Refused.{Refused}
 use Rattle.shared_value.specs.declared.answer.NotEntered.{NotEntered}
 use Rattle.shared_value.specs.declared.answer.NotRan.{NotRan}
 use Rattle.shared_value.specs.SharedValue.{SharedValue}
-use Rattle.shared_value.specs.Entered.{Answers, IsCaused, RanAnswers, cause_of}
-use Rattle.shared_tree.specs.declared.leaf_end.NotEnded.{NotEnded}
-use Rattle.shared_tree.specs.Ends.{end_cause}
+use Rattle.shared_value.specs.Entered.{Answers, IsCaused, RanAnswers}
 
 -- what is so of the failure
 pub handed : {A E : Type 0} → (r : Result A E) (e : E) (P : E → Type 0) → IsErrAnd r (λ y. y ≡ e) → P e → IfErr r P
@@ -25,10 +23,6 @@ failed (Ok x) h = tt
 failed (Err y) h = h
 
 -- why it failed
-pub handed_cause : {A : Type 0} → (r : Result A Refused) (e : Refused) (why : Option Refused) → IsErrAnd r (λ y. y ≡ e) → Some e ≡ why → cause_of r ≡ why
-handed_cause (Ok x) e why is h = absurd is
-handed_cause (Err y) e why is h = ap (λ z. Some z) is ∙ h
-
 pub handed_answer : {A : Type 0} → (r : Result A NotEntered) (e : NotEntered) (why : Option Refused) → IsErrAnd r (λ y. y ≡ e) → IsCaused e why → Answers r why
 handed_answer (Ok x) e why is h = absurd is
 handed_answer (Err y) e why is h = subst (λ (z : NotEntered). IsCaused z why) (sym is) h
@@ -36,7 +30,3 @@ handed_answer (Err y) e why is h = subst (λ (z : NotEntered). IsCaused z why) (
 pub handed_steps : {A : Type 0} → (r : Result A NotRan) (e : NotRan) (why : Option Refused) → IsErrAnd r (λ y. y ≡ e) → IsCaused e.cause why → RanAnswers r why
 handed_steps (Ok x) e why is h = absurd is
 handed_steps (Err y) e why is h = subst (λ (z : NotRan). IsCaused z.cause why) (sym is) h
-
-pub handed_end : {A : Type 0} → (r : Result A NotEnded) (e : NotEnded) (why : Option Refused) → IsErrAnd r (λ y. y ≡ e) → Some e.cause ≡ why → end_cause r ≡ why
-handed_end (Ok x) e why is h = absurd is
-handed_end (Err y) e why is h = ap (λ (z : NotEnded). Some z.cause) is ∙ h

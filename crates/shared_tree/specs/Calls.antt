@@ -1,11 +1,98 @@
 -- What the calls that make an entry come to: said here of the shared value, and by the same words of the value that counts its
 -- entries and of the one whose entries keep the pace. A call is refused exactly by the ledger's refusal, and changes nothing then.
-use Rattle.std.specs.Prelude.{◌≡◌, ℕ, Result, OnErr, OnOk}
-use Rattle.run_trace.specs.declared.entry.Kind.TheVariants.{Mark}
+use Rattle.std.specs.Prelude.{◌≡◌, ℕ, Some, None, Result, Vec, IfErr, IfOk, OnErr, OnOk, min}
+use Rattle.std.specs.declared.alloc.Global.{Global}
+use Rattle.run_trace.specs.declared.entry.Kind.TheVariants.{Took, Ran, Chunk, Begin, PutOff, Mark, More, Sweep, Fuel}
+use Rattle.run_ledger.specs.declared.data.Refused.{Refused}
+use Rattle.run_ledger.specs.Heaps.{heap_of, left_in}
+use Rattle.object_layout.specs.declared.word.Addr.{Addr}
+use Rattle.leaf_copy_gc.specs.declared.lists.Moved.{Moved}
+use Rattle.leaf_copy_gc.specs.declared.lists.ToChunks.{ToChunks}
+use Rattle.task_machine.specs.declared.part.Private.{Private}
 use Rattle.shared_value.specs.declared.answer.NotEntered.{NotEntered}
-use Rattle.shared_value.specs.SharedValue.{SharedValue}
-use Rattle.shared_value.specs.Fits.{AllFit}
-use Rattle.shared_value.specs.Entered.{Answers, Enters, refused}
+use Rattle.shared_value.specs.declared.task_at_rest.Rest.{Rest}
+use Rattle.shared_value.specs.SharedValue.{SharedValue, accounts, rest_at}
+use Rattle.shared_value.specs.Fits.{AllFit, Fits, OthersFit}
+use Rattle.shared_value.specs.Entered.{Answers, Enters, IsSamePart, cause_of, refused}
+use Rattle.shared_value.specs.LeafBegin.{HasBegun}
+use Rattle.leaf_collections.specs.LeafEnd.{end_event, ended}
+use Rattle.shared_tree.specs.declared.leaf_end.NotEnded.{NotEnded}
+use Rattle.shared_tree.specs.Ends.{end_cause}
+
+-- ---- A TASK AND ITS STEPS
+
+-- the worker takes the task t, and gets its part, with the heap that rested
+pub record TakesTask (w after : SharedValue) (k t : ℕ) (answer : Result Private Refused) : Type 0 where
+  pub refused : cause_of answer ≡ refused w (record { worker = k; kind = Took t })
+  pub same : OnErr answer (after ≡ w)
+  pub enters : OnOk answer (Enters w after (record { worker = k; kind = Took t }))
+  pub task : IfOk answer (λ (p : Private). p.task ≡ t)
+  pub fresh : IfOk answer (λ (p : Private). p.fresh ≡ 0)
+  pub heap : IfOk answer (λ (p : Private). (r : Rest) × (rest_at w.homes t ≡ Some r) × (p.heap ≡ r.heap))
+  pub idle : IfOk answer (λ (p : Private). p.begun ≡ None)
+  pub fits : IfOk answer (λ (p : Private). Fits after k p)
+  pub others : OnOk answer (OthersFit w after k)
+
+-- the fresh steps of the part p, all private, are entered: it is q then, without any
+pub record EntersSteps (w after : SharedValue) (k : ℕ) (p q : Private) (answer : Result (Unit {0}) Refused) : Type 0 where
+  pub refused : cause_of answer ≡ refused w (record { worker = k; kind = Ran p.task p.fresh })
+  pub same : OnErr answer (after ≡ w)
+  pub back : OnErr answer (q ≡ p)
+  pub enters : OnOk answer (Enters w after (record { worker = k; kind = Ran p.task p.fresh }))
+  pub end : OnOk answer (after.end ≡ w.end)
+  pub goes : OnOk answer (q ≡ record p { fresh = 0 })
+  pub fits : Fits after k q
+  pub others : OnOk answer (OthersFit w after k)
+
+-- the run ends, since its fuel is spent
+pub record EndsForFuel (w after : SharedValue) (k : ℕ) (answer : Result (Unit {0}) Refused) : Type 0 where
+  pub refused : cause_of answer ≡ refused w (record { worker = k; kind = Fuel })
+  pub same : OnErr answer (after ≡ w)
+  pub enters : OnOk answer (Enters w after (record { worker = k; kind = Fuel }))
+  pub all : OnOk answer (AllFit w after)
+
+-- ---- THE HEAP OF A RUNNING TASK
+
+-- the part p gets a chunk, and is q then; or the run ends for want of chunks
+pub record GetsChunk (w after : SharedValue) (k : ℕ) (p q : Private) (answer : Result (Unit {0}) NotEntered) : Type 0 where
+  pub refused : Answers answer (refused w (record { worker = k; kind = Chunk p.task }))
+  pub same : OnErr answer (after ≡ w)
+  pub back : OnErr answer (IsSamePart p q)
+  pub rest : q ≡ record p { heap = q.heap }
+  pub enters : OnOk answer (Enters w after (record { worker = k; kind = Chunk p.task }))
+  pub fits : Fits after k q
+  pub others : OnOk answer (OthersFit w after k)
+
+-- a leaf collection of the part p begins, which is q then: the answer is its roots, and new chunks with all that copying needs
+pub record BeginsLeaf (w after : SharedValue) (k : ℕ) (p q : Private) (answer : Result (Vec Addr Global × ToChunks) NotEntered) : Type 0 where
+  pub refused : Answers answer (refused w (record { worker = k; kind = Begin p.task }))
+  pub same : OnErr answer (after ≡ w)
+  pub back : OnErr answer (IsSamePart p q)
+  pub begun : IfOk answer (λ r. HasBegun p q r.0.items r.1)
+  pub enters : OnOk answer (Enters w after (record { worker = k; kind = Begin p.task }))
+  pub fits : Fits after k q
+  pub others : OnOk answer (OthersFit w after k)
+
+-- that of the part p ends, whose heap was copied, which came to m: it is q then
+pub record EndsLeaf (w after : SharedValue) (k : ℕ) (p q : Private) (m : Moved) (answer : Result (Unit {0}) NotEnded) : Type 0 where
+  pub refused : end_cause answer ≡ refused w (end_event k p m)
+  pub same : OnErr answer (after ≡ w)
+  pub back : OnErr answer (q ≡ p)
+  pub moved : IfErr answer (λ (e : NotEnded). e.moved ≡ m)
+  pub part : OnOk answer (q ≡ ended p)
+  pub enters : OnOk answer (Enters w after (end_event k p m))
+  pub fits : OnOk answer (Fits after k q)
+  pub others : OnOk answer (OthersFit w after k)
+
+-- one of the part p that is due is put off: its words count from 0 on in q
+pub record PutsOff (w after : SharedValue) (k : ℕ) (p q : Private) (answer : Result (Unit {0}) Refused) : Type 0 where
+  pub refused : cause_of answer ≡ refused w (record { worker = k; kind = PutOff p.task })
+  pub same : OnErr answer (after ≡ w)
+  pub back : OnErr answer (q ≡ p)
+  pub part : OnOk answer (q ≡ record p { heap = record p.heap { since = 0 } })
+  pub enters : OnOk answer (Enters w after (record { worker = k; kind = PutOff p.task }))
+  pub fits : Fits after k q
+  pub others : OnOk answer (OthersFit w after k)
 
 -- ---- THE HEAP OF A WAITING TASK
 
@@ -14,4 +101,19 @@ pub record BeginsMarking (w after : SharedValue) (k t : ℕ) (answer : Result (U
   pub refused : Answers answer (refused w (record { worker = k; kind = Mark t }))
   pub same : OnErr answer (after ≡ w)
   pub enters : OnOk answer (Enters w after (record { worker = k; kind = Mark t }))
+  pub fits : OnOk answer (AllFit w after)
+
+-- n objects more of it are marked, or as many as are left: the answer is how many
+pub record MarksMore (w after : SharedValue) (k t n : ℕ) (answer : Result ℕ Refused) : Type 0 where
+  pub refused : cause_of answer ≡ refused w (record { worker = k; kind = More t n })
+  pub same : OnErr answer (after ≡ w)
+  pub count : IfOk answer (λ many. many ≡ min n (left_in (heap_of (accounts w) t)))
+  pub enters : OnOk answer (Enters w after (record { worker = k; kind = More t n }))
+  pub fits : OnOk answer (AllFit w after)
+
+-- it is swept, and so many units are given back
+pub record SweepsHeap (w after : SharedValue) (k t given : ℕ) (answer : Result (Unit {0}) Refused) : Type 0 where
+  pub refused : cause_of answer ≡ refused w (record { worker = k; kind = Sweep t given })
+  pub same : OnErr answer (after ≡ w)
+  pub enters : OnOk answer (Enters w after (record { worker = k; kind = Sweep t given }))
   pub fits : OnOk answer (AllFit w after)

@@ -1,8 +1,9 @@
 // A part gets a chunk.
 
 ghost use Rattle.std.specs.Prelude.{◌≡◌, ◌<◌, OnErr, OnOk, None};
-ghost use Rattle.shared_value.specs.Entered.{refused, Answers, Enters, IsSamePart};
+ghost use Rattle.shared_value.specs.Entered.{refused, Enters, IsSamePart};
 ghost use Rattle.shared_value.specs.Fits.{Fits, OthersFit};
+ghost use Rattle.shared_tree.specs.Calls.{GetsChunk};
 
 use crate::shared::Shared;
 use chunk_pool::NotTaken;
@@ -65,13 +66,7 @@ impl Shared {
         requires room { 0 < self.old.journal.room }
         requires fits { Fits self.old worker part.old }
         requires fresh { part.old.fresh ≡ 0 }
-        ensures refused { Answers result (refused self.old (record { worker = worker; kind = Kind.Chunk part.old.task })) }
-        ensures same { OnErr result (self.new ≡ self.old) }
-        ensures back { OnErr result (IsSamePart part.old part.new) }
-        ensures rest { part.new ≡ record part.old { heap = part.new.heap } }
-        ensures enters { OnOk result (Enters self.old self.new (record { worker = worker; kind = Kind.Chunk part.old.task })) }
-        ensures fits { Fits self.new worker part.new }
-        ensures others { OnOk result (OthersFit self.old self.new worker) }
+        ensures { GetsChunk self.old self.new worker part.old part.new result }
     {
         if let Some(cause) = self.chunk_refused(worker, part) {
             return Err(NotEntered::Refuses(cause));

@@ -1,9 +1,10 @@
 // A leaf collection of a part begins.
 
 ghost use Rattle.std.specs.Prelude.{◌≡◌, ◌<◌, IfOk, OnErr, OnOk, None};
-ghost use Rattle.shared_value.specs.Entered.{refused, Answers, Enters, IsSamePart};
+ghost use Rattle.shared_value.specs.Entered.{refused, Enters, IsSamePart};
 ghost use Rattle.shared_value.specs.Fits.{Fits, OthersFit};
 ghost use Rattle.shared_value.specs.LeafBegin.{HasBegun};
+ghost use Rattle.shared_tree.specs.Calls.{BeginsLeaf};
 
 use crate::shared::Shared;
 use leaf_collections::{begin_with, chunks_for, due_cause};
@@ -75,13 +76,7 @@ impl Shared {
         requires room { 0 < self.old.journal.room }
         requires fits { Fits self.old worker part.old }
         requires fresh { part.old.fresh ≡ 0 }
-        ensures refused { Answers result (refused self.old (record { worker = worker; kind = Kind.Begin part.old.task })) }
-        ensures same { OnErr result (self.new ≡ self.old) }
-        ensures back { OnErr result (IsSamePart part.old part.new) }
-        ensures begun { IfOk result (λ r. HasBegun part.old part.new r.0.items r.1) }
-        ensures enters { OnOk result (Enters self.old self.new (record { worker = worker; kind = Kind.Begin part.old.task })) }
-        ensures fits { Fits self.new worker part.new }
-        ensures others { OnOk result (OthersFit self.old self.new worker) }
+        ensures { BeginsLeaf self.old self.new worker part.old part.new result }
     {
         if let Some(cause) = self.leaf_begin_refused(worker, part) {
             return Err(NotEntered::Refuses(cause));

@@ -1,10 +1,10 @@
 // The leaf collection of a part ends.
 
-ghost use Rattle.std.specs.Prelude.{◌≡◌, ◌<◌, IfErr, OnErr, OnOk, None};
+ghost use Rattle.std.specs.Prelude.{◌≡◌, ◌<◌, None};
 ghost use Rattle.shared_value.specs.Entered.{refused, Enters};
 ghost use Rattle.shared_value.specs.Fits.{Fits, OthersFit};
 ghost use Rattle.leaf_collections.specs.LeafEnd.{end_event, ended, FitsCopied};
-ghost use Rattle.shared_tree.specs.Ends.{end_cause};
+ghost use Rattle.shared_tree.specs.Calls.{EndsLeaf};
 
 use crate::shared::Shared;
 use chunk_pool::Pool;
@@ -68,14 +68,7 @@ impl Shared {
     ) -> Result<(), NotEnded>
         requires room { 0 < self.old.journal.room }
         requires fits { FitsCopied self.old worker part.old moved }
-        ensures refused { end_cause result ≡ refused self.old (end_event worker part.old moved) }
-        ensures same { OnErr result (self.new ≡ self.old) }
-        ensures back { OnErr result (part.new ≡ part.old) }
-        ensures moved { IfErr result (λ e. e.moved ≡ moved) }
-        ensures part { OnOk result (part.new ≡ ended part.old) }
-        ensures enters { OnOk result (Enters self.old self.new (end_event worker part.old moved)) }
-        ensures fits { OnOk result (Fits self.new worker part.new) }
-        ensures others { OnOk result (OthersFit self.old self.new worker) }
+        ensures { EndsLeaf self.old self.new worker part.old part.new moved result }
     {
         match first_cause(self.end, self.steps, self.settings, worker, false) {
             Some(cause) => Err(NotEnded { cause, moved }),

@@ -1,10 +1,11 @@
 // Objects of a heap are marked.
 
-ghost use Rattle.std.specs.Prelude.{◌≡◌, ◌<◌, ◌≤◌, ℕ, IfOk, OnErr, OnOk, None, min};
+ghost use Rattle.std.specs.Prelude.{◌≡◌, ◌<◌, ◌≤◌, ℕ, None, min};
 ghost use Rattle.run_ledger.specs.Heaps.{heap_of, left_in};
-ghost use Rattle.shared_value.specs.Entered.{cause_of, refused, Enters};
+ghost use Rattle.shared_value.specs.Entered.{refused, Enters};
 ghost use Rattle.shared_value.specs.Fits.{AllFit};
 ghost use Rattle.shared_value.specs.SharedValue.{accounts};
+ghost use Rattle.shared_tree.specs.Calls.{MarksMore};
 
 use crate::shared::Shared;
 use heap_marking::marking_cause;
@@ -62,11 +63,7 @@ impl Shared {
         requires room { 0 < self.old.journal.room }
         requires some { 0 < n }
         requires few { n ≤ 1024 }
-        ensures refused { cause_of result ≡ refused self.old (record { worker = worker; kind = Kind.More t n }) }
-        ensures same { OnErr result (self.new ≡ self.old) }
-        ensures count { IfOk result (λ k. k ≡ min n (left_in (heap_of (accounts self.old) t))) }
-        ensures enters { OnOk result (Enters self.old self.new (record { worker = worker; kind = Kind.More t n })) }
-        ensures fits { OnOk result (AllFit self.old self.new) }
+        ensures { MarksMore self.old self.new worker t n result }
     {
         match self.some_refused(worker, t) {
             Some(cause) => Err(cause),

@@ -1,8 +1,9 @@
 // A leaf collection is put off.
 
-ghost use Rattle.std.specs.Prelude.{◌≡◌, ◌<◌, OnErr, OnOk, None};
-ghost use Rattle.shared_value.specs.Entered.{cause_of, refused, Enters};
+ghost use Rattle.std.specs.Prelude.{◌≡◌, ◌<◌, None};
+ghost use Rattle.shared_value.specs.Entered.{refused, Enters};
 ghost use Rattle.shared_value.specs.Fits.{Fits, OthersFit};
+ghost use Rattle.shared_tree.specs.Calls.{PutsOff};
 
 use crate::shared::Shared;
 use leaf_collections::due_cause;
@@ -55,13 +56,7 @@ impl Shared {
         requires room { 0 < self.old.journal.room }
         requires fits { Fits self.old worker part.old }
         requires fresh { part.old.fresh ≡ 0 }
-        ensures refused { cause_of result ≡ refused self.old (record { worker = worker; kind = Kind.PutOff part.old.task }) }
-        ensures same { OnErr result (self.new ≡ self.old) }
-        ensures back { OnErr result (part.new ≡ part.old) }
-        ensures part { OnOk result (part.new ≡ record part.old { heap = record part.old.heap { since = 0 } }) }
-        ensures enters { OnOk result (Enters self.old self.new (record { worker = worker; kind = Kind.PutOff part.old.task })) }
-        ensures fits { Fits self.new worker part.new }
-        ensures others { OnOk result (OthersFit self.old self.new worker) }
+        ensures { PutsOff self.old self.new worker part.old part.new result }
     {
         match self.put_off_refused(worker, part) {
             Some(cause) => Err(cause),

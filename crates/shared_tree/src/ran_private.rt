@@ -1,8 +1,9 @@
 // A part's private steps are entered.
 
-ghost use Rattle.std.specs.Prelude.{◌≡◌, ◌<◌, OnErr, OnOk, None};
-ghost use Rattle.shared_value.specs.Entered.{cause_of, refused, Enters};
+ghost use Rattle.std.specs.Prelude.{◌≡◌, ◌<◌, None};
+ghost use Rattle.shared_value.specs.Entered.{refused, Enters};
 ghost use Rattle.shared_value.specs.Fits.{Fits, OthersFit};
+ghost use Rattle.shared_tree.specs.Calls.{EntersSteps};
 
 use crate::shared::Shared;
 use run_ledger::Refused;
@@ -32,14 +33,7 @@ impl Shared {
         requires room { 0 < self.old.journal.room }
         requires fits { Fits self.old worker part.old }
         requires fresh { 0 < part.old.fresh }
-        ensures refused { cause_of result ≡ refused self.old (record { worker = worker; kind = Kind.Ran part.old.task part.old.fresh }) }
-        ensures same { OnErr result (self.new ≡ self.old) }
-        ensures back { OnErr result (part.new ≡ part.old) }
-        ensures enters { OnOk result (Enters self.old self.new (record { worker = worker; kind = Kind.Ran part.old.task part.old.fresh })) }
-        ensures end { OnOk result (self.new.end ≡ self.old.end) }
-        ensures goes { OnOk result (part.new ≡ record part.old { fresh = 0 }) }
-        ensures fits { Fits self.new worker part.new }
-        ensures others { OnOk result (OthersFit self.old self.new worker) }
+        ensures { EntersSteps self.old self.new worker part.old part.new result }
     {
         if let Some(cause) = first_cause(self.end, self.steps, self.settings, worker, false) {
             return Err(cause);

@@ -1,12 +1,13 @@
 // The heap of a waiting task is swept.
 
-ghost use Rattle.std.specs.Prelude.{◌≡◌, ◌==◌, ◌<◌, OnErr, OnOk, None, Some};
+ghost use Rattle.std.specs.Prelude.{◌≡◌, ◌==◌, ◌<◌, None, Some};
 ghost use Rattle.run_ledger.specs.Entries.{counted, refused_unless};
 ghost use Rattle.run_ledger.specs.Heaps.{heap_of, left_in, marked_in, sweep_number};
-ghost use Rattle.shared_value.specs.Entered.{cause_of, refused, Enters};
+ghost use Rattle.shared_value.specs.Entered.{refused, Enters};
 ghost use Rattle.shared_value.specs.Fits.{AllFit};
 ghost use Rattle.shared_value.specs.SharedValue.{accounts};
 ghost use Rattle.heap_marking.specs.MarkCauses.{marking_cause};
+ghost use Rattle.shared_tree.specs.Calls.{SweepsHeap};
 
 use crate::shared::Shared;
 use heap_marking::{drop_unmarked, forget_kept, marking_cause};
@@ -84,10 +85,7 @@ impl Shared {
     /// It takes no memory.
     pub fn sweep(&mut self, worker: u32, t: u32, given: u32) -> Result<(), Refused>
         requires room { 0 < self.old.journal.room }
-        ensures refused { cause_of result ≡ refused self.old (record { worker = worker; kind = Kind.Sweep t given }) }
-        ensures same { OnErr result (self.new ≡ self.old) }
-        ensures enters { OnOk result (Enters self.old self.new (record { worker = worker; kind = Kind.Sweep t given })) }
-        ensures fits { OnOk result (AllFit self.old self.new) }
+        ensures { SweepsHeap self.old self.new worker t given result }
     {
         match self.sweep_refused(worker, t, given) {
             Some(cause) => Err(cause),

@@ -1,11 +1,11 @@
-use Rattle.std.proofs.Common.{◌≡◌, None, sym, subst}
+use Rattle.std.proofs.Common.{◌≡◌, Ok, sym, subst}
 use Rattle.run_trace.specs.declared.entry.Kind.TheVariants.{Begin}
 use Rattle.shared_value.specs.SharedValue.{SharedValue, accounts}
-use Rattle.shared_value.specs.Entered.{refused, IsCaused}
-use Rattle.shared_value.specs.Fits.{Fits, OthersFit}
+use Rattle.shared_value.specs.Fits.{Fits}
 use Rattle.run_ledger.specs.Heaps.{heap_of, words_in}
 use Rattle.task_machine.specs.declared.part.Private.{Private}
-use Rattle.shared_tree.proofs.HandedOn.{handed_answer}
+use Rattle.shared_tree.specs.Calls.{BeginsLeaf}
+use Rattle.shared_tree.proofs.HandedOn.{handed_on}
 use Rattle.counted_tree.specs.Counts.{KeepsCounts}
 use Rattle.counted_tree.proofs.EntryCounted.{begin_had, is_made}
 use Rattle.counted_tree.proofs.counted.Counted.leaf_begin.Goals as goal
@@ -13,16 +13,12 @@ use Rattle.counted_tree.proofs.counted.Counted.leaf_begin.Goals as goal
 pub leaf_begin-requires-clause-fits : goal.leaf_begin-requires-clause-fits
 leaf_begin-requires-clause-fits c = subst (λ (z : SharedValue). Fits z c.args.worker c.args.part.now) (sym c.self.view_is) c.requires.fits
 
-pub returns-clause-refused : goal.returns-clause-refused
-returns-clause-refused c = subst (λ (z : SharedValue). refused z (record { worker = c.args.worker; kind = Begin c.args.part.now.task }) ≡ None) c.self.view_is c.in_ok-begun.ensures.refused
+pub returns : goal.returns
+returns c = subst (λ (z : SharedValue). BeginsLeaf z c.leaf_begin.new.self c.args.worker c.args.part.now c.leaf_begin.new.part (Ok c.in_ok-begun.begun)) c.self.view_is c.in_ok-begun.ensures
 
-pub returns-in_err-begun-clause-refused : goal.returns-in_err-begun-clause-refused
-returns-in_err-begun-clause-refused c =
-    handed_answer c.from_residual.result c.in_err-begun.field-0.0 (refused c.args.self.now (record { worker = c.args.worker; kind = Begin c.args.part.now.task })) c.from_residual.ensures.1
-    (subst (λ (z : SharedValue). IsCaused c.in_err-begun.field-0.0 (refused z (record { worker = c.args.worker; kind = Begin c.args.part.now.task }))) c.self.view_is c.in_err-begun.ensures.refused)
-
-pub returns-clause-others : goal.returns-clause-others
-returns-clause-others c = subst (λ (z : SharedValue). OthersFit z c.leaf_begin.new.self c.args.worker) c.self.view_is c.in_ok-begun.ensures.others
+pub returns-in_err-begun : goal.returns-in_err-begun
+returns-in_err-begun c =
+    handed_on (λ (z : SharedValue). BeginsLeaf z c.leaf_begin.new.self c.args.worker c.args.part.now c.leaf_begin.new.part) c.self.inside.shared c.args.self.now c.self.view_is c.from_residual.result c.in_err-begun.field-0.0 c.from_residual.ensures.1 c.in_err-begun.ensures
 
 pub count-requires : goal.count-requires
 count-requires c =

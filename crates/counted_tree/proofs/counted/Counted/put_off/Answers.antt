@@ -1,9 +1,9 @@
-use Rattle.std.proofs.Common.{◌≡◌, Some, None, sym, subst}
+use Rattle.std.proofs.Common.{Ok, sym, subst}
 use Rattle.run_trace.specs.declared.entry.Kind.TheVariants.{PutOff}
 use Rattle.shared_value.specs.SharedValue.{SharedValue}
-use Rattle.shared_value.specs.Entered.{refused}
-use Rattle.shared_value.specs.Fits.{Fits, OthersFit}
-use Rattle.shared_tree.proofs.HandedOn.{handed_cause}
+use Rattle.shared_value.specs.Fits.{Fits}
+use Rattle.shared_tree.specs.Calls.{PutsOff}
+use Rattle.shared_tree.proofs.HandedOn.{handed_on}
 use Rattle.counted_tree.specs.Counts.{KeepsCounts}
 use Rattle.counted_tree.proofs.EntryCounted.{is_made}
 use Rattle.counted_tree.proofs.counted.Counted.put_off.Goals as goal
@@ -11,16 +11,12 @@ use Rattle.counted_tree.proofs.counted.Counted.put_off.Goals as goal
 pub put_off-requires-clause-fits : goal.put_off-requires-clause-fits
 put_off-requires-clause-fits c = subst (λ (z : SharedValue). Fits z c.args.worker c.args.part.now) (sym c.self.view_is) c.requires.fits
 
-pub returns-clause-refused : goal.returns-clause-refused
-returns-clause-refused c = subst (λ (z : SharedValue). None ≡ refused z (record { worker = c.args.worker; kind = PutOff c.args.part.now.task })) c.self.view_is c.in_ok-put_off.ensures.refused
+pub returns : goal.returns
+returns c = subst (λ (z : SharedValue). PutsOff z c.put_off.new.self c.args.worker c.args.part.now c.put_off.new.part (Ok tt)) c.self.view_is c.in_ok-put_off.ensures
 
-pub returns-in_err-put_off-clause-refused : goal.returns-in_err-put_off-clause-refused
-returns-in_err-put_off-clause-refused c =
-    handed_cause c.from_residual.result c.in_err-put_off.field-0.0 _ c.from_residual.ensures.1
-    (subst (λ (z : SharedValue). Some c.in_err-put_off.field-0.0 ≡ refused z (record { worker = c.args.worker; kind = PutOff c.args.part.now.task })) c.self.view_is c.in_err-put_off.ensures.refused)
-
-pub returns-clause-others : goal.returns-clause-others
-returns-clause-others c = subst (λ (z : SharedValue). OthersFit z c.put_off.new.self c.args.worker) c.self.view_is c.in_ok-put_off.ensures.others
+pub returns-in_err-put_off : goal.returns-in_err-put_off
+returns-in_err-put_off c =
+    handed_on (λ (z : SharedValue). PutsOff z c.put_off.new.self c.args.worker c.args.part.now c.put_off.new.part) c.self.inside.shared c.args.self.now c.self.view_is c.from_residual.result c.in_err-put_off.field-0.0 c.from_residual.ensures.1 c.in_err-put_off.ensures
 
 pub count-requires : goal.count-requires
 count-requires c = is_made c.self.inside.shared c.put_off.new.self c.self.inside.counts (record { worker = c.args.worker; kind = PutOff c.args.part.now.task }) 0 c.stands.ensures c.in_ok-put_off.ensures.enters (sym c.in_ok-put_off.ensures.refused) c.self.invariant tt

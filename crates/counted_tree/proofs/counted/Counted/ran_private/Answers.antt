@@ -1,9 +1,9 @@
-use Rattle.std.proofs.Common.{◌≡◌, Some, None, sym, subst}
+use Rattle.std.proofs.Common.{Ok, sym, subst}
 use Rattle.run_trace.specs.declared.entry.Kind.TheVariants.{Ran}
 use Rattle.shared_value.specs.SharedValue.{SharedValue}
-use Rattle.shared_value.specs.Entered.{refused}
-use Rattle.shared_value.specs.Fits.{Fits, OthersFit}
-use Rattle.shared_tree.proofs.HandedOn.{handed_cause}
+use Rattle.shared_value.specs.Fits.{Fits}
+use Rattle.shared_tree.specs.Calls.{EntersSteps}
+use Rattle.shared_tree.proofs.HandedOn.{handed_on}
 use Rattle.counted_tree.specs.Counts.{KeepsCounts}
 use Rattle.counted_tree.proofs.EntryCounted.{is_made}
 use Rattle.counted_tree.proofs.counted.Counted.ran_private.Goals as goal
@@ -11,16 +11,12 @@ use Rattle.counted_tree.proofs.counted.Counted.ran_private.Goals as goal
 pub ran_private-requires-clause-fits : goal.ran_private-requires-clause-fits
 ran_private-requires-clause-fits c = subst (λ (z : SharedValue). Fits z c.args.worker c.args.part.now) (sym c.self.view_is) c.requires.fits
 
-pub returns-clause-refused : goal.returns-clause-refused
-returns-clause-refused c = subst (λ (z : SharedValue). None ≡ refused z (record { worker = c.args.worker; kind = Ran c.args.part.now.task c.args.part.now.fresh })) c.self.view_is c.in_ok-ran_private.ensures.refused
+pub returns : goal.returns
+returns c = subst (λ (z : SharedValue). EntersSteps z c.ran_private.new.self c.args.worker c.args.part.now c.ran_private.new.part (Ok tt)) c.self.view_is c.in_ok-ran_private.ensures
 
-pub returns-in_err-ran_private-clause-refused : goal.returns-in_err-ran_private-clause-refused
-returns-in_err-ran_private-clause-refused c =
-    handed_cause c.from_residual.result c.in_err-ran_private.field-0.0 _ c.from_residual.ensures.1
-    (subst (λ (z : SharedValue). Some c.in_err-ran_private.field-0.0 ≡ refused z (record { worker = c.args.worker; kind = Ran c.args.part.now.task c.args.part.now.fresh })) c.self.view_is c.in_err-ran_private.ensures.refused)
-
-pub returns-clause-others : goal.returns-clause-others
-returns-clause-others c = subst (λ (z : SharedValue). OthersFit z c.ran_private.new.self c.args.worker) c.self.view_is c.in_ok-ran_private.ensures.others
+pub returns-in_err-ran_private : goal.returns-in_err-ran_private
+returns-in_err-ran_private c =
+    handed_on (λ (z : SharedValue). EntersSteps z c.ran_private.new.self c.args.worker c.args.part.now c.ran_private.new.part) c.self.inside.shared c.args.self.now c.self.view_is c.from_residual.result c.in_err-ran_private.field-0.0 c.from_residual.ensures.1 c.in_err-ran_private.ensures
 
 pub count-requires : goal.count-requires
 count-requires c = is_made c.self.inside.shared c.ran_private.new.self c.self.inside.counts (record { worker = c.args.worker; kind = Ran c.args.part.now.task c.args.part.now.fresh }) 0 c.stands.ensures c.in_ok-ran_private.ensures.enters (sym c.in_ok-ran_private.ensures.refused) c.self.invariant tt

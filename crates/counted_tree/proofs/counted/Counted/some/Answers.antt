@@ -1,23 +1,18 @@
-use Rattle.std.proofs.Common.{◌≡◌, Some, None, sym, subst}
+use Rattle.std.proofs.Common.{Ok, sym, subst}
 use Rattle.run_trace.specs.declared.entry.Kind.TheVariants.{More}
 use Rattle.shared_value.specs.SharedValue.{SharedValue}
-use Rattle.shared_value.specs.Entered.{refused}
-use Rattle.shared_value.specs.Fits.{AllFit}
-use Rattle.shared_tree.proofs.HandedOn.{handed_cause}
+use Rattle.shared_tree.specs.Calls.{MarksMore}
+use Rattle.shared_tree.proofs.HandedOn.{handed_on}
 use Rattle.counted_tree.specs.Counts.{KeepsCounts}
 use Rattle.counted_tree.proofs.EntryCounted.{is_made}
 use Rattle.counted_tree.proofs.counted.Counted.some.Goals as goal
 
-pub returns-clause-refused : goal.returns-clause-refused
-returns-clause-refused c = subst (λ (z : SharedValue). None ≡ refused z (record { worker = c.args.worker; kind = More c.args.t c.args.n })) c.self.view_is c.in_ok-count.ensures.refused
+pub returns : goal.returns
+returns c = subst (λ (z : SharedValue). MarksMore z c.some.new.self c.args.worker c.args.t c.args.n (Ok c.in_ok-count.count)) c.self.view_is c.in_ok-count.ensures
 
-pub returns-in_err-count-clause-refused : goal.returns-in_err-count-clause-refused
-returns-in_err-count-clause-refused c =
-    handed_cause c.from_residual.result c.in_err-count.field-0.0 _ c.from_residual.ensures.1
-    (subst (λ (z : SharedValue). Some c.in_err-count.field-0.0 ≡ refused z (record { worker = c.args.worker; kind = More c.args.t c.args.n })) c.self.view_is c.in_err-count.ensures.refused)
-
-pub returns-clause-fits : goal.returns-clause-fits
-returns-clause-fits c = subst (λ (z : SharedValue). AllFit z c.some.new.self) c.self.view_is c.in_ok-count.ensures.fits
+pub returns-in_err-count : goal.returns-in_err-count
+returns-in_err-count c =
+    handed_on (λ (z : SharedValue). MarksMore z c.some.new.self c.args.worker c.args.t c.args.n) c.self.inside.shared c.args.self.now c.self.view_is c.from_residual.result c.in_err-count.field-0.0 c.from_residual.ensures.1 c.in_err-count.ensures
 
 pub count-requires : goal.count-requires
 count-requires c = is_made c.self.inside.shared c.some.new.self c.self.inside.counts (record { worker = c.args.worker; kind = More c.args.t c.args.n }) 0 c.stands.ensures c.in_ok-count.ensures.enters (sym c.in_ok-count.ensures.refused) c.self.invariant tt

@@ -1,25 +1,21 @@
-use Rattle.std.proofs.Common.{◌≡◌, Some, None, refl, sym, subst}
+use Rattle.std.proofs.Common.{◌≡◌, None, Ok, refl, sym, subst}
 use Rattle.run_trace.specs.Entry.{EntryValue}
 use Rattle.run_trace.specs.declared.entry.Kind.TheVariants.{Sweep}
 use Rattle.shared_value.specs.SharedValue.{SharedValue, accounts}
 use Rattle.shared_value.specs.Entered.{refused}
-use Rattle.shared_value.specs.Fits.{AllFit}
 use Rattle.run_ledger.specs.Heaps.{heap_of, words_in}
-use Rattle.shared_tree.proofs.HandedOn.{handed_cause}
+use Rattle.shared_tree.specs.Calls.{SweepsHeap}
+use Rattle.shared_tree.proofs.HandedOn.{handed_on}
 use Rattle.counted_tree.specs.Counts.{KeepsCounts}
 use Rattle.counted_tree.proofs.EntryCounted.{sweep_had, is_made}
 use Rattle.counted_tree.proofs.counted.Counted.sweep.Goals as goal
 
-pub returns-clause-refused : goal.returns-clause-refused
-returns-clause-refused c = subst (λ (z : SharedValue). None ≡ refused z (record { worker = c.args.worker; kind = Sweep c.args.t c.args.given })) c.self.view_is c.in_ok-sweep.ensures.refused
+pub returns : goal.returns
+returns c = subst (λ (z : SharedValue). SweepsHeap z c.sweep.new.self c.args.worker c.args.t c.args.given (Ok tt)) c.self.view_is c.in_ok-sweep.ensures
 
-pub returns-in_err-sweep-clause-refused : goal.returns-in_err-sweep-clause-refused
-returns-in_err-sweep-clause-refused c =
-    handed_cause c.from_residual.result c.in_err-sweep.field-0.0 _ c.from_residual.ensures.1
-    (subst (λ (z : SharedValue). Some c.in_err-sweep.field-0.0 ≡ refused z (record { worker = c.args.worker; kind = Sweep c.args.t c.args.given })) c.self.view_is c.in_err-sweep.ensures.refused)
-
-pub returns-clause-fits : goal.returns-clause-fits
-returns-clause-fits c = subst (λ (z : SharedValue). AllFit z c.sweep.new.self) c.self.view_is c.in_ok-sweep.ensures.fits
+pub returns-in_err-sweep : goal.returns-in_err-sweep
+returns-in_err-sweep c =
+    handed_on (λ (z : SharedValue). SweepsHeap z c.sweep.new.self c.args.worker c.args.t c.args.given) c.self.inside.shared c.args.self.now c.self.view_is c.from_residual.result c.in_err-sweep.field-0.0 c.from_residual.ensures.1 c.in_err-sweep.ensures
 
 pub count-requires : goal.count-requires
 count-requires c =

@@ -1,23 +1,18 @@
-use Rattle.std.proofs.Common.{◌≡◌, Some, None, sym, subst}
+use Rattle.std.proofs.Common.{Ok, sym, subst}
 use Rattle.run_trace.specs.declared.entry.Kind.TheVariants.{Took}
 use Rattle.shared_value.specs.SharedValue.{SharedValue}
-use Rattle.shared_value.specs.Entered.{refused}
-use Rattle.shared_value.specs.Fits.{OthersFit}
-use Rattle.shared_tree.proofs.HandedOn.{handed_cause}
+use Rattle.shared_tree.specs.Calls.{TakesTask}
+use Rattle.shared_tree.proofs.HandedOn.{handed_on}
 use Rattle.counted_tree.specs.Counts.{KeepsCounts}
 use Rattle.counted_tree.proofs.EntryCounted.{is_made}
 use Rattle.counted_tree.proofs.counted.Counted.took.Goals as goal
 
-pub returns-clause-refused : goal.returns-clause-refused
-returns-clause-refused c = subst (λ (z : SharedValue). None ≡ refused z (record { worker = c.args.worker; kind = Took c.args.t })) c.self.view_is c.in_ok-part.ensures.refused
+pub returns : goal.returns
+returns c = subst (λ (z : SharedValue). TakesTask z c.took.new.self c.args.worker c.args.t (Ok c.in_ok-part.part)) c.self.view_is c.in_ok-part.ensures
 
-pub returns-in_err-part-clause-refused : goal.returns-in_err-part-clause-refused
-returns-in_err-part-clause-refused c =
-    handed_cause c.from_residual.result c.in_err-part.field-0.0 _ c.from_residual.ensures.1
-    (subst (λ (z : SharedValue). Some c.in_err-part.field-0.0 ≡ refused z (record { worker = c.args.worker; kind = Took c.args.t })) c.self.view_is c.in_err-part.ensures.refused)
-
-pub returns-clause-others : goal.returns-clause-others
-returns-clause-others c = subst (λ (z : SharedValue). OthersFit z c.took.new.self c.args.worker) c.self.view_is c.in_ok-part.ensures.others
+pub returns-in_err-part : goal.returns-in_err-part
+returns-in_err-part c =
+    handed_on (λ (z : SharedValue). TakesTask z c.took.new.self c.args.worker c.args.t) c.self.inside.shared c.args.self.now c.self.view_is c.from_residual.result c.in_err-part.field-0.0 c.from_residual.ensures.1 c.in_err-part.ensures
 
 pub count-requires : goal.count-requires
 count-requires c = is_made c.self.inside.shared c.took.new.self c.self.inside.counts (record { worker = c.args.worker; kind = Took c.args.t }) 0 c.stands.ensures c.in_ok-part.ensures.enters (sym c.in_ok-part.ensures.refused) c.self.invariant tt

@@ -1,33 +1,29 @@
-use Rattle.std.proofs.Common.{◌≡◌, None, refl, sym, subst, ◌∙◌}
+use Rattle.std.proofs.Common.{Ok, refl, sym, subst, ◌∙◌}
 use Rattle.run_trace.specs.Entry.{EntryValue}
 use Rattle.run_trace.specs.declared.entry.Kind.TheVariants.{Begin}
 use Rattle.shared_value.specs.SharedValue.{SharedValue}
-use Rattle.shared_value.specs.Entered.{refused, IsCaused}
-use Rattle.shared_value.specs.Fits.{Fits, OthersFit}
-use Rattle.shared_tree.proofs.HandedOn.{handed_answer}
+use Rattle.shared_value.specs.Fits.{Fits}
+use Rattle.shared_tree.specs.Calls.{BeginsLeaf}
+use Rattle.shared_tree.proofs.HandedOn.{handed_on}
 use Rattle.paced_tree.specs.Owed.{KeepsPaces, Pays}
 use Rattle.paced_tree.proofs.Noted.{other_then}
 use Rattle.paced_tree.proofs.paced.Paced.leaf_begin.Goals as goal
+
+pub leaf_begin-requires-clause-fits : goal.leaf_begin-requires-clause-fits
+leaf_begin-requires-clause-fits c = subst (λ (z : SharedValue). Fits z c.args.worker c.args.part.now) (sym (c.get_mut-shared.ensures.value ∙ c.self.view_is)) c.requires.fits
+
+pub returns : goal.returns
+returns c = subst (λ (z : SharedValue). BeginsLeaf z c.leaf_begin.new.self c.args.worker c.args.part.now c.leaf_begin.new.part (Ok c.in_ok-begun.begun)) (c.get_mut-shared.ensures.value ∙ c.self.view_is) c.in_ok-begun.ensures
+
+pub returns-in_err-begun : goal.returns-in_err-begun
+returns-in_err-begun c =
+    handed_on (λ (z : SharedValue). BeginsLeaf z c.leaf_begin.new.self c.args.worker c.args.part.now c.leaf_begin.new.part) c.get_mut-shared.result.now c.args.self.now (c.get_mut-shared.ensures.value ∙ c.self.view_is) c.from_residual.result c.in_err-begun.field-0.0 c.from_residual.ensures.1 c.in_err-begun.ensures
 
 pub invariant_of-self-2 : goal.invariant_of-self-2
 invariant_of-self-2 c =
     let e : EntryValue = record { worker = c.args.worker; kind = Begin c.args.part.now.task } in
     other_then c.get_mut-shared.result.now c.leaf_begin.new.self e c.self.inside.paces c.note_other.new.paces c.stands.ensures (subst (λ (z : SharedValue). KeepsPaces z c.self.inside.paces) (sym c.get_mut-shared.ensures.value) c.self.invariant) c.in_ok-begun.ensures.enters (c.in_ok-begun.ensures.refused)
     (subst (λ (z : SharedValue). Pays z e) (sym (c.get_mut-shared.ensures.value ∙ c.self.view_is)) c.requires.pays) (λ x. refl) c.note_other.ensures
-
-pub leaf_begin-requires-clause-fits : goal.leaf_begin-requires-clause-fits
-leaf_begin-requires-clause-fits c = subst (λ (z : SharedValue). Fits z c.args.worker c.args.part.now) (sym (c.get_mut-shared.ensures.value ∙ c.self.view_is)) c.requires.fits
-
-pub returns-clause-refused : goal.returns-clause-refused
-returns-clause-refused c = subst (λ (z : SharedValue). refused z (record { worker = c.args.worker; kind = Begin c.args.part.now.task }) ≡ None) (c.get_mut-shared.ensures.value ∙ c.self.view_is) c.in_ok-begun.ensures.refused
-
-pub returns-in_err-begun-clause-refused : goal.returns-in_err-begun-clause-refused
-returns-in_err-begun-clause-refused c =
-    handed_answer c.from_residual.result c.in_err-begun.field-0.0 (refused c.args.self.now (record { worker = c.args.worker; kind = Begin c.args.part.now.task })) c.from_residual.ensures.1
-    (subst (λ (z : SharedValue). IsCaused c.in_err-begun.field-0.0 (refused z (record { worker = c.args.worker; kind = Begin c.args.part.now.task }))) (c.get_mut-shared.ensures.value ∙ c.self.view_is) c.in_err-begun.ensures.refused)
-
-pub returns-clause-others : goal.returns-clause-others
-returns-clause-others c = subst (λ (z : SharedValue). OthersFit z c.leaf_begin.new.self c.args.worker) (c.get_mut-shared.ensures.value ∙ c.self.view_is) c.in_ok-begun.ensures.others
 
 pub invariant_of-self : goal.invariant_of-self
 invariant_of-self c = subst (λ (z : SharedValue). KeepsPaces z c.self.inside.paces) (sym (c.in_err-begun.ensures.same ∙ c.get_mut-shared.ensures.value)) c.self.invariant

@@ -1,30 +1,25 @@
-use Rattle.std.proofs.Common.{◌≡◌, Some, None, refl, sym, subst, ◌∙◌}
+use Rattle.std.proofs.Common.{Ok, refl, sym, subst, ◌∙◌}
 use Rattle.run_trace.specs.Entry.{EntryValue}
 use Rattle.shared_value.specs.SharedValue.{SharedValue}
-use Rattle.shared_value.specs.Entered.{refused}
-use Rattle.shared_value.specs.Fits.{OthersFit}
 use Rattle.leaf_collections.specs.LeafEnd.{end_event}
-use Rattle.shared_tree.proofs.HandedOn.{handed_end}
+use Rattle.shared_tree.specs.Calls.{EndsLeaf}
+use Rattle.shared_tree.proofs.HandedOn.{handed_on}
 use Rattle.paced_tree.specs.Owed.{KeepsPaces, Pays}
 use Rattle.paced_tree.proofs.Noted.{other_then}
 use Rattle.paced_tree.proofs.paced.Paced.leaf_end.Goals as goal
+
+pub returns : goal.returns
+returns c = subst (λ (z : SharedValue). EndsLeaf z c.leaf_end.new.self c.args.worker c.args.part.now c.leaf_end.new.part c.args.moved (Ok tt)) (c.get_mut-shared.ensures.value ∙ c.self.view_is) c.in_ok-leaf_end.ensures
+
+pub returns-in_err-leaf_end : goal.returns-in_err-leaf_end
+returns-in_err-leaf_end c =
+    handed_on (λ (z : SharedValue). EndsLeaf z c.leaf_end.new.self c.args.worker c.args.part.now c.leaf_end.new.part c.args.moved) c.get_mut-shared.result.now c.args.self.now (c.get_mut-shared.ensures.value ∙ c.self.view_is) c.from_residual.result c.in_err-leaf_end.field-0.0 c.from_residual.ensures.1 c.in_err-leaf_end.ensures
 
 pub invariant_of-self-2 : goal.invariant_of-self-2
 invariant_of-self-2 c =
     let e : EntryValue = end_event c.args.worker c.args.part.now c.args.moved in
     other_then c.get_mut-shared.result.now c.leaf_end.new.self e c.self.inside.paces c.note_other.new.paces c.stands.ensures (subst (λ (z : SharedValue). KeepsPaces z c.self.inside.paces) (sym c.get_mut-shared.ensures.value) c.self.invariant) c.in_ok-leaf_end.ensures.enters (sym c.in_ok-leaf_end.ensures.refused)
     (subst (λ (z : SharedValue). Pays z e) (sym (c.get_mut-shared.ensures.value ∙ c.self.view_is)) c.requires.pays) (λ x. refl) c.note_other.ensures
-
-pub returns-clause-refused : goal.returns-clause-refused
-returns-clause-refused c = subst (λ (z : SharedValue). None ≡ refused z (end_event c.args.worker c.args.part.now c.args.moved)) (c.get_mut-shared.ensures.value ∙ c.self.view_is) c.in_ok-leaf_end.ensures.refused
-
-pub returns-in_err-leaf_end-clause-refused : goal.returns-in_err-leaf_end-clause-refused
-returns-in_err-leaf_end-clause-refused c =
-    handed_end c.from_residual.result c.in_err-leaf_end.field-0.0 _ c.from_residual.ensures.1
-    (subst (λ (z : SharedValue). Some c.in_err-leaf_end.field-0.0.cause ≡ refused z (end_event c.args.worker c.args.part.now c.args.moved)) (c.get_mut-shared.ensures.value ∙ c.self.view_is) c.in_err-leaf_end.ensures.refused)
-
-pub returns-clause-others : goal.returns-clause-others
-returns-clause-others c = subst (λ (z : SharedValue). OthersFit z c.leaf_end.new.self c.args.worker) (c.get_mut-shared.ensures.value ∙ c.self.view_is) c.in_ok-leaf_end.ensures.others
 
 pub invariant_of-self : goal.invariant_of-self
 invariant_of-self c = subst (λ (z : SharedValue). KeepsPaces z c.self.inside.paces) (sym (c.in_err-leaf_end.ensures.same ∙ c.get_mut-shared.ensures.value)) c.self.invariant

@@ -1,33 +1,29 @@
-use Rattle.std.proofs.Common.{◌≡◌, Some, None, refl, sym, subst, ◌∙◌}
+use Rattle.std.proofs.Common.{Ok, refl, sym, subst, ◌∙◌}
 use Rattle.run_trace.specs.Entry.{EntryValue}
 use Rattle.run_trace.specs.declared.entry.Kind.TheVariants.{PutOff}
 use Rattle.shared_value.specs.SharedValue.{SharedValue}
-use Rattle.shared_value.specs.Entered.{refused}
-use Rattle.shared_value.specs.Fits.{Fits, OthersFit}
-use Rattle.shared_tree.proofs.HandedOn.{handed_cause}
+use Rattle.shared_value.specs.Fits.{Fits}
+use Rattle.shared_tree.specs.Calls.{PutsOff}
+use Rattle.shared_tree.proofs.HandedOn.{handed_on}
 use Rattle.paced_tree.specs.Owed.{KeepsPaces, Pays}
 use Rattle.paced_tree.proofs.Noted.{other_then}
 use Rattle.paced_tree.proofs.paced.Paced.put_off.Goals as goal
+
+pub put_off-requires-clause-fits : goal.put_off-requires-clause-fits
+put_off-requires-clause-fits c = subst (λ (z : SharedValue). Fits z c.args.worker c.args.part.now) (sym (c.get_mut-shared.ensures.value ∙ c.self.view_is)) c.requires.fits
+
+pub returns : goal.returns
+returns c = subst (λ (z : SharedValue). PutsOff z c.put_off.new.self c.args.worker c.args.part.now c.put_off.new.part (Ok tt)) (c.get_mut-shared.ensures.value ∙ c.self.view_is) c.in_ok-put_off.ensures
+
+pub returns-in_err-put_off : goal.returns-in_err-put_off
+returns-in_err-put_off c =
+    handed_on (λ (z : SharedValue). PutsOff z c.put_off.new.self c.args.worker c.args.part.now c.put_off.new.part) c.get_mut-shared.result.now c.args.self.now (c.get_mut-shared.ensures.value ∙ c.self.view_is) c.from_residual.result c.in_err-put_off.field-0.0 c.from_residual.ensures.1 c.in_err-put_off.ensures
 
 pub invariant_of-self-2 : goal.invariant_of-self-2
 invariant_of-self-2 c =
     let e : EntryValue = record { worker = c.args.worker; kind = PutOff c.args.part.now.task } in
     other_then c.get_mut-shared.result.now c.put_off.new.self e c.self.inside.paces c.note_other.new.paces c.stands.ensures (subst (λ (z : SharedValue). KeepsPaces z c.self.inside.paces) (sym c.get_mut-shared.ensures.value) c.self.invariant) c.in_ok-put_off.ensures.enters (sym c.in_ok-put_off.ensures.refused)
     (subst (λ (z : SharedValue). Pays z e) (sym (c.get_mut-shared.ensures.value ∙ c.self.view_is)) c.requires.pays) (λ x. refl) c.note_other.ensures
-
-pub put_off-requires-clause-fits : goal.put_off-requires-clause-fits
-put_off-requires-clause-fits c = subst (λ (z : SharedValue). Fits z c.args.worker c.args.part.now) (sym (c.get_mut-shared.ensures.value ∙ c.self.view_is)) c.requires.fits
-
-pub returns-clause-refused : goal.returns-clause-refused
-returns-clause-refused c = subst (λ (z : SharedValue). None ≡ refused z (record { worker = c.args.worker; kind = PutOff c.args.part.now.task })) (c.get_mut-shared.ensures.value ∙ c.self.view_is) c.in_ok-put_off.ensures.refused
-
-pub returns-in_err-put_off-clause-refused : goal.returns-in_err-put_off-clause-refused
-returns-in_err-put_off-clause-refused c =
-    handed_cause c.from_residual.result c.in_err-put_off.field-0.0 _ c.from_residual.ensures.1
-    (subst (λ (z : SharedValue). Some c.in_err-put_off.field-0.0 ≡ refused z (record { worker = c.args.worker; kind = PutOff c.args.part.now.task })) (c.get_mut-shared.ensures.value ∙ c.self.view_is) c.in_err-put_off.ensures.refused)
-
-pub returns-clause-others : goal.returns-clause-others
-returns-clause-others c = subst (λ (z : SharedValue). OthersFit z c.put_off.new.self c.args.worker) (c.get_mut-shared.ensures.value ∙ c.self.view_is) c.in_ok-put_off.ensures.others
 
 pub invariant_of-self : goal.invariant_of-self
 invariant_of-self c = subst (λ (z : SharedValue). KeepsPaces z c.self.inside.paces) (sym (c.in_err-put_off.ensures.same ∙ c.get_mut-shared.ensures.value)) c.self.invariant

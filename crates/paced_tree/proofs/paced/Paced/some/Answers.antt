@@ -1,30 +1,25 @@
-use Rattle.std.proofs.Common.{◌≡◌, Some, None, refl, sym, subst, ◌∙◌}
+use Rattle.std.proofs.Common.{Ok, refl, sym, subst, ◌∙◌}
 use Rattle.run_trace.specs.Entry.{EntryValue}
 use Rattle.run_trace.specs.declared.entry.Kind.TheVariants.{More}
 use Rattle.shared_value.specs.SharedValue.{SharedValue}
-use Rattle.shared_value.specs.Entered.{refused}
-use Rattle.shared_value.specs.Fits.{AllFit}
-use Rattle.shared_tree.proofs.HandedOn.{handed_cause}
+use Rattle.shared_tree.specs.Calls.{MarksMore}
+use Rattle.shared_tree.proofs.HandedOn.{handed_on}
 use Rattle.paced_tree.specs.Owed.{KeepsPaces, Pays}
 use Rattle.paced_tree.proofs.Noted.{other_then}
 use Rattle.paced_tree.proofs.paced.Paced.some.Goals as goal
+
+pub returns : goal.returns
+returns c = subst (λ (z : SharedValue). MarksMore z c.some.new.self c.args.worker c.args.t c.args.n (Ok c.in_ok-count.count)) (c.get_mut-shared.ensures.value ∙ c.self.view_is) c.in_ok-count.ensures
+
+pub returns-in_err-count : goal.returns-in_err-count
+returns-in_err-count c =
+    handed_on (λ (z : SharedValue). MarksMore z c.some.new.self c.args.worker c.args.t c.args.n) c.get_mut-shared.result.now c.args.self.now (c.get_mut-shared.ensures.value ∙ c.self.view_is) c.from_residual.result c.in_err-count.field-0.0 c.from_residual.ensures.1 c.in_err-count.ensures
 
 pub invariant_of-self-2 : goal.invariant_of-self-2
 invariant_of-self-2 c =
     let e : EntryValue = record { worker = c.args.worker; kind = More c.args.t c.args.n } in
     other_then c.get_mut-shared.result.now c.some.new.self e c.self.inside.paces c.note_other.new.paces c.stands.ensures (subst (λ (z : SharedValue). KeepsPaces z c.self.inside.paces) (sym c.get_mut-shared.ensures.value) c.self.invariant) c.in_ok-count.ensures.enters (sym c.in_ok-count.ensures.refused)
     (subst (λ (z : SharedValue). Pays z e) (sym (c.get_mut-shared.ensures.value ∙ c.self.view_is)) c.requires.pays) (λ x. refl) c.note_other.ensures
-
-pub returns-clause-refused : goal.returns-clause-refused
-returns-clause-refused c = subst (λ (z : SharedValue). None ≡ refused z (record { worker = c.args.worker; kind = More c.args.t c.args.n })) (c.get_mut-shared.ensures.value ∙ c.self.view_is) c.in_ok-count.ensures.refused
-
-pub returns-in_err-count-clause-refused : goal.returns-in_err-count-clause-refused
-returns-in_err-count-clause-refused c =
-    handed_cause c.from_residual.result c.in_err-count.field-0.0 _ c.from_residual.ensures.1
-    (subst (λ (z : SharedValue). Some c.in_err-count.field-0.0 ≡ refused z (record { worker = c.args.worker; kind = More c.args.t c.args.n })) (c.get_mut-shared.ensures.value ∙ c.self.view_is) c.in_err-count.ensures.refused)
-
-pub returns-clause-fits : goal.returns-clause-fits
-returns-clause-fits c = subst (λ (z : SharedValue). AllFit z c.some.new.self) (c.get_mut-shared.ensures.value ∙ c.self.view_is) c.in_ok-count.ensures.fits
 
 pub invariant_of-self : goal.invariant_of-self
 invariant_of-self c = subst (λ (z : SharedValue). KeepsPaces z c.self.inside.paces) (sym (c.in_err-count.ensures.same ∙ c.get_mut-shared.ensures.value)) c.self.invariant

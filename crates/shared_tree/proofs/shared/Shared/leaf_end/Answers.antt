@@ -1,4 +1,4 @@
-use Rattle.std.proofs.Common.{◌≡◌, ℕ, false, sym, subst, ◌∙◌}
+use Rattle.std.proofs.Common.{◌≡◌, ℕ, false, refl, sym, subst, ◌∙◌}
 use Rattle.leaf_copy_gc.specs.declared.lists.Moved.{Moved}
 use Rattle.task_machine.specs.declared.part.Private.{Private}
 use Rattle.shared_value.specs.SharedValue.{SharedValue}
@@ -19,10 +19,26 @@ pub enter_leaf_end-requires-clause-free : goal.enter_leaf_end-requires-clause-fr
 enter_leaf_end-requires-clause-free c =
     sym (first_is (the_view c.self.inside) c.args.self.now c.args.worker c.args.part.now c.args.moved c.self.invariant c.self.view_is c.requires.fits) ∙ (sym c.first_cause.ensures ∙ c.in-None.is)
 
-pub returns-in-Some-clause-refused : goal.returns-in-Some-clause-refused
-returns-in-Some-clause-refused c =
-    sym (sym (first_is (the_view c.self.inside) c.args.self.now c.args.worker c.args.part.now c.args.moved c.self.invariant c.self.view_is c.requires.fits) ∙ (sym c.first_cause.ensures ∙ c.in-Some.is))
+pub returns-in-Some : goal.returns-in-Some
+returns-in-Some c = record {
+  refused = sym c.in-Some.is ∙ (c.first_cause.ensures ∙ first_is (the_view c.self.inside) c.args.self.now c.args.worker c.args.part.now c.args.moved c.self.invariant c.self.view_is c.requires.fits);
+  same = refl;
+  back = refl;
+  moved = refl;
+  part = tt;
+  enters = tt;
+  fits = tt;
+  others = tt;
+}
 
-pub returns-in-None-clause-refused : goal.returns-in-None-clause-refused
-returns-in-None-clause-refused c =
-    sym (sym (first_is (the_view c.self.inside) c.args.self.now c.args.worker c.args.part.now c.args.moved c.self.invariant c.self.view_is c.requires.fits) ∙ (sym c.first_cause.ensures ∙ c.in-None.is))
+pub returns-in-None : goal.returns-in-None
+returns-in-None c = record {
+  refused = sym c.in-None.is ∙ (c.first_cause.ensures ∙ first_is (the_view c.self.inside) c.args.self.now c.args.worker c.args.part.now c.args.moved c.self.invariant c.self.view_is c.requires.fits);
+  same = tt;
+  back = tt;
+  moved = tt;
+  part = c.enter_leaf_end.ensures.part;
+  enters = c.enter_leaf_end.ensures.enters;
+  fits = c.enter_leaf_end.ensures.fits;
+  others = c.enter_leaf_end.ensures.others;
+}

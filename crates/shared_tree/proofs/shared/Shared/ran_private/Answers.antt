@@ -1,4 +1,4 @@
-use Rattle.std.proofs.Common.{◌≡◌, ◌<◌, ℕ, false, sym, subst, ◌∙◌}
+use Rattle.std.proofs.Common.{◌≡◌, ◌<◌, ℕ, false, refl, sym, subst, ◌∙◌}
 use Rattle.run_trace.specs.declared.entry.Kind.TheVariants.{Ran}
 use Rattle.task_machine.specs.declared.part.Private.{Private}
 use Rattle.shared_value.specs.SharedValue.{SharedValue}
@@ -19,10 +19,26 @@ pub enter_steps-requires-clause-free : goal.enter_steps-requires-clause-free
 enter_steps-requires-clause-free c =
     sym (first_is (the_view c.self.inside) c.args.self.now c.args.worker c.args.part.now c.self.invariant c.self.view_is c.requires.fits c.requires.fresh) ∙ (sym c.first_cause.ensures ∙ c.in_default.is)
 
-pub returns-in-Some-clause-refused : goal.returns-in-Some-clause-refused
-returns-in-Some-clause-refused c =
-    sym (sym (first_is (the_view c.self.inside) c.args.self.now c.args.worker c.args.part.now c.self.invariant c.self.view_is c.requires.fits c.requires.fresh) ∙ (sym c.first_cause.ensures ∙ c.in-Some.is))
+pub returns-in-Some : goal.returns-in-Some
+returns-in-Some c = record {
+  refused = sym c.in-Some.is ∙ (c.first_cause.ensures ∙ first_is (the_view c.self.inside) c.args.self.now c.args.worker c.args.part.now c.self.invariant c.self.view_is c.requires.fits c.requires.fresh);
+  same = refl;
+  back = refl;
+  enters = tt;
+  end = tt;
+  goes = tt;
+  fits = c.requires.fits;
+  others = tt;
+}
 
-pub returns-clause-refused : goal.returns-clause-refused
-returns-clause-refused c =
-    sym (sym (first_is (the_view c.self.inside) c.args.self.now c.args.worker c.args.part.now c.self.invariant c.self.view_is c.requires.fits c.requires.fresh) ∙ (sym c.first_cause.ensures ∙ c.in_default.is))
+pub returns : goal.returns
+returns c = record {
+  refused = sym c.in_default.is ∙ (c.first_cause.ensures ∙ first_is (the_view c.self.inside) c.args.self.now c.args.worker c.args.part.now c.self.invariant c.self.view_is c.requires.fits c.requires.fresh);
+  same = tt;
+  back = tt;
+  enters = c.enter_steps.ensures.enters;
+  end = c.enter_steps.ensures.end;
+  goes = c.begin_entry.ensures.changed;
+  fits = subst (λ (q : Private). Fits c.enter_steps.new.self c.args.worker q) (sym c.begin_entry.ensures.changed) c.enter_steps.ensures.fits;
+  others = c.enter_steps.ensures.others;
+}
