@@ -1,12 +1,11 @@
 // A worker takes a task, and steps are entered; or the run ends for spent fuel.
 
-ghost use Rattle.std.specs.Prelude.{◌≡◌, ◌<◌, OnErr, IfErr, IfOk, None};
-ghost use Rattle.shared_value.specs.Entered.{refused, Answers, RanAnswers};
-ghost use Rattle.shared_value.specs.Fits.{AllFit, Fits};
+ghost use Rattle.std.specs.Prelude.{◌≡◌, ◌<◌, None};
+ghost use Rattle.shared_value.specs.Entered.{refused};
+ghost use Rattle.shared_value.specs.Fits.{Fits};
 ghost use Rattle.own_steps.specs.Alone.{alone_event, IsShared};
-ghost use Rattle.child_tasks.specs.Joins.{IsUnchanged};
-ghost use Rattle.shared_tree.specs.Calls.{EndsForFuel, EntersSteps, TakesTask};
-ghost use Rattle.shared_tree.specs.Ran.{LeavesBy, LentTo, RanTo};
+ghost use Rattle.shared_tree.specs.Calls.{EndsForFuel, EntersLeaving, EntersLent, EntersSteps, TakesTask};
+ghost use Rattle.shared_tree.specs.Ran.{LeavesBy};
 
 use crate::counted::Counted;
 use run_ledger::Refused;
@@ -44,11 +43,7 @@ impl Counted {
         requires room { 0 < self.old.journal.room }
         requires fits { Fits self.old worker part.old }
         requires shared { IsShared self.old part.old }
-        ensures refused { Answers result (refused self.old (alone_event worker part.old)) }
-        ensures same { IfErr result (λ e. IsUnchanged e self.old self.new) }
-        ensures still { OnErr result (AllFit self.old self.new) }
-        ensures back { OnErr result (part.new ≡ part.old) }
-        ensures answered { IfOk result (LentTo self.old self.new worker part.old part.new) }
+        ensures { EntersLent self.old self.new worker part.old part.new result }
     {
         self.shared.stands();
         let lent = self.shared.ran_lent(worker, part)?;
@@ -74,11 +69,7 @@ impl Counted {
         requires shared { IsShared self.old part }
         requires free { refused self.old (alone_event worker part) ≡ None }
         requires leaves { LeavesBy self.old part leaving }
-        ensures refused { RanAnswers result None }
-        ensures same { IfErr result (λ e. IsUnchanged e.cause self.old self.new) }
-        ensures still { OnErr result (AllFit self.old self.new) }
-        ensures back { IfErr result (λ e. e.part ≡ part) }
-        ensures answered { IfOk result (RanTo self.old self.new worker part) }
+        ensures { EntersLeaving self.old self.new worker part result }
     {
         self.shared.stands();
         let ran = self.shared.ran_leaving(worker, part, leaving)?;

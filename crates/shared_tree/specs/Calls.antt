@@ -10,14 +10,20 @@ use Rattle.leaf_copy_gc.specs.declared.lists.Moved.{Moved}
 use Rattle.leaf_copy_gc.specs.declared.lists.ToChunks.{ToChunks}
 use Rattle.task_machine.specs.declared.part.Private.{Private}
 use Rattle.shared_value.specs.declared.answer.NotEntered.{NotEntered}
+use Rattle.shared_value.specs.declared.answer.NotRan.{NotRan}
 use Rattle.shared_value.specs.declared.task_at_rest.Rest.{Rest}
 use Rattle.shared_value.specs.SharedValue.{SharedValue, accounts, rest_at}
 use Rattle.shared_value.specs.Fits.{AllFit, Fits, OthersFit}
-use Rattle.shared_value.specs.Entered.{Answers, Enters, IsSamePart, cause_of, refused}
+use Rattle.shared_value.specs.Entered.{Answers, Enters, IsSamePart, RanAnswers, cause_of, refused}
 use Rattle.shared_value.specs.LeafBegin.{HasBegun}
+use Rattle.own_steps.specs.Alone.{alone_event}
+use Rattle.child_tasks.specs.Joins.{IsUnchanged}
 use Rattle.leaf_collections.specs.LeafEnd.{end_event, ended}
 use Rattle.shared_tree.specs.declared.leaf_end.NotEnded.{NotEnded}
+use Rattle.shared_tree.specs.declared.ran.Ran.{Ran as RanOf}
+use Rattle.shared_tree.specs.declared.ran_lent.Lent.{Lent}
 use Rattle.shared_tree.specs.Ends.{end_cause}
+use Rattle.shared_tree.specs.Ran.{LentTo, RanTo}
 
 -- ---- A TASK AND ITS STEPS
 
@@ -43,6 +49,23 @@ pub record EntersSteps (w after : SharedValue) (k : ℕ) (p q : Private) (answer
   pub goes : OnOk answer (q ≡ record p { fresh = 0 })
   pub fits : Fits after k q
   pub others : OnOk answer (OthersFit w after k)
+
+-- they are entered with its next one, which isn't private, where that one doesn't give the part up. Where it does, or memory is
+-- wanting, nothing is, though heaps and sets may have places for more
+pub record EntersLent (w after : SharedValue) (k : ℕ) (p q : Private) (answer : Result Lent NotEntered) : Type 0 where
+  pub refused : Answers answer (refused w (alone_event k p))
+  pub same : IfErr answer (λ (e : NotEntered). IsUnchanged e w after)
+  pub still : OnErr answer (AllFit w after)
+  pub back : OnErr answer (q ≡ p)
+  pub answered : IfOk answer (LentTo w after k p q)
+
+-- they are entered with its next one, which gives the part up: only memory can be wanting
+pub record EntersLeaving (w after : SharedValue) (k : ℕ) (p : Private) (answer : Result RanOf NotRan) : Type 0 where
+  pub refused : RanAnswers answer None
+  pub same : IfErr answer (λ (e : NotRan). IsUnchanged e.cause w after)
+  pub still : OnErr answer (AllFit w after)
+  pub back : IfErr answer (λ (e : NotRan). e.part ≡ p)
+  pub answered : IfOk answer (RanTo w after k p)
 
 -- the run ends, since its fuel is spent
 pub record EndsForFuel (w after : SharedValue) (k : ℕ) (answer : Result (Unit {0}) Refused) : Type 0 where

@@ -1,12 +1,12 @@
 // A part's steps are entered with one that isn't private, and in which no other task has part.
 
-ghost use Rattle.std.specs.Prelude.{◌≡◌, ◌≢◌, ◌<◌, ℕ, OnErr, OnOk, IfErr, IfOk, None};
+ghost use Rattle.std.specs.Prelude.{◌≡◌, ◌≢◌, ◌<◌, ℕ, OnErr, OnOk, IfOk, None};
 ghost use Rattle.hh_model.specs.Step.{ended_by, step};
-ghost use Rattle.shared_value.specs.Entered.{refused, Answers, RanAnswers};
-ghost use Rattle.shared_value.specs.Fits.{AllFit, Fits};
+ghost use Rattle.shared_value.specs.Entered.{refused, Answers};
+ghost use Rattle.shared_value.specs.Fits.{Fits};
 ghost use Rattle.own_steps.specs.Alone.{alone_event, then_accounts, FinishesAlone, GoesAlone, HaltsAlone, IsShared, Tells};
-ghost use Rattle.child_tasks.specs.Joins.{IsUnchanged};
-ghost use Rattle.shared_tree.specs.Ran.{AloneTo, MayBeEntered, RanTo};
+ghost use Rattle.shared_tree.specs.Calls.{EntersLeaving};
+ghost use Rattle.shared_tree.specs.Ran.{AloneTo, MayBeEntered};
 
 use crate::ran::Ran;
 use crate::ran_lent::{Leaving, Lent};
@@ -117,11 +117,7 @@ impl Shared {
         requires free { refused self.old (alone_event worker part) ≡ None }
         requires returns { (line : ℕ) × Tells self.old part Ending.Returns line }
         requires root { part.task ≡ 0 }
-        ensures refused { RanAnswers result None }
-        ensures same { IfErr result (λ e. IsUnchanged e.cause self.old self.new) }
-        ensures still { OnErr result (AllFit self.old self.new) }
-        ensures back { IfErr result (λ e. e.part ≡ part) }
-        ensures answered { IfOk result (RanTo self.old self.new worker part) }
+        ensures { EntersLeaving self.old self.new worker part result }
     {
         match rest_block(*self.sets.allocator()) {
             Ok(block) => {

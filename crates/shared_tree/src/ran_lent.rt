@@ -5,6 +5,7 @@ ghost use Rattle.shared_value.specs.Entered.{refused, Answers};
 ghost use Rattle.shared_value.specs.Fits.{AllFit, Fits};
 ghost use Rattle.own_steps.specs.Alone.{alone_event, IsShared};
 ghost use Rattle.child_tasks.specs.Joins.{IsUnchanged};
+ghost use Rattle.shared_tree.specs.Calls.{EntersLent};
 ghost use Rattle.shared_tree.specs.Ran.{ComesTo, IsJoint, LentTo, MayBeEntered};
 
 use crate::shared::Shared;
@@ -78,11 +79,7 @@ impl Shared {
         requires room { 0 < self.old.journal.room }
         requires fits { Fits self.old worker part.old }
         requires shared { IsShared self.old part.old }
-        ensures refused { Answers result (refused self.old (alone_event worker part.old)) }
-        ensures same { IfErr result (λ e. IsUnchanged e self.old self.new) }
-        ensures still { OnErr result (AllFit self.old self.new) }
-        ensures back { OnErr result (part.new ≡ part.old) }
-        ensures answered { IfOk result (LentTo self.old self.new worker part.old part.new) }
+        ensures { EntersLent self.old self.new worker part.old part.new result }
     {
         match self.ran_alone(worker, part)? {
             Some(lent) => Ok(lent),

@@ -1,12 +1,11 @@
-use Rattle.std.proofs.Common.{◌≡◌, None, sym, subst}
+use Rattle.std.proofs.Common.{Ok, sym, subst}
 use Rattle.task_machine.specs.declared.part.Private.{Private}
 use Rattle.shared_value.specs.SharedValue.{SharedValue}
-use Rattle.shared_value.specs.Entered.{refused, IsCaused}
-use Rattle.shared_value.specs.Fits.{AllFit, Fits}
+use Rattle.shared_value.specs.Fits.{Fits}
 use Rattle.own_steps.specs.Alone.{alone_event, IsShared}
-use Rattle.child_tasks.specs.Joins.{IsUnchanged}
+use Rattle.shared_tree.specs.Calls.{EntersLent}
 use Rattle.shared_tree.specs.Ran.{LeavesPart, LentTo}
-use Rattle.shared_tree.proofs.HandedOn.{failed, handed, handed_answer}
+use Rattle.shared_tree.proofs.HandedOn.{handed_on}
 use Rattle.counted_tree.specs.Counts.{KeepsCounts}
 use Rattle.counted_tree.proofs.EntryCounted.{is_made, lent_enters, unchanged_kept}
 use Rattle.counted_tree.proofs.counted.Counted.ran_lent.Goals as goal
@@ -20,18 +19,9 @@ ran_lent-requires-clause-shared c = subst (λ (z : SharedValue). IsShared z c.ar
 pub invariant_of-self : goal.invariant_of-self
 invariant_of-self c = unchanged_kept c.self.inside.shared c.ran_lent.new.self c.in_err-lent.field-0.0 c.self.inside.counts c.in_err-lent.ensures.same c.self.invariant
 
-pub returns-in_err-lent-clause-refused : goal.returns-in_err-lent-clause-refused
-returns-in_err-lent-clause-refused c =
-    handed_answer c.from_residual.result c.in_err-lent.field-0.0 (refused c.args.self.now (alone_event c.args.worker c.args.part.now)) c.from_residual.ensures.1
-    (subst (λ (z : SharedValue). IsCaused c.in_err-lent.field-0.0 (refused z (alone_event c.args.worker c.args.part.now))) c.self.view_is c.in_err-lent.ensures.refused)
-
-pub returns-in_err-lent-clause-same : goal.returns-in_err-lent-clause-same
-returns-in_err-lent-clause-same c =
-    handed c.from_residual.result c.in_err-lent.field-0.0 (λ e. IsUnchanged e c.args.self.now c.ran_lent.new.self) c.from_residual.ensures.1
-    (subst (λ (z : SharedValue). IsUnchanged c.in_err-lent.field-0.0 z c.ran_lent.new.self) c.self.view_is c.in_err-lent.ensures.same)
-
-pub returns-in_err-lent-clause-still : goal.returns-in_err-lent-clause-still
-returns-in_err-lent-clause-still c = failed c.from_residual.result (subst (λ (z : SharedValue). AllFit z c.ran_lent.new.self) c.self.view_is c.in_err-lent.ensures.still)
+pub returns-in_err-lent : goal.returns-in_err-lent
+returns-in_err-lent c =
+    handed_on (λ (z : SharedValue). EntersLent z c.ran_lent.new.self c.args.worker c.args.part.now c.ran_lent.new.part) c.self.inside.shared c.args.self.now c.self.view_is c.from_residual.result c.in_err-lent.field-0.0 c.from_residual.ensures.1 c.in_err-lent.ensures
 
 pub count-requires : goal.count-requires
 count-requires c =
@@ -40,11 +30,8 @@ count-requires c =
     let p : Private = c.args.part.now in
     is_made w v c.self.inside.counts (alone_event c.args.worker p) 0 c.stands.ensures (lent_enters w v c.args.worker p c.ran_lent.new.part c.in_ok-lent.lent c.in_default.not-Leaves c.in_ok-lent.ensures.answered) c.in_ok-lent.ensures.refused c.self.invariant tt
 
-pub returns-in_default-clause-refused : goal.returns-in_default-clause-refused
-returns-in_default-clause-refused c = subst (λ (z : SharedValue). refused z (alone_event c.args.worker c.args.part.now) ≡ None) c.self.view_is c.in_ok-lent.ensures.refused
-
-pub returns-in_default-clause-answered : goal.returns-in_default-clause-answered
-returns-in_default-clause-answered c = subst (λ (z : SharedValue). LentTo z c.ran_lent.new.self c.args.worker c.args.part.now c.ran_lent.new.part c.in_ok-lent.lent) c.self.view_is c.in_ok-lent.ensures.answered
+pub returns-in_default : goal.returns-in_default
+returns-in_default c = subst (λ (z : SharedValue). EntersLent z c.ran_lent.new.self c.args.worker c.args.part.now c.ran_lent.new.part (Ok c.in_ok-lent.lent)) c.self.view_is c.in_ok-lent.ensures
 
 pub invariant_of-self-in-Leaves : goal.invariant_of-self-in-Leaves
 invariant_of-self-in-Leaves c =
@@ -55,8 +42,5 @@ invariant_of-self-in-Leaves c =
     let a : LeavesPart w v p q c.in-Leaves.field-0 = subst (LentTo w v c.args.worker p q) c.in-Leaves.is c.in_ok-lent.ensures.answered in
     subst (λ (z : SharedValue). KeepsCounts z c.self.inside.counts) (sym a.same) c.self.invariant
 
-pub returns-in-Leaves-clause-refused : goal.returns-in-Leaves-clause-refused
-returns-in-Leaves-clause-refused c = subst (λ (z : SharedValue). refused z (alone_event c.args.worker c.args.part.now) ≡ None) c.self.view_is c.in_ok-lent.ensures.refused
-
-pub returns-in-Leaves-clause-answered : goal.returns-in-Leaves-clause-answered
-returns-in-Leaves-clause-answered c = subst (λ (z : SharedValue). LentTo z c.ran_lent.new.self c.args.worker c.args.part.now c.ran_lent.new.part c.in_ok-lent.lent) c.self.view_is c.in_ok-lent.ensures.answered
+pub returns-in-Leaves : goal.returns-in-Leaves
+returns-in-Leaves c = subst (λ (z : SharedValue). EntersLent z c.ran_lent.new.self c.args.worker c.args.part.now c.ran_lent.new.part (Ok c.in_ok-lent.lent)) c.self.view_is c.in_ok-lent.ensures

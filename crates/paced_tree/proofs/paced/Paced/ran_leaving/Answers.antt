@@ -1,14 +1,14 @@
-use Rattle.std.proofs.Common.{◌≡◌, ◌+◌, None, sym, subst, inr, ◌∙◌}
+use Rattle.std.proofs.Common.{◌≡◌, ◌+◌, None, Ok, sym, subst, inr, ◌∙◌}
 use Rattle.run_trace.specs.Entry.{EntryValue}
 use Rattle.run_trace.specs.declared.entry.Kind.TheVariants.{Ran}
 use Rattle.task_machine.specs.declared.part.Private.{Private}
 use Rattle.shared_value.specs.SharedValue.{SharedValue, accounts}
 use Rattle.shared_value.specs.Entered.{refused}
-use Rattle.shared_value.specs.Fits.{AllFit, Fits}
+use Rattle.shared_value.specs.Fits.{Fits}
 use Rattle.own_steps.specs.Alone.{alone_event, IsShared}
-use Rattle.child_tasks.specs.Joins.{IsUnchanged}
-use Rattle.shared_tree.specs.Ran.{LeavesBy, RanTo}
-use Rattle.shared_tree.proofs.HandedOn.{failed, handed, handed_steps}
+use Rattle.shared_tree.specs.Calls.{EntersLeaving}
+use Rattle.shared_tree.specs.Ran.{LeavesBy}
+use Rattle.shared_tree.proofs.HandedOn.{handed_on}
 use Rattle.counted_tree.proofs.EntryCounted.{ran_enters}
 use Rattle.paced_tree.specs.Owed.{KeepsNoted, KeepsPaces, NotesAt, Pays}
 use Rattle.paced_tree.proofs.Idle.{unchanged_kept}
@@ -30,19 +30,9 @@ ran_leaving-requires-clause-leaves c = subst (λ (z : SharedValue). LeavesBy z c
 pub invariant_of-self : goal.invariant_of-self
 invariant_of-self c = unchanged_kept c.get_mut-shared.result.now c.ran_leaving.new.self c.in_err-ran.field-0.0.cause c.self.inside.paces c.in_err-ran.ensures.same (subst (λ (z : SharedValue). KeepsPaces z c.self.inside.paces) (sym c.get_mut-shared.ensures.value) c.self.invariant)
 
-pub returns-in_err-ran-clause-refused : goal.returns-in_err-ran-clause-refused
-returns-in_err-ran-clause-refused c = handed_steps c.from_residual.result c.in_err-ran.field-0.0 None c.from_residual.ensures.1 c.in_err-ran.ensures.refused
-
-pub returns-in_err-ran-clause-same : goal.returns-in_err-ran-clause-same
-returns-in_err-ran-clause-same c =
-    handed c.from_residual.result c.in_err-ran.field-0.0 (λ e. IsUnchanged e.cause c.args.self.now c.ran_leaving.new.self) c.from_residual.ensures.1
-    (subst (λ (z : SharedValue). IsUnchanged c.in_err-ran.field-0.0.cause z c.ran_leaving.new.self) (c.get_mut-shared.ensures.value ∙ c.self.view_is) c.in_err-ran.ensures.same)
-
-pub returns-in_err-ran-clause-still : goal.returns-in_err-ran-clause-still
-returns-in_err-ran-clause-still c = failed c.from_residual.result (subst (λ (z : SharedValue). AllFit z c.ran_leaving.new.self) (c.get_mut-shared.ensures.value ∙ c.self.view_is) c.in_err-ran.ensures.still)
-
-pub returns-in_err-ran-clause-back : goal.returns-in_err-ran-clause-back
-returns-in_err-ran-clause-back c = handed c.from_residual.result c.in_err-ran.field-0.0 (λ e. e.part ≡ c.args.part) c.from_residual.ensures.1 c.in_err-ran.ensures.back
+pub returns-in_err-ran : goal.returns-in_err-ran
+returns-in_err-ran c =
+    handed_on (λ (z : SharedValue). EntersLeaving z c.ran_leaving.new.self c.args.worker c.args.part) c.get_mut-shared.result.now c.args.self.now (c.get_mut-shared.ensures.value ∙ c.self.view_is) c.from_residual.result c.in_err-ran.field-0.0 c.from_residual.ensures.1 c.in_err-ran.ensures
 
 pub invariant_of-self-2 : goal.invariant_of-self-2
 invariant_of-self-2 c =
@@ -55,5 +45,5 @@ invariant_of-self-2 c =
     (inr (subst (λ (z : SharedValue). Pays z e) (sym (c.get_mut-shared.ensures.value ∙ c.self.view_is)) c.requires.pays)) c.note_ran.ensures.many
     (subst (λ (z : SharedValue). (accounts z).end ≡ None → NotesAt c.self.inside.paces c.note_ran.new.paces c.args.worker (KeepsNoted (accounts z) (Ran p.task (p.fresh + 1)))) c.shared.ensures (λ on. c.note_ran.ensures.noted on (p.fresh + 1)))
 
-pub returns-clause-answered : goal.returns-clause-answered
-returns-clause-answered c = subst (λ (z : SharedValue). RanTo z c.ran_leaving.new.self c.args.worker c.args.part c.in_ok-ran.ran) (c.get_mut-shared.ensures.value ∙ c.self.view_is) c.in_ok-ran.ensures.answered
+pub returns : goal.returns
+returns c = subst (λ (z : SharedValue). EntersLeaving z c.ran_leaving.new.self c.args.worker c.args.part (Ok c.in_ok-ran.ran)) (c.get_mut-shared.ensures.value ∙ c.self.view_is) c.in_ok-ran.ensures

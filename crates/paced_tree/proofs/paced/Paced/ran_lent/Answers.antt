@@ -1,14 +1,13 @@
-use Rattle.std.proofs.Common.{◌≡◌, ◌+◌, None, sym, subst, inr, ◌∙◌}
+use Rattle.std.proofs.Common.{◌≡◌, ◌+◌, None, Ok, sym, subst, inr, ◌∙◌}
 use Rattle.run_trace.specs.Entry.{EntryValue}
 use Rattle.run_trace.specs.declared.entry.Kind.TheVariants.{Ran}
 use Rattle.task_machine.specs.declared.part.Private.{Private}
 use Rattle.shared_value.specs.SharedValue.{SharedValue, accounts}
-use Rattle.shared_value.specs.Entered.{refused, IsCaused}
-use Rattle.shared_value.specs.Fits.{AllFit, Fits}
+use Rattle.shared_value.specs.Fits.{Fits}
 use Rattle.own_steps.specs.Alone.{alone_event, IsShared}
-use Rattle.child_tasks.specs.Joins.{IsUnchanged}
+use Rattle.shared_tree.specs.Calls.{EntersLent}
 use Rattle.shared_tree.specs.Ran.{LeavesPart, LentTo}
-use Rattle.shared_tree.proofs.HandedOn.{failed, handed, handed_answer}
+use Rattle.shared_tree.proofs.HandedOn.{handed_on}
 use Rattle.counted_tree.proofs.EntryCounted.{lent_enters}
 use Rattle.paced_tree.specs.Owed.{KeepsNoted, KeepsPaces, NotesAt, Pays}
 use Rattle.paced_tree.proofs.Idle.{unchanged_kept}
@@ -24,18 +23,9 @@ ran_lent-requires-clause-shared c = subst (λ (z : SharedValue). IsShared z c.ar
 pub invariant_of-self : goal.invariant_of-self
 invariant_of-self c = unchanged_kept c.get_mut-shared.result.now c.ran_lent.new.self c.in_err-lent.field-0.0 c.self.inside.paces c.in_err-lent.ensures.same (subst (λ (z : SharedValue). KeepsPaces z c.self.inside.paces) (sym c.get_mut-shared.ensures.value) c.self.invariant)
 
-pub returns-in_err-lent-clause-refused : goal.returns-in_err-lent-clause-refused
-returns-in_err-lent-clause-refused c =
-    handed_answer c.from_residual.result c.in_err-lent.field-0.0 (refused c.args.self.now (alone_event c.args.worker c.args.part.now)) c.from_residual.ensures.1
-    (subst (λ (z : SharedValue). IsCaused c.in_err-lent.field-0.0 (refused z (alone_event c.args.worker c.args.part.now))) (c.get_mut-shared.ensures.value ∙ c.self.view_is) c.in_err-lent.ensures.refused)
-
-pub returns-in_err-lent-clause-same : goal.returns-in_err-lent-clause-same
-returns-in_err-lent-clause-same c =
-    handed c.from_residual.result c.in_err-lent.field-0.0 (λ e. IsUnchanged e c.args.self.now c.ran_lent.new.self) c.from_residual.ensures.1
-    (subst (λ (z : SharedValue). IsUnchanged c.in_err-lent.field-0.0 z c.ran_lent.new.self) (c.get_mut-shared.ensures.value ∙ c.self.view_is) c.in_err-lent.ensures.same)
-
-pub returns-in_err-lent-clause-still : goal.returns-in_err-lent-clause-still
-returns-in_err-lent-clause-still c = failed c.from_residual.result (subst (λ (z : SharedValue). AllFit z c.ran_lent.new.self) (c.get_mut-shared.ensures.value ∙ c.self.view_is) c.in_err-lent.ensures.still)
+pub returns-in_err-lent : goal.returns-in_err-lent
+returns-in_err-lent c =
+    handed_on (λ (z : SharedValue). EntersLent z c.ran_lent.new.self c.args.worker c.args.part.now c.ran_lent.new.part) c.get_mut-shared.result.now c.args.self.now (c.get_mut-shared.ensures.value ∙ c.self.view_is) c.from_residual.result c.in_err-lent.field-0.0 c.from_residual.ensures.1 c.in_err-lent.ensures
 
 pub invariant_of-self-in_default : goal.invariant_of-self-in_default
 invariant_of-self-in_default c =
@@ -48,11 +38,8 @@ invariant_of-self-in_default c =
     (inr (subst (λ (z : SharedValue). Pays z e) (sym (c.get_mut-shared.ensures.value ∙ c.self.view_is)) c.requires.pays)) c.note_ran.ensures.many
     (subst (λ (z : SharedValue). (accounts z).end ≡ None → NotesAt c.self.inside.paces c.note_ran.new.paces c.args.worker (KeepsNoted (accounts z) (Ran p.task (p.fresh + 1)))) c.shared.ensures (λ on. c.note_ran.ensures.noted on (p.fresh + 1)))
 
-pub returns-in_default-clause-refused : goal.returns-in_default-clause-refused
-returns-in_default-clause-refused c = subst (λ (z : SharedValue). refused z (alone_event c.args.worker c.args.part.now) ≡ None) (c.get_mut-shared.ensures.value ∙ c.self.view_is) c.in_ok-lent.ensures.refused
-
-pub returns-in_default-clause-answered : goal.returns-in_default-clause-answered
-returns-in_default-clause-answered c = subst (λ (z : SharedValue). LentTo z c.ran_lent.new.self c.args.worker c.args.part.now c.ran_lent.new.part c.in_ok-lent.lent) (c.get_mut-shared.ensures.value ∙ c.self.view_is) c.in_ok-lent.ensures.answered
+pub returns-in_default : goal.returns-in_default
+returns-in_default c = subst (λ (z : SharedValue). EntersLent z c.ran_lent.new.self c.args.worker c.args.part.now c.ran_lent.new.part (Ok c.in_ok-lent.lent)) (c.get_mut-shared.ensures.value ∙ c.self.view_is) c.in_ok-lent.ensures
 
 pub invariant_of-self-in-Leaves : goal.invariant_of-self-in-Leaves
 invariant_of-self-in-Leaves c =
@@ -63,8 +50,5 @@ invariant_of-self-in-Leaves c =
     let a : LeavesPart w v p q c.in-Leaves.field-0 = subst (LentTo w v c.args.worker p q) c.in-Leaves.is c.in_ok-lent.ensures.answered in
     subst (λ (z : SharedValue). KeepsPaces z c.self.inside.paces) (sym (a.same ∙ c.get_mut-shared.ensures.value)) c.self.invariant
 
-pub returns-in-Leaves-clause-refused : goal.returns-in-Leaves-clause-refused
-returns-in-Leaves-clause-refused c = subst (λ (z : SharedValue). refused z (alone_event c.args.worker c.args.part.now) ≡ None) (c.get_mut-shared.ensures.value ∙ c.self.view_is) c.in_ok-lent.ensures.refused
-
-pub returns-in-Leaves-clause-answered : goal.returns-in-Leaves-clause-answered
-returns-in-Leaves-clause-answered c = subst (λ (z : SharedValue). LentTo z c.ran_lent.new.self c.args.worker c.args.part.now c.ran_lent.new.part c.in_ok-lent.lent) (c.get_mut-shared.ensures.value ∙ c.self.view_is) c.in_ok-lent.ensures.answered
+pub returns-in-Leaves : goal.returns-in-Leaves
+returns-in-Leaves c = subst (λ (z : SharedValue). EntersLent z c.ran_lent.new.self c.args.worker c.args.part.now c.ran_lent.new.part (Ok c.in_ok-lent.lent)) (c.get_mut-shared.ensures.value ∙ c.self.view_is) c.in_ok-lent.ensures

@@ -1,13 +1,13 @@
-use Rattle.std.proofs.Common.{◌≡◌, None, subst}
-use Rattle.std.specs.Result.{IfErr, IfOk, OnErr}
+use Rattle.std.proofs.Common.{◌≡◌, None, Err, refl, sym, subst}
 use Rattle.task_machine.specs.declared.part.Private.{Private}
+use Rattle.shared_value.specs.declared.answer.NotEntered.{NotEntered}
 use Rattle.shared_value.specs.SharedValue.{SharedValue}
-use Rattle.shared_value.specs.Entered.{refused}
-use Rattle.shared_value.specs.Fits.{AllFit, Fits}
+use Rattle.shared_value.specs.Entered.{Answers, refused}
+use Rattle.shared_value.specs.Fits.{Fits}
 use Rattle.own_steps.specs.Alone.{IsBeyond, IsShared, alone_event}
-use Rattle.child_tasks.specs.Joins.{IsUnchanged}
-use Rattle.shared_tree.specs.Ran.{AloneTo, IsJoint, LentTo}
-use Rattle.shared_tree.proofs.HandedOn.{failed, handed, handed_answer}
+use Rattle.shared_tree.specs.Calls.{EntersLent}
+use Rattle.shared_tree.specs.Ran.{AloneTo, IsJoint}
+use Rattle.shared_tree.proofs.HandedOn.{handed_on}
 use Rattle.shared_tree.proofs.Joints.{before_same, fit_by, same_by, then_same}
 use Rattle.shared_tree.proofs.shared.Shared.ran_lent.Goals as goal
 
@@ -47,57 +47,44 @@ lent_joint-requires-clause-joint c =
     let B : IsBeyond w after p q = subst (AloneTo w after c.args.worker p q) c.in-None.is c.in_ok-lent.ensures.answered in
     then_same w after p q B.same B.part (λ z r. IsJoint z r) B.beyond
 
-pub returns-in-Some-clause-answered : goal.returns-in-Some-clause-answered
-returns-in-Some-clause-answered c =
-    let w : SharedValue = c.args.self.now in
-    let after : SharedValue = c.ran_alone.new.self in
-    subst (AloneTo w after c.args.worker c.args.part.now c.ran_alone.new.part) c.in-Some.is c.in_ok-lent.ensures.answered
+pub returns-in-Some : goal.returns-in-Some
+returns-in-Some c = record {
+  refused = c.in_ok-lent.ensures.refused;
+  same = tt;
+  still = tt;
+  back = tt;
+  answered = subst (AloneTo c.args.self.now c.ran_alone.new.self c.args.worker c.args.part.now c.ran_alone.new.part) c.in-Some.is c.in_ok-lent.ensures.answered;
+}
 
-pub returns-in-None-clause-same : goal.returns-in-None-clause-same
-returns-in-None-clause-same c =
-    let w : SharedValue = c.args.self.now in
-    let after : SharedValue = c.ran_alone.new.self in
-    let p : Private = c.args.part.now in
-    let q : Private = c.ran_alone.new.part in
-    let B : IsBeyond w after p q = subst (AloneTo w after c.args.worker p q) c.in-None.is c.in_ok-lent.ensures.answered in
-    before_same w after p q B.same B.part (λ z r. IfErr c.lent_joint.result (λ e. IsUnchanged e z c.lent_joint.new.self)) c.lent_joint.ensures.same
-
-pub returns-in-None-clause-still : goal.returns-in-None-clause-still
-returns-in-None-clause-still c =
+pub returns-in-None : goal.returns-in-None
+returns-in-None c =
     let w : SharedValue = c.args.self.now in
     let after : SharedValue = c.ran_alone.new.self in
     let p : Private = c.args.part.now in
     let q : Private = c.ran_alone.new.part in
     let B : IsBeyond w after p q = subst (AloneTo w after c.args.worker p q) c.in-None.is c.in_ok-lent.ensures.answered in
-    before_same w after p q B.same B.part (λ z r. OnErr c.lent_joint.result (AllFit z c.lent_joint.new.self)) c.lent_joint.ensures.still
+    let free : refused after (alone_event c.args.worker q) ≡ None = then_same w after p q B.same B.part (λ z r. refused z (alone_event c.args.worker r) ≡ None) c.in_ok-lent.ensures.refused in
+    let joint : EntersLent after c.lent_joint.new.self c.args.worker q c.lent_joint.new.part c.lent_joint.result = record {
+      refused = subst (Answers c.lent_joint.result) (sym free) c.lent_joint.ensures.refused;
+      same = c.lent_joint.ensures.same;
+      still = c.lent_joint.ensures.still;
+      back = c.lent_joint.ensures.back;
+      answered = c.lent_joint.ensures.answered;
+    } in
+    before_same w after p q B.same B.part (λ z r. EntersLent z c.lent_joint.new.self c.args.worker r c.lent_joint.new.part c.lent_joint.result) joint
 
-pub returns-in-None-clause-back : goal.returns-in-None-clause-back
-returns-in-None-clause-back c =
+pub returns-in_err-lent : goal.returns-in_err-lent
+returns-in_err-lent c =
     let w : SharedValue = c.args.self.now in
     let after : SharedValue = c.ran_alone.new.self in
     let p : Private = c.args.part.now in
     let q : Private = c.ran_alone.new.part in
-    let B : IsBeyond w after p q = subst (AloneTo w after c.args.worker p q) c.in-None.is c.in_ok-lent.ensures.answered in
-    before_same w after p q B.same B.part (λ z r. OnErr c.lent_joint.result (c.lent_joint.new.part ≡ r)) c.lent_joint.ensures.back
-
-pub returns-in-None-clause-answered : goal.returns-in-None-clause-answered
-returns-in-None-clause-answered c =
-    let w : SharedValue = c.args.self.now in
-    let after : SharedValue = c.ran_alone.new.self in
-    let p : Private = c.args.part.now in
-    let q : Private = c.ran_alone.new.part in
-    let B : IsBeyond w after p q = subst (AloneTo w after c.args.worker p q) c.in-None.is c.in_ok-lent.ensures.answered in
-    before_same w after p q B.same B.part (λ z r. IfOk c.lent_joint.result (LentTo z c.lent_joint.new.self c.args.worker r c.lent_joint.new.part)) c.lent_joint.ensures.answered
-
-pub returns-in_err-lent-clause-refused : goal.returns-in_err-lent-clause-refused
-returns-in_err-lent-clause-refused c =
-    handed_answer c.from_residual.result c.in_err-lent.field-0.0 (refused c.args.self.now (alone_event c.args.worker c.args.part.now)) c.from_residual.ensures.1 c.in_err-lent.ensures.refused
-
-pub returns-in_err-lent-clause-same : goal.returns-in_err-lent-clause-same
-returns-in_err-lent-clause-same c =
-    let w : SharedValue = c.args.self.now in
-    let after : SharedValue = c.ran_alone.new.self in
-    handed c.from_residual.result c.in_err-lent.field-0.0 (λ e. IsUnchanged e w after) c.from_residual.ensures.1 (same_by w after c.in_err-lent.field-0.0 c.in_err-lent.ensures.same)
-
-pub returns-in_err-lent-clause-still : goal.returns-in_err-lent-clause-still
-returns-in_err-lent-clause-still c = failed c.from_residual.result (fit_by c.args.self.now c.ran_alone.new.self c.in_err-lent.ensures.same)
+    let e : NotEntered = c.in_err-lent.field-0.0 in
+    let failed : EntersLent w after c.args.worker p q (Err e) = record {
+      refused = c.in_err-lent.ensures.refused;
+      same = same_by w after e c.in_err-lent.ensures.same;
+      still = fit_by w after c.in_err-lent.ensures.same;
+      back = c.in_err-lent.ensures.back;
+      answered = tt;
+    } in
+    handed_on (λ (z : SharedValue). EntersLent z after c.args.worker p q) w w refl c.from_residual.result e c.from_residual.ensures.1 failed
