@@ -2,10 +2,6 @@
 use Rattle.std.specs.Prelude.{◌≡◌, ℕ, ◌+◌, List, ◌++◌, Option, Some, None, length, take}
 use Rattle.outside_io.specs.Told.{Gives, with_more}
 
--- the most bytes that are ever read
-abbrev pub most_bytes : ℕ
-most_bytes = 16777216
-
 -- the bytes that a source tells: those of the file, or, where none is named, those that are left
 abbrev pub source_bytes : Option (List ℕ) → (List ℕ → Option (List ℕ)) → Option (List ℕ) → Option (List ℕ)
 source_bytes left named None = left

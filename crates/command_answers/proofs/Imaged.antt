@@ -1,6 +1,7 @@
 -- What is answered of the heaps that a trace leaves.
 use Rattle.std.proofs.Common.{◌≡◌, ◌∙◌, ◌≤◌, ℕ, List, refl, sym, ap, subst, length}
 use Rattle.std.specs.Prelude.{Option, Some, None}
+use Rattle.text_lines.specs.Lines.{most_bytes}
 use Rattle.hh_lang.specs.Form.{ProgramText}
 use Rattle.run_trace.specs.Entry.{EntryValue}
 use Rattle.run_trace.specs.Settings.{SettingsValue}
@@ -14,7 +15,7 @@ use Rattle.run_ledger.specs.Journals.{refused_as_run}
 use Rattle.shared_value.specs.SharedValue.{SharedValue, accounts}
 use Rattle.shared_value.specs.Stands.{IsSharedValue}
 use Rattle.image_check.specs.declared.cause.Fault.{Fault}
-use Rattle.image_check.specs.Fault.{image_fault, image_limit, objects_in}
+use Rattle.image_check.specs.Fault.{image_fault, objects_in}
 use Rattle.heap_image.specs.Text.{text_of}
 use Rattle.heap_image.proofs.Faultless.{sound_is_faultless}
 use Rattle.refusal_lines.specs.declared.refusal.Refusal.TheVariants.{Entry}
@@ -77,10 +78,10 @@ module _ (Q : Type 0) (s : SettingsValue) (a : Answer) (done : a.status ≡ Done
       let l = limits_for s t in
       whole t.program l t.trace.entries (refused_as_run t.program l t.trace.entries) h.2
 
-verified : (p : ProgramText) (l : SettingsValue) (entries : List EntryValue) (a b : Answer) → length a.bytes ≤ image_limit → AnswersImage (image_fault a.bytes) (objects_in a.bytes) b → IsImaged p l entries a → b.status ≡ Done
+verified : (p : ProgramText) (l : SettingsValue) (entries : List EntryValue) (a b : Answer) → length a.bytes ≤ most_bytes → AnswersImage (image_fault a.bytes) (objects_in a.bytes) b → IsImaged p l entries a → b.status ≡ Done
 verified p l entries a b fits h is =
     let same : a.bytes ≡ text_of is.shows.picture = is.text.written ∙ is.shows.written in
-    let none : image_fault a.bytes ≡ None = subst (λ x. length x ≤ image_limit → image_fault x ≡ None) (sym same) (sound_is_faultless is.shows.picture is.shows.sound).fits fits in
+    let none : image_fault a.bytes ≡ None = subst (λ x. length x ≤ most_bytes → image_fault x ≡ None) (sym same) (sound_is_faultless is.shows.picture is.shows.sound).fits fits in
     (subst (λ (f : Option Fault). AnswersImage f (objects_in a.bytes) b) none h).status
 
 pub images_are_verified : ImagesAreVerified

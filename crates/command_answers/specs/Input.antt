@@ -1,11 +1,11 @@
 -- The inputs of commands: whose bytes they are, and how many of them are read at most.
 use Rattle.std.specs.Prelude.{ℕ, Bool, true, false, List, [], Option, Some, None, Result, Err, length, nat_le, if◌then◌else◌}
+use Rattle.text_lines.specs.Lines.{most_bytes}
 use Rattle.all_bytes.specs.Bytes.{source_bytes}
 use Rattle.hh_lang.specs.Form.{ProgramText}
 use Rattle.program_reader.specs.declared.cause.Refused.{Refused}
 use Rattle.program_reader.specs.Program.{reading_of}
-use Rattle.trace_input.specs.Input.{too_long, trace_limit}
-use Rattle.image_check.specs.Fault.{image_limit}
+use Rattle.trace_input.specs.Input.{too_long}
 use Rattle.command_line.specs.declared.line.CommandLine.{CommandLine}
 use Rattle.command_line.specs.declared.line.CommandLine.TheVariants.{Check, Run, Replay, Model, Races, Image, Make, Verify}
 
@@ -20,12 +20,12 @@ program_in input = if nat_le (length input) program_limit then reading_of input 
 abbrev pub limit_of : CommandLine → ℕ
 limit_of (Check file) = program_limit
 limit_of (Run file options) = program_limit
-limit_of (Replay file options) = trace_limit
-limit_of (Model file options) = trace_limit
-limit_of (Races file limits) = trace_limit
-limit_of (Image file limits) = trace_limit
+limit_of (Replay file options) = most_bytes
+limit_of (Model file options) = most_bytes
+limit_of (Races file limits) = most_bytes
+limit_of (Image file limits) = most_bytes
 limit_of (Make seed size run) = 0
-limit_of (Verify file) = image_limit
+limit_of (Verify file) = most_bytes
 
 -- whether a command reads an input
 abbrev pub is_reading : CommandLine → Bool

@@ -1,5 +1,6 @@
 -- What the answers come to.
 use Rattle.std.specs.Prelude.{◌≡◌, ◌≢◌, ◌≤◌, ◌⊎◌, Bool, List, ℕ, Option, Some, true, length}
+use Rattle.text_lines.specs.Lines.{most_bytes}
 use Rattle.outside_io.specs.Told.{with_more}
 use Rattle.hh_lang.specs.Form.{ProgramText}
 use Rattle.program_reader.specs.declared.cause.Refused.{Refused}
@@ -9,7 +10,6 @@ use Rattle.run_trace.specs.Settings.{SettingsValue}
 use Rattle.trace_input.specs.declared.input.InputFault.TheVariants.{Source as SourceFault}
 use Rattle.trace_input.specs.Input.{input_fault}
 use Rattle.run_ledger.specs.declared.data.RunEnd.{RunEnd}
-use Rattle.image_check.specs.Fault.{image_limit}
 use Rattle.command_line.specs.declared.line.Options.{Options}
 use Rattle.command_line.specs.declared.line.CommandLine.{CommandLine}
 use Rattle.command_line.specs.declared.line.CommandLine.TheVariants.{Run, Replay, Model, Image, Make}
@@ -81,7 +81,7 @@ TracesAreDrawn =
 -- what `image` writes of a whole run is verified by `verify`, unless it is too long for it
 abbrev pub ImagesAreVerified : Type 0
 ImagesAreVerified =
-    (s : SettingsValue) (input : List ℕ) (a b : Answer) → AnswersImaging s input a → a.status ≡ Done → length a.bytes ≤ image_limit → AnswersVerify a.bytes b → b.status ≡ Done
+    (s : SettingsValue) (input : List ℕ) (a b : Answer) → AnswersImaging s input a → a.status ≡ Done → length a.bytes ≤ most_bytes → AnswersVerify a.bytes b → b.status ≡ Done
 
 -- two answers write the same, with the same status
 pub record AreAlike (a b : Answer) : Type 0 where

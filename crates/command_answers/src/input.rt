@@ -1,18 +1,19 @@
 // Reads an input.
 
 ghost use Rattle.std.specs.Prelude.{◌≡◌, ◌≤◌, ◌+◌, true, false, length, drop, option_map, IfOk, OnOk, IfErr, Some, List, ℕ};
+ghost use Rattle.text_lines.specs.Lines.{most_bytes};
 ghost use Rattle.outside_io.specs.Fault.{HasRisen};
-ghost use Rattle.all_bytes.specs.Bytes.{input_of, most_bytes, source_bytes};
+ghost use Rattle.all_bytes.specs.Bytes.{input_of, source_bytes};
 ghost use Rattle.command_answers.specs.Input.{limit_of, is_reading, program_in, source_bytes_for};
 
 use all_bytes::{ReadError, read_file};
 use command_line::{CommandLine, FileName};
 use hh_lang::Program;
-use image_check::IMAGE_LIMIT;
 use outside_io::Source;
 use program_reader::{Refused, read_program};
 use std::alloc::{AllocError, Global};
-use trace_input::{TOO_LONG, TRACE_LIMIT};
+use text_lines::MOST_BYTES;
+use trace_input::TOO_LONG;
 
 /// The most bytes of a program's text.
 const PROGRAM_LIMIT: usize = 1048576;
@@ -68,15 +69,15 @@ pub fn read_input<S: Source>(
     match line {
         CommandLine::Check { file } => read_named(alloc, source, file, PROGRAM_LIMIT),
         CommandLine::Run { file, options: _ } => read_named(alloc, source, file, PROGRAM_LIMIT),
-        CommandLine::Replay { file, options: _ } => read_named(alloc, source, file, TRACE_LIMIT),
-        CommandLine::Model { file, options: _ } => read_named(alloc, source, file, TRACE_LIMIT),
-        CommandLine::Races { file, settings: _ } => read_named(alloc, source, file, TRACE_LIMIT),
-        CommandLine::Image { file, settings: _ } => read_named(alloc, source, file, TRACE_LIMIT),
+        CommandLine::Replay { file, options: _ } => read_named(alloc, source, file, MOST_BYTES),
+        CommandLine::Model { file, options: _ } => read_named(alloc, source, file, MOST_BYTES),
+        CommandLine::Races { file, settings: _ } => read_named(alloc, source, file, MOST_BYTES),
+        CommandLine::Image { file, settings: _ } => read_named(alloc, source, file, MOST_BYTES),
         CommandLine::Make {
             seed: _,
             size: _,
             run: _,
         } => Ok(Vec::new(alloc)),
-        CommandLine::Verify { file } => read_named(alloc, source, file, IMAGE_LIMIT),
+        CommandLine::Verify { file } => read_named(alloc, source, file, MOST_BYTES),
     }
 }

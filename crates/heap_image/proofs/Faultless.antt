@@ -3,14 +3,14 @@ use Rattle.std.proofs.Common.{◌≡◌, ◌<◌, ◌≤◌, ◌+◌, ◌-◌, �
 use Rattle.std.specs.Prelude.{None, nat_le}
 use Rattle.std.proofs.lemmas.List.{length-map}
 use Rattle.listed.specs.Members.{In}
-use Rattle.text_lines.specs.Lines.{lines_of}
+use Rattle.text_lines.specs.Lines.{lines_of, most_bytes}
 use Rattle.image_check.specs.declared.line.Said.{Said}
 use Rattle.image_check.specs.declared.line.Said.TheVariants.{Nothing, Title, OfTask, OfChunk, OfRemembered, OfEnd}
 use Rattle.image_check.specs.declared.read.Read.{Read}
 use Rattle.image_check.specs.declared.whole.Whole.{Whole}
 use Rattle.image_check.specs.Line.{said_by}
 use Rattle.image_check.specs.Read.{nothing_read, nothing_had, after_line, whole_of}
-use Rattle.image_check.specs.Fault.{cause_on, or_later, lines_fault, image_limit, objects_in}
+use Rattle.image_check.specs.Fault.{cause_on, or_later, lines_fault, objects_in}
 use Rattle.heap_image.specs.declared.picture.Picked.{Picked}
 use Rattle.heap_image.specs.declared.picture.Picture.{Picture}
 use Rattle.heap_image.specs.Picture.{Rises, ObjectBefore, IsSoundPicture}
@@ -120,7 +120,7 @@ module _ (p : Picture) (s : IsSoundPicture p) where
 
 pub sound_is_faultless : SoundIsFaultless
 sound_is_faultless p s = record {
-  fits = λ h. let e : nat_le (length (text_of p)) image_limit ≡ true = grind (arith, h) in rw e (no_fault p s);
-  long = λ h. let e : nat_le (length (text_of p)) image_limit ≡ false = grind (arith, h) in rw e refl;
+  fits = λ h. let e : nat_le (length (text_of p)) most_bytes ≡ true = grind (arith, h) in rw e (no_fault p s);
+  long = λ h. let e : nat_le (length (text_of p)) most_bytes ≡ false = grind (arith, h) in rw e refl;
   counted = counted p s;
 }

@@ -1,11 +1,11 @@
 -- What the text of a picture says, and what the verifier says of it.
 use Rattle.std.specs.Prelude.{◌≡◌, ◌<◌, ◌≤◌, Some, None, List, [], ◌∷◌, ◌++◌, length, map}
-use Rattle.text_lines.specs.Lines.{lines_of}
+use Rattle.text_lines.specs.Lines.{lines_of, most_bytes}
 use Rattle.image_check.specs.declared.line.Object.{Object}
 use Rattle.image_check.specs.declared.line.Said.{Said}
 use Rattle.image_check.specs.declared.line.Said.TheVariants.{Nothing, Title, OfTask, OfChunk, OfObject, OfRemembered, OfEnd}
 use Rattle.image_check.specs.Line.{said_by}
-use Rattle.image_check.specs.Fault.{image_fault, image_limit, too_long, objects_in}
+use Rattle.image_check.specs.Fault.{image_fault, too_long, objects_in}
 use Rattle.heap_image.specs.declared.picture.Picked.{Picked}
 use Rattle.heap_image.specs.declared.picture.Picture.{Picture}
 use Rattle.heap_image.specs.Form.{IsLong, IsInForm}
@@ -35,8 +35,8 @@ PicturesAreRead = (p : Picture) → IsInForm p → IsLong (length p.objects) →
 
 -- the verifier finds no fault in the text of a picture, but that it may be too long, and counts its objects
 pub record IsFaultless (p : Picture) : Type 0 where
-  pub fits : length (text_of p) ≤ image_limit → image_fault (text_of p) ≡ None
-  pub long : image_limit < length (text_of p) → image_fault (text_of p) ≡ Some too_long
+  pub fits : length (text_of p) ≤ most_bytes → image_fault (text_of p) ≡ None
+  pub long : most_bytes < length (text_of p) → image_fault (text_of p) ≡ Some too_long
   pub counted : objects_in (text_of p) ≡ length p.objects
 
 abbrev pub SoundIsFaultless : Type 0

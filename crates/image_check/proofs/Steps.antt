@@ -3,7 +3,7 @@ use Rattle.std.proofs.Common.{◌≡◌, ◌<◌, ◌+◌, ℕ, zero, suc, Bool,
 use Rattle.std.specs.Prelude.{length, nat_le, Option, Some, None, ◌&&◌, not}
 use Rattle.std.specs.List.{list_any}
 use Rattle.std.proofs.lemmas.Bool.{or_parts}
-use Rattle.text_lines.specs.Lines.{is_last}
+use Rattle.text_lines.specs.Lines.{is_last, most_bytes}
 use Rattle.image_check.specs.declared.line.Chunk.{Chunk}
 use Rattle.image_check.specs.declared.line.Object.{Object}
 use Rattle.image_check.specs.declared.line.Said.{Said}
@@ -18,7 +18,7 @@ use Rattle.image_check.specs.Line.{said_by}
 use Rattle.image_check.specs.Sets.{is_among, same_birth}
 use Rattle.image_check.specs.Read.{position, position_of, rises, after_line, last_after}
 use Rattle.image_check.specs.Tasks.{is_running, chunk_at}
-use Rattle.image_check.specs.Fault.{has_wrong_place, is_misplaced, is_end, breaks_form, cause_by, cause_on, or_later, fault_from, lines_fault, image_fault, image_limit, too_long, after_lines, is_astray, crosses, forgets, is_crowded, object_cause_in, references_cause}
+use Rattle.image_check.specs.Fault.{has_wrong_place, is_misplaced, is_end, breaks_form, cause_by, cause_on, or_later, fault_from, lines_fault, image_fault, too_long, after_lines, is_astray, crosses, forgets, is_crowded, object_cause_in, references_cause}
 use Rattle.image_check.specs.Sound.{LineSays}
 
 -- BOOLEANS
@@ -33,7 +33,7 @@ faultless_by false o e = absurd (cc)
 
 -- a text without a fault has none on its lines
 pub faultless : (text : List ℕ) → image_fault text ≡ None → lines_fault text ≡ None
-faultless text e = faultless_by (nat_le (length text) image_limit) (lines_fault text) e
+faultless text e = faultless_by (nat_le (length text) most_bytes) (lines_fault text) e
 
 later_none : (o : Option Cause) (n : ℕ) (later : Option Fault) → or_later o n later ≡ None → (o ≡ None) × (later ≡ None)
 later_none None n later e = (refl, e)

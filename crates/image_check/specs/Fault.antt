@@ -1,7 +1,7 @@
 -- The first fault of an image.
 use Rattle.std.specs.Prelude.{◌≡◌, ◌<◌, ℕ, ◌+◌, ◌==◌, ◌&&◌, ◌||◌, Bool, true, false, not, Option, Some, None, Result, Ok, Err, List, [], ◌∷◌, length, nat_lt, nat_le, if◌then◌else◌}
 use Rattle.std.specs.List.{list_any}
-use Rattle.text_lines.specs.Lines.{is_last, lines_of}
+use Rattle.text_lines.specs.Lines.{is_last, lines_of, most_bytes}
 use Rattle.image_check.specs.declared.line.Chunk.{Chunk}
 use Rattle.image_check.specs.declared.line.Object.{Object}
 use Rattle.image_check.specs.declared.line.Remembered.{Remembered}
@@ -176,17 +176,13 @@ fault_from w r n (l ∷ ls) = or_later (cause_on w r (is_last ls) (said_by l)) n
 abbrev pub lines_fault : List ℕ → Option Fault
 lines_fault text = fault_from (whole_of text) nothing_read 1 (lines_of text)
 
--- the most bytes of a text
-abbrev pub image_limit : ℕ
-image_limit = 16777216
-
 -- more bytes than the limit
 abbrev pub too_long : Fault
 too_long = record { line = 0; cause = TooLong }
 
 -- the first fault of a text
 abbrev pub image_fault : List ℕ → Option Fault
-image_fault text = if nat_le (length text) image_limit then lines_fault text else Some too_long
+image_fault text = if nat_le (length text) most_bytes then lines_fault text else Some too_long
 
 -- OBJECTS
 

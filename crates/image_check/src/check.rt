@@ -1,10 +1,10 @@
 // Checks images.
 
 ghost use Rattle.std.specs.Prelude.{◌≡◌, ◌≤◌, length, IfOk, IfErr, IfNone, IsErr, IsOkAnd, MatchResult, Some, None};
-ghost use Rattle.text_lines.specs.Lines.{lines_of};
+ghost use Rattle.text_lines.specs.Lines.{lines_of, most_bytes};
 ghost use Rattle.image_check.specs.Line.{said_by};
 ghost use Rattle.image_check.specs.Read.{after_line, nothing_had, nothing_read, whole_of};
-ghost use Rattle.image_check.specs.Fault.{cause_on, fault_from, after_lines, lines_fault, image_fault, image_limit, too_long, objects_in, Answers, Fails};
+ghost use Rattle.image_check.specs.Fault.{cause_on, fault_from, after_lines, lines_fault, image_fault, too_long, objects_in, Answers, Fails};
 
 use crate::cause::{Cause, Fault};
 use crate::faults::first_cause;
@@ -12,10 +12,7 @@ use crate::line::read_line;
 use crate::read::Read;
 use crate::whole::Whole;
 use std::alloc::{AllocError, Global};
-use text_lines::next_line;
-
-/// The most bytes of an image.
-pub const IMAGE_LIMIT: usize = 16777216;
+use text_lines::{MOST_BYTES, next_line};
 
 /// A text of more bytes.
 const TOO_LONG: Fault = Fault {
@@ -60,7 +57,7 @@ fn check_lines(
     read: &mut Read,
     text: &[u8],
 ) -> Result<Option<Fault>, AllocError>
-    requires { length text.now ≤ image_limit }
+    requires { length text.now ≤ most_bytes }
     ensures fault { IfOk result (λ fault. fault ≡ fault_from whole.now read.old 1 (lines_of text.now)) }
     ensures read { IfOk result (λ fault. IfNone fault (read.new ≡ after_lines read.old (lines_of text.now))) }
 {
@@ -85,7 +82,7 @@ fn check_lines(
 
 // Reads an image of which the whole text is read, onto nothing.
 fn read_within(alloc: Global, whole: &Whole, text: &[u8]) -> Result<Read, VerifyError>
-    requires sized { length text.now ≤ image_limit }
+    requires sized { length text.now ≤ most_bytes }
     requires whole { whole.now ≡ whole_of text.now }
     ensures read { IfOk result (λ read. (lines_fault text.now ≡ None) × (read ≡ after_lines nothing_read (lines_of text.now))) }
     ensures fault { IfErr result (Fails (lines_fault text.now)) }
@@ -113,7 +110,7 @@ fn answer_to(
 
 // How many objects a text has, or its first fault, by what the whole text has.
 fn check_within(alloc: Global, whole: &Whole, text: &[u8]) -> Result<Result<u64, Fault>, AllocError>
-    requires sized { length text.now ≤ image_limit }
+    requires sized { length text.now ≤ most_bytes }
     requires whole { whole.now ≡ whole_of text.now }
     ensures { IfOk result (Answers (lines_fault text.now) (objects_in text.now)) }
 {
@@ -128,7 +125,7 @@ fn check_onto(
     whole: &mut Whole,
     text: &[u8],
 ) -> Result<Result<u64, Fault>, AllocError>
-    requires sized { length text.now ≤ image_limit }
+    requires sized { length text.now ≤ most_bytes }
     requires nothing { whole.old ≡ nothing_had }
     ensures { IfOk result (Answers (lines_fault text.now) (objects_in text.now)) }
 {
@@ -138,7 +135,7 @@ fn check_onto(
 
 // How many objects a text has, or its first fault.
 fn check_text(alloc: Global, text: &[u8]) -> Result<Result<u64, Fault>, AllocError>
-    requires { length text.now ≤ image_limit }
+    requires { length text.now ≤ most_bytes }
     ensures { IfOk result (Answers (lines_fault text.now) (objects_in text.now)) }
 {
     let mut whole = Whole::new(alloc);
@@ -150,7 +147,7 @@ pub fn verify(alloc: Global, text: &[u8]) -> Result<u64, VerifyError>
     ensures verified { IfOk result (λ count. (image_fault text.now ≡ None) × (count ≡ objects_in text.now)) }
     ensures fault { IfErr result (Fails (image_fault text.now)) }
 {
-    if text.len() > IMAGE_LIMIT {
+    if text.len() > MOST_BYTES {
         return Err(VerifyError::Refused(TOO_LONG));
     }
     match check_text(alloc, text) {
@@ -162,7 +159,7 @@ pub fn verify(alloc: Global, text: &[u8]) -> Result<u64, VerifyError>
 
 // Reads an image that isn't too long.
 fn read_text(alloc: Global, text: &[u8]) -> Result<Read, VerifyError>
-    requires { length text.now ≤ image_limit }
+    requires { length text.now ≤ most_bytes }
     ensures read { IfOk result (λ read. (lines_fault text.now ≡ None) × (read ≡ after_lines nothing_read (lines_of text.now))) }
     ensures fault { IfErr result (Fails (lines_fault text.now)) }
 {
@@ -178,7 +175,7 @@ pub fn read_image(alloc: Global, text: &[u8]) -> Result<Read, VerifyError>
     ensures read { IfOk result (λ read. (image_fault text.now ≡ None) × (read ≡ after_lines nothing_read (lines_of text.now))) }
     ensures fault { IfErr result (Fails (image_fault text.now)) }
 {
-    if text.len() > IMAGE_LIMIT {
+    if text.len() > MOST_BYTES {
         return Err(VerifyError::Refused(TOO_LONG));
     }
     read_text(alloc, text)

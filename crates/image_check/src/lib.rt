@@ -16,7 +16,7 @@ mod tasks;
 mod whole;
 
 pub use cause::{Cause, Fault};
-pub use check::{IMAGE_LIMIT, VerifyError, read_image, verify};
+pub use check::{VerifyError, read_image, verify};
 pub use laws::{faultless_is_sound, objects_are_counted, tasks_are_related};
 pub use line::{Birth, Chunk, Object, Remembered, Said, State, Task, read_line};
 pub use owners::{chunk_of_address, owner_of};

@@ -4,6 +4,7 @@ use hh_lang::Program;
 use listed::Listed;
 use program_reader::read_program;
 use std::alloc::Global;
+use text_lines::MOST_BYTES;
 
 // Adds a text to lines, and says whether it did.
 fn add(lines: &mut Listed<u8>, text: &str) -> bool {
@@ -27,7 +28,7 @@ fn add_all(lines: &mut Listed<u8>, parts: &[&str]) -> bool {
 /// The program of a text that has these parts.
 pub(crate) fn program(alloc: Global, parts: &[&str]) -> Option<Program> {
     let mut lines = Listed::new(alloc);
-    if !add_all(&mut lines, parts) || lines.len() > 16_777_216 {
+    if !add_all(&mut lines, parts) || lines.len() > MOST_BYTES {
         return None;
     }
     match read_program(alloc, lines.as_slice()) {

@@ -1,7 +1,7 @@
 // The labels of a function.
 
 ghost use Rattle.std.specs.Prelude.{◌≡◌, ◌<◌, ◌≤◌, ◌^◌, length, IfOk, OnOk, IsTrue};
-ghost use Rattle.text_lines.specs.Lines.{lines_of, words_of};
+ghost use Rattle.text_lines.specs.Lines.{lines_of, words_of, most_bytes};
 ghost use Rattle.program_reader.specs.Around.{ends_body, no_labels, labels_onto};
 
 use crate::head::Head;
@@ -56,7 +56,7 @@ impl<'a> Labels<'a> {
 
 /// The labels of the function whose lines begin here.
 pub(crate) fn read_labels<'a>(alloc: Global, lines: &'a [u8]) -> Result<Labels<'a>, AllocError>
-    requires { length lines.now ≤ 16777216 }
+    requires { length lines.now ≤ most_bytes }
     ensures { IfOk result (λ labels. labels ≡ labels_onto no_labels (lines_of lines.now)) }
 {
     let mut labels = Labels::new(alloc);

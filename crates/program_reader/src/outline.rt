@@ -1,7 +1,7 @@
 // The names of the functions and of the loops of a text.
 
 ghost use Rattle.std.specs.Prelude.{◌≡◌, ◌≤◌, length, OnOk, option_copied};
-ghost use Rattle.text_lines.specs.Lines.{words_of};
+ghost use Rattle.text_lines.specs.Lines.{words_of, most_bytes};
 ghost use Rattle.program_reader.specs.Head.{head_of_words, operands_of};
 ghost use Rattle.program_reader.specs.Sense.{IsSmall};
 ghost use Rattle.program_reader.specs.Around.{begun_name, looped_name, no_names, noted_if, outline_line, outline_of};
@@ -80,7 +80,7 @@ impl<'a> Outline<'a> {
 
     /// Notes what the lines of a text name.
     pub(crate) fn add_lines(&mut self, text: &'a [u8]) -> Result<(), AllocError>
-        requires sized { length text.now ≤ 16777216 }
+        requires sized { length text.now ≤ most_bytes }
         requires nothing { self.old ≡ no_names }
         ensures value { OnOk result (self.new ≡ outline_of text.now) }
         ensures small { OnOk result (IsSmall self.new) }

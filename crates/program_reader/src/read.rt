@@ -2,7 +2,7 @@
 
 ghost use Rattle.std.specs.Prelude.{◌≡◌, ◌≤◌, [], length, codes, IfOk, IfNone};
 ghost use Rattle.hh_lang.specs.Form.{IsProgram};
-ghost use Rattle.text_lines.specs.Lines.{lines_of};
+ghost use Rattle.text_lines.specs.Lines.{lines_of, most_bytes};
 ghost use Rattle.program_reader.specs.Sense.{IsSmall};
 ghost use Rattle.program_reader.specs.Around.{no_names, outline_of};
 ghost use Rattle.program_reader.specs.Fault.{first_fault};
@@ -73,7 +73,7 @@ fn read_lines<'a>(
     reader: &mut Reader<'a>,
     text: &'a [u8],
 ) -> Result<Option<Refused>, AllocError>
-    requires sized { length text.now ≤ 16777216 }
+    requires sized { length text.now ≤ most_bytes }
     requires outline { outline.now ≡ outline_of text.now }
     requires small { IsSmall outline.now }
     requires nothing { reader.old ≡ nothing_read }
@@ -110,7 +110,7 @@ fn read_by(
     outline: &Outline<'_>,
     text: &[u8],
 ) -> Result<Result<Program, Refused>, AllocError>
-    requires sized { length text.now ≤ 16777216 }
+    requires sized { length text.now ≤ most_bytes }
     requires outline { outline.now ≡ outline_of text.now }
     requires small { IsSmall outline.now }
     ensures { IfOk result (λ reading. reading ≡ reading_of text.now) }
@@ -126,7 +126,7 @@ fn read_onto<'a>(
     outline: &mut Outline<'a>,
     text: &'a [u8],
 ) -> Result<Result<Program, Refused>, AllocError>
-    requires sized { length text.now ≤ 16777216 }
+    requires sized { length text.now ≤ most_bytes }
     requires nothing { outline.old ≡ no_names }
     ensures { IfOk result (λ reading. reading ≡ reading_of text.now) }
 {
@@ -137,7 +137,7 @@ fn read_onto<'a>(
 /// Reads a program: the program that the text is, or the first line with a fault and the first cause
 /// on it. The error is want of memory.
 pub fn read_program(alloc: Global, text: &[u8]) -> Result<Result<Program, Refused>, AllocError>
-    requires { length text.now ≤ 16777216 }
+    requires { length text.now ≤ most_bytes }
     ensures { IfOk result (λ reading. reading ≡ reading_of text.now) }
 {
     let mut outline = Outline::new(alloc);

@@ -2,7 +2,7 @@
 
 ghost use Rattle.std.specs.Prelude.{◌≡◌, ◌≤◌, ◌&&◌, Bool, not, codes, length, IfOk, IfNone, OnOk};
 ghost use Rattle.std.specs.Str.{is_utf8};
-ghost use Rattle.text_lines.specs.Lines.{lines_of, words_of};
+ghost use Rattle.text_lines.specs.Lines.{lines_of, words_of, most_bytes};
 ghost use Rattle.program_reader.specs.Names.{is_noted};
 ghost use Rattle.program_reader.specs.Sense.{only_name, IsSmall, sense_of};
 ghost use Rattle.program_reader.specs.Around.{head_of_line, operands_of_line, is_open_after, no_labels};
@@ -178,7 +178,7 @@ impl<'a> Reader<'a> {
     // A function begins, with this rest of its line and these lines below.
     fn begin(&mut self, alloc: Global, rest: &[u8], below: &'a [u8]) -> Result<(), AllocError>
         requires counted { IsCounted self.old }
-        requires sized { length below.now ≤ 16777216 }
+        requires sized { length below.now ≤ most_bytes }
         ensures { OnOk result (self.new ≡ after_begin self.old (only_name (words_of rest.now)) (lines_of below.now)) }
     {
         let Some(name) = read_only_name(rest) else {
@@ -239,7 +239,7 @@ impl<'a> Reader<'a> {
         below: &'a [u8],
     ) -> Result<(), AllocError>
         requires counted { IsCounted self.old }
-        requires sized { length below.now ≤ 16777216 }
+        requires sized { length below.now ≤ most_bytes }
         ensures { OnOk result (self.new ≡ after_line self.old head (words_of rest.now) sense.now number (lines_of below.now)) }
     {
         match head {
@@ -266,7 +266,7 @@ impl<'a> Reader<'a> {
     ) -> Result<Option<Cause>, AllocError>
         requires counted { IsCounted self.old }
         requires small { IsSmall outline.now }
-        requires sized { length below.now ≤ 16777216 }
+        requires sized { length below.now ≤ most_bytes }
         ensures fault { IfOk result (λ fault. fault ≡ fault_on outline.now (spot_in outline.now self.old last) line.now) }
         ensures taken { IfOk result (λ fault. IfNone fault (self.new ≡ line_taken outline.now self.old number line.now (lines_of below.now))) }
     {

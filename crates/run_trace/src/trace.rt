@@ -4,7 +4,7 @@ ghost use Rattle.std.specs.Prelude.{◌≡◌, ◌++◌, ◌≤◌, ◌+◌, len
 ghost use Rattle.run_trace.specs.Line.{said_by};
 ghost use Rattle.run_trace.specs.Trace.{version_by, version_of_words, version_of, first_bad, entries_in, onto_entries, trace_fault, IsTraceText, version_line, TraceFails, NotesLine};
 ghost use Rattle.run_trace.specs.Trace.{trace_text as text_of};
-ghost use Rattle.text_lines.specs.Lines.{lines_of, words_of};
+ghost use Rattle.text_lines.specs.Lines.{lines_of, words_of, most_bytes};
 
 use crate::entry::Entry;
 use crate::line::{Said, add_entry, read_line};
@@ -92,8 +92,8 @@ fn note(entries: &mut Listed<Entry>, line: &[u8]) -> Result<bool, AllocError>
 /// Reads a trace text that begins on the line `first_line` of the whole input. The first line is `trace 1` or `trace 2`; each
 /// further line is an entry, or has no words.
 pub fn read_trace(alloc: Global, text: &[u8], first_line: u32) -> Result<Trace, TraceError>
-    requires sized { length text.now ≤ 16777216 }
-    requires numbered { first_line ≤ 16777217 }
+    requires sized { length text.now ≤ most_bytes }
+    requires numbered { first_line ≤ most_bytes + 1 }
     ensures read { IfOk result (IsTraceText first_line text.now) }
     ensures bad { IfErr result (TraceFails (trace_fault first_line text.now)) }
 {

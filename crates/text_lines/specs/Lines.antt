@@ -2,6 +2,10 @@
 use Rattle.std.specs.Prelude.{ℕ, ◌==◌, ◌||◌, Bool, true, false, List, [], ◌∷◌, filter, if◌then◌else◌}
 use Rattle.std.specs.List.{slice_split}
 
+-- the most bytes of a text that is read
+abbrev pub most_bytes : ℕ
+most_bytes = 16777216
+
 -- a text is cut at its line feeds
 abbrev pub lines_of : List ℕ → List (List ℕ)
 lines_of text = slice_split (λ c. c == 10) text

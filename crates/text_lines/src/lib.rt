@@ -5,5 +5,5 @@
 mod lines;
 mod words;
 
-pub use lines::{line_end, next_line};
+pub use lines::{MOST_BYTES, line_end, next_line};
 pub use words::{behind, next_word, word_is};

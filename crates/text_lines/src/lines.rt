@@ -4,6 +4,9 @@ ghost use Rattle.std.specs.Prelude.{◌≡◌, ◌≤◌, ◌<◌, ◌+◌, ◌=
 ghost use Rattle.std.specs.List.{position_or_len};
 ghost use Rattle.text_lines.specs.Lines.{lines_of};
 
+/// The most bytes of a text that is read.
+pub const MOST_BYTES: usize = 16777216;
+
 /// Where the first line ends: at its line feed, or with the text.
 pub fn line_end(text: &[u8]) -> usize
     ensures end { result ≡ position_or_len (λ c. c == 10) text.now }

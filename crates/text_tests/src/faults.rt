@@ -4,10 +4,11 @@ use hh_lang::{Fun, Instr, IntReg, Line, Program, is_program};
 use listed::Listed;
 use program_reader::read_program;
 use std::alloc::{AllocError, Global};
+use text_lines::MOST_BYTES;
 
 // The line and the cause of a text's first fault; none where it has no fault.
 fn fault_of(alloc: Global, text: &[u8]) -> Option<(u32, &'static str)> {
-    if text.len() > 16777216 {
+    if text.len() > MOST_BYTES {
         return Some((0, "long"));
     }
     match read_program(alloc, text) {

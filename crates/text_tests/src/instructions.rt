@@ -5,6 +5,7 @@ ghost use Rattle.std.specs.Prelude.{◌<◌};
 use hh_lang::{Fun, Instr, IntReg, Operator, Program, RefReg};
 use program_reader::read_program;
 use std::alloc::Global;
+use text_lines::MOST_BYTES;
 
 fn name_of(operator: Operator) -> &'static str {
     match operator {
@@ -102,7 +103,7 @@ fn has_code(program: &Program, function: usize, expected: &[Read]) -> bool {
 
 // The same, once the program is read.
 fn is_read(alloc: Global, text: &[u8], function: usize, expected: &[Read]) -> bool {
-    if text.len() > 16777216 {
+    if text.len() > MOST_BYTES {
         return false;
     }
     match read_program(alloc, text) {

@@ -3,6 +3,7 @@
 use program_reader::Cause;
 use run_trace::{Entry, Kind, Settings, Trace, TraceError, Version, read_trace, trace_text};
 use std::alloc::Global;
+use text_lines::MOST_BYTES;
 use trace_input::{InputError, InputFault, read_trace_input};
 
 const TEXT: &[u8] =
@@ -65,7 +66,7 @@ const BAD: &[(&[u8], u32)] = &[
 
 // The first bad line of a text that begins on line 6; 0 where it has none.
 fn bad_line(alloc: Global, text: &[u8]) -> u32 {
-    if text.len() > 16777216 {
+    if text.len() > MOST_BYTES {
         return 0;
     }
     match read_trace(alloc, text, 6) {
@@ -108,7 +109,7 @@ fn settings_of_versions(rt: HostRuntime) {
 type Told = Result<(usize, usize), (u32, Option<Cause>)>;
 
 fn told(alloc: Global, input: &[u8]) -> Told {
-    if input.len() > 16777216 {
+    if input.len() > MOST_BYTES {
         return Err((0, None));
     }
     match read_trace_input(alloc, input) {

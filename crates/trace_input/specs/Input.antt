@@ -5,7 +5,7 @@ use Rattle.hh_lang.specs.declared.instr.Instr.{Instr}
 use Rattle.hh_lang.specs.declared.instr.Instr.TheVariants.{Freeze, Cas}
 use Rattle.hh_lang.specs.declared.program.Fun.{Fun}
 use Rattle.hh_lang.specs.Form.{ProgramText}
-use Rattle.text_lines.specs.Lines.{lines_of}
+use Rattle.text_lines.specs.Lines.{lines_of, most_bytes}
 use Rattle.run_trace.specs.declared.settings.Version.{Version}
 use Rattle.run_trace.specs.declared.settings.Version.TheVariants.{One, Two}
 use Rattle.run_trace.specs.Settings.{SettingsValue}
@@ -77,17 +77,13 @@ parts_fault input =
     fault_by (first_fault (program_part input))
     (bad_line (length (lines_of input)) (trace_number input) (program_of (program_part input)) (trace_lines (lines_of input)))
 
--- the most bytes of an input
-abbrev pub trace_limit : ℕ
-trace_limit = 16777216
-
 -- more bytes than the limit
 abbrev pub too_long : Refused
 too_long = record { line = 0; cause = TooLong }
 
 -- the first fault of an input
 abbrev pub input_fault : List ℕ → Option InputFault
-input_fault input = if nat_le (length input) trace_limit then parts_fault input else Some (Source too_long)
+input_fault input = if nat_le (length input) most_bytes then parts_fault input else Some (Source too_long)
 
 -- an input without a fault, and what it says
 pub record IsInput (input : List ℕ) (t : TraceInput) : Type 0 where

@@ -1,8 +1,8 @@
 // Where the program ends and the trace begins.
 
-ghost use Rattle.std.specs.Prelude.{◌≡◌, ◌≤◌, length, IfSome, option_map};
+ghost use Rattle.std.specs.Prelude.{◌≡◌, ◌≤◌, ◌+◌, length, IfSome, option_map};
+ghost use Rattle.text_lines.specs.Lines.{most_bytes};
 ghost use Rattle.trace_input.specs.Cut.{is_trace_line, program_part, CutsTrace};
-ghost use Rattle.trace_input.specs.Input.{trace_limit};
 
 use text_lines::{next_line, next_word};
 
@@ -18,11 +18,11 @@ fn begins_trace(line: &[u8]) -> bool
 
 /// The bytes of the program, and the number of the trace line with the bytes from it on.
 pub(crate) fn cut(input: &[u8]) -> (&[u8], Option<(u32, &[u8])>)
-    requires { length input.now ≤ trace_limit }
+    requires { length input.now ≤ most_bytes }
     ensures program { result.0.now ≡ program_part input.now }
     ensures trace { CutsTrace input.now (option_map (λ t. (t.0, t.1.now)) result.1) }
     ensures sized { length result.0.now ≤ length input.now }
-    ensures within { IfSome result.1 (λ t. (length t.1.now ≤ length input.now) × (t.0 ≤ 16777217)) }
+    ensures within { IfSome result.1 (λ t. (length t.1.now ≤ length input.now) × (t.0 ≤ most_bytes + 1)) }
 {
     let mut rest = input;
     let mut number: u32 = 1;

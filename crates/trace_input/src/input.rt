@@ -1,11 +1,11 @@
 // Reads an input of a program and a trace.
 
-ghost use Rattle.std.specs.Prelude.{◌≡◌, ◌≤◌, length, IfOk, IfErr, Some, None};
-ghost use Rattle.text_lines.specs.Lines.{lines_of};
+ghost use Rattle.std.specs.Prelude.{◌≡◌, ◌≤◌, ◌+◌, length, IfOk, IfErr, Some, None};
+ghost use Rattle.text_lines.specs.Lines.{lines_of, most_bytes};
 ghost use Rattle.run_trace.specs.Trace.{AreTraceLines};
 ghost use Rattle.program_reader.specs.Program.{program_of};
 ghost use Rattle.trace_input.specs.Cut.{program_part, trace_lines};
-ghost use Rattle.trace_input.specs.Input.{IsInput, FailsAt, FailsTrace, input_fault, parts_fault, trace_bad, trace_limit};
+ghost use Rattle.trace_input.specs.Input.{IsInput, FailsAt, FailsTrace, input_fault, parts_fault, trace_bad};
 
 use crate::cut::cut;
 use crate::newer::is_newer;
@@ -13,10 +13,7 @@ use hh_lang::Program;
 use program_reader::{Cause, Refused, read_program};
 use run_trace::{Trace, TraceError, Version, read_trace, read_version};
 use std::alloc::{AllocError, Global};
-use text_lines::next_line;
-
-/// The most bytes of an input.
-pub const TRACE_LIMIT: usize = 16777216;
+use text_lines::{MOST_BYTES, next_line};
 
 /// The refusal of a program of more bytes than its limit.
 pub const TOO_LONG: Refused = Refused {
@@ -69,7 +66,7 @@ fn bad_line_error(line: u32) -> InputError
 
 // How many lines a text has.
 fn count_lines(text: &[u8]) -> u32
-    requires { length text.now ≤ trace_limit }
+    requires { length text.now ≤ most_bytes }
     ensures { result ≡ length (lines_of text.now) }
 {
     let mut rest = text;
@@ -85,8 +82,8 @@ fn count_lines(text: &[u8]) -> u32
 
 // Reads a trace for a program, where the trace line has this number.
 fn read_for(alloc: Global, program: &Program, number: u32, text: &[u8]) -> Result<Trace, InputError>
-    requires sized { length text.now ≤ trace_limit }
-    requires numbered { number ≤ 16777217 }
+    requires sized { length text.now ≤ most_bytes }
+    requires numbered { number ≤ most_bytes + 1 }
     ensures read { IfOk result (λ t. AreTraceLines (lines_of text.now) t × (trace_bad number program.now (lines_of text.now) ≡ None)) }
     ensures bad { IfErr result (λ e. FailsTrace (trace_bad number program.now (lines_of text.now)) e) }
 {
@@ -103,7 +100,7 @@ fn read_for(alloc: Global, program: &Program, number: u32, text: &[u8]) -> Resul
 
 // Reads an input that isn't too long.
 fn read_parts(alloc: Global, input: &[u8]) -> Result<TraceInput, InputError>
-    requires { length input.now ≤ trace_limit }
+    requires { length input.now ≤ most_bytes }
     ensures read { IfOk result (λ t. (parts_fault input.now ≡ None) × (t.program ≡ program_of (program_part input.now)) × AreTraceLines (trace_lines (lines_of input.now)) t.trace) }
     ensures fault { IfErr result (FailsAt (parts_fault input.now)) }
 {
@@ -127,7 +124,7 @@ pub fn read_trace_input(alloc: Global, input: &[u8]) -> Result<TraceInput, Input
     ensures read { IfOk result (IsInput input.now) }
     ensures fault { IfErr result (FailsAt (input_fault input.now)) }
 {
-    if input.len() > TRACE_LIMIT {
+    if input.len() > MOST_BYTES {
         return Err(InputError::Fault(InputFault::Source(TOO_LONG)));
     }
     read_parts(alloc, input)

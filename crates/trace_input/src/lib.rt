@@ -6,4 +6,4 @@ mod cut;
 mod input;
 mod newer;
 
-pub use input::{InputError, InputFault, TOO_LONG, TRACE_LIMIT, TraceInput, read_trace_input};
+pub use input::{InputError, InputFault, TOO_LONG, TraceInput, read_trace_input};

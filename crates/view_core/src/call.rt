@@ -1,10 +1,10 @@
 // The whole call.
 
 ghost use Rattle.std.specs.Prelude.{◌≡◌, ◌⊎◌, map, option_map, Some, None, List, ℕ, IfOk, IfErr, string_bytes};
+ghost use Rattle.text_lines.specs.Lines.{most_bytes};
 ghost use Rattle.outside_io.specs.Fault.{HasRisen};
 ghost use Rattle.outside_io.specs.Told.{with_more};
 ghost use Rattle.all_bytes.specs.Bytes.{input_of};
-ghost use Rattle.trace_input.specs.Input.{trace_limit};
 ghost use Rattle.refusal_lines.specs.Refusals.{words_line};
 ghost use Rattle.view_line.specs.ViewLine.{Asked, asked_of, view_line};
 ghost use Rattle.view_core.specs.Shown.{Says, ShowsView};
@@ -17,7 +17,7 @@ use all_bytes::{ReadError, read_file, write_all};
 use outside_io::{Failed, Sink, Source};
 use refusal_lines::Refusal;
 use std::alloc::{AllocError, Global};
-use trace_input::TRACE_LIMIT;
+use text_lines::MOST_BYTES;
 use view_line::{View, read_view};
 
 // The name of a file, if one is given.
@@ -32,7 +32,7 @@ fn name_of(file: &Option<String>) -> Option<&str>
 
 // Reads the input of a view.
 fn read_for<S: Source>(alloc: Global, source: &mut S, view: &View) -> Result<Vec<u8>, ReadError>
-    ensures input { IfOk result (λ input. (whole : List ℕ) → source_bytes_for (S.left source.old) (S.named source.old) (asked_of view.now) ≡ Some whole → input.items ≡ input_of trace_limit whole) }
+    ensures input { IfOk result (λ input. (whole : List ℕ) → source_bytes_for (S.left source.old) (S.named source.old) (asked_of view.now) ≡ Some whole → input.items ≡ input_of most_bytes whole) }
     ensures failed { IfErr result (λ e. e ≡ ReadError.Fault → HasRisen (S.faults source.old) (S.faults source.new)) }
 {
     match view {
@@ -41,10 +41,10 @@ fn read_for<S: Source>(alloc: Global, source: &mut S, view: &View) -> Result<Vec
             file,
             path: _,
             limit: _,
-        } => read_file(alloc, source, name_of(file), TRACE_LIMIT),
-        View::Timeline { traced } => read_file(alloc, source, name_of(&traced.file), TRACE_LIMIT),
-        View::Tasks { traced } => read_file(alloc, source, name_of(&traced.file), TRACE_LIMIT),
-        View::Schedules { traced } => read_file(alloc, source, name_of(&traced.file), TRACE_LIMIT),
+        } => read_file(alloc, source, name_of(file), MOST_BYTES),
+        View::Timeline { traced } => read_file(alloc, source, name_of(&traced.file), MOST_BYTES),
+        View::Tasks { traced } => read_file(alloc, source, name_of(&traced.file), MOST_BYTES),
+        View::Schedules { traced } => read_file(alloc, source, name_of(&traced.file), MOST_BYTES),
     }
 }
 
@@ -114,7 +114,7 @@ fn answer<S: Source, K: Sink, E: Sink>(
     out: &mut K,
     error: &mut E,
 ) -> Status
-    ensures { (whole : List ℕ) → source_bytes_for (S.left source.old) (S.named source.old) (asked_of view.now) ≡ Some whole → Ends (ShowsView (asked_of view.now) (input_of trace_limit whole)) result (record { out = K.written out.old; error = E.written error.old }) (record { out = K.written out.new; error = E.written error.new }) }
+    ensures { (whole : List ℕ) → source_bytes_for (S.left source.old) (S.named source.old) (asked_of view.now) ≡ Some whole → Ends (ShowsView (asked_of view.now) (input_of most_bytes whole)) result (record { out = K.written out.old; error = E.written error.old }) (record { out = K.written out.new; error = E.written error.new }) }
 {
     match read_for(alloc, source, view) {
         Err(ReadError::Fault) => Status::ReadFault,
@@ -135,7 +135,7 @@ pub fn view<S: Source, K: Sink, E: Sink>(
     error: &mut E,
 ) -> Status
     ensures words { view_line (map string_bytes words.now) ≡ None → Ends (Says Status.Words words_line) result (record { out = K.written out.old; error = E.written error.old }) (record { out = K.written out.new; error = E.written error.new }) }
-    ensures input { (v : Asked) (whole : List ℕ) → view_line (map string_bytes words.now) ≡ Some v → source_bytes_for (S.left source.old) (S.named source.old) v ≡ Some whole → Ends (ShowsView v (input_of trace_limit whole)) result (record { out = K.written out.old; error = E.written error.old }) (record { out = K.written out.new; error = E.written error.new }) }
+    ensures input { (v : Asked) (whole : List ℕ) → view_line (map string_bytes words.now) ≡ Some v → source_bytes_for (S.left source.old) (S.named source.old) v ≡ Some whole → Ends (ShowsView v (input_of most_bytes whole)) result (record { out = K.written out.old; error = E.written error.old }) (record { out = K.written out.new; error = E.written error.new }) }
 {
     match read_view(alloc, words) {
         Err(AllocError) => Status::NoMemory,
