@@ -1,5 +1,6 @@
 -- The laws of the two meanings of a part that fits.
 use Rattle.std.specs.Prelude.{◌≡◌, ℕ, ◌+◌, ◌≤◌, None}
+use Rattle.run_ledger.specs.Steps.{most_steps}
 use Rattle.task_machine.specs.declared.part.Private.{Private}
 use Rattle.task_machine.specs.Accounts.{KeepsAccounts}
 use Rattle.task_machine.specs.Run.{KeepsRest, Runs}
@@ -17,4 +18,4 @@ SecondGivesFirst = (w : SharedValue) (k : ℕ) (p : Private) → IsSharedValue w
 abbrev pub PartsFitAgain : Type 0
 PartsFitAgain =
     (w : SharedValue) (k : ℕ) (p q : Private) (n : ℕ) → IsSharedValue w → Fits w k p → (accounts w).end ≡ None → p.begun ≡ None → Runs w.program p n q → KeepsAccounts w.program p n q → KeepsRest p q
-    → p.fresh + n ≤ 257 → Fits w k q
+    → p.fresh + n ≤ most_steps → Fits w k q

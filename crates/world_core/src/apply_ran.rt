@@ -1,6 +1,7 @@
 // A task takes steps.
 
 ghost use Rattle.std.specs.Prelude.{◌≡◌, ◌<◌, ◌≤◌, ◌+◌, ◌^◌, IfOk, None, false};
+ghost use Rattle.run_ledger.specs.Steps.{most_steps};
 ghost use Rattle.shared_value.specs.Causes.{first_cause};
 ghost use Rattle.shared_value.specs.Fits.{Fits};
 ghost use Rattle.own_steps.specs.Alone.{alone_event, IsShared};
@@ -28,7 +29,7 @@ fn run_more(
     requires first { first_cause shared.now.end shared.now.steps shared.now.settings worker false ≡ None }
     requires fits { Fits shared.now worker part.old }
     requires idle { part.old.begun ≡ None }
-    requires few { part.old.fresh + budget ≤ 257 }
+    requires few { part.old.fresh + budget ≤ most_steps }
     requires counted { part.old.allocations + budget < 2 ^ 32 }
     ensures fits { Fits shared.now worker part.new }
     ensures idle { part.new.begun ≡ None }
@@ -52,7 +53,7 @@ fn run_part(
 ) -> Result<Paused, AllocError>
     requires first { first_cause shared.now.end shared.now.steps shared.now.settings worker false ≡ None }
     requires holds { HoldsPart shared.now false worker part.old }
-    requires few { steps ≤ 257 }
+    requires few { steps ≤ most_steps }
     ensures fits { Fits shared.now worker part.new }
     ensures idle { part.new.begun ≡ None }
     ensures task { part.new.task ≡ part.old.task }
@@ -157,7 +158,7 @@ fn enter_last(shared: &mut Counted, worker: u32, part: Private) -> Made
 
 // How many steps can stand in one entry: the private ones, and one more that isn't.
 fn standing(part: &Private, paused: Paused) -> u32
-    requires { part.now.fresh ≤ 257 }
+    requires { part.now.fresh ≤ most_steps }
     ensures { result ≡ standing_by part.now paused }
 {
     match paused {
@@ -173,7 +174,7 @@ fn enter(shared: &mut Counted, worker: u32, part: Private, paused: Paused, steps
     requires fits { Fits shared.old worker part }
     requires idle { part.begun ≡ None }
     requires some { 0 < steps }
-    requires few { steps ≤ 257 }
+    requires few { steps ≤ most_steps }
     requires within { part.fresh ≤ steps }
     requires next { IsNext shared.old part paused }
     requires spent { paused ≡ Paused.Spent → part.fresh ≡ steps }
@@ -199,7 +200,7 @@ fn ran(shared: &mut Counted, worker: u32, part: Private, steps: u32) -> Made
     requires first { first_cause shared.old.end shared.old.steps shared.old.settings worker false ≡ None }
     requires holds { HoldsPart shared.old false worker part }
     requires some { 0 < steps }
-    requires few { steps ≤ 257 }
+    requires few { steps ≤ most_steps }
     ensures { MakesFor shared.old shared.new worker (record { worker = worker; kind = Kind.Ran part.task steps }) result }
 {
     let mut part = part;
@@ -221,7 +222,7 @@ pub(crate) fn apply_ran(shared: &mut Counted, worker: u32, hand: Held, t: u32, s
     requires first { first_cause shared.old.end shared.old.steps shared.old.settings worker false ≡ None }
     requires holds { Holds shared.old false worker hand }
     requires some { 0 < steps }
-    requires few { steps ≤ 257 }
+    requires few { steps ≤ most_steps }
     ensures { MakesFor shared.old shared.new worker (record { worker = worker; kind = Kind.Ran t steps }) result }
 {
     shared.stands();
