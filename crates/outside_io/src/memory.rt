@@ -1,7 +1,7 @@
 // Sources and sinks in memory, which tell their bytes and fail at chosen calls.
 
 ghost use Rattle.std.specs.Prelude.{◌≡◌, ◌<◌, ◌≤◌, ◌↔◌, ◌++◌, [], ◌⊎◌, length, take, drop, min, List, ℕ, IfOk, OnOk, OnErr, IsErr, IsTrue, Contains, Some};
-ghost use Rattle.still_counts.specs.Counts.{raised};
+ghost use Rattle.still_counts.specs.Counts.{raised_by};
 ghost use Rattle.outside_io.specs.Fault.{HasRisen};
 ghost use Rattle.outside_io.specs.Told.{Gives, with_more};
 
@@ -111,8 +111,8 @@ impl Source for MemSource {
         ensures kept { OnErr result (Some self.new.left ≡ Some self.old.left) }
         ensures names { (n : List ℕ) → Some self.new.named ≡ Some self.old.named }
         ensures never_falls { self.old.faults ≤ self.new.faults }
-        ensures fails { IsErr result ↔ Contains self.old.failing (raised self.old.calls) }
-        ensures counted { self.new.calls ≡ raised self.old.calls }
+        ensures fails { IsErr result ↔ Contains self.old.failing (raised_by self.old.calls 1) }
+        ensures counted { self.new.calls ≡ raised_by self.old.calls 1 }
         ensures settings { (self.new.most ≡ self.old.most) × (self.new.failing ≡ self.old.failing) }
     {
         let _ = name;
@@ -134,9 +134,9 @@ impl Source for MemSource {
         ensures kept { OnErr result (self.new.left ≡ self.old.left) }
         ensures names { (n : List ℕ) → Some self.new.named ≡ Some self.old.named }
         ensures never_falls { self.old.faults ≤ self.new.faults }
-        ensures fails { IsErr result ↔ Contains self.old.failing (raised self.old.calls) }
+        ensures fails { IsErr result ↔ Contains self.old.failing (raised_by self.old.calls 1) }
         ensures amount { IfOk result (λ n. n ≡ min (length buf.new) (min self.old.most (length self.old.left))) }
-        ensures counted { self.new.calls ≡ raised self.old.calls }
+        ensures counted { self.new.calls ≡ raised_by self.old.calls 1 }
         ensures settings { (self.new.most ≡ self.old.most) × (self.new.failing ≡ self.old.failing) }
     {
         self.calls = one_more(self.calls);
@@ -191,9 +191,9 @@ impl Sink for MemSink {
         ensures failed { OnErr result (HasRisen self.old.faults self.new.faults) }
         ensures kept { OnErr result (Some self.new.written ≡ Some self.old.written) }
         ensures never_falls { self.old.faults ≤ self.new.faults }
-        ensures fails { Contains self.old.failing (raised self.old.calls) → IsErr result }
+        ensures fails { Contains self.old.failing (raised_by self.old.calls 1) → IsErr result }
         ensures amount { IfOk result (λ n. n ≡ min self.old.most (length bytes.now)) }
-        ensures counted { self.new.calls ≡ raised self.old.calls }
+        ensures counted { self.new.calls ≡ raised_by self.old.calls 1 }
         ensures settings { (self.new.most ≡ self.old.most) × (self.new.failing ≡ self.old.failing) }
     {
         self.calls = one_more(self.calls);

@@ -1,11 +1,11 @@
 -- What clauses say of a hand.
 use Rattle.std.specs.Prelude.{◌≡◌, ◌≢◌, ℕ, ◌+◌, ◌<◌, ◌≤◌, List, [], ◌∷◌, ◌++◌, Some, slice_get, length}
 use Rattle.crossbeam_deque.specs.Handles.{stealer_deque, worker_deque}
+use Rattle.still_counts.specs.Counts.{raised_by}
 use Rattle.steal_scheduler.specs.Ends.{owner_port, owner_view, slots, next_put, pops_of_none}
 use Rattle.steal_scheduler.specs.declared.view.View.{View}
 use Rattle.steal_scheduler.specs.declared.theft.Theft.{Theft}
 use Rattle.steal_scheduler.specs.declared.hand.Hand.{Hand}
-use Rattle.still_counts.specs.Counts.{raised}
 use Rattle.steal_scheduler.specs.Rule.{opening_view, guest_view, with_put, TookBack, HeldAtMost}
 use Rattle.steal_scheduler.specs.Thefts.{theft_view, vain_thefts, SameTheft}
 
@@ -80,7 +80,7 @@ pub record TookNone (old new : Hand) : Type 0 where
   pub list_is : own_list new ≡ []
   pub view_is : own_view new ≡ own_view old
   pub index_falls : index new ≤ index old
-  pub empty_pops_rose : empty_pops new ≡ raised (empty_pops old)
+  pub empty_pops_rose : empty_pops new ≡ raised_by (empty_pops old) 1
   pub was_empty : HeldAtMost 0 (own_view old)
 
 -- list and own deque as before

@@ -2,8 +2,8 @@
 use Rattle.std.specs.Prelude.{◌≡◌, ℕ, ◌∷◌, []}
 use Rattle.steal_scheduler.specs.declared.view.View.{View}
 use Rattle.steal_scheduler.specs.declared.theft.Theft.{Theft}
-use Rattle.still_counts.specs.Counts.{raised}
 use Rattle.crossbeam_deque.specs.Handles.{stealer_deque}
+use Rattle.still_counts.specs.Counts.{raised_by}
 use Rattle.steal_scheduler.specs.Ends.{thief_port, thief_view, thefts_of_none}
 use Rattle.steal_scheduler.specs.Rule.{with_taken, HeldAtMost}
 
@@ -30,5 +30,5 @@ pub record Stole (x : ℕ) (old new : Theft) : Type 0 where
 -- none was stolen, since a step found at most one number there, which is counted
 pub record StoleNone (old new : Theft) : Type 0 where
   pub view_is : theft_view new ≡ theft_view old
-  pub vain_rose : vain_thefts new ≡ raised (vain_thefts old)
+  pub vain_rose : vain_thefts new ≡ raised_by (vain_thefts old) 1
   pub few : HeldAtMost 1 (theft_view old)

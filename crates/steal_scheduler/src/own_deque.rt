@@ -3,7 +3,7 @@
 ghost use Rattle.std.specs.Prelude.{◌≡◌, ◌<◌, ◌≤◌, ◌+◌, ◌∷◌, [], IfOk, IfErr, IfSome, IfNone, OnOk};
 ghost use Rattle.crossbeam_deque.specs.Tasks.{Pushes, Pops, Finds, Blocks};
 ghost use Rattle.crossbeam_deque.specs.Handles.{worker_flavor};
-ghost use Rattle.still_counts.specs.Counts.{raised};
+ghost use Rattle.still_counts.specs.Counts.{raised_by};
 
 use crossbeam_deque::protocol::{Outcome, Protocol};
 use crossbeam_deque::{Stealer, Worker};
@@ -64,7 +64,7 @@ impl<V, P: Protocol<u32, V>> OwnDeque<V, P> {
         requires empty { Finds P.holds (owner_port self.old) (owner_view self.old) (M.empty (owner_view self.old)) }
         ensures same { SameOwner self.old self.new × (next_put self.new ≤ next_put self.old) }
         ensures some { IfSome result (λ x. M.then (owner_view self.old) (x ∷ []) (owner_view self.new) × (pops_of_none self.new ≡ pops_of_none self.old)) }
-        ensures none { IfNone result ((owner_view self.new ≡ owner_view self.old) × M.empty (owner_view self.old) × (pops_of_none self.new ≡ raised (pops_of_none self.old))) }
+        ensures none { IfNone result ((owner_view self.new ≡ owner_view self.old) × M.empty (owner_view self.old) × (pops_of_none self.new ≡ raised_by (pops_of_none self.old) 1)) }
     {
         let popped = self.worker.pop_as::<M>();
         if popped.is_none() {

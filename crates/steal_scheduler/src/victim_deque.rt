@@ -3,7 +3,7 @@
 ghost use Rattle.std.specs.Prelude.{◌≡◌, ◌∷◌, [], IfOk, IfSome, IfNone};
 ghost use Rattle.crossbeam_deque.specs.Tasks.{Takes, FindsFew, Admits};
 ghost use Rattle.crossbeam_deque.specs.Handles.{stealer_deque, IsPassOf};
-ghost use Rattle.still_counts.specs.Counts.{raised};
+ghost use Rattle.still_counts.specs.Counts.{raised_by};
 
 use crossbeam_deque::protocol::{Outcome, Protocol};
 use crossbeam_deque::{Pass, Steal, Stealer};
@@ -49,7 +49,7 @@ impl<V, P: Protocol<u32, V>> VictimDeque<V, P> {
         requires few { FindsFew P.holds 1 (thief_port self.old) (thief_view self.old) (M.empty (thief_view self.old)) }
         ensures same { SameThief self.old self.new }
         ensures some { IfSome result (λ x. M.then (thief_view self.old) (x ∷ []) (thief_view self.new) × (thefts_of_none self.new ≡ thefts_of_none self.old)) }
-        ensures none { IfNone result ((thief_view self.new ≡ thief_view self.old) × M.empty (thief_view self.old) × (thefts_of_none self.new ≡ raised (thefts_of_none self.old))) }
+        ensures none { IfNone result ((thief_view self.new ≡ thief_view self.old) × M.empty (thief_view self.old) × (thefts_of_none self.new ≡ raised_by (thefts_of_none self.old) 1)) }
     {
         for _ in rt.forever() {
             match self.stealer.steal_as::<M>(&mut self.pass) {

@@ -6,7 +6,3 @@ last_count = 2 ^ 64 - 1
 
 abbrev pub raised_by : ℕ → ℕ → ℕ
 raised_by n k = min (n + k) last_count
-
--- by one
-abbrev pub raised : ℕ → ℕ
-raised n = min (n + 1) last_count
