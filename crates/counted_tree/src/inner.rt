@@ -1,6 +1,7 @@
 // Marking and sweeping the heaps of waiting tasks are entered.
 
 ghost use Rattle.std.specs.Prelude.{◌<◌, ◌≤◌};
+ghost use Rattle.run_trace.specs.Entry.{mark_limit};
 ghost use Rattle.shared_tree.specs.Calls.{BeginsMarking, MarksMore, SweepsHeap};
 
 use crate::counted::Counted;
@@ -24,7 +25,7 @@ impl Counted {
     pub fn some(&mut self, worker: u32, t: u32, n: u32) -> Result<u32, Refused>
         requires room { 0 < self.old.journal.room }
         requires some { 0 < n }
-        requires few { n ≤ 1024 }
+        requires few { n ≤ mark_limit }
         ensures { MarksMore self.old self.new worker t n result }
     {
         self.shared.stands();

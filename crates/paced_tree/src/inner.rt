@@ -1,6 +1,7 @@
 // Marking and sweeping the heaps of waiting tasks are entered.
 
 ghost use Rattle.std.specs.Prelude.{◌<◌, ◌≤◌};
+ghost use Rattle.run_trace.specs.Entry.{mark_limit};
 ghost use Rattle.shared_value.specs.Entered.{refused, IsCaused};
 ghost use Rattle.shared_tree.specs.Calls.{BeginsMarking, MarksMore, SweepsHeap};
 ghost use Rattle.paced_tree.specs.Owed.{Pays};
@@ -42,7 +43,7 @@ impl Paced {
     pub fn some(&mut self, worker: u32, t: u32, n: u32) -> Result<u32, Refused>
         requires room { 0 < self.old.journal.room }
         requires some { 0 < n }
-        requires few { n ≤ 1024 }
+        requires few { n ≤ mark_limit }
         requires pays { Pays self.old (record { worker = worker; kind = Kind.More t n }) }
         ensures { MarksMore self.old self.new worker t n result }
     {

@@ -20,8 +20,12 @@ private_limit = 256
 abbrev pub IsStepCount : ℕ → Type 0
 IsStepCount k = (1 ≤ k) × (k ≤ private_limit + 1)
 
+-- one entry marks at most so many objects
+abbrev pub mark_limit : ℕ
+mark_limit = 1024
+
 abbrev pub IsMarkCount : ℕ → Type 0
-IsMarkCount n = (1 ≤ n) × (n ≤ 1024)
+IsMarkCount n = (1 ≤ n) × (n ≤ mark_limit)
 
 abbrev pub IsKind : Kind → Type 0
 IsKind (Took t) = IsWord t

@@ -9,7 +9,7 @@ use Rattle.run_trace.specs.declared.entry.Kind.{Kind}
 use Rattle.run_trace.specs.declared.entry.Kind.TheVariants.{Took, Ran, Chunk, Begin, End, PutOff, Mark, More, Sweep, Fuel}
 use Rattle.run_trace.specs.declared.line.Said.{Said}
 use Rattle.run_trace.specs.declared.line.Said.TheVariants.{Nothing, Says, Wrong}
-use Rattle.run_trace.specs.Entry.{EntryValue, private_limit}
+use Rattle.run_trace.specs.Entry.{EntryValue, private_limit, mark_limit}
 
 -- READING
 
@@ -41,7 +41,7 @@ within least most n = nat_le least n && nat_le n most
 abbrev pub kind_of_count : List ℕ → ℕ → ℕ → Option Kind
 kind_of_count verb t n =
     if bytes_eq verb (codes "ran") then (if within 1 (private_limit + 1) n then Some (Ran t n) else None)
-    else if bytes_eq verb (codes "some") then (if within 1 1024 n then Some (More t n) else None)
+    else if bytes_eq verb (codes "some") then (if within 1 mark_limit n then Some (More t n) else None)
     else where_said verb (codes "sweep") (Sweep t n) None
 
 -- what a word and the numbers behind it say

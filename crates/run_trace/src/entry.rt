@@ -8,6 +8,9 @@ use std::marker::Model;
 /// One entry has at most so many private steps, and one step behind them.
 pub const PRIVATE_LIMIT: u32 = 256;
 
+/// One entry marks at most so many objects.
+pub const MARK_LIMIT: u32 = 1024;
+
 /// What an entry says. Tasks are named by their numbers.
 #[derive(Clone, Copy, PartialEq, Eq)]
 pub enum Kind {
@@ -25,7 +28,7 @@ pub enum Kind {
     PutOff(u32),
     /// The marking of the waiting task's heap begins.
     Mark(u32),
-    /// At most so many objects more are marked, 1 to 1024.
+    /// At most so many objects more are marked, 1 to `MARK_LIMIT`.
     More(u32, u32),
     /// What wasn't marked is dropped: chunks given back.
     Sweep(u32, u32),

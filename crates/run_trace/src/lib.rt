@@ -7,7 +7,7 @@ mod line;
 mod settings;
 mod trace;
 
-pub use entry::{Entry, Kind, PRIVATE_LIMIT};
+pub use entry::{Entry, Kind, MARK_LIMIT, PRIVATE_LIMIT};
 pub use laws::texts_are_read_again;
 pub use settings::{Settings, Version};
 pub use trace::{Trace, TraceError, read_trace, read_version, trace_text};

@@ -5,7 +5,7 @@ ghost use Rattle.run_trace.specs.Entry.{IsKind, IsStepCount, IsMarkCount};
 ghost use Rattle.run_trace.specs.Line.{unsigned_number, numbers_in, kind_of, kind_of_task, kind_of_count, kind_by, entry_by, said_by_words, said_by, spaced, kind_words, entry_line};
 ghost use Rattle.text_lines.specs.Lines.{words_of};
 
-use crate::entry::{Entry, Kind, PRIVATE_LIMIT};
+use crate::entry::{Entry, Kind, MARK_LIMIT, PRIVATE_LIMIT};
 use hh_lang::read_u32;
 use std::alloc::{AllocError, Global};
 use text_lines::next_word;
@@ -69,7 +69,7 @@ fn read_of_count(verb: &[u8], task: u32, count: u32) -> Option<Kind>
         return None;
     }
     if verb == b"some".as_slice() {
-        if 1 <= count && count <= 1024 {
+        if 1 <= count && count <= MARK_LIMIT {
             return Some(Kind::More(task, count));
         }
         return None;

@@ -1,6 +1,7 @@
 // Objects of a heap are marked.
 
 ghost use Rattle.std.specs.Prelude.{◌≡◌, ◌<◌, ◌≤◌, ℕ, None, min};
+ghost use Rattle.run_trace.specs.Entry.{mark_limit};
 ghost use Rattle.run_ledger.specs.Heaps.{heap_of, left_in};
 ghost use Rattle.shared_value.specs.Entered.{refused, Enters};
 ghost use Rattle.shared_value.specs.Fits.{AllFit};
@@ -38,7 +39,7 @@ impl Shared {
     fn enter_some(&mut self, worker: u32, t: u32, n: u32) -> u32
         requires room { 0 < self.old.journal.room }
         requires some { 0 < n }
-        requires few { n ≤ 1024 }
+        requires few { n ≤ mark_limit }
         requires free { refused self.old (record { worker = worker; kind = Kind.More t n }) ≡ None }
         ensures count { result ≡ min n (left_in (heap_of (accounts self.old) t)) }
         ensures enters { Enters self.old self.new (record { worker = worker; kind = Kind.More t n }) }
@@ -62,7 +63,7 @@ impl Shared {
     pub fn some(&mut self, worker: u32, t: u32, n: u32) -> Result<u32, Refused>
         requires room { 0 < self.old.journal.room }
         requires some { 0 < n }
-        requires few { n ≤ 1024 }
+        requires few { n ≤ mark_limit }
         ensures { MarksMore self.old self.new worker t n result }
     {
         match self.some_refused(worker, t) {
