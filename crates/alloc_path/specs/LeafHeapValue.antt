@@ -1,7 +1,8 @@
 -- A task's own heap, as callers see it.
 use Rattle.std.specs.Prelude.{◌≡◌, All, ℕ, ◌+◌, ◌-◌, ◌*◌, ◌/◌, ◌^◌, ◌<◌, ◌≤◌, List, [], ◌∷◌, ◌++◌, ◌==◌, if◌then◌else◌, Option, Some, None, length, min, nat_le, option_map}
 use Rattle.object_layout.specs.declared.word.Addr.{Addr}
-use Rattle.object_layout.specs.Cell.{Cell, IsObject, moved_to, size_of}
+use Rattle.object_layout.specs.Cell.{Cell, IsObject, moved_to, size_of, chunk_words}
+pub use Rattle.object_layout.specs.Cell.{units}
 use Rattle.object_layout.specs.ChunkValue.{ChunkValue}
 use Rattle.object_layout.specs.Place.{words_in}
 use Rattle.object_layout.specs.Chunks.{cell_of, chunk_at, held_words, object_count, place_in, push_object, small_words}
@@ -23,10 +24,6 @@ pub record LeafHeapValue : Type 0 where
 abbrev pub counted : ℕ → ℕ
 counted n = min n (2 ^ 64 - 1)
 
--- words in units of 1,024, rounded up
-abbrev pub units : ℕ → ℕ
-units w = (w + 1023) / 1024
-
 -- the words left in the chunk at a place
 abbrev pub room_at : List ChunkValue → Option ℕ → ℕ
 room_at ks None = 0
@@ -42,17 +39,17 @@ small_place ks at w = if nat_le w (room_at ks at) then at else None
 -- a large object goes into the reserved chunk, where that has just its units
 abbrev pub large_place : List ChunkValue → Option ℕ → ℕ → Option ℕ
 large_place ks None w = None
-large_place ks (Some i) w = if (chunk_at ks i).size == 1024 * units w then Some i else None
+large_place ks (Some i) w = if (chunk_at ks i).size == chunk_words * units w then Some i else None
 
 -- the place of the chunk into which an object of so many words goes; None where there is none
 abbrev pub place_for : LeafHeapValue → ℕ → Option ℕ
-place_for h w = if nat_le w 1024 then small_place h.chunks h.current w else large_place h.chunks h.reserved w
+place_for h w = if nat_le w chunk_words then small_place h.chunks h.current w else large_place h.chunks h.reserved w
 
 -- the heap with an object more in the chunk at this place
 abbrev pub placed_at : LeafHeapValue → ℕ → Cell → LeafHeapValue
 placed_at h i c = record h {
   chunks = push_object h.chunks i c;
-  reserved = if nat_le (size_of c) 1024 then h.reserved else None;
+  reserved = if nat_le (size_of c) chunk_words then h.reserved else None;
   since = counted (h.since + size_of c);
 }
 
@@ -62,7 +59,7 @@ placed h (Some i) c = placed_at h i c
 
 -- the heap with an empty chunk more: it is filled from then on, or reserved where it is a large one
 abbrev pub added : LeafHeapValue → ChunkValue → LeafHeapValue
-added h k = if k.size == 1024
+added h k = if k.size == chunk_words
     then record h { chunks = h.chunks ++ k ∷ []; current = Some (length h.chunks) }
     else record h { chunks = h.chunks ++ k ∷ []; reserved = Some (length h.chunks) }
 
@@ -88,12 +85,12 @@ with_places h slots spare = record h { slots = slots; spare = spare }
 -- the chunk being filled is a small one
 abbrev pub IsCurrent : List ChunkValue → Option ℕ → Type 0
 IsCurrent ks None = Unit {0}
-IsCurrent ks (Some i) = (i < length ks) × ((chunk_at ks i).size ≡ 1024)
+IsCurrent ks (Some i) = (i < length ks) × ((chunk_at ks i).size ≡ chunk_words)
 
 -- the reserved chunk is a large one, and empty
 abbrev pub IsReserved : List ChunkValue → Option ℕ → Type 0
 IsReserved ks None = Unit {0}
-IsReserved ks (Some i) = (i < length ks) × ((1024 < (chunk_at ks i).size) × ((chunk_at ks i).cells ≡ []))
+IsReserved ks (Some i) = (i < length ks) × ((chunk_words < (chunk_at ks i).size) × ((chunk_at ks i).cells ≡ []))
 
 -- all words of these chunks lie inside them
 abbrev pub AreWithin : List ChunkValue → Type 0
@@ -119,16 +116,16 @@ pub record IsKept (chunks : List ChunkValue) (pieces : PiecesValue) (filled kept
 -- no object was moved; a large one has its chunk, of just its units, to itself; and a large chunk holds no more than one
 pub record IsTidy (k : ChunkValue) : Type 0 where
   pub unmoved : All (λ c. moved_to c.mark ≡ None) k.cells
-  pub alone : All (λ c. 1024 < size_of c → length k.cells ≡ 1) k.cells
-  pub exact : All (λ c. 1024 < size_of c → k.size ≡ 1024 * units (size_of c)) k.cells
-  pub few : 1024 < k.size → length k.cells ≤ 1
+  pub alone : All (λ c. chunk_words < size_of c → length k.cells ≡ 1) k.cells
+  pub exact : All (λ c. chunk_words < size_of c → k.size ≡ chunk_words * units (size_of c)) k.cells
+  pub few : chunk_words < k.size → length k.cells ≤ 1
 
 abbrev pub AreTidy : List ChunkValue → Type 0
 AreTidy ks = All IsTidy ks
 
 -- each object begins within the first 1,024 words of its chunk
 abbrev pub AreNear : List ChunkValue → Type 0
-AreNear ks = (a : Addr) → IsObject (cell_of ks a).mark → a.offset < 1024
+AreNear ks = (a : Addr) → IsObject (cell_of ks a).mark → a.offset < chunk_words
 
 -- all chunks are so, and no two have one number
 pub record IsSettled (ks : List ChunkValue) : Type 0 where

@@ -1,7 +1,7 @@
 -- What a put changes where an object was placed.
 use Rattle.std.specs.Prelude.{◌≡◌, ℕ, ◌<◌, All, List, length}
 use Rattle.object_layout.specs.declared.word.Addr.{Addr}
-use Rattle.object_layout.specs.Cell.{Cell, size_of}
+use Rattle.object_layout.specs.Cell.{Cell, size_of, chunk_words}
 use Rattle.object_layout.specs.ChunkValue.{ChunkValue}
 use Rattle.object_layout.specs.Place.{words_in}
 use Rattle.object_layout.specs.Chunks.{cell_of, chunk_at, held_words, next_address, object_count, push_object, put_object, small_words}
@@ -43,4 +43,4 @@ WritesKeepCounts =
 
 -- where each object begins near, so does each that is read
 abbrev pub ObjectsAreNear : Type 0
-ObjectsAreNear = (ks : List ChunkValue) → AreApart ks → AreNear ks → All (λ o. o.at.offset < 1024) (objects_in ks)
+ObjectsAreNear = (ks : List ChunkValue) → AreApart ks → AreNear ks → All (λ o. o.at.offset < chunk_words) (objects_in ks)

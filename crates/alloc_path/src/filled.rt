@@ -1,7 +1,7 @@
 // Objects that are placed with their fields.
 
 ghost use Rattle.std.specs.Prelude.{◌≡◌, ◌^◌, ◌<◌, length, option_map, All, Some};
-ghost use Rattle.object_layout.specs.Cell.{filled_cell, size_of, IsPlace};
+ghost use Rattle.object_layout.specs.Cell.{filled_cell, size_of, IsPlace, chunk_words};
 ghost use Rattle.object_layout.specs.Chunks.{chunk_at, next_address};
 ghost use Rattle.alloc_path.specs.LeafHeapValue.{placed, placed_at, place_for, IsSettled};
 
@@ -39,7 +39,7 @@ impl Space {
         requires places { All IsPlace refs.now }
         requires fits { place_for self.old (size_of (filled_cell new.header new.birth refs.now ints.now)) ≡ Some i }
         ensures address { result ≡ next_address (chunk_at self.old.chunks i) }
-        ensures near { result.offset < 1024 }
+        ensures near { result.offset < chunk_words }
         ensures placed { self.new ≡ placed_at self.old i (filled_cell new.header new.birth refs.now ints.now) }
         ensures settled { IsSettled self.old.chunks → IsSettled self.new.chunks }
     {

@@ -1,7 +1,7 @@
 // A leaf heap: the chunks of a task, between collections.
 
 ghost use Rattle.std.specs.Prelude.{◌≡◌, ◌+◌, ◌^◌, ◌<◌, ◌≤◌, [], is_some, length, All, option_map, OnOk, OnErr, IfErr, IfOk, IsOk, None};
-ghost use Rattle.object_layout.specs.Cell.{filled_cell, size_of, new_cell, IsPlace};
+ghost use Rattle.object_layout.specs.Cell.{filled_cell, size_of, new_cell, IsPlace, chunk_words};
 ghost use Rattle.object_layout.specs.Chunks.{chunk_at, held_words, next_address, object_count, small_words};
 ghost use Rattle.alloc_path.specs.LeafHeapValue.{added, counted, exchanged, merged, placed, place_for, room_of, with_places, AreApart, AreNear, AreWithin, IsCurrent, IsFresh, IsReserved, IsSettled};
 
@@ -149,7 +149,7 @@ impl LeafHeap {
     /// object of just its units. The answer hands the chunk back where memory is wanting.
     pub fn add(&mut self, chunk: Chunk) -> Result<(), AllocFailed<Chunk>>
         requires empty { chunk.cells ≡ [] }
-        requires size { 1024 ≤ chunk.size }
+        requires size { chunk_words ≤ chunk.size }
         requires fresh { IsFresh self.old.chunks chunk.number }
         ensures ok { OnOk result (self.new ≡ with_places (added self.old chunk) self.new.slots self.new.spare) }
         ensures err { OnErr result (self.new ≡ with_places self.old self.new.slots self.new.spare) }
@@ -167,7 +167,7 @@ impl LeafHeap {
     /// The same without memory, where there are places for the chunk.
     pub fn add_spare(&mut self, chunk: Chunk)
         requires empty { chunk.cells ≡ [] }
-        requires size { 1024 ≤ chunk.size }
+        requires size { chunk_words ≤ chunk.size }
         requires fresh { IsFresh self.old.chunks chunk.number }
         requires slots { 0 < self.old.slots }
         requires spare { 0 < self.old.spare }

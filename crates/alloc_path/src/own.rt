@@ -1,7 +1,7 @@
 // Reads and writes of the objects of a space, by their addresses.
 
 ghost use Rattle.std.specs.Prelude.{◌≡◌, ◌+◌, ◌^◌, ◌<◌, ◌≤◌, ◌++◌, ◌∷◌, [], length, option_copied, option_map, slice_get, is_some, IfSome, Some, None};
-ghost use Rattle.object_layout.specs.Cell.{Born, Moved, frozen, header_of, size_of, with_int, with_mark, IsBorn, IsObject, IsPlace};
+ghost use Rattle.object_layout.specs.Cell.{Born, Moved, frozen, header_of, size_of, with_int, with_mark, IsBorn, IsObject, IsPlace, chunk_words};
 ghost use Rattle.object_layout.specs.Place.{cell_at, put_cell, words_in, IsObjectAt};
 ghost use Rattle.object_layout.specs.Chunks.{cell_of, chunk_at, has_chunk, next_address, object_of, place_in, place_of, put_object};
 ghost use Rattle.alloc_path.specs.FieldLaws.{with_ref_of};
@@ -193,7 +193,7 @@ impl Space {
         requires place { place_in self.old.chunks object.chunk ≡ Some place }
         requires object { IsObject (cell_of self.old.chunks object).mark }
         requires room { words_in to.old.cells + size_of (cell_of self.old.chunks object) ≤ to.old.size }
-        requires begins { words_in to.old.cells < 1024 }
+        requires begins { words_in to.old.cells < chunk_words }
         ensures address { result ≡ next_address to.old }
         ensures copied { to.new ≡ record to.old { cells = to.old.cells ++ with_mark (cell_of self.old.chunks object) (Born birth) ∷ [] } }
         ensures left { self.new ≡ record self.old { chunks = put_object self.old.chunks object (with_mark (cell_of self.old.chunks object) (Moved result)) } }
@@ -220,7 +220,7 @@ impl Space {
 fn move_behind(from: &mut Chunk, at: u32, birth: Birth, to: &mut Chunk) -> Addr
     requires object { IsObjectAt from.old.cells at }
     requires room { words_in to.old.cells + size_of (cell_at from.old.cells at) ≤ to.old.size }
-    requires begins { words_in to.old.cells < 1024 }
+    requires begins { words_in to.old.cells < chunk_words }
     ensures address { result ≡ next_address to.old }
     ensures copied { to.new ≡ record to.old { cells = to.old.cells ++ with_mark (cell_at from.old.cells at) (Born birth) ∷ [] } }
     ensures left { from.new ≡ record from.old { cells = put_cell from.old.cells at (with_mark (cell_at from.old.cells at) (Moved result)) } }

@@ -1,20 +1,20 @@
 // The chunks of a heap, and where the next object goes.
 
 ghost use Rattle.std.specs.Prelude.{◌≡◌, ◌+◌, ◌-◌, ◌*◌, ◌^◌, ◌<◌, ◌≤◌, [], ◌∷◌, is_some, length, option_map, OnOk, OnErr, IfErr, IsOk, None, Some};
-ghost use Rattle.object_layout.specs.Cell.{size_of, new_cell, IsPlace};
+ghost use Rattle.object_layout.specs.Cell.{size_of, new_cell, IsPlace, chunk_words};
 ghost use Rattle.object_layout.specs.Chunks.{chunk_at, held_words, next_address, object_count, place_in, push_object, small_words};
 ghost use Rattle.alloc_path.specs.LeafHeapValue.{added, counted, placed, placed_at, place_for, room_of, with_places, IsCurrent, IsFresh, IsReserved, IsSettled};
 
 use super::counts::small_part;
 use chunk_rows::{Row, missing_pieces};
 use kept_pieces::Pieces;
-use object_layout::{Addr, Birth, Chunk, Header, write_new};
+use object_layout::{Addr, Birth, CHUNK_WORDS, Chunk, Header, write_new};
 use std::alloc::{AllocError, AllocFailed, Global};
 use std::collections::HashMap;
 use std::marker::Model;
 
 /// How many words a small chunk has. An object of more words is large.
-pub(crate) const SMALL: u32 = 1024;
+pub(crate) const SMALL: u32 = CHUNK_WORDS as u32;
 
 /// From where the table counts the places of a heap with whose chunks no others were merged.
 pub(crate) const BASE: usize = 1 << 63;
@@ -224,7 +224,7 @@ impl Space {
     /// then on; a large one is reserved for a large object of just its units.
     pub fn add_spare(&mut self, chunk: Chunk)
         requires empty { chunk.cells ≡ [] }
-        requires size { 1024 ≤ chunk.size }
+        requires size { chunk_words ≤ chunk.size }
         requires fresh { IsFresh self.old.chunks chunk.number }
         requires slots { 0 < self.old.slots }
         requires spare { 0 < self.old.spare }
@@ -295,7 +295,7 @@ impl Space {
         requires ints { new.header.nints < 2 ^ 20 }
         requires fits { place_for self.old (size_of (new_cell new.header new.birth)) ≡ Some i }
         ensures address { result ≡ next_address (chunk_at self.old.chunks i) }
-        ensures near { result.offset < 1024 }
+        ensures near { result.offset < chunk_words }
         ensures placed { self.new ≡ placed_at self.old i (new_cell new.header new.birth) }
         ensures settled { IsSettled self.old.chunks → IsSettled self.new.chunks }
     {

@@ -2,6 +2,7 @@
 use Rattle.std.specs.Prelude.{◌≡◌, ◌≢◌, ℕ, ◌+◌, ◌<◌, ◌≤◌, ◌^◌, All, Option, Some, None, IfSome, List, [], ◌∷◌, ◌++◌, if◌then◌else◌, length, option_map, slice_index_or}
 use Rattle.object_layout.specs.ChunkValue.{ChunkValue}
 use Rattle.object_layout.specs.Chunks.{has_chunk, AreApart}
+use Rattle.object_layout.specs.Cell.{chunk_words}
 use Rattle.chunk_pool.specs.declared.pool.Slot.{Slot}
 
 -- the limit in units, and for each number from 0 on what is kept of its chunk, if it is in use
@@ -59,7 +60,7 @@ pub record AreNumbered (old new : List (Option Slot)) (owner : ℕ) (ks : List C
 
 -- an empty chunk of one unit
 pub record IsBlank (k : ChunkValue) : Type 0 where
-  pub size : k.size ≡ 1024
+  pub size : k.size ≡ chunk_words
   pub cells : k.cells ≡ []
 
 -- so many empty chunks of one unit were numbered, and stand behind the others of a list

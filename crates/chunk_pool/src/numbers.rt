@@ -2,15 +2,16 @@
 
 ghost use Rattle.std.specs.Prelude.{◌≡◌, ◌+◌, ◌*◌, ◌^◌, ◌<◌, ◌≤◌, [], All, IfOk, None, OnOk, Some, length, vec_capacity, vec_len};
 ghost use Rattle.slab.specs.Slab.{slab_len, HasRoomFor, Updates};
+ghost use Rattle.object_layout.specs.Cell.{chunk_words};
 ghost use Rattle.chunk_pool.specs.PoolValue.{slot_in, one_unit, AreChunks, IsBlank, NumbersBehind};
 
 use crate::pool::Slot;
-use object_layout::Chunk;
+use object_layout::{CHUNK_WORDS, Chunk};
 use slab::Slab;
 use std::alloc::{AllocError, Global};
 
 // How many words a chunk of one unit has.
-const UNIT: u32 = 1024;
+const UNIT: u32 = CHUNK_WORDS as u32;
 
 /// An empty chunk of this number and so many units: one of those kept, where that will do, or a new one.
 pub fn chunk_of(
@@ -21,7 +22,7 @@ pub fn chunk_of(
 ) -> Result<Chunk, AllocError>
     requires few { units < 2 ^ 22 }
     requires blank { All IsBlank kept.old.items }
-    ensures chunk { IfOk result (λ c. c ≡ record { number = number; size = 1024 * units; cells = [] }) }
+    ensures chunk { IfOk result (λ c. c ≡ record { number = number; size = chunk_words * units; cells = [] }) }
     ensures blank { All IsBlank kept.new.items }
 {
     if units == 1 {

@@ -1,6 +1,7 @@
 // The pool of chunks: a limit in units, and an owner for each number in use.
 
 ghost use Rattle.std.specs.Prelude.{◌≡◌, ℕ, ◌+◌, ◌*◌, ◌^◌, ◌<◌, ◌≤◌, ◌↔◌, [], OnErr, OnOk, IfOk, Err, Some, IsSome};
+ghost use Rattle.object_layout.specs.Cell.{chunk_words};
 ghost use Rattle.chunk_pool.specs.PoolValue.{slot_at, owner_of, units_in_use, AreChunks, Takes, TakesAll, Gives, Relabels};
 
 use crate::numbers::{blank_chunks, chunk_of, keep, make_numbers, make_places, number_all};
@@ -72,7 +73,7 @@ impl Pool {
         requires few { units < 2 ^ 22 }
         ensures full { (result ≡ Err NotTaken.Full) ↔ (self.old.limit < units_in_use self.old + units) }
         ensures taken { IfOk result (λ chunk. Takes self.old self.new chunk.number (record { owner = owner; units = units })) }
-        ensures chunk { IfOk result (λ chunk. chunk ≡ record { number = chunk.number; size = 1024 * units; cells = [] }) }
+        ensures chunk { IfOk result (λ chunk. chunk ≡ record { number = chunk.number; size = chunk_words * units; cells = [] }) }
         ensures err { OnErr result (self.new ≡ self.old) }
     {
         if units > self.limit - self.used {

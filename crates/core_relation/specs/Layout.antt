@@ -3,6 +3,7 @@ use Rattle.std.specs.Prelude.{◌≡◌, ◌⊎◌, ◌&&◌, ◌==◌, ◌+◌,
 use Rattle.std.specs.List.{IsDistinct}
 use Rattle.run_ledger.specs.Heaps.{units}
 use Rattle.object_layout.specs.Objects.{Located}
+use Rattle.object_layout.specs.Cell.{chunk_words}
 use Rattle.core_relation.specs.Memory.{Chunk, In, objects_in}
 
 -- the words of an object: its header and its name, its references and its numbers
@@ -35,7 +36,7 @@ pub record AreLaidOut (ks : List Chunk) (spare : ℕ) : Type 0 where
   -- no number stands there twice
   pub numbers : IsDistinct (λ a b. a == b) (map (λ k. k.number) ks)
   -- each object lies in its chunk by its own words, and apart from the others
-  pub within : (k : Chunk) (o : Located) → In ks k → In k.objects o → o.at.offset + words o ≤ 1024 * k.units
+  pub within : (k : Chunk) (o : Located) → In ks k → In k.objects o → o.at.offset + words o ≤ chunk_words * k.units
   pub apart : (o q : Located) → In (objects_in ks) o → In (objects_in ks) q → (o ≡ q) ⊎ AreApart o q
   pub small : (k : Chunk) → In ks k → k.large ≡ false → k.units ≡ 1
   pub large : (k : Chunk) → In ks k → k.large ≡ true → HoldsLarge k

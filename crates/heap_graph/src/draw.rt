@@ -15,6 +15,7 @@ use crate::edges::add_edges;
 use crate::held::{Held, held_of, is_drawn};
 use crate::names::{chunk_cluster, chunk_name, chunk_title, task_cluster, task_name, task_title};
 use crate::objects::add_node;
+use chunk_sizes::CHUNK_WORDS;
 use dot_text::{
     add_attribute, begin_cluster, begin_node, end_braces, end_statement, set_attribute,
 };
@@ -206,7 +207,7 @@ fn add_chunk(
 fn chunk_number(address: u64) -> u64
     ensures { result ≡ chunk_number address }
 {
-    address.saturating_sub(1) / 1024
+    address.saturating_sub(1) / CHUNK_WORDS
 }
 
 // Whether a line says an object outside a chunk.

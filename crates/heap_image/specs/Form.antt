@@ -2,6 +2,7 @@
 use Rattle.std.specs.Prelude.{◌≡◌, ◌<◌, ◌≤◌, ◌+◌, ◌^◌, ◌%◌, ℕ, ℤ, true, Option, Some, None, length}
 use Rattle.hh_lang.specs.Number.{fits_i64}
 use Rattle.listed.specs.Members.{In}
+use Rattle.chunk_sizes.specs.Sizes.{chunk_words}
 use Rattle.run_trace.specs.Entry.{IsWord}
 use Rattle.image_check.specs.declared.line.Task.{Task}
 use Rattle.image_check.specs.declared.line.Chunk.{Chunk}
@@ -26,8 +27,8 @@ pub record IsTaskForm (t : Task) : Type 0 where
 pub record IsChunkForm (c : Chunk) : Type 0 where
   pub number : IsWord c.number
   pub owner : IsWord c.owner
-  pub whole : c.words % 1024 ≡ 0
-  pub least : 1024 ≤ c.words
+  pub whole : c.words % chunk_words ≡ 0
+  pub least : chunk_words ≤ c.words
   pub most : c.words ≤ 67108864
 
 -- an object has at most a million fields

@@ -3,7 +3,7 @@ use Rattle.std.specs.Prelude.{◌≡◌, ◌⊎◌, ◌↔◌, ◌<◌, ◌*◌,
 use Rattle.std.specs.Int.{w64}
 use Rattle.listed.specs.Members.{In}
 use Rattle.hh_model.specs.Step.{owner_of}
-use Rattle.object_layout.specs.Cell.{IsRef}
+use Rattle.object_layout.specs.Cell.{IsRef, chunk_words}
 use Rattle.object_layout.specs.Layout.{word_of_ref}
 use Rattle.object_layout.specs.Objects.{Located}
 use Rattle.chunk_pool.specs.declared.pool.Slot.{Slot}
@@ -54,7 +54,7 @@ pub record IsInUse (w : SharedValue) (c : InUse) : Type 0 where
   pub held : Slot
   pub is : slot_at w.pool c.number ≡ Some held
   pub owner : c.owner ≡ owner_of (accounts w).machine.tasks held.owner
-  pub words : c.words ≡ 1024 * held.units
+  pub words : c.words ≡ chunk_words * held.units
 
 -- OBJECTS
 

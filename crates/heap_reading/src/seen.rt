@@ -12,7 +12,7 @@ ghost use Rattle.heap_reading.specs.Image.{shown, AreInWords};
 
 use listed::Listed;
 use object_layout::{
-    Addr, Birth, Chunk, birth_at, header_at, int_at, is_object_at, next_at, ref_at,
+    Addr, Birth, CHUNK_WORDS, Chunk, birth_at, header_at, int_at, is_object_at, next_at, ref_at,
 };
 use std::alloc::{AllocError, Global};
 
@@ -30,7 +30,7 @@ pub struct Seen {
 pub fn number_of(address: Addr) -> u64
     ensures { result ≡ word_of_ref (Some address) }
 {
-    address.chunk as u64 * 1024 + address.offset as u64 + 1
+    address.chunk as u64 * CHUNK_WORDS + address.offset as u64 + 1
 }
 
 // A reference as a number.

@@ -11,6 +11,7 @@ use crate::owners::{chunk_of_address, owner_of};
 use crate::read::{Extent, Position, Read, extent_in, may_come, position_in};
 use crate::tasks::Relation;
 use crate::whole::Whole;
+use chunk_sizes::CHUNK_WORDS;
 
 // Whether a line isn't of the form, or doesn't come behind the last one.
 fn is_out_of_order(last: Option<Position>, said: &Said) -> bool
@@ -58,8 +59,8 @@ fn is_overlapping(latest: Option<Extent>, object: &Object) -> bool
 {
     match latest {
         None => false,
-        Some(latest) => latest.chunk == (object.address - 1) / 1024
-            && (object.address - 1) % 1024 < latest.past,
+        Some(latest) => latest.chunk == (object.address - 1) / CHUNK_WORDS
+            && (object.address - 1) % CHUNK_WORDS < latest.past,
     }
 }
 

@@ -8,6 +8,7 @@ use crate::line::{Chunk, Object, Said};
 use crate::sets::Births;
 use crate::table::Table;
 use crate::tasks::Tasks;
+use chunk_sizes::CHUNK_WORDS;
 use std::alloc::{AllocError, Global};
 
 /// Where a line belongs: kinds in their order, and in a kind by numbers.
@@ -91,7 +92,7 @@ pub(crate) fn chunk_of(address: u64) -> u64
     requires { 0 < address }
     ensures { result ≡ chunk_number address }
 {
-    (address - 1) / 1024
+    (address - 1) / CHUNK_WORDS
 }
 
 /// Where an object ends in its chunk, and which that is.
@@ -100,7 +101,7 @@ pub(crate) fn extent_in(object: &Object) -> Extent
     requires there { 0 < object.now.address }
     ensures { result ≡ extent_of object.now }
 {
-    let offset = (object.address - 1) % 1024;
+    let offset = (object.address - 1) % CHUNK_WORDS;
     Extent {
         chunk: chunk_of(object.address),
         past: offset + 2 + object.references.len() as u64 + object.numbers,

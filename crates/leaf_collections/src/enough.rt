@@ -3,6 +3,7 @@
 ghost use Rattle.std.specs.Prelude.{◌≡◌, ◌≤◌, ◌^◌};
 ghost use Rattle.shared_value.specs.Due.{due_cause, take_by};
 
+use object_layout::CHUNK_WORDS;
 use run_ledger::Refused;
 use task_machine::Private;
 
@@ -11,8 +12,8 @@ pub fn chunks_for(words: u64) -> u64
     ensures take { result ≡ take_by words }
     ensures few { result ≤ 2 ^ 56 }
 {
-    let full = words / 1024;
-    let rest = words % 1024;
+    let full = words / CHUNK_WORDS;
+    let rest = words % CHUNK_WORDS;
     let units = if rest == 0 { full } else { full + 1 };
     if units == 0 { 1 } else { 2 * units - 1 }
 }

@@ -3,7 +3,7 @@ use Rattle.std.specs.Prelude.{◌≡◌, ◌+◌, ◌↔◌, ◌&&◌, Bool, fal
 use Rattle.std.specs.List.{IsDistinct, list_any}
 use Rattle.std.specs.List.Sorted.{IsSorted}
 use Rattle.object_layout.specs.declared.word.Addr.{Addr}
-use Rattle.object_layout.specs.Cell.{Moved, size_of, with_mark}
+use Rattle.object_layout.specs.Cell.{Moved, size_of, with_mark, chunk_words}
 use Rattle.object_layout.specs.ChunkValue.{ChunkValue}
 use Rattle.object_layout.specs.Place.{cell_at}
 use Rattle.object_layout.specs.Chunks.{cell_of}
@@ -53,7 +53,7 @@ pub record IsLeft (h g : List ChunkValue) (ss : List Addr) (f : Option Addr → 
 
 -- a large survivor has this chunk
 abbrev pub keeps : List Survivor → ChunkValue → Bool
-keeps ss k = not (nat_le (size_of (cell_at k.cells 0)) 1024) && list_any (λ s. same_address s.old (record { chunk = k.number; offset = 0 })) ss
+keeps ss k = not (nat_le (size_of (cell_at k.cells 0)) chunk_words) && list_any (λ s. same_address s.old (record { chunk = k.number; offset = 0 })) ss
 
 abbrev pub leaves : List Survivor → ChunkValue → Bool
 leaves ss k = not (keeps ss k)

@@ -1,6 +1,7 @@
 -- What an evacuation makes of a heap and its frames.
 use Rattle.std.specs.Prelude.{◌≡◌, ◌+◌, ◌*◌, ◌/◌, ◌≤◌, List, [], length, map}
 use Rattle.object_layout.specs.declared.word.Addr.{Addr}
+use Rattle.object_layout.specs.Cell.{units}
 use Rattle.task_frames.specs.FramesValue.{FramesValue, frames_of}
 use Rattle.leaf_copy_gc.specs.Survivors.{olds, outside, with_chunks}
 use Rattle.leaf_copy_gc.specs.Laid.{AreNew, small_words}
@@ -14,7 +15,7 @@ pub record Begins (c : CollectorValue) : Type 0 where
   pub laid : c.laying.laid ≡ []
   pub moved : c.moved ≡ []
   pub new : AreNew c.laying.spare
-  pub enough : 2 * ((small_words c.heap.chunks + 1023) / 1024) ≤ length c.laying.spare + 1
+  pub enough : 2 * units (small_words c.heap.chunks) ≤ length c.laying.spare + 1
 
 -- the survivors are found, the small ones laid into new chunks, and all references led there; the old chunks are left with the
 -- new addresses in them

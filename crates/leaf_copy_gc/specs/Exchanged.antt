@@ -1,6 +1,6 @@
 -- Which chunks a heap keeps, and which it gives back.
 use Rattle.std.specs.Prelude.{◌≡◌, true, ℕ, Bool, List, [], ◌∷◌, ◌&&◌, Option, Some, None, is_some, length, nat_le, not, remove, if◌then◌else◌}
-use Rattle.object_layout.specs.Cell.{Born, Cell, IsObject, moved_to, size_of, with_mark}
+use Rattle.object_layout.specs.Cell.{Born, Cell, IsObject, moved_to, size_of, with_mark, chunk_words}
 use Rattle.object_layout.specs.ChunkValue.{ChunkValue}
 use Rattle.object_layout.specs.Place.{cell_at}
 use Rattle.object_layout.specs.Chunks.{cell_of, chunk_at, place_in, put_object}
@@ -9,7 +9,7 @@ use Rattle.leaf_copy_gc.specs.declared.lists.Survivor.{Survivor}
 
 -- a large object that was found
 abbrev pub is_found_large : Cell → Bool
-is_found_large c = not (nat_le (size_of c) 1024) && is_some (moved_to c.mark)
+is_found_large c = not (nat_le (size_of c) chunk_words) && is_some (moved_to c.mark)
 
 -- a chunk that holds one stays
 abbrev pub stays : ChunkValue → Bool

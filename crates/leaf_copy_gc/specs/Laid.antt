@@ -1,7 +1,7 @@
 -- How survivors are laid into new chunks.
 use Rattle.std.specs.Prelude.{◌≡◌, ℕ, ◌+◌, ◌-◌, ◌<◌, ◌≤◌, Bool, List, [], ◌∷◌, ◌++◌, nat_le, nat_lt, if◌then◌else◌, filter}
 use Rattle.object_layout.specs.declared.word.Addr.{Addr}
-use Rattle.object_layout.specs.Cell.{Born, Cell, Hole, Mark, Moved, size_of}
+use Rattle.object_layout.specs.Cell.{Born, Cell, Hole, Mark, Moved, size_of, chunk_words}
 use Rattle.object_layout.specs.ChunkValue.{ChunkValue}
 use Rattle.object_layout.specs.Place.{words_in}
 use Rattle.object_layout.specs.Chunks.{cell_of}
@@ -10,14 +10,14 @@ use Rattle.object_layout.specs.Chunks.{cell_of}
 
 -- a small object, of at most 1,024 words, is moved; a large one stays where it is
 abbrev pub is_small : List ChunkValue → Addr → Bool
-is_small h a = nat_le (size_of (cell_of h a)) 1024
+is_small h a = nat_le (size_of (cell_of h a)) chunk_words
 
 abbrev pub smalls : List ChunkValue → List Addr → List Addr
 smalls h xs = filter (is_small h) xs
 
 -- the words of an object, if it is small and bears its birth name
 abbrev pub small_size : Mark → ℕ → ℕ
-small_size (Born b) n = if nat_le n 1024 then n else 0
+small_size (Born b) n = if nat_le n chunk_words then n else 0
 small_size (Moved to) n = 0
 small_size Hole n = 0
 
@@ -75,7 +75,7 @@ laid_one y c = record { laid = placed (opened y (size_of c)).laid c; spare = (op
 
 -- an object of this size finds room
 abbrev pub HasRoom : Laying → ℕ → Type 0
-HasRoom y size = (size ≤ room_in (opened y size).laid) × ((laid_at y size).offset < 1024)
+HasRoom y size = (size ≤ room_in (opened y size).laid) × ((laid_at y size).offset < chunk_words)
 
 -- the chunks once the objects at these addresses of a heap are laid, one after another
 abbrev pub laid_all : Laying → List ChunkValue → List Addr → Laying
@@ -95,7 +95,7 @@ HaveRoom y h (a ∷ xs) = HasRoom y (size_of (cell_of h a)) × HaveRoom (laid_on
 -- empty chunks of 1,024 words
 abbrev pub AreNew : List ChunkValue → Type 0
 AreNew [] = Unit {0}
-AreNew (k ∷ ks) = ((k.cells ≡ []) × (k.size ≡ 1024)) × AreNew ks
+AreNew (k ∷ ks) = ((k.cells ≡ []) × (k.size ≡ chunk_words)) × AreNew ks
 
 -- where nothing is laid yet
 abbrev pub before : List ChunkValue → Laying

@@ -4,6 +4,7 @@ use Rattle.std.specs.List.Sorted.{IsPermutation}
 use Rattle.object_layout.specs.declared.word.Addr.{Addr}
 use Rattle.object_layout.specs.ChunkValue.{ChunkValue}
 use Rattle.object_layout.specs.Chunks.{cell_of, has_chunk, object_count, small_part, sum_of}
+use Rattle.object_layout.specs.Cell.{units}
 use Rattle.alloc_path.specs.LeafHeapValue.{AreApart, LeafHeapValue, IsFresh, IsReserved, IsSettled}
 use Rattle.leaf_copy_gc.specs.declared.lists.Survivor.{Survivor}
 use Rattle.leaf_copy_gc.specs.Survivors.{live_count, olds}
@@ -17,7 +18,7 @@ pub record CanTake (h : List ChunkValue) (news : List ChunkValue) : Type 0 where
   pub apart : AreApart news
   pub fresh : All (λ k. IsFresh h k.number) news
   pub new : AreNew news
-  pub enough : 2 * ((small_words h + 1023) / 1024) ≤ length news + 1
+  pub enough : 2 * units (small_words h) ≤ length news + 1
 
 -- an object that was moved is read at its new address as it was at the old one, under the same name, its references led
 abbrev pub MovedAreRead : Type 0

@@ -2,7 +2,7 @@
 use Rattle.std.specs.Prelude.{◌<◌, length, List, [], ◌∷◌, ◌++◌, Option, Some, None, fold}
 use Rattle.object_layout.specs.declared.word.Addr.{Addr}
 use Rattle.object_layout.specs.declared.word.Birth.{Birth}
-use Rattle.object_layout.specs.Cell.{Born, Hole, IsObject, Mark, Moved, with_mark}
+use Rattle.object_layout.specs.Cell.{Born, Hole, IsObject, Mark, Moved, with_mark, chunk_words}
 use Rattle.object_layout.specs.ChunkValue.{ChunkValue}
 use Rattle.object_layout.specs.Chunks.{cell_of, place_of, put_object}
 use Rattle.leaf_copy_gc.specs.Survivors.{with_chunks}
@@ -38,4 +38,4 @@ visited c (Some a) = visited_at c a (birth_in (cell_of c.heap.chunks a).mark)
 -- a reference into the heap leads to an object there, found or not, at a place that a word can hold
 abbrev pub IsTarget : List ChunkValue → Option Addr → Type 0
 IsTarget h None = Unit {0}
-IsTarget h (Some a) = place_of h a.chunk < length h → IsObject (cell_of h a).mark × (a.offset < 1024)
+IsTarget h (Some a) = place_of h a.chunk < length h → IsObject (cell_of h a).mark × (a.offset < chunk_words)

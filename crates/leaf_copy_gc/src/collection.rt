@@ -3,6 +3,7 @@
 ghost use Rattle.std.specs.Prelude.{◌≡◌, ◌+◌, ◌*◌, ◌/◌, ◌≤◌, ◌++◌, length, vec_len, vec_capacity, All};
 ghost use Rattle.alloc_path.specs.LeafHeapValue.{AreApart, AreTidy, IsFresh, IsSettled};
 ghost use Rattle.object_layout.specs.Graph.{IsClosed, IsSound};
+ghost use Rattle.object_layout.specs.Cell.{units};
 ghost use Rattle.leaf_copy_gc.specs.Survivors.{outside};
 ghost use Rattle.leaf_copy_gc.specs.Laid.{small_words, AreNew};
 ghost use Rattle.leaf_copy_gc.specs.Exchanged.{counted32};
@@ -37,7 +38,7 @@ pub fn copy<G: Gate>(
     requires apart { AreApart to_chunks.chunks.items }
     requires fresh { All (λ k. IsFresh heap.old.chunks k.number) to_chunks.chunks.items }
     requires new { AreNew to_chunks.chunks.items }
-    requires enough { 2 * ((small_words heap.old.chunks + 1023) / 1024) ≤ length to_chunks.chunks.items + 1 }
+    requires enough { 2 * units (small_words heap.old.chunks) ≤ length to_chunks.chunks.items + 1 }
     requires reserved { AreReserved heap.old (vec_len to_chunks.chunks) to_chunks }
     ensures { IsCollected heap.old frames.old roots.now to_chunks.chunks.items heap.new frames.new result }
 {
@@ -54,7 +55,7 @@ fn collect(heap: Space, frames: &mut Frames, roots: &[Addr], to_chunks: ToChunks
     requires tidy { AreTidy heap.chunks }
     requires apart { AreApart (heap.chunks ++ to_chunks.chunks.items) }
     requires new { AreNew to_chunks.chunks.items }
-    requires enough { 2 * ((small_words heap.chunks + 1023) / 1024) ≤ length to_chunks.chunks.items + 1 }
+    requires enough { 2 * units (small_words heap.chunks) ≤ length to_chunks.chunks.items + 1 }
     requires reserved { AreReserved heap (vec_len to_chunks.chunks) to_chunks }
     ensures collected { IsCollected heap frames.old roots.now to_chunks.chunks.items result.0 frames.new result.1 }
     ensures settled { IsSettled result.0.chunks }

@@ -1,7 +1,7 @@
 // Copies survivors into new chunks, in their order.
 
 ghost use Rattle.std.specs.Prelude.{◌≡◌, ◌+◌, ◌≤◌, ◌<◌, ◌++◌, ◌∷◌, [], length, fold, true, Some};
-ghost use Rattle.object_layout.specs.Cell.{Moved, size_of, with_mark, IsObject};
+ghost use Rattle.object_layout.specs.Cell.{Moved, size_of, with_mark, IsObject, chunk_words};
 ghost use Rattle.object_layout.specs.Place.{words_in};
 ghost use Rattle.object_layout.specs.Chunks.{cell_of, next_address, place_in, put_object};
 ghost use Rattle.leaf_copy_gc.specs.Survivors.{with_chunks};
@@ -11,10 +11,10 @@ ghost use Rattle.leaf_copy_gc.specs.Copying.{copied, copied_last, copied_one, su
 use crate::collector::Collector;
 use crate::lists::Survivor;
 use alloc_path::Space;
-use object_layout::{Addr, Chunk, copy_behind, header_at, set_birth};
+use object_layout::{Addr, CHUNK_WORDS, Chunk, copy_behind, header_at, set_birth};
 
 /// How many words a small object has at most.
-pub(crate) const SMALL: u32 = 1024;
+pub(crate) const SMALL: u32 = CHUNK_WORDS as u32;
 
 // How many words the object at an address takes.
 pub(crate) fn size_at(heap: &Space, object: Addr) -> u32
@@ -71,7 +71,7 @@ fn move_last(heap: &mut Space, place: usize, survivor: Survivor, laid: &mut [Chu
     requires place { place_in heap.old.chunks survivor.old.chunk ≡ Some place }
     requires object { IsObject (cell_of heap.old.chunks survivor.old).mark }
     requires room { size_of (cell_of heap.old.chunks survivor.old) ≤ room_in laid.old }
-    requires begins { (next_place laid.old).offset < 1024 }
+    requires begins { (next_place laid.old).offset < chunk_words }
     ensures address { result ≡ next_place laid.old }
     ensures laid { laid.new ≡ placed laid.old (survivor_cell heap.old.chunks survivor) }
     ensures left { heap.new ≡ with_chunks heap.old (put_object heap.old.chunks survivor.old (with_mark (cell_of heap.old.chunks survivor.old) (Moved result))) }
@@ -99,7 +99,7 @@ impl Collector {
         requires place { place_in self.old.heap.chunks survivor.old.chunk ≡ Some place }
         requires object { IsObject (cell_of self.old.heap.chunks survivor.old).mark }
         requires fits { size_of (cell_of self.old.heap.chunks survivor.old) ≤ room_in self.old.laying.laid }
-        requires begins { (next_place self.old.laying.laid).offset < 1024 }
+        requires begins { (next_place self.old.laying.laid).offset < chunk_words }
         requires list { length self.old.moved < length self.old.found }
         ensures { self.new ≡ copied_last self.old survivor }
     {

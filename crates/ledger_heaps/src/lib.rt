@@ -17,7 +17,5 @@ pub use joined::{fresh, join, merge};
 pub use owners::are_owned;
 pub use placed::{place, put_last};
 pub use reachable::within;
-pub use sizes::{
-    CHUNK_WORDS, is_countable, take_of, units, units_in, words_at, words_in, words_sum,
-};
+pub use sizes::{CHUNK_WORDS, is_countable, take_of, units_in, words_at, words_in, words_sum};
 pub use sweeping::{Swept, sweep};

@@ -1,13 +1,14 @@
 // Words, and the chunks in use, in units of 1,024 words.
 
 ghost use Rattle.std.specs.Prelude.{◌≡◌, ◌↔◌, ◌+◌, ◌<◌, ◌≤◌, ◌^◌, IsTrue, min};
-ghost use Rattle.run_ledger.specs.Heaps.{words_at, words_sum, units_sum, units, words_in, units_in, take_of, small_in};
+ghost use Rattle.run_ledger.specs.Heaps.{words_at, words_sum, units_sum, words_in, units_in, take_of, small_in};
 
+use chunk_sizes::units;
 use hh_model::{Name, State};
 use run_ledger::Heap;
 
 /// The words of a chunk that is one unit.
-pub const CHUNK_WORDS: usize = 1024;
+pub const CHUNK_WORDS: usize = chunk_sizes::CHUNK_WORDS as usize;
 
 /// The words of a name's object, 0 where there is none.
 pub fn words_at(machine: &State, name: Name) -> usize
@@ -29,14 +30,6 @@ pub fn words_sum(machine: &State, names: &[Name]) -> u64
         .iter()
         .map(|name| words_at(machine, *name) as u64)
         .sum()
-}
-
-/// How many units hold so many words.
-pub fn units(words: u64) -> u64
-    requires { words < 2 ^ 63 }
-    ensures { result ≡ units words }
-{
-    (words + 1023) / 1024
 }
 
 // The units of some large objects' chunks together.

@@ -1,6 +1,7 @@
 -- An object as callers see it.
 use Rattle.std.specs.Prelude.{ℕ, ◌+◌, ◌<◌, ◌^◌, ℤ, Bool, false, List, [], Option, Some, None, length, All, FitsSigned, pos, replicate, slice_set}
 use Rattle.std.specs.Int.{w64}
+pub use Rattle.chunk_sizes.specs.Sizes.{chunk_words, units}
 use Rattle.object_layout.specs.declared.word.Addr.{Addr}
 use Rattle.object_layout.specs.declared.word.Birth.{Birth}
 use Rattle.object_layout.specs.declared.word.Header.{Header}
@@ -48,7 +49,7 @@ no_cell = record { mark = Hole; mutable = false; refs = []; ints = [] }
 -- an object begins within the first 1,024 words of its chunk
 abbrev pub IsPlace : Option Addr → Type 0
 IsPlace None = Unit {0}
-IsPlace (Some a) = a.offset < 1024
+IsPlace (Some a) = a.offset < chunk_words
 
 -- ---- what a mark tells
 
@@ -110,7 +111,7 @@ frozen c = record c { mutable = false }
 -- a reference that a word can hold
 abbrev pub IsRef : Option Addr → Type 0
 IsRef None = Unit {0}
-IsRef (Some a) = (a.offset < 1024) × (a.chunk < 2 ^ 32)
+IsRef (Some a) = (a.offset < chunk_words) × (a.chunk < 2 ^ 32)
 
 -- a mark that a word can hold
 abbrev pub IsMark : Mark → Type 0

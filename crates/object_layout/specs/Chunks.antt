@@ -1,7 +1,7 @@
 -- Objects of a list of chunks, by their addresses.
 use Rattle.std.specs.Prelude.{◌≡◌, ℕ, ◌+◌, Bool, List, [], ◌∷◌, ◌++◌, ◌==◌, ◌&&◌, if◌then◌else◌, Option, Some, None, is_some, length, nat_le, nat_lt, slice_index_or, slice_set}
 use Rattle.object_layout.specs.declared.word.Addr.{Addr}
-use Rattle.object_layout.specs.Cell.{Born, Cell, Hole, Mark, Moved, as_object, no_cell, size_of}
+use Rattle.object_layout.specs.Cell.{Born, Cell, Hole, Mark, Moved, as_object, no_cell, size_of, chunk_words}
 use Rattle.object_layout.specs.ChunkValue.{ChunkValue}
 use Rattle.object_layout.specs.Place.{cell_at, put_cell, words_in}
 
@@ -98,7 +98,7 @@ object_count ks = sum_of one_each ks
 
 -- the words of a small object, which has at most 1,024; none of a large one
 abbrev pub small_part : ℕ → ℕ
-small_part n = if nat_le n 1024 then n else 0
+small_part n = if nat_le n chunk_words then n else 0
 
 -- the words of all small objects
 abbrev pub small_words : List ChunkValue → ℕ

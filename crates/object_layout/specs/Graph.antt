@@ -1,7 +1,7 @@
 -- The graph of a heap: at which addresses objects lie, and which of them refer to which.
 use Rattle.std.specs.Prelude.{◌<◌, List, Option, Some, None, All, Contains, length}
 use Rattle.object_layout.specs.declared.word.Addr.{Addr}
-use Rattle.object_layout.specs.Cell.{IsBorn}
+use Rattle.object_layout.specs.Cell.{IsBorn, chunk_words}
 use Rattle.object_layout.specs.ChunkValue.{ChunkValue}
 use Rattle.object_layout.specs.Chunks.{cell_of, place_of}
 
@@ -12,7 +12,7 @@ IsHeld h a = IsBorn (cell_of h a).mark
 -- a reference into the heap leads to an object there, at a place that a word can hold
 abbrev pub IsSound : List ChunkValue → Option Addr → Type 0
 IsSound h None = Unit {0}
-IsSound h (Some a) = place_of h a.chunk < length h → IsHeld h a × (a.offset < 1024)
+IsSound h (Some a) = place_of h a.chunk < length h → IsHeld h a × (a.offset < chunk_words)
 
 -- each reference of each object of the heap does
 abbrev pub IsClosed : List ChunkValue → Type 0

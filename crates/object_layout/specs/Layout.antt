@@ -5,14 +5,14 @@ use Rattle.std.specs.Int.{cast_signed, cast_unsigned}
 use Rattle.std.specs.List.{flat_map}
 use Rattle.object_layout.specs.declared.word.Addr.{Addr}
 use Rattle.object_layout.specs.declared.word.Birth.{Birth}
-use Rattle.object_layout.specs.Cell.{Cell, Mark, Born, Moved, Hole}
+use Rattle.object_layout.specs.Cell.{Cell, Mark, Born, Moved, Hole, chunk_words}
 
 -- ---- from words
 
 -- a reference: 0 for nil
 abbrev pub ref_of_word : ℕ → Option Addr
 ref_of_word zero = None
-ref_of_word (suc n) = Some (record { chunk = n / 1024; offset = n % 1024 })
+ref_of_word (suc n) = Some (record { chunk = n / chunk_words; offset = n % chunk_words })
 
 abbrev pub birth_of_word : ℕ → Birth
 birth_of_word w = record { task = w / 2 ^ 32; count = w % 2 ^ 32 }
@@ -59,7 +59,7 @@ cells_of_words (suc skipped) (w ∷ ws) = cells_of_words skipped ws
 
 abbrev pub word_of_ref : Option Addr → ℕ
 word_of_ref None = 0
-word_of_ref (Some a) = a.chunk * 1024 + a.offset + 1
+word_of_ref (Some a) = a.chunk * chunk_words + a.offset + 1
 
 abbrev pub word_of_birth : Birth → ℕ
 word_of_birth b = b.task * 2 ^ 32 + b.count

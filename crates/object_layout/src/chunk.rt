@@ -1,7 +1,7 @@
 // A chunk, and its objects one after another.
 
 ghost use Rattle.std.specs.Prelude.{◌≡◌, ◌+◌, ◌-◌, ◌*◌, ◌^◌, ◌<◌, ◌≤◌, ◌↔◌, [], ◌∷◌, ◌++◌, length, take, drop, replicate, All, slice_get, slice_index, slice_index_or, IfOk, IsTrue, Some};
-ghost use Rattle.object_layout.specs.Cell.{header_of, size_of, new_cell, IsPlace, IsBorn, IsObject, moved_to, with_ref, with_refs, with_int, with_ints, with_mark, filled_cell, frozen, Born, Moved, Hole, IsCell};
+ghost use Rattle.object_layout.specs.Cell.{header_of, size_of, new_cell, IsPlace, IsBorn, IsObject, moved_to, with_ref, with_refs, with_int, with_ints, with_mark, filled_cell, frozen, Born, Moved, Hole, IsCell, chunk_words};
 ghost use Rattle.object_layout.specs.Chunks.{with_cell};
 ghost use Rattle.object_layout.specs.Layout.{words_of_cell};
 ghost use Rattle.object_layout.specs.Piece.{is_frozen};
@@ -11,6 +11,7 @@ use crate::word::{
     Addr, Birth, GONE, Header, MUTABLE, birth_from_word, birth_to_word, header_from_word,
     header_to_word, is_gone_word, ref_from_word, ref_to_word,
 };
+use chunk_sizes::CHUNK_WORDS;
 use std::alloc::{AllocError, Global};
 use std::marker::Model;
 
@@ -41,9 +42,9 @@ impl Chunk {
     /// An empty chunk of so many units of 1,024 words.
     pub fn new(alloc: Global, number: u32, units: u32) -> Result<Chunk, AllocError>
         requires { units < 2 ^ 22 }
-        ensures { IfOk result (λ c. c ≡ record { number = number; size = 1024 * units; cells = [] }) }
+        ensures { IfOk result (λ c. c ≡ record { number = number; size = chunk_words * units; cells = [] }) }
     {
-        let words = vec![in alloc; 0; 1024 * units as usize]?;
+        let words = vec![in alloc; 0; CHUNK_WORDS as usize * units as usize]?;
         Ok(Chunk {
             number,
             words,

@@ -4,6 +4,8 @@ ghost use Rattle.std.specs.Prelude.{◌≡◌, ◌<◌, ◌≤◌, ◌^◌, ◌+
 ghost use Rattle.object_layout.specs.Cell.{IsPlace, IsRef};
 ghost use Rattle.object_layout.specs.Layout.{word_of_ref, ref_of_word, word_of_birth, birth_of_word, header_word, nrefs_of, nints_of, mutable_of, gone_of};
 
+use chunk_sizes::CHUNK_WORDS;
+
 /// Where an object lies: a chunk's number, and the word of that chunk at which the object begins.
 #[derive(Clone, Copy, PartialEq, Eq, PartialOrd, Ord, Hash)]
 pub struct Addr {
@@ -40,7 +42,7 @@ pub fn ref_to_word(reference: Option<Addr>) -> u64
 {
     match reference {
         None => 0,
-        Some(to) => to.chunk as u64 * 1024 + to.offset as u64 + 1,
+        Some(to) => to.chunk as u64 * CHUNK_WORDS + to.offset as u64 + 1,
     }
 }
 
@@ -53,8 +55,8 @@ pub fn ref_from_word(word: u64) -> Option<Addr>
         None
     } else {
         Some(Addr {
-            chunk: ((word - 1) / 1024) as u32,
-            offset: ((word - 1) % 1024) as u32,
+            chunk: ((word - 1) / CHUNK_WORDS) as u32,
+            offset: ((word - 1) % CHUNK_WORDS) as u32,
         })
     }
 }

@@ -4,6 +4,7 @@ use Rattle.std.specs.List.{AllByRecursion}
 use Rattle.object_layout.specs.declared.word.Addr.{Addr}
 use Rattle.object_layout.specs.ChunkValue.{ChunkValue}
 pub use Rattle.object_layout.specs.Chunks.{same_address}
+use Rattle.object_layout.specs.Cell.{chunk_words}
 use Rattle.remembered_set.specs.declared.remembered.Source.{Source}
 use Rattle.remembered_set.specs.Sources.{has_chunk}
 
@@ -36,7 +37,7 @@ AreInOrder ms = (i j : ℕ) (d : Addr × Addr) → i < j → j < length ms → n
 
 -- the new addresses are places of objects
 abbrev pub ArePlaces : List (Addr × Addr) → Type 0
-ArePlaces ms = AllByRecursion (λ m. m.1.offset < 1024) ms
+ArePlaces ms = AllByRecursion (λ m. m.1.offset < chunk_words) ms
 
 module _ {S : Type 0} (refs_at : S → Addr → List (Option Addr)) where
   -- each source is a field of an object

@@ -2,6 +2,7 @@
 -- reached within a heap.
 use Rattle.std.specs.Prelude.{ℕ, ◌+◌, ◌-◌, ◌*◌, ◌/◌, ◌==◌, ◌&&◌, ◌||◌, not, Bool, true, false, Option, Some, None, List, [], ◌∷◌, ◌++◌, slice_get, slice_set, length, if◌then◌else◌, nat_lt, nat_le, filter, map, sum_by, max, unwrap_or}
 use Rattle.std.specs.List.{flat_map}
+pub use Rattle.chunk_sizes.specs.Sizes.{chunk_words, units}
 use Rattle.hh_model.specs.declared.data.Name.{Name}
 use Rattle.hh_model.specs.declared.data.Object.{Object}
 use Rattle.hh_model.specs.declared.data.Frame.{Frame}
@@ -15,14 +16,6 @@ use Rattle.run_ledger.specs.declared.data.Ledger.{Ledger}
 use Rattle.run_ledger.specs.Reachable.{holds_name, reached}
 
 -- SIZES
-
--- the words of a chunk, and of a unit of a large object's chunk
-abbrev pub chunk_words : ℕ
-chunk_words = 1024
-
--- how many units hold so many words
-abbrev pub units : ℕ → ℕ
-units words = (words + 1023) / 1024
 
 -- an object of so many words has its place in a chunk with others
 abbrev pub is_small : ℕ → Bool

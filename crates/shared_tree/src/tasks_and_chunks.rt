@@ -10,6 +10,7 @@ use crate::shared::Shared;
 use heap_marking::is_joined;
 use heap_reading::{InUse, Live, live_in};
 use listed::Listed;
+use object_layout::CHUNK_WORDS;
 use std::alloc::{AllocError, Global};
 
 impl Shared {
@@ -57,7 +58,7 @@ impl Shared {
             Some(held) => Some(InUse {
                 number,
                 owner: self.owner_now(held.owner),
-                words: 1024 * held.units as u64,
+                words: CHUNK_WORDS * held.units as u64,
             }),
         }
     }

@@ -1,6 +1,7 @@
 -- The pool knows as many units of a chunk as the chunk has words for.
 use Rattle.std.specs.Prelude.{◌≡◌, ◌≢◌, ℕ, ◌/◌, Option, Some, None, List, [], slice_get}
 use Rattle.object_layout.specs.ChunkValue.{ChunkValue}
+use Rattle.object_layout.specs.Cell.{chunk_words}
 use Rattle.chunk_pool.specs.PoolValue.{PoolValue, slot_at, one_unit}
 use Rattle.core_relation.specs.Memory.{In}
 use Rattle.task_machine.specs.declared.part.Begun.{Begun}
@@ -10,7 +11,7 @@ use Rattle.shared_value.specs.SharedValue.{flat, rest_at}
 
 -- it has each of these chunks for the task, with as many units as the chunk has
 abbrev pub AreMeasured : PoolValue → ℕ → List ChunkValue → Type 0
-AreMeasured pool t ks = (k : ChunkValue) → In ks k → slot_at pool k.number ≡ Some (record { owner = t; units = k.size / 1024 })
+AreMeasured pool t ks = (k : ChunkValue) → In ks k → slot_at pool k.number ≡ Some (record { owner = t; units = k.size / chunk_words })
 
 -- no worker holds the task
 abbrev pub IsUnheld : List (Option ℕ) → ℕ → Type 0

@@ -5,6 +5,7 @@ use Rattle.run_trace.specs.Settings.{AreLimits}
 use Rattle.run_ledger.specs.Journals.{is_legal}
 use Rattle.object_layout.specs.Chunks.{chunk_at}
 use Rattle.object_layout.specs.ChunkValue.{ChunkValue}
+use Rattle.object_layout.specs.Cell.{chunk_words}
 use Rattle.alloc_path.specs.LeafHeapValue.{AreTidy, AreWithin, LeafHeapValue}
 use Rattle.core_relation.specs.Memory.{In}
 use Rattle.core_relation.specs.Whole.{StandsForAll}
@@ -26,8 +27,8 @@ pub record HeapForm (h : LeafHeapValue) : Type 0 where
   -- 64 bits count the words placed
   pub since : h.since < 2 ^ 64
   -- each chunk has whole units, and a large one without objects is the reserved one
-  pub whole : (k : ChunkValue) → In h.chunks k → k.size ≡ 1024 * (k.size / 1024)
-  pub spare : (i : ℕ) → i < length h.chunks → ((chunk_at h.chunks i).size ≡ 1024 → ⊥) → (chunk_of (chunk_at h.chunks i)).objects ≡ [] → h.reserved ≡ Some i
+  pub whole : (k : ChunkValue) → In h.chunks k → k.size ≡ chunk_words * (k.size / chunk_words)
+  pub spare : (i : ℕ) → i < length h.chunks → ((chunk_at h.chunks i).size ≡ chunk_words → ⊥) → (chunk_of (chunk_at h.chunks i)).objects ≡ [] → h.reserved ≡ Some i
 
 -- its journal is legal, and it stands for its journal; the root of a run that is done is handed back
 pub record IsSharedValue (w : SharedValue) : Type 0 where

@@ -1,0 +1,16 @@
+// How many words a chunk has, and how many units hold so many words.
+#![tactic(auto)]
+
+ghost use Rattle.std.specs.Prelude.{◌≡◌, ◌<◌, ◌^◌};
+ghost use Rattle.chunk_sizes.specs.Sizes.{units};
+
+/// The words of a unit, by which chunks are counted. A chunk has one unit, but for that of a large object.
+pub const CHUNK_WORDS: u64 = 1024;
+
+/// How many units hold so many words.
+pub fn units(words: u64) -> u64
+    requires { words < 2 ^ 63 }
+    ensures { result ≡ units words }
+{
+    (words + 1023) / CHUNK_WORDS
+}
