@@ -14,13 +14,14 @@ use Rattle.run_ledger.specs.Heaps.{heap_of, let_go, or_fresh}
 use Rattle.run_ledger.specs.Space.{CountsFew}
 use Rattle.run_ledger.proofs.Bounds.{ran_tells, task_steps_steps}
 use Rattle.run_ledger.proofs.Since.{since_is_few}
+use Rattle.run_ledger.proofs.Machine.{heap_machine}
 use Rattle.alloc_path.specs.LeafHeapValue.{LeafHeapValue}
 use Rattle.alloc_path.specs.View.{Level}
 use Rattle.heap_tree.specs.declared.state.State.TheVariants.{Ended}
 use Rattle.heap_tree.specs.Node.{state_of as state_in_tree}
 use Rattle.ledger_step_laws.specs.Accounts.{Rests, rested}
 use Rattle.ledger_step_laws.specs.Last.{EndsLast, Joining, Runs, Splits}
-use Rattle.ledger_step_laws.proofs.Ahead.{with_machine, with_off}
+use Rattle.ledger_step_laws.proofs.Ahead.{with_off}
 use Rattle.ledger_step_laws.proofs.Rested.{rested_view}
 use Rattle.core_relation.specs.Memory.{Chunk, Home, Memory}
 use Rattle.core_relation.specs.Fits.{part_for, with_home}
@@ -159,7 +160,7 @@ module _ (w : SharedValue) (k : ℕ) (p : Private) (I : IsSharedValue w) (F : Fi
 
   -- ---- WHO JOINS
   pub machine_rests : R.machine ≡ M.machine
-  machine_rests = with_machine M t let_go
+  machine_rests = heap_machine M t let_go
 
   pub left_par : parents M.machine.tasks Q.left ≡ Some Q.parent
   left_par = ap (λ (m : MachineState). parents m.tasks Q.left) (sym machine_rests) ∙ Q.can.left

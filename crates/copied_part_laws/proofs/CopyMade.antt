@@ -11,6 +11,7 @@ use Rattle.run_trace.specs.Settings.{SettingsValue}
 use Rattle.run_ledger.specs.declared.data.Heap.{Heap as Account}
 use Rattle.run_ledger.specs.declared.data.Ledger.{Ledger}
 use Rattle.run_ledger.specs.Heaps.{heap_of, let_go, words_at, words_of}
+use Rattle.run_ledger.proofs.Machine.{heap_machine}
 use Rattle.object_layout.specs.declared.word.Addr.{Addr}
 use Rattle.object_layout.specs.ChunkValue.{ChunkValue}
 use Rattle.object_layout.specs.Objects.{Located}
@@ -29,7 +30,6 @@ use Rattle.leaf_copy_gc.specs.Lists.{IsCollected}
 use Rattle.leaf_copy_gc.proofs.Extent as extent
 use Rattle.leaf_copy_gc.proofs.Telling.{moves_are_told}
 use Rattle.ledger_step_laws.specs.Accounts.{rested}
-use Rattle.ledger_step_laws.proofs.Ahead.{with_machine}
 use Rattle.ledger_step_laws.proofs.Rested.{rested_view, rested_worker}
 use Rattle.task_machine.specs.declared.part.Begun.{Begun}
 use Rattle.core_relation.specs.Memory.{Chunk, Home, In, Memory, led, led_frame, copied_object, object_name, objects_in}
@@ -113,7 +113,7 @@ module _ (p : ProgramText) (st : SettingsValue) (t : ℕ) (h : LeafHeapValue) (v
   began = B.fits.begun
 
   pub machine : lt.machine ≡ l.machine
-  machine = with_machine l t let_go
+  machine = heap_machine l t let_go
 
   pub there : (o : Located) → In (objects_in (chunks_of h.chunks)) o → In (objects_in (V.homes t).chunks) o
   there o i = subst (λ (z : Home). In (objects_in z.chunks) o) (sym here) i

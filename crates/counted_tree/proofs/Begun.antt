@@ -33,7 +33,8 @@ use Rattle.run_ledger.proofs.Steps.{step_leaves, task_step_sound, task_steps_sou
 use Rattle.run_ledger.proofs.Stocks.{names_are_held_once}
 use Rattle.run_ledger.proofs.Waiters.{waiters_are_free}
 use Rattle.run_ledger.proofs.History.{heap_off}
-use Rattle.ledger_step_laws.proofs.Ahead.{heap_then, with_at, with_machine, with_off}
+use Rattle.run_ledger.proofs.Machine.{heap_machine}
+use Rattle.ledger_step_laws.proofs.Ahead.{heap_then, with_at, with_off}
 
 -- ONE HEAP OF A LEDGER
 
@@ -137,7 +138,7 @@ module _ (p : ProgramText) (s : SettingsValue) (journal : List EntryValue) (e : 
     Went z = (heap_of z t).worker ≡ Some k → is_some (heap_of z t).begun ≡ true → WentOn l z t k
 
     went_off : (u : ℕ) (f : Heap → Heap) → (t ≡ u → ⊥) → Went (with_heap l u f)
-    went_off u f ne = went_same l (with_heap l u f) t k (with_machine l u f) (heap_off l u f t ne)
+    went_off u f ne = went_same l (with_heap l u f) t k (heap_machine l u f) (heap_off l u f t ne)
 
     -- a change of a heap that is amid no collection, and isn't afterwards
     went_by : (u : ℕ) (f : Heap → Heap) → (t ≡ u → is_some (heap_of (with_heap l u f) u).begun ≡ true → (heap_of (with_heap l u f) u).worker ≡ Some k → ⊥) → Went (with_heap l u f)
@@ -243,7 +244,7 @@ module _ (p : ProgramText) (s : SettingsValue) (journal : List EntryValue) (e : 
       pub begin_words : words_in l'.machine (heap_of l' u) ≡ words_in l.machine (heap_of l u)
       begin_words =
           ap (λ (z : Ledger). words_in z.machine (heap_of z u)) after_is
-          ∙ ap₂ (λ m ns. words_sum m ns) (with_machine l u (λ h. record h { begun = Some (take_of l.machine h); survivors = within l u }))
+          ∙ ap₂ (λ m ns. words_sum m ns) (heap_machine l u (λ h. record h { begun = Some (take_of l.machine h); survivors = within l u }))
           (heap_view held_in l u (λ h. record h { begun = Some (take_of l.machine h); survivors = within l u }) (λ h. refl))
 
       -- no other one is of its worker

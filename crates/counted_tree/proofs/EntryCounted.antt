@@ -17,9 +17,9 @@ use Rattle.run_ledger.specs.Frozen.{begins}
 use Rattle.run_ledger.specs.Heaps.{collected, heap_of, held_in, in_use, swept_heap, with_heap, words_in, words_sum}
 use Rattle.run_ledger.specs.Journals.{ledger_of, opening}
 use Rattle.run_ledger.specs.Report.{lost}
+use Rattle.run_ledger.proofs.Machine.{heap_machine}
 use Rattle.object_layout.specs.Chunks.{held_words}
 use Rattle.alloc_path.specs.LeafHeapValue.{counted as counted64}
-use Rattle.ledger_step_laws.proofs.Ahead.{with_machine}
 use Rattle.ledger_step_laws.proofs.Wrote.{waiting_stops}
 use Rattle.run_report.specs.Totals.{AreFew, cleared_words, counted, entry_totals, joined, no_totals, totals_from}
 use Rattle.run_report.proofs.Sums.{legal_few, lost_is, totals_last}
@@ -229,7 +229,7 @@ module _ (w v : SharedValue) (c : Counts) (e : EntryValue) (words : ℕ) (M : Is
       let has : words ≡ words_in l.machine (heap_of l t) = subst (λ z. HasWords l z words) is M.had in
       let waits : is_waiting (slice_get l.machine.tasks t) ≡ true = sweep_waits p s w.journal.items e M.stands.legal M.free t given is in
       let then_is : accounts v ≡ with_heap l t swept_heap = now_is ∙ ap (after_kind p s l e.worker) is in
-      let same : (accounts v).machine ≡ l.machine = ap (λ (z : Ledger). z.machine) then_is ∙ with_machine l t swept_heap in
+      let same : (accounts v).machine ≡ l.machine = ap (λ (z : Ledger). z.machine) then_is ∙ heap_machine l t swept_heap in
       let idle : is_running (slice_get (accounts v).machine.tasks t) ≡ false = ap (λ (m : State). is_running (slice_get m.tasks t)) same ∙ waiting_stops (slice_get l.machine.tasks t) waits in
       let kept : held_unless_running (accounts v) t ≡ held_in (heap_of (accounts v) t) = ap (λ b. cond b [] (held_in (heap_of (accounts v) t))) idle in
       let rest_is : rest ≡ words_in (accounts v).machine (heap_of (accounts v) t) = r ∙ (ap (λ ns. counted64 (words_sum (accounts v).machine ns)) kept ∙ counted_few _ (words_small v I t)) in

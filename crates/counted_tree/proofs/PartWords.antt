@@ -9,9 +9,9 @@ use Rattle.run_ledger.specs.declared.data.Heap.{Heap as Account}
 use Rattle.run_ledger.specs.declared.data.Ledger.{Ledger}
 use Rattle.run_ledger.specs.Heaps.{heap_of, held, held_in, in_use, let_go, or_fresh, words_at, words_in, words_of, words_sum}
 use Rattle.run_ledger.proofs.Space.{heaps_fit, use_is_bounded}
+use Rattle.run_ledger.proofs.Machine.{heap_machine}
 use Rattle.object_layout.specs.Chunks.{held_words}
 use Rattle.ledger_step_laws.specs.Accounts.{aside, rested}
-use Rattle.ledger_step_laws.proofs.Ahead.{with_machine}
 use Rattle.ledger_step_laws.proofs.Rested.{rested_view, rested_worker}
 use Rattle.core_relation.specs.Fits.{with_home}
 use Rattle.core_relation.specs.Stands.{Stands}
@@ -64,7 +64,7 @@ module _ (w : SharedValue) (k : ℕ) (p : Private) (F : Fits w k (record p { fre
   W = F.fits.part.fits.stands
 
   same_words : (ns : List Name) → words_sum L.machine ns ≡ words_sum l.machine ns
-  same_words ns = ap (λ s. sum_by (λ n. words_of (object_at s n)) ns) (ap (λ (m : State). m.store) (with_machine (aside l) t let_go))
+  same_words ns = ap (λ s. sum_by (λ n. words_of (object_at s n)) ns) (ap (λ (m : State). m.store) (heap_machine (aside l) t let_go))
 
   held_is : held_in (heap_of L t) ≡ held_in (heap_of l t)
   held_is = rested_view held_in (λ z. refl) (aside l) t

@@ -13,13 +13,14 @@ use Rattle.run_ledger.specs.declared.data.Heap.{Heap}
 use Rattle.run_ledger.specs.declared.data.Ledger.{Ledger}
 use Rattle.run_ledger.specs.Heaps.{heap_of, left_in, marked_in, or_fresh, with_heap}
 use Rattle.run_ledger.specs.Entries.{after}
+use Rattle.run_ledger.proofs.Machine.{heap_machine}
 use Rattle.object_layout.specs.declared.word.Addr.{Addr}
 use Rattle.object_layout.specs.Graph.{IsHeld, Leads}
 use Rattle.object_layout.proofs.Distinct.{distinct_take}
 use Rattle.object_layout.specs.Objects.{Located}
 use Rattle.inner_mark_gc.specs.MarkingValue.{MarkingValue, marked_of}
 use Rattle.inner_mark_gc.specs.Snapshot.{IsInSnapshot, Starts}
-use Rattle.ledger_step_laws.proofs.Ahead.{heap_then, with_at, with_machine, with_off}
+use Rattle.ledger_step_laws.proofs.Ahead.{heap_then, with_at, with_off}
 use Rattle.ledger_step_laws.specs.Accounts.{Rests}
 use Rattle.core_relation.specs.Memory.{In, Memory, object_name, objects}
 use Rattle.core_relation.specs.Changes.{SameObjects}
@@ -183,8 +184,8 @@ marks_enter w k (Mark u) t m marks room I free just at off count G =
     let heap_t : heap_of (with_heap l u f) t ≡ record (heap_of l t) { marked = Some (length (marked_of m)) } =
     subst (λ z. heap_of (with_heap l u f) z ≡ record (heap_of l z) { marked = Some (length (marked_of m)) }) just (heap_by l u (length (marked_of m)) f (λ h. refl) (ap (λ z. (heap_of (with_heap l u f) z).marked) just ∙ count)) in
     let counts : CountsGo w.program w.settings l (totals_of w) (totals_of w) k (Mark u) = (record { node = λ z. refl; hand = λ z. refl; steps = refl; outputs = refl }, refl, refl) in (
-      marking_world w e I free tt t m marks room at off only just (λ z q. q) (with_machine l u f) heap_t heaps counts G,
-      marking_fits w e I free tt t m marks room at off only just (λ z q. q) (with_machine l u f) heap_t heaps counts G,
+      marking_world w e I free tt t m marks room at off only just (λ z q. q) (heap_machine l u f) heap_t heaps counts G,
+      marking_fits w e I free tt t m marks room at off only just (λ z q. q) (heap_machine l u f) heap_t heaps counts G,
     )
 marks_enter w k (More u n) t m marks room I free just at off count G =
     let e : EntryValue = record { worker = k; kind = More u n } in
@@ -195,8 +196,8 @@ marks_enter w k (More u n) t m marks room I free just at off count G =
     let heap_t : heap_of (with_heap l u f) t ≡ record (heap_of l t) { marked = Some (length (marked_of m)) } =
     subst (λ z. heap_of (with_heap l u f) z ≡ record (heap_of l z) { marked = Some (length (marked_of m)) }) just (heap_by l u (length (marked_of m)) f (λ h. refl) (ap (λ z. (heap_of (with_heap l u f) z).marked) just ∙ count)) in
     let counts : CountsGo w.program w.settings l (totals_of w) (totals_of w) k (More u n) = (record { node = λ z. refl; hand = λ z. refl; steps = refl; outputs = refl }, refl, refl) in (
-      marking_world w e I free tt t m marks room at off only just (λ z q. q) (with_machine l u f) heap_t heaps counts G,
-      marking_fits w e I free tt t m marks room at off only just (λ z q. q) (with_machine l u f) heap_t heaps counts G,
+      marking_world w e I free tt t m marks room at off only just (λ z q. q) (heap_machine l u f) heap_t heaps counts G,
+      marking_fits w e I free tt t m marks room at off only just (λ z q. q) (heap_machine l u f) heap_t heaps counts G,
     )
 marks_enter w k (Took u) t m marks room I free just at off count G = absurd just
 marks_enter w k (Ran u n) t m marks room I free just at off count G = absurd just

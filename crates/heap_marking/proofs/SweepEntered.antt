@@ -14,13 +14,13 @@ use Rattle.run_ledger.specs.declared.data.Refused.TheVariants.{Count, Left}
 use Rattle.run_ledger.specs.Entries.{refused_unless}
 use Rattle.run_ledger.specs.Heaps.{heap_of, left_in, marked_in, sweep_number, swept_heap, with_heap}
 use Rattle.run_ledger.proofs.Journals.{entry_tells}
+use Rattle.run_ledger.proofs.Machine.{heap_machine}
 use Rattle.object_layout.specs.ChunkValue.{ChunkValue}
 use Rattle.chunk_pool.specs.PoolValue.{PoolValue, slot_at}
 use Rattle.write_barrier.specs.declared.sets.SetOf.{SetOf}
 use Rattle.write_barrier.specs.Stored.{Content as SetContent, content_at, content_of}
 use Rattle.inner_mark_gc.specs.MarkingValue.{MarkingValue, marked_of}
 use Rattle.inner_mark_gc.specs.Swept.{AreGiven, gone_of}
-use Rattle.ledger_step_laws.proofs.Ahead.{with_machine}
 use Rattle.core_relation.specs.Changes.{KeepsJust}
 use Rattle.core_relation.specs.Counts.{CountsGo}
 use Rattle.core_relation.specs.Since.{OthersNotes}
@@ -170,7 +170,7 @@ module _ (w : SharedValue) (k t given : ℕ) (I : IsSharedValue w) (free : refus
     ]
 
     keeps : KeepsJust v v' l L t (heap_of l t).snapshot
-    keeps = home.keeps_just w I on t T.cause T.none_left pool G slots spare v' L (ap home_in rest_then) refl (home.there_by l t (length (marked_of m)) (start.M w I on t T.cause).0.count) (with_machine l t swept_heap)
+    keeps = home.keeps_just w I on t T.cause T.none_left pool G slots spare v' L (ap home_in rest_then) refl (home.there_by l t (length (marked_of m)) (start.M w I on t T.cause).0.count) (heap_machine l t swept_heap)
         (λ u ne. ap home_in (rest_off u ne)) sources_same
 
     notes : OthersNotes v v' t

@@ -24,11 +24,10 @@ use Rattle.run_ledger.specs.Entries.{after, chunk_units, refusal, with_chunk}
 use Rattle.run_ledger.specs.Journals.{is_legal, ledger_of}
 use Rattle.run_ledger.proofs.Journals.{entry_tells}
 use Rattle.run_ledger.proofs.Cuts.{journals_can_be_cut}
-use Rattle.run_ledger.proofs.Machine.{stepped_machine}
+use Rattle.run_ledger.proofs.Machine.{stepped_machine, heap_machine}
 use Rattle.run_ledger.proofs.Holders.{allocated_end, heap_end, moved_to_end}
 use Rattle.ledger_step_laws.specs.Accounts.{Rests, rested}
 use Rattle.ledger_step_laws.specs.Last.{EndsDone, GoesOn, Halts, IdleRest, IsOfKind, LastKind, Private, Reading, Writing, Printing, Forking, Ending, Joining, Finishing, Halting, Runs}
-use Rattle.ledger_step_laws.proofs.Ahead.{with_machine}
 use Rattle.ledger_step_laws.proofs.Along.{steps_know}
 use Rattle.ledger_step_laws.proofs.Root.{root_alone}
 use Rattle.ledger_step_laws.proofs.Split.{entry_runs, legal_idle}
@@ -139,9 +138,9 @@ module _ (p : ProgramText) (s : SettingsValue) (before : List EntryValue) (I : I
 
       ended : EndsDone m l' t E.splits.task → (u : ℕ) → is_running (slice_get l'.machine.tasks u) ≡ false
       ended D u =
-          ap (λ (z : State). is_running (slice_get z.tasks u)) (sym (with_machine l' t let_go)) ∙ elim (cases_eq u t) [
+          ap (λ (z : State). is_running (slice_get z.tasks u)) (sym (heap_machine l' t let_go)) ∙ elim (cases_eq u t) [
             | inl e ↦ ap (λ z. is_running (slice_get (rested l' t).machine.tasks z)) e ∙ ap is_running D.ends.ended
-            | inr ne ↦ ap is_running (D.ends.alone.tasks u ne) ∙ (ap (λ (z : State). is_running (slice_get z.tasks u)) (with_machine m t let_go) ∙ alone D u ne)
+            | inr ne ↦ ap is_running (D.ends.alone.tasks u ne) ∙ (ap (λ (z : State). is_running (slice_get z.tasks u)) (heap_machine m t let_go) ∙ alone D u ne)
           ]
 
       ran_by : (kind : LastKind) → IsOfKind p m l' t E.splits.task E.splits.line kind → (GoesOn kind → l'.machine.end ≡ None) → Idles l'

@@ -20,6 +20,7 @@ use Rattle.run_ledger.specs.Entries.{after, chunk_units, kind_refusal, refused_i
 use Rattle.run_ledger.specs.Steps.{is_due, is_in_need, on_asked}
 use Rattle.run_ledger.proofs.Journals.{entry_tells}
 use Rattle.run_ledger.proofs.Space.{legal_booked}
+use Rattle.run_ledger.proofs.Machine.{heap_machine}
 use Rattle.object_layout.specs.Chunks.{place_in}
 use Rattle.object_layout.specs.ChunkValue.{ChunkValue}
 use Rattle.object_layout.specs.Objects.{Located}
@@ -27,7 +28,7 @@ use Rattle.chunk_pool.specs.declared.pool.Slot.{Slot}
 use Rattle.chunk_pool.specs.PoolValue.{PoolValue, Takes as PoolTakes, units_in_use}
 use Rattle.alloc_path.specs.LeafHeapValue.{LeafHeapValue, IsFresh, added, with_places}
 use Rattle.ledger_step_laws.specs.Accounts.{Rests, rested}
-use Rattle.ledger_step_laws.proofs.Ahead.{heap_then, with_at, with_machine, with_off}
+use Rattle.ledger_step_laws.proofs.Ahead.{heap_then, with_at, with_off}
 use Rattle.ledger_step_laws.proofs.Rested.{rested_view}
 use Rattle.core_relation.specs.Memory.{Chunk, Home, In, Memory, object_name, objects, objects_in}
 use Rattle.core_relation.specs.Layout.{AreLaidOut, reserved_chunks, reserved_units}
@@ -155,7 +156,7 @@ module _ (w : SharedValue) (k : ℕ) (p : Private) (I : IsSharedValue w) (F : Fi
   rested_before u r = ap (λ o. (or_fresh o).worker) (sym (heap_off u (not_t u r))) ∙ r
 
   same_machine : L.machine ≡ l.machine
-  same_machine = with_machine l t more
+  same_machine = heap_machine l t more
 
   -- the part is amid no leaf collection
   abbrev by_need : Option Refused
@@ -384,7 +385,7 @@ module _ (w : SharedValue) (k : ℕ) (p : Private) (I : IsSharedValue w) (F : Fi
     form_then = form_more p.heap F.form number u slots spare (omega (arith, size_least)) none_reserved shaped_then chunks_are counted_then.last counted_then.last_large
 
     rested_same : (rested l t).machine ≡ (rested L t).machine
-    rested_same = with_machine l t let_go ∙ (sym same_machine ∙ sym (with_machine L t let_go))
+    rested_same = heap_machine l t let_go ∙ (sym same_machine ∙ sym (heap_machine L t let_go))
 
     home_then : HomeStands after_ (rested L t) t
     home_then = record {
@@ -417,7 +418,7 @@ module _ (w : SharedValue) (k : ℕ) (p : Private) (I : IsSharedValue w) (F : Fi
       home = home_at;
       objects = λ u. seen (λ (z : Home). objects_in z.chunks) objects_then u;
       chunks = λ u e. elim (cases_eq u t) [
-        | inl q ↦ absurd (both_ways (is_waiting (slice_get l.machine.tasks t)) idle (ap (λ z. is_waiting (slice_get l.machine.tasks z)) (sym q) ∙ (ap (λ (m : State). is_waiting (slice_get m.tasks u)) (sym (with_machine l t let_go)) ∙ e)))
+        | inl q ↦ absurd (both_ways (is_waiting (slice_get l.machine.tasks t)) idle (ap (λ z. is_waiting (slice_get l.machine.tasks z)) (sym q) ∙ (ap (λ (m : State). is_waiting (slice_get m.tasks u)) (sym (heap_machine l t let_go)) ∙ e)))
         | inr ne ↦ ap (λ (z : Home). length z.chunks) (off_home v' t (home_of_part Q) u ne ∙ sym (off_home v t (home_of_part P) u ne))
       ];
       frames = λ u. seen (λ (z : Home). z.frames) refl u;
@@ -426,7 +427,7 @@ module _ (w : SharedValue) (k : ℕ) (p : Private) (I : IsSharedValue w) (F : Fi
       owner = owner_kept;
       taken = λ c u e. elim (owner_taken c u e) [
         | inl q ↦ inl q
-        | inr q ↦ inr (ap (λ (m : State). is_waiting (slice_get m.tasks u)) (with_machine l t let_go) ∙ q.0, ap (λ (m : State). is_some (slice_get m.tasks u)) (with_machine l t let_go) ∙ q.1)
+        | inr q ↦ inr (ap (λ (m : State). is_waiting (slice_get m.tasks u)) (heap_machine l t let_go) ∙ q.0, ap (λ (m : State). is_some (slice_get m.tasks u)) (heap_machine l t let_go) ∙ q.1)
       ];
       begun = λ u e. seen (λ (z : Home). z.begun) refl u;
       sources = λ u. refl;
@@ -445,8 +446,8 @@ module _ (w : SharedValue) (k : ℕ) (p : Private) (I : IsSharedValue w) (F : Fi
               let same : heap_of (rested L t) u ≡ heap_of (rested l t) u = ap or_fresh (with_off L t u let_go ne ∙ (heap_off u ne ∙ sym (with_off l t u let_go ne))) in
               let rests : Rests (rested l t) u = ap (λ (z : Account). z.worker) (sym same) ∙ r in
               home_kept before after_ (rested l t) (rested L t) u (off_home v' t (home_of_part Q) u ne ∙ sym (off_home v t (home_of_part P) u ne)) (λ c e. owner_kept c u e) same
-              (ap (λ (m : State). length (row_of (slice_get m.store u))) (with_machine L t let_go ∙ (same_machine ∙ sym (with_machine l t let_go))))
-              (ap (λ (m : State). is_joined (slice_get m.tasks u)) (with_machine L t let_go ∙ (same_machine ∙ sym (with_machine l t let_go))))
+              (ap (λ (m : State). length (row_of (slice_get m.store u))) (heap_machine L t let_go ∙ (same_machine ∙ sym (heap_machine l t let_go))))
+              (ap (λ (m : State). is_joined (slice_get m.tasks u)) (heap_machine L t let_go ∙ (same_machine ∙ sym (heap_machine l t let_go))))
               ((fits_now w k P I F on).stands.homes u rests)
         ]
 
@@ -527,7 +528,7 @@ module _ (w : SharedValue) (k : ℕ) (p : Private) (I : IsSharedValue w) (F : Fi
   full_part a b =
       quiet_own w full_event I free tt (λ u m. m) w.pool full_end j.room full_same full_notes full_counts refl (all_kept w.pool) k p (with_places p.heap a b) p.begun F (places_form p.heap a b F.form) F.measured
       (subst (λ (z : Ledger). SameObjects full_home full_home (rested (accounts w) p.task) (rested z p.task)) (sym ends_so)
-      (same_value full_home (rested (accounts w) p.task) (rested full_ledger p.task) (with_machine full_ledger p.task let_go ∙ sym (with_machine (accounts w) p.task let_go)) heaps_rested (fits_now w k (record p { fresh = 0 }) I F on).stands.homes))
+      (same_value full_home (rested (accounts w) p.task) (rested full_ledger p.task) (heap_machine full_ledger p.task let_go ∙ sym (heap_machine (accounts w) p.task let_go)) heaps_rested (fits_now w k (record p { fresh = 0 }) I F on).stands.homes))
       (subst (λ (z : Ledger). BegunBy full_home (rested z p.task) p.task p.begun) (sym ends_so) (subst (λ o. BegunBy full_home (rested full_ledger p.task) p.task o) (sym full_idle) none_full))
 
 -- ---- AS THE CALL HAS IT

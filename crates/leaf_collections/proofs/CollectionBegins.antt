@@ -11,13 +11,14 @@ use Rattle.run_trace.specs.Entry.{EntryValue}
 use Rattle.run_ledger.specs.declared.data.Heap.{Heap as Account}
 use Rattle.run_ledger.specs.declared.data.Ledger.{Ledger}
 use Rattle.run_ledger.specs.Heaps.{heap_of, or_fresh, take_of, with_heap, within}
+use Rattle.run_ledger.proofs.Machine.{heap_machine}
 use Rattle.object_layout.specs.Chunks.{has_chunk, small_words}
 use Rattle.object_layout.specs.ChunkValue.{ChunkValue, number_of}
 use Rattle.chunk_pool.specs.PoolValue.{PoolValue, TakesAll, slot_in, units_in_use}
 use Rattle.chunk_pool.proofs.OwnerLaws.{taken_are_owned}
 use Rattle.alloc_path.specs.LeafHeapValue.{LeafHeapValue, with_places}
 use Rattle.ledger_step_laws.specs.Accounts.{Rests}
-use Rattle.ledger_step_laws.proofs.Ahead.{heap_then, with_at, with_machine, with_off}
+use Rattle.ledger_step_laws.proofs.Ahead.{heap_then, with_at, with_off}
 use Rattle.core_relation.specs.Changes.{SameObjects}
 use Rattle.core_relation.specs.Counts.{CountsGo}
 use Rattle.core_relation.specs.Since.{NotesStay}
@@ -87,7 +88,7 @@ module _ (w : SharedValue) (k : ℕ) (p : Private) (I : IsSharedValue w) (F : Fi
   rested_before u r = ap (λ o. (or_fresh o).worker) (sym (heap_off u (not_t u r))) ∙ r
 
   pub same_machine : L.machine ≡ l.machine
-  same_machine = with_machine l t begun_with
+  same_machine = heap_machine l t begun_with
 
   idle : is_waiting (slice_get l.machine.tasks t) ≡ false
   idle = ap is_waiting F.fits.is ∙ ap waits (status w k P I F on)

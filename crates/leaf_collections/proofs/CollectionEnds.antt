@@ -22,6 +22,7 @@ use Rattle.run_ledger.specs.Sound.{SoundLedger}
 use Rattle.run_ledger.proofs.Holders.{tasks_are_held_once}
 use Rattle.run_ledger.proofs.Waiters.{waiters_are_free}
 use Rattle.run_ledger.proofs.Going.{machine_goes_on}
+use Rattle.run_ledger.proofs.Machine.{heap_machine}
 use Rattle.object_layout.specs.declared.word.Addr.{Addr}
 use Rattle.object_layout.specs.Cell.{Born, marked_object}
 use Rattle.object_layout.specs.Chunks.{cell_of}
@@ -38,7 +39,7 @@ use Rattle.leaf_copy_gc.specs.declared.lists.Moved.{Moved}
 use Rattle.leaf_copy_gc.specs.Redirected.{new_address}
 use Rattle.inner_mark_gc.specs.Swept.{AreGiven, units_kept}
 use Rattle.ledger_step_laws.specs.Accounts.{Rests, own}
-use Rattle.ledger_step_laws.proofs.Ahead.{heap_then, with_at, with_machine, with_off}
+use Rattle.ledger_step_laws.proofs.Ahead.{heap_then, with_at, with_off}
 use Rattle.ledger_step_laws.proofs.Known.{legal_knows}
 use Rattle.core_relation.specs.Copies.{CopyFits, EndsAt}
 use Rattle.core_relation.specs.Counts.{CountsGo}
@@ -276,7 +277,7 @@ module _ (w : SharedValue) (k : ℕ) (p : Private) (moved : Moved) (I : IsShared
         by (Some h) = refl
 
     machine' : L.machine ≡ l.machine
-    machine' = with_machine l t (collected l.machine)
+    machine' = heap_machine l t (collected l.machine)
 
     going' : L.machine.end ≡ None
     going' = ap (λ (m : State). m.end) machine' ∙ going

@@ -14,10 +14,11 @@ use Rattle.run_ledger.specs.declared.data.Refused.TheVariants.{PoolEnough}
 use Rattle.run_ledger.specs.Heaps.{heap_of, in_use, let_go, or_fresh, with_heap}
 use Rattle.run_ledger.specs.Entries.{is_pool_enough, kind_refusal, on_due, refused_if}
 use Rattle.run_ledger.proofs.Journals.{entry_tells}
+use Rattle.run_ledger.proofs.Machine.{heap_machine}
 use Rattle.chunk_pool.specs.PoolValue.{units_in_use}
 use Rattle.alloc_path.specs.LeafHeapValue.{LeafHeapValue}
 use Rattle.ledger_step_laws.specs.Accounts.{Rests, rested}
-use Rattle.ledger_step_laws.proofs.Ahead.{heap_then, with_at, with_machine, with_off}
+use Rattle.ledger_step_laws.proofs.Ahead.{heap_then, with_at, with_off}
 use Rattle.ledger_step_laws.proofs.Rested.{rested_view}
 use Rattle.core_relation.specs.Changes.{SameObjects}
 use Rattle.core_relation.specs.Counts.{CountsGo}
@@ -127,7 +128,7 @@ module _ (w : SharedValue) (k : ℕ) (p : Private) (I : IsSharedValue w) (F : Fi
   rested_before u r = ap (λ o. (or_fresh o).worker) (sym (heap_off u (not_t u r))) ∙ r
 
   same_machine : L.machine ≡ l.machine
-  same_machine = with_machine l t counted_anew
+  same_machine = heap_machine l t counted_anew
 
   abbrev S : StandsFor v (totals_of w) l
   S = stands_now w I on
@@ -186,7 +187,7 @@ module _ (w : SharedValue) (k : ℕ) (p : Private) (I : IsSharedValue w) (F : Fi
   object_was o i = subst (λ (z : Home). In (objects_in z.chunks) o) (sym here) (subst (λ (z : Home). In (objects_in z.chunks) o) here' i)
 
   rested_same : (rested l t).machine ≡ (rested L t).machine
-  rested_same = with_machine l t let_go ∙ (sym same_machine ∙ sym (with_machine L t let_go))
+  rested_same = heap_machine l t let_go ∙ (sym same_machine ∙ sym (heap_machine L t let_go))
 
   home_then : HomeStands after_ (rested L t) t
   home_then = record {
@@ -230,8 +231,8 @@ module _ (w : SharedValue) (k : ℕ) (p : Private) (I : IsSharedValue w) (F : Fi
             let same : heap_of (rested L t) u ≡ heap_of (rested l t) u = ap or_fresh (with_off L t u let_go ne ∙ (heap_off u ne ∙ sym (with_off l t u let_go ne))) in
             let rests : Rests (rested l t) u = ap (λ (z : Account). z.worker) (sym same) ∙ r in
             home_kept before after_ (rested l t) (rested L t) u (off_home v t (home_of_part Q) u ne ∙ sym (off_home v t (home_of_part P) u ne)) (λ c e. e) same
-            (ap (λ (m : State). length (row_of (slice_get m.store u))) (with_machine L t let_go ∙ (same_machine ∙ sym (with_machine l t let_go))))
-            (ap (λ (m : State). is_joined (slice_get m.tasks u)) (with_machine L t let_go ∙ (same_machine ∙ sym (with_machine l t let_go))))
+            (ap (λ (m : State). length (row_of (slice_get m.store u))) (heap_machine L t let_go ∙ (same_machine ∙ sym (heap_machine l t let_go))))
+            (ap (λ (m : State). is_joined (slice_get m.tasks u)) (heap_machine L t let_go ∙ (same_machine ∙ sym (heap_machine l t let_go))))
             ((fits_now w k P I F on).stands.homes u rests)
       ]
 

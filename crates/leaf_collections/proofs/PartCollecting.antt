@@ -11,6 +11,7 @@ use Rattle.run_trace.specs.Entry.{EntryValue}
 use Rattle.run_ledger.specs.declared.data.Heap.{Heap as Account}
 use Rattle.run_ledger.specs.declared.data.Ledger.{Ledger}
 use Rattle.run_ledger.specs.Heaps.{heap_of, let_go, or_fresh, take_of, with_heap, within}
+use Rattle.run_ledger.proofs.Machine.{heap_machine}
 use Rattle.object_layout.specs.Chunks.{place_in, small_words}
 use Rattle.object_layout.specs.ChunkValue.{ChunkValue, number_of}
 use Rattle.object_layout.specs.Objects.{Located}
@@ -18,7 +19,7 @@ use Rattle.object_layout.proofs.ObjectLemmas.{has_own}
 use Rattle.chunk_pool.specs.PoolValue.{PoolValue, TakesAll}
 use Rattle.alloc_path.specs.LeafHeapValue.{LeafHeapValue, IsFresh, with_places}
 use Rattle.ledger_step_laws.specs.Accounts.{Rests, rested}
-use Rattle.ledger_step_laws.proofs.Ahead.{heap_then, with_at, with_machine, with_off}
+use Rattle.ledger_step_laws.proofs.Ahead.{heap_then, with_at, with_off}
 use Rattle.ledger_step_laws.proofs.Entries.{within_rested}
 use Rattle.ledger_step_laws.proofs.Known.{legal_knows}
 use Rattle.ledger_step_laws.proofs.Rested.{rested_sound, rested_view, rested_worker}
@@ -158,7 +159,7 @@ module _ (w : SharedValue) (k : ℕ) (p : Private) (I : IsSharedValue w) (F : Fi
     object_was o i = subst (λ (z : Home). In (objects_in z.chunks) o) (sym here) (subst (λ (z : Home). In (objects_in z.chunks) o) here' i)
 
     rested_same : (rested l t).machine ≡ (rested L t).machine
-    rested_same = with_machine l t let_go ∙ (sym same_machine ∙ sym (with_machine L t let_go))
+    rested_same = heap_machine l t let_go ∙ (sym same_machine ∙ sym (heap_machine L t let_go))
 
     home_then : HomeStands after_ (rested L t) t
     home_then = record {
@@ -189,7 +190,7 @@ module _ (w : SharedValue) (k : ℕ) (p : Private) (I : IsSharedValue w) (F : Fi
       owner = owner_kept;
       taken = λ c u q. elim (owner_taken c u q) [
         | inl a ↦ inl a
-        | inr a ↦ inr (ap (λ (m : State). is_waiting (slice_get m.tasks u)) (with_machine l t let_go) ∙ a.0, ap (λ (m : State). is_some (slice_get m.tasks u)) (with_machine l t let_go) ∙ a.1)
+        | inr a ↦ inr (ap (λ (m : State). is_waiting (slice_get m.tasks u)) (heap_machine l t let_go) ∙ a.0, ap (λ (m : State). is_some (slice_get m.tasks u)) (heap_machine l t let_go) ∙ a.1)
       ];
       begun = begun_at;
       sources = λ u. refl;
@@ -222,8 +223,8 @@ module _ (w : SharedValue) (k : ℕ) (p : Private) (I : IsSharedValue w) (F : Fi
               let same : heap_of (rested L t) u ≡ heap_of (rested l t) u = ap or_fresh (with_off L t u let_go ne ∙ (heap_off u ne ∙ sym (with_off l t u let_go ne))) in
               let rests : Rests (rested l t) u = ap (λ (z : Account). z.worker) (sym same) ∙ r in
               home_kept before after_ (rested l t) (rested L t) u (off_home v' t (home_of_part Q) u ne ∙ sym (off_home v t (home_of_part P) u ne)) (λ c q. owner_kept c u q) same
-              (ap (λ (m : State). length (row_of (slice_get m.store u))) (with_machine L t let_go ∙ (same_machine ∙ sym (with_machine l t let_go))))
-              (ap (λ (m : State). is_joined (slice_get m.tasks u)) (with_machine L t let_go ∙ (same_machine ∙ sym (with_machine l t let_go))))
+              (ap (λ (m : State). length (row_of (slice_get m.store u))) (heap_machine L t let_go ∙ (same_machine ∙ sym (heap_machine l t let_go))))
+              (ap (λ (m : State). is_joined (slice_get m.tasks u)) (heap_machine L t let_go ∙ (same_machine ∙ sym (heap_machine l t let_go))))
               ((fits_now w k P I F on).stands.homes u rests)
         ]
 
@@ -251,7 +252,7 @@ module _ (w : SharedValue) (k : ℕ) (p : Private) (I : IsSharedValue w) (F : Fi
     begun_stands : BegunStands after_ (rested L t) t b
     begun_stands =
         begins before after_ (rested l t) (rested L t) t F.fits.task b (rested_sound l t (legal_knows w.program w.settings w.journal.items I.legal).sound) (fits_now w k P I F on).stands
-        (ap (λ (m : State). slice_get m.tasks t) (with_machine l t let_go) ∙ F.fits.is) (status w k P I F on) (rested_worker l t) (waits_rest l t (idle_rest w I on)) (are_roots w k p I F on) begins_so
+        (ap (λ (m : State). slice_get m.tasks t) (heap_machine l t let_go) ∙ F.fits.is) (status w k P I F on) (rested_worker l t) (waits_rest l t (idle_rest w I on)) (are_roots w k p I F on) begins_so
 
     measured_then : IsMeasured pool Q
     measured_then = (measured_kept w.pool pool t p.heap.chunks (first.units_stay w k p I F free pool news slots spare T j t) F.measured.0, all_taken_units w.pool pool p.task (take_by (small_words p.heap.chunks)) [] news T)

@@ -19,7 +19,7 @@ use Rattle.run_ledger.specs.declared.data.Heap.{Heap}
 use Rattle.run_ledger.specs.declared.data.Ledger.{Ledger}
 use Rattle.run_ledger.specs.Heaps.{heap_of, or_fresh, with_heap, with_heap_at, placed, let_go, lacks_room}
 use Rattle.run_ledger.specs.Steps.{allocated_by, allocated_in, moved_on, moved_to, settled, stepped_to, task_step, task_steps, on_asked, is_private, is_due, is_in_need}
-use Rattle.run_ledger.proofs.Machine.{task_step_machine}
+use Rattle.run_ledger.proofs.Machine.{task_step_machine, heap_machine}
 use Rattle.run_ledger.specs.Sound.{SoundLedger}
 use Rattle.run_ledger.proofs.Steps.{SoundAt, task_step_sound}
 use Rattle.ledger_step_laws.specs.Accounts.{own, rested, ArePrivate, StepsAlone}
@@ -78,13 +78,6 @@ with_off l t u f ne = by (slice_get l.heaps t)
     by : (o : Option Heap) → slice_get (with_heap_at l t f o).heaps u ≡ slice_get l.heaps u
     by None = refl
     by (Some h) = got_other l.heaps t u (f h) ne
-
-pub with_machine : (l : Ledger) (t : ℕ) (f : Heap → Heap) → (with_heap l t f).machine ≡ l.machine
-with_machine l t f = by (slice_get l.heaps t)
-  where
-    by : (o : Option Heap) → (with_heap_at l t f o).machine ≡ l.machine
-    by None = refl
-    by (Some h) = refl
 
 alloc_off : (l : Ledger) (t u : ℕ) (o : Option ℕ) → (u ≡ t → ⊥) → slice_get (allocated_by l t o).heaps u ≡ slice_get l.heaps u
 alloc_off l t u None ne = refl
@@ -293,7 +286,7 @@ module _ (p : ProgramText) (s : SettingsValue) (t : ℕ) where
 -- AT REST
 
 pub rested_alone : (l k : Ledger) (t : ℕ) → StepsAlone l k t → StepsAlone l (rested k t) t
-rested_alone l k t A = by (rested k t) (with_machine k t let_go) (λ u ne. ap or_fresh (with_off k t u let_go ne))
+rested_alone l k t A = by (rested k t) (heap_machine k t let_go) (λ u ne. ap or_fresh (with_off k t u let_go ne))
   where
     by : (m : Ledger) → m.machine ≡ k.machine → ((u : ℕ) → (u ≡ t → ⊥) → heap_of m u ≡ heap_of k u) → StepsAlone l m t
     by m e off = record {
@@ -312,6 +305,6 @@ rested_alone l k t A = by (rested k t) (with_machine k t let_go) (λ u ne. ap or
 
 pub rested_same : (l l' : Ledger) (t : ℕ) → SameOf t l l' → SameOf t (rested l t) (rested l' t)
 rested_same l l' t E = record {
-  machine = with_machine l' t let_go ∙ (E.machine ∙ sym (with_machine l t let_go));
+  machine = heap_machine l' t let_go ∙ (E.machine ∙ sym (heap_machine l t let_go));
   heap = with_at l' t let_go ∙ (ap (heap_then let_go) E.heap ∙ sym (with_at l t let_go));
 }

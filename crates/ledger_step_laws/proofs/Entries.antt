@@ -25,8 +25,9 @@ use Rattle.run_ledger.specs.Steps.{at_fork, join_heaps}
 use Rattle.ledger_step_laws.specs.Accounts.{rested, ChangesHeap, Takes, SameTasks}
 use Rattle.run_ledger.specs.Sound.{SoundLedger}
 use Rattle.run_ledger.proofs.Forked.{once_by}
+use Rattle.run_ledger.proofs.Machine.{heap_machine}
 use Rattle.ledger_step_laws.specs.Kinds.{ForksTask, JoinsTasks}
-use Rattle.ledger_step_laws.proofs.Ahead.{with_at, with_off, with_machine, heap_then}
+use Rattle.ledger_step_laws.proofs.Ahead.{with_at, with_off, heap_then}
 
 -- ONE HEAP
 
@@ -39,7 +40,7 @@ heap_at_then l t f view same = ap (λ o. view (or_fresh o)) (with_at l t f) ∙ 
 
 pub changes_heap : (l : Ledger) (t : ℕ) (f : Heap → Heap) → ((h : Heap) → (f h).worker ≡ h.worker) → ((h : Heap) → (f h).snapshot ≡ h.snapshot) → ChangesHeap l (with_heap l t f) t
 changes_heap l t f w s = record {
-  machine = with_machine l t f;
+  machine = heap_machine l t f;
   others = λ u ne. ap or_fresh (with_off l t u f ne);
   worker = heap_at_then l t f (λ h. h.worker) w;
   snapshot = heap_at_then l t f (λ h. h.snapshot) s;
@@ -68,7 +69,7 @@ same_tasks l t f w s =
 
 pub took_takes : (l : Ledger) (t w : ℕ) (h : Heap) → slice_get l.heaps t ≡ Some h → Takes l (with_heap l t (λ h. record h { worker = Some w })) t w
 took_takes l t w h is = record {
-  machine = with_machine l t _;
+  machine = heap_machine l t _;
   worker = ap (λ o. (or_fresh o).worker) (with_at l t (λ h. record h { worker = Some w }) ∙ ap (heap_then (λ h. record h { worker = Some w })) is);
   heaps = λ u ne. ap or_fresh (with_off l t u _ ne);
 }
@@ -89,7 +90,7 @@ within_by l l' t refs held roots =
 
 -- let go of or not
 pub within_rested : (l : Ledger) (t u : ℕ) → within (rested l t) u ≡ within l u
-within_rested l t u = by (rested l t) (with_machine l t let_go) (heaps (slice_get l.heaps t) refl)
+within_rested l t u = by (rested l t) (heap_machine l t let_go) (heaps (slice_get l.heaps t) refl)
   where
     held_set : (hs : List Heap) (k : ℕ) (h : Heap) → slice_get hs k ≡ Some h → map held_in (slice_set hs k (let_go h)) ≡ map held_in hs
     held_set [] k h e = refl
@@ -221,7 +222,7 @@ module _ (l : Ledger) (t : ℕ) (x : Task) (g h n : ℕ) (edges : List Edge) (is
     heaps_long = S.lengths
 
     e : l'.machine ≡ after.machine
-    e = with_machine (record after { heaps = after.heaps ++ fresh ∷ fresh ∷ [] }) t (forked_heap (within after t))
+    e = heap_machine (record after { heaps = after.heaps ++ fresh ∷ fresh ∷ [] }) t (forked_heap (within after t))
 
     pub fork_is : ForksTask l l' t a (a + 1) g h x
     fork_is = record {
@@ -303,7 +304,7 @@ module _ (l : Ledger) (p c n : ℕ) (xp xl xr : Task) (rl rr : ℤ × Option Nam
   k2 = with_heap k1 c emptied
 
   machine_then : k.machine ≡ joined_then.machine
-  machine_then = with_machine k2 d emptied ∙ (with_machine k1 c emptied ∙ with_machine joined_then p (λ h. merged h (heap_of joined_then c) (heap_of joined_then d)))
+  machine_then = heap_machine k2 d emptied ∙ (heap_machine k1 c emptied ∙ heap_machine joined_then p (λ h. merged h (heap_of joined_then c) (heap_of joined_then d)))
 
   par_same : parents new ≡ parents old
   par_same = fun_ext (three_view old c p xl xr xp (joined_task xl) (joined_task xr) (resumed xp rl rr) il ir ip lt_p parent_of refl refl refl)

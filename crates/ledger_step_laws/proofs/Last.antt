@@ -37,8 +37,8 @@ use Rattle.run_ledger.specs.Steps.{allocated_by, allocated_in, at_fork, join_hea
 use Rattle.ledger_step_laws.specs.Accounts.{own, Rests, rested, StepsAlone, WritesOne, Knows}
 use Rattle.ledger_step_laws.specs.Kinds.{ForksTask, EndsTask, JoinsTasks, CanJoin}
 use Rattle.ledger_step_laws.specs.Last.{LastKind, Private, Reading, Writing, Printing, Forking, Ending, Joining, Finishing, Halting, IsOfKind, GoesOn, IsApart, IdleRest, OnlyAskersReserve, IsAt, JustReads, Wrote, stepped_by, EndsDone, Halts}
-use Rattle.run_ledger.proofs.Machine.{task_step_machine}
-use Rattle.ledger_step_laws.proofs.Ahead.{private_end, put_other, put_rows, with_off, with_machine}
+use Rattle.run_ledger.proofs.Machine.{task_step_machine, heap_machine}
+use Rattle.ledger_step_laws.proofs.Ahead.{private_end, put_other, put_rows, with_off}
 use Rattle.ledger_step_laws.proofs.Rested.{rested_worker, rested_view}
 use Rattle.ledger_step_laws.proofs.Entries.{fork_is, fork_is_names, fork_names, join_is, within_rested}
 
@@ -222,8 +222,8 @@ module _ (p : ProgramText) (l : Ledger) (t : ℕ) (x : Task) (line : Line) (K : 
         let m' : State = ended_by (with_task m t z) Done in
         let kd : Ledger = record (stepped_by l m') { end = Some (Machine Done) } in
         let q : k ≡ kd = then_ none m' is in
-        let e : (rested l t).machine ≡ m = with_machine l t let_go in
-        let e' : (rested kd t).machine ≡ m' = with_machine kd t let_go in
+        let e : (rested l t).machine ≡ m = heap_machine l t let_go in
+        let e' : (rested kd t).machine ≡ m' = heap_machine kd t let_go in
         let heaps : (u : ℕ) → heap_of (rested kd t) u ≡ heap_of (rested l t) u = λ u. ap (λ hs. or_fresh (slice_get hs u)) (rest_heaps l kd t refl) in
         inl (record {
           root = root;
@@ -332,8 +332,8 @@ module _ (p : ProgramText) (l : Ledger) (t : ℕ) (x : Task) (line : Line) (K : 
       let z : Task = record x { top = f } in
       let m' : State = record m { tasks = slice_set m.tasks t z; store = put_object m.store n y' } in
       let goes : k ≡ stepped_by l m' = goes_then none m' z (step_is (Goes f (put_object m.store n y')) q) going (got_same m.tasks t x z I.task) I.runs in
-      let e : (rested l t).machine ≡ m = with_machine l t let_go in
-      let e' : (rested (stepped_by l m') t).machine ≡ m' = with_machine (stepped_by l m') t let_go in (
+      let e : (rested l t).machine ≡ m = heap_machine l t let_go in
+      let e' : (rested (stepped_by l m') t).machine ≡ m' = heap_machine (stepped_by l m') t let_go in (
         Writing,
         record {
           name = n;
@@ -414,7 +414,7 @@ module _ (p : ProgramText) (l : Ledger) (t : ℕ) (x : Task) (line : Line) (K : 
 
   let_go_forks : (g f : ℕ) (k' : Ledger) → ForksTask l k' t (length m.tasks) (length m.tasks + 1) g f x → ForksTask (rested l t) k' t (length m.tasks) (length m.tasks + 1) g f x
   let_go_forks g f k' F =
-      let e : (rested l t).machine ≡ m = with_machine l t let_go in
+      let e : (rested l t).machine ≡ m = heap_machine l t let_go in
       record {
         task = ap (λ (w : State). slice_get w.tasks t) e ∙ F.task;
         waits = F.waits;
@@ -494,8 +494,8 @@ module _ (p : ProgramText) (l : Ledger) (t : ℕ) (x : Task) (line : Line) (K : 
         let z : Task = ended_task x result in
         let m' : State = with_task m t z in
         let is : k ≡ rested (stepped_by l m') t = then_ none_ret m' e ∙ moves m' z going (got_same m.tasks t x z I.task) in
-        let q : (rested l t).machine ≡ m = with_machine l t let_go in
-        let q' : (rested (stepped_by l m') t).machine ≡ m' = with_machine (stepped_by l m') t let_go in
+        let q : (rested l t).machine ≡ m = heap_machine l t let_go in
+        let q' : (rested (stepped_by l m') t).machine ≡ m' = heap_machine (stepped_by l m') t let_go in
         let heaps : (u : ℕ) → heap_of (rested (stepped_by l m') t) u ≡ heap_of (rested l t) u = λ u. ap (λ hs. or_fresh (slice_get hs u)) (rest_heaps l (stepped_by l m') t refl) in (
           Ending,
           record {
@@ -532,7 +532,7 @@ module _ (p : ProgramText) (l : Ledger) (t : ℕ) (x : Task) (line : Line) (K : 
       J = join_is l parent c (l.steps + 1) xp xl xr rl rr ip jl jr pl left dl dr wl wr K.sound
 
       go : (rested l t).machine ≡ m
-      go = with_machine l t let_go
+      go = heap_machine l t let_go
 
       np : parent ≡ t → ⊥
       np e = elim which [ inl q ↦ omega (arith, low, e, q) | inr q ↦ omega (arith, low, e, q) ]

@@ -18,9 +18,9 @@ use Rattle.hh_model.specs.Step.{is_joined, is_over}
 use Rattle.run_ledger.specs.declared.data.Ledger.{Ledger}
 use Rattle.run_ledger.specs.Heaps.{let_go}
 use Rattle.run_ledger.specs.Steps.{is_private, touched}
+use Rattle.run_ledger.proofs.Machine.{heap_machine}
 use Rattle.ledger_step_laws.specs.Last.{LastKind, Private, Reading, Writing, Printing, Forking, Ending, Joining, Finishing, Halting, IsOfKind, IsApart, IsAt, JustReads, Wrote}
 use Rattle.ledger_step_laws.specs.Laws.{KindsExclude}
-use Rattle.ledger_step_laws.proofs.Ahead.{with_machine}
 
 -- WHAT A COMPARE AND SWAP FINDS
 
@@ -152,7 +152,7 @@ module _ (p : ProgramText) (l l' : Ledger) (t : ℕ) (x : Task) (line : Line) (I
       by_on a (record x { top = K.frame }) refl (set_task (record x { top = K.frame }) _ e refl) (ap (λ (m : State). m.end) e ∙ on) ∙ reads_by line.instr K.name K.object K.frame K.touches K.is K.reads
   kind_is Writing K a =
       let e = ap (λ (z : Ledger). z.machine) K.goes in
-      let was : object_at l.machine.store K.name ≡ Some K.object = ap (λ (m : State). object_at m.store K.name) (sym (with_machine l t let_go)) ∙ K.writes.was in
+      let was : object_at l.machine.store K.name ≡ Some K.object = ap (λ (m : State). object_at m.store K.name) (sym (heap_machine l t let_go)) ∙ K.writes.was in
       by_on a (record x { top = K.frame }) refl (set_task (record x { top = K.frame }) _ e refl) (ap (λ (m : State). m.end) e ∙ on) ∙ writes_by line.instr K.name K.object K.written K.frame K.touches was K.wrote
   kind_is Printing K a =
       let e = ap (λ (z : Ledger). z.machine) K.goes in
@@ -163,7 +163,7 @@ module _ (p : ProgramText) (l l' : Ledger) (t : ℕ) (x : Task) (line : Line) (I
     | inl r ↦ ap (λ u. is_joined (slice_get l'.machine.tasks u)) r.0 ∙ K.joins.left
     | inr r ↦ ap (λ u. is_joined (slice_get l'.machine.tasks u)) r.0 ∙ K.joins.right
   ])
-  kind_is Finishing K a = by_all a _ (ap (λ (m : State). slice_get m.tasks t) (sym (with_machine l' t let_go)) ∙ K.ends.ended) l'.machine.end refl ∙ ap by_parent K.root
+  kind_is Finishing K a = by_all a _ (ap (λ (m : State). slice_get m.tasks t) (sym (heap_machine l' t let_go)) ∙ K.ends.ended) l'.machine.end refl ∙ ap by_parent K.root
   kind_is Halting K a =
       by_all a (Some x) (ap (λ (m : State). slice_get m.tasks t) K.machine ∙ I.task) (Some K.end) (ap (λ (m : State). m.end) K.machine) ∙ ap (λ s. by_status s x.parent Halting) I.runs
 

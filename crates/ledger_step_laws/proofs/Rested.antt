@@ -9,9 +9,10 @@ use Rattle.run_ledger.specs.Sound.{SoundLedger}
 use Rattle.run_ledger.proofs.Sound.{renewed}
 use Rattle.ledger_step_laws.specs.Accounts.{Rests, rested, Knows}
 use Rattle.hh_model.specs.declared.data.State.{State}
-use Rattle.ledger_step_laws.proofs.Ahead.{heap_then, with_at, with_machine}
+use Rattle.ledger_step_laws.proofs.Ahead.{heap_then, with_at}
 use Rattle.hh_model.specs.Store.{IsStored}
 use Rattle.hh_model.specs.Closed.{Closed}
+use Rattle.run_ledger.proofs.Machine.{heap_machine}
 
 pub name_cases : (m n : Name) → (m ≡ n) ⊎ (m ≡ n → ⊥)
 name_cases m n = elim (cases_eq m.task n.task) [
@@ -46,6 +47,6 @@ rested_sound l t S = by (slice_get l.heaps t) refl
 pub rested_knows : (l : Ledger) (t : ℕ) → Knows l → Knows (rested l t)
 rested_knows l t K = record {
   sound = rested_sound l t K.sound;
-  stored = subst (λ (m : State). Closed m.tasks m.store (IsStored m)) (sym (with_machine l t let_go)) K.stored;
-  rows = subst (λ (m : State). length m.store ≡ length m.tasks) (sym (with_machine l t let_go)) K.rows;
+  stored = subst (λ (m : State). Closed m.tasks m.store (IsStored m)) (sym (heap_machine l t let_go)) K.stored;
+  rows = subst (λ (m : State). length m.store ≡ length m.tasks) (sym (heap_machine l t let_go)) K.rows;
 }

@@ -29,12 +29,12 @@ use Rattle.run_ledger.proofs.Journals.{none_unless, out_tells, entry_tells, entr
 use Rattle.run_ledger.proofs.Space.{legal_booked}
 use Rattle.run_ledger.proofs.Stocks.{legal_stocked}
 use Rattle.run_ledger.proofs.Holders.{tasks_are_held_once}
-use Rattle.run_ledger.proofs.Machine.{machine_is_run, kind_machine, task_step_machine}
+use Rattle.run_ledger.proofs.Machine.{machine_is_run, kind_machine, task_step_machine, heap_machine}
 use Rattle.run_ledger.proofs.Steps.{step_leaves}
 use Rattle.run_ledger.specs.Sound.{collecting}
 use Rattle.ledger_step_laws.specs.Accounts.{ArePrivate, rested, StepsAlone, Knows, Leaves}
 use Rattle.ledger_step_laws.specs.Last.{GoesOn, IsApart, IdleRest, OnlyAskersReserve, IsAt, IsOfKind, LastKind, Splits, Runs}
-use Rattle.ledger_step_laws.proofs.Ahead.{heap_after, with_at, with_off, with_machine, heap_then, steps_alone_all, steps_sound}
+use Rattle.ledger_step_laws.proofs.Ahead.{heap_after, with_at, with_off, heap_then, steps_alone_all, steps_sound}
 use Rattle.ledger_step_laws.proofs.Along.{step_knows, steps_know}
 use Rattle.ledger_step_laws.proofs.Commute.{alike_self, goes_running, goes_can}
 use Rattle.hh_model.proofs.Root.{run_root}
@@ -229,8 +229,8 @@ module _ (p : ProgramText) (s : SettingsValue) (journal : List EntryValue) (w t 
       let stepped : task_step p lj t ≡ stepped_to (allocated_in p lj t) t (step p lj.machine t) = cond-true (can_step lj.machine t) _ (record lj { steps = lj.steps + 1 }) goes.3 in
       let A : StepsAlone l lj t = steps_alone_all p s t k l (K.sound, out.1) stand.0 in
       record {
-        limit = ap (λ (z : Ledger). z.machine.field_limit) e ∙ (ap (λ (m : State). m.field_limit) (task_step_machine p lj t) ∙ (limit lj.machine ∙ ap (λ (m : State). m.field_limit) (sym (with_machine lj t let_go))));
-        end = end ∙ (sym (ended lj.machine.end (is_running (slice_get lj.machine.tasks t)) goes.3) ∙ ap (λ (m : State). m.end) (sym (with_machine lj t let_go)));
+        limit = ap (λ (z : Ledger). z.machine.field_limit) e ∙ (ap (λ (m : State). m.field_limit) (task_step_machine p lj t) ∙ (limit lj.machine ∙ ap (λ (m : State). m.field_limit) (sym (heap_machine lj t let_go))));
+        end = end ∙ (sym (ended lj.machine.end (is_running (slice_get lj.machine.tasks t)) goes.3) ∙ ap (λ (m : State). m.end) (sym (heap_machine lj t let_go)));
         heap =
             ap (λ (z : Ledger). slice_get z.heaps u) (e ∙ stepped)
             ∙ ((step_leaves p lj t (knows.sound, still) goes.3).4 u ne (inl (ap is_running (A.tasks u ne) ∙ runs_u)) ∙ sym (with_off lj t u let_go ne));

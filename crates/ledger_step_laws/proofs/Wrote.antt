@@ -15,10 +15,11 @@ use Rattle.hh_model.specs.Step.{is_waiting, is_running, runs, waits}
 use Rattle.run_ledger.specs.declared.data.Ledger.{Ledger}
 use Rattle.run_ledger.specs.Heaps.{heap_of, or_fresh, let_go}
 use Rattle.run_ledger.specs.Steps.{touched}
+use Rattle.run_ledger.proofs.Machine.{heap_machine}
 use Rattle.ledger_step_laws.specs.Accounts.{Rests, rested, WritesOne}
 use Rattle.ledger_step_laws.specs.Kinds.{StoresOne, StoresNumber}
 use Rattle.ledger_step_laws.specs.Last.{IdleRest, IsAt, Wrote, WritesOther}
-use Rattle.ledger_step_laws.proofs.Ahead.{with_machine, with_off}
+use Rattle.ledger_step_laws.proofs.Ahead.{with_off}
 use Rattle.ledger_step_laws.proofs.Rested.{rested_worker}
 
 place_less : (n : ℕ) (k : ℤ) (i : ℕ) → place_in n k ≡ Some i → i < n
@@ -43,15 +44,15 @@ waiting_stops (Some x) h = by x.status h
 pub waits_rest : (l : Ledger) (t : ℕ) → IdleRest l → (u : ℕ) → is_waiting (slice_get (rested l t).machine.tasks u) ≡ true → Rests (rested l t) u
 waits_rest l t idle u h = elim (cases_eq u t) [
   | inl e ↦ ap (λ k. (heap_of (rested l t) k).worker) e ∙ rested_worker l t
-  | inr ne ↦ ap (λ o. (or_fresh o).worker) (with_off l t u let_go ne) ∙ idle u (waiting_stops (slice_get l.machine.tasks u) (ap (λ (m : State). is_waiting (slice_get m.tasks u)) (sym (with_machine l t let_go)) ∙ h))
+  | inr ne ↦ ap (λ o. (or_fresh o).worker) (with_off l t u let_go ne) ∙ idle u (waiting_stops (slice_get l.machine.tasks u) (ap (λ (m : State). is_waiting (slice_get m.tasks u)) (sym (heap_machine l t let_go)) ∙ h))
 ]
 
 module _ (p : ProgramText) (l l' : Ledger) (t : ℕ) (x : Task) (line : Line) (idle : IdleRest l) (I : IsAt p l t x line) (W : WritesOther l l' t x line) where
   at_rested : slice_get (rested l t).machine.tasks t ≡ Some x
-  at_rested = ap (λ (m : State). slice_get m.tasks t) (with_machine l t let_go) ∙ I.task
+  at_rested = ap (λ (m : State). slice_get m.tasks t) (heap_machine l t let_go) ∙ I.task
 
   goes : slice_get (rested l' t).machine.tasks t ≡ Some (record x { top = W.frame })
-  goes = ap (λ (m : State). slice_get m.tasks t) (with_machine l' t let_go) ∙ (ap (λ (k : Ledger). slice_get k.machine.tasks t) W.goes ∙ got_same l.machine.tasks t x (record x { top = W.frame }) I.task)
+  goes = ap (λ (m : State). slice_get m.tasks t) (heap_machine l' t let_go) ∙ (ap (λ (k : Ledger). slice_get k.machine.tasks t) W.goes ∙ got_same l.machine.tasks t x (record x { top = W.frame }) I.task)
 
   pub is_store : (o k v : ℕ) → line.instr ≡ Putr o k v → (i : ℕ) × (place_in (length W.object.refs) (int_in x.top k) ≡ Some i) × StoresOne (rested l t) (rested l' t) t x W.name W.object o v i None
   is_store o k v e =

@@ -21,9 +21,9 @@ use Rattle.hh_model.specs.Step.{ended_by, is_joined, is_over, runs}
 use Rattle.run_ledger.specs.declared.data.Ledger.{Ledger}
 use Rattle.run_ledger.specs.Heaps.{let_go}
 use Rattle.run_ledger.specs.Steps.{is_private, touched}
+use Rattle.run_ledger.proofs.Machine.{heap_machine}
 use Rattle.ledger_step_laws.specs.Last.{EndsLast, GoesOn, Halts, IsOfKind, JustReads, LastKind, ReadsOther, WritesOther, Wrote}
 use Rattle.ledger_step_laws.specs.Last.{Private, Reading, Writing, Printing, Forking, Ending, Joining, Finishing, Halting}
-use Rattle.ledger_step_laws.proofs.Ahead.{with_machine}
 
 -- what an instruction reads and writes nothing of, it doesn't write
 reads_or_writes : {A : Type 0} (x : Task) (i : Instr) (y y' y'' : Object) (f f' : ModelFrame) → JustReads x i y f → Wrote x i y' y'' f' → y ≡ y' → A
@@ -73,7 +73,7 @@ module _ (p : ProgramText) (m l' : Ledger) (t : ℕ) (x : Task) (line : Line) (s
     module _ (y : Object) (at : object_at m.machine.store n ≡ Some y) where
       pub same_object : (W : WritesOther m l' t x line) → y ≡ W.object
       same_object W =
-          same_Some y W.object (sym at ∙ (ap (object_at m.machine.store) (same_Some n W.name (sym touches ∙ W.touches)) ∙ (ap (λ (s : State). object_at s.store W.name) (sym (with_machine m t let_go)) ∙ W.writes.was)))
+          same_Some y W.object (sym at ∙ (ap (object_at m.machine.store) (same_Some n W.name (sym touches ∙ W.touches)) ∙ (ap (λ (s : State). object_at s.store W.name) (sym (heap_machine m t let_go)) ∙ W.writes.was)))
 
       -- it reads the object
       pub reading : (f : ModelFrame) → JustReads x line.instr y f → (of : LastKind) → Last of → ReadsOther m l' t x line

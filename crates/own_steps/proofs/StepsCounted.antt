@@ -11,9 +11,10 @@ use Rattle.run_ledger.specs.Sound.{collecting}
 use Rattle.run_ledger.specs.Steps.{task_steps}
 use Rattle.run_ledger.proofs.Sound.{SoundLedger}
 use Rattle.run_ledger.proofs.Since.{limit_small}
+use Rattle.run_ledger.proofs.Machine.{heap_machine}
 use Rattle.alloc_path.specs.LeafHeapValue.{LeafHeapValue as HeapOfCode}
 use Rattle.ledger_step_laws.specs.Accounts.{ArePrivate, StepsAlone, own, rested}
-use Rattle.ledger_step_laws.proofs.Ahead.{heap_then, rested_alone, steps_alone_all, steps_sound, with_at, with_machine}
+use Rattle.ledger_step_laws.proofs.Ahead.{heap_then, rested_alone, steps_alone_all, steps_sound, with_at}
 use Rattle.ledger_step_laws.proofs.Rested.{rested_sound, rested_view}
 use Rattle.core_relation.specs.Memory.{Memory}
 use Rattle.task_machine.specs.declared.part.Private.{Private}
@@ -176,7 +177,7 @@ module _ (w : SharedValue) (k : ℕ) (p q : Private) (n : ℕ) (I : IsSharedValu
   -- ---- WHAT IS KNOWN THEN
   pub machine_then : FitsMachine w.program q L'.machine above
   machine_then =
-      subst (λ (m : State). FitsMachine w.program q m above) (sym (with_machine N t let_go ∙ ap (λ (z : Ledger). z.machine) more))
+      subst (λ (m : State). FitsMachine w.program q m above) (sym (heap_machine N t let_go ∙ ap (λ (z : Ledger). z.machine) more))
       (ran_machine w.program w.settings p q n R C F.leaf_limit small M A.task there.0 now_goes A.is run there.1 above fits counts)
 
   pub counts_then : IsCounted q.heap (heap_of L' t)

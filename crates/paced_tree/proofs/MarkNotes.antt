@@ -12,7 +12,8 @@ use Rattle.run_ledger.specs.Heaps.{heap_of, or_fresh, with_heap}
 use Rattle.run_ledger.specs.Sound.{SoundLedger}
 use Rattle.run_ledger.proofs.Journals.{entry_tells, legal_sound, wait_tells}
 use Rattle.run_ledger.proofs.Holders.{heap_end}
-use Rattle.ledger_step_laws.proofs.Ahead.{heap_then, with_at, with_machine}
+use Rattle.run_ledger.proofs.Machine.{heap_machine}
+use Rattle.ledger_step_laws.proofs.Ahead.{heap_then, with_at}
 use Rattle.shared_value.specs.Entered.{refused, Enters}
 use Rattle.shared_value.specs.Stands.{IsSharedValue}
 use Rattle.shared_value.specs.SharedValue.{SharedValue, accounts}
@@ -43,7 +44,7 @@ module _ (w w' : SharedValue) (k t : ℕ) (I : IsSharedValue w) (E : Enters w w'
   mark_goes = ap (λ (m : Ledger). m.end) is ∙ (heap_end l t begins ∙ entry_on w (record { worker = k; kind = Mark t }) free)
 
   pub mark_waits : is_waiting (slice_get (accounts w').machine.tasks t) ≡ true
-  mark_waits = ap (λ (m : Ledger). is_waiting (slice_get m.machine.tasks t)) is ∙ (ap (λ (m : State). is_waiting (slice_get m.tasks t)) (with_machine l t begins) ∙ waited)
+  mark_waits = ap (λ (m : Ledger). is_waiting (slice_get m.machine.tasks t)) is ∙ (ap (λ (m : State). is_waiting (slice_get m.tasks t)) (heap_machine l t begins) ∙ waited)
 
   pub mark_marked : is_some (heap_of (accounts w') t).marked ≡ true
   mark_marked =

@@ -10,13 +10,13 @@ use Rattle.run_ledger.specs.declared.data.Heap.{Heap as Account}
 use Rattle.run_ledger.specs.declared.data.Ledger.{Ledger}
 use Rattle.run_ledger.specs.Heaps.{heap_of, let_go, small_in, take_of, words_of, words_sum}
 use Rattle.run_ledger.specs.Entries.{is_pool_enough}
+use Rattle.run_ledger.proofs.Machine.{heap_machine}
 use Rattle.object_layout.specs.declared.word.Addr.{Addr}
 use Rattle.object_layout.specs.Chunks.{small_words}
 use Rattle.object_layout.specs.Objects.{Located}
 use Rattle.chunk_pool.specs.PoolValue.{units_in_use}
 use Rattle.alloc_path.specs.LeafHeapValue.{counted}
 use Rattle.ledger_step_laws.specs.Accounts.{aside, rested}
-use Rattle.ledger_step_laws.proofs.Ahead.{with_machine}
 use Rattle.ledger_step_laws.proofs.Rested.{rested_view, rested_worker}
 use Rattle.core_relation.specs.Layout.{AreLaidOut}
 use Rattle.core_relation.specs.Fits.{with_home}
@@ -73,7 +73,7 @@ module _ (w : SharedValue) (k : ℕ) (p : Private) (I : IsSharedValue w) (F : Fi
   here = at_home (value_of w) t h
 
   store_is : L.machine.store ≡ l.machine.store
-  store_is = ap (λ (m : State). m.store) (with_machine (aside l) t let_go)
+  store_is = ap (λ (m : State). m.store) (heap_machine (aside l) t let_go)
 
   words_same : (o : Located) → In (objects_in h.chunks) o → SameWords l.machine o
   words_same o i =

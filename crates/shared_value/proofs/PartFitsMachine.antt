@@ -26,7 +26,7 @@ use Rattle.run_ledger.specs.Journals.{tasks_of}
 use Rattle.run_ledger.specs.Reachable.{is_name}
 use Rattle.run_ledger.specs.Steps.{task_steps}
 use Rattle.run_ledger.proofs.Holders.{tasks_are_held_once}
-use Rattle.run_ledger.proofs.Machine.{kind_machine, machine_is_run}
+use Rattle.run_ledger.proofs.Machine.{kind_machine, machine_is_run, heap_machine}
 use Rattle.run_ledger.proofs.Members.{is_name_itself, same_from_is_name}
 use Rattle.run_ledger.proofs.Sound.{SoundLedger}
 use Rattle.run_ledger.proofs.Going.{machine_goes_on}
@@ -41,7 +41,6 @@ use Rattle.task_frames.specs.declared.frames.Frame.{Frame}
 use Rattle.ledger_step_laws.specs.Accounts.{Rests, own}
 use Rattle.ledger_step_laws.specs.Accounts.{Knows}
 use Rattle.ledger_step_laws.specs.Accounts.{StepsAlone}
-use Rattle.ledger_step_laws.proofs.Ahead.{with_machine}
 use Rattle.ledger_step_laws.proofs.Rested.{rested_worker}
 use Rattle.ledger_step_laws.proofs.Known.{legal_knows}
 use Rattle.ledger_step_laws.proofs.Tree.{leaf_alone}
@@ -207,7 +206,7 @@ module _ (w : SharedValue) (k : ℕ) (p : Private) (I : IsSharedValue w) (F : Fi
   A = after_all w.program w.settings t p.fresh l F.fits.task goes F.fits.is (status w k p I F on) V.private
 
   pub machine_is : L.machine ≡ then_.machine
-  machine_is = with_machine then_ t let_go
+  machine_is = heap_machine then_ t let_go
 
   pub is : slice_get L.machine.tasks t ≡ Some A.task
   is = ap (λ (m : State). slice_get m.tasks t) machine_is ∙ A.is

@@ -10,11 +10,12 @@ use Rattle.run_ledger.specs.declared.data.Heap.{Heap}
 use Rattle.run_ledger.specs.declared.data.Ledger.{Ledger}
 use Rattle.run_ledger.specs.Heaps.{heap_of, or_fresh, with_heap, let_go}
 use Rattle.run_ledger.specs.Steps.{task_steps}
+use Rattle.run_ledger.proofs.Machine.{heap_machine}
 use Rattle.core_relation.specs.Memory.{Home, Memory, objects_in}
 use Rattle.ledger_step_laws.specs.Accounts.{Rests, rested}
 use Rattle.core_relation.specs.Stands.{Stands}
 use Rattle.core_relation.specs.Fits.{Part, FitsAt, with_home, part_for}
-use Rattle.ledger_step_laws.proofs.Ahead.{heap_then, with_at, with_off, with_machine}
+use Rattle.ledger_step_laws.proofs.Ahead.{heap_then, with_at, with_off}
 use Rattle.core_relation.proofs.changes.Alone.{home_kept}
 use Rattle.ledger_step_laws.proofs.Entries.{took_takes}
 use Rattle.core_relation.proofs.changes.Release.{released}
@@ -44,7 +45,7 @@ module _ (p : ProgramText) (s : SettingsValue) (v : Memory) (l : Ledger) (t w : 
   ]
 
   machine_back : back.machine ≡ l.machine
-  machine_back = with_machine l' t let_go ∙ with_machine l t (λ h. record h { worker = Some w })
+  machine_back = heap_machine l' t let_go ∙ heap_machine l t (λ h. record h { worker = Some w })
 
   abbrev q : Part
   q = part_for s t (v.homes t) 0
@@ -94,6 +95,6 @@ module _ (p : ProgramText) (s : SettingsValue) (q : Part) (v : Memory) (l : Ledg
   -- and the memory stands without it
   pub ran_stands : is_waiting (slice_get then_.machine.tasks q.task) ≡ false → Stands v then_
   ran_stands idle =
-      released (with_home v q.task q.home) v (rested then_ q.task) then_ q.task w F.stands (ap (λ (m : State). is_waiting (slice_get m.tasks q.task)) (with_machine then_ q.task let_go) ∙ idle)
-      (record { machine = sym (with_machine then_ q.task let_go); worker = out; heaps = λ u ne. ap or_fresh (sym (with_off then_ q.task u let_go ne)) })
+      released (with_home v q.task q.home) v (rested then_ q.task) then_ q.task w F.stands (ap (λ (m : State). is_waiting (slice_get m.tasks q.task)) (heap_machine then_ q.task let_go) ∙ idle)
+      (record { machine = sym (heap_machine then_ q.task let_go); worker = out; heaps = λ u ne. ap or_fresh (sym (with_off then_ q.task u let_go ne)) })
       (record { homes = λ u ne. sym (off_home v q.task q.home u ne); owner = λ k. refl; sources = λ u. refl })

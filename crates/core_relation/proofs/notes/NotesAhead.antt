@@ -8,10 +8,11 @@ use Rattle.hh_model.proofs.Runs.{running_tells}
 use Rattle.std.proofs.Common.{length}
 use Rattle.run_ledger.specs.declared.data.Ledger.{Ledger}
 use Rattle.run_ledger.specs.Heaps.{heap_of, or_fresh, let_go}
+use Rattle.run_ledger.proofs.Machine.{heap_machine}
 use Rattle.ledger_step_laws.specs.Accounts.{Rests, StepsAlone, rested}
 use Rattle.core_relation.specs.Fits.{with_home}
 use Rattle.core_relation.proofs.notes.Rooted.{root_apart}
-use Rattle.ledger_step_laws.proofs.Ahead.{with_machine, with_off}
+use Rattle.ledger_step_laws.proofs.Ahead.{with_off}
 use Rattle.core_relation.proofs.parts.Statements.{NotesAhead, NotesBack}
 use Rattle.core_relation.proofs.notes.AllNotes.{steps_note}
 use Rattle.core_relation.proofs.parts.Parts.{ahead_alone}
@@ -28,7 +29,7 @@ notes_ahead p s q v l x K F O H =
 
 taken : (l : Ledger) (t : ℕ) → StepsAlone (rested l t) l t
 taken l t =
-    let e : (rested l t).machine ≡ l.machine = with_machine l t let_go in
+    let e : (rested l t).machine ≡ l.machine = heap_machine l t let_go in
     record {
       tree = record {
         made = λ u. ap (λ (m : State). is_some (slice_get m.tasks u)) (sym e);
@@ -45,6 +46,6 @@ taken l t =
 
 pub notes_back : NotesBack
 notes_back t g v l idle V H =
-    let idle' : is_waiting (slice_get (rested l t).machine.tasks t) ≡ false = ap (λ (m : State). is_waiting (slice_get m.tasks t)) (with_machine l t let_go) ∙ idle in
+    let idle' : is_waiting (slice_get (rested l t).machine.tasks t) ≡ false = ap (λ (m : State). is_waiting (slice_get m.tasks t)) (heap_machine l t let_go) ∙ idle in
     steps_note _ v (rested l t) l t idle' (taken l t) (λ u ne. sym (off_home v t g u ne)) (λ k. refl) (λ u. refl) (root_apart (with_home v t g) (rested l t) V t idle')
     (record { none = (H t).keeps ∙ ap (λ b. b && not (heap_of (rested l t) t).swept) idle'; others = λ u ne. record { keeps = refl; kept = refl; marked = refl } }) H

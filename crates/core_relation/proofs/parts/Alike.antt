@@ -20,9 +20,10 @@ use Rattle.run_ledger.specs.declared.data.Ledger.{Ledger}
 use Rattle.run_ledger.specs.Heaps.{heap_of, let_go}
 use Rattle.run_ledger.specs.Sound.{SoundLedger}
 use Rattle.run_ledger.specs.Steps.{task_steps, touched}
+use Rattle.run_ledger.proofs.Machine.{heap_machine}
 use Rattle.ledger_step_laws.specs.Accounts.{StepsAlone, AlikeFor, Leaves, own, rested}
 use Rattle.ledger_step_laws.specs.Last.{Wrote, WritesOther, LastKind, Private, Reading, Writing, Printing, Forking, Ending, Joining, Finishing, Halting, IsOfKind, GoesOn, Splits, Runs}
-use Rattle.ledger_step_laws.proofs.Ahead.{private_alone, alone_along, steps_alone_all, with_machine, with_off}
+use Rattle.ledger_step_laws.proofs.Ahead.{private_alone, alone_along, steps_alone_all, with_off}
 use Rattle.ledger_step_laws.proofs.Along.{steps_know}
 use Rattle.ledger_step_laws.proofs.Tree.{leaf_alone}
 use Rattle.core_relation.specs.Memory.{Home, Memory, In}
@@ -53,7 +54,7 @@ alike_then u a b c A B = record {
 -- another task is let go of or not
 alike_held : (u t : ℕ) (a b : Ledger) → (u ≡ t → ⊥) → AlikeFor u a (rested b t) → AlikeFor u a b
 alike_held u t a b ne A =
-    let e : (rested b t).machine ≡ b.machine = with_machine b t let_go in
+    let e : (rested b t).machine ≡ b.machine = heap_machine b t let_go in
     record {
       limit = ap (λ (m : State). m.field_limit) (sym e) ∙ A.limit;
       end = ap (λ (m : State). m.end) (sym e) ∙ A.end;
@@ -171,10 +172,10 @@ module _ (p : ProgramText) (s : SettingsValue) (v : Memory) (l l' : Ledger) (t w
       writes W =
           let o = names_it S.task W.name W.object W.written W.frame S.line.instr W.wrote W.touches in
           let holds : In (task_names S.task) W.name = names_run S.task W.name S.at.runs (in_registers (S.task.top ∷ S.task.below) S.task.top W.name (inl refl) (at_in S.task.top.refs o.0 W.name o.1)) in
-          let is : slice_get lq.machine.tasks t ≡ Some S.task = ap (λ (z : State). slice_get z.tasks t) (with_machine m t let_go) ∙ S.at.task in
+          let is : slice_get lq.machine.tasks t ≡ Some S.task = ap (λ (z : State). slice_get z.tasks t) (heap_machine m t let_go) ∙ S.at.task in
           let held_t : (heap_of l' t).worker ≡ Some w = ap (λ (z : Ledger). (heap_of z t).worker) W.goes ∙ E.held in
           let other : own lq W.name ≡ r.task → ⊥ = not_own p s q r v l l' E.task y E.knows E.knows_then F G out.first P ne w held_t left.limit left.end left.heap S.task W.name is S.at.runs holds in
-          let e : (rested l' t).machine ≡ l'.machine = with_machine l' t let_go in
+          let e : (rested l' t).machine ≡ l'.machine = heap_machine l' t let_go in
           then_ (alike_held r.task t lq l' off
           (alike_writes lq (rested l' t) r.task t W.name W.object W.written off other (mutable_is S.task W.object W.written W.frame S.line.instr W.wrote) (ap (λ (z : State). z.field_limit) e ∙ left.limit) (ap (λ (z : State). z.end) e ∙ left.end) (with_off l' t r.task let_go off ∙ left.heap) W.writes))
 

@@ -13,11 +13,12 @@ use Rattle.run_ledger.specs.declared.data.Ledger.{Ledger}
 use Rattle.run_ledger.specs.Heaps.{heap_of, or_fresh, let_go}
 use Rattle.run_ledger.specs.Steps.{task_steps}
 use Rattle.run_ledger.specs.Sound.{collecting}
+use Rattle.run_ledger.proofs.Machine.{heap_machine}
 use Rattle.core_relation.specs.Memory.{Memory}
 use Rattle.ledger_step_laws.specs.Accounts.{own, rested, StepsAlone, AlikeFor, Knows}
 use Rattle.core_relation.specs.Fits.{Part, FitsAt, ahead}
 use Rattle.core_relation.specs.Frames.{IsSteady}
-use Rattle.ledger_step_laws.proofs.Ahead.{with_at, with_machine, heap_then}
+use Rattle.ledger_step_laws.proofs.Ahead.{with_at, heap_then}
 use Rattle.core_relation.proofs.parts.Parts.{ahead_alone, ahead_sound}
 use Rattle.core_relation.proofs.parts.Frame.{step_frame}
 use Rattle.ledger_step_laws.proofs.Along.{alike_steps}
@@ -27,8 +28,8 @@ use Rattle.ledger_step_laws.proofs.Tree.{leaf_alone}
 module _ (p : ProgramText) (s : SettingsValue) (q : Part) where
   pub rested_alike : (l l' : Ledger) → AlikeFor q.task l l' → AlikeFor q.task (rested l q.task) (rested l' q.task)
   rested_alike l l' A =
-      let e = with_machine l q.task let_go in
-      let e' = with_machine l' q.task let_go in
+      let e = heap_machine l q.task let_go in
+      let e' = heap_machine l' q.task let_go in
       record {
         limit = ap (λ (m : State). m.field_limit) e' ∙ (A.limit ∙ sym (ap (λ (m : State). m.field_limit) e));
         end = ap (λ (m : State). m.end) e' ∙ (A.end ∙ sym (ap (λ (m : State). m.end) e));

@@ -13,6 +13,7 @@ use Rattle.run_ledger.specs.declared.data.Heap.{Heap}
 use Rattle.run_ledger.specs.declared.data.Ledger.{Ledger}
 use Rattle.run_ledger.specs.Heaps.{heap_of, or_fresh, let_go, collected, with_heap}
 use Rattle.run_ledger.specs.Sound.{SoundLedger}
+use Rattle.run_ledger.proofs.Machine.{heap_machine}
 use Rattle.core_relation.specs.Memory.{Home, Memory, In, object_name, objects_in, sources, copied_object, led_frame, rewritten_home}
 use Rattle.core_relation.specs.Layout.{AreLaidOut}
 use Rattle.core_relation.specs.Stands.{names_of, small_chunks, large_chunks, HasNames, HomeStands, Stands}
@@ -21,7 +22,7 @@ use Rattle.ledger_step_laws.specs.Accounts.{rested, ChangesHeap}
 use Rattle.core_relation.specs.Changes.{Moves}
 use Rattle.core_relation.specs.Whole.{BegunBy}
 use Rattle.core_relation.specs.Copies.{PartFits, before, CopyFits, EndsAt}
-use Rattle.ledger_step_laws.proofs.Ahead.{with_machine, with_off, with_at, heap_then}
+use Rattle.ledger_step_laws.proofs.Ahead.{with_off, with_at, heap_then}
 use Rattle.core_relation.proofs.notes.Begun.{begun_stays}
 use Rattle.core_relation.proofs.changes.Collect.{collected as collection}
 use Rattle.ledger_step_laws.proofs.Rested.{rested_worker, rested_view, rested_sound}
@@ -91,7 +92,7 @@ module _ (p : ProgramText) (s : SettingsValue) (t : ℕ) (h h' : Home) (f : Addr
   V' = with_home v' t h'
 
   machine' : l'.machine ≡ l.machine
-  machine' = with_machine l t (collected l.machine)
+  machine' = heap_machine l t (collected l.machine)
 
   ends : ChangesHeap l l' t
   ends = end_changes l t
@@ -101,7 +102,7 @@ module _ (p : ProgramText) (s : SettingsValue) (t : ℕ) (h h' : Home) (f : Addr
 
   pub rested_changes : ChangesHeap lt lt' t
   rested_changes = record {
-    machine = with_machine l' t let_go ∙ (ends.machine ∙ sym (with_machine l t let_go));
+    machine = heap_machine l' t let_go ∙ (ends.machine ∙ sym (heap_machine l t let_go));
     others = λ u nu. ap or_fresh (with_off l' t u let_go nu) ∙ (ends.others u nu ∙ ap or_fresh (sym (with_off l t u let_go nu)));
     worker = rested_worker l' t ∙ sym (rested_worker l t);
     snapshot = rested_view (λ h. h.snapshot) (λ h. refl) l' t ∙ (ends.snapshot ∙ sym (rested_view (λ h. h.snapshot) (λ h. refl) l t));
@@ -157,7 +158,7 @@ module _ (p : ProgramText) (s : SettingsValue) (t : ℕ) (h h' : Home) (f : Addr
   stands =
       collection V V' lt lt' t x f (rested_sound l t S) C.old.fits.stands
       (record {
-        task = ap (λ (m : State). slice_get m.tasks t) (with_machine l t let_go) ∙ is;
+        task = ap (λ (m : State). slice_get m.tasks t) (heap_machine l t let_go) ∙ is;
         runs = runs;
         begun = rested_view (λ z. is_some z.begun) (λ z. refl) l t ∙ C.collects;
         rests = rested_worker l t;

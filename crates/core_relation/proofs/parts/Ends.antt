@@ -12,12 +12,13 @@ use Rattle.run_ledger.specs.declared.data.Ledger.{Ledger}
 use Rattle.run_ledger.specs.Heaps.{heap_of, or_fresh, let_go}
 use Rattle.run_ledger.specs.Steps.{task_steps}
 use Rattle.run_ledger.specs.Sound.{collecting}
+use Rattle.run_ledger.proofs.Machine.{heap_machine}
 use Rattle.core_relation.specs.Memory.{Home, Memory}
 use Rattle.ledger_step_laws.specs.Accounts.{ArePrivate, rested, StepsAlone, ChangesHeap, Knows}
 use Rattle.core_relation.specs.Fits.{Part, FitsAt, ahead, with_home, part_for}
 use Rattle.core_relation.specs.Changes.{Moves}
 use Rattle.core_relation.specs.Frames.{IsSteady, IsOut, Beside, EndsBeside}
-use Rattle.ledger_step_laws.proofs.Ahead.{SameOf, with_off, with_machine}
+use Rattle.ledger_step_laws.proofs.Ahead.{SameOf, with_off}
 use Rattle.core_relation.proofs.parts.Parts.{ahead_alone, ahead_same}
 use Rattle.ledger_step_laws.proofs.Rested.{rested_sound, rested_worker, rested_view}
 use Rattle.core_relation.proofs.parts.Pair.{beside}
@@ -47,7 +48,7 @@ module _ (p : ProgramText) (s : SettingsValue) (t : ℕ) (g g' : Home) (r : Part
     E = record { machine = L.machine; heap = same }
 
     to_rest : (k : Ledger) → SameOf r.task k (rested k t)
-    to_rest k = record { machine = with_machine k t let_go; heap = with_off k t r.task let_go off }
+    to_rest k = record { machine = heap_machine k t let_go; heap = with_off k t r.task let_go off }
 
     -- the steps of r's part by all four accounts
     at_l' : ArePrivate p s l' r.task r.fresh × SameOf r.task (ahead p r l) (ahead p r l')
@@ -77,7 +78,7 @@ module _ (p : ProgramText) (s : SettingsValue) (t : ℕ) (g g' : Home) (r : Part
 
     ends : ChangesHeap lt lt' t
     ends = record {
-      machine = with_machine l' t let_go ∙ (L.machine ∙ sym (with_machine l t let_go));
+      machine = heap_machine l' t let_go ∙ (L.machine ∙ sym (heap_machine l t let_go));
       others = λ u nu. ap or_fresh (with_off l' t u let_go nu) ∙ (L.others u nu ∙ ap or_fresh (sym (with_off l t u let_go nu)));
       worker = rested_worker l' t ∙ sym (rested_worker l t);
       snapshot = rested_view (λ h. h.snapshot) (λ h. refl) l' t ∙ (L.snapshot ∙ sym (rested_view (λ h. h.snapshot) (λ h. refl) l t));
@@ -93,7 +94,7 @@ module _ (p : ProgramText) (s : SettingsValue) (t : ℕ) (g g' : Home) (r : Part
       steps_u = B.steps_u;
       steps_t' = N';
       collects = record {
-        task = N.tasks t ne ∙ (ap (λ (m : State). slice_get m.tasks t) (with_machine l t let_go) ∙ O.task);
+        task = N.tasks t ne ∙ (ap (λ (m : State). slice_get m.tasks t) (heap_machine l t let_go) ∙ O.task);
         runs = runs;
         begun = ap (λ (h : Heap). is_some h.begun) (N.heaps t ne) ∙ (rested_view (λ h. is_some h.begun) (λ h. refl) l t ∙ begun);
         rests = ap (λ (h : Heap). h.worker) (N.heaps t ne) ∙ rested_worker l t;

@@ -18,6 +18,7 @@ use Rattle.run_ledger.specs.declared.data.Ledger.{Ledger}
 use Rattle.run_ledger.specs.Heaps.{heap_of, or_fresh, let_go}
 use Rattle.run_ledger.specs.Steps.{task_steps}
 use Rattle.run_ledger.specs.Sound.{collecting}
+use Rattle.run_ledger.proofs.Machine.{heap_machine}
 use Rattle.task_frames.specs.declared.frames.Frame.{Frame}
 use Rattle.core_relation.specs.Memory.{Home, Memory, In, objects, objects_in}
 use Rattle.ledger_step_laws.specs.Accounts.{own, Rests, ArePrivate, rested, StepsAlone, AlikeFor, Knows}
@@ -27,7 +28,7 @@ use Rattle.ledger_step_laws.specs.Kinds.{StoresOne, StoresNumber}
 use Rattle.core_relation.specs.Changes.{StoresAt, StoresNumberAt}
 use Rattle.task_frames.specs.FramesValue.{ref_of}
 use Rattle.core_relation.specs.Frames.{IsSteady, IsOut, Beside}
-use Rattle.ledger_step_laws.proofs.Ahead.{SameOf, with_machine, with_off}
+use Rattle.ledger_step_laws.proofs.Ahead.{SameOf, with_off}
 use Rattle.core_relation.proofs.parts.Beside.{together, alike_writes}
 use Rattle.ledger_step_laws.proofs.Rested.{rested_worker, rested_knows}
 use Rattle.core_relation.proofs.changes.Lifts.{stores_too, stores_with, numbers_too, numbers_with}
@@ -67,10 +68,10 @@ module _ (p : ProgramText) (s : SettingsValue) (q r : Part) (v : Memory) (l l' :
   K2 = rested_knows l' q.task K'
 
   abbrev limit' : lt'.machine.field_limit ≡ lq.machine.field_limit
-  limit' = ap (λ (m : State). m.field_limit) (with_machine l' q.task let_go) ∙ limit
+  limit' = ap (λ (m : State). m.field_limit) (heap_machine l' q.task let_go) ∙ limit
 
   abbrev end' : lt'.machine.end ≡ lq.machine.end
-  end' = ap (λ (m : State). m.end) (with_machine l' q.task let_go) ∙ end
+  end' = ap (λ (m : State). m.end) (heap_machine l' q.task let_go) ∙ end
 
   abbrev heap_r : slice_get lt'.heaps r.task ≡ slice_get lq.heaps r.task
   heap_r = with_off l' q.task r.task let_go off ∙ heap
@@ -87,7 +88,7 @@ module _ (p : ProgramText) (s : SettingsValue) (q r : Part) (v : Memory) (l l' :
     pri = private' p s q r v l lt' x y K K2 F G O P ne E
 
     at_l' : ArePrivate p s l' r.task r.fresh × SameOf r.task then_ (ahead p r l')
-    at_l' = ahead_same p s r lt' l' (record { machine = sym (with_machine l' q.task let_go); heap = sym (with_off l' q.task r.task let_go off) }) pri
+    at_l' = ahead_same p s r lt' l' (record { machine = sym (heap_machine l' q.task let_go); heap = sym (with_off l' q.task r.task let_go off) }) pri
 
     outer : (heap_of lt' r.task).worker ≡ Some G.worker
     outer = out' p s q r v l lt' x y K K2 F G O P ne E

@@ -6,8 +6,9 @@ use Rattle.run_trace.specs.Settings.{SettingsValue}
 use Rattle.run_ledger.specs.declared.data.Ledger.{Ledger}
 use Rattle.run_ledger.specs.Heaps.{heap_of, or_fresh, let_go}
 use Rattle.run_ledger.specs.Steps.{task_steps}
+use Rattle.run_ledger.proofs.Machine.{heap_machine}
 use Rattle.ledger_step_laws.specs.Accounts.{rested}
-use Rattle.ledger_step_laws.proofs.Ahead.{with_machine, with_off}
+use Rattle.ledger_step_laws.proofs.Ahead.{with_off}
 use Rattle.ledger_step_laws.proofs.Rested.{rested_worker, rested_view}
 use Rattle.core_relation.specs.Memory.{Home, Memory}
 use Rattle.core_relation.specs.Stands.{Stands}
@@ -36,7 +37,7 @@ quiet_fits p s t h g v v' l l' L C F =
     fits_now p s t g v' l' F.worker (L.worker t ∙ F.out)
     (renewed (with_home v t h) (with_home v' t g) (rested l t) (rested l' t) F.stands
     (record {
-      machine = with_machine l' t let_go ∙ (L.machine ∙ sym (with_machine l t let_go));
+      machine = heap_machine l' t let_go ∙ (L.machine ∙ sym (heap_machine l t let_go));
       worker = λ u. elim (cases_eq u t) [
         | inl e ↦ ap (λ z. (heap_of (rested l' t) z).worker) e ∙ (rested_worker l' t ∙ (sym (rested_worker l t) ∙ ap (λ z. (heap_of (rested l t) z).worker) (sym e)))
         | inr ne ↦ ap (λ o. (or_fresh o).worker) (with_off l' t u let_go ne) ∙ (L.worker u ∙ ap (λ o. (or_fresh o).worker) (sym (with_off l t u let_go ne)))

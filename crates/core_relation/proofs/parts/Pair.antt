@@ -10,12 +10,13 @@ use Rattle.run_ledger.specs.declared.data.Ledger.{Ledger}
 use Rattle.run_ledger.specs.Heaps.{let_go}
 use Rattle.run_ledger.specs.Steps.{task_steps}
 use Rattle.run_ledger.specs.Sound.{collecting}
+use Rattle.run_ledger.proofs.Machine.{heap_machine}
 use Rattle.core_relation.specs.Memory.{Memory}
 use Rattle.core_relation.specs.Stands.{Stands}
 use Rattle.core_relation.specs.Fits.{Part, FitsAt, ahead, with_home}
 use Rattle.ledger_step_laws.specs.Accounts.{ArePrivate, StepsAlone, AlikeFor, Knows}
 use Rattle.core_relation.specs.Frames.{IsSteady, IsOut, Beside}
-use Rattle.ledger_step_laws.proofs.Ahead.{with_machine, with_off}
+use Rattle.ledger_step_laws.proofs.Ahead.{with_off}
 use Rattle.ledger_step_laws.proofs.Along.{alike_steps, steps_limit, steps_end, steps_off, steps_know}
 use Rattle.core_relation.proofs.parts.Along.{rested_alike, alone_ahead, alike_alone}
 use Rattle.core_relation.proofs.parts.Beside.{together}
@@ -48,7 +49,7 @@ module _ (p : ProgramText) (s : SettingsValue) (q r : Part) (v : Memory) (l : Le
 
   pub alike : AlikeFor r.task l lq
   alike =
-      let e = with_machine (task_steps p l q.task q.fresh) q.task let_go in
+      let e = heap_machine (task_steps p l q.task q.fresh) q.task let_go in
       alike_alone p s r l lq q.task ne
       (λ h. ne (leaf_alone l K.sound q.task r.task (ap is_waiting O.task ∙ (running_tells x.status O.runs).1) (ap is_joined P.task ∙ (running_tells y.status P.runs).0) h)) N (ap (λ (m : State). m.field_limit) e ∙ steps_limit p s q.task q.fresh l F.private) (ap (λ (m : State). m.end) e ∙ steps_end p s q.task q.fresh l F.private)
       (with_off (task_steps p l q.task q.fresh) q.task r.task let_go off ∙ steps_off p s q.task q.fresh l r.task off F.private)

@@ -17,7 +17,7 @@ use Rattle.run_ledger.specs.Steps.{task_steps}
 use Rattle.ledger_step_laws.specs.Accounts.{StepsAlone, Knows, Leaves, rested}
 use Rattle.ledger_step_laws.specs.Kinds.{StoresOne}
 use Rattle.ledger_step_laws.specs.Last.{WritesOther, Halts, LastKind, Private, Reading, Writing, Printing, Forking, Ending, Joining, Finishing, Halting, IsOfKind, GoesOn, Splits, Runs}
-use Rattle.ledger_step_laws.proofs.Ahead.{private_alone, alone_along, steps_alone_all, with_machine, with_off}
+use Rattle.ledger_step_laws.proofs.Ahead.{private_alone, alone_along, steps_alone_all, with_off}
 use Rattle.ledger_step_laws.proofs.Along.{steps_limit, steps_end, steps_off, steps_know}
 use Rattle.ledger_step_laws.proofs.Split.{worker_step, steps_worker}
 use Rattle.ledger_step_laws.proofs.Wrote.{is_store, is_swap, is_number}
@@ -32,6 +32,7 @@ use Rattle.core_relation.proofs.parts.Quiet.{aside_is, fits_halt}
 use Rattle.core_relation.proofs.changes.Takes.{ran_fits}
 use Rattle.ledger_step_laws.proofs.Root.{root_alone}
 use Rattle.run_ledger.specs.Sound.{collecting}
+use Rattle.run_ledger.proofs.Machine.{heap_machine}
 
 module _ (p : ProgramText) (s : SettingsValue) (v v' : Memory) (l l' : Ledger) (t w k : ℕ) (h : Home) (E : Runs p s l l' t w k) (on : l'.machine.end ≡ None) where
   abbrev q : Part
@@ -58,10 +59,10 @@ module _ (p : ProgramText) (s : SettingsValue) (v v' : Memory) (l l' : Ledger) (
 
     -- the accounts by l' and l
     pub limit : l'.machine.field_limit ≡ l.machine.field_limit
-    limit = left.limit ∙ (ap (λ (z : State). z.field_limit) (with_machine m t let_go) ∙ steps_limit p s t k l S.private)
+    limit = left.limit ∙ (ap (λ (z : State). z.field_limit) (heap_machine m t let_go) ∙ steps_limit p s t k l S.private)
 
     pub end : l'.machine.end ≡ l.machine.end
-    end = left.end ∙ (ap (λ (z : State). z.end) (with_machine m t let_go) ∙ steps_end p s t k l S.private)
+    end = left.end ∙ (ap (λ (z : State). z.end) (heap_machine m t let_go) ∙ steps_end p s t k l S.private)
 
     pub heap : slice_get l'.heaps r.task ≡ slice_get l.heaps r.task
     heap = left.heap ∙ (with_off m t r.task let_go (λ e. ne (sym e)) ∙ steps_off p s t k l r.task (λ e. ne (sym e)) S.private)

@@ -13,12 +13,12 @@ use Rattle.hh_model.specs.Step.{is_running, is_waiting, is_joined, is_on_path, o
 use Rattle.run_ledger.specs.declared.data.Ledger.{Ledger}
 use Rattle.run_ledger.specs.Heaps.{heap_of, or_fresh, let_go}
 use Rattle.run_ledger.specs.Steps.{task_steps}
-use Rattle.run_ledger.proofs.Machine.{task_step_machine}
+use Rattle.run_ledger.proofs.Machine.{task_step_machine, heap_machine}
 use Rattle.run_ledger.specs.Sound.{SoundLedger}
 use Rattle.ledger_step_laws.specs.Accounts.{StepsAlone, Knows, aside, rested}
 use Rattle.ledger_step_laws.specs.Kinds.{StoresOne}
 use Rattle.ledger_step_laws.specs.Last.{WritesOther, LastKind, Private, Reading, Writing, Printing, Forking, Ending, Joining, Finishing, Halting, IsOfKind, GoesOn, Runs, Splits, stepped_by}
-use Rattle.ledger_step_laws.proofs.Ahead.{steps_sound, with_machine, with_off}
+use Rattle.ledger_step_laws.proofs.Ahead.{steps_sound, with_off}
 use Rattle.ledger_step_laws.proofs.Along.{steps_end, steps_know}
 use Rattle.ledger_step_laws.proofs.Private.{private_on}
 use Rattle.ledger_step_laws.proofs.Rested.{rested_sound, rested_view}
@@ -60,10 +60,10 @@ both_rested l l' t A = record {
 }
   where
     em : (rested l t).machine ≡ l.machine
-    em = with_machine l t let_go
+    em = heap_machine l t let_go
 
     el : (rested l' t).machine ≡ l'.machine
-    el = with_machine l' t let_go
+    el = heap_machine l' t let_go
 
 module _ (p : ProgramText) (s : SettingsValue) (v v' : Memory) (l l' : Ledger) (t w k : ℕ) (h g : Home) (E : Runs p s l l' t w k) where
   abbrev m : Ledger
@@ -117,7 +117,7 @@ module _ (p : ProgramText) (s : SettingsValue) (v v' : Memory) (l l' : Ledger) (
   held m' e = ap (λ (z : Ledger). (heap_of z t).worker) e ∙ E.held
 
   idle : is_waiting (slice_get (rested m t).machine.tasks t) ≡ false
-  idle = ap (λ (z : State). is_waiting (slice_get z.tasks t)) (with_machine m t let_go) ∙ (ap is_waiting S.at.task ∙ ap (λ st. is_waiting (Some (record S.task { status = st }))) S.at.runs)
+  idle = ap (λ (z : State). is_waiting (slice_get z.tasks t)) (heap_machine m t let_go) ∙ (ap is_waiting S.at.task ∙ ap (λ st. is_waiting (Some (record S.task { status = st }))) S.at.runs)
 
   sound : SoundLedger (rested m t)
   sound = rested_sound m t known.sound

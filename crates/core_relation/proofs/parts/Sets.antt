@@ -20,7 +20,7 @@ use Rattle.run_ledger.specs.Sound.{SoundLedger}
 use Rattle.ledger_step_laws.specs.Accounts.{Rests, StepsAlone, rested}
 use Rattle.ledger_step_laws.specs.Kinds.{onward_with}
 use Rattle.ledger_step_laws.specs.Last.{stepped_by}
-use Rattle.ledger_step_laws.proofs.Ahead.{with_machine, with_off}
+use Rattle.ledger_step_laws.proofs.Ahead.{with_off}
 use Rattle.ledger_step_laws.proofs.Last.{rest_heaps}
 use Rattle.ledger_step_laws.proofs.Rested.{rested_worker, rested_sound}
 use Rattle.core_relation.specs.Memory.{Home, Memory, In, object_name, objects, objects_in, Lies}
@@ -35,6 +35,7 @@ use Rattle.core_relation.proofs.parts.Workers.{part_now}
 use Rattle.core_relation.specs.Makes.{StepsTo}
 use Rattle.core_relation.specs.WorkerLaws.{FramesGo, NumbersGo}
 use Rattle.hh_model.specs.declared.data.Frame.{Frame as ModelFrame}
+use Rattle.run_ledger.proofs.Machine.{heap_machine}
 use Rattle.task_frames.specs.declared.frames.Frame.{Frame}
 use Rattle.ledger_step_laws.proofs.Along.{steps_know}
 use Rattle.core_relation.proofs.changes.Own.{place_own}
@@ -64,10 +65,10 @@ module _ (p : ProgramText) (s : SettingsValue) (t k : ℕ) (h : Home) (v : Memor
   lt' = rested l' t
 
   em : lt.machine ≡ m.machine
-  em = with_machine m t let_go
+  em = heap_machine m t let_go
 
   el : lt'.machine ≡ l'.machine
-  el = with_machine l' t let_go
+  el = heap_machine l' t let_go
 
   store_same : (n : Name) → object_at lt'.machine.store n ≡ object_at lt.machine.store n
   store_same n = ap (λ (z : State). object_at z.store n) el ∙ (ap (λ (z : Ledger). object_at z.machine.store n) goes ∙ sym (ap (λ (z : State). object_at z.store n) em))

@@ -23,8 +23,9 @@ use Rattle.run_ledger.proofs.Journals.{none_unless, entry_tells, wait_tells, leg
 use Rattle.run_ledger.specs.Sound.{SoundLedger}
 use Rattle.run_ledger.proofs.Steps.{heap_of_task, running_at}
 use Rattle.run_ledger.proofs.History.{heap_view}
+use Rattle.run_ledger.proofs.Machine.{heap_machine}
 use Rattle.ledger_step_laws.specs.Accounts.{Rests, StepsAlone, Takes, rested}
-use Rattle.ledger_step_laws.proofs.Ahead.{with_at, with_machine, heap_then}
+use Rattle.ledger_step_laws.proofs.Ahead.{with_at, heap_then}
 use Rattle.ledger_step_laws.proofs.Entries.{took_takes, sweep_changes, end_changes}
 use Rattle.ledger_step_laws.proofs.Known.{legal_knows}
 use Rattle.ledger_step_laws.proofs.Split.{legal_alive, legal_idle}
@@ -179,7 +180,7 @@ module _ (p : ProgramText) (s : SettingsValue) (journal : List EntryValue) (prog
       let L = end_changes l t in
       let l' : Ledger = with_heap l t (collected l.machine) in
       let idle' : is_waiting (slice_get l'.machine.tasks t) ≡ false = ap (λ (m : Machine). is_waiting (slice_get m.tasks t)) L.machine ∙ idle in
-      let rest_idle : is_waiting (slice_get (rested l t).machine.tasks t) ≡ false = ap (λ (m : Machine). is_waiting (slice_get m.tasks t)) (with_machine l t let_go) ∙ idle in
+      let rest_idle : is_waiting (slice_get (rested l t).machine.tasks t) ≡ false = ap (λ (m : Machine). is_waiting (slice_get m.tasks t)) (heap_machine l t let_go) ∙ idle in
       let M = copies_end p s t h h' f v v' l x.0 g.0 S x.1 (runs_is x.0.status x.2) g.1 K E none in
       let can : can_step l.machine t ≡ true = ap₂ goes_on (legal_alive p s journal legal (none_of l.end tells.0)) run in
       let before_notes = notes_ahead p s (before s t h) v l x.0 (legal_knows p s journal legal) K.old.fits (record { task = x.1; runs = x.2; can = can; steady = inl refl }) (whole_notes v c l W) in

@@ -18,14 +18,14 @@ use Rattle.run_ledger.specs.declared.data.Ledger.{Ledger}
 use Rattle.run_ledger.specs.Heaps.{heap_of, in_use, or_fresh, let_go}
 use Rattle.run_ledger.specs.Steps.{is_private, task_steps}
 use Rattle.run_ledger.proofs.Bounds.{task_steps_steps}
-use Rattle.run_ledger.proofs.Machine.{task_step_machine}
+use Rattle.run_ledger.proofs.Machine.{task_step_machine, heap_machine}
 use Rattle.run_ledger.proofs.Use.{same_use}
 use Rattle.heap_tree.specs.declared.state.State.TheVariants.{Ready, Out, Waiting as Waits, Ended as HasEnded, Joined as HasJoined}
 use Rattle.heap_tree.specs.Node.{Node}
 use Rattle.ledger_step_laws.specs.Accounts.{StepsAlone, rested}
 use Rattle.ledger_step_laws.specs.Kinds.{ForksTask, EndsTask}
 use Rattle.ledger_step_laws.specs.Last.{LastKind, Private, Reading, Writing, Printing, Forking, Ending, Joining, Finishing, Halting, IsOfKind, GoesOn, EndsLast, Halts, Splits, Runs, stepped_by}
-use Rattle.ledger_step_laws.proofs.Ahead.{private_alone, steps_alone_all, with_machine, with_off}
+use Rattle.ledger_step_laws.proofs.Ahead.{private_alone, steps_alone_all, with_off}
 use Rattle.ledger_step_laws.proofs.Along.{steps_know}
 use Rattle.ledger_step_laws.proofs.Kin.{private_kin, steps_kin}
 use Rattle.ledger_step_laws.proofs.Private.{private_on}
@@ -111,7 +111,7 @@ module _ (p : ProgramText) (s : SettingsValue) (l l' : Ledger) (t w k : ℕ) (E 
 
   -- let go of, the accounts of the other tasks are as before
   tasks_rested : (u : ℕ) → slice_get (rested m t).machine.tasks u ≡ slice_get m.machine.tasks u
-  tasks_rested u = ap (λ (z : Machine). slice_get z.tasks u) (with_machine m t let_go)
+  tasks_rested u = ap (λ (z : Machine). slice_get z.tasks u) (heap_machine m t let_go)
 
   heaps_rested : (u : ℕ) → (u ≡ t → ⊥) → heap_of (rested m t) u ≡ heap_of m u
   heaps_rested u ne = ap or_fresh (with_off m t u let_go ne)
@@ -315,7 +315,7 @@ module _ (p : ProgramText) (s : SettingsValue) (l l' : Ledger) (t w k : ℕ) (E 
     by Finishing K on N =
         let with = with_steps l' t let_go in
         subst (TotalsStand c') (sym (handed_done l l' t w k p s E K))
-        (totals (rested l' t) with.0 (same_use l' t let_go (λ h. refl) ∙ same_use_then) (ap (λ (z : Machine). z.outputs) (with_machine l' t let_go) ∙ same_outputs K.outputs N.outputs) (with.1 ∙ (K.is ∙ sym N.end)) N.used N.steps (hand_goes (rested l' t) (ended_workers (rested l' t) K.ends) N.hand) (ended (rested l' t) K.ends N.tree))
+        (totals (rested l' t) with.0 (same_use l' t let_go (λ h. refl) ∙ same_use_then) (ap (λ (z : Machine). z.outputs) (heap_machine l' t let_go) ∙ same_outputs K.outputs N.outputs) (with.1 ∙ (K.is ∙ sym N.end)) N.used N.steps (hand_goes (rested l' t) (ended_workers (rested l' t) K.ends) N.hand) (ended (rested l' t) K.ends N.tree))
     by Halting K on N =
         subst (TotalsStand c') (sym (handed_halt m l' K))
         (totals l' refl same_use_then (same_outputs (ap (λ (z : Machine). z.outputs) K.machine) N.outputs) (K.is ∙ sym N.end) N.used N.steps (hand_same l' (workers_on l' (ap (λ hs. (or_fresh (slice_get hs t)).worker) K.heaps ∙ E.held) (λ z ne. ap (λ hs. (or_fresh (slice_get hs z)).worker) K.heaps)) N.hand) (halted K N.tree))

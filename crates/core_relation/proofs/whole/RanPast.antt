@@ -13,10 +13,11 @@ use Rattle.run_ledger.specs.declared.data.Ledger.{Ledger}
 use Rattle.run_ledger.specs.Heaps.{heap_of, or_fresh, let_go}
 use Rattle.run_ledger.specs.Steps.{task_steps}
 use Rattle.run_ledger.specs.Sound.{SoundLedger}
+use Rattle.run_ledger.proofs.Machine.{heap_machine}
 use Rattle.ledger_step_laws.specs.Accounts.{StepsAlone, Knows, rested}
 use Rattle.ledger_step_laws.specs.Kinds.{StoresOne}
 use Rattle.ledger_step_laws.specs.Last.{WritesOther, Halts, LastKind, Private, Reading, Writing, Printing, Forking, Ending, Joining, Finishing, Halting, IsOfKind, GoesOn, Splits, Runs}
-use Rattle.ledger_step_laws.proofs.Ahead.{private_alone, alone_along, steps_alone_all, with_machine}
+use Rattle.ledger_step_laws.proofs.Ahead.{private_alone, alone_along, steps_alone_all}
 use Rattle.ledger_step_laws.proofs.Along.{steps_know}
 use Rattle.ledger_step_laws.proofs.Rested.{rested_worker, rested_sound}
 use Rattle.ledger_step_laws.proofs.Split.{worker_step, steps_worker}
@@ -75,7 +76,7 @@ module _ (p : ProgramText) (s : SettingsValue) (v v' : Memory) (l l' : Ledger) (
   idle_m = ap is_waiting S.at.task ∙ ap (λ st. is_waiting (Some (record S.task { status = st }))) S.at.runs
 
   idle_t : is_waiting (slice_get lt.machine.tasks t) ≡ false
-  idle_t = ap (λ (z : State). is_waiting (slice_get z.tasks t)) (with_machine m t let_go) ∙ idle_m
+  idle_t = ap (λ (z : State). is_waiting (slice_get z.tasks t)) (heap_machine m t let_go) ∙ idle_m
 
   alone_m : StepsAlone l m t
   alone_m = steps_alone_all p s t k l (E.knows.sound, E.collects) S.private
@@ -105,7 +106,7 @@ module _ (p : ProgramText) (s : SettingsValue) (v v' : Memory) (l l' : Ledger) (
         let same : L.0 ≡ C.1 = same_Some L.0 C.1 (sym L.1 ∙ C.5) in
         let L' : StoresOne lt (rested l' t) t S.task W.name W.object o b C.1 c = subst (λ j. StoresOne lt (rested l' t) t S.task W.name W.object o b j c) same L.2 in
         let held : (heap_of l' t).worker ≡ Some w = ap (λ (z : Ledger). (heap_of z t).worker) W.goes ∙ E.held in
-        let idle' : is_waiting (slice_get l'.machine.tasks t) ≡ false = ap (λ (z : State). is_waiting (slice_get z.tasks t)) (sym (with_machine l' t let_go)) ∙ (L'.writes.tree.waits t ∙ idle_t) in
+        let idle' : is_waiting (slice_get l'.machine.tasks t) ≡ false = ap (λ (z : State). is_waiting (slice_get z.tasks t)) (sym (heap_machine l' t let_go)) ∙ (L'.writes.tree.waits t ∙ idle_t) in
         let fits : FitsAt p s (part_for s t C.0 0) v' l' = stores_fit p s q v v' l l' C.0 w S.task W.name W.object o b C.1 c C.2 C.3 C.4 sound F held L' C.6 C.7 in (
           ran_stands p s (part_for s t C.0 0) v' l' w fits held idle',
           notes_back t C.0 v' l' idle' fits.stands (stores_note vt (with_home v' t C.0) lt (rested l' t) t S.task W.name W.object o b C.1 c C.2 C.3 C.4 sound F.stands rests L' C.6 C.7 M notes_t),
@@ -121,7 +122,7 @@ module _ (p : ProgramText) (s : SettingsValue) (v v' : Memory) (l l' : Ledger) (
         let same : C.1 ≡ L.0 = same_Some C.1 L.0 (sym C.5 ∙ L.1) in
         let C' : StoresNumberAt vt (with_home v' t C.0) t C.2 C.3 C.4 b L.0 = subst (StoresNumberAt vt (with_home v' t C.0) t C.2 C.3 C.4 b) same C.6 in
         let held : (heap_of l' t).worker ≡ Some w = ap (λ (z : Ledger). (heap_of z t).worker) W.goes ∙ E.held in
-        let idle' : is_waiting (slice_get l'.machine.tasks t) ≡ false = ap (λ (z : State). is_waiting (slice_get z.tasks t)) (sym (with_machine l' t let_go)) ∙ (L.2.writes.tree.waits t ∙ idle_t) in
+        let idle' : is_waiting (slice_get l'.machine.tasks t) ≡ false = ap (λ (z : State). is_waiting (slice_get z.tasks t)) (sym (heap_machine l' t let_go)) ∙ (L.2.writes.tree.waits t ∙ idle_t) in
         let fits : FitsAt p s (part_for s t C.0 0) v' l' = numbers_fit p s q v v' l l' C.0 w S.task W.name W.object o b L.0 C.2 C.3 C.4 sound F held L.2 C' C.7 in (
           ran_stands p s (part_for s t C.0 0) v' l' w fits held idle',
           notes_back t C.0 v' l' idle' fits.stands (numbers_note vt (with_home v' t C.0) lt (rested l' t) t S.task W.name W.object o b L.0 C.2 C.3 C.4 L.2 C' M notes_t),
