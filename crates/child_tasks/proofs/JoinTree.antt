@@ -94,10 +94,6 @@ kept_is (Some y) r e = (y, refl, by y.status e)
     by (EndedOf n z) e = let q : (n, z) ≡ r = same_Some (n, z) r e in ap₂ EndedOf (ap (λ (i : ℤ × Option Name). i.0) q) (ap (λ (i : ℤ × Option Name). i.1) q)
     by JoinedOf e = absurd cc
 
-pub waits_is : (o : Option Task) → is_waiting o ≡ true → (y : Task) × (o ≡ Some y)
-waits_is None e = absurd (false≢true e)
-waits_is (Some y) e = (y, refl)
-
 pub by_room : (h : LeafHeapValue) (view : List Level) (n : ℕ) (x : Work) → (home_by h view n x).room ≡ room_of h
 by_room h view n (Calls s) = refl
 by_room h view n (Result k r) = refl

@@ -8,6 +8,7 @@ use Rattle.hh_model.specs.declared.data.State.{State as MachineState}
 use Rattle.hh_model.specs.declared.data.Status.TheVariants.{Waiting as WaitingOf, Ended as EndedOf}
 use Rattle.hh_model.specs.declared.data.Task.{Task}
 use Rattle.hh_model.specs.Step.{child_ended_by, is_joined, is_left, is_running, is_waiting, join_of, joined_task, kept_by, or_same, parents, result_of, resumed}
+use Rattle.hh_model.proofs.Leaves.{wait_there}
 use Rattle.run_trace.specs.Entry.{private_limit}
 use Rattle.run_ledger.specs.declared.data.Ledger.{Ledger}
 use Rattle.run_ledger.specs.Heaps.{heap_of, let_go, or_fresh}
@@ -47,7 +48,7 @@ use Rattle.child_tasks.specs.ChildEnds.{IsAtEnd, running_parent, where_running}
 use Rattle.child_tasks.proofs.ChildReturns as steps
 use Rattle.shared_value.proofs.FieldsLed.{by_chunks}
 use Rattle.child_tasks.proofs.JoinHomes.{by_since}
-use Rattle.child_tasks.proofs.JoinTree.{HasCalls, IsOver, by_room, kept_is, waiting_calls, waiting_is, waits_is}
+use Rattle.child_tasks.proofs.JoinTree.{HasCalls, IsOver, by_room, kept_is, waiting_calls, waiting_is}
 use Rattle.child_tasks.proofs.LastReturnKinds.{joins}
 
 module _ (w : SharedValue) (k : ℕ) (p : Private) (I : IsSharedValue w) (F : Fits w k p) (at_end : IsAtEnd w p) (free : refused w (alone_event k p) ≡ None) (ended : state_in_tree w.tree (steps.other w k p I F at_end free) ≡ Some Ended) where
@@ -101,7 +102,7 @@ module _ (w : SharedValue) (k : ℕ) (p : Private) (I : IsSharedValue w) (F : Fi
   other_task = kept_is (slice_get M.machine.tasks s) other_kept.0 other_kept.1
 
   above_task : (y : Task) × (slice_get M.machine.tasks q ≡ Some y)
-  above_task = waits_is (slice_get M.machine.tasks q) (steps.parent_waits w k p I F at_end free)
+  above_task = wait_there (slice_get M.machine.tasks q) (steps.parent_waits w k p I F at_end free)
 
   abbrev y : Task
   y = other_task.0

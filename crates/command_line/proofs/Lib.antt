@@ -5,5 +5,5 @@ mod Operands
 mod Ranges
 mod Rows
 mod Shapes
-mod Taken
+pub mod Taken
 pub mod Plain

@@ -11,6 +11,7 @@ use Rattle.run_trace.specs.Entry.{EntryValue}
 use Rattle.run_trace.specs.Settings.{SettingsValue}
 use Rattle.hh_model.specs.declared.data.State.{State}
 use Rattle.hh_model.specs.Step.{is_running, is_waiting}
+use Rattle.hh_model.proofs.Leaves.{waiting_stops}
 use Rattle.run_ledger.specs.declared.data.Ledger.{Ledger}
 use Rattle.run_ledger.specs.Entries.{after, after_kind}
 use Rattle.run_ledger.specs.Frozen.{begins}
@@ -20,7 +21,6 @@ use Rattle.run_ledger.specs.Report.{lost}
 use Rattle.run_ledger.proofs.Machine.{heap_machine}
 use Rattle.object_layout.specs.Chunks.{held_words}
 use Rattle.alloc_path.specs.LeafHeapValue.{counted as counted64}
-use Rattle.ledger_step_laws.proofs.Wrote.{waiting_stops}
 use Rattle.run_report.specs.Totals.{AreFew, cleared_words, counted, entry_totals, joined, no_totals, totals_from}
 use Rattle.run_report.proofs.Sums.{legal_few, lost_is, totals_last}
 use Rattle.task_machine.specs.declared.part.Private.{Private}

@@ -6,6 +6,7 @@ use Rattle.listed.proofs.Members.{contains_from_in, in_append_cases, in_append_l
 use Rattle.walk_laws.proofs.Reached.{reached_more, reached_start, reached_within}
 use Rattle.hh_model.specs.declared.data.Task.{Task}
 use Rattle.hh_model.specs.Step.{is_waiting}
+use Rattle.hh_model.proofs.Leaves.{waiting_stops}
 use Rattle.run_ledger.specs.declared.data.Ledger.{Ledger}
 use Rattle.run_ledger.specs.Heaps.{heap_of}
 use Rattle.run_ledger.specs.Sound.{SoundLedger}
@@ -20,7 +21,6 @@ use Rattle.inner_mark_gc.specs.MarkingValue.{IsMarking, IsOf, MarkingValue}
 use Rattle.inner_mark_gc.specs.Snapshot.{Fork, IsInSnapshot, Starts}
 use Rattle.ledger_step_laws.specs.Accounts.{Rests}
 use Rattle.ledger_step_laws.proofs.Split.{legal_idle}
-use Rattle.ledger_step_laws.proofs.Wrote.{waiting_stops}
 use Rattle.core_relation.specs.Memory.{In, Memory, object_name, objects, objects_in}
 use Rattle.core_relation.specs.Begins.{IsAt, IsRoot, LeadsAt}
 use Rattle.core_relation.specs.Marking.{GoesOn}

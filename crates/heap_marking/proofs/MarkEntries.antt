@@ -6,6 +6,7 @@ use Rattle.std.proofs.lemmas.Option.{get_or_from_slice_get}
 use Rattle.listed.proofs.Members.{got_other, got_same, got_within}
 use Rattle.listed.proofs.Options.{none_of}
 use Rattle.listed.proofs.Places.{got_set}
+use Rattle.hh_model.proofs.Leaves.{waiting_stops}
 use Rattle.run_trace.specs.declared.entry.Kind.TheVariants.{Mark, More}
 use Rattle.run_trace.specs.Entry.{EntryValue}
 use Rattle.run_trace.specs.Settings.{SettingsValue}
@@ -28,7 +29,6 @@ use Rattle.inner_mark_gc.specs.MarkingValue.{IsAllMarked, IsMarking, IsOf, Marki
 use Rattle.inner_mark_gc.specs.Snapshot.{Fork, IsSince}
 use Rattle.ledger_step_laws.proofs.Ahead.{heap_then, with_at}
 use Rattle.ledger_step_laws.proofs.Split.{legal_idle}
-use Rattle.ledger_step_laws.proofs.Wrote.{waiting_stops}
 use Rattle.core_relation.specs.Marking.{GoesOn}
 use Rattle.core_relation.specs.Since.{kept}
 use Rattle.shared_value.specs.declared.task_at_rest.Rest.{Rest}

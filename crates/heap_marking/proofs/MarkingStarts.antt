@@ -8,6 +8,7 @@ use Rattle.hh_model.specs.declared.data.Status.TheVariants.{Running, Waiting, En
 use Rattle.hh_model.specs.declared.data.Task.{Task}
 use Rattle.hh_model.specs.declared.data.Name.{Name}
 use Rattle.hh_model.specs.Step.{is_waiting, waits}
+use Rattle.hh_model.proofs.Leaves.{waiting_stops}
 use Rattle.run_ledger.specs.declared.data.Ledger.{Ledger}
 use Rattle.object_layout.specs.declared.word.Addr.{Addr}
 use Rattle.object_layout.specs.Chunks.{has_chunk}
@@ -21,7 +22,6 @@ use Rattle.remembered_set.specs.Moved.{AreFields, into, targets_of}
 use Rattle.leaf_copy_gc.specs.Survivors.{references_in}
 use Rattle.ledger_step_laws.specs.Accounts.{Rests}
 use Rattle.ledger_step_laws.proofs.Split.{legal_idle}
-use Rattle.ledger_step_laws.proofs.Wrote.{waiting_stops}
 use Rattle.core_relation.specs.Begins.{AreRoots, IsAt}
 use Rattle.core_relation.specs.Reads.{FramesAreRead, HoldsRead}
 use Rattle.core_relation.specs.Stands.{Place, Stands}

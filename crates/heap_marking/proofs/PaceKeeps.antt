@@ -21,6 +21,7 @@ use Rattle.heap_marking.specs.declared.pace.Previous.{Previous}
 use Rattle.heap_marking.specs.declared.pace.Previous.TheVariants.{Other, Ran, Forked}
 use Rattle.heap_marking.specs.Pace.{HasGoneOn, IsForkOf, IsOver, KeepsMarks, KeepsPace, KeepsPrevious, TellsFork, TellsMark, previous_of}
 use Rattle.listed.specs.Options.{option_is}
+use Rattle.run_ledger.proofs.Frames.{held_is}
 use Rattle.heap_marking.proofs.StepsKeepForks.{WaitsOn}
 use Rattle.heap_marking.proofs.ForksStay.{Moves}
 
@@ -122,16 +123,13 @@ module _ (l l' : Ledger) (M : Moves l l') where
   keeps_moves q x K = record { previous = previous_moves q.previous x.previous K.previous; marks = marks_move q.marks.items x.marks K.marks }
 
 -- THE FORK on which a task waits
-parent_tells : (o : Option ℕ) (t : ℕ) → option_is o t ≡ true → o ≡ Some t
-parent_tells None t h = absurd (false≢true h)
-parent_tells (Some p) t h = ap Some (eqb-true p t h)
 
 -- a child of t that hasn't joined, as the tasks tell it
 abbrev pub lives_below : List Task → ℕ → ℕ → Bool
 lives_below tasks t c = option_is (parents tasks c) t && not (joined tasks c)
 
 pub child_tells : (tasks : List Task) (t c : ℕ) → lives_below tasks t c ≡ true → (parents tasks c ≡ Some t) × (joined tasks c ≡ false)
-child_tells tasks t c h = let q = and_parts (option_is (parents tasks c) t) (not (joined tasks c)) h in (parent_tells (parents tasks c) t q.0, not-true (joined tasks c) q.1)
+child_tells tasks t c h = let q = and_parts (option_is (parents tasks c) t) (not (joined tasks c)) h in (held_is (parents tasks c) t q.0, not-true (joined tasks c) q.1)
 
 pub child_from : (tasks : List Task) (t c : ℕ) → parents tasks c ≡ Some t → joined tasks c ≡ false → lives_below tasks t c ≡ true
 child_from tasks t c p j = and_from (option_is (parents tasks c) t) (not (joined tasks c)) (ap (λ o. option_is o t) p ∙ eq-eqb t t refl) (ap not j)

@@ -5,12 +5,12 @@ use Rattle.hh_model.specs.declared.data.Status.{Status}
 use Rattle.hh_model.specs.declared.data.Status.TheVariants.{Running, Waiting, Ended, Joined}
 use Rattle.hh_model.specs.declared.data.Task.{Task}
 use Rattle.hh_model.specs.Step.{is_waiting, waits}
+use Rattle.hh_model.proofs.Leaves.{waiting_stops}
 use Rattle.run_ledger.specs.declared.data.Ledger.{Ledger}
 use Rattle.run_ledger.specs.declared.data.Refused.TheVariants.{NotWaiting, Swept}
 use Rattle.run_ledger.specs.Entries.{refused_unless}
 use Rattle.run_ledger.specs.Heaps.{heap_of}
 use Rattle.ledger_step_laws.proofs.Split.{legal_idle}
-use Rattle.ledger_step_laws.proofs.Wrote.{waiting_stops}
 use Rattle.core_relation.specs.Reads.{HoldsRead}
 use Rattle.core_relation.specs.Stands.{Place}
 use Rattle.core_relation.specs.Memory.{Memory}

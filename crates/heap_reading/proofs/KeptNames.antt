@@ -3,7 +3,7 @@ use Rattle.std.proofs.Common.{◌≡◌, ℕ, zero, suc, ◌+◌, ◌-◌, ◌*�
 use Rattle.std.specs.List.{flat_map}
 use Rattle.std.proofs.lemmas.Bool.{cases_eq}
 use Rattle.std.proofs.lemmas.List.{append-nil, append_assoc}
-use Rattle.std.proofs.lemmas.List.Sums.{sum_by-append, sum_by-cons}
+use Rattle.std.proofs.lemmas.List.Sums.{sum_by-append}
 use Rattle.std.proofs.lemmas.Option.{same_Some}
 use Rattle.listed.proofs.Members.{contains_from_in}
 use Rattle.hh_model.specs.declared.data.Name.{Name}
@@ -12,19 +12,19 @@ use Rattle.hh_model.specs.declared.data.Status.{Status}
 use Rattle.hh_model.specs.declared.data.Status.TheVariants.{Running, Waiting, Ended, Joined}
 use Rattle.hh_model.specs.declared.data.Task.{Task}
 use Rattle.hh_model.specs.Step.{is_running, runs}
-use Rattle.hh_model.specs.Store.{IsStored}
 use Rattle.hh_model.specs.declared.data.End.TheVariants.{Done, Trapped, Entangled}
 use Rattle.run_ledger.specs.declared.data.Heap.{Heap as Account}
 use Rattle.run_ledger.specs.declared.data.Ledger.{Ledger}
 use Rattle.run_ledger.specs.declared.data.RunEnd.{RunEnd}
 use Rattle.run_ledger.specs.declared.data.RunEnd.TheVariants.{Fuel, Machine as MachineEnd, Pool}
-use Rattle.run_ledger.specs.Heaps.{heap_of, held, held_in, in_use, let_go, or_fresh, small_in, words_at, words_of, words_sum}
+use Rattle.run_ledger.specs.Heaps.{heap_of, held, held_in, in_use, let_go, or_fresh, small_in, words_at, words_sum}
 use Rattle.run_ledger.specs.Report.{held_not_running, held_not_running_from}
 use Rattle.run_ledger.proofs.Holders.{tasks_are_held_once}
 use Rattle.run_ledger.proofs.Bounds.{steps_are_bounded}
 use Rattle.run_ledger.proofs.Counted.{journals_are_counted}
 use Rattle.run_ledger.proofs.Space.{heaps_fit, use_is_bounded}
 use Rattle.run_ledger.proofs.Stocks.{names_are_held_once}
+use Rattle.run_ledger.proofs.KeptNames.{stored_most}
 use Rattle.object_layout.specs.Chunks.{held_words, object_count}
 use Rattle.object_layout.specs.ChunkValue.{ChunkValue}
 use Rattle.object_layout.specs.Objects.{Located}
@@ -34,7 +34,7 @@ use Rattle.ledger_step_laws.specs.Accounts.{Rests, rested}
 use Rattle.ledger_step_laws.proofs.Ahead.{with_off}
 use Rattle.ledger_step_laws.proofs.Rested.{rested_view}
 use Rattle.core_relation.specs.Stands.{HasNames, Stands, large_chunks, names_of, small_chunks}
-use Rattle.core_relation.specs.Memory.{In, object_name, objects_in}
+use Rattle.core_relation.specs.Memory.{object_name, objects_in}
 use Rattle.core_relation.specs.Whole.{by_end, handed, state_by, as_node}
 use Rattle.shared_value.specs.declared.task_at_rest.Rest.{Rest}
 use Rattle.shared_value.specs.Objects.{chunk_of, chunks_of}
@@ -199,14 +199,6 @@ pub kept_all : (l : Ledger) → kept_before l (length l.heaps) ≡ held_not_runn
 kept_all l = ap (kept_before l) (let e : length l.heaps ≡ 0 + length l.heaps = omega arith in e) ∙ sym (kept_on l l.heaps 0 (λ i. ap (slice_get l.heaps) (let e : i ≡ 0 + i = omega arith in e)))
 
 -- 64 BITS COUNT IT
-stored_most : (m : Machine) (ns : List Name) → ((n : Name) → In ns n → IsStored m n) → length ns ≤ words_sum m ns
-stored_most m [] stored = omega arith
-stored_most m (n ∷ ns) stored =
-    let o = stored n (inl refl) in
-    let a : words_at m n ≡ 2 + length o.0.refs + length o.0.ints = ap words_of o.1 in
-    let b = sum_by-cons (words_at m) n ns in
-    let c = stored_most m ns (λ k i. stored k (inr i)) in
-    omega (arith, a, b, c)
 
 module _ (g : List Name → ℕ) (add : (xs ys : List Name) → g (xs ++ ys) ≡ g xs + g ys) where
   kept_least : (tasks : List Task) (heaps : List Account) (t : ℕ) → g (held_not_running_from tasks heaps t) ≤ g (flat_map held_in heaps)

@@ -37,7 +37,7 @@ fresh_before [] k ls a = refl
 fresh_before (x ∷ ks) k ls a =
     fresh_cons x ks k.number (λ e. fresh_head k ls x.number (fresh_behind ks (k ∷ ls) x.number a.0) (sym e)) (fresh_before ks k ls a.1)
 
-fresh_both : (ks ls : List ChunkValue) (n : ℕ) → IsFresh ks n → IsFresh ls n → IsFresh (ks ++ ls) n
+pub fresh_both : (ks ls : List ChunkValue) (n : ℕ) → IsFresh ks n → IsFresh ls n → IsFresh (ks ++ ls) n
 fresh_both [] ls n f g = g
 fresh_both (k ∷ ks) ls n f g = fresh_cons k (ks ++ ls) n (fresh_head k ks n f) (fresh_both ks ls n (fresh_tail k ks n f) g)
 

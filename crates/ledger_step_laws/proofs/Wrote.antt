@@ -1,17 +1,16 @@
 -- A write of another task's object is a store of a reference or of a number.
-use Rattle.std.proofs.Common.{◌≡◌, ℕ, ℤ, pos, negsuc, ◌<◌, nat_lt, Bool, true, false, cond, Option, Some, None, slice_get, length, inl, inr, refl, ap, sym, subst, ◌∙◌}
+use Rattle.std.proofs.Common.{◌≡◌, ℕ, ℤ, pos, negsuc, ◌<◌, nat_lt, Bool, true, false, cond, Some, None, slice_get, length, inl, inr, refl, ap, sym, subst, ◌∙◌}
 use Rattle.std.proofs.lemmas.Bool.{ltb-true, cases_eq}
 use Rattle.std.proofs.lemmas.Option.{same_Some}
 use Rattle.listed.proofs.Members.{got_same}
 use Rattle.hh_lang.specs.declared.instr.Instr.TheVariants.{Putr, Puti, Cas}
 use Rattle.hh_lang.specs.declared.program.Line.{Line}
 use Rattle.hh_lang.specs.Form.{ProgramText}
-use Rattle.hh_model.specs.declared.data.Status.{Status}
-use Rattle.hh_model.specs.declared.data.Status.TheVariants.{Running, Waiting, Ended, Joined}
 use Rattle.hh_model.specs.declared.data.Task.{Task}
 use Rattle.hh_model.specs.declared.data.State.{State}
 use Rattle.hh_model.specs.Effect.{place_in, int_in, ref_in, same_name, flat}
-use Rattle.hh_model.specs.Step.{is_waiting, is_running, runs, waits}
+use Rattle.hh_model.specs.Step.{is_waiting, runs, waits}
+use Rattle.hh_model.proofs.Leaves.{waiting_stops}
 use Rattle.run_ledger.specs.declared.data.Ledger.{Ledger}
 use Rattle.run_ledger.specs.Heaps.{heap_of, or_fresh, let_go}
 use Rattle.run_ledger.specs.Steps.{touched}
@@ -29,16 +28,6 @@ place_less n (pos k) i e = by (nat_lt k n) refl e
     by true h e = subst (λ j. j < n) (same_Some k i e) (ltb-true k n h)
     by false h e = absurd cc
 place_less n (negsuc k) i e = absurd cc
-
-pub waiting_stops : (o : Option Task) → is_waiting o ≡ true → is_running o ≡ false
-waiting_stops None h = refl
-waiting_stops (Some x) h = by x.status h
-  where
-    by : (s : Status) → waits s ≡ true → runs s ≡ false
-    by Running h = absurd cc
-    by Waiting h = refl
-    by (Ended k n) h = refl
-    by Joined h = refl
 
 -- who waits rests, also where t is let go of
 pub waits_rest : (l : Ledger) (t : ℕ) → IdleRest l → (u : ℕ) → is_waiting (slice_get (rested l t).machine.tasks u) ≡ true → Rests (rested l t) u

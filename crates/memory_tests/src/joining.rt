@@ -44,7 +44,7 @@ fn are_in_use(pool: &Pool, chunks: &[Chunk]) -> bool
 }
 
 // Whether none of these chunks has the number of another of them, or of one behind them.
-#[tactic(auto, using(crate::proofs::Apart::fresh_both))]
+#[tactic(auto, using(inner_mark_gc::proofs::Giving::fresh_both))]
 fn are_apart(chunks: &[Chunk], behind: &[Chunk]) -> bool
     requires { AreApart behind.now }
     ensures { IsTrue result → AreApart (chunks.now ++ behind.now) }
@@ -60,7 +60,7 @@ fn are_apart(chunks: &[Chunk], behind: &[Chunk]) -> bool
 }
 
 // The same of two lists behind one another.
-#[tactic(auto, using(crate::proofs::Apart::fresh_both))]
+#[tactic(auto, using(inner_mark_gc::proofs::Giving::fresh_both))]
 fn are_all_apart(left: &[Chunk], right: &[Chunk], behind: &[Chunk]) -> bool
     requires { AreApart behind.now }
     ensures { IsTrue result → AreApart (left.now ++ (right.now ++ behind.now)) }

@@ -6,6 +6,7 @@ use Rattle.listed.specs.RoomyValue.{RoomyValue}
 use Rattle.hh_model.specs.declared.data.Name.{Name}
 use Rattle.hh_model.specs.declared.data.Task.{Task}
 use Rattle.hh_model.specs.Step.{is_running, is_waiting, runs}
+use Rattle.hh_model.proofs.Leaves.{waiting_stops}
 use Rattle.run_trace.specs.Entry.{EntryValue}
 use Rattle.run_ledger.specs.declared.data.Heap.{Heap}
 use Rattle.run_ledger.specs.declared.data.Ledger.{Ledger}
@@ -20,7 +21,6 @@ use Rattle.task_frames.specs.declared.frames.Frame.{Frame}
 use Rattle.write_barrier.specs.declared.sets.SetOf.{SetOf}
 use Rattle.ledger_step_laws.specs.Accounts.{Rests}
 use Rattle.ledger_step_laws.specs.Last.{Runs, Splits, Writing, WritesOther}
-use Rattle.ledger_step_laws.proofs.Wrote.{waiting_stops}
 use Rattle.core_relation.specs.Memory.{Home, Memory}
 use Rattle.core_relation.specs.Fits.{part_for, with_home}
 use Rattle.core_relation.specs.Makes.{Stores, StoresHome}

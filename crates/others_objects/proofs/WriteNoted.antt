@@ -1,7 +1,7 @@
 -- What the write of a reference notes, in the sets of the heaps.
 use Rattle.std.proofs.Common.{◌≡◌, ◌⊎◌, ℕ, ◌<◌, ◌==◌, ◌&&◌, ◌++◌, not, Bool, true, false, cond, Option, Some, None, List, [], ◌∷◌, length, slice_get, option_map, inl, inr, refl, ap, ap₂, sym, subst, ◌∙◌, eq-eqb, ne_eqb}
 use Rattle.std.specs.Prelude.{option_to_list}
-use Rattle.std.proofs.lemmas.Bool.{and_parts, cond-true, eqb-true, false≢true, both_ways}
+use Rattle.std.proofs.lemmas.Bool.{and_parts, cond-true, false≢true, both_ways}
 use Rattle.std.proofs.lemmas.Option.{same_Some}
 use Rattle.listed.proofs.Members.{in_append_cases, in_append_left, in_append_right}
 use Rattle.listed.proofs.Places.{got_none}
@@ -14,6 +14,7 @@ use Rattle.remembered_set.proofs.LiftLemmas.{source_in}
 use Rattle.write_barrier.specs.declared.sets.SetOf.{SetOf}
 use Rattle.write_barrier.specs.Stored.{Content, content_after, content_at, content_of, heap_of, is_down, noted_in as noted_heap, with_source}
 use Rattle.listed.specs.Options.{option_is}
+use Rattle.run_ledger.proofs.Frames.{held_is}
 use Rattle.core_relation.specs.Memory.{In, Noted}
 use Rattle.shared_value.specs.SharedValue.{noted_in}
 use Rattle.shared_value.proofs.FieldsNoted.{noted_is, noted_of}
@@ -40,10 +41,6 @@ noted_only xs s y i = by (has_source xs s) i
     by : (b : Bool) → In (cond b xs (xs ++ s ∷ [])) y → In xs y ⊎ (s ≡ y)
     by true j = inl j
     by false j = elim (in_append_cases xs (s ∷ []) y j) [ inl q ↦ inl q | inr q ↦ elim q [ inl e ↦ inr e | inr n ↦ absurd n ] ]
-
-of_is : (o : Option ℕ) (t : ℕ) → option_is o t ≡ true → o ≡ Some t
-of_is None t e = absurd (false≢true e)
-of_is (Some h) t e = ap Some (eqb-true h t e)
 
 is_of_it : (t : ℕ) → option_is (Some t) t ≡ true
 is_of_it t = eq-eqb t t refl
@@ -193,7 +190,7 @@ module _ (tree : List Node) (pool : PoolValue) (sets sets' : List SetOf) (a : Ad
   new_one t s true e c k =
       elim (noted_only c.sources source s k) [
         | inl old ↦ inl old
-        | inr same ↦ inr (new_by t s value refl (sym same) (of_is into t e))
+        | inr same ↦ inr (new_by t s value refl (sym same) (held_is into t e))
       ]
 
   pub notes_only : (t : ℕ) (s : Source) → In (now t).sources s → In (was t).sources s ⊎ IsNew t s
@@ -261,7 +258,7 @@ module _ (tree : List Node) (pool : PoolValue) (sets sets' : List SetOf) (a : Ad
       held None eo k h = absurd k
       held (Some y) eo (inl e) h =
           let is : overwritten ≡ Some b = eo ∙ ap Some e in
-          (is, of_is (owner_of pool b.chunk) t (sym (ap (λ o. option_is (heap_of pool o) t) is) ∙ h))
+          (is, held_is (owner_of pool b.chunk) t (sym (ap (λ o. option_is (heap_of pool o) t) is) ∙ h))
       held (Some y) eo (inr n) h = absurd n
 
       one : (c : Content) (x : Bool) → (option_is (heap_of pool overwritten) t && c.keeps) ≡ x → In (cond x (c.kept ++ option_to_list overwritten) c.kept) b → In c.kept b ⊎ ((overwritten ≡ Some b) × (owner_of pool b.chunk ≡ Some t))

@@ -28,6 +28,7 @@ use Rattle.core_relation.proofs.objects.Members.{map_in}
 use Rattle.core_relation.proofs.notes.Roots.{name_at}
 use Rattle.shared_value.specs.Stands.{IsSharedValue}
 use Rattle.shared_value.specs.SharedValue.{SharedValue, value_of}
+use Rattle.shared_value.proofs.FreeChunks.{refs_long}
 use Rattle.heap_reading.specs.HeldNames.{is_state_running}
 use Rattle.heap_reading.specs.Image.{field_of, shown}
 use Rattle.image_check.specs.declared.line.Remembered.{Remembered}
@@ -36,7 +37,7 @@ use Rattle.heap_image.specs.declared.picture.Picked.{Picked}
 use Rattle.heap_image.specs.declared.picture.Picture.{Picture}
 use Rattle.heap_image.specs.Picture.{AreApart, IsAncestor, IsFit, IsOwned, IsPlaced, IsRunning, KeepsToPath, LeadsSomewhere, end_of}
 use Rattle.shared_image.specs.Drawn.{AreHeldInWords, IsHandedBack, IsPictureOf, drawn_field, drawn_object}
-use Rattle.shared_image.proofs.Resting.{R as Known_R, H as Known_H, content as Known_content, own_is as Known_own_is, live as Known_live, chunk as Known_chunk, owner as Known_owner, near as Known_near, measured as Known_measured, S, made, read_length}
+use Rattle.shared_image.proofs.Resting.{R as Known_R, H as Known_H, content as Known_content, own_is as Known_own_is, live as Known_live, chunk as Known_chunk, owner as Known_owner, near as Known_near, measured as Known_measured, S, made}
 use Rattle.shared_image.proofs.Known.{T, k, owners, rests, runs, task_live}
 use Rattle.shared_image.proofs.Links.{chunk_in, not_running, on_path, owned_at, owner_is, running}
 use Rattle.shared_image.proofs.Numbers.{all_in, before_offset, chunk_of_word, offset_of_word, word_some}
@@ -211,7 +212,7 @@ module _ (w : SharedValue) (I : IsSharedValue w) (F : AreHeldInWords w) (p : Pic
       let d = K.place.here K.rests in
       let c = content t idle d.0 d.1 in
       let object : c.0 ≡ K.object = same_Some c.0 K.object (sym c.1 ∙ (ap (object_at (k w I).machine.store) d.2.name ∙ K.is)) in
-      let a : length d.0.refs ≡ length c.0.refs = read_length (Place v (k w I)) d.0.refs c.0.refs c.2.refs in
+      let a : length d.0.refs ≡ length c.0.refs = refs_long (Place v (k w I)) d.0.refs c.0.refs c.2.refs in
       let b : length c.0.refs ≡ length K.object.refs = ap (λ (z : Object). length z.refs) object in
       let m : length (map word_of_ref d.0.refs) ≡ length d.0.refs = length-map d.0.refs word_of_ref in
       let lt : s.field < length K.object.refs = K.field in

@@ -1,18 +1,16 @@
 -- The objects of the heaps handed back: whose they are, and where they lie.
-use Rattle.std.proofs.Common.{◌≡◌, ℕ, suc, ◌<◌, true, false, Option, Some, None, List, [], ◌∷◌, length, is_some, slice_get, refl, ap, subst, ◌∙◌}
+use Rattle.std.proofs.Common.{◌≡◌, ℕ, ◌<◌, true, false, Option, Some, None, List, [], ◌∷◌, length, is_some, slice_get, refl, ap, subst, ◌∙◌}
 use Rattle.std.proofs.lemmas.Bool.{false≢true}
 use Rattle.std.proofs.lemmas.Option.{slice_get_within}
-use Rattle.hh_model.specs.declared.data.Name.{Name}
 use Rattle.hh_model.specs.declared.data.Object.{Object}
 use Rattle.hh_model.specs.declared.data.Task.{Task}
 use Rattle.hh_model.specs.Effect.{object_at}
 use Rattle.hh_model.specs.Step.{joined}
 use Rattle.run_ledger.specs.Heaps.{heap_of}
-use Rattle.object_layout.specs.declared.word.Addr.{Addr}
 use Rattle.object_layout.specs.Objects.{Located}
 use Rattle.chunk_pool.specs.PoolValue.{slot_at}
 use Rattle.ledger_step_laws.specs.Accounts.{Rests, own}
-use Rattle.core_relation.specs.Reads.{AllRead, IsRead}
+use Rattle.core_relation.specs.Reads.{IsRead}
 use Rattle.core_relation.specs.Stands.{HomeStands, Place, Stands}
 use Rattle.core_relation.specs.Memory.{Chunk as ChunkOf, In, Memory, object_name, objects, objects_in}
 use Rattle.core_relation.proofs.objects.Members.{in_chunk, map_in, object_held}
@@ -24,12 +22,6 @@ use Rattle.shared_value.specs.SharedValue.{SharedValue, home_in, rest_at, value_
 use Rattle.shared_value.proofs.FieldsLed.{home_chunks}
 use Rattle.shared_image.specs.Drawn.{IsHandedBack}
 use Rattle.shared_image.proofs.Known.{T, k, owned, owners, rests}
-
-pub read_length : (at : Name → Addr → Type 0) (rs : List (Option Addr)) (xs : List (Option Name)) → AllRead at rs xs → length rs ≡ length xs
-read_length at [] [] h = refl
-read_length at [] (x ∷ xs) h = absurd h
-read_length at (r ∷ rs) [] h = absurd h
-read_length at (r ∷ rs) (x ∷ xs) h = ap suc (read_length at rs xs h.1)
 
 pub some_within : {A : Type 0} (xs : List A) (t : ℕ) → is_some (slice_get xs t) ≡ true → t < length xs
 some_within {A = A} xs t e = by (slice_get xs t) refl e

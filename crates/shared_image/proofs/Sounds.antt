@@ -23,6 +23,7 @@ use Rattle.core_relation.proofs.objects.Members.{map_in}
 use Rattle.shared_value.specs.Stands.{IsSharedValue}
 use Rattle.shared_value.specs.SharedValue.{SharedValue, accounts, value_of}
 use Rattle.shared_value.proofs.BeforeTheEnd.{used_now}
+use Rattle.shared_value.proofs.FreeChunks.{refs_long}
 use Rattle.heap_reading.specs.declared.live.Live.{Live}
 use Rattle.heap_reading.specs.Image.{IsLive, shown}
 use Rattle.image_check.specs.declared.line.Birth.{Birth}
@@ -37,7 +38,7 @@ use Rattle.shared_image.specs.Drawn.{AreHeldInWords, IsHandedBack, IsPictureOf, 
 use Rattle.shared_image.proofs.Known.{T, few, fields_few, k, live_task, owners, root, same, stored_few, tree}
 use Rattle.shared_image.proofs.Links.{has_task, parent_live}
 use Rattle.shared_image.proofs.Drawing.{births, apart, content, fits, keeps, leads, near, owner, placed, ref_near}
-use Rattle.shared_image.proofs.Resting.{made, read_length}
+use Rattle.shared_image.proofs.Resting.{made}
 use Rattle.shared_image.proofs.Numbers.{all_in, rises_at, word_long}
 
 units_most : (slots : List (Option Slot)) (n : ℕ) (h : Slot) → slot_in slots n ≡ Some h → h.units ≤ units_in slots
@@ -119,7 +120,7 @@ module _ (w : SharedValue) (I : IsSharedValue w) (C : AreChunks w.pool.slots) (F
         let x = content w I F p P t idle o i in
         let n = stored_few w I (object_name o) x.0 x.1 in
         let long = address_long in
-        let a : length o.refs ≡ length x.0.refs = read_length (Place v (k w I)) o.refs x.0.refs x.2.refs in
+        let a : length o.refs ≡ length x.0.refs = refs_long (Place v (k w I)) o.refs x.0.refs x.2.refs in
         let b : length o.ints ≡ length x.0.ints = ap length x.2.ints in
         let c = fields_few w I (object_name o) x.0 x.1 in
         let m : length (map word_of_ref o.refs) ≡ length o.refs = length-map o.refs word_of_ref in

@@ -1,6 +1,6 @@
 mod Copying
 mod Finding
-mod Rows
-mod Giving
+pub mod Rows
+pub mod Giving
 mod Rounding
 pub mod Sent

@@ -1,35 +1,18 @@
 -- The desks of two workers, and what they keep.
-use Rattle.std.proofs.Common.{◌≡◌, ℕ, ◌<◌, List, [], ◌∷◌, length, get_or, remove, slice_get, sym, ap, ◌∙◌, subst, arith, Some}
+use Rattle.std.proofs.Common.{◌≡◌, ◌<◌, List, [], ◌∷◌, length, get_or, remove, slice_get, sym, ◌∙◌, subst, arith, Some}
 use Rattle.atomic_table.specs.Seated.{TableId}
 use Rattle.hh_lang.specs.Form.{ProgramText}
 use Rattle.run_trace.specs.Settings.{SettingsValue}
 use Rattle.turn_lock.specs.Seats.{view}
 use Rattle.worker_run.specs.declared.desk.Desk.{Desk}
-use Rattle.turn_entries.specs.declared.held.Next.{Next}
-use Rattle.turn_entries.specs.declared.held.Next.TheVariants.{Running, Collecting as Collects, Copied as HasCopied, Found as GoesFor, Forked, Resumed, Idle, Waits, Stop}
 use Rattle.turn_entries.specs.declared.held.Ready.{Ready}
 use Rattle.worker_run.specs.Desks.{AreAllDesks, ChangesHand, IsDesk}
-use Rattle.turn_entries.specs.Parts.{ComesWith, GoesWith, Sight}
-
--- where the worker's seat keeps the same part, it may go on so as before
-pub goes_still : (p : ProgramText) (k : ℕ) (v w : Sight) (next : Next) → w.part ≡ v.part → GoesWith p k v next → GoesWith p k w next
-goes_still p k v w (Running part) e G = ((G.0.0, e ∙ G.0.1, G.0.2), G.1)
-goes_still p k v w (Collects c) e G = ((G.0.0, e ∙ G.0.1, G.0.2), G.1)
-goes_still p k v w (HasCopied c) e G = ((G.0.0, e ∙ G.0.1, G.0.2), G.1)
-goes_still p k v w (GoesFor t) e G = tt
-goes_still p k v w (Forked left right) e G = tt
-goes_still p k v w (Resumed t) e G = tt
-goes_still p k v w Idle e G = tt
-goes_still p k v w Waits e G = tt
-goes_still p k v w Stop e G = tt
+use Rattle.turn_entries.specs.Parts.{ComesWith}
+use Rattle.worker_run.proofs.Rows.{first_of}
 
 -- what the worker comes with rests on nothing of its hand
 pub comes_still : (p : ProgramText) (d e : Desk) (ready : Ready) → ChangesHand d e → ComesWith p d.worker (view d.seat) ready → ComesWith p e.worker (view e.seat) ready
 comes_still p d e ready C with_it = subst (λ (x : Desk). ComesWith p x.worker (view x.seat) ready) (sym C.rest) with_it
-
-first_of : {A : Type 0} (l : List A) (x : A) → 0 < length l → x ≡ get_or l 0 x → slice_get l 0 ≡ Some x
-first_of [] x h e = absurd (omega arith)
-first_of (y ∷ ys) x h e = ap Some (sym e)
 
 second_of : {A : Type 0} (l : List A) (x : A) → 0 < length l → x ≡ get_or l 0 x → (y : A) → slice_get (remove l 0) 0 ≡ Some y → slice_get l 1 ≡ Some y
 second_of [] x h e y at = absurd (omega arith)

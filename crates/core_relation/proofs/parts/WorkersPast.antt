@@ -12,6 +12,7 @@ use Rattle.hh_model.specs.Store.{IsStored}
 use Rattle.hh_model.specs.Step.{is_running, is_waiting}
 use Rattle.hh_model.specs.Closed.{Closed}
 use Rattle.hh_model.proofs.Steps.{runs_is}
+use Rattle.hh_model.proofs.Leaves.{waiting_stops}
 use Rattle.run_ledger.specs.declared.data.Ledger.{Ledger}
 use Rattle.run_ledger.specs.Heaps.{heap_of, collected, swept_heap}
 use Rattle.run_ledger.specs.Entries.{refusal, after, is_ready, is_out}
@@ -24,7 +25,6 @@ use Rattle.ledger_step_laws.proofs.Ahead.{with_off}
 use Rattle.ledger_step_laws.proofs.Entries.{took_takes, sweep_changes, end_changes}
 use Rattle.ledger_step_laws.proofs.Known.{legal_knows}
 use Rattle.ledger_step_laws.proofs.Split.{legal_alive, legal_idle}
-use Rattle.ledger_step_laws.proofs.Wrote.{waiting_stops}
 use Rattle.core_relation.specs.Memory.{Memory}
 use Rattle.core_relation.specs.Fits.{Part, FitsAt}
 use Rattle.core_relation.specs.Worker.{Fits}

@@ -1,7 +1,7 @@
 use Rattle.std.proofs.Common.{ap, ◌∙◌}
 use Rattle.turn_lock.specs.Seats.{view}
 use Rattle.turn_entries.specs.Parts.{Sight}
-use Rattle.worker_tests.proofs.Beside.{goes_still}
+use Rattle.worker_run.proofs.Giving.{goes_still}
 use Rattle.worker_tests.proofs.desks.makes_ready.Goals as goal
 
 pub returns-clause-still : goal.returns-clause-still
