@@ -1,13 +1,13 @@
 -- Walks over nodes that bear names are walks over the names.
-use Rattle.std.proofs.Common.{◌≡◌, ℕ, zero, suc, List, refl, subst}
+use Rattle.std.proofs.Common.{◌≡◌, ℕ, zero, suc, List, subst}
 use Rattle.std.specs.Prelude.{◌↔◌}
 use Rattle.object_layout.specs.declared.word.Addr.{Addr}
 use Rattle.object_layout.specs.declared.word.Birth.{Birth}
-use Rattle.object_layout.specs.Cell.{Mark, Born, Moved, Hole, IsBorn}
 use Rattle.object_layout.specs.ChunkValue.{ChunkValue}
 use Rattle.object_layout.specs.Chunks.{cell_of}
 use Rattle.object_layout.specs.Graph.{Leads}
 use Rattle.walk_laws.specs.Reached.{IsWalk, IsReached}
+use Rattle.object_layout.proofs.PlaceLemmas.{born_name}
 use Rattle.leaf_copy_gc.specs.Survivors.{Starts as StartsCopying}
 use Rattle.inner_mark_gc.specs.Snapshot.{Starts as StartsMarking}
 use Rattle.birth_walk_laws.specs.Births.{Bears, AreBornOnce, StartsNamed, LeadsNamed, IsReachedByName}
@@ -15,11 +15,6 @@ use Rattle.birth_walk_laws.specs.Laws.{SurvivorsAreNamed, SnapshotIsNamed}
 
 abbrev Named : List ChunkValue → Addr → Type 0
 Named h a = (n : Birth) × Bears h a n
-
-born_name : (m : Mark) → IsBorn m → (n : Birth) × (m ≡ Born n)
-born_name (Born n) ok = (n, refl)
-born_name (Moved to) ok = absurd ok
-born_name Hole ok = absurd ok
 
 module _ (h : List ChunkValue) (starts : Addr → Type 0) (leads : Addr → Addr → Type 0) (once : AreBornOnce h)
     (named : (a : Addr) → starts a → Named h a) (named_next : (b a : Addr) → leads b a → Named h a) where

@@ -1,10 +1,9 @@
 -- An entry of a fork, as the call has it.
-use Rattle.std.proofs.Common.{◌≡◌, ℕ, suc, ◌+◌, ◌<◌, ◌++◌, arith, true, option_map, get_or, Option, Some, None, List, [], ◌∷◌, length, length-append, length-set, slice_get, slice_set, inl, inr, refl, ap, sym, subst, ◌∙◌}
+use Rattle.std.proofs.Common.{◌≡◌, ℕ, suc, ◌+◌, ◌<◌, ◌++◌, arith, true, option_map, Option, Some, None, List, [], ◌∷◌, length, length-append, length-set, slice_get, slice_set, inl, inr, refl, ap, sym, subst, ◌∙◌}
 use Rattle.std.proofs.lemmas.Bool.{cases_lt}
-use Rattle.std.proofs.lemmas.Option.{get_or_from_slice_get}
 use Rattle.listed.proofs.Members.{got_back, got_front, got_other, got_past, got_same, got_within}
 use Rattle.listed.specs.RoomyValue.{RoomyValue}
-use Rattle.listed.proofs.Places.{got_set, got_some}
+use Rattle.listed.proofs.Places.{got_set}
 use Rattle.run_trace.specs.declared.entry.Kind.TheVariants.{Ran}
 use Rattle.run_trace.specs.Entry.{EntryValue}
 use Rattle.heap_tree.specs.Node.{depth_of, forked}
@@ -172,7 +171,3 @@ sets_fork sets t s s' x y is es ex ey =
         | inr le ↦ got_past (one ++ y ∷ []) u (omega (arith, le, na, nb, c)) ∙ sym (got_past sets u le)
       ]);
     }
-
--- the item at a place that is there
-pub item_is : {A : Type 0} (xs : List A) (i : ℕ) (x : A) → i < length xs → x ≡ get_or xs i x → slice_get xs i ≡ Some x
-item_is xs i x lt e = let y = got_some xs i lt in y.1 ∙ ap Some (sym (e ∙ get_or_from_slice_get xs i y.0 x y.1))

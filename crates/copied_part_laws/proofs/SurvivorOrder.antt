@@ -9,7 +9,7 @@ use Rattle.run_ledger.specs.declared.data.Heap.{Heap}
 use Rattle.run_ledger.specs.Heaps.{by_birth, insert_name, name_le, small_in, small_survivors}
 use Rattle.run_ledger.specs.Laws.{AreByBirth}
 use Rattle.run_ledger.specs.Reachable.{holds_name}
-use Rattle.run_ledger.proofs.Collections.{Born, born_from, born_is, born_on, collections_keep_just, same_name}
+use Rattle.run_ledger.proofs.Collections.{Born, born_from, born_is, born_on, collections_keep_just, born_both}
 use Rattle.run_ledger.proofs.Held.{birth_cases, in_birth, insert_cases}
 use Rattle.object_layout.proofs.Distinct.{Once}
 use Rattle.leaf_copy_gc.specs.declared.lists.Survivor.{Survivor}
@@ -24,12 +24,6 @@ Single [] = Unit {0}
 Single (n ∷ ns) = (In ns n → ⊥) × Single ns
 
 -- ---- BIRTHS
-
-born_both : (a b : Name) → Born a b → Born b a → a ≡ b
-born_both a b (inl x) (inl y) = absurd (omega (arith, x, y))
-born_both a b (inl x) (inr y) = absurd (let e : b.task ≡ a.task = y.0 in omega (arith, x, e))
-born_both a b (inr x) (inl y) = absurd (let e : a.task ≡ b.task = x.0 in omega (arith, y, e))
-born_both a b (inr x) (inr y) = same_name a b x.0 (let d : a.count ≤ b.count = x.1 in let e : b.count ≤ a.count = y.1 in omega (arith, d, e))
 
 -- two lists in this order with the same names are one
 pub one_order : (xs ys : List Name) → AreByBirth xs → AreByBirth ys → Single xs → Single ys → ((n : Name) → In xs n → In ys n) → ((n : Name) → In ys n → In xs n) → xs ≡ ys

@@ -35,10 +35,6 @@ pub all_next : {A : Type 0} (P : A → Type 0) (xs : List A) (k : ℕ) (x : A) �
 all_next P xs k x e one all = subst (All P) (sym (take_next xs k x e)) (All-append P (take k xs) (x ∷ []) all (All-cons P x [] one (All-nil P)))
 
 -- MARKS
-pub born_is : (m : Mark) → IsBorn m → (b : Birth) × (m ≡ Born b)
-born_is (Born b) h = (b, refl)
-born_is (Moved to) h = absurd h
-born_is Hole h = absurd h
 
 pub born_from : (m : Mark) → moved_to m ≡ None → IsObject m → IsBorn m
 born_from (Born b) e h = h

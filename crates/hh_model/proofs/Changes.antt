@@ -1,9 +1,9 @@
 -- What an instruction changes in the store: nothing, or one new object, or one object that a register names.
-use Rattle.std.proofs.lemmas.Bool.{leb-true}
+use Rattle.std.proofs.lemmas.Bool.{leb-true, ltb-true}
 use Rattle.std.proofs.lemmas.List.{length-replicate}
 use Rattle.std.proofs.lemmas.Option.{same_Some}
 use Rattle.hh_model.specs.declared.data.Strand.{Strand}
-use Rattle.std.proofs.Common.{◌≡◌, ℕ, ℤ, zero, suc, pos, negsuc, ◌+◌, ◌≤◌, nat_le, take, replicate, arith, ◌==◌, Bool, true, false, cond, Option, Some, None, List, [], ◌∷◌, ◌++◌, length, slice_get, slice_set, ◌⊎◌, inl, inr, refl, sym, subst, eqb-true}
+use Rattle.std.proofs.Common.{◌≡◌, ℕ, ℤ, zero, suc, pos, negsuc, ◌+◌, ◌≤◌, nat_le, take, replicate, arith, ◌==◌, Bool, true, false, cond, Option, Some, None, List, [], ◌∷◌, ◌++◌, length, slice_get, slice_set, ◌⊎◌, inl, inr, refl, sym, subst, eqb-true, ◌<◌, nat_lt}
 use Rattle.listed.proofs.Members.{In}
 use Rattle.listed.proofs.Places.{in_take}
 use Rattle.hh_lang.specs.declared.instr.Instr.{Instr}
@@ -113,6 +113,14 @@ counts_within limit (pos a) (pos b) n e = by (nat_le (a + b) limit) refl e
     by false h q = absurd cc
 counts_within limit (pos a) (negsuc b) n e = absurd cc
 counts_within limit (negsuc a) y n e = absurd cc
+
+pub place_within : (count : ℕ) (x : ℤ) (k : ℕ) → place_in count x ≡ Some k → k < count
+place_within count (pos a) k e = by (nat_lt a count) refl e
+  where
+    by : (t : Bool) → nat_lt a count ≡ t → cond t (Some a) None ≡ Some k → k < count
+    by true is e = let h : a ≡ k = cc in let lt = ltb-true a count is in omega arith
+    by false is e = absurd cc
+place_within count (negsuc a) k e = absurd cc
 
 newm_sized : (limit : ℕ) (f : Frame) (x y : ℤ) (strand : Strand) (n : ℕ × ℕ) → counts_in limit x y ≡ Some n → IsSized limit f (record { strand = strand; mutable = true; refs = replicate n.0 None; ints = replicate n.1 (pos 0) })
 newm_sized limit f x y strand n e =

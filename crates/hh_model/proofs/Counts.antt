@@ -163,6 +163,11 @@ runs_are_counted p limit ts = run_counted p (start p limit) ts 0 (start_kept p l
 pub steps_count : StepsCount
 steps_count p m t k K I = counted_step p m t K k I
 
+-- the store has a row for each task
+pub rows_from : (p : ProgramText) (m : State) (ts : List ℕ) (k : ℕ) → Kept m → Counted k m.tasks m.store → length (run_from p m ts).store ≡ length (run_from p m ts).tasks
+rows_from p m [] k K I = I.rows
+rows_from p m (t ∷ ts) k K I = rows_from p (step p m t) ts (suc k) (step_kept p m t K) (counted_step p m t K k I)
+
 -- MACHINES
 
 pub start_reached : (p : ProgramText) (limit : ℕ) (m : State) → m ≡ start p limit → IsOfRun (record { program = p; state = m; steps = 0 })

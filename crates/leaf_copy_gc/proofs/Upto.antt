@@ -1,7 +1,8 @@
 -- The references of an object led one after another.
-use Rattle.std.proofs.Common.{◌≡◌, ℕ, zero, suc, ◌+◌, ◌-◌, ◌<◌, ◌≤◌, List, [], ◌∷◌, ◌++◌, length, get_or, set, take, drop, refl, sym, ap, ◌∙◌, arith, Some, Option, length-append, length-take, length-drop, map, slice_get}
+use Rattle.std.proofs.Common.{◌≡◌, ℕ, zero, suc, ◌+◌, ◌-◌, ◌<◌, ◌≤◌, List, [], ◌∷◌, ◌++◌, length, get_or, set, take, drop, refl, ap, ◌∙◌, arith, Some, Option, length-append, length-take, length-drop, map, slice_get}
 use Rattle.std.proofs.lemmas.List.{length-map, get_or-append_right, get_or-drop, take_all, drop_all, append-nil}
 use Rattle.std.proofs.lemmas.List.Edits.{map_over_more}
+use Rattle.listed.proofs.Places.{got_item}
 use Rattle.object_layout.specs.declared.word.Addr.{Addr}
 use Rattle.object_layout.specs.Cell.{Cell, with_ref, size_of}
 use Rattle.leaf_copy_gc.specs.Redirected.{led_cell}
@@ -14,11 +15,6 @@ read_some : {X : Type 0} (xs : List X) (k : ℕ) (x : X) → slice_get xs k ≡ 
 read_some [] k x e = refl
 read_some (y ∷ ys) zero x e = cc
 read_some (y ∷ ys) (suc k) x e = read_some ys k x e
-
-some_read : {X : Type 0} (xs : List X) (k : ℕ) (x : X) → k < length xs → x ≡ get_or xs k x → slice_get xs k ≡ Some x
-some_read [] k x l e = absurd (omega arith)
-some_read (y ∷ ys) zero x l e = ap Some (sym e)
-some_read (y ∷ ys) (suc k) x l e = some_read ys k x (omega arith) e
 
 module _ (f : Option Addr → Option Addr) (c : Cell) where
   pub length-upto : (k : ℕ) → k ≤ length c.refs → length (led_upto f k c).refs ≡ length c.refs
@@ -43,7 +39,7 @@ module _ (f : Option Addr → Option Addr) (c : Cell) where
 
     -- what is read there is as it was
     pub upto_read : (r : Option Addr) → slice_get (led_upto f k c).refs k ≡ Some r → slice_get c.refs k ≡ Some r
-    upto_read r e = some_read c.refs k r l (read_some (led_upto f k c).refs k r e ∙ same_there r)
+    upto_read r e = got_item c.refs k r l (read_some (led_upto f k c).refs k r e ∙ same_there r)
 
     pub upto_more : (r : Option Addr) → slice_get (led_upto f k c).refs k ≡ Some r → with_ref (led_upto f k c) k (f r) ≡ led_upto f (k + 1) c
     upto_more r e =

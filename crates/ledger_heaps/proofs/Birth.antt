@@ -13,7 +13,7 @@ use Rattle.run_ledger.specs.Heaps.{name_le, insert_name, by_birth}
 use Rattle.run_ledger.proofs.Held.{insert_cases}
 use Rattle.run_ledger.proofs.Members.{is_name_itself, same_from_is_name}
 use Rattle.run_ledger.proofs.Weights.{birth_weight}
-use Rattle.run_ledger.proofs.Collections.{Born, born_from, born_is, born_on, same_name}
+use Rattle.run_ledger.proofs.Collections.{Born, born_from, born_is, born_on, born_both}
 
 -- THE ORDER
 
@@ -26,14 +26,8 @@ le_other a b h = grind (arith)
 le_itself : (a : Name) → name_le a a ≡ true
 le_itself a = grind (arith)
 
-below_both : (a b : Name) → Born a b → Born b a → a ≡ b
-below_both a b (inl h) (inl k) = absurd (omega arith)
-below_both a b (inl h) (inr k) = absurd (let e = k.0 in omega arith)
-below_both a b (inr h) (inl k) = absurd (let e = h.0 in omega arith)
-below_both a b (inr h) (inr k) = same_name a b h.0 (let x = h.1 in let y = k.1 in omega arith)
-
 le_both : (a b : Name) → name_le a b ≡ true → name_le b a ≡ true → a ≡ b
-le_both a b h k = below_both a b (born_is a b h) (born_is b a k)
+le_both a b h k = born_both a b (born_is a b h) (born_is b a k)
 
 -- LISTS IN ORDER
 

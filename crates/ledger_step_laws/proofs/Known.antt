@@ -1,25 +1,21 @@
 -- All that the laws ask of accounts holds of those of a legal journal.
-use Rattle.std.proofs.Common.{◌≡◌, ℕ, suc, true, List, [], ◌∷◌, length, sym, subst}
+use Rattle.std.proofs.Common.{◌≡◌, ℕ, true, List, [], ◌∷◌, length, sym, subst}
 use Rattle.hh_lang.specs.Form.{ProgramText}
 use Rattle.run_trace.specs.Entry.{EntryValue}
 use Rattle.run_trace.specs.Settings.{SettingsValue, field_limit}
 use Rattle.hh_model.specs.declared.data.State.{State}
 use Rattle.hh_model.specs.Store.{IsStored}
-use Rattle.hh_model.specs.Step.{step, run, run_from, start}
+use Rattle.hh_model.specs.Step.{run, start}
 use Rattle.run_ledger.specs.declared.data.Ledger.{Ledger}
 use Rattle.run_ledger.specs.Sound.{SoundLedger}
 use Rattle.hh_model.specs.Closed.{Closed}
-use Rattle.hh_model.proofs.Counts.{Counted, counted_step, start_counted}
-use Rattle.hh_model.proofs.Kept.{Kept, step_kept, start_kept}
+use Rattle.hh_model.proofs.Counts.{start_counted, rows_from}
+use Rattle.hh_model.proofs.Kept.{start_kept}
 use Rattle.hh_model.proofs.Stored.{run_stored}
 use Rattle.run_ledger.specs.Journals.{ledger_of, is_legal, tasks_of}
 use Rattle.run_ledger.proofs.Journals.{legal_sound}
 use Rattle.run_ledger.proofs.Machine.{machine_is_run}
 use Rattle.ledger_step_laws.specs.Accounts.{Knows}
-
-rows_from : (p : ProgramText) (m : State) (ts : List ℕ) (k : ℕ) → Kept m → Counted k m.tasks m.store → length (run_from p m ts).store ≡ length (run_from p m ts).tasks
-rows_from p m [] k K I = I.rows
-rows_from p m (t ∷ ts) k K I = rows_from p (step p m t) ts (suc k) (step_kept p m t K) (counted_step p m t K k I)
 
 pub legal_knows : (p : ProgramText) (s : SettingsValue) (journal : List EntryValue) → is_legal p s journal ≡ true → Knows (ledger_of p s journal)
 legal_knows p s journal legal =

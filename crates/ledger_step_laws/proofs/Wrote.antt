@@ -1,7 +1,6 @@
 -- A write of another task's object is a store of a reference or of a number.
-use Rattle.std.proofs.Common.{◌≡◌, ℕ, ℤ, pos, negsuc, ◌<◌, nat_lt, Bool, true, false, cond, Some, None, slice_get, length, inl, inr, refl, ap, sym, subst, ◌∙◌}
-use Rattle.std.proofs.lemmas.Bool.{ltb-true, cases_eq}
-use Rattle.std.proofs.lemmas.Option.{same_Some}
+use Rattle.std.proofs.Common.{◌≡◌, ℕ, pos, ◌<◌, true, Some, None, slice_get, length, inl, inr, ap, sym, subst, ◌∙◌}
+use Rattle.std.proofs.lemmas.Bool.{cases_eq}
 use Rattle.listed.proofs.Members.{got_same}
 use Rattle.hh_lang.specs.declared.instr.Instr.TheVariants.{Putr, Puti, Cas}
 use Rattle.hh_lang.specs.declared.program.Line.{Line}
@@ -11,6 +10,7 @@ use Rattle.hh_model.specs.declared.data.State.{State}
 use Rattle.hh_model.specs.Effect.{place_in, int_in, ref_in, same_name, flat}
 use Rattle.hh_model.specs.Step.{is_waiting, runs, waits}
 use Rattle.hh_model.proofs.Leaves.{waiting_stops}
+use Rattle.hh_model.proofs.Changes.{place_within}
 use Rattle.run_ledger.specs.declared.data.Ledger.{Ledger}
 use Rattle.run_ledger.specs.Heaps.{heap_of, or_fresh, let_go}
 use Rattle.run_ledger.specs.Steps.{touched}
@@ -20,14 +20,6 @@ use Rattle.ledger_step_laws.specs.Kinds.{StoresOne, StoresNumber}
 use Rattle.ledger_step_laws.specs.Last.{IdleRest, IsAt, Wrote, WritesOther}
 use Rattle.ledger_step_laws.proofs.Ahead.{with_off}
 use Rattle.ledger_step_laws.proofs.Rested.{rested_worker}
-
-place_less : (n : ℕ) (k : ℤ) (i : ℕ) → place_in n k ≡ Some i → i < n
-place_less n (pos k) i e = by (nat_lt k n) refl e
-  where
-    by : (b : Bool) → nat_lt k n ≡ b → cond b (Some k) None ≡ Some i → i < n
-    by true h e = subst (λ j. j < n) (same_Some k i e) (ltb-true k n h)
-    by false h e = absurd cc
-place_less n (negsuc k) i e = absurd cc
 
 -- who waits rests, also where t is let go of
 pub waits_rest : (l : Ledger) (t : ℕ) → IdleRest l → (u : ℕ) → is_waiting (slice_get (rested l t).machine.tasks u) ≡ true → Rests (rested l t) u
@@ -52,7 +44,7 @@ module _ (p : ProgramText) (l l' : Ledger) (t : ℕ) (x : Task) (line : Line) (i
           task = at_rested;
           runs = I.runs;
           object = ap (touched x.top) (sym e) ∙ W.touches;
-          field = place_less (length W.object.refs) (int_in x.top k) how.0 how.1;
+          field = place_within (length W.object.refs) (int_in x.top k) how.0 how.1;
           mutable = how.2;
           goes = goes ∙ ap (λ f. Some (record x { top = f })) how.4;
           writes = subst (WritesOne (rested l t) (rested l' t) t W.name W.object) how.3 W.writes;
@@ -71,7 +63,7 @@ module _ (p : ProgramText) (l l' : Ledger) (t : ℕ) (x : Task) (line : Line) (i
           task = at_rested;
           runs = I.runs;
           object = ap (touched x.top) (sym is) ∙ W.touches;
-          field = place_less (length W.object.refs) (int_in x.top k) how.0 how.1;
+          field = place_within (length W.object.refs) (int_in x.top k) how.0 how.1;
           mutable = how.2;
           goes = goes ∙ ap (λ f. Some (record x { top = f })) how.4;
           writes = subst (WritesOne (rested l t) (rested l' t) t W.name W.object) how.3 W.writes;

@@ -13,6 +13,12 @@ got_some [] k lt = absurd (omega arith)
 got_some (x ∷ xs) zero lt = (x, refl)
 got_some (x ∷ xs) (suc k) lt = got_some xs k (omega arith)
 
+-- what stands at a place within the list is got there
+pub got_item : {A : Type 0} (xs : List A) (k : ℕ) (x : A) → k < length xs → x ≡ get_or xs k x → slice_get xs k ≡ Some x
+got_item [] k x lt e = absurd (omega arith)
+got_item (y ∷ xs) zero x lt e = ap Some (sym e)
+got_item (y ∷ xs) (suc k) x lt e = got_item xs k x (omega arith) e
+
 pub got_none : {A : Type 0} (xs : List A) (k : ℕ) → k < length xs → slice_get xs k ≡ None → ⊥
 got_none [] k lt e = omega arith
 got_none (x ∷ xs) zero lt e = cc

@@ -9,6 +9,7 @@ use Rattle.object_layout.specs.Cell.{Cell, Mark, Born, Moved, Hole, IsBorn, IsOb
 use Rattle.object_layout.specs.Layout.{words_of_cell, words_of_cells}
 use Rattle.object_layout.specs.Place.{words_in, IsCellAt, IsObjectAt, cell_at, cells_from, object_at, put_cell}
 use Rattle.object_layout.proofs.WordLemmas.{length-words_of_cell}
+use Rattle.object_layout.specs.declared.word.Birth.{Birth}
 
 -- ---- where the words of an object lie
 
@@ -301,6 +302,12 @@ cell_of_object cs at h =
     ⊎_elim (λ (o : IsCellAt cs at). o)
     (λ (o : (IsCellAt cs at → ⊥) × (cell_at cs at ≡ no_cell)). absurd (rw o.1 at h))
     (cell_or_none cs at)
+
+-- an object that bears its birth name has one
+pub born_name : (m : Mark) → IsBorn m → (n : Birth) × (m ≡ Born n)
+born_name (Born n) ok = (n, refl)
+born_name (Moved to) ok = absurd ok
+born_name Hole ok = absurd ok
 
 pub object_of_born : (m : Mark) → IsBorn m → IsObject m
 object_of_born (Born b) h = tt

@@ -13,6 +13,7 @@ use Rattle.hh_model.specs.declared.data.State.{State}
 use Rattle.hh_model.specs.declared.data.Task.{Task}
 use Rattle.hh_model.specs.Effect.{Goes, effect, int_in, object_at, place_in, ref_in}
 use Rattle.hh_model.specs.Step.{follow, owner_of, runs, setting}
+use Rattle.hh_model.proofs.Changes.{place_within}
 use Rattle.run_trace.specs.Entry.{EntryValue}
 use Rattle.run_trace.specs.declared.entry.Kind.TheVariants.{Ran}
 use Rattle.run_ledger.specs.declared.data.Ledger.{Ledger}
@@ -33,7 +34,6 @@ use Rattle.core_relation.specs.Since.{StoresNotes}
 use Rattle.task_machine.specs.declared.part.Private.{Private}
 use Rattle.task_frames.specs.FramesValue.{int_of, ref_of}
 use Rattle.task_machine.proofs.Owned.{born_object}
-use Rattle.task_machine.proofs.Asked.{place_within}
 use Rattle.shared_value.specs.declared.task_at_rest.Rest.{Rest}
 use Rattle.shared_value.specs.SharedValue.{SharedValue, accounts, value_of}
 use Rattle.shared_value.specs.Stands.{IsSharedValue}

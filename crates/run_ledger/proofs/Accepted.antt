@@ -20,6 +20,10 @@ use Rattle.run_ledger.proofs.Holders.{holding_none, worker_of}
 use Rattle.run_ledger.proofs.Steps.{worker_at}
 use Rattle.run_ledger.proofs.Fewer.{long_none}
 
+-- nothing is refused and accepted
+pub not_refused : {A : Type 0} (o : Option Refused) (cause : Refused) → o ≡ None → o ≡ Some cause → A
+not_refused o cause none some = absurd cc
+
 -- TESTS
 
 if_in : (b : Bool) (c : Refused) (rest : Option Refused) → refused_if b c rest ≡ None → (b ≡ false) × (rest ≡ None)

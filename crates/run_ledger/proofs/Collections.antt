@@ -47,6 +47,12 @@ born_on a b c (inr x) (inl y) = inl (let e : a.task ≡ b.task = x.0 in omega ar
 born_on a b c (inr x) (inr y) = inr (x.0 ∙ y.0, let d : a.count ≤ b.count = x.1 in let e : b.count ≤ c.count = y.1 in omega arith)
 
 -- a name that isn't born before another is born no earlier
+pub born_both : (a b : Name) → Born a b → Born b a → a ≡ b
+born_both a b (inl x) (inl y) = absurd (omega (arith, x, y))
+born_both a b (inl x) (inr y) = absurd (let e : b.task ≡ a.task = y.0 in omega (arith, x, e))
+born_both a b (inr x) (inl y) = absurd (let e : a.task ≡ b.task = x.0 in omega (arith, y, e))
+born_both a b (inr x) (inr y) = same_name a b x.0 (let d : a.count ≤ b.count = x.1 in let e : b.count ≤ a.count = y.1 in omega (arith, d, e))
+
 turned : (a b : Name) → name_le a b ≡ false → Born b a
 turned a b h = elim (born_either a b) [ inl x ↦ absurd (both_ways (name_le a b) h (born_from a b x)) | inr y ↦ y ]
 

@@ -13,6 +13,7 @@ use Rattle.run_ledger.specs.Entries.{is_pool_enough, kind_refusal, refused_if, r
 use Rattle.run_ledger.specs.Heaps.{heap_of, sweep_number}
 use Rattle.run_ledger.specs.Steps.{on_asked}
 use Rattle.run_ledger.proofs.OwedEntries.{owed_can_be_given}
+use Rattle.run_ledger.proofs.Accepted.{not_refused}
 use Rattle.chunk_pool.specs.PoolValue.{units_in_use}
 use Rattle.alloc_path.specs.LeafHeapValue.{place_for, room_of}
 use Rattle.leaf_copy_gc.specs.declared.lists.Moved.{Moved}
@@ -44,9 +45,6 @@ use Rattle.turn_entries.specs.Parts.{IsPaused}
 use Rattle.turn_entries.proofs.Stepping.{first}
 
 -- ---- CAUSES
-
-pub not_refused : {A : Type 0} (o : Option Refused) (cause : Refused) → o ≡ None → o ≡ Some cause → A
-not_refused o cause none some = absurd cc
 
 -- what isn't refused fails for want of memory alone
 pub only_memory : (e : NotEntered) (why : Option Refused) → why ≡ None → IsCaused e why → e ≡ NoMemory

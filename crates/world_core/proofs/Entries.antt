@@ -1,10 +1,9 @@
 -- What lemmas of several entries need: refusals, how few allocations there are, and good results.
-use Rattle.std.proofs.Common.{◌≡◌, ℕ, ◌+◌, ◌<◌, ◌≤◌, Option, Some, None, Result, Ok, Err, length, slice_get, refl, ap, subst, ◌∙◌, arith}
+use Rattle.std.proofs.Common.{◌≡◌, ℕ, ◌+◌, ◌<◌, ◌≤◌, Result, Ok, Err, length, slice_get, refl, ap, subst, ◌∙◌, arith}
 use Rattle.std.specs.Result.{IfOk}
 use Rattle.hh_model.specs.declared.data.State.{State}
 use Rattle.hh_model.specs.Effect.{row_of}
 use Rattle.run_ledger.specs.declared.data.Ledger.{Ledger}
-use Rattle.run_ledger.specs.declared.data.Refused.{Refused}
 use Rattle.run_ledger.proofs.Bounds.{steps_are_bounded}
 use Rattle.run_ledger.proofs.Counted.{journals_are_counted}
 use Rattle.task_machine.specs.declared.part.Private.{Private}
@@ -17,10 +16,6 @@ use Rattle.shared_value.specs.Links.{FitsFirst}
 use Rattle.shared_value.proofs.StepsEntered.{beyond_machine}
 
 -- ---- REFUSALS
-
--- a refusal that is none isn't one
-pub not_refused : {A : Type 0} (o : Option Refused) (cause : Refused) → o ≡ None → o ≡ Some cause → A
-not_refused o cause none some = absurd cc
 
 -- ---- ALLOCATIONS are far fewer than 32 bits count
 

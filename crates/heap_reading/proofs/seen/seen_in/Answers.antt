@@ -3,8 +3,9 @@ use Rattle.std.proofs.lemmas.List.Elements.{All-head}
 use Rattle.object_layout.specs.Cell.{Cell, IsObject, moved_to}
 use Rattle.object_layout.specs.Place.{cell_at, cells_from}
 use Rattle.object_layout.specs.Objects.{located, objects_from}
+use Rattle.object_layout.proofs.PlaceLemmas.{born_name}
 use Rattle.heap_reading.specs.Image.{IsInWords, shown}
-use Rattle.heap_reading.proofs.ObjectsRead.{born_from, born_is, objects_more, objects_same, unmoved_next, words_more, words_same}
+use Rattle.heap_reading.proofs.ObjectsRead.{born_from, objects_more, objects_same, unmoved_next, words_more, words_same}
 use Rattle.heap_reading.proofs.seen.seen_in.Goals as goal
 
 pub seen_at-requires : goal.seen_at-requires
@@ -25,7 +26,7 @@ loop-at-preserved-in_ok-push c =
     let rest = c.next_at-next.ensures.rest in
     let step = c.next_at-next.ensures.next in
     let still : moved_to cell.mark ≡ None = All-head (λ (k : Cell). moved_to k.mark ≡ None) cell (cells_from cells next) (subst (All (λ (k : Cell). moved_to k.mark ≡ None)) rest c.loop-at.invariant.unmoved) in
-    let b = born_is cell.mark (born_from cell.mark still (c.is_object_at.ensures.0 c.if-is_object_at.true)) in
+    let b = born_name cell.mark (born_from cell.mark still (c.is_object_at.ensures.0 c.if-is_object_at.true)) in
     let more : c.push.new.self ≡ c.loop-at.objects ++ shown (located number at b.0 cell) ∷ [] = c.in_ok-push.ensures.ok ∙ ap (λ z. c.loop-at.objects ++ z ∷ []) (c.in_ok-seen_at.ensures.object b.0 b.1) in
     let words : IsInWords (located number at b.0 cell) = record { refs = c.in_ok-seen_at.ensures.refs; ints = c.in_ok-seen_at.ensures.ints } in
     record {

@@ -1,6 +1,6 @@
 use Rattle.std.proofs.Common.{ap, sym, ◌∙◌}
+use Rattle.run_ledger.proofs.Accepted.{not_refused}
 use Rattle.shared_tree.specs.Ends.{end_cause}
-use Rattle.world_core.proofs.Entries.{not_refused}
 use Rattle.world_core.proofs.HandCauses.{copy_fits, end_free}
 use Rattle.world_core.proofs.apply_end.end.Goals as goal
 

@@ -1,11 +1,12 @@
 use Rattle.std.proofs.Common.{◌≡◌, ap, sym, subst, ◌∙◌}
 use Rattle.run_trace.specs.declared.entry.Kind.{Kind}
 use Rattle.run_trace.specs.declared.entry.Kind.TheVariants.{End}
+use Rattle.run_ledger.proofs.Accepted.{not_refused}
 use Rattle.task_machine.specs.declared.part.Private.{Private}
 use Rattle.shared_value.specs.Entered.{Enters, refused}
 use Rattle.leaf_collections.specs.LeafEnd.{FitsCopied, end_event, ended}
 use Rattle.shared_tree.specs.Ends.{end_cause}
-use Rattle.turn_entries.proofs.Free.{end_free, not_refused}
+use Rattle.turn_entries.proofs.Free.{end_free}
 use Rattle.turn_entries.proofs.Going.{may_ended}
 use Rattle.turn_entries.proofs.Paying.{pays_nothing}
 use Rattle.turn_entries.proofs.Turning.{one}

@@ -1,9 +1,10 @@
 use Rattle.std.proofs.Common.{ℕ, Some, subst, ap, sym, ◌∙◌}
 use Rattle.run_trace.specs.declared.entry.Kind.{Kind}
 use Rattle.run_trace.specs.declared.entry.Kind.TheVariants.{Sweep}
+use Rattle.run_ledger.proofs.Accepted.{not_refused}
 use Rattle.shared_value.specs.Entered.{cause_of}
 use Rattle.turn_entries.specs.Acts.{ActsFor}
-use Rattle.turn_entries.proofs.Free.{sweep_free, not_refused}
+use Rattle.turn_entries.proofs.Free.{sweep_free}
 use Rattle.turn_entries.proofs.Paying.{pays_sweep, sweep_is_owed}
 use Rattle.turn_entries.proofs.Turning.{one_of_all}
 use Rattle.turn_entries.proofs.run.Run.pay_sweep.Goals as goal

@@ -1,9 +1,10 @@
 use Rattle.std.proofs.Common.{◌≡◌, ap, sym, subst, ◌∙◌}
 use Rattle.run_trace.specs.declared.entry.Kind.TheVariants.{PutOff}
+use Rattle.run_ledger.proofs.Accepted.{not_refused}
 use Rattle.task_machine.specs.declared.part.Private.{Private}
 use Rattle.shared_value.specs.Entered.{cause_of, Enters, refused}
 use Rattle.shared_value.specs.Fits.{Fits}
-use Rattle.turn_entries.proofs.Free.{not_refused, put_off_free}
+use Rattle.turn_entries.proofs.Free.{put_off_free}
 use Rattle.turn_entries.proofs.Going.{may_heap}
 use Rattle.turn_entries.proofs.Paying.{pays_nothing}
 use Rattle.turn_entries.proofs.Turning.{one}
