@@ -33,7 +33,7 @@ use Rattle.shared_value.specs.Measured.{AreMeasured, RestsAreMeasured}
 use Rattle.shared_value.specs.Stands.{HeapForm, IsSharedValue}
 use Rattle.shared_value.specs.Fits.{Fits, OthersFit, home_of_part, part_of}
 use Rattle.shared_value.specs.Entered.{refused}
-use Rattle.shared_value.proofs.EntryMade.{accounts_are, entered, entered_world, hand_is, held_apart, part_fits, unheld_before}
+use Rattle.shared_value.proofs.EntryMade.{accounts_are, entered, entered_world, task_is_out, held_apart, part_fits, unheld_before}
 use Rattle.shared_value.proofs.BeforeTheEnd.{end_now, stands_now}
 use Rattle.shared_value.proofs.TaskTaken.{made_by, node_by, node_off, worker_there}
 use Rattle.own_steps.specs.Alone.{IsShared, alone_event, ended_rest}
@@ -135,14 +135,14 @@ module _ (w : SharedValue) (k : ℕ) (p : Private) (I : IsSharedValue w) (F : Fi
     abbrev homes : List (Option Rest)
     homes = slice_set w.homes t (Some rest)
 
-    abbrev hands : List (Option ℕ)
-    hands = slice_set w.hands k None
+    abbrev tasks_out : List (Option ℕ)
+    tasks_out = slice_set w.tasks_out k None
 
     abbrev all_steps : ℕ
     all_steps = w.steps + suc p.fresh
 
     abbrev w' : SharedValue
-    w' = entered w (last_event k p) tree w.pool homes w.sets hands w.outputs all_steps w.end j.room
+    w' = entered w (last_event k p) tree w.pool homes w.sets tasks_out w.outputs all_steps w.end j.room
 
     abbrev v' : Memory
     v' = value_of w'
@@ -177,7 +177,7 @@ module _ (w : SharedValue) (k : ℕ) (p : Private) (I : IsSharedValue w) (F : Fi
     counts : RanCounts w.program (totals_of w) (totals_of w') M L t k p.fresh S.task S.line Ending D
     counts = record {
       tree = record { node = node_by w.tree t Ended (slice_get w.tree t) refl; others = λ u ne. node_off w.tree t Ended (slice_get w.tree t) u ne };
-      hand = record { hand = ap flat (got_set w.hands k None (worker_there w (last_event k p) I free_last)); others = λ u ne. ap flat (got_other w.hands k u None ne) };
+      task_out = record { task_out = ap flat (got_set w.tasks_out k None (worker_there w (last_event k p) I free_last)); others = λ u ne. ap flat (got_other w.tasks_out k u None ne) };
       outputs = refl;
       end = refl;
       used = refl;
@@ -190,15 +190,15 @@ module _ (w : SharedValue) (k : ℕ) (p : Private) (I : IsSharedValue w) (F : Fi
       | inr ne ↦ I.heaps u r (sym (rest_off u ne) ∙ is)
     ]
 
-    measured_then : RestsAreMeasured w.pool homes hands
+    measured_then : RestsAreMeasured w.pool homes tasks_out
     measured_then u r is f = elim (cases_eq u t) [
       | inl q ↦ subst (λ z. AreMeasured w.pool z r.heap.chunks) (sym q) (subst (λ (z : Rest). AreMeasured w.pool t z.heap.chunks) (same_Some rest r (sym rest_now ∙ (ap (rest_at homes) (sym q) ∙ is))) F.measured.0)
-      | inr ne ↦ I.measured u r (sym (rest_off u ne) ∙ is) (unheld_before w.hands k None u f (λ h. ne (same_Some u t (sym h ∙ hand_is w k p I (steps.on w k p I F at_end free) F))))
+      | inr ne ↦ I.measured u r (sym (rest_off u ne) ∙ is) (unheld_before w.tasks_out k None u f (λ h. ne (same_Some u t (sym h ∙ task_is_out w k p I (steps.on w k p I F at_end free) F))))
     ]
 
     ended_world : IsSharedValue w'
     ended_world =
-        entered_world w (last_event k p) I free_last tree w.pool homes w.sets hands w.outputs all_steps w.end j.room (length-set w.homes t (Some rest) ∙ (I.made ∙ sym (made_by w.tree t Ended (slice_get w.tree t)))) (I.noted ∙ sym (made_by w.tree t Ended (slice_get w.tree t))) (length-set w.hands k None) refl
+        entered_world w (last_event k p) I free_last tree w.pool homes w.sets tasks_out w.outputs all_steps w.end j.room (length-set w.homes t (Some rest) ∙ (I.made ∙ sym (made_by w.tree t Ended (slice_get w.tree t)))) (I.noted ∙ sym (made_by w.tree t Ended (slice_get w.tree t))) (length-set w.tasks_out k None) refl
         (ran_stands_for w.program w.settings w.journal.items I.form I.legal v v' (totals_of w) (totals_of w') k t p.fresh h free_last E I.stands own (p.frames.top, p.frames.below, ends_home) notes counts)
         heaps_then measured_then
 
@@ -207,12 +207,12 @@ module _ (w : SharedValue) (k : ℕ) (p : Private) (I : IsSharedValue w) (F : Fi
 
     ended_resumed : None ≡ running_parent (accounts w').machine.tasks t
     ended_resumed =
-        sym (ap (λ (i : Ledger). running_parent i.machine.tasks t) (accounts_are w (last_event k p) I free_last tree w.pool homes w.sets hands w.outputs all_steps w.end j.room) ∙ parent_then)
+        sym (ap (λ (i : Ledger). running_parent i.machine.tasks t) (accounts_are w (last_event k p) I free_last tree w.pool homes w.sets tasks_out w.outputs all_steps w.end j.room) ∙ parent_then)
 
     -- THE PARTS OF OTHERS
     ended_others : OthersFit w w' k
     ended_others u r ne G =
-        part_fits w (last_event k p) I free_last tree w.pool homes w.sets hands w.outputs all_steps w.end j.room ended_world u r r (ap flat (got_other w.hands k u None ne)) G refl refl refl G.form G.measured
+        part_fits w (last_event k p) I free_last tree w.pool homes w.sets tasks_out w.outputs all_steps w.end j.room ended_world u r r (ap flat (got_other w.tasks_out k u None ne)) G refl refl refl G.form G.measured
         (ran_leaves w.program w.settings v v' l L t k p.fresh h E own (p.frames.top, p.frames.below, ends_home) (part_of w.settings r) (held_apart w k u p r F G ne) G.fits)
 
     -- ---- AS THE CALL HAS IT
@@ -220,11 +220,11 @@ module _ (w : SharedValue) (k : ℕ) (p : Private) (I : IsSharedValue w) (F : Fi
     more = omega arith
 
     abbrev pub ended_alone : SharedValue
-    ended_alone = record w { tree = tree; homes = homes; hands = hands; steps = w.steps + (p.fresh + 1); journal = record { items = w.journal.items ++ alone_event k p ∷ []; room = j.room } }
+    ended_alone = record w { tree = tree; homes = homes; tasks_out = tasks_out; steps = w.steps + (p.fresh + 1); journal = record { items = w.journal.items ++ alone_event k p ∷ []; room = j.room } }
 
     ended_is : w' ≡ ended_alone
     ended_is =
-        ap (λ n. let i : SharedValue = record w { tree = tree; homes = homes; hands = hands; steps = w.steps + n; journal = record { items = w.journal.items ++ record { worker = k; kind = Ran p.task n } ∷ []; room = j.room } } in i) more
+        ap (λ n. let i : SharedValue = record w { tree = tree; homes = homes; tasks_out = tasks_out; steps = w.steps + n; journal = record { items = w.journal.items ++ record { worker = k; kind = Ran p.task n } ∷ []; room = j.room } } in i) more
 
     pub alone_world : IsSharedValue ended_alone
     alone_world = subst IsSharedValue ended_is ended_world

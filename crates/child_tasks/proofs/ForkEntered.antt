@@ -44,7 +44,7 @@ use Rattle.shared_value.specs.Stands.{HeapForm, IsSharedValue}
 use Rattle.shared_value.specs.Fits.{Fits, OthersFit, home_of_part, part_of}
 use Rattle.shared_value.specs.Entered.{refused}
 use Rattle.shared_value.proofs.FieldsNoted.{noted_of}
-use Rattle.shared_value.proofs.EntryMade.{hand_is, held_apart, unheld_before}
+use Rattle.shared_value.proofs.EntryMade.{task_is_out, held_apart, unheld_before}
 use Rattle.shared_value.proofs.MarkingEntryMade.{entered_marks, marked_fits, marked_world}
 use Rattle.shared_value.proofs.Levels.{level_is}
 use Rattle.shared_value.proofs.PartFitsMachine as link
@@ -166,14 +166,14 @@ module _ (w : SharedValue) (k : ℕ) (p : Private) (I : IsSharedValue w) (F : Fi
     abbrev tree : List Node
     tree = forked w.tree t
 
-    abbrev hands : List (Option ℕ)
-    hands = slice_set w.hands k None
+    abbrev tasks_out : List (Option ℕ)
+    tasks_out = slice_set w.tasks_out k None
 
     abbrev all_steps : ℕ
     all_steps = w.steps + suc p.fresh
 
     abbrev pub w' : SharedValue
-    w' = entered_marks w (last_event k p) tree w.pool homes sets hands w.outputs all_steps w.end j.room marks
+    w' = entered_marks w (last_event k p) tree w.pool homes sets tasks_out w.outputs all_steps w.end j.room marks
 
     abbrev v' : Memory
     v' = value_of w'
@@ -273,7 +273,7 @@ module _ (w : SharedValue) (k : ℕ) (p : Private) (I : IsSharedValue w) (F : Fi
     counts : RanCounts w.program (totals_of w) (totals_of w') M L t k p.fresh S.task S.line Forking Q
     counts = record {
       tree = nodes_fork;
-      hand = record { hand = ap flat (got_set w.hands k None (worker_there w (last_event k p) I free_last)); others = λ u ne. ap flat (got_other w.hands k u None ne) };
+      task_out = record { task_out = ap flat (got_set w.tasks_out k None (worker_there w (last_event k p) I free_last)); others = λ u ne. ap flat (got_other w.tasks_out k u None ne) };
       outputs = refl;
       end = refl;
       used = refl;
@@ -298,14 +298,14 @@ module _ (w : SharedValue) (k : ℕ) (p : Private) (I : IsSharedValue w) (F : Fi
     measured_at : (u : ℕ) (r q : Rest) → rest_at homes u ≡ Some r → rest_at homes u ≡ Some q → AreMeasured w.pool u q.heap.chunks → AreMeasured w.pool u r.heap.chunks
     measured_at u r q is that has = subst (λ (z : Rest). AreMeasured w.pool u z.heap.chunks) (same_Some q r (sym that ∙ is)) has
 
-    measured_then : RestsAreMeasured w.pool homes hands
+    measured_then : RestsAreMeasured w.pool homes tasks_out
     measured_then u r is f = elim (cases_eq u t) [
       | inl e ↦ measured_at u r (waiting_rest p) is (ap (rest_at homes) e ∙ H.parent) (subst (λ z. AreMeasured w.pool z p.heap.chunks) (sym e) F.measured.0)
       | inr nt ↦ elim (cases_eq u (length w.homes)) [
         | inl e ↦ measured_at u r _ is (ap (rest_at homes) e ∙ H.left_home.2) (λ c i. absurd i)
         | inr na ↦ elim (cases_eq u (length w.homes + 1)) [
           | inl e ↦ measured_at u r _ is (ap (rest_at homes) e ∙ H.right_home.2) (λ c i. absurd i)
-          | inr nb ↦ I.measured u r (sym (H.others u nt na nb) ∙ is) (unheld_before w.hands k None u f (λ h. nt (same_Some u t (sym h ∙ hand_is w k p I (steps.on w k p I F at_fork free) F))))
+          | inr nb ↦ I.measured u r (sym (H.others u nt na nb) ∙ is) (unheld_before w.tasks_out k None u f (λ h. nt (same_Some u t (sym h ∙ task_is_out w k p I (steps.on w k p I F at_fork free) F))))
         ]
       ]
     ]
@@ -313,8 +313,8 @@ module _ (w : SharedValue) (k : ℕ) (p : Private) (I : IsSharedValue w) (F : Fi
     pub forked_world : IsSharedValue w'
     forked_world =
         let n = all w.tree t in
-        marked_world w (last_event k p) I free_last tree w.pool homes sets hands w.outputs all_steps w.end j.room marks
-        (H.count ∙ (ap (λ n. n + 2) I.made ∙ sym n)) (N.count ∙ (ap (λ n. n + 2) I.noted ∙ sym n)) (length-set w.hands k None) refl
+        marked_world w (last_event k p) I free_last tree w.pool homes sets tasks_out w.outputs all_steps w.end j.room marks
+        (H.count ∙ (ap (λ n. n + 2) I.made ∙ sym n)) (N.count ∙ (ap (λ n. n + 2) I.noted ∙ sym n)) (length-set w.tasks_out k None) refl
         (ran_stands_for w.program w.settings w.journal.items I.form I.legal v v' (totals_of w) (totals_of w') k t p.fresh h free_last E I.stands own forks_home (roots.0, roots.1, forks_notes) counts)
         heaps_then measured_then
 
@@ -324,5 +324,5 @@ module _ (w : SharedValue) (k : ℕ) (p : Private) (I : IsSharedValue w) (F : Fi
     -- THE PARTS OF OTHERS
     pub forked_others : OthersFit w w' k
     forked_others u r ne G =
-        marked_fits w (last_event k p) I free_last tree w.pool homes sets hands w.outputs all_steps w.end j.room marks forked_world u r r (ap flat (got_other w.hands k u None ne)) G refl refl refl G.form G.measured
+        marked_fits w (last_event k p) I free_last tree w.pool homes sets tasks_out w.outputs all_steps w.end j.room marks forked_world u r r (ap flat (got_other w.tasks_out k u None ne)) G refl refl refl G.form G.measured
         (ran_leaves w.program w.settings v v' l L t k p.fresh h E own forks_home (part_of w.settings r) (held_apart w k u p r F G ne) G.fits)

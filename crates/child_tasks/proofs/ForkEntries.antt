@@ -100,19 +100,19 @@ module _ (w : SharedValue) (k : ℕ) (p : Private) (I : IsSharedValue w) (F : Fi
       homes = homes;
       sets = sets;
       marks = marks;
-      hands = slice_set w.hands k None;
+      tasks_out = slice_set w.tasks_out k None;
       steps = w.steps + (p.fresh + 1);
       journal = record { items = w.journal.items ++ alone_event k p ∷ []; room = j.room };
     }
 
-    forked_is : record w { tree = forked w.tree p.task; homes = homes; sets = sets; marks = marks; hands = slice_set w.hands k None; steps = w.steps + suc p.fresh; journal = record { items = w.journal.items ++ last_event k p ∷ []; room = j.room } } ≡ forked_alone
+    forked_is : record w { tree = forked w.tree p.task; homes = homes; sets = sets; marks = marks; tasks_out = slice_set w.tasks_out k None; steps = w.steps + suc p.fresh; journal = record { items = w.journal.items ++ last_event k p ∷ []; room = j.room } } ≡ forked_alone
     forked_is =
         ap (λ n. let z : SharedValue = record w {
           tree = forked w.tree p.task;
           homes = homes;
           sets = sets;
           marks = marks;
-          hands = slice_set w.hands k None;
+          tasks_out = slice_set w.tasks_out k None;
           steps = w.steps + n;
           journal = record { items = w.journal.items ++ record { worker = k; kind = Ran p.task n } ∷ []; room = j.room };
         } in z) more

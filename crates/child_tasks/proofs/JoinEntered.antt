@@ -121,14 +121,14 @@ module _ (w : SharedValue) (k : ℕ) (p : Private) (I : IsSharedValue w) (F : Fi
       abbrev tree : List Node
       tree = joined_nodes (with_state w.tree t Ended) q c (c + 1)
 
-      abbrev hands : List (Option ℕ)
-      hands = slice_set w.hands k None
+      abbrev tasks_out : List (Option ℕ)
+      tasks_out = slice_set w.tasks_out k None
 
       abbrev all_steps : ℕ
       all_steps = w.steps + suc p.fresh
 
       abbrev w' : SharedValue
-      w' = entered w (last_event k p) tree pool homes sets hands w.outputs all_steps w.end j.room
+      w' = entered w (last_event k p) tree pool homes sets tasks_out w.outputs all_steps w.end j.room
 
       abbrev v' : Memory
       v' = value_of w'
@@ -232,7 +232,7 @@ module _ (w : SharedValue) (k : ℕ) (p : Private) (I : IsSharedValue w) (F : Fi
       counts : RanCounts w.program (totals_of w) (totals_of w') M L t k p.fresh x S.line Joining Q
       counts = record {
         tree = nodes_so;
-        hand = record { hand = ap flat (got_set w.hands k None (worker_there w (last_event k p) I free_last)); others = λ u ne. ap flat (got_other w.hands k u None ne) };
+        task_out = record { task_out = ap flat (got_set w.tasks_out k None (worker_there w (last_event k p) I free_last)); others = λ u ne. ap flat (got_other w.tasks_out k u None ne) };
         outputs = refl;
         end = refl;
         used = relabelled.units;
@@ -266,7 +266,7 @@ module _ (w : SharedValue) (k : ℕ) (p : Private) (I : IsSharedValue w) (F : Fi
       joined_world : IsSharedValue w'
       joined_world =
           let n = joined_long w.tree t q c (c + 1) (both.child_of_two w k p I F at_end free ended above beside frames above_is calls beside_is c lh rh al ar side) q_c q_d c_d in
-          entered_world w (last_event k p) I free_last tree pool homes sets hands w.outputs all_steps w.end j.room (H.many ∙ (I.made ∙ sym n)) (N.many ∙ (I.noted ∙ sym n)) (length-set w.hands k None) relabelled.limit
+          entered_world w (last_event k p) I free_last tree pool homes sets tasks_out w.outputs all_steps w.end j.room (H.many ∙ (I.made ∙ sym n)) (N.many ∙ (I.noted ∙ sym n)) (length-set w.tasks_out k None) relabelled.limit
           (ran_stands_for w.program w.settings w.journal.items I.form I.legal v v' (totals_of w) (totals_of w') k t p.fresh h free_last E I.stands own made notes_so counts)
           heaps_then (joined_measured w k p I F at_end free ended above beside frames above_is calls beside_is c lh rh al ar side homes pool heap H relabelled heap_is)
 
@@ -275,12 +275,12 @@ module _ (w : SharedValue) (k : ℕ) (p : Private) (I : IsSharedValue w) (F : Fi
 
       joined_resumed : Some q ≡ running_parent (accounts w').machine.tasks t
       joined_resumed =
-          sym (ap (λ (i : Ledger). running_parent i.machine.tasks t) (accounts_are w (last_event k p) I free_last tree pool homes sets hands w.outputs all_steps w.end j.room) ∙ (before.parent_then w k p I F at_end free ended))
+          sym (ap (λ (i : Ledger). running_parent i.machine.tasks t) (accounts_are w (last_event k p) I free_last tree pool homes sets tasks_out w.outputs all_steps w.end j.room) ∙ (before.parent_then w k p I F at_end free ended))
 
       -- THE PARTS OF OTHERS
       joined_others : OthersFit w w' k
       joined_others u i ne G =
-          part_fits w (last_event k p) I free_last tree pool homes sets hands w.outputs all_steps w.end j.room joined_world u i i (ap flat (got_other w.hands k u None ne)) G refl refl refl G.form (others_measured w k p I F at_end free ended above beside frames above_is calls beside_is c lh rh al ar side homes pool heap H relabelled heap_is u i ne G)
+          part_fits w (last_event k p) I free_last tree pool homes sets tasks_out w.outputs all_steps w.end j.room joined_world u i i (ap flat (got_other w.tasks_out k u None ne)) G refl refl refl G.form (others_measured w k p I F at_end free ended above beside frames above_is calls beside_is c lh rh al ar side homes pool heap H relabelled heap_is u i ne G)
           (ran_leaves w.program w.settings v v' l L t k p.fresh h E own made (part_of w.settings i) (held_apart w k u p i F G ne) G.fits)
 
       -- ---- AS THE CALL HAS IT
@@ -288,11 +288,11 @@ module _ (w : SharedValue) (k : ℕ) (p : Private) (I : IsSharedValue w) (F : Fi
       more = omega arith
 
       abbrev pub joined_alone : SharedValue
-      joined_alone = record w { tree = tree; pool = pool; homes = homes; sets = sets; hands = hands; steps = w.steps + (p.fresh + 1); journal = record { items = w.journal.items ++ alone_event k p ∷ []; room = j.room } }
+      joined_alone = record w { tree = tree; pool = pool; homes = homes; sets = sets; tasks_out = tasks_out; steps = w.steps + (p.fresh + 1); journal = record { items = w.journal.items ++ alone_event k p ∷ []; room = j.room } }
 
       joined_is : w' ≡ joined_alone
       joined_is =
-          ap (λ n. let i : SharedValue = record w { tree = tree; pool = pool; homes = homes; sets = sets; hands = hands; steps = w.steps + n; journal = record { items = w.journal.items ++ record { worker = k; kind = Ran p.task n } ∷ []; room = j.room } } in i) more
+          ap (λ n. let i : SharedValue = record w { tree = tree; pool = pool; homes = homes; sets = sets; tasks_out = tasks_out; steps = w.steps + n; journal = record { items = w.journal.items ++ record { worker = k; kind = Ran p.task n } ∷ []; room = j.room } } in i) more
 
       pub alone_world : IsSharedValue joined_alone
       alone_world = subst IsSharedValue joined_is joined_world

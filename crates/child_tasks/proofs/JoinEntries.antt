@@ -243,7 +243,7 @@ module _ (w : SharedValue) (k : ℕ) (p : Private) (I : IsSharedValue w) (F : Fi
         pool = pool;
         homes = homes;
         sets = sets;
-        hands = slice_set w.hands k None;
+        tasks_out = slice_set w.tasks_out k None;
         steps = w.steps + (p.fresh + 1);
         journal = record { items = w.journal.items ++ alone_event k p ∷ []; room = j.room };
       }

@@ -53,7 +53,7 @@ module _ (w : SharedValue) (homes : List (Option Rest)) (sets : List SetOf) (man
     form_then u r None e S is = none_some (sym S ∙ is)
     form_then u r (Some z) e S is = subst (λ (y : Rest). HeapForm y.heap) (same_Some _ r (sym S.2 ∙ is)) (places_form z.heap S.0 S.1 (I.heaps u z e))
 
-    measured_then : (u : ℕ) (r : Rest) (o : Option Rest) → rest_at w.homes u ≡ o → IsSameRest o (rest_at homes u) → rest_at homes u ≡ Some r → IsUnheld w.hands u → AreMeasured w.pool u r.heap.chunks
+    measured_then : (u : ℕ) (r : Rest) (o : Option Rest) → rest_at w.homes u ≡ o → IsSameRest o (rest_at homes u) → rest_at homes u ≡ Some r → IsUnheld w.tasks_out u → AreMeasured w.pool u r.heap.chunks
     measured_then u r None e S is f = none_some (sym S ∙ is)
     measured_then u r (Some z) e S is f = subst (λ (y : Rest). AreMeasured w.pool u y.heap.chunks) (same_Some _ r (sym S.2 ∙ is)) (I.measured u z e f)
 

@@ -25,7 +25,7 @@ use Rattle.shared_value.specs.Measured.{AreMeasured, IsMeasured, IsUnheld, Keeps
 use Rattle.shared_value.specs.Stands.{IsSharedValue}
 use Rattle.shared_value.specs.Fits.{Fits}
 use Rattle.shared_value.specs.Entered.{refused}
-use Rattle.shared_value.proofs.EntryMade.{hand_is, held_apart, unheld_at_rest, unheld_before}
+use Rattle.shared_value.proofs.EntryMade.{task_is_out, held_apart, unheld_at_rest, unheld_before}
 use Rattle.shared_value.proofs.PartFitsMachine as link
 use Rattle.shared_value.proofs.UnitsMeasured.{measured_both, measured_kept, part_kept, relabelled_keeps, relabelled_measured, relabelled_own}
 use Rattle.shared_value.proofs.RootsHeld.{chunk_in}
@@ -53,7 +53,7 @@ module _ (w : SharedValue) (k : ℕ) (p : Private) (I : IsSharedValue w) (F : Fi
   on = steps.on w k p I F at_end free
 
   -- no worker holds the others that join
-  unheld : (u : ℕ) → (u ≡ t → ⊥) → Rests R u → IsUnheld w.hands u
+  unheld : (u : ℕ) → (u ≡ t → ⊥) → Rests R u → IsUnheld w.tasks_out u
   unheld u ne rests = unheld_at_rest w u I on (sym (ap (λ (z : Account). z.worker) ((link.alone w k p I F on).heaps u ne)) ∙ rests)
 
   module _ (above beside : Rest) (frames : FramesValue) (above_is : rest_at w.homes q ≡ Some above) (calls : above.work ≡ Calls frames) (beside_is : IsRestOf (rest_at w.homes s) beside) (c : ℕ) (lh rh : LeafHeapValue) (al ar : ℤ × Option Addr) (side : AreSides p s beside c lh rh al ar) where
@@ -64,7 +64,7 @@ module _ (w : SharedValue) (k : ℕ) (p : Private) (I : IsSharedValue w) (F : Fi
         by (inl m) = subst (Rests R) (sym m.1) (both.rests_d w k p I F at_end free ended above beside frames above_is calls beside_is c lh rh al ar side)
         by (inr m) = subst (Rests R) (sym m.0) (both.rests_c w k p I F at_end free ended above beside frames above_is calls beside_is c lh rh al ar side)
 
-    unheld_s : IsUnheld w.hands s
+    unheld_s : IsUnheld w.tasks_out s
     unheld_s = unheld s (steps.other_apart w k p I F at_end free) rests_s
 
     -- both are the two, and no other is
@@ -118,7 +118,7 @@ module _ (w : SharedValue) (k : ℕ) (p : Private) (I : IsSharedValue w) (F : Fi
       measured_at : (u : ℕ) (i z : Rest) → rest_at homes u ≡ Some i → rest_at homes u ≡ Some z → AreMeasured pool u z.heap.chunks → AreMeasured pool u i.heap.chunks
       measured_at u i z is that M = subst (λ (z : Rest). AreMeasured pool u z.heap.chunks) (same_Some z i (sym that ∙ is)) M
 
-      pub joined_measured : RestsAreMeasured pool homes (slice_set w.hands k None)
+      pub joined_measured : RestsAreMeasured pool homes (slice_set w.tasks_out k None)
       joined_measured u i is none = elim (cases_eq u q) [
         | inl e ↦ measured_at u i _ is (ap (rest_at homes) e ∙ H.parent_home) (subst (λ z. AreMeasured pool z heap.chunks) (sym e) heap_measured)
         | inr nq ↦ elim (cases_eq u t) [
@@ -128,7 +128,7 @@ module _ (w : SharedValue) (k : ℕ) (p : Private) (I : IsSharedValue w) (F : Fi
             | inr ns ↦
                 let apart = other_apart u nt ns in
                 measured_kept w.pool pool u i.heap.chunks (units_stay u apart.0 apart.1)
-                (I.measured u i (sym (H.others u nq nt ns) ∙ is) (unheld_before w.hands k None u none (λ h. nt (same_Some u t (sym h ∙ hand_is w k p I on F)))))
+                (I.measured u i (sym (H.others u nq nt ns) ∙ is) (unheld_before w.tasks_out k None u none (λ h. nt (same_Some u t (sym h ∙ task_is_out w k p I on F)))))
           ]
         ]
       ]
@@ -136,5 +136,5 @@ module _ (w : SharedValue) (k : ℕ) (p : Private) (I : IsSharedValue w) (F : Fi
       -- THE PARTS OF OTHERS
       pub others_measured : (u : ℕ) (i : Private) → (u ≡ k → ⊥) → Fits w u i → IsMeasured pool i
       others_measured u i ne G =
-          let apart = other_apart i.task (λ e. held_apart w k u p i F G ne (sym e)) (λ e. unheld_s u (hand_is w u i I on G ∙ ap (λ n. Some n) e)) in
+          let apart = other_apart i.task (λ e. held_apart w k u p i F G ne (sym e)) (λ e. unheld_s u (task_is_out w u i I on G ∙ ap (λ n. Some n) e)) in
           part_kept w.pool pool i (units_stay i.task apart.0 apart.1) G.measured

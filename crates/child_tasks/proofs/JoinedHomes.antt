@@ -150,7 +150,7 @@ module _ (w : SharedValue) (k : ℕ) (p : Private) (I : IsSharedValue w) (F : Fi
       task = x;
       is = ap (λ (m : MachineState). slice_get m.tasks t) (before.machine_rests w k p I F at_end free ended) ∙ S.at.task;
       runs = S.at.runs;
-      hands = e;
+      returns = e;
       frame = p.frames.top;
       below = p.frames.below;
       frames = ap (λ (i : Home). i.frames) here;

@@ -1,4 +1,4 @@
 pub mod Forks
 pub mod ChildEnds
 pub mod Joins
-pub mod Hands
+pub mod NoTask

@@ -54,14 +54,14 @@ pub fn first_sets(alloc: Global) -> Result<Vec<SetOf>, AllocError>
     Ok(sets)
 }
 
-/// The hands of so many workers, all empty.
-pub fn empty_hands(alloc: Global, workers: u32) -> Result<Listed<Option<u32>>, AllocError>
-    ensures { IfOk result (λ hands. hands ≡ replicate workers None) }
+/// That no task is out with any of so many workers.
+pub fn none_out(alloc: Global, workers: u32) -> Result<Listed<Option<u32>>, AllocError>
+    ensures { IfOk result (λ tasks_out. tasks_out ≡ replicate workers None) }
 {
-    let mut hands = Listed::new(alloc);
+    let mut tasks_out = Listed::new(alloc);
     for i in 0..workers {
         let _ = i;
-        hands.push(None)?;
+        tasks_out.push(None)?;
     }
-    Ok(hands)
+    Ok(tasks_out)
 }

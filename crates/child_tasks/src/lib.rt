@@ -5,7 +5,7 @@ mod first;
 mod fork;
 mod join;
 
-pub use first::{empty_hands, first_homes, first_sets};
+pub use first::{first_homes, first_sets, none_out};
 pub use fork::{ForkBlocks, Forking, clear_marks, fork_sets, grow, put_homes};
 pub use join::{
     in_order, is_ended, join_children, leave_other, leave_own, make_places, put_remembered,

@@ -8,6 +8,6 @@ pub mod RunsOn
 pub mod HandedBack
 pub mod RanCounts
 pub mod RanWhole
-pub mod Hands
+pub mod TasksOut
 pub mod EntriesWhole
 pub mod DoneHands

@@ -90,5 +90,5 @@ CountsStand =
     → (e : EntryValue) → refusal p s l e ≡ None → CountsGo p s l c c' e.worker e.kind → TotalsStand c' (after p s l e)
 
 -- the task that a worker holds is the first that the accounts say it holds
-abbrev pub HandsAreHeld : Type 0
-HandsAreHeld = (c : Totals) (l : Ledger) → TotalsStand c l → (w : ℕ) → c.hand w ≡ held_from w 0 l.heaps
+abbrev pub TasksOutAreHeld : Type 0
+TasksOutAreHeld = (c : Totals) (l : Ledger) → TotalsStand c l → (w : ℕ) → c.task_out w ≡ held_from w 0 l.heaps

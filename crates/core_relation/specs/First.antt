@@ -22,4 +22,4 @@ first_node zero = Some (record { parent = None; state = Ready })
 first_node (suc t) = None
 
 abbrev pub first_totals : Totals
-first_totals = record { node = first_node; hand = λ w. None; used = 0; steps = 0; outputs = []; end = None }
+first_totals = record { node = first_node; task_out = λ w. None; used = 0; steps = 0; outputs = []; end = None }

@@ -54,23 +54,23 @@ TreeGoes p c c' m l' t x line Halting K = NodesStay c c'
 
 -- WHAT WORKERS HOLD: the worker w goes on with its task, or lets go of it
 
-abbrev pub HandsStay : Totals → Totals → Type 0
-HandsStay c c' = (u : ℕ) → c'.hand u ≡ c.hand u
+abbrev pub TasksOutStay : Totals → Totals → Type 0
+TasksOutStay c c' = (u : ℕ) → c'.task_out u ≡ c.task_out u
 
 pub record LetsGo (c c' : Totals) (w : ℕ) : Type 0 where
-  pub hand : c'.hand w ≡ None
-  pub others : (u : ℕ) → (u ≡ w → ⊥) → c'.hand u ≡ c.hand u
+  pub task_out : c'.task_out w ≡ None
+  pub others : (u : ℕ) → (u ≡ w → ⊥) → c'.task_out u ≡ c.task_out u
 
-abbrev pub HandsGo : Totals → Totals → ℕ → LastKind → Type 0
-HandsGo c c' w Private = HandsStay c c'
-HandsGo c c' w Reading = HandsStay c c'
-HandsGo c c' w Writing = HandsStay c c'
-HandsGo c c' w Printing = HandsStay c c'
-HandsGo c c' w Forking = LetsGo c c' w
-HandsGo c c' w Ending = LetsGo c c' w
-HandsGo c c' w Joining = LetsGo c c' w
-HandsGo c c' w Finishing = LetsGo c c' w
-HandsGo c c' w Halting = HandsStay c c'
+abbrev pub TasksOutGo : Totals → Totals → ℕ → LastKind → Type 0
+TasksOutGo c c' w Private = TasksOutStay c c'
+TasksOutGo c c' w Reading = TasksOutStay c c'
+TasksOutGo c c' w Writing = TasksOutStay c c'
+TasksOutGo c c' w Printing = TasksOutStay c c'
+TasksOutGo c c' w Forking = LetsGo c c' w
+TasksOutGo c c' w Ending = LetsGo c c' w
+TasksOutGo c c' w Joining = LetsGo c c' w
+TasksOutGo c c' w Finishing = LetsGo c c' w
+TasksOutGo c c' w Halting = TasksOutStay c c'
 
 -- OUTPUTS AND THE END
 
@@ -87,7 +87,7 @@ EndGoes p c c' m l' t x line _ K = c'.end ≡ c.end
 
 pub record RanCounts (p : ProgramText) (c c' : Totals) (m l' : Ledger) (t w k : ℕ) (x : Task) (line : Line) (kind : LastKind) (K : IsOfKind p m l' t x line kind) : Type 0 where
   pub tree : TreeGoes p c c' m l' t x line kind K
-  pub hand : HandsGo c c' w kind
+  pub task_out : TasksOutGo c c' w kind
   pub outputs : OutputsGo p c c' m l' t x line kind K
   pub end : EndGoes p c c' m l' t x line kind K
   pub used : c'.used ≡ c.used

@@ -68,7 +68,7 @@ module _ (w : SharedValue) (e : EntryValue) (I : IsSharedValue w) (free : refuse
   L = after w.program w.settings l e
 
   abbrev pub w' : SharedValue
-  w' = entered_marks w e w.tree w.pool w.homes w.sets w.hands w.outputs w.steps w.end room marks
+  w' = entered_marks w e w.tree w.pool w.homes w.sets w.tasks_out w.outputs w.steps w.end room marks
 
   abbrev v : Memory
   v = value_of w
@@ -150,14 +150,14 @@ module _ (w : SharedValue) (e : EntryValue) (I : IsSharedValue w) (free : refuse
 
     pub marking_world : IsSharedValue w'
     marking_world =
-        marked_world w e I free w.tree w.pool w.homes w.sets w.hands w.outputs w.steps w.end room marks I.made I.noted refl refl
+        marked_world w e I free w.tree w.pool w.homes w.sets w.tasks_out w.outputs w.steps w.end room marks I.made I.noted refl refl
         (quiet_stands_for w.program w.settings w.journal.items I.form I.legal v v' (totals_of w) (totals_of w') e free quiet I.stands same notes marks_on counts)
         I.heaps I.measured
 
     -- every part that fits fits
     pub marking_fits : AllFit w w'
     marking_fits u q F =
-        marked_fits w e I free w.tree w.pool w.homes w.sets w.hands w.outputs w.steps w.end room marks marking_world u q q refl F refl refl refl F.form F.measured
+        marked_fits w e I free w.tree w.pool w.homes w.sets w.tasks_out w.outputs w.steps w.end room marks marking_world u q q refl F refl refl refl F.form F.measured
         (quiet_leaves w.program w.settings w.journal.items I.legal v v' e free quiet same (part_of w.settings q) (by_none q.task) F.fits)
 
 -- THE LAW
@@ -183,7 +183,7 @@ marks_enter w k (Mark u) t m marks room I free just at off count G =
     let heaps : (z : ℕ) → (z ≡ t → ⊥) → heap_of (with_heap l u f) z ≡ heap_of l z = λ z ne. ap or_fresh (with_off l u z f (λ q. ne (q ∙ just))) in
     let heap_t : heap_of (with_heap l u f) t ≡ record (heap_of l t) { marked = Some (length (marked_of m)) } =
     subst (λ z. heap_of (with_heap l u f) z ≡ record (heap_of l z) { marked = Some (length (marked_of m)) }) just (heap_by l u (length (marked_of m)) f (λ h. refl) (ap (λ z. (heap_of (with_heap l u f) z).marked) just ∙ count)) in
-    let counts : CountsGo w.program w.settings l (totals_of w) (totals_of w) k (Mark u) = (record { node = λ z. refl; hand = λ z. refl; steps = refl; outputs = refl }, refl, refl) in (
+    let counts : CountsGo w.program w.settings l (totals_of w) (totals_of w) k (Mark u) = (record { node = λ z. refl; task_out = λ z. refl; steps = refl; outputs = refl }, refl, refl) in (
       marking_world w e I free tt t m marks room at off only just (λ z q. q) (heap_machine l u f) heap_t heaps counts G,
       marking_fits w e I free tt t m marks room at off only just (λ z q. q) (heap_machine l u f) heap_t heaps counts G,
     )
@@ -195,7 +195,7 @@ marks_enter w k (More u n) t m marks room I free just at off count G =
     let heaps : (z : ℕ) → (z ≡ t → ⊥) → heap_of (with_heap l u f) z ≡ heap_of l z = λ z ne. ap or_fresh (with_off l u z f (λ q. ne (q ∙ just))) in
     let heap_t : heap_of (with_heap l u f) t ≡ record (heap_of l t) { marked = Some (length (marked_of m)) } =
     subst (λ z. heap_of (with_heap l u f) z ≡ record (heap_of l z) { marked = Some (length (marked_of m)) }) just (heap_by l u (length (marked_of m)) f (λ h. refl) (ap (λ z. (heap_of (with_heap l u f) z).marked) just ∙ count)) in
-    let counts : CountsGo w.program w.settings l (totals_of w) (totals_of w) k (More u n) = (record { node = λ z. refl; hand = λ z. refl; steps = refl; outputs = refl }, refl, refl) in (
+    let counts : CountsGo w.program w.settings l (totals_of w) (totals_of w) k (More u n) = (record { node = λ z. refl; task_out = λ z. refl; steps = refl; outputs = refl }, refl, refl) in (
       marking_world w e I free tt t m marks room at off only just (λ z q. q) (heap_machine l u f) heap_t heaps counts G,
       marking_fits w e I free tt t m marks room at off only just (λ z q. q) (heap_machine l u f) heap_t heaps counts G,
     )

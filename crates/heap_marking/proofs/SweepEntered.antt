@@ -149,7 +149,7 @@ module _ (w : SharedValue) (k t given : ℕ) (I : IsSharedValue w) (free : refus
     marks = slice_set w.marks t None
 
     abbrev pub w' : SharedValue
-    w' = entered_marks w e w.tree pool homes sets w.hands w.outputs w.steps w.end room marks
+    w' = entered_marks w e w.tree pool homes sets w.tasks_out w.outputs w.steps w.end room marks
 
     abbrev v' : Memory
     v' = value_of w'
@@ -181,7 +181,7 @@ module _ (w : SharedValue) (k t given : ℕ) (I : IsSharedValue w) (free : refus
 
     counts : CountsGo w.program w.settings l (totals_of w) (totals_of w') k (Sweep t given)
     counts = (
-      record { node = λ u. refl; hand = λ u. refl; steps = refl; outputs = refl },
+      record { node = λ u. refl; task_out = λ u. refl; steps = refl; outputs = refl },
       (let g = G.units in let c = home.units_go w I on t T.cause T.none_left in let s = sweep_is w I on t T.cause T.none_left in let n = T.number in omega (arith, g, c, s, n)),
       refl,
     )
@@ -200,7 +200,7 @@ module _ (w : SharedValue) (k t given : ℕ) (I : IsSharedValue w) (free : refus
     keeps_units : (u : ℕ) → (u ≡ t → ⊥) → KeepsUnits w.pool pool u
     keeps_units u ne = given_keeps w.pool pool (gone_of r.heap (marked_of m)) t u G (home.owned_gone w I on t T.cause T.none_left) ne
 
-    measured : RestsAreMeasured pool homes w.hands
+    measured : RestsAreMeasured pool homes w.tasks_out
     measured u x is none = elim (cases_eq u t) [
       | inl q ↦
           let same : rest' ≡ x = same_Some rest' x (sym rest_then ∙ (ap (rest_at homes) (sym q) ∙ is)) in
@@ -210,7 +210,7 @@ module _ (w : SharedValue) (k t given : ℕ) (I : IsSharedValue w) (free : refus
 
     pub swept_world : IsSharedValue w'
     swept_world =
-        marked_world w e I free w.tree pool homes sets w.hands w.outputs w.steps w.end room marks (length-set w.homes t (Some rest') ∙ I.made) (many ∙ I.noted) refl G.limit stands heaps measured
+        marked_world w e I free w.tree pool homes sets w.tasks_out w.outputs w.steps w.end room marks (length-set w.homes t (Some rest') ∙ I.made) (many ∙ I.noted) refl G.limit stands heaps measured
 
     -- a task that a worker holds is another one
     apart : (u : ℕ) (q : Private) → Fits w u q → q.task ≡ t → ⊥
@@ -221,7 +221,7 @@ module _ (w : SharedValue) (k t given : ℕ) (I : IsSharedValue w) (free : refus
 
     pub swept_fits : AllFit w w'
     swept_fits u q F =
-        marked_fits w e I free w.tree pool homes sets w.hands w.outputs w.steps w.end room marks swept_world u q q refl F refl refl refl F.form (part_kept w.pool pool q (keeps_units q.task (apart u q F)) F.measured)
+        marked_fits w e I free w.tree pool homes sets w.tasks_out w.outputs w.steps w.end room marks swept_world u q q refl F refl refl refl F.form (part_kept w.pool pool q (keeps_units q.task (apart u q F)) F.measured)
         (sweeps_leave w.program w.settings w.journal.items I.legal v v' k t given free keeps (part_of w.settings q) F.fits)
 
   -- AS THE CALL HAS IT

@@ -198,7 +198,7 @@ module _ (w : SharedValue) (k : ℕ) (p : Private) (I : IsSharedValue w) (F : Fi
     Q = record P { heap = g }
 
     abbrev w' : SharedValue
-    w' = entered w e w.tree pool w.homes w.sets w.hands w.outputs w.steps w.end j.room
+    w' = entered w e w.tree pool w.homes w.sets w.tasks_out w.outputs w.steps w.end j.room
 
     abbrev v' : Memory
     v' = value_of w'
@@ -266,7 +266,7 @@ module _ (w : SharedValue) (k : ℕ) (p : Private) (I : IsSharedValue w) (F : Fi
         (T.units ∙ ap (λ n. units_in_use w.pool + n) sized, refl))
 
     counts : CountsGo w.program w.settings l (totals_of w) (totals_of w') k (ChunkOf t)
-    counts = (record { node = λ u. refl; hand = λ u. refl; steps = refl; outputs = refl }, asks_units)
+    counts = (record { node = λ u. refl; task_out = λ u. refl; steps = refl; outputs = refl }, asks_units)
 
     same : SameObjects v v' l (after w.program w.settings l e)
     same = subst (SameObjects v v' l) (sym then) objects_same
@@ -474,7 +474,7 @@ module _ (w : SharedValue) (k : ℕ) (p : Private) (I : IsSharedValue w) (F : Fi
   full_end = Some (PoolOf (units_in_use w.pool))
 
   abbrev ended : SharedValue
-  ended = entered w full_event w.tree w.pool w.homes w.sets w.hands w.outputs w.steps full_end j.room
+  ended = entered w full_event w.tree w.pool w.homes w.sets w.tasks_out w.outputs w.steps full_end j.room
 
   abbrev full_ledger : Ledger
   full_ledger = record (accounts w) { end = full_end }
@@ -496,7 +496,7 @@ module _ (w : SharedValue) (k : ℕ) (p : Private) (I : IsSharedValue w) (F : Fi
       (refl, refl))
 
   full_counts : CountsGo w.program w.settings (accounts w) (totals_of w) (totals_of ended) k (ChunkOf p.task)
-  full_counts = (record { node = λ u. refl; hand = λ u. refl; steps = refl; outputs = refl }, full_units)
+  full_counts = (record { node = λ u. refl; task_out = λ u. refl; steps = refl; outputs = refl }, full_units)
 
   pub full_world : IsSharedValue ended
   full_world = quiet_world w full_event I free tt (λ u m. m) w.pool full_end j.room full_same full_notes full_counts refl (all_kept w.pool)

@@ -108,7 +108,7 @@ module _ (w : SharedValue) (k : ℕ) (p : Private) (I : IsSharedValue w) (F : Fi
     Q = record P { heap = g; begun = Some b }
 
     abbrev w' : SharedValue
-    w' = entered w e w.tree pool w.homes w.sets w.hands w.outputs w.steps w.end j.room
+    w' = entered w e w.tree pool w.homes w.sets w.tasks_out w.outputs w.steps w.end j.room
 
     abbrev v' : Memory
     v' = value_of w'
@@ -160,7 +160,7 @@ module _ (w : SharedValue) (k : ℕ) (p : Private) (I : IsSharedValue w) (F : Fi
 
     pub counts : CountsGo w.program w.settings l (totals_of w) (totals_of w') k (Begin t)
     counts = (
-      record { node = λ u. refl; hand = λ u. refl; steps = refl; outputs = refl },
+      record { node = λ u. refl; task_out = λ u. refl; steps = refl; outputs = refl },
       T.numbers.numbered.units ∙ ap (λ n. units_in_use w.pool + n) (T.numbers.count ∙ sym (take_is w k p I F)),
       refl,
     )

@@ -166,7 +166,7 @@ module _ (w : SharedValue) (k : ℕ) (p : Private) (moved : Moved) (I : IsShared
     led = lead_all moved.moved.items ss (heaps_of w) Good (are_once ss once) (λ s i. (at s i).place) formed
 
     abbrev pub w' : SharedValue
-    w' = entered w e w.tree pool H'.homes w.sets w.hands w.outputs w.steps w.end room
+    w' = entered w e w.tree pool H'.homes w.sets w.tasks_out w.outputs w.steps w.end room
 
     abbrev v' : Memory
     v' = value_of w'
@@ -254,7 +254,7 @@ module _ (w : SharedValue) (k : ℕ) (p : Private) (moved : Moved) (I : IsShared
 
     counts : CountsGo w.program w.settings l (totals_of w) (totals_of w') k (End t moved.taken moved.given moved.left)
     counts = (
-      record { node = λ u. refl; hand = λ u. refl; steps = refl; outputs = refl },
+      record { node = λ u. refl; task_out = λ u. refl; steps = refl; outputs = refl },
       (let g : units_in_use pool + units_kept w.pool moved.back.items ≡ units_in_use w.pool = G.units in let b : units_kept w.pool moved.back.items ≡ moved.given = F.back.units in omega (arith, g, b)),
       refl,
     )
@@ -267,7 +267,7 @@ module _ (w : SharedValue) (k : ℕ) (p : Private) (moved : Moved) (I : IsShared
     legal' = legal_then w.program w.settings w.journal.items e I.legal free
 
     accounts' : accounts w' ≡ L
-    accounts' = accounts_are w e I free w.tree pool H'.homes w.sets w.hands w.outputs w.steps w.end room
+    accounts' = accounts_are w e I free w.tree pool H'.homes w.sets w.tasks_out w.outputs w.steps w.end room
 
     on' : L.end ≡ None
     on' = by (slice_get l.heaps t) ∙ on
@@ -301,11 +301,11 @@ module _ (w : SharedValue) (k : ℕ) (p : Private) (moved : Moved) (I : IsShared
     units_stay : (u : ℕ) → (u ≡ t → ⊥) → KeepsUnits w.pool pool u
     units_stay u ne = given_keeps w.pool pool moved.back.items t u G F.back.owned ne
 
-    measured_then : RestsAreMeasured pool H'.homes w.hands
-    measured_then u r is none = measured_kept w.pool pool u r.heap.chunks (units_stay u (λ q. none k ((S.totals.hand k u).1 (ap (λ z. (heap_of l z).worker) q ∙ F.held)))) (led.measured u r (unheld_rests w u I on none) is)
+    measured_then : RestsAreMeasured pool H'.homes w.tasks_out
+    measured_then u r is none = measured_kept w.pool pool u r.heap.chunks (units_stay u (λ q. none k ((S.totals.task_out k u).1 (ap (λ z. (heap_of l z).worker) q ∙ F.held)))) (led.measured u r (unheld_rests w u I on none) is)
 
     pub end_world : IsSharedValue w'
-    end_world = entered_world w e I free w.tree pool H'.homes w.sets w.hands w.outputs w.steps w.end room (led.count ∙ I.made) I.noted refl G.limit stands_then led.form measured_then
+    end_world = entered_world w e I free w.tree pool H'.homes w.sets w.tasks_out w.outputs w.steps w.end room (led.count ∙ I.made) I.noted refl G.limit stands_then led.form measured_then
 
     -- PARTS
     held_value : (q : Part) → FitsValue w.program w.settings q v'' L → FitsValue w.program w.settings q v' L
@@ -313,7 +313,7 @@ module _ (w : SharedValue) (k : ℕ) (p : Private) (moved : Moved) (I : IsShared
 
     pub end_fits : Fits w' k (ended p)
     end_fits = record {
-      held = held_on w e I free w.tree pool H'.homes w.sets w.hands w.outputs w.steps w.end room end_world k t refl F.held;
+      held = held_on w e I free w.tree pool H'.homes w.sets w.tasks_out w.outputs w.steps w.end room end_world k t refl F.held;
       fits = subst (FitsValue w.program w.settings (part_of w.settings (ended p)) v') (sym accounts')
           (held_value (part_of w.settings (ended p))
           (subst (λ n. FitsValue w.program w.settings (part_for w.settings t (home_of_part (ended p)) n) v'' L) (sym F.fresh)
@@ -329,7 +329,7 @@ module _ (w : SharedValue) (k : ℕ) (p : Private) (moved : Moved) (I : IsShared
 
     pub end_others : OthersFit w w' k
     end_others u q ne Q =
-        part_fits w e I free w.tree pool H'.homes w.sets w.hands w.outputs w.steps w.end room end_world u q q refl Q refl refl refl Q.form (part_kept w.pool pool q (units_stay q.task (apart u q ne Q)) Q.measured)
+        part_fits w e I free w.tree pool H'.homes w.sets w.tasks_out w.outputs w.steps w.end room end_world u q q refl Q refl refl refl Q.form (part_kept w.pool pool q (units_stay q.task (apart u q ne Q)) Q.measured)
         (held_value (part_of w.settings q)
         (ends_leave w.program w.settings w.journal.items I.legal v v'' k t moved.taken moved.given moved.left F.home (home_of_part (ended p)) f free C ends (part_of w.settings q)
         (λ same'. apart u q ne Q (sym same')) Q.fits))

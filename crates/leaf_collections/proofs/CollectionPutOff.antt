@@ -104,7 +104,7 @@ module _ (w : SharedValue) (k : ℕ) (p : Private) (I : IsSharedValue w) (F : Fi
   v = value_of w
 
   abbrev w' : SharedValue
-  w' = entered w e w.tree w.pool w.homes w.sets w.hands w.outputs w.steps w.end j.room
+  w' = entered w e w.tree w.pool w.homes w.sets w.tasks_out w.outputs w.steps w.end j.room
 
   on : l.end ≡ None
   on = entry_on w e free
@@ -151,7 +151,7 @@ module _ (w : SharedValue) (k : ℕ) (p : Private) (I : IsSharedValue w) (F : Fi
   notes u = record { keeps = refl; kept = refl; marked = refl }
 
   counts : CountsGo w.program w.settings l (totals_of w) (totals_of w') k (PutOff t)
-  counts = (record { node = λ u. refl; hand = λ u. refl; steps = refl; outputs = refl }, refl, refl)
+  counts = (record { node = λ u. refl; task_out = λ u. refl; steps = refl; outputs = refl }, refl, refl)
 
   pub put_off_world : IsSharedValue w'
   put_off_world = quiet_world w e I free tt (λ u m. m) w.pool w.end j.room same notes counts refl (all_kept w.pool)

@@ -110,7 +110,7 @@ module _ (w : SharedValue) (k : ℕ) (p : Private) (I : IsSharedValue w) (F : Fi
     Q = record P { heap = g; begun = Some b }
 
     abbrev w' : SharedValue
-    w' = entered w e w.tree pool w.homes w.sets w.hands w.outputs w.steps w.end j.room
+    w' = entered w e w.tree pool w.homes w.sets w.tasks_out w.outputs w.steps w.end j.room
 
     abbrev v' : Memory
     v' = value_of w'

@@ -140,7 +140,7 @@ module _ (w : SharedValue) (k : ℕ) (p : Private) (I : IsSharedValue w) (F : Fi
       ]
 
       -- and the pool has its chunks' units still
-      pub measures : RestsAreMeasured w.pool homes w.hands
+      pub measures : RestsAreMeasured w.pool homes w.tasks_out
       measures z s e f' = elim (cases_eq z u) [
         | inl q ↦
             let is : s ≡ r' = same_Some s r' (sym e ∙ (ap (rest_at homes) q ∙ ap flat (got_same w.homes u (Some r) (Some r') was_there))) in

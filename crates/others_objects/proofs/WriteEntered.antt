@@ -161,10 +161,10 @@ module _ (w : SharedValue) (k : ℕ) (p : Private) (I : IsSharedValue w) (F : Fi
         steps = w.steps + suc p.fresh
 
         abbrev w' : SharedValue
-        w' = entered w (last_event k p) w.tree w.pool homes sets w.hands w.outputs steps w.end j.room
+        w' = entered w (last_event k p) w.tree w.pool homes sets w.tasks_out w.outputs steps w.end j.room
 
         counts : RanCounts w.program (totals_of w) (totals_of w') M L t k p.fresh S.task S.line Writing K
-        counts = record { tree = λ u. refl; hand = λ u. refl; outputs = refl; end = refl; used = refl; steps = refl }
+        counts = record { tree = λ u. refl; task_out = λ u. refl; outputs = refl; end = refl; used = refl; steps = refl }
 
         all_1 : StandsForAll v1 (totals_of w') L
         all_1 = ran_stands_for w.program w.settings w.journal.items I.form I.legal v0 v1 (totals_of w) (totals_of w') k t p.fresh h free E all_0 own_0 C mk counts
@@ -176,7 +176,7 @@ module _ (w : SharedValue) (k : ℕ) (p : Private) (I : IsSharedValue w) (F : Fi
 
         pub written_world : IsSharedValue w'
         written_world =
-            entered_world w (last_event k p) I free w.tree w.pool homes sets w.hands w.outputs steps w.end j.room
+            entered_world w (last_event k p) I free w.tree w.pool homes sets w.tasks_out w.outputs steps w.end j.room
             (length-set w.homes (other.u w k p I F on n a O) _ ∙ I.made) (many ∙ I.noted) refl refl all_then
             (other.forms w k p I F on n a O d mark size f fields sets top) (other.measures w k p I F on n a O d mark size f fields sets top)
 
@@ -185,14 +185,14 @@ module _ (w : SharedValue) (k : ℕ) (p : Private) (I : IsSharedValue w) (F : Fi
 
         pub written_part : Fits w' k q
         written_part =
-            part_fits w (last_event k p) I free w.tree w.pool homes sets w.hands w.outputs steps w.end j.room written_world k p q refl F refl refl refl F.form F.measured
+            part_fits w (last_event k p) I free w.tree w.pool homes sets w.tasks_out w.outputs steps w.end j.room written_world k p q refl F refl refl refl F.form F.measured
             (fits_held v1 v'.homes L same_then w.program w.settings (part_of w.settings q) R.knows_then.sound goes_then
             (ran_fits_then w.program w.settings v0 v1 l L t k p.fresh h g E own_0 C gh))
 
         -- THE PARTS OF OTHERS
         pub written_others : OthersFit w w' k
         written_others u r ne G =
-            part_fits w (last_event k p) I free w.tree w.pool homes sets w.hands w.outputs steps w.end j.room written_world u r r refl G refl refl refl G.form G.measured
+            part_fits w (last_event k p) I free w.tree w.pool homes sets w.tasks_out w.outputs steps w.end j.room written_world u r r refl G refl refl refl G.form G.measured
             (fits_held v1 v'.homes L same_then w.program w.settings (part_of w.settings r) R.knows_then.sound goes_then
             (ran_leaves w.program w.settings v0 v1 l L t k p.fresh h E own_0 C (part_of w.settings r) (held_apart w k u p r F G ne)
             (fits_held (value_of w) v0.homes l (λ z y. resting_is l (value_of w).homes z y) w.program w.settings (part_of w.settings r) R.knows.sound (last.before_goes w k p I F shared free) G.fits)))

@@ -118,7 +118,7 @@ module _ (w : SharedValue) (k : ℕ) (p : Private) (I : IsSharedValue w) (F : Fi
     finished = record w {
       tree = with_state w.tree p.task Ended;
       homes = slice_set w.homes p.task (Some (ended_rest p));
-      hands = slice_set w.hands k None;
+      tasks_out = slice_set w.tasks_out k None;
       steps = w.steps + (p.fresh + 1);
       journal = record { items = w.journal.items ++ alone_event k p ∷ []; room = j.room };
       end = Some (Machine Done);
@@ -127,7 +127,7 @@ module _ (w : SharedValue) (k : ℕ) (p : Private) (I : IsSharedValue w) (F : Fi
     finished_is : record w {
       tree = with_state w.tree p.task Ended;
       homes = slice_set w.homes p.task (Some (ended_rest p));
-      hands = slice_set w.hands k None;
+      tasks_out = slice_set w.tasks_out k None;
       steps = w.steps + suc p.fresh;
       journal = record { items = w.journal.items ++ last_event k p ∷ []; room = j.room };
       end = Some (Machine Done);
@@ -136,7 +136,7 @@ module _ (w : SharedValue) (k : ℕ) (p : Private) (I : IsSharedValue w) (F : Fi
         ap (λ n. let z : SharedValue = record w {
           tree = with_state w.tree p.task Ended;
           homes = slice_set w.homes p.task (Some (ended_rest p));
-          hands = slice_set w.hands k None;
+          tasks_out = slice_set w.tasks_out k None;
           steps = w.steps + n;
           journal = record { items = w.journal.items ++ record { worker = k; kind = Ran p.task n } ∷ []; room = j.room };
           end = Some (Machine Done);

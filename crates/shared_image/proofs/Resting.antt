@@ -47,7 +47,7 @@ module _ (w : SharedValue) (I : IsSharedValue w) where
   near_by t None e o i = absurd i
   near_by t (Some r) e o i = (I.heaps t r e).near o (subst (λ ks. In (objects_in ks) o) (home_chunks r) i)
 
-  measured_by : (t : ℕ) → IsUnheld w.hands t → (r : Option Rest) → rest_at w.homes t ≡ r → (c : ChunkOf) → In (home_in r).chunks c → slot_at w.pool c.number ≡ Some (record { owner = t; units = c.units })
+  measured_by : (t : ℕ) → IsUnheld w.tasks_out t → (r : Option Rest) → rest_at w.homes t ≡ r → (c : ChunkOf) → In (home_in r).chunks c → slot_at w.pool c.number ≡ Some (record { owner = t; units = c.units })
   measured_by t un None e c i = absurd i
   measured_by t un (Some r) e c i =
       let q = map_in chunk_of r.heap.chunks c (subst (λ ks. In ks c) (home_chunks r) i) in
@@ -79,10 +79,10 @@ module _ (w : SharedValue) (I : IsSharedValue w) where
     pub near : o.at.offset < 1024
     near = near_by t (rest_at w.homes t) refl o i
 
-    unheld : IsUnheld w.hands t
+    unheld : IsUnheld w.tasks_out t
     unheld j h =
         let a : (heap_of (k w I) t).worker ≡ None = R in
-        let b : (heap_of (k w I) t).worker ≡ Some j = (I.stands.totals.hand j t).0 h in
+        let b : (heap_of (k w I) t).worker ≡ Some j = (I.stands.totals.task_out j t).0 h in
         absurd cc
 
     -- the pool has the units of its chunk

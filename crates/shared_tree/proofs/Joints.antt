@@ -32,7 +32,7 @@ use Rattle.own_steps.proofs.AloneEntries.{runs_on}
 use Rattle.own_steps.proofs.LastSteps.{fits_machine, machine_same}
 use Rattle.child_tasks.specs.ChildEnds.{IsAtEnd, is_last, is_last_by, is_last_line}
 use Rattle.child_tasks.specs.Forks.{ForkAnswered, IsAtFork, is_fork, is_fork_by, is_par}
-use Rattle.child_tasks.specs.Hands.{HoldsNone, LeavesHand}
+use Rattle.child_tasks.specs.NoTask.{HoldsNone, GivesTaskUp}
 use Rattle.child_tasks.specs.Joins.{IsUnchanged, SameButPlaces}
 use Rattle.child_tasks.specs.declared.fork.Forking.{Forking}
 use Rattle.child_tasks.specs.declared.fork.Forking.TheVariants.{Forked, Over}
@@ -104,9 +104,9 @@ module _ (w : SharedValue) (k : ℕ) (p : Private) (I : IsSharedValue w) (F : Fi
 
 -- ---- WHO HOLDS NOTHING
 
-pub holds_none : (w after : SharedValue) (k : ℕ) (p : Private) → IsSharedValue w → IsSharedValue after → refused w (alone_event k p) ≡ None → after.hands ≡ slice_set w.hands k None → HoldsNone after k
-holds_none w after k p I I' free hand t held =
-    no_task (sym (ap (λ hs. flat (slice_get hs k)) hand ∙ ap flat (got_set w.hands k None (worker_there w (alone_event k p) I free))) ∙ (I'.stands.totals.hand k t).1 held)
+pub holds_none : (w after : SharedValue) (k : ℕ) (p : Private) → IsSharedValue w → IsSharedValue after → refused w (alone_event k p) ≡ None → after.tasks_out ≡ slice_set w.tasks_out k None → HoldsNone after k
+holds_none w after k p I I' free task_out t held =
+    no_task (sym (ap (λ hs. flat (slice_get hs k)) task_out ∙ ap flat (got_set w.tasks_out k None (worker_there w (alone_event k p) I free))) ∙ (I'.stands.totals.task_out k t).1 held)
   where
     no_task : ◌≡◌ {A = Option ℕ} None (Some t) → ⊥
     no_task e = cc
@@ -151,9 +151,9 @@ abbrev pub ran_by : Forking → Ran
 ran_by (Forked left right) = RanForked left right
 ran_by (Over q) = RanOver q
 
-pub forks_to : (w after : SharedValue) (k : ℕ) (p : Private) → IsSharedValue w → IsSharedValue after → refused w (alone_event k p) ≡ None → (f : Forking) → ForkAnswered w after k p f → LeavesHand w.hands after.hands k f → RanTo w after k p (ran_by f)
-forks_to w after k p I I' free (Forked left right) on hand = (on, holds_none w after k p I I' free hand)
-forks_to w after k p I I' free (Over q) over hand = over
+pub forks_to : (w after : SharedValue) (k : ℕ) (p : Private) → IsSharedValue w → IsSharedValue after → refused w (alone_event k p) ≡ None → (f : Forking) → ForkAnswered w after k p f → GivesTaskUp w.tasks_out after.tasks_out k f → RanTo w after k p (ran_by f)
+forks_to w after k p I I' free (Forked left right) on task_out = (on, holds_none w after k p I I' free task_out)
+forks_to w after k p I I' free (Over q) over task_out = over
 
 -- what is so of a value and a part is so where nothing was entered, and the other way round
 pub then_same : (w after : SharedValue) (p q : Private) → after ≡ w → q ≡ p → (G : SharedValue → Private → Type 0) → G w p → G after q

@@ -9,7 +9,7 @@ use Rattle.shared_value.specs.Next.{is_beyond}
 use Rattle.own_steps.specs.Alone.{FinishesAlone, GoesAlone, HaltsAlone, IsBeyond, Tells, alone_event, machine_after}
 use Rattle.child_tasks.specs.ChildEnds.{EndsChild, IsAtEnd}
 use Rattle.child_tasks.specs.Forks.{ForksOn, IsAtFork}
-use Rattle.child_tasks.specs.Hands.{HoldsNone}
+use Rattle.child_tasks.specs.NoTask.{HoldsNone}
 use Rattle.others_objects.specs.Other.{IsOther}
 use Rattle.shared_tree.specs.declared.ran.Ran.{Ran}
 use Rattle.shared_tree.specs.declared.ran.Ran.TheVariants.{Forked, Ended, Over, Done}

@@ -27,7 +27,7 @@ pub struct Left {
     homes: Listed<Option<Apart<Rest>>>,
     sets: Vec<SetOf>,
     marks: Listed<Option<Apart<Marking>>>,
-    hands: Listed<Option<u32>>,
+    tasks_out: Listed<Option<u32>>,
     outputs: Listed<i64>,
     steps: u64,
     end: Option<RunEnd>,
@@ -40,7 +40,7 @@ impl Model for Left {
 
     ghost Value = { SharedValue };
 
-    ghost view = { λ s. record { program = s.program; settings = s.settings; tree = s.tree; pool = s.pool; homes = s.homes; sets = s.sets.items; marks = s.marks; hands = s.hands; outputs = s.outputs; journal = record { items = []; room = 0 }; steps = s.steps; end = s.end; halted = s.halted } };
+    ghost view = { λ s. record { program = s.program; settings = s.settings; tree = s.tree; pool = s.pool; homes = s.homes; sets = s.sets.items; marks = s.marks; tasks_out = s.tasks_out; outputs = s.outputs; journal = record { items = []; room = 0 }; steps = s.steps; end = s.end; halted = s.halted } };
 }
 
 impl Left {
@@ -87,7 +87,7 @@ impl Shared {
             homes,
             sets,
             marks,
-            hands,
+            tasks_out,
             outputs,
             journal,
             steps,
@@ -102,7 +102,7 @@ impl Shared {
             homes,
             sets,
             marks,
-            hands,
+            tasks_out,
             outputs,
             steps,
             end,

@@ -103,7 +103,7 @@ impl Shared {
         let task = part.task;
         enter_alone(&mut self.steps, &mut self.journal, worker, &part);
         self.tree.set_state(task, State::Ended);
-        self.hands.set(worker as usize, None);
+        self.tasks_out.set(worker as usize, None);
         let rest = block.put(at_end(part));
         self.homes.set(task as usize, Some(rest));
         self.end = Some(RunEnd::Machine(End::Done));

@@ -32,12 +32,12 @@ impl Shared {
         requires free { refused self.old (alone_event worker part) ≡ None }
         requires alone { state_of self.old.tree (sibling part.task) ≡ Some State.Ended → ⊥ }
         ensures ended { EndsChild self.old self.new worker part None }
-        ensures hand { self.new.hands ≡ slice_set self.old.hands worker None }
+        ensures task_out { self.new.tasks_out ≡ slice_set self.old.tasks_out worker None }
     {
         let task = part.task;
         enter_alone(&mut self.steps, &mut self.journal, worker, &part);
         self.tree.set_state(task, State::Ended);
-        self.hands.set(worker as usize, None);
+        self.tasks_out.set(worker as usize, None);
         let rest = block.put(at_end(part));
         self.homes.set(task as usize, Some(rest));
     }
@@ -54,7 +54,7 @@ impl Shared {
         ensures memory { IfErr result (λ e. e.cause ≡ NotEntered.NoMemory) }
         ensures back { IfErr result (λ e. e.part ≡ part) }
         ensures answered { IfOk result (EndsChild self.old self.new worker part) }
-        ensures hand { OnOk result (self.new.hands ≡ slice_set self.old.hands worker None) }
+        ensures task_out { OnOk result (self.new.tasks_out ≡ slice_set self.old.tasks_out worker None) }
     {
         match rest_block(*self.sets.allocator()) {
             Ok(block) => {
@@ -91,12 +91,12 @@ impl Shared {
         requires parent { parent_of self.old.tree part.task ≡ Some parent }
         requires places { HasPlaces self.old part parent }
         ensures joined { EndsChild self.old self.new worker part (Some parent) }
-        ensures hand { self.new.hands ≡ slice_set self.old.hands worker None }
+        ensures task_out { self.new.tasks_out ≡ slice_set self.old.tasks_out worker None }
     {
         let alloc = *self.sets.allocator();
         let (task, other) = (part.task, sibling_of(part.task));
         enter_alone(&mut self.steps, &mut self.journal, worker, &part);
-        self.hands.set(worker as usize, None);
+        self.tasks_out.set(worker as usize, None);
         self.tree.set_state(task, State::Ended);
         let own_noted = take_remembered(alloc, &mut self.sets, task);
         let other_noted = take_remembered(alloc, &mut self.sets, other);
@@ -123,7 +123,7 @@ impl Shared {
         ensures still { OnErr result (AllFit self.old self.new) }
         ensures back { IfErr result (λ e. e.part ≡ part) }
         ensures answered { IfOk result (EndsChild self.old self.new worker part) }
-        ensures hand { OnOk result (self.new.hands ≡ slice_set self.old.hands worker None) }
+        ensures task_out { OnOk result (self.new.tasks_out ≡ slice_set self.old.tasks_out worker None) }
     {
         if let Some(cause) = self.alone_refused(worker, &part) {
             return Err(NotRan {

@@ -6,7 +6,7 @@ ghost use Rattle.heap_tree.specs.Node.{depth_of};
 ghost use Rattle.shared_value.specs.Entered.{refused, RanAnswers};
 ghost use Rattle.shared_value.specs.Fits.{Fits};
 ghost use Rattle.own_steps.specs.Alone.{alone_event};
-ghost use Rattle.child_tasks.specs.Hands.{LeavesHand};
+ghost use Rattle.child_tasks.specs.NoTask.{GivesTaskUp};
 ghost use Rattle.child_tasks.specs.Forks.{ForkAnswered, ForksTo, IsAtFork};
 ghost use Rattle.shared_tree.specs.Ran.{MayBeEntered};
 
@@ -52,7 +52,7 @@ impl Shared {
         ensures same { OnErr result (self.new ≡ self.old) }
         ensures back { IfErr result (λ e. e.part ≡ part) }
         ensures answered { IfOk result (ForkAnswered self.old self.new worker part) }
-        ensures hand { IfOk result (LeavesHand self.old.hands self.new.hands worker) }
+        ensures task_out { IfOk result (GivesTaskUp self.old.tasks_out self.new.tasks_out worker) }
     {
         let Ok(blocks) = ForkBlocks::new(*self.sets.allocator()) else {
             return Err(NotRan {
@@ -76,7 +76,7 @@ impl Shared {
         };
         let (left, right) = (first.task, second.task);
         enter_alone(&mut self.steps, &mut self.journal, worker, &part);
-        self.hands.set(worker as usize, None);
+        self.tasks_out.set(worker as usize, None);
         fork_sets(&mut self.sets, part.task);
         clear_marks(&mut self.marks, part.task);
         put_homes(&mut self.homes, part, first, second, blocks);
@@ -93,7 +93,7 @@ impl Shared {
         ensures same { OnErr result (self.new ≡ self.old) }
         ensures back { IfErr result (λ e. e.part ≡ part) }
         ensures answered { IfOk result (ForkAnswered self.old self.new worker part) }
-        ensures hand { IfOk result (LeavesHand self.old.hands self.new.hands worker) }
+        ensures task_out { IfOk result (GivesTaskUp self.old.tasks_out self.new.tasks_out worker) }
     {
         if let Some(cause) = self.alone_refused(worker, &part) {
             return Err(NotRan {

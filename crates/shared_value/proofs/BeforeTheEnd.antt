@@ -16,7 +16,7 @@ use Rattle.core_relation.specs.Copies.{PartFits}
 use Rattle.core_relation.specs.Fits.{FitsAt}
 use Rattle.core_relation.specs.Frames.{IsOut}
 use Rattle.core_relation.specs.Whole.{StandsFor, by_end, handed}
-use Rattle.core_relation.proofs.whole.Hands.{hands_are_held}
+use Rattle.core_relation.proofs.whole.TasksOut.{tasks_out_are_held}
 use Rattle.core_relation.proofs.parts.Workers as workers
 use Rattle.task_machine.specs.declared.part.Private.{Private}
 use Rattle.shared_value.specs.SharedValue.{SharedValue, accounts, flat, totals_of, value_of}
@@ -69,8 +69,8 @@ module _ (w : SharedValue) (I : IsSharedValue w) where
   pub stands_now : (accounts w).end ≡ None → StandsFor (value_of w) (totals_of w) (accounts w)
   stands_now on = subst (λ o. StandsFor (value_of w) (totals_of w) (by_end (accounts w) o)) on I.stands
 
-  pub hand_now : (accounts w).end ≡ None → (k : ℕ) → flat (slice_get w.hands k) ≡ held_from k 0 (accounts w).heaps
-  hand_now on k = hands_are_held (totals_of w) (accounts w) (stands_now on).totals k
+  pub task_out_now : (accounts w).end ≡ None → (k : ℕ) → flat (slice_get w.tasks_out k) ≡ held_from k 0 (accounts w).heaps
+  task_out_now on k = tasks_out_are_held (totals_of w) (accounts w) (stands_now on).totals k
 
 -- A PART THAT FITS, before the run's end
 module _ (w : SharedValue) (k : ℕ) (p : Private) (F : Fits w k p) (on : (accounts w).end ≡ None) where

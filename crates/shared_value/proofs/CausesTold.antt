@@ -20,7 +20,7 @@ use Rattle.shared_value.specs.SharedValue.{SharedValue, accounts}
 use Rattle.shared_value.specs.Stands.{IsSharedValue}
 use Rattle.shared_value.specs.Causes.{first_cause, or_else, is_state_ready, took_cause, fuel_cause}
 use Rattle.shared_value.specs.Entered.{refused}
-use Rattle.shared_value.proofs.BeforeTheEnd.{end_now, hand_now, stands_now, steps_now}
+use Rattle.shared_value.proofs.BeforeTheEnd.{end_now, task_out_now, stands_now, steps_now}
 
 in_turn : (a b c : Bool) (x y z : Refused) (rest : Option Refused) → refused_if a x (refused_if b y (refused_unless c z rest)) ≡ or_else (refused_if a x (refused_if b y (refused_unless c z None))) rest
 in_turn true b c x y z rest = refl
@@ -58,7 +58,7 @@ took_is : (w : SharedValue) → IsSharedValue w → (accounts w).end ≡ None �
 took_is w I on k t lt =
     ap₂ (λ b o. refused_unless b NotReady (refused_holding o None))
     (sym (ready_by (slice_get w.tree t) (slice_get (accounts w).machine.tasks t) (heap_of (accounts w) t).worker ((stands_now w I on).totals.node t)))
-    (sym (hand_now w I on k))
+    (sym (task_out_now w I on k))
 
 worker_by : (a b c : Bool) (x y z : Refused) → is_some (refused_if a x (refused_if b y (refused_unless c z None))) ≡ false → c ≡ true
 worker_by true b c x y z h = absurd cc

@@ -59,44 +59,44 @@ held_by_end l (Some (Machine (Entangled a b))) t u e = e
 pub held_apart : (w : SharedValue) (k u : ℕ) (p q : Private) → Fits w k p → Fits w u q → (u ≡ k → ⊥) → p.task ≡ q.task → ⊥
 held_apart w k u p q F G ne e = ne (same_Some u k (sym G.held ∙ (ap (λ t. (heap_of (accounts w) t).worker) (sym e) ∙ F.held)))
 
--- what a worker holds is in its hand
-pub hand_is : (w : SharedValue) (k : ℕ) (p : Private) → IsSharedValue w → (accounts w).end ≡ None → Fits w k p → flat (slice_get w.hands k) ≡ Some p.task
-hand_is w k p I on F = ((stands_now w I on).totals.hand k p.task).1 F.held
+-- the task of a part that a worker holds is out with it
+pub task_is_out : (w : SharedValue) (k : ℕ) (p : Private) → IsSharedValue w → (accounts w).end ≡ None → Fits w k p → flat (slice_get w.tasks_out k) ≡ Some p.task
+task_is_out w k p I on F = ((stands_now w I on).totals.task_out k p.task).1 F.held
 
--- no worker's hand has a task at rest, and whom none has is at rest
-pub unheld_at_rest : (w : SharedValue) (u : ℕ) → IsSharedValue w → (accounts w).end ≡ None → Rests (accounts w) u → IsUnheld w.hands u
+-- no task at rest is out with a worker, and one that is out with none is at rest
+pub unheld_at_rest : (w : SharedValue) (u : ℕ) → IsSharedValue w → (accounts w).end ≡ None → Rests (accounts w) u → IsUnheld w.tasks_out u
 unheld_at_rest w u I on rests j h =
     let a : (heap_of (accounts w) u).worker ≡ None = rests in
-    let b : (heap_of (accounts w) u).worker ≡ Some j = ((stands_now w I on).totals.hand j u).0 h in
+    let b : (heap_of (accounts w) u).worker ≡ Some j = ((stands_now w I on).totals.task_out j u).0 h in
     absurd cc
 
-pub unheld_rests : (w : SharedValue) (u : ℕ) → IsSharedValue w → (accounts w).end ≡ None → IsUnheld w.hands u → Rests (accounts w) u
+pub unheld_rests : (w : SharedValue) (u : ℕ) → IsSharedValue w → (accounts w).end ≡ None → IsUnheld w.tasks_out u → Rests (accounts w) u
 unheld_rests w u I on none = by (heap_of (accounts w) u).worker refl
   where
     by : (o : Option ℕ) → (heap_of (accounts w) u).worker ≡ o → Rests (accounts w) u
     by None e = e
-    by (Some j) e = absurd (none j (((stands_now w I on).totals.hand j u).1 e))
+    by (Some j) e = absurd (none j (((stands_now w I on).totals.task_out j u).1 e))
 
--- whom no worker holds once a hand has changed, none held before
-pub unheld_before : (hands : List (Option ℕ)) (k : ℕ) (x : Option ℕ) (u : ℕ) → IsUnheld (slice_set hands k x) u → (flat (slice_get hands k) ≡ Some u → ⊥) → IsUnheld hands u
-unheld_before hands k x u none other j e = elim (cases_eq j k) [
-  | inl q ↦ other (ap (λ z. flat (slice_get hands z)) (sym q) ∙ e)
-  | inr ne ↦ none j (ap flat (got_other hands k j x ne) ∙ e)
+-- whom no worker holds once one worker's task has changed, none held before
+pub unheld_before : (tasks_out : List (Option ℕ)) (k : ℕ) (x : Option ℕ) (u : ℕ) → IsUnheld (slice_set tasks_out k x) u → (flat (slice_get tasks_out k) ≡ Some u → ⊥) → IsUnheld tasks_out u
+unheld_before tasks_out k x u none other j e = elim (cases_eq j k) [
+  | inl q ↦ other (ap (λ z. flat (slice_get tasks_out z)) (sym q) ∙ e)
+  | inr ne ↦ none j (ap flat (got_other tasks_out k j x ne) ∙ e)
 ]
 
 -- the value with other fields and one entry more
 abbrev pub entered : SharedValue → EntryValue → List Node → PoolValue → List (Option Rest) → List SetOf → List (Option ℕ) → List ℤ → ℕ → Option RunEnd → ℕ → SharedValue
-entered w e tree pool homes sets hands outputs steps end room = record w { tree = tree; pool = pool; homes = homes; sets = sets; hands = hands; outputs = outputs; steps = steps; end = end; journal = record { items = w.journal.items ++ e ∷ []; room = room } }
+entered w e tree pool homes sets tasks_out outputs steps end room = record w { tree = tree; pool = pool; homes = homes; sets = sets; tasks_out = tasks_out; outputs = outputs; steps = steps; end = end; journal = record { items = w.journal.items ++ e ∷ []; room = room } }
 
-module _ (w : SharedValue) (e : EntryValue) (I : IsSharedValue w) (free : refused w e ≡ None) (tree : List Node) (pool : PoolValue) (homes : List (Option Rest)) (sets : List SetOf) (hands : List (Option ℕ)) (outputs : List ℤ) (steps : ℕ) (end : Option RunEnd) (room : ℕ) where
+module _ (w : SharedValue) (e : EntryValue) (I : IsSharedValue w) (free : refused w e ≡ None) (tree : List Node) (pool : PoolValue) (homes : List (Option Rest)) (sets : List SetOf) (tasks_out : List (Option ℕ)) (outputs : List ℤ) (steps : ℕ) (end : Option RunEnd) (room : ℕ) where
   abbrev w' : SharedValue
-  w' = entered w e tree pool homes sets hands outputs steps end room
+  w' = entered w e tree pool homes sets tasks_out outputs steps end room
 
   pub accounts_are : accounts w' ≡ after w.program w.settings (accounts w) e
   accounts_are = accounts_then w.program w.settings w.journal.items e
 
-  pub entered_world : length homes ≡ length tree → length sets ≡ length tree → length hands ≡ length w.hands → pool.limit ≡ w.pool.limit
-      → StandsForAll (value_of w') (totals_of w') (after w.program w.settings (accounts w) e) → ((t : ℕ) (r : Rest) → rest_at homes t ≡ Some r → HeapForm r.heap) → RestsAreMeasured pool homes hands → IsSharedValue w'
+  pub entered_world : length homes ≡ length tree → length sets ≡ length tree → length tasks_out ≡ length w.tasks_out → pool.limit ≡ w.pool.limit
+      → StandsForAll (value_of w') (totals_of w') (after w.program w.settings (accounts w) e) → ((t : ℕ) (r : Rest) → rest_at homes t ≡ Some r → HeapForm r.heap) → RestsAreMeasured pool homes tasks_out → IsSharedValue w'
   entered_world made noted workers limit stands heaps measured = record {
     limits = I.limits;
     form = I.form;
@@ -111,15 +111,15 @@ module _ (w : SharedValue) (e : EntryValue) (I : IsSharedValue w) (free : refuse
   }
 
   module _ (I' : IsSharedValue w') where
-    -- a worker holds what it holds by its hand
-    pub held_by_hand : (u t : ℕ) → flat (slice_get hands u) ≡ Some t → (heap_of (accounts w') t).worker ≡ Some u
-    held_by_hand u t e = held_by_end (accounts w') (accounts w').end t u ((I'.stands.totals.hand u t).0 e)
+    -- a worker holds the task that is out with it
+    pub held_when_out : (u t : ℕ) → flat (slice_get tasks_out u) ≡ Some t → (heap_of (accounts w') t).worker ≡ Some u
+    held_when_out u t e = held_by_end (accounts w') (accounts w').end t u ((I'.stands.totals.task_out u t).0 e)
 
-    pub held_on : (u t : ℕ) → flat (slice_get hands u) ≡ flat (slice_get w.hands u) → (heap_of (accounts w) t).worker ≡ Some u → (heap_of (accounts w') t).worker ≡ Some u
-    held_on u t same held = held_by_hand u t (same ∙ ((stands_now w I (entry_on w e free)).totals.hand u t).1 held)
+    pub held_on : (u t : ℕ) → flat (slice_get tasks_out u) ≡ flat (slice_get w.tasks_out u) → (heap_of (accounts w) t).worker ≡ Some u → (heap_of (accounts w') t).worker ≡ Some u
+    held_on u t same held = held_when_out u t (same ∙ ((stands_now w I (entry_on w e free)).totals.task_out u t).1 held)
 
     -- a part of a worker that goes on fits where its home does
-    pub part_fits : (u : ℕ) (p q : Private) → flat (slice_get hands u) ≡ flat (slice_get w.hands u) → Fits w u p → q.task ≡ p.task → q.leaf_limit ≡ p.leaf_limit → q.field_limit ≡ p.field_limit → HeapForm q.heap → IsMeasured pool q
+    pub part_fits : (u : ℕ) (p q : Private) → flat (slice_get tasks_out u) ≡ flat (slice_get w.tasks_out u) → Fits w u p → q.task ≡ p.task → q.leaf_limit ≡ p.leaf_limit → q.field_limit ≡ p.field_limit → HeapForm q.heap → IsMeasured pool q
         → FitsValue w.program w.settings (part_of w.settings q) (value_of w') (after w.program w.settings (accounts w) e) → Fits w' u q
     part_fits u p q same F et el ef form measured fits = record {
       held = ap (λ z. (heap_of (accounts w') z).worker) et ∙ held_on u p.task same F.held;

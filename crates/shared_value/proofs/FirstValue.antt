@@ -39,7 +39,7 @@ first_world_of p s slots spare n set = record {
   homes = Some (first_rest p slots spare) ∷ [];
   sets = set ∷ [];
   marks = [];
-  hands = replicate s.workers None;
+  tasks_out = replicate s.workers None;
   outputs = [];
   journal = record { items = []; room = n };
   steps = 0;
@@ -78,15 +78,15 @@ module _ (p : ProgramText) (s : SettingsValue) (lims : AreLimits s) (form : IsPr
   node_is zero = refl
   node_is (suc t) = refl
 
-  hand_none : (k t : ℕ) → (totals_of w).hand k ≡ Some t ↔ (heap_of l t).worker ≡ Some k
-  hand_none k t = ((λ e. absurd (none_hand s.workers k e)), worker_at t)
+  no_task_out : (k t : ℕ) → (totals_of w).task_out k ≡ Some t ↔ (heap_of l t).worker ≡ Some k
+  no_task_out k t = ((λ e. absurd (never_out s.workers k e)), worker_at t)
     where
-      none_hand : (n k : ℕ) → flat (slice_get (replicate n None) k) ≡ Some t → ⊥
-      none_hand zero k e = absurd cc
-      none_hand (suc n) zero e = absurd cc
-      none_hand (suc n) (suc k) e = none_hand n k e
+      never_out : (n k : ℕ) → flat (slice_get (replicate n None) k) ≡ Some t → ⊥
+      never_out zero k e = absurd cc
+      never_out (suc n) zero e = absurd cc
+      never_out (suc n) (suc k) e = never_out n k e
 
-      worker_at : (t : ℕ) → (heap_of l t).worker ≡ Some k → (totals_of w).hand k ≡ Some t
+      worker_at : (t : ℕ) → (heap_of l t).worker ≡ Some k → (totals_of w).task_out k ≡ Some t
       worker_at zero e = absurd cc
       worker_at (suc t) e = absurd cc
 
@@ -97,7 +97,7 @@ module _ (p : ProgramText) (s : SettingsValue) (lims : AreLimits s) (form : IsPr
   stands : StandsFor (value_of w) (totals_of w) l
   stands = record {
     homes = subst (λ (v : Memory). Stands v l) value_is (first_stands p s);
-    totals = record { node = node_is; hand = hand_none; used = refl; steps = refl; outputs = refl; end = refl };
+    totals = record { node = node_is; task_out = no_task_out; used = refl; steps = refl; outputs = refl; end = refl };
     begun = begun_at;
     keeps = λ t. keeps_are t ∙ sym (ap (λ b. b && not (heap_of l t).swept) (waits_none t));
     since = λ t h. absurd (false≢true (sym (keeps_are t) ∙ h));
@@ -121,7 +121,7 @@ module _ (p : ProgramText) (s : SettingsValue) (lims : AreLimits s) (form : IsPr
   heaps zero r e = subst (λ (x : Rest). HeapForm x.heap) (same_Some (first_rest p slots spare) r e) form_first
   heaps (suc t) r e = absurd cc
 
-  measured : RestsAreMeasured w.pool w.homes w.hands
+  measured : RestsAreMeasured w.pool w.homes w.tasks_out
   measured zero r e f = subst (λ (x : Rest). AreMeasured w.pool zero x.heap.chunks) (same_Some (first_rest p slots spare) r e) (λ k i. absurd i)
   measured (suc t) r e f = absurd cc
 
@@ -140,22 +140,22 @@ module _ (p : ProgramText) (s : SettingsValue) (lims : AreLimits s) (form : IsPr
   }
 
 -- the same of fields that are these
-pub first_by : (p p' : ProgramText) (s : SettingsValue) (tree : List Node) (pool : PoolValue) (homes : List (Option Rest)) (sets : List SetOf) (marks : List (Option MarkingValue)) (hands : List (Option ℕ)) (outputs : List ℤ) (journal : RoomyValue EntryValue) (r : Rest) (set : SetOf)
+pub first_by : (p p' : ProgramText) (s : SettingsValue) (tree : List Node) (pool : PoolValue) (homes : List (Option Rest)) (sets : List SetOf) (marks : List (Option MarkingValue)) (tasks_out : List (Option ℕ)) (outputs : List ℤ) (journal : RoomyValue EntryValue) (r : Rest) (set : SetOf)
     → AreLimits s → IsProgram p → p' ≡ p → tree ≡ root_node ∷ [] → pool ≡ record { limit = s.chunks; slots = [] } → homes ≡ Some r ∷ [] → r ≡ first_rest p r.heap.slots r.heap.spare → sets ≡ set ∷ [] → content_of set ≡ record { sources = []; kept = []; keeps = false }
-    → marks ≡ [] → hands ≡ replicate s.workers None → outputs ≡ [] → journal.items ≡ []
-    → IsSharedValue (record { program = p'; settings = s; tree = tree; pool = pool; homes = homes; sets = sets; marks = marks; hands = hands; outputs = outputs; journal = journal; steps = 0; end = None; halted = false })
-first_by p p' s tree pool homes sets marks hands outputs journal r set lims form ep et eo eh er es empty em ea eu ej =
+    → marks ≡ [] → tasks_out ≡ replicate s.workers None → outputs ≡ [] → journal.items ≡ []
+    → IsSharedValue (record { program = p'; settings = s; tree = tree; pool = pool; homes = homes; sets = sets; marks = marks; tasks_out = tasks_out; outputs = outputs; journal = journal; steps = 0; end = None; halted = false })
+first_by p p' s tree pool homes sets marks tasks_out outputs journal r set lims form ep et eo eh er es empty em ea eu ej =
     let eh' : homes ≡ Some (first_rest p r.heap.slots r.heap.spare) ∷ [] = eh ∙ ap (λ x. Some x ∷ []) er in
     let ej' : journal ≡ record { items = []; room = journal.room } = ap (λ x. record { items = x; room = journal.room }) ej in
     let W : SharedValue = first_world_of p s r.heap.slots r.heap.spare journal.room set in
     subst IsSharedValue (sym (
-    ap (λ x. record W { program = x; tree = tree; pool = pool; homes = homes; sets = sets; marks = marks; hands = hands; outputs = outputs; journal = journal }) ep
-    ∙ (ap (λ x. record W { tree = x; pool = pool; homes = homes; sets = sets; marks = marks; hands = hands; outputs = outputs; journal = journal }) et
-    ∙ (ap (λ x. record W { pool = x; homes = homes; sets = sets; marks = marks; hands = hands; outputs = outputs; journal = journal }) eo
-    ∙ (ap (λ x. record W { homes = x; sets = sets; marks = marks; hands = hands; outputs = outputs; journal = journal }) eh'
-    ∙ (ap (λ x. record W { sets = x; marks = marks; hands = hands; outputs = outputs; journal = journal }) es
-    ∙ (ap (λ x. record W { marks = x; hands = hands; outputs = outputs; journal = journal }) em
-    ∙ (ap (λ x. record W { hands = x; outputs = outputs; journal = journal }) ea
+    ap (λ x. record W { program = x; tree = tree; pool = pool; homes = homes; sets = sets; marks = marks; tasks_out = tasks_out; outputs = outputs; journal = journal }) ep
+    ∙ (ap (λ x. record W { tree = x; pool = pool; homes = homes; sets = sets; marks = marks; tasks_out = tasks_out; outputs = outputs; journal = journal }) et
+    ∙ (ap (λ x. record W { pool = x; homes = homes; sets = sets; marks = marks; tasks_out = tasks_out; outputs = outputs; journal = journal }) eo
+    ∙ (ap (λ x. record W { homes = x; sets = sets; marks = marks; tasks_out = tasks_out; outputs = outputs; journal = journal }) eh'
+    ∙ (ap (λ x. record W { sets = x; marks = marks; tasks_out = tasks_out; outputs = outputs; journal = journal }) es
+    ∙ (ap (λ x. record W { marks = x; tasks_out = tasks_out; outputs = outputs; journal = journal }) em
+    ∙ (ap (λ x. record W { tasks_out = x; outputs = outputs; journal = journal }) ea
     ∙ (ap (λ x. record W { outputs = x; journal = journal }) eu
     ∙ ap (λ x. record W { journal = x }) ej')))))))))
     (first_world p s lims form r.heap.slots r.heap.spare journal.room set empty)

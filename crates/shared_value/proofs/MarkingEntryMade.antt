@@ -24,17 +24,17 @@ use Rattle.shared_value.proofs.BeforeTheEnd.{stands_now}
 
 -- the value with other fields, marks among them, and one entry more
 abbrev pub entered_marks : SharedValue → EntryValue → List Node → PoolValue → List (Option Rest) → List SetOf → List (Option ℕ) → List ℤ → ℕ → Option RunEnd → ℕ → List (Option MarkingValue) → SharedValue
-entered_marks w e tree pool homes sets hands outputs steps end room marks = record (entered w e tree pool homes sets hands outputs steps end room) { marks = marks }
+entered_marks w e tree pool homes sets tasks_out outputs steps end room marks = record (entered w e tree pool homes sets tasks_out outputs steps end room) { marks = marks }
 
-module _ (w : SharedValue) (e : EntryValue) (I : IsSharedValue w) (free : refused w e ≡ None) (tree : List Node) (pool : PoolValue) (homes : List (Option Rest)) (sets : List SetOf) (hands : List (Option ℕ)) (outputs : List ℤ) (steps : ℕ) (end : Option RunEnd) (room : ℕ) (marks : List (Option MarkingValue)) where
+module _ (w : SharedValue) (e : EntryValue) (I : IsSharedValue w) (free : refused w e ≡ None) (tree : List Node) (pool : PoolValue) (homes : List (Option Rest)) (sets : List SetOf) (tasks_out : List (Option ℕ)) (outputs : List ℤ) (steps : ℕ) (end : Option RunEnd) (room : ℕ) (marks : List (Option MarkingValue)) where
   abbrev w' : SharedValue
-  w' = entered_marks w e tree pool homes sets hands outputs steps end room marks
+  w' = entered_marks w e tree pool homes sets tasks_out outputs steps end room marks
 
   pub marked_accounts : accounts w' ≡ after w.program w.settings (accounts w) e
   marked_accounts = accounts_then w.program w.settings w.journal.items e
 
-  pub marked_world : length homes ≡ length tree → length sets ≡ length tree → length hands ≡ length w.hands → pool.limit ≡ w.pool.limit
-      → StandsForAll (value_of w') (totals_of w') (after w.program w.settings (accounts w) e) → ((t : ℕ) (r : Rest) → rest_at homes t ≡ Some r → HeapForm r.heap) → RestsAreMeasured pool homes hands → IsSharedValue w'
+  pub marked_world : length homes ≡ length tree → length sets ≡ length tree → length tasks_out ≡ length w.tasks_out → pool.limit ≡ w.pool.limit
+      → StandsForAll (value_of w') (totals_of w') (after w.program w.settings (accounts w) e) → ((t : ℕ) (r : Rest) → rest_at homes t ≡ Some r → HeapForm r.heap) → RestsAreMeasured pool homes tasks_out → IsSharedValue w'
   marked_world made noted workers limit stands heaps measured = record {
     limits = I.limits;
     form = I.form;
@@ -49,11 +49,11 @@ module _ (w : SharedValue) (e : EntryValue) (I : IsSharedValue w) (free : refuse
   }
 
   module _ (I' : IsSharedValue w') where
-    marked_held : (u t : ℕ) → flat (slice_get hands u) ≡ flat (slice_get w.hands u) → (heap_of (accounts w) t).worker ≡ Some u → (heap_of (accounts w') t).worker ≡ Some u
-    marked_held u t same held = held_by_end (accounts w') (accounts w').end t u ((I'.stands.totals.hand u t).0 (same ∙ ((stands_now w I (entry_on w e free)).totals.hand u t).1 held))
+    marked_held : (u t : ℕ) → flat (slice_get tasks_out u) ≡ flat (slice_get w.tasks_out u) → (heap_of (accounts w) t).worker ≡ Some u → (heap_of (accounts w') t).worker ≡ Some u
+    marked_held u t same held = held_by_end (accounts w') (accounts w').end t u ((I'.stands.totals.task_out u t).0 (same ∙ ((stands_now w I (entry_on w e free)).totals.task_out u t).1 held))
 
     -- a part of a worker that goes on fits where its home does
-    pub marked_fits : (u : ℕ) (p q : Private) → flat (slice_get hands u) ≡ flat (slice_get w.hands u) → Fits w u p → q.task ≡ p.task → q.leaf_limit ≡ p.leaf_limit → q.field_limit ≡ p.field_limit → HeapForm q.heap → IsMeasured pool q
+    pub marked_fits : (u : ℕ) (p q : Private) → flat (slice_get tasks_out u) ≡ flat (slice_get w.tasks_out u) → Fits w u p → q.task ≡ p.task → q.leaf_limit ≡ p.leaf_limit → q.field_limit ≡ p.field_limit → HeapForm q.heap → IsMeasured pool q
         → FitsValue w.program w.settings (part_of w.settings q) (value_of w') (after w.program w.settings (accounts w) e) → Fits w' u q
     marked_fits u p q same F et el ef form measured fits = record {
       held = ap (λ z. (heap_of (accounts w') z).worker) et ∙ marked_held u p.task same F.held;

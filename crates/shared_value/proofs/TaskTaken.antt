@@ -46,8 +46,8 @@ use Rattle.shared_value.specs.Measured.{RestsAreMeasured}
 use Rattle.shared_value.specs.Stands.{HeapForm, IsSharedValue}
 use Rattle.shared_value.specs.Fits.{Fits, IsAtWork, OthersFit, home_of_part, part_of, taken_part}
 use Rattle.shared_value.specs.Entered.{refused}
-use Rattle.shared_value.proofs.EntryMade.{accounts_are, entered, entered_world, entry_on, held_by_hand, part_fits, unheld_at_rest, unheld_before}
-use Rattle.shared_value.proofs.BeforeTheEnd.{hand_now, stands_now}
+use Rattle.shared_value.proofs.EntryMade.{accounts_are, entered, entered_world, entry_on, held_when_out, part_fits, unheld_at_rest, unheld_before}
+use Rattle.shared_value.proofs.BeforeTheEnd.{task_out_now, stands_now}
 
 -- a task as its account says
 pub same_parent : (o : Option Node) (q : Option Task) (worker : Option ℕ) → o ≡ option_map (as_node worker) q → parent_in o ≡ parent_of q
@@ -85,7 +85,7 @@ worker_free false false true x y z rest h = refl
 worker_free false false false x y z rest h = absurd cc
 
 -- a worker that may enter is one of the run's
-pub worker_there : (w : SharedValue) (e : EntryValue) → IsSharedValue w → refused w e ≡ None → e.worker < length w.hands
+pub worker_there : (w : SharedValue) (e : EntryValue) → IsSharedValue w → refused w e ≡ None → e.worker < length w.tasks_out
 worker_there w e I free =
     let lt : e.worker < w.settings.workers =
     ltb-true e.worker w.settings.workers (worker_free (is_some (accounts w).end) (nat_le w.settings.fuel (accounts w).steps && not (is_fuel e.kind)) (nat_lt e.worker w.settings.workers) Over (Spent (accounts w).steps) NoWorker (kind_refusal w.program w.settings (accounts w) e.worker e.kind) free) in
@@ -134,8 +134,8 @@ module _ (w : SharedValue) (k t : ℕ) (I : IsSharedValue w) (free : refused w (
   rests = none_is (heap_of l t).worker (and_parts (is_running (slice_get l.machine.tasks t)) (is_none (heap_of l t).worker) ready).1
 
   -- the worker holds nothing
-  hand_free : is_none (refused_holding (held_from k 0 l.heaps) None) ≡ true
-  hand_free = (none_unless (is_ready l t) _ _ (entry_tells w.program w.settings l e (ap is_none free)).2).1
+  free_of_tasks : is_none (refused_holding (held_from k 0 l.heaps) None) ≡ true
+  free_of_tasks = (none_unless (is_ready l t) _ _ (entry_tells w.program w.settings l e (ap is_none free)).2).1
 
   there : (x : Task) × (slice_get l.machine.tasks t ≡ Some x) × (x.status ≡ Running)
   there = task_of (slice_get l.machine.tasks t) running
@@ -164,7 +164,7 @@ module _ (w : SharedValue) (k t : ℕ) (I : IsSharedValue w) (free : refused w (
     room = j.room
 
     abbrev w' : SharedValue
-    w' = entered w e (with_state w.tree t Out) w.pool (slice_set w.homes t None) w.sets (slice_set w.hands k (Some t)) w.outputs w.steps w.end room
+    w' = entered w e (with_state w.tree t Out) w.pool (slice_set w.homes t None) w.sets (slice_set w.tasks_out k (Some t)) w.outputs w.steps w.end room
 
     abbrev v' : Memory
     v' = value_of w'
@@ -177,8 +177,8 @@ module _ (w : SharedValue) (k t : ℕ) (I : IsSharedValue w) (free : refused w (
 
     counts : TakesNode (totals_of w) (totals_of w') k t
     counts = record {
-      hand = ap flat (got_set w.hands k (Some t) (worker_there w e I free));
-      hands = λ c ne. ap flat (got_other w.hands k c (Some t) ne);
+      task_out = ap flat (got_set w.tasks_out k (Some t) (worker_there w e I free));
+      tasks_out = λ c ne. ap flat (got_other w.tasks_out k c (Some t) ne);
       node = node_by w.tree t Out (slice_get w.tree t) refl;
       others = λ u ne. node_off w.tree t Out (slice_get w.tree t) u ne;
       used = refl;
@@ -199,10 +199,10 @@ module _ (w : SharedValue) (k t : ℕ) (I : IsSharedValue w) (free : refused w (
         gone : {A : Type 0} → ◌≡◌ {A = Option Rest} None (Some r) → A
         gone x = absurd cc
 
-    measured_then : RestsAreMeasured w.pool w'.homes w'.hands
+    measured_then : RestsAreMeasured w.pool w'.homes w'.tasks_out
     measured_then u r is f = elim (cases_eq u t) [
       | inl q ↦ gone (sym (ap (rest_at w'.homes) q ∙ ap flat (got_set w.homes t None has_home)) ∙ is)
-      | inr ne ↦ I.measured u r (sym (homes_off u ne) ∙ is) (unheld_before w.hands k (Some t) u f (λ h. none_holds (held_from k 0 l.heaps) (sym (hand_now w I on k) ∙ h) hand_free))
+      | inr ne ↦ I.measured u r (sym (homes_off u ne) ∙ is) (unheld_before w.tasks_out k (Some t) u f (λ h. none_holds (held_from k 0 l.heaps) (sym (task_out_now w I on k) ∙ h) free_of_tasks))
     ]
       where
         gone : {A : Type 0} → ◌≡◌ {A = Option Rest} None (Some r) → A
@@ -210,7 +210,7 @@ module _ (w : SharedValue) (k t : ℕ) (I : IsSharedValue w) (free : refused w (
 
     pub took_world : IsSharedValue w'
     took_world =
-        entered_world w e I free w'.tree w.pool w'.homes w.sets w'.hands w.outputs w.steps w.end room (length-set w.homes t None ∙ (I.made ∙ sym (made_by w.tree t Out (slice_get w.tree t)))) (I.noted ∙ sym (made_by w.tree t Out (slice_get w.tree t))) (length-set w.hands k (Some t)) refl
+        entered_world w e I free w'.tree w.pool w'.homes w.sets w'.tasks_out w.outputs w.steps w.end room (length-set w.homes t None ∙ (I.made ∙ sym (made_by w.tree t Out (slice_get w.tree t)))) (I.noted ∙ sym (made_by w.tree t Out (slice_get w.tree t))) (length-set w.tasks_out k (Some t)) refl
         (took_stands_for w.program w.settings w.journal.items I.form I.legal v v' (totals_of w) (totals_of w') k t free I.stands but (λ u. record { keeps = refl; kept = refl; marked = refl }) counts)
         heaps_then measured_then
 
@@ -224,8 +224,8 @@ module _ (w : SharedValue) (k t : ℕ) (I : IsSharedValue w) (free : refused w (
 
       pub took_part : Fits w' k p
       took_part = record {
-        held = held_by_hand w e I free w'.tree w.pool w'.homes w.sets w'.hands w.outputs w.steps w.end room took_world k t counts.hand;
-        fits = subst (FitsValue w.program w.settings (part_of w.settings p) v') (sym (accounts_are w e I free w'.tree w.pool w'.homes w.sets w'.hands w.outputs w.steps w.end room))
+        held = held_when_out w e I free w'.tree w.pool w'.homes w.sets w'.tasks_out w.outputs w.steps w.end room took_world k t counts.task_out;
+        fits = subst (FitsValue w.program w.settings (part_of w.settings p) v') (sym (accounts_are w e I free w'.tree w.pool w'.homes w.sets w'.tasks_out w.outputs w.steps w.end room))
             (subst (λ (g : Home). FitsValue w.program w.settings (part_for w.settings t g 0) v' L) home_is (took_fits_then w.program w.settings w.journal.items I.legal v v' (totals_of w) k t free I.stands but));
         form = I.heaps t r rest_is;
         measured = (I.measured t r rest_is (unheld_at_rest w t I on rests), λ n i. absurd i);
@@ -236,5 +236,5 @@ module _ (w : SharedValue) (k t : ℕ) (I : IsSharedValue w) (free : refused w (
     -- THE PARTS OF OTHERS
     pub took_others : OthersFit w w' k
     took_others u q ne F =
-        part_fits w e I free w'.tree w.pool w'.homes w.sets w'.hands w.outputs w.steps w.end room took_world u q q (counts.hands u ne) F refl refl refl F.form F.measured
+        part_fits w e I free w'.tree w.pool w'.homes w.sets w'.tasks_out w.outputs w.steps w.end room took_world u q q (counts.tasks_out u ne) F refl refl refl F.form F.measured
         (took_leaves w.program w.settings w.journal.items I.legal v v' k t free but (part_of w.settings q) F.fits)

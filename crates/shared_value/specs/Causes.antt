@@ -33,7 +33,7 @@ is_state_ready (Some Ended) = false
 is_state_ready (Some Joined) = false
 
 abbrev pub took_cause : SharedValue → ℕ → ℕ → Option Refused
-took_cause w k t = refused_unless (is_state_ready (state_of w.tree t)) NotReady (refused_holding (flat (slice_get w.hands k)) None)
+took_cause w k t = refused_unless (is_state_ready (state_of w.tree t)) NotReady (refused_holding (flat (slice_get w.tasks_out k)) None)
 
 abbrev pub fuel_cause : SharedValue → Option Refused
 fuel_cause w = refused_unless (nat_le w.settings.fuel w.steps) (NotSpent w.steps) None

@@ -15,11 +15,11 @@ AreMeasured pool t ks = (k : ChunkValue) → In ks k → slot_at pool k.number �
 
 -- no worker holds the task
 abbrev pub IsUnheld : List (Option ℕ) → ℕ → Type 0
-IsUnheld hands t = (k : ℕ) → flat (slice_get hands k) ≢ Some t
+IsUnheld tasks_out t = (k : ℕ) → flat (slice_get tasks_out k) ≢ Some t
 
 -- it has the chunks of each task that no worker holds
 abbrev pub RestsAreMeasured : PoolValue → List (Option Rest) → List (Option ℕ) → Type 0
-RestsAreMeasured pool homes hands = (t : ℕ) (r : Rest) → rest_at homes t ≡ Some r → IsUnheld hands t → AreMeasured pool t r.heap.chunks
+RestsAreMeasured pool homes tasks_out = (t : ℕ) (r : Rest) → rest_at homes t ≡ Some r → IsUnheld tasks_out t → AreMeasured pool t r.heap.chunks
 
 -- it has a chunk of one unit for the task at each of these numbers
 abbrev pub AreUnits : PoolValue → ℕ → List ℕ → Type 0

@@ -36,7 +36,7 @@ pub record SharedValue : Type 0 where
   -- what is marked of each heap that is being marked; tasks behind the last have none
   pub marks : List (Option MarkingValue)
   -- the task that each worker holds
-  pub hands : List (Option ℕ)
+  pub tasks_out : List (Option ℕ)
   pub outputs : List ℤ
   pub journal : RoomyValue EntryValue
   pub steps : ℕ
@@ -125,7 +125,7 @@ value_of w = with_marks w.marks (value_by w.homes w.sets w.pool)
 abbrev pub totals_of : SharedValue → Totals
 totals_of w = record {
   node = slice_get w.tree;
-  hand = λ k. flat (slice_get w.hands k);
+  task_out = λ k. flat (slice_get w.tasks_out k);
   used = units_in_use w.pool;
   steps = w.steps;
   outputs = w.outputs;

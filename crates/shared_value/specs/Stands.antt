@@ -37,9 +37,9 @@ pub record IsSharedValue (w : SharedValue) : Type 0 where
   pub legal : is_legal w.program w.settings w.journal.items ≡ true
   pub made : length w.homes ≡ length w.tree
   pub noted : length w.sets ≡ length w.tree
-  pub workers : length w.hands ≡ w.settings.workers
+  pub workers : length w.tasks_out ≡ w.settings.workers
   pub limit : w.pool.limit ≡ w.settings.chunks
   pub stands : StandsForAll (value_of w) (totals_of w) (accounts w)
   pub heaps : (t : ℕ) (r : Rest) → rest_at w.homes t ≡ Some r → HeapForm r.heap
   -- the pool has just the units of each chunk
-  pub measured : RestsAreMeasured w.pool w.homes w.hands
+  pub measured : RestsAreMeasured w.pool w.homes w.tasks_out

@@ -9,7 +9,7 @@ use Rattle.shared_value.specs.Fits.{AllFit, Fits}
 use Rattle.shared_value.specs.Stands.{IsSharedValue}
 use Rattle.shared_value.specs.SharedValue.{SharedValue, accounts}
 use Rattle.child_tasks.specs.ChildEnds.{running_parent}
-use Rattle.child_tasks.specs.Hands.{HoldsNone}
+use Rattle.child_tasks.specs.NoTask.{HoldsNone}
 use Rattle.turn_entries.specs.declared.act.Acted.{Acted}
 use Rattle.turn_entries.specs.declared.act.Acted.TheVariants.{Entered, Same}
 use Rattle.turn_entries.specs.declared.held.Next.{Next}

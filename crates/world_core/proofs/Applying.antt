@@ -1,4 +1,4 @@
--- What an entry makes of all hands, from what it makes of its worker's.
+-- What an entry makes of all holdings, from what it makes of its worker's.
 use Rattle.std.proofs.Common.{◌≡◌, ℕ, true, false, Some, Result, Ok, Err, List, [], ◌∷◌, ◌++◌, length, slice_get, slice_set, refl, ap, sym, subst, ◌∙◌}
 use Rattle.std.proofs.lemmas.Bool.{false≢true}
 use Rattle.run_trace.specs.Entry.{EntryValue}
@@ -41,9 +41,9 @@ refused_before w k kind cause I own first =
     ∙ (ap (λ b. or_else (first_cause w.end w.steps w.settings k b) (kind_refusal w.program w.settings (accounts w) k kind)) (own_fuel kind own)
     ∙ ap (λ o. or_else o (kind_refusal w.program w.settings (accounts w) k kind)) first)
 
-pub stopped_before : (w : SharedValue) (k : ℕ) (kind : Kind) (cause : Refused) (hands : List Held) → IsSharedValue w → is_own kind ≡ true → first_cause w.end w.steps w.settings k false ≡ Some cause → AllHold w false hands
-    → RefusesAll w w (record { worker = k; kind = kind }) cause hands
-stopped_before w k kind cause hands I own first H = record { cause_is = refused_before w k kind cause I own first; same = refl; holds = all_stop w hands H }
+pub stopped_before : (w : SharedValue) (k : ℕ) (kind : Kind) (cause : Refused) (holdings : List Held) → IsSharedValue w → is_own kind ≡ true → first_cause w.end w.steps w.settings k false ≡ Some cause → AllHold w false holdings
+    → RefusesAll w w (record { worker = k; kind = kind }) cause holdings
+stopped_before w k kind cause holdings I own first H = record { cause_is = refused_before w k kind cause I own first; same = refl; holds = all_stop w holdings H }
 
 -- ---- WANT OF MEMORY
 
@@ -61,35 +61,35 @@ reserved_by w after S = record {
 
 -- ---- AN ENTRY OF A WORKER
 
-module _ (w after : SharedValue) (e : EntryValue) (I : IsSharedValue w) (hands : List Held) (was : Held) (there : slice_get hands e.worker ≡ Some was) (H : AllHold w false hands) (between : Held) where
-  pub made_all : (hand : Held) (r : Result (Unit {0}) NotEntered) → AnswersFor w after e.worker e hand r → AnswersAll w after e (slice_set (slice_set hands e.worker between) e.worker hand) r
-  made_all hand (Ok x) R = record {
+module _ (w after : SharedValue) (e : EntryValue) (I : IsSharedValue w) (holdings : List Held) (was : Held) (there : slice_get holdings e.worker ≡ Some was) (H : AllHold w false holdings) (between : Held) where
+  pub made_all : (holding : Held) (r : Result (Unit {0}) NotEntered) → AnswersFor w after e.worker e holding r → AnswersAll w after e (slice_set (slice_set holdings e.worker between) e.worker holding) r
+  made_all holding (Ok x) R = record {
     free = R.free;
     enters = R.enters;
-    holds = all_with w after false false hands e.worker was between hand there H (λ j ne h K. others_hold w after e R.enters R.free R.others j ne h K) R.holds;
+    holds = all_with w after false false holdings e.worker was between holding there H (λ j ne h K. others_hold w after e R.enters R.free R.others j ne h K) R.holds;
   }
-  made_all hand (Err (Refuses cause)) R = record {
+  made_all holding (Err (Refuses cause)) R = record {
     cause_is = R.cause_is;
     same = subst (SameButRoomier w) (sym R.same) refl;
-    holds = all_with w after false true hands e.worker was between hand there H (λ j ne h K. subst (λ z. Holds z true j h) (sym R.same) (stops w j h K)) R.holds;
+    holds = all_with w after false true holdings e.worker was between holding there H (λ j ne h K. subst (λ z. Holds z true j h) (sym R.same) (stops w j h K)) R.holds;
   }
-  made_all hand (Err NoMemory) R = record {
+  made_all holding (Err NoMemory) R = record {
     same = reserved_by w after R.same;
     holds =
-        all_with w after false true hands e.worker was between hand there H
+        all_with w after false true holdings e.worker was between holding there H
         (λ j ne h K. wants w after (ap (λ (z : SharedValue). accounts z) R.same.rest) R.still j h K) R.holds;
   }
 
 -- ---- ONE FOR A TASK THAT NO WORKER HOLDS
 
-pub apart_all : (w after : SharedValue) (e : EntryValue) (hands : List Held) (r : Result (Unit {0}) NotEntered) → IsSharedValue w → is_own e.kind ≡ false → AllHold w false hands → AnswersApart w after e r → AnswersAll w after e hands r
-apart_all w after e hands (Ok x) I own H R = record { free = R.free; enters = R.enters; holds = λ k h at. each_holds w after e R.enters R.free own R.fit k h (H k h at) }
-apart_all w after e hands (Err (Refuses cause)) I own H R = record {
+pub apart_all : (w after : SharedValue) (e : EntryValue) (holdings : List Held) (r : Result (Unit {0}) NotEntered) → IsSharedValue w → is_own e.kind ≡ false → AllHold w false holdings → AnswersApart w after e r → AnswersAll w after e holdings r
+apart_all w after e holdings (Ok x) I own H R = record { free = R.free; enters = R.enters; holds = λ k h at. each_holds w after e R.enters R.free own R.fit k h (H k h at) }
+apart_all w after e holdings (Err (Refuses cause)) I own H R = record {
   cause_is = R.0;
   same = subst (SameButRoomier w) (sym R.1) refl;
-  holds = subst (λ z. AllHold z true hands) (sym R.1) (all_stop w hands H);
+  holds = subst (λ z. AllHold z true holdings) (sym R.1) (all_stop w holdings H);
 }
-apart_all w after e hands (Err NoMemory) I own H R = record { same = reserved_by w after (places_same w after R); holds = subst (λ z. AllHold z true hands) (sym R) (all_stop w hands H) }
+apart_all w after e holdings (Err NoMemory) I own H R = record { same = reserved_by w after (places_same w after R); holds = subst (λ z. AllHold z true holdings) (sym R) (all_stop w holdings H) }
 
 -- ---- WITH ROOM FOR AN ENTRY
 
@@ -97,23 +97,23 @@ module _ (w mid : SharedValue) (roomier : SameButRoomier w mid) (fit : AllFit w 
   same_accounts : accounts mid ≡ accounts w
   same_accounts = ap (λ (z : SharedValue). accounts z) roomier
 
-  pub all_mid : (hands : List Held) → AllHold w false hands → AllHold mid false hands
-  all_mid hands H = subst (λ z. AllHold z false hands) (sym roomier) (by mid.journal.room (subst (AllFit w) roomier fit))
+  pub all_mid : (holdings : List Held) → AllHold w false holdings → AllHold mid false holdings
+  all_mid holdings H = subst (λ z. AllHold z false holdings) (sym roomier) (by mid.journal.room (subst (AllFit w) roomier fit))
     where
-      by : (room : ℕ) → AllFit w (record w { journal = record { items = w.journal.items; room = room } }) → AllHold (record w { journal = record { items = w.journal.items; room = room } }) false hands
+      by : (room : ℕ) → AllFit w (record w { journal = record { items = w.journal.items; room = room } }) → AllHold (record w { journal = record { items = w.journal.items; room = room } }) false holdings
       by room A k h at = carried w (record w { journal = record { items = w.journal.items; room = room } }) false false k (λ q. q)
           (λ p K. record { fits = A k p K.fits; idle = K.idle; entered = K.entered })
           (λ p moved K. copy_of w (record w { journal = record { items = w.journal.items; room = room } }) k p moved K (A k K.before K.fits))
           (λ K t q. K t q) h (H k h at)
 
-  pub wants_room : (hands : List Held) → AllHold w false hands → WantsAll w mid hands
-  wants_room hands H = record {
+  pub wants_room : (holdings : List Held) → AllHold w false holdings → WantsAll w mid holdings
+  wants_room holdings H = record {
     same = record { journal = ap (λ (z : SharedValue). z.journal.items) roomier; rest = places_same w (record mid { journal = w.journal }) (ap (λ (z : SharedValue). let y : SharedValue = record z { journal = w.journal } in y) roomier) };
     holds = λ k h at. wants w mid same_accounts fit k h (H k h at);
   }
 
-  pub from_room : (after : SharedValue) (e : EntryValue) (hands : List Held) (r : Result (Unit {0}) NotEntered) → AnswersAll mid after e hands r → AnswersAll w after e hands r
-  from_room after e hands (Ok x) R = record {
+  pub from_room : (after : SharedValue) (e : EntryValue) (holdings : List Held) (r : Result (Unit {0}) NotEntered) → AnswersAll mid after e holdings r → AnswersAll w after e holdings r
+  from_room after e holdings (Ok x) R = record {
     free = ap (λ (z : SharedValue). refused z e) (sym roomier) ∙ R.free;
     enters = record {
       journal = R.enters.journal ∙ ap (λ (z : SharedValue). let js : List EntryValue = z.journal.items in js ++ e ∷ []) roomier;
@@ -123,12 +123,12 @@ module _ (w mid : SharedValue) (roomier : SameButRoomier w mid) (fit : AllFit w 
     };
     holds = R.holds;
   }
-  from_room after e hands (Err (Refuses cause)) R = record {
+  from_room after e holdings (Err (Refuses cause)) R = record {
     cause_is = ap (λ (z : SharedValue). refused z e) (sym roomier) ∙ R.cause_is;
     same = R.same ∙ ap (λ (z : SharedValue). let y : SharedValue = record z { journal = record { items = z.journal.items; room = after.journal.room } } in y) roomier;
     holds = R.holds;
   }
-  from_room after e hands (Err NoMemory) R = record {
+  from_room after e holdings (Err NoMemory) R = record {
     same = record {
       journal = R.same.journal ∙ ap (λ (z : SharedValue). z.journal.items) roomier;
       rest = by_room (R.same.rest);

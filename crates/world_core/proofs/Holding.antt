@@ -19,7 +19,7 @@ use Rattle.shared_value.specs.Fits.{AllFit, Fits, OthersFit}
 use Rattle.shared_value.specs.SharedValue.{SharedValue, accounts}
 use Rattle.shared_value.proofs.JournalGoesOn.{accounts_then}
 use Rattle.shared_value.proofs.EntryMade.{entry_on, held_by_end}
-use Rattle.child_tasks.specs.Hands.{HoldsNone}
+use Rattle.child_tasks.specs.NoTask.{HoldsNone}
 use Rattle.child_tasks.specs.Joins.{SameButPlaces}
 use Rattle.child_tasks.proofs.JoinPlaces.{same_world}
 use Rattle.world_core.specs.declared.held.Held.{Held}
@@ -85,8 +85,8 @@ part_stops w k p H = record { fits = H.fits; idle = H.idle; entered = λ q. absu
 pub stops : (w : SharedValue) (k : ℕ) (h : Held) → Holds w false k h → Holds w true k h
 stops w k = carried w w false true k (λ q. absurd (false≢true (sym q))) (λ p H. part_stops w k p H) (λ p moved H. H) (λ H. H)
 
-pub all_stop : (w : SharedValue) (hands : List Held) → AllHold w false hands → AllHold w true hands
-all_stop w hands H k h e = stops w k h (H k h e)
+pub all_stop : (w : SharedValue) (holdings : List Held) → AllHold w false holdings → AllHold w true holdings
+all_stop w holdings H k h e = stops w k h (H k h e)
 
 -- for want of memory: the accounts are as they were
 pub wants : (w w' : SharedValue) → accounts w' ≡ accounts w → AllFit w w' → (k : ℕ) (h : Held) → Holds w false k h → Holds w' true k h
@@ -98,12 +98,12 @@ wants w w' same A k =
 
 -- ---- ALL HANDS, one of them another
 
-pub all_with : (w w' : SharedValue) (stopped stops : Bool) (hands : List Held) (k : ℕ) (was old new : Held) → slice_get hands k ≡ Some was → AllHold w stopped hands → ((j : ℕ) → j ≢ k → (h : Held) → Holds w stopped j h → Holds w' stops j h) → Holds w' stops k new
-    → AllHold w' stops (slice_set (slice_set hands k old) k new)
-all_with w w' stopped stops hands k was old new there H others own j h e = elim (cases_eq j k) [
+pub all_with : (w w' : SharedValue) (stopped stops : Bool) (holdings : List Held) (k : ℕ) (was old new : Held) → slice_get holdings k ≡ Some was → AllHold w stopped holdings → ((j : ℕ) → j ≢ k → (h : Held) → Holds w stopped j h → Holds w' stops j h) → Holds w' stops k new
+    → AllHold w' stops (slice_set (slice_set holdings k old) k new)
+all_with w w' stopped stops holdings k was old new there H others own j h e = elim (cases_eq j k) [
   | inl q ↦
-      let at : slice_get (slice_set (slice_set hands k old) k new) k ≡ Some h = ap (slice_get (slice_set (slice_set hands k old) k new)) (sym q) ∙ e in
-      let is : new ≡ h = same_Some new h (sym (got_same (slice_set hands k old) k old new (got_same hands k was old there)) ∙ at) in
+      let at : slice_get (slice_set (slice_set holdings k old) k new) k ≡ Some h = ap (slice_get (slice_set (slice_set holdings k old) k new)) (sym q) ∙ e in
+      let is : new ≡ h = same_Some new h (sym (got_same (slice_set holdings k old) k old new (got_same holdings k was old there)) ∙ at) in
       subst (λ i. Holds w' stops i h) (sym q) (subst (Holds w' stops k) is own)
-  | inr ne ↦ others j ne h (H j h (sym (got_other hands k j old ne) ∙ (sym (got_other (slice_set hands k old) k j new ne) ∙ e)))
+  | inr ne ↦ others j ne h (H j h (sym (got_other holdings k j old ne) ∙ (sym (got_other (slice_set holdings k old) k j new ne) ∙ e)))
 ]

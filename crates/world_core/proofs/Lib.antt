@@ -1,7 +1,7 @@
 pub mod Entries
 pub mod WasHeld
 pub mod Holding
-pub mod HandCauses
+pub mod HoldingCauses
 pub mod Standing
 pub mod Aside
 pub mod Together

@@ -28,20 +28,20 @@ use Rattle.shared_tree.proofs.Joints.{fit_by}
 use Rattle.world_core.specs.declared.held.Held.{Held}
 use Rattle.world_core.specs.declared.held.Held.TheVariants.{Part, Copied}
 use Rattle.world_core.specs.declared.held.Made.{Made}
-use Rattle.world_core.specs.Applied.{AnswersFor, EntersFor, MakesFor, RefusesFor, hand_of}
+use Rattle.world_core.specs.Applied.{AnswersFor, EntersFor, MakesFor, RefusesFor, holding_of}
 use Rattle.world_core.specs.WorldValue.{Holds, HoldsCopy, HoldsPart}
-use Rattle.world_core.proofs.HandCauses.{copy_fits, said}
+use Rattle.world_core.proofs.HoldingCauses.{copy_fits, said}
 use Rattle.world_core.proofs.Holding.{part_stops, places_same, stops}
 
 -- ---- REFUSED
 
 -- nothing has changed
-pub refuses_for : (w after : SharedValue) (k : ℕ) (e : EntryValue) (cause : Refused) (hand : Held) → after ≡ w → refused w e ≡ Some cause → Holds w false k hand → RefusesFor w after k e cause hand
-refuses_for w after k e cause hand same is H = record { cause_is = is; same = same; holds = subst (λ z. Holds z true k hand) (sym same) (stops w k hand H) }
+pub refuses_for : (w after : SharedValue) (k : ℕ) (e : EntryValue) (cause : Refused) (holding : Held) → after ≡ w → refused w e ≡ Some cause → Holds w false k holding → RefusesFor w after k e cause holding
+refuses_for w after k e cause holding same is H = record { cause_is = is; same = same; holds = subst (λ z. Holds z true k holding) (sym same) (stops w k holding H) }
 
--- for what the hand holds
-pub apart_made : (w : SharedValue) (k : ℕ) (e : EntryValue) (hand back : Held) (cause : Refused) (made : Made) → made ≡ record { hand = back; answer = Err (Refuses cause) } → back ≡ hand → Holds w false k hand → refused w e ≡ Some cause → MakesFor w w k e made
-apart_made w k e hand back cause made is same H why =
+-- for what the worker holds
+pub apart_made : (w : SharedValue) (k : ℕ) (e : EntryValue) (holding back : Held) (cause : Refused) (made : Made) → made ≡ record { holding = back; answer = Err (Refuses cause) } → back ≡ holding → Holds w false k holding → refused w e ≡ Some cause → MakesFor w w k e made
+apart_made w k e holding back cause made is same H why =
     subst (MakesFor w w k e) (sym is) (refuses_for w w k e cause back refl why (subst (Holds w false k) (sym same) H))
 
 -- ---- THE PART OF A HAND, before and after
@@ -88,7 +88,7 @@ halts_made w after k p q idle free R = record {
 }
 
 -- and one that gives the part up
-pub ran_made : (w after : SharedValue) (k : ℕ) (p : Private) (r : Ran) → p.begun ≡ None → refused w (alone_event k p) ≡ None → RanTo w after k p r → EntersFor w after k (alone_event k p) (hand_of r)
+pub ran_made : (w after : SharedValue) (k : ℕ) (p : Private) (r : Ran) → p.begun ≡ None → refused w (alone_event k p) ≡ None → RanTo w after k p r → EntersFor w after k (alone_event k p) (holding_of r)
 ran_made w after k p (Forked left right) idle free R = record { free = free; enters = R.0.enters; others = R.0.others; holds = R.1 }
 ran_made w after k p (Ended resumed) idle free R = record { free = free; enters = R.0.enters; others = R.0.others; holds = R.1 }
 ran_made w after k p (Over q) idle free R = halts_made w after k p q idle free R

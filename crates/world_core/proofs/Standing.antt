@@ -34,7 +34,7 @@ use Rattle.shared_value.proofs.StepsEntered.{fits_now, goes}
 use Rattle.own_steps.specs.Alone.{IsShared, machine_after}
 use Rattle.own_steps.proofs.LastSteps as last
 use Rattle.world_core.specs.Next.{IsNext, standing_by}
-use Rattle.world_core.proofs.HandCauses.{behind, on}
+use Rattle.world_core.proofs.HoldingCauses.{behind, on}
 
 -- ---- BEHIND PRIVATE STEPS
 

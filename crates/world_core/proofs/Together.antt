@@ -35,7 +35,7 @@ use Rattle.world_core.specs.declared.held.Held.TheVariants.{Nothing, Part, Copie
 use Rattle.world_core.specs.Together.{AreParts, HoldsOneOf, IsPartIn, PartsStand, StandsTogether, with_parts}
 use Rattle.world_core.specs.WorldValue.{Holds, IsWhole, WorldValue}
 use Rattle.world_core.proofs.Aside.{fits_aside, knows_aside, stands_aside}
-use Rattle.world_core.proofs.HandCauses.{copy_fits}
+use Rattle.world_core.proofs.HoldingCauses.{copy_fits}
 use Rattle.world_core.proofs.WasHeld.{WasHeld, one_held, steps_held, then_held}
 
 -- ---- THE PARTS
@@ -44,12 +44,12 @@ not_of : (t : ℕ) (qs : List PartOf) → ((q : PartOf) → In qs q → t ≡ q.
 not_of t [] h = tt
 not_of t (q ∷ qs) h = (h q (inl refl), not_of t qs (λ r i. h r (inr i)))
 
--- the parts in some hands, of which the j-th is that of the worker `of j`
-record Found (w : SharedValue) (of : ℕ → ℕ) (hands : List Held) : Type 0 where
+-- the parts in some holdings, of which the j-th is that of the worker `of j`
+record Found (w : SharedValue) (of : ℕ → ℕ) (holdings : List Held) : Type 0 where
   parts : List PartOf
   fit : AllFit w.program w.settings parts (value_of w) (accounts w)
-  from : (q : PartOf) → In parts q → (j : ℕ) × (h : Held) × (slice_get hands j ≡ Some h) × IsPartIn w (of j) h q × ((heap_of (accounts w) q.task).worker ≡ Some (of j))
-  all : (j : ℕ) (h : Held) → slice_get hands j ≡ Some h → HoldsOneOf w (of j) h parts
+  from : (q : PartOf) → In parts q → (j : ℕ) × (h : Held) × (slice_get holdings j ≡ Some h) × IsPartIn w (of j) h q × ((heap_of (accounts w) q.task).worker ≡ Some (of j))
+  all : (j : ℕ) (h : Held) → slice_get holdings j ≡ Some h → HoldsOneOf w (of j) h parts
 
 one_more : (w : SharedValue) (k : ℕ) (h : Held) (qs : List PartOf) (q : PartOf) → HoldsOneOf w k h qs → HoldsOneOf w k h (q ∷ qs)
 one_more w k Nothing qs q H = tt
@@ -62,7 +62,7 @@ here w k (Part p) qs q i = (q, inl refl, i)
 here w k (Copied p moved) qs q i = (q, inl refl, i)
 
 module _ (w : SharedValue) (holders : HoldsTasks (accounts w)) where
-  -- a hand that holds a part, before others
+  -- a holding of a part, before others
   with_part : (of : ℕ → ℕ) → ((i j : ℕ) → of i ≡ of j → i ≡ j) → (h : Held) (hs : List Held) (q : PartOf) → IsPartIn w (of 0) h q → FitsValue w.program w.settings q (value_of w) (accounts w) → (heap_of (accounts w) q.task).worker ≡ Some (of 0)
       → Found w (λ j. of (suc j)) hs → Found w of (h ∷ hs)
   with_part of inj h hs q i F held R = record {
@@ -182,24 +182,24 @@ module _ (x : WorldValue) (I : IsSharedValue x.shared) (W : IsWhole x) where
   all_fit [] A = tt
   all_fit (q ∷ qs) A = (one_fits q A.0, A.1, all_fit qs A.2)
 
-  R : Found w (λ j. j) x.hands
-  R = found w holds_tasks x.stopped (λ j. j) (λ i j e. e) x.hands W.hands
+  R : Found w (λ j. j) x.holdings
+  R = found w holds_tasks x.stopped (λ j. j) (λ i j e. e) x.holdings W.holdings
 
   parts_are : AreParts x R.parts
   parts_are = record {
-    each = λ q m. (let z = R.from q m in (z.0, record { hand = z.1; is = z.2; part = z.3 }));
+    each = λ q m. (let z = R.from q m in (z.0, record { holding = z.1; is = z.2; part = z.3 }));
     all = R.all;
   }
 
   -- who holds a task holds its part
   out : (t k : ℕ) → (heap_of L t).worker ≡ Some k → Rests (with_parts w R.parts) t
-  out t k e = by hand.0 (W.hands k hand.0 hand.1) (R.all k hand.0 hand.1)
+  out t k e = by holding.0 (W.holdings k holding.0 holding.1) (R.all k holding.0 holding.1)
     where
-      listed : slice_get w.hands k ≡ Some (Some t)
-      listed = some_flat (slice_get w.hands k) t ((I.stands.totals.hand k t).1 e)
+      listed : slice_get w.tasks_out k ≡ Some (Some t)
+      listed = some_flat (slice_get w.tasks_out k) t ((I.stands.totals.task_out k t).1 e)
 
-      hand : (h : Held) × (slice_get x.hands k ≡ Some h)
-      hand = got_some x.hands k (let a = got_within w.hands k (Some t) listed in let b = I.workers in let c = W.count in omega (arith, a, b, c))
+      holding : (h : Held) × (slice_get x.holdings k ≡ Some h)
+      holding = got_some x.holdings k (let a = got_within w.tasks_out k (Some t) listed in let b = I.workers in let c = W.count in omega (arith, a, b, c))
 
       at : (q : PartOf) (u : ℕ) → q.task ≡ u → In R.parts q → (heap_of l u).worker ≡ Some k → Rests (with_parts w R.parts) t
       at q u is m held = freed w.program R.parts L t q m (is ∙ holds_tasks.one u t k held (held_by_end l l.end t k e))
@@ -227,5 +227,5 @@ module _ (x : WorldValue) (I : IsSharedValue x.shared) (W : IsWhole x) where
   pub stands_together : StandsTogether x
   stands_together = record {
     parts = parts_stand;
-    copies = λ k p moved e. copy_fits w k p moved I (W.hands k (Copied p moved) e);
+    copies = λ k p moved e. copy_fits w k p moved I (W.holdings k (Copied p moved) e);
   }

@@ -44,11 +44,11 @@ copied_cause (Part p) t = if p.task == t then Some NotCollecting else Some NotOu
 copied_cause (Copied p moved) t = if p.task == t then None else Some NotOut
 
 -- what a worker holds once a step is entered that gives its part up
-abbrev pub hand_of : Ran → Held
-hand_of (Forked left right) = Nothing
-hand_of (Ended resumed) = Nothing
-hand_of (Over p) = Part p
-hand_of Done = Nothing
+abbrev pub holding_of : Ran → Held
+holding_of (Forked left right) = Nothing
+holding_of (Ended resumed) = Nothing
+holding_of (Over p) = Part p
+holding_of Done = Nothing
 
 -- ---- AN ENTRY OF A WORKER, and what the worker holds then
 
@@ -60,29 +60,29 @@ is_own (Sweep t given) = false
 is_own Fuel = false
 is_own _ = true
 
-pub record EntersFor (w after : SharedValue) (k : ℕ) (e : EntryValue) (hand : Held) : Type 0 where
+pub record EntersFor (w after : SharedValue) (k : ℕ) (e : EntryValue) (holding : Held) : Type 0 where
   pub free : refused w e ≡ None
   pub enters : Enters w after e
   pub others : OthersFit w after k
-  pub holds : Holds after false k hand
+  pub holds : Holds after false k holding
 
-pub record RefusesFor (w after : SharedValue) (k : ℕ) (e : EntryValue) (cause : Refused) (hand : Held) : Type 0 where
+pub record RefusesFor (w after : SharedValue) (k : ℕ) (e : EntryValue) (cause : Refused) (holding : Held) : Type 0 where
   pub cause_is : refused w e ≡ Some cause
   pub same : after ≡ w
-  pub holds : Holds after true k hand
+  pub holds : Holds after true k holding
 
-pub record WantsFor (w after : SharedValue) (k : ℕ) (hand : Held) : Type 0 where
+pub record WantsFor (w after : SharedValue) (k : ℕ) (holding : Held) : Type 0 where
   pub same : SameButPlaces w after
   pub still : AllFit w after
-  pub holds : Holds after true k hand
+  pub holds : Holds after true k holding
 
 abbrev pub AnswersFor : SharedValue → SharedValue → ℕ → EntryValue → Held → Result (Unit {0}) NotEntered → Type 0
-AnswersFor w after k e hand (Ok x) = EntersFor w after k e hand
-AnswersFor w after k e hand (Err (Refuses cause)) = RefusesFor w after k e cause hand
-AnswersFor w after k e hand (Err NoMemory) = WantsFor w after k hand
+AnswersFor w after k e holding (Ok x) = EntersFor w after k e holding
+AnswersFor w after k e holding (Err (Refuses cause)) = RefusesFor w after k e cause holding
+AnswersFor w after k e holding (Err NoMemory) = WantsFor w after k holding
 
 abbrev pub MakesFor : SharedValue → SharedValue → ℕ → EntryValue → Made → Type 0
-MakesFor w after k e made = AnswersFor w after k e made.hand made.answer
+MakesFor w after k e made = AnswersFor w after k e made.holding made.answer
 
 -- ---- AN ENTRY FOR A TASK THAT NO WORKER HOLDS, or the end for spent fuel
 
@@ -98,24 +98,24 @@ AnswersApart w after e (Err NoMemory) = after ≡ w
 
 -- ---- AN ENTRY, and what all workers hold then
 
-pub record EntersAll (w after : SharedValue) (e : EntryValue) (hands : List Held) : Type 0 where
+pub record EntersAll (w after : SharedValue) (e : EntryValue) (holdings : List Held) : Type 0 where
   pub free : refused w e ≡ None
   pub enters : Enters w after e
-  pub holds : AllHold after false hands
+  pub holds : AllHold after false holdings
 
-pub record RefusesAll (w after : SharedValue) (e : EntryValue) (cause : Refused) (hands : List Held) : Type 0 where
+pub record RefusesAll (w after : SharedValue) (e : EntryValue) (cause : Refused) (holdings : List Held) : Type 0 where
   pub cause_is : refused w e ≡ Some cause
   pub same : SameButRoomier w after
-  pub holds : AllHold after true hands
+  pub holds : AllHold after true holdings
 
-pub record WantsAll (w after : SharedValue) (hands : List Held) : Type 0 where
+pub record WantsAll (w after : SharedValue) (holdings : List Held) : Type 0 where
   pub same : SameButReserved w after
-  pub holds : AllHold after true hands
+  pub holds : AllHold after true holdings
 
 abbrev pub AnswersAll : SharedValue → SharedValue → EntryValue → List Held → Result (Unit {0}) NotEntered → Type 0
-AnswersAll w after e hands (Ok x) = EntersAll w after e hands
-AnswersAll w after e hands (Err (Refuses cause)) = RefusesAll w after e cause hands
-AnswersAll w after e hands (Err NoMemory) = WantsAll w after hands
+AnswersAll w after e holdings (Ok x) = EntersAll w after e holdings
+AnswersAll w after e holdings (Err (Refuses cause)) = RefusesAll w after e cause holdings
+AnswersAll w after e holdings (Err NoMemory) = WantsAll w after holdings
 
 -- ---- AN ENTRY OF THE WORLD
 

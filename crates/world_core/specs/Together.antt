@@ -24,9 +24,9 @@ IsPartIn w k (Copied p moved) q = (H : HoldsCopy w k p moved) × (q ≡ part_of 
 
 -- a worker holds it
 pub record IsHeldBy (x : WorldValue) (k : ℕ) (q : PartOf) : Type 0 where
-  pub hand : Held
-  pub is : slice_get x.hands k ≡ Some hand
-  pub part : IsPartIn x.shared k hand q
+  pub holding : Held
+  pub is : slice_get x.holdings k ≡ Some holding
+  pub part : IsPartIn x.shared k holding q
 
 -- a worker that holds something holds one of these
 abbrev pub HoldsOneOf : SharedValue → ℕ → Held → List PartOf → Type 0
@@ -36,7 +36,7 @@ HoldsOneOf w k h qs = (q : PartOf) × In qs q × IsPartIn w k h q
 -- these are the parts that workers hold
 pub record AreParts (x : WorldValue) (qs : List PartOf) : Type 0 where
   pub each : (q : PartOf) → In qs q → (k : ℕ) × IsHeldBy x k q
-  pub all : (k : ℕ) (h : Held) → slice_get x.hands k ≡ Some h → HoldsOneOf x.shared k h qs
+  pub all : (k : ℕ) (h : Held) → slice_get x.holdings k ≡ Some h → HoldsOneOf x.shared k h qs
 
 -- the accounts with the fresh steps of all parts, their tasks at rest: the machine's end is left aside, and once the run is done the
 -- root is handed back
@@ -54,4 +54,4 @@ pub record PartsStand (x : WorldValue) : Type 0 where
 -- the parts stand together, and the copy of each heap between the begin and the end of its collection is one
 pub record StandsTogether (x : WorldValue) : Type 0 where
   pub parts : PartsStand x
-  pub copies : (k : ℕ) (p : Private) (moved : Moved) → slice_get x.hands k ≡ Some (Copied p moved) → FitsCopied x.shared k p moved
+  pub copies : (k : ℕ) (p : Private) (moved : Moved) → slice_get x.holdings k ≡ Some (Copied p moved) → FitsCopied x.shared k p moved

@@ -8,14 +8,14 @@ use Rattle.task_machine.specs.declared.part.Begun.{Begun}
 use Rattle.task_machine.specs.declared.part.Private.{Private}
 use Rattle.shared_value.specs.Fits.{Fits}
 use Rattle.shared_value.specs.SharedValue.{SharedValue}
-use Rattle.child_tasks.specs.Hands.{HoldsNone}
+use Rattle.child_tasks.specs.NoTask.{HoldsNone}
 use Rattle.world_core.specs.declared.held.Held.{Held}
 use Rattle.world_core.specs.declared.held.Held.TheVariants.{Nothing, Part, Copied}
 
 pub record WorldValue : Type 0 where
   pub shared : SharedValue
   -- by worker
-  pub hands : List Held
+  pub holdings : List Held
   -- an entry was refused, or memory was wanting
   pub stopped : Bool
 
@@ -46,8 +46,8 @@ Holds w stopped k (Part p) = HoldsPart w stopped k p
 Holds w stopped k (Copied p moved) = HoldsCopy w k p moved
 
 abbrev pub AllHold : SharedValue → Bool → List Held → Type 0
-AllHold w stopped hands = (k : ℕ) (h : Held) → slice_get hands k ≡ Some h → Holds w stopped k h
+AllHold w stopped holdings = (k : ℕ) (h : Held) → slice_get holdings k ≡ Some h → Holds w stopped k h
 
 pub record IsWhole (x : WorldValue) : Type 0 where
-  pub count : length x.hands ≡ x.shared.settings.workers
-  pub hands : AllHold x.shared x.stopped x.hands
+  pub count : length x.holdings ≡ x.shared.settings.workers
+  pub holdings : AllHold x.shared x.stopped x.holdings

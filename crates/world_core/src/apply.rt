@@ -21,23 +21,23 @@ use shared_tree::NotEntered;
 use std::mem;
 
 // A worker that may make entries makes one for a task that it takes or holds.
-fn make_for(shared: &mut Counted, worker: u32, hand: Held, kind: Kind) -> Made
+fn make_for(shared: &mut Counted, worker: u32, holding: Held, kind: Kind) -> Made
     requires room { 0 < shared.old.journal.room }
     requires first { first_cause shared.old.end shared.old.steps shared.old.settings worker false ≡ None }
-    requires holds { Holds shared.old false worker hand }
+    requires holds { Holds shared.old false worker holding }
     requires kind { IsKind kind }
     requires own { is_own kind ≡ true }
     ensures { MakesFor shared.old shared.new worker (record { worker = worker; kind = kind }) result }
 {
     match kind {
-        Kind::Took(t) => apply_took(shared, worker, hand, t),
-        Kind::Ran(t, steps) => apply_ran(shared, worker, hand, t, steps),
-        Kind::Chunk(t) => apply_chunk(shared, worker, hand, t),
-        Kind::Begin(t) => apply_begin(shared, worker, hand, t),
+        Kind::Took(t) => apply_took(shared, worker, holding, t),
+        Kind::Ran(t, steps) => apply_ran(shared, worker, holding, t, steps),
+        Kind::Chunk(t) => apply_chunk(shared, worker, holding, t),
+        Kind::Begin(t) => apply_begin(shared, worker, holding, t),
         Kind::End(t, taken, given, left) => {
-            apply_end(shared, worker, hand, t, taken, given, left)
+            apply_end(shared, worker, holding, t, taken, given, left)
         }
-        Kind::PutOff(t) => apply_put_off(shared, worker, hand, t),
+        Kind::PutOff(t) => apply_put_off(shared, worker, holding, t),
         _ => unreachable!(),
     }
 }
@@ -45,26 +45,26 @@ fn make_for(shared: &mut Counted, worker: u32, hand: Held, kind: Kind) -> Made
 // A worker makes an entry for a task that it takes or holds, if it may make entries.
 fn make_own(
     shared: &mut Counted,
-    hands: &mut Listed<Held>,
+    holdings: &mut Listed<Held>,
     worker: u32,
     kind: Kind,
 ) -> Result<(), NotEntered>
     requires room { 0 < shared.old.journal.room }
-    requires count { length hands.old ≡ shared.old.settings.workers }
-    requires hold { AllHold shared.old false hands.old }
+    requires count { length holdings.old ≡ shared.old.settings.workers }
+    requires hold { AllHold shared.old false holdings.old }
     requires kind { IsKind kind }
     requires own { is_own kind ≡ true }
-    ensures count { length hands.new ≡ length hands.old }
-    ensures made { AnswersAll shared.old shared.new (record { worker = worker; kind = kind }) hands.new result }
+    ensures count { length holdings.new ≡ length holdings.old }
+    ensures made { AnswersAll shared.old shared.new (record { worker = worker; kind = kind }) holdings.new result }
 {
     shared.stands();
     if let Some(cause) = shared.shared().refused_first(worker) {
         return Err(NotEntered::Refuses(cause));
     }
-    let hand = mem::replace(hands.at_mut(worker as usize), Held::Nothing);
-    let Made { hand, answer } = make_for(shared, worker, hand, kind);
+    let holding = mem::replace(holdings.at_mut(worker as usize), Held::Nothing);
+    let Made { holding, answer } = make_for(shared, worker, holding, kind);
     shared.stands();
-    hands.set(worker as usize, hand);
+    holdings.set(worker as usize, holding);
     answer
 }
 
@@ -79,18 +79,18 @@ fn is_own(kind: Kind) -> bool
 }
 
 // Makes an entry for which there is room.
-fn make(shared: &mut Counted, hands: &mut Listed<Held>, entry: Entry) -> Result<(), NotEntered>
+fn make(shared: &mut Counted, holdings: &mut Listed<Held>, entry: Entry) -> Result<(), NotEntered>
     requires room { 0 < shared.old.journal.room }
-    requires count { length hands.old ≡ shared.old.settings.workers }
-    requires hold { AllHold shared.old false hands.old }
-    ensures count { length hands.new ≡ length hands.old }
-    ensures made { AnswersAll shared.old shared.new entry hands.new result }
+    requires count { length holdings.old ≡ shared.old.settings.workers }
+    requires hold { AllHold shared.old false holdings.old }
+    ensures count { length holdings.new ≡ length holdings.old }
+    ensures made { AnswersAll shared.old shared.new entry holdings.new result }
 {
     shared.stands();
     let worker = entry.worker();
     let kind = entry.kind();
     if is_own(kind) {
-        make_own(shared, hands, worker, kind)
+        make_own(shared, holdings, worker, kind)
     } else {
         apply_apart(shared, worker, kind)
     }
@@ -99,17 +99,17 @@ fn make(shared: &mut Counted, hands: &mut Listed<Held>, entry: Entry) -> Result<
 /// Makes an entry.
 pub(crate) fn make_entry(
     shared: &mut Counted,
-    hands: &mut Listed<Held>,
+    holdings: &mut Listed<Held>,
     entry: Entry,
 ) -> Result<(), NotEntered>
-    requires count { length hands.old ≡ shared.old.settings.workers }
-    requires hold { AllHold shared.old false hands.old }
-    ensures count { length hands.new ≡ length hands.old }
-    ensures made { AnswersAll shared.old shared.new entry hands.new result }
+    requires count { length holdings.old ≡ shared.old.settings.workers }
+    requires hold { AllHold shared.old false holdings.old }
+    ensures count { length holdings.new ≡ length holdings.old }
+    ensures made { AnswersAll shared.old shared.new entry holdings.new result }
 {
     shared.stands();
     if shared.reserve().is_err() {
         return Err(NotEntered::NoMemory);
     }
-    make(shared, hands, entry)
+    make(shared, holdings, entry)
 }

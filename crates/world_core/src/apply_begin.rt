@@ -55,26 +55,26 @@ fn begin(shared: &mut Counted, worker: u32, part: Private) -> Made
         Ok((roots, to_chunks)) => {
             let moved = copy_begun(shared, worker, &mut part, &roots, to_chunks);
             Made {
-                hand: Held::Copied(part, moved),
+                holding: Held::Copied(part, moved),
                 answer: Ok(()),
             }
         }
         Err(cause) => Made {
-            hand: Held::Part(part),
+            holding: Held::Part(part),
             answer: Err(cause),
         },
     }
 }
 
 /// A due leaf collection of a task begins: its heap is copied, which takes no memory.
-pub(crate) fn apply_begin(shared: &mut Counted, worker: u32, hand: Held, t: u32) -> Made
+pub(crate) fn apply_begin(shared: &mut Counted, worker: u32, holding: Held, t: u32) -> Made
     requires room { 0 < shared.old.journal.room }
     requires first { first_cause shared.old.end shared.old.steps shared.old.settings worker false ≡ None }
-    requires holds { Holds shared.old false worker hand }
+    requires holds { Holds shared.old false worker holding }
     ensures { MakesFor shared.old shared.new worker (record { worker = worker; kind = Kind.Begin t }) result }
 {
     shared.stands();
-    match idle_part(hand, t) {
+    match idle_part(holding, t) {
         Ok(part) => begin(shared, worker, part),
         Err(apart) => apart.made(),
     }

@@ -19,20 +19,20 @@ fn give_chunk(shared: &mut Counted, worker: u32, part: Private) -> Made
     let mut part = part;
     let answer = shared.chunk(worker, &mut part);
     Made {
-        hand: Held::Part(part),
+        holding: Held::Part(part),
         answer,
     }
 }
 
 /// A task gets the chunk that its next step needs.
-pub(crate) fn apply_chunk(shared: &mut Counted, worker: u32, hand: Held, t: u32) -> Made
+pub(crate) fn apply_chunk(shared: &mut Counted, worker: u32, holding: Held, t: u32) -> Made
     requires room { 0 < shared.old.journal.room }
     requires first { first_cause shared.old.end shared.old.steps shared.old.settings worker false ≡ None }
-    requires holds { Holds shared.old false worker hand }
+    requires holds { Holds shared.old false worker holding }
     ensures { MakesFor shared.old shared.new worker (record { worker = worker; kind = Kind.Chunk t }) result }
 {
     shared.stands();
-    match idle_part(hand, t) {
+    match idle_part(holding, t) {
         Ok(part) => give_chunk(shared, worker, part),
         Err(apart) => apart.made(),
     }

@@ -41,7 +41,7 @@ fn end(shared: &mut Counted, worker: u32, part: Private, moved: Moved) -> Made
     let mut part = part;
     match shared.leaf_end(worker, &mut part, moved) {
         Ok(()) => Made {
-            hand: Held::Part(part),
+            holding: Held::Part(part),
             answer: Ok(()),
         },
         Err(_) => unreachable!(),
@@ -52,7 +52,7 @@ fn end(shared: &mut Counted, worker: u32, part: Private, moved: Moved) -> Made
 pub(crate) fn apply_end(
     shared: &mut Counted,
     worker: u32,
-    hand: Held,
+    holding: Held,
     t: u32,
     taken: u32,
     given: u32,
@@ -60,15 +60,15 @@ pub(crate) fn apply_end(
 ) -> Made
     requires room { 0 < shared.old.journal.room }
     requires first { first_cause shared.old.end shared.old.steps shared.old.settings worker false ≡ None }
-    requires holds { Holds shared.old false worker hand }
+    requires holds { Holds shared.old false worker holding }
     ensures { MakesFor shared.old shared.new worker (record { worker = worker; kind = Kind.End t taken given left }) result }
 {
     shared.stands();
-    match copied_part(hand, t) {
+    match copied_part(holding, t) {
         Ok((part, moved)) => match miscounted(&moved, taken, given, left) {
             None => end(shared, worker, part, moved),
             Some(cause) => Made {
-                hand: Held::Copied(part, moved),
+                holding: Held::Copied(part, moved),
                 answer: Err(NotEntered::Refuses(cause)),
             },
         },

@@ -20,25 +20,25 @@ fn put_off(shared: &mut Counted, worker: u32, part: Private) -> Made
     let mut part = part;
     match shared.put_off(worker, &mut part) {
         Ok(()) => Made {
-            hand: Held::Part(part),
+            holding: Held::Part(part),
             answer: Ok(()),
         },
         Err(cause) => Made {
-            hand: Held::Part(part),
+            holding: Held::Part(part),
             answer: Err(NotEntered::Refuses(cause)),
         },
     }
 }
 
 /// A due leaf collection of a task is put off for want of chunks.
-pub(crate) fn apply_put_off(shared: &mut Counted, worker: u32, hand: Held, t: u32) -> Made
+pub(crate) fn apply_put_off(shared: &mut Counted, worker: u32, holding: Held, t: u32) -> Made
     requires room { 0 < shared.old.journal.room }
     requires first { first_cause shared.old.end shared.old.steps shared.old.settings worker false ≡ None }
-    requires holds { Holds shared.old false worker hand }
+    requires holds { Holds shared.old false worker holding }
     ensures { MakesFor shared.old shared.new worker (record { worker = worker; kind = Kind.PutOff t }) result }
 {
     shared.stands();
-    match idle_part(hand, t) {
+    match idle_part(holding, t) {
         Ok(part) => put_off(shared, worker, part),
         Err(apart) => apart.made(),
     }

@@ -6,7 +6,7 @@ ghost use Rattle.shared_value.specs.Causes.{first_cause};
 ghost use Rattle.shared_value.specs.Fits.{Fits};
 ghost use Rattle.own_steps.specs.Alone.{alone_event, IsShared};
 ghost use Rattle.shared_tree.specs.Ran.{LeavesBy};
-ghost use Rattle.world_core.specs.Applied.{hand_of, MakesFor};
+ghost use Rattle.world_core.specs.Applied.{holding_of, MakesFor};
 ghost use Rattle.world_core.specs.Next.{standing_by, IsNext};
 ghost use Rattle.world_core.specs.WorldValue.{Holds, HoldsPart};
 
@@ -83,19 +83,19 @@ fn enter_private(shared: &mut Counted, worker: u32, part: Private) -> Made
     let mut part = part;
     match shared.ran_private(worker, &mut part) {
         Ok(()) => Made {
-            hand: Held::Part(part),
+            holding: Held::Part(part),
             answer: Ok(()),
         },
         Err(cause) => Made {
-            hand: Held::Part(part),
+            holding: Held::Part(part),
             answer: Err(NotEntered::Refuses(cause)),
         },
     }
 }
 
 // What a worker holds once a step is entered that gives its part up.
-fn hand_of(ran: Ran) -> Held
-    ensures { result ≡ hand_of ran }
+fn holding_of(ran: Ran) -> Held
+    ensures { result ≡ holding_of ran }
 {
     match ran {
         Ran::Forked { left, right } => Held::Nothing,
@@ -118,11 +118,11 @@ fn enter_leaving(shared: &mut Counted, worker: u32, part: Private, leaving: Leav
     shared.stands();
     match shared.ran_leaving(worker, part, leaving) {
         Ok(ran) => Made {
-            hand: hand_of(ran),
+            holding: holding_of(ran),
             answer: Ok(()),
         },
         Err(failed) => Made {
-            hand: Held::Part(failed.part),
+            holding: Held::Part(failed.part),
             answer: Err(failed.cause),
         },
     }
@@ -141,16 +141,16 @@ fn enter_last(shared: &mut Counted, worker: u32, part: Private) -> Made
     let mut part = part;
     match shared.ran_lent(worker, &mut part) {
         Ok(Lent::Goes) => Made {
-            hand: Held::Part(part),
+            holding: Held::Part(part),
             answer: Ok(()),
         },
         Ok(Lent::Over) => Made {
-            hand: Held::Part(part),
+            holding: Held::Part(part),
             answer: Ok(()),
         },
         Ok(Lent::Leaves(leaving)) => enter_leaving(shared, worker, part, leaving),
         Err(cause) => Made {
-            hand: Held::Part(part),
+            holding: Held::Part(part),
             answer: Err(cause),
         },
     }
@@ -189,7 +189,7 @@ fn enter(shared: &mut Counted, worker: u32, part: Private, paused: Paused, steps
     }
     shared.stands();
     Made {
-        hand: Held::Part(part),
+        holding: Held::Part(part),
         answer: Err(NotEntered::Refuses(Refused::Long(most))),
     }
 }
@@ -210,23 +210,29 @@ fn ran(shared: &mut Counted, worker: u32, part: Private, steps: u32) -> Made
             enter(shared, worker, part, paused, steps)
         }
         Err(AllocError) => Made {
-            hand: Held::Part(part),
+            holding: Held::Part(part),
             answer: Err(NotEntered::NoMemory),
         },
     }
 }
 
 /// A task takes so many steps: all but the last have to be private.
-pub(crate) fn apply_ran(shared: &mut Counted, worker: u32, hand: Held, t: u32, steps: u32) -> Made
+pub(crate) fn apply_ran(
+    shared: &mut Counted,
+    worker: u32,
+    holding: Held,
+    t: u32,
+    steps: u32,
+) -> Made
     requires room { 0 < shared.old.journal.room }
     requires first { first_cause shared.old.end shared.old.steps shared.old.settings worker false ≡ None }
-    requires holds { Holds shared.old false worker hand }
+    requires holds { Holds shared.old false worker holding }
     requires some { 0 < steps }
     requires few { steps ≤ most_steps }
     ensures { MakesFor shared.old shared.new worker (record { worker = worker; kind = Kind.Ran t steps }) result }
 {
     shared.stands();
-    match idle_part(hand, t) {
+    match idle_part(holding, t) {
         Ok(part) => ran(shared, worker, part, steps),
         Err(apart) => apart.made(),
     }

@@ -11,20 +11,20 @@ use run_trace::Kind;
 use shared_tree::NotEntered;
 
 /// A worker takes a task, and holds its part then.
-pub(crate) fn apply_took(shared: &mut Counted, worker: u32, hand: Held, t: u32) -> Made
+pub(crate) fn apply_took(shared: &mut Counted, worker: u32, holding: Held, t: u32) -> Made
     requires room { 0 < shared.old.journal.room }
     requires first { first_cause shared.old.end shared.old.steps shared.old.settings worker false ≡ None }
-    requires holds { Holds shared.old false worker hand }
+    requires holds { Holds shared.old false worker holding }
     ensures { MakesFor shared.old shared.new worker (record { worker = worker; kind = Kind.Took t }) result }
 {
     shared.stands();
     match shared.took(worker, t) {
         Ok(part) => Made {
-            hand: Held::Part(part),
+            holding: Held::Part(part),
             answer: Ok(()),
         },
         Err(cause) => Made {
-            hand,
+            holding,
             answer: Err(NotEntered::Refuses(cause)),
         },
     }

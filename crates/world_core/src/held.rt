@@ -20,39 +20,39 @@ pub(crate) enum Held {
 /// What an entry of a worker comes to: what the worker holds then, and why the entry isn't made, if it isn't.
 #[derive(Drop)]
 pub(crate) struct Made {
-    pub(crate) hand: Held,
+    pub(crate) holding: Held,
     pub(crate) answer: Result<(), NotEntered>,
 }
 
 /// What a worker holds isn't what its entry is for.
 #[derive(Drop)]
 pub(crate) struct NotHeld {
-    pub(crate) hand: Held,
+    pub(crate) holding: Held,
     pub(crate) cause: Refused,
 }
 
 impl NotHeld {
     /// The entry is refused.
     pub(crate) fn made(self) -> Made
-        ensures { result ≡ record { hand = self.hand; answer = Err (NotEntered.Refuses self.cause) } }
+        ensures { result ≡ record { holding = self.holding; answer = Err (NotEntered.Refuses self.cause) } }
     {
         Made {
-            hand: self.hand,
+            holding: self.holding,
             answer: Err(NotEntered::Refuses(self.cause)),
         }
     }
 }
 
 /// The part of a task whose leaf collection hasn't begun.
-pub(crate) fn idle_part(hand: Held, t: u32) -> Result<Private, NotHeld>
-    ensures hand { IfOk result (λ p. hand ≡ Held.Part p) }
+pub(crate) fn idle_part(holding: Held, t: u32) -> Result<Private, NotHeld>
+    ensures holding { IfOk result (λ p. holding ≡ Held.Part p) }
     ensures task { IfOk result (λ p. p.task ≡ t) }
-    ensures back { IfErr result (λ e. e.hand ≡ hand) }
-    ensures cause { IfErr result (λ e. idle_cause hand t ≡ Some e.cause) }
+    ensures back { IfErr result (λ e. e.holding ≡ holding) }
+    ensures cause { IfErr result (λ e. idle_cause holding t ≡ Some e.cause) }
 {
-    match hand {
+    match holding {
         Held::Nothing => Err(NotHeld {
-            hand: Held::Nothing,
+            holding: Held::Nothing,
             cause: Refused::NotOut,
         }),
         Held::Part(part) => {
@@ -60,7 +60,7 @@ pub(crate) fn idle_part(hand: Held, t: u32) -> Result<Private, NotHeld>
                 return Ok(part);
             }
             Err(NotHeld {
-                hand: Held::Part(part),
+                holding: Held::Part(part),
                 cause: Refused::NotOut,
             })
         }
@@ -71,7 +71,7 @@ pub(crate) fn idle_part(hand: Held, t: u32) -> Result<Private, NotHeld>
                 Refused::NotOut
             };
             Err(NotHeld {
-                hand: Held::Copied(part, moved),
+                holding: Held::Copied(part, moved),
                 cause,
             })
         }
@@ -79,15 +79,15 @@ pub(crate) fn idle_part(hand: Held, t: u32) -> Result<Private, NotHeld>
 }
 
 /// The part of a task that was copied when its leaf collection began, and what copying came to.
-pub(crate) fn copied_part(hand: Held, t: u32) -> Result<(Private, Moved), NotHeld>
-    ensures hand { IfOk result (λ r. hand ≡ Held.Copied r.0 r.1) }
+pub(crate) fn copied_part(holding: Held, t: u32) -> Result<(Private, Moved), NotHeld>
+    ensures holding { IfOk result (λ r. holding ≡ Held.Copied r.0 r.1) }
     ensures task { IfOk result (λ r. r.0.task ≡ t) }
-    ensures back { IfErr result (λ e. e.hand ≡ hand) }
-    ensures cause { IfErr result (λ e. copied_cause hand t ≡ Some e.cause) }
+    ensures back { IfErr result (λ e. e.holding ≡ holding) }
+    ensures cause { IfErr result (λ e. copied_cause holding t ≡ Some e.cause) }
 {
-    match hand {
+    match holding {
         Held::Nothing => Err(NotHeld {
-            hand: Held::Nothing,
+            holding: Held::Nothing,
             cause: Refused::NotOut,
         }),
         Held::Part(part) => {
@@ -97,7 +97,7 @@ pub(crate) fn copied_part(hand: Held, t: u32) -> Result<(Private, Moved), NotHel
                 Refused::NotOut
             };
             Err(NotHeld {
-                hand: Held::Part(part),
+                holding: Held::Part(part),
                 cause,
             })
         }
@@ -106,7 +106,7 @@ pub(crate) fn copied_part(hand: Held, t: u32) -> Result<(Private, Moved), NotHel
                 return Ok((part, moved));
             }
             Err(NotHeld {
-                hand: Held::Copied(part, moved),
+                holding: Held::Copied(part, moved),
                 cause: Refused::NotOut,
             })
         }

@@ -28,11 +28,11 @@ pub enum NotApplied {
     NoMemory,
 }
 
-/// The shared value and what every worker holds, all in one hand: entries are applied one by one.
+/// The shared value and what every worker holds, all in one place: entries are applied one by one.
 #[derive(Drop)]
 pub struct World {
     shared: Counted,
-    hands: Listed<Held>,
+    holdings: Listed<Held>,
     stopped: bool,
 }
 
@@ -41,21 +41,21 @@ impl Model for World {
 
     ghost Value = { WorldValue };
 
-    ghost view = { λ s. record { shared = s.shared; hands = s.hands; stopped = s.stopped } };
+    ghost view = { λ s. record { shared = s.shared; holdings = s.holdings; stopped = s.stopped } };
 
-    ghost invariant = { λ s. IsWhole (record { shared = s.shared; hands = s.hands; stopped = s.stopped }) };
+    ghost invariant = { λ s. IsWhole (record { shared = s.shared; holdings = s.holdings; stopped = s.stopped }) };
 }
 
-// Hands that hold nothing.
-fn empty_hands(alloc: Global, workers: u32) -> Result<Listed<Held>, AllocError>
-    ensures { IfOk result (λ hands. hands ≡ replicate workers Held.Nothing) }
+// Holdings of nothing.
+fn empty_holdings(alloc: Global, workers: u32) -> Result<Listed<Held>, AllocError>
+    ensures { IfOk result (λ holdings. holdings ≡ replicate workers Held.Nothing) }
 {
-    let mut hands = Listed::new(alloc);
+    let mut holdings = Listed::new(alloc);
     for i in 0..workers {
         let _ = i;
-        hands.push(Held::Nothing)?;
+        holdings.push(Held::Nothing)?;
     }
-    Ok(hands)
+    Ok(holdings)
 }
 
 impl World {
@@ -68,10 +68,10 @@ impl World {
     {
         let shared = Counted::new(alloc, program, settings)?;
         shared.stands();
-        let hands = empty_hands(alloc, settings.workers())?;
+        let holdings = empty_holdings(alloc, settings.workers())?;
         Ok(World {
             shared,
-            hands,
+            holdings,
             stopped: false,
         })
     }
@@ -83,7 +83,7 @@ impl World {
         if self.stopped {
             return Err(NotApplied::Stopped);
         }
-        match make_entry(&mut self.shared, &mut self.hands, entry) {
+        match make_entry(&mut self.shared, &mut self.holdings, entry) {
             Ok(()) => Ok(()),
             Err(NotEntered::Refuses(cause)) => {
                 self.stopped = true;

@@ -44,7 +44,7 @@ result_read v l c r a V rests (inr E) =
     let k : FramesAreRead (Place v l) (E.frame ∷ E.below) (E.task.top ∷ E.task.below) =
     subst (λ fs. FramesAreRead (Place v l) fs (E.task.top ∷ E.task.below)) E.frames (subst (HoldsRead (Place v l) (v.homes c) E.task) E.runs (V.tasks c E.task rests E.is)) in
     subst (λ (q : ℤ × Option Addr). (q.0 ≡ r.0) × Reads (Place v l) q.1 r.1) (sym E.result)
-    (subst (λ (q : ℤ × Option Name). ((unwrap_or (slice_get E.frame.ints 0) (pos 0)) ≡ q.0) × Reads (Place v l) (ref_of E.frame 0) q.1) (sym E.hands)
+    (subst (λ (q : ℤ × Option Name). ((unwrap_or (slice_get E.frame.ints 0) (pos 0)) ≡ q.0) × Reads (Place v l) (ref_of E.frame 0) q.1) (sym E.returns)
     (ap (λ is. unwrap_or (slice_get is 0) (pos 0)) k.0.ints, field_of (Place v l) E.frame.refs E.task.top.refs 0 k.0.refs))
 
 -- THE PART OF r, WHERE ALL THAT IT GOES BY STAYS: q's steps lead from l to lq, and what is entered then leads to l'
@@ -137,7 +137,7 @@ module _ (p : ProgramText) (s : SettingsValue) (q r : Part) (v : Memory) (l l' :
     where
       result_too : (c : ℕ) (k : ℤ × Option Name) (a : ℤ × Option Addr) → (c ≡ r.task → ⊥) → HasResult (with_home v q.task q.home) lq c k a → HasResult (with_home (with_home v q.task q.home) r.task r.home) both c k a
       result_too c k a nc (inl e) = inl (record { task = e.task; is = B.steps_t.tasks c nc ∙ e.is; ended = e.ended; result = ap (λ (h : Home). h.result) (off_home (with_home v q.task q.home) r.task r.home c nc) ∙ e.result })
-      result_too c k a nc (inr e) = inr (record { task = e.task; is = B.steps_t.tasks c nc ∙ e.is; runs = e.runs; hands = e.hands; frame = e.frame; below = e.below; frames = ap (λ (h : Home). h.frames) (off_home (with_home v q.task q.home) r.task r.home c nc) ∙ e.frames; result = e.result })
+      result_too c k a nc (inr e) = inr (record { task = e.task; is = B.steps_t.tasks c nc ∙ e.is; runs = e.runs; returns = e.returns; frame = e.frame; below = e.below; frames = ap (λ (h : Home). h.frames) (off_home (with_home v q.task q.home) r.task r.home c nc) ∙ e.frames; result = e.result })
 
   -- q's task ends, and its sibling goes on
   pub fits_finish : (v' : Memory) (z : Task) (f : Frame) (fs : List Frame) → EndsTask lq l' q.task z → EndsHome (with_home v q.task q.home) v' q.task f fs → FitsAt p s r v' l'

@@ -24,7 +24,7 @@ use Rattle.ledger_step_laws.specs.Accounts.{SameTasks, Takes}
 use Rattle.run_ledger.specs.Use.{ChunkGoes, UseGoes}
 use Rattle.ledger_step_laws.proofs.Entries.{same_tasks, took_takes}
 use Rattle.run_ledger.proofs.Use.{entries_use}
-use Rattle.core_relation.proofs.whole.Hands.{none_held}
+use Rattle.core_relation.proofs.whole.TasksOut.{none_held}
 use Rattle.std.proofs.lemmas.Option.{same_Some}
 use Rattle.std.specs.Prelude.{◌↔◌}
 use Rattle.listed.proofs.Options.{none_is}
@@ -41,7 +41,7 @@ node_of w o = option_map (λ (x : Task). record { parent = x.parent; state = sta
 -- the machine and who holds what stay
 same_totals : (c c' : Totals) (l l' : Ledger) → SameTasks l l' → l'.steps ≡ l.steps → SameCounts c c' → c'.used ≡ in_use l' → c'.end ≡ l'.end → TotalsStand c l → TotalsStand c' l'
 same_totals c c' l l' L steps C used end T = record {
-  hand = λ w t. (λ e. L.worker t ∙ (T.hand w t).0 (sym (C.hand w) ∙ e), λ e. C.hand w ∙ (T.hand w t).1 (sym (L.worker t) ∙ e));
+  task_out = λ w t. (λ e. L.worker t ∙ (T.task_out w t).0 (sym (C.task_out w) ∙ e), λ e. C.task_out w ∙ (T.task_out w t).1 (sym (L.worker t) ∙ e));
   node = λ t. C.node t ∙ (T.node t ∙ ap₂ (λ w (m : Machine). node_of w (slice_get m.tasks t)) (sym (L.worker t)) (sym L.machine));
   used = used;
   steps = C.steps ∙ (T.steps ∙ sym steps);
@@ -90,7 +90,7 @@ took_totals c c' l t w h is run rests none used C T =
     let L = took_takes l t w h is in
     let e = with_steps l t (λ h. record h { worker = Some w }) in
     record {
-      hand = hand;
+      task_out = task_out;
       node = λ u. elim (cases_eq u t) [
         | inl same ↦
             subst (λ z. c'.node z ≡ node_of (heap_of l' z).worker (slice_get l'.machine.tasks z)) (sym same)
@@ -110,17 +110,17 @@ took_totals c c' l t w h is run rests none used C T =
     none_some : {A : Type 0} {u : ℕ} → ◌≡◌ {A = Option ℕ} None (Some u) → A
     none_some e = absurd cc
 
-    hand : (u z : ℕ) → c'.hand u ≡ Some z ↔ (heap_of (with_heap l t (λ h. record h { worker = Some w })) z).worker ≡ Some u
-    hand u z = elim (cases_eq z t) [
-      | inl e ↦ subst (λ y. c'.hand u ≡ Some y ↔ (heap_of (with_heap l t (λ h. record h { worker = Some w })) y).worker ≡ Some u) (sym e) (elim (cases_eq u w) [
-        | inl f ↦ ((λ q. abbrev_then.worker ∙ ap Some (sym f)), (λ q. ap c'.hand f ∙ C.hand))
-        | inr nu ↦ ((λ q. none_some (sym rests ∙ (T.hand u t).0 (sym (C.hands u nu) ∙ q))), (λ q. absurd (nu (same_Some u w (sym q ∙ abbrev_then.worker)))))
+    task_out : (u z : ℕ) → c'.task_out u ≡ Some z ↔ (heap_of (with_heap l t (λ h. record h { worker = Some w })) z).worker ≡ Some u
+    task_out u z = elim (cases_eq z t) [
+      | inl e ↦ subst (λ y. c'.task_out u ≡ Some y ↔ (heap_of (with_heap l t (λ h. record h { worker = Some w })) y).worker ≡ Some u) (sym e) (elim (cases_eq u w) [
+        | inl f ↦ ((λ q. abbrev_then.worker ∙ ap Some (sym f)), (λ q. ap c'.task_out f ∙ C.task_out))
+        | inr nu ↦ ((λ q. none_some (sym rests ∙ (T.task_out u t).0 (sym (C.tasks_out u nu) ∙ q))), (λ q. absurd (nu (same_Some u w (sym q ∙ abbrev_then.worker)))))
       ])
       | inr nt ↦ elim (cases_eq u w) [
-        | inl f ↦ ((λ q. absurd (nt (same_Some z t (sym q ∙ (ap c'.hand f ∙ C.hand))))), (λ q. absurd (none z (ap (λ (g : Heap). g.worker) (sym (abbrev_then.heaps z nt)) ∙ (q ∙ ap Some f)))))
+        | inl f ↦ ((λ q. absurd (nt (same_Some z t (sym q ∙ (ap c'.task_out f ∙ C.task_out))))), (λ q. absurd (none z (ap (λ (g : Heap). g.worker) (sym (abbrev_then.heaps z nt)) ∙ (q ∙ ap Some f)))))
         | inr nu ↦ (
-          (λ q. ap (λ (g : Heap). g.worker) (abbrev_then.heaps z nt) ∙ (T.hand u z).0 (sym (C.hands u nu) ∙ q)),
-          (λ q. C.hands u nu ∙ (T.hand u z).1 (ap (λ (g : Heap). g.worker) (sym (abbrev_then.heaps z nt)) ∙ q)),
+          (λ q. ap (λ (g : Heap). g.worker) (abbrev_then.heaps z nt) ∙ (T.task_out u z).0 (sym (C.tasks_out u nu) ∙ q)),
+          (λ q. C.tasks_out u nu ∙ (T.task_out u z).1 (ap (λ (g : Heap). g.worker) (sym (abbrev_then.heaps z nt)) ∙ q)),
         )
       ]
     ]

@@ -84,7 +84,7 @@ first_stands p s = record {
 first_tree : (p : ProgramText) (s : SettingsValue) → TotalsStand first_totals (opening p s)
 first_tree p s = record {
   node = node;
-  hand = λ w t. ((λ e. none_some e), (λ e. none_some (sym (worker t) ∙ e)));
+  task_out = λ w t. ((λ e. none_some e), (λ e. none_some (sym (worker t) ∙ e)));
   used = refl;
   steps = refl;
   outputs = refl;

@@ -32,7 +32,7 @@ use Rattle.ledger_step_laws.proofs.Private.{private_on}
 use Rattle.ledger_step_laws.proofs.Rested.{rested_worker}
 use Rattle.ledger_step_laws.proofs.Split.{worker_step, steps_worker, steps_go}
 use Rattle.core_relation.specs.Whole.{Totals, TotalsStand, state_by, handed}
-use Rattle.core_relation.specs.RanCounts.{node_then, NodesStay, NodeGoes, NodesFork, NodesJoin, HandsStay, LetsGo, RanCounts}
+use Rattle.core_relation.specs.RanCounts.{node_then, NodesStay, NodeGoes, NodesFork, NodesJoin, TasksOutStay, LetsGo, RanCounts}
 use Rattle.core_relation.proofs.whole.Counts.{node_of, with_steps}
 use Rattle.core_relation.proofs.whole.HandedBack.{alive_machine, handed_on, handed_halt, handed_done}
 use Rattle.core_relation.proofs.whole.RunsOn.{ran_end}
@@ -188,8 +188,8 @@ module _ (p : ProgramText) (s : SettingsValue) (l l' : Ledger) (t w k : ℕ) (E 
   -- WHAT WORKERS HOLD
 
   -- held by the same as before
-  hand_same : (n : Ledger) → ((z : ℕ) → (heap_of n z).worker ≡ (heap_of l z).worker) → HandsStay c c' → (u z : ℕ) → c'.hand u ≡ Some z ↔ (heap_of n z).worker ≡ Some u
-  hand_same n same C u z = ((λ q. same z ∙ (T.hand u z).0 (sym (C u) ∙ q)), (λ q. C u ∙ (T.hand u z).1 (sym (same z) ∙ q)))
+  task_out_same : (n : Ledger) → ((z : ℕ) → (heap_of n z).worker ≡ (heap_of l z).worker) → TasksOutStay c c' → (u z : ℕ) → c'.task_out u ≡ Some z ↔ (heap_of n z).worker ≡ Some u
+  task_out_same n same C u z = ((λ q. same z ∙ (T.task_out u z).0 (sym (C u) ∙ q)), (λ q. C u ∙ (T.task_out u z).1 (sym (same z) ∙ q)))
 
   -- before the last step
   workers_m : (z : ℕ) → (heap_of m z).worker ≡ (heap_of l z).worker
@@ -205,17 +205,17 @@ module _ (p : ProgramText) (s : SettingsValue) (l l' : Ledger) (t w k : ℕ) (E 
   ]
 
   -- the worker lets go of its task, and of the others each is held as before
-  hand_goes : (n : Ledger) → ((z : ℕ) → (heap_of n z).worker ≡ (heap_of (rested m t) z).worker) → LetsGo c c' w → (u z : ℕ) → c'.hand u ≡ Some z ↔ (heap_of n z).worker ≡ Some u
-  hand_goes n same C u z = elim (cases_eq z t) [
-    | inl e ↦ subst (λ y. c'.hand u ≡ Some y ↔ (heap_of n y).worker ≡ Some u) (sym e) (elim (cases_eq u w) [
-      | inl f ↦ ((λ q. none_some (sym C.hand ∙ (ap c'.hand (sym f) ∙ q))), (λ q. none_some (sym (rested_worker m t) ∙ (sym (same t) ∙ q))))
-      | inr nu ↦ ((λ q. absurd (nu (same_Some u w (sym ((T.hand u t).0 (sym (C.others u nu) ∙ q)) ∙ worker)))), (λ q. none_some (sym (rested_worker m t) ∙ (sym (same t) ∙ q))))
+  task_out_goes : (n : Ledger) → ((z : ℕ) → (heap_of n z).worker ≡ (heap_of (rested m t) z).worker) → LetsGo c c' w → (u z : ℕ) → c'.task_out u ≡ Some z ↔ (heap_of n z).worker ≡ Some u
+  task_out_goes n same C u z = elim (cases_eq z t) [
+    | inl e ↦ subst (λ y. c'.task_out u ≡ Some y ↔ (heap_of n y).worker ≡ Some u) (sym e) (elim (cases_eq u w) [
+      | inl f ↦ ((λ q. none_some (sym C.task_out ∙ (ap c'.task_out (sym f) ∙ q))), (λ q. none_some (sym (rested_worker m t) ∙ (sym (same t) ∙ q))))
+      | inr nu ↦ ((λ q. absurd (nu (same_Some u w (sym ((T.task_out u t).0 (sym (C.others u nu) ∙ q)) ∙ worker)))), (λ q. none_some (sym (rested_worker m t) ∙ (sym (same t) ∙ q))))
     ])
     | inr nt ↦
         let before : (heap_of n z).worker ≡ (heap_of l z).worker = same z ∙ (ap (λ (h : Heap). h.worker) (heaps_rested z nt) ∙ workers_m z) in
         elim (cases_eq u w) [
-          | inl f ↦ ((λ q. none_some (sym C.hand ∙ (ap c'.hand (sym f) ∙ q))), (λ q. absurd (nt (same_Some z t (sym ((T.hand w z).1 (sym before ∙ (q ∙ ap Some f))) ∙ (T.hand w t).1 worker)))))
-          | inr nu ↦ ((λ q. before ∙ (T.hand u z).0 (sym (C.others u nu) ∙ q)), (λ q. C.others u nu ∙ (T.hand u z).1 (sym before ∙ q)))
+          | inl f ↦ ((λ q. none_some (sym C.task_out ∙ (ap c'.task_out (sym f) ∙ q))), (λ q. absurd (nt (same_Some z t (sym ((T.task_out w z).1 (sym before ∙ (q ∙ ap Some f))) ∙ (T.task_out w t).1 worker)))))
+          | inr nu ↦ ((λ q. before ∙ (T.task_out u z).0 (sym (C.others u nu) ∙ q)), (λ q. C.others u nu ∙ (T.task_out u z).1 (sym before ∙ q)))
         ]
   ]
     where
@@ -269,10 +269,10 @@ module _ (p : ProgramText) (s : SettingsValue) (l l' : Ledger) (t w k : ℕ) (E 
       let b : m.steps ≡ l.steps + k = task_steps_steps p k l t in
       omega (arith, a, b)
 
-  totals : (n : Ledger) → n.steps ≡ l'.steps → in_use n ≡ in_use l → n.machine.outputs ≡ c'.outputs → n.end ≡ c'.end → c'.used ≡ c.used → c'.steps ≡ c.steps + suc k → ((u z : ℕ) → c'.hand u ≡ Some z ↔ (heap_of n z).worker ≡ Some u) → ((u : ℕ) → c'.node u ≡ node_at n u) → TotalsStand c' n
-  totals n same usage outputs end used steps hand node = record {
+  totals : (n : Ledger) → n.steps ≡ l'.steps → in_use n ≡ in_use l → n.machine.outputs ≡ c'.outputs → n.end ≡ c'.end → c'.used ≡ c.used → c'.steps ≡ c.steps + suc k → ((u z : ℕ) → c'.task_out u ≡ Some z ↔ (heap_of n z).worker ≡ Some u) → ((u : ℕ) → c'.node u ≡ node_at n u) → TotalsStand c' n
+  totals n same usage outputs end used steps task_out node = record {
     node = node;
-    hand = hand;
+    task_out = task_out;
     used = used ∙ (T.used ∙ sym usage);
     steps = steps ∙ (ap (λ j. j + suc k) T.steps ∙ (sym steps_then ∙ sym same));
     outputs = sym outputs;
@@ -286,9 +286,9 @@ module _ (p : ProgramText) (s : SettingsValue) (l l' : Ledger) (t w k : ℕ) (E 
     on_end on = ran_end p s l l' t w k E (alive_machine p s l l' t w k E) on
 
     -- after a step after which the run goes on
-    goes : l'.machine.end ≡ None → l'.machine.outputs ≡ c'.outputs → c'.end ≡ c.end → c'.used ≡ c.used → c'.steps ≡ c.steps + suc k → ((u z : ℕ) → c'.hand u ≡ Some z ↔ (heap_of l' z).worker ≡ Some u) → ((u : ℕ) → c'.node u ≡ node_at l' u) → TotalsStand c' (handed l')
-    goes on outputs end used steps hand node =
-        subst (TotalsStand c') (sym (handed_on l' (on_end on ∙ alive))) (totals l' refl same_use_then outputs (on_end on ∙ (sym T.end ∙ sym end)) used steps hand node)
+    goes : l'.machine.end ≡ None → l'.machine.outputs ≡ c'.outputs → c'.end ≡ c.end → c'.used ≡ c.used → c'.steps ≡ c.steps + suc k → ((u z : ℕ) → c'.task_out u ≡ Some z ↔ (heap_of l' z).worker ≡ Some u) → ((u : ℕ) → c'.node u ≡ node_at l' u) → TotalsStand c' (handed l')
+    goes on outputs end used steps task_out node =
+        subst (TotalsStand c') (sym (handed_on l' (on_end on ∙ alive))) (totals l' refl same_use_then outputs (on_end on ∙ (sym T.end ∙ sym end)) used steps task_out node)
 
     -- the same outputs as before
     same_outputs : l'.machine.outputs ≡ m.machine.outputs → c'.outputs ≡ c.outputs → l'.machine.outputs ≡ c'.outputs
@@ -297,28 +297,28 @@ module _ (p : ProgramText) (s : SettingsValue) (l l' : Ledger) (t w k : ℕ) (E 
     private_then : is_private p m.machine t ≡ true → StepsAlone m l' t
     private_then h = subst (λ (z : Ledger). StepsAlone m z t) (sym S.after) (private_alone p m t h (steps_know p s t k l E.task E.knows (inr E.collects) E.at E.runs E.can S.private).sound)
 
-    set_hand : (m' : Machine) → l' ≡ stepped_by m m' → HandsStay c c' → (u z : ℕ) → c'.hand u ≡ Some z ↔ (heap_of l' z).worker ≡ Some u
-    set_hand m' e = hand_same l' (workers_on l' (ap (λ (z : Ledger). (heap_of z t).worker) e ∙ E.held) (λ z ne. ap (λ (y : Ledger). (heap_of y z).worker) e))
+    set_task_out : (m' : Machine) → l' ≡ stepped_by m m' → TasksOutStay c c' → (u z : ℕ) → c'.task_out u ≡ Some z ↔ (heap_of l' z).worker ≡ Some u
+    set_task_out m' e = task_out_same l' (workers_on l' (ap (λ (z : Ledger). (heap_of z t).worker) e ∙ E.held) (λ z ne. ap (λ (y : Ledger). (heap_of y z).worker) e))
 
     by : (kind : LastKind) (K : IsOfKind p m l' t x S.line kind) → (GoesOn kind → l'.machine.end ≡ None) → RanCounts p c c' m l' t w k x S.line kind K → TotalsStand c' (handed l')
-    by Private K on N = goes (on tt) (same_outputs (ap (λ (z : Ledger). z.machine.outputs) S.after ∙ (private_kin p m t K).outputs) N.outputs) N.end N.used N.steps (hand_same l' (workers_on l' (ap (λ (z : Ledger). (heap_of z t).worker) S.after ∙ (worker_step p s t m K ∙ E.held)) (λ z ne. ap (λ (h : Heap). h.worker) ((private_then K).heaps z ne))) N.hand) (privately K N.tree)
+    by Private K on N = goes (on tt) (same_outputs (ap (λ (z : Ledger). z.machine.outputs) S.after ∙ (private_kin p m t K).outputs) N.outputs) N.end N.used N.steps (task_out_same l' (workers_on l' (ap (λ (z : Ledger). (heap_of z t).worker) S.after ∙ (worker_step p s t m K ∙ E.held)) (λ z ne. ap (λ (h : Heap). h.worker) ((private_then K).heaps z ne))) N.task_out) (privately K N.tree)
     by Reading K on N =
-        goes (on tt) (same_outputs (ap (λ (z : Ledger). z.machine.outputs) K.goes) N.outputs) N.end N.used N.steps (set_hand _ K.goes N.hand) (sets (record x { top = K.frame }) _ K.goes refl refl refl N.tree)
+        goes (on tt) (same_outputs (ap (λ (z : Ledger). z.machine.outputs) K.goes) N.outputs) N.end N.used N.steps (set_task_out _ K.goes N.task_out) (sets (record x { top = K.frame }) _ K.goes refl refl refl N.tree)
     by Writing K on N =
-        goes (on tt) (same_outputs (ap (λ (z : Ledger). z.machine.outputs) K.goes) N.outputs) N.end N.used N.steps (set_hand _ K.goes N.hand) (sets (record x { top = K.frame }) _ K.goes refl refl refl N.tree)
+        goes (on tt) (same_outputs (ap (λ (z : Ledger). z.machine.outputs) K.goes) N.outputs) N.end N.used N.steps (set_task_out _ K.goes N.task_out) (sets (record x { top = K.frame }) _ K.goes refl refl refl N.tree)
     by Printing K on N =
         goes (on tt)
-        (ap (λ (z : Ledger). z.machine.outputs) K.goes ∙ (ap (λ os. os ++ int_in x.top K.register ∷ []) (outputs_m ∙ sym T.outputs) ∙ sym N.outputs)) N.end N.used N.steps (set_hand _ K.goes N.hand) (sets (record x { top = onward x.top }) _ K.goes refl refl refl N.tree)
-    by Forking K on N = goes (on tt) (same_outputs K.outputs N.outputs) N.end N.used N.steps (hand_goes l' (forked_workers K.left K.right K.forks) N.hand) (forked K.left K.right K.forks N.tree)
-    by Ending K on N = goes (on tt) (same_outputs K.outputs N.outputs) N.end N.used N.steps (hand_goes l' (ended_workers l' K.ends) N.hand) (ended l' K.ends N.tree)
-    by Joining K on N = goes (on tt) (same_outputs K.outputs N.outputs) N.end N.used N.steps (hand_goes l' (joined_workers K) N.hand) (joined K N.tree)
+        (ap (λ (z : Ledger). z.machine.outputs) K.goes ∙ (ap (λ os. os ++ int_in x.top K.register ∷ []) (outputs_m ∙ sym T.outputs) ∙ sym N.outputs)) N.end N.used N.steps (set_task_out _ K.goes N.task_out) (sets (record x { top = onward x.top }) _ K.goes refl refl refl N.tree)
+    by Forking K on N = goes (on tt) (same_outputs K.outputs N.outputs) N.end N.used N.steps (task_out_goes l' (forked_workers K.left K.right K.forks) N.task_out) (forked K.left K.right K.forks N.tree)
+    by Ending K on N = goes (on tt) (same_outputs K.outputs N.outputs) N.end N.used N.steps (task_out_goes l' (ended_workers l' K.ends) N.task_out) (ended l' K.ends N.tree)
+    by Joining K on N = goes (on tt) (same_outputs K.outputs N.outputs) N.end N.used N.steps (task_out_goes l' (joined_workers K) N.task_out) (joined K N.tree)
     by Finishing K on N =
         let with = with_steps l' t let_go in
         subst (TotalsStand c') (sym (handed_done l l' t w k p s E K))
-        (totals (rested l' t) with.0 (same_use l' t let_go (λ h. refl) ∙ same_use_then) (ap (λ (z : Machine). z.outputs) (heap_machine l' t let_go) ∙ same_outputs K.outputs N.outputs) (with.1 ∙ (K.is ∙ sym N.end)) N.used N.steps (hand_goes (rested l' t) (ended_workers (rested l' t) K.ends) N.hand) (ended (rested l' t) K.ends N.tree))
+        (totals (rested l' t) with.0 (same_use l' t let_go (λ h. refl) ∙ same_use_then) (ap (λ (z : Machine). z.outputs) (heap_machine l' t let_go) ∙ same_outputs K.outputs N.outputs) (with.1 ∙ (K.is ∙ sym N.end)) N.used N.steps (task_out_goes (rested l' t) (ended_workers (rested l' t) K.ends) N.task_out) (ended (rested l' t) K.ends N.tree))
     by Halting K on N =
         subst (TotalsStand c') (sym (handed_halt m l' K))
-        (totals l' refl same_use_then (same_outputs (ap (λ (z : Machine). z.outputs) K.machine) N.outputs) (K.is ∙ sym N.end) N.used N.steps (hand_same l' (workers_on l' (ap (λ hs. (or_fresh (slice_get hs t)).worker) K.heaps ∙ E.held) (λ z ne. ap (λ hs. (or_fresh (slice_get hs z)).worker) K.heaps)) N.hand) (halted K N.tree))
+        (totals l' refl same_use_then (same_outputs (ap (λ (z : Machine). z.outputs) K.machine) N.outputs) (K.is ∙ sym N.end) N.used N.steps (task_out_same l' (workers_on l' (ap (λ hs. (or_fresh (slice_get hs t)).worker) K.heaps ∙ E.held) (λ z ne. ap (λ hs. (or_fresh (slice_get hs z)).worker) K.heaps)) N.task_out) (halted K N.tree))
       where
         halted : Halts m l' → NodesStay c c' → (u : ℕ) → c'.node u ≡ node_at l' u
         halted H N =

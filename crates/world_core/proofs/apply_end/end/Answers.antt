@@ -1,7 +1,7 @@
 use Rattle.std.proofs.Common.{ap, sym, ◌∙◌}
 use Rattle.run_ledger.proofs.Accepted.{not_refused}
 use Rattle.shared_tree.specs.Ends.{end_cause}
-use Rattle.world_core.proofs.HandCauses.{copy_fits, end_free}
+use Rattle.world_core.proofs.HoldingCauses.{copy_fits, end_free}
 use Rattle.world_core.proofs.apply_end.end.Goals as goal
 
 pub leaf_end-requires-clause-fits : goal.leaf_end-requires-clause-fits

@@ -11,7 +11,7 @@ ran_leaving-requires-clause-free c = alone_free c.args.shared.now c.args.worker 
 pub returns-in-Ok : goal.returns-in-Ok
 returns-in-Ok c =
     let free : refused c.args.shared.now (alone_event c.args.worker c.args.part) ≡ None = alone_free c.args.shared.now c.args.worker c.args.part c.stands.ensures c.requires.fits c.requires.shared c.requires.idle c.requires.first in
-    subst (EntersFor c.args.shared.now c.ran_leaving.new.self c.args.worker (alone_event c.args.worker c.args.part)) (sym c.hand_of.ensures)
+    subst (EntersFor c.args.shared.now c.ran_leaving.new.self c.args.worker (alone_event c.args.worker c.args.part)) (sym c.holding_of.ensures)
     (ran_made c.args.shared.now c.ran_leaving.new.self c.args.worker c.args.part c.in-Ok.ran c.requires.idle free c.in-Ok.ensures.answered)
 
 pub returns-in-Err : goal.returns-in-Err

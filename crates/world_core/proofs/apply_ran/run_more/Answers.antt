@@ -1,7 +1,7 @@
 use Rattle.std.proofs.Common.{arith, ◌+◌, ◌-◌, ◌≤◌, sym}
 use Rattle.task_machine.specs.Run.{PausesBy}
 use Rattle.world_core.specs.Next.{IsNext}
-use Rattle.world_core.proofs.HandCauses.{on}
+use Rattle.world_core.proofs.HoldingCauses.{on}
 use Rattle.world_core.proofs.LocalRuns.{few_more, fits_on, next_on}
 use Rattle.world_core.proofs.Entries.{if_ok, ok_is}
 use Rattle.world_core.proofs.apply_ran.run_more.Goals as goal

@@ -60,8 +60,8 @@ invariant_of-self c =
     let free : refused w (alone_event k p) ≡ None = subst (λ (z : SharedValue). refused z (alone_event k p) ≡ None) (sym c.self.view_is) c.requires.free in
     let T : (n : ℕ) × Tells w p Returns n = subst (λ (z : SharedValue). (n : ℕ) × Tells z p Returns n) (sym c.self.view_is) c.requires.returns in
     let v : SharedValue = record w { steps = w.steps + (p.fresh + 1); end = Some (Machine Done) } in
-    along w k p _ _ c.enter_alone.ensures.steps c.enter_alone.ensures.journal (λ n j. IsSharedValue (record w { steps = n; end = Some (Machine Done); tree = c.set_state.new.self; homes = c.set-2.new.self; hands = c.set.new.self; journal = j }))
-    (subst IsSharedValue (sym (four_changed v (with_state w.tree p.task Ended) _ (slice_set w.homes p.task (Some (ended_rest p))) _ (slice_set w.hands k None) _ (entered w k p) _
+    along w k p _ _ c.enter_alone.ensures.steps c.enter_alone.ensures.journal (λ n j. IsSharedValue (record w { steps = n; end = Some (Machine Done); tree = c.set_state.new.self; homes = c.set-2.new.self; tasks_out = c.set.new.self; journal = j }))
+    (subst IsSharedValue (sym (four_changed v (with_state w.tree p.task Ended) _ (slice_set w.homes p.task (Some (ended_rest p))) _ (slice_set w.tasks_out k None) _ (entered w k p) _
     c.set_state.ensures (c.set-2.ensures ∙ ap (λ (r : Rest). slice_set w.homes p.task (Some r)) (c.put-rest.ensures ∙ c.at_end.ensures)) c.set.ensures refl))
     (finished_world w k p c.self.invariant F shared free T.0 T.1 c.requires.root (record { items = []; room = w.journal.room - 1 })))
 
@@ -75,8 +75,8 @@ returns c =
     let free : refused w (alone_event k p) ≡ None = subst (λ (z : SharedValue). refused z (alone_event k p) ≡ None) (sym c.self.view_is) c.requires.free in
     let T : (n : ℕ) × Tells w p Returns n = subst (λ (z : SharedValue). (n : ℕ) × Tells z p Returns n) (sym c.self.view_is) c.requires.returns in
     let v : SharedValue = record w { steps = w.steps + (p.fresh + 1); end = Some (Machine Done) } in
-    subst (λ (z : SharedValue). FinishesAlone z (record v { steps = c.enter_alone.new.steps; tree = c.set_state.new.self; homes = c.set-2.new.self; hands = c.set.new.self; journal = c.enter_alone.new.journal }) k p) c.self.view_is
-    (along w k p _ _ c.enter_alone.ensures.steps c.enter_alone.ensures.journal (λ n j. FinishesAlone w (record v { steps = n; tree = c.set_state.new.self; homes = c.set-2.new.self; hands = c.set.new.self; journal = j }) k p)
-    (subst (λ (z : SharedValue). FinishesAlone w z k p) (sym (four_changed v (with_state w.tree p.task Ended) _ (slice_set w.homes p.task (Some (ended_rest p))) _ (slice_set w.hands k None) _ (entered w k p) _
+    subst (λ (z : SharedValue). FinishesAlone z (record v { steps = c.enter_alone.new.steps; tree = c.set_state.new.self; homes = c.set-2.new.self; tasks_out = c.set.new.self; journal = c.enter_alone.new.journal }) k p) c.self.view_is
+    (along w k p _ _ c.enter_alone.ensures.steps c.enter_alone.ensures.journal (λ n j. FinishesAlone w (record v { steps = n; tree = c.set_state.new.self; homes = c.set-2.new.self; tasks_out = c.set.new.self; journal = j }) k p)
+    (subst (λ (z : SharedValue). FinishesAlone w z k p) (sym (four_changed v (with_state w.tree p.task Ended) _ (slice_set w.homes p.task (Some (ended_rest p))) _ (slice_set w.tasks_out k None) _ (entered w k p) _
     c.set_state.ensures (c.set-2.ensures ∙ ap (λ (r : Rest). slice_set w.homes p.task (Some r)) (c.put-rest.ensures ∙ c.at_end.ensures)) c.set.ensures refl))
     (finishes_alone w k p c.self.invariant F shared free T.0 T.1 c.requires.root (record { items = []; room = w.journal.room - 1 }))))

@@ -63,8 +63,8 @@ invariant_of-self c =
     let I : IsSharedValue w = c.self.invariant in
     let no : state_of w.tree (sibling p.task) ≡ Some Ended → ⊥ = λ e. c.requires.alone (subst (λ (z : SharedValue). state_of z.tree (sibling p.task) ≡ Some Ended) c.self.view_is e) in
     let v : SharedValue = record w { steps = w.steps + (p.fresh + 1) } in
-    along w k p _ _ c.enter_alone.ensures.steps c.enter_alone.ensures.journal (λ n j. IsSharedValue (record w { steps = n; tree = c.set_state.new.self; homes = c.set-2.new.self; hands = c.set.new.self; journal = j }))
-    (subst IsSharedValue (sym (four_changed v (with_state w.tree p.task Ended) _ (slice_set w.homes p.task (Some (ended_rest p))) _ (slice_set w.hands k None) _ (entered w k p) _
+    along w k p _ _ c.enter_alone.ensures.steps c.enter_alone.ensures.journal (λ n j. IsSharedValue (record w { steps = n; tree = c.set_state.new.self; homes = c.set-2.new.self; tasks_out = c.set.new.self; journal = j }))
+    (subst IsSharedValue (sym (four_changed v (with_state w.tree p.task Ended) _ (slice_set w.homes p.task (Some (ended_rest p))) _ (slice_set w.tasks_out k None) _ (entered w k p) _
     c.set_state.ensures (c.set-2.ensures ∙ ap (λ (r : Rest). slice_set w.homes p.task (Some r)) (c.put-rest.ensures ∙ c.at_end.ensures)) c.set.ensures refl))
     (alone_world w k p I F at free no (record { items = []; room = w.journal.room - 1 })))
 
@@ -79,14 +79,14 @@ returns-clause-ended c =
     let I : IsSharedValue w = c.self.invariant in
     let no : state_of w.tree (sibling p.task) ≡ Some Ended → ⊥ = λ e. c.requires.alone (subst (λ (z : SharedValue). state_of z.tree (sibling p.task) ≡ Some Ended) c.self.view_is e) in
     let v : SharedValue = record w { steps = w.steps + (p.fresh + 1) } in
-    subst (λ (z : SharedValue). EndsChild z (record v { steps = c.enter_alone.new.steps; tree = c.set_state.new.self; homes = c.set-2.new.self; hands = c.set.new.self; journal = c.enter_alone.new.journal }) k p None) c.self.view_is
-    (along w k p _ _ c.enter_alone.ensures.steps c.enter_alone.ensures.journal (λ n j. EndsChild w (record v { steps = n; tree = c.set_state.new.self; homes = c.set-2.new.self; hands = c.set.new.self; journal = j }) k p None)
-    (subst (λ (z : SharedValue). EndsChild w z k p None) (sym (four_changed v (with_state w.tree p.task Ended) _ (slice_set w.homes p.task (Some (ended_rest p))) _ (slice_set w.hands k None) _ (entered w k p) _
+    subst (λ (z : SharedValue). EndsChild z (record v { steps = c.enter_alone.new.steps; tree = c.set_state.new.self; homes = c.set-2.new.self; tasks_out = c.set.new.self; journal = c.enter_alone.new.journal }) k p None) c.self.view_is
+    (along w k p _ _ c.enter_alone.ensures.steps c.enter_alone.ensures.journal (λ n j. EndsChild w (record v { steps = n; tree = c.set_state.new.self; homes = c.set-2.new.self; tasks_out = c.set.new.self; journal = j }) k p None)
+    (subst (λ (z : SharedValue). EndsChild w z k p None) (sym (four_changed v (with_state w.tree p.task Ended) _ (slice_set w.homes p.task (Some (ended_rest p))) _ (slice_set w.tasks_out k None) _ (entered w k p) _
     c.set_state.ensures (c.set-2.ensures ∙ ap (λ (r : Rest). slice_set w.homes p.task (Some r)) (c.put-rest.ensures ∙ c.at_end.ensures)) c.set.ensures refl))
     (alone_ends w k p I F at free no (record { items = []; room = w.journal.room - 1 }))))
 
-pub returns-clause-hand : goal.returns-clause-hand
-returns-clause-hand c = c.set.ensures ∙ ap (λ (z : SharedValue). slice_set z.hands c.args.worker None) c.self.view_is
+pub returns-clause-task_out : goal.returns-clause-task_out
+returns-clause-task_out c = c.set.ensures ∙ ap (λ (z : SharedValue). slice_set z.tasks_out c.args.worker None) c.self.view_is
 
 pub enter_alone-requires-clause-room : goal.enter_alone-requires-clause-room
 enter_alone-requires-clause-room c = subst (λ (z : SharedValue). 0 < z.journal.room) (sym c.self.view_is) c.requires.room

@@ -105,8 +105,8 @@ invariant_of-self-2 c =
     let N : SetsFork w.sets c.fork_sets.new.sets.items p.task = subst (λ (xs : List SetOf). SetsFork xs c.fork_sets.new.sets.items p.task) c.in-Ok-grown.ensures.sets c.fork_sets.ensures in
     let j : RoomyValue EntryValue = record { items = []; room = w.journal.room - 1 } in
     let v : SharedValue = record w { steps = w.steps + (p.fresh + 1); sets = c.fork_sets.new.sets.items; marks = c.clear_marks.new.marks } in
-    along w k p _ _ c.enter_alone.ensures.steps c.enter_alone.ensures.journal (λ n j. IsSharedValue (record v { steps = n; tree = c.grow-grown.new.tree; homes = c.put_homes.new.homes; hands = c.set.new.self; journal = j }))
-    (subst IsSharedValue (sym (four_changed v (forked w.tree p.task) _ c.put_homes.new.homes c.put_homes.new.homes (slice_set w.hands k None) _ (entered w k p) _
+    along w k p _ _ c.enter_alone.ensures.steps c.enter_alone.ensures.journal (λ n j. IsSharedValue (record v { steps = n; tree = c.grow-grown.new.tree; homes = c.put_homes.new.homes; tasks_out = c.set.new.self; journal = j }))
+    (subst IsSharedValue (sym (four_changed v (forked w.tree p.task) _ c.put_homes.new.homes c.put_homes.new.homes (slice_set w.tasks_out k None) _ (entered w k p) _
     c.in-Ok-grown.ensures.tree refl c.set.ensures refl))
     (alone_world w k p I F at free c.args.left c.args.right B.0 B.1 low c.put_homes.new.homes c.fork_sets.new.sets.items H N c.clear_marks.new.marks c.clear_marks.ensures j))
 
@@ -128,9 +128,9 @@ returns-clause-answered c =
     let N : SetsFork w.sets c.fork_sets.new.sets.items p.task = subst (λ (xs : List SetOf). SetsFork xs c.fork_sets.new.sets.items p.task) c.in-Ok-grown.ensures.sets c.fork_sets.ensures in
     let j : RoomyValue EntryValue = record { items = []; room = w.journal.room - 1 } in
     let v : SharedValue = record w { steps = w.steps + (p.fresh + 1); sets = c.fork_sets.new.sets.items; marks = c.clear_marks.new.marks } in
-    subst (λ (z : SharedValue). ForksOn z (record v { steps = c.enter_alone.new.steps; tree = c.grow-grown.new.tree; homes = c.put_homes.new.homes; hands = c.set.new.self; journal = c.enter_alone.new.journal }) k p c.in-Ok-grown.first.task c.in-Ok-grown.second.task) c.self.view_is
-    (along w k p _ _ c.enter_alone.ensures.steps c.enter_alone.ensures.journal (λ n j. ForksOn w (record v { steps = n; tree = c.grow-grown.new.tree; homes = c.put_homes.new.homes; hands = c.set.new.self; journal = j }) k p c.in-Ok-grown.first.task c.in-Ok-grown.second.task)
-    (subst (λ (z : SharedValue). ForksOn w z k p c.in-Ok-grown.first.task c.in-Ok-grown.second.task) (sym (four_changed v (forked w.tree p.task) _ c.put_homes.new.homes c.put_homes.new.homes (slice_set w.hands k None) _ (entered w k p) _
+    subst (λ (z : SharedValue). ForksOn z (record v { steps = c.enter_alone.new.steps; tree = c.grow-grown.new.tree; homes = c.put_homes.new.homes; tasks_out = c.set.new.self; journal = c.enter_alone.new.journal }) k p c.in-Ok-grown.first.task c.in-Ok-grown.second.task) c.self.view_is
+    (along w k p _ _ c.enter_alone.ensures.steps c.enter_alone.ensures.journal (λ n j. ForksOn w (record v { steps = n; tree = c.grow-grown.new.tree; homes = c.put_homes.new.homes; tasks_out = c.set.new.self; journal = j }) k p c.in-Ok-grown.first.task c.in-Ok-grown.second.task)
+    (subst (λ (z : SharedValue). ForksOn w z k p c.in-Ok-grown.first.task c.in-Ok-grown.second.task) (sym (four_changed v (forked w.tree p.task) _ c.put_homes.new.homes c.put_homes.new.homes (slice_set w.tasks_out k None) _ (entered w k p) _
     c.in-Ok-grown.ensures.tree refl c.set.ensures refl))
     (alone_forks w k p I F at free c.args.left c.args.right B.0 B.1 low c.put_homes.new.homes c.fork_sets.new.sets.items H N c.clear_marks.new.marks c.clear_marks.ensures j c.in-Ok-grown.first.task c.in-Ok-grown.second.task
     (ap (λ (z : Child). z.task) c.in-Ok-grown.ensures.left_child) (ap (λ (z : Child). z.task) c.in-Ok-grown.ensures.right_child))))
@@ -150,8 +150,8 @@ pub returns-in_default-grown-clause-same : goal.returns-in_default-grown-clause-
 returns-in_default-grown-clause-same c =
     unchanged_by (the_view c.self.inside) c.grow-grown.new.tree c.grow-grown.new.homes c.grow-grown.new.sets.items c.in_default-grown.ensures.same_tree c.in_default-grown.ensures.same_homes c.in_default-grown.ensures.sets ∙ c.self.view_is
 
-pub returns-clause-hand : goal.returns-clause-hand
-returns-clause-hand c = c.set.ensures ∙ ap (λ (z : SharedValue). slice_set z.hands c.args.worker None) c.self.view_is
+pub returns-clause-task_out : goal.returns-clause-task_out
+returns-clause-task_out c = c.set.ensures ∙ ap (λ (z : SharedValue). slice_set z.tasks_out c.args.worker None) c.self.view_is
 
 pub grow-grown-requires-clause-shallow : goal.grow-grown-requires-clause-shallow
 grow-grown-requires-clause-shallow c = subst (λ (z : SharedValue). depth_of z.tree c.args.part.task < 1000) (sym c.self.view_is) c.requires.shallow

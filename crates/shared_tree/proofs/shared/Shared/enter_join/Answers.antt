@@ -417,8 +417,8 @@ invariant_of-self c =
     let both = both_made w k p I F at free ended c.args.parent c.sibling_of-other.result par o n1 n2 n3 x1 x2 x3 h1 h2 above c.leave_own-own.result c.leave_other-beside.result left right pool rest noted sets homes j T P in
     let v : SharedValue = record w { pool = pool; sets = sets; steps = w.steps + (p.fresh + 1) } in
     let tree : c.join_children-rest.new.tree ≡ joined_nodes (with_state w.tree p.task Ended) c.args.parent left.side.task right.side.task = c.join_children-rest.ensures.tree ∙ ap (λ ns. joined_nodes ns c.args.parent left.side.task right.side.task) c.set_state.ensures in
-    let same = four_changed v (joined_nodes (with_state w.tree p.task Ended) c.args.parent left.side.task right.side.task) c.join_children-rest.new.tree homes homes (slice_set w.hands k None) c.set.new.self (entered w k p) _ tree refl c.set.ensures refl in
-    along w k p _ _ c.enter_alone.ensures.steps c.enter_alone.ensures.journal (λ n j. IsSharedValue (record v { steps = n; tree = c.join_children-rest.new.tree; homes = homes; hands = c.set.new.self; journal = j })) (subst IsSharedValue (sym same) both.0)
+    let same = four_changed v (joined_nodes (with_state w.tree p.task Ended) c.args.parent left.side.task right.side.task) c.join_children-rest.new.tree homes homes (slice_set w.tasks_out k None) c.set.new.self (entered w k p) _ tree refl c.set.ensures refl in
+    along w k p _ _ c.enter_alone.ensures.steps c.enter_alone.ensures.journal (λ n j. IsSharedValue (record v { steps = n; tree = c.join_children-rest.new.tree; homes = homes; tasks_out = c.set.new.self; journal = j })) (subst IsSharedValue (sym same) both.0)
 
 pub returns-clause-joined : goal.returns-clause-joined
 returns-clause-joined c =
@@ -487,10 +487,10 @@ returns-clause-joined c =
     let both = both_made w k p I F at free ended c.args.parent c.sibling_of-other.result par o n1 n2 n3 x1 x2 x3 h1 h2 above c.leave_own-own.result c.leave_other-beside.result left right pool rest noted sets homes j T P in
     let v : SharedValue = record w { pool = pool; sets = sets; steps = w.steps + (p.fresh + 1) } in
     let tree : c.join_children-rest.new.tree ≡ joined_nodes (with_state w.tree p.task Ended) c.args.parent left.side.task right.side.task = c.join_children-rest.ensures.tree ∙ ap (λ ns. joined_nodes ns c.args.parent left.side.task right.side.task) c.set_state.ensures in
-    let same = four_changed v (joined_nodes (with_state w.tree p.task Ended) c.args.parent left.side.task right.side.task) c.join_children-rest.new.tree homes homes (slice_set w.hands k None) c.set.new.self (entered w k p) _ tree refl c.set.ensures refl in
-    subst (λ (z : SharedValue). EndsChild z (record v { steps = c.enter_alone.new.steps; tree = c.join_children-rest.new.tree; homes = homes; hands = c.set.new.self; journal = c.enter_alone.new.journal }) k p (Some c.args.parent)) c.self.view_is
-    (along w k p _ _ c.enter_alone.ensures.steps c.enter_alone.ensures.journal (λ n j. EndsChild w (record v { steps = n; tree = c.join_children-rest.new.tree; homes = homes; hands = c.set.new.self; journal = j }) k p (Some c.args.parent))
+    let same = four_changed v (joined_nodes (with_state w.tree p.task Ended) c.args.parent left.side.task right.side.task) c.join_children-rest.new.tree homes homes (slice_set w.tasks_out k None) c.set.new.self (entered w k p) _ tree refl c.set.ensures refl in
+    subst (λ (z : SharedValue). EndsChild z (record v { steps = c.enter_alone.new.steps; tree = c.join_children-rest.new.tree; homes = homes; tasks_out = c.set.new.self; journal = c.enter_alone.new.journal }) k p (Some c.args.parent)) c.self.view_is
+    (along w k p _ _ c.enter_alone.ensures.steps c.enter_alone.ensures.journal (λ n j. EndsChild w (record v { steps = n; tree = c.join_children-rest.new.tree; homes = homes; tasks_out = c.set.new.self; journal = j }) k p (Some c.args.parent))
     (subst (λ (z : SharedValue). EndsChild w z k p (Some c.args.parent)) (sym same) both.1))
 
-pub returns-clause-hand : goal.returns-clause-hand
-returns-clause-hand c = c.set.ensures ∙ ap (λ (z : SharedValue). slice_set z.hands c.args.worker None) c.self.view_is
+pub returns-clause-task_out : goal.returns-clause-task_out
+returns-clause-task_out c = c.set.ensures ∙ ap (λ (z : SharedValue). slice_set z.tasks_out c.args.worker None) c.self.view_is

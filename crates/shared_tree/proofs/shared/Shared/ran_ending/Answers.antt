@@ -76,10 +76,10 @@ returns-in-Err-clause-still c =
     let free : refused w (alone_event k p) ≡ None = sym c.alone_refused.ensures ∙ c.in_default.is in
     λ u r G. places_fit w c.make_join_places.new.self c.make_join_places.ensures.same u r G
 
-pub returns-in-Ok-clause-hand : goal.returns-in-Ok-clause-hand
-returns-in-Ok-clause-hand c =
+pub returns-in-Ok-clause-task_out : goal.returns-in-Ok-clause-task_out
+returns-in-Ok-clause-task_out c =
     let w : SharedValue = c.args.self.now in
-    c.enter_join.ensures.hand ∙ ap (λ (z : SharedValue). slice_set z.hands c.args.worker None) c.make_join_places.ensures.same.rest
+    c.enter_join.ensures.task_out ∙ ap (λ (z : SharedValue). slice_set z.tasks_out c.args.worker None) c.make_join_places.ensures.same.rest
 
 not_yes : false ≡ true → ⊥
 not_yes e = cc
@@ -139,8 +139,8 @@ returns-then-not-is_ended-clause-back c = c.ran_first.ensures.back
 pub returns-then-not-is_ended-clause-answered : goal.returns-then-not-is_ended-clause-answered
 returns-then-not-is_ended-clause-answered c = c.ran_first.ensures.answered
 
-pub returns-then-not-is_ended-clause-hand : goal.returns-then-not-is_ended-clause-hand
-returns-then-not-is_ended-clause-hand c = c.ran_first.ensures.hand
+pub returns-then-not-is_ended-clause-task_out : goal.returns-then-not-is_ended-clause-task_out
+returns-then-not-is_ended-clause-task_out c = c.ran_first.ensures.task_out
 
 pub alone_refused-requires-clause-shared : goal.alone_refused-requires-clause-shared
 alone_refused-requires-clause-shared c = end_shared c.args.self.now c.args.part c.requires.ends

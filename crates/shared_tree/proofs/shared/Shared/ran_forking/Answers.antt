@@ -64,11 +64,11 @@ returns-else-depth-lt-DEPTH_LIMIT-clause-answered c = c.enter_halt.ensures
 pub returns-then-depth-lt-DEPTH_LIMIT-clause-answered : goal.returns-then-depth-lt-DEPTH_LIMIT-clause-answered
 returns-then-depth-lt-DEPTH_LIMIT-clause-answered c = c.enter_fork.ensures.answered
 
-pub returns-then-depth-lt-DEPTH_LIMIT-clause-hand : goal.returns-then-depth-lt-DEPTH_LIMIT-clause-hand
-returns-then-depth-lt-DEPTH_LIMIT-clause-hand c = c.enter_fork.ensures.hand
+pub returns-then-depth-lt-DEPTH_LIMIT-clause-task_out : goal.returns-then-depth-lt-DEPTH_LIMIT-clause-task_out
+returns-then-depth-lt-DEPTH_LIMIT-clause-task_out c = c.enter_fork.ensures.task_out
 
-pub returns-else-depth-lt-DEPTH_LIMIT-clause-hand : goal.returns-else-depth-lt-DEPTH_LIMIT-clause-hand
-returns-else-depth-lt-DEPTH_LIMIT-clause-hand c = tt
+pub returns-else-depth-lt-DEPTH_LIMIT-clause-task_out : goal.returns-else-depth-lt-DEPTH_LIMIT-clause-task_out
+returns-else-depth-lt-DEPTH_LIMIT-clause-task_out c = tt
 
 pub alone_refused-requires-clause-shared : goal.alone_refused-requires-clause-shared
 alone_refused-requires-clause-shared c = fork_shared c.args.self.now c.args.part c.requires.forks

@@ -36,7 +36,7 @@ returns-in-Forked c =
       still = tt;
       back = tt;
       answered = subst (λ (f : Forking). RanTo w v c.args.worker c.args.part (ran_by f)) c.in-Forked.is
-          (forks_to w v c.args.worker c.args.part c.stands.ensures c.stands-in-Forks.ensures c.requires.free c.in_ok-forking-in-Forks.forking c.in_ok-forking-in-Forks.ensures.answered c.in_ok-forking-in-Forks.ensures.hand);
+          (forks_to w v c.args.worker c.args.part c.stands.ensures c.stands-in-Forks.ensures c.requires.free c.in_ok-forking-in-Forks.forking c.in_ok-forking-in-Forks.ensures.answered c.in_ok-forking-in-Forks.ensures.task_out);
     }
 
 pub returns-in-Over : goal.returns-in-Over
@@ -49,7 +49,7 @@ returns-in-Over c =
       still = tt;
       back = tt;
       answered = subst (λ (f : Forking). RanTo w v c.args.worker c.args.part (ran_by f)) c.in-Over.is
-          (forks_to w v c.args.worker c.args.part c.stands.ensures c.stands-in-Forks.ensures c.requires.free c.in_ok-forking-in-Forks.forking c.in_ok-forking-in-Forks.ensures.answered c.in_ok-forking-in-Forks.ensures.hand);
+          (forks_to w v c.args.worker c.args.part c.stands.ensures c.stands-in-Forks.ensures c.requires.free c.in_ok-forking-in-Forks.forking c.in_ok-forking-in-Forks.ensures.answered c.in_ok-forking-in-Forks.ensures.task_out);
     }
 
 pub ran_ending-requires-clause-ends : goal.ran_ending-requires-clause-ends
@@ -77,7 +77,7 @@ returns-in_ok-resumed-in-Ends c = record {
   back = tt;
   answered = (
     c.in_ok-resumed-in-Ends.ensures.answered,
-    holds_none c.args.self.now c.ran_ending.new.self c.args.worker c.args.part c.stands.ensures c.stands-in-Ends.ensures c.requires.free c.in_ok-resumed-in-Ends.ensures.hand,
+    holds_none c.args.self.now c.ran_ending.new.self c.args.worker c.args.part c.stands.ensures c.stands-in-Ends.ensures c.requires.free c.in_ok-resumed-in-Ends.ensures.task_out,
   );
 }
 

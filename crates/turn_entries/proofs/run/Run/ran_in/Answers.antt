@@ -7,7 +7,7 @@ use Rattle.task_machine.specs.declared.part.Paused.TheVariants.{Shared}
 use Rattle.own_steps.specs.Alone.{FinishesAlone, HaltsAlone}
 use Rattle.child_tasks.specs.ChildEnds.{EndsChild}
 use Rattle.child_tasks.specs.Forks.{ForksOn}
-use Rattle.child_tasks.specs.Hands.{HoldsNone}
+use Rattle.child_tasks.specs.NoTask.{HoldsNone}
 use Rattle.shared_tree.specs.Ran.{RanTo}
 use Rattle.turn_entries.specs.declared.held.Ready.TheVariants.{Paused as HasPaused}
 use Rattle.turn_entries.specs.Acts.{Follows}

@@ -7,7 +7,7 @@ use Rattle.run_ledger.specs.Heaps.{heap_of}
 use Rattle.run_ledger.specs.Journals.{ledger_of, opening}
 use Rattle.core_relation.specs.Whole.{handed}
 use Rattle.shared_value.specs.SharedValue.{SharedValue}
-use Rattle.child_tasks.specs.Hands.{HoldsNone}
+use Rattle.child_tasks.specs.NoTask.{HoldsNone}
 use Rattle.world_core.specs.declared.held.Held.{Held}
 use Rattle.world_core.specs.declared.held.Held.TheVariants.{Nothing}
 use Rattle.world_core.specs.WorldValue.{AllHold, Holds}
@@ -21,7 +21,7 @@ none_held p s (suc t) k h = absurd cc
 holds_none : (w : SharedValue) (k : ℕ) → w.journal.items ≡ [] → HoldsNone w k
 holds_none w k none t h = none_held w.program w.settings t k (ap (λ (j : List EntryValue). (heap_of (handed (ledger_of w.program w.settings j)) t).worker) (sym none) ∙ h)
 
--- hands that hold nothing
+-- holdings of nothing
 each_nothing : (n k : ℕ) (h : Held) → slice_get (replicate n Nothing) k ≡ Some h → Nothing ≡ h
 each_nothing zero k h e = absurd cc
 each_nothing (suc n) zero h e = same_Some Nothing h e
@@ -36,6 +36,6 @@ first_hold w n none k h at = subst (λ (x : Held). Holds w false k x) (each_noth
 
 pub invariant_of-result : goal.invariant_of-result
 invariant_of-result c = record {
-  count = ap length c.in_ok-hands.ensures ∙ (as_many c.workers.result ∙ (c.workers.ensures.value ∙ ap (λ (s : SettingsValue). s.workers) (sym c.in_ok-shared.ensures.settings)));
-  hands = subst (λ (hs : List Held). AllHold c.in_ok-shared.shared false hs) (sym c.in_ok-hands.ensures) (first_hold c.in_ok-shared.shared c.workers.result c.in_ok-shared.ensures.journal);
+  count = ap length c.in_ok-holdings.ensures ∙ (as_many c.workers.result ∙ (c.workers.ensures.value ∙ ap (λ (s : SettingsValue). s.workers) (sym c.in_ok-shared.ensures.settings)));
+  holdings = subst (λ (hs : List Held). AllHold c.in_ok-shared.shared false hs) (sym c.in_ok-holdings.ensures) (first_hold c.in_ok-shared.shared c.workers.result c.in_ok-shared.ensures.journal);
 }

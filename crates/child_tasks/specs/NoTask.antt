@@ -11,6 +11,6 @@ abbrev pub HoldsNone : SharedValue → ℕ → Type 0
 HoldsNone w k = (t : ℕ) → (heap_of (handed (accounts w)) t).worker ≢ Some k
 
 -- where a task has forked, the worker that held it holds none
-abbrev pub LeavesHand : List (Option ℕ) → List (Option ℕ) → ℕ → Forking → Type 0
-LeavesHand hands after k (Forked left right) = after ≡ slice_set hands k None
-LeavesHand hands after k (Over q) = Unit {0}
+abbrev pub GivesTaskUp : List (Option ℕ) → List (Option ℕ) → ℕ → Forking → Type 0
+GivesTaskUp tasks_out after k (Forked left right) = after ≡ slice_set tasks_out k None
+GivesTaskUp tasks_out after k (Over q) = Unit {0}

@@ -1,6 +1,6 @@
 use Rattle.std.proofs.Common.{◌≡◌, replicate}
 use Rattle.world_core.specs.declared.held.Held.TheVariants.{Nothing}
-use Rattle.world_core.proofs.world.empty_hands.Given as goal
+use Rattle.world_core.proofs.world.empty_holdings.Given as goal
 
 abbrev pub invariant-loop-i : goal.invariant-loop-i
-invariant-loop-i l = l.hands ≡ replicate l.i Nothing
+invariant-loop-i l = l.holdings ≡ replicate l.i Nothing

@@ -10,7 +10,7 @@ use Rattle.run_ledger.specs.Entries.{held_from}
 use Rattle.listed.specs.Options.{option_is}
 use Rattle.run_ledger.proofs.Accepted.{is_held}
 use Rattle.run_ledger.proofs.Frames.{held_is}
-use Rattle.core_relation.specs.EntryLaws.{HandsAreHeld}
+use Rattle.core_relation.specs.EntryLaws.{TasksOutAreHeld}
 
 -- where no heap is found, the worker holds none
 none_from : (w k : ℕ) (hs : List Heap) → held_from w k hs ≡ None → (u : ℕ) → (or_fresh (slice_get hs u)).worker ≡ Some w → ⊥
@@ -34,16 +34,16 @@ some_from w k t (x ∷ hs) e = by (λ q. some_from w (k + 1) t hs q) (option_is 
     by more true q e = (0, (let a : k ≡ t = same_Some k t e in omega (arith, a)), held_is x.worker w q)
     by more false q e = let r = more e in (suc r.0, (let a : t ≡ k + 1 + r.0 = r.1 in omega (arith, a)), r.2)
 
-pub hands_are_held : HandsAreHeld
-hands_are_held c l T w = by (held_from w 0 l.heaps) refl
+pub tasks_out_are_held : TasksOutAreHeld
+tasks_out_are_held c l T w = by (held_from w 0 l.heaps) refl
   where
-    none_in : (o : Option ℕ) → c.hand w ≡ o → held_from w 0 l.heaps ≡ None → o ≡ None
+    none_in : (o : Option ℕ) → c.task_out w ≡ o → held_from w 0 l.heaps ≡ None → o ≡ None
     none_in None q e = refl
-    none_in (Some t) q e = absurd (none_held l w e t ((T.hand w t).0 q))
+    none_in (Some t) q e = absurd (none_held l w e t ((T.task_out w t).0 q))
 
-    by : (o : Option ℕ) → held_from w 0 l.heaps ≡ o → c.hand w ≡ o
-    by None e = none_in (c.hand w) refl e
+    by : (o : Option ℕ) → held_from w 0 l.heaps ≡ o → c.task_out w ≡ o
+    by None e = none_in (c.task_out w) refl e
     by (Some t) e =
         let r = some_from w 0 t l.heaps e in
         let same : t ≡ r.0 = (let a : t ≡ 0 + r.0 = r.1 in omega (arith, a)) in
-        (T.hand w t).1 (ap (λ z. (heap_of l z).worker) same ∙ r.2)
+        (T.task_out w t).1 (ap (λ z. (heap_of l z).worker) same ∙ r.2)

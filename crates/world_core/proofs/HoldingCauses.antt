@@ -25,7 +25,7 @@ use Rattle.shared_value.specs.SharedValue.{SharedValue, accounts}
 use Rattle.shared_value.proofs.CollectionUnderWay.{at_part, begun_is}
 use Rattle.shared_value.proofs.CausesTold.{on_is, refused_is}
 use Rattle.own_steps.proofs.TaskNotHeld.{apart_cause, unless_false}
-use Rattle.child_tasks.specs.Hands.{HoldsNone}
+use Rattle.child_tasks.specs.NoTask.{HoldsNone}
 use Rattle.leaf_collections.specs.LeafEnd.{FitsCopied, end_event}
 use Rattle.leaf_collections.proofs.WhyNoEnd.{end_answer, unless_true}
 use Rattle.copied_part_laws.specs.Handed.{IsCopying}
@@ -97,14 +97,14 @@ module _ (w : SharedValue) (k : ℕ) (I : IsSharedValue w) (first : first_cause 
         behind kind not_fuel ∙ (runs ∙ (ap (λ u. on_running l k u rest) at ∙ (amid q b rest F begun ∙ is)))
     by_copy p q b false e task F begun is = apart t kind cause held is (other t q.task F.held (ap (λ u. u == t) (sym task) ∙ e))
 
-    by_hand : (h : Held) → Holds w false k h → idle_cause h t ≡ Some cause → refused w (record { worker = k; kind = kind }) ≡ Some cause
-    by_hand Nothing H is = apart t kind cause held is (none H t)
-    by_hand (Part p) H is = by_part p (p.task == t) refl H.fits.held is
-    by_hand (Copied p moved) H is = by_copy p H.before H.begun (p.task == t) refl (ap (λ (q : Private). q.task) H.part) H.fits H.amid is
+    by_holding : (h : Held) → Holds w false k h → idle_cause h t ≡ Some cause → refused w (record { worker = k; kind = kind }) ≡ Some cause
+    by_holding Nothing H is = apart t kind cause held is (none H t)
+    by_holding (Part p) H is = by_part p (p.task == t) refl H.fits.held is
+    by_holding (Copied p moved) H is = by_copy p H.before H.begun (p.task == t) refl (ap (λ (q : Private). q.task) H.part) H.fits H.amid is
 
   pub idle_refused : (t : ℕ) (h : Held) (cause : Refused) (kind : Kind) (rest : Option Refused) → Holds w false k h → idle_cause h t ≡ Some cause → task_held kind ≡ Some t → is_fuel kind ≡ false → kind_refusal w.program w.settings l k kind ≡ on_running l k t rest
       → refused w (record { worker = k; kind = kind }) ≡ Some cause
-  idle_refused t h cause kind rest H is held not_fuel runs = by_hand t kind rest cause held not_fuel runs h H is
+  idle_refused t h cause kind rest H is held not_fuel runs = by_holding t kind rest cause held not_fuel runs h H is
 
   -- THE END OF A COLLECTION
   module _ (t a g n : ℕ) where
