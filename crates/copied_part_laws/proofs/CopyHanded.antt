@@ -29,7 +29,7 @@ use Rattle.task_machine.specs.declared.part.Private.{Private}
 use Rattle.shared_value.specs.Fits.{home_of_part}
 use Rattle.shared_value.specs.Measured.{AreMeasured, AreUnits, news_of}
 use Rattle.shared_value.proofs.UnitsMeasured.{measured_both}
-use Rattle.shared_value.specs.SharedValue.{SharedValue, accounts, frames_of, home_with, value_of}
+use Rattle.shared_value.specs.SharedValue.{SharedValue, accounts, frames_down, home_with, value_of}
 use Rattle.leaf_collections.specs.LeafEnd.{AreBack, FitsCopied}
 use Rattle.heap_marking.proofs.SweptUnits.{few_units}
 use Rattle.copied_part_laws.specs.Copied.{IsBegun, part_home}
@@ -61,7 +61,7 @@ module _ (w : SharedValue) (k : ℕ) (p : Private) (b : Begun) (news : List Chun
   H = part_home p.heap p.view p.allocations p.frames (Some b)
 
   home_is : home_of_part p ≡ H
-  home_is = ap (λ o. record (home_with p.heap p.view p.allocations (frames_of p.frames) (pos 0, None)) { begun = o }) C.begun
+  home_is = ap (λ o. record (home_with p.heap p.view p.allocations (frames_down p.frames) (pos 0, None)) { begun = o }) C.begun
 
   fits : PartFits w.program w.settings (before w.settings p.task H) (value_of w) (aside (accounts w))
   fits =

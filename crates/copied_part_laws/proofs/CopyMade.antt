@@ -18,7 +18,7 @@ use Rattle.object_layout.specs.Objects.{Located}
 use Rattle.alloc_path.specs.LeafHeapValue.{LeafHeapValue, with_places}
 use Rattle.alloc_path.specs.View.{Level}
 use Rattle.task_frames.specs.declared.frames.Frame.{Frame}
-use Rattle.task_frames.specs.FramesValue.{FramesValue, frames_of as all_frames}
+use Rattle.task_frames.specs.FramesValue.{FramesValue, frames_of}
 use Rattle.leaf_copy_gc.specs.declared.lists.Moved.{Moved}
 use Rattle.leaf_copy_gc.specs.declared.lists.Survivor.{Survivor}
 use Rattle.leaf_copy_gc.specs.Survivors.{olds, outside}
@@ -44,7 +44,7 @@ use Rattle.core_relation.proofs.objects.Members.{in_map, map_in}
 use Rattle.core_relation.proofs.changes.With.{at_home}
 use Rattle.shared_value.specs.Objects.{chunk_of, chunks_of}
 use Rattle.shared_value.specs.Stands.{HeapForm}
-use Rattle.shared_value.specs.SharedValue.{frames_of}
+use Rattle.shared_value.specs.SharedValue.{frames_down}
 use Rattle.shared_value.proofs.HeapLaidOut.{inside_from}
 use Rattle.copied_part_laws.specs.Copied.{CopiesFit, IsBegun, part_home}
 use Rattle.copied_part_laws.proofs.CopiedForm as forming
@@ -74,7 +74,7 @@ map_last f [] x = refl
 map_last f (z ∷ xs) x = ap (λ qs. f z ∷ qs) (map_last f xs x)
 
 -- frames with their references led
-frames_led : (f : Addr → Addr) (s s' : FramesValue) → all_frames s' ≡ map (led_frame_by (led f)) (all_frames s) → frames_of s' ≡ map (led_frame f) (frames_of s)
+frames_led : (f : Addr → Addr) (s s' : FramesValue) → frames_of s' ≡ map (led_frame_by (led f)) (frames_of s) → frames_down s' ≡ map (led_frame f) (frames_down s)
 frames_led f s s' e =
     let r = last_same s'.below (map (led_frame_by (led f)) s.below) s'.top (led_frame_by (led f) s.top) (e ∙ map_last (led_frame_by (led f)) s.below s.top) in
     ap₂ (λ x xs. x ∷ xs) r.1 r.0
@@ -244,7 +244,7 @@ module _ (p : ProgramText) (st : SettingsValue) (t : ℕ) (h : LeafHeapValue) (v
       owned = λ c i. (let k = map_in chunk_of (L ++ (K ++ R)) c i in ap (λ (z : Chunk). v.owner z.number) (sym k.2) ∙ owned_each k.0 k.1);
       kept = λ o i j. moving.kept h (outside s b.roots) C.survivors news C.are B.new (naming.settled h (outside s b.roots) C.survivors news C.are B.new l.machine a O) (naming.reserved h (outside s b.roots) C.survivors news C.are B.new l.machine a O) o i (dies C.survivors C.are o i j);
       only = came;
-      frames = frames_led to s s' (C.frames ∙ ap (λ (w : Option Addr → Option Addr). map (led_frame_by w) (all_frames s)) (moving.g_is h (outside s b.roots) C.survivors news C.are B.new (naming.settled h (outside s b.roots) C.survivors news C.are B.new l.machine a O) (naming.reserved h (outside s b.roots) C.survivors news C.are B.new l.machine a O)));
+      frames = frames_led to s s' (C.frames ∙ ap (λ (w : Option Addr → Option Addr). map (led_frame_by w) (frames_of s)) (moving.g_is h (outside s b.roots) C.survivors news C.are B.new (naming.settled h (outside s b.roots) C.survivors news C.are B.new l.machine a O) (naming.reserved h (outside s b.roots) C.survivors news C.are B.new l.machine a O)));
       same = same_out;
     }
 

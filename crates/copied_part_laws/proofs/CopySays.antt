@@ -20,7 +20,7 @@ use Rattle.alloc_path.specs.LeafHeapValue.{LeafHeapValue}
 use Rattle.alloc_path.specs.Units.{counted32, unit_count}
 use Rattle.alloc_path.specs.View.{Level}
 use Rattle.task_frames.specs.declared.frames.Frame.{Frame}
-use Rattle.task_frames.specs.FramesValue.{FramesValue, frames_of as all_frames}
+use Rattle.task_frames.specs.FramesValue.{FramesValue, frames_of}
 use Rattle.leaf_copy_gc.specs.Survivors.{as_reference, held_by as refs_held, outside, references_in}
 use Rattle.ledger_step_laws.proofs.Rested.{rested_view, rested_worker}
 use Rattle.task_machine.specs.declared.part.Begun.{Begun}
@@ -28,7 +28,7 @@ use Rattle.core_relation.specs.Memory.{Home, In, Memory}
 use Rattle.core_relation.specs.Reads.{AllRead, FramesAreRead, HoldsRead, TaskIsRead}
 use Rattle.core_relation.specs.Stands.{Place}
 use Rattle.shared_value.specs.Objects.{chunks_of}
-use Rattle.shared_value.specs.SharedValue.{frames_of}
+use Rattle.shared_value.specs.SharedValue.{frames_down}
 use Rattle.heap_marking.proofs.HeapClosed as reads
 use Rattle.copied_part_laws.specs.Copied.{BegunCanCopy, CanCopy, IsBegun, NumbersAreSaid}
 use Rattle.copied_part_laws.proofs.CopyMade as copying
@@ -82,23 +82,23 @@ module _ (p : ProgramText) (st : SettingsValue) (t : ℕ) (h : LeafHeapValue) (v
   closed = reads.closed V lt (copying.stands p st t h view count s b news v l B) t (rested_worker l t) h.chunks home B.form.shaped.apart B.form.near
 
   module _ (x : Task) (is : slice_get l.machine.tasks t ≡ Some x) (runs : x.status ≡ Running) (rooted : All (IsSound h.chunks) (map as_reference b.roots)) where
-    read : FramesAreRead At (frames_of s) (x.top ∷ x.below)
+    read : FramesAreRead At (frames_down s) (x.top ∷ x.below)
     read =
         let T : TaskIsRead At (V.homes t) x = (copying.stands p st t h view count s b news v l B).tasks t x (rested_worker l t) (ap (λ (m : State). slice_get m.tasks t) (copying.machine p st t h view count s b news v l B) ∙ is) in
         subst (λ (z : Home). FramesAreRead At z.frames (x.top ∷ x.below)) (copying.here p st t h view count s b news v l B) (subst (HoldsRead At (V.homes t) x) runs T)
 
-    from_stack : (f : Frame) → In (all_frames s) f → In (frames_of s) f
+    from_stack : (f : Frame) → In (frames_of s) f → In (frames_down s) f
     from_stack f i = elim (in_append_cases s.below (s.top ∷ []) f i) [
       | inl j ↦ inr j
       | inr (inl e) ↦ inl e
       | inr (inr z) ↦ absurd z
     ]
 
-    held : (r : Option Addr) → In (refs_held (all_frames s)) r → IsSound h.chunks r
+    held : (r : Option Addr) → In (refs_held (frames_of s)) r → IsSound h.chunks r
     held None i = tt
     held (Some r) i =
-        let f = flat_in references_in (all_frames s) (Some r) i in
-        let n = frame_one At (frames_of s) (x.top ∷ x.below) f.1 r read (from_stack f.1 (got_in (all_frames s) f.0 f.1 f.2)) f.3 in
+        let f = flat_in references_in (frames_of s) (Some r) i in
+        let n = frame_one At (frames_down s) (x.top ∷ x.below) f.1 r read (from_stack f.1 (got_in (frames_of s) f.0 f.1 f.2)) f.3 in
         sound_at n.0 r n.1
 
     root : (r : Option Addr) → In (map as_reference b.roots) r → IsSound h.chunks r
@@ -107,7 +107,7 @@ module _ (p : ProgramText) (st : SettingsValue) (t : ℕ) (h : LeafHeapValue) (v
     pub can_copy : CanCopy h s b.roots
     can_copy = record {
       closed = closed;
-      outside = all_from (IsSound h.chunks) (outside s b.roots) (λ r i. elim (in_append_cases (refs_held (all_frames s)) (map as_reference b.roots) r i) [ inl j ↦ held r j | inr j ↦ root r j ]);
+      outside = all_from (IsSound h.chunks) (outside s b.roots) (λ r i. elim (in_append_cases (refs_held (frames_of s)) (map as_reference b.roots) r i) [ inl j ↦ held r j | inr j ↦ root r j ]);
     }
 
 pub begun_can_copy : BegunCanCopy

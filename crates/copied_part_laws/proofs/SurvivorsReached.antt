@@ -9,16 +9,16 @@ use Rattle.object_layout.specs.Graph.{IsHeld, Leads}
 use Rattle.object_layout.specs.Objects.{Located}
 use Rattle.alloc_path.specs.LeafHeapValue.{AreApart}
 use Rattle.task_frames.specs.declared.frames.Frame.{Frame}
-use Rattle.task_frames.specs.FramesValue.{FramesValue, frames_of as all_frames}
+use Rattle.task_frames.specs.FramesValue.{FramesValue, frames_of}
 use Rattle.leaf_copy_gc.specs.Survivors.{IsSurvivor, Starts, as_reference, held_by, outside, references_in}
 use Rattle.core_relation.specs.Memory.{Home, In, objects_in}
 use Rattle.core_relation.specs.Begins.{IsAt, IsReachedAt, LeadsAt, StartsAt}
 use Rattle.core_relation.proofs.objects.Members.{in_map, map_in}
 use Rattle.shared_value.specs.Objects.{chunks_of}
-use Rattle.shared_value.specs.SharedValue.{frames_of}
+use Rattle.shared_value.specs.SharedValue.{frames_down}
 use Rattle.heap_marking.proofs.HeapClosed.{held_seen, seen_held}
 
-module _ (ks : List ChunkValue) (A : AreApart ks) (home : Home) (s : FramesValue) (roots : List Addr) (chunks : home.chunks ≡ chunks_of ks) (frames : home.frames ≡ frames_of s) where
+module _ (ks : List ChunkValue) (A : AreApart ks) (home : Home) (s : FramesValue) (roots : List Addr) (chunks : home.chunks ≡ chunks_of ks) (frames : home.frames ≡ frames_down s) where
   -- ---- OBJECTS
 
   in_chunks : (o : Located) → In (objects_in home.chunks) o → In (objects_in (chunks_of ks)) o
@@ -35,24 +35,24 @@ module _ (ks : List ChunkValue) (A : AreApart ks) (home : Home) (s : FramesValue
 
   -- ---- REGISTERS
 
-  in_stack : (f : Frame) → In (frames_of s) f → In (all_frames s) f
+  in_stack : (f : Frame) → In (frames_down s) f → In (frames_of s) f
   in_stack f (inl e) = in_append_right s.below (s.top ∷ []) f (inl e)
   in_stack f (inr i) = in_append_left s.below (s.top ∷ []) f i
 
-  from_stack : (g : Frame) → In (all_frames s) g → In (frames_of s) g
+  from_stack : (g : Frame) → In (frames_of s) g → In (frames_down s) g
   from_stack g i = elim (in_append_cases s.below (s.top ∷ []) g i) [
     | inl j ↦ inr j
     | inr (inl e) ↦ inl e
     | inr (inr z) ↦ absurd z
   ]
 
-  held_to : (a : Addr) (f : Frame) → In home.frames f → In f.refs (Some a) → In (held_by (all_frames s)) (Some a)
-  held_to a f i j = in_flat references_in (all_frames s) f (Some a) (in_stack f (subst (λ fs. In fs f) frames i)) j
+  held_to : (a : Addr) (f : Frame) → In home.frames f → In f.refs (Some a) → In (held_by (frames_of s)) (Some a)
+  held_to a f i j = in_flat references_in (frames_of s) f (Some a) (in_stack f (subst (λ fs. In fs f) frames i)) j
 
-  held_back : (a : Addr) → In (held_by (all_frames s)) (Some a) → (f : Frame) × In home.frames f × In f.refs (Some a)
+  held_back : (a : Addr) → In (held_by (frames_of s)) (Some a) → (f : Frame) × In home.frames f × In f.refs (Some a)
   held_back a i =
-      let g = flat_in references_in (all_frames s) (Some a) i in
-      (g.1, subst (λ fs. In fs g.1) (sym frames) (from_stack g.1 (got_in (all_frames s) g.0 g.1 g.2)), g.3)
+      let g = flat_in references_in (frames_of s) (Some a) i in
+      (g.1, subst (λ fs. In fs g.1) (sym frames) (from_stack g.1 (got_in (frames_of s) g.0 g.1 g.2)), g.3)
 
   root_back : (rs : List Addr) (a : Addr) → In (map as_reference rs) (Some a) → In rs a
   root_back rs a i = let r = map_in as_reference rs (Some a) i in subst (In rs) (some_same r.0 r.2) r.1
@@ -66,8 +66,8 @@ module _ (ks : List ChunkValue) (A : AreApart ks) (home : Home) (s : FramesValue
   starts_to a w = (
     live_at a w.0 w.1,
     contains_from_in (outside s roots) (Some a) (elim w.2 [
-      | inl f ↦ in_append_left (held_by (all_frames s)) (map as_reference roots) (Some a) (held_to a f.0 f.1 f.2)
-      | inr r ↦ in_append_right (held_by (all_frames s)) (map as_reference roots) (Some a) (in_map as_reference roots a r)
+      | inl f ↦ in_append_left (held_by (frames_of s)) (map as_reference roots) (Some a) (held_to a f.0 f.1 f.2)
+      | inr r ↦ in_append_right (held_by (frames_of s)) (map as_reference roots) (Some a) (in_map as_reference roots a r)
     ]),
   )
 
@@ -76,7 +76,7 @@ module _ (ks : List ChunkValue) (A : AreApart ks) (home : Home) (s : FramesValue
       let o = object_at a w.0 in (
         o.0,
         o.1,
-        elim (in_append_cases (held_by (all_frames s)) (map as_reference roots) (Some a) (in_from_contains (outside s roots) (Some a) w.1)) [
+        elim (in_append_cases (held_by (frames_of s)) (map as_reference roots) (Some a) (in_from_contains (outside s roots) (Some a) w.1)) [
           | inl h ↦ inl (held_back a h)
           | inr r ↦ inr (root_back roots a r)
         ],

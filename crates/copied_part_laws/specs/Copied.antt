@@ -21,11 +21,11 @@ use Rattle.task_machine.specs.declared.part.Begun.{Begun}
 use Rattle.core_relation.specs.Memory.{Home, In, Memory}
 use Rattle.core_relation.specs.Copies.{CopyFits, PartFits, before}
 use Rattle.shared_value.specs.Stands.{HeapForm}
-use Rattle.shared_value.specs.SharedValue.{frames_of, home_with}
+use Rattle.shared_value.specs.SharedValue.{frames_down, home_with}
 
 -- the home of a part, with the collection that it has begun, or none
 abbrev pub part_home : LeafHeapValue → List Level → ℕ → FramesValue → Option Begun → Home
-part_home h view count s begun = record (home_with h view count (frames_of s) (pos 0, None)) { begun = begun }
+part_home h view count s begun = record (home_with h view count (frames_down s) (pos 0, None)) { begun = begun }
 
 -- a part of t, with the collection b that it has begun, fits; its heap h is formed as every heap is, and the new chunks are those that the
 -- collection took

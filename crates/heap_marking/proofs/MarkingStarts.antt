@@ -16,7 +16,7 @@ use Rattle.object_layout.specs.ChunkValue.{ChunkValue}
 use Rattle.object_layout.specs.Graph.{IsHeld}
 use Rattle.object_layout.specs.Objects.{Located}
 use Rattle.task_frames.specs.declared.frames.Frame.{Frame}
-use Rattle.task_frames.specs.FramesValue.{frames_of as stacked}
+use Rattle.task_frames.specs.FramesValue.{frames_of}
 use Rattle.remembered_set.specs.declared.remembered.Source.{Source}
 use Rattle.remembered_set.specs.Moved.{AreFields, into, targets_of}
 use Rattle.leaf_copy_gc.specs.Survivors.{references_in}
@@ -34,7 +34,7 @@ use Rattle.shared_value.specs.declared.task_at_rest.Work.TheVariants.{Calls, Res
 use Rattle.shared_value.specs.Objects.{chunks_of}
 use Rattle.shared_value.specs.RestingHeaps.{refs_in}
 use Rattle.shared_value.specs.Roots.{heaps_of, sources_of}
-use Rattle.shared_value.specs.SharedValue.{SharedValue, accounts, frames_of, home_by, home_in, home_of, rest_at, value_of}
+use Rattle.shared_value.specs.SharedValue.{SharedValue, accounts, frames_down, home_by, home_in, home_of, rest_at, value_of}
 use Rattle.shared_value.specs.Stands.{IsSharedValue}
 use Rattle.shared_value.proofs.BeforeTheEnd.{stands_now}
 use Rattle.shared_value.proofs.RootsHeld as held
@@ -48,7 +48,7 @@ use Rattle.heap_marking.proofs.MarkBegun as begun
 
 -- REGISTERS: the references of frames, in the order of a stack and in that of a home
 abbrev seen_frames : Work → List Frame
-seen_frames (Calls s) = frames_of s
+seen_frames (Calls s) = frames_down s
 seen_frames (Result k r) = []
 
 home_frames : (r : Rest) → (home_of r).frames ≡ seen_frames r.work
@@ -60,7 +60,7 @@ home_frames r = by r.work
 
 registers_tell : (x : Work) (o : Option Addr) → In (registers_of x) o → (f : Frame) × In (seen_frames x) f × In f.refs o
 registers_tell (Calls s) o i =
-    let f = from_flat references_in (stacked s) o i in
+    let f = from_flat references_in (frames_of s) o i in
     elim (in_append_cases s.below (s.top ∷ []) f.0 f.1) [
       | inl j ↦ (f.0, inr j, f.2)
       | inr j ↦ elim j [ inl e ↦ (f.0, inl e, f.2) | inr k ↦ absurd k ]
@@ -68,8 +68,8 @@ registers_tell (Calls s) o i =
 registers_tell (Result k r) o i = absurd i
 
 registers_there : (x : Work) (f : Frame) (o : Option Addr) → In (seen_frames x) f → In f.refs o → In (registers_of x) o
-registers_there (Calls s) f o (inl e) j = in_flat references_in (stacked s) f o (in_append_right s.below (s.top ∷ []) f (inl e)) j
-registers_there (Calls s) f o (inr i) j = in_flat references_in (stacked s) f o (in_append_left s.below (s.top ∷ []) f i) j
+registers_there (Calls s) f o (inl e) j = in_flat references_in (frames_of s) f o (in_append_right s.below (s.top ∷ []) f (inl e)) j
+registers_there (Calls s) f o (inr i) j = in_flat references_in (frames_of s) f o (in_append_left s.below (s.top ∷ []) f i) j
 registers_there (Result k r) f o i j = absurd i
 
 frames_read : (at : Name → Addr → Type 0) (h : Home) (x : Task) (s : Status) → waits s ≡ true → HoldsRead at h x s → FramesAreRead at h.frames (x.top ∷ x.below)

@@ -29,7 +29,7 @@ use Rattle.task_frames.specs.FramesValue.{int_of, ref_of}
 use Rattle.shared_value.specs.declared.task_at_rest.Rest.{Rest}
 use Rattle.shared_value.specs.declared.task_at_rest.Work.{Work}
 use Rattle.shared_value.specs.declared.task_at_rest.Work.TheVariants.{Calls, Result}
-use Rattle.shared_value.specs.SharedValue.{SharedValue, accounts, frames_of, home_by, home_in, rest_at, value_of}
+use Rattle.shared_value.specs.SharedValue.{SharedValue, accounts, frames_down, home_by, home_in, rest_at, value_of}
 use Rattle.shared_value.specs.Objects.{chunks_of}
 use Rattle.shared_value.specs.Stands.{IsSharedValue}
 use Rattle.shared_value.specs.Fits.{Fits, home_of_part}
@@ -91,7 +91,7 @@ module _ (w : SharedValue) (k : ℕ) (p : Private) (I : IsSharedValue w) (F : Fi
   here = at_home v t h
 
   -- ITS REGISTERS
-  frames : FramesAreRead (Place v' L) (frames_of p.frames) (x.top ∷ x.below)
+  frames : FramesAreRead (Place v' L) (frames_down p.frames) (x.top ∷ x.below)
   frames =
       subst (λ (z : Home). FramesAreRead (Place v' L) z.frames (x.top ∷ x.below)) here
       (subst (HoldsRead (Place v' L) (v'.homes t) x) (link.run_status w k p I F on) ((link.W w k p I F on).tasks t x (link.at_rest w k p I F on) (link.is w k p I F on)))

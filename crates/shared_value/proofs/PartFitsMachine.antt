@@ -59,7 +59,7 @@ use Rattle.task_machine.specs.declared.part.Private.{Private}
 use Rattle.task_machine.specs.Place.{AreAt, FrameStands, FramesStand, IsAt, birth_of, name_of}
 use Rattle.task_machine.specs.Fits.{FitsNow as FitsMachine, HeapStands, IsOwn, IsRun, IsShownBy, StackStands}
 use Rattle.shared_value.specs.Objects.{chunk_of}
-use Rattle.shared_value.specs.SharedValue.{SharedValue, accounts, frames_of, rest_at, value_of, home_in, home_by}
+use Rattle.shared_value.specs.SharedValue.{SharedValue, accounts, frames_down, rest_at, value_of, home_in, home_by}
 use Rattle.shared_value.specs.declared.task_at_rest.Rest.{Rest}
 use Rattle.shared_value.specs.declared.task_at_rest.Work.{Work}
 use Rattle.shared_value.specs.declared.task_at_rest.Work.TheVariants.{Calls, Result}
@@ -316,7 +316,7 @@ module _ (w : SharedValue) (k : ℕ) (p : Private) (I : IsSharedValue w) (F : Fi
   task_at : TaskIsRead (At place) (v'.homes t) A.task
   task_at = task_kept (Place v' L) (At place) (v'.homes t) A.task (λ n i a P. place_is n a (sound.apart.of_task t A.task n is i).1 P) (W.tasks t A.task at_rest is)
 
-  frames_at : FramesAreRead (At place) (frames_of p.frames) (A.task.top ∷ A.task.below)
+  frames_at : FramesAreRead (At place) (frames_down p.frames) (A.task.top ∷ A.task.below)
   frames_at = subst (λ (z : Home). FramesAreRead (At place) z.frames (A.task.top ∷ A.task.below)) here (subst (HoldsRead (At place) (v'.homes t) A.task) run_status task_at)
 
   stack : StackStands place A.task p.frames

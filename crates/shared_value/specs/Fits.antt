@@ -16,11 +16,11 @@ use Rattle.shared_value.specs.declared.task_at_rest.Work.{Work}
 use Rattle.shared_value.specs.declared.task_at_rest.Work.TheVariants.{Calls, Result}
 use Rattle.shared_value.specs.Measured.{IsMeasured}
 use Rattle.shared_value.specs.Stands.{HeapForm}
-use Rattle.shared_value.specs.SharedValue.{SharedValue, accounts, frames_of, home_with, value_of}
+use Rattle.shared_value.specs.SharedValue.{SharedValue, accounts, frames_down, home_with, value_of}
 
 -- the home that a part holds, with the collection that it has begun
 abbrev pub home_of_part : Private → Home
-home_of_part p = record (home_with p.heap p.view p.allocations (frames_of p.frames) (pos 0, None)) { begun = p.begun }
+home_of_part p = record (home_with p.heap p.view p.allocations (frames_down p.frames) (pos 0, None)) { begun = p.begun }
 
 -- with the limits of the settings
 abbrev pub part_of : SettingsValue → Private → Part

@@ -64,8 +64,8 @@ first_rest p slots spare = record {
 -- ---- HOMES
 
 -- the top frame, and then those that wait, the oldest first
-abbrev pub frames_of : FramesValue → List Frame
-frames_of s = s.top ∷ s.below
+abbrev pub frames_down : FramesValue → List Frame
+frames_down s = s.top ∷ s.below
 
 -- a heap, a view and a count of allocations, and the frames of a task at work
 abbrev pub home_with : LeafHeapValue → List Level → ℕ → List Frame → ℤ × Option Addr → Home
@@ -81,7 +81,7 @@ home_with h view count frames result = record {
 }
 
 abbrev pub home_by : LeafHeapValue → List Level → ℕ → Work → Home
-home_by h view count (Calls s) = home_with h view count (frames_of s) (pos 0, None)
+home_by h view count (Calls s) = home_with h view count (frames_down s) (pos 0, None)
 home_by h view count (Result k r) = home_with h view count [] (k, r)
 
 abbrev pub home_of : Rest → Home
