@@ -24,13 +24,9 @@ fn take_steps<G: Gate>(
     ensures { IfOk result (HasGrown program.now worker part.old part.new) }
 {
     let budget = PRIVATE_LIMIT - part.fresh;
-    match run_local(part, program, budget, gate, worker) {
-        Ok(why) => {
-            part.settle_before_fork(program);
-            Ok(why)
-        }
-        Err(e) => Err(e),
-    }
+    let why = run_local(part, program, budget, gate, worker)?;
+    part.settle_before_fork(program);
+    Ok(why)
 }
 
 /// Takes steps of a part until they pause, at most as many as one entry holds.

@@ -11,12 +11,12 @@ run_local-requires-clause-fits g c κs within = fits_some c.args.program.now c.a
 pub run_local-requires-clause-few : goal.run_local-requires-clause-few
 run_local-requires-clause-few g c κs within = few_then c.args.program.now c.args.worker c.args.part.now c.requires.may (private_limit - c.args.part.now.fresh) (omega arith)
 
-pub returns-in-Ok : goal.returns-in-Ok
-returns-in-Ok g c =
+pub returns : goal.returns
+returns g c =
     let new = c.run_local.new.part in
     let few = c.requires.may.2.few in
     let n = new.fresh - c.args.part.now.fresh in
     let most : c.args.part.now.fresh + n ≤ private_limit = (let a = c.run_local.ensures.within in let b = c.run_local.ensures.more in omega (arith, a, b, few)) in
-    subst (λ (q : Private). HasGrown c.args.program.now c.args.worker c.args.part.now q c.in-Ok.why) (sym c.settle_before_fork.ensures)
-    (grows c.args.program.now c.args.worker c.args.part.now c.requires.may new n c.run_local.ensures.runs c.run_local.ensures.accounts c.run_local.ensures.rest most c.in-Ok.why c.in-Ok.ensures.paused
-    (λ is. (let e = c.in-Ok.ensures.spent is in omega (arith, e, few))))
+    subst (λ (q : Private). HasGrown c.args.program.now c.args.worker c.args.part.now q c.in_ok-why.why) (sym c.settle_before_fork.ensures)
+    (grows c.args.program.now c.args.worker c.args.part.now c.requires.may new n c.run_local.ensures.runs c.run_local.ensures.accounts c.run_local.ensures.rest most c.in_ok-why.why c.in_ok-why.ensures.paused
+    (λ is. (let e = c.in_ok-why.ensures.spent is in omega (arith, e, few))))
