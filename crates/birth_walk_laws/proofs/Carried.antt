@@ -1,5 +1,5 @@
 -- Walks over nodes that bear names are walks over the names.
-use Rattle.std.proofs.Common.{◌≡◌, ℕ, zero, suc, List, subst}
+use Rattle.std.proofs.Common.{ℕ, zero, suc, List, subst}
 use Rattle.std.specs.Prelude.{◌↔◌}
 use Rattle.object_layout.specs.declared.word.Addr.{Addr}
 use Rattle.object_layout.specs.declared.word.Birth.{Birth}

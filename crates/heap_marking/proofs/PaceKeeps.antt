@@ -1,7 +1,7 @@
 -- What is kept of a worker's entries stays right past entries that leave forks and touched heaps, and is right with one
 -- entry more.
 use Rattle.std.proofs.Common.{◌≡◌, ◌⊎◌, ℕ, ◌<◌, ◌≤◌, ◌==◌, ◌&&◌, not, Bool, true, false, cond, Option, Some, None, List, [], ◌∷◌, ◌++◌, slice_get, inl, inr, refl, ap, sym, subst, ◌∙◌, arith, is_some, eq-eqb}
-use Rattle.std.proofs.lemmas.Bool.{false≢true, both_ways, and_from, and_parts, eqb-true, not-true}
+use Rattle.std.proofs.lemmas.Bool.{both_ways, and_from, and_parts, eqb-true, not-true}
 use Rattle.hh_model.specs.declared.data.Strand.{Strand}
 use Rattle.hh_model.specs.declared.data.Task.{Task}
 use Rattle.hh_model.specs.Step.{is_waiting, joined, parents, strand_of, waits}

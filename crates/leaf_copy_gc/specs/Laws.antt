@@ -1,5 +1,5 @@
 -- What is read in a heap once it was collected.
-use Rattle.std.specs.Prelude.{◌≡◌, ℕ, false, ◌+◌, ◌++◌, ◌*◌, ◌/◌, ◌≤◌, List, None, Option, All, Contains, length, map, reverse}
+use Rattle.std.specs.Prelude.{◌≡◌, ℕ, false, ◌+◌, ◌++◌, ◌*◌, ◌≤◌, List, None, Option, All, Contains, length, map, reverse}
 use Rattle.std.specs.List.Sorted.{IsPermutation}
 use Rattle.object_layout.specs.declared.word.Addr.{Addr}
 use Rattle.object_layout.specs.ChunkValue.{ChunkValue}

@@ -1,6 +1,6 @@
 // A whole collection of a heap.
 
-ghost use Rattle.std.specs.Prelude.{◌≡◌, ◌+◌, ◌*◌, ◌/◌, ◌≤◌, ◌++◌, length, vec_len, vec_capacity, All};
+ghost use Rattle.std.specs.Prelude.{◌≡◌, ◌+◌, ◌*◌, ◌≤◌, ◌++◌, length, vec_len, vec_capacity, All};
 ghost use Rattle.alloc_path.specs.LeafHeapValue.{AreApart, AreTidy, IsFresh, IsSettled};
 ghost use Rattle.object_layout.specs.Graph.{IsClosed, IsSound};
 ghost use Rattle.object_layout.specs.Cell.{units};

@@ -1,5 +1,5 @@
 -- All that the laws ask of accounts holds of those of a legal journal.
-use Rattle.std.proofs.Common.{◌≡◌, ℕ, true, List, [], ◌∷◌, length, sym, subst}
+use Rattle.std.proofs.Common.{◌≡◌, ℕ, true, List, length, sym, subst}
 use Rattle.hh_lang.specs.Form.{ProgramText}
 use Rattle.run_trace.specs.Entry.{EntryValue}
 use Rattle.run_trace.specs.Settings.{SettingsValue, field_limit}

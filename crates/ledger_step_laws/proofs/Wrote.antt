@@ -1,5 +1,5 @@
 -- A write of another task's object is a store of a reference or of a number.
-use Rattle.std.proofs.Common.{◌≡◌, ℕ, pos, ◌<◌, true, Some, None, slice_get, length, inl, inr, ap, sym, subst, ◌∙◌}
+use Rattle.std.proofs.Common.{◌≡◌, ℕ, pos, true, Some, None, slice_get, length, inl, inr, ap, sym, subst, ◌∙◌}
 use Rattle.std.proofs.lemmas.Bool.{cases_eq}
 use Rattle.listed.proofs.Members.{got_same}
 use Rattle.hh_lang.specs.declared.instr.Instr.TheVariants.{Putr, Puti, Cas}

@@ -1,6 +1,6 @@
 -- The accounts of heaps: chunks by count, held names and their words, what a leaf collection and a sweep leave, and what is
 -- reached within a heap.
-use Rattle.std.specs.Prelude.{ℕ, ◌+◌, ◌-◌, ◌*◌, ◌/◌, ◌==◌, ◌&&◌, ◌||◌, not, Bool, true, false, Option, Some, None, List, [], ◌∷◌, ◌++◌, slice_get, slice_set, length, if◌then◌else◌, nat_lt, nat_le, filter, map, sum_by, max, unwrap_or}
+use Rattle.std.specs.Prelude.{ℕ, ◌+◌, ◌-◌, ◌*◌, ◌==◌, ◌&&◌, ◌||◌, not, Bool, true, false, Option, Some, None, List, [], ◌∷◌, ◌++◌, slice_get, slice_set, length, if◌then◌else◌, nat_lt, nat_le, filter, map, sum_by, max, unwrap_or}
 use Rattle.std.specs.List.{flat_map}
 pub use Rattle.chunk_sizes.specs.Sizes.{chunk_words, units}
 use Rattle.hh_model.specs.declared.data.Name.{Name}

@@ -1,5 +1,5 @@
 -- Words with a fault ask for nothing.
-use Rattle.std.proofs.Common.{◌≡◌, ◌⊎◌, Bool, cond, true, refl, sym, ap, List, [], ◌∷◌, Option, Some, None, inl, inr, ◌==◌, subst}
+use Rattle.std.proofs.Common.{◌≡◌, ◌⊎◌, Bool, cond, true, refl, sym, ap, List, [], Option, Some, None, inl, inr, subst}
 use Rattle.clap.specs.Words.{Row, Text, fault_of, matches_of, is_simple, is_simple_and_free}
 use Rattle.clap.specs.Kinds.{IsAmong, Kinds}
 use Rattle.clap.specs.Walk.{is_empty}

@@ -1,5 +1,5 @@
 -- The desks of two workers, and what they keep.
-use Rattle.std.proofs.Common.{◌≡◌, ◌<◌, List, [], ◌∷◌, length, get_or, remove, slice_get, sym, ◌∙◌, subst, arith, Some}
+use Rattle.std.proofs.Common.{◌≡◌, ◌<◌, List, [], ◌∷◌, length, get_or, remove, slice_get, sym, subst, arith, Some}
 use Rattle.atomic_table.specs.Seated.{TableId}
 use Rattle.hh_lang.specs.Form.{ProgramText}
 use Rattle.run_trace.specs.Settings.{SettingsValue}
