@@ -12,7 +12,7 @@ use Rattle.object_layout.specs.ChunkValue.{ChunkValue, number_of}
 use Rattle.object_layout.specs.Chunks.{cell_of, held_in as held_cells, held_size, held_words}
 use Rattle.object_layout.specs.Objects.{Located, located, objects_from}
 use Rattle.object_layout.proofs.ObjectLemmas.{behind, first}
-use Rattle.alloc_path.specs.LeafHeapValue.{units as chunk_units}
+use Rattle.alloc_path.specs.LeafHeapValue.{units}
 use Rattle.alloc_path.specs.Units.{unit_count}
 use Rattle.leaf_copy_gc.specs.Laid.{AreNew, Laying, laid_all, laid_one, room_in}
 use Rattle.leaf_copy_gc.specs.Exchanged.{emptied}
@@ -61,7 +61,7 @@ units_both (k ∷ ks) js = let e = units_both ks js in omega (arith, e)
 
 pub units_emptied : (ks : List ChunkValue) → unit_count (map emptied ks) ≡ unit_count ks
 units_emptied [] = refl
-units_emptied (k ∷ ks) = ap (λ n. chunk_units k.size + n) (units_emptied ks)
+units_emptied (k ∷ ks) = ap (λ n. units k.size + n) (units_emptied ks)
 
 pub units_new : (ks : List ChunkValue) → AreNew ks → unit_count ks ≡ length ks
 units_new [] n = refl

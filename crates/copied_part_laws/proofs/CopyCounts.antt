@@ -19,7 +19,7 @@ use Rattle.object_layout.specs.ChunkValue.{ChunkValue}
 use Rattle.object_layout.specs.Place.{words_in}
 use Rattle.object_layout.specs.Chunks.{chunk_at, held_words}
 use Rattle.object_layout.specs.Objects.{Located, objects_from}
-use Rattle.alloc_path.specs.LeafHeapValue.{AreTidy, LeafHeapValue, IsReserved, IsTidy, units as chunk_units}
+use Rattle.alloc_path.specs.LeafHeapValue.{AreTidy, LeafHeapValue, IsReserved, IsTidy}
 use Rattle.alloc_path.specs.Units.{counted32, unit_count}
 use Rattle.leaf_copy_gc.specs.declared.lists.Survivor.{Survivor}
 use Rattle.leaf_copy_gc.specs.Survivors.{olds}
@@ -148,7 +148,7 @@ module _ (h : LeafHeapValue) (from : List (Option Addr)) (ss : List Survivor) (n
           → unit_count (k ∷ filter (leaves ss) us) + Units (large_names (filter (keeps ss) us)) ≡ suc (length (small_lists us)) + Units (large_names us)
       small e go = let s : k.size ≡ 1024 = eqb-true k.size 1024 e in omega (arith, s, go)
 
-      large : (b : Bool) (n : Name) → (k.size == 1024) ≡ false → names_in k.cells ≡ n ∷ [] → chunk_units k.size ≡ units (words_at m n)
+      large : (b : Bool) (n : Name) → (k.size == 1024) ≡ false → names_in k.cells ≡ n ∷ [] → units k.size ≡ units (words_at m n)
           → unit_count (filter (leaves ss) us) + Units (large_names (filter (keeps ss) us)) ≡ length (small_lists us) + Units (large_names us)
           → unit_count (cond (not b) (k ∷ filter (leaves ss) us) (filter (leaves ss) us)) + Units (large_names (cond b (k ∷ filter (keeps ss) us) (filter (keeps ss) us))) ≡ length (small_lists us) + Units (names_in k.cells ++ large_names us)
       large true n e z q go =
@@ -174,7 +174,7 @@ module _ (h : LeafHeapValue) (from : List (Option Addr)) (ss : List Survivor) (n
           let u : k.size / 1024 ≡ units (words o.object) = o.units in
           let v : units (words_at m (object_name o.object)) ≡ units (words o.object) = ap units (O.words o.object i) in
           ap (λ b. unit_count (cond (not b) (k ∷ filter (leaves ss) us) (filter (leaves ss) us)) + Units (large_names (cond b (k ∷ filter (keeps ss) us) (filter (keeps ss) us)))) o.kept
-          ∙ large (holds_name a.survivors (object_name o.object)) (object_name o.object) e o.names (let q : chunk_units k.size ≡ k.size / 1024 = omega (arith, w) in q ∙ (u ∙ sym v)) go
+          ∙ large (holds_name a.survivors (object_name o.object)) (object_name o.object) e o.names (let q : units k.size ≡ k.size / 1024 = omega (arith, w) in q ∙ (u ∙ sym v)) go
 
   small_count : length (small_lists U) ≡ length a.chunks
   small_count = by h.reserved O.form.shaped.reserved ∙ ap (λ (ls : List (List Name)). length ls) (sym (small_names h.chunks) ∙ O.names.small)

@@ -8,7 +8,6 @@ use Rattle.hh_model.specs.declared.data.State.{State}
 use Rattle.hh_model.specs.declared.data.Task.{Task}
 use Rattle.hh_model.specs.Effect.{row_of}
 use Rattle.hh_model.specs.Step.{asked, asked_by, asked_line, fetched, is_running}
-use Rattle.run_ledger.specs.Heaps.{units as units_for}
 use Rattle.object_layout.specs.Cell.{Born, Cell, Hole, Mark, Moved, moved_to, size_of}
 use Rattle.object_layout.specs.Chunks.{chunk_at}
 use Rattle.object_layout.specs.ChunkValue.{ChunkValue}
@@ -59,13 +58,13 @@ one_back (q ∷ r ∷ os) o e = absurd cc
 
 large_on : (k : ChunkValue) → HoldsLarge (chunk_of k) → HoldsLarge (chunk_of (outline_of_chunk k))
 large_on k (inl e) = inl (objects_of k ∙ ap (map plain) e)
-large_on k (inr h) = inr (plain h.0, objects_of k ∙ ap (map plain) h.1, h.2, h.3 ∙ ap units_for (sym (plain_words h.0)))
+large_on k (inr h) = inr (plain h.0, objects_of k ∙ ap (map plain) h.1, h.2, h.3 ∙ ap units (sym (plain_words h.0)))
 
 large_back : (k : ChunkValue) → HoldsLarge (chunk_of (outline_of_chunk k)) → HoldsLarge (chunk_of k)
 large_back k (inl e) = inl (none_back (chunk_of k).objects (sym (objects_of k) ∙ e))
 large_back k (inr h) =
     let q = one_back (chunk_of k).objects h.0 (sym (objects_of k) ∙ h.1) in
-    inr (q.0, q.1, ap (λ (o : Located). o.at.offset) q.2 ∙ h.2, h.3 ∙ (ap (λ (o : Located). units_for (words o)) (sym q.2) ∙ ap units_for (plain_words q.0)))
+    inr (q.0, q.1, ap (λ (o : Located). o.at.offset) q.2 ∙ h.2, h.3 ∙ (ap (λ (o : Located). units (words o)) (sym q.2) ∙ ap units (plain_words q.0)))
 
 -- ---- CHUNKS
 
