@@ -1,6 +1,7 @@
 -- A heap with an empty chunk more: the objects that are read, and its account.
 use Rattle.std.proofs.Common.{◌≡◌, ◌⊎◌, ℕ, zero, suc, ◌-◌, ◌*◌, ◌<◌, ◌≤◌, ◌==◌, arith, Bool, true, false, cond, Option, Some, None, List, [], ◌∷◌, ◌++◌, length, map, All, inl, inr, ne_eqb, refl, ap, sym, subst, ◌∙◌}
 use Rattle.std.proofs.lemmas.Bool.{cases_lt, cond-false, leb-false}
+use Rattle.std.proofs.lemmas.List.{length_push}
 use Rattle.hh_model.specs.declared.data.Name.{Name}
 use Rattle.run_ledger.specs.declared.data.Heap.{Heap as Account}
 use Rattle.run_ledger.specs.Heaps.{chunk_words, is_small, units}
@@ -14,7 +15,7 @@ use Rattle.core_relation.specs.Memory.{Chunk, In, object_name, objects_in}
 use Rattle.core_relation.specs.Stands.{large_chunks}
 use Rattle.task_machine.specs.Accounts.{AreReserved, IsCounted, IsLastLarge, IsLastSmall, large_names, names_in, small_lists}
 use Rattle.task_machine.specs.Fits.{IsShaped}
-use Rattle.task_machine.proofs.Added.{chunk_at-front, chunk_at-last, longer}
+use Rattle.task_machine.proofs.Added.{chunk_at-front, chunk_at-last}
 use Rattle.shared_value.specs.Objects.{chunk_of, chunks_of}
 
 -- ---- LISTS OF CHUNKS
@@ -85,7 +86,7 @@ last_large_same ks k None small l = tt
 last_large_same ks k (Some i) small l = λ j lt le. elim (cases_lt j (length ks)) [
   | inl before ↦ ap (λ (z : ChunkValue). z.size) (chunk_at-front ks k j before) ∙ l j lt before
   | inr after ↦
-      let e : j ≡ length ks = omega (arith, le, after, longer ks k) in
+      let e : j ≡ length ks = omega (arith, le, after, length_push ks k) in
       ap (λ n. (chunk_at (ks ++ k ∷ []) n).size) e ∙ (ap (λ (z : ChunkValue). z.size) (chunk_at-last ks k) ∙ small)
 ]
 
@@ -108,7 +109,7 @@ last_same ks k None big l = tt
 last_same ks k (Some i) big l = λ j lt le size. elim (cases_lt j (length ks)) [
   | inl before ↦ l j lt before (sym (ap (λ (z : ChunkValue). z.size) (chunk_at-front ks k j before)) ∙ size)
   | inr after ↦
-      let e : j ≡ length ks = omega (arith, le, after, longer ks k) in
+      let e : j ≡ length ks = omega (arith, le, after, length_push ks k) in
       big (sym (ap (λ (z : ChunkValue). z.size) (chunk_at-last ks k)) ∙ (ap (λ n. (chunk_at (ks ++ k ∷ []) n).size) (sym e) ∙ size))
 ]
 
@@ -124,7 +125,7 @@ module _ (h : LeafHeapValue) (l : Account) (S : IsShaped h) (C : IsCounted h l) 
   small_counted = record {
     chunks = small_more (small_one number) refl h.chunks refl ∙ ap (λ xs. xs ++ [] ∷ []) C.chunks;
     large = large_same (small_one number) refl h.chunks ∙ C.large;
-    last = λ j lt le size. omega (arith, lt, le, longer h.chunks (small_one number));
+    last = λ j lt le size. omega (arith, lt, le, length_push h.chunks (small_one number));
     last_large = last_large_same h.chunks (small_one number) h.reserved refl C.last_large;
     room = ap (λ (z : ChunkValue). z.size - words_in z.cells) (chunk_at-last h.chunks (small_one number));
     since = C.since;
@@ -149,7 +150,7 @@ module _ (h : LeafHeapValue) (l : Account) (S : IsShaped h) (C : IsCounted h l) 
       chunks = small_same k refl h.chunks big ∙ C.chunks;
       large = large_same k refl h.chunks ∙ C.large;
       last = last_same h.chunks k h.current (λ e. omega (arith, e, large)) C.last;
-      last_large = λ j lt le. absurd (omega (arith, lt, le, longer h.chunks k));
+      last_large = λ j lt le. absurd (omega (arith, lt, le, length_push h.chunks k));
       room = room_same h.chunks k h.current S.current ∙ C.room;
       since = C.since;
       reserved = ap (λ (z : ChunkValue). z.size) (chunk_at-last h.chunks k);

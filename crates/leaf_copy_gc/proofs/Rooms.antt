@@ -2,6 +2,7 @@
 use Rattle.std.proofs.Common.{eqb, ◌≡◌, ℕ, zero, suc, ◌+◌, ◌-◌, ◌*◌, ◌<◌, ◌≤◌, true, List, [], ◌∷◌, ◌++◌, length, refl, sym, ap, ◌∙◌, subst, arith, inl, inr, ◌⊎◌}
 use Rattle.std.specs.Prelude.{nat_le}
 use Rattle.std.proofs.lemmas.Bool.{cases_lt, cases_Bool, lt-ltb, le-ltb, le-leb, lt-leb}
+use Rattle.std.proofs.lemmas.List.{length_push}
 use Rattle.object_layout.specs.declared.word.Addr.{Addr}
 use Rattle.object_layout.specs.Cell.{Cell, Mark, Born, Moved, Hole, IsBorn, size_of, with_mark}
 use Rattle.object_layout.specs.ChunkValue.{ChunkValue}
@@ -46,10 +47,6 @@ pub length_placed : (ks : List ChunkValue) (c : Cell) → length (placed ks c) �
 length_placed [] c = refl
 length_placed (k ∷ []) c = refl
 length_placed (k ∷ (l ∷ ks)) c = let ih = length_placed (l ∷ ks) c in omega arith
-
-length_push : (ks : List ChunkValue) (k : ChunkValue) → length (ks ++ k ∷ []) ≡ length ks + 1
-length_push [] k = omega arith
-length_push (x ∷ ks) k = let ih = length_push ks k in omega arith
 
 -- chunks are half full on average: of which u words lie in the last one
 abbrev pub Filled : ℕ → ℕ → ℕ → Type 0
