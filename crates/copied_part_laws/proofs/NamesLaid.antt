@@ -1,7 +1,6 @@
 -- The names that a collection lays, chunk by chunk, are laid as the account lays them.
 use Rattle.std.proofs.Common.{◌≡◌, ◌+◌, ◌-◌, ◌<◌, ◌≤◌, ◌==◌, arith, Bool, true, false, cond, Option, Some, List, [], ◌∷◌, ◌++◌, length, map, nat_le, nat_lt, inl, inr, refl, ap, sym, subst, ◌∙◌, eq-eqb, ne_eqb}
 use Rattle.std.proofs.lemmas.Bool.{cond-false, cond-true, le-leb, lt-leb, ltb-true}
-use Rattle.std.proofs.lemmas.List.{length-map}
 use Rattle.std.proofs.lemmas.List.Sums.{sum_by-append, sum_by-cons}
 use Rattle.hh_model.specs.declared.data.Name.{Name}
 use Rattle.hh_model.specs.declared.data.State.{State}
@@ -20,6 +19,7 @@ use Rattle.leaf_copy_gc.specs.Laid.{AreNew, HasRoom, HaveRoom, Laying, laid_all,
 use Rattle.leaf_copy_gc.specs.Redirected.{led_cell, led_chunk}
 use Rattle.leaf_copy_gc.specs.Exchanged.{last_place}
 use Rattle.leaf_copy_gc.proofs.LastChunk.{some_room}
+use Rattle.leaf_copy_gc.proofs.FollowLemmas.{size_led}
 use Rattle.core_relation.specs.Memory.{In}
 use Rattle.task_machine.specs.Accounts.{large_names, named_by, names_in, small_lists}
 use Rattle.task_machine.specs.Place.{name_of}
@@ -119,16 +119,13 @@ module _ (m : State) where
 -- ---- REFERENCES LED
 
 module _ (f : Option Addr → Option Addr) where
-  pub size_led : (c : Cell) → size_of (led_cell f c) ≡ size_of c
-  size_led c = ap (λ n. 2 + (n + length c.ints)) (length-map c.refs f)
-
   pub names_led : (cs : List Cell) → names_in (map (led_cell f) cs) ≡ names_in cs
   names_led [] = refl
   names_led (c ∷ cs) = ap (named_by c.mark) (names_led cs)
 
   pub words_led : (cs : List Cell) → words_in (map (led_cell f) cs) ≡ words_in cs
   words_led [] = refl
-  words_led (c ∷ cs) = let a = size_led c in let b = words_led cs in omega (arith, a, b)
+  words_led (c ∷ cs) = let a = size_led f c in let b = words_led cs in omega (arith, a, b)
 
   pub lists_led : (ks : List ChunkValue) → lists_of (map (led_chunk f) ks) ≡ lists_of ks
   lists_led [] = refl

@@ -3,6 +3,7 @@ use Rattle.std.proofs.Common.{◌≡◌, ◌<◌, ℕ, zero, suc, Bool, true, fa
 use Rattle.std.specs.Prelude.{Option, Some, None, slice_get, is_some}
 use Rattle.listed.specs.Members.{In}
 use Rattle.listed.proofs.Members.{got_in}
+use Rattle.listed.proofs.Places.{in_got, map_got, got_map}
 use Rattle.image_check.specs.declared.line.State.{State}
 use Rattle.image_check.specs.declared.line.State.TheVariants.{Running, Waiting, Ended}
 use Rattle.image_check.specs.declared.line.Task.{Task}
@@ -14,8 +15,8 @@ use Rattle.image_check.specs.Links.{StandsAt}
 use Rattle.image_check.proofs.Paths.{AreOrdered, met_ancestor, related}
 use Rattle.heap_image.specs.declared.picture.Picture.{Picture}
 use Rattle.heap_image.specs.Picture.{TaskBefore, IsParent, LinksLead, IsAncestor, HasTask, IsRunning, KeepsToPath, IsSoundPicture}
-use Rattle.heap_image.proofs.Splits.{place_of, comes_first, one_place, same_item}
-use Rattle.heap_image.proofs.Tables.{table, mapped_at, got_mapped, found_in, found_from}
+use Rattle.heap_image.proofs.Splits.{comes_first, one_place, same_item}
+use Rattle.heap_image.proofs.Tables.{table, found_in, found_from}
 
 abbrev pub number_of : Task → ℕ
 number_of t = t.number
@@ -46,21 +47,21 @@ module _ (p : Picture) (s : IsSoundPicture p) where
 
   parent_stands : (i q : ℕ) (t k : Task) → slice_get p.tasks i ≡ Some t → In p.tasks k → k.number ≡ q → q < t.number → (j : ℕ) × (j < i) × StandsAt es j q
   parent_stands i q t k got there e lt =
-      let j = place_of p.tasks k there in (
+      let j = in_got p.tasks k there in (
         j.0,
         comes_first TaskBefore number_of earlier p.tasks s.tasks_rise j.0 i k t j.1 got (let l : q < t.number = lt in omega (arith, l, e)),
-        ((k.number, k), mapped_at (λ (x : Task). (x.number, x)) p.tasks j.0 k j.1, e),
+        ((k.number, k), got_map (λ (x : Task). (x.number, x)) p.tasks j.0 k j.1, e),
       )
 
   pub ordered : AreOrdered es
   ordered = record {
     apart = λ i j e f g h same.
-        let x = got_mapped (λ (t : Task). (t.number, t)) p.tasks i e g in
-        let y = got_mapped (λ (t : Task). (t.number, t)) p.tasks j f h in
+        let x = map_got (λ (t : Task). (t.number, t)) p.tasks i e g in
+        let y = map_got (λ (t : Task). (t.number, t)) p.tasks j f h in
         one_place TaskBefore number_of earlier p.tasks s.tasks_rise i j x.0 y.0 x.1 y.1
         (ap (λ (z : ℕ × Task). z.0) x.2 ∙ same ∙ sym (ap (λ (z : ℕ × Task). z.0) y.2));
     behind = λ i e q g h.
-        let x = got_mapped (λ (t : Task). (t.number, t)) p.tasks i e g in
+        let x = map_got (λ (t : Task). (t.number, t)) p.tasks i e g in
         let up = s.parents x.0 q (got_in p.tasks i x.0 x.1) (ap (λ (z : ℕ × Task). z.1.parent) x.2 ∙ h) in
         parent_stands i q x.0 up.0.0 x.1 up.0.1 up.0.2 up.1;
   }

@@ -4,6 +4,7 @@ use Rattle.std.specs.Prelude.{Option, Some, None, ◌==◌, ◌&&◌, ◌||◌, 
 use Rattle.std.specs.List.{list_any}
 use Rattle.std.proofs.lemmas.Bool.{or_left, or_right}
 use Rattle.listed.specs.Members.{In}
+use Rattle.listed.proofs.Places.{in_got}
 use Rattle.image_check.specs.declared.line.Remembered.{Remembered}
 use Rattle.image_check.specs.declared.read.Read.{Read}
 use Rattle.image_check.specs.declared.whole.Whole.{Whole}
@@ -14,7 +15,6 @@ use Rattle.image_check.specs.Fault.{is_astray, owner_runs, relation_to, is_apart
 use Rattle.heap_image.specs.declared.picture.Picked.{Picked}
 use Rattle.heap_image.specs.declared.picture.Picture.{Picture}
 use Rattle.heap_image.specs.Picture.{LeadsSomewhere, IsOwned, IsSoundPicture}
-use Rattle.heap_image.proofs.Splits.{place_of}
 use Rattle.heap_image.proofs.Family.{running, Stands, stands}
 use Rattle.heap_image.proofs.Family.Stands.{own, up, down}
 use Rattle.heap_image.proofs.Owners.{owner_found, owned_from}
@@ -89,7 +89,7 @@ module _ (p : Picture) (s : IsSoundPicture p) (w : Whole) (all : HasAll p w) (a 
     keeps_on k v (Some u) got e = ap (is_forgotten w r t o.address k) e ∙ keeps_by k u (stands_at k v u got e)
 
     pub none_crosses : list_any (crosses r t) o.references ≡ false
-    none_crosses = none_of (crosses r t) o.references (λ v i. let k = place_of o.references v i in stays_on k.0 v (owner_at r.chunks v) k.1 refl)
+    none_crosses = none_of (crosses r t) o.references (λ v i. let k = in_got o.references v i in stays_on k.0 v (owner_at r.chunks v) k.1 refl)
 
     pub none_left_out : forgets w r t o.address 0 o.references ≡ false
     none_left_out = none_forgotten w r t o.address 0 o.references (λ k v got. let z : 0 + k ≡ k = omega arith in ap (λ i. is_forgotten w r t o.address i (owner_at r.chunks v)) z ∙ keeps_on k v (owner_at r.chunks v) got refl)

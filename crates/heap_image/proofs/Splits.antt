@@ -3,6 +3,7 @@ use Rattle.std.proofs.Common.{◌≡◌, ◌<◌, ℕ, suc, Bool, true, false, L
 use Rattle.std.specs.Prelude.{Some, slice_get, nat_lt}
 use Rattle.listed.specs.Members.{In}
 use Rattle.listed.proofs.Members.{in_append_left, in_append_right, in_append_cases}
+use Rattle.listed.proofs.Places.{in_got}
 use Rattle.heap_image.specs.Picture.{Rises}
 
 -- of two places one comes first
@@ -19,11 +20,6 @@ module _ {A : Type 0} where
   got_middle [] x b = refl
   got_middle (y ∷ a) x b = got_middle a x b
 
-  pub place_of : (xs : List A) (x : A) → In xs x → (i : ℕ) × (slice_get xs i ≡ Some x)
-  place_of [] x h = absurd h
-  place_of (y ∷ ys) x (inl e) = (0, ap Some e)
-  place_of (y ∷ ys) x (inr h) = let r = place_of ys x h in (suc r.0, r.1)
-
   module _ (before : A → A → Type 0) where
     pub behind_first : (y : A) (ys : List A) → Rises before (y ∷ ys) → Rises before ys
     behind_first y ys r i j x z lt g h = r (suc i) (suc j) x z (omega (arith, lt)) g h
@@ -34,7 +30,7 @@ module _ {A : Type 0} where
     rises_to (z ∷ a) x b r y (inr h) = rises_to a x b (behind_first z (a ++ x ∷ b) r) y h
 
     pub rises_from : (a : List A) (x : A) (b : List A) → Rises before (a ++ x ∷ b) → (y : A) → In b y → before x y
-    rises_from [] x b r y h = let p = place_of b y h in r 0 (suc p.0) x y (omega arith) refl p.1
+    rises_from [] x b r y h = let p = in_got b y h in r 0 (suc p.0) x y (omega arith) refl p.1
     rises_from (z ∷ a) x b r y h = rises_from a x b (behind_first z (a ++ x ∷ b) r) y h
 
   module _ (before : A → A → Type 0) (key : A → ℕ) (up : (x y : A) → before x y → key x < key y) (xs : List A) (r : Rises before xs) where
@@ -59,8 +55,8 @@ module _ {A : Type 0} where
     -- a number names one item
     pub same_item : (x y : A) → In xs x → In xs y → key x ≡ key y → x ≡ y
     same_item x y a b e =
-        let i = place_of xs x a in
-        let j = place_of xs y b in
+        let i = in_got xs x a in
+        let j = in_got xs y b in
         let f : Some x ≡ Some y = sym i.1 ∙ ap (slice_get xs) (one_place i.0 j.0 x y i.1 j.1 e) ∙ j.1 in cc
 
   -- a list, cut before and behind one item

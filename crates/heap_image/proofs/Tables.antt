@@ -1,6 +1,6 @@
 -- What is found in the tables that the verifier makes of a picture's lists.
-use Rattle.std.proofs.Common.{◌≡◌, ℕ, zero, suc, Bool, true, false, List, [], ◌∷◌, ◌++◌, map, refl, ap, sym, ◌∙◌, inl, inr, arith}
-use Rattle.std.specs.Prelude.{Some, None, nat_eq, is_some, slice_get}
+use Rattle.std.proofs.Common.{◌≡◌, ℕ, Bool, true, false, List, [], ◌∷◌, ◌++◌, map, refl, ap, sym, ◌∙◌, inl, inr, arith}
+use Rattle.std.specs.Prelude.{Some, None, nat_eq, is_some}
 use Rattle.std.proofs.lemmas.Option.{same_Some}
 use Rattle.std.proofs.lemmas.Bool.{ne_eqb}
 use Rattle.listed.specs.Members.{In}
@@ -10,17 +10,6 @@ use Rattle.image_check.proofs.Entries.{itself}
 
 equal : (x y : ℕ) → nat_eq x y ≡ true → x ≡ y
 equal x y e = grind (arith, e)
-
-module _ {A B : Type 0} (f : A → B) where
-  pub mapped_at : (xs : List A) (i : ℕ) (x : A) → slice_get xs i ≡ Some x → slice_get (map f xs) i ≡ Some (f x)
-  mapped_at [] i x e = absurd cc
-  mapped_at (y ∷ ys) zero x e = ap Some (ap f (same_Some y x e))
-  mapped_at (y ∷ ys) (suc i) x e = mapped_at ys i x e
-
-  pub got_mapped : (xs : List A) (i : ℕ) (b : B) → slice_get (map f xs) i ≡ Some b → (x : A) × (slice_get xs i ≡ Some x) × (f x ≡ b)
-  got_mapped [] i b e = absurd cc
-  got_mapped (y ∷ ys) zero b e = (y, refl, same_Some (f y) b e)
-  got_mapped (y ∷ ys) (suc i) b e = got_mapped ys i b e
 
 module _ {X V : Type 0} (key : X → ℕ) (val : X → V) where
   abbrev pub entry : X → ℕ × V

@@ -24,7 +24,7 @@ use Rattle.run_ledger.proofs.Bounds.{steps_are_bounded}
 use Rattle.run_ledger.proofs.Counted.{journals_are_counted}
 use Rattle.run_ledger.proofs.Space.{heaps_fit, use_is_bounded}
 use Rattle.run_ledger.proofs.Stocks.{names_are_held_once}
-use Rattle.run_ledger.proofs.KeptNames.{stored_most}
+use Rattle.run_ledger.proofs.KeptNames.{stored_most, kept_least}
 use Rattle.object_layout.specs.Chunks.{held_words, object_count}
 use Rattle.object_layout.specs.ChunkValue.{ChunkValue}
 use Rattle.object_layout.specs.Objects.{Located}
@@ -199,17 +199,6 @@ pub kept_all : (l : Ledger) → kept_before l (length l.heaps) ≡ held_not_runn
 kept_all l = ap (kept_before l) (let e : length l.heaps ≡ 0 + length l.heaps = omega arith in e) ∙ sym (kept_on l l.heaps 0 (λ i. ap (slice_get l.heaps) (let e : i ≡ 0 + i = omega arith in e)))
 
 -- 64 BITS COUNT IT
-
-module _ (g : List Name → ℕ) (add : (xs ys : List Name) → g (xs ++ ys) ≡ g xs + g ys) where
-  kept_least : (tasks : List Task) (heaps : List Account) (t : ℕ) → g (held_not_running_from tasks heaps t) ≤ g (flat_map held_in heaps)
-  kept_least tasks [] t = omega arith
-  kept_least tasks (h ∷ hs) t = by (is_running (slice_get tasks t)) (kept_least tasks hs (t + 1)) (add (held_in h) (flat_map held_in hs)) (add (held_in h) (held_not_running_from tasks hs (t + 1)))
-    where
-      by : (b : Bool) → g (held_not_running_from tasks hs (t + 1)) ≤ g (flat_map held_in hs) → g (held_in h ++ flat_map held_in hs) ≡ g (held_in h) + g (flat_map held_in hs)
-          → g (held_in h ++ held_not_running_from tasks hs (t + 1)) ≡ g (held_in h) + g (held_not_running_from tasks hs (t + 1))
-          → g (cond b (held_not_running_from tasks hs (t + 1)) (held_in h ++ held_not_running_from tasks hs (t + 1))) ≤ g (held_in h ++ flat_map held_in hs)
-      by true r a b = omega (arith, r, a)
-      by false r a b = omega (arith, r, a, b)
 
 module _ (w : SharedValue) (I : IsSharedValue w) where
   abbrev k : Ledger

@@ -4,7 +4,7 @@ pub mod FoundLemmas
 mod Discovered
 pub mod LastChunk
 mod Upto
-mod FollowLemmas
+pub mod FollowLemmas
 mod FrameLemmas
 mod Exchanges
 pub mod Moves
