@@ -4,6 +4,7 @@ ghost use Rattle.std.specs.Prelude.{◌≡◌, ◌<◌, ◌^◌, IfSome, None};
 ghost use Rattle.run_ledger.specs.Entries.{chunk_units};
 ghost use Rattle.shared_value.specs.Causes.{chunk_cause};
 
+use object_layout::{CHUNK_WORDS, units};
 use run_ledger::Refused;
 use task_machine::Private;
 
@@ -17,10 +18,10 @@ pub fn units_for(words: Option<u32>) -> u32
     match words {
         None => 1,
         Some(words) => {
-            if words <= 1024 {
+            if words <= CHUNK_WORDS as u32 {
                 1
             } else {
-                (words + 1023) / 1024
+                units(words as u64) as u32
             }
         }
     }

@@ -13,7 +13,7 @@ pub use chunk::{
     is_born_at, is_object_at, next_at, ref_at, set_birth, set_int, set_int_behind, set_ref,
     write_filled, write_new,
 };
-pub use chunk_sizes::CHUNK_WORDS;
+pub use chunk_sizes::{CHUNK_WORDS, units};
 pub use laws::{
     apart_together, appended_is_last, chunks_are_found, fresh_has_none, led_are_read,
     objects_have_chunks, objects_lie_there, push_leaves_others, put_changes_one,
