@@ -1,15 +1,15 @@
 // Reads and writes of the objects of a space, by their addresses.
 
-ghost use Rattle.std.specs.Prelude.{◌≡◌, ◌+◌, ◌^◌, ◌<◌, ◌≤◌, ◌++◌, ◌∷◌, [], length, option_copied, option_map, slice_get, is_some, IfSome, Some, None};
-ghost use Rattle.object_layout.specs.Cell.{Born, Moved, frozen, header_of, size_of, with_int, with_mark, IsBorn, IsObject, IsPlace, chunk_words};
-ghost use Rattle.object_layout.specs.Place.{cell_at, put_cell, words_in, IsObjectAt};
-ghost use Rattle.object_layout.specs.Chunks.{cell_of, chunk_at, has_chunk, next_address, object_of, place_in, place_of, put_object};
+ghost use Rattle.std.specs.Prelude.{◌≡◌, ◌^◌, ◌<◌, length, option_copied, option_map, slice_get, is_some, IfSome, Some, None};
+ghost use Rattle.object_layout.specs.Cell.{Born, Moved, frozen, header_of, with_int, with_mark, IsBorn, IsObject, IsPlace};
+ghost use Rattle.object_layout.specs.Place.{cell_at};
+ghost use Rattle.object_layout.specs.Chunks.{cell_of, chunk_at, has_chunk, object_of, place_in, place_of, put_object};
 ghost use Rattle.alloc_path.specs.FieldLaws.{with_ref_of};
 
 use super::space::Space;
 use object_layout::{
-    Addr, Birth, Chunk, Header, birth_at, copy_behind, forward, freeze, header_at, int_at, ref_at,
-    set_birth, set_int_behind, set_ref,
+    Addr, Birth, Chunk, Header, birth_at, forward, freeze, header_at, int_at, ref_at, set_birth,
+    set_int_behind, set_ref,
 };
 
 impl Space {
@@ -187,22 +187,6 @@ impl Space {
         forward(chunk, object.offset, to);
     }
 
-    /// Writes a copy of an object, under this birth name, behind those of a chunk that isn't of this heap, and leaves
-    /// its new address in its old place: where it is known at which place the object's chunk stands.
-    pub fn move_in(&mut self, place: usize, object: Addr, birth: Birth, to: &mut Chunk) -> Addr
-        requires place { place_in self.old.chunks object.chunk ≡ Some place }
-        requires object { IsObject (cell_of self.old.chunks object).mark }
-        requires room { words_in to.old.cells + size_of (cell_of self.old.chunks object) ≤ to.old.size }
-        requires begins { words_in to.old.cells < chunk_words }
-        ensures address { result ≡ next_address to.old }
-        ensures copied { to.new ≡ record to.old { cells = to.old.cells ++ with_mark (cell_of self.old.chunks object) (Born birth) ∷ [] } }
-        ensures left { self.new ≡ record self.old { chunks = put_object self.old.chunks object (with_mark (cell_of self.old.chunks object) (Moved result)) } }
-    {
-        let chunk = self.chunks.at_mut(place);
-        self.pieces.note_change(chunk.number());
-        move_behind(chunk, object.offset, birth, to)
-    }
-
     /// Names an object, which bears this birth name from then on.
     pub fn own_set_birth(&mut self, object: Addr, birth: Birth)
         requires { IsObject (cell_of self.old.chunks object).mark }
@@ -213,24 +197,4 @@ impl Space {
         self.pieces.note_change(chunk.number());
         set_birth(chunk, object.offset, birth);
     }
-}
-
-// Writes a copy of an object of another chunk, under this birth name, behind the others, and leaves its new address in
-// its old place.
-fn move_behind(from: &mut Chunk, at: u32, birth: Birth, to: &mut Chunk) -> Addr
-    requires object { IsObjectAt from.old.cells at }
-    requires room { words_in to.old.cells + size_of (cell_at from.old.cells at) ≤ to.old.size }
-    requires begins { words_in to.old.cells < chunk_words }
-    ensures address { result ≡ next_address to.old }
-    ensures copied { to.new ≡ record to.old { cells = to.old.cells ++ with_mark (cell_at from.old.cells at) (Born birth) ∷ [] } }
-    ensures left { from.new ≡ record from.old { cells = put_cell from.old.cells at (with_mark (cell_at from.old.cells at) (Moved result)) } }
-{
-    set_birth(from, at, birth);
-    let offset = copy_behind(from, at, to);
-    let address = Addr {
-        chunk: to.number(),
-        offset,
-    };
-    forward(from, at, address);
-    address
 }
