@@ -1,4 +1,3 @@
-pub use Rattle.chunk_rows.specs.View
 pub mod LeafHeapValue
 pub mod Counted
 pub mod Units

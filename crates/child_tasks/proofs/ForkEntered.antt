@@ -16,7 +16,7 @@ use Rattle.hh_model.proofs.Runs.{grown_at}
 use Rattle.run_trace.specs.Entry.{EntryValue}
 use Rattle.run_ledger.specs.declared.data.Ledger.{Ledger}
 use Rattle.object_layout.specs.declared.word.Addr.{Addr}
-use Rattle.alloc_path.specs.View.{view_below}
+use Rattle.chunk_rows.specs.View.{view_below}
 use Rattle.heap_tree.specs.declared.state.State.TheVariants.{Waiting}
 use Rattle.heap_tree.specs.Node.{Node, child_of, depth_of, forked, with_state}
 use Rattle.heap_tree.proofs.ChangeLemmas.{all}

@@ -13,7 +13,7 @@ use Rattle.run_ledger.specs.declared.data.Ledger.{Ledger}
 use Rattle.object_layout.specs.declared.word.Addr.{Addr}
 use Rattle.chunk_pool.specs.PoolValue.{PoolValue}
 use Rattle.alloc_path.specs.LeafHeapValue.{LeafHeapValue, merged, room_of, with_places}
-use Rattle.alloc_path.specs.View.{Level}
+use Rattle.chunk_rows.specs.View.{Level}
 use Rattle.task_frames.specs.FramesValue.{FramesValue}
 use Rattle.heap_tree.specs.declared.state.State.TheVariants.{Ended}
 use Rattle.heap_tree.specs.Node.{Node, state_of as state_in_tree, with_state}

@@ -13,7 +13,7 @@ use Rattle.object_layout.specs.ChunkValue.{ChunkValue}
 use Rattle.object_layout.proofs.Owning.{found_any}
 use Rattle.chunk_pool.specs.PoolValue.{PoolValue, owner_of}
 use Rattle.alloc_path.specs.LeafHeapValue.{LeafHeapValue, counted, merged, room_of, with_places}
-use Rattle.alloc_path.specs.View.{Level}
+use Rattle.chunk_rows.specs.View.{Level}
 use Rattle.task_frames.specs.FramesValue.{FramesValue}
 use Rattle.remembered_set.specs.declared.remembered.Source.{Source}
 use Rattle.remembered_set.specs.Sources.{lifted}

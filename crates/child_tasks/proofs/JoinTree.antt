@@ -10,7 +10,7 @@ use Rattle.hh_model.specs.declared.data.Task.{Task}
 use Rattle.hh_model.specs.Step.{is_over, is_waiting, kept_by, result_in, waits}
 use Rattle.object_layout.specs.declared.word.Addr.{Addr}
 use Rattle.alloc_path.specs.LeafHeapValue.{LeafHeapValue, room_of}
-use Rattle.alloc_path.specs.View.{Level}
+use Rattle.chunk_rows.specs.View.{Level}
 use Rattle.heap_tree.specs.declared.state.State.TheVariants.{Ended, Joined, Ready}
 use Rattle.heap_tree.specs.declared.state.State.{State}
 use Rattle.heap_tree.specs.Node.{Node, with_state}

@@ -15,7 +15,7 @@ use Rattle.object_layout.specs.Chunks.{AreApart, has_chunk}
 use Rattle.object_layout.proofs.Owning.{apart_together, has_append}
 use Rattle.chunk_pool.specs.PoolValue.{slot_at}
 use Rattle.alloc_path.specs.LeafHeapValue.{LeafHeapValue}
-use Rattle.alloc_path.specs.View.{Level}
+use Rattle.chunk_rows.specs.View.{Level}
 use Rattle.task_frames.specs.FramesValue.{FramesValue}
 use Rattle.heap_tree.specs.declared.state.State.TheVariants.{Ended}
 use Rattle.heap_tree.specs.Node.{state_of as state_in_tree}

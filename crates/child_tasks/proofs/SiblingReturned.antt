@@ -17,7 +17,7 @@ use Rattle.run_ledger.proofs.Bounds.{ran_tells, task_steps_steps}
 use Rattle.run_ledger.proofs.Since.{since_is_few}
 use Rattle.run_ledger.proofs.Machine.{heap_machine}
 use Rattle.alloc_path.specs.LeafHeapValue.{LeafHeapValue}
-use Rattle.alloc_path.specs.View.{Level}
+use Rattle.chunk_rows.specs.View.{Level}
 use Rattle.heap_tree.specs.declared.state.State.TheVariants.{Ended}
 use Rattle.heap_tree.specs.Node.{state_of as state_in_tree}
 use Rattle.ledger_step_laws.specs.Accounts.{Rests, rested}

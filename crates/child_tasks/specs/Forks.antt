@@ -7,7 +7,7 @@ use Rattle.hh_model.specs.declared.data.Task.{Task}
 use Rattle.hh_model.specs.Step.{fetched}
 use Rattle.run_trace.specs.Entry.{private_limit}
 use Rattle.run_ledger.specs.Steps.{task_steps}
-use Rattle.alloc_path.specs.View.{view_below}
+use Rattle.chunk_rows.specs.View.{view_below}
 use Rattle.task_frames.specs.FramesValue.{with_next}
 use Rattle.write_barrier.specs.declared.sets.SetOf.{SetOf}
 use Rattle.write_barrier.specs.Stored.{Content, content_at}

@@ -16,7 +16,7 @@ use Rattle.object_layout.specs.declared.word.Addr.{Addr}
 use Rattle.object_layout.specs.ChunkValue.{ChunkValue}
 use Rattle.object_layout.specs.Objects.{Located}
 use Rattle.alloc_path.specs.LeafHeapValue.{LeafHeapValue, with_places}
-use Rattle.alloc_path.specs.View.{Level}
+use Rattle.chunk_rows.specs.View.{Level}
 use Rattle.task_frames.specs.declared.frames.Frame.{Frame}
 use Rattle.task_frames.specs.FramesValue.{FramesValue, frames_of}
 use Rattle.leaf_copy_gc.specs.declared.lists.Moved.{Moved}

@@ -18,7 +18,7 @@ use Rattle.object_layout.specs.Chunks.{held_words}
 use Rattle.object_layout.specs.Graph.{IsClosed, IsSound}
 use Rattle.alloc_path.specs.LeafHeapValue.{LeafHeapValue}
 use Rattle.alloc_path.specs.Units.{counted32, unit_count}
-use Rattle.alloc_path.specs.View.{Level}
+use Rattle.chunk_rows.specs.View.{Level}
 use Rattle.task_frames.specs.declared.frames.Frame.{Frame}
 use Rattle.task_frames.specs.FramesValue.{FramesValue, frames_of}
 use Rattle.leaf_copy_gc.specs.Survivors.{as_reference, held_by as refs_held, outside, references_in}

@@ -19,7 +19,7 @@ use Rattle.chunk_pool.specs.declared.pool.Slot.{Slot}
 use Rattle.chunk_pool.specs.PoolValue.{PoolValue, slot_at, owner_of, slot_units}
 use Rattle.alloc_path.specs.LeafHeapValue.{LeafHeapValue as HeapOfCode, IsFresh, room_of, with_places}
 use Rattle.alloc_path.specs.Units.{unit_count}
-use Rattle.alloc_path.specs.View.{Level}
+use Rattle.chunk_rows.specs.View.{Level}
 use Rattle.alloc_path.proofs.HeapLemmas.{fresh_cons}
 use Rattle.inner_mark_gc.specs.MarkingValue.{marked_of}
 use Rattle.inner_mark_gc.specs.Swept.{AreGiven, gone_of, goes, swept, units_kept}

@@ -13,7 +13,7 @@ use Rattle.object_layout.specs.Cell.{Cell, size_of}
 use Rattle.object_layout.specs.Chunks.{cell_of}
 use Rattle.object_layout.specs.Objects.{Located, located, with_fields}
 use Rattle.alloc_path.specs.LeafHeapValue.{LeafHeapValue, room_of}
-use Rattle.alloc_path.specs.View.{Level}
+use Rattle.chunk_rows.specs.View.{Level}
 use Rattle.task_frames.specs.declared.frames.Frame.{Frame}
 use Rattle.remembered_set.specs.declared.remembered.Source.{Source}
 use Rattle.write_barrier.specs.declared.sets.SetOf.{SetOf}

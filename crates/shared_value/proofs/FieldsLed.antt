@@ -17,7 +17,7 @@ use Rattle.alloc_path.specs.LeafHeapValue.{LeafHeapValue, room_of}
 use Rattle.alloc_path.specs.FieldLaws.{with_ref_of}
 use Rattle.alloc_path.specs.LeafHeapValue.{room_at}
 use Rattle.alloc_path.specs.PlaceLaws.{KeepsCounts}
-use Rattle.alloc_path.specs.View.{Level}
+use Rattle.chunk_rows.specs.View.{Level}
 use Rattle.alloc_path.proofs.Counting.{writes_keep_counts}
 use Rattle.remembered_set.specs.declared.remembered.Source.{Source}
 use Rattle.remembered_set.specs.Moved.{held_by, new_reference, redirected, written}

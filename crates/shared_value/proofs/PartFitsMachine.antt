@@ -36,7 +36,7 @@ use Rattle.object_layout.specs.Cell.{Born, Cell}
 use Rattle.object_layout.specs.Chunks.{cell_of, place_in, place_of}
 use Rattle.object_layout.specs.ChunkValue.{ChunkValue}
 use Rattle.object_layout.specs.Objects.{Located, located}
-use Rattle.alloc_path.specs.View.{seen_at}
+use Rattle.chunk_rows.specs.View.{seen_at}
 use Rattle.task_frames.specs.declared.frames.Frame.{Frame}
 use Rattle.ledger_step_laws.specs.Accounts.{Rests, own}
 use Rattle.ledger_step_laws.specs.Accounts.{Knows}

@@ -10,7 +10,7 @@ use Rattle.run_ledger.specs.Journals.{ledger_of}
 use Rattle.object_layout.specs.declared.word.Addr.{Addr}
 use Rattle.chunk_pool.specs.PoolValue.{PoolValue, owner_of, units_in_use}
 use Rattle.alloc_path.specs.LeafHeapValue.{LeafHeapValue, room_of}
-use Rattle.alloc_path.specs.View.{Level}
+use Rattle.chunk_rows.specs.View.{Level}
 use Rattle.task_frames.specs.declared.frames.Frame.{Frame}
 use Rattle.task_frames.specs.FramesValue.{FramesValue}
 use Rattle.heap_tree.specs.Node.{Node}

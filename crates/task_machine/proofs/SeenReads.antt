@@ -7,7 +7,7 @@ use Rattle.listed.specs.Members.{In}
 use Rattle.object_layout.specs.declared.word.Addr.{Addr}
 use Rattle.object_layout.specs.Cell.{Cell}
 use Rattle.object_layout.specs.Chunks.{object_of, place_in as chunk_in}
-use Rattle.alloc_path.specs.View.{seen_at}
+use Rattle.chunk_rows.specs.View.{seen_at}
 use Rattle.hh_lang.specs.declared.instr.Instr.{Instr}
 use Rattle.hh_lang.specs.declared.instr.Instr.TheVariants.{Getr, Geti, Cntr, Cnti}
 use Rattle.hh_lang.specs.declared.program.Line.{Line}
