@@ -26,7 +26,7 @@ set_birth-requires c =
     let d : Cell = cell_of c.args.heap.now.chunks c.args.survivor.old in
     let told = object_told c.chunk_in-from.result.now.cells c.args.survivor.old.offset d c.chunk_in-from.ensures c.requires.object in
     let read = fill.last_read c.args.to.now c.copy_behind-offset.result c.copy_behind-offset.ensures.place c.copy_behind-offset.new.to
-        (object_at c.chunk_in-from.result.now.cells c.args.survivor.old.offset) c.copy_behind-offset.ensures.copied in
+    (object_at c.chunk_in-from.result.now.cells c.args.survivor.old.offset) c.copy_behind-offset.ensures.copied in
     subst (λ (x : Cell). IsObject x.mark) (sym (read ∙ told)) c.requires.object
 
 pub returns-clause-copied : goal.returns-clause-copied
