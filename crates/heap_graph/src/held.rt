@@ -4,6 +4,7 @@ ghost use Rattle.std.specs.Prelude.{◌≡◌, ◌≤◌, ◌+◌, OnOk, length}
 ghost use Rattle.image_check.specs.Read.{IsSized};
 ghost use Rattle.image_check.specs.Tasks.{owner_at};
 ghost use Rattle.text_lines.specs.Lines.{lines_of};
+ghost use Rattle.image_check.specs.Line.{most_fields};
 ghost use Rattle.heap_graph.specs.Held.{is_on_path, is_drawn, held_of, with_chunk, with_object, with_object_of, held_with, held_by};
 
 use image_check::{Object, Read, Relation, Said, Table, owner_of, read_line};
@@ -66,7 +67,7 @@ fn with_chunk(held: Held) -> Held
 
 // With an object more.
 fn with_object(held: Held, object: &Object) -> Held
-    requires { length object.now.references + object.now.numbers ≤ 1000000 }
+    requires { length object.now.references + object.now.numbers ≤ most_fields }
     ensures { result ≡ with_object held object.now }
 {
     let words = 2 + object.references.len() as u64 + object.numbers;
@@ -79,7 +80,7 @@ fn with_object(held: Held, object: &Object) -> Held
 
 // Counts an object.
 fn add_object(heaps: &mut Table<Held>, read: &Read, object: &Object) -> Result<(), AllocError>
-    requires { length object.now.references + object.now.numbers ≤ 1000000 }
+    requires { length object.now.references + object.now.numbers ≤ most_fields }
     ensures { OnOk result (heaps.new ≡ with_object_of heaps.old object.now (owner_at read.now.chunks object.now.address)) }
 {
     match owner_of(&read.chunks, object.address) {

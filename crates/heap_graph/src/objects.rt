@@ -2,6 +2,7 @@
 
 ghost use Rattle.std.specs.Prelude.{◌≡◌, ◌≤◌, ◌+◌, ◌++◌, ◌∷◌, codes, length, OnOk, IfOk, string_bytes};
 ghost use Rattle.std.specs.Fmt.{decimal};
+ghost use Rattle.image_check.specs.Line.{most_fields};
 ghost use Rattle.heap_graph.specs.Drawn.{reference_title, port_title, port_titles, count_title, numbers_title, references_title, birth_title, object_title, node_of};
 ghost use Rattle.dot_text.specs.Dot.{dot};
 
@@ -93,7 +94,7 @@ fn add_numbers(
     line: &[u8],
     object: &Object,
 ) -> Result<(), AllocError>
-    requires { length object.now.references + object.now.numbers ≤ 1000000 }
+    requires { length object.now.references + object.now.numbers ≤ most_fields }
     ensures { OnOk result (title.new.items ≡ title.old.items ++ numbers_title line.now object.now) }
 {
     if FIELD_LIMIT < object.numbers as usize {
@@ -104,7 +105,7 @@ fn add_numbers(
 }
 
 fn object_title(alloc: Global, line: &[u8], object: &Object) -> Result<Vec<u8>, AllocError>
-    requires { length object.now.references + object.now.numbers ≤ 1000000 }
+    requires { length object.now.references + object.now.numbers ≤ most_fields }
     ensures { IfOk result (λ title. title.items ≡ object_title line.now object.now) }
 {
     let mut title = Vec::new(alloc);
@@ -123,7 +124,7 @@ pub(crate) fn add_node(
     line: &[u8],
     object: &Object,
 ) -> Result<(), AllocError>
-    requires { length object.now.references + object.now.numbers ≤ 1000000 }
+    requires { length object.now.references + object.now.numbers ≤ most_fields }
     ensures { OnOk result (text.new.items ≡ text.old.items ++ dot (node_of line.now object.now)) }
 {
     let name = object_name(alloc, object.address)?;

@@ -7,6 +7,7 @@ use Rattle.run_trace.specs.Entry.{IsWord}
 use Rattle.image_check.specs.declared.line.Task.{Task}
 use Rattle.image_check.specs.declared.line.Chunk.{Chunk}
 use Rattle.image_check.specs.declared.line.Remembered.{Remembered}
+use Rattle.image_check.specs.Line.{most_fields}
 use Rattle.heap_image.specs.declared.picture.Picked.{Picked}
 use Rattle.heap_image.specs.declared.picture.Picture.{Picture}
 
@@ -36,7 +37,7 @@ pub record IsObjectForm (o : Picked) : Type 0 where
   pub address : IsLong o.address
   pub task : IsWord o.birth.task
   pub count : IsWord o.birth.count
-  pub sized : length o.references + length o.numbers ≤ 1000000
+  pub sized : length o.references + length o.numbers ≤ most_fields
   pub references : (v : ℕ) → In o.references v → IsLong v
   pub numbers : (n : ℤ) → In o.numbers n → fits_i64 n ≡ true
 

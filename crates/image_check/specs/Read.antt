@@ -9,7 +9,7 @@ use Rattle.image_check.specs.declared.read.Extent.{Extent}
 use Rattle.image_check.specs.declared.read.Read.{Read}
 use Rattle.image_check.specs.declared.whole.Whole.{Whole}
 use Rattle.image_check.specs.Place.{chunk_number, offset}
-use Rattle.image_check.specs.Line.{said_by}
+use Rattle.image_check.specs.Line.{said_by, most_fields}
 use Rattle.image_check.specs.Table.{found, with_entry, with_new}
 use Rattle.image_check.specs.Sets.{with_item, same_birth, same_field}
 
@@ -101,5 +101,5 @@ whole_of text = with_lines nothing_had (lines_of text)
 
 -- an object has at most a million fields
 abbrev pub IsSized : Said → Type 0
-IsSized (OfObject o) = length o.references + o.numbers ≤ 1000000
+IsSized (OfObject o) = length o.references + o.numbers ≤ most_fields
 IsSized _ = Unit {0}

@@ -4,6 +4,7 @@ ghost use Rattle.std.specs.Prelude.{◌≡◌, ◌≤◌, ◌<◌, ◌+◌, ◌&
 ghost use Rattle.image_check.specs.Read.{IsSized};
 ghost use Rattle.image_check.specs.Tasks.{owner_at};
 ghost use Rattle.image_check.specs.Fault.{is_misplaced, breaks_form, lacks_parent, overlaps, is_crowded, is_astray, relation_to, is_apart, is_below, is_noted, is_no_field, references_cause, object_cause, object_cause_in, remembered_cause, cause_by, cause_on, CanFollow};
+ghost use Rattle.image_check.specs.Line.{most_fields};
 
 use crate::cause::Cause;
 use crate::line::{Chunk, Object, Remembered, Said};
@@ -66,7 +67,7 @@ fn is_overlapping(latest: Option<Extent>, object: &Object) -> bool
 
 // Whether an object leaves its chunk or overlaps the one before.
 fn is_ill_placed(read: &Read, chunk: Chunk, object: &Object) -> bool
-    requires sized { length object.now.references + object.now.numbers ≤ 1000000 }
+    requires sized { length object.now.references + object.now.numbers ≤ most_fields }
     requires there { 0 < object.now.address }
     ensures { result ≡ is_crowded read.now chunk object.now }
 {
@@ -150,7 +151,7 @@ fn cause_of_references(whole: &Whole, read: &Read, task: u64, object: &Object) -
 
 // The first cause of an object that lies in a chunk.
 fn cause_in_chunk(whole: &Whole, read: &Read, object: &Object, chunk: Chunk) -> Option<Cause>
-    requires sized { length object.now.references + object.now.numbers ≤ 1000000 }
+    requires sized { length object.now.references + object.now.numbers ≤ most_fields }
     requires there { 0 < object.now.address }
     ensures { result ≡ object_cause_in whole.now read.now object.now (Some chunk) }
 {
@@ -164,7 +165,7 @@ fn cause_in_chunk(whole: &Whole, read: &Read, object: &Object, chunk: Chunk) -> 
 }
 
 fn cause_of_object(whole: &Whole, read: &Read, object: &Object) -> Option<Cause>
-    requires sized { length object.now.references + object.now.numbers ≤ 1000000 }
+    requires sized { length object.now.references + object.now.numbers ≤ most_fields }
     ensures { result ≡ object_cause whole.now read.now object.now }
 {
     if read.births.has(object.birth.task, object.birth.count) {

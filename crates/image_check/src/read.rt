@@ -3,6 +3,7 @@
 ghost use Rattle.std.specs.Prelude.{◌≡◌, ◌≤◌, ◌+◌, ◌<◌, OnOk, length};
 ghost use Rattle.image_check.specs.Place.{chunk_number};
 ghost use Rattle.image_check.specs.Read.{position_of, rises, or_next, comes_next, end_of, extent_of, nothing_read, after_line, IsSized};
+ghost use Rattle.image_check.specs.Line.{most_fields};
 
 use crate::line::{Chunk, Object, Said};
 use crate::sets::Births;
@@ -97,7 +98,7 @@ pub(crate) fn chunk_of(address: u64) -> u64
 
 /// Where an object ends in its chunk, and which that is.
 pub(crate) fn extent_in(object: &Object) -> Extent
-    requires sized { length object.now.references + object.now.numbers ≤ 1000000 }
+    requires sized { length object.now.references + object.now.numbers ≤ most_fields }
     requires there { 0 < object.now.address }
     ensures { result ≡ extent_of object.now }
 {
@@ -129,7 +130,7 @@ impl Read {
 
     // With an object's line more.
     fn add_object(&mut self, object: &Object) -> Result<(), AllocError>
-        requires sized { length object.now.references + object.now.numbers ≤ 1000000 }
+        requires sized { length object.now.references + object.now.numbers ≤ most_fields }
         requires there { 0 < object.now.address }
         ensures { OnOk result (self.new ≡ record (after_line self.old (Said.OfObject object.now)) { last = self.old.last }) }
     {
