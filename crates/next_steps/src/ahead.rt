@@ -19,8 +19,8 @@ pub struct NextStep {
 }
 
 // The words that a task's next instruction allocates, where the task runs and it allocates.
-fn asked_at(machine: &State, task: &Task, line: Option<Line>) -> Option<usize>
-    ensures { result ≡ (if runs task.now.status then asked_line machine.now.field_limit task.now.top line else None) }
+fn asked_at(machine: &State, task: &Task, line: &Option<Line>) -> Option<usize>
+    ensures { result ≡ (if runs task.now.status then asked_line machine.now.field_limit task.now.top line.now else None) }
 {
     match task.status {
         Status::Running => {}
@@ -39,7 +39,7 @@ fn step_of(program: &Program, machine: &State, t: u32, task: &Task) -> NextStep
 {
     let line = program.line(task.top.function, task.top.next);
     NextStep {
-        words: asked_at(machine, task, line),
+        words: asked_at(machine, task, &line),
         own: is_own_line(machine, t, task, line),
     }
 }
