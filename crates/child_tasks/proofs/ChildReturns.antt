@@ -152,9 +152,6 @@ module _ (w : SharedValue) (k : ℕ) (p : Private) (I : IsSharedValue w) (F : Fi
   pub parent_low : parent < t
   parent_low = kept_tree.low t parent par_mid
 
-  pub not_root : t ≡ 0 → ⊥
-  not_root e = omega (arith, parent_low, e)
-
   pub parent_apart : parent ≡ t → ⊥
   parent_apart e = omega (arith, parent_low, e)
 

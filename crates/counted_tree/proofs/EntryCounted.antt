@@ -55,10 +55,6 @@ last_of xs e x h =
     let at : length (xs ++ e ∷ []) - 1 ≡ length xs + 0 = omega (arith, long) in
     sym (same_Some e x (sym (got_back xs (e ∷ []) 0) ∙ (ap (slice_get (xs ++ e ∷ [])) (sym at) ∙ h)))
 
-pub long_last : {A : Type 0} (xs : List A) (e : A) → 0 < length (xs ++ e ∷ [])
-long_last [] e = omega arith
-long_last (x ∷ xs) e = omega arith
-
 -- BEFORE THE FIRST ENTRY
 
 first_worker : (p : ProgramText) (s : SettingsValue) (t k : ℕ) → (heap_of (opening p s) t).worker ≡ Some k → ⊥

@@ -78,9 +78,6 @@ module _ (w : SharedValue) (k : ℕ) (p : Private) (I : IsSharedValue w) (F : Fi
     news_are : news ≡ T.numbers.chunks
     news_are = T.numbers.behind
 
-    pub begins_long : length news ≡ count
-    begins_long = ap length news_are ∙ (T.numbers.count ∙ sym ec)
-
     abbrev begun_world : SharedValue
     begun_world = record w { pool = pool; journal = record { items = w.journal.items ++ record { worker = k; kind = Begin p.task } ∷ []; room = j.room } }
 

@@ -196,9 +196,6 @@ module _ (w : SharedValue) (k : ℕ) (p : Private) (I : IsSharedValue w) (F : Fi
     pub value_place : IsPlace r
     value_place = subst IsPlace (sym store.value) ((is_safe w k p I F shared free).places store.b)
 
-    abbrev pub kept_rest : Rest
-    kept_rest = put_rest foreign.rest a (cell_ref cell i r)
-
     abbrev pub part_after : Private
     part_after = record p { frames = store_frames swap p.frames; fresh = 0 }
 

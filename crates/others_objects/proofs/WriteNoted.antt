@@ -119,13 +119,6 @@ module _ (tree : List Node) (pool : PoolValue) (sets sets' : List SetOf) (a : Ad
       by None = refl
       by (Some c) = keeps_after t c
 
-  pub marked_noted : (t : ℕ) → (now t).marked ≡ (was t).marked
-  marked_noted t = ap (λ (x : Noted). x.marked) (now_is t) ∙ (by (content_at sets t) ∙ ap (λ (x : Noted). x.marked) (sym (was_is t)))
-    where
-      by : (o : Option Content) → (noted_of (option_map (after t) o)).marked ≡ (noted_of o).marked
-      by None = refl
-      by (Some c) = refl
-
   -- SOURCES
   pub sources_grow : (t : ℕ) (s : Source) → In (was t).sources s → In (now t).sources s
   sources_grow t s j = subst (λ (x : Noted). In x.sources s) (sym (now_is t)) (by (content_at sets t) (subst (λ (x : Noted). In x.sources s) (was_is t) j))
@@ -203,19 +196,7 @@ module _ (tree : List Node) (pool : PoolValue) (sets sets' : List SetOf) (a : Ad
         | inr n ↦ inr n
       ]
 
-  -- WHAT IS KEPT
-  pub kept_grows : (t : ℕ) (b : Addr) → In (was t).kept b → In (now t).kept b
-  kept_grows t b j = subst (λ (x : Noted). In x.kept b) (sym (now_is t)) (by (content_at sets t) (subst (λ (x : Noted). In x.kept b) (was_is t) j))
-    where
-      one : (x : Bool) (c : Content) → In c.kept b → In (cond x (c.kept ++ option_to_list overwritten) c.kept) b
-      one true c k = in_append_left c.kept (option_to_list overwritten) b k
-      one false c k = k
-
-      by : (o : Option Content) → In (noted_of o).kept b → In (noted_of (option_map (after t) o)).kept b
-      by None k = k
-      by (Some c) k = subst (λ xs. In xs b) (sym (kept_after t c)) (one (option_is (heap_of pool overwritten) t && c.keeps) c k)
-
-  -- behind what was there
+  -- WHAT IS KEPT: what was there, and more behind it
   pub kept_more : (t : ℕ) → (more : List Addr) × ((now t).kept ≡ (was t).kept ++ more)
   kept_more t = by (content_at sets t) refl
     where

@@ -30,7 +30,7 @@ use Rattle.shared_value.specs.Entered.{refused}
 use Rattle.shared_value.proofs.CollectionUnderWay.{none_begun}
 use Rattle.shared_value.proofs.PartFitsMachine as link
 use Rattle.shared_value.proofs.StepsEntered.{goes, status}
-use Rattle.shared_value.proofs.StepAccounts.{After, hold, hold_same}
+use Rattle.shared_value.proofs.StepAccounts.{After}
 use Rattle.own_steps.specs.Alone.{IsShared, SaysOf, Tells}
 use Rattle.own_steps.proofs.LastSteps.{shared_now}
 
@@ -108,9 +108,6 @@ module _ (w : SharedValue) (k : ℕ) (p : Private) (I : IsSharedValue w) (F : Fi
 
   pub held_mid : (heap_of M t).worker ≡ Some k
   held_mid = link.worker_then w k p I F on
-
-  pub holds_mid : hold (heap_of M t) ≡ hold (heap_of l t)
-  holds_mid = hold_same (slice_get l.heaps t) (slice_get M.heaps t) A.heap
 
   -- heaps of others, and whose home is in the value
   pub heap_off : (u : ℕ) → (u ≡ t → ⊥) → slice_get M.heaps u ≡ slice_get l.heaps u

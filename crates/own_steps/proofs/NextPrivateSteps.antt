@@ -109,11 +109,5 @@ module _ (p : ProgramText) (s : SettingsValue) (old new : Private) (k : ℕ) (R 
   pub ran_private : ArePrivate p s l old.task k
   ran_private = private_each p s old.task k l each
 
-  pub ran_after : After l (task_steps p l old.task k) old.task x
-  ran_after = (at k (omega arith)).after
-
-  pub ran_counted : IsCounted new.heap (heap_of (task_steps p l old.task k) old.task)
-  ran_counted = subst (IsCounted new.heap) (sym (ap or_fresh (at k (omega arith)).heap)) B.counted
-
   pub ran_machine : FitsMachine p new (task_steps p l old.task k).machine above
   ran_machine = subst (λ (m : State). FitsMachine p new m above) (sym (at k (omega arith)).machine) A.fits

@@ -14,7 +14,6 @@ use Rattle.run_ledger.proofs.Going.{machine_goes_on}
 use Rattle.chunk_pool.specs.PoolValue.{units_in_use}
 use Rattle.core_relation.specs.Copies.{PartFits}
 use Rattle.core_relation.specs.Fits.{FitsAt}
-use Rattle.core_relation.specs.Frames.{IsOut}
 use Rattle.core_relation.specs.Whole.{StandsFor, by_end, handed}
 use Rattle.core_relation.proofs.whole.TasksOut.{tasks_out_are_held}
 use Rattle.core_relation.proofs.parts.Workers as workers
@@ -82,9 +81,6 @@ module _ (w : SharedValue) (k : ℕ) (p : Private) (F : Fits w k p) (on : (accou
 
   pub fits_now : FitsAt w.program w.settings (part_of w.settings p) (value_of w) (accounts w)
   fits_now = part_now.fits
-
-  pub out_now : IsOut (accounts w) (part_of w.settings p) F.fits.task
-  out_now = workers.out w.program w.settings (part_of w.settings p) (value_of w) (accounts w) alive F.fits
 
   pub status : F.fits.task.status ≡ Running
   status = runs_is F.fits.task.status F.fits.runs
