@@ -1,0 +1,19 @@
+-- What is checked before a collection.
+use Rattle.std.specs.Prelude.{ℕ, ◌≤◌, List, Option, All}
+use Rattle.object_layout.specs.declared.word.Addr.{Addr}
+use Rattle.object_layout.specs.Chunks.{object_of}
+use Rattle.alloc_path.specs.LeafHeapValue.{LeafHeapValue, IsFresh}
+use Rattle.task_frames.specs.FramesValue.{FramesValue}
+use Rattle.leaf_copy_gc.specs.Survivors.{IsClosed, IsSound, outside}
+use Rattle.leaf_copy_gc.specs.Laid.{small_words}
+
+-- all that a collection into one new chunk of this number asks
+pub record IsReady (h : LeafHeapValue) (s : FramesValue) (roots : List Addr) (number : ℕ) : Type 0 where
+  pub closed : IsClosed h.chunks
+  pub outside : All (IsSound h.chunks) (outside s roots)
+  pub fresh : IsFresh h.chunks number
+  pub few : small_words h.chunks ≤ 1024
+
+-- the references of the object at an address
+abbrev pub fields_of : LeafHeapValue → Addr → List (Option Addr)
+fields_of h a = (object_of h.chunks a).refs

@@ -1,0 +1,52 @@
+// Collections of heaps that were checked.
+
+ghost use Rattle.std.specs.Prelude.{IsTrue};
+ghost use Rattle.collection_tests.specs.Ready.{IsReady};
+
+use alloc_path::LeafHeap;
+use leaf_copy_gc::{Moved, ToChunks, copy};
+use memory_scenes::{is_fit_heap, is_fresh, outside_is_sound, small_in_all};
+use object_layout::{Addr, Chunk};
+use outside_io::EmptyGate;
+use std::alloc::Global;
+use task_frames::Frames;
+
+// Whether the heap, the frames and the roots are as a collection into one new chunk of this number asks.
+fn is_ready(heap: &LeafHeap, frames: &Frames, roots: &[Addr], number: u32) -> bool
+    ensures { IsTrue result → IsReady heap.now frames.now roots.now number }
+{
+    let Some(small) = small_in_all(heap.chunks()) else {
+        return false;
+    };
+    if small > 1024 {
+        return false;
+    }
+    if !is_fit_heap(heap) {
+        return false;
+    }
+    if !outside_is_sound(heap, frames, roots) {
+        return false;
+    }
+    is_fresh(heap.chunks(), number)
+}
+
+/// Collects the heap into one new chunk of this number, if all is as a collection asks.
+pub fn collect(
+    alloc: Global,
+    heap: &mut LeafHeap,
+    frames: &mut Frames,
+    roots: &[Addr],
+    number: u32,
+) -> Option<Moved> {
+    let Ok(mut to) = ToChunks::reserve(alloc, heap, 1) else {
+        return None;
+    };
+    let Ok(chunk) = Chunk::new(alloc, number, 1) else {
+        return None;
+    };
+    if !is_ready(heap, frames, roots, number) {
+        return None;
+    }
+    to.chunks.push_reserved(chunk);
+    Some(copy(heap, frames, roots, to, &EmptyGate, 0, 3))
+}

@@ -1,0 +1,148 @@
+// Markings and sweeps of whole heaps.
+
+use crate::collecting::collect;
+use alloc_path::LeafHeap;
+use memory_scenes::{Put, Seen, Spot, at, at_spot, heap_of, holds, mark_and_sweep, one_frame};
+use std::alloc::Global;
+
+// A heap, and what a marking from a root and an overwritten reference, so many objects at a time, and a sweep make of it.
+struct Case {
+    heap: &'static [Put],
+    root: Spot,
+    kept: Option<Spot>,
+    step: u32,
+    // How many calls marked as many objects as they were to, how many units were given back, and how many are in use.
+    swept: (u32, u32, u32),
+    objects_after: &'static [Seen],
+    // The chunks, the words, the words that are left in the chunk that is being filled, and which chunk is reserved.
+    left: (usize, u64, u32, Option<usize>),
+}
+
+// Whether the heap is then as it should be.
+fn is_left(heap: &LeafHeap, case: &Case) -> bool {
+    let chunks = heap.chunks().len();
+    let left = (chunks, heap.words(), heap.room(), heap.reserved());
+    left == case.left && holds(heap, case.objects_after)
+}
+
+// Whether all that should comes of marking and sweeping the heap.
+fn is_swept(alloc: Global, heap: &mut LeafHeap, case: &Case) -> bool {
+    let kept = case.kept.map(at_spot);
+    let root = [at_spot(case.root)];
+    let told = mark_and_sweep(alloc, heap, &root, kept.as_slice(), case.step);
+    told == Some(case.swept) && is_left(heap, case)
+}
+
+// The heap once it is swept, if it is as it should be.
+fn swept(alloc: Global, case: &Case) -> Option<LeafHeap> {
+    let mut heap = heap_of(alloc, case.heap)?;
+    if is_swept(alloc, &mut heap, case) {
+        Some(heap)
+    } else {
+        None
+    }
+}
+
+// Between two objects a hole is left.
+const HOLE: Case = Case {
+    heap: &[
+        Put::Chunk(0, 1),
+        Put::Object(1, 0, 0),
+        Put::Object(0, 1, 1),
+        Put::Object(0, 2, 2),
+        Put::Lead((0, 0), (0, 6)),
+    ],
+    root: (0, 0),
+    kept: None,
+    step: 1,
+    swept: (2, 0, 1),
+    objects_after: &[((0, 0), 0, Some((0, 6))), ((0, 6), 2, None)],
+    left: (1, 7, 1014, None),
+};
+
+// The counts of a collection of such a heap.
+fn collected(alloc: Global, heap: &mut LeafHeap) -> Option<(u32, u32, u32)> {
+    let mut frames = one_frame(alloc)?;
+    frames.set_reference(0, Some(at(0, 0)));
+    let moved = collect(alloc, heap, &mut frames, &[], 20)?;
+    Some((moved.taken, moved.given, moved.left))
+}
+
+const COLLECTED: &[Seen] = &[((20, 0), 0, Some((20, 3))), ((20, 3), 2, None)];
+
+// The words placed before a collection, its counts, and whether the heap has then just the objects that it should.
+fn with_hole(alloc: Global, heap: &mut LeafHeap) -> Option<(u64, (u32, u32, u32), bool)> {
+    let since = heap.since();
+    let counts = collected(alloc, heap)?;
+    Some((since, counts, holds(heap, COLLECTED)))
+}
+
+// The same of a heap in which a hole is left.
+fn collected_with_hole(alloc: Global) -> Option<(u64, (u32, u32, u32), bool)> {
+    let mut heap = swept(alloc, &HOLE)?;
+    with_hole(alloc, &mut heap)
+}
+
+// Then the heap is collected.
+#[test]
+fn a_hole_is_left(rt: HostRuntime) {
+    assert!(rt; collected_with_hole(rt.alloc()) == Some((10, (1, 1, 7), true)));
+}
+
+// A reference that was overwritten before the marking began is kept, and its object with it.
+const KEPT: Case = Case {
+    heap: OVERWRITTEN,
+    root: (0, 0),
+    kept: Some((0, 3)),
+    step: 64,
+    swept: (0, 0, 1),
+    objects_after: &[((0, 0), 0, Some((0, 0))), ((0, 3), 1, None)],
+    left: (1, 6, 1018, None),
+};
+
+const NOT_KEPT: Case = Case {
+    heap: OVERWRITTEN,
+    root: (0, 0),
+    kept: None,
+    step: 64,
+    swept: (0, 0, 1),
+    objects_after: &[((0, 0), 0, Some((0, 0)))],
+    left: (1, 3, 1018, None),
+};
+
+const OVERWRITTEN: &[Put] = &[
+    Put::Chunk(0, 1),
+    Put::Object(1, 0, 0),
+    Put::Object(0, 1, 1),
+    Put::Lead((0, 0), (0, 3)),
+    Put::Lead((0, 0), (0, 0)),
+];
+
+// Of two large objects one is left where it is; the three units of the other are given back. The reserved chunk stays,
+// and the chunk that was being filled goes.
+const LARGE_OBJECTS: Case = Case {
+    heap: &[
+        Put::Chunk(0, 3),
+        Put::Object(0, 3000, 1),
+        Put::Chunk(1, 2),
+        Put::Object(0, 1500, 2),
+        Put::Chunk(2, 1),
+        Put::Object(0, 1, 0),
+        Put::Chunk(3, 2),
+    ],
+    root: (1, 0),
+    kept: None,
+    step: 64,
+    swept: (0, 4, 4),
+    objects_after: &[((1, 0), 2, None)],
+    left: (2, 1502, 0, Some(1)),
+};
+
+const CASES: &[Case] = &[KEPT, NOT_KEPT, LARGE_OBJECTS];
+
+#[test]
+fn what_is_kept(rt: HostRuntime) {
+    for case in CASES {
+        assert!(rt; swept(rt.alloc(), case).is_some());
+    }
+}

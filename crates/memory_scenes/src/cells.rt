@@ -1,0 +1,88 @@
+// Whether references within a heap lead to objects, and how many words the small objects take.
+
+ghost use Rattle.std.specs.Prelude.{◌≡◌, ◌<◌, ◌≤◌, length, All, IfSome, IsTrue, None};
+ghost use Rattle.object_layout.specs.Cell.{moved_to, size_of, IsBorn};
+ghost use Rattle.object_layout.specs.Place.{cell_at, IsCellAt};
+ghost use Rattle.leaf_copy_gc.specs.Survivors.{IsClosed, IsSound};
+ghost use Rattle.leaf_copy_gc.specs.Laid.{small_in, small_words};
+ghost use Rattle.memory_scenes.specs.Fit.{IsFit};
+
+use crate::soundness::is_sound;
+use alloc_path::LeafHeap;
+use object_layout::{Chunk, header_at, is_born_at, next_at, ref_at};
+
+// Whether each reference of the object there leads to an object.
+fn leads_to_objects(heap: &LeafHeap, chunk: &Chunk, at: u32) -> bool
+    requires { IsBorn (cell_at chunk.now.cells at).mark }
+    ensures { IsTrue result → All (IsSound heap.now.chunks) (cell_at chunk.now.cells at).refs }
+{
+    let header = header_at(chunk, at);
+    for field in 0..header.nrefs {
+        if !is_sound(heap, ref_at(chunk, at, field)) {
+            return false;
+        }
+    }
+    true
+}
+
+// Whether what lies there is no object, or one whose references all lead to objects.
+fn is_fit(heap: &LeafHeap, chunk: &Chunk, at: u32) -> bool
+    requires { IsCellAt chunk.now.cells at }
+    ensures { IsTrue result → IsFit heap.now.chunks (cell_at chunk.now.cells at) }
+{
+    !is_born_at(chunk, at) || leads_to_objects(heap, chunk, at)
+}
+
+// Whether all that lies in a chunk is.
+fn is_fit_chunk(heap: &LeafHeap, chunk: &Chunk) -> bool
+    ensures { IsTrue result → All (IsFit heap.now.chunks) chunk.now.cells }
+{
+    let used = chunk.used();
+    let mut at = 0;
+    while at < used {
+        if !is_fit(heap, chunk, at) {
+            return false;
+        }
+        at = next_at(chunk, at);
+    }
+    true
+}
+
+/// Whether all references within the heap lead to objects.
+pub fn is_fit_heap(heap: &LeafHeap) -> bool
+    ensures { IsTrue result → IsClosed heap.now.chunks }
+{
+    for chunk in heap.chunks() {
+        if !is_fit_chunk(heap, chunk) {
+            return false;
+        }
+    }
+    true
+}
+
+// The words of the small objects of a chunk.
+fn small_in_chunk(chunk: &Chunk) -> u32
+    ensures { result ≡ small_in chunk.now.cells }
+{
+    let used = chunk.used();
+    let mut at = 0;
+    let mut words = 0;
+    while at < used {
+        let next = next_at(chunk, at);
+        if is_born_at(chunk, at) && next - at <= 1024 {
+            words += next - at;
+        }
+        at = next;
+    }
+    words
+}
+
+/// The words of the small objects of these chunks; None where 32 bits don't count them.
+pub fn small_in_all(chunks: &[Chunk]) -> Option<u32>
+    ensures { IfSome result (λ n. n ≡ small_words chunks.now) }
+{
+    match chunks.split_first() {
+        None => Some(0),
+        Some((first, rest)) => small_in_all(rest)?.checked_add(small_in_chunk(first)),
+    }
+}

@@ -1,0 +1,19 @@
+// Heaps, pools, forks and sweeps of tests: each call checks what it needs, and says where that doesn't hold.
+#![tactic(auto)]
+
+mod cells;
+mod joining;
+mod pools;
+mod scenes;
+mod soundness;
+mod sweeping;
+
+pub use cells::{is_fit_heap, small_in_all};
+pub use joining::{ended, forked, has_forked, joined};
+pub use pools::{add_taken, is_full, owner, relabel, take, take_and_give};
+pub use scenes::{
+    Put, Seen, Spot, at, at_spot, freeze, heap_of, holds, is_mutable, number, one_frame, place,
+    place_kind, set_number,
+};
+pub use soundness::{is_fresh, is_live, outside_is_sound};
+pub use sweeping::mark_and_sweep;
