@@ -8,7 +8,7 @@ use Rattle.listed.proofs.Places.{got_set}
 use Rattle.hh_model.specs.declared.data.State.{State as MachineState}
 use Rattle.hh_model.specs.declared.data.Task.{Task}
 use Rattle.hh_model.specs.Step.{child_ended_by, ended_task, is_running, parent_of, parents, result_of, with_task}
-use Rattle.hh_model.proofs.Leaves.{waiting_stops}
+use Rattle.path_laws.proofs.Leaves.{waiting_stops}
 use Rattle.run_trace.specs.declared.entry.Kind.TheVariants.{Ran}
 use Rattle.run_trace.specs.Entry.{EntryValue}
 use Rattle.run_ledger.specs.declared.data.Ledger.{Ledger}

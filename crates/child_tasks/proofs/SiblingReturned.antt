@@ -8,7 +8,7 @@ use Rattle.hh_model.specs.declared.data.State.{State as MachineState}
 use Rattle.hh_model.specs.declared.data.Status.TheVariants.{Waiting as WaitingOf, Ended as EndedOf}
 use Rattle.hh_model.specs.declared.data.Task.{Task}
 use Rattle.hh_model.specs.Step.{child_ended_by, is_joined, is_left, is_running, is_waiting, join_of, joined_task, kept_by, or_same, parents, result_of, resumed}
-use Rattle.hh_model.proofs.Leaves.{wait_there}
+use Rattle.path_laws.proofs.Leaves.{wait_there}
 use Rattle.run_trace.specs.Entry.{private_limit}
 use Rattle.run_ledger.specs.declared.data.Ledger.{Ledger}
 use Rattle.run_ledger.specs.Heaps.{heap_of, let_go, or_fresh}

@@ -6,7 +6,7 @@ use Rattle.hh_model.specs.declared.data.State.{State as Machine}
 use Rattle.hh_model.specs.Effect.{object_at}
 use Rattle.hh_model.specs.Step.{run}
 use Rattle.model_laws.proofs.Stopped.{reads_are_decided}
-use Rattle.hh_model.proofs.Leaves.{can_going}
+use Rattle.path_laws.proofs.Leaves.{can_going}
 use Rattle.run_trace.specs.Entry.{EntryValue}
 use Rattle.run_trace.specs.Settings.{SettingsValue, field_limit}
 use Rattle.run_ledger.specs.declared.data.Ledger.{Ledger}

@@ -7,7 +7,7 @@ use Rattle.hh_model.specs.declared.data.Object.{Object}
 use Rattle.hh_model.specs.declared.data.State.{State}
 use Rattle.hh_model.specs.declared.data.Task.{Task}
 use Rattle.hh_model.specs.Effect.{object_at}
-use Rattle.hh_model.specs.ReadLaws.{IsDecided, ReadsNext}
+use Rattle.path_laws.specs.ReadLaws.{IsDecided, ReadsNext}
 use Rattle.hh_model.specs.Step.{can_step, run}
 use Rattle.hh_model.specs.Store.{IsStored}
 use Rattle.run_trace.specs.Entry.{EntryValue}

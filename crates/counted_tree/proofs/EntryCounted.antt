@@ -11,7 +11,7 @@ use Rattle.run_trace.specs.Entry.{EntryValue}
 use Rattle.run_trace.specs.Settings.{SettingsValue}
 use Rattle.hh_model.specs.declared.data.State.{State}
 use Rattle.hh_model.specs.Step.{is_running, is_waiting}
-use Rattle.hh_model.proofs.Leaves.{waiting_stops}
+use Rattle.path_laws.proofs.Leaves.{waiting_stops}
 use Rattle.run_ledger.specs.declared.data.Ledger.{Ledger}
 use Rattle.run_ledger.specs.Entries.{after, after_kind}
 use Rattle.run_ledger.specs.Frozen.{begins}

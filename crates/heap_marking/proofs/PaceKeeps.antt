@@ -5,7 +5,7 @@ use Rattle.std.proofs.lemmas.Bool.{both_ways, and_from, and_parts, eqb-true, not
 use Rattle.hh_model.specs.declared.data.Strand.{Strand}
 use Rattle.hh_model.specs.declared.data.Task.{Task}
 use Rattle.hh_model.specs.Step.{is_waiting, joined, parents, strand_of, waits}
-use Rattle.hh_model.proofs.Leaves.{wait_task}
+use Rattle.path_laws.proofs.Leaves.{wait_task}
 use Rattle.run_ledger.specs.declared.data.Heap.{Heap}
 use Rattle.run_ledger.specs.declared.data.Ledger.{Ledger}
 use Rattle.run_ledger.specs.declared.data.Previous.{Previous as PreviousEntry}

@@ -5,7 +5,7 @@ use Rattle.hh_model.specs.declared.data.Status.{Status}
 use Rattle.hh_model.specs.declared.data.Status.TheVariants.{Running, Waiting, Ended, Joined}
 use Rattle.hh_model.specs.declared.data.Task.{Task}
 use Rattle.hh_model.specs.Step.{is_waiting, waits}
-use Rattle.hh_model.proofs.Leaves.{waiting_stops}
+use Rattle.path_laws.proofs.Leaves.{waiting_stops}
 use Rattle.run_ledger.specs.declared.data.Ledger.{Ledger}
 use Rattle.run_ledger.specs.declared.data.Refused.TheVariants.{NotWaiting, Swept}
 use Rattle.run_ledger.specs.Entries.{refused_unless}

@@ -6,10 +6,10 @@ use Rattle.hh_model.specs.declared.data.State.{State as Machine}
 use Rattle.hh_model.specs.declared.data.Status.{Status}
 use Rattle.hh_model.specs.declared.data.Status.TheVariants.{Running, Waiting, Ended, Joined}
 use Rattle.hh_model.specs.declared.data.Task.{Task}
-use Rattle.hh_model.specs.Paths.{AreOwners, IsWalkOfJoined}
+use Rattle.path_laws.specs.Paths.{AreOwners, IsWalkOfJoined}
 use Rattle.hh_model.specs.Step.{is_joined, is_over, joined, owner_of, parent_of as parents_in, parents}
 use Rattle.hh_model.specs.Tree.{TreeOf, joins_in, waiting}
-use Rattle.hh_model.proofs.PathLaws.{owners_are_walks}
+use Rattle.path_laws.proofs.PathLaws.{owners_are_walks}
 use Rattle.run_ledger.specs.declared.data.Ledger.{Ledger}
 use Rattle.run_ledger.specs.Heaps.{heap_of}
 use Rattle.run_ledger.specs.Sound.{SoundLedger}

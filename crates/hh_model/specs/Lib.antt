@@ -3,15 +3,11 @@ pub mod Effect
 pub mod Names
 pub mod Step
 pub mod Tree
-pub mod Paths
 pub mod PathLaw
 pub mod Action
 pub mod Machine
 pub mod Store
 pub mod Closed
-pub mod Disentangled
 pub mod Counts
 pub mod Ends
-pub mod Leaves
-pub mod ReadLaws
 pub mod NextLaw

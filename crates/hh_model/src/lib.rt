@@ -1,5 +1,5 @@
 // The machine that never collects: its definitions are in specs/, and this is the plain machine that computes them.
-// What holds of its runs is told by the laws of `model_laws`.
+// What holds of its runs is told by the laws of `path_laws` and `model_laws`.
 #![tactic(auto)]
 
 mod action;

@@ -7,7 +7,7 @@ use Rattle.hh_model.specs.declared.data.State.{State}
 use Rattle.hh_model.specs.Store.{IsStored}
 use Rattle.hh_model.specs.Step.{can_step, goes_on, is_running}
 use Rattle.hh_model.specs.Closed.{Closed}
-use Rattle.hh_model.proofs.Stored.{stored_step}
+use Rattle.path_laws.proofs.Stored.{stored_step}
 use Rattle.run_ledger.specs.declared.data.Heap.{Heap}
 use Rattle.run_ledger.specs.declared.data.Ledger.{Ledger}
 use Rattle.run_ledger.specs.Heaps.{or_fresh, lacks_room}

@@ -24,8 +24,8 @@ use Rattle.hh_model.specs.Step.{strand_of, is_on_path, setting, fetched, step, f
 use Rattle.hh_model.proofs.Carried.{at_in, named_from_in}
 use Rattle.hh_model.proofs.Kept.{seen}
 use Rattle.hh_model.proofs.Steps.{runs_is, names_run, in_registers}
-use Rattle.hh_model.proofs.Objects.{put_here}
-use Rattle.hh_model.proofs.FreeReads.{own_reads}
+use Rattle.path_laws.proofs.Objects.{put_here}
+use Rattle.path_laws.proofs.FreeReads.{own_reads}
 use Rattle.hh_model.proofs.Taken.{step_taken}
 use Rattle.hh_model.proofs.Paths.{owner_live}
 use Rattle.run_ledger.specs.declared.data.Ledger.{Ledger}

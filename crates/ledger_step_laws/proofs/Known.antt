@@ -11,7 +11,7 @@ use Rattle.run_ledger.specs.Sound.{SoundLedger}
 use Rattle.hh_model.specs.Closed.{Closed}
 use Rattle.hh_model.proofs.Counts.{start_counted, rows_from}
 use Rattle.hh_model.proofs.Kept.{start_kept}
-use Rattle.hh_model.proofs.Stored.{run_stored}
+use Rattle.path_laws.proofs.Stored.{run_stored}
 use Rattle.run_ledger.specs.Journals.{ledger_of, is_legal, tasks_of}
 use Rattle.run_ledger.proofs.Journals.{legal_sound}
 use Rattle.run_ledger.proofs.Machine.{machine_is_run}

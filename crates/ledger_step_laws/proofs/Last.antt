@@ -25,7 +25,7 @@ use Rattle.hh_model.specs.Precedence.{precedes}
 use Rattle.hh_model.specs.Step.{entry_frame, setting, fetched, step, follow, returned_to, last_return, child_ended_by, or_same, last_of, ended_by, with_task, can_step, goes_on, depth_limit, frame_limit, owner_of, owner_in, path_in, parents, parent_of, resumed, joined, is_running, is_waiting, is_joined, is_over, is_left, sibling, kept_by, result_in, result_of, ended_task, join_of, joined_task, child, strand, strand_of, edge, runs, waits, asked, asked_by, asked_line}
 use Rattle.hh_model.proofs.Closed.{asked_at, waits_is}
 use Rattle.hh_model.proofs.Kept.{Kept, step_kept}
-use Rattle.hh_model.proofs.Objects.{put_here}
+use Rattle.path_laws.proofs.Objects.{put_here}
 use Rattle.hh_model.proofs.Runs.{grown_at, three_left, three_right, running_tells, ended_tells, wp, parr}
 use Rattle.hh_model.proofs.Steps.{ended_is}
 use Rattle.hh_model.proofs.Taken.{step_taken}

@@ -9,7 +9,7 @@ use Rattle.hh_model.specs.declared.data.Task.{Task}
 use Rattle.hh_model.specs.declared.data.State.{State}
 use Rattle.hh_model.specs.Effect.{place_in, int_in, ref_in, same_name, flat}
 use Rattle.hh_model.specs.Step.{is_waiting, runs, waits}
-use Rattle.hh_model.proofs.Leaves.{waiting_stops}
+use Rattle.path_laws.proofs.Leaves.{waiting_stops}
 use Rattle.hh_model.proofs.Changes.{place_within}
 use Rattle.run_ledger.specs.declared.data.Ledger.{Ledger}
 use Rattle.run_ledger.specs.Heaps.{heap_of, or_fresh, let_go}

@@ -17,7 +17,7 @@ use Rattle.hh_model.specs.Effect.{Effect, Goes, Stops, Setting, effect, flat, in
 use Rattle.hh_model.specs.Precedence.{Precedes, precedes}
 use Rattle.hh_model.specs.Step.{can_step, ended_by, ended_task, follow, goes_on, is_running, joined, owner_of, parents, result_of, run, setting, start, step, strand_of}
 use Rattle.hh_model.specs.Tree.{Kept, waiting, joins_in}
-use Rattle.hh_model.specs.ReadLaws.{IsDecided, IsRead, IsStopped, ReadsAreDecided, ReadsNext, StopsAreReads, StopsRead}
+use Rattle.path_laws.specs.ReadLaws.{IsDecided, IsRead, IsStopped, ReadsAreDecided, ReadsNext, StopsAreReads, StopsRead}
 use Rattle.hh_model.proofs.Kept.{run_kept, start_kept}
 use Rattle.hh_model.proofs.Steps.{Halts, step_cases}
 use Rattle.hh_model.proofs.Taken.{step_taken}

@@ -20,7 +20,7 @@ use Rattle.model_laws.specs.Winner.{Field, FieldHolds, MayWrite, after, IsCas, e
 use Rattle.hh_model.proofs.Stores.{put_cases, made_cases}
 use Rattle.hh_model.proofs.Changes.{WritesField}
 use Rattle.hh_model.proofs.Kept.{Kept, start_kept, run_kept, empty_rows, no_objects}
-use Rattle.hh_model.proofs.Objects.{made_stays, put_here, put_other, rows_stay, same_stays, stays_on, object_later}
+use Rattle.path_laws.proofs.Objects.{made_stays, put_here, put_other, rows_stay, same_stays, stays_on, object_later}
 use Rattle.hh_model.proofs.Steps.{Alters, step_cases}
 use Rattle.hh_model.proofs.Taken.{step_taken, step_idle}
 

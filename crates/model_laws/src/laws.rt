@@ -1,57 +1,18 @@
 // Laws of the machine, each the contract of a function that does nothing.
 
 ghost use Rattle.hh_model.specs.PathLaw.{PathIsPrecedence};
-ghost use Rattle.hh_model.specs.ReadLaws.{OwnReadsGo, FrozenReadsGo, StopsNameOwners, ReadsAreDecided, StopsAreReads};
+ghost use Rattle.path_laws.specs.ReadLaws.{ReadsAreDecided, StopsAreReads};
 ghost use Rattle.model_laws.specs.Winner.{OneWinner, SomeCasWins};
 ghost use Rattle.hh_model.specs.NextLaw.{AlwaysNext, PacksAreFew};
-ghost use Rattle.hh_model.specs.Store.{NothingLeaves, ObjectsStay, NamesAreStored, OutputsGrow, TasksAreNumbered};
+ghost use Rattle.hh_model.specs.Store.{TasksAreNumbered};
 ghost use Rattle.hh_model.specs.Tree.{RunsAreKept, StepsKeep, RunsHaveOneRoot};
-ghost use Rattle.hh_model.specs.Paths.{PathsAreWalks, OwnersAreWalks, OwnersJoin, PathsStay};
-ghost use Rattle.hh_model.specs.Disentangled.{NamesAreOnPath, StepsDisentangle};
-ghost use Rattle.hh_model.specs.Closed.{StoresAreClosed};
 ghost use Rattle.hh_model.specs.Counts.{RunsAreCounted, StepsCount, SizesAreBounded, LimitStays};
 ghost use Rattle.model_laws.specs.Turns.{RunsGoOn, StepsAreTaken};
-ghost use Rattle.hh_model.specs.Leaves.{StepsLeaveOwners, StepsWaitAlone};
 ghost use Rattle.hh_model.specs.Ends.{EndsAreSteps, RunningIsARun};
 
 /// Who owns an object stands on a running task's path exactly where the object's strand precedes the task's.
 pub fn path_is_precedence()
     ensures { PathIsPrecedence }
-{}
-
-/// A task's reads of an object that it owns are never stopped.
-pub fn own_reads_go()
-    ensures { OwnReadsGo }
-{}
-
-/// A task's reads of an immutable object are never stopped: each field is nil or names an object that precedes the task.
-pub fn frozen_reads_go()
-    ensures { FrozenReadsGo }
-{}
-
-/// A stop names the task that owns the object now: it hasn't joined, and doesn't stand on the reader's path.
-pub fn stops_name_owners()
-    ensures { StopsNameOwners }
-{}
-
-/// A step leaves every object in the store, and changes none but the one that it writes.
-pub fn nothing_leaves()
-    ensures { NothingLeaves }
-{}
-
-/// Each object is there after any further steps.
-pub fn objects_stay()
-    ensures { ObjectsStay }
-{}
-
-/// What registers, results and fields hold is in the store.
-pub fn names_are_stored()
-    ensures { NamesAreStored }
-{}
-
-/// Further steps only add to the outputs.
-pub fn outputs_grow()
-    ensures { OutputsGrow }
 {}
 
 /// Tasks are numbered in the order of the forks, left and then right, and stay the children of their parents.
@@ -87,41 +48,6 @@ pub fn steps_keep()
 /// Only the first task has no parent. It stands above all others, and where it runs no other does.
 pub fn runs_have_one_root()
     ensures { RunsHaveOneRoot }
-{}
-
-/// A task stands on another's path exactly where a walk along parents leads up to it.
-pub fn paths_are_walks()
-    ensures { PathsAreWalks }
-{}
-
-/// An owner hasn't joined, and a walk along parents of joined tasks leads up to it.
-pub fn owners_are_walks()
-    ensures { OwnersAreWalks }
-{}
-
-/// After a join the parent owns what its two children owned, and each other task what it owned.
-pub fn owners_join()
-    ensures { OwnersJoin }
-{}
-
-/// A fork leaves the paths and owners of the tasks that were there.
-pub fn paths_stay()
-    ensures { PathsStay }
-{}
-
-/// Each name that a task holds is owned on the task's path, and of an object and what it refers to one owner is on the other's path.
-pub fn names_are_on_path()
-    ensures { NamesAreOnPath }
-{}
-
-/// Every step keeps names on the path.
-pub fn steps_disentangle()
-    ensures { StepsDisentangle }
-{}
-
-/// The names of the objects of the store have all that tasks hold, and all to which their objects refer.
-pub fn stores_are_closed()
-    ensures { StoresAreClosed }
 {}
 
 /// After so many steps there are at most two tasks for each and the first one, a row of objects for each task, and at most one object in a row for each step.
@@ -177,14 +103,4 @@ pub fn stops_are_reads()
 /// Each `pack` of a program takes at most 16 registers of each kind.
 pub fn packs_are_few()
     ensures { PacksAreFew }
-{}
-
-/// A step leaves another task that runs as it is, with the objects that it owns.
-pub fn steps_leave_owners()
-    ensures { StepsLeaveOwners }
-{}
-
-/// A step makes no other task wait, and where its own task waits then the machine goes on.
-pub fn steps_wait_alone()
-    ensures { StepsWaitAlone }
 {}

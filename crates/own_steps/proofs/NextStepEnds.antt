@@ -17,9 +17,9 @@ use Rattle.hh_model.specs.declared.data.Trap.TheVariants.{Div as DivTrap, Nil as
 use Rattle.hh_model.specs.Effect.{Effect, Goes, Calls, Returns as ReturnsBy, Traps as TrapsBy, calculated, counts_in, flat, int_in, made, object_at, onward, or_trap, place_in, put_object, read_effect, ref_in, same_name, unless_frozen, with_int}
 use Rattle.hh_model.specs.Names.{words_for}
 use Rattle.hh_model.specs.Step.{ended_by, entry_frame, fetched, frame_limit, last_of, owner_of, returned_to, setting, step, with_task}
-use Rattle.hh_model.specs.ReadLaws.{Holds, ReadsFreely}
+use Rattle.path_laws.specs.ReadLaws.{Holds, ReadsFreely}
 use Rattle.hh_model.proofs.Carried.{at_in}
-use Rattle.hh_model.proofs.FreeReads.{own_reads_go}
+use Rattle.path_laws.proofs.FreeReads.{own_reads_go}
 use Rattle.hh_model.proofs.Steps.{in_registers, names_run, runs_is}
 use Rattle.run_ledger.specs.Steps.{has_no_caller, is_open, is_private, owns, touched}
 use Rattle.object_layout.specs.declared.word.Addr.{Addr}

@@ -19,7 +19,7 @@ use Rattle.hh_model.specs.Names.{words_asked, words_for}
 use Rattle.hh_model.specs.Step.{setting, fetched, step, follow, can_step, is_running, asked, asked_line}
 use Rattle.hh_model.proofs.Carried.{next_name}
 use Rattle.hh_model.proofs.Closed.{asked_at}
-use Rattle.hh_model.proofs.Stored.{made_here}
+use Rattle.path_laws.proofs.Stored.{made_here}
 use Rattle.hh_model.proofs.Taken.{can_runs, step_taken}
 use Rattle.run_ledger.specs.Heaps.{chunk_words, is_small, words_of, words_at}
 

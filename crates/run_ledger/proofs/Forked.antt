@@ -17,7 +17,7 @@ use Rattle.hh_model.specs.Names.{refs_at, refs_of, registers, words_asked}
 use Rattle.hh_model.specs.Step.{asked, asked_line, can_step, child, ended_task, fetched, is_running, is_waiting, joined_task, owner_of, parent_of, parents, result_of, resumed, step, waits}
 use Rattle.hh_model.specs.Tree.{Kept, waiting}
 use Rattle.hh_model.proofs.Closed.{asked_at}
-use Rattle.hh_model.proofs.Leaves.{fork_owner, rows_same}
+use Rattle.path_laws.proofs.Leaves.{fork_owner, rows_same}
 use Rattle.hh_model.proofs.Paths.{path_same}
 use Rattle.hh_model.proofs.Runs.{running_tells, grown_at, grown_view_front, three_left, three_right, below}
 use Rattle.hh_model.proofs.Steps.{step_cases}

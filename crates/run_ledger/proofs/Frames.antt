@@ -24,8 +24,8 @@ use Rattle.run_ledger.specs.Laws.{EntriesLeaveOthers}
 use Rattle.run_ledger.proofs.Machine.{stepped_machine}
 use Rattle.run_ledger.proofs.Sound.{SoundLedger}
 use Rattle.run_ledger.proofs.Steps.{SoundAt, step_leaves, task_step_sound}
-use Rattle.hh_model.specs.Leaves.{LeavesOwner}
-use Rattle.hh_model.proofs.Leaves.{leaves_owner}
+use Rattle.path_laws.specs.Leaves.{LeavesOwner}
+use Rattle.path_laws.proofs.Leaves.{leaves_owner}
 use Rattle.run_ledger.proofs.Booked.{wait_run}
 use Rattle.run_ledger.proofs.Stocks.{with_heap_any}
 use Rattle.run_ledger.proofs.Cuts.{cut_legal}

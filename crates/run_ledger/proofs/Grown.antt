@@ -27,8 +27,8 @@ use Rattle.hh_model.proofs.Stores.{put_cases, made_cases, in_row}
 use Rattle.hh_model.proofs.Carried.{next_name}
 use Rattle.hh_model.proofs.Kept.{Kept, empty_rows}
 use Rattle.hh_model.proofs.Closed.{asked_at}
-use Rattle.hh_model.proofs.Objects.{object_later}
-use Rattle.hh_model.proofs.Stored.{made_here}
+use Rattle.path_laws.proofs.Objects.{object_later}
+use Rattle.path_laws.proofs.Stored.{made_here}
 use Rattle.hh_model.proofs.Taken.{can_runs, step_taken, step_none}
 use Rattle.run_ledger.specs.Heaps.{words_of, words_at}
 

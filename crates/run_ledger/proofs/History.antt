@@ -14,7 +14,7 @@ use Rattle.hh_model.specs.declared.data.State.{State}
 use Rattle.hh_model.specs.Step.{asked, can_step, is_running, step}
 use Rattle.hh_model.specs.Tree.{waiting}
 use Rattle.hh_model.proofs.Closed.{waits_is}
-use Rattle.hh_model.proofs.Leaves.{wait_task, waits_alone}
+use Rattle.path_laws.proofs.Leaves.{wait_task, waits_alone}
 use Rattle.run_ledger.specs.declared.data.Heap.{Heap}
 use Rattle.run_ledger.specs.declared.data.Ledger.{Ledger}
 use Rattle.run_ledger.specs.declared.data.RunEnd.TheVariants.{Pool}

@@ -15,7 +15,7 @@ use Rattle.hh_model.proofs.Runs.{waiting, running_tells}
 use Rattle.hh_model.proofs.Kept.{start_kept}
 use Rattle.hh_model.proofs.Steps.{runs_is, run_names}
 use Rattle.hh_model.proofs.Closed.{Closed}
-use Rattle.hh_model.proofs.Disentangled.{start_disentangled}
+use Rattle.path_laws.proofs.Disentangled.{start_disentangled}
 use Rattle.run_trace.specs.declared.entry.Kind.{Kind}
 use Rattle.run_trace.specs.declared.entry.Kind.TheVariants.{Took, Ran, Chunk, Begin, End, PutOff, Mark, More, Sweep, Fuel}
 use Rattle.run_trace.specs.Entry.{EntryValue}

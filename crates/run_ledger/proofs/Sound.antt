@@ -10,7 +10,7 @@ use Rattle.hh_model.specs.Names.{refs_at, registers, task_names}
 use Rattle.hh_model.specs.Step.{is_running, owner_of, is_on_path}
 use Rattle.hh_model.proofs.Runs.{waiting}
 use Rattle.hh_model.proofs.Closed.{Closed}
-use Rattle.hh_model.proofs.Disentangled.{Disentangled}
+use Rattle.path_laws.proofs.Disentangled.{Disentangled}
 use Rattle.run_ledger.specs.declared.data.Heap.{Heap}
 use Rattle.run_ledger.specs.declared.data.Ledger.{Ledger}
 use Rattle.run_ledger.specs.Heaps.{held, held_in, heap_at, frames_of, roots_of, within, is_above}

@@ -22,7 +22,7 @@ use Rattle.hh_model.proofs.Runs.{waiting, running_tells, grown_length, grown_vie
 use Rattle.hh_model.proofs.Kept.{KeptIn, step_kept}
 use Rattle.hh_model.proofs.Steps.{step_cases, runs_is, register_cases}
 use Rattle.hh_model.proofs.Closed.{Closed, closed_step, grown_cases}
-use Rattle.hh_model.proofs.Disentangled.{Disentangled, disentangled_step}
+use Rattle.path_laws.proofs.Disentangled.{Disentangled, disentangled_step}
 use Rattle.run_ledger.specs.declared.data.Heap.{Heap}
 use Rattle.run_ledger.specs.declared.data.Ledger.{Ledger}
 use Rattle.run_ledger.specs.Heaps.{held_in, frames_of, within, placed, with_heap, with_heap_at, fresh, let_go, merged, emptied, or_fresh, forked_heap}

@@ -10,8 +10,8 @@ use Rattle.hh_lang.specs.Form.{ProgramText}
 use Rattle.hh_model.specs.declared.data.State.{State}
 use Rattle.hh_model.specs.Step.{step, can_step, asked, is_running}
 use Rattle.hh_model.specs.Tree.{waiting}
-use Rattle.hh_model.specs.Leaves.{WaitsAlone}
-use Rattle.hh_model.proofs.Leaves.{waits_alone}
+use Rattle.path_laws.specs.Leaves.{WaitsAlone}
+use Rattle.path_laws.proofs.Leaves.{waits_alone}
 use Rattle.run_ledger.specs.declared.data.Heap.{Heap}
 use Rattle.run_ledger.specs.declared.data.Ledger.{Ledger}
 use Rattle.run_ledger.specs.declared.data.RunEnd.TheVariants.{Pool}

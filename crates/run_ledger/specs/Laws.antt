@@ -13,7 +13,7 @@ use Rattle.hh_model.specs.declared.data.Task.{Task}
 use Rattle.hh_model.specs.declared.data.State.{State}
 use Rattle.hh_model.specs.Names.{refs_at, task_names}
 use Rattle.hh_model.specs.Store.{IsStored}
-use Rattle.hh_model.specs.Leaves.{LeavesOwner}
+use Rattle.path_laws.specs.Leaves.{LeavesOwner}
 use Rattle.hh_model.specs.Step.{can_step, owner_of, is_running, is_waiting, run_from, step}
 use Rattle.run_ledger.specs.Steps.{allocated_in, task_step}
 use Rattle.run_ledger.specs.declared.data.Ledger.{Ledger}

@@ -11,7 +11,7 @@ use Rattle.hh_model.specs.declared.data.Task.{Task}
 use Rattle.hh_model.specs.Step.{is_running, owner_of}
 use Rattle.hh_model.specs.Tree.{waiting, KeptIn}
 use Rattle.hh_model.specs.Closed.{Closed}
-use Rattle.hh_model.specs.Disentangled.{Disentangled}
+use Rattle.path_laws.specs.Disentangled.{Disentangled}
 use Rattle.run_ledger.specs.declared.data.Heap.{Heap}
 use Rattle.run_ledger.specs.declared.data.Ledger.{Ledger}
 use Rattle.run_ledger.specs.Heaps.{held_in, or_fresh, with_heap}

@@ -11,15 +11,15 @@ use Rattle.hh_model.specs.declared.data.Strand.{Strand}
 use Rattle.hh_model.specs.declared.data.Object.{Object}
 use Rattle.hh_model.specs.declared.data.Task.{Task}
 use Rattle.hh_model.specs.declared.data.State.{State}
-use Rattle.hh_model.specs.Disentangled.{Disentangled}
+use Rattle.path_laws.specs.Disentangled.{Disentangled}
 use Rattle.hh_model.specs.Effect.{Setting, effect, object_at, row_of}
-use Rattle.hh_model.specs.Leaves.{LeavesOwner}
+use Rattle.path_laws.specs.Leaves.{LeavesOwner}
 use Rattle.hh_model.specs.Precedence.{precedes}
 use Rattle.hh_model.specs.Step.{is_on_path, is_running, joined, owner_of, parents, setting, step, strand_of}
 use Rattle.hh_model.specs.Store.{NamesAreStoredIn}
 use Rattle.hh_model.specs.Tree.{Kept, joins_in, waiting}
 use Rattle.hh_model.proofs.Counts.{step_limit}
-use Rattle.hh_model.proofs.Leaves.{leaves_owner}
+use Rattle.path_laws.proofs.Leaves.{leaves_owner}
 use Rattle.hh_model.proofs.Paths.{owner_live}
 use Rattle.hh_model.proofs.Root.{runs_tell}
 use Rattle.hh_model.proofs.Steps.{in_registers, names_run, runs_is}

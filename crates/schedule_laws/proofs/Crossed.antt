@@ -7,7 +7,7 @@ use Rattle.hh_model.specs.declared.data.Object.{Object}
 use Rattle.hh_model.specs.declared.data.Status.TheVariants.{Running, Waiting}
 use Rattle.hh_model.specs.declared.data.Task.{Task}
 use Rattle.hh_model.specs.declared.data.State.{State}
-use Rattle.hh_model.specs.Disentangled.{Disentangled}
+use Rattle.path_laws.specs.Disentangled.{Disentangled}
 use Rattle.hh_model.specs.Effect.{onward}
 use Rattle.hh_model.specs.Step.{child, is_left, is_running, joined_task, kept_by, parent_of, parents, result_of, resumed, setting, sibling}
 use Rattle.hh_model.specs.Store.{NamesAreStoredIn}

@@ -11,7 +11,7 @@ use Rattle.hh_model.specs.declared.data.State.{State}
 use Rattle.hh_model.specs.Effect.{object_at}
 use Rattle.hh_model.specs.Step.{owner_of, run, setting, step}
 use Rattle.hh_model.specs.Store.{NamesAreStoredIn}
-use Rattle.hh_model.proofs.Stored.{names_are_stored}
+use Rattle.path_laws.proofs.Stored.{names_are_stored}
 use Rattle.renaming_laws.proofs.Changed.{Edit, Edits, Freezes, FreezesBy, SetNumber, SetRef, edited}
 use Rattle.schedule_laws.specs.Steps.{ChangesOnly, FieldsStay, FreezesNext}
 use Rattle.schedule_laws.proofs.Accessed.{field_of, written_at}

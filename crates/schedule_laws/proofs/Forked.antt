@@ -9,7 +9,7 @@ use Rattle.hh_model.specs.declared.data.Object.{Object}
 use Rattle.hh_model.specs.declared.data.Status.TheVariants.{Waiting}
 use Rattle.hh_model.specs.declared.data.Task.{Task}
 use Rattle.hh_model.specs.declared.data.State.{State}
-use Rattle.hh_model.specs.Disentangled.{Disentangled}
+use Rattle.path_laws.specs.Disentangled.{Disentangled}
 use Rattle.hh_model.specs.Effect.{object_at, onward, row_of}
 use Rattle.hh_model.specs.Names.{held_by}
 use Rattle.hh_model.specs.Step.{child, edge, parent_of, strand}

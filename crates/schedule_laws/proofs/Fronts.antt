@@ -25,9 +25,9 @@ use Rattle.hh_model.proofs.EndLaws.{ended_stays}
 use Rattle.hh_model.proofs.Kept.{step_kept}
 use Rattle.hh_model.proofs.Root.{runs_have_one_root}
 use Rattle.hh_model.proofs.Steps.{step_cases}
-use Rattle.hh_model.proofs.Stored.{names_are_stored}
+use Rattle.path_laws.proofs.Stored.{names_are_stored}
 use Rattle.hh_model.proofs.Taken.{can_made, can_runs, step_idle}
-use Rattle.hh_model.proofs.Leaves.{can_going}
+use Rattle.path_laws.proofs.Leaves.{can_going}
 use Rattle.race_report.specs.declared.data.Field.{Field}
 use Rattle.race_report.specs.declared.data.Access.{Access}
 use Rattle.race_report.specs.Accesses.{access_of, accesses_from, line_access, task_access, with_some}

@@ -17,17 +17,17 @@ use Rattle.hh_model.specs.declared.data.Trap.TheVariants.{Depth}
 use Rattle.hh_model.specs.declared.data.End.{End}
 use Rattle.hh_model.specs.declared.data.End.TheVariants.{Trapped}
 use Rattle.hh_model.specs.declared.data.State.{State}
-use Rattle.hh_model.specs.Disentangled.{Disentangled}
+use Rattle.path_laws.specs.Disentangled.{Disentangled}
 use Rattle.hh_model.specs.Effect.{Effect, Goes, Prints, Calls, Forks, Returns, Traps, Stops, effect, flat, int_in, place_in, ref_in, same_name}
 use Rattle.hh_model.specs.Step.{can_step, child_ended_by, depth_limit, ended_by, fetched, follow, frame_limit, goes_on, is_left, is_running, join_of, kept_by, last_of, last_return, or_same, owner_of, result_of, returned_to, run, setting, sibling, start, step, strand_of}
 use Rattle.hh_model.specs.Store.{NamesAreStoredIn}
 use Rattle.hh_model.specs.Tree.{Kept}
 use Rattle.hh_model.proofs.Carried.{at_in}
 use Rattle.hh_model.proofs.Counts.{run_push}
-use Rattle.hh_model.proofs.FreeReads.{run_disentangled}
+use Rattle.path_laws.proofs.FreeReads.{run_disentangled}
 use Rattle.hh_model.proofs.Kept.{run_kept, start_kept}
 use Rattle.hh_model.proofs.Root.{runs_tell}
-use Rattle.hh_model.proofs.Stored.{names_are_stored}
+use Rattle.path_laws.proofs.Stored.{names_are_stored}
 use Rattle.hh_model.proofs.Taken.{can_runs, step_none, step_taken}
 use Rattle.race_report.specs.declared.data.Field.{Field}
 use Rattle.race_report.specs.declared.data.Access.{Access}

@@ -10,14 +10,14 @@ use Rattle.hh_model.specs.declared.data.Status.{Status}
 use Rattle.hh_model.specs.declared.data.Status.TheVariants.{Running, Waiting, Ended, Joined}
 use Rattle.hh_model.specs.declared.data.Task.{Task}
 use Rattle.hh_model.specs.declared.data.State.{State}
-use Rattle.hh_model.specs.Disentangled.{Disentangled}
+use Rattle.path_laws.specs.Disentangled.{Disentangled}
 use Rattle.hh_model.specs.Effect.{object_at, onward}
 use Rattle.hh_model.specs.Names.{held_by, registers, task_names}
 use Rattle.hh_model.specs.Step.{child, ended_task, is_running, joined_task, result_of, resumed, run, run_from, runs, start, step, waits}
 use Rattle.hh_model.specs.Store.{NamesAreStoredIn}
 use Rattle.hh_model.specs.Tree.{Kept}
 use Rattle.hh_model.proofs.Closed.{grown_cases, three_cases}
-use Rattle.hh_model.proofs.Disentangled.{disentangled_step, start_disentangled}
+use Rattle.path_laws.proofs.Disentangled.{disentangled_step, start_disentangled}
 use Rattle.hh_model.proofs.Kept.{start_kept, step_kept}
 use Rattle.hh_model.proofs.Steps.{in_registers, step_cases}
 use Rattle.renaming_laws.proofs.Runs.{step_grows}

@@ -9,12 +9,12 @@ use Rattle.hh_model.specs.declared.data.Name.{Name}
 use Rattle.hh_model.specs.declared.data.Status.TheVariants.{Running}
 use Rattle.hh_model.specs.declared.data.Task.{Task}
 use Rattle.hh_model.specs.declared.data.State.{State}
-use Rattle.hh_model.specs.Disentangled.{Disentangled}
+use Rattle.path_laws.specs.Disentangled.{Disentangled}
 use Rattle.hh_model.specs.Step.{child_ended_by, edge, ended_task, is_left, is_running, joined_task, kept_by, parent_of, parents, result_of, resumed, setting, sibling, strand}
 use Rattle.hh_model.specs.Store.{NamesAreStoredIn}
 use Rattle.hh_model.specs.Tree.{Kept}
 use Rattle.hh_model.proofs.Root.{runs_tell}
-use Rattle.hh_model.proofs.Leaves.{wait_there}
+use Rattle.path_laws.proofs.Leaves.{wait_there}
 use Rattle.renaming_laws.proofs.Changed.{Change, ChangesBy, Edits, Grows, Same}
 use Rattle.schedule_laws.proofs.Swapping.{Agree, sets}
 use Rattle.schedule_laws.proofs.Moves.{Acts, Joins, Last, Moves, Two, change_in, last_move, last_moves}

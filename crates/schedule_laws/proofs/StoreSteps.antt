@@ -14,7 +14,7 @@ use Rattle.hh_model.specs.Effect.{Effect, Goes, Prints, Calls, Forks, Returns, T
 use Rattle.hh_model.specs.Step.{can_step, child_ended_by, fetched, follow, is_left, is_running, kept_by, last_of, last_return, or_same, owner_of, result_of, returned_to, setting, sibling, step}
 use Rattle.hh_model.specs.Store.{NamesAreStoredIn}
 use Rattle.hh_model.proofs.Carried.{flat_at}
-use Rattle.hh_model.proofs.Objects.{made_stays, put_here, put_other, rows_stay}
+use Rattle.path_laws.proofs.Objects.{made_stays, put_here, put_other, rows_stay}
 use Rattle.hh_model.proofs.Steps.{in_registers, names_run, runs_is}
 use Rattle.hh_model.proofs.Taken.{can_runs, step_idle, step_none, step_taken}
 use Rattle.renaming_laws.proofs.Changed.{Change, Same, Grows, Edits, ChangesBy, Edit, changed, edited, put_in}

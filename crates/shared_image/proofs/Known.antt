@@ -9,10 +9,10 @@ use Rattle.hh_model.specs.declared.data.State.{State as Machine}
 use Rattle.hh_model.specs.declared.data.Task.{Task}
 use Rattle.hh_model.specs.Counts.{Counted}
 use Rattle.hh_model.specs.Effect.{object_at, row_of}
-use Rattle.hh_model.specs.Paths.{AreOwners, ArePaths}
+use Rattle.path_laws.specs.Paths.{AreOwners, ArePaths}
 use Rattle.hh_model.specs.Step.{is_running, joined, owner_of, parents, run}
 use Rattle.hh_model.specs.Tree.{HasOneRoot, TreeOf, joins_in, waiting}
-use Rattle.hh_model.proofs.PathLaws.{owners_are_walks, paths_are_walks}
+use Rattle.path_laws.proofs.PathLaws.{owners_are_walks, paths_are_walks}
 use Rattle.hh_model.proofs.Root.{runs_have_one_root}
 use Rattle.hh_model.proofs.Sizes.{limit_stays, sizes_are_bounded}
 use Rattle.run_trace.specs.declared.settings.Version.{Version}

@@ -6,7 +6,7 @@ use Rattle.listed.specs.Members.{In}
 use Rattle.listed.proofs.Places.{got_some}
 use Rattle.hh_model.specs.declared.data.State.{State as Machine}
 use Rattle.hh_model.specs.declared.data.Task.{Task}
-use Rattle.hh_model.specs.Paths.{IsWalkUp}
+use Rattle.path_laws.specs.Paths.{IsWalkUp}
 use Rattle.hh_model.specs.Step.{is_on_path, joined, owner_of, parent_of, parents}
 use Rattle.object_layout.specs.declared.word.Addr.{Addr}
 use Rattle.object_layout.specs.Layout.{word_of_ref}

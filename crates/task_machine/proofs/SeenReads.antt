@@ -19,17 +19,17 @@ use Rattle.hh_model.specs.declared.data.Trap.TheVariants.{Nil, Range}
 use Rattle.hh_model.specs.declared.data.State.{State}
 use Rattle.hh_model.specs.Effect.{Goes, Traps, flat, int_in, object_at, or_trap, place_in, read_effect, ref_in, onward as framed_onward, with_int as framed_int}
 use Rattle.hh_model.specs.Names.{task_names}
-use Rattle.hh_model.specs.ReadLaws.{Holds, ReadsFreely}
+use Rattle.path_laws.specs.ReadLaws.{Holds, ReadsFreely}
 use Rattle.hh_model.specs.Step.{fetched, owner_of, parents, path_in, run, setting, start}
 use Rattle.hh_model.specs.Store.{IsStored}
 use Rattle.hh_model.specs.Tree.{AreLow}
 use Rattle.hh_model.proofs.Carried.{at_in}
-use Rattle.hh_model.proofs.FreeReads.{run_disentangled}
-use Rattle.hh_model.proofs.Frozen.{frozen_reads_go, run_upward}
+use Rattle.path_laws.proofs.FreeReads.{run_disentangled}
+use Rattle.path_laws.proofs.Frozen.{frozen_reads_go, run_upward}
 use Rattle.hh_model.proofs.Kept.{run_kept, start_kept}
 use Rattle.hh_model.proofs.Paths.{path_le}
 use Rattle.hh_model.proofs.Steps.{in_registers, names_run, runs_is}
-use Rattle.hh_model.proofs.Stored.{run_stored}
+use Rattle.path_laws.proofs.Stored.{run_stored}
 use Rattle.run_ledger.specs.Steps.{is_frozen, is_frozen_above, is_open, is_read, owns, touched, works_alone}
 use Rattle.task_machine.specs.declared.part.Private.{Private}
 use Rattle.task_machine.specs.declared.plan.Plan.{Plan}

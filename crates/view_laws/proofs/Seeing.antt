@@ -9,8 +9,8 @@ use Rattle.hh_model.specs.Effect.{object_at}
 use Rattle.hh_model.specs.Names.{refs_of}
 use Rattle.hh_model.specs.Step.{start}
 use Rattle.hh_model.proofs.Carried.{named_from_in}
-use Rattle.hh_model.proofs.Frozen.{run_upward}
-use Rattle.hh_model.proofs.Objects.{objects_stay}
+use Rattle.path_laws.proofs.Frozen.{run_upward}
+use Rattle.path_laws.proofs.Objects.{objects_stay}
 use Rattle.hh_model.proofs.Counts.{run_on}
 use Rattle.run_ledger.specs.declared.data.Ledger.{Ledger}
 use Rattle.run_ledger.specs.Journals.{ledger_of}

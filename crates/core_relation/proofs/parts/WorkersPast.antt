@@ -12,7 +12,7 @@ use Rattle.hh_model.specs.Store.{IsStored}
 use Rattle.hh_model.specs.Step.{is_running, is_waiting}
 use Rattle.hh_model.specs.Closed.{Closed}
 use Rattle.hh_model.proofs.Steps.{runs_is}
-use Rattle.hh_model.proofs.Leaves.{waiting_stops}
+use Rattle.path_laws.proofs.Leaves.{waiting_stops}
 use Rattle.run_ledger.specs.declared.data.Ledger.{Ledger}
 use Rattle.run_ledger.specs.Heaps.{heap_of, collected, swept_heap}
 use Rattle.run_ledger.specs.Entries.{refusal, after, is_ready, is_out}

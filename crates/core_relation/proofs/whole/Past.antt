@@ -13,7 +13,7 @@ use Rattle.hh_model.specs.Effect.{object_at, row_of}
 use Rattle.hh_model.specs.Step.{owner_of, is_on_path, is_running, is_waiting, is_joined, runs, waits, can_step, goes_on}
 use Rattle.hh_model.proofs.Runs.{running_tells}
 use Rattle.hh_model.proofs.Steps.{runs_is}
-use Rattle.hh_model.proofs.Leaves.{waiting_stops}
+use Rattle.path_laws.proofs.Leaves.{waiting_stops}
 use Rattle.run_ledger.specs.declared.data.Heap.{Heap}
 use Rattle.run_ledger.specs.declared.data.Ledger.{Ledger}
 use Rattle.run_ledger.specs.Heaps.{heap_of, or_fresh, with_heap, collected, swept_heap, let_go}

@@ -1,0 +1,7 @@
+pub mod Disentangled
+pub mod Objects
+pub mod Stored
+pub mod FreeReads
+pub mod Frozen
+pub mod PathLaws
+pub mod Leaves

@@ -1,0 +1,4 @@
+pub mod Paths
+pub mod Disentangled
+pub mod Leaves
+pub mod ReadLaws
