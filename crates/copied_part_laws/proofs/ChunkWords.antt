@@ -16,7 +16,7 @@ use Rattle.alloc_path.specs.LeafHeapValue.{units}
 use Rattle.alloc_path.specs.Units.{unit_count}
 use Rattle.leaf_copy_gc.specs.Laid.{AreNew, Laying, laid_all, laid_one, room_in}
 use Rattle.leaf_copy_gc.specs.Exchanged.{emptied}
-use Rattle.leaf_copy_gc.proofs.Numbers.{numbers}
+use Rattle.address_laws.proofs.Numbers.{numbers}
 use Rattle.core_relation.specs.Memory.{In, object_name, objects_in}
 use Rattle.core_relation.specs.Layout.{words}
 use Rattle.task_machine.specs.Accounts.{large_names, named_by, names_in, small_lists}

@@ -21,11 +21,12 @@ use Rattle.leaf_copy_gc.specs.Redirected.{led_chunk}
 use Rattle.leaf_copy_gc.specs.Exchanged.{emptied, reserved_of, unreserved}
 use Rattle.leaf_copy_gc.specs.Collected.{AreSurvivors, back_of, keeps, kept_of, laid_of, laying_of, leaves}
 use Rattle.leaf_copy_gc.specs.Laws.{CanTake}
-use Rattle.leaf_copy_gc.proofs.Extent as extent
-use Rattle.leaf_copy_gc.proofs.Numbers.{Distinct, numbers}
-use Rattle.leaf_copy_gc.proofs.Numbers as nums
+use Rattle.address_laws.proofs.Extent as extent
+use Rattle.address_laws.proofs.Numbers.{Distinct, numbers}
+use Rattle.address_laws.proofs.Numbers as nums
+use Rattle.leaf_copy_gc.proofs.NewNumbers as new_numbers
 use Rattle.leaf_copy_gc.proofs.Naming.{in_unreserved}
-use Rattle.leaf_copy_gc.proofs.Reading.{within_of}
+use Rattle.collected_heap_laws.proofs.Reading.{within_of}
 use Rattle.inner_mark_gc.specs.Swept.{units_kept}
 use Rattle.core_relation.specs.Memory.{In}
 use Rattle.core_relation.proofs.objects.Members.{map_in}
@@ -81,7 +82,7 @@ module _ (h : LeafHeapValue) (from : List (Option Addr)) (ss : List Survivor) (n
 
   -- a number that leaves is an old one, and a spare one new
   old_number : (n : ℕ) → In (numbers (filter (leaves ss) U)) n → In (numbers h.chunks) n
-  old_number n i = nums.in_unreserved h.chunks once_h h.reserved n (nums.in_filtered (leaves ss) U n i)
+  old_number n i = new_numbers.in_unreserved h.chunks once_h h.reserved n (nums.in_filtered (leaves ss) U n i)
 
   spare_in : (n : ℕ) → In (numbers (reverse y.spare)) n → In (numbers y.spare) n
   spare_in n i = nums.in_reverse y.spare n i
@@ -93,7 +94,7 @@ module _ (h : LeafHeapValue) (from : List (Option Addr)) (ss : List Survivor) (n
   back_apart = nums.distinct_apart Back
       (subst Distinct (sym back_numbers)
       (nums.distinct_append (numbers (filter (leaves ss) U)) (numbers (reverse y.spare))
-      (nums.distinct_filtered (leaves ss) U (nums.distinct_unreserved h.chunks once_h h.reserved))
+      (nums.distinct_filtered (leaves ss) U (new_numbers.distinct_unreserved h.chunks once_h h.reserved))
       (nums.distinct_reverse y.spare (nums.distinct_right (numbers y.laid) (numbers y.spare) once_parts))
       (λ n i j. nums.distinct_apart_parts (numbers h.chunks) (numbers news) both n (old_number n i) (new_number n (spare_in n j)))))
 
@@ -120,7 +121,7 @@ module _ (h : LeafHeapValue) (from : List (Option Addr)) (ss : List Survivor) (n
       let k = in_from_kept (keeps ss) U x.0 x.1 in
       subst (In (numbers h.chunks)) (ap (λ (z : ChunkValue). z.number) x.2 ∙ d.1.1) (extent.number_there h.chunks x.0 (in_unreserved h.chunks h.reserved x.0 k.0))
 
-  within : nums.Within h.chunks h.reserved
+  within : new_numbers.Within h.chunks h.reserved
   within = within_of h.chunks h.reserved (naming.reserved h from ss news S T m a O)
 
   laid_same : numbers L ≡ numbers y.laid
@@ -132,12 +133,12 @@ module _ (h : LeafHeapValue) (from : List (Option Addr)) (ss : List Survivor) (n
     | inl l ↦ elim there [
       | inl q ↦ moving.laid_apart h from ss news S T (naming.settled h from ss news S T m a O) (naming.reserved h from ss news S T m a O) n q (old_number n l)
       | inr (inl q) ↦ stay_or_leave n l q
-      | inr (inr q) ↦ nums.reserved_apart h.chunks once_h h.reserved within n (nums.in_filtered (leaves ss) U n l) q
+      | inr (inr q) ↦ new_numbers.reserved_apart h.chunks once_h h.reserved within n (nums.in_filtered (leaves ss) U n l) q
     ]
     | inr s ↦ elim there [
       | inl q ↦ nums.distinct_apart_parts (numbers y.laid) (numbers y.spare) once_parts n (subst (λ ns. In ns n) laid_same q) (spare_in n s)
       | inr (inl q) ↦ nums.distinct_apart_parts (numbers h.chunks) (numbers news) both n (kept_old n q) (new_number n (spare_in n s))
-      | inr (inr q) ↦ nums.distinct_apart_parts (numbers h.chunks) (numbers news) both n (nums.in_reserved h.chunks once_h h.reserved within n q) (new_number n (spare_in n s))
+      | inr (inr q) ↦ nums.distinct_apart_parts (numbers h.chunks) (numbers news) both n (new_numbers.in_reserved h.chunks once_h h.reserved within n q) (new_number n (spare_in n s))
     ]
   ]
     where
@@ -183,7 +184,7 @@ module _ (h : LeafHeapValue) (from : List (Option Addr)) (ss : List Survivor) (n
   ]
     where
       spare_new : AreNew y.spare
-      spare_new = units_of.spare_new (before (reverse news)) h.chunks (smalls h.chunks (olds ss)) (nums.new_reverse news T.new)
+      spare_new = units_of.spare_new (before (reverse news)) h.chunks (smalls h.chunks (olds ss)) (new_numbers.new_reverse news T.new)
 
   -- and so has a chunk of the heap
   pub heap_was : (k : ChunkValue) → In (L ++ (K ++ R)) k → Was k

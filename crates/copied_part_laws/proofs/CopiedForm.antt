@@ -25,10 +25,10 @@ use Rattle.leaf_copy_gc.specs.Redirected.{led_cell, led_chunk}
 use Rattle.leaf_copy_gc.specs.Exchanged.{reserved_of, unreserved}
 use Rattle.leaf_copy_gc.specs.Collected.{AreSurvivors, collected, keeps, kept_of, laid_of, laying_of}
 use Rattle.leaf_copy_gc.specs.Laws.{CanTake}
-use Rattle.leaf_copy_gc.proofs.Numbers.{new_reverse}
-use Rattle.leaf_copy_gc.proofs.Reading as reading
+use Rattle.leaf_copy_gc.proofs.NewNumbers.{new_reverse}
+use Rattle.collected_heap_laws.proofs.Reading as reading
 use Rattle.leaf_copy_gc.proofs.Tidied.{all_tidy}
-use Rattle.leaf_copy_gc.proofs.Reading.{within_of}
+use Rattle.collected_heap_laws.proofs.Reading.{within_of}
 use Rattle.core_relation.specs.Memory.{Chunk, In, led, objects_in}
 use Rattle.core_relation.specs.Layout.{AreLaidOut, HoldsLarge, has_none, reserved_chunks, reserved_units, words}
 use Rattle.core_relation.proofs.objects.Members.{in_map, map_in}

@@ -32,8 +32,8 @@ use Rattle.leaf_copy_gc.specs.Laws.{CanTake}
 use Rattle.leaf_copy_gc.proofs.Moves.{in_small, olds_small, small_ones}
 use Rattle.leaf_copy_gc.proofs.Moves as moves
 use Rattle.leaf_copy_gc.proofs.Naming.{in_unmap, in_unreserved}
-use Rattle.leaf_copy_gc.proofs.Numbers.{new_reverse}
-use Rattle.leaf_copy_gc.proofs.Reading as reading
+use Rattle.leaf_copy_gc.proofs.NewNumbers.{new_reverse}
+use Rattle.collected_heap_laws.proofs.Reading as reading
 use Rattle.leaf_copy_gc.proofs.Rebuilt.{any_here, any_none, first_of}
 use Rattle.core_relation.specs.Memory.{Chunk, In, object_name, objects_in}
 use Rattle.core_relation.specs.Layout.{words}

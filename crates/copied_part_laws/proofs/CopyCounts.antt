@@ -27,12 +27,13 @@ use Rattle.leaf_copy_gc.specs.Laid.{Laying, before, smalls}
 use Rattle.leaf_copy_gc.specs.Exchanged.{emptied, reserved_of, unreserved}
 use Rattle.leaf_copy_gc.specs.Collected.{AreSurvivors, back_of, keeps, kept_of, laid_of, laying_of, leaves}
 use Rattle.leaf_copy_gc.specs.Laws.{CanTake}
-use Rattle.leaf_copy_gc.proofs.Numbers.{new_reverse, numbers, removed_at}
-use Rattle.leaf_copy_gc.proofs.Numbers as nums
-use Rattle.leaf_copy_gc.proofs.Extent as extent
+use Rattle.leaf_copy_gc.proofs.NewNumbers.{new_reverse}
+use Rattle.address_laws.proofs.Numbers.{numbers, removed_at}
+use Rattle.leaf_copy_gc.proofs.NewNumbers as new_numbers
+use Rattle.address_laws.proofs.Extent as extent
 use Rattle.leaf_copy_gc.proofs.Tidied.{all_tidy}
 use Rattle.leaf_copy_gc.proofs.Naming.{in_unreserved}
-use Rattle.leaf_copy_gc.proofs.Reading.{within_of}
+use Rattle.collected_heap_laws.proofs.Reading.{within_of}
 use Rattle.core_relation.specs.Memory.{In, object_name, objects_in}
 use Rattle.core_relation.specs.Layout.{words}
 use Rattle.core_relation.proofs.objects.Members.{in_map, in_objects, map_in}
@@ -73,7 +74,7 @@ module _ (h : LeafHeapValue) (from : List (Option Addr)) (ss : List Survivor) (n
 
   laid_count : length L + length y.spare ≡ length news
   laid_count =
-      let e : length (numbers y.laid ++ numbers y.spare) ≡ length (numbers (reverse news)) = ap (λ (ns : List ℕ). length ns) (nums.laid_numbers (before (reverse news)) h.chunks (smalls h.chunks (olds ss))) in
+      let e : length (numbers y.laid ++ numbers y.spare) ≡ length (numbers (reverse news)) = ap (λ (ns : List ℕ). length ns) (new_numbers.laid_numbers (before (reverse news)) h.chunks (smalls h.chunks (olds ss))) in
       let p = length-append (numbers y.laid) (numbers y.spare) in
       let l = count_numbers y.laid in
       let s = count_numbers y.spare in

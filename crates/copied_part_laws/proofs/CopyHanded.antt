@@ -16,7 +16,7 @@ use Rattle.leaf_copy_gc.specs.declared.lists.Moved.{Moved}
 use Rattle.leaf_copy_gc.specs.Survivors.{outside}
 use Rattle.leaf_copy_gc.specs.Collected.{back_of}
 use Rattle.leaf_copy_gc.specs.Lists.{IsCollected}
-use Rattle.leaf_copy_gc.proofs.Telling.{moves_are_told}
+use Rattle.collected_heap_laws.proofs.Telling.{moves_are_told}
 use Rattle.inner_mark_gc.specs.Swept.{units_kept}
 use Rattle.ledger_step_laws.specs.Accounts.{aside}
 use Rattle.ledger_step_laws.proofs.Rested.{rested_view}

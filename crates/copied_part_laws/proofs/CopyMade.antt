@@ -25,10 +25,10 @@ use Rattle.leaf_copy_gc.specs.Survivors.{olds, outside}
 use Rattle.leaf_copy_gc.specs.Redirected.{led_chunk, led_frame as led_frame_by, new_address}
 use Rattle.leaf_copy_gc.specs.Exchanged.{reserved_of, unreserved}
 use Rattle.leaf_copy_gc.specs.Collected.{AreSurvivors, collected, keeps, kept_of, laid_of}
-use Rattle.leaf_copy_gc.specs.Laws.{TellsMoves}
+use Rattle.collected_heap_laws.specs.Laws.{TellsMoves}
 use Rattle.leaf_copy_gc.specs.Lists.{IsCollected}
-use Rattle.leaf_copy_gc.proofs.Extent as extent
-use Rattle.leaf_copy_gc.proofs.Telling.{moves_are_told}
+use Rattle.address_laws.proofs.Extent as extent
+use Rattle.collected_heap_laws.proofs.Telling.{moves_are_told}
 use Rattle.ledger_step_laws.specs.Accounts.{rested}
 use Rattle.ledger_step_laws.proofs.Rested.{rested_view, rested_worker}
 use Rattle.task_machine.specs.declared.part.Begun.{Begun}

@@ -24,17 +24,18 @@ use Rattle.leaf_copy_gc.specs.Redirected.{led_cell, led_chunk, new_address}
 use Rattle.leaf_copy_gc.specs.Exchanged.{reserved_of, unreserved}
 use Rattle.leaf_copy_gc.specs.Collected.{AreSurvivors, keeps, kept_of, laid_of, laying_of, moves_of, redirection}
 use Rattle.leaf_copy_gc.specs.Laws.{CanTake}
-use Rattle.leaf_copy_gc.proofs.Extent as extent
+use Rattle.address_laws.proofs.Extent as extent
 use Rattle.leaf_copy_gc.proofs.Moves as moves
 use Rattle.leaf_copy_gc.proofs.Naming as naming
-use Rattle.leaf_copy_gc.proofs.Numbers as nums
-use Rattle.leaf_copy_gc.proofs.Numbers.{Distinct, numbers}
+use Rattle.address_laws.proofs.Numbers as nums
+use Rattle.leaf_copy_gc.proofs.NewNumbers as new_numbers
+use Rattle.address_laws.proofs.Numbers.{Distinct, numbers}
 use Rattle.leaf_copy_gc.proofs.Order.{first_in, firsts, in_first}
-use Rattle.leaf_copy_gc.proofs.Reading as reading
+use Rattle.collected_heap_laws.proofs.Reading as reading
 use Rattle.leaf_copy_gc.proofs.Rebuilt as rebuilt
 use Rattle.leaf_copy_gc.proofs.Rebuilt.{first_of}
 use Rattle.leaf_copy_gc.proofs.Naming.{in_unreserved}
-use Rattle.leaf_copy_gc.proofs.Reading.{none_of, within_of}
+use Rattle.collected_heap_laws.proofs.Reading.{none_of, within_of}
 use Rattle.core_relation.specs.Memory.{In, led, copied_object, objects_in}
 use Rattle.core_relation.proofs.objects.Members.{in_objects, map_in}
 use Rattle.shared_value.specs.Objects.{chunk_of, chunks_of}
@@ -102,7 +103,7 @@ module _ (h : LeafHeapValue) (from : List (Option Addr)) (ss : List Survivor) (n
   laid_numbers = nums.numbers_of_map (led_chunk g) (λ k. refl) y.laid
 
   pub laid_parts : numbers y.laid ++ numbers y.spare ≡ numbers (reverse news)
-  laid_parts = nums.laid_numbers (before (reverse news)) h.chunks xs
+  laid_parts = new_numbers.laid_numbers (before (reverse news)) h.chunks xs
 
   pub laid_once : Distinct (numbers (laid_of h ss (reverse news)))
   laid_once = subst Distinct (sym laid_numbers) (nums.distinct_left (numbers y.laid) (numbers y.spare) (subst Distinct (sym laid_parts) (nums.distinct_reverse news (nums.distinct_right (numbers h.chunks) (numbers news) all_once))))
@@ -189,7 +190,7 @@ module _ (h : LeafHeapValue) (from : List (Option Addr)) (ss : List Survivor) (n
   from_laid k o' i j =
       let q = led_back k o' j in
       let there : In (objects_in (chunks_of y.laid)) q.0 = in_objects (chunks_of y.laid) (chunk_of k) q.0 (in_map chunk_of y.laid k i) q.1 in
-      elim (laid_objects (before (reverse news)) h.chunks xs q.0 (nums.new_reverse news T.new) there) [
+      elim (laid_objects (before (reverse news)) h.chunks xs q.0 (new_numbers.new_reverse news T.new) there) [
         | inl z ↦ absurd z
         | inr r ↦
             let m : Addr × Addr = r.0 in

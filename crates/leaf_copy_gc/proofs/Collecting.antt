@@ -13,8 +13,10 @@ use Rattle.leaf_copy_gc.specs.Laid.{before, smalls, AreNew}
 use Rattle.leaf_copy_gc.specs.Redirected.{led_chunk}
 use Rattle.leaf_copy_gc.specs.Exchanged.{emptied, goes, stays, unreserved, reserved_of, reserved_place, named, last_place, CanName}
 use Rattle.leaf_copy_gc.specs.Collected.{IsLeft, keeps, leaves, laying_of, redirection}
-use Rattle.leaf_copy_gc.proofs.Numbers as nums
-use Rattle.leaf_copy_gc.proofs.Numbers.{numbers, Distinct, Within}
+use Rattle.address_laws.proofs.Numbers as nums
+use Rattle.leaf_copy_gc.proofs.NewNumbers as new_numbers
+use Rattle.address_laws.proofs.Numbers.{numbers, Distinct}
+use Rattle.leaf_copy_gc.proofs.NewNumbers.{Within}
 use Rattle.leaf_copy_gc.proofs.Rebuilt as rebuilt
 use Rattle.leaf_copy_gc.proofs.Rebuilt.{marked_chunk, NoneThere}
 use Rattle.leaf_copy_gc.proofs.Naming as naming
@@ -41,7 +43,7 @@ module _ (h g : List ChunkValue) (ss : List Survivor) (news : List ChunkValue) (
   laid_numbers = ap numbers is ∙ nums.numbers_of_map (led_chunk (redirection h ss (reverse news))) (λ k. refl) (laying_of h ss (reverse news)).laid
 
   laid_parts : numbers (laying_of h ss (reverse news)).laid ++ numbers (laying_of h ss (reverse news)).spare ≡ numbers (reverse news)
-  laid_parts = nums.laid_numbers (before (reverse news)) h (smalls h (olds ss))
+  laid_parts = new_numbers.laid_numbers (before (reverse news)) h (smalls h (olds ss))
 
   laid_once : Distinct (numbers laid)
   laid_once = subst Distinct (sym laid_numbers) (nums.distinct_left (numbers (laying_of h ss (reverse news)).laid) (numbers (laying_of h ss (reverse news)).spare) (subst Distinct (sym laid_parts) once_news))
@@ -89,7 +91,7 @@ module _ (h g : List ChunkValue) (ss : List Survivor) (news : List ChunkValue) (
   named_is = ap (λ (ks : List ChunkValue). fold named ks ss) now_is ∙ naming.same h ss (redirection h ss (reverse news)) r laid tidy once_h once names laid_apart laid_once (within_at r reserved) (none_before r reserved_is (none_at r reserved))
 
   pub small_last : IsCurrent laid (last_place laid)
-  small_last = nums.current_last laid (subst nums.AreSmall (sym is) (nums.small_of_map (led_chunk (redirection h ss (reverse news))) (λ k. refl) (laying_of h ss (reverse news)).laid (nums.laid_small (before (reverse news)) h (smalls h (olds ss)) tt (nums.new_reverse news new))))
+  small_last = new_numbers.current_last laid (subst new_numbers.AreSmall (sym is) (new_numbers.small_of_map (led_chunk (redirection h ss (reverse news))) (λ k. refl) (laying_of h ss (reverse news)).laid (new_numbers.laid_small (before (reverse news)) h (smalls h (olds ss)) tt (new_numbers.new_reverse news new))))
 
   pub kept_count : length (filter stays (unreserved g r)) ≡ length (map (led_chunk (redirection h ss (reverse news))) (filter (keeps ss) (unreserved h r)))
   kept_count =

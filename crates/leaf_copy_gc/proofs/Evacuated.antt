@@ -21,8 +21,9 @@ use Rattle.leaf_copy_gc.specs.Laid.{before, is_small, smalls, relocations, AreNe
 use Rattle.leaf_copy_gc.specs.CollectorValue.{CollectorValue}
 use Rattle.leaf_copy_gc.specs.Copying.{copied, copied_one}
 use Rattle.leaf_copy_gc.specs.Redirected.{followed_ref, followed_large, redirected, led_cell}
-use Rattle.leaf_copy_gc.specs.Collected.{AreAlike, IsLeft}
-use Rattle.leaf_copy_gc.proofs.Puts as puts
+use Rattle.address_laws.specs.Alike.{AreAlike}
+use Rattle.leaf_copy_gc.specs.Collected.{IsLeft}
+use Rattle.address_laws.proofs.Puts as puts
 use Rattle.leaf_copy_gc.proofs.Moves as moves
 use Rattle.leaf_copy_gc.proofs.Larges as larges
 use Rattle.leaf_copy_gc.proofs.Leading as leading

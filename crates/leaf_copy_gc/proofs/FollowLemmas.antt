@@ -15,7 +15,7 @@ use Rattle.leaf_copy_gc.specs.Search.{IsTarget}
 use Rattle.leaf_copy_gc.specs.Redirected.{led_cell, followed, followed_ref}
 use Rattle.leaf_copy_gc.proofs.Upto as upto
 use Rattle.leaf_copy_gc.proofs.Upto.{led_upto}
-use Rattle.leaf_copy_gc.proofs.Puts as puts
+use Rattle.address_laws.proofs.Puts as puts
 
 pub got_all : {X : Type 0} (P : X → Type 0) (xs : List X) (k : ℕ) (x : X) → slice_get xs k ≡ Some x → All P xs → P x
 got_all P [] k x e a = absurd cc

@@ -11,7 +11,7 @@ use Rattle.listed.proofs.Members.{In}
 use Rattle.object_layout.proofs.ChunkLaws.{length-put, place_of-put}
 use Rattle.leaf_copy_gc.specs.CollectorValue.{CollectorValue}
 use Rattle.leaf_copy_gc.specs.Search.{found_in, all_found, birth_in, visited, visited_at, IsTarget}
-use Rattle.leaf_copy_gc.proofs.Puts as puts
+use Rattle.address_laws.proofs.Puts as puts
 
 pub found_other : (h : List ChunkValue) (x a : Addr) → (x ≡ a → ⊥) → cell_of (found_in h x) a ≡ cell_of h a
 found_other h x a ne = puts.mark_other h x (Moved x) a ne

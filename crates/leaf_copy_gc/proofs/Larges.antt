@@ -16,8 +16,8 @@ use Rattle.leaf_copy_gc.specs.Survivors.{olds, old_of}
 use Rattle.leaf_copy_gc.specs.Search.{IsTarget}
 use Rattle.leaf_copy_gc.specs.Laid.{is_small}
 use Rattle.leaf_copy_gc.specs.Redirected.{followed_ref, followed_at, followed_large, led_cell, HasTargets, CanFollow}
-use Rattle.leaf_copy_gc.specs.Collected.{AreAlike}
-use Rattle.leaf_copy_gc.proofs.Puts as puts
+use Rattle.address_laws.specs.Alike.{AreAlike}
+use Rattle.address_laws.proofs.Puts as puts
 use Rattle.leaf_copy_gc.proofs.FollowLemmas as follows
 
 -- ---- shape

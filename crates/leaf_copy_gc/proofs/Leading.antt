@@ -19,7 +19,7 @@ use Rattle.leaf_copy_gc.specs.Laid.{Laying, is_small, smalls, laid_all, laid_one
 use Rattle.leaf_copy_gc.specs.CollectorValue.{CollectorValue}
 use Rattle.leaf_copy_gc.specs.Copying.{copied, copied_one, IsReady}
 use Rattle.leaf_copy_gc.specs.Redirected.{followed, followed_ref, new_address, redirected, led_cell, led_chunk, HasTargets}
-use Rattle.leaf_copy_gc.proofs.Puts as puts
+use Rattle.address_laws.proofs.Puts as puts
 use Rattle.leaf_copy_gc.proofs.FoundLemmas as marks
 use Rattle.leaf_copy_gc.proofs.Discovered.{survivor_live}
 use Rattle.leaf_copy_gc.proofs.Moves as moves

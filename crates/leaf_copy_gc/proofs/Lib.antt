@@ -1,5 +1,5 @@
 pub mod ListLemmas
-pub mod Puts
+mod FoundCounts
 pub mod FoundLemmas
 mod Discovered
 pub mod LastChunk
@@ -13,17 +13,13 @@ mod Places
 mod Leading
 mod Larges
 mod NoLarge
-mod Evacuated
+pub mod Evacuated
 mod Phases
-pub mod Numbers
-pub mod Extent
+pub mod NewNumbers
 pub mod Rebuilt
 pub mod Naming
 pub mod Order
 pub mod Tidied
 mod Packing
 mod Collecting
-pub mod Reading
 pub mod Needs
-pub mod Telling
-pub mod Giving

@@ -22,7 +22,7 @@ use Rattle.leaf_copy_gc.specs.Laid.{Laying, is_small, smalls, laid_one, laid_at,
 use Rattle.leaf_copy_gc.specs.CollectorValue.{CollectorValue}
 use Rattle.leaf_copy_gc.specs.Copying.{copied, copied_one, survivor_cell, IsReady}
 use Rattle.leaf_copy_gc.specs.Redirected.{new_address}
-use Rattle.leaf_copy_gc.proofs.Puts as puts
+use Rattle.address_laws.proofs.Puts as puts
 use Rattle.leaf_copy_gc.proofs.FoundLemmas as marks
 
 -- ---- the list of what was moved

@@ -23,12 +23,15 @@ use Rattle.leaf_copy_gc.specs.declared.lists.Survivor.{Survivor}
 use Rattle.leaf_copy_gc.specs.Survivors.{olds, old_of, HaveNames}
 use Rattle.leaf_copy_gc.specs.Redirected.{led_cell, led_chunk}
 use Rattle.leaf_copy_gc.specs.Exchanged.{unreserved, reserved_of, named, CanName}
-use Rattle.leaf_copy_gc.specs.Collected.{AreAlike, keeps}
-use Rattle.leaf_copy_gc.proofs.Puts as puts
+use Rattle.address_laws.specs.Alike.{AreAlike}
+use Rattle.leaf_copy_gc.specs.Collected.{keeps}
+use Rattle.address_laws.proofs.Puts as puts
 use Rattle.leaf_copy_gc.proofs.Larges as larges
-use Rattle.leaf_copy_gc.proofs.Numbers as nums
-use Rattle.leaf_copy_gc.proofs.Numbers.{numbers, Distinct, Within}
-use Rattle.leaf_copy_gc.proofs.Extent as extent
+use Rattle.address_laws.proofs.Numbers as nums
+use Rattle.leaf_copy_gc.proofs.NewNumbers as new_numbers
+use Rattle.address_laws.proofs.Numbers.{numbers, Distinct}
+use Rattle.leaf_copy_gc.proofs.NewNumbers.{Within}
+use Rattle.address_laws.proofs.Extent as extent
 use Rattle.leaf_copy_gc.proofs.Rebuilt as rebuilt
 use Rattle.leaf_copy_gc.proofs.Rebuilt.{first_of, marked_chunk, NoneThere}
 
@@ -161,7 +164,7 @@ module _ (h : List ChunkValue) (ss : List Survivor) (f : Option Addr → Option 
   kept_in k i = let p = in_from_kept (keeps ss) (unreserved h r) k i in (in_unreserved h r k p.0, p.1)
 
   kept_once : Distinct (numbers (filter (keeps ss) (unreserved h r)))
-  kept_once = nums.distinct_filtered (keeps ss) (unreserved h r) (nums.distinct_unreserved h d r)
+  kept_once = nums.distinct_filtered (keeps ss) (unreserved h r) (new_numbers.distinct_unreserved h d r)
 
   -- a chunk that is kept holds its large survivor alone
   kept_alone : (k : ChunkValue) → In h k → keeps ss k ≡ true → (k.cells ≡ cell_at k.cells 0 ∷ []) × In (olds ss) (first_of k)
@@ -357,10 +360,10 @@ module _ (h : List ChunkValue) (ss : List Survivor) (f : Option Addr → Option 
       ∙ ap (λ (ns : List ℕ). numbers laid ++ ns) (nums.numbers_append (map (marked_chunk ss f) kept) (reserved_of h r) ∙ ap (λ (ns : List ℕ). ns ++ numbers (reserved_of h r)) marked_numbers) in
       subst Distinct (sym parts)
       (nums.distinct_append (numbers laid) (numbers kept ++ numbers (reserved_of h r)) laid_once
-      (nums.distinct_append (numbers kept) (numbers (reserved_of h r)) kept_once (nums.distinct_reserved h d r) (λ n i j. nums.reserved_apart h d r within n (nums.in_filtered (keeps ss) (unreserved h r) n i) j))
+      (nums.distinct_append (numbers kept) (numbers (reserved_of h r)) kept_once (new_numbers.distinct_reserved h d r) (λ n i j. new_numbers.reserved_apart h d r within n (nums.in_filtered (keeps ss) (unreserved h r) n i) j))
       (λ n i j. elim (in_append_cases (numbers kept) (numbers (reserved_of h r)) n j) [
-        | inl x ↦ apart n i (nums.in_unreserved h d r n (nums.in_filtered (keeps ss) (unreserved h r) n x))
-        | inr x ↦ apart n i (nums.in_reserved h d r within n x)
+        | inl x ↦ apart n i (new_numbers.in_unreserved h d r n (nums.in_filtered (keeps ss) (unreserved h r) n x))
+        | inr x ↦ apart n i (new_numbers.in_reserved h d r within n x)
       ]))
 
   pub goal_once : Distinct (numbers Goal)

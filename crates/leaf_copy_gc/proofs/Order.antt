@@ -16,7 +16,7 @@ use Rattle.listed.proofs.Places.{read_in}
 use Rattle.walk_laws.proofs.Reached.{reached_within}
 use Rattle.leaf_copy_gc.specs.Survivors.{IsSurvivor, Starts}
 use Rattle.leaf_copy_gc.specs.Laid.{Laying, laid_one, relocations}
-use Rattle.leaf_copy_gc.proofs.Puts.{live_chunk}
+use Rattle.address_laws.proofs.Puts.{live_chunk}
 use Rattle.leaf_copy_gc.proofs.Evacuated.{once_sorted}
 
 abbrev pub first_in : Addr × Addr → Addr

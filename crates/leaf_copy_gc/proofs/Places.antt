@@ -19,7 +19,7 @@ use Rattle.leaf_copy_gc.specs.Laid.{Laying, is_small, laid_all, laid_one, next_p
 use Rattle.leaf_copy_gc.specs.Copying.{copied, copied_one}
 use Rattle.leaf_copy_gc.specs.Redirected.{followed_at, followed_large, followed_ref, led_cell}
 use Rattle.leaf_copy_gc.proofs.FoundLemmas as marks
-use Rattle.leaf_copy_gc.proofs.Puts as puts
+use Rattle.leaf_copy_gc.proofs.FoundCounts as counts
 use Rattle.leaf_copy_gc.proofs.Rooms as rooms
 
 -- ---- objects under their birth names: no more than before, where one was put in another's place
@@ -81,7 +81,7 @@ count_at : (s : CollectorValue) (a : Addr) (b : Option Birth) → birth_in (cell
 count_at s a None e = refl
 count_at s a (Some b) e =
     let live = marks.visit_live s.heap.chunks a b (birth_in (cell_of s.heap.chunks a).mark) refl e in
-    let count = puts.count_found s.heap.chunks a a live in
+    let count = counts.count_found s.heap.chunks a a live in
     let more = length-append s.found (record { birth = b; old = a } ∷ []) in
     omega arith
 

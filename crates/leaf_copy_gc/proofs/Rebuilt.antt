@@ -17,11 +17,12 @@ use Rattle.leaf_copy_gc.specs.Survivors.{olds}
 use Rattle.leaf_copy_gc.specs.Laid.{is_small}
 use Rattle.leaf_copy_gc.specs.Redirected.{led_cell}
 use Rattle.leaf_copy_gc.specs.Exchanged.{emptied, goes, stays, unreserved, reserved_of}
-use Rattle.leaf_copy_gc.specs.Collected.{AreAlike, keeps, leaves}
-use Rattle.leaf_copy_gc.proofs.Puts as puts
+use Rattle.address_laws.specs.Alike.{AreAlike}
+use Rattle.leaf_copy_gc.specs.Collected.{keeps, leaves}
+use Rattle.address_laws.proofs.Puts as puts
 use Rattle.leaf_copy_gc.proofs.Moves as moves
-use Rattle.leaf_copy_gc.proofs.Numbers.{numbers, Distinct}
-use Rattle.leaf_copy_gc.proofs.Extent as extent
+use Rattle.address_laws.proofs.Numbers.{numbers, Distinct}
+use Rattle.address_laws.proofs.Extent as extent
 
 first_size : (cs ds : List Cell) → map size_of ds ≡ map size_of cs → size_of (cell_at ds 0) ≡ size_of (cell_at cs 0)
 first_size [] [] e = refl

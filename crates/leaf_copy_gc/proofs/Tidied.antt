@@ -18,7 +18,7 @@ use Rattle.leaf_copy_gc.specs.Redirected.{led_cell, led_chunk}
 use Rattle.leaf_copy_gc.specs.Exchanged.{reserved_of, unreserved}
 use Rattle.leaf_copy_gc.specs.Collected.{keeps, laying_of}
 use Rattle.leaf_copy_gc.proofs.Moves.{in_smalls}
-use Rattle.leaf_copy_gc.proofs.Numbers.{Within, new_reverse}
+use Rattle.leaf_copy_gc.proofs.NewNumbers.{Within, new_reverse}
 
 -- ---- the chunks with small survivors
 

@@ -1,5 +1,5 @@
 -- What a collection makes of a heap.
-use Rattle.std.specs.Prelude.{◌≡◌, ◌+◌, ◌↔◌, ◌&&◌, Bool, false, List, [], ◌∷◌, ◌++◌, Option, Contains, filter, length, map, nat_le, not, reverse}
+use Rattle.std.specs.Prelude.{◌≡◌, ◌+◌, ◌↔◌, ◌&&◌, Bool, false, List, ◌++◌, Option, Contains, filter, length, map, nat_le, not, reverse}
 use Rattle.std.specs.List.{IsDistinct, list_any}
 use Rattle.std.specs.List.Sorted.{IsSorted}
 use Rattle.object_layout.specs.declared.word.Addr.{Addr}
@@ -9,6 +9,7 @@ use Rattle.object_layout.specs.Place.{cell_at}
 use Rattle.object_layout.specs.Chunks.{cell_of}
 use Rattle.alloc_path.specs.LeafHeapValue.{LeafHeapValue}
 use Rattle.object_layout.specs.Chunks.{same_address}
+use Rattle.address_laws.specs.Alike.{AreAlike}
 use Rattle.leaf_copy_gc.specs.declared.lists.Survivor.{Survivor}
 use Rattle.leaf_copy_gc.specs.Survivors.{HaveNames, IsSurvivor, olds, survivor_order}
 use Rattle.leaf_copy_gc.specs.Laid.{Laying, before, is_small, laid_all, relocations, smalls}
@@ -35,13 +36,6 @@ abbrev pub redirection : List ChunkValue → List Survivor → List ChunkValue �
 redirection h ss news = redirected (moves_of h ss news)
 
 -- ---- the old chunks, once all references are led
-
--- chunks of the same numbers and sizes, with objects of the same sizes
-abbrev pub AreAlike : List ChunkValue → List ChunkValue → Type 0
-AreAlike [] [] = Unit {0}
-AreAlike [] (l ∷ ls) = ⊥
-AreAlike (k ∷ ks) [] = ⊥
-AreAlike (k ∷ ks) (l ∷ ls) = ((l.number ≡ k.number) × (l.size ≡ k.size) × (map size_of l.cells ≡ map size_of k.cells)) × AreAlike ks ls
 
 -- a large survivor is where it was, marked as found, with its references led; what doesn't survive is as it was
 pub record IsLeft (h g : List ChunkValue) (ss : List Addr) (f : Option Addr → Option Addr) : Type 0 where

@@ -1,17 +1,11 @@
--- What is read in a heap once it was collected.
-use Rattle.std.specs.Prelude.{◌≡◌, ℕ, false, ◌+◌, ◌++◌, ◌*◌, ◌≤◌, List, None, Option, All, Contains, length, map, reverse}
-use Rattle.std.specs.List.Sorted.{IsPermutation}
-use Rattle.object_layout.specs.declared.word.Addr.{Addr}
+-- What a collection needs.
+use Rattle.std.specs.Prelude.{◌≡◌, ◌+◌, ◌*◌, ◌≤◌, List, All, length}
 use Rattle.object_layout.specs.ChunkValue.{ChunkValue}
-use Rattle.object_layout.specs.Chunks.{cell_of, has_chunk, object_count, small_part, sum_of}
+use Rattle.object_layout.specs.Chunks.{object_count, small_part, sum_of}
 use Rattle.object_layout.specs.Cell.{units}
-use Rattle.alloc_path.specs.LeafHeapValue.{AreApart, LeafHeapValue, IsFresh, IsReserved, IsSettled}
-use Rattle.leaf_copy_gc.specs.declared.lists.Survivor.{Survivor}
-use Rattle.leaf_copy_gc.specs.Survivors.{live_count, olds}
-use Rattle.leaf_copy_gc.specs.Laid.{AreNew, is_small, small_words}
-use Rattle.remembered_set.specs.Moved.{new_of, ArePlaces}
-use Rattle.leaf_copy_gc.specs.Redirected.{led_cell, redirected}
-use Rattle.leaf_copy_gc.specs.Collected.{AreSurvivors, back_of, collected, moves_of, redirection}
+use Rattle.alloc_path.specs.LeafHeapValue.{AreApart, IsFresh, IsSettled}
+use Rattle.leaf_copy_gc.specs.Survivors.{live_count}
+use Rattle.leaf_copy_gc.specs.Laid.{AreNew, small_words}
 
 -- so many chunks are new, numbered apart, and enough for the heap
 pub record CanTake (h : List ChunkValue) (news : List ChunkValue) : Type 0 where
@@ -20,48 +14,8 @@ pub record CanTake (h : List ChunkValue) (news : List ChunkValue) : Type 0 where
   pub new : AreNew news
   pub enough : 2 * units (small_words h) ≤ length news + 1
 
--- an object that was moved is read at its new address as it was at the old one, under the same name, its references led
-abbrev pub MovedAreRead : Type 0
-MovedAreRead =
-    (h : LeafHeapValue) (from : List (Option Addr)) (ss : List Survivor) (news : List ChunkValue)
-    → AreSurvivors h.chunks from ss → CanTake h.chunks news
-    → (old new : Addr) → Contains (moves_of h.chunks ss (reverse news)) (old, new)
-    → cell_of (collected h ss (reverse news)).chunks new ≡ led_cell (redirection h.chunks ss (reverse news)) (cell_of h.chunks old)
-
--- a large survivor is read where it was, as it was, its references led
-abbrev pub LargeAreRead : Type 0
-LargeAreRead =
-    (h : LeafHeapValue) (from : List (Option Addr)) (ss : List Survivor) (news : List ChunkValue)
-    → AreSurvivors h.chunks from ss → CanTake h.chunks news → IsSettled h.chunks → IsReserved h.chunks h.reserved
-    → (a : Addr) → Contains (olds ss) a → is_small h.chunks a ≡ false
-    → cell_of (collected h ss (reverse news)).chunks a ≡ led_cell (redirection h.chunks ss (reverse news)) (cell_of h.chunks a)
-
 -- in a heap as it is between collections, what a collection needs is what the heap counts
 abbrev pub NeedsAreCounted : Type 0
 NeedsAreCounted =
     (ks : List ChunkValue) → IsSettled ks
     → (small_words ks ≡ sum_of small_part ks) × (live_count ks ≡ object_count ks)
-
--- what a relocation list, in any order, tells: new addresses are places, it leads as the moves do, and an address outside the
--- heap's chunks stays
-pub record TellsMoves (h : LeafHeapValue) (ss : List Survivor) (news : List ChunkValue) (moved : List (Addr × Addr)) : Type 0 where
-  pub places : ArePlaces moved
-  pub same : (a : Addr) → new_of moved a ≡ new_of (moves_of h.chunks ss (reverse news)) a
-  pub leads : (r : Option Addr) → redirected moved r ≡ redirection h.chunks ss (reverse news) r
-  pub outside : (a : Addr) → has_chunk h.chunks a.chunk ≡ false → new_of moved a ≡ None
-
-abbrev pub MovesAreTold : Type 0
-MovesAreTold =
-    (h : LeafHeapValue) (from : List (Option Addr)) (ss : List Survivor) (news : List ChunkValue) (moved : List (Addr × Addr))
-    → AreSurvivors h.chunks from ss → CanTake h.chunks news → IsPermutation (moves_of h.chunks ss (reverse news)) moved
-    → TellsMoves h ss news moved
-
--- the numbers of chunks, each with the words that the chunk has in all
-abbrev pub labels : List ChunkValue → List (ℕ × ℕ)
-labels ks = map (λ k. (k.number, k.size)) ks
-
--- the chunks after a collection and those to give back are together those before it and the new ones
-abbrev pub ChunksAreKept : Type 0
-ChunksAreKept =
-    (h : LeafHeapValue) (ss : List Survivor) (news : List ChunkValue) → IsReserved h.chunks h.reserved
-    → IsPermutation (labels (h.chunks ++ news)) (labels ((collected h ss (reverse news)).chunks ++ back_of h ss (reverse news)))

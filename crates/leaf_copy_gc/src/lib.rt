@@ -1,4 +1,5 @@
 // The copying collector of a heap that one task owns.
+// What is read in a heap that it collected is told by the laws of `collected_heap_laws`.
 #![tactic(auto)]
 
 mod collection;
@@ -16,7 +17,5 @@ mod reserving;
 mod sorting;
 
 pub use collection::copy;
-pub use laws::{
-    chunks_are_kept, large_are_read, moved_are_read, moves_are_told, needs_are_counted,
-};
+pub use laws::needs_are_counted;
 pub use lists::{Moved, Survivor, ToChunks};

@@ -22,7 +22,7 @@ use Rattle.alloc_path.proofs.Counting.{writes_keep_counts}
 use Rattle.remembered_set.specs.declared.remembered.Source.{Source}
 use Rattle.remembered_set.specs.Moved.{held_by, new_reference, redirected, written}
 use Rattle.leaf_copy_gc.specs.Redirected.{new_address}
-use Rattle.leaf_copy_gc.proofs.Puts.{same_or_other}
+use Rattle.address_laws.proofs.Puts.{same_or_other}
 use Rattle.core_relation.specs.Memory.{Chunk, In, led, mapped_chunk, mapped_home, objects_in, put_at, rewritten_home}
 use Rattle.core_relation.proofs.objects.Members.{in_chunk, map_in}
 use Rattle.core_relation.proofs.changes.Write.{at_is}

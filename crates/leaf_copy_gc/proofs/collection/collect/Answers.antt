@@ -16,7 +16,8 @@ use Rattle.leaf_copy_gc.specs.Collected.{laying_of, moves_of, redirection}
 use Rattle.leaf_copy_gc.specs.Evacuated.{Begins, IsEvacuated}
 use Rattle.leaf_copy_gc.specs.Exchanged.{counted32, named, unit_count, CanName}
 use Rattle.leaf_copy_gc.proofs.Collecting as collecting
-use Rattle.leaf_copy_gc.proofs.Numbers as nums
+use Rattle.address_laws.proofs.Numbers as nums
+use Rattle.leaf_copy_gc.proofs.NewNumbers as new_numbers
 use Rattle.leaf_copy_gc.proofs.Order as orders
 use Rattle.leaf_copy_gc.proofs.Moves as moves
 use Rattle.leaf_copy_gc.proofs.Packing as packing
@@ -35,7 +36,7 @@ evacuate-requires-clause-begins c =
       found = c.requires.reserved.found;
       laid = c.requires.reserved.laid;
       moved = c.requires.reserved.moved;
-      new = nums.new_reverse news c.requires.new;
+      new = new_numbers.new_reverse news c.requires.new;
       enough = rw count enough;
     })
 
@@ -62,7 +63,7 @@ counts_of_packed-counts-requires c =
     let many : length c.sort.new.list.items ≡ length (moves_of h ss (reverse news)) = length_permutation (moves_of h ss (reverse news)) c.sort.new.list.items permuted in
     let count : c.len.result ≡ length (moves_of h ss (reverse news)) = c.len.ensures ∙ (c.sort.new.list.ok.0 ∙ many) in
     subst (λ (ks : List ChunkValue). ArePacked ks c.len.result) (sym c.deref-2.ensures.value)
-    (packing.packed h ss (reverse news) s.names (once_from (olds ss) s.once) (nums.new_reverse news c.requires.new) enough (redirection h ss (reverse news)) laid e.laid c.len.result count)
+    (packing.packed h ss (reverse news) s.names (once_from (olds ss) s.once) (new_numbers.new_reverse news c.requires.new) enough (redirection h ss (reverse news)) laid e.laid c.len.result count)
 
 pub exchange-are_large-requires-clause-counted : goal.exchange-are_large-requires-clause-counted
 exchange-are_large-requires-clause-counted c = subst (λ (ks : List ChunkValue). AreCounted ks c.counts_of_packed-counts.result) c.deref-2.ensures.value c.counts_of_packed-counts.ensures

@@ -1,6 +1,6 @@
 use Rattle.std.proofs.Common.{◌++◌, sym, subst}
 use Rattle.alloc_path.specs.LeafHeapValue.{AreApart, AreTidy, LeafHeapValue}
-use Rattle.leaf_copy_gc.proofs.Numbers as nums
+use Rattle.address_laws.proofs.Numbers as nums
 use Rattle.leaf_copy_gc.proofs.collection.copy.Goals as goal
 
 pub collect-space-requires-clause-tidy : goal.collect-space-requires-clause-tidy

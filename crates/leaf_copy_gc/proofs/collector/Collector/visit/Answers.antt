@@ -9,7 +9,8 @@ use Rattle.leaf_copy_gc.specs.CollectorValue.{CollectorValue}
 use Rattle.leaf_copy_gc.specs.Search.{IsTarget}
 use Rattle.leaf_copy_gc.specs.declared.discovery.Live.{Live}
 use Rattle.leaf_copy_gc.proofs.FoundLemmas as founds
-use Rattle.leaf_copy_gc.proofs.Puts as puts
+use Rattle.address_laws.proofs.Puts as puts
+use Rattle.leaf_copy_gc.proofs.FoundCounts as counts
 use Rattle.leaf_copy_gc.proofs.collector.Collector.visit.Goals as goal
 
 abbrev name : Live → Birth
@@ -33,14 +34,14 @@ pub push_reserved-requires : goal.push_reserved-requires
 push_reserved-requires c =
     let h : List ChunkValue = c.self.inside.heap.chunks in
     let live = founds.visit_live h c.in-Some.address c.in-Some-live_at.live.birth (option_map name c.live_at.result) c.live_at.ensures.birth (ap (option_map name) c.in-Some-live_at.is) in
-    let count = puts.count_found h c.in-Some.address c.in-Some.address live in
+    let count = counts.count_found h c.in-Some.address c.in-Some.address live in
     omega arith
 
 pub invariant_of-self : goal.invariant_of-self
 invariant_of-self c =
     let h : List ChunkValue = c.self.inside.heap.chunks in
     let live = founds.visit_live h c.in-Some.address c.in-Some-live_at.live.birth (option_map name c.live_at.result) c.live_at.ensures.birth (ap (option_map name) c.in-Some-live_at.is) in
-    let count = puts.count_found h c.in-Some.address c.in-Some.address live in
+    let count = counts.count_found h c.in-Some.address c.in-Some.address live in
     let found : Cell = with_mark (cell_of h c.in-Some.address) (Moved c.in-Some.address) in
     let same = length-put h c.in-Some.address found in
     let len = c.push_reserved.ensures.len in

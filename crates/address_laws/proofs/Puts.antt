@@ -1,8 +1,8 @@
 -- Objects of a heap by their addresses, where one was put elsewhere or marked.
-use Rattle.std.proofs.Common.{◌≡◌, ℕ, zero, suc, ◌+◌, ◌-◌, ◌<◌, ◌≤◌, true, false, List, [], ◌∷◌, length, refl, sym, ap, ◌∙◌, subst, arith, ⊎_elim, inl, inr, ◌⊎◌, eqb, eqb-true, eq-eqb, is_some}
-use Rattle.std.proofs.lemmas.Bool.{cases_Bool, cases_lt, le-leb, lt-leb, lt-ltb, le-ltb}
+use Rattle.std.proofs.Common.{◌≡◌, ℕ, ◌<◌, ◌≤◌, true, false, List, [], ◌∷◌, length, refl, sym, ap, ◌∙◌, subst, ⊎_elim, inl, inr, ◌⊎◌, eqb, eqb-true, eq-eqb, is_some}
+use Rattle.std.proofs.lemmas.Bool.{cases_Bool, cases_lt, lt-ltb, le-ltb}
 use Rattle.object_layout.specs.declared.word.Addr.{Addr}
-use Rattle.object_layout.specs.Cell.{Cell, Mark, Born, Moved, Hole, IsBorn, IsObject, no_cell, size_of, with_mark}
+use Rattle.object_layout.specs.Cell.{Cell, Mark, IsBorn, IsObject, no_cell, with_mark}
 use Rattle.object_layout.specs.ChunkValue.{ChunkValue}
 use Rattle.object_layout.specs.Place.{cell_at, put_cell}
 use Rattle.object_layout.specs.Chunks.{cell_of, place_in, place_of, put_object}
@@ -10,7 +10,6 @@ use Rattle.object_layout.specs.Graph.{IsHeld}
 use Rattle.object_layout.proofs.PlaceLemmas as place
 use Rattle.object_layout.proofs.ChunkLaws as laws
 use Rattle.listed.proofs.Members.{In}
-use Rattle.leaf_copy_gc.specs.Survivors.{born_of, born_in, live_count}
 
 -- two addresses are one, or not
 pub same_or_other : (a b : Addr) → (a ≡ b) ⊎ (a ≡ b → ⊥)
@@ -90,33 +89,6 @@ module _ (h : List ChunkValue) (x : Addr) (m : Mark) where
 -- what bears its birth name lies in a chunk
 pub live_chunk : (h : List ChunkValue) (a : Addr) → IsHeld h a → place_of h a.chunk < length h
 live_chunk h a l = laws.chunk_of_object h a (laws.born_object h a l)
-
--- ---- how many bear their birth names
-
-born_one : (m : Mark) → IsBorn m → born_of m ≡ 1
-born_one (Born b) l = refl
-born_one (Moved to) l = absurd l
-born_one Hole l = absurd l
-
-count_cells : (cs : List Cell) (at : ℕ) (to : Addr) → IsBorn (cell_at cs at).mark → born_in cs ≡ born_in (put_cell cs at (with_mark (cell_at cs at) (Moved to))) + 1
-count_cells [] at to l = absurd l
-count_cells (c ∷ cs) zero to l = let e = born_one c.mark l in omega arith
-count_cells (c ∷ cs) (suc n) to l =
-    ⊎_elim
-    (λ (above : suc n < size_of c). let m = rw (lt-leb (size_of c) (suc n) above) at l in absurd m)
-    (λ (within : size_of c ≤ suc n).
-    let t = le-leb (size_of c) (suc n) within in
-    let ih = count_cells cs (suc n - size_of c) to (rw t at l) in
-    rw t (omega arith))
-    (cases_lt (suc n) (size_of c))
-
-pub count_found : (h : List ChunkValue) (a to : Addr) → IsHeld h a → live_count h ≡ live_count (put_object h a (with_mark (cell_of h a) (Moved to))) + 1
-count_found [] a to l = absurd l
-count_found (k ∷ ks) a to l =
-    ⊎_elim
-    (λ (e : eqb k.number a.chunk ≡ true). let ih = count_cells k.cells a.offset to (rw e at l) in rw e (omega arith))
-    (λ (e : eqb k.number a.chunk ≡ false). let ih = count_found ks a to (rw e at l) in rw e (omega arith))
-    (cases_Bool (eqb k.number a.chunk))
 
 -- ---- whether an address lies in a chunk of the heap
 

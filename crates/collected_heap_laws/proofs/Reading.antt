@@ -20,7 +20,8 @@ use Rattle.leaf_copy_gc.specs.declared.lists.Survivor.{Survivor}
 use Rattle.leaf_copy_gc.specs.Survivors.{olds}
 use Rattle.leaf_copy_gc.specs.Exchanged.{reserved_of, unreserved}
 use Rattle.leaf_copy_gc.specs.Collected.{AreSurvivors, collected, keeps, kept_of, laid_of, moves_of, redirection}
-use Rattle.leaf_copy_gc.specs.Laws.{CanTake, LargeAreRead, MovedAreRead}
+use Rattle.leaf_copy_gc.specs.Laws.{CanTake}
+use Rattle.collected_heap_laws.specs.Laws.{LargeAreRead, MovedAreRead}
 use Rattle.leaf_copy_gc.proofs.Moves as moves
 use Rattle.leaf_copy_gc.proofs.Naming.{in_unmap}
 use Rattle.leaf_copy_gc.proofs.Naming as naming
@@ -32,9 +33,11 @@ use Rattle.leaf_copy_gc.specs.Laid.{Laying, HaveRoom, before, is_small, small_wo
 use Rattle.leaf_copy_gc.specs.Redirected.{led_cell, led_chunk}
 use Rattle.leaf_copy_gc.proofs.FollowLemmas.{size_led}
 use Rattle.leaf_copy_gc.proofs.LastChunk.{some_room}
-use Rattle.leaf_copy_gc.proofs.Numbers as nums
-use Rattle.leaf_copy_gc.proofs.Numbers.{numbers, Distinct, Within}
-use Rattle.leaf_copy_gc.proofs.Extent as extent
+use Rattle.address_laws.proofs.Numbers as nums
+use Rattle.leaf_copy_gc.proofs.NewNumbers as new_numbers
+use Rattle.address_laws.proofs.Numbers.{numbers, Distinct}
+use Rattle.leaf_copy_gc.proofs.NewNumbers.{Within}
+use Rattle.address_laws.proofs.Extent as extent
 
 -- what has an object has its number
 pub object_number : (ks : List ChunkValue) (a : Addr) → IsObject (cell_of ks a).mark → In (numbers ks) a.chunk
@@ -91,11 +94,11 @@ all_other y h (a ∷ xs) b o =
     all_other (laid_one y (cell_of h a)) h xs b (subst (λ (d : Cell). IsObject d.mark) (sym e) o) ∙ e
 
 numbers_once : (y : Laying) (c : Cell) → Distinct (numbers y.laid ++ numbers y.spare) → Distinct (numbers (opened y (size_of c)).laid)
-numbers_once y c d = nums.distinct_left (numbers (opened y (size_of c)).laid) (numbers (opened y (size_of c)).spare) (subst Distinct (sym (nums.opened_numbers y (nat_lt (room_in y.laid) (size_of c)))) d)
+numbers_once y c d = nums.distinct_left (numbers (opened y (size_of c)).laid) (numbers (opened y (size_of c)).spare) (subst Distinct (sym (new_numbers.opened_numbers y (nat_lt (room_in y.laid) (size_of c)))) d)
 
 one_numbers : (y : Laying) (c : Cell) → Distinct (numbers y.laid ++ numbers y.spare) → Distinct (numbers (laid_one y c).laid ++ numbers (laid_one y c).spare)
 one_numbers y c d =
-    subst Distinct (sym (ap (λ (ns : List ℕ). ns ++ numbers (opened y (size_of c)).spare) (nums.numbers_placed (opened y (size_of c)).laid c) ∙ nums.opened_numbers y (nat_lt (room_in y.laid) (size_of c)))) d
+    subst Distinct (sym (ap (λ (ns : List ℕ). ns ++ numbers (opened y (size_of c)).spare) (new_numbers.numbers_placed (opened y (size_of c)).laid c) ∙ new_numbers.opened_numbers y (nat_lt (room_in y.laid) (size_of c)))) d
 
 -- what was moved is read at its new place
 pub relocated : (y : Laying) (h : List ChunkValue) (xs : List Addr) → Distinct (numbers y.laid ++ numbers y.spare) → HaveRoom y h xs → ((a : Addr) → In xs a → IsObject (cell_of h a).mark)
@@ -149,7 +152,7 @@ module _ (h : LeafHeapValue) (from : List (Option Addr)) (ss : List Survivor) (n
       let most = rooms.sizes_most h.chunks (smalls h.chunks (olds ss)) (moves.once_smalls h.chunks (olds ss) (once_from (olds ss) s.once)) small in
       let up : small_words h.chunks ≤ 1024 * ((small_words h.chunks + 1023) / 1024) = omega arith in
       let enough = t.enough in
-      rooms.enough_room h.chunks ((small_words h.chunks + 1023) / 1024) (reverse news) (smalls h.chunks (olds ss)) (nums.new_reverse news t.new) (omega arith) (omega (arith, length-reverse news))
+      rooms.enough_room h.chunks ((small_words h.chunks + 1023) / 1024) (reverse news) (smalls h.chunks (olds ss)) (new_numbers.new_reverse news t.new) (omega arith) (omega (arith, length-reverse news))
       (λ a i. leb-true (size_of (cell_of h.chunks a)) 1024 (small a i).1)
 
   once_news : Distinct (numbers (reverse news))
@@ -209,7 +212,7 @@ module _ (h : LeafHeapValue) (from : List (Option Addr)) (ss : List Survivor) (n
   laid_numbers = nums.numbers_of_map (led_chunk (redirection h.chunks ss (reverse news))) (λ k. refl) (laid_all (before (reverse news)) h.chunks (smalls h.chunks (olds ss))).laid
 
   laid_parts : numbers (laid_all (before (reverse news)) h.chunks (smalls h.chunks (olds ss))).laid ++ numbers (laid_all (before (reverse news)) h.chunks (smalls h.chunks (olds ss))).spare ≡ numbers (reverse news)
-  laid_parts = nums.laid_numbers (before (reverse news)) h.chunks (smalls h.chunks (olds ss))
+  laid_parts = new_numbers.laid_numbers (before (reverse news)) h.chunks (smalls h.chunks (olds ss))
 
   laid_once : Distinct (numbers (laid_of h ss (reverse news)))
   laid_once = subst Distinct (sym laid_numbers) (nums.distinct_left (numbers (laid_all (before (reverse news)) h.chunks (smalls h.chunks (olds ss))).laid) (numbers (laid_all (before (reverse news)) h.chunks (smalls h.chunks (olds ss))).spare)

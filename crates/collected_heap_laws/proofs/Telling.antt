@@ -18,12 +18,13 @@ use Rattle.leaf_copy_gc.specs.Survivors.{olds}
 use Rattle.leaf_copy_gc.specs.Laid.{before, laid_one, relocations, smalls, HaveRoom, Laying}
 use Rattle.leaf_copy_gc.specs.Redirected.{redirected}
 use Rattle.leaf_copy_gc.specs.Collected.{moves_of, AreSurvivors}
-use Rattle.leaf_copy_gc.specs.Laws.{CanTake, MovesAreTold}
+use Rattle.leaf_copy_gc.specs.Laws.{CanTake}
+use Rattle.collected_heap_laws.specs.Laws.{MovesAreTold}
 use Rattle.leaf_copy_gc.proofs.Evacuated.{once_sorted}
 use Rattle.leaf_copy_gc.proofs.Moves as moves
-use Rattle.leaf_copy_gc.proofs.Numbers as nums
+use Rattle.address_laws.proofs.Numbers as nums
 use Rattle.leaf_copy_gc.proofs.Order.{first_in, firsts, in_first}
-use Rattle.leaf_copy_gc.proofs.Reading as reading
+use Rattle.collected_heap_laws.proofs.Reading as reading
 
 abbrev Moved : Type 0
 Moved = Addr × Addr

@@ -15,7 +15,7 @@ use Rattle.leaf_copy_gc.specs.Laid.{Laying, before, laid_all, laid_one, open_nex
 use Rattle.leaf_copy_gc.specs.Redirected.{led_chunk}
 use Rattle.leaf_copy_gc.specs.Exchanged.{emptied, reserved_of, unreserved}
 use Rattle.leaf_copy_gc.specs.Collected.{back_of, collected, keeps, kept_of, laid_of, laying_of, leaves, redirection}
-use Rattle.leaf_copy_gc.specs.Laws.{labels, ChunksAreKept}
+use Rattle.collected_heap_laws.specs.Laws.{labels, ChunksAreKept}
 
 abbrev Label : Type 0
 Label = ℕ × ℕ

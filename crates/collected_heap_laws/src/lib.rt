@@ -1,0 +1,6 @@
+// What is read in a heap that was collected: objects, old addresses, the chunks that are kept.
+#![tactic(auto)]
+
+mod laws;
+
+pub use laws::{chunks_are_kept, large_are_read, moved_are_read, moves_are_told};

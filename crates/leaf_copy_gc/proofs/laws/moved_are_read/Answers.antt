@@ -1,5 +1,0 @@
-use Rattle.leaf_copy_gc.proofs.Reading as reading
-use Rattle.leaf_copy_gc.proofs.laws.moved_are_read.Goals as goal
-
-pub returns : goal.returns
-returns c = reading.moved_are_read
