@@ -32,9 +32,9 @@ use Rattle.core_relation.specs.Fits.{part_for, with_home}
 use Rattle.core_relation.specs.RanCounts.{NodesFork, RanCounts}
 use Rattle.core_relation.specs.Since.{ForksNotes}
 use Rattle.core_relation.specs.Worker.{Fits as FitsValue}
-use Rattle.core_relation.proofs.whole.RanWhole.{ran_stands_for}
+use Rattle.core_entry_laws.proofs.whole.RanWhole.{ran_stands_for}
 use Rattle.core_relation.proofs.changes.With.{at_home, off_home}
-use Rattle.core_relation.proofs.parts.Workers.{ran_leaves}
+use Rattle.core_entry_laws.proofs.parts.Workers.{ran_leaves}
 use Rattle.task_machine.specs.declared.part.Private.{Private}
 use Rattle.shared_value.specs.declared.task_at_rest.Rest.{Rest}
 use Rattle.shared_value.specs.Objects.{levels_of}

@@ -29,8 +29,8 @@ use Rattle.core_relation.specs.RanCounts.{NodesJoin, RanCounts}
 use Rattle.core_relation.specs.Since.{JoinsNotes}
 use Rattle.core_relation.specs.Stands.{Stands}
 use Rattle.core_relation.specs.Worker.{Fits as FitsValue}
-use Rattle.core_relation.proofs.whole.RanWhole.{ran_stands_for}
-use Rattle.core_relation.proofs.parts.Workers.{ran_leaves}
+use Rattle.core_entry_laws.proofs.whole.RanWhole.{ran_stands_for}
+use Rattle.core_entry_laws.proofs.parts.Workers.{ran_leaves}
 use Rattle.task_machine.specs.declared.part.Private.{Private}
 use Rattle.shared_value.specs.declared.task_at_rest.Rest.{Rest}
 use Rattle.shared_value.specs.declared.task_at_rest.Work.{Work}

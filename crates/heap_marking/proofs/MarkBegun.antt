@@ -24,10 +24,10 @@ use Rattle.ledger_step_laws.proofs.Split.{legal_idle}
 use Rattle.core_relation.specs.Memory.{In, Memory, object_name, objects, objects_in}
 use Rattle.core_relation.specs.Begins.{IsAt, IsRoot, LeadsAt}
 use Rattle.core_relation.specs.Marking.{GoesOn}
-use Rattle.core_relation.specs.Now.{IsReachedNow, StartsNow}
+use Rattle.core_entry_laws.specs.Now.{IsReachedNow, StartsNow}
 use Rattle.core_relation.specs.Since.{kept}
 use Rattle.core_relation.specs.Whole.{StandsFor}
-use Rattle.core_relation.proofs.notes.SnapshotNow.{snapshot_now}
+use Rattle.core_entry_laws.proofs.notes.SnapshotNow.{snapshot_now}
 use Rattle.shared_value.specs.declared.task_at_rest.Rest.{Rest}
 use Rattle.shared_value.specs.Objects.{chunks_of}
 use Rattle.shared_value.specs.SharedValue.{SharedValue, accounts, home_in, rest_at, totals_of, value_of}

@@ -23,7 +23,7 @@ use Rattle.core_relation.specs.Memory.{In, Memory, object_name, objects}
 use Rattle.core_relation.specs.Marking.{GoesOn, MarkedBy}
 use Rattle.core_relation.specs.Since.{kept}
 use Rattle.core_relation.specs.Whole.{StandsFor}
-use Rattle.core_relation.proofs.notes.MarksAll.{all_marked, few_marked}
+use Rattle.core_entry_laws.proofs.notes.MarksAll.{all_marked, few_marked}
 use Rattle.shared_value.specs.SharedValue.{accounts, totals_of, value_of}
 use Rattle.shared_value.proofs.BeforeTheEnd.{stands_now}
 use Rattle.heap_marking.specs.Marking.{MarksCount}

@@ -32,8 +32,8 @@ use Rattle.core_relation.specs.Stands.{HasNames, HomeStands}
 use Rattle.core_relation.proofs.changes.Alone.{home_kept}
 use Rattle.core_relation.specs.Whole.{StandsFor}
 use Rattle.core_relation.specs.Worker.{IsBy}
-use Rattle.core_relation.proofs.whole.EntriesWhole.{quiet_stands_for}
-use Rattle.core_relation.proofs.parts.WorkersPast.{quiet_leaves}
+use Rattle.core_entry_laws.proofs.whole.EntriesWhole.{quiet_stands_for}
+use Rattle.core_entry_laws.proofs.parts.WorkersPast.{quiet_leaves}
 use Rattle.shared_value.specs.SharedValue.{SharedValue, accounts, marks_at, totals_of, value_of}
 use Rattle.shared_value.specs.Stands.{IsSharedValue}
 use Rattle.shared_value.specs.Fits.{AllFit, part_of}

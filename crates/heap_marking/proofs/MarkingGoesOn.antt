@@ -20,12 +20,12 @@ use Rattle.inner_mark_gc.specs.Snapshot.{Fork, IsInSnapshot, IsSince, Starts}
 use Rattle.core_relation.specs.Memory.{In, Memory, object_name, objects, objects_in}
 use Rattle.core_relation.specs.Begins.{LeadsAt}
 use Rattle.core_relation.specs.Marking.{GoesOn, MarksStand}
-use Rattle.core_relation.proofs.notes.MarksAll.{marks_are_all}
-use Rattle.core_relation.specs.Now.{IsReachedNow, StartsNow}
+use Rattle.core_entry_laws.proofs.notes.MarksAll.{marks_are_all}
+use Rattle.core_entry_laws.specs.Now.{IsReachedNow, StartsNow}
 use Rattle.core_relation.specs.Since.{kept}
 use Rattle.core_relation.specs.Whole.{StandsFor}
 use Rattle.core_relation.proofs.notes.Rooted.{lies_in}
-use Rattle.core_relation.proofs.notes.SnapshotNow.{snapshot_now}
+use Rattle.core_entry_laws.proofs.notes.SnapshotNow.{snapshot_now}
 use Rattle.shared_value.specs.declared.task_at_rest.Rest.{Rest}
 use Rattle.shared_value.specs.SharedValue.{SharedValue, accounts, rest_at, totals_of, value_of}
 use Rattle.shared_value.specs.Stands.{HeapForm, IsSharedValue}

@@ -26,8 +26,8 @@ use Rattle.core_relation.specs.Counts.{CountsGo}
 use Rattle.core_relation.specs.Since.{OthersNotes}
 use Rattle.core_relation.specs.Memory.{Home, Memory, sources}
 use Rattle.core_relation.specs.Whole.{StandsForAll}
-use Rattle.core_relation.proofs.whole.EntriesWhole.{sweeps_stand_for}
-use Rattle.core_relation.proofs.parts.WorkersPast.{sweeps_leave}
+use Rattle.core_entry_laws.proofs.whole.EntriesWhole.{sweeps_stand_for}
+use Rattle.core_entry_laws.proofs.parts.WorkersPast.{sweeps_leave}
 use Rattle.task_machine.specs.declared.part.Private.{Private}
 use Rattle.shared_value.specs.declared.task_at_rest.Rest.{Rest}
 use Rattle.shared_value.specs.Causes.{or_else}

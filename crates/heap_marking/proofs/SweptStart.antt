@@ -26,7 +26,7 @@ use Rattle.core_relation.specs.Stands.{HasNames, HomeStands}
 use Rattle.object_layout.specs.Objects.{Located}
 use Rattle.core_relation.specs.Memory.{Home, In, Memory, object_name, objects, objects_in}
 use Rattle.core_relation.specs.Whole.{StandsFor}
-use Rattle.core_relation.proofs.notes.MarksAll.{marks_are_all}
+use Rattle.core_entry_laws.proofs.notes.MarksAll.{marks_are_all}
 use Rattle.task_machine.specs.Accounts.{AreReserved, IsCounted}
 use Rattle.shared_value.specs.declared.task_at_rest.Rest.{Rest}
 use Rattle.shared_value.specs.declared.task_at_rest.Work.{Work}

@@ -32,8 +32,8 @@ use Rattle.ledger_step_laws.proofs.Along.{steps_know}
 use Rattle.ledger_step_laws.proofs.Root.{root_alone}
 use Rattle.ledger_step_laws.proofs.Split.{entry_runs, legal_idle}
 use Rattle.core_relation.specs.Whole.{handed}
-use Rattle.core_relation.proofs.whole.DoneHands.{done_hands_all}
-use Rattle.core_relation.proofs.whole.HandedBack.{handed_halt, handed_on}
+use Rattle.core_entry_laws.proofs.whole.DoneHands.{done_hands_all}
+use Rattle.core_entry_laws.proofs.whole.HandedBack.{handed_halt, handed_on}
 use Rattle.shared_value.proofs.JournalGoesOn.{accounts_then, legal_then}
 
 -- WHILE THE MACHINE GOES ON SO DOES THE RUN, over steps of a task

@@ -49,11 +49,11 @@ use Rattle.core_relation.specs.Memory.{Chunk, Home, In, Lies, Memory, objects_in
 use Rattle.core_relation.specs.Fits.{Part, part_for}
 use Rattle.core_relation.specs.Whole.{StandsFor, StandsForAll, by_end}
 use Rattle.core_relation.specs.Worker.{Fits as FitsValue}
-use Rattle.core_relation.proofs.whole.EntriesWhole.{ends_stand_for}
+use Rattle.core_entry_laws.proofs.whole.EntriesWhole.{ends_stand_for}
 use Rattle.core_relation.proofs.objects.Members.{map_in}
-use Rattle.core_relation.proofs.parts.OwnFits.{ends_fit_then}
-use Rattle.core_relation.proofs.parts.WorkersPast.{ends_leave}
-use Rattle.core_relation.proofs.parts.Quiet.{aside_is}
+use Rattle.core_entry_laws.proofs.parts.OwnFits.{ends_fit_then}
+use Rattle.core_entry_laws.proofs.parts.WorkersPast.{ends_leave}
+use Rattle.core_entry_laws.proofs.parts.Quiet.{aside_is}
 use Rattle.task_machine.specs.declared.part.Private.{Private}
 use Rattle.shared_value.specs.declared.heaps.Heaps.{Heaps}
 use Rattle.shared_value.specs.declared.task_at_rest.Rest.{Rest}

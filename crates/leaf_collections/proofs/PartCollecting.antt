@@ -31,7 +31,7 @@ use Rattle.core_relation.specs.Stands.{HasNames, HomeStands}
 use Rattle.core_relation.specs.Memory.{Chunk, Home, In, Memory, objects, objects_in}
 use Rattle.core_relation.specs.Whole.{BegunStands, Begins}
 use Rattle.core_relation.proofs.changes.Alone.{home_kept}
-use Rattle.core_relation.proofs.notes.Begun.{begins}
+use Rattle.core_entry_laws.proofs.notes.Begun.{begins}
 use Rattle.core_relation.proofs.objects.Members.{map_in}
 use Rattle.core_relation.proofs.changes.With.{at_home, off_home}
 use Rattle.task_machine.specs.declared.part.Begun.{Begun}

@@ -19,10 +19,10 @@ use Rattle.core_relation.specs.Makes.{StepsTo}
 use Rattle.core_relation.specs.RanCounts.{RanCounts}
 use Rattle.core_relation.specs.Reads.{FrameIsRead}
 use Rattle.core_relation.specs.Worker.{Fits as FitsValue}
-use Rattle.core_relation.proofs.parts.RanFits.{ran_fits_then}
-use Rattle.core_relation.proofs.whole.RanWhole.{ran_stands_for}
-use Rattle.core_relation.proofs.parts.Sets.{frames_go}
-use Rattle.core_relation.proofs.parts.Workers.{ran_leaves}
+use Rattle.core_entry_laws.proofs.parts.RanFits.{ran_fits_then}
+use Rattle.core_entry_laws.proofs.whole.RanWhole.{ran_stands_for}
+use Rattle.core_entry_laws.proofs.parts.Sets.{frames_go}
+use Rattle.core_entry_laws.proofs.parts.Workers.{ran_leaves}
 use Rattle.task_machine.specs.declared.part.Private.{Private}
 use Rattle.shared_value.specs.SharedValue.{SharedValue, accounts, totals_of, value_of}
 use Rattle.shared_value.specs.Stands.{IsSharedValue}

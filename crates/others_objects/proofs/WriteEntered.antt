@@ -28,9 +28,9 @@ use Rattle.core_relation.specs.Marks.{StoreMarks}
 use Rattle.core_relation.specs.RanCounts.{RanCounts}
 use Rattle.core_relation.specs.Whole.{StandsFor, StandsForAll, by_end}
 use Rattle.core_relation.specs.Worker.{Fits as FitsValue}
-use Rattle.core_relation.proofs.parts.RanFits.{ran_fits_then}
-use Rattle.core_relation.proofs.whole.RanWhole.{ran_stands_for}
-use Rattle.core_relation.proofs.parts.Workers.{ran_leaves}
+use Rattle.core_entry_laws.proofs.parts.RanFits.{ran_fits_then}
+use Rattle.core_entry_laws.proofs.whole.RanWhole.{ran_stands_for}
+use Rattle.core_entry_laws.proofs.parts.Workers.{ran_leaves}
 use Rattle.task_machine.specs.declared.part.Private.{Private}
 use Rattle.shared_value.specs.declared.task_at_rest.Rest.{Rest}
 use Rattle.shared_value.specs.SharedValue.{SharedValue, accounts, totals_of, value_of}

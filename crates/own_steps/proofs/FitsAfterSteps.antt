@@ -27,7 +27,7 @@ use Rattle.core_relation.proofs.objects.Members.{in_chunk}
 use Rattle.core_relation.proofs.changes.Own.{stepped}
 use Rattle.core_relation.specs.Whole.{BegunBy}
 use Rattle.core_relation.proofs.changes.With.{at_home, off_home}
-use Rattle.core_relation.proofs.parts.Quiet.{aside_is}
+use Rattle.core_entry_laws.proofs.parts.Quiet.{aside_is}
 use Rattle.task_machine.specs.declared.part.Private.{Private}
 use Rattle.task_machine.specs.Accounts.{IsCounted, KeepsAccounts}
 use Rattle.task_machine.specs.Fits.{FitsNow as FitsMachine}

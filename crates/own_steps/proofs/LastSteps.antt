@@ -17,7 +17,7 @@ use Rattle.run_ledger.specs.Steps.{is_due, is_in_need, is_private, most_steps, o
 use Rattle.run_ledger.specs.Entries.{kind_refusal, refused_if, refused_unless}
 use Rattle.ledger_step_laws.specs.Accounts.{ArePrivate}
 use Rattle.core_relation.specs.Fits.{FitsAt as FitsValue, ahead}
-use Rattle.core_relation.proofs.parts.Quiet.{aside_is}
+use Rattle.core_entry_laws.proofs.parts.Quiet.{aside_is}
 use Rattle.task_machine.specs.declared.part.Private.{Private}
 use Rattle.task_machine.specs.Fits.{FitsNow as FitsMachine}
 use Rattle.task_machine.specs.Place.{Places}

@@ -29,10 +29,10 @@ use Rattle.core_relation.specs.RanCounts.{RanCounts}
 use Rattle.core_relation.specs.Since.{OthersNotes}
 use Rattle.core_relation.specs.Whole.{StandsFor, handed, as_node}
 use Rattle.core_relation.specs.Worker.{Fits as FitsValue}
-use Rattle.core_relation.proofs.whole.DoneHands.{done_hands_all}
-use Rattle.core_relation.proofs.whole.RanWhole.{ran_stands_for}
+use Rattle.core_entry_laws.proofs.whole.DoneHands.{done_hands_all}
+use Rattle.core_entry_laws.proofs.whole.RanWhole.{ran_stands_for}
 use Rattle.core_relation.proofs.changes.With.{at_home, off_home}
-use Rattle.core_relation.proofs.parts.Workers.{ran_leaves}
+use Rattle.core_entry_laws.proofs.parts.Workers.{ran_leaves}
 use Rattle.task_machine.specs.declared.part.Private.{Private}
 use Rattle.shared_value.specs.declared.next_step.Ending.TheVariants.{Returns}
 use Rattle.shared_value.specs.declared.task_at_rest.Rest.{Rest}

@@ -15,8 +15,8 @@ use Rattle.chunk_pool.specs.PoolValue.{units_in_use}
 use Rattle.core_relation.specs.Copies.{PartFits}
 use Rattle.core_relation.specs.Fits.{FitsAt}
 use Rattle.core_relation.specs.Whole.{StandsFor, by_end, handed}
-use Rattle.core_relation.proofs.whole.TasksOut.{tasks_out_are_held}
-use Rattle.core_relation.proofs.parts.Workers as workers
+use Rattle.core_entry_laws.proofs.whole.TasksOut.{tasks_out_are_held}
+use Rattle.core_entry_laws.proofs.parts.Workers as workers
 use Rattle.task_machine.specs.declared.part.Private.{Private}
 use Rattle.shared_value.specs.SharedValue.{SharedValue, accounts, flat, totals_of, value_of}
 use Rattle.shared_value.specs.Stands.{IsSharedValue}

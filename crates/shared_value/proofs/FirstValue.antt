@@ -20,7 +20,7 @@ use Rattle.ledger_step_laws.specs.Accounts.{Rests}
 use Rattle.core_relation.specs.Memory.{Noted, Memory}
 use Rattle.core_relation.specs.Stands.{Stands}
 use Rattle.core_relation.specs.Whole.{BegunBy, StandsFor, as_node}
-use Rattle.core_relation.proofs.whole.Journals.{first, first_stands}
+use Rattle.core_entry_laws.proofs.whole.Journals.{first, first_stands}
 use Rattle.shared_value.specs.declared.task_at_rest.Rest.{Rest}
 use Rattle.shared_value.specs.SharedValue.{SharedValue, flat, rest_at, value_of, totals_of, first_rest}
 use Rattle.shared_value.specs.Measured.{AreMeasured, RestsAreMeasured}

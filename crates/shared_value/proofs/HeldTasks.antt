@@ -29,11 +29,11 @@ use Rattle.core_relation.proofs.changes.Alone.{home_kept}
 use Rattle.core_relation.proofs.objects.Carry.{object_kept, task_kept}
 use Rattle.core_relation.proofs.changes.Giving.{gives_kept}
 use Rattle.core_relation.proofs.notes.Notes.{notes_stay, same_whole}
-use Rattle.core_relation.proofs.parts.Parts.{ahead_alone}
+use Rattle.core_entry_laws.proofs.parts.Parts.{ahead_alone}
 use Rattle.core_relation.proofs.notes.Rooted.{root_same}
 use Rattle.core_relation.proofs.changes.Same.{source_same}
 use Rattle.core_relation.proofs.changes.With.{at_home, off_home}
-use Rattle.core_relation.proofs.parts.Quiet.{aside_is}
+use Rattle.core_entry_laws.proofs.parts.Quiet.{aside_is}
 
 -- the same value, with other homes of the tasks that workers hold
 module _ (v : Memory) (hs : ℕ → Home) (l : Ledger) (same : (u : ℕ) → Rests l u → hs u ≡ v.homes u) where

@@ -24,9 +24,9 @@ use Rattle.core_relation.specs.Stands.{HomeStands}
 use Rattle.core_relation.specs.Whole.{BegunBy}
 use Rattle.core_relation.specs.Worker.{IsBy}
 use Rattle.core_relation.proofs.changes.Alone.{home_kept}
-use Rattle.core_relation.proofs.parts.OwnFits.{quiet_fits_then}
-use Rattle.core_relation.proofs.whole.EntriesWhole.{quiet_stands_for}
-use Rattle.core_relation.proofs.parts.WorkersPast.{quiet_leaves}
+use Rattle.core_entry_laws.proofs.parts.OwnFits.{quiet_fits_then}
+use Rattle.core_entry_laws.proofs.whole.EntriesWhole.{quiet_stands_for}
+use Rattle.core_entry_laws.proofs.parts.WorkersPast.{quiet_leaves}
 use Rattle.task_machine.specs.declared.part.Begun.{Begun}
 use Rattle.task_machine.specs.declared.part.Private.{Private}
 use Rattle.shared_value.specs.SharedValue.{SharedValue, accounts, totals_of, value_of}

@@ -51,10 +51,10 @@ use Rattle.core_relation.specs.Fits.{FitsAt as FitsValue, ahead, with_home}
 use Rattle.core_relation.proofs.changes.Alone.{home_own}
 use Rattle.core_relation.proofs.objects.Carry.{object_kept, task_kept}
 use Rattle.core_relation.proofs.objects.Members.{in_chunk}
-use Rattle.core_relation.proofs.parts.Parts.{ahead_alone, ahead_sound}
+use Rattle.core_entry_laws.proofs.parts.Parts.{ahead_alone, ahead_sound}
 use Rattle.core_relation.proofs.changes.Shown.{noted_mutable}
 use Rattle.core_relation.proofs.changes.With.{at_home, off_home}
-use Rattle.core_relation.proofs.parts.Quiet.{aside_is}
+use Rattle.core_entry_laws.proofs.parts.Quiet.{aside_is}
 use Rattle.task_machine.specs.declared.part.Private.{Private}
 use Rattle.task_machine.specs.Place.{AreAt, FrameStands, FramesStand, IsAt, birth_of, name_of}
 use Rattle.task_machine.specs.Fits.{FitsNow as FitsMachine, HeapStands, IsOwn, IsRun, IsShownBy, StackStands}

@@ -31,10 +31,10 @@ use Rattle.core_relation.specs.Frames.{IsSteady}
 use Rattle.core_relation.specs.RanCounts.{RanCounts}
 use Rattle.core_relation.specs.Stands.{HasNames, HomeStands}
 use Rattle.core_relation.specs.Worker.{Fits as FitsValue}
-use Rattle.core_relation.proofs.parts.RanFits.{ran_fits_then}
-use Rattle.core_relation.proofs.whole.RanWhole.{ran_stands_for}
+use Rattle.core_entry_laws.proofs.parts.RanFits.{ran_fits_then}
+use Rattle.core_entry_laws.proofs.whole.RanWhole.{ran_stands_for}
 use Rattle.core_relation.proofs.changes.With.{at_home}
-use Rattle.core_relation.proofs.parts.Workers.{ran_leaves}
+use Rattle.core_entry_laws.proofs.parts.Workers.{ran_leaves}
 use Rattle.task_machine.specs.declared.part.Private.{Private}
 use Rattle.task_machine.specs.Accounts.{IsCounted}
 use Rattle.task_machine.specs.Fits.{unended}

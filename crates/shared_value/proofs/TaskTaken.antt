@@ -34,9 +34,9 @@ use Rattle.core_relation.specs.Stands.{Place}
 use Rattle.core_relation.specs.Fits.{part_for}
 use Rattle.core_relation.specs.Worker.{Fits as FitsValue}
 use Rattle.core_relation.specs.Whole.{StandsFor, as_node}
-use Rattle.core_relation.proofs.whole.EntriesWhole.{took_stands_for}
-use Rattle.core_relation.proofs.parts.TookFits.{took_fits_then}
-use Rattle.core_relation.proofs.parts.WorkersPast.{took_leaves}
+use Rattle.core_entry_laws.proofs.whole.EntriesWhole.{took_stands_for}
+use Rattle.core_entry_laws.proofs.parts.TookFits.{took_fits_then}
+use Rattle.core_entry_laws.proofs.parts.WorkersPast.{took_leaves}
 use Rattle.task_machine.specs.declared.part.Private.{Private}
 use Rattle.shared_value.specs.declared.task_at_rest.Rest.{Rest}
 use Rattle.shared_value.specs.declared.task_at_rest.Work.{Work}

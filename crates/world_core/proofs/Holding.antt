@@ -12,7 +12,7 @@ use Rattle.run_ledger.specs.Heaps.{heap_of}
 use Rattle.run_ledger.specs.Journals.{ledger_of}
 use Rattle.leaf_copy_gc.specs.declared.lists.Moved.{Moved}
 use Rattle.core_relation.specs.Whole.{handed}
-use Rattle.core_relation.proofs.whole.HandedBack.{handed_on}
+use Rattle.core_entry_laws.proofs.whole.HandedBack.{handed_on}
 use Rattle.task_machine.specs.declared.part.Private.{Private}
 use Rattle.shared_value.specs.Entered.{Enters, refused}
 use Rattle.shared_value.specs.Fits.{AllFit, Fits, OthersFit}

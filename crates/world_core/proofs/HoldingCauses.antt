@@ -14,7 +14,7 @@ use Rattle.run_ledger.specs.Heaps.{end_numbers, heap_of, in_use}
 use Rattle.run_ledger.specs.Steps.{is_due, is_in_need, most_steps, standing}
 use Rattle.run_ledger.proofs.Holders.{tasks_are_held_once}
 use Rattle.leaf_copy_gc.specs.declared.lists.Moved.{Moved}
-use Rattle.core_relation.proofs.whole.HandedBack.{handed_on}
+use Rattle.core_entry_laws.proofs.whole.HandedBack.{handed_on}
 use Rattle.task_machine.specs.declared.part.Begun.{Begun}
 use Rattle.task_machine.specs.declared.part.Private.{Private}
 use Rattle.shared_value.specs.Causes.{first_cause, or_else, task_held}

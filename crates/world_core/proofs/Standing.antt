@@ -15,7 +15,7 @@ use Rattle.run_ledger.specs.Steps.{is_due, is_in_need, is_private, most_steps, o
 use Rattle.ledger_step_laws.specs.Accounts.{ArePrivate}
 use Rattle.core_relation.specs.Fits.{FitsAt}
 use Rattle.core_relation.specs.Fits.{ahead}
-use Rattle.core_relation.proofs.parts.Quiet.{aside_is}
+use Rattle.core_entry_laws.proofs.parts.Quiet.{aside_is}
 use Rattle.task_machine.specs.declared.part.Paused.{Paused}
 use Rattle.task_machine.specs.declared.part.Paused.TheVariants.{Shared, Due, NeedChunk, Spent}
 use Rattle.task_machine.specs.declared.part.Private.{Private}

@@ -22,7 +22,7 @@ use Rattle.core_relation.specs.Fits.{Part as PartOf, ahead}
 use Rattle.core_relation.specs.Frames.{NotOf, all_ahead}
 use Rattle.core_relation.specs.Memory.{In}
 use Rattle.core_relation.specs.Worker.{AllFit, Fits as FitsValue}
-use Rattle.core_relation.proofs.parts.All.{all_fit_together}
+use Rattle.core_entry_laws.proofs.parts.All.{all_fit_together}
 use Rattle.core_relation.specs.Whole.{by_end, handed}
 use Rattle.shared_value.specs.Fits.{part_of}
 use Rattle.shared_value.specs.Stands.{IsSharedValue}

@@ -1,0 +1,3 @@
+pub mod parts
+pub mod notes
+pub mod whole

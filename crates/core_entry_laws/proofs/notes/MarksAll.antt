@@ -1,0 +1,174 @@
+-- Where nothing is left to mark, the whole snapshot is marked, and the other way round: both have each object once.
+use Rattle.std.proofs.Common.{◌≡◌, ◌⊎◌, ◌-◌, ◌≤◌, ◌==◌, ℕ, suc, Bool, true, false, cond, arith, Option, List, [], ◌∷◌, length, unwrap_or, inl, inr, refl, ap, sym, subst, ◌∙◌}
+use Rattle.std.specs.List.{AllByRecursion, IsDistinct}
+use Rattle.std.proofs.lemmas.Bool.{both_ways, and_from, eq-eqb}
+use Rattle.object_layout.specs.declared.word.Addr.{Addr}
+use Rattle.object_layout.specs.Chunks.{same_address}
+use Rattle.object_layout.specs.Objects.{Located}
+use Rattle.hh_model.specs.declared.data.Name.{Name}
+use Rattle.run_ledger.specs.declared.data.Ledger.{Ledger}
+use Rattle.run_ledger.specs.Heaps.{held_in, heap_of, marked_in}
+use Rattle.run_ledger.specs.Reachable.{is_name}
+use Rattle.run_ledger.proofs.Members.{same_from_is_name, is_name_itself}
+use Rattle.ledger_step_laws.specs.Accounts.{Rests}
+use Rattle.core_relation.specs.Memory.{Memory, In, object_name, objects}
+use Rattle.core_relation.specs.Stands.{Stands}
+use Rattle.core_entry_laws.specs.CopyLaws.{MarksAreAll}
+use Rattle.core_relation.proofs.objects.Members.{held_object}
+
+-- LISTS OF NAMES, each once
+
+abbrev Once : List Name → Type 0
+Once [] = Unit {0}
+Once (x ∷ xs) = (In xs x → ⊥) × Once xs
+
+none_in : (x : Name) (ys : List Name) → AllByRecursion (λ y. is_name x y ≡ false) ys → In ys x → ⊥
+none_in x [] a i = i
+none_in x (y ∷ ys) a (inl e) = both_ways (is_name x y) a.0 (subst (λ z. is_name x z ≡ true) (sym e) (is_name_itself x))
+none_in x (y ∷ ys) a (inr i) = none_in x ys a.1 i
+
+once_names : (xs : List Name) → IsDistinct is_name xs → Once xs
+unfolding IsDistinct
+once_names [] d = tt
+once_names (x ∷ xs) d = (none_in x xs d.0, once_names xs d.1)
+
+without : Name → List Name → List Name
+without n [] = []
+without n (y ∷ ys) = cond (is_name n y) ys (y ∷ without n ys)
+
+shorter : (n : Name) (ys : List Name) → In ys n → length ys ≡ suc (length (without n ys))
+unfolding without
+shorter n [] i = absurd i
+shorter n (y ∷ ys) i = by (is_name n y) refl i (λ j. shorter n ys j)
+  where
+    by : (b : Bool) → is_name n y ≡ b → In (y ∷ ys) n → (In ys n → length ys ≡ suc (length (without n ys))) → suc (length ys) ≡ suc (length (cond b ys (y ∷ without n ys)))
+    by true e i more = refl
+    by false e (inl q) more = absurd (both_ways (is_name n y) e (subst (λ z. is_name n z ≡ true) (sym q) (is_name_itself n)))
+    by false e (inr j) more = ap suc (more j)
+
+still_in : (n m : Name) (ys : List Name) → In ys m → (m ≡ n → ⊥) → In (without n ys) m
+unfolding without
+still_in n m [] i ne = absurd i
+still_in n m (y ∷ ys) i ne = by (is_name n y) refl i (λ j. still_in n m ys j ne)
+  where
+    by : (b : Bool) → is_name n y ≡ b → In (y ∷ ys) m → (In ys m → In (without n ys) m) → In (cond b ys (y ∷ without n ys)) m
+    by true e (inl q) more = absurd (ne (sym q ∙ sym (same_from_is_name n y e)))
+    by true e (inr j) more = j
+    by false e (inl q) more = inl q
+    by false e (inr j) more = inr (more j)
+
+-- names that all stand in a list are no more than those
+pub no_more : (xs ys : List Name) → Once xs → ((n : Name) → In xs n → In ys n) → length xs ≤ length ys
+no_more [] ys o f = omega arith
+no_more (x ∷ xs) ys o f =
+    let a : length ys ≡ suc (length (without x ys)) = shorter x ys (f x (inl refl)) in
+    let b : length xs ≤ length (without x ys) = no_more xs (without x ys) o.1 (λ n i. still_in x n ys (f n (inr i)) (λ e. o.0 (subst (In xs) e i))) in
+    omega (arith, a, b)
+
+is_in : (n : Name) (xs : List Name) → In xs n ⊎ (In xs n → ⊥)
+is_in n [] = inr (λ i. i)
+is_in n (x ∷ xs) = by (is_name n x) refl (is_in n xs)
+  where
+    by : (b : Bool) → is_name n x ≡ b → In xs n ⊎ (In xs n → ⊥) → In (x ∷ xs) n ⊎ (In (x ∷ xs) n → ⊥)
+    by true e more = inl (inl (sym (same_from_is_name n x e)))
+    by false e (inl i) = inl (inr i)
+    by false e (inr none) = inr (λ i. elim i [ inl q ↦ both_ways (is_name n x) e (subst (λ z. is_name n z ≡ true) (sym q) (is_name_itself n)) | inr j ↦ none j ])
+
+-- and where they are bs many, they are those
+all_of : (xs ys : List Name) → Once xs → ((n : Name) → In xs n → In ys n) → length ys ≤ length xs → (n : Name) → In ys n → In xs n
+all_of xs ys o f le n i = elim (is_in n xs) [
+  | inl j ↦ j
+  | inr none ↦
+      let more : suc (length xs) ≤ length ys = no_more (n ∷ xs) ys (none, o) (λ m j. elim j [ inl e ↦ subst (In ys) e i | inr k ↦ f m k ]) in
+      absurd (omega (arith, le, more))
+]
+
+-- THE NAMES OF WHAT IS MARKED
+
+module _ (v : Memory) (l : Ledger) (t : ℕ) (V : Stands v l) (rests : Rests l t) where
+  abbrev Each : List Addr → Type 0
+  Each bs = (a : Addr) → In bs a → (q : Located) × In (objects v t) q × (q.at ≡ a) × In (heap_of l t).snapshot (object_name q)
+
+  names : (bs : List Addr) → Each bs → List Name
+  names [] each = []
+  names (a ∷ bs) each = object_name (each a (inl refl)).0 ∷ names bs (λ b i. each b (inr i))
+
+  as_many : (bs : List Addr) (each : Each bs) → length (names bs each) ≡ length bs
+  unfolding names
+  as_many [] each = refl
+  as_many (a ∷ bs) each = ap suc (as_many bs (λ b i. each b (inr i)))
+
+  -- each of these names is that of a marked object
+  named_by : (bs : List Addr) (each : Each bs) (n : Name) → In (names bs each) n → (q : Located) × In (objects v t) q × (object_name q ≡ n) × In bs q.at × In (heap_of l t).snapshot n
+  unfolding names
+  named_by [] each n i = absurd i
+  named_by (a ∷ bs) each n (inl e) =
+      let q = each a (inl refl) in
+      (q.0, q.1, e, inl (sym q.2), subst (In (heap_of l t).snapshot) e q.3)
+  named_by (a ∷ bs) each n (inr i) = let r = named_by bs (λ b j. each b (inr j)) n i in (r.0, r.1, r.2, inr r.3, r.4)
+
+  -- and the other way round
+  name_in : (bs : List Addr) (each : Each bs) (q : Located) → In (objects v t) q → In bs q.at → In (names bs each) (object_name q)
+  unfolding names
+  name_in [] each q i j = absurd j
+  name_in (a ∷ bs) each q i (inl e) = let r = each a (inl refl) in inl (ap object_name ((V.homes t rests).once r.0 q r.1 i (r.2 ∙ e)))
+  name_in (a ∷ bs) each q i (inr j) = inr (name_in bs (λ b k. each b (inr k)) q i j)
+
+  same_is : (a b : Addr) → a ≡ b → same_address a b ≡ true
+  same_is a b e = and_from (a.chunk == b.chunk) (a.offset == b.offset) (eq-eqb a.chunk b.chunk (ap (λ (c : Addr). c.chunk) e)) (eq-eqb a.offset b.offset (ap (λ (c : Addr). c.offset) e))
+
+  not_again : (a : Addr) (bs : List Addr) → AllByRecursion (λ b. same_address a b ≡ false) bs → In bs a → ⊥
+  not_again a [] d i = i
+  not_again a (b ∷ bs) d (inl e) = both_ways (same_address a b) d.0 (same_is a b (sym e))
+  not_again a (b ∷ bs) d (inr i) = not_again a bs d.1 i
+
+  once_marked : (bs : List Addr) (each : Each bs) → IsDistinct same_address bs → Once (names bs each)
+  unfolding IsDistinct names
+  once_marked [] each d = tt
+  once_marked (a ∷ bs) each d = (
+    (λ i.
+        let q = each a (inl refl) in
+        let r = named_by bs (λ b j. each b (inr j)) (object_name q.0) i in
+        let same : r.0 ≡ q.0 = (V.homes t rests).named r.0 q.0 r.1 q.1 r.2 in
+        not_again a bs d.0 (subst (In bs) (ap (λ (o : Located). o.at) same ∙ q.2) r.3)),
+    once_marked bs (λ b j. each b (inr j)) d.1,
+  )
+
+-- marked are no more than the snapshot has
+pub few_marked : (v : Memory) (l : Ledger) (t : ℕ) (marked : List Addr) → Stands v l → Rests l t → ((a : Addr) → In marked a → (q : Located) × In (objects v t) q × (q.at ≡ a) × In (heap_of l t).snapshot (object_name q)) → IsDistinct same_address marked
+    → length marked ≤ length (heap_of l t).snapshot
+few_marked v l t marked V rests each once =
+    let ns = names v l t V rests marked each in
+    let as_many : length ns ≡ length marked = as_many v l t V rests marked each in
+    let le : length ns ≤ length (heap_of l t).snapshot = no_more ns (heap_of l t).snapshot (once_marked v l t V rests marked each once) (λ n i. (named_by v l t V rests marked each n i).4) in
+    omega (arith, le, as_many)
+
+-- and no fewer, where each object of it is marked
+pub all_marked : (v : Memory) (l : Ledger) (t : ℕ) (marked : List Addr) → Stands v l → Rests l t → ((a : Addr) → In marked a → (q : Located) × In (objects v t) q × (q.at ≡ a) × In (heap_of l t).snapshot (object_name q))
+    → IsDistinct is_name (heap_of l t).snapshot → ((n : Name) → In (heap_of l t).snapshot n → In (held_in (heap_of l t)) n) → ((q : Located) → In (objects v t) q → In (heap_of l t).snapshot (object_name q) → In marked q.at) → length (heap_of l t).snapshot ≤ length marked
+all_marked v l t marked V rests each distinct held every =
+    let ns = names v l t V rests marked each in
+    let as_many : length ns ≡ length marked = as_many v l t V rests marked each in
+    let le : length (heap_of l t).snapshot ≤ length ns = no_more (heap_of l t).snapshot ns (once_names (heap_of l t).snapshot distinct) (λ n i.
+    let o = held_object (v.homes t).chunks (heap_of l t) (V.homes t rests).names n (held n i) in
+    subst (In ns) o.2 (name_in v l t V rests marked each o.0 o.1 (every o.0 o.1 (subst (In (heap_of l t).snapshot) (sym o.2) i)))) in
+    omega (arith, le, as_many)
+
+pub marks_are_all : MarksAreAll
+marks_are_all v l t marked V rests distinct held M =
+    let ns = names v l t V rests marked M.each in
+    let once = once_marked v l t V rests marked M.each M.once in
+    let as_many : length ns ≡ length marked = as_many v l t V rests marked M.each in
+    let count : marked_in (heap_of l t) ≡ length marked = ap (λ (o : Option ℕ). unwrap_or o 0) M.count in
+    let all : ((n : Name) → In ns n → In (heap_of l t).snapshot n) = λ n i. (named_by v l t V rests marked M.each n i).4 in (
+      (λ none q i j.
+          let le : length (heap_of l t).snapshot ≤ length ns = (let z : length (heap_of l t).snapshot - marked_in (heap_of l t) ≡ 0 = none in omega (arith, z, count, as_many)) in
+          let r = named_by v l t V rests marked M.each (object_name q) (all_of ns (heap_of l t).snapshot once all le (object_name q) j) in
+          subst (λ (o : Located). In marked o.at) ((V.homes t rests).named r.0 q r.1 i r.2) r.3),
+      (λ every.
+          let le : length (heap_of l t).snapshot ≤ length ns = no_more (heap_of l t).snapshot ns (once_names (heap_of l t).snapshot distinct) (λ n i.
+          let o = held_object (v.homes t).chunks (heap_of l t) (V.homes t rests).names n (held n i) in
+          subst (In ns) o.2 (name_in v l t V rests marked M.each o.0 o.1 (every o.0 o.1 (subst (In (heap_of l t).snapshot) (sym o.2) i)))) in
+          let z : length (heap_of l t).snapshot - marked_in (heap_of l t) ≡ 0 = omega (arith, le, count, as_many) in
+          z),
+    )

@@ -1,0 +1,153 @@
+-- An entry of steps leaves no collection that has begun in a home at rest.
+use Rattle.std.proofs.Common.{◌≡◌, ℕ, ◌+◌, Some, None, List, length, slice_get, inl, inr, refl, ap, sym, subst, ◌∙◌}
+use Rattle.std.proofs.lemmas.Bool.{cases_eq}
+use Rattle.listed.proofs.Options.{none_some}
+use Rattle.hh_lang.specs.declared.instr.Instr.{Instr}
+use Rattle.hh_lang.specs.declared.instr.Instr.TheVariants.{Set, Mov, Movr, Nil as NilOf, Calc, Same, Jmp, Jz, Newm, Pack, Getr, Geti, Putr, Puti, Cntr, Cnti, Freeze, Cas, Call, Par, Ret, Out}
+use Rattle.hh_lang.specs.Form.{ProgramText}
+use Rattle.run_trace.specs.Settings.{SettingsValue}
+use Rattle.run_ledger.specs.declared.data.Heap.{Heap}
+use Rattle.run_ledger.specs.declared.data.Ledger.{Ledger}
+use Rattle.run_ledger.specs.Heaps.{heap_of, or_fresh, let_go}
+use Rattle.run_ledger.specs.Steps.{task_steps}
+use Rattle.task_frames.specs.declared.frames.Frame.{Frame}
+use Rattle.ledger_step_laws.specs.Accounts.{Rests, StepsAlone, rested}
+use Rattle.ledger_step_laws.specs.Kinds.{EndsTask}
+use Rattle.ledger_step_laws.specs.Last.{WritesOther, LastKind, Private, Reading, Writing, Printing, Forking, Ending, Joining, Finishing, Halting, IsOfKind, GoesOn, Splits, Runs}
+use Rattle.ledger_step_laws.proofs.Ahead.{private_alone, steps_alone_all, with_off}
+use Rattle.ledger_step_laws.proofs.Along.{steps_know}
+use Rattle.ledger_step_laws.proofs.Rested.{rested_view}
+use Rattle.ledger_step_laws.proofs.Split.{worker_step}
+use Rattle.core_relation.specs.Memory.{Home, Memory}
+use Rattle.core_relation.specs.Fits.{with_home}
+use Rattle.core_relation.specs.Changes.{EndsHome}
+use Rattle.core_relation.specs.Makes.{Stores, Makes}
+use Rattle.core_relation.specs.Whole.{handed}
+use Rattle.core_entry_laws.proofs.whole.HandedBack.{alive_machine, handed_on, handed_halt, handed_done}
+use Rattle.core_entry_laws.proofs.whole.RunsOn.{ran_end}
+use Rattle.core_relation.proofs.changes.With.{at_home, off_home}
+
+module _ (p : ProgramText) (s : SettingsValue) (v v' : Memory) (l l' : Ledger) (t w k : ℕ) (h : Home) (E : Runs p s l l' t w k) (alive : l.end ≡ None) (resting : (u : ℕ) → Rests l u → (v.homes u).begun ≡ None) (own : h.begun ≡ None) (accounts : (u : ℕ) → Rests l' u → (heap_of l' u).begun ≡ None) (still : (heap_of (task_steps p l t k) t).begun ≡ None) where
+  abbrev m : Ledger
+  m = task_steps p l t k
+
+  abbrev S : Splits p s l l' t k
+  S = E.splits
+
+  abbrev vt : Memory
+  vt = with_home v t h
+
+  abbrev Idle : Ledger → Type 0
+  Idle n = (u : ℕ) → Rests n u → ((heap_of n u).begun ≡ None) × ((v'.homes u).begun ≡ None)
+
+  alone : StepsAlone l m t
+  alone = steps_alone_all p s t k l (E.knows.sound, E.collects) S.private
+
+  other : (u : ℕ) → (u ≡ t → ⊥) → Rests m u → (v.homes u).begun ≡ None
+  other u ne r = resting u (ap (λ (z : Heap). z.worker) (sym (alone.heaps u ne)) ∙ r)
+
+  -- with the part's home
+  before : (u : ℕ) → Rests (rested m t) u → (vt.homes u).begun ≡ None
+  before u r = elim (cases_eq u t) [
+    | inl e ↦ ap (λ z. (vt.homes z).begun) e ∙ (ap (λ (z : Home). z.begun) (at_home v t h) ∙ own)
+    | inr ne ↦ ap (λ (z : Home). z.begun) (off_home v t h u ne) ∙ other u ne (ap (λ o. (or_fresh o).worker) (sym (with_off m t u let_go ne)) ∙ r)
+  ]
+
+  -- the worker goes on with the task
+  held : (heap_of l' t).worker ≡ Some w → ((u : ℕ) → (u ≡ t → ⊥) → heap_of l' u ≡ heap_of m u) → ((u : ℕ) → (u ≡ t → ⊥) → (v'.homes u).begun ≡ (v.homes u).begun) → Idle l'
+  held out heaps same u r = elim (cases_eq u t) [
+    | inl e ↦ none_some (sym (subst (Rests l') e r) ∙ out)
+    | inr ne ↦ (accounts u r, same u ne ∙ other u ne (ap (λ (z : Heap). z.worker) (sym (heaps u ne)) ∙ r))
+  ]
+
+  stays : v' ≡ v → (heap_of l' t).worker ≡ Some w → ((u : ℕ) → (u ≡ t → ⊥) → heap_of l' u ≡ heap_of m u) → Idle l'
+  stays e out heaps = held out heaps (λ u ne. ap (λ (z : Memory). (z.homes u).begun) e)
+
+  goes : l'.machine.end ≡ None → Idle l' → Idle (handed l')
+  goes on = subst Idle (sym (handed_on l' (ran_end p s l l' t w k E (alive_machine p s l l' t w k E) on ∙ alive)))
+
+  -- it has ended
+  ended : (n : Ledger) (f : Frame) (fs : List Frame) → EndsTask (rested m t) n t S.task → EndsHome vt v' t f fs → ((u : ℕ) → Rests n u → (heap_of n u).begun ≡ None) → Idle n
+  ended n f fs L C at u r = (
+    at u r,
+    elim (cases_eq u t) [
+      | inl e ↦ ap (λ z. (v'.homes z).begun) e ∙ (C.begun ∙ (ap (λ (z : Home). z.begun) (at_home v t h) ∙ own))
+      | inr ne ↦ ap (λ (z : Home). z.begun) (C.others u ne) ∙ before u (ap (λ (z : Heap). z.worker) (sym (L.alone.heaps u ne)) ∙ r)
+    ],
+  )
+
+  wrote : (g : Home) (begun : (u : ℕ) → ((with_home v' t g).homes u).begun ≡ (vt.homes u).begun) (u : ℕ) → (u ≡ t → ⊥) → (v'.homes u).begun ≡ (v.homes u).begun
+  wrote g begun u ne = ap (λ (z : Home). z.begun) (sym (off_home v' t g u ne)) ∙ (begun u ∙ ap (λ (z : Home). z.begun) (off_home v t h u ne))
+
+  writes : (W : WritesOther m l' t S.task S.line) (instr : Instr) → Stores v v' m t h S.task W.object instr → (u : ℕ) → (u ≡ t → ⊥) → (v'.homes u).begun ≡ (v.homes u).begun
+  writes W (Putr o i b) C = wrote C.0 C.6.writes.begun
+  writes W (Cas d o i e b) C = wrote C.0 C.6.writes.begun
+  writes W (Puti o i b) C = wrote C.0 C.6.writes.begun
+  writes W (Set d a) C = absurd C
+  writes W (Mov d a) C = absurd C
+  writes W (Movr d a) C = absurd C
+  writes W (NilOf d) C = absurd C
+  writes W (Calc op d a b) C = absurd C
+  writes W (Same d a b) C = absurd C
+  writes W (Jmp to) C = absurd C
+  writes W (Jz a to) C = absurd C
+  writes W (Newm d a b) C = absurd C
+  writes W (Pack d a b) C = absurd C
+  writes W (Getr d o i) C = absurd C
+  writes W (Geti d o i) C = absurd C
+  writes W (Cntr d o) C = absurd C
+  writes W (Cnti d o) C = absurd C
+  writes W (Freeze o) C = absurd C
+  writes W (Call g) C = absurd C
+  writes W (Par f g) C = absurd C
+  writes W Ret C = absurd C
+  writes W (Out a) C = absurd C
+
+  by : (kind : LastKind) (K : IsOfKind p m l' t S.task S.line kind) → (GoesOn kind → l'.machine.end ≡ None) → Makes p v v' m l' t h S.task S.line kind K → Idle (handed l')
+  by Private K on C =
+      let A : StepsAlone m l' t = subst (λ (z : Ledger). StepsAlone m z t) (sym S.after) (private_alone p m t K (steps_know p s t k l E.task E.knows (inr E.collects) E.at E.runs E.can S.private).sound) in
+      goes (on tt) (stays C (ap (λ (z : Ledger). (heap_of z t).worker) S.after ∙ (worker_step p s t m K ∙ E.held)) A.heaps)
+  by Reading K on C = goes (on tt) (stays C (ap (λ (z : Ledger). (heap_of z t).worker) K.goes ∙ E.held) K.alone.heaps)
+  by Writing K on C = goes (on tt) (held (ap (λ (z : Ledger). (heap_of z t).worker) K.goes ∙ E.held) (λ u ne. ap (λ (z : Ledger). heap_of z u) K.goes) (writes K S.line.instr C))
+  by Printing K on C = goes (on tt) (stays C (ap (λ (z : Ledger). (heap_of z t).worker) K.goes ∙ E.held) K.alone.heaps)
+  by Forking K on C = goes (on tt) (λ u r. (accounts u r, forked u r))
+    where
+      forked : (u : ℕ) → Rests l' u → (v'.homes u).begun ≡ None
+      forked u r =
+          let a : ℕ = length m.machine.tasks in
+          elim (cases_eq u t) [
+            | inl e ↦ ap (λ z. (v'.homes z).begun) e ∙ (ap (λ (z : Home). z.begun) C.home ∙ (ap (λ (z : Home). z.begun) (at_home v t h) ∙ own))
+            | inr nt ↦ elim (cases_eq u a) [
+              | inl e ↦ ap (λ z. (v'.homes z).begun) e ∙ ap (λ (z : Home). z.begun) C.left
+              | inr na ↦ elim (cases_eq u (a + 1)) [
+                | inl e ↦ ap (λ z. (v'.homes z).begun) e ∙ ap (λ (z : Home). z.begun) C.right
+                | inr nb ↦ ap (λ (z : Home). z.begun) (C.others u nt na nb) ∙ before u (ap (λ (z : Heap). z.worker) (sym (K.forks.heaps u nt na nb)) ∙ r)
+              ]
+            ]
+          ]
+  by Ending K on C = goes (on tt) (ended l' C.0 C.1 K.ends C.2 accounts)
+  by Joining K on C = goes (on tt) (λ u r. (accounts u r, joined u r))
+    where
+      joined : (u : ℕ) → Rests l' u → (v'.homes u).begun ≡ None
+      joined u r = elim (cases_eq u K.parent) [
+        | inl e ↦ ap (λ z. (v'.homes z).begun) e ∙ (C.2.begun ∙ before K.parent K.can.rests)
+        | inr np ↦ elim (cases_eq u K.left) [
+          | inl e ↦ ap (λ z. (v'.homes z).begun) e ∙ ap (λ (z : Home). z.begun) C.2.left
+          | inr nl ↦ elim (cases_eq u (K.left + 1)) [
+            | inl e ↦ ap (λ z. (v'.homes z).begun) e ∙ ap (λ (z : Home). z.begun) C.2.right
+            | inr nr ↦ ap (λ (z : Home). z.begun) (C.2.others u np nl nr) ∙ before u (ap (λ (z : Heap). z.worker) (sym (K.joins.heaps u np nl nr)) ∙ r)
+          ]
+        ]
+      ]
+  by Finishing K on C = subst Idle (sym (handed_done l l' t w k p s E K)) (ended (rested l' t) C.0 C.1 K.ends C.2 at)
+    where
+      at : (u : ℕ) → Rests (rested l' t) u → (heap_of (rested l' t) u).begun ≡ None
+      at u r = elim (cases_eq u t) [
+        | inl e ↦ ap (λ z. (heap_of (rested l' t) z).begun) e ∙ (rested_view (λ z. z.begun) (λ z. refl) l' t ∙ (ap (λ hs. (or_fresh (slice_get hs t)).begun) K.heaps ∙ still))
+        | inr ne ↦ ap (λ o. (or_fresh o).begun) (with_off l' t u let_go ne) ∙ accounts u (ap (λ o. (or_fresh o).worker) (sym (with_off l' t u let_go ne)) ∙ r)
+      ]
+  by Halting K on C =
+      subst Idle (sym (handed_halt m l' K)) (stays C (ap (λ hs. (or_fresh (slice_get hs t)).worker) K.heaps ∙ E.held) (λ u ne. ap (λ hs. or_fresh (slice_get hs u)) K.heaps))
+
+  pub ran_idle : Makes p v v' m l' t h S.task S.line S.kind S.last → Idle (handed l')
+  ran_idle = by S.kind S.last S.on

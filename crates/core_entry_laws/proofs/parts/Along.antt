@@ -1,0 +1,120 @@
+-- Any number of private steps, and the frame law for the private steps of another task.
+use Rattle.std.proofs.Common.{◌≡◌, ℕ, true, false, Some, length, slice_get, inl, inr, ap, sym, ◌∙◌}
+use Rattle.std.proofs.lemmas.Bool.{cases_eq}
+use Rattle.hh_lang.specs.Form.{ProgramText}
+use Rattle.run_trace.specs.Settings.{SettingsValue}
+use Rattle.hh_model.specs.declared.data.Task.{Task}
+use Rattle.hh_model.specs.declared.data.State.{State}
+use Rattle.hh_model.specs.Effect.{object_at, row_of}
+use Rattle.hh_model.specs.Step.{can_step, is_joined, is_on_path, is_running, is_waiting, owner_of}
+use Rattle.hh_model.proofs.Runs.{running_tells}
+use Rattle.run_ledger.specs.declared.data.Heap.{Heap}
+use Rattle.run_ledger.specs.declared.data.Ledger.{Ledger}
+use Rattle.run_ledger.specs.Heaps.{heap_of, or_fresh, let_go}
+use Rattle.run_ledger.specs.Steps.{task_steps}
+use Rattle.run_ledger.specs.Sound.{collecting}
+use Rattle.run_ledger.proofs.Machine.{heap_machine}
+use Rattle.core_relation.specs.Memory.{Memory}
+use Rattle.ledger_step_laws.specs.Accounts.{own, rested, StepsAlone, AlikeFor, Knows}
+use Rattle.core_relation.specs.Fits.{Part, FitsAt, ahead}
+use Rattle.core_relation.specs.Frames.{IsSteady}
+use Rattle.ledger_step_laws.proofs.Ahead.{with_at, heap_then}
+use Rattle.core_entry_laws.proofs.parts.Parts.{ahead_alone, ahead_sound}
+use Rattle.core_entry_laws.proofs.parts.Frame.{step_frame}
+use Rattle.ledger_step_laws.proofs.Along.{alike_steps}
+use Rattle.ledger_step_laws.proofs.Tree.{leaf_alone}
+
+-- THE FRAME LAW FOR PRIVATE STEPS: t steps from l to l', and the part of u has taken its steps by either account
+module _ (p : ProgramText) (s : SettingsValue) (q : Part) where
+  pub rested_alike : (l l' : Ledger) → AlikeFor q.task l l' → AlikeFor q.task (rested l q.task) (rested l' q.task)
+  rested_alike l l' A =
+      let e = heap_machine l q.task let_go in
+      let e' = heap_machine l' q.task let_go in
+      record {
+        limit = ap (λ (m : State). m.field_limit) e' ∙ (A.limit ∙ sym (ap (λ (m : State). m.field_limit) e));
+        end = ap (λ (m : State). m.end) e' ∙ (A.end ∙ sym (ap (λ (m : State). m.end) e));
+        task = ap (λ (m : State). slice_get m.tasks q.task) e' ∙ (A.task ∙ sym (ap (λ (m : State). slice_get m.tasks q.task) e));
+        heap = with_at l' q.task let_go ∙ (ap (heap_then let_go) A.heap ∙ sym (with_at l q.task let_go));
+        count = ap (λ (m : State). length (row_of (slice_get m.store q.task))) e' ∙ (A.count ∙ sym (ap (λ (m : State). length (row_of (slice_get m.store q.task))) e));
+        owned = λ n h. ap (λ (m : State). owner_of m.tasks n.task) e' ∙ A.owned n (sym (ap (λ (m : State). owner_of m.tasks n.task) e) ∙ h);
+        owned' = λ n h. ap (λ (m : State). owner_of m.tasks n.task) e ∙ A.owned' n (sym (ap (λ (m : State). owner_of m.tasks n.task) e') ∙ h);
+        store = λ n h. ap (λ (m : State). object_at m.store n) e' ∙ (A.store n (sym (ap (λ (m : State). owner_of m.tasks n.task) e) ∙ h) ∙ sym (ap (λ (m : State). object_at m.store n) e));
+        above = λ n h. ap (λ (m : State). is_on_path m.tasks (owner_of m.tasks n.task) q.task) e' ∙ A.above n (sym (ap (λ (m : State). is_on_path m.tasks (owner_of m.tasks n.task) q.task) e) ∙ h);
+        frozen = λ n y h i f.
+            ap (λ (m : State). object_at m.store n) e'
+            ∙ A.frozen n y (sym (ap (λ (m : State). is_on_path m.tasks (owner_of m.tasks n.task) q.task) e) ∙ h) (sym (ap (λ (m : State). object_at m.store n) e) ∙ i) f;
+      }
+
+  -- what changes from l to l' alone is what t owns, and so it is from k to k'
+  pub alone_ahead : (l l' k k' : Ledger) (t : ℕ) → StepsAlone l l' t → StepsAlone l k q.task → StepsAlone l' k' q.task → AlikeFor q.task k k' → StepsAlone k k' t
+  alone_ahead l l' k k' t B A A' E = record {
+    tree = record {
+      made = λ z. A'.tree.made z ∙ (B.tree.made z ∙ sym (A.tree.made z));
+      owners = λ a. A'.tree.owners a ∙ (B.tree.owners a ∙ sym (A.tree.owners a));
+      paths = λ a z. A'.tree.paths a z ∙ (B.tree.paths a z ∙ sym (A.tree.paths a z));
+      waits = λ z. A'.tree.waits z ∙ (B.tree.waits z ∙ sym (A.tree.waits z));
+      joins = λ z. A'.tree.joins z ∙ (B.tree.joins z ∙ sym (A.tree.joins z));
+    };
+    tasks = λ z ne. elim (cases_eq z q.task) [
+      | inl e ↦ ap (slice_get k'.machine.tasks) e ∙ (E.task ∙ ap (slice_get k.machine.tasks) (sym e))
+      | inr off ↦ A'.tasks z off ∙ (B.tasks z ne ∙ sym (A.tasks z off))
+    ];
+    heaps = λ z ne. elim (cases_eq z q.task) [
+      | inl e ↦ ap (heap_of k') e ∙ (ap or_fresh E.heap ∙ ap (heap_of k) (sym e))
+      | inr off ↦ A'.heaps z off ∙ (B.heaps z ne ∙ sym (A.heaps z off))
+    ];
+    rows = λ z ne. elim (cases_eq z q.task) [
+      | inl e ↦ ap (λ y. length (row_of (slice_get k'.machine.store y))) e ∙ (E.count ∙ ap (λ y. length (row_of (slice_get k.machine.store y))) (sym e))
+      | inr off ↦ A'.rows z off ∙ (B.rows z ne ∙ sym (A.rows z off))
+    ];
+    store = λ n ne. elim (cases_eq (own k n) q.task) [
+      | inl e ↦ E.store n e
+      | inr off ↦
+          let e : own k n ≡ own l n = A.tree.owners n.task in
+          let e' : own l' n ≡ own l n = B.tree.owners n.task in
+          A'.store n (λ h. off (e ∙ (sym e' ∙ h))) ∙ (B.store n (λ h. ne (e ∙ h)) ∙ sym (A.store n (λ h. off (e ∙ h))))
+    ];
+  }
+
+  -- t, which isn't above u, steps alone: so the two accounts are alike for u
+  pub alike_alone : (l l' : Ledger) (t : ℕ) → (t ≡ q.task → ⊥) → (is_on_path l.machine.tasks t q.task ≡ true → ⊥) → StepsAlone l l' t → l'.machine.field_limit ≡ l.machine.field_limit → l'.machine.end ≡ l.machine.end → slice_get l'.heaps q.task ≡ slice_get l.heaps q.task → AlikeFor q.task l l'
+  alike_alone l l' t ne low B limit end heap =
+      let off : q.task ≡ t → ⊥ = λ e. ne (sym e) in
+      record {
+        limit = limit;
+        end = end;
+        task = B.tasks q.task off;
+        heap = heap;
+        count = B.rows q.task off;
+        owned = λ n h. B.tree.owners n.task ∙ h;
+        owned' = λ n h. sym (B.tree.owners n.task) ∙ h;
+        store = λ n h. B.store n (λ e. ne (sym e ∙ h));
+        above = λ n h. B.tree.paths (own l' n) q.task ∙ (ap (λ a. is_on_path l.machine.tasks a q.task) (B.tree.owners n.task) ∙ h);
+        frozen = λ n y h e f. B.store n (λ o. low (ap (λ a. is_on_path l.machine.tasks a q.task) (sym o) ∙ h)) ∙ e;
+      }
+
+  -- a part of another task that steps alone keeps fitting
+  pub fits_alone : (v : Memory) (l l' : Ledger) (t w : ℕ) (x : Task) → (t ≡ q.task → ⊥) → StepsAlone l l' t → l'.machine.field_limit ≡ l.machine.field_limit → l'.machine.end ≡ l.machine.end → slice_get l'.heaps q.task ≡ slice_get l.heaps q.task
+      → (heap_of l t).worker ≡ Some w → (heap_of l' t).worker ≡ Some w → is_waiting (slice_get l.machine.tasks t) ≡ false
+      → Knows l → Knows l' → IsSteady q l → slice_get l.machine.tasks q.task ≡ Some x → is_running (Some x) ≡ true → can_step l.machine q.task ≡ true → FitsAt p s q v l → FitsAt p s q v l'
+  fits_alone v l l' t w x ne B limit end heap out out' idle K K' c is run can F =
+      let live : is_joined (slice_get l.machine.tasks q.task) ≡ false = ap is_joined is ∙ (running_tells x.status run).0 in
+      let A : AlikeFor q.task l l' = alike_alone l l' t ne (λ h. ne (leaf_alone l K.sound t q.task idle live h)) B limit end heap in
+      let a = alike_steps p s q.task q.fresh l l' x K K' c A is run can F.private in
+      let E : AlikeFor q.task (ahead p q l) (ahead p q l') = rested_alike (task_steps p l q.task q.fresh) (task_steps p l' q.task q.fresh) a.1 in
+      let c' : IsSteady q l' = steady c in
+      let N = ahead_alone p s q l K.sound c F.private in
+      let N' = ahead_alone p s q l' K'.sound c' a.0 in
+      record {
+        worker = F.worker;
+        out = ap (λ o. (or_fresh o).worker) heap ∙ F.out;
+        few = F.few;
+        private = a.0;
+        stands =
+            step_frame v (ahead p q l) (ahead p q l') t w q.task q.home (ahead_sound p s q l K.sound c) (alone_ahead l l' (ahead p q l) (ahead p q l') t B N N' E)
+            (ap (λ (i : Heap). i.worker) (N.heaps t ne) ∙ out) (ap (λ (i : Heap). i.worker) (N'.heaps t ne) ∙ out') (N.tree.waits t ∙ idle) F.stands;
+      }
+    where
+      steady : IsSteady q l → IsSteady q l'
+      steady (inl e) = inl e
+      steady (inr e) = inr (ap collecting heap ∙ e)

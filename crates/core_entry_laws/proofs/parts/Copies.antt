@@ -1,0 +1,172 @@
+-- A copied part fits for the end of its collection alone, and after it fits.
+use Rattle.std.proofs.Common.{◌≡◌, ℕ, Option, Some, None, map, length, slice_get, refl, ap, sym, subst, ◌∙◌, arith, is_some}
+use Rattle.std.proofs.lemmas.Option.{same_Some}
+use Rattle.object_layout.specs.declared.word.Addr.{Addr}
+use Rattle.hh_lang.specs.Form.{ProgramText}
+use Rattle.run_trace.specs.Settings.{SettingsValue}
+use Rattle.hh_model.specs.declared.data.Status.TheVariants.{Running}
+use Rattle.hh_model.specs.declared.data.Task.{Task}
+use Rattle.hh_model.specs.declared.data.State.{State}
+use Rattle.hh_model.specs.Effect.{row_of}
+use Rattle.hh_model.specs.Step.{is_joined}
+use Rattle.run_ledger.specs.declared.data.Heap.{Heap}
+use Rattle.run_ledger.specs.declared.data.Ledger.{Ledger}
+use Rattle.run_ledger.specs.Heaps.{heap_of, or_fresh, let_go, collected, with_heap}
+use Rattle.run_ledger.specs.Sound.{SoundLedger}
+use Rattle.run_ledger.proofs.Machine.{heap_machine}
+use Rattle.core_relation.specs.Memory.{Home, Memory, In, object_name, objects_in, sources, copied_object, led_frame, rewritten_home}
+use Rattle.core_relation.specs.Layout.{AreLaidOut}
+use Rattle.core_relation.specs.Stands.{names_of, small_chunks, large_chunks, HasNames, HomeStands, Stands}
+use Rattle.core_relation.specs.Fits.{Part, FitsAt, with_home, ahead}
+use Rattle.ledger_step_laws.specs.Accounts.{rested, ChangesHeap}
+use Rattle.core_relation.specs.Changes.{Moves}
+use Rattle.core_relation.specs.Whole.{BegunBy}
+use Rattle.core_relation.specs.Copies.{PartFits, before, CopyFits, EndsAt}
+use Rattle.ledger_step_laws.proofs.Ahead.{with_off, with_at, heap_then}
+use Rattle.core_entry_laws.proofs.notes.Begun.{begun_stays}
+use Rattle.core_relation.proofs.changes.Collect.{collected as collection}
+use Rattle.ledger_step_laws.proofs.Rested.{rested_worker, rested_view, rested_sound}
+use Rattle.ledger_step_laws.proofs.Entries.{end_changes}
+use Rattle.task_machine.specs.declared.part.Begun.{Begun}
+use Rattle.core_relation.proofs.changes.With.{at_home, off_home}
+
+-- a begun collection stands past what leaves its part
+pub begun_by_stays : (v v' : Memory) (l l' : Ledger) (t : ℕ) (o : Option Begun) → v'.homes t ≡ v.homes t → ((k : ℕ) → v.owner k ≡ Some t → v'.owner k ≡ Some t) → heap_of l' t ≡ heap_of l t → BegunBy v l t o → BegunBy v' l' t o
+begun_by_stays v v' l l' t None home owner heap B = ap (λ (h : Heap). h.begun) heap ∙ B
+begun_by_stays v v' l l' t (Some b) home owner heap B = begun_stays v v' l l' t b home owner heap B
+
+-- so what others enter leaves a part with its collection fitting, where it leaves it fitting
+pub part_stays : (p : ProgramText) (s : SettingsValue) (q : Part) (v v' : Memory) (l l' : Ledger) → ((k : ℕ) → v.owner k ≡ Some q.task → v'.owner k ≡ Some q.task) → heap_of (ahead p q l') q.task ≡ heap_of (ahead p q l) q.task → FitsAt p s q v' l' → PartFits p s q v l → PartFits p s q v' l'
+part_stays p s q v v' l l' owner heap F G = record {
+  fits = F;
+  begun = begun_by_stays (with_home v q.task q.home) (with_home v' q.task q.home) (ahead p q l) (ahead p q l') q.task q.home.begun (at_home v' q.task q.home ∙ sym (at_home v q.task q.home)) owner heap G.begun;
+}
+
+pub rested_heap : (l l' : Ledger) (t : ℕ) → slice_get l'.heaps t ≡ slice_get l.heaps t → heap_of (rested l' t) t ≡ heap_of (rested l t) t
+rested_heap l l' t e = ap or_fresh (with_at l' t let_go ∙ (ap (heap_then let_go) e ∙ sym (with_at l t let_go)))
+
+-- and a copy
+pub copy_stays : (p : ProgramText) (s : SettingsValue) (t : ℕ) (h h' : Home) (f : Addr → Addr) (v v' : Memory) (l l' : Ledger) → ((k : ℕ) → v.owner k ≡ Some t → v'.owner k ≡ Some t) → slice_get l'.heaps t ≡ slice_get l.heaps t
+    → collected l'.machine (heap_of l t) ≡ collected l.machine (heap_of l t) → FitsAt p s (before s t h) v' l' → CopyFits p s t h h' f v l → CopyFits p s t h h' f v' l'
+copy_stays p s t h h' f v v' l l' owner heap same F C =
+    let e : heap_of l' t ≡ heap_of l t = ap or_fresh heap in
+    let a : collected l'.machine (heap_of l' t) ≡ collected l.machine (heap_of l t) = ap (collected l'.machine) e ∙ same in
+    record {
+      old = part_stays p s (before s t h) v v' l l' owner (rested_heap l l' t heap) F C.old;
+      collects = ap (λ (z : Heap). is_some z.begun) e ∙ C.collects;
+      copy = record {
+        names = subst (HasNames h'.chunks) (sym a) C.copy.names;
+        room = C.copy.room ∙ ap (λ (z : Heap). z.room) (sym a);
+        since = C.copy.since;
+        count = C.copy.count;
+        inside = C.copy.inside;
+        once = C.copy.once;
+        named = C.copy.named;
+        laid = subst (λ (z : Heap). AreLaidOut h'.chunks z.reserved) (sym e) C.copy.laid;
+        owned = λ c i. owner c.number (C.copy.owned c i);
+        kept = λ o i j. C.copy.kept o i (subst (λ (z : Heap). In z.survivors (object_name o)) e j);
+        only = λ o i. (let r = C.copy.only o i in (r.0, r.1, subst (λ (z : Heap). In z.survivors (object_name r.0)) (sym e) r.2, r.3));
+        frames = C.copy.frames;
+        view = C.copy.view;
+        same = C.copy.same;
+      };
+    }
+
+-- THE END OF THE COLLECTION
+
+module _ (p : ProgramText) (s : SettingsValue) (t : ℕ) (h h' : Home) (f : Addr → Addr) (v v' : Memory) (l : Ledger) (x : Task) (w : ℕ) (S : SoundLedger l) (is : slice_get l.machine.tasks t ≡ Some x) (runs : x.status ≡ Running)
+    (hs : Heap) (there : slice_get l.heaps t ≡ Some hs) (C : CopyFits p s t h h' f v l) (E : EndsAt v v' t h' f) where
+  abbrev l' : Ledger
+  l' = with_heap l t (collected l.machine)
+
+  abbrev lt : Ledger
+  lt = rested l t
+
+  abbrev lt' : Ledger
+  lt' = rested l' t
+
+  abbrev V : Memory
+  V = with_home v t h
+
+  abbrev V' : Memory
+  V' = with_home v' t h'
+
+  machine' : l'.machine ≡ l.machine
+  machine' = heap_machine l t (collected l.machine)
+
+  ends : ChangesHeap l l' t
+  ends = end_changes l t
+
+  heap' : heap_of l' t ≡ collected l.machine (heap_of l t)
+  heap' = ap or_fresh (with_at l t (collected l.machine) ∙ ap (heap_then (collected l.machine)) there) ∙ ap (λ o. collected l.machine (or_fresh o)) (sym there)
+
+  pub rested_changes : ChangesHeap lt lt' t
+  rested_changes = record {
+    machine = heap_machine l' t let_go ∙ (ends.machine ∙ sym (heap_machine l t let_go));
+    others = λ u nu. ap or_fresh (with_off l' t u let_go nu) ∙ (ends.others u nu ∙ ap or_fresh (sym (with_off l t u let_go nu)));
+    worker = rested_worker l' t ∙ sym (rested_worker l t);
+    snapshot = rested_view (λ h. h.snapshot) (λ h. refl) l' t ∙ (ends.snapshot ∙ sym (rested_view (λ h. h.snapshot) (λ h. refl) l t));
+  }
+
+  survivors : (heap_of lt t).survivors ≡ (heap_of l t).survivors
+  survivors = rested_view (λ h. h.survivors) (λ h. refl) l t
+
+  new_home : V'.homes t ≡ h'
+  new_home = at_home v' t h'
+
+  old_home : V.homes t ≡ h
+  old_home = at_home v t h
+
+  H : HomeStands V lt t
+  H = C.old.fits.stands.homes t (rested_worker l t)
+
+  home : HomeStands V' lt' t
+  home = record {
+    names = record {
+      small = ap (λ (z : Home). map names_of (small_chunks z.chunks)) new_home ∙ (C.copy.names.small ∙ (ap (λ (z : Heap). z.chunks) (sym heap') ∙ sym (rested_view (λ z. z.chunks) (λ z. refl) l' t)));
+      large = ap (λ (z : Home). map object_name (objects_in (large_chunks z.chunks))) new_home ∙ (C.copy.names.large ∙ (ap (λ (z : Heap). z.large) (sym heap') ∙ sym (rested_view (λ z. z.large) (λ z. refl) l' t)));
+    };
+    room = ap (λ (z : Home). z.room) new_home ∙ (C.copy.room ∙ (ap (λ (z : Heap). z.room) (sym heap') ∙ sym (rested_view (λ z. z.room) (λ z. refl) l' t)));
+    since = ap (λ (z : Home). z.since) new_home ∙ (C.copy.since ∙ (ap (λ (z : Heap). z.since) (sym heap') ∙ sym (rested_view (λ z. z.since) (λ z. refl) l' t)));
+    count = λ live.
+        ap (λ (z : Home). z.count) new_home
+        ∙ (C.copy.count ∙ (sym (ap (λ (z : Home). z.count) old_home) ∙ (H.count (sym (ap (λ (m : State). is_joined (slice_get m.tasks t)) rested_changes.machine) ∙ live) ∙ sym (ap (λ (m : State). length (row_of (slice_get m.store t))) rested_changes.machine))));
+    owned = λ c i. E.mine c (subst (λ (z : Home). In z.chunks c) new_home i);
+    inside = λ c o i j. C.copy.inside c o (subst (λ (z : Home). In z.chunks c) new_home i) j;
+    once = λ o q i j e. C.copy.once o q (subst (λ (z : Home). In (objects_in z.chunks) o) new_home i) (subst (λ (z : Home). In (objects_in z.chunks) q) new_home j) e;
+    named = λ o q i j e. C.copy.named o q (subst (λ (z : Home). In (objects_in z.chunks) o) new_home i) (subst (λ (z : Home). In (objects_in z.chunks) q) new_home j) e;
+    laid = subst (λ (z : Home). AreLaidOut z.chunks (heap_of lt' t).reserved) (sym new_home) (subst (AreLaidOut h'.chunks) (sym (rested_view (λ z. z.reserved) (λ z. refl) l' t ∙ ap (λ (z : Heap). z.reserved) heap')) C.copy.laid);
+  }
+
+  pub moves : Moves V V' lt lt' t (heap_of lt t).survivors f
+  moves = record {
+    home = home;
+    kept = λ o i j. subst (λ (z : Home). In (objects_in z.chunks) (copied_object f o)) (sym new_home) (C.copy.kept o (subst (λ (z : Home). In (objects_in z.chunks) o) old_home i) (subst (λ ns. In ns (object_name o)) survivors j));
+    only = λ o i.
+        let r = C.copy.only o (subst (λ (z : Home). In (objects_in z.chunks) o) new_home i) in
+        (r.0, subst (λ (z : Home). In (objects_in z.chunks) r.0) (sym old_home) r.1, subst (λ ns. In ns (object_name r.0)) (sym survivors) r.2, r.3);
+    frames = ap (λ (z : Home). z.frames) new_home ∙ (C.copy.frames ∙ ap (λ (z : Home). map (led_frame f) z.frames) (sym old_home));
+    view = ap (λ (z : Home). z.view) new_home ∙ (C.copy.view ∙ ap (λ (z : Home). z.view) (sym old_home));
+    others = λ u nu. off_home v' t h' u nu ∙ (E.others u nu ∙ ap (rewritten_home f (sources v t)) (sym (off_home v t h u nu)));
+    same = λ a u nu o. C.copy.same a (λ c i e. nu (same_Some u t (sym o ∙ (ap v.owner (sym e) ∙ H.owned c (subst (λ (z : Home). In z.chunks c) (sym old_home) i)))));
+    owners = E.owners;
+    owned = E.owned;
+    sources = E.sources;
+  }
+
+  stands : Stands V' lt'
+  stands =
+      collection V V' lt lt' t x f (rested_sound l t S) C.old.fits.stands
+      (record {
+        task = ap (λ (m : State). slice_get m.tasks t) (heap_machine l t let_go) ∙ is;
+        runs = runs;
+        begun = rested_view (λ z. is_some z.begun) (λ z. refl) l t ∙ C.collects;
+        rests = rested_worker l t;
+      }) rested_changes moves
+
+  -- after the end it fits, and has begun no collection
+  pub copy_fits : h'.begun ≡ None → PartFits p s (before s t h') v' l'
+  copy_fits none = record {
+    fits = record { worker = C.old.fits.worker; out = ends.worker ∙ C.old.fits.out; few = omega arith; private = tt; stands = stands };
+    begun = subst (BegunBy V' lt' t) (sym none) (rested_view (λ z. z.begun) (λ z. refl) l' t ∙ ap (λ (z : Heap). z.begun) heap');
+  }

@@ -1,0 +1,92 @@
+-- Two parts that fit a memory fit it together.
+use Rattle.std.proofs.Common.{◌≡◌, true, false, Some, inl, inr, ap, sym, ◌∙◌}
+use Rattle.hh_lang.specs.Form.{ProgramText}
+use Rattle.run_trace.specs.Settings.{SettingsValue}
+use Rattle.hh_model.specs.declared.data.Task.{Task}
+use Rattle.hh_model.specs.declared.data.State.{State}
+use Rattle.hh_model.specs.Step.{is_running, is_waiting, is_joined}
+use Rattle.hh_model.proofs.Runs.{running_tells}
+use Rattle.run_ledger.specs.declared.data.Ledger.{Ledger}
+use Rattle.run_ledger.specs.Heaps.{let_go}
+use Rattle.run_ledger.specs.Steps.{task_steps}
+use Rattle.run_ledger.specs.Sound.{collecting}
+use Rattle.run_ledger.proofs.Machine.{heap_machine}
+use Rattle.core_relation.specs.Memory.{Memory}
+use Rattle.core_relation.specs.Stands.{Stands}
+use Rattle.core_relation.specs.Fits.{Part, FitsAt, ahead, with_home}
+use Rattle.ledger_step_laws.specs.Accounts.{ArePrivate, StepsAlone, AlikeFor, Knows}
+use Rattle.core_relation.specs.Frames.{IsSteady, IsOut, Beside}
+use Rattle.ledger_step_laws.proofs.Ahead.{with_off}
+use Rattle.ledger_step_laws.proofs.Along.{alike_steps, steps_limit, steps_end, steps_off, steps_know}
+use Rattle.core_entry_laws.proofs.parts.Along.{rested_alike, alone_ahead, alike_alone}
+use Rattle.core_entry_laws.proofs.parts.Beside.{together}
+use Rattle.core_entry_laws.proofs.parts.Parts.{ahead_alone, ahead_sound}
+use Rattle.ledger_step_laws.proofs.Rested.{rested_knows}
+use Rattle.ledger_step_laws.proofs.Tree.{leaf_alone}
+
+pub knows_ahead : (p : ProgramText) (s : SettingsValue) (q : Part) (v : Memory) (l : Ledger) (x : Task) → Knows l → FitsAt p s q v l → IsOut l q x → Knows (ahead p q l)
+knows_ahead p s q v l x K F O = rested_knows (task_steps p l q.task q.fresh) q.task (steps_know p s q.task q.fresh l x K O.steady O.task O.runs O.can F.private)
+
+module _ (p : ProgramText) (s : SettingsValue) (q r : Part) (v : Memory) (l : Ledger) (x y : Task) (K : Knows l) (F : FitsAt p s q v l) (G : FitsAt p s r v l) (O : IsOut l q x) (P : IsOut l r y) (ne : q.task ≡ r.task → ⊥) where
+  abbrev lq : Ledger
+  lq = ahead p q l
+
+  abbrev lr : Ledger
+  lr = ahead p r l
+
+  -- both have taken their steps
+  abbrev both : Ledger
+  both = ahead p r lq
+
+  pub off : r.task ≡ q.task → ⊥
+  off e = ne (sym e)
+
+  pub knows : Knows lq
+  knows = rested_knows (task_steps p l q.task q.fresh) q.task (steps_know p s q.task q.fresh l x K O.steady O.task O.runs O.can F.private)
+
+  pub N : StepsAlone l lq q.task
+  N = ahead_alone p s q l K.sound O.steady F.private
+
+  pub alike : AlikeFor r.task l lq
+  alike =
+      let e = heap_machine (task_steps p l q.task q.fresh) q.task let_go in
+      alike_alone p s r l lq q.task ne
+      (λ h. ne (leaf_alone l K.sound q.task r.task (ap is_waiting O.task ∙ (running_tells x.status O.runs).1) (ap is_joined P.task ∙ (running_tells y.status P.runs).0) h)) N (ap (λ (m : State). m.field_limit) e ∙ steps_limit p s q.task q.fresh l F.private) (ap (λ (m : State). m.end) e ∙ steps_end p s q.task q.fresh l F.private)
+      (with_off (task_steps p l q.task q.fresh) q.task r.task let_go off ∙ steps_off p s q.task q.fresh l r.task off F.private)
+
+  pub then_ : ArePrivate p s lq r.task r.fresh × AlikeFor r.task (task_steps p l r.task r.fresh) (task_steps p lq r.task r.fresh)
+  then_ = alike_steps p s r.task r.fresh l lq y K knows P.steady alike P.task P.runs P.can G.private
+
+  pub steady : IsSteady r lq
+  steady = by P.steady
+    where
+      by : IsSteady r l → IsSteady r lq
+      by (inl e) = inl e
+      by (inr e) = inr (ap collecting alike.heap ∙ e)
+
+  M : StepsAlone l lr r.task
+  M = ahead_alone p s r l K.sound P.steady G.private
+
+  pub more : StepsAlone lq both r.task
+  more = ahead_alone p s r lq knows.sound steady then_.0
+
+  pub tells : (z : Task) → is_running (Some z) ≡ true → (is_joined (Some z) ≡ false) × (is_waiting (Some z) ≡ false)
+  tells z h = running_tells z.status h
+
+  pub beside : Beside lq lr both q.task r.task
+  beside = record {
+    apart = ne;
+    sound_t = knows.sound;
+    sound_u = ahead_sound p s r l K.sound P.steady;
+    sound = ahead_sound p s r lq knows.sound steady;
+    steps_t = more;
+    steps_u = alone_ahead p s r l lq lr both q.task N M more (rested_alike p s r (task_steps p l r.task r.fresh) (task_steps p lq r.task r.fresh) then_.1);
+    idle_t = more.tree.waits q.task ∙ (N.tree.waits q.task ∙ (ap is_waiting O.task ∙ (tells x O.runs).1));
+    idle_u = more.tree.waits r.task ∙ (N.tree.waits r.task ∙ (ap is_waiting P.task ∙ (tells y P.runs).1));
+    live_t = more.tree.joins q.task ∙ (N.tree.joins q.task ∙ (ap is_joined O.task ∙ (tells x O.runs).0));
+    live_u = more.tree.joins r.task ∙ (N.tree.joins r.task ∙ (ap is_joined P.task ∙ (tells y P.runs).0));
+  }
+
+  -- so the memory with both homes stands for the accounts with the steps of both
+  pub fit_together : Stands (with_home (with_home v q.task q.home) r.task r.home) both
+  fit_together = together v lq lr both q.task r.task q.home r.home beside F.stands G.stands

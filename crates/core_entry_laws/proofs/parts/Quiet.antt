@@ -1,0 +1,170 @@
+-- Entries that move nothing, and those by which a worker takes a task, leave each part fitting.
+use Rattle.std.proofs.Common.{◌≡◌, ℕ, false, Some, None, length, slice_get, inl, inr, refl, ap, sym, subst, ◌∙◌}
+use Rattle.std.proofs.lemmas.Bool.{cases_eq}
+use Rattle.listed.proofs.Options.{none_some}
+use Rattle.hh_lang.specs.Form.{ProgramText}
+use Rattle.run_trace.specs.Settings.{SettingsValue}
+use Rattle.hh_model.specs.declared.data.State.{State}
+use Rattle.hh_model.specs.Effect.{row_of}
+use Rattle.hh_model.specs.Step.{is_joined, is_waiting}
+use Rattle.run_ledger.specs.declared.data.Heap.{Heap}
+use Rattle.run_ledger.specs.declared.data.Ledger.{Ledger}
+use Rattle.run_ledger.specs.Heaps.{heap_of, or_fresh}
+use Rattle.run_ledger.specs.Steps.{task_steps}
+use Rattle.run_ledger.specs.Sound.{Sound, SoundLedger, collecting}
+use Rattle.core_relation.specs.Memory.{Home, Memory, objects_in}
+use Rattle.ledger_step_laws.specs.Accounts.{Rests, aside, ArePrivate, StepsAlone, Takes, SameTasks}
+use Rattle.core_relation.specs.Stands.{HomeStands}
+use Rattle.core_relation.specs.Fits.{StillFits, Part, FitsAt, ahead, with_home}
+use Rattle.core_relation.specs.Changes.{SameBut, SameObjects}
+use Rattle.core_relation.specs.Frames.{IsSteady}
+use Rattle.ledger_step_laws.specs.Last.{Halts}
+use Rattle.ledger_step_laws.proofs.Ahead.{SameOf}
+use Rattle.core_relation.proofs.changes.Alone.{home_kept}
+use Rattle.ledger_step_laws.proofs.Rested.{rested_worker}
+use Rattle.core_entry_laws.proofs.parts.Parts.{ahead_alone, ahead_same}
+use Rattle.core_relation.proofs.changes.Release.{released}
+use Rattle.core_relation.proofs.changes.Renew.{renewed}
+use Rattle.core_relation.proofs.changes.With.{at_home, off_home}
+
+module _ (p : ProgramText) (s : SettingsValue) (q : Part) (v : Memory) (l l' : Ledger) (S : SoundLedger l) (S' : SoundLedger l') (c : IsSteady q l) (E : SameOf q.task l l') (F : FitsAt p s q v l) where
+  abbrev u : ℕ
+  u = q.task
+
+  abbrev k : Ledger
+  k = ahead p q l
+
+  abbrev k' : Ledger
+  k' = ahead p q l'
+
+  then_ : ArePrivate p s l' u q.fresh × SameOf u k k'
+  then_ = ahead_same p s q l l' E F.private
+
+  steady' : IsSteady q l'
+  steady' = by c
+    where
+      by : IsSteady q l → IsSteady q l'
+      by (inl e) = inl e
+      by (inr e) = inr (ap collecting E.heap ∙ e)
+
+  N : StepsAlone l k u
+  N = ahead_alone p s q l S c F.private
+
+  N' : StepsAlone l' k' u
+  N' = ahead_alone p s q l' S' steady' then_.0
+
+  -- the same of each heap, of u's or of another
+  heap_too : {A : Type 0} (view : Heap → A) (z : ℕ) → view (heap_of l' z) ≡ view (heap_of l z) → view (heap_of k' z) ≡ view (heap_of k z)
+  heap_too view z e = elim (cases_eq z u) [
+    | inl f ↦ ap (λ j. view (heap_of k' j)) f ∙ (ap (λ o. view (or_fresh o)) then_.1.heap ∙ ap (λ j. view (heap_of k j)) (sym f))
+    | inr ne ↦ ap view (N'.heaps z ne) ∙ (e ∙ ap view (sym (N.heaps z ne)))
+  ]
+
+  out' : (heap_of l' u).worker ≡ Some F.worker
+  out' = ap (λ o. (or_fresh o).worker) E.heap ∙ F.out
+
+  -- a worker takes another task
+  pub fits_took : (v' : Memory) (t w : ℕ) → Rests l t → is_waiting (slice_get l.machine.tasks t) ≡ false → Takes l l' t w → SameBut v v' t → FitsAt p s q v' l'
+  fits_took v' t w rests idle L C =
+      let ne : t ≡ u → ⊥ = λ e. none_some (sym rests ∙ (ap (λ j. (heap_of l j).worker) e ∙ F.out)) in
+      record {
+        worker = F.worker;
+        out = out';
+        few = F.few;
+        private = then_.0;
+        stands = released (with_home v u q.home) (with_home v' u q.home) k k' t w F.stands (N.tree.waits t ∙ idle)
+            (record { machine = then_.1.machine; worker = ap (λ (h : Heap). h.worker) (N'.heaps t ne) ∙ L.worker; heaps = λ z nz. heap_too (λ h. h) z (L.heaps z nz) })
+            (record {
+              homes = λ z nz. elim (cases_eq z u) [
+                | inl f ↦ ap (with_home v' u q.home).homes f ∙ (at_home v' u q.home ∙ (sym (at_home v u q.home) ∙ ap (with_home v u q.home).homes (sym f)))
+                | inr nu ↦ off_home v' u q.home z nu ∙ (C.homes z nz ∙ sym (off_home v u q.home z nu))
+              ];
+              owner = C.owner;
+              sources = C.sources;
+            });
+      }
+
+  -- nothing changes
+  pub fits_same : l'.machine ≡ l.machine → ((z : ℕ) → heap_of l' z ≡ heap_of l z) → FitsAt p s q v l'
+  fits_same m heaps = record {
+    worker = F.worker;
+    out = out';
+    few = F.few;
+    private = then_.0;
+    stands = renewed (with_home v u q.home) (with_home v u q.home) k k' F.stands
+        (record { machine = then_.1.machine; worker = λ z. heap_too (λ h. h.worker) z (ap (λ (h : Heap). h.worker) (heaps z)); snapshot = λ z. heap_too (λ h. h.snapshot) z (ap (λ (h : Heap). h.snapshot) (heaps z)) })
+        (record {
+          home = λ z r.
+              let e : heap_of k' z ≡ heap_of k z = heap_too (λ h. h) z (heaps z) in
+              home_kept (with_home v u q.home) (with_home v u q.home) k k' z refl (λ i e. e) e (ap (λ (m : State). length (row_of (slice_get m.store z))) then_.1.machine) (ap (λ (m : State). is_joined (slice_get m.tasks z)) then_.1.machine) (F.stands.homes z (ap (λ (h : Heap). h.worker) (sym e) ∙ r));
+          objects = λ z. refl;
+          chunks = λ z e. refl;
+          frames = λ z. refl;
+          result = λ z. refl;
+          view = λ z. refl;
+          owner = λ i z e. e;
+          taken = λ i z e. inl e;
+          begun = λ z e. refl;
+          sources = λ z. refl;
+        });
+  }
+
+  -- nothing moves
+  pub fits_quiet : (v' : Memory) → SameTasks l l' → SameObjects v v' l l' → FitsAt p s q v' l'
+  fits_quiet v' L C = record {
+    worker = F.worker;
+    out = out';
+    few = F.few;
+    private = then_.0;
+    stands = renewed (with_home v u q.home) (with_home v' u q.home) k k' F.stands
+        (record { machine = then_.1.machine; worker = λ z. heap_too (λ h. h.worker) z (L.worker z); snapshot = λ z. heap_too (λ h. h.snapshot) z (L.snapshot z) })
+        (record {
+          home = home;
+          objects = λ z. seen (λ h. objects_in h.chunks) z (C.objects z);
+          chunks = λ z e. seen (λ h. length h.chunks) z (C.chunks z (sym (N.tree.waits z) ∙ e));
+          frames = λ z. seen (λ h. h.frames) z (C.frames z);
+          result = λ z. seen (λ h. h.result) z (C.result z);
+          view = λ z. seen (λ h. h.view) z (C.view z);
+          owner = C.owner;
+          taken = λ i z e. elim (C.taken i z e) [ inl old ↦ inl old | inr new ↦ inr (N.tree.waits z ∙ new.0, N.tree.made z ∙ new.1) ];
+          begun = begun;
+          sources = C.sources;
+        });
+  }
+    where
+      seen : {A : Type 0} (view : Home → A) (z : ℕ) → view (v'.homes z) ≡ view (v.homes z) → view ((with_home v' u q.home).homes z) ≡ view ((with_home v u q.home).homes z)
+      seen view z e = elim (cases_eq z u) [
+        | inl f ↦ ap (λ j. view ((with_home v' u q.home).homes j)) f ∙ (ap view (at_home v' u q.home) ∙ (ap view (sym (at_home v u q.home)) ∙ ap (λ j. view ((with_home v u q.home).homes j)) (sym f)))
+        | inr ne ↦ ap view (off_home v' u q.home z ne) ∙ (e ∙ ap view (sym (off_home v u q.home z ne)))
+      ]
+
+      begun : (z : ℕ) → (heap_of k' z).begun ≡ (heap_of k z).begun → ((with_home v' u q.home).homes z).begun ≡ ((with_home v u q.home).homes z).begun
+      begun z e = elim (cases_eq z u) [
+        | inl f ↦ ap (λ j. ((with_home v' u q.home).homes j).begun) f ∙ (ap (λ (h : Home). h.begun) (at_home v' u q.home) ∙ (ap (λ (h : Home). h.begun) (sym (at_home v u q.home)) ∙ ap (λ j. ((with_home v u q.home).homes j).begun) (sym f)))
+        | inr ne ↦
+            ap (λ (h : Home). h.begun) (off_home v' u q.home z ne)
+            ∙ (C.begun z (ap (λ (h : Heap). h.begun) (sym (N'.heaps z ne)) ∙ (e ∙ ap (λ (h : Heap). h.begun) (N.heaps z ne))) ∙ ap (λ (h : Home). h.begun) (sym (off_home v u q.home z ne)))
+      ]
+
+      home : (z : ℕ) → Rests k' z → HomeStands (with_home v' u q.home) k' z
+      home z r = elim (cases_eq z u) [
+        | inl f ↦
+            let rests : Rests k u = rested_worker (task_steps p l u q.fresh) u in
+            subst (HomeStands (with_home v' u q.home) k') (sym f)
+            (home_kept (with_home v u q.home) (with_home v' u q.home) k k' u (at_home v' u q.home ∙ sym (at_home v u q.home)) (λ i e. C.owner i u e) (ap or_fresh then_.1.heap)
+            (ap (λ (m : State). length (row_of (slice_get m.store u))) then_.1.machine) (ap (λ (m : State). is_joined (slice_get m.tasks u)) then_.1.machine) (F.stands.homes u rests))
+        | inr ne ↦
+            home_kept v' (with_home v' u q.home) l' k' z (off_home v' u q.home z ne) (λ i e. e) (N'.heaps z ne) (N'.rows z ne) (N'.tree.joins z) (C.home z (ap (λ (h : Heap). h.worker) (sym (N'.heaps z ne)) ∙ r))
+      ]
+
+-- THE RUN ENDS
+
+pub aside_is : (l : Ledger) → l.machine.end ≡ None → aside l ≡ l
+aside_is l e = λ i. record l { machine = record l.machine { end = sym e i } }
+
+pub fits_halt : (p : ProgramText) (s : SettingsValue) (v : Memory) (l l' : Ledger) → SoundLedger l → l.machine.end ≡ None → Halts l l' → (r : Part) → IsSteady r l → FitsAt p s r v l → StillFits p s r v l'
+fits_halt p s v l l' S on H r c F =
+    let m : (aside l').machine ≡ l.machine = ap (λ (z : State). record z { end = None }) H.machine ∙ ap (λ (z : Ledger). z.machine) (aside_is l on) in
+    let S' : SoundLedger (aside l') =
+    subst (λ (z : State). Sound z.tasks z.edges z.store l'.heaps) (sym m) (subst (λ hs. Sound l.machine.tasks l.machine.edges l.machine.store hs) (sym H.heaps) S) in
+    fits_same p s r v l (aside l') S S' c (record { machine = m; heap = ap (λ hs. slice_get hs r.task) H.heaps }) F m (λ z. ap (λ hs. or_fresh (slice_get hs z)) H.heaps)

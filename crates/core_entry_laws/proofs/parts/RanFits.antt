@@ -1,0 +1,214 @@
+-- After an entry of steps what its worker holds fits, where it goes on with the task or the run halts.
+use Rattle.std.proofs.Common.{◌≡◌, ℕ, suc, pos, ℤ, true, false, Option, Some, None, is_some, slice_get, slice_set, length, inl, inr, refl, ap, sym, subst, ◌∙◌}
+use Rattle.std.proofs.lemmas.Option.{same_Some}
+use Rattle.listed.proofs.Members.{got_same}
+use Rattle.hh_lang.specs.declared.instr.Instr.{Instr}
+use Rattle.hh_lang.specs.declared.instr.Instr.TheVariants.{Set, Mov, Movr, Nil as NilOf, Calc, Same, Jmp, Jz, Newm, Pack, Getr, Geti, Putr, Puti, Cntr, Cnti, Freeze, Cas, Call, Par, Ret, Out}
+use Rattle.hh_lang.specs.Form.{ProgramText}
+use Rattle.run_trace.specs.Settings.{SettingsValue}
+use Rattle.hh_model.specs.declared.data.State.{State}
+use Rattle.hh_model.specs.declared.data.Task.{Task}
+use Rattle.hh_model.specs.Effect.{int_in, object_at, onward, place_in, row_of}
+use Rattle.hh_model.specs.Step.{is_running, is_waiting, is_joined, is_on_path, owner_of, runs}
+use Rattle.run_ledger.specs.declared.data.Ledger.{Ledger}
+use Rattle.run_ledger.specs.Heaps.{heap_of, or_fresh, let_go}
+use Rattle.run_ledger.specs.Steps.{task_steps}
+use Rattle.run_ledger.proofs.Machine.{task_step_machine, heap_machine}
+use Rattle.run_ledger.specs.Sound.{SoundLedger}
+use Rattle.ledger_step_laws.specs.Accounts.{StepsAlone, Knows, aside, rested}
+use Rattle.ledger_step_laws.specs.Kinds.{StoresOne}
+use Rattle.ledger_step_laws.specs.Last.{WritesOther, LastKind, Private, Reading, Writing, Printing, Forking, Ending, Joining, Finishing, Halting, IsOfKind, GoesOn, Runs, Splits, stepped_by}
+use Rattle.ledger_step_laws.proofs.Ahead.{steps_sound, with_off}
+use Rattle.ledger_step_laws.proofs.Along.{steps_end, steps_know}
+use Rattle.ledger_step_laws.proofs.Private.{private_on}
+use Rattle.ledger_step_laws.proofs.Rested.{rested_sound, rested_view}
+use Rattle.ledger_step_laws.proofs.Split.{steps_go, steps_last, worker_step}
+use Rattle.ledger_step_laws.proofs.Wrote.{is_store, is_swap, is_number}
+use Rattle.core_relation.specs.Memory.{Home, Memory}
+use Rattle.core_relation.specs.Fits.{Part, FitsAt, part_for, ahead, with_home}
+use Rattle.core_relation.specs.Copies.{PartFits}
+use Rattle.core_relation.specs.Changes.{StoresNumberAt}
+use Rattle.core_relation.specs.Makes.{Stores, StoresInto, StoresHome, StepsTo, GoesHome, Makes, taken_by}
+use Rattle.core_relation.specs.Whole.{BegunBy}
+use Rattle.core_relation.specs.Worker.{Fits}
+use Rattle.core_entry_laws.specs.WorkerLaws.{RanFits}
+use Rattle.core_entry_laws.proofs.parts.Handed.{stores_fit, numbers_fit, steps_fit}
+use Rattle.core_entry_laws.proofs.whole.HandedBack.{alive_machine}
+use Rattle.core_entry_laws.proofs.whole.Past.{home_rests}
+use Rattle.core_entry_laws.proofs.parts.Quiet.{aside_is}
+use Rattle.core_entry_laws.proofs.parts.Ran.{halt_fits}
+use Rattle.core_entry_laws.proofs.whole.RanWhole.{none_collects}
+use Rattle.core_relation.proofs.changes.Takes.{ran_fits}
+use Rattle.core_entry_laws.proofs.whole.Together.{none_begun}
+use Rattle.core_relation.proofs.changes.With.{at_home}
+use Rattle.core_entry_laws.proofs.parts.Workers.{part_now}
+
+-- let go of before and after
+both_rested : (l l' : Ledger) (t : ℕ) → StepsAlone l l' t → StepsAlone (rested l t) (rested l' t) t
+both_rested l l' t A = record {
+  tree = record {
+    made = λ u. ap (λ (z : State). is_some (slice_get z.tasks u)) el ∙ (A.tree.made u ∙ sym (ap (λ (z : State). is_some (slice_get z.tasks u)) em));
+    owners = λ a. ap (λ (z : State). owner_of z.tasks a) el ∙ (A.tree.owners a ∙ sym (ap (λ (z : State). owner_of z.tasks a) em));
+    paths = λ a u. ap (λ (z : State). is_on_path z.tasks a u) el ∙ (A.tree.paths a u ∙ sym (ap (λ (z : State). is_on_path z.tasks a u) em));
+    waits = λ u. ap (λ (z : State). is_waiting (slice_get z.tasks u)) el ∙ (A.tree.waits u ∙ sym (ap (λ (z : State). is_waiting (slice_get z.tasks u)) em));
+    joins = λ u. ap (λ (z : State). is_joined (slice_get z.tasks u)) el ∙ (A.tree.joins u ∙ sym (ap (λ (z : State). is_joined (slice_get z.tasks u)) em));
+  };
+  tasks = λ u ne. ap (λ (z : State). slice_get z.tasks u) el ∙ (A.tasks u ne ∙ sym (ap (λ (z : State). slice_get z.tasks u) em));
+  heaps = λ u ne. ap or_fresh (with_off l' t u let_go ne) ∙ (A.heaps u ne ∙ sym (ap or_fresh (with_off l t u let_go ne)));
+  rows = λ u ne. ap (λ (z : State). length (row_of (slice_get z.store u))) el ∙ (A.rows u ne ∙ sym (ap (λ (z : State). length (row_of (slice_get z.store u))) em));
+  store = λ n ne. ap (λ (z : State). object_at z.store n) el ∙ (A.store n (λ e. ne (ap (λ (z : State). owner_of z.tasks n.task) em ∙ e)) ∙ sym (ap (λ (z : State). object_at z.store n) em));
+}
+  where
+    em : (rested l t).machine ≡ l.machine
+    em = heap_machine l t let_go
+
+    el : (rested l' t).machine ≡ l'.machine
+    el = heap_machine l' t let_go
+
+module _ (p : ProgramText) (s : SettingsValue) (v v' : Memory) (l l' : Ledger) (t w k : ℕ) (h g : Home) (E : Runs p s l l' t w k) where
+  abbrev m : Ledger
+  m = task_steps p l t k
+
+  abbrev S : Splits p s l l' t k
+  S = E.splits
+
+  abbrev q : Part
+  q = part_for s t h k
+
+  alive_m : m.machine.end ≡ None
+  alive_m = steps_end p s t k l S.private ∙ alive_machine p s l l' t w k E
+
+  known : Knows m
+  known = steps_know p s t k l E.task E.knows (inr E.collects) E.at E.runs E.can S.private
+
+  -- the heap begins no collection meanwhile
+  still : (j : ℕ) → (heap_of (task_steps p l t j) t).begun ≡ None
+  still j = none_collects (slice_get (task_steps p l t j).heaps t) (steps_sound p s t j l (E.knows.sound, E.collects)).1
+
+  last : task_steps p l t (suc k) ≡ l'
+  last = steps_last p l t k ∙ sym S.after
+
+  still_then : (heap_of l' t).begun ≡ None
+  still_then = ap (λ (z : Ledger). (heap_of z t).begun) (sym last) ∙ still (suc k)
+
+  none_begun_then : (n : Ledger) → (heap_of n t).begun ≡ None → g.begun ≡ None → BegunBy (with_home v' t g) (ahead p (part_for s t g 0) n) t g.begun
+  none_begun_then n e none = none_begun (with_home v' t g) (ahead p (part_for s t g 0) n) t g.begun none (rested_view (λ z. z.begun) (λ z. refl) n t ∙ e)
+
+  -- the part after it
+  fits : (n : Ledger) → aside l' ≡ n → (y : Task) → slice_get l'.machine.tasks t ≡ Some y → is_running (Some y) ≡ true → (heap_of n t).begun ≡ None → g.begun ≡ None → FitsAt p s (part_for s t g 0) v' n → Fits p s (part_for s t g 0) v' l'
+  fits n e y is run begun none V = record {
+    task = y;
+    is = is;
+    runs = run;
+    steady = inl refl;
+    part = subst (PartFits p s (part_for s t g 0) v') (sym e) (record { fits = V; begun = none_begun_then n begun none });
+    leaf = refl;
+    fields = refl;
+  }
+
+  goes : l'.machine.end ≡ None → (y : Task) → slice_get l'.machine.tasks t ≡ Some y → is_running (Some y) ≡ true → g.begun ≡ None → FitsAt p s (part_for s t g 0) v' l' → Fits p s (part_for s t g 0) v' l'
+  goes on y is run none V = fits l' (aside_is l' on) y is run still_then none V
+
+  -- where the step sets its frame
+  set_task : (y : Task) (m' : State) → l' ≡ stepped_by m m' → m'.tasks ≡ slice_set m.machine.tasks t y → slice_get l'.machine.tasks t ≡ Some y
+  set_task y m' e ts = ap (λ (z : Ledger). slice_get z.machine.tasks t) e ∙ (ap (λ xs. slice_get xs t) ts ∙ got_same m.machine.tasks t S.task y S.at.task)
+
+  held : (m' : State) → l' ≡ stepped_by m m' → (heap_of l' t).worker ≡ Some w
+  held m' e = ap (λ (z : Ledger). (heap_of z t).worker) e ∙ E.held
+
+  idle : is_waiting (slice_get (rested m t).machine.tasks t) ≡ false
+  idle = ap (λ (z : State). is_waiting (slice_get z.tasks t)) (heap_machine m t let_go) ∙ (ap is_waiting S.at.task ∙ ap (λ st. is_waiting (Some (record S.task { status = st }))) S.at.runs)
+
+  sound : SoundLedger (rested m t)
+  sound = rested_sound m t known.sound
+
+  -- a read or an output
+  steps : FitsAt p s q v l → v' ≡ v → (m' : State) → l' ≡ stepped_by m m' → StepsAlone m l' t → StepsTo v l' t h g → FitsAt p s (part_for s t g 0) v' l'
+  steps F e m' goes A G =
+      subst (λ (z : Memory). FitsAt p s (part_for s t g 0) z l') (sym e)
+      (steps_fit p s q v v l l' g w sound (rested_sound l' t E.knows_then.sound) F (held m' goes) (both_rested m l' t A) idle G.0 G.1)
+
+  -- a store of a reference, and of a number
+  stores : FitsAt p s q v l → (W : WritesOther m l' t S.task S.line) (o i b : ℕ) (c : Option (ℕ × ℤ)) (L : (j : ℕ) × (place_in (length W.object.refs) (int_in S.task.top i) ≡ Some j) × StoresOne (rested m t) (rested l' t) t S.task W.name W.object o b j c)
+      → (C : StoresInto v v' m t h S.task W.object o i b c) → FitsAt p s (part_for s t C.0 0) v' l' × (C.0.begun ≡ h.begun)
+  stores F W o i b c L C =
+      let same : L.0 ≡ C.1 = same_Some L.0 C.1 (sym L.1 ∙ C.5) in
+      let L' : StoresOne (rested m t) (rested l' t) t S.task W.name W.object o b C.1 c = subst (λ j. StoresOne (rested m t) (rested l' t) t S.task W.name W.object o b j c) same L.2 in (
+        stores_fit p s q v v' l l' C.0 w S.task W.name W.object o b C.1 c C.2 C.3 C.4 sound F (held _ W.goes) L' C.6 C.7,
+        begun_same C.0 (C.6.writes.begun t),
+      )
+    where
+      begun_same : (j : Home) → ((with_home v' t j).homes t).begun ≡ ((with_home v t h).homes t).begun → j.begun ≡ h.begun
+      begun_same j e = ap (λ (z : Home). z.begun) (sym (at_home v' t j)) ∙ (e ∙ ap (λ (z : Home). z.begun) (at_home v t h))
+
+  writes : FitsAt p s q v l → (W : WritesOther m l' t S.task S.line) (instr : Instr) → S.line.instr ≡ instr → (C : Stores v v' m t h S.task W.object instr) → StoresHome v v' m t h S.task W.object instr C g → FitsAt p s (part_for s t g 0) v' l' × (g.begun ≡ h.begun)
+  writes F W (Putr o i b) is C e =
+      let r = stores F W o i b None (is_store p m l' t S.task S.line E.idle S.at W o i b is) C in
+      subst (λ (j : Home). FitsAt p s (part_for s t j 0) v' l' × (j.begun ≡ h.begun)) (sym e) r
+  writes F W (Cas d o i x b) is C e =
+      let L = is_swap p m l' t S.task S.line E.idle S.at W d o i x b is in
+      let r = stores F W o i b (Some (d, pos 1)) (L.0, L.1, L.3) C in
+      subst (λ (j : Home). FitsAt p s (part_for s t j 0) v' l' × (j.begun ≡ h.begun)) (sym e) r
+  writes F W (Puti o i b) is C e =
+      let L = is_number p m l' t S.task S.line E.idle S.at W o i b is in
+      let same : C.1 ≡ L.0 = same_Some C.1 L.0 (sym C.5 ∙ L.1) in
+      let C' : StoresNumberAt (with_home v t h) (with_home v' t C.0) t C.2 C.3 C.4 b L.0 = subst (StoresNumberAt (with_home v t h) (with_home v' t C.0) t C.2 C.3 C.4 b) same C.6 in
+      subst (λ (j : Home). FitsAt p s (part_for s t j 0) v' l' × (j.begun ≡ h.begun)) (sym e) (
+        numbers_fit p s q v v' l l' C.0 w S.task W.name W.object o b L.0 C.2 C.3 C.4 sound F (held _ W.goes) L.2 C' C.7,
+        ap (λ (z : Home). z.begun) (sym (at_home v' t C.0)) ∙ (C.6.writes.begun t ∙ ap (λ (z : Home). z.begun) (at_home v t h)),
+      )
+  writes F W (Set d a) is C e = absurd C
+  writes F W (Mov d a) is C e = absurd C
+  writes F W (Movr d a) is C e = absurd C
+  writes F W (NilOf d) is C e = absurd C
+  writes F W (Calc op d a b) is C e = absurd C
+  writes F W (Same d a b) is C e = absurd C
+  writes F W (Jmp to) is C e = absurd C
+  writes F W (Jz a to) is C e = absurd C
+  writes F W (Newm d a b) is C e = absurd C
+  writes F W (Pack d a b) is C e = absurd C
+  writes F W (Getr d o i) is C e = absurd C
+  writes F W (Geti d o i) is C e = absurd C
+  writes F W (Cntr d o) is C e = absurd C
+  writes F W (Cnti d o) is C e = absurd C
+  writes F W (Freeze o) is C e = absurd C
+  writes F W (Call f) is C e = absurd C
+  writes F W (Par f i) is C e = absurd C
+  writes F W Ret is C e = absurd C
+  writes F W (Out a) is C e = absurd C
+
+  -- it had begun none
+  own : (j : ℕ) → PartFits p s (part_for s t h j) v l → h.begun ≡ None
+  own j F = home_rests (with_home v t h) (ahead p (part_for s t h j) l) t h.begun F.begun (rested_view (λ z. z.begun) (λ z. refl) (task_steps p l t j) t ∙ still j)
+
+  runs_now : is_running (Some S.task) ≡ true
+  runs_now = ap runs S.at.runs
+
+  by : (kind : LastKind) (K : IsOfKind p m l' t S.task S.line kind) → (GoesOn kind → l'.machine.end ≡ None) → PartFits p s (part_for s t h (taken_by kind k)) v l → (C : Makes p v v' m l' t h S.task S.line kind K) → GoesHome p v v' m l' t h S.task S.line kind K C g → Fits p s (part_for s t g 0) v' l'
+  by Private K on F C G =
+      let go = steps_go p s t k l E.task E.knows E.collects E.at E.runs E.can S.private in
+      let x = private_on p m.machine t S.task go.3 S.at.task K in
+      let is : slice_get l'.machine.tasks t ≡ Some x.task =
+      ap (λ (z : State). slice_get z.tasks t) (ap (λ (z : Ledger). z.machine) S.after ∙ (task_step_machine p m t ∙ x.is)) ∙ got_same m.machine.tasks t S.task x.task S.at.task in
+      let out : (heap_of (task_steps p l t (suc k)) t).worker ≡ Some w = ap (λ (z : Ledger). (heap_of z t).worker) (steps_last p l t k) ∙ (worker_step p s t m K ∙ E.held) in
+      let V : FitsAt p s (part_for s t h 0) v l' = subst (FitsAt p s (part_for s t h 0) v) last (ran_fits p s (part_for s t h (suc k)) v l w F.fits out) in
+      goes (on tt) x.task is (ap runs (x.status ∙ S.at.runs)) (ap (λ (z : Home). z.begun) G ∙ own (suc k) F)
+      (subst (λ (z : Memory). FitsAt p s (part_for s t g 0) z l') (sym C) (subst (λ (j : Home). FitsAt p s (part_for s t j 0) v l') (sym G) V))
+  by Reading K on F C G =
+      goes (on tt) (record S.task { top = K.frame }) (set_task (record S.task { top = K.frame }) _ K.goes refl) runs_now (G.2 ∙ own k F) (steps F.fits C _ K.goes K.alone G)
+  by Writing K on F C G =
+      let r = writes F.fits K S.line.instr refl C G in
+      goes (on tt) (record S.task { top = K.frame }) (set_task (record S.task { top = K.frame }) _ K.goes refl) runs_now (r.1 ∙ own k F) r.0
+  by Printing K on F C G =
+      goes (on tt) (record S.task { top = onward S.task.top }) (set_task (record S.task { top = onward S.task.top }) _ K.goes refl) runs_now (G.2 ∙ own k F) (steps F.fits C _ K.goes K.alone G)
+  by Forking K on F C G = absurd G
+  by Ending K on F C G = absurd G
+  by Joining K on F C G = absurd G
+  by Finishing K on F C G = absurd G
+  by Halting K on F C G =
+      fits (aside l') refl S.task (ap (λ (z : State). slice_get z.tasks t) K.machine ∙ S.at.task) runs_now (ap (λ hs. (or_fresh (slice_get hs t)).begun) K.heaps ∙ still k) (ap (λ (z : Home). z.begun) G ∙ own k F)
+      (subst (λ (z : Memory). FitsAt p s (part_for s t g 0) z (aside l')) (sym C) (subst (λ (j : Home). FitsAt p s (part_for s t j 0) v (aside l')) (sym G) (halt_fits p s v v l l' t w k h E F.fits K)))
+
+pub ran_fits_then : RanFits
+ran_fits_then p s v v' l l' t w k h g E Q C G =
+    by p s v v' l l' t w k h g E E.splits.kind E.splits.last E.splits.on (part_now p s (part_for s t h (taken_by E.splits.kind k)) v l (alive_machine p s l l' t w k E) Q) C G

@@ -1,0 +1,166 @@
+-- A step that goes on and sets at most a number register: the part of its worker fits after it.
+use Rattle.std.proofs.Common.{is_some, ◌≡◌, ℕ, ℤ, false, Some, List, ◌∷◌, length, slice_get, slice_set, inr, refl, ap, sym, subst, ◌∙◌}
+use Rattle.std.proofs.lemmas.Option.{same_Some}
+use Rattle.listed.proofs.Members.{got_same}
+use Rattle.object_layout.specs.declared.word.Addr.{Addr}
+use Rattle.object_layout.specs.Objects.{Located}
+use Rattle.hh_lang.specs.Form.{ProgramText}
+use Rattle.run_trace.specs.Settings.{SettingsValue}
+use Rattle.hh_model.specs.declared.data.Name.{Name}
+use Rattle.hh_model.specs.declared.data.Object.{Object}
+use Rattle.hh_model.specs.declared.data.Status.TheVariants.{Running}
+use Rattle.hh_model.specs.declared.data.Task.{Task}
+use Rattle.hh_model.specs.declared.data.State.{State}
+use Rattle.hh_model.specs.Effect.{object_at, row_of}
+use Rattle.hh_model.specs.Step.{owner_of, is_on_path, is_waiting, is_joined}
+use Rattle.run_ledger.specs.declared.data.Ledger.{Ledger}
+use Rattle.run_ledger.specs.Heaps.{heap_of, or_fresh, let_go}
+use Rattle.run_ledger.specs.Steps.{task_steps}
+use Rattle.run_ledger.specs.Sound.{SoundLedger}
+use Rattle.ledger_step_laws.specs.Accounts.{Rests, StepsAlone, rested}
+use Rattle.ledger_step_laws.specs.Kinds.{onward_with}
+use Rattle.ledger_step_laws.specs.Last.{stepped_by}
+use Rattle.ledger_step_laws.proofs.Ahead.{with_off}
+use Rattle.ledger_step_laws.proofs.Last.{rest_heaps}
+use Rattle.ledger_step_laws.proofs.Rested.{rested_worker, rested_sound}
+use Rattle.core_relation.specs.Memory.{Home, Memory, In, object_name, objects, objects_in, Lies}
+use Rattle.core_relation.specs.Reads.{IsRead, FrameIsRead, FramesAreRead, HoldsRead, TaskIsRead}
+use Rattle.core_relation.specs.Stands.{Place}
+use Rattle.core_relation.specs.Fits.{FitsAt, with_home, part_for}
+use Rattle.core_relation.specs.Changes.{StepsAtHome, gone_on}
+use Rattle.core_relation.proofs.objects.Carry.{object_kept, task_kept}
+use Rattle.core_relation.proofs.changes.Finish.{home_alike}
+use Rattle.core_entry_laws.proofs.whole.HandedBack.{alive_machine}
+use Rattle.core_entry_laws.proofs.parts.Workers.{part_now}
+use Rattle.core_relation.specs.Makes.{StepsTo}
+use Rattle.core_entry_laws.specs.WorkerLaws.{FramesGo, NumbersGo}
+use Rattle.hh_model.specs.declared.data.Frame.{Frame as ModelFrame}
+use Rattle.run_ledger.proofs.Machine.{heap_machine}
+use Rattle.task_frames.specs.declared.frames.Frame.{Frame}
+use Rattle.ledger_step_laws.proofs.Along.{steps_know}
+use Rattle.core_relation.proofs.changes.Own.{place_own}
+use Rattle.core_relation.proofs.changes.Store.{goes_on}
+use Rattle.core_relation.proofs.changes.With.{at_home, off_home}
+
+module _ (p : ProgramText) (s : SettingsValue) (t k : ℕ) (h : Home) (v : Memory) (l l' : Ledger) (w : ℕ) (x : Task) (top : ModelFrame) (outs : List ℤ) (f gone : Frame) (fs : List Frame) (S : SoundLedger (task_steps p l t k)) (S' : SoundLedger l')
+    (F : FitsAt p s (part_for s t h k) v l) (held : (heap_of (task_steps p l t k) t).worker ≡ Some w) (is : slice_get (task_steps p l t k).machine.tasks t ≡ Some x) (runs : x.status ≡ Running) (A : StepsAlone (task_steps p l t k) l' t)
+    (goes : l' ≡ stepped_by (task_steps p l t k) (record (task_steps p l t k).machine { tasks = slice_set (task_steps p l t k).machine.tasks t (record x { top = top }); outputs = outs })) (frames : h.frames ≡ f ∷ fs)
+    (reads : FrameIsRead (Place (with_home v t h) (rested (task_steps p l t k) t)) f x.top → FrameIsRead (Place (with_home v t h) (rested (task_steps p l t k) t)) gone top) where
+  abbrev m : Ledger
+  m = task_steps p l t k
+
+  abbrev g : Home
+  g = record h { frames = gone ∷ fs }
+
+  abbrev vt : Memory
+  vt = with_home v t h
+
+  abbrev vt' : Memory
+  vt' = with_home v t g
+
+  abbrev lt : Ledger
+  lt = rested m t
+
+  abbrev lt' : Ledger
+  lt' = rested l' t
+
+  em : lt.machine ≡ m.machine
+  em = heap_machine m t let_go
+
+  el : lt'.machine ≡ l'.machine
+  el = heap_machine l' t let_go
+
+  store_same : (n : Name) → object_at lt'.machine.store n ≡ object_at lt.machine.store n
+  store_same n = ap (λ (z : State). object_at z.store n) el ∙ (ap (λ (z : Ledger). object_at z.machine.store n) goes ∙ sym (ap (λ (z : State). object_at z.store n) em))
+
+  alone : StepsAlone lt lt' t
+  alone = record {
+    tree = record {
+      made = λ u. ap (λ (z : State). is_some (slice_get z.tasks u)) el ∙ (A.tree.made u ∙ sym (ap (λ (z : State). is_some (slice_get z.tasks u)) em));
+      owners = λ a. ap (λ (z : State). owner_of z.tasks a) el ∙ (A.tree.owners a ∙ sym (ap (λ (z : State). owner_of z.tasks a) em));
+      paths = λ a u. ap (λ (z : State). is_on_path z.tasks a u) el ∙ (A.tree.paths a u ∙ sym (ap (λ (z : State). is_on_path z.tasks a u) em));
+      waits = λ u. ap (λ (z : State). is_waiting (slice_get z.tasks u)) el ∙ (A.tree.waits u ∙ sym (ap (λ (z : State). is_waiting (slice_get z.tasks u)) em));
+      joins = λ u. ap (λ (z : State). is_joined (slice_get z.tasks u)) el ∙ (A.tree.joins u ∙ sym (ap (λ (z : State). is_joined (slice_get z.tasks u)) em));
+    };
+    tasks = λ u ne. ap (λ (z : State). slice_get z.tasks u) el ∙ (A.tasks u ne ∙ sym (ap (λ (z : State). slice_get z.tasks u) em));
+    heaps = λ u ne. ap or_fresh (with_off l' t u let_go ne) ∙ (A.heaps u ne ∙ sym (ap or_fresh (with_off m t u let_go ne)));
+    rows = λ u ne. ap (λ (z : State). length (row_of (slice_get z.store u))) el ∙ (A.rows u ne ∙ sym (ap (λ (z : State). length (row_of (slice_get z.store u))) em));
+    store = λ n ne. store_same n;
+  }
+
+  row_same : length (row_of (slice_get lt'.machine.store t)) ≡ length (row_of (slice_get lt.machine.store t))
+  row_same = ap (λ (z : State). length (row_of (slice_get z.store t))) el ∙ (ap (λ (z : Ledger). length (row_of (slice_get z.machine.store t))) goes ∙ sym (ap (λ (z : State). length (row_of (slice_get z.store t))) em))
+
+  heap_same : heap_of lt' t ≡ heap_of lt t
+  heap_same = ap (λ hs. or_fresh (slice_get hs t)) (rest_heaps m l' t (ap (λ (z : Ledger). z.heaps) goes))
+
+  rests : Rests lt t
+  rests = rested_worker m t
+
+  rests' : Rests lt' t
+  rests' = rested_worker l' t
+
+  at_lt : slice_get lt.machine.tasks t ≡ Some x
+  at_lt = ap (λ (z : State). slice_get z.tasks t) em ∙ is
+
+  idle : is_waiting (slice_get lt.machine.tasks t) ≡ false
+  idle = ap is_waiting at_lt ∙ ap (λ st. is_waiting (Some (record x { status = st }))) runs
+
+  -- a view of the home that its frames don't change
+  seen : {B : Type 0} (view : Home → B) → view g ≡ view h → view (vt'.homes t) ≡ view (vt.homes t)
+  seen view e = ap view (at_home v t g) ∙ (e ∙ sym (ap view (at_home v t h)))
+
+  chunks_same : (vt'.homes t).chunks ≡ (vt.homes t).chunks
+  chunks_same = seen (λ z. z.chunks) refl
+
+  at_step : StepsAtHome vt vt' t
+  at_step = record {
+    others = λ u ne. off_home v t g u ne ∙ sym (off_home v t h u ne);
+    owner = λ n. refl;
+    sources = λ u. refl;
+    view = seen (λ z. z.view) refl;
+    stays = λ n a i. subst (λ ks. Lies ks n a) (sym chunks_same) i;
+  }
+
+  place : (n : Name) (a : Addr) → Place vt lt n a → Place vt' lt' n a
+  place n a = place_own vt vt' lt lt' t (rested_sound m t S) (rested_sound l' t S') F.stands alone rests rests' idle at_step n a
+
+  abbrev z' : Task
+  z' = record x { top = top }
+
+  at_lt' : slice_get lt'.machine.tasks t ≡ Some z'
+  at_lt' = ap (λ (z : State). slice_get z.tasks t) el ∙ (ap (λ (z : Ledger). slice_get z.machine.tasks t) goes ∙ got_same m.machine.tasks t x z' is)
+
+  read_then : FramesAreRead (Place vt lt) (f ∷ fs) (x.top ∷ x.below)
+  read_then = subst (λ gs. FramesAreRead (Place vt lt) gs (x.top ∷ x.below)) (ap (λ (z : Home). z.frames) (at_home v t h) ∙ frames) (subst (HoldsRead (Place vt lt) (vt.homes t) x) runs (F.stands.tasks t x rests at_lt))
+
+  read_now : TaskIsRead (Place vt lt) (vt'.homes t) z'
+  read_now =
+      subst (HoldsRead (Place vt lt) (vt'.homes t) z') (sym runs)
+      (subst (λ gs. FramesAreRead (Place vt lt) gs (top ∷ x.below)) (sym (ap (λ (z : Home). z.frames) (at_home v t g))) (reads read_then.0, read_then.1))
+
+  content : (o : Located) → In (objects vt' t) o → (y : Object) × (object_at lt'.machine.store (object_name o) ≡ Some y) × IsRead (Place vt' lt') o y
+  content o i =
+      let q = F.stands.contents t o rests (subst (λ ks. In (objects_in ks) o) chunks_same i) in
+      (q.0, store_same (object_name o) ∙ q.1, object_kept (Place vt lt) (Place vt' lt') o q.0 (λ n j. place n) q.2)
+
+  pub frames_step : StepsTo v l' t h g
+  frames_step = (
+    at_step,
+    record {
+      home = home_alike vt vt' lt lt' t chunks_same (seen (λ z. z.room) refl) (seen (λ z. z.since) refl) (seen (λ z. z.count) refl) (λ n e. e) heap_same row_same (alone.tree.joins t) (F.stands.homes t rests);
+      contents = content;
+      task = λ y e. subst (λ (z : Task). TaskIsRead (Place vt' lt') (vt'.homes t) z) (same_Some z' y (sym at_lt' ∙ e)) (task_kept (Place vt lt) (Place vt' lt') (vt'.homes t) z' (λ n j. place n) read_now);
+    },
+    refl,
+  )
+
+pub frames_go : FramesGo
+frames_go p s v l l' t w k h E Q f g fs top outs A goes frames reads =
+    let known = steps_know p s t k l E.task E.knows (inr E.collects) E.at E.runs E.can E.splits.private in
+    let F = (part_now p s (part_for s t h k) v l (alive_machine p s l l' t w k E) Q).fits in
+    frames_step p s t k h v l l' w E.splits.task top outs f g fs known.sound E.knows_then.sound F E.held E.splits.at.task E.splits.at.runs A goes frames reads
+
+-- the frame is read as before, but for the number register that is set
+pub numbers_go : NumbersGo
+numbers_go p s v l l' t w k h E Q f fs c outs A goes frames = frames_go p s v l l' t w k h E Q f (gone_on c f) fs (onward_with c E.splits.task.top) outs A goes frames (goes_on _ c f E.splits.task.top)

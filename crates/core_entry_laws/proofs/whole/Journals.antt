@@ -1,0 +1,115 @@
+-- The memory before any entry stands for the first accounts.
+use Rattle.std.proofs.Common.{◌≡◌, ℕ, zero, suc, true, Some, None, slice_get, option_map, replicate, refl, sym, subst, ◌∙◌}
+use Rattle.hh_lang.specs.Form.{ProgramText}
+use Rattle.run_trace.specs.Settings.{SettingsValue}
+use Rattle.hh_model.specs.Step.{is_waiting, root}
+use Rattle.run_ledger.specs.Journals.{opening}
+use Rattle.std.proofs.lemmas.Bool.{false≢true}
+use Rattle.std.proofs.lemmas.Option.{same_Some}
+use Rattle.listed.proofs.Options.{none_some}
+use Rattle.object_layout.specs.declared.word.Addr.{Addr}
+use Rattle.object_layout.specs.Objects.{Located}
+use Rattle.hh_model.specs.declared.data.Name.{Name}
+use Rattle.hh_model.specs.declared.data.Task.{Task}
+use Rattle.core_relation.specs.Memory.{In, objects}
+use Rattle.core_relation.specs.Reads.{AllRead, TaskIsRead}
+use Rattle.ledger_step_laws.specs.Accounts.{Rests}
+use Rattle.core_relation.specs.Stands.{Place, HomeStands, Stands}
+pub use Rattle.core_entry_laws.specs.First.{first}
+use Rattle.core_entry_laws.specs.First.{first_totals}
+use Rattle.core_relation.specs.Since.{NotedAt}
+use Rattle.core_relation.specs.Whole.{TotalsStand, state_by}
+use Rattle.core_entry_laws.specs.EntryLaws.{FirstStandsFor}
+use Rattle.run_ledger.specs.Heaps.{heap_of}
+use Rattle.core_relation.proofs.objects.LaidOut.{none_laid}
+use Rattle.core_relation.proofs.notes.Notes.{no_notes}
+use Rattle.core_entry_laws.proofs.whole.Together.{whole_stands}
+
+nils : (at : Name → Addr → Type 0) (n : ℕ) → AllRead at (replicate n None) (replicate n None)
+nils at zero = tt
+nils at (suc n) = (tt, nils at n)
+
+pub first_stands : (p : ProgramText) (s : SettingsValue) → Stands (first p) (opening p s)
+first_stands p s = record {
+  made = λ k t e. none_some e;
+  homes = λ t r. home t;
+  contents = λ t o r i. absurd (empty t o i);
+  tasks = task;
+  remembered = λ t o x i n r j is at. absurd (empty t o j);
+  sources = λ t z i. absurd i;
+  views = λ t r j u o up ne rz i. absurd (empty u o i);
+  gives = λ t u r j up ne w ru. absurd (none_waits u w);
+}
+  where
+    empty : (t : ℕ) (o : Located) → In (objects (first p) t) o → ⊥
+    empty zero o i = i
+    empty (suc t) o i = i
+
+    none_waits : (u : ℕ) → is_waiting (slice_get (opening p s).machine.tasks u) ≡ true → ⊥
+    none_waits zero e = false≢true e
+    none_waits (suc u) e = false≢true e
+
+    home : (t : ℕ) → HomeStands (first p) (opening p s) t
+    home zero = record {
+      names = record { small = refl; large = refl };
+      room = refl;
+      since = refl;
+      count = λ live. refl;
+      owned = λ k i. absurd i;
+      inside = λ k o i j. absurd i;
+      once = λ o q i j e. absurd i;
+      named = λ o q i j e. absurd i;
+      laid = none_laid;
+    }
+    home (suc t) = record {
+      names = record { small = refl; large = refl };
+      room = refl;
+      since = refl;
+      count = λ live. refl;
+      owned = λ k i. absurd i;
+      inside = λ k o i j. absurd i;
+      once = λ o q i j e. absurd i;
+      named = λ o q i j e. absurd i;
+      laid = none_laid;
+    }
+
+    task : (t : ℕ) (x : Task) → Rests (opening p s) t → slice_get (opening p s).machine.tasks t ≡ Some x → TaskIsRead (Place (first p) (opening p s)) ((first p).homes t) x
+    task zero x r is =
+        subst (λ (y : Task). TaskIsRead (Place (first p) (opening p s)) ((first p).homes 0) y) (same_Some (root p) x is)
+        (record { function = refl; next = refl; ints = refl; refs = nils (Place (first p) (opening p s)) 16 }, tt)
+    task (suc t) x r is = absurd cc
+
+-- THE WHOLE
+
+first_tree : (p : ProgramText) (s : SettingsValue) → TotalsStand first_totals (opening p s)
+first_tree p s = record {
+  node = node;
+  task_out = λ w t. ((λ e. none_some e), (λ e. none_some (sym (worker t) ∙ e)));
+  used = refl;
+  steps = refl;
+  outputs = refl;
+  end = refl;
+}
+  where
+    worker : (t : ℕ) → (heap_of (opening p s) t).worker ≡ None
+    worker zero = refl
+    worker (suc t) = refl
+
+    node : (t : ℕ) → first_totals.node t ≡ option_map (λ (x : Task). record { parent = x.parent; state = state_by x.status (heap_of (opening p s) t).worker }) (slice_get (opening p s).machine.tasks t)
+    node zero = refl
+    node (suc t) = refl
+
+pub first_stands_for : FirstStandsFor
+first_stands_for p s = whole_stands (first p) first_totals (opening p s) (first_stands p s) (first_tree p s) (λ t r. idle t) (λ t r. begun t) notes
+  where
+    idle : (t : ℕ) → (heap_of (opening p s) t).begun ≡ None
+    idle zero = refl
+    idle (suc t) = refl
+
+    begun : (t : ℕ) → ((first p).homes t).begun ≡ None
+    begun zero = refl
+    begun (suc t) = refl
+
+    notes : (t : ℕ) → NotedAt (first p) (opening p s) t
+    notes zero = no_notes (first p) (opening p s) 0 (record { keeps = refl; needless = refl })
+    notes (suc t) = no_notes (first p) (opening p s) (suc t) (record { keeps = refl; needless = refl })

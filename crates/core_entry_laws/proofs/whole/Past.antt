@@ -1,0 +1,198 @@
+-- The whole relation past each accepted entry that isn't of steps.
+use Rattle.std.proofs.Common.{◌≡◌, ◌&&◌, not, ℕ, true, false, Option, Some, None, List, [], ◌∷◌, ◌++◌, length, slice_get, is_none, is_some, inl, inr, refl, ap, ap₂, sym, subst, ◌∙◌}
+use Rattle.std.proofs.lemmas.Bool.{false≢true, cases_eq, and_parts, and_from}
+use Rattle.listed.proofs.Options.{none_of}
+use Rattle.object_layout.specs.declared.word.Addr.{Addr}
+use Rattle.hh_lang.specs.Form.{ProgramText, IsProgram}
+use Rattle.run_trace.specs.Settings.{SettingsValue}
+use Rattle.run_trace.specs.Entry.{EntryValue}
+use Rattle.run_trace.specs.declared.entry.Kind.TheVariants.{Took, End as EndOf, Sweep}
+use Rattle.hh_model.specs.declared.data.State.{State as Machine}
+use Rattle.hh_model.specs.declared.data.Task.{Task}
+use Rattle.hh_model.specs.Effect.{object_at, row_of}
+use Rattle.hh_model.specs.Step.{owner_of, is_on_path, is_running, is_waiting, is_joined, runs, waits, can_step, goes_on}
+use Rattle.hh_model.proofs.Runs.{running_tells}
+use Rattle.hh_model.proofs.Steps.{runs_is}
+use Rattle.path_laws.proofs.Leaves.{waiting_stops}
+use Rattle.run_ledger.specs.declared.data.Heap.{Heap}
+use Rattle.run_ledger.specs.declared.data.Ledger.{Ledger}
+use Rattle.run_ledger.specs.Heaps.{heap_of, or_fresh, with_heap, collected, swept_heap, let_go}
+use Rattle.run_ledger.specs.Entries.{refusal, after, is_ready, is_out}
+use Rattle.run_ledger.specs.Journals.{ledger_of, is_legal, is_legal_from, after_all, opening}
+use Rattle.run_ledger.proofs.Holders.{tasks_are_held_once}
+use Rattle.run_ledger.proofs.Journals.{none_unless, entry_tells, wait_tells, legal_sound}
+use Rattle.run_ledger.specs.Sound.{SoundLedger}
+use Rattle.run_ledger.proofs.Steps.{heap_of_task, running_at}
+use Rattle.run_ledger.proofs.History.{heap_view}
+use Rattle.run_ledger.proofs.Machine.{heap_machine}
+use Rattle.ledger_step_laws.specs.Accounts.{Rests, StepsAlone, Takes, rested}
+use Rattle.ledger_step_laws.proofs.Ahead.{with_at, heap_then}
+use Rattle.ledger_step_laws.proofs.Entries.{took_takes, sweep_changes, end_changes}
+use Rattle.ledger_step_laws.proofs.Known.{legal_knows}
+use Rattle.ledger_step_laws.proofs.Split.{legal_alive, legal_idle}
+use Rattle.task_machine.specs.declared.part.Begun.{Begun}
+use Rattle.core_relation.specs.Memory.{Home, Memory}
+use Rattle.core_relation.specs.Stands.{Stands}
+use Rattle.core_relation.specs.Since.{AllNoted, MarksOn, NotesStay, OthersNotes}
+use Rattle.core_relation.specs.Changes.{SameBut, SameObjects, KeepsJust}
+use Rattle.core_relation.specs.Whole.{Totals, BegunBy, StandsFor}
+use Rattle.core_relation.specs.Counts.{CountsGo, IsQuiet, IsMarked}
+use Rattle.core_entry_laws.proofs.notes.AllNotes.{sweeps_note, ends_note, steps_note, quiet_notes}
+use Rattle.core_entry_laws.proofs.whole.Counts.{counts_stand}
+use Rattle.core_entry_laws.proofs.parts.QuietEntries.{quiet_by, marked_or}
+use Rattle.core_entry_laws.proofs.parts.Copies.{rested_changes}
+use Rattle.core_entry_laws.proofs.notes.NotesAhead.{notes_ahead, notes_back}
+use Rattle.core_relation.proofs.notes.Rooted.{root_apart}
+use Rattle.core_relation.proofs.changes.Takes.{ran_stands}
+use Rattle.core_relation.specs.Copies.{CopyFits, EndsAt, before}
+use Rattle.core_relation.specs.Fits.{with_home}
+use Rattle.core_relation.proofs.changes.Release.{released}
+use Rattle.core_relation.proofs.changes.Renew.{renewed}
+use Rattle.core_relation.proofs.changes.Sweep.{swept}
+use Rattle.core_entry_laws.proofs.whole.Together.{whole_stands, whole_notes, copies_end}
+
+-- ONE ENTRY MORE is legal
+
+pub legal_more : (p : ProgramText) (s : SettingsValue) (e : EntryValue) (journal : List EntryValue) (l : Ledger) → is_legal_from p s l journal ≡ true → is_none (refusal p s (after_all p s l journal) e) ≡ true → is_legal_from p s l (journal ++ e ∷ []) ≡ true
+legal_more p s e [] l h r = and_from (is_none (refusal p s l e)) true r refl
+legal_more p s e (d ∷ journal) l h r =
+    let both = and_parts (is_none (refusal p s l d)) (is_legal_from p s (after p s l d) journal) h in
+    and_from (is_none (refusal p s l d)) (is_legal_from p s (after p s l d) (journal ++ e ∷ [])) both.0 (legal_more p s e journal (after p s l d) both.1 r)
+
+pub after_more : (p : ProgramText) (s : SettingsValue) (e : EntryValue) (journal : List EntryValue) (l : Ledger) → after_all p s l (journal ++ e ∷ []) ≡ after p s (after_all p s l journal) e
+after_more p s e [] l = refl
+after_more p s e (d ∷ journal) l = after_more p s e journal (after p s l d)
+
+-- a task at rest has begun no collection
+idle_by : (o k : Option ℕ) → (is_some o ≡ true → is_some k ≡ true) → k ≡ None → o ≡ None
+idle_by None k f e = refl
+idle_by (Some b) k f e = absurd (false≢true (ap is_some (sym e) ∙ f refl))
+
+pub legal_rests : (p : ProgramText) (s : SettingsValue) (journal : List EntryValue) → is_legal p s journal ≡ true → (t : ℕ) → Rests (ledger_of p s journal) t → (heap_of (ledger_of p s journal) t).begun ≡ None
+legal_rests p s journal legal t r = idle_by (heap_of (ledger_of p s journal) t).begun (heap_of (ledger_of p s journal) t).worker ((tasks_are_held_once p s journal legal).collecting t) r
+
+pub home_rests : (v : Memory) (l : Ledger) (t : ℕ) (o : Option Begun) → BegunBy v l t o → (heap_of l t).begun ≡ None → o ≡ None
+home_rests v l t None B e = refl
+home_rests v l t (Some b) B e = absurd (none_some (sym e ∙ B.few))
+  where
+    none_some : {k : ℕ} → ◌≡◌ {A = Option ℕ} None (Some k) → ⊥
+    none_some q = absurd cc
+
+pub running_idle : (o : Option Task) → is_running o ≡ true → is_waiting o ≡ false
+running_idle None h = refl
+running_idle (Some x) h = (running_tells x.status h).1
+
+marked_heap : (hs : List Heap) (t : ℕ) (o : Option Heap) → slice_get hs t ≡ o → is_some (or_fresh o).marked ≡ true → (h : Heap) × (slice_get hs t ≡ Some h)
+marked_heap hs t None e h = absurd (false≢true h)
+marked_heap hs t (Some h) e q = (h, e)
+
+takes_alone : (l l' : Ledger) (t w : ℕ) → Takes l l' t w → StepsAlone l l' t
+takes_alone l l' t w L = record {
+  tree = record {
+    made = λ u. ap (λ (m : Machine). is_some (slice_get m.tasks u)) L.machine;
+    owners = λ a. ap (λ (m : Machine). owner_of m.tasks a) L.machine;
+    paths = λ a u. ap (λ (m : Machine). is_on_path m.tasks a u) L.machine;
+    waits = λ u. ap (λ (m : Machine). is_waiting (slice_get m.tasks u)) L.machine;
+    joins = λ u. ap (λ (m : Machine). is_joined (slice_get m.tasks u)) L.machine;
+  };
+  tasks = λ u ne. ap (λ (m : Machine). slice_get m.tasks u) L.machine;
+  heaps = L.heaps;
+  rows = λ u ne. ap (λ (m : Machine). length (row_of (slice_get m.store u))) L.machine;
+  store = λ n ne. ap (λ (m : Machine). object_at m.store n) L.machine;
+}
+
+module _ (p : ProgramText) (s : SettingsValue) (journal : List EntryValue) (program : IsProgram p) (legal : is_legal p s journal ≡ true) (v v' : Memory) (c c' : Totals) where
+  abbrev l : Ledger
+  l = ledger_of p s journal
+
+  S : SoundLedger l
+  S = legal_sound p s journal legal
+
+  pub rests_then : (e : EntryValue) → refusal p s l e ≡ None → (t : ℕ) → Rests (after p s l e) t → (heap_of (after p s l e) t).begun ≡ None
+  rests_then e accepted = subst (λ (k : Ledger). (t : ℕ) → Rests k t → (heap_of k t).begun ≡ None) (after_more p s e journal (opening p s))
+      (legal_rests p s (journal ++ e ∷ []) (legal_more p s e journal (opening p s) legal (ap is_none accepted)))
+
+  -- from its parts
+  pub put_together : (e : EntryValue) → refusal p s l e ≡ None → StandsFor v c l → Stands v' (after p s l e) → AllNoted v' (after p s l e) → ((u : ℕ) → Rests (after p s l e) u → Rests l u) → ((u : ℕ) → Rests (after p s l e) u → (v'.homes u).begun ≡ (v.homes u).begun) → CountsGo p s l c c' e.worker e.kind → StandsFor v' c' (after p s l e)
+  put_together e accepted W V' N' back begun C =
+      whole_stands v' c' (after p s l e) V' (counts_stand p s journal program legal c c' W.totals e accepted C) (rests_then e accepted)
+      (λ u r. begun u r ∙ home_rests v l u (v.homes u).begun (W.begun u (back u r)) (legal_rests p s journal legal u (back u r))) N'
+
+  pub took_stands_for : (w t : ℕ) → refusal p s l (record { worker = w; kind = Took t }) ≡ None → StandsFor v c l → SameBut v v' t → ((u : ℕ) → NotesStay v v' u) → CountsGo p s l c c' w (Took t) → StandsFor v' c' (after p s l (record { worker = w; kind = Took t }))
+  took_stands_for w t accepted W B N C =
+      let r = none_unless (is_ready l t) _ _ (entry_tells p s l (record { worker = w; kind = Took t }) (ap is_none accepted)).2 in
+      let run = (and_parts (is_running (slice_get l.machine.tasks t)) _ r.0).0 in
+      let g = heap_of_task l t S run in
+      let idle = running_idle (slice_get l.machine.tasks t) run in
+      let l' : Ledger = with_heap l t (λ h. record h { worker = Some w }) in
+      let L = took_takes l t w g.0 g.1 in
+      let other : (u : ℕ) → Rests l' u → u ≡ t → ⊥ = λ u q e. none_some (sym (subst (Rests l') e q) ∙ L.worker) in
+      put_together (record { worker = w; kind = Took t }) accepted W (released v v' l l' t w W.homes idle L B)
+      (steps_note v v' l l' t idle (takes_alone l l' t w L) B.homes B.owner B.sources (root_apart v l W.homes t idle) (record { none = (N t).keeps ∙ (W.keeps t ∙ ap (λ b. b && not (heap_of l t).swept) idle); others = λ u ne. N u }) (whole_notes v c l W))
+      (λ u q. ap (λ (h : Heap). h.worker) (sym (L.heaps u (other u q))) ∙ q)
+      (λ u q. ap (λ (h : Home). h.begun) (B.homes u (other u q))) C
+    where
+      none_some : {k : ℕ} → ◌≡◌ {A = Option ℕ} None (Some k) → ⊥
+      none_some q = absurd cc
+
+  pub quiet_stands_for : (e : EntryValue) → refusal p s l e ≡ None → IsQuiet e.kind → StandsFor v c l → SameObjects v v' l (after p s l e)
+      → ((u : ℕ) → (IsMarked e.kind u → ⊥) → NotesStay v v' u) → ((u : ℕ) → IsMarked e.kind u → MarksOn v v' (after p s l e) u) → CountsGo p s l c c' e.worker e.kind → StandsFor v' c' (after p s l e)
+  quiet_stands_for e accepted quiet W B N M C =
+      let Q = quiet_by p s l e.worker e.kind quiet in
+      put_together e accepted W (renewed v v' l (after p s l e) W.homes Q.0 B)
+      (quiet_notes v v' l (after p s l e) Q.0.machine (λ u r. Q.0.worker u ∙ r) B.frames B.owner B.sources Q.1 Q.0.snapshot B.objects B.chunks (λ k u g. elim (B.taken k u g) [ inl old ↦ inl old | inr new ↦ inr new.0 ])
+      (λ u. elim (marked_or p s l e.worker e.kind quiet u) [ inl m ↦ inr (inr (M u m)) | inr m ↦ inl (N u m.0, m.1) ]) (whole_notes v c l W))
+      (λ u r. sym (Q.0.worker u) ∙ r) (λ u r. B.begun u (rests_then e accepted u r ∙ sym (legal_rests p s journal legal u (sym (Q.0.worker u) ∙ r)))) C
+
+  -- a heap that is there is swept
+  swept_heap_at : (t : ℕ) (h : Heap) → slice_get l.heaps t ≡ Some h → (heap_of (with_heap l t swept_heap) t).swept ≡ true
+  swept_heap_at t h e = ap (λ o. (or_fresh o).swept) (with_at l t swept_heap ∙ ap (heap_then swept_heap) e)
+
+  pub sweeps_stand_for : (w t given : ℕ) → refusal p s l (record { worker = w; kind = Sweep t given }) ≡ None → StandsFor v c l → KeepsJust v v' l (after p s l (record { worker = w; kind = Sweep t given })) t (heap_of l t).snapshot → OthersNotes v v' t
+      → (v'.homes t).begun ≡ None → CountsGo p s l c c' w (Sweep t given) → StandsFor v' c' (after p s l (record { worker = w; kind = Sweep t given }))
+  sweeps_stand_for w t given accepted W B N begun C =
+      let e : EntryValue = record { worker = w; kind = Sweep t given } in
+      let wait = (wait_tells l t _ (entry_tells p s l e (ap is_none accepted)).2).0 in
+      let marked = (none_unless (is_some (heap_of l t).marked) _ _ (wait_tells l t _ (entry_tells p s l e (ap is_none accepted)).2).2).0 in
+      let L = sweep_changes l t in
+      let l' : Ledger = with_heap l t swept_heap in
+      let on : l.end ≡ None = none_of l.end (entry_tells p s l e (ap is_none accepted)).0 in
+      let rests : Rests l t = legal_idle p s journal legal on t (waiting_stops (slice_get l.machine.tasks t) wait) in
+      let swept_then : (heap_of l' t).swept ≡ true = swept_heap_at t (marked_heap l.heaps t (slice_get l.heaps t) refl marked).0 (marked_heap l.heaps t (slice_get l.heaps t) refl marked).1 in
+      let back : (u : ℕ) → Rests l' u → Rests l u = λ u r. sym (heap_view (λ h. h.worker) l t swept_heap (λ h. refl) u) ∙ r in
+      put_together e accepted W (swept v v' l l' t (heap_of l t).snapshot S W.homes wait rests L B)
+      (sweeps_note v v' l l' t W.homes L swept_then B N (whole_notes v c l W))
+      (λ u r. sym (heap_view (λ h. h.worker) l t swept_heap (λ h. refl) u) ∙ r) (λ u r. elim (cases_eq u t) [
+        | inl same ↦ ap (λ z. (v'.homes z).begun) same ∙ (begun ∙ sym (home_rests v l u (v.homes u).begun (W.begun u (back u r)) (legal_rests p s journal legal u (back u r))))
+        | inr ne ↦ ap (λ (h : Home). h.begun) (B.others u ne)
+      ]) C
+
+  pub ends_stand_for : (w t taken given left : ℕ) (h h' : Home) (f : Addr → Addr) → refusal p s l (record { worker = w; kind = EndOf t taken given left }) ≡ None → StandsFor v c l → CopyFits p s t h h' f v l → EndsAt v v' t h' f → h'.begun ≡ None → OthersNotes v v' t
+      → CountsGo p s l c c' w (EndOf t taken given left) → StandsFor v' c' (after p s l (record { worker = w; kind = EndOf t taken given left }))
+  ends_stand_for w t taken given left h h' f accepted W K E none N C =
+      let e : EntryValue = record { worker = w; kind = EndOf t taken given left } in
+      let tells = entry_tells p s l e (ap is_none accepted) in
+      let r = none_unless (is_out l w t) _ _ tells.2 in
+      let run = (and_parts (is_running (slice_get l.machine.tasks t)) _ r.0).0 in
+      let g = heap_of_task l t S run in
+      let x = running_at l.machine.tasks t (slice_get l.machine.tasks t) refl run in
+      let idle = running_idle (slice_get l.machine.tasks t) run in
+      let L = end_changes l t in
+      let l' : Ledger = with_heap l t (collected l.machine) in
+      let idle' : is_waiting (slice_get l'.machine.tasks t) ≡ false = ap (λ (m : Machine). is_waiting (slice_get m.tasks t)) L.machine ∙ idle in
+      let rest_idle : is_waiting (slice_get (rested l t).machine.tasks t) ≡ false = ap (λ (m : Machine). is_waiting (slice_get m.tasks t)) (heap_machine l t let_go) ∙ idle in
+      let M = copies_end p s t h h' f v v' l x.0 g.0 S x.1 (runs_is x.0.status x.2) g.1 K E none in
+      let can : can_step l.machine t ≡ true = ap₂ goes_on (legal_alive p s journal legal (none_of l.end tells.0)) run in
+      let before_notes = notes_ahead p s (before s t h) v l x.0 (legal_knows p s journal legal) K.old.fits (record { task = x.1; runs = x.2; can = can; steady = inl refl }) (whole_notes v c l W) in
+      put_together e accepted W (ran_stands p s (before s t h') v' l' M.1.fits.worker M.1.fits M.1.fits.out idle')
+      (notes_back t h' v' l' idle' M.1.fits.stands
+      (ends_note (with_home v t h) (with_home v' t h') (rested l t) (rested l' t) t (heap_of (rested l t) t).survivors f K.old.fits.stands rest_idle (rested_changes p s t h h' f v v' l x.0 0 S x.1 (runs_is x.0.status x.2) g.0 g.1 K E) M.0
+      (record { none = N.none; others = λ u ne. record { keeps = (N.others u ne).keeps; kept = (N.others u ne).kept; marked = (N.others u ne).marked } }) before_notes))
+      (λ u q. sym (heap_view (λ z. z.worker) l t (collected l.machine) (λ z. refl) u) ∙ q)
+      (λ u q. ap (λ (z : Home). z.begun) (E.others u (other u (sym (heap_view (λ z. z.worker) l t (collected l.machine) (λ z. refl) u) ∙ q)))) C
+    where
+      none_some : {k : ℕ} → ◌≡◌ {A = Option ℕ} None (Some k) → ⊥
+      none_some q = absurd cc
+
+      other : (u : ℕ) → Rests l u → u ≡ t → ⊥
+      other u q e = none_some (sym (subst (Rests l) e q) ∙ K.old.fits.out)

@@ -1,0 +1,47 @@
+-- The whole relation past an entry of steps.
+use Rattle.std.proofs.Common.{suc, ◌≡◌, ℕ, false, Option, Some, None, is_none, slice_get, refl, ap, subst, ◌∙◌}
+use Rattle.listed.proofs.Options.{none_of}
+use Rattle.run_trace.specs.Entry.{EntryValue}
+use Rattle.run_trace.specs.declared.entry.Kind.TheVariants.{Ran}
+use Rattle.run_ledger.specs.declared.data.Heap.{Heap}
+use Rattle.run_ledger.specs.declared.data.Ledger.{Ledger}
+use Rattle.run_ledger.specs.Heaps.{heap_of, or_fresh}
+use Rattle.run_ledger.specs.Steps.{task_steps}
+use Rattle.run_ledger.specs.Entries.{after}
+use Rattle.run_ledger.specs.Journals.{ledger_of}
+use Rattle.run_ledger.proofs.Journals.{entry_tells}
+use Rattle.run_ledger.specs.Sound.{collecting}
+use Rattle.ledger_step_laws.proofs.Ahead.{steps_sound}
+use Rattle.ledger_step_laws.proofs.Rested.{rested_view}
+use Rattle.run_ledger.proofs.Use.{entries_use}
+use Rattle.core_relation.specs.Fits.{part_for, with_home}
+use Rattle.core_relation.specs.Makes.{taken_by}
+use Rattle.core_entry_laws.specs.EntryLaws.{RanStandsFor}
+use Rattle.core_relation.specs.Whole.{StandsFor}
+use Rattle.core_entry_laws.proofs.whole.HandedBack.{handed_on}
+use Rattle.core_entry_laws.proofs.whole.HandedBack.{alive_machine}
+use Rattle.core_entry_laws.proofs.parts.Workers.{part_now}
+use Rattle.core_entry_laws.proofs.whole.Past.{home_rests, legal_rests, rests_then}
+use Rattle.core_entry_laws.proofs.notes.RanBegun.{ran_idle}
+use Rattle.core_entry_laws.proofs.whole.RanCounts.{ran_counts}
+use Rattle.core_entry_laws.proofs.whole.RanPast.{ran_keeps}
+use Rattle.core_entry_laws.proofs.whole.Together.{whole_stands, whole_notes}
+
+pub none_collects : (o : Option Heap) → collecting o ≡ false → (or_fresh o).begun ≡ None
+none_collects None h = refl
+none_collects (Some h) e = none_of h.begun e
+
+pub ran_stands_for : RanStandsFor
+ran_stands_for p s journal program legal v v' c c' w t k h accepted E handed Q C M N =
+    let l : Ledger = ledger_of p s journal in
+    let e : EntryValue = record { worker = w; kind = Ran t (suc k) } in
+    let alive : l.end ≡ None = none_of l.end (entry_tells p s l e (ap is_none accepted)).0 in
+    let W : StandsFor v c l = subst (StandsFor v c) (handed_on l alive) handed in
+    let F = part_now p s (part_for s t h (taken_by E.splits.kind k)) v l (alive_machine p s l (after p s l e) t w k E) Q in
+    let both = ran_keeps p s v v' l (after p s l e) t w k h E alive W.homes (whole_notes v c l W) F.fits C M in
+    let counts = ran_counts p s l (after p s l e) t w k E c c' W.totals alive (entries_use p s journal e program legal accepted) N in
+    let still : (j : ℕ) → (heap_of (task_steps p l t j) t).begun ≡ None = λ j. none_collects (slice_get (task_steps p l t j).heaps t) (steps_sound p s t j l (E.knows.sound, E.collects)).1 in
+    let n : ℕ = taken_by E.splits.kind k in
+    let own : h.begun ≡ None = home_rests (with_home v t h) _ t h.begun F.begun (rested_view (λ z. z.begun) (λ z. refl) (task_steps p l t n) t ∙ still n) in
+    let idle = ran_idle p s v v' l (after p s l e) t w k h E alive (λ u r. home_rests v l u (v.homes u).begun (W.begun u r) (legal_rests p s journal legal u r)) own (rests_then p s journal program legal v v' c c' e accepted) (still k) C in
+    whole_stands v' c' _ both.0 counts (λ u r. (idle u r).0) (λ u r. (idle u r).1) both.1

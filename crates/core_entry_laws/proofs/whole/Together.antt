@@ -1,0 +1,61 @@
+-- The whole relation from its parts, and the last laws on copies and on the end.
+use Rattle.std.proofs.Common.{refl, subst, ◌≡◌, ℕ, Option, Some, None, ap, sym, ◌∙◌, Bool, true, slice_get, inl}
+use Rattle.run_ledger.specs.declared.data.Ledger.{Ledger}
+use Rattle.run_ledger.specs.Heaps.{heap_of}
+use Rattle.core_relation.specs.Memory.{Memory}
+use Rattle.ledger_step_laws.specs.Accounts.{rested}
+use Rattle.core_relation.specs.Whole.{BegunBy, by_end, handed}
+use Rattle.ledger_step_laws.specs.Last.{EndsDone}
+use Rattle.core_relation.specs.Copies.{PartFits, before}
+use Rattle.core_entry_laws.proofs.parts.Quiet.{aside_is}
+use Rattle.core_entry_laws.specs.CopyLaws.{CopiesStay, CopiesEnd}
+use Rattle.core_entry_laws.specs.EntryLaws.{WholeStands, WholeNotes}
+use Rattle.core_entry_laws.proofs.parts.Statements.{CopiesLeave}
+use Rattle.core_relation.specs.Frames.{IsOut}
+use Rattle.hh_model.specs.declared.data.Task.{Task}
+use Rattle.hh_model.specs.declared.data.End.{End}
+use Rattle.hh_model.specs.declared.data.Status.TheVariants.{Running}
+use Rattle.hh_model.specs.Step.{can_step, goes_on, is_running}
+use Rattle.run_ledger.specs.Heaps.{with_heap, collected}
+use Rattle.ledger_step_laws.proofs.Ahead.{with_off}
+use Rattle.ledger_step_laws.proofs.Entries.{end_changes}
+use Rattle.core_entry_laws.proofs.parts.Ends.{fits_end}
+use Rattle.core_entry_laws.proofs.parts.Copies.{copy_stays, copy_fits, moves}
+use Rattle.ledger_step_laws.proofs.SameWords.{collected_alike}
+use Rattle.task_machine.specs.declared.part.Begun.{Begun}
+
+pub copies_stay : CopiesStay
+copies_stay p s t h h' f v v' l l' S A owner on F C =
+    copy_stays p s t h h' f v v' l l' owner A.heap (collected_alike l l' t S A) (subst (PartFits p s (before s t h) v') (aside_is l' on) F.part).fits C
+
+pub copies_end : CopiesEnd
+copies_end p s t h h' f v v' l x hs S is runs there C E none = (moves p s t h h' f v v' l x 0 S is runs hs there C E, copy_fits p s t h h' f v v' l x 0 S is runs hs there C E none)
+
+pub none_begun : (v : Memory) (l : Ledger) (t : ℕ) (o : Option Begun) → o ≡ None → (heap_of l t).begun ≡ None → BegunBy v l t o
+none_begun v l t None e h = h
+none_begun v l t (Some b) e h = absurd cc
+
+pub whole_stands : WholeStands
+whole_stands v c l V T begun none N = record { homes = V; totals = T; begun = λ t r. none_begun v l t (v.homes t).begun (none t r) (begun t r); keeps = λ t. (N t).keeps; since = λ t. (N t).since; marks = λ t. (N t).marks }
+
+pub whole_notes : WholeNotes
+whole_notes v c l W t = record { keeps = W.keeps t; since = W.since t; marks = W.marks t }
+
+pub done_is_handed : (l l' : Ledger) (t : ℕ) (x : Task) → EndsDone l l' t x → t ≡ 0 → handed l' ≡ rested l' t
+done_is_handed l l' t x D zero_is = ap (by_end l') D.is ∙ ap (rested l') (sym zero_is)
+
+-- the end of a copy's collection leaves the parts of others fitting
+pub copies_leave : CopiesLeave
+copies_leave p s t h h' f v v' l x hs K K' is runs there C E r y P ne G =
+    let l' : Ledger = with_heap l t (collected l.machine) in
+    fits_end p s t h h' r v v' l l' C.old.fits.worker x y f K K' C.old.fits G
+    (record { task = is; runs = ap (λ st. is_running (Some (record x { status = st }))) runs; can = goes_can_of l t x y P is runs; steady = inl refl }) P ne runs C.collects (end_changes l t)
+    (with_off l t r.task (collected l.machine) (λ e. ne (sym e))) ((end_changes l t).worker ∙ C.old.fits.out) (moves p s t h h' f v v' l x 0 K.sound is runs hs there C E)
+  where
+    -- where one running task can step, so can another
+    goes_can_of : (l : Ledger) (t : ℕ) (x y : Task) → IsOut l r y → slice_get l.machine.tasks t ≡ Some x → x.status ≡ Running → can_step l.machine t ≡ true
+    goes_can_of l t x y P is runs = by l.machine.end (is_running (slice_get l.machine.tasks r.task)) P.can
+      where
+        by : (o : Option End) (b : Bool) → goes_on o b ≡ true → goes_on o (is_running (slice_get l.machine.tasks t)) ≡ true
+        by None b h = ap is_running is ∙ ap (λ st. is_running (Some (record x { status = st }))) runs
+        by (Some e) b h = absurd cc

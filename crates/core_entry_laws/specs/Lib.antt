@@ -1,0 +1,5 @@
+pub mod Now
+pub mod First
+pub mod EntryLaws
+pub mod WorkerLaws
+pub mod CopyLaws
