@@ -17,7 +17,7 @@ use Rattle.run_ledger.specs.declared.data.Ledger.{Ledger}
 use Rattle.run_ledger.specs.Heaps.{heap_of}
 use Rattle.run_ledger.specs.Steps.{is_open, is_private_by, is_private_line, task_steps}
 use Rattle.run_ledger.proofs.Bounds.{ran_tells}
-use Rattle.run_ledger.proofs.Counted.{journals_are_counted}
+use Rattle.journal_laws.proofs.Counted.{journals_are_counted}
 use Rattle.heap_tree.specs.declared.state.State.TheVariants.{Out}
 use Rattle.heap_tree.specs.Node.{Node, depth_of, parent_in, parent_of as parent_in_tree, state_of as state_in_tree}
 use Rattle.ledger_step_laws.specs.Last.{Splits}

@@ -14,7 +14,7 @@ use Rattle.run_ledger.specs.declared.data.Ledger.{Ledger}
 use Rattle.run_ledger.specs.Heaps.{heap_of, let_go, or_fresh}
 use Rattle.run_ledger.specs.Space.{CountsFew}
 use Rattle.run_ledger.proofs.Bounds.{ran_tells, task_steps_steps}
-use Rattle.run_ledger.proofs.Since.{since_is_few}
+use Rattle.journal_laws.proofs.Since.{since_is_few}
 use Rattle.run_ledger.proofs.Machine.{heap_machine}
 use Rattle.alloc_path.specs.LeafHeapValue.{LeafHeapValue}
 use Rattle.chunk_rows.specs.View.{Level}

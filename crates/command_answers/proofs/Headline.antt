@@ -13,7 +13,7 @@ use Rattle.run_ledger.specs.declared.data.Ledger.{Ledger}
 use Rattle.run_ledger.specs.Heaps.{heap_of, held_in}
 use Rattle.run_ledger.specs.Journals.{IsPrefix, is_legal, ledger_of, tasks_of}
 use Rattle.run_ledger.proofs.Cuts.{journals_can_be_cut}
-use Rattle.run_ledger.proofs.Drops.{held_is_undropped}
+use Rattle.journal_laws.proofs.Drops.{held_is_undropped}
 use Rattle.run_ledger.proofs.Journals.{nothing_reachable_is_freed}
 use Rattle.ledger_step_laws.specs.Accounts.{Rests}
 use Rattle.core_relation.specs.Stands.{HomeStands}

@@ -14,7 +14,7 @@ use Rattle.run_ledger.specs.declared.data.Ledger.{Ledger}
 use Rattle.run_ledger.specs.Entries.{after, refusal}
 use Rattle.run_ledger.specs.Journals.{is_legal, is_legal_from, ledger_of, tasks_in, tasks_of}
 use Rattle.run_ledger.proofs.Cuts.{journals_can_be_cut}
-use Rattle.run_ledger.proofs.Fewer.{fewer_steps_are_legal}
+use Rattle.journal_laws.proofs.Fewer.{fewer_steps_are_legal}
 use Rattle.run_ledger.proofs.Machine.{entries_move_machine, kind_machine}
 use Rattle.ledger_step_laws.proofs.Split.{split_leaves}
 

@@ -16,7 +16,7 @@ use Rattle.run_ledger.specs.declared.data.Heap.{Heap}
 use Rattle.run_ledger.specs.declared.data.Ledger.{Ledger}
 use Rattle.run_ledger.specs.declared.data.RunEnd.TheVariants.{Fuel as FuelEnd, Pool}
 use Rattle.run_ledger.specs.declared.data.Refused.{Refused}
-use Rattle.run_ledger.specs.Frozen.{begins}
+use Rattle.journal_laws.specs.Frozen.{begins}
 use Rattle.run_ledger.specs.Heaps.{chunk_words, collected, end_numbers, heap_of, held_in, in_use, is_small, or_fresh, swept_heap, take_of, with_heap, within, words_at, words_in, words_of, words_sum}
 use Rattle.run_ledger.specs.Steps.{allocated_by, allocated_in, on_asked, stepped_to, task_step, task_steps}
 use Rattle.run_ledger.specs.Entries.{after, after_kind, chunk_units, ends_as, is_fuel, is_out, is_ready, kind_refusal, on_waiting, refusal, refused_unless, with_chunk}
@@ -25,14 +25,13 @@ use Rattle.run_ledger.specs.Journals.{is_legal, ledger_of, opening}
 use Rattle.run_ledger.specs.Laws.{HoldsOnce, HoldsTasks, LeavesTask}
 use Rattle.run_ledger.specs.Sound.{SoundAt, SoundLedger, collecting}
 use Rattle.run_ledger.proofs.Cuts.{joined_legal, none_is}
-use Rattle.run_ledger.proofs.Frames.{entries_leave_others, held_is, left_step}
+use Rattle.run_ledger.proofs.Frames.{entries_leave_others, held_is, left_step, heap_off}
 use Rattle.run_ledger.proofs.Holders.{tasks_are_held_once}
 use Rattle.run_ledger.proofs.Journals.{collecting_is, entry_tells, legal_sound, none_unless, none_where, out_tells, wait_tells}
 use Rattle.run_ledger.proofs.Moves.{moves_each}
 use Rattle.run_ledger.proofs.Steps.{step_leaves, task_step_sound, task_steps_sound}
 use Rattle.run_ledger.proofs.Stocks.{names_are_held_once}
-use Rattle.run_ledger.proofs.Waiters.{waiters_are_free}
-use Rattle.run_ledger.proofs.History.{heap_off}
+use Rattle.journal_laws.proofs.Waiters.{waiters_are_free}
 use Rattle.run_ledger.proofs.Machine.{heap_machine}
 use Rattle.ledger_step_laws.proofs.Ahead.{heap_then, with_at, with_off}
 

@@ -14,7 +14,7 @@ use Rattle.hh_model.specs.Step.{is_running, is_waiting}
 use Rattle.path_laws.proofs.Leaves.{waiting_stops}
 use Rattle.run_ledger.specs.declared.data.Ledger.{Ledger}
 use Rattle.run_ledger.specs.Entries.{after, after_kind}
-use Rattle.run_ledger.specs.Frozen.{begins}
+use Rattle.journal_laws.specs.Frozen.{begins}
 use Rattle.run_ledger.specs.Heaps.{collected, heap_of, held_in, in_use, swept_heap, with_heap, words_in, words_sum}
 use Rattle.run_ledger.specs.Journals.{ledger_of, opening}
 use Rattle.run_ledger.specs.Report.{lost}

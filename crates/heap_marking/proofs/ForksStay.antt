@@ -20,7 +20,7 @@ use Rattle.run_ledger.specs.Entries.{after, after_kind, chunk_units, kind_refusa
 use Rattle.run_ledger.specs.Sound.{SoundAt, SoundLedger}
 use Rattle.run_ledger.proofs.Journals.{entry_tells, out_tells}
 use Rattle.run_ledger.proofs.Machine.{stepped_machine}
-use Rattle.run_ledger.proofs.OwedEntries.{Touched, joins_grow}
+use Rattle.journal_laws.proofs.OwedEntries.{Touched, joins_grow}
 use Rattle.run_ledger.proofs.Steps.{can_tells, step_leaves, task_step_sound}
 use Rattle.run_ledger.proofs.Stocks.{with_heap_any}
 use Rattle.heap_marking.proofs.StepsKeepForks.{TreeMoves, step_moves, tree_same}

@@ -10,7 +10,7 @@ use Rattle.hh_model.specs.declared.data.Name.{Name}
 use Rattle.run_ledger.specs.declared.data.Heap.{Heap}
 use Rattle.run_ledger.specs.declared.data.Ledger.{Ledger}
 use Rattle.run_ledger.specs.Heaps.{heap_of, held_in, left_in, marked_in, or_fresh, with_heap}
-use Rattle.run_ledger.proofs.History.{snapshots_are_held}
+use Rattle.journal_laws.proofs.History.{snapshots_are_held}
 use Rattle.object_layout.specs.declared.word.Addr.{Addr}
 use Rattle.object_layout.proofs.Distinct.{distinct_take}
 use Rattle.object_layout.specs.Graph.{IsHeld, Leads}

@@ -8,7 +8,7 @@ use Rattle.hh_model.specs.declared.data.Task.{Task}
 use Rattle.hh_model.specs.Step.{is_waiting}
 use Rattle.run_ledger.specs.declared.data.Ledger.{Ledger}
 use Rattle.run_ledger.specs.Heaps.{heap_of, held_in, left_in}
-use Rattle.run_ledger.proofs.History.{snapshots_are_held}
+use Rattle.journal_laws.proofs.History.{snapshots_are_held}
 use Rattle.run_ledger.proofs.Journals.{legal_sound}
 use Rattle.object_layout.specs.declared.word.Addr.{Addr}
 use Rattle.object_layout.specs.Chunks.{cell_of, object_count}

@@ -13,8 +13,8 @@ use Rattle.run_ledger.specs.declared.data.Previous.TheVariants.{Other as OtherEn
 use Rattle.run_ledger.specs.declared.data.WorkerPace.{WorkerPace}
 use Rattle.run_ledger.specs.Heaps.{heap_of}
 use Rattle.run_ledger.specs.Pace.{fork_of, previous_by, waits_on, waits_since}
-use Rattle.run_ledger.proofs.OwedEntries.{waits_tells as since_tells}
-use Rattle.run_ledger.proofs.OwedEntries.{Touched}
+use Rattle.journal_laws.proofs.OwedEntries.{waits_tells as since_tells}
+use Rattle.journal_laws.proofs.OwedEntries.{Touched}
 use Rattle.heap_marking.specs.declared.pace.Fork.{Fork}
 use Rattle.heap_marking.specs.declared.pace.Pace.{Pace}
 use Rattle.heap_marking.specs.declared.pace.Previous.{Previous}

@@ -11,7 +11,7 @@ use Rattle.run_ledger.specs.declared.data.Heap.{Heap as Account}
 use Rattle.run_ledger.specs.declared.data.Ledger.{Ledger}
 use Rattle.run_ledger.specs.Heaps.{heap_of, held_in, left_in}
 use Rattle.run_ledger.specs.Reachable.{holds_name}
-use Rattle.run_ledger.proofs.History.{snapshots_are_held}
+use Rattle.journal_laws.proofs.History.{snapshots_are_held}
 use Rattle.run_ledger.proofs.Members.{holds_from_in, in_from_holds}
 use Rattle.run_ledger.proofs.Use.{chunks_are_used}
 use Rattle.alloc_path.specs.LeafHeapValue.{room_of}

@@ -21,10 +21,10 @@ use Rattle.run_ledger.specs.Heaps.{heap_of, held, held_in, in_use, let_go, or_fr
 use Rattle.run_ledger.specs.Report.{held_not_running, held_not_running_from}
 use Rattle.run_ledger.proofs.Holders.{tasks_are_held_once}
 use Rattle.run_ledger.proofs.Bounds.{steps_are_bounded}
-use Rattle.run_ledger.proofs.Counted.{journals_are_counted}
+use Rattle.journal_laws.proofs.Counted.{journals_are_counted}
 use Rattle.run_ledger.proofs.Space.{heaps_fit, use_is_bounded}
 use Rattle.run_ledger.proofs.Stocks.{names_are_held_once}
-use Rattle.run_ledger.proofs.KeptNames.{stored_most, kept_least}
+use Rattle.journal_laws.proofs.KeptNames.{stored_most, kept_least}
 use Rattle.object_layout.specs.Chunks.{held_words, object_count}
 use Rattle.object_layout.specs.ChunkValue.{ChunkValue}
 use Rattle.object_layout.specs.Objects.{Located}

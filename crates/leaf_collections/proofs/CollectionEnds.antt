@@ -20,7 +20,7 @@ use Rattle.run_ledger.specs.Heaps.{collected, heap_of, or_fresh, with_heap, with
 use Rattle.run_ledger.specs.Journals.{is_legal}
 use Rattle.run_ledger.specs.Sound.{SoundLedger}
 use Rattle.run_ledger.proofs.Holders.{tasks_are_held_once}
-use Rattle.run_ledger.proofs.Waiters.{waiters_are_free}
+use Rattle.journal_laws.proofs.Waiters.{waiters_are_free}
 use Rattle.run_ledger.proofs.Going.{machine_goes_on}
 use Rattle.run_ledger.proofs.Machine.{heap_machine}
 use Rattle.object_layout.specs.declared.word.Addr.{Addr}

@@ -24,7 +24,7 @@ use Rattle.run_ledger.specs.Reachable.{once_more, reached_by, reached}
 use Rattle.run_ledger.specs.Steps.{at_fork, join_heaps}
 use Rattle.ledger_step_laws.specs.Accounts.{rested, ChangesHeap, Takes, SameTasks}
 use Rattle.run_ledger.specs.Sound.{SoundLedger}
-use Rattle.run_ledger.proofs.Forked.{once_by}
+use Rattle.run_ledger.proofs.Reached.{once_by}
 use Rattle.run_ledger.proofs.Machine.{heap_machine}
 use Rattle.ledger_step_laws.specs.Kinds.{ForksTask, JoinsTasks}
 use Rattle.ledger_step_laws.proofs.Ahead.{with_at, with_off, heap_then}

@@ -10,7 +10,7 @@ use Rattle.run_ledger.specs.Heaps.{heap_of, let_go, or_fresh}
 use Rattle.run_ledger.specs.Sound.{collecting}
 use Rattle.run_ledger.specs.Steps.{task_steps}
 use Rattle.run_ledger.proofs.Sound.{SoundLedger}
-use Rattle.run_ledger.proofs.Since.{limit_small}
+use Rattle.journal_laws.proofs.Since.{limit_small}
 use Rattle.run_ledger.proofs.Machine.{heap_machine}
 use Rattle.alloc_path.specs.LeafHeapValue.{LeafHeapValue as HeapOfCode}
 use Rattle.ledger_step_laws.specs.Accounts.{ArePrivate, StepsAlone, own, rested}

@@ -18,7 +18,7 @@ use Rattle.run_ledger.specs.declared.data.Heap.{Heap}
 use Rattle.run_ledger.specs.Heaps.{is_small, placed, put_last}
 use Rattle.run_ledger.specs.Space.{AsksAtMost}
 use Rattle.run_ledger.specs.Steps.{on_asked}
-use Rattle.run_ledger.proofs.Asked.{counts_few}
+use Rattle.journal_laws.proofs.Asked.{counts_few}
 use Rattle.task_machine.specs.Accounts.{account_after, account_by}
 use Rattle.task_machine.specs.Outline.{steps}
 use Rattle.shared_value.proofs.Packs.{IsFew, PacksFew}

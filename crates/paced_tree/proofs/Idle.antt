@@ -7,7 +7,7 @@ use Rattle.run_trace.specs.Settings.{SettingsValue}
 use Rattle.run_ledger.specs.Journals.{ledger_of}
 use Rattle.run_ledger.specs.Pace.{idle, is_paced, pace_at_end, pace_of}
 use Rattle.run_ledger.specs.declared.data.Ledger.{Ledger}
-use Rattle.run_ledger.proofs.PaceLaw.{idle_at}
+use Rattle.journal_laws.proofs.PaceLaw.{idle_at}
 use Rattle.shared_value.specs.declared.answer.NotEntered.{NotEntered}
 use Rattle.shared_value.specs.declared.answer.NotEntered.TheVariants.{NoMemory, Refuses}
 use Rattle.shared_value.specs.SharedValue.{SharedValue, accounts}

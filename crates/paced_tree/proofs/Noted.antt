@@ -15,9 +15,9 @@ use Rattle.run_ledger.specs.Entries.{after, is_fuel}
 use Rattle.run_ledger.specs.Heaps.{heap_of}
 use Rattle.run_ledger.specs.Journals.{after_all, opening}
 use Rattle.run_ledger.specs.Pace.{is_paced, noted, or_idle, pace_after, pace_after_all, pace_at_end, pace_of, pace_opening}
-use Rattle.run_ledger.proofs.Paced.{pace_goes_on}
+use Rattle.journal_laws.proofs.Paced.{pace_goes_on}
 use Rattle.run_ledger.specs.declared.data.Refused.{Refused}
-use Rattle.run_ledger.proofs.PaceLaw.{length_opening, pace_same}
+use Rattle.journal_laws.proofs.PaceLaw.{length_opening, pace_same}
 use Rattle.shared_value.specs.Entered.{cause_of, refused, Enters}
 use Rattle.shared_value.specs.Stands.{IsSharedValue}
 use Rattle.shared_value.specs.SharedValue.{SharedValue, accounts}

@@ -22,8 +22,7 @@ use Rattle.run_ledger.proofs.Sound.{SoundLedger}
 use Rattle.run_ledger.proofs.Steps.{SoundAt, step_leaves, task_step_sound, worker_at}
 use Rattle.run_ledger.proofs.Stocks.{with_heap_any}
 use Rattle.run_ledger.proofs.Journals.{none_unless, out_tells}
-use Rattle.run_ledger.proofs.Frames.{held_is}
-use Rattle.run_ledger.proofs.Accepted.{is_held}
+use Rattle.run_ledger.proofs.Frames.{held_is, is_held}
 use Rattle.run_accounts.specs.Accounts.{AccountsValue, Agrees, taken_after}
 
 -- WHO HOLDS A TASK

@@ -13,7 +13,7 @@ use Rattle.run_ledger.specs.Journals.{ledger_of, is_legal}
 use Rattle.run_ledger.specs.Report.{held_not_running}
 use Rattle.run_ledger.specs.Laws.{HoldsOnce}
 use Rattle.run_ledger.specs.Space.{AllFit}
-use Rattle.run_ledger.proofs.KeptNames.{kept_least, stored_most}
+use Rattle.journal_laws.proofs.KeptNames.{kept_least, stored_most}
 use Rattle.run_ledger.proofs.Stocks.{names_are_held_once}
 use Rattle.run_ledger.proofs.Space.{heaps_fit, use_is_bounded}
 use Rattle.run_journal.specs.BookValue.{IsLegalLedger}

@@ -31,7 +31,7 @@ use Rattle.run_ledger.proofs.Space.{legal_booked}
 use Rattle.run_ledger.proofs.Journals.{legal_sound, entry_tells, out_tells}
 use Rattle.run_ledger.proofs.Cuts.{after_cut, cut_legal}
 use Rattle.run_ledger.proofs.Bounds.{asked_bounds, stands_by, ran_tells, task_steps_steps, steps_are_bounded}
-use Rattle.run_ledger.proofs.Since.{since_additive, since_in}
+use Rattle.journal_laws.proofs.Since.{since_additive, since_in}
 use Rattle.run_accounts.specs.Accounts.{Steady, StaysSteady}
 use Rattle.run_accounts.proofs.Stepped.{small_enough, placed_is}
 use Rattle.run_accounts.proofs.Snaps.{one_each, Snaps, snaps_set, snaps_allocated, snaps_settled, sound_paired}

@@ -1,8 +1,8 @@
 -- What an entry of one worker leaves of what another worker holds.
-use Rattle.std.proofs.Common.{◌≡◌, ℕ, zero, suc, ◌+◌, Bool, true, false, cond, Option, Some, None, ◌∷◌, slice_get, nat_lt, inl, refl, ap, sym, subst, ◌∙◌, is_none, is_some}
-use Rattle.std.proofs.lemmas.Bool.{false≢true, and_parts, eqb-true}
+use Rattle.std.proofs.Common.{◌≡◌, ℕ, zero, suc, ◌+◌, Bool, true, false, cond, Option, Some, None, ◌∷◌, slice_get, nat_lt, inl, refl, ap, sym, subst, ◌∙◌, is_none, is_some, slice_set, inr, eq-eqb}
+use Rattle.std.proofs.lemmas.Bool.{false≢true, and_parts, eqb-true, cases_eq}
 use Rattle.std.proofs.lemmas.Option.{same_Some}
-use Rattle.listed.proofs.Members.{got_other}
+use Rattle.listed.proofs.Members.{got_other, got_same}
 use Rattle.listed.proofs.Options.{none_is}
 use Rattle.run_trace.specs.declared.entry.Kind.{Kind}
 use Rattle.run_trace.specs.declared.entry.Kind.TheVariants.{Took, Ran, Chunk, Begin, End as EndOf, PutOff, Mark, More, Sweep, Fuel}
@@ -73,6 +73,21 @@ left_chunk l t u next false ne = left_heap l t u (with_chunk next) ne
 pub held_is : (o : Option ℕ) (w : ℕ) → option_is o w ≡ true → o ≡ Some w
 held_is None w h = absurd (false≢true h)
 held_is (Some v) w h = ap Some (eqb-true v w h)
+
+pub is_held : (o : Option ℕ) (w : ℕ) → o ≡ Some w → option_is o w ≡ true
+is_held o w e = ap (λ q. option_is q w) e ∙ eq-eqb w w refl
+
+-- what of a heap a change keeps
+pub heap_view : {A : Type 0} (view : Heap → A) (l : Ledger) (u : ℕ) (f : Heap → Heap) → ((h : Heap) → view (f h) ≡ view h) → (t : ℕ) → view (heap_of (with_heap l u f) t) ≡ view (heap_of l t)
+heap_view view l u f same t = with_heap_any (λ k. view (heap_of k t) ≡ view (heap_of l t)) l u f refl (λ h e. elim (cases_eq t u) [
+  | inl q ↦
+      ap (λ v. view (or_fresh (slice_get (slice_set l.heaps u (f h)) v))) q
+      ∙ (ap (λ o. view (or_fresh o)) (got_same l.heaps u h (f h) e) ∙ (same h ∙ (ap (λ o. view (or_fresh o)) (sym e) ∙ ap (λ v. view (or_fresh (slice_get l.heaps v))) (sym q))))
+  | inr ne ↦ ap (λ o. view (or_fresh o)) (got_other l.heaps u t (f h) ne)
+])
+
+pub heap_off : (l : Ledger) (u : ℕ) (f : Heap → Heap) (t : ℕ) → (t ≡ u → ⊥) → heap_of (with_heap l u f) t ≡ heap_of l t
+heap_off l u f t ne = with_heap_any (λ k. heap_of k t ≡ heap_of l t) l u f refl (λ h e. ap or_fresh (got_other l.heaps u t (f h) ne))
 
 module _ (p : ProgramText) (s : SettingsValue) (l : Ledger) (w u v : ℕ) (S : SoundLedger l) (other : v ≡ w → ⊥) (held : (heap_of l u).worker ≡ Some v) (run : is_running (slice_get l.machine.tasks u) ≡ true) where
   -- a task that the worker holds is another one

@@ -122,3 +122,7 @@ reached_is_walks store names roots n = (
   λ c. walk_from_in store names roots (length names) n (in_from_contains (reached store names roots) n c),
   λ w. contains_from_in (reached store names roots) n (in_from_walk store names roots n w),
 )
+
+-- of some names, those that were found, and those to which these have references
+abbrev pub once_by : (Name → List Name) → List Name → List Name → List Name
+once_by refs names found = filter (λ n. holds_name found n || list_any (λ m. holds_name (refs m) n) found) names

@@ -15,7 +15,7 @@ use Rattle.run_ledger.specs.Report.{tally, lost, count_end, count_putoff, count_
 use Rattle.run_ledger.specs.Journals.{opening, after_all, ledger_of, is_legal, first_refused_from, first_refused}
 use Rattle.run_journal.specs.BookValue.{BookValue}
 use Rattle.run_ledger.proofs.Cuts.{after_cut, joined_legal}
-use Rattle.run_ledger.proofs.Words.{words_are_accounted}
+use Rattle.journal_laws.proofs.Words.{words_are_accounted}
 use Rattle.run_journal.proofs.Steadies.{legal_stored}
 use Rattle.run_journal.proofs.Replays.{accounts_next, refused_next}
 use Rattle.run_report.specs.declared.totals.Totals.{Totals}

@@ -28,7 +28,7 @@ use Rattle.run_ledger.proofs.Cuts.{after_cut, joined_legal}
 use Rattle.run_ledger.proofs.Grown.{Grown, grown}
 use Rattle.run_ledger.proofs.Machine.{entries_move_machine, machine_is_run}
 use Rattle.run_ledger.proofs.Weights.{sum_flat}
-use Rattle.run_ledger.proofs.Words.{words_are_accounted}
+use Rattle.journal_laws.proofs.Words.{words_are_accounted}
 use Rattle.run_report.specs.Totals.{cleared_words}
 use Rattle.run_report.proofs.Sums.{lost_is}
 use Rattle.run_timeline.specs.Words.{WordsFollowEntries, objects_by, objects_made, words_by, words_held, words_made}

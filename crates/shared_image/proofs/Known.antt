@@ -22,7 +22,7 @@ use Rattle.run_ledger.specs.declared.data.Ledger.{Ledger}
 use Rattle.run_ledger.specs.Heaps.{heap_of, held_in}
 use Rattle.run_ledger.specs.Journals.{tasks_of}
 use Rattle.run_ledger.proofs.Bounds.{steps_are_bounded}
-use Rattle.run_ledger.proofs.Counted.{journals_are_counted}
+use Rattle.journal_laws.proofs.Counted.{journals_are_counted}
 use Rattle.run_ledger.proofs.Machine.{machine_is_run}
 use Rattle.heap_tree.specs.declared.state.State.TheVariants.{Joined as IsJoined}
 use Rattle.heap_tree.specs.Node.{state_of}

@@ -12,8 +12,8 @@ use Rattle.run_ledger.specs.Cuts.{CanBeGiven}
 use Rattle.run_ledger.specs.Entries.{is_pool_enough, kind_refusal, refused_if, refused_unless}
 use Rattle.run_ledger.specs.Heaps.{heap_of, sweep_number}
 use Rattle.run_ledger.specs.Steps.{on_asked}
-use Rattle.run_ledger.proofs.OwedEntries.{owed_can_be_given}
-use Rattle.run_ledger.proofs.Accepted.{not_refused}
+use Rattle.journal_laws.proofs.OwedEntries.{owed_can_be_given}
+use Rattle.journal_laws.proofs.Accepted.{not_refused}
 use Rattle.chunk_pool.specs.PoolValue.{units_in_use}
 use Rattle.alloc_path.specs.LeafHeapValue.{place_for, room_of}
 use Rattle.leaf_copy_gc.specs.declared.lists.Moved.{Moved}

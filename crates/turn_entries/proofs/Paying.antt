@@ -9,7 +9,7 @@ use Rattle.run_ledger.specs.Cuts.{CanBeGiven}
 use Rattle.run_ledger.specs.Entries.{kind_refusal, refused_unless}
 use Rattle.run_ledger.specs.Heaps.{heap_of, left_in, marked_in, sweep_number}
 use Rattle.run_ledger.specs.Pace.{gives}
-use Rattle.run_ledger.proofs.OwedEntries.{owed_can_be_given}
+use Rattle.journal_laws.proofs.OwedEntries.{owed_can_be_given}
 use Rattle.shared_value.specs.Stands.{IsSharedValue}
 use Rattle.shared_value.specs.SharedValue.{SharedValue, accounts}
 use Rattle.heap_marking.specs.MarkCauses.{marking_cause}

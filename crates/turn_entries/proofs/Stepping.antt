@@ -12,9 +12,9 @@ use Rattle.run_trace.specs.Entry.{private_limit}
 use Rattle.run_ledger.specs.declared.data.Ledger.{Ledger}
 use Rattle.run_ledger.specs.Journals.{tasks_of}
 use Rattle.run_ledger.proofs.Bounds.{steps_are_bounded}
-use Rattle.run_ledger.proofs.Counted.{journals_are_counted}
+use Rattle.journal_laws.proofs.Counted.{journals_are_counted}
 use Rattle.run_ledger.proofs.Machine.{machine_is_run}
-use Rattle.run_ledger.proofs.Since.{limit_small}
+use Rattle.journal_laws.proofs.Since.{limit_small}
 use Rattle.task_machine.specs.declared.part.Private.{Private}
 use Rattle.task_machine.specs.declared.part.Paused.{Paused}
 use Rattle.task_machine.specs.declared.part.Paused.TheVariants.{Spent}

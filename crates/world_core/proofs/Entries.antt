@@ -5,7 +5,7 @@ use Rattle.hh_model.specs.declared.data.State.{State}
 use Rattle.hh_model.specs.Effect.{row_of}
 use Rattle.run_ledger.specs.declared.data.Ledger.{Ledger}
 use Rattle.run_ledger.proofs.Bounds.{steps_are_bounded}
-use Rattle.run_ledger.proofs.Counted.{journals_are_counted}
+use Rattle.journal_laws.proofs.Counted.{journals_are_counted}
 use Rattle.task_machine.specs.declared.part.Private.{Private}
 use Rattle.task_machine.specs.Outline.{steps}
 use Rattle.task_machine.specs.Fits.{unended}

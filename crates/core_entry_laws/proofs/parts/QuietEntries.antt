@@ -14,7 +14,7 @@ use Rattle.run_ledger.specs.Steps.{on_asked}
 use Rattle.run_ledger.specs.Entries.{after_kind, chunk_units, with_chunk, kind_refusal}
 use Rattle.run_ledger.proofs.Journals.{wait_tells}
 use Rattle.std.proofs.Common.{is_none}
-use Rattle.run_ledger.proofs.History.{heap_view}
+use Rattle.run_ledger.proofs.Frames.{heap_view}
 use Rattle.ledger_step_laws.specs.Accounts.{SameTasks}
 use Rattle.ledger_step_laws.proofs.Ahead.{with_off}
 use Rattle.ledger_step_laws.proofs.Entries.{same_tasks}

@@ -23,7 +23,7 @@ use Rattle.run_ledger.proofs.Holders.{tasks_are_held_once}
 use Rattle.run_ledger.proofs.Journals.{none_unless, entry_tells, wait_tells, legal_sound}
 use Rattle.run_ledger.specs.Sound.{SoundLedger}
 use Rattle.run_ledger.proofs.Steps.{heap_of_task, running_at}
-use Rattle.run_ledger.proofs.History.{heap_view}
+use Rattle.run_ledger.proofs.Frames.{heap_view}
 use Rattle.run_ledger.proofs.Machine.{heap_machine}
 use Rattle.ledger_step_laws.specs.Accounts.{Rests, StepsAlone, Takes, rested}
 use Rattle.ledger_step_laws.proofs.Ahead.{with_at, heap_then}

@@ -8,8 +8,7 @@ use Rattle.run_ledger.specs.declared.data.Ledger.{Ledger}
 use Rattle.run_ledger.specs.Heaps.{heap_of, or_fresh}
 use Rattle.run_ledger.specs.Entries.{held_from}
 use Rattle.listed.specs.Options.{option_is}
-use Rattle.run_ledger.proofs.Accepted.{is_held}
-use Rattle.run_ledger.proofs.Frames.{held_is}
+use Rattle.run_ledger.proofs.Frames.{held_is, is_held}
 use Rattle.core_entry_laws.specs.EntryLaws.{TasksOutAreHeld}
 
 -- where no heap is found, the worker holds none

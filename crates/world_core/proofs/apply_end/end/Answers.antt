@@ -1,5 +1,5 @@
 use Rattle.std.proofs.Common.{ap, sym, ◌∙◌}
-use Rattle.run_ledger.proofs.Accepted.{not_refused}
+use Rattle.journal_laws.proofs.Accepted.{not_refused}
 use Rattle.shared_tree.specs.Ends.{end_cause}
 use Rattle.world_core.proofs.HoldingCauses.{copy_fits, end_free}
 use Rattle.world_core.proofs.apply_end.end.Goals as goal

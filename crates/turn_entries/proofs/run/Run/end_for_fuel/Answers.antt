@@ -1,7 +1,7 @@
 use Rattle.std.proofs.Common.{ap, sym, ◌∙◌, is_some}
 use Rattle.run_trace.specs.declared.entry.Kind.TheVariants.{Fuel}
 use Rattle.run_ledger.specs.declared.data.Ledger.{Ledger}
-use Rattle.run_ledger.proofs.Accepted.{not_refused}
+use Rattle.journal_laws.proofs.Accepted.{not_refused}
 use Rattle.shared_value.specs.Entered.{cause_of}
 use Rattle.heap_marking.proofs.ForksTold.{entered_accounts}
 use Rattle.turn_entries.proofs.Free.{fuel_free}

@@ -1,7 +1,7 @@
 use Rattle.std.proofs.Common.{◌≡◌, ap, sym, subst, ◌∙◌}
 use Rattle.run_trace.specs.declared.entry.Kind.{Kind}
 use Rattle.run_trace.specs.declared.entry.Kind.TheVariants.{End}
-use Rattle.run_ledger.proofs.Accepted.{not_refused}
+use Rattle.journal_laws.proofs.Accepted.{not_refused}
 use Rattle.task_machine.specs.declared.part.Private.{Private}
 use Rattle.shared_value.specs.Entered.{Enters, refused}
 use Rattle.leaf_collections.specs.LeafEnd.{FitsCopied, end_event, ended}

@@ -1,7 +1,7 @@
 use Rattle.std.proofs.Common.{ℕ, Some, subst, ap, sym, ◌∙◌}
 use Rattle.run_trace.specs.declared.entry.Kind.{Kind}
 use Rattle.run_trace.specs.declared.entry.Kind.TheVariants.{Sweep}
-use Rattle.run_ledger.proofs.Accepted.{not_refused}
+use Rattle.journal_laws.proofs.Accepted.{not_refused}
 use Rattle.shared_value.specs.Entered.{cause_of}
 use Rattle.turn_entries.specs.Acts.{ActsFor}
 use Rattle.turn_entries.proofs.Free.{sweep_free}

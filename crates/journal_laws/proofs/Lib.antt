@@ -1,0 +1,16 @@
+pub mod Drops
+pub mod Within
+pub mod Paced
+pub mod Words
+pub mod Since
+pub mod OwedEntries
+pub mod Asked
+pub mod Counted
+pub mod Fewer
+pub mod OfNames
+pub mod Waiters
+pub mod History
+pub mod Forked
+pub mod Accepted
+pub mod PaceLaw
+pub mod KeptNames

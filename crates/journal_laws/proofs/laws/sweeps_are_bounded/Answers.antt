@@ -1,0 +1,5 @@
+use Rattle.run_ledger.proofs.Space as proved
+use Rattle.journal_laws.proofs.laws.sweeps_are_bounded.Goals as goal
+
+pub returns : goal.returns
+returns c = proved.sweeps_are_bounded

@@ -1,5 +1,0 @@
-use Rattle.run_ledger.proofs.Collections as proved
-use Rattle.run_ledger.proofs.laws.collections_keep_just.Goals as goal
-
-pub returns : goal.returns
-returns c = proved.collections_keep_just

@@ -1,5 +1,0 @@
-use Rattle.run_ledger.proofs.Frames as proved
-use Rattle.run_ledger.proofs.laws.entries_leave_others.Goals as goal
-
-pub returns : goal.returns
-returns c = proved.entries_leave_others

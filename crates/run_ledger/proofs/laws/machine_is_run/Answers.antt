@@ -1,5 +1,0 @@
-use Rattle.run_ledger.proofs.Machine as proved
-use Rattle.run_ledger.proofs.laws.machine_is_run.Goals as goal
-
-pub returns : goal.returns
-returns c = proved.machine_is_run

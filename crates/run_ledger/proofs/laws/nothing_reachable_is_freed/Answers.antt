@@ -1,5 +1,0 @@
-use Rattle.run_ledger.proofs.Journals as proved
-use Rattle.run_ledger.proofs.laws.nothing_reachable_is_freed.Goals as goal
-
-pub returns : goal.returns
-returns c = proved.nothing_reachable_is_freed

@@ -1,5 +1,0 @@
-use Rattle.run_ledger.proofs.PaceLaw as proved
-use Rattle.run_ledger.proofs.laws.pace_is_of_entries.Goals as goal
-
-pub returns : goal.returns
-returns c = proved.pace_is_of_entries

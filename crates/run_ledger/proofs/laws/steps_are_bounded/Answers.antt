@@ -1,5 +1,0 @@
-use Rattle.run_ledger.proofs.Bounds as proved
-use Rattle.run_ledger.proofs.laws.steps_are_bounded.Goals as goal
-
-pub returns : goal.returns
-returns c = proved.steps_are_bounded

@@ -1,5 +1,0 @@
-use Rattle.run_ledger.proofs.Space as proved
-use Rattle.run_ledger.proofs.laws.sweeps_are_bounded.Goals as goal
-
-pub returns : goal.returns
-returns c = proved.sweeps_are_bounded
