@@ -5,6 +5,7 @@ use Rattle.std.proofs.lemmas.List.{flat_map_more, take_more}
 use Rattle.std.proofs.lemmas.Option.{get_or_from_slice_get, same_Some, slice_get_within}
 use Rattle.listed.specs.Members.{In}
 use Rattle.listed.proofs.Members.{contains_from_in}
+use Rattle.listed.proofs.Options.{none_some}
 
 -- PLACES
 
@@ -32,6 +33,13 @@ got_set (x ∷ xs) (suc k) y lt = got_set xs k y (omega arith)
 pub got_last : {A : Type 0} (xs : List A) (y : A) → slice_get (xs ++ y ∷ []) (length xs) ≡ Some y
 got_last [] y = refl
 got_last (x ∷ xs) y = got_last xs y
+
+-- what stands in a list with one item more
+pub got_more : {A : Type 0} (xs : List A) (x y : A) (k : ℕ) → slice_get (xs ++ x ∷ []) k ≡ Some y → (slice_get xs k ≡ Some y) ⊎ ((k ≡ length xs) × (x ≡ y))
+got_more [] x y zero e = inr (refl, same_Some x y e)
+got_more [] x y (suc k) e = none_some e
+got_more (z ∷ xs) x y zero e = inl e
+got_more (z ∷ xs) x y (suc k) e = elim (got_more xs x y k e) [ inl h ↦ inl h | inr t ↦ inr (ap suc t.0, t.1) ]
 
 pub got_map : {A B : Type 0} (f : A → B) (xs : List A) (k : ℕ) (x : A) → slice_get xs k ≡ Some x → slice_get (map f xs) k ≡ Some (f x)
 got_map f [] k x e = absurd cc

@@ -1,9 +1,11 @@
+use Rattle.std.proofs.lemmas.Option.{IfSome_then}
+use Rattle.listed.proofs.Places.{got_item}
 use Rattle.steal_scheduler.specs.Thefts.{Stole, StoleNone}
-use Rattle.steal_scheduler.proofs.Lists.{get_at, changes_at, if_some, if_none}
+use Rattle.steal_scheduler.proofs.Lists.{changes_at, if_none}
 use Rattle.steal_scheduler.proofs.hand.Hand.steal_from.Goals as goal
 
 pub returns-clause-some : goal.returns-clause-some
-returns-clause-some g c = if_some c.steal.result _ _ (λ x did. changes_at c.args.self.now.thefts.items c.args.victim c.index_mut.result.now c.steal.new.self (Stole x) (get_at _ _ _ c.requires c.index_mut.ensures.value) c.steal.ensures.same did) c.steal.ensures.some
+returns-clause-some g c = IfSome_then c.steal.result c.steal.ensures.some (λ x did. changes_at c.args.self.now.thefts.items c.args.victim c.index_mut.result.now c.steal.new.self (Stole x) (got_item _ _ _ c.requires c.index_mut.ensures.value) c.steal.ensures.same did)
 
 pub returns-clause-none : goal.returns-clause-none
-returns-clause-none g c = if_none c.steal.result _ _ (λ did. changes_at c.args.self.now.thefts.items c.args.victim c.index_mut.result.now c.steal.new.self StoleNone (get_at _ _ _ c.requires c.index_mut.ensures.value) c.steal.ensures.same did) c.steal.ensures.none
+returns-clause-none g c = if_none c.steal.result _ _ (λ did. changes_at c.args.self.now.thefts.items c.args.victim c.index_mut.result.now c.steal.new.self StoleNone (got_item _ _ _ c.requires c.index_mut.ensures.value) c.steal.ensures.same did) c.steal.ensures.none
