@@ -1,6 +1,6 @@
 // Whether functions are a program: every index in range, a return at every end, and a main.
 
-ghost use Rattle.std.specs.Prelude.{◌≡◌, ◌<◌, ◌^◌, ◌↔◌, IsTrue, All, IsSomeAnd, length, slice_get, codes};
+ghost use Rattle.std.specs.Prelude.{◌≡◌, ◌↔◌, IsTrue, All, IsSomeAnd, length, slice_get, codes};
 ghost use Rattle.hh_lang.specs.Form.{NamesExist, IsReturn, EndsWithReturn, IsFunction, IsProgram};
 
 use crate::instr::Instr;

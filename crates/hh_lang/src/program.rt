@@ -1,6 +1,6 @@
 // Programs: functions with their code, in which every index is in range.
 
-ghost use Rattle.std.specs.Prelude.{◌≡◌, ◌↔◌, Some, IsOk, IfOk, IfErr, option_copied, slice_get};
+ghost use Rattle.std.specs.Prelude.{◌≡◌, ◌↔◌, IsOk, IfOk, IfErr};
 ghost use Rattle.hh_lang.specs.Form.{IsProgram, line_at};
 
 use crate::check::is_program;

@@ -1,6 +1,6 @@
 // A vector that contracts see as the list of its items.
 
-ghost use Rattle.std.specs.Prelude.{◌≡◌, ◌<◌, ◌≤◌, ◌+◌, ◌-◌, ◌↔◌, [], ◌∷◌, ◌++◌, length, take, IsTrue, OnOk, OnErr, IfOk, IfSome, IfNone, Some, IsNone, slice_get, slice_set, option_copied};
+ghost use Rattle.std.specs.Prelude.{◌≡◌, ◌<◌, ◌↔◌, [], ◌∷◌, ◌++◌, length, take, IsTrue, OnOk, OnErr, IfSome, IfNone, Some, IsNone, slice_get, slice_set, option_copied};
 
 use std::alloc::{AllocError, Global};
 use std::marker::Model;
@@ -22,7 +22,7 @@ impl<T> Model for Listed<T> {
 }
 
 impl<T> Listed<T> {
-    ghost use Rattle.std.specs.Prelude.{◌≡◌, ◌<◌, ◌≤◌, ◌+◌, ◌-◌, ◌↔◌, [], ◌∷◌, ◌++◌, length, take, IsTrue, OnOk, OnErr, IfOk, IfSome, IfNone, Some, IsNone, slice_get, slice_set, option_copied};
+    ghost use Rattle.std.specs.Prelude.{◌≡◌, ◌<◌, ◌↔◌, [], ◌∷◌, ◌++◌, length, take, IsTrue, OnOk, OnErr, IfSome, IfNone, Some, IsNone, slice_get, slice_set, option_copied};
     ghost use Rattle.std.specs.Borrow.{sem};
     ghost use Rattle.listed.specs.Lends.{lends_item};
 

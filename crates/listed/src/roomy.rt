@@ -1,6 +1,6 @@
 // A vector of which contracts see the items and the room that was reserved behind them.
 
-ghost use Rattle.std.specs.Prelude.{◌≡◌, ◌<◌, ◌≤◌, ◌+◌, ◌-◌, [], ◌∷◌, ◌++◌, length, take, OnOk, OnErr, IfOk, IfSome, IfNone, IsNone, Some, slice_get, ◌↔◌};
+ghost use Rattle.std.specs.Prelude.{◌≡◌, ◌<◌, ◌≤◌, ◌+◌, ◌-◌, [], ◌∷◌, ◌++◌, length, OnOk, IfSome, IfNone, IsNone, ◌↔◌};
 ghost use Rattle.listed.specs.RoomyValue.{RoomyValue};
 
 use crate::list::Listed;
@@ -24,8 +24,7 @@ impl<T> Model for Roomy<T> {
 }
 
 impl<T> Roomy<T> {
-    ghost use Rattle.std.specs.Prelude.{◌≡◌, ◌<◌, ◌≤◌, ◌+◌, ◌-◌, [], ◌∷◌, ◌++◌, length, take, OnOk, OnErr, IfOk, IfSome, IfNone, IsNone, Some, slice_get, ◌↔◌};
-    ghost use Rattle.listed.specs.RoomyValue.{RoomyValue};
+    ghost use Rattle.std.specs.Prelude.{◌≡◌, ◌<◌, ◌≤◌, ◌+◌, ◌-◌, [], ◌∷◌, ◌++◌, length, OnOk, IfSome, IfNone, IsNone, ◌↔◌};
 
     /// An empty list, with room for nothing yet.
     pub fn new(alloc: Global) -> Roomy<T>

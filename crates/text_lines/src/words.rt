@@ -1,6 +1,6 @@
 // The words of a line.
 
-ghost use Rattle.std.specs.Prelude.{◌≡◌, ◌≤◌, ◌<◌, [], ◌∷◌, length, take, drop, MatchOption, IfSome, ◌+◌};
+ghost use Rattle.std.specs.Prelude.{◌≡◌, ◌≤◌, ◌<◌, [], ◌∷◌, length, drop, MatchOption, IfSome, ◌+◌};
 ghost use Rattle.std.specs.List.{position_or_len};
 ghost use Rattle.std.specs.Str.{bytes_eq};
 ghost use Rattle.text_lines.specs.Lines.{is_blank, runs_of, words_of};
