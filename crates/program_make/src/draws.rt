@@ -1,6 +1,6 @@
 // The generator of numbers.
 
-ghost use Rattle.std.specs.Prelude.{◌≡◌, ◌%◌, ◌/◌, ◌<◌};
+ghost use Rattle.std.specs.Prelude.{◌≡◌, ◌<◌};
 ghost use Rattle.program_make.specs.Draws.{next_value, drawn};
 
 /// Draws the next number below `bound`: moves the generator on, and takes the upper bits of its value.

@@ -1,6 +1,6 @@
 // The lines of a function.
 
-ghost use Rattle.std.specs.Prelude.{◌≡◌, ◌++◌, ◌∷◌, ◌+◌, ◌*◌, ◌≤◌, ◌<◌, [], OnOk, codes};
+ghost use Rattle.std.specs.Prelude.{◌≡◌, ◌++◌, ◌<◌, OnOk};
 ghost use Rattle.program_make.specs.Text.{numbered, first_lines, par_line, children_lines, children_of, last_lines, side};
 
 use std::alloc::{AllocError, Global};

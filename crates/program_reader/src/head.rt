@@ -1,7 +1,7 @@
 // What the first word of a line says.
 
 ghost use Rattle.std.specs.Prelude.{◌≡◌};
-ghost use Rattle.program_reader.specs.Head.{number_verb, object_verb, flow_verb, verb_of, or_order, head_of_word};
+ghost use Rattle.program_reader.specs.Head.{number_verb, object_verb, flow_verb, verb_of, head_of_word};
 
 use hh_lang::Operator;
 use text_lines::word_is;

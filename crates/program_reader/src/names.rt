@@ -1,8 +1,8 @@
 // Names, and tables of them.
 
-ghost use Rattle.std.specs.Prelude.{◌≡◌, ◌<◌, [], length, take, OnOk, OnErr, IfSome, Some, option_map, slice_get};
+ghost use Rattle.std.specs.Prelude.{◌≡◌, [], length, take, OnOk, OnErr, option_map, slice_get};
 ghost use Rattle.std.specs.List.{list_all};
-ghost use Rattle.program_reader.specs.Names.{is_letter, is_digit, is_name_byte, is_name, begins_name, is_noted, noted, place_of, numbered_of, entry_of};
+ghost use Rattle.program_reader.specs.Names.{is_letter, is_name_byte, is_name, begins_name, is_noted, noted, place_of, numbered_of, entry_of};
 
 use indexmap::IndexMap;
 use std::alloc::{AllocError, Global};
@@ -51,7 +51,6 @@ pub(crate) struct Table<'a> {
 
 impl<'a> Model for Table<'a> {
     ghost use Rattle.std.specs.Prelude.{List, map};
-    ghost use Rattle.std.specs.List.{list_all};
     ghost use Rattle.program_reader.specs.Names.{Entry, entry_of};
 
     ghost Value = { List Entry };

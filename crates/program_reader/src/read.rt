@@ -1,12 +1,12 @@
 // Reads a whole text.
 
-ghost use Rattle.std.specs.Prelude.{◌≡◌, ◌≤◌, [], length, codes, IfOk, IfNone};
+ghost use Rattle.std.specs.Prelude.{◌≡◌, ◌≤◌, length, IfOk, IfNone};
 ghost use Rattle.hh_lang.specs.Form.{IsProgram};
 ghost use Rattle.text_lines.specs.Lines.{lines_of, most_bytes};
 ghost use Rattle.program_reader.specs.Sense.{IsSmall};
 ghost use Rattle.program_reader.specs.Around.{no_names, outline_of};
 ghost use Rattle.program_reader.specs.Fault.{first_fault};
-ghost use Rattle.program_reader.specs.Program.{reading_of, unless_refused, functions_from, loops_from, number_of};
+ghost use Rattle.program_reader.specs.Program.{reading_of, unless_refused, functions_from};
 ghost use Rattle.program_reader.specs.Reading.{program_in, nothing_read};
 
 use crate::cause::Refused;

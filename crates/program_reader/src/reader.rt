@@ -4,8 +4,8 @@ ghost use Rattle.std.specs.Prelude.{◌≡◌, ◌≤◌, ◌&&◌, Bool, not, c
 ghost use Rattle.std.specs.Str.{is_utf8};
 ghost use Rattle.text_lines.specs.Lines.{lines_of, words_of, most_bytes};
 ghost use Rattle.program_reader.specs.Names.{is_noted};
-ghost use Rattle.program_reader.specs.Sense.{only_name, IsSmall, sense_of};
-ghost use Rattle.program_reader.specs.Around.{head_of_line, operands_of_line, is_open_after, no_labels};
+ghost use Rattle.program_reader.specs.Sense.{only_name, IsSmall};
+ghost use Rattle.program_reader.specs.Around.{is_open_after};
 ghost use Rattle.program_reader.specs.Fault.{fault_by, is_misplaced, has_wrong_operand, is_begin, names_no_function, names_no_label, fault_on};
 
 use crate::cause::Cause;
@@ -108,7 +108,7 @@ fn main_is_missing(outline: &Outline<'_>, last: bool) -> bool
 }
 
 impl<'a> Reader<'a> {
-    ghost use Rattle.program_reader.specs.Fault.{leaves_open, is_second, is_too_many, lacks_main};
+    ghost use Rattle.program_reader.specs.Fault.{leaves_open, is_second, is_too_many};
     ghost use Rattle.program_reader.specs.Reading.{spot_in, after_begin, after_end, after_order, after_line, line_taken, IsCounted};
 
     // Whether a function stays open where none may.

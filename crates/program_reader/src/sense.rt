@@ -1,6 +1,6 @@
 // What the operands of a line say.
 
-ghost use Rattle.std.specs.Prelude.{◌≡◌, ◌<◌, ◌+◌, ◌*◌, ◌^◌, length};
+ghost use Rattle.std.specs.Prelude.{◌≡◌};
 ghost use Rattle.text_lines.specs.Lines.{words_of};
 ghost use Rattle.program_reader.specs.Sense.{plain, jump, jump_on_zero, call, fork, loop_over, order_alone, order_one, order_two, order_of, only_name, named, alone, sense_of, IsSmall};
 

@@ -1,7 +1,7 @@
 // The lines of a trace text.
 
-ghost use Rattle.std.specs.Prelude.{◌≡◌, ◌++◌, ◌<◌, ◌^◌, [], OnOk, IfSome, codes};
-ghost use Rattle.run_trace.specs.Entry.{IsKind, IsStepCount, IsMarkCount};
+ghost use Rattle.std.specs.Prelude.{◌≡◌, ◌++◌, [], OnOk, IfSome};
+ghost use Rattle.run_trace.specs.Entry.{IsKind};
 ghost use Rattle.run_trace.specs.Line.{unsigned_number, numbers_in, kind_of, kind_of_task, kind_of_count, kind_by, entry_by, said_by_words, said_by, spaced, kind_words, entry_line};
 ghost use Rattle.text_lines.specs.Lines.{words_of};
 

@@ -1,8 +1,8 @@
 // Trace texts.
 
-ghost use Rattle.std.specs.Prelude.{◌≡◌, ◌++◌, ◌≤◌, ◌+◌, length, IfOk, OnErr, IfErr, OnOk, Option, Some, None};
+ghost use Rattle.std.specs.Prelude.{◌≡◌, ◌≤◌, ◌+◌, length, IfOk, IfErr, None};
 ghost use Rattle.run_trace.specs.Line.{said_by};
-ghost use Rattle.run_trace.specs.Trace.{version_by, version_of_words, version_of, first_bad, entries_in, onto_entries, trace_fault, IsTraceText, version_line, TraceFails, NotesLine};
+ghost use Rattle.run_trace.specs.Trace.{version_by, version_of_words, version_of, first_bad, entries_in, trace_fault, IsTraceText, TraceFails, NotesLine};
 ghost use Rattle.run_trace.specs.Trace.{trace_text as text_of};
 ghost use Rattle.text_lines.specs.Lines.{lines_of, words_of, most_bytes};
 
