@@ -8,10 +8,11 @@ ghost use Rattle.shared_image.specs.Drawn.{AreHeldInWords, IsPictureOf, drawn_ch
 ghost use Rattle.shared_image.specs.Drawing.{AreFieldsOf, AreObjectsOf};
 
 use heap_image::{Picked, Picture};
+use heap_reading::{Field, InUse, Live, Seen};
 use heap_tree::State;
 use image_check::{Birth, Chunk, Remembered, State as DrawnState, Task};
 use listed::Listed;
-use shared_tree::{Field, InUse, Live, Seen, Shared};
+use shared_tree::Shared;
 use std::alloc::{AllocError, Global};
 
 fn draw_state(state: State) -> DrawnState
@@ -126,7 +127,7 @@ fn draw_objects(
     shared.stands();
     let mut objects = Listed::new(alloc);
     for chunk in in_use {
-        let seen = shared.objects(alloc, chunk.number)?;
+        let seen = tree_reading::objects(alloc, shared, chunk.number)?;
         add_objects(&mut objects, seen)?;
     }
     Ok(objects)
@@ -154,7 +155,7 @@ fn draw_fields(
     shared.stands();
     let mut fields = Listed::new(alloc);
     for task in live {
-        let noted = shared.remembered(alloc, task.number)?;
+        let noted = tree_reading::remembered(alloc, shared, task.number)?;
         add_fields(&mut fields, task.number, noted.as_slice())?;
     }
     Ok(fields)
@@ -187,7 +188,7 @@ pub fn draw(alloc: Global, shared: &Shared) -> Result<Picture, AllocError>
     ensures drawn { IfOk result (λ p. IsPictureOf shared.now p) }
     ensures sound { IfOk result (λ p. IsSoundPicture p) }
 {
-    let live = shared.live(alloc)?;
-    let in_use = shared.chunk_list(alloc)?;
+    let live = tree_reading::live(alloc, shared)?;
+    let in_use = tree_reading::chunk_list(alloc, shared)?;
     draw_all(alloc, shared, live.as_slice(), in_use.as_slice())
 }

@@ -3,15 +3,15 @@ use Rattle.shared_value.specs.SharedValue.{SharedValue}
 use Rattle.heap_reading.specs.declared.live.InUse.{InUse}
 use Rattle.heap_reading.specs.Image.{AreAll, ChunkBefore, IsInUse}
 use Rattle.heap_reading.proofs.LiveRead.{chunk_once, one_below, skip_below}
-use Rattle.shared_tree.proofs.shared.Shared.chunk_list.Goals.{in-Some+in_ok-push, in_default}
-use Rattle.shared_tree.proofs.shared.Shared.chunk_list.Goals as goal
+use Rattle.tree_reading.proofs.tasks_and_chunks.chunk_list.Goals.{in-Some+in_ok-push, in_default}
+use Rattle.tree_reading.proofs.tasks_and_chunks.chunk_list.Goals as goal
 
 abbrev number_of : InUse → ℕ
 number_of c = c.number
 
 pub loop-number-preserved : goal.loop-number-preserved
 loop-number-preserved c =
-    let w : SharedValue = c.args.self.now in
+    let w : SharedValue = c.args.shared.now in
     let k = c.loop-number.number in
     let Next : List InUse → Type 0 = AreAll ChunkBefore (λ x. IsInUse w x × (x.number < k + 1)) in
     elim c.match-chunk_in_use.branch [

@@ -1,0 +1,10 @@
+use Rattle.std.proofs.Common.{◌≡◌}
+use Rattle.hh_model.specs.Step.{owner_of}
+use Rattle.shared_value.specs.SharedValue.{accounts}
+use Rattle.tree_reading.proofs.tasks_and_chunks.owner_now.Given as goal
+
+abbrev pub invariant-loop-tree : goal.invariant-loop-tree
+invariant-loop-tree l = owner_of (accounts l.shared).machine.tasks l.owner ≡ owner_of (accounts l.shared).machine.tasks l.task
+
+abbrev pub decreases-loop-tree : goal.decreases-loop-tree
+decreases-loop-tree l = l.owner

@@ -1,0 +1,40 @@
+// The objects of the heaps of tasks that don't run, chunk by chunk.
+
+ghost use Rattle.std.specs.Prelude.{◌≡◌, ◌<◌, All, IfOk, IfSome, None, [], map};
+ghost use Rattle.object_layout.specs.Cell.{moved_to};
+ghost use Rattle.shared_value.specs.Objects.{chunk_of};
+ghost use Rattle.heap_reading.specs.Image.{objects_of, shown, AreInWords};
+
+use heap_reading::{Seen, is_running, seen_in};
+use listed::Listed;
+use object_layout::Chunk;
+use shared_tree::Shared;
+use std::alloc::{AllocError, Global};
+
+// The chunk of a number, where that is in the heap of a task that doesn't run.
+fn resting_chunk(shared: &Shared, number: u32) -> Option<&Chunk>
+    ensures none { result ≡ None → objects_of shared.now number ≡ [] }
+    ensures some { IfSome result (λ k. (chunk_of k.now).objects ≡ objects_of shared.now number) }
+    ensures unmoved { IfSome result (λ k. All (λ c. moved_to c.mark ≡ None) k.now.cells) }
+{
+    shared.stands();
+    let owner = shared.pool().slot(number)?.owner;
+    if is_running(shared.tree().state(owner)) {
+        return None;
+    }
+    match shared.homes().get(owner as usize) {
+        Some(Some(rest)) => rest.get().heap.chunk(number),
+        _ => None,
+    }
+}
+
+/// The objects of a chunk, by rising address, where its owner doesn't run; else none.
+pub fn objects(alloc: Global, shared: &Shared, chunk: u32) -> Result<Listed<Seen>, AllocError>
+    ensures objects { IfOk result (λ objects. objects ≡ map shown (objects_of shared.now chunk)) }
+    ensures words { IfOk result (λ objects. AreInWords (objects_of shared.now chunk)) }
+{
+    match resting_chunk(shared, chunk) {
+        None => Ok(Listed::new(alloc)),
+        Some(chunk) => seen_in(alloc, chunk),
+    }
+}

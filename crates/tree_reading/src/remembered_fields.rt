@@ -1,0 +1,24 @@
+// The remembered fields of a heap.
+
+ghost use Rattle.std.specs.Prelude.{IfOk};
+ghost use Rattle.heap_reading.specs.Image.{AreAll, FieldBefore, IsNoted};
+
+use heap_reading::{Field, fields_of};
+use listed::Listed;
+use shared_tree::Shared;
+use std::alloc::{AllocError, Global};
+
+/// The fields that were noted to point down into the heap of a task, by rising object and field; none where there is
+/// no such task.
+#[tactic(auto, using(heap_reading::proofs::FieldsRead::none_noted))]
+pub fn remembered(alloc: Global, shared: &Shared, task: u32) -> Result<Listed<Field>, AllocError>
+    ensures { IfOk result (λ fields. AreAll FieldBefore (IsNoted shared.now task) fields) }
+{
+    shared.stands();
+    if task >= shared.tree().made() {
+        return Ok(Listed::new(alloc));
+    }
+    let mut fields = fields_of(alloc, shared.sets()[task as usize].sources())?;
+    fields.sort_unstable();
+    Ok(Listed::from_vec(fields))
+}

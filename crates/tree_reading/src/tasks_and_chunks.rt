@@ -1,0 +1,71 @@
+// Which tasks haven't joined, and which chunks are in use.
+
+ghost use Rattle.std.specs.Prelude.{◌≡◌, ◌<◌, IfOk, IfSome, None};
+ghost use Rattle.hh_model.specs.Step.{owner_of};
+ghost use Rattle.chunk_pool.specs.PoolValue.{AreChunks};
+ghost use Rattle.shared_value.specs.SharedValue.{accounts};
+ghost use Rattle.heap_reading.specs.Image.{AreAll, ChunkBefore, IsInUse, IsLive, LiveBefore};
+
+use heap_marking::is_joined;
+use heap_reading::{InUse, Live, live_in};
+use listed::Listed;
+use object_layout::CHUNK_WORDS;
+use shared_tree::Shared;
+use std::alloc::{AllocError, Global};
+
+/// The tasks that haven't joined, by rising number.
+pub fn live(alloc: Global, shared: &Shared) -> Result<Listed<Live>, AllocError>
+    ensures { IfOk result (λ tasks. AreAll LiveBefore (IsLive shared.now) tasks) }
+{
+    live_in(alloc, shared.tree())
+}
+
+// The task itself, followed to its parent as long as it has joined.
+fn owner_now(shared: &Shared, task: u32) -> u32
+    ensures { result ≡ owner_of (accounts shared.now).machine.tasks task }
+{
+    shared.stands();
+    let tree = shared.tree();
+    let mut owner = task;
+    while is_joined(tree.state(owner)) {
+        let Some(parent) = tree.parent(owner) else {
+            unreachable!()
+        };
+        owner = parent;
+    }
+    owner
+}
+
+// The chunk of a number, where that is in use.
+fn chunk_in_use(shared: &Shared, number: usize) -> Option<InUse>
+    requires { AreChunks shared.now.pool.slots }
+    ensures there { IfSome result (λ c. IsInUse shared.now c) }
+    ensures number { IfSome result (λ c. c.number ≡ number) }
+    ensures none { result ≡ None → (c : InUse) → c.number ≡ number → IsInUse shared.now c → ⊥ }
+{
+    let Ok(number) = u32::try_from(number) else {
+        return None;
+    };
+    match shared.pool().slot(number) {
+        None => None,
+        Some(held) => Some(InUse {
+            number,
+            owner: owner_now(shared, held.owner),
+            words: CHUNK_WORDS * held.units as u64,
+        }),
+    }
+}
+
+/// The chunks in use, by rising number. Each has a number of 32 bits, and a unit of 1,024 words at least.
+pub fn chunk_list(alloc: Global, shared: &Shared) -> Result<Listed<InUse>, AllocError>
+    ensures all { IfOk result (λ chunks. AreAll ChunkBefore (IsInUse shared.now) chunks) }
+    ensures sized { AreChunks shared.now.pool.slots }
+{
+    let mut chunks = Listed::new(alloc);
+    for number in 0..shared.pool().numbers() {
+        if let Some(chunk) = chunk_in_use(shared, number) {
+            chunks.push(chunk)?;
+        }
+    }
+    Ok(chunks)
+}
