@@ -1,9 +1,11 @@
 // The shared value whose journal is paced: no entry is made but what its worker owes.
 #![tactic(auto)]
 
+mod forks_of;
 mod inner;
 mod leaf;
 mod noting;
+mod owing;
 mod paced;
 mod steps;
 

@@ -7,6 +7,8 @@ ghost use Rattle.run_ledger.specs.Heaps.{heap_of};
 ghost use Rattle.shared_value.specs.SharedValue.{accounts};
 ghost use Rattle.paced_tree.specs.Owed.{AreIdle, HasRoom, KeepsNoted, NotesAt, NotesOther, SameMarks};
 
+use crate::forks_of::fork_of;
+use crate::owing::forget;
 use listed::Listed;
 use shared_tree::{Pace, Previous, Shared};
 use std::alloc::{AllocError, Global};
@@ -49,8 +51,8 @@ fn after_ran(shared: &Shared, pace: &mut Pace, task: u32, guess: u32)
     requires { (accounts shared.now).end ≡ None }
     ensures { (k : ℕ) → KeepsNoted (accounts shared.now) (Ran task k) pace.old pace.new }
 {
-    let fork = shared.fork_of(task, guess);
-    shared.forget(pace);
+    let fork = fork_of(shared, task, guess);
+    forget(shared, pace);
     pace.after_steps(fork);
 }
 
@@ -89,10 +91,10 @@ fn after_mark(shared: &Shared, pace: &mut Pace, task: u32)
     requires room { 0 < pace.old.marks.room }
     ensures { KeepsNoted (accounts shared.now) (Mark task) pace.old pace.new }
 {
-    let Some(fork) = shared.fork_of(task, child_before(pace, task)) else {
+    let Some(fork) = fork_of(shared, task, child_before(pace, task)) else {
         unreachable!()
     };
-    shared.forget(pace);
+    forget(shared, pace);
     pace.after_mark(fork);
 }
 

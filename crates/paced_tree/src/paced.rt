@@ -15,6 +15,7 @@ ghost use Rattle.heap_marking.specs.MarkCauses.{marking_cause};
 ghost use Rattle.paced_tree.specs.Owed.{owed_by};
 
 use crate::noting::idle_paces;
+use crate::owing::owed;
 use counted_tree::Counted;
 use hh_lang::Program;
 use listed::Listed;
@@ -119,7 +120,7 @@ impl Paced {
         requires goes { (accounts self.now).end ≡ None }
         ensures { result ≡ owed_by self.now worker }
     {
-        self.shared().owed(self.paces.at(worker as usize))
+        owed(self.shared(), self.paces.at(worker as usize))
     }
 
     /// It stands for its journal, which is legal.

@@ -6,6 +6,7 @@ ghost use Rattle.shared_value.specs.SharedValue.{accounts};
 use crate::shared::Shared;
 use chunk_pool::Pool;
 use heap_tree::Tree;
+use inner_mark_gc::Marking;
 use listed::Listed;
 use out_of_line::Apart;
 use shared_value::Rest;
@@ -45,5 +46,12 @@ impl Shared {
         ensures { result.now ≡ self.now.sets }
     {
         self.sets.as_slice()
+    }
+
+    /// The markings under way.
+    pub fn marks(&self) -> &Listed<Option<Apart<Marking>>>
+        ensures { result.now ≡ self.now.marks }
+    {
+        &self.marks
     }
 }

@@ -9,8 +9,8 @@ ghost use Rattle.heap_marking.specs.MarkCauses.{marking_cause, waiting_cause};
 use crate::shared::Shared;
 
 impl Shared {
-    // The words of its heap, while its task waits, as far as 64 bits count.
-    pub(crate) fn words_at(&self, t: u32) -> u64
+    /// The words of its heap, while its task waits, as far as 64 bits count.
+    pub fn words_at(&self, t: u32) -> u64
         requires goes { (accounts self.now).end ≡ None }
         requires waits { waiting_cause self.now t ≡ None }
         ensures { result ≡ counted (words_in (accounts self.now).machine (heap_of (accounts self.now) t)) }
@@ -21,8 +21,8 @@ impl Shared {
         }
     }
 
-    // Whether nothing of it is left to mark, while it is being marked.
-    pub(crate) fn is_marked(&self, t: u32) -> bool
+    /// Whether nothing of it is left to mark, while it is being marked.
+    pub fn is_marked(&self, t: u32) -> bool
         requires goes { (accounts self.now).end ≡ None }
         requires marking { marking_cause self.now t ≡ None }
         ensures { result ≡ (left_in (heap_of (accounts self.now) t) == 0) }

@@ -2,13 +2,13 @@ use Rattle.std.proofs.Common.{◌≡◌, ℕ, Bool, true, false, not, Option, So
 use Rattle.std.proofs.lemmas.Bool.{false≢true}
 use Rattle.hh_model.specs.Step.{joined}
 use Rattle.run_ledger.specs.declared.data.Refused.{Refused}
-use Rattle.heap_tree.specs.Node.{state_of}
+use Rattle.heap_tree.specs.Node.{Node, state_of}
 use Rattle.write_barrier.specs.declared.sets.SetOf.{SetOf}
 use Rattle.shared_value.specs.SharedValue.{SharedValue, accounts}
 use Rattle.heap_marking.specs.MarkCauses.{waiting_cause, waiting_cause_in}
 use Rattle.heap_marking.specs.Pace.{is_state_joined}
 use Rattle.heap_marking.proofs.ForksTold.{goes_free, joined_is, joined_stops}
-use Rattle.shared_tree.proofs.shared.Shared.is_going.Goals as goal
+use Rattle.paced_tree.proofs.forks_of.is_going.Goals as goal
 
 none_is : (o : Option Refused) (b : Bool) → is_some o ≡ not b → b ≡ is_none o
 none_is None true e = refl
@@ -18,19 +18,19 @@ none_is (Some r) false e = refl
 
 pub returns-then-is_joined : goal.returns-then-is_joined
 returns-then-is_joined c =
-    let w : SharedValue = c.args.self.now in
+    let w : SharedValue = c.args.shared.now in
     let u : ℕ = c.args.fork.left in
-    let state : c.is_joined.result ≡ is_state_joined (state_of w.tree u) = c.is_joined.ensures ∙ (ap is_state_joined c.state.ensures ∙ ap (λ (z : SharedValue). is_state_joined (state_of z.tree u)) c.self.view_is) in
+    let state : c.is_joined.result ≡ is_state_joined (state_of w.tree u) = c.is_joined.ensures ∙ (ap is_state_joined c.state.ensures ∙ ap (λ (ns : List Node). is_state_joined (state_of ns u)) c.tree-tree.ensures) in
     let past : joined (accounts w).machine.tasks u ≡ true = sym (joined_is w c.stands.ensures c.requires u) ∙ (sym state ∙ c.if-is_joined.true) in
     sym (joined_stops w c.stands.ensures c.requires c.args.fork past)
 
 pub returns : goal.returns
 returns c =
-    let w : SharedValue = c.args.self.now in
+    let w : SharedValue = c.args.shared.now in
     let u : ℕ = c.args.fork.left in
     let t : ℕ = c.args.fork.task in
-    let state : c.is_joined.result ≡ is_state_joined (state_of w.tree u) = c.is_joined.ensures ∙ (ap is_state_joined c.state.ensures ∙ ap (λ (z : SharedValue). is_state_joined (state_of z.tree u)) c.self.view_is) in
+    let state : c.is_joined.result ≡ is_state_joined (state_of w.tree u) = c.is_joined.ensures ∙ (ap is_state_joined c.state.ensures ∙ ap (λ (ns : List Node). is_state_joined (state_of ns u)) c.tree-tree.ensures) in
     let live : joined (accounts w).machine.tasks u ≡ false = sym (joined_is w c.stands.ensures c.requires u) ∙ (sym state ∙ c.if-is_joined.false) in
     let cause : c.waiting_cause.result ≡ waiting_cause w t =
-    c.waiting_cause.ensures ∙ (ap (λ (xs : List SetOf). waiting_cause_in c.self.inside.tree xs t) c.deref.ensures.value ∙ ap (λ (z : SharedValue). waiting_cause z t) c.self.view_is) in
+    c.waiting_cause.ensures ∙ (ap (λ (xs : List SetOf). waiting_cause_in c.tree-tree.result.now xs t) c.sets.ensures ∙ ap (λ (ns : List Node). waiting_cause_in ns w.sets t) c.tree-tree.ensures) in
     none_is c.waiting_cause.result c.is_none.result c.is_none.ensures ∙ (ap is_none cause ∙ sym (goes_free w c.stands.ensures c.requires c.args.fork live))

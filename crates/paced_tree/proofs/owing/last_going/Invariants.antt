@@ -2,7 +2,7 @@ use Rattle.std.proofs.Common.{◌≡◌, ◌-◌, ◌≤◌, ℕ, Some, false, l
 use Rattle.shared_value.specs.SharedValue.{accounts}
 use Rattle.heap_marking.specs.declared.pace.Fork.{Fork}
 use Rattle.heap_marking.specs.Pace.{is_going}
-use Rattle.shared_tree.proofs.shared.Shared.last_going.Given as goal
+use Rattle.paced_tree.proofs.owing.last_going.Given as goal
 
 abbrev pub invariant-loop-i : goal.invariant-loop-i
-invariant-loop-i l = (k : ℕ) (f : Fork) → length l.forks - l.i ≤ k → slice_get l.forks k ≡ Some f → is_going (accounts l.self) f ≡ false
+invariant-loop-i l = (k : ℕ) (f : Fork) → length l.forks - l.i ≤ k → slice_get l.forks k ≡ Some f → is_going (accounts l.shared) f ≡ false

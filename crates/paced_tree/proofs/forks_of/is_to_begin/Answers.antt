@@ -1,0 +1,17 @@
+use Rattle.std.proofs.Common.{Option, List, nat_le, is_some, ap, ap₂, sym, ◌∙◌}
+use Rattle.run_trace.specs.Settings.{SettingsValue}
+use Rattle.inner_mark_gc.specs.MarkingValue.{MarkingValue}
+use Rattle.shared_value.specs.SharedValue.{marks_at}
+use Rattle.heap_marking.proofs.ForksTold.{begin_stops, begin_counted, begin_marked}
+use Rattle.paced_tree.proofs.forks_of.is_to_begin.Goals as goal
+
+pub returns-then-is_going : goal.returns-then-is_going
+returns-then-is_going c =
+    ap₂ nat_le (c.inner-least.ensures.value ∙ ap (λ (s : SettingsValue). s.inner) c.settings.ensures) c.words_at.ensures
+    ∙ sym (begin_counted c.args.shared.now c.stands.ensures c.requires c.args.fork (sym c.is_going.ensures ∙ c.if-is_going.true) (ap (λ (ms : List (Option MarkingValue)). is_some (marks_at ms c.args.fork.task)) (sym c.marks.ensures) ∙ (sym c.is_marking.ensures ∙ c.if-is_marking.false)))
+
+pub returns : goal.returns
+returns c = sym (begin_stops c.args.shared.now c.stands.ensures c.requires c.args.fork (sym c.is_going.ensures ∙ c.if-is_going.false))
+
+pub returns-then-is_marking : goal.returns-then-is_marking
+returns-then-is_marking c = sym (begin_marked c.args.shared.now c.stands.ensures c.requires c.args.fork (sym c.is_going.ensures ∙ c.if-is_going.true) (ap (λ (ms : List (Option MarkingValue)). is_some (marks_at ms c.args.fork.task)) (sym c.marks.ensures) ∙ (sym c.is_marking.ensures ∙ c.if-is_marking.true)))

@@ -1,0 +1,47 @@
+// The fork on which a task waits, and what that tells of the marking of its heap.
+
+ghost use Rattle.std.specs.Prelude.{◌≡◌, None, slice_get};
+ghost use Rattle.shared_value.specs.SharedValue.{accounts};
+ghost use Rattle.heap_marking.specs.Pace.{is_going, is_to_begin, IsForkOf};
+
+use heap_marking::{fork_in, is_joined, is_marking, waiting_cause};
+use shared_tree::{Fork, Shared};
+
+// Whether the marking after a fork is under way.
+pub(crate) fn is_going(shared: &Shared, fork: Fork) -> bool
+    requires { (accounts shared.now).end ≡ None }
+    ensures { result ≡ is_going (accounts shared.now) fork }
+{
+    shared.stands();
+    let tree = shared.tree();
+    if is_joined(tree.state(fork.left)) {
+        return false;
+    }
+    waiting_cause(tree, shared.sets(), fork.task).is_none()
+}
+
+// Whether a marking is to begin after a fork.
+pub(crate) fn is_to_begin(shared: &Shared, fork: Fork) -> bool
+    requires { (accounts shared.now).end ≡ None }
+    ensures { result ≡ is_to_begin shared.now.settings (accounts shared.now) fork }
+{
+    shared.stands();
+    if is_going(shared, fork) {
+        if is_marking(shared.marks(), fork.task) {
+            return false;
+        }
+        let least = shared.settings().inner() as u64;
+        return least <= shared.words_at(fork.task);
+    }
+    false
+}
+
+// The fork on which a task waits, if it waits. It takes no time to speak of where the child that is guessed is one of
+// that fork, or the task doesn't wait; else it takes as long as there are tasks.
+pub(crate) fn fork_of(shared: &Shared, t: u32, guess: u32) -> Option<Fork>
+    requires { (accounts shared.now).end ≡ None }
+    ensures { IsForkOf (accounts shared.now) t result (slice_get (accounts shared.now).machine.tasks t) }
+{
+    shared.stands();
+    fork_in(shared.tree(), t, guess)
+}
