@@ -150,7 +150,6 @@ returns-clause-begun c =
     let roots : c.deref.result.now ≡ roots_of w p = c.deref.ensures.value ∙ (c.in_ok-roots.ensures.roots ∙ ap (λ (z : SharedValue). roots_of z p) (sym same)) in
     let pool : PoolValue = c.begin_with.new.pool in
     let news : List ChunkValue = c.in_ok-to.to.chunks.items in
-    let journal : c.push_reserved.new.self ≡ record { items = w.journal.items ++ e ∷ []; room = w.journal.room - 1 } = entry_so w.journal k c.args.task p.task c.requires.task c.new.result c.push_reserved.new.self c.new.ensures c.push_reserved.ensures in
     let q : Private = c.begin_with.new.part in
     subst (λ rs. HasBegun p q rs c.in_ok-to.to) c.deref.ensures.value
     (begins_with w k p c.self.invariant F c.requires.fresh free pool news [] p.task n refl count refl c.in_ok-to.ensures.taken c.deref.result.now roots (map number_of news) refl (record { items = []; room = w.journal.room - 1 }) q c.in_ok-to.to refl c.in_ok-to.ensures.begun c.in_ok-to.ensures.reserved)

@@ -39,8 +39,6 @@ sibling_of-other-requires-clause-child c =
     let F : Fits w k p = subst (λ (z : SharedValue). Fits z k p) (sym c.self.view_is) c.requires.fits in
     let at : IsAtEnd w p = subst (λ (z : SharedValue). IsAtEnd z p) (sym c.self.view_is) c.requires.ends in
     let free : refused w (alone_event k p) ≡ None = subst (λ (z : SharedValue). refused z (alone_event k p) ≡ None) (sym c.self.view_is) c.requires.free in
-    let ended : state_of w.tree (sibling p.task) ≡ Some Ended = subst (λ (z : SharedValue). state_of z.tree (sibling p.task) ≡ Some Ended) (sym c.self.view_is) c.requires.ended in
-    let par : parent_of w.tree p.task ≡ Some c.args.parent = subst (λ (z : SharedValue). parent_of z.tree p.task ≡ Some c.args.parent) (sym c.self.view_is) c.requires.parent in
     let low = parent_low w k p I F at free in
     omega (arith, low)
 
@@ -53,8 +51,6 @@ sibling_of-other-requires-clause-few c =
     let F : Fits w k p = subst (λ (z : SharedValue). Fits z k p) (sym c.self.view_is) c.requires.fits in
     let at : IsAtEnd w p = subst (λ (z : SharedValue). IsAtEnd z p) (sym c.self.view_is) c.requires.ends in
     let free : refused w (alone_event k p) ≡ None = subst (λ (z : SharedValue). refused z (alone_event k p) ≡ None) (sym c.self.view_is) c.requires.free in
-    let ended : state_of w.tree (sibling p.task) ≡ Some Ended = subst (λ (z : SharedValue). state_of z.tree (sibling p.task) ≡ Some Ended) (sym c.self.view_is) c.requires.ended in
-    let par : parent_of w.tree p.task ≡ Some c.args.parent = subst (λ (z : SharedValue). parent_of z.tree p.task ≡ Some c.args.parent) (sym c.self.view_is) c.requires.parent in
     let few = few_tasks w k p I F at free in
     let made = own_made w k p I F at free in
     omega (arith, few, made)
@@ -68,8 +64,6 @@ enter_alone-requires-clause-small c =
     let F : Fits w k p = subst (λ (z : SharedValue). Fits z k p) (sym c.self.view_is) c.requires.fits in
     let at : IsAtEnd w p = subst (λ (z : SharedValue). IsAtEnd z p) (sym c.self.view_is) c.requires.ends in
     let free : refused w (alone_event k p) ≡ None = subst (λ (z : SharedValue). refused z (alone_event k p) ≡ None) (sym c.self.view_is) c.requires.free in
-    let ended : state_of w.tree (sibling p.task) ≡ Some Ended = subst (λ (z : SharedValue). state_of z.tree (sibling p.task) ≡ Some Ended) (sym c.self.view_is) c.requires.ended in
-    let par : parent_of w.tree p.task ≡ Some c.args.parent = subst (λ (z : SharedValue). parent_of z.tree p.task ≡ Some c.args.parent) (sym c.self.view_is) c.requires.parent in
     alone_small w k p I F (end_shared w p at) free
 
 pub set_state-requires : goal.set_state-requires
@@ -81,8 +75,6 @@ set_state-requires c =
     let F : Fits w k p = subst (λ (z : SharedValue). Fits z k p) (sym c.self.view_is) c.requires.fits in
     let at : IsAtEnd w p = subst (λ (z : SharedValue). IsAtEnd z p) (sym c.self.view_is) c.requires.ends in
     let free : refused w (alone_event k p) ≡ None = subst (λ (z : SharedValue). refused z (alone_event k p) ≡ None) (sym c.self.view_is) c.requires.free in
-    let ended : state_of w.tree (sibling p.task) ≡ Some Ended = subst (λ (z : SharedValue). state_of z.tree (sibling p.task) ≡ Some Ended) (sym c.self.view_is) c.requires.ended in
-    let par : parent_of w.tree p.task ≡ Some c.args.parent = subst (λ (z : SharedValue). parent_of z.tree p.task ≡ Some c.args.parent) (sym c.self.view_is) c.requires.parent in
     own_made w k p I F at free
 
 pub take_remembered-own_noted-requires : goal.take_remembered-own_noted-requires
@@ -95,7 +87,6 @@ take_remembered-own_noted-requires c =
     let at : IsAtEnd w p = subst (λ (z : SharedValue). IsAtEnd z p) (sym c.self.view_is) c.requires.ends in
     let free : refused w (alone_event k p) ≡ None = subst (λ (z : SharedValue). refused z (alone_event k p) ≡ None) (sym c.self.view_is) c.requires.free in
     let ended : state_of w.tree (sibling p.task) ≡ Some Ended = subst (λ (z : SharedValue). state_of z.tree (sibling p.task) ≡ Some Ended) (sym c.self.view_is) c.requires.ended in
-    let par : parent_of w.tree p.task ≡ Some c.args.parent = subst (λ (z : SharedValue). parent_of z.tree p.task ≡ Some c.args.parent) (sym c.self.view_is) c.requires.parent in
     record { made = own_set w k p I F at free ended }
 
 pub take_remembered-other_noted-requires : goal.take_remembered-other_noted-requires
@@ -108,7 +99,6 @@ take_remembered-other_noted-requires c =
     let at : IsAtEnd w p = subst (λ (z : SharedValue). IsAtEnd z p) (sym c.self.view_is) c.requires.ends in
     let free : refused w (alone_event k p) ≡ None = subst (λ (z : SharedValue). refused z (alone_event k p) ≡ None) (sym c.self.view_is) c.requires.free in
     let ended : state_of w.tree (sibling p.task) ≡ Some Ended = subst (λ (z : SharedValue). state_of z.tree (sibling p.task) ≡ Some Ended) (sym c.self.view_is) c.requires.ended in
-    let par : parent_of w.tree p.task ≡ Some c.args.parent = subst (λ (z : SharedValue). parent_of z.tree p.task ≡ Some c.args.parent) (sym c.self.view_is) c.requires.parent in
     let made = other_set w k p I F at free ended in
     let o = c.sibling_of-other.ensures in
     let n = c.take_remembered-own_noted.ensures.many in
@@ -140,8 +130,6 @@ leave_own-own-requires c =
     let F : Fits w k p = subst (λ (z : SharedValue). Fits z k p) (sym c.self.view_is) c.requires.fits in
     let at : IsAtEnd w p = subst (λ (z : SharedValue). IsAtEnd z p) (sym c.self.view_is) c.requires.ends in
     let free : refused w (alone_event k p) ≡ None = subst (λ (z : SharedValue). refused z (alone_event k p) ≡ None) (sym c.self.view_is) c.requires.free in
-    let ended : state_of w.tree (sibling p.task) ≡ Some Ended = subst (λ (z : SharedValue). state_of z.tree (sibling p.task) ≡ Some Ended) (sym c.self.view_is) c.requires.ended in
-    let par : parent_of w.tree p.task ≡ Some c.args.parent = subst (λ (z : SharedValue). parent_of z.tree p.task ≡ Some c.args.parent) (sym c.self.view_is) c.requires.parent in
     let made = own_made w k p I F at free in
     let n = I.made in
     record { made = omega (arith, made, n) }
@@ -156,7 +144,6 @@ leave_other-beside-requires c =
     let at : IsAtEnd w p = subst (λ (z : SharedValue). IsAtEnd z p) (sym c.self.view_is) c.requires.ends in
     let free : refused w (alone_event k p) ≡ None = subst (λ (z : SharedValue). refused z (alone_event k p) ≡ None) (sym c.self.view_is) c.requires.free in
     let ended : state_of w.tree (sibling p.task) ≡ Some Ended = subst (λ (z : SharedValue). state_of z.tree (sibling p.task) ≡ Some Ended) (sym c.self.view_is) c.requires.ended in
-    let par : parent_of w.tree p.task ≡ Some c.args.parent = subst (λ (z : SharedValue). parent_of z.tree p.task ≡ Some c.args.parent) (sym c.self.view_is) c.requires.parent in
     let made = other_made w k p I F at free ended in
     let o = c.sibling_of-other.ensures in
     let n = I.made in
@@ -214,7 +201,6 @@ join_children-rest-requires-clause-work c =
     let free : refused w (alone_event k p) ≡ None = subst (λ (z : SharedValue). refused z (alone_event k p) ≡ None) (sym c.self.view_is) c.requires.free in
     let ended : state_of w.tree (sibling p.task) ≡ Some Ended = subst (λ (z : SharedValue). state_of z.tree (sibling p.task) ≡ Some Ended) (sym c.self.view_is) c.requires.ended in
     let par : parent_of w.tree p.task ≡ Some c.args.parent = subst (λ (z : SharedValue). parent_of z.tree p.task ≡ Some c.args.parent) (sym c.self.view_is) c.requires.parent in
-    let e = parent_is w k p I F at free ended c.args.parent par in
     let places : HasPlaces w p c.args.parent = subst (λ (z : SharedValue). HasPlaces z p c.args.parent) (sym c.self.view_is) c.requires.places in
     let o : c.sibling_of-other.result ≡ sibling p.task = c.sibling_of-other.ensures in
     let x1 : List SetOf = c.take_remembered-own_noted.new.sets.items in
@@ -265,7 +251,6 @@ join_children-rest-requires-clause-can c =
     let free : refused w (alone_event k p) ≡ None = subst (λ (z : SharedValue). refused z (alone_event k p) ≡ None) (sym c.self.view_is) c.requires.free in
     let ended : state_of w.tree (sibling p.task) ≡ Some Ended = subst (λ (z : SharedValue). state_of z.tree (sibling p.task) ≡ Some Ended) (sym c.self.view_is) c.requires.ended in
     let par : parent_of w.tree p.task ≡ Some c.args.parent = subst (λ (z : SharedValue). parent_of z.tree p.task ≡ Some c.args.parent) (sym c.self.view_is) c.requires.parent in
-    let e = parent_is w k p I F at free ended c.args.parent par in
     let places : HasPlaces w p c.args.parent = subst (λ (z : SharedValue). HasPlaces z p c.args.parent) (sym c.self.view_is) c.requires.places in
     let o : c.sibling_of-other.result ≡ sibling p.task = c.sibling_of-other.ensures in
     let x1 : List SetOf = c.take_remembered-own_noted.new.sets.items in
@@ -361,8 +346,6 @@ invariant_of-self c =
     let free : refused w (alone_event k p) ≡ None = subst (λ (z : SharedValue). refused z (alone_event k p) ≡ None) (sym c.self.view_is) c.requires.free in
     let ended : state_of w.tree (sibling p.task) ≡ Some Ended = subst (λ (z : SharedValue). state_of z.tree (sibling p.task) ≡ Some Ended) (sym c.self.view_is) c.requires.ended in
     let par : parent_of w.tree p.task ≡ Some c.args.parent = subst (λ (z : SharedValue). parent_of z.tree p.task ≡ Some c.args.parent) (sym c.self.view_is) c.requires.parent in
-    let e = parent_is w k p I F at free ended c.args.parent par in
-    let places : HasPlaces w p c.args.parent = subst (λ (z : SharedValue). HasPlaces z p c.args.parent) (sym c.self.view_is) c.requires.places in
     let o : c.sibling_of-other.result ≡ sibling p.task = c.sibling_of-other.ensures in
     let x1 : List SetOf = c.take_remembered-own_noted.new.sets.items in
     let x2 : List SetOf = c.take_remembered-other_noted.new.sets.items in
@@ -431,8 +414,6 @@ returns-clause-joined c =
     let free : refused w (alone_event k p) ≡ None = subst (λ (z : SharedValue). refused z (alone_event k p) ≡ None) (sym c.self.view_is) c.requires.free in
     let ended : state_of w.tree (sibling p.task) ≡ Some Ended = subst (λ (z : SharedValue). state_of z.tree (sibling p.task) ≡ Some Ended) (sym c.self.view_is) c.requires.ended in
     let par : parent_of w.tree p.task ≡ Some c.args.parent = subst (λ (z : SharedValue). parent_of z.tree p.task ≡ Some c.args.parent) (sym c.self.view_is) c.requires.parent in
-    let e = parent_is w k p I F at free ended c.args.parent par in
-    let places : HasPlaces w p c.args.parent = subst (λ (z : SharedValue). HasPlaces z p c.args.parent) (sym c.self.view_is) c.requires.places in
     let o : c.sibling_of-other.result ≡ sibling p.task = c.sibling_of-other.ensures in
     let x1 : List SetOf = c.take_remembered-own_noted.new.sets.items in
     let x2 : List SetOf = c.take_remembered-other_noted.new.sets.items in

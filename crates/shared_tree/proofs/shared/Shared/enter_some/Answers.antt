@@ -94,7 +94,6 @@ some-count-requires-clause-closed c =
     let marks : marking_cause w t ≡ None = some_marks w c.self.invariant k t n free in
     let there : rest_at w.homes t ≡ Some c.get.result.now = (ap flat c.at.ensures ∙ c.in-Some.is) ∙ ap Some (sym c.get.ensures) in
     let at : marks_at w.marks t ≡ Some c.get_mut.result.now = ap flat c.at_mut.ensures.value ∙ (sym c.replace.ensures.value ∙ (c.in-Some-replace.is ∙ ap Some (sym c.get_mut.ensures.value))) in
-    let same : c.kept-kept.result.now ≡ kept (value_of w) t = c.kept-kept.ensures ∙ kept_is w.sets t c.index.result.now (keeps w c.self.invariant on t marks) c.index.ensures in
     let F : Further w t c.get.result.now c.get_mut.result.now = further w c.self.invariant on t marks c.get.result.now c.get_mut.result.now there at in
     F.closed
 

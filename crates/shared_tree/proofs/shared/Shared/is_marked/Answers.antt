@@ -62,7 +62,6 @@ returns c =
     let there : rest_at w.homes t ≡ Some c.get-in-Some-at.result.now = (ap flat c.at.ensures ∙ c.in-Some.is) ∙ ap Some (sym c.get-in-Some-at.ensures) in
     let at : marks_at w.marks t ≡ Some c.get.result.now = (ap flat c.at-2.ensures ∙ c.in-Some-at.is) ∙ ap Some (sym c.get.ensures) in
     let same : c.kept-kept.result.now ≡ kept (value_of w) t = c.kept-kept.ensures ∙ kept_is w.sets t c.index.result.now (keeps w c.self.invariant on t free) c.index.ensures in
-    let F : Further w t c.get-in-Some-at.result.now c.get.result.now = further w c.self.invariant on t free c.get-in-Some-at.result.now c.get.result.now there at in
     left_by w c.self.invariant on t free c.get-in-Some-at.result.now c.get.result.now there at c.ready.result
     (subst (λ (xs : List Addr). (f : Fork) → IsSince f xs c.get-in-Some-at.result.now.heap.chunks → IsMarking f xs c.get.result.now → IsTrue c.ready.result ↔ IsAllMarked f xs c.get.result.now) same c.ready.ensures.ready)
     ∙ ap (λ (z : SharedValue). left_in (heap_of (accounts z) t) == 0) c.self.view_is

@@ -29,7 +29,6 @@ unreachable-requires c =
     let shared : IsShared w p = subst (λ (z : SharedValue). IsShared z p) (sym c.self.view_is) c.requires.shared in
     let free : refused w (alone_event k p) ≡ None = held.free in
     let on : (accounts w).end ≡ None = runs_on w k p c.self.invariant F shared free in
-    let other : IsOther w p = subst (λ (z : SharedValue). IsOther z p) (sym c.self.view_is) c.requires.other in
     let it = some_line w k p c.self.invariant F shared on in
     none_some (sym c.in_default.is ∙ (c.line.ensures ∙ (ap₂ (line_at w.program) c.fun.ensures c.next.ensures ∙ it.1)))
 

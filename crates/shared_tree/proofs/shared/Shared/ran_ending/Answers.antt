@@ -41,15 +41,12 @@ enter_join-requires-clause-fits c =
     let w : SharedValue = c.args.self.now in
     let p : Private = c.args.part in
     let k : ℕ = c.args.worker in
-    let free : refused w (alone_event k p) ≡ None = sym c.alone_refused.ensures ∙ c.in_default.is in
     places_fit w c.make_join_places.new.self c.make_join_places.ensures.same k p c.requires.fits
 
 pub enter_join-requires-clause-ends : goal.enter_join-requires-clause-ends
 enter_join-requires-clause-ends c =
     let w : SharedValue = c.args.self.now in
     let p : Private = c.args.part in
-    let k : ℕ = c.args.worker in
-    let free : refused w (alone_event k p) ≡ None = sym c.alone_refused.ensures ∙ c.in_default.is in
     places_same w c.make_join_places.new.self c.make_join_places.ensures.same (λ z. IsAtEnd z p) (λ hs ss g. record { ends = g.ends; few = g.few }) c.requires.ends
 
 pub enter_join-requires-clause-free : goal.enter_join-requires-clause-free
@@ -65,20 +62,15 @@ returns-in-Ok-clause-answered c =
     let w : SharedValue = c.args.self.now in
     let p : Private = c.args.part in
     let k : ℕ = c.args.worker in
-    let free : refused w (alone_event k p) ≡ None = sym c.alone_refused.ensures ∙ c.in_default.is in
     places_ends w c.make_join_places.new.self c.make_join_places.ensures.same c.enter_join.new.self k p _ c.enter_join.ensures.joined
 
 pub returns-in-Err-clause-still : goal.returns-in-Err-clause-still
 returns-in-Err-clause-still c =
     let w : SharedValue = c.args.self.now in
-    let p : Private = c.args.part in
-    let k : ℕ = c.args.worker in
-    let free : refused w (alone_event k p) ≡ None = sym c.alone_refused.ensures ∙ c.in_default.is in
     λ u r G. places_fit w c.make_join_places.new.self c.make_join_places.ensures.same u r G
 
 pub returns-in-Ok-clause-task_out : goal.returns-in-Ok-clause-task_out
 returns-in-Ok-clause-task_out c =
-    let w : SharedValue = c.args.self.now in
     c.enter_join.ensures.task_out ∙ ap (λ (z : SharedValue). slice_set z.tasks_out c.args.worker None) c.make_join_places.ensures.same.rest
 
 not_yes : false ≡ true → ⊥

@@ -13,10 +13,8 @@ use Rattle.shared_tree.proofs.shared.Shared.some_refused.Goals as goal
 
 pub returns-then-is_some : goal.returns-then-is_some
 returns-then-is_some c n =
-    let z : SharedValue = c.args.self.now in
     let k : ℕ = c.args.worker in
     let t : ℕ = c.args.t in
-    let I : IsSharedValue z = subst IsSharedValue c.self.view_is c.self.invariant in
     let w : SharedValue = the_view c.self.inside in
     let some : is_some (first_cause w.end w.steps w.settings k false) ≡ true = ap is_some (sym c.first_cause-first.ensures) ∙ (sym c.is_some.ensures ∙ c.if-is_some.true) in
     c.first_cause-first.ensures
