@@ -9,6 +9,7 @@ ghost use Rattle.shared_value.specs.SharedValue.{rest_at, without_journal};
 ghost use Rattle.shared_value.specs.declared.task_at_rest.Rest.{Rest as RestOf};
 
 use crate::counting::Counts;
+use crate::held_words::held;
 use hh_lang::Program;
 use listed::Listed;
 use run_ledger::Report;
@@ -87,7 +88,7 @@ impl Counted {
     {
         let shared = &self.shared;
         let totals = self.counts.totals;
-        let held = shared.held();
+        let held = held(shared);
         Report {
             tasks: shared.tasks() as u64,
             steps: shared.steps(),

@@ -7,6 +7,7 @@ ghost use Rattle.shared_value.specs.SharedValue.{SharedValue, accounts};
 ghost use Rattle.shared_value.specs.Entered.{Enters};
 ghost use Rattle.counted_tree.specs.Counts.{IsMade, KeepsCounts, begun_with};
 
+use crate::held_words::words_held;
 use listed::Listed;
 use run_report::Totals;
 use run_trace::{Entry, Kind};
@@ -76,7 +77,7 @@ impl Counts {
                 let before = *self.begun.at(entry.worker() as usize);
                 before.saturating_sub(left as u64)
             }
-            Kind::Sweep(task, _) => words.saturating_sub(shared.words_held(task)),
+            Kind::Sweep(task, _) => words.saturating_sub(words_held(shared, task)),
             _ => 0,
         }
     }

@@ -5,6 +5,7 @@ ghost use Rattle.run_trace.specs.Entry.{mark_limit};
 ghost use Rattle.shared_tree.specs.Calls.{BeginsMarking, MarksMore, SweepsHeap};
 
 use crate::counted::Counted;
+use crate::held_words::words_held;
 use run_ledger::Refused;
 use shared_tree::NotEntered;
 
@@ -42,7 +43,7 @@ impl Counted {
         ensures { SweepsHeap self.old self.new worker t given result }
     {
         self.shared.stands();
-        let words = self.shared.words_held(t);
+        let words = words_held(&self.shared, t);
         self.shared.sweep(worker, t, given)?;
         self.counts.count(&self.shared, words);
         Ok(())

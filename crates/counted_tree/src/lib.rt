@@ -3,8 +3,10 @@
 
 mod counted;
 mod counting;
+mod held_words;
 mod inner;
 mod leaf;
 mod steps;
 
 pub use counted::Counted;
+pub use held_words::held;

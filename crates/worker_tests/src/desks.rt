@@ -5,6 +5,7 @@ ghost use Rattle.turn_lock.specs.Turn.{identity};
 ghost use Rattle.worker_run.specs.Desks.{AreAllDesks, ChangesHand, FewThefts, IsDesk};
 ghost use Rattle.turn_entries.specs.Parts.{ComesWith, GoesWith};
 
+use counted_tree::held;
 use hh_lang::Program;
 use hh_model::End;
 use outside_io::EmptyGate;
@@ -152,7 +153,7 @@ fn is_left(
     shared.journal() == entries
         && shared.outputs() == [1].as_slice()
         && shared.ended() == DONE
-        && shared.held() == (3, 35)
+        && held(shared) == (3, 35)
         && replayed(alloc, program, settings, shared.journal()) == DONE
 }
 

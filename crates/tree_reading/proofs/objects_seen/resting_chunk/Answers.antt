@@ -1,4 +1,4 @@
-use Rattle.std.proofs.Common.{◌≡◌, Option, Some, None, List, [], IfSome, slice_get, ap, ◌∙◌, sym, subst, false, option_map, option_copied, true, if◌then◌else◌}
+use Rattle.std.proofs.Common.{◌≡◌, Option, Some, None, List, [], IfSome, ap, ◌∙◌, sym, subst, false, option_map, option_copied, true, if◌then◌else◌}
 use Rattle.chunk_pool.specs.declared.pool.Slot.{Slot}
 use Rattle.chunk_pool.specs.PoolValue.{PoolValue, owner_of}
 use Rattle.heap_tree.specs.Node.{Node, state_of}
@@ -17,7 +17,7 @@ objects_are c =
     let t = c.in_ok-owner.field-0.owner in
     let held : owner_of w.pool c.args.number ≡ Some t = ap (λ (p : PoolValue). owner_of p c.args.number) (sym c.pool.ensures) ∙ ap (option_map (λ (h : Slot). h.owner)) (sym c.slot.ensures ∙ c.in_ok-owner.was) in
     let idle : is_state_running (state_of w.tree t) ≡ false = ap (λ (ns : List Node). is_state_running (state_of ns t)) (sym c.tree.ensures) ∙ (sym (ap is_state_running c.state.ensures) ∙ (sym c.is_running.ensures ∙ c.if-is_running.false)) in
-    let there : rest_at w.homes t ≡ Some c.get-in-Some-Some.result.now = ap (λ (hs : List (Option Rest)). flat (slice_get hs t)) (sym c.homes.ensures) ∙ (ap flat (sym c.get.ensures) ∙ ((ap (λ o. flat (option_copied o)) c.in-Some-Some.is ∙ c.in-Some-Some.field-0-is) ∙ ap Some (sym c.get-in-Some-Some.ensures))) in
+    let there : rest_at w.homes t ≡ Some c.get-in-Some-Some.result.now = ap (λ (hs : List (Option Rest)). rest_at hs t) (sym c.homes.ensures) ∙ (ap flat (sym c.get.ensures) ∙ ((ap (λ o. flat (option_copied o)) c.in-Some-Some.is ∙ c.in-Some-Some.field-0-is) ∙ ap Some (sym c.get-in-Some-Some.ensures))) in
     resting_objects w c.args.number t c.get-in-Some-Some.result.now held idle there
 
 pub returns-in-Some-Some-clause-none : goal.returns-in-Some-Some-clause-none

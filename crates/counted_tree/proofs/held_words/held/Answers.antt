@@ -1,24 +1,26 @@
-use Rattle.std.proofs.Common.{◌≡◌, ℕ, arith, length, length-append, ap, sym, ◌∙◌}
+use Rattle.std.proofs.Common.{◌≡◌, ℕ, Option, List, arith, length, length-append, ap, sym, ◌∙◌}
 use Rattle.std.proofs.lemmas.List.Sums.{sum_by-append}
 use Rattle.run_ledger.specs.declared.data.Ledger.{Ledger}
 use Rattle.run_ledger.specs.Heaps.{words_at, words_sum}
 use Rattle.run_ledger.specs.Report.{held_not_running}
 use Rattle.alloc_path.specs.LeafHeapValue.{counted}
+use Rattle.shared_value.specs.declared.task_at_rest.Rest.{Rest}
 use Rattle.shared_value.specs.SharedValue.{SharedValue, accounts}
 use Rattle.heap_reading.specs.HeldNames.{held_unless_running}
 use Rattle.heap_reading.proofs.KeptNames.{counted_few, counted_more, homes_few, kept_before, kept_homes, kept_more, objects_few, words_few}
-use Rattle.shared_tree.specs.contracts.shared.Shared.{the_view}
-use Rattle.shared_tree.proofs.shared.Shared.held.Goals as goal
+use Rattle.counted_tree.proofs.held_words.held.Goals as goal
 
 pub overflow_cast-t-end : goal.overflow_cast-t-end
 overflow_cast-t-end c =
-    let few = homes_few (the_view c.self.inside) c.self.invariant in
+    let w : SharedValue = c.args.shared.now in
+    let few = homes_few w c.stands.ensures in
+    let many : length c.homes.result.now ≡ length w.homes = ap (λ (hs : List (Option Rest)). length hs) c.homes.ensures in
     let is = c.len-t-end.ensures in
-    omega (arith, few, is)
+    omega (arith, few, many, is)
 
 pub loop-t-preserved : goal.loop-t-preserved
 loop-t-preserved c =
-    let l : Ledger = accounts c.args.self.now in
+    let l : Ledger = accounts c.args.shared.now in
     let t : ℕ = c.loop-t.t in
     record {
       objects = c.saturating_add-objects.ensures
@@ -31,19 +33,17 @@ loop-t-preserved c =
 
 pub returns-clause-objects : goal.returns-clause-objects
 returns-clause-objects c =
-    let w : SharedValue = the_view c.self.inside in
-    let end : c.loop-t.t ≡ length w.homes = omega arith in
-    let is : length (kept_before (accounts w) c.loop-t.t) ≡ length (held_not_running (accounts w)) = ap (λ n. length (kept_before (accounts w) n)) end ∙ ap length (kept_homes w c.self.invariant) in
-    c.loop-t.invariant.objects
-    ∙ (ap (λ (z : SharedValue). counted (length (kept_before (accounts z) c.loop-t.t))) (sym c.self.view_is)
-    ∙ (ap counted is ∙ (counted_few (length (held_not_running (accounts w))) (objects_few w c.self.invariant) ∙ ap (λ (z : SharedValue). length (held_not_running (accounts z))) c.self.view_is)))
+    let w : SharedValue = c.args.shared.now in
+    let many : length c.homes.result.now ≡ length w.homes = ap (λ (hs : List (Option Rest)). length hs) c.homes.ensures in
+    let end : c.loop-t.t ≡ length w.homes = omega (arith, many) in
+    let is : length (kept_before (accounts w) c.loop-t.t) ≡ length (held_not_running (accounts w)) = ap (λ n. length (kept_before (accounts w) n)) end ∙ ap length (kept_homes w c.stands.ensures) in
+    c.loop-t.invariant.objects ∙ (ap counted is ∙ counted_few (length (held_not_running (accounts w))) (objects_few w c.stands.ensures))
 
 pub returns-clause-words : goal.returns-clause-words
 returns-clause-words c =
-    let w : SharedValue = the_view c.self.inside in
-    let end : c.loop-t.t ≡ length w.homes = omega arith in
+    let w : SharedValue = c.args.shared.now in
+    let many : length c.homes.result.now ≡ length w.homes = ap (λ (hs : List (Option Rest)). length hs) c.homes.ensures in
+    let end : c.loop-t.t ≡ length w.homes = omega (arith, many) in
     let is : words_sum (accounts w).machine (kept_before (accounts w) c.loop-t.t) ≡ words_sum (accounts w).machine (held_not_running (accounts w)) =
-    ap (λ n. words_sum (accounts w).machine (kept_before (accounts w) n)) end ∙ ap (words_sum (accounts w).machine) (kept_homes w c.self.invariant) in
-    c.loop-t.invariant.words
-    ∙ (ap (λ (z : SharedValue). counted (words_sum (accounts z).machine (kept_before (accounts z) c.loop-t.t))) (sym c.self.view_is)
-    ∙ (ap counted is ∙ (counted_few (words_sum (accounts w).machine (held_not_running (accounts w))) (words_few w c.self.invariant) ∙ ap (λ (z : SharedValue). words_sum (accounts z).machine (held_not_running (accounts z))) c.self.view_is)))
+    ap (λ n. words_sum (accounts w).machine (kept_before (accounts w) n)) end ∙ ap (words_sum (accounts w).machine) (kept_homes w c.stands.ensures) in
+    c.loop-t.invariant.words ∙ (ap counted is ∙ counted_few (words_sum (accounts w).machine (held_not_running (accounts w))) (words_few w c.stands.ensures))

@@ -1,0 +1,56 @@
+// What lies in the heaps of the tasks that don't run.
+
+ghost use Rattle.std.specs.Prelude.{◌≡◌, ◌<◌, length};
+ghost use Rattle.run_ledger.specs.Heaps.{words_sum};
+ghost use Rattle.run_ledger.specs.Report.{held_not_running};
+ghost use Rattle.alloc_path.specs.LeafHeapValue.{counted};
+ghost use Rattle.shared_value.specs.SharedValue.{accounts};
+ghost use Rattle.heap_reading.specs.HeldNames.{held_unless_running};
+
+use heap_reading::is_running;
+use shared_tree::Shared;
+
+// How many objects lie in the heap of a task, and their words, as far as 64 bits count; none of a task that runs.
+fn held_of(shared: &Shared, t: u32) -> (u64, u64)
+    requires made { t < length shared.now.homes }
+    ensures objects { result.0 ≡ counted (length (held_unless_running (accounts shared.now) t)) }
+    ensures words { result.1 ≡ counted (words_sum (accounts shared.now).machine (held_unless_running (accounts shared.now) t)) }
+{
+    shared.stands();
+    if is_running(shared.tree().state(t)) {
+        return (0, 0);
+    }
+    match shared.homes().at(t as usize) {
+        Some(rest) => (rest.get().heap.objects(), rest.get().heap.words()),
+        None => (0, 0),
+    }
+}
+
+// The words of the heap of a task, as far as 64 bits count, and 0 of one that runs or wasn't made.
+pub(crate) fn words_held(shared: &Shared, t: u32) -> u64
+    ensures { result ≡ counted (words_sum (accounts shared.now).machine (held_unless_running (accounts shared.now) t)) }
+{
+    shared.stands();
+    if (t as usize) < shared.homes().len() {
+        held_of(shared, t).1
+    } else {
+        0
+    }
+}
+
+/// How many objects lie in the heaps of the tasks that neither a worker holds nor are ready, and their words: what the
+/// report of the journal says is held.
+pub fn held(shared: &Shared) -> (u64, u64)
+    ensures objects { result.0 ≡ length (held_not_running (accounts shared.now)) }
+    ensures words { result.1 ≡ words_sum (accounts shared.now).machine (held_not_running (accounts shared.now)) }
+{
+    shared.stands();
+    let mut objects = 0u64;
+    let mut words = 0u64;
+    for t in 0..shared.homes().len() as u32 {
+        let held = held_of(shared, t);
+        objects = objects.saturating_add(held.0);
+        words = words.saturating_add(held.1);
+    }
+    (objects, words)
+}
