@@ -1,5 +1,6 @@
 pub mod Addresses
 pub mod Counting
+pub mod Emptied
 pub mod Finding
 pub mod Marked
 pub mod GoingOn

@@ -3,6 +3,7 @@
 
 mod laws;
 mod marking;
+mod room;
 mod sweep;
 
 pub use laws::{
@@ -10,3 +11,4 @@ pub use laws::{
     swept_are_read, swept_is_snapshot,
 };
 pub use marking::Marking;
+pub use room::MarkingRoom;

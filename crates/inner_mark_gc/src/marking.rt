@@ -1,12 +1,14 @@
 // A marking: what it has found so far, and which of that is marked.
 
-ghost use Rattle.std.specs.Prelude.{◌≡◌, ℕ, ◌+◌, ◌-◌, ◌<◌, ◌≤◌, ◌↔◌, [], List, All, Contains, IfOk, IsTrue, Some, length, drop, slice_index_or, take, true, vec_capacity};
+ghost use Rattle.std.specs.Prelude.{◌≡◌, ℕ, ◌+◌, ◌-◌, ◌<◌, ◌≤◌, ◌^◌, ◌↔◌, [], List, All, Contains, IfOk, IsTrue, Some, length, drop, slice_index_or, take, true, vec_capacity};
 ghost use Rattle.object_layout.specs.declared.word.Addr.{Addr};
+ghost use Rattle.object_layout.specs.ChunkValue.{ChunkValue};
 ghost use Rattle.object_layout.specs.Chunks.{object_count};
 ghost use Rattle.object_layout.specs.Graph.{IsClosed, IsHeld, IsSound, Leads};
 ghost use Rattle.inner_mark_gc.specs.Snapshot.{IsSince, Fork};
 ghost use Rattle.inner_mark_gc.specs.MarkingValue.{has_address, marked_of, noted, Finds, HasRoom, IsAllMarked, IsDone, IsMarking, IsOf};
 
+use crate::room::MarkingRoom;
 use alloc_path::LeafHeap;
 use object_layout::{Addr, Chunk};
 use std::alloc::{AllocError, Global};
@@ -47,19 +49,49 @@ impl Marking {
         ensures own { IfOk result (λ m. (kept : List Addr) → IsOf heap.now.chunks kept m) }
         ensures marking { IfOk result (λ m. (f : Fork) (kept : List Addr) → f.roots ≡ roots.now → ((a : Addr) → IsHeld f.heap a ↔ IsHeld heap.now.chunks a) → IsMarking f kept m) }
     {
+        Marking::begin_in(MarkingRoom::new(alloc), heap, roots)
+    }
+
+    /// The same, in a room that was kept. It takes memory only where the room has too few places for the objects of the
+    /// heap or for its chunks, and else as long as there are roots. For want of memory the room is let go.
+    pub fn begin_in(
+        room: MarkingRoom,
+        heap: &LeafHeap,
+        roots: &[Addr],
+    ) -> Result<Marking, AllocError>
+        requires { All (IsHeld heap.now.chunks) roots.now }
+        ensures none { IfOk result (λ m. m.marked ≡ 0) }
+        ensures own { IfOk result (λ m. (kept : List Addr) → IsOf heap.now.chunks kept m) }
+        ensures marking { IfOk result (λ m. (f : Fork) (kept : List Addr) → f.roots ≡ roots.now → ((a : Addr) → IsHeld f.heap a ↔ IsHeld heap.now.chunks a) → IsMarking f kept m) }
+    {
+        let MarkingRoom { found, known, left } = room;
         let mut marking = Marking {
-            found: Vec::new(alloc),
-            known: HashSet::new(alloc),
+            found,
+            known,
             marked: 0,
             followed: 0,
-            left: Vec::new(alloc),
+            left,
         };
         let places = places_for(heap)?;
         marking.found.reserve(places)?;
         marking.known.reserve(places)?;
         marking.left.reserve(heap.chunks().len())?;
-        marking.visit_all(heap, roots);
+        marking.visit_all(roots);
         Ok(marking)
+    }
+
+    /// Ends the marking, and keeps its room for the next. It takes as long as there are objects found. A room with
+    /// places for more than 65,536 objects is let go, so one is kept that takes no memory.
+    pub fn into_room(self) -> MarkingRoom
+        ensures { result ≤ 2 ^ 16 }
+    {
+        let Marking {
+            found,
+            known,
+            left,
+            ..
+        } = self;
+        MarkingRoom::emptied(found, known, left)
     }
 
     /// Marks so many objects that weren't marked before, or those that are left, and says how many.
@@ -76,7 +108,7 @@ impl Marking {
         ensures marking { (f : Fork) → IsSince f kept.now heap.now.chunks → IsMarking f kept.now self.old → IsMarking f kept.now self.new }
         ensures left { (f : Fork) → IsSince f kept.now heap.now.chunks → IsMarking f kept.now self.old → result < n → IsAllMarked f kept.now self.new }
     {
-        self.follow(heap, kept);
+        self.follow(kept);
         let mut count = 0;
         while count < n && self.marked < self.found.len() {
             self.mark_next(heap);
@@ -87,13 +119,11 @@ impl Marking {
 
     /// Whether nothing of the snapshot is left to mark. It takes as long as what was kept since the
     /// last call of `some`.
-    pub fn ready(&self, heap: &LeafHeap, kept: &[Addr]) -> bool
-        requires kept { All (IsHeld heap.now.chunks) kept.now }
-        requires own { IsOf heap.now.chunks kept.now self.now }
-        ensures ready { (f : Fork) → IsSince f kept.now heap.now.chunks → IsMarking f kept.now self.now → (IsTrue result ↔ IsAllMarked f kept.now self.now) }
+    pub fn ready(&self, kept: &[Addr]) -> bool
+        requires { self.now.followed ≤ length kept.now }
+        ensures ready { (f : Fork) (h : List ChunkValue) → All (IsHeld h) kept.now → IsOf h kept.now self.now → IsSince f kept.now h → IsMarking f kept.now self.now → (IsTrue result ↔ IsAllMarked f kept.now self.now) }
         ensures done { IsTrue result → IsDone self.now }
     {
-        let _ = heap;
         self.marked == self.found.len() && self.has_all(&kept[self.followed..])
     }
 
@@ -136,13 +166,12 @@ impl Marking {
     }
 
     // Finds what was kept since the last call.
-    fn follow(&mut self, heap: &LeafHeap, kept: &[Addr])
-        requires kept { All (IsHeld heap.now.chunks) kept.now }
-        requires own { IsOf heap.now.chunks kept.now self.old }
-        ensures own { IsOf heap.now.chunks kept.now self.new }
+    fn follow(&mut self, kept: &[Addr])
+        requires own { (h : List ChunkValue) × All (IsHeld h) kept.now × IsOf h kept.now self.old }
+        ensures own { (h : List ChunkValue) → All (IsHeld h) kept.now → IsOf h kept.now self.old → IsOf h kept.now self.new }
         ensures finds { Finds (Contains (drop self.old.followed kept.now)) (record self.old { followed = length kept.now }) self.new }
     {
-        self.visit_all(heap, &kept[self.followed..]);
+        self.visit_all(&kept[self.followed..]);
         self.followed = kept.len();
     }
 
@@ -205,13 +234,11 @@ impl Marking {
     }
 
     // Finds these objects.
-    fn visit_all(&mut self, heap: &LeafHeap, objects: &[Addr])
-        requires held { All (IsHeld heap.now.chunks) objects.now }
-        requires room { HasRoom heap.now.chunks self.old }
+    fn visit_all(&mut self, objects: &[Addr])
+        requires room { (h : List ChunkValue) × All (IsHeld h) objects.now × HasRoom h self.old }
         ensures finds { Finds (Contains objects.now) self.old self.new }
-        ensures room { HasRoom heap.now.chunks self.new }
+        ensures room { (h : List ChunkValue) → All (IsHeld h) objects.now → HasRoom h self.old → HasRoom h self.new }
     {
-        let _ = heap;
         for &object in objects {
             self.note(object);
         }

@@ -1,6 +1,6 @@
 // The sweep of a heap whose snapshot is marked.
 
-ghost use Rattle.std.specs.Prelude.{◌≡◌, ◌+◌, ◌<◌, ◌≤◌, ◌++◌, ◌∷◌, [], All, IfSome, IsSome, filter, length, map, vec_capacity, vec_len};
+ghost use Rattle.std.specs.Prelude.{◌≡◌, ◌+◌, ◌<◌, ◌≤◌, ◌^◌, ◌++◌, ◌∷◌, [], All, IfSome, IsSome, filter, length, map, vec_capacity, vec_len};
 ghost use Rattle.object_layout.specs.Place.{cell_at, put_cell, IsCellAt};
 ghost use Rattle.object_layout.specs.Chunks.{place_in};
 ghost use Rattle.alloc_path.specs.LeafHeapValue.{units, with_places, AreApart};
@@ -10,9 +10,10 @@ ghost use Rattle.inner_mark_gc.specs.MarkingValue.{has_address, marked_of, HasRo
 ghost use Rattle.inner_mark_gc.specs.Swept.{gone_of, goes, has_number, has_object, is_object, number_at, place_at, stays, swept, swept_cell, swept_chunk, AreGiven};
 
 use crate::marking::Marking;
+use crate::room::MarkingRoom;
 use alloc_path::{LeafHeap, counts_of};
 use chunk_pool::Pool;
-use object_layout::{Addr, Chunk, drop_at, is_object_at, next_at};
+use object_layout::{Addr, Chunk, drop_at, is_object_at, next_at, units};
 
 impl Marking {
     /// How many units of 1,024 words a sweep would give back.
@@ -33,13 +34,27 @@ impl Marking {
     /// object that is dropped leaves a hole; a chunk in which no object is left is given back, but for
     /// the reserved one. Where the chunk that was filled is given back, the heap has no room. It takes
     /// no memory.
-    pub fn sweep(mut self, heap: &mut LeafHeap, pool: &mut Pool) -> u32
+    pub fn sweep(self, heap: &mut LeafHeap, pool: &mut Pool) -> u32
         requires done { IsDone self }
         requires room { HasRoom heap.old.chunks self }
         requires in_use { All (λ k. IsSome (slot_at pool.old k.number)) heap.old.chunks }
         ensures heap { heap.new ≡ with_places (swept heap.old (marked_of self)) heap.new.slots heap.new.spare }
         ensures pool { AreGiven pool.old pool.new (gone_of heap.old (marked_of self)) }
         ensures units { result ≡ counted32 (unit_count (gone_of heap.old (marked_of self))) }
+    {
+        let (units, _) = self.sweep_keeping(heap, pool);
+        units
+    }
+
+    /// The same, and keeps the room of the marking for the next, as `into_room` does.
+    pub fn sweep_keeping(mut self, heap: &mut LeafHeap, pool: &mut Pool) -> (u32, MarkingRoom)
+        requires done { IsDone self }
+        requires room { HasRoom heap.old.chunks self }
+        requires in_use { All (λ k. IsSome (slot_at pool.old k.number)) heap.old.chunks }
+        ensures heap { heap.new ≡ with_places (swept heap.old (marked_of self)) heap.new.slots heap.new.spare }
+        ensures pool { AreGiven pool.old pool.new (gone_of heap.old (marked_of self)) }
+        ensures units { result.0 ≡ counted32 (unit_count (gone_of heap.old (marked_of self))) }
+        ensures kept { result.1 ≤ 2 ^ 16 }
     {
         let mut left = self.take_list();
         let mut space = heap.open();
@@ -52,7 +67,7 @@ impl Marking {
         let counts = counts_of(&left);
         space.put_chunks(left, counts, filled, kept);
         heap.close(space);
-        units
+        (units, self.into_room())
     }
 
     // Sweeps these chunks: puts those that stay behind others, and gives the rest back. Says how many
@@ -227,5 +242,5 @@ fn is_of_number(chunk: &Chunk, number: Option<u32>) -> bool
 fn units_of(chunk: &Chunk) -> u32
     ensures { result ≡ units chunk.now.size }
 {
-    ((chunk.size() as u64 + 1023) / 1024) as u32
+    units(chunk.size() as u64) as u32
 }

@@ -93,7 +93,7 @@ fn marked(
         return None;
     };
     let calls = mark_all(&mut marking, heap, kept, step);
-    if marking.ready(heap, kept) {
+    if marking.ready(kept) {
         Some((calls, marking))
     } else {
         None

@@ -28,11 +28,8 @@ impl Shared {
         ensures { result ≡ (left_in (heap_of (accounts self.now) t) == 0) }
     {
         let kept = self.sets[t as usize].kept();
-        let Some(rest) = self.homes.at(t as usize) else {
-            unreachable!()
-        };
         match self.marks.at(t as usize) {
-            Some(marking) => marking.get().ready(&rest.get().heap, kept),
+            Some(marking) => marking.get().ready(kept),
             None => unreachable!(),
         }
     }

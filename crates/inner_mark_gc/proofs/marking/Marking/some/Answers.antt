@@ -8,12 +8,15 @@ use Rattle.inner_mark_gc.proofs.marking.Marking.some.Goals as goal
 abbrev none : Addr
 none = record { chunk = 0; offset = 0 }
 
+pub follow-requires : goal.follow-requires
+follow-requires c = record { own = (c.args.heap.now.chunks, c.requires.kept, c.requires.own) }
+
 pub loop-count-init : goal.loop-count-init
 loop-count-init c =
     let finds = c.follow.ensures.finds in
     let m : c.follow.new.self.marked ≡ c.args.self.now.marked = finds.marked in
     record {
-      own = c.follow.ensures.own;
+      own = c.follow.ensures.own c.args.heap.now.chunks c.requires.kept c.requires.own;
       followed = finds.followed;
       before = marked.take_grown c.args.self.now.found c.follow.new.self.found finds.grown.0 c.args.self.now.marked finds.grown.1 c.requires.own.marked;
       count = omega arith;

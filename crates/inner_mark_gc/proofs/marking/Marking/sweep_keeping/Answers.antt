@@ -5,7 +5,7 @@ use Rattle.alloc_path.specs.Counted.{AreCounted}
 use Rattle.alloc_path.specs.LeafHeapValue.{AreApart, LeafHeapValue, IsCurrent, IsReserved, IsSettled}
 use Rattle.inner_mark_gc.specs.Swept.{number_at, place_at, stays, swept_chunk}
 use Rattle.inner_mark_gc.proofs.Kept as kept
-use Rattle.inner_mark_gc.proofs.marking.Marking.sweep.Goals as goal
+use Rattle.inner_mark_gc.proofs.marking.Marking.sweep_keeping.Goals as goal
 
 pub put_chunks-requires-clause-apart : goal.put_chunks-requires-clause-apart
 put_chunks-requires-clause-apart c =

@@ -1,0 +1,80 @@
+// The room from which a marking takes its lists and its table, and to which it gives them back.
+
+ghost use Rattle.std.specs.Prelude.{◌≡◌, ◌≤◌, ◌^◌, false};
+ghost use Rattle.std.specs.HashSet.{contains};
+ghost use Rattle.object_layout.specs.declared.word.Addr.{Addr};
+ghost use Rattle.inner_mark_gc.specs.MarkingValue.{has_address, same_address};
+
+use object_layout::{Addr, Chunk};
+use std::alloc::Global;
+use std::collections::HashSet;
+use std::marker::Model;
+
+// A room with places for more objects is let go.
+const MOST_PLACES: usize = 65_536;
+
+/// Empty lists and an empty table that are kept from one marking for the next. It is seen as the number of objects that
+/// its list has places for.
+#[derive(Drop)]
+pub struct MarkingRoom {
+    pub(crate) found: Vec<Addr>,
+    pub(crate) known: HashSet<Addr>,
+    pub(crate) left: Vec<Chunk>,
+}
+
+impl Model for MarkingRoom {
+    ghost use Rattle.std.specs.Prelude.{◌≡◌, ℕ, [], false, vec_capacity};
+    ghost use Rattle.std.specs.HashSet.{contains};
+    ghost use Rattle.object_layout.specs.declared.word.Addr.{Addr};
+    ghost use Rattle.inner_mark_gc.specs.MarkingValue.{same_address};
+
+    ghost Value = { ℕ };
+
+    ghost view = { λ r. vec_capacity r.found };
+
+    ghost invariant = { λ r. (r.found.items ≡ []) × ((a : Addr) → contains same_address r.known a ≡ false) };
+}
+
+impl MarkingRoom {
+    /// A room that takes no memory.
+    pub fn new(alloc: Global) -> MarkingRoom
+        ensures { result ≤ 2 ^ 16 }
+    {
+        MarkingRoom {
+            found: Vec::new(alloc),
+            known: HashSet::new(alloc),
+            left: Vec::new(alloc),
+        }
+    }
+
+    // The room of these lists and this table, emptied by what was put in. One with places for more than 65,536 objects
+    // is let go, and another is made that takes no memory.
+    pub(crate) fn emptied(found: Vec<Addr>, known: HashSet<Addr>, left: Vec<Chunk>) -> MarkingRoom
+        requires { (a : Addr) → contains same_address known a ≡ has_address found.items a }
+        ensures { result ≤ 2 ^ 16 }
+    {
+        if found.capacity() > MOST_PLACES {
+            return MarkingRoom::new(*found.allocator());
+        }
+        let mut found = found;
+        let mut known = known;
+        take_out(&mut known, &found);
+        found.clear();
+        MarkingRoom { found, known, left }
+    }
+}
+
+// Takes all addresses out of the table, which has just these. Where they fill more than an eighth of its places, it is
+// cleared whole.
+fn take_out(known: &mut HashSet<Addr>, found: &[Addr])
+    requires { (a : Addr) → contains same_address known.old a ≡ has_address found.now a }
+    ensures { (a : Addr) → contains same_address known.new a ≡ false }
+{
+    if found.len() > known.capacity() / 8 {
+        known.clear();
+        return;
+    }
+    for address in found {
+        let _ = known.remove(address);
+    }
+}
