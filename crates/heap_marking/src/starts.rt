@@ -14,7 +14,7 @@ ghost use Rattle.heap_marking.specs.Starts.{starts_in, IsBegun};
 
 use alloc_path::LeafHeap;
 use chunk_pool::Pool;
-use inner_mark_gc::Marking;
+use inner_mark_gc::{Marking, MarkingRoom};
 use listed::Listed;
 use object_layout::Addr;
 use out_of_line::Apart;
@@ -87,8 +87,14 @@ fn starts_in(
     Ok(starts)
 }
 
-// A marking that has marked nothing yet, of the heap of a task at rest.
-fn begun_in(alloc: Global, sets: &[SetOf], heaps: &Heaps, task: u32) -> Result<Marking, AllocError>
+// A marking in this room that has marked nothing yet, of the heap of a task at rest.
+fn begun_in(
+    alloc: Global,
+    room: MarkingRoom,
+    sets: &[SetOf],
+    heaps: &Heaps,
+    task: u32,
+) -> Result<Marking, AllocError>
     requires there { IsSome (rest_at heaps.now.homes task) }
     requires fields { AreFields refs_in heaps.now (sources_of (slice_get sets.now task)) }
     requires held { IfSome (rest_at heaps.now.homes task) (λ r. All (IsHeld r.heap.chunks) (starts_in heaps.now (sources_of (slice_get sets.now task)) r)) }
@@ -98,16 +104,17 @@ fn begun_in(alloc: Global, sets: &[SetOf], heaps: &Heaps, task: u32) -> Result<M
         Some(Some(rest)) => {
             let rest = rest.get();
             let starts = starts_in(alloc, sets, heaps, task, rest)?;
-            Marking::begin(alloc, &rest.heap, &starts)
+            Marking::begin_in(room, &rest.heap, &starts)
         }
         _ => unreachable!(),
     }
 }
 
-/// A marking that has marked nothing yet, of the heap of a task at rest: it begins at what the heap's remembered fields
-/// hold now, and at what the task's registers do.
+/// A marking in this room that has marked nothing yet, of the heap of a task at rest: it begins at what the heap's
+/// remembered fields hold now, and at what the task's registers do.
 pub fn begin_marking(
     alloc: Global,
+    room: MarkingRoom,
     sets: &[SetOf],
     homes: &mut Listed<Option<Apart<Rest>>>,
     pool: &mut Pool,
@@ -124,7 +131,7 @@ pub fn begin_marking(
         homes: mem::replace(homes, Listed::new(alloc)),
         pool: mem::replace(pool, Pool::new(alloc, 0)),
     };
-    let marking = begun_in(alloc, sets, &heaps, task);
+    let marking = begun_in(alloc, room, sets, &heaps, task);
     let Heaps {
         homes: rests,
         pool: chunks,

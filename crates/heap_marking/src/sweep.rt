@@ -8,7 +8,7 @@ ghost use Rattle.shared_value.specs.declared.task_at_rest.Rest.{Rest as RestOf};
 ghost use Rattle.heap_marking.specs.Sweeping.{forgotten, CanSweep, SweepsHome};
 
 use chunk_pool::Pool;
-use inner_mark_gc::Marking;
+use inner_mark_gc::{Marking, MarkingRoom};
 use listed::Listed;
 use out_of_line::Apart;
 use shared_value::Rest;
@@ -26,13 +26,14 @@ pub fn forget_kept(sets: &mut Vec<SetOf>, t: u32)
     set.set_keeps(false);
 }
 
-/// Drops what isn't marked of the heap of a task that no worker holds, and ends its marking.
+/// Drops what isn't marked of the heap of a task that no worker holds, and ends its marking, of which it hands out the
+/// room.
 pub fn drop_unmarked(
     homes: &mut Listed<Option<Apart<Rest>>>,
     marks: &mut Listed<Option<Apart<Marking>>>,
     pool: &mut Pool,
     t: u32,
-)
+) -> MarkingRoom
     requires home { IsSome (rest_at homes.old t) }
     requires marking { IsSome (marks_at marks.old t) }
     requires can { (r : RestOf) (m : MarkingValue) → rest_at homes.old t ≡ Some r → marks_at marks.old t ≡ Some m → CanSweep r.heap m pool.old }
@@ -46,6 +47,9 @@ pub fn drop_unmarked(
         unreachable!()
     };
     let mut rest = rest;
-    let _ = marking.into_inner().sweep(&mut rest.get_mut().heap, pool);
+    let (_, room) = marking
+        .into_inner()
+        .sweep_keeping(&mut rest.get_mut().heap, pool);
     homes.set(t as usize, Some(rest));
+    room
 }

@@ -93,7 +93,9 @@ impl Shared {
             steps,
             end,
             halted,
+            room,
         } = self;
+        drop(room);
         let left = Left {
             program,
             settings,

@@ -11,11 +11,12 @@ ghost use Rattle.shared_tree.specs.Calls.{BeginsMarking};
 
 use crate::shared::Shared;
 use heap_marking::{begin_marking, is_marking, put_marking, waiting_cause, words_cause};
-use inner_mark_gc::Marking;
+use inner_mark_gc::{Marking, MarkingRoom};
 use run_ledger::Refused;
 use run_trace::{Entry, Kind};
 use shared_value::{NotEntered, first_cause};
 use std::alloc::AllocError;
+use std::mem;
 
 impl Shared {
     /// Why the entry is refused.
@@ -36,7 +37,7 @@ impl Shared {
         words_cause(self.settings, self.words_at(t))
     }
 
-    // A marking that has marked nothing yet, of the heap of a task that waits.
+    // A marking that has marked nothing yet, of the heap of a task that waits. It takes the room that was kept.
     fn marking_of(&mut self, t: u32) -> Result<Marking, AllocError>
         requires free { (k : ℕ) × (refused self.old (record { worker = k; kind = Kind.Mark t }) ≡ None) }
         ensures same { self.new ≡ self.old }
@@ -45,8 +46,9 @@ impl Shared {
     {
         self.stands();
         let alloc = *self.sets.allocator();
+        let room = mem::replace(&mut self.room, MarkingRoom::new(alloc));
         let (homes, pool) = (&mut self.homes, &mut self.pool);
-        begin_marking(alloc, &self.sets, homes, pool, t)
+        begin_marking(alloc, room, &self.sets, homes, pool, t)
     }
 
     // Makes the entry.

@@ -51,14 +51,14 @@ impl Shared {
         self.given_cause(t, given)
     }
 
-    // Makes the entry.
+    // Makes the entry, and keeps the room of the marking for the next.
     fn enter_sweep(&mut self, worker: u32, t: u32, given: u32)
         requires room { 0 < self.old.journal.room }
         requires free { refused self.old (record { worker = worker; kind = Kind.Sweep t given }) ≡ None }
         ensures enters { Enters self.old self.new (record { worker = worker; kind = Kind.Sweep t given }) }
         ensures fits { AllFit self.old self.new }
     {
-        drop_unmarked(&mut self.homes, &mut self.marks, &mut self.pool, t);
+        self.room = drop_unmarked(&mut self.homes, &mut self.marks, &mut self.pool, t);
         forget_kept(&mut self.sets, t);
         self.journal
             .push_reserved(Entry::new(worker, Kind::Sweep(t, given)));

@@ -13,6 +13,7 @@ use Rattle.alloc_path.proofs.heap.LeafHeap.TheSendSync as heap
 use Rattle.heap_tree.proofs.tree.Tree.TheSendSync as tree
 use Rattle.write_barrier.proofs.sets.SetOf.TheSendSync as sets
 use Rattle.inner_mark_gc.proofs.marking.Marking.TheSendSync as marking
+use Rattle.inner_mark_gc.proofs.room.MarkingRoom.TheSendSync as room
 use Rattle.shared_value.proofs.task_at_rest.Work.TheSendSync as work
 use Rattle.atomic_table.proofs.shared.Seat.TheSendSync as seat
 use Rattle.turn_lock.proofs.view.View.TheSendSync as seen
@@ -50,7 +51,7 @@ pub rest_send : IsSend Rest.the_row
 rest_send = search (view_send, heap.the_send, sendable, std.crosses, maps.crosses) depth 30
 
 pub shared_send : IsSend Shared.the_row
-shared_send = search (rest_send, program.the_send, tree.the_send, pool.the_send, sets.the_send, marking.the_send, listed.the_send, roomy.the_send, apart.the_send, sendable, std.crosses, maps.crosses) depth 300 fits 1000000
+shared_send = search (rest_send, program.the_send, tree.the_send, pool.the_send, sets.the_send, marking.the_send, room.the_send, listed.the_send, roomy.the_send, apart.the_send, sendable, std.crosses, maps.crosses) depth 300 fits 1000000
 
 pub counted_send : IsSend Counted.the_row
 counted_send = search (shared_send, listed.the_send, sendable, std.crosses, maps.crosses) depth 300 fits 1000000
@@ -68,7 +69,7 @@ pub rest_sync : IsSync Rest.the_row
 rest_sync = search (view_sync, work.the_sync, heap.the_sync, sendable, std.crosses, maps.crosses) depth 300 fits 1000000
 
 pub shared_sync : IsSync Shared.the_row
-shared_sync = search (rest_sync, program.the_sync, tree.the_sync, pool.the_sync, sets.the_sync, marking.the_sync, listed.the_sync, roomy.the_sync, apart.the_sync, sendable, std.crosses, maps.crosses) depth 300 fits 1000000
+shared_sync = search (rest_sync, program.the_sync, tree.the_sync, pool.the_sync, sets.the_sync, marking.the_sync, room.the_sync, listed.the_sync, roomy.the_sync, apart.the_sync, sendable, std.crosses, maps.crosses) depth 300 fits 1000000
 
 pub counted_sync : IsSync Counted.the_row
 counted_sync = search (shared_sync, listed.the_sync, sendable, std.crosses, maps.crosses) depth 300 fits 1000000
