@@ -2,7 +2,10 @@
 
 use crate::collecting::collect;
 use alloc_path::LeafHeap;
-use memory_scenes::{Put, Seen, Spot, at, at_spot, heap_of, holds, mark_and_sweep, one_frame};
+use memory_scenes::{
+    Put, Seen, Spot, at, at_spot, heap_of, holds, mark_and_sweep, mark_and_sweep_twice, one_frame,
+};
+use object_layout::Addr;
 use std::alloc::Global;
 
 // A heap, and what a marking from a root and an overwritten reference, so many objects at a time, and a sweep make of it.
@@ -144,5 +147,66 @@ const CASES: &[Case] = &[KEPT, NOT_KEPT, LARGE_OBJECTS];
 fn what_is_kept(rt: HostRuntime) {
     for case in CASES {
         assert!(rt; swept(rt.alloc(), case).is_some());
+    }
+}
+
+// A heap of three objects is marked and swept twice, from two roots and then from one or none. How many objects each
+// marking marks, and what is left.
+struct Twice {
+    first: (Spot, Spot),
+    second: Option<Spot>,
+    marked: (usize, usize),
+    left: &'static [Seen],
+}
+
+// The room is cleared whole, and one object by one.
+const TWICE: &[Twice] = &[
+    Twice {
+        first: ((0, 0), (0, 3)),
+        second: Some((0, 0)),
+        marked: (2, 1),
+        left: &[((0, 0), 0, None)],
+    },
+    Twice {
+        first: ((0, 0), (0, 0)),
+        second: None,
+        marked: (1, 0),
+        left: &[],
+    },
+];
+
+const THREE: &[Put] = &[
+    Put::Chunk(0, 1),
+    Put::Object(0, 1, 0),
+    Put::Object(0, 1, 1),
+    Put::Object(0, 1, 2),
+];
+
+// Whether the heap is left so through one room.
+fn is_left_by_one(alloc: Global, case: &Twice, first: &[Addr], second: &[Addr]) -> bool {
+    let Some(mut heap) = heap_of(alloc, THREE) else {
+        return false;
+    };
+    let marked = mark_and_sweep_twice(alloc, &mut heap, first, second);
+    marked == Some(case.marked) && holds(&heap, case.left)
+}
+
+// Whether it is left so where each marking has a room of its own.
+fn is_left_by_two(alloc: Global, case: &Twice, first: &[Addr], second: &[Addr]) -> bool {
+    let Some(mut heap) = heap_of(alloc, THREE) else {
+        return false;
+    };
+    mark_and_sweep(alloc, &mut heap, first, &[], 64).is_some()
+        && mark_and_sweep(alloc, &mut heap, second, &[], 64).is_some()
+        && holds(&heap, case.left)
+}
+
+#[test]
+fn a_room_serves_twice(rt: HostRuntime) {
+    for case in TWICE {
+        let first = [at_spot(case.first.0), at_spot(case.first.1)];
+        let second = case.second.map(at_spot);
+        assert!(rt; is_left_by_one(rt.alloc(), case, &first, second.as_slice()));
+        assert!(rt; is_left_by_two(rt.alloc(), case, &first, second.as_slice()));
     }
 }

@@ -16,4 +16,4 @@ pub use scenes::{
     place_kind, set_number,
 };
 pub use soundness::{is_fresh, is_live, outside_is_sound};
-pub use sweeping::mark_and_sweep;
+pub use sweeping::{mark_and_sweep, mark_and_sweep_twice};

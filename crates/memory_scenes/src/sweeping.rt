@@ -1,6 +1,6 @@
 // Markings and sweeps of heaps that were checked.
 
-ghost use Rattle.std.specs.Prelude.{All, IfSome, IsSome, IsTrue};
+ghost use Rattle.std.specs.Prelude.{All, IfOk, IfSome, IsSome, IsTrue};
 ghost use Rattle.chunk_pool.specs.PoolValue.{slot_at};
 ghost use Rattle.inner_mark_gc.specs.Snapshot.{IsClosed, IsHeld};
 ghost use Rattle.inner_mark_gc.specs.MarkingValue.{HasRoom, IsDone, IsOf};
@@ -9,9 +9,9 @@ use crate::cells::is_fit_heap;
 use crate::soundness::is_live;
 use alloc_path::LeafHeap;
 use chunk_pool::Pool;
-use inner_mark_gc::Marking;
+use inner_mark_gc::{Marking, MarkingRoom};
 use object_layout::{Addr, Chunk};
-use std::alloc::Global;
+use std::alloc::{AllocError, Global};
 
 // Whether all references within the heap lead to objects.
 fn is_closed(heap: &LeafHeap) -> bool
@@ -74,22 +74,21 @@ fn mark_all(marking: &mut Marking, heap: &LeafHeap, kept: &[Addr], step: u32) ->
     100
 }
 
-// Marks a heap from these roots and kept references, so many objects at a time, until nothing is left to mark, and says how
-// many calls marked that many.
+// Goes on with a marking that was begun, so many objects at a time, until nothing is left to mark, and says how many
+// calls marked that many.
 fn marked(
-    alloc: Global,
+    begun: Result<Marking, AllocError>,
     heap: &LeafHeap,
-    roots: &[Addr],
     kept: &[Addr],
     step: u32,
 ) -> Option<(u32, Marking)>
     requires closed { IsClosed heap.now.chunks }
-    requires roots { All (IsHeld heap.now.chunks) roots.now }
     requires kept { All (IsHeld heap.now.chunks) kept.now }
+    requires own { IfOk begun (λ m. IsOf heap.now.chunks kept.now m) }
     ensures own { IfSome result (λ r. IsOf heap.now.chunks kept.now r.1) }
     ensures done { IfSome result (λ r. IsDone r.1) }
 {
-    let Ok(mut marking) = Marking::begin(alloc, heap, roots) else {
+    let Ok(mut marking) = begun else {
         return None;
     };
     let calls = mark_all(&mut marking, heap, kept, step);
@@ -100,14 +99,8 @@ fn marked(
     }
 }
 
-// Sweeps a heap, and says how many calls marked it, how many units were given back, if those were foretold, and how many are
-// then in use.
-fn sweep(
-    heap: &mut LeafHeap,
-    pool: &mut Pool,
-    marking: Marking,
-    calls: u32,
-) -> Option<(u32, u32, u32)>
+// Sweeps a heap, and says how many units were given back, if those were foretold, and how many are then in use.
+fn sweep(heap: &mut LeafHeap, pool: &mut Pool, marking: Marking) -> Option<(u32, u32)>
     requires done { IsDone marking }
     requires room { HasRoom heap.old.chunks marking }
     requires in_use { All (λ k. IsSome (slot_at pool.old k.number)) heap.old.chunks }
@@ -115,10 +108,19 @@ fn sweep(
     let would_give = marking.would_give(heap);
     let given = marking.sweep(heap, pool);
     if given == would_give {
-        Some((calls, given, pool.in_use()))
+        Some((given, pool.in_use()))
     } else {
         None
     }
+}
+
+// Whether all references within a heap lead to objects, and so do these roots and kept references.
+fn is_sound(heap: &LeafHeap, roots: &[Addr], kept: &[Addr]) -> bool
+    ensures closed { IsTrue result → IsClosed heap.now.chunks }
+    ensures roots { IsTrue result → All (IsHeld heap.now.chunks) roots.now }
+    ensures kept { IsTrue result → All (IsHeld heap.now.chunks) kept.now }
+{
+    is_closed(heap) && are_objects(heap, roots) && are_objects(heap, kept)
 }
 
 /// Marks a heap from these roots and kept references, so many objects at a time, and sweeps it, if all is as that asks.
@@ -130,14 +132,57 @@ pub fn mark_and_sweep(
     kept: &[Addr],
     step: u32,
 ) -> Option<(u32, u32, u32)> {
-    if !is_closed(heap) || !are_objects(heap, roots) || !are_objects(heap, kept) {
+    if !is_sound(heap, roots, kept) {
         return None;
     }
     let Some(mut pool) = pool_of(alloc, heap.chunks()) else {
         return None;
     };
-    match marked(alloc, heap, roots, kept, step) {
-        Some((calls, marking)) => sweep(heap, &mut pool, marking, calls),
+    let begun = Marking::begin(alloc, heap, roots);
+    match marked(begun, heap, kept, step) {
+        Some((calls, marking)) => match sweep(heap, &mut pool, marking) {
+            Some((given, in_use)) => Some((calls, given, in_use)),
+            None => None,
+        },
         None => None,
     }
+}
+
+// Marks a heap from these roots and sweeps it, through this room, if all is as that asks. Hands out the room, and how
+// many objects were marked.
+fn mark_and_sweep_in(
+    alloc: Global,
+    room: MarkingRoom,
+    heap: &mut LeafHeap,
+    roots: &[Addr],
+) -> Option<(MarkingRoom, usize)> {
+    if !is_sound(heap, roots, &[]) {
+        return None;
+    }
+    let Some(mut pool) = pool_of(alloc, heap.chunks()) else {
+        return None;
+    };
+    let begun = Marking::begin_in(room, heap, roots);
+    match marked(begun, heap, &[], 64) {
+        Some((_, marking)) => {
+            let objects = marking.marked();
+            let (_, room) = marking.sweep_keeping(heap, &mut pool);
+            Some((room, objects))
+        }
+        None => None,
+    }
+}
+
+/// Marks a heap from the first roots and sweeps it, and then from others, both through one room, if all is as that
+/// asks. Says how many objects each time were marked.
+pub fn mark_and_sweep_twice(
+    alloc: Global,
+    heap: &mut LeafHeap,
+    first: &[Addr],
+    second: &[Addr],
+) -> Option<(usize, usize)> {
+    let room = MarkingRoom::new(alloc);
+    let (room, before) = mark_and_sweep_in(alloc, room, heap, first)?;
+    let (_, after) = mark_and_sweep_in(alloc, room, heap, second)?;
+    Some((before, after))
 }
