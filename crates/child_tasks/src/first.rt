@@ -59,8 +59,7 @@ pub fn none_out(alloc: Global, workers: u32) -> Result<Listed<Option<u32>>, Allo
     ensures { IfOk result (λ tasks_out. tasks_out ≡ replicate workers None) }
 {
     let mut tasks_out = Listed::new(alloc);
-    for i in 0..workers {
-        let _ = i;
+    for _ in 0..workers {
         tasks_out.push(None)?;
     }
     Ok(tasks_out)

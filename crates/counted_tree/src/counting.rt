@@ -27,8 +27,7 @@ fn zeros(alloc: Global, count: u32) -> Result<Listed<u64>, AllocError>
     ensures { IfOk result (λ numbers. length numbers ≡ count) }
 {
     let mut numbers = Listed::new(alloc);
-    for i in 0..count {
-        let _ = i;
+    for _ in 0..count {
         numbers.push(0)?;
     }
     Ok(numbers)

@@ -18,8 +18,7 @@ pub(crate) fn idle_paces(alloc: Global, workers: u32) -> Result<Listed<Pace>, Al
     ensures { IfOk result (λ paces. AreIdle paces workers) }
 {
     let mut paces = Listed::new(alloc);
-    for i in 0..workers {
-        let _ = i;
+    for _ in 0..workers {
         paces.push(Pace::new(alloc))?;
     }
     Ok(paces)

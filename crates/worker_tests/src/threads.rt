@@ -72,8 +72,7 @@ fn pass<R: Wait>(rt: &R, turn: &Turn<Run>, watch: &Watch, program: &Program, des
 fn passes<R: Wait>(rt: &R, turn: &Turn<Run>, watch: &Watch, program: &Program, desk: &mut Desk)
     requires { IsDesk (identity turn.now) program.now desk.old }
 {
-    for round in 0..ROUNDS {
-        let _ = round;
+    for _ in 0..ROUNDS {
         pass(rt, turn, watch, program, desk);
     }
 }

@@ -51,8 +51,7 @@ fn empty_holdings(alloc: Global, workers: u32) -> Result<Listed<Held>, AllocErro
     ensures { IfOk result (λ holdings. holdings ≡ replicate workers Held.Nothing) }
 {
     let mut holdings = Listed::new(alloc);
-    for i in 0..workers {
-        let _ = i;
+    for _ in 0..workers {
         holdings.push(Held::Nothing)?;
     }
     Ok(holdings)

@@ -1,5 +1,5 @@
 use Rattle.std.proofs.Common.{◌≡◌, replicate, None}
 use Rattle.child_tasks.proofs.first.none_out.Given as goal
 
-abbrev pub invariant-loop-i : goal.invariant-loop-i
-invariant-loop-i l = l.tasks_out ≡ replicate l.i None
+abbrev pub invariant-loop : goal.invariant-loop
+invariant-loop l = l.tasks_out ≡ replicate l.counter None

@@ -1,5 +1,5 @@
 use Rattle.std.proofs.Common.{◌≡◌, length}
 use Rattle.counted_tree.proofs.counting.zeros.Given as goal
 
-abbrev pub invariant-loop-i : goal.invariant-loop-i
-invariant-loop-i l = length l.numbers ≡ l.i
+abbrev pub invariant-loop : goal.invariant-loop
+invariant-loop l = length l.numbers ≡ l.counter

@@ -1,5 +1,5 @@
 use Rattle.paced_tree.specs.Owed.{AreIdle}
 use Rattle.paced_tree.proofs.noting.idle_paces.Given as goal
 
-abbrev pub invariant-loop-i : goal.invariant-loop-i
-invariant-loop-i l = AreIdle l.paces l.i
+abbrev pub invariant-loop : goal.invariant-loop
+invariant-loop l = AreIdle l.paces l.counter

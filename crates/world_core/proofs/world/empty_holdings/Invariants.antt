@@ -2,5 +2,5 @@ use Rattle.std.proofs.Common.{◌≡◌, replicate}
 use Rattle.world_core.specs.declared.held.Held.TheVariants.{Nothing}
 use Rattle.world_core.proofs.world.empty_holdings.Given as goal
 
-abbrev pub invariant-loop-i : goal.invariant-loop-i
-invariant-loop-i l = l.holdings ≡ replicate l.i Nothing
+abbrev pub invariant-loop : goal.invariant-loop
+invariant-loop l = l.holdings ≡ replicate l.counter Nothing
