@@ -67,14 +67,18 @@ module _ (p : ProgramText) (d : Desk) (value : Run) (v : Sight) (K : Knows journ
   brings (Found task) C = tt
   brings Wanting C = tt
 
+-- the value after an entry runs the desk's program
+pub program_entered : (z : TableId) (p : ProgramText) (d : Desk) (taken value : Run) → IsDesk z p d → Knows journal_of worker_of FitsKept setup_of taken (view d.seat) → (kind : Kind) → EntersOne taken.paced value.paced d.worker kind → value.paced.program ≡ p
+program_entered z p d taken value D K kind enters = enters.enters.program ∙ program_taken p d taken (view d.seat) K D.number D.under
+
 -- an entry was made
 pub has_entry : (z : TableId) (p : ProgramText) (d e : Desk) (taken value : Run) → IsDesk z p d → e ≡ record d { seat = e.seat } → HasTurn z e.seat taken → view e.seat ≡ with_taken (view d.seat) taken
-    → Knows journal_of worker_of FitsKept setup_of taken (view d.seat) → (kind : Kind) → EntersOne taken.paced value.paced d.worker kind → IsSharedValue value.paced → HasEntry z p e value
-has_entry z p d e taken value D is turn sees K kind enters world = subst (λ (x : Desk). HasEntry z p x value) (sym is) (record {
+    → Knows journal_of worker_of FitsKept setup_of taken (view d.seat) → (kind : Kind) → EntersOne taken.paced value.paced d.worker kind → IsSharedValue value.paced → HasEntry z e value
+has_entry z p d e taken value D is turn sees K kind enters world = subst (λ (x : Desk). HasEntry z x value) (sym is) (record {
   taken = taken;
   turn = turn;
   number = ap (λ (v : Sight). v.worker) sees ∙ D.number;
-  under = ap (λ (v : Sight). v.setup) sees ∙ D.under;
+  under = ap (λ (v : Sight). v.setup) sees ∙ (D.under ∙ ap (λ (x : ProgramText). Some (record { program = x; settings = d.settings })) (sym (program_entered z p d taken value D K kind enters)));
   below = D.below;
   few = D.few;
   gave = D.gave ∙ ap length (sym own);
@@ -82,7 +86,6 @@ has_entry z p d e taken value D is turn sees K kind enters world = subst (λ (x 
   kind = kind;
   enters = enters;
   world = world;
-  program = enters.enters.program ∙ program_taken p d taken (view d.seat) K D.number D.under;
   within = (let a = own_within (view d.seat).worker (journal_of taken) in let b = ap length (own_of_taken journal_of worker_of FitsKept setup_of taken (view d.seat) K) in let c = ap length own in omega (arith, a, b, c));
 })
   where
@@ -91,7 +94,7 @@ has_entry z p d e taken value D is turn sees K kind enters world = subst (λ (x 
 
 -- ---- IT IS GIVEN BACK
 
-module _ (z : TableId) (p : ProgramText) (d : Desk) (value : Run) (H : HasEntry z p d value) where
+module _ (z : TableId) (d : Desk) (value : Run) (H : HasEntry z d value) where
   pub extends : length (journal_of value) < 2 ^ 63 → Extends journal_of worker_of FitsKept setup_of H.taken value (view d.seat).worker
   extends short = record {
     entry = record { worker = d.worker; kind = H.kind };
@@ -112,8 +115,8 @@ module _ (z : TableId) (p : ProgramText) (d : Desk) (value : Run) (H : HasEntry 
     counts : d.given + 1 ≡ length (entries_of e)
     counts = let a = H.gave in let b : length (entries_of e) ≡ length (entries_of d) + 1 = ap length G.own ∙ length-append (entries_of d) (G.entry ∷ []) in omega (arith, a, b)
 
-    pub desk_given : IsDesk z p e
-    desk_given = subst (IsDesk z p) (sym is) (record { idle = idle; number = same.worker ∙ H.number; under = same.setup ∙ H.under; below = H.below; few = H.few; gave = counts; thieves = H.thieves })
+    pub desk_given : IsDesk z value.paced.program e
+    desk_given = subst (IsDesk z value.paced.program) (sym is) (record { idle = idle; number = same.worker ∙ H.number; under = same.setup ∙ H.under; below = H.below; few = H.few; gave = counts; thieves = H.thieves })
 
     pub same_given : SameDesk d e
     same_given = subst (SameDesk d) (sym is) (record { worker = refl; settings = refl; seat = same })
@@ -128,10 +131,10 @@ module _ (z : TableId) (p : ProgramText) (d : Desk) (value : Run) (H : HasEntry 
   KeepsOf _ s = Unit {0}
 
   -- what the worker goes on with
-  pub goes : (next : Next) (v : Sight) (s : Snapshot Private) → TakesFrom value.paced d.worker next → v.part ≡ Some s → KeepsOf next s → GoesWith p d.worker v next
-  goes (Running part) v s T e k = ((s, e, k), (value.paced, record { world = H.world; program = H.program; goes = T.0 }, T.1))
-  goes (Collects c) v s T e k = ((s, e, k), (value.paced, record { world = H.world; program = H.program; goes = T.0 }, T.1))
-  goes (HasCopied c) v s T e k = ((s, e, k), λ w G f. T.1 w (record { world = G.world; program = G.program ∙ sym H.program; goes = G.goes }) f)
+  pub goes : (next : Next) (v : Sight) (s : Snapshot Private) → TakesFrom value.paced d.worker next → v.part ≡ Some s → KeepsOf next s → GoesWith value.paced.program d.worker v next
+  goes (Running part) v s T e k = ((s, e, k), (value.paced, record { world = H.world; program = refl; goes = T.0 }, T.1))
+  goes (Collects c) v s T e k = ((s, e, k), (value.paced, record { world = H.world; program = refl; goes = T.0 }, T.1))
+  goes (HasCopied c) v s T e k = ((s, e, k), T.1)
   goes (GoesFor t) v s T e k = tt
   goes (Forked l r) v s T e k = tt
   goes (Resumed t) v s T e k = tt

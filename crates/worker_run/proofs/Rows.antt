@@ -77,6 +77,14 @@ kept_desks z p s before after all long kept = record {
     SameWorkerOf : Chair → Chair → Type 0
     SameWorkerOf x t = SameWorker (view x) (view t)
 
+-- all desks after calls on a borrow of the whole that keep them in order
+pub lent_desks : (z : TableId) (p : ProgramText) (s : SettingsValue) (len : ℕ) (opened lent after : List Desk) → lent ≡ opened → length after ≡ length opened → len ≡ length opened → AreAllDesks z p s opened
+    → ((t : SettingsValue) → AreAllDesks z p t lent → AreAllDesks z p t after) → AreAllDesks z p s after × AreAllDesks z p s (take len (after ++ drop (length after) opened))
+lent_desks z p s len opened lent after was long many all kept = (done, subst (AreAllDesks z p s) (sym (whole_written len after opened long many)) done)
+  where
+    done : AreAllDesks z p s after
+    done = kept s (subst (AreAllDesks z p s) (sym was) all)
+
 -- the desks of new seats
 pub new_desks : (z : TableId) (v : Sight) (n : ℕ) (p : ProgramText) (s : SettingsValue) (seats : List Chair) (desks : List Desk) → 0 < n → n ≡ s.workers → s.workers < 2 ^ 32 → v.seen ≡ [] → v.joined ≡ [] → v.setup ≡ Some (record { program = p; settings = s }) → AreNewSeats z v n seats
     → map (λ d. d.seat) desks ≡ seats → AreNewDesks s desks → AreAllDesks z p s desks

@@ -111,11 +111,11 @@ pub record AreOpened (s : SettingsValue) (desks : List Desk) : Type 0 where
   pub hands : HaveRoot s.workers (map (λ d. d.hand) desks)
 
 -- the desk has the turn, and the value to give back has one entry more than the one taken, which the desk doesn't count yet
-pub record HasEntry (z : TableId) (p : ProgramText) (d : Desk) (value : Run) : Type 0 where
+pub record HasEntry (z : TableId) (d : Desk) (value : Run) : Type 0 where
   pub taken : Run
   pub turn : HasTurn z d.seat taken
   pub number : (view d.seat).worker ≡ d.worker
-  pub under : (view d.seat).setup ≡ Some (record { program = p; settings = d.settings })
+  pub under : (view d.seat).setup ≡ Some (record { program = value.paced.program; settings = d.settings })
   pub below : d.worker < d.settings.workers
   pub few : d.settings.workers < 2 ^ 32
   pub gave : d.given ≡ length (entries_of d)
@@ -123,5 +123,4 @@ pub record HasEntry (z : TableId) (p : ProgramText) (d : Desk) (value : Run) : T
   pub kind : Kind
   pub enters : EntersOne taken.paced value.paced d.worker kind
   pub world : IsSharedValue value.paced
-  pub program : value.paced.program ≡ p
   pub within : length (entries_of d) ≤ length taken.paced.journal.items

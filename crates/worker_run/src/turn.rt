@@ -8,7 +8,6 @@ ghost use Rattle.worker_run.specs.Desks.{GivesOne, HasEntry, HasGiven, IsDesk, K
 
 use crate::desk::Desk;
 use crate::workshop::Workshop;
-use hh_lang::Program;
 use std::snapshot::Snapshot;
 use std::sync::Wait;
 use task_machine::Private;
@@ -16,57 +15,50 @@ use turn_entries::{Acted, Next, Ready, Run};
 use turn_lock::Turn;
 
 // Gives the value back with the entry that was made; the worker keeps the part.
-fn give_entry(
-    turn: &Turn<Run>,
-    desk: &mut Desk,
-    program: &Program,
-    run: Run,
-    kept: Option<&Snapshot<Private>>,
-)
-    requires entry { HasEntry (identity turn.now) program.now desk.old run }
+fn give_entry(turn: &Turn<Run>, desk: &mut Desk, run: Run, kept: Option<&Snapshot<Private>>)
+    requires entry { HasEntry (identity turn.now) desk.old run }
     requires kept { IfSome kept (λ s. Fits run.paced desk.old.worker s.now.value) }
-    ensures desk { IsDesk (identity turn.now) program.now desk.new }
+    ensures desk { IsDesk (identity turn.now) run.paced.program desk.new }
     ensures same { SameDesk desk.old desk.new }
     ensures place { KeepsPlace desk.old desk.new }
     ensures part { (view desk.new.seat).part ≡ option_map (λ s. s.now) kept.entry }
     ensures gave { HasGiven desk.new run }
     ensures one { GivesOne desk.old desk.new }
 {
-    let _ = program;
     run.is_short();
     desk.given += 1;
     turn.give_back(&mut desk.seat, run, kept);
 }
 
 // Gives the value back with the entry that was made, and goes on with what comes next.
-fn give(turn: &Turn<Run>, desk: &mut Desk, program: &Program, run: Run, next: Next) -> Next
-    requires entry { HasEntry (identity turn.now) program.now desk.old run }
+fn give(turn: &Turn<Run>, desk: &mut Desk, run: Run, next: Next) -> Next
+    requires entry { HasEntry (identity turn.now) desk.old run }
     requires takes { TakesFrom run.paced desk.old.worker next }
-    ensures desk { IsDesk (identity turn.now) program.now desk.new }
+    ensures desk { IsDesk (identity turn.now) run.paced.program desk.new }
     ensures same { SameDesk desk.old desk.new }
     ensures place { KeepsPlace desk.old desk.new }
     ensures kept { result ≡ next }
-    ensures next { GoesWith program.now desk.old.worker (view desk.new.seat) result }
+    ensures next { GoesWith run.paced.program desk.old.worker (view desk.new.seat) result }
     ensures gave { HasGiven desk.new run }
     ensures one { GivesOne desk.old desk.new }
 {
     match next {
         Next::Running(part) => {
             let kept = part.snapshot();
-            give_entry(turn, desk, program, run, Some(&kept));
+            give_entry(turn, desk, run, Some(&kept));
             Next::Running(part)
         }
         Next::Collecting(collecting) => {
             let kept = collecting.part.snapshot();
-            give_entry(turn, desk, program, run, Some(&kept));
+            give_entry(turn, desk, run, Some(&kept));
             Next::Collecting(collecting)
         }
         Next::Copied(copied) => {
-            give_entry(turn, desk, program, run, Some(&copied.begun));
+            give_entry(turn, desk, run, Some(&copied.begun));
             Next::Copied(copied)
         }
         next => {
-            give_entry(turn, desk, program, run, None);
+            give_entry(turn, desk, run, None);
             next
         }
     }
@@ -83,7 +75,7 @@ pub fn take_turn<R: Wait, G>(rt: &R, shop: &Workshop<G>, desk: &mut Desk, ready:
 {
     let run = shop.turn.take(rt, &mut desk.seat);
     match run.act(desk.alloc, desk.worker, ready) {
-        Acted::Entered(run, next) => give(shop.turn, desk, shop.program, run, next),
+        Acted::Entered(run, next) => give(shop.turn, desk, run, next),
         Acted::Same(run, next) => {
             shop.turn.give_same(&mut desk.seat, run);
             next

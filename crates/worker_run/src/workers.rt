@@ -1,5 +1,7 @@
 //! The workers in threads.
 ghost use Rattle.std.specs.Prelude.{◌≡◌, ◌<◌, ◌≤◌, ◌^◌, [], map, IfNone, IfOk, IfSome, vec_len, vec_capacity};
+ghost use Rattle.hh_lang.specs.Form.{ProgramText};
+ghost use Rattle.run_trace.specs.Settings.{SettingsValue};
 ghost use Rattle.run_ledger.specs.Journals.{end_of};
 ghost use Rattle.turn_lock.specs.Turn.{identity};
 ghost use Rattle.worker_run.specs.Desks.{AreAllDesks, AreHands, AreNewDesks, AreOpened, HasOfEach, HasStopped, HaveSeen, HaveStopped, IsDesk, SameDesk};
@@ -30,15 +32,13 @@ pub fn all_work<R: Threads + Wait + Sync, G: Gate>(
     bell: &Bell,
     gate: &G,
     program: &Program,
-    settings: Settings,
     desks: &mut [Desk],
 )
-    requires { AreAllDesks (identity turn.now) program.now settings desks.old }
-    ensures all { AreAllDesks (identity turn.now) program.now settings desks.new }
+    requires { (s : SettingsValue) × AreAllDesks (identity turn.now) program.now s desks.old }
+    ensures all { (s : SettingsValue) → AreAllDesks (identity turn.now) program.now s desks.old → AreAllDesks (identity turn.now) program.now s desks.new }
     ensures rounds { AllGoRound program.now desks.old desks.new }
     ensures over { HaveStopped desks.new }
 {
-    let _ = settings;
     let threads = desks.len();
     if threads == 0 {
         return;
@@ -109,23 +109,14 @@ fn seats_of(mut desks: Vec<Desk>, mut seats: Vec<Seat<Run>>) -> Vec<Seat<Run>>
 }
 
 /// Ends the turn: its value has of each worker just the entries that its desk gave back. `seats` has room for all.
-pub fn close(
-    turn: Turn<Run>,
-    desks: Vec<Desk>,
-    seats: Vec<Seat<Run>>,
-    program: &Program,
-    settings: Settings,
-) -> Paced
-    requires all { AreAllDesks (identity turn) program.now settings desks.items }
+pub fn close(turn: Turn<Run>, desks: Vec<Desk>, seats: Vec<Seat<Run>>) -> Paced
+    requires all { (p : ProgramText) × (s : SettingsValue) × AreAllDesks (identity turn) p s desks.items }
     requires none { seats.items ≡ [] }
     requires room { vec_len desks ≤ vec_capacity seats }
     ensures of_each { HasOfEach result.journal.items desks.items }
     ensures seen { HaveSeen result.journal.items desks.items }
-    ensures program { result.program ≡ program.now }
-    ensures settings { result.settings ≡ settings }
+    ensures setup { (p : ProgramText) (s : SettingsValue) → AreAllDesks (identity turn) p s desks.items → (result.program ≡ p) × (result.settings ≡ s) }
 {
-    let _ = program;
-    let _ = settings;
     let Run { paced, .. } = turn.close(seats_of(desks, seats));
     paced
 }
@@ -173,16 +164,8 @@ fn run_all<R: Threads + Wait + Sync, G: Gate>(
     let (turn, mut desks) = opened(alloc, program, settings)?;
     let seats = Vec::with_capacity(alloc, desks.len())?;
     let bell = Bell::new();
-    all_work(
-        rt,
-        &turn,
-        &bell,
-        gate,
-        program,
-        settings,
-        desks.as_mut_slice(),
-    );
-    let shared = close(turn, desks, seats, program, settings).into_shared();
+    all_work(rt, &turn, &bell, gate, program, desks.as_mut_slice());
+    let shared = close(turn, desks, seats).into_shared();
     shared.stands();
     Ok(shared)
 }

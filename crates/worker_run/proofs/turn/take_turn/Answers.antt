@@ -1,7 +1,10 @@
-use Rattle.std.proofs.Common.{refl}
+use Rattle.std.proofs.Common.{◌≡◌, refl, subst}
+use Rattle.hh_lang.specs.Form.{ProgramText}
 use Rattle.turn_lock.specs.Seats.{view}
 use Rattle.turn_lock.specs.Turn.{identity}
-use Rattle.worker_run.proofs.Giving.{alike, brings, has_entry, takes_from}
+use Rattle.turn_entries.specs.Parts.{GoesWith}
+use Rattle.worker_run.specs.Desks.{IsDesk}
+use Rattle.worker_run.proofs.Giving.{alike, brings, has_entry, program_entered, takes_from}
 use Rattle.worker_run.proofs.turn.take_turn.Goals as goal
 
 pub act-requires-clause-brings : goal.act-requires-clause-brings
@@ -19,3 +22,17 @@ give-requires-clause-takes g c = takes_from c.take-run.result.paced c.in-Entered
 
 pub give_same-requires : goal.give_same-requires
 give_same-requires g c = (c.take-run.result, c.take-run.ensures.turn, alike c.take-run.result c.in-Same.run' c.in-Same.ensures.0)
+
+pub returns-in-Entered-clause-desk : goal.returns-in-Entered-clause-desk
+returns-in-Entered-clause-desk g c =
+    let z = identity c.args.shop.now.turn.now in
+    let A = c.in-Entered.ensures in
+    let runs : c.in-Entered.run'.paced.program ≡ c.args.shop.now.program.now = program_entered z c.args.shop.now.program.now c.args.desk.now c.take-run.result c.in-Entered.run' c.requires.desk c.take-run.ensures.value A.made A.enters in
+    subst (λ (p : ProgramText). IsDesk z p c.give.new.desk) runs c.give.ensures.desk
+
+pub returns-in-Entered-clause-next : goal.returns-in-Entered-clause-next
+returns-in-Entered-clause-next g c =
+    let z = identity c.args.shop.now.turn.now in
+    let A = c.in-Entered.ensures in
+    let runs : c.in-Entered.run'.paced.program ≡ c.args.shop.now.program.now = program_entered z c.args.shop.now.program.now c.args.desk.now c.take-run.result c.in-Entered.run' c.requires.desk c.take-run.ensures.value A.made A.enters in
+    subst (λ (p : ProgramText). GoesWith p c.args.desk.now.worker (view c.give.new.desk.seat) c.give.result) runs c.give.ensures.next

@@ -20,11 +20,11 @@ use Rattle.worker_run.proofs.Sent.{desk_send, run_send, run_sync, turn_sync}
 use Rattle.worker_run.proofs.workers.all_work.Goals as goal
 
 pub for_each_mut-requires-clause-accepts : goal.for_each_mut-requires-clause-accepts
-for_each_mut-requires-clause-accepts g c κs within = λ i p inside at. ((c.requires.each_desk i p.now (slice_get_read c.args.desks.now _ i p.now refl inside at)).0, search rules)
+for_each_mut-requires-clause-accepts g c κs within = λ i p inside at. ((c.requires.1.each_desk i p.now (slice_get_read c.args.desks.now _ i p.now refl inside at)).0, search rules)
 
 pub returns-clause-all : goal.returns-clause-all
 returns-clause-all g c = let before = c.args.desks.now in let after = c.for_each_mut.new.s in let z = identity c.args.turn.now in let text = c.args.program.now in
-    kept_desks z text c.args.settings before after c.requires (search rules) (λ k d e was at. let did = (c.for_each_mut.ensures k e (slice_get_within before k d was)).1 in
+    λ s all. kept_desks z text s before after all (search rules) (λ k d e was at. let did = (c.for_each_mut.ensures k e (slice_get_within before k d was)).1 in
     let from : did.argument.now ≡ d = did.argument_is ∙ get_or_from_slice_get before k d e was in let to : did.after_call.now ≡ e = did.left ∙ get_or_from_slice_get after k e e at in
     (subst (IsDesk z text) to did.call.0, subst (SameDesk d) to (subst (λ (x : Desk). SameDesk x did.after_call.now) from did.call.1)))
 

@@ -1,16 +1,40 @@
-use Rattle.std.proofs.Common.{rules, ◌≡◌, ◌++◌, List, take, drop, length, ap, subst, ◌∙◌}
+use Rattle.std.proofs.Common.{rules, ◌≡◌, ◌++◌, List, take, drop, length, ap, sym, subst, ◌∙◌}
 use Rattle.shared_value.specs.SharedValue.{SharedValue}
 use Rattle.turn_lock.specs.Turn.{identity}
 use Rattle.worker_run.specs.declared.desk.Desk.{Desk}
-use Rattle.worker_run.specs.Desks.{HasOfEach, HaveSeen}
+use Rattle.worker_run.specs.Desks.{AreAllDesks, HasOfEach, HaveSeen}
 use Rattle.worker_run.specs.Rounds.{AllGoRound}
-use Rattle.worker_run.proofs.Rows.{is_run, was_given, whole_written}
+use Rattle.worker_run.proofs.Rows.{is_run, lent_desks, was_given, whole_written}
 use Rattle.worker_run.proofs.workers.run_all.Goals as goal
+
+pub all_work-requires : goal.all_work-requires
+all_work-requires g c κs within =
+    let was : c.as_mut_slice.result.now ≡ c.in_ok-turn.desks.items = search rules in
+    (c.args.settings, subst (AreAllDesks (identity c.in_ok-turn.turn) c.args.program.now c.args.settings) (sym was) c.in_ok-turn.ensures.all)
+
+pub close-requires-clause-all : goal.close-requires-clause-all
+close-requires-clause-all g c =
+    let desks : List Desk = c.all_work.new.desks in
+    let opened : List Desk = c.in_ok-turn.desks.items in
+    let many : c.in_ok-turn.desks.len ≡ length opened = search rules in
+    let same : length desks ≡ length opened = search rules in
+    let was : c.as_mut_slice.result.now ≡ opened = search rules in (
+      c.args.program.now,
+      c.args.settings,
+      (lent_desks (identity c.in_ok-turn.turn) c.args.program.now c.args.settings c.in_ok-turn.desks.len opened c.as_mut_slice.result.now desks was same many c.in_ok-turn.ensures.all c.all_work.ensures.all).1,
+    )
 
 pub returns-clause-run : goal.returns-clause-run
 returns-clause-run g c =
-    is_run c.args.program.now c.args.settings c.into_shared-shared.result c.stands.ensures (ap (λ (w : SharedValue). w.program) c.into_shared-shared.ensures.same ∙ c.close.ensures.program)
-    (ap (λ (w : SharedValue). w.settings) c.into_shared-shared.ensures.same ∙ c.close.ensures.settings) c.into_shared-shared.ensures.paced
+    let desks : List Desk = c.all_work.new.desks in
+    let opened : List Desk = c.in_ok-turn.desks.items in
+    let many : c.in_ok-turn.desks.len ≡ length opened = search rules in
+    let same : length desks ≡ length opened = search rules in
+    let was : c.as_mut_slice.result.now ≡ opened = search rules in
+    let all = lent_desks (identity c.in_ok-turn.turn) c.args.program.now c.args.settings c.in_ok-turn.desks.len opened c.as_mut_slice.result.now desks was same many c.in_ok-turn.ensures.all c.all_work.ensures.all in
+    let setup = c.close.ensures.setup c.args.program.now c.args.settings all.1 in
+    is_run c.args.program.now c.args.settings c.into_shared-shared.result c.stands.ensures (ap (λ (w : SharedValue). w.program) c.into_shared-shared.ensures.same ∙ setup.0)
+    (ap (λ (w : SharedValue). w.settings) c.into_shared-shared.ensures.same ∙ setup.1) c.into_shared-shared.ensures.paced
 
 pub returns-clause-gave : goal.returns-clause-gave
 returns-clause-gave g c =
@@ -20,5 +44,6 @@ returns-clause-gave g c =
     let same : length desks ≡ length opened = search rules in
     let whole : take c.in_ok-turn.desks.len (desks ++ drop (length desks) opened) ≡ desks = whole_written c.in_ok-turn.desks.len desks opened same many in
     let was : c.as_mut_slice.result.now ≡ opened = search rules in
-    was_given (identity c.in_ok-turn.turn) c.args.program.now c.args.settings opened desks c.close.result c.into_shared-shared.result c.in_ok-turn.ensures.all c.in_ok-turn.ensures.new c.all_work.ensures.all (subst (λ (ds : List Desk). AllGoRound c.args.program.now ds desks) was c.all_work.ensures.rounds) c.all_work.ensures.over
+    let all = lent_desks (identity c.in_ok-turn.turn) c.args.program.now c.args.settings c.in_ok-turn.desks.len opened c.as_mut_slice.result.now desks was same many c.in_ok-turn.ensures.all c.all_work.ensures.all in
+    was_given (identity c.in_ok-turn.turn) c.args.program.now c.args.settings opened desks c.close.result c.into_shared-shared.result c.in_ok-turn.ensures.all c.in_ok-turn.ensures.new all.0 (subst (λ (ds : List Desk). AllGoRound c.args.program.now ds desks) was c.all_work.ensures.rounds) c.all_work.ensures.over
     (subst (HaveSeen c.close.result.journal.items) whole c.close.ensures.seen) (subst (HasOfEach c.close.result.journal.items) whole c.close.ensures.of_each) c.into_shared-shared.ensures.same
