@@ -49,8 +49,10 @@ impl Run {
         requires { cause ≡ NotEntered.NoMemory }
         ensures { EndsHalted self result }
     {
-        let _ = cause;
-        self.halted()
+        match cause {
+            NotEntered::NoMemory => self.halted(),
+            NotEntered::Refuses(_) => unreachable!(),
+        }
     }
 
     // Makes the entry that comes next.

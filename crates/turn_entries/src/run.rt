@@ -56,8 +56,7 @@ impl Run {
     pub fn is_short(&self)
         ensures { length self.now.paced.journal.items < 2 ^ 63 }
     {
-        let count = self.paced.journal().len();
-        let _ = count;
+        self.paced.journal().len();
     }
 
     /// Whether entries may be made: the run hasn't ended, and no worker has met want of memory.
