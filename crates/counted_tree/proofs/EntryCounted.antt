@@ -44,7 +44,7 @@ use Rattle.heap_reading.specs.HeldNames.{held_unless_running}
 use Rattle.heap_reading.proofs.KeptNames.{counted_few}
 use Rattle.counted_tree.specs.declared.counting.Counts.{Counts}
 use Rattle.counted_tree.specs.Counts.{HasWords, IsMade, KeepsCounts, begun_with, totals_of}
-use Rattle.counted_tree.proofs.Begun.{WentOn, begin_apart, begin_words, begin_worker, end_begun, end_left, end_worker, entry_worker, sweep_waits, went_on}
+use Rattle.counted_tree.proofs.BegunCollections.{WentOn, begin_apart, begin_words, begin_worker, end_begun, end_left, end_worker, entry_worker, sweep_waits, went_on}
 use Rattle.counted_tree.proofs.PartWords.{part_words, words_small}
 
 -- LISTS

@@ -1,3 +1,3 @@
-pub mod Begun
+pub mod BegunCollections
 pub mod EntryCounted
 pub mod PartWords
