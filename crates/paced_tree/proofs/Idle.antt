@@ -1,8 +1,6 @@
 -- What is kept before the first entry, and where no entry is made.
-use Rattle.std.proofs.Common.{◌≡◌, ℕ, ◌+◌, ◌<◌, List, [], ◌∷◌, ◌++◌, length, slice_get, inl, inr, refl, ap, sym, subst, ◌∙◌, arith, length-append}
-use Rattle.std.proofs.lemmas.Bool.{cases_eq, cases_lt}
-use Rattle.std.proofs.lemmas.Option.{same_Some}
-use Rattle.listed.proofs.Members.{got_back, got_front, got_within}
+use Rattle.std.proofs.Common.{◌≡◌, ℕ, List, [], slice_get, inl, inr, ap, sym, subst, ◌∙◌}
+use Rattle.std.proofs.lemmas.Bool.{cases_eq}
 use Rattle.run_trace.specs.Settings.{SettingsValue}
 use Rattle.run_ledger.specs.Journals.{ledger_of}
 use Rattle.run_ledger.specs.Pace.{idle, is_paced, pace_at_end, pace_of}
@@ -17,24 +15,6 @@ use Rattle.heap_marking.specs.declared.pace.Previous.TheVariants.{Other}
 use Rattle.heap_marking.specs.Pace.{KeepsPace, KeepsPrevious}
 use Rattle.heap_marking.proofs.PaceKeeps.{keeps_items}
 use Rattle.paced_tree.specs.Owed.{AreIdle, KeepsPaces, NotesAt, SameMarks, worker_pace}
-
--- A LIST OF IDLE PACES
-pub idle_none : AreIdle [] 0
-idle_none = record { many = refl; each = λ k q at. absurd cc }
-
-pub idle_push : (paces : List Pace) (n : ℕ) (q : Pace) → AreIdle paces n → q.previous ≡ Other → q.marks.items ≡ [] → AreIdle (paces ++ q ∷ []) (n + 1)
-idle_push paces n q I p m = record {
-  many = length-append paces (q ∷ []) ∙ ap (λ c. c + 1) I.many;
-  each = λ k x at. elim (cases_lt k (length paces)) [
-    | inl lt ↦ I.each k x (sym (got_front paces (q ∷ []) k lt) ∙ at)
-    | inr ge ↦
-        let within : k < length (paces ++ q ∷ []) = got_within (paces ++ q ∷ []) k x at in
-        let count : length (paces ++ q ∷ []) ≡ length paces + 1 = length-append paces (q ∷ []) in
-        let e : k ≡ length paces + 0 = omega arith in
-        let same : q ≡ x = same_Some q x (sym (got_back paces (q ∷ []) 0) ∙ (ap (slice_get (paces ++ q ∷ [])) (sym e) ∙ at)) in
-        (ap (λ (z : Pace). z.previous) (sym same) ∙ p, ap (λ (z : Pace). z.marks.items) (sym same) ∙ m)
-  ];
-}
 
 idle_kept : (l : Ledger) (q : Pace) → q.previous ≡ Other → q.marks.items ≡ [] → KeepsPace l q idle
 idle_kept l q p m = record { previous = subst (λ a. KeepsPrevious l a idle.previous) (sym p) tt; marks = m }
