@@ -2,7 +2,7 @@
 
 ghost use Rattle.std.specs.Prelude.{◌≡◌, ◌-◌, ◌<◌, ◌^◌, IfOk, length};
 ghost use Rattle.run_trace.specs.Entry.{EntryValue};
-ghost use Rattle.run_report.specs.Totals.{cleared_words, no_totals};
+ghost use Rattle.run_report.specs.Totals.{cleared_words, joined, no_totals, AreFew};
 ghost use Rattle.shared_value.specs.SharedValue.{SharedValue, accounts};
 ghost use Rattle.shared_value.specs.Entered.{Enters};
 ghost use Rattle.counted_tree.specs.Counts.{IsMade, KeepsCounts, begun_with};
@@ -53,6 +53,18 @@ fn keep_begun(begun: &mut Listed<u64>, entry: Entry, words: u64)
     }
 }
 
+// The totals with those of one entry more. Where they are as they were nothing is written, so that the line of memory in
+// which they stand stays with all processors.
+fn add(totals: &mut Totals, counted: Totals)
+    requires { AreFew (joined totals.old counted) }
+    ensures { totals.new ≡ joined totals.old counted }
+{
+    let joined = totals.join(counted);
+    if joined != *totals {
+        *totals = joined;
+    }
+}
+
 impl Counts {
     /// Before the first entry of so many workers.
     pub(crate) fn none(alloc: Global, workers: u32) -> Result<Counts, AllocError>
@@ -91,7 +103,7 @@ impl Counts {
         let lost = self.lost(shared, entry, words);
         let used = shared.in_use() as u64;
         let counted = Totals::counted(entry.kind(), lost, used);
-        self.totals = self.totals.join(counted);
+        add(&mut self.totals, counted);
         keep_begun(&mut self.begun, entry, words);
     }
 }

@@ -55,14 +55,16 @@ impl Pace {
         self.marks.reserve(1)
     }
 
-    /// After steps, which ended with this fork where they ended with one.
+    /// After steps, which ended with this fork where they ended with one. What is as it was isn't written, so that the
+    /// line of memory in which it stands stays with all processors.
     pub fn after_steps(&mut self, fork: Option<Fork>)
         ensures { self.new ≡ record self.old { previous = previous_of fork } }
     {
-        self.previous = match fork {
-            Some(fork) => Previous::Forked(fork),
-            None => Previous::Ran,
-        };
+        match (fork, self.previous) {
+            (Some(fork), _) => self.previous = Previous::Forked(fork),
+            (None, Previous::Ran) => {}
+            (None, _) => self.previous = Previous::Ran,
+        }
     }
 
     /// After the marking of a heap has begun, whose task waits on this fork.

@@ -6,7 +6,7 @@ ghost use Rattle.run_report.specs.Totals.{AreFew, no_totals, joined, counted};
 use run_trace::Kind;
 
 /// What the entries of a journal come to, in numbers.
-#[derive(Clone, Copy)]
+#[derive(Clone, Copy, PartialEq, Eq)]
 pub struct Totals {
     /// The leaf collections that ended.
     pub leaf: u64,

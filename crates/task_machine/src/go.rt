@@ -150,8 +150,9 @@ impl Private {
         }
     }
 
-    // The same of a plan that mostly makes an object.
-    #[inline(always)]
+    // The same of a plan that mostly makes an object. It stands apart, so that steps that make none aren't the slower for
+    // what a placement keeps at hand.
+    #[inline(never)]
     fn take_new(&mut self, plan: Plan, instr: &Instr) -> Came
         requires next { self.old.frames.top.next + 1 < 2 ^ 32 }
         requires fresh { self.old.fresh + 1 < 2 ^ 32 }

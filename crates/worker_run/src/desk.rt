@@ -19,4 +19,6 @@ pub struct Desk {
     pub given: u64,
     /// How often the bell had rung when the worker last looked for a task.
     pub heard: u64,
+    /// Nothing: it keeps what two workers count from lying in one line of memory.
+    pub apart: [u64; 16],
 }

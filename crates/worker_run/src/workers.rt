@@ -89,6 +89,7 @@ fn desks_of(
             settings,
             given: 0,
             heard: 0,
+            apart: [0; 16],
         })?;
         worker += 1;
     }

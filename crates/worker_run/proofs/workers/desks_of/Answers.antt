@@ -1,4 +1,4 @@
-use Rattle.std.proofs.Common.{rules, List, suc, ◌≡◌, ◌+◌, ◌<◌, ◌++◌, ◌∷◌, [], ap, ◌∙◌, refl, map, length, length-append, subst, slice_get, Some, sym, arith, vec_len, ◌^◌, append-nil}
+use Rattle.std.proofs.Common.{rules, List, suc, ◌≡◌, ◌+◌, ◌<◌, ◌++◌, ◌∷◌, [], ap, ◌∙◌, refl, map, length, length-append, subst, slice_get, Some, sym, arith, vec_len, ◌^◌, append-nil, replicate}
 use Rattle.turn_lock.proofs.SeatLists.{emptied}
 use Rattle.steal_scheduler.specs.declared.hand.Hand.{Hand}
 use Rattle.steal_scheduler.specs.Hands.{thefts}
@@ -38,7 +38,7 @@ pub loop-alloc-preserved : goal.loop-alloc-preserved
 loop-alloc-preserved c =
     let inv = c.loop-alloc.invariant in
     let hand : Hand = c.remove-hand.result in
-    let desk : Desk = record { seat = c.remove-seat.result; hand = hand; worker = c.loop-alloc.worker; alloc = c.args.alloc; settings = c.args.settings; given = 0; heard = 0 } in
+    let desk : Desk = record { seat = c.remove-seat.result; hand = hand; worker = c.loop-alloc.worker; alloc = c.args.alloc; settings = c.args.settings; given = 0; heard = 0; apart = replicate 16 0 } in
     let some : 0 < length c.loop-alloc.seats.items = search rules in
     let more : 0 < length c.loop-alloc.hands.items = search rules in
     let made : c.push.new.self.items ≡ c.loop-alloc.desks.items ++ desk ∷ [] = c.in_ok-push.ensures.items in

@@ -8,8 +8,8 @@ use Rattle.counted_tree.specs.Counts.{IsMade}
 use Rattle.counted_tree.proofs.EntryCounted.{counts_then, totals_few}
 use Rattle.counted_tree.proofs.counting.Counts.count.Goals as goal
 
-pub join-self-requires : goal.join-self-requires
-join-self-requires c =
+pub add-requires : goal.add-requires
+add-requires c =
     let w : SharedValue = c.requires.0 in
     let v : SharedValue = c.args.shared.now in
     let before : Counts = c.args.self.now in
@@ -28,5 +28,5 @@ returns c =
     let same : x ≡ c.requires.1 = c.last_entry-entry.ensures.last w c.requires.1 c.requires.2.enters in
     let M : IsMade w v before x c.args.words = subst (λ (z : EntryValue). IsMade w v before z c.args.words) (sym same) c.requires.2 in
     let adds : c.counted-counted.result ≡ counted x.kind c.lost-lost.result c.in_use-used.result = c.counted-counted.ensures ∙ ap (λ k. counted k c.lost-lost.result c.in_use-used.result) c.kind.ensures.value in
-    counts_then w v before x c.args.words M (record { totals = c.join-self.result; begun = c.keep_begun.new.begun }) c.lost-lost.result c.in_use-used.result (c.lost-lost.ensures w M) c.in_use-used.ensures
-    (c.join-self.ensures ∙ ap (joined before.totals) adds) c.keep_begun.ensures
+    counts_then w v before x c.args.words M (record { totals = c.add.new.totals; begun = c.keep_begun.new.begun }) c.lost-lost.result c.in_use-used.result (c.lost-lost.ensures w M) c.in_use-used.ensures
+    (c.add.ensures ∙ ap (joined before.totals) adds) c.keep_begun.ensures
