@@ -12,5 +12,5 @@ pub fn units(words: u64) -> u64
     requires { words < 2 ^ 63 }
     ensures { result ≡ units words }
 {
-    (words + 1023) / CHUNK_WORDS
+    (words + (CHUNK_WORDS - 1)) / CHUNK_WORDS
 }
