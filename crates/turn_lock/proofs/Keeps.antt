@@ -1,5 +1,5 @@
 -- Each step of the turn keeps its rule.
-use Rattle.std.proofs.Common.{◌≡◌, ◌≢◌, ◌⊎◌, ℕ, ◌+◌, ◌-◌, ◌*◌, ◌/◌, ◌%◌, ◌^◌, ◌<◌, ◌≤◌, true, List, [], ◌∷◌, ◌++◌, length, slice_index, set, sym, refl, ap, ◌∙◌, subst, arith, ⊎_elim, inl, inr, Option, Some, None, length-set, get_or-set_same, length-append, append-nil, append_assoc, is_some, unwrap_or, option_map, IfSome, true≢false, eq-zero-or-pos}
+use Rattle.std.proofs.Common.{◌≡◌, ◌≢◌, ◌⊎◌, ℕ, ◌+◌, ◌-◌, ◌*◌, ◌/◌, ◌%◌, ◌^◌, ◌<◌, ◌≤◌, true, List, [], ◌∷◌, ◌++◌, length, slice_index, set, sym, refl, ap, ◌∙◌, subst, arith, ⊎_elim, inl, inr, Option, Some, None, length-set, get_or-set_same, length-append, append-nil, append_assoc, unwrap_or, option_map, IfSome, eq-zero-or-pos}
 use Rattle.std.proofs.lemmas.Option.{same_Some}
 use mathlib.Core.Logic.{dite}
 use mathlib.Core.Option.{none, some}
@@ -8,6 +8,7 @@ use native.Mathlib.Decide.{ℕ_discrete}
 use lib.ListN.{get_elem?}
 use denote.Ref.{Bor}
 use lib.Bits.{bit_or, or_shifted, or_add_and, and_mask}
+use Rattle.listed.proofs.Options.{none_some, some_apart}
 use Rattle.atomic_table.specs.Table.{State, Me, step, keeps, takes, gives, Allows}
 use Rattle.atomic_table.proofs.Lists.{at_set, set_else}
 use Rattle.turn_lock.specs.declared.view.View.{View}
@@ -22,9 +23,6 @@ set_last a =
       | inl z ↦ let e : a ≡ a / 2 * 2 ^ 1 = omega arith in ap (λ (k : ℕ). bit_or k 1) e ∙ or_shifted (a / 2) 1 1 (omega arith)
       | inr p ↦ omega (arith, or_add_and a 1, and_mask a 1)
     ]
-
-pub some_apart : {A : Type 0} (o : Option A) (x : A) → o ≡ Some x → o ≡ None → ⊥
-some_apart o x e n = true≢false (ap is_some (sym e ∙ n))
 
 apart_snoc : {E : Type 0} (by : E → ℕ) (w : ℕ) (es : List E) (e : E) → NoneBy by w es → by e ≢ w → NoneBy by w (es ++ e ∷ [])
 apart_snoc by w [] e f apart = (apart, tt)
@@ -277,5 +275,5 @@ module _ {T E P S : Type 0} (journal : T → List E) (by : E → ℕ) (fits : T 
       subst (λ (c : M). Allows Rule slots id c 0 (λ n. (n + (2 ^ 64 - 1)) % 2 ^ 64) (returns journal by fits setup (step slots 0 1 0 none) c)) (sym is) (returns_at slots id v t x single live has alike)
 
 pub fitting : {P : Type 0} (fit : P → Type 0) (part : Option (Bor P)) (p : P) → option_map (λ (b : Bor P). b.now) part ≡ Some p → IfSome part (λ (b : Bor P). fit b.now) → fit p
-fitting fit None p e h = absurd (true≢false (ap is_some (sym e)))
+fitting fit None p e h = none_some e
 fitting fit (Some b) p e h = subst fit (same_Some b.now p e) h

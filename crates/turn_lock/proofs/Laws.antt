@@ -1,7 +1,8 @@
 -- Laws for those who use a turn: a worker's own entries, and all seats at the end.
 use Rattle.std.proofs.Common.{◌≡◌, ℕ, zero, suc, ◌<◌, cond, ◌==◌, ne_eqb, eq-eqb, List, [], ◌∷◌, ◌++◌, length, refl, sym, ap, ◌∙◌, arith, Option, Some, append-nil, slice_get}
 use Rattle.std.proofs.lemmas.List.Elements.{filter-append}
-use Rattle.std.proofs.lemmas.Option.{slice_get_within}
+use Rattle.listed.proofs.Members.{got_within}
+use Rattle.listed.proofs.Places.{got_some}
 use Rattle.atomic_table.specs.Seated.{TableId}
 use Rattle.atomic_table.specs.declared.shared.Seat.{Seat}
 use Rattle.turn_lock.specs.declared.view.View.{View}
@@ -63,13 +64,7 @@ module _ {T E P S : Type 0} (journal : T → List E) (by : E → ℕ) (fits : T 
 
 -- a list that isn't empty has a first element
 pub first_there : {A : Type 0} (l : List A) → 0 < length l → (a : A) × (slice_get l 0 ≡ Some a)
-first_there [] h = absurd (omega arith)
-first_there (x ∷ xs) h = (x, refl)
-
-there : {A : Type 0} (l : List A) (k : ℕ) → k < length l → (a : A) × (slice_get l k ≡ Some a)
-there [] k h = absurd (omega arith)
-there (x ∷ xs) zero h = (x, refl)
-there (x ∷ xs) (suc k) h = there xs k (omega arith)
+first_there l h = got_some l 0 h
 
 module _ {T E P S : Type 0} where
   -- the seats of a new turn are all seats
@@ -85,6 +80,6 @@ module _ {T E P S : Type 0} where
       → ((k : ℕ) (s t : Seat (Option T) (View T E P S)) → slice_get before k ≡ Some s → slice_get after k ≡ Some t → HasNoTurn z t × SameWorker (view s) (view t)) → AreAllSeats z after
   kept_are_all z before after all long kept = record {
     some_seat = (let h = all.some_seat in omega arith);
-    each_seat = λ k t e. let h = slice_get_within after k t e in let s = there before k (omega arith) in let same = kept k s.0 t s.1 e in (same.0, same.1.worker ∙ (all.each_seat k s.0 s.1).1);
+    each_seat = λ k t e. let h = got_within after k t e in let s = got_some before k (omega arith) in let same = kept k s.0 t s.1 e in (same.0, same.1.worker ∙ (all.each_seat k s.0 s.1).1);
     first_seat = λ t e. let s = first_there before all.some_seat in let same = (kept 0 s.0 t s.1 e).1 in let f = all.first_seat s.0 s.1 in (same.count ∙ (f.0 ∙ sym long), same.joined ∙ f.1);
   }

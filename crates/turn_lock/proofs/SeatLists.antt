@@ -1,21 +1,17 @@
 -- The seats as `new` makes them, and as `close` joins them.
-use Rattle.std.proofs.Common.{◌≡◌, ◌⊎◌, ℕ, zero, suc, ◌+◌, ◌-◌, ◌<◌, true, List, [], ◌∷◌, ◌++◌, length, slice_get, get_or, insert, remove, sym, refl, ap, ◌∙◌, subst, arith, ⊎_elim, inl, inr, Option, Some, None, length-append, append_assoc}
+use Rattle.std.proofs.Common.{◌≡◌, ◌⊎◌, ℕ, zero, suc, ◌+◌, ◌-◌, ◌<◌, true, List, [], ◌∷◌, ◌++◌, length, slice_get, get_or, insert, remove, sym, refl, ap, ◌∙◌, subst, arith, ⊎_elim, Option, Some, None, length-append, append_assoc}
+pub use Rattle.std.proofs.lemmas.List.{nil_from_length as emptied}
 use Rattle.std.proofs.lemmas.Option.{same_Some}
 use mathlib.Core.Option.{some, some-injective, some-ne-none}
 use lib.ListN.{get_elem?}
+use Rattle.listed.proofs.Options.{none_some}
+use Rattle.listed.proofs.Places.{got_more}
 use Rattle.atomic_table.specs.Seated.{TableId}
 use Rattle.atomic_table.specs.declared.shared.Seat.{Seat}
 use Rattle.turn_lock.specs.declared.view.View.{View}
 use Rattle.turn_lock.specs.Journal.{NoneBy}
 use Rattle.turn_lock.specs.Seats.{opening_view, newcomer, view, HasNoTurn, AreNewSeats, AreAllSeats, IsLeftBy}
 use Rattle.turn_lock.specs.Rule.{Sees, HasAll, split_view, with_joined}
-use Rattle.turn_lock.proofs.Keeps.{some_apart}
-
-get_snoc : {A : Type 0} (l : List A) (a b : A) (j : ℕ) → slice_get (l ++ a ∷ []) j ≡ Some b → (slice_get l j ≡ Some b) ⊎ ((j ≡ length l) × (a ≡ b))
-get_snoc [] a b zero e = inr (refl, same_Some a b e)
-get_snoc [] a b (suc j) e = absurd (some_apart None b e refl)
-get_snoc (x ∷ xs) a b zero e = inl e
-get_snoc (x ∷ xs) a b (suc j) e = ⊎_elim (λ h. inl h) (λ (t : (j ≡ length xs) × (a ≡ b)). inr (ap suc t.0, t.1)) (get_snoc xs a b j e)
 
 pub insert_first : {A : Type 0} (l : List A) (x : A) → insert l 0 x ≡ x ∷ l
 insert_first [] x = refl
@@ -35,12 +31,12 @@ module _ {T E P S : Type 0} where
   AreNext z v seats = (k : ℕ) (s : Seat (Option T) (View T E P S)) → slice_get seats k ≡ Some s → HasNoTurn z s × (view s ≡ newcomer v (suc k) 0)
 
   pub none_recruited : (z : TableId) (v : View T E P S) → AreNext z v []
-  none_recruited z v k s e = absurd (some_apart None s e refl)
+  none_recruited z v k s e = none_some e
 
   pub one_more : (z : TableId) (v : View T E P S) (seats : List (Seat (Option T) (View T E P S))) (t : Seat (Option T) (View T E P S)) → AreNext z v seats → HasNoTurn z t → view t ≡ newcomer v (suc (length seats)) 0
       → AreNext z v (seats ++ t ∷ [])
   one_more z v seats t r idle is k s e = ⊎_elim (λ (h : slice_get seats k ≡ Some s). r k s h)
-      (λ (h : (k ≡ length seats) × (t ≡ s)). (subst (HasNoTurn z) h.1 idle, ap view (sym h.1) ∙ (is ∙ ap (λ (n : ℕ). newcomer v (suc n) 0) (sym h.0)))) (get_snoc seats t s k e)
+      (λ (h : (k ≡ length seats) × (t ≡ s)). (subst (HasNoTurn z) h.1 idle, ap view (sym h.1) ∙ (is ∙ ap (λ (n : ℕ). newcomer v (suc n) 0) (sym h.0)))) (got_more seats t s k e)
 
   pub are_new : (z : TableId) (v : View T E P S) (n : ℕ) (t : Seat (Option T) (View T E P S)) (seats : List (Seat (Option T) (View T E P S))) → HasNoTurn z t → view t ≡ newcomer v 0 n → length seats + 1 ≡ n → AreNext z v seats
       → AreNewSeats z v n (t ∷ seats)
@@ -67,7 +63,7 @@ module _ {T E P S : Type 0} where
   lasts v (s ∷ ss) = let h = lasts v ss in record { live = h.live; worker = h.worker; taken = h.taken; setup = h.setup; count = (let c = h.count in omega arith); seen = h.seen }
 
   joined_at : (v : View T E P S) (ss : List (Seat (Option T) (View T E P S))) (k : ℕ) (s : Seat (Option T) (View T E P S)) → slice_get ss k ≡ Some s → get_elem? (joined_all v ss).joined k ≡ some ((view s).worker, (view s).seen)
-  joined_at v [] k s e = absurd (some_apart None s e refl)
+  joined_at v [] k s e = none_some e
   joined_at v (d ∷ ds) zero s e = ap (λ (z : Seat (Option T) (View T E P S)). some ((view z).worker, (view z).seen)) (same_Some d s e)
   joined_at v (d ∷ ds) (suc k) s e = joined_at v ds k s e
 
@@ -135,7 +131,3 @@ module _ {T E P S : Type 0} (journal : T → List E) (by : E → ℕ) (fits : T 
       begins zero s e = subst (λ (z : Chair). (more : List E) × (journal x ≡ (view z).seen ++ more) × NoneBy by (view z).worker more) (same_Some s0 s e)
           (knows.known.rest, knows.known.begins ∙ ap (λ (l : List E). l ++ knows.known.rest) (lasts (view s0) done).seen, subst (λ (n : ℕ). NoneBy by n knows.known.rest) (lasts (view s0) done).worker knows.known.others)
       begins (suc k) s e = let j = knows.joined k (view s).worker (view s).seen (joined_at (view s0) done k s e) in (j.2, j.3, j.4)
-
-pub emptied : {A : Type 0} (l : List A) → length l ≡ 0 → l ≡ []
-emptied [] e = refl
-emptied (x ∷ xs) e = absurd (omega arith)

@@ -4,6 +4,7 @@ use mathlib.Core.Logic.{dite}
 use mathlib.Core.Option.{some, some-injective, some-ne-none}
 use native.Mathlib.Decide.{ℕ_discrete, dec_le}
 use lib.ListN.{get_elem?}
+use Rattle.listed.proofs.Options.{none_some, some_apart}
 use Rattle.atomic_table.specs.Table.{State, Splits, Joins, Seen, opening}
 use Rattle.atomic_table.proofs.Lists.{at_set, set_else, at_longer, at_last}
 use Rattle.turn_lock.specs.declared.view.View.{View}
@@ -11,7 +12,6 @@ use Rattle.turn_lock.specs.Journal.{NoneBy, AllBelow}
 use Rattle.turn_lock.specs.Seats.{opening_view}
 use Rattle.turn_lock.specs.Rule.{HasAll, Numbered, Sees, IsFree, IsHeld, Turning, with_seat_more, split_view, with_joined, spent_view}
 use Rattle.turn_lock.proofs.Views.{set_hit, one_there}
-use Rattle.turn_lock.proofs.Keeps.{some_apart}
 
 abbrev first_of : {A : Type 0} → List A → Option A
 first_of [] = None
@@ -160,7 +160,7 @@ module _ {T E P S : Type 0} (journal : T → List E) (by : E → ℕ) (fits : T 
                 begins = k.known.begins;
                 others = below_apart by v.count k.known.rest k0;
                 looked = omega arith;
-                part = λ p is. absurd (some_apart None p is refl);
+                part = λ p is. none_some is;
                 setup_is = k.known.setup_is;
               };
               below = λ z _. absurd (omega arith);
@@ -244,7 +244,7 @@ module _ {T E P S : Type 0} (journal : T → List E) (by : E → ℕ) (fits : T 
         begins = sym (append-nil (journal x));
         others = tt;
         looked = omega arith;
-        part = λ p none_there. absurd (some_apart None p none_there refl);
+        part = λ p none_there. none_some none_there;
         setup_is = refl;
       };
       below = λ _ _. tt;
