@@ -103,7 +103,6 @@ impl World {
         ensures together { StandsTogether self.now }
     {
         self.shared.stands();
-        let _ = self.stopped;
     }
 
     /// The shared value alone. What the workers hold is let go of.
