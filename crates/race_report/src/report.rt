@@ -49,10 +49,8 @@ fn check_journal(
     ensures legal { OnOk result (first_refused program.now settings journal.now ≡ None) }
     ensures fails { IfErr result (ReplayFails (first_refused program.now settings journal.now)) }
 {
-    match replayed(alloc, program, settings, journal) {
-        Ok(_book) => Ok(()),
-        Err(error) => Err(error),
-    }
+    let _book = replayed(alloc, program, settings, journal)?;
+    Ok(())
 }
 
 /// The races of a legal journal, with or without an end: for each field that has one its pair, in the order of the fields. Of all

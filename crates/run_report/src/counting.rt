@@ -45,13 +45,9 @@ fn enter(book: &mut Book, totals: Totals, entry: Entry) -> Result<Totals, ApplyE
 {
     let kind = entry.kind();
     let before = cleared_words(book, kind);
-    match book.apply(entry) {
-        Err(error) => Err(error),
-        Ok(()) => {
-            let lost = before.saturating_sub(cleared_words(book, kind));
-            Ok(totals.join(Totals::counted(kind, lost, book.in_use())))
-        }
-    }
+    book.apply(entry)?;
+    let lost = before.saturating_sub(cleared_words(book, kind));
+    Ok(totals.join(Totals::counted(kind, lost, book.in_use())))
 }
 
 // Enters the entries of a journal into the accounts of a run before its first entry, and adds up what they count.
