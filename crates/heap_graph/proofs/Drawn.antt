@@ -5,30 +5,30 @@ use Rattle.std.specs.List.{flat_map}
 use Rattle.dot_text.specs.Dot.{Statement, Attributes, Node, Edge, attribute, node_begin, edge_begin, statement_end, setting, cluster_begin, braces_end, dot, all_dot}
 use Rattle.image_check.specs.Tasks.{Tasks, parent_of}
 use Rattle.heap_graph.specs.Drawn.{path, path_above, boxed, point, titled, statements}
-use Rattle.heap_graph.specs.Pieces.{opened, closed}
+use Rattle.heap_graph.specs.Pieces.{opened}
 
 -- BOXES
 
 -- all boxes end alike
-ends_alike : (ts : List ℕ) → flat_map closed ts ++ braces_end ≡ braces_end ++ flat_map closed ts
+ends_alike : (ts : List ℕ) → flat_map (λ _. braces_end) ts ++ braces_end ≡ braces_end ++ flat_map (λ _. braces_end) ts
 ends_alike [] = refl
-ends_alike (t ∷ ts) = append_assoc braces_end (flat_map closed ts) braces_end ∙ ap (λ x. braces_end ++ x) (ends_alike ts)
+ends_alike (t ∷ ts) = append_assoc braces_end (flat_map (λ _. braces_end) ts) braces_end ∙ ap (λ x. braces_end ++ x) (ends_alike ts)
 
-boxed_text : (ts : List ℕ) (s : Statement) → dot (boxed ts s) ≡ flat_map opened ts ++ dot s ++ flat_map closed ts
+boxed_text : (ts : List ℕ) (s : Statement) → dot (boxed ts s) ≡ flat_map opened ts ++ dot s ++ flat_map (λ _. braces_end) ts
 boxed_text [] s = sym (append-nil (dot s))
 boxed_text (t ∷ ts) s =
     ap (λ x. opened t ++ (x ++ []) ++ braces_end) (boxed_text ts s)
-    ∙ inner (opened t) (flat_map opened ts) (dot s) (flat_map closed ts) braces_end
+    ∙ inner (opened t) (flat_map opened ts) (dot s) (flat_map (λ _. braces_end) ts) braces_end
     ∙ ap (λ x. (opened t ++ flat_map opened ts) ++ dot s ++ x) (ends_alike ts)
   where
     inner : (a b c d e : List ℕ) → a ++ ((b ++ c ++ d) ++ []) ++ e ≡ (a ++ b) ++ c ++ (d ++ e)
     inner a b c d e = simp (append_assoc, append-nil)
 
 -- boxes begin, a statement stands in them, and they end
-pub boxed_made : (ts : List ℕ) (s : Statement) (before a b c : List ℕ) → a ≡ before ++ flat_map opened ts → b ≡ a ++ dot s → c ≡ b ++ flat_map closed ts → c ≡ before ++ dot (boxed ts s)
+pub boxed_made : (ts : List ℕ) (s : Statement) (before a b c : List ℕ) → a ≡ before ++ flat_map opened ts → b ≡ a ++ dot s → c ≡ b ++ flat_map (λ _. braces_end) ts → c ≡ before ++ dot (boxed ts s)
 boxed_made ts s before a b c e f g =
-    g ∙ ap (λ x. x ++ flat_map closed ts) (f ∙ ap (λ x. x ++ dot s) e)
-    ∙ four before (flat_map opened ts) (dot s) (flat_map closed ts)
+    g ∙ ap (λ x. x ++ flat_map (λ _. braces_end) ts) (f ∙ ap (λ x. x ++ dot s) e)
+    ∙ four before (flat_map opened ts) (dot s) (flat_map (λ _. braces_end) ts)
     ∙ ap (λ x. before ++ x) (sym (boxed_text ts s))
   where
     four : (a b c d : List ℕ) → ((a ++ b) ++ c) ++ d ≡ a ++ (b ++ c ++ d)
@@ -57,13 +57,13 @@ titled_along ss c d n m t u before after ec en et e =
     ∙ ap (λ x. before ++ dot (titled d m x ss)) et
 
 -- the same, where the tasks stand in slices of one vector
-pub boxed_along : (ts : List ℕ) (s : Statement) (way xs ys before a b c : List ℕ) → way ≡ ts → xs ≡ way → ys ≡ way → a ≡ before ++ flat_map opened xs → b ≡ a ++ dot s → c ≡ b ++ flat_map closed ys
+pub boxed_along : (ts : List ℕ) (s : Statement) (way xs ys before a b c : List ℕ) → way ≡ ts → xs ≡ way → ys ≡ way → a ≡ before ++ flat_map opened xs → b ≡ a ++ dot s → c ≡ b ++ flat_map (λ _. braces_end) ys
     → c ≡ before ++ dot (boxed ts s)
 boxed_along ts s way xs ys before a b c ew ex ey ea eb ec =
     boxed_made ts s before a b c
     (ea ∙ ap (λ x. before ++ flat_map opened x) (ex ∙ ew))
     eb
-    (ec ∙ ap (λ x. b ++ flat_map closed x) (ey ∙ ew))
+    (ec ∙ ap (λ x. b ++ flat_map (λ _. braces_end) x) (ey ∙ ew))
 
 -- a node with two attributes
 pub node_made : (name : List ℕ) (x y : List ℕ × List ℕ) (before a b c d : List ℕ) → a ≡ before ++ node_begin name → b ≡ a ++ attribute x → c ≡ b ++ attribute y → d ≡ c ++ statement_end

@@ -1,16 +1,12 @@
--- How boxes begin and end, and what is left of lines.
+-- How boxes begin, and what is left of lines.
 use Rattle.std.specs.Prelude.{ℕ, List, [], Option, Some, None}
 use Rattle.text_lines.specs.Lines.{lines_of}
-use Rattle.dot_text.specs.Dot.{cluster_begin, braces_end}
+use Rattle.dot_text.specs.Dot.{cluster_begin}
 use Rattle.heap_graph.specs.Names.{task_cluster}
 
 -- the box of a task begins
 abbrev pub opened : ℕ → List ℕ
 opened t = cluster_begin (task_cluster t)
-
--- it ends
-abbrev pub closed : ℕ → List ℕ
-closed t = braces_end
 
 -- the lines of a text, or no line
 abbrev pub lines_left : Option (List ℕ) → List (List ℕ)

@@ -8,8 +8,8 @@ ghost use Rattle.image_check.specs.Tasks.{owner_at};
 ghost use Rattle.text_lines.specs.Lines.{lines_of};
 ghost use Rattle.heap_graph.specs.Held.{held_of};
 ghost use Rattle.heap_graph.specs.Drawn.{path, path_above, path_to, boxed, inside, point, titled, task_box, task_drawn, chunk_box, chunk_drawn, node_by, lies_elsewhere, nodes_in, lines_behind, edges_drawn, drawn_task, drawn_chunk, drawn, left_by, all_drawn};
-ghost use Rattle.heap_graph.specs.Pieces.{opened, closed, lines_left};
-ghost use Rattle.dot_text.specs.Dot.{Statement, dot};
+ghost use Rattle.heap_graph.specs.Pieces.{opened, lines_left};
+ghost use Rattle.dot_text.specs.Dot.{Statement, braces_end, dot};
 
 use crate::edges::add_edges;
 use crate::held::{Held, held_of, is_drawn};
@@ -67,14 +67,6 @@ fn begin_box(alloc: Global, text: &mut Vec<u8>, task: u64) -> Result<(), AllocEr
     begin_cluster(text, name.as_bytes())
 }
 
-// Ends the box of a task.
-fn end_box(text: &mut Vec<u8>, task: u64) -> Result<(), AllocError>
-    ensures { OnOk result (text.new.items ≡ text.old.items ++ closed task) }
-{
-    let _ = task;
-    end_braces(text)
-}
-
 // Begins the boxes of tasks, each in the one before.
 fn begin_boxes(alloc: Global, text: &mut Vec<u8>, way: &[u64]) -> Result<(), AllocError>
     ensures { OnOk result (text.new.items ≡ text.old.items ++ flat_map opened way.now) }
@@ -87,10 +79,10 @@ fn begin_boxes(alloc: Global, text: &mut Vec<u8>, way: &[u64]) -> Result<(), All
 
 // Ends the boxes of as many tasks.
 fn end_boxes(text: &mut Vec<u8>, way: &[u64]) -> Result<(), AllocError>
-    ensures { OnOk result (text.new.items ≡ text.old.items ++ flat_map closed way.now) }
+    ensures { OnOk result (text.new.items ≡ text.old.items ++ flat_map (λ _. braces_end) way.now) }
 {
-    for task in way {
-        end_box(text, *task)?;
+    for _ in way {
+        end_braces(text)?;
     }
     Ok(())
 }

@@ -13,8 +13,7 @@ pub(crate) fn words_behind(line: &[u8], count: usize) -> &[u8]
     ensures { words_of result.now ≡ drop count (words_of line.now) }
 {
     let mut rest = line;
-    for passed in 0..count {
-        let _ = passed;
+    for _ in 0..count {
         match next_word(rest) {
             None => return rest,
             Some((_, more)) => rest = more,

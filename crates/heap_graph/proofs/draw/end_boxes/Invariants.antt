@@ -1,7 +1,7 @@
 use Rattle.std.proofs.Common.{◌≡◌, ◌++◌, take}
 use Rattle.std.specs.List.{flat_map}
-use Rattle.heap_graph.specs.Pieces.{closed}
+use Rattle.dot_text.specs.Dot.{braces_end}
 use Rattle.heap_graph.proofs.draw.end_boxes.Given as goal
 
-abbrev pub invariant-loop-task : goal.invariant-loop-task
-invariant-loop-task l = l.text.items ≡ l.fn.text.items ++ flat_map closed (take l.task-index l.way)
+abbrev pub invariant-loop : goal.invariant-loop
+invariant-loop l = l.text.items ≡ l.fn.text.items ++ flat_map (λ _. braces_end) (take l.index l.way)

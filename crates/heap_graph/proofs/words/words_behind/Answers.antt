@@ -4,8 +4,8 @@ use Rattle.heap_graph.proofs.words.words_behind.Goals as goal
 
 pub returns-in-None : goal.returns-in-None
 returns-in-None c =
-    let le : c.loop-passed.passed ≤ c.args.count = omega arith in
-    c.in-None.ensures.words ∙ sym (nothing_behind _ c.loop-passed.passed c.args.count le (sym c.loop-passed.invariant ∙ c.in-None.ensures.words))
+    let le : c.loop.counter ≤ c.args.count = omega arith in
+    c.in-None.ensures.words ∙ sym (nothing_behind _ c.loop.counter c.args.count le (sym c.loop.invariant ∙ c.in-None.ensures.words))
 
 pub loop-passed-preserved : goal.loop-passed-preserved
-loop-passed-preserved c = behind_more _ c.loop-passed.passed _ _ (sym c.loop-passed.invariant ∙ c.in-Some.ensures.words)
+loop-passed-preserved c = behind_more _ c.loop.counter _ _ (sym c.loop.invariant ∙ c.in-Some.ensures.words)

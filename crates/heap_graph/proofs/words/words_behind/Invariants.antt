@@ -2,5 +2,5 @@ use Rattle.std.proofs.Common.{◌≡◌, drop}
 use Rattle.text_lines.specs.Lines.{words_of}
 use Rattle.heap_graph.proofs.words.words_behind.Given as goal
 
-abbrev pub invariant-loop-passed : goal.invariant-loop-passed
-invariant-loop-passed l = words_of l.rest ≡ drop l.passed (words_of l.line)
+abbrev pub invariant-loop : goal.invariant-loop
+invariant-loop l = words_of l.rest ≡ drop l.counter (words_of l.line)
