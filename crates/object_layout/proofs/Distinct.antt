@@ -3,6 +3,7 @@ use Rattle.std.proofs.Common.{◌≡◌, ℕ, zero, suc, ◌==◌, Bool, true, f
 use Rattle.std.specs.List.{AllByRecursion, IsDistinct}
 use Rattle.std.proofs.lemmas.Bool.{and_from, and_parts, both_ways, eq-eqb, eqb-true}
 use Rattle.listed.proofs.Members.{In, contains_from_in, in_append_cases, in_from_contains}
+use Rattle.listed.proofs.Places.{in_take}
 use Rattle.object_layout.specs.declared.word.Addr.{Addr}
 use Rattle.object_layout.specs.Chunks.{same_address}
 use Rattle.object_layout.proofs.ChunkLaws.{same_addr}
@@ -55,12 +56,6 @@ once_push (x ∷ xs) a o n = (
 )
 
 -- the first so many of them
-in_take : (n : ℕ) (xs : List Addr) (x : Addr) → In (take n xs) x → In xs x
-in_take zero xs x i = absurd i
-in_take (suc n) [] x i = absurd i
-in_take (suc n) (y ∷ ys) x (inl e) = inl e
-in_take (suc n) (y ∷ ys) x (inr i) = inr (in_take n ys x i)
-
 once_take : (n : ℕ) (xs : List Addr) → Once xs → Once (take n xs)
 once_take zero xs o = tt
 once_take (suc n) [] o = tt

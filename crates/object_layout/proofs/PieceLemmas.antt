@@ -5,6 +5,7 @@ use Rattle.std.specs.Ordering.{nat_cmp}
 use Rattle.std.proofs.lemmas.Bool.{cases_Bool, cases_lt, eq-eqb, eqb-true, ne_eqb}
 use Rattle.std.proofs.lemmas.List.Sorted.{searched}
 use Rattle.std.specs.List.Sorted.{IsBinarySearchResult}
+use Rattle.std.proofs.lemmas.Option.{same_Some}
 use Rattle.object_layout.specs.Cell.{Born, Cell, Hole, IsObject, Mark, Moved, size_of}
 use Rattle.object_layout.specs.Place.{IsObjectAt, cell_at, object_at}
 use Rattle.object_layout.specs.Piece.{frozen_at, frozen_from, is_frozen, lasts, or_no_cell, starts_from, starts_in}
@@ -76,9 +77,6 @@ LiesAt cs at offset c = (at ≤ offset) × (cell_at cs (offset - at) ≡ c) × (
 past : (k : Cell) (cs : List Cell) (at offset : ℕ) (c : Cell) → LiesAt cs (at + size_of k) offset c → LiesAt (k ∷ cs) at offset c
 past k cs at offset c l = (omega arith, place.cell_at-past k cs (offset - (at + size_of k)) (offset - at) (omega arith) ∙ l.1, l.2)
 
-same_some : (c d : Cell) → Some c ≡ Some d → c ≡ d
-same_some c d e = cc
-
 -- what is found is a cell there
 lies_first : (k : Cell) (cs : List Cell) (at offset : ℕ) (c : Cell) → is_frozen k ≡ true →
     (frozen_at (frozen_from (at + size_of k) cs) offset ≡ Some c → LiesAt (k ∷ cs) at offset c) →
@@ -86,7 +84,7 @@ lies_first : (k : Cell) (cs : List Cell) (at offset : ℕ) (c : Cell) → is_fro
 lies_first k cs at offset c b later e =
     elim (cases_Bool (eqb at offset)) [
       | inl s ↦
-          let is : k ≡ c = same_some k c (rw s at e) in
+          let is : k ≡ c = same_Some k c (rw s at e) in
           let same : at ≡ offset = eqb-true at offset s in
           let start : offset - at ≡ 0 = omega arith in
           (omega arith, rw start is, rw (← is) b)
