@@ -7,6 +7,8 @@ use Rattle.indexmap.specs.IndexMap.{insert_entry}
 use Rattle.std.proofs.lemmas.List.Quantifiers.{position-Some}
 use Rattle.std.proofs.lemmas.Option.{slice_get-get_or, slice_get-map}
 use Rattle.listed.proofs.Members.{got_front, got_back, got_within}
+use Rattle.listed.proofs.Options.{none_of}
+use Rattle.listed.proofs.Places.{got_some}
 use Rattle.image_check.specs.declared.line.Task.{Task}
 use Rattle.image_check.specs.declared.links.Link.{Link}
 use Rattle.image_check.specs.Table.{found, has, with_new}
@@ -15,7 +17,7 @@ use Rattle.image_check.specs.Links.{depth_in, depth_at, parent_in_link, up_from,
 use Rattle.image_check.proofs.Members.{equal}
 use Rattle.image_check.proofs.Paths.{Entry, AreOrdered, found_at, lead_up, first_link, met_ancestor, above, task_more, Where, where_is, apart_more, still_stands}
 use Rattle.image_check.proofs.Paths.Where.{front, last}
-use Rattle.image_check.proofs.Ups.{link_there, up_same, one_up, up_depth, linked_more, IsWithin}
+use Rattle.image_check.proofs.Ups.{up_same, one_up, up_depth, linked_more, IsWithin}
 
 -- FINDING A PLACE
 
@@ -28,12 +30,8 @@ standing es n i h =
     let p = position-Some (nat_eq n) (keys_of es) i 0 h in
     key_at es i n (get_or (keys_of es) i 0) (slice_get es i) refl (sym (slice_get-map (λ (e : Entry). e.0) es i) ∙ slice_get-get_or (keys_of es) i 0 p.0) p.1
 
-pub not_found : (o : Option Task) → is_some o ≡ false → o ≡ None
-not_found None e = refl
-not_found (Some x) e = absurd cc
-
 pub place_answer : (es : Tasks) (n : ℕ) (o : Option ℕ) → o ≡ position (nat_eq n) (keys_of es) → is_some o ≡ is_some (found es n) → MatchOption o (found es n ≡ None) (λ i. StandsAt es i n)
-place_answer es n None e f = not_found (found es n) (sym f)
+place_answer es n None e f = none_of (found es n) (sym f)
 place_answer es n (Some i) e f = standing es n i (sym e)
 
 none_lacks : (o : Option Task) → o ≡ None → is_some o ≡ true → ⊥
@@ -58,7 +56,7 @@ goes_last (e ∷ es) n t new = by (nat_eq n e.0) refl new (goes_last es n t)
 
 module _ (es : Tasks) (ks : List Link) (L : AreLinked es ks) where
   link_of : (i : ℕ) (e : Entry) → slice_get es i ≡ Some e → (k : Link) × (slice_get ks i ≡ Some k)
-  link_of i e got = let w : i < length es = got_within es i e got in let s : length ks ≡ length es = L.sized in link_there ks i (omega (arith, w, s))
+  link_of i e got = let w : i < length es = got_within es i e got in let s : length ks ≡ length es = L.sized in got_some ks i (omega (arith, w, s))
 
   pub stands_within : (i t : ℕ) → StandsAt es i t → i < length ks
   stands_within i t s = let w : i < length es = got_within es i s.0 s.1 in let n : length ks ≡ length es = L.sized in omega (arith, w, n)

@@ -2,14 +2,9 @@
 use Rattle.std.proofs.Common.{◌≡◌, ◌<◌, ◌≤◌, ◌+◌, ◌-◌, ◌==◌, ℕ, zero, suc, Bool, true, false, cond, List, [], ◌∷◌, ◌++◌, length, refl, ap, sym, ◌∙◌, arith, inl, inr, ◌⊎◌, subst, length-append}
 use Rattle.std.specs.Prelude.{Option, Some, None, slice_get}
 use Rattle.listed.proofs.Members.{got_front, got_back, got_within, got_past}
+use Rattle.listed.proofs.Places.{got_some}
 use Rattle.image_check.specs.declared.links.Link.{Link}
 use Rattle.image_check.specs.Links.{depth_in, depth_at, far_in, far_at, parent_in_link, up_from, IsUp, span, next_far, new_link, IsBelow, IsLink, AreLinks}
-
--- the link at a place that is there
-pub link_there : (ks : List Link) (i : ℕ) → i < length ks → (k : Link) × (slice_get ks i ≡ Some k)
-link_there [] i lt = absurd (omega (arith, lt))
-link_there (k ∷ ks) zero lt = (k, refl)
-link_there (k ∷ ks) (suc i) lt = link_there ks i (omega (arith, lt))
 
 -- TWO WAYS UP
 
@@ -165,7 +160,7 @@ module _ (ks : List Link) (all : AreLinks ks) where
 
   from_far : (p : ℕ) → p < length ks → LeadsFrom p (far_at ks p)
   from_far p lt =
-      let k = link_there ks p lt in
+      let k = got_some ks p lt in
       let f = far_link p k.0 k.1 in
       let at : k.0.far ≡ far_at ks p = sym (ap far_in k.1) in
       let d : k.0.depth ≡ depth_at ks p = sym (ap depth_in k.1) in
