@@ -1,7 +1,7 @@
 -- From the old chunks as they are left to the heap as it is to be.
-use Rattle.std.proofs.Common.{◌≡◌, ℕ, ◌+◌, ◌<◌, List, [], ◌∷◌, ◌++◌, length, map, filter, fold, refl, sym, ap, ◌∙◌, subst, arith, Option, Some, None}
+use Rattle.std.proofs.Common.{◌≡◌, ℕ, ◌+◌, ◌<◌, List, [], ◌++◌, length, map, filter, fold, refl, sym, ap, ◌∙◌, subst, arith, Option, Some, None}
 use Rattle.std.specs.Prelude.{reverse}
-use Rattle.std.proofs.lemmas.List.{length-map, reverse-reverse}
+use Rattle.std.proofs.lemmas.List.{length-map, reverse-reverse, nil_from_length}
 use Rattle.object_layout.specs.ChunkValue.{ChunkValue}
 use Rattle.object_layout.specs.Chunks.{chunk_at}
 use Rattle.object_layout.proofs.Distinct.{Once}
@@ -21,10 +21,6 @@ use Rattle.leaf_copy_gc.proofs.Rebuilt as rebuilt
 use Rattle.leaf_copy_gc.proofs.Rebuilt.{marked_chunk, NoneThere}
 use Rattle.leaf_copy_gc.proofs.Naming as naming
 use Rattle.leaf_copy_gc.proofs.Tidied as tidied
-
-no_items : (ks : List ChunkValue) → length ks ≡ 0 → ks ≡ []
-no_items [] e = refl
-no_items (k ∷ ks) e = absurd (omega arith)
 
 module _ (h g : List ChunkValue) (ss : List Survivor) (news : List ChunkValue) (r : Option ℕ) (laid : List ChunkValue)
     (left : IsLeft h g (olds ss) (redirection h ss (reverse news))) (tidy : AreTidy h) (apart : AreApart (h ++ news)) (new : AreNew news)
@@ -101,7 +97,7 @@ module _ (h g : List ChunkValue) (ss : List Survivor) (news : List ChunkValue) (
   -- where no chunk stays, nothing is named
   pub none_named : filter stays (unreserved g r) ≡ [] → fold named (laid ++ (filter stays (unreserved g r) ++ reserved_of g r)) ss ≡ laid ++ (filter stays (unreserved g r) ++ reserved_of g r)
   none_named e =
-      let none : map (led_chunk (redirection h ss (reverse news))) (filter (keeps ss) (unreserved h r)) ≡ [] = no_items _ (sym kept_count ∙ ap (λ (xs : List ChunkValue). length xs) e) in
+      let none : map (led_chunk (redirection h ss (reverse news))) (filter (keeps ss) (unreserved h r)) ≡ [] = nil_from_length _ (sym kept_count ∙ ap (λ (xs : List ChunkValue). length xs) e) in
       named_is ∙ (ap (λ (xs : List ChunkValue). laid ++ (xs ++ reserved_of h r)) (none ∙ sym e) ∙ ap (λ (xs : List ChunkValue). laid ++ (filter stays (unreserved g r) ++ xs)) (sym reserved_is))
 
   pub settled : IsSettled (laid ++ (map (led_chunk (redirection h ss (reverse news))) (filter (keeps ss) (unreserved h r)) ++ reserved_of h r))

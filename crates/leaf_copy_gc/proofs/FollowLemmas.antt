@@ -2,7 +2,7 @@
 use Rattle.std.proofs.Common.{◌≡◌, ℕ, zero, suc, ◌+◌, ◌-◌, ◌<◌, ◌≤◌, List, [], ◌∷◌, map, refl, sym, ap, ◌∙◌, subst, arith, length, inl, inr, Some, None, Option, slice_get, All, eqb}
 use Rattle.std.proofs.lemmas.Bool.{cases_Bool, le-leb}
 use Rattle.std.proofs.lemmas.List.{length-map}
-use Rattle.std.proofs.lemmas.List.Elements.{All-head, All-tail}
+use Rattle.listed.proofs.Places.{all_at}
 use Rattle.object_layout.specs.declared.word.Addr.{Addr}
 use Rattle.object_layout.specs.Cell.{Cell, IsObject, size_of, with_ref}
 use Rattle.object_layout.specs.ChunkValue.{ChunkValue}
@@ -16,11 +16,6 @@ use Rattle.leaf_copy_gc.specs.Redirected.{led_cell, followed, followed_ref}
 use Rattle.leaf_copy_gc.proofs.Upto as upto
 use Rattle.leaf_copy_gc.proofs.Upto.{led_upto}
 use Rattle.address_laws.proofs.Puts as puts
-
-pub got_all : {X : Type 0} (P : X → Type 0) (xs : List X) (k : ℕ) (x : X) → slice_get xs k ≡ Some x → All P xs → P x
-got_all P [] k x e a = absurd cc
-got_all P (y ∷ ys) zero x e a = let h : y ≡ x = cc in subst P h (All-head P y ys a)
-got_all P (y ∷ ys) (suc k) x e a = got_all P ys k x e (All-tail P y ys a)
 
 pub size_led : (f : Option Addr → Option Addr) (c : Cell) → size_of (led_cell f c) ≡ size_of c
 size_led f c = let e = length-map c.refs f in omega arith
@@ -123,7 +118,7 @@ module _ (h : List ChunkValue) (a : Addr) (o : IsObject (cell_of h a).mark) wher
       heap_was = upto.upto_read (followed_ref h) (cell_of h a) k l r heap_got
 
       pub heap_target : All (IsTarget h) (cell_of h a).refs → IsTarget (put_object h a (led_upto (followed_ref h) k (cell_of h a))) r
-      heap_target all = target_put h a (led_upto (followed_ref h) k (cell_of h a)) refl (upto.size-upto (followed_ref h) (cell_of h a) k (omega arith)) r (got_all (IsTarget h) (cell_of h a).refs k r heap_was all)
+      heap_target all = target_put h a (led_upto (followed_ref h) k (cell_of h a)) refl (upto.size-upto (followed_ref h) (cell_of h a) k (omega arith)) r (all_at (IsTarget h) (cell_of h a).refs k r all heap_was)
 
       pub heap_more :
           put_object (put_object h a (led_upto (followed_ref h) k (cell_of h a))) a (with_ref (cell_of (put_object h a (led_upto (followed_ref h) k (cell_of h a))) a) k (followed_ref (put_object h a (led_upto (followed_ref h) k (cell_of h a))) r))

@@ -1,4 +1,5 @@
 use Rattle.std.proofs.Common.{◌<◌, length, ap, arith}
+use Rattle.listed.proofs.Places.{all_at}
 use Rattle.object_layout.specs.declared.word.Header.{Header}
 use Rattle.object_layout.specs.Cell.{Cell}
 use Rattle.object_layout.specs.ChunkValue.{ChunkValue}
@@ -35,7 +36,7 @@ follow_near-now-requires-clause-target c =
     let l : c.loop-field.field < length (cell_at c.args.chunk.now.cells c.args.at).refs = omega arith in
     let cells = ap (λ (k : ChunkValue). k.cells) c.loop-field.invariant.led in
     let was = follows.was (followed_ref c.args.heap.now.chunks) c.args.chunk.now.cells c.args.at c.requires.object c.loop-field.field l c.ref_at.result (rw cells at c.ref_at.ensures.value) in
-    follows.got_all (IsTarget c.args.heap.now.chunks) (cell_at c.args.chunk.now.cells c.args.at).refs c.loop-field.field c.ref_at.result was c.requires.targets
+    all_at (IsTarget c.args.heap.now.chunks) (cell_at c.args.chunk.now.cells c.args.at).refs c.loop-field.field c.ref_at.result c.requires.targets was
 
 pub loop-field-preserved : goal.loop-field-preserved
 loop-field-preserved c =

@@ -1,11 +1,11 @@
 use Rattle.std.proofs.Common.{◌≡◌, List, Some, Option, slice_get, sym, ap, ◌∙◌, subst}
+use Rattle.listed.proofs.Places.{all_at}
 use Rattle.object_layout.specs.declared.word.Addr.{Addr}
 use Rattle.object_layout.specs.Cell.{IsObject}
 use Rattle.object_layout.specs.Chunks.{cell_of, place_in}
 use Rattle.object_layout.specs.ChunkValue.{ChunkValue}
 use Rattle.leaf_copy_gc.specs.CollectorValue.{CollectorValue}
 use Rattle.leaf_copy_gc.specs.Search.{visited, IsTarget}
-use Rattle.leaf_copy_gc.proofs.FollowLemmas as follows
 use Rattle.leaf_copy_gc.proofs.FoundLemmas as founds
 use Rattle.leaf_copy_gc.proofs.ListLemmas as lists
 use Rattle.leaf_copy_gc.proofs.collector.Collector.visit_fields.Goals as goal
@@ -41,4 +41,4 @@ visit-requires c =
     let now : slice_get (cell_of c.loop-field.self.heap.chunks c.args.object).refs c.loop-field.field ≡ Some r =
     subst (λ (z : CollectorValue). slice_get (cell_of z.heap.chunks c.args.object).refs c.loop-field.field ≡ Some r) c.self-in-loop-field.view_is c.ref_in-reference.ensures.value in
     let got : slice_get rs c.loop-field.field ≡ Some r = subst (λ (xs : List (Option Addr)). slice_get xs c.loop-field.field ≡ Some r) c.loop-field.invariant.refs now in
-    follows.got_all (IsTarget c.loop-field.self.heap.chunks) rs c.loop-field.field r got c.loop-field.invariant.targets
+    all_at (IsTarget c.loop-field.self.heap.chunks) rs c.loop-field.field r c.loop-field.invariant.targets got
