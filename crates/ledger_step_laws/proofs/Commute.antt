@@ -3,6 +3,7 @@ use Rattle.std.proofs.Common.{◌≡◌, ℕ, zero, suc, pos, ◌+◌, ◌==◌,
 use Rattle.std.proofs.lemmas.Bool.{false≢true, and_parts, and_from, eqb-true, eq-eqb, cases_eq, or_cases, or_left, or_right, not-true}
 use Rattle.std.proofs.lemmas.Option.{same_Some}
 use Rattle.listed.proofs.Members.{got_same, got_other, got_within, In}
+use Rattle.listed.proofs.Options.{or_false}
 use Rattle.hh_lang.specs.declared.instr.Instr.{Instr}
 use Rattle.hh_lang.specs.declared.instr.Instr.TheVariants.{Set, Mov, Movr, Nil as NilOf, Calc, Same, Jmp, Jz, Newm, Pack, Getr, Geti, Putr, Puti, Cntr, Cnti, Freeze, Cas, Call, Par, Ret, Out}
 use Rattle.hh_lang.specs.declared.program.Line.{Line}
@@ -33,7 +34,6 @@ use Rattle.run_ledger.specs.Heaps.{placed}
 use Rattle.run_ledger.specs.Steps.{allocated_by, task_step, touched, is_open, owns, works_alone, is_read, is_frozen, is_frozen_above, has_no_caller, is_private, is_private_by, is_private_line}
 use Rattle.run_ledger.proofs.Machine.{task_step_machine}
 use Rattle.ledger_step_laws.proofs.Ahead.{put_other, put_rows, heap_after, heap_then, with_at, private_alone}
-use Rattle.ledger_step_laws.proofs.Private.{or_none}
 use Rattle.ledger_step_laws.proofs.Rested.{name_cases}
 use Rattle.ledger_step_laws.specs.Accounts.{own, AlikeFor, Knows}
 
@@ -236,17 +236,17 @@ module _ (l l' : Ledger) (u : ℕ) (x : Task) (K : Knows l) (K' : Knows l') (A :
         (λ n y e'. trap Range (place_in (length y.refs) (int_in x.top k)) _ _ (λ at. reads_frozen n y d at e'))
     good (Geti d o k) c h =
         reading (ref_in x.top o) _ _ h (λ n y e own e'. trap Range (place_in (length y.ints) (int_in x.top k)) _ _ (λ at. same _)) (λ n y e'. trap Range (place_in (length y.ints) (int_in x.top k)) _ _ (λ at. same _))
-    good (Putr o k v) c h = object (ref_in x.top o) _ _ (mine _ (or_none _ h)) (λ n y e own e'. trap Range (place_in (length y.refs) (int_in x.top k)) _ _ (λ at. either y.mutable _ (Traps Frozen) _ (Traps Frozen) (put _ n y _ own e') (traps Frozen (Traps Frozen))))
-    good (Puti o k v) c h = object (ref_in x.top o) _ _ (mine _ (or_none _ h)) (λ n y e own e'. trap Range (place_in (length y.ints) (int_in x.top k)) _ _ (λ at. either y.mutable _ (Traps Frozen) _ (Traps Frozen) (put _ n y _ own e') (traps Frozen (Traps Frozen))))
+    good (Putr o k v) c h = object (ref_in x.top o) _ _ (mine _ (or_false _ h)) (λ n y e own e'. trap Range (place_in (length y.refs) (int_in x.top k)) _ _ (λ at. either y.mutable _ (Traps Frozen) _ (Traps Frozen) (put _ n y _ own e') (traps Frozen (Traps Frozen))))
+    good (Puti o k v) c h = object (ref_in x.top o) _ _ (mine _ (or_false _ h)) (λ n y e own e'. trap Range (place_in (length y.ints) (int_in x.top k)) _ _ (λ at. either y.mutable _ (Traps Frozen) _ (Traps Frozen) (put _ n y _ own e') (traps Frozen (Traps Frozen))))
     good (Cntr d o) c h = reading (ref_in x.top o) _ _ h (λ n y e own e'. same _) (λ n y e'. same _)
     good (Cnti d o) c h = reading (ref_in x.top o) _ _ h (λ n y e own e'. same _) (λ n y e'. same _)
     good (Freeze o) c h =
-        object (ref_in x.top o) _ _ (mine _ (or_none _ h)) (λ n y e own e'.
+        object (ref_in x.top o) _ _ (mine _ (or_false _ h)) (λ n y e own e'.
         subst (λ k. Good (cond (owner_of m.tasks n.task == u) (Goes (onward x.top) (put_object m.store n (record y { mutable = false }))) (Traps Frozen)) (cond (k == u) (Goes (onward x.top) (put_object m'.store n (record y { mutable = false }))) (Traps Frozen)))
         (own ∙ sym (A.owned n own))
         (either (owner_of m.tasks n.task == u) _ (Traps Frozen) _ (Traps Frozen) (put _ n y _ own e') (traps Frozen (Traps Frozen))))
     good (Cas d o k e v) c h =
-        object (ref_in x.top o) _ _ (mine _ (or_none _ h)) (λ n y is own e'. trap Range (place_in (length y.refs) (int_in x.top k)) _ _ (λ at.
+        object (ref_in x.top o) _ _ (mine _ (or_false _ h)) (λ n y is own e'. trap Range (place_in (length y.refs) (int_in x.top k)) _ _ (λ at.
         either y.mutable _ (Traps Frozen) _ (Traps Frozen) (either (same_name (flat (slice_get y.refs at)) (ref_in x.top e)) _ _ _ _ (put _ n y _ own e') (same _)) (traps Frozen (Traps Frozen))))
     good (Call g) c h = called_on g (nat_lt (length x.below + 1) frame_limit)
     good (Par f g) c h = absurd (false≢true (sym c))

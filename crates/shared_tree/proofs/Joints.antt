@@ -1,6 +1,7 @@
 -- How other tasks have part in a part's next step, by the line that comes next; what is left where memory is wanting.
 use Rattle.std.specs.Result.{IfErr, OnErr}
-use Rattle.std.proofs.Common.{◌≡◌, ℕ, Result, Ok, Err, ◌||◌, not, true, Bool, false, Option, Some, None, List, length, slice_get, slice_set, option_map, is_some, refl, ap, sym, subst, ◌∙◌}
+use Rattle.std.proofs.Common.{◌≡◌, ℕ, Result, Ok, Err, ◌||◌, not, true, Option, Some, None, List, length, slice_get, slice_set, option_map, is_some, refl, ap, sym, subst, ◌∙◌}
+use Rattle.listed.proofs.Options.{or_false}
 use Rattle.listed.proofs.Places.{got_set}
 use Rattle.hh_lang.specs.declared.instr.Instr.{Instr}
 use Rattle.hh_lang.specs.declared.instr.Instr.TheVariants.{Par, Ret}
@@ -41,10 +42,6 @@ use Rattle.others_objects.specs.Other.{IsOther, SameButRoom, is_other, is_other_
 use Rattle.shared_tree.specs.declared.ran.Ran.{Ran}
 use Rattle.shared_tree.specs.declared.ran.Ran.TheVariants.{Forked as RanForked, Over as RanOver}
 use Rattle.shared_tree.specs.Ran.{IsJoint, RanTo}
-
-or_false : (a : Bool) → (a || false) ≡ true → a ≡ true
-or_false true e = e
-or_false false e = e
 
 other_by : (tasks : List Task) (t : ℕ) (x : Task) (i : Instr) → ((g h : ℕ) → i ≡ Par g h → ⊥) → (i ≡ Ret → ⊥) → (is_joint x i || not (owns tasks t (touched x.top i))) ≡ true → not (owns tasks t (touched x.top i)) ≡ true
 other_by tasks t x (Par g h) par ret e = absurd (par g h refl)
