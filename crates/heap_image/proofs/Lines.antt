@@ -15,7 +15,7 @@ use Rattle.image_check.specs.declared.line.Chunk.{Chunk}
 use Rattle.image_check.specs.declared.line.Remembered.{Remembered}
 use Rattle.image_check.specs.declared.line.Said.{Said}
 use Rattle.image_check.specs.declared.line.Said.TheVariants.{Title, OfTask, OfChunk, OfRemembered, OfEnd}
-use Rattle.image_check.specs.Line.{said_by, said_by_words, state_named, state_word, parent_named, is_rooted, is_chunk_size, is_kind, is_field_count, references_in}
+use Rattle.image_check.specs.Line.{said_by, said_by_words, state_named, state_word, parent_named, is_rooted, most_chunk_words, is_chunk_size, is_kind, is_field_count, references_in}
 use Rattle.heap_image.specs.declared.picture.Picked.{Picked}
 use Rattle.heap_image.specs.Form.{IsLong, HasFitParent, IsTaskForm, IsChunkForm, IsObjectForm, IsFieldForm}
 use Rattle.heap_image.specs.Text.{parent_word, kind_word, title_words, task_words, chunk_words, head_words, object_words, field_words, end_words}
@@ -73,14 +73,14 @@ task_tells t h = record {
 
 -- CHUNKS
 
-size_fits : (w : ℕ) → w % 1024 ≡ 0 → 1024 ≤ w → w ≤ 67108864 → is_chunk_size w ≡ true
+size_fits : (w : ℕ) → w % 1024 ≡ 0 → 1024 ≤ w → w ≤ most_chunk_words → is_chunk_size w ≡ true
 size_fits w e low high =
     let a : (w % 1024 == 0) ≡ true = grind (arith, e) in
     let b : nat_le 1024 w ≡ true = grind (arith, low) in
-    let d : nat_le w 67108864 ≡ true = grind (arith, high) in
+    let d : nat_le w most_chunk_words ≡ true = grind (arith, high) in
     rw (a, b, d) refl
 
-size_long : (w : ℕ) → w ≤ 67108864 → IsLong w
+size_long : (w : ℕ) → w ≤ most_chunk_words → IsLong w
 size_long w h = omega (arith, h)
 
 pub chunk_tells : (c : Chunk) → IsChunkForm c → Tells (chunk_words c) (OfChunk c)

@@ -7,7 +7,7 @@ use Rattle.run_trace.specs.Entry.{IsWord}
 use Rattle.image_check.specs.declared.line.Task.{Task}
 use Rattle.image_check.specs.declared.line.Chunk.{Chunk}
 use Rattle.image_check.specs.declared.line.Remembered.{Remembered}
-use Rattle.image_check.specs.Line.{most_fields}
+use Rattle.image_check.specs.Line.{most_chunk_words, most_fields}
 use Rattle.heap_image.specs.declared.picture.Picked.{Picked}
 use Rattle.heap_image.specs.declared.picture.Picture.{Picture}
 
@@ -24,13 +24,13 @@ pub record IsTaskForm (t : Task) : Type 0 where
   pub number : IsWord t.number
   pub parent : HasFitParent t.number t.parent
 
--- a chunk's words are a multiple of 1,024, up to 65,536 times as many
+-- a chunk's words are a multiple of a unit's, up to the largest chunk's
 pub record IsChunkForm (c : Chunk) : Type 0 where
   pub number : IsWord c.number
   pub owner : IsWord c.owner
   pub whole : c.words % chunk_words ≡ 0
   pub least : chunk_words ≤ c.words
-  pub most : c.words ≤ 67108864
+  pub most : c.words ≤ most_chunk_words
 
 -- an object has at most a million fields
 pub record IsObjectForm (o : Picked) : Type 0 where
