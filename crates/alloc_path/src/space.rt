@@ -8,7 +8,7 @@ ghost use Rattle.alloc_path.specs.LeafHeapValue.{added, counted, placed, placed_
 use super::counts::small_part;
 use chunk_rows::{Row, missing_pieces};
 use kept_pieces::Pieces;
-use object_layout::{Addr, Birth, CHUNK_WORDS, Chunk, Header, write_new};
+use object_layout::{Addr, Birth, CHUNK_WORDS, Chunk, Header, units, write_new};
 use std::alloc::{AllocError, AllocFailed, Global};
 use std::collections::HashMap;
 use std::marker::Model;
@@ -278,8 +278,7 @@ impl Space {
         match self.reserved {
             None => None,
             Some(i) => {
-                let units = (words as u64 + 1023) / 1024;
-                if self.chunks.at(i).size() as u64 == SMALL as u64 * units {
+                if self.chunks.at(i).size() as u64 == CHUNK_WORDS * units(words as u64) {
                     Some(i)
                 } else {
                     None

@@ -66,7 +66,7 @@ pub(crate) fn units_of(chunks: &[Chunk]) -> u32
 {
     let mut units = 0u32;
     for chunk in chunks {
-        units = units.saturating_add(((chunk.size() as u64 + 1023) / 1024) as u32);
+        units = units.saturating_add(object_layout::units(chunk.size() as u64) as u32);
     }
     units
 }
