@@ -1,9 +1,8 @@
 // All bytes of a source, up to a limit.
 
-ghost use Rattle.std.specs.Prelude.{◌≡◌, ◌<◌, ◌≤◌, ◌+◌, ◌++◌, length, take, drop, IfOk, OnOk, OnErr, IfErr, Some, Option, List, ℕ, option_map};
+ghost use Rattle.std.specs.Prelude.{◌≡◌, ◌<◌, ◌≤◌, ◌+◌, length, drop, IfOk, OnOk, IfErr, Some, List, ℕ, option_map};
 ghost use Rattle.text_lines.specs.Lines.{most_bytes};
 ghost use Rattle.outside_io.specs.Fault.{HasRisen};
-ghost use Rattle.outside_io.specs.Told.{Gives};
 ghost use Rattle.all_bytes.specs.Bytes.{source_bytes, input_of, Grows};
 
 use outside_io::{Failed, Source};

@@ -1,6 +1,6 @@
 // What the chunks of a heap hold, counted.
 
-ghost use Rattle.std.specs.Prelude.{◌≡◌, ◌≤◌, ◌^◌, ◌<◌};
+ghost use Rattle.std.specs.Prelude.{◌≡◌, ◌≤◌};
 ghost use Rattle.object_layout.specs.Place.{words_in};
 ghost use Rattle.object_layout.specs.Chunks.{held_in, one_each, small_part, sum_in};
 ghost use Rattle.alloc_path.specs.Counted.{AreCounted};

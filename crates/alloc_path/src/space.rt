@@ -1,8 +1,8 @@
 // The chunks of a heap, and where the next object goes.
 
-ghost use Rattle.std.specs.Prelude.{◌≡◌, ◌+◌, ◌-◌, ◌*◌, ◌^◌, ◌<◌, ◌≤◌, [], ◌∷◌, is_some, length, option_map, OnOk, OnErr, IfErr, IsOk, None, Some};
+ghost use Rattle.std.specs.Prelude.{◌≡◌, ◌+◌, ◌^◌, ◌<◌, ◌≤◌, [], is_some, option_map, OnOk, None, Some};
 ghost use Rattle.object_layout.specs.Cell.{size_of, new_cell, IsPlace, chunk_words};
-ghost use Rattle.object_layout.specs.Chunks.{chunk_at, held_words, next_address, object_count, place_in, push_object, small_words};
+ghost use Rattle.object_layout.specs.Chunks.{chunk_at, held_words, next_address, object_count, small_words};
 ghost use Rattle.alloc_path.specs.LeafHeapValue.{added, counted, placed, placed_at, place_for, room_of, with_places, IsCurrent, IsFresh, IsReserved, IsSettled};
 
 use super::counts::small_part;

@@ -1,6 +1,6 @@
 // What a fork makes of the tree, the homes and the sets.
 
-ghost use Rattle.std.specs.Prelude.{◌≡◌, ◌<◌, ◌≤◌, ◌+◌, ◌-◌, ◌^◌, ◌++◌, ◌∷◌, [], OnErr, OnOk, IfOk, None, Some, true, length, slice_set, vec_len, vec_capacity};
+ghost use Rattle.std.specs.Prelude.{◌≡◌, ◌<◌, ◌≤◌, ◌+◌, ◌^◌, ◌++◌, ◌∷◌, [], OnErr, OnOk, IfOk, None, Some, length, slice_set, vec_len, vec_capacity};
 ghost use Rattle.hh_model.specs.Step.{depth_limit};
 ghost use Rattle.heap_tree.specs.Node.{depth_of, forked, state_of};
 ghost use Rattle.child_tasks.specs.Forks.{begun_rest, part_child, waiting_rest, SetsFork};

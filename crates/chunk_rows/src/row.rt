@@ -28,7 +28,7 @@ impl Model for Row {
 }
 
 impl Row {
-    ghost use Rattle.std.specs.Prelude.{◌≡◌, ◌+◌, ◌^◌, ◌<◌, ◌≤◌, [], ◌∷◌, ◌++◌, IfOk, OnOk, length, slice_index_or, vec_len};
+    ghost use Rattle.std.specs.Prelude.{◌≡◌, ◌+◌, ◌^◌, ◌<◌, ◌≤◌, [], ◌∷◌, ◌++◌, OnOk, length, slice_index_or, vec_len};
     ghost use Rattle.std.specs.Borrow.{sem};
     ghost use Rattle.chunk_rows.specs.RowLends.{lends_chunk};
 

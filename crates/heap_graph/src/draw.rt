@@ -6,8 +6,7 @@ ghost use Rattle.image_check.specs.Read.{IsSized};
 ghost use Rattle.image_check.specs.Place.{chunk_number};
 ghost use Rattle.image_check.specs.Tasks.{owner_at};
 ghost use Rattle.text_lines.specs.Lines.{lines_of};
-ghost use Rattle.heap_graph.specs.Held.{held_of};
-ghost use Rattle.heap_graph.specs.Drawn.{path, path_above, path_to, boxed, inside, point, titled, task_box, task_drawn, chunk_box, chunk_drawn, node_by, lies_elsewhere, nodes_in, lines_behind, edges_drawn, drawn_task, drawn_chunk, drawn, left_by, all_drawn};
+ghost use Rattle.heap_graph.specs.Drawn.{path, path_above, path_to, inside, point, titled, task_box, task_drawn, chunk_box, node_by, lies_elsewhere, nodes_in, lines_behind, edges_drawn, drawn_task, drawn_chunk, drawn, left_by, all_drawn};
 ghost use Rattle.heap_graph.specs.Pieces.{opened, lines_left};
 ghost use Rattle.dot_text.specs.Dot.{Statement, braces_end, dot};
 

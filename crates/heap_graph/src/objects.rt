@@ -1,9 +1,9 @@
 // Objects as records.
 
-ghost use Rattle.std.specs.Prelude.{◌≡◌, ◌≤◌, ◌+◌, ◌++◌, ◌∷◌, codes, length, OnOk, IfOk, string_bytes};
+ghost use Rattle.std.specs.Prelude.{◌≡◌, ◌≤◌, ◌+◌, ◌++◌, codes, length, OnOk, IfOk, string_bytes};
 ghost use Rattle.std.specs.Fmt.{decimal};
 ghost use Rattle.image_check.specs.Line.{most_fields};
-ghost use Rattle.heap_graph.specs.Drawn.{reference_title, port_title, port_titles, count_title, numbers_title, references_title, birth_title, object_title, node_of};
+ghost use Rattle.heap_graph.specs.Drawn.{port_title, port_titles, count_title, numbers_title, references_title, birth_title, object_title, node_of};
 ghost use Rattle.dot_text.specs.Dot.{dot};
 
 use crate::edges::{FIELD_LIMIT, is_long};

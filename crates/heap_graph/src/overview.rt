@@ -1,10 +1,9 @@
 // An image heap by heap.
 
-ghost use Rattle.std.specs.Prelude.{◌≡◌, ◌++◌, ◌∷◌, [], OnOk};
+ghost use Rattle.std.specs.Prelude.{◌≡◌, ◌++◌, OnOk};
 ghost use Rattle.std.specs.List.{flat_map};
 ghost use Rattle.image_check.specs.Tasks.{owner_at};
 ghost use Rattle.text_lines.specs.Lines.{lines_of};
-ghost use Rattle.heap_graph.specs.Held.{held_of};
 ghost use Rattle.heap_graph.specs.Overview.{heap_node, tree_edges, heap_drawn, heap_by, heaps_drawn, with_links, with_links_of, links_with, links_by, style_of, link_attributes, link_edge, links_drawn};
 ghost use Rattle.quoted_text.specs.Labels.{task_name};
 ghost use Rattle.heap_graph.specs.Names.{port_name};

@@ -1,10 +1,10 @@
 // The text of an image.
 
-ghost use Rattle.std.specs.Prelude.{◌≡◌, ◌++◌, ◌∷◌, [], length, map, codes, IfOk, OnOk};
+ghost use Rattle.std.specs.Prelude.{◌≡◌, ◌++◌, IfOk, OnOk};
 ghost use Rattle.std.specs.List.{flat_map};
 ghost use Rattle.std.specs.String.{string_bytes};
 ghost use Rattle.run_trace.specs.Line.{spaced};
-ghost use Rattle.heap_image.specs.Text.{kind_word, title_words, head_words, end_words, reference_text, number_text, line, task_line, chunk_line, object_line, field_line, text_of};
+ghost use Rattle.heap_image.specs.Text.{kind_word, head_words, end_words, reference_text, number_text, line, task_line, chunk_line, object_line, field_line, text_of};
 
 use crate::picture::{Picked, Picture};
 use image_check::{Chunk, Remembered, Task};

@@ -1,6 +1,6 @@
 // Why the heap of a task is neither marked nor swept, as parts of the shared value tell it.
 
-ghost use Rattle.std.specs.Prelude.{◌≡◌, ◌<◌, None};
+ghost use Rattle.std.specs.Prelude.{◌≡◌};
 ghost use Rattle.heap_marking.specs.MarkCauses.{is_state_waiting, marking_cause_in, waiting_cause_in, words_cause};
 
 use crate::mark_places::is_marking;

@@ -1,6 +1,6 @@
 // The places of markings, one for each task: tasks behind the last have none.
 
-ghost use Rattle.std.specs.Prelude.{◌≡◌, ◌+◌, ◌-◌, ◌≤◌, ℕ, OnErr, OnOk, None, Some, is_some, length, vec_capacity, vec_len};
+ghost use Rattle.std.specs.Prelude.{◌≡◌, ◌+◌, ◌-◌, ◌≤◌, ℕ, OnErr, OnOk, Some, is_some, length, vec_capacity, vec_len};
 ghost use Rattle.shared_value.specs.SharedValue.{marks_at};
 
 use inner_mark_gc::Marking;

@@ -1,6 +1,6 @@
 // What is kept of a worker's own entries, as far as the pace of inner collections asks.
 
-ghost use Rattle.std.specs.Prelude.{◌≡◌, None, ◌∷◌, ◌++◌, ◌<◌, ◌-◌, [], OnOk};
+ghost use Rattle.std.specs.Prelude.{◌≡◌, ◌∷◌, ◌++◌, ◌<◌, ◌-◌, [], OnOk};
 ghost use Rattle.heap_marking.specs.Pace.{is_state_joined, previous_of, PacesStay};
 ghost use Rattle.listed.specs.Options.{option_is};
 

@@ -1,6 +1,6 @@
 // Tasks that run, tasks that haven't joined, and chunks in use, as they are told.
 
-ghost use Rattle.std.specs.Prelude.{◌≡◌, ◌<◌, IfOk, IfSome, None};
+ghost use Rattle.std.specs.Prelude.{◌≡◌, IfOk, IfSome, None};
 ghost use Rattle.heap_reading.specs.HeldNames.{is_state_running};
 ghost use Rattle.heap_reading.specs.Image.{AreAll, IsLiveIn, LiveBefore};
 

@@ -1,6 +1,6 @@
 // Remembered fields as they are told.
 
-ghost use Rattle.std.specs.Prelude.{◌≡◌, ◌<◌, IfOk, map};
+ghost use Rattle.std.specs.Prelude.{◌≡◌, IfOk, map};
 ghost use Rattle.heap_reading.specs.Image.{field_of};
 
 use crate::seen::number_of;

@@ -1,10 +1,10 @@
 // Checks images.
 
-ghost use Rattle.std.specs.Prelude.{◌≡◌, ◌≤◌, length, IfOk, IfErr, IfNone, IsErr, IsOkAnd, MatchResult, Some, None};
+ghost use Rattle.std.specs.Prelude.{◌≡◌, ◌≤◌, length, IfOk, IfErr, IfNone, IsErr, IsOkAnd, MatchResult, None};
 ghost use Rattle.text_lines.specs.Lines.{lines_of, most_bytes};
 ghost use Rattle.image_check.specs.Line.{said_by};
 ghost use Rattle.image_check.specs.Read.{after_line, nothing_had, nothing_read, whole_of};
-ghost use Rattle.image_check.specs.Fault.{cause_on, fault_from, after_lines, lines_fault, image_fault, too_long, objects_in, Answers, Fails};
+ghost use Rattle.image_check.specs.Fault.{cause_on, fault_from, after_lines, lines_fault, image_fault, objects_in, Answers, Fails};
 
 use crate::cause::{Cause, Fault};
 use crate::faults::first_cause;

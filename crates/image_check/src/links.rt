@@ -1,7 +1,7 @@
 // Links between the places of tasks, along which ancestors are found fast.
 
 ghost use Rattle.std.specs.Prelude.{◌≡◌, ◌-◌, ◌<◌, ◌≤◌, length, slice_get, IfSome, Some};
-ghost use Rattle.image_check.specs.Links.{depth_at, far_at, AreLinks, IsUp, next_far, new_link};
+ghost use Rattle.image_check.specs.Links.{depth_at, AreLinks, IsUp, next_far, new_link};
 
 /// How the path of a task goes on to the root: by places in the order in which the tasks came.
 #[derive(Clone, Copy)]

@@ -2,7 +2,7 @@
 
 ghost use Rattle.std.specs.Prelude.{◌≡◌, ◌≤◌, ◌+◌, ◌<◌, OnOk, length};
 ghost use Rattle.image_check.specs.Place.{chunk_number};
-ghost use Rattle.image_check.specs.Read.{position_of, rises, or_next, comes_next, end_of, extent_of, nothing_read, after_line, IsSized};
+ghost use Rattle.image_check.specs.Read.{position_of, rises, or_next, comes_next, extent_of, nothing_read, after_line, IsSized};
 ghost use Rattle.image_check.specs.Line.{most_fields};
 
 use crate::line::{Chunk, Object, Said};

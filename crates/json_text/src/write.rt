@@ -1,6 +1,6 @@
 // Values and members, written piece by piece.
 
-ghost use Rattle.std.specs.Prelude.{◌≡◌, ◌∷◌, ◌++◌, OnOk};
+ghost use Rattle.std.specs.Prelude.{◌≡◌, ◌++◌, OnOk};
 ghost use Rattle.json_text.specs.Json.{Number, Word, json, first_member, more_member};
 
 use quoted_text::add_quoted;

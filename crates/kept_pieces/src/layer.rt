@@ -1,9 +1,8 @@
 // Pieces of chunks that were made together.
 
-ghost use Rattle.std.specs.Prelude.{◌≡◌, ℕ, ◌+◌, ◌<◌, ◌≤◌, ◌∷◌, ◌++◌, ◌==◌, [], IfOk, None, OnOk, length, map};
+ghost use Rattle.std.specs.Prelude.{◌≡◌, ℕ, ◌∷◌, [], IfOk, OnOk, length, map};
 ghost use Rattle.std.specs.Arc.{arc_value};
 ghost use Rattle.std.specs.Option.{option_copied, option_or};
-ghost use Rattle.object_layout.specs.Piece.{frozen_of};
 ghost use Rattle.kept_pieces.specs.Level.{level_of, nearest, piece_in};
 
 use object_layout::{Chunk, Piece};

@@ -1,6 +1,6 @@
 // How large a chunk a part gets, and why it gets none.
 
-ghost use Rattle.std.specs.Prelude.{◌≡◌, ◌<◌, ◌^◌, IfSome, None};
+ghost use Rattle.std.specs.Prelude.{◌≡◌, ◌<◌, ◌^◌, IfSome};
 ghost use Rattle.run_ledger.specs.Entries.{chunk_units};
 ghost use Rattle.shared_value.specs.Causes.{chunk_cause};
 

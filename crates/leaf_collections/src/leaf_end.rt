@@ -1,6 +1,6 @@
 // What the end of a leaf collection does to the heaps of other tasks and to the pool.
 
-ghost use Rattle.std.specs.Prelude.{◌≡◌, ◌<◌, All, IsSome, fold, slice_get};
+ghost use Rattle.std.specs.Prelude.{◌≡◌, All, IsSome, fold, slice_get};
 ghost use Rattle.chunk_pool.specs.PoolValue.{slot_at};
 ghost use Rattle.alloc_path.specs.LeafHeapValue.{AreApart};
 ghost use Rattle.remembered_set.specs.Moved.{redirected, AreFields, AreInOrder, ArePlaces};

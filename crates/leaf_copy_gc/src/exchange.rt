@@ -1,7 +1,6 @@
 // Exchanges the chunks of the heap for the new ones.
 
-ghost use Rattle.std.specs.Prelude.{◌≡◌, ◌+◌, ◌-◌, ◌≤◌, ◌<◌, ◌++◌, ◌∷◌, [], length, vec_len, vec_capacity, fold, filter, map, remove, false, None, Some};
-ghost use Rattle.object_layout.specs.Chunks.{held_words};
+ghost use Rattle.std.specs.Prelude.{◌≡◌, ◌+◌, ◌≤◌, ◌++◌, ◌∷◌, [], length, vec_len, vec_capacity, fold, filter, map, false};
 ghost use Rattle.alloc_path.specs.Counted.{AreCounted};
 ghost use Rattle.alloc_path.specs.LeafHeapValue.{exchanged, with_places, AreApart, IsCurrent, IsReserved};
 ghost use Rattle.leaf_copy_gc.specs.Survivors.{with_chunks};

@@ -1,7 +1,7 @@
 // Leads references to where their objects are now.
 
-ghost use Rattle.std.specs.Prelude.{◌≡◌, ◌+◌, ◌≤◌, ◌<◌, length, map, fold, All, IsTrue, Some};
-ghost use Rattle.object_layout.specs.Cell.{IsObject, IsPlace};
+ghost use Rattle.std.specs.Prelude.{◌≡◌, map, fold, All, IsTrue, Some};
+ghost use Rattle.object_layout.specs.Cell.{IsPlace};
 ghost use Rattle.object_layout.specs.Chunks.{cell_of, held_words, place_in, small_words};
 ghost use Rattle.object_layout.specs.Place.{cell_at, put_cell, IsObjectAt};
 ghost use Rattle.task_frames.specs.FramesValue.{frames_of};

@@ -1,6 +1,6 @@
 // Reserves what a collection needs.
 
-ghost use Rattle.std.specs.Prelude.{◌≡◌, ◌+◌, ◌≤◌, [], length, vec_capacity, IfOk};
+ghost use Rattle.std.specs.Prelude.{◌≡◌, ◌≤◌, [], vec_capacity, IfOk};
 ghost use Rattle.alloc_path.specs.LeafHeapValue.{with_places};
 ghost use Rattle.leaf_copy_gc.specs.Survivors.{live_count};
 ghost use Rattle.leaf_copy_gc.specs.Lists.{AreReserved};

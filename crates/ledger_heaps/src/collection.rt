@@ -1,6 +1,6 @@
 // What a leaf collection leaves of a heap.
 
-ghost use Rattle.std.specs.Prelude.{◌≡◌, ◌+◌, ◌-◌, ◌<◌, ◌^◌, [], ◌∷◌, ◌++◌, IfOk, OnOk, length};
+ghost use Rattle.std.specs.Prelude.{◌≡◌, ◌+◌, ◌-◌, ◌<◌, ◌^◌, [], IfOk, OnOk, length};
 ghost use Rattle.run_ledger.specs.Heaps.{begun_in, by_birth, collected, end_numbers, lay, laid_onto, room_behind, units_sum, words_in, small_survivors, large_survivors};
 ghost use Rattle.std.specs.HashSet.{contains};
 ghost use Rattle.hh_model.specs.declared.data.Name.{Name};

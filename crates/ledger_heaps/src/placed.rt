@@ -1,7 +1,7 @@
 // What an allocation and a join change of a heap's account.
 
 ghost use Rattle.std.specs.Prelude.{◌≡◌, ◌+◌, ◌<◌, ◌^◌, [], ◌∷◌, ◌++◌, OnOk, OnErr};
-ghost use Rattle.run_ledger.specs.Heaps.{placed, put_last, merged, emptied};
+ghost use Rattle.run_ledger.specs.Heaps.{placed, put_last};
 
 use crate::sizes::CHUNK_WORDS;
 use hh_model::Name;

@@ -1,13 +1,13 @@
 // What is reached within a heap.
 
-ghost use Rattle.std.specs.Prelude.{◌≡◌, ◌+◌, ◌++◌, ◌==◌, ◌&&◌, not, [], IfOk, OnOk, filter, length, slice_get};
+ghost use Rattle.std.specs.Prelude.{◌≡◌, ◌++◌, ◌&&◌, not, [], IfOk, OnOk, filter, slice_get};
 ghost use Rattle.std.specs.List.{flat_map};
-ghost use Rattle.std.specs.HashSet.{contains, hash_set_len};
+ghost use Rattle.std.specs.HashSet.{contains};
 ghost use Rattle.hh_model.specs.declared.data.Name.{Name};
-ghost use Rattle.hh_model.specs.Names.{named, refs_at, registers};
+ghost use Rattle.hh_model.specs.Names.{refs_at, registers};
 ghost use Rattle.hh_model.specs.Step.{owner_of, parents};
 ghost use Rattle.run_ledger.specs.Reachable.{holds_name, is_name};
-ghost use Rattle.run_ledger.specs.Heaps.{frames_of, held, held_in, heap_of, is_above, or_fresh, roots_of, within};
+ghost use Rattle.run_ledger.specs.Heaps.{frames_of, held, held_in, heap_of, is_above, roots_of, within};
 ghost use Rattle.ledger_heaps.specs.Accounts.{accounts, AreOwned};
 ghost use Rattle.ledger_heaps.specs.Search.{ancestors, refs_in, Meets};
 

@@ -1,11 +1,10 @@
 // A search through the names of a heap, along references.
 
-ghost use Rattle.std.specs.Prelude.{◌≡◌, ◌+◌, ◌&&◌, not, [], ◌∷◌, OnOk, length};
+ghost use Rattle.std.specs.Prelude.{◌≡◌, ◌+◌, [], ◌∷◌, OnOk, length};
 ghost use Rattle.std.specs.List.{flat_map};
 ghost use Rattle.std.specs.HashSet.{contains, hash_set_len};
-ghost use Rattle.hh_model.specs.declared.data.Name.{Name};
 ghost use Rattle.hh_model.specs.Names.{named, refs_at, registers};
-ghost use Rattle.run_ledger.specs.Reachable.{holds_name, is_name};
+ghost use Rattle.run_ledger.specs.Reachable.{is_name};
 ghost use Rattle.run_ledger.specs.Heaps.{held_in};
 ghost use Rattle.ledger_heaps.specs.Search.{Meets};
 

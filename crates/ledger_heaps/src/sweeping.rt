@@ -1,6 +1,6 @@
 // What a sweep leaves of a heap.
 
-ghost use Rattle.std.specs.Prelude.{◌≡◌, ◌-◌, ◌<◌, ◌^◌, IfOk, OnOk, map, length, not, [], ◌∷◌, ◌++◌, if◌then◌else◌};
+ghost use Rattle.std.specs.Prelude.{◌≡◌, ◌<◌, ◌^◌, IfOk, OnOk, map, not, [], ◌∷◌, ◌++◌};
 ghost use Rattle.std.specs.HashSet.{contains};
 ghost use Rattle.hh_model.specs.declared.data.Name.{Name};
 ghost use Rattle.run_ledger.specs.Reachable.{holds_name, is_name};

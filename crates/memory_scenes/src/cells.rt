@@ -1,7 +1,7 @@
 // Whether references within a heap lead to objects, and how many words the small objects take.
 
-ghost use Rattle.std.specs.Prelude.{◌≡◌, ◌<◌, ◌≤◌, length, All, IfSome, IsTrue, None};
-ghost use Rattle.object_layout.specs.Cell.{moved_to, size_of, IsBorn};
+ghost use Rattle.std.specs.Prelude.{◌≡◌, All, IfSome, IsTrue};
+ghost use Rattle.object_layout.specs.Cell.{IsBorn};
 ghost use Rattle.object_layout.specs.Place.{cell_at, IsCellAt};
 ghost use Rattle.leaf_copy_gc.specs.Survivors.{IsClosed, IsSound};
 ghost use Rattle.leaf_copy_gc.specs.Laid.{small_in, small_words};

@@ -1,6 +1,6 @@
 // Whether a task's next instruction is the task's own matter.
 
-ghost use Rattle.std.specs.Prelude.{◌≡◌, ◌&&◌, not, Option, Some, None};
+ghost use Rattle.std.specs.Prelude.{◌≡◌};
 ghost use Rattle.run_ledger.specs.Steps.{is_frozen_above, is_open, is_read, owns, touched, works_alone};
 ghost use Rattle.next_steps.specs.Own.{is_own_line};
 

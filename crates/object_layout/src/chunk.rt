@@ -1,7 +1,7 @@
 // A chunk, and its objects one after another.
 
-ghost use Rattle.std.specs.Prelude.{◌≡◌, ◌+◌, ◌-◌, ◌*◌, ◌^◌, ◌<◌, ◌≤◌, ◌↔◌, [], ◌∷◌, ◌++◌, length, take, drop, replicate, All, slice_get, slice_index, slice_index_or, IfOk, IsTrue, Some};
-ghost use Rattle.object_layout.specs.Cell.{header_of, size_of, new_cell, IsPlace, IsBorn, IsObject, moved_to, with_ref, with_refs, with_int, with_ints, with_mark, filled_cell, frozen, Born, Moved, Hole, IsCell, chunk_words};
+ghost use Rattle.std.specs.Prelude.{◌≡◌, ◌+◌, ◌*◌, ◌^◌, ◌<◌, ◌≤◌, ◌↔◌, [], ◌∷◌, ◌++◌, length, take, drop, replicate, All, slice_get, slice_index, slice_index_or, IfOk, IsTrue, Some};
+ghost use Rattle.object_layout.specs.Cell.{header_of, size_of, new_cell, IsPlace, IsBorn, moved_to, with_ref, with_refs, with_int, with_ints, with_mark, filled_cell, frozen, Born, Moved, Hole, IsCell, chunk_words};
 ghost use Rattle.object_layout.specs.Chunks.{with_cell};
 ghost use Rattle.object_layout.specs.Layout.{words_of_cell};
 ghost use Rattle.object_layout.specs.Piece.{is_frozen};

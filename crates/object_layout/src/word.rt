@@ -1,6 +1,6 @@
 // An address, a birth name and a header, and the words that hold them.
 
-ghost use Rattle.std.specs.Prelude.{◌≡◌, ◌<◌, ◌≤◌, ◌^◌, ◌+◌, ◌*◌, Option, false};
+ghost use Rattle.std.specs.Prelude.{◌≡◌, ◌<◌, ◌≤◌, ◌^◌, false};
 ghost use Rattle.object_layout.specs.Cell.{IsPlace, IsRef};
 ghost use Rattle.object_layout.specs.Layout.{word_of_ref, ref_of_word, word_of_birth, birth_of_word, header_word, nrefs_of, nints_of, mutable_of, gone_of};
 

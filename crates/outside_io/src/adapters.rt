@@ -1,6 +1,6 @@
 // The trusted edge: standard input and output as a source and a sink. They tell no content, only their faults.
 
-ghost use Rattle.std.specs.Prelude.{◌≡◌, ◌<◌, ◌≤◌, length, None};
+ghost use Rattle.std.specs.Prelude.{◌≡◌, None};
 
 use crate::fault::{Failed, one_more};
 use crate::sink::Sink;

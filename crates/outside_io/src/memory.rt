@@ -1,6 +1,6 @@
 // Sources and sinks in memory, which tell their bytes and fail at chosen calls.
 
-ghost use Rattle.std.specs.Prelude.{◌≡◌, ◌<◌, ◌≤◌, ◌↔◌, ◌++◌, [], ◌⊎◌, length, take, drop, min, List, ℕ, IfOk, OnOk, OnErr, IsErr, IsTrue, Contains, Some};
+ghost use Rattle.std.specs.Prelude.{◌≡◌, ◌<◌, ◌≤◌, ◌↔◌, [], length, take, drop, min, List, ℕ, IfOk, OnOk, OnErr, IsErr, Contains, Some};
 ghost use Rattle.still_counts.specs.Counts.{raised_by};
 ghost use Rattle.outside_io.specs.Fault.{HasRisen};
 ghost use Rattle.outside_io.specs.Told.{Gives, with_more};
@@ -25,7 +25,7 @@ pub struct MemSource {
 }
 
 impl Model for MemSource {
-    ghost use Rattle.std.specs.Prelude.{ℕ, ◌<◌, ◌≤◌, length, drop, if◌then◌else◌};
+    ghost use Rattle.std.specs.Prelude.{◌<◌, ◌≤◌, length, drop, if◌then◌else◌};
     ghost use Rattle.outside_io.specs.Memory.{MemSourceValue};
 
     ghost Value = { MemSourceValue };
@@ -46,7 +46,7 @@ pub struct MemSink {
 }
 
 impl Model for MemSink {
-    ghost use Rattle.std.specs.Prelude.{ℕ, ◌<◌};
+    ghost use Rattle.std.specs.Prelude.{◌<◌};
     ghost use Rattle.outside_io.specs.Memory.{MemSinkValue};
 
     ghost Value = { MemSinkValue };

@@ -1,6 +1,6 @@
 // A source and a sink that never fail: their count of faults is always 0.
 
-ghost use Rattle.std.specs.Prelude.{◌≡◌, ◌<◌, ◌≤◌, [], length, take, drop, min, List, ℕ, IfOk, OnOk, OnErr, Some, IsOk, Ok};
+ghost use Rattle.std.specs.Prelude.{◌≡◌, ◌<◌, ◌≤◌, length, take, drop, min, List, ℕ, IfOk, OnOk, OnErr, Some, IsOk, Ok};
 ghost use Rattle.outside_io.specs.Fault.{HasRisen};
 ghost use Rattle.outside_io.specs.Told.{Gives, untold, with_more};
 
@@ -20,7 +20,7 @@ pub struct SureSource {
 }
 
 impl Model for SureSource {
-    ghost use Rattle.std.specs.Prelude.{ℕ, ◌≤◌, length, drop, if◌then◌else◌};
+    ghost use Rattle.std.specs.Prelude.{◌≤◌, length, drop, if◌then◌else◌};
     ghost use Rattle.outside_io.specs.Memory.{SureSourceValue};
 
     ghost Value = { SureSourceValue };

@@ -1,6 +1,6 @@
 // What is kept of a worker's entries, noted anew after each.
 
-ghost use Rattle.std.specs.Prelude.{◌≡◌, ◌<◌, ℕ, IfOk, OnOk, None, Some, is_some, length, slice_get, true};
+ghost use Rattle.std.specs.Prelude.{◌≡◌, ◌<◌, ℕ, IfOk, OnOk, None, is_some, length, slice_get, true};
 ghost use Rattle.hh_model.specs.Step.{is_waiting};
 ghost use Rattle.run_trace.specs.declared.entry.Kind.TheVariants.{Mark, Ran};
 ghost use Rattle.run_ledger.specs.Heaps.{heap_of};

@@ -1,6 +1,6 @@
 // What a worker owes by the pace of inner collections.
 
-ghost use Rattle.std.specs.Prelude.{◌≡◌, ◌<◌, ◌≤◌, ◌-◌, List, None};
+ghost use Rattle.std.specs.Prelude.{◌≡◌, ◌≤◌, List, None};
 ghost use Rattle.hh_model.specs.declared.data.Strand.{Strand};
 ghost use Rattle.run_ledger.specs.Pace.{owed, owed_to_marks};
 ghost use Rattle.run_ledger.specs.declared.data.WorkerPace.{WorkerPace};

@@ -1,8 +1,7 @@
 // The access that the next step of a task makes.
 
-ghost use Rattle.std.specs.Prelude.{◌≡◌, ◌<◌, ◌^◌, ℕ, pos, Option, Some, None, true, false, IfSome, slice_get};
+ghost use Rattle.std.specs.Prelude.{◌≡◌, ◌<◌, ◌^◌, ℕ, pos, IfSome};
 ghost use Rattle.hh_model.specs.Effect.{Setting, effect, place_in, same_name};
-ghost use Rattle.hh_model.specs.Step.{setting, strand_of};
 ghost use Rattle.race_report.specs.Accesses.{access_of, access_by, unless_trap};
 ghost use Rattle.race_report.specs.Few.{AreFew};
 

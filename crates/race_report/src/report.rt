@@ -1,6 +1,6 @@
 // The races of a journal.
 
-ghost use Rattle.std.specs.Prelude.{◌≡◌, ◌<◌, ◌^◌, None, length, OnOk, IfOk, IfErr};
+ghost use Rattle.std.specs.Prelude.{◌≡◌, None, OnOk, IfOk, IfErr};
 ghost use Rattle.run_trace.specs.Settings.{field_limit};
 ghost use Rattle.run_ledger.specs.Journals.{first_refused, refused_as_run, machine_of, tasks_of};
 ghost use Rattle.run_journal.specs.Replay.{ReplayFails};

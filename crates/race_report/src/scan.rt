@@ -1,6 +1,6 @@
 // The steps of a journal, with what is kept of each field.
 
-ghost use Rattle.std.specs.Prelude.{◌≡◌, ℕ, ◌+◌, ◌<◌, ◌≤◌, ◌^◌, [], ◌∷◌, None, length, replicate, OnOk, IfOk};
+ghost use Rattle.std.specs.Prelude.{◌≡◌, ◌+◌, ◌<◌, ◌≤◌, ◌^◌, [], None, length, replicate, OnOk, IfOk};
 ghost use Rattle.std.specs.BTreeMap as tree;
 ghost use Rattle.run_ledger.specs.Journals.{tasks_in, tasks_of};
 ghost use Rattle.hh_model.specs.Step.{step};

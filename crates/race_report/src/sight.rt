@@ -1,6 +1,6 @@
 // What the next step of a task makes of what is looked for.
 
-ghost use Rattle.std.specs.Prelude.{◌≡◌, ◌<◌, ◌^◌};
+ghost use Rattle.std.specs.Prelude.{◌≡◌};
 ghost use Rattle.race_report.specs.Few.{AreFew};
 ghost use Rattle.race_report.specs.Sights.{swap_of, said_of, looked_of};
 

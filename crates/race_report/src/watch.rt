@@ -1,11 +1,11 @@
 // What is kept of each field while accesses come.
 
-ghost use Rattle.std.specs.Prelude.{◌≡◌, [], ◌∷◌, ◌++◌, Option, None, not, false, ◌&&◌, OnOk, IfOk, option_copied, option_map, if◌then◌else◌};
+ghost use Rattle.std.specs.Prelude.{◌≡◌, None, false, OnOk, IfOk, option_copied, option_map, if◌then◌else◌};
 ghost use Rattle.std.specs.BTreeMap as tree;
 ghost use Rattle.std.specs.BTreeMap.{values};
 ghost use Rattle.race_report.specs.Labels.{allows, label_precedes};
 ghost use Rattle.race_report.specs.Ways.{has_alike};
-ghost use Rattle.race_report.specs.Watch.{clash, clashes, first_clash, bound_with, with_first, with_access, bound_for, race_of, found_by, watch_with, nothing_yet, or_nothing, Key, key_of, key_cmp, kept_with, races_in};
+ghost use Rattle.race_report.specs.Watch.{clash, clashes, first_clash, bound_with, with_first, with_access, bound_for, race_of, watch_with, nothing_yet, Key, key_of, key_cmp, kept_with, races_in};
 
 use crate::bounds::allows;
 use crate::data::{Access, Bound, Field, Open, Race, Seen, Watch};

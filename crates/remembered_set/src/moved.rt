@@ -1,6 +1,6 @@
 // The relocation list of a collection, and where it leads an address.
 
-ghost use Rattle.std.specs.Prelude.{◌≡◌, ◌+◌, ◌*◌, ◌^◌, ◌<◌, ◌≤◌, length};
+ghost use Rattle.std.specs.Prelude.{◌≡◌, ◌^◌, ◌<◌};
 ghost use Rattle.remembered_set.specs.Moved.{new_of, number_of, AreInOrder};
 
 use object_layout::Addr;

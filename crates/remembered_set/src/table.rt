@@ -1,6 +1,6 @@
 // The table of a remembered set: each down-pointer's source once, in the order in which they were noted.
 
-ghost use Rattle.std.specs.Prelude.{◌≡◌, ℕ, ◌+◌, ◌-◌, ◌<◌, ◌≤◌, [], ◌++◌, filter, fold, IfOk, OnErr, OnOk, length, nat_eq, not, vec_capacity, vec_len};
+ghost use Rattle.std.specs.Prelude.{◌≡◌, ℕ, ◌+◌, ◌-◌, ◌<◌, ◌≤◌, [], ◌++◌, filter, fold, IfOk, OnOk, length, nat_eq, not, vec_capacity, vec_len};
 ghost use Rattle.std.specs.HashSet.{contains, hash_set_len, spare};
 ghost use Rattle.remembered_set.specs.declared.remembered.Source.{Source};
 ghost use Rattle.remembered_set.specs.Sources.{has_chunk, has_source, lifted, noted, same_source, IsKept, StandOnce};

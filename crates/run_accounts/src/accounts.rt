@@ -1,10 +1,9 @@
 // The accounts of a run as a value, and what is looked up in them.
 
-ghost use Rattle.std.specs.Prelude.{◌≡◌, ◌<◌, ◌^◌, ◌+◌, IfOk, Option, Some, None, IsTrue, slice_get, option_copied, length, is_some, unwrap_or, replicate};
-ghost use Rattle.run_ledger.specs.Heaps.{fresh, heap_at, heap_of, or_fresh, marked_in, left_in, lacks_room, words_in, take_of, in_use, units};
-ghost use Rattle.run_ledger.specs.Steps.{is_due, is_in_need, on_asked, is_private};
+ghost use Rattle.std.specs.Prelude.{◌≡◌, ◌<◌, ◌^◌, IfOk, None, slice_get, option_copied, is_some, unwrap_or, replicate};
+ghost use Rattle.run_ledger.specs.Heaps.{heap_at, heap_of, marked_in, left_in, words_in, take_of, in_use, units};
+ghost use Rattle.run_ledger.specs.Steps.{is_due, is_in_need};
 ghost use Rattle.run_ledger.specs.Entries.{is_ready, is_out, held_from};
-ghost use Rattle.listed.specs.Options.{option_is};
 ghost use Rattle.run_ledger.specs.Journals.{opening};
 ghost use Rattle.hh_model.specs.Step.{is_running, is_waiting, asked};
 ghost use Rattle.run_trace.specs.Settings.{AreLimits};

@@ -1,7 +1,7 @@
 // Why an entry is refused, but for the steps of tasks.
 
-ghost use Rattle.std.specs.Prelude.{◌≡◌, ◌==◌, ◌<◌, ◌^◌, Option, Some, None, is_some};
-ghost use Rattle.run_trace.specs.declared.entry.Kind.TheVariants.{Took, Chunk, Begin, End, PutOff, Mark, More, Sweep, Fuel};
+ghost use Rattle.std.specs.Prelude.{◌≡◌, ◌==◌, ◌<◌, ◌^◌, None, is_some};
+ghost use Rattle.run_trace.specs.declared.entry.Kind.TheVariants.{Took, Chunk, Begin, PutOff, Mark, More, Fuel};
 ghost use Rattle.run_ledger.specs.Entries.{kind_refusal, on_running, on_waiting, on_marking, on_due, is_pool_enough, is_out, refused_unless, counted, ends_as};
 ghost use Rattle.run_ledger.specs.Heaps.{heap_of, left_in, marked_in};
 ghost use Rattle.run_ledger.specs.declared.data.Refused.TheVariants.{NotOut, NotCollecting, Left};

@@ -1,7 +1,7 @@
 // What an entry changes, but for the steps of tasks.
 
-ghost use Rattle.std.specs.Prelude.{◌≡◌, Option, Some, None, ◌+◌, ◌<◌, ◌^◌, true, OnOk, OnErr, IfOk, slice_set, min};
-ghost use Rattle.run_trace.specs.declared.entry.Kind.TheVariants.{Took, Chunk, Begin, End, PutOff, Mark, More, Sweep, Fuel};
+ghost use Rattle.std.specs.Prelude.{◌≡◌, Some, ◌+◌, ◌<◌, ◌^◌, OnOk, OnErr, IfOk, slice_set, min};
+ghost use Rattle.run_trace.specs.declared.entry.Kind.TheVariants.{Took, Chunk, Begin, PutOff, Mark, More, Fuel};
 ghost use Rattle.run_ledger.specs.Entries.{after_kind, chunk_units};
 ghost use Rattle.hh_model.specs.Step.{asked};
 ghost use Rattle.run_ledger.specs.Steps.{on_asked};

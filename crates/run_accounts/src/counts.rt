@@ -1,7 +1,6 @@
 // The count of the chunks in use, which is kept beside the accounts: how an entry changes it.
 
-ghost use Rattle.std.specs.Prelude.{◌≡◌, ◌+◌, ◌-◌, ◌<◌, ◌^◌, Option, length};
-ghost use Rattle.hh_model.specs.declared.data.Name.{Name};
+ghost use Rattle.std.specs.Prelude.{◌≡◌, ◌+◌, ◌-◌, ◌<◌, ◌^◌, length};
 ghost use Rattle.run_ledger.specs.Heaps.{heap_of, begun_in};
 ghost use Rattle.run_accounts.specs.Accounts.{places_in, used_by};
 

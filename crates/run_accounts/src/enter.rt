@@ -1,11 +1,11 @@
 // An entry is entered, or refused.
 
-ghost use Rattle.std.specs.Prelude.{◌≡◌, ℕ, ◌<◌, ◌≤◌, Option, Some, None, false, true, OnOk, IfErr, is_some, slice_set};
+ghost use Rattle.std.specs.Prelude.{◌≡◌, ℕ, ◌<◌, ◌≤◌, Some, None, false, OnOk, IfErr, is_some, slice_set};
 ghost use Rattle.run_trace.specs.declared.entry.Kind.TheVariants.{Took, Ran, Chunk, Begin, End, PutOff, Mark, More, Sweep, Fuel};
 ghost use Rattle.run_trace.specs.Entry.{IsKind};
 ghost use Rattle.run_ledger.specs.Heaps.{heap_of};
 ghost use Rattle.run_ledger.specs.Steps.{most_steps};
-ghost use Rattle.run_ledger.specs.Entries.{refusal, after, kind_refusal, after_kind, is_pool_enough};
+ghost use Rattle.run_ledger.specs.Entries.{refusal, after, kind_refusal, after_kind};
 ghost use Rattle.run_accounts.specs.Accounts.{Steady, Agrees, StaysSteady, FailsFor, general_refusal, went_on, taken_after};
 
 use crate::accounts::Accounts;

@@ -1,8 +1,8 @@
 // The steps of one entry.
 
-ghost use Rattle.std.specs.Prelude.{◌≡◌, ◌≤◌, ◌+◌, ◌||◌, ◌&&◌, not, is_some, if◌then◌else◌, Option, Some, None, true, false, OnOk, IfOk};
+ghost use Rattle.std.specs.Prelude.{◌≡◌, ◌≤◌, ◌+◌, ◌||◌, ◌&&◌, not, is_some, if◌then◌else◌, false, IfOk};
 ghost use Rattle.hh_model.specs.Step.{asked};
-ghost use Rattle.run_ledger.specs.Steps.{task_step, task_steps, is_due, is_in_need, is_private, standing};
+ghost use Rattle.run_ledger.specs.Steps.{task_step, task_steps, is_due, is_in_need, standing};
 ghost use Rattle.run_ledger.specs.Heaps.{in_use};
 ghost use Rattle.next_steps.specs.Own.{is_own};
 ghost use Rattle.run_accounts.specs.Accounts.{Steady, StaysSteady, stood, after_stood, used_after, went_on};

@@ -1,8 +1,8 @@
 // The steps of tasks, with what they change of the accounts.
 
-ghost use Rattle.std.specs.Prelude.{◌≡◌, ℕ, ◌+◌, ◌<◌, ◌^◌, Option, Some, None, true, false, length, slice_get, OnOk};
+ghost use Rattle.std.specs.Prelude.{◌≡◌, ℕ, ◌+◌, ◌<◌, ◌^◌, Some, true, false, length, slice_get, OnOk};
 ghost use Rattle.run_ledger.specs.Heaps.{heap_of, in_use, or_fresh, with_heap, let_go};
-ghost use Rattle.run_ledger.specs.Steps.{allocated_in, allocated_by, is_in_need, task_step, at_fork, at_join, join_heaps, moved_to, settled};
+ghost use Rattle.run_ledger.specs.Steps.{allocated_in, is_in_need, task_step, at_fork, at_join, settled};
 ghost use Rattle.hh_model.specs.Step.{asked, step, is_joined, is_waiting};
 ghost use Rattle.ledger_heaps.specs.Accounts.{AreOwned};
 ghost use Rattle.run_accounts.specs.Accounts.{Steady, Forks, Joins, ArePaired, left_of, next_large, used_after, went_on};

@@ -1,6 +1,6 @@
 // The accounts of a journal, entered one entry after the other.
 
-ghost use Rattle.std.specs.Prelude.{◌≡◌, Option, Some, None, true, false, IfOk, OnOk, OnErr, IfErr};
+ghost use Rattle.std.specs.Prelude.{◌≡◌, None, true, false, IfOk, OnOk, OnErr, IfErr};
 ghost use Rattle.run_ledger.specs.Heaps.{in_use};
 ghost use Rattle.run_ledger.specs.Entries.{refusal, after};
 ghost use Rattle.run_ledger.specs.Journals.{opening};

@@ -1,6 +1,6 @@
 // A journal replayed on the machine that never collects.
 
-ghost use Rattle.std.specs.Prelude.{◌≡◌, Option, Some, None, false, IfOk, OnOk, IfErr};
+ghost use Rattle.std.specs.Prelude.{◌≡◌, Some, None, false, IfOk, OnOk, IfErr};
 ghost use Rattle.run_ledger.specs.Journals.{after_all, ledger_of, end_of, first_refused_from, first_refused, refused_as_run};
 ghost use Rattle.run_journal.specs.Replay.{ReplayFails};
 

@@ -1,6 +1,6 @@
 // A journal replayed, with the totals of its entries.
 
-ghost use Rattle.std.specs.Prelude.{◌≡◌, Option, None, false, IfOk, OnOk, IfErr};
+ghost use Rattle.std.specs.Prelude.{◌≡◌, None, false, IfOk, OnOk, IfErr};
 ghost use Rattle.run_trace.specs.Settings.{AreLimits};
 ghost use Rattle.run_ledger.specs.Entries.{refusal, after};
 ghost use Rattle.run_ledger.specs.Journals.{opening, ledger_of, first_refused};

@@ -1,9 +1,9 @@
 // Whether a journal keeps the pace of inner collections.
 
-ghost use Rattle.std.specs.Prelude.{◌≡◌, ◌||◌, Option, None, false, IfOk, OnOk};
+ghost use Rattle.std.specs.Prelude.{◌≡◌, ◌||◌, None, false, IfOk, OnOk};
 ghost use Rattle.run_ledger.specs.Entries.{is_fuel};
 ghost use Rattle.run_ledger.specs.Journals.{first_refused};
-ghost use Rattle.run_ledger.specs.Pace.{idle, pace_opening, pace_of, pace_after, is_mark_of, is_more_of, is_sweep_of, gives, owed, is_paced_from, is_paced};
+ghost use Rattle.run_ledger.specs.Pace.{pace_opening, pace_of, pace_after, is_mark_of, is_more_of, is_sweep_of, gives, owed, is_paced_from, is_paced};
 
 use hh_lang::Program;
 use listed::Listed;

@@ -3,7 +3,7 @@
 ghost use Rattle.std.specs.Prelude.{◌≡◌, ◌≢◌, ◌∷◌, ◌++◌, [], IfOk, OnOk, codes};
 ghost use Rattle.std.specs.String.{string_bytes};
 ghost use Rattle.std.specs.List.{join_with_byte};
-ghost use Rattle.run_ledger.specs.Text.{trap_word, machine_end_words, end_words, end_line, cause_words, refused_words, refused_line, report_lines, line, output_lines};
+ghost use Rattle.run_ledger.specs.Text.{trap_word, machine_end_words, end_words, end_line, cause_words, refused_line, report_lines, line, output_lines};
 ghost use Rattle.std.specs.Fmt.{decimal, signed_decimal};
 ghost use Rattle.run_report.specs.Words.{number_words};
 

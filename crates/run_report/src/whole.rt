@@ -1,6 +1,6 @@
 // What a journal comes to: its report, and all that is written of its run.
 
-ghost use Rattle.std.specs.Prelude.{◌≡◌, ◌++◌, Option, Some, None, false, IfOk, OnOk, IfErr};
+ghost use Rattle.std.specs.Prelude.{◌≡◌, ◌++◌, Some, None, false, IfOk, OnOk, IfErr};
 ghost use Rattle.run_ledger.specs.Journals.{opening, ledger_of, first_refused, end_of, refused_as_run};
 ghost use Rattle.run_ledger.specs.Report.{report_of};
 ghost use Rattle.run_ledger.specs.Text.{end_words, end_line, out_text};

@@ -1,7 +1,7 @@
 // An entry as a slice.
 
-ghost use Rattle.std.specs.Prelude.{◌≡◌, ◌≤◌, ◌++◌, OnOk};
-ghost use Rattle.json_text.specs.Json.{first_members, further, Number, Member, NoMember, first_member};
+ghost use Rattle.std.specs.Prelude.{◌≡◌, ◌++◌, OnOk};
+ghost use Rattle.json_text.specs.Json.{first_members, further, Number, Member, NoMember};
 ghost use Rattle.run_timeline.specs.Entries.{kind_name, numbers_of, of_task, slice};
 
 use crate::events::{add_comma, begin_arguments, begin_event, end_arguments};

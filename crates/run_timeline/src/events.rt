@@ -1,8 +1,8 @@
 // Events, each behind a comma.
 
-ghost use Rattle.std.specs.Prelude.{◌≡◌, ◌<◌, ◌≤◌, ◌^◌, ◌∷◌, ◌++◌, [], codes, OnOk, IfOk, string_bytes};
-ghost use Rattle.json_text.specs.Json.{json, further, Members, Number, Word, Member, NoMember, first_members, more_members};
-ghost use Rattle.run_timeline.specs.Events.{span, arrow_begins, arrow_ends, process, lane, end_time, middle_time};
+ghost use Rattle.std.specs.Prelude.{◌≡◌, ◌<◌, ◌∷◌, ◌++◌, [], codes, OnOk};
+ghost use Rattle.json_text.specs.Json.{json, further, NoMember};
+ghost use Rattle.run_timeline.specs.Events.{span, arrow_begins, arrow_ends, process, lane};
 ghost use Rattle.run_timeline.specs.Pieces.{head, span_head};
 
 use json_text::{first_word, more_number, more_word};

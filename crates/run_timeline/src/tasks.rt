@@ -1,12 +1,11 @@
 // What begins and ends with an entry.
 
-ghost use Rattle.std.specs.Prelude.{◌≡◌, ◌<◌, ◌≤◌, ◌^◌, ◌+◌, ◌-◌, ◌∷◌, ◌++◌, [], take, OnOk, IfOk, string_bytes, slice_get, length, codes, option_copied};
+ghost use Rattle.std.specs.Prelude.{◌≡◌, ◌<◌, ◌^◌, ◌+◌, ◌-◌, ◌∷◌, ◌++◌, [], take, OnOk, IfOk, string_bytes, slice_get, length, codes, option_copied};
 ghost use Rattle.std.specs.List.{flat_map};
-ghost use Rattle.json_text.specs.Json.{further, NoMember, more_members};
-ghost use Rattle.hh_model.specs.declared.data.Task.{Task as TaskText};
+ghost use Rattle.json_text.specs.Json.{further, more_members};
 ghost use Rattle.run_timeline.specs.Events.{arguments, two_numbers};
 ghost use Rattle.quoted_text.specs.Labels.{task_name};
-ghost use Rattle.run_timeline.specs.Entries.{task_begins, task_ends, number_of, fork_line, next_line, first_taken, taken, forked, joined, ended_by, ended, collection, marking, begins_and_ends, counter, counted, end_name, end_members, run_end, run_ended};
+ghost use Rattle.run_timeline.specs.Entries.{task_ends, number_of, fork_line, next_line, first_taken, taken, forked, joined, ended, begins_and_ends, counter, counted, end_members, run_end, run_ended};
 
 use crate::events::{
     add_comma, add_span, begin_arguments, begin_arrow, begin_event, begin_span, end_arguments,

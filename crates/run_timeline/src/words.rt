@@ -1,6 +1,6 @@
 // The words that are held, kept from entry to entry.
 
-ghost use Rattle.std.specs.Prelude.{◌≡◌, ◌+◌, ◌-◌, ◌<◌, false, IfSome};
+ghost use Rattle.std.specs.Prelude.{◌≡◌, ◌+◌, ◌-◌, false, IfSome};
 ghost use Rattle.run_report.specs.Totals.{cleared_words};
 ghost use Rattle.run_timeline.specs.Words.{objects_made, words_made, objects_by, words_by};
 

@@ -1,6 +1,6 @@
 // The pairs of a run that aren't in order.
 
-ghost use Rattle.std.specs.Prelude.{◌≡◌, ◌≢◌, ◌↔◌, None, IsTrue, OnOk, IfOk, IfErr};
+ghost use Rattle.std.specs.Prelude.{◌≡◌, ◌↔◌, None, IsTrue, OnOk, IfOk, IfErr};
 ghost use Rattle.run_ledger.specs.Journals.{first_refused, refused_as_run};
 ghost use Rattle.run_journal.specs.Replay.{ReplayFails};
 ghost use Rattle.schedule_report.specs.Schedules.{AreClashes, IsAnswer};

@@ -1,6 +1,6 @@
 // What is written of the pairs of a run, and of other schedules.
 
-ghost use Rattle.std.specs.Prelude.{◌≡◌, ◌++◌, IfOk, OnOk, string_bytes};
+ghost use Rattle.std.specs.Prelude.{◌≡◌, IfOk, string_bytes};
 ghost use Rattle.schedule_report.specs.Text.{unordered_line, prints_line, verdict_line, clashes_text};
 
 use crate::data::{Clashes, Verdict};

@@ -2,7 +2,6 @@
 
 ghost use Rattle.std.specs.Prelude.{◌≡◌, IfOk};
 ghost use Rattle.heap_image.specs.Text.{text_of};
-ghost use Rattle.heap_image.specs.Told.{IsFaultless};
 ghost use Rattle.heap_image.specs.Picture.{IsSoundPicture};
 ghost use Rattle.heap_image.specs.declared.picture.Picture.{Picture as PictureOf};
 ghost use Rattle.shared_image.specs.Drawn.{IsPictureOf};

@@ -6,7 +6,6 @@ ghost use Rattle.core_relation.specs.Marking.{GoesOn};
 ghost use Rattle.shared_value.specs.Entered.{refused, Enters};
 ghost use Rattle.shared_value.specs.Fits.{AllFit};
 ghost use Rattle.shared_value.specs.SharedValue.{accounts, value_of};
-ghost use Rattle.heap_marking.specs.MarkCauses.{words_cause};
 ghost use Rattle.shared_tree.specs.Calls.{BeginsMarking};
 
 use crate::shared::Shared;

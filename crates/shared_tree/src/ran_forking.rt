@@ -1,6 +1,6 @@
 // A part's steps are entered with a fork.
 
-ghost use Rattle.std.specs.Prelude.{◌≡◌, ◌<◌, ℕ, OnErr, IfErr, IfOk, None, Some};
+ghost use Rattle.std.specs.Prelude.{◌≡◌, ◌<◌, ℕ, OnErr, IfErr, IfOk, None};
 ghost use Rattle.hh_model.specs.Step.{depth_limit};
 ghost use Rattle.heap_tree.specs.Node.{depth_of};
 ghost use Rattle.shared_value.specs.Entered.{refused, RanAnswers};

@@ -1,6 +1,6 @@
 // The heap of a waiting task is swept.
 
-ghost use Rattle.std.specs.Prelude.{◌≡◌, ◌==◌, ◌<◌, None, Some};
+ghost use Rattle.std.specs.Prelude.{◌≡◌, ◌==◌, ◌<◌, None};
 ghost use Rattle.run_ledger.specs.Entries.{counted, refused_unless};
 ghost use Rattle.run_ledger.specs.Heaps.{heap_of, left_in, marked_in, sweep_number};
 ghost use Rattle.shared_value.specs.Entered.{refused, Enters};

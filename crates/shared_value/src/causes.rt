@@ -1,6 +1,6 @@
 // Why entries are refused, whatever they say.
 
-ghost use Rattle.std.specs.Prelude.{◌≡◌, ◌<◌};
+ghost use Rattle.std.specs.Prelude.{◌≡◌};
 ghost use Rattle.shared_value.specs.Causes.{first_cause};
 
 use run_ledger::{Refused, RunEnd};

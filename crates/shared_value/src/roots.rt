@@ -1,6 +1,6 @@
 // What the remembered fields of a heap hold.
 
-ghost use Rattle.std.specs.Prelude.{◌≡◌, IfOk, None, slice_get};
+ghost use Rattle.std.specs.Prelude.{◌≡◌, IfOk, slice_get};
 ghost use Rattle.remembered_set.specs.Moved.{targets_of, AreFields};
 ghost use Rattle.shared_value.specs.RestingHeaps.{refs_in};
 ghost use Rattle.shared_value.specs.Roots.{sources_of};

@@ -1,6 +1,6 @@
 // What goes with a task that no worker holds.
 
-ghost use Rattle.std.specs.Prelude.{◌≡◌, ◌<◌, None};
+ghost use Rattle.std.specs.Prelude.{◌≡◌, None};
 ghost use Rattle.task_frames.specs.FramesValue.{FramesValue};
 ghost use Rattle.shared_value.specs.Fits.{taken_part, IsAtWork};
 

@@ -1,5 +1,4 @@
 //! The rule of a deque between any two steps, and what each step tells.
-ghost use Rattle.steal_scheduler.specs.declared.view.View.{View};
 
 use crate::own_deque::OwnDeque;
 use crate::victim_deque::VictimDeque;

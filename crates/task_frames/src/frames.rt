@@ -1,6 +1,6 @@
 // A stack of frames, never empty and never more than 1,000 deep.
 
-ghost use Rattle.std.specs.Prelude.{◌≡◌, ◌+◌, ◌<◌, ◌≤◌, ◌↔◌, [], length, IfOk, OnOk, OnErr, Err, Some, slice_get};
+ghost use Rattle.std.specs.Prelude.{◌≡◌, ◌<◌, ◌≤◌, ◌↔◌, [], length, IfOk, OnOk, OnErr, Err, Some, slice_get};
 ghost use Rattle.task_frames.specs.FramesValue.{FramesValue, branched, depth_of, frames_of, reference_at, pushed, IsPopped, references_of, references_written, with_next, with_int, with_reference, with_reference_at};
 
 use object_layout::Addr;

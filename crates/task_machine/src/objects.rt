@@ -1,8 +1,7 @@
 // What an instruction on an object comes to: the task's own object is reached by one look-up of its chunk.
 
-ghost use Rattle.std.specs.Prelude.{◌≡◌, ◌<◌, ◌^◌, IfSome, Some};
-ghost use Rattle.object_layout.specs.Cell.{header_of, IsObject};
-ghost use Rattle.object_layout.specs.Chunks.{cell_of, object_of};
+ghost use Rattle.std.specs.Prelude.{◌≡◌, IfSome, Some};
+ghost use Rattle.object_layout.specs.Chunks.{cell_of};
 ghost use Rattle.object_layout.specs.Place.{cell_at};
 ghost use Rattle.task_machine.specs.Plan.{own_in, planned};
 ghost use Rattle.task_frames.specs.FramesValue.{ref_of};

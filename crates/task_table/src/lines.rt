@@ -1,7 +1,6 @@
 // The lines of the table.
 
-ghost use Rattle.std.specs.Prelude.{◌≡◌, ◌++◌, ◌∷◌, [], List, OnOk, option_copied, length, slice_get};
-ghost use Rattle.hh_model.specs.declared.data.Object.{Object as ObjectText};
+ghost use Rattle.std.specs.Prelude.{◌≡◌, ◌++◌, OnOk, slice_get};
 ghost use Rattle.hh_model.specs.Effect.{row_of};
 ghost use Rattle.task_table.specs.Lines.{field, number_field, maybe_field, signed_field, fork_fields, words_onto, status_word, end_word, place_fields, work_fields, memory_fields, task_line};
 

@@ -1,7 +1,7 @@
 // What an entry tells of tasks.
 
 ghost use Rattle.std.specs.Prelude.{◌≡◌, ◌<◌, ◌+◌, ◌^◌, ◌++◌, OnOk, Some, length, option_copied, slice_get};
-ghost use Rattle.task_table.specs.Rows.{name_in, function_name, half_begin, last_byte, loop_number, made_by, fork_of, fresh_row, first_of, entered, row_after, task_in, with_row, rows_after, children, rows_by};
+ghost use Rattle.task_table.specs.Rows.{function_name, half_begin, last_byte, loop_number, made_by, fork_of, fresh_row, first_of, entered, row_after, task_in, rows_after, children, rows_by};
 
 use crate::row::{Fork, Row};
 use hh_lang::{IntReg, Program};

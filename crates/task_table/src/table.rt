@@ -1,14 +1,14 @@
 // The table of the tasks of a run.
 
-ghost use Rattle.std.specs.Prelude.{◌≡◌, ◌<◌, ◌-◌, ◌+◌, ◌^◌, ◌++◌, ◌∷◌, [], None, false, length, slice_get, OnOk, IfOk, IfErr};
+ghost use Rattle.std.specs.Prelude.{◌≡◌, ◌++◌, ◌∷◌, [], None, false, slice_get, OnOk, IfOk, IfErr};
 ghost use Rattle.run_trace.specs.Settings.{AreLimits};
 ghost use Rattle.run_ledger.specs.Entries.{refusal, after};
 ghost use Rattle.run_ledger.specs.Journals.{opening, ledger_of, first_refused, refused_as_run};
 ghost use Rattle.run_accounts.specs.Accounts.{FailsFor};
 ghost use Rattle.run_journal.specs.Replay.{ReplayFails};
 ghost use Rattle.run_report.specs.Totals.{cleared_words};
-ghost use Rattle.task_table.specs.Rows.{fresh_row, rows_by, rows_with, rows_from};
-ghost use Rattle.task_table.specs.Table.{first_line, line_at, lines_from, rows_of, table};
+ghost use Rattle.task_table.specs.Rows.{fresh_row, rows_with, rows_from};
+ghost use Rattle.task_table.specs.Table.{first_line, line_at, lines_from, table};
 
 use crate::lines::add_line;
 use crate::row::Row;

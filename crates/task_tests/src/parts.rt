@@ -1,6 +1,6 @@
 // Programs from texts, the root's part of each, and what comes of its steps.
 
-ghost use Rattle.std.specs.Prelude.{◌≡◌, ◌<◌, ◌^◌, IfSome, None};
+ghost use Rattle.std.specs.Prelude.{◌≡◌, IfSome, None};
 ghost use Rattle.task_machine.specs.Ready.{FitsSome};
 
 use hh_lang::Program;

@@ -1,7 +1,5 @@
 // What instructions are read as: the line, the name and the operands, a register as its number.
 
-ghost use Rattle.std.specs.Prelude.{◌<◌};
-
 use hh_lang::{Fun, Instr, IntReg, Operator, Program, RefReg};
 use program_reader::read_program;
 use std::alloc::Global;

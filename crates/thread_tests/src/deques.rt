@@ -1,6 +1,5 @@
 // Hands that put, take back and steal.
-ghost use Rattle.std.specs.Prelude.{◌≡◌, ◌<◌, ◌≤◌, length};
-ghost use Rattle.steal_scheduler.specs.Hands.{thefts};
+ghost use Rattle.std.specs.Prelude.{◌<◌, ◌≤◌, length};
 
 use std::alloc::AllocError;
 use std::sync::Wait;

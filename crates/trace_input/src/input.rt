@@ -1,6 +1,6 @@
 // Reads an input of a program and a trace.
 
-ghost use Rattle.std.specs.Prelude.{◌≡◌, ◌≤◌, ◌+◌, length, IfOk, IfErr, Some, None};
+ghost use Rattle.std.specs.Prelude.{◌≡◌, ◌≤◌, ◌+◌, length, IfOk, IfErr, None};
 ghost use Rattle.text_lines.specs.Lines.{lines_of, most_bytes};
 ghost use Rattle.run_trace.specs.Trace.{AreTraceLines};
 ghost use Rattle.program_reader.specs.Program.{program_of};

@@ -1,6 +1,6 @@
 // The objects of the heaps of tasks that don't run, chunk by chunk.
 
-ghost use Rattle.std.specs.Prelude.{◌≡◌, ◌<◌, All, IfOk, IfSome, None, [], map};
+ghost use Rattle.std.specs.Prelude.{◌≡◌, All, IfOk, IfSome, None, [], map};
 ghost use Rattle.object_layout.specs.Cell.{moved_to};
 ghost use Rattle.shared_value.specs.Objects.{chunk_of};
 ghost use Rattle.heap_reading.specs.Image.{objects_of, shown, AreInWords};

@@ -1,6 +1,6 @@
 // Which tasks haven't joined, and which chunks are in use.
 
-ghost use Rattle.std.specs.Prelude.{◌≡◌, ◌<◌, IfOk, IfSome, None};
+ghost use Rattle.std.specs.Prelude.{◌≡◌, IfOk, IfSome, None};
 ghost use Rattle.hh_model.specs.Step.{owner_of};
 ghost use Rattle.chunk_pool.specs.PoolValue.{AreChunks};
 ghost use Rattle.shared_value.specs.SharedValue.{accounts};

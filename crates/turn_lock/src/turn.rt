@@ -1,5 +1,5 @@
 //! The turn: who takes it has the value, and gives it back unchanged or with one entry more.
-ghost use Rattle.std.specs.Prelude.{◌≡◌, ℕ, ◌+◌, ◌*◌, ◌^◌, ◌<◌, ◌≤◌, true, List, [], ◌∷◌, length, Option, Some, None, option_map, IfSome, IfOk};
+ghost use Rattle.std.specs.Prelude.{◌≡◌, ◌^◌, ◌<◌, ◌≤◌, [], length, Some, None, option_map, IfSome, IfOk};
 ghost use Rattle.turn_lock.specs.Seats.{with_looked, with_taken, with_given, view, SameWorker, Knows, IsSeatOf, HasTurn, HasNoTurn, Extends, IsAlike, AreNewSeats, AreAllSeats, IsLeftBy, HasOwnEntries, GaveOne, own_entries, opening_view};
 ghost use Rattle.std.specs.Mem.Slots.{slots_items, slots_len, IsFull};
 ghost use mathlib.Core.Option.{some};

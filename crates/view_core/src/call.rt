@@ -1,9 +1,8 @@
 // The whole call.
 
-ghost use Rattle.std.specs.Prelude.{◌≡◌, ◌⊎◌, map, option_map, Some, None, List, ℕ, IfOk, IfErr, string_bytes};
+ghost use Rattle.std.specs.Prelude.{◌≡◌, map, option_map, Some, None, List, ℕ, IfOk, IfErr, string_bytes};
 ghost use Rattle.text_lines.specs.Lines.{most_bytes};
 ghost use Rattle.outside_io.specs.Fault.{HasRisen};
-ghost use Rattle.outside_io.specs.Told.{with_more};
 ghost use Rattle.all_bytes.specs.Bytes.{input_of};
 ghost use Rattle.refusal_lines.specs.Refusals.{words_line};
 ghost use Rattle.view_line.specs.ViewLine.{Asked, asked_of, view_line};

@@ -1,6 +1,6 @@
 // Reads the words of a call.
 
-ghost use Rattle.std.specs.Prelude.{◌≡◌, ◌≢◌, ◌∷◌, IfOk, None, Option, codes, map, option_map, string_bytes};
+ghost use Rattle.std.specs.Prelude.{◌≡◌, ◌≢◌, ◌∷◌, IfOk, None, codes, map, option_map, string_bytes};
 ghost use Rattle.image_check.specs.Line.{short_number};
 ghost use Rattle.clap.specs.Words.{found_of, rows_of, first_of};
 ghost use Rattle.view_line.specs.ViewLine.{maybe_number, heaps_in, heaps_line, run_line, named_line, usage_line, view_line, run_of, asked_of};

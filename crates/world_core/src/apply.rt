@@ -1,6 +1,6 @@
 // The world makes an entry, whatever kind it is of.
 
-ghost use Rattle.std.specs.Prelude.{◌≡◌, ◌<◌, None, OnOk, false, length, true};
+ghost use Rattle.std.specs.Prelude.{◌≡◌, ◌<◌, None, false, length, true};
 ghost use Rattle.run_trace.specs.Entry.{IsKind};
 ghost use Rattle.shared_value.specs.Causes.{first_cause};
 ghost use Rattle.world_core.specs.Applied.{is_own, AnswersAll, MakesFor};

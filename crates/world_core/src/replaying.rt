@@ -1,6 +1,6 @@
 // A list of entries is replayed from the start.
 
-ghost use Rattle.std.specs.Prelude.{◌≡◌, IfErr, IfOk};
+ghost use Rattle.std.specs.Prelude.{IfErr, IfOk};
 ghost use Rattle.world_core.specs.Replay.{HasReplayed, IsStop};
 
 use crate::world::{NotApplied, World};

@@ -1,7 +1,7 @@
 // What a write changes in the sets of the heaps, of which there is one for each task.
 
-ghost use Rattle.std.specs.Prelude.{◌≡◌, ℕ, ◌<◌, OnErr, OnOk, IfSome, Some, true, length, option_map, slice_get};
-ghost use Rattle.write_barrier.specs.Stored.{content_at, content_of, with_kept, with_source, IsRoomy};
+ghost use Rattle.std.specs.Prelude.{◌≡◌, ℕ, ◌<◌, OnErr, OnOk, IfSome, length, option_map};
+ghost use Rattle.write_barrier.specs.Stored.{content_at, with_kept, with_source, IsRoomy};
 
 use crate::sets::SetOf;
 use object_layout::Addr;

@@ -1,6 +1,6 @@
 // What is noted for the collections of one heap, which takes no memory until there is something.
 
-ghost use Rattle.std.specs.Prelude.{◌≡◌, ◌<◌, ◌≤◌, ◌++◌, ◌∷◌, [], IfErr, IfNone, IfOk, None, OnErr, OnOk, false, fold, true};
+ghost use Rattle.std.specs.Prelude.{◌≡◌, ◌<◌, ◌≤◌, ◌++◌, ◌∷◌, [], IfErr, IfNone, IfOk, None, OnErr, OnOk, false, fold};
 ghost use Rattle.remembered_set.specs.Moved.{redirected, targets_of, AreFields, AreInOrder, ArePlaces};
 ghost use Rattle.remembered_set.specs.Sources.{noted as noted_with, notes_in, StandOnce};
 ghost use Rattle.write_barrier.specs.Held.{held_in};
