@@ -4,7 +4,7 @@ pub mod Names
 pub mod Step
 pub mod Tree
 pub mod PathLaw
-pub mod Action
+pub mod Found
 pub mod Machine
 pub mod Store
 pub mod Closed

@@ -7,6 +7,7 @@ use crate::data::Name;
 use hh_lang::Operator;
 
 /// What an operator gives, or none where it divides by 0.
+#[inline(always)]
 pub fn calculate(operator: Operator, x: i64, y: i64) -> Option<i64>
     ensures { result ≡ calculated operator x y }
 {
@@ -50,6 +51,7 @@ pub fn field_counts(limit: u32, refs: i64, ints: i64) -> Option<(usize, usize)>
 }
 
 /// A number as the index of one of so many fields.
+#[inline(always)]
 pub fn field_index(count: usize, index: i64) -> Option<usize>
     ensures { result ≡ place_in count index }
 {
@@ -61,6 +63,7 @@ pub fn field_index(count: usize, index: i64) -> Option<usize>
 }
 
 /// Whether both are nil, or the same object.
+#[inline(always)]
 pub fn is_same(left: Option<Name>, right: Option<Name>) -> bool
     ensures { result ≡ same_name left right }
 {

@@ -1,65 +1,200 @@
-// What a step changes.
+// What a step changes, once it is known what its registers name.
 
-ghost use Rattle.std.specs.Prelude.{◌≡◌, ◌<◌, ◌+◌, ◌^◌, ◌++◌, ◌∷◌, [], length, slice_get, slice_set, IfSome, OnOk, OnErr};
-ghost use Rattle.hh_model.specs.Effect.{onward};
-ghost use Rattle.hh_model.specs.Action.{meaning, IsReady};
-ghost use Rattle.hh_model.specs.Machine.{IsSound};
-ghost use Rattle.hh_model.specs.Step.{ended_by, follow, setting};
+ghost use Rattle.std.specs.Prelude.{◌≡◌, ◌<◌, ◌+◌, ◌^◌, ℕ, length, pos, true, false, replicate, slice_get, slice_set, IfOk, IfSome, IsSome, IsSomeAnd, None, OnOk, OnErr};
+ghost use Rattle.hh_model.specs.Effect.{int_in, made, object_at, onward, or_trap, put_object, read_effect, ref_in, row_of, with_int, Goes};
+ghost use Rattle.hh_model.specs.Found.{or_trapped, swap_effect};
+ghost use Rattle.hh_model.specs.PathLaw.{PathIsPrecedenceIn};
+ghost use Rattle.hh_model.specs.Step.{ended_by, follow, is_running, setting, strand_of};
+ghost use Rattle.hh_model.specs.declared.data.Trap.TheVariants.{Nil};
 
-use crate::action::Action;
-use crate::data::{End, State, Trap};
+use crate::arithmetic::is_same;
+use crate::data::{End, Name, State, Trap};
+use hh_lang::{IntReg, RefReg};
 use std::alloc::{AllocError, Global};
 
 impl State {
-    /// Does what was decided for a task.
-    pub(crate) fn apply(
+    /// A number register gets what was found, or the task is trapped.
+    #[inline(always)]
+    pub(crate) fn set_found(&mut self, t: u32, line: u32, target: IntReg, found: Result<i64, Trap>)
+        requires made { t < length self.old.tasks }
+        requires next { IfSome (slice_get self.old.tasks t) (λ x. x.top.next + 1 < 2 ^ 32) }
+        ensures { IfSome (slice_get self.old.tasks t) (λ x. self.new ≡ follow self.old t x line (or_trapped found (λ v. Goes (onward (with_int x.top target v)) self.old.store))) }
+    {
+        match found {
+            Ok(value) => self.set_int(t, target, value),
+            Err(trap) => self.finish(End::Trapped(trap, t, line)),
+        }
+    }
+
+    /// A reference register gets what a field holds. A running task is stopped exactly where the owner of what it would
+    /// read isn't on its path, since that is precedence.
+    #[inline(always)]
+    fn set_read(&mut self, t: u32, line: u32, target: RefReg, read: Option<Name>)
+        requires made { t < length self.old.tasks }
+        requires running { is_running (slice_get self.old.tasks t) ≡ true }
+        requires path { PathIsPrecedenceIn self.old }
+        requires next { IfSome (slice_get self.old.tasks t) (λ x. x.top.next + 1 < 2 ^ 32) }
+        ensures { IfSome (slice_get self.old.tasks t) (λ x. self.new ≡ follow self.old t x line (read_effect (setting self.old t x) x.top self.old.store target read)) }
+    {
+        let Some(name) = read else {
+            self.set_reference(t, target, None);
+            return;
+        };
+        if self.object(name).is_none() {
+            self.finish(End::Trapped(Trap::Nil, t, line));
+            return;
+        }
+        let owner = self.owner(name.task);
+        if self.is_on_path(owner, t) {
+            self.set_reference(t, target, Some(name));
+        } else {
+            self.finish(End::Entangled(t, owner));
+        }
+    }
+
+    /// A reference register gets what was found to be read, or the task is trapped or stopped.
+    #[inline(always)]
+    pub(crate) fn read_found(
+        &mut self,
+        t: u32,
+        line: u32,
+        target: RefReg,
+        found: Result<Option<Name>, Trap>,
+    )
+        requires made { t < length self.old.tasks }
+        requires running { is_running (slice_get self.old.tasks t) ≡ true }
+        requires path { PathIsPrecedenceIn self.old }
+        requires next { IfSome (slice_get self.old.tasks t) (λ x. x.top.next + 1 < 2 ^ 32) }
+        ensures { IfSome (slice_get self.old.tasks t) (λ x. self.new ≡ follow self.old t x line (or_trapped found (read_effect (setting self.old t x) x.top self.old.store target))) }
+    {
+        match found {
+            Ok(read) => self.set_read(t, line, target, read),
+            Err(trap) => self.finish(End::Trapped(trap, t, line)),
+        }
+    }
+
+    /// A number field gets what a register holds, or the task is trapped.
+    #[inline(always)]
+    pub(crate) fn put_int_found(
+        &mut self,
+        t: u32,
+        line: u32,
+        found: Result<(Name, usize), Trap>,
+        value: IntReg,
+    )
+        requires made { t < length self.old.tasks }
+        requires next { IfSome (slice_get self.old.tasks t) (λ x. x.top.next + 1 < 2 ^ 32) }
+        requires there { IfOk found (λ p. IsSomeAnd (object_at self.old.store p.0) (λ o. p.1 < length o.ints)) }
+        ensures { IfSome (slice_get self.old.tasks t) (λ x. self.new ≡ follow self.old t x line (or_trapped found (λ p. or_trap Nil (object_at self.old.store p.0) (λ o. Goes (onward x.top) (put_object self.old.store p.0 (record o { ints = slice_set o.ints p.1 (int_in x.top value) })))))) }
+    {
+        match found {
+            Ok((name, at)) => self.write_int(t, name, at, value),
+            Err(trap) => self.finish(End::Trapped(trap, t, line)),
+        }
+    }
+
+    /// A reference field gets what a register holds, or the task is trapped.
+    #[inline(always)]
+    pub(crate) fn put_reference_found(
+        &mut self,
+        t: u32,
+        line: u32,
+        found: Result<(Name, usize), Trap>,
+        value: RefReg,
+    )
+        requires made { t < length self.old.tasks }
+        requires next { IfSome (slice_get self.old.tasks t) (λ x. x.top.next + 1 < 2 ^ 32) }
+        requires there { IfOk found (λ p. IsSomeAnd (object_at self.old.store p.0) (λ o. p.1 < length o.refs)) }
+        ensures { IfSome (slice_get self.old.tasks t) (λ x. self.new ≡ follow self.old t x line (or_trapped found (λ p. or_trap Nil (object_at self.old.store p.0) (λ o. Goes (onward x.top) (put_object self.old.store p.0 (record o { refs = slice_set o.refs p.1 (ref_in x.top value) })))))) }
+    {
+        match found {
+            Ok((name, at)) => self.write_reference(t, name, at, value),
+            Err(trap) => self.finish(End::Trapped(trap, t, line)),
+        }
+    }
+
+    /// A compare and swap at a place that may be written.
+    fn swap_at(
+        &mut self,
+        t: u32,
+        target: IntReg,
+        name: Name,
+        at: usize,
+        expected: RefReg,
+        value: RefReg,
+    )
+        requires made { t < length self.old.tasks }
+        requires next { IfSome (slice_get self.old.tasks t) (λ x. x.top.next + 1 < 2 ^ 32) }
+        requires there { IsSomeAnd (object_at self.old.store name) (λ o. at < length o.refs) }
+        ensures { (line : ℕ) → IfSome (slice_get self.old.tasks t) (λ x. self.new ≡ follow self.old t x line (or_trap Nil (object_at self.old.store name) (swap_effect x.top self.old.store target expected value (name, at)))) }
+    {
+        let top = &self.tasks.at(t as usize).top;
+        let object = self.store.at(name.task as usize).at(name.count as usize);
+        if is_same(*object.refs.at(at), top.reference(expected)) {
+            self.swap(t, target, name, at, value);
+        } else {
+            self.set_int(t, target, 0);
+        }
+    }
+
+    /// A compare and swap at the place that was found, or the task is trapped.
+    pub(crate) fn swap_found(
+        &mut self,
+        t: u32,
+        line: u32,
+        target: IntReg,
+        found: Result<(Name, usize), Trap>,
+        expected: RefReg,
+        value: RefReg,
+    )
+        requires made { t < length self.old.tasks }
+        requires next { IfSome (slice_get self.old.tasks t) (λ x. x.top.next + 1 < 2 ^ 32) }
+        requires there { IfOk found (λ p. IsSomeAnd (object_at self.old.store p.0) (λ o. p.1 < length o.refs)) }
+        ensures { IfSome (slice_get self.old.tasks t) (λ x. self.new ≡ follow self.old t x line (or_trapped found (λ p. or_trap Nil (object_at self.old.store p.0) (swap_effect x.top self.old.store target expected value p)))) }
+    {
+        match found {
+            Ok((name, at)) => self.swap_at(t, target, name, at, expected, value),
+            Err(trap) => self.finish(End::Trapped(trap, t, line)),
+        }
+    }
+
+    /// What was found becomes immutable, or the task is trapped.
+    pub(crate) fn freeze_found(&mut self, t: u32, line: u32, found: Result<Name, Trap>)
+        requires made { t < length self.old.tasks }
+        requires next { IfSome (slice_get self.old.tasks t) (λ x. x.top.next + 1 < 2 ^ 32) }
+        requires there { IfOk found (λ n. IsSome (object_at self.old.store n)) }
+        ensures { IfSome (slice_get self.old.tasks t) (λ x. self.new ≡ follow self.old t x line (or_trapped found (λ n. or_trap Nil (object_at self.old.store n) (λ o. Goes (onward x.top) (put_object self.old.store n (record o { mutable = false })))))) }
+    {
+        match found {
+            Ok(name) => self.freeze(t, name),
+            Err(trap) => self.finish(End::Trapped(trap, t, line)),
+        }
+    }
+
+    /// A register names a new mutable object of so many fields, or the task is trapped.
+    #[inline(always)]
+    pub(crate) fn make_found(
         &mut self,
         alloc: Global,
         t: u32,
         line: u32,
-        action: &Action,
+        target: RefReg,
+        found: Result<(usize, usize), Trap>,
     ) -> Result<(), AllocError>
         requires made { t < length self.old.tasks }
-        requires sound { IsSound self.old }
+        requires rows { length self.old.store ≡ length self.old.tasks }
+        requires count { length (row_of (slice_get self.old.store t)) < 2 ^ 32 }
         requires next { IfSome (slice_get self.old.tasks t) (λ x. x.top.next + 1 < 2 ^ 32) }
-        requires ready { IsReady self.old.store action.now }
-        ensures ok { OnOk result (IfSome (slice_get self.old.tasks t) (λ x. self.new ≡ follow self.old t x line (meaning (setting self.old t x) x.top self.old.store action.now))) }
+        ensures ok { OnOk result (IfSome (slice_get self.old.tasks t) (λ x. self.new ≡ follow self.old t x line (or_trapped found (λ n. made (setting self.old t x) x.top self.old.store target (record { strand = strand_of t x; mutable = true; refs = replicate n.0 None; ints = replicate n.1 (pos 0) }))))) }
         ensures err { OnErr result (self.new ≡ self.old) }
     {
-        match action {
-            Action::SetInt(target, value) => self.set_int(t, *target, *value),
-            Action::SetReference(target, value) => self.set_reference(t, *target, *value),
-            Action::Jump(to) => self.jump(t, *to),
-            Action::New(target, refs, ints) => return self.make_mutable(
-                alloc, t, *target, *refs, *ints,
-            ),
-            Action::Pack(target, refs, ints) => return self.make_immutable(
-                alloc, t, *target, *refs, *ints,
-            ),
-            Action::WriteReference(name, at, value) => self.write_reference(t, *name, *at, *value),
-            Action::WriteInt(name, at, value) => self.write_int(t, *name, *at, *value),
-            Action::Swap(target, name, at, value) => self.swap(t, *target, *name, *at, *value),
-            Action::Freeze(name) => self.freeze(t, *name),
-            Action::Print(value) => return self.print(t, *value),
-            Action::Call(function) => return self.call(t, *function, line),
-            Action::Fork(left, right) => return self.fork(alloc, t, *left, *right, line),
-            Action::Return => return self.return_frame(t),
-            Action::Trap(trap) => self.finish(End::Trapped(*trap, t, line)),
-            Action::Stop(name) => self.finish(End::Entangled(t, self.owner(name.task))),
+        match found {
+            Ok((refs, ints)) => self.make_mutable(alloc, t, target, refs, ints),
+            Err(trap) => {
+                self.finish(End::Trapped(trap, t, line));
+                Ok(())
+            }
         }
-        Ok(())
-    }
-
-    /// A task adds an output.
-    fn print(&mut self, t: u32, value: i64) -> Result<(), AllocError>
-        requires made { t < length self.old.tasks }
-        requires next { IfSome (slice_get self.old.tasks t) (λ x. x.top.next + 1 < 2 ^ 32) }
-        ensures ok { OnOk result (IfSome (slice_get self.old.tasks t) (λ x. self.new ≡ record self.old { tasks = slice_set self.old.tasks t (record x { top = onward x.top }); outputs = self.old.outputs ++ value ∷ [] })) }
-        ensures err { OnErr result (self.new ≡ self.old) }
-    {
-        self.outputs.push(value)?;
-        self.advance(t);
-        Ok(())
     }
 
     /// Ends the machine.

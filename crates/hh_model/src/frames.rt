@@ -23,6 +23,7 @@ impl State {
     }
 
     /// A task goes on with the next instruction.
+    #[inline(always)]
     pub(crate) fn advance(&mut self, t: u32)
         requires made { t < length self.old.tasks }
         requires next { IfSome (slice_get self.old.tasks t) (λ x. x.top.next + 1 < 2 ^ 32) }
@@ -32,6 +33,7 @@ impl State {
     }
 
     /// A number register of a task gets a value.
+    #[inline(always)]
     pub(crate) fn set_int(&mut self, t: u32, target: IntReg, value: i64)
         requires made { t < length self.old.tasks }
         requires next { IfSome (slice_get self.old.tasks t) (λ x. x.top.next + 1 < 2 ^ 32) }
@@ -43,6 +45,7 @@ impl State {
     }
 
     /// A reference register of a task gets a value.
+    #[inline(always)]
     pub(crate) fn set_reference(&mut self, t: u32, target: RefReg, value: Option<Name>)
         requires made { t < length self.old.tasks }
         requires next { IfSome (slice_get self.old.tasks t) (λ x. x.top.next + 1 < 2 ^ 32) }
@@ -54,6 +57,7 @@ impl State {
     }
 
     /// A task goes on at a place of its function.
+    #[inline(always)]
     pub(crate) fn jump(&mut self, t: u32, to: u32)
         requires { t < length self.old.tasks }
         ensures { IfSome (slice_get self.old.tasks t) (λ x. self.new ≡ with_task self.old t (record x { top = record x.top { next = to } })) }
@@ -62,6 +66,7 @@ impl State {
     }
 
     /// A number register of a task gets what another one holds.
+    #[inline(always)]
     pub(crate) fn copy_int(&mut self, t: u32, target: IntReg, source: IntReg)
         requires made { t < length self.old.tasks }
         requires next { IfSome (slice_get self.old.tasks t) (λ x. x.top.next + 1 < 2 ^ 32) }
@@ -73,6 +78,7 @@ impl State {
     }
 
     /// A reference register of a task gets what another one holds.
+    #[inline(always)]
     pub(crate) fn copy_reference(&mut self, t: u32, target: RefReg, source: RefReg)
         requires made { t < length self.old.tasks }
         requires next { IfSome (slice_get self.old.tasks t) (λ x. x.top.next + 1 < 2 ^ 32) }

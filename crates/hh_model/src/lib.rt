@@ -2,12 +2,12 @@
 // What holds of its runs is told by the laws of `path_laws` and `model_laws`.
 #![tactic(auto)]
 
-mod action;
 mod arithmetic;
 mod change;
 mod data;
-mod decide;
+mod fields;
 mod fork;
+mod found;
 mod frame;
 mod frames;
 mod lookup;

@@ -9,6 +9,7 @@ use hh_lang::Program;
 
 impl State {
     /// Whether the task runs and the machine hasn't ended.
+    #[inline(always)]
     pub fn can_step(&self, t: u32) -> bool
         ensures { result ≡ can_step self.now t }
     {
@@ -22,6 +23,7 @@ impl State {
     }
 
     /// The object of a name.
+    #[inline(always)]
     pub fn object(&self, name: Name) -> Option<&Object>
         ensures { option_copied result ≡ object_at self.now.store name }
     {
@@ -55,6 +57,7 @@ impl State {
         }
     }
 
+    #[inline(always)]
     fn parent(&self, t: u32) -> Option<u32>
         ensures { result ≡ parents self.now.tasks t }
     {
@@ -64,6 +67,7 @@ impl State {
         }
     }
 
+    #[inline(always)]
     fn has_joined(&self, t: u32) -> bool
         ensures { result ≡ joined self.now.tasks t }
     {

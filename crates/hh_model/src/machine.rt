@@ -59,6 +59,7 @@ impl<'p> Machine<'p> {
     }
 
     /// One step of a task.
+    #[inline(always)]
     pub fn step(&mut self, t: u32) -> Result<(), StepError>
         requires { self.old.steps < 2 ^ 30 }
         ensures ok { OnOk result (self.new ≡ advanced self.old t) }

@@ -1,18 +1,17 @@
 // Changes of the store: each function takes all its memory before its first change.
 
-ghost use Rattle.std.specs.Prelude.{◌≡◌, ◌<◌, ◌+◌, ◌^◌, ◌++◌, ◌∷◌, [], length, slice_get, slice_set, IfSome, IsSomeAnd, IsSome, OnOk, OnErr, IfOk, replicate, take, pos, None, false};
-ghost use Rattle.hh_model.specs.Effect.{object_at, put_object, row_of, made, onward, with_int};
-ghost use Rattle.hh_model.specs.Action.{meaning};
-ghost use Rattle.hh_model.specs.Step.{follow, setting};
+ghost use Rattle.std.specs.Prelude.{◌≡◌, ◌<◌, ◌+◌, ◌^◌, ◌++◌, ◌∷◌, [], length, slice_get, slice_set, IfSome, IsSomeAnd, IsSome, OnOk, OnErr, IfOk, replicate, take, pos, None, false, true};
+ghost use Rattle.hh_model.specs.Effect.{effect, int_in, object_at, put_object, ref_in, row_of, made, onward, with_int};
+ghost use Rattle.hh_model.specs.Step.{follow, setting, strand_of};
 
-use crate::action::Action;
 use crate::data::{Frame, Name, Object, State};
-use hh_lang::{FieldCount, IntReg, RefReg};
+use hh_lang::{FieldCount, Instr, IntReg, RefReg};
 use listed::Listed;
 use std::alloc::{AllocError, Global};
 
 impl State {
     /// Writes a reference field of an object.
+    #[inline(always)]
     fn set_field(&mut self, name: Name, at: usize, value: Option<Name>)
         requires { IsSomeAnd (object_at self.old.store name) (λ x. at < length x.refs) }
         ensures { IfSome (object_at self.old.store name) (λ x. self.new ≡ record self.old { store = put_object self.old.store name (record x { refs = slice_set x.refs at value }) }) }
@@ -22,42 +21,40 @@ impl State {
         object.refs.set(at, value);
     }
 
-    /// A task writes a reference field of an object.
-    pub(crate) fn write_reference(&mut self, t: u32, name: Name, at: usize, value: Option<Name>)
+    /// A task writes what a register holds into a reference field of an object.
+    #[inline(always)]
+    pub(crate) fn write_reference(&mut self, t: u32, name: Name, at: usize, value: RefReg)
         requires made { t < length self.old.tasks }
         requires next { IfSome (slice_get self.old.tasks t) (λ x. x.top.next + 1 < 2 ^ 32) }
         requires field { IsSomeAnd (object_at self.old.store name) (λ o. at < length o.refs) }
-        ensures { IfSome (slice_get self.old.tasks t) (λ x. IfSome (object_at self.old.store name) (λ o. self.new ≡ record self.old { tasks = slice_set self.old.tasks t (record x { top = onward x.top }); store = put_object self.old.store name (record o { refs = slice_set o.refs at value }) })) }
+        ensures { IfSome (slice_get self.old.tasks t) (λ x. IfSome (object_at self.old.store name) (λ o. self.new ≡ record self.old { tasks = slice_set self.old.tasks t (record x { top = onward x.top }); store = put_object self.old.store name (record o { refs = slice_set o.refs at (ref_in x.top value) }) })) }
     {
+        let value = self.tasks.at(t as usize).top.reference(value);
         self.set_field(name, at, value);
         self.advance(t);
     }
 
-    /// A task writes a reference field of an object, and 1 into a number register.
-    pub(crate) fn swap(
-        &mut self,
-        t: u32,
-        target: IntReg,
-        name: Name,
-        at: usize,
-        value: Option<Name>,
-    )
+    /// A task writes what a register holds into a reference field of an object, and 1 into a number register.
+    pub(crate) fn swap(&mut self, t: u32, target: IntReg, name: Name, at: usize, value: RefReg)
         requires made { t < length self.old.tasks }
         requires next { IfSome (slice_get self.old.tasks t) (λ x. x.top.next + 1 < 2 ^ 32) }
         requires field { IsSomeAnd (object_at self.old.store name) (λ o. at < length o.refs) }
-        ensures { IfSome (slice_get self.old.tasks t) (λ x. IfSome (object_at self.old.store name) (λ o. self.new ≡ record self.old { tasks = slice_set self.old.tasks t (record x { top = onward (with_int x.top target (pos 1)) }); store = put_object self.old.store name (record o { refs = slice_set o.refs at value }) })) }
+        ensures { IfSome (slice_get self.old.tasks t) (λ x. IfSome (object_at self.old.store name) (λ o. self.new ≡ record self.old { tasks = slice_set self.old.tasks t (record x { top = onward (with_int x.top target (pos 1)) }); store = put_object self.old.store name (record o { refs = slice_set o.refs at (ref_in x.top value) }) })) }
     {
+        let value = self.tasks.at(t as usize).top.reference(value);
         self.set_field(name, at, value);
         self.set_int(t, target, 1);
     }
 
-    /// A task writes a number field of an object.
-    pub(crate) fn write_int(&mut self, t: u32, name: Name, at: usize, value: i64)
+    /// A task writes what a register holds into a number field of an object.
+    #[inline(always)]
+    pub(crate) fn write_int(&mut self, t: u32, name: Name, at: usize, value: IntReg)
         requires made { t < length self.old.tasks }
         requires next { IfSome (slice_get self.old.tasks t) (λ x. x.top.next + 1 < 2 ^ 32) }
         requires field { IsSomeAnd (object_at self.old.store name) (λ o. at < length o.ints) }
-        ensures { IfSome (slice_get self.old.tasks t) (λ x. IfSome (object_at self.old.store name) (λ o. self.new ≡ record self.old { tasks = slice_set self.old.tasks t (record x { top = onward x.top }); store = put_object self.old.store name (record o { ints = slice_set o.ints at value }) })) }
+        ensures { IfSome (slice_get self.old.tasks t) (λ x. IfSome (object_at self.old.store name) (λ o. self.new ≡ record self.old { tasks = slice_set self.old.tasks t (record x { top = onward x.top }); store = put_object self.old.store name (record o { ints = slice_set o.ints at (int_in x.top value) }) })) }
     {
+        let value = self.tasks.at(t as usize).top.int(value);
         let row = self.store.at_mut(name.task as usize);
         let object = row.at_mut(name.count as usize);
         object.ints.set(at, value);
@@ -118,7 +115,7 @@ impl State {
         requires rows { length self.old.store ≡ length self.old.tasks }
         requires count { length (row_of (slice_get self.old.store t)) < 2 ^ 32 }
         requires next { IfSome (slice_get self.old.tasks t) (λ x. x.top.next + 1 < 2 ^ 32) }
-        ensures ok { OnOk result (IfSome (slice_get self.old.tasks t) (λ x. self.new ≡ follow self.old t x 0 (meaning (setting self.old t x) x.top self.old.store (Action.New target refs ints)))) }
+        ensures ok { OnOk result (IfSome (slice_get self.old.tasks t) (λ x. self.new ≡ follow self.old t x 0 (made (setting self.old t x) x.top self.old.store target (record { strand = strand_of t x; mutable = true; refs = replicate refs None; ints = replicate ints (pos 0) })))) }
         ensures err { OnErr result (self.new ≡ self.old) }
     {
         let object = Object {
@@ -143,7 +140,7 @@ impl State {
         requires rows { length self.old.store ≡ length self.old.tasks }
         requires count { length (row_of (slice_get self.old.store t)) < 2 ^ 32 }
         requires next { IfSome (slice_get self.old.tasks t) (λ x. x.top.next + 1 < 2 ^ 32) }
-        ensures ok { OnOk result (IfSome (slice_get self.old.tasks t) (λ x. self.new ≡ follow self.old t x 0 (meaning (setting self.old t x) x.top self.old.store (Action.Pack target refs ints)))) }
+        ensures ok { OnOk result (IfSome (slice_get self.old.tasks t) (λ x. self.new ≡ follow self.old t x 0 (effect (setting self.old t x) x.top self.old.store (Instr.Pack target refs ints)))) }
         ensures err { OnErr result (self.new ≡ self.old) }
     {
         let top = &self.tasks.at(t as usize).top;
