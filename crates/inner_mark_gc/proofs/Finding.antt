@@ -8,6 +8,7 @@ use Rattle.std.specs.List.{IsDistinct}
 use Rattle.std.proofs.lemmas.Option.{slice_get-get_or}
 use Rattle.object_layout.specs.Chunks.{place_in, place_of, same_address}
 use Rattle.object_layout.proofs.ChunkLaws as laws
+use Rattle.object_layout.proofs.Distinct.{distinct_from}
 use Rattle.object_layout.specs.declared.word.Addr.{Addr}
 use Rattle.object_layout.specs.ChunkValue.{ChunkValue}
 use Rattle.object_layout.specs.Graph.{IsHeld, IsSound}
@@ -20,6 +21,18 @@ use Rattle.inner_mark_gc.proofs.Counting.{found_within}
 
 pub found_few : (h : List ChunkValue) (m : MarkingValue) → HasRoom h m → length m.found ≤ object_count h
 found_few h m r = found_within h m.found r.once (λ a i. r.each a (contains_from_in m.found a i))
+
+-- nothing is found yet
+pub room_at_first : (h : List ChunkValue) (m : MarkingValue) → m.found ≡ [] → object_count h < m.slots → object_count h < m.spare → length h ≤ m.places → HasRoom h m
+room_at_first h m none slots spare places =
+    let zero_long : length m.found ≡ 0 = ap (λ (xs : List Addr). length xs) none in
+    record {
+      each = λ a i. absurd (in_from_contains [] a (subst (λ (xs : List Addr). Contains xs a) none i));
+      once = subst (IsDistinct same_address) (sym none) (distinct_from [] tt);
+      slots = omega arith;
+      spare = omega arith;
+      places = places;
+    }
 
 pub has_slot : (h : List ChunkValue) (m : MarkingValue) → HasRoom h m → 0 < m.slots
 has_slot h m r =

@@ -46,7 +46,8 @@ impl Marking {
         units
     }
 
-    /// The same, and keeps the room of the marking for the next, as `into_room` does.
+    /// The same, and keeps the room of the marking for the next, as `into_room` does. Its list for the chunks that are
+    /// left is the heap's from then on.
     pub fn sweep_keeping(mut self, heap: &mut LeafHeap, pool: &mut Pool) -> (u32, MarkingRoom)
         requires done { IsDone self }
         requires room { HasRoom heap.old.chunks self }

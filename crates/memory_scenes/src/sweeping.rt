@@ -1,6 +1,6 @@
 // Markings and sweeps of heaps that were checked.
 
-ghost use Rattle.std.specs.Prelude.{All, IfOk, IfSome, IsSome, IsTrue};
+ghost use Rattle.std.specs.Prelude.{All, IfSome, IsSome, IsTrue};
 ghost use Rattle.chunk_pool.specs.PoolValue.{slot_at};
 ghost use Rattle.inner_mark_gc.specs.Snapshot.{IsClosed, IsHeld};
 ghost use Rattle.inner_mark_gc.specs.MarkingValue.{HasRoom, IsDone, IsOf};
@@ -11,7 +11,7 @@ use alloc_path::LeafHeap;
 use chunk_pool::Pool;
 use inner_mark_gc::{Marking, MarkingRoom};
 use object_layout::{Addr, Chunk};
-use std::alloc::{AllocError, Global};
+use std::alloc::Global;
 
 // Whether all references within the heap lead to objects.
 fn is_closed(heap: &LeafHeap) -> bool
@@ -76,21 +76,13 @@ fn mark_all(marking: &mut Marking, heap: &LeafHeap, kept: &[Addr], step: u32) ->
 
 // Goes on with a marking that was begun, so many objects at a time, until nothing is left to mark, and says how many
 // calls marked that many.
-fn marked(
-    begun: Result<Marking, AllocError>,
-    heap: &LeafHeap,
-    kept: &[Addr],
-    step: u32,
-) -> Option<(u32, Marking)>
+fn marked(mut marking: Marking, heap: &LeafHeap, kept: &[Addr], step: u32) -> Option<(u32, Marking)>
     requires closed { IsClosed heap.now.chunks }
     requires kept { All (IsHeld heap.now.chunks) kept.now }
-    requires own { IfOk begun (λ m. IsOf heap.now.chunks kept.now m) }
+    requires own { IsOf heap.now.chunks kept.now marking }
     ensures own { IfSome result (λ r. IsOf heap.now.chunks kept.now r.1) }
     ensures done { IfSome result (λ r. IsDone r.1) }
 {
-    let Ok(mut marking) = begun else {
-        return None;
-    };
     let calls = mark_all(&mut marking, heap, kept, step);
     if marking.ready(kept) {
         Some((calls, marking))
@@ -138,7 +130,9 @@ pub fn mark_and_sweep(
     let Some(mut pool) = pool_of(alloc, heap.chunks()) else {
         return None;
     };
-    let begun = Marking::begin(alloc, heap, roots);
+    let Ok(begun) = Marking::begin(alloc, heap, roots) else {
+        return None;
+    };
     match marked(begun, heap, kept, step) {
         Some((calls, marking)) => match sweep(heap, &mut pool, marking) {
             Some((given, in_use)) => Some((calls, given, in_use)),
@@ -162,7 +156,9 @@ fn mark_and_sweep_in(
     let Some(mut pool) = pool_of(alloc, heap.chunks()) else {
         return None;
     };
-    let begun = Marking::begin_in(room, heap, roots);
+    let Ok(begun) = Marking::begin_in(room, heap, roots) else {
+        return None;
+    };
     match marked(begun, heap, &[], 64) {
         Some((_, marking)) => {
             let objects = marking.marked();

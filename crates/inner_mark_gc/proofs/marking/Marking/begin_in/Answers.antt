@@ -1,6 +1,34 @@
-use Rattle.std.proofs.Common.{◌∙◌}
+use Rattle.std.proofs.Common.{◌≡◌, ◌∙◌, ◌<◌, ◌≤◌, [], List, ap, arith, rules, sym}
+use Rattle.object_layout.specs.declared.word.Addr.{Addr}
+use Rattle.inner_mark_gc.specs.MarkingValue.{has_address}
+use Rattle.inner_mark_gc.proofs.Finding as finding
 use Rattle.inner_mark_gc.proofs.Marked as marked
 use Rattle.inner_mark_gc.proofs.marking.Marking.begin_in.Goals as goal
+
+pub invariant_of-marking : goal.invariant_of-marking
+invariant_of-marking c = λ a. c.reserve-2.ensures.keys.2 a ∙ (c.room.invariant.1 a ∙ ap (λ (xs : List Addr). has_address xs a) (sym (c.reserve.ensures.items ∙ c.room.invariant.0)))
+
+pub visit_all-requires : goal.visit_all-requires
+visit_all-requires c = record {
+  room = (
+    c.args.heap.now.chunks,
+    c.requires,
+    finding.room_at_first c.args.heap.now.chunks _ (c.reserve.ensures.items ∙ c.room.invariant.0) (search rules) (search rules) (search rules),
+  );
+}
+
+pub returns-clause-own : goal.returns-clause-own
+returns-clause-own c = λ kept.
+    let finds = c.visit_all.ensures.finds in
+    let marked_none = finds.marked in
+    let followed_none = finds.followed in
+    record {
+      room =
+          c.visit_all.ensures.room c.args.heap.now.chunks c.requires
+          (finding.room_at_first c.args.heap.now.chunks _ (c.reserve.ensures.items ∙ c.room.invariant.0) (search rules) (search rules) (search rules));
+      marked = omega arith;
+      followed = omega arith;
+    }
 
 pub returns-clause-marking : goal.returns-clause-marking
 returns-clause-marking c =
