@@ -105,7 +105,7 @@ impl Source for MemSource {
 
     ghost faults = { λ s. s.faults };
 
-    fn find(&mut self, name: &str) -> Result<(), Failed>
+    fn find(&mut self, _name: &str) -> Result<(), Failed>
         ensures found { OnOk result (Some self.new.left ≡ Some self.old.named) }
         ensures failed { OnErr result (HasRisen self.old.faults self.new.faults) }
         ensures kept { OnErr result (Some self.new.left ≡ Some self.old.left) }
@@ -115,7 +115,6 @@ impl Source for MemSource {
         ensures counted { self.new.calls ≡ raised_by self.old.calls 1 }
         ensures settings { (self.new.most ≡ self.old.most) × (self.new.failing ≡ self.old.failing) }
     {
-        let _ = name;
         self.calls = one_more(self.calls);
         if self.failing.contains(&self.calls) {
             self.faults = one_more(self.faults);

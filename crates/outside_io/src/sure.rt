@@ -68,7 +68,7 @@ impl Source for SureSource {
 
     ghost faults = { λ _. 0 };
 
-    fn find(&mut self, name: &str) -> Result<(), Failed>
+    fn find(&mut self, _name: &str) -> Result<(), Failed>
         ensures found { OnOk result (Some self.new.left ≡ Some self.old.named) }
         ensures failed { OnErr result (HasRisen 0 0) }
         ensures kept { OnErr result (Some self.new.left ≡ Some self.old.left) }
@@ -76,7 +76,6 @@ impl Source for SureSource {
         ensures never_falls { 0 ≤ 0 }
         ensures finds { IsOk result }
     {
-        let _ = name;
         self.is_found = true;
         self.at = 0;
         Ok(())
