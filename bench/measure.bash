@@ -1,9 +1,10 @@
 #!/usr/bin/env bash
 # measure.bash PROGRAM [TABLE..]    measures a built program on the texts beside this script, and prints tables.
 #
-# The tables: steps entries workers collections forks reports tasks growth; without words all of them. A time is the least
-# of REPEAT calls (10 where it isn't set), in seconds of processors, user and system together, where nothing else is said.
-# Memory is the greatest resident size of a call. Where rustc is there, the peer is built and measured beside it.
+# The tables: steps entries workers turns collections forks reports tasks growth; without words all of them. A time is the
+# least of REPEAT calls (10 where it isn't set), in seconds of processors, user and system together, where nothing else is
+# said. Memory is the greatest resident size of a call. Where rustc is there, the peer is built and measured beside it, and
+# so is turns/turns.rs, which the table `turns` alone asks for.
 # It needs /usr/bin/time.
 set -u
 here=$(dirname "$(realpath "${BASH_SOURCE[0]}")") || exit 1
@@ -143,6 +144,22 @@ workers_table() {
   done
 }
 
+turns_table() {
+  local lines rounds private
+  echo "From one entry to the next by a lock alone, nanoseconds: bench/turns, which has no heaps and no journal."
+  head_of lock "rounds outside" "lines written" "1 thread" 2 4
+  rustc --edition 2021 -O -o "$room/turns" "$here/turns/turns.rs" || return 1
+  for rounds in 400 1200; do
+    for lines in 0 3 8; do
+      while read -r private; do
+        # shellcheck disable=SC2086
+        set -- $private
+        row "$1" "$rounds" "$lines" "$2" "$3" "$4"
+      done < <("$room/turns" "$rounds" "$lines")
+    done
+  done
+}
+
 collections_table() {
   local number with without
   echo "A leaf collection of N survivors of 11 words: a hundredth of what a hundred of them take, and for each survivor."
@@ -209,7 +226,7 @@ growth_table() {
   done
 }
 
-[ $# -gt 0 ] || set -- steps entries workers collections forks reports tasks growth
+[ $# -gt 0 ] || set -- steps entries workers turns collections forks reports tasks growth
 for table in "$@"; do
   "${table}_table" || exit 1
   echo
