@@ -57,7 +57,7 @@ last_of xs e x h =
 
 -- BEFORE THE FIRST ENTRY
 
-first_worker : (p : ProgramText) (s : SettingsValue) (t k : ℕ) → (heap_of (opening p s) t).worker ≡ Some k → ⊥
+pub first_worker : (p : ProgramText) (s : SettingsValue) (t k : ℕ) → (heap_of (opening p s) t).worker ≡ Some k → ⊥
 first_worker p s zero k h = absurd cc
 first_worker p s (suc t) k h = absurd cc
 

@@ -1,4 +1,5 @@
-use Rattle.std.proofs.Common.{◌≡◌, Option, Some, None, is_some, length, option_map, slice_get, refl, ap, ◌∙◌}
+use Rattle.std.proofs.Common.{◌≡◌, is_some, length, slice_get, ap, ◌∙◌}
+use Rattle.listed.proofs.Options.{some_map}
 use Rattle.hh_model.specs.declared.data.State.{State}
 use Rattle.run_ledger.specs.Heaps.{heap_of}
 use Rattle.core_relation.specs.Whole.{as_node, handed}
@@ -8,10 +9,6 @@ use Rattle.shared_value.proofs.BeforeTheEnd.{goes_by}
 use Rattle.shared_value.proofs.SameLength.{same_length}
 use Rattle.shared_tree.specs.contracts.shared.Shared.{the_view}
 use Rattle.shared_tree.proofs.shared.Shared.tasks.Goals as goal
-
-some_map : {A B : Type 0} (f : A → B) (o : Option A) → is_some (option_map f o) ≡ is_some o
-some_map f None = refl
-some_map f (Some x) = refl
 
 -- as many tasks as nodes
 tree_long : (w : SharedValue) → IsSharedValue w → length w.tree ≡ length (accounts w).machine.tasks

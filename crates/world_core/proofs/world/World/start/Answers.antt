@@ -1,25 +1,20 @@
 use Rattle.std.proofs.Common.{◌≡◌, ℕ, zero, suc, false, Some, List, [], replicate, length, slice_get, refl, ap, subst, sym, ◌∙◌}
 use Rattle.std.proofs.lemmas.Option.{same_Some}
-use Rattle.hh_lang.specs.Form.{ProgramText}
 use Rattle.run_trace.specs.Entry.{EntryValue}
 use Rattle.run_trace.specs.Settings.{SettingsValue}
 use Rattle.run_ledger.specs.Heaps.{heap_of}
-use Rattle.run_ledger.specs.Journals.{ledger_of, opening}
+use Rattle.run_ledger.specs.Journals.{ledger_of}
 use Rattle.core_relation.specs.Whole.{handed}
 use Rattle.shared_value.specs.SharedValue.{SharedValue}
 use Rattle.child_tasks.specs.NoTask.{HoldsNone}
+use Rattle.counted_tree.proofs.EntryCounted.{first_worker}
 use Rattle.world_core.specs.declared.held.Held.{Held}
 use Rattle.world_core.specs.declared.held.Held.TheVariants.{Nothing}
 use Rattle.world_core.specs.WorldValue.{AllHold, Holds}
 use Rattle.world_core.proofs.world.World.start.Goals as goal
 
--- before the first entry no worker holds a task
-none_held : (p : ProgramText) (s : SettingsValue) (t k : ℕ) → (heap_of (opening p s) t).worker ≡ Some k → ⊥
-none_held p s zero k h = absurd cc
-none_held p s (suc t) k h = absurd cc
-
 holds_none : (w : SharedValue) (k : ℕ) → w.journal.items ≡ [] → HoldsNone w k
-holds_none w k none t h = none_held w.program w.settings t k (ap (λ (j : List EntryValue). (heap_of (handed (ledger_of w.program w.settings j)) t).worker) (sym none) ∙ h)
+holds_none w k none t h = first_worker w.program w.settings t k (ap (λ (j : List EntryValue). (heap_of (handed (ledger_of w.program w.settings j)) t).worker) (sym none) ∙ h)
 
 -- holdings of nothing
 each_nothing : (n k : ℕ) (h : Held) → slice_get (replicate n Nothing) k ≡ Some h → Nothing ≡ h
