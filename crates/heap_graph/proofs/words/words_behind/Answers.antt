@@ -7,5 +7,5 @@ returns-in-None c =
     let le : c.loop.counter ≤ c.args.count = omega arith in
     c.in-None.ensures.words ∙ sym (nothing_behind _ c.loop.counter c.args.count le (sym c.loop.invariant ∙ c.in-None.ensures.words))
 
-pub loop-passed-preserved : goal.loop-passed-preserved
-loop-passed-preserved c = behind_more _ c.loop.counter _ _ (sym c.loop.invariant ∙ c.in-Some.ensures.words)
+pub loop-preserved : goal.loop-preserved
+loop-preserved c = behind_more _ c.loop.counter _ _ (sym c.loop.invariant ∙ c.in-Some.ensures.words)
