@@ -10,14 +10,14 @@ use Rattle.shared_value.specs.SharedValue.{flat, marks_at, rest_at}
 use Rattle.heap_marking.specs.Sweeping.{SweepsHome}
 use Rattle.heap_marking.proofs.sweep.drop_unmarked.Goals as goal
 
-pub sweep_keeping-requires-clause-room : goal.sweep_keeping-requires-clause-room
-sweep_keeping-requires-clause-room c =
+pub sweep_keeping-room-requires-clause-room : goal.sweep_keeping-room-requires-clause-room
+sweep_keeping-room-requires-clause-room c =
     let is : rest_at c.args.homes.now c.args.t ≡ Some c.get_mut.result.now = ap flat c.at_mut.ensures.value ∙ (sym c.replace.ensures.value ∙ (c.in-Some.is ∙ ap Some (sym c.get_mut.ensures.value))) in
     let at : marks_at c.args.marks.now c.args.t ≡ Some c.into_inner.result = ap flat c.at_mut-2.ensures.value ∙ (sym c.replace-2.ensures.value ∙ (c.in-Some-replace.is ∙ ap Some (sym c.into_inner.ensures))) in
     (c.requires.can c.get_mut.result.now c.into_inner.result is at).room
 
-pub sweep_keeping-requires-clause-in_use : goal.sweep_keeping-requires-clause-in_use
-sweep_keeping-requires-clause-in_use c =
+pub sweep_keeping-room-requires-clause-in_use : goal.sweep_keeping-room-requires-clause-in_use
+sweep_keeping-room-requires-clause-in_use c =
     let is : rest_at c.args.homes.now c.args.t ≡ Some c.get_mut.result.now = ap flat c.at_mut.ensures.value ∙ (sym c.replace.ensures.value ∙ (c.in-Some.is ∙ ap Some (sym c.get_mut.ensures.value))) in
     let at : marks_at c.args.marks.now c.args.t ≡ Some c.into_inner.result = ap flat c.at_mut-2.ensures.value ∙ (sym c.replace-2.ensures.value ∙ (c.in-Some-replace.is ∙ ap Some (sym c.into_inner.ensures))) in
     (c.requires.can c.get_mut.result.now c.into_inner.result is at).in_use
@@ -34,14 +34,14 @@ returns-clause-swept c = λ r m there marked.
     let at : marks_at c.args.marks.now c.args.t ≡ Some c.into_inner.result = ap flat c.at_mut-2.ensures.value ∙ (sym c.replace-2.ensures.value ∙ (c.in-Some-replace.is ∙ ap Some (sym c.into_inner.ensures))) in
     let same_r : c.get_mut.result.now ≡ r = same_Some c.get_mut.result.now r (sym is ∙ there) in
     let same_m : c.into_inner.result ≡ m = same_Some c.into_inner.result m (sym at ∙ marked) in
-    let Swept : Rest → MarkingValue → Type 0 = λ x y. SweepsHome c.args.homes.now c.set.new.self c.args.pool.now c.sweep_keeping.new.pool c.args.t x y in
+    let Swept : Rest → MarkingValue → Type 0 = λ x y. SweepsHome c.args.homes.now c.set.new.self c.args.pool.now c.sweep_keeping-room.new.pool c.args.t x y in
     subst (λ (x : Rest). Swept x m) same_r (subst (λ (y : MarkingValue). Swept c.get_mut.result.now y) same_m (record {
-      slots = c.sweep_keeping.new.heap.slots;
-      spare = c.sweep_keeping.new.heap.spare;
+      slots = c.sweep_keeping-room.new.heap.slots;
+      spare = c.sweep_keeping-room.new.heap.spare;
       homes = c.set.ensures
           ∙ (set-set c.args.homes.now c.args.t c.replace.new.dest _
-          ∙ ap (λ (h : LeafHeapValue). slice_set c.args.homes.now c.args.t (Some (let z : Rest = record c.get_mut.result.now { heap = h } in z))) c.sweep_keeping.ensures.heap);
-      given = c.sweep_keeping.ensures.pool;
+          ∙ ap (λ (h : LeafHeapValue). slice_set c.args.homes.now c.args.t (Some (let z : Rest = record c.get_mut.result.now { heap = h } in z))) c.sweep_keeping-room.ensures.heap);
+      given = c.sweep_keeping-room.ensures.pool;
     }))
 
 not_some : false ≡ true → ⊥
@@ -61,8 +61,8 @@ at_mut-requires-2 c = by_some c.args.marks.now c.args.t (slice_get c.args.marks.
 pub unreachable-requires : goal.unreachable-requires
 unreachable-requires c = not_some (subst IsSome (ap flat c.at_mut.ensures.value ∙ (sym c.replace.ensures.value ∙ c.in_default.is)) c.requires.home)
 
-pub sweep_keeping-requires-clause-done : goal.sweep_keeping-requires-clause-done
-sweep_keeping-requires-clause-done c =
+pub sweep_keeping-room-requires-clause-done : goal.sweep_keeping-room-requires-clause-done
+sweep_keeping-room-requires-clause-done c =
     let is : rest_at c.args.homes.now c.args.t ≡ Some c.get_mut.result.now = ap flat c.at_mut.ensures.value ∙ (sym c.replace.ensures.value ∙ (c.in-Some.is ∙ ap Some (sym c.get_mut.ensures.value))) in
     let at : marks_at c.args.marks.now c.args.t ≡ Some c.into_inner.result = ap flat c.at_mut-2.ensures.value ∙ (sym c.replace-2.ensures.value ∙ (c.in-Some-replace.is ∙ ap Some (sym c.into_inner.ensures))) in
     (c.requires.can c.get_mut.result.now c.into_inner.result is at).done
