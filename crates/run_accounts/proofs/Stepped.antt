@@ -18,7 +18,7 @@ use Rattle.run_ledger.specs.Steps.{allocated_in, allocated_by, task_step, settle
 use Rattle.run_ledger.proofs.Machine.{heap_machine}
 use Rattle.run_accounts.proofs.Snaps.{settled_paired}
 use Rattle.ledger_heaps.specs.Accounts.{AreOwned}
-use Rattle.run_accounts.specs.Accounts.{AccountsValue, Steady, ArePaired, Forks, next_large, used_by, used_after, went_on}
+use Rattle.run_accounts.specs.Accounts.{AccountsValue, Steady, ArePaired, Forks, large_by, next_large, used_by, used_after, went_on}
 
 pub allocated_machine : (l : Ledger) (t : ℕ) (o : Option ℕ) → (allocated_by l t o).machine ≡ l.machine
 allocated_machine l t None = refl
@@ -56,6 +56,13 @@ pub steps_none : (s new : AccountsValue) (t : ℕ) → can_step s.ledger.machine
 steps_none s new t can used e =
     e ∙ (ap (λ (u : ℕ). record s { ledger = record s.ledger { steps = s.ledger.steps + 1 }; used = u }) used
     ∙ ap (went_on s) (sym (cond-false (can_step s.ledger.machine t) _ _ can)))
+
+-- a step that asks for nothing allocates nothing, and leaves the count of the chunks
+pub allocates_nothing : (s : AccountsValue) (t : ℕ) → asked s.program s.ledger.machine t ≡ None → s ≡ record s { ledger = allocated_in s.program s.ledger t }
+allocates_nothing s t e = ap (λ (o : Option ℕ). record s { ledger = allocated_by s.ledger t o }) (sym e)
+
+pub counts_nothing : (s k : AccountsValue) (t r : ℕ) → asked s.program s.ledger.machine t ≡ None → k ≡ record k { used = used_by k.used r k.ledger.machine (next_large s.program s.ledger t) }
+counts_nothing s k t r e = ap (λ (o : Option ℕ). record k { used = used_by k.used r k.ledger.machine (large_by s.ledger t o) }) (sym e)
 
 -- WORDS SINCE THE LAST COLLECTION
 

@@ -136,6 +136,10 @@ impl<'p> Accounts<'p> {
             self.steps += 1;
             return Ok(());
         }
+        if words.is_none() {
+            self.advance(t)?;
+            return self.settle(t);
+        }
         let large = self.next_large(t, words);
         let reserved = self.reserved(t);
         self.allocate(t, words)?;
