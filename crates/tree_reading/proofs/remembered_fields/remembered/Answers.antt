@@ -11,11 +11,11 @@ pub returns : goal.returns
 returns c =
     let w : SharedValue = c.args.shared.now in
     let t = c.args.task in
-    let set : SetOf = c.index.result.now in
+    let set : SetOf = c.index-sets-task.result in
     let sets = c.sets.result.now in
     let same : sets ≡ w.sets = c.sets.ensures in
     let few : t < length w.sets = subst (λ n. t < n) (sym c.stands.ensures.noted) (let p = c.made.ensures.count in let q = ap (λ (ns : List Node). length ns) c.tree.ensures in let m : t < length w.tree = omega (arith, p, q, c.if-task-made.false) in m) in
-    let is : slice_get w.sets t ≡ Some set = ap (λ xs. slice_get xs t) (sym same) ∙ slice_get_read sets (length w.sets) t set (sym (ap length same)) few c.index.ensures in
+    let is : slice_get w.sets t ≡ Some set = ap (λ xs. slice_get xs t) (sym same) ∙ slice_get_read sets (length w.sets) t set (sym (ap length same)) few c.index-sets-task.is in
     let fs = c.in_ok-fields.fields.items in
     let gs = c.sort_unstable.new.self.items in
     let all = c.in_ok-fields.ensures ∙ ap (map field_of) c.sources.ensures.sources in
