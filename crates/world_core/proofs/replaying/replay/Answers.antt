@@ -1,7 +1,13 @@
-use Rattle.std.proofs.Common.{Err, arith, subst}
+use Rattle.std.proofs.Common.{Err, arith, refl, subst}
 use Rattle.world_core.specs.Applied.{AppliesTo}
-use Rattle.world_core.proofs.Replayed.{came_more, come_to}
+use Rattle.world_core.proofs.Replayed.{came_first, came_more, come_to}
 use Rattle.world_core.proofs.replaying.replay.Goals as goal
+
+pub loop-entry-init : goal.loop-entry-init
+loop-entry-init c = record {
+  came = came_first c.args.program.now c.args.settings c.args.entries.now c.in-Ok.world c.in-Ok.ensures.program c.in-Ok.ensures.settings c.in-Ok.ensures.journal c.in-Ok.ensures.goes;
+  count = refl;
+}
 
 pub returns-in-Err-NoMemory-clause-stopped : goal.returns-in-Err-NoMemory-clause-stopped
 returns-in-Err-NoMemory-clause-stopped c =
