@@ -34,7 +34,7 @@ pub fn all_work<R: Threads + Wait + Sync, G: Gate>(
     program: &Program,
     desks: &mut [Desk],
 )
-    requires { (s : SettingsValue) × AreAllDesks (identity turn.now) program.now s desks.old }
+    requires all { (s : SettingsValue) × AreAllDesks (identity turn.now) program.now s desks.old }
     ensures all { (s : SettingsValue) → AreAllDesks (identity turn.now) program.now s desks.old → AreAllDesks (identity turn.now) program.now s desks.new }
     ensures rounds { AllGoRound program.now desks.old desks.new }
     ensures over { HaveStopped desks.new }

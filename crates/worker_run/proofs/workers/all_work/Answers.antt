@@ -20,7 +20,7 @@ use Rattle.worker_run.proofs.Sent.{desk_send, run_send, run_sync, turn_sync}
 use Rattle.worker_run.proofs.workers.all_work.Goals as goal
 
 pub for_each_mut-requires-clause-accepts : goal.for_each_mut-requires-clause-accepts
-for_each_mut-requires-clause-accepts g c κs within = λ i p inside at. ((c.requires.1.each_desk i p.now (slice_get_read c.args.desks.now _ i p.now refl inside at)).0, search rules)
+for_each_mut-requires-clause-accepts g c κs within = λ i p inside at. ((c.requires.all.1.each_desk i p.now (slice_get_read c.args.desks.now _ i p.now refl inside at)).0, search rules)
 
 pub returns-clause-all : goal.returns-clause-all
 returns-clause-all g c = let before = c.args.desks.now in let after = c.for_each_mut.new.s in let z = identity c.args.turn.now in let text = c.args.program.now in

@@ -7,8 +7,8 @@ use Rattle.worker_run.specs.Rounds.{AllGoRound}
 use Rattle.worker_run.proofs.Rows.{is_run, lent_desks, was_given, whole_written}
 use Rattle.worker_run.proofs.workers.run_all.Goals as goal
 
-pub all_work-requires : goal.all_work-requires
-all_work-requires g c κs within =
+pub all_work-requires-clause-all : goal.all_work-requires-clause-all
+all_work-requires-clause-all g c κs within =
     let was : c.as_mut_slice.result.now ≡ c.in_ok-turn.desks.items = search rules in
     (c.args.settings, subst (AreAllDesks (identity c.in_ok-turn.turn) c.args.program.now c.args.settings) (sym was) c.in_ok-turn.ensures.all)
 
