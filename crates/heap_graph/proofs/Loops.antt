@@ -1,5 +1,5 @@
 -- What is left to be written, item by item.
-use Rattle.std.proofs.Common.{◌≡◌, ◌<◌, ◌≤◌, ◌+◌, ℕ, Bool, List, [], ◌∷◌, ◌++◌, length, drop, get_or, ap, sym, ◌∙◌, append_assoc, append-nil, arith}
+use Rattle.std.proofs.Common.{◌≡◌, ◌<◌, ◌≤◌, ◌+◌, ℕ, zero, suc, Bool, List, [], ◌∷◌, ◌++◌, length, take, drop, get_or, ap, sym, ◌∙◌, append_assoc, append-nil, arith}
 use Rattle.std.proofs.lemmas.List.{length-drop, drop_all, drop_more}
 use Rattle.std.proofs.lemmas.Grind.{flat_map-append}
 use Rattle.std.specs.List.{flat_map}
@@ -11,6 +11,17 @@ use Rattle.image_check.specs.Tasks.{owner_at}
 use Rattle.heap_graph.specs.Kinds.{port_at, edge_by, edges_from}
 use Rattle.heap_graph.specs.Overview.{Links, with_link_to, with_links, link_edge, links_drawn}
 use Rattle.heap_graph.specs.Drawn.{port_title, port_titles}
+
+-- one item more has the same piece as each
+same_next : (piece : List ℕ) (xs : List ℕ) (i : ℕ) → i < length xs → flat_map (λ _. piece) (take (suc i) xs) ≡ flat_map (λ _. piece) (take i xs) ++ piece
+same_next piece [] i lt = absurd (omega (arith, lt))
+same_next piece (x ∷ xs) zero lt = append-nil piece
+same_next piece (x ∷ xs) (suc i) lt =
+    let within : i < length xs = omega (arith, lt) in
+    ap (λ ys. piece ++ ys) (same_next piece xs i within) ∙ sym (append_assoc piece (flat_map (λ _. piece) (take i xs)) piece)
+
+pub same_more : (piece : List ℕ) (xs : List ℕ) (i : ℕ) → i < length xs → flat_map (λ _. piece) (take (i + 1) xs) ≡ flat_map (λ _. piece) (take i xs) ++ piece
+same_more piece xs i lt = let next : i + 1 ≡ suc i = omega arith in ap (λ n. flat_map (λ _. piece) (take n xs)) next ∙ same_next piece xs i lt
 
 -- one piece more is written of what is left
 pub piece_more : (now later piece left rest all : List ℕ) → now ++ left ≡ all → left ≡ piece ++ rest → later ≡ now ++ piece → later ++ rest ≡ all
