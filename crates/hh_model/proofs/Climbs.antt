@@ -14,10 +14,6 @@ module _ (par : ℕ → Option ℕ) where
   pub path_up : (k j a t p : ℕ) → j < k → (a == t) ≡ false → par t ≡ Some p → path_by par (k - j) a t ≡ path_by par (k - (j + 1)) a p
   path_up k j a t p lt e is = ap (λ x. path_by par x a t) (let s : k - j ≡ suc (k - (j + 1)) = omega arith in s) ∙ path_next (k - (j + 1)) a t (Some p) e is
 
-  -- the root has nobody above
-  pub path_out : (k j a t : ℕ) → j < k → (a == t) ≡ false → par t ≡ None → path_by par (k - j) a t ≡ false
-  path_out k j a t lt e is = ap (λ x. path_by par x a t) (let s : k - j ≡ suc (k - (j + 1)) = omega arith in s) ∙ path_next (k - (j + 1)) a t None e is
-
   module _ (jd : ℕ → Bool) where
     pub owner_here : (k t : ℕ) → jd t ≡ false → owner_by par jd k t ≡ t
     owner_here zero t e = refl
@@ -28,6 +24,3 @@ module _ (par : ℕ → Option ℕ) where
 
     pub owner_up : (k j t p : ℕ) → j < k → jd t ≡ true → par t ≡ Some p → owner_by par jd (k - j) t ≡ owner_by par jd (k - (j + 1)) p
     owner_up k j t p lt e is = ap (λ x. owner_by par jd x t) (let s : k - j ≡ suc (k - (j + 1)) = omega arith in s) ∙ owner_next (k - (j + 1)) t (Some p) e is
-
-    pub owner_out : (k j t : ℕ) → j < k → jd t ≡ true → par t ≡ None → owner_by par jd (k - j) t ≡ t
-    owner_out k j t lt e is = ap (λ x. owner_by par jd x t) (let s : k - j ≡ suc (k - (j + 1)) = omega arith in s) ∙ owner_next (k - (j + 1)) t None e is

@@ -170,9 +170,6 @@ rows_from p m (t ∷ ts) k K I = rows_from p (step p m t) ts (suc k) (step_kept 
 
 -- MACHINES
 
-pub start_reached : (p : ProgramText) (limit : ℕ) (m : State) → m ≡ start p limit → IsOfRun (record { program = p; state = m; steps = 0 })
-start_reached p limit m e = ([], refl, e ∙ ap (start p) (ap (λ (s : State). s.field_limit) (sym e)))
-
 pub step_reached : (g : MachineValue) (t : ℕ) → IsOfRun g → IsOfRun (advanced g t)
 step_reached g t r =
     let K : Kept g.state = subst Kept (sym r.2) (run_kept g.program (start g.program g.state.field_limit) r.0 (start_kept g.program g.state.field_limit)) in (

@@ -1,5 +1,5 @@
 -- What is known where a task can take a step.
-use Rattle.std.proofs.Common.{◌≡◌, ℕ, ◌+◌, ◌<◌, ◌^◌, Bool, true, false, cond, Option, Some, None, length, slice_get, refl, ap, ◌∙◌, arith, get_or}
+use Rattle.std.proofs.Common.{◌≡◌, ℕ, ◌+◌, ◌<◌, ◌^◌, Bool, true, false, cond, Option, Some, None, IfSome, length, slice_get, refl, ap, ◌∙◌, arith, get_or}
 use Rattle.std.proofs.lemmas.Bool.{false≢true}
 use Rattle.std.proofs.lemmas.List.Elements.{All-get_or}
 use Rattle.std.proofs.lemmas.Option.{slice_get_within, get_or_from_slice_get}
@@ -53,3 +53,13 @@ step_none p m t x can is at = taken_by p m t x None can is at
 
 pub step_idle : (p : ProgramText) (m : State) (t : ℕ) → can_step m t ≡ false → step p m t ≡ m
 step_idle p m t can = ap (λ b. cond b (or_same m (slice_get m.tasks t) (λ y. stepped p m t y (fetched p y.top))) m) can
+
+-- where nothing stands at the task's place, a step changes nothing
+pub step_nothing : (p : ProgramText) (m : State) (t : ℕ) → can_step m t ≡ true → IfSome (slice_get m.tasks t) (λ x. fetched p x.top ≡ None) → step p m t ≡ m
+step_nothing p m t can next = by (slice_get m.tasks t) refl next
+  where
+    by : (o : Option Task) → slice_get m.tasks t ≡ o → IfSome o (λ x. fetched p x.top ≡ None) → step p m t ≡ m
+    by None e h =
+        ap (λ b. cond b (or_same m (slice_get m.tasks t) (λ y. stepped p m t y (fetched p y.top))) m) can
+        ∙ ap (λ y. or_same m y (λ z. stepped p m t z (fetched p z.top))) e
+    by (Some x) e h = step_none p m t x can e h

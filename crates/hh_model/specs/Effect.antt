@@ -150,6 +150,14 @@ read_effect s f store d None = Goes (onward (with_ref f d None)) store
 read_effect s f store d (Some n) =
     or_trap Nil (object_at store n) (λ o. if precedes s.edges o.strand s.strand then Goes (onward (with_ref f d (Some n))) store else Stops n)
 
+-- a compare and swap at a field of an object that may be written: where the field is what is expected it becomes the new
+-- reference, and d is 1; else d is 0
+abbrev pub swap_effect : Frame → List (List Object) → ℕ → ℕ → ℕ → Name → ℕ → Object → Effect
+swap_effect f store d e v n at x =
+    if same_name (flat (slice_get x.refs at)) (ref_in f e)
+    then Goes (onward (with_int f d (pos 1))) (put_object store n (record x { refs = slice_set x.refs at (ref_in f v) }))
+    else Goes (onward (with_int f d (pos 0))) store
+
 -- what an instruction does; an instruction that can trap for several reasons traps for the first that fits
 abbrev pub effect : Setting → Frame → List (List Object) → Instr → Effect
 effect s f store (Set d k) = Goes (onward (with_int f d k)) store
@@ -183,13 +191,9 @@ effect s f store (Cnti d o) = with_object store (ref_in f o) (λ n x. Goes (onwa
 -- an object that the task owns becomes immutable, or stays so
 effect s f store (Freeze o) =
     with_object store (ref_in f o) (λ n x. if s.owner n.task == s.task then Goes (onward f) (put_object store n (record x { mutable = false })) else Traps Frozen)
--- where the field is what is expected it becomes the new reference, and d is 1; else d is 0. It reads into no reference
--- register, so it is never stopped
+-- a compare and swap reads into no reference register, so it is never stopped
 effect s f store (Cas d o k e v) =
-    with_object store (ref_in f o) (λ n x. or_trap Range (place_in (length x.refs) (int_in f k)) (λ at. unless_frozen x (
-    if same_name (flat (slice_get x.refs at)) (ref_in f e)
-    then Goes (onward (with_int f d (pos 1))) (put_object store n (record x { refs = slice_set x.refs at (ref_in f v) }))
-    else Goes (onward (with_int f d (pos 0))) store)))
+    with_object store (ref_in f o) (λ n x. or_trap Range (place_in (length x.refs) (int_in f k)) (λ at. unless_frozen x (swap_effect f store d e v n at x)))
 effect s f store (Call g) = Calls g
 effect s f store (Par g h) = Forks g h
 effect s f store Ret = Returns

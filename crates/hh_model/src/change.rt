@@ -1,8 +1,8 @@
 // What a step changes, once it is known what its registers name.
 
 ghost use Rattle.std.specs.Prelude.{◌≡◌, ◌<◌, ◌+◌, ◌^◌, ℕ, length, pos, true, false, replicate, slice_get, slice_set, IfOk, IfSome, IsSome, IsSomeAnd, None, OnOk, OnErr};
-ghost use Rattle.hh_model.specs.Effect.{int_in, made, object_at, onward, or_trap, put_object, read_effect, ref_in, row_of, with_int, Goes};
-ghost use Rattle.hh_model.specs.Found.{or_trapped, swap_effect};
+ghost use Rattle.hh_model.specs.Effect.{int_in, made, object_at, onward, or_trap, put_object, read_effect, ref_in, row_of, swap_effect, with_int, Goes};
+ghost use Rattle.hh_model.specs.Found.{or_trapped};
 ghost use Rattle.hh_model.specs.PathLaw.{PathIsPrecedenceIn};
 ghost use Rattle.hh_model.specs.Step.{ended_by, follow, is_running, setting, strand_of};
 ghost use Rattle.hh_model.specs.declared.data.Trap.TheVariants.{Nil};
@@ -126,7 +126,7 @@ impl State {
         requires made { t < length self.old.tasks }
         requires next { IfSome (slice_get self.old.tasks t) (λ x. x.top.next + 1 < 2 ^ 32) }
         requires there { IsSomeAnd (object_at self.old.store name) (λ o. at < length o.refs) }
-        ensures { (line : ℕ) → IfSome (slice_get self.old.tasks t) (λ x. self.new ≡ follow self.old t x line (or_trap Nil (object_at self.old.store name) (swap_effect x.top self.old.store target expected value (name, at)))) }
+        ensures { (line : ℕ) → IfSome (slice_get self.old.tasks t) (λ x. self.new ≡ follow self.old t x line (or_trap Nil (object_at self.old.store name) (swap_effect x.top self.old.store target expected value name at))) }
     {
         let top = &self.tasks.at(t as usize).top;
         let object = self.store.at(name.task as usize).at(name.count as usize);
@@ -150,7 +150,7 @@ impl State {
         requires made { t < length self.old.tasks }
         requires next { IfSome (slice_get self.old.tasks t) (λ x. x.top.next + 1 < 2 ^ 32) }
         requires there { IfOk found (λ p. IsSomeAnd (object_at self.old.store p.0) (λ o. p.1 < length o.refs)) }
-        ensures { IfSome (slice_get self.old.tasks t) (λ x. self.new ≡ follow self.old t x line (or_trapped found (λ p. or_trap Nil (object_at self.old.store p.0) (swap_effect x.top self.old.store target expected value p)))) }
+        ensures { IfSome (slice_get self.old.tasks t) (λ x. self.new ≡ follow self.old t x line (or_trapped found (λ p. or_trap Nil (object_at self.old.store p.0) (swap_effect x.top self.old.store target expected value p.0 p.1)))) }
     {
         match found {
             Ok((name, at)) => self.swap_at(t, target, name, at, expected, value),

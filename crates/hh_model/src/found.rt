@@ -1,8 +1,8 @@
 // What a task's registers name, looked up before anything changes.
 
 ghost use Rattle.std.specs.Prelude.{◌≡◌, ◌<◌, ℕ, length, pos, false, true, replicate, slice_get, slice_set, IfOk, IfSome, IsSome, IsSomeAnd, None};
-ghost use Rattle.hh_model.specs.Effect.{effect, int_in, made, object_at, onward, or_trap, put_object, read_effect, ref_in, with_int, Goes};
-ghost use Rattle.hh_model.specs.Found.{or_trapped, swap_effect};
+ghost use Rattle.hh_model.specs.Effect.{effect, int_in, made, object_at, onward, or_trap, put_object, read_effect, ref_in, swap_effect, with_int, Goes};
+ghost use Rattle.hh_model.specs.Found.{or_trapped};
 ghost use Rattle.hh_model.specs.Step.{setting, strand_of};
 ghost use Rattle.hh_model.specs.declared.data.Trap.TheVariants.{Nil};
 
@@ -93,7 +93,7 @@ impl State {
     ) -> Result<(Name, usize), Trap>
         requires { t < length self.now.tasks }
         ensures put { (v : ℕ) → IfSome (slice_get self.now.tasks t) (λ x. effect (setting self.now t x) x.top self.now.store (Instr.Putr object index v) ≡ or_trapped result (λ p. or_trap Nil (object_at self.now.store p.0) (λ o. Goes (onward x.top) (put_object self.now.store p.0 (record o { refs = slice_set o.refs p.1 (ref_in x.top v) }))))) }
-        ensures swap { (d e v : ℕ) → IfSome (slice_get self.now.tasks t) (λ x. effect (setting self.now t x) x.top self.now.store (Instr.Cas d object index e v) ≡ or_trapped result (λ p. or_trap Nil (object_at self.now.store p.0) (swap_effect x.top self.now.store d e v p))) }
+        ensures swap { (d e v : ℕ) → IfSome (slice_get self.now.tasks t) (λ x. effect (setting self.now t x) x.top self.now.store (Instr.Cas d object index e v) ≡ or_trapped result (λ p. or_trap Nil (object_at self.now.store p.0) (swap_effect x.top self.now.store d e v p.0 p.1))) }
         ensures there { IfOk result (λ p. IsSomeAnd (object_at self.now.store p.0) (λ o. p.1 < length o.refs)) }
     {
         let top = &self.tasks.at(t as usize).top;

@@ -4,7 +4,7 @@ ghost use Rattle.std.specs.Prelude.{◌≡◌, ◌<◌, ◌^◌, ◌↔◌, IfOk
 ghost use Rattle.hh_model.specs.Step.{can_step, start};
 
 use crate::data::{End, Frame, State, Status, Task};
-use hh_lang::Program;
+use hh_lang::{Line, Program};
 use listed::Listed;
 use std::alloc::{AllocError, Global};
 use std::marker::Model;
@@ -38,8 +38,8 @@ impl<'p> Model for Machine<'p> {
 }
 
 impl<'p> Machine<'p> {
-    ghost use Rattle.std.specs.Prelude.{◌≡◌, ◌<◌, ◌^◌, ◌↔◌, IfOk, OnOk, OnErr, Err, false};
-    ghost use Rattle.hh_model.specs.Step.{can_step};
+    ghost use Rattle.std.specs.Prelude.{◌≡◌, ◌<◌, ◌^◌, ◌↔◌, slice_get, IfOk, IfSome, OnOk, OnErr, Err, true, false};
+    ghost use Rattle.hh_model.specs.Step.{can_step, fetched};
     ghost use Rattle.hh_model.specs.Machine.{begun, advanced, IsOfRun};
 
     /// A machine before its first step, whose objects may have so many fields.
@@ -58,6 +58,26 @@ impl<'p> Machine<'p> {
         })
     }
 
+    /// One step of a task that can take one, by what stands in the program at the place where the task stands.
+    #[tactic(auto, using(crate::proofs::Taken::can_runs, crate::proofs::Taken::can_made, crate::proofs::Taken::next_fits, crate::proofs::Taken::step_taken, crate::proofs::Taken::step_nothing))]
+    #[inline(always)]
+    pub fn step_line(&mut self, t: u32, line: Option<Line>) -> Result<(), AllocError>
+        requires few { self.old.steps < 2 ^ 30 }
+        requires can { can_step self.old.state t ≡ true }
+        requires next { IfSome (slice_get self.old.state.tasks t) (λ x. fetched self.old.program x.top ≡ line) }
+        ensures ok { OnOk result (self.new ≡ advanced self.old t) }
+        ensures err { OnErr result (self.new ≡ self.old) }
+    {
+        let Some(line) = line else {
+            self.steps += 1;
+            return Ok(());
+        };
+        self.program.form();
+        self.state.act(self.alloc, t, line.number, line.instr)?;
+        self.steps += 1;
+        Ok(())
+    }
+
     /// One step of a task.
     #[inline(always)]
     pub fn step(&mut self, t: u32) -> Result<(), StepError>
@@ -69,11 +89,10 @@ impl<'p> Machine<'p> {
         if !self.state.can_step(t) {
             return Err(StepError::Idle);
         }
-        match self.state.step(self.alloc, self.program, t) {
-            Ok(()) => {
-                self.steps += 1;
-                Ok(())
-            }
+        let top = &self.state.tasks.at(t as usize).top;
+        let line = self.program.line(top.function, top.next);
+        match self.step_line(t, line) {
+            Ok(()) => Ok(()),
             Err(_) => Err(StepError::NoMemory),
         }
     }

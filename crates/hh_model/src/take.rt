@@ -1,13 +1,13 @@
-// One step of the state.
+// What the instructions of a running task do.
 
 ghost use Rattle.std.specs.Prelude.{◌≡◌, ◌<◌, ◌+◌, ◌^◌, ◌++◌, ◌∷◌, [], length, slice_get, slice_set, IfSome, OnOk, OnErr, true};
 ghost use Rattle.hh_model.specs.Effect.{effect, int_in, onward};
 ghost use Rattle.hh_model.specs.Machine.{IsSound};
-ghost use Rattle.hh_model.specs.Step.{can_step, follow, is_running, setting, step};
+ghost use Rattle.hh_model.specs.Step.{follow, is_running, setting};
 
 use crate::arithmetic::{calculate, is_same};
 use crate::data::{End, State, Trap};
-use hh_lang::{Instr, IntReg, Operator, Program, RefReg};
+use hh_lang::{Instr, IntReg, Operator, RefReg};
 use std::alloc::{AllocError, Global};
 
 impl State {
@@ -80,7 +80,13 @@ impl State {
 
     /// Does an instruction of a running task.
     #[inline(always)]
-    fn act(&mut self, alloc: Global, t: u32, line: u32, instr: Instr) -> Result<(), AllocError>
+    pub(crate) fn act(
+        &mut self,
+        alloc: Global,
+        t: u32,
+        line: u32,
+        instr: Instr,
+    ) -> Result<(), AllocError>
         requires made { t < length self.old.tasks }
         requires running { is_running (slice_get self.old.tasks t) ≡ true }
         requires sound { IsSound self.old }
@@ -123,27 +129,5 @@ impl State {
             Instr::Out(source) => return self.print(t, source),
         }
         Ok(())
-    }
-
-    /// One step of a task that can take one.
-    #[tactic(auto, using(crate::proofs::Taken::can_runs, crate::proofs::Taken::can_made, crate::proofs::Taken::next_fits, crate::proofs::Taken::step_taken, crate::proofs::Taken::step_none))]
-    #[inline(always)]
-    pub(crate) fn step(
-        &mut self,
-        alloc: Global,
-        program: &Program,
-        t: u32,
-    ) -> Result<(), AllocError>
-        requires sound { IsSound self.old }
-        requires ready { can_step self.old t ≡ true }
-        ensures ok { OnOk result (self.new ≡ step program.now self.old t) }
-        ensures err { OnErr result (self.new ≡ self.old) }
-    {
-        program.form();
-        let top = &self.tasks.at(t as usize).top;
-        let Some(line) = program.line(top.function, top.next) else {
-            return Ok(());
-        };
-        self.act(alloc, t, line.number, line.instr)
     }
 }

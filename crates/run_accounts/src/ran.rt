@@ -1,7 +1,7 @@
 // The steps of one entry.
 
-ghost use Rattle.std.specs.Prelude.{◌≡◌, ◌≤◌, ◌+◌, ◌||◌, ◌&&◌, not, is_some, if◌then◌else◌, false, IfOk};
-ghost use Rattle.hh_model.specs.Step.{asked};
+ghost use Rattle.std.specs.Prelude.{◌≡◌, ◌≤◌, ◌+◌, ◌||◌, ◌&&◌, not, is_some, slice_get, if◌then◌else◌, false, IfOk, IfSome};
+ghost use Rattle.hh_model.specs.Step.{asked, fetched};
 ghost use Rattle.run_ledger.specs.Steps.{task_step, task_steps, is_due, is_in_need, standing};
 ghost use Rattle.run_ledger.specs.Heaps.{in_use};
 ghost use Rattle.next_steps.specs.Own.{is_own};
@@ -44,6 +44,7 @@ impl<'p> Accounts<'p> {
 
     // The next step of the task.
     fn next_step(&self, t: u32) -> NextStep
+        ensures line { IfSome (slice_get self.now.ledger.machine.tasks t) (λ x. fetched self.now.program x.top ≡ result.line) }
         ensures words { result.words ≡ asked self.now.program self.now.ledger.machine t }
         ensures own { result.own ≡ is_own self.now.program self.now.ledger.machine t }
     {
@@ -63,7 +64,7 @@ impl<'p> Accounts<'p> {
         if self.is_due_by(t, ahead.words) || self.is_in_need_by(t, ahead.words) {
             return Ok(Stood::Not);
         }
-        self.step(t, ahead.words)?;
+        self.step(t, &ahead)?;
         let ended = self.has_ended();
         Ok(stood_by(ahead.own, ended))
     }

@@ -150,9 +150,8 @@ impl Private {
         }
     }
 
-    // The same of a plan that mostly makes an object. It stands apart, so that steps that make none aren't the slower for
-    // what a placement keeps at hand.
-    #[inline(never)]
+    // The same of a plan that mostly makes an object.
+    #[inline(always)]
     fn take_new(&mut self, plan: Plan, instr: &Instr) -> Came
         requires next { self.old.frames.top.next + 1 < 2 ^ 32 }
         requires fresh { self.old.fresh + 1 < 2 ^ 32 }
@@ -172,8 +171,9 @@ impl Private {
         }
     }
 
-    // Takes the step that an instruction on an object comes to, or a rarer one, or says why there is none.
-    #[inline(always)]
+    // Takes the step that an instruction on an object comes to, or a rarer one, or says why there is none. It stands
+    // apart, so that steps of arithmetic aren't the slower for what a placement keeps at hand.
+    #[inline(never)]
     fn go_on_object(&mut self, instr: &Instr) -> Came
         requires next { self.old.frames.top.next + 1 < 2 ^ 32 }
         requires fresh { self.old.fresh + 1 < 2 ^ 32 }
