@@ -112,8 +112,3 @@ found_no_read (Err x) r before after ok d e = (let s = d.0.status in cc)
 pub some_silent : (P : List ℕ → Answer → Type 0) (L : List ℕ → Leaves) (limit : ℕ) (r : Ran) (w : Option (List ℕ)) (s : Status) → IsSilent s → HandsNothing s r
     → (input : List ℕ) × (length input ≤ limit + 1) × Delivers (P input) (L input) r w w
 some_silent P L limit r w s ok h = ([], omega arith, nothing_given (P []) (L []) r w s ok h)
-
--- an input that was read is one
-pub some_given : (P : List ℕ → Answer → Type 0) (L : List ℕ → Leaves) (limit : ℕ) (input : List ℕ) (r : Ran) (w v : Option (List ℕ)) → length input ≤ limit + 1 → Delivers (P input) (L input) r w v
-    → (input : List ℕ) × (length input ≤ limit + 1) × Delivers (P input) (L input) r w v
-some_given P L limit input r w v le d = (input, le, d)

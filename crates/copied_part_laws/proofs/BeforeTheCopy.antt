@@ -23,7 +23,7 @@ use Rattle.task_machine.specs.Place.{name_of}
 use Rattle.shared_value.specs.Objects.{chunk_of, chunks_of}
 use Rattle.shared_value.specs.Stands.{HeapForm}
 use Rattle.shared_value.proofs.CellsRead.{fresh_off}
-use Rattle.copied_part_laws.proofs.SurvivorOrder.{Single}
+use Rattle.core_entry_laws.proofs.notes.MarksAll.{NamedOnce}
 use Rattle.copied_part_laws.proofs.ObjectsApart.{span}
 
 -- a heap with these survivors, and its account in this state of the machine
@@ -67,18 +67,18 @@ small_seen (k ∷ ks) n i = by (k.size == 1024) refl i (small_seen ks n)
 abbrev Injective : List Located → Type 0
 Injective os = (o q : Located) → In os o → In os q → object_name o ≡ object_name q → o ≡ q
 
-single_append : (xs ys : List Name) → Single xs → Single ys → ((n : Name) → In xs n → In ys n → ⊥) → Single (xs ++ ys)
+single_append : (xs ys : List Name) → NamedOnce xs → NamedOnce ys → ((n : Name) → In xs n → In ys n → ⊥) → NamedOnce (xs ++ ys)
 single_append [] ys s t f = t
 single_append (x ∷ xs) ys s t f = ((λ i. elim (in_append_cases xs ys x i) [ inl j ↦ s.0 j | inr j ↦ f x (inl refl) j ]), single_append xs ys s.1 t (λ n i j. f n (inr i) j))
 
-pub single_cells : (cs : List Cell) (number base : ℕ) → Injective (objects_from number base cs) → Single (names_in cs)
+pub single_cells : (cs : List Cell) (number base : ℕ) → Injective (objects_from number base cs) → NamedOnce (names_in cs)
 single_cells [] number base f = tt
 single_cells (c ∷ cs) number base f = by c.mark refl (single_cells cs number (base + size_of c) (λ o q i j e. f o q (behind number base c c.mark os o i) (behind number base c c.mark os q j) e))
   where
     os : List Located
     os = objects_from number (base + size_of c) cs
 
-    by : (m : Mark) → c.mark ≡ m → Single (names_in cs) → Single (named_by m (names_in cs))
+    by : (m : Mark) → c.mark ≡ m → NamedOnce (names_in cs) → NamedOnce (named_by m (names_in cs))
     by (Born b) e go = (
       (λ i.
           let r = name_seen cs number (base + size_of c) (name_of b) i in
@@ -91,7 +91,7 @@ single_cells (c ∷ cs) number base f = by c.mark refl (single_cells cs number (
     by (Moved to) e go = go
     by Hole e go = go
 
-pub single_small : (ks : List ChunkValue) → AreApart ks → Injective (objects_in (chunks_of ks)) → Single (flat_map (λ ns. ns) (small_lists ks))
+pub single_small : (ks : List ChunkValue) → AreApart ks → Injective (objects_in (chunks_of ks)) → NamedOnce (flat_map (λ ns. ns) (small_lists ks))
 single_small [] A f = tt
 single_small (k ∷ ks) A f = by (k.size == 1024) (single_small ks A.1 (λ o q i j e. f o q (right o i) (right q j) e))
   where
@@ -111,6 +111,6 @@ single_small (k ∷ ks) A f = by (k.size == 1024) (single_small ks A.1 (λ o q i
         let off : q.0.at.chunk ≡ s.0.number = (span s.0.cells s.0.number 0 q.0 q.1).chunk in
         fresh_off ks s.0 k.number A.0 s.1 (sym off ∙ (ap (λ (x : Located). x.at.chunk) (sym same) ∙ here))
 
-    by : (b : Bool) → Single (flat_map (λ ns. ns) (small_lists ks)) → Single (flat_map (λ ns. ns) (cond b (names_in k.cells ∷ small_lists ks) (small_lists ks)))
+    by : (b : Bool) → NamedOnce (flat_map (λ ns. ns) (small_lists ks)) → NamedOnce (flat_map (λ ns. ns) (cond b (names_in k.cells ∷ small_lists ks) (small_lists ks)))
     by true go = single_append (names_in k.cells) (flat_map (λ ns. ns) (small_lists ks)) (single_cells k.cells k.number 0 (λ o q i j e. f o q (left o i) (left q j) e)) go clash
     by false go = go

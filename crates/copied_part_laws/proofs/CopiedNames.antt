@@ -44,7 +44,8 @@ use Rattle.shared_value.specs.Objects.{chunk_of, chunks_of}
 use Rattle.shared_value.proofs.CellsRead.{object_seen, seen_object}
 use Rattle.shared_value.proofs.HeapCounts.{large_are, names_are, small_names}
 use Rattle.shared_value.proofs.HeapLaidOut.{inside_from}
-use Rattle.copied_part_laws.proofs.SurvivorOrder.{Single, single_names, small_survivors_are, sorted_names}
+use Rattle.core_entry_laws.proofs.notes.MarksAll.{NamedOnce}
+use Rattle.copied_part_laws.proofs.SurvivorOrder.{single_names, small_survivors_are, sorted_names}
 use Rattle.copied_part_laws.proofs.BeforeTheCopy.{Old, single_small}
 use Rattle.copied_part_laws.proofs.LargeNames.{large_both, large_led, large_unreserved, none_large}
 use Rattle.copied_part_laws.proofs.NamesLaid.{Told, birth_name, lay_all, lists_led, lists_of, none_small, room_told, small_both, told_large, told_led, told_small}
@@ -154,8 +155,8 @@ module _ (h : LeafHeapValue) (from : List (Option Addr)) (ss : List Survivor) (n
       off true e = absurd (false≢true e)
       off false e = refl
 
-  single_here : Single (small_in a)
-  single_here = subst (λ ls. Single (flat_map (λ ns. ns) ls)) (sym (small_names h.chunks) ∙ O.names.small) (single_small h.chunks settled.apart O.named)
+  single_here : NamedOnce (small_in a)
+  single_here = subst (λ ls. NamedOnce (flat_map (λ ns. ns) ls)) (sym (small_names h.chunks) ∙ O.names.small) (single_small h.chunks settled.apart O.named)
 
   once_zs : Once (olds zs)
   once_zs = subst Once (sym (olds_small h.chunks ss)) (moves.once_smalls h.chunks (olds ss) (once_from (olds ss) S.once))

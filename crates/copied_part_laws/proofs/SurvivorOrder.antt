@@ -16,17 +16,13 @@ use Rattle.leaf_copy_gc.specs.declared.lists.Survivor.{Survivor}
 use Rattle.leaf_copy_gc.specs.Survivors.{olds, old_of, survivor_order}
 use Rattle.core_relation.specs.Memory.{In}
 use Rattle.core_relation.proofs.objects.Members.{map_in}
+use Rattle.core_entry_laws.proofs.notes.MarksAll.{NamedOnce}
 use Rattle.copied_part_laws.proofs.NamesLaid.{birth_name}
-
--- no name stands here twice
-abbrev pub Single : List Name → Type 0
-Single [] = Unit {0}
-Single (n ∷ ns) = (In ns n → ⊥) × Single ns
 
 -- ---- BIRTHS
 
 -- two lists in this order with the same names are one
-pub one_order : (xs ys : List Name) → AreByBirth xs → AreByBirth ys → Single xs → Single ys → ((n : Name) → In xs n → In ys n) → ((n : Name) → In ys n → In xs n) → xs ≡ ys
+pub one_order : (xs ys : List Name) → AreByBirth xs → AreByBirth ys → NamedOnce xs → NamedOnce ys → ((n : Name) → In xs n → In ys n) → ((n : Name) → In ys n → In xs n) → xs ≡ ys
 one_order [] [] a b o p f g = refl
 one_order [] (y ∷ ys) a b o p f g = absurd (g y (inl refl))
 one_order (x ∷ xs) [] a b o p f g = absurd (f x (inl refl))
@@ -102,7 +98,7 @@ pub sorted_names : (p : Survivor → Bool) (ss : List Survivor) → AreSorted ss
 sorted_names p ss h = names_rising (filter p ss) (some_rising p ss (rising ss h))
 
 -- none bears a name that another bears
-pub single_names : (zs : List Survivor) → Once (olds zs) → ((s t : Survivor) → In zs s → In zs t → birth_name s ≡ birth_name t → s.old ≡ t.old) → Single (map birth_name zs)
+pub single_names : (zs : List Survivor) → Once (olds zs) → ((s t : Survivor) → In zs s → In zs t → birth_name s ≡ birth_name t → s.old ≡ t.old) → NamedOnce (map birth_name zs)
 single_names [] o f = tt
 single_names (s ∷ zs) o f = (
   (λ i. let t = map_in birth_name zs (birth_name s) i in o.0 (contains_from_in (olds zs) s.old (subst (In (olds zs)) (sym (f s t.0 (inl refl) (inr t.1) (sym t.2))) (in_map old_of zs t.0 t.1)))),
@@ -111,28 +107,28 @@ single_names (s ∷ zs) o f = (
 
 -- ---- THE ACCOUNT'S
 
-single_insert : (n : Name) (ms : List Name) → (In ms n → ⊥) → Single ms → Single (insert_name n ms)
+single_insert : (n : Name) (ms : List Name) → (In ms n → ⊥) → NamedOnce ms → NamedOnce (insert_name n ms)
 single_insert n [] f s = ((λ i. i), tt)
 single_insert n (m ∷ ms) f s = by (name_le n m) (single_insert n ms (λ i. f (inr i)) s.1)
   where
-    by : (b : Bool) → Single (insert_name n ms) → Single (cond b (n ∷ m ∷ ms) (m ∷ insert_name n ms))
+    by : (b : Bool) → NamedOnce (insert_name n ms) → NamedOnce (cond b (n ∷ m ∷ ms) (m ∷ insert_name n ms))
     by true go = (f, s)
     by false go = ((λ i. elim (insert_cases n ms m i) [ inl e ↦ f (inl (sym e)) | inr j ↦ s.0 j ]), go)
 
-single_birth : (ns : List Name) → Single ns → Single (by_birth ns)
+single_birth : (ns : List Name) → NamedOnce ns → NamedOnce (by_birth ns)
 single_birth [] s = tt
 single_birth (n ∷ ns) s = single_insert n (by_birth ns) (λ i. s.0 (birth_cases ns n i)) (single_birth ns s.1)
 
-single_some : (p : Name → Bool) (ns : List Name) → Single ns → Single (filter p ns)
+single_some : (p : Name → Bool) (ns : List Name) → NamedOnce ns → NamedOnce (filter p ns)
 single_some p [] s = tt
 single_some p (n ∷ ns) s = by (p n) (single_some p ns s.1)
   where
-    by : (b : Bool) → Single (filter p ns) → Single (cond b (n ∷ filter p ns) (filter p ns))
+    by : (b : Bool) → NamedOnce (filter p ns) → NamedOnce (cond b (n ∷ filter p ns) (filter p ns))
     by true go = ((λ i. s.0 (in_from_kept p ns n i).0), go)
     by false go = go
 
 -- the small survivors of an account are these
-pub small_survivors_are : (m : State) (a : Heap) (xs : List Name) → AreByBirth xs → Single xs → Single (small_in a) → ((n : Name) → In xs n → In (small_in a) n × (holds_name a.survivors n ≡ true))
+pub small_survivors_are : (m : State) (a : Heap) (xs : List Name) → AreByBirth xs → NamedOnce xs → NamedOnce (small_in a) → ((n : Name) → In xs n → In (small_in a) n × (holds_name a.survivors n ≡ true))
     → ((n : Name) → In (small_in a) n → holds_name a.survivors n ≡ true → In xs n) → xs ≡ small_survivors a
 small_survivors_are m a xs order single once f g =
     let law = collections_keep_just m a in

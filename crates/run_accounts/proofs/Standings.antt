@@ -86,9 +86,6 @@ pub record Ran (s : SettingsValue) (p : ProgramText) (l : Ledger) (t k done : �
   pub is : now ≡ task_steps p l t done
   pub rest : standing s p l t k ≡ done + standing s p now t (k - done)
 
-pub ran_none : (s : SettingsValue) (p : ProgramText) (l : Ledger) (t k : ℕ) → Ran s p l t k 0 l
-ran_none s p l t k = record { is = refl; rest = let e : standing s p l t k ≡ standing s p l t (k - 0) = ap (standing s p l t) (let i : k ≡ k - 0 = omega arith in i) in omega arith }
-
 module _ (s : SettingsValue) (p : ProgramText) (l : Ledger) (t k done : ℕ) (now : Ledger) (R : Ran s p l t k done now) (lt : done < k) where
   left_is : k - done ≡ suc (k - (done + 1))
   left_is = omega arith
@@ -123,9 +120,6 @@ module _ (s : SettingsValue) (p : ProgramText) (l : Ledger) (t k done : ℕ) (no
     is = ran_next;
     rest = let a = stands_more s p t now (k - (done + 1)) e in let b = R.rest in let g = rest_is in omega arith;
   }
-
-pub ran_all : (s : SettingsValue) (p : ProgramText) (l : Ledger) (t k : ℕ) (now : Ledger) → Ran s p l t k k now → k ≡ standing s p l t k
-ran_all s p l t k now R = let e = R.rest in let z : standing s p now t (k - k) ≡ 0 = ap (standing s p now t) (let q : k - k ≡ 0 = omega arith in q) in omega arith
 
 -- the same, by the accounts at the entry and those that the loop has come to
 module _ (a b : AccountsValue) (t k done : ℕ) (is : b ≡ went_on a b.ledger) (R : Ran a.limits a.program a.ledger t k done b.ledger) (lt : done < k) where

@@ -51,12 +51,6 @@ steps_by s s1 s2 s3 s4 t can used next e1 e2 e3 e4 =
     ∙ ap (λ (u : ℕ). record s { ledger = task_step s.program s.ledger t; used = u })
     (ap₂ (λ u m. used_by u r (step s.program m t) n) used (allocated_machine s.ledger t (asked s.program s.ledger.machine t)) ∙ (sym (cond-true (can_step s.ledger.machine t) _ _ can) ∙ next))))
 
--- a step that can't be taken
-pub steps_none : (s new : AccountsValue) (t : ℕ) → can_step s.ledger.machine t ≡ false → s.used ≡ in_use s.ledger → new ≡ record s { ledger = record s.ledger { steps = s.ledger.steps + 1 } } → new ≡ went_on s (task_step s.program s.ledger t)
-steps_none s new t can used e =
-    e ∙ (ap (λ (u : ℕ). record s { ledger = record s.ledger { steps = s.ledger.steps + 1 }; used = u }) used
-    ∙ ap (went_on s) (sym (cond-false (can_step s.ledger.machine t) _ _ can)))
-
 -- a step that asks for nothing allocates nothing, and leaves the count of the chunks
 pub allocates_nothing : (s : AccountsValue) (t : ℕ) → asked s.program s.ledger.machine t ≡ None → s ≡ record s { ledger = allocated_in s.program s.ledger t }
 allocates_nothing s t e = ap (λ (o : Option ℕ). record s { ledger = allocated_by s.ledger t o }) (sym e)

@@ -1,7 +1,7 @@
 -- What an entry changes of the accounts, with the count of the chunks in use.
 use Rattle.std.proofs.Common.{◌≡◌, ℕ, ◌+◌, ◌-◌, Bool, true, false, cond, Option, Some, None, List, [], ◌∷◌, ◌++◌, length, slice_set, nat_lt, refl, ap, ap₂, sym, ◌∙◌, arith}
 use Rattle.listed.proofs.Members.{got_same}
-use Rattle.run_trace.specs.declared.entry.Kind.TheVariants.{Took, Chunk, Begin, End as EndOf, PutOff, Mark, More, Sweep, Fuel}
+use Rattle.run_trace.specs.declared.entry.Kind.TheVariants.{Took, Chunk, Begin, End as EndOf, PutOff, Mark, More, Sweep}
 use Rattle.hh_model.specs.Step.{asked}
 use Rattle.run_ledger.specs.declared.data.Heap.{Heap}
 use Rattle.run_ledger.specs.declared.data.Ledger.{Ledger}
@@ -33,9 +33,6 @@ module _ (s new : AccountsValue) (w t : ℕ) (A : Agrees s) where
 
   pub went_more : (n : ℕ) → new ≡ record s { ledger = after_kind s.program s.limits s.ledger w (More t n) } → new ≡ went_on s (after_kind s.program s.limits s.ledger w (More t n))
   went_more n e = same_went s new _ A (same_use s.ledger t _ (λ h. refl)) e
-
-pub went_fuel : (s new : AccountsValue) (w : ℕ) → Agrees s → new ≡ record s { ledger = after_kind s.program s.limits s.ledger w Fuel } → new ≡ went_on s (after_kind s.program s.limits s.ledger w Fuel)
-went_fuel s new w A e = same_went s new _ A refl e
 
 -- CHUNKS AND COLLECTIONS THAT BEGIN
 

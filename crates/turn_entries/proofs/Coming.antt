@@ -2,7 +2,6 @@
 use Rattle.std.proofs.Common.{◌≡◌, ℕ, ◌<◌, ◌==◌, ◌||◌, Bool, true, false, Option, Some, None, is_some, ap, sym, subst, ◌∙◌, if◌then◌else◌, nat_le, eq-eqb, ne_eqb, arith}
 use Rattle.run_trace.specs.declared.entry.Kind.{Kind}
 use Rattle.run_trace.specs.declared.entry.Kind.TheVariants.{Begin, Fuel, PutOff, Ran}
-use Rattle.run_ledger.specs.declared.data.Owed.{Owed}
 use Rattle.run_ledger.specs.declared.data.Refused.{Refused}
 use Rattle.run_ledger.specs.Entries.{is_pool_enough}
 use Rattle.task_machine.specs.declared.part.Private.{Private}
@@ -37,12 +36,6 @@ module _ (r : Run) (k : ℕ) (ready : Ready) (acted : Acted) where
 
     pub acts_spent : (o : Option Refused) → o ≡ first_cause r.paced.end r.paced.steps r.paced.settings k false → is_some o ≡ true → ActsFor r k ready (Some Fuel) acted → ActsFor r k ready (going_kind r.paced k ready) acted
     acts_spent o is some A = acts_same (going_kind r.paced k ready) (Some Fuel) (going true (spent o is ∙ some)) A
-
-    pub acts_free : (o : Option Refused) → o ≡ first_cause r.paced.end r.paced.steps r.paced.settings k false → is_some o ≡ false → ActsFor r k ready (owing_kind r.paced (owed_by r.paced k) ready) acted → ActsFor r k ready (going_kind r.paced k ready) acted
-    acts_free o is none A = acts_same (going_kind r.paced k ready) (owing_kind r.paced (owed_by r.paced k) ready) (going false (spent o is ∙ none)) A
-
-  pub acts_owing : (o : Owed) → owed_by r.paced k ≡ o → ActsFor r k ready (owing_kind r.paced o ready) acted → ActsFor r k ready (owing_kind r.paced (owed_by r.paced k) ready) acted
-  acts_owing o is A = acts_same (owing_kind r.paced (owed_by r.paced k) ready) (owing_kind r.paced o ready) (ap (λ (x : Owed). owing_kind r.paced x ready) is) A
 
   pub acts_brought : (other : Ready) → ready ≡ other → ActsFor r k other (brought_kind r.paced other) acted → ActsFor r k ready (brought_kind r.paced ready) acted
   acts_brought other is A = subst (λ (x : Ready). ActsFor r k x (brought_kind r.paced x) acted) (sym is) A

@@ -1,9 +1,9 @@
 -- Parts that may take steps.
-use Rattle.std.proofs.Common.{◌≡◌, ℕ, ◌<◌, None, refl, ap, ◌∙◌, arith}
+use Rattle.std.proofs.Common.{◌≡◌, ℕ, ◌<◌, None, ap, ◌∙◌, arith}
 use Rattle.alloc_path.specs.LeafHeapValue.{LeafHeapValue}
 use Rattle.leaf_copy_gc.specs.declared.lists.Moved.{Moved}
 use Rattle.task_machine.specs.declared.part.Private.{Private}
-use Rattle.task_machine.specs.declared.part.Paused.TheVariants.{Shared, Spent}
+use Rattle.task_machine.specs.declared.part.Paused.TheVariants.{Shared}
 use Rattle.shared_value.specs.Fits.{Fits}
 use Rattle.shared_value.specs.SharedValue.{SharedValue}
 use Rattle.own_steps.specs.Alone.{IsShared}
@@ -17,9 +17,6 @@ module _ (w : SharedValue) (k : ℕ) (part : Private) where
 
   pub stands_shared : IsPaused w k part Shared → IsShared w part
   stands_shared P = record { last = P.next; few = P.may.few }
-
-  pub some_fresh : IsPaused w k part Spent → 0 < part.fresh
-  some_fresh P = let e = P.spent refl in omega (arith, e)
 
 -- after an entry
 module _ (w : SharedValue) (k : ℕ) (old part : Private) where

@@ -63,9 +63,6 @@ module _ (w : SharedValue) (k : ℕ) (part : Private) (I : IsSharedValue w) (on 
       let fuel = I.limits.fuel.1 in
       omega (arith, count, rows, bound, fuel, few, most)
 
-  pub few_fields : part.field_limit < 2 ^ 20
-  few_fields = let e = F.field_limit in let small = limit_small w.settings.version in omega (arith, e, small)
-
 -- ---- AFTER A RUN OF STEPS
 
 module _ (w : SharedValue) (text : ProgramText) (same : w.program ≡ text) (k : ℕ) (I : IsSharedValue w) (old new : Private) (fits : Fits w k old) (on : (accounts w).end ≡ None) (idle : old.begun ≡ None) (n : ℕ)
@@ -110,9 +107,6 @@ module _ (p : ProgramText) (k : ℕ) (part : Private) (A : AtSome p (λ w. MayRu
 
   pub few_then : (n : ℕ) → n ≤ private_limit → part.allocations + n < 4294967296
   few_then n most = few_allocations A.0 k part A.1.world A.1.goes A.2.fits n A.2.few most
-
-  pub limit_then : part.field_limit < 2 ^ 20
-  limit_then = few_fields A.0 k part A.1.world A.1.goes A.2.fits
 
   pub grows : (new : Private) (n : ℕ) → Runs p part n new → KeepsAccounts p part n new → KeepsRest part new → part.fresh + n ≤ private_limit → (why : Paused) → PausesBy p part n new why → (why ≡ Spent → new.fresh ≡ private_limit) → HasGrown p k part new why
   grows new n runs kept rest few why by spent = λ w G f. paused_then w p G.program k G.world part new f G.goes A.2.idle n runs kept rest few why by spent

@@ -116,9 +116,3 @@ GrowsTo p k kept (HasPaused part why) = HasGrown p k kept part why
 GrowsTo p k kept (IsCopied c) = ⊥
 GrowsTo p k kept (Found task) = ⊥
 GrowsTo p k kept Wanting = Unit {0}
-
--- the worker comes for its turn with nothing but a task, perhaps
-abbrev pub BringsNothing : Ready → Type 0
-BringsNothing (HasPaused part why) = ⊥
-BringsNothing (IsCopied c) = ⊥
-BringsNothing _ = Unit {0}

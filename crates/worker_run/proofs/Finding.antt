@@ -81,12 +81,6 @@ finds_same k a b (Some task) (inl f) = f.same
 finds_same k a b (Some task) (inr s) = s.same
 finds_same k a b None f = f.same
 
-pub looks_same : (k : ℕ) (a b : Hand) (ready : Ready) → Looks k a b ready → length (thefts b) ≡ length (thefts a)
-looks_same k a b (HasPaused part why) h = absurd h
-looks_same k a b (IsCopied c) h = absurd h
-looks_same k a b (Found o) h = (finds_same k a b o h).workers
-looks_same k a b Wanting h = absurd h
-
 pub both_same : (a b : Hand) (left right : ℕ) → PutsBoth a b left right → length (thefts b) ≡ length (thefts a)
 both_same a b left right P = P.2.same.workers ∙ P.1.same.workers
 

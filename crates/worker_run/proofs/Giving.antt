@@ -1,5 +1,5 @@
 -- A desk before and after a turn.
-use Rattle.std.proofs.Common.{◌≡◌, inl, inr, ℕ, suc, ◌+◌, ◌^◌, ◌<◌, ◌≤◌, ◌==◌, Bool, true, false, cond, List, [], ◌∷◌, length, refl, sym, ap, ap₂, ◌∙◌, subst, arith, Option, Some, length-append}
+use Rattle.std.proofs.Common.{◌≡◌, inl, inr, ℕ, suc, ◌+◌, ◌^◌, ◌<◌, ◌≤◌, ◌==◌, Bool, true, false, cond, List, [], ◌∷◌, length, refl, sym, ap, ap₂, ◌∙◌, subst, arith, Option, Some}
 use Rattle.std.specs.declared.snapshot.Snapshot.{Snapshot}
 use Rattle.std.proofs.lemmas.Option.{same_Some}
 use Rattle.atomic_table.specs.Seated.{TableId}
@@ -12,7 +12,7 @@ use Rattle.shared_value.specs.Fits.{Fits}
 use Rattle.shared_value.specs.Stands.{IsSharedValue}
 use Rattle.shared_value.specs.SharedValue.{SharedValue}
 use Rattle.turn_lock.specs.Journal.{entries_by}
-use Rattle.turn_lock.specs.Seats.{view, Extends, GaveOne, HasNoTurn, HasTurn, IsAlike, Knows, SameWorker, own_entries, with_taken}
+use Rattle.turn_lock.specs.Seats.{view, Extends, HasTurn, IsAlike, Knows, own_entries, with_taken}
 use Rattle.turn_lock.proofs.Laws.{own_of_taken}
 use Rattle.turn_entries.specs.declared.held.Collecting.{Collecting}
 use Rattle.turn_entries.specs.declared.held.Copied.{Copied}
@@ -27,7 +27,7 @@ use Rattle.turn_entries.specs.Parts.{BringsTo, ComesWith, GoesWith, Keeps, Sight
 use Rattle.turn_entries.specs.Values.{EntersOne, FitsKept, IsSame, is_over, journal_of, setup_of, worker_of}
 use Rattle.turn_entries.proofs.Turning.{ended_over}
 use Rattle.worker_run.specs.declared.desk.Desk.{Desk}
-use Rattle.worker_run.specs.Desks.{GivesOne, HasEntry, HasStopped, IsDesk, SameDesk, TakesTurn, entries_of}
+use Rattle.worker_run.specs.Desks.{HasEntry, HasStopped, IsDesk, TakesTurn}
 
 -- of a worker's entries there are no more
 own_within : (w : ℕ) (es : List EntryValue) → length (entries_by worker_of w es) ≤ length es
@@ -51,12 +51,6 @@ module _ (p : ProgramText) (d : Desk) (value : Run) (v : Sight) (K : Knows journ
 
   pub program_taken : value.paced.program ≡ p
   program_taken = ap (λ (s : Setup). s.program) setup_taken
-
-  pub settings_taken : value.paced.settings ≡ d.settings
-  settings_taken = ap (λ (s : Setup). s.settings) setup_taken
-
-  pub worker_taken : d.worker < d.settings.workers → d.worker < value.paced.settings.workers
-  worker_taken below = let e : value.paced.settings.workers ≡ d.settings.workers = ap (λ (s : SettingsValue). s.workers) settings_taken in omega (arith, e, below)
 
   kept_fits : (part : Private) → Keeps v.part part → Fits value.paced d.worker part
   kept_fits part k = subst (λ (n : ℕ). Fits value.paced n part) number (subst (Fits value.paced v.worker) k.2 (K.part k.0 k.1))
@@ -105,25 +99,6 @@ module _ (z : TableId) (d : Desk) (value : Run) (H : HasEntry z d value) where
     short = short;
   }
 
-  pub room_for_one : length (journal_of value) < 2 ^ 63 → d.given + 1 < 2 ^ 64
-  room_for_one short =
-      let a = H.gave in let b = H.within in
-      let c : length (journal_of value) ≡ length (journal_of H.taken) + 1 = ap length H.enters.enters.journal ∙ length-append (journal_of H.taken) (record { worker = d.worker; kind = H.kind } ∷ []) in
-      omega (arith, a, b, c, short)
-
-  module _ (e : Desk) (is : e ≡ record d { seat = e.seat; given = d.given + 1 }) (idle : HasNoTurn z e.seat) (same : SameWorker (view d.seat) (view e.seat)) (G : GaveOne worker_of (journal_of value) (view d.seat) (view e.seat)) where
-    counts : d.given + 1 ≡ length (entries_of e)
-    counts = let a = H.gave in let b : length (entries_of e) ≡ length (entries_of d) + 1 = ap length G.own ∙ length-append (entries_of d) (G.entry ∷ []) in omega (arith, a, b)
-
-    pub desk_given : IsDesk z value.paced.program e
-    desk_given = subst (IsDesk z value.paced.program) (sym is) (record { idle = idle; number = same.worker ∙ H.number; under = same.setup ∙ H.under; below = H.below; few = H.few; gave = counts; thieves = H.thieves })
-
-    pub same_given : SameDesk d e
-    same_given = subst (SameDesk d) (sym is) (record { worker = refl; settings = refl; seat = same })
-
-    pub one_given : GivesOne d e
-    one_given = (G.entry, G.own)
-
   abbrev pub KeepsOf : Next → Snapshot Private → Type 0
   KeepsOf (Running part) s = s.value ≡ part
   KeepsOf (Collects c) s = s.value ≡ c.part
@@ -158,17 +133,6 @@ takes_from w after k ready Idle f = tt
 takes_from w after k ready Waits f = tt
 takes_from w after k ready Stop f = tt
 
-pub goes_with_none : (p : ProgramText) (v : Sight) (r run : Run) (k : ℕ) (ready : Ready) (kind : Option Kind) (next : Next) → WhyNone r run k ready kind next → GoesWith p k v next
-goes_with_none p v r run k ready kind (Running part) h = absurd h
-goes_with_none p v r run k ready kind (Collects c) h = absurd h
-goes_with_none p v r run k ready kind (HasCopied c) h = absurd h
-goes_with_none p v r run k ready kind (GoesFor t) h = tt
-goes_with_none p v r run k ready kind (Forked left right) h = tt
-goes_with_none p v r run k ready kind (Resumed t) h = tt
-goes_with_none p v r run k ready kind Idle h = tt
-goes_with_none p v r run k ready kind Waits h = tt
-goes_with_none p v r run k ready kind Stop h = tt
-
 -- a worker stops only where the run is over
 pub stops_over : (old new : Desk) (ready : Ready) (T : TakesTurn old new ready Stop) → is_over T.given ≡ true
 stops_over old new ready T = elim T.does [ inl a ↦ ended_over T.given a.0.follows | inr b ↦ b.0.1.0 ]
@@ -188,13 +152,6 @@ goes_still p k v w (Resumed t) e G = tt
 goes_still p k v w Idle e G = tt
 goes_still p k v w Waits e G = tt
 goes_still p k v w Stop e G = tt
-
-module _ (z : TableId) (p : ProgramText) (d e : Desk) (D : IsDesk z p d) (is : e ≡ record d { seat = e.seat }) (idle : HasNoTurn z e.seat) (same : SameWorker (view d.seat) (view e.seat)) (own : entries_of e ≡ entries_of d) where
-  pub desk_same : IsDesk z p e
-  desk_same = subst (IsDesk z p) (sym is) (record { idle = idle; number = same.worker ∙ D.number; under = same.setup ∙ D.under; below = D.below; few = D.few; gave = D.gave ∙ ap length (sym own); thieves = D.thieves })
-
-  pub same_same : SameDesk d e
-  same_same = subst (SameDesk d) (sym is) (record { worker = refl; settings = refl; seat = same })
 
 -- what copying comes to
 pub comes_copied : (p : ProgramText) (k : ℕ) (v : Sight) (next : Next) (c : Collecting) (d : Copied) → GoesWith p k v next → next ≡ Collects c → d.begun.value ≡ c.part → WasCopied p k d → ComesWith p k v (IsCopied d)

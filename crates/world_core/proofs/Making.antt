@@ -51,10 +51,6 @@ answers_part w after k e q (Ok x) why same enters others H = record { free = why
 answers_part w after k e q (Err (Refuses cause)) why same enters others H = record { cause_is = why; same = same; holds = part_stops after k q H }
 answers_part w after k e q (Err NoMemory) why same enters others H = record { same = places_same w after same; still = fit_by w after same; holds = part_stops after k q H }
 
--- a part with another heap, amid no collection still and with no fresh step still
-pub holds_same : (after w : SharedValue) (k : ℕ) (p q : Private) → q.begun ≡ p.begun → q.fresh ≡ p.fresh → HoldsPart w false k p → Fits after k q → HoldsPart after false k q
-holds_same after w k p q begun fresh H F = record { fits = F; idle = begun ∙ H.idle; entered = λ h. fresh ∙ H.entered refl }
-
 pub holds_heap : (after w : SharedValue) (k : ℕ) (p q : Private) → q ≡ record p { heap = q.heap } → HoldsPart w false k p → Fits after k q → HoldsPart after false k q
 holds_heap after w k p q is H F = record {
   fits = F;
@@ -113,13 +109,6 @@ pub stopped_part : (w : SharedValue) (k : ℕ) (p : Private) → Fits w k p → 
 stopped_part w k p F idle = record { fits = F; idle = idle; entered = λ h. absurd (false≢true (sym h)) }
 
 -- ---- A COLLECTION ENDS
-
-pub end_holds : (w after : SharedValue) (k : ℕ) (p q : Private) (moved : Moved) → HoldsCopy w k p moved → q ≡ ended p → Fits after k q → HoldsPart after false k q
-end_holds w after k p q moved H is F = record {
-  fits = F;
-  idle = ap (λ (z : Private). z.begun) is;
-  entered = λ h. ap (λ (z : Private). z.fresh) is ∙ (ap (λ (z : Private). z.fresh) H.part ∙ H.fresh);
-}
 
 -- its numbers are wrong
 pub miscounts : (w : SharedValue) (k : ℕ) → IsSharedValue w → first_cause w.end w.steps w.settings k false ≡ None → (t : ℕ) (p : Private) (moved : Moved) (a g n : ℕ) (cause : Refused) → HoldsCopy w k p moved → p.task ≡ t → ends_as (a, g, n) (moved.taken, moved.given, moved.left) ≡ Some cause

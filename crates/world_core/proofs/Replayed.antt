@@ -1,7 +1,7 @@
 -- A replay takes entries one by one: what is left of them is refused where the whole is.
 use Rattle.std.proofs.Common.{◌≡◌, ℕ, suc, ◌+◌, ◌<◌, ◌≤◌, true, false, Some, List, [], ◌∷◌, ◌++◌, drop, get_or, length, take, refl, ap, sym, subst, ◌∙◌, add-one, append_assoc}
 use Rattle.std.proofs.Math.Seq.{drop-cons, take-suc}
-use Rattle.std.proofs.lemmas.List.{append-nil, drop_all}
+use Rattle.std.proofs.lemmas.List.{append-nil}
 use Rattle.hh_lang.specs.Form.{ProgramText}
 use Rattle.run_trace.specs.Entry.{EntryValue}
 use Rattle.run_trace.specs.Settings.{SettingsValue}
@@ -60,10 +60,6 @@ module _ (p : ProgramText) (s : SettingsValue) (entries done rest : List EntryVa
         ∙ ap (λ (l : Ledger). first_refused_from p s l (index + 1) rest) (same_after ∙ sym (then_accounts x.shared y.shared e A.enters)));
   }
 
-  -- it is refused
-  pub stopped_at : (cause : Refused) → IsStoppedBy x y e cause → first_refused p s entries ≡ Some (record { index = index; cause = cause })
-  stopped_at cause S = C.left ∙ ap (λ o. refused_or o index (first_refused_from p s (after p s (accounts x.shared) e) (index + 1) rest)) (same_refusal ∙ S.cause_is)
-
   -- memory is wanting
   pub come : IsSharedValue y.shared → WantedMemory x y → HasCome p s entries y
   come I W =
@@ -75,16 +71,6 @@ module _ (p : ProgramText) (s : SettingsValue) (entries done rest : List EntryVa
         prefix = (e ∷ rest, C.whole ∙ ap (λ js. js ++ e ∷ rest) (sym (W.same.journal ∙ C.journal)));
         legal = subst (λ (q : ProgramText). is_legal q s y.shared.journal.items ≡ true) program (subst (λ (t : SettingsValue). is_legal y.shared.program t y.shared.journal.items ≡ true) settings I.legal);
       }
-
--- all are made
-pub came_last : (p : ProgramText) (s : SettingsValue) (entries done : List EntryValue) (index : ℕ) (x : WorldValue) → Came p s entries done [] index x → HasReplayed p s entries x
-came_last p s entries done index x C = record {
-  program = C.program;
-  settings = C.settings;
-  journal = C.journal ∙ (sym (append-nil done) ∙ sym C.whole);
-  goes = C.goes;
-  none = C.left;
-}
 
 -- ---- BY PLACES: so many of the entries are made
 
@@ -107,11 +93,5 @@ module _ (p : ProgramText) (s : SettingsValue) (entries : List EntryValue) (k in
   pub came_more : Applies x y e → CameTo p s entries (k + 1) (index + 1) y
   came_more A = subst (λ done. Came p s entries done (drop (k + 1) entries) (index + 1) y) (sym taken) (came_on p s entries (take k entries) (drop (k + 1) entries) e index x y at A)
 
-  pub stops_at : (cause : Refused) → IsStoppedBy x y e cause → first_refused p s entries ≡ Some (record { index = index; cause = cause })
-  stops_at cause S = stopped_at p s entries (take k entries) (drop (k + 1) entries) e index x y at cause S
-
   pub come_to : IsSharedValue y.shared → WantedMemory x y → HasCome p s entries y
   come_to I W = come p s entries (take k entries) (drop (k + 1) entries) e index x y at I W
-
-pub came_all : (p : ProgramText) (s : SettingsValue) (entries : List EntryValue) (k index : ℕ) (x : WorldValue) → length entries ≤ k → CameTo p s entries k index x → HasReplayed p s entries x
-came_all p s entries k index x le C = came_last p s entries (take k entries) index x (subst (λ rest. Came p s entries (take k entries) rest index x) (drop_all k entries le) C)

@@ -119,12 +119,6 @@ module _ (p : Private) where
   standing_most NeedChunk = omega arith
   standing_most Spent = omega arith
 
-pub last_shared : (w : SharedValue) (p : Private) (why : Paused) (n : ℕ) → IsNext w p why → standing_by p why ≡ n → p.fresh ≢ n → n ≤ 257 → IsShared w p × (p.fresh + 1 ≡ n)
-last_shared w p Shared n next is ne le = (record { last = next; few = omega (arith, is, le) }, is)
-last_shared w p Due n next is ne le = absurd (ne is)
-last_shared w p NeedChunk n next is ne le = absurd (ne is)
-last_shared w p Spent n next is ne le = absurd (ne is)
-
 long_by : (n m s : ℕ) → s ≡ m → m < n → n ≤ 257 → long_at n (min most_steps s) ≡ Some (Long m)
 long_by n m s e lt le =
     let is : min most_steps s ≡ m = omega (arith, e, lt, le) in

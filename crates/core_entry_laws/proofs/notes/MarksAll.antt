@@ -18,16 +18,17 @@ use Rattle.core_relation.proofs.objects.Members.{held_object}
 
 -- LISTS OF NAMES, each once
 
-abbrev Once : List Name → Type 0
-Once [] = Unit {0}
-Once (x ∷ xs) = (In xs x → ⊥) × Once xs
+-- no name stands here twice
+abbrev pub NamedOnce : List Name → Type 0
+NamedOnce [] = Unit {0}
+NamedOnce (x ∷ xs) = (In xs x → ⊥) × NamedOnce xs
 
 none_in : (x : Name) (ys : List Name) → AllByRecursion (λ y. is_name x y ≡ false) ys → In ys x → ⊥
 none_in x [] a i = i
 none_in x (y ∷ ys) a (inl e) = both_ways (is_name x y) a.0 (subst (λ z. is_name x z ≡ true) (sym e) (is_name_itself x))
 none_in x (y ∷ ys) a (inr i) = none_in x ys a.1 i
 
-once_names : (xs : List Name) → IsDistinct is_name xs → Once xs
+once_names : (xs : List Name) → IsDistinct is_name xs → NamedOnce xs
 unfolding IsDistinct
 once_names [] d = tt
 once_names (x ∷ xs) d = (none_in x xs d.0, once_names xs d.1)
@@ -58,7 +59,7 @@ still_in n m (y ∷ ys) i ne = by (is_name n y) refl i (λ j. still_in n m ys j 
     by false e (inr j) more = inr (more j)
 
 -- names that all stand in a list are no more than those
-pub no_more : (xs ys : List Name) → Once xs → ((n : Name) → In xs n → In ys n) → length xs ≤ length ys
+pub no_more : (xs ys : List Name) → NamedOnce xs → ((n : Name) → In xs n → In ys n) → length xs ≤ length ys
 no_more [] ys o f = omega arith
 no_more (x ∷ xs) ys o f =
     let a : length ys ≡ suc (length (without x ys)) = shorter x ys (f x (inl refl)) in
@@ -75,7 +76,7 @@ is_in n (x ∷ xs) = by (is_name n x) refl (is_in n xs)
     by false e (inr none) = inr (λ i. elim i [ inl q ↦ both_ways (is_name n x) e (subst (λ z. is_name n z ≡ true) (sym q) (is_name_itself n)) | inr j ↦ none j ])
 
 -- and where they are bs many, they are those
-all_of : (xs ys : List Name) → Once xs → ((n : Name) → In xs n → In ys n) → length ys ≤ length xs → (n : Name) → In ys n → In xs n
+all_of : (xs ys : List Name) → NamedOnce xs → ((n : Name) → In xs n → In ys n) → length ys ≤ length xs → (n : Name) → In ys n → In xs n
 all_of xs ys o f le n i = elim (is_in n xs) [
   | inl j ↦ j
   | inr none ↦
@@ -122,7 +123,7 @@ module _ (v : Memory) (l : Ledger) (t : ℕ) (V : Stands v l) (rests : Rests l t
   not_again a (b ∷ bs) d (inl e) = both_ways (same_address a b) d.0 (same_is a b (sym e))
   not_again a (b ∷ bs) d (inr i) = not_again a bs d.1 i
 
-  once_marked : (bs : List Addr) (each : Each bs) → IsDistinct same_address bs → Once (names bs each)
+  once_marked : (bs : List Addr) (each : Each bs) → IsDistinct same_address bs → NamedOnce (names bs each)
   unfolding IsDistinct names
   once_marked [] each d = tt
   once_marked (a ∷ bs) each d = (
