@@ -14,7 +14,7 @@ use Rattle.hh_model.specs.declared.data.Status.{Status}
 use Rattle.hh_model.specs.declared.data.Status.TheVariants.{Running, Waiting as WaitingOf, Ended as EndedWith, Joined as JoinedOf}
 use Rattle.hh_model.specs.declared.data.Task.{Task}
 use Rattle.hh_model.specs.Effect.{effect}
-use Rattle.hh_model.specs.Step.{child_ended_by, fetched, follow, is_joined, is_left, is_over, is_waiting, kept_by, last_of, last_return, parent_of, parents, result_in, result_of, returned_to, runs, setting, sibling, step, waits}
+use Rattle.hh_model.specs.Step.{child_ended_by, fetched, follow, is_joined, is_left, is_over, is_waiting, kept_by, last_of, last_return, parent_of, parents, result_in, result_of, returned_to, setting, sibling, step}
 use Rattle.hh_model.specs.Tree.{TreeOf}
 use Rattle.run_ledger.specs.declared.data.Ledger.{Ledger}
 use Rattle.run_ledger.specs.Heaps.{heap_of}

@@ -36,7 +36,7 @@ use Rattle.core_entry_laws.proofs.whole.RanWhole.{ran_stands_for}
 use Rattle.core_relation.proofs.changes.With.{at_home, off_home}
 use Rattle.core_entry_laws.proofs.parts.Workers.{ran_leaves}
 use Rattle.task_machine.specs.declared.part.Private.{Private}
-use Rattle.shared_value.specs.declared.task_at_rest.Rest.{Rest}
+use Rattle.task_homes.specs.declared.task_at_rest.Rest.{Rest}
 use Rattle.shared_value.specs.Objects.{levels_of}
 use Rattle.shared_value.specs.SharedValue.{SharedValue, marks_at, accounts, flat, home_in, home_of, noted_in, rest_at, totals_of, value_of}
 use Rattle.shared_value.specs.Measured.{AreMeasured, RestsAreMeasured}
@@ -162,7 +162,7 @@ module _ (w : SharedValue) (k : ℕ) (p : Private) (I : IsSharedValue w) (F : Fi
   here : vt.homes t ≡ h
   here = at_home v t h
 
-  module _ (homes : List (Option Rest)) (sets : List SetOf) (H : HomesFork w.homes homes p left right) (N : SetsFork w.sets sets t) (marks : List (Option MarkingValue)) (unmarked : marks ≡ slice_set w.marks t None) (j : RoomyValue EntryValue) where
+  module _ (homes : List (Option Rest)) (sets : List SetOf) (H : HomesFork w.homes homes p left right) (N : SetsFork w.sets sets t) (marks : List (Option MarkingValue)) (unmarked : (u : ℕ) → marks_at marks u ≡ marks_at (slice_set w.marks t None) u) (j : RoomyValue EntryValue) where
     abbrev tree : List Node
     tree = forked w.tree t
 
@@ -231,10 +231,10 @@ module _ (w : SharedValue) (k : ℕ) (p : Private) (I : IsSharedValue w) (F : Fi
     forks_notes = record {
       keeps = keeps_now;
       kept = ap (λ (z : Noted). z.kept) (noted_then t) ∙ (ap (λ o. (noted_of o).kept) N.parent ∙ keeping_kept (content_at w.sets t));
-      marked = ap (λ ms. marks_at ms t) unmarked ∙ none_left w.marks t;
+      marked = unmarked t ∙ none_left w.marks t;
       left = ap (λ (z : Noted). z.keeps) (noted_then a ∙ ap noted_of left_set);
       right = ap (λ (z : Noted). z.keeps) (noted_then (a + 1) ∙ ap noted_of right_set);
-      others = λ u nt na nb. let e = same_noted u nt na nb in record { keeps = ap (λ (z : Noted). z.keeps) e; kept = ap (λ (z : Noted). z.kept) e; marked = ap (λ ms. marks_at ms u) unmarked ∙ ap flat (got_other w.marks t u None nt) };
+      others = λ u nt na nb. let e = same_noted u nt na nb in record { keeps = ap (λ (z : Noted). z.keeps) e; kept = ap (λ (z : Noted). z.kept) e; marked = unmarked u ∙ ap flat (got_other w.marks t u None nt) };
     }
 
     roots : (rs : List Addr) × AreRoots vt (rested M t) t rs

@@ -19,6 +19,7 @@ use Rattle.heap_tree.specs.declared.state.State.TheVariants.{Ended}
 use Rattle.heap_tree.specs.Node.{Node, state_of as state_in_tree, with_state}
 use Rattle.write_barrier.specs.declared.sets.SetOf.{SetOf}
 use Rattle.write_barrier.specs.Stored.{Content as NotedOf, content_at}
+use Rattle.inner_mark_gc.specs.MarkingValue.{MarkingValue}
 use Rattle.fork_join.specs.Joined.{AreRelabelled, joined_nodes, with_results}
 use Rattle.ledger_step_laws.specs.Accounts.{rested}
 use Rattle.ledger_step_laws.specs.Last.{EndsLast, Joining, Runs, Splits}
@@ -32,15 +33,16 @@ use Rattle.core_relation.specs.Worker.{Fits as FitsValue}
 use Rattle.core_entry_laws.proofs.whole.RanWhole.{ran_stands_for}
 use Rattle.core_entry_laws.proofs.parts.Workers.{ran_leaves}
 use Rattle.task_machine.specs.declared.part.Private.{Private}
-use Rattle.shared_value.specs.declared.task_at_rest.Rest.{Rest}
-use Rattle.shared_value.specs.declared.task_at_rest.Work.{Work}
-use Rattle.shared_value.specs.declared.task_at_rest.Work.TheVariants.{Calls}
-use Rattle.shared_value.specs.SharedValue.{SharedValue, no_home, noted_in, accounts, flat, home_by, home_in, rest_at, totals_of, value_of}
+use Rattle.task_homes.specs.declared.task_at_rest.Rest.{Rest}
+use Rattle.task_homes.specs.declared.task_at_rest.Work.{Work}
+use Rattle.task_homes.specs.declared.task_at_rest.Work.TheVariants.{Calls}
+use Rattle.shared_value.specs.SharedValue.{SharedValue, no_home, noted_in, accounts, flat, home_by, home_in, marks_at, rest_at, totals_of, value_of}
 use Rattle.shared_value.specs.Stands.{HeapForm, IsSharedValue}
 use Rattle.shared_value.specs.Fits.{Fits, OthersFit, home_of_part, part_of}
 use Rattle.shared_value.specs.Entered.{refused}
 use Rattle.shared_value.proofs.FieldsNoted.{noted_of}
-use Rattle.shared_value.proofs.EntryMade.{accounts_are, entered, entered_world, held_apart, part_fits}
+use Rattle.shared_value.proofs.EntryMade.{held_apart}
+use Rattle.shared_value.proofs.MarkingEntryMade.{entered_marks, marked_accounts, marked_fits, marked_world}
 use Rattle.shared_value.proofs.BeforeTheEnd.{end_now}
 use Rattle.shared_value.proofs.TaskTaken.{worker_there}
 use Rattle.own_steps.specs.Alone.{alone_event}
@@ -116,7 +118,7 @@ module _ (w : SharedValue) (k : ℕ) (p : Private) (I : IsSharedValue w) (F : Fi
   own = F.fits
 
   module _ (above beside : Rest) (frames : FramesValue) (above_is : rest_at w.homes q ≡ Some above) (calls : above.work ≡ Calls frames) (beside_is : IsRestOf (rest_at w.homes s) beside) (c : ℕ) (lh rh : LeafHeapValue) (al ar : ℤ × Option Addr) (side : AreSides p s beside c lh rh al ar) where
-    module _ (homes : List (Option Rest)) (sets : List SetOf) (pool : PoolValue) (heap : LeafHeapValue) (H : HomesJoin w.homes homes p q s (with_results frames al ar) heap above) (N : SetsJoin w.sets sets q c (c + 1) above.heap.chunks)
+    module _ (homes : List (Option Rest)) (sets : List SetOf) (marks : List (Option MarkingValue)) (unmarked : (u : ℕ) → (u ≡ t → ⊥) → (u ≡ s → ⊥) → marks_at marks u ≡ marks_at w.marks u) (pool : PoolValue) (heap : LeafHeapValue) (H : HomesJoin w.homes homes p q s (with_results frames al ar) heap above) (N : SetsJoin w.sets sets q c (c + 1) above.heap.chunks)
         (relabelled : AreRelabelled w.pool pool (lh.chunks ++ rh.chunks) q) (heap_is : heap ≡ with_places (merged above.heap lh rh) heap.slots heap.spare) (room_is : room_of heap ≡ room_of above.heap) (j : RoomyValue EntryValue) where
       abbrev tree : List Node
       tree = joined_nodes (with_state w.tree t Ended) q c (c + 1)
@@ -128,7 +130,7 @@ module _ (w : SharedValue) (k : ℕ) (p : Private) (I : IsSharedValue w) (F : Fi
       all_steps = w.steps + suc p.fresh
 
       abbrev w' : SharedValue
-      w' = entered w (last_event k p) tree pool homes sets tasks_out w.outputs all_steps w.end j.room
+      w' = entered_marks w (last_event k p) tree pool homes sets tasks_out w.outputs all_steps w.end j.room marks
 
       abbrev v' : Memory
       v' = value_of w'
@@ -148,7 +150,10 @@ module _ (w : SharedValue) (k : ℕ) (p : Private) (I : IsSharedValue w) (F : Fi
         parent = ap (λ (z : Noted). z.keeps) (set_then q _ N.parent_set);
         left = ap (λ (z : Noted). z.keeps) (set_then c _ N.left_set);
         right = ap (λ (z : Noted). z.keeps) (set_then (c + 1) _ N.right_set);
-        others = λ u nq nc nd. let e = same_noted u nq nc nd in record { keeps = ap (λ (z : Noted). z.keeps) e; kept = ap (λ (z : Noted). z.kept) e; marked = refl };
+        others = λ u nq nc nd.
+            let e = same_noted u nq nc nd in
+            let f = both.apart_of w k p I F at_end free ended above beside frames above_is calls beside_is c lh rh al ar side u nc nd in
+            record { keeps = ap (λ (z : Noted). z.keeps) e; kept = ap (λ (z : Noted). z.kept) e; marked = unmarked u f.0 f.1 };
       }
 
       -- ---- THE HOMES
@@ -266,7 +271,7 @@ module _ (w : SharedValue) (k : ℕ) (p : Private) (I : IsSharedValue w) (F : Fi
       joined_world : IsSharedValue w'
       joined_world =
           let n = joined_long w.tree t q c (c + 1) (both.child_of_two w k p I F at_end free ended above beside frames above_is calls beside_is c lh rh al ar side) q_c q_d c_d in
-          entered_world w (last_event k p) I free_last tree pool homes sets tasks_out w.outputs all_steps w.end j.room (H.many ∙ (I.made ∙ sym n)) (N.many ∙ (I.noted ∙ sym n)) (length-set w.tasks_out k None) relabelled.limit
+          marked_world w (last_event k p) I free_last tree pool homes sets tasks_out w.outputs all_steps w.end j.room marks (H.many ∙ (I.made ∙ sym n)) (N.many ∙ (I.noted ∙ sym n)) (length-set w.tasks_out k None) relabelled.limit
           (ran_stands_for w.program w.settings w.journal.items I.form I.legal v v' (totals_of w) (totals_of w') k t p.fresh h free_last E I.stands own made notes_so counts)
           heaps_then (joined_measured w k p I F at_end free ended above beside frames above_is calls beside_is c lh rh al ar side homes pool heap H relabelled heap_is)
 
@@ -275,12 +280,12 @@ module _ (w : SharedValue) (k : ℕ) (p : Private) (I : IsSharedValue w) (F : Fi
 
       joined_resumed : Some q ≡ running_parent (accounts w').machine.tasks t
       joined_resumed =
-          sym (ap (λ (i : Ledger). running_parent i.machine.tasks t) (accounts_are w (last_event k p) I free_last tree pool homes sets tasks_out w.outputs all_steps w.end j.room) ∙ (before.parent_then w k p I F at_end free ended))
+          sym (ap (λ (i : Ledger). running_parent i.machine.tasks t) (marked_accounts w (last_event k p) I free_last tree pool homes sets tasks_out w.outputs all_steps w.end j.room marks) ∙ (before.parent_then w k p I F at_end free ended))
 
       -- THE PARTS OF OTHERS
       joined_others : OthersFit w w' k
       joined_others u i ne G =
-          part_fits w (last_event k p) I free_last tree pool homes sets tasks_out w.outputs all_steps w.end j.room joined_world u i i (ap flat (got_other w.tasks_out k u None ne)) G refl refl refl G.form (others_measured w k p I F at_end free ended above beside frames above_is calls beside_is c lh rh al ar side homes pool heap H relabelled heap_is u i ne G)
+          marked_fits w (last_event k p) I free_last tree pool homes sets tasks_out w.outputs all_steps w.end j.room marks joined_world u i i (ap flat (got_other w.tasks_out k u None ne)) G refl refl refl G.form (others_measured w k p I F at_end free ended above beside frames above_is calls beside_is c lh rh al ar side homes pool heap H relabelled heap_is u i ne G)
           (ran_leaves w.program w.settings v v' l L t k p.fresh h E own made (part_of w.settings i) (held_apart w k u p i F G ne) G.fits)
 
       -- ---- AS THE CALL HAS IT
@@ -288,11 +293,11 @@ module _ (w : SharedValue) (k : ℕ) (p : Private) (I : IsSharedValue w) (F : Fi
       more = omega arith
 
       abbrev pub joined_alone : SharedValue
-      joined_alone = record w { tree = tree; pool = pool; homes = homes; sets = sets; tasks_out = tasks_out; steps = w.steps + (p.fresh + 1); journal = record { items = w.journal.items ++ alone_event k p ∷ []; room = j.room } }
+      joined_alone = record w { tree = tree; pool = pool; homes = homes; sets = sets; marks = marks; tasks_out = tasks_out; steps = w.steps + (p.fresh + 1); journal = record { items = w.journal.items ++ alone_event k p ∷ []; room = j.room } }
 
       joined_is : w' ≡ joined_alone
       joined_is =
-          ap (λ n. let i : SharedValue = record w { tree = tree; pool = pool; homes = homes; sets = sets; tasks_out = tasks_out; steps = w.steps + n; journal = record { items = w.journal.items ++ record { worker = k; kind = Ran p.task n } ∷ []; room = j.room } } in i) more
+          ap (λ n. let i : SharedValue = record w { tree = tree; pool = pool; homes = homes; sets = sets; marks = marks; tasks_out = tasks_out; steps = w.steps + n; journal = record { items = w.journal.items ++ record { worker = k; kind = Ran p.task n } ∷ []; room = j.room } } in i) more
 
       pub alone_world : IsSharedValue joined_alone
       alone_world = subst IsSharedValue joined_is joined_world

@@ -1,10 +1,10 @@
 -- An entry of a join, as the call has it: what is asked of the parts that it joins, and what the code makes of homes
 -- and sets.
 use Rattle.std.proofs.Common.{◌≡◌, ℕ, ◌+◌, ◌<◌, ◌++◌, arith, Bool, true, false, Option, Some, None, List, [], ◌∷◌, length, slice_get, slice_set, option_map, inl, inr, refl, ap, sym, subst, ◌∙◌}
-use Rattle.std.specs.Prelude.{IfSome}
+use Rattle.std.specs.Prelude.{IfSome, IsSome}
 use Rattle.std.proofs.lemmas.Bool.{cases_eq}
 use Rattle.std.proofs.lemmas.Option.{same_Some}
-use Rattle.listed.proofs.Members.{got_within}
+use Rattle.listed.proofs.Members.{got_other, got_within}
 use Rattle.listed.specs.RoomyValue.{RoomyValue}
 use Rattle.listed.proofs.Places.{got_some}
 use Rattle.listed.proofs.Options.{none_some}
@@ -19,12 +19,13 @@ use Rattle.heap_tree.proofs.ChangeLemmas.{states_change}
 use Rattle.remembered_set.specs.Sources.{RememberedValue, lifted}
 use Rattle.write_barrier.specs.declared.sets.SetOf.{SetOf}
 use Rattle.write_barrier.specs.Stored.{content_at}
+use Rattle.inner_mark_gc.specs.MarkingValue.{MarkingValue}
 use Rattle.fork_join.specs.declared.sides.EndedChild.{EndedChild}
 use Rattle.fork_join.specs.Joined.{AreRelabelled, HasRoom, HaveEnded, Joins, joined_nodes, with_results}
 use Rattle.task_machine.specs.declared.part.Private.{Private}
-use Rattle.shared_value.specs.declared.task_at_rest.Rest.{Rest}
-use Rattle.shared_value.specs.declared.task_at_rest.Work.TheVariants.{Calls}
-use Rattle.shared_value.specs.SharedValue.{SharedValue, rest_at}
+use Rattle.task_homes.specs.declared.task_at_rest.Rest.{Rest}
+use Rattle.task_homes.specs.declared.task_at_rest.Work.TheVariants.{Calls}
+use Rattle.shared_value.specs.SharedValue.{SharedValue, flat, marks_at, rest_at}
 use Rattle.shared_value.specs.Stands.{IsSharedValue}
 use Rattle.shared_value.specs.Fits.{Fits, IsAtWork}
 use Rattle.shared_value.specs.Entered.{refused}
@@ -96,6 +97,20 @@ module _ (w : SharedValue) (k : ℕ) (p : Private) (I : IsSharedValue w) (F : Fi
   -- the parent has frames
   pub calls : HasCalls (rest_at w.homes q)
   calls = before.parent_calls w k p I F at_end free ended
+
+  some_calls : (o : Option Rest) → HasCalls o → IsSome o
+  some_calls None h = absurd h
+  some_calls (Some r) h = refl
+
+  -- and so it has a home, which stays as both children leave theirs
+  pub parent_home : (parent : ℕ) → parent_in_tree w.tree p.task ≡ Some parent → IsSome (rest_at w.homes parent)
+  parent_home parent e = subst (λ u. IsSome (rest_at w.homes u)) (parent_is parent e) (some_calls (rest_at w.homes q) calls)
+
+  pub parent_stays : (parent other : ℕ) → parent_in_tree w.tree p.task ≡ Some parent → other ≡ s' → IsSome (rest_at (slice_set (slice_set w.homes p.task None) other None) parent)
+  parent_stays parent other e o =
+      subst IsSome
+      (sym (ap flat (got_other (slice_set w.homes p.task None) other parent None (λ f. parent_other (parent_is parent e ∙ (f ∙ o))) ∙ got_other w.homes p.task parent None (λ f. parent_apart (parent_is parent e ∙ f)))))
+      (parent_home parent e)
 
   module _ (above beside : Rest) (own_notes other_notes notes : RememberedValue) (above_of : IsRestOf (rest_at w.homes q) above) (beside_of : IsRestOf (rest_at w.homes s') beside) where
     abbrev L : EndedChild
@@ -235,7 +250,7 @@ module _ (w : SharedValue) (k : ℕ) (p : Private) (I : IsSharedValue w) (F : Fi
         }
 
     -- ---- THE WHOLE ENTRY
-    module _ (homes : List (Option Rest)) (sets : List SetOf) (pool : PoolValue) (rest : Rest) (H : HomesJoin w.homes homes p q s' (with_results frames L.result R.result) rest.heap above) (N : SetsJoin w.sets sets q L.side.task (L.side.task + 1) above.heap.chunks)
+    module _ (homes : List (Option Rest)) (sets : List SetOf) (marks : List (Option MarkingValue)) (unmarked : (u : ℕ) → (u ≡ p.task → ⊥) → (u ≡ s' → ⊥) → marks_at marks u ≡ marks_at w.marks u) (pool : PoolValue) (rest : Rest) (H : HomesJoin w.homes homes p q s' (with_results frames L.result R.result) rest.heap above) (N : SetsJoin w.sets sets q L.side.task (L.side.task + 1) above.heap.chunks)
         (relabelled : AreRelabelled w.pool pool (L.side.heap.chunks ++ R.side.heap.chunks) q) (notes_then : RememberedValue) (J : Joins (parent_side q above notes) (parent_side q rest notes_then) L.side R.side) (j : RoomyValue EntryValue) where
       abbrev pub then_ : SharedValue
       then_ = record w {
@@ -243,6 +258,7 @@ module _ (w : SharedValue) (k : ℕ) (p : Private) (I : IsSharedValue w) (F : Fi
         pool = pool;
         homes = homes;
         sets = sets;
+        marks = marks;
         tasks_out = slice_set w.tasks_out k None;
         steps = w.steps + (p.fresh + 1);
         journal = record { items = w.journal.items ++ alone_event k p ∷ []; room = j.room };
@@ -254,9 +270,9 @@ module _ (w : SharedValue) (k : ℕ) (p : Private) (I : IsSharedValue w) (F : Fi
       pub then_world : IsSharedValue then_
       then_world =
           subst IsSharedValue same_tree
-          (joined.alone_world w k p I F at_end free ended above beside frames above_is frames_are beside_of L.side.task L.side.heap R.side.heap L.result R.result side homes sets pool rest.heap H N relabelled J.heap J.room j)
+          (joined.alone_world w k p I F at_end free ended above beside frames above_is frames_are beside_of L.side.task L.side.heap R.side.heap L.result R.result side homes sets marks unmarked pool rest.heap H N relabelled J.heap J.room j)
 
       pub then_joins : EndsChild w then_ k p (Some q)
       then_joins =
           subst (λ (z : SharedValue). EndsChild w z k p (Some q)) same_tree
-          (joined.alone_joins w k p I F at_end free ended above beside frames above_is frames_are beside_of L.side.task L.side.heap R.side.heap L.result R.result side homes sets pool rest.heap H N relabelled J.heap J.room j)
+          (joined.alone_joins w k p I F at_end free ended above beside frames above_is frames_are beside_of L.side.task L.side.heap R.side.heap L.result R.result side homes sets marks unmarked pool rest.heap H N relabelled J.heap J.room j)

@@ -26,8 +26,8 @@ use Rattle.core_relation.specs.Memory.{Chunk, Home, no_home, In, Memory, sources
 use Rattle.core_relation.specs.Changes.{IsLifted, JoinsHomes, top_with_results}
 use Rattle.core_relation.specs.Stands.{Stands}
 use Rattle.core_relation.proofs.objects.Members.{in_chunk, map_in}
-use Rattle.shared_value.specs.declared.task_at_rest.Work.{Work}
-use Rattle.shared_value.specs.declared.task_at_rest.Work.TheVariants.{Calls, Result}
+use Rattle.task_homes.specs.declared.task_at_rest.Work.{Work}
+use Rattle.task_homes.specs.declared.task_at_rest.Work.TheVariants.{Calls, Result}
 use Rattle.shared_value.specs.Objects.{chunk_of, chunks_of}
 use Rattle.shared_value.specs.SharedValue.{home_by}
 use Rattle.shared_value.proofs.FieldsLed.{by_chunks}

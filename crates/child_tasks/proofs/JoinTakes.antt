@@ -1,61 +1,149 @@
--- Homes and sets that a join takes from and puts into, one after another.
-use Rattle.std.proofs.Common.{◌≡◌, ℕ, ◌<◌, false, Option, Some, None, List, [], length, length-set, slice_get, slice_set, option_map, ap, sym, subst, ◌∙◌}
+-- Homes that a join takes from and puts into, one after another.
+use Rattle.std.proofs.Common.{◌≡◌, ℕ, ◌<◌, false, Option, Some, None, List, length, length-set, slice_get, slice_set, option_map, ap, sym, subst, ◌∙◌}
 use Rattle.listed.proofs.Members.{got_other}
 use Rattle.listed.proofs.Places.{got_set}
 use Rattle.alloc_path.specs.LeafHeapValue.{LeafHeapValue}
 use Rattle.task_frames.specs.FramesValue.{FramesValue}
-use Rattle.remembered_set.specs.Sources.{RememberedValue}
 use Rattle.write_barrier.specs.declared.sets.SetOf.{SetOf}
-use Rattle.write_barrier.specs.Stored.{content_at, content_of}
+use Rattle.write_barrier.specs.Held.{bare}
+use Rattle.write_barrier.specs.Stored.{Content, content_at, content_of}
+use Rattle.inner_mark_gc.specs.MarkingValue.{MarkingValue}
 use Rattle.task_machine.specs.declared.part.Private.{Private}
-use Rattle.shared_value.specs.declared.task_at_rest.Rest.{Rest}
-use Rattle.shared_value.specs.declared.task_at_rest.Work.TheVariants.{Calls}
-use Rattle.shared_value.specs.SharedValue.{flat, rest_at}
+use Rattle.task_homes.specs.declared.homes.Home.{Home}
+use Rattle.task_homes.specs.declared.task_at_rest.Rest.{Rest}
+use Rattle.task_homes.specs.declared.task_at_rest.Work.TheVariants.{Calls}
+use Rattle.task_homes.specs.HomesValue.{HomesValue}
+use Rattle.shared_value.specs.SharedValue.{flat, marks_at, rest_at}
 use Rattle.child_tasks.specs.Forks.{nothing_noted}
 use Rattle.child_tasks.specs.Joins.{HomesJoin}
 
--- the part's home is left, then its sibling's, and the parent's is put
-pub homes_join : (h h1 h2 h4 : List (Option Rest)) (p : Private) (q s : ℕ) (frames : FramesValue) (heap : LeafHeapValue) (above rest : Rest) → (q ≡ p.task → ⊥) → (q ≡ s → ⊥) → (s ≡ p.task → ⊥) → q < length h2
-    → length h1 ≡ length h → rest_at h1 p.task ≡ None → ((u : ℕ) → (u ≡ p.task → ⊥) → rest_at h1 u ≡ rest_at h u)
-    → length h2 ≡ length h1 → rest_at h2 s ≡ None → ((u : ℕ) → (u ≡ s → ⊥) → rest_at h2 u ≡ rest_at h1 u)
-    → h4 ≡ slice_set (slice_set h2 q None) q (Some rest) → rest ≡ record above { work = Calls frames; heap = heap } → HomesJoin h h4 p q s frames heap above
-homes_join h h1 h2 h4 p q s frames heap above rest qt qs st lt n1 own o1 n2 other o2 e er =
-    let long : length h4 ≡ length h2 = ap (λ xs. length xs) e ∙ (length-set (slice_set h2 q None) q (Some rest) ∙ length-set h2 q None) in
-    let away : (u : ℕ) → (u ≡ q → ⊥) → rest_at h4 u ≡ rest_at h2 u = λ u ne. ap (λ xs. rest_at xs u) e ∙ ap flat (got_other (slice_set h2 q None) q u (Some rest) ne ∙ got_other h2 q u None ne) in
-    record {
-      many = long ∙ (n2 ∙ n1);
-      parent_home = ap (λ xs. rest_at xs q) e ∙ (ap flat (got_set (slice_set h2 q None) q (Some rest) (subst (λ n. q < n) (sym (length-set h2 q None)) lt)) ∙ ap Some er);
-      own_home = away p.task (λ f. qt (sym f)) ∙ (o2 p.task (λ f. st (sym f)) ∙ own);
-      other_home = away s (λ f. qs (sym f)) ∙ other;
-      others = λ u nq nt ns. away u nq ∙ (o2 u ns ∙ o1 u nt);
+-- nothing is left of a task
+abbrev pub left_by : HomesValue → ℕ → HomesValue
+left_by h t = record h { rests = slice_set h.rests t None; sets = slice_set h.sets t (bare false); marks = slice_set h.marks t None; blocks = slice_set h.blocks t false }
+
+-- all that belongs to both children is taken, and what goes with their parent, and what is noted for its heap
+pub record HomesTaken (h h1 h2 h3 h4 : HomesValue) (t s q : ℕ) (own beside : Home) (above : Rest) (set : SetOf) : Type 0 where
+  pub own_set : slice_get h.sets t ≡ Some own.set
+  pub own_left : h1 ≡ left_by h t
+  pub beside_rest : beside.rest ≡ rest_at h1.rests s
+  pub beside_set : slice_get h1.sets s ≡ Some beside.set
+  pub beside_left : h2 ≡ left_by h1 s
+  pub above_is : rest_at h2.rests q ≡ Some above
+  pub rest_taken : h3 ≡ record h2 { rests = slice_set h2.rests q None }
+  pub set_is : slice_get h3.sets q ≡ Some set
+  pub set_taken : h4 ≡ record h3 { sets = slice_set h3.sets q (bare false) }
+
+-- and both are put for the parent
+pub record HomesPut (h4 h5 h6 : HomesValue) (q : ℕ) (rest : Rest) (set : SetOf) : Type 0 where
+  pub rest_put : h5 ≡ record h4 { rests = slice_set h4.rests q (Some rest) }
+  pub set_put : h6 ≡ record h5 { sets = slice_set h5.sets q set }
+
+module _ (h h1 h2 h3 h4 : HomesValue) (p : Private) (s q : ℕ) (own beside : Home) (above : Rest) (set : SetOf) (T : HomesTaken h h1 h2 h3 h4 p.task s q own beside above set) where
+  abbrev t : ℕ
+  t = p.task
+
+  rests_two : h2.rests ≡ slice_set (slice_set h.rests t None) s None
+  rests_two = ap (λ (z : HomesValue). z.rests) T.beside_left ∙ ap (λ (z : HomesValue). slice_set z.rests s None) T.own_left
+
+  sets_two : h3.sets ≡ slice_set (slice_set h.sets t (bare false)) s (bare false)
+  sets_two = ap (λ (z : HomesValue). z.sets) T.rest_taken ∙ (ap (λ (z : HomesValue). z.sets) T.beside_left ∙ ap (λ (z : HomesValue). slice_set z.sets s (bare false)) T.own_left)
+
+  -- WHAT IS TAKEN
+  pub beside_was : (s ≡ t → ⊥) → beside.rest ≡ rest_at h.rests s
+  beside_was st = T.beside_rest ∙ (ap (λ (z : HomesValue). rest_at z.rests s) T.own_left ∙ ap flat (got_other h.rests t s None st))
+
+  pub beside_set_was : (s ≡ t → ⊥) → slice_get h.sets s ≡ Some beside.set
+  beside_set_was st = sym (got_other h.sets t s (bare false) st) ∙ (sym (ap (λ (z : HomesValue). slice_get z.sets s) T.own_left) ∙ T.beside_set)
+
+  pub above_was : (q ≡ t → ⊥) → (q ≡ s → ⊥) → rest_at h.rests q ≡ Some above
+  above_was qt qs =
+      sym (ap flat (got_other (slice_set h.rests t None) s q None qs ∙ got_other h.rests t q None qt))
+      ∙ (sym (ap (λ (xs : List (Option Rest)). rest_at xs q) rests_two) ∙ T.above_is)
+
+  pub set_was : (q ≡ t → ⊥) → (q ≡ s → ⊥) → slice_get h.sets q ≡ Some set
+  set_was qt qs =
+      sym (got_other (slice_set h.sets t (bare false)) s q (bare false) qs ∙ got_other h.sets t q (bare false) qt)
+      ∙ (sym (ap (λ (xs : List SetOf). slice_get xs q) sets_two) ∙ T.set_is)
+
+  -- WHAT THERE IS THEN
+  module _ (h5 h6 : HomesValue) (rest : Rest) (put : SetOf) (P : HomesPut h4 h5 h6 q rest put) where
+    rests_then : h6.rests ≡ slice_set (slice_set (slice_set (slice_set h.rests t None) s None) q None) q (Some rest)
+    rests_then =
+        ap (λ (z : HomesValue). z.rests) P.set_put
+        ∙ (ap (λ (z : HomesValue). z.rests) P.rest_put
+        ∙ (ap (λ (z : HomesValue). slice_set z.rests q (Some rest)) T.set_taken
+        ∙ (ap (λ (z : HomesValue). slice_set z.rests q (Some rest)) T.rest_taken
+        ∙ ap (λ (xs : List (Option Rest)). slice_set (slice_set xs q None) q (Some rest)) rests_two)))
+
+    sets_then : h6.sets ≡ slice_set (slice_set (slice_set (slice_set h.sets t (bare false)) s (bare false)) q (bare false)) q put
+    sets_then =
+        ap (λ (z : HomesValue). z.sets) P.set_put
+        ∙ (ap (λ (z : HomesValue). slice_set z.sets q put) P.rest_put
+        ∙ (ap (λ (z : HomesValue). slice_set z.sets q put) T.set_taken
+        ∙ ap (λ (xs : List SetOf). slice_set (slice_set xs q (bare false)) q put) sets_two))
+
+    marks_then : h6.marks ≡ slice_set (slice_set h.marks t None) s None
+    marks_then =
+        ap (λ (z : HomesValue). z.marks) P.set_put
+        ∙ (ap (λ (z : HomesValue). z.marks) P.rest_put
+        ∙ (ap (λ (z : HomesValue). z.marks) T.set_taken
+        ∙ (ap (λ (z : HomesValue). z.marks) T.rest_taken
+        ∙ (ap (λ (z : HomesValue). z.marks) T.beside_left ∙ ap (λ (z : HomesValue). slice_set z.marks s None) T.own_left))))
+
+    pub unmarked : (u : ℕ) → (u ≡ t → ⊥) → (u ≡ s → ⊥) → marks_at h6.marks u ≡ marks_at h.marks u
+    unmarked u nt ns = ap (λ (ms : List (Option MarkingValue)). marks_at ms u) marks_then ∙ ap flat (got_other (slice_set h.marks t None) s u None ns ∙ got_other h.marks t u None nt)
+
+    pub sets_many : length h6.sets ≡ length h.sets
+    sets_many =
+        ap (λ (xs : List SetOf). length xs) sets_then
+        ∙ (length-set (slice_set (slice_set (slice_set h.sets t (bare false)) s (bare false)) q (bare false)) q put
+        ∙ (length-set (slice_set (slice_set h.sets t (bare false)) s (bare false)) q (bare false)
+        ∙ (length-set (slice_set h.sets t (bare false)) s (bare false) ∙ length-set h.sets t (bare false))))
+
+    away : (u : ℕ) → (u ≡ q → ⊥) → content_at h6.sets u ≡ content_at (slice_set (slice_set h.sets t (bare false)) s (bare false)) u
+    away u nq =
+        ap (λ (xs : List SetOf). content_at xs u) sets_then
+        ∙ ap (option_map content_of) (got_other (slice_set (slice_set (slice_set h.sets t (bare false)) s (bare false)) q (bare false)) q u put nq ∙ got_other (slice_set (slice_set h.sets t (bare false)) s (bare false)) q u (bare false) nq)
+
+    pub set_others : (u : ℕ) → (u ≡ q → ⊥) → (u ≡ t → ⊥) → (u ≡ s → ⊥) → content_at h6.sets u ≡ content_at h.sets u
+    set_others u nq nt ns = away u nq ∙ ap (option_map content_of) (got_other (slice_set h.sets t (bare false)) s u (bare false) ns ∙ got_other h.sets t u (bare false) nt)
+
+    pub own_empty : (q ≡ t → ⊥) → (s ≡ t → ⊥) → t < length h.sets → content_at h6.sets t ≡ Some nothing_noted
+    own_empty qt st lt =
+        away t (λ e. qt (sym e))
+        ∙ ap (option_map content_of) (got_other (slice_set h.sets t (bare false)) s t (bare false) (λ e. st (sym e)) ∙ got_set h.sets t (bare false) lt)
+
+    pub beside_empty : (q ≡ s → ⊥) → s < length h.sets → content_at h6.sets s ≡ Some nothing_noted
+    beside_empty qs lt =
+        away s (λ e. qs (sym e))
+        ∙ ap (option_map content_of) (got_set (slice_set h.sets t (bare false)) s (bare false) (subst (λ n. s < n) (sym (length-set h.sets t (bare false))) lt))
+
+    pub parent_set : q < length h.sets → (c : Content) → content_of put ≡ c → content_at h6.sets q ≡ Some c
+    parent_set lt c e =
+        let long : length (slice_set (slice_set (slice_set h.sets t (bare false)) s (bare false)) q (bare false)) ≡ length h.sets =
+        length-set (slice_set (slice_set h.sets t (bare false)) s (bare false)) q (bare false)
+        ∙ (length-set (slice_set h.sets t (bare false)) s (bare false) ∙ length-set h.sets t (bare false)) in
+        ap (λ (xs : List SetOf). content_at xs q) sets_then
+        ∙ (ap (option_map content_of) (got_set (slice_set (slice_set (slice_set h.sets t (bare false)) s (bare false)) q (bare false)) q put (subst (λ n. q < n) (sym long) lt)) ∙ ap Some e)
+
+    rest_off : (u : ℕ) → (u ≡ q → ⊥) → rest_at h6.rests u ≡ rest_at (slice_set (slice_set h.rests t None) s None) u
+    rest_off u nq =
+        ap (λ (xs : List (Option Rest)). rest_at xs u) rests_then
+        ∙ ap flat (got_other (slice_set (slice_set (slice_set h.rests t None) s None) q None) q u (Some rest) nq ∙ got_other (slice_set (slice_set h.rests t None) s None) q u None nq)
+
+    two_long : length (slice_set (slice_set h.rests t None) s None) ≡ length h.rests
+    two_long = length-set (slice_set h.rests t None) s None ∙ length-set h.rests t None
+
+    three_long : length (slice_set (slice_set (slice_set h.rests t None) s None) q None) ≡ length h.rests
+    three_long = length-set (slice_set (slice_set h.rests t None) s None) q None ∙ two_long
+
+    pub homes_join : (frames : FramesValue) (heap : LeafHeapValue) → (q ≡ t → ⊥) → (q ≡ s → ⊥) → (s ≡ t → ⊥) → t < length h.rests → s < length h.rests → q < length h.rests
+        → rest ≡ record above { work = Calls frames; heap = heap } → HomesJoin h.rests h6.rests p q s frames heap above
+    homes_join frames heap qt qs st own_made other_made made er = record {
+      many = ap (λ (xs : List (Option Rest)). length xs) rests_then ∙ (length-set (slice_set (slice_set (slice_set h.rests t None) s None) q None) q (Some rest) ∙ three_long);
+      parent_home = ap (λ (xs : List (Option Rest)). rest_at xs q) rests_then
+          ∙ (ap flat (got_set (slice_set (slice_set (slice_set h.rests t None) s None) q None) q (Some rest) (subst (λ n. q < n) (sym three_long) made)) ∙ ap Some er);
+      own_home = rest_off t (λ e. qt (sym e)) ∙ ap flat (got_other (slice_set h.rests t None) s t None (λ e. st (sym e)) ∙ got_set h.rests t None own_made);
+      other_home = rest_off s (λ e. qs (sym e)) ∙ ap flat (got_set (slice_set h.rests t None) s None (subst (λ n. s < n) (sym (length-set h.rests t None)) other_made));
+      others = λ u nq nt ns. rest_off u nq ∙ ap flat (got_other (slice_set h.rests t None) s u None ns ∙ got_other h.rests t u None nt);
     }
-
--- the sets of the three are taken, and the parent's is put
-pub record SetsChain (x x1 x2 x3 x4 : List SetOf) (t s q : ℕ) (notes : RememberedValue) : Type 0 where
-  pub n1 : length x1 ≡ length x
-  pub n2 : length x2 ≡ length x1
-  pub n3 : length x3 ≡ length x2
-  pub n4 : length x4 ≡ length x3
-  pub e1 : content_at x1 t ≡ Some nothing_noted
-  pub e2 : content_at x2 s ≡ Some nothing_noted
-  pub at : content_at x4 q ≡ Some (record { sources = notes.sources; kept = []; keeps = false })
-  pub o1 : (u : ℕ) → (u ≡ t → ⊥) → slice_get x1 u ≡ slice_get x u
-  pub o2 : (u : ℕ) → (u ≡ s → ⊥) → slice_get x2 u ≡ slice_get x1 u
-  pub o3 : (u : ℕ) → (u ≡ q → ⊥) → slice_get x3 u ≡ slice_get x2 u
-  pub o4 : (u : ℕ) → (u ≡ q → ⊥) → content_at x4 u ≡ content_at x3 u
-
-module _ (x x1 x2 x3 x4 : List SetOf) (t s q : ℕ) (notes : RememberedValue) (C : SetsChain x x1 x2 x3 x4 t s q notes) (qt : q ≡ t → ⊥) (qs : q ≡ s → ⊥) (st : s ≡ t → ⊥) where
-  pub chain_many : length x4 ≡ length x
-  chain_many = C.n4 ∙ (C.n3 ∙ (C.n2 ∙ C.n1))
-
-  away : (u : ℕ) → (u ≡ q → ⊥) → content_at x4 u ≡ content_at x2 u
-  away u ne = C.o4 u ne ∙ ap (option_map content_of) (C.o3 u ne)
-
-  pub chain_own : content_at x4 t ≡ Some nothing_noted
-  chain_own = away t (λ e. qt (sym e)) ∙ (ap (option_map content_of) (C.o2 t (λ e. st (sym e))) ∙ C.e1)
-
-  pub chain_other : content_at x4 s ≡ Some nothing_noted
-  chain_other = away s (λ e. qs (sym e)) ∙ C.e2
-
-  pub chain_others : (u : ℕ) → (u ≡ q → ⊥) → (u ≡ t → ⊥) → (u ≡ s → ⊥) → content_at x4 u ≡ content_at x u
-  chain_others u nq nt ns = away u nq ∙ ap (option_map content_of) (C.o2 u ns ∙ C.o1 u nt)

@@ -17,9 +17,9 @@ use Rattle.heap_tree.specs.Node.{Node, with_state}
 use Rattle.fork_join.specs.Joined.{joined_nodes}
 use Rattle.core_relation.specs.Reads.{HoldsRead, TaskIsRead}
 use Rattle.core_relation.specs.RanCounts.{node_then}
-use Rattle.shared_value.specs.declared.task_at_rest.Work.{Work}
-use Rattle.shared_value.specs.declared.task_at_rest.Work.TheVariants.{Calls, Result}
-use Rattle.shared_value.specs.declared.task_at_rest.Rest.{Rest}
+use Rattle.task_homes.specs.declared.task_at_rest.Work.{Work}
+use Rattle.task_homes.specs.declared.task_at_rest.Work.TheVariants.{Calls, Result}
+use Rattle.task_homes.specs.declared.task_at_rest.Rest.{Rest}
 use Rattle.shared_value.specs.SharedValue.{home_by, home_in, home_of}
 use Rattle.shared_value.proofs.TaskTaken.{made_by, node_by, node_off}
 pub use Rattle.shared_value.proofs.TaskTaken.{HasCalls}

@@ -18,8 +18,8 @@ use Rattle.fork_join.specs.Joined.{AreRelabelled, with_results}
 use Rattle.ledger_step_laws.specs.Accounts.{Rests, rested}
 use Rattle.core_relation.specs.Memory.{In}
 use Rattle.task_machine.specs.declared.part.Private.{Private}
-use Rattle.shared_value.specs.declared.task_at_rest.Rest.{Rest}
-use Rattle.shared_value.specs.declared.task_at_rest.Work.TheVariants.{Calls}
+use Rattle.task_homes.specs.declared.task_at_rest.Rest.{Rest}
+use Rattle.task_homes.specs.declared.task_at_rest.Work.TheVariants.{Calls}
 use Rattle.shared_value.specs.SharedValue.{SharedValue, accounts, rest_at}
 use Rattle.shared_value.specs.Measured.{AreMeasured, IsMeasured, IsUnheld, KeepsUnits, RestsAreMeasured}
 use Rattle.shared_value.specs.Stands.{IsSharedValue}

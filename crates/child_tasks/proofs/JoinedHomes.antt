@@ -28,9 +28,9 @@ use Rattle.core_relation.specs.Fits.{with_home}
 use Rattle.core_relation.specs.Stands.{Stands}
 use Rattle.task_machine.specs.declared.part.Private.{Private}
 use Rattle.task_machine.specs.Accounts.{AreReserved}
-use Rattle.shared_value.specs.declared.task_at_rest.Rest.{Rest}
-use Rattle.shared_value.specs.declared.task_at_rest.Work.{Work}
-use Rattle.shared_value.specs.declared.task_at_rest.Work.TheVariants.{Calls, Result}
+use Rattle.task_homes.specs.declared.task_at_rest.Rest.{Rest}
+use Rattle.task_homes.specs.declared.task_at_rest.Work.{Work}
+use Rattle.task_homes.specs.declared.task_at_rest.Work.TheVariants.{Calls, Result}
 use Rattle.shared_value.specs.Objects.{chunk_of}
 use Rattle.shared_value.specs.SharedValue.{SharedValue, accounts, home_by, home_in, home_of, rest_at, value_of}
 use Rattle.shared_value.specs.Stands.{HeapForm, IsSharedValue}

@@ -33,8 +33,8 @@ use Rattle.core_relation.specs.Worker.{Fits as FitsValue}
 use Rattle.core_relation.proofs.changes.With.{at_home, off_home}
 use Rattle.task_machine.specs.declared.part.Private.{Private}
 use Rattle.task_machine.specs.Accounts.{IsCounted}
-use Rattle.shared_value.specs.declared.task_at_rest.Work.{Work}
-use Rattle.shared_value.specs.declared.task_at_rest.Work.TheVariants.{Calls}
+use Rattle.task_homes.specs.declared.task_at_rest.Work.{Work}
+use Rattle.task_homes.specs.declared.task_at_rest.Work.TheVariants.{Calls}
 use Rattle.shared_value.specs.SharedValue.{SharedValue, accounts, home_by, rest_at, value_of}
 use Rattle.shared_value.specs.Stands.{HeapForm, IsSharedValue}
 use Rattle.shared_value.specs.Fits.{Fits, home_of_part}

@@ -1,6 +1,5 @@
--- The two children of a fork, the left one and the right one, and what is taken of a task's home and set.
+-- The two children of a fork, the left one and the right one, and how many chunks are taken of a task's home.
 use Rattle.std.proofs.Common.{◌≡◌, ℕ, ◌+◌, ◌-◌, ◌%◌, ◌<◌, arith, Bool, true, false, Option, Some, None, length, option_map, inl, inr, refl, ap, sym, ◌∙◌, eq-eqb}
-use Rattle.std.specs.Prelude.{IfSome}
 use Rattle.std.proofs.lemmas.Bool.{cond-false, cond-true, eqb-false}
 use Rattle.std.proofs.lemmas.Option.{same_Some}
 use Rattle.listed.proofs.Options.{none_some}
@@ -10,13 +9,11 @@ use Rattle.heap_tree.specs.declared.state.State.TheVariants.{Waiting}
 use Rattle.heap_tree.specs.Node.{Node}
 use Rattle.heap_tree.specs.Pairs.{is_left, sibling}
 use Rattle.remembered_set.specs.Sources.{RememberedValue}
-use Rattle.write_barrier.specs.declared.sets.SetOf.{SetOf}
-use Rattle.write_barrier.specs.Stored.{content_of}
 use Rattle.fork_join.specs.declared.sides.EndedChild.{EndedChild}
 use Rattle.task_machine.specs.declared.part.Private.{Private}
-use Rattle.shared_value.specs.declared.task_at_rest.Rest.{Rest}
+use Rattle.task_homes.specs.declared.task_at_rest.Rest.{Rest}
 use Rattle.core_relation.specs.Whole.{as_node}
-use Rattle.child_tasks.specs.Joins.{AreSides, IsRestOf, chunk_count, left_of, other_child, own_child, right_of, sources_by}
+use Rattle.child_tasks.specs.Joins.{AreSides, IsRestOf, chunk_count, left_of, other_child, own_child, right_of}
 
 -- ---- A TASK THAT WAITS, in the tree
 
@@ -93,8 +90,3 @@ module _ (p : Private) (beside : Rest) (own_notes other_notes : RememberedValue)
 pub count_of : (o : Option Rest) (r : Rest) → IsRestOf o r → length r.heap.chunks ≡ chunk_count o
 count_of None r e = ap (λ (z : Rest). length z.heap.chunks) e.2
 count_of (Some x) r e = ap (λ (z : Rest). length z.heap.chunks) e
-
--- what is taken of a set is what it has
-pub taken_sources : (o : Option SetOf) (n : RememberedValue) (s : SetOf) → o ≡ Some s → IfSome o (λ s. n ≡ s.remembered) → n.sources ≡ sources_by (option_map content_of o)
-taken_sources None n s e h = none_some e
-taken_sources (Some z) n s e h = ap (λ (i : RememberedValue). i.sources) h

@@ -15,8 +15,8 @@ use Rattle.fork_join.specs.declared.forks.Child.{Child}
 use Rattle.fork_join.specs.Forked.{new_child}
 use Rattle.task_machine.specs.declared.part.Private.{Private}
 pub use Rattle.task_machine.specs.Run.{is_fork, is_par}
-use Rattle.shared_value.specs.declared.task_at_rest.Rest.{Rest}
-use Rattle.shared_value.specs.declared.task_at_rest.Work.TheVariants.{Calls}
+use Rattle.task_homes.specs.declared.task_at_rest.Rest.{Rest}
+use Rattle.task_homes.specs.declared.task_at_rest.Work.TheVariants.{Calls}
 use Rattle.shared_value.specs.SharedValue.{SharedValue, accounts, rest_at}
 use Rattle.shared_value.specs.Fits.{OthersFit}
 use Rattle.shared_value.specs.Entered.{Enters}

@@ -3,7 +3,7 @@ use Rattle.std.specs.Prelude.{◌≡◌, ◌≢◌, ◌⊎◌, ℕ, ℤ, pos, �
 use Rattle.object_layout.specs.declared.word.Addr.{Addr}
 use Rattle.object_layout.specs.ChunkValue.{ChunkValue}
 use Rattle.chunk_pool.specs.PoolValue.{PoolValue}
-use Rattle.alloc_path.specs.LeafHeapValue.{AreApart, LeafHeapValue, merged, with_places}
+use Rattle.alloc_path.specs.LeafHeapValue.{AreApart, LeafHeapValue, merged}
 use Rattle.task_frames.specs.FramesValue.{FramesValue, int_of, ref_of}
 use Rattle.heap_tree.specs.Pairs.{sibling}
 use Rattle.heap_tree.specs.Node.{Node}
@@ -16,9 +16,10 @@ use Rattle.fork_join.specs.declared.sides.EndedChild.{EndedChild}
 use Rattle.fork_join.specs.declared.sides.Side.{Side}
 use Rattle.fork_join.specs.Joined.{AreInUse, HasRoom, HaveEnded}
 use Rattle.task_machine.specs.declared.part.Private.{Private}
-use Rattle.shared_value.specs.declared.task_at_rest.Rest.{Rest}
-use Rattle.shared_value.specs.declared.task_at_rest.Work.{Work}
-use Rattle.shared_value.specs.declared.task_at_rest.Work.TheVariants.{Calls, Result}
+pub use Rattle.task_homes.specs.HomesValue.{IsSameRest}
+use Rattle.task_homes.specs.declared.task_at_rest.Rest.{Rest}
+use Rattle.task_homes.specs.declared.task_at_rest.Work.{Work}
+use Rattle.task_homes.specs.declared.task_at_rest.Work.TheVariants.{Calls, Result}
 use Rattle.shared_value.specs.declared.answer.NotEntered.{NotEntered}
 use Rattle.shared_value.specs.declared.answer.NotEntered.TheVariants.{NoMemory, Refuses}
 use Rattle.shared_value.specs.SharedValue.{SharedValue, rest_at}
@@ -72,11 +73,6 @@ AreSides p other beside left lh rh al ar =
     ⊎ ((other ≡ left) × (p.task ≡ left + 1) × (lh ≡ beside.heap) × (rh ≡ p.heap) × (al ≡ work_result beside.work) × (ar ≡ part_result p))
 
 -- ---- PLACES
-
--- the same, but for the places of its heap
-abbrev pub IsSameRest : Option Rest → Option Rest → Type 0
-IsSameRest None after = after ≡ None
-IsSameRest (Some r) after = (slots : ℕ) × (spare : ℕ) × (after ≡ Some (record r { heap = with_places r.heap slots spare }))
 
 -- the same shared value, but for the places that heaps and sets have for more
 pub record SameButPlaces (w after : SharedValue) : Type 0 where

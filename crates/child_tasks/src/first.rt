@@ -1,21 +1,17 @@
-// What goes with the root before the first entry.
+// What belongs to the root before the first entry.
 
-ghost use Rattle.std.specs.Prelude.{◌≡◌, ◌∷◌, [], IfOk, None, Some, replicate};
-ghost use Rattle.write_barrier.specs.Stored.{content_of};
-ghost use Rattle.write_barrier.specs.declared.sets.SetOf.{SetOf as Set};
+ghost use Rattle.std.specs.Prelude.{◌≡◌, ◌∷◌, [], IfOk, None, Some, false, replicate};
+ghost use Rattle.write_barrier.specs.Held.{bare};
 ghost use Rattle.shared_value.specs.SharedValue.{first_rest};
-ghost use Rattle.shared_value.specs.declared.task_at_rest.Rest.{Rest as RestOf};
-ghost use Rattle.child_tasks.specs.Forks.{nothing_noted};
+ghost use Rattle.task_homes.specs.declared.task_at_rest.Rest.{Rest as RestOf};
 
 use alloc_path::{LeafHeap, View};
 use hh_lang::Program;
 use listed::Listed;
 use object_layout::Addr;
-use out_of_line::Apart;
-use shared_value::{Rest, Work};
 use std::alloc::{AllocError, Global};
 use task_frames::Frames;
-use write_barrier::SetOf;
+use task_homes::{Homes, Rest, Work};
 
 const NIL: Option<Addr> = None;
 
@@ -32,26 +28,13 @@ fn root(alloc: Global, program: &Program) -> Result<Rest, AllocError>
     })
 }
 
-/// What goes with the root before the first entry.
-pub fn first_homes(
-    alloc: Global,
-    program: &Program,
-) -> Result<Listed<Option<Apart<Rest>>>, AllocError>
-    ensures { IfOk result (λ homes. (r : RestOf) × (r ≡ first_rest program.now r.heap.slots r.heap.spare) × (homes ≡ Some r ∷ [])) }
+/// What belongs to the root before the first entry.
+pub fn first_homes(alloc: Global, program: &Program) -> Result<Homes, AllocError>
+    ensures rests { IfOk result (λ h. (r : RestOf) × (r ≡ first_rest program.now r.heap.slots r.heap.spare) × (h.rests ≡ Some r ∷ [])) }
+    ensures sets { IfOk result (λ h. h.sets ≡ bare false ∷ []) }
+    ensures marks { IfOk result (λ h. h.marks ≡ None ∷ []) }
 {
-    let mut homes = Listed::new(alloc);
-    let root = Apart::new(alloc, root(alloc, program)?)?;
-    homes.push(Some(root))?;
-    Ok(homes)
-}
-
-/// The root's set, which holds nothing.
-pub fn first_sets(alloc: Global) -> Result<Vec<SetOf>, AllocError>
-    ensures { IfOk result (λ sets. (s : Set) × (content_of s ≡ nothing_noted) × (sets.items ≡ s ∷ [])) }
-{
-    let mut sets = Vec::new(alloc);
-    sets.push(SetOf::new(alloc))?;
-    Ok(sets)
+    Homes::new(alloc, root(alloc, program)?)
 }
 
 /// That no task is out with any of so many workers.

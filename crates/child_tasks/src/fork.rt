@@ -1,19 +1,16 @@
-// What a fork makes of the tree, the homes and the sets.
+// What a fork makes of the tree and the homes.
 
-ghost use Rattle.std.specs.Prelude.{◌≡◌, ◌<◌, ◌≤◌, ◌+◌, ◌^◌, ◌++◌, ◌∷◌, [], OnErr, OnOk, IfOk, None, Some, length, slice_set, vec_len, vec_capacity};
+ghost use Rattle.std.specs.Prelude.{◌≡◌, ◌<◌, ◌≤◌, ◌+◌, ◌^◌, ◌++◌, ◌∷◌, [], OnErr, OnOk, IfOk, None, Some, true, length, slice_get, slice_set};
 ghost use Rattle.hh_model.specs.Step.{depth_limit};
 ghost use Rattle.heap_tree.specs.Node.{depth_of, forked, state_of};
 ghost use Rattle.child_tasks.specs.Forks.{begun_rest, part_child, waiting_rest, SetsFork};
 
 use fork_join::{Child, fork};
 use heap_tree::{State, Tree};
-use inner_mark_gc::Marking;
-use listed::Listed;
 use out_of_line::Apart;
-use shared_value::{Rest, Work, rest_block};
 use std::alloc::{AllocError, Global};
+use task_homes::{Home, Homes, Rest, Work, home_block};
 use task_machine::Private;
-use write_barrier::SetOf;
 
 /// What a part comes to whose next step is a fork.
 #[derive(Drop)]
@@ -59,11 +56,11 @@ fn beginning(child: Child) -> Rest
     }
 }
 
-/// Makes places for two homes and two sets more, and then forks. For want of memory nothing changes.
+/// Makes places for two homes more, and a block for that of the part's task, and then forks. For want of memory nothing
+/// changes but such places.
 pub fn grow(
     tree: &mut Tree,
-    homes: &mut Listed<Option<Apart<Rest>>>,
-    sets: &mut Vec<SetOf>,
+    homes: &mut Homes,
     part: &Private,
     left: u32,
     right: u32,
@@ -71,21 +68,19 @@ pub fn grow(
     requires out { state_of tree.old part.now.task ≡ Some State.Out }
     requires shallow { depth_of tree.old part.now.task < depth_limit }
     requires few { length tree.old < 2 ^ 31 }
+    requires made { part.now.task < length homes.old.rests }
     ensures tree { OnOk result (tree.new ≡ forked tree.old part.now.task) }
-    ensures homes { OnOk result (homes.new ≡ homes.old ++ None ∷ (None ∷ [])) }
-    ensures sets { sets.new.items ≡ sets.old.items }
-    ensures room { OnOk result (vec_len sets.new + 2 ≤ vec_capacity sets.new) }
+    ensures homes { homes.new ≡ record homes.old { blocks = homes.new.blocks; room = homes.new.room } }
+    ensures room { OnOk result (2 ≤ homes.new.room) }
+    ensures block { OnOk result (slice_get homes.new.blocks part.now.task ≡ Some true) }
     ensures left_child { IfOk result (λ two. two.0 ≡ part_child part.now (length tree.old) left two.0.heap.slots two.0.heap.spare) }
     ensures right_child { IfOk result (λ two. two.1 ≡ part_child part.now (length tree.old + 1) right two.1.heap.slots two.1.heap.spare) }
     ensures same_tree { OnErr result (tree.new ≡ tree.old) }
-    ensures same_homes { OnErr result (homes.new ≡ homes.old) }
 {
-    let alloc = *sets.allocator();
-    let made = homes.len();
-    sets.reserve(2)?;
-    homes.push_pair(None, None)?;
-    let forked = fork(
-        alloc,
+    homes.reserve(2)?;
+    homes.make_block(part.task)?;
+    fork(
+        homes.allocator(),
         tree,
         part.task,
         &part.heap,
@@ -93,72 +88,41 @@ pub fn grow(
         &part.frames,
         left,
         right,
-    );
-    match forked {
-        Ok(two) => Ok(two),
-        Err(error) => {
-            homes.truncate(made);
-            Err(error)
-        }
-    }
+    )
 }
 
-/// The sets once a task has forked.
-pub fn fork_sets(sets: &mut Vec<SetOf>, t: u32)
-    requires made { t < length sets.old.items }
-    requires room { vec_len sets.old + 2 ≤ vec_capacity sets.old }
-    ensures { SetsFork sets.old.items sets.new.items t }
-{
-    let alloc = *sets.allocator();
-    sets[t as usize].set_keeps(true);
-    sets.push_reserved(SetOf::new(alloc));
-    sets.push_reserved(SetOf::new(alloc));
-}
-
-/// What is marked once a task has forked: nothing of its heap.
-pub fn clear_marks(marks: &mut Listed<Option<Apart<Marking>>>, t: u32)
-    ensures { marks.new ≡ slice_set marks.old t None }
-{
-    if (t as usize) < marks.len() {
-        marks.set(t as usize, None);
-    }
-}
-
-/// Blocks for what goes with a task that forks, and with its children.
+/// Blocks for the homes of the two children of a task that forks.
 #[derive(Drop)]
 pub struct ForkBlocks {
-    own: Apart<Rest>,
-    left: Apart<Rest>,
-    right: Apart<Rest>,
+    left: Apart<Home>,
+    right: Apart<Home>,
 }
 
 impl ForkBlocks {
-    /// Takes the memory of all three.
+    /// Takes the memory of both.
     pub fn new(alloc: Global) -> Result<ForkBlocks, AllocError> {
-        let own = rest_block(alloc)?;
-        let left = rest_block(alloc)?;
-        let right = rest_block(alloc)?;
-        Ok(ForkBlocks { own, left, right })
+        let left = home_block(alloc)?;
+        let right = home_block(alloc)?;
+        Ok(ForkBlocks { left, right })
     }
 }
 
-/// The homes once a task has forked, for which there are places and blocks.
-pub fn put_homes(
-    homes: &mut Listed<Option<Apart<Rest>>>,
-    part: Private,
-    left: Child,
-    right: Child,
-    blocks: ForkBlocks,
-)
-    requires made { part.task < length homes.old }
-    requires left { left.task < length homes.old }
-    requires right { right.task < length homes.old }
+/// The homes once a task has forked, for which there are places and blocks: its own has what it goes on with, keeps
+/// overwritten references and isn't being marked, and there are two more.
+pub fn fork_homes(homes: &mut Homes, part: Private, left: Child, right: Child, blocks: ForkBlocks)
+    requires made { part.task < length homes.old.rests }
+    requires noted { part.task < length homes.old.sets }
+    requires block { slice_get homes.old.blocks part.task ≡ Some true }
+    requires room { 2 ≤ homes.old.room }
     requires next { part.frames.top.next + 1 < 2 ^ 32 }
-    ensures { homes.new ≡ slice_set (slice_set (slice_set homes.old left.task (Some (begun_rest left))) right.task (Some (begun_rest right))) part.task (Some (waiting_rest part)) }
+    ensures rests { homes.new.rests ≡ slice_set homes.old.rests part.task (Some (waiting_rest part)) ++ Some (begun_rest left) ∷ (Some (begun_rest right) ∷ []) }
+    ensures sets { SetsFork homes.old.sets homes.new.sets part.task }
+    ensures marks { homes.new.marks ≡ slice_set homes.old.marks part.task None ++ None ∷ (None ∷ []) }
 {
     let task = part.task;
-    let (first, second) = (left.task, right.task);
-    homes.set(first as usize, Some(blocks.left.put(beginning(left))));
-    homes.set(second as usize, Some(blocks.right.put(beginning(right))));
-    homes.set(task as usize, Some(blocks.own.put(waiting(part))));
+    homes.put_rest(task, waiting(part));
+    homes.set_keeps(task, true);
+    drop(homes.take_marking(task));
+    homes.push(beginning(left), blocks.left);
+    homes.push(beginning(right), blocks.right);
 }

@@ -5,9 +5,8 @@ mod first;
 mod fork;
 mod join;
 
-pub use first::{first_homes, first_sets, none_out};
-pub use fork::{ForkBlocks, Forking, clear_marks, fork_sets, grow, put_homes};
+pub use first::{first_homes, none_out};
+pub use fork::{ForkBlocks, Forking, fork_homes, grow};
 pub use join::{
-    in_order, is_ended, join_children, leave_other, leave_own, make_places, put_remembered,
-    sibling_of, take_block, take_remembered, take_rest, take_set,
+    in_order, is_ended, join_children, make_places, other_child, own_child, sibling_of,
 };

@@ -6,7 +6,7 @@ ghost use Rattle.task_machine.specs.declared.part.Private.{Private as Part};
 ghost use Rattle.shared_value.specs.Fits.{AllFit, Fits};
 ghost use Rattle.shared_value.specs.Stands.{IsSharedValue};
 ghost use Rattle.shared_value.specs.SharedValue.{rest_at, without_journal};
-ghost use Rattle.shared_value.specs.declared.task_at_rest.Rest.{Rest as RestOf};
+ghost use Rattle.task_homes.specs.declared.task_at_rest.Rest.{Rest as RestOf};
 
 use crate::counting::Counts;
 use crate::held_words::held;

@@ -20,8 +20,8 @@ fn held_of(shared: &Shared, t: u32) -> (u64, u64)
     if is_running(shared.tree().state(t)) {
         return (0, 0);
     }
-    match shared.homes().at(t as usize) {
-        Some(rest) => (rest.get().heap.objects(), rest.get().heap.words()),
+    match shared.heaps().homes.rest(t) {
+        Some(rest) => (rest.heap.objects(), rest.heap.words()),
         None => (0, 0),
     }
 }
@@ -31,7 +31,7 @@ pub(crate) fn words_held(shared: &Shared, t: u32) -> u64
     ensures { result ≡ counted (words_sum (accounts shared.now).machine (held_unless_running (accounts shared.now) t)) }
 {
     shared.stands();
-    if (t as usize) < shared.homes().len() {
+    if (t as usize) < shared.heaps().homes.len() {
         held_of(shared, t).1
     } else {
         0
@@ -47,7 +47,7 @@ pub fn held(shared: &Shared) -> (u64, u64)
     shared.stands();
     let mut objects = 0u64;
     let mut words = 0u64;
-    for t in 0..shared.homes().len() as u32 {
+    for t in 0..shared.heaps().homes.len() as u32 {
         let held = held_of(shared, t);
         objects = objects.saturating_add(held.0);
         words = words.saturating_add(held.1);

@@ -28,7 +28,7 @@ use Rattle.core_entry_laws.specs.Now.{IsReachedNow, StartsNow}
 use Rattle.core_relation.specs.Since.{kept}
 use Rattle.core_relation.specs.Whole.{StandsFor}
 use Rattle.core_entry_laws.proofs.notes.SnapshotNow.{snapshot_now}
-use Rattle.shared_value.specs.declared.task_at_rest.Rest.{Rest}
+use Rattle.task_homes.specs.declared.task_at_rest.Rest.{Rest}
 use Rattle.shared_value.specs.Objects.{chunks_of}
 use Rattle.shared_value.specs.SharedValue.{SharedValue, accounts, home_in, rest_at, totals_of, value_of}
 use Rattle.shared_value.specs.Stands.{HeapForm, IsSharedValue}

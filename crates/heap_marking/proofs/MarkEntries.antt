@@ -1,8 +1,7 @@
 -- Entries that mark a heap: why they are refused, and what they leave.
 use Rattle.std.proofs.Common.{◌≡◌, ◌==◌, ◌↔◌, ℕ, ◌+◌, ◌-◌, ◌^◌, ◌<◌, ◌≤◌, arith, All, Bool, true, false, min, Option, Some, None, List, length, is_none, is_some, slice_get, slice_set, take, inl, inr, refl, ap, sym, subst, ◌∙◌, le-leb}
-use Rattle.std.specs.Prelude.{IfSome, slice_index_or}
+use Rattle.std.specs.Prelude.{IfSome}
 use Rattle.std.proofs.lemmas.Bool.{cases_lt}
-use Rattle.std.proofs.lemmas.Option.{get_or_from_slice_get}
 use Rattle.listed.proofs.Members.{got_other, got_same, got_within}
 use Rattle.listed.proofs.Options.{none_of}
 use Rattle.listed.proofs.Places.{got_set}
@@ -31,11 +30,12 @@ use Rattle.ledger_step_laws.proofs.Ahead.{heap_then, with_at}
 use Rattle.ledger_step_laws.proofs.Split.{legal_idle}
 use Rattle.core_relation.specs.Marking.{GoesOn}
 use Rattle.core_relation.specs.Since.{kept}
-use Rattle.shared_value.specs.declared.task_at_rest.Rest.{Rest}
+use Rattle.task_homes.specs.HomesValue.{kept_of}
+use Rattle.task_homes.specs.declared.task_at_rest.Rest.{Rest}
 use Rattle.shared_value.specs.Causes.{first_cause, or_else}
 use Rattle.shared_value.specs.Entered.{refused}
 use Rattle.shared_value.specs.Fits.{AllFit}
-use Rattle.shared_value.specs.RestingHeaps.{refs_in}
+use Rattle.task_homes.specs.RestingHeaps.{refs_in}
 use Rattle.shared_value.specs.Roots.{heaps_of, sources_of}
 use Rattle.shared_value.specs.SharedValue.{SharedValue, accounts, flat, home_in, marks_at, noted_in, rest_at, value_of}
 use Rattle.shared_value.specs.Stands.{IsSharedValue}
@@ -144,12 +144,9 @@ words_now w I t on free r there =
     (ap (λ o. (home_in o).chunks) there ∙ home_chunks r) (I.heaps t r there).tidy
 
 -- what it keeps
-pub kept_is : (sets : List SetOf) (t : ℕ) (s : SetOf) → (noted_in (slice_get sets t)).keeps ≡ true → s ≡ slice_index_or sets t s → s.kept.items ≡ (noted_in (slice_get sets t)).kept
-kept_is sets t s keeps is = by (slice_get sets t) refl keeps
-  where
-    by : (o : Option SetOf) → slice_get sets t ≡ o → (noted_in o).keeps ≡ true → s.kept.items ≡ (noted_in o).kept
-    by None e h = absurd cc
-    by (Some x) e h = ap (λ (z : SetOf). z.kept.items) (is ∙ get_or_from_slice_get sets t x s e)
+pub kept_noted : (o : Option SetOf) → kept_of o ≡ (noted_in o).kept
+kept_noted None = refl
+kept_noted (Some s) = refl
 
 -- THE MARKING that begins
 pub mark_goes : (w : SharedValue) (I : IsSharedValue w) (t : ℕ) (on : (accounts w).end ≡ None) → waiting_cause w t ≡ None → (r : Rest) → rest_at w.homes t ≡ Some r → (m : MarkingValue) → ((kept : List Addr) → IsOf r.heap.chunks kept m)

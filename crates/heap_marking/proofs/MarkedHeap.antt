@@ -8,16 +8,15 @@ use Rattle.run_ledger.specs.declared.data.Refused.{Refused}
 use Rattle.run_ledger.specs.declared.data.Refused.TheVariants.{NotMarking}
 use Rattle.run_ledger.specs.Entries.{refused_unless}
 use Rattle.run_ledger.specs.Heaps.{heap_of, left_in}
-use Rattle.write_barrier.specs.declared.sets.SetOf.{SetOf}
 use Rattle.inner_mark_gc.specs.MarkingValue.{IsAllMarked, IsMarking, MarkingValue}
 use Rattle.inner_mark_gc.specs.Snapshot.{Fork, IsSince}
 use Rattle.core_relation.specs.Marking.{MarkedBy}
 use Rattle.core_relation.specs.Since.{kept}
 use Rattle.core_relation.specs.Memory.{Memory}
 use Rattle.core_relation.specs.Whole.{StandsFor}
-use Rattle.shared_value.specs.declared.task_at_rest.Rest.{Rest}
+use Rattle.task_homes.specs.declared.task_at_rest.Rest.{Rest}
 use Rattle.shared_value.specs.Causes.{or_else}
-use Rattle.shared_value.specs.SharedValue.{SharedValue, accounts, flat, marks_at, noted_in, rest_at, totals_of, value_of}
+use Rattle.shared_value.specs.SharedValue.{SharedValue, accounts, flat, marks_at, rest_at, totals_of, value_of}
 use Rattle.shared_value.specs.Stands.{IsSharedValue}
 use Rattle.shared_value.proofs.BeforeTheEnd.{stands_now}
 use Rattle.heap_marking.specs.MarkCauses.{marking_cause, waiting_cause}
@@ -67,19 +66,6 @@ module _ (w : SharedValue) (I : IsSharedValue w) (on : (accounts w).end ≡ None
       by : (o : Option MarkingValue) → o ≡ None → is_some o ≡ true → ⊥
       by None e h = absurd cc
       by (Some x) e h = absurd cc
-
-  pub homes_within : t < length w.homes
-  homes_within = homes.within w I on t tells.0
-
-  pub sets_within : t < length w.sets
-  sets_within = within w.sets keeps
-    where
-      within : (ss : List SetOf) → (noted_in (slice_get ss t)).keeps ≡ true → t < length ss
-      within ss h = by (slice_get ss t) refl h
-        where
-          by : (o : Option SetOf) → slice_get ss t ≡ o → (noted_in o).keeps ≡ true → t < length ss
-          by None e h = absurd cc
-          by (Some x) e h = got_within ss t x e
 
   pub marks_within : t < length w.marks
   marks_within = within w.marks (tells.1)

@@ -26,7 +26,7 @@ use Rattle.core_relation.specs.Since.{kept}
 use Rattle.core_relation.specs.Whole.{StandsFor}
 use Rattle.core_relation.proofs.notes.Rooted.{lies_in}
 use Rattle.core_entry_laws.proofs.notes.SnapshotNow.{snapshot_now}
-use Rattle.shared_value.specs.declared.task_at_rest.Rest.{Rest}
+use Rattle.task_homes.specs.declared.task_at_rest.Rest.{Rest}
 use Rattle.shared_value.specs.SharedValue.{SharedValue, accounts, rest_at, totals_of, value_of}
 use Rattle.shared_value.specs.Stands.{HeapForm, IsSharedValue}
 use Rattle.shared_value.proofs.ObjectCounts.{objects_counted}

@@ -28,11 +28,11 @@ use Rattle.core_relation.specs.Stands.{Place, Stands}
 use Rattle.core_relation.specs.Memory.{Home, In, Memory, objects, objects_in, sources}
 use Rattle.core_relation.proofs.objects.Members.{from_flat, in_chunk}
 use Rattle.core_relation.proofs.notes.Roots.{frame_name}
-use Rattle.shared_value.specs.declared.task_at_rest.Rest.{Rest}
-use Rattle.shared_value.specs.declared.task_at_rest.Work.{Work}
-use Rattle.shared_value.specs.declared.task_at_rest.Work.TheVariants.{Calls, Result}
+use Rattle.task_homes.specs.declared.task_at_rest.Rest.{Rest}
+use Rattle.task_homes.specs.declared.task_at_rest.Work.{Work}
+use Rattle.task_homes.specs.declared.task_at_rest.Work.TheVariants.{Calls, Result}
 use Rattle.shared_value.specs.Objects.{chunks_of}
-use Rattle.shared_value.specs.RestingHeaps.{refs_in}
+use Rattle.task_homes.specs.RestingHeaps.{refs_in}
 use Rattle.shared_value.specs.Roots.{heaps_of, sources_of}
 use Rattle.shared_value.specs.SharedValue.{SharedValue, accounts, frames_down, home_by, home_in, home_of, rest_at, value_of}
 use Rattle.shared_value.specs.Stands.{IsSharedValue}

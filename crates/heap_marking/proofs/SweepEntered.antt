@@ -1,10 +1,10 @@
 -- A sweep is entered: the shared value that it leaves, and the parts.
-use Rattle.std.proofs.Common.{◌≡◌, ℕ, ◌-◌, ◌<◌, ◌==◌, ◌++◌, arith, Bool, true, false, Option, Some, None, is_none, List, [], ◌∷◌, length, length-set, option_map, slice_get, slice_set, inl, inr, refl, ap, ap₂, sym, subst, ◌∙◌}
+use Rattle.std.proofs.Common.{◌≡◌, ℕ, ◌-◌, ◌==◌, ◌++◌, arith, Bool, true, false, Option, Some, None, is_none, List, [], ◌∷◌, length, length-set, option_map, slice_get, slice_set, inl, inr, refl, ap, ap₂, sym, subst, ◌∙◌}
 use Rattle.std.specs.Prelude.{◌≢◌, IsSome}
 use Rattle.std.proofs.lemmas.Bool.{cases_eq, eqb-true}
 use Rattle.std.proofs.lemmas.Option.{same_Some}
 use Rattle.listed.specs.RoomyValue.{RoomyValue}
-use Rattle.listed.proofs.Members.{got_other, got_same, got_within}
+use Rattle.listed.proofs.Members.{got_other, got_same}
 use Rattle.listed.proofs.Places.{all_from}
 use Rattle.run_trace.specs.declared.entry.Kind.TheVariants.{Sweep}
 use Rattle.run_trace.specs.Entry.{EntryValue}
@@ -29,7 +29,7 @@ use Rattle.core_relation.specs.Whole.{StandsForAll}
 use Rattle.core_entry_laws.proofs.whole.EntriesWhole.{sweeps_stand_for}
 use Rattle.core_entry_laws.proofs.parts.WorkersPast.{sweeps_leave}
 use Rattle.task_machine.specs.declared.part.Private.{Private}
-use Rattle.shared_value.specs.declared.task_at_rest.Rest.{Rest}
+use Rattle.task_homes.specs.declared.task_at_rest.Rest.{Rest}
 use Rattle.shared_value.specs.Causes.{or_else}
 use Rattle.shared_value.specs.Entered.{refused}
 use Rattle.shared_value.specs.Fits.{AllFit, Fits, part_of}
@@ -129,13 +129,6 @@ module _ (w : SharedValue) (k t given : ℕ) (I : IsSharedValue w) (free : refus
 
   pub can_all : (x : Rest) (y : MarkingValue) → rest_at w.homes t ≡ Some x → marks_at w.marks t ≡ Some y → CanSweep x.heap y w.pool
   can_all x y is at = subst (λ (z : Rest). CanSweep z.heap y w.pool) (same_Some r x (sym there ∙ is)) (subst (λ (z : MarkingValue). CanSweep r.heap z w.pool) (same_Some m y (sym marked ∙ at)) can)
-
-  pub has_set : t < length w.sets
-  has_set =
-      let within : t < length w.homes = got_within w.homes t (Some r) (some_flat (slice_get w.homes t) r there) in
-      let made : length w.homes ≡ length w.tree = I.made in
-      let noted : length w.sets ≡ length w.tree = I.noted in
-      omega (arith, within, made, noted)
 
   module _ (pool : PoolValue) (G : AreGiven w.pool pool (gone_of r.heap (marked_of m))) (slots spare : ℕ) (sets : List SetOf) (many : length sets ≡ length w.sets) (kept_none : content_at sets t ≡ option_map forgotten (content_at w.sets t))
       (others : (u : ℕ) → u ≢ t → slice_get sets u ≡ slice_get w.sets u) (room : ℕ) where

@@ -24,7 +24,7 @@ use Rattle.core_relation.specs.Marking.{MarkedBy}
 use Rattle.core_relation.specs.Stands.{HasNames, large_chunks, names_of, small_chunks}
 use Rattle.core_relation.specs.Memory.{In, object_name, objects_in}
 use Rattle.core_relation.proofs.objects.Merged.{map_append}
-use Rattle.shared_value.specs.declared.task_at_rest.Rest.{Rest}
+use Rattle.task_homes.specs.declared.task_at_rest.Rest.{Rest}
 use Rattle.shared_value.specs.Objects.{chunk_of, chunks_of}
 use Rattle.shared_value.specs.SharedValue.{SharedValue, accounts, marks_at, rest_at, value_of}
 use Rattle.shared_value.specs.Stands.{IsSharedValue}

@@ -1,6 +1,5 @@
 -- What is there of a task that waits and whose heap wasn't swept since its fork.
-use Rattle.std.proofs.Common.{◌≡◌, ℕ, ◌<◌, true, false, Bool, Option, Some, None, List, length, is_some, option_map, slice_get, refl, ap, sym, subst, ◌∙◌}
-use Rattle.listed.proofs.Members.{got_within}
+use Rattle.std.proofs.Common.{◌≡◌, ℕ, true, false, Bool, Option, Some, None, is_some, option_map, slice_get, refl, ap, sym, subst, ◌∙◌}
 use Rattle.hh_model.specs.declared.data.Status.{Status}
 use Rattle.hh_model.specs.declared.data.Status.TheVariants.{Running, Waiting, Ended, Joined}
 use Rattle.hh_model.specs.declared.data.Task.{Task}
@@ -15,8 +14,8 @@ use Rattle.core_relation.specs.Reads.{HoldsRead}
 use Rattle.core_relation.specs.Stands.{Place}
 use Rattle.core_relation.specs.Memory.{Memory}
 use Rattle.core_relation.specs.Whole.{StandsFor}
-use Rattle.shared_value.specs.declared.task_at_rest.Rest.{Rest}
-use Rattle.shared_value.specs.SharedValue.{SharedValue, accounts, flat, home_in, no_home, noted_in, rest_at, totals_of, value_of}
+use Rattle.task_homes.specs.declared.task_at_rest.Rest.{Rest}
+use Rattle.shared_value.specs.SharedValue.{SharedValue, accounts, home_in, no_home, noted_in, rest_at, totals_of, value_of}
 use Rattle.shared_value.specs.Stands.{IsSharedValue}
 use Rattle.shared_value.proofs.BeforeTheEnd.{stands_now}
 use Rattle.heap_marking.specs.MarkCauses.{is_state_waiting, waiting_cause}
@@ -77,13 +76,3 @@ module _ (w : SharedValue) (I : IsSharedValue w) (on : (accounts w).end ≡ None
     where
       none_some : {x : Rest} → ◌≡◌ {A = Option Rest} None (Some x) → ⊥
       none_some e = absurd cc
-
-  pub within : t < length w.homes
-  within = by w.homes rest.1
-    where
-      by : (hs : List (Option Rest)) → rest_at hs t ≡ Some rest.0 → t < length hs
-      by hs e = at (slice_get hs t) refl e
-        where
-          at : (o : Option (Option Rest)) → slice_get hs t ≡ o → flat o ≡ Some rest.0 → t < length hs
-          at None q f = absurd cc
-          at (Some o) q f = got_within hs t o q

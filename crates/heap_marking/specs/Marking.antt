@@ -17,7 +17,7 @@ use Rattle.core_relation.specs.Memory.{In, Memory}
 use Rattle.core_relation.specs.Begins.{IsAt, IsRoot}
 use Rattle.core_relation.specs.Marking.{GoesOn, MarksStand}
 use Rattle.core_relation.specs.Since.{kept as kept_of}
-use Rattle.shared_value.specs.declared.task_at_rest.Rest.{Rest}
+use Rattle.task_homes.specs.declared.task_at_rest.Rest.{Rest}
 use Rattle.shared_value.specs.SharedValue.{SharedValue, accounts, marks_at, rest_at, value_of}
 use Rattle.shared_value.specs.Stands.{IsSharedValue}
 use Rattle.shared_value.specs.Fits.{AllFit}

@@ -10,11 +10,10 @@ use Rattle.remembered_set.specs.Moved.{into, targets_of}
 use Rattle.leaf_copy_gc.specs.Survivors.{held_by}
 use Rattle.inner_mark_gc.specs.MarkingValue.{IsMarking, IsOf, MarkingValue}
 use Rattle.inner_mark_gc.specs.Snapshot.{Fork}
-use Rattle.shared_value.specs.declared.heaps.Heaps.{Heaps}
-use Rattle.shared_value.specs.declared.task_at_rest.Rest.{Rest}
-use Rattle.shared_value.specs.declared.task_at_rest.Work.{Work}
-use Rattle.shared_value.specs.declared.task_at_rest.Work.TheVariants.{Calls, Result}
-use Rattle.shared_value.specs.RestingHeaps.{refs_in}
+use Rattle.task_homes.specs.declared.task_at_rest.Rest.{Rest}
+use Rattle.task_homes.specs.declared.task_at_rest.Work.{Work}
+use Rattle.task_homes.specs.declared.task_at_rest.Work.TheVariants.{Calls, Result}
+use Rattle.task_homes.specs.RestingHeaps.{Resting, refs_in}
 use Rattle.shared_value.specs.Roots.{heaps_of, sources_of}
 use Rattle.shared_value.specs.SharedValue.{SharedValue, rest_at}
 
@@ -24,10 +23,10 @@ registers_of (Calls s) = held_by (frames_of s)
 registers_of (Result k r) = []
 
 -- of a heap at rest, with these remembered fields
-abbrev pub starts_in : Heaps → List Source → Rest → List Addr
+abbrev pub starts_in : Resting → List Source → Rest → List Addr
 starts_in heaps sources r = targets_of refs_in heaps r.heap.chunks sources ++ flat_map (into r.heap.chunks) (registers_of r.work)
 
-abbrev pub starts_by : Heaps → List Source → Option Rest → List Addr
+abbrev pub starts_by : Resting → List Source → Option Rest → List Addr
 starts_by heaps sources None = []
 starts_by heaps sources (Some r) = starts_in heaps sources r
 

@@ -5,7 +5,7 @@ use Rattle.alloc_path.specs.LeafHeapValue.{LeafHeapValue, with_places}
 use Rattle.write_barrier.specs.Stored.{Content}
 use Rattle.inner_mark_gc.specs.MarkingValue.{HasRoom, IsDone, MarkingValue, marked_of}
 use Rattle.inner_mark_gc.specs.Swept.{AreGiven, gone_of, swept}
-use Rattle.shared_value.specs.declared.task_at_rest.Rest.{Rest}
+use Rattle.task_homes.specs.declared.task_at_rest.Rest.{Rest}
 
 -- all that was found is marked, and the heap's chunks are in use
 pub record CanSweep (h : LeafHeapValue) (m : MarkingValue) (pool : PoolValue) : Type 0 where

@@ -3,14 +3,10 @@
 ghost use Rattle.std.specs.Prelude.{◌≡◌};
 ghost use Rattle.heap_marking.specs.MarkCauses.{is_state_waiting, marking_cause_in, waiting_cause_in, words_cause};
 
-use crate::mark_places::is_marking;
 use heap_tree::{State, Tree};
-use inner_mark_gc::Marking;
-use listed::Listed;
-use out_of_line::Apart;
 use run_ledger::Refused;
 use run_trace::Settings;
-use write_barrier::SetOf;
+use task_homes::Homes;
 
 /// Of a heap that can be marked, of so many words: why its marking isn't due.
 pub fn words_cause(settings: Settings, words: u64) -> Option<Refused>
@@ -34,38 +30,28 @@ pub(crate) fn is_waiting(state: Option<State>) -> bool
 }
 
 /// For what its task is at, or since it was swept.
-pub fn waiting_cause(tree: &Tree, sets: &[SetOf], t: u32) -> Option<Refused>
-    ensures { result ≡ waiting_cause_in tree.now sets.now t }
+pub fn waiting_cause(tree: &Tree, homes: &Homes, t: u32) -> Option<Refused>
+    ensures { result ≡ waiting_cause_in tree.now homes.now.sets t }
 {
     if !is_waiting(tree.state(t)) {
         return Some(Refused::NotWaiting);
     }
-    match sets.get(t as usize) {
-        Some(set) => {
-            if set.keeps() {
-                None
-            } else {
-                Some(Refused::Swept)
-            }
-        }
-        None => Some(Refused::Swept),
+    if homes.keeps(t) {
+        None
+    } else {
+        Some(Refused::Swept)
     }
 }
 
 /// Or since it isn't being marked.
-pub fn marking_cause(
-    tree: &Tree,
-    sets: &[SetOf],
-    marks: &Listed<Option<Apart<Marking>>>,
-    t: u32,
-) -> Option<Refused>
-    ensures { result ≡ marking_cause_in tree.now sets.now marks.now t }
+pub fn marking_cause(tree: &Tree, homes: &Homes, t: u32) -> Option<Refused>
+    ensures { result ≡ marking_cause_in tree.now homes.now.sets homes.now.marks t }
 {
-    let waiting = waiting_cause(tree, sets, t);
+    let waiting = waiting_cause(tree, homes, t);
     if waiting.is_some() {
         return waiting;
     }
-    if is_marking(marks, t) {
+    if homes.marking(t).is_some() {
         None
     } else {
         Some(Refused::NotMarking)

@@ -6,23 +6,17 @@ ghost use Rattle.object_layout.specs.Graph.{IsHeld};
 ghost use Rattle.task_frames.specs.FramesValue.{frames_of};
 ghost use Rattle.remembered_set.specs.Moved.{into, AreFields};
 ghost use Rattle.leaf_copy_gc.specs.Survivors.{held_by};
-ghost use Rattle.shared_value.specs.RestingHeaps.{refs_in};
+ghost use Rattle.task_homes.specs.RestingHeaps.{refs_in, resting};
 ghost use Rattle.shared_value.specs.Roots.{sources_of};
 ghost use Rattle.shared_value.specs.SharedValue.{rest_at};
-ghost use Rattle.shared_value.specs.declared.heaps.Heaps.{Heaps as HeapsOf};
 ghost use Rattle.heap_marking.specs.Starts.{starts_in, IsBegun};
 
 use alloc_path::LeafHeap;
-use chunk_pool::Pool;
 use inner_mark_gc::{Marking, MarkingRoom};
-use listed::Listed;
 use object_layout::Addr;
-use out_of_line::Apart;
-use shared_value::{Heaps, Rest, Work, targets_in};
 use std::alloc::{AllocError, Global};
-use std::mem;
 use task_frames::Frames;
-use write_barrier::SetOf;
+use task_homes::{Heaps, Rest, Work};
 
 // Adds a reference, if it leads into the heap.
 fn push_own(
@@ -70,44 +64,15 @@ fn push_registers(
 }
 
 // What the remembered fields of the heap of a task at rest hold now, and what its registers do.
-fn starts_in(
-    alloc: Global,
-    sets: &[SetOf],
-    heaps: &Heaps,
-    task: u32,
-    rest: &Rest,
-) -> Result<Vec<Addr>, AllocError>
-    requires { AreFields refs_in heaps.now (sources_of (slice_get sets.now task)) }
-    ensures { IfOk result (λ v. v.items ≡ starts_in heaps.now (sources_of (slice_get sets.now task)) rest.now) }
+fn starts_in(alloc: Global, heaps: &Heaps, task: u32, rest: &Rest) -> Result<Vec<Addr>, AllocError>
+    requires { AreFields refs_in (resting heaps.now) (sources_of (slice_get heaps.now.homes.sets task)) }
+    ensures { IfOk result (λ v. v.items ≡ starts_in (resting heaps.now) (sources_of (slice_get heaps.now.homes.sets task)) rest.now) }
 {
-    let mut starts = targets_in(alloc, sets, task, heaps, rest.heap.chunks())?;
+    let mut starts = heaps.targets(alloc, task, rest.heap.chunks())?;
     if let Work::Calls(frames) = &rest.work {
         push_registers(&mut starts, frames, &rest.heap)?;
     }
     Ok(starts)
-}
-
-// A marking in this room that has marked nothing yet, of the heap of a task at rest.
-fn begun_in(
-    alloc: Global,
-    room: MarkingRoom,
-    sets: &[SetOf],
-    heaps: &Heaps,
-    task: u32,
-) -> Result<Marking, AllocError>
-    requires there { IsSome (rest_at heaps.now.homes task) }
-    requires fields { AreFields refs_in heaps.now (sources_of (slice_get sets.now task)) }
-    requires held { IfSome (rest_at heaps.now.homes task) (λ r. All (IsHeld r.heap.chunks) (starts_in heaps.now (sources_of (slice_get sets.now task)) r)) }
-    ensures { IfOk result (λ m. IfSome (rest_at heaps.now.homes task) (λ r. IsBegun r.heap.chunks (starts_in heaps.now (sources_of (slice_get sets.now task)) r) m)) }
-{
-    match heaps.homes.get(task as usize) {
-        Some(Some(rest)) => {
-            let rest = rest.get();
-            let starts = starts_in(alloc, sets, heaps, task, rest)?;
-            Marking::begin_in(room, &rest.heap, &starts)
-        }
-        _ => unreachable!(),
-    }
 }
 
 /// A marking in this room that has marked nothing yet, of the heap of a task at rest: it begins at what the heap's
@@ -115,28 +80,19 @@ fn begun_in(
 pub fn begin_marking(
     alloc: Global,
     room: MarkingRoom,
-    sets: &[SetOf],
-    homes: &mut Listed<Option<Apart<Rest>>>,
-    pool: &mut Pool,
+    heaps: &Heaps,
     task: u32,
 ) -> Result<Marking, AllocError>
-    requires there { IsSome (rest_at homes.old task) }
-    requires fields { let heaps : HeapsOf = record { homes = homes.old; pool = pool.old } in AreFields refs_in heaps (sources_of (slice_get sets.now task)) }
-    requires held { let heaps : HeapsOf = record { homes = homes.old; pool = pool.old } in IfSome (rest_at homes.old task) (λ r. All (IsHeld r.heap.chunks) (starts_in heaps (sources_of (slice_get sets.now task)) r)) }
-    ensures homes { homes.new ≡ homes.old }
-    ensures pool { pool.new ≡ pool.old }
-    ensures begun { let heaps : HeapsOf = record { homes = homes.old; pool = pool.old } in IfOk result (λ m. IfSome (rest_at homes.old task) (λ r. IsBegun r.heap.chunks (starts_in heaps (sources_of (slice_get sets.now task)) r) m)) }
+    requires there { IsSome (rest_at heaps.now.homes.rests task) }
+    requires fields { AreFields refs_in (resting heaps.now) (sources_of (slice_get heaps.now.homes.sets task)) }
+    requires held { IfSome (rest_at heaps.now.homes.rests task) (λ r. All (IsHeld r.heap.chunks) (starts_in (resting heaps.now) (sources_of (slice_get heaps.now.homes.sets task)) r)) }
+    ensures { IfOk result (λ m. IfSome (rest_at heaps.now.homes.rests task) (λ r. IsBegun r.heap.chunks (starts_in (resting heaps.now) (sources_of (slice_get heaps.now.homes.sets task)) r) m)) }
 {
-    let heaps = Heaps {
-        homes: mem::replace(homes, Listed::new(alloc)),
-        pool: mem::replace(pool, Pool::new(alloc, 0)),
-    };
-    let marking = begun_in(alloc, room, sets, &heaps, task);
-    let Heaps {
-        homes: rests,
-        pool: chunks,
-    } = heaps;
-    *homes = rests;
-    *pool = chunks;
-    marking
+    match heaps.homes.rest(task) {
+        Some(rest) => {
+            let starts = starts_in(alloc, heaps, task, rest)?;
+            Marking::begin_in(room, &rest.heap, &starts)
+        }
+        None => unreachable!(),
+    }
 }

@@ -20,7 +20,7 @@ use Rattle.write_barrier.specs.declared.sets.SetOf.{SetOf}
 use Rattle.ledger_step_laws.specs.Accounts.{own}
 use Rattle.core_relation.specs.Memory.{objects_in, sources}
 use Rattle.core_relation.specs.Whole.{handed}
-use Rattle.shared_value.specs.declared.task_at_rest.Rest.{Rest}
+use Rattle.task_homes.specs.declared.task_at_rest.Rest.{Rest}
 use Rattle.shared_value.specs.Stands.{IsSharedValue}
 use Rattle.shared_value.specs.SharedValue.{SharedValue, accounts, home_in, noted_in, rest_at, value_of}
 use Rattle.shared_value.proofs.FieldsLed.{home_chunks}

@@ -36,7 +36,7 @@ use Rattle.ledger_step_laws.proofs.Rested.{rested_view}
 use Rattle.core_relation.specs.Stands.{HasNames, Stands, large_chunks, names_of, small_chunks}
 use Rattle.core_relation.specs.Memory.{object_name, objects_in}
 use Rattle.core_relation.specs.Whole.{by_end, handed, state_by, as_node}
-use Rattle.shared_value.specs.declared.task_at_rest.Rest.{Rest}
+use Rattle.task_homes.specs.declared.task_at_rest.Rest.{Rest}
 use Rattle.shared_value.specs.Objects.{chunk_of, chunks_of}
 use Rattle.shared_value.specs.SharedValue.{SharedValue, accounts, home_in, rest_at, value_of}
 use Rattle.shared_value.specs.Stands.{IsSharedValue}

@@ -13,7 +13,7 @@ use Rattle.chunk_pool.specs.PoolValue.{owner_of}
 use Rattle.alloc_path.proofs.HeapLemmas.{none_there, place_found}
 use Rattle.heap_tree.specs.Node.{state_of}
 use Rattle.core_relation.specs.Memory.{In}
-use Rattle.shared_value.specs.declared.task_at_rest.Rest.{Rest}
+use Rattle.task_homes.specs.declared.task_at_rest.Rest.{Rest}
 use Rattle.shared_value.specs.Objects.{chunk_of, chunks_of}
 use Rattle.shared_value.specs.SharedValue.{SharedValue, home_in, rest_at}
 use Rattle.shared_value.proofs.FieldsLed.{home_chunks}

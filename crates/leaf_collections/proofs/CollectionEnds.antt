@@ -4,7 +4,8 @@ use Rattle.std.proofs.lemmas.Bool.{cases_eq, false≢true}
 use Rattle.std.proofs.lemmas.Option.{same_Some}
 use Rattle.std.proofs.lemmas.List.Elements.{All-head, All-tail}
 use Rattle.listed.specs.RoomyValue.{RoomyValue}
-use Rattle.listed.proofs.Places.{each_from, in_map, read_in}
+use Rattle.listed.proofs.Members.{got_within}
+use Rattle.listed.proofs.Places.{each_from, got_some, in_map, read_in}
 use Rattle.hh_model.specs.declared.data.Object.{Object}
 use Rattle.hh_model.specs.declared.data.Status.{Status}
 use Rattle.hh_model.specs.declared.data.Status.TheVariants.{Running, Waiting, Ended, Joined}
@@ -20,6 +21,7 @@ use Rattle.run_ledger.specs.Heaps.{collected, heap_of, or_fresh, with_heap, with
 use Rattle.run_ledger.specs.Journals.{is_legal}
 use Rattle.run_ledger.specs.Sound.{SoundLedger}
 use Rattle.run_ledger.proofs.Holders.{tasks_are_held_once}
+use Rattle.run_ledger.proofs.Journals.{legal_sound}
 use Rattle.journal_laws.proofs.Waiters.{waiters_are_free}
 use Rattle.run_ledger.proofs.Going.{machine_goes_on}
 use Rattle.run_ledger.proofs.Machine.{heap_machine}
@@ -47,7 +49,7 @@ use Rattle.core_relation.specs.Since.{OthersNotes}
 use Rattle.core_relation.specs.Stands.{IsSource, Place}
 use Rattle.core_relation.specs.Memory.{Chunk, Home, In, Lies, Memory, objects_in, rewritten_home, sources}
 use Rattle.core_relation.specs.Fits.{Part, part_for}
-use Rattle.core_relation.specs.Whole.{StandsFor, StandsForAll, by_end}
+use Rattle.core_relation.specs.Whole.{StandsFor, StandsForAll, as_node, by_end}
 use Rattle.core_relation.specs.Worker.{Fits as FitsValue}
 use Rattle.core_entry_laws.proofs.whole.EntriesWhole.{ends_stand_for}
 use Rattle.core_relation.proofs.objects.Members.{map_in}
@@ -55,14 +57,14 @@ use Rattle.core_entry_laws.proofs.parts.OwnFits.{ends_fit_then}
 use Rattle.core_entry_laws.proofs.parts.WorkersPast.{ends_leave}
 use Rattle.core_entry_laws.proofs.parts.Quiet.{aside_is}
 use Rattle.task_machine.specs.declared.part.Private.{Private}
-use Rattle.shared_value.specs.declared.heaps.Heaps.{Heaps}
-use Rattle.shared_value.specs.declared.task_at_rest.Rest.{Rest}
+use Rattle.task_homes.specs.declared.task_at_rest.Rest.{Rest}
 use Rattle.shared_value.specs.Objects.{chunk_of, chunks_of}
 use Rattle.shared_value.specs.SharedValue.{SharedValue, accounts, home_in, rest_at, totals_of, value_of}
 use Rattle.shared_value.specs.Measured.{KeepsUnits, RestsAreMeasured}
 use Rattle.shared_value.specs.Stands.{IsSharedValue}
 use Rattle.shared_value.specs.Fits.{Fits, OthersFit, home_of_part, part_of}
-use Rattle.shared_value.specs.RestingHeaps.{refs_for, refs_in, refs_of_rest, with_ref_in}
+use Rattle.task_homes.specs.HomesValue.{refs_of_rest}
+use Rattle.task_homes.specs.RestingHeaps.{Resting, refs_for, refs_in, with_ref_in}
 use Rattle.shared_value.specs.Roots.{heaps_of, sources_of}
 use Rattle.shared_value.specs.Entered.{refused}
 use Rattle.shared_value.proofs.CellsRead.{fresh_off, seen_object}
@@ -75,6 +77,14 @@ use Rattle.shared_value.proofs.FieldsLed.{AreFormed, Led, SourceThere, home_chun
 use Rattle.shared_value.proofs.UnitsMeasured.{given_keeps, measured_given, measured_kept, part_kept}
 use Rattle.shared_value.proofs.BeforeTheEnd.{stands_now}
 use Rattle.leaf_collections.specs.LeafEnd.{FitsCopied, end_event, ended}
+
+-- a heap that a worker holds is there
+held_there : (hs : List Account) (t k : ℕ) → (or_fresh (slice_get hs t)).worker ≡ Some k → t < length hs
+held_there hs t k = by (slice_get hs t) refl
+  where
+    by : (o : Option Account) → slice_get hs t ≡ o → (or_fresh o).worker ≡ Some k → t < length hs
+    by None e h = absurd cc
+    by (Some x) e h = got_within hs t x e
 
 module _ (w : SharedValue) (k : ℕ) (p : Private) (moved : Moved) (I : IsSharedValue w) (F : FitsCopied w k p moved) (free : refused w (end_event k p moved) ≡ None) where
   abbrev e : EntryValue
@@ -103,6 +113,15 @@ module _ (w : SharedValue) (k : ℕ) (p : Private) (moved : Moved) (I : IsShared
 
   S : StandsFor v (totals_of w) l
   S = stands_now w I on
+
+  -- its task has been made
+  pub has_home : p.task < length w.homes
+  has_home =
+      let T : SoundLedger l = legal_sound w.program w.settings w.journal.items I.legal in
+      let held : t < length l.heaps = held_there l.heaps t k F.held in
+      let many : length l.heaps ≡ length l.machine.tasks = T.lengths in
+      let x = got_some l.machine.tasks t (omega (arith, held, many)) in
+      subst (λ n. t < n) (sym I.made) (got_within w.tree t (as_node (heap_of l t).worker x.0) (S.totals.node t ∙ ap (option_map (as_node (heap_of l t).worker)) x.1))
 
   sources_are : sources v t ≡ ss
   sources_are = noted_sources (slice_get w.sets t)
@@ -159,7 +178,7 @@ module _ (w : SharedValue) (k : ℕ) (p : Private) (moved : Moved) (I : IsShared
       by (Some h) q = refl
 
   module _ (pool : PoolValue) (G : AreGiven w.pool pool moved.back.items) (once : StandOnce (sources_of (slice_get w.sets p.task))) (room : ℕ) where
-    abbrev H' : Heaps
+    abbrev H' : Resting
     H' = fold (redirected refs_in with_ref_in moved.moved.items) (heaps_of w) (sources_of (slice_get w.sets p.task))
 
     led : Led moved.moved.items (heaps_of w) Good ss H'
@@ -335,9 +354,9 @@ module _ (w : SharedValue) (k : ℕ) (p : Private) (moved : Moved) (I : IsShared
         (λ same'. apart u q ne Q (sym same')) Q.fits))
 
   -- AS THE CALL HAS IT
-  module _ (X : Heaps) (is : X ≡ fold (redirected refs_in with_ref_in moved.moved.items) (heaps_of w) (sources_of (slice_get w.sets p.task))) (once : StandOnce (sources_of (slice_get w.sets p.task))) where
+  module _ (X : Resting) (is : X ≡ fold (redirected refs_in with_ref_in moved.moved.items) (heaps_of w) (sources_of (slice_get w.sets p.task))) (once : StandOnce (sources_of (slice_get w.sets p.task))) where
     pub pool_same : X.pool ≡ w.pool
-    pool_same = ap (λ (h : Heaps). h.pool) is ∙ (lead_all moved.moved.items ss (heaps_of w) Good (are_once ss once) (λ s i. (at s i).place) formed).pool
+    pool_same = ap (λ (h : Resting). h.pool) is ∙ (lead_all moved.moved.items ss (heaps_of w) Good (are_once ss once) (λ s i. (at s i).place) formed).pool
 
     module _ (pool : PoolValue) (G : AreGiven X.pool pool moved.back.items) (j : RoomyValue EntryValue) (made : j ≡ record { items = w.journal.items ++ e ∷ []; room = w.journal.room - 1 }) where
       given : AreGiven w.pool pool moved.back.items
@@ -347,7 +366,7 @@ module _ (w : SharedValue) (k : ℕ) (p : Private) (moved : Moved) (I : IsShared
       entered_so = record w { pool = pool; homes = X.homes; journal = j }
 
       so : entered_so ≡ w' pool given once (w.journal.room - 1)
-      so = ap₂ (λ hs z. record w { pool = pool; homes = hs; journal = z }) (ap (λ (h : Heaps). h.homes) is) made
+      so = ap₂ (λ hs z. record w { pool = pool; homes = hs; journal = z }) (ap (λ (h : Resting). h.homes) is) made
 
       pub world_so : IsSharedValue entered_so
       world_so = subst IsSharedValue (sym so) (end_world pool given once (w.journal.room - 1))

@@ -26,9 +26,9 @@ use Rattle.core_relation.proofs.objects.Carry.{field_of}
 use Rattle.core_relation.proofs.changes.With.{at_home}
 use Rattle.task_machine.specs.declared.part.Private.{Private}
 use Rattle.task_frames.specs.FramesValue.{int_of, ref_of}
-use Rattle.shared_value.specs.declared.task_at_rest.Rest.{Rest}
-use Rattle.shared_value.specs.declared.task_at_rest.Work.{Work}
-use Rattle.shared_value.specs.declared.task_at_rest.Work.TheVariants.{Calls, Result}
+use Rattle.task_homes.specs.declared.task_at_rest.Rest.{Rest}
+use Rattle.task_homes.specs.declared.task_at_rest.Work.{Work}
+use Rattle.task_homes.specs.declared.task_at_rest.Work.TheVariants.{Calls, Result}
 use Rattle.shared_value.specs.SharedValue.{SharedValue, accounts, frames_down, home_by, home_in, rest_at, value_of}
 use Rattle.shared_value.specs.Objects.{chunks_of}
 use Rattle.shared_value.specs.Stands.{IsSharedValue}

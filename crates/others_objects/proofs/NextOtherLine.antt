@@ -31,13 +31,12 @@ use Rattle.core_relation.proofs.notes.Roots.{name_at}
 use Rattle.task_machine.specs.declared.part.Private.{Private}
 use Rattle.task_frames.specs.FramesValue.{ref_of}
 use Rattle.task_machine.proofs.Owned.{born_is, born_object}
-use Rattle.shared_value.specs.SharedValue.{SharedValue, accounts, value_of}
+use Rattle.shared_value.specs.SharedValue.{SharedValue, accounts, rest_at, value_of}
 use Rattle.shared_value.specs.Stands.{IsSharedValue}
 use Rattle.shared_value.specs.Fits.{Fits, home_of_part}
 use Rattle.shared_value.specs.Next.{next_line}
-use Rattle.shared_value.specs.declared.task_at_rest.Rest.{Rest}
+use Rattle.task_homes.specs.declared.task_at_rest.Rest.{Rest}
 use Rattle.shared_value.proofs.PartFitsMachine as link
-use Rattle.shared_value.proofs.TaskTaken.{some_flat}
 use Rattle.shared_value.proofs.UnitsMeasured.{owner_held}
 use Rattle.own_steps.specs.Alone.{IsShared}
 use Rattle.own_steps.proofs.LastSteps.{machine_same}
@@ -145,12 +144,6 @@ module _ (w : SharedValue) (k : ℕ) (p : Private) (I : IsSharedValue w) (F : Fi
     pub owner_is : pool_owner w.pool address.chunk ≡ Some owner
     owner_is = foreign.place.chunk
 
-    pub owner_there : owner < length w.homes
-    owner_there = subst (λ n. owner < n) (sym I.made) (owned address.chunk owner owner_is)
-
-    pub rest_there : slice_get w.homes owner ≡ Some (Some foreign.rest)
-    rest_there = some_flat (slice_get w.homes owner) foreign.rest foreign.there
-
     pub object_is : object_of foreign.rest.heap.chunks address ≡ cell_of foreign.rest.heap.chunks address
     object_is = born_object foreign.rest.heap.chunks address foreign.birth foreign.mark
 
@@ -198,15 +191,12 @@ module _ (w : SharedValue) (k : ℕ) (p : Private) (I : IsSharedValue w) (F : Fi
         same_owner : u ≡ owner
         same_owner = same_Some u owner (sym owns ∙ (ap (λ (z : Addr). pool_owner w.pool z.chunk) same_address ∙ owner_is))
 
-        pub home_there : u < length w.homes
-        home_there = subst (λ z. z < length w.homes) (sym same_owner) owner_there
+        pub rest_is : rest_at w.homes u ≡ Some foreign.rest
+        rest_is = ap (rest_at w.homes) same_owner ∙ foreign.there
 
-        pub rest_is : slice_get w.homes u ≡ Some (Some foreign.rest)
-        rest_is = ap (slice_get w.homes) same_owner ∙ rest_there
-
-        module _ (r : Rest) (there : slice_get w.homes u ≡ Some (Some r)) where
+        module _ (r : Rest) (there : rest_at w.homes u ≡ Some r) where
           same_rest : r ≡ foreign.rest
-          same_rest = same_Some r foreign.rest (same_Some (Some r) (Some foreign.rest) (sym there ∙ rest_is))
+          same_rest = same_Some r foreign.rest (sym there ∙ rest_is)
 
           pub can_read : IsReadable (length w.tree) w.pool t r.heap.chunks a
           can_read =

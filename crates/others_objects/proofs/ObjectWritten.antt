@@ -26,9 +26,9 @@ use Rattle.core_relation.specs.Stands.{HomeStands}
 use Rattle.core_relation.proofs.objects.Members.{in_chunk}
 use Rattle.core_relation.proofs.changes.With.{at_home, off_home}
 use Rattle.task_machine.specs.declared.part.Private.{Private}
-use Rattle.shared_value.specs.declared.task_at_rest.Rest.{Rest}
-use Rattle.shared_value.specs.declared.task_at_rest.Work.{Work}
-use Rattle.shared_value.specs.declared.task_at_rest.Work.TheVariants.{Calls, Result}
+use Rattle.task_homes.specs.declared.task_at_rest.Rest.{Rest}
+use Rattle.task_homes.specs.declared.task_at_rest.Work.{Work}
+use Rattle.task_homes.specs.declared.task_at_rest.Work.TheVariants.{Calls, Result}
 use Rattle.shared_value.specs.SharedValue.{SharedValue, accounts, flat, home_by, home_in, home_of, no_home, rest_at, value_by, value_of, with_marks}
 use Rattle.shared_value.specs.Objects.{chunks_of}
 use Rattle.shared_value.specs.Measured.{AreMeasured, RestsAreMeasured}
@@ -223,12 +223,6 @@ module _ (w : SharedValue) (k : ℕ) (p : Private) (I : IsSharedValue w) (F : Fi
       none_by : (z : ℕ) → (z ≡ t → ⊥) → (z ≡ u → ⊥) → (o : Located) → o.at ≡ a → (x : Option ℕ) → (heap_of l z).worker ≡ x → In (objects_in (cond (is_none x) ((value_of w).homes z) no_home).chunks) o → ⊥
       none_by z nt nu o at (Some y) e j = j
       none_by z nt nu o at None e j = none_other z nt nu e o j at
-
-      pub lies_old : (z : ℕ) → (z ≡ t → ⊥) → (o : Located) → In (objects old z) o → o.at ≡ a → z ≡ u
-      lies_old z nt o i at = elim (cases_eq z u) [
-        | inl e ↦ e
-        | inr nu ↦ absurd (none_by z nt nu o at (heap_of l z).worker refl (subst (λ (x : Home). In (objects_in x.chunks) o) (off_home v0 t h z nt) i))
-      ]
 
       -- and is read from its cell
       pub read_old : (o : Located) → In (objects old u) o → o.at ≡ a → (b : Birth) × (o ≡ located o.at.chunk o.at.offset b c)

@@ -29,7 +29,7 @@ use Rattle.core_relation.specs.Stands.{Place}
 use Rattle.core_relation.proofs.notes.Roots.{name_at}
 use Rattle.task_machine.specs.declared.part.Private.{Private}
 use Rattle.task_machine.proofs.Owned.{born_is, born_object}
-use Rattle.shared_value.specs.declared.task_at_rest.Rest.{Rest}
+use Rattle.task_homes.specs.declared.task_at_rest.Rest.{Rest}
 use Rattle.shared_value.specs.SharedValue.{SharedValue, accounts, flat, rest_at, value_of}
 use Rattle.shared_value.specs.Stands.{IsSharedValue}
 use Rattle.shared_value.specs.Fits.{Fits, home_of_part}
@@ -183,7 +183,6 @@ module _ (w : SharedValue) (k : ℕ) (p : Private) (I : IsSharedValue w) (F : Fi
       owns = foreign.place.chunk;
       used = owner_held w.pool a.chunk owner foreign.place.chunk;
       inside = owned a.chunk owner foreign.place.chunk;
-      home = subst (λ m. owner < m) (sym I.made) (owned a.chunk owner foreign.place.chunk);
       there = foreign.there;
       object = born_is cell.mark foreign.birth foreign.mark;
       field = field_there;
@@ -255,9 +254,6 @@ module _ (w : SharedValue) (k : ℕ) (p : Private) (I : IsSharedValue w) (F : Fi
 
     pub used_number : IsSome (slot_at w.pool a.chunk)
     used_number = owner_held w.pool a.chunk owner_number foreign_number.place.chunk
-
-    pub home_number : (z : ℕ) → pool_owner w.pool a.chunk ≡ Some z → z < length w.homes
-    home_number z e = subst (λ m. z < m) (sym I.made) (owned a.chunk z e)
 
     pub there_number : (z : ℕ) → pool_owner w.pool a.chunk ≡ Some z → IsSome (rest_at w.homes z)
     there_number z e = subst (λ y. IsSome (rest_at w.homes y)) (sym (same_owner z e)) (subst IsSome (sym foreign_number.there) refl)

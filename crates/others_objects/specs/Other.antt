@@ -31,7 +31,7 @@ use Rattle.core_relation.specs.Fits.{with_home}
 use Rattle.core_relation.specs.Reads.{Reads}
 use Rattle.core_relation.specs.Stands.{Place}
 use Rattle.task_machine.specs.declared.part.Private.{Private}
-use Rattle.shared_value.specs.declared.task_at_rest.Rest.{Rest}
+use Rattle.task_homes.specs.declared.task_at_rest.Rest.{Rest}
 use Rattle.shared_value.specs.SharedValue.{SharedValue, rest_at, value_of}
 use Rattle.shared_value.specs.Fits.{Fits, home_of_part}
 use Rattle.own_steps.specs.Alone.{machine_after, then_accounts}
@@ -184,7 +184,6 @@ pub record IsWritable (made : ℕ) (pool : PoolValue) (homes : List (Option Rest
   pub owns : owner_of pool a.chunk ≡ Some owner
   pub used : IsSome (slot_at pool a.chunk)
   pub inside : owner < made
-  pub home : owner < length homes
   pub there : rest_at homes owner ≡ Some rest
   pub object : IsObject (cell_of rest.heap.chunks a).mark
   pub field : i < length (object_of rest.heap.chunks a).refs

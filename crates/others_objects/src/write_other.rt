@@ -6,79 +6,58 @@ ghost use Rattle.object_layout.specs.Chunks.{cell_of, object_of};
 ghost use Rattle.chunk_pool.specs.PoolValue.{slot_at, owner_of};
 ghost use Rattle.write_barrier.specs.Stored.{content_after, content_at, IsOwned};
 ghost use Rattle.shared_value.specs.SharedValue.{rest_at};
-ghost use Rattle.shared_value.specs.declared.task_at_rest.Rest.{Rest as RestOf};
+ghost use Rattle.task_homes.specs.declared.task_at_rest.Rest.{Rest as RestOf};
 ghost use Rattle.others_objects.specs.Other.{store_frames, put_rest, IsWritable};
 
-use chunk_pool::Pool;
 use heap_tree::Tree;
 use hh_lang::IntReg;
-use listed::Listed;
-use object_layout::Addr;
-use out_of_line::Apart;
-use shared_value::Rest;
+use object_layout::{Addr, Words};
+use remembered_set::Source;
 use std::alloc::AllocError;
-use std::mem;
 use task_frames::Frames;
-use write_barrier::{SetOf, store};
+use task_homes::Heaps;
+use write_barrier::{heap_of, noted_in};
 
 /// Writes a reference, and notes what the collections of the heaps need of that.
 pub fn write_reference(
     tree: &Tree,
-    pool: &Pool,
-    homes: &mut Listed<Option<Apart<Rest>>>,
-    sets: &mut [SetOf],
+    heaps: &mut Heaps,
     object: Addr,
     field: u32,
     value: Option<Addr>,
 ) -> Result<(), AllocError>
-    requires there { IsWritable (length tree.now) pool.now homes.old object field }
-    requires value { IsOwned (length tree.now) pool.now value }
+    requires there { IsWritable (length tree.now) heaps.old.pool heaps.old.homes.rests object field }
+    requires value { IsOwned (length tree.now) heaps.old.pool value }
     requires place { IsPlace value }
-    requires sets { length tree.now ≤ length sets.old }
-    ensures written { (o : ℕ) (r : RestOf) → owner_of pool.now object.chunk ≡ Some o → rest_at homes.old o ≡ Some r → OnOk result (homes.new ≡ slice_set homes.old o (Some (put_rest r object (with_ref (cell_of r.heap.chunks object) field value)))) }
-    ensures noted { (o : ℕ) (r : RestOf) → owner_of pool.now object.chunk ≡ Some o → rest_at homes.old o ≡ Some r → OnOk result ((t : ℕ) → content_at sets.new t ≡ option_map (content_after tree.now pool.now (record { object = object; field = field }) (slice_index_or (object_of r.heap.chunks object).refs field None) value t) (content_at sets.old t)) }
-    ensures same { OnErr result (homes.new ≡ homes.old) }
-    ensures no_sets { OnErr result ((t : ℕ) → content_at sets.new t ≡ content_at sets.old t) }
+    requires homes { length tree.now ≤ length heaps.old.homes.rests }
+    ensures pool { heaps.new.pool ≡ heaps.old.pool }
+    ensures marks { heaps.new.homes.marks ≡ heaps.old.homes.marks }
+    ensures many { length heaps.new.homes.sets ≡ length heaps.old.homes.sets }
+    ensures written { (o : ℕ) (r : RestOf) → owner_of heaps.old.pool object.chunk ≡ Some o → rest_at heaps.old.homes.rests o ≡ Some r → OnOk result (heaps.new.homes.rests ≡ slice_set heaps.old.homes.rests o (Some (put_rest r object (with_ref (cell_of r.heap.chunks object) field value)))) }
+    ensures noted { (o : ℕ) (r : RestOf) → owner_of heaps.old.pool object.chunk ≡ Some o → rest_at heaps.old.homes.rests o ≡ Some r → OnOk result ((t : ℕ) → content_at heaps.new.homes.sets t ≡ option_map (content_after tree.now heaps.old.pool (record { object = object; field = field }) (slice_index_or (object_of r.heap.chunks object).refs field None) value t) (content_at heaps.old.homes.sets t)) }
+    ensures same { OnErr result (heaps.new.homes.rests ≡ heaps.old.homes.rests) }
+    ensures no_sets { OnErr result ((t : ℕ) → content_at heaps.new.homes.sets t ≡ content_at heaps.old.homes.sets t) }
 {
-    let owner = pool.owner(object.chunk);
-    let Some(rest) = mem::replace(homes.at_mut(owner as usize), None) else {
-        unreachable!()
-    };
-    let mut rest = rest;
-    let done = store(
-        tree,
-        pool,
-        &mut rest.get_mut().heap,
-        sets,
-        object,
-        field,
-        value,
-    );
-    homes.set(owner as usize, Some(rest));
-    done
+    let overwritten = heaps.ref_field(object, field);
+    let heap = heap_of(tree, &heaps.pool, overwritten);
+    let into = noted_in(tree, &heaps.pool, object, value);
+    heaps.homes.reserve_kept(heap)?;
+    heaps.homes.note_source(into, Source { object, field })?;
+    heaps.homes.keep(heap, overwritten);
+    heaps.set_ref_field(object, field, value);
+    Ok(())
 }
 
 /// Writes a number.
-pub fn write_number(
-    pool: &Pool,
-    homes: &mut Listed<Option<Apart<Rest>>>,
-    object: Addr,
-    field: u32,
-    value: i64,
-)
-    requires used { IsSome (slot_at pool.now object.chunk) }
-    requires home { (o : ℕ) → owner_of pool.now object.chunk ≡ Some o → o < length homes.old }
-    requires there { (o : ℕ) → owner_of pool.now object.chunk ≡ Some o → IsSome (rest_at homes.old o) }
-    requires field { (o : ℕ) (r : RestOf) → owner_of pool.now object.chunk ≡ Some o → rest_at homes.old o ≡ Some r → field < length (object_of r.heap.chunks object).ints }
-    ensures { (o : ℕ) (r : RestOf) → owner_of pool.now object.chunk ≡ Some o → rest_at homes.old o ≡ Some r → homes.new ≡ slice_set homes.old o (Some (put_rest r object (with_int (cell_of r.heap.chunks object) field value))) }
+pub fn write_number(heaps: &mut Heaps, object: Addr, field: u32, value: i64)
+    requires used { IsSome (slot_at heaps.old.pool object.chunk) }
+    requires there { (o : ℕ) → owner_of heaps.old.pool object.chunk ≡ Some o → IsSome (rest_at heaps.old.homes.rests o) }
+    requires field { (o : ℕ) (r : RestOf) → owner_of heaps.old.pool object.chunk ≡ Some o → rest_at heaps.old.homes.rests o ≡ Some r → field < length (object_of r.heap.chunks object).ints }
+    ensures pool { heaps.new.pool ≡ heaps.old.pool }
+    ensures written { (o : ℕ) (r : RestOf) → owner_of heaps.old.pool object.chunk ≡ Some o → rest_at heaps.old.homes.rests o ≡ Some r → heaps.new.homes ≡ record heaps.old.homes { rests = slice_set heaps.old.homes.rests o (Some (put_rest r object (with_int (cell_of r.heap.chunks object) field value))) } }
 {
-    let owner = pool.owner(object.chunk);
-    let Some(rest) = mem::replace(homes.at_mut(owner as usize), None) else {
-        unreachable!()
-    };
-    let mut rest = rest;
-    rest.get_mut().heap.own_set_int(object, field, value);
-    homes.set(owner as usize, Some(rest));
+    let owner = heaps.pool.owner(object.chunk);
+    heaps.homes.set_number(owner, object, field, value);
 }
 
 /// The frames go on after a write, with 1 in the number register that a compare and swap sets.

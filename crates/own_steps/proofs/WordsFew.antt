@@ -13,7 +13,6 @@ use Rattle.hh_model.specs.declared.data.Task.{Task}
 use Rattle.hh_model.specs.Effect.{int_in, row_of}
 use Rattle.hh_model.specs.Names.{words_asked}
 use Rattle.hh_model.specs.Step.{asked, asked_by, asked_line, fetched, is_running}
-use Rattle.run_trace.specs.Settings.{field_limit}
 use Rattle.run_ledger.specs.declared.data.Heap.{Heap}
 use Rattle.run_ledger.specs.Heaps.{is_small, placed, put_last}
 use Rattle.run_ledger.specs.Space.{AsksAtMost}

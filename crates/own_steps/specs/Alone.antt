@@ -21,8 +21,8 @@ use Rattle.task_machine.specs.declared.part.Private.{Private}
 use Rattle.task_frames.specs.FramesValue.{int_of, ref_of}
 use Rattle.shared_value.specs.declared.next_step.Ending.{Ending}
 use Rattle.shared_value.specs.declared.next_step.Ending.TheVariants.{Prints, Returns, Traps, Beyond}
-use Rattle.shared_value.specs.declared.task_at_rest.Rest.{Rest}
-use Rattle.shared_value.specs.declared.task_at_rest.Work.TheVariants.{Result}
+use Rattle.task_homes.specs.declared.task_at_rest.Rest.{Rest}
+use Rattle.task_homes.specs.declared.task_at_rest.Work.TheVariants.{Result}
 use Rattle.shared_value.specs.SharedValue.{SharedValue, accounts}
 use Rattle.shared_value.specs.Fits.{Fits, OthersFit, beyond}
 use Rattle.shared_value.specs.Next.{is_beyond, is_joint}

@@ -3,7 +3,7 @@
 ghost use Rattle.std.specs.Prelude.{◌≡◌};
 ghost use Rattle.own_steps.specs.Alone.{ended_rest};
 
-use shared_value::{Rest, Work};
+use task_homes::{Rest, Work};
 use task_machine::Private;
 
 /// What goes with a task whose last frame returned.

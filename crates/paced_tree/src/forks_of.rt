@@ -4,7 +4,7 @@ ghost use Rattle.std.specs.Prelude.{◌≡◌, None, slice_get};
 ghost use Rattle.shared_value.specs.SharedValue.{accounts};
 ghost use Rattle.heap_marking.specs.Pace.{is_going, is_to_begin, IsForkOf};
 
-use heap_marking::{fork_in, is_joined, is_marking, waiting_cause};
+use heap_marking::{fork_in, is_joined, waiting_cause};
 use shared_tree::{Fork, Shared};
 
 // Whether the marking after a fork is under way.
@@ -17,7 +17,7 @@ pub(crate) fn is_going(shared: &Shared, fork: Fork) -> bool
     if is_joined(tree.state(fork.left)) {
         return false;
     }
-    waiting_cause(tree, shared.sets(), fork.task).is_none()
+    waiting_cause(tree, &shared.heaps().homes, fork.task).is_none()
 }
 
 // Whether a marking is to begin after a fork.
@@ -27,7 +27,7 @@ pub(crate) fn is_to_begin(shared: &Shared, fork: Fork) -> bool
 {
     shared.stands();
     if is_going(shared, fork) {
-        if is_marking(shared.marks(), fork.task) {
+        if shared.heaps().homes.marking(fork.task).is_some() {
             return false;
         }
         let least = shared.settings().inner() as u64;

@@ -36,7 +36,7 @@ fn owed_to_marks(shared: &Shared, pace: &Pace) -> Owed
     let Some(fork) = last_going(shared, pace.marks.as_slice()) else {
         return Owed::Nothing;
     };
-    if marking_cause(shared.tree(), shared.sets(), shared.marks(), fork.task).is_some() {
+    if marking_cause(shared.tree(), &shared.heaps().homes, fork.task).is_some() {
         return Owed::Nothing;
     }
     if shared.is_marked(fork.task) {

@@ -10,7 +10,7 @@ ghost use Rattle.shared_value.specs.Due.{IsHeld};
 ghost use Rattle.shared_value.specs.Fits.{AllFit, Fits};
 ghost use Rattle.shared_value.specs.Stands.{IsSharedValue};
 ghost use Rattle.shared_value.specs.SharedValue.{accounts, rest_at};
-ghost use Rattle.shared_value.specs.declared.task_at_rest.Rest.{Rest as RestOf};
+ghost use Rattle.task_homes.specs.declared.task_at_rest.Rest.{Rest as RestOf};
 ghost use Rattle.heap_marking.specs.MarkCauses.{marking_cause};
 ghost use Rattle.paced_tree.specs.Owed.{owed_by};
 

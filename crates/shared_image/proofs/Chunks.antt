@@ -11,7 +11,7 @@ use Rattle.chunk_pool.specs.PoolValue.{owner_of}
 use Rattle.heap_tree.specs.Node.{state_of}
 use Rattle.core_relation.specs.Memory.{Chunk, In, Memory, objects}
 use Rattle.core_relation.proofs.objects.Members.{in_map, in_objects, map_in}
-use Rattle.shared_value.specs.declared.task_at_rest.Rest.{Rest}
+use Rattle.task_homes.specs.declared.task_at_rest.Rest.{Rest}
 use Rattle.shared_value.specs.Objects.{chunk_of, chunks_of}
 use Rattle.shared_value.specs.Stands.{IsSharedValue}
 use Rattle.shared_value.specs.SharedValue.{SharedValue, home_in, rest_at, value_of}

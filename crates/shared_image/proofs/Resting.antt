@@ -14,7 +14,7 @@ use Rattle.core_relation.specs.Reads.{IsRead}
 use Rattle.core_relation.specs.Stands.{HomeStands, Place, Stands}
 use Rattle.core_relation.specs.Memory.{Chunk as ChunkOf, In, Memory, object_name, objects, objects_in}
 use Rattle.core_relation.proofs.objects.Members.{in_chunk, map_in, object_held}
-use Rattle.shared_value.specs.declared.task_at_rest.Rest.{Rest}
+use Rattle.task_homes.specs.declared.task_at_rest.Rest.{Rest}
 use Rattle.shared_value.specs.Measured.{IsUnheld}
 use Rattle.shared_value.specs.Objects.{chunk_of}
 use Rattle.shared_value.specs.Stands.{IsSharedValue}

@@ -11,7 +11,7 @@ use Rattle.leaf_copy_gc.specs.declared.lists.ToChunks.{ToChunks}
 use Rattle.task_machine.specs.declared.part.Private.{Private}
 use Rattle.shared_value.specs.declared.answer.NotEntered.{NotEntered}
 use Rattle.shared_value.specs.declared.answer.NotRan.{NotRan}
-use Rattle.shared_value.specs.declared.task_at_rest.Rest.{Rest}
+use Rattle.task_homes.specs.declared.task_at_rest.Rest.{Rest}
 use Rattle.shared_value.specs.SharedValue.{SharedValue, accounts, rest_at}
 use Rattle.shared_value.specs.Fits.{AllFit, Fits, OthersFit}
 use Rattle.shared_value.specs.Entered.{Answers, Enters, IsSamePart, RanAnswers, cause_of, refused}

@@ -44,7 +44,7 @@ impl Shared {
         let task = part.task;
         let units = units_for(words_asked(part, &self.program));
         part.heap.make_room(1)?;
-        match self.pool.take(task, units) {
+        match self.heaps.pool.take(task, units) {
             Ok(chunk) => {
                 part.heap.add_spare(chunk);
                 self.journal
@@ -52,7 +52,7 @@ impl Shared {
                 Ok(())
             }
             Err(NotTaken::Full) => {
-                self.end = Some(RunEnd::Pool(self.pool.in_use()));
+                self.end = Some(RunEnd::Pool(self.heaps.pool.in_use()));
                 self.journal
                     .push_reserved(Entry::new(worker, Kind::Chunk(task)));
                 Ok(())

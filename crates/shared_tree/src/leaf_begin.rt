@@ -34,7 +34,7 @@ impl Shared {
         if self.pool_enough(part) {
             None
         } else {
-            Some(Refused::PoolShort(self.pool.in_use()))
+            Some(Refused::PoolShort(self.heaps.pool.in_use()))
         }
     }
 
@@ -60,8 +60,8 @@ impl Shared {
         self.stands();
         let roots = self.roots(part)?;
         let count = chunks_for(part.heap.small_words()) as u32;
-        let alloc = *self.sets.allocator();
-        let to = begin_with(alloc, &mut self.pool, part, &roots, count)?;
+        let alloc = self.heaps.homes.allocator();
+        let to = begin_with(alloc, &mut self.heaps.pool, part, &roots, count)?;
         self.journal
             .push_reserved(Entry::new(worker, Kind::Begin(task)));
         Ok((roots, to))

@@ -7,14 +7,11 @@ ghost use Rattle.leaf_collections.specs.LeafEnd.{end_event, ended, FitsCopied};
 ghost use Rattle.shared_tree.specs.Calls.{EndsLeaf};
 
 use crate::shared::Shared;
-use chunk_pool::Pool;
 use leaf_collections::{give_all, lead};
 use leaf_copy_gc::Moved;
-use listed::Listed;
 use run_ledger::Refused;
 use run_trace::{Entry, Kind};
-use shared_value::{Heaps, first_cause};
-use std::mem;
+use shared_value::first_cause;
 use task_machine::Private;
 
 /// Why a leaf collection didn't end, and what copying came to.
@@ -36,11 +33,6 @@ impl Shared {
         ensures others { OthersFit self.old self.new worker }
     {
         let task = part.task;
-        let alloc = *self.sets.allocator();
-        let mut heaps = Heaps {
-            homes: mem::replace(&mut self.homes, Listed::new(alloc)),
-            pool: mem::replace(&mut self.pool, Pool::new(alloc, 0)),
-        };
         let Moved {
             moved,
             taken,
@@ -48,11 +40,8 @@ impl Shared {
             left,
             back,
         } = moved;
-        lead(&self.sets, task, &mut heaps, &moved);
-        let Heaps { homes, mut pool } = heaps;
-        give_all(&mut pool, back);
-        self.homes = homes;
-        self.pool = pool;
+        lead(&mut self.heaps, task, &moved);
+        give_all(&mut self.heaps.pool, back);
         part.begun = None;
         self.journal
             .push_reserved(Entry::new(worker, Kind::End(task, taken, given, left)));

@@ -4,29 +4,22 @@ ghost use Rattle.std.specs.Prelude.{◌≡◌};
 ghost use Rattle.shared_value.specs.SharedValue.{without_journal};
 
 use crate::shared::Shared;
-use chunk_pool::Pool;
 use heap_tree::Tree;
 use hh_lang::Program;
-use inner_mark_gc::Marking;
 use listed::Listed;
-use out_of_line::Apart;
 use run_ledger::RunEnd;
 use run_trace::{Entry, Settings};
-use shared_value::Rest;
 use std::marker::Model;
-use write_barrier::SetOf;
+use task_homes::Heaps;
 
-/// What a run leaves beside its journal: the heaps and frames of the tasks that no worker holds, and the totals. No
+/// What a run leaves beside its journal: what belongs to each task, and the totals. No
 /// entry can be made any more.
 #[derive(Drop)]
 pub struct Left {
     program: Program,
     settings: Settings,
     tree: Tree,
-    pool: Pool,
-    homes: Listed<Option<Apart<Rest>>>,
-    sets: Vec<SetOf>,
-    marks: Listed<Option<Apart<Marking>>>,
+    heaps: Heaps,
     tasks_out: Listed<Option<u32>>,
     outputs: Listed<i64>,
     steps: u64,
@@ -40,7 +33,7 @@ impl Model for Left {
 
     ghost Value = { SharedValue };
 
-    ghost view = { λ s. record { program = s.program; settings = s.settings; tree = s.tree; pool = s.pool; homes = s.homes; sets = s.sets.items; marks = s.marks; tasks_out = s.tasks_out; outputs = s.outputs; journal = record { items = []; room = 0 }; steps = s.steps; end = s.end; halted = s.halted } };
+    ghost view = { λ s. record { program = s.program; settings = s.settings; tree = s.tree; pool = s.heaps.pool; homes = s.heaps.homes.rests; sets = s.heaps.homes.sets; marks = s.heaps.homes.marks; tasks_out = s.tasks_out; outputs = s.outputs; journal = record { items = []; room = 0 }; steps = s.steps; end = s.end; halted = s.halted } };
 }
 
 impl Left {
@@ -83,10 +76,7 @@ impl Shared {
             program,
             settings,
             tree,
-            pool,
-            homes,
-            sets,
-            marks,
+            heaps,
             tasks_out,
             outputs,
             journal,
@@ -100,10 +90,7 @@ impl Shared {
             program,
             settings,
             tree,
-            pool,
-            homes,
-            sets,
-            marks,
+            heaps,
             tasks_out,
             outputs,
             steps,

@@ -6,11 +6,7 @@ ghost use Rattle.shared_value.specs.SharedValue.{accounts};
 use crate::shared::Shared;
 use chunk_pool::Pool;
 use heap_tree::Tree;
-use inner_mark_gc::Marking;
-use listed::Listed;
-use out_of_line::Apart;
-use shared_value::Rest;
-use write_barrier::SetOf;
+use task_homes::Heaps;
 
 impl Shared {
     /// How many tasks were made.
@@ -31,27 +27,16 @@ impl Shared {
     pub fn pool(&self) -> &Pool
         ensures { result.now ≡ self.now.pool }
     {
-        &self.pool
+        &self.heaps.pool
     }
 
-    /// The heaps and frames of the tasks that no worker holds.
-    pub fn homes(&self) -> &Listed<Option<Apart<Rest>>>
-        ensures { result.now ≡ self.now.homes }
+    /// What belongs to each task, and which task owns each chunk.
+    pub fn heaps(&self) -> &Heaps
+        ensures pool { result.now.pool ≡ self.now.pool }
+        ensures homes { result.now.homes.rests ≡ self.now.homes }
+        ensures sets { result.now.homes.sets ≡ self.now.sets }
+        ensures marks { result.now.homes.marks ≡ self.now.marks }
     {
-        &self.homes
-    }
-
-    /// What the barriers noted of each task.
-    pub fn sets(&self) -> &[SetOf]
-        ensures { result.now ≡ self.now.sets }
-    {
-        self.sets.as_slice()
-    }
-
-    /// The markings under way.
-    pub fn marks(&self) -> &Listed<Option<Apart<Marking>>>
-        ensures { result.now ≡ self.now.marks }
-    {
-        &self.marks
+        &self.heaps
     }
 }

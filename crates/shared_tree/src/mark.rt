@@ -9,8 +9,9 @@ ghost use Rattle.shared_value.specs.SharedValue.{accounts, value_of};
 ghost use Rattle.shared_tree.specs.Calls.{BeginsMarking};
 
 use crate::shared::Shared;
-use heap_marking::{begin_marking, is_marking, put_marking, waiting_cause, words_cause};
+use heap_marking::{begin_marking, waiting_cause, words_cause};
 use inner_mark_gc::{Marking, MarkingRoom};
+use out_of_line::Apart;
 use run_ledger::Refused;
 use run_trace::{Entry, Kind};
 use shared_value::{NotEntered, first_cause};
@@ -26,11 +27,11 @@ impl Shared {
         if first.is_some() {
             return first;
         }
-        let waiting = waiting_cause(&self.tree, &self.sets, t);
+        let waiting = waiting_cause(&self.tree, &self.heaps.homes, t);
         if waiting.is_some() {
             return waiting;
         }
-        if is_marking(&self.marks, t) {
+        if self.heaps.homes.marking(t).is_some() {
             return Some(Refused::Marking);
         }
         words_cause(self.settings, self.words_at(t))
@@ -44,10 +45,9 @@ impl Shared {
         ensures goes { IfOk result (λ m. GoesOn (value_of self.old) t (heap_of (accounts self.old) t).snapshot m) }
     {
         self.stands();
-        let alloc = *self.sets.allocator();
+        let alloc = self.heaps.homes.allocator();
         let room = mem::replace(&mut self.room, MarkingRoom::new(alloc));
-        let (homes, pool) = (&mut self.homes, &mut self.pool);
-        begin_marking(alloc, room, &self.sets, homes, pool, t)
+        begin_marking(alloc, room, &self.heaps, t)
     }
 
     // Makes the entry.
@@ -60,8 +60,8 @@ impl Shared {
         ensures enters { OnOk result (Enters self.old self.new (record { worker = worker; kind = Kind.Mark t })) }
         ensures fits { OnOk result (AllFit self.old self.new) }
     {
-        let alloc = *self.sets.allocator();
-        put_marking(alloc, &mut self.marks, t, marking)?;
+        let marking = Apart::new(self.heaps.homes.allocator(), marking)?;
+        self.heaps.homes.put_marking(t, marking);
         self.journal
             .push_reserved(Entry::new(worker, Kind::Mark(t)));
         Ok(())

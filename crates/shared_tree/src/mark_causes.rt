@@ -15,8 +15,8 @@ impl Shared {
         requires waits { waiting_cause self.now t ≡ None }
         ensures { result ≡ counted (words_in (accounts self.now).machine (heap_of (accounts self.now) t)) }
     {
-        match self.homes.at(t as usize) {
-            Some(rest) => rest.get().heap.words(),
+        match self.heaps.homes.rest(t) {
+            Some(rest) => rest.heap.words(),
             None => unreachable!(),
         }
     }
@@ -27,9 +27,9 @@ impl Shared {
         requires marking { marking_cause self.now t ≡ None }
         ensures { result ≡ (left_in (heap_of (accounts self.now) t) == 0) }
     {
-        let kept = self.sets[t as usize].kept();
-        match self.marks.at(t as usize) {
-            Some(marking) => marking.get().ready(kept),
+        let kept = self.heaps.homes.kept(t);
+        match self.heaps.homes.marking(t) {
+            Some(marking) => marking.ready(kept),
             None => unreachable!(),
         }
     }

@@ -13,7 +13,6 @@ use heap_marking::marking_cause;
 use run_ledger::Refused;
 use run_trace::{Entry, Kind};
 use shared_value::first_cause;
-use std::mem;
 
 impl Shared {
     // Why the entry is refused.
@@ -24,7 +23,7 @@ impl Shared {
         if first.is_some() {
             return first;
         }
-        let marking = marking_cause(&self.tree, &self.sets, &self.marks, t);
+        let marking = marking_cause(&self.tree, &self.heaps.homes, t);
         if marking.is_some() {
             return marking;
         }
@@ -45,15 +44,15 @@ impl Shared {
         ensures enters { Enters self.old self.new (record { worker = worker; kind = Kind.More t n }) }
         ensures fits { AllFit self.old self.new }
     {
-        let Some(rest) = self.homes.at(t as usize) else {
+        let Some(mut marking) = self.heaps.homes.take_marking(t) else {
             unreachable!()
         };
-        let Some(mut marking) = mem::replace(self.marks.at_mut(t as usize), None) else {
+        let Some(rest) = self.heaps.homes.rest(t) else {
             unreachable!()
         };
-        let kept = self.sets[t as usize].kept();
-        let count = marking.get_mut().some(&rest.get().heap, kept, n);
-        self.marks.set(t as usize, Some(marking));
+        let kept = self.heaps.homes.kept(t);
+        let count = marking.get_mut().some(&rest.heap, kept, n);
+        self.heaps.homes.put_marking(t, marking);
         self.journal
             .push_reserved(Entry::new(worker, Kind::More(t, n)));
         count

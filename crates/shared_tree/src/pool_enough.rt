@@ -17,7 +17,7 @@ impl Shared {
         ensures { result ≡ is_pool_enough self.now.settings (accounts self.now) part.now.task }
     {
         let words = part.heap.small_words();
-        let used = self.pool.in_use() as u64;
+        let used = self.heaps.pool.in_use() as u64;
         used + chunks_for(words) <= self.settings.chunks() as u64
     }
 }

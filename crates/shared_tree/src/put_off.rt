@@ -28,7 +28,7 @@ impl Shared {
             return due;
         }
         if self.pool_enough(part) {
-            Some(Refused::PoolEnough(self.pool.in_use()))
+            Some(Refused::PoolEnough(self.heaps.pool.in_use()))
         } else {
             None
         }

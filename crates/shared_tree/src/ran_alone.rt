@@ -14,10 +14,9 @@ use crate::shared::Shared;
 use crate::steps_entered::enter_alone;
 use heap_tree::State;
 use hh_model::End;
-use out_of_line::Apart;
 use own_steps::at_end;
 use run_ledger::{Refused, RunEnd};
-use shared_value::{Ending, NotEntered, NotRan, Rest, first_cause, last_step, rest_block};
+use shared_value::{Ending, NotEntered, NotRan, first_cause, last_step};
 use std::alloc::AllocError;
 use task_machine::Private;
 
@@ -90,25 +89,6 @@ impl Shared {
         part.fresh = 0;
     }
 
-    // Enters the last return of the root.
-    fn enter_done(&mut self, worker: u32, part: Private, block: Apart<Rest>)
-        requires room { 0 < self.old.journal.room }
-        requires fits { Fits self.old worker part }
-        requires shared { IsShared self.old part }
-        requires free { refused self.old (alone_event worker part) ≡ None }
-        requires returns { (line : ℕ) × Tells self.old part Ending.Returns line }
-        requires root { part.task ≡ 0 }
-        ensures { FinishesAlone self.old self.new worker part }
-    {
-        let task = part.task;
-        enter_alone(&mut self.steps, &mut self.journal, worker, &part);
-        self.tree.set_state(task, State::Ended);
-        self.tasks_out.set(worker as usize, None);
-        let rest = block.put(at_end(part));
-        self.homes.set(task as usize, Some(rest));
-        self.end = Some(RunEnd::Machine(End::Done));
-    }
-
     /// Enters the last return of the root, where there is memory for what goes with the root then.
     pub(crate) fn ran_done(&mut self, worker: u32, part: Private) -> Result<Ran, NotRan>
         requires room { 0 < self.old.journal.room }
@@ -119,16 +99,19 @@ impl Shared {
         requires root { part.task ≡ 0 }
         ensures { EntersLeaving self.old self.new worker part result }
     {
-        match rest_block(*self.sets.allocator()) {
-            Ok(block) => {
-                self.enter_done(worker, part, block);
-                Ok(Ran::Done)
-            }
-            Err(_) => Err(NotRan {
+        let task = part.task;
+        if self.heaps.homes.make_block(task).is_err() {
+            return Err(NotRan {
                 cause: NotEntered::NoMemory,
                 part,
-            }),
+            });
         }
+        enter_alone(&mut self.steps, &mut self.journal, worker, &part);
+        self.tree.set_state(task, State::Ended);
+        self.tasks_out.set(worker as usize, None);
+        self.heaps.homes.put_rest(task, at_end(part));
+        self.end = Some(RunEnd::Machine(End::Done));
+        Ok(Ran::Done)
     }
 
     /// The fresh steps of a part, and its next one, which isn't private, are entered, where that one doesn't give the

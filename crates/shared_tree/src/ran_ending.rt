@@ -13,35 +13,16 @@ ghost use Rattle.shared_tree.specs.Ran.{MayBeEntered};
 use crate::shared::Shared;
 use crate::steps_entered::enter_alone;
 use child_tasks::{
-    in_order, is_ended, join_children, leave_other, leave_own, make_places, put_remembered,
-    sibling_of, take_block, take_remembered, take_set,
+    in_order, is_ended, join_children, make_places, other_child, own_child, sibling_of,
 };
 use heap_tree::State;
-use out_of_line::Apart;
 use own_steps::at_end;
-use shared_value::{NotEntered, NotRan, Rest, rest_block};
+use shared_value::{NotEntered, NotRan};
 use std::alloc::AllocError;
 use task_machine::Private;
+use write_barrier::SetOf;
 
 impl Shared {
-    // Enters the end of a child whose sibling goes on.
-    fn enter_end(&mut self, worker: u32, part: Private, block: Apart<Rest>)
-        requires room { 0 < self.old.journal.room }
-        requires fits { Fits self.old worker part }
-        requires ends { IsAtEnd self.old part }
-        requires free { refused self.old (alone_event worker part) ≡ None }
-        requires alone { state_of self.old.tree (sibling part.task) ≡ Some State.Ended → ⊥ }
-        ensures ended { EndsChild self.old self.new worker part None }
-        ensures task_out { self.new.tasks_out ≡ slice_set self.old.tasks_out worker None }
-    {
-        let task = part.task;
-        enter_alone(&mut self.steps, &mut self.journal, worker, &part);
-        self.tree.set_state(task, State::Ended);
-        self.tasks_out.set(worker as usize, None);
-        let rest = block.put(at_end(part));
-        self.homes.set(task as usize, Some(rest));
-    }
-
     // Enters the end of a child whose sibling goes on, where there is memory for what goes with it then.
     fn ran_first(&mut self, worker: u32, part: Private) -> Result<Option<u32>, NotRan>
         requires room { 0 < self.old.journal.room }
@@ -56,16 +37,18 @@ impl Shared {
         ensures answered { IfOk result (EndsChild self.old self.new worker part) }
         ensures task_out { OnOk result (self.new.tasks_out ≡ slice_set self.old.tasks_out worker None) }
     {
-        match rest_block(*self.sets.allocator()) {
-            Ok(block) => {
-                self.enter_end(worker, part, block);
-                Ok(None)
-            }
-            Err(_) => Err(NotRan {
+        let task = part.task;
+        if self.heaps.homes.make_block(task).is_err() {
+            return Err(NotRan {
                 cause: NotEntered::NoMemory,
                 part,
-            }),
+            });
         }
+        enter_alone(&mut self.steps, &mut self.journal, worker, &part);
+        self.tree.set_state(task, State::Ended);
+        self.tasks_out.set(worker as usize, None);
+        self.heaps.homes.put_rest(task, at_end(part));
+        Ok(None)
     }
 
     // Makes places in the parent's heap and set for what both children bring; nothing else changes.
@@ -78,7 +61,7 @@ impl Shared {
         ensures places { OnOk result (HasPlaces self.new part.now parent) }
     {
         self.stands();
-        make_places(&mut self.homes, &mut self.sets, part, parent)
+        make_places(&mut self.heaps.homes, part, parent)
     }
 
     // Enters the end of a child whose sibling has ended: both join their parent, which has places for what they bring.
@@ -93,22 +76,22 @@ impl Shared {
         ensures joined { EndsChild self.old self.new worker part (Some parent) }
         ensures task_out { self.new.tasks_out ≡ slice_set self.old.tasks_out worker None }
     {
-        let alloc = *self.sets.allocator();
-        let (task, other) = (part.task, sibling_of(part.task));
+        let task = part.task;
         enter_alone(&mut self.steps, &mut self.journal, worker, &part);
+        let other = sibling_of(task);
         self.tasks_out.set(worker as usize, None);
         self.tree.set_state(task, State::Ended);
-        let own_noted = take_remembered(alloc, &mut self.sets, task);
-        let other_noted = take_remembered(alloc, &mut self.sets, other);
-        let (noted, block) = take_set(alloc, &mut self.sets, parent);
-        let own = leave_own(&mut self.homes, part, own_noted);
-        let beside = leave_other(alloc, &mut self.homes, other, other_noted);
-        let above = take_block(&mut self.homes, parent);
+        let homes = &mut self.heaps.homes;
+        let own = own_child(part, homes.leave(task));
+        let beside = other_child(homes.allocator(), other, homes.leave(other));
+        let above = homes.take_rest(parent);
+        let (noted, block) = homes.take_set(parent).into_parts();
         let children = in_order(own, beside);
-        let (tree, pool) = (&mut self.tree, &mut self.pool);
-        let (rest, noted) = join_children(alloc, tree, pool, parent, above, noted, children);
-        self.homes.set(parent as usize, Some(rest));
-        put_remembered(&mut self.sets, parent, noted, block);
+        let (tree, pool) = (&mut self.tree, &mut self.heaps.pool);
+        let (rest, noted) = join_children(tree, pool, parent, above, noted, children);
+        let set = SetOf::remembering(self.heaps.homes.allocator(), noted, block);
+        self.heaps.homes.put_rest(parent, rest);
+        self.heaps.homes.put_set(parent, set);
     }
 
     /// The fresh steps of a part, and its next one, which is the last return of a task that another one forked, are

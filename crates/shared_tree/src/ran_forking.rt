@@ -12,7 +12,7 @@ ghost use Rattle.shared_tree.specs.Ran.{MayBeEntered};
 
 use crate::shared::Shared;
 use crate::steps_entered::enter_alone;
-use child_tasks::{ForkBlocks, Forking, clear_marks, fork_sets, grow, put_homes};
+use child_tasks::{ForkBlocks, Forking, fork_homes, grow};
 use hh_lang::Instr;
 use hh_model::{DEPTH_LIMIT, End, Trap};
 use shared_value::{NotEntered, NotRan};
@@ -54,20 +54,13 @@ impl Shared {
         ensures answered { IfOk result (ForkAnswered self.old self.new worker part) }
         ensures task_out { IfOk result (GivesTaskUp self.old.tasks_out self.new.tasks_out worker) }
     {
-        let Ok(blocks) = ForkBlocks::new(*self.sets.allocator()) else {
+        let Ok(blocks) = ForkBlocks::new(self.heaps.homes.allocator()) else {
             return Err(NotRan {
                 cause: NotEntered::NoMemory,
                 part,
             });
         };
-        let grown = grow(
-            &mut self.tree,
-            &mut self.homes,
-            &mut self.sets,
-            &part,
-            left,
-            right,
-        );
+        let grown = grow(&mut self.tree, &mut self.heaps.homes, &part, left, right);
         let Ok((first, second)) = grown else {
             return Err(NotRan {
                 cause: NotEntered::NoMemory,
@@ -77,9 +70,7 @@ impl Shared {
         let (left, right) = (first.task, second.task);
         enter_alone(&mut self.steps, &mut self.journal, worker, &part);
         self.tasks_out.set(worker as usize, None);
-        fork_sets(&mut self.sets, part.task);
-        clear_marks(&mut self.marks, part.task);
-        put_homes(&mut self.homes, part, first, second, blocks);
+        fork_homes(&mut self.heaps.homes, part, first, second, blocks);
         Ok(Forking::Forked { left, right })
     }
 

@@ -32,15 +32,15 @@ impl Shared {
         let Some(object) = named(part, line.instr) else {
             unreachable!()
         };
-        let owner = self.pool.owner(object.chunk);
-        let Some(rest) = self.homes.at(owner as usize) else {
+        let owner = self.heaps.pool.owner(object.chunk);
+        let Some(rest) = self.heaps.homes.rest(owner) else {
             unreachable!()
         };
         let does = step_on(
             &self.tree,
-            &self.pool,
+            &self.heaps.pool,
             part,
-            &rest.get().heap,
+            &rest.heap,
             object,
             line.instr,
         );

@@ -6,32 +6,19 @@ ghost use Rattle.shared_value.specs.Roots.{roots_of};
 ghost use Rattle.shared_value.specs.SharedValue.{accounts};
 
 use crate::shared::Shared;
-use chunk_pool::Pool;
-use listed::Listed;
 use object_layout::Addr;
-use shared_value::{Heaps, targets_in};
 use std::alloc::AllocError;
-use std::mem;
 use task_machine::Private;
 
 impl Shared {
     /// What the remembered fields that point down into the heap of a part hold now.
-    pub(crate) fn roots(&mut self, part: &Private) -> Result<Vec<Addr>, AllocError>
-        requires fits { (k : ℕ) × Fits self.old k part.now }
+    pub(crate) fn roots(&self, part: &Private) -> Result<Vec<Addr>, AllocError>
+        requires fits { (k : ℕ) × Fits self.now k part.now }
         requires fresh { part.now.fresh ≡ 0 }
-        requires goes { (accounts self.old).end ≡ None }
-        ensures same { self.new ≡ self.old }
-        ensures roots { IfOk result (λ v. v.items ≡ roots_of self.old part.now) }
+        requires goes { (accounts self.now).end ≡ None }
+        ensures { IfOk result (λ v. v.items ≡ roots_of self.now part.now) }
     {
-        let alloc = *self.sets.allocator();
-        let heaps = Heaps {
-            homes: mem::replace(&mut self.homes, Listed::new(alloc)),
-            pool: mem::replace(&mut self.pool, Pool::new(alloc, 0)),
-        };
-        let roots = targets_in(alloc, &self.sets, part.task, &heaps, part.heap.chunks());
-        let Heaps { homes, pool } = heaps;
-        self.homes = homes;
-        self.pool = pool;
-        roots
+        let alloc = self.heaps.homes.allocator();
+        self.heaps.targets(alloc, part.task, part.heap.chunks())
     }
 }

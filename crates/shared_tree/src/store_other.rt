@@ -37,15 +37,7 @@ impl Shared {
         ensures back { OnErr result (part.new ≡ part.old) }
         ensures goes { OnOk result (GoesAlone self.old self.new worker part.old part.new) }
     {
-        write_reference(
-            &self.tree,
-            &self.pool,
-            &mut self.homes,
-            &mut self.sets,
-            object,
-            field,
-            value,
-        )?;
+        write_reference(&self.tree, &mut self.heaps, object, field, value)?;
         enter_alone(&mut self.steps, &mut self.journal, worker, part);
         go_on(&mut part.frames, swap);
         part.fresh = 0;
@@ -68,7 +60,7 @@ impl Shared {
         requires stores { (line : ℕ) × TellsOther self.old part.old (OtherStep.StoresNumber object field value) line }
         ensures { GoesAlone self.old self.new worker part.old part.new }
     {
-        write_number(&self.pool, &mut self.homes, object, field, value);
+        write_number(&mut self.heaps, object, field, value);
         enter_alone(&mut self.steps, &mut self.journal, worker, part);
         go_on(&mut part.frames, None);
         part.fresh = 0;

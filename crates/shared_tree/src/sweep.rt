@@ -23,8 +23,8 @@ impl Shared {
         ensures { result ≡ refused_unless (left_in (heap_of (accounts self.now) t) == 0) (Refused.Left (marked_in (heap_of (accounts self.now) t))) (counted given (sweep_number (accounts self.now).machine (heap_of (accounts self.now) t)) None) }
     {
         if !self.is_marked(t) {
-            return match self.marks.at(t as usize) {
-                Some(marking) => Some(Refused::Left(marking.get().marked() as u32)),
+            return match self.heaps.homes.marking(t) {
+                Some(marking) => Some(Refused::Left(marking.marked() as u32)),
                 None => unreachable!(),
             };
         }
@@ -44,7 +44,7 @@ impl Shared {
         if first.is_some() {
             return first;
         }
-        let marking = marking_cause(&self.tree, &self.sets, &self.marks, t);
+        let marking = marking_cause(&self.tree, &self.heaps.homes, t);
         if marking.is_some() {
             return marking;
         }
@@ -58,8 +58,8 @@ impl Shared {
         ensures enters { Enters self.old self.new (record { worker = worker; kind = Kind.Sweep t given }) }
         ensures fits { AllFit self.old self.new }
     {
-        self.room = drop_unmarked(&mut self.homes, &mut self.marks, &mut self.pool, t);
-        forget_kept(&mut self.sets, t);
+        self.room = drop_unmarked(&mut self.heaps, t);
+        forget_kept(&mut self.heaps.homes, t);
         self.journal
             .push_reserved(Entry::new(worker, Kind::Sweep(t, given)));
     }
@@ -71,13 +71,13 @@ impl Shared {
         requires none_left { left_in (heap_of (accounts self.now) t) ≡ 0 }
         ensures { result ≡ sweep_number (accounts self.now).machine (heap_of (accounts self.now) t) }
     {
-        let Some(rest) = self.homes.at(t as usize) else {
+        let Some(rest) = self.heaps.homes.rest(t) else {
             unreachable!()
         };
-        let Some(marking) = self.marks.at(t as usize) else {
+        let Some(marking) = self.heaps.homes.marking(t) else {
             unreachable!()
         };
-        marking.get().would_give(&rest.get().heap)
+        marking.would_give(&rest.heap)
     }
 
     /// The heap of a waiting task is swept: of its objects just those that were reached at the task's fork stay, each

@@ -27,12 +27,12 @@ use Rattle.core_relation.specs.Memory.{Chunk, In, led, mapped_chunk, mapped_home
 use Rattle.core_relation.proofs.objects.Members.{in_chunk, map_in}
 use Rattle.core_relation.proofs.changes.Write.{at_is}
 use Rattle.core_relation.proofs.changes.Shown.{is_at_it}
-use Rattle.shared_value.specs.declared.heaps.Heaps.{Heaps}
-use Rattle.shared_value.specs.declared.task_at_rest.Rest.{Rest}
-use Rattle.shared_value.specs.declared.task_at_rest.Work.{Work}
-use Rattle.shared_value.specs.declared.task_at_rest.Work.TheVariants.{Calls, Result}
+use Rattle.task_homes.specs.declared.task_at_rest.Rest.{Rest}
+use Rattle.task_homes.specs.declared.task_at_rest.Work.{Work}
+use Rattle.task_homes.specs.declared.task_at_rest.Work.TheVariants.{Calls, Result}
 use Rattle.shared_value.specs.Objects.{chunk_of, chunks_of}
-use Rattle.shared_value.specs.RestingHeaps.{refs_for, refs_in, refs_of_rest, with_ref_at, with_ref_for, with_ref_in}
+use Rattle.task_homes.specs.HomesValue.{refs_of_rest}
+use Rattle.task_homes.specs.RestingHeaps.{Resting, refs_for, refs_in, with_ref_at, with_ref_for, with_ref_in}
 use Rattle.shared_value.specs.Measured.{AreMeasured}
 use Rattle.shared_value.specs.Stands.{HeapForm}
 use Rattle.shared_value.specs.SharedValue.{flat, home_by, home_in, home_of, rest_at}
@@ -44,7 +44,7 @@ use Rattle.shared_value.proofs.ObjectRewritten.{chunks_put, form_written}
 -- ---- ONE SOURCE IN THE HEAPS
 
 -- where a source's object is
-pub record SourceThere (H : Heaps) (s : Source) (Good : ℕ → Type 0) : Type 0 where
+pub record SourceThere (H : Resting) (s : Source) (Good : ℕ → Type 0) : Type 0 where
   pub home : ℕ
   pub good : Good home
   pub owner : owner_of H.pool s.object.chunk ≡ Some home
@@ -54,7 +54,7 @@ pub record SourceThere (H : Heaps) (s : Source) (Good : ℕ → Type 0) : Type 0
   pub born : (cell_of rest.heap.chunks s.object).mark ≡ Born birth
 
 -- the resting heaps are formed, and the good ones' chunks are their own, with their units
-pub record AreFormed (H : Heaps) (Good : ℕ → Type 0) : Type 0 where
+pub record AreFormed (H : Resting) (Good : ℕ → Type 0) : Type 0 where
   pub form : (u : ℕ) (r : Rest) → rest_at H.homes u ≡ Some r → HeapForm r.heap
   pub measured : (u : ℕ) (r : Rest) → Good u → rest_at H.homes u ≡ Some r → AreMeasured H.pool u r.heap.chunks
   pub owned : (u : ℕ) (r : Rest) → Good u → rest_at H.homes u ≡ Some r → (k : ChunkValue) → In r.heap.chunks k → owner_of H.pool k.number ≡ Some u
@@ -120,7 +120,7 @@ module _ (ms : List (Addr × Addr)) where
       by (Result n q) = ap₂ (λ cs m. record (home_by r.heap r.view r.allocations (Result n q)) { chunks = cs; room = m }) chunks room
 
   -- ONE SOURCE
-  module _ (H : Heaps) (Good : ℕ → Type 0) (F : AreFormed H Good) (s : Source) (T : SourceThere H s Good) where
+  module _ (H : Resting) (Good : ℕ → Type 0) (F : AreFormed H Good) (s : Source) (T : SourceThere H s Good) where
     abbrev r : Rest
     r = T.rest
 
@@ -163,7 +163,7 @@ module _ (ms : List (Addr × Addr)) where
         (lead_at f s o.at 0 s.field o.refs (sym e) (let z : s.field ≡ 0 + s.field = omega arith in z)
         ∙ (ap (λ rs. slice_set rs s.field (led f (slice_index_or rs s.field None))) same ∙ ap (slice_set c.refs s.field) (ap (led f) (sym held_is) ∙ is)))
 
-    pub record Stepped (H' : Heaps) : Type 0 where
+    pub record Stepped (H' : Resting) : Type 0 where
       pub pool : H'.pool ≡ H.pool
       pub count : length H'.homes ≡ length H.homes
       pub formed : AreFormed H' Good
@@ -310,14 +310,14 @@ module _ (ms : List (Addr × Addr)) where
 
   -- ---- ALL SOURCES
 
-  pub record Led (H : Heaps) (Good : ℕ → Type 0) (ss : List Source) (H' : Heaps) : Type 0 where
+  pub record Led (H : Resting) (Good : ℕ → Type 0) (ss : List Source) (H' : Resting) : Type 0 where
     pub pool : H'.pool ≡ H.pool
     pub count : length H'.homes ≡ length H.homes
     pub form : (u : ℕ) (r : Rest) → rest_at H'.homes u ≡ Some r → HeapForm r.heap
     pub measured : (u : ℕ) (r : Rest) → Good u → rest_at H'.homes u ≡ Some r → AreMeasured H.pool u r.heap.chunks
     pub homes : (u : ℕ) → Good u → home_in (rest_at H'.homes u) ≡ rewritten_home f ss (home_in (rest_at H.homes u))
 
-  pub lead_all : (ss : List Source) (H : Heaps) (Good : ℕ → Type 0) → AreOnce ss → ((s : Source) → In ss s → SourceThere H s Good) → AreFormed H Good → Led H Good ss (fold (redirected refs_in with_ref_in ms) H ss)
+  pub lead_all : (ss : List Source) (H : Resting) (Good : ℕ → Type 0) → AreOnce ss → ((s : Source) → In ss s → SourceThere H s Good) → AreFormed H Good → Led H Good ss (fold (redirected refs_in with_ref_in ms) H ss)
   lead_all [] H Good once there F = record { pool = refl; count = refl; form = F.form; measured = F.measured; homes = λ u good. sym (none_home f (home_in (rest_at H.homes u))) }
   lead_all (s ∷ ss) H Good once there F =
       let T = step H Good F s (there s (inl refl)) in

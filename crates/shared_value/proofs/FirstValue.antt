@@ -21,7 +21,7 @@ use Rattle.core_relation.specs.Memory.{Noted, Memory}
 use Rattle.core_relation.specs.Stands.{Stands}
 use Rattle.core_relation.specs.Whole.{BegunBy, StandsFor, as_node}
 use Rattle.core_entry_laws.proofs.whole.Journals.{first, first_stands}
-use Rattle.shared_value.specs.declared.task_at_rest.Rest.{Rest}
+use Rattle.task_homes.specs.declared.task_at_rest.Rest.{Rest}
 use Rattle.shared_value.specs.SharedValue.{SharedValue, flat, rest_at, value_of, totals_of, first_rest}
 use Rattle.shared_value.specs.Measured.{AreMeasured, RestsAreMeasured}
 use Rattle.shared_value.specs.Stands.{HeapForm, IsSharedValue}
@@ -38,7 +38,7 @@ first_world_of p s slots spare n set = record {
   pool = record { limit = s.chunks; slots = [] };
   homes = Some (first_rest p slots spare) ∷ [];
   sets = set ∷ [];
-  marks = [];
+  marks = None ∷ [];
   tasks_out = replicate s.workers None;
   outputs = [];
   journal = record { items = []; room = n };
@@ -142,7 +142,7 @@ module _ (p : ProgramText) (s : SettingsValue) (lims : AreLimits s) (form : IsPr
 -- the same of fields that are these
 pub first_by : (p p' : ProgramText) (s : SettingsValue) (tree : List Node) (pool : PoolValue) (homes : List (Option Rest)) (sets : List SetOf) (marks : List (Option MarkingValue)) (tasks_out : List (Option ℕ)) (outputs : List ℤ) (journal : RoomyValue EntryValue) (r : Rest) (set : SetOf)
     → AreLimits s → IsProgram p → p' ≡ p → tree ≡ root_node ∷ [] → pool ≡ record { limit = s.chunks; slots = [] } → homes ≡ Some r ∷ [] → r ≡ first_rest p r.heap.slots r.heap.spare → sets ≡ set ∷ [] → content_of set ≡ record { sources = []; kept = []; keeps = false }
-    → marks ≡ [] → tasks_out ≡ replicate s.workers None → outputs ≡ [] → journal.items ≡ []
+    → marks ≡ None ∷ [] → tasks_out ≡ replicate s.workers None → outputs ≡ [] → journal.items ≡ []
     → IsSharedValue (record { program = p'; settings = s; tree = tree; pool = pool; homes = homes; sets = sets; marks = marks; tasks_out = tasks_out; outputs = outputs; journal = journal; steps = 0; end = None; halted = false })
 first_by p p' s tree pool homes sets marks tasks_out outputs journal r set lims form ep et eo eh er es empty em ea eu ej =
     let eh' : homes ≡ Some (first_rest p r.heap.slots r.heap.spare) ∷ [] = eh ∙ ap (λ x. Some x ∷ []) er in

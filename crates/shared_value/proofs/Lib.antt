@@ -33,5 +33,4 @@ pub mod ObjectRewritten
 pub mod FieldsLedTogether
 pub mod FieldsLed
 pub mod FieldsNoted
-pub mod Replaced
 pub mod UnitsMeasured

@@ -16,12 +16,13 @@ use Rattle.core_relation.specs.Memory.{Home, In, Memory, objects, objects_in, so
 use Rattle.core_relation.proofs.objects.Members.{in_chunk}
 use Rattle.core_relation.proofs.changes.With.{at_home, off_home}
 use Rattle.task_machine.specs.declared.part.Private.{Private}
-use Rattle.shared_value.specs.declared.task_at_rest.Rest.{Rest}
+use Rattle.task_homes.specs.declared.task_at_rest.Rest.{Rest}
 use Rattle.shared_value.specs.Objects.{chunks_of}
 use Rattle.shared_value.specs.SharedValue.{SharedValue, accounts, home_in, rest_at, value_of}
 use Rattle.shared_value.specs.Stands.{IsSharedValue}
 use Rattle.shared_value.specs.Fits.{Fits, home_of_part}
-use Rattle.shared_value.specs.RestingHeaps.{refs_for, refs_in, refs_of_rest}
+use Rattle.task_homes.specs.HomesValue.{refs_of_rest}
+use Rattle.task_homes.specs.RestingHeaps.{refs_for, refs_in}
 use Rattle.shared_value.specs.Roots.{heaps_of, roots_of, sources_of}
 use Rattle.shared_value.proofs.CellsRead.{seen_object}
 use Rattle.shared_value.proofs.RootsHeld as held

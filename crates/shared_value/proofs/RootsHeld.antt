@@ -22,9 +22,8 @@ use Rattle.core_relation.specs.Stands.{IsSource, Place, Stands}
 use Rattle.core_relation.specs.Memory.{Chunk, In, Lies, Memory, objects, objects_in, sources}
 use Rattle.core_relation.proofs.objects.Members.{in_chunk, map_in}
 use Rattle.core_relation.proofs.notes.Roots.{name_at}
-use Rattle.shared_value.specs.declared.heaps.Heaps.{Heaps}
 use Rattle.shared_value.specs.Objects.{chunk_of, chunks_of}
-use Rattle.shared_value.specs.RestingHeaps.{refs_in}
+use Rattle.task_homes.specs.RestingHeaps.{Resting, refs_in}
 use Rattle.shared_value.proofs.FreeChunks.{refs_long}
 use Rattle.shared_value.proofs.PartFitsMachine.{placed_in}
 
@@ -72,7 +71,7 @@ chunk_in ks number h = by (place_in ks number) refl h
 
 -- ---- A VALUE THAT STANDS, and a heap at rest with these chunks and remembered fields; heaps by whose words the objects of all other
 -- heaps are read
-module _ (v : Memory) (l : Ledger) (t : ℕ) (W : Stands v l) (at_rest : Rests l t) (ks : List ChunkValue) (here : (v.homes t).chunks ≡ chunks_of ks) (ss : List Source) (sources_are : sources v t ≡ ss) (hs : Heaps)
+module _ (v : Memory) (l : Ledger) (t : ℕ) (W : Stands v l) (at_rest : Rests l t) (ks : List ChunkValue) (here : (v.homes t).chunks ≡ chunks_of ks) (ss : List Source) (sources_are : sources v t ≡ ss) (hs : Resting)
     (read : (u : ℕ) → (u ≡ t → ⊥) → Rests l u → (o : Located) → In (objects v u) o → refs_in hs o.at ≡ o.refs) where
   -- the owner of a resting home's object
   owner_at : (u : ℕ) → Rests l u → (o : Located) → In (objects v u) o → v.owner o.at.chunk ≡ Some u

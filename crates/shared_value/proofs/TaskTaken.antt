@@ -38,9 +38,9 @@ use Rattle.core_entry_laws.proofs.whole.EntriesWhole.{took_stands_for}
 use Rattle.core_entry_laws.proofs.parts.TookFits.{took_fits_then}
 use Rattle.core_entry_laws.proofs.parts.WorkersPast.{took_leaves}
 use Rattle.task_machine.specs.declared.part.Private.{Private}
-use Rattle.shared_value.specs.declared.task_at_rest.Rest.{Rest}
-use Rattle.shared_value.specs.declared.task_at_rest.Work.{Work}
-use Rattle.shared_value.specs.declared.task_at_rest.Work.TheVariants.{Calls, Result}
+use Rattle.task_homes.specs.declared.task_at_rest.Rest.{Rest}
+use Rattle.task_homes.specs.declared.task_at_rest.Work.{Work}
+use Rattle.task_homes.specs.declared.task_at_rest.Work.TheVariants.{Calls, Result}
 use Rattle.shared_value.specs.SharedValue.{SharedValue, accounts, flat, home_in, home_by, home_of, rest_at, totals_of, value_of}
 use Rattle.shared_value.specs.Measured.{RestsAreMeasured}
 use Rattle.shared_value.specs.Stands.{HeapForm, IsSharedValue}

@@ -6,7 +6,6 @@ pub mod Next
 pub mod Entered
 pub mod Causes
 pub mod Due
-pub mod RestingHeaps
 pub mod Roots
 pub mod LeafBegin
 pub mod Links

@@ -6,7 +6,7 @@ use Rattle.chunk_pool.specs.PoolValue.{PoolValue, slot_at, one_unit}
 use Rattle.core_relation.specs.Memory.{In}
 use Rattle.task_machine.specs.declared.part.Begun.{Begun}
 use Rattle.task_machine.specs.declared.part.Private.{Private}
-use Rattle.shared_value.specs.declared.task_at_rest.Rest.{Rest}
+use Rattle.task_homes.specs.declared.task_at_rest.Rest.{Rest}
 use Rattle.shared_value.specs.SharedValue.{flat, rest_at}
 
 -- it has each of these chunks for the task, with as many units as the chunk has

@@ -5,15 +5,11 @@ use Rattle.remembered_set.specs.declared.remembered.Source.{Source}
 use Rattle.remembered_set.specs.Moved.{targets_of}
 use Rattle.write_barrier.specs.declared.sets.SetOf.{SetOf}
 use Rattle.task_machine.specs.declared.part.Private.{Private}
-use Rattle.shared_value.specs.declared.heaps.Heaps.{Heaps}
-use Rattle.shared_value.specs.RestingHeaps.{refs_in}
+pub use Rattle.task_homes.specs.HomesValue.{sources_of}
+use Rattle.task_homes.specs.RestingHeaps.{Resting, refs_in}
 use Rattle.shared_value.specs.SharedValue.{SharedValue}
 
-abbrev pub sources_of : Option SetOf → List Source
-sources_of None = []
-sources_of (Some s) = s.remembered.sources
-
-abbrev pub heaps_of : SharedValue → Heaps
+abbrev pub heaps_of : SharedValue → Resting
 heaps_of w = record { homes = w.homes; pool = w.pool }
 
 abbrev pub roots_of : SharedValue → Private → List Addr

@@ -17,11 +17,12 @@ use Rattle.heap_tree.specs.Node.{Node}
 use Rattle.write_barrier.specs.declared.sets.SetOf.{SetOf}
 use Rattle.inner_mark_gc.specs.MarkingValue.{MarkingValue}
 pub use Rattle.core_relation.specs.Memory.{no_home}
+pub use Rattle.task_homes.specs.HomesValue.{flat, marks_at, rest_at}
 use Rattle.core_relation.specs.Memory.{Home, Noted, Memory}
 use Rattle.core_relation.specs.Whole.{Totals}
-use Rattle.shared_value.specs.declared.task_at_rest.Rest.{Rest}
-use Rattle.shared_value.specs.declared.task_at_rest.Work.{Work}
-use Rattle.shared_value.specs.declared.task_at_rest.Work.TheVariants.{Calls, Result}
+use Rattle.task_homes.specs.declared.task_at_rest.Rest.{Rest}
+use Rattle.task_homes.specs.declared.task_at_rest.Work.{Work}
+use Rattle.task_homes.specs.declared.task_at_rest.Work.TheVariants.{Calls, Result}
 use Rattle.shared_value.specs.Objects.{chunks_of, levels_of}
 
 pub record SharedValue : Type 0 where
@@ -87,16 +88,9 @@ home_by h view count (Result k r) = home_with h view count [] (k, r)
 abbrev pub home_of : Rest → Home
 home_of r = home_by r.heap r.view r.allocations r.work
 
-abbrev pub flat : {A : Type 0} → Option (Option A) → Option A
-flat None = None
-flat (Some o) = o
-
 abbrev pub home_in : Option Rest → Home
 home_in None = no_home
 home_in (Some r) = home_of r
-
-abbrev pub rest_at : List (Option Rest) → ℕ → Option Rest
-rest_at homes t = flat (slice_get homes t)
 
 -- ---- WHAT IS NOTED
 
@@ -112,9 +106,6 @@ value_by homes sets pool = record {
   noted = λ t. noted_in (slice_get sets t);
   owner = owner_of pool;
 }
-
-abbrev pub marks_at : List (Option MarkingValue) → ℕ → Option MarkingValue
-marks_at marks t = flat (slice_get marks t)
 
 abbrev pub with_marks : List (Option MarkingValue) → Memory → Memory
 with_marks marks v = record v { noted = λ t. record (v.noted t) { marked = marks_at marks t } }

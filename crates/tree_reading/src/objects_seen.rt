@@ -22,9 +22,9 @@ fn resting_chunk(shared: &Shared, number: u32) -> Option<&Chunk>
     if is_running(shared.tree().state(owner)) {
         return None;
     }
-    match shared.homes().get(owner as usize) {
-        Some(Some(rest)) => rest.get().heap.chunk(number),
-        _ => None,
+    match shared.heaps().homes.rest(owner) {
+        Some(rest) => rest.heap.chunk(number),
+        None => None,
     }
 }
 

@@ -18,7 +18,7 @@ pub fn remembered(alloc: Global, shared: &Shared, task: u32) -> Result<Listed<Fi
     if task >= shared.tree().made() {
         return Ok(Listed::new(alloc));
     }
-    let mut fields = fields_of(alloc, shared.sets()[task as usize].sources())?;
+    let mut fields = fields_of(alloc, shared.heaps().homes.sources(task))?;
     fields.sort_unstable();
     Ok(Listed::from_vec(fields))
 }

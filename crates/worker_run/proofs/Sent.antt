@@ -14,13 +14,14 @@ use Rattle.heap_tree.proofs.tree.Tree.TheSendSync as tree
 use Rattle.write_barrier.proofs.sets.SetOf.TheSendSync as sets
 use Rattle.inner_mark_gc.proofs.marking.Marking.TheSendSync as marking
 use Rattle.inner_mark_gc.proofs.room.MarkingRoom.TheSendSync as room
-use Rattle.shared_value.proofs.task_at_rest.Work.TheSendSync as work
 use Rattle.atomic_table.proofs.shared.Seat.TheSendSync as seat
 use Rattle.turn_lock.proofs.view.View.TheSendSync as seen
 use Rattle.steal_scheduler.proofs.hand.Hand.TheSendSync as hand
 use Rattle.chunk_rows.specs.contracts.shelf.Shelf as Shelf
 use Rattle.chunk_rows.specs.contracts.view.View as View
-use Rattle.shared_value.specs.contracts.task_at_rest.Rest as Rest
+use Rattle.task_homes.specs.contracts.task_at_rest.Rest as Rest
+use Rattle.task_homes.specs.contracts.homes.Home as Home
+use Rattle.task_homes.specs.contracts.homes.Homes as Homes
 use Rattle.shared_tree.specs.contracts.shared.Shared as Shared
 use Rattle.counted_tree.specs.contracts.counted.Counted as Counted
 use Rattle.paced_tree.specs.contracts.paced.Paced as Paced
@@ -50,8 +51,14 @@ view_send = search (shelf_send, shelf_sync, sendable, std.crosses, maps.crosses)
 pub rest_send : IsSend Rest.the_row
 rest_send = search (view_send, heap.the_send, sendable, std.crosses, maps.crosses) depth 30
 
+pub home_send : IsSend Home.the_row
+home_send = search (rest_send, sets.the_send, marking.the_send, apart.the_send, sendable, std.crosses, maps.crosses) depth 300 fits 1000000
+
+pub homes_send : IsSend Homes.the_row
+homes_send = search (home_send, apart.the_send, sendable, std.crosses, maps.crosses) depth 300 fits 1000000
+
 pub shared_send : IsSend Shared.the_row
-shared_send = search (rest_send, program.the_send, tree.the_send, pool.the_send, sets.the_send, marking.the_send, room.the_send, listed.the_send, roomy.the_send, apart.the_send, sendable, std.crosses, maps.crosses) depth 300 fits 1000000
+shared_send = search (homes_send, program.the_send, tree.the_send, pool.the_send, room.the_send, listed.the_send, roomy.the_send, sendable, std.crosses, maps.crosses) depth 300 fits 1000000
 
 pub counted_send : IsSend Counted.the_row
 counted_send = search (shared_send, listed.the_send, sendable, std.crosses, maps.crosses) depth 300 fits 1000000
@@ -66,10 +73,16 @@ pub view_sync : IsSync View.the_row
 view_sync = search (shelf_send, shelf_sync, sendable, std.crosses, maps.crosses) depth 300 fits 1000000
 
 pub rest_sync : IsSync Rest.the_row
-rest_sync = search (view_sync, work.the_sync, heap.the_sync, sendable, std.crosses, maps.crosses) depth 300 fits 1000000
+rest_sync = search (view_sync, heap.the_sync, sendable, std.crosses, maps.crosses) depth 300 fits 1000000
+
+pub home_sync : IsSync Home.the_row
+home_sync = search (rest_sync, sets.the_sync, marking.the_sync, apart.the_sync, sendable, std.crosses, maps.crosses) depth 300 fits 1000000
+
+pub homes_sync : IsSync Homes.the_row
+homes_sync = search (home_sync, apart.the_sync, sendable, std.crosses, maps.crosses) depth 300 fits 1000000
 
 pub shared_sync : IsSync Shared.the_row
-shared_sync = search (rest_sync, program.the_sync, tree.the_sync, pool.the_sync, sets.the_sync, marking.the_sync, room.the_sync, listed.the_sync, roomy.the_sync, apart.the_sync, sendable, std.crosses, maps.crosses) depth 300 fits 1000000
+shared_sync = search (homes_sync, program.the_sync, tree.the_sync, pool.the_sync, room.the_sync, listed.the_sync, roomy.the_sync, sendable, std.crosses, maps.crosses) depth 300 fits 1000000
 
 pub counted_sync : IsSync Counted.the_row
 counted_sync = search (shared_sync, listed.the_sync, sendable, std.crosses, maps.crosses) depth 300 fits 1000000

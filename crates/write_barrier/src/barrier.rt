@@ -14,8 +14,8 @@ use object_layout::{Addr, Words};
 use remembered_set::Source;
 use std::alloc::AllocError;
 
-// The heap that a reference points into; None for nil.
-fn heap_of(tree: &Tree, pool: &Pool, reference: Option<Addr>) -> Option<u32>
+/// The heap that a reference points into; None for nil.
+pub fn heap_of(tree: &Tree, pool: &Pool, reference: Option<Addr>) -> Option<u32>
     requires { IsOwned (length tree.now) pool.now reference }
     ensures heap { result ≡ heap_of pool.now reference }
     ensures made { IfSome result (λ h. h < length tree.now) }
@@ -26,8 +26,9 @@ fn heap_of(tree: &Tree, pool: &Pool, reference: Option<Addr>) -> Option<u32>
     }
 }
 
-// The heap in whose set a reference that is written into an object is noted.
-fn noted_in(tree: &Tree, pool: &Pool, object: Addr, value: Option<Addr>) -> Option<u32>
+/// The heap in whose set a reference that is written into an object is noted: that into which it points, where it points
+/// down.
+pub fn noted_in(tree: &Tree, pool: &Pool, object: Addr, value: Option<Addr>) -> Option<u32>
     requires object { IsOwned (length tree.now) pool.now (Some object) }
     requires value { IsOwned (length tree.now) pool.now value }
     ensures heap { result ≡ noted_in tree.now pool.now object value }

@@ -5,5 +5,5 @@ mod barrier;
 mod noting;
 mod sets;
 
-pub use barrier::store;
+pub use barrier::{heap_of, noted_in, store};
 pub use sets::{Noted, SetOf};

@@ -3,7 +3,7 @@
 ghost use Rattle.std.specs.Prelude.{◌≡◌, ◌<◌, ◌≤◌, ◌++◌, ◌∷◌, [], IfErr, IfNone, IfOk, None, OnErr, OnOk, false, fold};
 ghost use Rattle.remembered_set.specs.Moved.{redirected, targets_of, AreFields, AreInOrder, ArePlaces};
 ghost use Rattle.remembered_set.specs.Sources.{noted as noted_with, notes_in, StandOnce};
-ghost use Rattle.write_barrier.specs.Held.{held_in};
+ghost use Rattle.write_barrier.specs.Held.{bare, held_in};
 ghost use Rattle.write_barrier.specs.Stored.{content_of};
 
 use listed::Roomy;
@@ -103,7 +103,7 @@ fn opened(alloc: Global, form: Form) -> Result<Apart<Noted>, Form>
 impl SetOf {
     /// A set that holds nothing, of a heap that keeps nothing.
     pub fn new(alloc: Global) -> SetOf
-        ensures { content_of result ≡ record { sources = []; kept = []; keeps = false } }
+        ensures { result ≡ bare false }
     {
         SetOf {
             alloc,
@@ -182,8 +182,8 @@ impl SetOf {
         }
     }
 
-    // Makes a place for one overwritten reference more.
-    pub(crate) fn reserve_kept(&mut self) -> Result<(), AllocError>
+    /// Makes a place for one overwritten reference more.
+    pub fn reserve_kept(&mut self) -> Result<(), AllocError>
         ensures same { content_of self.new ≡ content_of self.old }
         ensures room { OnOk result (0 < self.new.kept.room) }
     {
@@ -201,8 +201,8 @@ impl SetOf {
         }
     }
 
-    // Notes a source, unless it is known.
-    pub(crate) fn note(&mut self, source: Source) -> Result<(), AllocError>
+    /// Notes a source, unless it is known.
+    pub fn note(&mut self, source: Source) -> Result<(), AllocError>
         ensures ok { OnOk result (content_of self.new ≡ record (content_of self.old) { sources = noted_with self.old.remembered.sources source }) }
         ensures err { OnErr result (content_of self.new ≡ content_of self.old) }
         ensures room { self.old.kept.room ≤ self.new.kept.room }
@@ -221,8 +221,8 @@ impl SetOf {
         }
     }
 
-    // Keeps an overwritten reference, for which there is a place.
-    pub(crate) fn push_kept(&mut self, reference: Addr)
+    /// Keeps an overwritten reference, for which there is a place.
+    pub fn push_kept(&mut self, reference: Addr)
         requires { 0 < self.old.kept.room }
         ensures { content_of self.new ≡ record (content_of self.old) { kept = self.old.kept.items ++ reference ∷ [] } }
     {

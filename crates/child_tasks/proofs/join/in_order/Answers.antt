@@ -1,4 +1,4 @@
-use Rattle.std.proofs.Common.{◌==◌, ◌%◌, true, false, ap, sym}
+use Rattle.std.proofs.Common.{◌==◌, ◌%◌, ap, sym}
 use Rattle.std.proofs.lemmas.Bool.Decides.{Decides-eqb}
 use Rattle.std.proofs.lemmas.Bool.{false_from_ne_true}
 use Rattle.child_tasks.specs.Joins.{left_of, right_of}

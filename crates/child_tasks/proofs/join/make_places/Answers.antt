@@ -4,4 +4,4 @@ use Rattle.child_tasks.proofs.JoinPlaces.{same_itself}
 use Rattle.child_tasks.proofs.join.make_places.Goals as goal
 
 pub returns-in_err-chunks-clause-same : goal.returns-in_err-chunks-clause-same
-returns-in_err-chunks-clause-same c = same_itself (rest_at c.args.homes.now c.args.parent) (rest_at c.args.homes.now c.args.parent) refl
+returns-in_err-chunks-clause-same c = same_itself (rest_at c.args.homes.now.rests c.args.parent) (rest_at c.args.homes.now.rests c.args.parent) refl

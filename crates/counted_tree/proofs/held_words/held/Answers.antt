@@ -4,7 +4,7 @@ use Rattle.run_ledger.specs.declared.data.Ledger.{Ledger}
 use Rattle.run_ledger.specs.Heaps.{words_at, words_sum}
 use Rattle.run_ledger.specs.Report.{held_not_running}
 use Rattle.alloc_path.specs.LeafHeapValue.{counted}
-use Rattle.shared_value.specs.declared.task_at_rest.Rest.{Rest}
+use Rattle.task_homes.specs.declared.task_at_rest.Rest.{Rest}
 use Rattle.shared_value.specs.SharedValue.{SharedValue, accounts}
 use Rattle.heap_reading.specs.HeldNames.{held_unless_running}
 use Rattle.heap_reading.proofs.KeptNames.{counted_few, counted_more, homes_few, kept_before, kept_homes, kept_more, objects_few, words_few}
@@ -14,7 +14,7 @@ pub overflow_cast-t-end : goal.overflow_cast-t-end
 overflow_cast-t-end c =
     let w : SharedValue = c.args.shared.now in
     let few = homes_few w c.stands.ensures in
-    let many : length c.homes.result.now ≡ length w.homes = ap (λ (hs : List (Option Rest)). length hs) c.homes.ensures in
+    let many : length c.heaps.result.now.homes.rests ≡ length w.homes = ap (λ (hs : List (Option Rest)). length hs) c.heaps.ensures.homes in
     let is = c.len-t-end.ensures in
     omega (arith, few, many, is)
 
@@ -34,7 +34,7 @@ loop-t-preserved c =
 pub returns-clause-objects : goal.returns-clause-objects
 returns-clause-objects c =
     let w : SharedValue = c.args.shared.now in
-    let many : length c.homes.result.now ≡ length w.homes = ap (λ (hs : List (Option Rest)). length hs) c.homes.ensures in
+    let many : length c.heaps.result.now.homes.rests ≡ length w.homes = ap (λ (hs : List (Option Rest)). length hs) c.heaps.ensures.homes in
     let end : c.loop-t.t ≡ length w.homes = omega (arith, many) in
     let is : length (kept_before (accounts w) c.loop-t.t) ≡ length (held_not_running (accounts w)) = ap (λ n. length (kept_before (accounts w) n)) end ∙ ap length (kept_homes w c.stands.ensures) in
     c.loop-t.invariant.objects ∙ (ap counted is ∙ counted_few (length (held_not_running (accounts w))) (objects_few w c.stands.ensures))
@@ -42,7 +42,7 @@ returns-clause-objects c =
 pub returns-clause-words : goal.returns-clause-words
 returns-clause-words c =
     let w : SharedValue = c.args.shared.now in
-    let many : length c.homes.result.now ≡ length w.homes = ap (λ (hs : List (Option Rest)). length hs) c.homes.ensures in
+    let many : length c.heaps.result.now.homes.rests ≡ length w.homes = ap (λ (hs : List (Option Rest)). length hs) c.heaps.ensures.homes in
     let end : c.loop-t.t ≡ length w.homes = omega (arith, many) in
     let is : words_sum (accounts w).machine (kept_before (accounts w) c.loop-t.t) ≡ words_sum (accounts w).machine (held_not_running (accounts w)) =
     ap (λ n. words_sum (accounts w).machine (kept_before (accounts w) n)) end ∙ ap (words_sum (accounts w).machine) (kept_homes w c.stands.ensures) in

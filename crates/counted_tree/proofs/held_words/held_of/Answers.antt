@@ -1,11 +1,11 @@
-use Rattle.std.proofs.Common.{◌≡◌, true, false, Option, None, Some, List, length, slice_get, ap, sym, ◌∙◌}
+use Rattle.std.proofs.Common.{◌≡◌, true, false, Option, None, Some, List, length, option_copied, slice_get, ap, sym, ◌∙◌}
 use Rattle.hh_model.specs.declared.data.Name.{Name}
 use Rattle.hh_model.specs.Step.{is_running}
 use Rattle.run_ledger.specs.Heaps.{words_sum}
 use Rattle.alloc_path.specs.LeafHeapValue.{counted}
 use Rattle.heap_tree.specs.Node.{Node, state_of}
-use Rattle.shared_value.specs.declared.task_at_rest.Rest.{Rest}
-use Rattle.shared_value.specs.SharedValue.{SharedValue, accounts, flat, rest_at}
+use Rattle.task_homes.specs.declared.task_at_rest.Rest.{Rest}
+use Rattle.shared_value.specs.SharedValue.{SharedValue, accounts, rest_at}
 use Rattle.heap_reading.specs.HeldNames.{is_state_running}
 use Rattle.heap_reading.proofs.KeptNames.{none_of, nothing_kept, objects_are, runs_is, words_kept}
 use Rattle.counted_tree.proofs.held_words.held_of.Goals as goal
@@ -29,23 +29,23 @@ returns-in-Some-clause-objects c =
     let w : SharedValue = c.args.shared.now in
     let state : c.is_running.result ≡ is_state_running (state_of w.tree c.args.t) = c.is_running.ensures ∙ (ap is_state_running c.state.ensures ∙ ap (λ (ns : List Node). is_state_running (state_of ns c.args.t)) c.tree.ensures) in
     let idle : is_running (slice_get (accounts w).machine.tasks c.args.t) ≡ false = sym (runs_is w c.stands.ensures c.args.t) ∙ (sym state ∙ c.if-is_running.false) in
-    let there : rest_at w.homes c.args.t ≡ Some c.get.result.now = ap (λ (hs : List (Option Rest)). rest_at hs c.args.t) (sym c.homes.ensures) ∙ ((ap flat c.at.ensures ∙ c.in-Some.is) ∙ ap Some (sym c.get.ensures)) in
-    c.objects.ensures ∙ ap counted (objects_are w c.stands.ensures c.args.t idle c.get.result.now there)
+    let there : rest_at w.homes c.args.t ≡ Some c.in-Some.rest.now = ap (λ (hs : List (Option Rest)). rest_at hs c.args.t) (sym c.heaps.ensures.homes) ∙ (sym c.rest.ensures ∙ ap option_copied c.in-Some.is) in
+    c.objects.ensures ∙ ap counted (objects_are w c.stands.ensures c.args.t idle c.in-Some.rest.now there)
 
 pub returns-in-Some-clause-words : goal.returns-in-Some-clause-words
 returns-in-Some-clause-words c =
     let w : SharedValue = c.args.shared.now in
     let state : c.is_running.result ≡ is_state_running (state_of w.tree c.args.t) = c.is_running.ensures ∙ (ap is_state_running c.state.ensures ∙ ap (λ (ns : List Node). is_state_running (state_of ns c.args.t)) c.tree.ensures) in
     let idle : is_running (slice_get (accounts w).machine.tasks c.args.t) ≡ false = sym (runs_is w c.stands.ensures c.args.t) ∙ (sym state ∙ c.if-is_running.false) in
-    let there : rest_at w.homes c.args.t ≡ Some c.get-in-Some.result.now = ap (λ (hs : List (Option Rest)). rest_at hs c.args.t) (sym c.homes.ensures) ∙ ((ap flat c.at.ensures ∙ c.in-Some.is) ∙ ap Some (sym c.get-in-Some.ensures)) in
-    c.words.ensures ∙ ap counted (words_kept w c.stands.ensures c.args.t idle c.get-in-Some.result.now there)
+    let there : rest_at w.homes c.args.t ≡ Some c.in-Some.rest.now = ap (λ (hs : List (Option Rest)). rest_at hs c.args.t) (sym c.heaps.ensures.homes) ∙ (sym c.rest.ensures ∙ ap option_copied c.in-Some.is) in
+    c.words.ensures ∙ ap counted (words_kept w c.stands.ensures c.args.t idle c.in-Some.rest.now there)
 
 pub returns-in-None-clause-objects : goal.returns-in-None-clause-objects
 returns-in-None-clause-objects c =
     let w : SharedValue = c.args.shared.now in
     let state : c.is_running.result ≡ is_state_running (state_of w.tree c.args.t) = c.is_running.ensures ∙ (ap is_state_running c.state.ensures ∙ ap (λ (ns : List Node). is_state_running (state_of ns c.args.t)) c.tree.ensures) in
     let idle : is_running (slice_get (accounts w).machine.tasks c.args.t) ≡ false = sym (runs_is w c.stands.ensures c.args.t) ∙ (sym state ∙ c.if-is_running.false) in
-    let none : rest_at w.homes c.args.t ≡ None = ap (λ (hs : List (Option Rest)). rest_at hs c.args.t) (sym c.homes.ensures) ∙ (ap flat c.at.ensures ∙ c.in-None.is) in
+    let none : rest_at w.homes c.args.t ≡ None = ap (λ (hs : List (Option Rest)). rest_at hs c.args.t) (sym c.heaps.ensures.homes) ∙ (sym c.rest.ensures ∙ ap option_copied c.in-None.is) in
     sym (ap (λ (ns : List Name). counted (length ns)) (nothing_kept w c.stands.ensures c.args.t idle none))
 
 pub returns-in-None-clause-words : goal.returns-in-None-clause-words
@@ -53,5 +53,5 @@ returns-in-None-clause-words c =
     let w : SharedValue = c.args.shared.now in
     let state : c.is_running.result ≡ is_state_running (state_of w.tree c.args.t) = c.is_running.ensures ∙ (ap is_state_running c.state.ensures ∙ ap (λ (ns : List Node). is_state_running (state_of ns c.args.t)) c.tree.ensures) in
     let idle : is_running (slice_get (accounts w).machine.tasks c.args.t) ≡ false = sym (runs_is w c.stands.ensures c.args.t) ∙ (sym state ∙ c.if-is_running.false) in
-    let none : rest_at w.homes c.args.t ≡ None = ap (λ (hs : List (Option Rest)). rest_at hs c.args.t) (sym c.homes.ensures) ∙ (ap flat c.at.ensures ∙ c.in-None.is) in
+    let none : rest_at w.homes c.args.t ≡ None = ap (λ (hs : List (Option Rest)). rest_at hs c.args.t) (sym c.heaps.ensures.homes) ∙ (sym c.rest.ensures ∙ ap option_copied c.in-None.is) in
     sym (ap (λ (ns : List Name). counted (words_sum (accounts w).machine ns)) (nothing_kept w c.stands.ensures c.args.t idle none))

@@ -4,7 +4,7 @@ use Rattle.hh_model.specs.declared.data.Name.{Name}
 use Rattle.hh_model.specs.Step.{is_running}
 use Rattle.run_ledger.specs.Heaps.{words_sum}
 use Rattle.alloc_path.specs.LeafHeapValue.{counted}
-use Rattle.shared_value.specs.declared.task_at_rest.Rest.{Rest}
+use Rattle.task_homes.specs.declared.task_at_rest.Rest.{Rest}
 use Rattle.shared_value.specs.SharedValue.{SharedValue, accounts, flat, rest_at}
 use Rattle.heap_reading.specs.HeldNames.{is_state_running}
 use Rattle.heap_reading.proofs.KeptNames.{nothing_kept, runs_is}
@@ -15,7 +15,7 @@ returns-else-t-len c =
     let w : SharedValue = c.args.shared.now in
     let I = c.stands.ensures in
     let past : length w.homes ≤ c.args.t =
-    let v : length c.homes.result.now ≡ length w.homes = ap (λ (hs : List (Option Rest)). length hs) c.homes.ensures in let e = c.len.ensures in let f = c.if-t-len.false in omega (arith, v, e, f) in
+    let v : length c.heaps.result.now.homes.rests ≡ length w.homes = ap (λ (hs : List (Option Rest)). length hs) c.heaps.ensures.homes in let e = c.len.ensures in let f = c.if-t-len.false in omega (arith, v, e, f) in
     let past_tree : length w.tree ≤ c.args.t = let m = I.made in omega (arith, m, past) in
     let idle : is_running (slice_get (accounts w).machine.tasks c.args.t) ≡ false =
     sym (runs_is w I c.args.t) ∙ ap (λ o. is_state_running (option_map (λ m. m.state) o)) (got_past w.tree c.args.t past_tree) in

@@ -1,4 +1,4 @@
-use Rattle.std.proofs.Common.{◌≡◌, ℕ, ◌+◌, ◌<◌, ◌≤◌, List, [], refl, subst, sym, ◌∙◌, arith, length}
+use Rattle.std.proofs.Common.{◌≡◌, ℕ, ◌+◌, ◌<◌, ◌≤◌, List, refl, subst, sym, ◌∙◌, arith, length}
 use Rattle.std.proofs.lemmas.Option.{slice_get_within}
 use Rattle.heap_tree.specs.Node.{Node}
 use Rattle.heap_reading.specs.declared.live.Live.{Live}

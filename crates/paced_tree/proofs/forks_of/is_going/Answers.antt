@@ -32,5 +32,5 @@ returns c =
     let state : c.is_joined.result ≡ is_state_joined (state_of w.tree u) = c.is_joined.ensures ∙ (ap is_state_joined c.state.ensures ∙ ap (λ (ns : List Node). is_state_joined (state_of ns u)) c.tree-tree.ensures) in
     let live : joined (accounts w).machine.tasks u ≡ false = sym (joined_is w c.stands.ensures c.requires u) ∙ (sym state ∙ c.if-is_joined.false) in
     let cause : c.waiting_cause.result ≡ waiting_cause w t =
-    c.waiting_cause.ensures ∙ (ap (λ (xs : List SetOf). waiting_cause_in c.tree-tree.result.now xs t) c.sets.ensures ∙ ap (λ (ns : List Node). waiting_cause_in ns w.sets t) c.tree-tree.ensures) in
+    c.waiting_cause.ensures ∙ (ap (λ (xs : List SetOf). waiting_cause_in c.tree-tree.result.now xs t) c.heaps.ensures.sets ∙ ap (λ (ns : List Node). waiting_cause_in ns w.sets t) c.tree-tree.ensures) in
     none_is c.waiting_cause.result c.is_none.result c.is_none.ensures ∙ (ap is_none cause ∙ sym (goes_free w c.stands.ensures c.requires c.args.fork live))

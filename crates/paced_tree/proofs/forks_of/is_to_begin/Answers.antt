@@ -1,4 +1,5 @@
 use Rattle.std.proofs.Common.{Option, List, nat_le, is_some, ap, ap₂, sym, ◌∙◌}
+use Rattle.listed.proofs.Options.{some_map}
 use Rattle.run_trace.specs.Settings.{SettingsValue}
 use Rattle.inner_mark_gc.specs.MarkingValue.{MarkingValue}
 use Rattle.shared_value.specs.SharedValue.{marks_at}
@@ -8,10 +9,10 @@ use Rattle.paced_tree.proofs.forks_of.is_to_begin.Goals as goal
 pub returns-then-is_going : goal.returns-then-is_going
 returns-then-is_going c =
     ap₂ nat_le (c.inner-least.ensures.value ∙ ap (λ (s : SettingsValue). s.inner) c.settings.ensures) c.words_at.ensures
-    ∙ sym (begin_counted c.args.shared.now c.stands.ensures c.requires c.args.fork (sym c.is_going.ensures ∙ c.if-is_going.true) (ap (λ (ms : List (Option MarkingValue)). is_some (marks_at ms c.args.fork.task)) (sym c.marks.ensures) ∙ (sym c.is_marking.ensures ∙ c.if-is_marking.false)))
+    ∙ sym (begin_counted c.args.shared.now c.stands.ensures c.requires c.args.fork (sym c.is_going.ensures ∙ c.if-is_going.true) (ap (λ (ms : List (Option MarkingValue)). is_some (marks_at ms c.args.fork.task)) (sym c.heaps.ensures.marks) ∙ (ap is_some (sym c.marking.ensures) ∙ some_map (λ m. m.now) c.marking.result) ∙ (sym c.is_some.ensures ∙ c.if-is_some.false)))
 
 pub returns : goal.returns
 returns c = sym (begin_stops c.args.shared.now c.stands.ensures c.requires c.args.fork (sym c.is_going.ensures ∙ c.if-is_going.false))
 
-pub returns-then-is_marking : goal.returns-then-is_marking
-returns-then-is_marking c = sym (begin_marked c.args.shared.now c.stands.ensures c.requires c.args.fork (sym c.is_going.ensures ∙ c.if-is_going.true) (ap (λ (ms : List (Option MarkingValue)). is_some (marks_at ms c.args.fork.task)) (sym c.marks.ensures) ∙ (sym c.is_marking.ensures ∙ c.if-is_marking.true)))
+pub returns-then-is_some : goal.returns-then-is_some
+returns-then-is_some c = sym (begin_marked c.args.shared.now c.stands.ensures c.requires c.args.fork (sym c.is_going.ensures ∙ c.if-is_going.true) (ap (λ (ms : List (Option MarkingValue)). is_some (marks_at ms c.args.fork.task)) (sym c.heaps.ensures.marks) ∙ (ap is_some (sym c.marking.ensures) ∙ some_map (λ m. m.now) c.marking.result) ∙ (sym c.is_some.ensures ∙ c.if-is_some.true)))

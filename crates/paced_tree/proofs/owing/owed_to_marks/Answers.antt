@@ -29,8 +29,8 @@ returns-then-is_some c = λ marks K.
     let t : ℕ = c.in-Some.fork.task in
     let told : c.marking_cause.result ≡ marking_cause w t =
     c.marking_cause.ensures
-    ∙ (ap (λ (ns : List Node). marking_cause_in ns c.sets.result.now c.marks.result.now t) c.tree.ensures
-    ∙ (ap (λ (xs : List SetOf). marking_cause_in w.tree xs c.marks.result.now t) c.sets.ensures ∙ ap (λ (ms : List (Option MarkingValue)). marking_cause_in w.tree w.sets ms t) c.marks.ensures)) in
+    ∙ (ap (λ (ns : List Node). marking_cause_in ns c.heaps.result.now.homes.sets c.heaps.result.now.homes.marks t) c.tree.ensures
+    ∙ (ap (λ (xs : List SetOf). marking_cause_in w.tree xs c.heaps.result.now.homes.marks t) c.heaps.ensures.sets ∙ ap (λ (ms : List (Option MarkingValue)). marking_cause_in w.tree w.sets ms t) c.heaps.ensures.marks)) in
     absurd (false≢true (sym (c.if-is_some.ensures ∙ ap is_some (told ∙ free))))
 
 pub returns-then-is_marked : goal.returns-then-is_marked

@@ -2,30 +2,30 @@ use Rattle.std.proofs.Common.{◌≡◌, Option, Some, None, List, [], IfSome, a
 use Rattle.chunk_pool.specs.declared.pool.Slot.{Slot}
 use Rattle.chunk_pool.specs.PoolValue.{PoolValue, owner_of}
 use Rattle.heap_tree.specs.Node.{Node, state_of}
-use Rattle.shared_value.specs.declared.task_at_rest.Rest.{Rest}
+use Rattle.task_homes.specs.declared.task_at_rest.Rest.{Rest}
 use Rattle.shared_value.specs.Objects.{chunk_of, chunks_of}
-use Rattle.shared_value.specs.SharedValue.{SharedValue, flat, rest_at, value_of}
+use Rattle.shared_value.specs.SharedValue.{SharedValue, rest_at, value_of}
 use Rattle.heap_reading.specs.HeldNames.{is_state_running}
 use Rattle.heap_reading.specs.Image.{objects_of, objects_numbered, objects_owned}
 use Rattle.heap_reading.proofs.ObjectsRead.{none_numbered, resting_objects, some_numbered}
 use Rattle.tree_reading.proofs.objects_seen.resting_chunk.Goals as goal
 
 -- the objects of the number are those of its chunk in the heap that was found
-objects_are : (c : goal.After-chunk) → objects_of c.args.shared.now c.args.number ≡ objects_numbered c.args.number (chunks_of c.get-in-Some-Some.result.now.heap.chunks)
+objects_are : (c : goal.After-chunk) → objects_of c.args.shared.now c.args.number ≡ objects_numbered c.args.number (chunks_of c.in-Some.rest.now.heap.chunks)
 objects_are c =
     let w : SharedValue = c.args.shared.now in
     let t = c.in_ok-owner.field-0.owner in
     let held : owner_of w.pool c.args.number ≡ Some t = ap (λ (p : PoolValue). owner_of p c.args.number) (sym c.pool.ensures) ∙ ap (option_map (λ (h : Slot). h.owner)) (sym c.slot.ensures ∙ c.in_ok-owner.was) in
     let idle : is_state_running (state_of w.tree t) ≡ false = ap (λ (ns : List Node). is_state_running (state_of ns t)) (sym c.tree.ensures) ∙ (sym (ap is_state_running c.state.ensures) ∙ (sym c.is_running.ensures ∙ c.if-is_running.false)) in
-    let there : rest_at w.homes t ≡ Some c.get-in-Some-Some.result.now = ap (λ (hs : List (Option Rest)). rest_at hs t) (sym c.homes.ensures) ∙ (ap flat (sym c.get.ensures) ∙ ((ap (λ o. flat (option_copied o)) c.in-Some-Some.is ∙ c.in-Some-Some.field-0-is) ∙ ap Some (sym c.get-in-Some-Some.ensures))) in
-    resting_objects w c.args.number t c.get-in-Some-Some.result.now held idle there
+    let there : rest_at w.homes t ≡ Some c.in-Some.rest.now = ap (λ (hs : List (Option Rest)). rest_at hs t) (sym c.heaps.ensures.homes) ∙ (sym c.rest.ensures ∙ ap option_copied c.in-Some.is) in
+    resting_objects w c.args.number t c.in-Some.rest.now held idle there
 
-pub returns-in-Some-Some-clause-none : goal.returns-in-Some-Some-clause-none
-returns-in-Some-Some-clause-none c = λ none. objects_are c ∙ none_numbered c.get-in-Some-Some.result.now.heap.chunks c.args.number c.chunk.result c.chunk.ensures none
+pub returns-in-Some-clause-none : goal.returns-in-Some-clause-none
+returns-in-Some-clause-none c = λ none. objects_are c ∙ none_numbered c.in-Some.rest.now.heap.chunks c.args.number c.chunk.result c.chunk.ensures none
 
-pub returns-in-Some-Some-clause-some : goal.returns-in-Some-Some-clause-some
-returns-in-Some-Some-clause-some c =
-    subst (λ os. IfSome c.chunk.result (λ k. (chunk_of k.now).objects ≡ os)) (sym (objects_are c)) (some_numbered c.get-in-Some-Some.result.now.heap.chunks c.args.number c.chunk.result c.chunk.ensures)
+pub returns-in-Some-clause-some : goal.returns-in-Some-clause-some
+returns-in-Some-clause-some c =
+    subst (λ os. IfSome c.chunk.result (λ k. (chunk_of k.now).objects ≡ os)) (sym (objects_are c)) (some_numbered c.in-Some.rest.now.heap.chunks c.args.number c.chunk.result c.chunk.ensures)
 
 pub returns-then-is_running-clause-none : goal.returns-then-is_running-clause-none
 returns-then-is_running-clause-none c = λ none.

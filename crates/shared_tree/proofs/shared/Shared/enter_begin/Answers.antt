@@ -36,14 +36,14 @@ pub roots-requires-clause-fresh : goal.roots-requires-clause-fresh
 roots-requires-clause-fresh c = c.requires.fresh
 
 pub returns-in_err-roots-clause-fits : goal.returns-in_err-roots-clause-fits
-returns-in_err-roots-clause-fits c = subst (λ (z : SharedValue). Fits z c.args.worker c.args.part.now) (sym c.roots.ensures.same) c.requires.fits
+returns-in_err-roots-clause-fits c = c.requires.fits
 
 pub begin_with-requires : goal.begin_with-requires
 begin_with-requires c =
     let w : SharedValue = the_view c.self.inside in
     let p : Private = c.args.part.now in
     let k : ℕ = c.args.worker in
-    let same : w ≡ c.args.self.now = c.self.view_is ∙ c.roots.ensures.same in
+    let same : w ≡ c.args.self.now = c.self.view_is in
     let F : Fits w k p = subst (λ (z : SharedValue). Fits z k p) (sym same) c.requires.fits in
     let free : refused w (record { worker = k; kind = Begin p.task }) ≡ None = subst (λ (z : SharedValue). refused z (record { worker = k; kind = Begin p.task }) ≡ None) (sym same) c.requires.free in
     let n : ℕ = c.chunks_for-count.result in
@@ -63,12 +63,12 @@ returns-in_err-to-clause-fits c =
     let p : Private = c.args.part.now in
     let k : ℕ = c.args.worker in
     let q : Private = c.begin_with.new.part in
-    let F : Fits w k p = subst (λ (z : SharedValue). Fits z k p) (sym (c.self.view_is ∙ c.roots.ensures.same)) c.requires.fits in
+    let F : Fits w k p = subst (λ (z : SharedValue). Fits z k p) (sym c.self.view_is) c.requires.fits in
     subst (λ (z : PoolValue). Fits (record w { pool = z }) k q) (sym c.in_err-to.ensures.same)
     (subst (λ (x : Private). Fits w k x) (sym c.in_err-to.ensures.back) (places_fit w k p q.heap.slots q.heap.spare F))
 
 pub push_reserved-requires : goal.push_reserved-requires
-push_reserved-requires c = subst (λ (z : SharedValue). 0 < z.journal.room) (sym (c.self.view_is ∙ c.roots.ensures.same)) c.requires.room
+push_reserved-requires c = subst (λ (z : SharedValue). 0 < z.journal.room) (sym c.self.view_is) c.requires.room
 
 -- the journal with the entry, as the call names the task
 entry_so : (j : RoomyValue EntryValue) (k t u : ℕ) → t ≡ u → (x : EntryValue) (j' : RoomyValue EntryValue) → x ≡ record { worker = k; kind = Begin t } → j' ≡ record { items = j.items ++ x ∷ []; room = j.room - 1 }
@@ -81,13 +81,13 @@ invariant_of-self-2 c =
     let p : Private = c.args.part.now in
     let k : ℕ = c.args.worker in
     let e : EntryValue = record { worker = k; kind = Begin p.task } in
-    let same : w ≡ c.args.self.now = c.self.view_is ∙ c.roots.ensures.same in
+    let same : w ≡ c.args.self.now = c.self.view_is in
     let F : Fits w k p = subst (λ (z : SharedValue). Fits z k p) (sym same) c.requires.fits in
     let free : refused w e ≡ None = subst (λ (z : SharedValue). refused z e ≡ None) (sym same) c.requires.free in
     let n : ℕ = c.chunks_for-count.result in
     let few = counts n c.small_words.result p c.chunks_for-count.ensures.take c.small_words.ensures in
     let count : n ≡ take_by (small_words p.heap.chunks) = begin_count w k p c.self.invariant F c.requires.fresh free n few in
-    let roots : c.deref.result.now ≡ roots_of w p = c.deref.ensures.value ∙ (c.in_ok-roots.ensures.roots ∙ ap (λ (z : SharedValue). roots_of z p) (sym same)) in
+    let roots : c.deref.result.now ≡ roots_of w p = c.deref.ensures.value ∙ (c.in_ok-roots.ensures ∙ ap (λ (z : SharedValue). roots_of z p) (sym same)) in
     let pool : PoolValue = c.begin_with.new.pool in
     let news : List ChunkValue = c.in_ok-to.to.chunks.items in
     let journal : c.push_reserved.new.self ≡ record { items = w.journal.items ++ e ∷ []; room = w.journal.room - 1 } = entry_so w.journal k c.args.task p.task c.requires.task c.new.result c.push_reserved.new.self c.new.ensures c.push_reserved.ensures in
@@ -100,13 +100,13 @@ returns-clause-others c =
     let p : Private = c.args.part.now in
     let k : ℕ = c.args.worker in
     let e : EntryValue = record { worker = k; kind = Begin p.task } in
-    let same : w ≡ c.args.self.now = c.self.view_is ∙ c.roots.ensures.same in
+    let same : w ≡ c.args.self.now = c.self.view_is in
     let F : Fits w k p = subst (λ (z : SharedValue). Fits z k p) (sym same) c.requires.fits in
     let free : refused w e ≡ None = subst (λ (z : SharedValue). refused z e ≡ None) (sym same) c.requires.free in
     let n : ℕ = c.chunks_for-count.result in
     let few = counts n c.small_words.result p c.chunks_for-count.ensures.take c.small_words.ensures in
     let count : n ≡ take_by (small_words p.heap.chunks) = begin_count w k p c.self.invariant F c.requires.fresh free n few in
-    let roots : c.deref.result.now ≡ roots_of w p = c.deref.ensures.value ∙ (c.in_ok-roots.ensures.roots ∙ ap (λ (z : SharedValue). roots_of z p) (sym same)) in
+    let roots : c.deref.result.now ≡ roots_of w p = c.deref.ensures.value ∙ (c.in_ok-roots.ensures ∙ ap (λ (z : SharedValue). roots_of z p) (sym same)) in
     let pool : PoolValue = c.begin_with.new.pool in
     let news : List ChunkValue = c.in_ok-to.to.chunks.items in
     let journal : c.push_reserved.new.self ≡ record { items = w.journal.items ++ e ∷ []; room = w.journal.room - 1 } = entry_so w.journal k c.args.task p.task c.requires.task c.new.result c.push_reserved.new.self c.new.ensures c.push_reserved.ensures in
@@ -120,13 +120,13 @@ returns-clause-fits c =
     let p : Private = c.args.part.now in
     let k : ℕ = c.args.worker in
     let e : EntryValue = record { worker = k; kind = Begin p.task } in
-    let same : w ≡ c.args.self.now = c.self.view_is ∙ c.roots.ensures.same in
+    let same : w ≡ c.args.self.now = c.self.view_is in
     let F : Fits w k p = subst (λ (z : SharedValue). Fits z k p) (sym same) c.requires.fits in
     let free : refused w e ≡ None = subst (λ (z : SharedValue). refused z e ≡ None) (sym same) c.requires.free in
     let n : ℕ = c.chunks_for-count.result in
     let few = counts n c.small_words.result p c.chunks_for-count.ensures.take c.small_words.ensures in
     let count : n ≡ take_by (small_words p.heap.chunks) = begin_count w k p c.self.invariant F c.requires.fresh free n few in
-    let roots : c.deref.result.now ≡ roots_of w p = c.deref.ensures.value ∙ (c.in_ok-roots.ensures.roots ∙ ap (λ (z : SharedValue). roots_of z p) (sym same)) in
+    let roots : c.deref.result.now ≡ roots_of w p = c.deref.ensures.value ∙ (c.in_ok-roots.ensures ∙ ap (λ (z : SharedValue). roots_of z p) (sym same)) in
     let pool : PoolValue = c.begin_with.new.pool in
     let news : List ChunkValue = c.in_ok-to.to.chunks.items in
     let journal : c.push_reserved.new.self ≡ record { items = w.journal.items ++ e ∷ []; room = w.journal.room - 1 } = entry_so w.journal k c.args.task p.task c.requires.task c.new.result c.push_reserved.new.self c.new.ensures c.push_reserved.ensures in
@@ -141,13 +141,13 @@ returns-clause-begun c =
     let p : Private = c.args.part.now in
     let k : ℕ = c.args.worker in
     let e : EntryValue = record { worker = k; kind = Begin p.task } in
-    let same : w ≡ c.args.self.now = c.self.view_is ∙ c.roots.ensures.same in
+    let same : w ≡ c.args.self.now = c.self.view_is in
     let F : Fits w k p = subst (λ (z : SharedValue). Fits z k p) (sym same) c.requires.fits in
     let free : refused w e ≡ None = subst (λ (z : SharedValue). refused z e ≡ None) (sym same) c.requires.free in
     let n : ℕ = c.chunks_for-count.result in
     let few = counts n c.small_words.result p c.chunks_for-count.ensures.take c.small_words.ensures in
     let count : n ≡ take_by (small_words p.heap.chunks) = begin_count w k p c.self.invariant F c.requires.fresh free n few in
-    let roots : c.deref.result.now ≡ roots_of w p = c.deref.ensures.value ∙ (c.in_ok-roots.ensures.roots ∙ ap (λ (z : SharedValue). roots_of z p) (sym same)) in
+    let roots : c.deref.result.now ≡ roots_of w p = c.deref.ensures.value ∙ (c.in_ok-roots.ensures ∙ ap (λ (z : SharedValue). roots_of z p) (sym same)) in
     let pool : PoolValue = c.begin_with.new.pool in
     let news : List ChunkValue = c.in_ok-to.to.chunks.items in
     let q : Private = c.begin_with.new.part in

@@ -1,11 +1,13 @@
-use Rattle.std.proofs.Common.{◌≡◌, ℕ, ◌+◌, ◌-◌, ◌<◌, arith, Option, None, List, [], ◌∷◌, length, length-append, slice_set, refl, ap, sym, subst, ◌∙◌}
+use Rattle.std.proofs.Common.{◌≡◌, ℕ, ◌+◌, ◌-◌, ◌<◌, ◌++◌, Option, Some, None, List, [], ◌∷◌, length, slice_set, refl, ap, sym, subst, ◌∙◌}
 use Rattle.listed.specs.RoomyValue.{RoomyValue}
 use Rattle.run_trace.specs.Entry.{EntryValue}
 use Rattle.heap_tree.specs.Node.{Node, depth_of, forked}
 use Rattle.write_barrier.specs.declared.sets.SetOf.{SetOf}
+use Rattle.inner_mark_gc.specs.MarkingValue.{MarkingValue}
 use Rattle.fork_join.specs.declared.forks.Child.{Child}
 use Rattle.task_machine.specs.declared.part.Private.{Private}
-use Rattle.shared_value.specs.declared.task_at_rest.Rest.{Rest}
+use Rattle.task_homes.specs.declared.task_at_rest.Rest.{Rest}
+use Rattle.task_homes.specs.HomesValue.{HomesValue}
 use Rattle.shared_value.specs.Stands.{IsSharedValue}
 use Rattle.shared_value.specs.SharedValue.{SharedValue}
 use Rattle.shared_value.specs.Fits.{Fits}
@@ -13,7 +15,7 @@ use Rattle.shared_value.specs.Entered.{refused}
 use Rattle.shared_value.proofs.JournalGoesOn.{four_changed}
 use Rattle.own_steps.specs.Alone.{alone_event}
 use Rattle.own_steps.proofs.AloneEntries.{alone_small, next_small}
-use Rattle.child_tasks.specs.Forks.{ForksOn, ForksTo, HomesFork, IsAtFork, SetsFork, part_child}
+use Rattle.child_tasks.specs.Forks.{ForksOn, ForksTo, HomesFork, IsAtFork, SetsFork, begun_rest, part_child, waiting_rest}
 use Rattle.child_tasks.proofs.ForkEntries.{alone_forks, alone_world, homes_fork_by, own_home, own_set}
 use Rattle.child_tasks.proofs.NextStepForks.{few_tasks, fork_shared, on, tree_out}
 use Rattle.shared_tree.specs.contracts.shared.Shared.{the_view}
@@ -25,139 +27,174 @@ grow-grown-requires-clause-out c =
     let w : SharedValue = the_view c.self.inside in
     let p : Private = c.args.part in
     let k : ℕ = c.args.worker in
+    let I : IsSharedValue w = c.self.invariant in
     let F : Fits w k p = subst (λ (z : SharedValue). Fits z k p) (sym c.self.view_is) c.requires.fits in
     let at : IsAtFork w p = subst (λ (z : SharedValue). IsAtFork z p) (sym c.self.view_is) c.requires.forks in
     let free : refused w (alone_event k p) ≡ None = subst (λ (z : SharedValue). refused z (alone_event k p) ≡ None) (sym c.self.view_is) c.requires.free in
-    tree_out w c.self.invariant (on w k p c.self.invariant F at free) k p F
+    tree_out w I (on w k p I F at free) k p F
 
 pub grow-grown-requires-clause-few : goal.grow-grown-requires-clause-few
 grow-grown-requires-clause-few c =
     let w : SharedValue = the_view c.self.inside in
     let p : Private = c.args.part in
     let k : ℕ = c.args.worker in
+    let I : IsSharedValue w = c.self.invariant in
     let F : Fits w k p = subst (λ (z : SharedValue). Fits z k p) (sym c.self.view_is) c.requires.fits in
     let at : IsAtFork w p = subst (λ (z : SharedValue). IsAtFork z p) (sym c.self.view_is) c.requires.forks in
     let free : refused w (alone_event k p) ≡ None = subst (λ (z : SharedValue). refused z (alone_event k p) ≡ None) (sym c.self.view_is) c.requires.free in
-    few_tasks w k p c.self.invariant F at free
+    few_tasks w k p I F at free
+
+pub grow-grown-requires-clause-shallow : goal.grow-grown-requires-clause-shallow
+grow-grown-requires-clause-shallow c =
+    subst (λ (z : SharedValue). depth_of z.tree c.args.part.task < 1000) (sym c.self.view_is) c.requires.shallow
+
+pub grow-grown-requires-clause-made : goal.grow-grown-requires-clause-made
+grow-grown-requires-clause-made c =
+    let w : SharedValue = the_view c.self.inside in
+    let p : Private = c.args.part in
+    let k : ℕ = c.args.worker in
+    let I : IsSharedValue w = c.self.invariant in
+    let F : Fits w k p = subst (λ (z : SharedValue). Fits z k p) (sym c.self.view_is) c.requires.fits in
+    let at : IsAtFork w p = subst (λ (z : SharedValue). IsAtFork z p) (sym c.self.view_is) c.requires.forks in
+    let free : refused w (alone_event k p) ≡ None = subst (λ (z : SharedValue). refused z (alone_event k p) ≡ None) (sym c.self.view_is) c.requires.free in
+    let B : (n : ℕ) × ForksTo w p c.args.left c.args.right n = subst (λ (z : SharedValue). (n : ℕ) × ForksTo z p c.args.left c.args.right n) (sym c.self.view_is) c.requires.by in
+    let low : depth_of w.tree p.task < 1000 = subst (λ (z : SharedValue). depth_of z.tree p.task < 1000) (sym c.self.view_is) c.requires.shallow in
+    own_home w k p I F at free c.args.left c.args.right B.0 B.1 low
+
+pub enter_alone-requires-clause-room : goal.enter_alone-requires-clause-room
+enter_alone-requires-clause-room c =
+    subst (λ (z : SharedValue). 0 < z.journal.room) (sym c.self.view_is) c.requires.room
 
 pub enter_alone-requires-clause-small : goal.enter_alone-requires-clause-small
 enter_alone-requires-clause-small c =
     let w : SharedValue = the_view c.self.inside in
     let p : Private = c.args.part in
     let k : ℕ = c.args.worker in
+    let I : IsSharedValue w = c.self.invariant in
     let F : Fits w k p = subst (λ (z : SharedValue). Fits z k p) (sym c.self.view_is) c.requires.fits in
     let at : IsAtFork w p = subst (λ (z : SharedValue). IsAtFork z p) (sym c.self.view_is) c.requires.forks in
     let free : refused w (alone_event k p) ≡ None = subst (λ (z : SharedValue). refused z (alone_event k p) ≡ None) (sym c.self.view_is) c.requires.free in
-    alone_small w k p c.self.invariant F (fork_shared w p at) free
+    alone_small w k p I F (fork_shared w p at) free
 
-pub fork_sets-requires-clause-made : goal.fork_sets-requires-clause-made
-fork_sets-requires-clause-made c =
+pub fork_homes-requires-clause-made : goal.fork_homes-requires-clause-made
+fork_homes-requires-clause-made c =
     let w : SharedValue = the_view c.self.inside in
     let p : Private = c.args.part in
     let k : ℕ = c.args.worker in
+    let I : IsSharedValue w = c.self.invariant in
     let F : Fits w k p = subst (λ (z : SharedValue). Fits z k p) (sym c.self.view_is) c.requires.fits in
     let at : IsAtFork w p = subst (λ (z : SharedValue). IsAtFork z p) (sym c.self.view_is) c.requires.forks in
     let free : refused w (alone_event k p) ≡ None = subst (λ (z : SharedValue). refused z (alone_event k p) ≡ None) (sym c.self.view_is) c.requires.free in
     let B : (n : ℕ) × ForksTo w p c.args.left c.args.right n = subst (λ (z : SharedValue). (n : ℕ) × ForksTo z p c.args.left c.args.right n) (sym c.self.view_is) c.requires.by in
     let low : depth_of w.tree p.task < 1000 = subst (λ (z : SharedValue). depth_of z.tree p.task < 1000) (sym c.self.view_is) c.requires.shallow in
-    let I : IsSharedValue w = c.self.invariant in
-    subst (λ (xs : List SetOf). p.task < length xs) (sym c.in-Ok-grown.ensures.sets) (own_set w k p I F at free c.args.left c.args.right B.0 B.1 low)
+    subst (λ (z : HomesValue). p.task < length z.rests) (sym c.in-Ok-grown.ensures.homes) (own_home w k p I F at free c.args.left c.args.right B.0 B.1 low)
 
-pub put_homes-requires-clause-made : goal.put_homes-requires-clause-made
-put_homes-requires-clause-made c =
+pub fork_homes-requires-clause-noted : goal.fork_homes-requires-clause-noted
+fork_homes-requires-clause-noted c =
     let w : SharedValue = the_view c.self.inside in
     let p : Private = c.args.part in
     let k : ℕ = c.args.worker in
+    let I : IsSharedValue w = c.self.invariant in
     let F : Fits w k p = subst (λ (z : SharedValue). Fits z k p) (sym c.self.view_is) c.requires.fits in
     let at : IsAtFork w p = subst (λ (z : SharedValue). IsAtFork z p) (sym c.self.view_is) c.requires.forks in
     let free : refused w (alone_event k p) ≡ None = subst (λ (z : SharedValue). refused z (alone_event k p) ≡ None) (sym c.self.view_is) c.requires.free in
     let B : (n : ℕ) × ForksTo w p c.args.left c.args.right n = subst (λ (z : SharedValue). (n : ℕ) × ForksTo z p c.args.left c.args.right n) (sym c.self.view_is) c.requires.by in
     let low : depth_of w.tree p.task < 1000 = subst (λ (z : SharedValue). depth_of z.tree p.task < 1000) (sym c.self.view_is) c.requires.shallow in
-    let I : IsSharedValue w = c.self.invariant in
-    let made : p.task < length w.homes = own_home w k p I F at free c.args.left c.args.right B.0 B.1 low in
-    subst (λ xs. p.task < length xs) (sym c.in-Ok-grown.ensures.homes) (let e = length-append w.homes (None ∷ (None ∷ [])) in omega (arith, made, e))
+    subst (λ (z : HomesValue). p.task < length z.sets) (sym c.in-Ok-grown.ensures.homes) (own_set w k p I F at free c.args.left c.args.right B.0 B.1 low)
 
-pub put_homes-requires-clause-next : goal.put_homes-requires-clause-next
-put_homes-requires-clause-next c =
+pub fork_homes-requires-clause-block : goal.fork_homes-requires-clause-block
+fork_homes-requires-clause-block c =
+    c.in-Ok-grown.ensures.block
+
+pub fork_homes-requires-clause-room : goal.fork_homes-requires-clause-room
+fork_homes-requires-clause-room c =
+    c.in-Ok-grown.ensures.room
+
+pub fork_homes-requires-clause-next : goal.fork_homes-requires-clause-next
+fork_homes-requires-clause-next c =
     let w : SharedValue = the_view c.self.inside in
     let p : Private = c.args.part in
     let k : ℕ = c.args.worker in
+    let I : IsSharedValue w = c.self.invariant in
     let F : Fits w k p = subst (λ (z : SharedValue). Fits z k p) (sym c.self.view_is) c.requires.fits in
     let at : IsAtFork w p = subst (λ (z : SharedValue). IsAtFork z p) (sym c.self.view_is) c.requires.forks in
     let free : refused w (alone_event k p) ≡ None = subst (λ (z : SharedValue). refused z (alone_event k p) ≡ None) (sym c.self.view_is) c.requires.free in
-    next_small w k p c.self.invariant F (fork_shared w p at) free
+    next_small w k p I F (fork_shared w p at) free
 
 pub invariant_of-self-2 : goal.invariant_of-self-2
 invariant_of-self-2 c =
     let w : SharedValue = the_view c.self.inside in
     let p : Private = c.args.part in
     let k : ℕ = c.args.worker in
+    let I : IsSharedValue w = c.self.invariant in
     let F : Fits w k p = subst (λ (z : SharedValue). Fits z k p) (sym c.self.view_is) c.requires.fits in
     let at : IsAtFork w p = subst (λ (z : SharedValue). IsAtFork z p) (sym c.self.view_is) c.requires.forks in
     let free : refused w (alone_event k p) ≡ None = subst (λ (z : SharedValue). refused z (alone_event k p) ≡ None) (sym c.self.view_is) c.requires.free in
     let B : (n : ℕ) × ForksTo w p c.args.left c.args.right n = subst (λ (z : SharedValue). (n : ℕ) × ForksTo z p c.args.left c.args.right n) (sym c.self.view_is) c.requires.by in
     let low : depth_of w.tree p.task < 1000 = subst (λ (z : SharedValue). depth_of z.tree p.task < 1000) (sym c.self.view_is) c.requires.shallow in
-    let I : IsSharedValue w = c.self.invariant in
+    let g : HomesValue = c.grow-grown.new.homes in
+    let n : HomesValue = c.fork_homes.new.homes in
+    let grown : g ≡ record c.self.inside.heaps.homes { blocks = g.blocks; room = g.room } = c.in-Ok-grown.ensures.homes in
     let made : p.task < length w.homes = own_home w k p I F at free c.args.left c.args.right B.0 B.1 low in
     let first : c.in-Ok-grown.first ≡ part_child p (length w.homes) c.args.left c.in-Ok-grown.first.heap.slots c.in-Ok-grown.first.heap.spare = c.in-Ok-grown.ensures.left_child ∙ ap (λ n. part_child p n c.args.left c.in-Ok-grown.first.heap.slots c.in-Ok-grown.first.heap.spare) (sym I.made) in
     let second : c.in-Ok-grown.second ≡ part_child p (length w.homes + 1) c.args.right c.in-Ok-grown.second.heap.slots c.in-Ok-grown.second.heap.spare = c.in-Ok-grown.ensures.right_child ∙ ap (λ n. part_child p (n + 1) c.args.right c.in-Ok-grown.second.heap.slots c.in-Ok-grown.second.heap.spare) (sym I.made) in
-    let H : HomesFork w.homes c.put_homes.new.homes p c.args.left c.args.right = homes_fork_by w.homes c.grow-grown.new.homes c.put_homes.new.homes p c.args.left c.args.right c.in-Ok-grown.first c.in-Ok-grown.second made c.in-Ok-grown.ensures.homes first second c.put_homes.ensures in
-    let N : SetsFork w.sets c.fork_sets.new.sets.items p.task = subst (λ (xs : List SetOf). SetsFork xs c.fork_sets.new.sets.items p.task) c.in-Ok-grown.ensures.sets c.fork_sets.ensures in
+    let rests : n.rests ≡ slice_set w.homes p.task (Some (waiting_rest p)) ++ Some (begun_rest c.in-Ok-grown.first) ∷ (Some (begun_rest c.in-Ok-grown.second) ∷ []) =
+    c.fork_homes.ensures.rests ∙ ap (λ (z : HomesValue). slice_set z.rests p.task (Some (waiting_rest p)) ++ Some (begun_rest c.in-Ok-grown.first) ∷ (Some (begun_rest c.in-Ok-grown.second) ∷ [])) grown in
+    let marks : n.marks ≡ slice_set w.marks p.task None ++ None ∷ (None ∷ []) = c.fork_homes.ensures.marks ∙ ap (λ (z : HomesValue). slice_set z.marks p.task None ++ None ∷ (None ∷ [])) grown in
+    let H : HomesFork w.homes n.rests p c.args.left c.args.right = homes_fork_by w.homes n.rests p c.args.left c.args.right c.in-Ok-grown.first c.in-Ok-grown.second made first second rests in
+    let N : SetsFork w.sets n.sets p.task = subst (λ (z : HomesValue). SetsFork z.sets n.sets p.task) grown c.fork_homes.ensures.sets in
     let j : RoomyValue EntryValue = record { items = []; room = w.journal.room - 1 } in
-    let v : SharedValue = record w { steps = w.steps + (p.fresh + 1); sets = c.fork_sets.new.sets.items; marks = c.clear_marks.new.marks } in
-    along w k p _ _ c.enter_alone.ensures.steps c.enter_alone.ensures.journal (λ n j. IsSharedValue (record v { steps = n; tree = c.grow-grown.new.tree; homes = c.put_homes.new.homes; tasks_out = c.set.new.self; journal = j }))
-    (subst IsSharedValue (sym (four_changed v (forked w.tree p.task) _ c.put_homes.new.homes c.put_homes.new.homes (slice_set w.tasks_out k None) _ (entered w k p) _
-    c.in-Ok-grown.ensures.tree refl c.set.ensures refl))
-    (alone_world w k p I F at free c.args.left c.args.right B.0 B.1 low c.put_homes.new.homes c.fork_sets.new.sets.items H N c.clear_marks.new.marks c.clear_marks.ensures j))
+    let v : SharedValue = record w { steps = w.steps + (p.fresh + 1); sets = n.sets; marks = n.marks } in
+    along w k p _ _ c.enter_alone.ensures.steps c.enter_alone.ensures.journal (λ m j. IsSharedValue (record v { steps = m; tree = c.grow-grown.new.tree; homes = n.rests; tasks_out = c.set.new.self; journal = j }))
+    (subst IsSharedValue (sym (four_changed v (forked w.tree p.task) _ n.rests n.rests (slice_set w.tasks_out k None) _ (entered w k p) _ c.in-Ok-grown.ensures.tree refl c.set.ensures refl))
+    (alone_world w k p I F at free c.args.left c.args.right B.0 B.1 low n.rests n.sets H N n.marks marks j))
 
 pub returns-clause-answered : goal.returns-clause-answered
 returns-clause-answered c =
     let w : SharedValue = the_view c.self.inside in
     let p : Private = c.args.part in
     let k : ℕ = c.args.worker in
+    let I : IsSharedValue w = c.self.invariant in
     let F : Fits w k p = subst (λ (z : SharedValue). Fits z k p) (sym c.self.view_is) c.requires.fits in
     let at : IsAtFork w p = subst (λ (z : SharedValue). IsAtFork z p) (sym c.self.view_is) c.requires.forks in
     let free : refused w (alone_event k p) ≡ None = subst (λ (z : SharedValue). refused z (alone_event k p) ≡ None) (sym c.self.view_is) c.requires.free in
     let B : (n : ℕ) × ForksTo w p c.args.left c.args.right n = subst (λ (z : SharedValue). (n : ℕ) × ForksTo z p c.args.left c.args.right n) (sym c.self.view_is) c.requires.by in
     let low : depth_of w.tree p.task < 1000 = subst (λ (z : SharedValue). depth_of z.tree p.task < 1000) (sym c.self.view_is) c.requires.shallow in
-    let I : IsSharedValue w = c.self.invariant in
+    let g : HomesValue = c.grow-grown.new.homes in
+    let n : HomesValue = c.fork_homes.new.homes in
+    let grown : g ≡ record c.self.inside.heaps.homes { blocks = g.blocks; room = g.room } = c.in-Ok-grown.ensures.homes in
     let made : p.task < length w.homes = own_home w k p I F at free c.args.left c.args.right B.0 B.1 low in
     let first : c.in-Ok-grown.first ≡ part_child p (length w.homes) c.args.left c.in-Ok-grown.first.heap.slots c.in-Ok-grown.first.heap.spare = c.in-Ok-grown.ensures.left_child ∙ ap (λ n. part_child p n c.args.left c.in-Ok-grown.first.heap.slots c.in-Ok-grown.first.heap.spare) (sym I.made) in
     let second : c.in-Ok-grown.second ≡ part_child p (length w.homes + 1) c.args.right c.in-Ok-grown.second.heap.slots c.in-Ok-grown.second.heap.spare = c.in-Ok-grown.ensures.right_child ∙ ap (λ n. part_child p (n + 1) c.args.right c.in-Ok-grown.second.heap.slots c.in-Ok-grown.second.heap.spare) (sym I.made) in
-    let H : HomesFork w.homes c.put_homes.new.homes p c.args.left c.args.right = homes_fork_by w.homes c.grow-grown.new.homes c.put_homes.new.homes p c.args.left c.args.right c.in-Ok-grown.first c.in-Ok-grown.second made c.in-Ok-grown.ensures.homes first second c.put_homes.ensures in
-    let N : SetsFork w.sets c.fork_sets.new.sets.items p.task = subst (λ (xs : List SetOf). SetsFork xs c.fork_sets.new.sets.items p.task) c.in-Ok-grown.ensures.sets c.fork_sets.ensures in
+    let rests : n.rests ≡ slice_set w.homes p.task (Some (waiting_rest p)) ++ Some (begun_rest c.in-Ok-grown.first) ∷ (Some (begun_rest c.in-Ok-grown.second) ∷ []) =
+    c.fork_homes.ensures.rests ∙ ap (λ (z : HomesValue). slice_set z.rests p.task (Some (waiting_rest p)) ++ Some (begun_rest c.in-Ok-grown.first) ∷ (Some (begun_rest c.in-Ok-grown.second) ∷ [])) grown in
+    let marks : n.marks ≡ slice_set w.marks p.task None ++ None ∷ (None ∷ []) = c.fork_homes.ensures.marks ∙ ap (λ (z : HomesValue). slice_set z.marks p.task None ++ None ∷ (None ∷ [])) grown in
+    let H : HomesFork w.homes n.rests p c.args.left c.args.right = homes_fork_by w.homes n.rests p c.args.left c.args.right c.in-Ok-grown.first c.in-Ok-grown.second made first second rests in
+    let N : SetsFork w.sets n.sets p.task = subst (λ (z : HomesValue). SetsFork z.sets n.sets p.task) grown c.fork_homes.ensures.sets in
     let j : RoomyValue EntryValue = record { items = []; room = w.journal.room - 1 } in
-    let v : SharedValue = record w { steps = w.steps + (p.fresh + 1); sets = c.fork_sets.new.sets.items; marks = c.clear_marks.new.marks } in
-    subst (λ (z : SharedValue). ForksOn z (record v { steps = c.enter_alone.new.steps; tree = c.grow-grown.new.tree; homes = c.put_homes.new.homes; tasks_out = c.set.new.self; journal = c.enter_alone.new.journal }) k p c.in-Ok-grown.first.task c.in-Ok-grown.second.task) c.self.view_is
-    (along w k p _ _ c.enter_alone.ensures.steps c.enter_alone.ensures.journal (λ n j. ForksOn w (record v { steps = n; tree = c.grow-grown.new.tree; homes = c.put_homes.new.homes; tasks_out = c.set.new.self; journal = j }) k p c.in-Ok-grown.first.task c.in-Ok-grown.second.task)
-    (subst (λ (z : SharedValue). ForksOn w z k p c.in-Ok-grown.first.task c.in-Ok-grown.second.task) (sym (four_changed v (forked w.tree p.task) _ c.put_homes.new.homes c.put_homes.new.homes (slice_set w.tasks_out k None) _ (entered w k p) _
-    c.in-Ok-grown.ensures.tree refl c.set.ensures refl))
-    (alone_forks w k p I F at free c.args.left c.args.right B.0 B.1 low c.put_homes.new.homes c.fork_sets.new.sets.items H N c.clear_marks.new.marks c.clear_marks.ensures j c.in-Ok-grown.first.task c.in-Ok-grown.second.task
+    let v : SharedValue = record w { steps = w.steps + (p.fresh + 1); sets = n.sets; marks = n.marks } in
+    subst (λ (z : SharedValue). ForksOn z (record v { steps = c.enter_alone.new.steps; tree = c.grow-grown.new.tree; homes = n.rests; tasks_out = c.set.new.self; journal = c.enter_alone.new.journal }) k p c.in-Ok-grown.first.task c.in-Ok-grown.second.task) c.self.view_is
+    (along w k p _ _ c.enter_alone.ensures.steps c.enter_alone.ensures.journal (λ m j. ForksOn w (record v { steps = m; tree = c.grow-grown.new.tree; homes = n.rests; tasks_out = c.set.new.self; journal = j }) k p c.in-Ok-grown.first.task c.in-Ok-grown.second.task)
+    (subst (λ (z : SharedValue). ForksOn w z k p c.in-Ok-grown.first.task c.in-Ok-grown.second.task) (sym (four_changed v (forked w.tree p.task) _ n.rests n.rests (slice_set w.tasks_out k None) _ (entered w k p) _ c.in-Ok-grown.ensures.tree refl c.set.ensures refl))
+    (alone_forks w k p I F at free c.args.left c.args.right B.0 B.1 low n.rests n.sets H N n.marks marks j c.in-Ok-grown.first.task c.in-Ok-grown.second.task
     (ap (λ (z : Child). z.task) c.in-Ok-grown.ensures.left_child) (ap (λ (z : Child). z.task) c.in-Ok-grown.ensures.right_child))))
 
 -- the same value, by what a call left that failed
-unchanged_by : (w : SharedValue) (n : List Node) (hs : List (Option Rest)) (ss : List SetOf) → n ≡ w.tree → hs ≡ w.homes → ss ≡ w.sets → record w { tree = n; homes = hs; sets = ss } ≡ w
-unchanged_by w n hs ss en eh es =
-    ap (λ (x : List Node). record w { tree = x; homes = hs; sets = ss }) en
-    ∙ (ap (λ (x : List (Option Rest)). record w { homes = x; sets = ss }) eh ∙ ap (λ (x : List SetOf). record w { sets = x }) es)
+unchanged_by : (w : SharedValue) (n : List Node) (h g : HomesValue) → h.rests ≡ w.homes → h.sets ≡ w.sets → h.marks ≡ w.marks → n ≡ w.tree → g ≡ record h { blocks = g.blocks; room = g.room } → record w { tree = n; homes = g.rests; sets = g.sets; marks = g.marks } ≡ w
+unchanged_by w n h g er es em en eg =
+    ap (λ (x : List Node). record w { tree = x; homes = g.rests; sets = g.sets; marks = g.marks }) en
+    ∙ (ap (λ (x : List (Option Rest)). record w { homes = x; sets = g.sets; marks = g.marks }) (ap (λ (z : HomesValue). z.rests) eg ∙ er)
+    ∙ (ap (λ (x : List SetOf). record w { sets = x; marks = g.marks }) (ap (λ (z : HomesValue). z.sets) eg ∙ es)
+    ∙ ap (λ (x : List (Option MarkingValue)). record w { marks = x }) (ap (λ (z : HomesValue). z.marks) eg ∙ em)))
 
 pub invariant_of-self : goal.invariant_of-self
 invariant_of-self c =
-    let e = unchanged_by (the_view c.self.inside) c.grow-grown.new.tree c.grow-grown.new.homes c.grow-grown.new.sets.items c.in_default-grown.ensures.same_tree c.in_default-grown.ensures.same_homes c.in_default-grown.ensures.sets in
+    let e = unchanged_by (the_view c.self.inside) c.grow-grown.new.tree c.self.inside.heaps.homes c.grow-grown.new.homes refl refl refl c.in_default-grown.ensures.same_tree c.in_default-grown.ensures.homes in
     subst IsSharedValue (sym e) c.self.invariant
 
 pub returns-in_default-grown-clause-same : goal.returns-in_default-grown-clause-same
 returns-in_default-grown-clause-same c =
-    unchanged_by (the_view c.self.inside) c.grow-grown.new.tree c.grow-grown.new.homes c.grow-grown.new.sets.items c.in_default-grown.ensures.same_tree c.in_default-grown.ensures.same_homes c.in_default-grown.ensures.sets ∙ c.self.view_is
+    unchanged_by (the_view c.self.inside) c.grow-grown.new.tree c.self.inside.heaps.homes c.grow-grown.new.homes refl refl refl c.in_default-grown.ensures.same_tree c.in_default-grown.ensures.homes ∙ c.self.view_is
 
 pub returns-clause-task_out : goal.returns-clause-task_out
 returns-clause-task_out c = c.set.ensures ∙ ap (λ (z : SharedValue). slice_set z.tasks_out c.args.worker None) c.self.view_is
-
-pub grow-grown-requires-clause-shallow : goal.grow-grown-requires-clause-shallow
-grow-grown-requires-clause-shallow c = subst (λ (z : SharedValue). depth_of z.tree c.args.part.task < 1000) (sym c.self.view_is) c.requires.shallow
-
-pub enter_alone-requires-clause-room : goal.enter_alone-requires-clause-room
-enter_alone-requires-clause-room c = subst (λ (z : SharedValue). 0 < z.journal.room) (sym c.self.view_is) c.requires.room
-
-pub fork_sets-requires-clause-room : goal.fork_sets-requires-clause-room
-fork_sets-requires-clause-room c = c.in-Ok-grown.ensures.room

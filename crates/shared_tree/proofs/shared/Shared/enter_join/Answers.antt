@@ -1,4 +1,4 @@
-use Rattle.std.proofs.Common.{◌≡◌, ℕ, ◌+◌, ◌-◌, arith, Option, Some, None, List, [], length, length-set, slice_set, refl, ap, sym, subst, ◌∙◌}
+use Rattle.std.proofs.Common.{◌≡◌, ◌<◌, ℕ, ◌+◌, ◌-◌, arith, Option, Some, None, List, [], length, length-set, slice_get, slice_set, refl, ap, sym, subst, ◌∙◌}
 use Rattle.std.specs.Prelude.{IfNone, IsSome}
 use Rattle.listed.specs.RoomyValue.{RoomyValue}
 use Rattle.run_trace.specs.Entry.{EntryValue}
@@ -11,7 +11,9 @@ use Rattle.write_barrier.specs.declared.sets.SetOf.{SetOf}
 use Rattle.fork_join.specs.declared.sides.EndedChild.{EndedChild}
 use Rattle.fork_join.specs.Joined.{joined_nodes}
 use Rattle.task_machine.specs.declared.part.Private.{Private}
-use Rattle.shared_value.specs.declared.task_at_rest.Rest.{Rest}
+use Rattle.task_homes.specs.declared.homes.Home.{Home}
+use Rattle.task_homes.specs.declared.task_at_rest.Rest.{Rest}
+use Rattle.task_homes.specs.HomesValue.{HomesValue}
 use Rattle.shared_value.specs.SharedValue.{SharedValue, rest_at}
 use Rattle.shared_value.specs.Stands.{IsSharedValue}
 use Rattle.shared_value.specs.Fits.{Fits}
@@ -22,9 +24,9 @@ use Rattle.own_steps.proofs.AloneEntries.{alone_small}
 use Rattle.child_tasks.specs.ChildEnds.{EndsChild, IsAtEnd}
 use Rattle.child_tasks.specs.Joins.{CanJoin, HasPlaces, parent_side}
 use Rattle.child_tasks.proofs.ChildReturns.{end_shared, few_tasks, own_made, parent_low}
-use Rattle.child_tasks.proofs.JoinTree.{HasCalls}
 use Rattle.child_tasks.proofs.JoinEntries as entry
-use Rattle.child_tasks.proofs.JoinEntries.{other_made, other_set, own_set, parent_is, parent_made, parent_set}
+use Rattle.child_tasks.proofs.JoinEntries.{other_made}
+use Rattle.child_tasks.proofs.JoinTakes.{left_by}
 use Rattle.child_tasks.proofs.JoinValue.{Put, Taken, both_made, can_join}
 use Rattle.shared_tree.specs.contracts.shared.Shared.{the_view}
 use Rattle.shared_tree.proofs.StepsEntered.{along, entered}
@@ -77,8 +79,8 @@ set_state-requires c =
     let free : refused w (alone_event k p) ≡ None = subst (λ (z : SharedValue). refused z (alone_event k p) ≡ None) (sym c.self.view_is) c.requires.free in
     own_made w k p I F at free
 
-pub take_remembered-own_noted-requires : goal.take_remembered-own_noted-requires
-take_remembered-own_noted-requires c =
+pub leave-requires : goal.leave-requires
+leave-requires c =
     let w : SharedValue = the_view c.self.inside in
     let p : Private = c.args.part in
     let k : ℕ = c.args.worker in
@@ -86,56 +88,10 @@ take_remembered-own_noted-requires c =
     let F : Fits w k p = subst (λ (z : SharedValue). Fits z k p) (sym c.self.view_is) c.requires.fits in
     let at : IsAtEnd w p = subst (λ (z : SharedValue). IsAtEnd z p) (sym c.self.view_is) c.requires.ends in
     let free : refused w (alone_event k p) ≡ None = subst (λ (z : SharedValue). refused z (alone_event k p) ≡ None) (sym c.self.view_is) c.requires.free in
-    let ended : state_of w.tree (sibling p.task) ≡ Some Ended = subst (λ (z : SharedValue). state_of z.tree (sibling p.task) ≡ Some Ended) (sym c.self.view_is) c.requires.ended in
-    record { made = own_set w k p I F at free ended }
+    record { made = subst (λ n. p.task < n) (sym I.made) (own_made w k p I F at free) }
 
-pub take_remembered-other_noted-requires : goal.take_remembered-other_noted-requires
-take_remembered-other_noted-requires c =
-    let w : SharedValue = the_view c.self.inside in
-    let p : Private = c.args.part in
-    let k : ℕ = c.args.worker in
-    let I : IsSharedValue w = c.self.invariant in
-    let F : Fits w k p = subst (λ (z : SharedValue). Fits z k p) (sym c.self.view_is) c.requires.fits in
-    let at : IsAtEnd w p = subst (λ (z : SharedValue). IsAtEnd z p) (sym c.self.view_is) c.requires.ends in
-    let free : refused w (alone_event k p) ≡ None = subst (λ (z : SharedValue). refused z (alone_event k p) ≡ None) (sym c.self.view_is) c.requires.free in
-    let ended : state_of w.tree (sibling p.task) ≡ Some Ended = subst (λ (z : SharedValue). state_of z.tree (sibling p.task) ≡ Some Ended) (sym c.self.view_is) c.requires.ended in
-    let made = other_set w k p I F at free ended in
-    let o = c.sibling_of-other.ensures in
-    let n = c.take_remembered-own_noted.ensures.many in
-    record { made = omega (arith, made, o, n) }
-
-pub take_set-noted-requires : goal.take_set-noted-requires
-take_set-noted-requires c =
-    let w : SharedValue = the_view c.self.inside in
-    let p : Private = c.args.part in
-    let k : ℕ = c.args.worker in
-    let I : IsSharedValue w = c.self.invariant in
-    let F : Fits w k p = subst (λ (z : SharedValue). Fits z k p) (sym c.self.view_is) c.requires.fits in
-    let at : IsAtEnd w p = subst (λ (z : SharedValue). IsAtEnd z p) (sym c.self.view_is) c.requires.ends in
-    let free : refused w (alone_event k p) ≡ None = subst (λ (z : SharedValue). refused z (alone_event k p) ≡ None) (sym c.self.view_is) c.requires.free in
-    let ended : state_of w.tree (sibling p.task) ≡ Some Ended = subst (λ (z : SharedValue). state_of z.tree (sibling p.task) ≡ Some Ended) (sym c.self.view_is) c.requires.ended in
-    let par : parent_of w.tree p.task ≡ Some c.args.parent = subst (λ (z : SharedValue). parent_of z.tree p.task ≡ Some c.args.parent) (sym c.self.view_is) c.requires.parent in
-    let e = parent_is w k p I F at free ended c.args.parent par in
-    let made = parent_set w k p I F at free ended in
-    let n = c.take_remembered-own_noted.ensures.many in
-    let m = c.take_remembered-other_noted.ensures.many in
-    record { made = omega (arith, made, e, n, m) }
-
-pub leave_own-own-requires : goal.leave_own-own-requires
-leave_own-own-requires c =
-    let w : SharedValue = the_view c.self.inside in
-    let p : Private = c.args.part in
-    let k : ℕ = c.args.worker in
-    let I : IsSharedValue w = c.self.invariant in
-    let F : Fits w k p = subst (λ (z : SharedValue). Fits z k p) (sym c.self.view_is) c.requires.fits in
-    let at : IsAtEnd w p = subst (λ (z : SharedValue). IsAtEnd z p) (sym c.self.view_is) c.requires.ends in
-    let free : refused w (alone_event k p) ≡ None = subst (λ (z : SharedValue). refused z (alone_event k p) ≡ None) (sym c.self.view_is) c.requires.free in
-    let made = own_made w k p I F at free in
-    let n = I.made in
-    record { made = omega (arith, made, n) }
-
-pub leave_other-beside-requires : goal.leave_other-beside-requires
-leave_other-beside-requires c =
+pub leave-requires-2 : goal.leave-requires-2
+leave-requires-2 c =
     let w : SharedValue = the_view c.self.inside in
     let p : Private = c.args.part in
     let k : ℕ = c.args.worker in
@@ -147,11 +103,11 @@ leave_other-beside-requires c =
     let made = other_made w k p I F at free ended in
     let o = c.sibling_of-other.ensures in
     let n = I.made in
-    let m = c.leave_own-own.ensures.many in
+    let m : length c.leave.new.self.rests ≡ length w.homes = ap (λ (z : HomesValue). length z.rests) c.leave.ensures.homes ∙ length-set w.homes p.task None in
     record { made = omega (arith, made, o, n, m) }
 
-pub take_block-above-requires-clause-made : goal.take_block-above-requires-clause-made
-take_block-above-requires-clause-made c =
+pub take_rest-above-requires : goal.take_rest-above-requires
+take_rest-above-requires c =
     let w : SharedValue = the_view c.self.inside in
     let p : Private = c.args.part in
     let k : ℕ = c.args.worker in
@@ -161,34 +117,12 @@ take_block-above-requires-clause-made c =
     let free : refused w (alone_event k p) ≡ None = subst (λ (z : SharedValue). refused z (alone_event k p) ≡ None) (sym c.self.view_is) c.requires.free in
     let ended : state_of w.tree (sibling p.task) ≡ Some Ended = subst (λ (z : SharedValue). state_of z.tree (sibling p.task) ≡ Some Ended) (sym c.self.view_is) c.requires.ended in
     let par : parent_of w.tree p.task ≡ Some c.args.parent = subst (λ (z : SharedValue). parent_of z.tree p.task ≡ Some c.args.parent) (sym c.self.view_is) c.requires.parent in
-    let e = parent_is w k p I F at free ended c.args.parent par in
-    let made = parent_made w k p I F at free ended in
-    let n = I.made in
-    let m = c.leave_own-own.ensures.many in
-    let i = c.leave_other-beside.ensures.many in
-    omega (arith, made, e, n, m, i)
+    let h : HomesValue = c.self.inside.heaps.homes in
+    let two : c.leave-2.new.self ≡ left_by (left_by h p.task) c.sibling_of-other.result = c.leave-2.ensures.homes ∙ ap (λ (z : HomesValue). left_by z c.sibling_of-other.result) c.leave.ensures.homes in
+    record { there = subst (λ (z : HomesValue). IsSome (rest_at z.rests c.args.parent)) (sym two) (entry.parent_stays w k p I F at free ended c.args.parent c.sibling_of-other.result par c.sibling_of-other.ensures) }
 
--- a task with frames has a home
-some_calls : (o : Option Rest) → HasCalls o → IsSome o
-some_calls None h = absurd h
-some_calls (Some r) h = refl
-
-pub take_block-above-requires-clause-there : goal.take_block-above-requires-clause-there
-take_block-above-requires-clause-there c =
-    let w : SharedValue = the_view c.self.inside in
-    let p : Private = c.args.part in
-    let k : ℕ = c.args.worker in
-    let I : IsSharedValue w = c.self.invariant in
-    let F : Fits w k p = subst (λ (z : SharedValue). Fits z k p) (sym c.self.view_is) c.requires.fits in
-    let at : IsAtEnd w p = subst (λ (z : SharedValue). IsAtEnd z p) (sym c.self.view_is) c.requires.ends in
-    let free : refused w (alone_event k p) ≡ None = subst (λ (z : SharedValue). refused z (alone_event k p) ≡ None) (sym c.self.view_is) c.requires.free in
-    let ended : state_of w.tree (sibling p.task) ≡ Some Ended = subst (λ (z : SharedValue). state_of z.tree (sibling p.task) ≡ Some Ended) (sym c.self.view_is) c.requires.ended in
-    let par : parent_of w.tree p.task ≡ Some c.args.parent = subst (λ (z : SharedValue). parent_of z.tree p.task ≡ Some c.args.parent) (sym c.self.view_is) c.requires.parent in
-    let q : ℕ = entry.q w k p I F at free ended in
-    let same : rest_at c.leave_other-beside.new.homes q ≡ rest_at w.homes q =
-    c.leave_other-beside.ensures.others q (λ f. entry.parent_other w k p I F at free ended (f ∙ c.sibling_of-other.ensures)) ∙ c.leave_own-own.ensures.others q (entry.parent_apart w k p I F at free ended) in
-    subst (λ u. IsSome (rest_at c.leave_other-beside.new.homes u)) (parent_is w k p I F at free ended c.args.parent par)
-    (subst IsSome (sym same) (some_calls (rest_at w.homes q) (entry.calls w k p I F at free ended)))
+pub take_set-requires : goal.take_set-requires
+take_set-requires c = record { block = c.take_rest-above.ensures.block }
 
 pub join_children-rest-requires-clause-work : goal.join_children-rest-requires-clause-work
 join_children-rest-requires-clause-work c =
@@ -203,42 +137,42 @@ join_children-rest-requires-clause-work c =
     let par : parent_of w.tree p.task ≡ Some c.args.parent = subst (λ (z : SharedValue). parent_of z.tree p.task ≡ Some c.args.parent) (sym c.self.view_is) c.requires.parent in
     let places : HasPlaces w p c.args.parent = subst (λ (z : SharedValue). HasPlaces z p c.args.parent) (sym c.self.view_is) c.requires.places in
     let o : c.sibling_of-other.result ≡ sibling p.task = c.sibling_of-other.ensures in
-    let x1 : List SetOf = c.take_remembered-own_noted.new.sets.items in
-    let x2 : List SetOf = c.take_remembered-other_noted.new.sets.items in
-    let x3 : List SetOf = c.take_set-noted.new.sets.items in
-    let h1 : List (Option Rest) = c.leave_own-own.new.homes in
-    let h2 : List (Option Rest) = c.leave_other-beside.new.homes in
-    let n1 : RememberedValue = c.take_remembered-own_noted.result in
-    let n2 : RememberedValue = c.take_remembered-other_noted.result in
-    let n3 : RememberedValue = c.take_set-noted.result.0 in
-    let above : Rest = c.take_block-above.result in
+    let h : HomesValue = c.self.inside.heaps.homes in
+    let h1 : HomesValue = c.leave.new.self in
+    let h2 : HomesValue = c.leave-2.new.self in
+    let h3 : HomesValue = c.take_rest-above.new.self in
+    let h4 : HomesValue = c.take_set.new.self in
+    let home : Home = c.leave.result in
+    let beside : Home = c.leave-2.result in
+    let above : Rest = c.take_rest-above.result in
+    let set : SetOf = c.take_set.result in
+    let notes : RememberedValue = c.into_parts-noted.result.0 in
+    let own : EndedChild = c.own_child-own.result in
+    let oth : EndedChild = c.other_child-beside.result in
     let left : EndedChild = c.in_order-children.result.0 in
     let right : EndedChild = c.in_order-children.result.1 in
-    let T : Taken w p c.args.parent c.sibling_of-other.result n1 n2 n3 x1 x2 x3 h1 h2 above c.leave_own-own.result c.leave_other-beside.result left right = record {
-      other_is = o;
-      n1 = c.take_remembered-own_noted.ensures.many;
-      n2 = c.take_remembered-other_noted.ensures.many;
-      n3 = c.take_set-noted.ensures.many;
-      own_set = c.take_remembered-own_noted.ensures.whole;
-      other_set = c.take_remembered-other_noted.ensures.whole;
-      parent_set = c.take_set-noted.ensures.whole;
-      e1 = c.take_remembered-own_noted.ensures.empty;
-      e2 = c.take_remembered-other_noted.ensures.empty;
-      o1 = c.take_remembered-own_noted.ensures.others;
-      o2 = c.take_remembered-other_noted.ensures.others;
-      o3 = c.take_set-noted.ensures.others;
-      own_is = c.leave_own-own.ensures.child;
-      m1 = c.leave_own-own.ensures.many;
-      own_home = c.leave_own-own.ensures.own;
-      i1 = c.leave_own-own.ensures.others;
-      m2 = c.leave_other-beside.ensures.many;
-      other_home = c.leave_other-beside.ensures.child;
-      i2 = c.leave_other-beside.ensures.others;
-      above_is = c.take_block-above.ensures.rest;
+    let T : Taken w p c.args.parent c.sibling_of-other.result h h1 h2 h3 h4 home beside above set notes own oth left right = record {
+      rests_are = refl;
+      sets_are = refl;
+      marks_are = refl;
+      homes = record {
+        own_set = c.leave.ensures.set;
+        own_left = c.leave.ensures.homes;
+        beside_rest = c.leave-2.ensures.rest;
+        beside_set = c.leave-2.ensures.set;
+        beside_left = c.leave-2.ensures.homes;
+        above_is = c.take_rest-above.ensures.rest;
+        rest_taken = c.take_rest-above.ensures.homes;
+        set_is = c.take_set.ensures.set;
+        set_taken = c.take_set.ensures.homes;
+      };
+      notes_are = c.into_parts-noted.ensures.remembered;
+      own_is = c.own_child-own.ensures;
+      other_is = c.other_child-beside.ensures;
       left_is = c.in_order-children.ensures.left;
       right_is = c.in_order-children.ensures.right;
     } in
-    (can_join w k p I F at free ended c.args.parent c.sibling_of-other.result par o n1 n2 n3 x1 x2 x3 h1 h2 above c.leave_own-own.result c.leave_other-beside.result left right T places).0
+    (can_join w k p I F at free ended c.args.parent c.sibling_of-other.result par o h h1 h2 h3 h4 home beside above set notes own oth left right T places).0
 
 pub join_children-rest-requires-clause-can : goal.join_children-rest-requires-clause-can
 join_children-rest-requires-clause-can c =
@@ -253,87 +187,58 @@ join_children-rest-requires-clause-can c =
     let par : parent_of w.tree p.task ≡ Some c.args.parent = subst (λ (z : SharedValue). parent_of z.tree p.task ≡ Some c.args.parent) (sym c.self.view_is) c.requires.parent in
     let places : HasPlaces w p c.args.parent = subst (λ (z : SharedValue). HasPlaces z p c.args.parent) (sym c.self.view_is) c.requires.places in
     let o : c.sibling_of-other.result ≡ sibling p.task = c.sibling_of-other.ensures in
-    let x1 : List SetOf = c.take_remembered-own_noted.new.sets.items in
-    let x2 : List SetOf = c.take_remembered-other_noted.new.sets.items in
-    let x3 : List SetOf = c.take_set-noted.new.sets.items in
-    let h1 : List (Option Rest) = c.leave_own-own.new.homes in
-    let h2 : List (Option Rest) = c.leave_other-beside.new.homes in
-    let n1 : RememberedValue = c.take_remembered-own_noted.result in
-    let n2 : RememberedValue = c.take_remembered-other_noted.result in
-    let n3 : RememberedValue = c.take_set-noted.result.0 in
-    let above : Rest = c.take_block-above.result in
+    let h : HomesValue = c.self.inside.heaps.homes in
+    let h1 : HomesValue = c.leave.new.self in
+    let h2 : HomesValue = c.leave-2.new.self in
+    let h3 : HomesValue = c.take_rest-above.new.self in
+    let h4 : HomesValue = c.take_set.new.self in
+    let home : Home = c.leave.result in
+    let beside : Home = c.leave-2.result in
+    let above : Rest = c.take_rest-above.result in
+    let set : SetOf = c.take_set.result in
+    let notes : RememberedValue = c.into_parts-noted.result.0 in
+    let own : EndedChild = c.own_child-own.result in
+    let oth : EndedChild = c.other_child-beside.result in
     let left : EndedChild = c.in_order-children.result.0 in
     let right : EndedChild = c.in_order-children.result.1 in
-    let T : Taken w p c.args.parent c.sibling_of-other.result n1 n2 n3 x1 x2 x3 h1 h2 above c.leave_own-own.result c.leave_other-beside.result left right = record {
-      other_is = o;
-      n1 = c.take_remembered-own_noted.ensures.many;
-      n2 = c.take_remembered-other_noted.ensures.many;
-      n3 = c.take_set-noted.ensures.many;
-      own_set = c.take_remembered-own_noted.ensures.whole;
-      other_set = c.take_remembered-other_noted.ensures.whole;
-      parent_set = c.take_set-noted.ensures.whole;
-      e1 = c.take_remembered-own_noted.ensures.empty;
-      e2 = c.take_remembered-other_noted.ensures.empty;
-      o1 = c.take_remembered-own_noted.ensures.others;
-      o2 = c.take_remembered-other_noted.ensures.others;
-      o3 = c.take_set-noted.ensures.others;
-      own_is = c.leave_own-own.ensures.child;
-      m1 = c.leave_own-own.ensures.many;
-      own_home = c.leave_own-own.ensures.own;
-      i1 = c.leave_own-own.ensures.others;
-      m2 = c.leave_other-beside.ensures.many;
-      other_home = c.leave_other-beside.ensures.child;
-      i2 = c.leave_other-beside.ensures.others;
-      above_is = c.take_block-above.ensures.rest;
+    let T : Taken w p c.args.parent c.sibling_of-other.result h h1 h2 h3 h4 home beside above set notes own oth left right = record {
+      rests_are = refl;
+      sets_are = refl;
+      marks_are = refl;
+      homes = record {
+        own_set = c.leave.ensures.set;
+        own_left = c.leave.ensures.homes;
+        beside_rest = c.leave-2.ensures.rest;
+        beside_set = c.leave-2.ensures.set;
+        beside_left = c.leave-2.ensures.homes;
+        above_is = c.take_rest-above.ensures.rest;
+        rest_taken = c.take_rest-above.ensures.homes;
+        set_is = c.take_set.ensures.set;
+        set_taken = c.take_set.ensures.homes;
+      };
+      notes_are = c.into_parts-noted.ensures.remembered;
+      own_is = c.own_child-own.ensures;
+      other_is = c.other_child-beside.ensures;
       left_is = c.in_order-children.ensures.left;
       right_is = c.in_order-children.ensures.right;
     } in
-    subst (λ (ns : List Node). CanJoin ns w.pool (parent_side c.args.parent above n3) left right) (sym c.set_state.ensures)
-    (can_join w k p I F at free ended c.args.parent c.sibling_of-other.result par o n1 n2 n3 x1 x2 x3 h1 h2 above c.leave_own-own.result c.leave_other-beside.result left right T places).1
-
-pub set-requires-2 : goal.set-requires-2
-set-requires-2 c =
-    let w : SharedValue = the_view c.self.inside in
-    let p : Private = c.args.part in
-    let k : ℕ = c.args.worker in
-    let I : IsSharedValue w = c.self.invariant in
-    let F : Fits w k p = subst (λ (z : SharedValue). Fits z k p) (sym c.self.view_is) c.requires.fits in
-    let at : IsAtEnd w p = subst (λ (z : SharedValue). IsAtEnd z p) (sym c.self.view_is) c.requires.ends in
-    let free : refused w (alone_event k p) ≡ None = subst (λ (z : SharedValue). refused z (alone_event k p) ≡ None) (sym c.self.view_is) c.requires.free in
-    let ended : state_of w.tree (sibling p.task) ≡ Some Ended = subst (λ (z : SharedValue). state_of z.tree (sibling p.task) ≡ Some Ended) (sym c.self.view_is) c.requires.ended in
-    let par : parent_of w.tree p.task ≡ Some c.args.parent = subst (λ (z : SharedValue). parent_of z.tree p.task ≡ Some c.args.parent) (sym c.self.view_is) c.requires.parent in
-    let e = parent_is w k p I F at free ended c.args.parent par in
-    let made = parent_made w k p I F at free ended in
-    let n = I.made in
-    let m = c.leave_own-own.ensures.many in
-    let i = c.leave_other-beside.ensures.many in
-    let l : length c.take_block-above.new.homes ≡ length c.leave_other-beside.new.homes = ap (λ (hs : List (Option Rest)). length hs) c.take_block-above.ensures.homes ∙ length-set c.leave_other-beside.new.homes c.args.parent None in
-    omega (arith, made, e, n, m, i, l)
-
-pub put_remembered-requires-clause-made : goal.put_remembered-requires-clause-made
-put_remembered-requires-clause-made c =
-    let w : SharedValue = the_view c.self.inside in
-    let p : Private = c.args.part in
-    let k : ℕ = c.args.worker in
-    let I : IsSharedValue w = c.self.invariant in
-    let F : Fits w k p = subst (λ (z : SharedValue). Fits z k p) (sym c.self.view_is) c.requires.fits in
-    let at : IsAtEnd w p = subst (λ (z : SharedValue). IsAtEnd z p) (sym c.self.view_is) c.requires.ends in
-    let free : refused w (alone_event k p) ≡ None = subst (λ (z : SharedValue). refused z (alone_event k p) ≡ None) (sym c.self.view_is) c.requires.free in
-    let ended : state_of w.tree (sibling p.task) ≡ Some Ended = subst (λ (z : SharedValue). state_of z.tree (sibling p.task) ≡ Some Ended) (sym c.self.view_is) c.requires.ended in
-    let par : parent_of w.tree p.task ≡ Some c.args.parent = subst (λ (z : SharedValue). parent_of z.tree p.task ≡ Some c.args.parent) (sym c.self.view_is) c.requires.parent in
-    let e = parent_is w k p I F at free ended c.args.parent par in
-    let made = parent_set w k p I F at free ended in
-    let n = c.take_remembered-own_noted.ensures.many in
-    let m = c.take_remembered-other_noted.ensures.many in
-    let i = c.take_set-noted.ensures.many in
-    omega (arith, made, e, n, m, i)
+    subst (λ (ns : List Node). CanJoin ns w.pool (parent_side c.args.parent above notes) left right) (sym c.set_state.ensures)
+    (can_join w k p I F at free ended c.args.parent c.sibling_of-other.result par o h h1 h2 h3 h4 home beside above set notes own oth left right T places).1
 
 if_none : {A : Type 0} (o : Option A) (P Q : Type 0) → (P → Q) → IfNone o P → IfNone o Q
 if_none None P Q f h = f h
 if_none (Some x) P Q f h = h
 
-pub put_remembered-requires-clause-block : goal.put_remembered-requires-clause-block
-put_remembered-requires-clause-block c = if_none c.take_set-noted.result.1 _ _ c.join_children-rest.ensures.none c.take_set-noted.ensures.bare
+pub remembering-set-requires : goal.remembering-set-requires
+remembering-set-requires c =
+    if_none c.into_parts-noted.result.1 _ _ c.join_children-rest.ensures.none c.into_parts-noted.ensures.bare
+
+pub put_rest-requires : goal.put_rest-requires
+put_rest-requires c = record { block = ap (λ (z : HomesValue). slice_get z.blocks c.args.parent) c.take_set.ensures.homes ∙ c.take_rest-above.ensures.block }
+
+pub put_set-requires : goal.put_set-requires
+put_set-requires c =
+    record { block = ap (λ (z : HomesValue). slice_get z.blocks c.args.parent) c.put_rest.ensures ∙ (ap (λ (z : HomesValue). slice_get z.blocks c.args.parent) c.take_set.ensures.homes ∙ c.take_rest-above.ensures.block) }
 
 pub invariant_of-self : goal.invariant_of-self
 invariant_of-self c =
@@ -347,61 +252,60 @@ invariant_of-self c =
     let ended : state_of w.tree (sibling p.task) ≡ Some Ended = subst (λ (z : SharedValue). state_of z.tree (sibling p.task) ≡ Some Ended) (sym c.self.view_is) c.requires.ended in
     let par : parent_of w.tree p.task ≡ Some c.args.parent = subst (λ (z : SharedValue). parent_of z.tree p.task ≡ Some c.args.parent) (sym c.self.view_is) c.requires.parent in
     let o : c.sibling_of-other.result ≡ sibling p.task = c.sibling_of-other.ensures in
-    let x1 : List SetOf = c.take_remembered-own_noted.new.sets.items in
-    let x2 : List SetOf = c.take_remembered-other_noted.new.sets.items in
-    let x3 : List SetOf = c.take_set-noted.new.sets.items in
-    let h1 : List (Option Rest) = c.leave_own-own.new.homes in
-    let h2 : List (Option Rest) = c.leave_other-beside.new.homes in
-    let n1 : RememberedValue = c.take_remembered-own_noted.result in
-    let n2 : RememberedValue = c.take_remembered-other_noted.result in
-    let n3 : RememberedValue = c.take_set-noted.result.0 in
-    let above : Rest = c.take_block-above.result in
+    let h : HomesValue = c.self.inside.heaps.homes in
+    let h1 : HomesValue = c.leave.new.self in
+    let h2 : HomesValue = c.leave-2.new.self in
+    let h3 : HomesValue = c.take_rest-above.new.self in
+    let h4 : HomesValue = c.take_set.new.self in
+    let home : Home = c.leave.result in
+    let beside : Home = c.leave-2.result in
+    let above : Rest = c.take_rest-above.result in
+    let set : SetOf = c.take_set.result in
+    let notes : RememberedValue = c.into_parts-noted.result.0 in
+    let own : EndedChild = c.own_child-own.result in
+    let oth : EndedChild = c.other_child-beside.result in
     let left : EndedChild = c.in_order-children.result.0 in
     let right : EndedChild = c.in_order-children.result.1 in
-    let T : Taken w p c.args.parent c.sibling_of-other.result n1 n2 n3 x1 x2 x3 h1 h2 above c.leave_own-own.result c.leave_other-beside.result left right = record {
-      other_is = o;
-      n1 = c.take_remembered-own_noted.ensures.many;
-      n2 = c.take_remembered-other_noted.ensures.many;
-      n3 = c.take_set-noted.ensures.many;
-      own_set = c.take_remembered-own_noted.ensures.whole;
-      other_set = c.take_remembered-other_noted.ensures.whole;
-      parent_set = c.take_set-noted.ensures.whole;
-      e1 = c.take_remembered-own_noted.ensures.empty;
-      e2 = c.take_remembered-other_noted.ensures.empty;
-      o1 = c.take_remembered-own_noted.ensures.others;
-      o2 = c.take_remembered-other_noted.ensures.others;
-      o3 = c.take_set-noted.ensures.others;
-      own_is = c.leave_own-own.ensures.child;
-      m1 = c.leave_own-own.ensures.many;
-      own_home = c.leave_own-own.ensures.own;
-      i1 = c.leave_own-own.ensures.others;
-      m2 = c.leave_other-beside.ensures.many;
-      other_home = c.leave_other-beside.ensures.child;
-      i2 = c.leave_other-beside.ensures.others;
-      above_is = c.take_block-above.ensures.rest;
+    let T : Taken w p c.args.parent c.sibling_of-other.result h h1 h2 h3 h4 home beside above set notes own oth left right = record {
+      rests_are = refl;
+      sets_are = refl;
+      marks_are = refl;
+      homes = record {
+        own_set = c.leave.ensures.set;
+        own_left = c.leave.ensures.homes;
+        beside_rest = c.leave-2.ensures.rest;
+        beside_set = c.leave-2.ensures.set;
+        beside_left = c.leave-2.ensures.homes;
+        above_is = c.take_rest-above.ensures.rest;
+        rest_taken = c.take_rest-above.ensures.homes;
+        set_is = c.take_set.ensures.set;
+        set_taken = c.take_set.ensures.homes;
+      };
+      notes_are = c.into_parts-noted.ensures.remembered;
+      own_is = c.own_child-own.ensures;
+      other_is = c.other_child-beside.ensures;
       left_is = c.in_order-children.ensures.left;
       right_is = c.in_order-children.ensures.right;
     } in
     let rest : Rest = c.join_children-rest.result.0 in
     let noted : RememberedValue = c.join_children-rest.result.1 in
     let pool : PoolValue = c.join_children-rest.new.pool in
-    let sets : List SetOf = c.put_remembered.new.sets.items in
-    let homes : List (Option Rest) = c.set-2.new.self in
-    let P : Put w p c.args.parent x3 h2 n3 above left right pool rest noted sets homes = record {
+    let put : SetOf = c.remembering-set.result in
+    let h5 : HomesValue = c.put_rest.new.self in
+    let h6 : HomesValue = c.put_set.new.self in
+    let P : Put w c.args.parent h4 h5 h6 notes above left right pool rest noted put = record {
       pool_is = c.join_children-rest.ensures.pool;
       side = c.join_children-rest.ensures.side;
       rest_is = c.join_children-rest.ensures.rest;
-      homes_are = c.set-2.ensures ∙ ap (λ hs. slice_set hs c.args.parent (Some rest)) c.take_block-above.ensures.homes;
-      many = c.put_remembered.ensures.many;
-      at = c.put_remembered.ensures.at;
-      others = c.put_remembered.ensures.others;
+      homes = record { rest_put = c.put_rest.ensures; set_put = c.put_set.ensures };
+      put_is = c.remembering-set.ensures;
     } in
     let j : RoomyValue EntryValue = record { items = []; room = w.journal.room - 1 } in
-    let both = both_made w k p I F at free ended c.args.parent c.sibling_of-other.result par o n1 n2 n3 x1 x2 x3 h1 h2 above c.leave_own-own.result c.leave_other-beside.result left right pool rest noted sets homes j T P in
-    let v : SharedValue = record w { pool = pool; sets = sets; steps = w.steps + (p.fresh + 1) } in
+    let both = both_made w k p I F at free ended c.args.parent c.sibling_of-other.result par o h h1 h2 h3 h4 home beside above set notes own oth left right pool rest noted h5 h6 put j T P in
+    let v : SharedValue = record w { pool = pool; sets = h6.sets; marks = h6.marks; steps = w.steps + (p.fresh + 1) } in
     let tree : c.join_children-rest.new.tree ≡ joined_nodes (with_state w.tree p.task Ended) c.args.parent left.side.task right.side.task = c.join_children-rest.ensures.tree ∙ ap (λ ns. joined_nodes ns c.args.parent left.side.task right.side.task) c.set_state.ensures in
-    let same = four_changed v (joined_nodes (with_state w.tree p.task Ended) c.args.parent left.side.task right.side.task) c.join_children-rest.new.tree homes homes (slice_set w.tasks_out k None) c.set.new.self (entered w k p) _ tree refl c.set.ensures refl in
-    along w k p _ _ c.enter_alone.ensures.steps c.enter_alone.ensures.journal (λ n j. IsSharedValue (record v { steps = n; tree = c.join_children-rest.new.tree; homes = homes; tasks_out = c.set.new.self; journal = j })) (subst IsSharedValue (sym same) both.0)
+    let same = four_changed v (joined_nodes (with_state w.tree p.task Ended) c.args.parent left.side.task right.side.task) c.join_children-rest.new.tree h6.rests h6.rests (slice_set w.tasks_out k None) c.set.new.self (entered w k p) _ tree refl c.set.ensures refl in
+    along w k p _ _ c.enter_alone.ensures.steps c.enter_alone.ensures.journal (λ n j. IsSharedValue (record v { steps = n; tree = c.join_children-rest.new.tree; homes = h6.rests; tasks_out = c.set.new.self; journal = j })) (subst IsSharedValue (sym same) both.0)
 
 pub returns-clause-joined : goal.returns-clause-joined
 returns-clause-joined c =
@@ -415,62 +319,61 @@ returns-clause-joined c =
     let ended : state_of w.tree (sibling p.task) ≡ Some Ended = subst (λ (z : SharedValue). state_of z.tree (sibling p.task) ≡ Some Ended) (sym c.self.view_is) c.requires.ended in
     let par : parent_of w.tree p.task ≡ Some c.args.parent = subst (λ (z : SharedValue). parent_of z.tree p.task ≡ Some c.args.parent) (sym c.self.view_is) c.requires.parent in
     let o : c.sibling_of-other.result ≡ sibling p.task = c.sibling_of-other.ensures in
-    let x1 : List SetOf = c.take_remembered-own_noted.new.sets.items in
-    let x2 : List SetOf = c.take_remembered-other_noted.new.sets.items in
-    let x3 : List SetOf = c.take_set-noted.new.sets.items in
-    let h1 : List (Option Rest) = c.leave_own-own.new.homes in
-    let h2 : List (Option Rest) = c.leave_other-beside.new.homes in
-    let n1 : RememberedValue = c.take_remembered-own_noted.result in
-    let n2 : RememberedValue = c.take_remembered-other_noted.result in
-    let n3 : RememberedValue = c.take_set-noted.result.0 in
-    let above : Rest = c.take_block-above.result in
+    let h : HomesValue = c.self.inside.heaps.homes in
+    let h1 : HomesValue = c.leave.new.self in
+    let h2 : HomesValue = c.leave-2.new.self in
+    let h3 : HomesValue = c.take_rest-above.new.self in
+    let h4 : HomesValue = c.take_set.new.self in
+    let home : Home = c.leave.result in
+    let beside : Home = c.leave-2.result in
+    let above : Rest = c.take_rest-above.result in
+    let set : SetOf = c.take_set.result in
+    let notes : RememberedValue = c.into_parts-noted.result.0 in
+    let own : EndedChild = c.own_child-own.result in
+    let oth : EndedChild = c.other_child-beside.result in
     let left : EndedChild = c.in_order-children.result.0 in
     let right : EndedChild = c.in_order-children.result.1 in
-    let T : Taken w p c.args.parent c.sibling_of-other.result n1 n2 n3 x1 x2 x3 h1 h2 above c.leave_own-own.result c.leave_other-beside.result left right = record {
-      other_is = o;
-      n1 = c.take_remembered-own_noted.ensures.many;
-      n2 = c.take_remembered-other_noted.ensures.many;
-      n3 = c.take_set-noted.ensures.many;
-      own_set = c.take_remembered-own_noted.ensures.whole;
-      other_set = c.take_remembered-other_noted.ensures.whole;
-      parent_set = c.take_set-noted.ensures.whole;
-      e1 = c.take_remembered-own_noted.ensures.empty;
-      e2 = c.take_remembered-other_noted.ensures.empty;
-      o1 = c.take_remembered-own_noted.ensures.others;
-      o2 = c.take_remembered-other_noted.ensures.others;
-      o3 = c.take_set-noted.ensures.others;
-      own_is = c.leave_own-own.ensures.child;
-      m1 = c.leave_own-own.ensures.many;
-      own_home = c.leave_own-own.ensures.own;
-      i1 = c.leave_own-own.ensures.others;
-      m2 = c.leave_other-beside.ensures.many;
-      other_home = c.leave_other-beside.ensures.child;
-      i2 = c.leave_other-beside.ensures.others;
-      above_is = c.take_block-above.ensures.rest;
+    let T : Taken w p c.args.parent c.sibling_of-other.result h h1 h2 h3 h4 home beside above set notes own oth left right = record {
+      rests_are = refl;
+      sets_are = refl;
+      marks_are = refl;
+      homes = record {
+        own_set = c.leave.ensures.set;
+        own_left = c.leave.ensures.homes;
+        beside_rest = c.leave-2.ensures.rest;
+        beside_set = c.leave-2.ensures.set;
+        beside_left = c.leave-2.ensures.homes;
+        above_is = c.take_rest-above.ensures.rest;
+        rest_taken = c.take_rest-above.ensures.homes;
+        set_is = c.take_set.ensures.set;
+        set_taken = c.take_set.ensures.homes;
+      };
+      notes_are = c.into_parts-noted.ensures.remembered;
+      own_is = c.own_child-own.ensures;
+      other_is = c.other_child-beside.ensures;
       left_is = c.in_order-children.ensures.left;
       right_is = c.in_order-children.ensures.right;
     } in
     let rest : Rest = c.join_children-rest.result.0 in
     let noted : RememberedValue = c.join_children-rest.result.1 in
     let pool : PoolValue = c.join_children-rest.new.pool in
-    let sets : List SetOf = c.put_remembered.new.sets.items in
-    let homes : List (Option Rest) = c.set-2.new.self in
-    let P : Put w p c.args.parent x3 h2 n3 above left right pool rest noted sets homes = record {
+    let put : SetOf = c.remembering-set.result in
+    let h5 : HomesValue = c.put_rest.new.self in
+    let h6 : HomesValue = c.put_set.new.self in
+    let P : Put w c.args.parent h4 h5 h6 notes above left right pool rest noted put = record {
       pool_is = c.join_children-rest.ensures.pool;
       side = c.join_children-rest.ensures.side;
       rest_is = c.join_children-rest.ensures.rest;
-      homes_are = c.set-2.ensures ∙ ap (λ hs. slice_set hs c.args.parent (Some rest)) c.take_block-above.ensures.homes;
-      many = c.put_remembered.ensures.many;
-      at = c.put_remembered.ensures.at;
-      others = c.put_remembered.ensures.others;
+      homes = record { rest_put = c.put_rest.ensures; set_put = c.put_set.ensures };
+      put_is = c.remembering-set.ensures;
     } in
     let j : RoomyValue EntryValue = record { items = []; room = w.journal.room - 1 } in
-    let both = both_made w k p I F at free ended c.args.parent c.sibling_of-other.result par o n1 n2 n3 x1 x2 x3 h1 h2 above c.leave_own-own.result c.leave_other-beside.result left right pool rest noted sets homes j T P in
-    let v : SharedValue = record w { pool = pool; sets = sets; steps = w.steps + (p.fresh + 1) } in
+    let both = both_made w k p I F at free ended c.args.parent c.sibling_of-other.result par o h h1 h2 h3 h4 home beside above set notes own oth left right pool rest noted h5 h6 put j T P in
+    let v : SharedValue = record w { pool = pool; sets = h6.sets; marks = h6.marks; steps = w.steps + (p.fresh + 1) } in
     let tree : c.join_children-rest.new.tree ≡ joined_nodes (with_state w.tree p.task Ended) c.args.parent left.side.task right.side.task = c.join_children-rest.ensures.tree ∙ ap (λ ns. joined_nodes ns c.args.parent left.side.task right.side.task) c.set_state.ensures in
-    let same = four_changed v (joined_nodes (with_state w.tree p.task Ended) c.args.parent left.side.task right.side.task) c.join_children-rest.new.tree homes homes (slice_set w.tasks_out k None) c.set.new.self (entered w k p) _ tree refl c.set.ensures refl in
-    subst (λ (z : SharedValue). EndsChild z (record v { steps = c.enter_alone.new.steps; tree = c.join_children-rest.new.tree; homes = homes; tasks_out = c.set.new.self; journal = c.enter_alone.new.journal }) k p (Some c.args.parent)) c.self.view_is
-    (along w k p _ _ c.enter_alone.ensures.steps c.enter_alone.ensures.journal (λ n j. EndsChild w (record v { steps = n; tree = c.join_children-rest.new.tree; homes = homes; tasks_out = c.set.new.self; journal = j }) k p (Some c.args.parent))
+    let same = four_changed v (joined_nodes (with_state w.tree p.task Ended) c.args.parent left.side.task right.side.task) c.join_children-rest.new.tree h6.rests h6.rests (slice_set w.tasks_out k None) c.set.new.self (entered w k p) _ tree refl c.set.ensures refl in
+    subst (λ (z : SharedValue). EndsChild z (record v { steps = c.enter_alone.new.steps; tree = c.join_children-rest.new.tree; homes = h6.rests; tasks_out = c.set.new.self; journal = c.enter_alone.new.journal }) k p (Some c.args.parent)) c.self.view_is
+    (along w k p _ _ c.enter_alone.ensures.steps c.enter_alone.ensures.journal (λ n j. EndsChild w (record v { steps = n; tree = c.join_children-rest.new.tree; homes = h6.rests; tasks_out = c.set.new.self; journal = j }) k p (Some c.args.parent))
     (subst (λ (z : SharedValue). EndsChild w z k p (Some c.args.parent)) (sym same) both.1))
 
 pub returns-clause-task_out : goal.returns-clause-task_out

@@ -1,29 +1,46 @@
-use Rattle.std.proofs.Common.{◌≡◌, ℕ, ◌-◌, ◌++◌, ◌∷◌, [], None, sym, subst, ◌<◌}
+use Rattle.std.proofs.Common.{◌≡◌, ℕ, ◌-◌, ◌++◌, ◌∷◌, [], List, Option, None, Some, is_some, slice_set, ap, sym, subst, ◌∙◌, ◌<◌}
 use Rattle.listed.specs.RoomyValue.{RoomyValue}
+use Rattle.listed.proofs.Members.{got_other}
 use Rattle.run_trace.specs.Entry.{EntryValue}
 use Rattle.run_trace.specs.declared.entry.Kind.TheVariants.{Mark}
 use Rattle.run_ledger.specs.Heaps.{heap_of}
+use Rattle.inner_mark_gc.specs.MarkingValue.{MarkingValue}
 use Rattle.core_relation.specs.Marking.{GoesOn}
+use Rattle.task_homes.specs.HomesValue.{HomesValue, flat, marks_at}
 use Rattle.shared_value.specs.Entered.{refused}
 use Rattle.shared_value.specs.Fits.{AllFit}
 use Rattle.shared_value.specs.SharedValue.{SharedValue, accounts, value_of}
 use Rattle.shared_value.specs.Stands.{IsSharedValue}
+use Rattle.shared_value.proofs.EntryMade.{entry_on}
 use Rattle.shared_value.proofs.JournalGoesOn.{journal_by}
-use Rattle.heap_marking.proofs.MarkEntries.{mark_enters}
+use Rattle.heap_marking.proofs.MarkEntries.{mark_enters, mark_waits}
+use Rattle.heap_marking.proofs.WaitingHome.{rest}
 use Rattle.shared_tree.specs.contracts.shared.Shared.{the_view}
 use Rattle.shared_tree.proofs.shared.Shared.enter_mark.Goals as goal
 
-pub invariant_of-self-2 : goal.invariant_of-self-2
-invariant_of-self-2 c =
+pub put_marking-requires : goal.put_marking-requires
+put_marking-requires c =
+    let w : SharedValue = the_view c.self.inside in
+    let k : ℕ = c.args.worker in
+    let t : ℕ = c.args.t in
+    let e : EntryValue = record { worker = k; kind = Mark t } in
+    let free : refused w e ≡ None = subst (λ (z : SharedValue). refused z e ≡ None) (sym c.self.view_is) c.requires.free in
+    record { there = ap is_some (rest w c.self.invariant (entry_on w e free) t (mark_waits w c.self.invariant k t free)).1 }
+
+pub invariant_of-self : goal.invariant_of-self
+invariant_of-self c =
     let w : SharedValue = the_view c.self.inside in
     let k : ℕ = c.args.worker in
     let t : ℕ = c.args.t in
     let e : EntryValue = record { worker = k; kind = Mark t } in
     let free : refused w e ≡ None = subst (λ (z : SharedValue). refused z e ≡ None) (sym c.self.view_is) c.requires.free in
     let goes : GoesOn (value_of w) t (heap_of (accounts w) t).snapshot c.args.marking = subst (λ (z : SharedValue). GoesOn (value_of z) t (heap_of (accounts z) t).snapshot c.args.marking) (sym c.self.view_is) c.requires.goes in
-    let journal : c.push_reserved.new.self ≡ record { items = w.journal.items ++ e ∷ []; room = w.journal.room - 1 } = journal_by w.journal _ _ e c.new.ensures c.push_reserved.ensures in
-    let both = mark_enters w c.self.invariant k t c.args.marking c.put_marking.new.marks (w.journal.room - 1) c.in_ok-put_marking.ensures.there c.in_ok-put_marking.ensures.others free c.requires.none goes in
-    subst (λ (j : RoomyValue EntryValue). IsSharedValue (record w { marks = c.put_marking.new.marks; journal = j })) (sym journal) both.0
+    let journal : c.push_reserved.new.self ≡ record { items = w.journal.items ++ e ∷ []; room = w.journal.room - 1 } = journal_by w.journal _ _ e c.new-2.ensures c.push_reserved.ensures in
+    let ms : List (Option MarkingValue) = slice_set w.marks t (Some c.in_ok-marking.marking) in
+    let at : marks_at ms t ≡ Some c.args.marking = ap (λ (h : HomesValue). marks_at h.marks t) (sym c.put_marking.ensures.homes) ∙ (c.put_marking.ensures.marking ∙ ap Some c.in_ok-marking.ensures.ok) in
+    let both = mark_enters w c.self.invariant k t c.args.marking ms (w.journal.room - 1) at (λ u ne. ap flat (got_other w.marks t u (Some c.in_ok-marking.marking) ne)) free c.requires.none goes in
+    subst (λ (j : RoomyValue EntryValue). IsSharedValue (record w { homes = c.put_marking.new.self.rests; sets = c.put_marking.new.self.sets; marks = c.put_marking.new.self.marks; journal = j })) (sym journal)
+    (subst (λ (h : HomesValue). IsSharedValue (record w { homes = h.rests; sets = h.sets; marks = h.marks; journal = record { items = w.journal.items ++ e ∷ []; room = w.journal.room - 1 } })) (sym c.put_marking.ensures.homes) both.0)
 
 pub returns-clause-fits : goal.returns-clause-fits
 returns-clause-fits c =
@@ -33,10 +50,13 @@ returns-clause-fits c =
     let e : EntryValue = record { worker = k; kind = Mark t } in
     let free : refused w e ≡ None = subst (λ (z : SharedValue). refused z e ≡ None) (sym c.self.view_is) c.requires.free in
     let goes : GoesOn (value_of w) t (heap_of (accounts w) t).snapshot c.args.marking = subst (λ (z : SharedValue). GoesOn (value_of z) t (heap_of (accounts z) t).snapshot c.args.marking) (sym c.self.view_is) c.requires.goes in
-    let journal : c.push_reserved.new.self ≡ record { items = w.journal.items ++ e ∷ []; room = w.journal.room - 1 } = journal_by w.journal _ _ e c.new.ensures c.push_reserved.ensures in
-    let both = mark_enters w c.self.invariant k t c.args.marking c.put_marking.new.marks (w.journal.room - 1) c.in_ok-put_marking.ensures.there c.in_ok-put_marking.ensures.others free c.requires.none goes in
-    subst (λ (z : SharedValue). AllFit z (record w { marks = c.put_marking.new.marks; journal = c.push_reserved.new.self })) c.self.view_is
-    (subst (λ (j : RoomyValue EntryValue). AllFit w (record w { marks = c.put_marking.new.marks; journal = j })) (sym journal) both.1)
+    let journal : c.push_reserved.new.self ≡ record { items = w.journal.items ++ e ∷ []; room = w.journal.room - 1 } = journal_by w.journal _ _ e c.new-2.ensures c.push_reserved.ensures in
+    let ms : List (Option MarkingValue) = slice_set w.marks t (Some c.in_ok-marking.marking) in
+    let at : marks_at ms t ≡ Some c.args.marking = ap (λ (h : HomesValue). marks_at h.marks t) (sym c.put_marking.ensures.homes) ∙ (c.put_marking.ensures.marking ∙ ap Some c.in_ok-marking.ensures.ok) in
+    let both = mark_enters w c.self.invariant k t c.args.marking ms (w.journal.room - 1) at (λ u ne. ap flat (got_other w.marks t u (Some c.in_ok-marking.marking) ne)) free c.requires.none goes in
+    subst (λ (z : SharedValue). AllFit z (record w { homes = c.put_marking.new.self.rests; sets = c.put_marking.new.self.sets; marks = c.put_marking.new.self.marks; journal = c.push_reserved.new.self })) c.self.view_is
+    (subst (λ (j : RoomyValue EntryValue). AllFit w (record w { homes = c.put_marking.new.self.rests; sets = c.put_marking.new.self.sets; marks = c.put_marking.new.self.marks; journal = j })) (sym journal)
+    (subst (λ (h : HomesValue). AllFit w (record w { homes = h.rests; sets = h.sets; marks = h.marks; journal = record { items = w.journal.items ++ e ∷ []; room = w.journal.room - 1 } })) (sym c.put_marking.ensures.homes) both.1))
 
 pub push_reserved-requires : goal.push_reserved-requires
 push_reserved-requires c = subst (λ (z : SharedValue). 0 < z.journal.room) (sym c.self.view_is) c.requires.room

@@ -1,29 +1,29 @@
-use Rattle.std.proofs.Common.{◌≡◌, ℕ, ◌-◌, ◌<◌, ◌++◌, ◌∷◌, [], All, List, Some, None, min, ap, sym, subst, ◌∙◌}
-use Rattle.std.proofs.lemmas.List.{length-set}
+use Rattle.std.proofs.Common.{◌≡◌, ℕ, ◌-◌, ◌<◌, ◌++◌, ◌∷◌, [], All, List, Option, Some, None, min, is_some, option_copied, slice_get, slice_set, ap, sym, subst, ◌∙◌}
 use Rattle.listed.specs.RoomyValue.{RoomyValue}
 use Rattle.run_trace.specs.Entry.{EntryValue}
 use Rattle.run_trace.specs.declared.entry.Kind.TheVariants.{More}
 use Rattle.run_ledger.specs.Heaps.{heap_of, left_in}
 use Rattle.object_layout.specs.declared.word.Addr.{Addr}
 use Rattle.object_layout.specs.Graph.{IsHeld}
-use Rattle.inner_mark_gc.specs.MarkingValue.{IsAllMarked, IsMarking, IsOf}
+use Rattle.inner_mark_gc.specs.MarkingValue.{IsAllMarked, IsMarking, IsOf, MarkingValue}
 use Rattle.inner_mark_gc.specs.Snapshot.{Fork, IsSince}
 use Rattle.core_relation.specs.Since.{kept}
+use Rattle.task_homes.specs.HomesValue.{HomesValue, kept_of}
 use Rattle.shared_value.specs.Entered.{refused}
 use Rattle.shared_value.specs.Fits.{AllFit}
-use Rattle.shared_value.specs.SharedValue.{SharedValue, accounts, flat, marks_at, rest_at, value_of}
+use Rattle.shared_value.specs.SharedValue.{SharedValue, accounts, marks_at, rest_at, value_of}
 use Rattle.shared_value.specs.Stands.{IsSharedValue}
 use Rattle.shared_value.proofs.JournalGoesOn.{journal_by}
 use Rattle.shared_value.proofs.EntryMade.{entry_on}
 use Rattle.heap_marking.specs.MarkCauses.{marking_cause}
 use Rattle.heap_marking.specs.Marking.{Further}
-use Rattle.heap_marking.proofs.MarkEntries.{kept_is, put_back, some_count, some_enters, some_marks}
-use Rattle.heap_marking.proofs.MarkedHeap.{further, homes_within, keeps, marks_within, never_gone, never_unmarked, sets_within}
+use Rattle.heap_marking.proofs.MarkEntries.{kept_noted, put_back, some_count, some_enters, some_marks}
+use Rattle.heap_marking.proofs.MarkedHeap.{further, marks_within, never_gone, never_unmarked, rest}
 use Rattle.shared_tree.specs.contracts.shared.Shared.{the_view}
 use Rattle.shared_tree.proofs.shared.Shared.enter_some.Goals as goal
 
-pub at-requires : goal.at-requires
-at-requires c =
+pub take_marking-requires : goal.take_marking-requires
+take_marking-requires c =
     let w : SharedValue = the_view c.self.inside in
     let k : ℕ = c.args.worker in
     let t : ℕ = c.args.t in
@@ -32,7 +32,7 @@ at-requires c =
     let free : refused w e ≡ None = subst (λ (z : SharedValue). refused z e ≡ None) (sym c.self.view_is) c.requires.free in
     let on : (accounts w).end ≡ None = entry_on w e free in
     let marks : marking_cause w t ≡ None = some_marks w c.self.invariant k t n free in
-    homes_within w c.self.invariant on t marks
+    record { there = ap is_some (rest w c.self.invariant on t marks).1 }
 
 pub unreachable-requires : goal.unreachable-requires
 unreachable-requires c =
@@ -44,10 +44,10 @@ unreachable-requires c =
     let free : refused w e ≡ None = subst (λ (z : SharedValue). refused z e ≡ None) (sym c.self.view_is) c.requires.free in
     let on : (accounts w).end ≡ None = entry_on w e free in
     let marks : marking_cause w t ≡ None = some_marks w c.self.invariant k t n free in
-    never_gone w c.self.invariant on t marks (ap flat c.at.ensures ∙ c.in_default.is)
+    never_unmarked w c.self.invariant on t marks (sym c.take_marking.ensures.marking ∙ c.in_default.is)
 
-pub at_mut-requires : goal.at_mut-requires
-at_mut-requires c =
+pub unreachable-requires-in_default-rest : goal.unreachable-requires-in_default-rest
+unreachable-requires-in_default-rest c =
     let w : SharedValue = the_view c.self.inside in
     let k : ℕ = c.args.worker in
     let t : ℕ = c.args.t in
@@ -56,31 +56,10 @@ at_mut-requires c =
     let free : refused w e ≡ None = subst (λ (z : SharedValue). refused z e ≡ None) (sym c.self.view_is) c.requires.free in
     let on : (accounts w).end ≡ None = entry_on w e free in
     let marks : marking_cause w t ≡ None = some_marks w c.self.invariant k t n free in
-    marks_within w c.self.invariant on t marks
+    never_gone w c.self.invariant on t marks (ap (λ (h : HomesValue). rest_at h.rests t) (sym c.take_marking.ensures.homes) ∙ (sym c.rest.ensures ∙ ap option_copied c.in_default-rest.is))
 
-pub unreachable-requires-in_default-replace : goal.unreachable-requires-in_default-replace
-unreachable-requires-in_default-replace c =
-    let w : SharedValue = the_view c.self.inside in
-    let k : ℕ = c.args.worker in
-    let t : ℕ = c.args.t in
-    let n : ℕ = c.args.n in
-    let e : EntryValue = record { worker = k; kind = More t n } in
-    let free : refused w e ≡ None = subst (λ (z : SharedValue). refused z e ≡ None) (sym c.self.view_is) c.requires.free in
-    let on : (accounts w).end ≡ None = entry_on w e free in
-    let marks : marking_cause w t ≡ None = some_marks w c.self.invariant k t n free in
-    never_unmarked w c.self.invariant on t marks (ap flat c.at_mut.ensures.value ∙ (sym c.replace.ensures.value ∙ c.in_default-replace.is))
-
-pub index-requires : goal.index-requires
-index-requires c =
-    let w : SharedValue = the_view c.self.inside in
-    let k : ℕ = c.args.worker in
-    let t : ℕ = c.args.t in
-    let n : ℕ = c.args.n in
-    let e : EntryValue = record { worker = k; kind = More t n } in
-    let free : refused w e ≡ None = subst (λ (z : SharedValue). refused z e ≡ None) (sym c.self.view_is) c.requires.free in
-    let on : (accounts w).end ≡ None = entry_on w e free in
-    let marks : marking_cause w t ≡ None = some_marks w c.self.invariant k t n free in
-    subst (λ m. t < m) (sym c.self.inside.sets.ok.0) (sets_within w c.self.invariant on t marks)
+pub put_marking-requires : goal.put_marking-requires
+put_marking-requires c = record { there = ap is_some (sym c.rest.ensures ∙ ap option_copied c.in-Some-rest.is) }
 
 pub some-count-requires-clause-closed : goal.some-count-requires-clause-closed
 some-count-requires-clause-closed c =
@@ -92,9 +71,10 @@ some-count-requires-clause-closed c =
     let free : refused w e ≡ None = subst (λ (z : SharedValue). refused z e ≡ None) (sym c.self.view_is) c.requires.free in
     let on : (accounts w).end ≡ None = entry_on w e free in
     let marks : marking_cause w t ≡ None = some_marks w c.self.invariant k t n free in
-    let there : rest_at w.homes t ≡ Some c.get.result.now = (ap flat c.at.ensures ∙ c.in-Some.is) ∙ ap Some (sym c.get.ensures) in
-    let at : marks_at w.marks t ≡ Some c.get_mut.result.now = ap flat c.at_mut.ensures.value ∙ (sym c.replace.ensures.value ∙ (c.in-Some-replace.is ∙ ap Some (sym c.get_mut.ensures.value))) in
-    let F : Further w t c.get.result.now c.get_mut.result.now = further w c.self.invariant on t marks c.get.result.now c.get_mut.result.now there at in
+    let there : rest_at w.homes t ≡ Some c.in-Some-rest.rest.now =
+    ap (λ (h : HomesValue). rest_at h.rests t) (sym c.take_marking.ensures.homes) ∙ (sym c.rest.ensures ∙ ap option_copied c.in-Some-rest.is) in
+    let at : marks_at w.marks t ≡ Some c.get_mut.result.now = sym c.take_marking.ensures.marking ∙ (c.in-Some.is ∙ ap Some (sym c.get_mut.ensures.value)) in
+    let F : Further w t c.in-Some-rest.rest.now c.get_mut.result.now = further w c.self.invariant on t marks c.in-Some-rest.rest.now c.get_mut.result.now there at in
     F.closed
 
 pub some-count-requires-clause-kept : goal.some-count-requires-clause-kept
@@ -107,11 +87,12 @@ some-count-requires-clause-kept c =
     let free : refused w e ≡ None = subst (λ (z : SharedValue). refused z e ≡ None) (sym c.self.view_is) c.requires.free in
     let on : (accounts w).end ≡ None = entry_on w e free in
     let marks : marking_cause w t ≡ None = some_marks w c.self.invariant k t n free in
-    let there : rest_at w.homes t ≡ Some c.get.result.now = (ap flat c.at.ensures ∙ c.in-Some.is) ∙ ap Some (sym c.get.ensures) in
-    let at : marks_at w.marks t ≡ Some c.get_mut.result.now = ap flat c.at_mut.ensures.value ∙ (sym c.replace.ensures.value ∙ (c.in-Some-replace.is ∙ ap Some (sym c.get_mut.ensures.value))) in
-    let same : c.kept-kept.result.now ≡ kept (value_of w) t = c.kept-kept.ensures ∙ kept_is w.sets t c.index.result.now (keeps w c.self.invariant on t marks) c.index.ensures in
-    let F : Further w t c.get.result.now c.get_mut.result.now = further w c.self.invariant on t marks c.get.result.now c.get_mut.result.now there at in
-    subst (λ (xs : List Addr). All (IsHeld c.get.result.now.heap.chunks) xs) (sym same) F.kept
+    let there : rest_at w.homes t ≡ Some c.in-Some-rest.rest.now =
+    ap (λ (h : HomesValue). rest_at h.rests t) (sym c.take_marking.ensures.homes) ∙ (sym c.rest.ensures ∙ ap option_copied c.in-Some-rest.is) in
+    let at : marks_at w.marks t ≡ Some c.get_mut.result.now = sym c.take_marking.ensures.marking ∙ (c.in-Some.is ∙ ap Some (sym c.get_mut.ensures.value)) in
+    let same : c.kept-kept.result.now ≡ kept (value_of w) t = c.kept-kept.ensures ∙ (ap (λ (h : HomesValue). kept_of (slice_get h.sets t)) c.take_marking.ensures.homes ∙ kept_noted (slice_get w.sets t)) in
+    let F : Further w t c.in-Some-rest.rest.now c.get_mut.result.now = further w c.self.invariant on t marks c.in-Some-rest.rest.now c.get_mut.result.now there at in
+    subst (λ (xs : List Addr). All (IsHeld c.in-Some-rest.rest.now.heap.chunks) xs) (sym same) F.kept
 
 pub some-count-requires-clause-own : goal.some-count-requires-clause-own
 some-count-requires-clause-own c =
@@ -123,23 +104,12 @@ some-count-requires-clause-own c =
     let free : refused w e ≡ None = subst (λ (z : SharedValue). refused z e ≡ None) (sym c.self.view_is) c.requires.free in
     let on : (accounts w).end ≡ None = entry_on w e free in
     let marks : marking_cause w t ≡ None = some_marks w c.self.invariant k t n free in
-    let there : rest_at w.homes t ≡ Some c.get.result.now = (ap flat c.at.ensures ∙ c.in-Some.is) ∙ ap Some (sym c.get.ensures) in
-    let at : marks_at w.marks t ≡ Some c.get_mut.result.now = ap flat c.at_mut.ensures.value ∙ (sym c.replace.ensures.value ∙ (c.in-Some-replace.is ∙ ap Some (sym c.get_mut.ensures.value))) in
-    let same : c.kept-kept.result.now ≡ kept (value_of w) t = c.kept-kept.ensures ∙ kept_is w.sets t c.index.result.now (keeps w c.self.invariant on t marks) c.index.ensures in
-    let F : Further w t c.get.result.now c.get_mut.result.now = further w c.self.invariant on t marks c.get.result.now c.get_mut.result.now there at in
-    subst (λ (xs : List Addr). IsOf c.get.result.now.heap.chunks xs c.get_mut.result.now) (sym same) F.own
-
-pub set-requires : goal.set-requires
-set-requires c =
-    let w : SharedValue = the_view c.self.inside in
-    let k : ℕ = c.args.worker in
-    let t : ℕ = c.args.t in
-    let n : ℕ = c.args.n in
-    let e : EntryValue = record { worker = k; kind = More t n } in
-    let free : refused w e ≡ None = subst (λ (z : SharedValue). refused z e ≡ None) (sym c.self.view_is) c.requires.free in
-    let on : (accounts w).end ≡ None = entry_on w e free in
-    let marks : marking_cause w t ≡ None = some_marks w c.self.invariant k t n free in
-    subst (λ m. t < m) (sym (length-set w.marks t c.replace.new.dest)) (marks_within w c.self.invariant on t marks)
+    let there : rest_at w.homes t ≡ Some c.in-Some-rest.rest.now =
+    ap (λ (h : HomesValue). rest_at h.rests t) (sym c.take_marking.ensures.homes) ∙ (sym c.rest.ensures ∙ ap option_copied c.in-Some-rest.is) in
+    let at : marks_at w.marks t ≡ Some c.get_mut.result.now = sym c.take_marking.ensures.marking ∙ (c.in-Some.is ∙ ap Some (sym c.get_mut.ensures.value)) in
+    let same : c.kept-kept.result.now ≡ kept (value_of w) t = c.kept-kept.ensures ∙ (ap (λ (h : HomesValue). kept_of (slice_get h.sets t)) c.take_marking.ensures.homes ∙ kept_noted (slice_get w.sets t)) in
+    let F : Further w t c.in-Some-rest.rest.now c.get_mut.result.now = further w c.self.invariant on t marks c.in-Some-rest.rest.now c.get_mut.result.now there at in
+    subst (λ (xs : List Addr). IsOf c.in-Some-rest.rest.now.heap.chunks xs c.get_mut.result.now) (sym same) F.own
 
 pub invariant_of-self : goal.invariant_of-self
 invariant_of-self c =
@@ -151,18 +121,23 @@ invariant_of-self c =
     let free : refused w e ≡ None = subst (λ (z : SharedValue). refused z e ≡ None) (sym c.self.view_is) c.requires.free in
     let on : (accounts w).end ≡ None = entry_on w e free in
     let marks : marking_cause w t ≡ None = some_marks w c.self.invariant k t n free in
-    let there : rest_at w.homes t ≡ Some c.get.result.now = (ap flat c.at.ensures ∙ c.in-Some.is) ∙ ap Some (sym c.get.ensures) in
-    let at : marks_at w.marks t ≡ Some c.get_mut.result.now = ap flat c.at_mut.ensures.value ∙ (sym c.replace.ensures.value ∙ (c.in-Some-replace.is ∙ ap Some (sym c.get_mut.ensures.value))) in
-    let same : c.kept-kept.result.now ≡ kept (value_of w) t = c.kept-kept.ensures ∙ kept_is w.sets t c.index.result.now (keeps w c.self.invariant on t marks) c.index.ensures in
-    let own : IsOf c.get.result.now.heap.chunks (kept (value_of w) t) c.some-count.new.self = subst (λ (xs : List Addr). IsOf c.get.result.now.heap.chunks xs c.some-count.new.self) same c.some-count.ensures.own in
-    let goes : (f : Fork) → IsSince f (kept (value_of w) t) c.get.result.now.heap.chunks → IsMarking f (kept (value_of w) t) c.get_mut.result.now → IsMarking f (kept (value_of w) t) c.some-count.new.self =
-    subst (λ (xs : List Addr). (f : Fork) → IsSince f xs c.get.result.now.heap.chunks → IsMarking f xs c.get_mut.result.now → IsMarking f xs c.some-count.new.self) same c.some-count.ensures.marking in
-    let left : (f : Fork) → IsSince f (kept (value_of w) t) c.get.result.now.heap.chunks → IsMarking f (kept (value_of w) t) c.get_mut.result.now → c.some-count.result < n → IsAllMarked f (kept (value_of w) t) c.some-count.new.self =
-    subst (λ (xs : List Addr). (f : Fork) → IsSince f xs c.get.result.now.heap.chunks → IsMarking f xs c.get_mut.result.now → c.some-count.result < n → IsAllMarked f xs c.some-count.new.self) same c.some-count.ensures.left in
+    let there : rest_at w.homes t ≡ Some c.in-Some-rest.rest.now =
+    ap (λ (h : HomesValue). rest_at h.rests t) (sym c.take_marking.ensures.homes) ∙ (sym c.rest.ensures ∙ ap option_copied c.in-Some-rest.is) in
+    let at : marks_at w.marks t ≡ Some c.get_mut.result.now = sym c.take_marking.ensures.marking ∙ (c.in-Some.is ∙ ap Some (sym c.get_mut.ensures.value)) in
+    let same : c.kept-kept.result.now ≡ kept (value_of w) t = c.kept-kept.ensures ∙ (ap (λ (h : HomesValue). kept_of (slice_get h.sets t)) c.take_marking.ensures.homes ∙ kept_noted (slice_get w.sets t)) in
+    let own : IsOf c.in-Some-rest.rest.now.heap.chunks (kept (value_of w) t) c.some-count.new.self = subst (λ (xs : List Addr). IsOf c.in-Some-rest.rest.now.heap.chunks xs c.some-count.new.self) same c.some-count.ensures.own in
+    let goes : (f : Fork) → IsSince f (kept (value_of w) t) c.in-Some-rest.rest.now.heap.chunks → IsMarking f (kept (value_of w) t) c.get_mut.result.now → IsMarking f (kept (value_of w) t) c.some-count.new.self =
+    subst (λ (xs : List Addr). (f : Fork) → IsSince f xs c.in-Some-rest.rest.now.heap.chunks → IsMarking f xs c.get_mut.result.now → IsMarking f xs c.some-count.new.self) same c.some-count.ensures.marking in
+    let left : (f : Fork) → IsSince f (kept (value_of w) t) c.in-Some-rest.rest.now.heap.chunks → IsMarking f (kept (value_of w) t) c.get_mut.result.now → c.some-count.result < n → IsAllMarked f (kept (value_of w) t) c.some-count.new.self =
+    subst (λ (xs : List Addr). (f : Fork) → IsSince f xs c.in-Some-rest.rest.now.heap.chunks → IsMarking f xs c.get_mut.result.now → c.some-count.result < n → IsAllMarked f xs c.some-count.new.self) same c.some-count.ensures.left in
     let journal : c.push_reserved.new.self ≡ record { items = w.journal.items ++ e ∷ []; room = w.journal.room - 1 } = journal_by w.journal _ _ e c.new.ensures c.push_reserved.ensures in
-    let put = put_back w.marks t c.replace.new.dest c.some-count.new.self (marks_within w c.self.invariant on t marks) in
-    let both = some_enters w c.self.invariant k t n free c.get.result.now c.get_mut.result.now c.some-count.new.self c.some-count.result there at own c.some-count.ensures.count c.some-count.ensures.most goes left c.set.new.self (w.journal.room - 1) (ap (λ ms. marks_at ms t) c.set.ensures ∙ put.0) (λ u ne. ap (λ ms. marks_at ms u) c.set.ensures ∙ put.1 u ne) in
-    subst (λ (j : RoomyValue EntryValue). IsSharedValue (record w { marks = c.set.new.self; journal = j })) (sym journal) both.0
+    let put = put_back w.marks t None c.some-count.new.self (marks_within w c.self.invariant on t marks) in
+    let ms : List (Option MarkingValue) = slice_set (slice_set w.marks t None) t (Some c.some-count.new.self) in
+    let whole : c.put_marking.new.self ≡ record c.self.inside.heaps.homes { marks = ms } =
+    c.put_marking.ensures.homes ∙ ap (λ (h : HomesValue). let z : HomesValue = record h { marks = slice_set h.marks t (Some c.some-count.new.self) } in z) c.take_marking.ensures.homes in
+    let both = some_enters w c.self.invariant k t n free c.in-Some-rest.rest.now c.get_mut.result.now c.some-count.new.self c.some-count.result there at own c.some-count.ensures.count c.some-count.ensures.most goes left ms (w.journal.room - 1) put.0 put.1 in
+    subst (λ (j : RoomyValue EntryValue). IsSharedValue (record w { homes = c.put_marking.new.self.rests; sets = c.put_marking.new.self.sets; marks = c.put_marking.new.self.marks; journal = j })) (sym journal)
+    (subst (λ (h : HomesValue). IsSharedValue (record w { homes = h.rests; sets = h.sets; marks = h.marks; journal = record { items = w.journal.items ++ e ∷ []; room = w.journal.room - 1 } })) (sym whole) both.0)
 
 pub returns-clause-count : goal.returns-clause-count
 returns-clause-count c =
@@ -174,15 +149,16 @@ returns-clause-count c =
     let free : refused w e ≡ None = subst (λ (z : SharedValue). refused z e ≡ None) (sym c.self.view_is) c.requires.free in
     let on : (accounts w).end ≡ None = entry_on w e free in
     let marks : marking_cause w t ≡ None = some_marks w c.self.invariant k t n free in
-    let there : rest_at w.homes t ≡ Some c.get.result.now = (ap flat c.at.ensures ∙ c.in-Some.is) ∙ ap Some (sym c.get.ensures) in
-    let at : marks_at w.marks t ≡ Some c.get_mut.result.now = ap flat c.at_mut.ensures.value ∙ (sym c.replace.ensures.value ∙ (c.in-Some-replace.is ∙ ap Some (sym c.get_mut.ensures.value))) in
-    let same : c.kept-kept.result.now ≡ kept (value_of w) t = c.kept-kept.ensures ∙ kept_is w.sets t c.index.result.now (keeps w c.self.invariant on t marks) c.index.ensures in
-    let own : IsOf c.get.result.now.heap.chunks (kept (value_of w) t) c.some-count.new.self = subst (λ (xs : List Addr). IsOf c.get.result.now.heap.chunks xs c.some-count.new.self) same c.some-count.ensures.own in
-    let goes : (f : Fork) → IsSince f (kept (value_of w) t) c.get.result.now.heap.chunks → IsMarking f (kept (value_of w) t) c.get_mut.result.now → IsMarking f (kept (value_of w) t) c.some-count.new.self =
-    subst (λ (xs : List Addr). (f : Fork) → IsSince f xs c.get.result.now.heap.chunks → IsMarking f xs c.get_mut.result.now → IsMarking f xs c.some-count.new.self) same c.some-count.ensures.marking in
-    let left : (f : Fork) → IsSince f (kept (value_of w) t) c.get.result.now.heap.chunks → IsMarking f (kept (value_of w) t) c.get_mut.result.now → c.some-count.result < n → IsAllMarked f (kept (value_of w) t) c.some-count.new.self =
-    subst (λ (xs : List Addr). (f : Fork) → IsSince f xs c.get.result.now.heap.chunks → IsMarking f xs c.get_mut.result.now → c.some-count.result < n → IsAllMarked f xs c.some-count.new.self) same c.some-count.ensures.left in
-    some_count w c.self.invariant k t n free c.get.result.now c.get_mut.result.now c.some-count.new.self c.some-count.result there at own c.some-count.ensures.count c.some-count.ensures.most goes left ∙ ap (λ (z : SharedValue). min n (left_in (heap_of (accounts z) t))) c.self.view_is
+    let there : rest_at w.homes t ≡ Some c.in-Some-rest.rest.now =
+    ap (λ (h : HomesValue). rest_at h.rests t) (sym c.take_marking.ensures.homes) ∙ (sym c.rest.ensures ∙ ap option_copied c.in-Some-rest.is) in
+    let at : marks_at w.marks t ≡ Some c.get_mut.result.now = sym c.take_marking.ensures.marking ∙ (c.in-Some.is ∙ ap Some (sym c.get_mut.ensures.value)) in
+    let same : c.kept-kept.result.now ≡ kept (value_of w) t = c.kept-kept.ensures ∙ (ap (λ (h : HomesValue). kept_of (slice_get h.sets t)) c.take_marking.ensures.homes ∙ kept_noted (slice_get w.sets t)) in
+    let own : IsOf c.in-Some-rest.rest.now.heap.chunks (kept (value_of w) t) c.some-count.new.self = subst (λ (xs : List Addr). IsOf c.in-Some-rest.rest.now.heap.chunks xs c.some-count.new.self) same c.some-count.ensures.own in
+    let goes : (f : Fork) → IsSince f (kept (value_of w) t) c.in-Some-rest.rest.now.heap.chunks → IsMarking f (kept (value_of w) t) c.get_mut.result.now → IsMarking f (kept (value_of w) t) c.some-count.new.self =
+    subst (λ (xs : List Addr). (f : Fork) → IsSince f xs c.in-Some-rest.rest.now.heap.chunks → IsMarking f xs c.get_mut.result.now → IsMarking f xs c.some-count.new.self) same c.some-count.ensures.marking in
+    let left : (f : Fork) → IsSince f (kept (value_of w) t) c.in-Some-rest.rest.now.heap.chunks → IsMarking f (kept (value_of w) t) c.get_mut.result.now → c.some-count.result < n → IsAllMarked f (kept (value_of w) t) c.some-count.new.self =
+    subst (λ (xs : List Addr). (f : Fork) → IsSince f xs c.in-Some-rest.rest.now.heap.chunks → IsMarking f xs c.get_mut.result.now → c.some-count.result < n → IsAllMarked f xs c.some-count.new.self) same c.some-count.ensures.left in
+    some_count w c.self.invariant k t n free c.in-Some-rest.rest.now c.get_mut.result.now c.some-count.new.self c.some-count.result there at own c.some-count.ensures.count c.some-count.ensures.most goes left ∙ ap (λ (z : SharedValue). min n (left_in (heap_of (accounts z) t))) c.self.view_is
 
 pub returns-clause-fits : goal.returns-clause-fits
 returns-clause-fits c =
@@ -194,16 +170,21 @@ returns-clause-fits c =
     let free : refused w e ≡ None = subst (λ (z : SharedValue). refused z e ≡ None) (sym c.self.view_is) c.requires.free in
     let on : (accounts w).end ≡ None = entry_on w e free in
     let marks : marking_cause w t ≡ None = some_marks w c.self.invariant k t n free in
-    let there : rest_at w.homes t ≡ Some c.get.result.now = (ap flat c.at.ensures ∙ c.in-Some.is) ∙ ap Some (sym c.get.ensures) in
-    let at : marks_at w.marks t ≡ Some c.get_mut.result.now = ap flat c.at_mut.ensures.value ∙ (sym c.replace.ensures.value ∙ (c.in-Some-replace.is ∙ ap Some (sym c.get_mut.ensures.value))) in
-    let same : c.kept-kept.result.now ≡ kept (value_of w) t = c.kept-kept.ensures ∙ kept_is w.sets t c.index.result.now (keeps w c.self.invariant on t marks) c.index.ensures in
-    let own : IsOf c.get.result.now.heap.chunks (kept (value_of w) t) c.some-count.new.self = subst (λ (xs : List Addr). IsOf c.get.result.now.heap.chunks xs c.some-count.new.self) same c.some-count.ensures.own in
-    let goes : (f : Fork) → IsSince f (kept (value_of w) t) c.get.result.now.heap.chunks → IsMarking f (kept (value_of w) t) c.get_mut.result.now → IsMarking f (kept (value_of w) t) c.some-count.new.self =
-    subst (λ (xs : List Addr). (f : Fork) → IsSince f xs c.get.result.now.heap.chunks → IsMarking f xs c.get_mut.result.now → IsMarking f xs c.some-count.new.self) same c.some-count.ensures.marking in
-    let left : (f : Fork) → IsSince f (kept (value_of w) t) c.get.result.now.heap.chunks → IsMarking f (kept (value_of w) t) c.get_mut.result.now → c.some-count.result < n → IsAllMarked f (kept (value_of w) t) c.some-count.new.self =
-    subst (λ (xs : List Addr). (f : Fork) → IsSince f xs c.get.result.now.heap.chunks → IsMarking f xs c.get_mut.result.now → c.some-count.result < n → IsAllMarked f xs c.some-count.new.self) same c.some-count.ensures.left in
+    let there : rest_at w.homes t ≡ Some c.in-Some-rest.rest.now =
+    ap (λ (h : HomesValue). rest_at h.rests t) (sym c.take_marking.ensures.homes) ∙ (sym c.rest.ensures ∙ ap option_copied c.in-Some-rest.is) in
+    let at : marks_at w.marks t ≡ Some c.get_mut.result.now = sym c.take_marking.ensures.marking ∙ (c.in-Some.is ∙ ap Some (sym c.get_mut.ensures.value)) in
+    let same : c.kept-kept.result.now ≡ kept (value_of w) t = c.kept-kept.ensures ∙ (ap (λ (h : HomesValue). kept_of (slice_get h.sets t)) c.take_marking.ensures.homes ∙ kept_noted (slice_get w.sets t)) in
+    let own : IsOf c.in-Some-rest.rest.now.heap.chunks (kept (value_of w) t) c.some-count.new.self = subst (λ (xs : List Addr). IsOf c.in-Some-rest.rest.now.heap.chunks xs c.some-count.new.self) same c.some-count.ensures.own in
+    let goes : (f : Fork) → IsSince f (kept (value_of w) t) c.in-Some-rest.rest.now.heap.chunks → IsMarking f (kept (value_of w) t) c.get_mut.result.now → IsMarking f (kept (value_of w) t) c.some-count.new.self =
+    subst (λ (xs : List Addr). (f : Fork) → IsSince f xs c.in-Some-rest.rest.now.heap.chunks → IsMarking f xs c.get_mut.result.now → IsMarking f xs c.some-count.new.self) same c.some-count.ensures.marking in
+    let left : (f : Fork) → IsSince f (kept (value_of w) t) c.in-Some-rest.rest.now.heap.chunks → IsMarking f (kept (value_of w) t) c.get_mut.result.now → c.some-count.result < n → IsAllMarked f (kept (value_of w) t) c.some-count.new.self =
+    subst (λ (xs : List Addr). (f : Fork) → IsSince f xs c.in-Some-rest.rest.now.heap.chunks → IsMarking f xs c.get_mut.result.now → c.some-count.result < n → IsAllMarked f xs c.some-count.new.self) same c.some-count.ensures.left in
     let journal : c.push_reserved.new.self ≡ record { items = w.journal.items ++ e ∷ []; room = w.journal.room - 1 } = journal_by w.journal _ _ e c.new.ensures c.push_reserved.ensures in
-    let put = put_back w.marks t c.replace.new.dest c.some-count.new.self (marks_within w c.self.invariant on t marks) in
-    let both = some_enters w c.self.invariant k t n free c.get.result.now c.get_mut.result.now c.some-count.new.self c.some-count.result there at own c.some-count.ensures.count c.some-count.ensures.most goes left c.set.new.self (w.journal.room - 1) (ap (λ ms. marks_at ms t) c.set.ensures ∙ put.0) (λ u ne. ap (λ ms. marks_at ms u) c.set.ensures ∙ put.1 u ne) in
-    subst (λ (z : SharedValue). AllFit z (record w { marks = c.set.new.self; journal = c.push_reserved.new.self })) c.self.view_is
-    (subst (λ (j : RoomyValue EntryValue). AllFit w (record w { marks = c.set.new.self; journal = j })) (sym journal) both.1)
+    let put = put_back w.marks t None c.some-count.new.self (marks_within w c.self.invariant on t marks) in
+    let ms : List (Option MarkingValue) = slice_set (slice_set w.marks t None) t (Some c.some-count.new.self) in
+    let whole : c.put_marking.new.self ≡ record c.self.inside.heaps.homes { marks = ms } =
+    c.put_marking.ensures.homes ∙ ap (λ (h : HomesValue). let z : HomesValue = record h { marks = slice_set h.marks t (Some c.some-count.new.self) } in z) c.take_marking.ensures.homes in
+    let both = some_enters w c.self.invariant k t n free c.in-Some-rest.rest.now c.get_mut.result.now c.some-count.new.self c.some-count.result there at own c.some-count.ensures.count c.some-count.ensures.most goes left ms (w.journal.room - 1) put.0 put.1 in
+    subst (λ (z : SharedValue). AllFit z (record w { homes = c.put_marking.new.self.rests; sets = c.put_marking.new.self.sets; marks = c.put_marking.new.self.marks; journal = c.push_reserved.new.self })) c.self.view_is
+    (subst (λ (j : RoomyValue EntryValue). AllFit w (record w { homes = c.put_marking.new.self.rests; sets = c.put_marking.new.self.sets; marks = c.put_marking.new.self.marks; journal = j })) (sym journal)
+    (subst (λ (h : HomesValue). AllFit w (record w { homes = h.rests; sets = h.sets; marks = h.marks; journal = record { items = w.journal.items ++ e ∷ []; room = w.journal.room - 1 } })) (sym whole) both.1))

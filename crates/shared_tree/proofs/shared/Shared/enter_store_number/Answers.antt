@@ -6,7 +6,9 @@ use Rattle.object_layout.specs.Cell.{with_int}
 use Rattle.object_layout.specs.Chunks.{cell_of}
 use Rattle.task_frames.specs.FramesValue.{FramesValue}
 use Rattle.task_machine.specs.declared.part.Private.{Private}
-use Rattle.shared_value.specs.declared.task_at_rest.Rest.{Rest}
+use Rattle.task_homes.specs.declared.heaps.Heaps.{Heaps}
+use Rattle.task_homes.specs.declared.task_at_rest.Rest.{Rest}
+use Rattle.task_homes.specs.HomesValue.{HomesValue}
 use Rattle.shared_value.specs.Stands.{IsSharedValue}
 use Rattle.shared_value.specs.SharedValue.{SharedValue}
 use Rattle.shared_value.specs.Fits.{Fits}
@@ -17,8 +19,12 @@ use Rattle.others_objects.specs.declared.other.OtherStep.TheVariants.{StoresNumb
 use Rattle.others_objects.specs.Other.{TellsOther, put_rest, store_frames}
 use Rattle.others_objects.proofs.StoreEntries as entries
 use Rattle.shared_tree.specs.contracts.shared.Shared.{the_view}
+use Rattle.shared_tree.proofs.HeapsWritten.{with_heaps, written_by}
 use Rattle.shared_tree.proofs.StepsEntered.{along, entered}
 use Rattle.shared_tree.proofs.shared.Shared.enter_store_number.Goals as goal
+
+abbrev written : HomesValue → List (Option Rest) → HomesValue
+written h rests = record h { rests = rests }
 
 pub write_number-requires-clause-used : goal.write_number-requires-clause-used
 write_number-requires-clause-used c =
@@ -30,17 +36,6 @@ write_number-requires-clause-used c =
     let free : refused w (alone_event k p) ≡ None = subst (λ (z : SharedValue). refused z (alone_event k p) ≡ None) (sym c.self.view_is) c.requires.free in
     let T : (n : ℕ) × TellsOther w p (StoresNumber c.args.object c.args.field c.args.value) n = subst (λ (z : SharedValue). (n : ℕ) × TellsOther z p (StoresNumber c.args.object c.args.field c.args.value) n) (sym c.self.view_is) c.requires.stores in
     entries.used_number w k p c.self.invariant F shared free c.args.object c.args.field c.args.value T.0 T.1
-
-pub write_number-requires-clause-home : goal.write_number-requires-clause-home
-write_number-requires-clause-home c =
-    let w : SharedValue = the_view c.self.inside in
-    let p : Private = c.args.part.now in
-    let k : ℕ = c.args.worker in
-    let F : Fits w k p = subst (λ (z : SharedValue). Fits z k p) (sym c.self.view_is) c.requires.fits in
-    let shared : IsShared w p = subst (λ (z : SharedValue). IsShared z p) (sym c.self.view_is) c.requires.shared in
-    let free : refused w (alone_event k p) ≡ None = subst (λ (z : SharedValue). refused z (alone_event k p) ≡ None) (sym c.self.view_is) c.requires.free in
-    let T : (n : ℕ) × TellsOther w p (StoresNumber c.args.object c.args.field c.args.value) n = subst (λ (z : SharedValue). (n : ℕ) × TellsOther z p (StoresNumber c.args.object c.args.field c.args.value) n) (sym c.self.view_is) c.requires.stores in
-    entries.home_number w k p c.self.invariant F shared free c.args.object c.args.field c.args.value T.0 T.1
 
 pub write_number-requires-clause-there : goal.write_number-requires-clause-there
 write_number-requires-clause-there c =
@@ -94,12 +89,13 @@ invariant_of-self c =
     let shared : IsShared w p = subst (λ (z : SharedValue). IsShared z p) (sym c.self.view_is) c.requires.shared in
     let free : refused w (alone_event k p) ≡ None = subst (λ (z : SharedValue). refused z (alone_event k p) ≡ None) (sym c.self.view_is) c.requires.free in
     let T : (n : ℕ) × TellsOther w p (StoresNumber c.args.object c.args.field c.args.value) n = subst (λ (z : SharedValue). (n : ℕ) × TellsOther z p (StoresNumber c.args.object c.args.field c.args.value) n) (sym c.self.view_is) c.requires.stores in
-    let homes : c.write_number.new.homes ≡ slice_set w.homes (entries.owner_number w k p c.self.invariant F shared free c.args.object c.args.field c.args.value T.0 T.1) (Some (put_rest (entries.foreign_number w k p c.self.invariant F shared free c.args.object c.args.field c.args.value T.0 T.1).rest c.args.object (with_int (cell_of (entries.foreign_number w k p c.self.invariant F shared free c.args.object c.args.field c.args.value T.0 T.1).rest.heap.chunks c.args.object) c.args.field c.args.value))) =
-    c.write_number.ensures (entries.owner_number w k p c.self.invariant F shared free c.args.object c.args.field c.args.value T.0 T.1) (entries.foreign_number w k p c.self.invariant F shared free c.args.object c.args.field c.args.value T.0 T.1).rest (entries.foreign_number w k p c.self.invariant F shared free c.args.object c.args.field c.args.value T.0 T.1).place.chunk (entries.foreign_number w k p c.self.invariant F shared free c.args.object c.args.field c.args.value T.0 T.1).there
-    ∙ ap (λ (z : ℤ). slice_set w.homes (entries.owner_number w k p c.self.invariant F shared free c.args.object c.args.field c.args.value T.0 T.1) (Some (put_rest (entries.foreign_number w k p c.self.invariant F shared free c.args.object c.args.field c.args.value T.0 T.1).rest c.args.object (with_int (cell_of (entries.foreign_number w k p c.self.invariant F shared free c.args.object c.args.field c.args.value T.0 T.1).rest.heap.chunks c.args.object) c.args.field z)))) (to_z-of_z w64 c.args.value c.ranges.value) in
+    let h : Heaps = c.write_number.new.heaps in
+    let homes : h.homes ≡ written c.self.inside.heaps.homes (slice_set w.homes (entries.owner_number w k p c.self.invariant F shared free c.args.object c.args.field c.args.value T.0 T.1) (Some (put_rest (entries.foreign_number w k p c.self.invariant F shared free c.args.object c.args.field c.args.value T.0 T.1).rest c.args.object (with_int (cell_of (entries.foreign_number w k p c.self.invariant F shared free c.args.object c.args.field c.args.value T.0 T.1).rest.heap.chunks c.args.object) c.args.field c.args.value)))) =
+    c.write_number.ensures.written (entries.owner_number w k p c.self.invariant F shared free c.args.object c.args.field c.args.value T.0 T.1) (entries.foreign_number w k p c.self.invariant F shared free c.args.object c.args.field c.args.value T.0 T.1).rest (entries.foreign_number w k p c.self.invariant F shared free c.args.object c.args.field c.args.value T.0 T.1).place.chunk (entries.foreign_number w k p c.self.invariant F shared free c.args.object c.args.field c.args.value T.0 T.1).there
+    ∙ ap (λ (z : ℤ). written c.self.inside.heaps.homes (slice_set w.homes (entries.owner_number w k p c.self.invariant F shared free c.args.object c.args.field c.args.value T.0 T.1) (Some (put_rest (entries.foreign_number w k p c.self.invariant F shared free c.args.object c.args.field c.args.value T.0 T.1).rest c.args.object (with_int (cell_of (entries.foreign_number w k p c.self.invariant F shared free c.args.object c.args.field c.args.value T.0 T.1).rest.heap.chunks c.args.object) c.args.field z))))) (to_z-of_z w64 c.args.value c.ranges.value) in
     let space : RoomyValue EntryValue = record { items = []; room = w.journal.room - 1 } in
-    along w k p _ _ c.enter_alone.ensures.steps c.enter_alone.ensures.journal (λ n j. IsSharedValue (record w { homes = c.write_number.new.homes; steps = n; journal = j }))
-    (subst (λ (hs : List (Option Rest)). IsSharedValue (record w { homes = hs; steps = w.steps + (p.fresh + 1); journal = entered w k p })) (sym homes) (entries.number_world w k p c.self.invariant F shared free c.args.object c.args.field c.args.value T.0 T.1 space))
+    along w k p _ _ c.enter_alone.ensures.steps c.enter_alone.ensures.journal (λ n j. IsSharedValue (with_heaps w h n j))
+    (subst IsSharedValue (written_by w (w.steps + (p.fresh + 1)) (entered w k p) h _ w.sets c.write_number.ensures.pool (ap (λ (z : HomesValue). z.marks) homes) (ap (λ (z : HomesValue). z.rests) homes) (ap (λ (z : HomesValue). z.sets) homes)) (entries.number_world w k p c.self.invariant F shared free c.args.object c.args.field c.args.value T.0 T.1 space))
 
 pub returns : goal.returns
 returns c =
@@ -110,11 +106,12 @@ returns c =
     let shared : IsShared w p = subst (λ (z : SharedValue). IsShared z p) (sym c.self.view_is) c.requires.shared in
     let free : refused w (alone_event k p) ≡ None = subst (λ (z : SharedValue). refused z (alone_event k p) ≡ None) (sym c.self.view_is) c.requires.free in
     let T : (n : ℕ) × TellsOther w p (StoresNumber c.args.object c.args.field c.args.value) n = subst (λ (z : SharedValue). (n : ℕ) × TellsOther z p (StoresNumber c.args.object c.args.field c.args.value) n) (sym c.self.view_is) c.requires.stores in
-    let homes : c.write_number.new.homes ≡ slice_set w.homes (entries.owner_number w k p c.self.invariant F shared free c.args.object c.args.field c.args.value T.0 T.1) (Some (put_rest (entries.foreign_number w k p c.self.invariant F shared free c.args.object c.args.field c.args.value T.0 T.1).rest c.args.object (with_int (cell_of (entries.foreign_number w k p c.self.invariant F shared free c.args.object c.args.field c.args.value T.0 T.1).rest.heap.chunks c.args.object) c.args.field c.args.value))) =
-    c.write_number.ensures (entries.owner_number w k p c.self.invariant F shared free c.args.object c.args.field c.args.value T.0 T.1) (entries.foreign_number w k p c.self.invariant F shared free c.args.object c.args.field c.args.value T.0 T.1).rest (entries.foreign_number w k p c.self.invariant F shared free c.args.object c.args.field c.args.value T.0 T.1).place.chunk (entries.foreign_number w k p c.self.invariant F shared free c.args.object c.args.field c.args.value T.0 T.1).there
-    ∙ ap (λ (z : ℤ). slice_set w.homes (entries.owner_number w k p c.self.invariant F shared free c.args.object c.args.field c.args.value T.0 T.1) (Some (put_rest (entries.foreign_number w k p c.self.invariant F shared free c.args.object c.args.field c.args.value T.0 T.1).rest c.args.object (with_int (cell_of (entries.foreign_number w k p c.self.invariant F shared free c.args.object c.args.field c.args.value T.0 T.1).rest.heap.chunks c.args.object) c.args.field z)))) (to_z-of_z w64 c.args.value c.ranges.value) in
+    let h : Heaps = c.write_number.new.heaps in
+    let homes : h.homes ≡ written c.self.inside.heaps.homes (slice_set w.homes (entries.owner_number w k p c.self.invariant F shared free c.args.object c.args.field c.args.value T.0 T.1) (Some (put_rest (entries.foreign_number w k p c.self.invariant F shared free c.args.object c.args.field c.args.value T.0 T.1).rest c.args.object (with_int (cell_of (entries.foreign_number w k p c.self.invariant F shared free c.args.object c.args.field c.args.value T.0 T.1).rest.heap.chunks c.args.object) c.args.field c.args.value)))) =
+    c.write_number.ensures.written (entries.owner_number w k p c.self.invariant F shared free c.args.object c.args.field c.args.value T.0 T.1) (entries.foreign_number w k p c.self.invariant F shared free c.args.object c.args.field c.args.value T.0 T.1).rest (entries.foreign_number w k p c.self.invariant F shared free c.args.object c.args.field c.args.value T.0 T.1).place.chunk (entries.foreign_number w k p c.self.invariant F shared free c.args.object c.args.field c.args.value T.0 T.1).there
+    ∙ ap (λ (z : ℤ). written c.self.inside.heaps.homes (slice_set w.homes (entries.owner_number w k p c.self.invariant F shared free c.args.object c.args.field c.args.value T.0 T.1) (Some (put_rest (entries.foreign_number w k p c.self.invariant F shared free c.args.object c.args.field c.args.value T.0 T.1).rest c.args.object (with_int (cell_of (entries.foreign_number w k p c.self.invariant F shared free c.args.object c.args.field c.args.value T.0 T.1).rest.heap.chunks c.args.object) c.args.field z))))) (to_z-of_z w64 c.args.value c.ranges.value) in
     let space : RoomyValue EntryValue = record { items = []; room = w.journal.room - 1 } in
-    subst (λ (z : SharedValue). GoesAlone z (record w { homes = c.write_number.new.homes; steps = c.enter_alone.new.steps; journal = c.enter_alone.new.journal }) k p (record p { frames = c.go_on.new.frames; fresh = 0 })) c.self.view_is
-    (subst (λ (s : FramesValue). GoesAlone w (record w { homes = c.write_number.new.homes; steps = c.enter_alone.new.steps; journal = c.enter_alone.new.journal }) k p (record p { frames = s; fresh = 0 })) (sym c.go_on.ensures)
-    (along w k p _ _ c.enter_alone.ensures.steps c.enter_alone.ensures.journal (λ n j. GoesAlone w (record w { homes = c.write_number.new.homes; steps = n; journal = j }) k p (record p { frames = store_frames None p.frames; fresh = 0 }))
-    (subst (λ (hs : List (Option Rest)). GoesAlone w (record w { homes = hs; steps = w.steps + (p.fresh + 1); journal = entered w k p }) k p (record p { frames = store_frames None p.frames; fresh = 0 })) (sym homes) (entries.number_goes w k p c.self.invariant F shared free c.args.object c.args.field c.args.value T.0 T.1 space))))
+    subst (λ (z : SharedValue). GoesAlone z (with_heaps w h c.enter_alone.new.steps c.enter_alone.new.journal) k p (record p { frames = c.go_on.new.frames; fresh = 0 })) c.self.view_is
+    (subst (λ (s : FramesValue). GoesAlone w (with_heaps w h c.enter_alone.new.steps c.enter_alone.new.journal) k p (record p { frames = s; fresh = 0 })) (sym c.go_on.ensures)
+    (along w k p _ _ c.enter_alone.ensures.steps c.enter_alone.ensures.journal (λ n j. GoesAlone w (with_heaps w h n j) k p (record p { frames = store_frames None p.frames; fresh = 0 }))
+    (subst (λ (z : SharedValue). GoesAlone w z k p (record p { frames = store_frames None p.frames; fresh = 0 })) (written_by w (w.steps + (p.fresh + 1)) (entered w k p) h _ w.sets c.write_number.ensures.pool (ap (λ (z : HomesValue). z.marks) homes) (ap (λ (z : HomesValue). z.rests) homes) (ap (λ (z : HomesValue). z.sets) homes)) (entries.number_goes w k p c.self.invariant F shared free c.args.object c.args.field c.args.value T.0 T.1 space))))

@@ -1,11 +1,14 @@
-use Rattle.std.proofs.Common.{◌≡◌, ℕ, None, sym, subst}
+use Rattle.std.proofs.Common.{◌≡◌, ℕ, None, length, option_map, slice_get, slice_set, ap, sym, subst, ◌∙◌}
 use Rattle.run_trace.specs.Entry.{EntryValue}
 use Rattle.run_trace.specs.declared.entry.Kind.TheVariants.{Sweep}
+use Rattle.write_barrier.specs.Stored.{content_at}
+use Rattle.task_homes.specs.HomesValue.{HomesValue}
 use Rattle.shared_value.specs.SharedValue.{SharedValue}
 use Rattle.shared_value.specs.Fits.{AllFit}
 use Rattle.shared_value.specs.Entered.{refused}
 use Rattle.shared_value.proofs.JournalGoesOn.{journal_by}
-use Rattle.heap_marking.proofs.SweepEntered.{can_all, fits_so, has_home, has_marking, has_set, m, marked, r, there, world_so}
+use Rattle.heap_marking.specs.Sweeping.{SweepsHome, forgotten}
+use Rattle.heap_marking.proofs.SweepEntered.{can_all, fits_so, has_home, has_marking, m, marked, r, there, world_so}
 use Rattle.shared_tree.specs.contracts.shared.Shared.{the_view}
 use Rattle.shared_tree.proofs.shared.Shared.enter_sweep.Goals as goal
 
@@ -31,11 +34,7 @@ drop_unmarked-requires-clause-can c =
     can_all w c.args.worker c.args.t c.args.given c.self.invariant free
 
 pub forget_kept-requires : goal.forget_kept-requires
-forget_kept-requires c =
-    let w : SharedValue = the_view c.self.inside in
-    let e : EntryValue = record { worker = c.args.worker; kind = Sweep c.args.t c.args.given } in
-    let free : refused w e ≡ None = subst (λ (z : SharedValue). refused z e ≡ None) (sym c.self.view_is) c.requires.free in
-    record { made = has_set w c.args.worker c.args.t c.args.given c.self.invariant free }
+forget_kept-requires c = record { block = c.drop_unmarked.ensures.block }
 
 pub invariant_of-self : goal.invariant_of-self
 invariant_of-self c =
@@ -43,10 +42,17 @@ invariant_of-self c =
     let t : ℕ = c.args.t in
     let e : EntryValue = record { worker = c.args.worker; kind = Sweep t c.args.given } in
     let free : refused w e ≡ None = subst (λ (z : SharedValue). refused z e ≡ None) (sym c.self.view_is) c.requires.free in
-    let swept = c.drop_unmarked.ensures.swept (r w c.args.worker t c.args.given c.self.invariant free) (m w c.args.worker t c.args.given c.self.invariant free)
-    (there w c.args.worker t c.args.given c.self.invariant free) (marked w c.args.worker t c.args.given c.self.invariant free) in
-    world_so w c.args.worker t c.args.given c.self.invariant free c.drop_unmarked.new.homes c.drop_unmarked.new.pool swept c.drop_unmarked.new.marks c.drop_unmarked.ensures.marks
-    c.forget_kept.new.sets.items c.forget_kept.ensures.many c.forget_kept.ensures.none c.forget_kept.ensures.others c.push_reserved.new.self (journal_by w.journal _ _ e c.new.ensures c.push_reserved.ensures)
+    let rests : c.forget_kept.new.homes.rests ≡ c.drop_unmarked.new.heaps.homes.rests = ap (λ (h : HomesValue). h.rests) c.forget_kept.ensures.homes in
+    let marks : c.forget_kept.new.homes.marks ≡ slice_set w.marks t None = ap (λ (h : HomesValue). h.marks) c.forget_kept.ensures.homes ∙ ap (λ (h : HomesValue). h.marks) c.drop_unmarked.ensures.homes in
+    let sets : c.drop_unmarked.new.heaps.homes.sets ≡ w.sets = ap (λ (h : HomesValue). h.sets) c.drop_unmarked.ensures.homes in
+    let swept = subst (λ hs. SweepsHome w.homes hs w.pool c.drop_unmarked.new.heaps.pool t (r w c.args.worker t c.args.given c.self.invariant free) (m w c.args.worker t c.args.given c.self.invariant free)) (sym rests)
+    (c.drop_unmarked.ensures.swept (r w c.args.worker t c.args.given c.self.invariant free) (m w c.args.worker t c.args.given c.self.invariant free)
+    (there w c.args.worker t c.args.given c.self.invariant free) (marked w c.args.worker t c.args.given c.self.invariant free)) in
+    let many : length c.forget_kept.new.homes.sets ≡ length w.sets = c.forget_kept.ensures.many ∙ ap length sets in
+    let none = c.forget_kept.ensures.none ∙ ap (λ xs. option_map forgotten (content_at xs t)) sets in
+    let others : (u : ℕ) → (u ≡ t → ⊥) → slice_get c.forget_kept.new.homes.sets u ≡ slice_get w.sets u = λ u ne. c.forget_kept.ensures.others u ne ∙ ap (λ xs. slice_get xs u) sets in
+    world_so w c.args.worker t c.args.given c.self.invariant free c.forget_kept.new.homes.rests c.drop_unmarked.new.heaps.pool swept c.forget_kept.new.homes.marks marks
+    c.forget_kept.new.homes.sets many none others c.push_reserved.new.self (journal_by w.journal _ _ e c.new.ensures c.push_reserved.ensures)
 
 pub returns-clause-fits : goal.returns-clause-fits
 returns-clause-fits c =
@@ -54,8 +60,15 @@ returns-clause-fits c =
     let t : ℕ = c.args.t in
     let e : EntryValue = record { worker = c.args.worker; kind = Sweep t c.args.given } in
     let free : refused w e ≡ None = subst (λ (z : SharedValue). refused z e ≡ None) (sym c.self.view_is) c.requires.free in
-    let swept = c.drop_unmarked.ensures.swept (r w c.args.worker t c.args.given c.self.invariant free) (m w c.args.worker t c.args.given c.self.invariant free)
-    (there w c.args.worker t c.args.given c.self.invariant free) (marked w c.args.worker t c.args.given c.self.invariant free) in
-    subst (λ (z : SharedValue). AllFit z (record w { pool = c.drop_unmarked.new.pool; homes = c.drop_unmarked.new.homes; sets = c.forget_kept.new.sets.items; marks = c.drop_unmarked.new.marks; journal = c.push_reserved.new.self })) c.self.view_is
-    (fits_so w c.args.worker t c.args.given c.self.invariant free c.drop_unmarked.new.homes c.drop_unmarked.new.pool swept c.drop_unmarked.new.marks c.drop_unmarked.ensures.marks
-    c.forget_kept.new.sets.items c.forget_kept.ensures.many c.forget_kept.ensures.none c.forget_kept.ensures.others c.push_reserved.new.self (journal_by w.journal _ _ e c.new.ensures c.push_reserved.ensures))
+    let rests : c.forget_kept.new.homes.rests ≡ c.drop_unmarked.new.heaps.homes.rests = ap (λ (h : HomesValue). h.rests) c.forget_kept.ensures.homes in
+    let marks : c.forget_kept.new.homes.marks ≡ slice_set w.marks t None = ap (λ (h : HomesValue). h.marks) c.forget_kept.ensures.homes ∙ ap (λ (h : HomesValue). h.marks) c.drop_unmarked.ensures.homes in
+    let sets : c.drop_unmarked.new.heaps.homes.sets ≡ w.sets = ap (λ (h : HomesValue). h.sets) c.drop_unmarked.ensures.homes in
+    let swept = subst (λ hs. SweepsHome w.homes hs w.pool c.drop_unmarked.new.heaps.pool t (r w c.args.worker t c.args.given c.self.invariant free) (m w c.args.worker t c.args.given c.self.invariant free)) (sym rests)
+    (c.drop_unmarked.ensures.swept (r w c.args.worker t c.args.given c.self.invariant free) (m w c.args.worker t c.args.given c.self.invariant free)
+    (there w c.args.worker t c.args.given c.self.invariant free) (marked w c.args.worker t c.args.given c.self.invariant free)) in
+    let many : length c.forget_kept.new.homes.sets ≡ length w.sets = c.forget_kept.ensures.many ∙ ap length sets in
+    let none = c.forget_kept.ensures.none ∙ ap (λ xs. option_map forgotten (content_at xs t)) sets in
+    let others : (u : ℕ) → (u ≡ t → ⊥) → slice_get c.forget_kept.new.homes.sets u ≡ slice_get w.sets u = λ u ne. c.forget_kept.ensures.others u ne ∙ ap (λ xs. slice_get xs u) sets in
+    subst (λ (z : SharedValue). AllFit z (record w { pool = c.drop_unmarked.new.heaps.pool; homes = c.forget_kept.new.homes.rests; sets = c.forget_kept.new.homes.sets; marks = c.forget_kept.new.homes.marks; journal = c.push_reserved.new.self })) c.self.view_is
+    (fits_so w c.args.worker t c.args.given c.self.invariant free c.forget_kept.new.homes.rests c.drop_unmarked.new.heaps.pool swept c.forget_kept.new.homes.marks marks
+    c.forget_kept.new.homes.sets many none others c.push_reserved.new.self (journal_by w.journal _ _ e c.new.ensures c.push_reserved.ensures))

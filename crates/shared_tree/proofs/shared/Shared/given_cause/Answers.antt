@@ -1,5 +1,5 @@
-use Rattle.std.proofs.Common.{◌≡◌, ℕ, ◌<◌, ◌^◌, arith, Some, None, ap, sym, ◌∙◌}
-use Rattle.shared_value.specs.SharedValue.{SharedValue, accounts, flat, marks_at}
+use Rattle.std.proofs.Common.{◌≡◌, ℕ, ◌<◌, ◌^◌, arith, Some, None, option_copied, ap, sym, ◌∙◌}
+use Rattle.shared_value.specs.SharedValue.{SharedValue, accounts, marks_at}
 use Rattle.heap_marking.specs.MarkCauses.{marking_cause}
 use Rattle.heap_marking.proofs.SweptUnits.{few_at}
 use Rattle.shared_tree.specs.contracts.shared.Shared.{the_view}
@@ -11,7 +11,7 @@ overflow_cast-result c =
     let t : ℕ = c.args.t in
     let on : (accounts w).end ≡ None = ap (λ (z : SharedValue). (accounts z).end) c.self.view_is ∙ c.requires.goes in
     let free : marking_cause w t ≡ None = ap (λ (z : SharedValue). marking_cause z t) c.self.view_is ∙ c.requires.marking in
-    let at : marks_at w.marks t ≡ Some c.get.result.now = (ap flat c.at.ensures ∙ c.in-Some.is) ∙ ap Some (sym c.get.ensures) in
-    let few : c.get.result.now.marked < 2 ^ 32 = few_at w c.self.invariant on t free c.get.result.now at in
+    let at : marks_at w.marks t ≡ Some c.in-Some.marking.now = sym c.marking.ensures ∙ ap option_copied c.in-Some.is in
+    let few : c.in-Some.marking.now.marked < 2 ^ 32 = few_at w c.self.invariant on t free c.in-Some.marking.now at in
     let is = c.marked.ensures in
     omega (arith, few, is)

@@ -1,4 +1,4 @@
-use Rattle.std.proofs.Common.{◌≡◌, ◌==◌, ◌↔◌, ◌≤◌, ℕ, All, IsTrue, List, Some, None, ap, length, sym, subst, ◌∙◌}
+use Rattle.std.proofs.Common.{◌≡◌, ◌==◌, ◌↔◌, ◌≤◌, ℕ, All, IsTrue, List, Some, None, ap, length, option_copied, slice_get, sym, subst, ◌∙◌}
 use Rattle.run_ledger.specs.Heaps.{heap_of, left_in}
 use Rattle.object_layout.specs.declared.word.Addr.{Addr}
 use Rattle.object_layout.specs.ChunkValue.{ChunkValue}
@@ -6,11 +6,11 @@ use Rattle.object_layout.specs.Graph.{IsHeld}
 use Rattle.inner_mark_gc.specs.MarkingValue.{IsAllMarked, IsMarking, IsOf}
 use Rattle.inner_mark_gc.specs.Snapshot.{Fork, IsSince}
 use Rattle.core_relation.specs.Since.{kept}
-use Rattle.shared_value.specs.SharedValue.{SharedValue, accounts, flat, marks_at, value_of}
+use Rattle.shared_value.specs.SharedValue.{SharedValue, accounts, marks_at, value_of}
 use Rattle.heap_marking.specs.MarkCauses.{marking_cause}
 use Rattle.heap_marking.specs.Marking.{Further}
-use Rattle.heap_marking.proofs.MarkEntries.{kept_is}
-use Rattle.heap_marking.proofs.MarkedHeap.{further, keeps, left_by, marks_within, never_unmarked, rest}
+use Rattle.heap_marking.proofs.MarkEntries.{kept_noted}
+use Rattle.heap_marking.proofs.MarkedHeap.{further, left_by, never_unmarked, rest}
 use Rattle.shared_tree.specs.contracts.shared.Shared.{the_view}
 use Rattle.shared_tree.proofs.shared.Shared.is_marked.Goals as goal
 
@@ -20,15 +20,7 @@ unreachable-requires c =
     let t : ℕ = c.args.t in
     let on : (accounts w).end ≡ None = ap (λ (z : SharedValue). (accounts z).end) c.self.view_is ∙ c.requires.goes in
     let free : marking_cause w t ≡ None = ap (λ (z : SharedValue). marking_cause z t) c.self.view_is ∙ c.requires.marking in
-    never_unmarked w c.self.invariant on t free (ap flat c.at.ensures ∙ c.in-None.is)
-
-pub at-requires : goal.at-requires
-at-requires c =
-    let w : SharedValue = the_view c.self.inside in
-    let t : ℕ = c.args.t in
-    let on : (accounts w).end ≡ None = ap (λ (z : SharedValue). (accounts z).end) c.self.view_is ∙ c.requires.goes in
-    let free : marking_cause w t ≡ None = ap (λ (z : SharedValue). marking_cause z t) c.self.view_is ∙ c.requires.marking in
-    marks_within w c.self.invariant on t free
+    never_unmarked w c.self.invariant on t free (sym c.marking.ensures ∙ ap option_copied c.in-None.is)
 
 pub ready-requires : goal.ready-requires
 ready-requires c =
@@ -37,10 +29,10 @@ ready-requires c =
     let on : (accounts w).end ≡ None = ap (λ (z : SharedValue). (accounts z).end) c.self.view_is ∙ c.requires.goes in
     let free : marking_cause w t ≡ None = ap (λ (z : SharedValue). marking_cause z t) c.self.view_is ∙ c.requires.marking in
     let home = rest w c.self.invariant on t free in
-    let at : marks_at w.marks t ≡ Some c.get.result.now = (ap flat c.at.ensures ∙ c.in-Some.is) ∙ ap Some (sym c.get.ensures) in
-    let same : c.kept-kept.result.now ≡ kept (value_of w) t = c.kept-kept.ensures ∙ kept_is w.sets t c.index.result.now (keeps w c.self.invariant on t free) c.index.ensures in
-    let F : Further w t home.0 c.get.result.now = further w c.self.invariant on t free home.0 c.get.result.now home.1 at in
-    subst (λ (xs : List Addr). c.get.result.now.followed ≤ length xs) (sym same) F.own.followed
+    let at : marks_at w.marks t ≡ Some c.in-Some.marking.now = sym c.marking.ensures ∙ ap option_copied c.in-Some.is in
+    let same : c.kept-kept.result.now ≡ kept (value_of w) t = c.kept-kept.ensures ∙ kept_noted (slice_get w.sets t) in
+    let F : Further w t home.0 c.in-Some.marking.now = further w c.self.invariant on t free home.0 c.in-Some.marking.now home.1 at in
+    subst (λ (xs : List Addr). c.in-Some.marking.now.followed ≤ length xs) (sym same) F.own.followed
 
 pub returns : goal.returns
 returns c =
@@ -49,10 +41,10 @@ returns c =
     let on : (accounts w).end ≡ None = ap (λ (z : SharedValue). (accounts z).end) c.self.view_is ∙ c.requires.goes in
     let free : marking_cause w t ≡ None = ap (λ (z : SharedValue). marking_cause z t) c.self.view_is ∙ c.requires.marking in
     let home = rest w c.self.invariant on t free in
-    let at : marks_at w.marks t ≡ Some c.get.result.now = (ap flat c.at.ensures ∙ c.in-Some.is) ∙ ap Some (sym c.get.ensures) in
-    let same : c.kept-kept.result.now ≡ kept (value_of w) t = c.kept-kept.ensures ∙ kept_is w.sets t c.index.result.now (keeps w c.self.invariant on t free) c.index.ensures in
-    let F : Further w t home.0 c.get.result.now = further w c.self.invariant on t free home.0 c.get.result.now home.1 at in
-    left_by w c.self.invariant on t free home.0 c.get.result.now home.1 at c.ready.result
-    (λ f. subst (λ (xs : List Addr). (g : Fork) (h : List ChunkValue) → All (IsHeld h) xs → IsOf h xs c.get.result.now → IsSince g xs h → IsMarking g xs c.get.result.now → IsTrue c.ready.result ↔ IsAllMarked g xs c.get.result.now) same c.ready.ensures.ready
+    let at : marks_at w.marks t ≡ Some c.in-Some.marking.now = sym c.marking.ensures ∙ ap option_copied c.in-Some.is in
+    let same : c.kept-kept.result.now ≡ kept (value_of w) t = c.kept-kept.ensures ∙ kept_noted (slice_get w.sets t) in
+    let F : Further w t home.0 c.in-Some.marking.now = further w c.self.invariant on t free home.0 c.in-Some.marking.now home.1 at in
+    left_by w c.self.invariant on t free home.0 c.in-Some.marking.now home.1 at c.ready.result
+    (λ f. subst (λ (xs : List Addr). (g : Fork) (h : List ChunkValue) → All (IsHeld h) xs → IsOf h xs c.in-Some.marking.now → IsSince g xs h → IsMarking g xs c.in-Some.marking.now → IsTrue c.ready.result ↔ IsAllMarked g xs c.in-Some.marking.now) same c.ready.ensures.ready
     f home.0.heap.chunks F.kept F.own)
     ∙ ap (λ (z : SharedValue). left_in (heap_of (accounts z) t) == 0) c.self.view_is

@@ -1,17 +1,22 @@
-use Rattle.std.proofs.Common.{◌≡◌, ℕ, true, false, List, is_some, ap, sym, subst, ◌∙◌}
+use Rattle.std.proofs.Common.{◌≡◌, ℕ, true, false, Option, Some, None, is_some, option_copied, refl, ap, sym, subst, ◌∙◌}
+use Rattle.std.specs.Borrow.{Bor}
 use Rattle.run_trace.specs.declared.entry.Kind.TheVariants.{Mark}
 use Rattle.run_ledger.specs.Heaps.{heap_of, words_in}
 use Rattle.alloc_path.specs.LeafHeapValue.{counted}
-use Rattle.write_barrier.specs.declared.sets.SetOf.{SetOf}
 use Rattle.shared_value.specs.Causes.{first_cause}
 use Rattle.shared_value.specs.Entered.{refused}
 use Rattle.shared_value.specs.SharedValue.{SharedValue, accounts, marks_at}
 use Rattle.shared_value.specs.Stands.{IsSharedValue}
 use Rattle.leaf_collections.proofs.WhyNoChunk.{first_answer}
-use Rattle.heap_marking.specs.MarkCauses.{waiting_cause, waiting_cause_in, words_cause}
+use Rattle.heap_marking.specs.MarkCauses.{waiting_cause, words_cause}
 use Rattle.heap_marking.proofs.MarkEntries.{mark_as_marking, mark_as_waiting, mark_as_words}
 use Rattle.shared_tree.specs.contracts.shared.Shared.{the_view}
 use Rattle.shared_tree.proofs.shared.Shared.mark_refused.Goals as goal
+
+-- a reference is there where what it leads to is
+some_copied : {A : Type 0} (o : Option (Bor A)) → is_some (option_copied o) ≡ is_some o
+some_copied None = refl
+some_copied (Some r) = refl
 
 pub returns-then-is_some : goal.returns-then-is_some
 returns-then-is_some c =
@@ -31,11 +36,11 @@ returns-then-is_some-2 c =
     let first : is_some (first_cause z.end z.steps z.settings k false) ≡ false =
     ap (λ (y : SharedValue). is_some (first_cause y.end y.steps y.settings k false)) (sym c.self.view_is) ∙ (ap is_some (sym c.first_cause-first.ensures) ∙ (sym c.is_some.ensures ∙ c.if-is_some.false)) in
     let waiting : c.waiting_cause-waiting.result ≡ waiting_cause z t =
-    c.waiting_cause-waiting.ensures ∙ (ap (λ (xs : List SetOf). waiting_cause_in c.self.inside.tree xs t) c.deref.ensures.value ∙ ap (λ (y : SharedValue). waiting_cause y t) c.self.view_is) in
+    c.waiting_cause-waiting.ensures ∙ ap (λ (y : SharedValue). waiting_cause y t) c.self.view_is in
     mark_as_waiting z I k t c.waiting_cause-waiting.result first waiting (sym c.is_some-2.ensures ∙ c.if-is_some-2.true)
 
-pub returns-then-is_marking : goal.returns-then-is_marking
-returns-then-is_marking c =
+pub returns-then-is_some-3 : goal.returns-then-is_some-3
+returns-then-is_some-3 c =
     let z : SharedValue = c.args.self.now in
     let k : ℕ = c.args.worker in
     let t : ℕ = c.args.t in
@@ -43,9 +48,10 @@ returns-then-is_marking c =
     let first : is_some (first_cause z.end z.steps z.settings k false) ≡ false =
     ap (λ (y : SharedValue). is_some (first_cause y.end y.steps y.settings k false)) (sym c.self.view_is) ∙ (ap is_some (sym c.first_cause-first.ensures) ∙ (sym c.is_some.ensures ∙ c.if-is_some.false)) in
     let waiting : c.waiting_cause-waiting.result ≡ waiting_cause z t =
-    c.waiting_cause-waiting.ensures ∙ (ap (λ (xs : List SetOf). waiting_cause_in c.self.inside.tree xs t) c.deref.ensures.value ∙ ap (λ (y : SharedValue). waiting_cause y t) c.self.view_is) in
-    let marks : is_some (marks_at z.marks t) ≡ c.is_marking.result = ap (λ (y : SharedValue). is_some (marks_at y.marks t)) (sym c.self.view_is) ∙ sym c.is_marking.ensures in
-    mark_as_marking z I k t c.waiting_cause-waiting.result first waiting (sym c.is_some-2.ensures ∙ c.if-is_some-2.false) (marks ∙ c.if-is_marking.true)
+    c.waiting_cause-waiting.ensures ∙ ap (λ (y : SharedValue). waiting_cause y t) c.self.view_is in
+    let marks : is_some (marks_at z.marks t) ≡ c.is_some-3.result =
+    ap (λ (y : SharedValue). is_some (marks_at y.marks t)) (sym c.self.view_is) ∙ (ap is_some (sym c.marking.ensures) ∙ (some_copied c.marking.result ∙ sym c.is_some-3.ensures)) in
+    mark_as_marking z I k t c.waiting_cause-waiting.result first waiting (sym c.is_some-2.ensures ∙ c.if-is_some-2.false) (marks ∙ c.if-is_some-3.true)
 
 pub returns : goal.returns
 returns c =
@@ -56,10 +62,11 @@ returns c =
     let first : is_some (first_cause z.end z.steps z.settings k false) ≡ false =
     ap (λ (y : SharedValue). is_some (first_cause y.end y.steps y.settings k false)) (sym c.self.view_is) ∙ (ap is_some (sym c.first_cause-first.ensures) ∙ (sym c.is_some.ensures ∙ c.if-is_some.false)) in
     let waiting : c.waiting_cause-waiting.result ≡ waiting_cause z t =
-    c.waiting_cause-waiting.ensures ∙ (ap (λ (xs : List SetOf). waiting_cause_in c.self.inside.tree xs t) c.deref.ensures.value ∙ ap (λ (y : SharedValue). waiting_cause y t) c.self.view_is) in
-    let marks : is_some (marks_at z.marks t) ≡ c.is_marking.result = ap (λ (y : SharedValue). is_some (marks_at y.marks t)) (sym c.self.view_is) ∙ sym c.is_marking.ensures in
+    c.waiting_cause-waiting.ensures ∙ ap (λ (y : SharedValue). waiting_cause y t) c.self.view_is in
+    let marks : is_some (marks_at z.marks t) ≡ c.is_some-3.result =
+    ap (λ (y : SharedValue). is_some (marks_at y.marks t)) (sym c.self.view_is) ∙ (ap is_some (sym c.marking.ensures) ∙ (some_copied c.marking.result ∙ sym c.is_some-3.ensures)) in
     let words : ℕ = counted (words_in (accounts z).machine (heap_of (accounts z) t)) in
     c.words_cause.ensures
     ∙ (ap (words_cause c.self.inside.settings) c.words_at.ensures
     ∙ (ap (λ (y : SharedValue). words_cause y.settings words) c.self.view_is
-    ∙ mark_as_words z I k t c.waiting_cause-waiting.result first waiting (sym c.is_some-2.ensures ∙ c.if-is_some-2.false) (marks ∙ c.if-is_marking.false)))
+    ∙ mark_as_words z I k t c.waiting_cause-waiting.result first waiting (sym c.is_some-2.ensures ∙ c.if-is_some-2.false) (marks ∙ c.if-is_some-3.false)))

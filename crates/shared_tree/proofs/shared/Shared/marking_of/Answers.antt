@@ -1,14 +1,10 @@
-use Rattle.std.proofs.Common.{◌≡◌, ℕ, All, IfOk, Result, Ok, Err, None, List, slice_get, is_some, ap, sym, subst, ◌∙◌}
+use Rattle.std.proofs.Common.{◌≡◌, ℕ, IfOk, Result, Ok, Err, None, slice_get, is_some, ap, subst, ◌∙◌}
 use Rattle.std.specs.Prelude.{IfSome}
 use Rattle.run_trace.specs.declared.entry.Kind.TheVariants.{Mark}
 use Rattle.run_ledger.specs.Heaps.{heap_of}
-use Rattle.object_layout.specs.Graph.{IsHeld}
-use Rattle.remembered_set.specs.Moved.{AreFields}
-use Rattle.write_barrier.specs.declared.sets.SetOf.{SetOf}
 use Rattle.inner_mark_gc.specs.MarkingValue.{MarkingValue}
 use Rattle.core_relation.specs.Marking.{GoesOn}
-use Rattle.shared_value.specs.declared.task_at_rest.Rest.{Rest}
-use Rattle.shared_value.specs.RestingHeaps.{refs_in}
+use Rattle.task_homes.specs.declared.task_at_rest.Rest.{Rest}
 use Rattle.shared_value.specs.Roots.{heaps_of, sources_of}
 use Rattle.shared_value.specs.SharedValue.{SharedValue, accounts, rest_at, value_of}
 use Rattle.shared_value.proofs.EntryMade.{entry_on}
@@ -26,12 +22,7 @@ begin_marking-requires c =
     let t : ℕ = c.args.t in
     let free : waiting_cause w t ≡ None = ap (λ (z : SharedValue). waiting_cause z t) c.self.view_is ∙ mark_waits c.args.self.now c.stands.ensures k t c.requires.free.1 in
     let on : (accounts w).end ≡ None = ap (λ (z : SharedValue). (accounts z).end) c.self.view_is ∙ entry_on c.args.self.now (record { worker = k; kind = Mark t }) c.requires.free.1 in
-    let sets : c.deref.result.now ≡ w.sets = c.deref.ensures.value in
-    record {
-      there = ap is_some (rest w c.self.invariant on t free).1;
-      fields = subst (λ (xs : List SetOf). AreFields refs_in (heaps_of w) (sources_of (slice_get xs t))) (sym sets) (mark_fields w c.self.invariant t on free);
-      held = subst (λ (xs : List SetOf). IfSome (rest_at w.homes t) (λ (r : Rest). All (IsHeld r.heap.chunks) (starts_in (heaps_of w) (sources_of (slice_get xs t)) r))) (sym sets) (mark_starts w c.self.invariant t on free);
-    }
+    record { there = ap is_some (rest w c.self.invariant on t free).1; fields = mark_fields w c.self.invariant t on free; held = mark_starts w c.self.invariant t on free }
 
 -- what follows from what a call hands out
 done : {A E : Type 0} (P S : A → Type 0) (r : Result A E) → ((a : A) → P a → S a) → IfOk r P → IfOk r S
@@ -45,9 +36,9 @@ returns-clause-none c =
     let t : ℕ = c.args.t in
     let free : waiting_cause w t ≡ None = ap (λ (z : SharedValue). waiting_cause z t) c.self.view_is ∙ mark_waits c.args.self.now c.stands.ensures k t c.requires.free.1 in
     let on : (accounts w).end ≡ None = ap (λ (z : SharedValue). (accounts z).end) c.self.view_is ∙ entry_on c.args.self.now (record { worker = k; kind = Mark t }) c.requires.free.1 in
-    done (λ (m : MarkingValue). IfSome (rest_at w.homes t) (λ (r : Rest). IsBegun r.heap.chunks (starts_in (heaps_of w) (sources_of (slice_get c.deref.result.now t)) r) m)) (λ m. m.marked ≡ 0) c.begin_marking.result
-    (λ m B. (mark_begun w c.self.invariant t on free m (subst (λ (xs : List SetOf). IfSome (rest_at w.homes t) (λ (r : Rest). IsBegun r.heap.chunks (starts_in (heaps_of w) (sources_of (slice_get xs t)) r) m)) c.deref.ensures.value B)).0)
-    c.begin_marking.ensures.begun
+    done (λ (m : MarkingValue). IfSome (rest_at w.homes t) (λ (r : Rest). IsBegun r.heap.chunks (starts_in (heaps_of w) (sources_of (slice_get w.sets t)) r) m)) (λ m. m.marked ≡ 0) c.begin_marking.result
+    (λ m B. (mark_begun w c.self.invariant t on free m B).0)
+    c.begin_marking.ensures
 
 pub returns-clause-goes : goal.returns-clause-goes
 returns-clause-goes c =
@@ -57,6 +48,6 @@ returns-clause-goes c =
     let free : waiting_cause w t ≡ None = ap (λ (z : SharedValue). waiting_cause z t) c.self.view_is ∙ mark_waits c.args.self.now c.stands.ensures k t c.requires.free.1 in
     let on : (accounts w).end ≡ None = ap (λ (z : SharedValue). (accounts z).end) c.self.view_is ∙ entry_on c.args.self.now (record { worker = k; kind = Mark t }) c.requires.free.1 in
     subst (λ (z : SharedValue). IfOk c.begin_marking.result (λ m. GoesOn (value_of z) t (heap_of (accounts z) t).snapshot m)) c.self.view_is
-    (done (λ (m : MarkingValue). IfSome (rest_at w.homes t) (λ (r : Rest). IsBegun r.heap.chunks (starts_in (heaps_of w) (sources_of (slice_get c.deref.result.now t)) r) m)) (λ m. GoesOn (value_of w) t (heap_of (accounts w) t).snapshot m) c.begin_marking.result
-    (λ m B. (mark_begun w c.self.invariant t on free m (subst (λ (xs : List SetOf). IfSome (rest_at w.homes t) (λ (r : Rest). IsBegun r.heap.chunks (starts_in (heaps_of w) (sources_of (slice_get xs t)) r) m)) c.deref.ensures.value B)).1)
-    c.begin_marking.ensures.begun)
+    (done (λ (m : MarkingValue). IfSome (rest_at w.homes t) (λ (r : Rest). IsBegun r.heap.chunks (starts_in (heaps_of w) (sources_of (slice_get w.sets t)) r) m)) (λ m. GoesOn (value_of w) t (heap_of (accounts w) t).snapshot m) c.begin_marking.result
+    (λ m B. (mark_begun w c.self.invariant t on free m B).1)
+    c.begin_marking.ensures)

@@ -1,5 +1,4 @@
-use Rattle.std.proofs.Common.{◌≡◌, ℕ, Option, Some, None, ap, ap₂, sym, subst, ◌∙◌}
-use Rattle.std.proofs.lemmas.Option.{same_Some}
+use Rattle.std.proofs.Common.{◌≡◌, ℕ, Option, Some, None, option_copied, ap, ap₂, sym, subst, ◌∙◌}
 use Rattle.hh_lang.specs.Form.{line_at}
 use Rattle.task_machine.specs.declared.part.Private.{Private}
 use Rattle.shared_value.specs.SharedValue.{SharedValue, accounts}
@@ -60,22 +59,8 @@ owner-owner-requires c =
     let next : next_line w.program p ≡ Some c.in-Some.line = ap₂ (line_at w.program) (sym c.fun.ensures) (sym c.next.ensures) ∙ (sym c.line.ensures ∙ c.in-Some.is) in
     lines.used_there w k p c.self.invariant F shared other on c.in-Some.line next c.in-Some-named.object (sym c.named.ensures ∙ c.in-Some-named.is)
 
-pub at-requires : goal.at-requires
-at-requires c =
-    let w : SharedValue = the_view c.self.inside in
-    let p : Private = c.args.part.now in
-    let held : MayBeEntered w p = subst (λ (z : SharedValue). MayBeEntered z p) (sym c.self.view_is) c.requires.held in
-    let k : ℕ = held.worker in
-    let F : Fits w k p = held.fits in
-    let shared : IsShared w p = subst (λ (z : SharedValue). IsShared z p) (sym c.self.view_is) c.requires.shared in
-    let free : refused w (alone_event k p) ≡ None = held.free in
-    let on : (accounts w).end ≡ None = runs_on w k p c.self.invariant F shared free in
-    let other : IsOther w p = subst (λ (z : SharedValue). IsOther z p) (sym c.self.view_is) c.requires.other in
-    let next : next_line w.program p ≡ Some c.in-Some.line = ap₂ (line_at w.program) (sym c.fun.ensures) (sym c.next.ensures) ∙ (sym c.line.ensures ∙ c.in-Some.is) in
-    lines.home_there w k p c.self.invariant F shared other on c.in-Some.line next c.in-Some-named.object (sym c.named.ensures ∙ c.in-Some-named.is) c.owner-owner.result c.owner-owner.ensures
-
-pub unreachable-requires-in_default-at : goal.unreachable-requires-in_default-at
-unreachable-requires-in_default-at c =
+pub unreachable-requires-in_default-rest : goal.unreachable-requires-in_default-rest
+unreachable-requires-in_default-rest c =
     let w : SharedValue = the_view c.self.inside in
     let p : Private = c.args.part.now in
     let held : MayBeEntered w p = subst (λ (z : SharedValue). MayBeEntered z p) (sym c.self.view_is) c.requires.held in
@@ -87,7 +72,7 @@ unreachable-requires-in_default-at c =
     let other : IsOther w p = subst (λ (z : SharedValue). IsOther z p) (sym c.self.view_is) c.requires.other in
     let next : next_line w.program p ≡ Some c.in-Some.line = ap₂ (line_at w.program) (sym c.fun.ensures) (sym c.next.ensures) ∙ (sym c.line.ensures ∙ c.in-Some.is) in
     let there = lines.rest_is w k p c.self.invariant F shared other on c.in-Some.line next c.in-Some-named.object (sym c.named.ensures ∙ c.in-Some-named.is) c.owner-owner.result c.owner-owner.ensures in
-    none_some (sym c.in_default-at.is ∙ same_Some _ _ (sym c.at.ensures ∙ there))
+    none_some (ap option_copied (sym c.in_default-rest.is) ∙ (c.rest.ensures ∙ there))
 
 pub step_on-does-requires : goal.step_on-does-requires
 step_on-does-requires c =
@@ -101,7 +86,7 @@ step_on-does-requires c =
     let on : (accounts w).end ≡ None = runs_on w k p c.self.invariant F shared free in
     let other : IsOther w p = subst (λ (z : SharedValue). IsOther z p) (sym c.self.view_is) c.requires.other in
     let next : next_line w.program p ≡ Some c.in-Some.line = ap₂ (line_at w.program) (sym c.fun.ensures) (sym c.next.ensures) ∙ (sym c.line.ensures ∙ c.in-Some.is) in
-    lines.can_read w k p c.self.invariant F shared other on c.in-Some.line next c.in-Some-named.object (sym c.named.ensures ∙ c.in-Some-named.is) c.owner-owner.result c.owner-owner.ensures c.get.result.now (c.at.ensures ∙ ap Some (c.in-Some-at.is ∙ ap Some (sym c.get.ensures)))
+    lines.can_read w k p c.self.invariant F shared other on c.in-Some.line next c.in-Some-named.object (sym c.named.ensures ∙ c.in-Some-named.is) c.owner-owner.result c.owner-owner.ensures c.in-Some-rest.rest.now (sym c.rest.ensures ∙ ap option_copied c.in-Some-rest.is)
 
 pub returns : goal.returns
 returns c =
@@ -117,4 +102,4 @@ returns c =
     let next : next_line w.program p ≡ Some c.in-Some.line = ap₂ (line_at w.program) (sym c.fun.ensures) (sym c.next.ensures) ∙ (sym c.line.ensures ∙ c.in-Some.is) in
     subst (λ (z : SharedValue). TellsOther z p c.step_on-does.result c.in-Some.line.number) c.self.view_is
     (subst (λ (e : OtherStep). TellsOther w p e c.in-Some.line.number) (sym c.step_on-does.ensures)
-    (lines.does_so w k p c.self.invariant F shared other on c.in-Some.line next c.in-Some-named.object (sym c.named.ensures ∙ c.in-Some-named.is) c.owner-owner.result c.owner-owner.ensures c.get.result.now (c.at.ensures ∙ ap Some (c.in-Some-at.is ∙ ap Some (sym c.get.ensures)))))
+    (lines.does_so w k p c.self.invariant F shared other on c.in-Some.line next c.in-Some-named.object (sym c.named.ensures ∙ c.in-Some-named.is) c.owner-owner.result c.owner-owner.ensures c.in-Some-rest.rest.now (sym c.rest.ensures ∙ ap option_copied c.in-Some-rest.is)))

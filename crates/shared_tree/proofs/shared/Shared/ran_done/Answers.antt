@@ -1,9 +1,112 @@
-use Rattle.std.proofs.Common.{refl}
+use Rattle.std.proofs.Common.{refl, ◌≡◌, ℕ, ◌+◌, ◌-◌, Some, None, Err, [], slice_set, ap, sym, subst, ◌∙◌}
+use Rattle.hh_model.specs.declared.data.End.TheVariants.{Done}
+use Rattle.run_ledger.specs.declared.data.RunEnd.TheVariants.{Machine}
+use Rattle.heap_tree.specs.declared.state.State.TheVariants.{Ended}
+use Rattle.heap_tree.specs.Node.{with_state}
+use Rattle.task_machine.specs.declared.part.Private.{Private}
+use Rattle.shared_value.specs.declared.next_step.Ending.TheVariants.{Returns}
+use Rattle.task_homes.specs.declared.task_at_rest.Rest.{Rest}
+use Rattle.task_homes.specs.HomesValue.{HomesValue}
+use Rattle.shared_value.specs.declared.answer.NotEntered.TheVariants.{NoMemory}
+use Rattle.shared_value.specs.Stands.{IsSharedValue}
+use Rattle.shared_value.specs.SharedValue.{SharedValue}
+use Rattle.shared_value.specs.Fits.{Fits}
+use Rattle.shared_value.specs.Entered.{refused}
+use Rattle.shared_value.proofs.JournalGoesOn.{four_changed}
+use Rattle.own_steps.specs.Alone.{IsShared, alone_event}
+use Rattle.own_steps.specs.Alone.{FinishesAlone, Tells, ended_rest}
+use Rattle.own_steps.proofs.AloneEntries.{alone_small, finishes_alone, finished_world, home_there, node_there}
 use Rattle.child_tasks.proofs.JoinPlaces.{same_world}
+use Rattle.shared_tree.specs.Calls.{EntersLeaving}
+use Rattle.shared_tree.specs.contracts.shared.Shared.{the_view}
+use Rattle.shared_tree.proofs.StepsEntered.{along, entered}
 use Rattle.shared_tree.proofs.shared.Shared.ran_done.Goals as goal
 
-pub returns-in-Ok : goal.returns-in-Ok
-returns-in-Ok c = record { refused = refl; same = tt; still = tt; back = tt; answered = c.enter_done.ensures }
+pub enter_alone-requires-clause-small : goal.enter_alone-requires-clause-small
+enter_alone-requires-clause-small c =
+    let w : SharedValue = the_view c.self.inside in
+    let p : Private = c.args.part in
+    let k : ℕ = c.args.worker in
+    let F : Fits w k p = subst (λ (z : SharedValue). Fits z k p) (sym c.self.view_is) c.requires.fits in
+    let shared : IsShared w p = subst (λ (z : SharedValue). IsShared z p) (sym c.self.view_is) c.requires.shared in
+    let free : refused w (alone_event k p) ≡ None = subst (λ (z : SharedValue). refused z (alone_event k p) ≡ None) (sym c.self.view_is) c.requires.free in
+    alone_small w k p c.self.invariant F shared free
 
-pub returns-in-Err : goal.returns-in-Err
-returns-in-Err c = record { refused = refl; same = same_world c.args.self.now; still = λ k p F. F; back = refl; answered = tt }
+pub set_state-requires : goal.set_state-requires
+set_state-requires c =
+    let w : SharedValue = the_view c.self.inside in
+    let p : Private = c.args.part in
+    let k : ℕ = c.args.worker in
+    let F : Fits w k p = subst (λ (z : SharedValue). Fits z k p) (sym c.self.view_is) c.requires.fits in
+    let shared : IsShared w p = subst (λ (z : SharedValue). IsShared z p) (sym c.self.view_is) c.requires.shared in
+    let free : refused w (alone_event k p) ≡ None = subst (λ (z : SharedValue). refused z (alone_event k p) ≡ None) (sym c.self.view_is) c.requires.free in
+    let T : (n : ℕ) × Tells w p Returns n = subst (λ (z : SharedValue). (n : ℕ) × Tells z p Returns n) (sym c.self.view_is) c.requires.returns in
+    node_there w k p c.self.invariant F shared free T.0 T.1 c.requires.root (record { items = []; room = 0 })
+
+pub make_block-requires : goal.make_block-requires
+make_block-requires c =
+    let w : SharedValue = the_view c.self.inside in
+    let p : Private = c.args.part in
+    let k : ℕ = c.args.worker in
+    let F : Fits w k p = subst (λ (z : SharedValue). Fits z k p) (sym c.self.view_is) c.requires.fits in
+    let shared : IsShared w p = subst (λ (z : SharedValue). IsShared z p) (sym c.self.view_is) c.requires.shared in
+    let free : refused w (alone_event k p) ≡ None = subst (λ (z : SharedValue). refused z (alone_event k p) ≡ None) (sym c.self.view_is) c.requires.free in
+    let T : (n : ℕ) × Tells w p Returns n = subst (λ (z : SharedValue). (n : ℕ) × Tells z p Returns n) (sym c.self.view_is) c.requires.returns in
+    record { made = home_there w k p c.self.invariant F shared free T.0 T.1 c.requires.root (record { items = []; room = 0 }) }
+
+pub invariant_of-self : goal.invariant_of-self
+invariant_of-self c =
+    subst (λ (h : HomesValue). IsSharedValue (record (the_view c.self.inside) { homes = h.rests; sets = h.sets; marks = h.marks })) (sym c.make_block.ensures.homes) c.self.invariant
+
+pub invariant_of-self-2 : goal.invariant_of-self-2
+invariant_of-self-2 c =
+    let w : SharedValue = the_view c.self.inside in
+    let p : Private = c.args.part in
+    let k : ℕ = c.args.worker in
+    let F : Fits w k p = subst (λ (z : SharedValue). Fits z k p) (sym c.self.view_is) c.requires.fits in
+    let shared : IsShared w p = subst (λ (z : SharedValue). IsShared z p) (sym c.self.view_is) c.requires.shared in
+    let free : refused w (alone_event k p) ≡ None = subst (λ (z : SharedValue). refused z (alone_event k p) ≡ None) (sym c.self.view_is) c.requires.free in
+    let T : (n : ℕ) × Tells w p Returns n = subst (λ (z : SharedValue). (n : ℕ) × Tells z p Returns n) (sym c.self.view_is) c.requires.returns in
+    let hm : HomesValue = record c.self.inside.heaps.homes { rests = slice_set w.homes p.task (Some (ended_rest p)); blocks = c.make_block.new.self.blocks } in
+    let put : c.put_rest.new.self ≡ hm =
+    c.put_rest.ensures
+    ∙ (ap (λ (h : HomesValue). record h { rests = slice_set h.rests p.task (Some c.at_end.result) }) c.make_block.ensures.homes
+    ∙ ap (λ (r : Rest). record hm { rests = slice_set w.homes p.task (Some r) }) c.at_end.ensures) in
+    along w k p _ _ c.enter_alone.ensures.steps c.enter_alone.ensures.journal
+    (λ n j. IsSharedValue (record w { steps = n; end = Some (Machine Done); tree = c.set_state.new.self; homes = c.put_rest.new.self.rests; sets = c.put_rest.new.self.sets; marks = c.put_rest.new.self.marks; tasks_out = c.set.new.self; journal = j }))
+    (subst (λ (h : HomesValue). IsSharedValue (record w { steps = w.steps + (p.fresh + 1); end = Some (Machine Done); tree = c.set_state.new.self; homes = h.rests; sets = h.sets; marks = h.marks; tasks_out = c.set.new.self; journal = entered w k p })) (sym put)
+    (subst IsSharedValue (sym (four_changed (record w { steps = w.steps + (p.fresh + 1); end = Some (Machine Done) }) (with_state w.tree p.task Ended) _ (slice_set w.homes p.task (Some (ended_rest p))) _ (slice_set w.tasks_out k None) _ (entered w k p) _
+    c.set_state.ensures refl c.set.ensures refl))
+    (finished_world w k p c.self.invariant F shared free T.0 T.1 c.requires.root (record { items = []; room = w.journal.room - 1 }))))
+
+pub returns : goal.returns
+returns c =
+    let w : SharedValue = the_view c.self.inside in
+    let p : Private = c.args.part in
+    let k : ℕ = c.args.worker in
+    let F : Fits w k p = subst (λ (z : SharedValue). Fits z k p) (sym c.self.view_is) c.requires.fits in
+    let shared : IsShared w p = subst (λ (z : SharedValue). IsShared z p) (sym c.self.view_is) c.requires.shared in
+    let free : refused w (alone_event k p) ≡ None = subst (λ (z : SharedValue). refused z (alone_event k p) ≡ None) (sym c.self.view_is) c.requires.free in
+    let T : (n : ℕ) × Tells w p Returns n = subst (λ (z : SharedValue). (n : ℕ) × Tells z p Returns n) (sym c.self.view_is) c.requires.returns in
+    let hm : HomesValue = record c.self.inside.heaps.homes { rests = slice_set w.homes p.task (Some (ended_rest p)); blocks = c.make_block.new.self.blocks } in
+    let put : c.put_rest.new.self ≡ hm =
+    c.put_rest.ensures
+    ∙ (ap (λ (h : HomesValue). record h { rests = slice_set h.rests p.task (Some c.at_end.result) }) c.make_block.ensures.homes
+    ∙ ap (λ (r : Rest). record hm { rests = slice_set w.homes p.task (Some r) }) c.at_end.ensures) in
+    let finishes : FinishesAlone c.args.self.now (record w { steps = c.enter_alone.new.steps; end = Some (Machine Done); tree = c.set_state.new.self; homes = c.put_rest.new.self.rests; sets = c.put_rest.new.self.sets; marks = c.put_rest.new.self.marks; tasks_out = c.set.new.self; journal = c.enter_alone.new.journal }) k p =
+    subst (λ (z : SharedValue). FinishesAlone z (record w { steps = c.enter_alone.new.steps; end = Some (Machine Done); tree = c.set_state.new.self; homes = c.put_rest.new.self.rests; sets = c.put_rest.new.self.sets; marks = c.put_rest.new.self.marks; tasks_out = c.set.new.self; journal = c.enter_alone.new.journal }) k p) c.self.view_is
+    (along w k p _ _ c.enter_alone.ensures.steps c.enter_alone.ensures.journal
+    (λ n j. FinishesAlone w (record w { steps = n; end = Some (Machine Done); tree = c.set_state.new.self; homes = c.put_rest.new.self.rests; sets = c.put_rest.new.self.sets; marks = c.put_rest.new.self.marks; tasks_out = c.set.new.self; journal = j }) k p)
+    (subst (λ (h : HomesValue). FinishesAlone w (record w { steps = w.steps + (p.fresh + 1); end = Some (Machine Done); tree = c.set_state.new.self; homes = h.rests; sets = h.sets; marks = h.marks; tasks_out = c.set.new.self; journal = entered w k p }) k p) (sym put)
+    (subst (λ (z : SharedValue). FinishesAlone w z k p) (sym (four_changed (record w { steps = w.steps + (p.fresh + 1); end = Some (Machine Done) }) (with_state w.tree p.task Ended) _ (slice_set w.homes p.task (Some (ended_rest p))) _ (slice_set w.tasks_out k None) _ (entered w k p) _
+    c.set_state.ensures refl c.set.ensures refl))
+    (finishes_alone w k p c.self.invariant F shared free T.0 T.1 c.requires.root (record { items = []; room = w.journal.room - 1 }))))) in
+    record { refused = refl; same = tt; still = tt; back = tt; answered = finishes }
+
+pub returns-then-is_err : goal.returns-then-is_err
+returns-then-is_err c =
+    let e : c.args.self.now ≡ record (the_view c.self.inside) { homes = c.make_block.new.self.rests; sets = c.make_block.new.self.sets; marks = c.make_block.new.self.marks } =
+    sym c.self.view_is
+    ∙ ap (λ (h : HomesValue). record (the_view c.self.inside) { homes = h.rests; sets = h.sets; marks = h.marks }) (sym c.make_block.ensures.homes) in
+    subst (λ (z : SharedValue). EntersLeaving c.args.self.now z c.args.worker c.args.part (Err (record { cause = NoMemory; part = c.args.part }))) e
+    (record { refused = refl; same = same_world c.args.self.now; still = λ k p F. F; back = refl; answered = tt })

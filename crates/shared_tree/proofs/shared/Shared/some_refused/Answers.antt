@@ -1,12 +1,11 @@
-use Rattle.std.proofs.Common.{◌≡◌, ℕ, true, false, List, is_some, ap, sym, subst, ◌∙◌}
+use Rattle.std.proofs.Common.{◌≡◌, ℕ, true, false, is_some, ap, sym, subst, ◌∙◌}
 use Rattle.run_trace.specs.declared.entry.Kind.TheVariants.{More}
-use Rattle.write_barrier.specs.declared.sets.SetOf.{SetOf}
 use Rattle.shared_value.specs.Causes.{first_cause}
 use Rattle.shared_value.specs.Entered.{refused}
 use Rattle.shared_value.specs.SharedValue.{SharedValue}
 use Rattle.shared_value.specs.Stands.{IsSharedValue}
 use Rattle.leaf_collections.proofs.WhyNoChunk.{first_answer}
-use Rattle.heap_marking.specs.MarkCauses.{marking_cause, marking_cause_in}
+use Rattle.heap_marking.specs.MarkCauses.{marking_cause}
 use Rattle.heap_marking.proofs.MarkEntries.{some_as_left, some_as_marking}
 use Rattle.shared_tree.specs.contracts.shared.Shared.{the_view}
 use Rattle.shared_tree.proofs.shared.Shared.some_refused.Goals as goal
@@ -29,7 +28,7 @@ returns-then-is_some-2 c n =
     let first : is_some (first_cause z.end z.steps z.settings k false) ≡ false =
     ap (λ (y : SharedValue). is_some (first_cause y.end y.steps y.settings k false)) (sym c.self.view_is) ∙ (ap is_some (sym c.first_cause-first.ensures) ∙ (sym c.is_some.ensures ∙ c.if-is_some.false)) in
     let marking : c.marking_cause-marking.result ≡ marking_cause z t =
-    c.marking_cause-marking.ensures ∙ (ap (λ (xs : List SetOf). marking_cause_in c.self.inside.tree xs c.self.inside.marks t) c.deref.ensures.value ∙ ap (λ (y : SharedValue). marking_cause y t) c.self.view_is) in
+    c.marking_cause-marking.ensures ∙ ap (λ (y : SharedValue). marking_cause y t) c.self.view_is in
     some_as_marking z I k t n c.marking_cause-marking.result first marking (sym c.is_some-2.ensures ∙ c.if-is_some-2.true)
 
 pub returns-then-is_marked : goal.returns-then-is_marked
@@ -41,7 +40,7 @@ returns-then-is_marked c n =
     let first : is_some (first_cause z.end z.steps z.settings k false) ≡ false =
     ap (λ (y : SharedValue). is_some (first_cause y.end y.steps y.settings k false)) (sym c.self.view_is) ∙ (ap is_some (sym c.first_cause-first.ensures) ∙ (sym c.is_some.ensures ∙ c.if-is_some.false)) in
     let marking : c.marking_cause-marking.result ≡ marking_cause z t =
-    c.marking_cause-marking.ensures ∙ (ap (λ (xs : List SetOf). marking_cause_in c.self.inside.tree xs c.self.inside.marks t) c.deref.ensures.value ∙ ap (λ (y : SharedValue). marking_cause y t) c.self.view_is) in
+    c.marking_cause-marking.ensures ∙ ap (λ (y : SharedValue). marking_cause y t) c.self.view_is in
     some_as_left z I k t n c.marking_cause-marking.result first marking (sym c.is_some-2.ensures ∙ c.if-is_some-2.false) true (sym c.if-is_marked.true ∙ c.is_marked.ensures)
 
 pub returns-else-is_marked : goal.returns-else-is_marked
@@ -53,5 +52,5 @@ returns-else-is_marked c n =
     let first : is_some (first_cause z.end z.steps z.settings k false) ≡ false =
     ap (λ (y : SharedValue). is_some (first_cause y.end y.steps y.settings k false)) (sym c.self.view_is) ∙ (ap is_some (sym c.first_cause-first.ensures) ∙ (sym c.is_some.ensures ∙ c.if-is_some.false)) in
     let marking : c.marking_cause-marking.result ≡ marking_cause z t =
-    c.marking_cause-marking.ensures ∙ (ap (λ (xs : List SetOf). marking_cause_in c.self.inside.tree xs c.self.inside.marks t) c.deref.ensures.value ∙ ap (λ (y : SharedValue). marking_cause y t) c.self.view_is) in
+    c.marking_cause-marking.ensures ∙ ap (λ (y : SharedValue). marking_cause y t) c.self.view_is in
     some_as_left z I k t n c.marking_cause-marking.result first marking (sym c.is_some-2.ensures ∙ c.if-is_some-2.false) false (sym c.if-is_marked.false ∙ c.is_marked.ensures)

@@ -1,12 +1,11 @@
-use Rattle.std.proofs.Common.{◌≡◌, ℕ, true, false, List, is_some, ap, sym, subst, ◌∙◌}
+use Rattle.std.proofs.Common.{◌≡◌, ℕ, true, false, is_some, ap, sym, subst, ◌∙◌}
 use Rattle.run_trace.specs.Entry.{EntryValue}
 use Rattle.run_trace.specs.declared.entry.Kind.TheVariants.{Sweep}
-use Rattle.write_barrier.specs.declared.sets.SetOf.{SetOf}
 use Rattle.shared_value.specs.Causes.{first_cause, or_else}
 use Rattle.shared_value.specs.Entered.{refused}
 use Rattle.shared_value.specs.SharedValue.{SharedValue}
 use Rattle.shared_value.proofs.FirstCauses.{found_first, nothing_first}
-use Rattle.heap_marking.specs.MarkCauses.{marking_cause, marking_cause_in}
+use Rattle.heap_marking.specs.MarkCauses.{marking_cause}
 use Rattle.heap_marking.proofs.SweptRefusals.{sweep_answer, sweep_cause}
 use Rattle.shared_tree.specs.contracts.shared.Shared.{the_view}
 use Rattle.shared_tree.proofs.shared.Shared.sweep_refused.Goals as goal
@@ -17,7 +16,7 @@ returns-then-is_some-2 c =
     let t : ℕ = c.args.t in
     let e : EntryValue = record { worker = c.args.worker; kind = Sweep t c.args.given } in
     let first : is_some (first_cause w.end w.steps w.settings c.args.worker false) ≡ false = ap is_some (sym c.first_cause-first.ensures) ∙ (sym c.is_some.ensures ∙ c.if-is_some.false) in
-    let marking : c.marking_cause-marking.result ≡ marking_cause w t = c.marking_cause-marking.ensures ∙ ap (λ (xs : List SetOf). marking_cause_in w.tree xs w.marks t) c.deref.ensures.value in
+    let marking : c.marking_cause-marking.result ≡ marking_cause w t = c.marking_cause-marking.ensures in
     let some : is_some (marking_cause w t) ≡ true = ap is_some (sym marking) ∙ (sym c.is_some-2.ensures ∙ c.if-is_some-2.true) in
     marking
     ∙ (found_first (marking_cause w t) (sweep_cause w t c.args.given) some
@@ -29,7 +28,7 @@ returns c =
     let t : ℕ = c.args.t in
     let e : EntryValue = record { worker = c.args.worker; kind = Sweep t c.args.given } in
     let first : is_some (first_cause w.end w.steps w.settings c.args.worker false) ≡ false = ap is_some (sym c.first_cause-first.ensures) ∙ (sym c.is_some.ensures ∙ c.if-is_some.false) in
-    let marking : c.marking_cause-marking.result ≡ marking_cause w t = c.marking_cause-marking.ensures ∙ ap (λ (xs : List SetOf). marking_cause_in w.tree xs w.marks t) c.deref.ensures.value in
+    let marking : c.marking_cause-marking.result ≡ marking_cause w t = c.marking_cause-marking.ensures in
     let none : is_some (marking_cause w t) ≡ false = ap is_some (sym marking) ∙ (sym c.is_some-2.ensures ∙ c.if-is_some-2.false) in
     c.given_cause.ensures
     ∙ (ap (λ (z : SharedValue). sweep_cause z t c.args.given) (sym c.self.view_is)

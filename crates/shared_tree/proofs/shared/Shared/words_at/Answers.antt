@@ -1,7 +1,7 @@
-use Rattle.std.proofs.Common.{◌≡◌, ℕ, Some, None, ap, sym, ◌∙◌}
+use Rattle.std.proofs.Common.{◌≡◌, ℕ, Some, None, option_copied, ap, sym, ◌∙◌}
 use Rattle.run_ledger.specs.Heaps.{heap_of, words_in}
 use Rattle.alloc_path.specs.LeafHeapValue.{counted}
-use Rattle.shared_value.specs.SharedValue.{SharedValue, accounts, flat, rest_at}
+use Rattle.shared_value.specs.SharedValue.{SharedValue, accounts, rest_at}
 use Rattle.heap_marking.specs.MarkCauses.{waiting_cause}
 use Rattle.heap_marking.proofs.MarkEntries.{words_now}
 use Rattle.heap_marking.proofs.WaitingHome.{never_gone}
@@ -14,7 +14,7 @@ unreachable-requires c =
     let t : ℕ = c.args.t in
     let on : (accounts w).end ≡ None = ap (λ (z : SharedValue). (accounts z).end) c.self.view_is ∙ c.requires.goes in
     let free : waiting_cause w t ≡ None = ap (λ (z : SharedValue). waiting_cause z t) c.self.view_is ∙ c.requires.waits in
-    never_gone w c.self.invariant on t free (ap flat c.at.ensures ∙ c.in-None.is)
+    never_gone w c.self.invariant on t free (sym c.rest.ensures ∙ ap option_copied c.in-None.is)
 
 pub returns : goal.returns
 returns c =
@@ -22,7 +22,7 @@ returns c =
     let t : ℕ = c.args.t in
     let on : (accounts w).end ≡ None = ap (λ (z : SharedValue). (accounts z).end) c.self.view_is ∙ c.requires.goes in
     let free : waiting_cause w t ≡ None = ap (λ (z : SharedValue). waiting_cause z t) c.self.view_is ∙ c.requires.waits in
-    let there : rest_at w.homes t ≡ Some c.get.result.now = (ap flat c.at.ensures ∙ c.in-Some.is) ∙ ap Some (sym c.get.ensures) in
+    let there : rest_at w.homes t ≡ Some c.in-Some.rest.now = sym c.rest.ensures ∙ ap option_copied c.in-Some.is in
     c.words.ensures
-    ∙ (ap counted (sym (words_now w c.self.invariant t on free c.get.result.now there))
+    ∙ (ap counted (sym (words_now w c.self.invariant t on free c.in-Some.rest.now there))
     ∙ ap (λ (z : SharedValue). counted (words_in (accounts z).machine (heap_of (accounts z) t))) c.self.view_is)

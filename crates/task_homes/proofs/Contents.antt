@@ -1,0 +1,45 @@
+-- What a set holds that keeps from now on, or doesn't any more; two clauses of one answer.
+use Rattle.std.proofs.Common.{◌≡◌, ℕ, ◌==◌, ◌&&◌, ◌++◌, ◌∷◌, Bool, true, cond, List, [], Some, Result, Ok, Err, OnErr, OnOk, refl, ap, ap₂, sym, eq-eqb, ne_eqb, ◌∙◌}
+use Rattle.object_layout.specs.declared.word.Addr.{Addr}
+use Rattle.remembered_set.specs.declared.remembered.Source.{Source}
+use Rattle.write_barrier.specs.declared.sets.SetOf.{SetOf}
+use Rattle.remembered_set.specs.Sources.{noted}
+use Rattle.write_barrier.specs.Stored.{Content, content_of, with_kept, with_source}
+use Rattle.task_homes.specs.HomesValue.{keeping}
+
+pub both_ok : {A E : Type 0} (r : Result A E) (P Q : Type 0) → OnOk r P → OnOk r Q → OnOk r (P × Q)
+both_ok (Ok x) P Q p q = (p, q)
+both_ok (Err e) P Q p q = p
+
+pub kept_content : (s s' : SetOf) (keeps : Bool) → s'.remembered ≡ s.remembered → s'.kept.items ≡ [] → s'.keeps ≡ keeps → content_of s' ≡ keeping keeps (content_of s)
+kept_content s s' keeps r k b =
+    ap (λ z. record (content_of s') { sources = z.sources }) r
+    ∙ (ap (λ (xs : List Addr). let c : Content = record { sources = s.remembered.sources; kept = xs; keeps = s'.keeps } in c) k
+    ∙ ap (λ (x : Bool). let c : Content = record { sources = s.remembered.sources; kept = []; keeps = x } in c) b)
+
+pub ok_then : {A E : Type 0} (r : Result A E) (P Q : Type 0) → (P → Q) → OnOk r P → OnOk r Q
+ok_then (Ok x) P Q f p = f p
+ok_then (Err e) P Q f p = p
+
+pub err_then : {A E : Type 0} (r : Result A E) (P Q : Type 0) → (P → Q) → OnErr r P → OnErr r Q
+err_then (Ok x) P Q f p = p
+err_then (Err e) P Q f p = f p
+
+pub keeps_same : {A E : Type 0} (r : Result A E) (s s' : SetOf) (xs : List Source) → OnOk r (content_of s' ≡ record (content_of s) { sources = xs }) → OnErr r (content_of s' ≡ content_of s) → s'.keeps ≡ s.keeps
+keeps_same (Ok x) s s' xs ok err = ap (λ (c : Content). c.keeps) ok
+keeps_same (Err e) s s' xs ok err = ap (λ (c : Content). c.keeps) err
+
+same : (n : ℕ) → (n == n) ≡ true
+same n = eq-eqb n n refl
+
+pub source_here : (t : ℕ) (s : Source) (c : Content) → with_source (Some t) s t c ≡ record c { sources = noted c.sources s }
+source_here t s c = ap (λ b. cond b (record c { sources = noted c.sources s }) c) (same t)
+
+pub source_off : (t u : ℕ) (s : Source) (c : Content) → (u ≡ t → ⊥) → with_source (Some t) s u c ≡ c
+source_off t u s c ne = ap (λ b. cond b (record c { sources = noted c.sources s }) c) (ne_eqb t u (λ e. ne (sym e)))
+
+pub kept_here : (t : ℕ) (a : Addr) (c : Content) → c.keeps ≡ true → with_kept (Some t) (Some a) t c ≡ record c { kept = c.kept ++ a ∷ [] }
+kept_here t a c k = ap₂ (λ x y. cond (x && y) (record c { kept = c.kept ++ a ∷ [] }) c) (same t) k
+
+pub kept_off : (t u : ℕ) (a : Addr) (c : Content) → (u ≡ t → ⊥) → with_kept (Some t) (Some a) u c ≡ c
+kept_off t u a c ne = ap (λ b. cond (b && c.keeps) (record c { kept = c.kept ++ a ∷ [] }) c) (ne_eqb t u (λ e. ne (sym e)))

@@ -1,0 +1,22 @@
+-- What is read and led in the heaps that hold what rests is read and led in what rests.
+use Rattle.std.proofs.Common.{◌≡◌, Option, Some, None, List, [], ◌∷◌, ◌++◌, fold, refl, ap}
+use Rattle.object_layout.specs.declared.word.Addr.{Addr}
+use Rattle.object_layout.specs.ChunkValue.{ChunkValue}
+use Rattle.remembered_set.specs.declared.remembered.Source.{Source}
+use Rattle.remembered_set.specs.Moved.{held_by, into, new_reference, redirected, targets_of, written}
+use Rattle.task_homes.specs.declared.heaps.Heaps.{Heaps}
+use Rattle.task_homes.specs.RestingHeaps.{heap_refs, refs_in, resting, with_heap_ref, with_ref_in, with_resting}
+
+pub targets_rest : (h : Heaps) (ks : List ChunkValue) (ss : List Source) → targets_of heap_refs h ks ss ≡ targets_of refs_in (resting h) ks ss
+targets_rest h ks [] = refl
+targets_rest h ks (s ∷ ss) = ap (λ xs. into ks (held_by heap_refs h s) ++ xs) (targets_rest h ks ss)
+
+module _ (ms : List (Addr × Addr)) where
+  step : (h : Heaps) (s : Source) (ss : List Source) (o : Option Addr) → ((g : Heaps) → fold (redirected heap_refs with_heap_ref ms) g ss ≡ with_resting g (fold (redirected refs_in with_ref_in ms) (resting g) ss))
+      → fold (redirected heap_refs with_heap_ref ms) (written heap_refs with_heap_ref h s o) ss ≡ with_resting h (fold (redirected refs_in with_ref_in ms) (written refs_in with_ref_in (resting h) s o) ss)
+  step h s ss None rest = rest h
+  step h s ss (Some a) rest = rest (with_heap_ref h s.object s.field (Some a))
+
+  pub led_rest : (h : Heaps) (ss : List Source) → fold (redirected heap_refs with_heap_ref ms) h ss ≡ with_resting h (fold (redirected refs_in with_ref_in ms) (resting h) ss)
+  led_rest h [] = refl
+  led_rest h (s ∷ ss) = step h s ss (new_reference ms (held_by heap_refs h s)) (λ g. led_rest g ss)

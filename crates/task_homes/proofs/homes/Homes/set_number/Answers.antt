@@ -1,0 +1,22 @@
+use Rattle.std.proofs.Common.{rules, ◌<◌, ◌≡◌, Some, length, slice_get, slice_set, refl, ap, sym, ◌∙◌}
+use Rattle.std.specs.Vec.{vec_capacity}
+use Rattle.listed.proofs.Places.{got_item}
+use Rattle.std.proofs.lemmas.Option.{same_Some}
+use Rattle.object_layout.specs.Cell.{with_int}
+use Rattle.object_layout.specs.Chunks.{cell_of, put_object}
+use Rattle.alloc_path.specs.LeafHeapValue.{LeafHeapValue}
+use Rattle.task_homes.specs.declared.task_at_rest.Rest.{Rest}
+use Rattle.task_homes.proofs.Places.{rest_within, rest_put, rest_was}
+use Rattle.task_homes.proofs.homes.Homes.set_number.Goals as goal
+
+pub returns : goal.returns
+returns c r e =
+    let lt : c.args.t < length c.self.inside.list.items = rest_within c.self.inside.list.items _ c.args.self.now c.self.view_is c.args.t r e in
+    let there0 : slice_get c.self.inside.list.items c.args.t ≡ Some c.index_mut.result.now = got_item c.self.inside.list.items c.args.t c.index_mut.result.now lt (search rules) in
+    let here : c.index_mut.result.now ≡ Some c.get_mut.result.now = search rules in
+    let there : slice_get c.self.inside.list.items c.args.t ≡ Some (Some c.get_mut.result.now) = there0 ∙ ap Some here in
+    let rest : c.get_mut.result.now.rest ≡ Some c.in-Some-rest.rest = search rules in
+    let same : c.in-Some-rest.rest ≡ r = same_Some c.in-Some-rest.rest r (sym (rest_was c.self.inside.list.items (vec_capacity c.self.inside.list) c.args.t (Some c.get_mut.result.now) (Some c.get_mut.result.now) there c.args.self.now c.self.view_is ∙ rest) ∙ e) in
+    let is : record c.in-Some-rest.rest { heap = c.own_set_int.new.self } ≡ (λ (x : Rest). record x { heap = record x.heap { chunks = put_object x.heap.chunks c.args.object (with_int (cell_of x.heap.chunks c.args.object) c.args.field c.args.value) } }) r = ap (λ (h : LeafHeapValue). record c.in-Some-rest.rest { heap = h }) (search rules) ∙ ap (λ (x : Rest). record x { heap = record x.heap { chunks = put_object x.heap.chunks c.args.object (with_int (cell_of x.heap.chunks c.args.object) c.args.field c.args.value) } }) same in
+    rest_put c.self.inside.list.items (vec_capacity c.self.inside.list) c.args.t (Some c.get_mut.result.now) (Some (record c.get_mut.result.now { rest = Some (record c.in-Some-rest.rest { heap = c.own_set_int.new.self }) })) there c.args.self.now c.self.view_is refl refl refl
+    ∙ ap (λ (x : Rest). record c.args.self.now { rests = slice_set c.args.self.now.rests c.args.t (Some x) }) is

@@ -1,0 +1,83 @@
+-- What belongs to each task, as contracts see it.
+use Rattle.std.specs.Prelude.{◌≡◌, ℕ, Bool, true, false, Option, Some, None, List, [], map, slice_get}
+use Rattle.object_layout.specs.declared.word.Addr.{Addr}
+use Rattle.object_layout.specs.Chunks.{object_of}
+use Rattle.alloc_path.specs.LeafHeapValue.{with_places}
+use Rattle.remembered_set.specs.declared.remembered.Source.{Source}
+use Rattle.write_barrier.specs.declared.sets.SetOf.{SetOf}
+use Rattle.write_barrier.specs.Held.{bare}
+use Rattle.write_barrier.specs.Stored.{Content}
+use Rattle.inner_mark_gc.specs.MarkingValue.{MarkingValue}
+use Rattle.task_homes.specs.declared.homes.Home.{Home}
+use Rattle.task_homes.specs.declared.task_at_rest.Rest.{Rest}
+
+-- by the numbers of the tasks
+pub record HomesValue : Type 0 where
+  -- what goes with each task that no worker holds
+  pub rests : List (Option Rest)
+  -- what is noted for the collections of each task's heap
+  pub sets : List SetOf
+  -- what is marked of each heap that is being marked
+  pub marks : List (Option MarkingValue)
+  -- which tasks have a block of memory for these
+  pub blocks : List Bool
+  -- for how many tasks more there are places
+  pub room : ℕ
+
+-- a task without a block has nothing of all that
+abbrev pub rest_in : Option Home → Option Rest
+rest_in None = None
+rest_in (Some h) = h.rest
+
+abbrev pub set_in : Option Home → SetOf
+set_in None = bare false
+set_in (Some h) = h.set
+
+abbrev pub marking_in : Option Home → Option MarkingValue
+marking_in None = None
+marking_in (Some h) = h.marking
+
+abbrev pub has_block : Option Home → Bool
+has_block None = false
+has_block (Some h) = true
+
+abbrev pub value_of : List (Option Home) → ℕ → HomesValue
+value_of hs room = record { rests = map rest_in hs; sets = map set_in hs; marks = map marking_in hs; blocks = map has_block hs; room = room }
+
+-- ---- OF ONE TASK
+
+abbrev pub flat : {A : Type 0} → Option (Option A) → Option A
+flat None = None
+flat (Some o) = o
+
+abbrev pub rest_at : List (Option Rest) → ℕ → Option Rest
+rest_at rests t = flat (slice_get rests t)
+
+abbrev pub marks_at : List (Option MarkingValue) → ℕ → Option MarkingValue
+marks_at marks t = flat (slice_get marks t)
+
+abbrev pub sources_of : Option SetOf → List Source
+sources_of None = []
+sources_of (Some s) = s.remembered.sources
+
+abbrev pub kept_of : Option SetOf → List Addr
+kept_of None = []
+kept_of (Some s) = s.kept.items
+
+abbrev pub keeps_of : Option SetOf → Bool
+keeps_of None = false
+keeps_of (Some s) = s.keeps
+
+-- the references of the object at an address of a heap
+abbrev pub refs_of_rest : Option Rest → Addr → List (Option Addr)
+refs_of_rest None a = []
+refs_of_rest (Some r) a = (object_of r.heap.chunks a).refs
+
+-- a set that keeps overwritten references from now on, or none any more; there are none yet
+abbrev pub keeping : Bool → Content → Content
+keeping keeps c = record c { kept = []; keeps = keeps }
+
+-- the same, but for the places of its heap
+abbrev pub IsSameRest : Option Rest → Option Rest → Type 0
+IsSameRest None after = after ≡ None
+IsSameRest (Some r) after = (slots : ℕ) × (spare : ℕ) × (after ≡ Some (record r { heap = with_places r.heap slots spare }))

@@ -1,0 +1,2 @@
+pub mod HomesValue
+pub mod RestingHeaps
