@@ -37,6 +37,7 @@ use Rattle.core_relation.proofs.changes.With.{at_home, off_home}
 use Rattle.core_entry_laws.proofs.parts.Workers.{ran_leaves}
 use Rattle.task_machine.specs.declared.part.Private.{Private}
 use Rattle.task_homes.specs.declared.task_at_rest.Rest.{Rest}
+use Rattle.task_homes.specs.HomesValue.{keeping}
 use Rattle.shared_value.specs.Objects.{levels_of}
 use Rattle.shared_value.specs.SharedValue.{SharedValue, marks_at, accounts, flat, home_in, home_of, noted_in, rest_at, totals_of, value_of}
 use Rattle.shared_value.specs.Measured.{AreMeasured, RestsAreMeasured}
@@ -53,7 +54,7 @@ use Rattle.shared_value.proofs.TaskTaken.{made_by, node_by, node_off, worker_the
 use Rattle.own_steps.specs.Alone.{IsShared, alone_event}
 use Rattle.own_steps.proofs.LastStepEntry as last
 use Rattle.own_steps.proofs.LastStepEntry.{last_event}
-use Rattle.child_tasks.specs.Forks.{ForksTo, HomesFork, IsAtFork, SetsFork, keeping, waiting_rest}
+use Rattle.child_tasks.specs.Forks.{ForksTo, HomesFork, IsAtFork, SetsFork, waiting_rest}
 use Rattle.child_tasks.proofs.NextStepForks as steps
 use Rattle.child_tasks.proofs.LastForkKinds.{forks}
 use Rattle.child_tasks.proofs.RootsListed.{roots_are}
@@ -225,7 +226,7 @@ module _ (w : SharedValue) (k : ℕ) (p : Private) (I : IsSharedValue w) (F : Fi
     set_there = got_some w.sets t (subst (λ n. t < n) (sym I.noted) has_node)
 
     keeps_now : (v'.noted t).keeps ≡ true
-    keeps_now = ap (λ (z : Noted). z.keeps) (noted_then t ∙ ap noted_of (N.parent ∙ ap (λ o. option_map keeping (option_map content_of o)) set_there.1))
+    keeps_now = ap (λ (z : Noted). z.keeps) (noted_then t ∙ ap noted_of (N.parent ∙ ap (λ o. option_map (keeping true) (option_map content_of o)) set_there.1))
 
     forks_notes : ForksNotes vt v' t a (a + 1)
     forks_notes = record {

@@ -1,5 +1,5 @@
 -- An entry of a fork, as the call has it.
-use Rattle.std.proofs.Common.{◌≡◌, ℕ, zero, suc, ◌+◌, ◌<◌, ◌++◌, arith, false, option_map, Option, Some, None, List, [], ◌∷◌, length, length-append, length-set, slice_get, slice_set, inl, inr, refl, ap, sym, subst, ◌∙◌}
+use Rattle.std.proofs.Common.{◌≡◌, true, ℕ, zero, suc, ◌+◌, ◌<◌, ◌++◌, arith, false, option_map, Option, Some, None, List, [], ◌∷◌, length, length-append, length-set, slice_get, slice_set, inl, inr, refl, ap, sym, subst, ◌∙◌}
 use Rattle.std.proofs.lemmas.Bool.{cases_lt}
 use Rattle.listed.proofs.Members.{got_back, got_front, got_other, got_past}
 use Rattle.listed.specs.RoomyValue.{RoomyValue}
@@ -14,13 +14,14 @@ use Rattle.inner_mark_gc.specs.MarkingValue.{MarkingValue}
 use Rattle.fork_join.specs.declared.forks.Child.{Child}
 use Rattle.task_machine.specs.declared.part.Private.{Private}
 use Rattle.task_homes.specs.declared.task_at_rest.Rest.{Rest}
+use Rattle.task_homes.specs.HomesValue.{keeping}
 use Rattle.shared_value.specs.SharedValue.{SharedValue, accounts, flat, marks_at, rest_at}
 use Rattle.shared_value.specs.Stands.{IsSharedValue}
 use Rattle.shared_value.specs.Fits.{Fits, OthersFit}
 use Rattle.shared_value.specs.Entered.{refused}
 use Rattle.own_steps.specs.Alone.{alone_event}
 use Rattle.own_steps.proofs.LastStepEntry.{last_event}
-use Rattle.child_tasks.specs.Forks.{ForksOn, ForksTo, HomesFork, IsAtFork, SetsFork, begun_rest, keeping, part_child, waiting_rest}
+use Rattle.child_tasks.specs.Forks.{ForksOn, ForksTo, HomesFork, IsAtFork, SetsFork, begun_rest, part_child, waiting_rest}
 use Rattle.child_tasks.proofs.ForkEntered as forked_by
 use Rattle.child_tasks.proofs.ForkEntered.{forked_goes, forked_others, forked_world}
 use Rattle.child_tasks.proofs.NextStepForks as steps
@@ -153,7 +154,7 @@ homes_fork_by homes after p left right first second made ef es ea =
     subst (λ hs. HomesFork homes hs p left right) (sym is) (homes_fork homes p left right first.heap.slots first.heap.spare second.heap.slots second.heap.spare made)
 
 -- the set of the task keeps, and two that hold nothing come behind it
-pub sets_fork : (sets put : List SetOf) (t : ℕ) → t < length sets → length put ≡ length sets → content_at put t ≡ option_map keeping (content_at sets t) → ((u : ℕ) → (u ≡ t → ⊥) → slice_get put u ≡ slice_get sets u)
+pub sets_fork : (sets put : List SetOf) (t : ℕ) → t < length sets → length put ≡ length sets → content_at put t ≡ option_map (keeping true) (content_at sets t) → ((u : ℕ) → (u ≡ t → ⊥) → slice_get put u ≡ slice_get sets u)
     → SetsFork sets ((put ++ bare false ∷ []) ++ bare false ∷ []) t
 sets_fork sets put t made a own other =
     let x : SetOf = bare false in

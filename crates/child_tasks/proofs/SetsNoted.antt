@@ -1,22 +1,22 @@
 -- What is noted of a heap by what its set holds, and the form of an empty heap.
-use Rattle.std.proofs.Common.{◌≡◌, ℕ, arith, Option, Some, None, List, [], slice_get, option_map, refl}
+use Rattle.std.proofs.Common.{◌≡◌, true, ℕ, arith, Option, Some, None, List, [], slice_get, option_map, refl}
 use Rattle.write_barrier.specs.declared.sets.SetOf.{SetOf}
 use Rattle.write_barrier.specs.Stored.{Content, content_at}
+use Rattle.task_homes.specs.HomesValue.{keeping}
 use Rattle.shared_value.specs.SharedValue.{noted_in}
 use Rattle.shared_value.specs.Stands.{HeapForm}
 use Rattle.shared_value.proofs.FieldsNoted.{noted_is, noted_of}
-use Rattle.child_tasks.specs.Forks.{keeping}
 
 -- ---- WHAT IS NOTED, by what a set holds
 
 pub noted_by : (sets : List SetOf) (u : ℕ) → noted_in (slice_get sets u) ≡ noted_of (content_at sets u)
 noted_by sets u = noted_is (slice_get sets u)
 
-pub keeping_sources : (o : Option Content) → (noted_of (option_map keeping o)).sources ≡ (noted_of o).sources
+pub keeping_sources : (o : Option Content) → (noted_of (option_map (keeping true) o)).sources ≡ (noted_of o).sources
 keeping_sources None = refl
 keeping_sources (Some c) = refl
 
-pub keeping_kept : (o : Option Content) → (noted_of (option_map keeping o)).kept ≡ []
+pub keeping_kept : (o : Option Content) → (noted_of (option_map (keeping true) o)).kept ≡ []
 keeping_kept None = refl
 keeping_kept (Some c) = refl
 

@@ -15,6 +15,7 @@ use Rattle.fork_join.specs.declared.forks.Child.{Child}
 use Rattle.fork_join.specs.Forked.{new_child}
 use Rattle.task_machine.specs.declared.part.Private.{Private}
 pub use Rattle.task_machine.specs.Run.{is_fork, is_par}
+use Rattle.task_homes.specs.HomesValue.{keeping}
 use Rattle.task_homes.specs.declared.task_at_rest.Rest.{Rest}
 use Rattle.task_homes.specs.declared.task_at_rest.Work.TheVariants.{Calls}
 use Rattle.shared_value.specs.SharedValue.{SharedValue, accounts, rest_at}
@@ -83,13 +84,10 @@ pub record HomesFork (homes after : List (Option Rest)) (p : Private) (left righ
 abbrev pub nothing_noted : Content
 nothing_noted = record { sources = []; kept = []; keeps = false }
 
-abbrev pub keeping : Content → Content
-keeping c = record c { kept = []; keeps = true }
-
 -- the set of a task keeps from now on, and there are two sets more
 pub record SetsFork (sets after : List SetOf) (t : ℕ) : Type 0 where
   pub count : length after ≡ length sets + 2
-  pub parent : content_at after t ≡ option_map keeping (content_at sets t)
+  pub parent : content_at after t ≡ option_map (keeping true) (content_at sets t)
   pub left_set : content_at after (length sets) ≡ Some nothing_noted
   pub right_set : content_at after (length sets + 1) ≡ Some nothing_noted
   pub others : (u : ℕ) → u ≢ t → u ≢ length sets → u ≢ length sets + 1 → content_at after u ≡ content_at sets u

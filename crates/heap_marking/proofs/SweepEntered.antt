@@ -30,6 +30,7 @@ use Rattle.core_entry_laws.proofs.whole.EntriesWhole.{sweeps_stand_for}
 use Rattle.core_entry_laws.proofs.parts.WorkersPast.{sweeps_leave}
 use Rattle.task_machine.specs.declared.part.Private.{Private}
 use Rattle.task_homes.specs.declared.task_at_rest.Rest.{Rest}
+use Rattle.task_homes.specs.HomesValue.{keeping}
 use Rattle.shared_value.specs.Causes.{or_else}
 use Rattle.shared_value.specs.Entered.{refused}
 use Rattle.shared_value.specs.Fits.{AllFit, Fits, part_of}
@@ -41,7 +42,7 @@ use Rattle.shared_value.proofs.MarkingEntryMade.{entered_marks, marked_fits, mar
 use Rattle.shared_value.proofs.UnitsMeasured.{given_keeps, measured_kept, part_kept}
 use Rattle.shared_value.proofs.TaskTaken.{some_flat}
 use Rattle.heap_marking.specs.MarkCauses.{marking_cause}
-use Rattle.heap_marking.specs.Sweeping.{CanSweep, SweepsHome, forgotten}
+use Rattle.heap_marking.specs.Sweeping.{CanSweep, SweepsHome}
 use Rattle.heap_marking.proofs.MarkCauses.{marks_refuse}
 use Rattle.heap_marking.proofs.SweptHome as home
 use Rattle.heap_marking.proofs.SweptStart as start
@@ -68,12 +69,12 @@ sweep_tells w k t given I free =
     by None ec true eb true ed x y h = record { cause = ec; none_left = eqb-true (left_in (heap_of (accounts w) t)) 0 eb; number = eqb-true given (sweep_number (accounts w).machine (heap_of (accounts w) t)) ed }
 
 -- WHAT IS NOTED
-noted_by : (o o' : Option SetOf) → option_map content_of o' ≡ option_map forgotten (option_map content_of o) → ((noted_in o').sources ≡ (noted_in o).sources) × ((noted_in o').keeps ≡ false)
+noted_by : (o o' : Option SetOf) → option_map content_of o' ≡ option_map (keeping false) (option_map content_of o) → ((noted_in o').sources ≡ (noted_in o).sources) × ((noted_in o').keeps ≡ false)
 noted_by None None e = (refl, refl)
 noted_by None (Some s) e = absurd cc
 noted_by (Some s) None e = absurd cc
 noted_by (Some s) (Some s') e =
-    let same : content_of s' ≡ forgotten (content_of s) = same_Some (content_of s') (forgotten (content_of s)) e in (
+    let same : content_of s' ≡ keeping false (content_of s) = same_Some (content_of s') (keeping false (content_of s)) e in (
       ap (λ (c : SetContent). c.sources) same,
       ap (λ (c : SetContent). c.keeps) same,
     )
@@ -130,7 +131,7 @@ module _ (w : SharedValue) (k t given : ℕ) (I : IsSharedValue w) (free : refus
   pub can_all : (x : Rest) (y : MarkingValue) → rest_at w.homes t ≡ Some x → marks_at w.marks t ≡ Some y → CanSweep x.heap y w.pool
   can_all x y is at = subst (λ (z : Rest). CanSweep z.heap y w.pool) (same_Some r x (sym there ∙ is)) (subst (λ (z : MarkingValue). CanSweep r.heap z w.pool) (same_Some m y (sym marked ∙ at)) can)
 
-  module _ (pool : PoolValue) (G : AreGiven w.pool pool (gone_of r.heap (marked_of m))) (slots spare : ℕ) (sets : List SetOf) (many : length sets ≡ length w.sets) (kept_none : content_at sets t ≡ option_map forgotten (content_at w.sets t))
+  module _ (pool : PoolValue) (G : AreGiven w.pool pool (gone_of r.heap (marked_of m))) (slots spare : ℕ) (sets : List SetOf) (many : length sets ≡ length w.sets) (kept_none : content_at sets t ≡ option_map (keeping false) (content_at w.sets t))
       (others : (u : ℕ) → u ≢ t → slice_get sets u ≡ slice_get w.sets u) (room : ℕ) where
     abbrev rest' : Rest
     rest' = home.rest' w I on t T.cause T.none_left pool G slots spare
@@ -219,7 +220,7 @@ module _ (w : SharedValue) (k t given : ℕ) (I : IsSharedValue w) (free : refus
 
   -- AS THE CALL HAS IT
   module _ (hs : List (Option Rest)) (pool : PoolValue) (S : SweepsHome w.homes hs w.pool pool t r m) (ms : List (Option MarkingValue)) (cleared : ms ≡ slice_set w.marks t None)
-      (sets : List SetOf) (many : length sets ≡ length w.sets) (kept_none : content_at sets t ≡ option_map forgotten (content_at w.sets t)) (others : (u : ℕ) → u ≢ t → slice_get sets u ≡ slice_get w.sets u)
+      (sets : List SetOf) (many : length sets ≡ length w.sets) (kept_none : content_at sets t ≡ option_map (keeping false) (content_at w.sets t)) (others : (u : ℕ) → u ≢ t → slice_get sets u ≡ slice_get w.sets u)
       (j : RoomyValue EntryValue) (made : j ≡ record { items = w.journal.items ++ e ∷ []; room = w.journal.room - 1 }) where
     abbrev pub entered_so : SharedValue
     entered_so = record w { pool = pool; homes = hs; sets = sets; marks = ms; journal = j }

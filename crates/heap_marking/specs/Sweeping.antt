@@ -1,8 +1,7 @@
 -- What a sweep asks of a heap and leaves of it.
-use Rattle.std.specs.Prelude.{◌≡◌, ℕ, false, All, IsSome, Option, Some, List, [], slice_set}
+use Rattle.std.specs.Prelude.{◌≡◌, ℕ, All, IsSome, Option, Some, List, [], slice_set}
 use Rattle.chunk_pool.specs.PoolValue.{PoolValue, slot_at}
 use Rattle.alloc_path.specs.LeafHeapValue.{LeafHeapValue, with_places}
-use Rattle.write_barrier.specs.Stored.{Content}
 use Rattle.inner_mark_gc.specs.MarkingValue.{HasRoom, IsDone, MarkingValue, marked_of}
 use Rattle.inner_mark_gc.specs.Swept.{AreGiven, gone_of, swept}
 use Rattle.task_homes.specs.declared.task_at_rest.Rest.{Rest}
@@ -19,7 +18,3 @@ pub record SweepsHome (old new : List (Option Rest)) (pool pool' : PoolValue) (t
   pub spare : ℕ
   pub homes : new ≡ slice_set old t (Some (record r { heap = with_places (swept r.heap (marked_of m)) slots spare }))
   pub given : AreGiven pool pool' (gone_of r.heap (marked_of m))
-
--- a set that keeps no overwritten references any more
-abbrev pub forgotten : Content → Content
-forgotten c = record c { kept = []; keeps = false }

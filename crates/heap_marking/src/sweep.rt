@@ -1,11 +1,12 @@
 // What a sweep does to the heap, the marking and the set of a task.
 
-ghost use Rattle.std.specs.Prelude.{◌≡◌, ◌≢◌, ℕ, IsSome, None, Some, true, length, option_map, slice_get, slice_set};
+ghost use Rattle.std.specs.Prelude.{◌≡◌, ◌≢◌, ℕ, IsSome, None, Some, false, true, length, option_map, slice_get, slice_set};
 ghost use Rattle.write_barrier.specs.Stored.{content_at};
 ghost use Rattle.inner_mark_gc.specs.MarkingValue.{MarkingValue};
 ghost use Rattle.shared_value.specs.SharedValue.{marks_at, rest_at};
 ghost use Rattle.task_homes.specs.declared.task_at_rest.Rest.{Rest as RestOf};
-ghost use Rattle.heap_marking.specs.Sweeping.{forgotten, CanSweep, SweepsHome};
+ghost use Rattle.task_homes.specs.HomesValue.{keeping};
+ghost use Rattle.heap_marking.specs.Sweeping.{CanSweep, SweepsHome};
 
 use inner_mark_gc::MarkingRoom;
 use task_homes::{Heaps, Homes};
@@ -35,7 +36,7 @@ pub fn forget_kept(homes: &mut Homes, t: u32)
     requires block { slice_get homes.old.blocks t ≡ Some true }
     ensures homes { homes.new ≡ record homes.old { sets = homes.new.sets } }
     ensures many { length homes.new.sets ≡ length homes.old.sets }
-    ensures none { content_at homes.new.sets t ≡ option_map forgotten (content_at homes.old.sets t) }
+    ensures none { content_at homes.new.sets t ≡ option_map (keeping false) (content_at homes.old.sets t) }
     ensures others { (u : ℕ) → u ≢ t → slice_get homes.new.sets u ≡ slice_get homes.old.sets u }
 {
     homes.set_keeps(t, false);

@@ -17,29 +17,18 @@ kept_content s s' keeps r k b =
     ∙ (ap (λ (xs : List Addr). let c : Content = record { sources = s.remembered.sources; kept = xs; keeps = s'.keeps } in c) k
     ∙ ap (λ (x : Bool). let c : Content = record { sources = s.remembered.sources; kept = []; keeps = x } in c) b)
 
-pub ok_then : {A E : Type 0} (r : Result A E) (P Q : Type 0) → (P → Q) → OnOk r P → OnOk r Q
-ok_then (Ok x) P Q f p = f p
-ok_then (Err e) P Q f p = p
-
-pub err_then : {A E : Type 0} (r : Result A E) (P Q : Type 0) → (P → Q) → OnErr r P → OnErr r Q
-err_then (Ok x) P Q f p = p
-err_then (Err e) P Q f p = f p
-
 pub keeps_same : {A E : Type 0} (r : Result A E) (s s' : SetOf) (xs : List Source) → OnOk r (content_of s' ≡ record (content_of s) { sources = xs }) → OnErr r (content_of s' ≡ content_of s) → s'.keeps ≡ s.keeps
 keeps_same (Ok x) s s' xs ok err = ap (λ (c : Content). c.keeps) ok
 keeps_same (Err e) s s' xs ok err = ap (λ (c : Content). c.keeps) err
 
-same : (n : ℕ) → (n == n) ≡ true
-same n = eq-eqb n n refl
-
 pub source_here : (t : ℕ) (s : Source) (c : Content) → with_source (Some t) s t c ≡ record c { sources = noted c.sources s }
-source_here t s c = ap (λ b. cond b (record c { sources = noted c.sources s }) c) (same t)
+source_here t s c = ap (λ b. cond b (record c { sources = noted c.sources s }) c) (eq-eqb t t refl)
 
 pub source_off : (t u : ℕ) (s : Source) (c : Content) → (u ≡ t → ⊥) → with_source (Some t) s u c ≡ c
 source_off t u s c ne = ap (λ b. cond b (record c { sources = noted c.sources s }) c) (ne_eqb t u (λ e. ne (sym e)))
 
 pub kept_here : (t : ℕ) (a : Addr) (c : Content) → c.keeps ≡ true → with_kept (Some t) (Some a) t c ≡ record c { kept = c.kept ++ a ∷ [] }
-kept_here t a c k = ap₂ (λ x y. cond (x && y) (record c { kept = c.kept ++ a ∷ [] }) c) (same t) k
+kept_here t a c k = ap₂ (λ x y. cond (x && y) (record c { kept = c.kept ++ a ∷ [] }) c) (eq-eqb t t refl) k
 
 pub kept_off : (t u : ℕ) (a : Addr) (c : Content) → (u ≡ t → ⊥) → with_kept (Some t) (Some a) u c ≡ c
 kept_off t u a c ne = ap (λ b. cond (b && c.keeps) (record c { kept = c.kept ++ a ∷ [] }) c) (ne_eqb t u (λ e. ne (sym e)))

@@ -1,7 +1,7 @@
 -- What the homes are to contracts once that of one task has changed.
 use Rattle.std.proofs.Common.{IfSome, IsSome, ◌≤◌, ◌<◌, arith, option_map, inl, inr, true, false, ◌≡◌, ℕ, zero, suc, ◌-◌, Bool, Option, Some, None, List, [], ◌∷◌, length, map, slice_get, slice_set, refl, ap, ap₂, sym, subst, ◌∙◌}
 use Rattle.std.proofs.lemmas.Bool.{cases_eq, false≢true}
-use Rattle.std.proofs.lemmas.List.{length-set}
+use Rattle.std.proofs.lemmas.List.{length-map, length-set}
 use Rattle.std.proofs.lemmas.Option.{same_Some, slice_get_within}
 use Rattle.listed.proofs.Members.{got_other, got_same}
 use Rattle.listed.proofs.Places.{got_map}
@@ -29,10 +29,6 @@ same_homes : (r r' : List (Option Rest)) (s s' : List SetOf) (m m' : List (Optio
 same_homes r r' s s' m m' b b' n n' er es em eb en =
     ap₂ (λ x y. homes x y m b n) er es ∙ (ap₂ (λ x y. homes r' s' x y n) em eb ∙ ap (homes r' s' m' b') en)
 
-len_map : {A B : Type 0} (f : A → B) (xs : List A) → length (map f xs) ≡ length xs
-len_map f [] = refl
-len_map f (x ∷ xs) = ap suc (len_map f xs)
-
 some_within : (rests : List (Option Rest)) (t : ℕ) (r : Rest) → rest_at rests t ≡ Some r → t < length rests
 some_within rests t r h = by (slice_get rests t) refl h
   where
@@ -42,10 +38,10 @@ some_within rests t r h = by (slice_get rests t) refl h
 
 module _ (hs : List (Option Home)) (room : ℕ) (old : HomesValue) (is : value_of hs room ≡ old) (t : ℕ) where
   pub made_within : t < length old.rests → t < length hs
-  made_within lt = let e = ap (λ (w : HomesValue). length w.rests) is in let m = len_map rest_in hs in omega (arith, lt, e, m)
+  made_within lt = let e = ap (λ (w : HomesValue). length w.rests) is in let m = length-map hs rest_in in omega (arith, lt, e, m)
 
   pub block_within : slice_get old.blocks t ≡ Some true → t < length hs
-  block_within b = let lt = slice_get_within old.blocks t true b in let e = ap (λ (w : HomesValue). length w.blocks) is in let m = len_map has_block hs in omega (arith, lt, e, m)
+  block_within b = let lt = slice_get_within old.blocks t true b in let e = ap (λ (w : HomesValue). length w.blocks) is in let m = length-map hs has_block in omega (arith, lt, e, m)
 
   pub rest_within : (r : Rest) → rest_at old.rests t ≡ Some r → t < length hs
   rest_within r e = made_within (some_within old.rests t r e)

@@ -1,9 +1,9 @@
-use Rattle.std.proofs.Common.{◌≡◌, ◌++◌, ◌∷◌, [], List, false, length, option_map, slice_get, ap, sym, subst, ◌∙◌}
+use Rattle.std.proofs.Common.{◌≡◌, true, ◌++◌, ◌∷◌, [], List, false, length, option_map, slice_get, ap, sym, subst, ◌∙◌}
 use Rattle.write_barrier.specs.declared.sets.SetOf.{SetOf}
 use Rattle.write_barrier.specs.Held.{bare}
 use Rattle.write_barrier.specs.Stored.{content_at}
-use Rattle.task_homes.specs.HomesValue.{HomesValue}
-use Rattle.child_tasks.specs.Forks.{SetsFork, keeping}
+use Rattle.task_homes.specs.HomesValue.{HomesValue, keeping}
+use Rattle.child_tasks.specs.Forks.{SetsFork}
 use Rattle.child_tasks.proofs.ForkEntries.{sets_fork}
 use Rattle.child_tasks.proofs.fork.fork_homes.Goals as goal
 
@@ -17,5 +17,5 @@ returns-clause-sets c =
     subst (λ (xs : List SetOf). SetsFork sets xs c.args.part.task) (sym is)
     (sets_fork sets put c.args.part.task c.requires.noted
     (c.set_keeps.ensures.many ∙ ap (λ (xs : List SetOf). length xs) was)
-    (c.set_keeps.ensures.at ∙ ap (λ (xs : List SetOf). option_map keeping (content_at xs c.args.part.task)) was)
+    (c.set_keeps.ensures.at ∙ ap (λ (xs : List SetOf). option_map (keeping true) (content_at xs c.args.part.task)) was)
     (λ u ne. c.set_keeps.ensures.others u ne ∙ ap (λ (xs : List SetOf). slice_get xs u) was))

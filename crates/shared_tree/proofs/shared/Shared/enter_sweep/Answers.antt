@@ -1,13 +1,13 @@
-use Rattle.std.proofs.Common.{◌≡◌, ℕ, None, length, option_map, slice_get, slice_set, ap, sym, subst, ◌∙◌}
+use Rattle.std.proofs.Common.{◌≡◌, false, ℕ, None, length, option_map, slice_get, slice_set, ap, sym, subst, ◌∙◌}
 use Rattle.run_trace.specs.Entry.{EntryValue}
 use Rattle.run_trace.specs.declared.entry.Kind.TheVariants.{Sweep}
 use Rattle.write_barrier.specs.Stored.{content_at}
-use Rattle.task_homes.specs.HomesValue.{HomesValue}
+use Rattle.task_homes.specs.HomesValue.{HomesValue, keeping}
 use Rattle.shared_value.specs.SharedValue.{SharedValue}
 use Rattle.shared_value.specs.Fits.{AllFit}
 use Rattle.shared_value.specs.Entered.{refused}
 use Rattle.shared_value.proofs.JournalGoesOn.{journal_by}
-use Rattle.heap_marking.specs.Sweeping.{SweepsHome, forgotten}
+use Rattle.heap_marking.specs.Sweeping.{SweepsHome}
 use Rattle.heap_marking.proofs.SweepEntered.{can_all, fits_so, has_home, has_marking, m, marked, r, there, world_so}
 use Rattle.shared_tree.specs.contracts.shared.Shared.{the_view}
 use Rattle.shared_tree.proofs.shared.Shared.enter_sweep.Goals as goal
@@ -49,7 +49,7 @@ invariant_of-self c =
     (c.drop_unmarked.ensures.swept (r w c.args.worker t c.args.given c.self.invariant free) (m w c.args.worker t c.args.given c.self.invariant free)
     (there w c.args.worker t c.args.given c.self.invariant free) (marked w c.args.worker t c.args.given c.self.invariant free)) in
     let many : length c.forget_kept.new.homes.sets ≡ length w.sets = c.forget_kept.ensures.many ∙ ap length sets in
-    let none = c.forget_kept.ensures.none ∙ ap (λ xs. option_map forgotten (content_at xs t)) sets in
+    let none = c.forget_kept.ensures.none ∙ ap (λ xs. option_map (keeping false) (content_at xs t)) sets in
     let others : (u : ℕ) → (u ≡ t → ⊥) → slice_get c.forget_kept.new.homes.sets u ≡ slice_get w.sets u = λ u ne. c.forget_kept.ensures.others u ne ∙ ap (λ xs. slice_get xs u) sets in
     world_so w c.args.worker t c.args.given c.self.invariant free c.forget_kept.new.homes.rests c.drop_unmarked.new.heaps.pool swept c.forget_kept.new.homes.marks marks
     c.forget_kept.new.homes.sets many none others c.push_reserved.new.self (journal_by w.journal _ _ e c.new.ensures c.push_reserved.ensures)
@@ -67,7 +67,7 @@ returns-clause-fits c =
     (c.drop_unmarked.ensures.swept (r w c.args.worker t c.args.given c.self.invariant free) (m w c.args.worker t c.args.given c.self.invariant free)
     (there w c.args.worker t c.args.given c.self.invariant free) (marked w c.args.worker t c.args.given c.self.invariant free)) in
     let many : length c.forget_kept.new.homes.sets ≡ length w.sets = c.forget_kept.ensures.many ∙ ap length sets in
-    let none = c.forget_kept.ensures.none ∙ ap (λ xs. option_map forgotten (content_at xs t)) sets in
+    let none = c.forget_kept.ensures.none ∙ ap (λ xs. option_map (keeping false) (content_at xs t)) sets in
     let others : (u : ℕ) → (u ≡ t → ⊥) → slice_get c.forget_kept.new.homes.sets u ≡ slice_get w.sets u = λ u ne. c.forget_kept.ensures.others u ne ∙ ap (λ xs. slice_get xs u) sets in
     subst (λ (z : SharedValue). AllFit z (record w { pool = c.drop_unmarked.new.heaps.pool; homes = c.forget_kept.new.homes.rests; sets = c.forget_kept.new.homes.sets; marks = c.forget_kept.new.homes.marks; journal = c.push_reserved.new.self })) c.self.view_is
     (fits_so w c.args.worker t c.args.given c.self.invariant free c.forget_kept.new.homes.rests c.drop_unmarked.new.heaps.pool swept c.forget_kept.new.homes.marks marks

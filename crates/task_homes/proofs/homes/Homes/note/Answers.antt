@@ -1,9 +1,10 @@
 use Rattle.std.proofs.Common.{rules, ◌<◌, ◌≡◌, Some, length, slice_get, refl, ap, sym, ◌∙◌}
+use Rattle.std.proofs.lemmas.Result.{on_ok_weaker, on_err_weaker}
 use Rattle.std.specs.Vec.{vec_capacity}
 use Rattle.listed.proofs.Places.{got_item}
 use Rattle.write_barrier.specs.Stored.{content_of, with_source}
 use Rattle.task_homes.proofs.Places.{block_within, same_contents, set_only, changed_content, roomy_stays}
-use Rattle.task_homes.proofs.Contents.{err_then, keeps_same, ok_then, source_here, source_off}
+use Rattle.task_homes.proofs.Contents.{keeps_same, source_here, source_off}
 use Rattle.task_homes.proofs.homes.Homes.note.Goals as goal
 
 pub returns-clause-homes : goal.returns-clause-homes
@@ -20,7 +21,7 @@ returns-clause-ok c =
     let there0 : slice_get c.self.inside.list.items c.args.t ≡ Some c.index_mut.result.now = got_item c.self.inside.list.items c.args.t c.index_mut.result.now lt (search rules) in
     let here : c.index_mut.result.now ≡ Some c.get_mut.result.now = search rules in
     let there : slice_get c.self.inside.list.items c.args.t ≡ Some (Some c.get_mut.result.now) = there0 ∙ ap Some here in
-    ok_then c.note.result _ _
+    on_ok_weaker c.note.result
     (λ e. changed_content c.self.inside.list.items (vec_capacity c.self.inside.list) c.args.t (Some c.get_mut.result.now) (Some (record c.get_mut.result.now { set = c.note.new.self })) there c.args.self.now c.self.view_is (with_source (Some c.args.t) c.args.source) (e ∙ sym (source_here c.args.t c.args.source (content_of c.get_mut.result.now.set))) (λ u k off. source_off c.args.t u c.args.source k off))
     c.note.ensures.ok
 
@@ -30,7 +31,7 @@ returns-clause-err c =
     let there0 : slice_get c.self.inside.list.items c.args.t ≡ Some c.index_mut.result.now = got_item c.self.inside.list.items c.args.t c.index_mut.result.now lt (search rules) in
     let here : c.index_mut.result.now ≡ Some c.get_mut.result.now = search rules in
     let there : slice_get c.self.inside.list.items c.args.t ≡ Some (Some c.get_mut.result.now) = there0 ∙ ap Some here in
-    err_then c.note.result _ _ (λ e. same_contents c.self.inside.list.items (vec_capacity c.self.inside.list) c.args.t (Some c.get_mut.result.now) (Some (record c.get_mut.result.now { set = c.note.new.self })) there c.args.self.now c.self.view_is e) c.note.ensures.err
+    on_err_weaker c.note.result (λ e. same_contents c.self.inside.list.items (vec_capacity c.self.inside.list) c.args.t (Some c.get_mut.result.now) (Some (record c.get_mut.result.now { set = c.note.new.self })) there c.args.self.now c.self.view_is e) c.note.ensures.err
 
 pub returns-clause-kept : goal.returns-clause-kept
 returns-clause-kept c =
