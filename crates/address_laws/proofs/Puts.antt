@@ -1,6 +1,6 @@
 -- Objects of a heap by their addresses, where one was put elsewhere or marked.
-use Rattle.std.proofs.Common.{◌≡◌, ℕ, ◌<◌, ◌≤◌, true, false, List, [], ◌∷◌, length, refl, sym, ap, ◌∙◌, subst, ⊎_elim, inl, inr, ◌⊎◌, eqb, eqb-true, eq-eqb, is_some}
-use Rattle.std.proofs.lemmas.Bool.{cases_Bool, cases_lt, lt-ltb, le-ltb}
+use Rattle.std.proofs.Common.{◌≡◌, ℕ, ◌<◌, true, false, List, [], ◌∷◌, length, refl, sym, ap, ◌∙◌, subst, ⊎_elim, inl, inr, ◌⊎◌, eqb, eqb-true, eq-eqb, is_some}
+use Rattle.std.proofs.lemmas.Bool.{cases_Bool, cases_lt, le-ltb}
 use Rattle.object_layout.specs.declared.word.Addr.{Addr}
 use Rattle.object_layout.specs.Cell.{Cell, Mark, IsBorn, IsObject, no_cell, with_mark}
 use Rattle.object_layout.specs.ChunkValue.{ChunkValue}
@@ -97,11 +97,4 @@ owned h n e =
     elim (cases_lt (place_of h n) (length h)) [
       | inl l ↦ l
       | inr l ↦ let w = rw (le-ltb (place_of h n) (length h) l) at e in absurd cc
-    ]
-
-pub not_owned : (h : List ChunkValue) (n : ℕ) → is_some (place_in h n) ≡ false → length h ≤ place_of h n
-not_owned h n e =
-    elim (cases_lt (place_of h n) (length h)) [
-      | inl l ↦ let w = rw (lt-ltb (place_of h n) (length h) l) at e in absurd cc
-      | inr l ↦ l
     ]

@@ -46,20 +46,6 @@ cell_of-others (k ∷ ks) (suc i) c b o =
     (λ (e : eqb k.number b.chunk ≡ false). let p = rw e at o in rw e (cell_of-others ks i c b p))
     (cases_Bool (eqb k.number b.chunk))
 
--- objects stay where chunks are put behind theirs
-pub cell_of-before : (ks ls : List ChunkValue) (b : Addr) → IsObject (cell_of ks b).mark → cell_of (ks ++ ls) b ≡ cell_of ks b
-cell_of-before [] ls b o = absurd o
-cell_of-before (k ∷ ks) ls b o =
-    ⊎_elim
-    (λ (e : eqb k.number b.chunk ≡ true). rw e)
-    (λ (e : eqb k.number b.chunk ≡ false). let p = rw e at o in rw e (cell_of-before ks ls b p))
-    (cases_Bool (eqb k.number b.chunk))
-
--- and where chunks of other numbers are put before theirs
-pub cell_of-behind : (ks ls : List ChunkValue) (b : Addr) → IsFresh ks b.chunk → cell_of (ks ++ ls) b ≡ cell_of ls b
-cell_of-behind [] ls b h = refl
-cell_of-behind (k ∷ ks) ls b h = rw (ne_eqb k.number b.chunk (heap.fresh_head k ks b.chunk h)) (cell_of-behind ks ls b (heap.fresh_tail k ks b.chunk h))
-
 -- chunks stay apart where a fresh one is added
 pub apart_added : (ks : List ChunkValue) (k : ChunkValue) → AreApart ks → IsFresh ks k.number → AreApart (ks ++ k ∷ [])
 apart_added [] k h f = (refl, tt)

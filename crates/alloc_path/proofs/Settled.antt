@@ -88,9 +88,6 @@ settled_put ks a d h m s = record {
 
 -- ---- chunks are added
 
-pub settled_none : IsSettled []
-settled_none = record { tidy = All-nil IsTidy; apart = tt }
-
 tidy_empty : (k : ChunkValue) → k.cells ≡ [] → IsTidy k
 tidy_empty k e = record {
   unmoved = subst (λ (cs : List Cell). All (λ (c : Cell). moved_to c.mark ≡ None) cs) (sym e) (All-nil (λ (c : Cell). moved_to c.mark ≡ None));

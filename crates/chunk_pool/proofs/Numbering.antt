@@ -1,5 +1,5 @@
 -- Chunks that are numbered one after another.
-use Rattle.std.proofs.Common.{◌≡◌, ◌≢◌, ℕ, ◌+◌, Bool, true, false, cond, ◌||◌, Option, Some, None, List, [], ◌∷◌, ◌++◌, length, length-append, get_or, refl, sym, ap, ◌∙◌, subst, inl, inr, eqb, arith, append-nil, append_assoc}
+use Rattle.std.proofs.Common.{◌≡◌, ◌≢◌, ℕ, ◌+◌, Bool, true, false, cond, ◌||◌, Option, Some, None, List, [], ◌∷◌, ◌++◌, length, length-append, get_or, refl, sym, ap, ◌∙◌, subst, inl, inr, eqb, arith, append_assoc}
 use Rattle.std.specs.Prelude.{All}
 use Rattle.std.proofs.lemmas.Bool.{cases_Bool, cases_eq, eq-eqb, ne_eqb, cond-true, cond-false, false≢true}
 use Rattle.std.proofs.lemmas.List.Elements.{All-append, All-cons, All-head, All-nil, All-tail}
@@ -9,14 +9,6 @@ use Rattle.object_layout.proofs.Owning.{apart_more, has_append, has_one}
 use Rattle.chunk_pool.specs.declared.pool.Slot.{Slot}
 use Rattle.chunk_pool.specs.PoolValue.{AreNumbered, IsBlank, NumbersBehind, slot_in, one_unit, slot_units, units_in}
 use Rattle.chunk_pool.proofs.UnitLemmas.{units_changed}
-
-pub numbered_none : (xs : List (Option Slot)) (owner : ℕ) → AreNumbered xs xs owner []
-numbered_none xs owner = record {
-  were_free = All-nil (λ k. slot_in xs k.number ≡ None);
-  apart = tt;
-  each = λ n. refl;
-  units = omega arith;
-}
 
 module _ (xs ys zs : List (Option Slot)) (owner : ℕ) (ks : List ChunkValue) (k : ChunkValue) (was : AreNumbered xs ys owner ks)
     (free : slot_in ys k.number ≡ None) (now : slot_in zs k.number ≡ Some (one_unit owner)) (others : (n : ℕ) → n ≢ k.number → slot_in zs n ≡ slot_in ys n) where
@@ -65,9 +57,6 @@ module _ (xs ys zs : List (Option Slot)) (owner : ℕ) (ks : List ChunkValue) (k
         each = each;
         units = let u : units_in ys ≡ units_in xs + length ks = was.units in omega (arith, change);
       }
-
-pub behind_none : (xs : List (Option Slot)) (owner : ℕ) (was : List ChunkValue) → NumbersBehind xs xs owner 0 was was
-behind_none xs owner was = record { chunks = []; behind = sym (append-nil was); count = refl; blank = All-nil IsBlank; numbered = numbered_none xs owner }
 
 pub behind_more : (xs ys zs : List (Option Slot)) (owner i j : ℕ) (was is : List ChunkValue) (k : ChunkValue) → NumbersBehind xs ys owner i was is → IsBlank k → slot_in ys k.number ≡ None
     → slot_in zs k.number ≡ Some (one_unit owner) → ((n : ℕ) → n ≢ k.number → slot_in zs n ≡ slot_in ys n) → j ≡ i + 1 → NumbersBehind xs zs owner j was (is ++ k ∷ [])

@@ -34,9 +34,6 @@ verify_shape = nth 7 whole.subs
 abbrev pub EachPlain : Shape → Type 0
 EachPlain s = each (IsPlain s.rules) s.rules
 
-pub plain_check : EachPlain check_shape
-plain_check = (record { own = refl; sets = inl refl; reads = refl; filled = refl }, tt)
-
 pub plain_runner : (name : Text) → EachPlain (runner_shape name)
 plain_runner name = (
   record { own = refl; sets = inl refl; reads = refl; filled = refl },
@@ -78,9 +75,6 @@ plain_limited name = (
     ),
   ),
 )
-
-pub plain_verify : EachPlain verify_shape
-plain_verify = (record { own = refl; sets = inl refl; reads = refl; filled = refl }, tt)
 
 pub plain_make : EachPlain make_shape
 plain_make = (

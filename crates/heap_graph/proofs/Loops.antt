@@ -1,16 +1,12 @@
 -- What is left to be written, item by item.
-use Rattle.std.proofs.Common.{◌≡◌, ◌<◌, ◌≤◌, ◌+◌, ℕ, zero, suc, Bool, List, [], ◌∷◌, ◌++◌, length, take, drop, get_or, ap, sym, ◌∙◌, append_assoc, append-nil, arith}
+use Rattle.std.proofs.Common.{◌≡◌, ◌<◌, ◌≤◌, ◌+◌, ℕ, zero, suc, List, [], ◌∷◌, ◌++◌, length, take, drop, get_or, ap, sym, ◌∙◌, append_assoc, append-nil, arith}
 use Rattle.std.proofs.lemmas.List.{length-drop, drop_all, drop_more}
-use Rattle.std.proofs.lemmas.Grind.{flat_map-append}
 use Rattle.std.specs.List.{flat_map}
 use Rattle.std.specs.Prelude.{Some, slice_get}
 use Rattle.std.proofs.lemmas.Option.{slice_get_within, get_or_from_slice_get}
-use Rattle.dot_text.specs.Dot.{Statement, dot}
+use Rattle.dot_text.specs.Dot.{dot}
 use Rattle.image_check.specs.declared.read.Read.{Read}
-use Rattle.image_check.specs.Tasks.{owner_at}
-use Rattle.heap_graph.specs.Kinds.{port_at, edge_by, edges_from}
-use Rattle.heap_graph.specs.Overview.{Links, with_link_to, with_links, link_edge, links_drawn}
-use Rattle.heap_graph.specs.Drawn.{port_title, port_titles}
+use Rattle.heap_graph.specs.Overview.{Links, link_edge, links_drawn}
 
 -- one item more has the same piece as each
 same_next : (piece : List ℕ) (xs : List ℕ) (i : ℕ) → i < length xs → flat_map (λ _. piece) (take (suc i) xs) ≡ flat_map (λ _. piece) (take i xs) ++ piece
@@ -27,29 +23,6 @@ same_more piece xs i lt = let next : i + 1 ≡ suc i = omega arith in ap (λ n. 
 pub piece_more : (now later piece left rest all : List ℕ) → now ++ left ≡ all → left ≡ piece ++ rest → later ≡ now ++ piece → later ++ rest ≡ all
 piece_more now later piece left rest all e f g =
     ap (λ x. x ++ rest) g ∙ append_assoc now piece rest ∙ ap (λ x. now ++ x) (sym f) ∙ e
-
-pub ports_cut : (xs : List ℕ) (i d : ℕ) → i < length xs → port_titles i (drop i xs) ≡ port_title i (get_or xs i d) ++ port_titles (i + 1) (drop (i + 1) xs)
-ports_cut xs i d lt = ap (port_titles i) (drop_more xs i d lt)
-
-pub edges_cut : (r : Read) (t a : ℕ) (long : Bool) (xs : List ℕ) (i d : ℕ) → i < length xs
-    → flat_map dot (edges_from r t a long i (drop i xs)) ≡ flat_map dot (edge_by r t a (port_at long i) (get_or xs i d) (owner_at r.chunks (get_or xs i d))) ++ flat_map dot (edges_from r t a long (i + 1) (drop (i + 1) xs))
-edges_cut r t a long xs i d lt =
-    ap (λ ys. flat_map dot (edges_from r t a long i ys)) (drop_more xs i d lt)
-    ∙ flat_map-append dot (edge_by r t a (port_at long i) (get_or xs i d) (owner_at r.chunks (get_or xs i d))) (edges_from r t a long (i + 1) (drop (i + 1) xs))
-
--- nothing is left
-pub all_written : (now left all : List ℕ) → now ++ left ≡ all → left ≡ [] → now ≡ all
-all_written now left all e f = sym (append-nil now) ∙ ap (λ x. now ++ x) (sym f) ∙ e
-
--- the statements of a line, and those of the lines behind it
-pub line_cut : {X : Type 0} (f : X → List Statement) (x : X) (xs : List X) → flat_map dot (flat_map f (x ∷ xs)) ≡ flat_map dot (f x) ++ flat_map dot (flat_map f xs)
-line_cut f x xs = flat_map-append dot (f x) (flat_map f xs)
-
--- one reference more is counted
-pub links_cut : (r : Read) (m n : Links) (t : ℕ) (xs : List ℕ) (i d : ℕ) → i < length xs → n ≡ with_link_to m t (owner_at r.chunks (get_or xs i d))
-    → with_links r m t (drop i xs) ≡ with_links r n t (drop (i + 1) xs)
-links_cut r m n t xs i d lt e =
-    ap (with_links r m t) (drop_more xs i d lt) ∙ ap (λ l. with_links r l t (drop (i + 1) xs)) (sym e)
 
 -- the edge of the pair at a place, and those behind it
 pub pairs_cut : (r : Read) (ls : Links) (i : ℕ) (l : (ℕ × ℕ) × ℕ) → slice_get ls i ≡ Some l

@@ -1,5 +1,5 @@
 -- What a sweep asks of a heap and leaves of it.
-use Rattle.std.specs.Prelude.{◌≡◌, ℕ, All, IsSome, Option, Some, List, [], slice_set}
+use Rattle.std.specs.Prelude.{◌≡◌, ℕ, All, IsSome, Option, Some, List, slice_set}
 use Rattle.chunk_pool.specs.PoolValue.{PoolValue, slot_at}
 use Rattle.alloc_path.specs.LeafHeapValue.{LeafHeapValue, with_places}
 use Rattle.inner_mark_gc.specs.MarkingValue.{HasRoom, IsDone, MarkingValue, marked_of}

@@ -31,12 +31,6 @@ pub apart_filtered : (p : ChunkValue → Bool) (ks : List ChunkValue) → AreApa
 apart_filtered p [] a = a
 apart_filtered p (k ∷ ks) a = apart_step k (filter p ks) (p k) (fresh_filtered p ks k.number a.0) (apart_filtered p ks a.1)
 
--- a chunk behind others has none of their numbers
-pub fresh_before : (ks : List ChunkValue) (k : ChunkValue) (ls : List ChunkValue) → AreApart (ks ++ k ∷ ls) → IsFresh ks k.number
-fresh_before [] k ls a = refl
-fresh_before (x ∷ ks) k ls a =
-    fresh_cons x ks k.number (λ e. fresh_head k ls x.number (fresh_behind ks (k ∷ ls) x.number a.0) (sym e)) (fresh_before ks k ls a.1)
-
 pub fresh_both : (ks ls : List ChunkValue) (n : ℕ) → IsFresh ks n → IsFresh ls n → IsFresh (ks ++ ls) n
 fresh_both [] ls n f g = g
 fresh_both (k ∷ ks) ls n f g = fresh_cons k (ks ++ ls) n (fresh_head k ks n f) (fresh_both ks ls n (fresh_tail k ks n f) g)
@@ -58,14 +52,6 @@ fresh_more ks i n d l f ne =
     subst (λ (xs : List ChunkValue). IsFresh xs n) (sym (take_more ks i d l)) (fresh_both (take i ks) (get_or ks i d ∷ []) n f (fresh_cons (get_or ks i d) [] n ne refl))
 
 -- ---- chunks given back
-
-pub given_none : (p : PoolValue) → AreGiven p p []
-given_none p = record {
-  free = All-nil (λ k. slot_at p k.number ≡ None);
-  others = λ n f. refl;
-  limit = refl;
-  units = omega arith;
-}
 
 pub given_one : (p q : PoolValue) (k : ChunkValue) → Gives p q k.number → AreGiven p q (k ∷ [])
 given_one p q k g = record {

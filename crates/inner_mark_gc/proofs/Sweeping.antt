@@ -29,11 +29,6 @@ pub none_left : (b : Bool) (c : Cell) → is_object c.mark ≡ false → is_obje
 none_left true c e = e
 none_left false c e = refl
 
--- where there is an object, it is left if it is kept
-pub left_if : (b : Bool) (c : Cell) → is_object c.mark ≡ true → is_object (swept_cell b c).mark ≡ b
-left_if true c e = e
-left_if false c e = refl
-
 hole_itself : (c : Cell) → is_object c.mark ≡ false → with_mark c Hole ≡ c
 hole_itself c e = by_mark c.mark refl
   where

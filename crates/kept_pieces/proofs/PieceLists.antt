@@ -42,19 +42,6 @@ not_among (k ∷ ks) n e =
 
 -- ---- what counts as changed
 
-pub nothing_changes : (p : PiecesValue) → NotesChanges p p []
-nothing_changes p = record {
-  kept = λ l. l;
-  layers = λ l. refl;
-  stale = λ l n. ap (λ (xs : List ℕ). is_among xs n) (nothing_behind p.stale);
-  enough = λ l few. l;
-  places = λ l. omega arith;
-}
-  where
-    nothing_behind : (xs : List ℕ) → xs ≡ xs ++ []
-    nothing_behind [] = refl
-    nothing_behind (x ∷ xs) = ap (λ (ys : List ℕ). x ∷ ys) (nothing_behind xs)
-
 -- what was among them before stays what it was
 pub known_before : (xs : List ℕ) (m : ℕ) → is_among xs m ≡ true → (n : ℕ) → is_among xs n ≡ is_among (xs ++ m ∷ []) n
 known_before xs m known n = sym (among_both xs (m ∷ []) n ∙ same)
@@ -66,16 +53,6 @@ known_before xs m known n = sym (among_both xs (m ∷ []) n ∙ same)
 
     same : cond (is_among xs n) true (eqb m n || false) ≡ is_among xs n
     same = at_once (is_among xs n) (eqb m n) (λ e. subst (λ (q : ℕ). is_among xs q ≡ true) (eqb-true m n e) known)
-
--- where all was let go before, it stays so
-pub lost_before : (p : PiecesValue) (ns : List ℕ) → p.lost ≡ true → NotesChanges p p ns
-lost_before p ns gone = record {
-  kept = λ l. l;
-  layers = λ l. refl;
-  stale = λ l n. cc;
-  enough = λ l few. l;
-  places = λ l. cc;
-}
 
 -- all is let go, where there was no place
 pub none_left : (p q : PiecesValue) (m : ℕ) → q.lost ≡ true → p.places ≡ 0 → NotesChanges p q (m ∷ [])
@@ -117,9 +94,6 @@ changes_both p q r xs ys f g = record {
     three false b c = refl
 
 -- ---- what is shown
-
-pub lost_shows : (p : PiecesValue) (ks : List ChunkValue) → p.lost ≡ true → Shows p ks
-lost_shows p ks gone = record { same = λ l n a. cc; no_other = λ l n a. cc }
 
 -- where chunks change of which the numbers are noted, and others show what they did
 pub still_shows : (p q : PiecesValue) (ks new : List ChunkValue) (ns : List ℕ) → NotesChanges p q ns →

@@ -2,7 +2,7 @@
 use Rattle.std.proofs.Common.{◌≡◌, ℕ, List, [], ◌∷◌, ◌++◌, length, refl, sym, ap, ◌∙◌, subst, arith, inl, inr, Option, Some, None, get_or, All, fold}
 use Rattle.object_layout.specs.declared.word.Addr.{Addr}
 use Rattle.object_layout.specs.declared.word.Birth.{Birth}
-use Rattle.object_layout.specs.Cell.{Cell, Mark, Born, Moved, Hole, IsBorn, IsObject, moved_to, with_mark}
+use Rattle.object_layout.specs.Cell.{Cell, Mark, Born, Moved, Hole, IsBorn, IsObject, with_mark}
 use Rattle.object_layout.specs.ChunkValue.{ChunkValue}
 use Rattle.object_layout.specs.Chunks.{cell_of, place_in, place_of}
 use Rattle.object_layout.specs.Graph.{IsHeld, IsSound}
@@ -100,17 +100,6 @@ live_birth Hole l e = l
 
 pub born_live : (m : Mark) (b : Birth) → m ≡ Born b → IsBorn m
 born_live m b e = subst IsBorn (sym e) tt
-
--- an object that was not moved bears its birth name
-pub unmoved_born : (m : Mark) → IsObject m → moved_to m ≡ None → IsBorn m
-unmoved_born (Born b) o e = tt
-unmoved_born (Moved to) o e = absurd cc
-unmoved_born Hole o e = o
-
-pub moved_dead : (m : Mark) (to : Addr) → moved_to m ≡ Some to → birth_in m ≡ None
-moved_dead (Born b) to e = absurd cc
-moved_dead (Moved x) to e = refl
-moved_dead Hole to e = refl
 
 pub visit_live : (h : List ChunkValue) (a : Addr) (b : Birth) (r : Option Birth) → r ≡ birth_in (cell_of h a).mark → r ≡ Some b → IsHeld h a
 visit_live h a b r e f = born_live (cell_of h a).mark b (birth_live (cell_of h a).mark b (sym e ∙ f))

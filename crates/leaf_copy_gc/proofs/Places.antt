@@ -110,9 +110,6 @@ few_at : (s : CollectorValue) (x : Survivor) (b : Bool) → length (cond b (copi
 few_at s x true = let e = length-append s.moved ((x.old, next_place (opened s.laying (size_of (cell_of s.heap.chunks x.old))).laid) ∷ []) in omega arith
 few_at s x false = omega arith
 
-pub few_moved : (s : CollectorValue) (x : Survivor) → length (copied s x).moved ≤ length s.moved + 1
-few_moved s x = few_at s x (is_small s.heap.chunks x.old)
-
 heap_at : (s : CollectorValue) (x : Survivor) (b : Bool) → (cond b (copied_one s x) s).heap ≡ with_chunks s.heap (cond b (copied_one s x) s).heap.chunks
 heap_at s x true = refl
 heap_at s x false = refl

@@ -32,15 +32,6 @@ none_there ks q e =
     (λ (l : length ks ≤ place_of ks q). l)
     (cases_lt (place_of ks q) (length ks))
 
-pub place_of-le : (ks : List ChunkValue) (n : ℕ) → place_of ks n ≤ length ks
-place_of-le [] n = omega arith
-place_of-le (k ∷ ks) n =
-    let ih = place_of-le ks n in
-    ⊎_elim
-    (λ (e : eqb k.number n ≡ true). rw e (omega arith))
-    (λ (e : eqb k.number n ≡ false). rw e (omega arith))
-    (cases_Bool (eqb k.number n))
-
 -- the cell at an address lies in the chunk that is found
 pub cell_of-found : (ks : List ChunkValue) (a : Addr) (d : ChunkValue) → place_of ks a.chunk < length ks →
     cell_of ks a ≡ cell_at (get_or ks (place_of ks a.chunk) d).cells a.offset
@@ -153,9 +144,6 @@ pub object_of-put_other : (ks : List ChunkValue) (a b : Addr) (c : Cell) → siz
     object_of (put_object ks a c) b ≡ object_of ks b
 object_of-put_other ks a b c s ne = ap as_object (cell_of-put_other ks a b c s ne)
 
-pub object_of-put_same : (ks : List ChunkValue) (a : Addr) (c : Cell) → IsObject (cell_of ks a).mark → object_of (put_object ks a c) a ≡ as_object c
-object_of-put_same ks a c o = ap as_object (cell_of-put_same ks a c o)
-
 -- one reference written
 pub refs-put_same : (ks : List ChunkValue) (a : Addr) (k : ℕ) (r : Option Addr) →
     (object_of (put_object ks a (with_ref (cell_of ks a) k r)) a).refs ≡ slice_set (object_of ks a).refs k r
@@ -198,14 +186,6 @@ put_object-put_object (k ∷ ks) a c d =
     ⊎_elim
     (λ (e : eqb k.number a.chunk ≡ true). rw (e, e) (ap (λ (cs : List Cell). record k { cells = cs } ∷ ks) (place.put_cell-put_cell k.cells a.offset c d)))
     (λ (e : eqb k.number a.chunk ≡ false). rw (e, e) (ap (λ (xs : List ChunkValue). k ∷ xs) (put_object-put_object ks a c d)))
-    (cases_Bool (eqb k.number a.chunk))
-
-pub put_object-itself : (ks : List ChunkValue) (a : Addr) → put_object ks a (cell_of ks a) ≡ ks
-put_object-itself [] a = refl
-put_object-itself (k ∷ ks) a =
-    ⊎_elim
-    (λ (e : eqb k.number a.chunk ≡ true). rw e (ap (λ (cs : List Cell). record k { cells = cs } ∷ ks) (place.put_cell-itself k.cells a.offset)))
-    (λ (e : eqb k.number a.chunk ≡ false). rw e (ap (λ (xs : List ChunkValue). k ∷ xs) (put_object-itself ks a)))
     (cases_Bool (eqb k.number a.chunk))
 
 -- ---- what is at an address after a push

@@ -178,11 +178,6 @@ pub words_in-push : (cs : List Cell) (d : Cell) → words_in (cs ++ d ∷ []) �
 words_in-push [] d = omega arith
 words_in-push (c ∷ cs) d = let ih = words_in-push cs d in omega arith
 
-pub IsCellAt-push : (cs : List Cell) (d : Cell) (p : ℕ) → IsCellAt cs p → IsCellAt (cs ++ d ∷ []) p
-IsCellAt-push [] d p h = absurd h
-IsCellAt-push (c ∷ cs) d zero h = tt
-IsCellAt-push (c ∷ cs) d (suc n) h = (h.0, IsCellAt-push cs d (suc n - size_of c) h.1)
-
 pub cell_at-push : (cs : List Cell) (d : Cell) (p : ℕ) → IsCellAt cs p → cell_at (cs ++ d ∷ []) p ≡ cell_at cs p
 cell_at-push [] d p h = absurd h
 cell_at-push (c ∷ cs) d zero h = refl
@@ -201,10 +196,6 @@ module _ (c : Cell) (cs : List Cell) (p : ℕ) where
   cells_from-past : (n : ℕ) → n ≡ size_of c + p → cells_from (c ∷ cs) n ≡ cells_from cs p
   cells_from-past zero e = absurd (omega arith)
   cells_from-past (suc n) e = let f : suc n - size_of c ≡ p = omega arith in rw (le-leb (size_of c) (suc n) (omega arith)) (ap (cells_from cs) f)
-
-pub IsCellAt-last : (cs : List Cell) (d : Cell) → IsCellAt (cs ++ d ∷ []) (words_in cs)
-IsCellAt-last [] d = tt
-IsCellAt-last (c ∷ cs) d = IsCellAt-past c (cs ++ d ∷ []) (words_in cs) _ refl (IsCellAt-last cs d)
 
 pub cell_at-last : (cs : List Cell) (d : Cell) → cell_at (cs ++ d ∷ []) (words_in cs) ≡ d
 cell_at-last [] d = refl
@@ -348,30 +339,8 @@ object_with_int cs at k l =
     (λ (o : object_at cs at ≡ no_cell). let m = rw o at l in absurd (omega arith))
     (object_or_none cs at)
 
--- what is put is read, and objects elsewhere stay
-pub object_at-put_same : (cs : List Cell) (at : ℕ) (d : Cell) → IsCellAt cs at → object_at (put_cell cs at d) at ≡ as_object d
-object_at-put_same cs at d o = ap as_object (cell_at-put_same cs at d o)
-
-pub object_at-put_other : (cs : List Cell) (at p : ℕ) (d : Cell) → size_of d ≡ size_of (cell_at cs at) → p ≢ at →
-    object_at (put_cell cs at d) p ≡ object_at cs p
-object_at-put_other cs at p d s ne = ap as_object (cell_at-put_other cs at p d s ne)
-
 pub IsObjectAt-put_same : (cs : List Cell) (at : ℕ) (d : Cell) → IsCellAt cs at → IsObject d.mark → IsObjectAt (put_cell cs at d) at
 IsObjectAt-put_same cs at d o h = rw (cell_at-put_same cs at d o) h
-
-pub IsObjectAt-put_other : (cs : List Cell) (at p : ℕ) (d : Cell) → size_of d ≡ size_of (cell_at cs at) → p ≢ at →
-    IsObjectAt cs p → IsObjectAt (put_cell cs at d) p
-IsObjectAt-put_other cs at p d s ne h = rw (cell_at-put_other cs at p d s ne) h
-
--- an object more behind the others leaves them, and lies where their words ended
-pub object_at-push : (cs : List Cell) (d : Cell) (p : ℕ) → IsObjectAt cs p → object_at (cs ++ d ∷ []) p ≡ object_at cs p
-object_at-push cs d p h = ap as_object (cell_at-push cs d p (cell_of_object cs p h))
-
-pub IsObjectAt-push : (cs : List Cell) (d : Cell) (p : ℕ) → IsObjectAt cs p → IsObjectAt (cs ++ d ∷ []) p
-IsObjectAt-push cs d p h = rw (cell_at-push cs d p (cell_of_object cs p h)) h
-
-pub object_at-last : (cs : List Cell) (d : Cell) → object_at (cs ++ d ∷ []) (words_in cs) ≡ as_object d
-object_at-last cs d = ap as_object (cell_at-last cs d)
 
 -- ---- what calls make of the object at an offset
 

@@ -22,7 +22,7 @@ use Rattle.program_reader.specs.Sense.{sense_of, only_name, named}
 use Rattle.program_reader.specs.Around.{begun_name, head_of_line, operands_of_line, is_open_after, outline_of, outline_onto, outline_above, outline_line, no_labels, labels_above, labels_onto, ends_body, label_line}
 use Rattle.program_reader.specs.Fault.{is_misplaced, is_begin, fault_by, fault_on, fault_from, first_fault, or_later, has_wrong_operand}
 use Rattle.program_reader.specs.Program.{code_from, functions_from}
-use Rattle.program_reader.specs.Reading.{spot_in, after_line, after_begin, after_order, line_taken, nothing_read, IsCounted}
+use Rattle.program_reader.specs.Reading.{spot_in, after_line, after_begin, after_order, line_taken, nothing_read}
 use Rattle.program_reader.proofs.Causes.{IsFaultless, faultless}
 use Rattle.program_reader.proofs.LabelSteps.{goes_on}
 use Rattle.program_reader.proofs.Ranges.{all_functions, order_in, AreInside, onto_inside, above_inside}
@@ -138,13 +138,6 @@ at_first text o e = record {
   sound = record { names = refl; done = All-nil (IsFunction (all_functions o)); code = λ t. absurd (both_ways false refl t); placed = λ t. absurd (both_ways false refl t); short = omega arith; begun = omega arith; labeled = omega arith; orders = omega arith };
   fault = ap (λ p. fault_from p [] (lines_of text)) e;
   functions = refl;
-}
-
-pub is_counted : (o : Outline) (text : List ℕ) (r : Reader) (n : ℕ) (rest : List (List ℕ)) → IsReading o text r n rest → n ≤ 16777217 → IsCounted r
-is_counted o text r n rest h le = record {
-  begun = omega (arith, h.sound.begun, h.counted, le);
-  labeled = omega (arith, h.sound.labeled, h.counted, le);
-  orders = omega (arith, h.sound.orders, h.counted, le);
 }
 
 -- one line more

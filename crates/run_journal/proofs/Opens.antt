@@ -1,5 +1,5 @@
 -- Books that go on from legal journals.
-use Rattle.std.proofs.Common.{◌≡◌, ℕ, zero, suc, ◌<◌, ◌≤◌, ◌&&◌, not, Bool, true, false, Option, Some, None, List, [], ◌∷◌, ◌++◌, length, replicate, slice_get, nat_lt, nat_le, is_none, is_some, refl, ap, sym, subst, ◌∙◌, arith, length-set}
+use Rattle.std.proofs.Common.{◌≡◌, ℕ, ◌<◌, ◌≤◌, ◌&&◌, not, Bool, true, false, Option, Some, None, List, [], ◌∷◌, ◌++◌, length, nat_lt, nat_le, is_none, is_some, refl, ap, sym, subst, ◌∙◌, arith, length-set}
 use Rattle.std.proofs.lemmas.Bool.{ltb-true}
 use Rattle.run_trace.specs.declared.entry.Kind.{Kind}
 use Rattle.run_trace.specs.declared.entry.Kind.TheVariants.{Took, Ran, Chunk, Begin, End as EndOf, PutOff, Mark, More, Sweep, Fuel}
@@ -38,14 +38,6 @@ module _ (p : ProgramText) (s : SettingsValue) where
         joined_legal p s L.0 (e ∷ []) (opening p s) L.1 (ap (λ o. is_none o && true) here),
         ap (λ q. after p s q e) L.2 ∙ sym (after_cut p s L.0 (e ∷ []) (opening p s)),
       )
-
--- before the first entry nothing is in use, and no worker has taken a task
-pub opening_agrees : (p : ProgramText) (s : SettingsValue) → Agrees (record { program = p; limits = s; ledger = opening p s; used = 0; taken = replicate 64 None })
-opening_agrees p s = record { used = refl; places = refl; taken = none }
-  where
-    none : (t w : ℕ) → (heap_of (opening p s) t).worker ≡ Some w → slice_get (replicate 64 None) w ≡ Some (Some t)
-    none zero w e = absurd cc
-    none (suc t) w e = absurd cc
 
 -- what is kept beside the accounts, after an entry
 pub accounts_agree : (s : AccountsValue) → AreLimits s.limits → IsLegalLedger s.program s.limits s.ledger → Agrees s → (e : EntryValue) → refusal s.program s.limits s.ledger e ≡ None

@@ -115,10 +115,6 @@ refused_words index cause = codes "entry" ∷ decimal index ∷ cause_words caus
 abbrev pub refused_line : RefusedAt → List ℕ
 refused_line r = end_line (codes "trace refused" ∷ refused_words r.index r.cause)
 
--- and its exit status
-abbrev pub refused_status : ℕ
-refused_status = 11
-
 -- ALL THAT IS WRITTEN
 
 -- the outputs of a journal that has an end, the report and the trace where they are asked for, and the end line

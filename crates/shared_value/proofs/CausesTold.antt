@@ -7,18 +7,18 @@ use Rattle.hh_model.specs.declared.data.Task.{Task}
 use Rattle.hh_model.specs.declared.data.Status.{Status}
 use Rattle.hh_model.specs.declared.data.Status.TheVariants.{Running, Waiting, Ended, Joined}
 use Rattle.hh_model.specs.Step.{is_running, runs}
-use Rattle.run_trace.specs.declared.entry.Kind.TheVariants.{Took, Fuel}
+use Rattle.run_trace.specs.declared.entry.Kind.TheVariants.{Took}
 use Rattle.run_trace.specs.Entry.{EntryValue}
 use Rattle.run_ledger.specs.declared.data.Ledger.{Ledger}
 use Rattle.run_ledger.specs.declared.data.Refused.{Refused}
-use Rattle.run_ledger.specs.declared.data.Refused.TheVariants.{Over, Spent, NoWorker, NotReady, NotSpent}
+use Rattle.run_ledger.specs.declared.data.Refused.TheVariants.{Over, Spent, NoWorker, NotReady}
 use Rattle.run_ledger.specs.Heaps.{heap_of}
 use Rattle.run_ledger.specs.Entries.{kind_refusal, is_fuel, refused_if, refused_unless, refused_holding}
 use Rattle.heap_tree.specs.Node.{Node}
 use Rattle.core_relation.specs.Whole.{state_by, as_node}
 use Rattle.shared_value.specs.SharedValue.{SharedValue, accounts}
 use Rattle.shared_value.specs.Stands.{IsSharedValue}
-use Rattle.shared_value.specs.Causes.{first_cause, or_else, is_state_ready, took_cause, fuel_cause}
+use Rattle.shared_value.specs.Causes.{first_cause, or_else, is_state_ready, took_cause}
 use Rattle.shared_value.specs.Entered.{refused}
 use Rattle.shared_value.proofs.BeforeTheEnd.{end_now, task_out_now, stands_now, steps_now}
 
@@ -35,9 +35,6 @@ refused_is w I e =
     ∙ ap₂ (λ end steps. or_else (first_cause end steps w.settings e.worker (is_fuel e.kind)) (kind_refusal w.program w.settings l e.worker e.kind)) (sym (end_now w I)) (sym (steps_now w I))
 
 -- FUEL
-
-pub fuel_is : (w : SharedValue) → IsSharedValue w → (k : ℕ) → kind_refusal w.program w.settings (accounts w) k Fuel ≡ fuel_cause w
-fuel_is w I k = ap (λ n. refused_unless (nat_le w.settings.fuel n) (NotSpent n) None) (sym (steps_now w I))
 
 -- TOOK
 

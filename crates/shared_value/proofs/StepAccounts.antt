@@ -1,7 +1,6 @@
 -- What private steps of a task leave of the accounts.
 use Rattle.std.proofs.Common.{◌≡◌, ℕ, zero, suc, ◌+◌, ◌-◌, ◌++◌, ◌||◌, Bool, true, false, cond, Option, Some, None, List, [], ◌∷◌, slice_get, option_map, refl, ap, ap₂, sym, subst, ◌∙◌}
 use Rattle.std.proofs.lemmas.Bool.{cond-true, cond-false}
-use Rattle.std.proofs.lemmas.Option.{same_Some}
 use Rattle.listed.proofs.Members.{got_same, got_other}
 use Rattle.hh_lang.specs.Form.{ProgramText}
 use Rattle.hh_model.specs.declared.data.Name.{Name}
@@ -14,8 +13,6 @@ use Rattle.run_ledger.specs.declared.data.Heap.{Heap}
 use Rattle.run_ledger.specs.declared.data.Ledger.{Ledger}
 use Rattle.run_ledger.specs.Heaps.{or_fresh, fresh, placed, put_last, is_small}
 use Rattle.run_ledger.specs.Steps.{allocated_by, allocated_in, settled, moved_to, moved_on, stepped_to, task_step, task_steps, is_private, is_due, is_in_need, standing}
-use Rattle.run_ledger.specs.Entries.{held_from}
-use Rattle.listed.specs.Options.{option_is}
 use Rattle.run_ledger.proofs.Holders.{allocated_end}
 use Rattle.ledger_step_laws.specs.Accounts.{ArePrivate}
 use Rattle.ledger_step_laws.proofs.Ahead.{private_off, with_at, heap_then}
@@ -140,17 +137,3 @@ module _ (p : ProgramText) (s : SettingsValue) (t : ℕ) where
 -- who holds what, where no account's worker changes
 abbrev worker_of : Heap → Option ℕ
 worker_of h = h.worker
-
-pub held_same : (w i : ℕ) (hs hs' : List Heap) → ((u : ℕ) → option_map worker_of (slice_get hs' u) ≡ option_map worker_of (slice_get hs u)) → held_from w i hs' ≡ held_from w i hs
-held_same w i [] [] e = refl
-held_same w i [] (y ∷ ys) e = let a = e 0 in absurd cc
-held_same w i (x ∷ xs) [] e = let a = e 0 in absurd cc
-held_same w i (x ∷ xs) (y ∷ ys) e =
-    ap₂ (λ b o. cond b (Some i) o) (ap (λ o. option_is o w) (same_Some y.worker x.worker (e 0))) (held_same w (i + 1) xs ys (λ u. e (suc u)))
-
-pub worker_view : (o o' : Option Heap) → option_map hold o' ≡ option_map hold o → option_map worker_of o' ≡ option_map worker_of o
-worker_view o o' e = first o' ∙ (ap (option_map (λ (x : Option ℕ × Option ℕ × List Name × Bool). x.0)) e ∙ sym (first o))
-  where
-    first : (o : Option Heap) → option_map worker_of o ≡ option_map (λ (x : Option ℕ × Option ℕ × List Name × Bool). x.0) (option_map hold o)
-    first None = refl
-    first (Some h) = refl

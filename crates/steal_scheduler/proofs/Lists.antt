@@ -20,11 +20,6 @@ pub if_none : {A : Type 0} (o : Option A) (P Q : Type 0) → (P → Q) → IfNon
 if_none None P Q f h = f h
 if_none (Some x) P Q f h = h
 
--- one place more of the first list
-pub place_more : {A B : Type 0} (R : A → B → Type 0) (xs : List A) (ys : List B) (x : A) (y : B) → slice_get ys (length xs) ≡ Some y → R x y → EachPlace R xs ys → EachPlace R (xs ++ x ∷ []) ys
-place_more R xs ys x y at new old k a b ea eb = ⊎_elim (λ (e : slice_get xs k ≡ Some a). old k a b e eb)
-    (λ (t : (k ≡ length xs) × (x ≡ a)). let is : y ≡ b = same_Some y b (sym at ∙ (ap (slice_get ys) (sym t.0) ∙ eb)) in subst (λ z. R z b) t.1 (subst (R x) is new)) (got_more xs x a k ea)
-
 pub no_place : {A B : Type 0} (R : A → B → Type 0) (ys : List B) → EachPlace R [] ys
 no_place R ys k a b ea eb = none_some ea
 

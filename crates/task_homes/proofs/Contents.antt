@@ -1,5 +1,5 @@
 -- What a set holds that keeps from now on, or doesn't any more; two clauses of one answer.
-use Rattle.std.proofs.Common.{◌≡◌, ℕ, ◌==◌, ◌&&◌, ◌++◌, ◌∷◌, Bool, true, cond, List, [], Some, Result, Ok, Err, OnErr, OnOk, refl, ap, ap₂, sym, eq-eqb, ne_eqb, ◌∙◌}
+use Rattle.std.proofs.Common.{◌≡◌, ℕ, ◌&&◌, ◌++◌, ◌∷◌, Bool, true, cond, List, [], Some, Result, Ok, Err, OnErr, OnOk, refl, ap, ap₂, sym, eq-eqb, ne_eqb, ◌∙◌}
 use Rattle.object_layout.specs.declared.word.Addr.{Addr}
 use Rattle.remembered_set.specs.declared.remembered.Source.{Source}
 use Rattle.write_barrier.specs.declared.sets.SetOf.{SetOf}

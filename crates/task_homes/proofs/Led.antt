@@ -1,15 +1,10 @@
 -- What is read and led in the heaps that hold what rests is read and led in what rests.
-use Rattle.std.proofs.Common.{◌≡◌, Option, Some, None, List, [], ◌∷◌, ◌++◌, fold, refl, ap}
+use Rattle.std.proofs.Common.{◌≡◌, Option, Some, None, List, [], ◌∷◌, fold, refl}
 use Rattle.object_layout.specs.declared.word.Addr.{Addr}
-use Rattle.object_layout.specs.ChunkValue.{ChunkValue}
 use Rattle.remembered_set.specs.declared.remembered.Source.{Source}
-use Rattle.remembered_set.specs.Moved.{held_by, into, new_reference, redirected, targets_of, written}
+use Rattle.remembered_set.specs.Moved.{held_by, new_reference, redirected, written}
 use Rattle.task_homes.specs.declared.heaps.Heaps.{Heaps}
 use Rattle.task_homes.specs.RestingHeaps.{heap_refs, refs_in, resting, with_heap_ref, with_ref_in, with_resting}
-
-pub targets_rest : (h : Heaps) (ks : List ChunkValue) (ss : List Source) → targets_of heap_refs h ks ss ≡ targets_of refs_in (resting h) ks ss
-targets_rest h ks [] = refl
-targets_rest h ks (s ∷ ss) = ap (λ xs. into ks (held_by heap_refs h s) ++ xs) (targets_rest h ks ss)
 
 module _ (ms : List (Addr × Addr)) where
   step : (h : Heaps) (s : Source) (ss : List Source) (o : Option Addr) → ((g : Heaps) → fold (redirected heap_refs with_heap_ref ms) g ss ≡ with_resting g (fold (redirected refs_in with_ref_in ms) (resting g) ss))

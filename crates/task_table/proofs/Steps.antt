@@ -3,16 +3,13 @@ use Rattle.std.proofs.Common.{◌≡◌, ◌<◌, ◌+◌, ℕ, List, ◌++◌, 
 use Rattle.std.specs.Prelude.{slice_get}
 use Rattle.std.proofs.lemmas.List.{drop_more}
 use Rattle.hh_lang.specs.Form.{ProgramText}
-use Rattle.hh_model.specs.declared.data.Object.{Object}
 use Rattle.run_trace.specs.Entry.{EntryValue}
 use Rattle.run_ledger.specs.declared.data.Ledger.{Ledger}
 use Rattle.run_ledger.specs.Entries.{after}
 use Rattle.run_journal.specs.BookValue.{BookValue}
 use Rattle.run_journal.proofs.Replays.{cut}
-use Rattle.still_counts.specs.Counts.{raised_by}
 use Rattle.task_table.specs.declared.row.Row.{Row}
 use Rattle.task_table.specs.Rows.{rows_with, rows_from}
-use Rattle.task_table.specs.Lines.{words_onto}
 use Rattle.task_table.specs.Table.{line_at, lines_from}
 
 module _ (journal : List EntryValue) (b b' : BookValue) (i : ℕ) (e : EntryValue) (lt : i < length journal) (is : e ≡ get_or journal i e) (eb : b' ≡ record b { ledger = after b.program b.limits b.ledger e }) where
@@ -34,11 +31,3 @@ lines_on p l rows i t r now later all lt is inv e =
     ∙ append_assoc now (line_at p l t (slice_get l.machine.tasks t) (get_or rows i r)) (lines_from p l (t + 1) (drop (i + 1) rows))
     ∙ ap (λ x. now ++ lines_from p l t x) (sym (drop_more rows i r lt))
     ∙ inv
-
--- the words of an object more
-pub words_on : (os : List Object) (i n m : ℕ) (o : Object) → i < length os → o ≡ get_or os i o → m ≡ raised_by (raised_by (raised_by n 2) (length o.refs)) (length o.ints)
-    → words_onto m (drop (i + 1) os) ≡ words_onto n (drop i os)
-words_on os i n m o lt is e =
-    ap (λ k. words_onto k (drop (i + 1) os)) e
-    ∙ ap (λ (x : Object). words_onto (raised_by (raised_by (raised_by n 2) (length x.refs)) (length x.ints)) (drop (i + 1) os)) is
-    ∙ ap (words_onto n) (sym (drop_more os i o lt))

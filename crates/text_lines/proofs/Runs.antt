@@ -45,10 +45,6 @@ run_first line zero e le lt = absurd (omega (arith, lt))
 run_first [] (suc n) e le lt = absurd (omega (arith, le))
 run_first (c ∷ cs) (suc n) e le lt = runs_step (c ∷ cs) (suc n) e le
 
--- an empty run is none
-pub run_none : (line : List ℕ) (end : ℕ) → end ≡ position_or_len is_blank line → end ≡ 0 → runs_of line ≡ runs_of (drop 1 line)
-run_none line end e z = runs_step line 0 (sym z ∙ e) (omega arith)
-
 -- the first line of several
 pub lines_first : (text : List ℕ) (end : ℕ) → end ≡ position_or_len (λ c. c == 10) text → end < length text
     → lines_of text ≡ take end text ∷ lines_of (take (length text - (end + 1)) (drop (end + 1) text))

@@ -20,10 +20,6 @@ last_or-append d [] e = refl
 last_or-append d (x ∷ []) e = refl
 last_or-append d (x ∷ y ∷ ys) e = last_or-append d (y ∷ ys) e
 
--- a list has one last element
-pub same_last : {E : Type 0} (xs ys : List E) (a b : E) → xs ++ a ∷ [] ≡ ys ++ b ∷ [] → a ≡ b
-same_last xs ys a b e = sym (last_or-append a xs a) ∙ (ap (last_or a) e ∙ last_or-append a ys b)
-
 module _ {E : Type 0} (by : E → ℕ) where
   pub none_by-entries_by : (w : ℕ) (es : List E) → NoneBy by w es → entries_by by w es ≡ []
   none_by-entries_by w [] f = refl

@@ -1,5 +1,5 @@
 -- The seats as `new` makes them, and as `close` joins them.
-use Rattle.std.proofs.Common.{◌≡◌, ◌⊎◌, ℕ, zero, suc, ◌+◌, ◌-◌, ◌<◌, true, List, [], ◌∷◌, ◌++◌, length, slice_get, get_or, insert, remove, sym, refl, ap, ◌∙◌, subst, arith, ⊎_elim, Option, Some, None, length-append, append_assoc}
+use Rattle.std.proofs.Common.{◌≡◌, ◌⊎◌, ℕ, zero, suc, ◌+◌, ◌-◌, ◌<◌, true, List, [], ◌∷◌, ◌++◌, length, slice_get, get_or, remove, sym, refl, ap, ◌∙◌, subst, arith, ⊎_elim, Option, Some, None, length-append, append_assoc}
 pub use Rattle.std.proofs.lemmas.List.{nil_from_length as emptied}
 use Rattle.std.proofs.lemmas.Option.{same_Some}
 use mathlib.Core.Option.{some, some-injective, some-ne-none}
@@ -12,10 +12,6 @@ use Rattle.turn_lock.specs.declared.view.View.{View}
 use Rattle.turn_lock.specs.Journal.{NoneBy}
 use Rattle.turn_lock.specs.Seats.{opening_view, newcomer, view, HasNoTurn, AreNewSeats, AreAllSeats, IsLeftBy}
 use Rattle.turn_lock.specs.Rule.{Sees, HasAll, split_view, with_joined}
-
-pub insert_first : {A : Type 0} (l : List A) (x : A) → insert l 0 x ≡ x ∷ l
-insert_first [] x = refl
-insert_first (y ∷ ys) x = refl
 
 pub removed_first : {A : Type 0} (l : List A) (x : A) → 0 < length l → x ≡ get_or l 0 x → l ≡ x ∷ remove l 0
 removed_first [] x h e = absurd (omega arith)

@@ -1,5 +1,5 @@
 -- A desk before and after a turn.
-use Rattle.std.proofs.Common.{◌≡◌, inl, inr, ℕ, suc, ◌+◌, ◌^◌, ◌<◌, ◌≤◌, ◌==◌, Bool, true, false, cond, List, [], ◌∷◌, length, refl, sym, ap, ap₂, ◌∙◌, subst, arith, Option, Some}
+use Rattle.std.proofs.Common.{◌≡◌, ℕ, suc, ◌+◌, ◌^◌, ◌<◌, ◌≤◌, ◌==◌, Bool, true, false, cond, List, [], ◌∷◌, length, refl, sym, ap, ap₂, ◌∙◌, subst, arith, Option, Some}
 use Rattle.std.specs.declared.snapshot.Snapshot.{Snapshot}
 use Rattle.std.proofs.lemmas.Option.{same_Some}
 use Rattle.atomic_table.specs.Seated.{TableId}
@@ -24,10 +24,9 @@ use Rattle.turn_entries.specs.declared.run.Run.{Run}
 use Rattle.turn_entries.specs.declared.run.Setup.{Setup}
 use Rattle.turn_entries.specs.Acts.{Follows, WhyNone}
 use Rattle.turn_entries.specs.Parts.{BringsTo, ComesWith, GoesWith, Keeps, Sight, TakesFrom, WasCopied}
-use Rattle.turn_entries.specs.Values.{EntersOne, FitsKept, IsSame, is_over, journal_of, setup_of, worker_of}
-use Rattle.turn_entries.proofs.Turning.{ended_over}
+use Rattle.turn_entries.specs.Values.{EntersOne, FitsKept, IsSame, journal_of, setup_of, worker_of}
 use Rattle.worker_run.specs.declared.desk.Desk.{Desk}
-use Rattle.worker_run.specs.Desks.{HasEntry, HasStopped, IsDesk, TakesTurn}
+use Rattle.worker_run.specs.Desks.{HasEntry, IsDesk}
 
 -- of a worker's entries there are no more
 own_within : (w : ℕ) (es : List EntryValue) → length (entries_by worker_of w es) ≤ length es
@@ -132,14 +131,6 @@ takes_from w after k ready (Resumed t) f = tt
 takes_from w after k ready Idle f = tt
 takes_from w after k ready Waits f = tt
 takes_from w after k ready Stop f = tt
-
--- a worker stops only where the run is over
-pub stops_over : (old new : Desk) (ready : Ready) (T : TakesTurn old new ready Stop) → is_over T.given ≡ true
-stops_over old new ready T = elim T.does [ inl a ↦ ended_over T.given a.0.follows | inr b ↦ b.0.1.0 ]
-
-pub stopped_by : (old new : Desk) (ready : Ready) (next : Next) → TakesTurn old new ready next → next ≡ Stop → HasStopped new
-stopped_by old new ready next T is = let stops : TakesTurn old new ready Stop = subst (TakesTurn old new ready) is T in
-    record { last = stops.given; gave = stops.gave; over = stops_over old new ready stops }
 
 -- where the worker's seat keeps the same part, it may go on so as before
 pub goes_still : (p : ProgramText) (k : ℕ) (v w : Sight) (next : Next) → w.part ≡ v.part → GoesWith p k v next → GoesWith p k w next

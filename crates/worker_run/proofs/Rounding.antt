@@ -1,5 +1,5 @@
 -- Rounds of a worker, one after the other.
-use Rattle.std.proofs.Common.{◌≡◌, suc, sym, subst}
+use Rattle.std.proofs.Common.{suc}
 use Rattle.hh_lang.specs.Form.{ProgramText}
 use Rattle.turn_entries.specs.declared.held.Next.{Next}
 use Rattle.worker_run.specs.declared.desk.Desk.{Desk}
@@ -7,6 +7,3 @@ use Rattle.worker_run.specs.Rounds.{GoesRound, MakesRound}
 
 pub one_more : (p : ProgramText) (d : Desk) (first : Next) (last : Desk) (on : Next) (new : Desk) (after : Next) → GoesRound p d first last on → MakesRound p last on new after → GoesRound p d first new after
 one_more p d first last on new after R M = (suc R.0, (last, on, R.1, M))
-
-pub no_more : (p : ProgramText) (d : Desk) (first : Next) (last : Desk) (on : Next) (new : Desk) (after : Next) → GoesRound p d first last on → on ≡ after → new ≡ last → GoesRound p d first new after
-no_more p d first last on new after R is same = subst (λ (e : Desk). GoesRound p d first e after) (sym same) (subst (λ (n : Next). GoesRound p d first last n) is R)
