@@ -1,7 +1,7 @@
 // What is told of a task's next step before it is taken, from one look at its instruction.
 
-ghost use Rattle.std.specs.Prelude.{◌≡◌, if◌then◌else◌, slice_get, IfSome, Some, None};
-ghost use Rattle.hh_model.specs.Step.{asked, asked_by, asked_line, fetched, runs};
+ghost use Rattle.std.specs.Prelude.{◌≡◌, if◌then◌else◌, Some, None};
+ghost use Rattle.hh_model.specs.Step.{asked, asked_by, asked_line, runs};
 ghost use Rattle.next_steps.specs.Own.{is_own, is_own_by};
 
 use crate::private::is_own_line;
@@ -11,8 +11,6 @@ use hh_model::{State, Status, Task};
 /// What is told of a task's next step before it is taken.
 #[derive(Clone, Copy)]
 pub struct NextStep {
-    /// What stands at the place where the task stands.
-    pub line: Option<Line>,
     /// The words that it allocates, where it allocates.
     pub words: Option<usize>,
     /// Whether it is no output, no fork and no end of the task, and reads or writes no object that another task owns,
@@ -36,13 +34,11 @@ fn asked_at(machine: &State, task: &Task, line: &Option<Line>) -> Option<usize>
 
 // The next step of a task that was made.
 fn step_of(program: &Program, machine: &State, t: u32, task: &Task) -> NextStep
-    ensures line { result.line ≡ fetched program.now task.now.top }
     ensures words { result.words ≡ asked_by program.now machine.now (Some task.now) }
     ensures own { result.own ≡ is_own_by program.now machine.now t (Some task.now) }
 {
     let line = program.line(task.top.function, task.top.next);
     NextStep {
-        line,
         words: asked_at(machine, task, &line),
         own: is_own_line(machine, t, task, line),
     }
@@ -50,14 +46,12 @@ fn step_of(program: &Program, machine: &State, t: u32, task: &Task) -> NextStep
 
 /// The next step of a task. A task that wasn't made asks for nothing, and has no matter of its own.
 pub fn next_step(program: &Program, machine: &State, t: u32) -> NextStep
-    ensures line { IfSome (slice_get machine.now.tasks t) (λ x. fetched program.now x.top ≡ result.line) }
     ensures words { result.words ≡ asked program.now machine.now t }
     ensures own { result.own ≡ is_own program.now machine.now t }
 {
     match machine.tasks.get(t as usize) {
         Some(task) => step_of(program, machine, t, task),
         None => NextStep {
-            line: None,
             words: None,
             own: false,
         },

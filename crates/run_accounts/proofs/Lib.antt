@@ -1,3 +1,4 @@
+pub mod Calculated
 pub mod Holds
 pub mod Numbers
 pub mod Snaps

@@ -1,15 +1,17 @@
 // The steps of one entry.
 
-ghost use Rattle.std.specs.Prelude.{◌≡◌, ◌≤◌, ◌+◌, ◌||◌, ◌&&◌, not, is_some, slice_get, if◌then◌else◌, false, IfOk, IfSome};
-ghost use Rattle.hh_model.specs.Step.{asked, fetched};
+ghost use Rattle.std.specs.Prelude.{◌≡◌, ◌≤◌, ◌<◌, ◌+◌, ◌^◌, ◌||◌, ◌&&◌, not, is_some, slice_get, if◌then◌else◌, Some, true, false, IfOk, IfSome, OnOk};
+ghost use Rattle.hh_model.specs.Step.{asked, can_step, fetched, step};
 ghost use Rattle.run_ledger.specs.Steps.{task_step, task_steps, is_due, is_in_need, standing};
 ghost use Rattle.run_ledger.specs.Heaps.{in_use};
+ghost use Rattle.next_steps.specs.Calculations.{calculation};
 ghost use Rattle.next_steps.specs.Own.{is_own};
 ghost use Rattle.run_accounts.specs.Accounts.{Steady, StaysSteady, stood, after_stood, used_after, went_on};
 ghost use Rattle.run_accounts.specs.declared.ran.Stood.TheVariants.{More, Last};
 
 use crate::accounts::Accounts;
-use next_steps::{NextStep, next_step};
+use hh_lang::Line;
+use next_steps::{NextStep, calculation, next_step};
 use std::alloc::AllocError;
 
 /// Whether the next step of a task can stand in an entry, and whether a further one can behind it.
@@ -44,15 +46,49 @@ impl<'p> Accounts<'p> {
 
     // The next step of the task.
     fn next_step(&self, t: u32) -> NextStep
-        ensures line { IfSome (slice_get self.now.ledger.machine.tasks t) (λ x. fetched self.now.program x.top ≡ result.line) }
         ensures words { result.words ≡ asked self.now.program self.now.ledger.machine t }
         ensures own { result.own ≡ is_own self.now.program self.now.ledger.machine t }
     {
         next_step(self.program, self.machine.state(), t)
     }
 
-    // One step of the entry, if it can stand in it.
-    fn stand(&mut self, t: u32) -> Result<Stood, AllocError>
+    // What stands where the task stands, if it can take a step that only calculates.
+    #[inline(always)]
+    fn calculation(&self, t: u32) -> Option<Line>
+        ensures { result ≡ calculation self.now.program self.now.ledger.machine t }
+    {
+        calculation(self.program, self.machine.state(), t)
+    }
+
+    // The machine takes a step that it can take, by the line that was looked at.
+    #[inline(always)]
+    fn advance_by(&mut self, t: u32, line: Line) -> Result<(), AllocError>
+        requires few { self.old.ledger.steps < 2 ^ 30 }
+        requires can { can_step self.old.ledger.machine t ≡ true }
+        requires line { IfSome (slice_get self.old.ledger.machine.tasks t) (λ x. fetched self.old.program x.top ≡ Some line) }
+        ensures { OnOk result (self.new ≡ record self.old { ledger = record self.old.ledger { machine = step self.old.program self.old.ledger.machine t; steps = self.old.ledger.steps + 1 } }) }
+    {
+        self.machine.step_line(t, Some(line))?;
+        self.steps += 1;
+        Ok(())
+    }
+
+    // A step of the entry that only calculates: it stands, and a further one can.
+    #[inline(always)]
+    fn calculate(&mut self, t: u32, line: Line) -> Result<Stood, AllocError>
+        requires line { calculation self.old.program self.old.ledger.machine t ≡ Some line }
+        requires before { Steady self.old.ledger }
+        requires used { self.old.used ≡ in_use self.old.ledger }
+        requires next { (is_due self.old.limits self.old.program self.old.ledger t || is_in_need self.old.program self.old.ledger t) ≡ false → used_after self.old.program self.old.ledger t ≡ in_use (task_step self.old.program self.old.ledger t) }
+        ensures stood { IfOk result (λ how. how ≡ stood self.old.limits self.old.program self.old.ledger t) }
+        ensures after { IfOk result (λ how. self.new ≡ went_on self.old (after_stood self.old.program self.old.ledger t how)) }
+    {
+        self.advance_by(t, line)?;
+        Ok(Stood::More)
+    }
+
+    // One step of the entry, whatever it is, if it can stand in it.
+    fn stand_any(&mut self, t: u32) -> Result<Stood, AllocError>
         requires before { Steady self.old.ledger }
         requires after { (is_due self.old.limits self.old.program self.old.ledger t || is_in_need self.old.program self.old.ledger t) ≡ false → Steady (task_step self.old.program self.old.ledger t) }
         requires used { self.old.used ≡ in_use self.old.ledger }
@@ -64,9 +100,24 @@ impl<'p> Accounts<'p> {
         if self.is_due_by(t, ahead.words) || self.is_in_need_by(t, ahead.words) {
             return Ok(Stood::Not);
         }
-        self.step(t, &ahead)?;
+        self.step(t, ahead.words)?;
         let ended = self.has_ended();
         Ok(stood_by(ahead.own, ended))
+    }
+
+    // One step of the entry, if it can stand in it.
+    fn stand(&mut self, t: u32) -> Result<Stood, AllocError>
+        requires before { Steady self.old.ledger }
+        requires after { (is_due self.old.limits self.old.program self.old.ledger t || is_in_need self.old.program self.old.ledger t) ≡ false → Steady (task_step self.old.program self.old.ledger t) }
+        requires used { self.old.used ≡ in_use self.old.ledger }
+        requires next { (is_due self.old.limits self.old.program self.old.ledger t || is_in_need self.old.program self.old.ledger t) ≡ false → used_after self.old.program self.old.ledger t ≡ in_use (task_step self.old.program self.old.ledger t) }
+        ensures stood { IfOk result (λ how. how ≡ stood self.old.limits self.old.program self.old.ledger t) }
+        ensures after { IfOk result (λ how. self.new ≡ went_on self.old (after_stood self.old.program self.old.ledger t how)) }
+    {
+        match self.calculation(t) {
+            Some(line) => self.calculate(t, line),
+            None => self.stand_any(t),
+        }
     }
 
     /// Takes the first of so many steps of a task, as many as can stand in one entry, and says how many those are.

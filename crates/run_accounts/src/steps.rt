@@ -1,18 +1,17 @@
 // The steps of tasks, with what they change of the accounts.
 
-ghost use Rattle.std.specs.Prelude.{◌≡◌, ℕ, ◌+◌, ◌<◌, ◌^◌, Some, true, false, length, slice_get, IfSome, OnOk};
+ghost use Rattle.std.specs.Prelude.{◌≡◌, ℕ, ◌+◌, ◌<◌, ◌^◌, Some, true, false, length, slice_get, OnOk};
 ghost use Rattle.run_ledger.specs.Heaps.{heap_of, in_use, or_fresh, with_heap, let_go};
 ghost use Rattle.run_ledger.specs.Steps.{allocated_in, is_in_need, task_step, at_fork, at_join, settled};
-ghost use Rattle.hh_model.specs.Step.{asked, can_step, fetched, step, is_joined, is_waiting};
+ghost use Rattle.hh_model.specs.Step.{asked, step, is_joined, is_waiting};
 ghost use Rattle.ledger_heaps.specs.Accounts.{AreOwned};
 ghost use Rattle.run_accounts.specs.Accounts.{Steady, Forks, Joins, ArePaired, left_of, next_large, used_after, went_on};
 
 use crate::accounts::Accounts;
-use hh_lang::Line;
 use hh_model::{Name, State, Status};
 use ledger_heaps::{CHUNK_WORDS, fresh, join, place, within};
 use listed::Listed;
-use next_steps::{NextStep, objects_of};
+use next_steps::objects_of;
 use run_ledger::{Heap, RunEnd};
 use std::alloc::{AllocError, Global};
 
@@ -110,21 +109,22 @@ impl<'p> Accounts<'p> {
     }
 
     // The machine takes a step that it can take.
-    fn advance(&mut self, t: u32, line: Option<Line>) -> Result<(), AllocError>
-        requires few { self.old.ledger.steps < 2 ^ 30 }
-        requires can { can_step self.old.ledger.machine t ≡ true }
-        requires line { IfSome (slice_get self.old.ledger.machine.tasks t) (λ x. fetched self.old.program x.top ≡ line) }
+    fn advance(&mut self, t: u32) -> Result<(), AllocError>
+        requires { self.old.ledger.steps < 2 ^ 30 }
         ensures { OnOk result (self.new ≡ record self.old { ledger = record self.old.ledger { machine = step self.old.program self.old.ledger.machine t; steps = self.old.ledger.steps + 1 } }) }
     {
-        self.machine.step_line(t, line)?;
-        self.steps += 1;
-        Ok(())
+        match self.machine.step(t) {
+            Ok(()) => {
+                self.steps += 1;
+                Ok(())
+            }
+            Err(_) => Err(AllocError),
+        }
     }
 
-    /// One step of a task, of which this is known, with its accounts.
-    pub(crate) fn step(&mut self, t: u32, ahead: &NextStep) -> Result<(), AllocError>
-        requires line { IfSome (slice_get self.old.ledger.machine.tasks t) (λ x. fetched self.old.program x.top ≡ ahead.now.line) }
-        requires words { ahead.now.words ≡ asked self.old.program self.old.ledger.machine t }
+    /// One step of a task, which asks for so many words, with its accounts.
+    pub(crate) fn step(&mut self, t: u32, words: Option<usize>) -> Result<(), AllocError>
+        requires words { words ≡ asked self.old.program self.old.ledger.machine t }
         requires before { Steady self.old.ledger }
         requires after { Steady (task_step self.old.program self.old.ledger t) }
         requires placed { is_in_need self.old.program self.old.ledger t ≡ false }
@@ -136,14 +136,14 @@ impl<'p> Accounts<'p> {
             self.steps += 1;
             return Ok(());
         }
-        if ahead.words.is_none() {
-            self.advance(t, ahead.line)?;
+        if words.is_none() {
+            self.advance(t)?;
             return self.settle(t);
         }
-        let large = self.next_large(t, ahead.words);
+        let large = self.next_large(t, words);
         let reserved = self.reserved(t);
-        self.allocate(t, ahead.words)?;
-        self.advance(t, ahead.line)?;
+        self.allocate(t, words)?;
+        self.advance(t)?;
         self.count_large(large, reserved);
         self.settle(t)
     }

@@ -2,7 +2,7 @@ use Rattle.std.proofs.Common.{◌≡◌, ◌∙◌, ap, false, is_some, rules}
 use Rattle.run_ledger.specs.Steps.{task_step, is_due, is_in_need}
 use Rattle.run_accounts.specs.Accounts.{AccountsValue}
 use Rattle.run_accounts.proofs.Standings.{stood_is}
-use Rattle.run_accounts.proofs.accounts.Accounts.stand.Goals as goal
+use Rattle.run_accounts.proofs.accounts.Accounts.stand_any.Goals as goal
 
 pub returns-clause-stood : goal.returns-clause-stood
 returns-clause-stood c =
