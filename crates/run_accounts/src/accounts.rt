@@ -64,15 +64,6 @@ pub(crate) fn units_of(words: usize) -> usize
     }
 }
 
-/// How many objects of the heap's snapshot are left to mark.
-pub(crate) fn left_in(heap: &Heap) -> usize
-    ensures { result ≡ left_in heap.now }
-{
-    heap.snapshot
-        .len()
-        .saturating_sub(heap.marked.unwrap_or(0) as usize)
-}
-
 impl<'p> Accounts<'p> {
     /// The accounts of a run before its first entry.
     pub fn open(
@@ -187,7 +178,10 @@ impl<'p> Accounts<'p> {
         ensures { result ≡ left_in (heap_of self.now.ledger task) }
     {
         match self.heap(task) {
-            Some(heap) => left_in(heap),
+            Some(heap) => heap
+                .snapshot
+                .len()
+                .saturating_sub(heap.marked.unwrap_or(0) as usize),
             None => 0,
         }
     }

@@ -1,6 +1,6 @@
 // Why an entry is refused, but for the steps of tasks.
 
-ghost use Rattle.std.specs.Prelude.{◌≡◌, ◌==◌, ◌<◌, ◌^◌, None, is_some};
+ghost use Rattle.std.specs.Prelude.{◌≡◌, ℕ, ◌==◌, ◌<◌, ◌^◌, None, is_some};
 ghost use Rattle.run_trace.specs.declared.entry.Kind.TheVariants.{Took, Chunk, Begin, PutOff, Mark, More, Fuel};
 ghost use Rattle.run_ledger.specs.Entries.{kind_refusal, on_running, on_waiting, on_marking, on_due, is_pool_enough, is_out, refused_unless, counted, ends_as};
 ghost use Rattle.run_ledger.specs.Heaps.{heap_of, left_in, marked_in};
@@ -128,9 +128,9 @@ impl<'p> Accounts<'p> {
         None
     }
 
-    pub(crate) fn mark_cause(&self, worker: u32, task: u32) -> Option<Refused>
+    pub(crate) fn mark_cause(&self, task: u32) -> Option<Refused>
         requires { Steady self.now.ledger }
-        ensures { result ≡ kind_refusal self.now.program self.now.limits self.now.ledger worker (Mark task) }
+        ensures { (worker : ℕ) → result ≡ kind_refusal self.now.program self.now.limits self.now.ledger worker (Mark task) }
     {
         if let Some(cause) = self.waiting_cause(task) {
             return Some(cause);
@@ -145,8 +145,8 @@ impl<'p> Accounts<'p> {
         None
     }
 
-    pub(crate) fn more_cause(&self, worker: u32, task: u32, count: u32) -> Option<Refused>
-        ensures { result ≡ kind_refusal self.now.program self.now.limits self.now.ledger worker (More task count) }
+    pub(crate) fn more_cause(&self, task: u32) -> Option<Refused>
+        ensures { (worker count : ℕ) → result ≡ kind_refusal self.now.program self.now.limits self.now.ledger worker (More task count) }
     {
         if let Some(cause) = self.marking_cause(task) {
             return Some(cause);
@@ -157,8 +157,8 @@ impl<'p> Accounts<'p> {
         None
     }
 
-    pub(crate) fn fuel_cause(&self, worker: u32) -> Option<Refused>
-        ensures { result ≡ kind_refusal self.now.program self.now.limits self.now.ledger worker Fuel }
+    pub(crate) fn fuel_cause(&self) -> Option<Refused>
+        ensures { (worker : ℕ) → result ≡ kind_refusal self.now.program self.now.limits self.now.ledger worker Fuel }
     {
         if self.steps < self.limits.fuel() {
             return Some(Refused::NotSpent(self.steps));

@@ -1,6 +1,6 @@
 // What an entry changes, but for the steps of tasks.
 
-ghost use Rattle.std.specs.Prelude.{◌≡◌, Some, ◌+◌, ◌<◌, ◌^◌, OnOk, OnErr, IfOk, slice_set, min};
+ghost use Rattle.std.specs.Prelude.{◌≡◌, ℕ, Some, ◌+◌, ◌<◌, ◌^◌, OnOk, OnErr, IfOk, slice_set, min};
 ghost use Rattle.run_trace.specs.declared.entry.Kind.TheVariants.{Took, Chunk, Begin, PutOff, Mark, More, Fuel};
 ghost use Rattle.run_ledger.specs.Entries.{after_kind, chunk_units};
 ghost use Rattle.hh_model.specs.Step.{asked};
@@ -26,24 +26,24 @@ impl<'p> Accounts<'p> {
         self.taken[worker as usize] = Some(task);
     }
 
-    pub(crate) fn put_off(&mut self, worker: u32, task: u32)
-        ensures { self.new ≡ record self.old { ledger = after_kind self.old.program self.old.limits self.old.ledger worker (PutOff task) } }
+    pub(crate) fn put_off(&mut self, task: u32)
+        ensures { (worker : ℕ) → self.new ≡ record self.old { ledger = after_kind self.old.program self.old.limits self.old.ledger worker (PutOff task) } }
     {
         if (task as usize) < self.heaps.len() {
             self.heaps.at_mut(task as usize).since = 0;
         }
     }
 
-    pub(crate) fn mark(&mut self, worker: u32, task: u32)
-        ensures { self.new ≡ record self.old { ledger = after_kind self.old.program self.old.limits self.old.ledger worker (Mark task) } }
+    pub(crate) fn mark(&mut self, task: u32)
+        ensures { (worker : ℕ) → self.new ≡ record self.old { ledger = after_kind self.old.program self.old.limits self.old.ledger worker (Mark task) } }
     {
         if (task as usize) < self.heaps.len() {
             self.heaps.at_mut(task as usize).marked = Some(0);
         }
     }
 
-    pub(crate) fn fuel(&mut self, worker: u32)
-        ensures { self.new ≡ record self.old { ledger = after_kind self.old.program self.old.limits self.old.ledger worker Fuel } }
+    pub(crate) fn fuel(&mut self)
+        ensures { (worker : ℕ) → self.new ≡ record self.old { ledger = after_kind self.old.program self.old.limits self.old.ledger worker Fuel } }
     {
         self.end = Some(RunEnd::Fuel(self.steps));
     }
@@ -71,10 +71,10 @@ impl<'p> Accounts<'p> {
 
     #[tactic(auto, using(hh_model::proofs::Lists::set_got))]
     /// A chunk is asked for: the run ends where too few are free.
-    pub(crate) fn chunk(&mut self, worker: u32, task: u32) -> Result<(), AllocError>
+    pub(crate) fn chunk(&mut self, task: u32) -> Result<(), AllocError>
         requires steady { Steady self.old.ledger }
         requires agrees { Agrees self.old }
-        ensures ok { OnOk result (self.new ≡ record self.old { ledger = after_kind self.old.program self.old.limits self.old.ledger worker (Chunk task) }) }
+        ensures ok { (worker : ℕ) → OnOk result (self.new ≡ record self.old { ledger = after_kind self.old.program self.old.limits self.old.ledger worker (Chunk task) }) }
         ensures err { OnErr result (self.new ≡ self.old) }
     {
         let units = self.chunk_units(task);
@@ -97,9 +97,9 @@ impl<'p> Accounts<'p> {
     }
 
     /// The task's leaf collection begins.
-    pub(crate) fn begin(&mut self, worker: u32, task: u32) -> Result<(), AllocError>
+    pub(crate) fn begin(&mut self, task: u32) -> Result<(), AllocError>
         requires { Steady self.old.ledger }
-        ensures ok { OnOk result (self.new ≡ record self.old { ledger = after_kind self.old.program self.old.limits self.old.ledger worker (Begin task) }) }
+        ensures ok { (worker : ℕ) → OnOk result (self.new ≡ record self.old { ledger = after_kind self.old.program self.old.limits self.old.ledger worker (Begin task) }) }
         ensures err { OnErr result (self.new ≡ self.old) }
     {
         let survivors = within(self.alloc, self.machine.state(), &self.heaps, task)?;
@@ -113,9 +113,9 @@ impl<'p> Accounts<'p> {
     }
 
     /// So many objects of the heap more are marked, at most.
-    pub(crate) fn more(&mut self, worker: u32, task: u32, count: u32)
+    pub(crate) fn more(&mut self, task: u32, count: u32)
         requires { Steady self.old.ledger }
-        ensures { self.new ≡ record self.old { ledger = after_kind self.old.program self.old.limits self.old.ledger worker (More task count) } }
+        ensures { (worker : ℕ) → self.new ≡ record self.old { ledger = after_kind self.old.program self.old.limits self.old.ledger worker (More task count) } }
     {
         let marked = self.marked_by(task, count);
         if (task as usize) < self.heaps.len() {

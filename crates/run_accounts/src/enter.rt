@@ -71,7 +71,7 @@ impl<'p> Accounts<'p> {
             return Err(ApplyError::Refused(cause));
         }
         let places = self.places(task);
-        match self.chunk(worker, task) {
+        match self.chunk(task) {
             Ok(()) => {
                 self.count_places(task, places);
                 Ok(())
@@ -91,7 +91,7 @@ impl<'p> Accounts<'p> {
             return Err(ApplyError::Refused(cause));
         }
         let places = self.places(task);
-        match self.begin(worker, task) {
+        match self.begin(task) {
             Ok(()) => {
                 self.count_places(task, places);
                 Ok(())
@@ -131,44 +131,44 @@ impl<'p> Accounts<'p> {
         if let Some(cause) = self.put_off_cause(worker, task) {
             return Err(ApplyError::Refused(cause));
         }
-        self.put_off(worker, task);
+        self.put_off(task);
         Ok(())
     }
 
-    fn enter_mark(&mut self, worker: u32, task: u32) -> Result<(), ApplyError>
+    fn enter_mark(&mut self, task: u32) -> Result<(), ApplyError>
         requires steady { Steady self.old.ledger }
         requires agrees { Agrees self.old }
-        ensures none { OnOk result (kind_refusal self.old.program self.old.limits self.old.ledger worker (Mark task) ≡ None) }
-        ensures ok { OnOk result (self.new ≡ went_on self.old (after_kind self.old.program self.old.limits self.old.ledger worker (Mark task))) }
-        ensures err { IfErr result (FailsFor (kind_refusal self.old.program self.old.limits self.old.ledger worker (Mark task))) }
+        ensures none { (worker : ℕ) → OnOk result (kind_refusal self.old.program self.old.limits self.old.ledger worker (Mark task) ≡ None) }
+        ensures ok { (worker : ℕ) → OnOk result (self.new ≡ went_on self.old (after_kind self.old.program self.old.limits self.old.ledger worker (Mark task))) }
+        ensures err { (worker : ℕ) → IfErr result (FailsFor (kind_refusal self.old.program self.old.limits self.old.ledger worker (Mark task))) }
     {
-        if let Some(cause) = self.mark_cause(worker, task) {
+        if let Some(cause) = self.mark_cause(task) {
             return Err(ApplyError::Refused(cause));
         }
-        self.mark(worker, task);
+        self.mark(task);
         Ok(())
     }
 
-    fn enter_more(&mut self, worker: u32, task: u32, count: u32) -> Result<(), ApplyError>
+    fn enter_more(&mut self, task: u32, count: u32) -> Result<(), ApplyError>
         requires steady { Steady self.old.ledger }
         requires agrees { Agrees self.old }
-        ensures none { OnOk result (kind_refusal self.old.program self.old.limits self.old.ledger worker (More task count) ≡ None) }
-        ensures ok { OnOk result (self.new ≡ went_on self.old (after_kind self.old.program self.old.limits self.old.ledger worker (More task count))) }
-        ensures err { IfErr result (FailsFor (kind_refusal self.old.program self.old.limits self.old.ledger worker (More task count))) }
+        ensures none { (worker : ℕ) → OnOk result (kind_refusal self.old.program self.old.limits self.old.ledger worker (More task count) ≡ None) }
+        ensures ok { (worker : ℕ) → OnOk result (self.new ≡ went_on self.old (after_kind self.old.program self.old.limits self.old.ledger worker (More task count))) }
+        ensures err { (worker : ℕ) → IfErr result (FailsFor (kind_refusal self.old.program self.old.limits self.old.ledger worker (More task count))) }
     {
-        if let Some(cause) = self.more_cause(worker, task, count) {
+        if let Some(cause) = self.more_cause(task) {
             return Err(ApplyError::Refused(cause));
         }
-        self.more(worker, task, count);
+        self.more(task, count);
         Ok(())
     }
 
-    fn enter_sweep(&mut self, worker: u32, task: u32, given: u32) -> Result<(), ApplyError>
+    fn enter_sweep(&mut self, task: u32, given: u32) -> Result<(), ApplyError>
         requires steady { Steady self.old.ledger }
         requires agrees { Agrees self.old }
-        ensures none { OnOk result (kind_refusal self.old.program self.old.limits self.old.ledger worker (Sweep task given) ≡ None) }
-        ensures ok { OnOk result (self.new ≡ went_on self.old (after_kind self.old.program self.old.limits self.old.ledger worker (Sweep task given))) }
-        ensures err { IfErr result (FailsFor (kind_refusal self.old.program self.old.limits self.old.ledger worker (Sweep task given))) }
+        ensures none { (worker : ℕ) → OnOk result (kind_refusal self.old.program self.old.limits self.old.ledger worker (Sweep task given) ≡ None) }
+        ensures ok { (worker : ℕ) → OnOk result (self.new ≡ went_on self.old (after_kind self.old.program self.old.limits self.old.ledger worker (Sweep task given))) }
+        ensures err { (worker : ℕ) → IfErr result (FailsFor (kind_refusal self.old.program self.old.limits self.old.ledger worker (Sweep task given))) }
     {
         if let Some(cause) = self.marked_cause(task) {
             return Err(ApplyError::Refused(cause));
@@ -184,16 +184,16 @@ impl<'p> Accounts<'p> {
         Ok(())
     }
 
-    fn enter_fuel(&mut self, worker: u32) -> Result<(), ApplyError>
+    fn enter_fuel(&mut self) -> Result<(), ApplyError>
         requires { Agrees self.old }
-        ensures none { OnOk result (kind_refusal self.old.program self.old.limits self.old.ledger worker Fuel ≡ None) }
-        ensures ok { OnOk result (self.new ≡ went_on self.old (after_kind self.old.program self.old.limits self.old.ledger worker Fuel)) }
-        ensures err { IfErr result (FailsFor (kind_refusal self.old.program self.old.limits self.old.ledger worker Fuel)) }
+        ensures none { (worker : ℕ) → OnOk result (kind_refusal self.old.program self.old.limits self.old.ledger worker Fuel ≡ None) }
+        ensures ok { (worker : ℕ) → OnOk result (self.new ≡ went_on self.old (after_kind self.old.program self.old.limits self.old.ledger worker Fuel)) }
+        ensures err { (worker : ℕ) → IfErr result (FailsFor (kind_refusal self.old.program self.old.limits self.old.ledger worker Fuel)) }
     {
-        if let Some(cause) = self.fuel_cause(worker) {
+        if let Some(cause) = self.fuel_cause() {
             return Err(ApplyError::Refused(cause));
         }
-        self.fuel(worker);
+        self.fuel();
         Ok(())
     }
 
@@ -218,10 +218,10 @@ impl<'p> Accounts<'p> {
                 (taken, given, left),
             ),
             Kind::PutOff(task) => self.enter_put_off(worker, task),
-            Kind::Mark(task) => self.enter_mark(worker, task),
-            Kind::More(task, count) => self.enter_more(worker, task, count),
-            Kind::Sweep(task, given) => self.enter_sweep(worker, task, given),
-            Kind::Fuel => self.enter_fuel(worker),
+            Kind::Mark(task) => self.enter_mark(task),
+            Kind::More(task, count) => self.enter_more(task, count),
+            Kind::Sweep(task, given) => self.enter_sweep(task, given),
+            Kind::Fuel => self.enter_fuel(),
         }
     }
 

@@ -11,7 +11,7 @@ ghost use Rattle.run_accounts.specs.declared.ran.Stood.TheVariants.{More, Last};
 
 use crate::accounts::Accounts;
 use hh_lang::Line;
-use next_steps::{NextStep, calculation, next_step};
+use next_steps::{calculation, next_step};
 use std::alloc::AllocError;
 
 /// Whether the next step of a task can stand in an entry, and whether a further one can behind it.
@@ -37,29 +37,6 @@ fn stood_by(own: bool, ended: bool) -> Stood
 }
 
 impl<'p> Accounts<'p> {
-    // Whether the machine has ended.
-    fn has_ended(&self) -> bool
-        ensures { result ≡ is_some self.now.ledger.machine.end }
-    {
-        self.machine.end().is_some()
-    }
-
-    // The next step of the task.
-    fn next_step(&self, t: u32) -> NextStep
-        ensures words { result.words ≡ asked self.now.program self.now.ledger.machine t }
-        ensures own { result.own ≡ is_own self.now.program self.now.ledger.machine t }
-    {
-        next_step(self.program, self.machine.state(), t)
-    }
-
-    // What stands where the task stands, if it can take a step that only calculates.
-    #[inline(always)]
-    fn calculation(&self, t: u32) -> Option<Line>
-        ensures { result ≡ calculation self.now.program self.now.ledger.machine t }
-    {
-        calculation(self.program, self.machine.state(), t)
-    }
-
     // The machine takes a step that it can take, by the line that was looked at.
     #[inline(always)]
     fn advance_by(&mut self, t: u32, line: Line) -> Result<(), AllocError>
@@ -96,12 +73,12 @@ impl<'p> Accounts<'p> {
         ensures stood { IfOk result (λ how. how ≡ stood self.old.limits self.old.program self.old.ledger t) }
         ensures after { IfOk result (λ how. self.new ≡ went_on self.old (after_stood self.old.program self.old.ledger t how)) }
     {
-        let ahead = self.next_step(t);
+        let ahead = next_step(self.program, self.machine.state(), t);
         if self.is_due_by(t, ahead.words) || self.is_in_need_by(t, ahead.words) {
             return Ok(Stood::Not);
         }
         self.step(t, ahead.words)?;
-        let ended = self.has_ended();
+        let ended = self.machine.end().is_some();
         Ok(stood_by(ahead.own, ended))
     }
 
@@ -114,7 +91,7 @@ impl<'p> Accounts<'p> {
         ensures stood { IfOk result (λ how. how ≡ stood self.old.limits self.old.program self.old.ledger t) }
         ensures after { IfOk result (λ how. self.new ≡ went_on self.old (after_stood self.old.program self.old.ledger t how)) }
     {
-        match self.calculation(t) {
+        match calculation(self.program, self.machine.state(), t) {
             Some(line) => self.calculate(t, line),
             None => self.stand_any(t),
         }
