@@ -1,17 +1,12 @@
 // The shared value, and what each worker owes.
 
 ghost use Rattle.std.specs.Prelude.{◌≡◌, ◌<◌, [], ℕ, IfOk, OnOk, None, Some, false, true};
-ghost use Rattle.run_ledger.specs.Entries.{is_pool_enough};
-ghost use Rattle.run_ledger.specs.Heaps.{heap_of, left_in, sweep_number};
 ghost use Rattle.run_ledger.specs.Pace.{is_paced};
 ghost use Rattle.task_machine.specs.declared.part.Private.{Private as Part};
-ghost use Rattle.shared_value.specs.Causes.{first_cause};
-ghost use Rattle.shared_value.specs.Due.{IsHeld};
 ghost use Rattle.shared_value.specs.Fits.{AllFit, Fits};
 ghost use Rattle.shared_value.specs.Stands.{IsSharedValue};
 ghost use Rattle.shared_value.specs.SharedValue.{accounts, rest_at};
 ghost use Rattle.task_homes.specs.declared.task_at_rest.Rest.{Rest as RestOf};
-ghost use Rattle.heap_marking.specs.MarkCauses.{marking_cause};
 ghost use Rattle.paced_tree.specs.Owed.{owed_by};
 
 use crate::noting::idle_paces;
@@ -20,12 +15,11 @@ use counted_tree::Counted;
 use hh_lang::Program;
 use listed::Listed;
 use out_of_line::Apart;
-use run_ledger::{Owed, Refused, RunEnd};
-use run_trace::{Entry, Settings};
+use run_ledger::Owed;
+use run_trace::Settings;
 use shared_tree::{Pace, Shared};
 use std::alloc::{AllocError, Global};
 use std::marker::Model;
-use task_machine::Private;
 
 /// The shared value whose journal is paced: each entry gives what its worker owes to the collections of the heaps of
 /// waiting tasks, or ends the run for spent fuel.
@@ -82,8 +76,8 @@ impl Paced {
         shared.into_inner()
     }
 
-    // The shared value, to be read.
-    fn shared(&self) -> &Shared
+    /// The shared value, to be read.
+    pub fn shared(&self) -> &Shared
         ensures { result.now ≡ self.now }
     {
         self.shared.get().shared()
@@ -107,13 +101,6 @@ impl Paced {
         self.shared.get_mut().halt();
     }
 
-    /// Whether some worker has met want of memory.
-    pub fn halted(&self) -> bool
-        ensures { result ≡ self.now.halted }
-    {
-        self.shared().halted()
-    }
-
     /// What the worker's next entry has to be.
     pub fn owed(&self, worker: u32) -> Owed
         requires worker { worker < self.now.settings.workers }
@@ -128,46 +115,5 @@ impl Paced {
         ensures { IsSharedValue self.now }
     {
         self.shared.get().stands();
-    }
-
-    /// How the run has ended, if it has.
-    pub fn ended(&self) -> Option<RunEnd>
-        ensures { result ≡ (accounts self.now).end }
-    {
-        self.shared().ended()
-    }
-
-    /// The entries made so far.
-    pub fn journal(&self) -> &[Entry]
-        ensures { result.now ≡ self.now.journal.items }
-    {
-        self.shared().journal()
-    }
-
-    /// Why a worker may make no entry but the end for spent fuel: the run has ended, its fuel is spent, or there is no
-    /// such worker.
-    pub fn refused_first(&self, worker: u32) -> Option<Refused>
-        ensures { result ≡ first_cause self.now.end self.now.steps self.now.settings worker false }
-    {
-        self.shared().refused_first(worker)
-    }
-
-    /// Whether the free chunks are enough for a leaf collection of a part.
-    pub fn pool_enough(&self, part: &Private) -> bool
-        requires held { IsHeld self.now part.now }
-        requires fresh { part.now.fresh ≡ 0 }
-        ensures { result ≡ is_pool_enough self.now.settings (accounts self.now) part.now.task }
-    {
-        self.shared().pool_enough(part)
-    }
-
-    /// How many units of 1,024 words a sweep of a marked heap gives back.
-    pub fn would_give(&self, t: u32) -> u32
-        requires goes { (accounts self.now).end ≡ None }
-        requires marked { marking_cause self.now t ≡ None }
-        requires none_left { left_in (heap_of (accounts self.now) t) ≡ 0 }
-        ensures { result ≡ sweep_number (accounts self.now).machine (heap_of (accounts self.now) t) }
-    {
-        self.shared().would_give(t)
     }
 }

@@ -59,6 +59,11 @@ module _ (r : Run) (k : ℕ) (part : Private) (acted : Acted) where
   pub acts_at_once : (ready : Ready) (kind : Kind) → part.fresh ≡ 0 → ActsFor r k ready (Some kind) acted → ActsFor r k ready (Some (after_steps part kind)) acted
   acts_at_once ready kind none A = acts_same r k ready acted _ _ (ap Some (after_by kind true (eq-eqb part.fresh 0 none))) A
 
+-- whether the pool is enough, by a look at the value and the part that are lent
+pub enough_is : (w lent : SharedValue) (part seen : Private) (enough b : Bool) → lent ≡ w → seen ≡ part → enough ≡ is_pool_enough lent.settings (accounts lent) seen.task → enough ≡ b → is_pool_enough w.settings (accounts w) part.task ≡ b
+enough_is w lent part seen enough b same is told e =
+    ap (λ (p : Private). is_pool_enough w.settings (accounts w) p.task) (sym is) ∙ (ap (λ (z : SharedValue). is_pool_enough z.settings (accounts z) seen.task) (sym same) ∙ (sym told ∙ e))
+
 -- a due collection begins, or is put off
 pub due_begins : (w : SharedValue) (t : ℕ) → is_pool_enough w.settings (accounts w) t ≡ true → due_kind w t ≡ Begin t
 due_begins w t e = ap (λ (b : Bool). if b then Begin t else PutOff t) e

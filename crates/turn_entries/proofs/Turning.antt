@@ -96,6 +96,22 @@ none_over false (Some e) a b = absurd cc
 pub not_over : (r : Run) → r.paced.halted ≡ false → (accounts r.paced).end ≡ None → is_over r ≡ false
 not_over r on goes = none_over r.paced.halted (accounts r.paced).end on goes
 
+none_in : (end : Option RunEnd) → is_some end ≡ false → end ≡ None
+none_in None e = refl
+none_in (Some x) e = absurd (false≢true (sym e))
+
+-- after an entry that didn't end the run, by a look at the value that is lent
+pub entered_goes : (r after : Run) (k : ℕ) (ready : Ready) (kind : Kind) (next : Next) (lent : SharedValue) (end : Option RunEnd) (ends : Bool) → IsSharedValue after.paced → lent ≡ after.paced → end ≡ (accounts lent).end → ends ≡ is_some end → ends ≡ false
+    → EntersOne r.paced after.paced k kind → r.paced.halted ≡ false → (Goes after.paced → Follows r.paced after.paced k ready next) → ActsFor r k ready (Some kind) (Entered after next)
+entered_goes r after k ready kind next lent end ends I same told is going E on follows = record {
+  made = kind;
+  is_next = refl;
+  enters = E;
+  world = I;
+  on = E.enters.halted ∙ on;
+  follows = follows (ap (λ (w : SharedValue). (accounts w).end) (sym same) ∙ (sym told ∙ none_in end (sym is ∙ going)));
+}
+
 pub ended_over : (r : Run) → is_some (accounts r.paced).end ≡ true → is_over r ≡ true
 ended_over r h = by r.paced.halted (is_some (accounts r.paced).end) h
   where

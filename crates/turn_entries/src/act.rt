@@ -28,7 +28,7 @@ impl Run {
         ensures { EndsEntered self next result }
     {
         self.paced.stands();
-        if self.paced.ended().is_some() {
+        if self.paced.shared().ended().is_some() {
             Acted::Entered(self, Next::Stop)
         } else {
             Acted::Entered(self, next)
@@ -66,7 +66,7 @@ impl Run {
         ensures { ActsFor self worker ready (going_kind self.paced worker ready) result }
     {
         self.paced.stands();
-        match self.paced.refused_first(worker) {
+        match self.paced.shared().refused_first(worker) {
             Some(_) => self.end_for_fuel(worker),
             None => self.act_free(alloc, worker, ready),
         }

@@ -97,7 +97,7 @@ impl Run {
         requires fresh { part.fresh ≡ 0 }
         ensures { ActsAnyhow self worker (due_kind self.paced part.task) result }
     {
-        if self.paced.pool_enough(part.get()) {
+        if self.paced.shared().pool_enough(part.get()) {
             self.begin_leaf(alloc, worker, part)
         } else {
             self.put_off_leaf(worker, part)

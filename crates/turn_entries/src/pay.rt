@@ -78,7 +78,7 @@ impl Run {
         ensures { ActsFor self worker ready (Some (KindOf.Sweep task (sweep_number (accounts self.paced).machine (heap_of (accounts self.paced) task)))) result }
     {
         self.paced.stands();
-        let given = self.paced.would_give(task);
+        let given = self.paced.shared().would_give(task);
         let mut run = self;
         match run.paced.sweep(worker, task, given) {
             Ok(()) => run.paid(ready),

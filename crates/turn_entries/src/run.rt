@@ -40,7 +40,7 @@ impl Kept for Run {
     ghost setup = { setup_of };
 
     fn entries(&self) -> u64 {
-        self.paced.journal().len() as u64
+        self.paced.shared().journal().len() as u64
     }
 }
 
@@ -56,13 +56,14 @@ impl Run {
     pub fn is_short(&self)
         ensures { length self.now.paced.journal.items < 2 ^ 63 }
     {
-        self.paced.journal().len();
+        self.paced.shared().journal().len();
     }
 
     /// Whether entries may be made: the run hasn't ended, and no worker has met want of memory.
     pub fn goes_on(&self) -> bool
         ensures { result ≡ not (is_over self.now) }
     {
-        !self.paced.halted() && self.paced.ended().is_none()
+        let shared = self.paced.shared();
+        !shared.halted() && shared.ended().is_none()
     }
 }

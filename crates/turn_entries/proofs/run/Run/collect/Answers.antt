@@ -1,18 +1,30 @@
-use Rattle.std.proofs.Common.{Some, ap}
-use Rattle.std.proofs.Common.{rules, ◌≡◌, true, false}
+use Rattle.std.proofs.Common.{Some, ap, sym, subst, true, false}
 use Rattle.run_trace.specs.declared.entry.Kind.TheVariants.{Begin, PutOff}
-use Rattle.run_ledger.specs.Entries.{is_pool_enough}
-use Rattle.shared_value.specs.SharedValue.{accounts}
+use Rattle.task_machine.specs.declared.part.Private.{Private}
+use Rattle.shared_value.specs.Fits.{Fits}
+use Rattle.shared_value.specs.SharedValue.{SharedValue}
 use Rattle.turn_entries.specs.Next.{due_kind}
-use Rattle.turn_entries.proofs.Coming.{acts_same, due_begins, due_waits}
+use Rattle.turn_entries.proofs.Coming.{acts_same, due_begins, due_waits, enough_is}
 use Rattle.turn_entries.proofs.run.Run.collect.Goals as goal
+
+pub pool_enough-requires-clause-held : goal.pool_enough-requires-clause-held
+pool_enough-requires-clause-held c = (
+  c.args.worker,
+  subst (λ (z : SharedValue). Fits z c.args.worker c.get.result.now) (sym c.shared.ensures) (subst (λ (p : Private). Fits c.args.self.paced c.args.worker p) (sym c.get.ensures) c.requires.paused.may.fits),
+)
+
+pub begin_leaf-requires-clause-enough : goal.begin_leaf-requires-clause-enough
+begin_leaf-requires-clause-enough c = enough_is c.args.self.paced c.shared.result.now c.args.part c.get.result.now c.pool_enough.result true c.shared.ensures c.get.ensures c.pool_enough.ensures c.if-pool_enough.true
+
+pub put_off_leaf-requires-clause-short : goal.put_off_leaf-requires-clause-short
+put_off_leaf-requires-clause-short c = enough_is c.args.self.paced c.shared.result.now c.args.part c.get.result.now c.pool_enough.result false c.shared.ensures c.get.ensures c.pool_enough.ensures c.if-pool_enough.false
 
 pub returns-then-pool_enough : goal.returns-then-pool_enough
 returns-then-pool_enough c = λ ready.
-    let enough : is_pool_enough c.args.self.paced.settings (accounts c.args.self.paced) c.args.part.task ≡ true = search rules in
+    let enough = enough_is c.args.self.paced c.shared.result.now c.args.part c.get.result.now c.pool_enough.result true c.shared.ensures c.get.ensures c.pool_enough.ensures c.if-pool_enough.true in
     acts_same c.args.self c.args.worker ready c.begin_leaf.result (Some (due_kind c.args.self.paced c.args.part.task)) (Some (Begin c.args.part.task)) (ap Some (due_begins c.args.self.paced c.args.part.task enough)) (c.begin_leaf.ensures ready)
 
 pub returns-else-pool_enough : goal.returns-else-pool_enough
 returns-else-pool_enough c = λ ready.
-    let short : is_pool_enough c.args.self.paced.settings (accounts c.args.self.paced) c.args.part.task ≡ false = search rules in
+    let short = enough_is c.args.self.paced c.shared.result.now c.args.part c.get.result.now c.pool_enough.result false c.shared.ensures c.get.ensures c.pool_enough.ensures c.if-pool_enough.false in
     acts_same c.args.self c.args.worker ready c.put_off_leaf.result (Some (due_kind c.args.self.paced c.args.part.task)) (Some (PutOff c.args.part.task)) (ap Some (due_waits c.args.self.paced c.args.part.task short)) (c.put_off_leaf.ensures ready)

@@ -1,27 +1,39 @@
 use Rattle.std.proofs.Common.{ℕ, Some, subst, ap, sym, ◌∙◌}
 use Rattle.run_trace.specs.declared.entry.Kind.{Kind}
 use Rattle.run_trace.specs.declared.entry.Kind.TheVariants.{Sweep}
+use Rattle.run_ledger.specs.Heaps.{heap_of, left_in, sweep_number}
 use Rattle.journal_laws.proofs.Accepted.{not_refused}
 use Rattle.shared_value.specs.Entered.{cause_of}
+use Rattle.shared_value.specs.SharedValue.{SharedValue, accounts}
+use Rattle.heap_marking.specs.MarkCauses.{marking_cause}
 use Rattle.turn_entries.specs.Acts.{ActsFor}
 use Rattle.turn_entries.proofs.Free.{sweep_free}
 use Rattle.turn_entries.proofs.Paying.{pays_sweep, sweep_is_owed}
 use Rattle.turn_entries.proofs.Turning.{one_of_all}
 use Rattle.turn_entries.proofs.run.Run.pay_sweep.Goals as goal
 
+pub would_give-given-requires-clause-goes : goal.would_give-given-requires-clause-goes
+would_give-given-requires-clause-goes c = ap (λ (w : SharedValue). (accounts w).end) c.shared.ensures ∙ c.requires.enter.goes
+
 pub would_give-given-requires-clause-marked : goal.would_give-given-requires-clause-marked
-would_give-given-requires-clause-marked c = (sweep_is_owed c.args.self.paced c.args.worker c.args.task c.stands.ensures c.requires.enter.goes c.requires.enter.owed).0
+would_give-given-requires-clause-marked c =
+    ap (λ (w : SharedValue). marking_cause w c.args.task) c.shared.ensures ∙ (sweep_is_owed c.args.self.paced c.args.worker c.args.task c.stands.ensures c.requires.enter.goes c.requires.enter.owed).0
 
 pub would_give-given-requires-clause-none_left : goal.would_give-given-requires-clause-none_left
-would_give-given-requires-clause-none_left c = (sweep_is_owed c.args.self.paced c.args.worker c.args.task c.stands.ensures c.requires.enter.goes c.requires.enter.owed).1
+would_give-given-requires-clause-none_left c =
+    ap (λ (w : SharedValue). left_in (heap_of (accounts w) c.args.task)) c.shared.ensures ∙ (sweep_is_owed c.args.self.paced c.args.worker c.args.task c.stands.ensures c.requires.enter.goes c.requires.enter.owed).1
 
 pub unreachable-requires : goal.unreachable-requires
-unreachable-requires c = not_refused _ c.in-Err.field-0 (sweep_free c.args.self.paced c.args.worker c.args.task c.stands.ensures c.requires.enter.free c.would_give-given.result c.requires.enter.owed c.would_give-given.ensures) (sym c.sweep.ensures.refused ∙ ap cause_of c.in-Err.is)
+unreachable-requires c =
+    not_refused _ c.in-Err.field-0
+    (sweep_free c.args.self.paced c.args.worker c.args.task c.stands.ensures c.requires.enter.free c.would_give-given.result c.requires.enter.owed
+    (c.would_give-given.ensures ∙ ap (λ (w : SharedValue). sweep_number (accounts w).machine (heap_of (accounts w) c.args.task)) c.shared.ensures)) (sym c.sweep.ensures.refused ∙ ap cause_of c.in-Err.is)
 
 pub returns : goal.returns
 returns c =
     let kind : Kind = Sweep c.args.task c.would_give-given.result in
-    subst (λ (n : ℕ). ActsFor c.args.self c.args.worker c.args.ready (Some (Sweep c.args.task n)) c.paid.result) c.would_give-given.ensures
+    subst (λ (n : ℕ). ActsFor c.args.self c.args.worker c.args.ready (Some (Sweep c.args.task n)) c.paid.result)
+    (c.would_give-given.ensures ∙ ap (λ (w : SharedValue). sweep_number (accounts w).machine (heap_of (accounts w) c.args.task)) c.shared.ensures)
     (c.paid.ensures c.args.self c.args.worker kind c.stands.ensures c.requires.enter.goes c.requires.met c.requires.brings
     (one_of_all c.args.self.paced c.sweep.new.self c.args.worker kind c.in-Ok.ensures.enters c.in-Ok.ensures.fits) c.in-Ok.ensures.fits c.requires.enter.on)
 
