@@ -202,23 +202,23 @@ module _ (h : LeafHeapValue) (from : List (Option Addr)) (ss : List Survivor) (n
   tidy : AreTidy h.chunks
   tidy = settled.tidy
 
-  all_once : Distinct (numbers h.chunks ++ numbers news)
+  pub all_once : Distinct (numbers h.chunks ++ numbers news)
   all_once = subst Distinct (nums.numbers_append h.chunks news) (nums.apart_distinct (h.chunks ++ news) (nums.apart_append h.chunks news settled.apart t.apart t.fresh))
 
-  once_h : Distinct (numbers h.chunks)
+  pub once_h : Distinct (numbers h.chunks)
   once_h = nums.distinct_left (numbers h.chunks) (numbers news) all_once
 
-  laid_numbers : numbers (laid_of h ss (reverse news)) ≡ numbers (laid_all (before (reverse news)) h.chunks (smalls h.chunks (olds ss))).laid
+  pub laid_numbers : numbers (laid_of h ss (reverse news)) ≡ numbers (laid_all (before (reverse news)) h.chunks (smalls h.chunks (olds ss))).laid
   laid_numbers = nums.numbers_of_map (led_chunk (redirection h.chunks ss (reverse news))) (λ k. refl) (laid_all (before (reverse news)) h.chunks (smalls h.chunks (olds ss))).laid
 
-  laid_parts : numbers (laid_all (before (reverse news)) h.chunks (smalls h.chunks (olds ss))).laid ++ numbers (laid_all (before (reverse news)) h.chunks (smalls h.chunks (olds ss))).spare ≡ numbers (reverse news)
+  pub laid_parts : numbers (laid_all (before (reverse news)) h.chunks (smalls h.chunks (olds ss))).laid ++ numbers (laid_all (before (reverse news)) h.chunks (smalls h.chunks (olds ss))).spare ≡ numbers (reverse news)
   laid_parts = new_numbers.laid_numbers (before (reverse news)) h.chunks (smalls h.chunks (olds ss))
 
-  laid_once : Distinct (numbers (laid_of h ss (reverse news)))
+  pub laid_once : Distinct (numbers (laid_of h ss (reverse news)))
   laid_once = subst Distinct (sym laid_numbers) (nums.distinct_left (numbers (laid_all (before (reverse news)) h.chunks (smalls h.chunks (olds ss))).laid) (numbers (laid_all (before (reverse news)) h.chunks (smalls h.chunks (olds ss))).spare)
       (subst Distinct (sym laid_parts) (nums.distinct_reverse news (nums.distinct_right (numbers h.chunks) (numbers news) all_once))))
 
-  laid_apart : (n : ℕ) → In (numbers (laid_of h ss (reverse news))) n → In (numbers h.chunks) n → ⊥
+  pub laid_apart : (n : ℕ) → In (numbers (laid_of h ss (reverse news))) n → In (numbers h.chunks) n → ⊥
   laid_apart n i j =
       let k = subst (λ (ns : List ℕ). In ns n) laid_parts (in_append_left (numbers (laid_all (before (reverse news)) h.chunks (smalls h.chunks (olds ss))).laid) (numbers (laid_all (before (reverse news)) h.chunks (smalls h.chunks (olds ss))).spare) n (subst (λ (ns : List ℕ). In ns n) laid_numbers i)) in
       nums.distinct_apart_parts (numbers h.chunks) (numbers news) all_once n j (nums.in_reverse news n k)

@@ -26,6 +26,7 @@ use Rattle.address_laws.proofs.Numbers.{Distinct, numbers}
 use Rattle.address_laws.proofs.Numbers as nums
 use Rattle.leaf_copy_gc.proofs.NewNumbers as new_numbers
 use Rattle.leaf_copy_gc.proofs.Naming.{in_unreserved}
+use Rattle.collected_heap_laws.proofs.Reading as reading
 use Rattle.collected_heap_laws.proofs.Reading.{within_of}
 use Rattle.inner_mark_gc.specs.Swept.{units_kept}
 use Rattle.core_relation.specs.Memory.{In}
@@ -66,13 +67,13 @@ module _ (h : LeafHeapValue) (from : List (Option Addr)) (ss : List Survivor) (n
   Back = back_of h ss (reverse news)
 
   both : Distinct (numbers h.chunks ++ numbers news)
-  both = moving.all_once h from ss news S T (naming.settled h from ss news S T m a O) (naming.reserved h from ss news S T m a O)
+  both = reading.all_once h from ss news S T (naming.settled h from ss news S T m a O) (naming.reserved h from ss news S T m a O)
 
   once_h : Distinct (numbers h.chunks)
-  once_h = moving.once_h h from ss news S T (naming.settled h from ss news S T m a O) (naming.reserved h from ss news S T m a O)
+  once_h = reading.once_h h from ss news S T (naming.settled h from ss news S T m a O) (naming.reserved h from ss news S T m a O)
 
   parts : numbers y.laid ++ numbers y.spare ≡ numbers (reverse news)
-  parts = moving.laid_parts h from ss news S T (naming.settled h from ss news S T m a O) (naming.reserved h from ss news S T m a O)
+  parts = reading.laid_parts h from ss news S T (naming.settled h from ss news S T m a O) (naming.reserved h from ss news S T m a O)
 
   once_parts : Distinct (numbers y.laid ++ numbers y.spare)
   once_parts = subst Distinct (sym parts) (nums.distinct_reverse news (nums.distinct_right (numbers h.chunks) (numbers news) both))
@@ -125,13 +126,13 @@ module _ (h : LeafHeapValue) (from : List (Option Addr)) (ss : List Survivor) (n
   within = within_of h.chunks h.reserved (naming.reserved h from ss news S T m a O)
 
   laid_same : numbers L ≡ numbers y.laid
-  laid_same = moving.laid_numbers h from ss news S T (naming.settled h from ss news S T m a O) (naming.reserved h from ss news S T m a O)
+  laid_same = reading.laid_numbers h from ss news S T (naming.settled h from ss news S T m a O) (naming.reserved h from ss news S T m a O)
 
   -- no number of the heap's is given back
   not_there : (n : ℕ) → In (numbers Back) n → In (numbers (L ++ (K ++ R))) n → ⊥
   not_there n i j = elim (in_append_cases (numbers (filter (leaves ss) U)) (numbers (reverse y.spare)) n (subst (λ ns. In ns n) back_numbers i)) [
     | inl l ↦ elim there [
-      | inl q ↦ moving.laid_apart h from ss news S T (naming.settled h from ss news S T m a O) (naming.reserved h from ss news S T m a O) n q (old_number n l)
+      | inl q ↦ reading.laid_apart h from ss news S T (naming.settled h from ss news S T m a O) (naming.reserved h from ss news S T m a O) n q (old_number n l)
       | inr (inl q) ↦ stay_or_leave n l q
       | inr (inr q) ↦ new_numbers.reserved_apart h.chunks once_h h.reserved within n (nums.in_filtered (leaves ss) U n l) q
     ]

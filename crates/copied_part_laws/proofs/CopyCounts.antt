@@ -33,6 +33,7 @@ use Rattle.leaf_copy_gc.proofs.NewNumbers as new_numbers
 use Rattle.address_laws.proofs.Extent as extent
 use Rattle.leaf_copy_gc.proofs.Tidied.{all_tidy}
 use Rattle.leaf_copy_gc.proofs.Naming.{in_unreserved}
+use Rattle.collected_heap_laws.proofs.Reading as reading
 use Rattle.collected_heap_laws.proofs.Reading.{within_of}
 use Rattle.core_relation.specs.Memory.{In, object_name, objects_in}
 use Rattle.core_relation.specs.Layout.{words}
@@ -81,7 +82,7 @@ module _ (h : LeafHeapValue) (from : List (Option Addr)) (ss : List Survivor) (n
       let n = count_numbers (reverse news) in
       let r = length-reverse news in
       let d = count_numbers L in
-      let q = ap (λ (ns : List ℕ). length ns) (moving.laid_numbers h from ss news S T (naming.settled h from ss news S T m a O) (naming.reserved h from ss news S T m a O)) in
+      let q = ap (λ (ns : List ℕ). length ns) (reading.laid_numbers h from ss news S T (naming.settled h from ss news S T m a O) (naming.reserved h from ss news S T m a O)) in
       omega (arith, e, p, l, s, n, r, d, q)
 
   -- ---- THE WORDS LEFT
@@ -135,7 +136,7 @@ module _ (h : LeafHeapValue) (from : List (Option Addr)) (ss : List Survivor) (n
           let at = index_of h.chunks k (in_unreserved h.chunks h.reserved k i) in
           let r : h.reserved ≡ Some at.0 = O.form.spare at.0 at.1 (λ e. false≢true (sym big ∙ eq-eqb k.size 1024 (ap (λ (z : ChunkValue). z.size) (sym at.2) ∙ e))) (ap (λ (z : ChunkValue). (chunk_of z).objects) at.2 ∙ no_objects k none) in
           let j : In (remove h.chunks at.0) k = subst (λ o. In (unreserved h.chunks o) k) r i in
-          removed_at h.chunks at.0 at.1 (moving.once_h h from ss news S T (naming.settled h from ss news S T m a O) (naming.reserved h from ss news S T m a O))
+          removed_at h.chunks at.0 at.1 (reading.once_h h from ss news S T (naming.settled h from ss news S T m a O) (naming.reserved h from ss news S T m a O))
           (subst (λ (z : ChunkValue). In (numbers (remove h.chunks at.0)) z.number) (sym at.2) (extent.number_there (remove h.chunks at.0) k j))
 
   leaving : (us : List ChunkValue) → ((k : ChunkValue) → In us k → In U k) → unit_count (filter (leaves ss) us) + Units (large_names (filter (keeps ss) us)) ≡ length (small_lists us) + Units (large_names us)

@@ -1,9 +1,8 @@
 -- What a leaf collection makes of a part is a copy of it.
-use Rattle.std.proofs.Common.{◌≡◌, ℕ, suc, ◌+◌, arith, Option, Some, None, is_some, List, [], ◌∷◌, ◌++◌, length, map, filter, inl, inr, refl, ap, ap₂, sym, subst, ◌∙◌}
+use Rattle.std.proofs.Common.{◌≡◌, ℕ, ◌+◌, arith, Option, Some, None, is_some, List, [], ◌∷◌, ◌++◌, length, map, filter, inl, inr, refl, ap, ap₂, sym, subst, ◌∙◌}
 use Rattle.std.specs.Prelude.{reverse, unwrap_or}
 use Rattle.listed.proofs.Members.{contains_from_in, in_append_cases, in_from_contains}
 use Rattle.hh_lang.specs.Form.{ProgramText}
-use Rattle.hh_model.specs.declared.data.Name.{Name}
 use Rattle.hh_model.specs.declared.data.Object.{Object}
 use Rattle.hh_model.specs.declared.data.State.{State}
 use Rattle.hh_model.specs.Effect.{object_at}
@@ -34,7 +33,6 @@ use Rattle.ledger_step_laws.proofs.Rested.{rested_view, rested_worker}
 use Rattle.task_machine.specs.declared.part.Begun.{Begun}
 use Rattle.core_relation.specs.Memory.{Chunk, Home, In, Memory, led, led_frame, copied_object, object_name, objects_in}
 use Rattle.core_relation.specs.Layout.{AreLaidOut, words}
-use Rattle.core_relation.specs.Reads.{AllRead}
 use Rattle.core_relation.specs.Begins.{IsReachedAt}
 use Rattle.core_relation.specs.Stands.{HasNames, HomeStands, Place, Stands}
 use Rattle.core_relation.specs.Fits.{with_home}
@@ -45,6 +43,7 @@ use Rattle.core_relation.proofs.changes.With.{at_home}
 use Rattle.shared_value.specs.Objects.{chunk_of, chunks_of}
 use Rattle.shared_value.specs.Stands.{HeapForm}
 use Rattle.shared_value.specs.SharedValue.{frames_down}
+use Rattle.shared_value.proofs.FreeChunks.{refs_long}
 use Rattle.shared_value.proofs.HeapLaidOut.{inside_from}
 use Rattle.copied_part_laws.specs.Copied.{CopiesFit, IsBegun, part_home}
 use Rattle.copied_part_laws.proofs.CopiedForm as forming
@@ -80,12 +79,6 @@ frames_led f s s' e =
     ap₂ (λ x xs. x ∷ xs) r.1 r.0
 
 -- ---- WORDS
-
-read_length : (at : Name → Addr → Type 0) (rs : List (Option Addr)) (xs : List (Option Name)) → AllRead at rs xs → length xs ≡ length rs
-read_length at [] [] h = refl
-read_length at [] (x ∷ xs) h = absurd h
-read_length at (r ∷ rs) [] h = absurd h
-read_length at (r ∷ rs) (x ∷ xs) h = ap suc (read_length at rs xs h.1)
 
 module _ (p : ProgramText) (st : SettingsValue) (t : ℕ) (h : LeafHeapValue) (view : List Level) (count : ℕ) (s : FramesValue) (b : Begun) (news : List ChunkValue) (v : Memory) (l : Ledger) (B : IsBegun p st t h view count s b news v l) where
   abbrev pub H : Home
@@ -134,7 +127,7 @@ module _ (p : ProgramText) (st : SettingsValue) (t : ℕ) (h : LeafHeapValue) (v
       let c = stands.contents t o (rested_worker l t) (there o i) in
       let x : Object = c.0 in
       let e : words_at l.machine (object_name o) ≡ words_of (Some c.0) = ap (λ (m : State). words_of (object_at m.store (object_name o))) (sym machine) ∙ ap words_of c.1 in
-      let r : length c.0.refs ≡ length o.refs = read_length (Place V lt) o.refs c.0.refs c.2.refs in
+      let r : length c.0.refs ≡ length o.refs = sym (refs_long (Place V lt) o.refs c.0.refs c.2.refs) in
       let n : length c.0.ints ≡ length o.ints = ap (λ zs. length zs) (sym c.2.ints) in
       e ∙ (let q : 2 + length c.0.refs + length c.0.ints ≡ 2 + length o.refs + length o.ints = omega (arith, r, n) in q)
 

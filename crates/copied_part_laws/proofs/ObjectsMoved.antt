@@ -29,7 +29,7 @@ use Rattle.leaf_copy_gc.proofs.Moves as moves
 use Rattle.leaf_copy_gc.proofs.Naming as naming
 use Rattle.address_laws.proofs.Numbers as nums
 use Rattle.leaf_copy_gc.proofs.NewNumbers as new_numbers
-use Rattle.address_laws.proofs.Numbers.{Distinct, numbers}
+use Rattle.address_laws.proofs.Numbers.{numbers}
 use Rattle.leaf_copy_gc.proofs.Order.{first_in, firsts, in_first}
 use Rattle.collected_heap_laws.proofs.Reading as reading
 use Rattle.leaf_copy_gc.proofs.Rebuilt as rebuilt
@@ -93,30 +93,12 @@ module _ (h : LeafHeapValue) (from : List (Option Addr)) (ss : List Survivor) (n
 
   -- ---- numbers
 
-  pub all_once : Distinct (numbers h.chunks ++ numbers news)
-  all_once = subst Distinct (nums.numbers_append h.chunks news) (nums.apart_distinct (h.chunks ++ news) (nums.apart_append h.chunks news settled.apart T.apart T.fresh))
-
-  pub once_h : Distinct (numbers h.chunks)
-  once_h = nums.distinct_left (numbers h.chunks) (numbers news) all_once
-
-  pub laid_numbers : numbers (laid_of h ss (reverse news)) ≡ numbers y.laid
-  laid_numbers = nums.numbers_of_map (led_chunk g) (λ k. refl) y.laid
-
-  pub laid_parts : numbers y.laid ++ numbers y.spare ≡ numbers (reverse news)
-  laid_parts = new_numbers.laid_numbers (before (reverse news)) h.chunks xs
-
-  pub laid_once : Distinct (numbers (laid_of h ss (reverse news)))
-  laid_once = subst Distinct (sym laid_numbers) (nums.distinct_left (numbers y.laid) (numbers y.spare) (subst Distinct (sym laid_parts) (nums.distinct_reverse news (nums.distinct_right (numbers h.chunks) (numbers news) all_once))))
-
   -- the numbers of laid chunks are new ones
   pub laid_new : (n : ℕ) → In (numbers (laid_of h ss (reverse news))) n → In (numbers news) n
-  laid_new n i = nums.in_reverse news n (subst (λ ns. In ns n) laid_parts (in_append_left (numbers y.laid) (numbers y.spare) n (subst (λ ns. In ns n) laid_numbers i)))
-
-  pub laid_apart : (n : ℕ) → In (numbers (laid_of h ss (reverse news))) n → In (numbers h.chunks) n → ⊥
-  laid_apart n i j = nums.distinct_apart_parts (numbers h.chunks) (numbers news) all_once n j (laid_new n i)
+  laid_new n i = nums.in_reverse news n (subst (λ ns. In ns n) (reading.laid_parts h from ss news S T settled reserved) (in_append_left (numbers y.laid) (numbers y.spare) n (subst (λ ns. In ns n) (reading.laid_numbers h from ss news S T settled reserved) i)))
 
   pub apart_now : AreApart ks'
-  apart_now = nums.distinct_apart ks' (naming.goal_once h.chunks ss g h.reserved (laid_of h ss (reverse news)) settled.tidy once_h (once_from (olds ss) S.once) S.names laid_apart laid_once (within_of h.chunks h.reserved reserved) (none_of h.chunks h.reserved reserved))
+  apart_now = nums.distinct_apart ks' (naming.goal_once h.chunks ss g h.reserved (laid_of h ss (reverse news)) settled.tidy (reading.once_h h from ss news S T settled reserved) (once_from (olds ss) S.once) S.names (reading.laid_apart h from ss news S T settled reserved) (reading.laid_once h from ss news S T settled reserved) (within_of h.chunks h.reserved reserved) (none_of h.chunks h.reserved reserved))
 
   -- ---- where survivors lead
 
@@ -235,7 +217,7 @@ module _ (h : LeafHeapValue) (from : List (Option Addr)) (ss : List Survivor) (n
       let A = alone k i in
       let s = naming.in_unmap ss (first_of k) A.survives in
       let born : (cell_of h.chunks (first_of k)).mark ≡ Born s.0.birth = ap (λ (z : Addr). (cell_of h.chunks z).mark) (sym s.1.1) ∙ read_in (λ (x : Survivor). (cell_of h.chunks x.old).mark ≡ Born x.birth) ss s.0 s.1.0 S.names in
-      let mark : (cell_at k.cells 0).mark ≡ Born s.0.birth = ap (λ (c : Cell). c.mark) (sym (extent.chunk_there h.chunks k once_h A.there (first_of k) refl)) ∙ born in
+      let mark : (cell_at k.cells 0).mark ≡ Born s.0.birth = ap (λ (c : Cell). c.mark) (sym (extent.chunk_there h.chunks k (reading.once_h h from ss news S T settled reserved) A.there (first_of k) refl)) ∙ born in
       let c : Cell = led_cell g (cell_at k.cells 0) in
       let here : objects_from k.number 0 (map (led_cell g) k.cells) ≡ located k.number 0 s.0.birth c ∷ [] = ap (λ cs. objects_from k.number 0 (map (led_cell g) cs)) A.one ∙ ap (λ m. located_by k.number 0 c m []) mark in
       absurd (none_some (sym e ∙ here))
@@ -249,7 +231,7 @@ module _ (h : LeafHeapValue) (from : List (Option Addr)) (ss : List Survivor) (n
       let q = led_back k o' j in
       let b = seen_only k.number 0 (cell_at k.cells 0) (cell_at k.cells 0).mark q.0 (subst (λ cs. In (objects_from k.number 0 cs) q.0) A.one q.1) in
       let at : q.0.at ≡ first_of k = ap (λ (z : Located). z.at) (sym b.2) in
-      let cell : cell_of h.chunks (first_of k) ≡ cell_at k.cells 0 = extent.chunk_there h.chunks k once_h A.there (first_of k) refl in
+      let cell : cell_of h.chunks (first_of k) ≡ cell_at k.cells 0 = extent.chunk_there h.chunks k (reading.once_h h from ss news S T settled reserved) A.there (first_of k) refl in
       let stays : to q.0.at ≡ q.0.at = to_itself q.0.at (λ x.
       let small : nat_le (size_of (cell_at k.cells 0)) 1024 ≡ true = ap (λ (c : Cell). nat_le (size_of c) 1024) (sym (ap (cell_of h.chunks) at ∙ cell)) ∙ (in_xs q.0.at x).1 in
       let big : 1024 < size_of (cell_at k.cells 0) = A.big in

@@ -1,7 +1,8 @@
 -- What is written of races.
 use Rattle.std.specs.Prelude.{ℕ, Bool, true, false, List, [], ◌∷◌, ◌++◌, length, codes}
-use Rattle.std.specs.List.{flat_map, join_with_byte}
+use Rattle.std.specs.List.{flat_map}
 use Rattle.std.specs.Fmt.{decimal}
+use Rattle.run_trace.specs.Line.{spaced}
 use Rattle.run_ledger.specs.Text.{line, end_line}
 use Rattle.race_report.specs.declared.data.Race.{Race}
 
@@ -12,10 +13,6 @@ kind_word false = codes "num"
 
 abbrev pub field_words : Race → List (List ℕ)
 field_words r = decimal r.task ∷ decimal r.count ∷ kind_word r.is_ref ∷ decimal r.index ∷ []
-
--- words with a space between each two
-abbrev pub spaced : List (List ℕ) → List ℕ
-spaced words = join_with_byte 32 words
 
 -- a word, the field, then the tasks and the lines of both accesses
 abbrev pub pair_line : List ℕ → Race → List ℕ

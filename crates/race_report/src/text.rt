@@ -4,8 +4,9 @@ ghost use Rattle.std.specs.Prelude.{◌≡◌, ◌++◌, ◌∷◌, [], codes, I
 ghost use Rattle.std.specs.String.{string_bytes};
 ghost use Rattle.std.specs.List.{flat_map};
 ghost use Rattle.std.specs.Fmt.{decimal};
+ghost use Rattle.run_trace.specs.Line.{spaced};
 ghost use Rattle.run_ledger.specs.Text.{end_line};
-ghost use Rattle.race_report.specs.Text.{kind_word, field_words, spaced, pair_line, races_text};
+ghost use Rattle.race_report.specs.Text.{kind_word, field_words, pair_line, races_text};
 
 use crate::data::Race;
 use std::alloc::{AllocError, Global};

@@ -1,5 +1,5 @@
 -- The words that are held follow from entry to entry.
-use Rattle.std.proofs.Common.{◌≡◌, ℕ, zero, suc, ◌+◌, ◌-◌, ◌<◌, ◌≤◌, true, false, inl, inr, ◌&&◌, cond, Option, Some, None, List, [], ◌∷◌, ◌++◌, length, slice_get, replicate, refl, ap, ap₂, sym, subst, ◌∙◌, arith, is_some, is_none}
+use Rattle.std.proofs.Common.{◌≡◌, ℕ, zero, suc, ◌+◌, ◌-◌, ◌<◌, ◌≤◌, true, false, inl, inr, ◌&&◌, Option, Some, None, List, [], ◌∷◌, ◌++◌, length, slice_get, replicate, refl, ap, ap₂, sym, subst, ◌∙◌, arith, is_some, is_none}
 use Rattle.std.proofs.lemmas.Bool.{cases_Bool, cases_lt}
 use Rattle.listed.proofs.Members.{got_within}
 use Rattle.listed.proofs.Places.{got_some}
@@ -9,11 +9,11 @@ use Rattle.hh_model.specs.declared.data.State.{State}
 use Rattle.hh_model.specs.Counts.{Counted}
 use Rattle.hh_model.specs.Effect.{row_of}
 use Rattle.hh_model.specs.Store.{IsStored}
-use Rattle.hh_model.specs.Step.{asked, can_step, fetched, or_same, run_from, start, step, stepped}
+use Rattle.hh_model.specs.Step.{asked, can_step, run_from, start, step}
 use Rattle.hh_model.proofs.Carried.{next_name}
 use Rattle.hh_model.proofs.Counts.{counted_step, runs_are_counted}
 use Rattle.hh_model.proofs.Kept.{Kept, run_kept, start_kept, step_kept}
-use Rattle.hh_model.proofs.Taken.{can_made}
+use Rattle.hh_model.proofs.Taken.{can_made, step_idle}
 use Rattle.run_trace.specs.declared.entry.Kind.{Kind}
 use Rattle.run_trace.specs.declared.entry.Kind.TheVariants.{Took, Ran, Chunk, Begin, End, PutOff, Mark, More, Sweep, Fuel}
 use Rattle.run_trace.specs.Entry.{EntryValue}
@@ -116,16 +116,13 @@ module _ (p : ProgramText) (t : ℕ) where
 
   -- STEPS
 
-  idle : (m : State) → can_step m t ≡ false → step p m t ≡ m
-  idle m e = ap (λ b. cond b (or_same m (slice_get m.tasks t) (λ x. stepped p m t x (fetched p x.top))) m) e
-
   step_has : (base first j : ℕ) (m : State) → Kept m → Counted j m.tasks m.store → HasMore base first m → HasMore base first (step p m t)
   step_has base first j m K C H = elim (cases_Bool (can_step m t)) [
     | inl can ↦
         let rows : length m.store ≡ length m.tasks = C.rows in
         let lt : t < length m.tasks = can_made m t can in
         step_more m (grown p m t K can (omega arith)) base first H
-    | inr not ↦ subst (HasMore base first) (sym (idle m not)) H
+    | inr not ↦ subst (HasMore base first) (sym (step_idle p m t not)) H
   ]
 
   pub steps_have : (base first k j : ℕ) (m : State) → Kept m → Counted j m.tasks m.store → HasMore base first m → HasMore base first (run_from p m (replicate k t))

@@ -5,7 +5,7 @@ ghost use Rattle.std.specs.List.{flat_map};
 ghost use Rattle.json_text.specs.Json.{further, more_members};
 ghost use Rattle.run_timeline.specs.Events.{arguments, two_numbers};
 ghost use Rattle.quoted_text.specs.Labels.{task_name};
-ghost use Rattle.run_timeline.specs.Entries.{task_ends, number_of, fork_line, next_line, first_taken, taken, forked, joined, ended, begins_and_ends, counter, counted, end_members, run_end, run_ended};
+ghost use Rattle.run_timeline.specs.Entries.{task_ends, number_of, fork_line, next_line, first_taken, taken, forked, joined, ended, collection, marking, begins_and_ends, counter, counted, end_members, run_end, run_ended};
 
 use crate::events::{
     add_comma, add_span, begin_arguments, begin_arrow, begin_event, begin_span, end_arguments,
@@ -243,6 +243,52 @@ fn add_ran(
     )
 }
 
+// Adds where a leaf collection begins or ends.
+fn add_collection(
+    alloc: Global,
+    text: &mut Vec<u8>,
+    phase: &[u8],
+    task: u32,
+    number: u32,
+    worker: u32,
+) -> Result<(), AllocError>
+    ensures { OnOk result (text.new.items ≡ text.old.items ++ flat_map further (collection phase.now task number worker ∷ [])) }
+{
+    add_span(
+        alloc,
+        text,
+        phase,
+        b"leaf collection",
+        b"leaf",
+        task as u64,
+        number,
+        worker,
+    )
+}
+
+// Adds where a marking begins or ends.
+fn add_marking(
+    alloc: Global,
+    text: &mut Vec<u8>,
+    phase: &[u8],
+    task: u32,
+    number: u32,
+    worker: u32,
+) -> Result<(), AllocError>
+    ensures { OnOk result (text.new.items ≡ text.old.items ++ flat_map further (marking phase.now task number worker ∷ [])) }
+{
+    add_span(
+        alloc,
+        text,
+        phase,
+        b"marking",
+        b"inner",
+        task as u64,
+        number,
+        worker,
+    )
+}
+
 /// Adds what begins and ends with an entry.
 pub(crate) fn add_begins_and_ends(
     alloc: Global,
@@ -261,52 +307,10 @@ pub(crate) fn add_begins_and_ends(
     match kind {
         Kind::Took(task) => add_taken(alloc, text, program, state, task, number, worker),
         Kind::Ran(task, _) => add_ran(alloc, text, state, made, task, number, worker),
-        Kind::Begin(task) => {
-            add_span(
-                alloc,
-                text,
-                b"b",
-                b"leaf collection",
-                b"leaf",
-                task as u64,
-                number,
-                worker,
-            )
-        }
-        Kind::End(task, _, _, _) => {
-            add_span(
-                alloc,
-                text,
-                b"e",
-                b"leaf collection",
-                b"leaf",
-                task as u64,
-                number,
-                worker,
-            )
-        }
-        Kind::Mark(task) => add_span(
-            alloc,
-            text,
-            b"b",
-            b"marking",
-            b"inner",
-            task as u64,
-            number,
-            worker,
-        ),
-        Kind::Sweep(task, _) => {
-            add_span(
-                alloc,
-                text,
-                b"e",
-                b"marking",
-                b"inner",
-                task as u64,
-                number,
-                worker,
-            )
-        }
+        Kind::Begin(task) => add_collection(alloc, text, b"b", task, number, worker),
+        Kind::End(task, _, _, _) => add_collection(alloc, text, b"e", task, number, worker),
+        Kind::Mark(task) => add_marking(alloc, text, b"b", task, number, worker),
+        Kind::Sweep(task, _) => add_marking(alloc, text, b"e", task, number, worker),
         _ => Ok(()),
     }
 }

@@ -240,10 +240,7 @@ pub fn timeline_text(
     let Ok(mut text) = begin(alloc, settings.workers()) else {
         return Err(ReplayError::NoMemory);
     };
-    match enter_all(alloc, &mut text, program, &mut book, journal) {
-        Ok(()) => {}
-        Err(error) => return Err(error),
-    }
+    enter_all(alloc, &mut text, program, &mut book, journal)?;
     if book.end().is_none() {
         return Err(ReplayError::RefusedAt(RefusedAt {
             index: journal.len() as u64 + 1,

@@ -9,7 +9,7 @@ use Rattle.hh_model.specs.declared.data.End.TheVariants.{Done}
 use Rattle.hh_model.specs.declared.data.State.{State}
 use Rattle.hh_model.specs.Precedence.{Precedes}
 use Rattle.hh_model.specs.Step.{can_step, run, run_from, start, step}
-use Rattle.hh_model.proofs.Counts.{run_push}
+use Rattle.hh_model.proofs.Counts.{run_on, run_push}
 use Rattle.hh_model.proofs.Kept.{run_kept}
 use Rattle.hh_model.proofs.Taken.{step_idle}
 use Rattle.race_report.specs.declared.data.Access.{Access}
@@ -25,10 +25,6 @@ use Rattle.schedule_laws.proofs.Schedules.{comes, whole}
 use Rattle.schedule_laws.proofs.Splits.{InOrder, from_order, in_some}
 
 module _ (p : ProgramText) where
-  run_append : (m : State) (us more : List ℕ) → run_from p m (us ++ more) ≡ run_from p (run_from p m us) more
-  run_append m [] more = refl
-  run_append m (u ∷ us) more = run_append (step p m u) us more
-
   some_append : (o : Option Access) (xs ys : List Access) → with_some o (xs ++ ys) ≡ with_some o xs ++ ys
   some_append None xs ys = refl
   some_append (Some a) xs ys = refl
@@ -99,7 +95,7 @@ every_run_goes_on p limit ts us S none =
     let r = comes p limit us [] ts (whole p limit ts S) in
     let more = r.0 in
     let C = r.1 in
-    let there : run_from p (start p limit) (us ++ more) ≡ run_from p m more = run_append p (start p limit) us more in
+    let there : run_from p (start p limit) (us ++ more) ≡ run_from p m more = run_on p us more (start p limit) in
     let done : (run_from p m more).end ≡ Some Done = ap (λ (w : State). w.end) (sym there) ∙ (C.alike.end ∙ ap (or_none (end_to C.f)) S.done) in
     let G = goes p m more Done none done in
     let all : turns_from p (start p limit) us + turns_from p m more ≡ turns_from p (start p limit) ts = sym (turns_append p (start p limit) us more) ∙ C.turned in

@@ -3,7 +3,7 @@ use Rattle.std.proofs.Common.{◌≡◌, ◌⊎◌, ℕ, ◌+◌, ◌*◌, ◌<�
 use Rattle.std.proofs.lemmas.Bool.{cases_Bool}
 use Rattle.std.proofs.lemmas.List.{length-map}
 use Rattle.std.proofs.lemmas.Option.{same_Some, slice_get-map}
-use Rattle.listed.proofs.Places.{got_some, in_got}
+use Rattle.listed.proofs.Places.{got_some, in_got, read_in}
 use Rattle.listed.proofs.Members.{got_in}
 use Rattle.hh_model.specs.declared.data.Name.{Name}
 use Rattle.hh_model.specs.declared.data.Object.{Object}
@@ -40,7 +40,7 @@ use Rattle.shared_image.specs.Drawn.{AreHeldInWords, IsHandedBack, IsPictureOf, 
 use Rattle.shared_image.proofs.Resting.{R as Known_R, H as Known_H, content as Known_content, own_is as Known_own_is, live as Known_live, chunk as Known_chunk, owner as Known_owner, near as Known_near, measured as Known_measured, S, made}
 use Rattle.shared_image.proofs.Known.{T, k, owners, rests, runs, task_live}
 use Rattle.shared_image.proofs.Links.{chunk_in, not_running, on_path, owned_at, owner_is, running}
-use Rattle.shared_image.proofs.Numbers.{all_in, before_offset, chunk_of_word, offset_of_word, word_some}
+use Rattle.shared_image.proofs.Numbers.{before_offset, chunk_of_word, offset_of_word, word_some}
 
 module _ (w : SharedValue) (I : IsSharedValue w) (F : AreHeldInWords w) (p : Picture) (P : IsPictureOf w p) where
   abbrev v : Memory
@@ -110,7 +110,7 @@ module _ (w : SharedValue) (I : IsSharedValue w) (F : AreHeldInWords w) (p : Pic
     reference n a e = name_at (Place v (k w I)) o.refs content.0.refs n a content.2.refs e
 
     pub ref_near : (r : Option Addr) → In o.refs r → IsRef r
-    ref_near r j = all_in IsRef o.refs r (F t o idle i).refs j
+    ref_near r j = read_in IsRef o.refs r j (F t o idle i).refs
 
     leads_to : (n : ℕ) (a : Addr) → slice_get o.refs n ≡ Some (Some a) → IsRef (Some a) → LeadsSomewhere p (word_of_ref (Some a))
     leads_to n a e ref =

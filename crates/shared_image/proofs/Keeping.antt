@@ -1,6 +1,7 @@
 -- The objects of a picture are those that the heaps handed back hold.
 use Rattle.std.proofs.Common.{◌≡◌, ℕ, Option, Some, None, List, [], ◌∷◌, map, slice_get, inl, inr, refl, ap, sym, subst, ◌∙◌}
 use Rattle.std.proofs.lemmas.Bool.{cases_Bool}
+use Rattle.listed.proofs.Places.{read_in}
 use Rattle.hh_model.specs.declared.data.Name.{Name}
 use Rattle.hh_model.specs.declared.data.State.{State as Machine}
 use Rattle.hh_model.specs.Effect.{object_at}
@@ -28,7 +29,6 @@ use Rattle.shared_image.specs.Drawn.{AreHeldInWords, IsHandedBack, IsPictureOf, 
 use Rattle.shared_image.specs.Held.{AreReferences, HasJustKept, IsReference, StandsFor}
 use Rattle.shared_image.proofs.Known.{k, owners, rests, runs, same}
 use Rattle.shared_image.proofs.Links.{owned_at}
-use Rattle.shared_image.proofs.Numbers.{all_in}
 use Rattle.shared_image.proofs.Resting.{H, content}
 
 module _ (w : SharedValue) (I : IsSharedValue w) (F : AreHeldInWords w) (p : Picture) (P : IsPictureOf w p) where
@@ -76,7 +76,7 @@ module _ (w : SharedValue) (I : IsSharedValue w) (F : AreHeldInWords w) (p : Pic
         is = ap (λ (m : Machine). object_at m.store (object_name o)) (sym (same w I)) ∙ x.1;
         bears = (refl, refl);
         mutable = x.2.mutable;
-        references = references o.refs x.0.refs (λ r j. all_in IsRef o.refs r (F t o idle i).refs j) x.2.refs;
+        references = references o.refs x.0.refs (λ r j. read_in IsRef o.refs r j (F t o idle i).refs) x.2.refs;
         numbers = x.2.ints;
       }
 

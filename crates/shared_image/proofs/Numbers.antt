@@ -1,8 +1,6 @@
 -- Addresses as numbers, sizes of chunks, and numbers of 64 bits.
-use Rattle.std.proofs.Common.{◌≡◌, ℕ, zero, suc, ◌+◌, ◌-◌, ◌*◌, ◌/◌, ◌%◌, ◌^◌, ◌<◌, arith, Some, List, [], ◌∷◌, All, inl, inr, refl, subst}
-use Rattle.std.proofs.lemmas.List.Elements.{All-head, All-tail}
+use Rattle.std.proofs.Common.{◌≡◌, ℕ, zero, suc, ◌+◌, ◌-◌, ◌*◌, ◌/◌, ◌%◌, ◌^◌, ◌<◌, arith, Some, List, [], ◌∷◌, refl, subst}
 use Rattle.std.proofs.lemmas.Option.{same_Some}
-use Rattle.listed.specs.Members.{In}
 use Rattle.listed.proofs.Members.{got_in}
 use Rattle.object_layout.specs.declared.word.Addr.{Addr}
 use Rattle.object_layout.specs.Layout.{word_of_ref}
@@ -33,11 +31,6 @@ pub before_offset : (a b : Addr) → a.chunk ≡ b.chunk → word_of_ref (Some a
 before_offset a b e lt = let f : a.chunk * 1024 + a.offset + 1 < b.chunk * 1024 + b.offset + 1 = lt in omega (arith, e, f)
 
 -- LISTS
-pub all_in : {A : Type 0} (P : A → Type 0) (xs : List A) (x : A) → All P xs → In xs x → P x
-all_in P [] x all i = absurd i
-all_in P (y ∷ ys) x all (inl e) = subst P e (All-head P y ys all)
-all_in P (y ∷ ys) x all (inr i) = all_in P ys x (All-tail P y ys all) i
-
 -- an order by what is behind is one by places
 pub rises_at : {A : Type 0} (before : A → A → Type 0) (xs : List A) → Rises before xs → RisesAt before xs
 rises_at before [] up i j x y lt e f = absurd cc

@@ -4,6 +4,7 @@ use Rattle.std.specs.Prelude.{FitsSigned}
 use Rattle.std.specs.Int.{w64}
 use Rattle.std.proofs.lemmas.List.{length-map}
 use Rattle.std.proofs.lemmas.Option.{slice_get_within}
+use Rattle.listed.proofs.Places.{read_in}
 use Rattle.hh_lang.proofs.Tests.{fits_passes}
 use Rattle.hh_model.specs.declared.data.State.{State as Machine}
 use Rattle.hh_model.specs.declared.data.Task.{Task as TaskOf}
@@ -39,7 +40,7 @@ use Rattle.shared_image.proofs.Known.{T, few, fields_few, k, live_task, owners, 
 use Rattle.shared_image.proofs.Links.{has_task, parent_live}
 use Rattle.shared_image.proofs.Drawing.{births, apart, content, fits, keeps, leads, near, owner, placed, ref_near}
 use Rattle.shared_image.proofs.Resting.{made}
-use Rattle.shared_image.proofs.Numbers.{all_in, rises_at, word_long}
+use Rattle.shared_image.proofs.Numbers.{rises_at, word_long}
 
 units_most : (slots : List (Option Slot)) (n : ℕ) (h : Slot) → slot_in slots n ≡ Some h → h.units ≤ units_in slots
 units_most [] n h e = absurd cc
@@ -130,7 +131,7 @@ module _ (w : SharedValue) (I : IsSharedValue w) (C : AreChunks w.pool.slots) (F
           count = n.1;
           sized = omega (arith, a, b, c, m);
           references = λ z j. (let r = map_in word_of_ref o.refs z j in subst (λ y. y < 2 ^ 64) r.2 (ref_long r.0 (ref_near w I F p P t idle o i r.0 r.1)));
-          numbers = λ z j. fits_passes z (all_in (FitsSigned w64) o.ints z (F t o idle i).ints j);
+          numbers = λ z j. fits_passes z (read_in (FitsSigned w64) o.ints z j (F t o idle i).ints);
         }
 
   object_form : (q : Picked) → In p.objects q → IsObjectForm q

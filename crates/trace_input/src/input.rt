@@ -111,10 +111,10 @@ fn read_parts(alloc: Global, input: &[u8]) -> Result<TraceInput, InputError>
     };
     match trace {
         None => Err(bad_line_error(count_lines(input))),
-        Some((number, text)) => match read_for(alloc, &program, number, text) {
-            Ok(trace) => Ok(TraceInput { program, trace }),
-            Err(error) => Err(error),
-        },
+        Some((number, text)) => {
+            let trace = read_for(alloc, &program, number, text)?;
+            Ok(TraceInput { program, trace })
+        }
     }
 }
 

@@ -1,7 +1,9 @@
-use Rattle.std.proofs.Common.{◌++◌, ◌+◌, ap, subst, length, ◌∙◌}
+use Rattle.std.proofs.Common.{◌++◌, ◌+◌, Err, ap, subst, sym, length, ◌∙◌}
+use Rattle.std.specs.Prelude.{IfErr}
 use Rattle.std.specs.List.{flat_map}
+use Rattle.std.proofs.lemmas.Result.{err_from_is_err_and}
 use Rattle.json_text.specs.Json.{further}
-use Rattle.run_ledger.specs.Journals.{end_of, first_refused}
+use Rattle.run_ledger.specs.Journals.{end_of, first_refused, refused_as_run}
 use Rattle.run_journal.specs.BookValue.{BookValue}
 use Rattle.run_journal.specs.Replay.{ReplayFails}
 use Rattle.run_timeline.specs.Timeline.{events_of}
@@ -9,15 +11,17 @@ use Rattle.run_timeline.specs.Pieces.{beginning, ending}
 use Rattle.run_timeline.proofs.Loops.{timeline_made, fails_whole}
 use Rattle.run_timeline.proofs.timeline.timeline_text.Goals as goal
 
-pub returns-in-Err-clause-fails : goal.returns-in-Err-clause-fails
-returns-in-Err-clause-fails c =
-    fails_whole (first_refused c.args.program.now c.args.settings c.args.journal.now) (end_of c.args.program.now c.args.settings c.args.journal.now) (length c.args.journal.now + 1) c.in-Err.error
-    (subst (λ (b : BookValue). ReplayFails (first_refused b.program b.limits c.args.journal.now) c.in-Err.error) c.in-Ok.ensures c.in-Err.ensures.fails)
+pub returns-in_err-enter_all-clause-fails : goal.returns-in_err-enter_all-clause-fails
+returns-in_err-enter_all-clause-fails c =
+    let given = err_from_is_err_and c.from_residual.result c.from_residual.ensures.1 in
+    subst (λ r. IfErr r (ReplayFails (refused_as_run c.args.program.now c.args.settings c.args.journal.now))) (sym (given.1 ∙ ap Err given.2))
+    (fails_whole (first_refused c.args.program.now c.args.settings c.args.journal.now) (end_of c.args.program.now c.args.settings c.args.journal.now) (length c.args.journal.now + 1) c.in_err-enter_all.field-0.0
+    (subst (λ (b : BookValue). ReplayFails (first_refused b.program b.limits c.args.journal.now) c.in_err-enter_all.field-0.0) c.in-Ok.ensures c.in_err-enter_all.ensures.fails))
 
 pub returns-in-Ok-end-clause-text : goal.returns-in-Ok-end-clause-text
 returns-in-Ok-end-clause-text c =
     c.in-Ok-end.ensures
     ∙ ap (λ x. x ++ ending)
-    (c.in-Ok-enter_all.ensures.events
+    (c.in_ok-enter_all.ensures.events
     ∙ (λ j. (c.in-Ok-begin.ensures ∙ ap beginning c.workers.ensures.value) j ++ flat_map further (events_of (c.in-Ok.ensures j).program (c.in-Ok.ensures j).limits c.args.journal.now)))
     ∙ timeline_made c.args.program.now c.args.settings c.args.journal.now

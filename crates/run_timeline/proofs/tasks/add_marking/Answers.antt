@@ -1,0 +1,7 @@
+use Rattle.std.proofs.lemmas.Result.{on_ok_weaker}
+use Rattle.run_timeline.specs.Entries.{marking}
+use Rattle.run_timeline.proofs.Loops.{one_told}
+use Rattle.run_timeline.proofs.tasks.add_marking.Goals as goal
+
+pub returns : goal.returns
+returns c = on_ok_weaker c.add_span.result (one_told (marking c.args.phase.now c.args.task c.args.number c.args.worker) c.args.text.now.items c.add_span.new.text.items) c.add_span.ensures
