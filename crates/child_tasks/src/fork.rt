@@ -3,10 +3,12 @@
 ghost use Rattle.std.specs.Prelude.{◌≡◌, ◌<◌, ◌≤◌, ◌+◌, ◌^◌, ◌++◌, ◌∷◌, [], OnErr, OnOk, IfOk, None, Some, true, length, slice_get, slice_set};
 ghost use Rattle.hh_model.specs.Step.{depth_limit};
 ghost use Rattle.heap_tree.specs.Node.{depth_of, forked, state_of};
+ghost use Rattle.task_homes.specs.HomesValue.{marks_at};
 ghost use Rattle.child_tasks.specs.Forks.{begun_rest, part_child, waiting_rest, SetsFork};
 
 use fork_join::{Child, fork};
 use heap_tree::{State, Tree};
+use inner_mark_gc::Marking;
 use out_of_line::Apart;
 use std::alloc::{AllocError, Global};
 use task_homes::{Home, Homes, Rest, Work, home_block};
@@ -108,8 +110,15 @@ impl ForkBlocks {
 }
 
 /// The homes once a task has forked, for which there are places and blocks: its own has what it goes on with, keeps
-/// overwritten references and isn't being marked, and there are two more.
-pub fn fork_homes(homes: &mut Homes, part: Private, left: Child, right: Child, blocks: ForkBlocks)
+/// overwritten references and isn't being marked, and there are two more. What was marked of its heap since its last
+/// fork is handed out.
+pub fn fork_homes(
+    homes: &mut Homes,
+    part: Private,
+    left: Child,
+    right: Child,
+    blocks: ForkBlocks,
+) -> Option<Apart<Marking>>
     requires made { part.task < length homes.old.rests }
     requires noted { part.task < length homes.old.sets }
     requires block { slice_get homes.old.blocks part.task ≡ Some true }
@@ -118,11 +127,13 @@ pub fn fork_homes(homes: &mut Homes, part: Private, left: Child, right: Child, b
     ensures rests { homes.new.rests ≡ slice_set homes.old.rests part.task (Some (waiting_rest part)) ++ Some (begun_rest left) ∷ (Some (begun_rest right) ∷ []) }
     ensures sets { SetsFork homes.old.sets homes.new.sets part.task }
     ensures marks { homes.new.marks ≡ slice_set homes.old.marks part.task None ++ None ∷ (None ∷ []) }
+    ensures marked { result ≡ marks_at homes.old.marks part.task }
 {
     let task = part.task;
     homes.put_rest(task, waiting(part));
     homes.set_keeps(task, true);
-    drop(homes.take_marking(task));
+    let marked = homes.take_marking(task);
     homes.push(beginning(left), blocks.left);
     homes.push(beginning(right), blocks.right);
+    marked
 }

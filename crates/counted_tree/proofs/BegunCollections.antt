@@ -21,11 +21,11 @@ use Rattle.run_ledger.specs.Heaps.{chunk_words, collected, end_numbers, heap_of,
 use Rattle.run_ledger.specs.Steps.{allocated_by, allocated_in, on_asked, stepped_to, task_step, task_steps}
 use Rattle.run_ledger.specs.Entries.{after, after_kind, chunk_units, ends_as, is_fuel, is_out, is_ready, kind_refusal, on_waiting, refusal, refused_unless, with_chunk}
 use Rattle.listed.specs.Options.{option_is}
-use Rattle.run_ledger.specs.Journals.{is_legal, ledger_of, opening}
+use Rattle.run_ledger.specs.Journals.{is_legal, ledger_of}
 use Rattle.run_ledger.specs.Laws.{HoldsOnce, HoldsTasks, LeavesTask}
 use Rattle.run_ledger.specs.Sound.{SoundAt, SoundLedger, collecting}
-use Rattle.run_ledger.proofs.Cuts.{joined_legal, none_is}
-use Rattle.run_ledger.proofs.Frames.{entries_leave_others, held_is, left_step, heap_off}
+use Rattle.run_ledger.proofs.Cuts.{none_is}
+use Rattle.run_ledger.proofs.Frames.{entries_leave_others, held_is, left_step, heap_off, heap_view}
 use Rattle.run_ledger.proofs.Holders.{tasks_are_held_once}
 use Rattle.run_ledger.proofs.Journals.{collecting_is, entry_tells, legal_sound, none_unless, none_where, out_tells, wait_tells}
 use Rattle.run_ledger.proofs.Moves.{moves_each}
@@ -34,16 +34,7 @@ use Rattle.run_ledger.proofs.Stocks.{names_are_held_once}
 use Rattle.journal_laws.proofs.Waiters.{waiters_are_free}
 use Rattle.run_ledger.proofs.Machine.{heap_machine}
 use Rattle.ledger_step_laws.proofs.Ahead.{heap_then, with_at, with_off}
-
--- ONE HEAP OF A LEDGER
-
--- what of a heap a change keeps
-pub heap_view : {A : Type 0} (view : Heap → A) (l : Ledger) (t : ℕ) (f : Heap → Heap) → ((h : Heap) → view (f h) ≡ view h) → view (heap_of (with_heap l t f) t) ≡ view (heap_of l t)
-heap_view view l t f same = ap (λ o. view (or_fresh o)) (with_at l t f) ∙ by (slice_get l.heaps t)
-  where
-    by : (o : Option Heap) → view (or_fresh (heap_then f o)) ≡ view (or_fresh o)
-    by None = refl
-    by (Some h) = same h
+use Rattle.shared_value.proofs.JournalGoesOn.{legal_then}
 
 -- STEPS of a task begin no leaf collection of another one
 module _ (p : ProgramText) (t u : ℕ) (ne : t ≡ u → ⊥) where
@@ -126,9 +117,6 @@ module _ (p : ProgramText) (s : SettingsValue) (journal : List EntryValue) (e : 
   S : SoundLedger l
   S = legal_sound p s journal legal
 
-  legal_then : is_legal p s (journal ++ e ∷ []) ≡ true
-  legal_then = joined_legal p s journal (e ∷ []) (opening p s) legal (ap (λ o. is_none o && true) free)
-
   H : HoldsTasks l
   H = tasks_are_held_once p s journal legal
 
@@ -148,10 +136,10 @@ module _ (p : ProgramText) (s : SettingsValue) (journal : List EntryValue) (e : 
 
     went_idle : (u : ℕ) (f : Heap → Heap) → ((h : Heap) → (f h).begun ≡ h.begun) → collecting (slice_get l.heaps u) ≡ false → Went (with_heap l u f)
     went_idle u f same idle = went_by u f (λ q c w.
-        both_ways (collecting (slice_get l.heaps u)) idle (sym (collecting_is (slice_get l.heaps u)) ∙ (ap is_some (sym (heap_view (λ (h : Heap). h.begun) l u f same)) ∙ c)))
+        both_ways (collecting (slice_get l.heaps u)) idle (sym (collecting_is (slice_get l.heaps u)) ∙ (ap is_some (sym (heap_view (λ (h : Heap). h.begun) l u f same u)) ∙ c)))
 
     went_waiting : (u : ℕ) (f : Heap → Heap) → ((h : Heap) → (f h).worker ≡ h.worker) → (heap_of l u).worker ≡ None → Went (with_heap l u f)
-    went_waiting u f same rests = went_by u f (λ q c w. none_some (sym rests ∙ (sym (heap_view (λ (h : Heap). h.worker) l u f same) ∙ w)))
+    went_waiting u f same rests = went_by u f (λ q c w. none_some (sym rests ∙ (sym (heap_view (λ (h : Heap). h.worker) l u f same u) ∙ w)))
       where
         none_some : ◌≡◌ {A = Option ℕ} None (Some k) → ⊥
         none_some r = absurd cc
@@ -176,7 +164,7 @@ module _ (p : ProgramText) (s : SettingsValue) (journal : List EntryValue) (e : 
 
         left : (v : ℕ) → (heap_of l t).worker ≡ Some v → (v ≡ e.worker → ⊥) → is_some (heap_of l t).begun ≡ true → WentOn l (task_steps p l u n) t k
         left v held other begun =
-            let L : LeavesTask l (task_steps p l u n) t = subst (λ z. LeavesTask l z t) after_is (entries_leave_others p s journal [] e t v legal_then held other) in
+            let L : LeavesTask l (task_steps p l u n) t = subst (λ z. LeavesTask l z t) after_is (entries_leave_others p s journal [] e t v (legal_then p s journal e legal free) held other) in
             let O : HoldsOnce l = names_are_held_once p s journal legal in record {
               worker = ap (λ (z : Heap). z.worker) (sym L.heap) ∙ w;
               begun = begun;
@@ -205,7 +193,7 @@ module _ (p : ProgramText) (s : SettingsValue) (journal : List EntryValue) (e : 
     went_kind : (kind : Kind) → e.kind ≡ kind → is_none (kind_refusal p s l e.worker kind) ≡ true → begins t kind ≡ false → Went (after_kind p s l e.worker kind)
     went_kind (Took u) is h off = went_by u _ (λ q c w.
         let ready = and_parts (is_running (slice_get l.machine.tasks u)) (is_none (heap_of l u).worker) (none_unless (is_ready l u) _ _ h).0 in
-        some_none (heap_of l u).worker (none_is (heap_of l u).worker ready.1) (H.collecting u (ap is_some (sym (heap_view (λ (g : Heap). g.begun) l u (λ g. record g { worker = Some e.worker }) (λ g. refl))) ∙ c)))
+        some_none (heap_of l u).worker (none_is (heap_of l u).worker ready.1) (H.collecting u (ap is_some (sym (heap_view (λ (g : Heap). g.begun) l u (λ g. record g { worker = Some e.worker }) (λ g. refl) u)) ∙ c)))
     went_kind (Ran u n) is h off = went_steps u n (none_unless (is_out l e.worker u) _ _ h).0 (out_tells l e.worker u _ h).1 is
     went_kind (Chunk u) is h off = went_chunk u (asked p l.machine u) (nat_lt s.chunks (in_use l + chunk_units (asked p l.machine u))) (out_tells l e.worker u _ h).1
     went_kind (Begin u) is h off = went_off u _ (λ q. eqb-false u t off (sym q))
@@ -238,13 +226,13 @@ module _ (p : ProgramText) (s : SettingsValue) (journal : List EntryValue) (e : 
           held_is (heap_of l u).worker e.worker (and_parts (is_running (slice_get l.machine.tasks u)) (option_is (heap_of l u).worker e.worker) (none_unless (is_out l e.worker u) _ _ h).0).1
 
       pub begin_worker : (heap_of l' u).worker ≡ Some e.worker
-      begin_worker = ap (λ (z : Ledger). (heap_of z u).worker) after_is ∙ (heap_view (λ (h : Heap). h.worker) l u (λ h. record h { begun = Some (take_of l.machine h); survivors = within l u }) (λ h. refl) ∙ mine)
+      begin_worker = ap (λ (z : Ledger). (heap_of z u).worker) after_is ∙ (heap_view (λ (h : Heap). h.worker) l u (λ h. record h { begun = Some (take_of l.machine h); survivors = within l u }) (λ h. refl) u ∙ mine)
 
       pub begin_words : words_in l'.machine (heap_of l' u) ≡ words_in l.machine (heap_of l u)
       begin_words =
           ap (λ (z : Ledger). words_in z.machine (heap_of z u)) after_is
           ∙ ap₂ (λ m ns. words_sum m ns) (heap_machine l u (λ h. record h { begun = Some (take_of l.machine h); survivors = within l u }))
-          (heap_view held_in l u (λ h. record h { begun = Some (take_of l.machine h); survivors = within l u }) (λ h. refl))
+          (heap_view held_in l u (λ h. record h { begun = Some (take_of l.machine h); survivors = within l u }) (λ h. refl) u)
 
       -- no other one is of its worker
       pub begin_apart : (t ≡ u → ⊥) → (heap_of l t).worker ≡ Some k → k ≡ e.worker → ⊥

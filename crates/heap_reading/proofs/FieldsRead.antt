@@ -20,6 +20,7 @@ use Rattle.write_barrier.specs.declared.sets.SetOf.{SetOf}
 use Rattle.ledger_step_laws.specs.Accounts.{own}
 use Rattle.core_relation.specs.Memory.{objects_in, sources}
 use Rattle.core_relation.specs.Whole.{handed}
+use Rattle.core_relation.proofs.objects.Members.{map_in}
 use Rattle.task_homes.specs.declared.task_at_rest.Rest.{Rest}
 use Rattle.shared_value.specs.Stands.{IsSharedValue}
 use Rattle.shared_value.specs.SharedValue.{SharedValue, accounts, home_in, noted_in, rest_at, value_of}
@@ -47,11 +48,6 @@ unfolding is_field
 same_from f g h = same_fields f g (grind arith) (grind arith)
 
 -- FIELDS THAT DIFFER
-
-map_in : {A B : Type 0} (f : A → B) (xs : List A) (y : B) → In (map f xs) y → (x : A) × In xs x × (y ≡ f x)
-map_in f (x ∷ xs) y (inl e) = (x, inl refl, sym e)
-map_in f (x ∷ xs) y (inr i) = let r = map_in f xs y i in (r.0, inr r.1, r.2)
-map_in f [] y i = absurd i
 
 module _ (ss : List Source) (apart : (s t : Source) → In ss s → In ss t → field_of s ≡ field_of t → s ≡ t) where
   unlike : (s : Source) (ts : List Source) → In ss s → ((t : Source) → In ts t → In ss t) → has_source ts s ≡ false → AllByRecursion (λ y. is_field (field_of s) y ≡ false) (map field_of ts)
@@ -175,7 +171,7 @@ module _ (w : SharedValue) (I : IsSharedValue w) where
         there f i =
             let j : In fs f = in_from_contains fs f (Contains-permutation gs fs f (IsPermutation-sym fs gs moved) (contains_from_in gs f i)) in
             let r = map_in field_of ss f (subst (λ xs. In xs f) all j) in
-            (r.0, subst (λ xs. In xs r.0) (sym noted_is) r.1, r.2)
+            (r.0, subst (λ xs. In xs r.0) (sym noted_is) r.1, sym r.2)
 
         back : (f : Field) → IsNoted w t f → In gs f
         back f h =

@@ -35,12 +35,6 @@ last_new m [] n = sum_by_push (words_at m) [] n ∙ omega arith
 last_new m (ns ∷ []) n = sum_by_push (words_at m) [] n ∙ omega arith
 last_new m (ns ∷ ms ∷ rest) n = last_new m (ms ∷ rest) n
 
-pub last_put : (m : State) (lists : List (List Name)) (n : Name) → last_words m (put_last lists n) ≡ last_words m lists + words_at m n
-last_put m [] n = sum_by_push (words_at m) [] n
-last_put m (ns ∷ []) n = sum_by_push (words_at m) ns n
-last_put m (ns ∷ ms ∷ []) n = last_put m (ms ∷ []) n
-last_put m (ns ∷ ms ∷ ls ∷ rest) n = last_put m (ms ∷ ls ∷ rest) n
-
 pub room_first : (m : State) (lists : List (List Name)) → lists ≡ [] → 0 ≡ room_behind m lists
 room_first m lists e = rw e refl
 

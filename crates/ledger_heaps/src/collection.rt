@@ -150,7 +150,7 @@ fn lay_all(alloc: Global, machine: &State, names: &[Name]) -> Result<Laid, Alloc
     Ok(Laid { chunks, room })
 }
 
-#[tactic(auto, using(crate::proofs::Laid::lay_first, crate::proofs::Laid::lay_new, crate::proofs::Laid::lay_last, crate::proofs::Laid::last_new, crate::proofs::Laid::last_put))]
+#[tactic(auto, using(crate::proofs::Laid::lay_first, crate::proofs::Laid::lay_new, crate::proofs::Laid::lay_last, crate::proofs::Laid::last_new, run_ledger::proofs::Chunks::put_last_words))]
 // Lays a name into the last list, where that leaves at most a chunk's words in it, else into a new one. The words of the
 // last list are kept along.
 fn lay(

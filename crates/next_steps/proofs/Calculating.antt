@@ -1,9 +1,8 @@
 -- A step that only calculates: it is the task's own matter, allocates nothing, and the task runs on.
-use Rattle.std.proofs.Common.{◌≡◌, ℕ, ℤ, ◌&&◌, ◌||◌, not, Bool, true, false, cond, List, Option, Some, None, slice_get, slice_set, refl, ap, sym, subst, ◌∙◌}
+use Rattle.std.proofs.Common.{◌≡◌, ℕ, ◌&&◌, not, Bool, true, false, cond, List, Option, Some, None, slice_get, slice_set, refl, ap, sym, subst, ◌∙◌}
 use Rattle.std.proofs.lemmas.Bool.{false≢true, cond-true}
 use Rattle.std.proofs.lemmas.Option.{same_Some}
 use Rattle.listed.proofs.Members.{got_same}
-use Rattle.hh_lang.specs.declared.instr.Operator.{Operator}
 use Rattle.hh_lang.specs.declared.instr.Operator.TheVariants.{Add, Sub, Mul, Div, Rem, Lt, Eq}
 use Rattle.hh_lang.specs.declared.instr.Instr.{Instr}
 use Rattle.hh_lang.specs.declared.instr.Instr.TheVariants.{Set, Mov, Movr, Nil, Calc, Same, Jmp, Jz, Newm, Pack, Getr, Geti, Putr, Puti, Cntr, Cnti, Freeze, Cas, Call, Par, Ret, Out}
@@ -12,14 +11,14 @@ use Rattle.hh_lang.specs.Form.{ProgramText}
 use Rattle.hh_model.specs.declared.data.Frame.{Frame}
 use Rattle.hh_model.specs.declared.data.Object.{Object}
 use Rattle.hh_model.specs.declared.data.Task.{Task}
-use Rattle.hh_model.specs.declared.data.End.{End}
 use Rattle.hh_model.specs.declared.data.State.{State}
-use Rattle.hh_model.specs.Effect.{Effect, Goes, Setting, effect}
+use Rattle.hh_model.specs.Effect.{Goes, Setting, effect}
 use Rattle.hh_model.specs.Names.{words_asked}
-use Rattle.hh_model.specs.Step.{asked, asked_by, asked_line, can_step, fetched, follow, is_running, goes_on, or_same, setting, step, stepped}
-use Rattle.run_ledger.specs.Steps.{is_open, touched, works_alone}
+use Rattle.hh_model.specs.Step.{asked, asked_by, asked_line, can_step, fetched, follow, is_running, or_same, setting, step, stepped}
+use Rattle.run_ledger.specs.Steps.{is_open, works_alone}
+use Rattle.run_ledger.proofs.Steps.{goes_tells}
 use Rattle.next_steps.specs.Own.{is_own, is_own_by, is_own_line}
-use Rattle.next_steps.specs.Calculations.{calculation, calculation_by, if_calculation, is_calculation, is_division}
+use Rattle.next_steps.specs.Calculations.{calculation, calculation_by, if_calculation, is_calculation}
 
 -- ---- WHAT IT DOES
 
@@ -111,13 +110,9 @@ calculates p m t line e = by (can_step m t) refl (slice_get m.tasks t) refl e
 
 -- ---- WHAT COMES OF IT
 
-no_end : (o : Option End) (b : Bool) → goes_on o b ≡ true → (o ≡ None) × (b ≡ true)
-no_end None b e = (refl, e)
-no_end (Some x) b e = absurd (false≢true e)
-
 module _ (p : ProgramText) (m : State) (t : ℕ) (line : Line) (C : Calculates p m t line) where
   runs_now : is_running (Some C.task) ≡ true
-  runs_now = ap is_running (sym C.there) ∙ (no_end m.end (is_running (slice_get m.tasks t)) C.can).1
+  runs_now = ap is_running (sym C.there) ∙ (goes_tells m.end (is_running (slice_get m.tasks t)) C.can).1
 
   step_is : (g : Frame) × (step p m t ≡ record m { tasks = slice_set m.tasks t (record C.task { top = g }) })
   step_is =
@@ -129,7 +124,7 @@ module _ (p : ProgramText) (m : State) (t : ℕ) (line : Line) (C : Calculates p
 
   -- the machine hasn't ended with it
   pub ends_not : (step p m t).end ≡ None
-  ends_not = ap (λ (s : State). s.end) step_is.1 ∙ (no_end m.end (is_running (slice_get m.tasks t)) C.can).0
+  ends_not = ap (λ (s : State). s.end) step_is.1 ∙ (goes_tells m.end (is_running (slice_get m.tasks t)) C.can).0
 
   -- the task runs on
   pub runs_on : is_running (slice_get (step p m t).tasks t) ≡ true

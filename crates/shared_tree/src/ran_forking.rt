@@ -15,8 +15,19 @@ use crate::steps_entered::enter_alone;
 use child_tasks::{ForkBlocks, Forking, fork_homes, grow};
 use hh_lang::Instr;
 use hh_model::{DEPTH_LIMIT, End, Trap};
+use inner_mark_gc::{Marking, MarkingRoom};
+use out_of_line::Apart;
 use shared_value::{NotEntered, NotRan};
+use std::mem;
 use task_machine::Private;
+
+// The room for the next marking: that of the marking that is given up, if there is one, or else the room that was kept.
+fn room_kept(marked: Option<Apart<Marking>>, room: MarkingRoom) -> MarkingRoom {
+    match marked {
+        Some(marking) => marking.into_inner().into_room(),
+        None => room,
+    }
+}
 
 impl Shared {
     // The functions that the children begin, and the line of the text where the fork stands.
@@ -54,7 +65,8 @@ impl Shared {
         ensures answered { IfOk result (ForkAnswered self.old self.new worker part) }
         ensures task_out { IfOk result (GivesTaskUp self.old.tasks_out self.new.tasks_out worker) }
     {
-        let Ok(blocks) = ForkBlocks::new(self.heaps.homes.allocator()) else {
+        let alloc = self.heaps.homes.allocator();
+        let Ok(blocks) = ForkBlocks::new(alloc) else {
             return Err(NotRan {
                 cause: NotEntered::NoMemory,
                 part,
@@ -70,7 +82,11 @@ impl Shared {
         let (left, right) = (first.task, second.task);
         enter_alone(&mut self.steps, &mut self.journal, worker, &part);
         self.tasks_out.set(worker as usize, None);
-        fork_homes(&mut self.heaps.homes, part, first, second, blocks);
+        let marked = fork_homes(&mut self.heaps.homes, part, first, second, blocks);
+        self.room = room_kept(
+            marked,
+            mem::replace(&mut self.room, MarkingRoom::new(alloc)),
+        );
         Ok(Forking::Forked { left, right })
     }
 

@@ -179,10 +179,7 @@ pub fn table_text(
     let Ok(mut rows) = first_rows(alloc) else {
         return Err(ReplayError::NoMemory);
     };
-    match enter_all(program, &mut book, &mut rows, journal) {
-        Ok(()) => {}
-        Err(error) => return Err(error),
-    }
+    enter_all(program, &mut book, &mut rows, journal)?;
     if book.end().is_none() {
         return Err(ReplayError::RefusedAt(RefusedAt {
             index: journal.len() as u64 + 1,

@@ -16,6 +16,7 @@ use Rattle.shared_value.specs.SharedValue.{SharedValue, accounts}
 use Rattle.turn_lock.specs.Journal.{entries_by}
 use Rattle.turn_lock.specs.Seats.{view, HasNoTurn, HasOwnEntries, SameWorker, AreNewSeats, AreAllSeats, IsLeftBy}
 use Rattle.turn_lock.proofs.Laws.{first_there, new_are_all, kept_are_all}
+use Rattle.turn_lock.proofs.SeatLists.{removed_first}
 use Rattle.turn_entries.specs.declared.run.Run.{Run}
 use Rattle.turn_entries.specs.declared.run.Setup.{Setup}
 use Rattle.turn_entries.specs.Parts.{Sight}
@@ -28,10 +29,6 @@ use Rattle.worker_run.specs.Rounds.{AllGoRound}
 
 abbrev pub Chair : Type 0
 Chair = Seat (Option Run) Sight
-
-pub removed_first : {A : Type 0} (l : List A) (x : A) → 0 < length l → x ≡ get_or l 0 x → x ∷ remove l 0 ≡ l
-removed_first [] x h e = absurd (omega arith)
-removed_first (y ∷ ys) x h e = ap (λ z. z ∷ ys) e
 
 pub first_of : {A : Type 0} (l : List A) (x : A) → 0 < length l → x ≡ get_or l 0 x → slice_get l 0 ≡ Some x
 first_of [] x h e = absurd (omega arith)
@@ -53,7 +50,7 @@ all_more P (z ∷ zs) x each last (suc k) y e = all_more (λ j. P (suc j)) zs x 
 
 pub moved_on : {A B : Type 0} (f : A → B) (done : List A) (left : List B) (x : A) (y : B) → f x ≡ y → 0 < length left → y ≡ get_or left 0 y → map f (done ++ x ∷ []) ++ remove left 0 ≡ map f done ++ left
 moved_on f done left x y is some first = ap (λ l. l ++ remove left 0) (map-append f done (x ∷ [])) ∙ (append_assoc (map f done) (f x ∷ []) (remove left 0)
-    ∙ (ap (λ z. map f done ++ z ∷ remove left 0) is ∙ ap (λ l. map f done ++ l) (removed_first left y some first)))
+    ∙ (ap (λ z. map f done ++ z ∷ remove left 0) is ∙ ap (λ l. map f done ++ l) (sym (removed_first left y some first))))
 
 -- what a borrow of the whole leaves
 pub whole_written : {A : Type 0} (len : ℕ) (new old : List A) → length new ≡ length old → len ≡ length old → take len (new ++ drop (length new) old) ≡ new

@@ -1,6 +1,9 @@
 // Two workers at their desks, in one thread: the order of their turns is given.
 ghost use Rattle.std.specs.Prelude.{IfSome};
-ghost use Rattle.turn_lock.specs.Seats.{view};
+ghost use Rattle.atomic_table.specs.Seated.{TableId};
+ghost use Rattle.hh_lang.specs.Form.{ProgramText};
+ghost use Rattle.run_trace.specs.Settings.{SettingsValue};
+ghost use Rattle.turn_lock.specs.Seats.{view, HasNoTurn};
 ghost use Rattle.turn_lock.specs.Turn.{identity};
 ghost use Rattle.worker_run.specs.Desks.{AreAllDesks, ChangesHand, FewThefts, IsDesk};
 ghost use Rattle.turn_entries.specs.Parts.{ComesWith, GoesWith};
@@ -23,18 +26,9 @@ const COLLECTS: &str =
     "fn left\nset i0 0\nset i1 14\nnewm r1 i0 i1\nputr r0 i0 r1\nnil r1\nnewm r2 i0 i1\nret\nend\nfn right\nset i0 0\nnil r1\nputr r0 i0 r1\nret\nend\nfn main\nset i0 1\nset i1 0\nnewm r0 i0 i1\npar left right\nset i2 0\ngetr r3 r0 i2\nnil r4\nsame i3 r3 r4\nout i3\nret\nend\ntrace 1\n0 took 0\n0 ran 0 2\n0 chunk 0\n0 ran 0 2\n0 took 1\n1 took 2\n0 ran 1 2\n0 chunk 1\n0 ran 1 2\n0 ran 1 1\n0 begin 1\n1 ran 2 3\n0 end 1 1 1 16\n0 ran 1 2\n1 ran 2 1\n1 took 0\n1 ran 0 5\n1 ran 0 1\n";
 
 // The desks of two workers.
-fn two_desks(
-    turn: &Turn<Run>,
-    program: &Program,
-    settings: Settings,
-    mut desks: Vec<Desk>,
-) -> Option<(Desk, Desk)>
-    requires { AreAllDesks (identity turn.now) program.now settings desks.items }
-    ensures { IfSome result (λ d. IsDesk (identity turn.now) program.now d.0 × IsDesk (identity turn.now) program.now d.1) }
+fn two_desks(mut desks: Vec<Desk>) -> Option<(Desk, Desk)>
+    ensures { (z : TableId) (p : ProgramText) (s : SettingsValue) → AreAllDesks z p s desks.items → IfSome result (λ d. IsDesk z p d.0 × IsDesk z p d.1) }
 {
-    let _ = turn;
-    let _ = program;
-    let _ = settings;
     if desks.len() != 2 {
         return None;
     }
@@ -158,11 +152,10 @@ fn is_left(
 }
 
 // The number of entries, as a worker that has no turn sees it.
-fn looked(turn: &Turn<Run>, program: &Program, desk: &mut Desk) -> u64
-    requires { IsDesk (identity turn.now) program.now desk.old }
-    ensures desk { IsDesk (identity turn.now) program.now desk.new }
+fn looked(turn: &Turn<Run>, desk: &mut Desk) -> u64
+    requires { HasNoTurn (identity turn.now) desk.old.seat }
+    ensures desk { (p : ProgramText) → IsDesk (identity turn.now) p desk.old → IsDesk (identity turn.now) p desk.new }
 {
-    let _ = program;
     turn.look(&mut desk.seat)
 }
 
@@ -186,23 +179,17 @@ fn looks<R: Wait>(
         gate: &EmptyGate,
         program,
     };
-    let before = (looked(turn, program, first), looked(turn, program, second));
+    let before = (looked(turn, first), looked(turn, second));
     let _ = goes_on(rt, &shop, second, first, Next::Idle);
-    let after = (looked(turn, program, first), looked(turn, program, second));
+    let after = (looked(turn, first), looked(turn, second));
     (before.0, before.1, after.0, after.1)
 }
 
 // Whether two workers see each entry once it is made.
-fn see_entries<R: Wait>(
-    rt: &R,
-    turn: &Turn<Run>,
-    program: &Program,
-    settings: Settings,
-    desks: Vec<Desk>,
-) -> bool
-    requires { AreAllDesks (identity turn.now) program.now settings desks.items }
+fn see_entries<R: Wait>(rt: &R, turn: &Turn<Run>, program: &Program, desks: Vec<Desk>) -> bool
+    requires { (s : SettingsValue) × AreAllDesks (identity turn.now) program.now s desks.items }
 {
-    match two_desks(turn, program, settings, desks) {
+    match two_desks(desks) {
         Some((mut first, mut second)) => {
             looks(rt, turn, program, &mut first, &mut second) == (0, 0, 1, 1)
         }
@@ -252,7 +239,7 @@ fn at_two<R: Wait>(
 ) -> bool
     requires { AreAllDesks (identity turn.now) program.now settings desks.items }
 {
-    match two_desks(turn, program, settings, desks) {
+    match two_desks(desks) {
         Some((mut first, mut second)) => leave_all(
             rt,
             alloc,
@@ -297,7 +284,7 @@ fn two_desks_in_one_thread(rt: HostRuntime) {
 // Whether two workers at new desks see each entry once it is made.
 fn see_at_desks<R: Wait>(rt: &R, alloc: Global, program: &Program, settings: Settings) -> bool {
     match opened(alloc, program, settings) {
-        Ok((turn, desks)) => see_entries(rt, &turn, program, settings, desks),
+        Ok((turn, desks)) => see_entries(rt, &turn, program, desks),
         Err(_) => false,
     }
 }

@@ -1,6 +1,8 @@
 // Four workers in threads take one turn again and again.
+ghost use Rattle.std.specs.Prelude.{◌≡◌, ℕ, Some, slice_get};
+ghost use Rattle.turn_lock.specs.Seats.{HasNoTurn};
 ghost use Rattle.turn_lock.specs.Turn.{identity};
-ghost use Rattle.worker_run.specs.Desks.{AreAllDesks, IsDesk};
+ghost use Rattle.worker_run.specs.declared.desk.Desk.{Desk};
 
 use hh_lang::Program;
 use program_reader::read_program;
@@ -58,37 +60,28 @@ impl Watch {
 }
 
 // The worker has the turn once, and gives the value back as it was.
-fn pass<R: Wait>(rt: &R, turn: &Turn<Run>, watch: &Watch, program: &Program, desk: &mut Desk)
-    requires { IsDesk (identity turn.now) program.now desk.old }
-    ensures { IsDesk (identity turn.now) program.now desk.new }
+fn pass<R: Wait>(rt: &R, turn: &Turn<Run>, watch: &Watch, desk: &mut Desk)
+    requires { HasNoTurn (identity turn.now) desk.old.seat }
+    ensures { HasNoTurn (identity turn.now) desk.new.seat }
 {
-    let _ = program;
     let run = turn.take(rt, &mut desk.seat);
     watch.stay();
     turn.give_same(&mut desk.seat, run);
 }
 
 // The worker has the turn again and again.
-fn passes<R: Wait>(rt: &R, turn: &Turn<Run>, watch: &Watch, program: &Program, desk: &mut Desk)
-    requires { IsDesk (identity turn.now) program.now desk.old }
+fn passes<R: Wait>(rt: &R, turn: &Turn<Run>, watch: &Watch, desk: &mut Desk)
+    requires { HasNoTurn (identity turn.now) desk.old.seat }
 {
     for _ in 0..ROUNDS {
-        pass(rt, turn, watch, program, desk);
+        pass(rt, turn, watch, desk);
     }
 }
 
 // Each worker in a thread of its own.
-fn all_pass<R: Threads + Wait + Sync>(
-    rt: &R,
-    turn: &Turn<Run>,
-    watch: &Watch,
-    program: &Program,
-    settings: Settings,
-    desks: &mut [Desk],
-)
-    requires { AreAllDesks (identity turn.now) program.now settings desks.old }
+fn all_pass<R: Threads + Wait + Sync>(rt: &R, turn: &Turn<Run>, watch: &Watch, desks: &mut [Desk])
+    requires { (k : ℕ) (d : Desk) → slice_get desks.old k ≡ Some d → HasNoTurn (identity turn.now) d.seat }
 {
-    let _ = settings;
     if desks.len() == 0 {
         return;
     }
@@ -97,8 +90,8 @@ fn all_pass<R: Threads + Wait + Sync>(
         desks,
         4,
         &|_: usize, desk: &mut Desk|
-            requires { IsDesk (identity turn.now) program.now desk.now }
-        { passes(rt, turn, watch, program, desk) },
+            requires { HasNoTurn (identity turn.now) desk.now.seat }
+        { passes(rt, turn, watch, desk) },
     );
 }
 
@@ -112,7 +105,7 @@ fn watched<R: Threads + Wait + Sync>(
     let watch = Watch::new();
     match opened(alloc, program, settings) {
         Ok((turn, mut desks)) => {
-            all_pass(rt, &turn, &watch, program, settings, desks.as_mut_slice());
+            all_pass(rt, &turn, &watch, desks.as_mut_slice());
             Some(watch.told())
         }
         Err(_) => None,

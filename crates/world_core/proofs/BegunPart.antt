@@ -22,13 +22,13 @@ use Rattle.shared_value.specs.LeafBegin.{HasBegun}
 use Rattle.shared_value.specs.Stands.{IsSharedValue}
 use Rattle.shared_value.specs.SharedValue.{SharedValue, accounts, value_of}
 use Rattle.shared_value.proofs.StepsEntered.{status}
+use Rattle.heap_marking.proofs.ForksTold.{entered_accounts}
 use Rattle.copied_part_laws.specs.Copied.{CanCopy}
 use Rattle.copied_part_laws.specs.Handed.{IsCopying}
 use Rattle.copied_part_laws.proofs.CopyBegins.{begun_is_copying}
 use Rattle.copied_part_laws.proofs.CopyHanded.{begun}
 use Rattle.copied_part_laws.proofs.CopySays.{begun_can_copy}
 use Rattle.world_core.specs.WorldValue.{HoldsCopy}
-use Rattle.world_core.proofs.Holding.{then_accounts}
 
 module _ (w : SharedValue) (k : ℕ) (before p : Private) (roots : List Addr) (to : ToChunks) (H : HasBegun before p roots to) (I : IsSharedValue w) (F : Fits w k p) (fresh : p.fresh ≡ 0) (on : (accounts w).end ≡ None) where
   abbrev news : List ChunkValue
@@ -65,5 +65,5 @@ module _ (w : SharedValue) (k : ℕ) (before p : Private) (roots : List Addr) (t
 -- its begin doesn't end the run
 pub begin_on : (w after : SharedValue) (k t : ℕ) → (accounts w).end ≡ None → Enters w after (record { worker = k; kind = Begin t }) → (accounts after).end ≡ None
 begin_on w after k t on E =
-    ap (λ (l : Ledger). l.end) (then_accounts w after (record { worker = k; kind = Begin t }) E)
+    ap (λ (l : Ledger). l.end) (entered_accounts w after (record { worker = k; kind = Begin t }) E)
     ∙ (heap_end (accounts w) t (λ h. record h { begun = Some (take_of (accounts w).machine h); survivors = within (accounts w) t }) ∙ on)

@@ -3,13 +3,10 @@ use Rattle.std.proofs.Common.{◌≡◌, ◌≢◌, ℕ, Bool, true, false, Some
 use Rattle.std.proofs.lemmas.Bool.{cases_eq, false≢true}
 use Rattle.std.proofs.lemmas.Option.{same_Some}
 use Rattle.listed.proofs.Members.{got_other, got_same}
-use Rattle.hh_lang.specs.Form.{ProgramText}
 use Rattle.run_trace.specs.Entry.{EntryValue}
-use Rattle.run_trace.specs.Settings.{SettingsValue}
 use Rattle.run_ledger.specs.declared.data.Ledger.{Ledger}
 use Rattle.run_ledger.specs.Entries.{after}
 use Rattle.run_ledger.specs.Heaps.{heap_of}
-use Rattle.run_ledger.specs.Journals.{ledger_of}
 use Rattle.leaf_copy_gc.specs.declared.lists.Moved.{Moved}
 use Rattle.core_relation.specs.Whole.{handed}
 use Rattle.core_entry_laws.proofs.whole.HandedBack.{handed_on}
@@ -17,8 +14,8 @@ use Rattle.task_machine.specs.declared.part.Private.{Private}
 use Rattle.shared_value.specs.Entered.{Enters, refused}
 use Rattle.shared_value.specs.Fits.{AllFit, Fits, OthersFit}
 use Rattle.shared_value.specs.SharedValue.{SharedValue, accounts}
-use Rattle.shared_value.proofs.JournalGoesOn.{accounts_then}
 use Rattle.shared_value.proofs.EntryMade.{entry_on, held_by_end}
+use Rattle.heap_marking.proofs.ForksTold.{entered_accounts}
 use Rattle.child_tasks.specs.NoTask.{HoldsNone}
 use Rattle.child_tasks.specs.Joins.{SameButPlaces}
 use Rattle.child_tasks.proofs.JoinPlaces.{same_world}
@@ -42,17 +39,10 @@ carried w w' stopped stops k on part copy none (Part p) H = part p H
 carried w w' stopped stops k on part copy none (Copied p moved) H = copy p moved H
 
 module _ (w w' : SharedValue) (e : EntryValue) (E : Enters w w' e) where
-  -- the accounts after it
-  pub then_accounts : accounts w' ≡ after w.program w.settings (accounts w) e
-  then_accounts =
-      ap (λ (p : ProgramText). ledger_of p w'.settings w'.journal.items) E.program
-      ∙ (ap (λ (s : SettingsValue). ledger_of w.program s w'.journal.items) E.settings
-      ∙ (ap (ledger_of w.program w.settings) E.journal ∙ accounts_then w.program w.settings w.journal.items e))
-
   module _ (free : refused w e ≡ None) where
     -- who holds a task then, and before it, since the run went on
     holder : (t k : ℕ) → (heap_of (handed (accounts w')) t).worker ≡ Some k → (heap_of (after w.program w.settings (accounts w) e) t).worker ≡ Some k
-    holder t k h = ap (λ (l : Ledger). (heap_of l t).worker) (sym then_accounts) ∙ held_by_end (accounts w') (accounts w').end t k h
+    holder t k h = ap (λ (l : Ledger). (heap_of l t).worker) (sym (entered_accounts w w' e E)) ∙ held_by_end (accounts w') (accounts w').end t k h
 
     held : (t k : ℕ) → (heap_of (accounts w) t).worker ≡ Some k → (heap_of (handed (accounts w)) t).worker ≡ Some k
     held t k h = ap (λ (l : Ledger). (heap_of l t).worker) (handed_on (accounts w) (entry_on w e free)) ∙ h

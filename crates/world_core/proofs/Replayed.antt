@@ -1,21 +1,19 @@
 -- A replay takes entries one by one: what is left of them is refused where the whole is.
-use Rattle.std.proofs.Common.{◌≡◌, ℕ, suc, ◌+◌, ◌<◌, ◌≤◌, true, false, Some, List, [], ◌∷◌, ◌++◌, drop, get_or, length, take, refl, ap, sym, subst, ◌∙◌, add-one, append_assoc}
+use Rattle.std.proofs.Common.{◌≡◌, ℕ, suc, ◌+◌, ◌<◌, true, false, List, [], ◌∷◌, ◌++◌, drop, get_or, length, take, refl, ap, sym, subst, ◌∙◌, add-one, append_assoc}
 use Rattle.std.proofs.Math.Seq.{drop-cons, take-suc}
-use Rattle.std.proofs.lemmas.List.{append-nil}
 use Rattle.hh_lang.specs.Form.{ProgramText}
 use Rattle.run_trace.specs.Entry.{EntryValue}
 use Rattle.run_trace.specs.Settings.{SettingsValue}
 use Rattle.run_ledger.specs.declared.data.Ledger.{Ledger}
-use Rattle.run_ledger.specs.declared.data.Refused.{Refused}
 use Rattle.run_ledger.specs.Entries.{after, refusal}
 use Rattle.run_ledger.specs.Journals.{first_refused, first_refused_from, is_legal, ledger_of, opening, refused_or}
 use Rattle.shared_value.specs.Entered.{refused}
 use Rattle.shared_value.specs.Stands.{IsSharedValue}
 use Rattle.shared_value.specs.SharedValue.{SharedValue, accounts}
-use Rattle.world_core.specs.Applied.{Applies, IsStoppedBy, WantedMemory}
-use Rattle.world_core.specs.Replay.{HasCome, HasReplayed}
+use Rattle.heap_marking.proofs.ForksTold.{entered_accounts}
+use Rattle.world_core.specs.Applied.{Applies, WantedMemory}
+use Rattle.world_core.specs.Replay.{HasCome}
 use Rattle.world_core.specs.WorldValue.{WorldValue}
-use Rattle.world_core.proofs.Holding.{then_accounts}
 
 -- THE WORLD AFTER THE FIRST ENTRIES: what is left of them is refused where the whole is
 pub record Came (p : ProgramText) (s : SettingsValue) (entries done rest : List EntryValue) (index : ℕ) (x : WorldValue) : Type 0 where
@@ -57,7 +55,7 @@ module _ (p : ProgramText) (s : SettingsValue) (entries done rest : List EntryVa
     left =
         C.left
         ∙ (ap (λ o. refused_or o index (first_refused_from p s (after p s (accounts x.shared) e) (index + 1) rest)) (same_refusal ∙ A.free)
-        ∙ ap (λ (l : Ledger). first_refused_from p s l (index + 1) rest) (same_after ∙ sym (then_accounts x.shared y.shared e A.enters)));
+        ∙ ap (λ (l : Ledger). first_refused_from p s l (index + 1) rest) (same_after ∙ sym (entered_accounts x.shared y.shared e A.enters)));
   }
 
   -- memory is wanting

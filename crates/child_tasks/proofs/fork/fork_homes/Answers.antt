@@ -13,7 +13,7 @@ returns-clause-sets c =
     let put : List SetOf = c.set_keeps.new.self.sets in
     let was : c.put_rest.new.self.sets ≡ sets = ap (λ (z : HomesValue). z.sets) c.put_rest.ensures in
     let is : c.push-2.new.self.sets ≡ (put ++ bare false ∷ []) ++ bare false ∷ [] =
-    c.push-2.ensures.sets ∙ ap (λ (xs : List SetOf). xs ++ bare false ∷ []) (c.push.ensures.sets ∙ ap (λ (z : HomesValue). z.sets ++ bare false ∷ []) c.take_marking.ensures.homes) in
+    c.push-2.ensures.sets ∙ ap (λ (xs : List SetOf). xs ++ bare false ∷ []) (c.push.ensures.sets ∙ ap (λ (z : HomesValue). z.sets ++ bare false ∷ []) c.take_marking-marked.ensures.homes) in
     subst (λ (xs : List SetOf). SetsFork sets xs c.args.part.task) (sym is)
     (sets_fork sets put c.args.part.task c.requires.noted
     (c.set_keeps.ensures.many ∙ ap (λ (xs : List SetOf). length xs) was)

@@ -76,8 +76,8 @@ enter_alone-requires-clause-small c =
     let free : refused w (alone_event k p) ≡ None = subst (λ (z : SharedValue). refused z (alone_event k p) ≡ None) (sym c.self.view_is) c.requires.free in
     alone_small w k p I F (fork_shared w p at) free
 
-pub fork_homes-requires-clause-made : goal.fork_homes-requires-clause-made
-fork_homes-requires-clause-made c =
+pub fork_homes-marked-requires-clause-made : goal.fork_homes-marked-requires-clause-made
+fork_homes-marked-requires-clause-made c =
     let w : SharedValue = the_view c.self.inside in
     let p : Private = c.args.part in
     let k : ℕ = c.args.worker in
@@ -89,8 +89,8 @@ fork_homes-requires-clause-made c =
     let low : depth_of w.tree p.task < 1000 = subst (λ (z : SharedValue). depth_of z.tree p.task < 1000) (sym c.self.view_is) c.requires.shallow in
     subst (λ (z : HomesValue). p.task < length z.rests) (sym c.in-Ok-grown.ensures.homes) (own_home w k p I F at free c.args.left c.args.right B.0 B.1 low)
 
-pub fork_homes-requires-clause-noted : goal.fork_homes-requires-clause-noted
-fork_homes-requires-clause-noted c =
+pub fork_homes-marked-requires-clause-noted : goal.fork_homes-marked-requires-clause-noted
+fork_homes-marked-requires-clause-noted c =
     let w : SharedValue = the_view c.self.inside in
     let p : Private = c.args.part in
     let k : ℕ = c.args.worker in
@@ -102,16 +102,16 @@ fork_homes-requires-clause-noted c =
     let low : depth_of w.tree p.task < 1000 = subst (λ (z : SharedValue). depth_of z.tree p.task < 1000) (sym c.self.view_is) c.requires.shallow in
     subst (λ (z : HomesValue). p.task < length z.sets) (sym c.in-Ok-grown.ensures.homes) (own_set w k p I F at free c.args.left c.args.right B.0 B.1 low)
 
-pub fork_homes-requires-clause-block : goal.fork_homes-requires-clause-block
-fork_homes-requires-clause-block c =
+pub fork_homes-marked-requires-clause-block : goal.fork_homes-marked-requires-clause-block
+fork_homes-marked-requires-clause-block c =
     c.in-Ok-grown.ensures.block
 
-pub fork_homes-requires-clause-room : goal.fork_homes-requires-clause-room
-fork_homes-requires-clause-room c =
+pub fork_homes-marked-requires-clause-room : goal.fork_homes-marked-requires-clause-room
+fork_homes-marked-requires-clause-room c =
     c.in-Ok-grown.ensures.room
 
-pub fork_homes-requires-clause-next : goal.fork_homes-requires-clause-next
-fork_homes-requires-clause-next c =
+pub fork_homes-marked-requires-clause-next : goal.fork_homes-marked-requires-clause-next
+fork_homes-marked-requires-clause-next c =
     let w : SharedValue = the_view c.self.inside in
     let p : Private = c.args.part in
     let k : ℕ = c.args.worker in
@@ -133,16 +133,16 @@ invariant_of-self-2 c =
     let B : (n : ℕ) × ForksTo w p c.args.left c.args.right n = subst (λ (z : SharedValue). (n : ℕ) × ForksTo z p c.args.left c.args.right n) (sym c.self.view_is) c.requires.by in
     let low : depth_of w.tree p.task < 1000 = subst (λ (z : SharedValue). depth_of z.tree p.task < 1000) (sym c.self.view_is) c.requires.shallow in
     let g : HomesValue = c.grow-grown.new.homes in
-    let n : HomesValue = c.fork_homes.new.homes in
+    let n : HomesValue = c.fork_homes-marked.new.homes in
     let grown : g ≡ record c.self.inside.heaps.homes { blocks = g.blocks; room = g.room } = c.in-Ok-grown.ensures.homes in
     let made : p.task < length w.homes = own_home w k p I F at free c.args.left c.args.right B.0 B.1 low in
     let first : c.in-Ok-grown.first ≡ part_child p (length w.homes) c.args.left c.in-Ok-grown.first.heap.slots c.in-Ok-grown.first.heap.spare = c.in-Ok-grown.ensures.left_child ∙ ap (λ n. part_child p n c.args.left c.in-Ok-grown.first.heap.slots c.in-Ok-grown.first.heap.spare) (sym I.made) in
     let second : c.in-Ok-grown.second ≡ part_child p (length w.homes + 1) c.args.right c.in-Ok-grown.second.heap.slots c.in-Ok-grown.second.heap.spare = c.in-Ok-grown.ensures.right_child ∙ ap (λ n. part_child p (n + 1) c.args.right c.in-Ok-grown.second.heap.slots c.in-Ok-grown.second.heap.spare) (sym I.made) in
     let rests : n.rests ≡ slice_set w.homes p.task (Some (waiting_rest p)) ++ Some (begun_rest c.in-Ok-grown.first) ∷ (Some (begun_rest c.in-Ok-grown.second) ∷ []) =
-    c.fork_homes.ensures.rests ∙ ap (λ (z : HomesValue). slice_set z.rests p.task (Some (waiting_rest p)) ++ Some (begun_rest c.in-Ok-grown.first) ∷ (Some (begun_rest c.in-Ok-grown.second) ∷ [])) grown in
-    let marks : n.marks ≡ slice_set w.marks p.task None ++ None ∷ (None ∷ []) = c.fork_homes.ensures.marks ∙ ap (λ (z : HomesValue). slice_set z.marks p.task None ++ None ∷ (None ∷ [])) grown in
+    c.fork_homes-marked.ensures.rests ∙ ap (λ (z : HomesValue). slice_set z.rests p.task (Some (waiting_rest p)) ++ Some (begun_rest c.in-Ok-grown.first) ∷ (Some (begun_rest c.in-Ok-grown.second) ∷ [])) grown in
+    let marks : n.marks ≡ slice_set w.marks p.task None ++ None ∷ (None ∷ []) = c.fork_homes-marked.ensures.marks ∙ ap (λ (z : HomesValue). slice_set z.marks p.task None ++ None ∷ (None ∷ [])) grown in
     let H : HomesFork w.homes n.rests p c.args.left c.args.right = homes_fork_by w.homes n.rests p c.args.left c.args.right c.in-Ok-grown.first c.in-Ok-grown.second made first second rests in
-    let N : SetsFork w.sets n.sets p.task = subst (λ (z : HomesValue). SetsFork z.sets n.sets p.task) grown c.fork_homes.ensures.sets in
+    let N : SetsFork w.sets n.sets p.task = subst (λ (z : HomesValue). SetsFork z.sets n.sets p.task) grown c.fork_homes-marked.ensures.sets in
     let j : RoomyValue EntryValue = record { items = []; room = w.journal.room - 1 } in
     let v : SharedValue = record w { steps = w.steps + (p.fresh + 1); sets = n.sets; marks = n.marks } in
     along w k p _ _ c.enter_alone.ensures.steps c.enter_alone.ensures.journal (λ m j. IsSharedValue (record v { steps = m; tree = c.grow-grown.new.tree; homes = n.rests; tasks_out = c.set.new.self; journal = j }))
@@ -161,16 +161,16 @@ returns-clause-answered c =
     let B : (n : ℕ) × ForksTo w p c.args.left c.args.right n = subst (λ (z : SharedValue). (n : ℕ) × ForksTo z p c.args.left c.args.right n) (sym c.self.view_is) c.requires.by in
     let low : depth_of w.tree p.task < 1000 = subst (λ (z : SharedValue). depth_of z.tree p.task < 1000) (sym c.self.view_is) c.requires.shallow in
     let g : HomesValue = c.grow-grown.new.homes in
-    let n : HomesValue = c.fork_homes.new.homes in
+    let n : HomesValue = c.fork_homes-marked.new.homes in
     let grown : g ≡ record c.self.inside.heaps.homes { blocks = g.blocks; room = g.room } = c.in-Ok-grown.ensures.homes in
     let made : p.task < length w.homes = own_home w k p I F at free c.args.left c.args.right B.0 B.1 low in
     let first : c.in-Ok-grown.first ≡ part_child p (length w.homes) c.args.left c.in-Ok-grown.first.heap.slots c.in-Ok-grown.first.heap.spare = c.in-Ok-grown.ensures.left_child ∙ ap (λ n. part_child p n c.args.left c.in-Ok-grown.first.heap.slots c.in-Ok-grown.first.heap.spare) (sym I.made) in
     let second : c.in-Ok-grown.second ≡ part_child p (length w.homes + 1) c.args.right c.in-Ok-grown.second.heap.slots c.in-Ok-grown.second.heap.spare = c.in-Ok-grown.ensures.right_child ∙ ap (λ n. part_child p (n + 1) c.args.right c.in-Ok-grown.second.heap.slots c.in-Ok-grown.second.heap.spare) (sym I.made) in
     let rests : n.rests ≡ slice_set w.homes p.task (Some (waiting_rest p)) ++ Some (begun_rest c.in-Ok-grown.first) ∷ (Some (begun_rest c.in-Ok-grown.second) ∷ []) =
-    c.fork_homes.ensures.rests ∙ ap (λ (z : HomesValue). slice_set z.rests p.task (Some (waiting_rest p)) ++ Some (begun_rest c.in-Ok-grown.first) ∷ (Some (begun_rest c.in-Ok-grown.second) ∷ [])) grown in
-    let marks : n.marks ≡ slice_set w.marks p.task None ++ None ∷ (None ∷ []) = c.fork_homes.ensures.marks ∙ ap (λ (z : HomesValue). slice_set z.marks p.task None ++ None ∷ (None ∷ [])) grown in
+    c.fork_homes-marked.ensures.rests ∙ ap (λ (z : HomesValue). slice_set z.rests p.task (Some (waiting_rest p)) ++ Some (begun_rest c.in-Ok-grown.first) ∷ (Some (begun_rest c.in-Ok-grown.second) ∷ [])) grown in
+    let marks : n.marks ≡ slice_set w.marks p.task None ++ None ∷ (None ∷ []) = c.fork_homes-marked.ensures.marks ∙ ap (λ (z : HomesValue). slice_set z.marks p.task None ++ None ∷ (None ∷ [])) grown in
     let H : HomesFork w.homes n.rests p c.args.left c.args.right = homes_fork_by w.homes n.rests p c.args.left c.args.right c.in-Ok-grown.first c.in-Ok-grown.second made first second rests in
-    let N : SetsFork w.sets n.sets p.task = subst (λ (z : HomesValue). SetsFork z.sets n.sets p.task) grown c.fork_homes.ensures.sets in
+    let N : SetsFork w.sets n.sets p.task = subst (λ (z : HomesValue). SetsFork z.sets n.sets p.task) grown c.fork_homes-marked.ensures.sets in
     let j : RoomyValue EntryValue = record { items = []; room = w.journal.room - 1 } in
     let v : SharedValue = record w { steps = w.steps + (p.fresh + 1); sets = n.sets; marks = n.marks } in
     subst (λ (z : SharedValue). ForksOn z (record v { steps = c.enter_alone.new.steps; tree = c.grow-grown.new.tree; homes = n.rests; tasks_out = c.set.new.self; journal = c.enter_alone.new.journal }) k p c.in-Ok-grown.first.task c.in-Ok-grown.second.task) c.self.view_is
