@@ -14,6 +14,7 @@ pub mod Steps
 pub mod Closed
 pub mod Counts
 pub mod Taken
+pub mod Calculating
 pub mod Acts
 pub mod Numbers
 pub mod Next

@@ -6,6 +6,7 @@ pub mod Tree
 pub mod PathLaw
 pub mod Found
 pub mod Machine
+pub mod Calculations
 pub mod Store
 pub mod Closed
 pub mod Counts

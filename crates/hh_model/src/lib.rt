@@ -3,6 +3,7 @@
 #![tactic(auto)]
 
 mod arithmetic;
+mod calculations;
 mod change;
 mod data;
 mod fields;

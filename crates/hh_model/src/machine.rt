@@ -38,7 +38,8 @@ impl<'p> Model for Machine<'p> {
 }
 
 impl<'p> Machine<'p> {
-    ghost use Rattle.std.specs.Prelude.{◌≡◌, ◌<◌, ◌^◌, ◌↔◌, slice_get, IfOk, IfSome, OnOk, OnErr, Err, true, false};
+    ghost use Rattle.std.specs.Prelude.{◌≡◌, ◌≤◌, ◌<◌, ◌+◌, ◌^◌, ◌↔◌, ℕ, slice_get, IfOk, IfSome, OnOk, OnErr, Err, true, false};
+    ghost use Rattle.hh_model.specs.Calculations.{advanced_by, calculates};
     ghost use Rattle.hh_model.specs.Step.{can_step, fetched};
     ghost use Rattle.hh_model.specs.Machine.{begun, advanced, IsOfRun};
 
@@ -58,10 +59,10 @@ impl<'p> Machine<'p> {
         })
     }
 
-    /// One step of a task that can take one, by what stands in the program at the place where the task stands.
+    // One step of a task that can take one, by what stands in the program at the place where the task stands.
     #[tactic(auto, using(crate::proofs::Taken::can_runs, crate::proofs::Taken::can_made, crate::proofs::Taken::next_fits, crate::proofs::Taken::step_taken, crate::proofs::Taken::step_nothing))]
     #[inline(always)]
-    pub fn step_line(&mut self, t: u32, line: Option<Line>) -> Result<(), AllocError>
+    fn step_line(&mut self, t: u32, line: Option<Line>) -> Result<(), AllocError>
         requires few { self.old.steps < 2 ^ 30 }
         requires can { can_step self.old.state t ≡ true }
         requires next { IfSome (slice_get self.old.state.tasks t) (λ x. fetched self.old.program x.top ≡ line) }
@@ -76,6 +77,23 @@ impl<'p> Machine<'p> {
         self.state.act(self.alloc, t, line.number, line.instr)?;
         self.steps += 1;
         Ok(())
+    }
+
+    /// Takes the next steps of a task as long as they only calculate, at most so many, and says how many.
+    pub fn calculate(&mut self, t: u32, most: u32) -> u32
+        requires { self.old.steps + most < 2 ^ 32 }
+        ensures most { result ≤ most }
+        ensures only { (k : ℕ) → k < result → calculates self.old.program (advanced_by self.old t k).state t ≡ true }
+        ensures all { result < most → calculates self.old.program self.new.state t ≡ false }
+        ensures after { self.new ≡ advanced_by self.old t result }
+    {
+        if !self.state.can_step(t) {
+            return 0;
+        }
+        let task = self.state.tasks.at_mut(t as usize);
+        let count = task.top.calculate_on(self.program, most);
+        self.steps += count;
+        count
     }
 
     /// One step of a task.

@@ -1,9 +1,7 @@
 -- A step that only calculates: it is the task's own matter, allocates nothing, and the task runs on.
-use Rattle.std.proofs.Common.{◌≡◌, ℕ, ◌&&◌, not, Bool, true, false, cond, List, Option, Some, None, slice_get, slice_set, refl, ap, sym, subst, ◌∙◌}
+use Rattle.std.proofs.Common.{◌≡◌, ℕ, ℤ, ◌&&◌, not, is_some, Bool, true, false, List, Option, Some, None, slice_get, slice_set, refl, ap, sym, ◌∙◌}
 use Rattle.std.proofs.lemmas.Bool.{false≢true, cond-true}
-use Rattle.std.proofs.lemmas.Option.{same_Some}
 use Rattle.listed.proofs.Members.{got_same}
-use Rattle.hh_lang.specs.declared.instr.Operator.TheVariants.{Add, Sub, Mul, Div, Rem, Lt, Eq}
 use Rattle.hh_lang.specs.declared.instr.Instr.{Instr}
 use Rattle.hh_lang.specs.declared.instr.Instr.TheVariants.{Set, Mov, Movr, Nil, Calc, Same, Jmp, Jz, Newm, Pack, Getr, Geti, Putr, Puti, Cntr, Cnti, Freeze, Cas, Call, Par, Ret, Out}
 use Rattle.hh_lang.specs.declared.program.Line.{Line}
@@ -11,30 +9,30 @@ use Rattle.hh_lang.specs.Form.{ProgramText}
 use Rattle.hh_model.specs.declared.data.Frame.{Frame}
 use Rattle.hh_model.specs.declared.data.Object.{Object}
 use Rattle.hh_model.specs.declared.data.Task.{Task}
+use Rattle.hh_model.specs.declared.data.Trap.TheVariants.{Div as DivTrap}
 use Rattle.hh_model.specs.declared.data.State.{State}
-use Rattle.hh_model.specs.Effect.{Goes, Setting, effect}
+use Rattle.hh_model.specs.Calculations.{calculates, calculates_by, calculates_line, is_calculation}
+use Rattle.hh_model.specs.Effect.{Goes, Setting, calculated, effect, int_in, onward, or_trap, with_int}
 use Rattle.hh_model.specs.Names.{words_asked}
 use Rattle.hh_model.specs.Step.{asked, asked_by, asked_line, can_step, fetched, follow, is_running, or_same, setting, step, stepped}
 use Rattle.run_ledger.specs.Steps.{is_open, works_alone}
 use Rattle.run_ledger.proofs.Steps.{goes_tells}
 use Rattle.next_steps.specs.Own.{is_own, is_own_by, is_own_line}
-use Rattle.next_steps.specs.Calculations.{calculation, calculation_by, if_calculation, is_calculation}
 
 -- ---- WHAT IT DOES
 
+-- an operator that gives a number sets a register
+goes_on_with : (f : Frame) (store : List (List Object)) (d : ℕ) (o : Option ℤ) → is_some o ≡ true → (g : Frame) × (or_trap DivTrap o (λ x. Goes (onward (with_int f d x)) store) ≡ Goes g store)
+goes_on_with f store d None e = absurd (false≢true e)
+goes_on_with f store d (Some x) e = (_, refl)
+
 -- it makes a new frame, and the store is as it was
-effect_goes : (s : Setting) (f : Frame) (store : List (List Object)) (i : Instr) → is_calculation i ≡ true → (g : Frame) × (effect s f store i ≡ Goes g store)
+effect_goes : (s : Setting) (f : Frame) (store : List (List Object)) (i : Instr) → is_calculation f i ≡ true → (g : Frame) × (effect s f store i ≡ Goes g store)
 effect_goes s f store (Set d k) e = (_, refl)
 effect_goes s f store (Mov d a) e = (_, refl)
 effect_goes s f store (Movr d a) e = (_, refl)
 effect_goes s f store (Nil d) e = (_, refl)
-effect_goes s f store (Calc Add d a b) e = (_, refl)
-effect_goes s f store (Calc Sub d a b) e = (_, refl)
-effect_goes s f store (Calc Mul d a b) e = (_, refl)
-effect_goes s f store (Calc Div d a b) e = absurd (false≢true e)
-effect_goes s f store (Calc Rem d a b) e = absurd (false≢true e)
-effect_goes s f store (Calc Lt d a b) e = (_, refl)
-effect_goes s f store (Calc Eq d a b) e = (_, refl)
+effect_goes s f store (Calc op d a b) e = goes_on_with f store d (calculated op (int_in f a) (int_in f b)) e
 effect_goes s f store (Same d a b) e = (_, refl)
 effect_goes s f store (Jmp to) e = (_, refl)
 effect_goes s f store (Jz a to) e = (_, refl)
@@ -57,7 +55,7 @@ effect_goes s f store (Out a) e = absurd (false≢true e)
 abbrev Alone : State → ℕ → Task → Instr → Type 0
 Alone m t x i = (words_asked m.field_limit x.top i ≡ None) × ((not (is_open x i) && works_alone m t x.top i) ≡ true)
 
-alone : (m : State) (t : ℕ) (x : Task) (i : Instr) → is_calculation i ≡ true → Alone m t x i
+alone : (m : State) (t : ℕ) (x : Task) (i : Instr) → is_calculation x.top i ≡ true → Alone m t x i
 alone m t x (Set d k) e = (refl, refl)
 alone m t x (Mov d a) e = (refl, refl)
 alone m t x (Movr d a) e = (refl, refl)
@@ -83,43 +81,39 @@ alone m t x (Out a) e = absurd (false≢true e)
 
 -- ---- WHERE IT STANDS
 
--- the line is that of a task that can take a step, and only calculates
-pub record Calculates (p : ProgramText) (m : State) (t : ℕ) (line : Line) : Type 0 where
+-- the task that can take a step, and the calculation that comes next in its frame
+pub record Calculation (p : ProgramText) (m : State) (t : ℕ) : Type 0 where
   pub can : can_step m t ≡ true
   pub task : Task
   pub there : slice_get m.tasks t ≡ Some task
+  pub line : Line
   pub next : fetched p task.top ≡ Some line
-  pub only : is_calculation line.instr ≡ true
+  pub only : is_calculation task.top line.instr ≡ true
 
-pub calculates : (p : ProgramText) (m : State) (t : ℕ) (line : Line) → calculation p m t ≡ Some line → Calculates p m t line
-calculates p m t line e = by (can_step m t) refl (slice_get m.tasks t) refl e
+pub found : (p : ProgramText) (m : State) (t : ℕ) → calculates p m t ≡ true → Calculation p m t
+found p m t e = by (can_step m t) refl (slice_get m.tasks t) refl e
   where
-    last : (x : Task) (l : Line) → can_step m t ≡ true → slice_get m.tasks t ≡ Some x → fetched p x.top ≡ Some l → (b : Bool) → is_calculation l.instr ≡ b → cond b (Some l) None ≡ Some line
-        → Calculates p m t line
-    last x l c g f true k e = record { can = c; task = x; there = g; next = f ∙ e; only = subst (λ (q : Line). is_calculation q.instr ≡ true) (same_Some l line e) k }
-    last x l c g f false k e = absurd cc
+    at : (x : Task) → can_step m t ≡ true → slice_get m.tasks t ≡ Some x → (o : Option Line) → fetched p x.top ≡ o → calculates_line x.top o ≡ true → Calculation p m t
+    at x c g None f e = absurd (false≢true e)
+    at x c g (Some l) f e = record { can = c; task = x; there = g; line = l; next = f; only = e }
 
-    at : (x : Task) → can_step m t ≡ true → slice_get m.tasks t ≡ Some x → (o : Option Line) → fetched p x.top ≡ o → if_calculation o ≡ Some line → Calculates p m t line
-    at x c g None f e = absurd cc
-    at x c g (Some l) f e = last x l c g f (is_calculation l.instr) refl e
-
-    by : (b : Bool) → can_step m t ≡ b → (o : Option Task) → slice_get m.tasks t ≡ o → cond b (calculation_by p o) None ≡ Some line → Calculates p m t line
-    by false c o g e = absurd cc
-    by true c None g e = absurd cc
+    by : (b : Bool) → can_step m t ≡ b → (o : Option Task) → slice_get m.tasks t ≡ o → (b && calculates_by p o) ≡ true → Calculation p m t
+    by false c o g e = absurd (false≢true e)
+    by true c None g e = absurd (false≢true e)
     by true c (Some x) g e = at x c g (fetched p x.top) refl e
 
 -- ---- WHAT COMES OF IT
 
-module _ (p : ProgramText) (m : State) (t : ℕ) (line : Line) (C : Calculates p m t line) where
+module _ (p : ProgramText) (m : State) (t : ℕ) (C : Calculation p m t) where
   runs_now : is_running (Some C.task) ≡ true
   runs_now = ap is_running (sym C.there) ∙ (goes_tells m.end (is_running (slice_get m.tasks t)) C.can).1
 
   step_is : (g : Frame) × (step p m t ≡ record m { tasks = slice_set m.tasks t (record C.task { top = g }) })
   step_is =
-      let E = effect_goes (setting m t C.task) C.task.top m.store line.instr C.only in (
+      let E = effect_goes (setting m t C.task) C.task.top m.store C.line.instr C.only in (
         E.0,
         cond-true (can_step m t) _ _ C.can ∙ (ap (λ o. or_same m o (λ x. stepped p m t x (fetched p x.top))) C.there
-            ∙ (ap (stepped p m t C.task) C.next ∙ ap (follow m t C.task line.number) E.1)),
+            ∙ (ap (stepped p m t C.task) C.next ∙ ap (follow m t C.task C.line.number) E.1)),
       )
 
   -- the machine hasn't ended with it
@@ -133,8 +127,8 @@ module _ (p : ProgramText) (m : State) (t : ℕ) (line : Line) (C : Calculates p
   -- it allocates nothing
   pub asks_nothing : asked p m t ≡ None
   asks_nothing =
-      ap (asked_by p m) C.there ∙ (cond-true (is_running (Some C.task)) _ _ runs_now ∙ (ap (asked_line m.field_limit C.task.top) C.next ∙ (alone m t C.task line.instr C.only).0))
+      ap (asked_by p m) C.there ∙ (cond-true (is_running (Some C.task)) _ _ runs_now ∙ (ap (asked_line m.field_limit C.task.top) C.next ∙ (alone m t C.task C.line.instr C.only).0))
 
   -- it is the task's own matter
   pub is_own_matter : is_own p m t ≡ true
-  is_own_matter = ap (is_own_by p m t) C.there ∙ (ap (is_own_line m t C.task) C.next ∙ (alone m t C.task line.instr C.only).1)
+  is_own_matter = ap (is_own_by p m t) C.there ∙ (ap (is_own_line m t C.task) C.next ∙ (alone m t C.task C.line.instr C.only).1)

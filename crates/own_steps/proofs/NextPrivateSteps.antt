@@ -27,11 +27,6 @@ module _ (p : ProgramText) (s : SettingsValue) (t : ℕ) where
   steps_last zero l = refl
   steps_last (suc i) l = steps_last i (task_step p l t)
 
-  -- some steps and then some more
-  pub steps_more : (n k : ℕ) (l : Ledger) → task_steps p l t (n + k) ≡ task_steps p (task_steps p l t n) t k
-  steps_more zero k l = ap (task_steps p l t) (let e : 0 + k ≡ k = omega arith in e)
-  steps_more (suc n) k l = ap (task_steps p l t) (let e : suc n + k ≡ suc (n + k) = omega arith in e) ∙ steps_more n k (task_step p l t)
-
   pub private_more : (n k : ℕ) (l : Ledger) → ArePrivate p s l t n → ArePrivate p s (task_steps p l t n) t k → ArePrivate p s l t (n + k)
   private_more zero k l a b = subst (ArePrivate p s l t) (let e : k ≡ 0 + k = omega arith in e) b
   private_more (suc n) k l a b = subst (ArePrivate p s l t) (let e : suc (n + k) ≡ suc n + k = omega arith in e) (a.0, a.1, a.2, private_more n k (task_step p l t) a.3 b)

@@ -11,7 +11,7 @@ use Rattle.run_ledger.specs.Sound.{collecting}
 use Rattle.run_ledger.specs.Steps.{task_steps}
 use Rattle.run_ledger.proofs.Sound.{SoundLedger}
 use Rattle.journal_laws.proofs.Since.{limit_small}
-use Rattle.run_ledger.proofs.Machine.{heap_machine}
+use Rattle.run_ledger.proofs.Machine.{heap_machine, task_steps_more}
 use Rattle.alloc_path.specs.LeafHeapValue.{LeafHeapValue as HeapOfCode}
 use Rattle.ledger_step_laws.specs.Accounts.{ArePrivate, StepsAlone, own, rested}
 use Rattle.ledger_step_laws.proofs.Ahead.{heap_then, rested_alone, steps_alone_all, steps_sound, with_at}
@@ -34,7 +34,7 @@ use Rattle.shared_value.proofs.Packs.{packs_few}
 use Rattle.shared_value.proofs.StepsEntered.{status}
 use Rattle.shared_value.proofs.StepAccounts.{After, hold_same}
 use Rattle.own_steps.proofs.WordsFew.{asks_few, since_after}
-use Rattle.own_steps.proofs.NextPrivateSteps.{Follows, follows, private_more, ran_machine, ran_private, steps_more}
+use Rattle.own_steps.proofs.NextPrivateSteps.{Follows, follows, private_more, ran_machine, ran_private}
 
 -- ---- ACCOUNTS
 
@@ -93,7 +93,7 @@ module _ (w : SharedValue) (k : ℕ) (p q : Private) (n : ℕ) (I : IsSharedValu
   L' = rested N t
 
   more : N ≡ M'
-  more = steps_more w.program w.settings t p.fresh n l
+  more = task_steps_more w.program t p.fresh n l
 
   pub goes : l.machine.end ≡ None
   goes = link.goes w k p I F on

@@ -1,23 +1,22 @@
--- A step that only calculates, with its accounts.
-use Rattle.std.proofs.Common.{◌≡◌, ℕ, ◌||◌, true, false, Option, Some, None, slice_get, nat_le, is_some, refl, ap, ap₂, sym, subst, ◌∙◌}
-use Rattle.std.specs.Prelude.{IfSome}
+-- Steps that only calculate, with their accounts.
+use Rattle.std.proofs.Common.{◌≡◌, ℕ, zero, suc, ◌+◌, ◌-◌, ◌<◌, ◌≤◌, ◌^◌, ◌||◌, true, false, Option, Some, None, slice_get, nat_le, is_some, refl, ap, ap₂, sym, subst, ◌∙◌, arith}
 use Rattle.std.proofs.lemmas.Bool.{false≢true}
-use Rattle.hh_lang.specs.declared.program.Line.{Line}
 use Rattle.hh_model.specs.declared.data.Task.{Task}
 use Rattle.hh_model.specs.declared.data.Status.{Status}
 use Rattle.hh_model.specs.declared.data.Status.TheVariants.{Running, Waiting, Ended, Joined}
 use Rattle.hh_model.specs.declared.data.State.{State}
-use Rattle.hh_model.specs.Step.{asked, can_step, fetched, is_running, step}
+use Rattle.hh_model.specs.Calculations.{advanced_by, calculates}
+use Rattle.hh_model.specs.Machine.{MachineValue}
+use Rattle.hh_model.specs.Step.{asked, is_running, step}
 use Rattle.run_ledger.specs.declared.data.Ledger.{Ledger}
 use Rattle.run_ledger.specs.Heaps.{heap_of, in_use, lacks_room}
-use Rattle.run_ledger.specs.Steps.{is_due, is_in_need, moved_on, moved_to, on_asked, settled, task_step}
+use Rattle.run_ledger.specs.Steps.{is_due, is_in_need, moved_on, moved_to, on_asked, settled, standing, task_step, task_steps}
 use Rattle.run_ledger.proofs.Machine.{task_step_machine}
-use Rattle.next_steps.specs.Calculations.{calculation}
 use Rattle.next_steps.proofs.Calculating as calculating
-use Rattle.next_steps.proofs.Calculating.{Calculates, calculates}
+use Rattle.next_steps.proofs.Calculating.{Calculation, found}
 use Rattle.run_accounts.specs.declared.ran.Stood.TheVariants.{More}
-use Rattle.run_accounts.specs.Accounts.{AccountsValue, stood, used_after, went_on}
-use Rattle.run_accounts.proofs.Standings.{stood_is}
+use Rattle.run_accounts.specs.Accounts.{AccountsValue, StaysSteady, stood, used_after, went_on}
+use Rattle.run_accounts.proofs.Standings.{Ran, ran_more, ran_next, ran_none, ran_used, stood_is}
 use Rattle.run_accounts.proofs.Stepped.{advanced, allocates_nothing, counts_nothing, steps_by}
 
 -- where the task runs on, no more changes
@@ -31,18 +30,14 @@ settles_nothing l t (Some x) e = by x.status e
     by (Ended k n) e = absurd (false≢true e)
     by Joined e = absurd (false≢true e)
 
-module _ (s : AccountsValue) (t : ℕ) (line : Line) (is : calculation s.program s.ledger.machine t ≡ Some line) where
-  C : Calculates s.program s.ledger.machine t line
-  C = calculates s.program s.ledger.machine t line is
+-- ONE OF THEM
+
+module _ (s : AccountsValue) (t : ℕ) (is : calculates s.program s.ledger.machine t ≡ true) where
+  C : Calculation s.program s.ledger.machine t
+  C = found s.program s.ledger.machine t is
 
   none : asked s.program s.ledger.machine t ≡ None
-  none = calculating.asks_nothing s.program s.ledger.machine t line C
-
-  pub can : can_step s.ledger.machine t ≡ true
-  can = C.can
-
-  pub there : IfSome (slice_get s.ledger.machine.tasks t) (λ x. fetched s.program x.top ≡ Some line)
-  there = subst (λ o. IfSome o (λ x. fetched s.program x.top ≡ Some line)) (sym C.there) C.next
+  none = calculating.asks_nothing s.program s.ledger.machine t C
 
   not_due : is_due s.limits s.program s.ledger t ≡ false
   not_due = ap (λ o. on_asked o (λ w. nat_le s.limits.leaf (heap_of s.ledger t).since)) none
@@ -50,21 +45,67 @@ module _ (s : AccountsValue) (t : ℕ) (line : Line) (is : calculation s.program
   not_in_need : is_in_need s.program s.ledger t ≡ false
   not_in_need = ap (λ o. on_asked o (lacks_room (heap_of s.ledger t))) none
 
-  pub stands : (is_due s.limits s.program s.ledger t || is_in_need s.program s.ledger t) ≡ false
+  stands : (is_due s.limits s.program s.ledger t || is_in_need s.program s.ledger t) ≡ false
   stands = ap₂ (λ a b. a || b) not_due not_in_need
 
   -- a further one can stand behind it
-  pub more : More ≡ stood s.limits s.program s.ledger t
+  more : More ≡ stood s.limits s.program s.ledger t
   more =
       let ended : false ≡ is_some (task_step s.program s.ledger t).machine.end =
-      sym (ap (λ (m : State). is_some m.end) (task_step_machine s.program s.ledger t) ∙ ap is_some (calculating.ends_not s.program s.ledger.machine t line C)) in
-      stood_is s.limits s.program s.ledger t true false not_due not_in_need (sym (calculating.is_own_matter s.program s.ledger.machine t line C)) ended
+      sym (ap (λ (m : State). is_some m.end) (task_step_machine s.program s.ledger t) ∙ ap is_some (calculating.ends_not s.program s.ledger.machine t C)) in
+      stood_is s.limits s.program s.ledger t true false not_due not_in_need (sym (calculating.is_own_matter s.program s.ledger.machine t C)) ended
 
-  pub went : s.used ≡ in_use s.ledger → used_after s.program s.ledger t ≡ in_use (task_step s.program s.ledger t) → (after : AccountsValue) → after ≡ record s { ledger = advanced s.program s.ledger t }
-      → after ≡ went_on s (task_step s.program s.ledger t)
-  went used next after e =
-      let m : after.ledger.machine ≡ step s.program s.ledger.machine t = ap (λ (q : AccountsValue). q.ledger.machine) e in
-      let end : after.ledger.machine.end ≡ None = ap (λ (q : State). q.end) m ∙ calculating.ends_not s.program s.ledger.machine t line C in
-      let runs : is_running (slice_get after.ledger.machine.tasks t) ≡ true = ap (λ (q : State). is_running (slice_get q.tasks t)) m ∙ calculating.runs_on s.program s.ledger.machine t line C in
-      steps_by s s after after after t can used next (allocates_nothing s t none) e (counts_nothing s after t (heap_of s.ledger t).reserved none)
+  -- the machine goes on, and no more changes
+  went : s.used ≡ in_use s.ledger → used_after s.program s.ledger t ≡ in_use (task_step s.program s.ledger t)
+      → record s { ledger = advanced s.program s.ledger t } ≡ went_on s (task_step s.program s.ledger t)
+  went used next =
+      let after : AccountsValue = record s { ledger = advanced s.program s.ledger t } in
+      let end : after.ledger.machine.end ≡ None = calculating.ends_not s.program s.ledger.machine t C in
+      let runs : is_running (slice_get after.ledger.machine.tasks t) ≡ true = calculating.runs_on s.program s.ledger.machine t C in
+      steps_by s s after after after t C.can used next (allocates_nothing s t none) refl (counts_nothing s after t (heap_of s.ledger t).reserved none)
       (ap (λ (l : Ledger). record after { ledger = l }) (sym (ap (settled after.ledger t) end ∙ settles_nothing after.ledger t (slice_get after.ledger.machine.tasks t) runs)))
+
+-- ONE AFTER THE OTHER
+
+module _ (a : AccountsValue) (g : MachineValue) (t most n : ℕ) (program : g.program ≡ a.program) (state : g.state ≡ a.ledger.machine) (used : a.used ≡ in_use a.ledger)
+    (S : StaysSteady a.limits a.program a.ledger t most) (le : n ≤ most) (only : (k : ℕ) → k < n → calculates g.program (advanced_by g t k).state t ≡ true) where
+  -- the accounts whose machine has taken so many of them
+  abbrev moved : ℕ → Ledger
+  moved k = record a.ledger { machine = (advanced_by g t k).state; steps = a.ledger.steps + k }
+
+  -- they are those after so many steps of the entry, all of which stand
+  pub record Along (k : ℕ) : Type 0 where
+    pub program : (advanced_by g t k).program ≡ a.program
+    pub ran : Ran a.limits a.program a.ledger t most k (moved k)
+    pub used : a.used ≡ in_use (moved k)
+
+  at_first : Along 0
+  at_first =
+      let same : a.ledger ≡ moved 0 = ap₂ (λ m k. let z : Ledger = record a.ledger { machine = m; steps = k } in z) (sym state) (omega arith) in
+      record { program = program; ran = subst (Ran a.limits a.program a.ledger t most 0) same (ran_none a.limits a.program a.ledger t most); used = used ∙ ap in_use same }
+
+  one_more : (k : ℕ) → k < n → Along k → Along (suc k)
+  one_more k lt A =
+      let now : AccountsValue = record a { ledger = moved k } in
+      let is : calculates a.program (moved k).machine t ≡ true = ap (λ p. calculates p (moved k).machine t) (sym program) ∙ only k lt in
+      let within : k < most = omega arith in
+      let next : used_after a.program (moved k) t ≡ in_use (task_step a.program (moved k) t) = ran_used a.limits a.program a.ledger t most k (moved k) A.ran within S (stands now t is) in
+      let w = went now t is A.used next in
+      let same : moved (suc k) ≡ task_step a.program (moved k) t =
+      ap₂ (λ p i. let z : Ledger = record a.ledger { machine = step p (advanced_by g t k).state t; steps = i } in z) A.program (omega arith) ∙ ap (λ (q : AccountsValue). q.ledger) w in
+      let r : Ran a.limits a.program a.ledger t most (k + 1) (task_step a.program (moved k) t) = ran_more a.limits a.program a.ledger t most k (moved k) A.ran within (more now t is) in
+      record {
+        program = A.program;
+        ran = subst (λ i. Ran a.limits a.program a.ledger t most i (moved (suc k))) (let e : k + 1 ≡ suc k = omega arith in e) (subst (Ran a.limits a.program a.ledger t most (k + 1)) (sym same) r);
+        used = ap (λ (q : AccountsValue). q.used) w ∙ ap in_use (sym same);
+      }
+
+  along : (k : ℕ) → k ≤ n → Along k
+  along zero le = at_first
+  along (suc k) le = one_more k (omega (arith, le)) (along k (omega (arith, le)))
+
+  pub calculated_ran : Ran a.limits a.program a.ledger t most n (moved n)
+  calculated_ran = (along n (omega arith)).ran
+
+  pub calculated_is : record a { ledger = moved n } ≡ went_on a (task_steps a.program a.ledger t n)
+  calculated_is = ap (λ u. let z : AccountsValue = record a { ledger = moved n; used = u } in z) (along n (omega arith)).used ∙ ap (went_on a) calculated_ran.is

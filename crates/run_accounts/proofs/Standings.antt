@@ -10,7 +10,7 @@ use Rattle.hh_model.specs.declared.data.End.{End}
 use Rattle.hh_model.specs.Step.{step, fetched}
 use Rattle.run_ledger.specs.declared.data.Ledger.{Ledger}
 use Rattle.run_ledger.specs.Steps.{task_step, task_steps, is_due, is_in_need, is_private, is_private_by, is_private_line, standing, is_open, works_alone}
-use Rattle.run_ledger.proofs.Machine.{task_step_machine}
+use Rattle.run_ledger.proofs.Machine.{task_step_machine, task_steps_more}
 use Rattle.run_accounts.specs.declared.ran.Stood.{Stood}
 use Rattle.run_accounts.specs.declared.ran.Stood.TheVariants.{Not, Last, More}
 use Rattle.run_ledger.specs.Heaps.{in_use}
@@ -119,6 +119,31 @@ module _ (s : SettingsValue) (p : ProgramText) (l : Ledger) (t k done : ℕ) (no
   ran_more e = record {
     is = ran_next;
     rest = let a = stands_more s p t now (k - (done + 1)) e in let b = R.rest in let g = rest_is in omega arith;
+  }
+
+-- before the first step
+pub ran_none : (s : SettingsValue) (p : ProgramText) (l : Ledger) (t k : ℕ) → Ran s p l t k 0 l
+ran_none s p l t k = record { is = refl; rest = refl }
+
+-- so many steps, and then so many of the rest
+module _ (s : SettingsValue) (p : ProgramText) (l : Ledger) (t k done : ℕ) (now : Ledger) (R : Ran s p l t k done now) (le : done ≤ k) where
+  pub ran_on : (count : ℕ) (later : Ledger) → Ran s p now t (k - done) count later → Ran s p l t k (done + count) later
+  ran_on count later Q = record {
+    is = Q.is ∙ (ap (λ q. task_steps p q t count) R.is ∙ sym (task_steps_more p t done count l));
+    rest =
+        let rest : standing s p later t (k - done - count) ≡ standing s p later t (k - (done + count)) = ap (standing s p later t) (omega arith) in
+        let a = R.rest in
+        let b = Q.rest in
+        omega arith;
+  }
+
+  at_rest : (i : ℕ) → task_steps p l t (done + i) ≡ task_steps p now t i
+  at_rest i = task_steps_more p t done i l ∙ ap (λ q. task_steps p q t i) (sym R.is)
+
+  pub rest_steady : StaysSteady s p l t k → StaysSteady s p now t (k - done)
+  rest_steady S = record {
+    steady = λ i lt. subst Steady (at_rest i) (S.steady (done + i) (let a = R.rest in omega (arith, lt)));
+    used = λ i lt. subst (λ q. (is_due s p q t || is_in_need p q t) ≡ false → used_after p q t ≡ in_use (task_step p q t)) (at_rest i) (S.used (done + i) (let a = R.rest in omega (arith, lt)));
   }
 
 -- the same, by the accounts at the entry and those that the loop has come to

@@ -1,17 +1,15 @@
 // The steps of one entry.
 
-ghost use Rattle.std.specs.Prelude.{◌≡◌, ◌≤◌, ◌<◌, ◌+◌, ◌^◌, ◌||◌, ◌&&◌, not, is_some, slice_get, if◌then◌else◌, Some, true, false, IfOk, IfSome, OnOk};
-ghost use Rattle.hh_model.specs.Step.{asked, can_step, fetched, step};
-ghost use Rattle.run_ledger.specs.Steps.{task_step, task_steps, is_due, is_in_need, standing};
+ghost use Rattle.std.specs.Prelude.{◌≡◌, ◌≤◌, ◌<◌, ◌+◌, ◌-◌, ◌||◌, ◌&&◌, not, if◌then◌else◌, false, IfOk};
+ghost use Rattle.hh_model.specs.Calculations.{calculates};
+ghost use Rattle.run_ledger.specs.Steps.{task_step, task_steps, is_due, is_in_need, most_steps, standing};
 ghost use Rattle.run_ledger.specs.Heaps.{in_use};
-ghost use Rattle.next_steps.specs.Calculations.{calculation};
 ghost use Rattle.next_steps.specs.Own.{is_own};
 ghost use Rattle.run_accounts.specs.Accounts.{Steady, StaysSteady, stood, after_stood, used_after, went_on};
 ghost use Rattle.run_accounts.specs.declared.ran.Stood.TheVariants.{More, Last};
 
 use crate::accounts::Accounts;
-use hh_lang::Line;
-use next_steps::{calculation, next_step};
+use next_steps::next_step;
 use std::alloc::AllocError;
 
 /// Whether the next step of a task can stand in an entry, and whether a further one can behind it.
@@ -37,35 +35,23 @@ fn stood_by(own: bool, ended: bool) -> Stood
 }
 
 impl<'p> Accounts<'p> {
-    // The machine takes a step that it can take, by the line that was looked at.
-    #[inline(always)]
-    fn advance_by(&mut self, t: u32, line: Line) -> Result<(), AllocError>
-        requires few { self.old.ledger.steps < 2 ^ 30 }
-        requires can { can_step self.old.ledger.machine t ≡ true }
-        requires line { IfSome (slice_get self.old.ledger.machine.tasks t) (λ x. fetched self.old.program x.top ≡ Some line) }
-        ensures { OnOk result (self.new ≡ record self.old { ledger = record self.old.ledger { machine = step self.old.program self.old.ledger.machine t; steps = self.old.ledger.steps + 1 } }) }
-    {
-        self.machine.step_line(t, Some(line))?;
-        self.steps += 1;
-        Ok(())
-    }
-
-    // A step of the entry that only calculates: it stands, and a further one can.
-    #[inline(always)]
-    fn calculate(&mut self, t: u32, line: Line) -> Result<Stood, AllocError>
-        requires line { calculation self.old.program self.old.ledger.machine t ≡ Some line }
-        requires before { Steady self.old.ledger }
+    // The calculations that come next in a task, at most so many: they stand, and a further step can behind each.
+    fn calculate(&mut self, t: u32, most: u32) -> u32
+        requires few { most ≤ most_steps }
+        requires steady { StaysSteady self.old.limits self.old.program self.old.ledger t most }
         requires used { self.old.used ≡ in_use self.old.ledger }
-        requires next { (is_due self.old.limits self.old.program self.old.ledger t || is_in_need self.old.program self.old.ledger t) ≡ false → used_after self.old.program self.old.ledger t ≡ in_use (task_step self.old.program self.old.ledger t) }
-        ensures stood { IfOk result (λ how. how ≡ stood self.old.limits self.old.program self.old.ledger t) }
-        ensures after { IfOk result (λ how. self.new ≡ went_on self.old (after_stood self.old.program self.old.ledger t how)) }
+        ensures most { result ≤ most }
+        ensures standing { standing self.old.limits self.old.program self.old.ledger t most ≡ result + standing self.old.limits self.old.program (task_steps self.old.program self.old.ledger t result) t (most - result) }
+        ensures all { result < most → calculates self.old.program self.new.ledger.machine t ≡ false }
+        ensures after { self.new ≡ went_on self.old (task_steps self.old.program self.old.ledger t result) }
     {
-        self.advance_by(t, line)?;
-        Ok(Stood::More)
+        let count = self.machine.calculate(t, most);
+        self.steps += count as u64;
+        count
     }
 
-    // One step of the entry, whatever it is, if it can stand in it.
-    fn stand_any(&mut self, t: u32) -> Result<Stood, AllocError>
+    // One step of the entry, if it can stand in it.
+    fn stand(&mut self, t: u32) -> Result<Stood, AllocError>
         requires before { Steady self.old.ledger }
         requires after { (is_due self.old.limits self.old.program self.old.ledger t || is_in_need self.old.program self.old.ledger t) ≡ false → Steady (task_step self.old.program self.old.ledger t) }
         requires used { self.old.used ≡ in_use self.old.ledger }
@@ -82,35 +68,24 @@ impl<'p> Accounts<'p> {
         Ok(stood_by(ahead.own, ended))
     }
 
-    // One step of the entry, if it can stand in it.
-    fn stand(&mut self, t: u32) -> Result<Stood, AllocError>
-        requires before { Steady self.old.ledger }
-        requires after { (is_due self.old.limits self.old.program self.old.ledger t || is_in_need self.old.program self.old.ledger t) ≡ false → Steady (task_step self.old.program self.old.ledger t) }
-        requires used { self.old.used ≡ in_use self.old.ledger }
-        requires next { (is_due self.old.limits self.old.program self.old.ledger t || is_in_need self.old.program self.old.ledger t) ≡ false → used_after self.old.program self.old.ledger t ≡ in_use (task_step self.old.program self.old.ledger t) }
-        ensures stood { IfOk result (λ how. how ≡ stood self.old.limits self.old.program self.old.ledger t) }
-        ensures after { IfOk result (λ how. self.new ≡ went_on self.old (after_stood self.old.program self.old.ledger t how)) }
-    {
-        match calculation(self.program, self.machine.state(), t) {
-            Some(line) => self.calculate(t, line),
-            None => self.stand_any(t),
-        }
-    }
-
     /// Takes the first of so many steps of a task, as many as can stand in one entry, and says how many those are.
     pub(crate) fn ran(&mut self, t: u32, steps: u32) -> Result<u32, AllocError>
+        requires few { steps ≤ most_steps }
         requires steady { StaysSteady self.old.limits self.old.program self.old.ledger t steps }
         requires used { self.old.used ≡ in_use self.old.ledger }
         ensures standing { IfOk result (λ count. count ≡ standing self.old.limits self.old.program self.old.ledger t steps) }
         ensures most { IfOk result (λ count. count ≤ steps) }
         ensures after { IfOk result (λ count. self.new ≡ went_on self.old (task_steps self.old.program self.old.ledger t count)) }
     {
-        for done in 0..steps {
+        let mut done = self.calculate(t, steps);
+        while done < steps {
             match self.stand(t)? {
                 Stood::Not => return Ok(done),
                 Stood::Last => return Ok(done + 1),
                 Stood::More => {}
             }
+            done += 1;
+            done += self.calculate(t, steps - done);
         }
         Ok(steps)
     }

@@ -1,5 +1,5 @@
 -- The machine of a journal's accounts is the run of the journal's steps.
-use Rattle.std.proofs.Common.{◌≡◌, ℕ, zero, suc, ◌+◌, ◌-◌, Bool, true, false, cond, Option, Some, None, List, [], ◌∷◌, ◌++◌, slice_get, replicate, nat_lt, refl, ap, sym, ◌∙◌}
+use Rattle.std.proofs.Common.{◌≡◌, ℕ, zero, suc, ◌+◌, ◌-◌, Bool, true, false, cond, Option, Some, None, List, [], ◌∷◌, ◌++◌, slice_get, replicate, nat_lt, refl, ap, sym, ◌∙◌, arith}
 use Rattle.std.proofs.lemmas.Bool.{cond-false}
 use Rattle.run_trace.specs.declared.entry.Kind.{Kind}
 use Rattle.run_trace.specs.declared.entry.Kind.TheVariants.{Took, Ran, Chunk, Begin, End as EndOf, PutOff, Mark, More, Sweep, Fuel}
@@ -20,6 +20,11 @@ use Rattle.run_ledger.specs.Steps.{join_heaps, moved_on, moved_to, settled, step
 use Rattle.run_ledger.specs.Entries.{after_kind, after, chunk_units}
 use Rattle.run_ledger.specs.Journals.{after_all, opening, tasks_in, tasks_of}
 use Rattle.run_ledger.specs.Laws.{EntriesMoveMachine, MachineIsRun}
+
+-- some steps of a task and then some more
+pub task_steps_more : (p : ProgramText) (t n k : ℕ) (l : Ledger) → task_steps p l t (n + k) ≡ task_steps p (task_steps p l t n) t k
+task_steps_more p t zero k l = ap (task_steps p l t) (let e : 0 + k ≡ k = omega arith in e)
+task_steps_more p t (suc n) k l = ap (task_steps p l t) (let e : suc n + k ≡ suc (n + k) = omega arith in e) ∙ task_steps_more p t n k (task_step p l t)
 
 heap_at_machine : (l : Ledger) (t : ℕ) (f : Heap → Heap) (o : Option Heap) → (with_heap_at l t f o).machine ≡ l.machine
 heap_at_machine l t f None = refl

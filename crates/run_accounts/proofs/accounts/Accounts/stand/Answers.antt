@@ -3,7 +3,7 @@ use Rattle.run_ledger.specs.Steps.{task_step, is_due, is_in_need}
 use Rattle.next_steps.specs.Own.{is_own}
 use Rattle.run_accounts.specs.Accounts.{AccountsValue}
 use Rattle.run_accounts.proofs.Standings.{stood_is}
-use Rattle.run_accounts.proofs.accounts.Accounts.stand_any.Goals as goal
+use Rattle.run_accounts.proofs.accounts.Accounts.stand.Goals as goal
 
 pub returns-clause-stood : goal.returns-clause-stood
 returns-clause-stood c =
