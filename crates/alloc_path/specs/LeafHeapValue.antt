@@ -8,6 +8,7 @@ use Rattle.object_layout.specs.Place.{words_in}
 use Rattle.object_layout.specs.Chunks.{cell_of, chunk_at, held_words, object_count, place_in, push_object, small_words}
 pub use Rattle.object_layout.specs.Chunks.{AreApart, IsFresh}
 use Rattle.kept_pieces.specs.PiecesValue.{PiecesValue, Shows}
+use Rattle.still_counts.specs.Counts.{last_count}
 
 -- its chunks in the order in which they came; at which place the small chunk stands that is being
 -- filled, and at which the chunk that is reserved for a large object; the words that were placed
@@ -22,7 +23,7 @@ pub record LeafHeapValue : Type 0 where
 
 -- a number of words, as far as 64 bits count
 abbrev pub counted : ℕ → ℕ
-counted n = min n (2 ^ 64 - 1)
+counted n = min n last_count
 
 -- the words left in the chunk at a place
 abbrev pub room_at : List ChunkValue → Option ℕ → ℕ

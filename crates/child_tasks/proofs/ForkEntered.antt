@@ -1,5 +1,6 @@
 -- A fork is entered: the task waits, and two children are ready.
 use Rattle.std.proofs.Common.{◌≡◌, ℕ, zero, suc, ◌+◌, ◌<◌, ◌++◌, arith, true, false, nat_lt, Option, Some, None, List, [], ◌∷◌, length, length-set, slice_get, slice_set, option_map, inl, inr, refl, ap, ap₂, sym, subst, ◌∙◌}
+use Rattle.std.specs.Option.{option_flatten}
 use Rattle.std.proofs.lemmas.Bool.{cases_eq, cases_lt, cond-true, lt-ltb}
 use Rattle.std.proofs.lemmas.Option.{same_Some}
 use Rattle.listed.proofs.Members.{got_back, got_front, got_other, got_past, got_within}
@@ -39,7 +40,7 @@ use Rattle.task_machine.specs.declared.part.Private.{Private}
 use Rattle.task_homes.specs.declared.task_at_rest.Rest.{Rest}
 use Rattle.task_homes.specs.HomesValue.{keeping}
 use Rattle.shared_value.specs.Objects.{levels_of}
-use Rattle.shared_value.specs.SharedValue.{SharedValue, marks_at, accounts, flat, home_in, home_of, noted_in, rest_at, totals_of, value_of}
+use Rattle.shared_value.specs.SharedValue.{SharedValue, marks_at, accounts, home_in, home_of, noted_in, rest_at, totals_of, value_of}
 use Rattle.shared_value.specs.Measured.{AreMeasured, RestsAreMeasured}
 use Rattle.shared_value.specs.Stands.{HeapForm, IsSharedValue}
 use Rattle.shared_value.specs.Fits.{Fits, OthersFit, home_of_part, part_of}
@@ -235,7 +236,7 @@ module _ (w : SharedValue) (k : ℕ) (p : Private) (I : IsSharedValue w) (F : Fi
       marked = unmarked t ∙ none_left w.marks t;
       left = ap (λ (z : Noted). z.keeps) (noted_then a ∙ ap noted_of left_set);
       right = ap (λ (z : Noted). z.keeps) (noted_then (a + 1) ∙ ap noted_of right_set);
-      others = λ u nt na nb. let e = same_noted u nt na nb in record { keeps = ap (λ (z : Noted). z.keeps) e; kept = ap (λ (z : Noted). z.kept) e; marked = unmarked u ∙ ap flat (got_other w.marks t u None nt) };
+      others = λ u nt na nb. let e = same_noted u nt na nb in record { keeps = ap (λ (z : Noted). z.keeps) e; kept = ap (λ (z : Noted). z.kept) e; marked = unmarked u ∙ ap option_flatten (got_other w.marks t u None nt) };
     }
 
     roots : (rs : List Addr) × AreRoots vt (rested M t) t rs
@@ -274,7 +275,7 @@ module _ (w : SharedValue) (k : ℕ) (p : Private) (I : IsSharedValue w) (F : Fi
     counts : RanCounts w.program (totals_of w) (totals_of w') M L t k p.fresh S.task S.line Forking Q
     counts = record {
       tree = nodes_fork;
-      task_out = record { task_out = ap flat (got_set w.tasks_out k None (worker_there w (last_event k p) I free_last)); others = λ u ne. ap flat (got_other w.tasks_out k u None ne) };
+      task_out = record { task_out = ap option_flatten (got_set w.tasks_out k None (worker_there w (last_event k p) I free_last)); others = λ u ne. ap option_flatten (got_other w.tasks_out k u None ne) };
       outputs = refl;
       end = refl;
       used = refl;
@@ -325,5 +326,5 @@ module _ (w : SharedValue) (k : ℕ) (p : Private) (I : IsSharedValue w) (F : Fi
     -- THE PARTS OF OTHERS
     pub forked_others : OthersFit w w' k
     forked_others u r ne G =
-        marked_fits w (last_event k p) I free_last tree w.pool homes sets tasks_out w.outputs all_steps w.end j.room marks forked_world u r r (ap flat (got_other w.tasks_out k u None ne)) G refl refl refl G.form G.measured
+        marked_fits w (last_event k p) I free_last tree w.pool homes sets tasks_out w.outputs all_steps w.end j.room marks forked_world u r r (ap option_flatten (got_other w.tasks_out k u None ne)) G refl refl refl G.form G.measured
         (ran_leaves w.program w.settings v v' l L t k p.fresh h E own forks_home (part_of w.settings r) (held_apart w k u p r F G ne) G.fits)

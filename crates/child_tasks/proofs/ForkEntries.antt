@@ -1,5 +1,6 @@
 -- An entry of a fork, as the call has it.
 use Rattle.std.proofs.Common.{◌≡◌, true, ℕ, zero, suc, ◌+◌, ◌<◌, ◌++◌, arith, false, option_map, Option, Some, None, List, [], ◌∷◌, length, length-append, length-set, slice_get, slice_set, inl, inr, refl, ap, sym, subst, ◌∙◌}
+use Rattle.std.specs.Option.{option_flatten}
 use Rattle.std.proofs.lemmas.Bool.{cases_lt}
 use Rattle.listed.proofs.Members.{got_back, got_front, got_other, got_past}
 use Rattle.listed.specs.RoomyValue.{RoomyValue}
@@ -15,7 +16,7 @@ use Rattle.fork_join.specs.declared.forks.Child.{Child}
 use Rattle.task_machine.specs.declared.part.Private.{Private}
 use Rattle.task_homes.specs.declared.task_at_rest.Rest.{Rest}
 use Rattle.task_homes.specs.HomesValue.{keeping}
-use Rattle.shared_value.specs.SharedValue.{SharedValue, accounts, flat, marks_at, rest_at}
+use Rattle.shared_value.specs.SharedValue.{SharedValue, accounts, marks_at, rest_at}
 use Rattle.shared_value.specs.Stands.{IsSharedValue}
 use Rattle.shared_value.specs.Fits.{Fits, OthersFit}
 use Rattle.shared_value.specs.Entered.{refused}
@@ -60,7 +61,7 @@ module _ (homes : List (Option Rest)) (p : Private) (made : p.task < length home
 
   pub put_other : (u : ℕ) → (u ≡ p.task → ⊥) → (u ≡ n → ⊥) → (u ≡ n + 1 → ⊥) → rest_at put_all u ≡ rest_at homes u
   put_other u nt na nb =
-      ap flat (elim (cases_lt u n) [
+      ap option_flatten (elim (cases_lt u n) [
         | inl lt ↦ got_front front two u (omega (arith, lt, front_long)) ∙ got_other homes p.task u z nt
         | inr le ↦ got_past put_all u (omega (arith, le, na, nb, put_count)) ∙ sym (got_past homes u le)
       ])
@@ -73,9 +74,9 @@ homes_fork homes p left right sl sp sl' sp' made =
     let z : Option Rest = Some (waiting_rest p) in
     record {
       count = put_count homes p made x y z;
-      parent = ap flat (put_own homes p made x y z);
-      left_home = (sl, sp, ap flat (put_first homes p made x y z));
-      right_home = (sl', sp', ap flat (put_second homes p made x y z));
+      parent = ap option_flatten (put_own homes p made x y z);
+      left_home = (sl, sp, ap option_flatten (put_first homes p made x y z));
+      right_home = (sl', sp', ap option_flatten (put_second homes p made x y z));
       others = λ u nt na nb. put_other homes p made x y z u nt na nb;
     }
 

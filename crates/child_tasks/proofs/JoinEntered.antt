@@ -1,5 +1,6 @@
 -- A child's last frame returns after its sibling's: both join their parent, which is ready again.
 use Rattle.std.proofs.Common.{◌≡◌, ℕ, ℤ, suc, ◌+◌, ◌++◌, arith, Option, Some, None, List, [], ◌∷◌, length-set, slice_get, slice_set, inl, inr, refl, ap, sym, subst, ◌∙◌}
+use Rattle.std.specs.Option.{option_flatten}
 use Rattle.std.proofs.lemmas.Bool.{cases_eq}
 use Rattle.std.proofs.lemmas.Option.{same_Some}
 use Rattle.listed.proofs.Members.{got_other}
@@ -36,7 +37,7 @@ use Rattle.task_machine.specs.declared.part.Private.{Private}
 use Rattle.task_homes.specs.declared.task_at_rest.Rest.{Rest}
 use Rattle.task_homes.specs.declared.task_at_rest.Work.{Work}
 use Rattle.task_homes.specs.declared.task_at_rest.Work.TheVariants.{Calls}
-use Rattle.shared_value.specs.SharedValue.{SharedValue, no_home, noted_in, accounts, flat, home_by, home_in, marks_at, rest_at, totals_of, value_of}
+use Rattle.shared_value.specs.SharedValue.{SharedValue, no_home, noted_in, accounts, home_by, home_in, marks_at, rest_at, totals_of, value_of}
 use Rattle.shared_value.specs.Stands.{HeapForm, IsSharedValue}
 use Rattle.shared_value.specs.Fits.{Fits, OthersFit, home_of_part, part_of}
 use Rattle.shared_value.specs.Entered.{refused}
@@ -237,7 +238,7 @@ module _ (w : SharedValue) (k : ℕ) (p : Private) (I : IsSharedValue w) (F : Fi
       counts : RanCounts w.program (totals_of w) (totals_of w') M L t k p.fresh x S.line Joining Q
       counts = record {
         tree = nodes_so;
-        task_out = record { task_out = ap flat (got_set w.tasks_out k None (worker_there w (last_event k p) I free_last)); others = λ u ne. ap flat (got_other w.tasks_out k u None ne) };
+        task_out = record { task_out = ap option_flatten (got_set w.tasks_out k None (worker_there w (last_event k p) I free_last)); others = λ u ne. ap option_flatten (got_other w.tasks_out k u None ne) };
         outputs = refl;
         end = refl;
         used = relabelled.units;
@@ -285,7 +286,7 @@ module _ (w : SharedValue) (k : ℕ) (p : Private) (I : IsSharedValue w) (F : Fi
       -- THE PARTS OF OTHERS
       joined_others : OthersFit w w' k
       joined_others u i ne G =
-          marked_fits w (last_event k p) I free_last tree pool homes sets tasks_out w.outputs all_steps w.end j.room marks joined_world u i i (ap flat (got_other w.tasks_out k u None ne)) G refl refl refl G.form (others_measured w k p I F at_end free ended above beside frames above_is calls beside_is c lh rh al ar side homes pool heap H relabelled heap_is u i ne G)
+          marked_fits w (last_event k p) I free_last tree pool homes sets tasks_out w.outputs all_steps w.end j.room marks joined_world u i i (ap option_flatten (got_other w.tasks_out k u None ne)) G refl refl refl G.form (others_measured w k p I F at_end free ended above beside frames above_is calls beside_is c lh rh al ar side homes pool heap H relabelled heap_is u i ne G)
           (ran_leaves w.program w.settings v v' l L t k p.fresh h E own made (part_of w.settings i) (held_apart w k u p i F G ne) G.fits)
 
       -- ---- AS THE CALL HAS IT

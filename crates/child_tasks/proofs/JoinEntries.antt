@@ -1,6 +1,7 @@
 -- An entry of a join, as the call has it: what is asked of the parts that it joins, and what the code makes of homes
 -- and sets.
 use Rattle.std.proofs.Common.{◌≡◌, ℕ, ◌+◌, ◌<◌, ◌++◌, arith, Bool, true, false, Option, Some, None, List, [], ◌∷◌, length, slice_get, slice_set, option_map, inl, inr, refl, ap, sym, subst, ◌∙◌}
+use Rattle.std.specs.Option.{option_flatten}
 use Rattle.std.specs.Prelude.{IfSome, IsSome}
 use Rattle.std.proofs.lemmas.Bool.{cases_eq}
 use Rattle.std.proofs.lemmas.Option.{same_Some}
@@ -25,7 +26,7 @@ use Rattle.fork_join.specs.Joined.{AreRelabelled, HasRoom, HaveEnded, Joins, joi
 use Rattle.task_machine.specs.declared.part.Private.{Private}
 use Rattle.task_homes.specs.declared.task_at_rest.Rest.{Rest}
 use Rattle.task_homes.specs.declared.task_at_rest.Work.TheVariants.{Calls}
-use Rattle.shared_value.specs.SharedValue.{SharedValue, flat, marks_at, rest_at}
+use Rattle.shared_value.specs.SharedValue.{SharedValue, marks_at, rest_at}
 use Rattle.shared_value.specs.Stands.{IsSharedValue}
 use Rattle.shared_value.specs.Fits.{Fits, IsAtWork}
 use Rattle.shared_value.specs.Entered.{refused}
@@ -109,7 +110,7 @@ module _ (w : SharedValue) (k : ℕ) (p : Private) (I : IsSharedValue w) (F : Fi
   pub parent_stays : (parent other : ℕ) → parent_in_tree w.tree p.task ≡ Some parent → other ≡ s' → IsSome (rest_at (slice_set (slice_set w.homes p.task None) other None) parent)
   parent_stays parent other e o =
       subst IsSome
-      (sym (ap flat (got_other (slice_set w.homes p.task None) other parent None (λ f. parent_other (parent_is parent e ∙ (f ∙ o))) ∙ got_other w.homes p.task parent None (λ f. parent_apart (parent_is parent e ∙ f)))))
+      (sym (ap option_flatten (got_other (slice_set w.homes p.task None) other parent None (λ f. parent_other (parent_is parent e ∙ (f ∙ o))) ∙ got_other w.homes p.task parent None (λ f. parent_apart (parent_is parent e ∙ f)))))
       (parent_home parent e)
 
   module _ (above beside : Rest) (own_notes other_notes notes : RememberedValue) (above_of : IsRestOf (rest_at w.homes q) above) (beside_of : IsRestOf (rest_at w.homes s') beside) where

@@ -1,5 +1,6 @@
 -- Homes that a join takes from and puts into, one after another.
 use Rattle.std.proofs.Common.{◌≡◌, ℕ, ◌<◌, false, Option, Some, None, List, length, length-set, slice_get, slice_set, option_map, ap, sym, subst, ◌∙◌}
+use Rattle.std.specs.Option.{option_flatten}
 use Rattle.listed.proofs.Members.{got_other}
 use Rattle.listed.proofs.Places.{got_set}
 use Rattle.alloc_path.specs.LeafHeapValue.{LeafHeapValue}
@@ -13,7 +14,7 @@ use Rattle.task_homes.specs.declared.homes.Home.{Home}
 use Rattle.task_homes.specs.declared.task_at_rest.Rest.{Rest}
 use Rattle.task_homes.specs.declared.task_at_rest.Work.TheVariants.{Calls}
 use Rattle.task_homes.specs.HomesValue.{HomesValue}
-use Rattle.shared_value.specs.SharedValue.{flat, marks_at, rest_at}
+use Rattle.shared_value.specs.SharedValue.{marks_at, rest_at}
 use Rattle.child_tasks.specs.Forks.{nothing_noted}
 use Rattle.child_tasks.specs.Joins.{HomesJoin}
 
@@ -50,14 +51,14 @@ module _ (h h1 h2 h3 h4 : HomesValue) (p : Private) (s q : ℕ) (own beside : Ho
 
   -- WHAT IS TAKEN
   pub beside_was : (s ≡ t → ⊥) → beside.rest ≡ rest_at h.rests s
-  beside_was st = T.beside_rest ∙ (ap (λ (z : HomesValue). rest_at z.rests s) T.own_left ∙ ap flat (got_other h.rests t s None st))
+  beside_was st = T.beside_rest ∙ (ap (λ (z : HomesValue). rest_at z.rests s) T.own_left ∙ ap option_flatten (got_other h.rests t s None st))
 
   pub beside_set_was : (s ≡ t → ⊥) → slice_get h.sets s ≡ Some beside.set
   beside_set_was st = sym (got_other h.sets t s (bare false) st) ∙ (sym (ap (λ (z : HomesValue). slice_get z.sets s) T.own_left) ∙ T.beside_set)
 
   pub above_was : (q ≡ t → ⊥) → (q ≡ s → ⊥) → rest_at h.rests q ≡ Some above
   above_was qt qs =
-      sym (ap flat (got_other (slice_set h.rests t None) s q None qs ∙ got_other h.rests t q None qt))
+      sym (ap option_flatten (got_other (slice_set h.rests t None) s q None qs ∙ got_other h.rests t q None qt))
       ∙ (sym (ap (λ (xs : List (Option Rest)). rest_at xs q) rests_two) ∙ T.above_is)
 
   pub set_was : (q ≡ t → ⊥) → (q ≡ s → ⊥) → slice_get h.sets q ≡ Some set
@@ -91,7 +92,7 @@ module _ (h h1 h2 h3 h4 : HomesValue) (p : Private) (s q : ℕ) (own beside : Ho
         ∙ (ap (λ (z : HomesValue). z.marks) T.beside_left ∙ ap (λ (z : HomesValue). slice_set z.marks s None) T.own_left))))
 
     pub unmarked : (u : ℕ) → (u ≡ t → ⊥) → (u ≡ s → ⊥) → marks_at h6.marks u ≡ marks_at h.marks u
-    unmarked u nt ns = ap (λ (ms : List (Option MarkingValue)). marks_at ms u) marks_then ∙ ap flat (got_other (slice_set h.marks t None) s u None ns ∙ got_other h.marks t u None nt)
+    unmarked u nt ns = ap (λ (ms : List (Option MarkingValue)). marks_at ms u) marks_then ∙ ap option_flatten (got_other (slice_set h.marks t None) s u None ns ∙ got_other h.marks t u None nt)
 
     pub sets_many : length h6.sets ≡ length h.sets
     sets_many =
@@ -129,7 +130,7 @@ module _ (h h1 h2 h3 h4 : HomesValue) (p : Private) (s q : ℕ) (own beside : Ho
     rest_off : (u : ℕ) → (u ≡ q → ⊥) → rest_at h6.rests u ≡ rest_at (slice_set (slice_set h.rests t None) s None) u
     rest_off u nq =
         ap (λ (xs : List (Option Rest)). rest_at xs u) rests_then
-        ∙ ap flat (got_other (slice_set (slice_set (slice_set h.rests t None) s None) q None) q u (Some rest) nq ∙ got_other (slice_set (slice_set h.rests t None) s None) q u None nq)
+        ∙ ap option_flatten (got_other (slice_set (slice_set (slice_set h.rests t None) s None) q None) q u (Some rest) nq ∙ got_other (slice_set (slice_set h.rests t None) s None) q u None nq)
 
     two_long : length (slice_set (slice_set h.rests t None) s None) ≡ length h.rests
     two_long = length-set (slice_set h.rests t None) s None ∙ length-set h.rests t None
@@ -142,8 +143,8 @@ module _ (h h1 h2 h3 h4 : HomesValue) (p : Private) (s q : ℕ) (own beside : Ho
     homes_join frames heap qt qs st own_made other_made made er = record {
       many = ap (λ (xs : List (Option Rest)). length xs) rests_then ∙ (length-set (slice_set (slice_set (slice_set h.rests t None) s None) q None) q (Some rest) ∙ three_long);
       parent_home = ap (λ (xs : List (Option Rest)). rest_at xs q) rests_then
-          ∙ (ap flat (got_set (slice_set (slice_set (slice_set h.rests t None) s None) q None) q (Some rest) (subst (λ n. q < n) (sym three_long) made)) ∙ ap Some er);
-      own_home = rest_off t (λ e. qt (sym e)) ∙ ap flat (got_other (slice_set h.rests t None) s t None (λ e. st (sym e)) ∙ got_set h.rests t None own_made);
-      other_home = rest_off s (λ e. qs (sym e)) ∙ ap flat (got_set (slice_set h.rests t None) s None (subst (λ n. s < n) (sym (length-set h.rests t None)) other_made));
-      others = λ u nq nt ns. rest_off u nq ∙ ap flat (got_other (slice_set h.rests t None) s u None ns ∙ got_other h.rests t u None nt);
+          ∙ (ap option_flatten (got_set (slice_set (slice_set (slice_set h.rests t None) s None) q None) q (Some rest) (subst (λ n. q < n) (sym three_long) made)) ∙ ap Some er);
+      own_home = rest_off t (λ e. qt (sym e)) ∙ ap option_flatten (got_other (slice_set h.rests t None) s t None (λ e. st (sym e)) ∙ got_set h.rests t None own_made);
+      other_home = rest_off s (λ e. qs (sym e)) ∙ ap option_flatten (got_set (slice_set h.rests t None) s None (subst (λ n. s < n) (sym (length-set h.rests t None)) other_made));
+      others = λ u nq nt ns. rest_off u nq ∙ ap option_flatten (got_other (slice_set h.rests t None) s u None ns ∙ got_other h.rests t u None nt);
     }

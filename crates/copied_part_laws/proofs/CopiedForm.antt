@@ -1,5 +1,6 @@
 -- A heap after its collection is formed and laid out as every heap is.
 use Rattle.std.proofs.Common.{◌≡◌, ℕ, zero, suc, ◌+◌, ◌-◌, ◌*◌, ◌/◌, ◌<◌, ◌≤◌, ◌==◌, ◌&&◌, not, arith, Bool, true, false, cond, Option, Some, None, List, [], ◌∷◌, ◌++◌, length, map, filter, nat_lt, inl, inr, refl, ap, ap₂, sym, subst, ◌∙◌, eq-eqb, ne_eqb}
+use Rattle.std.specs.Option.{option_map}
 use Rattle.std.specs.Prelude.{reverse}
 use Rattle.std.proofs.lemmas.Bool.{cases_lt, cond-false, cond-true, false≢true}
 use Rattle.std.proofs.lemmas.List.{length-map}
@@ -29,7 +30,7 @@ use Rattle.leaf_copy_gc.proofs.NewNumbers.{new_reverse}
 use Rattle.collected_heap_laws.proofs.Reading as reading
 use Rattle.leaf_copy_gc.proofs.Tidied.{all_tidy}
 use Rattle.collected_heap_laws.proofs.Reading.{within_of}
-use Rattle.core_relation.specs.Memory.{Chunk, In, led, objects_in}
+use Rattle.core_relation.specs.Memory.{Chunk, In, objects_in}
 use Rattle.core_relation.specs.Layout.{AreLaidOut, HoldsLarge, has_none, reserved_chunks, reserved_units, words}
 use Rattle.core_relation.proofs.objects.Members.{in_map, map_in}
 use Rattle.task_machine.specs.Accounts.{AreReserved, IsCounted}
@@ -137,17 +138,17 @@ module _ (h : LeafHeapValue) (from : List (Option Addr)) (ss : List Survivor) (n
 
   led_holds : (k : ChunkValue) → HoldsLarge (chunk_of k) → HoldsLarge (chunk_of (led_chunk g k))
   led_holds k H = elim H [
-    | inl none ↦ inl (objects ∙ ap (map (led_object (led to))) none)
-    | inr q ↦ inr (led_object (led to) q.0, objects ∙ ap (map (led_object (led to))) q.1, q.2, q.3 ∙ ap (λ n. units (2 + n + length q.0.ints)) (sym (length-map q.0.refs (led to))))
+    | inl none ↦ inl (objects ∙ ap (map (led_object (option_map to))) none)
+    | inr q ↦ inr (led_object (option_map to) q.0, objects ∙ ap (map (led_object (option_map to))) q.1, q.2, q.3 ∙ ap (λ n. units (2 + n + length q.0.ints)) (sym (length-map q.0.refs (option_map to))))
   ]
     where
       to : Addr → Addr
       to = moving.to h from ss news S T (naming.settled h from ss news S T m a O) (naming.reserved h from ss news S T m a O)
 
-      objects : objects_from k.number 0 (map (led_cell g) k.cells) ≡ map (led_object (led to)) (objects_from k.number 0 k.cells)
+      objects : objects_from k.number 0 (map (led_cell g) k.cells) ≡ map (led_object (option_map to)) (objects_from k.number 0 k.cells)
       objects =
           ap (λ (w : Option Addr → Option Addr). objects_from k.number 0 (map (led_cell w) k.cells)) (moving.g_is h from ss news S T (naming.settled h from ss news S T m a O) (naming.reserved h from ss news S T m a O))
-          ∙ led_are_read (led to) k
+          ∙ led_are_read (option_map to) k
 
   kept_part : (k : ChunkValue) → In K k → Part k
   kept_part k i =

@@ -1,5 +1,6 @@
 -- What a leaf collection makes of a part is a copy of it.
 use Rattle.std.proofs.Common.{◌≡◌, ℕ, ◌+◌, arith, Option, Some, None, is_some, List, [], ◌∷◌, ◌++◌, length, map, filter, inl, inr, refl, ap, ap₂, sym, subst, ◌∙◌}
+use Rattle.std.specs.Option.{option_map}
 use Rattle.std.specs.Prelude.{reverse, unwrap_or}
 use Rattle.listed.proofs.Members.{contains_from_in, in_append_cases, in_from_contains}
 use Rattle.hh_lang.specs.Form.{ProgramText}
@@ -17,11 +18,11 @@ use Rattle.object_layout.specs.Objects.{Located}
 use Rattle.alloc_path.specs.LeafHeapValue.{LeafHeapValue, with_places}
 use Rattle.chunk_rows.specs.View.{Level}
 use Rattle.task_frames.specs.declared.frames.Frame.{Frame}
-use Rattle.task_frames.specs.FramesValue.{FramesValue, frames_of}
+use Rattle.task_frames.specs.FramesValue.{FramesValue, frames_of, led_frame}
 use Rattle.leaf_copy_gc.specs.declared.lists.Moved.{Moved}
 use Rattle.leaf_copy_gc.specs.declared.lists.Survivor.{Survivor}
 use Rattle.leaf_copy_gc.specs.Survivors.{olds, outside}
-use Rattle.leaf_copy_gc.specs.Redirected.{led_chunk, led_frame as led_frame_by, new_address}
+use Rattle.leaf_copy_gc.specs.Redirected.{led_chunk, new_address}
 use Rattle.leaf_copy_gc.specs.Exchanged.{reserved_of, unreserved}
 use Rattle.leaf_copy_gc.specs.Collected.{AreSurvivors, collected, keeps, kept_of, laid_of}
 use Rattle.collected_heap_laws.specs.Laws.{TellsMoves}
@@ -31,7 +32,7 @@ use Rattle.collected_heap_laws.proofs.Telling.{moves_are_told}
 use Rattle.ledger_step_laws.specs.Accounts.{rested}
 use Rattle.ledger_step_laws.proofs.Rested.{rested_view, rested_worker}
 use Rattle.task_machine.specs.declared.part.Begun.{Begun}
-use Rattle.core_relation.specs.Memory.{Chunk, Home, In, Memory, led, led_frame, copied_object, object_name, objects_in}
+use Rattle.core_relation.specs.Memory.{Chunk, Home, In, Memory, copied_object, object_name, objects_in}
 use Rattle.core_relation.specs.Layout.{AreLaidOut, words}
 use Rattle.core_relation.specs.Begins.{IsReachedAt}
 use Rattle.core_relation.specs.Stands.{HasNames, HomeStands, Place, Stands}
@@ -73,9 +74,9 @@ map_last f [] x = refl
 map_last f (z ∷ xs) x = ap (λ qs. f z ∷ qs) (map_last f xs x)
 
 -- frames with their references led
-frames_led : (f : Addr → Addr) (s s' : FramesValue) → frames_of s' ≡ map (led_frame_by (led f)) (frames_of s) → frames_down s' ≡ map (led_frame f) (frames_down s)
+frames_led : (f : Addr → Addr) (s s' : FramesValue) → frames_of s' ≡ map (led_frame (option_map f)) (frames_of s) → frames_down s' ≡ map (led_frame (option_map f)) (frames_down s)
 frames_led f s s' e =
-    let r = last_same s'.below (map (led_frame_by (led f)) s.below) s'.top (led_frame_by (led f) s.top) (e ∙ map_last (led_frame_by (led f)) s.below s.top) in
+    let r = last_same s'.below (map (led_frame (option_map f)) s.below) s'.top (led_frame (option_map f) s.top) (e ∙ map_last (led_frame (option_map f)) s.below s.top) in
     ap₂ (λ x xs. x ∷ xs) r.1 r.0
 
 -- ---- WORDS
@@ -237,7 +238,7 @@ module _ (p : ProgramText) (st : SettingsValue) (t : ℕ) (h : LeafHeapValue) (v
       owned = λ c i. (let k = map_in chunk_of (L ++ (K ++ R)) c i in ap (λ (z : Chunk). v.owner z.number) (sym k.2) ∙ owned_each k.0 k.1);
       kept = λ o i j. moving.kept h (outside s b.roots) C.survivors news C.are B.new (naming.settled h (outside s b.roots) C.survivors news C.are B.new l.machine a O) (naming.reserved h (outside s b.roots) C.survivors news C.are B.new l.machine a O) o i (dies C.survivors C.are o i j);
       only = came;
-      frames = frames_led to s s' (C.frames ∙ ap (λ (w : Option Addr → Option Addr). map (led_frame_by w) (frames_of s)) (moving.g_is h (outside s b.roots) C.survivors news C.are B.new (naming.settled h (outside s b.roots) C.survivors news C.are B.new l.machine a O) (naming.reserved h (outside s b.roots) C.survivors news C.are B.new l.machine a O)));
+      frames = frames_led to s s' (C.frames ∙ ap (λ (w : Option Addr → Option Addr). map (led_frame w) (frames_of s)) (moving.g_is h (outside s b.roots) C.survivors news C.are B.new (naming.settled h (outside s b.roots) C.survivors news C.are B.new l.machine a O) (naming.reserved h (outside s b.roots) C.survivors news C.are B.new l.machine a O)));
       same = same_out;
     }
 

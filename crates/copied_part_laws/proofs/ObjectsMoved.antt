@@ -1,5 +1,6 @@
 -- Where the objects of a heap went in its collection: each survivor is read at its new address, and nothing else is there.
 use Rattle.std.proofs.Common.{◌≡◌, ℕ, ◌<◌, ◌≤◌, not, arith, true, Option, Some, None, List, [], ◌∷◌, ◌++◌, map, filter, inl, inr, refl, ap, sym, subst, ◌∙◌}
+use Rattle.std.specs.Option.{option_map}
 use Rattle.std.specs.Prelude.{nat_le, reverse, unwrap_or}
 use Rattle.std.specs.List.{list_any}
 use Rattle.std.proofs.lemmas.Bool.{and_parts, cases_Bool, cases_lt, false≢true, le-leb, leb-true}
@@ -36,7 +37,7 @@ use Rattle.leaf_copy_gc.proofs.Rebuilt as rebuilt
 use Rattle.leaf_copy_gc.proofs.Rebuilt.{first_of}
 use Rattle.leaf_copy_gc.proofs.Naming.{in_unreserved}
 use Rattle.collected_heap_laws.proofs.Reading.{none_of, within_of}
-use Rattle.core_relation.specs.Memory.{In, led, copied_object, objects_in}
+use Rattle.core_relation.specs.Memory.{In, copied_object, objects_in}
 use Rattle.core_relation.proofs.objects.Members.{in_objects, map_in}
 use Rattle.shared_value.specs.Objects.{chunk_of, chunks_of}
 use Rattle.shared_value.proofs.CellsRead.{object_seen, seen_object}
@@ -84,11 +85,11 @@ module _ (h : LeafHeapValue) (from : List (Option Addr)) (ss : List Survivor) (n
   abbrev pub ks' : List ChunkValue
   ks' = laid_of h ss (reverse news) ++ (kept_of h ss (reverse news) ++ reserved_of h.chunks h.reserved)
 
-  g_same : (r : Option Addr) → g r ≡ led to r
+  g_same : (r : Option Addr) → g r ≡ option_map to r
   g_same None = refl
   g_same (Some a) = refl
 
-  pub g_is : g ≡ led to
+  pub g_is : g ≡ option_map to
   g_is = λ i r. g_same r i
 
   -- ---- numbers
@@ -133,9 +134,9 @@ module _ (h : LeafHeapValue) (from : List (Option Addr)) (ss : List Survivor) (n
       → cell_of ks' a ≡ led_cell g (cell_of h.chunks o.at) → In (objects_in (chunks_of ks')) (copied_object to o)
   there_now o a b is mark leads read =
       let i : In (objects_in (chunks_of ks')) (located a.chunk a.offset b (cell_of ks' a)) = object_seen ks' a b (ap (λ (c : Cell). c.mark) read ∙ mark) in
-      let e : located a.chunk a.offset b (cell_of ks' a) ≡ located a.chunk a.offset b (led_cell (led to) (cell_of h.chunks o.at)) =
+      let e : located a.chunk a.offset b (cell_of ks' a) ≡ located a.chunk a.offset b (led_cell (option_map to) (cell_of h.chunks o.at)) =
       ap (located a.chunk a.offset b) read ∙ ap (λ (w : Option Addr → Option Addr). located a.chunk a.offset b (led_cell w (cell_of h.chunks o.at))) g_is in
-      let d : copied_object to (located o.at.chunk o.at.offset b (cell_of h.chunks o.at)) ≡ located a.chunk a.offset b (led_cell (led to) (cell_of h.chunks o.at)) = λ k. record (copied_object to (located o.at.chunk o.at.offset b (cell_of h.chunks o.at))) { at = leads k } in
+      let d : copied_object to (located o.at.chunk o.at.offset b (cell_of h.chunks o.at)) ≡ located a.chunk a.offset b (led_cell (option_map to) (cell_of h.chunks o.at)) = λ k. record (copied_object to (located o.at.chunk o.at.offset b (cell_of h.chunks o.at))) { at = leads k } in
       subst (In (objects_in (chunks_of ks'))) (e ∙ sym (ap (copied_object to) is ∙ d)) i
 
   pub kept : (o : Located) → In (objects_in (chunks_of h.chunks)) o → In (olds ss) o.at → In (objects_in (chunks_of ks')) (copied_object to o)
@@ -163,10 +164,10 @@ module _ (h : LeafHeapValue) (from : List (Option Addr)) (ss : List Survivor) (n
     pub is : o' ≡ copied_object to object
 
   -- an object of a chunk whose references were led
-  led_back : (k : ChunkValue) (o' : Located) → In (objects_from k.number 0 (map (led_cell g) k.cells)) o' → (q : Located) × In (objects_from k.number 0 k.cells) q × (led_object (led to) q ≡ o')
+  led_back : (k : ChunkValue) (o' : Located) → In (objects_from k.number 0 (map (led_cell g) k.cells)) o' → (q : Located) × In (objects_from k.number 0 k.cells) q × (led_object (option_map to) q ≡ o')
   led_back k o' i =
-      let j : In (objects_from k.number 0 (map (led_cell (led to)) k.cells)) o' = subst (λ (w : Option Addr → Option Addr). In (objects_from k.number 0 (map (led_cell w) k.cells)) o') g_is i in
-      map_in (led_object (led to)) (objects_from k.number 0 k.cells) o' (subst (λ os. In os o') (led_are_read (led to) k) j)
+      let j : In (objects_from k.number 0 (map (led_cell (option_map to)) k.cells)) o' = subst (λ (w : Option Addr → Option Addr). In (objects_from k.number 0 (map (led_cell w) k.cells)) o') g_is i in
+      map_in (led_object (option_map to)) (objects_from k.number 0 k.cells) o' (subst (λ os. In os o') (led_are_read (option_map to) k) j)
 
   from_laid : (k : ChunkValue) (o' : Located) → In y.laid k → In (objects_from k.number 0 (map (led_cell g) k.cells)) o' → Came o'
   from_laid k o' i j =
@@ -178,12 +179,12 @@ module _ (h : LeafHeapValue) (from : List (Option Addr)) (ss : List Survivor) (n
             let m : Addr × Addr = r.0 in
             let b = seen_only m.1.chunk m.1.offset (cell_of h.chunks m.0) (cell_of h.chunks m.0).mark q.0 r.2 in
             let o : Located = located m.0.chunk m.0.offset b.0 (cell_of h.chunks m.0) in
-            let e : led_object (led to) (located m.1.chunk m.1.offset b.0 (cell_of h.chunks m.0)) ≡ copied_object to o = λ k. record (copied_object to o) { at = sym (to_new m r.1) k } in
+            let e : led_object (option_map to) (located m.1.chunk m.1.offset b.0 (cell_of h.chunks m.0)) ≡ copied_object to o = λ k. record (copied_object to o) { at = sym (to_new m r.1) k } in
             record {
               object = o;
               there = object_seen h.chunks m.0 b.0 b.1;
               survives = (in_xs m.0 (moved_small m r.1)).0;
-              is = sym q.2 ∙ (ap (led_object (led to)) (sym b.2) ∙ e);
+              is = sym q.2 ∙ (ap (led_object (option_map to)) (sym b.2) ∙ e);
             }
       ]
 
@@ -240,7 +241,7 @@ module _ (h : LeafHeapValue) (from : List (Option Addr)) (ss : List Survivor) (n
         object = q.0;
         there = in_objects (chunks_of h.chunks) (chunk_of k) q.0 (in_map chunk_of h.chunks k A.there) q.1;
         survives = subst (In (olds ss)) (sym at) A.survives;
-        is = sym q.2 ∙ (λ k. record (led_object (led to) q.0) { at = sym stays k });
+        is = sym q.2 ∙ (λ k. record (led_object (option_map to) q.0) { at = sym stays k });
       }
 
   pub came : (o' : Located) → In (objects_in (chunks_of ks')) o' → Came o'

@@ -1,6 +1,7 @@
 -- The memory behind the shared value, as contracts see it: for each task its heap and frames, its remembered set, and
 -- who owns each chunk.
 use Rattle.std.specs.Prelude.{ℕ, suc, ℤ, pos, Bool, false, not, Option, Some, None, List, ◌≡◌, ◌==◌, ◌&&◌, [], ◌∷◌, filter, map, if◌then◌else◌}
+use Rattle.std.specs.Option.{option_map}
 use Rattle.std.specs.List.{flat_map, list_any}
 use Rattle.object_layout.specs.declared.word.Addr.{Addr}
 use Rattle.object_layout.specs.Objects.{Located, led_object}
@@ -77,16 +78,9 @@ Lies ks n a = (o : Located) × In (objects_in ks) o × LiesAt n a o
 
 -- WHERE REFERENCES ARE LED
 
-abbrev pub led : (Addr → Addr) → Option Addr → Option Addr
-led f None = None
-led f (Some a) = Some (f a)
-
--- an object that was copied, and a frame, each with its references led
+-- an object that was copied, with its references led
 abbrev pub copied_object : (Addr → Addr) → Located → Located
-copied_object f o = record (led_object (led f) o) { at = f o.at }
-
-abbrev pub led_frame : (Addr → Addr) → Frame → Frame
-led_frame f x = record x { refs = map (led f) x.refs }
+copied_object f o = record (led_object (option_map f) o) { at = f o.at }
 
 abbrev pub is_source : Addr → ℕ → Source → Bool
 is_source a i s = (s.object.chunk == a.chunk) && ((s.object.offset == a.offset) && (s.field == i))
@@ -94,7 +88,7 @@ is_source a i s = (s.object.chunk == a.chunk) && ((s.object.offset == a.offset) 
 -- the reference fields of the object at a, from the i-th on, with the remembered ones led
 abbrev pub rewritten_refs : (Addr → Addr) → List Source → Addr → ℕ → List (Option Addr) → List (Option Addr)
 rewritten_refs f ss a i [] = []
-rewritten_refs f ss a i (r ∷ rs) = (if list_any (is_source a i) ss then led f r else r) ∷ rewritten_refs f ss a (suc i) rs
+rewritten_refs f ss a i (r ∷ rs) = (if list_any (is_source a i) ss then option_map f r else r) ∷ rewritten_refs f ss a (suc i) rs
 
 abbrev pub rewritten : (Addr → Addr) → List Source → Located → Located
 rewritten f ss o = record o { refs = rewritten_refs f ss o.at 0 o.refs }

@@ -6,7 +6,7 @@ use Rattle.image_check.specs.declared.line.Task.{Task}
 use Rattle.image_check.specs.declared.line.Chunk.{Chunk}
 use Rattle.image_check.specs.declared.line.Remembered.{Remembered}
 use Rattle.image_check.specs.Line.{state_word}
-use Rattle.run_trace.specs.Line.{spaced}
+pub use Rattle.run_trace.specs.Line.{line}
 use Rattle.heap_image.specs.declared.picture.Picked.{Picked}
 use Rattle.heap_image.specs.declared.picture.Picture.{Picture}
 
@@ -57,10 +57,6 @@ abbrev pub number_text : ℤ → List ℕ
 number_text n = 32 ∷ signed_decimal n
 
 -- LINES
-
--- words with one space between them, and a line feed
-abbrev pub line : List (List ℕ) → List ℕ
-line ws = spaced ws ++ 10 ∷ []
 
 abbrev pub task_line : Task → List ℕ
 task_line t = line (task_words t)

@@ -1,5 +1,6 @@
 -- Entries that mark a heap: why they are refused, and what they leave.
 use Rattle.std.proofs.Common.{◌≡◌, ◌==◌, ◌↔◌, ℕ, ◌+◌, ◌-◌, ◌^◌, ◌<◌, ◌≤◌, arith, All, Bool, true, false, min, Option, Some, None, List, length, is_none, is_some, slice_get, slice_set, take, inl, inr, refl, ap, sym, subst, ◌∙◌, le-leb}
+use Rattle.std.specs.Option.{option_flatten}
 use Rattle.std.specs.Prelude.{IfSome}
 use Rattle.std.proofs.lemmas.Bool.{cases_lt}
 use Rattle.listed.proofs.Members.{got_other, got_same, got_within}
@@ -37,7 +38,7 @@ use Rattle.shared_value.specs.Entered.{refused}
 use Rattle.shared_value.specs.Fits.{AllFit}
 use Rattle.task_homes.specs.RestingHeaps.{refs_in}
 use Rattle.shared_value.specs.Roots.{heaps_of, sources_of}
-use Rattle.shared_value.specs.SharedValue.{SharedValue, accounts, flat, home_in, marks_at, noted_in, rest_at, value_of}
+use Rattle.shared_value.specs.SharedValue.{SharedValue, accounts, home_in, marks_at, noted_in, rest_at, value_of}
 use Rattle.shared_value.specs.Stands.{IsSharedValue}
 use Rattle.shared_value.proofs.HeapWords.{words_are}
 use Rattle.shared_value.proofs.EntryMade.{entry_on}
@@ -222,6 +223,6 @@ module _ (w : SharedValue) (I : IsSharedValue w) (k t n : ℕ) (free : refused w
 -- a marking that was taken out and put back
 pub put_back : (ms : List (Option MarkingValue)) (t : ℕ) (o : Option MarkingValue) (m : MarkingValue) → t < length ms → (marks_at (slice_set (slice_set ms t o) t (Some m)) t ≡ Some m) × ((u : ℕ) → (u ≡ t → ⊥) → marks_at (slice_set (slice_set ms t o) t (Some m)) u ≡ marks_at ms u)
 put_back ms t o m lt = (
-  ap flat (got_same (slice_set ms t o) t o (Some m) (got_set ms t o lt)),
-  λ u ne. ap flat (got_other (slice_set ms t o) t u (Some m) ne ∙ got_other ms t u o ne),
+  ap option_flatten (got_same (slice_set ms t o) t o (Some m) (got_set ms t o lt)),
+  λ u ne. ap option_flatten (got_other (slice_set ms t o) t u (Some m) ne ∙ got_other ms t u o ne),
 )

@@ -1,5 +1,6 @@
 -- What is there of a heap that is being marked.
 use Rattle.std.proofs.Common.{◌≡◌, ◌==◌, ◌↔◌, ℕ, ◌<◌, Bool, true, false, IsTrue, Option, Some, None, List, is_some, length, slice_get, refl, sym, subst}
+use Rattle.std.specs.Option.{option_flatten}
 use Rattle.std.proofs.lemmas.Bool.{eq-eqb, eqb-true}
 use Rattle.listed.proofs.Members.{got_within}
 use Rattle.hh_model.specs.Step.{is_waiting}
@@ -16,7 +17,7 @@ use Rattle.core_relation.specs.Memory.{Memory}
 use Rattle.core_relation.specs.Whole.{StandsFor}
 use Rattle.task_homes.specs.declared.task_at_rest.Rest.{Rest}
 use Rattle.shared_value.specs.Causes.{or_else}
-use Rattle.shared_value.specs.SharedValue.{SharedValue, accounts, flat, marks_at, rest_at, totals_of, value_of}
+use Rattle.shared_value.specs.SharedValue.{SharedValue, accounts, marks_at, rest_at, totals_of, value_of}
 use Rattle.shared_value.specs.Stands.{IsSharedValue}
 use Rattle.shared_value.proofs.BeforeTheEnd.{stands_now}
 use Rattle.heap_marking.specs.MarkCauses.{marking_cause, waiting_cause}
@@ -73,7 +74,7 @@ module _ (w : SharedValue) (I : IsSharedValue w) (on : (accounts w).end ≡ None
       within : (ms : List (Option MarkingValue)) → is_some (marks_at ms t) ≡ true → t < length ms
       within ms h = by (slice_get ms t) refl h
         where
-          by : (o : Option (Option MarkingValue)) → slice_get ms t ≡ o → is_some (flat o) ≡ true → t < length ms
+          by : (o : Option (Option MarkingValue)) → slice_get ms t ≡ o → is_some (option_flatten o) ≡ true → t < length ms
           by None e h = absurd cc
           by (Some o) e h = got_within ms t o e
 

@@ -1,5 +1,6 @@
 -- A sweep is entered: the shared value that it leaves, and the parts.
 use Rattle.std.proofs.Common.{◌≡◌, ℕ, ◌-◌, ◌==◌, ◌++◌, arith, Bool, true, false, Option, Some, None, is_none, List, [], ◌∷◌, length, length-set, option_map, slice_get, slice_set, inl, inr, refl, ap, ap₂, sym, subst, ◌∙◌}
+use Rattle.std.specs.Option.{option_flatten}
 use Rattle.std.specs.Prelude.{◌≢◌, IsSome}
 use Rattle.std.proofs.lemmas.Bool.{cases_eq, eqb-true}
 use Rattle.std.proofs.lemmas.Option.{same_Some}
@@ -36,7 +37,7 @@ use Rattle.shared_value.specs.Entered.{refused}
 use Rattle.shared_value.specs.Fits.{AllFit, Fits, part_of}
 use Rattle.shared_value.specs.Measured.{AreMeasured, KeepsUnits, RestsAreMeasured}
 use Rattle.shared_value.specs.Stands.{HeapForm, IsSharedValue}
-use Rattle.shared_value.specs.SharedValue.{SharedValue, accounts, flat, home_in, marks_at, noted_in, rest_at, totals_of, value_of}
+use Rattle.shared_value.specs.SharedValue.{SharedValue, accounts, home_in, marks_at, noted_in, rest_at, totals_of, value_of}
 use Rattle.shared_value.proofs.EntryMade.{entry_on}
 use Rattle.shared_value.proofs.MarkingEntryMade.{entered_marks, marked_fits, marked_world}
 use Rattle.shared_value.proofs.UnitsMeasured.{given_keeps, measured_kept, part_kept}
@@ -149,10 +150,10 @@ module _ (w : SharedValue) (k t given : ℕ) (I : IsSharedValue w) (free : refus
     v' = value_of w'
 
     rest_then : rest_at homes t ≡ Some rest'
-    rest_then = ap flat (got_same w.homes t (Some r) (Some rest') (some_flat (slice_get w.homes t) r there))
+    rest_then = ap option_flatten (got_same w.homes t (Some r) (Some rest') (some_flat (slice_get w.homes t) r there))
 
     rest_off : (u : ℕ) → (u ≡ t → ⊥) → rest_at homes u ≡ rest_at w.homes u
-    rest_off u ne = ap flat (got_other w.homes t u (Some rest') ne)
+    rest_off u ne = ap option_flatten (got_other w.homes t u (Some rest') ne)
 
     noted : ((noted_in (slice_get sets t)).sources ≡ (noted_in (slice_get w.sets t)).sources) × ((noted_in (slice_get sets t)).keeps ≡ false)
     noted = noted_by (slice_get w.sets t) (slice_get sets t) kept_none
@@ -170,7 +171,7 @@ module _ (w : SharedValue) (k t given : ℕ) (I : IsSharedValue w) (free : refus
     notes : OthersNotes v v' t
     notes = record {
       none = noted.1;
-      others = λ u ne. record { keeps = ap (λ o. (noted_in o).keeps) (others u ne); kept = ap (λ o. (noted_in o).kept) (others u ne); marked = ap flat (got_other w.marks t u None ne) };
+      others = λ u ne. record { keeps = ap (λ o. (noted_in o).keeps) (others u ne); kept = ap (λ o. (noted_in o).kept) (others u ne); marked = ap option_flatten (got_other w.marks t u None ne) };
     }
 
     counts : CountsGo w.program w.settings l (totals_of w) (totals_of w') k (Sweep t given)

@@ -1,5 +1,6 @@
 -- Where the names come from that an instruction leaves in registers and fields.
 use Rattle.std.proofs.Common.{◌≡◌, ℕ, pos, zero, suc, ◌+◌, ◌==◌, Bool, true, false, cond, Option, Some, None, List, [], ◌∷◌, ◌++◌, length, set, slice_get, slice_set, ◌⊎◌, inl, inr, refl, ap, sym, subst, ◌∙◌, replicate, is_some}
+use Rattle.std.specs.Option.{option_flatten}
 use Rattle.listed.proofs.Members.{In, got_in}
 use Rattle.listed.proofs.Places.{in_take}
 use Rattle.hh_lang.specs.declared.instr.Instr.{Instr}
@@ -9,7 +10,7 @@ use Rattle.hh_model.specs.declared.data.Object.{Object}
 use Rattle.hh_model.specs.declared.data.Frame.{Frame}
 use Rattle.hh_model.specs.declared.data.Trap.{Trap}
 use Rattle.hh_model.specs.declared.data.Trap.TheVariants.{Nil, Range, Frozen, Div as DivTrap, Size}
-use Rattle.hh_model.specs.Effect.{Effect, Goes, Prints, Calls, Forks, Returns, Traps, Stops, Setting, effect, object_at, put_object, row_of, or_trap, with_object, made, read_effect, int_in, ref_in, with_ref, onward, same_name, calculated, counts_in, place_in, flat, int_eq}
+use Rattle.hh_model.specs.Effect.{Effect, Goes, Prints, Calls, Forks, Returns, Traps, Stops, Setting, effect, object_at, put_object, row_of, or_trap, with_object, made, read_effect, int_in, ref_in, with_ref, onward, same_name, calculated, counts_in, place_in, int_eq}
 use Rattle.hh_model.specs.Precedence.{precedes}
 use Rattle.hh_model.specs.Names.{named, refs_of, refs_at, words_asked, words_for}
 use Rattle.hh_model.proofs.Stores.{put_cases, made_cases}
@@ -40,11 +41,11 @@ none_in zero n h = h
 none_in (suc k) n (inl e) = absurd cc
 none_in (suc k) n (inr h) = none_in k n h
 
-pub flat_at : (o : Option (Option Name)) (n : Name) → flat o ≡ Some n → o ≡ Some (Some n)
+pub flat_at : (o : Option (Option Name)) (n : Name) → option_flatten o ≡ Some n → o ≡ Some (Some n)
 flat_at None n e = absurd cc
 flat_at (Some r) n e = ap (λ x. Some x) e
 
-pub at_in : (refs : List (Option Name)) (i : ℕ) (n : Name) → flat (slice_get refs i) ≡ Some n → In refs (Some n)
+pub at_in : (refs : List (Option Name)) (i : ℕ) (n : Name) → option_flatten (slice_get refs i) ≡ Some n → In refs (Some n)
 at_in refs i n e = got_in refs i (Some n) (flat_at (slice_get refs i) n e)
 
 module _ (s : Setting) (f : Frame) (store : List (List Object)) (alloc : Option ℕ) where
@@ -175,7 +176,7 @@ effect_carries s f store (Newm d a b) =
 effect_carries s f store (Pack d r i) = made_carries s f store (Some (2 + r + i)) d _ refl (λ n h. in_take r f.refs (Some n) h)
 effect_carries s f store (Getr d o k) =
     object_carries s f store None o _ (λ n x reg is. trap_carries s f store None Range (place_in (length x.refs) (int_in f k)) _ (λ at e.
-    read_carries s f store None d n x (flat (slice_get x.refs at)) reg is (λ r e'. at_in x.refs at r e')))
+    read_carries s f store None d n x (option_flatten (slice_get x.refs at)) reg is (λ r e'. at_in x.refs at r e')))
 effect_carries s f store (Geti d o k) =
     object_carries s f store None o _ (λ n x reg is. trap_carries s f store None Range (place_in (length x.ints) (int_in f k)) _ (λ at e. (same_regs s f store None, old_fields s f store None)))
 effect_carries s f store (Putr o k v) =
@@ -193,7 +194,7 @@ effect_carries s f store (Freeze o) =
 effect_carries s f store (Cas d o k c v) =
     object_carries s f store None o _ (λ n x reg is. trap_carries s f store None Range (place_in (length x.refs) (int_in f k)) _ (λ at e.
     either_carries s f store None x.mutable _ (Traps Frozen)
-    (either_carries s f store None (same_name (flat (slice_get x.refs at)) (ref_in f c)) _ _
+    (either_carries s f store None (same_name (option_flatten (slice_get x.refs at)) (ref_in f c)) _ _
     (same_regs s f store None, written s f store None n x at (ref_in f v) reg is (λ r e'. at_in f.refs v r e'))
     ((same_regs s f store None, old_fields s f store None))) tt))
 effect_carries s f store (Call g) = tt

@@ -4,6 +4,7 @@ use Rattle.std.proofs.lemmas.List.{length-replicate}
 use Rattle.std.proofs.lemmas.Option.{same_Some}
 use Rattle.hh_model.specs.declared.data.Strand.{Strand}
 use Rattle.std.proofs.Common.{◌≡◌, ℕ, ℤ, zero, suc, pos, negsuc, ◌+◌, ◌≤◌, nat_le, take, replicate, arith, ◌==◌, Bool, true, false, cond, Option, Some, None, List, [], ◌∷◌, ◌++◌, length, slice_get, slice_set, ◌⊎◌, inl, inr, refl, sym, subst, eqb-true, ◌<◌, nat_lt}
+use Rattle.std.specs.Option.{option_flatten}
 use Rattle.listed.proofs.Members.{In}
 use Rattle.listed.proofs.Places.{in_take}
 use Rattle.hh_lang.specs.declared.instr.Instr.{Instr}
@@ -13,7 +14,7 @@ use Rattle.hh_model.specs.declared.data.Object.{Object}
 use Rattle.hh_model.specs.declared.data.Frame.{Frame}
 use Rattle.hh_model.specs.declared.data.Trap.{Trap}
 use Rattle.hh_model.specs.declared.data.Trap.TheVariants.{Nil, Range, Frozen, Div as DivTrap, Size}
-use Rattle.hh_model.specs.Effect.{Effect, Goes, Prints, Calls, Forks, Returns, Traps, Stops, Setting, effect, object_at, put_object, row_of, or_trap, with_object, made, read_effect, int_in, ref_in, onward, same_name, calculated, counts_in, place_in, flat, with_int}
+use Rattle.hh_model.specs.Effect.{Effect, Goes, Prints, Calls, Forks, Returns, Traps, Stops, Setting, effect, object_at, put_object, row_of, or_trap, with_object, made, read_effect, int_in, ref_in, onward, same_name, calculated, counts_in, place_in, with_int}
 use Rattle.hh_model.specs.Precedence.{precedes}
 use Rattle.hh_model.specs.Names.{refs_of, refs_at}
 use Rattle.hh_model.specs.Store.{IsWriteTo}
@@ -48,7 +49,7 @@ abbrev pub WritesField : Frame → Instr → Object → Object → Type 0
 WritesField f (Putr o k v) x y = (x.mutable ≡ true) × ((at : ℕ) × (place_in (length x.refs) (int_in f k) ≡ Some at) × (y.refs ≡ slice_set x.refs at (ref_in f v)))
 WritesField f (Cas d o k e v) x y =
     (x.mutable ≡ true) × ((at : ℕ) × (place_in (length x.refs) (int_in f k) ≡ Some at) × (y.refs ≡ slice_set x.refs at (ref_in f v))
-    × (same_name (flat (slice_get x.refs at)) (ref_in f e) ≡ true))
+    × (same_name (option_flatten (slice_get x.refs at)) (ref_in f e) ≡ true))
 WritesField f _ x y = y.refs ≡ x.refs
 
 pub record Writes (s : Setting) (f : Frame) (instr : Instr) (store store' : List (List Object)) : Type 0 where
@@ -224,7 +225,7 @@ effect_changes s f store (Newm d a b) =
 effect_changes s f store (Pack d r i) = made_changes s f (Pack d r i) store d _ refl (λ n h. (refl, in_take r f.refs (Some n) h)) (inr (take_few r f.refs, take_few i f.ints))
 effect_changes s f store (Getr d o k) =
     object_changes s f (Getr d o k) store o _ (λ n x reg is. trap_changes s f (Getr d o k) store Range (place_in (length x.refs) (int_in f k)) _ (λ at e.
-    read_changes s f (Getr d o k) store d n x (flat (slice_get x.refs at)) (at_in f.refs o n reg) is (λ r e'. at_in x.refs at r e') (λ r e'. record {
+    read_changes s f (Getr d o k) store d n x (option_flatten (slice_get x.refs at)) (at_in f.refs o n reg) is (λ r e'. at_in x.refs at r e') (λ r e'. record {
       target = d;
       register = o;
       index = k;
@@ -253,7 +254,7 @@ effect_changes s f store (Freeze o) =
 effect_changes s f store (Cas d o k c v) =
     object_changes s f (Cas d o k c v) store o _ (λ n x reg is. trap_changes s f (Cas d o k c v) store Range (place_in (length x.refs) (int_in f k)) _ (λ at e.
     either_changes s f (Cas d o k c v) store x.mutable _ (Traps Frozen)
-    (λ h. either_changes s f (Cas d o k c v) store (same_name (flat (slice_get x.refs at)) (ref_in f c)) _ _
+    (λ h. either_changes s f (Cas d o k c v) store (same_name (option_flatten (slice_get x.refs at)) (ref_in f c)) _ _
     (λ h'. set_ref s f (Cas d o k c v) store o v at n x reg is reg h (h, (at, e, refl, h')) (onward (with_int f d (pos 1)))) (λ h'. inl refl)) (λ h. tt)))
 effect_changes s f store (Call g) = tt
 effect_changes s f store (Par g h) = refl

@@ -1,5 +1,6 @@
 -- Each frame of each task has a next instruction.
 use Rattle.std.proofs.Common.{◌≡◌, ℕ, ℤ, zero, suc, pos, ◌+◌, ◌-◌, ◌<◌, ◌==◌, Bool, true, false, cond, Option, Some, None, List, [], ◌∷◌, ◌++◌, length, slice_get, slice_set, nat_lt, IsSomeAnd, inl, inr, refl, ap, sym, subst, ◌∙◌, arith}
+use Rattle.std.specs.Option.{option_flatten}
 use Rattle.std.proofs.lemmas.Option.{slice_get_within}
 use Rattle.listed.proofs.Members.{In, in_append_cases, in_from_contains, got_cases}
 use Rattle.listed.proofs.Places.{all_at, got_some}
@@ -16,7 +17,7 @@ use Rattle.hh_model.specs.declared.data.Status.TheVariants.{Waiting}
 use Rattle.hh_model.specs.declared.data.Trap.{Trap}
 use Rattle.hh_model.specs.declared.data.Trap.TheVariants.{Nil, Range, Frozen, Div as DivTrap, Size}
 use Rattle.hh_model.specs.declared.data.State.{State}
-use Rattle.hh_model.specs.Effect.{Effect, Goes, Prints, Calls, Forks, Returns, Traps, Stops, Setting, effect, object_at, put_object, or_trap, with_object, read_effect, int_in, ref_in, int_eq, onward, same_name, calculated, counts_in, place_in, flat}
+use Rattle.hh_model.specs.Effect.{Effect, Goes, Prints, Calls, Forks, Returns, Traps, Stops, Setting, effect, object_at, put_object, or_trap, with_object, read_effect, int_in, ref_in, int_eq, onward, same_name, calculated, counts_in, place_in}
 use Rattle.hh_model.specs.Precedence.{precedes}
 use Rattle.hh_model.specs.Step.{fetched, step, start, run_from, root, stepped, follow, setting, can_step, forked, child, entry_frame, frame_limit, depth_limit, returned_to, last_return, child_ended_by, ended_task, joined_task, resumed, join_of, result_of, back_in, last_of, front_of, is_left, sibling, kept_by, or_same}
 use Rattle.hh_model.specs.NextLaw.{HasNext, AlwaysNext, PacksAreFew}
@@ -125,7 +126,7 @@ module _ (p : ProgramText) (s : Setting) (f : Frame) (store : List (List Object)
     effect_leads (Pack d r i) e = onward_next p I f line at (λ h. subst IsReturn e h)
     effect_leads (Getr d o k) e =
         object_leads (ref_in f o) _ (λ n x. trap_leads Range (place_in (length x.refs) (int_in f k)) _ (λ i.
-        read_leads d (flat (slice_get x.refs i)) (onward_next p I f line at (λ h. subst IsReturn e h))))
+        read_leads d (option_flatten (slice_get x.refs i)) (onward_next p I f line at (λ h. subst IsReturn e h))))
     effect_leads (Geti d o k) e =
         object_leads (ref_in f o) _ (λ n x. trap_leads Range (place_in (length x.ints) (int_in f k)) _ (λ i. onward_next p I f line at (λ h. subst IsReturn e h)))
     effect_leads (Putr o k v) e =
@@ -142,7 +143,7 @@ module _ (p : ProgramText) (s : Setting) (f : Frame) (store : List (List Object)
     effect_leads (Cas d o k c v) e =
         object_leads (ref_in f o) _ (λ n x. trap_leads Range (place_in (length x.refs) (int_in f k)) _ (λ i.
         either_leads x.mutable _ (Traps Frozen)
-        (either_leads (same_name (flat (slice_get x.refs i)) (ref_in f c)) _ _ (onward_next p I f line at (λ h. subst IsReturn e h)) (onward_next p I f line at (λ h. subst IsReturn e h))) tt))
+        (either_leads (same_name (option_flatten (slice_get x.refs i)) (ref_in f c)) _ _ (onward_next p I f line at (λ h. subst IsReturn e h)) (onward_next p I f line at (λ h. subst IsReturn e h))) tt))
     effect_leads (Call g) e = (subst (NamesExist (length p.functions) (length (fun p I f line at).0.code)) e (names p I f line at), onward_next p I f line at (λ h. subst IsReturn e h))
     effect_leads (Par g h) e =
         let two = subst (NamesExist (length p.functions) (length (fun p I f line at).0.code)) e (names p I f line at) in

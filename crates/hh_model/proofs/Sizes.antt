@@ -1,5 +1,6 @@
 -- Each frame of each task has 16 registers of each kind, and each object a bounded number of fields.
 use Rattle.std.proofs.Common.{◌≡◌, ℕ, ℤ, zero, suc, pos, ◌+◌, ◌-◌, ◌≤◌, ◌==◌, Bool, true, false, cond, Option, Some, None, List, [], ◌∷◌, ◌++◌, length, slice_get, slice_set, nat_lt, inl, inr, refl, ap, sym, subst, ◌∙◌, length-set, ◌⊎◌, arith, max}
+use Rattle.std.specs.Option.{option_flatten}
 use Rattle.listed.proofs.Members.{In, in_append_cases, in_from_contains, got_cases}
 use Rattle.hh_lang.specs.declared.instr.Instr.{Instr}
 use Rattle.hh_lang.specs.declared.instr.Instr.TheVariants.{Set, Mov, Movr, Nil as NilOf, Calc, Same, Jmp, Jz, Newm, Pack, Getr, Geti, Putr, Puti, Cntr, Cnti, Freeze, Cas}
@@ -13,7 +14,7 @@ use Rattle.hh_model.specs.declared.data.Status.TheVariants.{Waiting}
 use Rattle.hh_model.specs.declared.data.Trap.{Trap}
 use Rattle.hh_model.specs.declared.data.Trap.TheVariants.{Nil, Range, Frozen, Div as DivTrap, Size}
 use Rattle.hh_model.specs.declared.data.State.{State}
-use Rattle.hh_model.specs.Effect.{Effect, Goes, Prints, Calls, Forks, Returns, Traps, Stops, Setting, effect, object_at, put_object, or_trap, with_object, read_effect, int_in, ref_in, int_eq, onward, same_name, calculated, counts_in, place_in, flat, flag}
+use Rattle.hh_model.specs.Effect.{Effect, Goes, Prints, Calls, Forks, Returns, Traps, Stops, Setting, effect, object_at, put_object, or_trap, with_object, read_effect, int_in, ref_in, int_eq, onward, same_name, calculated, counts_in, place_in, flag}
 use Rattle.hh_model.specs.Precedence.{precedes}
 use Rattle.hh_model.specs.Step.{fetched, step, start, run_from, run, root, stepped, follow, setting, can_step, forked, child, entry_frame, frame_limit, depth_limit, returned_to, last_return, child_ended_by, ended_task, joined_task, resumed, join_of, result_of, back_in, last_of, front_of, is_left, sibling, kept_by, or_same}
 use Rattle.hh_model.proofs.Closed.{grown_cases, three_cases}
@@ -63,7 +64,7 @@ module _ (s : Setting) (f : Frame) (store : List (List Object)) where
   effect_keeps_width (Jz a to) = jz_keeps (int_eq (int_in f a) (pos 0)) to store
   effect_keeps_width (Newm d a b) = trap_keeps Size (counts_in s.field_limit (int_in f a) (int_in f b)) _ (λ n. (refl, length-set f.refs d _))
   effect_keeps_width (Pack d r i) = (refl, length-set f.refs d _)
-  effect_keeps_width (Getr d o k) = object_keeps (ref_in f o) _ (λ n x. trap_keeps Range (place_in (length x.refs) (int_in f k)) _ (λ i. read_keeps d (flat (slice_get x.refs i))))
+  effect_keeps_width (Getr d o k) = object_keeps (ref_in f o) _ (λ n x. trap_keeps Range (place_in (length x.refs) (int_in f k)) _ (λ i. read_keeps d (option_flatten (slice_get x.refs i))))
   effect_keeps_width (Geti d o k) = object_keeps (ref_in f o) _ (λ n x. trap_keeps Range (place_in (length x.ints) (int_in f k)) _ (λ i. (length-set f.ints d _, refl)))
   effect_keeps_width (Putr o k v) = object_keeps (ref_in f o) _ (λ n x. trap_keeps Range (place_in (length x.refs) (int_in f k)) _ (λ i. either_keeps x.mutable _ (Traps Frozen) (refl, refl) tt))
   effect_keeps_width (Puti o k v) = object_keeps (ref_in f o) _ (λ n x. trap_keeps Range (place_in (length x.ints) (int_in f k)) _ (λ i. either_keeps x.mutable _ (Traps Frozen) (refl, refl) tt))
@@ -72,7 +73,7 @@ module _ (s : Setting) (f : Frame) (store : List (List Object)) where
   effect_keeps_width (Freeze o) = object_keeps (ref_in f o) _ (λ n x. either_keeps (s.owner n.task == s.task) (Goes (onward f) (put_object store n (record x { mutable = false }))) (Traps Frozen) (refl, refl) tt)
   effect_keeps_width (Cas d o k c v) =
       object_keeps (ref_in f o) _ (λ n x. trap_keeps Range (place_in (length x.refs) (int_in f k)) _ (λ i.
-      either_keeps x.mutable _ (Traps Frozen) (either_keeps (same_name (flat (slice_get x.refs i)) (ref_in f c)) _ _ (length-set f.ints d (pos 1), refl) (length-set f.ints d (pos 0), refl)) tt))
+      either_keeps x.mutable _ (Traps Frozen) (either_keeps (same_name (option_flatten (slice_get x.refs i)) (ref_in f c)) _ _ (length-set f.ints d (pos 1), refl) (length-set f.ints d (pos 0), refl)) tt))
   effect_keeps_width _ = tt
 
 -- STEPS

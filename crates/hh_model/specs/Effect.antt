@@ -1,5 +1,6 @@
 -- What one instruction does, seen by the task that takes it: its top frame, and the store.
 use Rattle.std.specs.Prelude.{ℕ, ℤ, pos, negsuc, ◌+◌, ◌==◌, ◌&&◌, Bool, true, false, Option, Some, None, List, [], ◌∷◌, ◌++◌, slice_get, slice_set, length, if◌then◌else◌, nat_lt, nat_le, take, replicate, int_rem, int_lt, unwrap_or}
+use Rattle.std.specs.Option.{option_flatten}
 use Rattle.std.specs.Int.{int_wrapping_add, int_wrapping_sub, int_wrapping_mul, int_wrapping_div, w64}
 use Rattle.hh_lang.specs.declared.instr.Operator.{Operator}
 use Rattle.hh_lang.specs.declared.instr.Operator.TheVariants.{Add, Sub, Mul, Div, Rem, Lt, Eq}
@@ -34,13 +35,9 @@ put_object store n o = slice_set store n.task (slice_set (row_of (slice_get stor
 abbrev pub int_in : Frame → ℕ → ℤ
 int_in f i = unwrap_or (slice_get f.ints i) (pos 0)
 
-abbrev pub flat : Option (Option Name) → Option Name
-flat None = None
-flat (Some o) = o
-
 -- what a reference register holds
 abbrev pub ref_in : Frame → ℕ → Option Name
-ref_in f i = flat (slice_get f.refs i)
+ref_in f i = option_flatten (slice_get f.refs i)
 
 abbrev pub with_int : Frame → ℕ → ℤ → Frame
 with_int f i x = record f { ints = slice_set f.ints i x }
@@ -154,7 +151,7 @@ read_effect s f store d (Some n) =
 -- reference, and d is 1; else d is 0
 abbrev pub swap_effect : Frame → List (List Object) → ℕ → ℕ → ℕ → Name → ℕ → Object → Effect
 swap_effect f store d e v n at x =
-    if same_name (flat (slice_get x.refs at)) (ref_in f e)
+    if same_name (option_flatten (slice_get x.refs at)) (ref_in f e)
     then Goes (onward (with_int f d (pos 1))) (put_object store n (record x { refs = slice_set x.refs at (ref_in f v) }))
     else Goes (onward (with_int f d (pos 0))) store
 
@@ -176,7 +173,7 @@ effect s f store (Newm d a b) =
 effect s f store (Pack d r i) = made s f store d (record { strand = s.strand; mutable = false; refs = take r f.refs; ints = take i f.ints })
 effect s f store (Getr d o k) =
     with_object store (ref_in f o) (λ n x. or_trap Range (place_in (length x.refs) (int_in f k)) (λ at.
-    read_effect s f store d (flat (slice_get x.refs at))))
+    read_effect s f store d (option_flatten (slice_get x.refs at))))
 effect s f store (Geti d o k) =
     with_object store (ref_in f o) (λ n x. or_trap Range (place_in (length x.ints) (int_in f k)) (λ at.
     Goes (onward (with_int f d (unwrap_or (slice_get x.ints at) (pos 0)))) store))

@@ -12,7 +12,8 @@ use Rattle.shared_value.specs.Stands.{IsSharedValue}
 use Rattle.shared_value.specs.Fits.{Fits}
 use Rattle.shared_value.specs.Next.{part_asks}
 use Rattle.shared_value.specs.Causes.{or_else}
-use Rattle.shared_value.specs.Due.{due_cause, is_part_due}
+use Rattle.task_machine.specs.Steps.{is_part_due}
+use Rattle.shared_value.specs.Due.{due_cause}
 use Rattle.shared_value.proofs.NextStepAsks.{asks_is, since_is}
 use Rattle.shared_value.proofs.CollectionUnderWay.{at_part}
 

@@ -1,12 +1,12 @@
 -- References led to where their objects are now.
-use Rattle.std.specs.Prelude.{List, [], ◌∷◌, Option, Some, None, map, nat_lt, if◌then◌else◌, All, length, unwrap_or}
+use Rattle.std.specs.Prelude.{List, [], ◌∷◌, Option, Some, None, nat_lt, if◌then◌else◌, All, length, unwrap_or}
 use Rattle.object_layout.specs.declared.word.Addr.{Addr}
 use Rattle.object_layout.specs.Cell.{Cell, IsObject, moved_to}
 use Rattle.object_layout.specs.ChunkValue.{ChunkValue}
 use Rattle.object_layout.specs.Chunks.{cell_of, place_of, put_object}
 pub use Rattle.object_layout.specs.Objects.{led_cell, led_chunk}
 use Rattle.remembered_set.specs.Moved.{new_of}
-use Rattle.task_frames.specs.declared.frames.Frame.{Frame}
+pub use Rattle.task_frames.specs.FramesValue.{led_frame}
 use Rattle.leaf_copy_gc.specs.declared.lists.Survivor.{Survivor}
 use Rattle.leaf_copy_gc.specs.Laid.{is_small}
 use Rattle.leaf_copy_gc.specs.Search.{IsTarget}
@@ -20,10 +20,6 @@ new_address moved a = unwrap_or (new_of moved a) a
 abbrev pub redirected : List (Addr × Addr) → Option Addr → Option Addr
 redirected moved None = None
 redirected moved (Some a) = Some (new_address moved a)
-
--- a frame with each reference led elsewhere, and nothing else changed
-abbrev pub led_frame : (Option Addr → Option Addr) → Frame → Frame
-led_frame f x = record x { refs = map f x.refs }
 
 -- ---- by the addresses that were left in the old heap
 

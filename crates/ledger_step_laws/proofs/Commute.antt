@@ -1,5 +1,6 @@
 -- Private steps of a task come to the same before and after what others do: the task, its heap's account and its objects.
 use Rattle.std.proofs.Common.{◌≡◌, ℕ, zero, suc, pos, ◌+◌, ◌==◌, ◌&&◌, ◌||◌, ◌<◌, not, Bool, true, false, cond, Option, Some, None, List, [], ◌∷◌, ◌++◌, length, slice_get, slice_set, replicate, ◌⊎◌, inl, inr, refl, ap, ap₂, sym, subst, ◌∙◌, arith, is_none, nat_lt, length-set}
+use Rattle.std.specs.Option.{option_flatten}
 use Rattle.std.proofs.lemmas.Bool.{false≢true, and_parts, and_from, eqb-true, eq-eqb, cases_eq, or_cases, or_left, or_right, not-true}
 use Rattle.std.proofs.lemmas.Option.{same_Some}
 use Rattle.listed.proofs.Members.{got_same, got_other, got_within, In}
@@ -17,7 +18,7 @@ use Rattle.hh_model.specs.declared.data.Trap.TheVariants.{Nil, Range, Frozen, Di
 use Rattle.hh_model.specs.declared.data.End.{End}
 use Rattle.hh_model.specs.declared.data.End.TheVariants.{Trapped}
 use Rattle.hh_model.specs.declared.data.State.{State}
-use Rattle.hh_model.specs.Effect.{Effect, Goes, Stops, Traps, Setting, effect, made, row_of, object_at, put_object, counts_in, int_in, ref_in, or_trap, with_object, read_effect, calculated, place_in, flat, same_name, onward, with_ref}
+use Rattle.hh_model.specs.Effect.{Effect, Goes, Stops, Traps, Setting, effect, made, row_of, object_at, put_object, counts_in, int_in, ref_in, or_trap, with_object, read_effect, calculated, place_in, same_name, onward, with_ref}
 use Rattle.hh_model.specs.Names.{refs_of, task_names}
 use Rattle.hh_model.specs.Precedence.{precedes}
 use Rattle.hh_model.specs.Store.{IsStored}
@@ -137,12 +138,12 @@ module _ (l l' : Ledger) (u : ℕ) (x : Task) (K : Knows l) (K' : Knows l') (A :
     put f n old y mine e = goes f _ _ (inr (inr (n, y, mine, (old, e), refl, refl)))
 
     -- reads of its own objects go by either account
-    reads : (o : ℕ) (n : Name) (y : Object) (d at : ℕ) → ref_in x.top o ≡ Some n → own l n ≡ u → object_at m.store n ≡ Some y → Good (read_effect s x.top m.store d (flat (slice_get y.refs at))) (read_effect s' x.top m'.store d (flat (slice_get y.refs at)))
+    reads : (o : ℕ) (n : Name) (y : Object) (d at : ℕ) → ref_in x.top o ≡ Some n → own l n ≡ u → object_at m.store n ≡ Some y → Good (read_effect s x.top m.store d (option_flatten (slice_get y.refs at))) (read_effect s' x.top m'.store d (option_flatten (slice_get y.refs at)))
     reads o n y d at e mine there =
         let held : In (task_names x) n = names_run x n (runs_is x.status run) (in_registers (x.top ∷ x.below) x.top n (inl refl) (at_in x.top.refs o n e)) in
         let R = (own_reads m K.sound.kept K.sound.apart K.stored u x at_u run n y held there mine).goes at d in
         let R' = (own_reads m' K'.sound.kept K'.sound.apart K'.stored u x at_u' run n y held (A.store n mine ∙ there) (A.owned n mine)).goes at d in
-        subst (λ g. Good g (read_effect s' x.top m'.store d (flat (slice_get y.refs at)))) (sym R) (subst (λ g. Good (Goes (onward (with_ref x.top d (flat (slice_get y.refs at)))) m.store) g) (sym R') (same (onward (with_ref x.top d (flat (slice_get y.refs at))))))
+        subst (λ g. Good g (read_effect s' x.top m'.store d (option_flatten (slice_get y.refs at)))) (sym R) (subst (λ g. Good (Goes (onward (with_ref x.top d (option_flatten (slice_get y.refs at)))) m.store) g) (sym R') (same (onward (with_ref x.top d (option_flatten (slice_get y.refs at))))))
 
     mine : (r : Option Name) → owns m.tasks u r ≡ true → (n : Name) → r ≡ Some n → own l n ≡ u
     mine r h n e = eqb-true (owner_of m.tasks n.task) u (ap (owns m.tasks u) (sym e) ∙ h)
@@ -172,10 +173,10 @@ module _ (l l' : Ledger) (u : ℕ) (x : Task) (K : Knows l) (K' : Knows l') (A :
         by (Some o) e = here o e (precedes m.edges o.strand (strand_of u x)) refl
 
     -- reads of an immutable object above go by either account
-    reads_frozen : (n : Name) (y : Object) (d at : ℕ) → object_at m'.store n ≡ Some y → Good (read_effect s x.top m.store d (flat (slice_get y.refs at))) (read_effect s' x.top m'.store d (flat (slice_get y.refs at)))
-    reads_frozen n y d at e' = by (flat (slice_get y.refs at)) refl
+    reads_frozen : (n : Name) (y : Object) (d at : ℕ) → object_at m'.store n ≡ Some y → Good (read_effect s x.top m.store d (option_flatten (slice_get y.refs at))) (read_effect s' x.top m'.store d (option_flatten (slice_get y.refs at)))
+    reads_frozen n y d at e' = by (option_flatten (slice_get y.refs at)) refl
       where
-        by : (r : Option Name) → flat (slice_get y.refs at) ≡ r → Good (read_effect s x.top m.store d r) (read_effect s' x.top m'.store d r)
+        by : (r : Option Name) → option_flatten (slice_get y.refs at) ≡ r → Good (read_effect s x.top m.store d r) (read_effect s' x.top m'.store d r)
         by None e = same _
         by (Some q) e = follows q d (K'.stored.of_object n q (y, e') (subst (λ w. In (refs_of w) q) (sym e') (named_from_in y.refs q (at_in y.refs at q e))))
 
@@ -247,7 +248,7 @@ module _ (l l' : Ledger) (u : ℕ) (x : Task) (K : Knows l) (K' : Knows l') (A :
         (either (owner_of m.tasks n.task == u) _ (Traps Frozen) _ (Traps Frozen) (put _ n y _ own e') (traps Frozen (Traps Frozen))))
     good (Cas d o k e v) c h =
         object (ref_in x.top o) _ _ (mine _ (or_false _ h)) (λ n y is own e'. trap Range (place_in (length y.refs) (int_in x.top k)) _ _ (λ at.
-        either y.mutable _ (Traps Frozen) _ (Traps Frozen) (either (same_name (flat (slice_get y.refs at)) (ref_in x.top e)) _ _ _ _ (put _ n y _ own e') (same _)) (traps Frozen (Traps Frozen))))
+        either y.mutable _ (Traps Frozen) _ (Traps Frozen) (either (same_name (option_flatten (slice_get y.refs at)) (ref_in x.top e)) _ _ _ _ (put _ n y _ own e') (same _)) (traps Frozen (Traps Frozen))))
     good (Call g) c h = called_on g (nat_lt (length x.below + 1) frame_limit)
     good (Par f g) c h = absurd (false≢true (sym c))
     good Ret c h = λ e. let r = last_some x.below c in returned_on (last_of x.below) r.0 r.1

@@ -1,5 +1,6 @@
 -- The last step of an entry of steps is of one of the kinds.
 use Rattle.std.proofs.Common.{◌≡◌, ℕ, ℤ, zero, suc, pos, ◌+◌, ◌-◌, ◌%◌, ◌<◌, ◌==◌, ◌&&◌, ◌||◌, not, Bool, true, false, cond, arith, Option, Some, None, List, [], ◌∷◌, ◌++◌, length, length-set, slice_get, slice_set, ◌⊎◌, inl, inr, refl, ap, ap₂, sym, subst, ◌∙◌, is_none, is_some, nat_lt, replicate}
+use Rattle.std.specs.Option.{option_flatten}
 use Rattle.std.proofs.lemmas.Bool.{false≢true, both_ways, cases_eq, cond-true, cond-false, eqb-false, eqb-true, eq-eqb}
 use Rattle.std.proofs.lemmas.Option.{none-some}
 use Rattle.listed.proofs.Members.{got_same, got_other, got_within, same_view, view_step}
@@ -20,7 +21,7 @@ use Rattle.hh_model.specs.declared.data.End.{End}
 use Rattle.hh_model.specs.declared.data.End.TheVariants.{Trapped, Entangled, Done}
 use Rattle.hh_model.specs.declared.data.State.{State}
 use Rattle.hh_model.specs.Names.{words_asked, words_for}
-use Rattle.hh_model.specs.Effect.{with_int, Effect, Goes, Prints, Calls, Forks, Returns, Traps, Stops, Setting, effect, made, row_of, object_at, put_object, counts_in, int_in, ref_in, or_trap, with_object, read_effect, place_in, flat, same_name, onward}
+use Rattle.hh_model.specs.Effect.{with_int, Effect, Goes, Prints, Calls, Forks, Returns, Traps, Stops, Setting, effect, made, row_of, object_at, put_object, counts_in, int_in, ref_in, or_trap, with_object, read_effect, place_in, same_name, onward}
 use Rattle.hh_model.specs.Precedence.{precedes}
 use Rattle.hh_model.specs.Step.{entry_frame, setting, fetched, step, follow, returned_to, last_return, child_ended_by, or_same, last_of, ended_by, with_task, can_step, goes_on, depth_limit, frame_limit, owner_of, owner_in, path_in, parents, parent_of, resumed, joined, is_running, is_waiting, is_joined, is_over, is_left, sibling, kept_by, result_in, result_of, ended_task, join_of, joined_task, child, strand, strand_of, edge, runs, waits, asked, asked_by, asked_line}
 use Rattle.hh_model.proofs.Closed.{asked_at, waits_is}
@@ -704,7 +705,7 @@ module _ (p : ProgramText) (l : Ledger) (t : ℕ) (x : Task) (line : Line) (K : 
   good (Pack d r i) il c = no c
   good (Call g) il c = no c
   good (Getr d o i) il c =
-      other (ref_in x.top o) _ (ap (touched x.top) il) (foreign_by c) (λ n y touches foreign is. trap Range (place_in (length y.refs) (int_in x.top i)) _ (λ at. reads (ap (words_asked m.field_limit x.top) il) d (flat (slice_get y.refs at)) n y touches foreign is (λ f. subst (λ k. JustReads x k y f) (sym il) tt)))
+      other (ref_in x.top o) _ (ap (touched x.top) il) (foreign_by c) (λ n y touches foreign is. trap Range (place_in (length y.refs) (int_in x.top i)) _ (λ at. reads (ap (words_asked m.field_limit x.top) il) d (option_flatten (slice_get y.refs at)) n y touches foreign is (λ f. subst (λ k. JustReads x k y f) (sym il) tt)))
   good (Geti d o i) il c =
       other (ref_in x.top o) _ (ap (touched x.top) il) (foreign_by c) (λ n y touches foreign is. trap Range (place_in (length y.ints) (int_in x.top i)) _ (λ at. plain (ap (words_asked m.field_limit x.top) il) _ n y touches foreign is (λ f. subst (λ k. JustReads x k y f) (sym il) tt)))
   good (Putr o i v) il c =
@@ -724,7 +725,7 @@ module _ (p : ProgramText) (l : Ledger) (t : ℕ) (x : Task) (line : Line) (K : 
       frozen n y foreign false e = traps Frozen
   good (Cas d o i e v) il c =
       other (ref_in x.top o) _ (ap (touched x.top) il) (foreign_by c) (λ n y touches foreign is. trap_is Range (place_in (length y.refs) (int_in x.top i)) _ (λ at found.
-      either_is y.mutable _ (Traps Frozen) (λ may. either_is (same_name (flat (slice_get y.refs at)) (ref_in x.top e)) _ _
+      either_is y.mutable _ (Traps Frozen) (λ may. either_is (same_name (option_flatten (slice_get y.refs at)) (ref_in x.top e)) _ _
       (λ same. write_case (ap (words_asked m.field_limit x.top) il) _ n y _ touches foreign is (length-set y.refs at (ref_in x.top v))
       (subst (λ k. Wrote x k y (record y { refs = slice_set y.refs at (ref_in x.top v) }) (onward (with_int x.top d (pos 1)))) (sym il) (at, found, may, refl, refl, same)))
       (λ other. read_case (ap (words_asked m.field_limit x.top) il) _ n y touches foreign is

@@ -1,5 +1,6 @@
 -- A last step is of one kind alone: the task that it leaves, the end, and the instruction tell which.
 use Rattle.std.proofs.Common.{◌≡◌, ℕ, ℤ, Bool, true, false, cond, Option, Some, None, slice_get, slice_set, length, inl, inr, refl, ap, ap₂, sym, ◌∙◌}
+use Rattle.std.specs.Option.{option_flatten}
 use Rattle.listed.proofs.Members.{got_same}
 use Rattle.hh_lang.specs.declared.instr.Instr.{Instr}
 use Rattle.hh_lang.specs.declared.instr.Instr.TheVariants.{Set, Mov, Movr, Nil as NilOf, Calc, Same, Jmp, Jz, Newm, Pack, Getr, Geti, Putr, Puti, Cntr, Cnti, Freeze, Cas, Call, Par, Ret, Out}
@@ -13,7 +14,7 @@ use Rattle.hh_model.specs.declared.data.Status.TheVariants.{Running, Waiting, En
 use Rattle.hh_model.specs.declared.data.Task.{Task}
 use Rattle.hh_model.specs.declared.data.End.{End}
 use Rattle.hh_model.specs.declared.data.State.{State}
-use Rattle.hh_model.specs.Effect.{object_at, place_in, int_in, ref_in, same_name, flat, onward}
+use Rattle.hh_model.specs.Effect.{object_at, place_in, int_in, ref_in, same_name, onward}
 use Rattle.hh_model.specs.Step.{is_joined, is_over}
 use Rattle.run_ledger.specs.declared.data.Ledger.{Ledger}
 use Rattle.run_ledger.specs.Heaps.{let_go}
@@ -30,7 +31,7 @@ object_of l (Some n) = object_at l.machine.store n
 
 abbrev matched_at : Object → Option ℕ → Option Name → Bool
 matched_at y None e = false
-matched_at y (Some i) e = same_name (flat (slice_get y.refs i)) e
+matched_at y (Some i) e = same_name (option_flatten (slice_get y.refs i)) e
 
 abbrev matched : Option Object → ℤ → Option Name → Bool
 matched None k e = false
@@ -88,7 +89,7 @@ module _ (p : ProgramText) (l l' : Ledger) (t : ℕ) (x : Task) (line : Line) (I
       by None h = absurd cc
       by (Some y) h = by_over y.status h
 
-  swap_is : (b : Bool) (n : Name) (y : Object) (o k e : ℕ) (i : ℕ) → ref_in x.top o ≡ Some n → object_at l.machine.store n ≡ Some y → place_in (length y.refs) (int_in x.top k) ≡ Some i → same_name (flat (slice_get y.refs i)) (ref_in x.top e) ≡ b
+  swap_is : (b : Bool) (n : Name) (y : Object) (o k e : ℕ) (i : ℕ) → ref_in x.top o ≡ Some n → object_at l.machine.store n ≡ Some y → place_in (length y.refs) (int_in x.top k) ≡ Some i → same_name (option_flatten (slice_get y.refs i)) (ref_in x.top e) ≡ b
       → matched (object_of l (ref_in x.top o)) (int_in x.top k) (ref_in x.top e) ≡ b
   swap_is b n y o k e i r is found same =
       ap (λ q. matched (object_of l q) (int_in x.top k) (ref_in x.top e)) r ∙ (ap (λ q. matched q (int_in x.top k) (ref_in x.top e)) is ∙ (ap (λ q. matched_at y q (ref_in x.top e)) found ∙ same))

@@ -1,5 +1,6 @@
 -- A write of another task's object is a store of a reference or of a number.
 use Rattle.std.proofs.Common.{◌≡◌, ℕ, pos, true, Some, None, slice_get, length, inl, inr, ap, sym, subst, ◌∙◌}
+use Rattle.std.specs.Option.{option_flatten}
 use Rattle.std.proofs.lemmas.Bool.{cases_eq}
 use Rattle.listed.proofs.Members.{got_same}
 use Rattle.hh_lang.specs.declared.instr.Instr.TheVariants.{Putr, Puti, Cas}
@@ -7,7 +8,7 @@ use Rattle.hh_lang.specs.declared.program.Line.{Line}
 use Rattle.hh_lang.specs.Form.{ProgramText}
 use Rattle.hh_model.specs.declared.data.Task.{Task}
 use Rattle.hh_model.specs.declared.data.State.{State}
-use Rattle.hh_model.specs.Effect.{place_in, int_in, ref_in, same_name, flat}
+use Rattle.hh_model.specs.Effect.{place_in, int_in, ref_in, same_name}
 use Rattle.hh_model.specs.Step.{is_waiting, runs, waits}
 use Rattle.path_laws.proofs.Leaves.{waiting_stops}
 use Rattle.hh_model.proofs.Changes.{place_within}
@@ -53,7 +54,7 @@ module _ (p : ProgramText) (l l' : Ledger) (t : ℕ) (x : Task) (line : Line) (i
       )
 
   pub is_swap : (d o k e v : ℕ) → line.instr ≡ Cas d o k e v
-      → (i : ℕ) × (place_in (length W.object.refs) (int_in x.top k) ≡ Some i) × (same_name (flat (slice_get W.object.refs i)) (ref_in x.top e) ≡ true) × StoresOne (rested l t) (rested l' t) t x W.name W.object o v i (Some (d, pos 1))
+      → (i : ℕ) × (place_in (length W.object.refs) (int_in x.top k) ≡ Some i) × (same_name (option_flatten (slice_get W.object.refs i)) (ref_in x.top e) ≡ true) × StoresOne (rested l t) (rested l' t) t x W.name W.object o v i (Some (d, pos 1))
   is_swap d o k e v is =
       let how : Wrote x (Cas d o k e v) W.object W.written W.frame = subst (λ j. Wrote x j W.object W.written W.frame) is W.wrote in (
         how.0,

@@ -1,6 +1,7 @@
 -- The last step of an entry of steps: what kinds there are, and what each changes of the accounts. A step of t takes them from l
 -- to l'; x is the task before it and line the line that it takes.
 use Rattle.std.specs.Prelude.{◌≡◌, ◌⊎◌, ℕ, ℤ, pos, ◌+◌, true, false, Option, Some, None, [], ◌∷◌, ◌++◌, slice_get, slice_set, length}
+use Rattle.std.specs.Option.{option_flatten}
 use Rattle.hh_lang.specs.declared.instr.Instr.{Instr}
 use Rattle.hh_lang.specs.declared.instr.Instr.TheVariants.{Getr, Geti, Putr, Puti, Cntr, Cnti, Cas, Par, Out}
 use Rattle.hh_lang.specs.declared.program.Line.{Line}
@@ -14,7 +15,7 @@ use Rattle.hh_model.specs.declared.data.Task.{Task}
 use Rattle.hh_model.specs.declared.data.End.{End}
 use Rattle.hh_model.specs.declared.data.End.TheVariants.{Done}
 use Rattle.hh_model.specs.declared.data.State.{State}
-use Rattle.hh_model.specs.Effect.{Goes, effect, object_at, put_object, onward, int_in, ref_in, with_int, place_in, same_name, flat}
+use Rattle.hh_model.specs.Effect.{Goes, effect, object_at, put_object, onward, int_in, ref_in, with_int, place_in, same_name}
 use Rattle.hh_model.specs.Step.{asked, fetched, setting, is_running, kept_by, result_of, parents as parents_in}
 use Rattle.run_ledger.specs.declared.data.Ledger.{Ledger}
 use Rattle.run_ledger.specs.declared.data.RunEnd.TheVariants.{Machine}
@@ -52,7 +53,7 @@ JustReads x (Geti d o k) y f = Unit {0}
 JustReads x (Cntr d o) y f = Unit {0}
 JustReads x (Cnti d o) y f = Unit {0}
 JustReads x (Cas d o k e v) y f =
-    (i : ℕ) × (place_in (length y.refs) (int_in x.top k) ≡ Some i) × (y.mutable ≡ true) × (same_name (flat (slice_get y.refs i)) (ref_in x.top e) ≡ false) × (f ≡ onward (with_int x.top d (pos 0)))
+    (i : ℕ) × (place_in (length y.refs) (int_in x.top k) ≡ Some i) × (y.mutable ≡ true) × (same_name (option_flatten (slice_get y.refs i)) (ref_in x.top e) ≡ false) × (f ≡ onward (with_int x.top d (pos 0)))
 JustReads x _ y f = ⊥
 
 -- it reads an object that another task owns
@@ -76,7 +77,7 @@ Wrote x (Puti o k v) y y' f =
     (i : ℕ) × (place_in (length y.ints) (int_in x.top k) ≡ Some i) × (y.mutable ≡ true) × (y' ≡ record y { ints = slice_set y.ints i (int_in x.top v) }) × (f ≡ onward x.top)
 Wrote x (Cas d o k e v) y y' f =
     (i : ℕ) × (place_in (length y.refs) (int_in x.top k) ≡ Some i) × (y.mutable ≡ true) × (y' ≡ record y { refs = slice_set y.refs i (ref_in x.top v) }) × (f ≡ onward (with_int x.top d (pos 1)))
-    × (same_name (flat (slice_get y.refs i)) (ref_in x.top e) ≡ true)
+    × (same_name (option_flatten (slice_get y.refs i)) (ref_in x.top e) ≡ true)
 Wrote x _ y y' f = ⊥
 
 -- it writes one

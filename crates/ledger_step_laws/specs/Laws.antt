@@ -2,9 +2,10 @@
 use Rattle.run_trace.specs.Entry.{EntryValue}
 use Rattle.run_ledger.specs.Journals.{is_legal, ledger_of}
 use Rattle.hh_model.specs.declared.data.Edge.{Edge}
-use Rattle.hh_model.specs.Effect.{onward, place_in, int_in, ref_in, same_name, flat}
+use Rattle.hh_model.specs.Effect.{onward, place_in, int_in, ref_in, same_name}
 use Rattle.run_ledger.specs.Steps.{at_fork, join_heaps, task_step, task_steps, is_private}
 use Rattle.std.specs.Prelude.{◌≡◌, ◌⊎◌, ℕ, suc, ℤ, pos, true, false, Option, Some, None, List, slice_get, ◌+◌, ◌<◌, ◌++◌, ◌∷◌, [], slice_set, length}
+use Rattle.std.specs.Option.{option_flatten}
 use Rattle.hh_lang.specs.Form.{ProgramText, IsProgram}
 use Rattle.run_trace.specs.declared.entry.Kind.TheVariants.{Ran}
 use Rattle.run_ledger.specs.Entries.{refusal, after}
@@ -80,13 +81,13 @@ WritesAreStores =
 abbrev pub SwapsAreStores : Type 0
 SwapsAreStores =
     (p : ProgramText) (l l' : Ledger) (t : ℕ) (x : Task) (line : Line) → IdleRest l → IsAt p l t x line → (W : WritesOther l l' t x line) → (d o k e v : ℕ) → line.instr ≡ Cas d o k e v
-    → (i : ℕ) × (place_in (length W.object.refs) (int_in x.top k) ≡ Some i) × (same_name (flat (slice_get W.object.refs i)) (ref_in x.top e) ≡ true) × StoresOne (rested l t) (rested l' t) t x W.name W.object o v i (Some (d, pos 1))
+    → (i : ℕ) × (place_in (length W.object.refs) (int_in x.top k) ≡ Some i) × (same_name (option_flatten (slice_get W.object.refs i)) (ref_in x.top e) ≡ true) × StoresOne (rested l t) (rested l' t) t x W.name W.object o v i (Some (d, pos 1))
 
 -- and one that finds something else is a read, which sets it to 0
 abbrev pub MissesAreReads : Type 0
 MissesAreReads =
     (l l' : Ledger) (t : ℕ) (x : Task) (line : Line) → (R : ReadsOther l l' t x line) → (d o k e v : ℕ) → line.instr ≡ Cas d o k e v
-    → (i : ℕ) × (place_in (length R.object.refs) (int_in x.top k) ≡ Some i) × (R.object.mutable ≡ true) × (same_name (flat (slice_get R.object.refs i)) (ref_in x.top e) ≡ false) × (R.frame ≡ onward_with (Some (d, pos 0)) x.top)
+    → (i : ℕ) × (place_in (length R.object.refs) (int_in x.top k) ≡ Some i) × (R.object.mutable ≡ true) × (same_name (option_flatten (slice_get R.object.refs i)) (ref_in x.top e) ≡ false) × (R.frame ≡ onward_with (Some (d, pos 0)) x.top)
 
 abbrev pub WritesAreNumbers : Type 0
 WritesAreNumbers =

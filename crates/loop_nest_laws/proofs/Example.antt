@@ -22,7 +22,7 @@ p = record {
   functions =
       fun (Set 0 (pos 5) ∷ Set 1 (pos 7) ∷ Call 2 ∷ Ret ∷ [])
       ∷ fun (Calc Add 0 0 0 ∷ Ret ∷ [])
-      ∷ fun (whole_code loop) ∷ fun (left_code loop) ∷ fun (right_code loop) ∷ [];
+      ∷ fun (whole_code loop) ∷ fun (left_code loop.whole) ∷ fun (right_code loop.whole) ∷ [];
   main = 0;
 }
 

@@ -1,5 +1,6 @@
 -- Registers that an instruction writes, and the others.
 use Rattle.std.proofs.Common.{◌≡◌, ℕ, ℤ, pos, ◌<◌, Option, Some, None, List, [], ◌∷◌, length, slice_get, slice_set, inl, inr, refl, ap, ◌∙◌, arith, length-set}
+use Rattle.std.specs.Option.{option_flatten}
 use Rattle.std.specs.Prelude.{unwrap_or}
 use Rattle.listed.proofs.Members.{got_other}
 use Rattle.listed.proofs.Places.{got_set, map_got}
@@ -8,7 +9,7 @@ use Rattle.hh_lang.specs.declared.program.Line.{Line}
 use Rattle.hh_lang.specs.Form.{ProgramText, code_of}
 use Rattle.hh_model.specs.declared.data.Name.{Name}
 use Rattle.hh_model.specs.declared.data.Frame.{Frame}
-use Rattle.hh_model.specs.Effect.{int_in, ref_in, flat, with_int, with_ref}
+use Rattle.hh_model.specs.Effect.{int_in, ref_in, with_int, with_ref}
 use Rattle.hh_model.specs.Step.{fetched}
 use Rattle.hh_lang.specs.Loop.{instrs_of}
 use Rattle.loop_nest_laws.specs.LoopLaw.{IsUsed}
@@ -22,7 +23,7 @@ int_other f d e v ne = ap (λ o. unwrap_or o (pos 0)) (got_other f.ints d e v ne
 pub nil_set : (f : Frame) → ref_in (with_ref f 0 None) 0 ≡ None
 nil_set f = by f.refs
   where
-    by : (rs : List (Option Name)) → flat (slice_get (slice_set rs 0 None) 0) ≡ None
+    by : (rs : List (Option Name)) → option_flatten (slice_get (slice_set rs 0 None) 0) ≡ None
     by [] = refl
     by (r ∷ rs) = refl
 

@@ -116,18 +116,18 @@ module _ (p : ProgramText) (limit : ℕ) (ts : List ℕ) (a : Activation) (bs : 
 
     pub left_runs : f.function ≡ loop.left → RunsHalf i first (middle first last)
     left_runs fun =
-        let s3 = half_at loop.left (left_code loop) L.left refl refl refl refl refl i (begin_at p limit ts a bs d m w is_ret high i loop.left 0 (Has first last) f le on fun next has) in
-        runs_half loop.left (left_code loop) L.left refl refl refl refl refl i first (middle first last)
-        (next_at p limit ts a bs d m w is_ret high loop.left (left_code loop) L.left i 3 (Calc Add 1 0 14) (Half loop.left (left_code loop) L.left refl refl refl refl refl) (Has first (middle first last)) left_add 4 refl tt (λ e. absurd cc) (λ f h z store. refl)
+        let s3 = half_at loop.left (left_code loop.whole) L.left refl refl refl refl refl i (begin_at p limit ts a bs d m w is_ret high i loop.left 0 (Has first last) f le on fun next has) in
+        runs_half loop.left (left_code loop.whole) L.left refl refl refl refl refl i first (middle first last)
+        (next_at p limit ts a bs d m w is_ret high loop.left (left_code loop.whole) L.left i 3 (Calc Add 1 0 14) (Half loop.left (left_code loop.whole) L.left refl refl refl refl refl) (Has first (middle first last)) left_add 4 refl tt (λ e. absurd cc) (λ f h z store. refl)
         (onto 3 4 refl left_add (λ f. refl) (λ f. refl))
         (λ f h. subst (λ v. Has first v (left_add f)) (λ z. int_wrapping_add w64 (h.0.i0 z) (h.1 z))
         (moved g (with_int f 1 (int_wrapping_add w64 (int_in f 0) (int_in f 14))) first (int_wrapping_add w64 (int_in f 0) (int_in f 14)) f.function (f.next + 1) (sets_1 g f first last h.0 (int_wrapping_add w64 (int_in f 0) (int_in f 14))))) s3)
 
     pub right_runs : f.function ≡ loop.right → RunsHalf i (middle first last) last
     right_runs fun =
-        let s3 = half_at loop.right (right_code loop) L.right refl refl refl refl refl i (begin_at p limit ts a bs d m w is_ret high i loop.right 0 (Has first last) f le on fun next has) in
-        runs_half loop.right (right_code loop) L.right refl refl refl refl refl i (middle first last) last
-        (next_at p limit ts a bs d m w is_ret high loop.right (right_code loop) L.right i 3 (Calc Add 0 0 14) (Half loop.right (right_code loop) L.right refl refl refl refl refl) (Has (middle first last) last) right_add 4 refl tt (λ e. absurd cc) (λ f h z store. refl)
+        let s3 = half_at loop.right (right_code loop.whole) L.right refl refl refl refl refl i (begin_at p limit ts a bs d m w is_ret high i loop.right 0 (Has first last) f le on fun next has) in
+        runs_half loop.right (right_code loop.whole) L.right refl refl refl refl refl i (middle first last) last
+        (next_at p limit ts a bs d m w is_ret high loop.right (right_code loop.whole) L.right i 3 (Calc Add 0 0 14) (Half loop.right (right_code loop.whole) L.right refl refl refl refl refl) (Has (middle first last) last) right_add 4 refl tt (λ e. absurd cc) (λ f h z store. refl)
         (onto 3 4 refl right_add (λ f. refl) (λ f. refl))
         (λ f h. subst (λ v. Has v last (right_add f)) (λ z. int_wrapping_add w64 (h.0.i0 z) (h.1 z))
         (moved g (with_int f 0 (int_wrapping_add w64 (int_in f 0) (int_in f 14))) (int_wrapping_add w64 (int_in f 0) (int_in f 14)) last f.function (f.next + 1) (sets_0 g f first last h.0 (int_wrapping_add w64 (int_in f 0) (int_in f 14))))) s3)

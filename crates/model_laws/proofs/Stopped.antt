@@ -1,5 +1,6 @@
 -- Where reads are stopped.
 use Rattle.std.proofs.Common.{◌≡◌, ℕ, Bool, true, false, cond, Option, Some, None, List, length, slice_get, slice_set, ◌⊎◌, inl, inr, refl, ap, ap₂, sym, ◌∙◌, is_some}
+use Rattle.std.specs.Option.{option_flatten}
 use Rattle.std.proofs.lemmas.Bool.{both_ways}
 use Rattle.std.proofs.lemmas.Option.{same_Some}
 use Rattle.hh_lang.specs.declared.instr.Instr.{Instr}
@@ -13,7 +14,7 @@ use Rattle.hh_model.specs.declared.data.Trap.TheVariants.{Nil, Range}
 use Rattle.hh_model.specs.declared.data.End.{End}
 use Rattle.hh_model.specs.declared.data.End.TheVariants.{Done, Trapped, Entangled}
 use Rattle.hh_model.specs.declared.data.State.{State}
-use Rattle.hh_model.specs.Effect.{Effect, Goes, Stops, Setting, effect, flat, int_in, object_at, onward, or_trap, place_in, read_effect, ref_in, with_object, with_ref}
+use Rattle.hh_model.specs.Effect.{Effect, Goes, Stops, Setting, effect, int_in, object_at, onward, or_trap, place_in, read_effect, ref_in, with_object, with_ref}
 use Rattle.hh_model.specs.Precedence.{Precedes, precedes}
 use Rattle.hh_model.specs.Step.{can_step, ended_by, ended_task, follow, goes_on, is_running, joined, owner_of, parents, result_of, run, setting, start, step, strand_of}
 use Rattle.hh_model.specs.Tree.{Kept, waiting, joins_in}
@@ -28,10 +29,10 @@ read_is : (s : Setting) (f : Frame) (store : List (List Object)) (instr : Instr)
     → place_in (length x.refs) (int_in f k) ≡ Some at → slice_get x.refs at ≡ Some (Some n) → effect s f store instr ≡ read_effect s f store d (Some n)
 read_is s f store instr d o k source n x at getr named is place field =
     ap (effect s f store) getr
-    ∙ (ap (λ r. with_object store r (λ j y. or_trap Range (place_in (length y.refs) (int_in f k)) (λ i. read_effect s f store d (flat (slice_get y.refs i))))) named
-    ∙ (ap (λ w. or_trap Nil w (λ y. or_trap Range (place_in (length y.refs) (int_in f k)) (λ i. read_effect s f store d (flat (slice_get y.refs i))))) is
-    ∙ (ap (λ w. or_trap Range w (λ i. read_effect s f store d (flat (slice_get x.refs i)))) place
-    ∙ ap (λ w. read_effect s f store d (flat w)) field)))
+    ∙ (ap (λ r. with_object store r (λ j y. or_trap Range (place_in (length y.refs) (int_in f k)) (λ i. read_effect s f store d (option_flatten (slice_get y.refs i))))) named
+    ∙ (ap (λ w. or_trap Nil w (λ y. or_trap Range (place_in (length y.refs) (int_in f k)) (λ i. read_effect s f store d (option_flatten (slice_get y.refs i))))) is
+    ∙ (ap (λ w. or_trap Range w (λ i. read_effect s f store d (option_flatten (slice_get x.refs i)))) place
+    ∙ ap (λ w. read_effect s f store d (option_flatten w)) field)))
 
 module _ (p : ProgramText) (m : State) (K : Kept m) (going : m.end ≡ None) (t : ℕ) (x : Task) (d : ℕ) (n : Name) (o : Object) (R : ReadsNext p m t x d n o) where
   can : can_step m t ≡ true

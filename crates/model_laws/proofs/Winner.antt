@@ -1,5 +1,6 @@
 -- Of the tasks that try to set a nil field by compare and swap, the first one does.
 use Rattle.std.proofs.Common.{◌≡◌, ℕ, ℤ, zero, suc, pos, negsuc, ◌+◌, ◌-◌, ◌<◌, ◌≤◌, Bool, true, false, cond, Option, Some, None, List, [], ◌∷◌, length, take, slice_get, slice_set, nat_lt, ◌⊎◌, inl, inr, refl, ap, sym, subst, ◌∙◌, arith, add-one}
+use Rattle.std.specs.Option.{option_flatten}
 use Rattle.std.proofs.lemmas.Bool.{cases_eq, cases_lt, both_ways, lt-ltb, ltb-true}
 use Rattle.std.proofs.lemmas.Option.{same_Some}
 use Rattle.listed.proofs.Members.{In, got_same, got_other, got_in, got_within}
@@ -13,7 +14,7 @@ use Rattle.hh_model.specs.declared.data.Object.{Object}
 use Rattle.hh_model.specs.declared.data.Frame.{Frame}
 use Rattle.hh_model.specs.declared.data.Task.{Task}
 use Rattle.hh_model.specs.declared.data.State.{State}
-use Rattle.hh_model.specs.Effect.{Goes, Setting, effect, object_at, put_object, int_in, ref_in, with_int, onward, same_name, place_in, flat}
+use Rattle.hh_model.specs.Effect.{Goes, Setting, effect, object_at, put_object, int_in, ref_in, with_int, onward, same_name, place_in}
 use Rattle.hh_model.specs.Step.{step, run_from, start, setting, can_step, follow}
 use Rattle.hh_model.specs.Store.{IsWriteTo, IsNext, StaysAs}
 use Rattle.model_laws.specs.Winner.{Field, FieldHolds, MayWrite, after, IsCas, expects, brings, Yields, OnlyFromNil, IsUntried, OneWinner}
@@ -126,8 +127,8 @@ module _ (p : ProgramText) (m : State) (t : ℕ) (K : Kept m) (field : Field) (o
                 instr = instr;
                 writes = record { name = by; index = at.0 ∙ ap pos (sym same); object = o; is = is; within = omega (arith, at.1, same); mutable = w.0 };
                 match =
-                    ap (λ q. same_name (flat q) (ref_in x.top e)) (sym value)
-                    ∙ (ap (λ i. same_name (flat (slice_get o.refs i)) (ref_in x.top e)) same ∙ w.1.3);
+                    ap (λ q. same_name (option_flatten q) (ref_in x.top e)) (sym value)
+                    ∙ (ap (λ i. same_name (option_flatten (slice_get o.refs i)) (ref_in x.top e)) same ∙ w.1.3);
               }))
           | inr ne ↦ inl (ap (λ refs. slice_get refs field.index) w.1.2 ∙ (got_other o.refs w.1.0 field.index (ref_in x.top v) ne ∙ value))
         ]

@@ -1,5 +1,6 @@
 -- The value once an object of another task is written: the object alone changes.
 use Rattle.std.proofs.Common.{◌≡◌, ℕ, cond, Option, Some, None, List, map, slice_get, slice_set, is_none, inl, inr, refl, ap, ap₂, sym, subst, ◌∙◌}
+use Rattle.std.specs.Option.{option_flatten}
 use Rattle.std.proofs.lemmas.Bool.{cases_eq, cond-true}
 use Rattle.std.proofs.lemmas.Option.{same_Some}
 use Rattle.listed.proofs.Members.{got_other, got_same}
@@ -29,7 +30,7 @@ use Rattle.task_machine.specs.declared.part.Private.{Private}
 use Rattle.task_homes.specs.declared.task_at_rest.Rest.{Rest}
 use Rattle.task_homes.specs.declared.task_at_rest.Work.{Work}
 use Rattle.task_homes.specs.declared.task_at_rest.Work.TheVariants.{Calls, Result}
-use Rattle.shared_value.specs.SharedValue.{SharedValue, accounts, flat, home_by, home_in, home_of, no_home, rest_at, value_by, value_of, with_marks}
+use Rattle.shared_value.specs.SharedValue.{SharedValue, accounts, home_by, home_in, home_of, no_home, rest_at, value_by, value_of, with_marks}
 use Rattle.shared_value.specs.Objects.{chunks_of}
 use Rattle.shared_value.specs.Measured.{AreMeasured, RestsAreMeasured}
 use Rattle.shared_value.specs.Stands.{HeapForm, IsSharedValue}
@@ -126,7 +127,7 @@ module _ (w : SharedValue) (k : ℕ) (p : Private) (I : IsSharedValue w) (F : Fi
       was_there : slice_get w.homes u ≡ Some (Some r)
       was_there = by (slice_get w.homes u) O.there
         where
-          by : (o : Option (Option Rest)) → flat o ≡ Some r → o ≡ Some (Some r)
+          by : (o : Option (Option Rest)) → option_flatten o ≡ Some r → o ≡ Some (Some r)
           by None e = absurd cc
           by (Some x) e = ap Some e
 
@@ -134,18 +135,18 @@ module _ (w : SharedValue) (k : ℕ) (p : Private) (I : IsSharedValue w) (F : Fi
       pub forms : (z : ℕ) (s : Rest) → rest_at homes z ≡ Some s → HeapForm s.heap
       forms z s e = elim (cases_eq z u) [
         | inl q ↦
-            let is : s ≡ r' = same_Some s r' (sym e ∙ (ap (rest_at homes) q ∙ ap flat (got_same w.homes u (Some r) (Some r') was_there))) in
+            let is : s ≡ r' = same_Some s r' (sym e ∙ (ap (rest_at homes) q ∙ ap option_flatten (got_same w.homes u (Some r) (Some r') was_there))) in
             subst (λ (x : Rest). HeapForm x.heap) (sym is) (form_written r.heap a d form mark size)
-        | inr ne ↦ I.heaps z s (sym (ap flat (got_other w.homes u z (Some r') ne)) ∙ e)
+        | inr ne ↦ I.heaps z s (sym (ap option_flatten (got_other w.homes u z (Some r') ne)) ∙ e)
       ]
 
       -- and the pool has its chunks' units still
       pub measures : RestsAreMeasured w.pool homes w.tasks_out
       measures z s e f' = elim (cases_eq z u) [
         | inl q ↦
-            let is : s ≡ r' = same_Some s r' (sym e ∙ (ap (rest_at homes) q ∙ ap flat (got_same w.homes u (Some r) (Some r') was_there))) in
+            let is : s ≡ r' = same_Some s r' (sym e ∙ (ap (rest_at homes) q ∙ ap option_flatten (got_same w.homes u (Some r) (Some r') was_there))) in
             subst (λ (x : Rest). AreMeasured w.pool z x.heap.chunks) (sym is) (measured_written w.pool z r.heap.chunks a d (I.measured z r (ap (rest_at w.homes) q ∙ O.there) f'))
-        | inr ne ↦ I.measured z s (sym (ap flat (got_other w.homes u z (Some r') ne)) ∙ e) f'
+        | inr ne ↦ I.measured z s (sym (ap option_flatten (got_other w.homes u z (Some r') ne)) ∙ e) f'
       ]
 
       -- the home of the object's owner
@@ -162,14 +163,14 @@ module _ (w : SharedValue) (k : ℕ) (p : Private) (I : IsSharedValue w) (F : Fi
 
       home_owner : v'.homes u ≡ changed ((value_of w).homes u)
       home_owner =
-          ap home_in (ap flat (got_same w.homes u (Some r) (Some r') was_there))
+          ap home_in (ap option_flatten (got_same w.homes u (Some r) (Some r') was_there))
           ∙ (home_written r.heap r'.heap r.view r.allocations r.work (room_written r.heap a d form mark size) refl
           ∙ (ap (λ (ks : List Chunk). record (home_of r) { chunks = ks }) (chunks_changed ∙ ap (map (mapped_chunk (put_at a f))) (sym (by_chunks r.heap r.view r.allocations r.work)))
           ∙ ap (λ o. changed (home_in o)) (sym O.there)))
 
       home_other : (z : ℕ) → (z ≡ t → ⊥) → (z ≡ u → ⊥) → Rests l z → v'.homes z ≡ changed ((value_of w).homes z)
       home_other z nt nu rz =
-          ap (λ o. home_in (flat o)) (got_other w.homes u z (Some r') nu)
+          ap (λ o. home_in (option_flatten o)) (got_other w.homes u z (Some r') nu)
           ∙ ap (λ (ks : List Chunk). record ((value_of w).homes z) { chunks = ks }) (sym (chunks_elsewhere a f ((value_of w).homes z).chunks (none_other z nt nu rz)))
 
       home_by_worker : (z : ℕ) → (z ≡ t → ⊥) → (o : Option ℕ) → (heap_of l z).worker ≡ o → cond (is_none o) (v'.homes z) no_home ≡ changed (cond (is_none o) ((value_of w).homes z) no_home)

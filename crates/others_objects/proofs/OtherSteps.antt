@@ -1,5 +1,6 @@
 -- What the next step of a part does in the machine, where it works on an object that another task owns.
 use Rattle.std.proofs.Common.{◌≡◌, ℕ, ℤ, pos, ◌==◌, Bool, true, false, cond, Option, Some, None, List, length, slice_get, slice_set, unwrap_or, inl, inr, refl, ap, ap₂, sym, subst, ◌∙◌}
+use Rattle.std.specs.Option.{option_flatten}
 use Rattle.std.proofs.lemmas.Bool.{cases_eq, cond-false, cond-true, ne_eqb}
 use Rattle.hh_lang.specs.declared.instr.Instr.{Instr}
 use Rattle.hh_lang.specs.declared.instr.Instr.TheVariants.{Set, Mov, Movr, Nil as NilOf, Calc, Same, Jmp, Jz, Newm, Pack, Getr, Geti, Putr, Puti, Cntr, Cnti, Freeze, Cas, Call, Par, Ret, Out}
@@ -11,7 +12,7 @@ use Rattle.hh_model.specs.declared.data.State.{State}
 use Rattle.hh_model.specs.declared.data.Task.{Task}
 use Rattle.hh_model.specs.declared.data.Trap.{Trap}
 use Rattle.hh_model.specs.declared.data.Trap.TheVariants.{Range, Frozen as FrozenTrap, Nil as NilTrap}
-use Rattle.hh_model.specs.Effect.{Effect, Goes, Stops as StopsBy, Traps as TrapsBy, effect, flat, int_in, object_at, onward, or_trap, place_in, put_object, read_effect, ref_in, same_name, unless_frozen, with_int, with_object, with_ref}
+use Rattle.hh_model.specs.Effect.{Effect, Goes, Stops as StopsBy, Traps as TrapsBy, effect, int_in, object_at, onward, or_trap, place_in, put_object, read_effect, ref_in, same_name, unless_frozen, with_int, with_object, with_ref}
 use Rattle.hh_model.specs.Names.{refs_of}
 use Rattle.hh_model.specs.Precedence.{precedes}
 use Rattle.hh_model.specs.Step.{can_step, fetched, follow, goes_on, is_running, owner_of, runs, setting, step, strand_of}
@@ -177,21 +178,21 @@ module _ (w : SharedValue) (k : ℕ) (p : Private) (I : IsSharedValue w) (F : Fi
     none h = absurd cc
 
     -- ---- A COMPARE AND SWAP
-    swap_by : (d o j f b : ℕ) → line.instr ≡ Cas d o j f b → (i : ℕ) → place_in (length q.refs) (int_in top j) ≡ Some i → q.mutable ≡ true → (s : Bool) → same_name (flat (slice_get q.refs i)) (ref_in top f) ≡ s
-        → does (Cas d o j f b) ≡ cond (same_name (flat (slice_get q.refs i)) (ref_in top f)) (Goes (onward (with_int top d (pos 1))) (put_object m.store n (record q { refs = slice_set q.refs i (ref_in top b) }))) (Goes (onward (with_int top d (pos 0))) m.store)
+    swap_by : (d o j f b : ℕ) → line.instr ≡ Cas d o j f b → (i : ℕ) → place_in (length q.refs) (int_in top j) ≡ Some i → q.mutable ≡ true → (s : Bool) → same_name (option_flatten (slice_get q.refs i)) (ref_in top f) ≡ s
+        → does (Cas d o j f b) ≡ cond (same_name (option_flatten (slice_get q.refs i)) (ref_in top f)) (Goes (onward (with_int top d (pos 1))) (put_object m.store n (record q { refs = slice_set q.refs i (ref_in top b) }))) (Goes (onward (with_int top d (pos 0))) m.store)
         → Says (cond s (Swaps d a i (ref_of p.frames.top b)) (SetsNumber d (pos 0)))
     swap_by d o j f b e i found may true same h =
-        (o, j, f, b, e, lies_at (Cas d o j f b) e, record { name = n; object = q; named = named (Cas d o j f b) e; is = O.is; place = found; frame = _; store = _; does = ap does e ∙ (h ∙ cond-true (same_name (flat (slice_get q.refs i)) (ref_in top f)) (Goes (onward (with_int top d (pos 1))) (put_object m.store n (record q { refs = slice_set q.refs i (ref_in top b) }))) (Goes (onward (with_int top d (pos 0))) m.store) same) }, same, refl)
+        (o, j, f, b, e, lies_at (Cas d o j f b) e, record { name = n; object = q; named = named (Cas d o j f b) e; is = O.is; place = found; frame = _; store = _; does = ap does e ∙ (h ∙ cond-true (same_name (option_flatten (slice_get q.refs i)) (ref_in top f)) (Goes (onward (with_int top d (pos 1))) (put_object m.store n (record q { refs = slice_set q.refs i (ref_in top b) }))) (Goes (onward (with_int top d (pos 0))) m.store) same) }, same, refl)
     swap_by d o j f b e i found may false same h =
         reads (Cas d o j f b) e (onward (with_int top d (pos 0))) (i, found, may, same, refl)
-        (h ∙ cond-false (same_name (flat (slice_get q.refs i)) (ref_in top f)) (Goes (onward (with_int top d (pos 1))) (put_object m.store n (record q { refs = slice_set q.refs i (ref_in top b) }))) (Goes (onward (with_int top d (pos 0))) m.store) same)
+        (h ∙ cond-false (same_name (option_flatten (slice_get q.refs i)) (ref_in top f)) (Goes (onward (with_int top d (pos 1))) (put_object m.store n (record q { refs = slice_set q.refs i (ref_in top b) }))) (Goes (onward (with_int top d (pos 0))) m.store) same)
 
     -- ---- BY THE INSTRUCTION
     says : (i : Instr) → line.instr ≡ i → Says (other_step w.tree w.pool p a c i)
     says (Getr d o j) e =
-        range (Getr d o j) e (λ i. read_effect (setting m t X) top m.store d (flat (slice_get q.refs i))) (place_in (length c.refs) (int_of p.frames.top j)) (λ i. reads_into w.tree w.pool t d (unwrap_or (slice_get c.refs i) None))
-        (object_is (ref_in top o) (named (Getr d o j) e) _ ∙ ap (λ r. or_trap Range r (λ i. read_effect (setting m t X) top m.store d (flat (slice_get q.refs i)))) (sym (refs_index j)))
-        (λ i found h. read_by d o j e (unwrap_or (slice_get c.refs i) None) (flat (slice_get q.refs i)) (field_of place c.refs q.refs i O.refs) (λ y z. at_in q.refs i y z) h)
+        range (Getr d o j) e (λ i. read_effect (setting m t X) top m.store d (option_flatten (slice_get q.refs i))) (place_in (length c.refs) (int_of p.frames.top j)) (λ i. reads_into w.tree w.pool t d (unwrap_or (slice_get c.refs i) None))
+        (object_is (ref_in top o) (named (Getr d o j) e) _ ∙ ap (λ r. or_trap Range r (λ i. read_effect (setting m t X) top m.store d (option_flatten (slice_get q.refs i)))) (sym (refs_index j)))
+        (λ i found h. read_by d o j e (unwrap_or (slice_get c.refs i) None) (option_flatten (slice_get q.refs i)) (field_of place c.refs q.refs i O.refs) (λ y z. at_in q.refs i y z) h)
     says (Geti d o j) e =
         range (Geti d o j) e (λ i. Goes (onward (with_int top d (unwrap_or (slice_get q.ints i) (pos 0)))) m.store) (place_in (length c.ints) (int_of p.frames.top j)) (λ i. SetsNumber d (unwrap_or (slice_get c.ints i) (pos 0)))
         (object_is (ref_in top o) (named (Geti d o j) e) _ ∙ ap (λ r. or_trap Range r (λ i. Goes (onward (with_int top d (unwrap_or (slice_get q.ints i) (pos 0)))) m.store)) (sym (ints_index j)))
@@ -219,7 +220,7 @@ module _ (w : SharedValue) (k : ℕ) (p : Private) (I : IsSharedValue w) (F : Fi
         (h ∙ ap (λ z. cond z (Goes (onward top) (put_object m.store n (record q { ints = slice_set q.ints i (int_in top b) }))) (TrapsBy FrozenTrap)) (sym O.mutable))
         (λ may h'. (o, j, b, e, lies_at (Puti o j b) e, record { name = n; object = q; named = named (Puti o j b) e; is = O.is; place = sym (ints_index j) ∙ found; frame = _; store = _; does = ap does e ∙ h' }, refl)))
     says (Cas d o j f b) e =
-        let swap : ℕ → Effect = λ i. cond (same_name (flat (slice_get q.refs i)) (ref_in top f)) (Goes (onward (with_int top d (pos 1))) (put_object m.store n (record q { refs = slice_set q.refs i (ref_in top b) }))) (Goes (onward (with_int top d (pos 0))) m.store) in
+        let swap : ℕ → Effect = λ i. cond (same_name (option_flatten (slice_get q.refs i)) (ref_in top f)) (Goes (onward (with_int top d (pos 1))) (put_object m.store n (record q { refs = slice_set q.refs i (ref_in top b) }))) (Goes (onward (with_int top d (pos 0))) m.store) in
         range (Cas d o j f b) e (λ i. unless_frozen q (swap i)) (place_in (length c.refs) (int_of p.frames.top j)) (λ i. or_frozen c (swaps d a (unwrap_or (slice_get c.refs i) None) (ref_of p.frames.top f) i (ref_of p.frames.top b)))
         (object_is (ref_in top o) (named (Cas d o j f b) e) _ ∙ ap (λ r. or_trap Range r (λ i. unless_frozen q (swap i))) (sym (refs_index j)))
         (λ i found h. frozen (Cas d o j f b) e (swap i) c.mutable (swaps d a (unwrap_or (slice_get c.refs i) None) (ref_of p.frames.top f) i (ref_of p.frames.top b))

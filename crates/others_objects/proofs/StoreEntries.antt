@@ -1,5 +1,6 @@
 -- Entries with a store into an object of another task, as the calls have them.
 use Rattle.std.proofs.Common.{◌≡◌, ℕ, ℤ, pos, ◌+◌, ◌<◌, ◌++◌, Option, Some, None, List, [], ◌∷◌, length, slice_get, slice_set, option_map, refl, ap, sym, subst, ◌∙◌}
+use Rattle.std.specs.Option.{option_flatten}
 use Rattle.std.specs.Prelude.{IsSome, slice_index_or}
 use Rattle.std.proofs.lemmas.Option.{same_Some}
 use Rattle.listed.specs.RoomyValue.{RoomyValue}
@@ -30,7 +31,7 @@ use Rattle.core_relation.proofs.notes.Roots.{name_at}
 use Rattle.task_machine.specs.declared.part.Private.{Private}
 use Rattle.task_machine.proofs.Owned.{born_is, born_object}
 use Rattle.task_homes.specs.declared.task_at_rest.Rest.{Rest}
-use Rattle.shared_value.specs.SharedValue.{SharedValue, accounts, flat, rest_at, value_of}
+use Rattle.shared_value.specs.SharedValue.{SharedValue, accounts, rest_at, value_of}
 use Rattle.shared_value.specs.Stands.{IsSharedValue}
 use Rattle.shared_value.specs.Fits.{Fits, home_of_part}
 use Rattle.shared_value.specs.Entered.{refused}
@@ -103,7 +104,7 @@ module _ (w : SharedValue) (k : ℕ) (p : Private) (I : IsSharedValue w) (F : Fi
       by None e = tt
       by (Some a) e = let n = reads_address place (ref_of p.frames.top b) (ref_in X.top b) a (register_at w k p I F on b) e in placed n.0 a n.2
 
-  rest_got : (o : Option (Option Rest)) (r : Rest) → flat o ≡ Some r → o ≡ Some (Some r)
+  rest_got : (o : Option (Option Rest)) (r : Rest) → option_flatten o ≡ Some r → o ≡ Some (Some r)
   rest_got None r e = absurd cc
   rest_got (Some q) r e = ap Some e
 

@@ -1,5 +1,6 @@
 -- What a store makes of the value and of what is noted, by its instruction; and that it is no read.
 use Rattle.std.proofs.Common.{◌≡◌, ℕ, pos, true, Some, None, length, slice_get, refl, ap, sym, subst, ◌∙◌}
+use Rattle.std.specs.Option.{option_flatten}
 use Rattle.std.proofs.lemmas.Bool.{both_ways}
 use Rattle.std.proofs.lemmas.Option.{same_Some}
 use Rattle.hh_lang.specs.declared.instr.Instr.{Instr}
@@ -7,7 +8,7 @@ use Rattle.hh_lang.specs.declared.instr.Instr.TheVariants.{Putr, Puti, Cas}
 use Rattle.hh_model.specs.declared.data.Frame.{Frame as ModelFrame}
 use Rattle.hh_model.specs.declared.data.Object.{Object}
 use Rattle.hh_model.specs.declared.data.Task.{Task}
-use Rattle.hh_model.specs.Effect.{flat, int_in, place_in, ref_in, same_name}
+use Rattle.hh_model.specs.Effect.{int_in, place_in, ref_in, same_name}
 use Rattle.run_ledger.specs.declared.data.Ledger.{Ledger}
 use Rattle.ledger_step_laws.specs.Last.{JustReads}
 use Rattle.core_relation.specs.Memory.{Home, Memory}
@@ -32,8 +33,8 @@ reads_putr x i y f o k b e r = subst (λ j. JustReads x j y f) e r
 pub reads_puti : (x : Task) (i : Instr) (y : Object) (f : ModelFrame) (o k b : ℕ) → i ≡ Puti o k b → JustReads x i y f → ⊥
 reads_puti x i y f o k b e r = subst (λ j. JustReads x j y f) e r
 
-pub reads_cas : (x : Task) (i : Instr) (y : Object) (f : ModelFrame) (d o k w b at : ℕ) → i ≡ Cas d o k w b → place_in (length y.refs) (int_in x.top k) ≡ Some at → same_name (flat (slice_get y.refs at)) (ref_in x.top w) ≡ true → JustReads x i y f → ⊥
+pub reads_cas : (x : Task) (i : Instr) (y : Object) (f : ModelFrame) (d o k w b at : ℕ) → i ≡ Cas d o k w b → place_in (length y.refs) (int_in x.top k) ≡ Some at → same_name (option_flatten (slice_get y.refs at)) (ref_in x.top w) ≡ true → JustReads x i y f → ⊥
 reads_cas x i y f d o k w b at e place same r =
     let s = subst (λ j. JustReads x j y f) e r in
     let q : s.0 ≡ at = same_Some s.0 at (sym s.1 ∙ place) in
-    both_ways (same_name (flat (slice_get y.refs at)) (ref_in x.top w)) (ap (λ n. same_name (flat (slice_get y.refs n)) (ref_in x.top w)) (sym q) ∙ s.3) same
+    both_ways (same_name (option_flatten (slice_get y.refs at)) (ref_in x.top w)) (ap (λ n. same_name (option_flatten (slice_get y.refs n)) (ref_in x.top w)) (sym q) ∙ s.3) same

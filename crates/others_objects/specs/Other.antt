@@ -1,6 +1,7 @@
 -- What the next instruction of a part does with an object that another task owns, as the object's cell, the tree and
 -- the pool tell it.
 use Rattle.std.specs.Prelude.{◌≡◌, ℕ, ◌+◌, ◌<◌, pos, not, Bool, true, false, Option, Some, None, List, IsSome, length, slice_get, slice_index_or, unwrap_or, if◌then◌else◌}
+use Rattle.std.specs.Option.{option_flatten}
 use Rattle.hh_lang.specs.declared.instr.Instr.{Instr}
 use Rattle.hh_lang.specs.declared.instr.Instr.TheVariants.{Getr, Geti, Putr, Puti, Cntr, Cnti, Freeze, Cas}
 use Rattle.hh_lang.specs.declared.program.Line.{Line}
@@ -12,7 +13,7 @@ use Rattle.hh_model.specs.declared.data.Object.{Object}
 use Rattle.hh_model.specs.declared.data.State.{State}
 use Rattle.hh_model.specs.declared.data.Task.{Task}
 use Rattle.hh_model.specs.declared.data.Trap.TheVariants.{Nil as NilTrap, Range, Frozen as FrozenTrap}
-use Rattle.hh_model.specs.Effect.{Goes, effect, flat, int_in, object_at, onward, place_in, ref_in, same_name, with_int, with_ref}
+use Rattle.hh_model.specs.Effect.{Goes, effect, int_in, object_at, onward, place_in, ref_in, same_name, with_int, with_ref}
 use Rattle.hh_model.specs.Step.{ended_by, fetched, setting, step}
 use Rattle.run_ledger.specs.Steps.{owns, touched}
 use Rattle.object_layout.specs.declared.word.Addr.{Addr}
@@ -155,7 +156,7 @@ SaysOther p at part m t x line (Traps kind) = step p m t ≡ ended_by m (Trapped
 SaysOther p at part m t x line (StoresReference a i r) =
     (o : ℕ) × (k : ℕ) × (b : ℕ) × (line.instr ≡ Putr o k b) × (ref_of part.frames.top o ≡ Some a) × WritesReference m t x line o k i × (r ≡ ref_of part.frames.top b)
 SaysOther p at part m t x line (Swaps d a i r) =
-    (o : ℕ) × (k : ℕ) × (e : ℕ) × (b : ℕ) × (line.instr ≡ Cas d o k e b) × (ref_of part.frames.top o ≡ Some a) × (y : WritesReference m t x line o k i) × (same_name (flat (slice_get y.object.refs i)) (ref_in x.top e) ≡ true) × (r ≡ ref_of part.frames.top b)
+    (o : ℕ) × (k : ℕ) × (e : ℕ) × (b : ℕ) × (line.instr ≡ Cas d o k e b) × (ref_of part.frames.top o ≡ Some a) × (y : WritesReference m t x line o k i) × (same_name (option_flatten (slice_get y.object.refs i)) (ref_in x.top e) ≡ true) × (r ≡ ref_of part.frames.top b)
 SaysOther p at part m t x line (StoresNumber a i z) =
     (o : ℕ) × (k : ℕ) × (b : ℕ) × (line.instr ≡ Puti o k b) × (ref_of part.frames.top o ≡ Some a) × WritesNumber m t x line o k i × (z ≡ int_of part.frames.top b)
 

@@ -1,5 +1,6 @@
 -- What the next step of a part does in the machine, where it is no private one.
 use Rattle.std.proofs.Common.{◌≡◌, ℕ, ℤ, pos, ◌+◌, ◌==◌, ◌||◌, not, eq-eqb, Bool, true, false, cond, Option, Some, None, List, [], ◌∷◌, ◌++◌, length, replicate, slice_get, slice_set, unwrap_or, is_some, nat_lt, inl, refl, ap, ap₂, sym, subst, ◌∙◌}
+use Rattle.std.specs.Option.{option_flatten}
 use Rattle.std.proofs.lemmas.Bool.{both_ways, cond-false, cond-true}
 use Rattle.listed.proofs.Members.{contains_from_in}
 use Rattle.hh_lang.specs.declared.instr.Instr.{Instr}
@@ -14,7 +15,7 @@ use Rattle.hh_model.specs.declared.data.End.TheVariants.{Trapped}
 use Rattle.hh_model.specs.declared.data.State.{State}
 use Rattle.hh_model.specs.declared.data.Trap.{Trap}
 use Rattle.hh_model.specs.declared.data.Trap.TheVariants.{Div as DivTrap, Nil as NilTrap, Range, Frozen as FrozenTrap, Size as SizeTrap, Depth as DepthTrap}
-use Rattle.hh_model.specs.Effect.{Effect, Goes, Calls, Returns as ReturnsBy, Traps as TrapsBy, calculated, counts_in, flat, int_in, made, object_at, onward, or_trap, place_in, put_object, read_effect, ref_in, same_name, unless_frozen, with_int}
+use Rattle.hh_model.specs.Effect.{Effect, Goes, Calls, Returns as ReturnsBy, Traps as TrapsBy, calculated, counts_in, int_in, made, object_at, onward, or_trap, place_in, put_object, read_effect, ref_in, same_name, unless_frozen, with_int}
 use Rattle.hh_model.specs.Names.{words_for}
 use Rattle.hh_model.specs.Step.{ended_by, entry_frame, fetched, frame_limit, last_of, owner_of, returned_to, setting, step, with_task}
 use Rattle.path_laws.specs.ReadLaws.{Holds, ReadsFreely}
@@ -163,7 +164,7 @@ module _ (p : ProgramText) (part : Private) (m : State) (above : Places) (F : Fi
   says (Pack d r i) e = never (Pack d r i) e _ _ refl refl refl
   says (Getr d o k) e =
       object_says (Getr d o k) e o (λ c. Traps Range) refl (nil_effect p part m above F line at o _) (λ n a en O.
-      range (Getr d o k) e (λ j. read_effect (setting m t F.task) top m.store d (flat (slice_get O.object.refs j))) (place_in (length O.object.refs) (int_in top k)) (object_effect p part m above F line at o n O.object _ en O.is)
+      range (Getr d o k) e (λ j. read_effect (setting m t F.task) top m.store d (option_flatten (slice_get O.object.refs j))) (place_in (length O.object.refs) (int_in top k)) (object_effect p part m above F line at o n O.object _ en O.is)
       (λ j goes. never (Getr d o k) e _ _ (goes ∙ (reads o n O.object en O.is O.owned).goes j d) refl (owned_here p part m above F line at o n (Getr d o k) refl en O.owned)))
   says (Geti d o k) e =
       object_says (Geti d o k) e o (λ c. Traps Range) refl (nil_effect p part m above F line at o _) (λ n a en O.
@@ -190,10 +191,10 @@ module _ (p : ProgramText) (part : Private) (m : State) (above : Places) (F : Fi
       refl (owned_here p part m above F line at o n (Freeze o) refl en O.owned))
   says (Cas d o k w v) e =
       object_says (Cas d o k w v) e o (λ c. unwritten (place_in (length c.refs) (int_of part.frames.top k))) refl (nil_effect p part m above F line at o _) (λ n a en O.
-      write (Cas d o k w v) e (λ j. cond (same_name (flat (slice_get O.object.refs j)) (ref_in top w)) (Goes (onward (with_int top d (pos 1))) (put_object m.store n (record O.object { refs = slice_set O.object.refs j (ref_in top v) }))) (Goes (onward (with_int top d (pos 0))) m.store))
+      write (Cas d o k w v) e (λ j. cond (same_name (option_flatten (slice_get O.object.refs j)) (ref_in top w)) (Goes (onward (with_int top d (pos 1))) (put_object m.store n (record O.object { refs = slice_set O.object.refs j (ref_in top v) }))) (Goes (onward (with_int top d (pos 0))) m.store))
       _ (place_in (length O.object.refs) (int_in top k)) O.object (object_effect p part m above F line at o n O.object _ en O.is)
       (refs_index p part m above F line at _ O.object k O.stands)
-      (λ j goes. either (Cas d o k w v) e (same_name (flat (slice_get O.object.refs j)) (ref_in top w)) _ _ _ _ goes refl (owned_here p part m above F line at o n (Cas d o k w v) refl en O.owned)))
+      (λ j goes. either (Cas d o k w v) e (same_name (option_flatten (slice_get O.object.refs j)) (ref_in top w)) _ _ _ _ goes refl (owned_here p part m above F line at o n (Cas d o k w v) refl en O.owned)))
     where
       either : {A : Type 0} (i : Instr) (e : line.instr ≡ i) (b : Bool) (f g : Framed) (st st' : List (List Object)) → seen i e ≡ cond b (Goes f st) (Goes g st') → is_open F.task i ≡ false → owns m.tasks t (touched F.task.top i) ≡ true → A
       either i e true f g st st' goes o' h = never i e f st goes o' h

@@ -1,5 +1,6 @@
 -- Of which kind a last step is that works on an object of another task, by what it made of the machine.
 use Rattle.std.proofs.Common.{◌≡◌, ◌⊎◌, ℕ, ◌+◌, true, false, Option, Some, None, length, slice_get, inl, inr, refl, ap, sym, subst, ◌∙◌}
+use Rattle.std.specs.Option.{option_flatten}
 use Rattle.std.proofs.lemmas.Bool.{both_ways, false≢true}
 use Rattle.std.proofs.lemmas.Option.{same_Some}
 use Rattle.listed.proofs.Options.{none_some}
@@ -16,7 +17,7 @@ use Rattle.hh_model.specs.declared.data.State.{State}
 use Rattle.hh_model.specs.declared.data.Status.{Status}
 use Rattle.hh_model.specs.declared.data.Status.TheVariants.{Running, Waiting, Ended, Joined}
 use Rattle.hh_model.specs.declared.data.Task.{Task}
-use Rattle.hh_model.specs.Effect.{flat, int_in, object_at, place_in, ref_in, same_name}
+use Rattle.hh_model.specs.Effect.{int_in, object_at, place_in, ref_in, same_name}
 use Rattle.hh_model.specs.Step.{ended_by, is_joined, is_over, runs}
 use Rattle.run_ledger.specs.declared.data.Ledger.{Ledger}
 use Rattle.run_ledger.specs.Heaps.{let_go}
@@ -31,7 +32,7 @@ reads_or_writes x (Putr o k v) y y' y'' f f' r w e = absurd r
 reads_or_writes x (Puti o k v) y y' y'' f f' r w e = absurd r
 reads_or_writes x (Cas d o k v b) y y' y'' f f' r w e =
     let i : r.0 ≡ w.0 = same_Some r.0 w.0 (sym r.1 ∙ (ap (λ (z : Object). place_of z) e ∙ w.1)) in
-    absurd (both_ways (same_name (flat (slice_get y.refs r.0)) (ref_in x.top v)) r.3 (ap (λ (z : Object). same_name (flat (slice_get z.refs r.0)) (ref_in x.top v)) e ∙ (ap (λ n. same_name (flat (slice_get y'.refs n)) (ref_in x.top v)) i ∙ w.5)))
+    absurd (both_ways (same_name (option_flatten (slice_get y.refs r.0)) (ref_in x.top v)) r.3 (ap (λ (z : Object). same_name (option_flatten (slice_get z.refs r.0)) (ref_in x.top v)) e ∙ (ap (λ n. same_name (option_flatten (slice_get y'.refs n)) (ref_in x.top v)) i ∙ w.5)))
   where
     place_of : Object → Option ℕ
     place_of z = place_in (length z.refs) (int_in x.top k)

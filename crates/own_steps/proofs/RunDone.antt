@@ -1,5 +1,6 @@
 -- The root's last frame returns, and the run is done: the root is handed back.
 use Rattle.std.proofs.Common.{◌≡◌, ℕ, suc, ◌+◌, ◌<◌, ◌&&◌, not, arith, Option, Some, None, List, [], length, length-set, slice_get, slice_set, option_map, inl, inr, refl, ap, sym, subst, ◌∙◌}
+use Rattle.std.specs.Option.{option_flatten}
 use Rattle.std.proofs.lemmas.Bool.{cases_eq}
 use Rattle.std.proofs.lemmas.Option.{same_Some}
 use Rattle.listed.proofs.Members.{got_other, got_same, got_within}
@@ -36,7 +37,7 @@ use Rattle.core_entry_laws.proofs.parts.Workers.{ran_leaves}
 use Rattle.task_machine.specs.declared.part.Private.{Private}
 use Rattle.shared_value.specs.declared.next_step.Ending.TheVariants.{Returns}
 use Rattle.task_homes.specs.declared.task_at_rest.Rest.{Rest}
-use Rattle.shared_value.specs.SharedValue.{SharedValue, accounts, flat, home_in, home_of, rest_at, totals_of, value_of}
+use Rattle.shared_value.specs.SharedValue.{SharedValue, accounts, home_in, home_of, rest_at, totals_of, value_of}
 use Rattle.shared_value.specs.Measured.{AreMeasured, RestsAreMeasured}
 use Rattle.shared_value.specs.Stands.{HeapForm, IsSharedValue}
 use Rattle.shared_value.specs.Fits.{Fits, OthersFit, home_of_part, part_of}
@@ -150,10 +151,10 @@ module _ (w : SharedValue) (k : ℕ) (p : Private) (I : IsSharedValue w) (F : Fi
     v' = value_of w'
 
     rest_now : rest_at homes t ≡ Some rest
-    rest_now = ap flat (got_set w.homes t (Some rest) has_home)
+    rest_now = ap option_flatten (got_set w.homes t (Some rest) has_home)
 
     rest_off : (u : ℕ) → (u ≡ t → ⊥) → rest_at homes u ≡ rest_at w.homes u
-    rest_off u ne = ap flat (got_other w.homes t u (Some rest) ne)
+    rest_off u ne = ap option_flatten (got_other w.homes t u (Some rest) ne)
 
     home_now : v'.homes t ≡ home_of rest
     home_now = ap home_in rest_now
@@ -179,7 +180,7 @@ module _ (w : SharedValue) (k : ℕ) (p : Private) (I : IsSharedValue w) (F : Fi
     counts : RanCounts w.program (totals_of w) (totals_of w') M L t k p.fresh S.task S.line Finishing D
     counts = record {
       tree = record { node = node_by w.tree t Ended (slice_get w.tree t) refl; others = λ u ne. node_off w.tree t Ended (slice_get w.tree t) u ne };
-      task_out = record { task_out = ap flat (got_set w.tasks_out k None (worker_there w (last_event k p) I free)); others = λ u ne. ap flat (got_other w.tasks_out k u None ne) };
+      task_out = record { task_out = ap option_flatten (got_set w.tasks_out k None (worker_there w (last_event k p) I free)); others = λ u ne. ap option_flatten (got_other w.tasks_out k u None ne) };
       outputs = refl;
       end = refl;
       used = refl;
@@ -216,5 +217,5 @@ module _ (w : SharedValue) (k : ℕ) (p : Private) (I : IsSharedValue w) (F : Fi
     -- THE PARTS OF OTHERS
     pub done_others : OthersFit w w' k
     done_others u r ne G =
-        part_fits w (last_event k p) I free tree w.pool homes w.sets tasks_out w.outputs steps (Some (Machine Done)) j.room done_world u r r (ap flat (got_other w.tasks_out k u None ne)) G refl refl refl G.form G.measured
+        part_fits w (last_event k p) I free tree w.pool homes w.sets tasks_out w.outputs steps (Some (Machine Done)) j.room done_world u r r (ap option_flatten (got_other w.tasks_out k u None ne)) G refl refl refl G.form G.measured
         (ran_leaves w.program w.settings v v' l L t k p.fresh h E own (p.frames.top, p.frames.below, ends_home) (part_of w.settings r) (held_apart w k u p r F G ne) G.fits)

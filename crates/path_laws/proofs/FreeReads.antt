@@ -1,5 +1,6 @@
 -- Reads that are never stopped, and the owner that a stop names.
 use Rattle.std.proofs.Common.{◌≡◌, ℕ, true, false, cond, Option, Some, None, List, [], ◌∷◌, length, slice_get, slice_set, ◌⊎◌, inl, inr, refl, ap, sym, subst, ◌∙◌, is_some}
+use Rattle.std.specs.Option.{option_flatten}
 use Rattle.std.proofs.lemmas.Bool.{cases_eq, both_ways}
 use Rattle.std.proofs.lemmas.Option.{same_Some}
 use Rattle.listed.proofs.Members.{In, in_from_contains, contains_from_in}
@@ -11,7 +12,7 @@ use Rattle.hh_model.specs.declared.data.End.{End}
 use Rattle.hh_model.specs.declared.data.End.TheVariants.{Done, Trapped, Entangled}
 use Rattle.hh_model.specs.declared.data.Trap.TheVariants.{Nil}
 use Rattle.hh_model.specs.declared.data.State.{State}
-use Rattle.hh_model.specs.Effect.{Goes, Stops, flat, object_at, onward, or_trap, read_effect, with_ref, ref_in}
+use Rattle.hh_model.specs.Effect.{Goes, Stops, object_at, onward, or_trap, read_effect, with_ref, ref_in}
 use Rattle.hh_model.specs.Names.{task_names, refs_at, refs_of}
 use Rattle.hh_model.specs.Precedence.{Precedes, precedes}
 use Rattle.hh_model.specs.Step.{ended_by, is_running, is_waiting, is_joined, joined, parents, path_in, is_on_path, owner_of, run, run_from, start, setting, step, strand_of, child, ended_task, result_of}
@@ -74,7 +75,7 @@ module _ (m : State) (K : Kept m) (I : Disentangled m.tasks m.store) (S : Closed
           let h = in_from_contains o.refs (Some r) c in
           let s = stored r h in
           (s.0, s.1, (K.tree.right s.0.strand (strand_of t x)).0 (test r s.0 h s.1));
-      goes = λ at d. yields d (flat (slice_get o.refs at)) (λ q e. at_in o.refs at q e);
+      goes = λ at d. yields d (option_flatten (slice_get o.refs at)) (λ q e. at_in o.refs at q e);
     }
 
   pub own_reads : (n : Name) (o : Object) → In (task_names x) n → object_at m.store n ≡ Some o → owner_of m.tasks n.task ≡ t → ReadsFreely m t x o

@@ -1,5 +1,6 @@
 -- Laws of reads: which are never stopped, and whom a stop names.
 use Rattle.std.specs.Prelude.{◌≡◌, ◌↔◌, ℕ, true, false, Some, None, List, length, slice_get, Contains}
+use Rattle.std.specs.Option.{option_flatten}
 use Rattle.hh_lang.specs.declared.instr.Instr.TheVariants.{Getr}
 use Rattle.hh_lang.specs.declared.program.Line.{Line}
 use Rattle.hh_lang.specs.Form.{ProgramText}
@@ -8,7 +9,7 @@ use Rattle.hh_model.specs.declared.data.Object.{Object}
 use Rattle.hh_model.specs.declared.data.Task.{Task}
 use Rattle.hh_model.specs.declared.data.End.TheVariants.{Entangled}
 use Rattle.hh_model.specs.declared.data.State.{State}
-use Rattle.hh_model.specs.Effect.{Goes, flat, int_in, object_at, onward, place_in, read_effect, ref_in, with_ref}
+use Rattle.hh_model.specs.Effect.{Goes, int_in, object_at, onward, place_in, read_effect, ref_in, with_ref}
 use Rattle.hh_model.specs.Names.{task_names, refs_at}
 use Rattle.hh_model.specs.Precedence.{Precedes}
 use Rattle.hh_model.specs.Step.{ended_by, is_running, joined, is_on_path, owner_of, run, setting, step, strand_of, with_task}
@@ -28,7 +29,7 @@ PrecedesTask m t x n = (o : Object) × (object_at m.store n ≡ Some o) × Prece
 -- each reference field of the object is nil or names an object that precedes the task, so that its read is never stopped
 pub record ReadsFreely (m : State) (t : ℕ) (x : Task) (o : Object) : Type 0 where
   pub precede : (r : Name) → Contains o.refs (Some r) → PrecedesTask m t x r
-  pub goes : (at d : ℕ) → let r = flat (slice_get o.refs at) in read_effect (setting m t x) x.top m.store d r ≡ Goes (onward (with_ref x.top d r)) m.store
+  pub goes : (at d : ℕ) → let r = option_flatten (slice_get o.refs at) in read_effect (setting m t x) x.top m.store d r ≡ Goes (onward (with_ref x.top d r)) m.store
 
 -- a task's reads of an object that it owns are never stopped
 abbrev pub OwnReadsGo : Type 0

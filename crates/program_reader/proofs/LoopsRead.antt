@@ -24,8 +24,8 @@ use Rattle.program_reader.specs.Names.{Entry, is_noted, noted, place_of}
 use Rattle.program_reader.specs.Sense.{sense_of, loop_function, looping, only_name}
 use Rattle.program_reader.specs.Around.{head_of_line, operands_of_line, begun_name, noted_if, outline_line, outline_above, outline_onto, outline_of, no_labels, labels_onto}
 use Rattle.program_reader.specs.Fault.{spot_of, is_misplaced, has_wrong_operand, leaves_open, is_named_in, is_second, names_no_function, names_no_label, lacks_main, is_too_many, first_cause, fault_by, fault_on, or_later, fault_from}
-use Rattle.program_reader.specs.Program.{on_line, function_of, loop_functions, loops_from, number_of, whole_code, left_code, right_code, with_function, functions_from, code_from}
-use Rattle.hh_lang.specs.Loop.{instrs_of}
+use Rattle.program_reader.specs.Program.{on_line, function_of, loop_from, loop_functions, loops_from, number_of, with_function, functions_from, code_from}
+use Rattle.hh_lang.specs.Loop.{instrs_of, whole_code, left_code, right_code}
 use Rattle.program_reader.specs.LoopLaw.{LoopsAreRead}
 
 -- AS MANY FUNCTIONS AS NAMES
@@ -151,12 +151,12 @@ loops_are_read text name f k none is_name_of is_f is_k =
     let within = position-Some (λ (e : Entry). bytes_eq name e.name) o.functions f d is_f in
     let few : f < length o.functions = within.0 in
     let main = number_of o (codes "main") in (
-      record { body = f; whole = first; left = first + 1; right = first + 2 },
+      loop_from f first,
       record {
         instr = ap (λ b. cond b (looping o (place_of o.functions name) (place_of o.loops name)) WrongOperand) is_name_of ∙ (λ z. looping o (is_f z) (is_k z));
         body = is_f;
         runs = record {
-          whole = instrs_at o fs main long k e.0 e.1 0 _ (whole_code (number_of o e.0.name) first) refl (omega arith) first (omega arith) ∙ ap (λ b. whole_code b first) body;
+          whole = instrs_at o fs main long k e.0 e.1 0 _ (whole_code (loop_from (number_of o e.0.name) first)) refl (omega arith) first (omega arith) ∙ ap (λ b. whole_code (loop_from b first)) body;
           left = instrs_at o fs main long k e.0 e.1 1 _ (left_code first) refl (omega arith) (first + 1) refl;
           right = instrs_at o fs main long k e.0 e.1 2 _ (right_code first) refl (omega arith) (first + 2) refl;
           apart = λ h. omega arith;

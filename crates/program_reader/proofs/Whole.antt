@@ -10,10 +10,11 @@ use Rattle.std.proofs.lemmas.List.Quantifiers.{position-Some}
 use Rattle.std.proofs.lemmas.Slice.Eq.{bytes_eq-Decides}
 use Rattle.hh_lang.specs.declared.program.Fun.{Fun}
 use Rattle.hh_lang.specs.Form.{NamesExist, IsFunction, IsProgram}
+use Rattle.hh_lang.specs.Loop.{whole_code, left_code, right_code}
 use Rattle.program_reader.specs.declared.sense.Outline.{Outline}
 use Rattle.program_reader.specs.Names.{Entry, is_noted, place_of}
 use Rattle.program_reader.specs.Sense.{IsSmall, loop_function}
-use Rattle.program_reader.specs.Program.{number_of, on_line, whole_code, left_code, right_code, loop_functions, loops_from}
+use Rattle.program_reader.specs.Program.{number_of, loop_from, on_line, loop_functions, loops_from}
 use Rattle.program_reader.specs.Reading.{program_in}
 use Rattle.program_reader.proofs.Ranges.{all_functions, place_below}
 use Rattle.program_reader.proofs.Sounds.{fun_names, entry_names}
@@ -41,7 +42,7 @@ below_here = omega arith
 below_there : 13 < 16
 below_there = omega arith
 
-whole_in : (n f first all : ℕ) → f < all → first + 1 < all → first + 2 < all → Each (λ l. NamesExist all 16 l.instr) (on_line n (whole_code f first))
+whole_in : (n f first all : ℕ) → f < all → first + 1 < all → first + 2 < all → Each (λ l. NamesExist all 16 l.instr) (on_line n (whole_code (loop_from f first)))
 whole_in n f first all a b c = (tt, (below_there, (tt, (tt, (tt, (below_here, (a, (tt, (tt, ((b, c), (tt, (tt, (tt, (tt, (tt, (tt, tt))))))))))))))))
 
 half_in : (n first all : ℕ) → first < all → Each (λ l. NamesExist all 6 l.instr) (on_line n (left_code first))
@@ -54,7 +55,7 @@ loop_in : (o : Outline) (first : ℕ) (e : Entry) → number_of o e.name < all_f
 loop_in o first e a b =
     let one : first + 1 < all_functions o = omega (arith, b) in
     let none : first < all_functions o = omega (arith, b) in (
-      record { sized = omega arith; names = each_all (λ l. NamesExist (all_functions o) 16 l.instr) (on_line e.number (whole_code (number_of o e.name) first)) (whole_in e.number (number_of o e.name) first (all_functions o) a one b); ends = tt },
+      record { sized = omega arith; names = each_all (λ l. NamesExist (all_functions o) 16 l.instr) (on_line e.number (whole_code (loop_from (number_of o e.name) first))) (whole_in e.number (number_of o e.name) first (all_functions o) a one b); ends = tt },
       (
         record { sized = omega arith; names = each_all (λ l. NamesExist (all_functions o) 6 l.instr) (on_line e.number (left_code first)) (half_in e.number first (all_functions o) none); ends = tt },
         (record { sized = omega arith; names = each_all (λ l. NamesExist (all_functions o) 6 l.instr) (on_line e.number (right_code first)) (other_half_in e.number first (all_functions o) none); ends = tt }, tt),

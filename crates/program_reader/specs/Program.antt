@@ -1,13 +1,12 @@
 -- The program of a text.
 use Rattle.std.specs.Prelude.{ℕ, ◌+◌, Option, Some, None, List, [], ◌∷◌, ◌++◌, codes, map, Result, Ok, Err}
 use Rattle.std.specs.Option.{unwrap_or}
-use Rattle.hh_lang.specs.declared.instr.Operator.TheVariants.{Add, Sub, Div, Lt, Eq}
 use Rattle.hh_lang.specs.declared.instr.Instr.{Instr}
-use Rattle.hh_lang.specs.declared.instr.Instr.TheVariants.{Set, Nil, Calc, Jz, Call, Par, Ret}
+use Rattle.hh_lang.specs.declared.instr.Instr.TheVariants.{Ret}
 use Rattle.hh_lang.specs.declared.program.Line.{Line}
 use Rattle.hh_lang.specs.declared.program.Fun.{Fun}
 use Rattle.hh_lang.specs.Form.{ProgramText}
-use Rattle.std.specs.Prelude.{pos}
+use Rattle.hh_lang.specs.Loop.{Loop, whole_code, left_code, right_code}
 use Rattle.program_reader.specs.declared.head.Head.{Head}
 use Rattle.program_reader.specs.declared.head.Head.TheVariants.{Begin, End}
 use Rattle.program_reader.specs.declared.sense.Sense.{Sense}
@@ -59,23 +58,9 @@ number_of o name = unwrap_or (place_of o.functions name) 0
 abbrev pub on_line : ℕ → List Instr → List Line
 on_line number code = map (λ i. line_of i number) code
 
--- `f?` calls f where one number is left, forks both halves where there are more, and answers 0 where
--- there is none
-abbrev pub whole_code : ℕ → ℕ → List Instr
-whole_code f first =
-    Calc Lt 14 0 1 ∷ Jz 14 13 ∷
-    Set 13 (pos 1) ∷ Calc Add 14 0 13 ∷ Calc Eq 14 14 1 ∷ Jz 14 9 ∷
-    Call f ∷ Nil 0 ∷ Ret ∷
-    Par (first + 1) (first + 2) ∷ Calc Add 0 0 1 ∷ Nil 0 ∷ Ret ∷
-    Set 0 (pos 0) ∷ Nil 0 ∷ Ret ∷ []
-
--- `f<` goes over the first half
-abbrev pub left_code : ℕ → List Instr
-left_code first = Set 13 (pos 2) ∷ Calc Sub 14 1 0 ∷ Calc Div 14 14 13 ∷ Calc Add 1 0 14 ∷ Call first ∷ Ret ∷ []
-
--- `f>` goes over the second half
-abbrev pub right_code : ℕ → List Instr
-right_code first = Set 13 (pos 2) ∷ Calc Sub 14 1 0 ∷ Calc Div 14 14 13 ∷ Calc Add 0 0 14 ∷ Call first ∷ Ret ∷ []
+-- the loop over the function f, whose own functions have the numbers from `first` on
+abbrev pub loop_from : ℕ → ℕ → Loop
+loop_from f first = record { body = f; whole = first; left = first + 1; right = first + 2 }
 
 abbrev pub function_of : List ℕ → ℕ → List Instr → Fun
 function_of name number code = record { name = name; code = on_line number code }
@@ -83,7 +68,7 @@ function_of name number code = record { name = name; code = on_line number code 
 -- the three functions of a loop; the first one's number is `first`, and all lines are that of the first `pfor f`
 abbrev pub loop_functions : Outline → ℕ → Entry → List Fun
 loop_functions o first e =
-    function_of (e.name ++ codes "?") e.number (whole_code (number_of o e.name) first) ∷
+    function_of (e.name ++ codes "?") e.number (whole_code (loop_from (number_of o e.name) first)) ∷
     function_of (e.name ++ codes "<") e.number (left_code first) ∷
     function_of (e.name ++ codes ">") e.number (right_code first) ∷ []
 

@@ -3,7 +3,8 @@
 ghost use Rattle.std.specs.Prelude.{◌≡◌, ◌<◌, ◌+◌, ◌^◌, ◌++◌, ◌∷◌, [], length, codes, IfOk, OnOk, MatchOption, slice_get};
 ghost use Rattle.program_reader.specs.Names.{entry_of};
 ghost use Rattle.program_reader.specs.Sense.{IsSmall, loop_function};
-ghost use Rattle.program_reader.specs.Program.{function_of, on_line, whole_code, left_code, right_code, loop_functions, loops_from, number_of};
+ghost use Rattle.hh_lang.specs.Loop.{whole_code, left_code, right_code};
+ghost use Rattle.program_reader.specs.Program.{function_of, loop_from, on_line, loop_functions, loops_from, number_of};
 
 use crate::sense::Outline;
 use hh_lang::{Fun, Instr, IntReg, Line, Operator, RefReg};
@@ -52,7 +53,7 @@ fn whole_function(
     first: u32,
 ) -> Result<Fun, AllocError>
     requires { first + 2 < 2 ^ 32 }
-    ensures { IfOk result (λ f. f ≡ function_of (name.now ++ codes "?") number (whole_code function first)) }
+    ensures { IfOk result (λ f. f ≡ function_of (name.now ++ codes "?") number (whole_code (loop_from function first))) }
 {
     let low = IntReg::new(0);
     let high = IntReg::new(1);

@@ -1,11 +1,12 @@
 -- What an instruction makes of the store, told by what it does and not by what the store becomes.
 use Rattle.std.proofs.Common.{◌≡◌, ℕ, ℤ, ◌==◌, Bool, true, false, Option, Some, None, List, [], ◌∷◌, ◌++◌, length, slice_get, slice_set}
+use Rattle.std.specs.Option.{option_flatten}
 use Rattle.hh_lang.specs.declared.instr.Instr.{Instr}
 use Rattle.hh_lang.specs.declared.instr.Instr.TheVariants.{Getr, Geti, Putr, Puti, Freeze, Cas}
 use Rattle.hh_model.specs.declared.data.Name.{Name}
 use Rattle.hh_model.specs.declared.data.Object.{Object}
 use Rattle.hh_model.specs.declared.data.Frame.{Frame}
-use Rattle.hh_model.specs.Effect.{Setting, flat, int_in, object_at, place_in, ref_in, row_of, same_name}
+use Rattle.hh_model.specs.Effect.{Setting, int_in, object_at, place_in, ref_in, row_of, same_name}
 use Rattle.renaming_laws.specs.Renaming.{name_to, object_to, ref_to}
 
 -- one object becomes another
@@ -76,7 +77,7 @@ module _ (s : Setting) (x : Frame) (store : List (List Object)) where
   abbrev pub Writes : Instr → Bool → Name → ℕ → Type 0
   Writes (Putr o k v) b n at = Reach false true o k b n at
   Writes (Puti o k v) b n at = Reach true true o k b n at
-  Writes (Cas d o k e v) b n at = (r : Reach false true o k b n at) × (same_name (flat (slice_get r.object.refs at)) (ref_in x e) ≡ true)
+  Writes (Cas d o k e v) b n at = (r : Reach false true o k b n at) × (same_name (option_flatten (slice_get r.object.refs at)) (ref_in x e) ≡ true)
   Writes _ b n at = ⊥
 
   -- the object that it freezes, which the task owns

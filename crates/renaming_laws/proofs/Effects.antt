@@ -1,6 +1,7 @@
 -- What an instruction does is carried by a renaming: where the frame, the object that it names, the field that it reads
 -- and its tests are alike, so is its effect.
 use Rattle.std.proofs.Common.{◌≡◌, ℕ, zero, suc, pos, ◌==◌, ◌&&◌, Bool, true, false, cond, Option, Some, None, List, [], ◌∷◌, ◌++◌, length, map, take, replicate, slice_get, slice_set, unwrap_or, inl, inr, refl, ap, ap₂, sym, subst, ◌∙◌, eq-eqb, ne_eqb}
+use Rattle.std.specs.Option.{option_flatten, option_map}
 use Rattle.std.proofs.lemmas.Bool.{cases_eq, false≢true}
 use Rattle.std.proofs.Math.Seq.{map-set}
 use Rattle.listed.proofs.Members.{In}
@@ -12,10 +13,10 @@ use Rattle.hh_model.specs.declared.data.Object.{Object}
 use Rattle.hh_model.specs.declared.data.Frame.{Frame}
 use Rattle.hh_model.specs.declared.data.Trap.{Trap}
 use Rattle.hh_model.specs.declared.data.Trap.TheVariants.{Nil, Range, Frozen, Div, Size}
-use Rattle.hh_model.specs.Effect.{Effect, Goes, Prints, Calls, Forks, Returns, Traps, Stops, Setting, effect, made, row_of, object_at, put_object, counts_in, int_in, ref_in, or_trap, with_object, read_effect, calculated, place_in, flat, flag, same_name, onward, with_ref, with_int, int_eq, unless_frozen}
+use Rattle.hh_model.specs.Effect.{Effect, Goes, Prints, Calls, Forks, Returns, Traps, Stops, Setting, effect, made, row_of, object_at, put_object, counts_in, int_in, ref_in, or_trap, with_object, read_effect, calculated, place_in, flag, same_name, onward, with_ref, with_int, int_eq, unless_frozen}
 use Rattle.hh_model.specs.Precedence.{precedes}
 use Rattle.hh_model.proofs.Carried.{at_in}
-use Rattle.renaming_laws.specs.Renaming.{or_none, name_to, ref_to, strand_to, object_to, frame_to}
+use Rattle.renaming_laws.specs.Renaming.{name_to, ref_to, strand_to, object_to, frame_to}
 use Rattle.renaming_laws.proofs.Changed.{Change, Same, Grows, Edits, ChangesBy, Edit, SetRef, SetNumber, Freezes, EditsBy, Reach, Reaches, change_to, changed, edit_to, edited, put_in}
 use Rattle.renaming_laws.proofs.Lists.{got_map}
 
@@ -31,12 +32,12 @@ module _ (f g : ℕ → ℕ) (back : (t : ℕ) → g (f t) ≡ t) where
   none_map zero = refl
   none_map (suc k) = ap (λ ys. None ∷ ys) (none_map k)
 
-  pub flat_to : (o : Option (Option Name)) → flat (or_none (ref_to f) o) ≡ ref_to f (flat o)
+  pub flat_to : (o : Option (Option Name)) → option_flatten (option_map (ref_to f) o) ≡ ref_to f (option_flatten o)
   flat_to None = refl
   flat_to (Some r) = refl
 
   pub ref_carried : (x : Frame) (i : ℕ) → ref_in (frame_to f x) i ≡ ref_to f (ref_in x i)
-  ref_carried x i = ap flat (got_map (ref_to f) x.refs i) ∙ flat_to (slice_get x.refs i)
+  ref_carried x i = ap option_flatten (got_map (ref_to f) x.refs i) ∙ flat_to (slice_get x.refs i)
 
   pub set_carried : (x : Frame) (d : ℕ) (r : Option Name) → with_ref (frame_to f x) d (ref_to f r) ≡ frame_to f (with_ref x d r)
   set_carried x d r = ap (λ rs. record x { refs = rs }) (sym (map-set (ref_to f) x.refs d r))
@@ -67,7 +68,7 @@ module _ (f g : ℕ → ℕ) (back : (t : ℕ) → g (f t) ≡ t) where
       pub mutable : o'.mutable ≡ o.mutable
       pub refs : length o'.refs ≡ length o.refs
       pub ints : length o'.ints ≡ length o.ints
-      pub ref_at : (k : ℕ) → May false n k → slice_get o'.refs k ≡ or_none (ref_to f) (slice_get o.refs k)
+      pub ref_at : (k : ℕ) → May false n k → slice_get o'.refs k ≡ option_map (ref_to f) (slice_get o.refs k)
       pub int_at : (k : ℕ) → May true n k → slice_get o'.ints k ≡ slice_get o.ints k
 
     abbrev pub SeenTo : Name → Option Object → Option Object → Type 0
@@ -87,7 +88,7 @@ module _ (f g : ℕ → ℕ) (back : (t : ℕ) → g (f t) ≡ t) where
       pub count : length (row_of (slice_get store' (f s.task))) ≡ length (row_of (slice_get store s.task))
       pub objects : (n : Name) → In x.refs (Some n) → SeenTo n (object_at store n) (object_at store' (name_to f n))
       pub owners : (n : Name) → In x.refs (Some n) → (owner' (f n.task) == f s.task) ≡ (s.owner n.task == s.task)
-      pub tests : (n q : Name) (o : Object) (k : ℕ) → In x.refs (Some n) → object_at store n ≡ Some o → May false n k → flat (slice_get o.refs k) ≡ Some q → TestTo (object_at store q) (object_at store' (name_to f q))
+      pub tests : (n q : Name) (o : Object) (k : ℕ) → In x.refs (Some n) → object_at store n ≡ Some o → May false n k → option_flatten (slice_get o.refs k) ≡ Some q → TestTo (object_at store q) (object_at store' (name_to f q))
 
     -- WHAT BECOMES OF BOTH
 
@@ -203,8 +204,8 @@ module _ (f g : ℕ → ℕ) (back : (t : ℕ) → g (f t) ≡ t) where
           object S i o _ _ (λ n y y' e held was was' seen.
           place S i (length y.refs) (length y'.refs) k _ _ seen.refs (λ at e'.
           let m = may false n at (record { kind = refl; name = e; object = y; is = was; place = e'; mutable = λ z. absurd (false≢true z) }) in
-          subst (λ r. EffectTo i (read_effect s x store d (flat (slice_get y.refs at))) (read_effect s' x' store' d r)) (sym (ap flat (seen.ref_at at m) ∙ flat_to (slice_get y.refs at)))
-          (read S i d (flat (slice_get y.refs at)) (λ q e''. S.tests n q y at held was m e''))))
+          subst (λ r. EffectTo i (read_effect s x store d (option_flatten (slice_get y.refs at))) (read_effect s' x' store' d r)) (sym (ap option_flatten (seen.ref_at at m) ∙ flat_to (slice_get y.refs at)))
+          (read S i d (option_flatten (slice_get y.refs at)) (λ q e''. S.tests n q y at held was m e''))))
       effect_carried (Geti d o k) may =
           let i = Geti d o k in
           object S i o _ _ (λ n y y' e held was was' seen.
@@ -240,15 +241,15 @@ module _ (f g : ℕ → ℕ) (back : (t : ℕ) → g (f t) ≡ t) where
           object S i o _ _ (λ n y y' en held was was' seen.
           place S i (length y.refs) (length y'.refs) k _ _ seen.refs (λ at e'. unless S i y y' _ _ seen.mutable (λ mutable.
           let r : Reach s x store false true o k false n at = record { kind = refl; name = en; object = y; is = was; place = e'; mutable = λ z. mutable } in
-          let found : same_name (flat (slice_get y'.refs at)) (ref_in x' w) ≡ same_name (flat (slice_get y.refs at)) (ref_in x w) =
-          ap₂ same_name (ap flat (seen.ref_at at (may false n at r)) ∙ flat_to (slice_get y.refs at)) (ref_carried x w) ∙ same_carried (flat (slice_get y.refs at)) (ref_in x w) in
+          let found : same_name (option_flatten (slice_get y'.refs at)) (ref_in x' w) ≡ same_name (option_flatten (slice_get y.refs at)) (ref_in x w) =
+          ap₂ same_name (ap option_flatten (seen.ref_at at (may false n at r)) ∙ flat_to (slice_get y.refs at)) (ref_carried x w) ∙ same_carried (option_flatten (slice_get y.refs at)) (ref_in x w) in
           subst (λ b. EffectTo i
-          (cond (same_name (flat (slice_get y.refs at)) (ref_in x w)) (Goes (onward (with_int x d (pos 1))) (put_object store n (record y { refs = slice_set y.refs at (ref_in x v) }))) (Goes (onward (with_int x d (pos 0))) store))
+          (cond (same_name (option_flatten (slice_get y.refs at)) (ref_in x w)) (Goes (onward (with_int x d (pos 1))) (put_object store n (record y { refs = slice_set y.refs at (ref_in x v) }))) (Goes (onward (with_int x d (pos 0))) store))
           (cond b (Goes (onward (with_int x' d (pos 1))) (put_object store' (name_to f n) (record y' { refs = slice_set y'.refs at (ref_in x' v) }))) (Goes (onward (with_int x' d (pos 0))) store'))) (sym found)
-          (swapped d o k w v n y y' at r was' (same_name (flat (slice_get y.refs at)) (ref_in x w)) refl))))
+          (swapped d o k w v n y y' at r was' (same_name (option_flatten (slice_get y.refs at)) (ref_in x w)) refl))))
         where
           swapped : (d o k w v : ℕ) (n : Name) (y y' : Object) (at : ℕ) (r : Reach s x store false true o k false n at) → object_at store' (name_to f n) ≡ Some y'
-              → (b : Bool) → same_name (flat (slice_get r.object.refs at)) (ref_in x w) ≡ b
+              → (b : Bool) → same_name (option_flatten (slice_get r.object.refs at)) (ref_in x w) ≡ b
               → EffectTo (Cas d o k w v)
               (cond b (Goes (onward (with_int x d (pos 1))) (put_object store n (record r.object { refs = slice_set r.object.refs at (ref_in x v) }))) (Goes (onward (with_int x d (pos 0))) store))
               (cond b (Goes (onward (with_int x' d (pos 1))) (put_object store' (name_to f n) (record y' { refs = slice_set y'.refs at (ref_in x' v) }))) (Goes (onward (with_int x' d (pos 0))) store'))

@@ -1,5 +1,6 @@
 -- What a renaming leaves as it is: whatever names only tasks that keep their numbers.
 use Rattle.std.proofs.Common.{◌≡◌, ℕ, ℤ, Option, Some, None, List, [], ◌∷◌, map, inl, inr, refl, ap}
+use Rattle.std.specs.Option.{option_map}
 use Rattle.listed.proofs.Members.{In}
 use Rattle.hh_model.specs.declared.data.Name.{Name}
 use Rattle.hh_model.specs.declared.data.Object.{Object}
@@ -7,7 +8,7 @@ use Rattle.hh_model.specs.declared.data.Frame.{Frame}
 use Rattle.hh_model.specs.declared.data.Status.{Status}
 use Rattle.hh_model.specs.declared.data.Status.TheVariants.{Running, Waiting, Ended, Joined}
 use Rattle.hh_model.specs.declared.data.Task.{Task}
-use Rattle.renaming_laws.specs.Renaming.{or_none, ref_to, object_to, frame_to, status_to, task_to}
+use Rattle.renaming_laws.specs.Renaming.{ref_to, object_to, frame_to, status_to, task_to}
 
 module _ (f : ℕ → ℕ) where
   -- these references name tasks that keep their numbers
@@ -52,7 +53,7 @@ module _ (f : ℕ → ℕ) where
     pub top : Keeps x.top.refs
     pub below : (y : Frame) → In x.below y → Keeps y.refs
 
-  parent_fixed : (o : Option ℕ) → ((q : ℕ) → o ≡ Some q → f q ≡ q) → or_none f o ≡ o
+  parent_fixed : (o : Option ℕ) → ((q : ℕ) → o ≡ Some q → f q ≡ q) → option_map f o ≡ o
   parent_fixed None h = refl
   parent_fixed (Some q) h = ap Some (h q refl)
 
@@ -65,7 +66,7 @@ module _ (f : ℕ → ℕ) where
 
   pub task_fixed : (x : Task) → KeepsTask x → task_to f x ≡ x
   task_fixed x K =
-      let parent : or_none f x.parent ≡ x.parent = parent_fixed x.parent K.parent in
+      let parent : option_map f x.parent ≡ x.parent = parent_fixed x.parent K.parent in
       let status : status_to f x.status ≡ x.status = status_fixed x.status K.result in
       let top : frame_to f x.top ≡ x.top = frame_fixed x.top K.top in
       let below : map (frame_to f) x.below ≡ x.below = frames_fixed x.below K.below in

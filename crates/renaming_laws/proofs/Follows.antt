@@ -1,5 +1,6 @@
 -- A step of a renamed task is the renamed step.
 use Rattle.std.proofs.Common.{◌≡◌, ℕ, ℤ, ◌+◌, ◌≤◌, Bool, Option, Some, None, List, [], ◌∷◌, ◌++◌, length, map, slice_get, slice_set, inl, inr, refl, ap, sym, subst, ◌∙◌, arith, length-append, length-set}
+use Rattle.std.specs.Option.{option_map}
 use Rattle.listed.proofs.Members.{In, in_append_cases, in_append_left, in_append_right}
 use Rattle.listed.proofs.Places.{in_map}
 use Rattle.hh_model.specs.declared.data.Name.{Name}
@@ -13,7 +14,7 @@ use Rattle.hh_model.specs.declared.data.End.{End}
 use Rattle.hh_model.specs.declared.data.State.{State}
 use Rattle.hh_model.specs.Effect.{object_at, row_of, with_int, with_ref}
 use Rattle.hh_model.specs.Step.{can_step, edge, ended_by, goes_on, is_running, join_of, joined_task, kept_by, result_in, resumed, runs, strand, with_task}
-use Rattle.renaming_laws.specs.Renaming.{IsRenaming, or_none, name_to, ref_to, edge_to, object_to, frame_to, status_to, task_to, end_to}
+use Rattle.renaming_laws.specs.Renaming.{IsRenaming, name_to, ref_to, edge_to, object_to, frame_to, status_to, task_to, end_to}
 use Rattle.renaming_laws.specs.Alike.{AreAlike}
 use Rattle.renaming_laws.proofs.Effects.{set_carried}
 use Rattle.renaming_laws.proofs.Lists.{ListTo, from_map, got_map, push_to, set_to}
@@ -21,17 +22,17 @@ use Rattle.renaming_laws.proofs.Lists.{ListTo, from_map, got_map, push_to, set_t
 abbrev pub result_to : (ℕ → ℕ) → ℤ × Option Name → ℤ × Option Name
 result_to f r = (r.0, ref_to f r.1)
 
-pub kept_to : (f : ℕ → ℕ) (o : Option Task) → kept_by (or_none (task_to f) o) ≡ or_none (result_to f) (kept_by o)
+pub kept_to : (f : ℕ → ℕ) (o : Option Task) → kept_by (option_map (task_to f) o) ≡ option_map (result_to f) (kept_by o)
 kept_to f None = refl
 kept_to f (Some x) = by x.status
   where
-    by : (s : Status) → result_in (status_to f s) ≡ or_none (result_to f) (result_in s)
+    by : (s : Status) → result_in (status_to f s) ≡ option_map (result_to f) (result_in s)
     by Running = refl
     by Waiting = refl
     by (Ended k r) = refl
     by Joined = refl
 
-runs_to : (f : ℕ → ℕ) (o : Option Task) → is_running (or_none (task_to f) o) ≡ is_running o
+runs_to : (f : ℕ → ℕ) (o : Option Task) → is_running (option_map (task_to f) o) ≡ is_running o
 runs_to f None = refl
 runs_to f (Some x) = by x.status
   where
@@ -41,11 +42,11 @@ runs_to f (Some x) = by x.status
     by (Ended k r) = refl
     by Joined = refl
 
-goes_to : (f : ℕ → ℕ) (e : Option End) (b : Bool) → goes_on (or_none (end_to f) e) b ≡ goes_on e b
+goes_to : (f : ℕ → ℕ) (e : Option End) (b : Bool) → goes_on (option_map (end_to f) e) b ≡ goes_on e b
 goes_to f None b = refl
 goes_to f (Some e) b = refl
 
-pub row_to : (f : ℕ → ℕ) (o : Option (List Object)) → row_of (or_none (map (object_to f)) o) ≡ map (object_to f) (row_of o)
+pub row_to : (f : ℕ → ℕ) (o : Option (List Object)) → row_of (option_map (map (object_to f)) o) ≡ map (object_to f) (row_of o)
 row_to f None = refl
 row_to f (Some row) = refl
 
@@ -60,7 +61,7 @@ module _ (n : ℕ) (f g : ℕ → ℕ) (R : IsRenaming n f g) (m m' : State) (A 
   can_to t = ap (λ o. goes_on m'.end (is_running o)) (A.tasks t) ∙ (ap (goes_on m'.end) (runs_to f (slice_get m.tasks t))
       ∙ (ap (λ e. goes_on e (is_running (slice_get m.tasks t))) A.end ∙ goes_to f m.end (is_running (slice_get m.tasks t))))
 
-  pub object_there : (k : Name) → object_at m'.store (name_to f k) ≡ or_none (object_to f) (object_at m.store k)
+  pub object_there : (k : Name) → object_at m'.store (name_to f k) ≡ option_map (object_to f) (object_at m.store k)
   object_there k =
       ap (λ w. slice_get (row_of w) k.count) (A.objects k.task)
       ∙ (ap (λ (w : List Object). slice_get w k.count) (row_to f (slice_get m.store k.task)) ∙ got_map (object_to f) (row_of (slice_get m.store k.task)) k.count)

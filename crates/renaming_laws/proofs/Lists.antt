@@ -1,16 +1,16 @@
 -- Lists that say the same under a renaming: what stands at k in one stands, changed by h, at f k in the other.
 use Rattle.std.proofs.Common.{◌≡◌, ℕ, zero, suc, ◌+◌, ◌-◌, ◌<◌, ◌≤◌, Option, Some, None, List, [], ◌∷◌, ◌++◌, length, map, slice_get, slice_set, ◌⊎◌, inl, inr, refl, ap, sym, subst, ◌∙◌, arith}
+use Rattle.std.specs.Option.{option_map}
 use Rattle.std.proofs.lemmas.Bool.{cases_eq, cases_lt}
 use Rattle.listed.proofs.Members.{In, got_front, got_back, got_other}
 use Rattle.hh_model.specs.Step.{last_of, front_of}
-use Rattle.renaming_laws.specs.Renaming.{or_none}
 
-pub got_map : {A B : Type 0} (h : A → B) (xs : List A) (k : ℕ) → slice_get (map h xs) k ≡ or_none h (slice_get xs k)
+pub got_map : {A B : Type 0} (h : A → B) (xs : List A) (k : ℕ) → slice_get (map h xs) k ≡ option_map h (slice_get xs k)
 got_map h [] k = refl
 got_map h (x ∷ xs) zero = refl
 got_map h (x ∷ xs) (suc k) = got_map h xs k
 
-pub got_set : {A : Type 0} (xs : List A) (k : ℕ) (x : A) → slice_get (slice_set xs k x) k ≡ or_none (λ y. x) (slice_get xs k)
+pub got_set : {A : Type 0} (xs : List A) (k : ℕ) (x : A) → slice_get (slice_set xs k x) k ≡ option_map (λ y. x) (slice_get xs k)
 got_set [] k x = refl
 got_set (y ∷ ys) zero x = refl
 got_set (y ∷ ys) (suc k) x = got_set ys k x
@@ -19,7 +19,7 @@ pub push_map : {A B : Type 0} (h : A → B) (xs : List A) (x : A) → map h xs +
 push_map h [] x = refl
 push_map h (y ∷ ys) x = ap (λ zs. h y ∷ zs) (push_map h ys x)
 
-pub last_map : {A B : Type 0} (h : A → B) (xs : List A) → last_of (map h xs) ≡ or_none h (last_of xs)
+pub last_map : {A B : Type 0} (h : A → B) (xs : List A) → last_of (map h xs) ≡ option_map h (last_of xs)
 last_map h [] = refl
 last_map h (x ∷ []) = refl
 last_map h (x ∷ y ∷ xs) = last_map h (y ∷ xs)
@@ -36,31 +36,31 @@ from_map h k back (y ∷ ys) x (inr i) = inr (from_map h k back ys x i)
 
 module _ {A : Type 0} (f g : ℕ → ℕ) (back : (t : ℕ) → g (f t) ≡ t) (h : A → A) where
   abbrev pub ListTo : List A → List A → Type 0
-  ListTo xs ys = (k : ℕ) → slice_get ys (f k) ≡ or_none h (slice_get xs k)
+  ListTo xs ys = (k : ℕ) → slice_get ys (f k) ≡ option_map h (slice_get xs k)
 
   apart : (a b : ℕ) → (a ≡ b → ⊥) → f a ≡ f b → ⊥
   apart a b ne e = ne (sym (back a) ∙ (ap g e ∙ back b))
 
-  written : (x : A) (o : Option A) → or_none (λ y. h x) (or_none h o) ≡ or_none h (or_none (λ y. x) o)
+  written : (x : A) (o : Option A) → option_map (λ y. h x) (option_map h o) ≡ option_map h (option_map (λ y. x) o)
   written x None = refl
   written x (Some y) = refl
 
   pub set_to : (xs ys : List A) (k : ℕ) (x : A) → ListTo xs ys → ListTo (slice_set xs k x) (slice_set ys (f k) (h x))
   set_to xs ys k x L j = elim (cases_eq j k) [
     | inl e ↦
-        subst (λ i. slice_get (slice_set ys (f k) (h x)) (f i) ≡ or_none h (slice_get (slice_set xs k x) i)) (sym e)
-        (got_set ys (f k) (h x) ∙ (ap (or_none (λ y. h x)) (L k) ∙ (written x (slice_get xs k) ∙ ap (or_none h) (sym (got_set xs k x)))))
-    | inr ne ↦ got_other ys (f k) (f j) (h x) (apart j k ne) ∙ (L j ∙ ap (or_none h) (sym (got_other xs k j x ne)))
+        subst (λ i. slice_get (slice_set ys (f k) (h x)) (f i) ≡ option_map h (slice_get (slice_set xs k x) i)) (sym e)
+        (got_set ys (f k) (h x) ∙ (ap (option_map (λ y. h x)) (L k) ∙ (written x (slice_get xs k) ∙ ap (option_map h) (sym (got_set xs k x)))))
+    | inr ne ↦ got_other ys (f k) (f j) (h x) (apart j k ne) ∙ (L j ∙ ap (option_map h) (sym (got_other xs k j x ne)))
   ]
 
   pub push_to : (xs ys zs : List A) → length ys ≡ length xs → ((k : ℕ) → length xs ≤ k → f k ≡ k) → ListTo xs ys → ListTo (xs ++ zs) (ys ++ map h zs)
   push_to xs ys zs len beyond L k = elim (cases_lt k (length xs)) [
-    | inl lt ↦ got_front ys (map h zs) (f k) (below lt (cases_lt (f k) (length xs))) ∙ (L k ∙ ap (or_none h) (sym (got_front xs zs k lt)))
+    | inl lt ↦ got_front ys (map h zs) (f k) (below lt (cases_lt (f k) (length xs))) ∙ (L k ∙ ap (option_map h) (sym (got_front xs zs k lt)))
     | inr ge ↦
         let j : f k ≡ length ys + (k - length xs) = omega (arith, beyond k ge, len) in
         let i : length xs + (k - length xs) ≡ k = omega arith in
         ap (slice_get (ys ++ map h zs)) j ∙ (got_back ys (map h zs) (k - length xs)
-        ∙ (got_map h zs (k - length xs) ∙ ap (or_none h) (sym (got_back xs zs (k - length xs)) ∙ ap (slice_get (xs ++ zs)) i)))
+        ∙ (got_map h zs (k - length xs) ∙ ap (option_map h) (sym (got_back xs zs (k - length xs)) ∙ ap (slice_get (xs ++ zs)) i)))
   ]
     where
       below : k < length xs → (f k < length xs) ⊎ (length xs ≤ f k) → f k < length ys

@@ -1,5 +1,6 @@
 -- Owners, and which strand precedes which, under a renaming.
 use Rattle.std.proofs.Common.{◌≡◌, ℕ, zero, suc, ◌<◌, ◌≤◌, Bool, true, false, cond, Option, Some, None, slice_get, ◌⊎◌, inl, inr, refl, ap, sym, subst, ◌∙◌, arith}
+use Rattle.std.specs.Option.{option_map}
 use Rattle.std.proofs.lemmas.Bool.{cases_Bool}
 use Rattle.listed.proofs.Members.{In}
 use Rattle.listed.proofs.Options.{same_truth}
@@ -13,7 +14,7 @@ use Rattle.hh_model.specs.Precedence.{Precedes, precedes}
 use Rattle.hh_model.specs.Step.{is_joined, is_over, joined, owner_by, owner_of, parent_of, parents, through}
 use Rattle.hh_model.specs.Tree.{Kept}
 use Rattle.hh_model.proofs.Paths.{owner_live}
-use Rattle.renaming_laws.specs.Renaming.{IsRenaming, or_none, strand_to, edge_to, status_to, task_to}
+use Rattle.renaming_laws.specs.Renaming.{IsRenaming, strand_to, edge_to, status_to, task_to}
 use Rattle.renaming_laws.specs.Alike.{AreAlike}
 use Rattle.renaming_laws.proofs.Carried.{walk_to}
 
@@ -23,11 +24,11 @@ over_to f Waiting = refl
 over_to f (Ended k r) = refl
 over_to f Joined = refl
 
-pub parent_to : (f : ℕ → ℕ) (o : Option Task) → parent_of (or_none (task_to f) o) ≡ or_none f (parent_of o)
+pub parent_to : (f : ℕ → ℕ) (o : Option Task) → parent_of (option_map (task_to f) o) ≡ option_map f (parent_of o)
 parent_to f None = refl
 parent_to f (Some x) = refl
 
-joined_to : (f : ℕ → ℕ) (o : Option Task) → is_joined (or_none (task_to f) o) ≡ is_joined o
+joined_to : (f : ℕ → ℕ) (o : Option Task) → is_joined (option_map (task_to f) o) ≡ is_joined o
 joined_to f None = refl
 joined_to f (Some x) = over_to f x.status
 
@@ -44,7 +45,7 @@ module _ (n : ℕ) (f g : ℕ → ℕ) (R : IsRenaming n f g) (m m' : State) (K 
   abbrev jd' : ℕ → Bool
   jd' = joined m'.tasks
 
-  par_at : (a : ℕ) → par' (f a) ≡ or_none f (par a)
+  par_at : (a : ℕ) → par' (f a) ≡ option_map f (par a)
   par_at a = ap parent_of (A.tasks a) ∙ parent_to f (slice_get m.tasks a)
 
   jd_at : (a : ℕ) → jd' (f a) ≡ jd a
@@ -62,7 +63,7 @@ module _ (n : ℕ) (f g : ℕ → ℕ) (R : IsRenaming n f g) (m m' : State) (K 
     | inr e ↦ inl e
     | inl e ↦
         let r = K.tree.rooted a e in
-        let e' : par' (f a) ≡ Some (f r.0) = par_at a ∙ ap (or_none f) r.1 in
+        let e' : par' (f a) ≡ Some (f r.0) = par_at a ∙ ap (option_map f) r.1 in
         inr (r.0, e, r.1, K.tree.low a r.0 r.1, e', K'.tree.low (f a) (f r.0) e')
   ]
 

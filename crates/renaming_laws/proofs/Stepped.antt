@@ -1,5 +1,6 @@
 -- A step of a renamed task is the renamed step.
 use Rattle.std.proofs.Common.{◌≡◌, ℕ, ℤ, ◌+◌, ◌-◌, ◌<◌, ◌≤◌, ◌==◌, Bool, true, false, cond, Option, Some, None, List, [], ◌∷◌, ◌++◌, length, map, nat_lt, slice_get, slice_set, refl, ap, sym, subst, ◌∙◌, arith}
+use Rattle.std.specs.Option.{option_map}
 use Rattle.std.proofs.lemmas.Bool.{cond-true, cond-false}
 use Rattle.std.proofs.lemmas.List.{length-map}
 use Rattle.std.proofs.Math.Seq.{map-set}
@@ -17,7 +18,7 @@ use Rattle.hh_model.specs.declared.data.State.{State}
 use Rattle.hh_model.specs.Effect.{Effect, Goes, Prints, Calls, Forks, Returns, Traps, Stops, Setting, effect, int_in, object_at, onward, ref_in, row_of, with_int, with_ref}
 use Rattle.hh_model.specs.Step.{back_in, called, can_step, child, child_ended_by, depth_limit, ended_by, ended_task, entry_frame, fetched, follow, forked, frame_limit, front_of, is_left, join_of, kept_by, last_of, last_return, or_same, owner_of, parent_of, parents, result_of, returned, returned_to, setting, sibling, step, stepped, strand, with_task}
 use Rattle.hh_model.specs.Tree.{Kept}
-use Rattle.renaming_laws.specs.Renaming.{IsRenaming, or_none, ref_to, object_to, frame_to, task_to}
+use Rattle.renaming_laws.specs.Renaming.{IsRenaming, ref_to, object_to, frame_to, task_to}
 use Rattle.renaming_laws.specs.Alike.{AreAlike}
 use Rattle.renaming_laws.proofs.Changed.{Change, Same, Grows, Edits, Edit, SetRef, SetNumber, Freezes, change_to, changed, edit_to, edited, put_in}
 use Rattle.renaming_laws.proofs.Effects.{EffectTo, Sees, SeenTo, TestTo, effect_carried, ref_carried, same_task, set_carried}
@@ -34,7 +35,7 @@ module _ (p : ProgramText) (n : ℕ) (f g : ℕ → ℕ) (R : IsRenaming n f g) 
   either true a c a' c' h k = h
   either false a c a' c' h k = k
 
-  or_to : (o : Option Task) (go go' : Task → State) → ((x : Task) → o ≡ Some x → Alike (go x) (go' (task_to f x))) → Alike (or_same m o go) (or_same m' (or_none (task_to f) o) go')
+  or_to : (o : Option Task) (go go' : Task → State) → ((x : Task) → o ≡ Some x → Alike (go x) (go' (task_to f x))) → Alike (or_same m o go) (or_same m' (option_map (task_to f) o) go')
   or_to None go go' each = A
   or_to (Some x) go go' each = each x refl
 
@@ -52,11 +53,11 @@ module _ (p : ProgramText) (n : ℕ) (f g : ℕ → ℕ) (R : IsRenaming n f g) 
       tests = λ k q o i held was may got. subst (TestTo f g R.back s m'.edges (owner_of m'.tasks) x.top m.store m'.store (λ b k i. Unit {0}) (object_at m.store q)) (sym (object_there n f g R m m' A q)) (tested (object_at m.store q));
     }
       where
-        seen : (k : Name) (o : Option Object) → SeenTo f g R.back s m'.edges (owner_of m'.tasks) x.top m.store m'.store (λ b k i. Unit {0}) k o (or_none (object_to f) o)
+        seen : (k : Name) (o : Option Object) → SeenTo f g R.back s m'.edges (owner_of m'.tasks) x.top m.store m'.store (λ b k i. Unit {0}) k o (option_map (object_to f) o)
         seen k None = tt
         seen k (Some o) = record { mutable = refl; refs = length-map o.refs (ref_to f); ints = refl; ref_at = λ i may. got_map (ref_to f) o.refs i; int_at = λ i may. refl }
 
-        tested : (o : Option Object) → TestTo f g R.back s m'.edges (owner_of m'.tasks) x.top m.store m'.store (λ b k i. Unit {0}) o (or_none (object_to f) o)
+        tested : (o : Option Object) → TestTo f g R.back s m'.edges (owner_of m'.tasks) x.top m.store m'.store (λ b k i. Unit {0}) o (option_map (object_to f) o)
         tested None = tt
         tested (Some o) = test_to n f g R m m' K K' A o.strand s.strand
 
@@ -69,7 +70,7 @@ module _ (p : ProgramText) (n : ℕ) (f g : ℕ → ℕ) (R : IsRenaming n f g) 
         (effect_carried f g R.back s m'.edges (owner_of m'.tasks) x.top m.store m'.store (λ b k i. Unit {0}) sees instr (λ b k i touches. tt))
 
     shift : (st st' a a' : List (List Object)) → st ≡ a → st' ≡ a' → StoreTo n f g R m m' A a a' → StoreTo n f g R m m' A st st'
-    shift st st' a a' e e' L u = ap (λ w. slice_get w (f u)) e' ∙ (L u ∙ ap (λ w. or_none (map (object_to f)) (slice_get w u)) (sym e))
+    shift st st' a a' e e' L u = ap (λ w. slice_get w (f u)) e' ∙ (L u ∙ ap (λ w. option_map (map (object_to f)) (slice_get w u)) (sym e))
 
     -- one row is written
     row_set : (u : ℕ) (row row' : List Object) → row' ≡ map (object_to f) row → StoreTo n f g R m m' A (slice_set m.store u row) (slice_set m'.store (f u) row')
@@ -83,7 +84,7 @@ module _ (p : ProgramText) (n : ℕ) (f g : ℕ → ℕ) (R : IsRenaming n f g) 
     edit_there (SetNumber at k) o = refl
     edit_there Freezes o = refl
 
-    put_there : (row : List Object) (c : ℕ) (e : Edit) (o : Option Object) → put_in (map (object_to f) row) c (edit_to f e) (or_none (object_to f) o) ≡ map (object_to f) (put_in row c e o)
+    put_there : (row : List Object) (c : ℕ) (e : Edit) (o : Option Object) → put_in (map (object_to f) row) c (edit_to f e) (option_map (object_to f) o) ≡ map (object_to f) (put_in row c e o)
     put_there row c e None = refl
     put_there row c e (Some o) = ap (slice_set (map (object_to f) row) c) (edit_there e o) ∙ sym (map-set (object_to f) row c (edited e o))
 
@@ -116,7 +117,7 @@ module _ (p : ProgramText) (n : ℕ) (f g : ℕ → ℕ) (R : IsRenaming n f g) 
     pair_right side = sym (sym (cond-false (is_left (f t)) (f t + 1) (f t - 1) (R.sides t ∙ side)) ∙ (R.siblings t ∙ ap f (cond-false (is_left t) (t + 1) (t - 1) side)))
 
     par_there : (q : ℕ) → x.parent ≡ Some q → parents m'.tasks (f t) ≡ Some (f q)
-    par_there q e = ap parent_of (A.tasks t ∙ ap (or_none (task_to f)) is) ∙ ap (or_none f) e
+    par_there q e = ap parent_of (A.tasks t ∙ ap (option_map (task_to f)) is) ∙ ap (option_map f) e
 
     by_side : (q : ℕ) (xq y : Task) (other : ℤ × Option Name) → x.parent ≡ Some q → (b : Bool) → is_left t ≡ b
         → Alike (cond b (join_of m q xq t x y (result_of x.top) other) (join_of m q xq (t - 1) y x other (result_of x.top)))
@@ -131,7 +132,7 @@ module _ (p : ProgramText) (n : ℕ) (f g : ℕ → ℕ) (R : IsRenaming n f g) 
         subst (λ k. Alike (join_of m q xq (t - 1) y x other (result_of x.top)) (join_of m' (f q) (task_to f xq) k (task_to f y) x' (result_to f other) (result_to f (result_of x.top)))) e
         (joins n f g R m m' A q (t - 1) xq y x other (result_of x.top) (ap f up ∙ same))
 
-    by_other : (q : ℕ) → x.parent ≡ Some q → (o : Option (ℤ × Option Name)) → Alike (child_ended_by m t x q (result_of x.top) o) (child_ended_by m' (f t) x' (f q) (result_to f (result_of x.top)) (or_none (result_to f) o))
+    by_other : (q : ℕ) → x.parent ≡ Some q → (o : Option (ℤ × Option Name)) → Alike (child_ended_by m t x q (result_of x.top) o) (child_ended_by m' (f t) x' (f q) (result_to f (result_of x.top)) (option_map (result_to f) o))
     by_other q pq None = written n f g R m m' A t (ended_task x (result_of x.top)) _ refl
     by_other q pq (Some other) =
         subst (λ o. Alike (child_ended_by m t x q (result_of x.top) (Some other)) (or_same m' o (λ xq. or_same m' (slice_get m'.tasks (sibling (f t))) (λ y.
@@ -145,7 +146,7 @@ module _ (p : ProgramText) (n : ℕ) (f g : ℕ → ℕ) (R : IsRenaming n f g) 
         (cond b (join_of m' (f q) (task_to f xq) (f t) x' (task_to f y) (result_to f (result_of x.top)) (result_to f other)) (join_of m' (f q) (task_to f xq) (f t - 1) (task_to f y) x' (result_to f other) (result_to f (result_of x.top)))))
         (sym (R.sides t)) (by_side q xq y other pq (is_left t) refl)))))
 
-    by_parent : (o : Option ℕ) → x.parent ≡ o → Alike (last_return m t x o) (last_return m' (f t) x' (or_none f o))
+    by_parent : (o : Option ℕ) → x.parent ≡ o → Alike (last_return m t x o) (last_return m' (f t) x' (option_map f o))
     by_parent None e =
         let A' = written n f g R m m' A t (ended_task x (result_of x.top)) (ended_task x' (result_of x'.top)) ended_there in
         halted n f g R (with_task m t (ended_task x (result_of x.top))) (with_task m' (f t) (ended_task x' (result_of x'.top))) A' Done
@@ -155,7 +156,7 @@ module _ (p : ProgramText) (n : ℕ) (f g : ℕ → ℕ) (R : IsRenaming n f g) 
         (sym (ap (λ k. kept_by (slice_get m'.tasks k)) (R.siblings t) ∙ (ap kept_by (A.tasks (sibling t)) ∙ kept_to f (slice_get m.tasks (sibling t)))))
         (by_other q e (kept_by (slice_get m.tasks (sibling t)))))
 
-    by_frame : (o : Option Frame) → Alike (returned_to m t x o) (returned_to m' (f t) x' (or_none (frame_to f) o))
+    by_frame : (o : Option Frame) → Alike (returned_to m t x o) (returned_to m' (f t) x' (option_map (frame_to f) o))
     by_frame None = by_parent x.parent refl
     by_frame (Some a) =
         written n f g R m m' A t (record x { top = back_in a x.top; below = front_of x.below }) (record x' { top = back_in (frame_to f a) (frame_to f x.top); below = front_of (map (frame_to f) x.below) })

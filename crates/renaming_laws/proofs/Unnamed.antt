@@ -1,15 +1,16 @@
 -- What an instruction does where nothing is renamed: it does the same in another setting, where all that it sees is the
 -- same.
 use Rattle.std.proofs.Common.{◌≡◌, ℕ, ◌==◌, Bool, true, false, Option, Some, None, List, length, slice_get, refl, ap, sym, subst, ◌∙◌}
+use Rattle.std.specs.Option.{option_flatten, option_map}
 use Rattle.listed.proofs.Members.{In}
 use Rattle.hh_lang.specs.declared.instr.Instr.{Instr}
 use Rattle.hh_model.specs.declared.data.Name.{Name}
 use Rattle.hh_model.specs.declared.data.Edge.{Edge}
 use Rattle.hh_model.specs.declared.data.Object.{Object}
 use Rattle.hh_model.specs.declared.data.Frame.{Frame}
-use Rattle.hh_model.specs.Effect.{Effect, Goes, Prints, Calls, Forks, Returns, Traps, Stops, Setting, effect, flat, object_at, row_of}
+use Rattle.hh_model.specs.Effect.{Effect, Goes, Prints, Calls, Forks, Returns, Traps, Stops, Setting, effect, object_at, row_of}
 use Rattle.hh_model.specs.Precedence.{precedes}
-use Rattle.renaming_laws.specs.Renaming.{or_none, ref_to}
+use Rattle.renaming_laws.specs.Renaming.{ref_to}
 use Rattle.renaming_laws.proofs.Changed.{Change, Same, Grows, Edits, ChangesBy, Edit, SetRef, SetNumber, Freezes, Reaches, change_to, changed, edit_to}
 use Rattle.renaming_laws.proofs.Effects.{EffectTo, IsSeen, Sees, SeenTo, TestTo, effect_carried}
 use Rattle.renaming_laws.proofs.Fixed.{frame_fixed, object_fixed}
@@ -21,7 +22,7 @@ ref_same : (r : Option Name) → ref_to itself r ≡ r
 ref_same None = refl
 ref_same (Some n) = refl
 
-found_same : (o : Option (Option Name)) → or_none (ref_to itself) o ≡ o
+found_same : (o : Option (Option Name)) → option_map (ref_to itself) o ≡ o
 found_same None = refl
 found_same (Some r) = ap Some (ref_same r)
 
@@ -48,7 +49,7 @@ module _ (s : Setting) (edges' : List Edge) (owner' : ℕ → ℕ) (x : Frame) (
     pub count : length (row_of (slice_get store' s.task)) ≡ length (row_of (slice_get store s.task))
     pub objects : (n : Name) → In x.refs (Some n) → (o : Object) × (o' : Object) × (object_at store n ≡ Some o) × (object_at store' n ≡ Some o') × IsSame n o o'
     pub owners : (n : Name) → In x.refs (Some n) → (owner' n.task == s.task) ≡ (s.owner n.task == s.task)
-    pub tests : (n q : Name) (o : Object) (k : ℕ) → In x.refs (Some n) → object_at store n ≡ Some o → May false n k → flat (slice_get o.refs k) ≡ Some q
+    pub tests : (n q : Name) (o : Object) (k : ℕ) → In x.refs (Some n) → object_at store n ≡ Some o → May false n k → option_flatten (slice_get o.refs k) ≡ Some q
         → (z : Object) × (z' : Object) × (object_at store q ≡ Some z) × (object_at store' q ≡ Some z') × (precedes edges' z'.strand s.strand ≡ precedes s.edges z.strand s.strand)
 
   abbrev pub EffectAs : Instr → Effect → Effect → Type 0

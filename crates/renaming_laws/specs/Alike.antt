@@ -1,15 +1,16 @@
 -- Two machines that are the same but for the numbers of tasks, the order of edges and the outputs.
 use Rattle.std.specs.Prelude.{◌≡◌, ◌↔◌, ℕ, length, map, slice_get}
+use Rattle.std.specs.Option.{option_map}
 use Rattle.listed.specs.Members.{In}
 use Rattle.hh_model.specs.declared.data.Edge.{Edge}
 use Rattle.hh_model.specs.declared.data.State.{State}
-use Rattle.renaming_laws.specs.Renaming.{or_none, edge_to, object_to, task_to, end_to}
+use Rattle.renaming_laws.specs.Renaming.{edge_to, object_to, task_to, end_to}
 
 -- m' is m with each task t renamed to f t
 pub record AreAlike (f : ℕ → ℕ) (m m' : State) : Type 0 where
   pub limit : m'.field_limit ≡ m.field_limit
   pub count : length m'.tasks ≡ length m.tasks
-  pub tasks : (t : ℕ) → slice_get m'.tasks (f t) ≡ or_none (task_to f) (slice_get m.tasks t)
-  pub objects : (t : ℕ) → slice_get m'.store (f t) ≡ or_none (map (object_to f)) (slice_get m.store t)
+  pub tasks : (t : ℕ) → slice_get m'.tasks (f t) ≡ option_map (task_to f) (slice_get m.tasks t)
+  pub objects : (t : ℕ) → slice_get m'.store (f t) ≡ option_map (map (object_to f)) (slice_get m.store t)
   pub edges : (e : Edge) → In m'.edges (edge_to f e) ↔ In m.edges e
-  pub end : m'.end ≡ or_none (end_to f) m.end
+  pub end : m'.end ≡ option_map (end_to f) m.end

@@ -1,5 +1,6 @@
 -- Other numbers for tasks, and what they make of what names tasks.
-use Rattle.std.specs.Prelude.{◌≡◌, ℕ, ◌≤◌, Option, Some, None, map}
+use Rattle.std.specs.Prelude.{◌≡◌, ℕ, ◌≤◌, Option, map}
+use Rattle.std.specs.Option.{option_map}
 use Rattle.hh_model.specs.declared.data.Name.{Name}
 use Rattle.hh_model.specs.declared.data.Strand.{Strand}
 use Rattle.hh_model.specs.declared.data.Edge.{Edge}
@@ -22,15 +23,11 @@ pub record IsRenaming (n : ℕ) (f g : ℕ → ℕ) : Type 0 where
   pub sides : (t : ℕ) → is_left (f t) ≡ is_left t
   pub siblings : (t : ℕ) → sibling (f t) ≡ f (sibling t)
 
-abbrev pub or_none : {A B : Type 0} → (A → B) → Option A → Option B
-or_none h None = None
-or_none h (Some x) = Some (h x)
-
 abbrev pub name_to : (ℕ → ℕ) → Name → Name
 name_to f n = record n { task = f n.task }
 
 abbrev pub ref_to : (ℕ → ℕ) → Option Name → Option Name
-ref_to f r = or_none (name_to f) r
+ref_to f r = option_map (name_to f) r
 
 abbrev pub strand_to : (ℕ → ℕ) → Strand → Strand
 strand_to f s = record s { task = f s.task }
@@ -51,7 +48,7 @@ status_to f (Ended k r) = Ended k (ref_to f r)
 status_to f Joined = Joined
 
 abbrev pub task_to : (ℕ → ℕ) → Task → Task
-task_to f x = record x { parent = or_none f x.parent; status = status_to f x.status; top = frame_to f x.top; below = map (frame_to f) x.below }
+task_to f x = record x { parent = option_map f x.parent; status = status_to f x.status; top = frame_to f x.top; below = map (frame_to f) x.below }
 
 abbrev pub end_to : (ℕ → ℕ) → End → End
 end_to f Done = Done

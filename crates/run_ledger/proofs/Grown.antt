@@ -2,6 +2,7 @@
 use Rattle.run_ledger.specs.Space.{store_words}
 use Rattle.std.proofs.lemmas.List.Sums.{sum_by-append, sum_by-cons}
 use Rattle.std.proofs.Common.{◌≡◌, ℕ, ℤ, zero, suc, pos, ◌+◌, ◌-◌, ◌==◌, ◌<◌, ◌≤◌, Bool, true, false, cond, Option, Some, None, List, [], ◌∷◌, ◌++◌, length, slice_get, slice_set, replicate, take, ◌⊎◌, inl, inr, refl, ap, ap₂, sym, subst, ◌∙◌, arith, is_some, nat_lt, sum_by, length-set}
+use Rattle.std.specs.Option.{option_flatten}
 use Rattle.std.proofs.lemmas.Bool.{false≢true}
 use Rattle.std.proofs.lemmas.Option.{same_Some}
 use Rattle.listed.proofs.Members.{got_within}
@@ -18,7 +19,7 @@ use Rattle.hh_model.specs.declared.data.Trap.{Trap}
 use Rattle.hh_model.specs.declared.data.Trap.TheVariants.{Nil, Range, Frozen, Div, Size, Depth}
 use Rattle.hh_model.specs.declared.data.End.TheVariants.{Trapped}
 use Rattle.hh_model.specs.declared.data.State.{State}
-use Rattle.hh_model.specs.Effect.{Effect, Goes, Prints, Calls, Forks, Returns, Traps, Stops, Setting, effect, made, row_of, object_at, put_object, counts_in, int_in, ref_in, or_trap, with_object, read_effect, calculated, place_in, flat, same_name, onward}
+use Rattle.hh_model.specs.Effect.{Effect, Goes, Prints, Calls, Forks, Returns, Traps, Stops, Setting, effect, made, row_of, object_at, put_object, counts_in, int_in, ref_in, or_trap, with_object, read_effect, calculated, place_in, same_name, onward}
 use Rattle.hh_model.specs.Names.{words_asked, words_for}
 use Rattle.hh_model.specs.Precedence.{precedes}
 use Rattle.hh_model.specs.Store.{IsStored}
@@ -172,7 +173,7 @@ module _ (s : Setting) (f : Frame) (store : List (List Object)) where
       is = refl;
     },
   )
-  makes (Getr d o k) = object (ref_in f o) _ (λ n x is. trap Range (place_in (length x.refs) (int_in f k)) _ (λ at. reads d (flat (slice_get x.refs at))))
+  makes (Getr d o k) = object (ref_in f o) _ (λ n x is. trap Range (place_in (length x.refs) (int_in f k)) _ (λ at. reads d (option_flatten (slice_get x.refs at))))
   makes (Geti d o k) = object (ref_in f o) _ (λ n x is. trap Range (place_in (length x.ints) (int_in f k)) _ (λ at. same))
   makes (Putr o k v) = object (ref_in f o) _ (λ n x is. trap Range (place_in (length x.refs) (int_in f k)) _ (λ at. writable x.mutable _ (put n x _ is (refs_words x at (ref_in f v)))))
   makes (Puti o k v) = object (ref_in f o) _ (λ n x is. trap Range (place_in (length x.ints) (int_in f k)) _ (λ at. writable x.mutable _ (put n x _ is (ints_words x at (int_in f v)))))
@@ -180,7 +181,7 @@ module _ (s : Setting) (f : Frame) (store : List (List Object)) where
   makes (Cnti d o) = object (ref_in f o) _ (λ n x is. same)
   makes (Freeze o) = object (ref_in f o) _ (λ n x is.
       either (s.owner n.task == s.task) (Goes (onward f) (put_object store n (record x { mutable = false }))) (Traps Frozen) (put n x (record x { mutable = false }) is refl) refl)
-  makes (Cas d o k e v) = object (ref_in f o) _ (λ n x is. trap Range (place_in (length x.refs) (int_in f k)) _ (λ at. writable x.mutable _ (either (same_name (flat (slice_get x.refs at)) (ref_in f e)) _ _ (put n x _ is (refs_words x at (ref_in f v))) same)))
+  makes (Cas d o k e v) = object (ref_in f o) _ (λ n x is. trap Range (place_in (length x.refs) (int_in f k)) _ (λ at. writable x.mutable _ (either (same_name (option_flatten (slice_get x.refs at)) (ref_in f e)) _ _ (put n x _ is (refs_words x at (ref_in f v))) same)))
   makes (Call g) = refl
   makes (Par g h) = refl
   makes Ret = refl

@@ -1,9 +1,10 @@
 -- What is written of a journal: the outputs, the report, the trace and the end line; and the exit status.
 use Rattle.std.specs.Prelude.{ℕ, ℤ, Bool, Option, Some, None, List, [], ◌∷◌, ◌++◌, codes, if◌then◌else◌}
-use Rattle.std.specs.List.{flat_map, join_with_byte}
+use Rattle.std.specs.List.{flat_map}
 use Rattle.std.specs.Fmt.{decimal, signed_decimal}
 use Rattle.run_trace.specs.Entry.{EntryValue}
 use Rattle.run_trace.specs.Settings.{SettingsValue}
+pub use Rattle.run_trace.specs.Line.{line}
 use Rattle.run_trace.specs.Trace.{trace_text}
 use Rattle.hh_lang.specs.Form.{ProgramText}
 use Rattle.hh_model.specs.declared.data.Trap.{Trap}
@@ -18,10 +19,6 @@ use Rattle.run_ledger.specs.declared.data.Refused.TheVariants.{Over, Spent, NoWo
 use Rattle.run_ledger.specs.declared.data.RefusedAt.{RefusedAt}
 use Rattle.run_ledger.specs.Journals.{machine_of, end_of}
 use Rattle.run_ledger.specs.Report.{report_of}
-
--- words with a space between each two, and a line feed behind them
-abbrev pub line : List (List ℕ) → List ℕ
-line words = join_with_byte 32 words ++ 10 ∷ []
 
 -- OUTPUTS
 

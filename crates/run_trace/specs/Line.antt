@@ -1,5 +1,6 @@
 -- What a line of a trace text says, and how an entry is written.
 use Rattle.std.specs.Prelude.{ℕ, ◌+◌, ◌^◌, ◌&&◌, Bool, Option, Some, None, List, [], ◌∷◌, ◌++◌, codes, nat_le, nat_lt, if◌then◌else◌}
+use Rattle.std.specs.List.{join_with_byte}
 use Rattle.std.specs.Str.{bytes_eq, is_utf8}
 use Rattle.std.specs.Str.Parse.{digits_value}
 use Rattle.std.specs.Fmt.{decimal}
@@ -68,7 +69,7 @@ said_by_words (w ∷ verb ∷ ws) = entry_by (unsigned_number w) (kind_by verb (
 
 -- what a line says
 abbrev pub said_by : List ℕ → Said
-said_by line = if is_utf8 line then said_by_words (words_of line) else Wrong
+said_by l = if is_utf8 l then said_by_words (words_of l) else Wrong
 
 -- WRITING
 
@@ -86,10 +87,12 @@ kind_words Fuel = codes "fuel" ∷ []
 
 -- words with one space between them
 abbrev pub spaced : List (List ℕ) → List ℕ
-spaced [] = []
-spaced (w ∷ []) = w
-spaced (w ∷ v ∷ ws) = w ++ 32 ∷ spaced (v ∷ ws)
+spaced ws = join_with_byte 32 ws
+
+-- the same, and a line feed
+abbrev pub line : List (List ℕ) → List ℕ
+line ws = spaced ws ++ 10 ∷ []
 
 -- an entry's line, with its line feed
 abbrev pub entry_line : EntryValue → List ℕ
-entry_line e = spaced (decimal e.worker ∷ kind_words e.kind) ++ 10 ∷ []
+entry_line e = line (decimal e.worker ∷ kind_words e.kind)

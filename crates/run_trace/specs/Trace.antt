@@ -13,7 +13,7 @@ use Rattle.run_trace.specs.declared.trace.TraceError.{TraceError}
 use Rattle.run_trace.specs.declared.trace.TraceError.TheVariants.{BadLine, NoMemory}
 use Rattle.run_trace.specs.Entry.{EntryValue}
 use Rattle.run_trace.specs.Settings.{version_number}
-use Rattle.run_trace.specs.Line.{said_by, spaced, entry_line}
+use Rattle.run_trace.specs.Line.{said_by, entry_line, line as line_with}
 
 -- READING
 
@@ -73,7 +73,7 @@ pub record IsTraceText (n : ℕ) (text : List ℕ) (t : Trace) : Type 0 where
 -- WRITING
 
 abbrev pub version_line : Version → List ℕ
-version_line v = spaced (codes "trace" ∷ decimal (version_number v) ∷ []) ++ 10 ∷ []
+version_line v = line_with (codes "trace" ∷ decimal (version_number v) ∷ [])
 
 -- the trace text of a journal
 abbrev pub trace_text : Version → List EntryValue → List ℕ

@@ -1,5 +1,6 @@
 -- Which field an access is of: the instruction reaches it.
 use Rattle.std.proofs.Common.{◌≡◌, ℕ, pos, Bool, true, false, cond, Option, Some, None, length, slice_get, slice_set, unwrap_or, refl, ap, sym, ◌∙◌}
+use Rattle.std.specs.Option.{option_flatten}
 use Rattle.std.proofs.lemmas.Bool.{false≢true}
 use Rattle.std.proofs.lemmas.Option.{same_Some}
 use Rattle.hh_lang.specs.declared.instr.Instr.{Instr}
@@ -13,7 +14,7 @@ use Rattle.hh_model.specs.declared.data.Task.{Task}
 use Rattle.hh_model.specs.declared.data.Trap.{Trap}
 use Rattle.hh_model.specs.declared.data.Trap.TheVariants.{Frozen, Nil, Range}
 use Rattle.hh_model.specs.declared.data.State.{State}
-use Rattle.hh_model.specs.Effect.{Effect, Goes, Prints, Calls, Forks, Returns, Traps, Stops, Setting, effect, flat, int_in, object_at, onward, or_trap, place_in, put_object, read_effect, ref_in, same_name, unless_frozen, with_int, with_object}
+use Rattle.hh_model.specs.Effect.{Effect, Goes, Prints, Calls, Forks, Returns, Traps, Stops, Setting, effect, int_in, object_at, onward, or_trap, place_in, put_object, read_effect, ref_in, same_name, unless_frozen, with_int, with_object}
 use Rattle.hh_model.specs.Precedence.{precedes}
 use Rattle.hh_model.specs.Step.{setting, strand_of}
 use Rattle.hh_model.specs.Store.{NamesAreStoredIn}
@@ -86,8 +87,8 @@ module _ (p : ProgramText) (m : State) (N : NamesAreStoredIn m) (u : ℕ) (y : T
       let is = r.is in
       let name = r.name in
       let place : place_in (length r.object.refs) (int_in f k) ≡ Some at = r.place in
-      hit (Getr d o k) b n at (read_effect s f m.store d (flat (slice_get r.object.refs at))) false false (simp (name, is, place) refl)
-      (reads d (flat (slice_get r.object.refs at)) _ (λ q e. in_field p m N u n q r.object at r.is e)) (ap (access (strand_of u y) line.number false false) (named b o k false false n at r)) (λ w. absurd w)
+      hit (Getr d o k) b n at (read_effect s f m.store d (option_flatten (slice_get r.object.refs at))) false false (simp (name, is, place) refl)
+      (reads d (option_flatten (slice_get r.object.refs at)) _ (λ q e. in_field p m N u n q r.object at r.is e)) (ap (access (strand_of u y) line.number false false) (named b o k false false n at r)) (λ w. absurd w)
   reached (Geti d o k) b n at r =
       let is = r.is in
       let name = r.name in
@@ -113,10 +114,10 @@ module _ (p : ProgramText) (m : State) (N : NamesAreStoredIn m) (u : ℕ) (y : T
       let mutable = r.mutable refl in
       let place : place_in (length r.object.refs) (int_in f k) ≡ Some at = r.place in
       hit (Cas d o k e v) b n at
-      (cond (same_name (flat (slice_get r.object.refs at)) (ref_in f e)) (Goes (onward (with_int f d (pos 1))) (put_object m.store n (record r.object { refs = slice_set r.object.refs at (ref_in f v) }))) (Goes (onward (with_int f d (pos 0))) m.store))
-      (same_name (value_of m.store (field_of b n at)) (ref_in f e)) true (simp (name, is, place, mutable) refl) (swaps_to (same_name (flat (slice_get r.object.refs at)) (ref_in f e)) (Goes (onward (with_int f d (pos 1))) (put_object m.store n (record r.object { refs = slice_set r.object.refs at (ref_in f v) }))) (Goes (onward (with_int f d (pos 0))) m.store) (record { strand = strand_of u y; line = line.number; field = field_of b n at; writes = same_name (value_of m.store (field_of b n at)) (ref_in f e); swaps = true }) refl refl)
+      (cond (same_name (option_flatten (slice_get r.object.refs at)) (ref_in f e)) (Goes (onward (with_int f d (pos 1))) (put_object m.store n (record r.object { refs = slice_set r.object.refs at (ref_in f v) }))) (Goes (onward (with_int f d (pos 0))) m.store))
+      (same_name (value_of m.store (field_of b n at)) (ref_in f e)) true (simp (name, is, place, mutable) refl) (swaps_to (same_name (option_flatten (slice_get r.object.refs at)) (ref_in f e)) (Goes (onward (with_int f d (pos 1))) (put_object m.store n (record r.object { refs = slice_set r.object.refs at (ref_in f v) }))) (Goes (onward (with_int f d (pos 0))) m.store) (record { strand = strand_of u y; line = line.number; field = field_of b n at; writes = same_name (value_of m.store (field_of b n at)) (ref_in f e); swaps = true }) refl refl)
       (ap (swap_access (strand_of u y) line.number m.store (ref_in f e)) (named b o k false true n at r))
-      (λ w. ap (λ q. same_name (flat (slice_get (refs_in q) at)) (ref_in f e)) w.0.is ∙ w.1)
+      (λ w. ap (λ q. same_name (option_flatten (slice_get (refs_in q) at)) (ref_in f e)) w.0.is ∙ w.1)
   reached _ b n at r = absurd r
 
   pub reached_at : (b : Bool) (n : Name) (at : ℕ) → Reaches s f m.store line.instr b n at → (a : Access) × (access_of p m u ≡ Some a) × (a.field ≡ field_of b n at) × (a.strand ≡ strand_of u y)
@@ -212,7 +213,7 @@ module _ (p : ProgramText) (m : State) (N : NamesAreStoredIn m) (u : ℕ) (y : T
 
   pub found_by : (i : Instr) (a : Access) → made_by i ≡ Some a → Found i a
   found_by (Getr d o k) a h =
-      plain (Getr d o k) false o k (λ n z at. read_effect s f m.store d (flat (slice_get z.refs at))) false false false a (λ n at r. r) (λ n z at b e. ((λ q. absurd (false≢true q)), made (read_effect s f m.store d (flat (slice_get z.refs at))) b a e)) h
+      plain (Getr d o k) false o k (λ n z at. read_effect s f m.store d (option_flatten (slice_get z.refs at))) false false false a (λ n at r. r) (λ n z at b e. ((λ q. absurd (false≢true q)), made (read_effect s f m.store d (option_flatten (slice_get z.refs at))) b a e)) h
   found_by (Geti d o k) a h =
       plain (Geti d o k) true o k (λ n z at. Goes (onward (with_int f d (unwrap_or (slice_get z.ints at) (pos 0)))) m.store) false false false a (λ n at r. r) (λ n z at b e. ((λ q. absurd (false≢true q)), made (Goes (onward (with_int f d (unwrap_or (slice_get z.ints at) (pos 0)))) m.store) b a e)) h
   found_by (Putr o k v) a h =
@@ -222,10 +223,10 @@ module _ (p : ProgramText) (m : State) (N : NamesAreStoredIn m) (u : ℕ) (y : T
       plain (Puti o k v) true o k (λ n z at. unless_frozen z (Goes (onward f) (put_object m.store n (record z { ints = slice_set z.ints at (int_in f v) })))) true false true a (λ n at r. r)
       (λ n z at b e. (let q = unfrozen z.mutable (Goes (onward f) (put_object m.store n (record z { ints = slice_set z.ints at (int_in f v) }))) (Some b) a e in ((λ w. q.0), made (Goes (onward f) (put_object m.store n (record z { ints = slice_set z.ints at (int_in f v) }))) b a q.1))) h
   found_by (Cas d o k e v) a h =
-      let z = found false o k (λ n z at. unless_frozen z (cond (same_name (flat (slice_get z.refs at)) (ref_in f e)) (Goes (onward (with_int f d (pos 1))) (put_object m.store n (record z { refs = slice_set z.refs at (ref_in f v) }))) (Goes (onward (with_int f d (pos 0))) m.store)))
+      let z = found false o k (λ n z at. unless_frozen z (cond (same_name (option_flatten (slice_get z.refs at)) (ref_in f e)) (Goes (onward (with_int f d (pos 1))) (put_object m.store n (record z { refs = slice_set z.refs at (ref_in f v) }))) (Goes (onward (with_int f d (pos 0))) m.store)))
       (swap_access (strand_of u y) line.number m.store (ref_in f e)) a refl h in
       let b : Access = record { strand = strand_of u y; line = line.number; field = field_of false z.0 z.2; writes = same_name (value_of m.store (field_of false z.0 z.2)) (ref_in f e); swaps = true } in
-      let does : Effect = cond (same_name (flat (slice_get z.1.refs z.2)) (ref_in f e)) (Goes (onward (with_int f d (pos 1))) (put_object m.store z.0 (record z.1 { refs = slice_set z.1.refs z.2 (ref_in f v) }))) (Goes (onward (with_int f d (pos 0))) m.store) in
+      let does : Effect = cond (same_name (option_flatten (slice_get z.1.refs z.2)) (ref_in f e)) (Goes (onward (with_int f d (pos 1))) (put_object m.store z.0 (record z.1 { refs = slice_set z.1.refs z.2 (ref_in f v) }))) (Goes (onward (with_int f d (pos 0))) m.store) in
       let q = unfrozen z.1.mutable does (Some b) a z.6 in
       let same : b ≡ a = made does b a q.1 in
       record {

@@ -1,5 +1,6 @@
 -- Accesses, prints and turns under a renaming.
 use Rattle.std.proofs.Common.{◌≡◌, ℕ, ℤ, suc, pos, negsuc, ◌+◌, ◌≤◌, Bool, true, false, cond, Option, Some, None, List, [], ◌∷◌, length, map, slice_get, refl, ap, ap₂, ◌∙◌, arith}
+use Rattle.std.specs.Option.{option_flatten, option_map}
 use Rattle.hh_lang.specs.declared.instr.Instr.{Instr}
 use Rattle.hh_lang.specs.declared.instr.Instr.TheVariants.{Getr, Geti, Putr, Puti, Cas}
 use Rattle.hh_lang.specs.declared.program.Line.{Line}
@@ -11,7 +12,7 @@ use Rattle.hh_model.specs.declared.data.Frame.{Frame}
 use Rattle.hh_model.specs.declared.data.Task.{Task}
 use Rattle.hh_model.specs.declared.data.State.{State}
 use Rattle.hh_model.specs.Counts.{Counted}
-use Rattle.hh_model.specs.Effect.{Effect, Goes, Prints, Calls, Forks, Returns, Traps, Stops, effect, flat, int_in, object_at, ref_in, same_name}
+use Rattle.hh_model.specs.Effect.{Effect, Goes, Prints, Calls, Forks, Returns, Traps, Stops, effect, int_in, object_at, ref_in, same_name}
 use Rattle.hh_model.specs.Step.{can_step, fetched, setting, step, strand_of}
 use Rattle.hh_model.specs.Tree.{Kept}
 use Rattle.hh_model.proofs.Counts.{counted_step}
@@ -19,7 +20,7 @@ use Rattle.hh_model.proofs.Kept.{step_kept}
 use Rattle.race_report.specs.declared.data.Field.{Field}
 use Rattle.race_report.specs.declared.data.Access.{Access}
 use Rattle.race_report.specs.Accesses.{access, access_by, access_of, accesses_from, field_at, line_access, refs_in, swap_access, task_access, unless_trap, value_of, with_some}
-use Rattle.renaming_laws.specs.Renaming.{IsRenaming, or_none, frame_to, object_to, ref_to, strand_to, task_to}
+use Rattle.renaming_laws.specs.Renaming.{IsRenaming, frame_to, object_to, ref_to, strand_to, task_to}
 use Rattle.renaming_laws.specs.Alike.{AreAlike}
 use Rattle.renaming_laws.proofs.Effects.{flat_to, ref_carried, same_carried}
 use Rattle.renaming_laws.proofs.Follows.{can_to, object_there}
@@ -32,12 +33,12 @@ use Rattle.schedule_laws.specs.Prints.{Print, line_print, print_by, print_of, pr
 abbrev pub print_to : (ℕ → ℕ) → Print → Print
 print_to f a = record a { strand = strand_to f a.strand }
 
-field_there : (f : ℕ → ℕ) (b : Bool) (r : Option Name) (z : ℤ) → field_at b (ref_to f r) z ≡ or_none (field_to f) (field_at b r z)
+field_there : (f : ℕ → ℕ) (b : Bool) (r : Option Name) (z : ℤ) → field_at b (ref_to f r) z ≡ option_map (field_to f) (field_at b r z)
 field_there f b None z = refl
 field_there f b (Some n) (pos k) = refl
 field_there f b (Some n) (negsuc k) = refl
 
-access_there : (f : ℕ → ℕ) (s : Strand) (line : ℕ) (writes swaps : Bool) (o : Option Field) → access (strand_to f s) line writes swaps (or_none (field_to f) o) ≡ or_none (access_to f) (access s line writes swaps o)
+access_there : (f : ℕ → ℕ) (s : Strand) (line : ℕ) (writes swaps : Bool) (o : Option Field) → access (strand_to f s) line writes swaps (option_map (field_to f) o) ≡ option_map (access_to f) (access s line writes swaps o)
 access_there f s line writes swaps None = refl
 access_there f s line writes swaps (Some field) = refl
 
@@ -45,18 +46,18 @@ module _ (p : ProgramText) (n : ℕ) (f g : ℕ → ℕ) (R : IsRenaming n f g) 
   module _ (m m' : State) (K : Kept m) (K' : Kept m') (rows : length m.store ≡ length m.tasks) (rows' : length m'.store ≡ length m'.tasks) (made : n ≤ length m.tasks) (A : AreAlike f m m') (t : ℕ) where
     value_there : (field : Field) → value_of m'.store (field_to f field) ≡ ref_to f (value_of m.store field)
     value_there field =
-        ap (λ o. flat (slice_get (refs_in o) field.index)) (object_there n f g R m m' A field.name) ∙ by (object_at m.store field.name)
+        ap (λ o. option_flatten (slice_get (refs_in o) field.index)) (object_there n f g R m m' A field.name) ∙ by (object_at m.store field.name)
       where
-        by : (o : Option Object) → flat (slice_get (refs_in (or_none (object_to f) o)) field.index) ≡ ref_to f (flat (slice_get (refs_in o) field.index))
+        by : (o : Option Object) → option_flatten (slice_get (refs_in (option_map (object_to f) o)) field.index) ≡ ref_to f (option_flatten (slice_get (refs_in o) field.index))
         by None = refl
-        by (Some o) = ap flat (got_map (ref_to f) o.refs field.index) ∙ flat_to f g R.back (slice_get o.refs field.index)
+        by (Some o) = ap option_flatten (got_map (ref_to f) o.refs field.index) ∙ flat_to f g R.back (slice_get o.refs field.index)
 
-    swap_there : (s : Strand) (line : ℕ) (r : Option Name) (o : Option Field) → swap_access (strand_to f s) line m'.store (ref_to f r) (or_none (field_to f) o) ≡ or_none (access_to f) (swap_access s line m.store r o)
+    swap_there : (s : Strand) (line : ℕ) (r : Option Name) (o : Option Field) → swap_access (strand_to f s) line m'.store (ref_to f r) (option_map (field_to f) o) ≡ option_map (access_to f) (swap_access s line m.store r o)
     swap_there s line r None = refl
     swap_there s line r (Some field) =
         ap (λ b. access (strand_to f s) line b true (Some (field_to f field))) (ap (λ v. same_name v (ref_to f r)) (value_there field) ∙ same_carried f g R.back (value_of m.store field) r)
 
-    by_there : (s : Strand) (line : ℕ) (x : Frame) (i : Instr) → access_by (strand_to f s) line (frame_to f x) m'.store i ≡ or_none (access_to f) (access_by s line x m.store i)
+    by_there : (s : Strand) (line : ℕ) (x : Frame) (i : Instr) → access_by (strand_to f s) line (frame_to f x) m'.store i ≡ option_map (access_to f) (access_by s line x m.store i)
     by_there s line x (Getr d o k) = ap (λ r. access (strand_to f s) line false false (field_at false r (int_in x k))) (ref_carried f g R.back x o) ∙ (ap (access (strand_to f s) line false false) (field_there f false (ref_in x o) (int_in x k)) ∙ access_there f s line false false (field_at false (ref_in x o) (int_in x k)))
     by_there s line x (Geti d o k) = ap (λ r. access (strand_to f s) line false false (field_at true r (int_in x k))) (ref_carried f g R.back x o) ∙ (ap (access (strand_to f s) line false false) (field_there f true (ref_in x o) (int_in x k)) ∙ access_there f s line false false (field_at true (ref_in x o) (int_in x k)))
     by_there s line x (Putr o k v) = ap (λ r. access (strand_to f s) line true false (field_at false r (int_in x k))) (ref_carried f g R.back x o) ∙ (ap (access (strand_to f s) line true false) (field_there f false (ref_in x o) (int_in x k)) ∙ access_there f s line true false (field_at false (ref_in x o) (int_in x k)))
@@ -71,7 +72,7 @@ module _ (p : ProgramText) (n : ℕ) (f g : ℕ → ℕ) (R : IsRenaming n f g) 
       abbrev To : Instr → Effect → Effect → Type 0
       To = Acts p n f g R m m' K K' rows rows' made A t x is
 
-      trap_there : (i : Instr) (e e' : Effect) (a : Option Access) → To i e e' → unless_trap e' (or_none (access_to f) a) ≡ or_none (access_to f) (unless_trap e a)
+      trap_there : (i : Instr) (e e' : Effect) (a : Option Access) → To i e e' → unless_trap e' (option_map (access_to f) a) ≡ option_map (access_to f) (unless_trap e a)
       trap_there i (Goes c st) (Goes d st') a h = refl
       trap_there i (Prints k) (Prints l) a h = refl
       trap_there i (Calls c) (Calls d) a h = refl
@@ -81,7 +82,7 @@ module _ (p : ProgramText) (n : ℕ) (f g : ℕ → ℕ) (R : IsRenaming n f g) 
       trap_there i (Stops c) (Stops d) a h = refl
       trap_there i _ _ a h = absurd h
 
-      print_there : (i : Instr) (e e' : Effect) (s : Strand) → To i e e' → print_by (strand_to f s) e' ≡ or_none (print_to f) (print_by s e)
+      print_there : (i : Instr) (e e' : Effect) (s : Strand) → To i e e' → print_by (strand_to f s) e' ≡ option_map (print_to f) (print_by s e)
       print_there i (Goes c st) (Goes d st') s h = refl
       print_there i (Prints k) (Prints l) s h = ap (λ w. Some (record { strand = strand_to f s; number = w })) h
       print_there i (Calls c) (Calls d) s h = refl
@@ -91,40 +92,40 @@ module _ (p : ProgramText) (n : ℕ) (f g : ℕ → ℕ) (R : IsRenaming n f g) 
       print_there i (Stops c) (Stops d) s h = refl
       print_there i _ _ s h = absurd h
 
-      line_there : (o : Option Line) → line_access m' (f t) (task_to f x) o ≡ or_none (access_to f) (line_access m t x o)
+      line_there : (o : Option Line) → line_access m' (f t) (task_to f x) o ≡ option_map (access_to f) (line_access m t x o)
       line_there None = refl
       line_there (Some line) =
           ap (unless_trap (effect (setting m' (f t) (task_to f x)) (frame_to f x.top) m'.store line.instr)) (by_there (strand_of t x) line.number x.top line.instr)
           ∙ trap_there line.instr (effect (setting m t x) x.top m.store line.instr) (effect (setting m' (f t) (task_to f x)) (frame_to f x.top) m'.store line.instr) (access_by (strand_of t x) line.number x.top m.store line.instr) (acts p n f g R m m' K K' rows rows' made A t x is line.instr)
 
-      print_line : (o : Option Line) → line_print m' (f t) (task_to f x) o ≡ or_none (print_to f) (line_print m t x o)
+      print_line : (o : Option Line) → line_print m' (f t) (task_to f x) o ≡ option_map (print_to f) (line_print m t x o)
       print_line None = refl
       print_line (Some line) =
           print_there line.instr (effect (setting m t x) x.top m.store line.instr) (effect (setting m' (f t) (task_to f x)) (frame_to f x.top) m'.store line.instr) (strand_of t x) (acts p n f g R m m' K K' rows rows' made A t x is line.instr)
 
-    cond_there : {B C : Type 0} (h : B → C) (b : Bool) (o : Option B) (o' : Option C) → o' ≡ or_none h o → cond b o' None ≡ or_none h (cond b o None)
+    cond_there : {B C : Type 0} (h : B → C) (b : Bool) (o : Option B) (o' : Option C) → o' ≡ option_map h o → cond b o' None ≡ option_map h (cond b o None)
     cond_there h true o o' e = e
     cond_there h false o o' e = refl
 
-    pub access_to_there : access_of p m' (f t) ≡ or_none (access_to f) (access_of p m t)
+    pub access_to_there : access_of p m' (f t) ≡ option_map (access_to f) (access_of p m t)
     access_to_there =
         ap (λ b. cond b (task_access p m' (f t) (slice_get m'.tasks (f t))) None) (can_to n f g R m m' A t)
         ∙ cond_there (access_to f) (can_step m t) (task_access p m t (slice_get m.tasks t)) (task_access p m' (f t) (slice_get m'.tasks (f t))) (ap (task_access p m' (f t)) (A.tasks t) ∙ by (slice_get m.tasks t) refl)
       where
-        by : (o : Option Task) → slice_get m.tasks t ≡ o → task_access p m' (f t) (or_none (task_to f) o) ≡ or_none (access_to f) (task_access p m t o)
+        by : (o : Option Task) → slice_get m.tasks t ≡ o → task_access p m' (f t) (option_map (task_to f) o) ≡ option_map (access_to f) (task_access p m t o)
         by None e = refl
         by (Some x) e = line_there x e (fetched p x.top)
 
-    pub print_to_there : print_of p m' (f t) ≡ or_none (print_to f) (print_of p m t)
+    pub print_to_there : print_of p m' (f t) ≡ option_map (print_to f) (print_of p m t)
     print_to_there =
         ap (λ b. cond b (task_print p m' (f t) (slice_get m'.tasks (f t))) None) (can_to n f g R m m' A t)
         ∙ cond_there (print_to f) (can_step m t) (task_print p m t (slice_get m.tasks t)) (task_print p m' (f t) (slice_get m'.tasks (f t))) (ap (task_print p m' (f t)) (A.tasks t) ∙ by (slice_get m.tasks t) refl)
       where
-        by : (o : Option Task) → slice_get m.tasks t ≡ o → task_print p m' (f t) (or_none (task_to f) o) ≡ or_none (print_to f) (task_print p m t o)
+        by : (o : Option Task) → slice_get m.tasks t ≡ o → task_print p m' (f t) (option_map (task_to f) o) ≡ option_map (print_to f) (task_print p m t o)
         by None e = refl
         by (Some x) e = print_line x e (fetched p x.top)
 
-  some_map : {B C : Type 0} (h : B → C) (o : Option B) (xs : List B) → with_some (or_none h o) (map h xs) ≡ map h (with_some o xs)
+  some_map : {B C : Type 0} (h : B → C) (o : Option B) (xs : List B) → with_some (option_map h o) (map h xs) ≡ map h (with_some o xs)
   some_map h None xs = refl
   some_map h (Some x) xs = refl
 

@@ -1,5 +1,6 @@
 -- Two moves of tasks that run at one time, in either order.
 use Rattle.std.proofs.Common.{◌≡◌, ℕ, ◌+◌, ◌<◌, true, Option, Some, None, List, ◌++◌, length, map, slice_get, inl, inr, refl, ap, sym, subst, ◌∙◌, arith, length-append}
+use Rattle.std.specs.Option.{option_map}
 use Rattle.listed.proofs.Members.{In, in_append_cases, in_append_left, in_append_right}
 use Rattle.listed.proofs.Places.{got_none}
 use Rattle.hh_model.specs.declared.data.Name.{Name}
@@ -12,7 +13,7 @@ use Rattle.hh_model.specs.declared.data.State.{State}
 use Rattle.hh_model.specs.Effect.{object_at}
 use Rattle.hh_model.specs.Step.{is_running}
 use Rattle.hh_model.specs.Tree.{Kept}
-use Rattle.renaming_laws.specs.Renaming.{or_none, object_to, task_to, end_to}
+use Rattle.renaming_laws.specs.Renaming.{object_to, task_to, end_to}
 use Rattle.renaming_laws.specs.Alike.{AreAlike}
 use Rattle.renaming_laws.proofs.Changed.{Change, Same, Grows, Edits, Edit, changed, edited}
 use Rattle.renaming_laws.proofs.Fixed.{row_fixed, task_fixed}
@@ -33,15 +34,15 @@ pub record Even (m m' : State) : Type 0 where
 pub even_back : (m m' : State) → Even m m' → Even m' m
 even_back m m' E = record { limit = sym E.limit; tasks = sym E.tasks; store = sym E.store; edges = λ e. ((E.edges e).1, (E.edges e).0); end = sym E.end }
 
-task_same : (o : Option Task) → or_none (task_to itself) o ≡ o
+task_same : (o : Option Task) → option_map (task_to itself) o ≡ o
 task_same None = refl
 task_same (Some x) = ap Some (task_fixed itself x (record { parent = λ q e. refl; result = λ k r e. refl; top = λ r i. refl; below = λ y i r j. refl }))
 
-row_same : (o : Option (List Object)) → or_none (map (object_to itself)) o ≡ o
+row_same : (o : Option (List Object)) → option_map (map (object_to itself)) o ≡ o
 row_same None = refl
 row_same (Some row) = ap Some (row_fixed itself row (λ o i. (refl, λ r j. refl)))
 
-end_same : (o : Option End) → or_none (end_to itself) o ≡ o
+end_same : (o : Option End) → option_map (end_to itself) o ≡ o
 end_same None = refl
 end_same (Some Done) = refl
 end_same (Some (Trapped kind t line)) = refl

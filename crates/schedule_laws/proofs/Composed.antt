@@ -1,5 +1,6 @@
 -- One renaming after another.
 use Rattle.std.proofs.Common.{◌≡◌, ℕ, ◌≤◌, Option, Some, None, List, [], ◌∷◌, map, slice_get, refl, ap, ◌∙◌, arith}
+use Rattle.std.specs.Option.{option_map}
 use Rattle.hh_model.specs.declared.data.Name.{Name}
 use Rattle.hh_model.specs.declared.data.Object.{Object}
 use Rattle.hh_model.specs.declared.data.Frame.{Frame}
@@ -9,14 +10,14 @@ use Rattle.hh_model.specs.declared.data.Task.{Task}
 use Rattle.hh_model.specs.declared.data.End.{End}
 use Rattle.hh_model.specs.declared.data.End.TheVariants.{Done, Trapped, Entangled}
 use Rattle.hh_model.specs.declared.data.State.{State}
-use Rattle.renaming_laws.specs.Renaming.{IsRenaming, or_none, edge_to, end_to, frame_to, object_to, ref_to, status_to, task_to}
+use Rattle.renaming_laws.specs.Renaming.{IsRenaming, edge_to, end_to, frame_to, object_to, ref_to, status_to, task_to}
 use Rattle.renaming_laws.specs.Alike.{AreAlike}
 
 module _ (f h : ℕ → ℕ) where
   abbrev pub then : ℕ → ℕ
   then t = h (f t)
 
-  none_twice : {A B C : Type 0} (k : A → B) (l : B → C) (j : A → C) → ((x : A) → l (k x) ≡ j x) → (o : Option A) → or_none l (or_none k o) ≡ or_none j o
+  none_twice : {A B C : Type 0} (k : A → B) (l : B → C) (j : A → C) → ((x : A) → l (k x) ≡ j x) → (o : Option A) → option_map l (option_map k o) ≡ option_map j o
   none_twice k l j each None = refl
   none_twice k l j each (Some x) = ap Some (each x)
 
@@ -42,7 +43,7 @@ module _ (f h : ℕ → ℕ) where
 
   task_twice : (x : Task) → task_to h (task_to f x) ≡ task_to then x
   task_twice x =
-      let parent : or_none h (or_none f x.parent) ≡ or_none then x.parent = none_twice f h then (λ t. refl) x.parent in
+      let parent : option_map h (option_map f x.parent) ≡ option_map then x.parent = none_twice f h then (λ t. refl) x.parent in
       let status : status_to h (status_to f x.status) ≡ status_to then x.status = status_twice x.status in
       let top : frame_to h (frame_to f x.top) ≡ frame_to then x.top = frame_twice x.top in
       let below : map (frame_to h) (map (frame_to f) x.below) ≡ map (frame_to then) x.below = map_twice (frame_to f) (frame_to h) (frame_to then) frame_twice x.below in
@@ -57,10 +58,10 @@ module _ (f h : ℕ → ℕ) where
   alike_then a b c A B = record {
     limit = B.limit ∙ A.limit;
     count = B.count ∙ A.count;
-    tasks = λ t. B.tasks (f t) ∙ (ap (or_none (task_to h)) (A.tasks t) ∙ none_twice (task_to f) (task_to h) (task_to then) task_twice (slice_get a.tasks t));
-    objects = λ t. B.objects (f t) ∙ (ap (or_none (map (object_to h))) (A.objects t) ∙ none_twice (map (object_to f)) (map (object_to h)) (map (object_to then)) (map_twice (object_to f) (object_to h) (object_to then) object_twice) (slice_get a.store t));
+    tasks = λ t. B.tasks (f t) ∙ (ap (option_map (task_to h)) (A.tasks t) ∙ none_twice (task_to f) (task_to h) (task_to then) task_twice (slice_get a.tasks t));
+    objects = λ t. B.objects (f t) ∙ (ap (option_map (map (object_to h))) (A.objects t) ∙ none_twice (map (object_to f)) (map (object_to h)) (map (object_to then)) (map_twice (object_to f) (object_to h) (object_to then) object_twice) (slice_get a.store t));
     edges = λ e. ((λ i. (A.edges e).0 ((B.edges (edge_to f e)).0 i)), (λ i. (B.edges (edge_to f e)).1 ((A.edges e).1 i)));
-    end = B.end ∙ (ap (or_none (end_to h)) A.end ∙ none_twice (end_to f) (end_to h) (end_to then) end_twice a.end);
+    end = B.end ∙ (ap (option_map (end_to h)) A.end ∙ none_twice (end_to f) (end_to h) (end_to then) end_twice a.end);
   }
 
 pub renaming_then : (n k l : ℕ) (f g h j : ℕ → ℕ) → IsRenaming k f g → IsRenaming l h j → k ≤ n → l ≤ n → IsRenaming n (then f h) (then j g)

@@ -1,5 +1,6 @@
 -- Steps of two tasks that run at one time, in either order.
 use Rattle.std.proofs.Common.{◌≡◌, ℕ, ℤ, ◌+◌, ◌-◌, ◌<◌, Bool, true, false, cond, Option, Some, None, List, [], ◌∷◌, ◌++◌, length, map, slice_get, slice_set, ◌⊎◌, inl, inr, refl, ap, sym, subst, ◌∙◌, arith, append-nil, length-append, length-set}
+use Rattle.std.specs.Option.{option_map}
 use Rattle.listed.proofs.Members.{In}
 use Rattle.hh_lang.specs.declared.instr.Instr.{Instr}
 use Rattle.hh_model.specs.declared.data.Name.{Name}
@@ -13,7 +14,7 @@ use Rattle.hh_model.specs.Step.{child, is_left, is_running, joined_task, kept_by
 use Rattle.hh_model.specs.Store.{NamesAreStoredIn}
 use Rattle.hh_model.specs.Tree.{Kept}
 use Rattle.hh_model.proofs.Root.{runs_tell}
-use Rattle.renaming_laws.specs.Renaming.{IsRenaming, or_none, edge_to, end_to, object_to, task_to}
+use Rattle.renaming_laws.specs.Renaming.{IsRenaming, edge_to, end_to, object_to, task_to}
 use Rattle.renaming_laws.specs.Alike.{AreAlike}
 use Rattle.renaming_laws.proofs.Changed.{Change, ChangesBy, Edits, Grows, Same, changed}
 use Rattle.renaming_laws.proofs.Swaps.{at_low, swapped}
@@ -129,13 +130,13 @@ module _ (m : State) (K : Kept m) (D : Disentangled m.tasks m.store) (N : NamesA
           alike = record {
             limit = Ht2.limit ∙ (Hu.limit ∙ (sym Ht.limit ∙ sym Hu1.limit));
             count = long' ∙ sym long;
-            tasks = λ v. ap (λ ts. slice_get ts (f m K D N L rows v)) tasks21 ∙ (tasks_swap m K D N L rows t u x y is iu g h k l v ∙ ap (λ ts. or_none (task_to (f m K D N L rows)) (slice_get ts v)) (sym tasks12));
-            objects = λ v. ap (λ (st : List (List Object)). slice_get st (f m K D N L rows v)) store21 ∙ (rows_swap m K D N L rows t u x y is iu g h k l v ∙ ap (λ (st : List (List Object)). or_none (map (object_to (f m K D N L rows))) (slice_get st v)) (sym store12));
+            tasks = λ v. ap (λ ts. slice_get ts (f m K D N L rows v)) tasks21 ∙ (tasks_swap m K D N L rows t u x y is iu g h k l v ∙ ap (λ ts. option_map (task_to (f m K D N L rows)) (slice_get ts v)) (sym tasks12));
+            objects = λ v. ap (λ (st : List (List Object)). slice_get st (f m K D N L rows v)) store21 ∙ (rows_swap m K D N L rows t u x y is iu g h k l v ∙ ap (λ (st : List (List Object)). option_map (map (object_to (f m K D N L rows))) (slice_get st v)) (sym store12));
             edges = λ e. (
               (λ i. subst (λ es. In es e) (sym edges12) ((swaps e).0 (subst (λ es. In es (edge_to (f m K D N L rows) e)) edges21 i))),
               (λ i. subst (λ es. In es (edge_to (f m K D N L rows) e)) (sym edges21) ((swaps e).1 (subst (λ es. In es e) edges12 i))),
             );
-            end = Ht2.end ∙ (Hu.end ∙ (going ∙ ap (or_none (end_to (f m K D N L rows))) (sym (Hu1.end ∙ (Ht.end ∙ going)))));
+            end = Ht2.end ∙ (Hu.end ∙ (going ∙ ap (option_map (end_to (f m K D N L rows))) (sym (Hu1.end ∙ (Ht.end ∙ going)))));
           };
         }
 

@@ -1,5 +1,6 @@
 -- Two forks in either order: the same but for the numbers of the four children.
 use Rattle.std.proofs.Common.{◌≡◌, ℕ, zero, suc, ◌+◌, ◌-◌, ◌%◌, ◌<◌, ◌≤◌, Option, Some, None, List, [], ◌∷◌, ◌++◌, length, map, slice_get, slice_set, ◌⊎◌, inl, inr, refl, ap, sym, subst, ◌∙◌, arith, length-append, length-set}
+use Rattle.std.specs.Option.{option_map}
 use Rattle.std.proofs.lemmas.List.{map-append}
 use Rattle.std.proofs.lemmas.Option.{same_Some}
 use Rattle.listed.proofs.Members.{In, got_back, got_cases, got_front, got_past, got_within}
@@ -16,7 +17,7 @@ use Rattle.hh_model.specs.Step.{child, edge, parent_of, strand}
 use Rattle.hh_model.specs.Store.{NamesAreStoredIn}
 use Rattle.hh_model.specs.Tree.{Kept}
 use Rattle.renaming_laws.specs.Laws.{swap}
-use Rattle.renaming_laws.specs.Renaming.{IsRenaming, or_none, edge_to, object_to, task_to}
+use Rattle.renaming_laws.specs.Renaming.{IsRenaming, edge_to, object_to, task_to}
 use Rattle.renaming_laws.proofs.Fixed.{KeepsTask, row_fixed, task_fixed}
 use Rattle.renaming_laws.proofs.Lists.{from_map}
 use Rattle.renaming_laws.proofs.Swaps.{at_first, at_low, at_second, stands, swapped}
@@ -142,19 +143,19 @@ module _ (m : State) (K : Kept m) (D : Disentangled m.tasks m.store) (N : NamesA
         at : slice_get m.store v ≡ Some row → {o : Object} (c : ℕ) → slice_get row c ≡ Some o → object_at m.store (record { task = v; count = c }) ≡ Some o
         at old c e = ap (λ w. slice_get (row_of w) c) old ∙ e
 
-    pub tasks_swap : (v : ℕ) → slice_get ((all ++ cu) ++ ct) (f v) ≡ or_none (task_to f) (slice_get ((all ++ ct) ++ cu) v)
+    pub tasks_swap : (v : ℕ) → slice_get ((all ++ cu) ++ ct) (f v) ≡ option_map (task_to f) (slice_get ((all ++ ct) ++ cu) v)
     tasks_swap v =
         swap_get (length m.tasks) K.tree.odd all (length-set (slice_set m.tasks t yt) u yu ∙ length-set m.tasks t yt) ct cu refl refl v
         ∙ by (slice_get ((all ++ ct) ++ cu) v) (λ z e. all_keep v z e)
       where
-        by : (o : Option Task) → ((z : Task) → o ≡ Some z → KeepsTask f z) → o ≡ or_none (task_to f) o
+        by : (o : Option Task) → ((z : Task) → o ≡ Some z → KeepsTask f z) → o ≡ option_map (task_to f) o
         by None each = refl
         by (Some z) each = ap Some (sym (task_fixed f z (each z refl)))
 
-    pub rows_swap : (v : ℕ) → slice_get ((m.store ++ two_rows) ++ two_rows) (f v) ≡ or_none (map (object_to f)) (slice_get ((m.store ++ two_rows) ++ two_rows) v)
+    pub rows_swap : (v : ℕ) → slice_get ((m.store ++ two_rows) ++ two_rows) (f v) ≡ option_map (map (object_to f)) (slice_get ((m.store ++ two_rows) ++ two_rows) v)
     rows_swap v = swap_get (length m.tasks) K.tree.odd m.store rows two_rows two_rows refl refl v ∙ by (slice_get ((m.store ++ two_rows) ++ two_rows) v) (λ row e. row_keeps v row e)
       where
-        by : (o : Option (List Object)) → ((row : List Object) → o ≡ Some row → map (object_to f) row ≡ row) → o ≡ or_none (map (object_to f)) o
+        by : (o : Option (List Object)) → ((row : List Object) → o ≡ Some row → map (object_to f) row ≡ row) → o ≡ option_map (map (object_to f)) o
         by None each = refl
         by (Some row) each = ap Some (sym (each row refl))
 

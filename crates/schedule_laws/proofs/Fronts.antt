@@ -1,5 +1,6 @@
 -- A step that can be taken now comes to the front of a run in order: with it first, the run comes to the same.
 use Rattle.std.proofs.Common.{◌≡◌, ℕ, suc, ◌+◌, ◌<◌, ◌≤◌, Bool, true, false, cond, Option, Some, None, List, [], ◌∷◌, ◌++◌, length, map, slice_get, ◌⊎◌, inl, inr, refl, ap, sym, subst, ◌∙◌, arith}
+use Rattle.std.specs.Option.{option_map}
 use Rattle.std.proofs.lemmas.Bool.{cases_Bool, cases_eq}
 use Rattle.std.proofs.lemmas.Option.{same_Some}
 use Rattle.listed.proofs.Members.{In, got_within, in_append_right}
@@ -31,7 +32,7 @@ use Rattle.path_laws.proofs.Leaves.{can_going}
 use Rattle.race_report.specs.declared.data.Field.{Field}
 use Rattle.race_report.specs.declared.data.Access.{Access}
 use Rattle.race_report.specs.Accesses.{access_of, accesses_from, line_access, task_access, with_some}
-use Rattle.renaming_laws.specs.Renaming.{IsRenaming, or_none, end_to}
+use Rattle.renaming_laws.specs.Renaming.{IsRenaming, end_to}
 use Rattle.renaming_laws.specs.Alike.{AreAlike}
 use Rattle.renaming_laws.proofs.Changed.{Reaches}
 use Rattle.renaming_laws.proofs.Runs.{counted_here, kept_here, run_grows, run_to, step_grows}
@@ -238,7 +239,7 @@ module _ (p : ProgramText) (limit : ℕ) (hs ts : List ℕ) (t u : ℕ) (two : t
     going_second = elim (none_or n12.end) [
       | inl e ↦ end_none n2.end (subst (EndAlike n2.end) e Lu.ends)
       | inr z ↦
-          let last : n12.end ≡ Some Done = ap (λ (w : State). w.end) (sym (ended_stays p n12 F.rest z.0 z.1)) ∙ (F.alike.end ∙ ap (or_none (end_to F.f)) done) in
+          let last : n12.end ≡ Some Done = ap (λ (w : State). w.end) (sym (ended_stays p n12 F.rest z.0 z.1)) ∙ (F.alike.end ∙ ap (option_map (end_to F.f)) done) in
           absurd (lone p limit hs u t (λ e. two (sym e)) can_u can_t (end_done n2.end (subst (EndAlike n2.end) last Lu.ends)))
     ]
 

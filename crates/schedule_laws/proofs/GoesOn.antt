@@ -1,5 +1,6 @@
 -- A run that hasn't ended can go on.
 use Rattle.std.proofs.Common.{◌≡◌, ℕ, ◌+◌, ◌≤◌, Bool, true, false, cond, Option, Some, None, List, [], ◌∷◌, ◌++◌, slice_get, ◌⊎◌, inl, inr, refl, ap, sym, subst, ◌∙◌, arith}
+use Rattle.std.specs.Option.{option_map}
 use Rattle.std.proofs.lemmas.Bool.{cases_Bool}
 use Rattle.listed.proofs.Members.{In, in_append_left}
 use Rattle.hh_lang.specs.Form.{ProgramText}
@@ -15,7 +16,7 @@ use Rattle.hh_model.proofs.Taken.{step_idle}
 use Rattle.race_report.specs.declared.data.Access.{Access}
 use Rattle.race_report.specs.Accesses.{access_of, accesses_from, task_access, with_some}
 use Rattle.race_report.proofs.LabelSteps.{Begun, begun_running, run_keeps}
-use Rattle.renaming_laws.specs.Renaming.{or_none, end_to}
+use Rattle.renaming_laws.specs.Renaming.{end_to}
 use Rattle.renaming_laws.proofs.Runs.{kept_here}
 use Rattle.schedule_laws.specs.Laws.{EveryRunGoesOn}
 use Rattle.schedule_laws.specs.Prints.{turns_from}
@@ -96,7 +97,7 @@ every_run_goes_on p limit ts us S none =
     let more = r.0 in
     let C = r.1 in
     let there : run_from p (start p limit) (us ++ more) ≡ run_from p m more = run_on p us more (start p limit) in
-    let done : (run_from p m more).end ≡ Some Done = ap (λ (w : State). w.end) (sym there) ∙ (C.alike.end ∙ ap (or_none (end_to C.f)) S.done) in
+    let done : (run_from p m more).end ≡ Some Done = ap (λ (w : State). w.end) (sym there) ∙ (C.alike.end ∙ ap (option_map (end_to C.f)) S.done) in
     let G = goes p m more Done none done in
     let all : turns_from p (start p limit) us + turns_from p m more ≡ turns_from p (start p limit) ts = sym (turns_append p (start p limit) us more) ∙ C.turned in
     let least : 1 ≤ turns_from p m more = G.some in

@@ -1,6 +1,7 @@
 -- A step leaves the next step of a task that runs beside it, unless their accesses clash; and accesses that clash do so
 -- after it too.
 use Rattle.std.proofs.Common.{◌≡◌, ℕ, ℤ, ◌+◌, ◌-◌, ◌++◌, Bool, true, false, cond, Option, Some, None, List, [], ◌∷◌, length, nat_lt, slice_get, ◌⊎◌, inl, inr, refl, ap, sym, subst, ◌∙◌}
+use Rattle.std.specs.Option.{option_flatten}
 use Rattle.std.proofs.lemmas.Bool.{cases_Bool, false≢true}
 use Rattle.std.proofs.lemmas.Option.{same_Some}
 use Rattle.listed.proofs.Members.{In}
@@ -18,7 +19,7 @@ use Rattle.hh_model.specs.declared.data.End.{End}
 use Rattle.hh_model.specs.declared.data.End.TheVariants.{Trapped}
 use Rattle.hh_model.specs.declared.data.State.{State}
 use Rattle.path_laws.specs.Disentangled.{Disentangled}
-use Rattle.hh_model.specs.Effect.{Effect, Goes, Prints, Calls, Forks, Returns, Traps, Stops, effect, flat, int_in, place_in, ref_in, same_name}
+use Rattle.hh_model.specs.Effect.{Effect, Goes, Prints, Calls, Forks, Returns, Traps, Stops, effect, int_in, place_in, ref_in, same_name}
 use Rattle.hh_model.specs.Step.{can_step, child_ended_by, depth_limit, ended_by, fetched, follow, frame_limit, goes_on, is_left, is_running, join_of, kept_by, last_of, last_return, or_same, owner_of, result_of, returned_to, run, setting, sibling, start, step, strand_of}
 use Rattle.hh_model.specs.Store.{NamesAreStoredIn}
 use Rattle.hh_model.specs.Tree.{Kept}
@@ -183,7 +184,7 @@ module _ (p : ProgramText) (limit : ℕ) (ts : List ℕ) (t u : ℕ) (two : t �
       value_same : (n : Name) (at : ℕ) → In y.top.refs (Some n) → Leaves p m t false n at → value_of m1.store (field_of false n at) ≡ value_of m.store (field_of false n at)
       value_same n at i may =
           let o = (sees p m K D N t u two y iu run_u).objects n i in
-          ap (λ w. flat (slice_get (refs_in w) at)) o.3 ∙ (ap flat (o.4.ref_at at may) ∙ sym (ap (λ w. flat (slice_get (refs_in w) at)) o.2))
+          ap (λ w. option_flatten (slice_get (refs_in w) at)) o.3 ∙ (ap option_flatten (o.4.ref_at at may) ∙ sym (ap (λ w. option_flatten (slice_get (refs_in w) at)) o.2))
 
       abbrev swap_acc : List (List Object) → ℕ → Field → Access
       swap_acc store w field = record { strand = strand_of u y; line = line.number; field = field; writes = same_name (value_of store field) (ref_in y.top w); swaps = true }

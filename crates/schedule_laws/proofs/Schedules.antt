@@ -1,5 +1,6 @@
 -- One whole run in order speaks for all schedules.
 use Rattle.std.proofs.Common.{◌≡◌, ℕ, ◌+◌, ◌<◌, Bool, true, false, cond, Option, Some, None, List, [], ◌∷◌, ◌++◌, length, map, slice_get, inl, inr, refl, ap, sym, subst, ◌∙◌, arith}
+use Rattle.std.specs.Option.{option_map}
 use Rattle.std.proofs.lemmas.Option.{same_Some}
 use Rattle.listed.proofs.Members.{In, contains_from_in, in_append_cases, in_append_left, in_append_right, in_from_contains}
 use Rattle.listed.proofs.Places.{in_map}
@@ -15,7 +16,7 @@ use Rattle.hh_model.proofs.Counts.{run_push}
 use Rattle.hh_model.proofs.Taken.{step_idle}
 use Rattle.race_report.specs.declared.data.Access.{Access}
 use Rattle.race_report.specs.Accesses.{access_of, accesses_from, task_access, with_some}
-use Rattle.renaming_laws.specs.Renaming.{IsRenaming, or_none, end_to, strand_to}
+use Rattle.renaming_laws.specs.Renaming.{IsRenaming, end_to, strand_to}
 use Rattle.renaming_laws.specs.Alike.{AreAlike}
 use Rattle.renaming_laws.proofs.Carried.{walk_to}
 use Rattle.renaming_laws.proofs.Lists.{from_map}
@@ -281,7 +282,7 @@ module _ (p : ProgramText) where
     after hs ts u can W =
         let F = front p limit ts hs u can W.0 W.1 in
         let push : run p limit (hs ++ u ∷ []) ≡ step p (run p limit hs) u = run_push p (start p limit) hs u in
-        let done : (run_from p (step p (run p limit hs) u) F.rest).end ≡ Some Done = F.alike.end ∙ ap (or_none (end_to F.f)) W.0 in (
+        let done : (run_from p (step p (run p limit hs) u) F.rest).end ≡ Some Done = F.alike.end ∙ ap (option_map (end_to F.f)) W.0 in (
           F.rest,
           (
             subst (λ (w : State). (run_from p w F.rest).end ≡ Some Done) (sym push) done,
@@ -346,5 +347,5 @@ one_run_speaks_for_all p limit ts us S = let r = comes p limit us [] ts (whole p
 pub every_end_agrees : EveryEndAgrees
 every_end_agrees p limit ts us e S is =
     let C = comes_whole p limit us [] ts e (whole p limit ts S) is in
-    let done : (run_from p (start p limit) us).end ≡ Some Done = C.alike.end ∙ ap (or_none (end_to C.f)) S.done in
+    let done : (run_from p (start p limit) us).end ≡ Some Done = C.alike.end ∙ ap (option_map (end_to C.f)) S.done in
     (same_Some e Done (sym is ∙ done), agrees p limit ts us C)

@@ -1,5 +1,6 @@
 -- What a step makes of the store.
 use Rattle.std.proofs.Common.{◌≡◌, ℕ, ℤ, Bool, true, false, cond, Option, Some, None, List, [], ◌∷◌, ◌++◌, slice_get, slice_set, ◌⊎◌, inl, inr, refl, ap, sym, subst, ◌∙◌, append-nil}
+use Rattle.std.specs.Option.{option_flatten}
 use Rattle.std.proofs.lemmas.Bool.{cases_eq, false≢true}
 use Rattle.std.proofs.lemmas.Option.{same_Some}
 use Rattle.listed.proofs.Members.{In, contains_from_in, got_in}
@@ -10,7 +11,7 @@ use Rattle.hh_model.specs.declared.data.Object.{Object}
 use Rattle.hh_model.specs.declared.data.Frame.{Frame}
 use Rattle.hh_model.specs.declared.data.Task.{Task}
 use Rattle.hh_model.specs.declared.data.State.{State}
-use Rattle.hh_model.specs.Effect.{Effect, Goes, Prints, Calls, Forks, Returns, Traps, Stops, effect, flat, object_at, put_object, row_of}
+use Rattle.hh_model.specs.Effect.{Effect, Goes, Prints, Calls, Forks, Returns, Traps, Stops, effect, object_at, put_object, row_of}
 use Rattle.hh_model.specs.Step.{can_step, child_ended_by, fetched, follow, is_left, is_running, kept_by, last_of, last_return, or_same, owner_of, result_of, returned_to, setting, sibling, step}
 use Rattle.hh_model.specs.Store.{NamesAreStoredIn}
 use Rattle.hh_model.proofs.Carried.{flat_at}
@@ -62,7 +63,7 @@ module _ (p : ProgramText) (m : State) (N : NamesAreStoredIn m) (t : ℕ) where
   pub held : (x : Task) → slice_get m.tasks t ≡ Some x → is_running (Some x) ≡ true → (n : Name) → In x.top.refs (Some n) → (o : Object) × (object_at m.store n ≡ Some o)
   held x is run n i = N.held t x n is (contains_from_in _ n (names_run x n (runs_is x.status run) (in_registers (x.top ∷ x.below) x.top n (inl refl) i)))
 
-  pub in_field : (n q : Name) (o : Object) (k : ℕ) → object_at m.store n ≡ Some o → flat (slice_get o.refs k) ≡ Some q → (z : Object) × (object_at m.store q ≡ Some z)
+  pub in_field : (n q : Name) (o : Object) (k : ℕ) → object_at m.store n ≡ Some o → option_flatten (slice_get o.refs k) ≡ Some q → (z : Object) × (object_at m.store q ≡ Some z)
   in_field n q o k is got = N.in_fields n q o is (contains_from_in o.refs (Some q) (got_in o.refs k (Some q) (flat_at (slice_get o.refs k) q got)))
 
   -- the next instruction, where the step can be taken

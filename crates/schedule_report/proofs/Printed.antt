@@ -1,5 +1,6 @@
 -- Prints are in order exactly where none race, counted like writes to one field.
 use Rattle.std.proofs.Common.{◌≡◌, ℕ, ℤ, zero, suc, ◌<◌, ◌==◌, Bool, true, false, cond, Option, Some, None, List, [], ◌∷◌, length, slice_get, inl, inr, refl, ap, sym, subst, ◌∙◌}
+use Rattle.std.specs.Option.{option_flatten}
 use Rattle.std.specs.Prelude.{slice_set, pos}
 use Rattle.std.proofs.lemmas.Bool.{both_ways, cases_Bool}
 use Rattle.std.proofs.lemmas.Option.{same_Some}
@@ -16,7 +17,7 @@ use Rattle.hh_model.specs.declared.data.Task.{Task}
 use Rattle.hh_model.specs.declared.data.Trap.{Trap}
 use Rattle.hh_model.specs.declared.data.State.{State}
 use Rattle.hh_model.specs.declared.data.Trap.TheVariants.{Nil, Range, Frozen, Div as DivTrap, Size}
-use Rattle.hh_model.specs.Effect.{Effect, Goes, Setting, Stops, Traps, calculated, counts_in, effect, flat, int_in, object_at, onward, or_trap, place_in, put_object, read_effect, ref_in, same_name, unless_frozen, with_int, with_object, with_ref}
+use Rattle.hh_model.specs.Effect.{Effect, Goes, Setting, Stops, Traps, calculated, counts_in, effect, int_in, object_at, onward, or_trap, place_in, put_object, read_effect, ref_in, same_name, unless_frozen, with_int, with_object, with_ref}
 use Rattle.hh_model.specs.Precedence.{Precedes, precedes}
 use Rattle.hh_model.specs.Step.{can_step, fetched, run, setting, start, step, strand_of}
 use Rattle.race_report.specs.declared.data.Access.{Access}
@@ -80,14 +81,14 @@ module _ (s : Strand) where
   says_alike line set f store (Jz x to) = tt
   says_alike line set f store (Newm d x y) = by_quiet (effect set f store (Newm d x y)) (or_quiet Size (counts_in set.field_limit (int_in f x) (int_in f y)) _ (λ z. record { is = refl }))
   says_alike line set f store (Pack d r i) = tt
-  says_alike line set f store (Getr d o k) = by_quiet (effect set f store (Getr d o k)) (with_quiet store (ref_in f o) _ (λ n x. or_quiet Range (place_in (length x.refs) (int_in f k)) _ (λ at. read_quiet set f store d (flat (slice_get x.refs at)))))
+  says_alike line set f store (Getr d o k) = by_quiet (effect set f store (Getr d o k)) (with_quiet store (ref_in f o) _ (λ n x. or_quiet Range (place_in (length x.refs) (int_in f k)) _ (λ at. read_quiet set f store d (option_flatten (slice_get x.refs at)))))
   says_alike line set f store (Geti d o k) = by_quiet (effect set f store (Geti d o k)) (with_quiet store (ref_in f o) _ (λ n x. or_quiet Range (place_in (length x.ints) (int_in f k)) _ (λ at. record { is = refl })))
   says_alike line set f store (Putr o k v) = by_quiet (effect set f store (Putr o k v)) (with_quiet store (ref_in f o) _ (λ n x. or_quiet Range (place_in (length x.refs) (int_in f k)) _ (λ at. frozen_quiet x (Goes (onward f) (put_object store n (record x { refs = slice_set x.refs at (ref_in f v) }))) (record { is = refl }))))
   says_alike line set f store (Puti o k v) = by_quiet (effect set f store (Puti o k v)) (with_quiet store (ref_in f o) _ (λ n x. or_quiet Range (place_in (length x.ints) (int_in f k)) _ (λ at. frozen_quiet x (Goes (onward f) (put_object store n (record x { ints = slice_set x.ints at (int_in f v) }))) (record { is = refl }))))
   says_alike line set f store (Cntr d o) = by_quiet (effect set f store (Cntr d o)) (with_quiet store (ref_in f o) _ (λ n x. record { is = refl }))
   says_alike line set f store (Cnti d o) = by_quiet (effect set f store (Cnti d o)) (with_quiet store (ref_in f o) _ (λ n x. record { is = refl }))
   says_alike line set f store (Freeze o) = by_quiet (effect set f store (Freeze o)) (with_quiet store (ref_in f o) _ (λ n x. if_quiet (set.owner n.task == set.task) (Goes (onward f) (put_object store n (record x { mutable = false }))) (Traps Frozen) (record { is = refl }) (record { is = refl })))
-  says_alike line set f store (Cas d o k e v) = by_quiet (effect set f store (Cas d o k e v)) (with_quiet store (ref_in f o) _ (λ n x. or_quiet Range (place_in (length x.refs) (int_in f k)) _ (λ at. frozen_quiet x _ (if_quiet (same_name (flat (slice_get x.refs at)) (ref_in f e)) (Goes (onward (with_int f d (pos 1))) (put_object store n (record x { refs = slice_set x.refs at (ref_in f v) }))) (Goes (onward (with_int f d (pos 0))) store) (record { is = refl }) (record { is = refl })))))
+  says_alike line set f store (Cas d o k e v) = by_quiet (effect set f store (Cas d o k e v)) (with_quiet store (ref_in f o) _ (λ n x. or_quiet Range (place_in (length x.refs) (int_in f k)) _ (λ at. frozen_quiet x _ (if_quiet (same_name (option_flatten (slice_get x.refs at)) (ref_in f e)) (Goes (onward (with_int f d (pos 1))) (put_object store n (record x { refs = slice_set x.refs at (ref_in f v) }))) (Goes (onward (with_int f d (pos 0))) store) (record { is = refl }) (record { is = refl })))))
   says_alike line set f store (Call g) = tt
   says_alike line set f store (Par g h) = tt
   says_alike line set f store Ret = tt

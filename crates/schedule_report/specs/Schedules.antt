@@ -1,11 +1,12 @@
 -- The pairs of a run that the graph doesn't put in order, and what they say of other schedules.
-use Rattle.std.specs.Prelude.{◌≡◌, ℕ, ◌+◌, ◌-◌, ◌^◌, ◌==◌, Option, Some, None, List, length, min, if◌then◌else◌}
+use Rattle.std.specs.Prelude.{◌≡◌, ℕ, ◌==◌, Option, Some, None, List, length, if◌then◌else◌}
 use Rattle.hh_lang.specs.Form.{ProgramText}
 use Rattle.run_trace.specs.Entry.{EntryValue}
 use Rattle.run_trace.specs.Settings.{SettingsValue, field_limit}
 use Rattle.hh_model.specs.declared.data.End.TheVariants.{Done}
 use Rattle.run_ledger.specs.declared.data.RunEnd.TheVariants.{Machine}
 use Rattle.run_ledger.specs.Journals.{end_of, machine_of, tasks_of}
+use Rattle.still_counts.specs.Counts.{raised_by}
 use Rattle.race_report.specs.declared.data.Race.{Race}
 use Rattle.race_report.specs.declared.data.Sight.{Sight}
 use Rattle.race_report.specs.declared.data.Sight.TheVariants.{Fields, Swaps, Prints}
@@ -36,7 +37,7 @@ IsAnswer p s journal (Some c) = IsWhole p s journal × AreClashes p s journal c
 
 -- how many pairs of accesses are told, as a number of 64 bits
 abbrev pub clash_count : Clashes → ℕ
-clash_count c = min (length c.races + length c.swaps) (2 ^ 64 - 1)
+clash_count c = raised_by (length c.races) (length c.swaps)
 
 -- what that says of all schedules
 abbrev pub verdict_of : Clashes → Verdict

@@ -1,6 +1,7 @@
 -- How other tasks have part in a part's next step, by the line that comes next; what is left where memory is wanting.
 use Rattle.std.specs.Result.{IfErr, OnErr}
 use Rattle.std.proofs.Common.{◌≡◌, ℕ, Result, Ok, Err, ◌||◌, not, true, Option, Some, None, List, length, slice_get, slice_set, option_map, is_some, refl, ap, sym, subst, ◌∙◌}
+use Rattle.std.specs.Option.{option_flatten}
 use Rattle.listed.proofs.Options.{or_false}
 use Rattle.listed.proofs.Places.{got_set}
 use Rattle.hh_lang.specs.declared.instr.Instr.{Instr}
@@ -18,7 +19,7 @@ use Rattle.task_machine.specs.declared.part.Private.{Private}
 use Rattle.task_machine.specs.Fits.{FitsNow as FitsMachine}
 use Rattle.task_machine.specs.Place.{Places}
 use Rattle.task_machine.proofs.Agreement.{same_line}
-use Rattle.shared_value.specs.SharedValue.{SharedValue, accounts, flat, rest_at, value_of}
+use Rattle.shared_value.specs.SharedValue.{SharedValue, accounts, rest_at, value_of}
 use Rattle.shared_value.specs.Stands.{IsSharedValue}
 use Rattle.shared_value.specs.Fits.{AllFit, Fits}
 use Rattle.shared_value.specs.Entered.{Answers, IsCaused, refused}
@@ -103,7 +104,7 @@ module _ (w : SharedValue) (k : ℕ) (p : Private) (I : IsSharedValue w) (F : Fi
 
 pub holds_none : (w after : SharedValue) (k : ℕ) (p : Private) → IsSharedValue w → IsSharedValue after → refused w (alone_event k p) ≡ None → after.tasks_out ≡ slice_set w.tasks_out k None → HoldsNone after k
 holds_none w after k p I I' free task_out t held =
-    no_task (sym (ap (λ hs. flat (slice_get hs k)) task_out ∙ ap flat (got_set w.tasks_out k None (worker_there w (alone_event k p) I free))) ∙ (I'.stands.totals.task_out k t).1 held)
+    no_task (sym (ap (λ hs. option_flatten (slice_get hs k)) task_out ∙ ap option_flatten (got_set w.tasks_out k None (worker_there w (alone_event k p) I free))) ∙ (I'.stands.totals.task_out k t).1 held)
   where
     no_task : ◌≡◌ {A = Option ℕ} None (Some t) → ⊥
     no_task e = cc

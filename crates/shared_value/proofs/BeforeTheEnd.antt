@@ -1,5 +1,6 @@
 -- What the shared value keeps, of the accounts themselves; and before the run's end, of the parts that fit.
 use Rattle.std.proofs.Common.{◌≡◌, ℕ, Option, Some, None, slice_get, refl, ap, subst, ◌∙◌}
+use Rattle.std.specs.Option.{option_flatten}
 use Rattle.hh_model.specs.declared.data.End.TheVariants.{Done, Trapped, Entangled}
 use Rattle.hh_model.specs.declared.data.State.{State}
 use Rattle.hh_model.specs.declared.data.Status.TheVariants.{Running}
@@ -18,7 +19,7 @@ use Rattle.core_relation.specs.Whole.{StandsFor, by_end, handed}
 use Rattle.core_entry_laws.proofs.whole.TasksOut.{tasks_out_are_held}
 use Rattle.core_entry_laws.proofs.parts.Workers as workers
 use Rattle.task_machine.specs.declared.part.Private.{Private}
-use Rattle.shared_value.specs.SharedValue.{SharedValue, accounts, flat, totals_of, value_of}
+use Rattle.shared_value.specs.SharedValue.{SharedValue, accounts, totals_of, value_of}
 use Rattle.shared_value.specs.Stands.{IsSharedValue}
 use Rattle.shared_value.specs.Fits.{Fits, part_of}
 use Rattle.shared_value.proofs.OneAccount.{sum_put}
@@ -68,7 +69,7 @@ module _ (w : SharedValue) (I : IsSharedValue w) where
   pub stands_now : (accounts w).end ≡ None → StandsFor (value_of w) (totals_of w) (accounts w)
   stands_now on = subst (λ o. StandsFor (value_of w) (totals_of w) (by_end (accounts w) o)) on I.stands
 
-  pub task_out_now : (accounts w).end ≡ None → (k : ℕ) → flat (slice_get w.tasks_out k) ≡ held_from k 0 (accounts w).heaps
+  pub task_out_now : (accounts w).end ≡ None → (k : ℕ) → option_flatten (slice_get w.tasks_out k) ≡ held_from k 0 (accounts w).heaps
   task_out_now on k = tasks_out_are_held (totals_of w) (accounts w) (stands_now on).totals k
 
 -- A PART THAT FITS, before the run's end

@@ -1,5 +1,6 @@
 -- An entry is made: the shared value that the entry leaves.
 use Rattle.std.proofs.Common.{◌≡◌, ℕ, ℤ, Option, Some, None, List, [], ◌∷◌, ◌++◌, length, slice_get, slice_set, is_none, inl, inr, refl, ap, sym, subst, ◌∙◌}
+use Rattle.std.specs.Option.{option_flatten}
 use Rattle.std.proofs.lemmas.Bool.{cases_eq}
 use Rattle.std.proofs.lemmas.Option.{same_Some}
 use Rattle.listed.proofs.Members.{got_other}
@@ -22,7 +23,7 @@ use Rattle.core_relation.specs.Whole.{StandsForAll, by_end}
 use Rattle.core_relation.specs.Worker.{Fits as FitsValue}
 use Rattle.task_machine.specs.declared.part.Private.{Private}
 use Rattle.task_homes.specs.declared.task_at_rest.Rest.{Rest}
-use Rattle.shared_value.specs.SharedValue.{SharedValue, accounts, flat, rest_at, totals_of, value_of}
+use Rattle.shared_value.specs.SharedValue.{SharedValue, accounts, rest_at, totals_of, value_of}
 use Rattle.shared_value.specs.Measured.{IsMeasured, IsUnheld, RestsAreMeasured}
 use Rattle.shared_value.specs.Stands.{HeapForm, IsSharedValue}
 use Rattle.shared_value.specs.Fits.{Fits, part_of}
@@ -60,7 +61,7 @@ pub held_apart : (w : SharedValue) (k u : ℕ) (p q : Private) → Fits w k p �
 held_apart w k u p q F G ne e = ne (same_Some u k (sym G.held ∙ (ap (λ t. (heap_of (accounts w) t).worker) (sym e) ∙ F.held)))
 
 -- the task of a part that a worker holds is out with it
-pub task_is_out : (w : SharedValue) (k : ℕ) (p : Private) → IsSharedValue w → (accounts w).end ≡ None → Fits w k p → flat (slice_get w.tasks_out k) ≡ Some p.task
+pub task_is_out : (w : SharedValue) (k : ℕ) (p : Private) → IsSharedValue w → (accounts w).end ≡ None → Fits w k p → option_flatten (slice_get w.tasks_out k) ≡ Some p.task
 task_is_out w k p I on F = ((stands_now w I on).totals.task_out k p.task).1 F.held
 
 -- no task at rest is out with a worker, and one that is out with none is at rest
@@ -78,10 +79,10 @@ unheld_rests w u I on none = by (heap_of (accounts w) u).worker refl
     by (Some j) e = absurd (none j (((stands_now w I on).totals.task_out j u).1 e))
 
 -- whom no worker holds once one worker's task has changed, none held before
-pub unheld_before : (tasks_out : List (Option ℕ)) (k : ℕ) (x : Option ℕ) (u : ℕ) → IsUnheld (slice_set tasks_out k x) u → (flat (slice_get tasks_out k) ≡ Some u → ⊥) → IsUnheld tasks_out u
+pub unheld_before : (tasks_out : List (Option ℕ)) (k : ℕ) (x : Option ℕ) (u : ℕ) → IsUnheld (slice_set tasks_out k x) u → (option_flatten (slice_get tasks_out k) ≡ Some u → ⊥) → IsUnheld tasks_out u
 unheld_before tasks_out k x u none other j e = elim (cases_eq j k) [
-  | inl q ↦ other (ap (λ z. flat (slice_get tasks_out z)) (sym q) ∙ e)
-  | inr ne ↦ none j (ap flat (got_other tasks_out k j x ne) ∙ e)
+  | inl q ↦ other (ap (λ z. option_flatten (slice_get tasks_out z)) (sym q) ∙ e)
+  | inr ne ↦ none j (ap option_flatten (got_other tasks_out k j x ne) ∙ e)
 ]
 
 -- the value with other fields and one entry more
@@ -112,14 +113,14 @@ module _ (w : SharedValue) (e : EntryValue) (I : IsSharedValue w) (free : refuse
 
   module _ (I' : IsSharedValue w') where
     -- a worker holds the task that is out with it
-    pub held_when_out : (u t : ℕ) → flat (slice_get tasks_out u) ≡ Some t → (heap_of (accounts w') t).worker ≡ Some u
+    pub held_when_out : (u t : ℕ) → option_flatten (slice_get tasks_out u) ≡ Some t → (heap_of (accounts w') t).worker ≡ Some u
     held_when_out u t e = held_by_end (accounts w') (accounts w').end t u ((I'.stands.totals.task_out u t).0 e)
 
-    pub held_on : (u t : ℕ) → flat (slice_get tasks_out u) ≡ flat (slice_get w.tasks_out u) → (heap_of (accounts w) t).worker ≡ Some u → (heap_of (accounts w') t).worker ≡ Some u
+    pub held_on : (u t : ℕ) → option_flatten (slice_get tasks_out u) ≡ option_flatten (slice_get w.tasks_out u) → (heap_of (accounts w) t).worker ≡ Some u → (heap_of (accounts w') t).worker ≡ Some u
     held_on u t same held = held_when_out u t (same ∙ ((stands_now w I (entry_on w e free)).totals.task_out u t).1 held)
 
     -- a part of a worker that goes on fits where its home does
-    pub part_fits : (u : ℕ) (p q : Private) → flat (slice_get tasks_out u) ≡ flat (slice_get w.tasks_out u) → Fits w u p → q.task ≡ p.task → q.leaf_limit ≡ p.leaf_limit → q.field_limit ≡ p.field_limit → HeapForm q.heap → IsMeasured pool q
+    pub part_fits : (u : ℕ) (p q : Private) → option_flatten (slice_get tasks_out u) ≡ option_flatten (slice_get w.tasks_out u) → Fits w u p → q.task ≡ p.task → q.leaf_limit ≡ p.leaf_limit → q.field_limit ≡ p.field_limit → HeapForm q.heap → IsMeasured pool q
         → FitsValue w.program w.settings (part_of w.settings q) (value_of w') (after w.program w.settings (accounts w) e) → Fits w' u q
     part_fits u p q same F et el ef form measured fits = record {
       held = ap (λ z. (heap_of (accounts w') z).worker) et ∙ held_on u p.task same F.held;

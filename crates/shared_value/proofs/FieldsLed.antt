@@ -1,5 +1,6 @@
 -- The remembered fields of a heap are led to where its objects are now: what is read then in the heaps that no worker holds.
 use Rattle.std.proofs.Common.{◌≡◌, ℕ, ◌+◌, ◌-◌, ◌==◌, arith, Bool, true, false, cond, Option, Some, None, List, [], ◌∷◌, fold, length, map, slice_get, inl, inr, refl, ap, ap₂, sym, subst, ◌∙◌}
+use Rattle.std.specs.Option.{option_flatten, option_map}
 use Rattle.std.specs.Prelude.{slice_index_or, slice_set, unwrap_or}
 use Rattle.std.proofs.lemmas.Bool.{cases_eq, false≢true}
 use Rattle.std.proofs.lemmas.List.{length-set}
@@ -23,7 +24,7 @@ use Rattle.remembered_set.specs.declared.remembered.Source.{Source}
 use Rattle.remembered_set.specs.Moved.{held_by, new_reference, redirected, written}
 use Rattle.leaf_copy_gc.specs.Redirected.{new_address}
 use Rattle.address_laws.proofs.Puts.{same_or_other}
-use Rattle.core_relation.specs.Memory.{Chunk, In, led, mapped_chunk, mapped_home, objects_in, put_at, rewritten_home}
+use Rattle.core_relation.specs.Memory.{Chunk, In, mapped_chunk, mapped_home, objects_in, put_at, rewritten_home}
 use Rattle.core_relation.proofs.objects.Members.{in_chunk, map_in}
 use Rattle.core_relation.proofs.changes.Write.{at_is}
 use Rattle.core_relation.proofs.changes.Shown.{is_at_it}
@@ -35,7 +36,7 @@ use Rattle.task_homes.specs.HomesValue.{refs_of_rest}
 use Rattle.task_homes.specs.RestingHeaps.{Resting, refs_for, refs_in, with_ref_at, with_ref_for, with_ref_in}
 use Rattle.shared_value.specs.Measured.{AreMeasured}
 use Rattle.shared_value.specs.Stands.{HeapForm}
-use Rattle.shared_value.specs.SharedValue.{flat, home_by, home_in, home_of, rest_at}
+use Rattle.shared_value.specs.SharedValue.{home_by, home_in, home_of, rest_at}
 use Rattle.shared_value.proofs.CellsRead.{numbered, seen_object}
 use Rattle.shared_value.proofs.FieldsLedTogether.{AreOnce, home_each, home_stays, home_together, lead_at, lead_off, lead_one, none_home, set_itself}
 use Rattle.shared_value.proofs.UnitsMeasured.{measured_written}
@@ -62,13 +63,13 @@ pub record AreFormed (H : Resting) (Good : ℕ → Type 0) : Type 0 where
 rest_set : (homes : List (Option Rest)) (z : ℕ) (r x : Rest) → rest_at homes z ≡ Some r → rest_at (slice_set homes z (Some x)) z ≡ Some x
 rest_set homes z r x e = by (slice_get homes z) refl e
   where
-    by : (o : Option (Option Rest)) → slice_get homes z ≡ o → flat o ≡ Some r → rest_at (slice_set homes z (Some x)) z ≡ Some x
+    by : (o : Option (Option Rest)) → slice_get homes z ≡ o → option_flatten o ≡ Some r → rest_at (slice_set homes z (Some x)) z ≡ Some x
     by None q h = absurd cc
     by (Some None) q h = absurd cc
-    by (Some (Some y)) q h = ap flat (got_same homes z (Some y) (Some x) q)
+    by (Some (Some y)) q h = ap option_flatten (got_same homes z (Some y) (Some x) q)
 
 rest_off : (homes : List (Option Rest)) (z u : ℕ) (x : Option Rest) → (u ≡ z → ⊥) → rest_at (slice_set homes z x) u ≡ rest_at homes u
-rest_off homes z u x ne = ap flat (got_other homes z u x ne)
+rest_off homes z u x ne = ap option_flatten (got_other homes z u x ne)
 
 pub by_chunks : (h : LeafHeapValue) (view : List Level) (n : ℕ) (x : Work) → (home_by h view n x).chunks ≡ chunks_of h.chunks
 by_chunks h view n (Calls s) = refl
@@ -157,11 +158,11 @@ module _ (ms : List (Addr × Addr)) where
     elsewhere o ne = ap (λ rs. record o { refs = rs }) (lead_off f s o.at 0 o.refs (λ k e q. ne (sym e)))
 
     -- the source's object is led
-    led_there : (o : Located) (x : Option Addr) → o.at ≡ s.object → o.refs ≡ c.refs → led f (held_by refs_in H s) ≡ x → lead_one f s o ≡ record o { refs = slice_set c.refs s.field x }
+    led_there : (o : Located) (x : Option Addr) → o.at ≡ s.object → o.refs ≡ c.refs → option_map f (held_by refs_in H s) ≡ x → lead_one f s o ≡ record o { refs = slice_set c.refs s.field x }
     led_there o x e same is =
         ap (λ rs. record o { refs = rs })
         (lead_at f s o.at 0 s.field o.refs (sym e) (let z : s.field ≡ 0 + s.field = omega arith in z)
-        ∙ (ap (λ rs. slice_set rs s.field (led f (slice_index_or rs s.field None))) same ∙ ap (slice_set c.refs s.field) (ap (led f) (sym held_is) ∙ is)))
+        ∙ (ap (λ rs. slice_set rs s.field (option_map f (slice_index_or rs s.field None))) same ∙ ap (slice_set c.refs s.field) (ap (option_map f) (sym held_is) ∙ is)))
 
     pub record Stepped (H' : Resting) : Type 0 where
       pub pool : H'.pool ≡ H.pool
@@ -171,7 +172,7 @@ module _ (ms : List (Addr × Addr)) where
       pub there : (x : Source) → SourceThere H x Good → SourceThere H' x Good
 
     -- nothing is written, since what it holds was not moved
-    kept : led f (held_by refs_in H s) ≡ held_by refs_in H s → Stepped H
+    kept : option_map f (held_by refs_in H s) ≡ held_by refs_in H s → Stepped H
     kept is = record {
       pool = refl;
       count = refl;
@@ -191,7 +192,7 @@ module _ (ms : List (Addr × Addr)) where
         by u good o i false e = elsewhere o (λ at. false≢true (sym e ∙ is_at_it s.object o at))
 
     -- it is led to where its object is now
-    module _ (x : Option Addr) (is : led f (held_by refs_in H s) ≡ x) where
+    module _ (x : Option Addr) (is : option_map f (held_by refs_in H s) ≡ x) where
       abbrev d : Cell
       d = with_ref c s.field x
 
@@ -291,11 +292,11 @@ module _ (ms : List (Addr × Addr)) where
     pub step : Stepped (redirected refs_in with_ref_in ms H s)
     step = by (held_by refs_in H s) refl (new_reference ms (held_by refs_in H s)) refl
       where
-        none_led : (h o : Option Addr) → new_reference ms h ≡ o → o ≡ None → led f h ≡ h
+        none_led : (h o : Option Addr) → new_reference ms h ≡ o → o ≡ None → option_map f h ≡ h
         none_led None o e n = refl
         none_led (Some b) o e n = ap (λ z. Some (unwrap_or z b)) (e ∙ n)
 
-        some_led : (h o : Option Addr) (b : Addr) → new_reference ms h ≡ o → o ≡ Some b → led f h ≡ Some b
+        some_led : (h o : Option Addr) (b : Addr) → new_reference ms h ≡ o → o ≡ Some b → option_map f h ≡ Some b
         some_led None o b e n = absurd (none_some (e ∙ n))
           where
             none_some : ◌≡◌ {A = Option Addr} None (Some b) → ⊥
@@ -305,7 +306,7 @@ module _ (ms : List (Addr × Addr)) where
         by : (h : Option Addr) → held_by refs_in H s ≡ h → (o : Option Addr) → new_reference ms (held_by refs_in H s) ≡ o → Stepped (written refs_in with_ref_in H s o)
         by h eh None e = kept (none_led (held_by refs_in H s) (new_reference ms (held_by refs_in H s)) refl e)
         by h eh (Some b) e =
-            let is : led f (held_by refs_in H s) ≡ Some b = some_led (held_by refs_in H s) (new_reference ms (held_by refs_in H s)) b refl e in
+            let is : option_map f (held_by refs_in H s) ≡ Some b = some_led (held_by refs_in H s) (new_reference ms (held_by refs_in H s)) b refl e in
             subst Stepped (sym (written_is (Some b) is)) (changed (Some b) is)
 
   -- ---- ALL SOURCES

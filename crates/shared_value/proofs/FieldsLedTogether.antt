@@ -1,12 +1,13 @@
 -- Remembered fields that are led one after another are led together.
 use Rattle.std.proofs.Common.{◌≡◌, ℕ, zero, suc, ◌+◌, ◌==◌, ◌&&◌, ◌||◌, arith, Bool, true, false, cond, Option, None, List, [], ◌∷◌, map, inl, inr, refl, ap, ap₂, sym, ◌∙◌, eq-eqb}
+use Rattle.std.specs.Option.{option_map}
 use Rattle.std.specs.Prelude.{slice_index_or, slice_set}
 use Rattle.std.specs.List.{list_any}
 use Rattle.std.proofs.lemmas.Bool.{eqb-true, false≢true}
 use Rattle.object_layout.specs.declared.word.Addr.{Addr}
 use Rattle.object_layout.specs.Objects.{Located}
 use Rattle.remembered_set.specs.declared.remembered.Source.{Source}
-use Rattle.core_relation.specs.Memory.{Chunk, Home, In, is_source, led, mapped_chunk, mapped_home, objects_in, rewritten, rewritten_home, rewritten_refs}
+use Rattle.core_relation.specs.Memory.{Chunk, Home, In, is_source, mapped_chunk, mapped_home, objects_in, rewritten, rewritten_home, rewritten_refs}
 use Rattle.core_relation.proofs.objects.Members.{in_chunk, in_objects}
 
 -- ---- ONE SOURCE AFTER ANOTHER
@@ -14,7 +15,7 @@ use Rattle.core_relation.proofs.objects.Members.{in_chunk, in_objects}
 -- a field that the source is, led; any other stays
 abbrev pub lead_refs : (Addr → Addr) → Source → Addr → ℕ → List (Option Addr) → List (Option Addr)
 lead_refs f s a i [] = []
-lead_refs f s a i (r ∷ rs) = cond (is_source a i s) (led f r) r ∷ lead_refs f s a (suc i) rs
+lead_refs f s a i (r ∷ rs) = cond (is_source a i s) (option_map f r) r ∷ lead_refs f s a (suc i) rs
 
 abbrev pub lead_one : (Addr → Addr) → Source → Located → Located
 lead_one f s o = record o { refs = lead_refs f s o.at 0 o.refs }
@@ -37,7 +38,7 @@ refs_together : (f : Addr → Addr) (s : Source) (ss : List Source) (a : Addr) (
 refs_together f s ss a i [] once = refl
 refs_together f s ss a i (r ∷ rs) once = ap₂ (λ x xs. x ∷ xs) (by (is_source a i s) (list_any (is_source a i) ss) refl refl) (refs_together f s ss a (suc i) rs once)
   where
-    by : (x y : Bool) → is_source a i s ≡ x → list_any (is_source a i) ss ≡ y → cond y (led f (cond x (led f r) r)) (cond x (led f r) r) ≡ cond (x || y) (led f r) r
+    by : (x y : Bool) → is_source a i s ≡ x → list_any (is_source a i) ss ≡ y → cond y (option_map f (cond x (option_map f r) r)) (cond x (option_map f r) r) ≡ cond (x || y) (option_map f r) r
     by true false e q = refl
     by true true e q =
         let at = is_source_same a i s e in
@@ -110,16 +111,16 @@ source_on a i s e q = ap₂ (λ x y. x && y) (eq-eqb s.object.chunk a.chunk (ap 
 pub lead_off : (f : Addr → Addr) (s : Source) (a : Addr) (i : ℕ) (rs : List (Option Addr)) → ((k : ℕ) → s.object ≡ a → s.field ≡ i + k → ⊥) → lead_refs f s a i rs ≡ rs
 lead_off f s a i [] ne = refl
 lead_off f s a i (r ∷ rs) ne =
-    ap₂ (λ b xs. cond b (led f r) r ∷ xs) (source_off a i s (λ e q. ne 0 e (let z : s.field ≡ i + 0 = omega (arith, q) in z)))
+    ap₂ (λ b xs. cond b (option_map f r) r ∷ xs) (source_off a i s (λ e q. ne 0 e (let z : s.field ≡ i + 0 = omega (arith, q) in z)))
     (lead_off f s a (suc i) rs (λ k e q. ne (suc k) e (let z : s.field ≡ i + suc k = omega (arith, q) in z)))
 
-pub lead_at : (f : Addr → Addr) (s : Source) (a : Addr) (i j : ℕ) (rs : List (Option Addr)) → s.object ≡ a → s.field ≡ i + j → lead_refs f s a i rs ≡ slice_set rs j (led f (slice_index_or rs j None))
+pub lead_at : (f : Addr → Addr) (s : Source) (a : Addr) (i j : ℕ) (rs : List (Option Addr)) → s.object ≡ a → s.field ≡ i + j → lead_refs f s a i rs ≡ slice_set rs j (option_map f (slice_index_or rs j None))
 lead_at f s a i j [] e q = refl
 lead_at f s a i zero (r ∷ rs) e q =
-    ap₂ (λ b xs. cond b (led f r) r ∷ xs) (source_on a i s e (let z : s.field ≡ i = omega (arith, q) in z))
+    ap₂ (λ b xs. cond b (option_map f r) r ∷ xs) (source_on a i s e (let z : s.field ≡ i = omega (arith, q) in z))
     (lead_off f s a (suc i) rs (λ k d p. omega (arith, q, p)))
 lead_at f s a i (suc j) (r ∷ rs) e q =
-    ap₂ (λ b xs. cond b (led f r) r ∷ xs) (source_off a i s (λ d p. omega (arith, q, p)))
+    ap₂ (λ b xs. cond b (option_map f r) r ∷ xs) (source_off a i s (λ d p. omega (arith, q, p)))
     (lead_at f s a (suc i) j rs e (let z : s.field ≡ suc i + j = omega (arith, q) in z))
 
 pub set_itself : (rs : List (Option Addr)) (j : ℕ) (x : Option Addr) → slice_index_or rs j None ≡ x → slice_set rs j x ≡ rs

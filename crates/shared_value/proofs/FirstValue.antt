@@ -1,5 +1,6 @@
 -- The shared value before the first entry.
 use Rattle.std.proofs.Common.{◌≡◌, ℕ, ℤ, zero, suc, false, not, ◌&&◌, Option, Some, None, List, [], ◌∷◌, length, slice_get, replicate, option_map, arith, ◌↔◌, refl, ap, sym, subst, ◌∙◌}
+use Rattle.std.specs.Option.{option_flatten}
 use Rattle.std.proofs.lemmas.Bool.{false≢true}
 use Rattle.std.proofs.lemmas.Option.{same_Some}
 use Rattle.std.proofs.Math.Path.{fun_ext}
@@ -22,7 +23,7 @@ use Rattle.core_relation.specs.Stands.{Stands}
 use Rattle.core_relation.specs.Whole.{BegunBy, StandsFor, as_node}
 use Rattle.core_entry_laws.proofs.whole.Journals.{first, first_stands}
 use Rattle.task_homes.specs.declared.task_at_rest.Rest.{Rest}
-use Rattle.shared_value.specs.SharedValue.{SharedValue, flat, rest_at, value_of, totals_of, first_rest}
+use Rattle.shared_value.specs.SharedValue.{SharedValue, rest_at, value_of, totals_of, first_rest}
 use Rattle.shared_value.specs.Measured.{AreMeasured, RestsAreMeasured}
 use Rattle.shared_value.specs.Stands.{HeapForm, IsSharedValue}
 
@@ -81,7 +82,7 @@ module _ (p : ProgramText) (s : SettingsValue) (lims : AreLimits s) (form : IsPr
   no_task_out : (k t : ℕ) → (totals_of w).task_out k ≡ Some t ↔ (heap_of l t).worker ≡ Some k
   no_task_out k t = ((λ e. absurd (never_out s.workers k e)), worker_at t)
     where
-      never_out : (n k : ℕ) → flat (slice_get (replicate n None) k) ≡ Some t → ⊥
+      never_out : (n k : ℕ) → option_flatten (slice_get (replicate n None) k) ≡ Some t → ⊥
       never_out zero k e = absurd cc
       never_out (suc n) zero e = absurd cc
       never_out (suc n) (suc k) e = never_out n k e

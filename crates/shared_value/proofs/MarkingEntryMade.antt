@@ -1,5 +1,6 @@
 -- An entry is made that also changes what is marked: the shared value that it leaves.
 use Rattle.std.proofs.Common.{◌≡◌, ℕ, ℤ, Option, Some, None, List, length, slice_get, ap, sym, subst, ◌∙◌}
+use Rattle.std.specs.Option.{option_flatten}
 use Rattle.run_trace.specs.Entry.{EntryValue}
 use Rattle.run_ledger.specs.declared.data.Ledger.{Ledger}
 use Rattle.run_ledger.specs.declared.data.RunEnd.{RunEnd}
@@ -13,7 +14,7 @@ use Rattle.core_relation.specs.Whole.{StandsForAll}
 use Rattle.core_relation.specs.Worker.{Fits as FitsValue}
 use Rattle.task_machine.specs.declared.part.Private.{Private}
 use Rattle.task_homes.specs.declared.task_at_rest.Rest.{Rest}
-use Rattle.shared_value.specs.SharedValue.{SharedValue, accounts, flat, rest_at, totals_of, value_of}
+use Rattle.shared_value.specs.SharedValue.{SharedValue, accounts, rest_at, totals_of, value_of}
 use Rattle.shared_value.specs.Measured.{IsMeasured, RestsAreMeasured}
 use Rattle.shared_value.specs.Stands.{HeapForm, IsSharedValue}
 use Rattle.shared_value.specs.Fits.{Fits, part_of}
@@ -49,11 +50,11 @@ module _ (w : SharedValue) (e : EntryValue) (I : IsSharedValue w) (free : refuse
   }
 
   module _ (I' : IsSharedValue w') where
-    marked_held : (u t : ℕ) → flat (slice_get tasks_out u) ≡ flat (slice_get w.tasks_out u) → (heap_of (accounts w) t).worker ≡ Some u → (heap_of (accounts w') t).worker ≡ Some u
+    marked_held : (u t : ℕ) → option_flatten (slice_get tasks_out u) ≡ option_flatten (slice_get w.tasks_out u) → (heap_of (accounts w) t).worker ≡ Some u → (heap_of (accounts w') t).worker ≡ Some u
     marked_held u t same held = held_by_end (accounts w') (accounts w').end t u ((I'.stands.totals.task_out u t).0 (same ∙ ((stands_now w I (entry_on w e free)).totals.task_out u t).1 held))
 
     -- a part of a worker that goes on fits where its home does
-    pub marked_fits : (u : ℕ) (p q : Private) → flat (slice_get tasks_out u) ≡ flat (slice_get w.tasks_out u) → Fits w u p → q.task ≡ p.task → q.leaf_limit ≡ p.leaf_limit → q.field_limit ≡ p.field_limit → HeapForm q.heap → IsMeasured pool q
+    pub marked_fits : (u : ℕ) (p q : Private) → option_flatten (slice_get tasks_out u) ≡ option_flatten (slice_get w.tasks_out u) → Fits w u p → q.task ≡ p.task → q.leaf_limit ≡ p.leaf_limit → q.field_limit ≡ p.field_limit → HeapForm q.heap → IsMeasured pool q
         → FitsValue w.program w.settings (part_of w.settings q) (value_of w') (after w.program w.settings (accounts w) e) → Fits w' u q
     marked_fits u p q same F et el ef form measured fits = record {
       held = ap (λ z. (heap_of (accounts w') z).worker) et ∙ marked_held u p.task same F.held;

@@ -1,5 +1,6 @@
 -- A worker takes a task.
 use Rattle.std.proofs.Common.{◌≡◌, ℕ, ◌<◌, Bool, true, false, not, ◌&&◌, nat_le, nat_lt, Option, Some, None, List, length, length-set, slice_get, slice_set, option_map, is_none, is_some, inl, inr, refl, ap, sym, subst, ◌∙◌, arith}
+use Rattle.std.specs.Option.{option_flatten}
 use Rattle.std.proofs.lemmas.Bool.{cases_eq, and_parts, false≢true, ltb-true}
 use Rattle.std.proofs.lemmas.Option.{same_Some}
 use Rattle.listed.specs.RoomyValue.{RoomyValue}
@@ -41,7 +42,7 @@ use Rattle.task_machine.specs.declared.part.Private.{Private}
 use Rattle.task_homes.specs.declared.task_at_rest.Rest.{Rest}
 use Rattle.task_homes.specs.declared.task_at_rest.Work.{Work}
 use Rattle.task_homes.specs.declared.task_at_rest.Work.TheVariants.{Calls, Result}
-use Rattle.shared_value.specs.SharedValue.{SharedValue, accounts, flat, home_in, home_by, home_of, rest_at, totals_of, value_of}
+use Rattle.shared_value.specs.SharedValue.{SharedValue, accounts, home_in, home_by, home_of, rest_at, totals_of, value_of}
 use Rattle.shared_value.specs.Measured.{RestsAreMeasured}
 use Rattle.shared_value.specs.Stands.{HeapForm, IsSharedValue}
 use Rattle.shared_value.specs.Fits.{Fits, IsAtWork, OthersFit, home_of_part, part_of, taken_part}
@@ -56,7 +57,7 @@ same_parent None (Some x) k e = absurd cc
 same_parent (Some n) None k e = absurd cc
 same_parent (Some n) (Some x) k e = ap (λ (z : Node). z.parent) (same_Some n (as_node k x) e)
 
-pub some_flat : {A : Type 0} (o : Option (Option A)) (x : A) → flat o ≡ Some x → o ≡ Some (Some x)
+pub some_flat : {A : Type 0} (o : Option (Option A)) (x : A) → option_flatten o ≡ Some x → o ≡ Some (Some x)
 some_flat None x e = absurd cc
 some_flat (Some o) x e = ap Some e
 
@@ -146,7 +147,7 @@ module _ (w : SharedValue) (k t : ℕ) (I : IsSharedValue w) (free : refused w (
   pub has_home : t < length w.homes
   has_home = there_by (slice_get w.homes t) refl calls
     where
-      there_by : (o : Option (Option Rest)) → slice_get w.homes t ≡ o → HasCalls (flat o) → t < length w.homes
+      there_by : (o : Option (Option Rest)) → slice_get w.homes t ≡ o → HasCalls (option_flatten o) → t < length w.homes
       there_by None q c = absurd c
       there_by (Some x) q c = got_within w.homes t x q
 
@@ -170,15 +171,15 @@ module _ (w : SharedValue) (k t : ℕ) (I : IsSharedValue w) (free : refused w (
     v' = value_of w'
 
     homes_off : (u : ℕ) → (u ≡ t → ⊥) → rest_at w'.homes u ≡ rest_at w.homes u
-    homes_off u ne = ap flat (got_other w.homes t u None ne)
+    homes_off u ne = ap option_flatten (got_other w.homes t u None ne)
 
     but : SameBut v v' t
     but = record { homes = λ u ne. ap home_in (homes_off u ne); owner = λ c. refl; sources = λ u. refl }
 
     counts : TakesNode (totals_of w) (totals_of w') k t
     counts = record {
-      task_out = ap flat (got_set w.tasks_out k (Some t) (worker_there w e I free));
-      tasks_out = λ c ne. ap flat (got_other w.tasks_out k c (Some t) ne);
+      task_out = ap option_flatten (got_set w.tasks_out k (Some t) (worker_there w e I free));
+      tasks_out = λ c ne. ap option_flatten (got_other w.tasks_out k c (Some t) ne);
       node = node_by w.tree t Out (slice_get w.tree t) refl;
       others = λ u ne. node_off w.tree t Out (slice_get w.tree t) u ne;
       used = refl;
@@ -192,7 +193,7 @@ module _ (w : SharedValue) (k t : ℕ) (I : IsSharedValue w) (free : refused w (
 
     heaps_then : (u : ℕ) (r : Rest) → rest_at w'.homes u ≡ Some r → HeapForm r.heap
     heaps_then u r is = elim (cases_eq u t) [
-      | inl q ↦ gone (sym (ap (rest_at w'.homes) q ∙ ap flat (got_set w.homes t None has_home)) ∙ is)
+      | inl q ↦ gone (sym (ap (rest_at w'.homes) q ∙ ap option_flatten (got_set w.homes t None has_home)) ∙ is)
       | inr ne ↦ I.heaps u r (sym (homes_off u ne) ∙ is)
     ]
       where
@@ -201,7 +202,7 @@ module _ (w : SharedValue) (k t : ℕ) (I : IsSharedValue w) (free : refused w (
 
     measured_then : RestsAreMeasured w.pool w'.homes w'.tasks_out
     measured_then u r is f = elim (cases_eq u t) [
-      | inl q ↦ gone (sym (ap (rest_at w'.homes) q ∙ ap flat (got_set w.homes t None has_home)) ∙ is)
+      | inl q ↦ gone (sym (ap (rest_at w'.homes) q ∙ ap option_flatten (got_set w.homes t None has_home)) ∙ is)
       | inr ne ↦ I.measured u r (sym (homes_off u ne) ∙ is) (unheld_before w.tasks_out k (Some t) u f (λ h. none_holds (held_from k 0 l.heaps) (sym (task_out_now w I on k) ∙ h) free_of_tasks))
     ]
       where

@@ -1,5 +1,6 @@
 -- Why entries are refused, as the shared value tells it.
 use Rattle.std.specs.Prelude.{ℕ, ◌&&◌, not, Bool, true, false, Option, Some, None, is_some, nat_le, nat_lt}
+use Rattle.std.specs.Option.{option_flatten}
 use Rattle.std.specs.Prelude.{slice_get}
 use Rattle.run_trace.specs.declared.entry.Kind.{Kind}
 use Rattle.run_trace.specs.declared.entry.Kind.TheVariants.{Took, Ran, Chunk, Begin, End, PutOff, Mark, More, Sweep, Fuel}
@@ -13,7 +14,7 @@ use Rattle.heap_tree.specs.declared.state.State.{State}
 use Rattle.heap_tree.specs.declared.state.State.TheVariants.{Ready, Out, Waiting, Ended, Joined}
 use Rattle.heap_tree.specs.Node.{state_of}
 use Rattle.task_machine.specs.declared.part.Private.{Private}
-use Rattle.shared_value.specs.SharedValue.{SharedValue, flat}
+use Rattle.shared_value.specs.SharedValue.{SharedValue}
 
 -- the causes that come before what the entry says
 abbrev pub first_cause : Option RunEnd → ℕ → SettingsValue → ℕ → Bool → Option Refused
@@ -33,7 +34,7 @@ is_state_ready (Some Ended) = false
 is_state_ready (Some Joined) = false
 
 abbrev pub took_cause : SharedValue → ℕ → ℕ → Option Refused
-took_cause w k t = refused_unless (is_state_ready (state_of w.tree t)) NotReady (refused_holding (flat (slice_get w.tasks_out k)) None)
+took_cause w k t = refused_unless (is_state_ready (state_of w.tree t)) NotReady (refused_holding (option_flatten (slice_get w.tasks_out k)) None)
 
 abbrev pub fuel_cause : SharedValue → Option Refused
 fuel_cause w = refused_unless (nat_le w.settings.fuel w.steps) (NotSpent w.steps) None

@@ -1,11 +1,11 @@
 -- When a leaf collection of a part is due, why it neither begins nor is put off, and how many chunks it takes.
-use Rattle.std.specs.Prelude.{ℕ, ◌*◌, ◌-◌, Bool, Option, None, max, is_some, nat_le}
+use Rattle.std.specs.Prelude.{ℕ, ◌*◌, ◌-◌, Option, None, max, is_some}
 use Rattle.run_ledger.specs.declared.data.Refused.{Refused}
 use Rattle.run_ledger.specs.declared.data.Refused.TheVariants.{Collecting, NotDue}
 use Rattle.run_ledger.specs.Entries.{refused_if, refused_unless}
 use Rattle.run_ledger.specs.Heaps.{units}
-use Rattle.run_ledger.specs.Steps.{on_asked}
 use Rattle.task_machine.specs.declared.part.Private.{Private}
+use Rattle.task_machine.specs.Steps.{is_part_due}
 use Rattle.shared_value.specs.SharedValue.{SharedValue}
 use Rattle.shared_value.specs.Fits.{Fits}
 
@@ -16,10 +16,6 @@ IsHeld w p = (worker : ℕ) × Fits w worker p
 -- for small objects of so many words: one chunk less than twice those that would just hold them
 abbrev pub take_by : ℕ → ℕ
 take_by words = 2 * max 1 (units words) - 1
-
--- a collection is due, where the part's next step allocates so many words, or nothing
-abbrev pub is_part_due : Private → Option ℕ → Bool
-is_part_due p asks = on_asked asks (λ words. nat_le p.leaf_limit p.heap.since)
 
 -- the causes that a begin and a putting off have in common
 abbrev pub due_cause : Private → Option ℕ → Option Refused

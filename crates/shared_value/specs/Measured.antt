@@ -1,5 +1,6 @@
 -- The pool knows as many units of a chunk as the chunk has words for.
 use Rattle.std.specs.Prelude.{◌≡◌, ◌≢◌, ℕ, ◌/◌, Option, Some, None, List, [], slice_get}
+use Rattle.std.specs.Option.{option_flatten}
 use Rattle.object_layout.specs.ChunkValue.{ChunkValue}
 use Rattle.object_layout.specs.Cell.{chunk_words}
 use Rattle.chunk_pool.specs.PoolValue.{PoolValue, slot_at, one_unit}
@@ -7,7 +8,7 @@ use Rattle.core_relation.specs.Memory.{In}
 use Rattle.task_machine.specs.declared.part.Begun.{Begun}
 use Rattle.task_machine.specs.declared.part.Private.{Private}
 use Rattle.task_homes.specs.declared.task_at_rest.Rest.{Rest}
-use Rattle.shared_value.specs.SharedValue.{flat, rest_at}
+use Rattle.shared_value.specs.SharedValue.{rest_at}
 
 -- it has each of these chunks for the task, with as many units as the chunk has
 abbrev pub AreMeasured : PoolValue → ℕ → List ChunkValue → Type 0
@@ -15,7 +16,7 @@ AreMeasured pool t ks = (k : ChunkValue) → In ks k → slot_at pool k.number �
 
 -- no worker holds the task
 abbrev pub IsUnheld : List (Option ℕ) → ℕ → Type 0
-IsUnheld tasks_out t = (k : ℕ) → flat (slice_get tasks_out k) ≢ Some t
+IsUnheld tasks_out t = (k : ℕ) → option_flatten (slice_get tasks_out k) ≢ Some t
 
 -- it has the chunks of each task that no worker holds
 abbrev pub RestsAreMeasured : PoolValue → List (Option Rest) → List (Option ℕ) → Type 0

@@ -1,5 +1,6 @@
 -- The shared value as contracts see it, and what it holds as the relation to the accounts speaks of it.
 use Rattle.std.specs.Prelude.{ℕ, ℤ, pos, Bool, false, Option, Some, None, List, [], ◌∷◌, replicate, slice_get}
+use Rattle.std.specs.Option.{option_flatten}
 use Rattle.listed.specs.RoomyValue.{RoomyValue}
 use Rattle.hh_lang.specs.Form.{ProgramText}
 use Rattle.run_trace.specs.Entry.{EntryValue}
@@ -17,7 +18,7 @@ use Rattle.heap_tree.specs.Node.{Node}
 use Rattle.write_barrier.specs.declared.sets.SetOf.{SetOf}
 use Rattle.inner_mark_gc.specs.MarkingValue.{MarkingValue}
 pub use Rattle.core_relation.specs.Memory.{no_home}
-pub use Rattle.task_homes.specs.HomesValue.{flat, marks_at, rest_at}
+pub use Rattle.task_homes.specs.HomesValue.{marks_at, rest_at}
 use Rattle.core_relation.specs.Memory.{Home, Noted, Memory}
 use Rattle.core_relation.specs.Whole.{Totals}
 use Rattle.task_homes.specs.declared.task_at_rest.Rest.{Rest}
@@ -116,7 +117,7 @@ value_of w = with_marks w.marks (value_by w.homes w.sets w.pool)
 abbrev pub totals_of : SharedValue → Totals
 totals_of w = record {
   node = slice_get w.tree;
-  task_out = λ k. flat (slice_get w.tasks_out k);
+  task_out = λ k. option_flatten (slice_get w.tasks_out k);
   used = units_in_use w.pool;
   steps = w.steps;
   outputs = w.outputs;

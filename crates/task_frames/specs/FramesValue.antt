@@ -1,5 +1,5 @@
 -- A task's frames as callers see them.
-use Rattle.std.specs.Prelude.{◌≡◌, ℕ, zero, suc, ◌+◌, ℤ, pos, Option, Some, None, List, [], ◌∷◌, ◌++◌, length, nat_lt, slice_get, slice_set, unwrap_or, if◌then◌else◌}
+use Rattle.std.specs.Prelude.{◌≡◌, ℕ, zero, suc, ◌+◌, ℤ, pos, Option, Some, None, List, [], ◌∷◌, ◌++◌, length, map, nat_lt, slice_get, slice_set, unwrap_or, if◌then◌else◌}
 use Rattle.object_layout.specs.declared.word.Addr.{Addr}
 use Rattle.task_frames.specs.declared.frames.Frame.{Frame}
 
@@ -81,3 +81,7 @@ abbrev pub references_written : List Frame → ℕ → List (Option Addr) → Li
 references_written [] i refs = []
 references_written (f ∷ fs) zero refs = record f { refs = refs } ∷ fs
 references_written (f ∷ fs) (suc i) refs = f ∷ references_written fs i refs
+
+-- a frame with each reference led elsewhere, and nothing else changed
+abbrev pub led_frame : (Option Addr → Option Addr) → Frame → Frame
+led_frame f x = record x { refs = map f x.refs }

@@ -1,5 +1,6 @@
 -- What the homes are to contracts once that of one task has changed.
 use Rattle.std.proofs.Common.{IfSome, IsSome, ◌≤◌, ◌<◌, arith, option_map, inl, inr, true, false, ◌≡◌, ℕ, zero, suc, ◌-◌, Bool, Option, Some, None, List, [], ◌∷◌, length, map, slice_get, slice_set, refl, ap, ap₂, sym, subst, ◌∙◌}
+use Rattle.std.specs.Option.{option_flatten}
 use Rattle.std.proofs.lemmas.Bool.{cases_eq, false≢true}
 use Rattle.std.proofs.lemmas.List.{length-map, length-set}
 use Rattle.std.proofs.lemmas.Option.{same_Some, slice_get_within}
@@ -10,7 +11,7 @@ use Rattle.write_barrier.specs.Stored.{Content, IsRoomy, content_at, content_of}
 use Rattle.inner_mark_gc.specs.MarkingValue.{MarkingValue}
 use Rattle.task_homes.specs.declared.homes.Home.{Home}
 use Rattle.task_homes.specs.declared.task_at_rest.Rest.{Rest}
-use Rattle.task_homes.specs.HomesValue.{HomesValue, flat, has_block, marking_in, marks_at, rest_at, rest_in, set_in, value_of}
+use Rattle.task_homes.specs.HomesValue.{HomesValue, has_block, marking_in, marks_at, rest_at, rest_in, set_in, value_of}
 
 map_set : {A B : Type 0} (f : A → B) (xs : List A) (k : ℕ) (x : A) → map f (slice_set xs k x) ≡ slice_set (map f xs) k (f x)
 map_set f [] k x = refl
@@ -32,7 +33,7 @@ same_homes r r' s s' m m' b b' n n' er es em eb en =
 some_within : (rests : List (Option Rest)) (t : ℕ) (r : Rest) → rest_at rests t ≡ Some r → t < length rests
 some_within rests t r h = by (slice_get rests t) refl h
   where
-    by : (o : Option (Option Rest)) → slice_get rests t ≡ o → flat o ≡ Some r → t < length rests
+    by : (o : Option (Option Rest)) → slice_get rests t ≡ o → option_flatten o ≡ Some r → t < length rests
     by None e q = absurd cc
     by (Some o) e q = slice_get_within rests t o e
 
@@ -96,17 +97,17 @@ module _ (hs : List (Option Home)) (cap t : ℕ) (o x : Option Home) (there : sl
 
   -- what there was
   pub rest_was : rest_at old.rests t ≡ rest_in o
-  rest_was = sym (ap (λ (w : HomesValue). rest_at w.rests t) is) ∙ ap flat (got_map rest_in hs t o there)
+  rest_was = sym (ap (λ (w : HomesValue). rest_at w.rests t) is) ∙ ap option_flatten (got_map rest_in hs t o there)
 
   pub set_was : slice_get old.sets t ≡ Some (set_in o)
   set_was = sym (ap (λ (w : HomesValue). slice_get w.sets t) is) ∙ got_map set_in hs t o there
 
   -- what there is
   pub rest_now : rest_at after.rests t ≡ rest_in x
-  rest_now = ap flat (got_map rest_in (slice_set hs t x) t x (got_same hs t o x there))
+  rest_now = ap option_flatten (got_map rest_in (slice_set hs t x) t x (got_same hs t o x there))
 
   pub marking_now : marks_at after.marks t ≡ marking_in x
-  marking_now = ap flat (got_map marking_in (slice_set hs t x) t x (got_same hs t o x there))
+  marking_now = ap option_flatten (got_map marking_in (slice_set hs t x) t x (got_same hs t o x there))
 
   pub set_now : slice_get after.sets t ≡ Some (set_in x)
   set_now = got_map set_in (slice_set hs t x) t x (got_same hs t o x there)
@@ -120,7 +121,7 @@ module _ (hs : List (Option Home)) (cap t : ℕ) (o x : Option Home) (there : sl
       ∙ (got_other (map rest_in hs) t u (rest_in x) ne ∙ ap (λ (w : HomesValue). slice_get w.rests u) is)
 
   pub others_rest : (u : ℕ) → (u ≡ t → ⊥) → rest_at after.rests u ≡ rest_at old.rests u
-  others_rest u ne = ap flat (rest_others u ne)
+  others_rest u ne = ap option_flatten (rest_others u ne)
 
   pub others_sets : (u : ℕ) → (u ≡ t → ⊥) → slice_get after.sets u ≡ slice_get old.sets u
   others_sets u ne =

@@ -1,5 +1,6 @@
 -- What belongs to each task, as contracts see it.
 use Rattle.std.specs.Prelude.{◌≡◌, ℕ, Bool, true, false, Option, Some, None, List, [], map, slice_get}
+use Rattle.std.specs.Option.{option_flatten}
 use Rattle.object_layout.specs.declared.word.Addr.{Addr}
 use Rattle.object_layout.specs.Chunks.{object_of}
 use Rattle.alloc_path.specs.LeafHeapValue.{with_places}
@@ -46,15 +47,11 @@ value_of hs room = record { rests = map rest_in hs; sets = map set_in hs; marks 
 
 -- ---- OF ONE TASK
 
-abbrev pub flat : {A : Type 0} → Option (Option A) → Option A
-flat None = None
-flat (Some o) = o
-
 abbrev pub rest_at : List (Option Rest) → ℕ → Option Rest
-rest_at rests t = flat (slice_get rests t)
+rest_at rests t = option_flatten (slice_get rests t)
 
 abbrev pub marks_at : List (Option MarkingValue) → ℕ → Option MarkingValue
-marks_at marks t = flat (slice_get marks t)
+marks_at marks t = option_flatten (slice_get marks t)
 
 abbrev pub sources_of : Option SetOf → List Source
 sources_of None = []

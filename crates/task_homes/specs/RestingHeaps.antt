@@ -1,5 +1,6 @@
 -- The heaps of the tasks that no worker holds, as whoever reaches a reference by the address of its object.
 use Rattle.std.specs.Prelude.{◌≡◌, ◌≢◌, ℕ, Option, Some, None, List, [], refl, slice_get, slice_set}
+use Rattle.std.specs.Option.{option_flatten}
 use Rattle.std.proofs.Common.{inl, inr, ap, sym, ◌∙◌}
 use Rattle.std.proofs.lemmas.Bool.{cases_eq}
 use Rattle.listed.proofs.Members.{got_other, got_same}
@@ -8,7 +9,7 @@ use Rattle.chunk_pool.specs.PoolValue.{PoolValue, owner_of}
 use Rattle.alloc_path.specs.FieldLaws.{refs_of_other, refs_of_same, with_ref_of}
 use Rattle.task_homes.specs.declared.heaps.Heaps.{Heaps}
 use Rattle.task_homes.specs.declared.task_at_rest.Rest.{Rest}
-use Rattle.task_homes.specs.HomesValue.{flat, refs_of_rest, rest_at}
+use Rattle.task_homes.specs.HomesValue.{refs_of_rest, rest_at}
 
 -- what goes with each task that no worker holds, and who owns each chunk
 pub record Resting : Type 0 where
@@ -37,21 +38,21 @@ with_ref_in h a k r = record h { homes = with_ref_for h.homes (owner_of h.pool a
 
 -- THE LAWS of a write
 
-same_at : (homes : List (Option Rest)) (t : ℕ) (a : Addr) (k : ℕ) (r : Option Addr) (o : Option (Option Rest)) → slice_get homes t ≡ o → refs_of_rest (rest_at (with_ref_at homes t (flat o) a k r) t) a ≡ slice_set (refs_of_rest (flat o) a) k r
-same_at homes t a k r None e = ap (λ z. refs_of_rest (flat z) a) e
-same_at homes t a k r (Some None) e = ap (λ z. refs_of_rest (flat z) a) e
+same_at : (homes : List (Option Rest)) (t : ℕ) (a : Addr) (k : ℕ) (r : Option Addr) (o : Option (Option Rest)) → slice_get homes t ≡ o → refs_of_rest (rest_at (with_ref_at homes t (option_flatten o) a k r) t) a ≡ slice_set (refs_of_rest (option_flatten o) a) k r
+same_at homes t a k r None e = ap (λ z. refs_of_rest (option_flatten z) a) e
+same_at homes t a k r (Some None) e = ap (λ z. refs_of_rest (option_flatten z) a) e
 same_at homes t a k r (Some (Some x)) e =
-    ap (λ z. refs_of_rest (flat z) a) (got_same homes t (Some x) (Some (record x { heap = with_ref_of x.heap a k r })) e) ∙ refs_of_same x.heap a k r
+    ap (λ z. refs_of_rest (option_flatten z) a) (got_same homes t (Some x) (Some (record x { heap = with_ref_of x.heap a k r })) e) ∙ refs_of_same x.heap a k r
 
-other_at : (homes : List (Option Rest)) (t : ℕ) (a b : Addr) (k : ℕ) (r : Option Addr) → b ≢ a → (o : Option (Option Rest)) → slice_get homes t ≡ o → refs_of_rest (rest_at (with_ref_at homes t (flat o) a k r) t) b ≡ refs_of_rest (flat o) b
-other_at homes t a b k r ne None e = ap (λ z. refs_of_rest (flat z) b) e
-other_at homes t a b k r ne (Some None) e = ap (λ z. refs_of_rest (flat z) b) e
+other_at : (homes : List (Option Rest)) (t : ℕ) (a b : Addr) (k : ℕ) (r : Option Addr) → b ≢ a → (o : Option (Option Rest)) → slice_get homes t ≡ o → refs_of_rest (rest_at (with_ref_at homes t (option_flatten o) a k r) t) b ≡ refs_of_rest (option_flatten o) b
+other_at homes t a b k r ne None e = ap (λ z. refs_of_rest (option_flatten z) b) e
+other_at homes t a b k r ne (Some None) e = ap (λ z. refs_of_rest (option_flatten z) b) e
 other_at homes t a b k r ne (Some (Some x)) e =
-    ap (λ z. refs_of_rest (flat z) b) (got_same homes t (Some x) (Some (record x { heap = with_ref_of x.heap a k r })) e) ∙ refs_of_other x.heap a b k r ne
+    ap (λ z. refs_of_rest (option_flatten z) b) (got_same homes t (Some x) (Some (record x { heap = with_ref_of x.heap a k r })) e) ∙ refs_of_other x.heap a b k r ne
 
 off_at : (homes : List (Option Rest)) (t u : ℕ) (a b : Addr) (k : ℕ) (r : Option Addr) → (u ≡ t → ⊥) → (o : Option Rest) → refs_of_rest (rest_at (with_ref_at homes t o a k r) u) b ≡ refs_of_rest (rest_at homes u) b
 off_at homes t u a b k r ne None = refl
-off_at homes t u a b k r ne (Some x) = ap (λ z. refs_of_rest (flat z) b) (got_other homes t u (Some (record x { heap = with_ref_of x.heap a k r })) ne)
+off_at homes t u a b k r ne (Some x) = ap (λ z. refs_of_rest (option_flatten z) b) (got_other homes t u (Some (record x { heap = with_ref_of x.heap a k r })) ne)
 
 pub refs_in_same : (h : Resting) (a : Addr) (k : ℕ) (r : Option Addr) → refs_in (with_ref_in h a k r) a ≡ slice_set (refs_in h a) k r
 refs_in_same h a k r = by (owner_of h.pool a.chunk)

@@ -1,5 +1,6 @@
 -- Steps that read an object: the task's own, or an immutable one that the view shows.
 use Rattle.std.proofs.Common.{◌≡◌, ℕ, ℤ, ◌≤◌, Bool, true, false, Option, Some, None, List, ◌∷◌, length, slice_get, unwrap_or, refl, ap, sym, subst, ◌∙◌, arith, inl, is_some}
+use Rattle.std.specs.Option.{option_flatten}
 use Rattle.std.specs.Prelude.{pos, ◌==◌, ◌&&◌, ◌||◌, not}
 use Rattle.std.proofs.lemmas.Bool.{eq-eqb, eqb-false}
 use Rattle.listed.proofs.Members.{contains_from_in}
@@ -17,7 +18,7 @@ use Rattle.hh_model.specs.declared.data.Object.{Object}
 use Rattle.hh_model.specs.declared.data.Task.{Task}
 use Rattle.hh_model.specs.declared.data.Trap.TheVariants.{Nil, Range}
 use Rattle.hh_model.specs.declared.data.State.{State}
-use Rattle.hh_model.specs.Effect.{Goes, Traps, flat, int_in, object_at, or_trap, place_in, read_effect, ref_in, onward as framed_onward, with_int as framed_int}
+use Rattle.hh_model.specs.Effect.{Goes, Traps, int_in, object_at, or_trap, place_in, read_effect, ref_in, onward as framed_onward, with_int as framed_int}
 use Rattle.hh_model.specs.Names.{task_names}
 use Rattle.path_laws.specs.ReadLaws.{Holds, ReadsFreely}
 use Rattle.hh_model.specs.Step.{fetched, owner_of, parents, path_in, run, setting, start}
@@ -82,7 +83,7 @@ pub record CanRead (m : State) (t : ℕ) (y : Task) (place : Places) (n : Name) 
   pub is : object_at m.store n ≡ Some object
   pub refs : length c.refs ≡ length object.refs
   pub ints : c.ints ≡ object.ints
-  pub field : (j : ℕ) → IsAt place (flat (slice_get object.refs j)) (unwrap_or (slice_get c.refs j) None)
+  pub field : (j : ℕ) → IsAt place (option_flatten (slice_get object.refs j)) (unwrap_or (slice_get c.refs j) None)
   pub alone : (i : Instr) → is_read i ≡ true → touched y.top i ≡ Some n → works_alone m t y.top i ≡ true
   pub free : ReadsFreely m t y object
 
@@ -143,7 +144,7 @@ module _ (p : ProgramText) (part : Private) (m : State) (above : Places) (F : Fi
           is = up.stored.1;
           refs = at_length above q.refs c.refs S.1.refs;
           ints = S.1.ints;
-          field = λ j. here_too (flat (slice_get q.refs j)) (unwrap_or (slice_get c.refs j) None) (λ k e. refers.others k (at_in q.refs j k e)) (at_get above q.refs c.refs j S.1.refs);
+          field = λ j. here_too (option_flatten (slice_get q.refs j)) (unwrap_or (slice_get c.refs j) None) (λ k e. refers.others k (at_in q.refs j k e)) (at_get above q.refs c.refs j S.1.refs);
           alone = λ i r tie. works_by i tie false S.0 ∙ ap (λ z. z && true) r;
           free = frozen_free S.0;
         }
@@ -216,6 +217,6 @@ module _ (p : ProgramText) (part : Private) (m : State) (above : Places) (F : Fi
   pub getr_agrees : (d o k : ℕ) → line.instr ≡ Getr d o k → Agrees p part m above (planned part (Getr d o k))
   getr_agrees d o k e =
       seen_agrees (Getr d o k) e o (reads_ref part.frames.top d k) refl refl (nil_effect p part m above F line at o _) (λ n c en C.
-      field_agrees p part m above F line at (Getr d o k) e (λ j. read_effect (setting m part.task F.task) F.task.top m.store d (flat (slice_get C.object.refs j))) _ _
-      (object_effect p part m above F line at o n C.object _ en C.is ∙ ap (λ r. or_trap Range r (λ j. read_effect (setting m part.task F.task) F.task.top m.store d (flat (slice_get C.object.refs j)))) (sym (refs_here n c k C)))
-      (λ j goes. sets_ref p part m above F line at (Getr d o k) e d (flat (slice_get C.object.refs j)) _ (C.field j) (goes ∙ C.free.goes j d) refl (C.alone (Getr d o k) refl en) refl))
+      field_agrees p part m above F line at (Getr d o k) e (λ j. read_effect (setting m part.task F.task) F.task.top m.store d (option_flatten (slice_get C.object.refs j))) _ _
+      (object_effect p part m above F line at o n C.object _ en C.is ∙ ap (λ r. or_trap Range r (λ j. read_effect (setting m part.task F.task) F.task.top m.store d (option_flatten (slice_get C.object.refs j)))) (sym (refs_here n c k C)))
+      (λ j goes. sets_ref p part m above F line at (Getr d o k) e d (option_flatten (slice_get C.object.refs j)) _ (C.field j) (goes ∙ C.free.goes j d) refl (C.alone (Getr d o k) refl en) refl))

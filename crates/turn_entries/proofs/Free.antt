@@ -19,11 +19,11 @@ use Rattle.alloc_path.specs.LeafHeapValue.{place_for, room_of}
 use Rattle.leaf_copy_gc.specs.declared.lists.Moved.{Moved}
 use Rattle.task_machine.specs.declared.part.Private.{Private}
 use Rattle.task_machine.specs.declared.part.Paused.TheVariants.{Due, NeedChunk}
-use Rattle.task_machine.specs.Steps.{lacks_place}
+use Rattle.task_machine.specs.Steps.{is_part_due, lacks_place}
 use Rattle.shared_value.specs.declared.answer.NotEntered.{NotEntered}
 use Rattle.shared_value.specs.declared.answer.NotEntered.TheVariants.{NoMemory, Refuses}
 use Rattle.shared_value.specs.Causes.{first_cause, need_cause, or_else}
-use Rattle.shared_value.specs.Due.{due_cause, is_part_due}
+use Rattle.shared_value.specs.Due.{due_cause}
 use Rattle.shared_value.specs.Entered.{IsCaused, refused}
 use Rattle.shared_value.specs.Fits.{Fits}
 use Rattle.shared_value.specs.Next.{part_asks}

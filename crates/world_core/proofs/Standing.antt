@@ -84,7 +84,7 @@ module _ (w : SharedValue) (k : ℕ) (p : Private) (I : IsSharedValue w) (F : Fi
   machine_same : machine_after w p ≡ M.machine
   machine_same = ap (λ (z : Ledger). (ahead w.program (part_of w.settings p) z).machine) (aside_is l (goes w k p I F going)) ∙ link.machine_is w k p I F going
 
-  due_by : is_part_due w.program p (machine_after w p) ≡ true → is_due w.settings w.program M t ≡ true
+  due_by : is_part_due p (asked w.program (machine_after w p) t) ≡ true → is_due w.settings w.program M t ≡ true
   due_by h =
       ap₂ (λ a n. on_asked (asked w.program M.machine t) (λ words. nat_le a n)) (sym F.leaf_limit) (sym (since_is w k p I F going))
       ∙ (ap (λ (m : State). on_asked (asked w.program m t) (λ words. nat_le p.leaf_limit p.heap.since)) (sym machine_same) ∙ h)

@@ -1,5 +1,6 @@
 -- A copied part fits for the end of its collection alone, and after it fits.
 use Rattle.std.proofs.Common.{◌≡◌, ℕ, Option, Some, None, map, length, slice_get, refl, ap, sym, subst, ◌∙◌, arith, is_some}
+use Rattle.std.specs.Option.{option_map}
 use Rattle.std.proofs.lemmas.Option.{same_Some}
 use Rattle.object_layout.specs.declared.word.Addr.{Addr}
 use Rattle.hh_lang.specs.Form.{ProgramText}
@@ -14,7 +15,8 @@ use Rattle.run_ledger.specs.declared.data.Ledger.{Ledger}
 use Rattle.run_ledger.specs.Heaps.{heap_of, or_fresh, let_go, collected, with_heap}
 use Rattle.run_ledger.specs.Sound.{SoundLedger}
 use Rattle.run_ledger.proofs.Machine.{heap_machine}
-use Rattle.core_relation.specs.Memory.{Home, Memory, In, object_name, objects_in, sources, copied_object, led_frame, rewritten_home}
+use Rattle.core_relation.specs.Memory.{Home, Memory, In, object_name, objects_in, sources, copied_object, rewritten_home}
+use Rattle.task_frames.specs.FramesValue.{led_frame}
 use Rattle.core_relation.specs.Layout.{AreLaidOut}
 use Rattle.core_relation.specs.Stands.{names_of, small_chunks, large_chunks, HasNames, HomeStands, Stands}
 use Rattle.core_relation.specs.Fits.{Part, FitsAt, with_home, ahead}
@@ -145,7 +147,7 @@ module _ (p : ProgramText) (s : SettingsValue) (t : ℕ) (h h' : Home) (f : Addr
     only = λ o i.
         let r = C.copy.only o (subst (λ (z : Home). In (objects_in z.chunks) o) new_home i) in
         (r.0, subst (λ (z : Home). In (objects_in z.chunks) r.0) (sym old_home) r.1, subst (λ ns. In ns (object_name r.0)) (sym survivors) r.2, r.3);
-    frames = ap (λ (z : Home). z.frames) new_home ∙ (C.copy.frames ∙ ap (λ (z : Home). map (led_frame f) z.frames) (sym old_home));
+    frames = ap (λ (z : Home). z.frames) new_home ∙ (C.copy.frames ∙ ap (λ (z : Home). map (led_frame (option_map f)) z.frames) (sym old_home));
     view = ap (λ (z : Home). z.view) new_home ∙ (C.copy.view ∙ ap (λ (z : Home). z.view) (sym old_home));
     others = λ u nu. off_home v' t h' u nu ∙ (E.others u nu ∙ ap (rewritten_home f (sources v t)) (sym (off_home v t h u nu)));
     same = λ a u nu o. C.copy.same a (λ c i e. nu (same_Some u t (sym o ∙ (ap v.owner (sym e) ∙ H.owned c (subst (λ (z : Home). In z.chunks c) (sym old_home) i)))));

@@ -1,5 +1,6 @@
 -- What the views of tasks show of the heaps above them, through each kind of change.
 use Rattle.std.proofs.Common.{◌≡◌, ℕ, ℤ, ◌==◌, ◌&&◌, suc, Bool, true, false, not, cond, Option, Some, None, List, [], ◌∷◌, map, filter, slice_get, ◌⊎◌, inl, inr, refl, ap, ap₂, sym, subst, ◌∙◌}
+use Rattle.std.specs.Option.{option_map}
 use Rattle.std.specs.List.{AllByRecursion, IsDistinct, list_any}
 use Rattle.std.proofs.lemmas.Bool.{cases_eq, both_ways, and_from, and_parts, eq-eqb, eqb-true, cond-true, cond-false, false_from_ne_true}
 use Rattle.std.proofs.lemmas.Option.{same_Some}
@@ -17,7 +18,7 @@ use Rattle.run_ledger.specs.declared.data.Ledger.{Ledger}
 use Rattle.run_ledger.specs.Heaps.{heap_of}
 use Rattle.run_ledger.specs.Sound.{SoundLedger}
 use Rattle.remembered_set.specs.declared.remembered.Source.{Source}
-use Rattle.core_relation.specs.Memory.{Chunk, Home, Memory, In, object_name, objects, objects_in, sources, led, is_source, rewritten_refs, rewritten, put_at, frozen_chunk, frozen_chunks, chunk_of, seen_at, seen_in, shown_at, as_shown}
+use Rattle.core_relation.specs.Memory.{Chunk, Home, Memory, In, object_name, objects, objects_in, sources, is_source, rewritten_refs, rewritten, put_at, frozen_chunk, frozen_chunks, chunk_of, seen_at, seen_in, shown_at, as_shown}
 use Rattle.ledger_step_laws.specs.Accounts.{own, Rests}
 use Rattle.core_relation.specs.Stands.{HomeStands, IsShown, Stands}
 use Rattle.ledger_step_laws.specs.Kinds.{ForksTask, JoinsTasks, CanJoin}
@@ -240,7 +241,7 @@ module _ (f : Addr → Addr) (ss : List Source) where
       let c : q.0.object.chunk ≡ a.chunk = eqb-true q.0.object.chunk a.chunk p.0 in
       let o : q.0.object.offset ≡ a.offset = eqb-true q.0.object.offset a.offset p'.0 in
       none q.0 q.1 (λ j. record { chunk = c j; offset = o j })) in
-      ap₂ (λ x xs. x ∷ xs) (cond-false (list_any (is_source a i) ss) (led f r) r out) (refs_left a (suc i) rs none)
+      ap₂ (λ x xs. x ∷ xs) (cond-false (list_any (is_source a i) ss) (option_map f r) r out) (refs_left a (suc i) rs none)
 
 -- what is remembered is mutable
 pub noted_mutable : (v : Memory) (l : Ledger) (t u : ℕ) (o : Located) (s : Source) → Stands v l → In (objects v u) o → Rests l u → In (sources v t) s → s.object ≡ o.at → o.mutable ≡ true

@@ -1,5 +1,6 @@
 -- What an entry changes of a memory, it changes so of the memory with another task's home in it.
 use Rattle.std.proofs.Common.{◌≡◌, ℕ, ◌==◌, List, map, inl, inr, refl, ap, sym, subst, ◌∙◌, ne_eqb}
+use Rattle.std.specs.Option.{option_map}
 use Rattle.std.proofs.lemmas.Bool.{cases_eq, cond-true, cond-false, eq-eqb}
 use Rattle.object_layout.specs.declared.word.Addr.{Addr}
 use Rattle.object_layout.specs.Objects.{Located}
@@ -8,7 +9,8 @@ use Rattle.run_ledger.specs.declared.data.Heap.{Heap}
 use Rattle.run_ledger.specs.declared.data.Ledger.{Ledger}
 use Rattle.run_ledger.specs.Heaps.{heap_of}
 use Rattle.remembered_set.specs.declared.remembered.Source.{Source}
-use Rattle.core_relation.specs.Memory.{Home, Memory, In, objects_in, sources, led_frame, copied_object, rewritten_home}
+use Rattle.core_relation.specs.Memory.{Home, Memory, In, objects_in, sources, copied_object, rewritten_home}
+use Rattle.task_frames.specs.FramesValue.{led_frame}
 use Rattle.core_relation.specs.Fits.{with_home}
 use Rattle.ledger_step_laws.specs.Accounts.{StepsAlone, ChangesHeap}
 use Rattle.core_relation.specs.Changes.{KeepsJust, Moves}
@@ -91,7 +93,7 @@ moves_with v v' l l' k k' t u h apart A A' names f none C =
       home = home_kept v' (with_home v' u h) l' k' t here' (λ i e. e) (A'.heaps t apart) (A'.rows t apart) (A'.tree.joins t) C.home;
       kept = λ o i j. subst (λ (y : Home). In (objects_in y.chunks) (copied_object f o)) (sym here') (C.kept o (subst (λ (y : Home). In (objects_in y.chunks) o) here i) j);
       only = λ o i. let q = C.only o (subst (λ (y : Home). In (objects_in y.chunks) o) here' i) in (q.0, subst (λ (y : Home). In (objects_in y.chunks) q.0) (sym here) q.1, q.2, q.3);
-      frames = ap (λ (y : Home). y.frames) here' ∙ (C.frames ∙ ap (λ (y : Home). map (led_frame f) y.frames) (sym here));
+      frames = ap (λ (y : Home). y.frames) here' ∙ (C.frames ∙ ap (λ (y : Home). map (led_frame (option_map f)) y.frames) (sym here));
       view = ap (λ (y : Home). y.view) here' ∙ (C.view ∙ ap (λ (y : Home). y.view) (sym here));
       others = λ z ne. elim (cases_eq z u) [
         | inl e ↦

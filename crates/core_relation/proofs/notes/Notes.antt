@@ -1,5 +1,6 @@
 -- What is noted of a waiting heap stands on, whatever is entered.
 use Rattle.std.proofs.Common.{◌≡◌, ℕ, ℤ, suc, Bool, true, false, cond, Option, Some, None, List, [], ◌∷◌, ◌++◌, ◌⊎◌, length, slice_get, inl, inr, refl, ap, ap₂, sym, subst, ◌∙◌}
+use Rattle.std.specs.Option.{option_map}
 use Rattle.std.specs.List.{list_any}
 use Rattle.std.specs.Prelude.{◌&&◌, not}
 use Rattle.std.proofs.lemmas.Bool.{both_ways}
@@ -22,7 +23,7 @@ use Rattle.inner_mark_gc.specs.MarkingValue.{MarkingValue}
 use Rattle.listed.proofs.Members.{in_append_right}
 use Rattle.task_frames.specs.declared.frames.Frame.{Frame}
 use Rattle.remembered_set.specs.declared.remembered.Source.{Source}
-use Rattle.core_relation.specs.Memory.{Chunk, Home, Memory, In, object_name, objects, objects_in, sources, led, is_source, rewritten, rewritten_refs, rewritten_home, mapped_chunk, put_at}
+use Rattle.core_relation.specs.Memory.{Chunk, Home, Memory, In, object_name, objects, objects_in, sources, is_source, rewritten, rewritten_refs, rewritten_home, mapped_chunk, put_at}
 use Rattle.ledger_step_laws.specs.Accounts.{own, Rests}
 use Rattle.core_relation.specs.Stands.{Place, Stands}
 use Rattle.core_relation.specs.Begins.{IsReachedAt, AreRoots}
@@ -122,8 +123,8 @@ rewritten_keeps : (f : Addr → Addr) (ss : List Source) (a : Addr) (i : ℕ) (r
 rewritten_keeps f ss a i [] b e j = j
 rewritten_keeps f ss a i (r ∷ rs) b e (inl g) = inl (by (list_any (is_source a i) ss))
   where
-    by : (c : Bool) → cond c (led f r) r ≡ Some b
-    by true = ap (led f) g ∙ ap Some e
+    by : (c : Bool) → cond c (option_map f r) r ≡ Some b
+    by true = ap (option_map f) g ∙ ap Some e
     by false = g
 rewritten_keeps f ss a i (r ∷ rs) b e (inr j) = inr (rewritten_keeps f ss a (suc i) rs b e j)
 

@@ -1,5 +1,6 @@
 -- The roots of a waiting heap stay, whatever is entered, or what they were was kept.
 use Rattle.std.proofs.Common.{◌≡◌, ℕ, zero, suc, ◌+◌, Bool, true, false, cond, Option, Some, List, [], ◌∷◌, slice_get, inl, inr, refl, ap, sym, subst, ◌∙◌}
+use Rattle.std.specs.Option.{option_map}
 use Rattle.std.specs.List.{list_any}
 use Rattle.std.proofs.lemmas.Bool.{both_ways}
 use Rattle.std.proofs.lemmas.Option.{same_Some}
@@ -10,7 +11,7 @@ use Rattle.run_ledger.specs.declared.data.Ledger.{Ledger}
 use Rattle.run_ledger.specs.Heaps.{heap_of}
 use Rattle.task_frames.specs.declared.frames.Frame.{Frame}
 use Rattle.remembered_set.specs.declared.remembered.Source.{Source}
-use Rattle.core_relation.specs.Memory.{Memory, In, object_name, objects, sources, led, is_source, rewritten_refs}
+use Rattle.core_relation.specs.Memory.{Memory, In, object_name, objects, sources, is_source, rewritten_refs}
 use Rattle.ledger_step_laws.specs.Accounts.{own, Rests}
 use Rattle.core_relation.specs.Stands.{Stands}
 use Rattle.core_relation.specs.Begins.{IsRoot}
@@ -68,8 +69,8 @@ rewritten_at f ss a i (r ∷ rs) zero b e g = by (list_any (is_source a i) ss)
     here : r ≡ Some b
     here = same_Some r (Some b) g
 
-    by : (c : Bool) → ◌≡◌ {A = Option (Option Addr)} (Some (cond c (led f r) r)) (Some (Some b))
-    by true = ap Some (ap (led f) here ∙ ap Some e)
+    by : (c : Bool) → ◌≡◌ {A = Option (Option Addr)} (Some (cond c (option_map f r) r)) (Some (Some b))
+    by true = ap Some (ap (option_map f) here ∙ ap Some e)
     by false = g
 rewritten_at f ss a i (r ∷ rs) (suc k) b e g = rewritten_at f ss a (suc i) rs k b e g
 

@@ -1,11 +1,12 @@
 use Rattle.std.proofs.Common.{◌≡◌, ◌≤◌, false, Option, None, List, arith, length, option_map, slice_get, ap, sym, ◌∙◌}
+use Rattle.std.specs.Option.{option_flatten}
 use Rattle.listed.proofs.Members.{got_past}
 use Rattle.hh_model.specs.declared.data.Name.{Name}
 use Rattle.hh_model.specs.Step.{is_running}
 use Rattle.run_ledger.specs.Heaps.{words_sum}
 use Rattle.alloc_path.specs.LeafHeapValue.{counted}
 use Rattle.task_homes.specs.declared.task_at_rest.Rest.{Rest}
-use Rattle.shared_value.specs.SharedValue.{SharedValue, accounts, flat, rest_at}
+use Rattle.shared_value.specs.SharedValue.{SharedValue, accounts, rest_at}
 use Rattle.heap_reading.specs.HeldNames.{is_state_running}
 use Rattle.heap_reading.proofs.KeptNames.{nothing_kept, runs_is}
 use Rattle.counted_tree.proofs.held_words.words_held.Goals as goal
@@ -19,5 +20,5 @@ returns-else-t-len c =
     let past_tree : length w.tree ≤ c.args.t = let m = I.made in omega (arith, m, past) in
     let idle : is_running (slice_get (accounts w).machine.tasks c.args.t) ≡ false =
     sym (runs_is w I c.args.t) ∙ ap (λ o. is_state_running (option_map (λ m. m.state) o)) (got_past w.tree c.args.t past_tree) in
-    let none : rest_at w.homes c.args.t ≡ None = ap flat (got_past w.homes c.args.t past) in
+    let none : rest_at w.homes c.args.t ≡ None = ap option_flatten (got_past w.homes c.args.t past) in
     sym (ap (λ (ns : List Name). counted (words_sum (accounts w).machine ns)) (nothing_kept w I c.args.t idle none))

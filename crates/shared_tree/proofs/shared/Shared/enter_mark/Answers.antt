@@ -1,4 +1,5 @@
 use Rattle.std.proofs.Common.{◌≡◌, ℕ, ◌-◌, ◌++◌, ◌∷◌, [], List, Option, None, Some, is_some, slice_set, ap, sym, subst, ◌∙◌, ◌<◌}
+use Rattle.std.specs.Option.{option_flatten}
 use Rattle.listed.specs.RoomyValue.{RoomyValue}
 use Rattle.listed.proofs.Members.{got_other}
 use Rattle.run_trace.specs.Entry.{EntryValue}
@@ -6,7 +7,7 @@ use Rattle.run_trace.specs.declared.entry.Kind.TheVariants.{Mark}
 use Rattle.run_ledger.specs.Heaps.{heap_of}
 use Rattle.inner_mark_gc.specs.MarkingValue.{MarkingValue}
 use Rattle.core_relation.specs.Marking.{GoesOn}
-use Rattle.task_homes.specs.HomesValue.{HomesValue, flat, marks_at}
+use Rattle.task_homes.specs.HomesValue.{HomesValue, marks_at}
 use Rattle.shared_value.specs.Entered.{refused}
 use Rattle.shared_value.specs.Fits.{AllFit}
 use Rattle.shared_value.specs.SharedValue.{SharedValue, accounts, value_of}
@@ -38,7 +39,7 @@ invariant_of-self c =
     let journal : c.push_reserved.new.self ≡ record { items = w.journal.items ++ e ∷ []; room = w.journal.room - 1 } = journal_by w.journal _ _ e c.new-2.ensures c.push_reserved.ensures in
     let ms : List (Option MarkingValue) = slice_set w.marks t (Some c.in_ok-marking.marking) in
     let at : marks_at ms t ≡ Some c.args.marking = ap (λ (h : HomesValue). marks_at h.marks t) (sym c.put_marking.ensures.homes) ∙ (c.put_marking.ensures.marking ∙ ap Some c.in_ok-marking.ensures.ok) in
-    let both = mark_enters w c.self.invariant k t c.args.marking ms (w.journal.room - 1) at (λ u ne. ap flat (got_other w.marks t u (Some c.in_ok-marking.marking) ne)) free c.requires.none goes in
+    let both = mark_enters w c.self.invariant k t c.args.marking ms (w.journal.room - 1) at (λ u ne. ap option_flatten (got_other w.marks t u (Some c.in_ok-marking.marking) ne)) free c.requires.none goes in
     subst (λ (j : RoomyValue EntryValue). IsSharedValue (record w { homes = c.put_marking.new.self.rests; sets = c.put_marking.new.self.sets; marks = c.put_marking.new.self.marks; journal = j })) (sym journal)
     (subst (λ (h : HomesValue). IsSharedValue (record w { homes = h.rests; sets = h.sets; marks = h.marks; journal = record { items = w.journal.items ++ e ∷ []; room = w.journal.room - 1 } })) (sym c.put_marking.ensures.homes) both.0)
 
@@ -53,7 +54,7 @@ returns-clause-fits c =
     let journal : c.push_reserved.new.self ≡ record { items = w.journal.items ++ e ∷ []; room = w.journal.room - 1 } = journal_by w.journal _ _ e c.new-2.ensures c.push_reserved.ensures in
     let ms : List (Option MarkingValue) = slice_set w.marks t (Some c.in_ok-marking.marking) in
     let at : marks_at ms t ≡ Some c.args.marking = ap (λ (h : HomesValue). marks_at h.marks t) (sym c.put_marking.ensures.homes) ∙ (c.put_marking.ensures.marking ∙ ap Some c.in_ok-marking.ensures.ok) in
-    let both = mark_enters w c.self.invariant k t c.args.marking ms (w.journal.room - 1) at (λ u ne. ap flat (got_other w.marks t u (Some c.in_ok-marking.marking) ne)) free c.requires.none goes in
+    let both = mark_enters w c.self.invariant k t c.args.marking ms (w.journal.room - 1) at (λ u ne. ap option_flatten (got_other w.marks t u (Some c.in_ok-marking.marking) ne)) free c.requires.none goes in
     subst (λ (z : SharedValue). AllFit z (record w { homes = c.put_marking.new.self.rests; sets = c.put_marking.new.self.sets; marks = c.put_marking.new.self.marks; journal = c.push_reserved.new.self })) c.self.view_is
     (subst (λ (j : RoomyValue EntryValue). AllFit w (record w { homes = c.put_marking.new.self.rests; sets = c.put_marking.new.self.sets; marks = c.put_marking.new.self.marks; journal = j })) (sym journal)
     (subst (λ (h : HomesValue). AllFit w (record w { homes = h.rests; sets = h.sets; marks = h.marks; journal = record { items = w.journal.items ++ e ∷ []; room = w.journal.room - 1 } })) (sym c.put_marking.ensures.homes) both.1))
