@@ -413,23 +413,24 @@ place_in-push ks k fresh q =
     (cases_Bool (eqb k.number q)))
     (cases_lt (place_of ks q) (length ks))
 
-module _ (ks : List ChunkValue) (k : ChunkValue) (empty : k.cells ≡ []) where
-  at_push : (i : ℕ) → i < length ks → chunk_at (ks ++ k ∷ []) i ≡ chunk_at ks i
+module _ (ks : List ChunkValue) (k : ChunkValue) where
+  pub at_push : (i : ℕ) → i < length ks → chunk_at (ks ++ k ∷ []) i ≡ chunk_at ks i
   at_push i l = get_or_append_left ks (k ∷ []) no_chunk i l
 
-  at_last : chunk_at (ks ++ k ∷ []) (length ks) ≡ k
+  pub at_last : chunk_at (ks ++ k ∷ []) (length ks) ≡ k
   at_last =
       let e : length ks - length ks ≡ 0 = omega arith in
       get_or-append_right ks (k ∷ []) (length ks) (length ks) no_chunk refl (omega arith) ∙ rw e refl
 
-  IsCurrent-push : (o : Option ℕ) → IsCurrent ks o → IsCurrent (ks ++ k ∷ []) o
+  pub IsCurrent-push : (o : Option ℕ) → IsCurrent ks o → IsCurrent (ks ++ k ∷ []) o
   IsCurrent-push None h = h
   IsCurrent-push (Some i) h = (simp length-append (omega arith), rw (at_push i h.0) h.1)
 
-  IsReserved-push : (o : Option ℕ) → IsReserved ks o → IsReserved (ks ++ k ∷ []) o
+  pub IsReserved-push : (o : Option ℕ) → IsReserved ks o → IsReserved (ks ++ k ∷ []) o
   IsReserved-push None h = h
   IsReserved-push (Some i) h = (simp length-append (omega arith), rw (at_push i h.0) h.1)
 
+module _ (ks : List ChunkValue) (k : ChunkValue) (empty : k.cells ≡ []) where
   pushed_words : (n : ℕ) → n ≡ counted (held_words ks) → n ≡ counted (held_words (ks ++ k ∷ []))
   pushed_words n e =
       let none : held_in k.cells ≡ 0 = ap held_in empty in
@@ -456,8 +457,8 @@ module _ (ks : List ChunkValue) (k : ChunkValue) (empty : k.cells ≡ []) where
 
     pub small_added : k.size ≡ 1024 → IsKept (ks ++ k ∷ []) left (Some (length ks)) kept count many part base new (entries + 1)
     small_added s = record {
-      current = (simp length-append (omega arith), rw at_last s);
-      reserved = IsReserved-push kept keeps.reserved;
+      current = (simp length-append (omega arith), rw (at_last ks k) s);
+      reserved = IsReserved-push ks k kept keeps.reserved;
       within = within_push keeps.within;
       words = pushed_words count keeps.words;
       objects = sum_pushed one_each ks k empty many keeps.objects;
@@ -471,8 +472,8 @@ module _ (ks : List ChunkValue) (k : ChunkValue) (empty : k.cells ≡ []) where
 
     pub large_added : 1024 < k.size → IsKept (ks ++ k ∷ []) left filled (Some (length ks)) count many part base new (entries + 1)
     large_added s = record {
-      current = IsCurrent-push filled keeps.current;
-      reserved = (simp length-append (omega arith), rw at_last (s, empty));
+      current = IsCurrent-push ks k filled keeps.current;
+      reserved = (simp length-append (omega arith), rw (at_last ks k) (s, empty));
       within = within_push keeps.within;
       words = pushed_words count keeps.words;
       objects = sum_pushed one_each ks k empty many keeps.objects;

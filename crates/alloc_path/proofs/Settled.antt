@@ -18,7 +18,7 @@ use Rattle.alloc_path.proofs.PlacedLaws as placed
 -- ---- cells
 
 -- what holds of each cell, and where there is none, holds at each offset
-at_offset : (P : Cell → Type 0) (cs : List Cell) (at : ℕ) → P no_cell → All P cs → P (cell_at cs at)
+pub at_offset : (P : Cell → Type 0) (cs : List Cell) (at : ℕ) → P no_cell → All P cs → P (cell_at cs at)
 at_offset P [] at z a = z
 at_offset P (c ∷ cs) zero z a = All-head P c cs a
 at_offset P (c ∷ cs) (suc n) z a =

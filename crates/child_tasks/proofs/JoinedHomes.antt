@@ -1,7 +1,7 @@
 -- A join: the homes that it merges.
-use Rattle.std.proofs.Common.{◌≡◌, ◌⊎◌, ℕ, ℤ, ◌+◌, ◌<◌, ◌^◌, ◌++◌, ◌||◌, arith, Bool, true, false, Option, Some, None, List, slice_get, inl, inr, refl, ap, sym, subst, ◌∙◌}
+use Rattle.std.proofs.Common.{◌≡◌, ◌⊎◌, ℕ, ℤ, ◌+◌, ◌<◌, ◌^◌, ◌++◌, arith, true, false, Option, Some, None, List, slice_get, inl, inr, refl, ap, sym, subst, ◌∙◌}
 use Rattle.std.specs.Prelude.{IsSome}
-use Rattle.std.proofs.lemmas.Bool.{cases_Bool}
+use Rattle.std.proofs.lemmas.Bool.{cases_Bool, or_from}
 use Rattle.std.proofs.lemmas.Option.{same_Some}
 use Rattle.listed.proofs.Places.{all_from, in_map}
 use Rattle.hh_model.specs.declared.data.Name.{Name}
@@ -240,13 +240,9 @@ module _ (w : SharedValue) (k : ℕ) (p : Private) (I : IsSharedValue w) (F : Fi
     joined_apart =
         apart_together lh.chunks (rh.chunks ++ above.heap.chunks) child_forms.0.shaped.apart
         (apart_together rh.chunks above.heap.chunks child_forms.1.shaped.apart above_form.shaped.apart (heaps_apart (c + 1) q rh above.heap child_homes.1 above_has rests_d rests_q (λ e. let lt = q_low in omega (arith, e, lt))))
-        (λ n has. has_append rh.chunks above.heap.chunks n ∙ neither (has_chunk rh.chunks n) (has_chunk above.heap.chunks n)
+        (λ n has. has_append rh.chunks above.heap.chunks n ∙ or_from (has_chunk rh.chunks n) (has_chunk above.heap.chunks n)
         (heaps_apart c (c + 1) lh rh child_homes.0 child_homes.1 rests_c rests_d (λ e. omega (arith, e)) n has)
         (heaps_apart c q lh above.heap child_homes.0 above_has rests_c rests_q (λ e. let lt = q_low in omega (arith, e, lt)) n has))
-      where
-        neither : (a b : Bool) → a ≡ false → b ≡ false → (a || b) ≡ false
-        neither true b e f = e
-        neither false b e f = f
 
     -- and are in use
     pub left_used : AreInUse w.pool lh.chunks

@@ -1,5 +1,5 @@
 -- A last step that leaves its task waiting is a fork.
-use Rattle.std.proofs.Common.{◌≡◌, ◌⊎◌, ℕ, ◌+◌, true, false, Some, None, slice_get, inl, inr, refl, ap, sym, subst, ◌∙◌}
+use Rattle.std.proofs.Common.{◌≡◌, ℕ, true, false, Some, None, slice_get, ap, sym, subst, ◌∙◌}
 use Rattle.std.proofs.lemmas.Bool.{both_ways, false≢true}
 use Rattle.std.proofs.lemmas.Option.{same_Some}
 use Rattle.listed.proofs.Options.{none_some}
@@ -7,33 +7,16 @@ use Rattle.hh_lang.specs.declared.instr.Instr.TheVariants.{Par}
 use Rattle.hh_lang.specs.declared.program.Line.{Line}
 use Rattle.hh_lang.specs.Form.{ProgramText}
 use Rattle.hh_model.specs.declared.data.State.{State}
-use Rattle.hh_model.specs.declared.data.Status.{Status}
-use Rattle.hh_model.specs.declared.data.Status.TheVariants.{Running, Waiting, Ended, Joined}
 use Rattle.hh_model.specs.declared.data.Task.{Task}
-use Rattle.hh_model.specs.Step.{is_joined, is_over, waits}
+use Rattle.hh_model.specs.Step.{is_over, waits}
+use Rattle.hh_model.proofs.Closed.{waits_is}
 use Rattle.run_ledger.specs.declared.data.Ledger.{Ledger}
 use Rattle.run_ledger.specs.Steps.{is_private}
-use Rattle.ledger_step_laws.specs.Last.{EndsLast, ForksOn, IsOfKind, JustReads, LastKind, Wrote}
+use Rattle.ledger_step_laws.specs.Last.{ForksOn, IsOfKind, JustReads, LastKind, Wrote}
 use Rattle.ledger_step_laws.specs.Last.{Private, Reading, Writing, Printing, Forking, Ending, Joining, Finishing, Halting}
-use Rattle.own_steps.proofs.LastKinds.{forks_not}
+use Rattle.own_steps.proofs.LastKinds.{forks_not, joined_not}
 
 module _ (p : ProgramText) (m l' : Ledger) (t : ℕ) (x : Task) (line : Line) (shared : is_private p m.machine t ≡ false) (g h : ℕ) (by : line.instr ≡ Par g h) (y : Task) (is : slice_get l'.machine.tasks t ≡ Some y) (wait : waits y.status ≡ true) (goes : l'.machine.end ≡ None) where
-  joined_not : {A : Type 0} → EndsLast m l' t x → A
-  joined_not j = side j.results
-    where
-      live : (s : Status) → waits s ≡ true → is_over s ≡ false
-      live Running h = refl
-      live Waiting h = refl
-      live (Ended k n) h = refl
-      live Joined h = absurd (false≢true h)
-
-      off : {A : Type 0} (u : ℕ) → t ≡ u → is_joined (slice_get l'.machine.tasks u) ≡ true → A
-      off u e h = absurd (both_ways (is_joined (slice_get l'.machine.tasks u)) (ap (λ z. is_joined (slice_get l'.machine.tasks z)) (sym e) ∙ (ap is_joined is ∙ live y.status wait)) h)
-
-      side : {A : Type 0} {B C D E : Type 0} → ((t ≡ j.left) × B × C) ⊎ ((t ≡ j.left + 1) × D × E) → A
-      side (inl h) = off j.left h.0 j.joins.left
-      side (inr h) = off (j.left + 1) h.0 j.joins.right
-
   pub forks : (kind : LastKind) → IsOfKind p m l' t x line kind → ForksOn m l' t x line
   forks Private private = absurd (both_ways (is_private p m.machine t) shared private)
   forks Reading r = absurd (subst (λ i. JustReads x i r.object r.frame) by r.reads)
@@ -41,6 +24,6 @@ module _ (p : ProgramText) (m l' : Ledger) (t : ℕ) (x : Task) (line : Line) (s
   forks Printing q = forks_not (sym by ∙ q.by)
   forks Forking f = f
   forks Ending e = let same = same_Some _ y (sym e.ends.ended ∙ is) in absurd (false≢true (ap (λ (z : Task). waits z.status) same ∙ wait))
-  forks Joining j = joined_not j
+  forks Joining j = joined_not m l' t x y is (ap is_over (waits_is y.status wait)) j
   forks Finishing d = none_some (sym goes ∙ d.ended)
   forks Halting h = none_some (sym goes ∙ ap (λ (z : State). z.end) h.machine)

@@ -1,5 +1,5 @@
 -- Of which kind a last return is, by what it leaves of its task.
-use Rattle.std.proofs.Common.{◌≡◌, ◌⊎◌, ℕ, ◌+◌, true, false, Some, None, slice_get, inl, inr, ap, sym, subst, ◌∙◌}
+use Rattle.std.proofs.Common.{◌≡◌, ℕ, true, false, Some, None, slice_get, ap, sym, subst, ◌∙◌}
 use Rattle.std.proofs.lemmas.Bool.{both_ways, false≢true}
 use Rattle.std.proofs.lemmas.Option.{same_Some}
 use Rattle.listed.proofs.Options.{none_some}
@@ -8,11 +8,12 @@ use Rattle.hh_lang.specs.declared.program.Line.{Line}
 use Rattle.hh_lang.specs.Form.{ProgramText}
 use Rattle.hh_model.specs.declared.data.State.{State}
 use Rattle.hh_model.specs.declared.data.Task.{Task}
-use Rattle.hh_model.specs.Step.{is_joined, is_over}
+use Rattle.hh_model.specs.Step.{is_over}
 use Rattle.run_ledger.specs.declared.data.Ledger.{Ledger}
 use Rattle.run_ledger.specs.Steps.{is_private}
 use Rattle.ledger_step_laws.specs.Last.{EndsFirst, EndsLast, IsOfKind, JustReads, LastKind, Wrote}
 use Rattle.ledger_step_laws.specs.Last.{Private, Reading, Writing, Printing, Forking, Ending, Joining, Finishing, Halting}
+use Rattle.own_steps.proofs.LastKinds.{joined_not}
 
 prints_not : {A : Type 0} {a : ℕ} → Ret ≡ Out a → A
 prints_not e = absurd cc
@@ -26,16 +27,6 @@ module _ (p : ProgramText) (m l' : Ledger) (t : ℕ) (x : Task) (line : Line) (s
 
   -- it has ended, and hasn't joined
   module _ (open_ : is_over y.status ≡ false) where
-    joined_not : {A : Type 0} → EndsLast m l' t x → A
-    joined_not j = side j.results
-      where
-        off : {A : Type 0} (u : ℕ) → t ≡ u → is_joined (slice_get l'.machine.tasks u) ≡ true → A
-        off u e h = absurd (both_ways (is_joined (slice_get l'.machine.tasks u)) (ap (λ z. is_joined (slice_get l'.machine.tasks z)) (sym e) ∙ (ap is_joined is ∙ open_)) h)
-
-        side : {A : Type 0} {B C D E : Type 0} → ((t ≡ j.left) × B × C) ⊎ ((t ≡ j.left + 1) × D × E) → A
-        side (inl h) = off j.left h.0 j.joins.left
-        side (inr h) = off (j.left + 1) h.0 j.joins.right
-
     pub ends : (kind : LastKind) → Last kind → EndsFirst m l' t x
     ends Private private = absurd (both_ways (is_private p m.machine t) shared private)
     ends Reading r = absurd (subst (λ i. JustReads x i r.object r.frame) by r.reads)
@@ -43,7 +34,7 @@ module _ (p : ProgramText) (m l' : Ledger) (t : ℕ) (x : Task) (line : Line) (s
     ends Printing q = prints_not (sym by ∙ q.by)
     ends Forking f = forks_not (sym by ∙ f.by)
     ends Ending e = e
-    ends Joining j = joined_not j
+    ends Joining j = joined_not m l' t x y is open_ j
     ends Finishing d = none_some (sym goes ∙ d.ended)
     ends Halting h = none_some (sym goes ∙ ap (λ (z : State). z.end) h.machine)
 

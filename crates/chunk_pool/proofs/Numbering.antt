@@ -1,8 +1,9 @@
 -- Chunks that are numbered one after another.
-use Rattle.std.proofs.Common.{◌≡◌, ◌≢◌, ℕ, ◌+◌, Bool, true, false, cond, ◌||◌, Option, Some, None, List, [], ◌∷◌, ◌++◌, length, length-append, get_or, refl, sym, ap, ◌∙◌, subst, inl, inr, eqb, arith, append_assoc}
+use Rattle.std.proofs.Common.{◌≡◌, ◌≢◌, ℕ, ◌+◌, true, false, cond, ◌||◌, Option, Some, None, List, [], ◌∷◌, ◌++◌, length, length-append, get_or, sym, ap, ◌∙◌, subst, inl, inr, eqb, arith, append_assoc}
 use Rattle.std.specs.Prelude.{All}
 use Rattle.std.proofs.lemmas.Bool.{cases_Bool, cases_eq, eq-eqb, ne_eqb, cond-true, cond-false, false≢true}
 use Rattle.std.proofs.lemmas.List.Elements.{All-append, All-cons, All-head, All-nil, All-tail}
+use Rattle.std.proofs.Math.Bool.{or-false, or-true}
 use Rattle.object_layout.specs.ChunkValue.{ChunkValue}
 use Rattle.object_layout.specs.Chunks.{has_chunk, AreApart}
 use Rattle.object_layout.proofs.Owning.{apart_more, has_append, has_one}
@@ -27,21 +28,13 @@ module _ (xs ys zs : List (Option Slot)) (owner : ℕ) (ks : List ChunkValue) (k
   both : (n : ℕ) → has_chunk (ks ++ k ∷ []) n ≡ (has_chunk ks n || eqb k.number n)
   both n = has_append ks (k ∷ []) n ∙ ap (λ b. has_chunk ks n || b) (has_one k n)
 
-  or_true : (b : Bool) → (b || true) ≡ true
-  or_true true = refl
-  or_true false = refl
-
-  or_same : (b : Bool) → (b || false) ≡ b
-  or_same true = refl
-  or_same false = refl
-
   each : (n : ℕ) → slot_in zs n ≡ cond (has_chunk (ks ++ k ∷ []) n) mine (slot_in xs n)
   each n = elim (cases_eq n k.number) [
     | inl e ↦
-        let there : has_chunk (ks ++ k ∷ []) n ≡ true = both n ∙ (ap (λ b. has_chunk ks n || b) (eq-eqb k.number n (sym e)) ∙ or_true (has_chunk ks n)) in
+        let there : has_chunk (ks ++ k ∷ []) n ≡ true = both n ∙ (ap (λ b. has_chunk ks n || b) (eq-eqb k.number n (sym e)) ∙ or-true (has_chunk ks n)) in
         ap (slot_in zs) e ∙ (now ∙ sym (cond-true (has_chunk (ks ++ k ∷ []) n) mine (slot_in xs n) there))
     | inr ne ↦
-        let same : has_chunk (ks ++ k ∷ []) n ≡ has_chunk ks n = both n ∙ (ap (λ b. has_chunk ks n || b) (ne_eqb k.number n (λ h. ne (sym h))) ∙ or_same (has_chunk ks n)) in
+        let same : has_chunk (ks ++ k ∷ []) n ≡ has_chunk ks n = both n ∙ (ap (λ b. has_chunk ks n || b) (ne_eqb k.number n (λ h. ne (sym h))) ∙ or-false (has_chunk ks n)) in
         others n ne ∙ (was.each n ∙ sym (ap (λ b. cond b mine (slot_in xs n)) same))
   ]
 

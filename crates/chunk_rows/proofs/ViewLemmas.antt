@@ -9,6 +9,7 @@ use Rattle.object_layout.specs.Chunks.{place_in, place_of}
 use Rattle.object_layout.specs.Piece.{PieceValue, frozen_of}
 use Rattle.kept_pieces.specs.PiecesValue.{is_among, needed, PiecesValue, Shows}
 use Rattle.kept_pieces.proofs.PieceLists as lists
+use Rattle.kept_pieces.proofs.Levels.{or_none}
 use Rattle.chunk_rows.specs.View.{Level, level_of, nearest, piece_in}
 use Rattle.object_layout.proofs.ChunkLaws as chunks
 
@@ -78,10 +79,6 @@ none_added ks base number tells n o = sym (ap (option_or o) (by (eqb number n) (
     by : (b : Bool) → (b ≡ true → piece_in (level_of ks) n ≡ None) → cond b (piece_in (level_of ks) n) None ≡ None
     by true h = h refl
     by false h = refl
-
-    or_none : (q : Option PieceValue) → option_or q None ≡ q
-    or_none None = refl
-    or_none (Some f) = refl
 
 -- the pieces of one number more
 pub number_more : (ks : List ChunkValue) (o was : Option PieceValue) (among one : Bool) (n : ℕ) → o ≡ option_or was (cond among (piece_in (level_of ks) n) None) →

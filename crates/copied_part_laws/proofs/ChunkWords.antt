@@ -55,10 +55,6 @@ module _ (m : State) where
 
 -- ---- UNITS
 
-pub units_both : (ks js : List ChunkValue) → unit_count (ks ++ js) ≡ unit_count ks + unit_count js
-units_both [] js = omega arith
-units_both (k ∷ ks) js = let e = units_both ks js in omega (arith, e)
-
 pub units_emptied : (ks : List ChunkValue) → unit_count (map emptied ks) ≡ unit_count ks
 units_emptied [] = refl
 units_emptied (k ∷ ks) = ap (λ n. units k.size + n) (units_emptied ks)

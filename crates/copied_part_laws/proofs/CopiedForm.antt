@@ -29,6 +29,7 @@ use Rattle.leaf_copy_gc.specs.Laws.{CanTake}
 use Rattle.leaf_copy_gc.proofs.NewNumbers.{new_reverse}
 use Rattle.collected_heap_laws.proofs.Reading as reading
 use Rattle.leaf_copy_gc.proofs.Tidied.{all_tidy}
+use Rattle.leaf_copy_gc.proofs.Packing.{used_led}
 use Rattle.collected_heap_laws.proofs.Reading.{within_of}
 use Rattle.core_relation.specs.Memory.{Chunk, In, objects_in}
 use Rattle.core_relation.specs.Layout.{AreLaidOut, HoldsLarge, has_none, reserved_chunks, reserved_units, words}
@@ -38,7 +39,7 @@ use Rattle.shared_value.specs.Objects.{chunk_of, chunks_of}
 use Rattle.shared_value.specs.Stands.{HeapForm}
 use Rattle.shared_value.proofs.HeapCounts.{counted_from, is_spare}
 use Rattle.copied_part_laws.proofs.BeforeTheCopy.{Old}
-use Rattle.copied_part_laws.proofs.NamesLaid.{Told, words_led}
+use Rattle.copied_part_laws.proofs.NamesLaid.{Told}
 use Rattle.copied_part_laws.proofs.ObjectsApart.{Holds, held_by, laid_out, span}
 use Rattle.copied_part_laws.proofs.ObjectsMoved as moving
 use Rattle.copied_part_laws.proofs.ChunkPlaces.{at_behind, at_front, current_of, last_behind, last_small, place_behind, reserved_behind}
@@ -159,7 +160,7 @@ module _ (h : LeafHeapValue) (from : List (Option Addr)) (ss : List Survivor) (n
         old = x.0;
         there = A.there;
         size = refl;
-        words = words_led g x.0.cells;
+        words = used_led g x.0.cells;
         big = big;
         holds = led_holds x.0 (O.laid.large (chunk_of x.0) (in_map chunk_of h.chunks x.0 A.there) (ap not (big_not x.0 big)));
       })
@@ -175,7 +176,7 @@ module _ (h : LeafHeapValue) (from : List (Option Addr)) (ss : List Survivor) (n
   pub laid_inside : (k : ChunkValue) → In L k → words_in k.cells ≤ k.size
   laid_inside k i =
       let x = map_in (led_chunk g) y.laid k i in
-      let w = words_led g x.0.cells in
+      let w = used_led g x.0.cells in
       let le = inside_in y.laid x.0 (inside_all (before (reverse news)) h.chunks (smalls h.chunks (olds ss)) tt (new_reverse news T.new) (reading.room h from ss news S T)) x.1 in
       subst (λ (z : ChunkValue). words_in z.cells ≤ z.size) x.2 (omega (arith, w, le))
 

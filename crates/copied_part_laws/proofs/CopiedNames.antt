@@ -2,7 +2,7 @@
 use Rattle.std.proofs.Common.{◌≡◌, ◌⊎◌, ◌+◌, ◌*◌, ◌/◌, ◌<◌, ◌≤◌, ◌==◌, ◌&&◌, not, arith, Bool, true, false, cond, Option, None, List, [], ◌∷◌, ◌++◌, length, map, filter, nat_le, inl, inr, refl, ap, sym, subst, ◌∙◌, eq-eqb}
 use Rattle.std.specs.Prelude.{reverse}
 use Rattle.std.specs.List.{flat_map, list_any}
-use Rattle.std.proofs.lemmas.Bool.{cases_Bool, cases_lt, cond-false, cond-true, eqb-true, false≢true, le-leb, leb-true, lt-leb}
+use Rattle.std.proofs.lemmas.Bool.{cases_Bool, cases_lt, cond-false, cond-true, eqb-true, false≢true, le-leb, leb-true, lt-leb, not-true}
 use Rattle.std.proofs.lemmas.List.{append-nil}
 use Rattle.listed.proofs.Members.{in_append_cases, in_flat, in_from_kept, in_kept}
 use Rattle.listed.proofs.Places.{in_map, read_in}
@@ -146,14 +146,10 @@ module _ (h : LeafHeapValue) (from : List (Option Addr)) (ss : List Survivor) (n
       let o = map_in object_name c.0.objects n (subst (λ ns. In ns n) (sym c.2) f.2) in
       let k = in_from_kept (λ (c : Chunk). not c.large) (chunks_of h.chunks) c.0 c.1 in
       let there : In (objects_in (chunks_of h.chunks)) o.0 = in_objects (chunks_of h.chunks) c.0 o.0 k.0 o.1 in
-      let u : c.0.units ≡ 1 = O.laid.small c.0 k.0 (off c.0.large k.1) in
+      let u : c.0.units ≡ 1 = O.laid.small c.0 k.0 (not-true c.0.large k.1) in
       let w : o.0.at.offset + words o.0 ≤ 1024 * c.0.units = O.laid.within c.0 o.0 k.0 o.1 in
       let s = cell_words o.0 there in
       (o.0, there, o.2, le-leb (size_of (cell_of h.chunks o.0.at)) 1024 (omega (arith, u, w, s)))
-    where
-      off : (b : Bool) → not b ≡ true → b ≡ false
-      off true e = absurd (false≢true e)
-      off false e = refl
 
   single_here : NamedOnce (small_in a)
   single_here = subst (λ ls. NamedOnce (flat_map (λ ns. ns) ls)) (sym (small_names h.chunks) ∙ O.names.small) (single_small h.chunks settled.apart O.named)

@@ -41,13 +41,15 @@ use Rattle.core_relation.proofs.objects.Members.{in_map, in_objects, map_in}
 use Rattle.task_machine.specs.Accounts.{large_names, names_in, small_lists}
 use Rattle.shared_value.specs.Objects.{chunk_of, chunks_of}
 use Rattle.shared_value.proofs.HeapCounts.{large_are, names_are, small_names}
+use Rattle.shared_value.proofs.HeapLaidOut.{place_there}
 use Rattle.copied_part_laws.proofs.CopiedForm as forming
 use Rattle.copied_part_laws.proofs.BeforeTheCopy.{Old}
 use Rattle.copied_part_laws.proofs.NamesLaid.{Told}
 use Rattle.copied_part_laws.proofs.LargeNames.{large_unreserved}
 use Rattle.copied_part_laws.proofs.ObjectsMoved as moving
-use Rattle.copied_part_laws.proofs.ChunkWords.{chunks_held, count_numbers, spare_new, units_both, units_emptied, units_new}
+use Rattle.copied_part_laws.proofs.ChunkWords.{chunks_held, count_numbers, spare_new, units_emptied, units_new}
 use Rattle.copied_part_laws.proofs.CopiedNames as naming
+use Rattle.inner_mark_gc.proofs.Giving.{unit_sum}
 
 module _ (h : LeafHeapValue) (from : List (Option Addr)) (ss : List Survivor) (news : List ChunkValue) (S : AreSurvivors h.chunks from ss) (T : CanTake h.chunks news) (m : State) (a : Account) (O : Old h ss m a) where
   abbrev L : List ChunkValue
@@ -119,11 +121,6 @@ module _ (h : LeafHeapValue) (from : List (Option Addr)) (ss : List Survivor) (n
     | inl none ↦ absurd (empty_not k i big none)
   ]
     where
-      index_of : (ks : List ChunkValue) (k : ChunkValue) → In ks k → (j : ℕ) × (j < length ks) × (chunk_at ks j ≡ k)
-      index_of [] k i = absurd i
-      index_of (x ∷ ks) k (inl e) = (0, omega arith, e)
-      index_of (x ∷ ks) k (inr i) = let r = index_of ks k i in (suc r.0, let lt : r.0 < length ks = r.1 in omega (arith, lt), r.2)
-
       no_objects : (k : ChunkValue) → names_in k.cells ≡ [] → objects_from k.number 0 k.cells ≡ []
       no_objects k e = by (objects_from k.number 0 k.cells) (names_are k.cells k.number 0 ∙ e)
         where
@@ -133,7 +130,7 @@ module _ (h : LeafHeapValue) (from : List (Option Addr)) (ss : List Survivor) (n
 
       empty_not : (k : ChunkValue) → In (unreserved h.chunks h.reserved) k → (k.size == 1024) ≡ false → names_in k.cells ≡ [] → ⊥
       empty_not k i big none =
-          let at = index_of h.chunks k (in_unreserved h.chunks h.reserved k i) in
+          let at = place_there h.chunks k (in_unreserved h.chunks h.reserved k i) in
           let r : h.reserved ≡ Some at.0 = O.form.spare at.0 at.1 (λ e. false≢true (sym big ∙ eq-eqb k.size 1024 (ap (λ (z : ChunkValue). z.size) (sym at.2) ∙ e))) (ap (λ (z : ChunkValue). (chunk_of z).objects) at.2 ∙ no_objects k none) in
           let j : In (remove h.chunks at.0) k = subst (λ o. In (unreserved h.chunks o) k) r i in
           removed_at h.chunks at.0 at.1 (reading.once_h h from ss news S T (naming.settled h from ss news S T m a O) (naming.reserved h from ss news S T m a O))
@@ -206,7 +203,7 @@ module _ (h : LeafHeapValue) (from : List (Option Addr)) (ss : List Survivor) (n
 
     pub given_is : unit_count (back_of h ss (reverse news)) ≡ length a.chunks + (begun_in a - length Then.chunks) + (Units a.large - Units Then.large)
     given_is =
-        let both = units_both (map emptied (filter (leaves ss) U)) (reverse y.spare) in
+        let both = unit_sum (map emptied (filter (leaves ss) U)) (reverse y.spare) in
         let one = units_emptied (filter (leaves ss) U) in
         let fresh = spare_new (before (reverse news)) h.chunks (smalls h.chunks (olds ss)) (new_reverse news T.new) in
         let two = units_new (reverse y.spare) (new_reverse y.spare fresh) in

@@ -19,7 +19,7 @@ use Rattle.leaf_copy_gc.specs.Laid.{AreNew, HasRoom, HaveRoom, Laying, laid_all,
 use Rattle.leaf_copy_gc.specs.Redirected.{led_cell, led_chunk}
 use Rattle.leaf_copy_gc.specs.Exchanged.{last_place}
 use Rattle.leaf_copy_gc.proofs.LastChunk.{some_room}
-use Rattle.leaf_copy_gc.proofs.FollowLemmas.{size_led}
+use Rattle.leaf_copy_gc.proofs.Packing.{used_led}
 use Rattle.core_relation.specs.Memory.{In}
 use Rattle.task_machine.specs.Accounts.{large_names, named_by, names_in, small_lists}
 use Rattle.task_machine.specs.Place.{name_of}
@@ -123,22 +123,18 @@ module _ (f : Option Addr → Option Addr) where
   names_led [] = refl
   names_led (c ∷ cs) = ap (named_by c.mark) (names_led cs)
 
-  pub words_led : (cs : List Cell) → words_in (map (led_cell f) cs) ≡ words_in cs
-  words_led [] = refl
-  words_led (c ∷ cs) = let a = size_led f c in let b = words_led cs in omega (arith, a, b)
-
   pub lists_led : (ks : List ChunkValue) → lists_of (map (led_chunk f) ks) ≡ lists_of ks
   lists_led [] = refl
   lists_led (k ∷ ks) = ap (λ zs. names_in (map (led_cell f) k.cells) ∷ zs) (lists_led ks) ∙ ap (λ ns. ns ∷ lists_of ks) (names_led k.cells)
 
   pub room_led : (ks : List ChunkValue) → room_in (map (led_chunk f) ks) ≡ room_in ks
   room_led [] = refl
-  room_led (k ∷ []) = ap (λ n. k.size - n) (words_led k.cells)
+  room_led (k ∷ []) = ap (λ n. k.size - n) (used_led f k.cells)
   room_led (k ∷ (l ∷ ks)) = room_led (l ∷ ks)
 
   pub told_led : (m : State) (ks : List ChunkValue) → Told m ks → Told m (map (led_chunk f) ks)
   told_led m [] t = tt
-  told_led m (k ∷ ks) t = ((t.0.0, ap (words_sum m) (names_led k.cells) ∙ (t.0.1 ∙ sym (words_led k.cells))), told_led m ks t.1)
+  told_led m (k ∷ ks) t = ((t.0.0, ap (words_sum m) (names_led k.cells) ∙ (t.0.1 ∙ sym (used_led f k.cells))), told_led m ks t.1)
 
 -- ---- LISTS TOGETHER
 

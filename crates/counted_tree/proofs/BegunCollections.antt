@@ -18,9 +18,10 @@ use Rattle.run_ledger.specs.declared.data.RunEnd.TheVariants.{Fuel as FuelEnd, P
 use Rattle.run_ledger.specs.declared.data.Refused.{Refused}
 use Rattle.journal_laws.specs.Frozen.{begins}
 use Rattle.run_ledger.specs.Heaps.{chunk_words, collected, end_numbers, heap_of, held_in, in_use, is_small, or_fresh, swept_heap, take_of, with_heap, within, words_at, words_in, words_of, words_sum}
-use Rattle.run_ledger.specs.Steps.{allocated_by, allocated_in, on_asked, stepped_to, task_step, task_steps}
+use Rattle.run_ledger.specs.Steps.{allocated_in, on_asked, stepped_to, task_step, task_steps}
 use Rattle.run_ledger.specs.Entries.{after, after_kind, chunk_units, ends_as, is_fuel, is_out, is_ready, kind_refusal, on_waiting, refusal, refused_unless, with_chunk}
 use Rattle.listed.specs.Options.{option_is}
+use Rattle.listed.proofs.Options.{none_some}
 use Rattle.run_ledger.specs.Journals.{is_legal, ledger_of}
 use Rattle.run_ledger.specs.Laws.{HoldsOnce, HoldsTasks, LeavesTask}
 use Rattle.run_ledger.specs.Sound.{SoundAt, SoundLedger, collecting}
@@ -28,45 +29,16 @@ use Rattle.run_ledger.proofs.Cuts.{none_is}
 use Rattle.run_ledger.proofs.Frames.{entries_leave_others, held_is, left_step, heap_off, heap_view}
 use Rattle.run_ledger.proofs.Holders.{tasks_are_held_once}
 use Rattle.run_ledger.proofs.Journals.{collecting_is, entry_tells, legal_sound, none_unless, none_where, out_tells, wait_tells}
-use Rattle.run_ledger.proofs.Moves.{moves_each}
-use Rattle.run_ledger.proofs.Steps.{step_leaves, task_step_sound, task_steps_sound}
+use Rattle.run_ledger.proofs.Steps.{task_step_sound, task_steps_sound}
 use Rattle.run_ledger.proofs.Stocks.{names_are_held_once}
 use Rattle.journal_laws.proofs.Waiters.{waiters_are_free}
+use Rattle.journal_laws.proofs.History.{idle_then}
 use Rattle.run_ledger.proofs.Machine.{heap_machine}
-use Rattle.ledger_step_laws.proofs.Ahead.{heap_then, with_at, with_off}
+use Rattle.ledger_step_laws.proofs.Ahead.{heap_then, with_at}
 use Rattle.shared_value.proofs.JournalGoesOn.{legal_then}
 
 -- STEPS of a task begin no leaf collection of another one
 module _ (p : ProgramText) (t u : ℕ) (ne : t ≡ u → ⊥) where
-  alloc_off : (l : Ledger) (o : Option ℕ) → slice_get (allocated_by l u o).heaps t ≡ slice_get l.heaps t
-  alloc_off l None = refl
-  alloc_off l (Some w) = with_off l u t _ ne
-
-  module _ (l : Ledger) (S : SoundAt u l) (can : can_step l.machine u ≡ true) (idle : collecting (slice_get l.heaps t) ≡ false) where
-    abbrev b : Ledger
-    b = allocated_in p l u
-
-    abbrev k : Ledger
-    k = stepped_to (allocated_in p l u) u (step p l.machine u)
-
-    abbrev Idle : ℕ → Heap → Type 0
-    Idle v h = v ≡ t → is_some h.begun ≡ false
-
-    idle_b : (v : ℕ) (h : Heap) → slice_get b.heaps v ≡ Some h → Idle v h
-    idle_b v h e q = ap collecting (sym (ap (slice_get b.heaps) (sym q) ∙ e)) ∙ (ap collecting (alloc_off l (asked p l.machine u)) ∙ idle)
-
-    idle_k : (v : ℕ) (h : Heap) → slice_get k.heaps v ≡ Some h → Idle v h
-    idle_k =
-        moves_each Idle u l.machine.tasks b.heaps k.heaps (step_leaves p l u S can).2 idle_b (λ h q e. q e) (λ v e. refl) (λ ns h q e. q e) (λ v h x y i j is wait none q qx qy e. none)
-        (λ v h none q e. none)
-
-    idle_then : collecting (slice_get k.heaps t) ≡ false
-    idle_then = by (slice_get k.heaps t) refl
-      where
-        by : (o : Option Heap) → slice_get k.heaps t ≡ o → collecting o ≡ false
-        by None e = refl
-        by (Some h) e = idle_k t h e refl
-
   on_step_by : (l : Ledger) → SoundAt u l → (v : Bool) → is_running (slice_get l.machine.tasks t) ≡ v → collecting (slice_get (task_step p l u).heaps t) ≡ true → collecting (slice_get l.heaps t) ≡ true
   on_step_by l S true e c = ap collecting (sym (left_step p l u t S ne e).1) ∙ c
   on_step_by l S false e c' = by (can_step l.machine u) refl c'
@@ -78,7 +50,7 @@ module _ (p : ProgramText) (t u : ℕ) (ne : t ≡ u → ⊥) where
       by : (v : Bool) → can_step l.machine u ≡ v → collecting (slice_get (cond v (stepped_to (allocated_in p l u) u (step p l.machine u)) (record l { steps = l.steps + 1 })).heaps t) ≡ true
           → collecting (slice_get l.heaps t) ≡ true
       by false can c = c
-      by true can c = absurd (false≢true (sym (idle_then l S can (let q = idle (collecting (slice_get l.heaps t)) refl in q)) ∙ c))
+      by true can c = absurd (false≢true (sym (idle_then p t u ne l S can (let q = idle (collecting (slice_get l.heaps t)) refl in q)) ∙ c))
 
   on_steps : (k : ℕ) (l : Ledger) → SoundAt u l → collecting (slice_get (task_steps p l u k).heaps t) ≡ true → collecting (slice_get l.heaps t) ≡ true
   on_steps zero l S c = c
@@ -140,9 +112,6 @@ module _ (p : ProgramText) (s : SettingsValue) (journal : List EntryValue) (e : 
 
     went_waiting : (u : ℕ) (f : Heap → Heap) → ((h : Heap) → (f h).worker ≡ h.worker) → (heap_of l u).worker ≡ None → Went (with_heap l u f)
     went_waiting u f same rests = went_by u f (λ q c w. none_some (sym rests ∙ (sym (heap_view (λ (h : Heap). h.worker) l u f same u) ∙ w)))
-      where
-        none_some : ◌≡◌ {A = Option ℕ} None (Some k) → ⊥
-        none_some r = absurd cc
 
     -- steps of u
     went_steps : (u n : ℕ) → is_out l e.worker u ≡ true → collecting (slice_get l.heaps u) ≡ false → e.kind ≡ Ran u n → Went (task_steps p l u n)

@@ -1,8 +1,9 @@
 -- No line of a sound picture's text has a fault.
 use Rattle.std.proofs.Common.{◌≡◌, ◌<◌, ◌≤◌, ℕ, true, false, List, [], cond, length, map, refl, ap, sym, ◌∙◌, inl, inr, ◌⊎◌, arith}
-use Rattle.std.specs.Prelude.{Option, Some, None, ◌==◌, not, nat_lt, is_some}
+use Rattle.std.specs.Prelude.{Option, Some, None, ◌==◌, not, is_some}
 use Rattle.std.specs.List.{list_any}
 use Rattle.std.proofs.lemmas.List.{length-map}
+use Rattle.std.proofs.lemmas.Bool.{lt-ltb}
 use Rattle.listed.specs.Members.{In}
 use Rattle.image_check.specs.declared.line.Task.{Task}
 use Rattle.image_check.specs.declared.line.Chunk.{Chunk}
@@ -161,15 +162,12 @@ module _ (p : Picture) (s : IsSoundPicture p) (w : Whole) (all : HasAll p w) whe
         last_from field_at (λ (q : Position). rises q (field_at f) ≡ true) (behind_objects p p.objects) a (lower (behind_objects p p.objects) (field_at f) (objects_low p p.objects))
         (λ g i. field_rises g f (before_it p.fields a f b c FieldBefore s.fields_rise g i))
 
-    below : (k n : ℕ) → k < n → nat_lt k n ≡ true
-    below k n h = grind (arith, h)
-
     has_it : (fit : IsFit p f) → has_field (found w.objects f.address) f.place ≡ true
     has_it fit =
         let h = all.objects fit.object fit.drawn in
         let least : length fit.object.references ≤ h.0 = h.2 in
         let lt : f.place < length fit.object.references = fit.place in
-        ap (λ m. has_field m f.place) (ap (found w.objects) (sym fit.address) ∙ h.1) ∙ below f.place h.0 (omega (arith, lt, least))
+        ap (λ m. has_field m f.place) (ap (found w.objects) (sym fit.address) ∙ h.1) ∙ lt-ltb f.place h.0 (omega (arith, lt, least))
 
     above_it : (fit : IsFit p f) → owner_is_above (fields_read p a) f.task (owner_at (chunk_table p.chunks) f.address) ≡ true
     above_it fit = ap (owner_is_above (fields_read p a) f.task) (owner_found p s f.address fit.owner fit.owned) ∙ ancestor_met p s fit.owner f.task fit.above

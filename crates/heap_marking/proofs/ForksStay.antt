@@ -1,12 +1,11 @@
 -- What an accepted entry leaves of forks and of the heaps of the tasks that wait.
 use Rattle.std.proofs.Common.{◌≡◌, ℕ, zero, suc, ◌+◌, ◌<◌, ◌≤◌, Bool, true, false, cond, Option, Some, None, List, [], ◌∷◌, ◌++◌, slice_get, slice_set, inl, inr, refl, ap, sym, subst, ◌∙◌, arith, is_none, nat_lt}
-use Rattle.std.proofs.lemmas.Bool.{false≢true, both_ways, cases_eq}
+use Rattle.std.proofs.lemmas.Bool.{cases_eq}
 use Rattle.listed.proofs.Members.{got_other, got_same}
 use Rattle.hh_lang.specs.Form.{ProgramText}
 use Rattle.hh_model.specs.declared.data.Task.{Task}
 use Rattle.hh_model.specs.declared.data.State.{State}
-use Rattle.hh_model.specs.Step.{asked, can_step, is_running, is_waiting, step, waits}
-use Rattle.hh_model.proofs.Runs.{running_tells}
+use Rattle.hh_model.specs.Step.{asked, can_step, is_waiting, step, waits}
 use Rattle.run_trace.specs.declared.entry.Kind.{Kind}
 use Rattle.run_trace.specs.declared.entry.Kind.TheVariants.{Took, Ran, Chunk, Begin, End, PutOff, Mark, More, Sweep, Fuel}
 use Rattle.run_trace.specs.Entry.{EntryValue}
@@ -23,6 +22,7 @@ use Rattle.run_ledger.proofs.Machine.{stepped_machine}
 use Rattle.journal_laws.proofs.OwedEntries.{Touched, joins_grow}
 use Rattle.run_ledger.proofs.Steps.{can_tells, step_leaves, task_step_sound}
 use Rattle.run_ledger.proofs.Stocks.{with_heap_any}
+use Rattle.run_ledger.proofs.Booked.{wait_run}
 use Rattle.heap_marking.proofs.StepsKeepForks.{TreeMoves, step_moves, tree_same}
 
 -- a heap that is marked or swept stays so
@@ -93,15 +93,8 @@ module _ (p : ProgramText) (l : Ledger) (t : ℕ) (S : SoundAt t l) (can : can_s
   machine_is : k.machine ≡ step p l.machine t
   machine_is = stepped_machine (allocated_in p l t) t (step p l.machine t)
 
-  stops : is_waiting (slice_get l.machine.tasks t) ≡ true → is_running (slice_get l.machine.tasks t) ≡ true → ⊥
-  stops w r = by (slice_get l.machine.tasks t) w r
-    where
-      by : (o : Option Task) → is_waiting o ≡ true → is_running o ≡ true → ⊥
-      by None a b = false≢true a
-      by (Some z) a b = both_ways (waits z.status) (running_tells z.status b).1 a
-
   heap_stays : (u : ℕ) (x : Task) → slice_get l.machine.tasks u ≡ Some x → waits x.status ≡ true → slice_get k.machine.tasks u ≡ Some x → slice_get k.heaps u ≡ slice_get l.heaps u
-  heap_stays u x at w at' = (step_leaves p l t S can).4 u (λ e. stops (ap is_waiting (ap (slice_get l.machine.tasks) (sym e) ∙ at) ∙ w) (can_tells l.machine t can).1) (inr (ap is_waiting at' ∙ w))
+  heap_stays u x at w at' = (step_leaves p l t S can).4 u (λ e. wait_run l.machine t (ap is_waiting (ap (slice_get l.machine.tasks) (sym e) ∙ at) ∙ w) (can_tells l.machine t can).1) (inr (ap is_waiting at' ∙ w))
 
   stepped_moves : Moves l k
   stepped_moves = record {

@@ -1,6 +1,6 @@
 -- What the shared value tells of forks and markings, before the run's end.
 use Rattle.std.proofs.Common.{◌≡◌, ℕ, ◌<◌, ◌&&◌, not, Bool, true, false, Option, Some, None, option_map, slice_get, inl, inr, refl, ap, sym, subst, ◌∙◌, ◌-◌, ◌^◌, arith, is_some, is_none, nat_le, ap₂}
-use Rattle.std.proofs.lemmas.Bool.{false≢true, both_ways, and_parts, cases_lt, le-leb}
+use Rattle.std.proofs.lemmas.Bool.{false≢true, both_ways, and_parts, cases_lt, le-leb, false_from_ne_true}
 use Rattle.std.proofs.lemmas.Option.{same_Some}
 use Rattle.listed.proofs.Options.{none_is}
 use Rattle.hh_model.specs.declared.data.Status.{Status}
@@ -168,13 +168,9 @@ module _ (w : SharedValue) (I : IsSharedValue w) (on : (accounts w).end ≡ None
       (runs_have_live w.program (field_limit w.settings.version) (tasks_of w.journal.items) t) q in
       (c.0, child_from l.machine.tasks t c.0 c.1 c.2)
 
-  false_or : (b : Bool) → (b ≡ true → ⊥) → b ≡ false
-  false_or true h = absurd (h refl)
-  false_or false h = refl
-
   pub fork_is : (t : ℕ) (o : Option Fork) → IsForkIn w.tree t o → IsForkOf l t o (slice_get l.machine.tasks t)
   fork_is t None none =
-      false_or (is_waiting (slice_get l.machine.tasks t))
+      false_from_ne_true (is_waiting (slice_get l.machine.tasks t))
       (λ q. let c = has_live t q in both_ways (lives_below l.machine.tasks t c.0) (sym (child_is t c.0) ∙ none (waiting_is t ∙ q) c.0) c.1)
   fork_is t (Some f) h = subst (λ u. IsForkOf l t (Some (record { task = u; left = f.left })) (slice_get l.machine.tasks t)) (sym h.0) (live_waits t f.left (sym (child_is t f.left) ∙ h.1))
 

@@ -7,6 +7,7 @@ use Rattle.std.proofs.lemmas.Option.{same_Some}
 use Rattle.listed.specs.RoomyValue.{RoomyValue}
 use Rattle.listed.proofs.Members.{got_other, got_same}
 use Rattle.listed.proofs.Places.{all_from}
+use Rattle.listed.proofs.Options.{none_some}
 use Rattle.run_trace.specs.declared.entry.Kind.TheVariants.{Sweep}
 use Rattle.run_trace.specs.Entry.{EntryValue}
 use Rattle.run_ledger.specs.declared.data.Ledger.{Ledger}
@@ -210,9 +211,6 @@ module _ (w : SharedValue) (k t given : ℕ) (I : IsSharedValue w) (free : refus
     -- a task that a worker holds is another one
     apart : (u : ℕ) (q : Private) → Fits w u q → q.task ≡ t → ⊥
     apart u q F s = none_some (sym (start.rests w I on t T.cause) ∙ (ap (λ z. (heap_of l z).worker) (sym s) ∙ F.held))
-      where
-        none_some : ◌≡◌ {A = Option ℕ} None (Some u) → ⊥
-        none_some q = absurd cc
 
     pub swept_fits : AllFit w w'
     swept_fits u q F =

@@ -1,6 +1,6 @@
 -- A sweep leaves in a home just what its snapshot names.
-use Rattle.std.proofs.Common.{◌≡◌, ℕ, ◌*◌, ◌/◌, arith, All, not, Bool, true, false, Option, Some, None, List, [], ◌∷◌, filter, length, option_map, slice_get, inl, inr, refl, ap, sym, subst, ◌∙◌}
-use Rattle.std.proofs.lemmas.Bool.{cases_eq, false≢true}
+use Rattle.std.proofs.Common.{◌≡◌, ℕ, ◌*◌, ◌/◌, arith, All, true, false, Option, Some, None, List, [], ◌∷◌, filter, length, option_map, slice_get, inl, inr, refl, ap, sym, subst, ◌∙◌}
+use Rattle.std.proofs.lemmas.Bool.{cases_eq, false≢true, not-true}
 use Rattle.std.proofs.lemmas.Option.{same_Some}
 use Rattle.std.proofs.lemmas.List.Elements.{All-head, All-tail}
 use Rattle.listed.proofs.Members.{in_from_kept, in_kept}
@@ -118,11 +118,7 @@ module _ (w : SharedValue) (I : IsSharedValue w) (on : (accounts w).end ≡ None
   gone_is = form.gone_plain kept r.heap F (start.none w I on t free) (start.large w I on t free)
 
   gone_was : (c : ChunkValue) → In (gone kept ks) c → In ks c × (has kept c ≡ false)
-  gone_was c i = let f = in_from_kept (goes kept None) ks c i in (f.0, by (has kept c) f.1)
-    where
-      by : (b : Bool) → not b ≡ true → b ≡ false
-      by true e = absurd (false≢true e)
-      by false e = refl
+  gone_was c i = let f = in_from_kept (goes kept None) ks c i in (f.0, not-true (has kept c) f.1)
 
   -- what is left has none of its numbers
   left_off : (x : ChunkValue) → In ks x → has kept x ≡ true → IsFresh (gone kept ks) x.number

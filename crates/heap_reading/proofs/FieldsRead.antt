@@ -1,10 +1,10 @@
 -- The remembered fields of a heap in order.
-use Rattle.std.proofs.Common.{◌≡◌, ℕ, suc, ◌+◌, ◌*◌, ◌<◌, ◌≤◌, ◌==◌, ◌&&◌, ◌||◌, ◌⊎◌, arith, Bool, true, false, cond, Option, Some, None, List, [], ◌∷◌, length, map, get_or, nat_lt, nat_eq, slice_get, inl, inr, refl, ap, sym, subst, ◌∙◌}
+use Rattle.std.proofs.Common.{◌≡◌, ℕ, suc, ◌+◌, ◌*◌, ◌<◌, ◌≤◌, ◌==◌, ◌&&◌, ◌⊎◌, arith, Bool, true, false, cond, Option, Some, None, List, [], ◌∷◌, length, map, get_or, nat_lt, nat_eq, slice_get, inl, inr, refl, ap, sym, subst, ◌∙◌}
 use Rattle.std.specs.declared.cmp.Ordering.TheVariants.{Less, Equal, Greater}
 use Rattle.std.specs.List.{AllByRecursion, IsDistinct, list_any}
 use Rattle.std.specs.List.Sorted.{IsPermutation, IsSortedWithin}
 use Rattle.std.specs.Ordering.{nat_cmp, ordering_then, is_lt}
-use Rattle.std.proofs.lemmas.Bool.{cases_eq, false≢true}
+use Rattle.std.proofs.lemmas.Bool.{cases_eq, false≢true, or_parts}
 use Rattle.std.proofs.lemmas.Option.{slice_get_past}
 use Rattle.std.proofs.lemmas.List.Sorted.{Contains-permutation, IsPermutation-sym}
 use Rattle.std.proofs.lemmas.Map.Keys.{IsDistinct-IsPermutation, IsDistinct-head, IsDistinct-tail}
@@ -52,12 +52,8 @@ same_from f g h = same_fields f g (grind arith) (grind arith)
 module _ (ss : List Source) (apart : (s t : Source) → In ss s → In ss t → field_of s ≡ field_of t → s ≡ t) where
   unlike : (s : Source) (ts : List Source) → In ss s → ((t : Source) → In ts t → In ss t) → has_source ts s ≡ false → AllByRecursion (λ y. is_field (field_of s) y ≡ false) (map field_of ts)
   unlike s [] here all off = tt
-  unlike s (t ∷ ts) here all off = (by (is_field (field_of s) (field_of t)) refl, unlike s ts here (λ u i. all u (inr i)) (rest (same_source s t) (list_any (same_source s) ts) off))
+  unlike s (t ∷ ts) here all off = (by (is_field (field_of s) (field_of t)) refl, unlike s ts here (λ u i. all u (inr i)) (or_parts (same_source s t) (list_any (same_source s) ts) off).1)
     where
-      rest : (b c : Bool) → (b || c) ≡ false → c ≡ false
-      rest true c e = absurd (false≢true (sym e))
-      rest false c e = e
-
       by : (b : Bool) → is_field (field_of s) (field_of t) ≡ b → b ≡ false
       by false e = refl
       by true e =

@@ -7,8 +7,7 @@ use Rattle.hh_lang.specs.Form.{IsProgram, ProgramText}
 use Rattle.hh_model.specs.declared.data.End.{End}
 use Rattle.hh_model.specs.declared.data.End.TheVariants.{Done}
 use Rattle.hh_model.specs.declared.data.State.{State}
-use Rattle.hh_model.specs.declared.data.Task.{Task}
-use Rattle.hh_model.specs.Step.{asked, can_step, is_running, runs, step}
+use Rattle.hh_model.specs.Step.{asked, can_step, is_running, step}
 use Rattle.path_laws.proofs.Leaves.{goes_tells}
 use Rattle.run_trace.specs.declared.entry.Kind.{Kind}
 use Rattle.run_trace.specs.declared.entry.Kind.TheVariants.{Took, Ran, Chunk, Begin, End as EndOf, PutOff, Mark, More, Sweep, Fuel}
@@ -28,11 +27,9 @@ use Rattle.run_ledger.proofs.Machine.{stepped_machine, heap_machine}
 use Rattle.run_ledger.proofs.Holders.{allocated_end, heap_end, moved_to_end}
 use Rattle.ledger_step_laws.specs.Accounts.{Rests, rested}
 use Rattle.ledger_step_laws.specs.Last.{EndsDone, GoesOn, Halts, IdleRest, IsOfKind, LastKind, Private, Reading, Writing, Printing, Forking, Ending, Joining, Finishing, Halting, Runs}
-use Rattle.ledger_step_laws.proofs.Along.{steps_know}
-use Rattle.ledger_step_laws.proofs.Root.{root_alone}
 use Rattle.ledger_step_laws.proofs.Split.{entry_runs, legal_idle}
 use Rattle.core_relation.specs.Whole.{handed}
-use Rattle.core_entry_laws.proofs.whole.DoneHands.{done_hands_all}
+use Rattle.core_entry_laws.proofs.whole.DoneHands.{done_hands_all, others_idle}
 use Rattle.core_entry_laws.proofs.whole.HandedBack.{handed_halt, handed_on}
 use Rattle.shared_value.proofs.JournalGoesOn.{accounts_then, legal_then}
 
@@ -123,24 +120,11 @@ module _ (p : ProgramText) (s : SettingsValue) (before : List EntryValue) (I : I
           same_end : (e : End) → Some (Machine e) ≡ Some (Machine Done) → e ≡ Done
           same_end e q = cc
 
-      -- where the root ends nobody else runs
-      alone : EndsDone m l' t E.splits.task → (u : ℕ) → (u ≡ t → ⊥) → is_running (slice_get m.machine.tasks u) ≡ false
-      alone D u ne = by (slice_get m.machine.tasks u) refl
-        where
-          by_runs : (y : Task) → slice_get m.machine.tasks u ≡ Some y → (b : Bool) → is_running (Some y) ≡ b → b ≡ false
-          by_runs y is false q = refl
-          by_runs y is true q =
-              absurd (ne (root_alone m (steps_know p s t k l E.task E.knows (inr E.collects) E.at E.runs E.can E.splits.private).sound E.root t u E.splits.task y E.splits.at.task (ap runs E.splits.at.runs) D.root is q))
-
-          by : (o : Option Task) → slice_get m.machine.tasks u ≡ o → is_running o ≡ false
-          by None is = refl
-          by (Some y) is = by_runs y is (is_running (Some y)) refl
-
       ended : EndsDone m l' t E.splits.task → (u : ℕ) → is_running (slice_get l'.machine.tasks u) ≡ false
       ended D u =
           ap (λ (z : State). is_running (slice_get z.tasks u)) (sym (heap_machine l' t let_go)) ∙ elim (cases_eq u t) [
             | inl e ↦ ap (λ z. is_running (slice_get (rested l' t).machine.tasks z)) e ∙ ap is_running D.ends.ended
-            | inr ne ↦ ap is_running (D.ends.alone.tasks u ne) ∙ (ap (λ (z : State). is_running (slice_get z.tasks u)) (heap_machine m t let_go) ∙ alone D u ne)
+            | inr ne ↦ ap is_running (D.ends.alone.tasks u ne) ∙ (ap (λ (z : State). is_running (slice_get z.tasks u)) (heap_machine m t let_go) ∙ others_idle p s l l' t w k E D.ended D u ne)
           ]
 
       ran_by : (kind : LastKind) → IsOfKind p m l' t E.splits.task E.splits.line kind → (GoesOn kind → l'.machine.end ≡ None) → Idles l'

@@ -6,6 +6,7 @@ use Rattle.std.proofs.lemmas.List.{append-nil, append_assoc}
 use Rattle.std.proofs.lemmas.List.Sums.{sum_by-append}
 use Rattle.std.proofs.lemmas.Option.{same_Some}
 use Rattle.listed.proofs.Members.{contains_from_in}
+use Rattle.listed.proofs.Options.{some_map}
 use Rattle.hh_model.specs.declared.data.Name.{Name}
 use Rattle.hh_model.specs.declared.data.State.{State as Machine}
 use Rattle.hh_model.specs.declared.data.Status.{Status}
@@ -232,10 +233,6 @@ module _ (w : SharedValue) (I : IsSharedValue w) where
       ∙ (same_length w.tree (handed k).machine.tasks
       (λ u. ap is_some (I.stands.totals.node u) ∙ some_map (as_node (heap_of (handed k) u).worker) (slice_get (handed k).machine.tasks u))
       ∙ ap (λ (m : Machine). length m.tasks) (goes_by k k.end).machine)
-    where
-      some_map : {A B : Type 0} (f : A → B) (o : Option A) → is_some (option_map f o) ≡ is_some o
-      some_map f None = refl
-      some_map f (Some x) = refl
 
   pub homes_few : length w.homes < 2 ^ 32
   homes_few =

@@ -253,7 +253,7 @@ module _ (p : ProgramText) (m : State) (t : ℕ) (K : Kept m) (A : AllWide m.tas
 
 -- RUNS
 
-limit_from : (p : ProgramText) (m : State) (ts : List ℕ) → Kept m → (run_from p m ts).field_limit ≡ m.field_limit
+pub limit_from : (p : ProgramText) (m : State) (ts : List ℕ) → Kept m → (run_from p m ts).field_limit ≡ m.field_limit
 limit_from p m [] K = refl
 limit_from p m (t ∷ ts) K = limit_from p (step p m t) ts (step_kept p m t K) ∙ step_limit p m t K
 

@@ -40,6 +40,9 @@ ended_is (Ended k n) r h = ended_same k n r h
     ended_same k n r h = let e : (k, n) ≡ r = cc in ap (λ (w : ℤ × Option Name). Ended w.0 w.1) e
 ended_is Joined r h = absurd cc
 
+pub ended_stops : (s : Status) (r : ℤ × Option Name) → result_in s ≡ Some r → runs s ≡ false
+ended_stops s r e = ap runs (ended_is s r e)
+
 -- names in registers
 pub in_registers : (fs : List Frame) (f : Frame) (r : Name) → In fs f → In f.refs (Some r) → In (registers fs) r
 in_registers [] f r h i = absurd h
@@ -194,9 +197,6 @@ module _ (p : ProgramText) (m : State) (t : ℕ) (K : Kept m) (C : State → Typ
       where
         kept_result : (z : Task) (other : ℤ × Option Name) → result_in z.status ≡ Some other → (r : Name) → other.1 ≡ Some r → In (task_names z) r
         kept_result z other e r h = subst (λ s. In (held_by s (z.top ∷ z.below)) r) (sym (ended_is z.status other e)) (named_from_in (other.1 ∷ []) r (inl h))
-
-        ended_stops : (s : Status) (r : ℤ × Option Name) → result_in s ≡ Some r → runs s ≡ false
-        ended_stops s r e = ap runs (ended_is s r e)
     sides parent xp z other ip iz pp ended false side =
         let sib : sibling t ≡ t - 1 = cond-false (is_left t) (t + 1) (t - 1) side in
         let over = ended_tells z.status other ended in
@@ -211,9 +211,6 @@ module _ (p : ProgramText) (m : State) (t : ℕ) (K : Kept m) (C : State → Typ
       where
         kept_result : (z : Task) (other : ℤ × Option Name) → result_in z.status ≡ Some other → (r : Name) → other.1 ≡ Some r → In (task_names z) r
         kept_result z other e r h = subst (λ s. In (held_by s (z.top ∷ z.below)) r) (sym (ended_is z.status other e)) (named_from_in (other.1 ∷ []) r (inl h))
-
-        ended_stops : (s : Status) (r : ℤ × Option Name) → result_in s ≡ Some r → runs s ≡ false
-        ended_stops s r e = ap runs (ended_is s r e)
 
     ended_by_case : (parent : ℕ) (o : Option (ℤ × Option Name)) → x.parent ≡ Some parent → kept_by (slice_get m.tasks (sibling t)) ≡ o → C (child_ended_by m t x parent (result_of x.top) o)
     ended_by_case parent None pp k = ends x (Some parent) m.end is run pp (inr (refl, refl)) result_names

@@ -19,6 +19,13 @@ runs_at (Some e) b h = absurd (false≢true h)
 pub can_runs : (m : State) (t : ℕ) → can_step m t ≡ true → is_running (slice_get m.tasks t) ≡ true
 can_runs m t h = runs_at m.end (is_running (slice_get m.tasks t)) h
 
+pub can_task : (m : State) (t : ℕ) → can_step m t ≡ true → (x : Task) × (slice_get m.tasks t ≡ Some x) × (is_running (Some x) ≡ true)
+can_task m t h = by (slice_get m.tasks t) refl (can_runs m t h)
+  where
+    by : (o : Option Task) → slice_get m.tasks t ≡ o → is_running o ≡ true → (x : Task) × (slice_get m.tasks t ≡ Some x) × (is_running (Some x) ≡ true)
+    by None e r = absurd (false≢true r)
+    by (Some x) e r = (x, e, r)
+
 made_by : (m : State) (t : ℕ) (o : Option Task) → slice_get m.tasks t ≡ o → is_running o ≡ true → t < length m.tasks
 made_by m t None e h = absurd (false≢true h)
 made_by m t (Some x) e h = slice_get_within m.tasks t x e

@@ -1,6 +1,7 @@
 -- A line more is checked.
-use Rattle.std.proofs.Common.{Bor, ◌≡◌, ◌+◌, ℕ, Bool, true, false, List, [], ◌∷◌, length, refl, ap, sym, ◌∙◌, subst}
+use Rattle.std.proofs.Common.{Bor, ◌≡◌, ◌+◌, ℕ, Bool, List, [], ◌∷◌, length, refl, ap, sym, ◌∙◌, subst}
 use Rattle.std.specs.Prelude.{Option, Some, None, Result, Ok, Err, IfNone, IfOk, IsErr, IsOkAnd, MatchResult, not, is_some, MatchOption}
+use Rattle.std.proofs.Math.Bool.{not-not}
 use Rattle.text_lines.specs.Lines.{is_last, lines_of}
 use Rattle.text_lines.proofs.Last.{some_line}
 use Rattle.image_check.specs.declared.read.Read.{Read}
@@ -39,12 +40,8 @@ module _ (text : List ℕ) (w : Whole) (start r : Read) (n : ℕ) (l : List ℕ)
     reads = ap (λ x. after_lines x ls) e ∙ is.reads;
   }
 
-twice : (b : Bool) → b ≡ not (not b)
-twice true = refl
-twice false = refl
-
 pub flipped : (a b : Bool) → a ≡ not b → b ≡ not a
-flipped a b e = twice b ∙ ap not (sym e)
+flipped a b e = sym (not-not b) ∙ ap not (sym e)
 
 -- what the verifier answers
 answers_count : (text : List ℕ) (r s : Read) (n : ℕ) → r ≡ nothing_read → s ≡ after_lines r (lines_of text) → n ≡ length s.objects → n ≡ objects_in text

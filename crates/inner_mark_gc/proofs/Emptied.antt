@@ -1,6 +1,6 @@
 -- A table of addresses from which these are taken out, one after the other.
 use Rattle.std.proofs.Common.{◌≡◌, ℕ, ◌+◌, ◌<◌, ◌≤◌, Bool, true, false, cond, List, [], ◌∷◌, length, get_or, drop, refl, sym, ◌∙◌, subst, inl, inr, Contains}
-use Rattle.std.proofs.lemmas.Bool.{false≢true}
+use Rattle.std.proofs.lemmas.Bool.{false≢true, false_from_ne_true}
 use Rattle.std.proofs.lemmas.List.{drop_all, drop_more}
 use Rattle.object_layout.specs.declared.word.Addr.{Addr}
 use Rattle.object_layout.proofs.Distinct.{same_self}
@@ -26,9 +26,5 @@ pub at_first : (xs : List Addr) (old : Addr → Bool) → ((a : Addr) → old a 
 at_first xs old is a o = contains_from_in xs a (has_in xs a (sym (is a) ∙ o))
 
 -- in the end nothing is left
-not_true : (b : Bool) → (b ≡ true → ⊥) → b ≡ false
-not_true true n = absurd (n refl)
-not_true false n = refl
-
 pub at_last : (xs : List Addr) (k : ℕ) (new : Addr → Bool) → length xs ≤ k → ((a : Addr) → new a ≡ true → Contains (drop k xs) a) → (a : Addr) → new a ≡ false
-at_last xs k new l left a = not_true (new a) (λ t. in_from_contains [] a (subst (λ (ys : List Addr). Contains ys a) (drop_all k xs l) (left a t)))
+at_last xs k new l left a = false_from_ne_true (new a) (λ t. in_from_contains [] a (subst (λ (ys : List Addr). Contains ys a) (drop_all k xs l) (left a t)))

@@ -111,6 +111,10 @@ given_both p q r ks ls g h a = record {
       omega arith;
 }
 
+pub unit_sum : (xs ys : List ChunkValue) → unit_count (xs ++ ys) ≡ unit_count xs + unit_count ys
+unit_sum [] ys = omega arith
+unit_sum (x ∷ xs) ys = let ih = unit_sum xs ys in omega arith
+
 -- one chunk more of a list, of which some are given back
 module _ (p : ChunkValue → Bool) (ks : List ChunkValue) (k : ChunkValue) where
   fresh_some : IsFresh ks k.number → (b : Bool) → All (λ l. IsFresh (filter p ks) l.number) (cond b (k ∷ []) [])
@@ -124,10 +128,6 @@ module _ (p : ChunkValue → Bool) (ks : List ChunkValue) (k : ChunkValue) where
       step : (b : Bool) → filter p (xs ++ k ∷ []) ≡ filter p xs ++ filter p (k ∷ []) → cond b (x ∷ filter p (xs ++ k ∷ [])) (filter p (xs ++ k ∷ [])) ≡ cond b (x ∷ filter p xs) (filter p xs) ++ filter p (k ∷ [])
       step true e = ap (λ (ys : List ChunkValue). x ∷ ys) e
       step false e = e
-
-  unit_sum : (xs ys : List ChunkValue) → unit_count (xs ++ ys) ≡ unit_count xs + unit_count ys
-  unit_sum [] ys = omega arith
-  unit_sum (x ∷ xs) ys = let ih = unit_sum xs ys in omega arith
 
   -- a count of units, one chunk on
   pub counted_more : (n m : ℕ) → n ≡ counted32 (unit_count (filter p ks)) → m ≡ counted32 (n + unit_count (filter p (k ∷ []))) → m ≡ counted32 (unit_count (filter p (ks ++ k ∷ [])))

@@ -1,7 +1,7 @@
 -- A chunk swept cell by cell.
 use Rattle.std.proofs.Common.{◌≡◌, ℕ, zero, suc, ◌+◌, ◌-◌, ◌≤◌, Bool, true, false, List, [], ◌∷◌, refl, sym, ap, ◌∙◌, subst, arith, inl, inr}
 use Rattle.std.specs.Prelude.{◌↔◌, ◌||◌, IsTrue}
-use Rattle.std.proofs.lemmas.Bool.{cases_lt, false≢true, le-leb, lt-leb}
+use Rattle.std.proofs.lemmas.Bool.{cases_lt, false≢true, le-leb, lt-leb, or_left}
 use Rattle.object_layout.specs.declared.word.Addr.{Addr}
 use Rattle.object_layout.specs.Cell.{Born, Cell, Hole, IsObject, Mark, Moved, no_cell, as_object, marked_object, size_of, with_mark}
 use Rattle.object_layout.specs.ChunkValue.{ChunkValue}
@@ -150,12 +150,8 @@ module _ (kept : List Addr) (number : ℕ) where
   or_false true c e = absurd (false≢true (sym e))
   or_false false c e = refl
 
-  or_true : (b c : Bool) → b ≡ true → (b || c) ≡ true
-  or_true true c e = refl
-  or_true false c e = absurd (false≢true e)
-
   pub some_left : (rest : List Cell) (at : ℕ) (c : Cell) (ds : List Cell) → rest ≡ c ∷ ds → is_object (at_swept at c).mark ≡ true → has_object (swept_cells kept number at rest) ≡ true
-  some_left rest at c ds e t = ap (λ (xs : List Cell). has_object (swept_cells kept number at xs)) e ∙ or_true (is_object (at_swept at c).mark) (has_object (swept_cells kept number (at + size_of c) ds)) t
+  some_left rest at c ds e t = ap (λ (xs : List Cell). has_object (swept_cells kept number at xs)) e ∙ or_left (is_object (at_swept at c).mark) (has_object (swept_cells kept number (at + size_of c) ds)) t
 
   pub go_on : (rest : List Cell) (at next : ℕ) (c : Cell) (ds : List Cell) → rest ≡ c ∷ ds → next ≡ at + size_of c → is_object (at_swept at c).mark ≡ false → has_object (swept_cells kept number at rest) ≡ has_object (swept_cells kept number next ds)
   go_on rest at next c ds e n t =
@@ -203,11 +199,7 @@ none_read (c ∷ cs) at e = by_head (λ q n. none_read cs n q) (is_object c.mark
         or_false' false d r = refl
 
     by_head : (has_object cs ≡ false → (n : ℕ) → as_object (cell_at cs n) ≡ no_cell) → (b : Bool) → b ≡ is_object c.mark → (n : ℕ) → as_object (cell_at (c ∷ cs) n) ≡ no_cell
-    by_head rest true q n = absurd (false≢true (sym e ∙ or_true' (is_object c.mark) (has_object cs) (sym q)))
-      where
-        or_true' : (b d : Bool) → b ≡ true → (b || d) ≡ true
-        or_true' true d r = refl
-        or_true' false d r = absurd (false≢true r)
+    by_head rest true q n = absurd (false≢true (sym e ∙ or_left (is_object c.mark) (has_object cs) (sym q)))
     by_head rest false q zero = gone c (sym q)
     by_head rest false q (suc n) =
         elim (cases_lt (suc n) (size_of c)) [

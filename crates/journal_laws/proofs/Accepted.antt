@@ -1,6 +1,7 @@
 -- An entry is accepted exactly where it finds what it asks.
 use Rattle.std.proofs.Common.{◌≡◌, ℕ, zero, suc, ◌+◌, ◌<◌, ◌≤◌, ◌==◌, ◌&&◌, not, min, Bool, true, false, cond, Option, Some, None, List, [], ◌∷◌, slice_get, nat_le, nat_lt, ◌⊎◌, inl, inr, refl, ap, sym, ◌∙◌, is_none, is_some, arith, eqb-true, eq-eqb, ne_eqb}
 use Rattle.std.proofs.lemmas.Bool.{false≢true, and_parts, and_from, eqb-false, leb-true, leb-false, le-leb, lt-leb, ltb-true, lt-ltb}
+use Rattle.std.proofs.Math.Bool.{and-false}
 use Rattle.listed.proofs.Options.{none_is, none_of, some_none}
 use Rattle.run_trace.specs.declared.entry.Kind.{Kind}
 use Rattle.run_trace.specs.declared.entry.Kind.TheVariants.{Took, Ran, Chunk, Begin, End as EndOf, PutOff, Mark, More, Sweep, Fuel}
@@ -181,11 +182,7 @@ fuel_in true false h = absurd (false≢true (sym h))
 fuel_in false b h = inr refl
 
 fuel_of : (a b : Bool) → (b ≡ true) ⊎ (a ≡ false) → (a && not b) ≡ false
-fuel_of a b (inl e) = ap (λ v. a && not v) e ∙ none a
-  where
-    none : (a : Bool) → (a && false) ≡ false
-    none true = refl
-    none false = refl
+fuel_of a b (inl e) = ap (λ v. a && not v) e ∙ and-false a
 fuel_of a b (inr e) = ap (λ v. v && not b) e
 
 pub accepted_is_allowed : AcceptedIsAllowed

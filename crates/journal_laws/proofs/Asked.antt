@@ -5,12 +5,14 @@ use Rattle.std.proofs.lemmas.Option.{same_Some}
 use Rattle.hh_lang.specs.declared.instr.Instr.{Instr}
 use Rattle.hh_lang.specs.declared.instr.Instr.TheVariants.{Newm, Pack}
 use Rattle.hh_lang.specs.declared.program.Line.{Line}
+use Rattle.hh_lang.specs.Form.{ProgramText}
 use Rattle.hh_model.specs.declared.data.Frame.{Frame}
 use Rattle.hh_model.specs.declared.data.Task.{Task}
 use Rattle.hh_model.specs.Effect.{counts_in, int_in}
 use Rattle.hh_model.specs.Names.{words_asked, words_for}
-use Rattle.hh_model.specs.Step.{asked_by, asked_line, fetched, is_running}
+use Rattle.hh_model.specs.Step.{asked_by, asked_line, fetched, is_running, asked}
 use Rattle.hh_model.proofs.Next.{packs_are_few}
+use Rattle.hh_model.specs.declared.data.State.{State}
 use Rattle.run_ledger.specs.Space.{ProgramsAskFew}
 
 pub counts_few : (limit : ℕ) (a b : ℤ) (w : ℕ) → words_for (counts_in limit a b) ≡ Some w → w ≤ limit + 34
@@ -27,17 +29,22 @@ instr_few limit f (Newm d a b) w packs e = counts_few limit (int_in f a) (int_in
 instr_few limit f (Pack d r i) w packs e = let z : 2 + r + i ≡ w = same_Some (2 + r + i) w e in let q = packs d r i refl in let a = q.0 in let b = q.1 in omega (arith, z, a, b)
 instr_few limit f _ w packs e = absurd cc
 
-pub programs_ask_few : ProgramsAskFew
-programs_ask_few p I limit m t w q e = by_task (slice_get m.tasks t) e
+-- what a task asks for, its next line asks for
+pub asked_at_line : {P : Type 0} (p : ProgramText) (m : State) (t w : ℕ) → ((x : Task) (line : Line) → fetched p x.top ≡ Some line → words_asked m.field_limit x.top line.instr ≡ Some w → P) → asked p m t ≡ Some w → P
+asked_at_line {P} p m t w tells e = by_task (slice_get m.tasks t) e
   where
-    by_line : (x : Task) (o : Option Line) → fetched p x.top ≡ o → asked_line m.field_limit x.top o ≡ Some w → w ≤ limit + 34
+    by_line : (x : Task) (o : Option Line) → fetched p x.top ≡ o → asked_line m.field_limit x.top o ≡ Some w → P
     by_line x None il h = absurd cc
-    by_line x (Some line) il h = subst (λ z. w ≤ z + 34) q (instr_few m.field_limit x.top line.instr w (λ d r n. packs_are_few p I x.top.function x.top.next line d r n il) h)
+    by_line x (Some line) il h = tells x line il h
 
     by_run : (b : Bool) (o : Option ℕ) → cond b o None ≡ Some w → o ≡ Some w
     by_run true o h = h
     by_run false o h = absurd cc
 
-    by_task : (o : Option Task) → asked_by p m o ≡ Some w → w ≤ limit + 34
+    by_task : (o : Option Task) → asked_by p m o ≡ Some w → P
     by_task None h = absurd cc
     by_task (Some x) h = by_line x (fetched p x.top) refl (by_run (is_running (Some x)) (asked_line m.field_limit x.top (fetched p x.top)) h)
+
+pub programs_ask_few : ProgramsAskFew
+programs_ask_few p I limit m t w q e =
+    asked_at_line p m t w (λ x line il h. subst (λ z. w ≤ z + 34) q (instr_few m.field_limit x.top line.instr w (λ d r n. packs_are_few p I x.top.function x.top.next line d r n il) h)) e

@@ -111,7 +111,7 @@ module _ (p : ProgramText) (t u : ℕ) (ne : t ≡ u → ⊥) where
         moves_each Idle u l.machine.tasks b.heaps k.heaps (step_leaves p l u S can).2 idle_b (λ h q e. q e) (λ v e. refl) (λ ns h q e. q e) (λ v h x y i j is wait none q qx qy e. none)
         (λ v h none q e. none)
 
-    idle_then : collecting (slice_get k.heaps t) ≡ false
+    pub idle_then : collecting (slice_get k.heaps t) ≡ false
     idle_then = by (slice_get k.heaps t) refl
       where
         by : (o : Option Heap) → slice_get k.heaps t ≡ o → collecting o ≡ false

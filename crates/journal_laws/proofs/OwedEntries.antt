@@ -3,6 +3,7 @@ use Rattle.std.proofs.Common.{◌≡◌, ℕ, zero, suc, ◌+◌, ◌<◌, ◌�
 use Rattle.std.proofs.lemmas.Bool.{false≢true, both_ways, cases_eq, and_parts, eqb-true, not-true}
 use Rattle.std.proofs.lemmas.Option.{same_Some}
 use Rattle.listed.proofs.Members.{In, got_same, got_other, got_within, in_append_cases}
+use Rattle.listed.proofs.Places.{got_none}
 use Rattle.run_trace.specs.declared.entry.Kind.{Kind}
 use Rattle.run_trace.specs.declared.entry.Kind.TheVariants.{Took, Ran, Chunk, Begin, End as EndOf, PutOff, Mark, More, Sweep, Fuel}
 use Rattle.run_trace.specs.Entry.{EntryValue}
@@ -13,10 +14,10 @@ use Rattle.hh_model.specs.declared.data.Status.TheVariants.{Waiting}
 use Rattle.hh_model.specs.declared.data.Task.{Task}
 use Rattle.hh_model.specs.declared.data.State.{State}
 use Rattle.hh_model.specs.Effect.{onward}
-use Rattle.hh_model.specs.Step.{waits, is_running, is_waiting, child, joined_task, resumed, ended_task, result_of, step, can_step, asked, strand_of}
+use Rattle.hh_model.specs.Step.{waits, is_waiting, child, joined_task, resumed, ended_task, result_of, step, can_step, asked, strand_of}
 use Rattle.hh_model.proofs.Kept.{Kept}
 use Rattle.hh_model.proofs.Steps.{step_cases}
-use Rattle.hh_model.proofs.Runs.{running_tells, grown_at, grown_other, three_top, three_left, three_right, three_other, below}
+use Rattle.hh_model.proofs.Runs.{grown_at, grown_other, three_top, three_left, three_right, three_other, below}
 use Rattle.run_ledger.specs.declared.data.Heap.{Heap}
 use Rattle.run_ledger.specs.declared.data.Ledger.{Ledger}
 use Rattle.run_ledger.specs.declared.data.RunEnd.TheVariants.{Pool}
@@ -35,6 +36,7 @@ use Rattle.run_ledger.proofs.Sound.{SoundLedger}
 use Rattle.run_ledger.proofs.Steps.{SoundAt, step_leaves, can_tells, task_step_sound}
 use Rattle.run_ledger.proofs.Stocks.{with_heap_any}
 use Rattle.run_ledger.proofs.Journals.{out_tells, wait_tells, entry_tells, entry_sound, opening_sound}
+use Rattle.run_ledger.proofs.Booked.{wait_run}
 
 -- TASKS
 
@@ -148,16 +150,9 @@ module _ (p : ProgramText) (l : Ledger) (t : ℕ) (S : SoundAt t l) (can : can_s
   known_step : (fork : Strand) → Known l fork → Known k fork
   known_step fork (inl past) = past_step fork past.0 past.1 past.2
   known_step fork (inr g) = elim (cases_eq fork.task t) [
-    | inl e ↦ absurd (stops (ap is_waiting (ap (slice_get l.machine.tasks) (sym e) ∙ g.1) ∙ g.3) (can_tells l.machine t can).1)
+    | inl e ↦ absurd (wait_run l.machine t (ap is_waiting (ap (slice_get l.machine.tasks) (sym e) ∙ g.1) ∙ g.3) (can_tells l.machine t can).1)
     | inr ne ↦ going_by fork ne g (waiting_moves p l.machine t fork.task g.0 S.0.kept ne g.1 g.3)
   ]
-    where
-      stops : is_waiting (slice_get l.machine.tasks t) ≡ true → is_running (slice_get l.machine.tasks t) ≡ true → ⊥
-      stops w r = by (slice_get l.machine.tasks t) w r
-        where
-          by : (o : Option Task) → is_waiting o ≡ true → is_running o ≡ true → ⊥
-          by None a b = false≢true a
-          by (Some z) a b = both_ways (waits z.status) (running_tells z.status b).1 a
 
 known_task_step : (p : ProgramText) (l : Ledger) (t : ℕ) → SoundAt t l → (fork : Strand) → Known l fork → Known (task_step p l t) fork
 known_task_step p l t S fork K = by (can_step l.machine t) refl
@@ -202,13 +197,8 @@ new_known l t (Some x) e w S fork i =
     let same : In (strand_of t x ∷ []) fork = subst (λ o. In (fork_of t o) fork) at i in
     by (heap_at l t) refl at (elim same [ inl q ↦ q | inr none ↦ absurd none ])
   where
-    inside : (xs : List Heap) (k : ℕ) → k < length xs → slice_get xs k ≡ None → ⊥
-    inside [] k lt e' = omega arith
-    inside (y ∷ xs) zero lt e' = cc
-    inside (y ∷ xs) (suc k) lt e' = inside xs k (omega arith) e'
-
     by : (o : Option Heap) → heap_at l t ≡ o → slice_get (with_heap l t (λ h. record h { marked = Some 0 })).machine.tasks t ≡ Some x → strand_of t x ≡ fork → Known (with_heap l t (λ h. record h { marked = Some 0 })) fork
-    by None e' at q = absurd (inside l.heaps t (let lt : t < length l.machine.tasks = got_within l.machine.tasks t x e in omega (arith, S.lengths)) e')
+    by None e' at q = absurd (got_none l.heaps t (let lt : t < length l.machine.tasks = got_within l.machine.tasks t x e in omega (arith, S.lengths)) e')
     by (Some h) e' at q =
         subst (λ (k : Ledger). Known k fork) (sym (ap (with_heap_at l t (λ h. record h { marked = Some 0 })) e'))
         (subst (λ (g : Strand). Known (record l { heaps = slice_set l.heaps t (record h { marked = Some 0 }) }) g) q

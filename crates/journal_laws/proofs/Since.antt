@@ -37,6 +37,14 @@ since_in h = h.since
 pub since_additive : Additive since_in
 since_additive = record { let_go = λ h. refl; fresh = refl; forked = λ ns h. refl; merged = λ p l r. omega arith }
 
+-- a heap counts the words that are placed in it
+pub placed_since : (h : Heap) (n : Name) (w : ℕ) → (placed h n w).since ≡ h.since + w
+placed_since h n w = by (is_small w)
+  where
+    by : (v : Bool) → (cond v (record h { chunks = put_last h.chunks n; room = h.room - w; since = h.since + w }) (record h { large = h.large ++ n ∷ []; reserved = 0; since = h.since + w })).since ≡ h.since + w
+    by true = refl
+    by false = refl
+
 module _ (p : ProgramText) (limit most : ℕ) (asks : AsksAtMost p limit most) where
   -- the limit of fields stays, and each step counts at most so many words
   abbrev Bounded : Ledger → Type 0
@@ -45,13 +53,6 @@ module _ (p : ProgramText) (limit most : ℕ) (asks : AsksAtMost p limit most) w
   -- a heap's account changes, and counts no more
   lighter : (l : Ledger) (t : ℕ) (f : Heap → Heap) → ((h : Heap) → (f h).since ≤ h.since) → Bounded l → Bounded (with_heap l t f)
   lighter l t f less I = with_heap_any Bounded l t f I (λ h e. (I.0, let a = total_set since_in l.heaps t h (f h) e in let b = less h in let c = I.1 in omega arith))
-
-  placed_since : (h : Heap) (n : Name) (w : ℕ) → (placed h n w).since ≡ h.since + w
-  placed_since h n w = by (is_small w)
-    where
-      by : (v : Bool) → (cond v (record h { chunks = put_last h.chunks n; room = h.room - w; since = h.since + w }) (record h { large = h.large ++ n ∷ []; reserved = 0; since = h.since + w })).since ≡ h.since + w
-      by true = refl
-      by false = refl
 
   module _ (l : Ledger) (t : ℕ) (S : SoundAt t l) (I : Bounded l) (can : can_step l.machine t ≡ true) where
     abbrev b : Ledger

@@ -141,7 +141,7 @@ changed p q ks i m new d e same f h =
 pub added : (p q : PiecesValue) (ks : List ChunkValue) (m : ℕ) (k : ChunkValue) → m ≡ k.number → NotesChanges p q (m ∷ []) → Shows p ks → Shows q (ks ++ k ∷ [])
 added p q ks m k same f h =
     still_shows p q ks (ks ++ k ∷ []) (k.number ∷ []) (subst (λ (x : ℕ). NotesChanges p q (x ∷ [])) same f)
-    (λ n a. behind n ∙ (ap (option_or (piece_in (level_of ks) n)) (here n (one_number k n a)) ∙ or_none (piece_in (level_of ks) n)))
+    (λ n a. behind n ∙ (ap (option_or (piece_in (level_of ks) n)) (here n (one_number k n a)) ∙ levels.or_none (piece_in (level_of ks) n)))
     (λ n a. first_none (piece_in (level_of ks) n) (piece_in (level_of (k ∷ [])) n) (sym (behind n) ∙ a)) h
   where
     behind : (n : ℕ) → piece_in (level_of (ks ++ k ∷ [])) n ≡ option_or (piece_in (level_of ks) n) (piece_in (level_of (k ∷ [])) n)
@@ -149,10 +149,6 @@ added p q ks m k same f h =
 
     here : (n : ℕ) → eqb k.number n ≡ false → piece_in (level_of (k ∷ [])) n ≡ None
     here n e = rw e refl
-
-    or_none : (o : Option PieceValue) → option_or o None ≡ o
-    or_none None = refl
-    or_none (Some f) = refl
 
     first_none : (o r : Option PieceValue) → option_or o r ≡ None → o ≡ None
     first_none None r e = refl
@@ -179,11 +175,7 @@ three p q r ls rs ks f g h = before q r ls (rs ++ ks) g (before p q rs ks f h)
 
 nothing_lost : (p : PiecesValue) (ks : List ChunkValue) → Shows p ks → (b : Bool) → p.lost ≡ b → (n : ℕ) →
     option_or (cond (cond b true (is_among p.stale n)) (piece_in (level_of ks) n) None) (cond b None (nearest p.layers n)) ≡ piece_in (level_of ks) n
-nothing_lost p ks h true l n = or_none (piece_in (level_of ks) n)
-  where
-    or_none : (o : Option PieceValue) → option_or o None ≡ o
-    or_none None = refl
-    or_none (Some f) = refl
+nothing_lost p ks h true l n = levels.or_none (piece_in (level_of ks) n)
 nothing_lost p ks h false l n = by (is_among p.stale n) refl (piece_in (level_of ks) n) refl
   where
     by : (b : Bool) → is_among p.stale n ≡ b → (o : Option PieceValue) → piece_in (level_of ks) n ≡ o → option_or (cond b o None) (nearest p.layers n) ≡ o

@@ -1,7 +1,8 @@
 -- A part gets a chunk.
-use Rattle.std.proofs.Common.{◌≡◌, ◌⊎◌, ℕ, zero, suc, ◌+◌, ◌*◌, ◌/◌, ◌<◌, ◌≤◌, true, false, ◌&&◌, not, Bool, cond, Option, Some, None, List, [], ◌∷◌, ◌++◌, length, map, slice_get, option_map, is_none, is_some, nat_lt, ◌==◌, inl, inr, refl, ap, ap₂, sym, subst, ◌∙◌, arith, lt-ltb, le-ltb, eq-eqb, ne_eqb}
+use Rattle.std.proofs.Common.{◌≡◌, ◌⊎◌, ℕ, ◌+◌, ◌*◌, ◌/◌, ◌<◌, ◌≤◌, true, false, ◌&&◌, not, Bool, cond, Option, Some, None, [], ◌∷◌, ◌++◌, length, map, slice_get, option_map, is_none, is_some, nat_lt, ◌==◌, inl, inr, refl, ap, ap₂, sym, subst, ◌∙◌, arith, lt-ltb, le-ltb, eq-eqb, ne_eqb}
 use Rattle.std.proofs.lemmas.Bool.{both_ways, cases_eq, cases_lt, cond-false, cond-true, false≢true, leb-false}
 use Rattle.std.proofs.lemmas.Option.{same_Some}
+use Rattle.std.proofs.lemmas.List.{append-nil}
 use Rattle.listed.specs.RoomyValue.{RoomyValue}
 use Rattle.listed.proofs.Places.{in_map}
 use Rattle.hh_model.specs.declared.data.State.{State}
@@ -63,6 +64,7 @@ use Rattle.shared_value.proofs.UnitsMeasured.{all_kept, measured_both, measured_
 use Rattle.shared_value.proofs.BeforeTheEnd.{stands_now, used_now}
 use Rattle.shared_value.proofs.StepsEntered.{fits_now, home_is, status}
 use Rattle.shared_value.proofs.HeapForms.{places_form}
+use Rattle.shared_value.proofs.HeapLaidOut.{some_units}
 use Rattle.leaf_collections.proofs.MoreChunksRead.{units_some, chunk_begun, chunk_held, chunk_large, chunk_since, chunk_with, grown_counted, in_more, large_more, none_in, objects_more}
 use Rattle.leaf_collections.proofs.MoreChunksLaid.{form_more, laid_more}
 use Rattle.leaf_collections.proofs.WhyNoChunk.{at_work, chunk_is}
@@ -71,14 +73,6 @@ needed : (due need : Bool) (x y : Refused) → is_none (refused_if due x (refuse
 needed true need x y h = absurd (false≢true h)
 needed false true x y h = refl
 needed false false x y h = absurd (false≢true h)
-
-append_none : (ns : List ℕ) → ns ++ [] ≡ ns
-append_none [] = refl
-append_none (n ∷ ns) = ap (λ ms. n ∷ ms) (append_none ns)
-
-some_units : (n : ℕ) → 1 ≤ n → reserved_units n ≡ n ∷ []
-some_units zero lt = absurd (omega (arith, lt))
-some_units (suc n) lt = refl
 
 -- the reserved chunk after it
 units_more : (number words : ℕ) (z : Account) → (is_small words ≡ false → z.reserved ≡ 0)
@@ -91,12 +85,12 @@ units_more number words z none = by (is_small words) refl
 
     by : (b : Bool) → is_small words ≡ b → reserved_units z.reserved ++ map (λ (c : Chunk). c.units) (reserved_chunks (chunk_of (chunk_with number (cond b 1 (units words))) ∷ []))
         ≡ reserved_units (cond b (record z { chunks = z.chunks ++ [] ∷ []; room = chunk_words }) (record z { reserved = chunk_units (Some words) })).reserved
-    by true s = append_none (reserved_units z.reserved)
+    by true s = append-nil (reserved_units z.reserved)
     by false s =
         let big_words : chunk_words < words = leb-false words chunk_words s in
         let two : 2 ≤ units words = omega (arith, big_words) in
         ap (λ n. reserved_units n ++ map (λ (c : Chunk). c.units) (reserved_chunks (chunk_of (chunk_with number (units words)) ∷ []))) (none s)
-        ∙ (big_spare (units words) two ∙ (sym (some_units (units words) (omega (arith, two))) ∙ ap reserved_units (sym (cond-false (is_small words) 1 (units words) s))))
+        ∙ (big_spare (units words) two ∙ (some_units (units words) (omega (arith, two)) ∙ ap reserved_units (sym (cond-false (is_small words) 1 (units words) s))))
 
 -- the worker that the entry speaks of holds a part without fresh steps
 module _ (w : SharedValue) (k : ℕ) (p : Private) (I : IsSharedValue w) (F : Fits w k (record p { fresh = 0 })) (on : (accounts w).end ≡ None) (free : refused w (record { worker = k; kind = ChunkOf p.task }) ≡ None)

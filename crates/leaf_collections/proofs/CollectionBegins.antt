@@ -3,6 +3,7 @@ use Rattle.std.proofs.Common.{◌≡◌, ℕ, ◌+◌, true, false, Some, None, 
 use Rattle.std.proofs.lemmas.Bool.{cases_Bool}
 use Rattle.std.proofs.lemmas.Option.{same_Some}
 use Rattle.listed.specs.RoomyValue.{RoomyValue}
+use Rattle.listed.proofs.Places.{read_in}
 use Rattle.hh_model.specs.declared.data.State.{State}
 use Rattle.hh_model.specs.Effect.{row_of}
 use Rattle.hh_model.specs.Step.{is_joined, is_waiting, waits}
@@ -42,7 +43,6 @@ use Rattle.shared_value.proofs.UnitsMeasured.{all_taken_keep}
 use Rattle.shared_value.proofs.BeforeTheEnd.{stands_now}
 use Rattle.shared_value.proofs.StepsEntered.{status}
 use Rattle.shared_value.proofs.RootsHeld.{chunk_in}
-use Rattle.leaf_collections.proofs.NewChunks.{all_at}
 
 module _ (w : SharedValue) (k : ℕ) (p : Private) (I : IsSharedValue w) (F : Fits w k (record p { fresh = 0 })) (free : refused w (record { worker = k; kind = Begin p.task }) ≡ None) where
   abbrev P : Private
@@ -121,7 +121,7 @@ module _ (w : SharedValue) (k : ℕ) (p : Private) (I : IsSharedValue w) (F : Fi
     owner_same c h = (taken_are_owned w.pool pool p.task (take_by (small_words p.heap.chunks)) [] news T c).1 h
 
     pub were_free : (c : ChunkValue) → In ks c → v.owner c.number ≡ None
-    were_free c i = ap (option_map (λ z. z.owner)) (all_at (λ (x : ChunkValue). slot_in w.pool.slots x.number ≡ None) ks T.numbers.numbered.were_free c i)
+    were_free c i = ap (option_map (λ z. z.owner)) (read_in (λ (x : ChunkValue). slot_in w.pool.slots x.number ≡ None) ks c i T.numbers.numbered.were_free)
 
     pub owner_kept : (c u : ℕ) → v.owner c ≡ Some u → v'.owner c ≡ Some u
     owner_kept c u q = elim (cases_Bool (has_chunk ks c)) [

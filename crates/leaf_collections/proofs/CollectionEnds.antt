@@ -1,17 +1,15 @@
 -- The end of a part's leaf collection: what is entered stands, and parts fit.
 use Rattle.std.proofs.Common.{◌≡◌, ℕ, ◌+◌, ◌-◌, ◌<◌, ◌&&◌, arith, All, true, false, not, Option, Some, None, is_some, List, [], ◌∷◌, ◌++◌, fold, length, slice_get, option_map, inl, inr, refl, ap, ap₂, sym, subst, ◌∙◌}
-use Rattle.std.proofs.lemmas.Bool.{cases_eq, false≢true}
+use Rattle.std.proofs.lemmas.Bool.{cases_eq}
 use Rattle.std.proofs.lemmas.Option.{same_Some}
 use Rattle.std.proofs.lemmas.List.Elements.{All-head, All-tail}
 use Rattle.listed.specs.RoomyValue.{RoomyValue}
 use Rattle.listed.proofs.Members.{got_within}
 use Rattle.listed.proofs.Places.{each_from, got_some, in_map, read_in}
+use Rattle.listed.proofs.Options.{none_some}
 use Rattle.hh_model.specs.declared.data.Object.{Object}
-use Rattle.hh_model.specs.declared.data.Status.{Status}
-use Rattle.hh_model.specs.declared.data.Status.TheVariants.{Running, Waiting, Ended, Joined}
-use Rattle.hh_model.specs.declared.data.Task.{Task}
 use Rattle.hh_model.specs.Effect.{object_at}
-use Rattle.hh_model.specs.Step.{is_running, is_waiting, runs, waits}
+use Rattle.hh_model.specs.Step.{is_running, is_waiting, runs}
 use Rattle.hh_model.specs.declared.data.State.{State}
 use Rattle.run_trace.specs.Entry.{EntryValue}
 use Rattle.run_trace.specs.declared.entry.Kind.TheVariants.{End}
@@ -56,6 +54,7 @@ use Rattle.core_relation.proofs.objects.Members.{map_in}
 use Rattle.core_entry_laws.proofs.parts.OwnFits.{ends_fit_then}
 use Rattle.core_entry_laws.proofs.parts.WorkersPast.{ends_leave}
 use Rattle.core_entry_laws.proofs.parts.Quiet.{aside_is}
+use Rattle.core_entry_laws.proofs.whole.Past.{running_idle}
 use Rattle.task_machine.specs.declared.part.Private.{Private}
 use Rattle.task_homes.specs.declared.task_at_rest.Rest.{Rest}
 use Rattle.shared_value.specs.Objects.{chunk_of, chunks_of}
@@ -212,9 +211,6 @@ module _ (w : SharedValue) (k : ℕ) (p : Private) (moved : Moved) (I : IsShared
       | inl q ↦ absurd (none_some (sym (sym (ap (λ z. (heap_of L z).worker) q) ∙ r) ∙ held_then))
       | inr ne ↦ ap (λ o. (or_fresh o).worker) (sym (with_off l t u (collected l.machine) ne)) ∙ r
     ]
-      where
-        none_some : ◌≡◌ {A = Option ℕ} None (Some k) → ⊥
-        none_some q = absurd cc
 
     same : (u : ℕ) → Rests L u → v'.homes u ≡ v''.homes u
     same u r = led.homes u (rests_before u r) ∙ ap (λ xs. rewritten_home f xs (v.homes u)) (sym sources_are)
@@ -253,17 +249,7 @@ module _ (w : SharedValue) (k : ℕ) (p : Private) (moved : Moved) (I : IsShared
     running = (tasks_are_held_once w.program w.settings w.journal.items I.legal).runs on t k F.held
 
     idle : is_waiting (slice_get l.machine.tasks t) ≡ false
-    idle = by (slice_get l.machine.tasks t) running
-      where
-        by : (o : Option Task) → is_running o ≡ true → is_waiting o ≡ false
-        by None h = absurd (false≢true h)
-        by (Some x) h = status x.status h
-          where
-            status : (s : Status) → runs s ≡ true → waits s ≡ false
-            status Running h = refl
-            status Waiting h = absurd (false≢true h)
-            status (Ended n b) h = absurd (false≢true h)
-            status Joined h = absurd (false≢true h)
+    idle = running_idle (slice_get l.machine.tasks t) running
 
     notes : OthersNotes v v'' t
     notes = record {

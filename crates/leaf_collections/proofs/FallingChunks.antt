@@ -1,8 +1,8 @@
 -- Chunks that were taken together stay so in another order.
-use Rattle.std.proofs.Common.{◌≡◌, ℕ, ◌+◌, Bool, false, cond, ◌||◌, ◌==◌, eqb, inl, inr, Option, Some, None, List, [], ◌∷◌, length, map, refl, sym, ap, subst, ◌∙◌}
+use Rattle.std.proofs.Common.{◌≡◌, ℕ, ◌+◌, false, cond, ◌==◌, eqb, inl, inr, Option, Some, None, List, [], ◌∷◌, length, map, refl, sym, ap, subst, ◌∙◌}
 use Rattle.std.specs.List.{AllByRecursion, IsDistinct, list_any}
 use Rattle.std.specs.List.Sorted.{IsPermutation}
-use Rattle.std.proofs.lemmas.Bool.{cases_eq, eq-eqb, ne_eqb}
+use Rattle.std.proofs.lemmas.Bool.{cases_eq, eq-eqb, ne_eqb, or_from}
 use Rattle.std.proofs.lemmas.List.Sorted.{All-permutation, IsPermutation-map, length_permutation, list_any-IsPermutation}
 use Rattle.std.proofs.lemmas.Map.Keys.{IsDistinct-IsPermutation}
 use Rattle.object_layout.specs.ChunkValue.{ChunkValue, number_of}
@@ -20,12 +20,9 @@ same_numbers ks ls n p = found_any ks n ∙ (list_any-IsPermutation (λ (k : Chu
 flips : (a b : ℕ) → (a == b) ≡ (b == a)
 flips a b = elim (cases_eq a b) [ inl e ↦ eq-eqb a b e ∙ sym (eq-eqb b a (sym e)) | inr ne ↦ ne_eqb a b ne ∙ sym (ne_eqb b a (λ e. ne (sym e))) ]
 
-or_false : (a b : Bool) → a ≡ false → b ≡ false → (a || b) ≡ false
-or_false a b e f = rw (e, f) refl
-
 none_named : (n : ℕ) (ks : List ChunkValue) → AllByRecursion (λ y. (n == y) ≡ false) (map number_of ks) → list_any (λ k. eqb k.number n) ks ≡ false
 none_named n [] a = refl
-none_named n (k ∷ ks) a = or_false (eqb k.number n) (list_any (λ x. eqb x.number n) ks) (flips k.number n ∙ a.0) (none_named n ks a.1)
+none_named n (k ∷ ks) a = or_from (eqb k.number n) (list_any (λ x. eqb x.number n) ks) (flips k.number n ∙ a.0) (none_named n ks a.1)
 
 apart_by_numbers : (ks : List ChunkValue) → IsDistinct (λ j k. j == k) (map number_of ks) → AreApart ks
 unfolding IsDistinct

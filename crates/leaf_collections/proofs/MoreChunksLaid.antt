@@ -6,12 +6,12 @@ use Rattle.object_layout.specs.Chunks.{chunk_at}
 use Rattle.object_layout.specs.ChunkValue.{ChunkValue}
 use Rattle.object_layout.specs.Place.{words_in}
 use Rattle.alloc_path.specs.LeafHeapValue.{AreTidy, AreWithin, LeafHeapValue, IsFresh, IsTidy, added, with_places}
+use Rattle.alloc_path.proofs.HeapLemmas.{at_push, at_last}
 use Rattle.core_relation.specs.Layout.{AreLaidOut, has_none, reserved_chunks, reserved_units}
 use Rattle.core_relation.specs.Memory.{Chunk, In}
 use Rattle.core_relation.proofs.objects.Members.{map_in}
 use Rattle.task_machine.specs.Accounts.{IsLastLarge, IsLastSmall}
 use Rattle.task_machine.specs.Fits.{IsShaped}
-use Rattle.task_machine.proofs.Added.{chunk_at-front, chunk_at-last}
 use Rattle.shared_value.specs.Objects.{AreNear, chunk_of, chunks_of}
 use Rattle.shared_value.specs.Stands.{HeapForm}
 use Rattle.shared_value.proofs.CellsRead.{fresh_off}
@@ -132,14 +132,14 @@ module _ (h : LeafHeapValue) (F : HeapForm h) (number u slots spare : ℕ) (some
 
     spare_last : (i : ℕ) → i ≡ length h.chunks → ((chunk_at (h.chunks ++ K ∷ []) i).size ≡ 1024 → ⊥) → g.reserved ≡ Some i
     spare_last i e big = elim (cases_lt u 2) [
-      | inl one ↦ absurd (big (ap (λ n. (chunk_at (h.chunks ++ K ∷ []) n).size) e ∙ (ap (λ (z : ChunkValue). z.size) (chunk_at-last h.chunks K) ∙ omega (arith, one, some))))
+      | inl one ↦ absurd (big (ap (λ n. (chunk_at (h.chunks ++ K ∷ []) n).size) e ∙ (ap (λ (z : ChunkValue). z.size) (at_last h.chunks K) ∙ omega (arith, one, some))))
       | inr two ↦ reserved_large two ∙ ap Some (sym e)
     ]
 
     spare_then : (i : ℕ) → i < length (h.chunks ++ K ∷ []) → ((chunk_at (h.chunks ++ K ∷ []) i).size ≡ 1024 → ⊥) → (chunk_of (chunk_at (h.chunks ++ K ∷ []) i)).objects ≡ [] → g.reserved ≡ Some i
     spare_then i lt big empty = elim (cases_lt i (length h.chunks)) [
       | inl before ↦
-          spare_front i before (λ e. big (ap (λ (z : ChunkValue). z.size) (chunk_at-front h.chunks K i before) ∙ e)) (ap (λ (z : ChunkValue). (chunk_of z).objects) (sym (chunk_at-front h.chunks K i before)) ∙ empty)
+          spare_front i before (λ e. big (ap (λ (z : ChunkValue). z.size) (at_push h.chunks K i before) ∙ e)) (ap (λ (z : ChunkValue). (chunk_of z).objects) (sym (at_push h.chunks K i before)) ∙ empty)
       | inr after ↦ spare_last i (omega (arith, lt, after, length-append h.chunks (K ∷ []))) big
     ]
 

@@ -11,11 +11,11 @@ use Rattle.object_layout.specs.ChunkValue.{ChunkValue}
 use Rattle.object_layout.specs.Place.{words_in}
 use Rattle.object_layout.specs.Objects.{Located, objects_from}
 use Rattle.alloc_path.specs.LeafHeapValue.{LeafHeapValue, IsCurrent, IsReserved, added, room_at, with_places}
+use Rattle.alloc_path.proofs.HeapLemmas.{at_push, at_last}
 use Rattle.core_relation.specs.Memory.{Chunk, In, object_name, objects_in}
 use Rattle.core_relation.specs.Stands.{large_chunks}
 use Rattle.task_machine.specs.Accounts.{AreReserved, IsCounted, IsLastLarge, IsLastSmall, large_names, names_in, small_lists}
 use Rattle.task_machine.specs.Fits.{IsShaped}
-use Rattle.task_machine.proofs.Added.{chunk_at-front, chunk_at-last}
 use Rattle.shared_value.specs.Objects.{chunk_of, chunks_of}
 
 -- ---- LISTS OF CHUNKS
@@ -84,10 +84,10 @@ module _ (k : ChunkValue) (empty : k.cells ≡ []) where
 last_large_same : (ks : List ChunkValue) (k : ChunkValue) (o : Option ℕ) → k.size ≡ 1024 → IsLastLarge ks o → IsLastLarge (ks ++ k ∷ []) o
 last_large_same ks k None small l = tt
 last_large_same ks k (Some i) small l = λ j lt le. elim (cases_lt j (length ks)) [
-  | inl before ↦ ap (λ (z : ChunkValue). z.size) (chunk_at-front ks k j before) ∙ l j lt before
+  | inl before ↦ ap (λ (z : ChunkValue). z.size) (at_push ks k j before) ∙ l j lt before
   | inr after ↦
       let e : j ≡ length ks = omega (arith, le, after, length_push ks k) in
-      ap (λ n. (chunk_at (ks ++ k ∷ []) n).size) e ∙ (ap (λ (z : ChunkValue). z.size) (chunk_at-last ks k) ∙ small)
+      ap (λ n. (chunk_at (ks ++ k ∷ []) n).size) e ∙ (ap (λ (z : ChunkValue). z.size) (at_last ks k) ∙ small)
 ]
 
 pub all_more : (P : ChunkValue → Type 0) (ks : List ChunkValue) (k : ChunkValue) → All P ks → P k → All P (ks ++ k ∷ [])
@@ -98,19 +98,19 @@ all_more P (x ∷ xs) k a b (suc i) d lt = all_more P xs k (λ j e l. a (suc j) 
 
 room_same : (ks : List ChunkValue) (k : ChunkValue) (o : Option ℕ) → IsCurrent ks o → room_at (ks ++ k ∷ []) o ≡ room_at ks o
 room_same ks k None c = refl
-room_same ks k (Some i) c = ap (λ (z : ChunkValue). z.size - words_in z.cells) (chunk_at-front ks k i c.0)
+room_same ks k (Some i) c = ap (λ (z : ChunkValue). z.size - words_in z.cells) (at_push ks k i c.0)
 
 reserved_same : (ks : List ChunkValue) (k : ChunkValue) (o : Option ℕ) (u : ℕ) → IsReserved ks o → AreReserved ks o u → AreReserved (ks ++ k ∷ []) o u
 reserved_same ks k None u c r = r
-reserved_same ks k (Some i) u c r = ap (λ (z : ChunkValue). z.size) (chunk_at-front ks k i c.0) ∙ r
+reserved_same ks k (Some i) u c r = ap (λ (z : ChunkValue). z.size) (at_push ks k i c.0) ∙ r
 
 last_same : (ks : List ChunkValue) (k : ChunkValue) (o : Option ℕ) → (k.size ≡ 1024 → ⊥) → IsLastSmall ks o → IsLastSmall (ks ++ k ∷ []) o
 last_same ks k None big l = tt
 last_same ks k (Some i) big l = λ j lt le size. elim (cases_lt j (length ks)) [
-  | inl before ↦ l j lt before (sym (ap (λ (z : ChunkValue). z.size) (chunk_at-front ks k j before)) ∙ size)
+  | inl before ↦ l j lt before (sym (ap (λ (z : ChunkValue). z.size) (at_push ks k j before)) ∙ size)
   | inr after ↦
       let e : j ≡ length ks = omega (arith, le, after, length_push ks k) in
-      big (sym (ap (λ (z : ChunkValue). z.size) (chunk_at-last ks k)) ∙ (ap (λ n. (chunk_at (ks ++ k ∷ []) n).size) (sym e) ∙ size))
+      big (sym (ap (λ (z : ChunkValue). z.size) (at_last ks k)) ∙ (ap (λ n. (chunk_at (ks ++ k ∷ []) n).size) (sym e) ∙ size))
 ]
 
 -- a small chunk, and a large one
@@ -127,7 +127,7 @@ module _ (h : LeafHeapValue) (l : Account) (S : IsShaped h) (C : IsCounted h l) 
     large = large_same (small_one number) refl h.chunks ∙ C.large;
     last = λ j lt le size. omega (arith, lt, le, length_push h.chunks (small_one number));
     last_large = last_large_same h.chunks (small_one number) h.reserved refl C.last_large;
-    room = ap (λ (z : ChunkValue). z.size - words_in z.cells) (chunk_at-last h.chunks (small_one number));
+    room = ap (λ (z : ChunkValue). z.size - words_in z.cells) (at_last h.chunks (small_one number));
     since = C.since;
     reserved = reserved_same h.chunks (small_one number) h.reserved l.reserved S.reserved C.reserved;
   }
@@ -153,7 +153,7 @@ module _ (h : LeafHeapValue) (l : Account) (S : IsShaped h) (C : IsCounted h l) 
       last_large = λ j lt le. absurd (omega (arith, lt, le, length_push h.chunks k));
       room = room_same h.chunks k h.current S.current ∙ C.room;
       since = C.since;
-      reserved = ap (λ (z : ChunkValue). z.size) (chunk_at-last h.chunks k);
+      reserved = ap (λ (z : ChunkValue). z.size) (at_last h.chunks k);
     })
 
   -- for the object that the next step needs it for

@@ -1,5 +1,5 @@
 -- Chunks that are new and apart, and who waits while one of them is taken.
-use Rattle.std.proofs.Common.{◌≡◌, ℕ, suc, ◌==◌, arith, true, false, Option, Some, None, List, [], ◌∷◌, map, All, slice_get, inl, inr, refl, sym, subst, ◌∙◌, ne_eqb}
+use Rattle.std.proofs.Common.{◌≡◌, ℕ, suc, ◌==◌, arith, true, false, Option, Some, None, List, [], ◌∷◌, map, All, slice_get, inl, inr, refl, sym, ◌∙◌, ne_eqb}
 use Rattle.std.specs.List.{AllByRecursion, IsDistinct}
 use Rattle.std.proofs.lemmas.Bool.{false≢true}
 use Rattle.hh_model.specs.declared.data.Task.{Task}
@@ -18,11 +18,6 @@ use Rattle.shared_value.specs.Stands.{IsSharedValue}
 use Rattle.shared_value.proofs.CellsRead.{fresh_off}
 
 -- LISTS
-
-pub all_at : {A : Type 0} (P : A → Type 0) (xs : List A) → All P xs → (x : A) → In xs x → P x
-all_at P [] a x i = absurd i
-all_at P (y ∷ ys) a x (inl e) = subst P e (a 0 y (omega arith))
-all_at P (y ∷ ys) a x (inr i) = all_at P ys (λ j d lt. a (suc j) d (omega (arith, lt))) x i
 
 -- chunks that are apart have distinct numbers
 numbers_off : (n : ℕ) (xs : List ChunkValue) → ((c : ChunkValue) → In xs c → c.number ≡ n → ⊥) → AllByRecursion (λ y. (n == y) ≡ false) (map number_of xs)

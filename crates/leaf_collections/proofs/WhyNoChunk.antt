@@ -23,6 +23,7 @@ use Rattle.shared_value.specs.Entered.{refused}
 use Rattle.shared_value.proofs.NextStepAsks.{asks_is, asks_two, counted_is, room_is, since_is}
 use Rattle.shared_value.proofs.CollectionUnderWay.{at_part}
 use Rattle.shared_value.proofs.CausesTold.{on_is, refused_is}
+use Rattle.shared_value.proofs.FirstCauses.{found_first}
 
 unless_none : {A : Type 0} (o : Option A) (c : Refused) → refused_unless (is_none o) c None ≡ refused_if (is_some o) c None
 unless_none None c = refl
@@ -75,9 +76,5 @@ chunk_answer w k p I F h =
     ∙ (ap (λ o. or_else o (kind_refusal w.program w.settings (accounts w) k (Chunk p.task))) (none_of (first_cause w.end w.steps w.settings k false) h) ∙ chunk_is w k p I F (on_is w I k false h))
 
 -- or something does
-some_first : (a rest : Option Refused) → is_some a ≡ true → or_else a rest ≡ a
-some_first None rest h = absurd cc
-some_first (Some c) rest h = refl
-
 pub first_answer : (w : SharedValue) → IsSharedValue w → (e : EntryValue) → is_some (first_cause w.end w.steps w.settings e.worker (is_fuel e.kind)) ≡ true → refused w e ≡ first_cause w.end w.steps w.settings e.worker (is_fuel e.kind)
-first_answer w I e h = refused_is w I e ∙ some_first (first_cause w.end w.steps w.settings e.worker (is_fuel e.kind)) (kind_refusal w.program w.settings (accounts w) e.worker e.kind) h
+first_answer w I e h = refused_is w I e ∙ sym (found_first (first_cause w.end w.steps w.settings e.worker (is_fuel e.kind)) (kind_refusal w.program w.settings (accounts w) e.worker e.kind) h)

@@ -53,3 +53,7 @@ end_answer w k p moved I F = by (is_some (first_cause w.end w.steps w.settings k
         (ap₂ (λ x y. x && y) runs' held')
         ∙ (unless_true (is_some (heap_of (accounts w) p.task).begun) NotCollecting (ends_as (moved.taken, moved.given, moved.left) (end_numbers (accounts w).machine (heap_of (accounts w) p.task))) begun
         ∙ (ap (λ z. ends_as (moved.taken, moved.given, moved.left) z) (sym F.numbers) ∙ said_so moved.taken moved.given moved.left)))
+
+-- where nothing comes before it, nothing refuses it
+pub end_free : (w : SharedValue) (k : ℕ) (p : Private) (moved : Moved) → IsSharedValue w → first_cause w.end w.steps w.settings k false ≡ None → FitsCopied w k p moved → refused w (end_event k p moved) ≡ None
+end_free w k p moved I free F = end_answer w k p moved I F ∙ free

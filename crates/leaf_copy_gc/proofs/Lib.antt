@@ -20,6 +20,6 @@ pub mod Rebuilt
 pub mod Naming
 pub mod Order
 pub mod Tidied
-mod Packing
+pub mod Packing
 mod Collecting
 pub mod Needs

@@ -118,7 +118,7 @@ length_moves y h (a ∷ xs) = ap suc (length_moves (laid_one y (cell_of h a)) h 
 -- ---- with references led
 
 module _ (f : Option Addr → Option Addr) where
-  used_led : (cs : List Cell) → words_in (map (led_cell f) cs) ≡ words_in cs
+  pub used_led : (cs : List Cell) → words_in (map (led_cell f) cs) ≡ words_in cs
   used_led [] = refl
   used_led (c ∷ cs) = ap (λ (n : ℕ). n + words_in (map (led_cell f) cs)) (size_led f c) ∙ ap (λ (n : ℕ). size_of c + n) (used_led cs)
 

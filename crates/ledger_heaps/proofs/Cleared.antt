@@ -38,7 +38,3 @@ filled_by done ns rest false = ap (λ ls. ls ++ rest) (append-nil done)
 -- one list more is done
 pub filled_more : (done : List (List Name)) (ns : List Name) (rest : List (List Name)) → (done ++ without_empty (ns ∷ [])) ++ without_empty rest ≡ done ++ without_empty (ns ∷ rest)
 filled_more done ns rest = filled_by done ns (without_empty rest) (not (is_empty ns))
-
-pub not_not : (b : Bool) → not (not b) ≡ b
-not_not true = refl
-not_not false = refl

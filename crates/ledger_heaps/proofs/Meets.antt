@@ -5,16 +5,12 @@ use Rattle.std.proofs.lemmas.List.Concat.{flat_map-append}
 use Rattle.hh_model.proofs.Tree.{or_and_false}
 use Rattle.run_ledger.proofs.Members.{same_from_is_name}
 use Rattle.std.specs.List.{flat_map}
-use Rattle.std.proofs.Math.Bool.{and-true}
+use Rattle.std.proofs.Math.Bool.{and-true, or_assoc}
 use Rattle.hh_model.specs.declared.data.Name.{Name}
 use Rattle.hh_model.specs.declared.data.Frame.{Frame}
 use Rattle.hh_model.specs.Names.{named, registers}
 use Rattle.run_ledger.specs.Reachable.{holds_name, is_name}
 use Rattle.ledger_heaps.specs.Search.{Meets}
-
-or_assoc : (a b c : Bool) → (a || b) || c ≡ a || (b || c)
-or_assoc true b c = refl
-or_assoc false b c = refl
 
 pub holds_append : (ns ms : List Name) (n : Name) → holds_name (ns ++ ms) n ≡ holds_name ns n || holds_name ms n
 holds_append [] ms n = refl

@@ -8,10 +8,9 @@ use Rattle.hh_model.specs.declared.data.Name.{Name}
 use Rattle.hh_model.specs.declared.data.Object.{Object}
 use Rattle.hh_model.specs.declared.data.Status.TheVariants.{Running}
 use Rattle.hh_model.specs.declared.data.Task.{Task}
-use Rattle.hh_model.specs.declared.data.End.{End}
 use Rattle.hh_model.specs.declared.data.State.{State}
 use Rattle.hh_model.specs.Effect.{object_at, put_object, row_of}
-use Rattle.hh_model.specs.Step.{step, can_step, goes_on, is_running, is_waiting, is_joined, is_over, waits, is_on_path, path_in, owner_of, owner_in, parents, joined, parent_of, asked}
+use Rattle.hh_model.specs.Step.{step, can_step, is_running, is_waiting, is_joined, is_over, waits, is_on_path, path_in, owner_of, owner_in, parents, joined, parent_of, asked}
 use Rattle.hh_model.proofs.Paths.{owner_live}
 use Rattle.hh_model.proofs.Steps.{runs_is}
 use Rattle.hh_model.proofs.Taken.{can_runs}
@@ -24,6 +23,7 @@ use Rattle.run_ledger.specs.Sound.{SoundLedger}
 use Rattle.run_ledger.proofs.Steps.{SoundAt, task_step_sound}
 use Rattle.ledger_step_laws.specs.Accounts.{own, rested, ArePrivate, StepsAlone}
 use Rattle.ledger_step_laws.proofs.Private.{GoesOn, StoreBy, private_on}
+use Rattle.path_laws.proofs.Leaves.{can_going}
 
 -- ROWS AND OBJECTS
 
@@ -102,16 +102,12 @@ module _ (p : ProgramText) (l : Ledger) (t : ℕ) (private : is_private p l.mach
   abbrev then_ : Ledger
   then_ = record b { machine = step p l.machine t; steps = b.steps + 1 }
 
-  going : (o : Option End) (r : Bool) → goes_on o r ≡ true → o ≡ None
-  going None r h = refl
-  going (Some e) r h = absurd (false≢true h)
-
   -- the step's accounts
   step_is : can_step l.machine t ≡ true → (x : Task) → slice_get l.machine.tasks t ≡ Some x → task_step p l t ≡ then_
   step_is can x is =
       let G = private_on p l.machine t x can is private in
       let run : x.status ≡ Running = runs_is x.status (ap is_running (sym is) ∙ can_runs l.machine t can) in
-      let end : (step p l.machine t).end ≡ None = ap (λ (m : State). m.end) G.is ∙ going l.machine.end (is_running (slice_get l.machine.tasks t)) can in
+      let end : (step p l.machine t).end ≡ None = ap (λ (m : State). m.end) G.is ∙ can_going l.machine t can in
       let at : slice_get (step p l.machine t).tasks t ≡ Some G.task = ap (λ (m : State). slice_get m.tasks t) G.is ∙ got_same l.machine.tasks t x G.task is in
       cond-true (can_step l.machine t) (stepped_to b t (step p l.machine t)) (record l { steps = l.steps + 1 }) can
       ∙ (ap (settled then_ t) end ∙ (ap (moved_to then_ t) at ∙ ap (moved_on then_ t G.task.parent) (G.status ∙ run)))
@@ -270,10 +266,6 @@ module _ (p : ProgramText) (s : SettingsValue) (t : ℕ) where
   }
   steps_alone_all (suc k) l S h =
       alone_along l (task_step p l t) (task_steps p (task_step p l t) t k) (private_alone p l t h.2 S.0) (steps_alone_all k (task_step p l t) (task_step_sound p l t S) h.3)
-
-  pub steps_sound : (k : ℕ) (l : Ledger) → SoundAt t l → SoundAt t (task_steps p l t k)
-  steps_sound zero l S = S
-  steps_sound (suc k) l S = steps_sound k (task_step p l t) (task_step_sound p l t S)
 
   -- the same steps are private by either account, and come to the same
   pub steps_same : (k : ℕ) (l l' : Ledger) → SameOf t l l' → ArePrivate p s l t k → ArePrivate p s l' t k × SameOf t (task_steps p l t k) (task_steps p l' t k)

@@ -4,6 +4,7 @@ use Rattle.std.proofs.Math.Bool.{or-false}
 use Rattle.std.proofs.lemmas.Bool.{cases_eq, cases_lt, eqb-true, or_cases}
 use Rattle.std.proofs.Math.Path.{fun_ext}
 use Rattle.listed.proofs.Members.{got_front, got_back, got_past, got_within}
+use Rattle.listed.proofs.Places.{got_none}
 use Rattle.hh_model.specs.declared.data.Name.{Name}
 use Rattle.hh_model.specs.declared.data.Object.{Object}
 use Rattle.hh_model.specs.declared.data.Edge.{Edge}
@@ -256,13 +257,8 @@ module _ (l : Ledger) (t : ℕ) (x : Task) (g h n : ℕ) (edges : List Edge) (is
     }
       where
         there : or_fresh (heap_then (forked_heap (within after t)) (slice_get l.heaps t)) ≡ forked_heap (within after t) (heap_of l t)
-        there = by (slice_get l.heaps t) (got l.heaps t (omega (arith, heaps_long, lt)))
+        there = by (slice_get l.heaps t) (got_none l.heaps t (omega (arith, heaps_long, lt)))
           where
-            got : (xs : List Heap) (k : ℕ) → k < length xs → slice_get xs k ≡ None → ⊥
-            got [] k l e = omega (arith, l)
-            got (z ∷ zs) zero l e = cc
-            got (z ∷ zs) (suc k) l e = got zs k (omega (arith, l)) e
-
             by : (o : Option Heap) → (o ≡ None → ⊥) → or_fresh (heap_then (forked_heap (within after t)) o) ≡ forked_heap (within after t) (or_fresh o)
             by None no_heap = absurd (no_heap refl)
             by (Some z) no_heap = refl

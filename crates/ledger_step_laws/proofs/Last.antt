@@ -1,9 +1,10 @@
 -- The last step of an entry of steps is of one of the kinds.
-use Rattle.std.proofs.Common.{◌≡◌, ℕ, ℤ, zero, suc, pos, ◌+◌, ◌-◌, ◌%◌, ◌<◌, ◌==◌, ◌&&◌, ◌||◌, not, Bool, true, false, cond, arith, Option, Some, None, List, [], ◌∷◌, ◌++◌, length, length-set, slice_get, slice_set, ◌⊎◌, inl, inr, refl, ap, ap₂, sym, subst, ◌∙◌, is_none, is_some, nat_lt, replicate}
+use Rattle.std.proofs.Common.{◌≡◌, ℕ, ℤ, pos, ◌+◌, ◌-◌, ◌%◌, ◌<◌, ◌==◌, ◌&&◌, ◌||◌, not, Bool, true, false, cond, arith, Option, Some, None, List, [], ◌∷◌, ◌++◌, length, length-set, slice_get, slice_set, ◌⊎◌, inl, inr, refl, ap, ap₂, sym, subst, ◌∙◌, is_none, is_some, nat_lt, replicate}
 use Rattle.std.specs.Option.{option_flatten}
 use Rattle.std.proofs.lemmas.Bool.{false≢true, both_ways, cases_eq, cond-true, cond-false, eqb-false, eqb-true, eq-eqb}
 use Rattle.std.proofs.lemmas.Option.{none-some}
 use Rattle.listed.proofs.Members.{got_same, got_other, got_within, same_view, view_step}
+use Rattle.listed.proofs.Places.{got_some}
 use Rattle.hh_lang.specs.declared.instr.Instr.{Instr}
 use Rattle.hh_lang.specs.declared.instr.Instr.TheVariants.{Set, Mov, Movr, Nil as NilOf, Calc, Same, Jmp, Jz, Newm, Pack, Getr, Geti, Putr, Puti, Cntr, Cnti, Freeze, Cas, Call, Par, Ret, Out}
 use Rattle.hh_lang.specs.declared.program.Line.{Line}
@@ -23,12 +24,13 @@ use Rattle.hh_model.specs.declared.data.State.{State}
 use Rattle.hh_model.specs.Names.{words_asked, words_for}
 use Rattle.hh_model.specs.Effect.{with_int, Effect, Goes, Prints, Calls, Forks, Returns, Traps, Stops, Setting, effect, made, row_of, object_at, put_object, counts_in, int_in, ref_in, or_trap, with_object, read_effect, place_in, same_name, onward}
 use Rattle.hh_model.specs.Precedence.{precedes}
-use Rattle.hh_model.specs.Step.{entry_frame, setting, fetched, step, follow, returned_to, last_return, child_ended_by, or_same, last_of, ended_by, with_task, can_step, goes_on, depth_limit, frame_limit, owner_of, owner_in, path_in, parents, parent_of, resumed, joined, is_running, is_waiting, is_joined, is_over, is_left, sibling, kept_by, result_in, result_of, ended_task, join_of, joined_task, child, strand, strand_of, edge, runs, waits, asked, asked_by, asked_line}
+use Rattle.hh_model.specs.Step.{entry_frame, setting, fetched, step, follow, returned_to, last_return, child_ended_by, or_same, last_of, ended_by, with_task, can_step, depth_limit, frame_limit, owner_of, owner_in, path_in, parents, parent_of, resumed, joined, is_running, is_waiting, is_joined, is_over, is_left, sibling, kept_by, result_in, result_of, ended_task, join_of, joined_task, child, strand, strand_of, edge, runs, waits, asked, asked_by, asked_line}
 use Rattle.hh_model.proofs.Closed.{asked_at, waits_is}
 use Rattle.hh_model.proofs.Kept.{Kept, step_kept}
 use Rattle.path_laws.proofs.Objects.{put_here}
+use Rattle.path_laws.proofs.Leaves.{can_going}
 use Rattle.hh_model.proofs.Runs.{grown_at, three_left, three_right, running_tells, ended_tells, wp, parr}
-use Rattle.hh_model.proofs.Steps.{ended_is}
+use Rattle.hh_model.proofs.Steps.{ended_stops}
 use Rattle.hh_model.proofs.Taken.{step_taken}
 use Rattle.run_ledger.specs.declared.data.Heap.{Heap}
 use Rattle.run_ledger.specs.declared.data.Ledger.{Ledger}
@@ -144,11 +146,7 @@ module _ (p : ProgramText) (l : Ledger) (t : ℕ) (x : Task) (line : Line) (K : 
   tells = running_tells x.status running
 
   going : m.end ≡ None
-  going = by m.end (is_running (slice_get m.tasks t)) can
-    where
-      by : (o : Option End) (b : Bool) → goes_on o b ≡ true → o ≡ None
-      by None b h = refl
-      by (Some e) b h = absurd (false≢true h)
+  going = can_going m t can
 
   taken : step p m t ≡ follow m t x line.number (effect s x.top m.store line.instr)
   taken = step_taken p m t x line can I.task I.next
@@ -476,12 +474,7 @@ module _ (p : ProgramText) (l : Ledger) (t : ℕ) (x : Task) (line : Line) (K : 
   -- AN END, AND A JOIN
 
   got : (u : ℕ) → u < length m.tasks → (y : Task) × (slice_get m.tasks u ≡ Some y)
-  got u lt = go m.tasks u lt
-    where
-      go : (xs : List Task) (j : ℕ) → j < length xs → (y : Task) × (slice_get xs j ≡ Some y)
-      go [] j lt = absurd (omega (arith, lt))
-      go (z ∷ zs) zero lt = (z, refl)
-      go (z ∷ zs) (suc j) lt = go zs j (omega (arith, lt))
+  got u lt = got_some m.tasks u lt
 
   module _ (il : line.instr ≡ Ret) (lone : x.below ≡ []) (parent : ℕ) (has : x.parent ≡ Some parent) where
     none_ret : words_asked m.field_limit x.top line.instr ≡ None
@@ -628,9 +621,6 @@ module _ (p : ProgramText) (l : Ledger) (t : ℕ) (x : Task) (line : Line) (K : 
         },
       )
 
-    stopped_by : (st : Status) (r : ℤ × Option Name) → result_in st ≡ Some r → runs st ≡ false
-    stopped_by st r e = ap runs (ended_is st r e)
-
     sides : (xp z : Task) (other : ℤ × Option Name) → slice_get m.tasks parent ≡ Some xp → slice_get m.tasks (sibling t) ≡ Some z → result_in z.status ≡ Some other
         → (b : Bool) → is_left t ≡ b → step p m t ≡ cond b (join_of m parent xp t x z (result_of x.top) other) (join_of m parent xp (t - 1) z x other (result_of x.top)) → Last
     sides xp z other ip iz ended true side e =
@@ -639,7 +629,7 @@ module _ (p : ProgramText) (l : Ledger) (t : ℕ) (x : Task) (line : Line) (K : 
         let jr : slice_get m.tasks (t + 1) ≡ Some z = ap (slice_get m.tasks) (sym sib) ∙ iz in
         join_case t xp x z result other ip I.task jr has side tells.0 over.0 tells.1 over.1 (inl refl) (joined_task x) e
         (three_left m.tasks t parent x z xp (joined_task x) (joined_task z) _ I.task jr ip (K.sound.kept.tree.low t parent (ap parent_of I.task ∙ has))) has refl (cond-true (is_left t) t (t - 1) side)
-        (inl refl) (inr (stopped_by z.status other ended)) (inl (refl, refl, ap kept_by jr ∙ ended))
+        (inl refl) (inr (ended_stops z.status other ended)) (inl (refl, refl, ap kept_by jr ∙ ended))
     sides xp z other ip iz ended false side e =
         let sib : sibling t ≡ t - 1 = cond-false (is_left t) (t + 1) (t - 1) side in
         let over = ended_tells z.status other ended in
@@ -654,7 +644,7 @@ module _ (p : ProgramText) (l : Ledger) (t : ℕ) (x : Task) (line : Line) (K : 
         let low' : parent < t - 1 = K.sound.kept.tree.low (t - 1) parent (ap parent_of jl ∙ pz) in
         join_case (t - 1) xp z x other result ip jl jr pz (eq-eqb ((t - 1) % 2) 1 odd) over.0 tells.0 over.1 tells.1 (inr (sym back)) (joined_task x) e
         (ap (slice_get (join_of m parent xp (t - 1) z x other result).tasks) (sym back) ∙ three_right m.tasks (t - 1) parent z x xp (joined_task z) (joined_task x) _ jl jr ip low') has refl (cond-false (is_left t) t (t - 1) side)
-        (inr (stopped_by z.status other ended)) (inl back) (inr (sym back, refl, ap kept_by jl ∙ ended))
+        (inr (ended_stops z.status other ended)) (inl back) (inr (sym back, refl, ap kept_by jl ∙ ended))
 
     ended_case : (o : Option (ℤ × Option Name)) → kept_by (slice_get m.tasks (sibling t)) ≡ o → step p m t ≡ child_ended_by m t x parent (result_of x.top) o → Last
     ended_case None q e = end_case e

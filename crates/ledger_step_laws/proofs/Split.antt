@@ -1,6 +1,6 @@
 -- An accepted entry of steps is private steps and one more of a known kind.
-use Rattle.std.proofs.Common.{◌≡◌, ℕ, zero, suc, ◌+◌, ◌-◌, ◌≤◌, ◌||◌, min, nat_le, arith, Bool, true, false, cond, Option, Some, None, List, [], ◌∷◌, ◌++◌, length, slice_get, replicate, inl, inr, refl, ap, sym, subst, ◌∙◌, is_none}
-use Rattle.std.proofs.lemmas.Bool.{false≢true, both_ways, and_parts, cond-true, eqb-true, leb-true}
+use Rattle.std.proofs.Common.{◌≡◌, ℕ, zero, suc, ◌+◌, ◌-◌, ◌≤◌, ◌||◌, min, nat_le, arith, Bool, true, false, cond, Option, Some, None, List, ◌++◌, length, slice_get, replicate, inl, inr, refl, ap, sym, subst, ◌∙◌, is_none}
+use Rattle.std.proofs.lemmas.Bool.{false≢true, both_ways, and_parts, cond-true, leb-true}
 use Rattle.std.proofs.Math.Nat.{min-le_right}
 use Rattle.listed.proofs.Options.{none_of}
 use Rattle.hh_lang.specs.declared.program.Line.{Line}
@@ -10,7 +10,6 @@ use Rattle.run_trace.specs.Entry.{EntryValue}
 use Rattle.run_trace.specs.Settings.{SettingsValue, field_limit}
 use Rattle.hh_model.specs.declared.data.Name.{Name}
 use Rattle.hh_model.specs.declared.data.Task.{Task}
-use Rattle.hh_model.specs.declared.data.End.{End}
 use Rattle.hh_model.specs.declared.data.State.{State}
 use Rattle.hh_model.specs.Effect.{row_of}
 use Rattle.hh_model.specs.Step.{step, can_step, goes_on, is_running, fetched, run, run_from, asked}
@@ -18,7 +17,7 @@ use Rattle.hh_model.proofs.Next.{always_next}
 use Rattle.hh_model.proofs.Steps.{runs_is, step_cases}
 use Rattle.run_ledger.specs.declared.data.Heap.{Heap}
 use Rattle.run_ledger.specs.declared.data.Ledger.{Ledger}
-use Rattle.run_ledger.specs.Heaps.{heap_of, let_go, or_fresh, placed, is_small, put_last}
+use Rattle.run_ledger.specs.Heaps.{heap_of, let_go, or_fresh, placed}
 use Rattle.run_ledger.specs.Steps.{task_step, task_steps, standing, is_due, is_in_need, is_private, most_steps, stepped_to, allocated_in, allocated_by}
 use Rattle.run_ledger.specs.Entries.{refusal, kind_refusal, after, is_out, long_at}
 use Rattle.listed.specs.Options.{option_is}
@@ -28,13 +27,14 @@ use Rattle.run_ledger.proofs.Booked.{task_steps_booked}
 use Rattle.run_ledger.proofs.Journals.{none_unless, out_tells, entry_tells, entry_sound}
 use Rattle.run_ledger.proofs.Space.{legal_booked}
 use Rattle.run_ledger.proofs.Stocks.{legal_stocked}
-use Rattle.run_ledger.proofs.Holders.{tasks_are_held_once}
+use Rattle.run_ledger.proofs.Holders.{tasks_are_held_once, placed_worker}
 use Rattle.run_ledger.proofs.Machine.{machine_is_run, kind_machine, task_step_machine, heap_machine}
-use Rattle.run_ledger.proofs.Steps.{step_leaves}
+use Rattle.run_ledger.proofs.Steps.{step_leaves, steps_last, task_steps_sound}
 use Rattle.run_ledger.specs.Sound.{collecting}
+use Rattle.run_ledger.proofs.Frames.{held_is}
 use Rattle.ledger_step_laws.specs.Accounts.{ArePrivate, rested, StepsAlone, Knows, Leaves}
 use Rattle.ledger_step_laws.specs.Last.{GoesOn, IsApart, IdleRest, OnlyAskersReserve, IsAt, IsOfKind, LastKind, Splits, Runs}
-use Rattle.ledger_step_laws.proofs.Ahead.{heap_after, with_at, with_off, heap_then, steps_alone_all, steps_sound}
+use Rattle.ledger_step_laws.proofs.Ahead.{heap_after, with_at, with_off, heap_then, steps_alone_all}
 use Rattle.ledger_step_laws.proofs.Along.{step_knows, steps_know}
 use Rattle.ledger_step_laws.proofs.Commute.{alike_self, goes_running, goes_can}
 use Rattle.hh_model.proofs.Root.{run_root}
@@ -42,10 +42,7 @@ use Rattle.hh_model.proofs.Counts.{run_on}
 use Rattle.ledger_step_laws.proofs.Known.{legal_knows, run_knows}
 use Rattle.ledger_step_laws.proofs.Last.{last_step}
 use Rattle.ledger_step_laws.proofs.Reserved.{booked_askers, private_stand}
-
-pub steps_last : (p : ProgramText) (l : Ledger) (t j : ℕ) → task_steps p l t (suc j) ≡ task_step p (task_steps p l t j) t
-steps_last p l t zero = refl
-steps_last p l t (suc j) = steps_last p (task_step p l t) t j
+use Rattle.path_laws.proofs.Leaves.{can_going}
 
 -- THE STEPS THAT CAN STAND IN ONE ENTRY
 
@@ -80,13 +77,6 @@ module _ (p : ProgramText) (s : SettingsValue) (t : ℕ) where
   pub worker_step : (l : Ledger) → is_private p l.machine t ≡ true → (heap_of (task_step p l t) t).worker ≡ (heap_of l t).worker
   worker_step l h = ap (λ o. (or_fresh o).worker) (heap_after p l t h) ∙ by (can_step l.machine t) (asked p l.machine t)
     where
-      placed_worker : (z : Heap) (n : Name) (w : ℕ) → (placed z n w).worker ≡ z.worker
-      placed_worker z n w = go (is_small w)
-        where
-          go : (b : Bool) → (cond b (record z { chunks = put_last z.chunks n; room = z.room - w; since = z.since + w }) (record z { large = z.large ++ n ∷ []; reserved = 0; since = z.since + w })).worker ≡ z.worker
-          go true = refl
-          go false = refl
-
       by : (b : Bool) (o : Option ℕ) → (or_fresh (cond b (slice_get (allocated_by l t o).heaps t) (slice_get l.heaps t))).worker ≡ (heap_of l t).worker
       by false o = refl
       by true None = refl
@@ -147,11 +137,7 @@ module _ (p : ProgramText) (s : SettingsValue) (journal : List EntryValue) (w t 
   out = out_tells l w t _ allowed
 
   pub holds : (heap_of l t).worker ≡ Some w
-  holds = by (heap_of l t).worker (and_parts (is_running (slice_get l.machine.tasks t)) (option_is (heap_of l t).worker w) (none_unless (is_out l w t) _ _ allowed).0).1
-    where
-      by : (o : Option ℕ) → option_is o w ≡ true → o ≡ Some w
-      by None h = absurd (false≢true h)
-      by (Some z) h = ap Some (eqb-true z w h)
+  holds = held_is (heap_of l t).worker w (and_parts (is_running (slice_get l.machine.tasks t)) (option_is (heap_of l t).worker w) (none_unless (is_out l w t) _ _ allowed).0).1
 
   fits_one : suc k ≤ standing s p l t (suc k)
   fits_one =
@@ -221,7 +207,7 @@ module _ (p : ProgramText) (s : SettingsValue) (journal : List EntryValue) (w t 
 
   -- what the last step leaves to another task that runs
   still : collecting (slice_get lj.heaps t) ≡ false
-  still = (steps_sound p s t k l (K.sound, out.1)).1
+  still = (task_steps_sound p k l t (K.sound, out.1)).1
 
   pub leaves : (u : ℕ) → (u ≡ t → ⊥) → is_running (slice_get l.machine.tasks u) ≡ true → (after p s l (record { worker = w; kind = Ran t (suc k) })).machine.end ≡ None → Leaves u (rested lj t) (after p s l (record { worker = w; kind = Ran t (suc k) }))
   leaves u ne runs_u end =
@@ -230,7 +216,7 @@ module _ (p : ProgramText) (s : SettingsValue) (journal : List EntryValue) (w t 
       let A : StepsAlone l lj t = steps_alone_all p s t k l (K.sound, out.1) stand.0 in
       record {
         limit = ap (λ (z : Ledger). z.machine.field_limit) e ∙ (ap (λ (m : State). m.field_limit) (task_step_machine p lj t) ∙ (limit lj.machine ∙ ap (λ (m : State). m.field_limit) (sym (heap_machine lj t let_go))));
-        end = end ∙ (sym (ended lj.machine.end (is_running (slice_get lj.machine.tasks t)) goes.3) ∙ ap (λ (m : State). m.end) (sym (heap_machine lj t let_go)));
+        end = end ∙ (sym (can_going lj.machine t goes.3) ∙ ap (λ (m : State). m.end) (sym (heap_machine lj t let_go)));
         heap =
             ap (λ (z : Ledger). slice_get z.heaps u) (e ∙ stepped)
             ∙ ((step_leaves p lj t (knows.sound, still) goes.3).4 u ne (inl (ap is_running (A.tasks u ne) ∙ runs_u)) ∙ sym (with_off lj t u let_go ne));
@@ -239,10 +225,6 @@ module _ (p : ProgramText) (s : SettingsValue) (journal : List EntryValue) (w t 
       limit : (m : State) → (step p lj.machine t).field_limit ≡ lj.machine.field_limit
       limit m = step_cases p lj.machine t knows.sound.kept (λ m. m.field_limit ≡ lj.machine.field_limit) refl (λ x e i r h. refl) (λ x y store outs i r a b c d e f g h. refl) (λ x o e i r a b c. refl) (λ x g h i r a b. refl)
           (λ o c xp xl xr rl rr a b d e f g h i j k' n q. refl)
-
-      ended : (o : Option End) (b : Bool) → goes_on o b ≡ true → o ≡ None
-      ended None b h = refl
-      ended (Some e) b h = absurd (false≢true h)
 
   pub split_leaves : ((heap_of lj t).worker ≡ Some w) × (can_step lj.machine t ≡ true) × Knows lj × IdleRest lj
       × ((u : ℕ) → (u ≡ t → ⊥) → is_running (slice_get l.machine.tasks u) ≡ true → (after p s l (record { worker = w; kind = Ran t (suc k) })).machine.end ≡ None → Leaves u (rested lj t) (after p s l (record { worker = w; kind = Ran t (suc k) })))

@@ -24,6 +24,7 @@ use Rattle.hh_model.proofs.Taken.{step_taken, step_idle, can_runs}
 use Rattle.model_laws.proofs.Winner.{run_next, run_past}
 use Rattle.loop_nest_laws.specs.Frames.{Activation, StandsAt, Takes}
 use Rattle.loop_nest_laws.proofs.Moves.{Steps, Hands, kept, now, JoinsIn, Moves, stays, goes, calls, gives, forks, ends, resumes, joins, step_moved}
+use Rattle.path_laws.proofs.Leaves.{goes_tells}
 
 -- an instruction that begins no frame
 abbrev pub IsPlain : Instr → Type 0
@@ -119,10 +120,6 @@ module _ (p : ProgramText) (limit : ℕ) (ts : List ℕ) where
 
   -- ENDS
 
-  end_goes : (o : Option End) (b : Bool) → goes_on o b ≡ true → o ≡ None
-  end_goes None b h = refl
-  end_goes (Some e) b h = absurd (false≢true h)
-
   ended_idle : (o : Option End) (e : End) (b : Bool) → o ≡ Some e → goes_on o b ≡ false
   ended_idle None e b h = absurd cc
   ended_idle (Some z) e b h = refl
@@ -139,7 +136,7 @@ module _ (p : ProgramText) (limit : ℕ) (ts : List ℕ) where
       no_end o e a b = let h : None ≡ Some e = sym b ∙ a in absurd cc
 
       now_over : IsTurn p limit ts i t → ⊥
-      now_over turn = no_end (at i).end e is (end_goes (at i).end (is_running (slice_get (at i).tasks t)) turn.can)
+      now_over turn = no_end (at i).end e is (goes_tells (at i).end (is_running (slice_get (at i).tasks t)) turn.can)
   ended_over (suc n) i t e is turn =
       ended_over n (suc i) t e (ap (λ (m : State). m.end) (end_by i e is (slice_get ts i) refl) ∙ is)
       (subst (λ k. IsTurn p limit ts k t) (let e : suc n + i ≡ n + suc i = omega arith in e) turn)

@@ -3,6 +3,7 @@ use Rattle.std.proofs.Common.{◌≡◌, ◌≤◌, ◌<◌, ◌+◌, ◌*◌, �
 use Rattle.std.specs.Prelude.{Some, codes}
 use Rattle.std.specs.List.{list_all}
 use Rattle.std.specs.Str.{bytes_eq}
+use Rattle.std.proofs.lemmas.Bool.{lt-ltb}
 use Rattle.text_lines.specs.Lines.{lines_of}
 use Rattle.run_trace.specs.Line.{spaced}
 use Rattle.run_trace.proofs.Words.{words_spaced}
@@ -104,9 +105,6 @@ outline_so_far seed size (suc k) rest =
 main_named : (above : Lines) → (outline_onto (length above + 1) (outline_above above) main_rows).functions ≡ noted (outline_above above).functions (codes "main") (length above + 1)
 main_named above = refl
 
-below_is : (j size : ℕ) → j < size → nat_lt j size ≡ true
-below_is j size lt = grind (arith, lt)
-
 -- the functions of a whole text are named so
 pub record Named (size : ℕ) (names : List Entry) : Type 0 where
   pub functions : (j : ℕ) → j < size → is_noted names (name_of j) ≡ true
@@ -116,7 +114,7 @@ names_all : (size : ℕ) (all es : List Entry) (number : ℕ) → size ≤ 1000 
 names_all size all es number le names main e =
     let is : all ≡ es ++ entry_of (codes "main") number ∷ [] = e ∙ new_entry es (codes "main") number main in
     record {
-      functions = λ j lt. ap (λ xs. is_noted xs (name_of j)) is ∙ noted_more es (name_of j) (codes "main") number ∙ ap (λ b. b || bytes_eq (name_of j) (codes "main")) (names j (omega (arith, lt, le)) ∙ below_is j size lt);
+      functions = λ j lt. ap (λ xs. is_noted xs (name_of j)) is ∙ noted_more es (name_of j) (codes "main") number ∙ ap (λ b. b || bytes_eq (name_of j) (codes "main")) (names j (omega (arith, lt, le)) ∙ lt-ltb j size lt);
       main = ap (λ xs. is_noted xs (codes "main")) is ∙ noted_more es (codes "main") (codes "main") number ∙ ap (λ b. b || bytes_eq (codes "main") (codes "main")) main;
     }
 

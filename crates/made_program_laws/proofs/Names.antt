@@ -8,7 +8,7 @@ use Rattle.std.specs.Str.{bytes_eq}
 use Rattle.std.specs.Str.Parse.{IsNumeral, AllDigits, digits_value}
 use Rattle.std.proofs.lemmas.Fmt.{decimal_is_IsNumeral, decimal_injective, length-decimal-le}
 use Rattle.std.proofs.lemmas.Slice.Eq.{bytes_eq-Decides}
-use Rattle.std.proofs.Math.Bool.{or-false}
+use Rattle.std.proofs.Math.Bool.{or-false, or-true, or_assoc}
 use Rattle.hh_lang.specs.Number.{fits_i64, signed_number}
 use Rattle.hh_lang.proofs.Tests.{numeral_passes, positive, unsigned}
 use Rattle.run_trace.proofs.Words.{IsProper, decimal_is_proper}
@@ -75,18 +75,10 @@ same_name j k e = (bytes_eq-Decides (name_of j) (name_of k)).1 (ap name_of e)
 
 -- ONE NAME MORE
 
-or_true : (b : Bool) → (b || true) ≡ true
-or_true true = refl
-or_true false = refl
-
-or_and_or : (a b c : Bool) → (a || (b || c)) ≡ ((a || b) || c)
-or_and_or true b c = refl
-or_and_or false b c = refl
-
 -- what passes a test among these and one more
 any_more : {X : Type 0} (p : X → Bool) (xs : List X) (x : X) → list_any p (xs ++ x ∷ []) ≡ (list_any p xs || p x)
 any_more p [] x = or-false (p x)
-any_more p (y ∷ ys) x = ap (λ b. p y || b) (any_more p ys x) ∙ or_and_or (p y) (list_any p ys) (p x)
+any_more p (y ∷ ys) x = ap (λ b. p y || b) (any_more p ys x) ∙ sym (or_assoc (p y) (list_any p ys) (p x))
 
 pub noted_more : (es : List Entry) (name other : List ℕ) (number : ℕ) → is_noted (es ++ entry_of other number ∷ []) name ≡ (is_noted es name || bytes_eq name other)
 noted_more es name other number = any_more (λ e. bytes_eq name e.name) es (entry_of other number)
@@ -98,7 +90,7 @@ is_other : (j k : ℕ) → (j ≡ k → ⊥) → nat_lt j k ≡ nat_lt j (suc k)
 is_other j k ne = grind (arith, ne)
 
 less_or_same : (j k : ℕ) (b : Bool) → (b ≡ true → j ≡ k) → (j ≡ k → b ≡ true) → (nat_lt j k || b) ≡ nat_lt j (suc k)
-less_or_same j k true f g = or_true (nat_lt j k) ∙ sym (is_next j k (f refl))
+less_or_same j k true f g = or-true (nat_lt j k) ∙ sym (is_next j k (f refl))
 less_or_same j k false f g = or-false (nat_lt j k) ∙ is_other j k (λ e. true≢false (sym (g e)))
 
 -- the name of function j is among those of the first k + 1 where it is among the first k, or is the last of them

@@ -1,31 +1,22 @@
 -- From what is checked cell by cell and chunk by chunk to the whole.
-use Rattle.std.proofs.Common.{◌≡◌, ℕ, zero, suc, ◌+◌, ◌-◌, ◌<◌, ◌≤◌, List, [], ◌∷◌, ◌++◌, length, refl, sym, subst, arith, inl, inr, eqb, Option, slice_index_or}
-use Rattle.std.specs.Prelude.{nat_le, All}
+use Rattle.std.proofs.Common.{◌≡◌, ℕ, suc, ◌+◌, ◌<◌, ◌≤◌, List, [], ◌∷◌, ◌++◌, length, refl, sym, subst, arith, inl, inr, eqb, Option, slice_index_or}
+use Rattle.std.specs.Prelude.{All}
 use Rattle.std.proofs.lemmas.Bool.{cases_Bool}
 use Rattle.std.proofs.lemmas.List.Elements.{All-nil, All-cons, All-head, All-tail, All-append}
 use Rattle.object_layout.specs.declared.word.Addr.{Addr}
-use Rattle.object_layout.specs.Cell.{Cell, no_cell, size_of}
+use Rattle.object_layout.specs.Cell.{Cell, no_cell}
 use Rattle.object_layout.specs.ChunkValue.{ChunkValue}
-use Rattle.object_layout.specs.Place.{cell_at}
 use Rattle.object_layout.specs.Chunks.{cell_of}
 use Rattle.task_frames.specs.declared.frames.Frame.{Frame}
 use Rattle.task_frames.specs.FramesValue.{FramesValue, depth_of, frames_of, references_of}
 use Rattle.leaf_copy_gc.specs.Survivors.{held_by, IsClosed}
 use Rattle.memory_scenes.specs.Fit.{IsFit}
+use Rattle.alloc_path.proofs.Settled.{at_offset}
 
 -- ---- cells
 
 pub all_step : (P : Cell → Type 0) (cs ds : List Cell) (c : Cell) → cs ≡ c ∷ ds → P c → All P ds → All P cs
 all_step P cs ds c e p a = subst (All P) (sym e) (All-cons P c ds p a)
-
-each_at : (P : Cell → Type 0) (cs : List Cell) → P no_cell → All P cs → (n : ℕ) → P (cell_at cs n)
-each_at P [] z a n = z
-each_at P (c ∷ cs) z a zero = All-head P c cs a
-each_at P (c ∷ cs) z a (suc n) =
-    elim (cases_Bool (nat_le (size_of c) (suc n))) [
-      | inl e ↦ rw e (each_at P cs z (All-tail P c cs a) (suc n - size_of c))
-      | inr e ↦ rw e z
-    ]
 
 abbrev EachCell : (Cell → Type 0) → ChunkValue → Type 0
 EachCell P k = All P k.cells
@@ -34,7 +25,7 @@ each_of : (P : Cell → Type 0) (ks : List ChunkValue) → P no_cell → All (Ea
 each_of P [] z e a = z
 each_of P (k ∷ ks) z e a =
     elim (cases_Bool (eqb k.number a.chunk)) [
-      | inl t ↦ rw t (each_at P k.cells z (All-head (EachCell P) k ks e) a.offset)
+      | inl t ↦ rw t (at_offset P k.cells a.offset z (All-head (EachCell P) k ks e))
       | inr t ↦ rw t (each_of P ks z (All-tail (EachCell P) k ks e) a)
     ]
 

@@ -23,6 +23,7 @@ use Rattle.hh_model.proofs.Kept.{run_kept, start_kept}
 use Rattle.hh_model.proofs.Steps.{Halts, step_cases}
 use Rattle.hh_model.proofs.Taken.{step_taken}
 use Rattle.hh_model.proofs.Tree.{owner_not_joined}
+use Rattle.listed.proofs.Options.{none_some}
 
 -- what a read of a reference field does
 read_is : (s : Setting) (f : Frame) (store : List (List Object)) (instr : Instr) (d o k : ℕ) (source n : Name) (x : Object) (at : ℕ) → instr ≡ Getr d o k → ref_in f o ≡ Some source → object_at store source ≡ Some x
@@ -89,10 +90,7 @@ module _ (p : ProgramText) (m : State) (t : ℕ) (K : Kept m) (going : m.end ≡
   Stopped m' = (reader owner : ℕ) → m'.end ≡ Some (Entangled reader owner) → (reader ≡ t) × StopsRead p m t owner
 
   same : (m' : State) → m'.end ≡ m.end → Stopped m'
-  same m' e reader owner h = absurd (none_ends (sym going ∙ (sym e ∙ h)))
-    where
-      none_ends : None ≡ Some (Entangled reader owner) → ⊥
-      none_ends q = cc
+  same m' e reader owner h = none_some (sym going ∙ (sym e ∙ h))
 
   halts : (x : Task) (e : End) → slice_get m.tasks t ≡ Some x → is_running (Some x) ≡ true → Halts p m t x e → Stopped (ended_by m e)
   halts x e is run' (inl trap) reader owner h = absurd (trapped trap.2 (same_Some e (Entangled reader owner) h))

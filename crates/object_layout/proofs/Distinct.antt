@@ -1,7 +1,7 @@
 -- Lists in which no address stands twice.
-use Rattle.std.proofs.Common.{◌≡◌, ℕ, zero, suc, ◌==◌, Bool, true, false, List, [], ◌∷◌, ◌++◌, take, Contains, inl, inr, refl, sym, ap, ◌∙◌, subst}
+use Rattle.std.proofs.Common.{◌≡◌, ℕ, zero, suc, ◌==◌, true, false, List, [], ◌∷◌, ◌++◌, take, Contains, inl, inr, refl, sym, ap, ◌∙◌, subst}
 use Rattle.std.specs.List.{AllByRecursion, IsDistinct}
-use Rattle.std.proofs.lemmas.Bool.{and_from, and_parts, both_ways, eq-eqb, eqb-true}
+use Rattle.std.proofs.lemmas.Bool.{and_from, and_parts, both_ways, eq-eqb, eqb-true, false_from_ne_true}
 use Rattle.listed.proofs.Members.{In, contains_from_in, in_append_cases, in_from_contains}
 use Rattle.listed.proofs.Places.{in_take}
 use Rattle.object_layout.specs.declared.word.Addr.{Addr}
@@ -21,18 +21,14 @@ same_is a b e =
 pub same_self : (a : Addr) → same_address a a ≡ true
 same_self a = and_from (a.chunk == a.chunk) (a.offset == a.offset) (eq-eqb a.chunk a.chunk refl) (eq-eqb a.offset a.offset refl)
 
-none_from : (x : Addr) (ys : List Addr) → AllByRecursion (λ y. same_address x y ≡ false) ys → In ys x → ⊥
+pub none_from : (x : Addr) (ys : List Addr) → AllByRecursion (λ y. same_address x y ≡ false) ys → In ys x → ⊥
 none_from x [] a i = i
 none_from x (y ∷ ys) a (inl e) = both_ways (same_address x y) a.0 (subst (λ z. same_address x z ≡ true) (sym e) (same_self x))
 none_from x (y ∷ ys) a (inr i) = none_from x ys a.1 i
 
 none_to : (x : Addr) (ys : List Addr) → (Contains ys x → ⊥) → AllByRecursion (λ y. same_address x y ≡ false) ys
 none_to x [] n = tt
-none_to x (y ∷ ys) n = (apart_by (same_address x y) (λ e. n (contains_from_in (y ∷ ys) x (inl (sym (same_is x y e))))), none_to x ys (λ c. n (contains_from_in (y ∷ ys) x (inr (in_from_contains ys x c)))))
-  where
-    apart_by : (b : Bool) → (b ≡ true → ⊥) → b ≡ false
-    apart_by true f = absurd (f refl)
-    apart_by false f = refl
+none_to x (y ∷ ys) n = (false_from_ne_true (same_address x y) (λ e. n (contains_from_in (y ∷ ys) x (inl (sym (same_is x y e))))), none_to x ys (λ c. n (contains_from_in (y ∷ ys) x (inr (in_from_contains ys x c)))))
 
 pub once_from : (xs : List Addr) → IsDistinct same_address xs → Once xs
 unfolding IsDistinct

@@ -4,6 +4,7 @@ use Rattle.std.specs.Prelude.{is_some, nat_lt, ◌↔◌}
 use Rattle.std.specs.List.{list_any}
 use Rattle.std.proofs.lemmas.Bool.{cases_Bool, eq-eqb, false≢true, lt-ltb, ne_eqb, or_from, or_parts}
 use Rattle.std.proofs.lemmas.List.Folds.{list_any-append}
+use Rattle.std.proofs.Math.Bool.{or-false, or-true}
 use Rattle.listed.proofs.Options.{none_of}
 use Rattle.object_layout.specs.ChunkValue.{ChunkValue}
 use Rattle.object_layout.specs.Laws.{ApartTogether}
@@ -38,21 +39,13 @@ has_append ks ls n =
     ∙ (list_any-append (λ (k : ChunkValue). eqb k.number n) ks ls ∙ sym (ap₂ (λ x y. x || y) (found_any ks n) (found_any ls n)))
 
 pub has_one : (k : ChunkValue) (n : ℕ) → has_chunk (k ∷ []) n ≡ eqb k.number n
-has_one k n = found_any (k ∷ []) n ∙ or_none (eqb k.number n)
-  where
-    or_none : (b : Bool) → (b || false) ≡ b
-    or_none true = refl
-    or_none false = refl
+has_one k n = found_any (k ∷ []) n ∙ or-false (eqb k.number n)
 
 any_first : (k : ChunkValue) (ks : List ChunkValue) → has_chunk (k ∷ ks) k.number ≡ true
 any_first k ks = found_any (k ∷ ks) k.number ∙ ap (λ b. b || list_any (λ y. eqb y.number k.number) ks) (eq-eqb k.number k.number refl)
 
 any_rest : (k : ChunkValue) (ks : List ChunkValue) (n : ℕ) → has_chunk ks n ≡ true → has_chunk (k ∷ ks) n ≡ true
-any_rest k ks n e = found_any (k ∷ ks) n ∙ (ap (λ b. eqb k.number n || b) (sym (found_any ks n) ∙ e) ∙ or_true (eqb k.number n))
-  where
-    or_true : (b : Bool) → (b || true) ≡ true
-    or_true true = refl
-    or_true false = refl
+any_rest k ks n e = found_any (k ∷ ks) n ∙ (ap (λ b. eqb k.number n || b) (sym (found_any ks n) ∙ e) ∙ or-true (eqb k.number n))
 
 pub apart_together : ApartTogether
 apart_together [] ls A B off = B

@@ -1,6 +1,6 @@
 -- Addresses of names: which are the same, where one name's owner rests.
-use Rattle.std.proofs.Common.{◌≡◌, ◌==◌, Bool, true, false, Option, Some, None, refl, ap, ap₂, sym, subst, ◌∙◌, eq-eqb}
-use Rattle.std.proofs.lemmas.Bool.{eqb-true, and_parts, and_from, false≢true}
+use Rattle.std.proofs.Common.{◌≡◌, ◌==◌, true, Option, Some, None, refl, ap, ap₂, sym, subst, ◌∙◌, eq-eqb}
+use Rattle.std.proofs.lemmas.Bool.{eqb-true, and_parts, and_from}
 use Rattle.std.proofs.lemmas.Option.{same_Some}
 use Rattle.hh_model.specs.declared.data.Name.{Name}
 use Rattle.hh_model.specs.Effect.{same_name}
@@ -13,6 +13,7 @@ use Rattle.ledger_step_laws.specs.Accounts.{Rests, own}
 use Rattle.core_relation.specs.Memory.{Lies, Memory, object_name}
 use Rattle.core_relation.specs.Reads.{Reads}
 use Rattle.core_relation.specs.Stands.{Place, Stands}
+use Rattle.listed.proofs.Options.{same_truth}
 
 module _ (v : Memory) (l : Ledger) (W : Stands v l) where
   -- the second name's owner rests
@@ -51,14 +52,8 @@ module _ (v : Memory) (l : Ledger) (W : Stands v l) where
     is_name : n ≡ m → same_name (Some n) (Some m) ≡ true
     is_name e = and_from (n.task == m.task) (n.count == m.count) (eq-eqb n.task m.task (ap (λ (z : Name). z.task) e)) (eq-eqb n.count m.count (ap (λ (z : Name). z.count) e))
 
-    same_by : (c d : Bool) → (c ≡ true → d ≡ true) → (d ≡ true → c ≡ true) → c ≡ d
-    same_by true true f g = refl
-    same_by false false f g = refl
-    same_by true false f g = absurd (false≢true (f refl))
-    same_by false true f g = absurd (false≢true (g refl))
-
     same_some : same_address a b ≡ same_name (Some n) (Some m)
-    same_some = same_by (same_address a b) (same_name (Some n) (Some m)) (λ h. is_name (one_name (address_is h))) (λ h. is_address (one_place (name_is h)))
+    same_some = same_truth (same_address a b) (same_name (Some n) (Some m)) (λ h. is_name (one_name (address_is h))) (λ h. is_address (one_place (name_is h)))
 
   -- so the tests of references and of names are the same
   pub tests_same : (a b : Option Addr) (n m : Option Name) → Reads (Place v l) a n → Reads (Place v l) b m → ((z : Name) → m ≡ Some z → Rests l (own l z)) → same_reference a b ≡ same_name n m

@@ -3,6 +3,7 @@ use Rattle.std.proofs.Common.{◌≡◌, ℕ, suc, ◌+◌, true, Option, Some, 
 use Rattle.std.proofs.lemmas.Bool.{cases_eq, false≢true}
 use Rattle.listed.proofs.Members.{got_other, got_same}
 use Rattle.listed.specs.RoomyValue.{RoomyValue}
+use Rattle.listed.proofs.Options.{none_some}
 use Rattle.hh_model.specs.declared.data.Name.{Name}
 use Rattle.hh_model.specs.declared.data.Task.{Task}
 use Rattle.hh_model.specs.Step.{is_running, is_waiting}
@@ -50,12 +51,6 @@ use Rattle.others_objects.proofs.ObjectWritten.{resting_is}
 -- who waits doesn't run
 running_not : {A : Type 0} (o : Option Task) → is_waiting o ≡ true → is_running o ≡ true → A
 running_not o h r = absurd (false≢true (sym (waiting_stops o h) ∙ r))
-
-none_held : {A : Type 0} (k : ℕ) → ◌≡◌ {A = Option ℕ} None (Some k) → A
-none_held k e = absurd cc
-
-held_not : {A : Type 0} (o : Option ℕ) (k : ℕ) → o ≡ Some k → o ≡ None → A
-held_not o k a b = none_held k (sym b ∙ a)
 
 module _ (w : SharedValue) (k : ℕ) (p : Private) (I : IsSharedValue w) (F : Fits w k p) (shared : IsShared w p) (free : refused w (last_event k p) ≡ None) where
   abbrev pub t : ℕ
@@ -136,7 +131,7 @@ module _ (w : SharedValue) (k : ℕ) (p : Private) (I : IsSharedValue w) (F : Fi
 
       rests_then : (u : ℕ) → Rests L u → Rests l u
       rests_then u r = elim (cases_eq u t) [
-        | inl e ↦ held_not (heap_of M t).worker k (last.held_mid w k p I F shared free) (subst (λ z. (heap_of M z).worker ≡ None) e (ap (λ (z : Heap). z.worker) (sym (heap_then u)) ∙ r))
+        | inl e ↦ none_some (sym (subst (λ z. (heap_of M z).worker ≡ None) e (ap (λ (z : Heap). z.worker) (sym (heap_then u)) ∙ r)) ∙ last.held_mid w k p I F shared free)
         | inr ne ↦ ap (λ o. (or_fresh o).worker) (sym (last.heap_off w k p I F shared free u ne)) ∙ (ap (λ (z : Heap). z.worker) (sym (heap_then u)) ∙ r)
       ]
 

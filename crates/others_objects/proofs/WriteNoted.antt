@@ -1,8 +1,9 @@
 -- What the write of a reference notes, in the sets of the heaps.
 use Rattle.std.proofs.Common.{◌≡◌, ◌⊎◌, ℕ, ◌<◌, ◌==◌, ◌&&◌, ◌++◌, not, Bool, true, false, cond, Option, Some, None, List, [], ◌∷◌, length, slice_get, option_map, inl, inr, refl, ap, ap₂, sym, subst, ◌∙◌, eq-eqb, ne_eqb}
 use Rattle.std.specs.Prelude.{option_to_list}
-use Rattle.std.proofs.lemmas.Bool.{and_parts, cond-true, false≢true, both_ways}
+use Rattle.std.proofs.lemmas.Bool.{and_parts, cond-true, false≢true, both_ways, not-true}
 use Rattle.std.proofs.lemmas.Option.{same_Some}
+use Rattle.std.proofs.lemmas.List.{append-nil}
 use Rattle.listed.proofs.Members.{in_append_cases, in_append_left, in_append_right}
 use Rattle.listed.proofs.Places.{got_none}
 use Rattle.object_layout.specs.declared.word.Addr.{Addr}
@@ -155,16 +156,12 @@ module _ (tree : List Node) (pool : PoolValue) (sets sets' : List SetOf) (a : Ad
   abbrev pub IsNew : ℕ → Source → Type 0
   IsNew t s = (b : Addr) × (value ≡ Some b) × (owner_of pool b.chunk ≡ Some t) × (is_on_path tree u t ≡ true) × (u ≡ t → ⊥) × (s ≡ source)
 
-  not_true : (x : Bool) → not x ≡ true → x ≡ false
-  not_true true h = absurd (false≢true h)
-  not_true false h = refl
-
   new_test : (t : ℕ) (s : Source) (b : Addr) (d : ℕ) → value ≡ Some b → s ≡ source → owner_of pool b.chunk ≡ Some d → (x : Bool) → (is_on_path tree u d && not (u == d)) ≡ x → cond x (Some d) None ≡ Some t → IsNew t s
   new_test t s b d ev es q false y z = absurd cc
   new_test t s b d ev es q true y z =
       let same : d ≡ t = same_Some d t z in
       let parts = and_parts (is_on_path tree u d) (not (u == d)) y in
-      (b, ev, q ∙ z, ap (is_on_path tree u) (sym same) ∙ parts.0, (λ k. both_ways (u == d) (not_true (u == d) parts.1) (eq-eqb u d (k ∙ sym same))), es)
+      (b, ev, q ∙ z, ap (is_on_path tree u) (sym same) ∙ parts.0, (λ k. both_ways (u == d) (not-true (u == d) parts.1) (eq-eqb u d (k ∙ sym same))), es)
 
   new_at : (t : ℕ) (s : Source) (b : Addr) → value ≡ Some b → s ≡ source → (o : Option ℕ) → owner_of pool b.chunk ≡ o → cond (is_down tree (Some u) o) o None ≡ Some t → IsNew t s
   new_at t s b ev es None q z = absurd cc
@@ -200,13 +197,9 @@ module _ (tree : List Node) (pool : PoolValue) (sets sets' : List SetOf) (a : Ad
   pub kept_more : (t : ℕ) → (more : List Addr) × ((now t).kept ≡ (was t).kept ++ more)
   kept_more t = by (content_at sets t) refl
     where
-      none_more : (xs : List Addr) → xs ≡ xs ++ []
-      none_more [] = refl
-      none_more (x ∷ xs) = ap (λ ys. x ∷ ys) (none_more xs)
-
       one : (x : Bool) (c : Content) → (more : List Addr) × (cond x (c.kept ++ option_to_list overwritten) c.kept ≡ c.kept ++ more)
       one true c = (option_to_list overwritten, refl)
-      one false c = ([], none_more c.kept)
+      one false c = ([], sym (append-nil c.kept))
 
       by : (o : Option Content) → content_at sets t ≡ o → (more : List Addr) × ((now t).kept ≡ (was t).kept ++ more)
       by None e = ([], ap (λ (x : Noted). x.kept) (now_is t ∙ ap (λ z. noted_of (option_map (after t) z)) e) ∙ ap (λ (x : Noted). x.kept ++ []) (sym (was_is t ∙ ap noted_of e)))

@@ -1,5 +1,6 @@
 -- Entries of a part's fresh steps and a last one, as the calls have them.
-use Rattle.std.proofs.Common.{◌≡◌, ℕ, ℤ, suc, ◌+◌, ◌<◌, ◌≤◌, ◌^◌, ◌++◌, ◌||◌, ◌&&◌, arith, not, Bool, true, Option, Some, None, [], ◌∷◌, slice_get, slice_set, is_none, is_some, length, refl, ap, ap₂, sym, subst, ◌∙◌}
+use Rattle.std.proofs.Common.{◌≡◌, ℕ, ℤ, suc, ◌+◌, ◌<◌, ◌≤◌, ◌^◌, ◌++◌, ◌||◌, ◌&&◌, arith, not, true, Option, Some, None, [], ◌∷◌, slice_get, slice_set, is_none, is_some, length, refl, ap, ap₂, sym, subst, ◌∙◌}
+use Rattle.std.proofs.lemmas.Bool.{or_left}
 use Rattle.listed.specs.RoomyValue.{RoomyValue}
 use Rattle.hh_lang.specs.declared.instr.Instr.{Instr}
 use Rattle.hh_lang.specs.declared.instr.Instr.TheVariants.{Ret}
@@ -172,9 +173,6 @@ module _ (w : SharedValue) (k : ℕ) (p : Private) (I : IsSharedValue w) (F : Fi
   other_beyond line T = beyond_line T.task T.line T.is T.next T.says
 
   -- the last return of a task that another one forked
-  or_left : (a b : Bool) → a ≡ true → (a || b) ≡ true
-  or_left a b h = ap (λ c. c || b) h
-
   pub child_beyond : (line : ℕ) → Tells w p Returns line → (p.task ≡ 0 → ⊥) → is_beyond w.program (machine_after w p) p.task ≡ true
   child_beyond line T ne =
       beyond_line T.task T.line T.is T.next

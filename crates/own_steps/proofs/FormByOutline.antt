@@ -1,13 +1,11 @@
 -- What is known of a heap's chunks is told by its outline, so it stays known when private steps are taken.
-use Rattle.std.proofs.Common.{◌≡◌, ℕ, zero, suc, pos, ◌+◌, ◌-◌, ◌*◌, ◌<◌, ◌≤◌, arith, Bool, true, false, cond, Option, Some, None, List, [], ◌∷◌, length, map, replicate, slice_get, All, inl, inr, refl, ap, sym, subst, ◌∙◌}
+use Rattle.std.proofs.Common.{◌≡◌, ℕ, zero, suc, pos, ◌+◌, ◌-◌, ◌*◌, ◌<◌, ◌≤◌, arith, false, Option, Some, None, List, [], ◌∷◌, length, map, replicate, slice_get, All, inl, inr, refl, ap, sym, subst, ◌∙◌}
 use Rattle.std.proofs.lemmas.List.{length-map, length-replicate}
 use Rattle.std.proofs.lemmas.List.Elements.{All-cons, All-head, All-map, All-nil, All-tail, All-weaker}
-use Rattle.hh_lang.specs.declared.program.Line.{Line}
 use Rattle.hh_lang.specs.Form.{ProgramText}
 use Rattle.hh_model.specs.declared.data.State.{State}
-use Rattle.hh_model.specs.declared.data.Task.{Task}
 use Rattle.hh_model.specs.Effect.{row_of}
-use Rattle.hh_model.specs.Step.{asked, asked_by, asked_line, fetched, is_running}
+use Rattle.hh_model.specs.Step.{asked}
 use Rattle.object_layout.specs.Cell.{Born, Cell, Hole, Mark, Moved, moved_to, size_of}
 use Rattle.object_layout.specs.Chunks.{chunk_at}
 use Rattle.object_layout.specs.ChunkValue.{ChunkValue}
@@ -23,6 +21,7 @@ use Rattle.task_machine.proofs.Outlines.{outline_at, outline_size, outline_words
 use Rattle.task_machine.proofs.Accounted.{outline_apart, outline_current, outline_kept, words_by}
 use Rattle.shared_value.specs.Objects.{chunk_of}
 use Rattle.shared_value.proofs.PlacedForm.{Formed, IsFormed, formed_placed}
+use Rattle.journal_laws.proofs.Asked.{asked_at_line}
 
 -- ---- OBJECTS
 
@@ -146,19 +145,7 @@ formed_from h S F =
 
 -- an object has at least two words
 pub asked_two : (p : ProgramText) (m : State) (t w : ℕ) → asked p m t ≡ Some w → 2 ≤ w
-asked_two p m t w e = by_task (slice_get m.tasks t) e
-  where
-    by_line : (x : Task) (o : Option Line) → asked_line m.field_limit x.top o ≡ Some w → 2 ≤ w
-    by_line x None h = absurd cc
-    by_line x (Some line) h = words_by m.field_limit x.top line.instr w h
-
-    by_run : (b : Bool) (o : Option ℕ) → cond b o None ≡ Some w → o ≡ Some w
-    by_run true o h = h
-    by_run false o h = absurd cc
-
-    by_task : (o : Option Task) → asked_by p m o ≡ Some w → 2 ≤ w
-    by_task None h = absurd cc
-    by_task (Some x) h = by_line x (fetched p x.top) (by_run (is_running (Some x)) (asked_line m.field_limit x.top (fetched p x.top)) h)
+asked_two p m t w e = asked_at_line p m t w (λ x line il h. words_by m.field_limit x.top line.instr w h) e
 
 -- the outline of the task's next object, of so many words
 abbrev next_blank : State → ℕ → ℕ → Cell

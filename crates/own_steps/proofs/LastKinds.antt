@@ -1,5 +1,5 @@
 -- Of which kind a last step is, by what it made of the machine.
-use Rattle.std.proofs.Common.{◌≡◌, ◌⊎◌, ℕ, ◌+◌, true, false, Some, None, slice_get, inl, inr, refl, ap, sym, ◌∙◌}
+use Rattle.std.proofs.Common.{◌≡◌, ◌⊎◌, ℕ, ◌+◌, true, false, Some, None, slice_get, inl, inr, ap, sym, ◌∙◌}
 use Rattle.std.proofs.lemmas.Bool.{both_ways, false≢true}
 use Rattle.std.proofs.lemmas.Option.{same_Some}
 use Rattle.listed.proofs.Options.{none_some}
@@ -8,10 +8,9 @@ use Rattle.hh_lang.specs.declared.program.Line.{Line}
 use Rattle.hh_lang.specs.Form.{ProgramText}
 use Rattle.hh_model.specs.declared.data.End.TheVariants.{Done}
 use Rattle.hh_model.specs.declared.data.State.{State}
-use Rattle.hh_model.specs.declared.data.Status.{Status}
-use Rattle.hh_model.specs.declared.data.Status.TheVariants.{Running, Waiting, Ended, Joined}
 use Rattle.hh_model.specs.declared.data.Task.{Task}
 use Rattle.hh_model.specs.Step.{is_joined, is_over, runs}
+use Rattle.hh_model.proofs.Runs.{running_tells}
 use Rattle.run_ledger.specs.declared.data.Ledger.{Ledger}
 use Rattle.run_ledger.specs.Steps.{is_private, touched}
 use Rattle.ledger_step_laws.specs.Last.{EndsDone, EndsLast, GoesOn, IsOfKind, LastKind, Prints}
@@ -20,28 +19,23 @@ use Rattle.ledger_step_laws.specs.Last.{Private, Reading, Writing, Printing, For
 pub forks_not : {A : Type 0} {g h a : ℕ} → Par g h ≡ Out a → A
 forks_not e = absurd cc
 
+-- a task that hasn't joined isn't one of those that a last end joins
+pub joined_not : {A : Type 0} (m l' : Ledger) (t : ℕ) (x y : Task) → slice_get l'.machine.tasks t ≡ Some y → is_over y.status ≡ false → EndsLast m l' t x → A
+joined_not m l' t x y is live j = by j.results
+  where
+    off : {A : Type 0} (u : ℕ) → t ≡ u → is_joined (slice_get l'.machine.tasks u) ≡ true → A
+    off u e h = absurd (both_ways (is_joined (slice_get l'.machine.tasks u)) (ap (λ z. is_joined (slice_get l'.machine.tasks z)) (sym e) ∙ (ap is_joined is ∙ live)) h)
+
+    by : {A : Type 0} {B C D E : Type 0} → ((t ≡ j.left) × B × C) ⊎ ((t ≡ j.left + 1) × D × E) → A
+    by (inl h) = off j.left h.0 j.joins.left
+    by (inr h) = off (j.left + 1) h.0 j.joins.right
+
 module _ (p : ProgramText) (m l' : Ledger) (t : ℕ) (x : Task) (line : Line) (shared : is_private p m.machine t ≡ false) where
   abbrev Last : LastKind → Type 0
   Last kind = IsOfKind p m l' t x line kind
 
   -- the task runs after it, and so does the machine: an output
   module _ (a : ℕ) (il : line.instr ≡ Out a) (y : Task) (is : slice_get l'.machine.tasks t ≡ Some y) (run : runs y.status ≡ true) (goes : l'.machine.end ≡ None) where
-    joined_not : {A : Type 0} → EndsLast m l' t x → A
-    joined_not j = by j.results
-      where
-        live : (s : Status) → runs s ≡ true → is_over s ≡ false
-        live Running h = refl
-        live Waiting h = refl
-        live (Ended k n) h = refl
-        live Joined h = absurd (false≢true h)
-
-        off : {A : Type 0} (u : ℕ) → t ≡ u → is_joined (slice_get l'.machine.tasks u) ≡ true → A
-        off u e h = absurd (both_ways (is_joined (slice_get l'.machine.tasks u)) (ap (λ z. is_joined (slice_get l'.machine.tasks z)) (sym e) ∙ (ap is_joined is ∙ live y.status run)) h)
-
-        by : {A : Type 0} {B C D E : Type 0} → ((t ≡ j.left) × B × C) ⊎ ((t ≡ j.left + 1) × D × E) → A
-        by (inl h) = off j.left h.0 j.joins.left
-        by (inr h) = off (j.left + 1) h.0 j.joins.right
-
     pub prints : (kind : LastKind) → Last kind → Prints m l' t x line
     prints Private private = absurd (both_ways (is_private p m.machine t) shared private)
     prints Reading r = none_some (sym (ap (touched x.top) il) ∙ r.touches)
@@ -51,7 +45,7 @@ module _ (p : ProgramText) (m l' : Ledger) (t : ℕ) (x : Task) (line : Line) (s
     prints Ending e =
         let same = same_Some _ y (sym e.ends.ended ∙ is) in
         absurd (false≢true (ap (λ (z : Task). runs z.status) same ∙ run))
-    prints Joining j = joined_not j
+    prints Joining j = joined_not m l' t x y is (running_tells y.status run).0 j
     prints Finishing d = none_some (sym goes ∙ d.ended)
     prints Halting h = none_some (sym goes ∙ ap (λ (z : State). z.end) h.machine)
 

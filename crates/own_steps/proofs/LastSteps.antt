@@ -121,3 +121,8 @@ alone_answer w k p I F shared =
     ∙ (refused_is w I (record { worker = k; kind = Ran p.task (suc p.fresh) })
     ∙ else_same (first_cause w.end w.steps w.settings k false) (kind_refusal w.program w.settings (accounts w) k (Ran p.task (suc p.fresh))) (refused_if (is_some p.begun) Collecting None)
     (λ h. last_kind w k p I F shared (sym (end_now w I) ∙ none_of w.end (end_by (is_some w.end) _ _ _ _ _ h))))
+
+-- behind the causes that come first nothing refuses it
+pub alone_free : (w : SharedValue) (k : ℕ) (p : Private) → IsSharedValue w → Fits w k p → IsShared w p → p.begun ≡ None → first_cause w.end w.steps w.settings k false ≡ None → refused w (alone_event k p) ≡ None
+alone_free w k p I F shared idle first =
+    alone_answer w k p I F shared ∙ (ap (λ o. or_else o (refused_if (is_some p.begun) Collecting None)) first ∙ ap (λ o. refused_if (is_some o) Collecting None) idle)

@@ -11,6 +11,7 @@ use Rattle.run_ledger.specs.declared.data.Ledger.{Ledger}
 use Rattle.run_ledger.specs.Heaps.{heap_of, or_fresh, lacks_room}
 use Rattle.run_ledger.specs.Steps.{allocated_by, is_due, is_in_need, is_private, on_asked, task_step, task_steps}
 use Rattle.run_ledger.proofs.Machine.{task_step_machine}
+use Rattle.run_ledger.proofs.Steps.{steps_last}
 use Rattle.ledger_step_laws.specs.Accounts.{ArePrivate}
 use Rattle.ledger_step_laws.proofs.Ahead.{heap_then, with_at}
 use Rattle.task_machine.specs.declared.part.Private.{Private}
@@ -22,11 +23,6 @@ use Rattle.task_machine.specs.Run.{Ran, Runs}
 use Rattle.shared_value.proofs.StepAccounts.{After, after_none, after_both, after_one, step_is}
 
 module _ (p : ProgramText) (s : SettingsValue) (t : ℕ) where
-  -- the last of the steps
-  steps_last : (i : ℕ) (l : Ledger) → task_steps p l t (suc i) ≡ task_step p (task_steps p l t i) t
-  steps_last zero l = refl
-  steps_last (suc i) l = steps_last i (task_step p l t)
-
   pub private_more : (n k : ℕ) (l : Ledger) → ArePrivate p s l t n → ArePrivate p s (task_steps p l t n) t k → ArePrivate p s l t (n + k)
   private_more zero k l a b = subst (ArePrivate p s l t) (let e : k ≡ 0 + k = omega arith in e) b
   private_more (suc n) k l a b = subst (ArePrivate p s l t) (let e : suc (n + k) ≡ suc n + k = omega arith in e) (a.0, a.1, a.2, private_more n k (task_step p l t) a.3 b)
@@ -70,9 +66,9 @@ module _ (p : ProgramText) (s : SettingsValue) (t : ℕ) where
         let A = after_one p k t F.after.task goes F.after.is runs private in
         let H = account_step k F.after.task (account_after p l.machine t h i) goes F.after.is runs F.heap private in
         record {
-          after = subst (λ (z : Ledger). After l z t x) (sym (steps_last i l)) (after_both l k (task_step p k t) t x F.after A);
-          machine = ap (λ (z : Ledger). z.machine) (steps_last i l) ∙ (task_step_machine p k t ∙ ap (λ m. step p m t) F.machine);
-          heap = ap (λ (z : Ledger). slice_get z.heaps t) (steps_last i l) ∙ (H ∙ ap (λ (m : State). Some (account_by m t (account_after p l.machine t h i) (asked p m t))) F.machine);
+          after = subst (λ (z : Ledger). After l z t x) (sym (steps_last p l t i)) (after_both l k (task_step p k t) t x F.after A);
+          machine = ap (λ (z : Ledger). z.machine) (steps_last p l t i) ∙ (task_step_machine p k t ∙ ap (λ m. step p m t) F.machine);
+          heap = ap (λ (z : Ledger). slice_get z.heaps t) (steps_last p l t i) ∙ (H ∙ ap (λ (m : State). Some (account_by m t (account_after p l.machine t h i) (asked p m t))) F.machine);
         }
 
 -- WHAT A RUN OF A PART ENSURES, in accounts whose machine the part fitted: the steps are private there, neither due nor

@@ -2,6 +2,7 @@
 use Rattle.std.proofs.Common.{◌≡◌, ℕ, ℤ, pos, ◌+◌, ◌==◌, ◌||◌, not, eq-eqb, Bool, true, false, cond, Option, Some, None, List, [], ◌∷◌, ◌++◌, length, replicate, slice_get, slice_set, unwrap_or, is_some, nat_lt, inl, refl, ap, ap₂, sym, subst, ◌∙◌}
 use Rattle.std.specs.Option.{option_flatten}
 use Rattle.std.proofs.lemmas.Bool.{both_ways, cond-false, cond-true}
+use Rattle.std.proofs.Math.Bool.{or-true}
 use Rattle.listed.proofs.Members.{contains_from_in}
 use Rattle.hh_lang.specs.declared.instr.Instr.{Instr}
 use Rattle.hh_lang.specs.declared.instr.Instr.TheVariants.{Set, Mov, Movr, Nil as NilOf, Calc, Same, Jmp, Jz, Newm, Pack, Getr, Geti, Putr, Puti, Cntr, Cnti, Freeze, Cas, Call, Par, Ret, Out}
@@ -71,12 +72,8 @@ module _ (p : ProgramText) (part : Private) (m : State) (above : Places) (F : Fi
   trap : (i : Instr) (e : line.instr ≡ i) (kind : Trap) → seen i e ≡ TrapsBy kind → step p m t ≡ ended_by m (Trapped kind t line.number)
   trap i e kind s = step_by p part m above F line at i e (TrapsBy kind) s
 
-  or_right : (a : Bool) → (a || true) ≡ true
-  or_right true = refl
-  or_right false = refl
-
   foreign : (i : Instr) → owns m.tasks t (touched F.task.top i) ≡ false → Says i Beyond
-  foreign i h = ap (λ b. is_joint F.task i || not b) h ∙ or_right (is_joint F.task i)
+  foreign i h = ap (λ b. is_joint F.task i || not b) h ∙ or-true (is_joint F.task i)
 
   -- ---- ON THE OBJECT OF A REGISTER
   module _ (i : Instr) (e : line.instr ≡ i) (o : ℕ) (go : Cell → Ending) (tie : touched F.task.top i ≡ ref_in F.task.top o)

@@ -1,5 +1,5 @@
 -- Of which kind a last step is that works on an object of another task, by what it made of the machine.
-use Rattle.std.proofs.Common.{◌≡◌, ◌⊎◌, ℕ, ◌+◌, true, false, Option, Some, None, length, slice_get, inl, inr, refl, ap, sym, subst, ◌∙◌}
+use Rattle.std.proofs.Common.{◌≡◌, ◌⊎◌, ℕ, true, false, Option, Some, None, length, slice_get, inl, inr, ap, sym, subst, ◌∙◌}
 use Rattle.std.specs.Option.{option_flatten}
 use Rattle.std.proofs.lemmas.Bool.{both_ways, false≢true}
 use Rattle.std.proofs.lemmas.Option.{same_Some}
@@ -14,17 +14,17 @@ use Rattle.hh_model.specs.declared.data.Frame.{Frame as ModelFrame}
 use Rattle.hh_model.specs.declared.data.Name.{Name}
 use Rattle.hh_model.specs.declared.data.Object.{Object}
 use Rattle.hh_model.specs.declared.data.State.{State}
-use Rattle.hh_model.specs.declared.data.Status.{Status}
-use Rattle.hh_model.specs.declared.data.Status.TheVariants.{Running, Waiting, Ended, Joined}
 use Rattle.hh_model.specs.declared.data.Task.{Task}
 use Rattle.hh_model.specs.Effect.{int_in, object_at, place_in, ref_in, same_name}
-use Rattle.hh_model.specs.Step.{ended_by, is_joined, is_over, runs}
+use Rattle.hh_model.specs.Step.{ended_by, runs}
+use Rattle.hh_model.proofs.Runs.{running_tells}
 use Rattle.run_ledger.specs.declared.data.Ledger.{Ledger}
 use Rattle.run_ledger.specs.Heaps.{let_go}
 use Rattle.run_ledger.specs.Steps.{is_private, touched}
 use Rattle.run_ledger.proofs.Machine.{heap_machine}
-use Rattle.ledger_step_laws.specs.Last.{EndsLast, GoesOn, Halts, IsOfKind, JustReads, LastKind, ReadsOther, WritesOther, Wrote}
+use Rattle.ledger_step_laws.specs.Last.{GoesOn, Halts, IsOfKind, JustReads, LastKind, ReadsOther, WritesOther, Wrote}
 use Rattle.ledger_step_laws.specs.Last.{Private, Reading, Writing, Printing, Forking, Ending, Joining, Finishing, Halting}
+use Rattle.own_steps.proofs.LastKinds.{joined_not}
 
 -- what an instruction reads and writes nothing of, it doesn't write
 reads_or_writes : {A : Type 0} (x : Task) (i : Instr) (y y' y'' : Object) (f f' : ModelFrame) → JustReads x i y f → Wrote x i y' y'' f' → y ≡ y' → A
@@ -44,22 +44,6 @@ module _ (p : ProgramText) (m l' : Ledger) (t : ℕ) (x : Task) (line : Line) (s
 
   -- the task and the machine go on after it
   module _ (n : Name) (touches : touched x.top line.instr ≡ Some n) (z : Task) (is : slice_get l'.machine.tasks t ≡ Some z) (run : runs z.status ≡ true) (goes : l'.machine.end ≡ None) where
-    joined_not : {A : Type 0} → EndsLast m l' t x → A
-    joined_not j = by j.results
-      where
-        live : (s : Status) → runs s ≡ true → is_over s ≡ false
-        live Running h = refl
-        live Waiting h = refl
-        live (Ended k r) h = refl
-        live Joined h = absurd (false≢true h)
-
-        off : {A : Type 0} (u : ℕ) → t ≡ u → is_joined (slice_get l'.machine.tasks u) ≡ true → A
-        off u e h = absurd (both_ways (is_joined (slice_get l'.machine.tasks u)) (ap (λ j. is_joined (slice_get l'.machine.tasks j)) (sym e) ∙ (ap is_joined is ∙ live z.status run)) h)
-
-        by : {A : Type 0} {B C D E : Type 0} → ((t ≡ j.left) × B × C) ⊎ ((t ≡ j.left + 1) × D × E) → A
-        by (inl h) = off j.left h.0 j.joins.left
-        by (inr h) = off (j.left + 1) h.0 j.joins.right
-
     works : (of : LastKind) → Last of → ReadsOther m l' t x line ⊎ WritesOther m l' t x line
     works Private private = absurd (both_ways (is_private p m.machine t) shared private)
     works Reading r = inl r
@@ -67,7 +51,7 @@ module _ (p : ProgramText) (m l' : Ledger) (t : ℕ) (x : Task) (line : Line) (s
     works Printing q = none_some (ap (touched x.top) (sym q.by) ∙ touches)
     works Forking f = none_some (ap (touched x.top) (sym f.by) ∙ touches)
     works Ending e = absurd (false≢true (ap (λ (y : Task). runs y.status) (same_Some _ z (sym e.ends.ended ∙ is)) ∙ run))
-    works Joining j = joined_not j
+    works Joining j = joined_not m l' t x z is (running_tells z.status run).0 j
     works Finishing d = none_some (sym goes ∙ d.ended)
     works Halting h = none_some (sym goes ∙ ap (λ (s : State). s.end) h.machine)
 

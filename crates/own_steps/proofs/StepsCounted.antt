@@ -12,9 +12,10 @@ use Rattle.run_ledger.specs.Steps.{task_steps}
 use Rattle.run_ledger.proofs.Sound.{SoundLedger}
 use Rattle.journal_laws.proofs.Since.{limit_small}
 use Rattle.run_ledger.proofs.Machine.{heap_machine, task_steps_more}
+use Rattle.run_ledger.proofs.Steps.{task_steps_sound}
 use Rattle.alloc_path.specs.LeafHeapValue.{LeafHeapValue as HeapOfCode}
 use Rattle.ledger_step_laws.specs.Accounts.{ArePrivate, StepsAlone, own, rested}
-use Rattle.ledger_step_laws.proofs.Ahead.{heap_then, rested_alone, steps_alone_all, steps_sound, with_at}
+use Rattle.ledger_step_laws.proofs.Ahead.{heap_then, rested_alone, steps_alone_all, with_at}
 use Rattle.ledger_step_laws.proofs.Rested.{rested_sound, rested_view}
 use Rattle.core_relation.specs.Memory.{Memory}
 use Rattle.task_machine.specs.declared.part.Private.{Private}
@@ -187,7 +188,7 @@ module _ (w : SharedValue) (k : ℕ) (p q : Private) (n : ℕ) (I : IsSharedValu
   account_few = subst (λ (h : Account). h.since < 2 ^ 64) (sym is_rested) later_few
 
   sound_at : SoundLedger N
-  sound_at = (steps_sound w.program w.settings t (p.fresh + n) l ((link.knows w k p I F on).sound, calm)).0
+  sound_at = (task_steps_sound w.program (p.fresh + n) l t ((link.knows w k p I F on).sound, calm)).0
 
   pub sound_then : SoundLedger L'
   sound_then = rested_sound N t sound_at

@@ -5,6 +5,7 @@ use Rattle.std.proofs.lemmas.Option.{same_Some}
 use Rattle.std.proofs.Math.Path.{fun_ext}
 use Rattle.listed.proofs.Members.{got_within}
 use Rattle.listed.proofs.Options.{some_none}
+use Rattle.listed.proofs.Places.{got_some}
 use Rattle.hh_lang.specs.Form.{ProgramText}
 use Rattle.hh_model.specs.declared.data.State.{State}
 use Rattle.hh_model.specs.declared.data.Task.{Task}
@@ -20,11 +21,6 @@ pub record AreDeep (tasks : List Task) : Type 0 where
   pub root : (u : ℕ) (x : Task) → slice_get tasks u ≡ Some x → x.parent ≡ None → x.depth ≡ 0
   pub child : (u q : ℕ) (x y : Task) → slice_get tasks u ≡ Some x → x.parent ≡ Some q → slice_get tasks q ≡ Some y → x.depth ≡ y.depth + 1
 
-got_task : (xs : List Task) (j : ℕ) → j < length xs → (y : Task) × (slice_get xs j ≡ Some y)
-got_task [] j lt = absurd (omega (arith, lt))
-got_task (z ∷ zs) zero lt = (z, refl)
-got_task (z ∷ zs) (suc j) lt = got_task zs j (omega (arith, lt))
-
 module _ (p : ProgramText) (m : State) (t : ℕ) (K : Kept m) (D : AreDeep m.tasks) where
   abbrev m' : State
   m' = step p m t
@@ -35,7 +31,7 @@ module _ (p : ProgramText) (m : State) (t : ℕ) (K : Kept m) (D : AreDeep m.tas
   -- a task that was there before
   old : (u : ℕ) (x : Task) → slice_get m'.tasks u ≡ Some x → u < length m.tasks → (z : Task) × (slice_get m.tasks u ≡ Some z) × (x.parent ≡ z.parent) × (x.depth ≡ z.depth)
   old u x is lt =
-      let z = got_task m.tasks u lt in
+      let z = got_some m.tasks u lt in
       let y = stays u z.0 z.1 in
       let same : x ≡ y.0 = same_Some x y.0 (sym is ∙ y.1) in
       (z.0, z.1, ap (λ (k : Task). k.parent) same ∙ y.2, ap (λ (k : Task). k.depth) same ∙ y.3)
@@ -123,7 +119,7 @@ module _ (tasks : List Task) (low : AreLow (parents tasks)) (D : AreDeep tasks) 
           let par : parents tasks u ≡ Some q = ap parent_of is ∙ e in
           let lt : q < u = low u q par in
           let within : u < length tasks = got_within tasks u x is in
-          let y = got_task tasks q (omega (arith, lt, within)) in
+          let y = got_some tasks q (omega (arith, lt, within)) in
           let up : x.depth ≡ y.0.depth + 1 = D.child u q x y.0 is e y.1 in
           let more_up : suc (depth_by (parents tasks) more q) ≡ suc y.0.depth = ap suc (again q y.0 (omega (arith, lt, le)) y.1) in
           let one : suc y.0.depth ≡ y.0.depth + 1 = omega arith in

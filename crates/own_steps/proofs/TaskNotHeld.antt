@@ -1,6 +1,7 @@
 -- An entry for a task that its worker doesn't hold is refused.
-use Rattle.std.proofs.Common.{◌≡◌, ◌≢◌, ℕ, ◌⊎◌, ◌&&◌, Bool, true, false, Option, Some, None, slice_get, refl, ap, sym, ◌∙◌, inl, inr}
+use Rattle.std.proofs.Common.{◌≡◌, ◌≢◌, ℕ, ◌⊎◌, Bool, true, false, Option, Some, None, slice_get, refl, ap, sym, ◌∙◌, inl, inr}
 use Rattle.std.proofs.lemmas.Option.{same_Some}
+use Rattle.std.proofs.lemmas.Bool.{and_right}
 use Rattle.hh_model.specs.Step.{is_running}
 use Rattle.run_trace.specs.declared.entry.Kind.{Kind}
 use Rattle.run_trace.specs.declared.entry.Kind.TheVariants.{Took, Ran, Chunk, Begin, End, PutOff, Mark, More, Sweep, Fuel}
@@ -17,17 +18,13 @@ use Rattle.shared_value.specs.Causes.{first_cause, or_else, task_held}
 use Rattle.shared_value.specs.Entered.{refused}
 use Rattle.shared_value.proofs.CausesTold.{refused_is}
 
-and_false : (a b : Bool) → b ≡ false → (a && b) ≡ false
-and_false true b h = h
-and_false false b h = refl
-
 pub unless_false : (b : Bool) (c : Refused) (rest : Option Refused) → b ≡ false → refused_unless b c rest ≡ Some c
 unless_false false c rest e = refl
 unless_false true c rest e = absurd cc
 
 module _ (w : SharedValue) (I : IsSharedValue w) (k t : ℕ) where
   not_out : (heap_of (accounts w) t).worker ≢ Some k → is_out (accounts w) k t ≡ false
-  not_out apart = and_false (is_running (slice_get (accounts w).machine.tasks t)) (option_is (heap_of (accounts w) t).worker k) (by (option_is (heap_of (accounts w) t).worker k) refl)
+  not_out apart = and_right (is_running (slice_get (accounts w).machine.tasks t)) (option_is (heap_of (accounts w) t).worker k) (by (option_is (heap_of (accounts w) t).worker k) refl)
     where
       by : (b : Bool) → option_is (heap_of (accounts w) t).worker k ≡ b → b ≡ false
       by false e = refl

@@ -1,23 +1,20 @@
 -- The words that a heap counts stay few as private steps are taken: 64 bits count them.
-use Rattle.std.proofs.Common.{◌≡◌, ℕ, zero, suc, ◌+◌, ◌-◌, ◌<◌, ◌≤◌, ◌^◌, ◌++◌, arith, Bool, true, false, cond, Option, Some, None, [], ◌∷◌, length, slice_get, nat_le, refl, subst}
+use Rattle.std.proofs.Common.{◌≡◌, ℕ, zero, suc, ◌+◌, ◌-◌, ◌<◌, ◌≤◌, ◌^◌, arith, false, Option, Some, None, length, slice_get, nat_le, refl, subst}
 use Rattle.std.proofs.lemmas.Bool.{leb-false}
 use Rattle.std.proofs.lemmas.Option.{same_Some}
 use Rattle.hh_lang.specs.declared.instr.Instr.{Instr}
 use Rattle.hh_lang.specs.declared.instr.Instr.TheVariants.{Newm, Pack}
-use Rattle.hh_lang.specs.declared.program.Line.{Line}
 use Rattle.hh_lang.specs.Form.{ProgramText}
 use Rattle.hh_model.specs.declared.data.Frame.{Frame}
-use Rattle.hh_model.specs.declared.data.Name.{Name}
 use Rattle.hh_model.specs.declared.data.State.{State}
-use Rattle.hh_model.specs.declared.data.Task.{Task}
 use Rattle.hh_model.specs.Effect.{int_in, row_of}
 use Rattle.hh_model.specs.Names.{words_asked}
-use Rattle.hh_model.specs.Step.{asked, asked_by, asked_line, fetched, is_running}
+use Rattle.hh_model.specs.Step.{asked}
 use Rattle.run_ledger.specs.declared.data.Heap.{Heap}
-use Rattle.run_ledger.specs.Heaps.{is_small, placed, put_last}
 use Rattle.run_ledger.specs.Space.{AsksAtMost}
 use Rattle.run_ledger.specs.Steps.{on_asked}
-use Rattle.journal_laws.proofs.Asked.{counts_few}
+use Rattle.journal_laws.proofs.Asked.{counts_few, asked_at_line}
+use Rattle.journal_laws.proofs.Since.{placed_since}
 use Rattle.task_machine.specs.Accounts.{account_after, account_by}
 use Rattle.task_machine.specs.Outline.{steps}
 use Rattle.shared_value.proofs.Packs.{IsFew, PacksFew}
@@ -28,26 +25,8 @@ instr_few limit f (Pack d r i) w h e = let z : 2 + r + i ≡ w = same_Some (2 + 
 instr_few limit f _ w h e = absurd cc
 
 pub asks_few : (p : ProgramText) → PacksFew p → (limit : ℕ) → AsksAtMost p limit (limit + 34)
-asks_few p few limit m t w q e = by_task (slice_get m.tasks t) e
-  where
-    by_line : (x : Task) (o : Option Line) → fetched p x.top ≡ o → asked_line m.field_limit x.top o ≡ Some w → w ≤ limit + 34
-    by_line x None il h = absurd cc
-    by_line x (Some line) il h = subst (λ z. w ≤ z + 34) q (instr_few m.field_limit x.top line.instr w (few x.top.function x.top.next line il) h)
-
-    by_run : (b : Bool) (o : Option ℕ) → cond b o None ≡ Some w → o ≡ Some w
-    by_run true o h = h
-    by_run false o h = absurd cc
-
-    by_task : (o : Option Task) → asked_by p m o ≡ Some w → w ≤ limit + 34
-    by_task None h = absurd cc
-    by_task (Some x) h = by_line x (fetched p x.top) refl (by_run (is_running (Some x)) (asked_line m.field_limit x.top (fetched p x.top)) h)
-
-placed_since : (h : Heap) (n : Name) (w : ℕ) → (placed h n w).since ≡ h.since + w
-placed_since h n w = by (is_small w)
-  where
-    by : (b : Bool) → (cond b (record h { chunks = put_last h.chunks n; room = h.room - w; since = h.since + w }) (record h { large = h.large ++ n ∷ []; reserved = 0; since = h.since + w })).since ≡ h.since + w
-    by true = refl
-    by false = refl
+asks_few p few limit m t w q e =
+    asked_at_line p m t w (λ x line il h. subst (λ z. w ≤ z + 34) q (instr_few m.field_limit x.top line.instr w (few x.top.function x.top.next line il) h)) e
 
 -- a step that was not due when its turn came places few words on top of few
 since_by : (m : State) (t : ℕ) (a : Heap) (o : Option ℕ) (leaf most : ℕ) → a.since < 2 ^ 64 → on_asked o (λ w. nat_le leaf a.since) ≡ false → ((w : ℕ) → o ≡ Some w → w ≤ most) → leaf + most < 2 ^ 64 → (account_by m t a o).since < 2 ^ 64

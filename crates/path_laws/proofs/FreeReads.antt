@@ -4,6 +4,7 @@ use Rattle.std.specs.Option.{option_flatten}
 use Rattle.std.proofs.lemmas.Bool.{cases_eq, both_ways}
 use Rattle.std.proofs.lemmas.Option.{same_Some}
 use Rattle.listed.proofs.Members.{In, in_from_contains, contains_from_in}
+use Rattle.listed.proofs.Options.{none_some}
 use Rattle.hh_lang.specs.Form.{ProgramText}
 use Rattle.hh_model.specs.declared.data.Name.{Name}
 use Rattle.hh_model.specs.declared.data.Object.{Object}
@@ -141,9 +142,6 @@ module _ (p : ProgramText) (m : State) (t : ℕ) (K : Kept m) where
 pub stops_name_owners : StopsNameOwners
 stops_name_owners p limit ts t reader owner none h =
     elim (named_stop p (run p limit ts) t (run_kept p (start p limit) ts (start_kept p limit)) reader owner h) [
-      | inl was ↦ absurd (no_end (sym none ∙ was))
+      | inl was ↦ none_some (sym none ∙ was)
       | inr stop ↦ stop
     ]
-  where
-    no_end : None ≡ Some (Entangled reader owner) → ⊥
-    no_end e = cc

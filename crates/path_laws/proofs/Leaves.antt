@@ -6,8 +6,7 @@ use Rattle.listed.proofs.Members.{got_same, got_other, got_past, got_within, sam
 use Rattle.hh_lang.specs.Form.{ProgramText}
 use Rattle.hh_model.specs.declared.data.Name.{Name}
 use Rattle.hh_model.specs.declared.data.Object.{Object}
-use Rattle.hh_model.specs.declared.data.Status.{Status}
-use Rattle.hh_model.specs.declared.data.Status.TheVariants.{Running, Waiting, Ended, Joined}
+use Rattle.hh_model.specs.declared.data.Status.TheVariants.{Waiting}
 use Rattle.hh_model.specs.declared.data.Task.{Task}
 use Rattle.hh_model.specs.declared.data.End.{End}
 use Rattle.hh_model.specs.declared.data.State.{State}
@@ -16,7 +15,7 @@ use Rattle.hh_model.specs.Step.{can_step, child, ended_task, goes_on, is_joined,
 use Rattle.hh_model.specs.Tree.{Kept, waiting, joins_in}
 use Rattle.path_laws.specs.Disentangled.{Disentangled}
 use Rattle.path_laws.specs.Leaves.{LeavesOwner, StepsLeaveOwners, StepsWaitAlone, WaitsAlone}
-use Rattle.hh_model.proofs.Closed.{grown_cases, three_cases}
+use Rattle.hh_model.proofs.Closed.{grown_cases, three_cases, waits_is}
 use Rattle.path_laws.proofs.FreeReads.{run_disentangled}
 use Rattle.hh_model.proofs.Kept.{run_kept, start_kept}
 use Rattle.hh_model.proofs.Paths.{owner_joins, owner_live, owner_same}
@@ -232,13 +231,7 @@ wait_task (Some x) h = (x, refl, h)
 
 pub waiting_stops : (o : Option Task) → is_waiting o ≡ true → is_running o ≡ false
 waiting_stops None e = refl
-waiting_stops (Some x) e = by x.status e
-  where
-    by : (s : Status) → waits s ≡ true → runs s ≡ false
-    by Running e = absurd (false≢true e)
-    by Waiting e = refl
-    by (Ended n r) e = refl
-    by Joined e = refl
+waiting_stops (Some x) e = ap runs (waits_is x.status e)
 
 pub wait_there : (o : Option Task) → is_waiting o ≡ true → (x : Task) × (o ≡ Some x)
 wait_there o h = let w = wait_task o h in (w.0, w.1)

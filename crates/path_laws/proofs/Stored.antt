@@ -16,7 +16,7 @@ use Rattle.hh_model.specs.declared.data.Trap.TheVariants.{Size}
 use Rattle.hh_model.specs.declared.data.State.{State}
 use Rattle.hh_model.specs.Effect.{Effect, Setting, effect, made, row_of, object_at, counts_in, int_in, or_trap}
 use Rattle.hh_model.specs.Names.{refs_of, task_names, words_asked, words_for}
-use Rattle.hh_model.specs.Step.{setting, fetched, step, follow, root, start, run, run_from, can_step, is_running, asked, asked_line}
+use Rattle.hh_model.specs.Step.{setting, fetched, step, follow, root, start, run, run_from, can_step, asked, asked_line}
 use Rattle.hh_model.specs.Store.{IsStored, NamesAreStored}
 use Rattle.hh_model.proofs.Stores.{put_cases, made_cases}
 use Rattle.hh_model.proofs.Carried.{named_from_in, next_name}
@@ -25,7 +25,7 @@ use Rattle.hh_model.proofs.Steps.{Alters, step_cases}
 use Rattle.hh_model.proofs.Closed.{Closed, closed_step, asked_at}
 use Rattle.path_laws.proofs.Disentangled.{no_refs}
 use Rattle.hh_model.proofs.Counts.{Counted, counted_step, start_counted}
-use Rattle.hh_model.proofs.Taken.{can_runs, step_taken, step_idle}
+use Rattle.hh_model.proofs.Taken.{step_taken, step_idle, can_task}
 use Rattle.path_laws.proofs.Objects.{object_later}
 
 -- an instruction that asks for words makes an object
@@ -78,13 +78,9 @@ module _ (p : ProgramText) (m : State) (t : ℕ) (K : Kept m) (rows : length m.s
         ap (λ (s : State). object_at s.store (next_name t m.store)) (step_taken p m t x line can is il ∙ ap (follow m t x line.number) e.2) ∙ made_here m.store t row.0 e.1 row.1,
       )
 
-  task_by : (o : Option Task) → slice_get m.tasks t ≡ o → is_running o ≡ true → (x : Task) × (slice_get m.tasks t ≡ Some x) × (is_running (Some x) ≡ true)
-  task_by None e h = absurd (false≢true h)
-  task_by (Some x) e h = (x, e, h)
-
   pub next_stored : can_step m t ≡ true → is_some (asked p m t) ≡ true → IsStored (step p m t) (next_name t m.store)
   next_stored can h =
-      let x = task_by (slice_get m.tasks t) refl (can_runs m t can) in
+      let x = can_task m t can in
       next_by x.0 (fetched p x.0.top) can x.1 refl (ap is_some (sym (asked_at p m t x.0 x.1 x.2)) ∙ h)
 
   stored_up : (n : Name) → IsStored m n → IsStored (step p m t) n

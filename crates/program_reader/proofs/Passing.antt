@@ -3,7 +3,7 @@ use Rattle.std.proofs.Common.{◌≡◌, ◌≤◌, ◌<◌, ◌+◌, ◌++◌, 
 use Rattle.std.specs.Prelude.{Option, Some, None, not, nat_le, codes}
 use Rattle.std.specs.Str.{is_utf8}
 use Rattle.std.specs.List.{list_all}
-use Rattle.std.proofs.lemmas.Bool.{and_parts}
+use Rattle.std.proofs.lemmas.Bool.{and_parts, and_left}
 use Rattle.std.proofs.lemmas.List.{take_all}
 use Rattle.text_lines.specs.Lines.{is_last}
 use Rattle.hh_lang.specs.declared.instr.Instr.{Instr}
@@ -48,32 +48,29 @@ module _ (o : Outline) (s : Spot) (l : List ℕ) (utf8 : is_utf8 l ≡ true) whe
   shut_begin : (i t : Bool) → i ≡ false → t ≡ false → ((i && true) || (t && true)) ≡ false
   shut_begin i t ei et = rw (ei, et) refl
 
-  main_later : (t b : Bool) → t ≡ false → (t && b) ≡ false
-  main_later t b e = rw e refl
-
   -- an instruction in a function
   pub order_free : (v : Verb) (i : Instr) → head_of_line l ≡ Order v → sense_of o s.labels (Order v) (operands_of_line l) ≡ Does i → s.inside ≡ true → s.last ≡ false → nat_le 65536 s.orders ≡ false → fault_on o s l ≡ None
   order_free v i eh ex inside last few =
       by_sense (Order v) (operands_of_line l) (Does i) eh refl ex
-      (sym (gives_none o s (Order v) (operands_of_line l) (Does i) (ap (λ b. is_misplaced b (Order v)) inside) refl (shut s.inside s.last inside last) refl refl refl (main_later s.last (not (is_noted o.functions (codes "main"))) last) few))
+      (sym (gives_none o s (Order v) (operands_of_line l) (Does i) (ap (λ b. is_misplaced b (Order v)) inside) refl (shut s.inside s.last inside last) refl refl refl (and_left s.last (not (is_noted o.functions (codes "main"))) last) few))
 
   -- a label in a function
   pub label_free : (name : List ℕ) → head_of_line l ≡ Label → only_name (operands_of_line l) ≡ Some name → s.inside ≡ true → s.last ≡ false → is_noted s.labeled name ≡ false → fault_on o s l ≡ None
   label_free name eh en inside last new =
       by_sense Label (operands_of_line l) Fits eh refl (ap named en)
-      (sym (gives_none o s Label (operands_of_line l) Fits (ap (λ b. is_misplaced b Label) inside) refl (shut s.inside s.last inside last) (ap (λ n. is_named_in s.labeled n) en ∙ new) refl refl (main_later s.last (not (is_noted o.functions (codes "main"))) last) refl))
+      (sym (gives_none o s Label (operands_of_line l) Fits (ap (λ b. is_misplaced b Label) inside) refl (shut s.inside s.last inside last) (ap (λ n. is_named_in s.labeled n) en ∙ new) refl refl (and_left s.last (not (is_noted o.functions (codes "main"))) last) refl))
 
   -- the end of a function
   pub end_free : head_of_line l ≡ End → operands_of_line l ≡ [] → s.inside ≡ true → s.last ≡ false → fault_on o s l ≡ None
   end_free eh ew inside last =
       by_sense End [] Fits eh ew refl
-      (sym (gives_none o s End [] Fits (ap (λ b. is_misplaced b End) inside) refl (shut_last s.inside s.last last) refl refl refl (main_later s.last (not (is_noted o.functions (codes "main"))) last) refl))
+      (sym (gives_none o s End [] Fits (ap (λ b. is_misplaced b End) inside) refl (shut_last s.inside s.last last) refl refl refl (and_left s.last (not (is_noted o.functions (codes "main"))) last) refl))
 
   -- the begin of a function
   pub begin_free : (name : List ℕ) → head_of_line l ≡ Begin → only_name (operands_of_line l) ≡ Some name → s.inside ≡ false → s.last ≡ false → is_noted s.named name ≡ false → nat_le 1024 s.begun ≡ false → fault_on o s l ≡ None
   begin_free name eh en outside last new few =
       by_sense Begin (operands_of_line l) Fits eh refl (ap named en)
-      (sym (gives_none o s Begin (operands_of_line l) Fits (ap (λ b. is_misplaced b Begin) outside) refl (shut_begin s.inside s.last outside last) (ap (λ n. is_named_in s.named n) en ∙ new) refl refl (main_later s.last (not (is_noted o.functions (codes "main"))) last) few))
+      (sym (gives_none o s Begin (operands_of_line l) Fits (ap (λ b. is_misplaced b Begin) outside) refl (shut_begin s.inside s.last outside last) (ap (λ n. is_named_in s.named n) en ∙ new) refl refl (and_left s.last (not (is_noted o.functions (codes "main"))) last) few))
 
   -- an empty line behind all functions
   pub blank_free : head_of_line l ≡ Blank → operands_of_line l ≡ [] → s.inside ≡ false → is_noted o.functions (codes "main") ≡ true → fault_on o s l ≡ None

@@ -4,6 +4,7 @@ use Rattle.std.specs.Prelude.{Option, Some, None, ◌&&◌}
 use Rattle.std.specs.List.{All}
 use Rattle.std.proofs.lemmas.List.Elements.{All-nil}
 use Rattle.std.proofs.lemmas.Bool.{both_ways}
+use Rattle.std.proofs.lemmas.List.{map-append}
 use Rattle.hh_lang.specs.declared.instr.Instr.TheVariants.{Ret}
 use Rattle.hh_lang.specs.declared.program.Line.{Line}
 use Rattle.hh_lang.specs.declared.program.Fun.{Fun}
@@ -23,7 +24,7 @@ use Rattle.program_reader.specs.Reading.{spot_in, after_begin, after_end, after_
 use Rattle.program_reader.proofs.Causes.{IsFaultless}
 use Rattle.program_reader.proofs.Ranges.{all_functions, IsInRange}
 use Rattle.program_reader.proofs.Spots.{Follows, first_named}
-use Rattle.program_reader.proofs.Steps.{Told, wrong_none, outside_begin, inside_end, unknown_never, push_length, push_map, push_all, new_name}
+use Rattle.program_reader.proofs.Steps.{Told, wrong_none, outside_begin, inside_end, unknown_never, push_length, push_all, new_name}
 
 abbrev pub fun_names : List Fun → List (List ℕ)
 fun_names fs = map (λ f. f.name) fs
@@ -65,7 +66,7 @@ module _ (o : Outline) (r : Reader) (above : List (List ℕ)) (l : List ℕ) (ls
       let entry : Entry = record { name = name; number = length above + 1 } in
       let before : fun_names r.done ≡ entry_names (outline_above above).functions = ap (λ b. cond b (fun_names r.done ++ r.name ∷ []) (fun_names r.done)) (sym i) ∙ g.names in
       record {
-        names = ap (λ ns. ns ++ name ∷ []) before ∙ sym (push_map (λ e. e.name) (outline_above above).functions entry) ∙ ap entry_names (sym (new_name (outline_above above).functions name (length above + 1) fresh));
+        names = ap (λ ns. ns ++ name ∷ []) before ∙ sym (map-append (λ (e : Entry). e.name) (outline_above above).functions (entry ∷ [])) ∙ ap entry_names (sym (new_name (outline_above above).functions name (length above + 1) fresh));
         done = g.done;
         code = λ t. All-nil (InRange o (after_begin r (Some name) ls));
         placed = λ t. refl;
@@ -85,7 +86,7 @@ module _ (o : Outline) (r : Reader) (above : List (List ℕ)) (l : List ℕ) (ls
       let named : All (λ m. NamesExist (all_functions o) (length code) m.instr) code = subst (λ k. All (λ m. NamesExist (all_functions o) k m.instr) code) next (push_all (InRange o r) r.code (line_of Ret n) (g.code i) tt) in
       let function : IsFunction (all_functions o) fun = record { sized = omega (arith, size, g.short, few); names = named; ends = ends r.code n } in
       record {
-        names = push_map (λ u. u.name) r.done fun ∙ before;
+        names = map-append (λ (u : Fun). u.name) r.done (fun ∷ []) ∙ before;
         done = push_all (IsFunction (all_functions o)) r.done fun g.done function;
         code = λ t. absurd (both_ways false refl t);
         placed = λ t. absurd (both_ways false refl t);

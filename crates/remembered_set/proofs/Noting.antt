@@ -2,6 +2,7 @@
 use Rattle.std.proofs.Common.{◌≡◌, ℕ, Bool, true, false, cond, ◌||◌, List, [], ◌∷◌, ◌++◌, refl, sym, ap, ◌∙◌, eqb, eqb-true, eq-eqb}
 use Rattle.std.specs.Prelude.{◌&&◌}
 use Rattle.std.proofs.lemmas.Bool.{and_parts, false≢true, or_parts}
+use Rattle.std.proofs.Math.Bool.{or-false, or_assoc}
 use Rattle.remembered_set.specs.declared.remembered.Source.{Source}
 use Rattle.remembered_set.specs.Sources.{has_source, noted, same_source, StandOnce}
 
@@ -23,22 +24,14 @@ pub same_self : (a : Source) → same_source a a ≡ true
 same_self a = rw (eq-eqb a.object.chunk a.object.chunk refl, eq-eqb a.object.offset a.object.offset refl, eq-eqb a.field a.field refl) refl
 
 -- a source that isn't known is behind others that it differs from
-or_none : (b : Bool) → (b || false) ≡ b
-or_none true = refl
-or_none false = refl
-
 or_both : (a b c : Bool) → (a || b) ≡ false → c ≡ false → (a || (b || c)) ≡ false
 or_both true b c e f = e
 or_both false true c e f = e
 or_both false false c e f = f
 
 has_more : (xs : List Source) (s t : Source) → has_source (xs ++ s ∷ []) t ≡ (has_source xs t || same_source t s)
-has_more [] s t = or_none (same_source t s)
-has_more (x ∷ xs) s t = ap (λ b. same_source t x || b) (has_more xs s t) ∙ assoc (same_source t x) (has_source xs t) (same_source t s)
-  where
-    assoc : (a b c : Bool) → (a || (b || c)) ≡ ((a || b) || c)
-    assoc true b c = refl
-    assoc false b c = refl
+has_more [] s t = or-false (same_source t s)
+has_more (x ∷ xs) s t = ap (λ b. same_source t x || b) (has_more xs s t) ∙ sym (or_assoc (same_source t x) (has_source xs t) (same_source t s))
 
 apart_by : (b : Bool) (x s : Source) → same_source x s ≡ b → same_source s x ≡ false → b ≡ false
 apart_by false x s e n = refl

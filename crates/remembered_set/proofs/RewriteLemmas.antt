@@ -1,7 +1,7 @@
 -- What is read once sources are rewritten.
 use Rattle.std.proofs.Common.{◌≡◌, ℕ, ◌<◌, Bool, true, false, cond, ◌||◌, List, [], ◌∷◌, fold, length, get_or, inl, inr, refl, sym, ap, ◌∙◌, subst, Option, Some, None}
 use Rattle.std.specs.Prelude.{◌≢◌, slice_set, unwrap_or}
-use Rattle.std.proofs.lemmas.Bool.{cases_Bool, false≢true}
+use Rattle.std.proofs.lemmas.Bool.{cases_Bool, false≢true, or_parts}
 use Rattle.std.proofs.lemmas.List.{get_or-set_same, get_or-set_other}
 use Rattle.object_layout.specs.declared.word.Addr.{Addr}
 use Rattle.remembered_set.specs.declared.remembered.Source.{Source}
@@ -59,17 +59,9 @@ module _ {S : Type 0} (refs_at : S → Addr → List (Option Addr)) (with_ref_at
   stays : (ms : List (Addr × Addr)) (w : S) (xs : List Source) (a : Addr) (i : ℕ) → has_source xs (at a i) ≡ false → field (fold (one ms) w xs) a i ≡ field w a i
   stays ms w [] a i n = refl
   stays ms w (x ∷ xs) a i n =
-      stays ms (one ms w x) xs a i (off (same_source (at a i) x) (has_source xs (at a i)) n)
-      ∙ miss w x (new_reference ms (held_by refs_at w x)) a i (λ e q. false≢true (sym (first (same_source (at a i) x) (has_source xs (at a i)) n) ∙ is x e q))
+      stays ms (one ms w x) xs a i (or_parts (same_source (at a i) x) (has_source xs (at a i)) n).1
+      ∙ miss w x (new_reference ms (held_by refs_at w x)) a i (λ e q. false≢true (sym (or_parts (same_source (at a i) x) (has_source xs (at a i)) n).0 ∙ is x e q))
     where
-      off : (b c : Bool) → (b || c) ≡ false → c ≡ false
-      off true c e = absurd (false≢true (sym e))
-      off false c e = e
-
-      first : (b c : Bool) → (b || c) ≡ false → b ≡ false
-      first true c e = e
-      first false c e = refl
-
       is : (x : Source) → a ≡ x.object → i ≡ x.field → same_source (at a i) x ≡ true
       is x e q = ap (λ (s : Source). same_source s x) (ap (λ (b : Addr). at b i) e ∙ ap (at x.object) q) ∙ same_self x
 

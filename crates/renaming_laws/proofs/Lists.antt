@@ -15,10 +15,6 @@ got_set [] k x = refl
 got_set (y ∷ ys) zero x = refl
 got_set (y ∷ ys) (suc k) x = got_set ys k x
 
-pub push_map : {A B : Type 0} (h : A → B) (xs : List A) (x : A) → map h xs ++ h x ∷ [] ≡ map h (xs ++ x ∷ [])
-push_map h [] x = refl
-push_map h (y ∷ ys) x = ap (λ zs. h y ∷ zs) (push_map h ys x)
-
 pub last_map : {A B : Type 0} (h : A → B) (xs : List A) → last_of (map h xs) ≡ option_map h (last_of xs)
 last_map h [] = refl
 last_map h (x ∷ []) = refl

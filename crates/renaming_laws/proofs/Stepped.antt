@@ -2,7 +2,7 @@
 use Rattle.std.proofs.Common.{◌≡◌, ℕ, ℤ, ◌+◌, ◌-◌, ◌<◌, ◌≤◌, ◌==◌, Bool, true, false, cond, Option, Some, None, List, [], ◌∷◌, ◌++◌, length, map, nat_lt, slice_get, slice_set, refl, ap, sym, subst, ◌∙◌, arith}
 use Rattle.std.specs.Option.{option_map}
 use Rattle.std.proofs.lemmas.Bool.{cond-true, cond-false}
-use Rattle.std.proofs.lemmas.List.{length-map}
+use Rattle.std.proofs.lemmas.List.{length-map, map-append}
 use Rattle.std.proofs.Math.Seq.{map-set}
 use Rattle.hh_lang.specs.declared.instr.Instr.{Instr}
 use Rattle.hh_lang.specs.declared.program.Line.{Line}
@@ -22,7 +22,7 @@ use Rattle.renaming_laws.specs.Renaming.{IsRenaming, ref_to, object_to, frame_to
 use Rattle.renaming_laws.specs.Alike.{AreAlike}
 use Rattle.renaming_laws.proofs.Changed.{Change, Same, Grows, Edits, Edit, SetRef, SetNumber, Freezes, change_to, changed, edit_to, edited, put_in}
 use Rattle.renaming_laws.proofs.Effects.{EffectTo, Sees, SeenTo, TestTo, effect_carried, ref_carried, same_task, set_carried}
-use Rattle.renaming_laws.proofs.Lists.{front_map, got_map, last_map, push_map, set_to}
+use Rattle.renaming_laws.proofs.Lists.{front_map, got_map, last_map, set_to}
 use Rattle.renaming_laws.proofs.Owners.{owner_to, test_to}
 use Rattle.renaming_laws.proofs.Follows.{StoreTo, can_to, forks, halted, joins, kept_to, object_there, own, result_to, row_to, written}
 
@@ -92,7 +92,7 @@ module _ (p : ProgramText) (n : ℕ) (f g : ℕ → ℕ) (R : IsRenaming n f g) 
     change_there Same = A.objects
     change_there (Grows o) =
         row_set t (row_of (slice_get m.store t) ++ o ∷ []) (row_of (slice_get m'.store (f t)) ++ object_to f o ∷ [])
-        (ap (λ w. w ++ object_to f o ∷ []) (rows_at t) ∙ push_map (object_to f) (row_of (slice_get m.store t)) o)
+        (ap (λ w. w ++ object_to f o ∷ []) (rows_at t) ∙ sym (map-append (object_to f) (row_of (slice_get m.store t)) (o ∷ [])))
     change_there (Edits k e) =
         let row : List Object = row_of (slice_get m.store k.task) in
         row_set k.task (put_in row k.count e (slice_get row k.count)) (put_in (row_of (slice_get m'.store (f k.task))) k.count (edit_to f e) (slice_get (row_of (slice_get m'.store (f k.task))) k.count))
@@ -176,7 +176,7 @@ module _ (p : ProgramText) (n : ℕ) (f g : ℕ → ℕ) (R : IsRenaming n f g) 
         (subst (λ k. Alike (called m t x a line) (cond (nat_lt (k + 1) frame_limit) (with_task m' (f t) (record x' { top = entry_frame a (frame_to f x.top); below = map (frame_to f) x.below ++ onward (frame_to f x.top) ∷ [] })) (ended_by m' (Trapped Depth (f t) line))))
         (sym (length-map x.below (frame_to f)))
         (either (nat_lt (length x.below + 1) frame_limit) _ _ _ _
-        (written n f g R m m' A t (record x { top = entry_frame a x.top; below = x.below ++ onward x.top ∷ [] }) _ (ap (λ fs. record x' { top = entry_frame a (frame_to f x.top); below = fs }) (push_map (frame_to f) x.below (onward x.top))))
+        (written n f g R m m' A t (record x { top = entry_frame a x.top; below = x.below ++ onward x.top ∷ [] }) _ (ap (λ fs. record x' { top = entry_frame a (frame_to f x.top); below = fs }) (sym (map-append (frame_to f) x.below (onward x.top ∷ [])))))
         (halted n f g R m m' A (Trapped Depth t line))))
     follow_to line i (Forks a b) (Forks c d) h =
         subst (λ (w : ℕ × ℕ). Alike (forked m t x a b line) (forked m' (f t) x' w.0 w.1 line)) (λ j. (sym h.0 j, sym h.1 j))

@@ -1,21 +1,20 @@
 -- Who holds which task, by the task that each worker took last.
 use Rattle.std.proofs.Common.{◌≡◌, ℕ, zero, suc, ◌+◌, ◌-◌, ◌<◌, Bool, true, false, cond, Option, Some, None, List, [], ◌∷◌, ◌++◌, length, slice_get, slice_set, nat_lt, inl, inr, refl, ap, sym, subst, ◌∙◌, arith, ◌⊎◌, is_none, unwrap_or}
-use Rattle.std.proofs.lemmas.Bool.{both_ways, cases_eq, false≢true}
+use Rattle.std.proofs.lemmas.Bool.{both_ways, cases_eq}
 use Rattle.std.proofs.lemmas.Option.{same_Some, none-some}
 use Rattle.listed.proofs.Members.{got_same, got_other}
 use Rattle.run_trace.specs.declared.entry.Kind.{Kind}
 use Rattle.run_trace.specs.declared.entry.Kind.TheVariants.{Took, Ran, Chunk, Begin, End as EndOf, PutOff, Mark, More, Sweep, Fuel}
 use Rattle.run_trace.specs.Settings.{SettingsValue}
 use Rattle.hh_lang.specs.Form.{ProgramText}
-use Rattle.hh_model.specs.declared.data.Name.{Name}
 use Rattle.hh_model.specs.Step.{step, can_step, asked}
 use Rattle.hh_model.proofs.Carried.{next_name}
 use Rattle.run_ledger.specs.declared.data.Heap.{Heap}
 use Rattle.run_ledger.specs.declared.data.Ledger.{Ledger}
 use Rattle.run_ledger.specs.declared.data.RunEnd.TheVariants.{Pool}
-use Rattle.run_ledger.specs.Heaps.{heap_of, or_fresh, with_heap, placed, put_last, is_small, in_use, chunk_words, collected, swept_heap}
+use Rattle.run_ledger.specs.Heaps.{heap_of, or_fresh, with_heap, placed, is_small, in_use, chunk_words, collected, swept_heap}
 use Rattle.run_ledger.specs.Steps.{allocated_by, allocated_in, stepped_to, task_step, task_steps, on_asked}
-use Rattle.run_ledger.specs.Entries.{kind_refusal, after_kind, held_from, is_ready, refused_holding, with_chunk, chunk_units}
+use Rattle.run_ledger.specs.Entries.{kind_refusal, after_kind, held_from, is_ready, with_chunk, chunk_units}
 use Rattle.listed.specs.Options.{option_is}
 use Rattle.run_ledger.proofs.Moves.{moves_each}
 use Rattle.run_ledger.proofs.Sound.{SoundLedger}
@@ -23,6 +22,7 @@ use Rattle.run_ledger.proofs.Steps.{SoundAt, step_leaves, task_step_sound, worke
 use Rattle.run_ledger.proofs.Stocks.{with_heap_any}
 use Rattle.run_ledger.proofs.Journals.{none_unless, out_tells}
 use Rattle.run_ledger.proofs.Frames.{held_is, is_held}
+use Rattle.run_ledger.proofs.Holders.{none_holding, placed_worker}
 use Rattle.run_accounts.specs.Accounts.{AccountsValue, Agrees, taken_after}
 
 -- WHO HOLDS A TASK
@@ -106,13 +106,6 @@ module _ (p : ProgramText) (l : Ledger) (t : ℕ) (S : SoundAt t l) (can : can_s
   abbrev k : Ledger
   k = stepped_to (allocated_in p l t) t (step p l.machine t)
 
-  placed_worker : (h : Heap) (n : Name) (w : ℕ) → (placed h n w).worker ≡ h.worker
-  placed_worker h n w = by (is_small w)
-    where
-      by : (v : Bool) → (cond v (record h { chunks = put_last h.chunks n; room = h.room - w; since = h.since + w }) (record h { large = h.large ++ n ∷ []; reserved = 0; since = h.since + w })).worker ≡ h.worker
-      by true = refl
-      by false = refl
-
   held_b : (o : Option ℕ) → Held l (allocated_by l t o)
   held_b None u w e = e
   held_b (Some v) u w e = held_set l t (λ h. placed h (next_name t l.machine.store) v) (λ h. placed_worker h (next_name t l.machine.store) v) u w e
@@ -157,10 +150,6 @@ held_chunk l t next false u w e = held_set l t (with_chunk next) (λ h. by h (on
 module _ (p : ProgramText) (s : SettingsValue) (l : Ledger) (taken : List (Option ℕ)) (A : (t w : ℕ) → worker_of l t ≡ Some w → slice_get taken w ≡ Some (Some t)) (S : SoundLedger l) where
   abbrev Tells : ℕ → Kind → Type 0
   Tells w kind = (u v : ℕ) → worker_of (after_kind p s l w kind) u ≡ Some v → slice_get (taken_after taken w kind) v ≡ Some (Some u)
-
-  none_holding : (o : Option ℕ) → is_none (refused_holding o None) ≡ true → o ≡ None
-  none_holding None h = refl
-  none_holding (Some t) h = absurd (false≢true h)
 
   took_tells : (w t : ℕ) → w < length taken → held_from w 0 l.heaps ≡ None → Tells w (Took t)
   took_tells w t there free =

@@ -11,6 +11,7 @@ use Rattle.hh_model.specs.Step.{step, fetched}
 use Rattle.run_ledger.specs.declared.data.Ledger.{Ledger}
 use Rattle.run_ledger.specs.Steps.{task_step, task_steps, is_due, is_in_need, is_private, is_private_by, is_private_line, standing, is_open, works_alone}
 use Rattle.run_ledger.proofs.Machine.{task_step_machine, task_steps_more}
+use Rattle.run_ledger.proofs.Steps.{steps_last}
 use Rattle.run_accounts.specs.declared.ran.Stood.{Stood}
 use Rattle.run_accounts.specs.declared.ran.Stood.TheVariants.{Not, Last, More}
 use Rattle.run_ledger.specs.Heaps.{in_use}
@@ -41,11 +42,7 @@ private_after p l t = private_is p l.machine t ∙ ap (λ (m : State). is_own p 
 -- MANY STEPS
 
 pub steps_more : (p : ProgramText) (l : Ledger) (t k : ℕ) → task_steps p l t (k + 1) ≡ task_step p (task_steps p l t k) t
-steps_more p l t k = ap (task_steps p l t) (let e : k + 1 ≡ suc k = omega arith in e) ∙ at k l
-  where
-    at : (k : ℕ) (l : Ledger) → task_steps p l t (suc k) ≡ task_step p (task_steps p l t k) t
-    at zero l = refl
-    at (suc k) l = at k (task_step p l t)
+steps_more p l t k = ap (task_steps p l t) (let e : k + 1 ≡ suc k = omega arith in e) ∙ steps_last p l t k
 
 module _ (s : SettingsValue) (p : ProgramText) (t : ℕ) where
   pub stands_not : (l : Ledger) (k : ℕ) → Not ≡ stood s p l t → standing s p l t k ≡ 0

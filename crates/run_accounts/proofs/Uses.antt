@@ -1,8 +1,7 @@
 -- The count of the chunks in use, as it is kept from entry to entry and from step to step.
-use Rattle.std.proofs.Common.{◌≡◌, ℕ, zero, suc, ◌+◌, ◌-◌, ◌≤◌, ◌==◌, ◌||◌, not, Bool, true, false, cond, Option, Some, None, List, [], ◌∷◌, ◌++◌, length, slice_get, slice_set, sum_by, nat_lt, refl, ap, sym, subst, ◌∙◌, arith, map}
+use Rattle.std.proofs.Common.{◌≡◌, ℕ, zero, suc, ◌+◌, ◌-◌, ◌≤◌, ◌==◌, ◌||◌, not, Bool, true, false, cond, Option, Some, None, List, [], ◌∷◌, ◌++◌, length, slice_get, slice_set, sum_by, nat_lt, refl, ap, sym, ◌∙◌, arith, map}
 use Rattle.std.proofs.lemmas.Bool.{ltb-false}
 use Rattle.std.proofs.lemmas.List.Sums.{sum_by-append, sum_by-cons}
-use Rattle.listed.proofs.Members.{In, in_append_right}
 use Rattle.run_trace.specs.Settings.{SettingsValue}
 use Rattle.hh_lang.specs.Form.{ProgramText}
 use Rattle.hh_model.specs.declared.data.Name.{Name}
@@ -11,17 +10,14 @@ use Rattle.hh_model.specs.Step.{step, can_step, asked}
 use Rattle.hh_model.proofs.Carried.{next_name}
 use Rattle.run_ledger.specs.declared.data.Heap.{Heap}
 use Rattle.run_ledger.specs.declared.data.Ledger.{Ledger}
-use Rattle.run_ledger.specs.Heaps.{units, is_small, words_of, words_at, units_sum, begun_in, units_in, fresh, heap_of, or_fresh, with_heap_at, in_use, placed, put_last, small_in, lacks_room, collected, large_survivors, swept_heap, sweep_number, in_snapshot, without_empty}
+use Rattle.run_ledger.specs.Heaps.{units, is_small, words_at, units_sum, begun_in, units_in, fresh, heap_of, or_fresh, with_heap_at, in_use, placed, put_last, collected, large_survivors, swept_heap, sweep_number, in_snapshot, without_empty}
 use Rattle.run_ledger.specs.Steps.{allocated_by, allocated_in, stepped_to, task_step, is_due, is_in_need}
-use Rattle.run_ledger.proofs.Chunks.{sum_same}
 use Rattle.run_ledger.proofs.Machine.{stepped_machine}
-use Rattle.run_ledger.proofs.Sound.{names_of}
-use Rattle.run_ledger.proofs.Steps.{SoundAt, StepLeaves, heap_of_task, can_tells}
-use Rattle.run_ledger.proofs.Grown.{Grown}
+use Rattle.run_ledger.proofs.Steps.{SoundAt, StepLeaves}
 use Rattle.run_ledger.proofs.Weights.{total, total_set, moves_total}
-use Rattle.run_ledger.proofs.Stocks.{StockedLedger, G, L}
+use Rattle.run_ledger.proofs.Stocks.{StockedLedger, L}
+use Rattle.run_ledger.proofs.Booked as booked
 use Rattle.run_ledger.proofs.Booked.{BookedLedger, put_length, total_same, units_additive}
-use Rattle.run_ledger.proofs.Bounds.{asked_bounds}
 use Rattle.ledger_heaps.proofs.Kept.{survivors_units, snapshot_units, fewer_chunks}
 use Rattle.run_accounts.specs.Accounts.{large_by, next_large, used_by, used_after}
 
@@ -47,11 +43,8 @@ module _ (p : ProgramText) (s : SettingsValue) (l : Ledger) (t : ℕ) (S : Sound
     abbrev k : Ledger
     k = stepped_to (allocated_in p l t) t (step p l.machine t)
 
-    heap : (h : Heap) × (slice_get l.heaps t ≡ Some h)
-    heap = heap_of_task l t S.0 (can_tells l.machine t can).1
-
-    grown : Grown p l.machine t
-    grown = G p l t S I can
+    abbrev heap : (h : Heap) × (slice_get l.heaps t ≡ Some h)
+    heap = booked.heap p s l t S I B can fine
 
     leaves : StepLeaves t l (allocated_in p l t) (stepped_to (allocated_in p l t) t (step p l.machine t))
     leaves = L p l t S I can
@@ -59,31 +52,13 @@ module _ (p : ProgramText) (s : SettingsValue) (l : Ledger) (t : ℕ) (S : Sound
     abbrev next : Name
     next = next_name t l.machine.store
 
-    -- what was held has as many units as before
-    units_same : (u : ℕ) (h : Heap) → slice_get l.heaps u ≡ Some h → units_in m' h ≡ units_in m h
-    units_same u h e =
-        ap (λ w. length h.chunks + w + h.reserved + begun_in h)
-        (sum_same (λ n. units (words_at m' n)) (λ n. units (words_at m n)) h.large
-        (λ n i. ap units (grown.words n (I.stored n (u, subst (λ o. In (names_of o) n) (sym e) (in_append_right (small_in h) h.large n i))))))
-
-    -- what is asked for is at least two words
-    at_least : (w : ℕ) → asked p m t ≡ Some w → 2 ≤ w
-    at_least w e =
-        let q = grown.new w e in
-        let size : words_at m' next ≡ words_of (Some q.0.0) = ap words_of q.0.1 in
-        let le : words_at m' next ≤ w = q.1 in
-        omega arith
-
-    lacks_at : (w : ℕ) → asked p m t ≡ Some w → lacks_room heap.0 w ≡ false
-    lacks_at w e = ap (λ o. lacks_room (or_fresh o) w) (sym heap.1) ∙ (asked_bounds s (heap_of l t) (asked p m t) w e fine).1
-
     abbrev large_at : Bool → Option Name
     large_at v = cond v None (Some next)
 
     placed_units : (w : ℕ) → asked p m t ≡ Some w → (v : Bool) → is_small w ≡ v → cond v (nat_lt heap.0.room w) (not (heap.0.reserved == units w)) ≡ false
         → units_in m' (cond v (record heap.0 { chunks = put_last heap.0.chunks next; room = heap.0.room - w; since = heap.0.since + w }) (record heap.0 { large = heap.0.large ++ next ∷ []; reserved = 0; since = heap.0.since + w })) ≡ used_by (units_in m' heap.0) heap.0.reserved m' (large_at v)
     placed_units w e true is lacks =
-        let a = at_least w e in
+        let a = (booked.at_least p s l t S I B can fine w e).0 in
         let r : w ≤ heap.0.room = ltb-false heap.0.room w lacks in
         let c = (B.each t heap.0 heap.1).room (omega arith) in
         let d = put_length heap.0.chunks next c in
@@ -94,11 +69,11 @@ module _ (p : ProgramText) (s : SettingsValue) (l : Ledger) (t : ℕ) (S : Sound
         omega arith
 
     use_by : (o : Option ℕ) → asked p m t ≡ o → total (units_in m') (allocated_by l t o).heaps ≡ used_by (in_use l) heap.0.reserved m' (large_by l t o)
-    use_by None e = total_same (units_in m') (units_in m) l.heaps units_same
+    use_by None e = total_same (units_in m') (units_in m) l.heaps (booked.units_same p s l t S I B can fine)
     use_by (Some w) e =
-        let a = total_same (units_in m') (units_in m) l.heaps units_same in
+        let a = total_same (units_in m') (units_in m) l.heaps (booked.units_same p s l t S I B can fine) in
         let c = total_set (units_in m') l.heaps t heap.0 (placed heap.0 next w) heap.1 in
-        let d : units_in m' (placed heap.0 next w) ≡ used_by (units_in m' heap.0) heap.0.reserved m' (large_at (is_small w)) = placed_units w e (is_small w) refl (lacks_at w e) in
+        let d : units_in m' (placed heap.0 next w) ≡ used_by (units_in m' heap.0) heap.0.reserved m' (large_at (is_small w)) = placed_units w e (is_small w) refl (booked.lacks_at p s l t S I B can fine w e) in
         let f : total (units_in m') (allocated_by l t (Some w)).heaps ≡ total (units_in m') (slice_set l.heaps t (placed heap.0 next w)) = ap (λ (q : Ledger). total (units_in m') q.heaps) (ap (with_heap_at l t (λ g. placed g next w)) heap.1) in
         let g : units_in m' (or_fresh (slice_get l.heaps t)) ≤ total (units_in m') l.heaps = one_of (units_in m') l.heaps t refl in
         let h : units_in m' (or_fresh (slice_get l.heaps t)) ≡ units_in m' heap.0 = ap (λ o. units_in m' (or_fresh o)) heap.1 in

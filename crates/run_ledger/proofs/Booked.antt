@@ -5,6 +5,7 @@ use Rattle.std.proofs.lemmas.Bool.{false≢true, both_ways, cases_eq, ltb-false,
 use Rattle.std.proofs.lemmas.List.Sums.{sum_by-append, sum_by-cons}
 use Rattle.std.proofs.lemmas.Option.{same_Some}
 use Rattle.listed.proofs.Members.{In, got_same, got_other, got_within, in_append_left, in_append_right}
+use Rattle.listed.proofs.Options.{none_some}
 use Rattle.run_trace.specs.Settings.{SettingsValue}
 use Rattle.hh_lang.specs.Form.{ProgramText}
 use Rattle.hh_model.specs.declared.data.Name.{Name}
@@ -12,12 +13,12 @@ use Rattle.hh_model.specs.declared.data.Status.TheVariants.{Waiting}
 use Rattle.hh_model.specs.declared.data.Task.{Task}
 use Rattle.hh_model.specs.declared.data.State.{State}
 use Rattle.hh_model.specs.Effect.{onward}
-use Rattle.hh_model.specs.Step.{runs, is_running, is_waiting, child, joined_task, resumed, ended_task, result_of, step, can_step, asked, asked_by, asked_line, fetched}
+use Rattle.hh_model.specs.Step.{runs, is_running, child, joined_task, resumed, ended_task, result_of, step, can_step, asked, asked_by, asked_line, fetched}
 use Rattle.hh_model.proofs.Carried.{next_name}
 use Rattle.hh_model.proofs.Kept.{Kept}
 use Rattle.hh_model.proofs.Steps.{step_cases}
 use Rattle.hh_model.proofs.Counts.{step_limit}
-use Rattle.hh_model.proofs.Runs.{waiting, running_tells, grown_other, three_other, wp, below}
+use Rattle.hh_model.proofs.Runs.{waiting, grown_other, three_other, wp, below}
 use Rattle.run_ledger.specs.declared.data.Heap.{Heap}
 use Rattle.run_ledger.specs.declared.data.Ledger.{Ledger}
 use Rattle.run_ledger.specs.Heaps.{units, is_small, words_of, words_at, small_in, held_in, begun_in, units_in, fresh, heap_of, or_fresh, with_heap_at, in_use, placed, put_last, lacks_room, take_of, chunk_words}
@@ -32,6 +33,7 @@ use Rattle.run_ledger.proofs.Grown.{Grown}
 use Rattle.run_ledger.proofs.Weights.{total, total_set, Additive, moves_total}
 use Rattle.run_ledger.proofs.Stocks.{StockedLedger, G, L, task_step_stocked}
 use Rattle.run_ledger.proofs.Bounds.{asked_bounds, stands_by}
+use Rattle.path_laws.proofs.Leaves.{waiting_stops}
 
 -- SUMS THAT ARE THE SAME
 
@@ -87,9 +89,6 @@ asked_runs_by : (p : ProgramText) (m : State) (o : Option Task) (w : ℕ) → as
 asked_runs_by p m None w e = absurd cc
 asked_runs_by p m (Some x) w e = by (is_running (Some x)) refl (subst (λ b. cond b (asked_line m.field_limit x.top (fetched p x.top)) None ≡ Some w) refl e)
   where
-    none_some : {A : Type 0} → ◌≡◌ {A = Option ℕ} None (Some w) → A
-    none_some q = absurd cc
-
     by : (b : Bool) → is_running (Some x) ≡ b → cond b (asked_line m.field_limit x.top (fetched p x.top)) None ≡ Some w → is_running (Some x) ≡ true
     by true is q = is
     by false is q = none_some q
@@ -102,11 +101,7 @@ asked_limit p m m' None e = refl
 asked_limit p m m' (Some x) e = ap (λ k. cond (is_running (Some x)) (asked_line k x.top (fetched p x.top)) None) e
 
 pub wait_run : (m : State) (u : ℕ) → waiting m.tasks u ≡ true → is_running (slice_get m.tasks u) ≡ true → ⊥
-wait_run m u w r = by (slice_get m.tasks u) w r
-  where
-    by : (o : Option Task) → is_waiting o ≡ true → is_running o ≡ true → ⊥
-    by None a b = false≢true a
-    by (Some x) a b = both_ways (is_waiting (Some x)) (running_tells x.status b).1 a
+wait_run m u w r = both_ways (is_running (slice_get m.tasks u)) (waiting_stops (slice_get m.tasks u) w) r
 
 -- a step leaves the other tasks that run as they are
 pub step_others : (p : ProgramText) (m : State) (t u : ℕ) → Kept m → (u ≡ t → ⊥) → is_running (slice_get m.tasks u) ≡ true → slice_get (step p m t).tasks u ≡ slice_get m.tasks u
@@ -140,7 +135,7 @@ module _ (p : ProgramText) (s : SettingsValue) (l : Ledger) (t : ℕ) (S : Sound
   abbrev k : Ledger
   k = stepped_to (allocated_in p l t) t (step p l.machine t)
 
-  heap : (h : Heap) × (slice_get l.heaps t ≡ Some h)
+  pub heap : (h : Heap) × (slice_get l.heaps t ≡ Some h)
   heap = heap_of_task l t S.0 (can_tells l.machine t can).1
 
   grown : Grown p l.machine t
@@ -156,7 +151,7 @@ module _ (p : ProgramText) (s : SettingsValue) (l : Ledger) (t : ℕ) (S : Sound
   take_same u h e =
       ap (λ w. 2 * max 1 (units w) - 1) (sum_same (words_at m') (words_at m) (small_in h) (λ n i. words_same u h n e (in_append_left (small_in h) h.large n i)))
 
-  units_same : (u : ℕ) (h : Heap) → slice_get l.heaps u ≡ Some h → units_in m' h ≡ units_in m h
+  pub units_same : (u : ℕ) (h : Heap) → slice_get l.heaps u ≡ Some h → units_in m' h ≡ units_in m h
   units_same u h e =
       ap (λ w. length h.chunks + w + h.reserved + begun_in h)
       (sum_same (λ n. units (words_at m' n)) (λ n. units (words_at m n)) h.large (λ n i. ap units (words_same u h n e (in_append_right (small_in h) h.large n i))))
@@ -201,22 +196,19 @@ module _ (p : ProgramText) (s : SettingsValue) (l : Ledger) (t : ℕ) (S : Sound
     full = full_now t heap.0 heap.1;
     last = last_now t heap.0 heap.1;
   }
-    where
-      none_some : {w : ℕ} → ◌≡◌ {A = Option ℕ} None (Some w) → ⊥
-      none_some q = absurd cc
 
   abbrev next : Name
   next = next_name t l.machine.store
 
   -- what is asked for is at least two words
-  at_least : (w : ℕ) → asked p m t ≡ Some w → (2 ≤ w) × (words_at m' next ≤ w)
+  pub at_least : (w : ℕ) → asked p m t ≡ Some w → (2 ≤ w) × (words_at m' next ≤ w)
   at_least w e =
       let q = grown.new w e in
       let size : words_at m' next ≡ words_of (Some q.0.0) = ap words_of q.0.1 in
       let le : words_at m' next ≤ w = q.1 in
       (omega arith, le)
 
-  lacks_at : (w : ℕ) → asked p m t ≡ Some w → lacks_room heap.0 w ≡ false
+  pub lacks_at : (w : ℕ) → asked p m t ≡ Some w → lacks_room heap.0 w ≡ false
   lacks_at w e = ap (λ o. lacks_room (or_fresh o) w) (sym heap.1) ∙ (asked_bounds s (heap_of l t) (asked p m t) w e fine).1
 
   fits : (w : ℕ) → asked p m t ≡ Some w → nat_lt heap.0.room w ≡ false → last_words m' heap.0.chunks + words_at m' next ≤ chunk_words

@@ -1,6 +1,6 @@
 -- A large object has just the words that the step asks for.
 use Rattle.std.proofs.Common.{◌≡◌, ℕ, zero, suc, pos, ◌+◌, ◌<◌, ◌≤◌, arith, true, false, Option, Some, None, List, length, slice_get, replicate, refl, ap, sym, ◌∙◌}
-use Rattle.std.proofs.lemmas.Bool.{false≢true, leb-false}
+use Rattle.std.proofs.lemmas.Bool.{leb-false}
 use Rattle.std.proofs.lemmas.Option.{same_Some}
 use Rattle.listed.proofs.Members.{got_within}
 use Rattle.listed.proofs.Places.{got_some}
@@ -16,11 +16,11 @@ use Rattle.hh_model.specs.declared.data.Trap.TheVariants.{Size}
 use Rattle.hh_model.specs.declared.data.State.{State}
 use Rattle.hh_model.specs.Effect.{Effect, Setting, effect, made, object_at, counts_in, int_in, or_trap}
 use Rattle.hh_model.specs.Names.{words_asked, words_for}
-use Rattle.hh_model.specs.Step.{setting, fetched, step, follow, can_step, is_running, asked, asked_line}
+use Rattle.hh_model.specs.Step.{setting, fetched, step, follow, can_step, asked, asked_line}
 use Rattle.hh_model.proofs.Carried.{next_name}
 use Rattle.hh_model.proofs.Closed.{asked_at}
 use Rattle.path_laws.proofs.Stored.{made_here}
-use Rattle.hh_model.proofs.Taken.{can_runs, step_taken}
+use Rattle.hh_model.proofs.Taken.{step_taken, can_task}
 use Rattle.run_ledger.specs.Heaps.{chunk_words, is_small, words_of, words_at}
 
 -- each `pack` of the program takes at most 16 registers of each kind
@@ -82,11 +82,7 @@ module _ (p : ProgramText) (small : PacksAreSmall p) (m : State) (t : ℕ) (can 
       let row = got_some m.store t lt in
       ap words_of (ap (λ (s : State). object_at s.store (next_name t m.store)) (step_taken p m t x line can is il ∙ ap (follow m t x line.number) e.2) ∙ made_here m.store t row.0 e.1 row.1) ∙ e.3
 
-  task_by : (o : Option Task) → slice_get m.tasks t ≡ o → is_running o ≡ true → (x : Task) × (slice_get m.tasks t ≡ Some x) × (is_running (Some x) ≡ true)
-  task_by None e h = absurd (false≢true h)
-  task_by (Some x) e h = (x, e, h)
-
   pub large_exact : (w : ℕ) → asked p m t ≡ Some w → is_small w ≡ false → words_at (step p m t) (next_name t m.store) ≡ w
   large_exact w h large =
-      let x = task_by (slice_get m.tasks t) refl (can_runs m t can) in
+      let x = can_task m t can in
       line_by x.0 (fetched p x.0.top) w x.1 refl (sym (asked_at p m t x.0 x.1 x.2) ∙ h) large

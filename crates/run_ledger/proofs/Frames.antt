@@ -1,9 +1,9 @@
 -- What an entry of one worker leaves of what another worker holds.
-use Rattle.std.proofs.Common.{◌≡◌, ℕ, zero, suc, ◌+◌, Bool, true, false, cond, Option, Some, None, ◌∷◌, slice_get, nat_lt, inl, refl, ap, sym, subst, ◌∙◌, is_none, is_some, slice_set, inr, eq-eqb}
+use Rattle.std.proofs.Common.{◌≡◌, ℕ, zero, suc, ◌+◌, Bool, true, false, cond, Option, Some, None, ◌∷◌, slice_get, nat_lt, inl, refl, ap, sym, subst, ◌∙◌, is_none, slice_set, inr, eq-eqb}
 use Rattle.std.proofs.lemmas.Bool.{false≢true, and_parts, eqb-true, cases_eq}
 use Rattle.std.proofs.lemmas.Option.{same_Some}
 use Rattle.listed.proofs.Members.{got_other, got_same}
-use Rattle.listed.proofs.Options.{none_is}
+use Rattle.listed.proofs.Options.{none_is, none_of, none_some}
 use Rattle.run_trace.specs.declared.entry.Kind.{Kind}
 use Rattle.run_trace.specs.declared.entry.Kind.TheVariants.{Took, Ran, Chunk, Begin, End as EndOf, PutOff, Mark, More, Sweep, Fuel}
 use Rattle.run_trace.specs.Settings.{SettingsValue}
@@ -13,7 +13,6 @@ use Rattle.hh_model.specs.Step.{step, can_step, asked, is_running}
 use Rattle.hh_model.proofs.Runs.{waiting}
 use Rattle.run_ledger.specs.declared.data.Heap.{Heap}
 use Rattle.run_ledger.specs.declared.data.Ledger.{Ledger}
-use Rattle.run_ledger.specs.declared.data.RunEnd.{RunEnd}
 use Rattle.run_ledger.specs.declared.data.RunEnd.TheVariants.{Pool}
 use Rattle.run_ledger.specs.Heaps.{heap_of, or_fresh, with_heap, in_use}
 use Rattle.run_ledger.specs.Steps.{allocated_in, stepped_to, task_step, task_steps}
@@ -99,9 +98,6 @@ module _ (p : ProgramText) (s : SettingsValue) (l : Ledger) (w u v : ℕ) (S : S
   -- so is one that nobody holds, and one that waits
   not_ready : (t : ℕ) → is_ready l t ≡ true → u ≡ t → ⊥
   not_ready t h e = none_some (sym (none_is (heap_of l t).worker (and_parts (is_running (slice_get l.machine.tasks t)) (is_none (heap_of l t).worker) h).1) ∙ (ap (λ x. (heap_of l x).worker) (sym e) ∙ held))
-    where
-      none_some : ◌≡◌ {A = Option ℕ} None (Some v) → ⊥
-      none_some q = absurd cc
 
   not_waiting_one : (t : ℕ) → waiting l.machine.tasks t ≡ true → u ≡ t → ⊥
   not_waiting_one t h e = wait_run l.machine u (ap (waiting l.machine.tasks) e ∙ h) run
@@ -118,16 +114,12 @@ module _ (p : ProgramText) (s : SettingsValue) (l : Ledger) (w u v : ℕ) (S : S
   left_kind (Sweep t g) h = left_heap l t u _ (not_waiting_one t (wait_tells l t _ h).0)
   left_kind Fuel h = (same_owner l.machine u, refl)
 
-no_end : (o : Option RunEnd) → is_some o ≡ false → o ≡ None
-no_end None h = refl
-no_end (Some e) h = absurd (false≢true (sym h))
-
 pub entries_leave_others : EntriesLeaveOthers
 entries_leave_others p s before rest e u v legal held other =
     let l : Ledger = ledger_of p s before in
     let c = cut_legal p s before (e ∷ rest) (opening p s) legal in
     let now = (and_parts (is_none (refusal p s l e)) (is_legal_from p s (after p s l e) rest) c.1).0 in
     let tells = entry_tells p s l e now in
-    let run = (tasks_are_held_once p s before c.0).runs (no_end l.end tells.0) u v held in
+    let run = (tasks_are_held_once p s before c.0).runs (none_of l.end tells.0) u v held in
     let q = left_kind p s l e.worker u v (legal_sound p s before c.0) other held run e.kind tells.2 in
     record { owner = q.0; heap = ap or_fresh q.1 }

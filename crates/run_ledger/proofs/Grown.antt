@@ -7,6 +7,7 @@ use Rattle.std.proofs.lemmas.Bool.{false≢true}
 use Rattle.std.proofs.lemmas.Option.{same_Some}
 use Rattle.listed.proofs.Members.{got_within}
 use Rattle.listed.proofs.Places.{got_some}
+use Rattle.listed.proofs.Options.{none_some}
 use Rattle.hh_lang.specs.declared.instr.Instr.{Instr}
 use Rattle.hh_lang.specs.declared.instr.Instr.TheVariants.{Set, Mov, Movr, Nil as NilOf, Calc, Same, Jmp, Jz, Newm, Pack, Getr, Geti, Putr, Puti, Cntr, Cnti, Freeze, Cas, Call, Par, Ret, Out}
 use Rattle.hh_lang.specs.declared.program.Line.{Line}
@@ -279,9 +280,6 @@ module _ (p : ProgramText) (m : State) (t : ℕ) (K : Kept m) (can : can_step m 
   none_by : Grows t (asked p m t) m.store (step p m t).store → asked p m t ≡ None → store_words (step p m t).store ≡ store_words m.store
   none_by (inl g) e = g.1.1
   none_by (inr (v, e', a)) e = absurd (none_some (sym e ∙ e'))
-    where
-      none_some : {v : ℕ} → ◌≡◌ {A = Option ℕ} None (Some v) → ⊥
-      none_some q = absurd cc
 
   some_by : Grows t (asked p m t) m.store (step p m t).store → (w : ℕ) → asked p m t ≡ Some w → store_words (step p m t).store ≡ store_words m.store + words_at (step p m t) (next_name t m.store)
   some_by (inl g) w e = absurd cc

@@ -100,6 +100,14 @@ still l t I h e c = sym (ap (λ o. is_some (worker_at o)) e) ∙ I.out t (ap col
 
 -- A STEP
 
+-- who holds a heap goes on to where an object is placed in it
+pub placed_worker : (h : Heap) (n : Name) (w : ℕ) → (placed h n w).worker ≡ h.worker
+placed_worker h n w = by (is_small w)
+  where
+    by : (v : Bool) → (cond v (record h { chunks = put_last h.chunks n; room = h.room - w; since = h.since + w }) (record h { large = h.large ++ n ∷ []; reserved = 0; since = h.since + w })).worker ≡ h.worker
+    by true = refl
+    by false = refl
+
 module _ (p : ProgramText) (l : Ledger) (t : ℕ) (S : SoundAt t l) (I : MannedLedger l) (can : can_step l.machine t ≡ true) where
   abbrev b : Ledger
   b = allocated_in p l t
@@ -124,13 +132,6 @@ module _ (p : ProgramText) (l : Ledger) (t : ℕ) (S : SoundAt t l) (I : MannedL
             ∙ (ap worker_at (got_same l.heaps t heap.0 h1 heap.1) ∙ (placed_worker heap.0 (next_name t l.machine.store) w ∙ (sym (ap worker_at heap.1) ∙ ap (λ v. worker_at (slice_get l.heaps v)) (sym q))))
         | inr ne ↦ ap worker_at (got_other l.heaps t u h1 ne)
       ]
-    where
-      placed_worker : (h : Heap) (n : Name) (w : ℕ) → (placed h n w).worker ≡ h.worker
-      placed_worker h n w = by (is_small w)
-        where
-          by : (v : Bool) → (cond v (record h { chunks = put_last h.chunks n; room = h.room - w; since = h.since + w }) (record h { large = h.large ++ n ∷ []; reserved = 0; since = h.since + w })).worker ≡ h.worker
-          by true = refl
-          by false = refl
 
   collecting_b : (o : Option ℕ) (u : ℕ) → (u ≡ t → ⊥) → collecting (slice_get (allocated_by l t o).heaps u) ≡ collecting (slice_get l.heaps u)
   collecting_b None u ne = refl

@@ -4,6 +4,7 @@ use Rattle.std.proofs.lemmas.Bool.{cases_eq, cases_lt, both_ways, false≢true, 
 use Rattle.std.proofs.lemmas.Option.{same_Some}
 use Rattle.std.proofs.Math.Path.{fun_ext}
 use Rattle.listed.proofs.Members.{In, got_same, got_other, got_front, got_past, got_within, same_view, in_append_left}
+use Rattle.listed.proofs.Places.{got_some}
 use Rattle.hh_lang.specs.Form.{ProgramText}
 use Rattle.hh_model.specs.declared.data.Name.{Name}
 use Rattle.hh_model.specs.declared.data.Status.{Status}
@@ -33,16 +34,7 @@ use Rattle.run_ledger.proofs.Sound.{names_of, InHeaps, Keeps, Owners, Spares, co
 pub use Rattle.run_ledger.specs.Sound.{SoundAt}
 
 pub heap_there : (tasks : List Task) (heaps : List Heap) (t : ℕ) → length heaps ≡ length tasks → t < length tasks → (h : Heap) × (slice_get heaps t ≡ Some h)
-heap_there tasks heaps t len lt = go (slice_get heaps t) refl
-  where
-    inside : (xs : List Heap) (k : ℕ) → k < length xs → slice_get xs k ≡ None → ⊥
-    inside [] k l e = omega arith
-    inside (x ∷ xs) zero l e = cc
-    inside (x ∷ xs) (suc k) l e = inside xs k (omega arith) e
-
-    go : (o : Option Heap) → slice_get heaps t ≡ o → (h : Heap) × (slice_get heaps t ≡ Some h)
-    go None e = absurd (inside heaps t (omega arith) e)
-    go (Some h) e = (h, e)
+heap_there tasks heaps t len lt = got_some heaps t (omega arith)
 
 -- who holds the task of a heap
 abbrev pub worker_at : Option Heap → Option ℕ
@@ -798,3 +790,8 @@ task_step_sound p l t S = by (can_step l.machine t) refl
 pub task_steps_sound : (p : ProgramText) (k : ℕ) (l : Ledger) (t : ℕ) → SoundAt t l → SoundAt t (task_steps p l t k)
 task_steps_sound p zero l t S = S
 task_steps_sound p (suc k) l t S = task_steps_sound p k (task_step p l t) t (task_step_sound p l t S)
+
+-- the last of so many steps
+pub steps_last : (p : ProgramText) (l : Ledger) (t j : ℕ) → task_steps p l t (suc j) ≡ task_step p (task_steps p l t j) t
+steps_last p l t zero = refl
+steps_last p l t (suc j) = steps_last p (task_step p l t) t j

@@ -1,10 +1,9 @@
 -- How each entry changes the chunks in use.
 use Rattle.std.proofs.Common.{◌≡◌, ℕ, zero, suc, ◌+◌, ◌-◌, ◌<◌, ◌≤◌, ◌==◌, ◌||◌, not, arith, Bool, true, false, cond, Option, Some, None, List, [], ◌∷◌, ◌++◌, map, length, length-append, slice_get, slice_set, sum_by, nat_lt, is_none, is_some, unwrap_or, ◌⊎◌, inl, inr, refl, ap, sym, subst, ◌∙◌}
-use Rattle.std.proofs.lemmas.Bool.{false≢true, both_ways, ltb-false, eqb-true, eq-eqb, cases_lt}
+use Rattle.std.proofs.lemmas.Bool.{false≢true, both_ways, ltb-false, eqb-true, eq-eqb, cases_lt, not-false, not-true}
 use Rattle.std.proofs.lemmas.List.{length-map}
 use Rattle.std.proofs.lemmas.List.Sums.{sum_by-append, sum_by-cons}
 use Rattle.std.proofs.lemmas.Option.{same_Some}
-use Rattle.listed.proofs.Members.{In, in_append_right}
 use Rattle.hh_lang.specs.Form.{ProgramText}
 use Rattle.run_trace.specs.declared.entry.Kind.{Kind}
 use Rattle.run_trace.specs.declared.entry.Kind.TheVariants.{Took, Ran, Chunk, Begin, End as EndOf, PutOff, Mark, More, Sweep, Fuel}
@@ -18,21 +17,20 @@ use Rattle.run_ledger.specs.declared.data.Heap.{Heap}
 use Rattle.run_ledger.specs.declared.data.Ledger.{Ledger}
 use Rattle.run_ledger.specs.declared.data.Refused.{Refused}
 use Rattle.run_ledger.specs.declared.data.RunEnd.TheVariants.{Pool}
-use Rattle.run_ledger.specs.Heaps.{chunk_words, units, is_small, words_of, words_at, units_sum, begun_in, units_in, heap_at, heap_of, or_fresh, with_heap, with_heap_at, in_use, placed, put_last, lacks_room, take_of, collected, end_numbers, swept_heap, sweep_number, in_snapshot, within, left_in}
+use Rattle.run_ledger.specs.Heaps.{chunk_words, units, is_small, words_at, units_sum, begun_in, units_in, heap_at, heap_of, or_fresh, with_heap, with_heap_at, in_use, placed, put_last, lacks_room, take_of, collected, end_numbers, swept_heap, sweep_number, in_snapshot, within, left_in}
 use Rattle.run_ledger.specs.Steps.{on_asked, allocated_by, allocated_in, stepped_to, task_step, task_steps, is_due, is_in_need, is_private, standing}
 use Rattle.run_ledger.specs.Entries.{refusal, after, after_kind, chunk_units, with_chunk, is_out, counted}
 use Rattle.run_ledger.specs.Journals.{ledger_of, is_legal}
+use Rattle.run_ledger.proofs.Booked as booked
 use Rattle.run_ledger.proofs.Booked.{BookedLedger, asked_runs, put_length, units_additive, total_same, task_steps_booked}
-use Rattle.run_ledger.proofs.Bounds.{asked_bounds, stands_by, ran_tells}
-use Rattle.run_ledger.proofs.Chunks.{sum_same}
-use Rattle.run_ledger.proofs.Grown.{Grown}
+use Rattle.run_ledger.proofs.Bounds.{stands_by, ran_tells}
 use Rattle.run_ledger.proofs.Journals.{none_unless, none_where, out_tells, wait_tells, entry_tells, legal_sound}
 use Rattle.run_ledger.proofs.Laid.{collected_bound, nonempty_length}
 use Rattle.run_ledger.proofs.Machine.{stepped_machine}
-use Rattle.run_ledger.proofs.Sound.{collecting, names_of, SoundLedger}
+use Rattle.run_ledger.proofs.Sound.{collecting, SoundLedger}
 use Rattle.run_ledger.proofs.Space.{legal_booked}
-use Rattle.run_ledger.proofs.Steps.{SoundAt, StepLeaves, heap_of_task, can_tells, task_step_sound}
-use Rattle.run_ledger.proofs.Stocks.{StockedLedger, G, L, task_step_stocked, legal_stocked}
+use Rattle.run_ledger.proofs.Steps.{SoundAt, StepLeaves, heap_of_task, task_step_sound}
+use Rattle.run_ledger.proofs.Stocks.{StockedLedger, L, task_step_stocked, legal_stocked}
 use Rattle.run_ledger.proofs.Weights.{total, total_set, moves_total, kept_weight}
 use Rattle.run_ledger.specs.Use.{ChunkGoes, UseGoes, EntriesUse, StepsUseNone, ChunksAreUsed}
 use Rattle.run_ledger.proofs.Exact.{PacksAreSmall, large_exact}
@@ -53,58 +51,36 @@ module _ (p : ProgramText) (s : SettingsValue) (packs : PacksAreSmall p) (l : Le
   abbrev k : Ledger
   k = stepped_to (allocated_in p l t) t (step p l.machine t)
 
-  heap : (h : Heap) × (slice_get l.heaps t ≡ Some h)
-  heap = heap_of_task l t S.0 (can_tells l.machine t can).1
-
-  grown : Grown p l.machine t
-  grown = G p l t S I can
+  abbrev heap : (h : Heap) × (slice_get l.heaps t ≡ Some h)
+  heap = booked.heap p s l t S I B can fine
 
   leaves : StepLeaves t l (allocated_in p l t) (stepped_to (allocated_in p l t) t (step p l.machine t))
   leaves = L p l t S I can
 
-  units_same : (u : ℕ) (h : Heap) → slice_get l.heaps u ≡ Some h → units_in m' h ≡ units_in m h
-  units_same u h e =
-      ap (λ w. length h.chunks + w + h.reserved + begun_in h)
-      (sum_same (λ n. units (words_at m' n)) (λ n. units (words_at m n)) h.large (λ n i. ap units (grown.words n (I.stored n (u, subst (λ o. In (names_of o) n) (sym e) (in_append_right _ h.large n i))))))
-
   abbrev next : Name
   next = next_name t l.machine.store
-
-  at_least : (w : ℕ) → asked p m t ≡ Some w → 2 ≤ w
-  at_least w e =
-      let q = grown.new w e in
-      let size : words_at m' next ≡ words_of (Some q.0.0) = ap words_of q.0.1 in
-      let le : words_at m' next ≤ w = q.1 in
-      omega arith
-
-  lacks_at : (w : ℕ) → asked p m t ≡ Some w → lacks_room heap.0 w ≡ false
-  lacks_at w e = ap (λ o. lacks_room (or_fresh o) w) (sym heap.1) ∙ (asked_bounds s (heap_of l t) (asked p m t) w e fine).1
 
   placed_units : (w : ℕ) → asked p m t ≡ Some w → (v : Bool) → is_small w ≡ v → cond v (nat_lt heap.0.room w) (not (heap.0.reserved == units w)) ≡ false
       → units_in m' (cond v (record heap.0 { chunks = put_last heap.0.chunks next; room = heap.0.room - w; since = heap.0.since + w }) (record heap.0 { large = heap.0.large ++ next ∷ []; reserved = 0; since = heap.0.since + w })) ≡ units_in m' heap.0
   placed_units w e true is lacks =
-      let a = at_least w e in
+      let a = (booked.at_least p s l t S I B can fine w e).0 in
       let r : w ≤ heap.0.room = ltb-false heap.0.room w lacks in
       let c = (B.each t heap.0 heap.1).room (omega arith) in
       let d = put_length heap.0.chunks next c in
       omega arith
   placed_units w e false is lacks =
-      let r : heap.0.reserved ≡ units w = eqb-true heap.0.reserved (units w) (holds (heap.0.reserved == units w) lacks) in
+      let r : heap.0.reserved ≡ units w = eqb-true heap.0.reserved (units w) (not-false (heap.0.reserved == units w) lacks) in
       let c = sum_by-append (λ n. units (words_at m' n)) heap.0.large (next ∷ []) in
       let d : sum_by (λ n. units (words_at m' n)) (next ∷ []) ≡ units (words_at m' next) = sum_by-cons (λ n. units (words_at m' n)) next [] ∙ omega arith in
       let f : units (words_at m' next) ≡ units w = ap units (large_exact p packs m t can I.counted.1.rows w e is) in
       omega arith
-    where
-      holds : (v : Bool) → not v ≡ false → v ≡ true
-      holds true q = refl
-      holds false q = sym q
 
   use_by : (o : Option ℕ) → asked p m t ≡ o → total (units_in m') (allocated_by l t o).heaps ≡ total (units_in m) l.heaps
-  use_by None e = total_same (units_in m') (units_in m) l.heaps units_same
+  use_by None e = total_same (units_in m') (units_in m) l.heaps (booked.units_same p s l t S I B can fine)
   use_by (Some w) e =
-      let a = total_same (units_in m') (units_in m) l.heaps units_same in
+      let a = total_same (units_in m') (units_in m) l.heaps (booked.units_same p s l t S I B can fine) in
       let c = total_set (units_in m') l.heaps t heap.0 (placed heap.0 next w) heap.1 in
-      let d : units_in m' (placed heap.0 next w) ≡ units_in m' heap.0 = placed_units w e (is_small w) refl (lacks_at w e) in
+      let d : units_in m' (placed heap.0 next w) ≡ units_in m' heap.0 = placed_units w e (is_small w) refl (booked.lacks_at p s l t S I B can fine w e) in
       let f : total (units_in m') (allocated_by l t (Some w)).heaps ≡ total (units_in m') (slice_set l.heaps t (placed heap.0 next w)) = ap (λ (q : Ledger). total (units_in m') q.heaps) (ap (with_heap_at l t (λ g. placed g next w)) heap.1) in
       omega arith
 
@@ -175,16 +151,12 @@ module _ (p : ProgramText) (s : SettingsValue) (l : Ledger) (t : ℕ) (S : Sound
       by true small lacks = omega (arith, length-append h.chunks ([] ∷ []))
       by false small lacks = let z : h.reserved ≡ 0 = none (cases_lt 0 h.reserved) in omega arith
         where
-          held : (v : Bool) → not v ≡ true → v ≡ false
-          held true q = sym q
-          held false q = refl
-
           none : (0 < h.reserved) ⊎ (h.reserved ≤ 0) → h.reserved ≡ 0
           none (inl pos) =
               let q = (B.each t h e).reserved pos in
               let same : q.0 ≡ w = same_Some q.0 w (sym q.1 ∙ is) in
               let r : h.reserved ≡ units w = q.3 ∙ ap units same in
-              absurd (both_ways (h.reserved == units w) (held (h.reserved == units w) lacks) (eq-eqb h.reserved (units w) r))
+              absurd (both_ways (h.reserved == units w) (not-true (h.reserved == units w) lacks) (eq-eqb h.reserved (units w) r))
           none (inr le) = omega arith
 
   pub chunk_use : (h : Heap) → slice_get l.heaps t ≡ Some h → is_in_need p l t ≡ true → UseGoes p s l (after_kind p s l 0 (Chunk t)) (Chunk t)

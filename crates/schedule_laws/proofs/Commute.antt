@@ -11,7 +11,7 @@ use Rattle.hh_model.specs.declared.data.State.{State}
 use Rattle.hh_model.specs.Effect.{effect}
 use Rattle.hh_model.specs.Step.{can_step, fetched, follow, is_running, run, setting, step}
 use Rattle.hh_model.proofs.Steps.{runs_is}
-use Rattle.hh_model.proofs.Taken.{can_runs, step_none, step_taken}
+use Rattle.hh_model.proofs.Taken.{can_runs, step_none, step_taken, can_task}
 use Rattle.race_report.specs.declared.data.Access.{Access}
 use Rattle.race_report.specs.Accesses.{access_of}
 use Rattle.renaming_laws.proofs.Changed.{Change, ChangesBy, Edit, Edits, EditsBy, Freezes, Grows, Same, SetNumber, SetRef, Writes, edited}
@@ -22,7 +22,7 @@ use Rattle.schedule_laws.proofs.Accessed.{field_of, written_at}
 use Rattle.schedule_laws.proofs.Beside.{Leaves}
 use Rattle.schedule_laws.proofs.Commuting.{Even}
 use Rattle.schedule_laws.proofs.Crossed.{SameButNumbers, same_itself}
-use Rattle.schedule_laws.proofs.Leaving.{D, K, N, can_there, free_may, going, here_acting, runs_record, same, there}
+use Rattle.schedule_laws.proofs.Leaving.{D, K, N, can_there, free_may, going, here_acting, same, there}
 use Rattle.schedule_laws.proofs.Lows.{run_low}
 use Rattle.schedule_laws.proofs.Moves.{Two, both_to}
 use Rattle.schedule_laws.proofs.Siblings.{commute_two}
@@ -134,8 +134,8 @@ module _ (p : ProgramText) (limit : ℕ) (ts : List ℕ) where
 
     pub commute : SameButNumbers m (step p (step p m t) u) (step p (step p m u) t)
     commute =
-        let x = runs_record m t B.first in
-        let y = runs_record m u B.second in
+        let x = can_task m t B.first in
+        let y = can_task m u B.second in
         by_lines x.0 y.0 x.1 x.2 y.1 y.2 (fetched p x.0.top) (fetched p y.0.top) refl refl
 
 pub steps_commute : StepsCommute

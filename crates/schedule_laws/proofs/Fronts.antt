@@ -27,7 +27,7 @@ use Rattle.hh_model.proofs.Kept.{step_kept}
 use Rattle.hh_model.proofs.Root.{runs_have_one_root}
 use Rattle.hh_model.proofs.Steps.{step_cases}
 use Rattle.path_laws.proofs.Stored.{names_are_stored}
-use Rattle.hh_model.proofs.Taken.{can_made, can_runs, step_idle}
+use Rattle.hh_model.proofs.Taken.{can_made, can_runs, step_idle, can_task}
 use Rattle.path_laws.proofs.Leaves.{can_going}
 use Rattle.race_report.specs.declared.data.Field.{Field}
 use Rattle.race_report.specs.declared.data.Access.{Access}
@@ -46,7 +46,7 @@ use Rattle.schedule_laws.proofs.Carrying.{Carried, carried, print_to}
 use Rattle.schedule_laws.proofs.Commute.{even_same, steps_commute}
 use Rattle.schedule_laws.proofs.Commuting.{even_alike}
 use Rattle.schedule_laws.proofs.Composed.{alike_then, renaming_then, then}
-use Rattle.schedule_laws.proofs.Leaving.{can_there, clashes_stay, runs_record, steps_leave_steps}
+use Rattle.schedule_laws.proofs.Leaving.{can_there, clashes_stay, steps_leave_steps}
 use Rattle.schedule_laws.proofs.SideBySide.{running_tasks_are_apart}
 use Rattle.schedule_laws.proofs.Splits.{InOrder, Split, split_next}
 
@@ -110,7 +110,7 @@ module _ (p : ProgramText) (limit : ℕ) (hs : List ℕ) where
   -- an access names tasks that are there
   pub access_low : (f : ℕ → ℕ) → ((v : ℕ) → v < length m.tasks → f v ≡ v) → (t : ℕ) → can_step m t ≡ true → (a : Access) → access_of p m t ≡ Some a → access_to f a ≡ a
   access_low f old t can a ia =
-      let x = runs_record m t can in
+      let x = can_task m t can in
       let N = names_are_stored p limit hs in
       let z = by x.0 x.1 x.2 (fetched p x.0.top) refl in
       let s : f a.strand.task ≡ a.strand.task = old a.strand.task z.0 in
@@ -138,21 +138,21 @@ module _ (p : ProgramText) (limit : ℕ) (hs : List ℕ) where
           reach_object _ b n at r = absurd r
 
   -- the strand of what a task does
-  pub access_strand : (t : ℕ) (can : can_step m t ≡ true) (a : Access) → access_of p m t ≡ Some a → a.strand ≡ strand_of t (runs_record m t can).0
+  pub access_strand : (t : ℕ) (can : can_step m t ≡ true) (a : Access) → access_of p m t ≡ Some a → a.strand ≡ strand_of t (can_task m t can).0
   access_strand t can a ia = by (fetched p x.0.top) refl
     where
       x : (y : Task) × (slice_get m.tasks t ≡ Some y) × (is_running (Some y) ≡ true)
-      x = runs_record m t can
+      x = can_task m t can
 
       by : (o : Option Line) → fetched p x.0.top ≡ o → a.strand ≡ strand_of t x.0
       by None next = absurd (let h : None ≡ Some a = sym (ap (λ b. cond b (task_access p m t (slice_get m.tasks t)) None) can ∙ (ap (task_access p m t) x.1 ∙ ap (line_access m t x.0) next)) ∙ ia in cc)
       by (Some line) next = (found_at p m (names_are_stored p limit hs) t x.0 line (record { can = can; is = x.1; running = x.2; next = next }) a ia).strand
 
-  print_strand : (t : ℕ) (can : can_step m t ≡ true) (a : Print) → print_of p m t ≡ Some a → a.strand ≡ strand_of t (runs_record m t can).0
+  print_strand : (t : ℕ) (can : can_step m t ≡ true) (a : Print) → print_of p m t ≡ Some a → a.strand ≡ strand_of t (can_task m t can).0
   print_strand t can a ia = by_line (fetched p x.0.top) (sym (ap (λ b. cond b (task_print p m t (slice_get m.tasks t)) None) can ∙ ap (task_print p m t) x.1) ∙ ia)
     where
       x : (y : Task) × (slice_get m.tasks t ≡ Some y) × (is_running (Some y) ≡ true)
-      x = runs_record m t can
+      x = can_task m t can
 
       by_effect : (e : Effect) → print_by (strand_of t x.0) e ≡ Some a → a.strand ≡ strand_of t x.0
       by_effect (Prints k) h = ap (λ (w : Print). w.strand) (sym (same_Some _ a h))
@@ -173,10 +173,10 @@ module _ (p : ProgramText) (limit : ℕ) (hs : List ℕ) where
       λ i. record a { strand = record a.strand { task = s i } }
 
   -- strands of tasks that run at one time aren't in order
-  unordered : (ts : List ℕ) (t u : ℕ) (two : t ≡ u → ⊥) (can_t : can_step m t ≡ true) (can_u : can_step m u ≡ true) → Precedes (run_from p m ts).edges (strand_of t (runs_record m t can_t).0) (strand_of u (runs_record m u can_u).0) → ⊥
+  unordered : (ts : List ℕ) (t u : ℕ) (two : t ≡ u → ⊥) (can_t : can_step m t ≡ true) (can_u : can_step m u ≡ true) → Precedes (run_from p m ts).edges (strand_of t (can_task m t can_t).0) (strand_of u (can_task m u can_u).0) → ⊥
   unordered ts t u two can_t can_u =
-      let x = runs_record m t can_t in
-      let y = runs_record m u can_u in
+      let x = can_task m t can_t in
+      let y = can_task m u can_u in
       running_tasks_are_apart p limit hs ts t u x.0 y.0 two (record { is = x.1; running = x.2 }) (record { is = y.1; running = y.2 })
 
   abbrev pub Front : List ℕ → ℕ → Type 0
@@ -226,7 +226,7 @@ module _ (p : ProgramText) (limit : ℕ) (hs ts : List ℕ) (t u : ℕ) (two : t
         let ordered = subst (λ o. InOrder (run_from p n0 (t ∷ ts)).edges (with_some o (accesses_from p n1 ts))) ia order in
         let w : Precedes (run_from p n0 (t ∷ ts)).edges a.strand c.0.strand = ordered.0 c.0 within c.2 in
         unordered p limit hs (t ∷ ts) t u two can_t can_u
-        (subst (Precedes (run_from p n0 (t ∷ ts)).edges (strand_of t (runs_record n0 t can_t).0)) (c.3 ∙ access_strand p limit hs u can_u b ib)
+        (subst (Precedes (run_from p n0 (t ∷ ts)).edges (strand_of t (can_task n0 t can_t).0)) (c.3 ∙ access_strand p limit hs u can_u b ib)
         (subst (λ s. Precedes (run_from p n0 (t ∷ ts)).edges s c.0.strand) (access_strand p limit hs t can_t a ia) w))
 
     B : AreBeside p n0 t u
@@ -286,7 +286,7 @@ module _ (p : ProgramText) (limit : ℕ) (hs ts : List ℕ) (t u : ℕ) (two : t
     prints_apart a b ia ib (inl e) = two (ap (λ (s : Strand). s.task) (sym (print_strand p limit hs t can_t a ia) ∙ (e ∙ print_strand p limit hs u can_u b ib)))
     prints_apart a b ia ib (inr w) =
         unordered p limit hs (t ∷ ts) t u two can_t can_u
-        (subst (Precedes (run_from p n0 (t ∷ ts)).edges (strand_of t (runs_record n0 t can_t).0)) (print_strand p limit hs u can_u b ib)
+        (subst (Precedes (run_from p n0 (t ∷ ts)).edges (strand_of t (can_task n0 t can_t).0)) (print_strand p limit hs u can_u b ib)
         (subst (λ s. Precedes (run_from p n0 (t ∷ ts)).edges s b.strand) (print_strand p limit hs t can_t a ia) w))
 
     pub exchanged : Front p limit hs (t ∷ ts) u
@@ -314,7 +314,7 @@ module _ (p : ProgramText) (limit : ℕ) (hs ts : List ℕ) (t u : ℕ) (two : t
 
 -- a task that can take a step can take it after another's
 can_beside : (p : ProgramText) (limit : ℕ) (hs : List ℕ) (t u : ℕ) → (t ≡ u → ⊥) → can_step (run p limit hs) t ≡ true → can_step (run p limit hs) u ≡ true → (step p (run p limit hs) t).end ≡ None → can_step (step p (run p limit hs) t) u ≡ true
-can_beside p limit hs t u two can_t can_u going1 = let y = runs_record (run p limit hs) u can_u in can_there p limit hs t u two can_t can_u going1 y.0 y.1 y.2
+can_beside p limit hs t u two can_t can_u going1 = let y = can_task (run p limit hs) u can_u in can_there p limit hs t u two can_t can_u going1 y.0 y.1 y.2
 
 module _ (p : ProgramText) (limit : ℕ) where
   -- its own step is in front already

@@ -12,7 +12,7 @@ use Rattle.hh_model.specs.Precedence.{Precedes}
 use Rattle.hh_model.specs.Step.{can_step, run, run_from, start, step}
 use Rattle.hh_model.proofs.Counts.{run_on, run_push}
 use Rattle.hh_model.proofs.Kept.{run_kept}
-use Rattle.hh_model.proofs.Taken.{step_idle}
+use Rattle.hh_model.proofs.Taken.{step_idle, can_task}
 use Rattle.race_report.specs.declared.data.Access.{Access}
 use Rattle.race_report.specs.Accesses.{access_of, accesses_from, task_access, with_some}
 use Rattle.race_report.proofs.LabelSteps.{Begun, begun_running, run_keeps}
@@ -21,7 +21,6 @@ use Rattle.renaming_laws.proofs.Runs.{kept_here}
 use Rattle.schedule_laws.specs.Laws.{EveryRunGoesOn}
 use Rattle.schedule_laws.specs.Prints.{turns_from}
 use Rattle.schedule_laws.proofs.Fronts.{access_strand}
-use Rattle.schedule_laws.proofs.Leaving.{runs_record}
 use Rattle.schedule_laws.proofs.Schedules.{comes, whole}
 use Rattle.schedule_laws.proofs.Splits.{InOrder, from_order, in_some}
 
@@ -85,7 +84,7 @@ module _ (p : ProgramText) (limit : ℕ) where
     where
       first : (hs : List ℕ) (u : ℕ) (b : Access) → access_of p (run p limit hs) u ≡ Some b → (can_step (run p limit hs) u ≡ true) ⊎ (can_step (run p limit hs) u ≡ false) → Begun (run p limit hs) b.strand
       first hs u b e (inl can) =
-          let y = runs_record (run p limit hs) u can in
+          let y = can_task (run p limit hs) u can in
           subst (Begun (run p limit hs)) (sym (access_strand p limit hs u can b e)) (begun_running (run p limit hs) u y.0 (record { is = y.1; running = y.2 }))
       first hs u b e (inr idle) =
           absurd (let h : None ≡ Some b = sym (ap (λ w. cond w (task_access p (run p limit hs) u (slice_get (run p limit hs).tasks u)) None) idle) ∙ e in cc)

@@ -27,9 +27,8 @@ use Rattle.hh_model.proofs.Carried.{at_in}
 use Rattle.hh_model.proofs.Counts.{run_push}
 use Rattle.path_laws.proofs.FreeReads.{run_disentangled}
 use Rattle.hh_model.proofs.Kept.{run_kept, start_kept}
-use Rattle.hh_model.proofs.Root.{runs_tell}
 use Rattle.path_laws.proofs.Stored.{names_are_stored}
-use Rattle.hh_model.proofs.Taken.{can_runs, step_none, step_taken}
+use Rattle.hh_model.proofs.Taken.{step_none, step_taken, can_task}
 use Rattle.race_report.specs.declared.data.Field.{Field}
 use Rattle.race_report.specs.declared.data.Access.{Access}
 use Rattle.race_report.specs.Accesses.{access_by, access_of, line_access, ref_field, refs_in, swap_access, task_access, unless_trap, value_of}
@@ -303,12 +302,9 @@ module _ (p : ProgramText) (limit : ℕ) (ts : List ℕ) (t u : ℕ) (two : t �
     access_line None e b ib =
         absurd (let h : None ≡ Some b = sym (ap (λ q. cond q (task_access p m u (slice_get m.tasks u)) None) can_u ∙ (ap (task_access p m u) iu ∙ ap (line_access m u y) e)) ∙ ib in cc)
 
-pub runs_record : (m : State) (u : ℕ) → can_step m u ≡ true → (y : Task) × (slice_get m.tasks u ≡ Some y) × (is_running (Some y) ≡ true)
-runs_record m u can = let z = runs_tell (slice_get m.tasks u) (can_runs m u can) in (z.0, z.1, ap is_running (sym z.1) ∙ can_runs m u can)
-
 pub steps_leave_steps : StepsLeaveSteps
 steps_leave_steps p limit ts t u B going1 =
-    let y = runs_record (run p limit ts) u B.second in
+    let y = can_task (run p limit ts) u B.second in
     by y.0 y.1 y.2 (fetched p y.0.top) refl
   where
     by : (y : Task) → slice_get (run p limit ts).tasks u ≡ Some y → is_running (Some y) ≡ true → (o : Option Line) → fetched p y.top ≡ o → LeavesStep p (run p limit ts) t u
@@ -317,6 +313,6 @@ steps_leave_steps p limit ts t u B going1 =
 
 pub clashes_stay : ClashesStay
 clashes_stay p limit ts t u a b two can_t can_u going1 ia ib C =
-    let y = runs_record (run p limit ts) u can_u in
+    let y = can_task (run p limit ts) u can_u in
     let l = access_line p limit ts t u two can_t can_u going1 y.0 y.1 y.2 (fetched p y.0.top) refl b ib in
     clash_there p limit ts t u two can_t can_u going1 y.0 y.1 y.2 l.0 l.1 a b ia ib C

@@ -1,8 +1,7 @@
 -- Lists in order, put together.
 use Rattle.std.proofs.Common.{◌≡◌, ◌⊎◌, ℕ, zero, suc, Some, List, [], ◌∷◌, ◌++◌, map, slice_get, take, inl, inr, refl, sym, subst}
-use Rattle.std.proofs.lemmas.Option.{same_Some}
 use Rattle.listed.specs.Members.{In}
-use Rattle.listed.proofs.Members.{in_append_cases, in_append_left, in_append_right}
+use Rattle.listed.proofs.Members.{in_append_cases, in_append_left, in_append_right, got_in}
 use Rattle.core_relation.proofs.objects.Members.{in_map, map_in}
 use Rattle.heap_reading.specs.Image.{AreAll, Rises}
 
@@ -24,12 +23,7 @@ rises_map {B = B} before then f (x ∷ xs) up keeps = (first, rises_map before t
 pub rises_before : {A : Type 0} (before : A → A → Type 0) (xs : List A) (i : ℕ) (x y : A) → Rises before xs → slice_get xs i ≡ Some x → In (take i xs) y → before y x
 rises_before before [] i x y up e j = absurd cc
 rises_before before (z ∷ zs) zero x y up e j = absurd j
-rises_before before (z ∷ zs) (suc i) x y up e (inl same) = subst (λ k. before k x) same (up.0 x (got zs i e))
-  where
-    got : {A : Type 0} {x : A} (zs : List A) (i : ℕ) → slice_get zs i ≡ Some x → In zs x
-    got [] i e = absurd cc
-    got {x = x} (z ∷ zs) zero e = inl (same_Some z x e)
-    got (z ∷ zs) (suc i) e = inr (got zs i e)
+rises_before before (z ∷ zs) (suc i) x y up e (inl same) = subst (λ k. before k x) same (up.0 x (got_in zs i x e))
 rises_before before (z ∷ zs) (suc i) x y up e (inr j) = rises_before before zs i x y up.1 e j
 
 module _ {A : Type 0} (before : A → A → Type 0) (Is Js Ks : A → Type 0) (xs ys : List A) where

@@ -4,7 +4,7 @@ use Rattle.std.specs.Option.{option_flatten}
 use Rattle.std.proofs.lemmas.Bool.{cases_eq}
 use Rattle.std.proofs.lemmas.Option.{same_Some}
 use Rattle.listed.proofs.Members.{got_other}
-use Rattle.listed.proofs.Options.{none_of}
+use Rattle.listed.proofs.Options.{none_of, none_some}
 use Rattle.hh_model.specs.declared.data.End.TheVariants.{Done, Trapped, Entangled}
 use Rattle.run_trace.specs.Entry.{EntryValue}
 use Rattle.run_ledger.specs.declared.data.Ledger.{Ledger}
@@ -36,15 +36,9 @@ pub entry_on : (w : SharedValue) (e : EntryValue) → refused w e ≡ None → (
 entry_on w e free = none_of (accounts w).end (entry_tells w.program w.settings (accounts w) e (ap is_none free)).0
 
 -- who holds a heap once the root is handed back held it before
-none_worker : {A : Type 0} (o : Option ℕ) (u : ℕ) → o ≡ None → o ≡ Some u → A
-none_worker o u n e = by (sym n ∙ e)
-  where
-    by : {A : Type 0} → ◌≡◌ {A = Option ℕ} None (Some u) → A
-    by q = absurd cc
-
 held_rested : (l : Ledger) (t u : ℕ) → (heap_of (rested l 0) t).worker ≡ Some u → (heap_of l t).worker ≡ Some u
 held_rested l t u e = elim (cases_eq t 0) [
-  | inl q ↦ none_worker (heap_of (rested l 0) t).worker u (ap (λ z. (heap_of (rested l 0) z).worker) q ∙ rested_worker l 0) e
+  | inl q ↦ none_some (sym (ap (λ z. (heap_of (rested l 0) z).worker) q ∙ rested_worker l 0) ∙ e)
   | inr ne ↦ sym (ap (λ o. (or_fresh o).worker) (with_off l 0 t let_go ne)) ∙ e
 ]
 

@@ -3,6 +3,7 @@ use Rattle.std.proofs.Common.{◌≡◌, ℕ, ◌==◌, ◌&&◌, Bool, true, fa
 use Rattle.std.specs.List.{list_any}
 use Rattle.std.proofs.lemmas.Bool.{eqb-true, false≢true}
 use Rattle.listed.proofs.Members.{any_from_in, in_from_any}
+use Rattle.listed.proofs.Options.{none_some}
 use Rattle.object_layout.specs.ChunkValue.{ChunkValue}
 use Rattle.chunk_pool.specs.declared.pool.Slot.{Slot}
 use Rattle.chunk_pool.specs.PoolValue.{PoolValue, slot_at, owner_of}
@@ -64,6 +65,3 @@ fresh_by (k ∷ ks) n f = fresh_cons k ks n (f k (inl refl)) (fresh_by ks n (λ 
 
 pub owner_none : (pool : PoolValue) (n u : ℕ) → slot_at pool n ≡ None → owner_of pool n ≡ Some u → ⊥
 owner_none pool n u e o = none_some (ap (option_map (λ (h : Slot). h.owner)) (sym e) ∙ o)
-  where
-    none_some : ◌≡◌ {A = Option ℕ} None (Some u) → ⊥
-    none_some q = absurd cc

@@ -16,6 +16,7 @@ use Rattle.task_machine.specs.Accounts.{AreReserved, IsCounted, large_names, nam
 use Rattle.task_machine.specs.Place.{name_of}
 use Rattle.shared_value.specs.Objects.{chunk_of, chunks_of}
 use Rattle.shared_value.specs.Stands.{HeapForm}
+use Rattle.listed.proofs.Options.{none_some}
 
 -- ---- NAMES
 
@@ -100,9 +101,6 @@ module _ (h : LeafHeapValue) (F : HeapForm h) (units : ℕ) (laid : map (λ (c :
           let y = spare_tells (chunk_at h.chunks x.0) x.2 in
           let z : h.reserved ≡ Some x.0 = F.spare x.0 x.1 y.0 y.1 in
           absurd (none_some (sym e ∙ z))
-        where
-          none_some : {i : ℕ} → ◌≡◌ {A = Option ℕ} None (Some i) → ⊥
-          none_some q = absurd cc
 
   some_reserved : (i : ℕ) → h.reserved ≡ Some i → (chunk_at h.chunks i).size ≡ 1024 * units
   some_reserved i e =

@@ -104,7 +104,7 @@ one_spare (k ∷ ks) (suc i) lt s f =
     cond-false (is_spare (chunk_of k)) (chunk_of k ∷ reserved_chunks (chunks_of ks)) (reserved_chunks (chunks_of ks)) (false_from_ne_true (is_spare (chunk_of k)) (λ t. let e : suc i ≡ 0 = f 0 (omega arith) t in omega (arith, e)))
     ∙ one_spare ks i (omega (arith, lt)) s (λ j l t. let e : suc i ≡ suc j = f (suc j) (omega (arith, l)) t in omega (arith, e))
 
-some_units : (n : ℕ) → 1 ≤ n → n ∷ [] ≡ reserved_units n
+pub some_units : (n : ℕ) → 1 ≤ n → n ∷ [] ≡ reserved_units n
 some_units zero lt = absurd (omega (arith, lt))
 some_units (suc n) lt = refl
 

@@ -4,19 +4,17 @@ use Rattle.std.specs.Prelude.{option_map}
 use Rattle.std.proofs.lemmas.Bool.{cases_eq, cond-true, cond-false, eqb-true, ltb-true, false≢true, both_ways}
 use Rattle.std.proofs.lemmas.Option.{same_Some}
 use Rattle.listed.proofs.Places.{in_got, in_map}
-use Rattle.hh_lang.specs.Form.{ProgramText}
 use Rattle.hh_model.specs.declared.data.Frame.{Frame as Framed}
 use Rattle.hh_model.specs.declared.data.Name.{Name}
 use Rattle.hh_model.specs.declared.data.Object.{Object}
-use Rattle.hh_model.specs.declared.data.Status.{Status}
-use Rattle.hh_model.specs.declared.data.Status.TheVariants.{Running, Waiting, Ended, Joined}
-use Rattle.hh_model.specs.declared.data.Task.{Task}
+use Rattle.hh_model.specs.declared.data.Status.TheVariants.{Running}
 use Rattle.hh_model.specs.declared.data.State.{State}
 use Rattle.hh_model.specs.Effect.{object_at}
-use Rattle.hh_model.specs.Step.{is_joined, is_over, is_on_path, is_running, is_waiting, owner_of, parents, run, run_from, runs, start, step, waits}
-use Rattle.hh_model.proofs.Counts.{run_on, step_limit}
-use Rattle.hh_model.proofs.Kept.{Kept, step_kept, start_kept}
+use Rattle.hh_model.specs.Step.{is_joined, is_over, is_on_path, is_waiting, owner_of, parents, run, run_from, runs, start, waits}
+use Rattle.hh_model.proofs.Counts.{run_on}
+use Rattle.hh_model.proofs.Kept.{start_kept}
 use Rattle.hh_model.proofs.Paths.{path_along, path_le}
+use Rattle.hh_model.proofs.Sizes.{limit_from}
 use Rattle.run_trace.specs.Settings.{field_limit}
 use Rattle.run_trace.specs.declared.entry.Kind.TheVariants.{Ran}
 use Rattle.run_ledger.specs.declared.data.Heap.{Heap}
@@ -30,6 +28,7 @@ use Rattle.run_ledger.proofs.Machine.{kind_machine, machine_is_run, heap_machine
 use Rattle.run_ledger.proofs.Members.{is_name_itself, same_from_is_name}
 use Rattle.run_ledger.proofs.Sound.{SoundLedger}
 use Rattle.run_ledger.proofs.Going.{machine_goes_on}
+use Rattle.run_ledger.proofs.Booked.{wait_run}
 use Rattle.object_layout.specs.declared.word.Addr.{Addr}
 use Rattle.object_layout.specs.declared.word.Birth.{Birth}
 use Rattle.object_layout.specs.Cell.{Born, Cell}
@@ -146,12 +145,6 @@ module _ (place : Name → Option Addr) where
   frames_stand (f ∷ fs) [] h = h
   frames_stand (f ∷ fs) (x ∷ xs) h = (frame_stands f x h.0, frames_stand fs xs h.1)
 
--- ---- RUNS
-
-pub limit_from : (p : ProgramText) (ts : List ℕ) (m : State) → Kept m → (run_from p m ts).field_limit ≡ m.field_limit
-limit_from p [] m K = refl
-limit_from p (t ∷ ts) m K = limit_from p ts (step p m t) (step_kept p m t K) ∙ step_limit p m t K
-
 -- ---- THE LINK
 
 rest_near : (o : Option Rest) → ((r : Rest) → o ≡ Some r → HeapForm r.heap) → (q : Located) → In (objects_in (home_in o).chunks) q → q.at.offset < 1024
@@ -244,20 +237,10 @@ module _ (w : SharedValue) (k : ℕ) (p : Private) (I : IsSharedValue w) (F : Fi
       waiting true e = ap is_waiting (sym (alone.tasks a ne)) ∙ e
       waiting false e = absurd (ne (leaf_alone L sound a t e live path))
 
-      not_both : (o : Option Task) → is_waiting o ≡ true → is_running o ≡ true → ⊥
-      not_both None x y = false≢true x
-      not_both (Some x) y z = by x.status y z
-        where
-          by : (s : Status) → waits s ≡ true → runs s ≡ true → ⊥
-          by Running y z = false≢true y
-          by Waiting y z = false≢true z
-          by (Ended n b) y z = false≢true y
-          by Joined y z = false≢true y
-
       by : (o : Option ℕ) → (heap_of l a).worker ≡ o → Rests l a
       by None e = e
       by (Some u) e =
-          absurd (not_both (slice_get l.machine.tasks a) (waiting (is_waiting (slice_get L.machine.tasks a)) refl) ((tasks_are_held_once w.program w.settings w.journal.items I.legal).runs on a u e))
+          absurd (wait_run l.machine a (waiting (is_waiting (slice_get L.machine.tasks a)) refl) ((tasks_are_held_once w.program w.settings w.journal.items I.legal).runs on a u e))
 
   pub rests_then : (a : ℕ) → (a ≡ t → ⊥) → Rests l a → Rests L a
   rests_then a ne r = ap (λ (z : Heap). z.worker) (alone.heaps a ne) ∙ r
@@ -494,7 +477,7 @@ module _ (w : SharedValue) (k : ℕ) (p : Private) (I : IsSharedValue w) (F : Fi
   started = machine_is_run w.program w.settings w.journal.items
 
   pub limit : l.machine.field_limit ≡ field_limit w.settings.version
-  limit = ap (λ (m : State). m.field_limit) started ∙ limit_from w.program (tasks_of w.journal.items) (start w.program (field_limit w.settings.version)) (start_kept w.program (field_limit w.settings.version))
+  limit = ap (λ (m : State). m.field_limit) started ∙ limit_from w.program (start w.program (field_limit w.settings.version)) (tasks_of w.journal.items) (start_kept w.program (field_limit w.settings.version))
 
   reached : IsRun w.program L.machine
   reached = (

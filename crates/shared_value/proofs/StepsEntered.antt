@@ -1,6 +1,6 @@
 -- Private steps are entered.
 use Rattle.std.proofs.Common.{◌≡◌, ℕ, zero, suc, ◌+◌, ◌-◌, ◌<◌, ◌≤◌, true, false, min, Bool, Option, Some, None, map, slice_get, nat_le, is_none, is_some, inl, inr, refl, ap, sym, subst, ◌∙◌, arith, eq-eqb, le-leb}
-use Rattle.std.proofs.lemmas.Bool.{and_from, false≢true}
+use Rattle.std.proofs.lemmas.Bool.{and_from}
 use Rattle.listed.specs.RoomyValue.{RoomyValue}
 use Rattle.hh_lang.specs.Form.{ProgramText}
 use Rattle.hh_model.specs.declared.data.Status.TheVariants.{Running}
@@ -16,14 +16,16 @@ use Rattle.run_ledger.specs.Heaps.{heap_of, let_go}
 use Rattle.run_ledger.specs.Steps.{is_private, task_step, task_steps, most_steps, standing}
 use Rattle.run_ledger.specs.Entries.{after, is_out, kind_refusal, refused_if, refused_unless}
 use Rattle.listed.specs.Options.{option_is}
+use Rattle.listed.proofs.Options.{none_of}
 use Rattle.run_ledger.proofs.Bounds.{ran_tells}
 use Rattle.run_ledger.proofs.Sound.{collecting}
 use Rattle.run_ledger.proofs.Journals.{collecting_is}
 use Rattle.run_ledger.proofs.Machine.{heap_machine, task_step_machine}
+use Rattle.run_ledger.proofs.Steps.{steps_last}
 use Rattle.ledger_step_laws.specs.Accounts.{ArePrivate, aside}
 use Rattle.ledger_step_laws.specs.Last.{Private as PrivateKind, Runs}
 use Rattle.ledger_step_laws.proofs.Rested.{rested_worker}
-use Rattle.ledger_step_laws.proofs.Split.{entry_runs, steps_last}
+use Rattle.ledger_step_laws.proofs.Split.{entry_runs}
 use Rattle.core_relation.specs.Layout.{reserved_chunks, reserved_units}
 use Rattle.core_relation.specs.Memory.{Chunk, Home, Memory}
 use Rattle.core_relation.specs.Fits.{FitsAt, ahead, part_for, with_home}
@@ -127,11 +129,7 @@ module _ (w : SharedValue) (k : ℕ) (p : Private) (I : IsSharedValue w) (F : Fi
   ran_answer =
       refused_is w I (record { worker = k; kind = Ran p.task p.fresh })
       ∙ else_same (first_cause w.end w.steps w.settings k false) (kind_refusal w.program w.settings (accounts w) k (Ran p.task p.fresh))
-      (λ h. free_kind (sym (end_now w I) ∙ nothing_some w.end (end_by (is_some w.end) _ _ _ _ _ h)))
-    where
-      nothing_some : {A : Type 0} (o : Option A) → is_some o ≡ false → o ≡ None
-      nothing_some None h = refl
-      nothing_some (Some x) h = absurd (false≢true (sym h))
+      (λ h. free_kind (sym (end_now w I) ∙ none_of w.end (end_by (is_some w.end) _ _ _ _ _ h)))
 
 -- WHAT IT CHANGES
 

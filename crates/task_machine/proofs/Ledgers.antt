@@ -8,9 +8,9 @@ use Rattle.hh_model.specs.Step.{asked, can_step, is_running, step}
 use Rattle.run_ledger.specs.declared.data.Heap.{Heap as Account}
 use Rattle.run_ledger.specs.declared.data.Ledger.{Ledger}
 use Rattle.run_ledger.specs.Heaps.{placed, with_heap_at}
-use Rattle.run_ledger.specs.Steps.{allocated_by, task_step, task_steps}
+use Rattle.run_ledger.specs.Steps.{allocated_by, task_steps}
 use Rattle.run_ledger.proofs.RunOn.{steps_run_on}
-use Rattle.run_ledger.proofs.Steps.{goes_tells}
+use Rattle.run_ledger.proofs.Steps.{goes_tells, steps_last}
 use Rattle.task_machine.specs.Accounts.{AccountsAreSteps, FollowsSteps, account_after, account_by}
 use Rattle.task_machine.specs.Outline.{steps}
 
@@ -22,10 +22,6 @@ allocated_account l t h (Some w) there =
     ap (λ (q : Option Account). slice_get (with_heap_at l t f q).heaps t) there ∙ got_same l.heaps t h (f h) there
 
 module _ (p : ProgramText) (l : Ledger) (t : ℕ) (h : Account) (there : slice_get l.heaps t ≡ Some h) where
-  steps_last : (i : ℕ) (k : Ledger) → task_steps p k t (suc i) ≡ task_step p (task_steps p k t i) t
-  steps_last zero k = refl
-  steps_last (suc i) k = steps_last i (task_step p k t)
-
   follows : (k : ℕ) → ((i : ℕ) → i ≤ k → can_step (steps p l.machine t i) t ≡ true) → FollowsSteps p l t h k
   follows zero can = record { machine = refl; account = there }
   follows (suc k) can =
@@ -36,7 +32,7 @@ module _ (p : ProgramText) (l : Ledger) (t : ℕ) (h : Account) (there : slice_g
       let new = goes_tells (step p old t).end (is_running (slice_get (step p old t).tasks t)) (can (suc k) (omega arith)) in
       let ends : (step p b.machine t).end ≡ None = ap (λ m. (step p m t).end) F.machine ∙ new.0 in
       let runs : is_running (slice_get (step p b.machine t).tasks t) ≡ true = ap (λ m. is_running (slice_get (step p m t).tasks t)) F.machine ∙ new.1 in
-      let last = steps_last k l ∙ steps_run_on p b t now ends runs in
+      let last = steps_last p l t k ∙ steps_run_on p b t now ends runs in
       record {
         machine = ap (λ (z : Ledger). z.machine) last ∙ ap (λ m. step p m t) F.machine;
         account =

@@ -3,6 +3,7 @@ use Rattle.std.proofs.Common.{◌≡◌, ℕ, ℤ, ◌≤◌, Bool, true, false,
 use Rattle.std.specs.Option.{option_flatten}
 use Rattle.std.specs.Prelude.{pos, ◌==◌, ◌&&◌, ◌||◌, not}
 use Rattle.std.proofs.lemmas.Bool.{eq-eqb, eqb-false}
+use Rattle.std.proofs.Math.Bool.{and-false}
 use Rattle.listed.proofs.Members.{contains_from_in}
 use Rattle.listed.specs.Members.{In}
 use Rattle.object_layout.specs.declared.word.Addr.{Addr}
@@ -160,11 +161,7 @@ module _ (p : ProgramText) (part : Private) (m : State) (above : Places) (F : Fi
       (can : (n : Name) (c : Cell) → ref_in F.task.top o ≡ Some n → Can n c → Agrees p part m above (go c)) where
     shown_in : (n : Name) (a : Addr) (en : ref_in F.task.top o ≡ Some n) (is : F.place n ≡ Some a) (other : (owner_of m.tasks n.task == part.task) ≡ false)
         → (w : Option Cell) → IsShownBy above (q o n a en is other) w → Agrees p part m above (or_shared w go)
-    shown_in n a en is other None mutable = not_alone_shared p part m above F line at i e (works_by o n a en is other i (tie ∙ en) true mutable ∙ and_not (is_read i)) closed
-      where
-        and_not : (b : Bool) → (b && false) ≡ false
-        and_not true = refl
-        and_not false = refl
+    shown_in n a en is other None mutable = not_alone_shared p part m above F line at i e (works_by o n a en is other i (tie ∙ en) true mutable ∙ and-false (is_read i)) closed
     shown_in n a en is other (Some c) S = can n c en (shown_read o n a en is other c S)
 
     seen_in : (n : Name) (a : Addr) → ref_in F.task.top o ≡ Some n → F.place n ≡ Some a → (w : Option ℕ) → chunk_in part.heap.chunks a.chunk ≡ w

@@ -16,7 +16,6 @@ use Rattle.journal_laws.proofs.OwedEntries.{owed_can_be_given}
 use Rattle.journal_laws.proofs.Accepted.{not_refused}
 use Rattle.chunk_pool.specs.PoolValue.{units_in_use}
 use Rattle.alloc_path.specs.LeafHeapValue.{place_for, room_of}
-use Rattle.leaf_copy_gc.specs.declared.lists.Moved.{Moved}
 use Rattle.task_machine.specs.declared.part.Private.{Private}
 use Rattle.task_machine.specs.declared.part.Paused.TheVariants.{Due, NeedChunk}
 use Rattle.task_machine.specs.Steps.{is_part_due, lacks_place}
@@ -33,11 +32,8 @@ use Rattle.shared_value.proofs.NextStepAsks.{asked_same}
 use Rattle.shared_value.proofs.BeforeTheEnd.{end_now, steps_now}
 use Rattle.shared_value.proofs.CausesTold.{refused_is}
 use Rattle.shared_value.proofs.StepsEntered.{ran_answer}
-use Rattle.own_steps.specs.Alone.{IsShared, alone_event, machine_after}
-use Rattle.own_steps.proofs.LastSteps.{alone_answer}
-use Rattle.leaf_collections.specs.LeafEnd.{FitsCopied, end_event}
+use Rattle.own_steps.specs.Alone.{machine_after}
 use Rattle.leaf_collections.proofs.WhyNoCollection.{begin_answer}
-use Rattle.leaf_collections.proofs.WhyNoEnd.{end_answer}
 use Rattle.leaf_collections.proofs.WhyNoChunk.{chunk_answer}
 use Rattle.leaf_collections.proofs.CollectionPutOff.{put_off_answer, without_fresh}
 use Rattle.paced_tree.specs.Owed.{owed_by}
@@ -61,9 +57,6 @@ module _ (w : SharedValue) (k : ℕ) (part : Private) (I : IsSharedValue w) (fre
   private_free some = ran_answer w k part I F some ∙ free
 
   module _ (idle : part.begun ≡ None) where
-    pub alone_free : IsShared w part → refused w (alone_event k part) ≡ None
-    alone_free shared = alone_answer w k part I F shared ∙ (ap (λ o. or_else o (refused_if (is_some part.begun) Collecting None)) free ∙ ap (λ b. refused_if (is_some b) Collecting None) idle)
-
     module _ (fresh : part.fresh ≡ 0) (on : (accounts w).end ≡ None) where
       asks : asked w.program (machine_after w part) part.task ≡ part_asks w.program part
       asks = asked_same w.program part (machine_after w part) _ (first w k part I on F)
@@ -96,9 +89,6 @@ module _ (w : SharedValue) (k : ℕ) (part : Private) (I : IsSharedValue w) (fre
       put_off_free P short =
           put_off_answer w k part I (without_fresh w k part F fresh) none_first
           ∙ (ap (λ o. or_else o (refused_if (is_pool_enough w.settings (accounts w) part.task) (PoolEnough (units_in_use w.pool)) None)) (due_none P) ∙ ap (λ b. refused_if b (PoolEnough (units_in_use w.pool)) None) short)
-
-pub end_free : (w : SharedValue) (k : ℕ) (part : Private) (moved : Moved) → IsSharedValue w → first_cause w.end w.steps w.settings k false ≡ None → FitsCopied w k part moved → refused w (end_event k part moved) ≡ None
-end_free w k part moved I free F = end_answer w k part moved I F ∙ free
 
 -- ---- WHAT IS OWED
 

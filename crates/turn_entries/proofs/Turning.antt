@@ -1,6 +1,6 @@
 -- Values before and after a turn.
 use Rattle.std.proofs.Common.{◌≡◌, ℕ, ◌+◌, ◌++◌, ◌∷◌, [], ◌||◌, Bool, true, false, List, Option, Some, None, is_some, length, refl, ap, sym, subst, ◌∙◌, inl, inr}
-use Rattle.std.proofs.lemmas.Bool.{false≢true}
+use Rattle.std.proofs.lemmas.Bool.{false≢true, or_right}
 use Rattle.run_trace.specs.Entry.{EntryValue}
 use Rattle.run_trace.specs.declared.entry.Kind.{Kind}
 use Rattle.run_trace.specs.declared.entry.Kind.TheVariants.{Ran, Took}
@@ -27,6 +27,7 @@ use Rattle.turn_entries.specs.Acts.{ActsFor, after_end, EndsHalted, Follows, Goe
 use Rattle.turn_entries.specs.Next.{going_kind, is_wanting}
 use Rattle.turn_entries.specs.Parts.{BringsTo, next_after}
 use Rattle.turn_entries.specs.Values.{EntersOne, IsSame, is_over}
+use Rattle.listed.proofs.Options.{none_of}
 
 -- ---- NO ENTRY
 
@@ -96,10 +97,6 @@ none_over false (Some e) a b = absurd cc
 pub not_over : (r : Run) → r.paced.halted ≡ false → (accounts r.paced).end ≡ None → is_over r ≡ false
 not_over r on goes = none_over r.paced.halted (accounts r.paced).end on goes
 
-none_in : (end : Option RunEnd) → is_some end ≡ false → end ≡ None
-none_in None e = refl
-none_in (Some x) e = absurd (false≢true (sym e))
-
 -- after an entry that didn't end the run, by a look at the value that is lent
 pub entered_goes : (r after : Run) (k : ℕ) (ready : Ready) (kind : Kind) (next : Next) (lent : SharedValue) (end : Option RunEnd) (ends : Bool) → IsSharedValue after.paced → lent ≡ after.paced → end ≡ (accounts lent).end → ends ≡ is_some end → ends ≡ false
     → EntersOne r.paced after.paced k kind → r.paced.halted ≡ false → (Goes after.paced → Follows r.paced after.paced k ready next) → ActsFor r k ready (Some kind) (Entered after next)
@@ -109,15 +106,11 @@ entered_goes r after k ready kind next lent end ends I same told is going E on f
   enters = E;
   world = I;
   on = E.enters.halted ∙ on;
-  follows = follows (ap (λ (w : SharedValue). (accounts w).end) (sym same) ∙ (sym told ∙ none_in end (sym is ∙ going)));
+  follows = follows (ap (λ (w : SharedValue). (accounts w).end) (sym same) ∙ (sym told ∙ none_of end (sym is ∙ going)));
 }
 
 pub ended_over : (r : Run) → is_some (accounts r.paced).end ≡ true → is_over r ≡ true
-ended_over r h = by r.paced.halted (is_some (accounts r.paced).end) h
-  where
-    by : (a b : Bool) → b ≡ true → (a || b) ≡ true
-    by true b h = refl
-    by false b h = h
+ended_over r h = or_right r.paced.halted (is_some (accounts r.paced).end) h
 
 pub halts_with : (after : Run) (w : SharedValue) → w ≡ record after.paced { halted = true } → AllFit after.paced w → EndsHalted after (Same (record { paced = w }) Stop)
 halts_with after w is all = λ r k ready kind same on.

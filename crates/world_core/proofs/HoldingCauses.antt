@@ -26,8 +26,8 @@ use Rattle.shared_value.proofs.CollectionUnderWay.{at_part, begun_is}
 use Rattle.shared_value.proofs.CausesTold.{on_is, refused_is}
 use Rattle.own_steps.proofs.TaskNotHeld.{apart_cause, unless_false}
 use Rattle.child_tasks.specs.NoTask.{HoldsNone}
-use Rattle.leaf_collections.specs.LeafEnd.{FitsCopied, end_event}
-use Rattle.leaf_collections.proofs.WhyNoEnd.{end_answer, unless_true}
+use Rattle.leaf_collections.specs.LeafEnd.{FitsCopied}
+use Rattle.leaf_collections.proofs.WhyNoEnd.{unless_true}
 use Rattle.copied_part_laws.specs.Handed.{IsCopying}
 use Rattle.copied_part_laws.proofs.CopyHanded.{copied_fits}
 use Rattle.world_core.specs.declared.held.Held.{Held}
@@ -135,9 +135,6 @@ module _ (w : SharedValue) (k : ℕ) (I : IsSharedValue w) (first : first_cause 
       behind (End p.task a g n) refl
       ∙ (unless_true (is_out l k p.task) NotOut (refused_unless (is_some (heap_of l p.task).begun) NotCollecting (rest_of p.task a g n p.task)) (out p.task F.held)
       ∙ (unless_true (is_some (heap_of l p.task).begun) NotCollecting (rest_of p.task a g n p.task) F.copy.collects ∙ ap (ends_as (a, g, n)) (sym F.numbers)))
-
-  pub end_free : (p : Private) (moved : Moved) → FitsCopied w k p moved → refused w (end_event k p moved) ≡ None
-  end_free p moved F = end_answer w k p moved I F ∙ first
 
 -- numbers that aren't wrong are those
 module _ (a g n a' g' n' : ℕ) where

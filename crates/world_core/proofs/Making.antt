@@ -1,24 +1,22 @@
 -- What an entry of a worker comes to, from what a call of the shared value answers.
-use Rattle.std.proofs.Common.{◌≡◌, ℕ, true, false, Some, None, Result, Ok, Err, is_some, refl, ap, sym, subst, ◌∙◌}
+use Rattle.std.proofs.Common.{◌≡◌, ℕ, true, false, Some, None, Result, Ok, Err, refl, ap, sym, subst, ◌∙◌}
 use Rattle.std.specs.Result.{OnErr, OnOk}
 use Rattle.std.proofs.lemmas.Bool.{false≢true}
 use Rattle.listed.proofs.Options.{none_some}
 use Rattle.run_trace.specs.Entry.{EntryValue}
 use Rattle.run_trace.specs.declared.entry.Kind.TheVariants.{End}
 use Rattle.run_ledger.specs.declared.data.Refused.{Refused}
-use Rattle.run_ledger.specs.declared.data.Refused.TheVariants.{Collecting}
-use Rattle.run_ledger.specs.Entries.{ends_as, refused_if}
+use Rattle.run_ledger.specs.Entries.{ends_as}
 use Rattle.leaf_copy_gc.specs.declared.lists.Moved.{Moved}
 use Rattle.task_machine.specs.declared.part.Private.{Private}
 use Rattle.shared_value.specs.declared.answer.NotEntered.{NotEntered}
 use Rattle.shared_value.specs.declared.answer.NotEntered.TheVariants.{NoMemory, Refuses}
-use Rattle.shared_value.specs.Causes.{first_cause, or_else}
+use Rattle.shared_value.specs.Causes.{first_cause}
 use Rattle.shared_value.specs.Entered.{Answers, Enters, IsCaused, IsSamePart, refused}
 use Rattle.shared_value.specs.Fits.{AllFit, Fits, OthersFit}
 use Rattle.shared_value.specs.Stands.{IsSharedValue}
 use Rattle.shared_value.specs.SharedValue.{SharedValue}
-use Rattle.own_steps.specs.Alone.{GoesAlone, HaltsAlone, IsShared, alone_event}
-use Rattle.own_steps.proofs.LastSteps.{alone_answer}
+use Rattle.own_steps.specs.Alone.{GoesAlone, HaltsAlone, alone_event}
 use Rattle.child_tasks.specs.Joins.{IsUnchanged}
 use Rattle.leaf_collections.specs.LeafEnd.{ended}
 use Rattle.shared_tree.specs.declared.ran.Ran.{Ran}
@@ -89,11 +87,6 @@ ran_made w after k p (Forked left right) idle free R = record { free = free; ent
 ran_made w after k p (Ended resumed) idle free R = record { free = free; enters = R.0.enters; others = R.0.others; holds = R.1 }
 ran_made w after k p (Over q) idle free R = halts_made w after k p q idle free R
 ran_made w after k p Done idle free R = record { free = free; enters = R.enters; others = R.others; holds = λ t held. none_some (sym (R.rest t) ∙ held) }
-
--- behind the causes that come first it isn't refused
-pub alone_free : (w : SharedValue) (k : ℕ) (p : Private) → IsSharedValue w → Fits w k p → IsShared w p → p.begun ≡ None → first_cause w.end w.steps w.settings k false ≡ None → refused w (alone_event k p) ≡ None
-alone_free w k p I F shared idle first =
-    alone_answer w k p I F shared ∙ (ap (λ o. or_else o (refused_if (is_some p.begun) Collecting None)) first ∙ ap (λ o. refused_if (is_some o) Collecting None) idle)
 
 -- memory is wanting for it
 pub ran_fails : (w after : SharedValue) (k : ℕ) (e : EntryValue) (p q : Private) (cause : NotEntered) → refused w e ≡ None → IsCaused cause (refused w e) → IsUnchanged cause w after → AllFit w after → q ≡ p → p.begun ≡ None → Fits w k p → AnswersFor w after k e (Part q) (Err cause)

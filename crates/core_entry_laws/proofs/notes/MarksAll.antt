@@ -1,10 +1,11 @@
 -- Where nothing is left to mark, the whole snapshot is marked, and the other way round: both have each object once.
-use Rattle.std.proofs.Common.{◌≡◌, ◌⊎◌, ◌-◌, ◌≤◌, ◌==◌, ℕ, suc, Bool, true, false, cond, arith, Option, List, [], ◌∷◌, length, unwrap_or, inl, inr, refl, ap, sym, subst, ◌∙◌}
+use Rattle.std.proofs.Common.{◌≡◌, ◌⊎◌, ◌-◌, ◌≤◌, ℕ, suc, Bool, true, false, cond, arith, Option, List, [], ◌∷◌, length, unwrap_or, inl, inr, refl, ap, sym, subst, ◌∙◌}
 use Rattle.std.specs.List.{AllByRecursion, IsDistinct}
-use Rattle.std.proofs.lemmas.Bool.{both_ways, and_from, eq-eqb}
+use Rattle.std.proofs.lemmas.Bool.{both_ways}
 use Rattle.object_layout.specs.declared.word.Addr.{Addr}
 use Rattle.object_layout.specs.Chunks.{same_address}
 use Rattle.object_layout.specs.Objects.{Located}
+use Rattle.object_layout.proofs.Distinct.{none_from}
 use Rattle.hh_model.specs.declared.data.Name.{Name}
 use Rattle.run_ledger.specs.declared.data.Ledger.{Ledger}
 use Rattle.run_ledger.specs.Heaps.{held_in, heap_of, marked_in}
@@ -115,14 +116,6 @@ module _ (v : Memory) (l : Ledger) (t : ℕ) (V : Stands v l) (rests : Rests l t
   name_in (a ∷ bs) each q i (inl e) = let r = each a (inl refl) in inl (ap object_name ((V.homes t rests).once r.0 q r.1 i (r.2 ∙ e)))
   name_in (a ∷ bs) each q i (inr j) = inr (name_in bs (λ b k. each b (inr k)) q i j)
 
-  same_is : (a b : Addr) → a ≡ b → same_address a b ≡ true
-  same_is a b e = and_from (a.chunk == b.chunk) (a.offset == b.offset) (eq-eqb a.chunk b.chunk (ap (λ (c : Addr). c.chunk) e)) (eq-eqb a.offset b.offset (ap (λ (c : Addr). c.offset) e))
-
-  not_again : (a : Addr) (bs : List Addr) → AllByRecursion (λ b. same_address a b ≡ false) bs → In bs a → ⊥
-  not_again a [] d i = i
-  not_again a (b ∷ bs) d (inl e) = both_ways (same_address a b) d.0 (same_is a b (sym e))
-  not_again a (b ∷ bs) d (inr i) = not_again a bs d.1 i
-
   once_marked : (bs : List Addr) (each : Each bs) → IsDistinct same_address bs → NamedOnce (names bs each)
   unfolding IsDistinct names
   once_marked [] each d = tt
@@ -131,7 +124,7 @@ module _ (v : Memory) (l : Ledger) (t : ℕ) (V : Stands v l) (rests : Rests l t
         let q = each a (inl refl) in
         let r = named_by bs (λ b j. each b (inr j)) (object_name q.0) i in
         let same : r.0 ≡ q.0 = (V.homes t rests).named r.0 q.0 r.1 q.1 r.2 in
-        not_again a bs d.0 (subst (In bs) (ap (λ (o : Located). o.at) same ∙ q.2) r.3)),
+        none_from a bs d.0 (subst (In bs) (ap (λ (o : Located). o.at) same ∙ q.2) r.3)),
     once_marked bs (λ b j. each b (inr j)) d.1,
   )
 

@@ -1,5 +1,5 @@
 -- The notes of a memory with a part's home in it, by the accounts with the part's steps, and back.
-use Rattle.std.proofs.Common.{is_some, ◌≡◌, ℕ, false, Option, Some, None, slice_get, refl, ap, sym, subst, ◌∙◌}
+use Rattle.std.proofs.Common.{is_some, ◌≡◌, ℕ, false, slice_get, refl, ap, sym, subst, ◌∙◌}
 use Rattle.std.specs.Prelude.{◌&&◌, not}
 use Rattle.hh_model.specs.declared.data.State.{State}
 use Rattle.hh_model.specs.Effect.{object_at, row_of}
@@ -17,15 +17,13 @@ use Rattle.core_entry_laws.proofs.parts.Statements.{NotesAhead, NotesBack}
 use Rattle.core_entry_laws.proofs.notes.AllNotes.{steps_note}
 use Rattle.core_entry_laws.proofs.parts.Parts.{ahead_alone}
 use Rattle.core_relation.proofs.changes.With.{off_home}
+use Rattle.listed.proofs.Options.{none_some}
 
 pub notes_ahead : NotesAhead
 notes_ahead p s q v l x K F O H =
     let idle : is_waiting (slice_get l.machine.tasks q.task) ≡ false = ap is_waiting O.task ∙ (running_tells x.status O.runs).1 in
     steps_note v _ l _ q.task idle (ahead_alone p s q l K.sound O.steady F.private) (λ u ne. off_home v q.task q.home u ne) (λ k. refl) (λ u. refl) (λ u b r e. none_some (sym (subst (Rests l) e r.rests) ∙ F.out))
     (record { none = (H q.task).keeps ∙ ap (λ b. b && not (heap_of l q.task).swept) idle; others = λ u ne. record { keeps = refl; kept = refl; marked = refl } }) H
-  where
-    none_some : {k : ℕ} → ◌≡◌ {A = Option ℕ} None (Some k) → ⊥
-    none_some e = absurd cc
 
 taken : (l : Ledger) (t : ℕ) → StepsAlone (rested l t) l t
 taken l t =

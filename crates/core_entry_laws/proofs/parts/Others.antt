@@ -1,5 +1,5 @@
 -- What the worker of one task enters leaves the parts of others fitting: a fork, a join, a store.
-use Rattle.std.proofs.Common.{◌≡◌, ℕ, ℤ, pos, true, unwrap_or, Option, Some, None, List, ◌∷◌, slice_get, inl, inr, ap, ap₂, sym, subst, ◌∙◌}
+use Rattle.std.proofs.Common.{◌≡◌, ℕ, ℤ, pos, true, unwrap_or, Option, Some, List, ◌∷◌, slice_get, inl, inr, ap, ap₂, sym, subst, ◌∙◌}
 use Rattle.object_layout.specs.declared.word.Addr.{Addr}
 use Rattle.hh_lang.specs.Form.{ProgramText}
 use Rattle.run_trace.specs.Settings.{SettingsValue}
@@ -33,6 +33,7 @@ use Rattle.core_entry_laws.proofs.parts.Pair.{beside}
 use Rattle.core_entry_laws.proofs.parts.Parts.{ahead_alone, ahead_sound}
 use Rattle.core_relation.proofs.changes.With.{off_home}
 use Rattle.core_entry_laws.proofs.parts.Pair as pair
+use Rattle.listed.proofs.Options.{none_some}
 
 -- RESULTS
 
@@ -102,15 +103,9 @@ module _ (p : ProgramText) (s : SettingsValue) (q r : Part) (v : Memory) (l l' :
   -- who rests isn't r's task
   pub apart_then : (z : ℕ) → Rests lq z → z ≡ r.task → ⊥
   apart_then z h e = absurd (none_some (sym h ∙ (ap (λ k. (heap_of lq k).worker) e ∙ out_then)))
-    where
-      none_some : {w : ℕ} → ◌≡◌ {A = Option ℕ} None (Some w) → ⊥
-      none_some e = absurd cc
 
   pub apart' : (z : ℕ) → Rests l' z → z ≡ r.task → ⊥
   apart' z h e = absurd (none_some (sym h ∙ (ap (λ k. (heap_of l' k).worker) e ∙ out')))
-    where
-      none_some : {w : ℕ} → ◌≡◌ {A = Option ℕ} None (Some w) → ⊥
-      none_some e = absurd cc
 
   pub fits_by : (v' : Memory) → Stands (with_home v' r.task r.home) lr' → FitsAt p s r v' l'
   fits_by v' V = record { worker = G.worker; out = out'; few = G.few; private = then'.0; stands = V }

@@ -8,12 +8,13 @@ use Rattle.run_ledger.specs.declared.data.Ledger.{Ledger}
 use Rattle.run_ledger.specs.Heaps.{heap_of, or_fresh}
 use Rattle.run_ledger.specs.Steps.{task_steps}
 use Rattle.run_ledger.specs.Sound.{SoundLedger, collecting}
+use Rattle.run_ledger.proofs.Steps.{task_steps_sound}
 use Rattle.core_relation.specs.Memory.{Memory}
 use Rattle.ledger_step_laws.specs.Accounts.{Rests, ArePrivate, StepsAlone, ChangesHeap}
 use Rattle.core_relation.specs.Fits.{Part, FitsAt, ahead}
 use Rattle.core_relation.specs.Changes.{KeepsJust}
 use Rattle.core_relation.specs.Frames.{IsSteady}
-use Rattle.ledger_step_laws.proofs.Ahead.{SameOf, steps_alone_all, steps_sound, steps_same, rested_alone, rested_same}
+use Rattle.ledger_step_laws.proofs.Ahead.{SameOf, steps_alone_all, steps_same, rested_alone, rested_same}
 use Rattle.core_entry_laws.proofs.parts.Frame.{sweep_frame}
 use Rattle.ledger_step_laws.proofs.Rested.{rested_sound}
 
@@ -29,7 +30,7 @@ module _ (p : ProgramText) (s : SettingsValue) (q : Part) where
   })
 
   many_sound : (k : ℕ) (l : Ledger) → SoundLedger l → (k ≡ 0) ⊎ (collecting (slice_get l.heaps q.task) ≡ false) → SoundLedger (task_steps p l q.task k)
-  many_sound k l S (inr c) = (steps_sound p s q.task k l (S, c)).0
+  many_sound k l S (inr c) = (task_steps_sound p k l q.task (S, c)).0
   many_sound k l S (inl e) = subst (λ j. SoundLedger (task_steps p l q.task j)) (sym e) S
 
   pub ahead_alone : (l : Ledger) → SoundLedger l → IsSteady q l → ArePrivate p s l q.task q.fresh → StepsAlone l (ahead p q l) q.task

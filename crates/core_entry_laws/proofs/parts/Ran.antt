@@ -1,5 +1,5 @@
 -- An entry of steps leaves the parts of others fitting.
-use Rattle.std.proofs.Common.{◌≡◌, ℕ, ℤ, pos, ◌+◌, Option, Some, None, length, slice_get, inl, inr, refl, ap, sym, subst, ◌∙◌, Bool, true, false}
+use Rattle.std.proofs.Common.{◌≡◌, ℕ, ℤ, pos, ◌+◌, Option, Some, None, length, slice_get, inl, inr, refl, ap, sym, subst, ◌∙◌, false}
 use Rattle.std.proofs.lemmas.Option.{same_Some}
 use Rattle.hh_lang.specs.declared.instr.Instr.{Instr}
 use Rattle.hh_lang.specs.declared.instr.Instr.TheVariants.{Set, Mov, Movr, Nil as NilOf, Calc, Same, Jmp, Jz, Newm, Pack, Getr, Geti, Putr, Puti, Cntr, Cnti, Freeze, Cas, Call, Par, Ret, Out}
@@ -9,7 +9,7 @@ use Rattle.hh_model.specs.declared.data.End.{End}
 use Rattle.hh_model.specs.declared.data.Task.{Task}
 use Rattle.hh_model.specs.declared.data.State.{State}
 use Rattle.hh_model.specs.Effect.{place_in, int_in}
-use Rattle.hh_model.specs.Step.{goes_on, runs, is_running, is_waiting}
+use Rattle.hh_model.specs.Step.{runs, is_running, is_waiting}
 use Rattle.hh_model.proofs.Runs.{running_tells}
 use Rattle.run_ledger.specs.declared.data.Ledger.{Ledger}
 use Rattle.run_ledger.specs.Heaps.{heap_of, let_go}
@@ -33,6 +33,7 @@ use Rattle.core_relation.proofs.changes.Takes.{ran_fits}
 use Rattle.ledger_step_laws.proofs.Root.{root_alone}
 use Rattle.run_ledger.specs.Sound.{collecting}
 use Rattle.run_ledger.proofs.Machine.{heap_machine}
+use Rattle.path_laws.proofs.Leaves.{can_going}
 
 module _ (p : ProgramText) (s : SettingsValue) (v v' : Memory) (l l' : Ledger) (t w k : ℕ) (h : Home) (E : Runs p s l l' t w k) (on : l'.machine.end ≡ None) where
   abbrev q : Part
@@ -143,11 +144,7 @@ module _ (p : ProgramText) (s : SettingsValue) (v v' : Memory) (l l' : Ledger) (
   T = E.splits
 
   going : mk.machine.end ≡ None
-  going = steps_end p s t k l T.private ∙ by l.machine.end (is_running (slice_get l.machine.tasks t)) E.can
-    where
-      by : (o : Option End) (b : Bool) → goes_on o b ≡ true → o ≡ None
-      by None b h = refl
-      by (Some e) b h = absurd cc
+  going = steps_end p s t k l T.private ∙ can_going l.machine t E.can
 
   known : Knows mk
   known = steps_know p s t k l E.task E.knows (inr E.collects) E.at E.runs E.can T.private

@@ -15,14 +15,15 @@ use Rattle.run_ledger.specs.Heaps.{heap_of, or_fresh, let_go}
 use Rattle.run_ledger.specs.Steps.{task_steps}
 use Rattle.run_ledger.proofs.Machine.{task_step_machine, heap_machine}
 use Rattle.run_ledger.specs.Sound.{SoundLedger}
+use Rattle.run_ledger.proofs.Steps.{steps_last, task_steps_sound}
 use Rattle.ledger_step_laws.specs.Accounts.{StepsAlone, Knows, aside, rested}
 use Rattle.ledger_step_laws.specs.Kinds.{StoresOne}
 use Rattle.ledger_step_laws.specs.Last.{WritesOther, LastKind, Private, Reading, Writing, Printing, Forking, Ending, Joining, Finishing, Halting, IsOfKind, GoesOn, Runs, Splits, stepped_by}
-use Rattle.ledger_step_laws.proofs.Ahead.{steps_sound, with_off}
+use Rattle.ledger_step_laws.proofs.Ahead.{with_off}
 use Rattle.ledger_step_laws.proofs.Along.{steps_end, steps_know}
 use Rattle.ledger_step_laws.proofs.Private.{private_on}
 use Rattle.ledger_step_laws.proofs.Rested.{rested_sound, rested_view}
-use Rattle.ledger_step_laws.proofs.Split.{steps_go, steps_last, worker_step}
+use Rattle.ledger_step_laws.proofs.Split.{steps_go, worker_step}
 use Rattle.ledger_step_laws.proofs.Wrote.{is_store, is_swap, is_number}
 use Rattle.core_relation.specs.Memory.{Home, Memory}
 use Rattle.core_relation.specs.Fits.{Part, FitsAt, part_for, ahead, with_home}
@@ -83,7 +84,7 @@ module _ (p : ProgramText) (s : SettingsValue) (v v' : Memory) (l l' : Ledger) (
 
   -- the heap begins no collection meanwhile
   still : (j : ℕ) → (heap_of (task_steps p l t j) t).begun ≡ None
-  still j = none_collects (slice_get (task_steps p l t j).heaps t) (steps_sound p s t j l (E.knows.sound, E.collects)).1
+  still j = none_collects (slice_get (task_steps p l t j).heaps t) (task_steps_sound p j l t (E.knows.sound, E.collects)).1
 
   last : task_steps p l t (suc k) ≡ l'
   last = steps_last p l t k ∙ sym S.after

@@ -27,8 +27,8 @@ module _ (p : ProgramText) (s : SettingsValue) (l l' : Ledger) (t w k : ℕ) (E 
   m = task_steps p l t k
 
   -- who isn't the root doesn't run
-  idle : (D : EndsDone m l' t E.splits.task) (u : ℕ) → (u ≡ t → ⊥) → is_running (slice_get m.machine.tasks u) ≡ false
-  idle D u ne = by (slice_get m.machine.tasks u) refl
+  pub others_idle : (D : EndsDone m l' t E.splits.task) (u : ℕ) → (u ≡ t → ⊥) → is_running (slice_get m.machine.tasks u) ≡ false
+  others_idle D u ne = by (slice_get m.machine.tasks u) refl
     where
       by_runs : (y : Task) → slice_get m.machine.tasks u ≡ Some y → (b : Bool) → is_running (Some y) ≡ b → b ≡ false
       by_runs y is false q = refl
@@ -42,7 +42,7 @@ module _ (p : ProgramText) (s : SettingsValue) (l l' : Ledger) (t w k : ℕ) (E 
   rests_done : EndsDone m l' t E.splits.task → (u : ℕ) → Rests (rested l' t) u
   rests_done D u = elim (cases_eq u t) [
     | inl e ↦ subst (Rests (rested l' t)) (sym e) (rested_worker l' t)
-    | inr ne ↦ ap (λ o. (or_fresh o).worker) (with_off l' t u let_go ne) ∙ (ap (λ hs. (or_fresh (slice_get hs u)).worker) D.heaps ∙ E.idle u (idle D u ne))
+    | inr ne ↦ ap (λ o. (or_fresh o).worker) (with_off l' t u let_go ne) ∙ (ap (λ hs. (or_fresh (slice_get hs u)).worker) D.heaps ∙ E.idle u (others_idle D u ne))
   ]
 
   by : (kind : LastKind) → IsOfKind p m l' t E.splits.task E.splits.line kind → (GoesOn kind → l'.machine.end ≡ None) → (u : ℕ) → Rests (handed l') u

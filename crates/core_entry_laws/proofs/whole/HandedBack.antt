@@ -1,10 +1,9 @@
 -- The accounts that hand back the root once the run is done, after each kind of a last step.
-use Rattle.std.proofs.Common.{◌≡◌, ℕ, Bool, true, Option, Some, None, slice_get, refl, ap, ◌∙◌}
+use Rattle.std.proofs.Common.{◌≡◌, ℕ, Some, None, refl, ap, ◌∙◌}
 use Rattle.hh_lang.specs.Form.{ProgramText}
 use Rattle.run_trace.specs.Settings.{SettingsValue}
 use Rattle.hh_model.specs.declared.data.End.{End}
 use Rattle.hh_model.specs.declared.data.End.TheVariants.{Done, Trapped, Entangled}
-use Rattle.hh_model.specs.Step.{goes_on, is_running}
 use Rattle.run_ledger.specs.declared.data.Ledger.{Ledger}
 use Rattle.run_ledger.specs.declared.data.RunEnd.TheVariants.{Machine}
 use Rattle.run_ledger.specs.Steps.{task_steps}
@@ -12,14 +11,11 @@ use Rattle.ledger_step_laws.specs.Accounts.{rested}
 use Rattle.ledger_step_laws.specs.Last.{EndsDone, Halts, Runs}
 use Rattle.core_relation.specs.Whole.{by_end, handed}
 use Rattle.core_entry_laws.proofs.whole.Together.{done_is_handed}
+use Rattle.path_laws.proofs.Leaves.{can_going}
 
 -- the machine that a task can step goes on
 pub alive_machine : (p : ProgramText) (s : SettingsValue) (l l' : Ledger) (t w k : ℕ) → Runs p s l l' t w k → l.machine.end ≡ None
-alive_machine p s l l' t w k E = by l.machine.end (is_running (slice_get l.machine.tasks t)) E.can
-  where
-    by : (o : Option End) (b : Bool) → goes_on o b ≡ true → o ≡ None
-    by None b h = refl
-    by (Some e) b h = absurd cc
+alive_machine p s l l' t w k E = can_going l.machine t E.can
 
 pub handed_on : (l : Ledger) → l.end ≡ None → handed l ≡ l
 handed_on l e = ap (by_end l) e

@@ -1,7 +1,7 @@
 -- The whole relation past each accepted entry that isn't of steps.
 use Rattle.std.proofs.Common.{◌≡◌, ◌&&◌, not, ℕ, true, false, Option, Some, None, List, [], ◌∷◌, ◌++◌, length, slice_get, is_none, is_some, inl, inr, refl, ap, ap₂, sym, subst, ◌∙◌}
 use Rattle.std.proofs.lemmas.Bool.{false≢true, cases_eq, and_parts, and_from}
-use Rattle.listed.proofs.Options.{none_of}
+use Rattle.listed.proofs.Options.{none_of, none_some}
 use Rattle.object_layout.specs.declared.word.Addr.{Addr}
 use Rattle.hh_lang.specs.Form.{ProgramText, IsProgram}
 use Rattle.run_trace.specs.Settings.{SettingsValue}
@@ -74,9 +74,6 @@ legal_rests p s journal legal t r = idle_by (heap_of (ledger_of p s journal) t).
 pub home_rests : (v : Memory) (l : Ledger) (t : ℕ) (o : Option Begun) → BegunBy v l t o → (heap_of l t).begun ≡ None → o ≡ None
 home_rests v l t None B e = refl
 home_rests v l t (Some b) B e = absurd (none_some (sym e ∙ B.few))
-  where
-    none_some : {k : ℕ} → ◌≡◌ {A = Option ℕ} None (Some k) → ⊥
-    none_some q = absurd cc
 
 pub running_idle : (o : Option Task) → is_running o ≡ true → is_waiting o ≡ false
 running_idle None h = refl
@@ -131,9 +128,6 @@ module _ (p : ProgramText) (s : SettingsValue) (journal : List EntryValue) (prog
       (steps_note v v' l l' t idle (takes_alone l l' t w L) B.homes B.owner B.sources (root_apart v l W.homes t idle) (record { none = (N t).keeps ∙ (W.keeps t ∙ ap (λ b. b && not (heap_of l t).swept) idle); others = λ u ne. N u }) (whole_notes v c l W))
       (λ u q. ap (λ (h : Heap). h.worker) (sym (L.heaps u (other u q))) ∙ q)
       (λ u q. ap (λ (h : Home). h.begun) (B.homes u (other u q))) C
-    where
-      none_some : {k : ℕ} → ◌≡◌ {A = Option ℕ} None (Some k) → ⊥
-      none_some q = absurd cc
 
   pub quiet_stands_for : (e : EntryValue) → refusal p s l e ≡ None → IsQuiet e.kind → StandsFor v c l → SameObjects v v' l (after p s l e)
       → ((u : ℕ) → (IsMarked e.kind u → ⊥) → NotesStay v v' u) → ((u : ℕ) → IsMarked e.kind u → MarksOn v v' (after p s l e) u) → CountsGo p s l c c' e.worker e.kind → StandsFor v' c' (after p s l e)
@@ -191,8 +185,5 @@ module _ (p : ProgramText) (s : SettingsValue) (journal : List EntryValue) (prog
       (λ u q. sym (heap_view (λ z. z.worker) l t (collected l.machine) (λ z. refl) u) ∙ q)
       (λ u q. ap (λ (z : Home). z.begun) (E.others u (other u (sym (heap_view (λ z. z.worker) l t (collected l.machine) (λ z. refl) u) ∙ q)))) C
     where
-      none_some : {k : ℕ} → ◌≡◌ {A = Option ℕ} None (Some k) → ⊥
-      none_some q = absurd cc
-
       other : (u : ℕ) → Rests l u → u ≡ t → ⊥
       other u q e = none_some (sym (subst (Rests l) e q) ∙ K.old.fits.out)

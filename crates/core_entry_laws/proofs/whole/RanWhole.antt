@@ -11,9 +11,9 @@ use Rattle.run_ledger.specs.Entries.{after}
 use Rattle.run_ledger.specs.Journals.{ledger_of}
 use Rattle.run_ledger.proofs.Journals.{entry_tells}
 use Rattle.run_ledger.specs.Sound.{collecting}
-use Rattle.ledger_step_laws.proofs.Ahead.{steps_sound}
 use Rattle.ledger_step_laws.proofs.Rested.{rested_view}
 use Rattle.run_ledger.proofs.Use.{entries_use}
+use Rattle.run_ledger.proofs.Steps.{task_steps_sound}
 use Rattle.core_relation.specs.Fits.{part_for, with_home}
 use Rattle.core_relation.specs.Makes.{taken_by}
 use Rattle.core_entry_laws.specs.EntryLaws.{RanStandsFor}
@@ -40,7 +40,7 @@ ran_stands_for p s journal program legal v v' c c' w t k h accepted E handed Q C
     let F = part_now p s (part_for s t h (taken_by E.splits.kind k)) v l (alive_machine p s l (after p s l e) t w k E) Q in
     let both = ran_keeps p s v v' l (after p s l e) t w k h E alive W.homes (whole_notes v c l W) F.fits C M in
     let counts = ran_counts p s l (after p s l e) t w k E c c' W.totals alive (entries_use p s journal e program legal accepted) N in
-    let still : (j : ℕ) → (heap_of (task_steps p l t j) t).begun ≡ None = λ j. none_collects (slice_get (task_steps p l t j).heaps t) (steps_sound p s t j l (E.knows.sound, E.collects)).1 in
+    let still : (j : ℕ) → (heap_of (task_steps p l t j) t).begun ≡ None = λ j. none_collects (slice_get (task_steps p l t j).heaps t) (task_steps_sound p j l t (E.knows.sound, E.collects)).1 in
     let n : ℕ = taken_by E.splits.kind k in
     let own : h.begun ≡ None = home_rests (with_home v t h) _ t h.begun F.begun (rested_view (λ z. z.begun) (λ z. refl) (task_steps p l t n) t ∙ still n) in
     let idle = ran_idle p s v v' l (after p s l e) t w k h E alive (λ u r. home_rests v l u (v.homes u).begun (W.begun u r) (legal_rests p s journal legal u r)) own (rests_then p s journal program legal v v' c c' e accepted) (still k) C in

@@ -1,10 +1,11 @@
 -- What is noted of a waiting heap stands on, whatever is entered.
-use Rattle.std.proofs.Common.{◌≡◌, ℕ, ℤ, suc, Bool, true, false, cond, Option, Some, None, List, [], ◌∷◌, ◌++◌, ◌⊎◌, length, slice_get, inl, inr, refl, ap, ap₂, sym, subst, ◌∙◌}
+use Rattle.std.proofs.Common.{◌≡◌, ℕ, ℤ, suc, Bool, true, false, cond, Option, Some, None, List, [], ◌∷◌, ◌⊎◌, length, slice_get, inl, inr, refl, ap, ap₂, sym, subst, ◌∙◌}
 use Rattle.std.specs.Option.{option_map}
 use Rattle.std.specs.List.{list_any}
 use Rattle.std.specs.Prelude.{◌&&◌, not}
 use Rattle.std.proofs.lemmas.Bool.{both_ways}
 use Rattle.std.proofs.lemmas.Option.{same_Some}
+use Rattle.std.proofs.lemmas.List.{append-nil}
 use Rattle.object_layout.specs.declared.word.Addr.{Addr}
 use Rattle.object_layout.specs.Objects.{Located}
 use Rattle.hh_model.specs.declared.data.Name.{Name}
@@ -61,10 +62,6 @@ marks_carry v v' l l' t o o' same account stay further M = subst (MarkedBy v' l'
 
 -- WHERE ITS OBJECTS STAY
 
-append_nil : (xs : List Addr) → xs ++ [] ≡ xs
-append_nil [] = refl
-append_nil (x ∷ xs) = ap (λ ys. x ∷ ys) (append_nil xs)
-
 module _ (v v' : Memory) (l l' : Ledger) (t : ℕ) (N : SameNotes v v' l l' t) where
   since_stays : StaysWhole v v' t → Since v l t → Since v' l' t
   since_stays S H = record {
@@ -103,7 +100,7 @@ module _ (v v' : Memory) (l l' : Ledger) (t : ℕ) (N : SameNotes v v' l l' t) w
   still_goes : StaysWhole v v' t → (m : MarkingValue) → GoesOn v t (heap_of l t).snapshot m → GoesOn v' t (heap_of l' t).snapshot m
   still_goes S m G =
       subst (λ ns. GoesOn v' t ns m) (sym N.snapshot)
-      (goes_on v v' t (heap_of l t).snapshot m [] (N.kept ∙ sym (append_nil (kept v t))) S.there (λ q i. let o = S.were q i in (o.0, o.1, o.2, o.3, λ a c r. inl (o.4 a c r))) N.none_new S.count S.chunks (λ b i. absurd i) G)
+      (goes_on v v' t (heap_of l t).snapshot m [] (N.kept ∙ sym (append-nil (kept v t))) S.there (λ q i. let o = S.were q i in (o.0, o.1, o.2, o.3, λ a c r. inl (o.4 a c r))) N.none_new S.count S.chunks (λ b i. absurd i) G)
 
   pub notes_stay : (v'.noted t).marked ≡ (v.noted t).marked → (heap_of l' t).marked ≡ (heap_of l t).marked → StaysWhole v v' t → NotedAt v l t → NotedAt v' l' t
   notes_stay marked account S H = notes_with S (λ e.

@@ -1,6 +1,6 @@
 -- What the registers and the roots of a begun collection reach by addresses is what is reached within the heap by names.
 use Rattle.std.proofs.Common.{◌≡◌, ℕ, zero, suc, ◌==◌, not, Bool, true, false, Option, Some, None, List, [], ◌∷◌, slice_get, ◌⊎◌, ◌↔◌, inl, inr, refl, ap, sym, subst, ◌∙◌, ne_eqb}
-use Rattle.std.proofs.lemmas.Bool.{and_from, and_parts, eqb-false}
+use Rattle.std.proofs.lemmas.Bool.{and_from, and_parts, eqb-false, not-true}
 use Rattle.std.proofs.lemmas.Option.{same_Some}
 use Rattle.listed.proofs.Members.{in_from_contains, contains_from_in, in_append_left, in_append_right, in_append_cases, in_kept, in_from_kept, in_flat, got_in}
 use Rattle.listed.proofs.Places.{in_got}
@@ -161,13 +161,9 @@ module _ (v : Memory) (l : Ledger) (t : ℕ) (x : Task) (roots : List Addr) (S :
   above_rests : (m : Name) → is_above l.machine.tasks (own l m) t ≡ true → Rests l (own l m) × (is_on_path l.machine.tasks t (own l m) ≡ true → ⊥)
   above_rests m e =
       let p = and_parts (is_on_path l.machine.tasks (own l m) t) (not (own l m == t)) e in
-      let ne : own l m ≡ t → ⊥ = eqb-false (own l m) t (not_true (own l m == t) p.1) in
+      let ne : own l m ≡ t → ⊥ = eqb-false (own l m) t (not-true (own l m == t) p.1) in
       (at_rest (own l m) (waits ne p.0), (λ d. ne (sym (leaf_alone l S t (own l m) idle (own_live l S m) d))))
     where
-      not_true : (b : Bool) → not b ≡ true → b ≡ false
-      not_true true h = absurd cc
-      not_true false h = refl
-
       waits : (own l m ≡ t → ⊥) → is_on_path l.machine.tasks (own l m) t ≡ true → is_waiting (slice_get l.machine.tasks (own l m)) ≡ true
       waits ne p = by (is_waiting (slice_get l.machine.tasks (own l m))) refl
         where

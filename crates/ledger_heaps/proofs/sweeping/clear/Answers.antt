@@ -1,6 +1,7 @@
 use Rattle.std.proofs.Common.{rules, ◌≡◌, ◌∙◌, ◌+◌, ◌++◌, ◌∷◌, not, ap, sym, drop, map}
+use Rattle.std.proofs.Math.Bool.{not-not}
 use Rattle.run_ledger.specs.Heaps.{in_snapshot, is_empty, without_empty}
-use Rattle.ledger_heaps.proofs.Cleared.{chunks_more, ends_empty, filled_more, not_not, snapshot_kept}
+use Rattle.ledger_heaps.proofs.Cleared.{chunks_more, ends_empty, filled_more, snapshot_kept}
 use Rattle.ledger_heaps.proofs.sweeping.clear.Goals as goal
 
 pub loop-names-preserved : goal.loop-names-preserved
@@ -19,7 +20,7 @@ loop-names-preserved c =
           ∙ c.loop-names.invariant.chunks;
       last =
           ap (λ b. ends_empty (not b) rest) c.in_ok-is_last_empty.ensures.filled
-          ∙ ap (λ b. ends_empty b rest) (not_not (is_empty c.in_ok-left.left))
+          ∙ ap (λ b. ends_empty b rest) (not-not (is_empty c.in_ok-left.left))
           ∙ ap (λ ns. ends_empty (is_empty ns) rest) left
           ∙ ap (ends_empty c.loop-names.is_last_empty) (sym more)
           ∙ c.loop-names.invariant.last;

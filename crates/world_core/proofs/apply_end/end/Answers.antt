@@ -1,13 +1,14 @@
 use Rattle.std.proofs.Common.{ap, sym, ◌∙◌}
 use Rattle.journal_laws.proofs.Accepted.{not_refused}
 use Rattle.shared_tree.specs.Ends.{end_cause}
-use Rattle.world_core.proofs.HoldingCauses.{copy_fits, end_free}
+use Rattle.world_core.proofs.HoldingCauses.{copy_fits}
 use Rattle.world_core.proofs.apply_end.end.Goals as goal
+use Rattle.leaf_collections.proofs.WhyNoEnd.{end_free}
 
 pub leaf_end-requires-clause-fits : goal.leaf_end-requires-clause-fits
 leaf_end-requires-clause-fits c = copy_fits c.args.shared.now c.args.worker c.args.part c.args.moved c.stands.ensures c.requires.holds
 
 pub unreachable-requires : goal.unreachable-requires
 unreachable-requires c =
-    not_refused _ c.in-Err.field-0.cause (end_free c.args.shared.now c.args.worker c.stands.ensures c.requires.first c.args.part c.args.moved (copy_fits c.args.shared.now c.args.worker c.args.part c.args.moved c.stands.ensures c.requires.holds))
+    not_refused _ c.in-Err.field-0.cause (end_free c.args.shared.now c.args.worker c.args.part c.args.moved c.stands.ensures c.requires.first (copy_fits c.args.shared.now c.args.worker c.args.part c.args.moved c.stands.ensures c.requires.holds))
     (sym c.leaf_end.ensures.refused ∙ ap end_cause c.in-Err.is)

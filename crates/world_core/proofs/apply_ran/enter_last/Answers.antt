@@ -4,10 +4,11 @@ use Rattle.shared_value.specs.Causes.{first_cause}
 use Rattle.shared_value.specs.Fits.{Fits}
 use Rattle.shared_value.specs.SharedValue.{SharedValue}
 use Rattle.own_steps.specs.Alone.{GoesAlone, HaltsAlone, IsShared, alone_event}
+use Rattle.own_steps.proofs.LastSteps.{alone_free}
 use Rattle.shared_tree.specs.Ran.{LeavesBy, LeavesPart, LentTo}
 use Rattle.shared_tree.proofs.Joints.{before_same, then_same}
 use Rattle.world_core.specs.Applied.{MakesFor}
-use Rattle.world_core.proofs.Making.{alone_free, goes_made, halts_made, ran_fails}
+use Rattle.world_core.proofs.Making.{goes_made, halts_made, ran_fails}
 use Rattle.world_core.proofs.apply_ran.enter_last.Goals as goal
 
 pub returns-in-Ok-Goes : goal.returns-in-Ok-Goes

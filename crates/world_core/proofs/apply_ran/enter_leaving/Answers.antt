@@ -1,8 +1,9 @@
 use Rattle.std.proofs.Common.{◌≡◌, None, sym, subst}
 use Rattle.shared_value.specs.Entered.{IsCaused, refused}
 use Rattle.own_steps.specs.Alone.{alone_event}
+use Rattle.own_steps.proofs.LastSteps.{alone_free}
 use Rattle.world_core.specs.Applied.{EntersFor}
-use Rattle.world_core.proofs.Making.{alone_free, ran_fails, ran_made}
+use Rattle.world_core.proofs.Making.{ran_fails, ran_made}
 use Rattle.world_core.proofs.apply_ran.enter_leaving.Goals as goal
 
 pub ran_leaving-requires-clause-free : goal.ran_leaving-requires-clause-free

@@ -5,8 +5,8 @@ use Rattle.journal_laws.proofs.Accepted.{not_refused}
 use Rattle.task_machine.specs.declared.part.Private.{Private}
 use Rattle.shared_value.specs.Entered.{Enters, refused}
 use Rattle.leaf_collections.specs.LeafEnd.{FitsCopied, end_event, ended}
+use Rattle.leaf_collections.proofs.WhyNoEnd.{end_free}
 use Rattle.shared_tree.specs.Ends.{end_cause}
-use Rattle.turn_entries.proofs.Free.{end_free}
 use Rattle.turn_entries.proofs.Going.{may_ended}
 use Rattle.turn_entries.proofs.Paying.{pays_nothing}
 use Rattle.turn_entries.proofs.Turning.{one}

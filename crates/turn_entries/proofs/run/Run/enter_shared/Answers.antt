@@ -10,11 +10,12 @@ use Rattle.shared_value.specs.Entered.{IsCaused, refused}
 use Rattle.shared_value.specs.Fits.{Fits}
 use Rattle.shared_value.specs.SharedValue.{SharedValue}
 use Rattle.own_steps.specs.Alone.{GoesAlone, HaltsAlone, IsShared, alone_event}
+use Rattle.own_steps.proofs.LastSteps.{alone_free}
 use Rattle.shared_tree.specs.Ran.{LeavesBy, LeavesPart, LentTo}
 use Rattle.turn_entries.specs.declared.held.Ready.TheVariants.{Paused as HasPaused}
 use Rattle.turn_entries.specs.Parts.{IsPaused}
 use Rattle.turn_entries.specs.Values.{MayEnter}
-use Rattle.turn_entries.proofs.Free.{alone_free, only_memory}
+use Rattle.turn_entries.proofs.Free.{only_memory}
 use Rattle.turn_entries.proofs.Going.{may_alone, stands_shared}
 use Rattle.turn_entries.proofs.Paying.{pays_nothing}
 use Rattle.turn_entries.proofs.Turning.{acts_same, not_over, one, unentered}
@@ -102,7 +103,7 @@ returns-in-Ok-Leaves c =
 
 pub wanting-requires : goal.wanting-requires
 wanting-requires c =
-    only_memory c.in-Err.cause _ (alone_free c.args.self.paced c.args.worker c.args.part c.stands.ensures c.requires.enter.free c.requires.paused.may.fits c.requires.paused.may.idle (stands_shared c.args.self.paced c.args.worker c.args.part c.requires.paused))
+    only_memory c.in-Err.cause _ (alone_free c.args.self.paced c.args.worker c.args.part c.stands.ensures c.requires.paused.may.fits (stands_shared c.args.self.paced c.args.worker c.args.part c.requires.paused) c.requires.paused.may.idle c.requires.enter.free)
     (subst (λ (r : Private). IsCaused c.in-Err.cause (refused c.args.self.paced (alone_event c.args.worker r))) c.get_mut.ensures.value c.in-Err.ensures.refused)
 
 pub returns-in-Err : goal.returns-in-Err

@@ -5,13 +5,14 @@ use Rattle.run_trace.specs.declared.entry.Kind.TheVariants.{Ran}
 use Rattle.run_ledger.specs.declared.data.RunEnd.{RunEnd}
 use Rattle.task_machine.specs.declared.part.Paused.TheVariants.{Shared}
 use Rattle.own_steps.specs.Alone.{FinishesAlone, HaltsAlone}
+use Rattle.own_steps.proofs.LastSteps.{alone_free}
 use Rattle.child_tasks.specs.ChildEnds.{EndsChild}
 use Rattle.child_tasks.specs.Forks.{ForksOn}
 use Rattle.child_tasks.specs.NoTask.{HoldsNone}
 use Rattle.shared_tree.specs.Ran.{RanTo}
 use Rattle.turn_entries.specs.declared.held.Ready.TheVariants.{Paused as HasPaused}
 use Rattle.turn_entries.specs.Acts.{Follows}
-use Rattle.turn_entries.proofs.Free.{alone_free, only_memory}
+use Rattle.turn_entries.proofs.Free.{only_memory}
 use Rattle.turn_entries.proofs.Going.{stands_shared}
 use Rattle.turn_entries.proofs.Paying.{pays_nothing}
 use Rattle.turn_entries.proofs.Turning.{follows_end, not_over, one, unentered}
@@ -62,7 +63,7 @@ ran_leaving-requires-clause-room c = c.requires.enter.room
 
 pub ran_leaving-requires-clause-free : goal.ran_leaving-requires-clause-free
 ran_leaving-requires-clause-free c =
-    alone_free c.args.self.paced c.args.worker c.args.part c.stands.ensures c.requires.enter.free c.requires.paused.may.fits c.requires.paused.may.idle (stands_shared c.args.self.paced c.args.worker c.args.part c.requires.paused)
+    alone_free c.args.self.paced c.args.worker c.args.part c.stands.ensures c.requires.paused.may.fits (stands_shared c.args.self.paced c.args.worker c.args.part c.requires.paused) c.requires.paused.may.idle c.requires.enter.free
 
 pub ran_leaving-requires-clause-pays : goal.ran_leaving-requires-clause-pays
 ran_leaving-requires-clause-pays c = pays_nothing c.args.self.paced c.args.worker (Ran c.args.part.task (c.args.part.fresh + 1)) c.requires.enter.owed
