@@ -20,6 +20,17 @@ pub enum ReadError {
     NoMemory,
 }
 
+impl From<AllocError> for ReadError {
+    ghost use Rattle.std.specs.Prelude.{◌≡◌};
+    ghost use Rattle.all_bytes.specs.declared.read.ReadError.TheVariants.{NoMemory};
+
+    ghost from_gives = { λ _ e. e ≡ NoMemory };
+
+    fn from(_: AllocError) -> ReadError {
+        ReadError::NoMemory
+    }
+}
+
 // Takes some bytes more of a source, as far as one byte past the limit, and says how many.
 fn take_more<S: Source>(
     source: &mut S,
@@ -37,10 +48,10 @@ fn take_more<S: Source>(
     let room = PIECE.min(limit + 1 - input.len());
     match source.take(&mut piece[..room]) {
         Err(Failed) => Err(ReadError::Fault),
-        Ok(count) => match input.extend_from_slice(&piece[..count]) {
-            Ok(()) => Ok(count),
-            Err(AllocError) => Err(ReadError::NoMemory),
-        },
+        Ok(count) => {
+            input.extend_from_slice(&piece[..count])?;
+            Ok(count)
+        }
     }
 }
 

@@ -6,7 +6,7 @@ ghost use Rattle.collection_tests.specs.Ready.{IsReady};
 use alloc_path::LeafHeap;
 use leaf_copy_gc::{Moved, ToChunks, copy};
 use memory_scenes::{is_fit_heap, is_fresh, outside_is_sound, small_in_all};
-use object_layout::{Addr, Chunk};
+use object_layout::{Addr, CHUNK_WORDS, Chunk};
 use outside_io::EmptyGate;
 use std::alloc::Global;
 use task_frames::Frames;
@@ -18,7 +18,7 @@ fn is_ready(heap: &LeafHeap, frames: &Frames, roots: &[Addr], number: u32) -> bo
     let Some(small) = small_in_all(heap.chunks()) else {
         return false;
     };
-    if small > 1024 {
+    if small > CHUNK_WORDS as u32 {
         return false;
     }
     if !is_fit_heap(heap) {

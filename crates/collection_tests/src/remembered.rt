@@ -7,7 +7,7 @@ ghost use Rattle.collection_tests.specs.Ready.{fields_of};
 use crate::families::{Field, are_sources, note_all};
 use alloc_path::LeafHeap;
 use memory_scenes::{Put, Seen, at, heap_of, holds, is_live};
-use object_layout::{Addr, Chunk};
+use object_layout::{Addr, CHUNK_WORDS, Chunk};
 use remembered_set::{Remembered, Source};
 use std::alloc::Global;
 
@@ -100,7 +100,7 @@ const OLD: Addr = Addr {
 // Leads the sources of a set that hold the old address to another one, if they are fields of objects, and says whether just
 // these objects lie in the heap then.
 fn is_rewritten(set: &Remembered, heap: &mut LeafHeap, to: Addr, expected: &[Seen]) -> bool {
-    if !are_fields(heap, set.sources()) || to.offset >= 1024 {
+    if !are_fields(heap, set.sources()) || to.offset >= CHUNK_WORDS as u32 {
         return false;
     }
     set.rewrite(heap, &[(OLD, to)]);

@@ -22,7 +22,8 @@ use Rattle.command_answers.specs.declared.answer.Answer.{Answer}
 use Rattle.command_answers.specs.declared.wanted.Wanted.{Wanted}
 use Rattle.command_answers.specs.declared.wanted.Wanted.TheVariants.{Amid, Before}
 use Rattle.command_answers.specs.Status.{status_of_end}
-use Rattle.command_answers.specs.Input.{program_in, program_limit}
+use Rattle.hh_lang.specs.Limits.{program_limit}
+use Rattle.command_answers.specs.Input.{program_in}
 use Rattle.command_answers.specs.Answers.{AnswersMake, AnswersProgram, AnswersRun, AnswersTrace, IsModelled, IsText, LeavesMake, LeavesRun, WhereProgram, WhereWhole, summary}
 use Rattle.command_answers.specs.Delivery.{IsWanted}
 use Rattle.command_answers.specs.Laws.{MadeAreRead}

@@ -3,15 +3,12 @@ use Rattle.std.specs.Prelude.{ℕ, Bool, true, false, List, [], Option, Some, No
 use Rattle.text_lines.specs.Lines.{most_bytes}
 use Rattle.all_bytes.specs.Bytes.{source_bytes}
 use Rattle.hh_lang.specs.Form.{ProgramText}
+use Rattle.hh_lang.specs.Limits.{program_limit}
 use Rattle.program_reader.specs.declared.cause.Refused.{Refused}
 use Rattle.program_reader.specs.Program.{reading_of}
 use Rattle.trace_input.specs.Input.{too_long}
 use Rattle.command_line.specs.declared.line.CommandLine.{CommandLine}
 use Rattle.command_line.specs.declared.line.CommandLine.TheVariants.{Check, Run, Replay, Model, Races, Image, Make, Verify}
-
--- the most bytes of a program's text
-abbrev pub program_limit : ℕ
-program_limit = 1048576
 
 -- the program that an input is, or why it is refused
 abbrev pub program_in : List ℕ → Result ProgramText Refused

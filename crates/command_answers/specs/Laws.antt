@@ -5,7 +5,7 @@ use Rattle.outside_io.specs.Told.{with_more}
 use Rattle.hh_lang.specs.Form.{ProgramText}
 use Rattle.program_reader.specs.declared.cause.Refused.{Refused}
 use Rattle.program_reader.specs.Program.{program_of}
-use Rattle.program_make.specs.Text.{made_text}
+use Rattle.program_make.specs.Text.{made_text, size_limit}
 use Rattle.run_trace.specs.Settings.{SettingsValue}
 use Rattle.trace_input.specs.declared.input.InputFault.TheVariants.{Source as SourceFault}
 use Rattle.trace_input.specs.Input.{input_fault}
@@ -45,7 +45,7 @@ ProgramsAreRun =
 
 -- a text that was made is the text of its program, and within the limit
 abbrev pub MadeAreRead : Type 0
-MadeAreRead = (seed size : ℕ) → 1 ≤ size → size ≤ 1000 → IsProgramInput (made_text seed size) (program_of (made_text seed size))
+MadeAreRead = (seed size : ℕ) → 1 ≤ size → size ≤ size_limit → IsProgramInput (made_text seed size) (program_of (made_text seed size))
 
 -- and so is one that was made
 abbrev pub MadeAreRun : Type 0

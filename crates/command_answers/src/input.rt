@@ -8,15 +8,12 @@ ghost use Rattle.command_answers.specs.Input.{limit_of, is_reading, program_in, 
 
 use all_bytes::{ReadError, read_file};
 use command_line::{CommandLine, FileName};
-use hh_lang::Program;
+use hh_lang::{PROGRAM_LIMIT, Program};
 use outside_io::Source;
 use program_reader::{Refused, read_program};
 use std::alloc::{AllocError, Global};
 use text_lines::MOST_BYTES;
 use trace_input::TOO_LONG;
-
-/// The most bytes of a program's text.
-const PROGRAM_LIMIT: usize = 1048576;
 
 /// The program that an input is, or why it is refused.
 pub fn program_in(alloc: Global, input: &[u8]) -> Result<Result<Program, Refused>, AllocError>

@@ -1,6 +1,7 @@
 // What each command answers to its input.
 
 ghost use Rattle.std.specs.Prelude.{◌≤◌, IfOk, IfErr, Some};
+ghost use Rattle.program_make.specs.Text.{size_limit};
 ghost use Rattle.command_line.specs.CommandLine.{HasSize};
 ghost use Rattle.command_answers.specs.Answers.{AnswersMake, AnswersLine, LeavesLine, LeavesMake};
 ghost use Rattle.command_answers.specs.Delivery.{IsWanted};
@@ -29,7 +30,7 @@ fn answer_make<R: Threads + Wait + Sync, G: Gate>(
     gate: &G,
 ) -> Result<Answer, Wanted>
     requires some { 1 ≤ size }
-    requires at_most { size ≤ 1000 }
+    requires at_most { size ≤ size_limit }
     ensures answer { IfOk result (AnswersMake seed size run) }
     ensures wanted { IfErr result (IsWanted (LeavesMake seed size run)) }
 {

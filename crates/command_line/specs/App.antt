@@ -1,5 +1,7 @@
 -- The command line, as the parser's definition of a simple command speaks of it.
 use Rattle.std.specs.Prelude.{ℕ, [], ◌∷◌, Some, codes, true, false}
+use Rattle.program_make.specs.Text.{size_limit}
+use Rattle.run_trace.specs.Settings.{chunk_limit, fuel_limit, words_limit}
 use Rattle.clap.specs.Words.{App, Rule, Shape, Text, new_rule}
 use Rattle.clap.specs.Simple.{new_shape}
 use Rattle.clap.specs.declared.builder.action.ArgAction.TheVariants.{SetTrue}
@@ -30,16 +32,16 @@ abbrev pub workers : Rule
 workers = option (codes "workers") 1 64 (codes "1")
 
 abbrev pub fuel : Rule
-fuel = option (codes "fuel") 1 1000000000 (codes "1000000")
+fuel = option (codes "fuel") 1 fuel_limit (codes "1000000")
 
 abbrev pub chunks : Rule
-chunks = option (codes "chunks") 2 65536 (codes "4096")
+chunks = option (codes "chunks") 2 chunk_limit (codes "4096")
 
 abbrev pub leaf : Rule
-leaf = option (codes "leaf") 16 1000000 (codes "4096")
+leaf = option (codes "leaf") 16 words_limit (codes "4096")
 
 abbrev pub inner : Rule
-inner = option (codes "inner") 16 1000000 (codes "8192")
+inner = option (codes "inner") 16 words_limit (codes "8192")
 
 abbrev pub check : Shape
 check = record (new_shape (codes "check")) { rules = file ∷ [] }
@@ -87,7 +89,7 @@ image = limited (codes "image")
 
 abbrev pub make : Shape
 make = record (new_shape (codes "make")) {
-  rules = number (codes "SEED") 0 4294967295 ∷ number (codes "SIZE") 1 1000 ∷ flag (codes "run") ∷ [];
+  rules = number (codes "SEED") 0 4294967295 ∷ number (codes "SIZE") 1 size_limit ∷ flag (codes "run") ∷ [];
 }
 
 abbrev pub verify : Shape

@@ -8,6 +8,7 @@ use Rattle.std.specs.Str.{bytes_eq}
 use Rattle.std.specs.Str.Parse.{digits_value, without_leading_plus}
 use Rattle.clap.specs.Words.{Row, Text, fault_of, first_of, one_of, subcommand_of}
 use Rattle.clap.specs.Walk.{is_empty}
+use Rattle.program_make.specs.Text.{size_limit}
 use Rattle.run_trace.specs.Settings.{SettingsValue}
 use Rattle.run_trace.specs.declared.settings.Version.TheVariants.{Two}
 use Rattle.command_line.specs.App.{app}
@@ -64,7 +65,7 @@ command_line words =
     if is_empty (fault_of app words) then option_and_then (λ p. asked p.0 p.1) (subcommand_of app words)
     else None
 
--- the size of a program to be made is 1 to 1,000
+-- the size of a program to be made is in its range
 abbrev pub HasSize : Option CommandLine → Type 0
-HasSize (Some (Make seed size run)) = (1 ≤ size) × (size ≤ 1000)
+HasSize (Some (Make seed size run)) = (1 ≤ size) × (size ≤ size_limit)
 HasSize _ = ⊤

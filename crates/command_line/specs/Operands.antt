@@ -4,7 +4,8 @@ use Rattle.std.specs.Str.Parse.{digits_value, without_leading_plus}
 use Rattle.clap.specs.Lexer.{strip_byte}
 use Rattle.clap.specs.ValueTests.{is_unsigned_in}
 use Rattle.clap.specs.Words.{Text}
-use Rattle.run_trace.specs.Settings.{SettingsValue, usual_limits}
+use Rattle.program_make.specs.Text.{size_limit}
+use Rattle.run_trace.specs.Settings.{SettingsValue, chunk_limit, fuel_limit, usual_limits, words_limit}
 use Rattle.command_line.specs.CommandLine.{command_line}
 use Rattle.command_line.specs.Examples.{usual_options}
 use Rattle.command_line.specs.declared.line.CommandLine.{CommandLine}
@@ -31,7 +32,7 @@ OperandsNameFiles = (file : Text) → IsOperand file
 abbrev pub Makes : List Text → Bool → Type 0
 Makes flags run = (seed size : Text) → IsOperand seed → IsOperand size
     → command_line (codes "make" ∷ seed ∷ size ∷ flags)
-    ≡ (if is_unsigned_in 0 4294967295 seed && is_unsigned_in 1 1000 size
+    ≡ (if is_unsigned_in 0 4294967295 seed && is_unsigned_in 1 size_limit size
     then Some (Make (digits_value 10 (without_leading_plus seed)) (digits_value 10 (without_leading_plus size)) run)
     else None)
 
@@ -50,10 +51,10 @@ Sets command line flag least most limits = (word : Text) → IsOperand word
 abbrev pub SetsEach : Text → (Option Text → Options → CommandLine) → Type 0
 SetsEach command line =
     Sets command line (codes "--workers") 1 64 (λ n. record usual_limits { workers = n })
-    × Sets command line (codes "--fuel") 1 1000000000 (λ n. record usual_limits { fuel = n })
-    × Sets command line (codes "--chunks") 2 65536 (λ n. record usual_limits { chunks = n })
-    × Sets command line (codes "--leaf") 16 1000000 (λ n. record usual_limits { leaf = n })
-    × Sets command line (codes "--inner") 16 1000000 (λ n. record usual_limits { inner = n })
+    × Sets command line (codes "--fuel") 1 fuel_limit (λ n. record usual_limits { fuel = n })
+    × Sets command line (codes "--chunks") 2 chunk_limit (λ n. record usual_limits { chunks = n })
+    × Sets command line (codes "--leaf") 16 words_limit (λ n. record usual_limits { leaf = n })
+    × Sets command line (codes "--inner") 16 words_limit (λ n. record usual_limits { inner = n })
 
 abbrev pub OptionsSet : Type 0
 OptionsSet = SetsEach (codes "run") Run × SetsEach (codes "replay") Replay × SetsEach (codes "model") Model

@@ -1,5 +1,7 @@
 -- Which values the matches of a command have.
 use Rattle.std.specs.Prelude.{◌≡◌, ◌⊎◌, ℕ, List, Option, Some, None, ⊤, codes}
+use Rattle.program_make.specs.Text.{size_limit}
+use Rattle.run_trace.specs.Settings.{chunk_limit, fuel_limit, words_limit}
 use Rattle.clap.specs.Words.{IsUnsignedIn, Row, Text, one_of}
 
 -- the argument gives a number from `least` to `most`
@@ -13,10 +15,10 @@ HasFlag id rows = (one_of id rows ≡ Some (codes "true")) ⊎ (one_of id rows �
 -- the matches of `races` and `image` have all numbers in their ranges
 pub record HasLimits (rows : List Row) : Type 0 where
   pub workers : HasNumber (codes "workers") 1 64 rows
-  pub fuel : HasNumber (codes "fuel") 1 1000000000 rows
-  pub chunks : HasNumber (codes "chunks") 2 65536 rows
-  pub leaf : HasNumber (codes "leaf") 16 1000000 rows
-  pub inner : HasNumber (codes "inner") 16 1000000 rows
+  pub fuel : HasNumber (codes "fuel") 1 fuel_limit rows
+  pub chunks : HasNumber (codes "chunks") 2 chunk_limit rows
+  pub leaf : HasNumber (codes "leaf") 16 words_limit rows
+  pub inner : HasNumber (codes "inner") 16 words_limit rows
 
 -- those of a command that runs a program have these and both flags
 pub record HasOptions (rows : List Row) : Type 0 where
@@ -27,7 +29,7 @@ pub record HasOptions (rows : List Row) : Type 0 where
 -- the matches of `make` have both numbers, and its flag
 pub record FitsMake (rows : List Row) : Type 0 where
   pub seed : HasNumber (codes "SEED") 0 4294967295 rows
-  pub size : HasNumber (codes "SIZE") 1 1000 rows
+  pub size : HasNumber (codes "SIZE") 1 size_limit rows
   pub run : HasFlag (codes "run") rows
 
 -- the matches of a command, by its name

@@ -7,6 +7,8 @@ ghost use Rattle.command_line.specs.App.{app, check, runner, limited, run, repla
 
 use clap::builder::ValueParser;
 use clap::{Arg, ArgAction, Command};
+use program_make::SIZE_LIMIT;
+use run_trace::{CHUNK_LIMIT, FUEL_LIMIT, WORDS_LIMIT};
 use std::alloc::{AllocError, Global};
 
 // A file's name, which may be left out.
@@ -51,7 +53,7 @@ fn fuel<'w>(alloc: Global) -> Arg<'w>
     ensures rule { rule_of result ≡ fuel }
     ensures own { result.global ≡ false }
 {
-    option(alloc, "fuel", 1, 1_000_000_000, "1000000")
+    option(alloc, "fuel", 1, FUEL_LIMIT, "1000000")
 }
 
 // The most chunks.
@@ -59,7 +61,7 @@ fn chunks<'w>(alloc: Global) -> Arg<'w>
     ensures rule { rule_of result ≡ chunks }
     ensures own { result.global ≡ false }
 {
-    option(alloc, "chunks", 2, 65_536, "4096")
+    option(alloc, "chunks", 2, CHUNK_LIMIT as u64, "4096")
 }
 
 // From so many words on a leaf collection is due.
@@ -67,7 +69,7 @@ fn leaf<'w>(alloc: Global) -> Arg<'w>
     ensures rule { rule_of result ≡ leaf }
     ensures own { result.global ≡ false }
 {
-    option(alloc, "leaf", 16, 1_000_000, "4096")
+    option(alloc, "leaf", 16, WORDS_LIMIT as u64, "4096")
 }
 
 // From so many words on an inner collection is due.
@@ -75,7 +77,7 @@ fn inner<'w>(alloc: Global) -> Arg<'w>
     ensures rule { rule_of result ≡ inner }
     ensures own { result.global ≡ false }
 {
-    option(alloc, "inner", 16, 1_000_000, "8192")
+    option(alloc, "inner", 16, WORDS_LIMIT as u64, "8192")
 }
 
 // A flag.
@@ -166,7 +168,7 @@ fn make<'w>(alloc: Global) -> Result<Command<'w>, AllocError>
         Ok(Command::new(alloc, "make")),
         number(alloc, "SEED", 0, 4_294_967_295),
     );
-    let whole = with_argument(whole, number(alloc, "SIZE", 1, 1000));
+    let whole = with_argument(whole, number(alloc, "SIZE", 1, SIZE_LIMIT as u64));
     with_argument(whole, flag(alloc, "run"))
 }
 

@@ -102,8 +102,5 @@ pub fn graph_text(
     ensures fault { IfErr result (Fails (image_fault text.now)) }
 {
     let read = read_image(alloc, text)?;
-    match graph_from(alloc, &read, path, limit, text) {
-        Ok(graph) => Ok(graph),
-        Err(AllocError) => Err(VerifyError::NoMemory),
-    }
+    Ok(graph_from(alloc, &read, path, limit, text)?)
 }

@@ -2,6 +2,7 @@
 use Rattle.std.specs.Prelude.{ℕ, zero, suc, ℤ, pos, ◌+◌, ◌-◌, ◌%◌, ◌==◌, ◌||◌, Bool, true, false, Option, Some, None, List, [], ◌∷◌, ◌++◌, slice_get, slice_set, length, if◌then◌else◌, nat_lt, replicate}
 use Rattle.hh_lang.specs.declared.program.Line.{Line}
 use Rattle.hh_lang.specs.Form.{ProgramText, line_at}
+pub use Rattle.hh_lang.specs.Limits.{depth_limit, frame_limit}
 use Rattle.hh_model.specs.declared.data.Name.{Name}
 use Rattle.hh_model.specs.declared.data.Strand.{Strand}
 use Rattle.hh_model.specs.declared.data.Edge.{Edge}
@@ -15,13 +16,6 @@ use Rattle.hh_model.specs.declared.data.End.TheVariants.{Done, Trapped, Entangle
 use Rattle.hh_model.specs.declared.data.State.{State}
 use Rattle.hh_model.specs.Effect.{Effect, Goes, Prints, Calls, Forks, Returns, Traps, Stops, Setting, effect, int_in, ref_in, with_int, with_ref, onward}
 use Rattle.hh_model.specs.Names.{words_asked}
-
--- a task has at most so many frames, and at most so many forks above it
-abbrev pub frame_limit : ℕ
-frame_limit = 1000
-
-abbrev pub depth_limit : ℕ
-depth_limit = 1000
 
 -- WHERE A TASK STANDS
 

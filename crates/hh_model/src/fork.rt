@@ -4,11 +4,9 @@ ghost use Rattle.std.specs.Prelude.{◌≡◌, ◌<◌, ◌+◌, ◌^◌, ◌++�
 ghost use Rattle.hh_model.specs.Step.{with_task, forked, child, edge, strand};
 
 use crate::data::{Edge, End, Frame, State, Status, Strand, Task, Trap};
+use hh_lang::DEPTH_LIMIT;
 use listed::Listed;
 use std::alloc::{AllocError, Global};
-
-/// A task has at most so many forks above it.
-pub const DEPTH_LIMIT: u32 = 1000;
 
 impl State {
     /// A task forks.

@@ -5,11 +5,8 @@ ghost use Rattle.hh_model.specs.Effect.{int_in, onward, ref_in, with_int, with_r
 ghost use Rattle.hh_model.specs.Step.{with_task, called, entry_frame, last_of, front_of};
 
 use crate::data::{End, Frame, Name, State, Trap};
-use hh_lang::{IntReg, RefReg};
+use hh_lang::{FRAME_LIMIT, IntReg, RefReg};
 use std::alloc::AllocError;
-
-/// A task has at most so many frames.
-pub const FRAME_LIMIT: usize = 1000;
 
 impl State {
     /// A frame that has waited becomes a task's top one, with what is handed back to it.

@@ -19,6 +19,4 @@ mod take;
 
 pub use arithmetic::{calculate, field_counts, field_index, is_same};
 pub use data::{Edge, End, Frame, Name, Object, State, Status, Strand, Task, Trap};
-pub use fork::DEPTH_LIMIT;
-pub use frames::FRAME_LIMIT;
 pub use machine::{Machine, StepError};

@@ -29,6 +29,17 @@ pub enum VerifyError {
     NoMemory,
 }
 
+impl From<AllocError> for VerifyError {
+    ghost use Rattle.std.specs.Prelude.{◌≡◌};
+    ghost use Rattle.image_check.specs.declared.check.VerifyError.TheVariants.{NoMemory};
+
+    ghost from_gives = { λ _ e. e ≡ NoMemory };
+
+    fn from(_: AllocError) -> VerifyError {
+        VerifyError::NoMemory
+    }
+}
+
 // The first cause on a line, of which these were read before; without one the line is read too.
 fn check_line(
     alloc: Global,
@@ -88,10 +99,9 @@ fn read_within(alloc: Global, whole: &Whole, text: &[u8]) -> Result<Read, Verify
     ensures fault { IfErr result (Fails (lines_fault text.now)) }
 {
     let mut read = Read::new(alloc);
-    match check_lines(alloc, whole, &mut read, text) {
-        Ok(None) => Ok(read),
-        Ok(Some(fault)) => Err(VerifyError::Refused(fault)),
-        Err(AllocError) => Err(VerifyError::NoMemory),
+    match check_lines(alloc, whole, &mut read, text)? {
+        None => Ok(read),
+        Some(fault) => Err(VerifyError::Refused(fault)),
     }
 }
 
@@ -150,10 +160,9 @@ pub fn verify(alloc: Global, text: &[u8]) -> Result<u64, VerifyError>
     if text.len() > MOST_BYTES {
         return Err(VerifyError::Refused(TOO_LONG));
     }
-    match check_text(alloc, text) {
-        Ok(Ok(count)) => Ok(count),
-        Ok(Err(fault)) => Err(VerifyError::Refused(fault)),
-        Err(AllocError) => Err(VerifyError::NoMemory),
+    match check_text(alloc, text)? {
+        Ok(count) => Ok(count),
+        Err(fault) => Err(VerifyError::Refused(fault)),
     }
 }
 
@@ -164,10 +173,8 @@ fn read_text(alloc: Global, text: &[u8]) -> Result<Read, VerifyError>
     ensures fault { IfErr result (Fails (lines_fault text.now)) }
 {
     let mut whole = Whole::new(alloc);
-    match whole.add_lines(alloc, text) {
-        Ok(()) => read_within(alloc, &whole, text),
-        Err(AllocError) => Err(VerifyError::NoMemory),
-    }
+    whole.add_lines(alloc, text)?;
+    read_within(alloc, &whole, text)
 }
 
 /// Checks the text of an image, and answers all that its lines say, or the first fault.

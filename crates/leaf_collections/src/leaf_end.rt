@@ -22,7 +22,6 @@ pub fn lead(heaps: &mut Heaps, task: u32, moved: &[(Addr, Addr)])
     ensures led { heaps.new ≡ with_resting heaps.old (fold (redirected refs_in with_ref_in moved.now) (resting heaps.old) (sources_of (slice_get heaps.old.homes.sets task))) }
     ensures once { StandOnce (sources_of (slice_get heaps.old.homes.sets task)) }
 {
-    let _ = heaps.homes.sources(task);
     heaps.rewrite(task, moved);
 }
 

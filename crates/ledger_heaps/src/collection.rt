@@ -47,6 +47,7 @@ impl Collected {
     }
 }
 
+#[tactic(auto, using(crate::proofs::Kept::left_words, crate::proofs::Kept::small_bound, crate::proofs::Kept::large_bound))]
 /// What the leaf collection that has begun leaves of a heap.
 pub fn collect(alloc: Global, machine: &State, heap: &Heap) -> Result<Collected, AllocError>
     requires { words_in machine.now heap.now < 2 ^ 62 }
@@ -59,7 +60,7 @@ pub fn collect(alloc: Global, machine: &State, heap: &Heap) -> Result<Collected,
     let Laid { chunks, room } = lay_all(alloc, machine, small.as_slice())?;
     let taken = chunks.len() as u64;
     let given = given_back(machine, heap, &large, taken);
-    let left = words_left(machine, heap, &small, &large);
+    let left = words_sum(machine, small.as_slice()) + words_sum(machine, large.as_slice());
     Ok(Collected {
         chunks,
         large,
@@ -113,17 +114,6 @@ fn given_back(machine: &State, heap: &Heap, large: &Listed<Name>, taken: u64) ->
     let unused = (heap.begun.unwrap_or(0) as u64).saturating_sub(taken);
     let old = units_sum(machine, heap.large.as_slice());
     heap.chunks.as_slice().len() as u64 + unused + (old - units_sum(machine, large.as_slice()))
-}
-
-#[tactic(auto, using(crate::proofs::Kept::left_words, crate::proofs::Kept::small_bound, crate::proofs::Kept::large_bound))]
-// The words of the survivors.
-fn words_left(machine: &State, heap: &Heap, small: &Listed<Name>, large: &Listed<Name>) -> u64
-    requires words { words_in machine.now heap.now < 2 ^ 62 }
-    requires small { small.now ≡ small_survivors heap.now }
-    requires large { large.now ≡ large_survivors heap.now }
-    ensures { result ≡ words_in machine.now (collected machine.now heap.now) }
-{
-    words_sum(machine, small.as_slice()) + words_sum(machine, large.as_slice())
 }
 
 // Small names laid into chunks, and the words left in the last chunk.

@@ -1,8 +1,8 @@
 -- Made texts are programs.
 use Rattle.std.specs.Prelude.{◌≡◌, ℕ, ◌≤◌, Ok}
 use Rattle.program_reader.specs.Program.{program_of, reading_of}
-use Rattle.program_make.specs.Text.{made_text}
+use Rattle.program_make.specs.Text.{made_text, size_limit}
 
 -- a made text is read as its program, from whatever seed: no line of it has a fault
 abbrev pub MadeArePrograms : Type 0
-MadeArePrograms = (seed size : ℕ) → 1 ≤ size → size ≤ 1000 → reading_of (made_text seed size) ≡ Ok (program_of (made_text seed size))
+MadeArePrograms = (seed size : ℕ) → 1 ≤ size → size ≤ size_limit → reading_of (made_text seed size) ≡ Ok (program_of (made_text seed size))

@@ -9,7 +9,7 @@ ghost use Rattle.memory_scenes.specs.Fit.{IsFit};
 
 use crate::soundness::is_sound;
 use alloc_path::LeafHeap;
-use object_layout::{Chunk, header_at, is_born_at, next_at, ref_at};
+use object_layout::{CHUNK_WORDS, Chunk, header_at, is_born_at, next_at, ref_at};
 
 // Whether each reference of the object there leads to an object.
 fn leads_to_objects(heap: &LeafHeap, chunk: &Chunk, at: u32) -> bool
@@ -69,7 +69,7 @@ fn small_in_chunk(chunk: &Chunk) -> u32
     let mut words = 0;
     while at < used {
         let next = next_at(chunk, at);
-        if is_born_at(chunk, at) && next - at <= 1024 {
+        if is_born_at(chunk, at) && next - at <= CHUNK_WORDS as u32 {
             words += next - at;
         }
         at = next;

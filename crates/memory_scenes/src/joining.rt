@@ -10,6 +10,7 @@ use alloc_path::{LeafHeap, View};
 use chunk_pool::Pool;
 use fork_join::{Child, EndedChild, Side, finish, fork, join, make_room};
 use heap_tree::{State, Tree};
+use hh_lang::DEPTH_LIMIT;
 use object_layout::Chunk;
 use std::alloc::Global;
 use task_frames::Frames;
@@ -85,7 +86,7 @@ pub fn forked(
     above: Option<&View>,
     top: &Frames,
 ) -> Option<(Child, Child)> {
-    if t >= tree.made() || tree.made() >= 100000 || tree.depth(t) >= 1000 {
+    if t >= tree.made() || tree.made() >= 100000 || tree.depth(t) >= DEPTH_LIMIT {
         return None;
     }
     tree.set_state(t, State::Out);

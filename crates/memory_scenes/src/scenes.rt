@@ -7,7 +7,7 @@ ghost use Rattle.object_layout.specs.Graph.{IsHeld};
 
 use crate::soundness::{is_fresh, is_live};
 use alloc_path::{LeafHeap, New};
-use object_layout::{Addr, Birth, Chunk, Header};
+use object_layout::{Addr, Birth, CHUNK_WORDS, Chunk, Header};
 use std::alloc::Global;
 use task_frames::Frames;
 
@@ -138,7 +138,10 @@ fn is_object(heap: &LeafHeap, object: Addr) -> bool
 
 // Writes the first reference of an object, and says whether it did.
 fn lead(heap: &mut LeafHeap, object: Addr, to: Addr) -> bool {
-    if !is_object(heap, object) || to.offset >= 1024 || heap.own_header(object).nrefs == 0 {
+    if !is_object(heap, object)
+        || to.offset >= CHUNK_WORDS as u32
+        || heap.own_header(object).nrefs == 0
+    {
         return false;
     }
     heap.own_set_ref(object, 0, Some(to));

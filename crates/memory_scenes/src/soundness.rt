@@ -8,7 +8,7 @@ ghost use Rattle.alloc_path.specs.LeafHeapValue.{IsFresh};
 ghost use Rattle.leaf_copy_gc.specs.Survivors.{as_reference, held_by, outside, IsHeld, IsSound};
 
 use alloc_path::LeafHeap;
-use object_layout::{Addr, Chunk, is_born_at, next_at};
+use object_layout::{Addr, CHUNK_WORDS, Chunk, is_born_at, next_at};
 use task_frames::Frames;
 
 // Whether an object or a hole begins at an offset.
@@ -55,7 +55,7 @@ pub fn is_sound(heap: &LeafHeap, reference: Option<Addr>) -> bool
 {
     match reference {
         None => true,
-        Some(to) => !heap.owns(to) || to.offset < 1024 && is_live(heap.chunks(), to),
+        Some(to) => !heap.owns(to) || to.offset < CHUNK_WORDS as u32 && is_live(heap.chunks(), to),
     }
 }
 

@@ -10,7 +10,7 @@ use crate::soundness::is_live;
 use alloc_path::LeafHeap;
 use chunk_pool::Pool;
 use inner_mark_gc::{Marking, MarkingRoom};
-use object_layout::{Addr, Chunk};
+use object_layout::{Addr, CHUNK_WORDS, Chunk};
 use std::alloc::Global;
 
 // Whether all references within the heap lead to objects.
@@ -45,7 +45,7 @@ fn pool_of(alloc: Global, chunks: &[Chunk]) -> Option<Pool>
 {
     let mut pool = Pool::new(alloc, 1000);
     for chunk in chunks {
-        let units = chunk.size() / 1024;
+        let units = chunk.size() / CHUNK_WORDS as u32;
         if units == 0 {
             return None;
         }

@@ -1,7 +1,8 @@
 -- How long made texts are.
 use Rattle.std.specs.Prelude.{ℕ, ◌≤◌, length}
-use Rattle.program_make.specs.Text.{made_text}
+use Rattle.hh_lang.specs.Limits.{program_limit}
+use Rattle.program_make.specs.Text.{made_text, size_limit}
 
--- the text of at most 1,000 functions is at most 1,048,576 bytes, from whatever seed
+-- the text of a program that may be made is one that may be read, from whatever seed
 abbrev pub MadeAreShort : Type 0
-MadeAreShort = (seed size : ℕ) → size ≤ 1000 → length (made_text seed size) ≤ 1048576
+MadeAreShort = (seed size : ℕ) → size ≤ size_limit → length (made_text seed size) ≤ program_limit

@@ -3,6 +3,10 @@ use Rattle.std.specs.Prelude.{ℕ, zero, suc, ◌+◌, ◌*◌, ◌%◌, if◌th
 use Rattle.std.specs.Fmt.{decimal}
 use Rattle.program_make.specs.Draws.{value_after, amount, garbage, rounds}
 
+-- a made program has at most so many functions
+abbrev pub size_limit : ℕ
+size_limit = 1000
+
 -- a line that ends with a number
 abbrev pub numbered : List ℕ → ℕ → List ℕ
 numbered words n = words ++ decimal n ++ codes "\n"

@@ -7,4 +7,4 @@ mod text;
 mod whole;
 
 pub use laws::made_are_short;
-pub use whole::make;
+pub use whole::{SIZE_LIMIT, make};

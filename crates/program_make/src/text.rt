@@ -1,7 +1,7 @@
 // The lines of a function.
 
 ghost use Rattle.std.specs.Prelude.{◌≡◌, ◌++◌, ◌<◌, OnOk};
-ghost use Rattle.program_make.specs.Text.{numbered, first_lines, par_line, children_lines, children_of, last_lines, side};
+ghost use Rattle.program_make.specs.Text.{numbered, first_lines, par_line, children_lines, children_of, last_lines, side, size_limit};
 
 use std::alloc::{AllocError, Global};
 
@@ -61,7 +61,7 @@ pub(crate) fn add_children(
     size: u32,
     number: u32,
 ) -> Result<(), AllocError>
-    requires { number < 1000 }
+    requires { number < size_limit }
     ensures { OnOk result (bytes.new.items ≡ bytes.old.items ++ children_of size number) }
 {
     if 2 * number + 2 < size {

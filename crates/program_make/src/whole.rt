@@ -2,11 +2,14 @@
 
 ghost use Rattle.std.specs.Prelude.{◌≡◌, ◌++◌, ◌≤◌, ◌<◌, IfOk, OnOk};
 ghost use Rattle.program_make.specs.Draws.{after_three};
-ghost use Rattle.program_make.specs.Text.{function_text, first_functions, made_text};
+ghost use Rattle.program_make.specs.Text.{function_text, first_functions, made_text, size_limit};
 
 use crate::draws::draw;
 use crate::text::{add_children, add_first_lines, add_last_lines, side_of};
 use std::alloc::{AllocError, Global};
+
+/// A made program has at most so many functions.
+pub const SIZE_LIMIT: u32 = 1000;
 
 // Draws the three numbers of a function, and adds its text.
 fn add_function(
@@ -16,7 +19,7 @@ fn add_function(
     size: u32,
     number: u32,
 ) -> Result<(), AllocError>
-    requires { number < 1000 }
+    requires { number < size_limit }
     ensures moved { value.new ≡ after_three value.old }
     ensures added { OnOk result (bytes.new.items ≡ bytes.old.items ++ function_text size number value.old) }
 {
@@ -30,7 +33,7 @@ fn add_function(
 
 // The functions of a program.
 fn functions(alloc: Global, seed: u32, size: u32) -> Result<Vec<u8>, AllocError>
-    requires { size ≤ 1000 }
+    requires { size ≤ size_limit }
     ensures { IfOk result (λ bytes. bytes.items ≡ first_functions seed size size) }
 {
     let mut bytes = Vec::new(alloc);
@@ -45,7 +48,7 @@ fn functions(alloc: Global, seed: u32, size: u32) -> Result<Vec<u8>, AllocError>
 /// side by side, and main writes the sum of what they add. An error: no memory.
 pub fn make(alloc: Global, seed: u32, size: u32) -> Result<Vec<u8>, AllocError>
     requires some { 1 ≤ size }
-    requires at_most { size ≤ 1000 }
+    requires at_most { size ≤ size_limit }
     ensures { IfOk result (λ bytes. bytes.items ≡ made_text seed size) }
 {
     let mut bytes = functions(alloc, seed, size)?;

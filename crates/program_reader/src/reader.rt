@@ -119,8 +119,8 @@ impl<'a> Reader<'a> {
     }
 
     // Whether a line gives a name that stands above.
-    fn is_again(&self, outline: &Outline<'_>, head: Head, rest: &[u8], last: bool) -> bool
-        ensures { result ≡ is_second (spot_in outline.now self.now last) head (words_of rest.now) }
+    fn is_again(&self, outline: &Outline<'_>, head: Head, rest: &[u8]) -> bool
+        ensures { (last : Bool) → result ≡ is_second (spot_in outline.now self.now last) head (words_of rest.now) }
     {
         let Some(name) = read_only_name(rest) else {
             return false;
@@ -160,7 +160,7 @@ impl<'a> Reader<'a> {
             Some(Cause::Operand)
         } else if self.stays_open(head, last) {
             Some(Cause::NoEnd)
-        } else if self.is_again(outline, head, rest, last) {
+        } else if self.is_again(outline, head, rest) {
             Some(Cause::TwoNames)
         } else if no_function(sense) {
             Some(Cause::NoName)

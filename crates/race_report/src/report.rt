@@ -66,10 +66,7 @@ pub fn races(
     ensures fails { IfErr result (ReplayFails (first_refused program.now settings journal.now)) }
 {
     check_journal(alloc, program, settings, journal)?;
-    match races_of(alloc, Sight::Fields, program, settings, journal) {
-        Ok(races) => Ok(races),
-        Err(AllocError) => Err(ReplayError::NoMemory),
-    }
+    Ok(races_of(alloc, Sight::Fields, program, settings, journal)?)
 }
 
 /// The races of the journal of a whole run: a journal without an end is refused too, as short.
@@ -84,8 +81,5 @@ pub fn races_of_run(
     ensures fails { IfErr result (ReplayFails (refused_as_run program.now settings journal.now)) }
 {
     let _end = model_replay(alloc, program, settings, journal)?;
-    match races_of(alloc, Sight::Fields, program, settings, journal) {
-        Ok(races) => Ok(races),
-        Err(AllocError) => Err(ReplayError::NoMemory),
-    }
+    Ok(races_of(alloc, Sight::Fields, program, settings, journal)?)
 }

@@ -129,7 +129,8 @@ impl Remembered {
         requires fields { AreFields W.refs_at words.old self.now.sources }
         requires order { AreInOrder moved.now }
         requires places { ArePlaces moved.now }
-        ensures { words.new ≡ fold (redirected W.refs_at W.with_ref_at moved.now) words.old self.now.sources }
+        ensures led { words.new ≡ fold (redirected W.refs_at W.with_ref_at moved.now) words.old self.now.sources }
+        ensures once { StandOnce self.now.sources }
     {
         if let Some(table) = &self.table {
             table.get().rewrite(words, moved);

@@ -107,7 +107,8 @@ impl Table {
         requires fields { AreFields W.refs_at words.old self.now.sources }
         requires order { AreInOrder moved.now }
         requires places { ArePlaces moved.now }
-        ensures { words.new ≡ fold (redirected W.refs_at W.with_ref_at moved.now) words.old self.now.sources }
+        ensures led { words.new ≡ fold (redirected W.refs_at W.with_ref_at moved.now) words.old self.now.sources }
+        ensures once { StandOnce self.now.sources }
     {
         for source in &self.sources {
             redirect(words, *source, moved);

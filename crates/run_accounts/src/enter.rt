@@ -12,6 +12,7 @@ use crate::accounts::Accounts;
 use crate::causes::{count_cause, end_cause};
 use run_ledger::Refused;
 use run_trace::{Entry, Kind};
+use std::alloc::AllocError;
 
 /// Why an entry wasn't entered.
 #[derive(Clone, Copy, PartialEq, Eq)]
@@ -20,6 +21,17 @@ pub enum ApplyError {
     Refused(Refused),
     /// Want of memory.
     NoMemory,
+}
+
+impl From<AllocError> for ApplyError {
+    ghost use Rattle.std.specs.Prelude.{◌≡◌};
+    ghost use Rattle.run_accounts.specs.declared.enter.ApplyError.TheVariants.{NoMemory};
+
+    ghost from_gives = { λ _ e. e ≡ NoMemory };
+
+    fn from(_: AllocError) -> ApplyError {
+        ApplyError::NoMemory
+    }
 }
 
 impl<'p> Accounts<'p> {
@@ -48,15 +60,11 @@ impl<'p> Accounts<'p> {
         if let Some(cause) = self.running_cause(worker, task) {
             return Err(ApplyError::Refused(cause));
         }
-        match self.ran(task, steps) {
-            Err(_) => Err(ApplyError::NoMemory),
-            Ok(count) => {
-                if count == steps {
-                    Ok(())
-                } else {
-                    Err(ApplyError::Refused(Refused::Long(count)))
-                }
-            }
+        let count = self.ran(task, steps)?;
+        if count == steps {
+            Ok(())
+        } else {
+            Err(ApplyError::Refused(Refused::Long(count)))
         }
     }
 
@@ -71,13 +79,9 @@ impl<'p> Accounts<'p> {
             return Err(ApplyError::Refused(cause));
         }
         let places = self.places(task);
-        match self.chunk(task) {
-            Ok(()) => {
-                self.count_places(task, places);
-                Ok(())
-            }
-            Err(_) => Err(ApplyError::NoMemory),
-        }
+        self.chunk(task)?;
+        self.count_places(task, places);
+        Ok(())
     }
 
     fn enter_begin(&mut self, worker: u32, task: u32) -> Result<(), ApplyError>
@@ -91,13 +95,9 @@ impl<'p> Accounts<'p> {
             return Err(ApplyError::Refused(cause));
         }
         let places = self.places(task);
-        match self.begin(task) {
-            Ok(()) => {
-                self.count_places(task, places);
-                Ok(())
-            }
-            Err(_) => Err(ApplyError::NoMemory),
-        }
+        self.begin(task)?;
+        self.count_places(task, places);
+        Ok(())
     }
 
     fn enter_end(&mut self, worker: u32, task: u32, said: (u32, u32, u32)) -> Result<(), ApplyError>
@@ -110,9 +110,7 @@ impl<'p> Accounts<'p> {
         if let Some(cause) = self.collecting_cause(worker, task) {
             return Err(ApplyError::Refused(cause));
         }
-        let Ok(parts) = self.collected(task) else {
-            return Err(ApplyError::NoMemory);
-        };
+        let parts = self.collected(task)?;
         if let Some(cause) = end_cause(said, (parts.taken, parts.given, parts.left)) {
             return Err(ApplyError::Refused(cause));
         }
@@ -173,9 +171,7 @@ impl<'p> Accounts<'p> {
         if let Some(cause) = self.marked_cause(task) {
             return Err(ApplyError::Refused(cause));
         }
-        let Ok(parts) = self.swept(task) else {
-            return Err(ApplyError::NoMemory);
-        };
+        let parts = self.swept(task)?;
         if let Some(cause) = count_cause(given, parts.given) {
             return Err(ApplyError::Refused(cause));
         }

@@ -9,7 +9,7 @@ use hh_lang::Program;
 use run_accounts::ApplyError;
 use run_ledger::{Refused, RefusedAt, RunEnd};
 use run_trace::{Entry, Settings};
-use std::alloc::Global;
+use std::alloc::{AllocError, Global};
 
 /// Why a journal isn't that of a whole run.
 #[derive(Clone, Copy)]
@@ -19,6 +19,17 @@ pub enum ReplayError {
     RefusedAt(RefusedAt),
     /// Want of memory.
     NoMemory,
+}
+
+impl From<AllocError> for ReplayError {
+    ghost use Rattle.std.specs.Prelude.{◌≡◌};
+    ghost use Rattle.run_journal.specs.declared.replay.ReplayError.TheVariants.{NoMemory};
+
+    ghost from_gives = { λ _ e. e ≡ NoMemory };
+
+    fn from(_: AllocError) -> ReplayError {
+        ReplayError::NoMemory
+    }
 }
 
 // Enters the entries of a journal.
@@ -52,9 +63,7 @@ pub fn replayed<'p>(
     ensures legal { OnOk result (first_refused program.entry.now settings journal.now ≡ None) }
     ensures fails { IfErr result (ReplayFails (first_refused program.entry.now settings journal.now)) }
 {
-    let Ok(mut book) = Book::open(alloc, program, settings) else {
-        return Err(ReplayError::NoMemory);
-    };
+    let mut book = Book::open(alloc, program, settings)?;
     match enter_all(&mut book, journal) {
         Ok(()) => Ok(book),
         Err(error) => {

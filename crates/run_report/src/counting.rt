@@ -89,9 +89,7 @@ pub(crate) fn count<'p>(
     ensures legal { OnOk result (first_refused program.entry.now settings journal.now ≡ None) }
     ensures fails { IfErr result (ReplayFails (first_refused program.entry.now settings journal.now)) }
 {
-    let Ok(mut book) = Book::open(alloc, program, settings) else {
-        return Err(ReplayError::NoMemory);
-    };
+    let mut book = Book::open(alloc, program, settings)?;
     let _workers = settings.workers();
     match enter_all(&mut book, journal) {
         Ok(totals) => Ok(Counted { book, totals }),

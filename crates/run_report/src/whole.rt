@@ -138,13 +138,11 @@ fn whole_of(
             cause: Refused::Short,
         }));
     };
-    match written(alloc, counted, settings.version(), journal, end, extras) {
-        Ok(text) => Ok(WholeRun {
-            end,
-            text: Listed::from_vec(text),
-        }),
-        Err(_) => Err(ReplayError::NoMemory),
-    }
+    let text = written(alloc, counted, settings.version(), journal, end, extras)?;
+    Ok(WholeRun {
+        end,
+        text: Listed::from_vec(text),
+    })
 }
 
 /// How the run of a journal ended, and all that is written of it, where the journal is legal and has an end: with the

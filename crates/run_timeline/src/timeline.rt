@@ -136,12 +136,10 @@ fn enter(
         return Err(ApplyError::NoMemory);
     }
     let words = apply(book, held, entry)?;
-    match add_entered(
+    add_entered(
         alloc, text, program, book, was, words, before, number, entry,
-    ) {
-        Ok(()) => Ok(words),
-        Err(AllocError) => Err(ApplyError::NoMemory),
-    }
+    )?;
+    Ok(words)
 }
 
 // Enters the entries of a journal, and adds their events.
@@ -234,12 +232,8 @@ pub fn timeline_text(
     if journal.len() >= ENTRY_LIMIT {
         return Err(ReplayError::NoMemory);
     }
-    let Ok(mut book) = Book::open(alloc, program, settings) else {
-        return Err(ReplayError::NoMemory);
-    };
-    let Ok(mut text) = begin(alloc, settings.workers()) else {
-        return Err(ReplayError::NoMemory);
-    };
+    let mut book = Book::open(alloc, program, settings)?;
+    let mut text = begin(alloc, settings.workers())?;
     enter_all(alloc, &mut text, program, &mut book, journal)?;
     if book.end().is_none() {
         return Err(ReplayError::RefusedAt(RefusedAt {
@@ -247,8 +241,6 @@ pub fn timeline_text(
             cause: Refused::Short,
         }));
     }
-    match end(&mut text) {
-        Ok(()) => Ok(text),
-        Err(AllocError) => Err(ReplayError::NoMemory),
-    }
+    end(&mut text)?;
+    Ok(text)
 }

@@ -3,6 +3,16 @@ use Rattle.std.specs.Prelude.{ℕ, ◌≤◌}
 use Rattle.run_trace.specs.declared.settings.Version.{Version}
 use Rattle.run_trace.specs.declared.settings.Version.TheVariants.{One, Two}
 
+-- the most steps, the most chunks, and the most words from which on a collection is due, that a run may ask for
+abbrev pub fuel_limit : ℕ
+fuel_limit = 1000000000
+
+abbrev pub chunk_limit : ℕ
+chunk_limit = 65536
+
+abbrev pub words_limit : ℕ
+words_limit = 1000000
+
 pub record SettingsValue : Type 0 where
   pub version : Version
   -- how many workers there are
@@ -18,10 +28,10 @@ pub record SettingsValue : Type 0 where
 
 pub record AreLimits (l : SettingsValue) : Type 0 where
   pub workers : (1 ≤ l.workers) × (l.workers ≤ 64)
-  pub fuel : (1 ≤ l.fuel) × (l.fuel ≤ 1000000000)
-  pub chunks : (2 ≤ l.chunks) × (l.chunks ≤ 65536)
-  pub leaf : (16 ≤ l.leaf) × (l.leaf ≤ 1000000)
-  pub inner : (16 ≤ l.inner) × (l.inner ≤ 1000000)
+  pub fuel : (1 ≤ l.fuel) × (l.fuel ≤ fuel_limit)
+  pub chunks : (2 ≤ l.chunks) × (l.chunks ≤ chunk_limit)
+  pub leaf : (16 ≤ l.leaf) × (l.leaf ≤ words_limit)
+  pub inner : (16 ≤ l.inner) × (l.inner ≤ words_limit)
 
 -- the limits where none are given
 abbrev pub usual_limits : SettingsValue

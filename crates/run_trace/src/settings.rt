@@ -35,8 +35,17 @@ impl Version {
     }
 }
 
-/// The limits of a run: 1 to 64 workers; fuel in steps, 1 to 1,000,000,000; the most chunks in use, 2 to 65,536; the words
-/// that make a leaf heap due for a collection and those that let a waiting heap be marked, both 16 to 1,000,000.
+/// The most steps that a run may ask for.
+pub const FUEL_LIMIT: u64 = 1_000_000_000;
+
+/// The most chunks that a run may ask for.
+pub const CHUNK_LIMIT: u32 = 65_536;
+
+/// The most words from which on a run may make a collection due.
+pub const WORDS_LIMIT: u32 = 1_000_000;
+
+/// The limits of a run: 1 to 64 workers; fuel in steps, 1 to `FUEL_LIMIT`; the most chunks in use, 2 to `CHUNK_LIMIT`; the
+/// words that make a leaf heap due for a collection and those that let a waiting heap be marked, both 16 to `WORDS_LIMIT`.
 #[derive(Clone, Copy, PartialEq, Eq)]
 pub struct Settings {
     version: Version,

@@ -61,8 +61,5 @@ pub fn clashes_of_run(
     if !is_done(end) {
         return Ok(None);
     }
-    match clashes_in(alloc, program, settings, journal) {
-        Ok(clashes) => Ok(Some(clashes)),
-        Err(AllocError) => Err(ReplayError::NoMemory),
-    }
+    Ok(Some(clashes_in(alloc, program, settings, journal)?))
 }

@@ -1,14 +1,13 @@
-// A stack of frames, never empty and never more than 1,000 deep.
+// A stack of frames, never empty and never deeper than `FRAME_LIMIT`.
 
 ghost use Rattle.std.specs.Prelude.{◌≡◌, ◌<◌, ◌≤◌, ◌↔◌, [], length, IfOk, OnOk, OnErr, Err, Some, slice_get};
+ghost use Rattle.hh_lang.specs.Limits.{frame_limit};
 ghost use Rattle.task_frames.specs.FramesValue.{FramesValue, branched, depth_of, frames_of, reference_at, pushed, IsPopped, references_of, references_written, with_next, with_int, with_reference, with_reference_at};
 
+use hh_lang::FRAME_LIMIT;
 use object_layout::Addr;
 use std::alloc::{AllocError, Global};
 use std::marker::Model;
-
-// The most frames that a task may have below its top frame.
-const MOST_BELOW: usize = 999;
 
 /// A call that has not returned: its function, its next instruction, and its registers.
 #[derive(Clone, Copy)]
@@ -22,7 +21,7 @@ pub struct Frame {
 /// Why no frame was pushed.
 #[derive(Clone, Copy, PartialEq, Eq)]
 pub enum NotPushed {
-    /// There are 1,000 frames.
+    /// There are `FRAME_LIMIT` frames.
     Deep,
     /// There was no memory for the frame.
     NoMemory,
@@ -39,13 +38,14 @@ pub struct Frames {
 
 impl Model for Frames {
     ghost use Rattle.std.specs.Prelude.{length, ◌<◌};
+    ghost use Rattle.hh_lang.specs.Limits.{frame_limit};
     ghost use Rattle.task_frames.specs.FramesValue.{FramesValue};
 
     ghost Value = { FramesValue };
 
     ghost view = { λ f. record { below = f.below.items; top = f.top.value } };
 
-    ghost invariant = { λ f. length f.below.items < 1000 };
+    ghost invariant = { λ f. length f.below.items < frame_limit };
 }
 
 // One of sixteen number registers.
@@ -69,13 +69,10 @@ impl Frames {
     fn only(alloc: Global, frame: Frame) -> Result<Frames, AllocError>
         ensures { IfOk result (λ f. f ≡ record { below = []; top = frame }) }
     {
-        match Box::new(alloc, frame) {
-            Ok(top) => Ok(Frames {
-                below: Vec::new(alloc),
-                top,
-            }),
-            Err(_) => Err(AllocError),
-        }
+        Ok(Frames {
+            below: Vec::new(alloc),
+            top: Box::new(alloc, frame)?,
+        })
     }
 
     /// One frame, before the first instruction of a function, with these registers.
@@ -111,13 +108,13 @@ impl Frames {
 
     /// A frame for a call of a function: all registers of the top frame are copied into it.
     ///
-    /// Whether there are 1,000 frames is checked before memory is asked for.
+    /// Whether there are `FRAME_LIMIT` frames is checked before memory is asked for.
     pub fn push(&mut self, fun: u32) -> Result<(), NotPushed>
-        ensures deep { (result ≡ Err NotPushed.Deep) ↔ (depth_of self.old ≡ 1000) }
+        ensures deep { (result ≡ Err NotPushed.Deep) ↔ (depth_of self.old ≡ frame_limit) }
         ensures ok { OnOk result (self.new ≡ pushed self.old fun) }
         ensures err { OnErr result (self.new ≡ self.old) }
     {
-        if self.below.len() >= MOST_BELOW {
+        if self.below.len() >= FRAME_LIMIT - 1 {
             return Err(NotPushed::Deep);
         }
         if self.below.push(*self.top).is_err() {
@@ -138,10 +135,10 @@ impl Frames {
         }
     }
 
-    /// How many frames there are: from 1 to 1,000.
+    /// How many frames there are: from 1 to `FRAME_LIMIT`.
     pub fn depth(&self) -> u32
         ensures count { result ≡ depth_of self.now }
-        ensures most { result ≤ 1000 }
+        ensures most { result ≤ frame_limit }
     {
         self.below.len() as u32 + 1
     }

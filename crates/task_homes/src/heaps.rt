@@ -3,6 +3,7 @@
 ghost use Rattle.std.specs.Prelude.{◌≡◌, ◌<◌, IfOk, fold, length, slice_get};
 ghost use Rattle.chunk_pool.specs.PoolValue.{owner_of};
 ghost use Rattle.remembered_set.specs.Moved.{redirected, targets_of, AreFields, AreInOrder, ArePlaces};
+ghost use Rattle.remembered_set.specs.Sources.{StandOnce};
 ghost use Rattle.task_homes.specs.HomesValue.{sources_of};
 ghost use Rattle.task_homes.specs.RestingHeaps.{refs_in, resting, with_ref_in, with_resting};
 
@@ -53,7 +54,8 @@ impl Heaps {
         requires fields { AreFields refs_in (resting self.old) (sources_of (slice_get self.old.homes.sets task)) }
         requires order { AreInOrder moved.now }
         requires places { ArePlaces moved.now }
-        ensures { self.new ≡ with_resting self.old (fold (redirected refs_in with_ref_in moved.now) (resting self.old) (sources_of (slice_get self.old.homes.sets task))) }
+        ensures led { self.new ≡ with_resting self.old (fold (redirected refs_in with_ref_in moved.now) (resting self.old) (sources_of (slice_get self.old.homes.sets task))) }
+        ensures once { StandOnce (sources_of (slice_get self.old.homes.sets task)) }
     {
         if self.homes.has_block(task) {
             let set = self.homes.take_set(task);

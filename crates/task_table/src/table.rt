@@ -53,10 +53,7 @@ fn enter(
     let before = cleared_words(book, kind);
     book.apply(entry)?;
     let lost = before.saturating_sub(cleared_words(book, kind));
-    match tell_entry(program, book.state(), made, lost, entry, rows) {
-        Ok(()) => Ok(()),
-        Err(AllocError) => Err(ApplyError::NoMemory),
-    }
+    Ok(tell_entry(program, book.state(), made, lost, entry, rows)?)
 }
 
 // Enters the entries of a journal, and tells what they tell.
@@ -173,12 +170,8 @@ pub fn table_text(
     ensures fails { IfErr result (ReplayFails (refused_as_run program.now settings journal.now)) }
 {
     let _workers = settings.workers();
-    let Ok(mut book) = Book::open(alloc, program, settings) else {
-        return Err(ReplayError::NoMemory);
-    };
-    let Ok(mut rows) = first_rows(alloc) else {
-        return Err(ReplayError::NoMemory);
-    };
+    let mut book = Book::open(alloc, program, settings)?;
+    let mut rows = first_rows(alloc)?;
     enter_all(program, &mut book, &mut rows, journal)?;
     if book.end().is_none() {
         return Err(ReplayError::RefusedAt(RefusedAt {
@@ -186,8 +179,5 @@ pub fn table_text(
             cause: Refused::Short,
         }));
     }
-    match text_of(alloc, program, &book, rows.as_slice()) {
-        Ok(text) => Ok(text),
-        Err(AllocError) => Err(ReplayError::NoMemory),
-    }
+    Ok(text_of(alloc, program, &book, rows.as_slice())?)
 }

@@ -1,6 +1,6 @@
 // Texts of made programs, against texts and sums that were made from the table by other means.
 
-use program_make::make;
+use program_make::{SIZE_LIMIT, make};
 use std::alloc::Global;
 
 const ONE: &[u8] =
@@ -36,7 +36,7 @@ fn one_function(rt: HostRuntime) {
 
 // The measures of a made text; none of no size, or where there is no memory for it.
 fn measures_of(alloc: Global, seed: u32, size: u32) -> Option<(usize, u64)> {
-    if size < 1 || 1000 < size {
+    if size < 1 || SIZE_LIMIT < size {
         return None;
     }
     match make(alloc, seed, size) {

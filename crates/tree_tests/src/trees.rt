@@ -5,6 +5,7 @@ ghost use Rattle.heap_tree.specs.Node.{depth_of};
 
 use chunk_pool::Pool;
 use heap_tree::{LinkCount, State, Tree};
+use hh_lang::DEPTH_LIMIT;
 use memory_scenes::{relabel, take};
 use object_layout::Addr;
 use read_barrier::{Stop, check};
@@ -14,7 +15,7 @@ use std::sync::ledger::{Blank, Ledger};
 
 // Forks a task; its children's numbers.
 fn forked(tree: &mut Tree, t: u32) -> Option<(u32, u32)> {
-    if t >= tree.made() || tree.made() >= 100000 || tree.depth(t) >= 1000 {
+    if t >= tree.made() || tree.made() >= 100000 || tree.depth(t) >= DEPTH_LIMIT {
         return None;
     }
     tree.set_state(t, State::Out);

@@ -9,7 +9,7 @@ use alloc_path::LeafHeap;
 use chunk_pool::Pool;
 use heap_tree::Tree;
 use memory_scenes::{add_taken, at, has_forked, holds, is_live, one_frame, place};
-use object_layout::Addr;
+use object_layout::{Addr, CHUNK_WORDS};
 use std::alloc::Global;
 use write_barrier::{SetOf, store};
 
@@ -23,7 +23,7 @@ fn is_owned(tree: &Tree, pool: &Pool, reference: Option<Addr>) -> bool
     };
     match pool.slot(to.chunk) {
         None => false,
-        Some(held) => held.owner < tree.made() && to.offset < 1024,
+        Some(held) => held.owner < tree.made() && to.offset < CHUNK_WORDS as u32,
     }
 }
 

@@ -55,8 +55,5 @@ pub(crate) fn show_schedules(
     ensures fails { IfErr result (ReplayFails (refused_as_run program.now settings journal.now)) }
 {
     let answer = clashes_of_run(alloc, program, settings, journal)?;
-    match show_answer(alloc, &answer) {
-        Ok(shown) => Ok(shown),
-        Err(AllocError) => Err(ReplayError::NoMemory),
-    }
+    Ok(show_answer(alloc, &answer)?)
 }

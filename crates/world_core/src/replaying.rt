@@ -18,6 +18,17 @@ pub enum ReplayStop {
     NoMemory(Option<World>),
 }
 
+impl From<AllocError> for ReplayStop {
+    ghost use Rattle.std.specs.Prelude.{◌≡◌, None};
+    ghost use Rattle.world_core.specs.declared.replaying.ReplayStop.TheVariants.{NoMemory};
+
+    ghost from_gives = { λ _ s. s ≡ NoMemory None };
+
+    fn from(_: AllocError) -> ReplayStop {
+        ReplayStop::NoMemory(None)
+    }
+}
+
 /// Applies entries one by one, from the start on, up to the first that is refused.
 pub fn replay(
     alloc: Global,
@@ -28,10 +39,7 @@ pub fn replay(
     ensures replayed { IfOk result (HasReplayed program.now settings entries.now) }
     ensures stopped { IfErr result (IsStop program.now settings entries.now) }
 {
-    let mut world = match World::start(alloc, program, settings) {
-        Ok(world) => world,
-        Err(AllocError) => return Err(ReplayStop::NoMemory(None)),
-    };
+    let mut world = World::start(alloc, program, settings)?;
     let mut index: u64 = 1;
     for entry in entries {
         match world.apply(*entry) {

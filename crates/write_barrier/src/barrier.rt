@@ -1,7 +1,8 @@
 // The write of a reference.
 
-ghost use Rattle.std.specs.Prelude.{◌≡◌, ℕ, ◌<◌, ◌≤◌, IfSome, OnErr, OnOk, Some, length, option_map};
+ghost use Rattle.std.specs.Prelude.{◌≡◌, ℕ, ◌<◌, ◌≤◌, IfSome, IsSome, OnErr, OnOk, Some, length, option_map};
 ghost use Rattle.object_layout.specs.Cell.{IsPlace};
+ghost use Rattle.chunk_pool.specs.PoolValue.{slot_at};
 ghost use Rattle.remembered_set.specs.declared.remembered.Source.{Source};
 ghost use Rattle.remembered_set.specs.Moved.{held_by};
 ghost use Rattle.write_barrier.specs.Stored.{content_after, content_at, heap_of, noted_in, IsOwned};
@@ -14,11 +15,12 @@ use object_layout::{Addr, Words};
 use remembered_set::Source;
 use std::alloc::AllocError;
 
+#[tactic(auto, using(crate::proofs::Owned::owned_used, crate::proofs::Owned::owned_made))]
 /// The heap that a reference points into; None for nil.
-pub fn heap_of(tree: &Tree, pool: &Pool, reference: Option<Addr>) -> Option<u32>
-    requires { IsOwned (length tree.now) pool.now reference }
+pub fn heap_of(pool: &Pool, reference: Option<Addr>) -> Option<u32>
+    requires { IfSome reference (λ a. IsSome (slot_at pool.now a.chunk)) }
     ensures heap { result ≡ heap_of pool.now reference }
-    ensures made { IfSome result (λ h. h < length tree.now) }
+    ensures made { (made : ℕ) → IsOwned made pool.now reference → IfSome result (λ h. h < made) }
 {
     match reference {
         None => None,
@@ -26,6 +28,7 @@ pub fn heap_of(tree: &Tree, pool: &Pool, reference: Option<Addr>) -> Option<u32>
     }
 }
 
+#[tactic(auto, using(crate::proofs::Owned::owned_used, crate::proofs::Owned::owned_made))]
 /// The heap in whose set a reference that is written into an object is noted: that into which it points, where it points
 /// down.
 pub fn noted_in(tree: &Tree, pool: &Pool, object: Addr, value: Option<Addr>) -> Option<u32>
@@ -35,7 +38,7 @@ pub fn noted_in(tree: &Tree, pool: &Pool, object: Addr, value: Option<Addr>) -> 
     ensures made { IfSome result (λ h. h < length tree.now) }
 {
     let from = pool.owner(object.chunk);
-    match heap_of(tree, pool, value) {
+    match heap_of(pool, value) {
         None => None,
         Some(into) => {
             if tree.on_path(into, from) && from != into {
@@ -47,6 +50,7 @@ pub fn noted_in(tree: &Tree, pool: &Pool, object: Addr, value: Option<Addr>) -> 
     }
 }
 
+#[tactic(auto, using(crate::proofs::Owned::owned_used, crate::proofs::Owned::owned_made))]
 /// Writes a reference into a field of an object. Beside that field it changes:
 ///
 /// - where the reference points down, the set of the heap into which it points: there the field is
@@ -77,7 +81,7 @@ pub fn store<W: Words>(
     ensures no_sets { OnErr result ((t : ℕ) → content_at sets.new t ≡ content_at sets.old t) }
 {
     let overwritten = words.ref_field(object, field);
-    let heap = heap_of(tree, pool, overwritten);
+    let heap = heap_of(pool, overwritten);
     let into = noted_in(tree, pool, object, value);
     reserve_kept(sets, heap)?;
     note_source(sets, into, Source { object, field })?;

@@ -257,7 +257,8 @@ impl SetOf {
         requires fields { AreFields W.refs_at words.old self.now.remembered.sources }
         requires order { AreInOrder moved.now }
         requires places { ArePlaces moved.now }
-        ensures { words.new ≡ fold (redirected W.refs_at W.with_ref_at moved.now) words.old self.now.remembered.sources }
+        ensures led { words.new ≡ fold (redirected W.refs_at W.with_ref_at moved.now) words.old self.now.remembered.sources }
+        ensures once { StandOnce self.now.remembered.sources }
     {
         match &self.form {
             Form::Bare(_) => {}

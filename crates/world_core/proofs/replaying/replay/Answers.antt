@@ -5,7 +5,7 @@ use Rattle.world_core.proofs.replaying.replay.Goals as goal
 
 pub loop-entry-init : goal.loop-entry-init
 loop-entry-init c = record {
-  came = came_first c.args.program.now c.args.settings c.args.entries.now c.in-Ok.world c.in-Ok.ensures.program c.in-Ok.ensures.settings c.in-Ok.ensures.journal c.in-Ok.ensures.goes;
+  came = came_first c.args.program.now c.args.settings c.args.entries.now c.in_ok-world.world c.in_ok-world.ensures.program c.in_ok-world.ensures.settings c.in_ok-world.ensures.journal c.in_ok-world.ensures.goes;
   count = refl;
 }
 
@@ -17,6 +17,6 @@ returns-in-Err-NoMemory-clause-stopped c =
 pub loop-entry-preserved : goal.loop-entry-preserved
 loop-entry-preserved c = record {
   came =
-      came_more c.args.program.now c.args.settings c.args.entries.now c.loop-entry.entry-index c.loop-entry.index c.entry-item.result c.loop-entry-test.true c.entry-item.is c.loop-entry.world c.apply.new.self c.loop-entry.invariant.came c.in-Ok-apply.ensures;
+      came_more c.args.program.now c.args.settings c.args.entries.now c.loop-entry.entry-index c.loop-entry.index c.entry-item.result c.loop-entry-test.true c.entry-item.is c.loop-entry.world c.apply.new.self c.loop-entry.invariant.came c.in-Ok.ensures;
   count = omega arith;
 }

@@ -17,7 +17,7 @@ returns-then-is_again c =
     (sym c.misplaced.ensures ∙ c.if-misplaced.false)
     (sym c.wrong_operand.ensures ∙ c.if-wrong_operand.false)
     (sym (c.stays_open.ensures c.args.outline.now) ∙ c.if-stays_open.false)
-    (sym c.is_again.ensures ∙ c.if-is_again.true)
+    (sym (c.is_again.ensures c.args.last) ∙ c.if-is_again.true)
 
 pub returns-then-no_function : goal.returns-then-no_function
 returns-then-no_function c =
@@ -25,7 +25,7 @@ returns-then-no_function c =
     (sym c.misplaced.ensures ∙ c.if-misplaced.false)
     (sym c.wrong_operand.ensures ∙ c.if-wrong_operand.false)
     (sym (c.stays_open.ensures c.args.outline.now) ∙ c.if-stays_open.false)
-    (sym c.is_again.ensures ∙ c.if-is_again.false)
+    (sym (c.is_again.ensures c.args.last) ∙ c.if-is_again.false)
     (sym c.no_function.ensures ∙ c.if-no_function.true)
 
 pub returns-then-no_label : goal.returns-then-no_label
@@ -34,7 +34,7 @@ returns-then-no_label c =
     (sym c.misplaced.ensures ∙ c.if-misplaced.false)
     (sym c.wrong_operand.ensures ∙ c.if-wrong_operand.false)
     (sym (c.stays_open.ensures c.args.outline.now) ∙ c.if-stays_open.false)
-    (sym c.is_again.ensures ∙ c.if-is_again.false)
+    (sym (c.is_again.ensures c.args.last) ∙ c.if-is_again.false)
     (sym c.no_function.ensures ∙ c.if-no_function.false)
     (sym c.no_label.ensures ∙ c.if-no_label.true)
 
@@ -44,7 +44,7 @@ returns-then-main_is_missing c =
     (sym c.misplaced.ensures ∙ c.if-misplaced.false)
     (sym c.wrong_operand.ensures ∙ c.if-wrong_operand.false)
     (sym (c.stays_open.ensures c.args.outline.now) ∙ c.if-stays_open.false)
-    (sym c.is_again.ensures ∙ c.if-is_again.false)
+    (sym (c.is_again.ensures c.args.last) ∙ c.if-is_again.false)
     (sym c.no_function.ensures ∙ c.if-no_function.false)
     (sym c.no_label.ensures ∙ c.if-no_label.false)
     (sym c.main_is_missing.ensures ∙ c.if-main_is_missing.true)
@@ -55,7 +55,7 @@ returns-then-passes_limit c =
     (sym c.misplaced.ensures ∙ c.if-misplaced.false)
     (sym c.wrong_operand.ensures ∙ c.if-wrong_operand.false)
     (sym (c.stays_open.ensures c.args.outline.now) ∙ c.if-stays_open.false)
-    (sym c.is_again.ensures ∙ c.if-is_again.false)
+    (sym (c.is_again.ensures c.args.last) ∙ c.if-is_again.false)
     (sym c.no_function.ensures ∙ c.if-no_function.false)
     (sym c.no_label.ensures ∙ c.if-no_label.false)
     (sym c.main_is_missing.ensures ∙ c.if-main_is_missing.false)
@@ -67,7 +67,7 @@ returns-else-passes_limit c =
     (sym c.misplaced.ensures ∙ c.if-misplaced.false)
     (sym c.wrong_operand.ensures ∙ c.if-wrong_operand.false)
     (sym (c.stays_open.ensures c.args.outline.now) ∙ c.if-stays_open.false)
-    (sym c.is_again.ensures ∙ c.if-is_again.false)
+    (sym (c.is_again.ensures c.args.last) ∙ c.if-is_again.false)
     (sym c.no_function.ensures ∙ c.if-no_function.false)
     (sym c.no_label.ensures ∙ c.if-no_label.false)
     (sym c.main_is_missing.ensures ∙ c.if-main_is_missing.false)

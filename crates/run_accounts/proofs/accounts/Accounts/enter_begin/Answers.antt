@@ -3,10 +3,10 @@ use Rattle.run_accounts.specs.Accounts.{AccountsValue}
 use Rattle.run_accounts.proofs.Went.{went_begin}
 use Rattle.run_accounts.proofs.accounts.Accounts.enter_begin.Goals as goal
 
-pub returns-in-Ok-clause-ok : goal.returns-in-Ok-clause-ok
-returns-in-Ok-clause-ok c =
-    went_begin c.args.self.now c.begin.new.self c.count_places.new.self c.args.worker c.args.task _ c.requires.agrees c.places-places.ensures.value (c.in-Ok.ensures.ok c.args.worker) c.count_places.ensures
+pub returns-clause-ok : goal.returns-clause-ok
+returns-clause-ok c =
+    went_begin c.args.self.now c.begin.new.self c.count_places.new.self c.args.worker c.args.task _ c.requires.agrees c.places-places.ensures.value (c.in_ok-begin.ensures.ok c.args.worker) c.count_places.ensures
 
 pub count_places-requires : goal.count_places-requires
 count_places-requires c =
-    let e = ap (λ (s : AccountsValue). s.used) (c.in-Ok.ensures.ok c.args.worker) in omega (arith, e, c.requires.agrees.used, c.requires.steady.in_use)
+    let e = ap (λ (s : AccountsValue). s.used) (c.in_ok-begin.ensures.ok c.args.worker) in omega (arith, e, c.requires.agrees.used, c.requires.steady.in_use)

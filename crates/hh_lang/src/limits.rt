@@ -1,0 +1,10 @@
+// How long programs are, and how deep they go.
+
+/// The text of a program has at most so many bytes.
+pub const PROGRAM_LIMIT: usize = 1048576;
+
+/// A task has at most so many frames.
+pub const FRAME_LIMIT: usize = 1000;
+
+/// A task has at most so many forks above it.
+pub const DEPTH_LIMIT: u32 = 1000;
