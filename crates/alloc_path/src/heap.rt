@@ -178,12 +178,13 @@ impl LeafHeap {
         self.space.add_spare(chunk);
     }
 
-    /// Makes sure that objects can be placed by `place_spare` without memory, however many. An object
+    /// Makes sure that so many objects can be placed by `place_spare` without memory. An object
     /// takes words of a chunk that is there already, so nothing is left to be made.
-    pub fn make_spare(&mut self) -> Result<(), AllocError>
+    pub fn make_spare(&mut self, objects: u32) -> Result<(), AllocError>
         ensures kept { self.new ≡ self.old }
         ensures ok { IsOk result }
     {
+        let _ = objects;
         Ok(())
     }
 

@@ -1,7 +1,8 @@
 -- Walks to the root where parents stay.
 use Rattle.std.proofs.Common.{◌≡◌, ℕ, zero, suc, ◌<◌, refl, sym, ap, ◌∙◌, Option, Some, None, List, [], ◌∷◌, arith, slice_get, length}
+use Rattle.std.specs.Prelude.{option_and_then}
 use Rattle.heap_tree.specs.declared.state.State.TheVariants.{Ready, Joined}
-use Rattle.heap_tree.specs.Walk.{ancestor, through, IsUpFrom}
+use Rattle.heap_tree.specs.Walk.{ancestor, IsUpFrom}
 use Rattle.heap_tree.specs.Node.{Node, forked, parent_in, parent_of, with_state}
 use Rattle.heap_tree.proofs.ChangeLemmas.{old_parent, states_change}
 use Rattle.fork_join.specs.Joined.{joined_nodes}
@@ -12,9 +13,9 @@ up_by : (par par' : ℕ → Option ℕ) → ((u q : ℕ) → par u ≡ Some q �
 up_by par par' keeps zero t a h = h
 up_by par par' keeps (suc k) t a h = go (λ q n. up_by par par' keeps k q a n) (par t) refl h
   where
-    go : ((q : ℕ) → ancestor par k q ≡ Some a → ancestor par' k q ≡ Some a) → (o : Option ℕ) → par t ≡ o → through o None (ancestor par k) ≡ Some a → ancestor par' (suc k) t ≡ Some a
+    go : ((q : ℕ) → ancestor par k q ≡ Some a → ancestor par' k q ≡ Some a) → (o : Option ℕ) → par t ≡ o → option_and_then (ancestor par k) o ≡ Some a → ancestor par' (suc k) t ≡ Some a
     go again None e n = absurd (let m : None ≡ Some a = n in cc)
-    go again (Some q) e n = ap (λ (x : Option ℕ). through x None (ancestor par' k)) (keeps t q e) ∙ again q n
+    go again (Some q) e n = ap (λ (x : Option ℕ). option_and_then (ancestor par' k) x) (keeps t q e) ∙ again q n
 
 pub up_kept : (par par' : ℕ → Option ℕ) → ((u q : ℕ) → par u ≡ Some q → par' u ≡ Some q) → (t a : ℕ) → IsUpFrom par t a → IsUpFrom par' t a
 up_kept par par' keeps t a (k, h) = (k, up_by par par' keeps k t a h)
@@ -22,13 +23,13 @@ up_kept par par' keeps t a (k, h) = (k, up_by par par' keeps k t a h)
 -- from a child other than the goal the walk goes over the parent
 pub up_over : (par : ℕ → Option ℕ) (c p a : ℕ) → par c ≡ Some p → (a ≡ c → ⊥) → IsUpFrom par c a → IsUpFrom par p a
 up_over par c p a e ne (zero, h) = absurd (ne (sym (some_same c a h)))
-up_over par c p a e ne (suc k, h) = (k, sym (ap (λ (x : Option ℕ). through x None (ancestor par k)) e) ∙ h)
+up_over par c p a e ne (suc k, h) = (k, sym (ap (λ (x : Option ℕ). option_and_then (ancestor par k) x) e) ∙ h)
 
 more : (par : ℕ → Option ℕ) (c p : ℕ) → par c ≡ Some p → (k t : ℕ) → ancestor par k t ≡ Some c → ancestor par (suc k) t ≡ Some p
-more par c p e zero t h = ap (λ (x : ℕ). through (par x) None (ancestor par 0)) (some_same t c h) ∙ ap (λ (x : Option ℕ). through x None (ancestor par 0)) e
+more par c p e zero t h = ap (λ (x : ℕ). option_and_then (ancestor par 0) (par x)) (some_same t c h) ∙ ap (λ (x : Option ℕ). option_and_then (ancestor par 0) x) e
 more par c p e (suc k) t h = go (λ q n. more par c p e k q n) (par t) h
   where
-    go : ((q : ℕ) → ancestor par k q ≡ Some c → ancestor par (suc k) q ≡ Some p) → (o : Option ℕ) → through o None (ancestor par k) ≡ Some c → through o None (ancestor par (suc k)) ≡ Some p
+    go : ((q : ℕ) → ancestor par k q ≡ Some c → ancestor par (suc k) q ≡ Some p) → (o : Option ℕ) → option_and_then (ancestor par k) o ≡ Some c → option_and_then (ancestor par (suc k)) o ≡ Some p
     go again None n = absurd (let m : None ≡ Some c = n in cc)
     go again (Some q) n = again q n
 

@@ -1,8 +1,7 @@
 -- A sweep leaves in a home just what its snapshot names.
 use Rattle.std.proofs.Common.{◌≡◌, ℕ, ◌*◌, ◌/◌, arith, All, true, false, Option, Some, None, List, [], ◌∷◌, filter, length, option_map, slice_get, inl, inr, refl, ap, sym, subst, ◌∙◌}
-use Rattle.std.proofs.lemmas.Bool.{cases_eq, false≢true, not-true}
+use Rattle.std.proofs.lemmas.Bool.{false≢true, not-true}
 use Rattle.std.proofs.lemmas.Option.{same_Some}
-use Rattle.std.proofs.lemmas.List.Elements.{All-head, All-tail}
 use Rattle.listed.proofs.Members.{in_from_kept, in_kept}
 use Rattle.listed.proofs.Places.{all_from, in_map}
 use Rattle.hh_model.specs.declared.data.State.{State}
@@ -20,7 +19,6 @@ use Rattle.chunk_pool.specs.PoolValue.{PoolValue, slot_at, owner_of, slot_units}
 use Rattle.alloc_path.specs.LeafHeapValue.{LeafHeapValue as HeapOfCode, IsFresh, room_of, with_places}
 use Rattle.alloc_path.specs.Units.{unit_count}
 use Rattle.chunk_rows.specs.View.{Level}
-use Rattle.alloc_path.proofs.HeapLemmas.{fresh_cons}
 use Rattle.inner_mark_gc.specs.MarkingValue.{marked_of}
 use Rattle.inner_mark_gc.specs.Swept.{AreGiven, gone_of, goes, swept, units_kept}
 use Rattle.ledger_step_laws.proofs.Ahead.{heap_then, with_at}
@@ -40,7 +38,7 @@ use Rattle.shared_value.proofs.HeapForms.{places_form}
 use Rattle.shared_value.proofs.EntryMade.{unheld_at_rest}
 use Rattle.shared_value.proofs.HeapLaidOut.{inside_from, laid_from, same_chunk}
 use Rattle.shared_value.proofs.FieldsLed.{home_chunks}
-use Rattle.shared_value.proofs.FieldsNoted.{fresh_by, owner_none}
+use Rattle.shared_value.proofs.FieldsNoted.{fresh_by, owned_before}
 use Rattle.heap_marking.specs.MarkCauses.{marking_cause}
 use Rattle.heap_marking.proofs.SweptCells.{is_there}
 use Rattle.heap_marking.proofs.SweptChunks.{gone, has, left, objects_left}
@@ -177,14 +175,7 @@ module _ (w : SharedValue) (I : IsSharedValue w) (on : (accounts w).end ≡ None
         ap (option_map (λ (h : Slot). h.owner)) (others n (fresh_by (gone kept ks) n (λ c i q. ne (same_Some u t (sym o ∙ (ap (owner_of w.pool) (sym q) ∙ owned_was c (gone_was c i).0)))))) ∙ o
 
     pub owned : (n u : ℕ) → owner_of pool n ≡ Some u → owner_of w.pool n ≡ Some u
-    owned n u o = by (gone_of r.heap kept) G.free (G.others n)
-      where
-        by : (gs : List ChunkValue) → All (λ c. slot_at pool c.number ≡ None) gs → (IsFresh gs n → slot_at pool n ≡ slot_at w.pool n) → owner_of w.pool n ≡ Some u
-        by [] f other = sym (ap (option_map (λ (h : Slot). h.owner)) (other refl)) ∙ o
-        by (c ∷ gs) f other = elim (cases_eq c.number n) [
-          | inl q ↦ absurd (owner_none pool n u (subst (λ z. slot_at pool z ≡ None) q (All-head (λ (c : ChunkValue). slot_at pool c.number ≡ None) c gs f)) o)
-          | inr ne ↦ by gs (All-tail (λ (c : ChunkValue). slot_at pool c.number ≡ None) c gs f) (λ fr. other (fresh_cons c gs n ne fr))
-        ]
+    owned n u o = owned_before w.pool pool (gone_of r.heap kept) n u G.free (G.others n) o
 
     -- THE HOME, in a value and accounts that have it so
     module _ (v' : Memory) (L : Ledger) (home : v'.homes t ≡ home_of rest') (owner : v'.owner ≡ owner_of pool) (account : heap_of L t ≡ swept_heap a) (machine : L.machine ≡ l.machine) where

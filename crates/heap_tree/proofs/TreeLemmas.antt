@@ -1,21 +1,23 @@
 -- What callers see of the tree, from the links that it keeps.
-use Rattle.std.proofs.Common.{◌≡◌, ◌==◌, ℕ, zero, suc, ◌+◌, ◌-◌, ◌<◌, ◌≤◌, ◌^◌, Bool, true, false, IsTrue, Option, Some, None, List, [], ◌∷◌, ◌++◌, length, map, set, slice_get, slice_set, option_map, IfSome, refl, sym, ap, subst, ◌∙◌, arith, append_assoc, eqb-true, eq-eqb, length-append}
+use Rattle.std.proofs.Common.{◌≡◌, ◌==◌, ℕ, zero, suc, ◌+◌, ◌-◌, ◌<◌, ◌≤◌, ◌^◌, Bool, true, false, IsTrue, Option, Some, None, List, [], ◌∷◌, ◌++◌, length, map, set, slice_get, slice_set, option_map, IfSome, inl, inr, refl, sym, ap, subst, ◌∙◌, arith, append_assoc, eqb-true, eq-eqb, length-append}
 use Rattle.std.proofs.lemmas.List.{length-set, length-map}
 use Rattle.std.proofs.lemmas.List.{map-set, map-append}
 use Rattle.std.proofs.lemmas.Option.{slice_get-map, slice_get_within, same_Some}
-use Rattle.std.proofs.lemmas.Bool.{false≢true}
+use Rattle.std.proofs.lemmas.Bool.{cases_lt, false≢true}
+use Rattle.far_links.specs.Links.{next_far, AreLinked, IsNewLink}
+use Rattle.far_links.proofs.Walks.{walk_depth}
+use Rattle.far_links.proofs.Lists.{linked_more}
 use Rattle.hh_model.specs.Step.{depth_limit}
 use Rattle.heap_tree.specs.declared.state.State.{State}
 use Rattle.heap_tree.specs.declared.state.State.TheVariants.{Ready, Waiting}
 use Rattle.heap_tree.specs.declared.links.Entry.{Entry}
 use Rattle.heap_tree.specs.Walk.{ancestor, IsUpFrom, depth_in, path_in}
 use Rattle.heap_tree.specs.Node.{Node, parent_in, parent_of, state_of, depth_of, is_on_path, set_at, with_state, child_of, forked, IsTree}
-use Rattle.heap_tree.specs.Links.{node_of, parent_kept, depth_kept, jump_kept, parent_at, depth_at, jump_at, next_jump, AreLinked, IsLinked}
-use Rattle.listed.proofs.Members.{got_front, got_past, view_step}
+use Rattle.heap_tree.specs.Links.{node_of, parent_kept, depth_kept, jump_kept, parent_at, depth_at, jump_at, IsLinked}
+use Rattle.listed.proofs.Members.{got_front, view_step}
 use Rattle.listed.proofs.Options.{same_truth}
 use Rattle.listed.proofs.Places.{got_last}
-use Rattle.heap_tree.proofs.WalkLemmas.{depth_in_is, walk_depth, walk_from_path, path_from_walk}
-use Rattle.heap_tree.proofs.GrowLemmas.{linked_one_more}
+use Rattle.heap_tree.proofs.WalkLemmas.{depth_in_is, walk_from_path, path_from_walk}
 
 parent_in_map : (o : Option Entry) → parent_in (option_map node_of o) ≡ parent_kept o
 parent_in_map None = refl
@@ -37,8 +39,8 @@ pub tree_seen : (es : List Entry) → IsLinked es → IsTree (map node_of es)
 tree_seen es linked =
     let len : length (map node_of es) ≡ length es = length-map es node_of in
     record {
-      rooted = rw len linked.links.rooted;
-      root = λ t made none. linked.links.root t (rw len at made) (sym (parent_seen es t) ∙ none);
+      rooted = rw len linked.rooted;
+      root = λ t made none. linked.root t (rw len at made) (sym (parent_seen es t) ∙ none);
       low = λ t p e. linked.links.low t p (sym (parent_seen es t) ∙ e);
     }
 
@@ -101,6 +103,8 @@ module _ (es : List Entry) (t : ℕ) (e : Entry) (state : State) (is : slice_get
       let j : ◌≡◌ {A = ℕ → ℕ} (jump_at changed) (jump_at es) = λ i u. view_step jump_kept es t e (record e { state = state }) is refl u i in
       record {
         few = rw len linked.few;
+        rooted = rw len linked.rooted;
+        root = λ u made none. linked.root u (rw len at made) (sym (view_step parent_kept es t e (record e { state = state }) is refl u) ∙ none);
         links = subst (λ (w : ℕ × (ℕ → Option ℕ) × (ℕ → ℕ) × (ℕ → ℕ)). AreLinked w.0 w.1 w.2 w.3) (λ i. (sym len i, sym p i, sym d i, sym j i)) linked.links;
       }
 
@@ -111,27 +115,25 @@ module _ (es : List Entry) (t : ℕ) (e : Entry) (state : State) (is : slice_get
 
 -- ---- one child more
 
-module _ (es : List Entry) (t : ℕ) (c : Entry) (made : t < length es) (its_par : c.parent ≡ Some t) (its_dep : c.depth ≡ depth_at es t + 1) (its_jmp : c.jump ≡ next_jump (depth_at es) (jump_at es) t) where
+module _ (es : List Entry) (t : ℕ) (c : Entry) (made : t < length es) (its_par : c.parent ≡ Some t) (its_dep : c.depth ≡ depth_at es t + 1) (its_jmp : c.jump ≡ next_far (depth_at es) (jump_at es) t) where
   abbrev grown : List Entry
   grown = es ++ c ∷ []
 
-  grown_past : (u : ℕ) → length es < u → parent_at grown u ≡ None
-  grown_past u lt =
-      let len : length grown ≡ length es + 1 = length-append es (c ∷ []) in
-      ap parent_kept (got_past grown u (omega arith))
-
   pub child_linked : AreLinked (length es) (parent_at es) (depth_at es) (jump_at es) → AreLinked (length grown) (parent_at grown) (depth_at grown) (jump_at grown)
   child_linked links =
-      let len : suc (length es) ≡ length grown = let e : length grown ≡ length es + 1 = length-append es (c ∷ []) in omega arith in
-      subst (λ (m : ℕ). AreLinked m (parent_at grown) (depth_at grown) (jump_at grown)) len
-      (linked_one_more (length es) (parent_at es) (parent_at grown) (depth_at es) (depth_at grown) (jump_at es) (jump_at grown) links
-      (λ u lt. ap parent_kept (got_front es (c ∷ []) u lt))
-      (λ u lt. ap depth_kept (got_front es (c ∷ []) u lt))
-      (λ u lt. ap jump_kept (got_front es (c ∷ []) u lt))
-      grown_past t made
-      (ap parent_kept (got_last es c) ∙ its_par)
-      (ap depth_kept (got_last es c) ∙ its_dep)
-      (ap jump_kept (got_last es c) ∙ its_jmp))
+      linked_more parent_kept depth_kept jump_kept refl es c links
+      (subst (λ (o : Option ℕ). IsNewLink (length es) (depth_at es) (jump_at es) o c.depth c.jump) (sym its_par) (made, its_dep, its_jmp))
+
+  pub child_root : ((u : ℕ) → u < length es → parent_at es u ≡ None → u ≡ 0) → (u : ℕ) → u < length grown → parent_at grown u ≡ None → u ≡ 0
+  child_root root u lt none =
+      let len : length grown ≡ length es + 1 = length-append es (c ∷ []) in
+      elim (cases_lt u (length es)) [
+        | inl l ↦ root u l (sym (ap parent_kept (got_front es (c ∷ []) u l)) ∙ none)
+        | inr g ↦
+            let is : u ≡ length es = omega arith in
+            let h : Some t ≡ None = sym (ap parent_kept (got_last es c) ∙ its_par) ∙ (ap (parent_at grown) (sym is) ∙ none) in
+            absurd cc
+      ]
 
   grown_depth : (u : ℕ) → u < length es → depth_at grown u ≡ depth_at es u
   grown_depth u lt = ap depth_kept (got_front es (c ∷ []) u lt)
@@ -140,10 +142,10 @@ module _ (es : List Entry) (t : ℕ) (c : Entry) (made : t < length es) (its_par
   grown_jump u lt = ap jump_kept (got_front es (c ∷ []) u lt)
 
   -- a sibling's far link leads where the child's does
-  pub same_jump : AreLinked (length es) (parent_at es) (depth_at es) (jump_at es) → next_jump (depth_at grown) (jump_at grown) t ≡ next_jump (depth_at es) (jump_at es) t
+  pub same_jump : AreLinked (length es) (parent_at es) (depth_at es) (jump_at es) → next_far (depth_at grown) (jump_at grown) t ≡ next_far (depth_at es) (jump_at es) t
   same_jump links =
-      let l : jump_at es t ≤ t = links.jump_low t made in
-      let m : jump_at es (jump_at es t) ≤ jump_at es t = links.jump_low (jump_at es t) (omega arith) in
+      let l : jump_at es t ≤ t = links.far_low t made in
+      let m : jump_at es (jump_at es t) ≤ jump_at es t = links.far_low (jump_at es t) (omega arith) in
       let jt : jump_at grown t ≡ jump_at es t = grown_jump t made in
       let jj : jump_at grown (jump_at es t) ≡ jump_at es (jump_at es t) = grown_jump (jump_at es t) (omega arith) in
       let d0 : depth_at grown t ≡ depth_at es t = grown_depth t made in
@@ -153,25 +155,26 @@ module _ (es : List Entry) (t : ℕ) (c : Entry) (made : t < length es) (its_par
 
 -- ---- a fork
 
-module _ (es : List Entry) (t : ℕ) (c : Entry) (linked : IsLinked es) (made : t < length es) (few : length es < 2 ^ 31) (its_par : c.parent ≡ Some t) (its_dep : c.depth ≡ depth_at es t + 1) (its_jmp : c.jump ≡ next_jump (depth_at es) (jump_at es) t) where
+module _ (es : List Entry) (t : ℕ) (c : Entry) (linked : IsLinked es) (made : t < length es) (few : length es < 2 ^ 31) (its_par : c.parent ≡ Some t) (its_dep : c.depth ≡ depth_at es t + 1) (its_jmp : c.jump ≡ next_far (depth_at es) (jump_at es) t) where
   pub two_linked : IsLinked ((es ++ c ∷ []) ++ c ∷ [])
   two_linked =
       let grown = es ++ c ∷ [] in
       let len : length grown ≡ length es + 1 = length-append es (c ∷ []) in
       let len2 : length (grown ++ c ∷ []) ≡ length grown + 1 = length-append grown (c ∷ []) in
+      let dep2 = its_dep ∙ ap (λ (m : ℕ). m + 1) (sym (grown_depth es t c made its_par its_dep its_jmp t made)) in
+      let jmp2 = its_jmp ∙ sym (same_jump es t c made its_par its_dep its_jmp linked.links) in
       record {
         few = omega arith;
-        links = child_linked (es ++ c ∷ []) t c (omega arith) its_par
-            (its_dep ∙ ap (λ (m : ℕ). m + 1) (sym (grown_depth es t c made its_par its_dep its_jmp t made)))
-            (its_jmp ∙ sym (same_jump es t c made its_par its_dep its_jmp linked.links))
-            (child_linked es t c made its_par its_dep its_jmp linked.links);
+        rooted = omega arith;
+        root = child_root (es ++ c ∷ []) t c (omega arith) its_par dep2 jmp2 (child_root es t c made its_par its_dep its_jmp linked.root);
+        links = child_linked (es ++ c ∷ []) t c (omega arith) its_par dep2 jmp2 (child_linked es t c made its_par its_dep its_jmp linked.links);
       }
 
 module _ (es : List Entry) (t : ℕ) (e c : Entry) (is : slice_get es t ≡ Some e) where
   abbrev waits : List Entry
   waits = set es t (record e { state = Waiting })
 
-  pub fork_linked : IsLinked es → length es < 2 ^ 31 → c.parent ≡ Some t → c.depth ≡ depth_at es t + 1 → c.jump ≡ next_jump (depth_at es) (jump_at es) t → IsLinked (waits ++ c ∷ (c ∷ []))
+  pub fork_linked : IsLinked es → length es < 2 ^ 31 → c.parent ≡ Some t → c.depth ≡ depth_at es t + 1 → c.jump ≡ next_far (depth_at es) (jump_at es) t → IsLinked (waits ++ c ∷ (c ∷ []))
   fork_linked linked few its_par its_dep its_jmp =
       let len : length waits ≡ length es = length-set es t (record e { state = Waiting }) in
       let d : ◌≡◌ {A = ℕ → ℕ} (depth_at waits) (depth_at es) = λ i u. view_step depth_kept es t e (record e { state = Waiting }) is refl u i in
@@ -179,7 +182,7 @@ module _ (es : List Entry) (t : ℕ) (e c : Entry) (is : slice_get es t ≡ Some
       let within : t < length es = slice_get_within es t e is in
       let two = two_linked waits t c (state_linked es t e Waiting is linked) (omega arith) (omega arith) its_par
       (its_dep ∙ ap (λ (f : ℕ → ℕ). f t + 1) (sym d))
-      (its_jmp ∙ (λ i. next_jump (sym d i) (sym j i) t)) in
+      (its_jmp ∙ (λ i. next_far (sym d i) (sym j i) t)) in
       subst IsLinked (append_assoc waits (c ∷ []) (c ∷ [])) two
 
   pub fork_seen : c.parent ≡ Some t → c.state ≡ Ready → map node_of (waits ++ c ∷ (c ∷ [])) ≡ forked (map node_of es) t
@@ -254,6 +257,11 @@ got_some [] t lt = absurd (omega arith)
 got_some (x ∷ es) zero lt = (x, refl)
 got_some (x ∷ es) (suc t) lt = got_some es t (omega arith)
 
+-- callers see the state that is kept
+pub entry_state : (v : List Node) (es : List Entry) → map node_of es ≡ v → (t : ℕ) (e : Entry) → slice_get es t ≡ Some e → Some e.state ≡ state_of v t
+entry_state v es view_is t e got =
+    sym (ap (λ (w : List Node). state_of w t) (sym view_is) ∙ ap (option_map (λ (n : Node). n.state)) (slice_get-map node_of es t ∙ ap (option_map node_of) got))
+
 -- a task that has a state was made
 pub made_from_state : (v : List Node) (t : ℕ) (s : State) → state_of v t ≡ Some s → t < length v
 made_from_state [] t s h = absurd cc
@@ -274,7 +282,7 @@ state_answer v es new t state view_is linked made put =
 
 -- and a fork
 pub fork_answer : (v : List Node) (es new : List Entry) (t : ℕ) (c : Entry) → map node_of es ≡ v → IsLinked es → t < length v → length v < 2 ^ 31
-    → c.parent ≡ Some t → c.depth ≡ depth_of v t + 1 → c.jump ≡ next_jump (depth_at es) (jump_at es) t → c.state ≡ Ready
+    → c.parent ≡ Some t → c.depth ≡ depth_of v t + 1 → c.jump ≡ next_far (depth_at es) (jump_at es) t → c.state ≡ Ready
     → IfSome (slice_get es t) (λ e. new ≡ slice_set es t (record e { state = Waiting }) ++ c ∷ (c ∷ [])) → IsLinked new × (map node_of new ≡ forked v t)
 fork_answer v es new t c view_is linked made few its_par its_dep its_jmp its_state put =
     let within = made_entry v es view_is linked t made in

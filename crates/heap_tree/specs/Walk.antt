@@ -1,15 +1,7 @@
 -- Walks up a tree that is given by each task's parent.
-use Rattle.std.specs.Prelude.{◌≡◌, ℕ, zero, suc, Option, Some, None}
+use Rattle.std.specs.Prelude.{ℕ, zero, suc, Option}
+pub use Rattle.far_links.specs.Walk.{ancestor, IsUpFrom}
 pub use Rattle.hh_model.specs.Step.{path_by, path_in, through}
-
--- the task so many links above another
-abbrev pub ancestor : (ℕ → Option ℕ) → ℕ → ℕ → Option ℕ
-ancestor par zero t = Some t
-ancestor par (suc more) t = through (par t) None (ancestor par more)
-
--- some number of links leads from the task up to a
-abbrev pub IsUpFrom : (ℕ → Option ℕ) → ℕ → ℕ → Type 0
-IsUpFrom par t a = (k : ℕ) × (ancestor par k t ≡ Some a)
 
 -- how many links lead from a task to one without a parent, at most so many
 abbrev pub depth_by : (ℕ → Option ℕ) → ℕ → ℕ → ℕ

@@ -1,8 +1,9 @@
 // What the tree keeps of each task, and the climb along its links.
 
 ghost use Rattle.std.specs.Prelude.{◌≡◌, ◌+◌, ◌-◌, ◌*◌, ◌^◌, ◌<◌, ◌≤◌, ℕ, length, slice_get, Some};
+ghost use Rattle.far_links.specs.Links.{next_far, IsNextLink};
 ghost use Rattle.heap_tree.specs.Walk.{ancestor};
-ghost use Rattle.heap_tree.specs.Links.{parent_at, depth_at, jump_at, IsLinked, next_jump, IsNextLink};
+ghost use Rattle.heap_tree.specs.Links.{parent_at, depth_at, jump_at, IsLinked};
 
 use crate::count::LinkCount;
 use crate::entries::Entries;
@@ -37,7 +38,7 @@ pub fn entry_at(entries: &Entries, t: u32) -> Entry
 pub fn jump_below(entries: &Entries, t: u32) -> u32
     requires linked { IsLinked entries.now }
     requires made { t < length entries.now }
-    ensures { result ≡ next_jump (depth_at entries.now) (jump_at entries.now) t }
+    ensures { result ≡ next_far (depth_at entries.now) (jump_at entries.now) t }
 {
     let here = entry_at(entries, t);
     let far = entry_at(entries, here.jump);

@@ -5,19 +5,20 @@ use Rattle.std.specs.Option.{option_map}
 use Rattle.std.specs.Map.{keys_of}
 use Rattle.indexmap.specs.IndexMap.{insert_entry}
 use Rattle.std.proofs.lemmas.List.Quantifiers.{position-Some}
-use Rattle.std.proofs.lemmas.Option.{slice_get-get_or, slice_get-map}
+use Rattle.std.proofs.lemmas.Option.{same_Some, slice_get-get_or, slice_get-map}
 use Rattle.listed.proofs.Members.{got_front, got_back, got_within}
 use Rattle.listed.proofs.Options.{none_of}
 use Rattle.listed.proofs.Places.{got_some}
+use Rattle.far_links.proofs.Walks.{ancestor_parent, first_link as link_up, link_first}
 use Rattle.image_check.specs.declared.line.Task.{Task}
 use Rattle.image_check.specs.declared.links.Link.{Link}
 use Rattle.image_check.specs.Table.{found, has, with_new}
 use Rattle.image_check.specs.Tasks.{Tasks, parent_in, parent_of, is_above, LinksLead, IsAncestor, HasParent}
-use Rattle.image_check.specs.Links.{depth_in, depth_at, parent_in_link, up_from, IsUp, new_link, IsLink, AreLinks, StandsAt, IsParentAt, AreLinked}
+use Rattle.image_check.specs.Links.{depth_in, depth_at, parent_in_link, up_from, IsUp, new_link, AreLinks, StandsAt, IsParentAt, AreLinksOf}
 use Rattle.image_check.proofs.Members.{equal}
 use Rattle.image_check.proofs.Paths.{Entry, AreOrdered, found_at, lead_up, first_link, met_ancestor, above, task_more, Where, where_is, apart_more, still_stands}
 use Rattle.image_check.proofs.Paths.Where.{front, last}
-use Rattle.image_check.proofs.Ups.{up_same, one_up, up_depth, linked_more, IsWithin}
+use Rattle.image_check.proofs.Ups.{up_same, up_depth, link_more, IsWithin}
 
 -- FINDING A PLACE
 
@@ -54,22 +55,22 @@ goes_last (e ∷ es) n t new = by (nat_eq n e.0) refl new (goes_last es n t)
 
 -- THE TASKS OF LINKS
 
-module _ (es : Tasks) (ks : List Link) (L : AreLinked es ks) where
+module _ (es : Tasks) (ks : List Link) (L : AreLinksOf es ks) where
   link_of : (i : ℕ) (e : Entry) → slice_get es i ≡ Some e → (k : Link) × (slice_get ks i ≡ Some k)
   link_of i e got = let w : i < length es = got_within es i e got in let s : length ks ≡ length es = L.sized in got_some ks i (omega (arith, w, s))
 
   pub stands_within : (i t : ℕ) → StandsAt es i t → i < length ks
   stands_within i t s = let w : i < length es = got_within es i s.0 s.1 in let n : length ks ≡ length es = L.sized in omega (arith, w, n)
 
-  behind_by : (i p : ℕ) (k : Link) (m n : Option ℕ) → m ≡ Some p → IsParentAt es m n → IsLink ks i n k → (j : ℕ) × (j < i) × StandsAt es j p
-  behind_by i p k None n e at h = absurd cc
-  behind_by i p k (Some q) None e at h = absurd at
-  behind_by i p k (Some q) (Some j) e at h = (j, h.low, (let g : q ≡ p = cc in subst (StandsAt es j) g at))
+  behind_by : (i p : ℕ) (m n : Option ℕ) → m ≡ Some p → IsParentAt es m n → ((j : ℕ) → n ≡ Some j → j < i) → (j : ℕ) × (j < i) × StandsAt es j p
+  behind_by i p None n e at low = absurd cc
+  behind_by i p (Some q) None e at low = absurd at
+  behind_by i p (Some q) (Some j) e at low = (j, low j refl, (let g : q ≡ p = cc in subst (StandsAt es j) g at))
 
   pub ordered : AreOrdered es
   ordered = record {
     apart = L.apart;
-    behind = λ i e p got h. let k = link_of i e got in behind_by i p k.0 e.1.parent k.0.parent h (L.parents i e k.0 got k.1) (L.links i k.0 k.1);
+    behind = λ i e p got h. let k = link_of i e got in behind_by i p e.1.parent k.0.parent h (L.parents i e k.0 got k.1) (λ j f. L.links.low i j (ap parent_in_link k.1 ∙ f));
   }
 
   same_place : (i j t : ℕ) → StandsAt es i t → StandsAt es j t → i ≡ j
@@ -110,18 +111,20 @@ module _ (es : Tasks) (ks : List Link) (L : AreLinked es ks) where
 
   links_lead : (n i j t a : ℕ) → StandsAt es i t → StandsAt es j a → IsUp ks (suc n) i j → LinksLead n es t a
   links_lead zero i j t a s z h =
-      let q = up_number i h.0 t s h.1 in
-      q.1 ∙ ap Some (same_task j q.0 a (subst (λ x. StandsAt es x q.0) h.2 q.2) z)
+      let f = link_up (up_from ks) zero i j h in
+      let q = up_number i f.0 t s f.1 in
+      q.1 ∙ ap Some (same_task j q.0 a (subst (λ x. StandsAt es x q.0) (same_Some f.0 j f.2) q.2) z)
   links_lead (suc n) i j t a s z h =
-      let q = up_number i h.0 t s h.1 in
-      (q.0, q.1, links_lead n h.0 j q.0 a q.2 z h.2)
+      let f = link_up (up_from ks) (suc n) i j h in
+      let q = up_number i f.0 t s f.1 in
+      (q.0, q.1, links_lead n f.0 j q.0 a q.2 z f.2)
 
   lead_links : (n i t a : ℕ) → StandsAt es i t → LinksLead n es t a → (j : ℕ) × StandsAt es j a × IsUp ks (suc n) i j
-  lead_links zero i t a s h = let p = number_up i t a s h in (p.0, p.2, (p.0, p.1, refl))
+  lead_links zero i t a s h = let p = number_up i t a s h in (p.0, p.2, ancestor_parent (up_from ks) i p.0 p.1)
   lead_links (suc n) i t a s h =
       let p = number_up i t h.0 s h.1 in
       let r = lead_links n p.0 h.0 a p.2 h.2 in
-      (r.0, r.1, (p.0, p.1, r.2))
+      (r.0, r.1, link_first (up_from ks) (suc n) i p.0 r.0 p.1 r.2)
 
   -- THE ANSWER
 
@@ -208,21 +211,21 @@ module _ (es : Tasks) (ks : List Link) (L : AreLinked es ks) where
     parent_within None (Some j) h = absurd h
     parent_within (Some p) (Some j) h = let w : j < length es = got_within es j h.0 h.1 in let s : length ks ≡ length es = L.sized in omega (arith, w, s)
 
-    pub linked_with : AreLinked (task_more es n t) links
+    pub linked_with : AreLinksOf (task_more es n t) links
     linked_with = record {
       sized = length-append ks (new_link ks m ∷ []) ∙ ap (λ x. x + 1) L.sized ∙ sym (length-append es ((n, t) ∷ []));
-      links = linked_more ks L.links m (parent_within t.parent m at);
+      links = link_more ks L.links m (parent_within t.parent m at);
       apart = apart_more es n t L.apart new;
       parents = λ i e k g h. parents_by i e k (where_is es n t i e g) h;
     }
 
 -- what is left where a task was put behind the others
-pub put_answer : (es : Tasks) (ks : List Link) → AreLinked es ks → (n : ℕ) (t : Task) (m : Option ℕ) → has es n ≡ false → IsParentAt es t.parent m
+pub put_answer : (es : Tasks) (ks : List Link) → AreLinksOf es ks → (n : ℕ) (t : Task) (m : Option ℕ) → has es n ≡ false → IsParentAt es t.parent m
     → (es' : Tasks) (before ks' : List Link) (link : Link) → es' ≡ insert_entry nat_eq es n t → link ≡ new_link ks m → before ≡ ks → ks' ≡ before ++ link ∷ []
-    → AreLinked es' ks' × (es' ≡ with_new es n t)
+    → AreLinksOf es' ks' × (es' ≡ with_new es n t)
 put_answer es ks L n t m new at es' before ks' link is_entries is_link is_before is_links =
     let entries : es' ≡ task_more es n t = is_entries ∙ goes_last es n t new in
     let links : ks' ≡ ks ++ new_link ks m ∷ [] = is_links ∙ (λ j. is_before j ++ is_link j ∷ []) in (
-      subst (λ xs. AreLinked xs ks') (sym entries) (subst (λ xs. AreLinked (task_more es n t) xs) (sym links) (linked_with es ks L n t m new at)),
+      subst (λ xs. AreLinksOf xs ks') (sym entries) (subst (λ xs. AreLinksOf (task_more es n t) xs) (sym links) (linked_with es ks L n t m new at)),
       entries ∙ sym (ap (λ b. cond b es (task_more es n t)) new),
     )

@@ -1,5 +1,7 @@
 -- Links between the places of tasks.
-use Rattle.std.specs.Prelude.{◌≡◌, ◌<◌, ◌+◌, ◌-◌, ◌==◌, ℕ, zero, suc, Option, Some, None, List, length, slice_get, if◌then◌else◌}
+use Rattle.std.specs.Prelude.{◌≡◌, ◌+◌, ℕ, Option, Some, None, List, length, slice_get}
+use Rattle.far_links.specs.Walk.{ancestor}
+use Rattle.far_links.specs.Links.{AreLinked, next_far}
 use Rattle.image_check.specs.declared.line.Task.{Task}
 use Rattle.image_check.specs.declared.links.Link.{Link}
 use Rattle.image_check.specs.Tasks.{Tasks}
@@ -29,37 +31,16 @@ up_from ks i = parent_in_link (slice_get ks i)
 
 -- so many links lead from one place up to another
 abbrev pub IsUp : List Link → ℕ → ℕ → ℕ → Type 0
-IsUp ks zero i j = i ≡ j
-IsUp ks (suc n) i j = (p : ℕ) × (up_from ks i ≡ Some p) × IsUp ks n p j
-
--- how many links a far link passes over
-abbrev pub span : List Link → ℕ → ℕ
-span ks i = depth_at ks i - depth_at ks (far_at ks i)
-
--- where the far link of a child leads to
-abbrev pub next_far : List Link → ℕ → ℕ
-next_far ks p = if span ks p == span ks (far_at ks p) then far_at ks (far_at ks p) else p
+IsUp ks n i j = ancestor (up_from ks) n i ≡ Some j
 
 -- the link of a task more
 abbrev pub new_link : List Link → Option ℕ → Link
 new_link ks None = record { depth = 0; parent = None; far = length ks }
-new_link ks (Some p) = record { depth = depth_at ks p + 1; parent = Some p; far = next_far ks p }
+new_link ks (Some p) = record { depth = depth_at ks p + 1; parent = Some p; far = next_far (depth_at ks) (far_at ks) p }
 
--- the link of a task with a parent at this place
-pub record IsBelow (ks : List Link) (i parent : ℕ) (k : Link) : Type 0 where
-  pub low : parent < i
-  pub deeper : k.depth ≡ depth_at ks parent + 1
-  pub far_low : k.far < i
-  pub far_higher : depth_at ks k.far < k.depth
-  pub far_up : IsUp ks (k.depth - depth_at ks k.far) i k.far
-
-abbrev pub IsLink : List Link → ℕ → Option ℕ → Link → Type 0
-IsLink ks i None k = (k.depth ≡ 0) × (k.far ≡ i)
-IsLink ks i (Some p) k = IsBelow ks i p k
-
--- each place's link is as it should be
+-- the links are as they should be
 abbrev pub AreLinks : List Link → Type 0
-AreLinks ks = (i : ℕ) (k : Link) → slice_get ks i ≡ Some k → IsLink ks i k.parent k
+AreLinks ks = AreLinked (length ks) (up_from ks) (depth_at ks) (far_at ks)
 
 -- the task of this number stands at the place
 abbrev pub StandsAt : Tasks → ℕ → ℕ → Type 0
@@ -72,7 +53,7 @@ IsParentAt tasks (Some p) None = ⊥
 IsParentAt tasks (Some p) (Some j) = StandsAt tasks j p
 
 -- the links of these tasks
-pub record AreLinked (tasks : Tasks) (ks : List Link) : Type 0 where
+pub record AreLinksOf (tasks : Tasks) (ks : List Link) : Type 0 where
   pub sized : length ks ≡ length tasks
   pub links : AreLinks ks
   pub apart : (i j : ℕ) (e f : ℕ × Task) → slice_get tasks i ≡ Some e → slice_get tasks j ≡ Some f → e.0 ≡ f.0 → i ≡ j

@@ -1,7 +1,8 @@
 // Links between the places of tasks, along which ancestors are found fast.
 
 ghost use Rattle.std.specs.Prelude.{◌≡◌, ◌-◌, ◌<◌, ◌≤◌, length, slice_get, IfSome, Some};
-ghost use Rattle.image_check.specs.Links.{depth_at, AreLinks, IsUp, next_far, new_link};
+ghost use Rattle.far_links.specs.Links.{next_far};
+ghost use Rattle.image_check.specs.Links.{depth_at, far_at, AreLinks, IsUp, new_link};
 
 /// How the path of a task goes on to the root: by places in the order in which the tasks came.
 #[derive(Clone, Copy)]
@@ -27,7 +28,7 @@ pub(crate) fn link_at(links: &[Link], place: usize) -> Link
 pub(crate) fn far_below(links: &[Link], parent: usize) -> usize
     requires linked { AreLinks links.now }
     requires there { parent < length links.now }
-    ensures { result ≡ next_far links.now parent }
+    ensures { result ≡ next_far (depth_at links.now) (far_at links.now) parent }
 {
     let here = link_at(links, parent);
     let far = link_at(links, here.far);

@@ -33,13 +33,13 @@ pub struct Tasks {
 
 impl Model for Tasks {
     ghost use Rattle.image_check.specs.Tasks.{Tasks as Listed};
-    ghost use Rattle.image_check.specs.Links.{AreLinked};
+    ghost use Rattle.image_check.specs.Links.{AreLinksOf};
 
     ghost Value = { Listed };
 
     ghost view = { λ t. t.table.entries };
 
-    ghost invariant = { λ t. AreLinked t.table.entries t.links.items };
+    ghost invariant = { λ t. AreLinksOf t.table.entries t.links.items };
 }
 
 impl Tasks {

@@ -54,7 +54,7 @@ fn fields_of_own_objects(rt: HostRuntime) {
 fn empty(alloc: Global) -> Option<(bool, u32, bool)> {
     let mut heap = heap_of(alloc, &[Put::Chunk(7, 1)])?;
     let (has_place, room) = (heap.has_place(1024), heap.room());
-    Some((has_place, room, heap.make_spare().is_ok()))
+    Some((has_place, room, heap.make_spare(1).is_ok()))
 }
 
 // Of a heap with the largest small object: the room, the words since the count began and all words; whether the smallest

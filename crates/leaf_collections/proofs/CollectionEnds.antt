@@ -1,8 +1,7 @@
 -- The end of a part's leaf collection: what is entered stands, and parts fit.
-use Rattle.std.proofs.Common.{◌≡◌, ℕ, ◌+◌, ◌-◌, ◌<◌, ◌&&◌, arith, All, true, false, not, Option, Some, None, is_some, List, [], ◌∷◌, ◌++◌, fold, length, slice_get, option_map, inl, inr, refl, ap, ap₂, sym, subst, ◌∙◌}
+use Rattle.std.proofs.Common.{◌≡◌, ℕ, ◌+◌, ◌-◌, ◌<◌, ◌&&◌, arith, true, false, not, Option, Some, None, is_some, List, [], ◌∷◌, ◌++◌, fold, length, slice_get, option_map, inl, inr, refl, ap, ap₂, sym, subst, ◌∙◌}
 use Rattle.std.proofs.lemmas.Bool.{cases_eq}
 use Rattle.std.proofs.lemmas.Option.{same_Some}
-use Rattle.std.proofs.lemmas.List.Elements.{All-head, All-tail}
 use Rattle.listed.specs.RoomyValue.{RoomyValue}
 use Rattle.listed.proofs.Members.{got_within}
 use Rattle.listed.proofs.Places.{each_from, got_some, in_map, read_in}
@@ -31,7 +30,6 @@ use Rattle.object_layout.specs.Objects.{Located}
 use Rattle.chunk_pool.specs.declared.pool.Slot.{Slot}
 use Rattle.chunk_pool.specs.PoolValue.{PoolValue, slot_at, owner_of, units_in_use}
 use Rattle.alloc_path.specs.LeafHeapValue.{IsFresh}
-use Rattle.alloc_path.proofs.HeapLemmas.{fresh_cons}
 use Rattle.remembered_set.specs.declared.remembered.Source.{Source}
 use Rattle.remembered_set.specs.Moved.{AreFields, redirected}
 use Rattle.remembered_set.specs.Sources.{StandOnce}
@@ -71,7 +69,7 @@ use Rattle.shared_value.proofs.EntryMade.{accounts_are, entered, entered_world, 
 use Rattle.shared_value.proofs.JournalGoesOn.{legal_then}
 use Rattle.shared_value.proofs.FreeChunks.{refs_long}
 use Rattle.shared_value.proofs.HeldTasks.{fits_held, stands_for_held}
-use Rattle.shared_value.proofs.FieldsNoted.{are_once, fresh_by, noted_sources, owner_none}
+use Rattle.shared_value.proofs.FieldsNoted.{are_once, fresh_by, noted_sources, owned_before}
 use Rattle.shared_value.proofs.FieldsLed.{AreFormed, Led, SourceThere, home_chunks, lead_all}
 use Rattle.shared_value.proofs.UnitsMeasured.{given_keeps, measured_given, measured_kept, part_kept}
 use Rattle.shared_value.proofs.BeforeTheEnd.{stands_now}
@@ -232,14 +230,7 @@ module _ (w : SharedValue) (k : ℕ) (p : Private) (moved : Moved) (I : IsShared
         ∙ C.copy.owned c i
 
     owned : (n u : ℕ) → owner_of pool n ≡ Some u → owner_of w.pool n ≡ Some u
-    owned n u o = by moved.back.items G.free (G.others n)
-      where
-        by : (ks : List ChunkValue) → All (λ c. slot_at pool c.number ≡ None) ks → (IsFresh ks n → slot_at pool n ≡ slot_at w.pool n) → owner_of w.pool n ≡ Some u
-        by [] a other = sym (ap (option_map (λ (h : Slot). h.owner)) (other refl)) ∙ o
-        by (c ∷ ks) a other = elim (cases_eq c.number n) [
-          | inl q ↦ absurd (owner_none pool n u (subst (λ z. slot_at pool z ≡ None) q (All-head (λ (c : ChunkValue). slot_at pool c.number ≡ None) c ks a)) o)
-          | inr ne ↦ by ks (All-tail (λ (c : ChunkValue). slot_at pool c.number ≡ None) c ks a) (λ fr. other (fresh_cons c ks n ne fr))
-        ]
+    owned n u o = owned_before w.pool pool moved.back.items n u G.free (G.others n) o
 
     ends : EndsAt v v'' t (home_of_part (ended p)) f
     ends = record { others = λ u ne. refl; owners = owners; mine = mine; owned = owned; sources = λ u. refl }

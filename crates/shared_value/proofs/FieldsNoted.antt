@@ -1,7 +1,8 @@
 -- What sets of remembered fields hold, as the relation has it, and numbers of chunks.
-use Rattle.std.proofs.Common.{◌≡◌, ℕ, ◌==◌, ◌&&◌, Bool, true, false, Option, Some, None, List, [], ◌∷◌, option_map, inl, inr, refl, ap, ap₂, sym, ◌∙◌, eq-eqb}
+use Rattle.std.proofs.Common.{◌≡◌, ℕ, ◌==◌, ◌&&◌, Bool, true, false, Option, Some, None, List, [], ◌∷◌, option_map, inl, inr, refl, ap, ap₂, sym, ◌∙◌, eq-eqb, All, subst}
 use Rattle.std.specs.List.{list_any}
-use Rattle.std.proofs.lemmas.Bool.{eqb-true, false≢true}
+use Rattle.std.proofs.lemmas.Bool.{eqb-true, false≢true, cases_eq}
+use Rattle.std.proofs.lemmas.List.Elements.{All-head, All-tail}
 use Rattle.listed.proofs.Members.{any_from_in, in_from_any}
 use Rattle.listed.proofs.Options.{none_some}
 use Rattle.object_layout.specs.ChunkValue.{ChunkValue}
@@ -65,3 +66,11 @@ fresh_by (k ∷ ks) n f = fresh_cons k ks n (f k (inl refl)) (fresh_by ks n (λ 
 
 pub owner_none : (pool : PoolValue) (n u : ℕ) → slot_at pool n ≡ None → owner_of pool n ≡ Some u → ⊥
 owner_none pool n u e o = none_some (ap (option_map (λ (h : Slot). h.owner)) (sym e) ∙ o)
+
+-- who owns a chunk after these were given back owned it before
+pub owned_before : (old new : PoolValue) (gs : List ChunkValue) (n u : ℕ) → All (λ c. slot_at new c.number ≡ None) gs → (IsFresh gs n → slot_at new n ≡ slot_at old n) → owner_of new n ≡ Some u → owner_of old n ≡ Some u
+owned_before old new [] n u free other o = sym (ap (option_map (λ (h : Slot). h.owner)) (other refl)) ∙ o
+owned_before old new (c ∷ gs) n u free other o = elim (cases_eq c.number n) [
+  | inl q ↦ absurd (owner_none new n u (subst (λ z. slot_at new z ≡ None) q (All-head (λ (c : ChunkValue). slot_at new c.number ≡ None) c gs free)) o)
+  | inr ne ↦ owned_before old new gs n u (All-tail (λ (c : ChunkValue). slot_at new c.number ≡ None) c gs free) (λ fr. other (fresh_cons c gs n ne fr)) o
+]

@@ -1,5 +1,5 @@
 -- What is noted of all heaps stands after each entry.
-use Rattle.std.proofs.Common.{◌≡◌, ◌⊎◌, ℕ, ℤ, Bool, true, false, cond, ◌++◌, Option, Some, None, List, length, slice_get, inl, inr, refl, ap, ap₂, sym, subst, ◌∙◌}
+use Rattle.std.proofs.Common.{◌≡◌, ◌⊎◌, ℕ, ℤ, Bool, true, false, ◌++◌, Option, Some, None, List, length, slice_get, inl, inr, refl, ap, ap₂, sym, subst, ◌∙◌}
 use Rattle.std.specs.Prelude.{◌&&◌, not}
 use Rattle.std.proofs.lemmas.Bool.{both_ways, cases_eq, false≢true}
 use Rattle.object_layout.specs.declared.word.Addr.{Addr}
@@ -28,8 +28,7 @@ use Rattle.ledger_step_laws.specs.Kinds.{CanJoin, ForksTask, JoinsTasks, StoresO
 use Rattle.core_relation.proofs.objects.Mapped.{to_mapped}
 use Rattle.core_relation.proofs.objects.Members.{in_chunk, in_objects}
 use Rattle.core_relation.proofs.notes.Rooted.{noted_by, rewritten_at, root_apart, root_by, root_kept, root_same}
-use Rattle.core_relation.proofs.notes.Notes.{notes_stay, notes_with, same_whole, moves_whole, numbers_whole, no_notes, fork_notes, store_notes}
-use Rattle.object_layout.specs.Chunks.{same_address}
+use Rattle.core_relation.proofs.notes.Notes.{notes_stay, notes_with, same_whole, moves_whole, numbers_whole, no_notes, fork_notes, store_notes, number_name, number_at, number_refs}
 
 -- the accounts of u's heap stay
 same_notes : (v v' : Memory) (l l' : Ledger) (u : ℕ) → NotesStay v v' u → ((k : ℕ) → v'.owner k ≡ Some u → v.owner k ≡ Some u) → is_waiting (slice_get l'.machine.tasks u) ≡ is_waiting (slice_get l.machine.tasks u) → (heap_of l' u).swept ≡ (heap_of l u).swept → (heap_of l' u).snapshot ≡ (heap_of l u).snapshot
@@ -191,31 +190,10 @@ quiet_notes v v' l l' m rest frames owner noted swept snapshot same chunks taken
 numbers_root : (v v' : Memory) (l l' : Ledger) (w : ℕ) (a : Addr) (i : ℕ) (k : ℤ) → WritesAt v v' w a (with_number i k) → ((z : ℕ) → (heap_of l' z).worker ≡ (heap_of l z).worker) → (u : ℕ) (b : Addr) → IsRoot v l u b → IsRoot v' l' u b
 numbers_root v v' l l' w a i k C rest u b r =
     root_by v v' l l' u (C.noted u) (λ c o. C.owner c ∙ o) b r (rest r.home ∙ r.rests) (one r.object)
-    (subst (λ ks. In (objects_in ks) (one r.object)) (sym (C.chunks r.home)) (to_mapped one one_name one_at (v.homes r.home).chunks r.object r.there)) (one_at r.object) (ap (λ rs. slice_get rs r.source.field) (one_refs r.object) ∙ r.holds)
+    (subst (λ ks. In (objects_in ks) (one r.object)) (sym (C.chunks r.home)) (to_mapped one (number_name a i k) (number_at a i k) (v.homes r.home).chunks r.object r.there)) (number_at a i k r.object) (ap (λ rs. slice_get rs r.source.field) (number_refs a i k r.object) ∙ r.holds)
   where
     one : Located → Located
     one q = put_at a (with_number i k) q
-
-    one_name : (q : Located) → object_name (put_at a (with_number i k) q) ≡ object_name q
-    one_name q = by (same_address q.at a)
-      where
-        by : (b : Bool) → object_name (cond b (with_number i k q) q) ≡ object_name q
-        by true = refl
-        by false = refl
-
-    one_at : (q : Located) → (put_at a (with_number i k) q).at ≡ q.at
-    one_at q = by (same_address q.at a)
-      where
-        by : (b : Bool) → (cond b (with_number i k q) q).at ≡ q.at
-        by true = refl
-        by false = refl
-
-    one_refs : (q : Located) → (put_at a (with_number i k) q).refs ≡ q.refs
-    one_refs q = by (same_address q.at a)
-      where
-        by : (b : Bool) → (cond b (with_number i k q) q).refs ≡ q.refs
-        by true = refl
-        by false = refl
 
 pub numbers_note : (v v' : Memory) (l l' : Ledger) (t : ℕ) (x : Task) (n : Name) (y : Object) (o w i : ℕ) (f : Frame) (fs : List Frame) (a : Addr) → StoresNumber l l' t x n y o w i → StoresNumberAt v v' t f fs a w i → OthersNotes v v' t → AllNoted v l → AllNoted v' l'
 numbers_note v v' l l' t x n y o w i f fs a L C N H u = elim (cases_eq u t) [

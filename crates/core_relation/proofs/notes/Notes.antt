@@ -142,45 +142,47 @@ moves_whole v v' l l' u t names f ne M =
           );
     }
 
+-- a number that is put into an object leaves its name, its address and its references
+module _ (a : Addr) (i : ℕ) (k : ℤ) where
+  pub number_name : (q : Located) → object_name (put_at a (with_number i k) q) ≡ object_name q
+  number_name q = by (same_address q.at a)
+    where
+      by : (b : Bool) → object_name (cond b (with_number i k q) q) ≡ object_name q
+      by true = refl
+      by false = refl
+
+  pub number_at : (q : Located) → (put_at a (with_number i k) q).at ≡ q.at
+  number_at q = by (same_address q.at a)
+    where
+      by : (b : Bool) → (cond b (with_number i k q) q).at ≡ q.at
+      by true = refl
+      by false = refl
+
+  pub number_refs : (q : Located) → (put_at a (with_number i k) q).refs ≡ q.refs
+  number_refs q = by (same_address q.at a)
+    where
+      by : (b : Bool) → (cond b (with_number i k q) q).refs ≡ q.refs
+      by true = refl
+      by false = refl
+
 -- so does a store of a number
 pub numbers_whole : (v v' : Memory) (w : ℕ) (a : Addr) (i : ℕ) (k : ℤ) (t : ℕ) → WritesAt v v' w a (with_number i k) → StaysWhole v v' t
 numbers_whole v v' w a i k t C = record {
-  count = ap (λ ks. length (objects_in ks)) (C.chunks t) ∙ count_mapped one one_name one_at (v.homes t).chunks;
+  count = ap (λ ks. length (objects_in ks)) (C.chunks t) ∙ count_mapped one (number_name a i k) (number_at a i k) (v.homes t).chunks;
   chunks = ap (λ (ks : List Chunk). length ks) (C.chunks t) ∙ length_map (mapped_chunk one) (v.homes t).chunks;
-  there = λ o j. (one o, subst (λ ks. In (objects_in ks) (one o)) (sym (C.chunks t)) (to_mapped one one_name one_at (v.homes t).chunks o j), one_at o, one_name o);
+  there = λ o j. (one o, subst (λ ks. In (objects_in ks) (one o)) (sym (C.chunks t)) (to_mapped one (number_name a i k) (number_at a i k) (v.homes t).chunks o j), number_at a i k o, number_name a i k o);
   were = λ q j.
-      let z = from_mapped one one_name one_at (v.homes t).chunks q (subst (λ ks. In (objects_in ks) q) (C.chunks t) j) in (
+      let z = from_mapped one (number_name a i k) (number_at a i k) (v.homes t).chunks q (subst (λ ks. In (objects_in ks) q) (C.chunks t) j) in (
         z.0,
         z.1,
-        ap (λ (o : Located). o.at) (sym z.2) ∙ one_at z.0,
-        ap object_name (sym z.2) ∙ one_name z.0,
-        λ b c r. subst (λ (o : Located). In o.refs (Some b)) z.2 (subst (λ rs. In rs (Some b)) (sym (one_refs z.0)) r),
+        ap (λ (o : Located). o.at) (sym z.2) ∙ number_at a i k z.0,
+        ap object_name (sym z.2) ∙ number_name a i k z.0,
+        λ b c r. subst (λ (o : Located). In o.refs (Some b)) z.2 (subst (λ rs. In rs (Some b)) (sym (number_refs a i k z.0)) r),
       );
 }
   where
     one : Located → Located
     one q = put_at a (with_number i k) q
-
-    one_name : (q : Located) → object_name (put_at a (with_number i k) q) ≡ object_name q
-    one_name q = by (same_address q.at a)
-      where
-        by : (b : Bool) → object_name (cond b (with_number i k q) q) ≡ object_name q
-        by true = refl
-        by false = refl
-
-    one_at : (q : Located) → (put_at a (with_number i k) q).at ≡ q.at
-    one_at q = by (same_address q.at a)
-      where
-        by : (b : Bool) → (cond b (with_number i k q) q).at ≡ q.at
-        by true = refl
-        by false = refl
-
-    one_refs : (q : Located) → (put_at a (with_number i k) q).refs ≡ q.refs
-    one_refs q = by (same_address q.at a)
-      where
-        by : (b : Bool) → (cond b (with_number i k q) q).refs ≡ q.refs
-        by true = refl
-        by false = refl
 
 -- in any store each object stays where it lies
 pub writes_stay : (v v' : Memory) (w : ℕ) (a : Addr) (f : Located → Located) (t : ℕ) → WritesAt v v' w a f → (q : Located) → In (objects v t) q → (z : Located) × In (objects v' t) z × (z.at ≡ q.at) × (object_name z ≡ object_name q)

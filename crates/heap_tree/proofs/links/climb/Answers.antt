@@ -1,7 +1,7 @@
-use Rattle.std.proofs.Common.{◌≡◌, ◌+◌, ◌-◌, ◌*◌, ◌<◌, ◌≤◌, suc, length, arith, ◌∙◌}
+use Rattle.std.proofs.Common.{◌≡◌, ◌+◌, ◌-◌, ◌*◌, ◌<◌, ◌≤◌, suc, length, refl, arith, ◌∙◌}
+use Rattle.far_links.proofs.Walks.{ancestor_add}
+use Rattle.far_links.proofs.Costs.{within_next, few_links}
 use Rattle.heap_tree.specs.Links.{parent_at, depth_at, jump_at}
-use Rattle.heap_tree.proofs.WalkLemmas.{ancestor-add}
-use Rattle.heap_tree.proofs.CostLemmas.{within_next, few_links}
 use Rattle.heap_tree.proofs.links.climb.Goals as goal
 
 pub loop-links-preserved : goal.loop-links-preserved
@@ -19,7 +19,7 @@ loop-links-preserved g c =
       made = c.step_up-at.ensures.made;
       not_past = c.step_up-at.ensures.not_past;
       not_below = omega arith;
-      up = rw whole (ancestor-add (parent_at es) (a - b) (b - d) c.args.t c.loop-links.at c.loop-links.invariant.up ∙ c.step_up-at.ensures.up);
+      up = rw whole (ancestor_add (parent_at es) (a - b) (b - d) c.args.t c.loop-links.at c.loop-links.invariant.up ∙ c.step_up-at.ensures.up);
       counted = omega arith;
       cost = λ most w.
           let before = c.loop-links.invariant.cost most w in
@@ -38,3 +38,16 @@ returns-clause-cost g c = λ log deep.
     let last = c.loop-links.invariant.cost (3 * log) w in
     let sum : c.loop-links.links + last.0 ≡ c.args.links.now + 3 * log = last.2 in
     omega arith
+
+pub loop-links-init : goal.loop-links-init
+loop-links-init g c =
+    let es = c.args.entries.now in
+    let none : depth_at es c.args.t - depth_at es c.args.t ≡ 0 = omega arith in
+    record {
+      made = c.requires.made;
+      not_past = c.requires.within;
+      not_below = omega arith;
+      up = rw none refl;
+      counted = omega arith;
+      cost = λ most w. (most, w, refl);
+    }

@@ -1,7 +1,7 @@
 use Rattle.std.proofs.Common.{◌≡◌, ◌+◌, ◌-◌, ◌<◌, ◌≤◌, ℕ, length, Some}
+use Rattle.far_links.specs.Links.{Within}
 use Rattle.heap_tree.specs.Walk.{ancestor}
 use Rattle.heap_tree.specs.Links.{parent_at, depth_at, jump_at}
-use Rattle.heap_tree.proofs.CostLemmas.{Within}
 use Rattle.heap_tree.proofs.links.climb.Given as goal
 
 abbrev pub invariant-loop-links : goal.invariant-loop-links

@@ -1,6 +1,6 @@
-use Rattle.std.proofs.Common.{◌≡◌, ◌<◌, ◌≤◌, ◌+◌, ◌-◌, ℕ, subst, arith}
-use Rattle.image_check.specs.Links.{depth_at, IsUp}
-use Rattle.image_check.proofs.Ups.{up_more}
+use Rattle.std.proofs.Common.{◌≡◌, ◌<◌, ◌≤◌, ◌+◌, ◌-◌, ℕ, refl, sym, subst, ◌∙◌, arith}
+use Rattle.far_links.proofs.Walks.{ancestor_add}
+use Rattle.image_check.specs.Links.{depth_at, up_from, IsUp}
 use Rattle.image_check.proofs.links.climb.Goals as goal
 
 pub loop-at-preserved : goal.loop-at-preserved
@@ -14,5 +14,11 @@ loop-at-preserved c =
       s.there,
       s.not_past,
       omega (arith, h, g),
-      subst (λ n. IsUp ks n c.args.place c.step_up-at.result) e (up_more ks (depth_at ks c.args.place - depth_at ks c.loop-at.at) (depth_at ks c.loop-at.at - depth_at ks c.step_up-at.result) c.args.place c.loop-at.at c.step_up-at.result i.3 s.up),
+      subst (λ n. IsUp ks n c.args.place c.step_up-at.result) e (ancestor_add (up_from ks) (depth_at ks c.args.place - depth_at ks c.loop-at.at) (depth_at ks c.loop-at.at - depth_at ks c.step_up-at.result) c.args.place c.loop-at.at i.3 ∙ s.up),
     )
+
+pub loop-at-init : goal.loop-at-init
+loop-at-init c =
+    let ks = c.args.links.now in
+    let none : depth_at ks c.args.place - depth_at ks c.args.place ≡ 0 = omega arith in
+    (c.requires.there, c.requires.within, omega arith, subst (λ n. IsUp ks n c.args.place c.args.place) (sym none) refl)

@@ -1,6 +1,7 @@
-use Rattle.std.proofs.Common.{◌≡◌, ◌<◌, ◌≤◌, ◌+◌, ◌-◌, ℕ, suc, zero, length, refl, ap, sym, ◌∙◌, subst, arith, Some}
+use Rattle.std.proofs.Common.{◌≡◌, ◌<◌, ◌≤◌, ◌+◌, ◌-◌, ℕ, suc, zero, length, ap, sym, ◌∙◌, subst, arith, Some}
+use Rattle.far_links.proofs.Walks.{ancestor_parent}
 use Rattle.image_check.specs.Links.{depth_in, depth_at, parent_in_link, up_from, IsUp}
-use Rattle.image_check.proofs.Ups.{far_link, far_strict, has_parent, one_up}
+use Rattle.image_check.proofs.Ups.{far_link, far_strict, has_parent}
 use Rattle.image_check.proofs.links.step_up.Goals as goal
 
 pub link_at-requires : goal.link_at-requires
@@ -38,30 +39,26 @@ unreachable-requires c =
 
 pub returns-clause-there : goal.returns-clause-there
 returns-clause-there c =
-    let ks = c.args.links.now in
-    let o = one_up ks c.requires.linked c.args.at c.in-Some.parent (ap parent_in_link c.link_at-here.ensures ∙ c.in-Some.is) in
-    omega (arith, o.low, c.requires.there)
+    let low : c.in-Some.parent < c.args.at = c.requires.linked.low c.args.at c.in-Some.parent (ap parent_in_link c.link_at-here.ensures ∙ c.in-Some.is) in
+    omega (arith, low, c.requires.there)
 
 pub returns-clause-not_past : goal.returns-clause-not_past
 returns-clause-not_past c =
     let ks = c.args.links.now in
-    let o = one_up ks c.requires.linked c.args.at c.in-Some.parent (ap parent_in_link c.link_at-here.ensures ∙ c.in-Some.is) in
-    let e : depth_at ks c.args.at ≡ depth_at ks c.in-Some.parent + 1 = o.deeper in
+    let e : depth_at ks c.args.at ≡ depth_at ks c.in-Some.parent + 1 = c.requires.linked.deeper c.args.at c.in-Some.parent (ap parent_in_link c.link_at-here.ensures ∙ c.in-Some.is) in
     let lt : c.args.depth < depth_at ks c.args.at = c.requires.deeper in
     omega (arith, e, lt)
 
 pub returns-clause-higher : goal.returns-clause-higher
 returns-clause-higher c =
     let ks = c.args.links.now in
-    let o = one_up ks c.requires.linked c.args.at c.in-Some.parent (ap parent_in_link c.link_at-here.ensures ∙ c.in-Some.is) in
-    let e : depth_at ks c.args.at ≡ depth_at ks c.in-Some.parent + 1 = o.deeper in
+    let e : depth_at ks c.args.at ≡ depth_at ks c.in-Some.parent + 1 = c.requires.linked.deeper c.args.at c.in-Some.parent (ap parent_in_link c.link_at-here.ensures ∙ c.in-Some.is) in
     omega (arith, e)
 
 pub returns-clause-up : goal.returns-clause-up
 returns-clause-up c =
     let ks = c.args.links.now in
     let up : up_from ks c.args.at ≡ Some c.in-Some.parent = ap parent_in_link c.link_at-here.ensures ∙ c.in-Some.is in
-    let o = one_up ks c.requires.linked c.args.at c.in-Some.parent up in
-    let e : depth_at ks c.args.at ≡ depth_at ks c.in-Some.parent + 1 = o.deeper in
+    let e : depth_at ks c.args.at ≡ depth_at ks c.in-Some.parent + 1 = c.requires.linked.deeper c.args.at c.in-Some.parent up in
     let one : suc zero ≡ depth_at ks c.args.at - depth_at ks c.in-Some.parent = omega (arith, e) in
-    subst (λ n. IsUp ks n c.args.at c.in-Some.parent) one (c.in-Some.parent, up, refl)
+    subst (λ n. IsUp ks n c.args.at c.in-Some.parent) one (ancestor_parent (up_from ks) c.args.at c.in-Some.parent up)

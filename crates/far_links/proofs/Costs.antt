@@ -1,14 +1,9 @@
 -- How many links a climb follows.
-use Rattle.std.proofs.Common.{◌≡◌, ℕ, zero, suc, ◌+◌, ◌-◌, ◌*◌, ◌^◌, ◌<◌, ◌≤◌, Option, Some, ◌⊎◌, inl, inr, refl, sym, ap, subst, ◌∙◌, arith}
+use Rattle.std.proofs.Common.{◌≡◌, ℕ, zero, suc, ◌+◌, ◌-◌, ◌*◌, ◌^◌, ◌<◌, ◌≤◌, Option, Some, inl, inr, refl, sym, ap, subst, ◌∙◌, arith}
 use Rattle.std.proofs.lemmas.Bool.{cases_lt}
 use Rattle.std.proofs.lemmas.Option.{same_Some}
-use Rattle.heap_tree.specs.Links.{AreLinked, HasRank, IsNextLink, span}
-use Rattle.heap_tree.proofs.RankLemmas.{rank_span, exponent_below, some_power}
-
--- a climb to the depth follows at most so many links
-abbrev pub Within : (ℕ → Option ℕ) → (ℕ → ℕ) → (ℕ → ℕ) → ℕ → ℕ → ℕ → Type 0
-Within par dep jmp least zero t = dep t ≤ least
-Within par dep jmp least (suc more) t = (dep t ≤ least) ⊎ ((up : ℕ) → IsNextLink par dep jmp least t up → Within par dep jmp least more up)
+use Rattle.far_links.specs.Links.{AreLinked, HasRank, IsNextLink, Within, span}
+use Rattle.far_links.proofs.Ranks.{rank_span, exponent_below, some_power}
 
 -- the link that is followed is one of them
 pub within_next : (par : ℕ → Option ℕ) (dep jmp : ℕ → ℕ) (least m t up : ℕ) → least < dep t → IsNextLink par dep jmp least t up → Within par dep jmp least m t → (k : ℕ) × (suc k ≡ m) × Within par dep jmp least k up
@@ -77,7 +72,7 @@ module _ (n : ℕ) (par : ℕ → Option ℕ) (dep jmp : ℕ → ℕ) (links : A
         → Within par dep jmp least m t
     over lt zero big enough go = let l : suc rank ≤ log = low_rank in absurd (omega arith)
     over lt (suc m) big enough go =
-        let low : jmp t ≤ t = links.jump_low t made in
+        let low : jmp t ≤ t = links.far_low t made in
         let above : jmp t < n = omega arith in
         let next = links.ranked (jmp t) above (omega arith) in
         let s : dep t + 1 ≡ dep (jmp t) + 2 ^ suc rank = rank_span n par dep jmp links rank t has in
@@ -114,7 +109,7 @@ module _ (n : ℕ) (par : ℕ → Option ℕ) (dep jmp : ℕ → ℕ) (links : A
       elim (cases_lt least (dep (jmp t))) [
         | inr ge ↦ inside rank t has ge (suc m) (omega arith)
         | inl lt ↦
-            let low : jmp t ≤ t = links.jump_low t made in
+            let low : jmp t ≤ t = links.far_low t made in
             let above : jmp t < n = omega arith in
             let next = links.ranked (jmp t) above (omega arith) in
             by_far m t (omega arith) (outside log log next.0 (jmp t) above (omega arith) next.1 (links.longer t made) (omega arith) m (omega arith))

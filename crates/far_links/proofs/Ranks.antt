@@ -2,7 +2,7 @@
 use Rattle.std.proofs.Common.{◌≡◌, ℕ, zero, suc, ◌+◌, ◌-◌, ◌^◌, ◌<◌, ◌≤◌, Option, inl, inr, ap, arith}
 use Rattle.std.proofs.lemmas.Bool.{cases_lt}
 use Rattle.std.proofs.lemmas.Nat.{pow_below}
-use Rattle.heap_tree.specs.Links.{AreLinked, HasRank, span}
+use Rattle.far_links.specs.Links.{AreLinked, HasRank, span}
 
 pub twice : (k : ℕ) → 2 ^ suc k ≡ 2 ^ k + 2 ^ k
 twice k = omega arith

@@ -1,0 +1,5 @@
+pub mod Walks
+pub mod Ranks
+pub mod Costs
+pub mod Growth
+pub mod Lists
