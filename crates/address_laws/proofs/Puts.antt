@@ -6,7 +6,7 @@ use Rattle.object_layout.specs.Cell.{Cell, Mark, IsBorn, IsObject, no_cell, with
 use Rattle.object_layout.specs.ChunkValue.{ChunkValue}
 use Rattle.object_layout.specs.Place.{cell_at, put_cell}
 use Rattle.object_layout.specs.Chunks.{cell_of, place_in, place_of, put_object}
-use Rattle.object_layout.specs.Graph.{IsHeld}
+use Rattle.object_layout.specs.Graph.{HasObjectAt}
 use Rattle.object_layout.proofs.PlaceLemmas as place
 use Rattle.object_layout.proofs.ChunkLaws as laws
 use Rattle.listed.proofs.Members.{In}
@@ -79,7 +79,7 @@ module _ (h : List ChunkValue) (x : Addr) (m : Mark) where
       ]
 
   -- what isn't to bear its birth name doesn't
-  pub mark_dead : (IsBorn m → ⊥) → IsHeld (put_object h x (with_mark (cell_of h x) m)) x → ⊥
+  pub mark_dead : (IsBorn m → ⊥) → HasObjectAt (put_object h x (with_mark (cell_of h x) m)) x → ⊥
   mark_dead d l =
       elim (put_cases h x (with_mark (cell_of h x) m)) [
         | inl p ↦ d (subst (λ (c : Cell). IsBorn c.mark) p l)
@@ -87,7 +87,7 @@ module _ (h : List ChunkValue) (x : Addr) (m : Mark) where
       ]
 
 -- what bears its birth name lies in a chunk
-pub live_chunk : (h : List ChunkValue) (a : Addr) → IsHeld h a → place_of h a.chunk < length h
+pub live_chunk : (h : List ChunkValue) (a : Addr) → HasObjectAt h a → place_of h a.chunk < length h
 live_chunk h a l = laws.chunk_of_object h a (laws.born_object h a l)
 
 -- ---- whether an address lies in a chunk of the heap

@@ -4,7 +4,7 @@ use Rattle.std.proofs.lemmas.Bool.{cases_Bool}
 use Rattle.object_layout.specs.declared.word.Addr.{Addr}
 use Rattle.object_layout.specs.Cell.{Cell, size_of}
 use Rattle.object_layout.specs.ChunkValue.{ChunkValue}
-use Rattle.object_layout.specs.Chunks.{cell_of, chunk_at, held_in, held_size, held_words, one_each, put_object, small_part, sum_in, sum_of}
+use Rattle.object_layout.specs.Chunks.{cell_of, chunk_at, object_words_in, held_size, held_words, one_each, put_object, small_part, sum_in, sum_of}
 use Rattle.object_layout.proofs.ChunkLaws.{length-put}
 use Rattle.object_layout.proofs.PlaceLemmas as place
 use Rattle.alloc_path.specs.PlaceLaws.{KeepsShape, WritesKeepCounts}
@@ -31,7 +31,7 @@ words_kept [] a c m s = refl
 words_kept (k ∷ ks) a c m s =
     elim (cases_Bool (eqb k.number a.chunk)) [
       | inl e ↦ let mark = rw e at m in let size = rw e at s in rw e (ap (λ n. n + held_words ks) (heap.held_in-put k.cells a.offset c (ap₂ held_size mark size)))
-      | inr e ↦ let mark = rw e at m in let size = rw e at s in rw e (ap (λ n. held_in k.cells + n) (words_kept ks a c mark size))
+      | inr e ↦ let mark = rw e at m in let size = rw e at s in rw e (ap (λ n. object_words_in k.cells + n) (words_kept ks a c mark size))
     ]
 
 sums_kept : (f : ℕ → ℕ) (ks : List ChunkValue) (a : Addr) (c : Cell) → c.mark ≡ (cell_of ks a).mark → size_of c ≡ size_of (cell_of ks a) → sum_of f (put_object ks a c) ≡ sum_of f ks

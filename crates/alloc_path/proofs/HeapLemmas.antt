@@ -11,8 +11,8 @@ use Rattle.object_layout.specs.declared.word.Header.{Header}
 use Rattle.object_layout.specs.Cell.{Born, Cell, Hole, IsObject, Mark, Moved, header_of, size_of}
 use Rattle.object_layout.specs.ChunkValue.{ChunkValue}
 use Rattle.object_layout.specs.Place.{cell_at, object_at, put_cell, words_in, IsObjectAt}
-use Rattle.object_layout.specs.Chunks.{cell_of, chunk_at, held_in, held_size, held_words, no_chunk, object_count, one_each, place_in, place_of, put_object, small_part, small_words, sum_in, sum_of, with_cell}
-use Rattle.alloc_path.specs.LeafHeapValue.{AreWithin, counted, LeafHeapValue, IsCurrent, IsFresh, IsKept, IsReserved, large_place, AreApart, place_for, room_at, small_place, units}
+use Rattle.object_layout.specs.Chunks.{cell_of, chunk_at, object_words_in, held_size, held_words, no_chunk, object_count, one_each, place_in, place_of, put_object, small_part, small_words, sum_in, sum_of, with_cell}
+use Rattle.alloc_path.specs.LeafHeapValue.{AreWithin, counted, LeafHeapValue, IsCurrent, IsFresh, AgreesWithChunks, IsReserved, large_place, AreApart, place_for, room_at, small_place, units}
 use Rattle.kept_pieces.specs.PiecesValue.{NotesChanges, PiecesValue, Shows, written}
 use Rattle.kept_pieces.proofs.PieceLists as lists
 use Rattle.object_layout.proofs.ChunkLaws as chunks
@@ -22,7 +22,7 @@ use Rattle.object_layout.proofs.PlaceLemmas.{words_in-push}
 
 -- ---- the words of objects
 
-pub held_in-put : (cs : List Cell) (at : ℕ) (d : Cell) → held_size d.mark (size_of d) ≡ held_size (cell_at cs at).mark (size_of (cell_at cs at)) → held_in (put_cell cs at d) ≡ held_in cs
+pub held_in-put : (cs : List Cell) (at : ℕ) (d : Cell) → held_size d.mark (size_of d) ≡ held_size (cell_at cs at).mark (size_of (cell_at cs at)) → object_words_in (put_cell cs at d) ≡ object_words_in cs
 held_in-put [] at d s = refl
 held_in-put (c ∷ cs) zero d s = rw s
 held_in-put (c ∷ cs) (suc n) d s =
@@ -33,12 +33,12 @@ held_in-put (c ∷ cs) (suc n) d s =
     rw (t, held_in-put cs (suc n - size_of c) d (rw t at s)))
     (cases_lt (suc n) (size_of c))
 
-pub held_in-push : (cs : List Cell) (d : Cell) → held_in (cs ++ d ∷ []) ≡ held_in cs + held_size d.mark (size_of d)
+pub held_in-push : (cs : List Cell) (d : Cell) → object_words_in (cs ++ d ∷ []) ≡ object_words_in cs + held_size d.mark (size_of d)
 held_in-push [] d = omega arith
 held_in-push (c ∷ cs) d = let ih = held_in-push cs d in omega arith
 
 pub held_words-set : (ks : List ChunkValue) (i : ℕ) (k : ChunkValue) (d : ChunkValue) → i < length ks →
-    held_words (set ks i k) + held_in (get_or ks i d).cells ≡ held_words ks + held_in k.cells
+    held_words (set ks i k) + object_words_in (get_or ks i d).cells ≡ held_words ks + object_words_in k.cells
 held_words-set [] i k d l = absurd (omega arith)
 held_words-set (x ∷ xs) zero k d l = omega arith
 held_words-set (x ∷ xs) (suc i) k d l = let ih = held_words-set xs i k d (omega arith) in omega arith
@@ -214,15 +214,15 @@ module _ (ks : List ChunkValue) (a : Addr) (i : ℕ) (k : ChunkValue) (o : IsObj
       let l = chunks.chunk_of_object ks a o in
       chunks.put_object-found ks a d k l ∙ ap (λ (n : ℕ). set ks n (with_cell (get_or ks n k) a.offset d)) (sym found) ∙ ap (λ (x : ChunkValue). set ks i (with_cell x a.offset d)) (sym read)
 
-  pub own_kept : (pieces : PiecesValue) (filled kept : Option ℕ) (count many part base : ℕ) (place : ℕ → Option ℕ) (entries : ℕ) → IsKept ks pieces filled kept count many part base place entries →
+  pub own_kept : (pieces : PiecesValue) (filled kept : Option ℕ) (count many part base : ℕ) (place : ℕ → Option ℕ) (entries : ℕ) → AgreesWithChunks ks pieces filled kept count many part base place entries →
       (d : Cell) → ((n : ℕ) → held_size d.mark n ≡ held_size (cell_at k.cells a.offset).mark n) → size_of d ≡ size_of (cell_at k.cells a.offset) →
       (left : PiecesValue) → Shows left (set ks i (with_cell k a.offset d)) →
-      IsKept (set ks i (with_cell k a.offset d)) left filled kept count many part base place entries
+      AgreesWithChunks (set ks i (with_cell k a.offset d)) left filled kept count many part base place entries
   own_kept pieces filled kept count many part base place entries h d s z left shown =
       let r = own_read no_chunk in
       let held = held_in-put k.cells a.offset d (s (size_of d) ∙ ap (held_size (cell_at k.cells a.offset).mark) z) in
       let sum = held_words-set ks i (with_cell k a.offset d) k own_in in
-      let same : held_in (get_or ks i k).cells ≡ held_in k.cells = ap (λ (x : ChunkValue). held_in x.cells) (sym read) in
+      let same : object_words_in (get_or ks i k).cells ≡ object_words_in k.cells = ap (λ (x : ChunkValue). object_words_in x.cells) (sym read) in
       let words : held_words (set ks i (with_cell k a.offset d)) ≡ held_words ks = omega arith in
       record {
         current = IsCurrent-set ks i (with_cell k a.offset d) (ap (λ (x : ChunkValue). x.size) r) filled h.current;
@@ -241,18 +241,18 @@ module _ (ks : List ChunkValue) (a : Addr) (i : ℕ) (k : ChunkValue) (o : IsObj
       }
 
   -- the chunk's piece goes
-  pub own_changed : (pieces : PiecesValue) (filled kept : Option ℕ) (count many part base : ℕ) (place : ℕ → Option ℕ) (entries : ℕ) → IsKept ks pieces filled kept count many part base place entries →
+  pub own_changed : (pieces : PiecesValue) (filled kept : Option ℕ) (count many part base : ℕ) (place : ℕ → Option ℕ) (entries : ℕ) → AgreesWithChunks ks pieces filled kept count many part base place entries →
       (d : Cell) → ((n : ℕ) → held_size d.mark n ≡ held_size (cell_at k.cells a.offset).mark n) → size_of d ≡ size_of (cell_at k.cells a.offset) →
       (left : PiecesValue) (m : ℕ) → m ≡ k.number → NotesChanges pieces left (m ∷ []) →
-      IsKept (set ks i (with_cell k a.offset d)) left filled kept count many part base place entries
+      AgreesWithChunks (set ks i (with_cell k a.offset d)) left filled kept count many part base place entries
   own_changed pieces filled kept count many part base place entries h d s z left m number noted =
       own_kept pieces filled kept count many part base place entries h d s z left (lists.changed pieces left ks i m (with_cell k a.offset d) k (ap (λ (x : ChunkValue). x.number) read) number noted h.shown)
 
   -- or stays, where the object is mutable before and after
-  pub own_written : (p : PiecesValue) (filled kept : Option ℕ) (count many part base : ℕ) (table : ℕ → Option ℕ) (entries : ℕ) → IsKept ks p filled kept count many part base table entries →
+  pub own_written : (p : PiecesValue) (filled kept : Option ℕ) (count many part base : ℕ) (table : ℕ → Option ℕ) (entries : ℕ) → AgreesWithChunks ks p filled kept count many part base table entries →
       (d : Cell) → d.mark ≡ (cell_at k.cells a.offset).mark → d.mutable ≡ (cell_at k.cells a.offset).mutable → size_of d ≡ size_of (cell_at k.cells a.offset) →
       (left : PiecesValue) (number : ℕ) → number ≡ k.number → (header : Header) → header ≡ header_of (object_at k.cells a.offset) → NotesChanges p left (written header.mutable number) →
-      IsKept (set ks i (with_cell k a.offset d)) left filled kept count many part base table entries
+      AgreesWithChunks (set ks i (with_cell k a.offset d)) left filled kept count many part base table entries
   own_written p filled kept count many part base table entries h d m u z left number same header kind noted =
       let there : IsObjectAt k.cells a.offset = subst (λ (c : Cell). IsObject c.mark) own_cell o in
       let is : object_at k.cells a.offset ≡ cell_at k.cells a.offset = place.object_is k.cells a.offset there in
@@ -297,7 +297,7 @@ module _ (h : LeafHeapValue) (w i : ℕ) (fits : place_for h w ≡ Some i) where
   fits_large l = large_cases h.reserved (rw (lt-leb w 1024 l) at fits)
 
 -- the chunk into which an object goes is in the list, and has room for it
-module _ (h : LeafHeapValue) (pieces : PiecesValue) (count many part base : ℕ) (place : ℕ → Option ℕ) (entries : ℕ) (keeps : IsKept h.chunks pieces h.current h.reserved count many part base place entries) where
+module _ (h : LeafHeapValue) (pieces : PiecesValue) (count many part base : ℕ) (place : ℕ → Option ℕ) (entries : ℕ) (keeps : AgreesWithChunks h.chunks pieces h.current h.reserved count many part base place entries) where
   pub current_in : (i : ℕ) → h.current ≡ Some i → (i < length h.chunks) × ((chunk_at h.chunks i).size ≡ 1024)
   current_in i e = rw e at keeps.current
 
@@ -328,7 +328,7 @@ module _ (h : LeafHeapValue) (pieces : PiecesValue) (count many part base : ℕ)
     pub placed_kept : (r : Option ℕ) → (size_of c ≤ 1024 → r ≡ h.reserved) → (1024 < size_of c → r ≡ None) →
         (n m p : ℕ) → n ≡ counted (count + size_of c) → m ≡ counted (many + 1) → p ≡ counted (part + small_part (size_of c)) →
         (left : PiecesValue) → Shows left (set h.chunks i (record k { cells = k.cells ++ c ∷ [] })) →
-        IsKept (set h.chunks i (record k { cells = k.cells ++ c ∷ [] })) left h.current r n m p base place entries
+        AgreesWithChunks (set h.chunks i (record k { cells = k.cells ++ c ∷ [] })) left h.current r n m p base place entries
     placed_kept r small large n m p e em ep left shown =
         let in' = fits_in (size_of c) i fits (omega arith) in
         let r' = get_or_read h.chunks i k in' read no_chunk in
@@ -336,7 +336,7 @@ module _ (h : LeafHeapValue) (pieces : PiecesValue) (count many part base : ℕ)
         let push = held_in-push k.cells c in
         let size = held (size_of c) in
         let sum = held_words-set h.chunks i (record k { cells = k.cells ++ c ∷ [] }) k in' in
-        let same : held_in (get_or h.chunks i k).cells ≡ held_in k.cells = ap (λ (x : ChunkValue). held_in x.cells) (sym read) in
+        let same : object_words_in (get_or h.chunks i k).cells ≡ object_words_in k.cells = ap (λ (x : ChunkValue). object_words_in x.cells) (sym read) in
         let words : held_words (set h.chunks i (record k { cells = k.cells ++ c ∷ [] })) ≡ held_words h.chunks + size_of c = omega arith in
         let was = keeps.words in
         record {
@@ -433,14 +433,14 @@ module _ (ks : List ChunkValue) (k : ChunkValue) where
 module _ (ks : List ChunkValue) (k : ChunkValue) (empty : k.cells ≡ []) where
   pushed_words : (n : ℕ) → n ≡ counted (held_words ks) → n ≡ counted (held_words (ks ++ k ∷ []))
   pushed_words n e =
-      let none : held_in k.cells ≡ 0 = ap held_in empty in
+      let none : object_words_in k.cells ≡ 0 = ap object_words_in empty in
       let sum : held_words (ks ++ k ∷ []) ≡ held_words ks = held_words-append ks (k ∷ []) ∙ omega arith in
       rw sum e
 
   within_push : AreWithin ks → AreWithin (ks ++ k ∷ [])
   within_push h = All-push (λ (x : ChunkValue). words_in x.cells ≤ x.size) ks k h (subst (λ (cs : List Cell). words_in cs ≤ k.size) (sym empty) (omega arith))
 
-  module _ (pieces : PiecesValue) (filled kept : Option ℕ) (count many part base : ℕ) (place new : ℕ → Option ℕ) (entries : ℕ) (keeps : IsKept ks pieces filled kept count many part base place entries) (fresh : IsFresh ks k.number)
+  module _ (pieces : PiecesValue) (filled kept : Option ℕ) (count many part base : ℕ) (place new : ℕ → Option ℕ) (entries : ℕ) (keeps : AgreesWithChunks ks pieces filled kept count many part base place entries) (fresh : IsFresh ks k.number)
       (writes : (q : ℕ) → new q ≡ cond (eqb k.number q) (Some (base - length ks)) (place q)) (left : PiecesValue) (shown : Shows left (ks ++ k ∷ [])) where
     table_push : (q : ℕ) → new q ≡ option_map (λ j. base - j) (place_in (ks ++ k ∷ []) q)
     table_push q =
@@ -455,7 +455,7 @@ module _ (ks : List ChunkValue) (k : ChunkValue) (empty : k.cells ≡ []) where
     moved_push : base ≤ 2 ^ 63 + length (ks ++ k ∷ [])
     moved_push = let m = keeps.moved in simp length-append (omega arith)
 
-    pub small_added : k.size ≡ 1024 → IsKept (ks ++ k ∷ []) left (Some (length ks)) kept count many part base new (entries + 1)
+    pub small_added : k.size ≡ 1024 → AgreesWithChunks (ks ++ k ∷ []) left (Some (length ks)) kept count many part base new (entries + 1)
     small_added s = record {
       current = (simp length-append (omega arith), rw (at_last ks k) s);
       reserved = IsReserved-push ks k kept keeps.reserved;
@@ -470,7 +470,7 @@ module _ (ks : List ChunkValue) (k : ChunkValue) (empty : k.cells ≡ []) where
       shown = shown;
     }
 
-    pub large_added : 1024 < k.size → IsKept (ks ++ k ∷ []) left filled (Some (length ks)) count many part base new (entries + 1)
+    pub large_added : 1024 < k.size → AgreesWithChunks (ks ++ k ∷ []) left filled (Some (length ks)) count many part base new (entries + 1)
     large_added s = record {
       current = IsCurrent-push ks k filled keeps.current;
       reserved = (simp length-append (omega arith), rw (at_last ks k) (s, empty));
@@ -530,7 +530,7 @@ apart_before (k ∷ ks) h (suc i) d l =
 pub counted_more : (a b : ℕ) → counted (counted a + b) ≡ counted (a + b)
 counted_more a b = omega arith
 
-pub held_more : (ks : List ChunkValue) (i : ℕ) (k : ChunkValue) → i < length ks → k ≡ get_or ks i k → held_words (take (i + 1) ks) ≡ held_words (take i ks) + held_in k.cells
+pub held_more : (ks : List ChunkValue) (i : ℕ) (k : ChunkValue) → i < length ks → k ≡ get_or ks i k → held_words (take (i + 1) ks) ≡ held_words (take i ks) + object_words_in k.cells
 held_more ks i k l read =
     let more = take_more ks i k l in
     rw (more, ← read, held_words-append (take i ks) (k ∷ [])) (omega arith)
@@ -634,7 +634,7 @@ module _ (xs ks : List ChunkValue) where
   IsReserved-behind b e None h = h
   IsReserved-behind b e (Some i) h = rw e (simp length-append (let l : i < length ks = h.0 in omega arith), rw (at_behind i) h.1)
 
-module _ (ls rs ks : List ChunkValue) (pieces : PiecesValue) (filled kept : Option ℕ) (a b n many part base : ℕ) (place : ℕ → Option ℕ) (entries : ℕ) (keeps : IsKept ks pieces filled kept n many part base place entries)
+module _ (ls rs ks : List ChunkValue) (pieces : PiecesValue) (filled kept : Option ℕ) (a b n many part base : ℕ) (place : ℕ → Option ℕ) (entries : ℕ) (keeps : AgreesWithChunks ks pieces filled kept n many part base place entries)
     (left : a ≡ counted (held_words ls)) (right : b ≡ counted (held_words rs)) (left_within : AreWithin ls) (right_within : AreWithin rs) where
   together : ls ++ (rs ++ ks) ≡ (ls ++ rs) ++ ks
   together = sym (append_assoc ls rs ks)
@@ -651,7 +651,7 @@ module _ (ls rs ks : List ChunkValue) (pieces : PiecesValue) (filled kept : Opti
       m ≡ entries + length rs + length ls → count ≡ counted (n + counted (a + b)) →
       (o p : ℕ) → o ≡ counted (object_count (ls ++ (rs ++ ks))) → p ≡ counted (small_words (ls ++ (rs ++ ks))) →
       (all : PiecesValue) → Shows all (ls ++ (rs ++ ks)) →
-      IsKept (ls ++ (rs ++ ks)) all (option_map (λ i. i + (length ls + length rs)) filled) (option_map (λ i. i + (length ls + length rs)) kept) count o p top new m
+      AgreesWithChunks (ls ++ (rs ++ ks)) all (option_map (λ i. i + (length ls + length rs)) filled) (option_map (λ i. i + (length ls + length rs)) kept) count o p top new m
   merged_kept half new m count top sum first second each words o p objects small all shown = record {
     current = rw together (IsCurrent-behind (ls ++ rs) ks (length ls + length rs) lengths filled keeps.current);
     reserved = rw together (IsReserved-behind (ls ++ rs) ks (length ls + length rs) lengths kept keeps.reserved);

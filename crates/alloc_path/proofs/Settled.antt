@@ -11,7 +11,7 @@ use Rattle.object_layout.specs.Chunks.{cell_of, chunk_at, no_chunk, put_object, 
 use Rattle.object_layout.proofs.ChunkLaws.{length-put, place_of-put}
 use Rattle.object_layout.proofs.PlaceLemmas.{All-put_cell}
 use Rattle.kept_pieces.specs.PiecesValue.{PiecesValue}
-use Rattle.alloc_path.specs.LeafHeapValue.{added, AreApart, AreTidy, LeafHeapValue, IsFresh, IsKept, IsSettled, IsTidy, place_for, units}
+use Rattle.alloc_path.specs.LeafHeapValue.{added, AreApart, AreTidy, LeafHeapValue, IsFresh, AgreesWithChunks, IsSettled, IsTidy, place_for, units}
 use Rattle.alloc_path.proofs.HeapLemmas as heap
 use Rattle.alloc_path.proofs.PlacedLaws as placed
 
@@ -121,7 +121,7 @@ size_within : (cs : List Cell) (n : ℕ) → words_in cs ≤ n → All (λ (c : 
 size_within [] n l = All-nil (λ (c : Cell). size_of c ≤ n)
 size_within (c ∷ cs) n l = All-cons (λ (d : Cell). size_of d ≤ n) c cs (omega arith) (size_within cs n (omega arith))
 
-module _ (h : LeafHeapValue) (pieces : PiecesValue) (count many part base : ℕ) (place : ℕ → Option ℕ) (entries : ℕ) (keeps : IsKept h.chunks pieces h.current h.reserved count many part base place entries) (i : ℕ) (c : Cell)
+module _ (h : LeafHeapValue) (pieces : PiecesValue) (count many part base : ℕ) (place : ℕ → Option ℕ) (entries : ℕ) (keeps : AgreesWithChunks h.chunks pieces h.current h.reserved count many part base place entries) (i : ℕ) (c : Cell)
     (fits : place_for h (size_of c) ≡ Some i) (unmoved : moved_to c.mark ≡ None) where
   some : 0 < size_of c
   some = omega arith

@@ -99,7 +99,7 @@ AreWithin ks = All (λ k. words_in k.cells ≤ k.size) ks
 
 -- the table has how far each chunk stands before a base, and nothing else, all words lie inside their chunks, the counts are those of the words, of the objects, and
 -- of the words of small objects, and the pieces that are kept show what their chunks hold
-pub record IsKept (chunks : List ChunkValue) (pieces : PiecesValue) (filled kept : Option ℕ) (count many part base : ℕ) (place : ℕ → Option ℕ) (entries : ℕ) : Type 0 where
+pub record AgreesWithChunks (chunks : List ChunkValue) (pieces : PiecesValue) (filled kept : Option ℕ) (count many part base : ℕ) (place : ℕ → Option ℕ) (entries : ℕ) : Type 0 where
   pub current : IsCurrent chunks filled
   pub reserved : IsReserved chunks kept
   pub within : AreWithin chunks

@@ -2,7 +2,7 @@
 
 ghost use Rattle.std.specs.Prelude.{◌≡◌, ◌≤◌};
 ghost use Rattle.object_layout.specs.Place.{words_in};
-ghost use Rattle.object_layout.specs.Chunks.{held_in, one_each, small_part, sum_in};
+ghost use Rattle.object_layout.specs.Chunks.{object_words_in, one_each, small_part, sum_in};
 ghost use Rattle.alloc_path.specs.Counted.{AreCounted};
 
 use super::space::SMALL;
@@ -45,7 +45,7 @@ pub fn counts_of(chunks: &[Chunk]) -> Counts
 
 // What all objects of a chunk come to.
 fn counts_in(chunk: &Chunk) -> Counts
-    ensures words { result.words ≡ held_in chunk.now.cells }
+    ensures words { result.words ≡ object_words_in chunk.now.cells }
     ensures objects { result.objects ≡ sum_in one_each chunk.now.cells }
     ensures small { result.small ≡ sum_in small_part chunk.now.cells }
     ensures within { words_in chunk.now.cells ≤ chunk.now.size }

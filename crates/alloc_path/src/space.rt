@@ -52,7 +52,7 @@ pub struct Space {
 }
 
 impl Model for Space {
-    ghost use Rattle.alloc_path.specs.LeafHeapValue.{LeafHeapValue, IsKept};
+    ghost use Rattle.alloc_path.specs.LeafHeapValue.{LeafHeapValue, AgreesWithChunks};
     ghost use Rattle.std.specs.Prelude.{nat_eq};
     ghost use Rattle.std.specs.HashMap.{get, hash_map_len, spare};
 
@@ -60,7 +60,7 @@ impl Model for Space {
 
     ghost view = { λ h. record { chunks = h.chunks.items; current = h.current; reserved = h.reserved; since = h.since; slots = h.chunks.places; spare = spare h.table } };
 
-    ghost invariant = { λ h. IsKept h.chunks.items h.pieces h.current h.reserved h.words h.objects h.small h.base (get nat_eq h.table) (hash_map_len h.table) };
+    ghost invariant = { λ h. AgreesWithChunks h.chunks.items h.pieces h.current h.reserved h.words h.objects h.small h.base (get nat_eq h.table) (hash_map_len h.table) };
 }
 
 impl Space {

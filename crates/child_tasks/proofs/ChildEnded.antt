@@ -6,7 +6,7 @@ use Rattle.std.proofs.lemmas.Option.{same_Some}
 use Rattle.listed.proofs.Members.{got_other, got_same}
 use Rattle.listed.specs.RoomyValue.{RoomyValue}
 use Rattle.listed.proofs.Places.{got_set}
-use Rattle.hh_model.specs.declared.data.State.{State as MachineState}
+use Rattle.hh_model.specs.declared.data.State.{State}
 use Rattle.hh_model.specs.declared.data.Task.{Task}
 use Rattle.hh_model.specs.Step.{child_ended_by, ended_task, is_running, parent_of, parents, result_of, with_task}
 use Rattle.path_laws.proofs.Leaves.{waiting_stops}
@@ -29,7 +29,7 @@ use Rattle.core_relation.proofs.changes.With.{at_home, off_home}
 use Rattle.core_entry_laws.proofs.parts.Workers.{ran_leaves}
 use Rattle.task_machine.specs.declared.part.Private.{Private}
 use Rattle.task_homes.specs.declared.task_at_rest.Rest.{Rest}
-use Rattle.shared_value.specs.SharedValue.{SharedValue, accounts, home_in, home_of, rest_at, totals_of, value_of}
+use Rattle.shared_value.specs.SharedValue.{SharedValue, accounts, home_in, home_of, rest_at, tree_counts_of, value_of}
 use Rattle.shared_value.specs.Measured.{AreMeasured, RestsAreMeasured}
 use Rattle.shared_value.specs.Stands.{HeapForm, IsSharedValue}
 use Rattle.shared_value.specs.Fits.{Fits, OthersFit, home_of_part, part_of}
@@ -78,7 +78,7 @@ module _ (w : SharedValue) (k : ℕ) (p : Private) (I : IsSharedValue w) (F : Fi
   abbrev z : Task
   z = ended_task S.task (result_of S.task.top)
 
-  abbrev m' : MachineState
+  abbrev m' : State
   m' = with_task M.machine t z
 
   machine_is : L.machine ≡ m'
@@ -87,10 +87,10 @@ module _ (w : SharedValue) (k : ℕ) (p : Private) (I : IsSharedValue w) (F : Fi
       ∙ (steps.step_is w k p I F at_end free ∙ ap (child_ended_by M.machine t S.task q (result_of S.task.top)) (steps.other_open w k p I F at_end free open_))
 
   at_then : slice_get L.machine.tasks t ≡ Some z
-  at_then = ap (λ (m : MachineState). slice_get m.tasks t) machine_is ∙ got_same M.machine.tasks t S.task z S.at.task
+  at_then = ap (λ (m : State). slice_get m.tasks t) machine_is ∙ got_same M.machine.tasks t S.task z S.at.task
 
   goes_then : L.machine.end ≡ None
-  goes_then = ap (λ (m : MachineState). m.end) machine_is ∙ last.mid_goes w k p I F shared free_last
+  goes_then = ap (λ (m : State). m.end) machine_is ∙ last.mid_goes w k p I F shared free_last
 
   D : EndsFirst M L t S.task
   D = ends w.program M L t S.task S.line (last.is_not_private w k p I F shared free_last) (steps.says w k p I F at_end free).0 z at_then goes_then refl S.kind S.last
@@ -102,14 +102,14 @@ module _ (w : SharedValue) (k : ℕ) (p : Private) (I : IsSharedValue w) (F : Fi
   abbrev own : FitsValue w.program w.settings (part_for w.settings t h p.fresh) v l
   own = F.fits
 
-  S0 : StandsFor v (totals_of w) l
+  S0 : StandsFor v (tree_counts_of w) l
   S0 = stands_now w I (steps.on w k p I F at_end free)
 
   -- the parent waits on
   parent_then : running_parent L.machine.tasks t ≡ None
   parent_then =
       let par : parents L.machine.tasks t ≡ Some q = ap parent_of at_then ∙ steps.parent_is w k p I F at_end free in
-      let same : slice_get L.machine.tasks q ≡ slice_get M.machine.tasks q = ap (λ (m : MachineState). slice_get m.tasks q) machine_is ∙ got_other M.machine.tasks t q z (steps.parent_apart w k p I F at_end free) in
+      let same : slice_get L.machine.tasks q ≡ slice_get M.machine.tasks q = ap (λ (m : State). slice_get m.tasks q) machine_is ∙ got_other M.machine.tasks t q z (steps.parent_apart w k p I F at_end free) in
       let stops : is_running (slice_get L.machine.tasks q) ≡ false = ap is_running same ∙ waiting_stops (slice_get M.machine.tasks q) (steps.parent_waits w k p I F at_end free) in
       ap (where_running L.machine.tasks) par ∙ ap (λ b. if b then Some q else None) stops
 
@@ -120,7 +120,7 @@ module _ (w : SharedValue) (k : ℕ) (p : Private) (I : IsSharedValue w) (F : Fi
   pub has_node : t < length w.tree
   has_node = steps.own_made w k p I F at_end free
 
-  pub has_home : t < length w.homes
+  pub has_home : t < length w.rests
   has_home = subst (λ n. t < n) (sym I.made) has_node
 
   abbrev vt : Memory
@@ -133,8 +133,8 @@ module _ (w : SharedValue) (k : ℕ) (p : Private) (I : IsSharedValue w) (F : Fi
     abbrev tree : List Node
     tree = with_state w.tree t Ended
 
-    abbrev homes : List (Option Rest)
-    homes = slice_set w.homes t (Some rest)
+    abbrev rests : List (Option Rest)
+    rests = slice_set w.rests t (Some rest)
 
     abbrev tasks_out : List (Option ℕ)
     tasks_out = slice_set w.tasks_out k None
@@ -143,16 +143,16 @@ module _ (w : SharedValue) (k : ℕ) (p : Private) (I : IsSharedValue w) (F : Fi
     all_steps = w.steps + suc p.fresh
 
     abbrev w' : SharedValue
-    w' = entered w (last_event k p) tree w.pool homes w.sets tasks_out w.outputs all_steps w.end j.room
+    w' = entered w (last_event k p) tree w.pool rests w.sets tasks_out w.outputs all_steps w.end j.room
 
     abbrev v' : Memory
     v' = value_of w'
 
-    rest_now : rest_at homes t ≡ Some rest
-    rest_now = ap option_flatten (got_set w.homes t (Some rest) has_home)
+    rest_now : rest_at rests t ≡ Some rest
+    rest_now = ap option_flatten (got_set w.rests t (Some rest) has_home)
 
-    rest_off : (u : ℕ) → (u ≡ t → ⊥) → rest_at homes u ≡ rest_at w.homes u
-    rest_off u ne = ap option_flatten (got_other w.homes t u (Some rest) ne)
+    rest_off : (u : ℕ) → (u ≡ t → ⊥) → rest_at rests u ≡ rest_at w.rests u
+    rest_off u ne = ap option_flatten (got_other w.rests t u (Some rest) ne)
 
     home_now : v'.homes t ≡ home_of rest
     home_now = ap home_in rest_now
@@ -175,7 +175,7 @@ module _ (w : SharedValue) (k : ℕ) (p : Private) (I : IsSharedValue w) (F : Fi
     notes : OthersNotes vt v' t
     notes = record { none = S0.keeps t ∙ ap (λ b. b && not (heap_of l t).swept) (last.idle w k p I F shared free_last); others = λ u ne. record { keeps = refl; kept = refl; marked = refl } }
 
-    counts : RanCounts w.program (totals_of w) (totals_of w') M L t k p.fresh S.task S.line Ending D
+    counts : RanCounts w.program (tree_counts_of w) (tree_counts_of w') M L t k p.fresh S.task S.line Ending D
     counts = record {
       tree = record { node = node_by w.tree t Ended (slice_get w.tree t) refl; others = λ u ne. node_off w.tree t Ended (slice_get w.tree t) u ne };
       task_out = record { task_out = ap option_flatten (got_set w.tasks_out k None (worker_there w (last_event k p) I free_last)); others = λ u ne. ap option_flatten (got_other w.tasks_out k u None ne) };
@@ -185,22 +185,22 @@ module _ (w : SharedValue) (k : ℕ) (p : Private) (I : IsSharedValue w) (F : Fi
       steps = refl;
     }
 
-    heaps_then : (u : ℕ) (r : Rest) → rest_at homes u ≡ Some r → HeapForm r.heap
+    heaps_then : (u : ℕ) (r : Rest) → rest_at rests u ≡ Some r → HeapForm r.heap
     heaps_then u r is = elim (cases_eq u t) [
-      | inl e ↦ subst (λ (i : Rest). HeapForm i.heap) (same_Some rest r (sym rest_now ∙ (ap (rest_at homes) (sym e) ∙ is))) F.form
+      | inl e ↦ subst (λ (i : Rest). HeapForm i.heap) (same_Some rest r (sym rest_now ∙ (ap (rest_at rests) (sym e) ∙ is))) F.form
       | inr ne ↦ I.heaps u r (sym (rest_off u ne) ∙ is)
     ]
 
-    measured_then : RestsAreMeasured w.pool homes tasks_out
+    measured_then : RestsAreMeasured w.pool rests tasks_out
     measured_then u r is f = elim (cases_eq u t) [
-      | inl q ↦ subst (λ z. AreMeasured w.pool z r.heap.chunks) (sym q) (subst (λ (z : Rest). AreMeasured w.pool t z.heap.chunks) (same_Some rest r (sym rest_now ∙ (ap (rest_at homes) (sym q) ∙ is))) F.measured.0)
+      | inl q ↦ subst (λ z. AreMeasured w.pool z r.heap.chunks) (sym q) (subst (λ (z : Rest). AreMeasured w.pool t z.heap.chunks) (same_Some rest r (sym rest_now ∙ (ap (rest_at rests) (sym q) ∙ is))) F.measured.0)
       | inr ne ↦ I.measured u r (sym (rest_off u ne) ∙ is) (unheld_before w.tasks_out k None u f (λ h. ne (same_Some u t (sym h ∙ task_is_out w k p I (steps.on w k p I F at_end free) F))))
     ]
 
     ended_world : IsSharedValue w'
     ended_world =
-        entered_world w (last_event k p) I free_last tree w.pool homes w.sets tasks_out w.outputs all_steps w.end j.room (length-set w.homes t (Some rest) ∙ (I.made ∙ sym (made_by w.tree t Ended (slice_get w.tree t)))) (I.noted ∙ sym (made_by w.tree t Ended (slice_get w.tree t))) (length-set w.tasks_out k None) refl
-        (ran_stands_for w.program w.settings w.journal.items I.form I.legal v v' (totals_of w) (totals_of w') k t p.fresh h free_last E I.stands own (p.frames.top, p.frames.below, ends_home) notes counts)
+        entered_world w (last_event k p) I free_last tree w.pool rests w.sets tasks_out w.outputs all_steps w.end j.room (length-set w.rests t (Some rest) ∙ (I.made ∙ sym (made_by w.tree t Ended (slice_get w.tree t)))) (I.noted ∙ sym (made_by w.tree t Ended (slice_get w.tree t))) (length-set w.tasks_out k None) refl
+        (ran_stands_for w.program w.settings w.journal.items I.form I.legal v v' (tree_counts_of w) (tree_counts_of w') k t p.fresh h free_last E I.stands own (p.frames.top, p.frames.below, ends_home) notes counts)
         heaps_then measured_then
 
     ended_goes : (accounts w').end ≡ None
@@ -208,12 +208,12 @@ module _ (w : SharedValue) (k : ℕ) (p : Private) (I : IsSharedValue w) (F : Fi
 
     ended_resumed : None ≡ running_parent (accounts w').machine.tasks t
     ended_resumed =
-        sym (ap (λ (i : Ledger). running_parent i.machine.tasks t) (accounts_are w (last_event k p) I free_last tree w.pool homes w.sets tasks_out w.outputs all_steps w.end j.room) ∙ parent_then)
+        sym (ap (λ (i : Ledger). running_parent i.machine.tasks t) (accounts_are w (last_event k p) I free_last tree w.pool rests w.sets tasks_out w.outputs all_steps w.end j.room) ∙ parent_then)
 
     -- THE PARTS OF OTHERS
     ended_others : OthersFit w w' k
     ended_others u r ne G =
-        part_fits w (last_event k p) I free_last tree w.pool homes w.sets tasks_out w.outputs all_steps w.end j.room ended_world u r r (ap option_flatten (got_other w.tasks_out k u None ne)) G refl refl refl G.form G.measured
+        part_fits w (last_event k p) I free_last tree w.pool rests w.sets tasks_out w.outputs all_steps w.end j.room ended_world u r r (ap option_flatten (got_other w.tasks_out k u None ne)) G refl refl refl G.form G.measured
         (ran_leaves w.program w.settings v v' l L t k p.fresh h E own (p.frames.top, p.frames.below, ends_home) (part_of w.settings r) (held_apart w k u p r F G ne) G.fits)
 
     -- ---- AS THE CALL HAS IT
@@ -221,11 +221,11 @@ module _ (w : SharedValue) (k : ℕ) (p : Private) (I : IsSharedValue w) (F : Fi
     more = omega arith
 
     abbrev pub ended_alone : SharedValue
-    ended_alone = record w { tree = tree; homes = homes; tasks_out = tasks_out; steps = w.steps + (p.fresh + 1); journal = record { items = w.journal.items ++ alone_event k p ∷ []; room = j.room } }
+    ended_alone = record w { tree = tree; rests = rests; tasks_out = tasks_out; steps = w.steps + (p.fresh + 1); journal = record { items = w.journal.items ++ alone_event k p ∷ []; room = j.room } }
 
     ended_is : w' ≡ ended_alone
     ended_is =
-        ap (λ n. let i : SharedValue = record w { tree = tree; homes = homes; tasks_out = tasks_out; steps = w.steps + n; journal = record { items = w.journal.items ++ record { worker = k; kind = Ran p.task n } ∷ []; room = j.room } } in i) more
+        ap (λ n. let i : SharedValue = record w { tree = tree; rests = rests; tasks_out = tasks_out; steps = w.steps + n; journal = record { items = w.journal.items ++ record { worker = k; kind = Ran p.task n } ∷ []; room = j.room } } in i) more
 
     pub alone_world : IsSharedValue ended_alone
     alone_world = subst IsSharedValue ended_is ended_world

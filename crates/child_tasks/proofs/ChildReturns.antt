@@ -7,14 +7,14 @@ use Rattle.listed.proofs.Options.{none_some}
 use Rattle.hh_lang.specs.declared.instr.Instr.{Instr}
 use Rattle.hh_lang.specs.declared.instr.Instr.TheVariants.{Ret}
 use Rattle.hh_lang.specs.declared.program.Line.{Line}
-use Rattle.hh_model.specs.declared.data.Frame.{Frame as Framed}
+use Rattle.hh_model.specs.declared.data.Frame.{Frame}
 use Rattle.hh_model.specs.declared.data.Name.{Name}
 use Rattle.hh_model.specs.declared.data.State.{State as MachineState}
 use Rattle.hh_model.specs.declared.data.Status.{Status}
 use Rattle.hh_model.specs.declared.data.Status.TheVariants.{Running, Waiting as WaitingOf, Ended as EndedWith, Joined as JoinedOf}
 use Rattle.hh_model.specs.declared.data.Task.{Task}
 use Rattle.hh_model.specs.Effect.{effect}
-use Rattle.hh_model.specs.Step.{child_ended_by, fetched, follow, is_joined, is_left, is_over, is_waiting, kept_by, last_of, last_return, parent_of, parents, result_in, result_of, returned_to, setting, sibling, step}
+use Rattle.hh_model.specs.Step.{child_ended_by, fetched, follow, is_joined, is_left, is_over, is_waiting, result_at, last_of, last_return, parent_of, parents, result_in, result_of, returned_to, setting, sibling, step}
 use Rattle.hh_model.specs.Tree.{TreeOf}
 use Rattle.run_ledger.specs.declared.data.Ledger.{Ledger}
 use Rattle.run_ledger.specs.Heaps.{heap_of}
@@ -48,7 +48,7 @@ last_open : (x : Task) (i : Instr) (b : Bool) → is_last x i ≡ true → (not 
 last_open x Ret b e = ap (λ c. not c && b) (and_parts (has_no_caller x.below) (is_some x.parent) e).0
 last_open x _ b e = absurd cc
 
-lone_is : (fs : List Framed) → has_no_caller fs ≡ true → fs ≡ []
+lone_is : (fs : List Frame) → has_no_caller fs ≡ true → fs ≡ []
 lone_is [] e = refl
 lone_is (f ∷ fs) e = absurd (false≢true e)
 
@@ -93,7 +93,7 @@ abbrev state_in : Option Node → Option State
 state_in o = option_map (λ (n : Node). n.state) o
 
 node_tells : (k : Option ℕ) (n : Option Node) (o : Option Task) → n ≡ option_map (as_node k) o
-    → (state_in n ≡ Some Ended → (r : ℤ × Option Name) × (kept_by o ≡ Some r)) × ((state_in n ≡ Some Ended → ⊥) → kept_by o ≡ None)
+    → (state_in n ≡ Some Ended → (r : ℤ × Option Name) × (result_at o ≡ Some r)) × ((state_in n ≡ Some Ended → ⊥) → result_at o ≡ None)
 node_tells k None None e = ((λ q. none_some q), (λ n. refl))
 node_tells k None (Some x) e = none_some e
 node_tells k (Some n) None e = none_some (sym e)
@@ -200,20 +200,20 @@ module _ (w : SharedValue) (k : ℕ) (p : Private) (I : IsSharedValue w) (F : Fi
   other_same : slice_get M.machine.tasks other ≡ slice_get l.machine.tasks other
   other_same = A.others other other_apart
 
-  pub other_ended : state_in_tree w.tree other ≡ Some Ended → (r : ℤ × Option Name) × (kept_by (slice_get M.machine.tasks other) ≡ Some r)
+  pub other_ended : state_in_tree w.tree other ≡ Some Ended → (r : ℤ × Option Name) × (result_at (slice_get M.machine.tasks other) ≡ Some r)
   other_ended e =
-      let n = node_tells (heap_of l other).worker (slice_get w.tree other) (slice_get l.machine.tasks other) ((stands_now w I on).totals.node other) in
+      let n = node_tells (heap_of l other).worker (slice_get w.tree other) (slice_get l.machine.tasks other) ((stands_now w I on).tree_counts.node other) in
       let r = n.0 e in
-      (r.0, ap kept_by other_same ∙ r.1)
+      (r.0, ap result_at other_same ∙ r.1)
 
-  pub other_open : (state_in_tree w.tree other ≡ Some Ended → ⊥) → kept_by (slice_get M.machine.tasks other) ≡ None
+  pub other_open : (state_in_tree w.tree other ≡ Some Ended → ⊥) → result_at (slice_get M.machine.tasks other) ≡ None
   other_open never =
-      let n = node_tells (heap_of l other).worker (slice_get w.tree other) (slice_get l.machine.tasks other) ((stands_now w I on).totals.node other) in
-      ap kept_by other_same ∙ n.1 never
+      let n = node_tells (heap_of l other).worker (slice_get w.tree other) (slice_get l.machine.tasks other) ((stands_now w I on).tree_counts.node other) in
+      ap result_at other_same ∙ n.1 never
 
   -- the machine after the step
-  pub step_is : step w.program M.machine t ≡ child_ended_by M.machine t S.task parent (result_of S.task.top) (kept_by (slice_get M.machine.tasks other))
+  pub step_is : step w.program M.machine t ≡ child_ended_by M.machine t S.task parent (result_of S.task.top) (result_at (slice_get M.machine.tasks other))
   step_is =
       last.taken w k p I F shared free_last
       ∙ (ap (λ (i : Instr). follow M.machine t S.task S.line.number (effect (setting M.machine t S.task) S.task.top M.machine.store i)) says.0
-      ∙ (ap (λ (fs : List Framed). returned_to M.machine t S.task (last_of fs)) says.1 ∙ ap (last_return M.machine t S.task) parent_is))
+      ∙ (ap (λ (fs : List Frame). returned_to M.machine t S.task (last_of fs)) says.1 ∙ ap (last_return M.machine t S.task) parent_is))

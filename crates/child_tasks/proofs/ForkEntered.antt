@@ -8,7 +8,7 @@ use Rattle.listed.specs.RoomyValue.{RoomyValue}
 use Rattle.listed.proofs.Places.{got_set, got_some}
 use Rattle.hh_lang.specs.declared.instr.Instr.{Instr}
 use Rattle.hh_lang.specs.declared.instr.Instr.TheVariants.{Par}
-use Rattle.hh_model.specs.declared.data.State.{State as MachineState}
+use Rattle.hh_model.specs.declared.data.State.{State}
 use Rattle.hh_model.specs.declared.data.Status.TheVariants.{Waiting as WaitingOf}
 use Rattle.hh_model.specs.declared.data.Task.{Task}
 use Rattle.hh_model.specs.Effect.{onward}
@@ -40,7 +40,7 @@ use Rattle.task_machine.specs.declared.part.Private.{Private}
 use Rattle.task_homes.specs.declared.task_at_rest.Rest.{Rest}
 use Rattle.task_homes.specs.HomesValue.{keeping}
 use Rattle.shared_value.specs.Objects.{levels_of}
-use Rattle.shared_value.specs.SharedValue.{SharedValue, marks_at, accounts, home_in, home_of, noted_in, rest_at, totals_of, value_of}
+use Rattle.shared_value.specs.SharedValue.{SharedValue, marks_at, accounts, home_in, home_of, noted_in, rest_at, tree_counts_of, value_of}
 use Rattle.shared_value.specs.Measured.{AreMeasured, RestsAreMeasured}
 use Rattle.shared_value.specs.Stands.{HeapForm, IsSharedValue}
 use Rattle.shared_value.specs.Fits.{Fits, OthersFit, home_of_part, part_of}
@@ -55,7 +55,7 @@ use Rattle.shared_value.proofs.TaskTaken.{made_by, node_by, node_off, worker_the
 use Rattle.own_steps.specs.Alone.{IsShared, alone_event}
 use Rattle.own_steps.proofs.LastStepEntry as last
 use Rattle.own_steps.proofs.LastStepEntry.{last_event}
-use Rattle.child_tasks.specs.Forks.{ForksTo, HomesFork, IsAtFork, SetsFork, waiting_rest}
+use Rattle.child_tasks.specs.Forks.{ForksTo, RestsFork, IsAtFork, SetsFork, waiting_rest}
 use Rattle.child_tasks.proofs.NextStepForks as steps
 use Rattle.child_tasks.proofs.LastForkKinds.{forks}
 use Rattle.child_tasks.proofs.RootsListed.{roots_are}
@@ -109,7 +109,7 @@ module _ (w : SharedValue) (k : ℕ) (p : Private) (I : IsSharedValue w) (F : Fi
   abbrev y : Task
   y = record S.task { status = WaitingOf; top = onward S.task.top }
 
-  abbrev m' : MachineState
+  abbrev m' : State
   m' = record M.machine {
     tasks = slice_set M.machine.tasks t y ++ child t (S.task.depth + 1) left S.task.top ∷ child t (S.task.depth + 1) right S.task.top ∷ [];
     store = M.machine.store ++ [] ∷ [] ∷ [];
@@ -123,10 +123,10 @@ module _ (w : SharedValue) (k : ℕ) (p : Private) (I : IsSharedValue w) (F : Fi
       ∙ (steps.forked_so w k p I F at_fork free left right number B ∙ cond-true (nat_lt S.task.depth depth_limit) m' _ (lt-ltb S.task.depth 1000 lt))
 
   at_then : slice_get L.machine.tasks t ≡ Some y
-  at_then = ap (λ (m : MachineState). slice_get m.tasks t) machine_is ∙ grown_at M.machine.tasks t S.task y (child t (S.task.depth + 1) left S.task.top) (child t (S.task.depth + 1) right S.task.top) S.at.task
+  at_then = ap (λ (m : State). slice_get m.tasks t) machine_is ∙ grown_at M.machine.tasks t S.task y (child t (S.task.depth + 1) left S.task.top) (child t (S.task.depth + 1) right S.task.top) S.at.task
 
   goes_then : L.machine.end ≡ None
-  goes_then = ap (λ (m : MachineState). m.end) machine_is ∙ last.mid_goes w k p I F shared free_last
+  goes_then = ap (λ (m : State). m.end) machine_is ∙ last.mid_goes w k p I F shared free_last
 
   Q : ForksOn M L t S.task S.line
   Q =
@@ -149,7 +149,7 @@ module _ (w : SharedValue) (k : ℕ) (p : Private) (I : IsSharedValue w) (F : Fi
   pub made_is : a ≡ length w.tree
   made_is = steps.then_long w k p I F at_fork free ∙ sym (steps.tree_long w I (steps.on w k p I F at_fork free))
 
-  home_is : a ≡ length w.homes
+  home_is : a ≡ length w.rests
   home_is = made_is ∙ sym I.made
 
   set_is : a ≡ length w.sets
@@ -164,7 +164,7 @@ module _ (w : SharedValue) (k : ℕ) (p : Private) (I : IsSharedValue w) (F : Fi
   here : vt.homes t ≡ h
   here = at_home v t h
 
-  module _ (homes : List (Option Rest)) (sets : List SetOf) (H : HomesFork w.homes homes p left right) (N : SetsFork w.sets sets t) (marks : List (Option MarkingValue)) (unmarked : (u : ℕ) → marks_at marks u ≡ marks_at (slice_set w.marks t None) u) (j : RoomyValue EntryValue) where
+  module _ (rests : List (Option Rest)) (sets : List SetOf) (H : RestsFork w.rests rests p left right) (N : SetsFork w.sets sets t) (marks : List (Option MarkingValue)) (unmarked : (u : ℕ) → marks_at marks u ≡ marks_at (slice_set w.marks t None) u) (j : RoomyValue EntryValue) where
     abbrev tree : List Node
     tree = forked w.tree t
 
@@ -175,7 +175,7 @@ module _ (w : SharedValue) (k : ℕ) (p : Private) (I : IsSharedValue w) (F : Fi
     all_steps = w.steps + suc p.fresh
 
     abbrev pub w' : SharedValue
-    w' = entered_marks w (last_event k p) tree w.pool homes sets tasks_out w.outputs all_steps w.end j.room marks
+    w' = entered_marks w (last_event k p) tree w.pool rests sets tasks_out w.outputs all_steps w.end j.room marks
 
     abbrev v' : Memory
     v' = value_of w'
@@ -264,7 +264,7 @@ module _ (w : SharedValue) (k : ℕ) (p : Private) (I : IsSharedValue w) (F : Fi
           got_past tree u (omega (arith, le, na, nb, e, n)) ∙ sym (got_past w.tree u le)
     ]
 
-    nodes_fork : NodesFork (totals_of w) (totals_of w') t a (a + 1)
+    nodes_fork : NodesFork (tree_counts_of w) (tree_counts_of w') t a (a + 1)
     nodes_fork = record {
       parent = node_front t has_node ∙ node_by w.tree t Waiting (slice_get w.tree t) refl;
       left = ap (slice_get tree) (let e : a ≡ length w.tree + 0 = omega (arith, made_is) in e) ∙ child_node 0;
@@ -272,7 +272,7 @@ module _ (w : SharedValue) (k : ℕ) (p : Private) (I : IsSharedValue w) (F : Fi
       others = node_other;
     }
 
-    counts : RanCounts w.program (totals_of w) (totals_of w') M L t k p.fresh S.task S.line Forking Q
+    counts : RanCounts w.program (tree_counts_of w) (tree_counts_of w') M L t k p.fresh S.task S.line Forking Q
     counts = record {
       tree = nodes_fork;
       task_out = record { task_out = ap option_flatten (got_set w.tasks_out k None (worker_there w (last_event k p) I free_last)); others = λ u ne. ap option_flatten (got_other w.tasks_out k u None ne) };
@@ -282,31 +282,31 @@ module _ (w : SharedValue) (k : ℕ) (p : Private) (I : IsSharedValue w) (F : Fi
       steps = refl;
     }
 
-    heap_at : (u : ℕ) (r q : Rest) → rest_at homes u ≡ Some r → rest_at homes u ≡ Some q → HeapForm q.heap → HeapForm r.heap
+    heap_at : (u : ℕ) (r q : Rest) → rest_at rests u ≡ Some r → rest_at rests u ≡ Some q → HeapForm q.heap → HeapForm r.heap
     heap_at u r q is that form = subst (λ (z : Rest). HeapForm z.heap) (same_Some q r (sym that ∙ is)) form
 
-    heaps_then : (u : ℕ) (r : Rest) → rest_at homes u ≡ Some r → HeapForm r.heap
+    heaps_then : (u : ℕ) (r : Rest) → rest_at rests u ≡ Some r → HeapForm r.heap
     heaps_then u r is = elim (cases_eq u t) [
-      | inl e ↦ heap_at t r (waiting_rest p) (ap (rest_at homes) (sym e) ∙ is) H.parent F.form
-      | inr nt ↦ elim (cases_eq u (length w.homes)) [
-        | inl e ↦ heap_at (length w.homes) r _ (ap (rest_at homes) (sym e) ∙ is) H.left_home.2 (empty_form H.left_home.0 H.left_home.1)
-        | inr na ↦ elim (cases_eq u (length w.homes + 1)) [
-          | inl e ↦ heap_at (length w.homes + 1) r _ (ap (rest_at homes) (sym e) ∙ is) H.right_home.2 (empty_form H.right_home.0 H.right_home.1)
+      | inl e ↦ heap_at t r (waiting_rest p) (ap (rest_at rests) (sym e) ∙ is) H.parent F.form
+      | inr nt ↦ elim (cases_eq u (length w.rests)) [
+        | inl e ↦ heap_at (length w.rests) r _ (ap (rest_at rests) (sym e) ∙ is) H.left_home.2 (empty_form H.left_home.0 H.left_home.1)
+        | inr na ↦ elim (cases_eq u (length w.rests + 1)) [
+          | inl e ↦ heap_at (length w.rests + 1) r _ (ap (rest_at rests) (sym e) ∙ is) H.right_home.2 (empty_form H.right_home.0 H.right_home.1)
           | inr nb ↦ I.heaps u r (sym (H.others u nt na nb) ∙ is)
         ]
       ]
     ]
 
-    measured_at : (u : ℕ) (r q : Rest) → rest_at homes u ≡ Some r → rest_at homes u ≡ Some q → AreMeasured w.pool u q.heap.chunks → AreMeasured w.pool u r.heap.chunks
+    measured_at : (u : ℕ) (r q : Rest) → rest_at rests u ≡ Some r → rest_at rests u ≡ Some q → AreMeasured w.pool u q.heap.chunks → AreMeasured w.pool u r.heap.chunks
     measured_at u r q is that has = subst (λ (z : Rest). AreMeasured w.pool u z.heap.chunks) (same_Some q r (sym that ∙ is)) has
 
-    measured_then : RestsAreMeasured w.pool homes tasks_out
+    measured_then : RestsAreMeasured w.pool rests tasks_out
     measured_then u r is f = elim (cases_eq u t) [
-      | inl e ↦ measured_at u r (waiting_rest p) is (ap (rest_at homes) e ∙ H.parent) (subst (λ z. AreMeasured w.pool z p.heap.chunks) (sym e) F.measured.0)
-      | inr nt ↦ elim (cases_eq u (length w.homes)) [
-        | inl e ↦ measured_at u r _ is (ap (rest_at homes) e ∙ H.left_home.2) (λ c i. absurd i)
-        | inr na ↦ elim (cases_eq u (length w.homes + 1)) [
-          | inl e ↦ measured_at u r _ is (ap (rest_at homes) e ∙ H.right_home.2) (λ c i. absurd i)
+      | inl e ↦ measured_at u r (waiting_rest p) is (ap (rest_at rests) e ∙ H.parent) (subst (λ z. AreMeasured w.pool z p.heap.chunks) (sym e) F.measured.0)
+      | inr nt ↦ elim (cases_eq u (length w.rests)) [
+        | inl e ↦ measured_at u r _ is (ap (rest_at rests) e ∙ H.left_home.2) (λ c i. absurd i)
+        | inr na ↦ elim (cases_eq u (length w.rests + 1)) [
+          | inl e ↦ measured_at u r _ is (ap (rest_at rests) e ∙ H.right_home.2) (λ c i. absurd i)
           | inr nb ↦ I.measured u r (sym (H.others u nt na nb) ∙ is) (unheld_before w.tasks_out k None u f (λ h. nt (same_Some u t (sym h ∙ task_is_out w k p I (steps.on w k p I F at_fork free) F))))
         ]
       ]
@@ -315,9 +315,9 @@ module _ (w : SharedValue) (k : ℕ) (p : Private) (I : IsSharedValue w) (F : Fi
     pub forked_world : IsSharedValue w'
     forked_world =
         let n = all w.tree t in
-        marked_world w (last_event k p) I free_last tree w.pool homes sets tasks_out w.outputs all_steps w.end j.room marks
+        marked_world w (last_event k p) I free_last tree w.pool rests sets tasks_out w.outputs all_steps w.end j.room marks
         (H.count ∙ (ap (λ n. n + 2) I.made ∙ sym n)) (N.count ∙ (ap (λ n. n + 2) I.noted ∙ sym n)) (length-set w.tasks_out k None) refl
-        (ran_stands_for w.program w.settings w.journal.items I.form I.legal v v' (totals_of w) (totals_of w') k t p.fresh h free_last E I.stands own forks_home (roots.0, roots.1, forks_notes) counts)
+        (ran_stands_for w.program w.settings w.journal.items I.form I.legal v v' (tree_counts_of w) (tree_counts_of w') k t p.fresh h free_last E I.stands own forks_home (roots.0, roots.1, forks_notes) counts)
         heaps_then measured_then
 
     pub forked_goes : (accounts w').end ≡ None
@@ -326,5 +326,5 @@ module _ (w : SharedValue) (k : ℕ) (p : Private) (I : IsSharedValue w) (F : Fi
     -- THE PARTS OF OTHERS
     pub forked_others : OthersFit w w' k
     forked_others u r ne G =
-        marked_fits w (last_event k p) I free_last tree w.pool homes sets tasks_out w.outputs all_steps w.end j.room marks forked_world u r r (ap option_flatten (got_other w.tasks_out k u None ne)) G refl refl refl G.form G.measured
+        marked_fits w (last_event k p) I free_last tree w.pool rests sets tasks_out w.outputs all_steps w.end j.room marks forked_world u r r (ap option_flatten (got_other w.tasks_out k u None ne)) G refl refl refl G.form G.measured
         (ran_leaves w.program w.settings v v' l L t k p.fresh h E own forks_home (part_of w.settings r) (held_apart w k u p r F G ne) G.fits)

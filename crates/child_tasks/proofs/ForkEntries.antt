@@ -22,18 +22,18 @@ use Rattle.shared_value.specs.Fits.{Fits, OthersFit}
 use Rattle.shared_value.specs.Entered.{refused}
 use Rattle.own_steps.specs.Alone.{alone_event}
 use Rattle.own_steps.proofs.LastStepEntry.{last_event}
-use Rattle.child_tasks.specs.Forks.{ForksOn, ForksTo, HomesFork, IsAtFork, SetsFork, begun_rest, part_child, waiting_rest}
+use Rattle.child_tasks.specs.Forks.{ForksOn, ForksTo, RestsFork, IsAtFork, SetsFork, begun_rest, part_child, waiting_rest}
 use Rattle.child_tasks.proofs.ForkEntered as forked_by
 use Rattle.child_tasks.proofs.ForkEntered.{forked_goes, forked_others, forked_world}
 use Rattle.child_tasks.proofs.NextStepForks as steps
 
 -- ---- THE HOMES: that of the task is put, and two come behind it
-module _ (homes : List (Option Rest)) (p : Private) (made : p.task < length homes) (x y z : Option Rest) where
+module _ (rests : List (Option Rest)) (p : Private) (made : p.task < length rests) (x y z : Option Rest) where
   abbrev n : ℕ
-  n = length homes
+  n = length rests
 
   abbrev front : List (Option Rest)
-  front = slice_set homes p.task z
+  front = slice_set rests p.task z
 
   abbrev two : List (Option Rest)
   two = x ∷ (y ∷ [])
@@ -42,13 +42,13 @@ module _ (homes : List (Option Rest)) (p : Private) (made : p.task < length home
   put_all = front ++ two
 
   front_long : length front ≡ n
-  front_long = length-set homes p.task z
+  front_long = length-set rests p.task z
 
   pub put_count : length put_all ≡ n + 2
   put_count = length-append front two ∙ ap (λ m. m + 2) front_long
 
   pub put_own : slice_get put_all p.task ≡ Some z
-  put_own = got_front front two p.task (omega (arith, made, front_long)) ∙ got_set homes p.task z made
+  put_own = got_front front two p.task (omega (arith, made, front_long)) ∙ got_set rests p.task z made
 
   behind : (i : ℕ) → slice_get put_all (n + i) ≡ slice_get two i
   behind i = ap (λ m. slice_get put_all (m + i)) (sym front_long) ∙ got_back front two i
@@ -59,25 +59,25 @@ module _ (homes : List (Option Rest)) (p : Private) (made : p.task < length home
   pub put_second : slice_get put_all (n + 1) ≡ Some y
   put_second = behind 1
 
-  pub put_other : (u : ℕ) → (u ≡ p.task → ⊥) → (u ≡ n → ⊥) → (u ≡ n + 1 → ⊥) → rest_at put_all u ≡ rest_at homes u
+  pub put_other : (u : ℕ) → (u ≡ p.task → ⊥) → (u ≡ n → ⊥) → (u ≡ n + 1 → ⊥) → rest_at put_all u ≡ rest_at rests u
   put_other u nt na nb =
       ap option_flatten (elim (cases_lt u n) [
-        | inl lt ↦ got_front front two u (omega (arith, lt, front_long)) ∙ got_other homes p.task u z nt
-        | inr le ↦ got_past put_all u (omega (arith, le, na, nb, put_count)) ∙ sym (got_past homes u le)
+        | inl lt ↦ got_front front two u (omega (arith, lt, front_long)) ∙ got_other rests p.task u z nt
+        | inr le ↦ got_past put_all u (omega (arith, le, na, nb, put_count)) ∙ sym (got_past rests u le)
       ])
 
-pub homes_fork : (homes : List (Option Rest)) (p : Private) (left right sl sp sl' sp' : ℕ) (made : p.task < length homes)
-    → HomesFork homes (put_all homes p made (Some (begun_rest (part_child p (length homes) left sl sp))) (Some (begun_rest (part_child p (length homes + 1) right sl' sp'))) (Some (waiting_rest p))) p left right
-homes_fork homes p left right sl sp sl' sp' made =
-    let x : Option Rest = Some (begun_rest (part_child p (length homes) left sl sp)) in
-    let y : Option Rest = Some (begun_rest (part_child p (length homes + 1) right sl' sp')) in
+pub rests_fork : (rests : List (Option Rest)) (p : Private) (left right sl sp sl' sp' : ℕ) (made : p.task < length rests)
+    → RestsFork rests (put_all rests p made (Some (begun_rest (part_child p (length rests) left sl sp))) (Some (begun_rest (part_child p (length rests + 1) right sl' sp'))) (Some (waiting_rest p))) p left right
+rests_fork rests p left right sl sp sl' sp' made =
+    let x : Option Rest = Some (begun_rest (part_child p (length rests) left sl sp)) in
+    let y : Option Rest = Some (begun_rest (part_child p (length rests + 1) right sl' sp')) in
     let z : Option Rest = Some (waiting_rest p) in
     record {
-      count = put_count homes p made x y z;
-      parent = ap option_flatten (put_own homes p made x y z);
-      left_home = (sl, sp, ap option_flatten (put_first homes p made x y z));
-      right_home = (sl', sp', ap option_flatten (put_second homes p made x y z));
-      others = λ u nt na nb. put_other homes p made x y z u nt na nb;
+      count = put_count rests p made x y z;
+      parent = ap option_flatten (put_own rests p made x y z);
+      left_home = (sl, sp, ap option_flatten (put_first rests p made x y z));
+      right_home = (sl', sp', ap option_flatten (put_second rests p made x y z));
+      others = λ u nt na nb. put_other rests p made x y z u nt na nb;
     }
 
 -- two tasks more of which nothing is marked
@@ -92,20 +92,20 @@ module _ (w : SharedValue) (k : ℕ) (p : Private) (I : IsSharedValue w) (F : Fi
   more : suc p.fresh ≡ p.fresh + 1
   more = omega arith
 
-  pub own_home : p.task < length w.homes
+  pub own_home : p.task < length w.rests
   own_home = subst (λ n. p.task < n) (sym I.made) (forked_by.has_node w k p I F at_fork free left right number B shallow)
 
   pub own_set : p.task < length w.sets
   own_set = subst (λ n. p.task < n) (sym I.noted) (forked_by.has_node w k p I F at_fork free left right number B shallow)
 
-  module _ (homes : List (Option Rest)) (sets : List SetOf) (H : HomesFork w.homes homes p left right) (N : SetsFork w.sets sets p.task) (marks : List (Option MarkingValue)) (unmarked : marks ≡ slice_set w.marks p.task None ++ None ∷ (None ∷ [])) (j : RoomyValue EntryValue) where
+  module _ (rests : List (Option Rest)) (sets : List SetOf) (H : RestsFork w.rests rests p left right) (N : SetsFork w.sets sets p.task) (marks : List (Option MarkingValue)) (unmarked : marks ≡ slice_set w.marks p.task None ++ None ∷ (None ∷ [])) (j : RoomyValue EntryValue) where
     unmarked_at : (u : ℕ) → marks_at marks u ≡ marks_at (slice_set w.marks p.task None) u
     unmarked_at u = ap (λ ms. marks_at ms u) unmarked ∙ unmarked_more (slice_set w.marks p.task None) u
 
     abbrev pub forked_alone : SharedValue
     forked_alone = record w {
       tree = forked w.tree p.task;
-      homes = homes;
+      rests = rests;
       sets = sets;
       marks = marks;
       tasks_out = slice_set w.tasks_out k None;
@@ -113,11 +113,11 @@ module _ (w : SharedValue) (k : ℕ) (p : Private) (I : IsSharedValue w) (F : Fi
       journal = record { items = w.journal.items ++ alone_event k p ∷ []; room = j.room };
     }
 
-    forked_is : record w { tree = forked w.tree p.task; homes = homes; sets = sets; marks = marks; tasks_out = slice_set w.tasks_out k None; steps = w.steps + suc p.fresh; journal = record { items = w.journal.items ++ last_event k p ∷ []; room = j.room } } ≡ forked_alone
+    forked_is : record w { tree = forked w.tree p.task; rests = rests; sets = sets; marks = marks; tasks_out = slice_set w.tasks_out k None; steps = w.steps + suc p.fresh; journal = record { items = w.journal.items ++ last_event k p ∷ []; room = j.room } } ≡ forked_alone
     forked_is =
         ap (λ n. let z : SharedValue = record w {
           tree = forked w.tree p.task;
-          homes = homes;
+          rests = rests;
           sets = sets;
           marks = marks;
           tasks_out = slice_set w.tasks_out k None;
@@ -126,7 +126,7 @@ module _ (w : SharedValue) (k : ℕ) (p : Private) (I : IsSharedValue w) (F : Fi
         } in z) more
 
     pub alone_world : IsSharedValue forked_alone
-    alone_world = subst IsSharedValue forked_is (forked_world w k p I F at_fork free left right number B shallow homes sets H N marks unmarked_at j)
+    alone_world = subst IsSharedValue forked_is (forked_world w k p I F at_fork free left right number B shallow rests sets H N marks unmarked_at j)
 
     pub alone_forks : (a b : ℕ) → a ≡ length w.tree → b ≡ length w.tree + 1 → ForksOn w forked_alone k p a b
     alone_forks a b ea eb =
@@ -135,24 +135,24 @@ module _ (w : SharedValue) (k : ℕ) (p : Private) (I : IsSharedValue w) (F : Fi
           enters = record { journal = refl; program = refl; settings = refl; halted = refl };
           left_is = ea ∙ long;
           right_is = eb ∙ ap (λ n. n + 1) long;
-          goes = subst (λ (z : SharedValue). (accounts z).end ≡ None) forked_is (forked_goes w k p I F at_fork free left right number B shallow homes sets H N marks unmarked_at j);
-          others = subst (λ (z : SharedValue). OthersFit w z k) forked_is (forked_others w k p I F at_fork free left right number B shallow homes sets H N marks unmarked_at j);
+          goes = subst (λ (z : SharedValue). (accounts z).end ≡ None) forked_is (forked_goes w k p I F at_fork free left right number B shallow rests sets H N marks unmarked_at j);
+          others = subst (λ (z : SharedValue). OthersFit w z k) forked_is (forked_others w k p I F at_fork free left right number B shallow rests sets H N marks unmarked_at j);
         }
 
 -- ---- WHAT THE CODE MAKES OF HOMES AND SETS
 
-pub homes_fork_by : (homes after : List (Option Rest)) (p : Private) (left right : ℕ) (first second : Child) → p.task < length homes
-    → first ≡ part_child p (length homes) left first.heap.slots first.heap.spare → second ≡ part_child p (length homes + 1) right second.heap.slots second.heap.spare
-    → after ≡ slice_set homes p.task (Some (waiting_rest p)) ++ Some (begun_rest first) ∷ (Some (begun_rest second) ∷ []) → HomesFork homes after p left right
-homes_fork_by homes after p left right first second made ef es ea =
-    let put : List (Option Rest) = slice_set homes p.task (Some (waiting_rest p)) in
-    let a : Child = part_child p (length homes) left first.heap.slots first.heap.spare in
-    let b : Child = part_child p (length homes + 1) right second.heap.slots second.heap.spare in
+pub rests_fork_by : (rests after : List (Option Rest)) (p : Private) (left right : ℕ) (first second : Child) → p.task < length rests
+    → first ≡ part_child p (length rests) left first.heap.slots first.heap.spare → second ≡ part_child p (length rests + 1) right second.heap.slots second.heap.spare
+    → after ≡ slice_set rests p.task (Some (waiting_rest p)) ++ Some (begun_rest first) ∷ (Some (begun_rest second) ∷ []) → RestsFork rests after p left right
+rests_fork_by rests after p left right first second made ef es ea =
+    let put : List (Option Rest) = slice_set rests p.task (Some (waiting_rest p)) in
+    let a : Child = part_child p (length rests) left first.heap.slots first.heap.spare in
+    let b : Child = part_child p (length rests + 1) right second.heap.slots second.heap.spare in
     let is : after ≡ put ++ Some (begun_rest a) ∷ (Some (begun_rest b) ∷ []) =
     ea
     ∙ (ap (λ (c : Child). put ++ Some (begun_rest c) ∷ (Some (begun_rest second) ∷ [])) ef
     ∙ ap (λ (c : Child). put ++ Some (begun_rest a) ∷ (Some (begun_rest c) ∷ [])) es) in
-    subst (λ hs. HomesFork homes hs p left right) (sym is) (homes_fork homes p left right first.heap.slots first.heap.spare second.heap.slots second.heap.spare made)
+    subst (λ hs. RestsFork rests hs p left right) (sym is) (rests_fork rests p left right first.heap.slots first.heap.spare second.heap.slots second.heap.spare made)
 
 -- the set of the task keeps, and two that hold nothing come behind it
 pub sets_fork : (sets put : List SetOf) (t : ℕ) → t < length sets → length put ≡ length sets → content_at put t ≡ option_map (keeping true) (content_at sets t) → ((u : ℕ) → (u ≡ t → ⊥) → slice_get put u ≡ slice_get sets u)

@@ -19,7 +19,7 @@ use Rattle.task_frames.specs.FramesValue.{FramesValue}
 use Rattle.heap_tree.specs.declared.state.State.TheVariants.{Ended}
 use Rattle.heap_tree.specs.Node.{Node, state_of as state_in_tree, with_state}
 use Rattle.write_barrier.specs.declared.sets.SetOf.{SetOf}
-use Rattle.write_barrier.specs.Stored.{Content as NotedOf, content_at}
+use Rattle.write_barrier.specs.Stored.{Content, content_at}
 use Rattle.inner_mark_gc.specs.MarkingValue.{MarkingValue}
 use Rattle.fork_join.specs.Joined.{AreRelabelled, joined_nodes, with_results}
 use Rattle.ledger_step_laws.specs.Accounts.{rested}
@@ -37,7 +37,7 @@ use Rattle.task_machine.specs.declared.part.Private.{Private}
 use Rattle.task_homes.specs.declared.task_at_rest.Rest.{Rest}
 use Rattle.task_homes.specs.declared.task_at_rest.Work.{Work}
 use Rattle.task_homes.specs.declared.task_at_rest.Work.TheVariants.{Calls}
-use Rattle.shared_value.specs.SharedValue.{SharedValue, no_home, noted_in, accounts, home_by, home_in, marks_at, rest_at, totals_of, value_of}
+use Rattle.shared_value.specs.SharedValue.{SharedValue, no_home, noted_in, accounts, home_by, home_in, marks_at, rest_at, tree_counts_of, value_of}
 use Rattle.shared_value.specs.Stands.{HeapForm, IsSharedValue}
 use Rattle.shared_value.specs.Fits.{Fits, OthersFit, home_of_part, part_of}
 use Rattle.shared_value.specs.Entered.{refused}
@@ -50,7 +50,7 @@ use Rattle.own_steps.specs.Alone.{alone_event}
 use Rattle.own_steps.proofs.LastStepEntry as last
 use Rattle.own_steps.proofs.LastStepEntry.{last_event}
 use Rattle.child_tasks.specs.ChildEnds.{EndsChild, IsAtEnd, running_parent}
-use Rattle.child_tasks.specs.Joins.{AreSides, HomesJoin, IsRestOf, SetsJoin, sources_at}
+use Rattle.child_tasks.specs.Joins.{AreSides, RestsJoin, IsRestOf, SetsJoin, sources_at}
 use Rattle.child_tasks.proofs.ChildReturns as steps
 use Rattle.child_tasks.proofs.JoinUnits.{joined_measured, others_measured}
 use Rattle.child_tasks.proofs.SetsNoted.{noted_by}
@@ -118,8 +118,8 @@ module _ (w : SharedValue) (k : ℕ) (p : Private) (I : IsSharedValue w) (F : Fi
   abbrev own : FitsValue w.program w.settings (part_for w.settings t h p.fresh) v l
   own = F.fits
 
-  module _ (above beside : Rest) (frames : FramesValue) (above_is : rest_at w.homes q ≡ Some above) (calls : above.work ≡ Calls frames) (beside_is : IsRestOf (rest_at w.homes s) beside) (c : ℕ) (lh rh : LeafHeapValue) (al ar : ℤ × Option Addr) (side : AreSides p s beside c lh rh al ar) where
-    module _ (homes : List (Option Rest)) (sets : List SetOf) (marks : List (Option MarkingValue)) (unmarked : (u : ℕ) → (u ≡ t → ⊥) → (u ≡ s → ⊥) → marks_at marks u ≡ marks_at w.marks u) (pool : PoolValue) (heap : LeafHeapValue) (H : HomesJoin w.homes homes p q s (with_results frames al ar) heap above) (N : SetsJoin w.sets sets q c (c + 1) above.heap.chunks)
+  module _ (above beside : Rest) (frames : FramesValue) (above_is : rest_at w.rests q ≡ Some above) (calls : above.work ≡ Calls frames) (beside_is : IsRestOf (rest_at w.rests s) beside) (c : ℕ) (lh rh : LeafHeapValue) (al ar : ℤ × Option Addr) (side : AreSides p s beside c lh rh al ar) where
+    module _ (rests : List (Option Rest)) (sets : List SetOf) (marks : List (Option MarkingValue)) (unmarked : (u : ℕ) → (u ≡ t → ⊥) → (u ≡ s → ⊥) → marks_at marks u ≡ marks_at w.marks u) (pool : PoolValue) (heap : LeafHeapValue) (H : RestsJoin w.rests rests p q s (with_results frames al ar) heap above) (N : SetsJoin w.sets sets q c (c + 1) above.heap.chunks)
         (relabelled : AreRelabelled w.pool pool (lh.chunks ++ rh.chunks) q) (heap_is : heap ≡ with_places (merged above.heap lh rh) heap.slots heap.spare) (room_is : room_of heap ≡ room_of above.heap) (j : RoomyValue EntryValue) where
       abbrev tree : List Node
       tree = joined_nodes (with_state w.tree t Ended) q c (c + 1)
@@ -131,7 +131,7 @@ module _ (w : SharedValue) (k : ℕ) (p : Private) (I : IsSharedValue w) (F : Fi
       all_steps = w.steps + suc p.fresh
 
       abbrev w' : SharedValue
-      w' = entered_marks w (last_event k p) tree pool homes sets tasks_out w.outputs all_steps w.end j.room marks
+      w' = entered_marks w (last_event k p) tree pool rests sets tasks_out w.outputs all_steps w.end j.room marks
 
       abbrev v' : Memory
       v' = value_of w'
@@ -140,7 +140,7 @@ module _ (w : SharedValue) (k : ℕ) (p : Private) (I : IsSharedValue w) (F : Fi
       sources_was : (u : ℕ) → sources vt u ≡ sources_at w.sets u
       sources_was u = ap (λ (z : Noted). z.sources) (noted_by w.sets u) ∙ by_content (content_at w.sets u)
 
-      set_then : (u : ℕ) (y : NotedOf) → content_at sets u ≡ Some y → noted_in (slice_get sets u) ≡ noted_of (Some y)
+      set_then : (u : ℕ) (y : Content) → content_at sets u ≡ Some y → noted_in (slice_get sets u) ≡ noted_of (Some y)
       set_then u y e = noted_by sets u ∙ ap noted_of e
 
       same_noted : (u : ℕ) → (u ≡ q → ⊥) → (u ≡ c → ⊥) → (u ≡ c + 1 → ⊥) → noted_in (slice_get sets u) ≡ noted_in (slice_get w.sets u)
@@ -224,7 +224,7 @@ module _ (w : SharedValue) (k : ℕ) (p : Private) (I : IsSharedValue w) (F : Fi
       c_d : c ≡ c + 1 → ⊥
       c_d e = omega (arith, e)
 
-      nodes : NodesJoin (totals_of w) (totals_of w') q c (c + 1)
+      nodes : NodesJoin (tree_counts_of w) (tree_counts_of w') q c (c + 1)
       nodes = record {
         parent = parent_node w.tree t q c (c + 1) (both.child_of_two w k p I F at_end free ended above beside frames above_is calls beside_is c lh rh al ar side) q_c q_d c_d;
         left = left_node w.tree t q c (c + 1) (both.child_of_two w k p I F at_end free ended above beside frames above_is calls beside_is c lh rh al ar side) q_c q_d c_d;
@@ -232,10 +232,10 @@ module _ (w : SharedValue) (k : ℕ) (p : Private) (I : IsSharedValue w) (F : Fi
         others = other_node w.tree t q c (c + 1) (both.child_of_two w k p I F at_end free ended above beside frames above_is calls beside_is c lh rh al ar side) q_c q_d c_d;
       }
 
-      nodes_so : NodesJoin (totals_of w) (totals_of w') Q.parent Q.left (Q.left + 1)
-      nodes_so = subst (λ n. NodesJoin (totals_of w) (totals_of w') Q.parent n (n + 1)) (sym (both.left_is w k p I F at_end free ended above beside frames above_is calls beside_is c lh rh al ar side)) (subst (λ n. NodesJoin (totals_of w) (totals_of w') n c (c + 1)) (sym (before.parent_same w k p I F at_end free ended)) nodes)
+      nodes_so : NodesJoin (tree_counts_of w) (tree_counts_of w') Q.parent Q.left (Q.left + 1)
+      nodes_so = subst (λ n. NodesJoin (tree_counts_of w) (tree_counts_of w') Q.parent n (n + 1)) (sym (both.left_is w k p I F at_end free ended above beside frames above_is calls beside_is c lh rh al ar side)) (subst (λ n. NodesJoin (tree_counts_of w) (tree_counts_of w') n c (c + 1)) (sym (before.parent_same w k p I F at_end free ended)) nodes)
 
-      counts : RanCounts w.program (totals_of w) (totals_of w') M L t k p.fresh x S.line Joining Q
+      counts : RanCounts w.program (tree_counts_of w) (tree_counts_of w') M L t k p.fresh x S.line Joining Q
       counts = record {
         tree = nodes_so;
         task_out = record { task_out = ap option_flatten (got_set w.tasks_out k None (worker_there w (last_event k p) I free_last)); others = λ u ne. ap option_flatten (got_other w.tasks_out k u None ne) };
@@ -248,16 +248,16 @@ module _ (w : SharedValue) (k : ℕ) (p : Private) (I : IsSharedValue w) (F : Fi
       heap_form : HeapForm heap
       heap_form = subst HeapForm (sym heap_is) (merged_form above.heap lh rh (both.above_form w k p I F at_end free ended above beside frames above_is calls beside_is c lh rh al ar side) (both.child_forms w k p I F at_end free ended above beside frames above_is calls beside_is c lh rh al ar side).0 (both.child_forms w k p I F at_end free ended above beside frames above_is calls beside_is c lh rh al ar side).1 (both.joined_apart w k p I F at_end free ended above beside frames above_is calls beside_is c lh rh al ar side) (both.left_none w k p I F at_end free ended above beside frames above_is calls beside_is c lh rh al ar side) (both.right_none w k p I F at_end free ended above beside frames above_is calls beside_is c lh rh al ar side) heap.slots heap.spare)
 
-      heap_at : (u : ℕ) (i z : Rest) → rest_at homes u ≡ Some i → rest_at homes u ≡ Some z → HeapForm z.heap → HeapForm i.heap
+      heap_at : (u : ℕ) (i z : Rest) → rest_at rests u ≡ Some i → rest_at rests u ≡ Some z → HeapForm z.heap → HeapForm i.heap
       heap_at u i z is that form = subst (λ (z : Rest). HeapForm z.heap) (same_Some z i (sym that ∙ is)) form
 
-      heaps_then : (u : ℕ) (i : Rest) → rest_at homes u ≡ Some i → HeapForm i.heap
+      heaps_then : (u : ℕ) (i : Rest) → rest_at rests u ≡ Some i → HeapForm i.heap
       heaps_then u i is = elim (cases_eq u q) [
-        | inl e ↦ heap_at q i _ (ap (rest_at homes) (sym e) ∙ is) H.parent_home heap_form
+        | inl e ↦ heap_at q i _ (ap (rest_at rests) (sym e) ∙ is) H.parent_home heap_form
         | inr nq ↦ elim (cases_eq u t) [
-          | inl e ↦ none_some (sym H.own_home ∙ (ap (rest_at homes) (sym e) ∙ is))
+          | inl e ↦ none_some (sym H.own_home ∙ (ap (rest_at rests) (sym e) ∙ is))
           | inr nt ↦ elim (cases_eq u s) [
-            | inl e ↦ none_some (sym H.other_home ∙ (ap (rest_at homes) (sym e) ∙ is))
+            | inl e ↦ none_some (sym H.other_home ∙ (ap (rest_at rests) (sym e) ∙ is))
             | inr ns ↦ I.heaps u i (sym (H.others u nq nt ns) ∙ is)
           ]
         ]
@@ -272,21 +272,21 @@ module _ (w : SharedValue) (k : ℕ) (p : Private) (I : IsSharedValue w) (F : Fi
       joined_world : IsSharedValue w'
       joined_world =
           let n = joined_long w.tree t q c (c + 1) (both.child_of_two w k p I F at_end free ended above beside frames above_is calls beside_is c lh rh al ar side) q_c q_d c_d in
-          marked_world w (last_event k p) I free_last tree pool homes sets tasks_out w.outputs all_steps w.end j.room marks (H.many ∙ (I.made ∙ sym n)) (N.many ∙ (I.noted ∙ sym n)) (length-set w.tasks_out k None) relabelled.limit
-          (ran_stands_for w.program w.settings w.journal.items I.form I.legal v v' (totals_of w) (totals_of w') k t p.fresh h free_last E I.stands own made notes_so counts)
-          heaps_then (joined_measured w k p I F at_end free ended above beside frames above_is calls beside_is c lh rh al ar side homes pool heap H relabelled heap_is)
+          marked_world w (last_event k p) I free_last tree pool rests sets tasks_out w.outputs all_steps w.end j.room marks (H.many ∙ (I.made ∙ sym n)) (N.many ∙ (I.noted ∙ sym n)) (length-set w.tasks_out k None) relabelled.limit
+          (ran_stands_for w.program w.settings w.journal.items I.form I.legal v v' (tree_counts_of w) (tree_counts_of w') k t p.fresh h free_last E I.stands own made notes_so counts)
+          heaps_then (joined_measured w k p I F at_end free ended above beside frames above_is calls beside_is c lh rh al ar side rests pool heap H relabelled heap_is)
 
       joined_goes : (accounts w').end ≡ None
       joined_goes = sym (end_now w' joined_world) ∙ (end_now w I ∙ steps.on w k p I F at_end free)
 
       joined_resumed : Some q ≡ running_parent (accounts w').machine.tasks t
       joined_resumed =
-          sym (ap (λ (i : Ledger). running_parent i.machine.tasks t) (marked_accounts w (last_event k p) I free_last tree pool homes sets tasks_out w.outputs all_steps w.end j.room marks) ∙ (before.parent_then w k p I F at_end free ended))
+          sym (ap (λ (i : Ledger). running_parent i.machine.tasks t) (marked_accounts w (last_event k p) I free_last tree pool rests sets tasks_out w.outputs all_steps w.end j.room marks) ∙ (before.parent_then w k p I F at_end free ended))
 
       -- THE PARTS OF OTHERS
       joined_others : OthersFit w w' k
       joined_others u i ne G =
-          marked_fits w (last_event k p) I free_last tree pool homes sets tasks_out w.outputs all_steps w.end j.room marks joined_world u i i (ap option_flatten (got_other w.tasks_out k u None ne)) G refl refl refl G.form (others_measured w k p I F at_end free ended above beside frames above_is calls beside_is c lh rh al ar side homes pool heap H relabelled heap_is u i ne G)
+          marked_fits w (last_event k p) I free_last tree pool rests sets tasks_out w.outputs all_steps w.end j.room marks joined_world u i i (ap option_flatten (got_other w.tasks_out k u None ne)) G refl refl refl G.form (others_measured w k p I F at_end free ended above beside frames above_is calls beside_is c lh rh al ar side rests pool heap H relabelled heap_is u i ne G)
           (ran_leaves w.program w.settings v v' l L t k p.fresh h E own made (part_of w.settings i) (held_apart w k u p i F G ne) G.fits)
 
       -- ---- AS THE CALL HAS IT
@@ -294,11 +294,11 @@ module _ (w : SharedValue) (k : ℕ) (p : Private) (I : IsSharedValue w) (F : Fi
       more = omega arith
 
       abbrev pub joined_alone : SharedValue
-      joined_alone = record w { tree = tree; pool = pool; homes = homes; sets = sets; marks = marks; tasks_out = tasks_out; steps = w.steps + (p.fresh + 1); journal = record { items = w.journal.items ++ alone_event k p ∷ []; room = j.room } }
+      joined_alone = record w { tree = tree; pool = pool; rests = rests; sets = sets; marks = marks; tasks_out = tasks_out; steps = w.steps + (p.fresh + 1); journal = record { items = w.journal.items ++ alone_event k p ∷ []; room = j.room } }
 
       joined_is : w' ≡ joined_alone
       joined_is =
-          ap (λ n. let i : SharedValue = record w { tree = tree; pool = pool; homes = homes; sets = sets; marks = marks; tasks_out = tasks_out; steps = w.steps + n; journal = record { items = w.journal.items ++ record { worker = k; kind = Ran p.task n } ∷ []; room = j.room } } in i) more
+          ap (λ n. let i : SharedValue = record w { tree = tree; pool = pool; rests = rests; sets = sets; marks = marks; tasks_out = tasks_out; steps = w.steps + n; journal = record { items = w.journal.items ++ record { worker = k; kind = Ran p.task n } ∷ []; room = j.room } } in i) more
 
       pub alone_world : IsSharedValue joined_alone
       alone_world = subst IsSharedValue joined_is joined_world

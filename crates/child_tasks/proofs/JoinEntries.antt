@@ -35,7 +35,7 @@ use Rattle.core_relation.specs.Whole.{as_node}
 use Rattle.own_steps.specs.Alone.{alone_event}
 use Rattle.child_tasks.specs.ChildEnds.{EndsChild, IsAtEnd}
 use Rattle.child_tasks.specs.Forks.{nothing_noted}
-use Rattle.child_tasks.specs.Joins.{AreSides, CanJoin, HasPlaces, HomesJoin, IsRestOf, SetsJoin, chunk_count, left_of, other_child, own_child, parent_side, right_of, sources_at}
+use Rattle.child_tasks.specs.Joins.{AreSides, CanJoin, HasPlaces, RestsJoin, IsRestOf, SetsJoin, chunk_count, left_of, other_child, own_child, parent_side, right_of, sources_at}
 use Rattle.child_tasks.proofs.ChildReturns as steps
 use Rattle.child_tasks.proofs.NextStepForks.{tree_parents}
 use Rattle.child_tasks.proofs.JoinTree.{HasCalls}
@@ -90,13 +90,13 @@ module _ (w : SharedValue) (k : ℕ) (p : Private) (I : IsSharedValue w) (F : Fi
   parent_waits : state_in_tree w.tree q ≡ Some Waiting
   parent_waits =
       let x = before.waiting_parent w k p I F at_end free ended in
-      waits_in _ (slice_get w.tree q) x.0 x.2 ((stands_now w I (steps.on w k p I F at_end free)).totals.node q ∙ ap (option_map (as_node _)) x.1)
+      waits_in _ (slice_get w.tree q) x.0 x.2 ((stands_now w I (steps.on w k p I F at_end free)).tree_counts.node q ∙ ap (option_map (as_node _)) x.1)
 
   other_parent : parent_in_tree w.tree s' ≡ Some q
   other_parent = tree_parents w I (steps.on w k p I F at_end free) s' ∙ (sym (steps.then_parents w k p I F at_end free s') ∙ steps.other_parent w k p I F at_end free)
 
   -- the parent has frames
-  pub calls : HasCalls (rest_at w.homes q)
+  pub calls : HasCalls (rest_at w.rests q)
   calls = before.parent_calls w k p I F at_end free ended
 
   some_calls : (o : Option Rest) → HasCalls o → IsSome o
@@ -104,16 +104,16 @@ module _ (w : SharedValue) (k : ℕ) (p : Private) (I : IsSharedValue w) (F : Fi
   some_calls (Some r) h = refl
 
   -- and so it has a home, which stays as both children leave theirs
-  pub parent_home : (parent : ℕ) → parent_in_tree w.tree p.task ≡ Some parent → IsSome (rest_at w.homes parent)
-  parent_home parent e = subst (λ u. IsSome (rest_at w.homes u)) (parent_is parent e) (some_calls (rest_at w.homes q) calls)
+  pub parent_home : (parent : ℕ) → parent_in_tree w.tree p.task ≡ Some parent → IsSome (rest_at w.rests parent)
+  parent_home parent e = subst (λ u. IsSome (rest_at w.rests u)) (parent_is parent e) (some_calls (rest_at w.rests q) calls)
 
-  pub parent_stays : (parent other : ℕ) → parent_in_tree w.tree p.task ≡ Some parent → other ≡ s' → IsSome (rest_at (slice_set (slice_set w.homes p.task None) other None) parent)
+  pub parent_stays : (parent other : ℕ) → parent_in_tree w.tree p.task ≡ Some parent → other ≡ s' → IsSome (rest_at (slice_set (slice_set w.rests p.task None) other None) parent)
   parent_stays parent other e o =
       subst IsSome
-      (sym (ap option_flatten (got_other (slice_set w.homes p.task None) other parent None (λ f. parent_other (parent_is parent e ∙ (f ∙ o))) ∙ got_other w.homes p.task parent None (λ f. parent_apart (parent_is parent e ∙ f)))))
+      (sym (ap option_flatten (got_other (slice_set w.rests p.task None) other parent None (λ f. parent_other (parent_is parent e ∙ (f ∙ o))) ∙ got_other w.rests p.task parent None (λ f. parent_apart (parent_is parent e ∙ f)))))
       (parent_home parent e)
 
-  module _ (above beside : Rest) (own_notes other_notes notes : RememberedValue) (above_of : IsRestOf (rest_at w.homes q) above) (beside_of : IsRestOf (rest_at w.homes s') beside) where
+  module _ (above beside : Rest) (own_notes other_notes notes : RememberedValue) (above_of : IsRestOf (rest_at w.rests q) above) (beside_of : IsRestOf (rest_at w.rests s') beside) where
     abbrev L : EndedChild
     L = left_of (is_left p.task) (own_child p own_notes) (other_child s' beside other_notes)
 
@@ -127,10 +127,10 @@ module _ (w : SharedValue) (k : ℕ) (p : Private) (I : IsSharedValue w) (F : Fi
     above_by None h e = absurd h
     above_by (Some x) h e = (ap Some (sym e), h.0, ap (λ (z : Rest). z.work) e ∙ h.1)
 
-    pub above_all : (rest_at w.homes q ≡ Some above) × (f : FramesValue) × (above.work ≡ Calls f)
-    above_all = above_by (rest_at w.homes q) calls above_of
+    pub above_all : (rest_at w.rests q ≡ Some above) × (f : FramesValue) × (above.work ≡ Calls f)
+    above_all = above_by (rest_at w.rests q) calls above_of
 
-    abbrev pub above_is : rest_at w.homes q ≡ Some above
+    abbrev pub above_is : rest_at w.rests q ≡ Some above
     above_is = above_all.0
 
     abbrev pub frames : FramesValue
@@ -201,10 +201,10 @@ module _ (w : SharedValue) (k : ℕ) (p : Private) (I : IsSharedValue w) (F : Fi
 
       has_room : HasRoom (parent_side q above notes) L.side R.side
       has_room =
-          let a = of_rest (rest_at w.homes q) above above_is _ places.heap in
+          let a = of_rest (rest_at w.rests q) above above_is _ places.heap in
           let b = of_set (slice_get w.sets q) set_there.0 set_there.1 _ places.set in
           let n : notes ≡ set_there.0.remembered = of_set (slice_get w.sets q) set_there.0 set_there.1 (λ z. notes ≡ z.remembered) set_is in
-          let c : length beside.heap.chunks ≡ chunk_count (rest_at w.homes s') = count_of (rest_at w.homes s') beside beside_of in
+          let c : length beside.heap.chunks ≡ chunk_count (rest_at w.rests s') = count_of (rest_at w.rests s') beside beside_of in
           let d = both p beside own_notes other_notes low (λ i. length i.side.heap.chunks) in
           let e = both p beside own_notes other_notes low (λ i. length i.side.remembered.sources) in
           let f : length own_notes.sources ≡ length (sources_at w.sets p.task) = ap (λ xs. length xs) own_is in
@@ -251,13 +251,13 @@ module _ (w : SharedValue) (k : ℕ) (p : Private) (I : IsSharedValue w) (F : Fi
         }
 
     -- ---- THE WHOLE ENTRY
-    module _ (homes : List (Option Rest)) (sets : List SetOf) (marks : List (Option MarkingValue)) (unmarked : (u : ℕ) → (u ≡ p.task → ⊥) → (u ≡ s' → ⊥) → marks_at marks u ≡ marks_at w.marks u) (pool : PoolValue) (rest : Rest) (H : HomesJoin w.homes homes p q s' (with_results frames L.result R.result) rest.heap above) (N : SetsJoin w.sets sets q L.side.task (L.side.task + 1) above.heap.chunks)
+    module _ (rests : List (Option Rest)) (sets : List SetOf) (marks : List (Option MarkingValue)) (unmarked : (u : ℕ) → (u ≡ p.task → ⊥) → (u ≡ s' → ⊥) → marks_at marks u ≡ marks_at w.marks u) (pool : PoolValue) (rest : Rest) (H : RestsJoin w.rests rests p q s' (with_results frames L.result R.result) rest.heap above) (N : SetsJoin w.sets sets q L.side.task (L.side.task + 1) above.heap.chunks)
         (relabelled : AreRelabelled w.pool pool (L.side.heap.chunks ++ R.side.heap.chunks) q) (notes_then : RememberedValue) (J : Joins (parent_side q above notes) (parent_side q rest notes_then) L.side R.side) (j : RoomyValue EntryValue) where
       abbrev pub then_ : SharedValue
       then_ = record w {
         tree = joined_nodes nodes q L.side.task R.side.task;
         pool = pool;
-        homes = homes;
+        rests = rests;
         sets = sets;
         marks = marks;
         tasks_out = slice_set w.tasks_out k None;
@@ -271,9 +271,9 @@ module _ (w : SharedValue) (k : ℕ) (p : Private) (I : IsSharedValue w) (F : Fi
       pub then_world : IsSharedValue then_
       then_world =
           subst IsSharedValue same_tree
-          (joined.alone_world w k p I F at_end free ended above beside frames above_is frames_are beside_of L.side.task L.side.heap R.side.heap L.result R.result side homes sets marks unmarked pool rest.heap H N relabelled J.heap J.room j)
+          (joined.alone_world w k p I F at_end free ended above beside frames above_is frames_are beside_of L.side.task L.side.heap R.side.heap L.result R.result side rests sets marks unmarked pool rest.heap H N relabelled J.heap J.room j)
 
       pub then_joins : EndsChild w then_ k p (Some q)
       then_joins =
           subst (λ (z : SharedValue). EndsChild w z k p (Some q)) same_tree
-          (joined.alone_joins w k p I F at_end free ended above beside frames above_is frames_are beside_of L.side.task L.side.heap R.side.heap L.result R.result side homes sets marks unmarked pool rest.heap H N relabelled J.heap J.room j)
+          (joined.alone_joins w k p I F at_end free ended above beside frames above_is frames_are beside_of L.side.task L.side.heap R.side.heap L.result R.result side rests sets marks unmarked pool rest.heap H N relabelled J.heap J.room j)

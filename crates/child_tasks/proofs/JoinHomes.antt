@@ -18,7 +18,7 @@ use Rattle.task_frames.specs.FramesValue.{FramesValue}
 use Rattle.remembered_set.specs.declared.remembered.Source.{Source}
 use Rattle.remembered_set.specs.Sources.{lifted}
 use Rattle.remembered_set.proofs.LiftLemmas.{lifted_are_there}
-use Rattle.write_barrier.specs.Stored.{Content as NotedOf}
+use Rattle.write_barrier.specs.Stored.{Content}
 use Rattle.fork_join.specs.Joined.{AreRelabelled, with_results as with_both}
 use Rattle.fork_join.proofs.Owners.{joined_are_owned}
 use Rattle.ledger_step_laws.specs.Accounts.{Rests, own}
@@ -48,7 +48,7 @@ by_since h view n (Calls s) = refl
 by_since h view n (Result k r) = refl
 
 -- the sources that a set holds, as they are seen
-pub by_content : (o : Option NotedOf) → (noted_of o).sources ≡ sources_by o
+pub by_content : (o : Option Content) → (noted_of o).sources ≡ sources_by o
 by_content None = refl
 by_content (Some c) = refl
 

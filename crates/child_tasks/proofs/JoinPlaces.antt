@@ -17,7 +17,7 @@ use Rattle.task_machine.specs.declared.part.Private.{Private}
 use Rattle.task_homes.specs.declared.task_at_rest.Rest.{Rest}
 use Rattle.task_homes.specs.declared.task_at_rest.Work.{Work}
 use Rattle.task_homes.specs.declared.task_at_rest.Work.TheVariants.{Calls, Result}
-use Rattle.shared_value.specs.SharedValue.{SharedValue, accounts, marks_at, home_by, home_in, rest_at, totals_of, value_of}
+use Rattle.shared_value.specs.SharedValue.{SharedValue, accounts, marks_at, home_by, home_in, rest_at, tree_counts_of, value_of}
 use Rattle.shared_value.specs.Measured.{AreMeasured, IsUnheld}
 use Rattle.shared_value.specs.Stands.{HeapForm, IsSharedValue}
 use Rattle.shared_value.specs.Fits.{Fits, part_of}
@@ -36,24 +36,24 @@ home_same : (o o' : Option Rest) → IsSameRest o o' → home_in o' ≡ home_in 
 home_same None o' e = ap home_in e
 home_same (Some r) o' e = ap home_in e.2 ∙ same_home r.heap r.view r.allocations e.0 e.1 r.work
 
-module _ (w : SharedValue) (homes : List (Option Rest)) (sets : List SetOf) (many : length homes ≡ length w.homes) (same : (u : ℕ) → IsSameRest (rest_at w.homes u) (rest_at homes u)) (many_sets : length sets ≡ length w.sets)
+module _ (w : SharedValue) (rests : List (Option Rest)) (sets : List SetOf) (many : length rests ≡ length w.rests) (same : (u : ℕ) → IsSameRest (rest_at w.rests u) (rest_at rests u)) (many_sets : length sets ≡ length w.sets)
     (same_sets : (u : ℕ) → content_at sets u ≡ content_at w.sets u) where
   abbrev w' : SharedValue
-  w' = record w { homes = homes; sets = sets }
+  w' = record w { rests = rests; sets = sets }
 
   value_same : value_of w' ≡ value_of w
   value_same =
-      let hs : (λ t. home_in (rest_at homes t)) ≡ (λ t. home_in (rest_at w.homes t)) = fun_ext (λ u. home_same (rest_at w.homes u) (rest_at homes u) (same u)) in
+      let hs : (λ t. home_in (rest_at rests t)) ≡ (λ t. home_in (rest_at w.rests t)) = fun_ext (λ u. home_same (rest_at w.rests u) (rest_at rests u) (same u)) in
       let ns : (value_of w').noted ≡ (value_of w).noted = fun_ext (λ u. ap (λ (z : Noted). record z { marked = marks_at w.marks u }) (noted_by sets u ∙ (ap noted_of (same_sets u) ∙ sym (noted_by w.sets u)))) in
       ap (λ (f : ℕ → Home). let v : Memory = record { homes = f; noted = (value_of w').noted; owner = (value_of w).owner } in v) hs
       ∙ ap (λ (f : ℕ → Noted). let v : Memory = record { homes = (value_of w).homes; noted = f; owner = (value_of w).owner } in v) ns
 
   module _ (I : IsSharedValue w) where
-    form_then : (u : ℕ) (r : Rest) (o : Option Rest) → rest_at w.homes u ≡ o → IsSameRest o (rest_at homes u) → rest_at homes u ≡ Some r → HeapForm r.heap
+    form_then : (u : ℕ) (r : Rest) (o : Option Rest) → rest_at w.rests u ≡ o → IsSameRest o (rest_at rests u) → rest_at rests u ≡ Some r → HeapForm r.heap
     form_then u r None e S is = none_some (sym S ∙ is)
     form_then u r (Some z) e S is = subst (λ (y : Rest). HeapForm y.heap) (same_Some _ r (sym S.2 ∙ is)) (places_form z.heap S.0 S.1 (I.heaps u z e))
 
-    measured_then : (u : ℕ) (r : Rest) (o : Option Rest) → rest_at w.homes u ≡ o → IsSameRest o (rest_at homes u) → rest_at homes u ≡ Some r → IsUnheld w.tasks_out u → AreMeasured w.pool u r.heap.chunks
+    measured_then : (u : ℕ) (r : Rest) (o : Option Rest) → rest_at w.rests u ≡ o → IsSameRest o (rest_at rests u) → rest_at rests u ≡ Some r → IsUnheld w.tasks_out u → AreMeasured w.pool u r.heap.chunks
     measured_then u r None e S is f = none_some (sym S ∙ is)
     measured_then u r (Some z) e S is f = subst (λ (y : Rest). AreMeasured w.pool u y.heap.chunks) (same_Some _ r (sym S.2 ∙ is)) (I.measured u z e f)
 
@@ -66,9 +66,9 @@ module _ (w : SharedValue) (homes : List (Option Rest)) (sets : List SetOf) (man
       noted = many_sets ∙ I.noted;
       workers = I.workers;
       limit = I.limit;
-      stands = subst (λ (v : Memory). StandsForAll v (totals_of w) (accounts w)) (sym value_same) I.stands;
-      heaps = λ u r is. form_then u r (rest_at w.homes u) refl (same u) is;
-      measured = λ u r is f. measured_then u r (rest_at w.homes u) refl (same u) is f;
+      stands = subst (λ (v : Memory). StandsForAll v (tree_counts_of w) (accounts w)) (sym value_same) I.stands;
+      heaps = λ u r is. form_then u r (rest_at w.rests u) refl (same u) is;
+      measured = λ u r is f. measured_then u r (rest_at w.rests u) refl (same u) is f;
     }
 
   places_fit_by : (k : ℕ) (p : Private) → Fits w k p → Fits w' k p
@@ -83,14 +83,14 @@ module _ (w : SharedValue) (homes : List (Option Rest)) (sets : List SetOf) (man
 
 module _ (w after : SharedValue) (P : SameButPlaces w after) where
   pub places_world : IsSharedValue w → IsSharedValue after
-  places_world I = subst IsSharedValue (sym P.rest) (places_world_by w after.homes after.sets P.many P.homes P.many_sets P.sets I)
+  places_world I = subst IsSharedValue (sym P.rest) (places_world_by w after.rests after.sets P.many P.rests P.many_sets P.sets I)
 
   pub places_fit : (k : ℕ) (p : Private) → Fits w k p → Fits after k p
-  places_fit k p F = subst (λ (z : SharedValue). Fits z k p) (sym P.rest) (places_fit_by w after.homes after.sets P.many P.homes P.many_sets P.sets k p F)
+  places_fit k p F = subst (λ (z : SharedValue). Fits z k p) (sym P.rest) (places_fit_by w after.rests after.sets P.many P.rests P.many_sets P.sets k p F)
 
   -- what doesn't see homes and sets is the same
-  pub places_same : (G : SharedValue → Type 0) → ((homes : List (Option Rest)) (sets : List SetOf) → G w → G (record w { homes = homes; sets = sets })) → G w → G after
-  places_same G keeps g = subst G (sym P.rest) (keeps after.homes after.sets g)
+  pub places_same : (G : SharedValue → Type 0) → ((rests : List (Option Rest)) (sets : List SetOf) → G w → G (record w { rests = rests; sets = sets })) → G w → G after
+  places_same G keeps g = subst G (sym P.rest) (keeps after.rests after.sets g)
 
   -- an entry made after it is one made before it
   pub places_ends : (then_ : SharedValue) (k : ℕ) (p : Private) (answer : Option ℕ) → EndsChild after then_ k p answer → EndsChild w then_ k p answer
@@ -108,31 +108,31 @@ same_itself None o' e = e
 same_itself (Some r) o' e = (r.heap.slots, r.heap.spare, e)
 
 pub same_world : (w : SharedValue) → SameButPlaces w w
-same_world w = record { rest = refl; many = refl; homes = λ u. same_itself (rest_at w.homes u) (rest_at w.homes u) refl; many_sets = refl; sets = λ u. refl }
+same_world w = record { rest = refl; many = refl; rests = λ u. same_itself (rest_at w.rests u) (rest_at w.rests u) refl; many_sets = refl; sets = λ u. refl }
 
-module _ (w : SharedValue) (homes : List (Option Rest)) (sets : List SetOf) (q : ℕ) (many : length homes ≡ length w.homes) (others : (u : ℕ) → (u ≡ q → ⊥) → rest_at homes u ≡ rest_at w.homes u) (same : IsSameRest (rest_at w.homes q) (rest_at homes q))
+module _ (w : SharedValue) (rests : List (Option Rest)) (sets : List SetOf) (q : ℕ) (many : length rests ≡ length w.rests) (others : (u : ℕ) → (u ≡ q → ⊥) → rest_at rests u ≡ rest_at w.rests u) (same : IsSameRest (rest_at w.rests q) (rest_at rests q))
     (many_sets : length sets ≡ length w.sets) (same_sets : (u : ℕ) → content_at sets u ≡ content_at w.sets u) where
-  pub placed_same : SameButPlaces w (record w { homes = homes; sets = sets })
+  pub placed_same : SameButPlaces w (record w { rests = rests; sets = sets })
   placed_same = record {
     rest = refl;
     many = many;
-    homes = λ u. elim (cases_eq u q) [
-      | inl e ↦ subst (λ z. IsSameRest (rest_at w.homes z) (rest_at homes z)) (sym e) same
-      | inr ne ↦ same_itself (rest_at w.homes u) (rest_at homes u) (others u ne)
+    rests = λ u. elim (cases_eq u q) [
+      | inl e ↦ subst (λ z. IsSameRest (rest_at w.rests z) (rest_at rests z)) (sym e) same
+      | inr ne ↦ same_itself (rest_at w.rests u) (rest_at rests u) (others u ne)
     ];
     many_sets = many_sets;
     sets = same_sets;
   }
 
-  pub placed_has : (p : Private) (chunks sources : ℕ) → (q ≡ sibling p.task → ⊥) → chunks ≡ length p.heap.chunks + chunk_count (rest_at w.homes (sibling p.task)) → IfSome (rest_at homes q) (λ r. (chunks ≤ r.heap.slots) × (chunks ≤ r.heap.spare))
-      → sources ≡ length (sources_at w.sets p.task) + length (sources_at w.sets (sibling p.task)) → IfSome (slice_get sets q) (λ s. (sources ≤ s.remembered.slots) × (sources ≤ s.remembered.spare)) → HasPlaces (record w { homes = homes; sets = sets }) p q
+  pub placed_has : (p : Private) (chunks sources : ℕ) → (q ≡ sibling p.task → ⊥) → chunks ≡ length p.heap.chunks + chunk_count (rest_at w.rests (sibling p.task)) → IfSome (rest_at rests q) (λ r. (chunks ≤ r.heap.slots) × (chunks ≤ r.heap.spare))
+      → sources ≡ length (sources_at w.sets p.task) + length (sources_at w.sets (sibling p.task)) → IfSome (slice_get sets q) (λ s. (sources ≤ s.remembered.slots) × (sources ≤ s.remembered.spare)) → HasPlaces (record w { rests = rests; sets = sets }) p q
   placed_has p chunks sources ne ec h es s =
-      let other : chunk_count (rest_at homes (sibling p.task)) ≡ chunk_count (rest_at w.homes (sibling p.task)) = ap chunk_count (others (sibling p.task) (λ e. ne (sym e))) in
+      let other : chunk_count (rest_at rests (sibling p.task)) ≡ chunk_count (rest_at w.rests (sibling p.task)) = ap chunk_count (others (sibling p.task) (λ e. ne (sym e))) in
       let own_s : length (sources_at sets p.task) ≡ length (sources_at w.sets p.task) = ap (λ o. length (sources_by o)) (same_sets p.task) in
       let other_s : length (sources_at sets (sibling p.task)) ≡ length (sources_at w.sets (sibling p.task)) = ap (λ o. length (sources_by o)) (same_sets (sibling p.task)) in
-      let c : chunks ≡ length p.heap.chunks + chunk_count (rest_at homes (sibling p.task)) = omega (arith, ec, other) in
+      let c : chunks ≡ length p.heap.chunks + chunk_count (rest_at rests (sibling p.task)) = omega (arith, ec, other) in
       let d : sources ≡ length (sources_at sets p.task) + length (sources_at sets (sibling p.task)) = omega (arith, es, own_s, other_s) in
-      record { heap = subst (λ n. IfSome (rest_at homes q) (λ r. (n ≤ r.heap.slots) × (n ≤ r.heap.spare))) c h; set = subst (λ n. IfSome (slice_get sets q) (λ s. (n ≤ s.remembered.slots) × (n ≤ s.remembered.spare))) d s }
+      record { heap = subst (λ n. IfSome (rest_at rests q) (λ r. (n ≤ r.heap.slots) × (n ≤ r.heap.spare))) c h; set = subst (λ n. IfSome (slice_get sets q) (λ s. (n ≤ s.remembered.slots) × (n ≤ s.remembered.spare))) d s }
 
 -- the sources of a set that is there
 pub set_sources : (sets : List SetOf) (u : ℕ) (s : SetOf) → slice_get sets u ≡ Some s → s.remembered.sources ≡ sources_at sets u

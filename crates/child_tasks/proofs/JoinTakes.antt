@@ -16,7 +16,7 @@ use Rattle.task_homes.specs.declared.task_at_rest.Work.TheVariants.{Calls}
 use Rattle.task_homes.specs.HomesValue.{HomesValue}
 use Rattle.shared_value.specs.SharedValue.{marks_at, rest_at}
 use Rattle.child_tasks.specs.Forks.{nothing_noted}
-use Rattle.child_tasks.specs.Joins.{HomesJoin}
+use Rattle.child_tasks.specs.Joins.{RestsJoin}
 
 -- nothing is left of a task
 abbrev pub left_by : HomesValue → ℕ → HomesValue
@@ -138,9 +138,9 @@ module _ (h h1 h2 h3 h4 : HomesValue) (p : Private) (s q : ℕ) (own beside : Ho
     three_long : length (slice_set (slice_set (slice_set h.rests t None) s None) q None) ≡ length h.rests
     three_long = length-set (slice_set (slice_set h.rests t None) s None) q None ∙ two_long
 
-    pub homes_join : (frames : FramesValue) (heap : LeafHeapValue) → (q ≡ t → ⊥) → (q ≡ s → ⊥) → (s ≡ t → ⊥) → t < length h.rests → s < length h.rests → q < length h.rests
-        → rest ≡ record above { work = Calls frames; heap = heap } → HomesJoin h.rests h6.rests p q s frames heap above
-    homes_join frames heap qt qs st own_made other_made made er = record {
+    pub rests_join : (frames : FramesValue) (heap : LeafHeapValue) → (q ≡ t → ⊥) → (q ≡ s → ⊥) → (s ≡ t → ⊥) → t < length h.rests → s < length h.rests → q < length h.rests
+        → rest ≡ record above { work = Calls frames; heap = heap } → RestsJoin h.rests h6.rests p q s frames heap above
+    rests_join frames heap qt qs st own_made other_made made er = record {
       many = ap (λ (xs : List (Option Rest)). length xs) rests_then ∙ (length-set (slice_set (slice_set (slice_set h.rests t None) s None) q None) q (Some rest) ∙ three_long);
       parent_home = ap (λ (xs : List (Option Rest)). rest_at xs q) rests_then
           ∙ (ap option_flatten (got_set (slice_set (slice_set (slice_set h.rests t None) s None) q None) q (Some rest) (subst (λ n. q < n) (sym three_long) made)) ∙ ap Some er);

@@ -7,7 +7,7 @@ use Rattle.hh_model.specs.declared.data.State.{State as MachineState}
 use Rattle.hh_model.specs.declared.data.Status.{Status}
 use Rattle.hh_model.specs.declared.data.Status.TheVariants.{Running, Waiting as WaitingOf, Ended as EndedOf, Joined as JoinedOf}
 use Rattle.hh_model.specs.declared.data.Task.{Task}
-use Rattle.hh_model.specs.Step.{is_over, is_waiting, kept_by, result_in, waits}
+use Rattle.hh_model.specs.Step.{is_over, is_waiting, result_at, result_in, waits}
 use Rattle.object_layout.specs.declared.word.Addr.{Addr}
 use Rattle.alloc_path.specs.LeafHeapValue.{LeafHeapValue, room_of}
 use Rattle.chunk_rows.specs.View.{Level}
@@ -84,7 +84,7 @@ module _ (xs : List Node) (t q c d : ℕ) (child : (t ≡ c) ⊎ (t ≡ d)) (qc 
 
 -- ---- WHAT IS KNOWN OF TASKS
 
-pub kept_is : (o : Option Task) (r : ℤ × Option Name) → kept_by o ≡ Some r → (y : Task) × (o ≡ Some y) × (y.status ≡ EndedOf r.0 r.1)
+pub kept_is : (o : Option Task) (r : ℤ × Option Name) → result_at o ≡ Some r → (y : Task) × (o ≡ Some y) × (y.status ≡ EndedOf r.0 r.1)
 kept_is None r e = absurd cc
 kept_is (Some y) r e = (y, refl, by y.status e)
   where

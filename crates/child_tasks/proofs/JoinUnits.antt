@@ -4,7 +4,7 @@ use Rattle.std.proofs.lemmas.Bool.{cases_eq}
 use Rattle.std.proofs.lemmas.Option.{same_Some}
 use Rattle.listed.proofs.Members.{in_append_cases, in_append_left, in_append_right}
 use Rattle.listed.proofs.Options.{none_some}
-use Rattle.run_ledger.specs.declared.data.Heap.{Heap as Account}
+use Rattle.run_ledger.specs.declared.data.Heap.{Heap}
 use Rattle.run_ledger.specs.declared.data.Ledger.{Ledger}
 use Rattle.object_layout.specs.declared.word.Addr.{Addr}
 use Rattle.object_layout.specs.ChunkValue.{ChunkValue}
@@ -31,7 +31,7 @@ use Rattle.shared_value.proofs.UnitsMeasured.{measured_both, measured_kept, part
 use Rattle.shared_value.proofs.RootsHeld.{chunk_in}
 use Rattle.own_steps.specs.Alone.{alone_event}
 use Rattle.child_tasks.specs.ChildEnds.{IsAtEnd}
-use Rattle.child_tasks.specs.Joins.{AreSides, HomesJoin, IsRestOf}
+use Rattle.child_tasks.specs.Joins.{AreSides, RestsJoin, IsRestOf}
 use Rattle.child_tasks.proofs.ChildReturns as steps
 use Rattle.child_tasks.proofs.JoinHomes.{in_has}
 use Rattle.child_tasks.proofs.JoinedHomes as both
@@ -54,9 +54,9 @@ module _ (w : SharedValue) (k : ℕ) (p : Private) (I : IsSharedValue w) (F : Fi
 
   -- no worker holds the others that join
   unheld : (u : ℕ) → (u ≡ t → ⊥) → Rests R u → IsUnheld w.tasks_out u
-  unheld u ne rests = unheld_at_rest w u I on (sym (ap (λ (z : Account). z.worker) ((link.alone w k p I F on).heaps u ne)) ∙ rests)
+  unheld u ne rests = unheld_at_rest w u I on (sym (ap (λ (z : Heap). z.worker) ((link.alone w k p I F on).heaps u ne)) ∙ rests)
 
-  module _ (above beside : Rest) (frames : FramesValue) (above_is : rest_at w.homes q ≡ Some above) (calls : above.work ≡ Calls frames) (beside_is : IsRestOf (rest_at w.homes s) beside) (c : ℕ) (lh rh : LeafHeapValue) (al ar : ℤ × Option Addr) (side : AreSides p s beside c lh rh al ar) where
+  module _ (above beside : Rest) (frames : FramesValue) (above_is : rest_at w.rests q ≡ Some above) (calls : above.work ≡ Calls frames) (beside_is : IsRestOf (rest_at w.rests s) beside) (c : ℕ) (lh rh : LeafHeapValue) (al ar : ℤ × Option Addr) (side : AreSides p s beside c lh rh al ar) where
     rests_s : Rests R s
     rests_s = by side
       where
@@ -75,21 +75,21 @@ module _ (w : SharedValue) (k : ℕ) (p : Private) (I : IsSharedValue w) (F : Fi
         by (inl m) = ((λ e. nt (e ∙ sym m.0)), (λ e. ns (e ∙ sym m.1)))
         by (inr m) = ((λ e. ns (e ∙ sym m.0)), (λ e. nt (e ∙ sym m.1)))
 
-    beside_measured : (o : Option Rest) → rest_at w.homes s ≡ o → IsRestOf o beside → AreMeasured w.pool s beside.heap.chunks
+    beside_measured : (o : Option Rest) → rest_at w.rests s ≡ o → IsRestOf o beside → AreMeasured w.pool s beside.heap.chunks
     beside_measured None e r = subst (λ (z : Rest). AreMeasured w.pool s z.heap.chunks) (sym r.2) (λ x i. absurd i)
     beside_measured (Some z) e r = subst (λ (z : Rest). AreMeasured w.pool s z.heap.chunks) (sym r) (I.measured s z e unheld_s)
 
     both_measured : AreMeasured w.pool c lh.chunks × AreMeasured w.pool (c + 1) rh.chunks
     both_measured =
         both.sides_of w k p I F at_end free ended above beside frames above_is calls beside_is c lh rh al ar side (λ u g. AreMeasured w.pool u g.chunks)
-        F.measured.0 (beside_measured (rest_at w.homes s) refl beside_is)
+        F.measured.0 (beside_measured (rest_at w.rests s) refl beside_is)
 
     above_measured : AreMeasured w.pool q above.heap.chunks
     above_measured =
         I.measured q above above_is
         (unheld q (steps.parent_apart w k p I F at_end free) (both.rests_q w k p I F at_end free ended above beside frames above_is calls beside_is c lh rh al ar side))
 
-    module _ (homes : List (Option Rest)) (pool : PoolValue) (heap : LeafHeapValue) (H : HomesJoin w.homes homes p q s (with_results frames al ar) heap above) (relabelled : AreRelabelled w.pool pool (lh.chunks ++ rh.chunks) q)
+    module _ (rests : List (Option Rest)) (pool : PoolValue) (heap : LeafHeapValue) (H : RestsJoin w.rests rests p q s (with_results frames al ar) heap above) (relabelled : AreRelabelled w.pool pool (lh.chunks ++ rh.chunks) q)
         (heap_is : heap ≡ with_places (merged above.heap lh rh) heap.slots heap.spare) where
       -- what is of neither child stays
       owner_of_one : (u n units v : ℕ) (cs : List ChunkValue) (x : ChunkValue) → In cs x → x.number ≡ n → AreMeasured w.pool v cs → slot_at w.pool n ≡ Some (record { owner = u; units = units }) → u ≡ v
@@ -115,16 +115,16 @@ module _ (w : SharedValue) (k : ℕ) (p : Private) (I : IsSharedValue w) (F : Fi
           (measured_kept w.pool pool q above.heap.chunks (relabelled_own w.pool pool (lh.chunks ++ rh.chunks) q relabelled) above_measured)))
 
       -- THE HEAPS THEN
-      measured_at : (u : ℕ) (i z : Rest) → rest_at homes u ≡ Some i → rest_at homes u ≡ Some z → AreMeasured pool u z.heap.chunks → AreMeasured pool u i.heap.chunks
+      measured_at : (u : ℕ) (i z : Rest) → rest_at rests u ≡ Some i → rest_at rests u ≡ Some z → AreMeasured pool u z.heap.chunks → AreMeasured pool u i.heap.chunks
       measured_at u i z is that M = subst (λ (z : Rest). AreMeasured pool u z.heap.chunks) (same_Some z i (sym that ∙ is)) M
 
-      pub joined_measured : RestsAreMeasured pool homes (slice_set w.tasks_out k None)
+      pub joined_measured : RestsAreMeasured pool rests (slice_set w.tasks_out k None)
       joined_measured u i is none = elim (cases_eq u q) [
-        | inl e ↦ measured_at u i _ is (ap (rest_at homes) e ∙ H.parent_home) (subst (λ z. AreMeasured pool z heap.chunks) (sym e) heap_measured)
+        | inl e ↦ measured_at u i _ is (ap (rest_at rests) e ∙ H.parent_home) (subst (λ z. AreMeasured pool z heap.chunks) (sym e) heap_measured)
         | inr nq ↦ elim (cases_eq u t) [
-          | inl e ↦ none_some (sym H.own_home ∙ (ap (rest_at homes) (sym e) ∙ is))
+          | inl e ↦ none_some (sym H.own_home ∙ (ap (rest_at rests) (sym e) ∙ is))
           | inr nt ↦ elim (cases_eq u s) [
-            | inl e ↦ none_some (sym H.other_home ∙ (ap (rest_at homes) (sym e) ∙ is))
+            | inl e ↦ none_some (sym H.other_home ∙ (ap (rest_at rests) (sym e) ∙ is))
             | inr ns ↦
                 let apart = other_apart u nt ns in
                 measured_kept w.pool pool u i.heap.chunks (units_stay u apart.0 apart.1)

@@ -24,15 +24,15 @@ use Rattle.shared_value.specs.Fits.{Fits, IsAtWork}
 use Rattle.shared_value.specs.Entered.{refused}
 use Rattle.own_steps.specs.Alone.{alone_event}
 use Rattle.child_tasks.specs.ChildEnds.{EndsChild, IsAtEnd}
-use Rattle.child_tasks.specs.Joins.{CanJoin, HasPlaces, HomesJoin, IsRestOf, SetsJoin, left_of, other_child, own_child, parent_side, right_of, sources_at}
+use Rattle.child_tasks.specs.Joins.{CanJoin, HasPlaces, RestsJoin, IsRestOf, SetsJoin, left_of, other_child, own_child, parent_side, right_of, sources_at}
 use Rattle.child_tasks.proofs.JoinEntries as entry
 use Rattle.child_tasks.proofs.ChildReturns.{own_made}
 use Rattle.child_tasks.proofs.JoinPlaces.{set_sources}
-use Rattle.child_tasks.proofs.JoinTakes.{HomesPut, HomesTaken, above_was, beside_empty, beside_set_was, beside_was, homes_join, own_empty, parent_set, set_others, set_was, sets_many, unmarked}
+use Rattle.child_tasks.proofs.JoinTakes.{HomesPut, HomesTaken, above_was, beside_empty, beside_set_was, beside_was, rests_join, own_empty, parent_set, set_others, set_was, sets_many, unmarked}
 
 -- what is taken: all that belongs to the task and its sibling, and what goes with their parent and is noted for its heap
 pub record Taken (w : SharedValue) (p : Private) (parent other : ℕ) (h h1 h2 h3 h4 : HomesValue) (home beside : Home) (above : Rest) (set : SetOf) (notes : RememberedValue) (own oth left right : EndedChild) : Type 0 where
-  pub rests_are : h.rests ≡ w.homes
+  pub rests_are : h.rests ≡ w.rests
   pub sets_are : h.sets ≡ w.sets
   pub marks_are : h.marks ≡ w.marks
   pub homes : HomesTaken h h1 h2 h3 h4 p.task other parent home beside above set
@@ -77,13 +77,13 @@ module _ (w : SharedValue) (k : ℕ) (p : Private) (I : IsSharedValue w) (F : Fi
     st : s ≡ p.task → ⊥
     st = entry.other_apart w k p I F at_end free ended
 
-    beside_of : IsRestOf (rest_at w.homes s) beside
+    beside_of : IsRestOf (rest_at w.rests s) beside
     beside_of = subst (λ o. IsRestOf o beside) (beside_was h h1 h2 h3 h4 p s q home beside_home above set K.homes st ∙ ap (λ xs. rest_at xs s) K.rests_are) K.other_is.1
 
-    above_there : Some above ≡ rest_at w.homes q
+    above_there : Some above ≡ rest_at w.rests q
     above_there = sym (above_was h h1 h2 h3 h4 p s q home beside_home above set K.homes qt qs) ∙ ap (λ xs. rest_at xs q) K.rests_are
 
-    above_of : IsRestOf (rest_at w.homes q) above
+    above_of : IsRestOf (rest_at w.rests q) above
     above_of = subst (λ o. IsRestOf o above) above_there refl
 
     abbrev L : EndedChild
@@ -141,10 +141,10 @@ module _ (w : SharedValue) (k : ℕ) (p : Private) (I : IsSharedValue w) (F : Fi
       abbrev frames : FramesValue
       frames = entry.frames w k p I F at_end free ended above beside own_notes other_notes notes above_of beside_of
 
-      H : HomesJoin w.homes h6.rests p q s (with_results frames L.result R.result) rest.heap above
+      H : RestsJoin w.rests h6.rests p q s (with_results frames L.result R.result) rest.heap above
       H =
-          subst (λ xs. HomesJoin xs h6.rests p q s (with_results frames L.result R.result) rest.heap above) K.rests_are
-          (homes_join h h1 h2 h3 h4 p s q home beside_home above set K.homes h5 h6 rest put P.homes (with_results frames L.result R.result) rest.heap qt qs st
+          subst (λ xs. RestsJoin xs h6.rests p q s (with_results frames L.result R.result) rest.heap above) K.rests_are
+          (rests_join h h1 h2 h3 h4 p s q home beside_home above set K.homes h5 h6 rest put P.homes (with_results frames L.result R.result) rest.heap qt qs st
           (made_rests p.task (own_made w k p I F at_end free)) (made_rests s (entry.other_made w k p I F at_end free ended)) (made_rests q (entry.parent_made w k p I F at_end free ended))
           (P.rest_is frames (entry.frames_are w k p I F at_end free ended above beside own_notes other_notes notes above_of beside_of)))
 
@@ -155,7 +155,7 @@ module _ (w : SharedValue) (k : ℕ) (p : Private) (I : IsSharedValue w) (F : Fi
       made_of n a b = record w {
         tree = joined_nodes (with_state w.tree p.task Ended) n a.side.task b.side.task;
         pool = pool;
-        homes = h6.rests;
+        rests = h6.rests;
         sets = h6.sets;
         marks = h6.marks;
         tasks_out = slice_set w.tasks_out k None;
@@ -209,7 +209,7 @@ module _ (w : SharedValue) (k : ℕ) (p : Private) (I : IsSharedValue w) (F : Fi
     made n = record w {
       tree = joined_nodes (with_state w.tree p.task Ended) n left.side.task right.side.task;
       pool = pool;
-      homes = h6.rests;
+      rests = h6.rests;
       sets = h6.sets;
       marks = h6.marks;
       tasks_out = slice_set w.tasks_out k None;

@@ -5,9 +5,9 @@ use Rattle.std.proofs.lemmas.Bool.{cases_Bool, or_from}
 use Rattle.std.proofs.lemmas.Option.{same_Some}
 use Rattle.listed.proofs.Places.{all_from, in_map}
 use Rattle.hh_model.specs.declared.data.Name.{Name}
-use Rattle.hh_model.specs.declared.data.State.{State as MachineState}
+use Rattle.hh_model.specs.declared.data.State.{State}
 use Rattle.hh_model.specs.declared.data.Task.{Task}
-use Rattle.hh_model.specs.Step.{kept_by, result_of}
+use Rattle.hh_model.specs.Step.{result_at, result_of}
 use Rattle.run_ledger.specs.declared.data.Ledger.{Ledger}
 use Rattle.run_ledger.specs.Heaps.{heap_of}
 use Rattle.object_layout.specs.declared.word.Addr.{Addr}
@@ -115,7 +115,7 @@ module _ (w : SharedValue) (k : ℕ) (p : Private) (I : IsSharedValue w) (F : Fi
   by_result g view n (Calls f) = refl
   by_result g view n (Result i a) = refl
 
-  module _ (above beside : Rest) (frames : FramesValue) (above_is : rest_at w.homes q ≡ Some above) (calls : above.work ≡ Calls frames) (beside_is : IsRestOf (rest_at w.homes s) beside) (c : ℕ) (lh rh : LeafHeapValue) (al ar : ℤ × Option Addr) (side : AreSides p s beside c lh rh al ar) where
+  module _ (above beside : Rest) (frames : FramesValue) (above_is : rest_at w.rests q ≡ Some above) (calls : above.work ≡ Calls frames) (beside_is : IsRestOf (rest_at w.rests s) beside) (c : ℕ) (lh rh : LeafHeapValue) (al ar : ℤ × Option Addr) (side : AreSides p s beside c lh rh al ar) where
     pub home_above : vt.homes q ≡ home_by above.heap above.view above.allocations (Calls frames)
     home_above = off q (steps.parent_apart w k p I F at_end free) ∙ (ap home_in above_is ∙ ap (home_by above.heap above.view above.allocations) calls)
 
@@ -124,14 +124,14 @@ module _ (w : SharedValue) (k : ℕ) (p : Private) (I : IsSharedValue w) (F : Fi
     beside_home (Some z) e = ap home_of (sym e)
 
     pub home_beside : vt.homes s ≡ home_by beside.heap beside.view beside.allocations beside.work
-    home_beside = off s (steps.other_apart w k p I F at_end free) ∙ beside_home (rest_at w.homes s) beside_is
+    home_beside = off s (steps.other_apart w k p I F at_end free) ∙ beside_home (rest_at w.rests s) beside_is
 
-    beside_form : (o : Option Rest) → rest_at w.homes s ≡ o → IsRestOf o beside → HeapForm beside.heap
+    beside_form : (o : Option Rest) → rest_at w.rests s ≡ o → IsRestOf o beside → HeapForm beside.heap
     beside_form None f e = subst (λ (z : Rest). HeapForm z.heap) (sym e.2) (empty_form e.0 e.1)
     beside_form (Some z) f e = subst (λ (z : Rest). HeapForm z.heap) (sym e) (I.heaps s z f)
 
     other_form : HeapForm beside.heap
-    other_form = beside_form (rest_at w.homes s) refl beside_is
+    other_form = beside_form (rest_at w.rests s) refl beside_is
 
     pub above_form : HeapForm above.heap
     above_form = I.heaps q above above_is
@@ -148,7 +148,7 @@ module _ (w : SharedValue) (k : ℕ) (p : Private) (I : IsSharedValue w) (F : Fi
     own_has : (o : ℤ × Option Name) → o ≡ result_of x.top → HasResult vt R t o (part_result p)
     own_has o e = inr (record {
       task = x;
-      is = ap (λ (m : MachineState). slice_get m.tasks t) (before.machine_rests w k p I F at_end free ended) ∙ S.at.task;
+      is = ap (λ (m : State). slice_get m.tasks t) (before.machine_rests w k p I F at_end free ended) ∙ S.at.task;
       runs = S.at.runs;
       returns = e;
       frame = p.frames.top;
@@ -157,12 +157,12 @@ module _ (w : SharedValue) (k : ℕ) (p : Private) (I : IsSharedValue w) (F : Fi
       result = refl;
     })
 
-    other_has : (o : ℤ × Option Name) → kept_by (slice_get M.machine.tasks s) ≡ Some o → HasResult vt R s o (work_result beside.work)
+    other_has : (o : ℤ × Option Name) → result_at (slice_get M.machine.tasks s) ≡ Some o → HasResult vt R s o (work_result beside.work)
     other_has o e =
         let z = kept_is (slice_get M.machine.tasks s) o e in
         inl (record {
           task = z.0;
-          is = ap (λ (m : MachineState). slice_get m.tasks s) (before.machine_rests w k p I F at_end free ended) ∙ z.1;
+          is = ap (λ (m : State). slice_get m.tasks s) (before.machine_rests w k p I F at_end free ended) ∙ z.1;
           ended = z.2;
           result = ap (λ (i : Home). i.result) home_beside ∙ by_result beside.heap beside.view beside.allocations beside.work;
         })

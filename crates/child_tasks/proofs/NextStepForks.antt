@@ -7,7 +7,7 @@ use Rattle.hh_lang.specs.declared.instr.Instr.{Instr}
 use Rattle.hh_lang.specs.declared.instr.Instr.TheVariants.{Par}
 use Rattle.hh_lang.specs.declared.program.Line.{Line}
 use Rattle.hh_model.specs.declared.data.End.TheVariants.{Trapped}
-use Rattle.hh_model.specs.declared.data.State.{State as MachineState}
+use Rattle.hh_model.specs.declared.data.State.{State}
 use Rattle.hh_model.specs.declared.data.Task.{Task}
 use Rattle.hh_model.specs.declared.data.Trap.TheVariants.{Depth}
 use Rattle.hh_model.specs.Effect.{effect}
@@ -32,7 +32,7 @@ use Rattle.shared_value.specs.Fits.{Fits}
 use Rattle.shared_value.specs.Links.{above_of}
 use Rattle.shared_value.specs.Next.{next_line}
 use Rattle.shared_value.specs.Stands.{IsSharedValue}
-use Rattle.shared_value.specs.SharedValue.{SharedValue, accounts, totals_of, value_of}
+use Rattle.shared_value.specs.SharedValue.{SharedValue, accounts, tree_counts_of, value_of}
 use Rattle.shared_value.proofs.PartFitsMachine as link
 use Rattle.shared_value.proofs.BeforeTheEnd.{stands_now}
 use Rattle.shared_value.proofs.StepsEntered.{status}
@@ -56,7 +56,7 @@ par_is (Par g h) e = (g, h, refl)
 par_is _ e = absurd cc
 
 module _ (w : SharedValue) (p : Private) where
-  abbrev m : MachineState
+  abbrev m : State
   m = machine_after w p
 
   by_line : (x : Task) (o : Option Line) → is_fork o ≡ true → is_private_line w.program m p.task x o ≡ false
@@ -77,23 +77,23 @@ task_parent w None = refl
 task_parent w (Some x) = refl
 
 module _ (w : SharedValue) (I : IsSharedValue w) (on : (accounts w).end ≡ None) where
-  abbrev S0 : StandsFor (value_of w) (totals_of w) (accounts w)
+  abbrev S0 : StandsFor (value_of w) (tree_counts_of w) (accounts w)
   S0 = stands_now w I on
 
   pub tree_parents : (u : ℕ) → parent_in_tree w.tree u ≡ parents (accounts w).machine.tasks u
-  tree_parents u = ap parent_in (S0.totals.node u) ∙ task_parent (heap_of (accounts w) u).worker (slice_get (accounts w).machine.tasks u)
+  tree_parents u = ap parent_in (S0.tree_counts.node u) ∙ task_parent (heap_of (accounts w) u).worker (slice_get (accounts w).machine.tasks u)
 
   -- as many tasks as nodes
   pub tree_long : length w.tree ≡ length (accounts w).machine.tasks
   tree_long =
       same_length w.tree (accounts w).machine.tasks
-      (λ u. ap is_some (S0.totals.node u) ∙ some_map (as_node (heap_of (accounts w) u).worker) (slice_get (accounts w).machine.tasks u))
+      (λ u. ap is_some (S0.tree_counts.node u) ∙ some_map (as_node (heap_of (accounts w) u).worker) (slice_get (accounts w).machine.tasks u))
 
   -- the task of a part is out
   module _ (k : ℕ) (p : Private) (F : Fits w k p) where
     pub node_out : (n : Node) × (slice_get w.tree p.task ≡ Some n) × (n.state ≡ Out)
     node_out =
-        let is : slice_get w.tree p.task ≡ Some (as_node (heap_of (accounts w) p.task).worker F.fits.task) = S0.totals.node p.task ∙ ap (option_map (as_node (heap_of (accounts w) p.task).worker)) F.fits.is in
+        let is : slice_get w.tree p.task ≡ Some (as_node (heap_of (accounts w) p.task).worker F.fits.task) = S0.tree_counts.node p.task ∙ ap (option_map (as_node (heap_of (accounts w) p.task).worker)) F.fits.is in
         (as_node (heap_of (accounts w) p.task).worker F.fits.task, is, ap₂ state_by (status w k p I F on) F.held)
 
     pub tree_out : state_in_tree w.tree p.task ≡ Some Out
@@ -127,7 +127,7 @@ module _ (w : SharedValue) (k : ℕ) (p : Private) (I : IsSharedValue w) (F : Fi
   G = fits_machine w k p I F shared on
 
   fork_at : is_fork_by w.program (Some G.task) ≡ true
-  fork_at = ap (is_fork_by w.program) (sym G.is) ∙ (ap (λ (m : MachineState). is_fork_by w.program (slice_get m.tasks t)) (sym (machine_same w k p I F shared on)) ∙ at_fork.forks)
+  fork_at = ap (is_fork_by w.program) (sym G.is) ∙ (ap (λ (m : State). is_fork_by w.program (slice_get m.tasks t)) (sym (machine_same w k p I F shared on)) ∙ at_fork.forks)
 
   line_at : (line : Line) → next_line w.program p ≡ Some line → fetched w.program G.task.top ≡ Some line
   line_at line e = sym (same_line w.program p M.machine above G) ∙ e
@@ -164,7 +164,7 @@ module _ (w : SharedValue) (k : ℕ) (p : Private) (I : IsSharedValue w) (F : Fi
   low = (last.knows_mid w k p I F shared free_last).sound.kept.tree.low
 
   deep : AreDeep M.machine.tasks
-  deep = let r = G.reached in subst (λ (m : MachineState). AreDeep m.tasks) (sym r.2) (run_deep w.program r.0 r.1)
+  deep = let r = G.reached in subst (λ (m : State). AreDeep m.tasks) (sym r.2) (run_deep w.program r.0 r.1)
 
   pub depth_is : depth_of w.tree t ≡ S.task.depth
   depth_is = deep_in M.machine.tasks low deep (parent_in_tree w.tree) (λ u. tree_parents w I on u ∙ sym (then_parents u)) t S.task S.at.task

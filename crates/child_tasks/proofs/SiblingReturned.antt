@@ -4,10 +4,10 @@ use Rattle.std.proofs.lemmas.Bool.{cases_eq}
 use Rattle.std.proofs.lemmas.Option.{same_Some}
 use Rattle.listed.proofs.Members.{got_other, got_same}
 use Rattle.hh_model.specs.declared.data.Name.{Name}
-use Rattle.hh_model.specs.declared.data.State.{State as MachineState}
+use Rattle.hh_model.specs.declared.data.State.{State}
 use Rattle.hh_model.specs.declared.data.Status.TheVariants.{Waiting as WaitingOf, Ended as EndedOf}
 use Rattle.hh_model.specs.declared.data.Task.{Task}
-use Rattle.hh_model.specs.Step.{child_ended_by, is_joined, is_left, is_running, is_waiting, join_of, joined_task, kept_by, or_same, parents, result_of, resumed}
+use Rattle.hh_model.specs.Step.{child_ended_by, is_joined, is_left, is_running, is_waiting, join_of, joined_task, result_at, or_same, parents, result_of, resumed}
 use Rattle.path_laws.proofs.Leaves.{wait_there}
 use Rattle.run_trace.specs.Entry.{private_limit}
 use Rattle.run_ledger.specs.declared.data.Ledger.{Ledger}
@@ -95,7 +95,7 @@ module _ (w : SharedValue) (k : ℕ) (p : Private) (I : IsSharedValue w) (F : Fi
   s = steps.other w k p I F at_end free
 
   -- ---- THE MACHINE THEN
-  pub other_kept : (r : ℤ × Option Name) × (kept_by (slice_get M.machine.tasks s) ≡ Some r)
+  pub other_kept : (r : ℤ × Option Name) × (result_at (slice_get M.machine.tasks s) ≡ Some r)
   other_kept = steps.other_ended w k p I F at_end free ended
 
   other_task : (y : Task) × (slice_get M.machine.tasks s ≡ Some y) × (y.status ≡ EndedOf other_kept.0.0 other_kept.0.1)
@@ -113,7 +113,7 @@ module _ (w : SharedValue) (k : ℕ) (p : Private) (I : IsSharedValue w) (F : Fi
   abbrev r : ℤ × Option Name
   r = other_kept.0
 
-  abbrev joined_to : Bool → MachineState
+  abbrev joined_to : Bool → State
   joined_to b = cond b (join_of M.machine q xp t x y (result_of x.top) r) (join_of M.machine q xp (t - 1) y x r (result_of x.top))
 
   machine_is : L.machine ≡ joined_to (is_left t)
@@ -147,7 +147,7 @@ module _ (w : SharedValue) (k : ℕ) (p : Private) (I : IsSharedValue w) (F : Fi
       }
 
   pub over_then : IsOver L.machine t
-  over_then = subst (λ (m : MachineState). IsOver m t) (sym machine_is) (over_by (is_left t))
+  over_then = subst (λ (m : State). IsOver m t) (sym machine_is) (over_by (is_left t))
 
   pub Q : EndsLast M L t x
   Q = joins w.program M L t x S.line (last.is_not_private w k p I F shared free_last) (steps.says w k p I F at_end free).0 over_then.task over_then.is over_then.end over_then.over S.kind S.last
@@ -164,22 +164,22 @@ module _ (w : SharedValue) (k : ℕ) (p : Private) (I : IsSharedValue w) (F : Fi
   machine_rests = heap_machine M t let_go
 
   pub left_par : parents M.machine.tasks Q.left ≡ Some Q.parent
-  left_par = ap (λ (m : MachineState). parents m.tasks Q.left) (sym machine_rests) ∙ Q.can.left
+  left_par = ap (λ (m : State). parents m.tasks Q.left) (sym machine_rests) ∙ Q.can.left
 
   right_par : parents M.machine.tasks (Q.left + 1) ≡ Some Q.parent
-  right_par = ap (λ (m : MachineState). parents m.tasks (Q.left + 1)) (sym machine_rests) ∙ Q.can.right
+  right_par = ap (λ (m : State). parents m.tasks (Q.left + 1)) (sym machine_rests) ∙ Q.can.right
 
   left_live : is_joined (slice_get M.machine.tasks Q.left) ≡ false
-  left_live = ap (λ (m : MachineState). is_joined (slice_get m.tasks Q.left)) (sym machine_rests) ∙ Q.can.left_live
+  left_live = ap (λ (m : State). is_joined (slice_get m.tasks Q.left)) (sym machine_rests) ∙ Q.can.left_live
 
   right_live : is_joined (slice_get M.machine.tasks (Q.left + 1)) ≡ false
-  right_live = ap (λ (m : MachineState). is_joined (slice_get m.tasks (Q.left + 1))) (sym machine_rests) ∙ Q.can.right_live
+  right_live = ap (λ (m : State). is_joined (slice_get m.tasks (Q.left + 1))) (sym machine_rests) ∙ Q.can.right_live
 
   -- which of the two the task is
   abbrev pub Which : Type 0
   Which =
-      ((t ≡ Q.left) × (s ≡ Q.left + 1) × (Q.left_result ≡ result_of x.top) × (kept_by (slice_get M.machine.tasks s) ≡ Some Q.right_result))
-      ⊎ ((t ≡ Q.left + 1) × (s ≡ Q.left) × (Q.right_result ≡ result_of x.top) × (kept_by (slice_get M.machine.tasks s) ≡ Some Q.left_result))
+      ((t ≡ Q.left) × (s ≡ Q.left + 1) × (Q.left_result ≡ result_of x.top) × (result_at (slice_get M.machine.tasks s) ≡ Some Q.right_result))
+      ⊎ ((t ≡ Q.left + 1) × (s ≡ Q.left) × (Q.right_result ≡ result_of x.top) × (result_at (slice_get M.machine.tasks s) ≡ Some Q.left_result))
 
   sibling_is : (u : ℕ) → parents M.machine.tasks u ≡ Some Q.parent → parents M.machine.tasks t ≡ Some Q.parent → is_joined (slice_get M.machine.tasks u) ≡ false → (u ≡ t → ⊥) → s ≡ u
   sibling_is u pu pt live ne = elim ((steps.kept_tree w k p I F at_end free).brothers t u Q.parent pt pu (steps.live_mid w k p I F at_end free) live) [
@@ -190,14 +190,14 @@ module _ (w : SharedValue) (k : ℕ) (p : Private) (I : IsSharedValue w) (F : Fi
   pub which : Which
   which = by Q.results
     where
-      by : ((t ≡ Q.left) × (Q.left_result ≡ result_of x.top) × (kept_by (slice_get M.machine.tasks (Q.left + 1)) ≡ Some Q.right_result))
-          ⊎ ((t ≡ Q.left + 1) × (Q.right_result ≡ result_of x.top) × (kept_by (slice_get M.machine.tasks Q.left) ≡ Some Q.left_result)) → Which
+      by : ((t ≡ Q.left) × (Q.left_result ≡ result_of x.top) × (result_at (slice_get M.machine.tasks (Q.left + 1)) ≡ Some Q.right_result))
+          ⊎ ((t ≡ Q.left + 1) × (Q.right_result ≡ result_of x.top) × (result_at (slice_get M.machine.tasks Q.left) ≡ Some Q.left_result)) → Which
       by (inl z) =
           let e : s ≡ Q.left + 1 = sibling_is (Q.left + 1) right_par (ap (parents M.machine.tasks) z.0 ∙ left_par) right_live (λ f. omega (arith, f, z.0)) in
-          inl (z.0, e, z.1, ap (λ u. kept_by (slice_get M.machine.tasks u)) e ∙ z.2)
+          inl (z.0, e, z.1, ap (λ u. result_at (slice_get M.machine.tasks u)) e ∙ z.2)
       by (inr z) =
           let e : s ≡ Q.left = sibling_is Q.left left_par (ap (parents M.machine.tasks) z.0 ∙ right_par) left_live (λ f. omega (arith, f, z.0)) in
-          inr (z.0, e, z.1, ap (λ u. kept_by (slice_get M.machine.tasks u)) e ∙ z.2)
+          inr (z.0, e, z.1, ap (λ u. result_at (slice_get M.machine.tasks u)) e ∙ z.2)
 
   pub parent_same : Q.parent ≡ q
   parent_same = by which
@@ -269,7 +269,7 @@ module _ (w : SharedValue) (k : ℕ) (p : Private) (I : IsSharedValue w) (F : Fi
   pub waiting_parent : (y : Task) × (slice_get l.machine.tasks q ≡ Some y) × (y.status ≡ WaitingOf)
   waiting_parent = (xp, sym (steps.same_then w k p I F at_end free q (steps.parent_apart w k p I F at_end free)) ∙ above_task.1, above_status)
 
-  pub parent_calls : HasCalls (rest_at w.homes q)
+  pub parent_calls : HasCalls (rest_at w.rests q)
   parent_calls =
-      let held : TaskIsRead (Place vt R) (vt.homes q) xp = W.tasks q xp rests_parent (ap (λ (m : MachineState). slice_get m.tasks q) machine_rests ∙ above_task.1) in
-      waiting_calls (Place vt R) (rest_at w.homes q) xp above_status (subst (λ (i : Home). TaskIsRead (Place vt R) i xp) (off q (steps.parent_apart w k p I F at_end free)) held)
+      let held : TaskIsRead (Place vt R) (vt.homes q) xp = W.tasks q xp rests_parent (ap (λ (m : State). slice_get m.tasks q) machine_rests ∙ above_task.1) in
+      waiting_calls (Place vt R) (rest_at w.rests q) xp above_status (subst (λ (i : Home). TaskIsRead (Place vt R) i xp) (off q (steps.parent_apart w k p I F at_end free)) held)

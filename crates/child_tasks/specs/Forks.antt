@@ -74,12 +74,12 @@ abbrev pub part_child : Private → ℕ → ℕ → ℕ → ℕ → Child
 part_child p task fun slots spare = new_child task p.frames fun (view_below p.heap.chunks (Some p.view)) slots spare
 
 -- the task of the part has a home again, and there are two homes more
-pub record HomesFork (homes after : List (Option Rest)) (p : Private) (left right : ℕ) : Type 0 where
-  pub count : length after ≡ length homes + 2
+pub record RestsFork (rests after : List (Option Rest)) (p : Private) (left right : ℕ) : Type 0 where
+  pub count : length after ≡ length rests + 2
   pub parent : rest_at after p.task ≡ Some (waiting_rest p)
-  pub left_home : (slots : ℕ) × (spare : ℕ) × (rest_at after (length homes) ≡ Some (begun_rest (part_child p (length homes) left slots spare)))
-  pub right_home : (slots : ℕ) × (spare : ℕ) × (rest_at after (length homes + 1) ≡ Some (begun_rest (part_child p (length homes + 1) right slots spare)))
-  pub others : (u : ℕ) → u ≢ p.task → u ≢ length homes → u ≢ length homes + 1 → rest_at after u ≡ rest_at homes u
+  pub left_home : (slots : ℕ) × (spare : ℕ) × (rest_at after (length rests) ≡ Some (begun_rest (part_child p (length rests) left slots spare)))
+  pub right_home : (slots : ℕ) × (spare : ℕ) × (rest_at after (length rests + 1) ≡ Some (begun_rest (part_child p (length rests + 1) right slots spare)))
+  pub others : (u : ℕ) → u ≢ p.task → u ≢ length rests → u ≢ length rests + 1 → rest_at after u ≡ rest_at rests u
 
 abbrev pub nothing_noted : Content
 nothing_noted = record { sources = []; kept = []; keeps = false }

@@ -10,7 +10,7 @@ use Rattle.heap_tree.specs.Node.{Node}
 use Rattle.remembered_set.specs.declared.remembered.Source.{Source}
 use Rattle.remembered_set.specs.Sources.{RememberedValue, lifted}
 use Rattle.write_barrier.specs.declared.sets.SetOf.{SetOf}
-use Rattle.write_barrier.specs.Stored.{Content as Noted, content_at}
+use Rattle.write_barrier.specs.Stored.{Content, content_at}
 use Rattle.fork_join.specs.Forked.{no_heap}
 use Rattle.fork_join.specs.declared.sides.EndedChild.{EndedChild}
 use Rattle.fork_join.specs.declared.sides.Side.{Side}
@@ -43,14 +43,14 @@ IsRestOf None r = (slots : ℕ) × (spare : ℕ) × (r ≡ no_rest slots spare)
 IsRestOf (Some x) r = r ≡ x
 
 -- the parent has this heap and goes on with these frames, and the children leave no home
-pub record HomesJoin (homes after : List (Option Rest)) (p : Private) (parent other : ℕ) (frames : FramesValue) (heap : LeafHeapValue) (above : Rest) : Type 0 where
-  pub many : length after ≡ length homes
+pub record RestsJoin (rests after : List (Option Rest)) (p : Private) (parent other : ℕ) (frames : FramesValue) (heap : LeafHeapValue) (above : Rest) : Type 0 where
+  pub many : length after ≡ length rests
   pub parent_home : rest_at after parent ≡ Some (record above { work = Calls frames; heap = heap })
   pub own_home : rest_at after p.task ≡ None
   pub other_home : rest_at after other ≡ None
-  pub others : (u : ℕ) → u ≢ parent → u ≢ p.task → u ≢ other → rest_at after u ≡ rest_at homes u
+  pub others : (u : ℕ) → u ≢ parent → u ≢ p.task → u ≢ other → rest_at after u ≡ rest_at rests u
 
-abbrev pub sources_by : Option Noted → List Source
+abbrev pub sources_by : Option Content → List Source
 sources_by None = []
 sources_by (Some c) = c.sources
 
@@ -76,9 +76,9 @@ AreSides p other beside left lh rh al ar =
 
 -- the same shared value, but for the places that heaps and sets have for more
 pub record SameButPlaces (w after : SharedValue) : Type 0 where
-  pub rest : after ≡ record w { homes = after.homes; sets = after.sets }
-  pub many : length after.homes ≡ length w.homes
-  pub homes : (u : ℕ) → IsSameRest (rest_at w.homes u) (rest_at after.homes u)
+  pub rest : after ≡ record w { rests = after.rests; sets = after.sets }
+  pub many : length after.rests ≡ length w.rests
+  pub rests : (u : ℕ) → IsSameRest (rest_at w.rests u) (rest_at after.rests u)
   pub many_sets : length after.sets ≡ length w.sets
   pub sets : (u : ℕ) → content_at after.sets u ≡ content_at w.sets u
 
@@ -93,7 +93,7 @@ chunk_count (Some r) = length r.heap.chunks
 
 -- the heap and the set of the parent have places for all that a part and its sibling bring
 pub record HasPlaces (w : SharedValue) (p : Private) (parent : ℕ) : Type 0 where
-  pub heap : IfSome (rest_at w.homes parent) (λ r. (length p.heap.chunks + chunk_count (rest_at w.homes (sibling p.task)) ≤ r.heap.slots) × (length p.heap.chunks + chunk_count (rest_at w.homes (sibling p.task)) ≤ r.heap.spare))
+  pub heap : IfSome (rest_at w.rests parent) (λ r. (length p.heap.chunks + chunk_count (rest_at w.rests (sibling p.task)) ≤ r.heap.slots) × (length p.heap.chunks + chunk_count (rest_at w.rests (sibling p.task)) ≤ r.heap.spare))
   pub set : IfSome (slice_get w.sets parent) (λ s. (length (sources_at w.sets p.task) + length (sources_at w.sets (sibling p.task)) ≤ s.remembered.slots) × (length (sources_at w.sets p.task) + length (sources_at w.sets (sibling p.task)) ≤ s.remembered.spare))
 
 -- ---- BOTH CHILDREN

@@ -14,7 +14,7 @@ use Rattle.leaf_copy_gc.specs.Survivors.{olds}
 use Rattle.leaf_copy_gc.specs.Laid.{Laying, before, laid_all, laid_one, open_next, opened, placed, room_in, smalls}
 use Rattle.leaf_copy_gc.specs.Redirected.{led_chunk}
 use Rattle.leaf_copy_gc.specs.Exchanged.{emptied, reserved_of, unreserved}
-use Rattle.leaf_copy_gc.specs.Collected.{back_of, collected, keeps, kept_of, laid_of, laying_of, leaves, redirection}
+use Rattle.leaf_copy_gc.specs.Collected.{back_of, collected, keeps, large_of, laid_of, laying_of, leaves, redirection}
 use Rattle.collected_heap_laws.specs.Laws.{labels, ChunksAreKept}
 
 abbrev Label : Type 0
@@ -125,12 +125,12 @@ module _ (h : LeafHeapValue) (ss : List Survivor) (news : List ChunkValue) (w : 
   after =
       let f = redirection h.chunks ss (reverse news) in
       let a : labels (laid_of h ss (reverse news)) ≡ L = labels_led f (laying_of h.chunks ss (reverse news)).laid in
-      let b : labels (kept_of h ss (reverse news)) ≡ K = labels_led f (filter (keeps ss) U) in
+      let b : labels (large_of h ss (reverse news)) ≡ K = labels_led f (filter (keeps ss) U) in
       let c : labels (map emptied (filter (leaves ss) U)) ≡ E = labels_emptied (filter (leaves ss) U) in
       let now : labels (collected h ss (reverse news)).chunks ≡ L ++ (K ++ R) =
-      labels_append (laid_of h ss (reverse news)) (kept_of h ss (reverse news) ++ reserved_of h.chunks h.reserved)
-      ∙ (ap (λ (xs : List Label). labels (laid_of h ss (reverse news)) ++ xs) (labels_append (kept_of h ss (reverse news)) (reserved_of h.chunks h.reserved))
-      ∙ (ap (λ (xs : List Label). xs ++ (labels (kept_of h ss (reverse news)) ++ R)) a ∙ ap (λ (xs : List Label). L ++ (xs ++ R)) b)) in
+      labels_append (laid_of h ss (reverse news)) (large_of h ss (reverse news) ++ reserved_of h.chunks h.reserved)
+      ∙ (ap (λ (xs : List Label). labels (laid_of h ss (reverse news)) ++ xs) (labels_append (large_of h ss (reverse news)) (reserved_of h.chunks h.reserved))
+      ∙ (ap (λ (xs : List Label). xs ++ (labels (large_of h ss (reverse news)) ++ R)) a ∙ ap (λ (xs : List Label). L ++ (xs ++ R)) b)) in
       let given : labels (back_of h ss (reverse news)) ≡ E ++ S = labels_append (map emptied (filter (leaves ss) U)) (reverse spare) ∙ ap (λ (xs : List Label). xs ++ S) c in
       labels_append (collected h ss (reverse news)).chunks (back_of h ss (reverse news))
       ∙ (ap (λ (xs : List Label). xs ++ labels (back_of h ss (reverse news))) now ∙ ap (λ (xs : List Label). (L ++ (K ++ R)) ++ xs) given)

@@ -9,7 +9,7 @@ use Rattle.object_layout.specs.Cell.{Born, Cell, IsBorn, IsObject, no_cell, size
 use Rattle.object_layout.specs.ChunkValue.{ChunkValue}
 use Rattle.object_layout.specs.Place.{cell_at, IsCellAt}
 use Rattle.object_layout.specs.Chunks.{cell_of, chunk_at}
-use Rattle.object_layout.specs.Graph.{IsHeld}
+use Rattle.object_layout.specs.Graph.{HasObjectAt}
 use Rattle.object_layout.proofs.PlaceLemmas as place
 use Rattle.object_layout.proofs.ChunkLaws as laws
 use Rattle.object_layout.proofs.Distinct.{once_from}
@@ -19,7 +19,7 @@ use Rattle.alloc_path.specs.LeafHeapValue.{AreTidy, LeafHeapValue, IsReserved, I
 use Rattle.leaf_copy_gc.specs.declared.lists.Survivor.{Survivor}
 use Rattle.leaf_copy_gc.specs.Survivors.{olds}
 use Rattle.leaf_copy_gc.specs.Exchanged.{reserved_of, unreserved}
-use Rattle.leaf_copy_gc.specs.Collected.{AreSurvivors, collected, keeps, kept_of, laid_of, moves_of, redirection}
+use Rattle.leaf_copy_gc.specs.Collected.{AreSurvivors, collected, keeps, large_of, laid_of, moves_of, redirection}
 use Rattle.leaf_copy_gc.specs.Laws.{CanTake}
 use Rattle.collected_heap_laws.specs.Laws.{LargeAreRead, MovedAreRead}
 use Rattle.leaf_copy_gc.proofs.Moves as moves
@@ -138,12 +138,12 @@ led_there f (k ∷ ks) a =
 -- ---- the law
 
 module _ (h : LeafHeapValue) (from : List (Option Addr)) (ss : List Survivor) (news : List ChunkValue) (s : AreSurvivors h.chunks from ss) (t : CanTake h.chunks news) where
-  lives : (a : Addr) → In (olds ss) a → IsHeld h.chunks a
+  lives : (a : Addr) → In (olds ss) a → HasObjectAt h.chunks a
   lives a i =
       let u = in_unmap ss a i in
-      subst (IsHeld h.chunks) u.1.1 (subst IsBorn (sym (read_in (λ (x : Survivor). (cell_of h.chunks x.old).mark ≡ Born x.birth) ss u.0 u.1.0 s.names)) tt)
+      subst (HasObjectAt h.chunks) u.1.1 (subst IsBorn (sym (read_in (λ (x : Survivor). (cell_of h.chunks x.old).mark ≡ Born x.birth) ss u.0 u.1.0 s.names)) tt)
 
-  pub small : (a : Addr) → In (smalls h.chunks (olds ss)) a → IsHeld h.chunks a × (is_small h.chunks a ≡ true)
+  pub small : (a : Addr) → In (smalls h.chunks (olds ss)) a → HasObjectAt h.chunks a × (is_small h.chunks a ≡ true)
   small a i = let p = moves.in_smalls h.chunks (olds ss) a i in (lives a p.0, p.1)
 
   pub room : HaveRoom (before (reverse news)) h.chunks (smalls h.chunks (olds ss))
@@ -166,7 +166,7 @@ module _ (h : LeafHeapValue) (from : List (Option Addr)) (ss : List Survivor) (n
       let object : IsObject (cell_of h.chunks old).mark = laws.born_object h.chunks old (small old (moved_from (before (reverse news)) h.chunks xs (old, new) i)).0 in
       let read : cell_of (laid_of h ss (reverse news)) new ≡ led_cell (redirection h.chunks ss (reverse news)) (cell_of h.chunks old) =
       led_there (redirection h.chunks ss (reverse news)) (laid_all (before (reverse news)) h.chunks xs).laid new ∙ ap (led_cell (redirection h.chunks ss (reverse news))) there in
-      extent.in_first (laid_of h ss (reverse news)) (kept_of h ss (reverse news) ++ reserved_of h.chunks h.reserved) new
+      extent.in_first (laid_of h ss (reverse news)) (large_of h ss (reverse news) ++ reserved_of h.chunks h.reserved) new
       (object_number (laid_of h ss (reverse news)) new (subst (λ (d : Cell). IsObject d.mark) (sym read) object)) ∙ read
 
 pub moved_are_read : MovedAreRead
@@ -224,10 +224,10 @@ module _ (h : LeafHeapValue) (from : List (Option Addr)) (ss : List Survivor) (n
       nums.distinct_apart_parts (numbers h.chunks) (numbers news) all_once n j (nums.in_reverse news n k)
 
   module _ (a : Addr) (i : In (olds ss) a) (big : is_small h.chunks a ≡ false) where
-    live : IsHeld h.chunks a
+    live : HasObjectAt h.chunks a
     live =
         let u = in_unmap ss a i in
-        subst (IsHeld h.chunks) u.1.1 (subst IsBorn (sym (read_in (λ (x : Survivor). (cell_of h.chunks x.old).mark ≡ Born x.birth) ss u.0 u.1.0 s.names)) tt)
+        subst (HasObjectAt h.chunks) u.1.1 (subst IsBorn (sym (read_in (λ (x : Survivor). (cell_of h.chunks x.old).mark ≡ Born x.birth) ss u.0 u.1.0 s.names)) tt)
 
     own : (k : ChunkValue) × (In h.chunks k × (k.number ≡ a.chunk))
     own = extent.chunk_in h.chunks a.chunk (object_number h.chunks a (laws.born_object h.chunks a live))

@@ -2,7 +2,7 @@
 use Rattle.std.proofs.Common.{◌≡◌, ◌∙◌, ◌++◌, ◌∷◌, ℕ, List, Option, Some, true, refl, sym, ap, subst}
 use Rattle.listed.proofs.Members.{contains_from_in, in_from_contains}
 use Rattle.hh_lang.specs.Form.{IsProgram, ProgramText}
-use Rattle.hh_model.specs.declared.data.State.{State as Machine}
+use Rattle.hh_model.specs.declared.data.State.{State}
 use Rattle.hh_model.specs.Effect.{object_at}
 use Rattle.hh_model.specs.Step.{run}
 use Rattle.model_laws.proofs.Stopped.{reads_are_decided}
@@ -45,7 +45,7 @@ module _ (w : SharedValue) (I : IsSharedValue w) (t : ℕ) (R : Rests (handed (a
         contains_from_in (held_in (heap_of l t)) (object_name o) (subst (λ ns. In ns (object_name o)) (handed_held l t) (object_held (v.homes t).chunks (heap_of (handed l) t) H.names o i));
     all = λ n c. held_object (v.homes t).chunks (heap_of (handed l) t) H.names n (subst (λ ns. In ns n) (sym (handed_held l t)) (in_from_contains (held_in (heap_of l t)) n c));
     once = H.named;
-    contents = λ o i. let x = I.stands.homes.contents t o R i in (x.0, ap (λ (m : Machine). object_at m.store (object_name o)) (sym (same_machine w I)) ∙ x.1, x.2);
+    contents = λ o i. let x = I.stands.homes.contents t o R i in (x.0, ap (λ (m : State). object_at m.store (object_name o)) (sym (same_machine w I)) ∙ x.1, x.2);
   }
 
 heaps_are_held : (w : SharedValue) (I : IsSharedValue w) → HeapsAreHeld (Some (without_journal w)) (accounts w)

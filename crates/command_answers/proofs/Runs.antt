@@ -25,7 +25,7 @@ use Rattle.command_answers.specs.declared.wanted.Wanted.{Wanted}
 use Rattle.command_answers.specs.declared.wanted.Wanted.TheVariants.{Amid}
 use Rattle.command_answers.specs.Status.{status_of_end}
 use Rattle.command_answers.specs.Answers.{AnswersReplayed, AnswersTrace, IsReplay, Refuses, StandsReplayed, WhereWhole, extras_of, short_of}
-use Rattle.command_answers.specs.Delivery.{IsWanted, left_by}
+use Rattle.command_answers.specs.Delivery.{IsWanted, remains_by}
 use Rattle.command_answers.specs.Runs.{HandsBack, IsReplayedRun, LeavesPrefix}
 use Rattle.command_answers.proofs.Traces.{trace_told}
 
@@ -119,7 +119,7 @@ replayed_told o t s entries (Err (Stops r)) a limits is has stop h = trace_told 
 replayed_told o t s entries (Err (WantsMemory x)) a limits is has stop h = absurd h
 
 pub replayed_left : (o : Options) (t : TraceInput) (s : SettingsValue) (entries : List EntryValue) (r : Result WorldValue ReplayStop) (found : Wanted) → s ≡ limits_for o.settings t → entries ≡ t.trace.entries
-    → IfOk r (HasReplayed t.program s entries) → IfErr r (IsStop t.program s entries) → StandsReplayed r → found ≡ left_by r → IsWanted (LeavesPrefix t.program (limits_for o.settings t) t.trace.entries) found
+    → IfOk r (HasReplayed t.program s entries) → IfErr r (IsStop t.program s entries) → StandsReplayed r → found ≡ remains_by r → IsWanted (LeavesPrefix t.program (limits_for o.settings t) t.trace.entries) found
 replayed_left o t s entries (Ok x) found limits is has stop stands e =
     entries_left o t s entries x.shared found limits is stands has.program has.settings (all_prefix x.shared.journal.items entries has.journal) e
 replayed_left o t s entries (Err (Stops r)) found limits is has stop stands e = subst (IsWanted (LeavesPrefix t.program (limits_for o.settings t) t.trace.entries)) (sym e) tt

@@ -64,16 +64,16 @@ pub record HandsNothing (named : Status) (r : Ran) : Type 0 where
 -- WANT OF MEMORY in the making of an answer
 
 -- of a run that has made no entry nothing is left, and of any other all that it has come to
-abbrev pub left_of : Option SharedValue → Wanted
-left_of None = Before
-left_of (Some w) = Amid w.journal.items (without_journal w)
+abbrev pub remains_of : Option SharedValue → Wanted
+remains_of None = Before
+remains_of (Some w) = Amid w.journal.items (without_journal w)
 
 -- what a replay leaves that has come so far; a refused entry is answered with nothing of its run
-abbrev pub left_by : Result WorldValue ReplayStop → Wanted
-left_by (Ok x) = left_of (Some x.shared)
-left_by (Err (RefusedAt r)) = Before
-left_by (Err (WantsMemory None)) = Before
-left_by (Err (WantsMemory (Some x))) = left_of (Some x.shared)
+abbrev pub remains_by : Result WorldValue ReplayStop → Wanted
+remains_by (Ok x) = remains_of (Some x.shared)
+remains_by (Err (RefusedAt r)) = Before
+remains_by (Err (WantsMemory None)) = Before
+remains_by (Err (WantsMemory (Some x))) = remains_of (Some x.shared)
 
 -- before a run began, or amid it, where this is left of it
 abbrev pub IsWanted : (List EntryValue → Option SharedValue → Type 0) → Wanted → Type 0

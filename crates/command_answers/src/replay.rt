@@ -6,7 +6,7 @@ ghost use Rattle.shared_value.specs.Stands.{IsSharedValue};
 ghost use Rattle.shared_value.specs.SharedValue.{without_journal};
 ghost use Rattle.trace_input.specs.Input.{limits_for};
 ghost use Rattle.command_answers.specs.Answers.{AnswersReplay, AnswersReplayed, AnswersTrace, IsReplay, LeavesReplay, Refuses, StandsReplayed, WhereWhole, short_of};
-ghost use Rattle.command_answers.specs.Delivery.{IsWanted, left_by};
+ghost use Rattle.command_answers.specs.Delivery.{IsWanted, remains_by};
 ghost use Rattle.command_answers.specs.Runs.{IsReplayedRun, LeavesPrefix};
 
 use crate::answer::Answer;
@@ -52,7 +52,7 @@ fn answer_replayed(
     extras: Extras,
 ) -> Result<Answer, Wanted>
     ensures answer { IfOk result (AnswersReplayed extras replayed) }
-    ensures wanted { IfErr result (λ w. w ≡ left_by replayed) }
+    ensures wanted { IfErr result (λ w. w ≡ remains_by replayed) }
     ensures stands { StandsReplayed replayed }
 {
     match replayed {

@@ -14,7 +14,7 @@ use Rattle.worker_run.specs.Outcomes.{IsRun, finish_of}
 use Rattle.command_answers.specs.declared.answer.Answer.{Answer}
 use Rattle.command_answers.specs.declared.wanted.Wanted.{Wanted}
 use Rattle.command_answers.specs.declared.wanted.Wanted.TheVariants.{Amid}
-use Rattle.command_answers.specs.Delivery.{IsWanted, left_of}
+use Rattle.command_answers.specs.Delivery.{IsWanted, remains_of}
 use Rattle.command_answers.specs.Runs.{IsReplayedRun, IsWorkersRun, LeavesPaced}
 use Rattle.command_answers.proofs.Runs.{handed}
 
@@ -32,7 +32,7 @@ workers_left p s w found run is =
     subst (IsWanted (LeavesPaced p s)) (sym is) (handed p s w w.journal.items (Some (without_journal w)) run.stands run.program run.settings refl refl, run.paced)
 
 -- of what they have left, whatever it is
-pub left_wanted : (p : ProgramText) (s : SettingsValue) (o : Option SharedValue) (found : Wanted) → IfSome o (IsRun p s) → found ≡ left_of o → IsWanted (LeavesPaced p s) found
+pub left_wanted : (p : ProgramText) (s : SettingsValue) (o : Option SharedValue) (found : Wanted) → IfSome o (IsRun p s) → found ≡ remains_of o → IsWanted (LeavesPaced p s) found
 left_wanted p s None found run is = subst (IsWanted (LeavesPaced p s)) (sym is) tt
 left_wanted p s (Some w) found run is = workers_left p s w found run is
 

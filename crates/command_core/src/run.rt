@@ -4,7 +4,7 @@ ghost use Rattle.std.specs.Prelude.{◌≡◌, IfOk, IfErr, Some};
 ghost use Rattle.run_ledger.specs.declared.data.RunEnd.{RunEnd};
 ghost use Rattle.shared_value.specs.SharedValue.{SharedValue, accounts};
 ghost use Rattle.command_answers.specs.Answers.{AnswersProgram, AnswersRun, LeavesRun};
-ghost use Rattle.command_answers.specs.Delivery.{IsWanted, left_of};
+ghost use Rattle.command_answers.specs.Delivery.{IsWanted, remains_of};
 ghost use Rattle.command_answers.specs.Runs.{LeavesPaced};
 ghost use Rattle.command_core.specs.Left.{AnswersLeft};
 
@@ -23,7 +23,7 @@ use worker_run::{Finish, Outcome, run_on_workers};
 fn answer_left(alloc: Global, outcome: Outcome, extras: Extras) -> Result<Answer, Wanted>
     requires { (w : SharedValue) (end : RunEnd) → outcome.shared ≡ Some w → outcome.finish ≡ Finish.Ended end → (accounts w).end ≡ Some end }
     ensures answer { IfOk result (AnswersLeft outcome extras) }
-    ensures wanted { IfErr result (λ w. w ≡ left_of outcome.shared) }
+    ensures wanted { IfErr result (λ w. w ≡ remains_of outcome.shared) }
 {
     let Outcome { finish, shared } = outcome;
     match (finish, shared) {

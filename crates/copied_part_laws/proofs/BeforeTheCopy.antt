@@ -5,7 +5,7 @@ use Rattle.std.proofs.lemmas.Bool.{eqb-true}
 use Rattle.listed.proofs.Members.{in_append_cases, in_append_left, in_append_right}
 use Rattle.hh_model.specs.declared.data.Name.{Name}
 use Rattle.hh_model.specs.declared.data.State.{State}
-use Rattle.run_ledger.specs.declared.data.Heap.{Heap as Account}
+use Rattle.run_ledger.specs.declared.data.Heap.{Heap}
 use Rattle.run_ledger.specs.Heaps.{words_at}
 use Rattle.object_layout.specs.Cell.{Born, Cell, Hole, Mark, Moved, size_of}
 use Rattle.object_layout.specs.ChunkValue.{ChunkValue}
@@ -27,7 +27,7 @@ use Rattle.core_entry_laws.proofs.notes.MarksAll.{NamedOnce}
 use Rattle.copied_part_laws.proofs.ObjectsApart.{span}
 
 -- a heap with these survivors, and its account in this state of the machine
-pub record Old (h : LeafHeapValue) (ss : List Survivor) (m : State) (a : Account) : Type 0 where
+pub record Old (h : LeafHeapValue) (ss : List Survivor) (m : State) (a : Heap) : Type 0 where
   pub form : HeapForm h
   pub names : HasNames (chunks_of h.chunks) a
   pub named : (o q : Located) → In (objects_in (chunks_of h.chunks)) o → In (objects_in (chunks_of h.chunks)) q → object_name o ≡ object_name q → o ≡ q

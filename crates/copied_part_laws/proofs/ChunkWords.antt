@@ -9,7 +9,7 @@ use Rattle.run_ledger.specs.Heaps.{words_at, words_sum}
 use Rattle.object_layout.specs.declared.word.Addr.{Addr}
 use Rattle.object_layout.specs.Cell.{Born, Cell, Hole, Mark, Moved, moved_to, size_of}
 use Rattle.object_layout.specs.ChunkValue.{ChunkValue, number_of}
-use Rattle.object_layout.specs.Chunks.{cell_of, held_in as held_cells, held_size, held_words}
+use Rattle.object_layout.specs.Chunks.{cell_of, object_words_in as held_cells, held_size, held_words}
 use Rattle.object_layout.specs.Objects.{Located, located, objects_from}
 use Rattle.object_layout.proofs.ObjectLemmas.{behind, first}
 use Rattle.alloc_path.specs.LeafHeapValue.{units}

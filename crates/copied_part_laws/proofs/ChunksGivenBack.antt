@@ -7,7 +7,7 @@ use Rattle.std.specs.Prelude.{option_map}
 use Rattle.listed.proofs.Members.{in_append_cases, in_append_left, in_append_right, in_from_kept}
 use Rattle.listed.proofs.Places.{all_from}
 use Rattle.hh_model.specs.declared.data.State.{State}
-use Rattle.run_ledger.specs.declared.data.Heap.{Heap as Account}
+use Rattle.run_ledger.specs.declared.data.Heap.{Heap}
 use Rattle.object_layout.specs.declared.word.Addr.{Addr}
 use Rattle.object_layout.specs.ChunkValue.{ChunkValue}
 use Rattle.chunk_pool.specs.declared.pool.Slot.{Slot}
@@ -19,7 +19,7 @@ use Rattle.leaf_copy_gc.specs.Survivors.{olds}
 use Rattle.leaf_copy_gc.specs.Laid.{AreNew, Laying, before, smalls}
 use Rattle.leaf_copy_gc.specs.Redirected.{led_chunk}
 use Rattle.leaf_copy_gc.specs.Exchanged.{emptied, reserved_of, unreserved}
-use Rattle.leaf_copy_gc.specs.Collected.{AreSurvivors, back_of, keeps, kept_of, laid_of, laying_of, leaves}
+use Rattle.leaf_copy_gc.specs.Collected.{AreSurvivors, back_of, keeps, large_of, laid_of, laying_of, leaves}
 use Rattle.leaf_copy_gc.specs.Laws.{CanTake}
 use Rattle.address_laws.proofs.Extent as extent
 use Rattle.address_laws.proofs.Numbers.{Distinct, numbers}
@@ -47,7 +47,7 @@ size_of_new [] k n i = absurd i
 size_of_new (x ∷ ks) k n (inl e) = ap (λ (z : ChunkValue). z.size) (sym e) ∙ n.0.1
 size_of_new (x ∷ ks) k n (inr i) = size_of_new ks k n.1 i
 
-module _ (h : LeafHeapValue) (from : List (Option Addr)) (ss : List Survivor) (news : List ChunkValue) (S : AreSurvivors h.chunks from ss) (T : CanTake h.chunks news) (m : State) (a : Account) (O : Old h ss m a) where
+module _ (h : LeafHeapValue) (from : List (Option Addr)) (ss : List Survivor) (news : List ChunkValue) (S : AreSurvivors h.chunks from ss) (T : CanTake h.chunks news) (m : State) (a : Heap) (O : Old h ss m a) where
   abbrev y : Laying
   y = laying_of h.chunks ss (reverse news)
 
@@ -58,7 +58,7 @@ module _ (h : LeafHeapValue) (from : List (Option Addr)) (ss : List Survivor) (n
   L = laid_of h ss (reverse news)
 
   abbrev K : List ChunkValue
-  K = kept_of h ss (reverse news)
+  K = large_of h ss (reverse news)
 
   abbrev R : List ChunkValue
   R = reserved_of h.chunks h.reserved

@@ -7,7 +7,7 @@ use Rattle.std.proofs.lemmas.List.{length-map}
 use Rattle.listed.proofs.Members.{in_append_cases}
 use Rattle.listed.proofs.Places.{all_from, read_in}
 use Rattle.hh_model.specs.declared.data.State.{State}
-use Rattle.run_ledger.specs.declared.data.Heap.{Heap as Account}
+use Rattle.run_ledger.specs.declared.data.Heap.{Heap}
 use Rattle.run_ledger.specs.Heaps.{units}
 use Rattle.object_layout.specs.declared.word.Addr.{Addr}
 use Rattle.object_layout.specs.Cell.{Cell, size_of}
@@ -24,7 +24,7 @@ use Rattle.leaf_copy_gc.specs.Survivors.{olds}
 use Rattle.leaf_copy_gc.specs.Laid.{AreNew, HaveRoom, Laying, before, laid_all, laid_one, open_next, opened, placed, room_in, smalls}
 use Rattle.leaf_copy_gc.specs.Redirected.{led_cell, led_chunk}
 use Rattle.leaf_copy_gc.specs.Exchanged.{reserved_of, unreserved}
-use Rattle.leaf_copy_gc.specs.Collected.{AreSurvivors, collected, keeps, kept_of, laid_of, laying_of}
+use Rattle.leaf_copy_gc.specs.Collected.{AreSurvivors, collected, keeps, large_of, laid_of, laying_of}
 use Rattle.leaf_copy_gc.specs.Laws.{CanTake}
 use Rattle.leaf_copy_gc.proofs.NewNumbers.{new_reverse}
 use Rattle.collected_heap_laws.proofs.Reading as reading
@@ -105,7 +105,7 @@ units_reserved h u (Some i) w r =
     by zero e b = absurd (omega (arith, e, b))
     by (suc n) e b = ap (λ z. z ∷ []) (omega (arith, e))
 
-module _ (h : LeafHeapValue) (from : List (Option Addr)) (ss : List Survivor) (news : List ChunkValue) (S : AreSurvivors h.chunks from ss) (T : CanTake h.chunks news) (m : State) (a : Account) (O : Old h ss m a) where
+module _ (h : LeafHeapValue) (from : List (Option Addr)) (ss : List Survivor) (news : List ChunkValue) (S : AreSurvivors h.chunks from ss) (T : CanTake h.chunks news) (m : State) (a : Heap) (O : Old h ss m a) where
   abbrev pub g : Option Addr → Option Addr
   g = naming.g h from ss news S T m a O
 
@@ -113,7 +113,7 @@ module _ (h : LeafHeapValue) (from : List (Option Addr)) (ss : List Survivor) (n
   L = laid_of h ss (reverse news)
 
   abbrev pub K : List ChunkValue
-  K = kept_of h ss (reverse news)
+  K = large_of h ss (reverse news)
 
   abbrev pub R : List ChunkValue
   R = reserved_of h.chunks h.reserved

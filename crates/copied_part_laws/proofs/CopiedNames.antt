@@ -8,7 +8,7 @@ use Rattle.listed.proofs.Members.{in_append_cases, in_flat, in_from_kept, in_kep
 use Rattle.listed.proofs.Places.{in_map, read_in}
 use Rattle.hh_model.specs.declared.data.Name.{Name}
 use Rattle.hh_model.specs.declared.data.State.{State}
-use Rattle.run_ledger.specs.declared.data.Heap.{Heap as Account}
+use Rattle.run_ledger.specs.declared.data.Heap.{Heap}
 use Rattle.run_ledger.specs.Heaps.{laid_onto, large_survivors, room_behind, small_in, small_survivors, units, words_at}
 use Rattle.run_ledger.specs.Reachable.{holds_name}
 use Rattle.run_ledger.proofs.Members.{holds_from_in, in_from_holds}
@@ -27,7 +27,7 @@ use Rattle.leaf_copy_gc.specs.Survivors.{olds, old_of}
 use Rattle.leaf_copy_gc.specs.Laid.{HaveRoom, Laying, before, is_small, laid_all, room_in}
 use Rattle.leaf_copy_gc.specs.Redirected.{led_chunk}
 use Rattle.leaf_copy_gc.specs.Exchanged.{reserved_of, unreserved}
-use Rattle.leaf_copy_gc.specs.Collected.{AreSurvivors, keeps, kept_of, laid_of, laying_of}
+use Rattle.leaf_copy_gc.specs.Collected.{AreSurvivors, keeps, large_of, laid_of, laying_of}
 use Rattle.leaf_copy_gc.specs.Laws.{CanTake}
 use Rattle.leaf_copy_gc.proofs.Moves.{in_small, olds_small, small_ones}
 use Rattle.leaf_copy_gc.proofs.Moves as moves
@@ -52,7 +52,7 @@ use Rattle.copied_part_laws.proofs.NamesLaid.{Told, birth_name, lay_all, lists_l
 use Rattle.copied_part_laws.proofs.ObjectsApart.{held_by, once}
 use Rattle.copied_part_laws.proofs.ObjectsMoved as moving
 
-module _ (h : LeafHeapValue) (from : List (Option Addr)) (ss : List Survivor) (news : List ChunkValue) (S : AreSurvivors h.chunks from ss) (T : CanTake h.chunks news) (m : State) (a : Account) (O : Old h ss m a) where
+module _ (h : LeafHeapValue) (from : List (Option Addr)) (ss : List Survivor) (news : List ChunkValue) (S : AreSurvivors h.chunks from ss) (T : CanTake h.chunks news) (m : State) (a : Heap) (O : Old h ss m a) where
   pub settled : IsSettled h.chunks
   settled = record { tidy = O.form.tidy; apart = O.form.shaped.apart }
 
@@ -72,7 +72,7 @@ module _ (h : LeafHeapValue) (from : List (Option Addr)) (ss : List Survivor) (n
   L = laid_of h ss (reverse news)
 
   abbrev K : List ChunkValue
-  K = kept_of h ss (reverse news)
+  K = large_of h ss (reverse news)
 
   abbrev R : List ChunkValue
   R = reserved_of h.chunks h.reserved
@@ -315,7 +315,7 @@ module _ (h : LeafHeapValue) (from : List (Option Addr)) (ss : List Survivor) (n
 
   -- ---- THE ACCOUNT
 
-  abbrev Now : Account
+  abbrev Now : Heap
   Now = record a { chunks = laid_onto m [] (small_survivors a); large = large_survivors a; room = room_behind m (laid_onto m [] (small_survivors a)); since = 0; begun = None }
 
   pub names : HasNames (chunks_of (L ++ (K ++ R))) Now

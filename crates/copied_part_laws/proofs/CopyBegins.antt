@@ -15,11 +15,11 @@ enough_taken : (needed counted n : ℕ) → needed ≡ counted → n ≡ take_by
 enough_taken needed counted n e q = omega (arith, e, q)
 
 pub begun_is_copying : BegunIsCopying
-begun_is_copying w k old new roots to B world fits fresh =
+begun_is_copying w k old new roots to B shared fits fresh =
     let chunks : new.heap.chunks ≡ old.heap.chunks = ap (λ (p : Private). p.heap.chunks) B.part in
     let need : small_laid new.heap.chunks ≡ small_words new.heap.chunks = (needs_are_counted new.heap.chunks (record { tidy = fits.form.tidy; apart = fits.form.shaped.apart })).0 in
     record {
-      world = world;
+      shared = shared;
       fits = fits;
       fresh = fresh;
       begun = ap (λ (p : Private). p.begun) B.part;

@@ -8,7 +8,7 @@ use Rattle.std.proofs.lemmas.List.Sums.{sum_by-append, sum_by-cons}
 use Rattle.listed.proofs.Places.{read_in}
 use Rattle.hh_model.specs.declared.data.Name.{Name}
 use Rattle.hh_model.specs.declared.data.State.{State}
-use Rattle.run_ledger.specs.declared.data.Heap.{Heap as Account}
+use Rattle.run_ledger.specs.declared.data.Heap.{Heap}
 use Rattle.run_ledger.specs.Heaps.{begun_in, chunk_words, collected as account_collected, small_in, units, units_in, units_sum, words_at, words_in as words_held, words_sum}
 use Rattle.run_ledger.specs.Reachable.{holds_name}
 use Rattle.run_ledger.proofs.Chunks.{Full, heap_words}
@@ -25,7 +25,7 @@ use Rattle.leaf_copy_gc.specs.declared.lists.Survivor.{Survivor}
 use Rattle.leaf_copy_gc.specs.Survivors.{olds}
 use Rattle.leaf_copy_gc.specs.Laid.{Laying, before, smalls}
 use Rattle.leaf_copy_gc.specs.Exchanged.{emptied, reserved_of, unreserved}
-use Rattle.leaf_copy_gc.specs.Collected.{AreSurvivors, back_of, keeps, kept_of, laid_of, laying_of, leaves}
+use Rattle.leaf_copy_gc.specs.Collected.{AreSurvivors, back_of, keeps, large_of, laid_of, laying_of, leaves}
 use Rattle.leaf_copy_gc.specs.Laws.{CanTake}
 use Rattle.leaf_copy_gc.proofs.NewNumbers.{new_reverse}
 use Rattle.address_laws.proofs.Numbers.{numbers, removed_at}
@@ -51,12 +51,12 @@ use Rattle.copied_part_laws.proofs.ChunkWords.{chunks_held, count_numbers, spare
 use Rattle.copied_part_laws.proofs.CopiedNames as naming
 use Rattle.inner_mark_gc.proofs.Giving.{unit_sum}
 
-module _ (h : LeafHeapValue) (from : List (Option Addr)) (ss : List Survivor) (news : List ChunkValue) (S : AreSurvivors h.chunks from ss) (T : CanTake h.chunks news) (m : State) (a : Account) (O : Old h ss m a) where
+module _ (h : LeafHeapValue) (from : List (Option Addr)) (ss : List Survivor) (news : List ChunkValue) (S : AreSurvivors h.chunks from ss) (T : CanTake h.chunks news) (m : State) (a : Heap) (O : Old h ss m a) where
   abbrev L : List ChunkValue
   L = laid_of h ss (reverse news)
 
   abbrev K : List ChunkValue
-  K = kept_of h ss (reverse news)
+  K = large_of h ss (reverse news)
 
   abbrev R : List ChunkValue
   R = reserved_of h.chunks h.reserved
@@ -67,7 +67,7 @@ module _ (h : LeafHeapValue) (from : List (Option Addr)) (ss : List Survivor) (n
   abbrev U : List ChunkValue
   U = unreserved h.chunks h.reserved
 
-  abbrev pub Then : Account
+  abbrev pub Then : Heap
   Then = account_collected m a
 
   -- ---- HOW MANY CHUNKS

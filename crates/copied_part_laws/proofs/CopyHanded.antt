@@ -80,8 +80,8 @@ module _ (w : SharedValue) (k : ℕ) (p : Private) (b : Begun) (news : List Chun
   few : units_in (aside (accounts w)).machine (heap_of (aside (accounts w)) p.task) ≤ 65536
   few =
       let a : units_in (aside (accounts w)).machine (heap_of (aside (accounts w)) p.task) ≤ in_use (accounts w) = aside_least (accounts w) p.task in
-      let u : in_use (accounts w) ≤ w.settings.chunks = (use_is_bounded w.program w.settings w.journal.items C.world.legal).now in
-      let c : w.settings.chunks ≤ 65536 = C.world.limits.chunks.1 in
+      let u : in_use (accounts w) ≤ w.settings.chunks = (use_is_bounded w.program w.settings w.journal.items C.shared.legal).now in
+      let c : w.settings.chunks ≤ 65536 = C.shared.limits.chunks.1 in
       omega (arith, a, u, c)
 
   -- the pool has its chunks and the new ones with their units

@@ -8,7 +8,7 @@ use Rattle.hh_model.specs.declared.data.Object.{Object}
 use Rattle.hh_model.specs.declared.data.State.{State}
 use Rattle.hh_model.specs.Effect.{object_at}
 use Rattle.run_trace.specs.Settings.{SettingsValue}
-use Rattle.run_ledger.specs.declared.data.Heap.{Heap as Account}
+use Rattle.run_ledger.specs.declared.data.Heap.{Heap}
 use Rattle.run_ledger.specs.declared.data.Ledger.{Ledger}
 use Rattle.run_ledger.specs.Heaps.{heap_of, let_go, words_at, words_of}
 use Rattle.run_ledger.proofs.Machine.{heap_machine}
@@ -24,7 +24,7 @@ use Rattle.leaf_copy_gc.specs.declared.lists.Survivor.{Survivor}
 use Rattle.leaf_copy_gc.specs.Survivors.{olds, outside}
 use Rattle.leaf_copy_gc.specs.Redirected.{led_chunk, new_address}
 use Rattle.leaf_copy_gc.specs.Exchanged.{reserved_of, unreserved}
-use Rattle.leaf_copy_gc.specs.Collected.{AreSurvivors, collected, keeps, kept_of, laid_of}
+use Rattle.leaf_copy_gc.specs.Collected.{AreSurvivors, collected, keeps, large_of, laid_of}
 use Rattle.collected_heap_laws.specs.Laws.{TellsMoves}
 use Rattle.leaf_copy_gc.specs.Lists.{IsCollected}
 use Rattle.address_laws.proofs.Extent as extent
@@ -91,7 +91,7 @@ module _ (p : ProgramText) (st : SettingsValue) (t : ℕ) (h : LeafHeapValue) (v
   abbrev pub lt : Ledger
   lt = rested l t
 
-  abbrev pub a : Account
+  abbrev pub a : Heap
   a = heap_of l t
 
   pub stands : Stands V lt
@@ -174,7 +174,7 @@ module _ (p : ProgramText) (st : SettingsValue) (t : ℕ) (h : LeafHeapValue) (v
     L = laid_of h C.survivors (reverse news)
 
     abbrev K : List ChunkValue
-    K = kept_of h C.survivors (reverse news)
+    K = large_of h C.survivors (reverse news)
 
     abbrev R : List ChunkValue
     R = reserved_of h.chunks h.reserved

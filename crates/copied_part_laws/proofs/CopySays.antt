@@ -21,7 +21,7 @@ use Rattle.alloc_path.specs.Units.{counted32, unit_count}
 use Rattle.chunk_rows.specs.View.{Level}
 use Rattle.task_frames.specs.declared.frames.Frame.{Frame}
 use Rattle.task_frames.specs.FramesValue.{FramesValue, frames_of}
-use Rattle.leaf_copy_gc.specs.Survivors.{as_reference, held_by as refs_held, outside, references_in}
+use Rattle.leaf_copy_gc.specs.Survivors.{as_reference, frame_references as refs_held, outside, references_in}
 use Rattle.ledger_step_laws.proofs.Rested.{rested_view, rested_worker}
 use Rattle.task_machine.specs.declared.part.Begun.{Begun}
 use Rattle.core_relation.specs.Memory.{Home, In, Memory}

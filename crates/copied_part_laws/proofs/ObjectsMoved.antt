@@ -23,7 +23,7 @@ use Rattle.leaf_copy_gc.specs.Survivors.{olds, old_of}
 use Rattle.leaf_copy_gc.specs.Laid.{Laying, before, is_small, smalls}
 use Rattle.leaf_copy_gc.specs.Redirected.{led_cell, led_chunk, new_address}
 use Rattle.leaf_copy_gc.specs.Exchanged.{reserved_of, unreserved}
-use Rattle.leaf_copy_gc.specs.Collected.{AreSurvivors, keeps, kept_of, laid_of, laying_of, moves_of, redirection}
+use Rattle.leaf_copy_gc.specs.Collected.{AreSurvivors, keeps, large_of, laid_of, laying_of, moves_of, redirection}
 use Rattle.leaf_copy_gc.specs.Laws.{CanTake}
 use Rattle.address_laws.proofs.Extent as extent
 use Rattle.leaf_copy_gc.proofs.Moves as moves
@@ -83,7 +83,7 @@ module _ (h : LeafHeapValue) (from : List (Option Addr)) (ss : List Survivor) (n
 
   -- the heap afterwards
   abbrev pub ks' : List ChunkValue
-  ks' = laid_of h ss (reverse news) ++ (kept_of h ss (reverse news) ++ reserved_of h.chunks h.reserved)
+  ks' = laid_of h ss (reverse news) ++ (large_of h ss (reverse news) ++ reserved_of h.chunks h.reserved)
 
   g_same : (r : Option Addr) → g r ≡ option_map to r
   g_same None = refl
@@ -248,11 +248,11 @@ module _ (h : LeafHeapValue) (from : List (Option Addr)) (ss : List Survivor) (n
   came o' i = by (held_by ks' o' i)
     where
       by : Holds ks' o' → Came o'
-      by H = elim (in_append_cases (laid_of h ss (reverse news)) (kept_of h ss (reverse news) ++ reserved_of h.chunks h.reserved) H.chunk H.there) [
+      by H = elim (in_append_cases (laid_of h ss (reverse news)) (large_of h ss (reverse news) ++ reserved_of h.chunks h.reserved) H.chunk H.there) [
         | inl l ↦
             let k = map_in (led_chunk g) y.laid H.chunk l in
             from_laid k.0 o' k.1 (subst (λ (z : ChunkValue). In (objects_from z.number 0 z.cells) o') (sym k.2) H.object)
-        | inr r ↦ elim (in_append_cases (kept_of h ss (reverse news)) (reserved_of h.chunks h.reserved) H.chunk r) [
+        | inr r ↦ elim (in_append_cases (large_of h ss (reverse news)) (reserved_of h.chunks h.reserved) H.chunk r) [
           | inl l ↦
               let k = map_in (led_chunk g) (filter (keeps ss) (unreserved h.chunks h.reserved)) H.chunk l in
               from_kept k.0 o' k.1 (subst (λ (z : ChunkValue). In (objects_from z.number 0 z.cells) o') (sym k.2) H.object)

@@ -5,12 +5,12 @@ use Rattle.walk_laws.specs.Reached.{IsWalk}
 use Rattle.object_layout.specs.declared.word.Addr.{Addr}
 use Rattle.object_layout.specs.Chunks.{cell_of}
 use Rattle.object_layout.specs.ChunkValue.{ChunkValue}
-use Rattle.object_layout.specs.Graph.{IsHeld, Leads}
+use Rattle.object_layout.specs.Graph.{HasObjectAt, Leads}
 use Rattle.object_layout.specs.Objects.{Located}
 use Rattle.alloc_path.specs.LeafHeapValue.{AreApart}
 use Rattle.task_frames.specs.declared.frames.Frame.{Frame}
 use Rattle.task_frames.specs.FramesValue.{FramesValue, frames_of}
-use Rattle.leaf_copy_gc.specs.Survivors.{IsSurvivor, Starts, as_reference, held_by, outside, references_in}
+use Rattle.leaf_copy_gc.specs.Survivors.{IsSurvivor, Starts, as_reference, frame_references, outside, references_in}
 use Rattle.core_relation.specs.Memory.{Home, In, objects_in}
 use Rattle.core_relation.specs.Begins.{IsAt, IsReachedAt, LeadsAt, StartsAt}
 use Rattle.core_relation.proofs.objects.Members.{in_map, map_in}
@@ -24,13 +24,13 @@ module _ (ks : List ChunkValue) (A : AreApart ks) (home : Home) (s : FramesValue
   in_chunks : (o : Located) → In (objects_in home.chunks) o → In (objects_in (chunks_of ks)) o
   in_chunks o i = subst (λ cs. In (objects_in cs) o) chunks i
 
-  live_at : (a : Addr) (o : Located) → IsAt home a o → IsHeld ks a
-  live_at a o at = subst (IsHeld ks) at.1 (seen_held ks A o (in_chunks o at.0)).0
+  live_at : (a : Addr) (o : Located) → IsAt home a o → HasObjectAt ks a
+  live_at a o at = subst (HasObjectAt ks) at.1 (seen_held ks A o (in_chunks o at.0)).0
 
   refs_at : (a : Addr) (o : Located) → IsAt home a o → o.refs ≡ (cell_of ks a).refs
   refs_at a o at = sym (seen_held ks A o (in_chunks o at.0)).1 ∙ ap (λ (z : Addr). (cell_of ks z).refs) at.1
 
-  pub object_at : (a : Addr) → IsHeld ks a → (o : Located) × IsAt home a o
+  pub object_at : (a : Addr) → HasObjectAt ks a → (o : Located) × IsAt home a o
   object_at a l = let o = held_seen ks a l in (o.0, (subst (λ cs. In (objects_in cs) o.0) (sym chunks) o.1, o.2))
 
   -- ---- REGISTERS
@@ -46,10 +46,10 @@ module _ (ks : List ChunkValue) (A : AreApart ks) (home : Home) (s : FramesValue
     | inr (inr z) ↦ absurd z
   ]
 
-  held_to : (a : Addr) (f : Frame) → In home.frames f → In f.refs (Some a) → In (held_by (frames_of s)) (Some a)
+  held_to : (a : Addr) (f : Frame) → In home.frames f → In f.refs (Some a) → In (frame_references (frames_of s)) (Some a)
   held_to a f i j = in_flat references_in (frames_of s) f (Some a) (in_stack f (subst (λ fs. In fs f) frames i)) j
 
-  held_back : (a : Addr) → In (held_by (frames_of s)) (Some a) → (f : Frame) × In home.frames f × In f.refs (Some a)
+  held_back : (a : Addr) → In (frame_references (frames_of s)) (Some a) → (f : Frame) × In home.frames f × In f.refs (Some a)
   held_back a i =
       let g = flat_in references_in (frames_of s) (Some a) i in
       (g.1, subst (λ fs. In fs g.1) (sym frames) (from_stack g.1 (got_in (frames_of s) g.0 g.1 g.2)), g.3)
@@ -66,8 +66,8 @@ module _ (ks : List ChunkValue) (A : AreApart ks) (home : Home) (s : FramesValue
   starts_to a w = (
     live_at a w.0 w.1,
     contains_from_in (outside s roots) (Some a) (elim w.2 [
-      | inl f ↦ in_append_left (held_by (frames_of s)) (map as_reference roots) (Some a) (held_to a f.0 f.1 f.2)
-      | inr r ↦ in_append_right (held_by (frames_of s)) (map as_reference roots) (Some a) (in_map as_reference roots a r)
+      | inl f ↦ in_append_left (frame_references (frames_of s)) (map as_reference roots) (Some a) (held_to a f.0 f.1 f.2)
+      | inr r ↦ in_append_right (frame_references (frames_of s)) (map as_reference roots) (Some a) (in_map as_reference roots a r)
     ]),
   )
 
@@ -76,7 +76,7 @@ module _ (ks : List ChunkValue) (A : AreApart ks) (home : Home) (s : FramesValue
       let o = object_at a w.0 in (
         o.0,
         o.1,
-        elim (in_append_cases (held_by (frames_of s)) (map as_reference roots) (Some a) (in_from_contains (outside s roots) (Some a) w.1)) [
+        elim (in_append_cases (frame_references (frames_of s)) (map as_reference roots) (Some a) (in_from_contains (outside s roots) (Some a) w.1)) [
           | inl h ↦ inl (held_back a h)
           | inr r ↦ inr (root_back roots a r)
         ],

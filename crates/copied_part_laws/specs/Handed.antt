@@ -19,7 +19,7 @@ use Rattle.leaf_collections.specs.LeafEnd.{FitsCopied}
 
 -- a part that fits with its begun collection, before the run's end, and the chunks that this took
 pub record IsCopying (w : SharedValue) (worker : ℕ) (p : Private) (b : Begun) (news : List ChunkValue) : Type 0 where
-  pub world : IsSharedValue w
+  pub shared : IsSharedValue w
   pub fits : Fits w worker p
   pub fresh : p.fresh ≡ 0
   pub begun : p.begun ≡ Some b

@@ -10,7 +10,7 @@ use Rattle.run_ledger.specs.Journals.{ledger_of, is_legal, opening}
 use Rattle.run_ledger.specs.Entries.{refusal, after, held_from}
 use Rattle.run_ledger.specs.Steps.{task_steps}
 use Rattle.core_relation.specs.Since.{AllNoted, MarksOn, NotesStay, OthersNotes}
-use Rattle.core_relation.specs.Whole.{StandsForAll, handed, Totals, TotalsStand, StandsFor}
+use Rattle.core_relation.specs.Whole.{StandsForAll, handed, TreeCounts, TreeCountsStand, StandsFor}
 use Rattle.core_relation.specs.Copies.{CopyFits, EndsAt}
 use Rattle.std.specs.Prelude.{◌≡◌, ℕ, suc, true, None, List, Some}
 use Rattle.object_layout.specs.declared.word.Addr.{Addr}
@@ -24,26 +24,26 @@ use Rattle.ledger_step_laws.specs.Accounts.{Rests}
 use Rattle.core_relation.specs.Stands.{Stands}
 use Rattle.core_relation.specs.Fits.{part_for}
 use Rattle.core_relation.specs.Changes.{KeepsJust, SameBut, SameObjects}
-use Rattle.core_entry_laws.specs.First.{first, first_totals}
+use Rattle.core_entry_laws.specs.First.{first, first_tree_counts}
 use Rattle.core_relation.specs.Worker.{Fits}
 
 -- THE WHOLE RELATION before any entry
 
 abbrev pub FirstStandsFor : Type 0
-FirstStandsFor = (p : ProgramText) (s : SettingsValue) → StandsForAll (first p) first_totals (opening p s)
+FirstStandsFor = (p : ProgramText) (s : SettingsValue) → StandsForAll (first p) first_tree_counts (opening p s)
 
 -- and past each accepted one
 
 -- a worker takes a task
 abbrev pub TookStandsFor : Type 0
 TookStandsFor =
-    (p : ProgramText) (s : SettingsValue) (journal : List EntryValue) → IsProgram p → is_legal p s journal ≡ true → (v v' : Memory) (c c' : Totals) (w t : ℕ) → let l : Ledger = ledger_of p s journal in let e : EntryValue = record { worker = w; kind = Took t } in
+    (p : ProgramText) (s : SettingsValue) (journal : List EntryValue) → IsProgram p → is_legal p s journal ≡ true → (v v' : Memory) (c c' : TreeCounts) (w t : ℕ) → let l : Ledger = ledger_of p s journal in let e : EntryValue = record { worker = w; kind = Took t } in
     refusal p s l e ≡ None → StandsForAll v c l → SameBut v v' t → ((u : ℕ) → NotesStay v v' u) → CountsGo p s l c c' w (Took t) → StandsForAll v' c' (after p s l e)
 
 -- private steps and a last one, of whatever kind
 abbrev pub RanStandsFor : Type 0
 RanStandsFor =
-    (p : ProgramText) (s : SettingsValue) (journal : List EntryValue) → IsProgram p → is_legal p s journal ≡ true → (v v' : Memory) (c c' : Totals) (w t k : ℕ) (h : Home) → let l : Ledger = ledger_of p s journal in let e : EntryValue = record { worker = w; kind = Ran t (suc k) } in
+    (p : ProgramText) (s : SettingsValue) (journal : List EntryValue) → IsProgram p → is_legal p s journal ≡ true → (v v' : Memory) (c c' : TreeCounts) (w t k : ℕ) (h : Home) → let l : Ledger = ledger_of p s journal in let e : EntryValue = record { worker = w; kind = Ran t (suc k) } in
     let l' : Ledger = after p s l e in
     refusal p s l e ≡ None → (E : Runs p s l l' t w k) → StandsForAll v c l → Fits p s (part_for s t h (taken_by E.splits.kind k)) v l
     → (C : Makes p v v' (task_steps p l t k) l' t h E.splits.task E.splits.line E.splits.kind E.splits.last) → Marks p v v' (task_steps p l t k) l' t h E.splits.task E.splits.line E.splits.kind E.splits.last C
@@ -52,20 +52,20 @@ RanStandsFor =
 -- a chunk, the begin of a leaf collection or its putting off, a marking's begin or going on, the end of fuel
 abbrev pub QuietStandsFor : Type 0
 QuietStandsFor =
-    (p : ProgramText) (s : SettingsValue) (journal : List EntryValue) → IsProgram p → is_legal p s journal ≡ true → (v v' : Memory) (c c' : Totals) (e : EntryValue) → let l : Ledger = ledger_of p s journal in
+    (p : ProgramText) (s : SettingsValue) (journal : List EntryValue) → IsProgram p → is_legal p s journal ≡ true → (v v' : Memory) (c c' : TreeCounts) (e : EntryValue) → let l : Ledger = ledger_of p s journal in
     refusal p s l e ≡ None → IsQuiet e.kind → StandsForAll v c l → SameObjects v v' l (after p s l e)
     → ((u : ℕ) → (IsMarked e.kind u → ⊥) → NotesStay v v' u) → ((u : ℕ) → IsMarked e.kind u → MarksOn v v' (after p s l e) u) → CountsGo p s l c c' e.worker e.kind → StandsForAll v' c' (after p s l e)
 
 -- a sweep
 abbrev pub SweepsStandFor : Type 0
 SweepsStandFor =
-    (p : ProgramText) (s : SettingsValue) (journal : List EntryValue) → IsProgram p → is_legal p s journal ≡ true → (v v' : Memory) (c c' : Totals) (w t given : ℕ) → let l : Ledger = ledger_of p s journal in let e : EntryValue = record { worker = w; kind = Sweep t given } in
+    (p : ProgramText) (s : SettingsValue) (journal : List EntryValue) → IsProgram p → is_legal p s journal ≡ true → (v v' : Memory) (c c' : TreeCounts) (w t given : ℕ) → let l : Ledger = ledger_of p s journal in let e : EntryValue = record { worker = w; kind = Sweep t given } in
     refusal p s l e ≡ None → StandsForAll v c l → KeepsJust v v' l (after p s l e) t (heap_of l t).snapshot → OthersNotes v v' t → (v'.homes t).begun ≡ None → CountsGo p s l c c' w (Sweep t given) → StandsForAll v' c' (after p s l e)
 
 -- the end of a leaf collection
 abbrev pub EndsStandFor : Type 0
 EndsStandFor =
-    (p : ProgramText) (s : SettingsValue) (journal : List EntryValue) → IsProgram p → is_legal p s journal ≡ true → (v v' : Memory) (c c' : Totals) (w t taken given left : ℕ) (h h' : Home) (f : Addr → Addr) → let l : Ledger = ledger_of p s journal in
+    (p : ProgramText) (s : SettingsValue) (journal : List EntryValue) → IsProgram p → is_legal p s journal ≡ true → (v v' : Memory) (c c' : TreeCounts) (w t taken given left : ℕ) (h h' : Home) (f : Addr → Addr) → let l : Ledger = ledger_of p s journal in
     let e : EntryValue = record { worker = w; kind = End t taken given left } in
     refusal p s l e ≡ None → StandsForAll v c l → CopyFits p s t h h' f v l → EndsAt v v' t h' f → h'.begun ≡ None → OthersNotes v v' t → CountsGo p s l c c' w (End t taken given left) → StandsForAll v' c' (after p s l e)
 
@@ -78,17 +78,17 @@ DoneHandsAll =
 
 abbrev pub WholeStands : Type 0
 WholeStands =
-    (v : Memory) (c : Totals) (l : Ledger) → Stands v l → TotalsStand c l → ((t : ℕ) → Rests l t → (heap_of l t).begun ≡ None) → ((t : ℕ) → Rests l t → (v.homes t).begun ≡ None) → AllNoted v l → StandsFor v c l
+    (v : Memory) (c : TreeCounts) (l : Ledger) → Stands v l → TreeCountsStand c l → ((t : ℕ) → Rests l t → (heap_of l t).begun ≡ None) → ((t : ℕ) → Rests l t → (v.homes t).begun ≡ None) → AllNoted v l → StandsFor v c l
 
 abbrev pub WholeNotes : Type 0
-WholeNotes = (v : Memory) (c : Totals) (l : Ledger) → StandsFor v c l → AllNoted v l
+WholeNotes = (v : Memory) (c : TreeCounts) (l : Ledger) → StandsFor v c l → AllNoted v l
 
 -- the tree and the counts past each accepted entry that isn't of steps
 abbrev pub CountsStand : Type 0
 CountsStand =
-    (p : ProgramText) (s : SettingsValue) (journal : List EntryValue) → IsProgram p → is_legal p s journal ≡ true → (c c' : Totals) → let l : Ledger = ledger_of p s journal in TotalsStand c l
-    → (e : EntryValue) → refusal p s l e ≡ None → CountsGo p s l c c' e.worker e.kind → TotalsStand c' (after p s l e)
+    (p : ProgramText) (s : SettingsValue) (journal : List EntryValue) → IsProgram p → is_legal p s journal ≡ true → (c c' : TreeCounts) → let l : Ledger = ledger_of p s journal in TreeCountsStand c l
+    → (e : EntryValue) → refusal p s l e ≡ None → CountsGo p s l c c' e.worker e.kind → TreeCountsStand c' (after p s l e)
 
 -- the task that a worker holds is the first that the accounts say it holds
 abbrev pub TasksOutAreHeld : Type 0
-TasksOutAreHeld = (c : Totals) (l : Ledger) → TotalsStand c l → (w : ℕ) → c.task_out w ≡ held_from w 0 l.heaps
+TasksOutAreHeld = (c : TreeCounts) (l : Ledger) → TreeCountsStand c l → (w : ℕ) → c.task_out w ≡ held_from w 0 l.heaps

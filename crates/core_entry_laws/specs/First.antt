@@ -4,7 +4,7 @@ use Rattle.hh_lang.specs.Form.{ProgramText}
 use Rattle.heap_tree.specs.declared.state.State.TheVariants.{Ready}
 use Rattle.heap_tree.specs.Node.{Node}
 use Rattle.core_relation.specs.Memory.{Home, no_home, Memory}
-use Rattle.core_relation.specs.Whole.{Totals}
+use Rattle.core_relation.specs.Whole.{TreeCounts}
 
 abbrev pub first_home : ProgramText → ℕ → Home
 first_home p zero = record no_home { frames = record { function = p.main; next = 0; ints = replicate 16 (pos 0); refs = replicate 16 None } ∷ [] }
@@ -21,5 +21,5 @@ abbrev pub first_node : ℕ → Option Node
 first_node zero = Some (record { parent = None; state = Ready })
 first_node (suc t) = None
 
-abbrev pub first_totals : Totals
-first_totals = record { node = first_node; task_out = λ w. None; used = 0; steps = 0; outputs = []; end = None }
+abbrev pub first_tree_counts : TreeCounts
+first_tree_counts = record { node = first_node; task_out = λ w. None; used = 0; steps = 0; outputs = []; end = None }

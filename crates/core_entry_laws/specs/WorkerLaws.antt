@@ -23,7 +23,7 @@ use Rattle.core_relation.specs.Copies.{CopyFits, EndsAt}
 use Rattle.core_relation.specs.Counts.{IsQuiet}
 use Rattle.core_relation.specs.Fits.{Part, part_for, with_home}
 use Rattle.core_relation.specs.Makes.{Makes, GoesHome, StepsTo, taken_by}
-use Rattle.core_relation.specs.Whole.{Totals, BegunBy, StandsForAll}
+use Rattle.core_relation.specs.Whole.{TreeCounts, BegunBy, StandsForAll}
 use Rattle.core_relation.specs.Worker.{AllFit, Fits, IsBy}
 use Rattle.core_relation.specs.Frames.{with_homes, all_ahead}
 
@@ -61,7 +61,7 @@ EndsLeave =
 -- the home that it takes
 abbrev pub TookFits : Type 0
 TookFits =
-    (p : ProgramText) (s : SettingsValue) (journal : List EntryValue) → is_legal p s journal ≡ true → (v v' : Memory) (c : Totals) (w t : ℕ) → let l : Ledger = ledger_of p s journal in let e : EntryValue = record { worker = w; kind = Took t } in
+    (p : ProgramText) (s : SettingsValue) (journal : List EntryValue) → is_legal p s journal ≡ true → (v v' : Memory) (c : TreeCounts) (w t : ℕ) → let l : Ledger = ledger_of p s journal in let e : EntryValue = record { worker = w; kind = Took t } in
     refusal p s l e ≡ None → StandsForAll v c l → SameBut v v' t → Fits p s (part_for s t (v.homes t) 0) v' (after p s l e)
 
 -- after an entry of steps, where the worker goes on with the task or the run halts

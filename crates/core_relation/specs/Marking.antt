@@ -3,7 +3,7 @@ use Rattle.std.specs.Prelude.{◌≡◌, ◌⊎◌, ◌↔◌, ◌+◌, ◌<◌,
 use Rattle.std.specs.List.{IsDistinct}
 use Rattle.object_layout.specs.declared.word.Addr.{Addr}
 use Rattle.object_layout.specs.Chunks.{same_address}
-use Rattle.object_layout.specs.Graph.{IsHeld, Leads}
+use Rattle.object_layout.specs.Graph.{HasObjectAt, Leads}
 use Rattle.object_layout.specs.Objects.{Located}
 use Rattle.hh_model.specs.declared.data.Name.{Name}
 use Rattle.run_ledger.specs.declared.data.Ledger.{Ledger}
@@ -23,8 +23,8 @@ pub record GoesOn (v : Memory) (t : ℕ) (names : List Name) (m : MarkingValue) 
   pub fork : Fork
   pub marks : IsMarking fork (v.noted t).kept m
   -- its objects are those that are there now
-  pub there : (o : Located) → In (objects v t) o → IsHeld fork.heap o.at
-  pub were : (a : Addr) → IsHeld fork.heap a → (o : Located) × In (objects v t) o × (o.at ≡ a)
+  pub there : (o : Located) → In (objects v t) o → HasObjectAt fork.heap o.at
+  pub were : (a : Addr) → HasObjectAt fork.heap a → (o : Located) × In (objects v t) o × (o.at ≡ a)
   -- what was overwritten since then was kept
   pub overwritten : (o : Located) (a : Addr) → In (objects v t) o → v.owner a.chunk ≡ Some t → Leads fork.heap o.at a → In o.refs (Some a) ⊎ In (v.noted t).kept a
   -- walks through it, also from what was kept, lead to just these names

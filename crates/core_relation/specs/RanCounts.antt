@@ -12,36 +12,36 @@ use Rattle.heap_tree.specs.declared.state.State.{State}
 use Rattle.heap_tree.specs.declared.state.State.TheVariants.{Ready, Waiting, Ended, Joined}
 use Rattle.heap_tree.specs.Node.{Node}
 use Rattle.ledger_step_laws.specs.Last.{LastKind, Private, Reading, Writing, Printing, Forking, Ending, Joining, Finishing, Halting, IsOfKind}
-use Rattle.core_relation.specs.Whole.{Totals}
+use Rattle.core_relation.specs.Whole.{TreeCounts}
 
 -- THE TREE
 
 abbrev pub node_then : State → Node → Node
 node_then s n = record n { state = s }
 
-abbrev pub NodesStay : Totals → Totals → Type 0
+abbrev pub NodesStay : TreeCounts → TreeCounts → Type 0
 NodesStay c c' = (u : ℕ) → c'.node u ≡ c.node u
 
 -- the node of t is in another state
-pub record NodeGoes (c c' : Totals) (t : ℕ) (s : State) : Type 0 where
+pub record NodeGoes (c c' : TreeCounts) (t : ℕ) (s : State) : Type 0 where
   pub node : c'.node t ≡ option_map (node_then s) (c.node t)
   pub others : (u : ℕ) → (u ≡ t → ⊥) → c'.node u ≡ c.node u
 
 -- t waits for its children a and b, which are ready
-pub record NodesFork (c c' : Totals) (t a b : ℕ) : Type 0 where
+pub record NodesFork (c c' : TreeCounts) (t a b : ℕ) : Type 0 where
   pub parent : c'.node t ≡ option_map (node_then Waiting) (c.node t)
   pub left : c'.node a ≡ Some (record { parent = Some t; state = Ready })
   pub right : c'.node b ≡ Some (record { parent = Some t; state = Ready })
   pub others : (u : ℕ) → (u ≡ t → ⊥) → (u ≡ a → ⊥) → (u ≡ b → ⊥) → c'.node u ≡ c.node u
 
 -- p is ready again, and its children a and b have joined it
-pub record NodesJoin (c c' : Totals) (p a b : ℕ) : Type 0 where
+pub record NodesJoin (c c' : TreeCounts) (p a b : ℕ) : Type 0 where
   pub parent : c'.node p ≡ option_map (node_then Ready) (c.node p)
   pub left : c'.node a ≡ option_map (node_then Joined) (c.node a)
   pub right : c'.node b ≡ option_map (node_then Joined) (c.node b)
   pub others : (u : ℕ) → (u ≡ p → ⊥) → (u ≡ a → ⊥) → (u ≡ b → ⊥) → c'.node u ≡ c.node u
 
-abbrev pub TreeGoes : (p : ProgramText) → Totals → Totals → (m l' : Ledger) → (t : ℕ) → (x : Task) → (line : Line) → (kind : LastKind) → IsOfKind p m l' t x line kind → Type 0
+abbrev pub TreeGoes : (p : ProgramText) → TreeCounts → TreeCounts → (m l' : Ledger) → (t : ℕ) → (x : Task) → (line : Line) → (kind : LastKind) → IsOfKind p m l' t x line kind → Type 0
 TreeGoes p c c' m l' t x line Private K = NodesStay c c'
 TreeGoes p c c' m l' t x line Reading K = NodesStay c c'
 TreeGoes p c c' m l' t x line Writing K = NodesStay c c'
@@ -54,14 +54,14 @@ TreeGoes p c c' m l' t x line Halting K = NodesStay c c'
 
 -- WHAT WORKERS HOLD: the worker w goes on with its task, or lets go of it
 
-abbrev pub TasksOutStay : Totals → Totals → Type 0
+abbrev pub TasksOutStay : TreeCounts → TreeCounts → Type 0
 TasksOutStay c c' = (u : ℕ) → c'.task_out u ≡ c.task_out u
 
-pub record LetsGo (c c' : Totals) (w : ℕ) : Type 0 where
+pub record LetsGo (c c' : TreeCounts) (w : ℕ) : Type 0 where
   pub task_out : c'.task_out w ≡ None
   pub others : (u : ℕ) → (u ≡ w → ⊥) → c'.task_out u ≡ c.task_out u
 
-abbrev pub TasksOutGo : Totals → Totals → ℕ → LastKind → Type 0
+abbrev pub TasksOutGo : TreeCounts → TreeCounts → ℕ → LastKind → Type 0
 TasksOutGo c c' w Private = TasksOutStay c c'
 TasksOutGo c c' w Reading = TasksOutStay c c'
 TasksOutGo c c' w Writing = TasksOutStay c c'
@@ -74,18 +74,18 @@ TasksOutGo c c' w Halting = TasksOutStay c c'
 
 -- OUTPUTS AND THE END
 
-abbrev pub OutputsGo : (p : ProgramText) → Totals → Totals → (m l' : Ledger) → (t : ℕ) → (x : Task) → (line : Line) → (kind : LastKind) → IsOfKind p m l' t x line kind → Type 0
+abbrev pub OutputsGo : (p : ProgramText) → TreeCounts → TreeCounts → (m l' : Ledger) → (t : ℕ) → (x : Task) → (line : Line) → (kind : LastKind) → IsOfKind p m l' t x line kind → Type 0
 OutputsGo p c c' m l' t x line Printing K = c'.outputs ≡ c.outputs ++ int_in x.top K.register ∷ []
 OutputsGo p c c' m l' t x line _ K = c'.outputs ≡ c.outputs
 
-abbrev pub EndGoes : (p : ProgramText) → Totals → Totals → (m l' : Ledger) → (t : ℕ) → (x : Task) → (line : Line) → (kind : LastKind) → IsOfKind p m l' t x line kind → Type 0
+abbrev pub EndGoes : (p : ProgramText) → TreeCounts → TreeCounts → (m l' : Ledger) → (t : ℕ) → (x : Task) → (line : Line) → (kind : LastKind) → IsOfKind p m l' t x line kind → Type 0
 EndGoes p c c' m l' t x line Finishing K = c'.end ≡ Some (Machine Done)
 EndGoes p c c' m l' t x line Halting K = c'.end ≡ Some (Machine K.end)
 EndGoes p c c' m l' t x line _ K = c'.end ≡ c.end
 
 -- THE WHOLE: k private steps of t and one more, by the worker w
 
-pub record RanCounts (p : ProgramText) (c c' : Totals) (m l' : Ledger) (t w k : ℕ) (x : Task) (line : Line) (kind : LastKind) (K : IsOfKind p m l' t x line kind) : Type 0 where
+pub record RanCounts (p : ProgramText) (c c' : TreeCounts) (m l' : Ledger) (t w k : ℕ) (x : Task) (line : Line) (kind : LastKind) (K : IsOfKind p m l' t x line kind) : Type 0 where
   pub tree : TreeGoes p c c' m l' t x line kind K
   pub task_out : TasksOutGo c c' w kind
   pub outputs : OutputsGo p c c' m l' t x line kind K

@@ -5,7 +5,7 @@ use Rattle.std.proofs.lemmas.List.Sums.{sum_by-append}
 use Rattle.hh_model.specs.declared.data.Name.{Name}
 use Rattle.hh_model.specs.declared.data.State.{State}
 use Rattle.hh_model.specs.Effect.{object_at}
-use Rattle.run_ledger.specs.declared.data.Heap.{Heap as Account}
+use Rattle.run_ledger.specs.declared.data.Heap.{Heap}
 use Rattle.run_ledger.specs.declared.data.Ledger.{Ledger}
 use Rattle.run_ledger.specs.Heaps.{heap_of, held, held_in, in_use, let_go, or_fresh, words_at, words_in, words_of, words_sum}
 use Rattle.run_ledger.proofs.Space.{heaps_fit, use_is_bounded}
@@ -24,7 +24,7 @@ use Rattle.shared_value.specs.SharedValue.{SharedValue, accounts, value_of}
 use Rattle.shared_value.proofs.HeapWords.{words_are}
 
 -- A HEAP IS SMALL
-heap_least : (g : List Name → ℕ) → ((xs ys : List Name) → g (xs ++ ys) ≡ g xs + g ys) → (heaps : List Account) (t : ℕ) → g (held_in (or_fresh (slice_get heaps t))) ≤ g (flat_map held_in heaps) + g []
+heap_least : (g : List Name → ℕ) → ((xs ys : List Name) → g (xs ++ ys) ≡ g xs + g ys) → (heaps : List Heap) (t : ℕ) → g (held_in (or_fresh (slice_get heaps t))) ≤ g (flat_map held_in heaps) + g []
 heap_least g add [] t = omega arith
 heap_least g add (h ∷ hs) t = by t (λ u. heap_least g add hs u) (add (held_in h) (flat_map held_in hs))
   where

@@ -2,7 +2,7 @@
 
 ghost use Rattle.std.specs.Prelude.{◌≡◌, ◌<◌, [], ℕ, IfOk, OnOk, Some, false, true};
 ghost use Rattle.run_ledger.specs.Report.{report_of};
-ghost use Rattle.task_machine.specs.declared.part.Private.{Private as Part};
+ghost use Rattle.task_machine.specs.declared.part.Private.{Private as PrivateOf};
 ghost use Rattle.shared_value.specs.Fits.{AllFit, Fits};
 ghost use Rattle.shared_value.specs.Stands.{IsSharedValue};
 ghost use Rattle.shared_value.specs.SharedValue.{rest_at, without_journal};
@@ -43,7 +43,7 @@ impl Counted {
         ensures settings { IfOk result (λ s. s.settings ≡ settings) }
         ensures journal { IfOk result (λ s. s.journal.items ≡ []) }
         ensures on { IfOk result (λ s. s.halted ≡ false) }
-        ensures root { IfOk result (λ s. (r : RestOf) → rest_at s.homes 0 ≡ Some r → r.heap.chunks ≡ []) }
+        ensures root { IfOk result (λ s. (r : RestOf) → rest_at s.rests 0 ≡ Some r → r.heap.chunks ≡ []) }
     {
         let shared = Shared::new(alloc, program, settings)?;
         let counts = Counts::none(alloc, settings.workers())?;
@@ -54,7 +54,7 @@ impl Counted {
     pub fn reserve(&mut self) -> Result<(), AllocError>
         ensures same { self.new ≡ record self.old { journal = record { items = self.old.journal.items; room = self.new.journal.room } } }
         ensures room { OnOk result (0 < self.new.journal.room) }
-        ensures fit { (k : ℕ) (p : Part) → Fits self.old k p → Fits self.new k p }
+        ensures fit { (k : ℕ) (p : PrivateOf) → Fits self.old k p → Fits self.new k p }
     {
         self.shared.reserve()
     }

@@ -12,7 +12,7 @@ use shared_tree::Shared;
 
 // How many objects lie in the heap of a task, and their words, as far as 64 bits count; none of a task that runs.
 fn held_of(shared: &Shared, t: u32) -> (u64, u64)
-    requires made { t < length shared.now.homes }
+    requires made { t < length shared.now.rests }
     ensures objects { result.0 ≡ counted (length (held_unless_running (accounts shared.now) t)) }
     ensures words { result.1 ≡ counted (words_sum (accounts shared.now).machine (held_unless_running (accounts shared.now) t)) }
 {

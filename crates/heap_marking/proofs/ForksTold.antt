@@ -5,7 +5,7 @@ use Rattle.std.proofs.lemmas.Option.{same_Some}
 use Rattle.listed.proofs.Options.{none_is}
 use Rattle.hh_model.specs.declared.data.Status.{Status}
 use Rattle.hh_model.specs.declared.data.Status.TheVariants.{Running, Waiting, Ended, Joined}
-use Rattle.hh_model.specs.declared.data.State.{State as Machine}
+use Rattle.hh_model.specs.declared.data.State.{State}
 use Rattle.hh_model.specs.declared.data.Task.{Task}
 use Rattle.hh_model.specs.Step.{is_joined, is_over, is_waiting, joined, parents}
 use Rattle.hh_model.specs.Tree.{waiting}
@@ -25,7 +25,7 @@ use Rattle.core_relation.specs.Whole.{StandsFor, state_by, as_node}
 use Rattle.shared_value.specs.Causes.{or_else}
 use Rattle.shared_value.specs.Entered.{Enters}
 use Rattle.shared_value.specs.Stands.{IsSharedValue}
-use Rattle.shared_value.specs.SharedValue.{SharedValue, accounts, marks_at, noted_in, totals_of, value_of}
+use Rattle.shared_value.specs.SharedValue.{SharedValue, accounts, marks_at, noted_in, tree_counts_of, value_of}
 use Rattle.shared_value.proofs.JournalGoesOn.{accounts_then}
 use Rattle.shared_value.proofs.BeforeTheEnd.{stands_now}
 use Rattle.shared_value.proofs.TaskTaken.{same_parent}
@@ -70,17 +70,17 @@ module _ (w : SharedValue) (I : IsSharedValue w) (on : (accounts w).end ≡ None
   abbrev l : Ledger
   l = accounts w
 
-  S : StandsFor (value_of w) (totals_of w) l
+  S : StandsFor (value_of w) (tree_counts_of w) l
   S = stands_now w I on
 
   pub joined_is : (t : ℕ) → is_state_joined (state_in w.tree t) ≡ joined l.machine.tasks t
-  joined_is t = joined_by (slice_get w.tree t) (slice_get l.machine.tasks t) (heap_of l t).worker (S.totals.node t)
+  joined_is t = joined_by (slice_get w.tree t) (slice_get l.machine.tasks t) (heap_of l t).worker (S.tree_counts.node t)
 
   pub parent_is : (t : ℕ) → parent_of w.tree t ≡ parents l.machine.tasks t
-  parent_is t = same_parent (slice_get w.tree t) (slice_get l.machine.tasks t) (heap_of l t).worker (S.totals.node t)
+  parent_is t = same_parent (slice_get w.tree t) (slice_get l.machine.tasks t) (heap_of l t).worker (S.tree_counts.node t)
 
   pub waiting_is : (t : ℕ) → is_state_waiting (state_in w.tree t) ≡ is_waiting (slice_get l.machine.tasks t)
-  waiting_is t = waits_by (slice_get w.tree t) (slice_get l.machine.tasks t) (heap_of l t).worker (S.totals.node t)
+  waiting_is t = waits_by (slice_get w.tree t) (slice_get l.machine.tasks t) (heap_of l t).worker (S.tree_counts.node t)
 
   keeps_is : (t : ℕ) → (noted_in (slice_get w.sets t)).keeps ≡ (is_waiting (slice_get l.machine.tasks t) && not (heap_of l t).swept)
   keeps_is t = S.keeps t
@@ -164,7 +164,7 @@ module _ (w : SharedValue) (I : IsSharedValue w) (on : (accounts w).end ≡ None
 
   has_live : (t : ℕ) → is_waiting (slice_get l.machine.tasks t) ≡ true → (c : ℕ) × (lives_below l.machine.tasks t c ≡ true)
   has_live t q =
-      let c = subst (λ (m : Machine). waiting m.tasks t ≡ true → (c : ℕ) × (parents m.tasks c ≡ Some t) × (joined m.tasks c ≡ false)) (sym (machine_is_run w.program w.settings w.journal.items))
+      let c = subst (λ (m : State). waiting m.tasks t ≡ true → (c : ℕ) × (parents m.tasks c ≡ Some t) × (joined m.tasks c ≡ false)) (sym (machine_is_run w.program w.settings w.journal.items))
       (runs_have_live w.program (field_limit w.settings.version) (tasks_of w.journal.items) t) q in
       (c.0, child_from l.machine.tasks t c.0 c.1 c.2)
 

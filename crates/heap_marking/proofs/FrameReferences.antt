@@ -6,15 +6,15 @@ use Rattle.std.proofs.lemmas.List.{append-nil}
 use Rattle.object_layout.specs.declared.word.Addr.{Addr}
 use Rattle.task_frames.specs.declared.frames.Frame.{Frame}
 use Rattle.task_frames.specs.FramesValue.{references_of}
-use Rattle.leaf_copy_gc.specs.Survivors.{held_by}
+use Rattle.leaf_copy_gc.specs.Survivors.{frame_references}
 
-pub frames_more : (g : Option Addr → List Addr) (fs : List Frame) (k : ℕ) → k < length fs → flat_map g (held_by (take (k + 1) fs)) ≡ flat_map g (held_by (take k fs)) ++ flat_map g (references_of fs k)
+pub frames_more : (g : Option Addr → List Addr) (fs : List Frame) (k : ℕ) → k < length fs → flat_map g (frame_references (take (k + 1) fs)) ≡ flat_map g (frame_references (take k fs)) ++ flat_map g (references_of fs k)
 frames_more g [] k lt = absurd (omega (arith, lt))
 frames_more g (x ∷ xs) zero lt = ap (flat_map g) (append-nil x.refs)
 frames_more g (x ∷ xs) (suc k) lt =
     let n : suc k + 1 ≡ suc (k + 1) = omega arith in
     rw n (
-    flat_map-append g x.refs (held_by (take (k + 1) xs))
+    flat_map-append g x.refs (frame_references (take (k + 1) xs))
     ∙ (ap (λ z. flat_map g x.refs ++ z) (frames_more g xs k (omega (arith, lt)))
-    ∙ (sym (append_assoc (flat_map g x.refs) (flat_map g (held_by (take k xs))) (flat_map g (references_of xs k)))
-    ∙ ap (λ z. z ++ flat_map g (references_of xs k)) (sym (flat_map-append g x.refs (held_by (take k xs)))))))
+    ∙ (sym (append_assoc (flat_map g x.refs) (flat_map g (frame_references (take k xs))) (flat_map g (references_of xs k)))
+    ∙ ap (λ z. z ++ flat_map g (references_of xs k)) (sym (flat_map-append g x.refs (frame_references (take k xs)))))))

@@ -9,7 +9,7 @@ use Rattle.object_layout.specs.declared.word.Addr.{Addr}
 use Rattle.object_layout.specs.Cell.{Born, Hole, IsBorn, Mark, Moved}
 use Rattle.object_layout.specs.Chunks.{AreApart, cell_of, has_chunk, place_of}
 use Rattle.object_layout.specs.ChunkValue.{ChunkValue}
-use Rattle.object_layout.specs.Graph.{IsClosed, IsHeld, IsSound}
+use Rattle.object_layout.specs.Graph.{IsClosed, HasObjectAt, IsSound}
 use Rattle.object_layout.specs.Objects.{Located, located}
 use Rattle.ledger_step_laws.specs.Accounts.{Rests, own}
 use Rattle.core_relation.specs.Memory.{Chunk, In, Memory, objects, objects_in}
@@ -20,7 +20,7 @@ use Rattle.shared_value.proofs.CellsRead.{object_seen, seen_object}
 use Rattle.shared_value.proofs.RootsHeld.{chunk_in}
 
 -- what is held is read
-pub held_seen : (ks : List ChunkValue) (a : Addr) → IsHeld ks a → (o : Located) × In (objects_in (chunks_of ks)) o × (o.at ≡ a) × ((cell_of ks a).refs ≡ o.refs)
+pub held_seen : (ks : List ChunkValue) (a : Addr) → HasObjectAt ks a → (o : Located) × In (objects_in (chunks_of ks)) o × (o.at ≡ a) × ((cell_of ks a).refs ≡ o.refs)
 held_seen ks a h = by (cell_of ks a).mark refl h
   where
     by : (m : Mark) → (cell_of ks a).mark ≡ m → IsBorn m → (o : Located) × In (objects_in (chunks_of ks)) o × (o.at ≡ a) × ((cell_of ks a).refs ≡ o.refs)
@@ -29,7 +29,7 @@ held_seen ks a h = by (cell_of ks a).mark refl h
     by Hole e o = absurd o
 
 -- what is read is held, with the references that are read
-pub seen_held : (ks : List ChunkValue) → AreApart ks → (o : Located) → In (objects_in (chunks_of ks)) o → IsHeld ks o.at × ((cell_of ks o.at).refs ≡ o.refs)
+pub seen_held : (ks : List ChunkValue) → AreApart ks → (o : Located) → In (objects_in (chunks_of ks)) o → HasObjectAt ks o.at × ((cell_of ks o.at).refs ≡ o.refs)
 seen_held ks apart o i = let y = seen_object ks o apart i in (subst IsBorn (sym y.mark) tt, sym (ap (λ (z : Located). z.refs) y.is))
 
 module _ (v : Memory) (l : Ledger) (V : Stands v l) (t : ℕ) (rests : Rests l t) (ks : List ChunkValue) (home : (v.homes t).chunks ≡ chunks_of ks) (apart : AreApart ks) (near : AreNear ks) where
@@ -43,7 +43,7 @@ module _ (v : Memory) (l : Ledger) (V : Stands v l) (t : ℕ) (rests : Rests l t
       let lies = P.here (subst (Rests l) (sym o) rests) in
       let here : In (objects v t) lies.0 = subst (λ u. In (objects v u) lies.0) o lies.1 in
       let i : In (objects_in (chunks_of ks)) lies.0 = subst (λ (cs : List Chunk). In (objects_in cs) lies.0) home here in (
-        subst (IsHeld ks) lies.2.at (seen_held ks apart lies.0 i).0,
+        subst (HasObjectAt ks) lies.2.at (seen_held ks apart lies.0 i).0,
         subst (λ (z : Addr). z.offset < 1024) lies.2.at (near lies.0 i),
       )
 

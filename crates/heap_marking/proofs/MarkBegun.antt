@@ -14,7 +14,7 @@ use Rattle.run_ledger.proofs.Journals.{legal_sound}
 use Rattle.object_layout.specs.declared.word.Addr.{Addr}
 use Rattle.object_layout.specs.Chunks.{cell_of, object_count}
 use Rattle.object_layout.specs.ChunkValue.{ChunkValue}
-use Rattle.object_layout.specs.Graph.{IsHeld, Leads}
+use Rattle.object_layout.specs.Graph.{HasObjectAt, Leads}
 use Rattle.object_layout.specs.Objects.{Located}
 use Rattle.task_frames.specs.declared.frames.Frame.{Frame}
 use Rattle.inner_mark_gc.specs.MarkingValue.{IsMarking, IsOf, MarkingValue}
@@ -30,7 +30,7 @@ use Rattle.core_relation.specs.Whole.{StandsFor}
 use Rattle.core_entry_laws.proofs.notes.SnapshotNow.{snapshot_now}
 use Rattle.task_homes.specs.declared.task_at_rest.Rest.{Rest}
 use Rattle.shared_value.specs.Objects.{chunks_of}
-use Rattle.shared_value.specs.SharedValue.{SharedValue, accounts, home_in, rest_at, totals_of, value_of}
+use Rattle.shared_value.specs.SharedValue.{SharedValue, accounts, home_in, rest_at, tree_counts_of, value_of}
 use Rattle.shared_value.specs.Stands.{HeapForm, IsSharedValue}
 use Rattle.shared_value.proofs.BeforeTheEnd.{stands_now}
 use Rattle.shared_value.proofs.ObjectCounts.{objects_counted}
@@ -42,7 +42,7 @@ pub length_chunks : (cs : List ChunkValue) → length (chunks_of cs) ≡ length 
 length_chunks [] = refl
 length_chunks (c ∷ cs) = ap suc (length_chunks cs)
 
-module _ (w : SharedValue) (I : IsSharedValue w) (on : (accounts w).end ≡ None) (t : ℕ) (r : Rest) (there : rest_at w.homes t ≡ Some r) (wait : is_waiting (slice_get (accounts w).machine.tasks t) ≡ true) (keeps : ((value_of w).noted t).keeps ≡ true) where
+module _ (w : SharedValue) (I : IsSharedValue w) (on : (accounts w).end ≡ None) (t : ℕ) (r : Rest) (there : rest_at w.rests t ≡ Some r) (wait : is_waiting (slice_get (accounts w).machine.tasks t) ≡ true) (keeps : ((value_of w).noted t).keeps ≡ true) where
   abbrev l : Ledger
   l = accounts w
 
@@ -52,7 +52,7 @@ module _ (w : SharedValue) (I : IsSharedValue w) (on : (accounts w).end ≡ None
   abbrev ks : List ChunkValue
   ks = r.heap.chunks
 
-  stands : StandsFor v (totals_of w) l
+  stands : StandsFor v (tree_counts_of w) l
   stands = stands_now w I on
 
   sound : SoundLedger l
@@ -73,10 +73,10 @@ module _ (w : SharedValue) (I : IsSharedValue w) (on : (accounts w).end ≡ None
   pub from_home : (o : Located) → In (objects v t) o → In (objects_in (chunks_of ks)) o
   from_home o i = subst (λ cs. In (objects_in cs) o) home_is i
 
-  pub is_held : (o : Located) → In (objects v t) o → IsHeld ks o.at
+  pub is_held : (o : Located) → In (objects v t) o → HasObjectAt ks o.at
   is_held o i = (seen_held ks form.shaped.apart o (from_home o i)).0
 
-  pub seen_at : (a : Addr) → IsHeld ks a → (o : Located) × In (objects v t) o × (o.at ≡ a) × ((cell_of ks a).refs ≡ o.refs)
+  pub seen_at : (a : Addr) → HasObjectAt ks a → (o : Located) × In (objects v t) o × (o.at ≡ a) × ((cell_of ks a).refs ≡ o.refs)
   seen_at a h = let o = held_seen ks a h in (o.0, to_home o.0 o.1, o.2, o.3)
 
   pub refs_are : (o : Located) → In (objects v t) o → (cell_of ks o.at).refs ≡ o.refs
@@ -111,8 +111,8 @@ module _ (w : SharedValue) (I : IsSharedValue w) (on : (accounts w).end ≡ None
     to_now : (a : Addr) → IsInSnapshot f (kept v t) a → IsReachedNow v l t a
     to_now a g = (reached_within (Starts f (kept v t)) (Leads ks) IsThere start_now more_now a g).0
 
-    held_at : (a : Addr) (o : Located) → IsAt (v.homes t) a o → IsHeld ks a
-    held_at a o at = subst (IsHeld ks) at.1 (is_held o at.0)
+    held_at : (a : Addr) (o : Located) → IsAt (v.homes t) a o → HasObjectAt ks a
+    held_at a o at = subst (HasObjectAt ks) at.1 (is_held o at.0)
 
     start_then : (a : Addr) → StartsNow v l t a → IsInSnapshot f (kept v t) a
     start_then a s =

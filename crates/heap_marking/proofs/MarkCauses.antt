@@ -16,7 +16,7 @@ use Rattle.core_relation.specs.Marking.{MarkedBy}
 use Rattle.core_relation.specs.Memory.{Memory}
 use Rattle.core_relation.specs.Whole.{StandsFor, state_by, as_node}
 use Rattle.shared_value.specs.Causes.{or_else}
-use Rattle.shared_value.specs.SharedValue.{accounts, marks_at, noted_in, totals_of, value_of}
+use Rattle.shared_value.specs.SharedValue.{accounts, marks_at, noted_in, tree_counts_of, value_of}
 use Rattle.shared_value.proofs.BeforeTheEnd.{stands_now}
 use Rattle.heap_marking.specs.MarkCauses.{MarksRefuse, is_state_waiting}
 
@@ -73,8 +73,8 @@ begins_is true false true b c rest e f = ap (λ z. refused_if z Marking rest) (f
 pub marks_refuse : MarksRefuse
 marks_refuse w k t I on =
     let l : Ledger = accounts w in
-    let S : StandsFor (value_of w) (totals_of w) l = stands_now w I on in
-    let waits : is_state_waiting (option_map (λ m. m.state) (slice_get w.tree t)) ≡ is_waiting (slice_get l.machine.tasks t) = waits_by (slice_get w.tree t) (slice_get l.machine.tasks t) (heap_of l t).worker (S.totals.node t) in
+    let S : StandsFor (value_of w) (tree_counts_of w) l = stands_now w I on in
+    let waits : is_state_waiting (option_map (λ m. m.state) (slice_get w.tree t)) ≡ is_waiting (slice_get l.machine.tasks t) = waits_by (slice_get w.tree t) (slice_get l.machine.tasks t) (heap_of l t).worker (S.tree_counts.node t) in
     let keeps : (noted_in (slice_get w.sets t)).keeps ≡ (is_waiting (slice_get l.machine.tasks t) && not (heap_of l t).swept) = S.keeps t in
     let marked : (noted_in (slice_get w.sets t)).keeps ≡ true → is_some (heap_of l t).marked ≡ is_some (marks_at w.marks t) = λ e. marked_by (value_of w) l t (marks_at w.marks t) (S.marks t e) in
     record {

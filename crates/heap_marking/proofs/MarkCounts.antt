@@ -13,7 +13,7 @@ use Rattle.run_ledger.specs.Heaps.{heap_of, held_in, left_in, marked_in, or_fres
 use Rattle.journal_laws.proofs.History.{snapshots_are_held}
 use Rattle.object_layout.specs.declared.word.Addr.{Addr}
 use Rattle.object_layout.proofs.Distinct.{distinct_take}
-use Rattle.object_layout.specs.Graph.{IsHeld, Leads}
+use Rattle.object_layout.specs.Graph.{HasObjectAt, Leads}
 use Rattle.object_layout.specs.Objects.{Located}
 use Rattle.inner_mark_gc.specs.MarkingValue.{MarkingValue, marked_of}
 use Rattle.inner_mark_gc.specs.Snapshot.{IsInSnapshot, Starts}
@@ -24,7 +24,7 @@ use Rattle.core_relation.specs.Marking.{GoesOn, MarkedBy}
 use Rattle.core_relation.specs.Since.{kept}
 use Rattle.core_relation.specs.Whole.{StandsFor}
 use Rattle.core_entry_laws.proofs.notes.MarksAll.{all_marked, few_marked}
-use Rattle.shared_value.specs.SharedValue.{accounts, totals_of, value_of}
+use Rattle.shared_value.specs.SharedValue.{accounts, tree_counts_of, value_of}
 use Rattle.shared_value.proofs.BeforeTheEnd.{stands_now}
 use Rattle.heap_marking.specs.Marking.{MarksCount}
 use Rattle.heap_marking.proofs.MarkBegun as begun
@@ -39,7 +39,7 @@ take_long (suc n) (x ∷ xs) le = ap suc (take_long n xs (omega (arith, le)))
 marked_each : (v : Memory) (t : ℕ) (names : List Name) (m : MarkingValue) → GoesOn v t names m → (a : Addr) → In (marked_of m) a → (q : Located) × In (objects v t) q × (q.at ≡ a) × In names (object_name q)
 marked_each v t names m G a i =
     let reached = G.marks.each a (contains_from_in m.found a (in_take m.marked m.found a i)) in
-    let held : IsHeld G.fork.heap a = reached_within (Starts G.fork (kept v t)) (Leads G.fork.heap) (IsHeld G.fork.heap) (λ x s. s.0) (λ b x h d. d.1) a reached in
+    let held : HasObjectAt G.fork.heap a = reached_within (Starts G.fork (kept v t)) (Leads G.fork.heap) (HasObjectAt G.fork.heap) (λ x s. s.0) (λ b x h d. d.1) a reached in
     let o = G.were a held in
     (o.0, o.1, o.2, (G.snapshot o.0 o.1).0 (subst (IsInSnapshot G.fork (kept v t)) (sym o.2) reached))
 
@@ -60,7 +60,7 @@ pub marks_count : MarksCount
 marks_count w k t r m m' n c I on there wait keeps at G' sum most last =
     let l : Ledger = accounts w in
     let v : Memory = value_of w in
-    let S : StandsFor v (totals_of w) l = stands_now w I on in
+    let S : StandsFor v (tree_counts_of w) l = stands_now w I on in
     let rests : Rests l t = begun.rests w I on t r there wait keeps in
     let M : MarkedBy v l t (Some m) = subst (MarkedBy v l t) at (S.marks t keeps) in
     let G : GoesOn v t (heap_of l t).snapshot m = M.1 in

@@ -10,7 +10,7 @@ use Rattle.path_laws.proofs.Leaves.{waiting_stops}
 use Rattle.run_trace.specs.declared.entry.Kind.TheVariants.{Mark, More}
 use Rattle.run_trace.specs.Entry.{EntryValue}
 use Rattle.run_trace.specs.Settings.{SettingsValue}
-use Rattle.run_ledger.specs.declared.data.Heap.{Heap as Account}
+use Rattle.run_ledger.specs.declared.data.Heap.{Heap}
 use Rattle.run_ledger.specs.declared.data.Ledger.{Ledger}
 use Rattle.run_ledger.specs.declared.data.Refused.{Refused}
 use Rattle.run_ledger.specs.declared.data.Refused.TheVariants.{Marked, Marking, NotDue}
@@ -21,7 +21,7 @@ use Rattle.run_ledger.proofs.Journals.{entry_tells, legal_sound}
 use Rattle.run_ledger.proofs.Steps.{heap_there}
 use Rattle.object_layout.specs.declared.word.Addr.{Addr}
 use Rattle.object_layout.specs.Chunks.{held_words}
-use Rattle.object_layout.specs.Graph.{IsHeld}
+use Rattle.object_layout.specs.Graph.{HasObjectAt}
 use Rattle.alloc_path.specs.LeafHeapValue.{counted}
 use Rattle.remembered_set.specs.Moved.{AreFields}
 use Rattle.write_barrier.specs.declared.sets.SetOf.{SetOf}
@@ -137,7 +137,7 @@ module _ (w : SharedValue) (I : IsSharedValue w) (k t : ℕ) where
       (or_none (marking_cause w t) _ (sym ((marks_refuse w k t I on).more n) ∙ kind_free w (record { worker = k; kind = More t n }) free)).0
 
 -- ITS WORDS, of a heap whose task waits
-pub words_now : (w : SharedValue) (I : IsSharedValue w) (t : ℕ) (on : (accounts w).end ≡ None) → waiting_cause w t ≡ None → (r : Rest) → rest_at w.homes t ≡ Some r → words_in (accounts w).machine (heap_of (accounts w) t) ≡ held_words r.heap.chunks
+pub words_now : (w : SharedValue) (I : IsSharedValue w) (t : ℕ) (on : (accounts w).end ≡ None) → waiting_cause w t ≡ None → (r : Rest) → rest_at w.rests t ≡ Some r → words_in (accounts w).machine (heap_of (accounts w) t) ≡ held_words r.heap.chunks
 words_now w I t on free r there =
     let l : Ledger = accounts w in
     let wait = homes.wait w I on t free in
@@ -150,29 +150,29 @@ kept_noted None = refl
 kept_noted (Some s) = refl
 
 -- THE MARKING that begins
-pub mark_goes : (w : SharedValue) (I : IsSharedValue w) (t : ℕ) (on : (accounts w).end ≡ None) → waiting_cause w t ≡ None → (r : Rest) → rest_at w.homes t ≡ Some r → (m : MarkingValue) → ((kept : List Addr) → IsOf r.heap.chunks kept m)
-    → ((f : Fork) (kept : List Addr) → f.roots ≡ starts_of w t → ((a : Addr) → IsHeld f.heap a ↔ IsHeld r.heap.chunks a) → IsMarking f kept m) → GoesOn (value_of w) t (heap_of (accounts w) t).snapshot m
+pub mark_goes : (w : SharedValue) (I : IsSharedValue w) (t : ℕ) (on : (accounts w).end ≡ None) → waiting_cause w t ≡ None → (r : Rest) → rest_at w.rests t ≡ Some r → (m : MarkingValue) → ((kept : List Addr) → IsOf r.heap.chunks kept m)
+    → ((f : Fork) (kept : List Addr) → f.roots ≡ starts_of w t → ((a : Addr) → HasObjectAt f.heap a ↔ HasObjectAt r.heap.chunks a) → IsMarking f kept m) → GoesOn (value_of w) t (heap_of (accounts w) t).snapshot m
 mark_goes w I t on free r there m own marking =
     let wait = homes.wait w I on t free in
     marks_begin w t r (starts_of w t) m I on there wait (homes.keeps w I on t free) (starts_are w I on t r there wait) (own (kept (value_of w) t))
     (marking (record { heap = r.heap.chunks; roots = starts_of w t }) (kept (value_of w) t) refl (λ a. ((λ h. h), (λ h. h))))
 
-pub mark_holds : (w : SharedValue) (I : IsSharedValue w) (t : ℕ) (on : (accounts w).end ≡ None) → waiting_cause w t ≡ None → (r : Rest) → rest_at w.homes t ≡ Some r → All (IsHeld r.heap.chunks) (starts_of w t)
+pub mark_holds : (w : SharedValue) (I : IsSharedValue w) (t : ℕ) (on : (accounts w).end ≡ None) → waiting_cause w t ≡ None → (r : Rest) → rest_at w.rests t ≡ Some r → All (HasObjectAt r.heap.chunks) (starts_of w t)
 mark_holds w I t on free r there = starts_held w I on t r there (homes.wait w I on t free) (homes.keeps w I on t free)
 
 pub mark_fields : (w : SharedValue) (I : IsSharedValue w) (t : ℕ) (on : (accounts w).end ≡ None) → waiting_cause w t ≡ None → AreFields refs_in (heaps_of w) (sources_of (slice_get w.sets t))
 mark_fields w I t on free = let r = homes.rest w I on t free in fields_there w I on t r.0 r.1 (homes.wait w I on t free)
 
 -- it begins at objects of the heap
-pub mark_starts : (w : SharedValue) (I : IsSharedValue w) (t : ℕ) (on : (accounts w).end ≡ None) → waiting_cause w t ≡ None → IfSome (rest_at w.homes t) (λ r. All (IsHeld r.heap.chunks) (starts_in (heaps_of w) (sources_of (slice_get w.sets t)) r))
-mark_starts w I t on free = by (rest_at w.homes t) refl
+pub mark_starts : (w : SharedValue) (I : IsSharedValue w) (t : ℕ) (on : (accounts w).end ≡ None) → waiting_cause w t ≡ None → IfSome (rest_at w.rests t) (λ r. All (HasObjectAt r.heap.chunks) (starts_in (heaps_of w) (sources_of (slice_get w.sets t)) r))
+mark_starts w I t on free = by (rest_at w.rests t) refl
   where
-    by : (o : Option Rest) → rest_at w.homes t ≡ o → IfSome o (λ r. All (IsHeld r.heap.chunks) (starts_in (heaps_of w) (sources_of (slice_get w.sets t)) r))
+    by : (o : Option Rest) → rest_at w.rests t ≡ o → IfSome o (λ r. All (HasObjectAt r.heap.chunks) (starts_in (heaps_of w) (sources_of (slice_get w.sets t)) r))
     by None e = tt
-    by (Some r) e = subst (λ xs. All (IsHeld r.heap.chunks) xs) (ap (starts_by (heaps_of w) (sources_of (slice_get w.sets t))) e) (mark_holds w I t on free r e)
+    by (Some r) e = subst (λ xs. All (HasObjectAt r.heap.chunks) xs) (ap (starts_by (heaps_of w) (sources_of (slice_get w.sets t))) e) (mark_holds w I t on free r e)
 
 -- and goes on to just the snapshot
-pub mark_begun : (w : SharedValue) (I : IsSharedValue w) (t : ℕ) (on : (accounts w).end ≡ None) → waiting_cause w t ≡ None → (m : MarkingValue) → IfSome (rest_at w.homes t) (λ r. IsBegun r.heap.chunks (starts_in (heaps_of w) (sources_of (slice_get w.sets t)) r) m)
+pub mark_begun : (w : SharedValue) (I : IsSharedValue w) (t : ℕ) (on : (accounts w).end ≡ None) → waiting_cause w t ≡ None → (m : MarkingValue) → IfSome (rest_at w.rests t) (λ r. IsBegun r.heap.chunks (starts_in (heaps_of w) (sources_of (slice_get w.sets t)) r) m)
     → (m.marked ≡ 0) × GoesOn (value_of w) t (heap_of (accounts w) t).snapshot m
 mark_begun w I t on free m B =
     let r = homes.rest w I on t free in
@@ -193,12 +193,12 @@ module _ (w : SharedValue) (I : IsSharedValue w) (k t : ℕ) (m : MarkingValue) 
       let S : SoundLedger l = legal_sound w.program w.settings w.journal.items I.legal in
       let x = homes.task w I on t waits in
       let h = heap_there l.machine.tasks l.heaps t S.lengths (got_within l.machine.tasks t x.0 x.1) in
-      let f : Account → Account = λ h. record h { marked = Some 0 } in
+      let f : Heap → Heap = λ h. record h { marked = Some 0 } in
       let then_ : (heap_of (with_heap l t f) t).marked ≡ Some 0 = ap (λ o. (or_fresh o).marked) (with_at l t f ∙ ap (heap_then f) h.1) in
       marks_enter w k (Mark t) t m marks room I free refl at others (then_ ∙ ap Some (ap (λ n. length (take n m.found)) (sym none))) G
 
 -- objects more are marked
-module _ (w : SharedValue) (I : IsSharedValue w) (k t n : ℕ) (free : refused w (record { worker = k; kind = More t n }) ≡ None) (r : Rest) (m m' : MarkingValue) (count : ℕ) (there : rest_at w.homes t ≡ Some r) (at : marks_at w.marks t ≡ Some m)
+module _ (w : SharedValue) (I : IsSharedValue w) (k t n : ℕ) (free : refused w (record { worker = k; kind = More t n }) ≡ None) (r : Rest) (m m' : MarkingValue) (count : ℕ) (there : rest_at w.rests t ≡ Some r) (at : marks_at w.marks t ≡ Some m)
     (own : IsOf r.heap.chunks (kept (value_of w) t) m') (sum : m'.marked ≡ m.marked + count) (most : count ≤ n) (marking : (f : Fork) → IsSince f (kept (value_of w) t) r.heap.chunks → IsMarking f (kept (value_of w) t) m → IsMarking f (kept (value_of w) t) m')
     (left : (f : Fork) → IsSince f (kept (value_of w) t) r.heap.chunks → IsMarking f (kept (value_of w) t) m → count < n → IsAllMarked f (kept (value_of w) t) m') where
   on : (accounts w).end ≡ None

@@ -17,7 +17,7 @@ use Rattle.core_relation.specs.Memory.{Memory}
 use Rattle.core_relation.specs.Whole.{StandsFor}
 use Rattle.task_homes.specs.declared.task_at_rest.Rest.{Rest}
 use Rattle.shared_value.specs.Causes.{or_else}
-use Rattle.shared_value.specs.SharedValue.{SharedValue, accounts, marks_at, rest_at, totals_of, value_of}
+use Rattle.shared_value.specs.SharedValue.{SharedValue, accounts, marks_at, rest_at, tree_counts_of, value_of}
 use Rattle.shared_value.specs.Stands.{IsSharedValue}
 use Rattle.shared_value.proofs.BeforeTheEnd.{stands_now}
 use Rattle.heap_marking.specs.MarkCauses.{marking_cause, waiting_cause}
@@ -40,7 +40,7 @@ module _ (w : SharedValue) (I : IsSharedValue w) (on : (accounts w).end ≡ None
   abbrev v : Memory
   v = value_of w
 
-  S : StandsFor v (totals_of w) l
+  S : StandsFor v (tree_counts_of w) l
   S = stands_now w I on
 
   tells : (waiting_cause w t ≡ None) × (is_some (marks_at w.marks t) ≡ true)
@@ -52,13 +52,13 @@ module _ (w : SharedValue) (I : IsSharedValue w) (on : (accounts w).end ≡ None
   pub keeps : ((value_of w).noted t).keeps ≡ true
   keeps = homes.keeps w I on t tells.0
 
-  pub rest : (r : Rest) × (rest_at w.homes t ≡ Some r)
+  pub rest : (r : Rest) × (rest_at w.rests t ≡ Some r)
   rest = homes.rest w I on t tells.0
 
   pub marks : (m : MarkingValue) × (marks_at w.marks t ≡ Some m)
   marks = some_of (marks_at w.marks t) tells.1
 
-  pub never_gone : rest_at w.homes t ≡ None → ⊥
+  pub never_gone : rest_at w.rests t ≡ None → ⊥
   never_gone = homes.never_gone w I on t tells.0
 
   pub never_unmarked : marks_at w.marks t ≡ None → ⊥
@@ -78,7 +78,7 @@ module _ (w : SharedValue) (I : IsSharedValue w) (on : (accounts w).end ≡ None
           by None e h = absurd cc
           by (Some o) e h = got_within ms t o e
 
-  module _ (r : Rest) (m : MarkingValue) (there : rest_at w.homes t ≡ Some r) (at : marks_at w.marks t ≡ Some m) where
+  module _ (r : Rest) (m : MarkingValue) (there : rest_at w.rests t ≡ Some r) (at : marks_at w.marks t ≡ Some m) where
     M : MarkedBy v l t (Some m)
     M = subst (MarkedBy v l t) at (S.marks t keeps)
 

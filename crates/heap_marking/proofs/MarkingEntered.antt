@@ -15,7 +15,7 @@ use Rattle.run_ledger.specs.Heaps.{heap_of, left_in, marked_in, or_fresh, with_h
 use Rattle.run_ledger.specs.Entries.{after}
 use Rattle.run_ledger.proofs.Machine.{heap_machine}
 use Rattle.object_layout.specs.declared.word.Addr.{Addr}
-use Rattle.object_layout.specs.Graph.{IsHeld, Leads}
+use Rattle.object_layout.specs.Graph.{HasObjectAt, Leads}
 use Rattle.object_layout.proofs.Distinct.{distinct_take}
 use Rattle.object_layout.specs.Objects.{Located}
 use Rattle.inner_mark_gc.specs.MarkingValue.{MarkingValue, marked_of}
@@ -34,7 +34,7 @@ use Rattle.core_relation.specs.Whole.{StandsFor}
 use Rattle.core_relation.specs.Worker.{IsBy}
 use Rattle.core_entry_laws.proofs.whole.EntriesWhole.{quiet_stands_for}
 use Rattle.core_entry_laws.proofs.parts.WorkersPast.{quiet_leaves}
-use Rattle.shared_value.specs.SharedValue.{SharedValue, accounts, marks_at, totals_of, value_of}
+use Rattle.shared_value.specs.SharedValue.{SharedValue, accounts, marks_at, tree_counts_of, value_of}
 use Rattle.shared_value.specs.Stands.{IsSharedValue}
 use Rattle.shared_value.specs.Fits.{AllFit, part_of}
 use Rattle.shared_value.specs.Entered.{refused}
@@ -68,7 +68,7 @@ module _ (w : SharedValue) (e : EntryValue) (I : IsSharedValue w) (free : refuse
   L = after w.program w.settings l e
 
   abbrev pub w' : SharedValue
-  w' = entered_marks w e w.tree w.pool w.homes w.sets w.tasks_out w.outputs w.steps w.end room marks
+  w' = entered_marks w e w.tree w.pool w.rests w.sets w.tasks_out w.outputs w.steps w.end room marks
 
   abbrev v : Memory
   v = value_of w
@@ -77,8 +77,8 @@ module _ (w : SharedValue) (e : EntryValue) (I : IsSharedValue w) (free : refuse
   v' = value_of w'
 
   module _ (machine : L.machine ≡ l.machine) (heap_t : heap_of L t ≡ record (heap_of l t) { marked = Some (length (marked_of m)) }) (heaps : (u : ℕ) → (u ≡ t → ⊥) → heap_of L u ≡ heap_of l u)
-      (counts : CountsGo w.program w.settings l (totals_of w) (totals_of w') e.worker e.kind) (G : GoesOn v t (heap_of l t).snapshot m) where
-    S0 : StandsFor v (totals_of w) l
+      (counts : CountsGo w.program w.settings l (tree_counts_of w) (tree_counts_of w') e.worker e.kind) (G : GoesOn v t (heap_of l t).snapshot m) where
+    S0 : StandsFor v (tree_counts_of w) l
     S0 = stands_now w I (entry_on w e free)
 
     worker_same : (u : ℕ) → (heap_of L u).worker ≡ (heap_of l u).worker
@@ -135,7 +135,7 @@ module _ (w : SharedValue) (e : EntryValue) (I : IsSharedValue w) (free : refuse
     each_marked a i =
         let found : Contains m.found a = contains_from_in m.found a (in_take m.marked m.found a i) in
         let reached = G.marks.each a found in
-        let held : IsHeld G.fork.heap a = reached_within (Starts G.fork (kept v t)) (Leads G.fork.heap) (IsHeld G.fork.heap) (λ x s. s.0) (λ b x h d. d.1) a reached in
+        let held : HasObjectAt G.fork.heap a = reached_within (Starts G.fork (kept v t)) (Leads G.fork.heap) (HasObjectAt G.fork.heap) (λ x s. s.0) (λ b x h d. d.1) a reached in
         let o = G.were a held in
         (o.0, o.1, o.2, subst (λ (h : Heap). In h.snapshot (object_name o.0)) (sym heap_t) ((G.snapshot o.0 o.1).0 (subst (λ b. IsInSnapshot G.fork (kept v t) b) (sym o.2) reached)))
 
@@ -150,14 +150,14 @@ module _ (w : SharedValue) (e : EntryValue) (I : IsSharedValue w) (free : refuse
 
     pub marking_world : IsSharedValue w'
     marking_world =
-        marked_world w e I free w.tree w.pool w.homes w.sets w.tasks_out w.outputs w.steps w.end room marks I.made I.noted refl refl
-        (quiet_stands_for w.program w.settings w.journal.items I.form I.legal v v' (totals_of w) (totals_of w') e free quiet I.stands same notes marks_on counts)
+        marked_world w e I free w.tree w.pool w.rests w.sets w.tasks_out w.outputs w.steps w.end room marks I.made I.noted refl refl
+        (quiet_stands_for w.program w.settings w.journal.items I.form I.legal v v' (tree_counts_of w) (tree_counts_of w') e free quiet I.stands same notes marks_on counts)
         I.heaps I.measured
 
     -- every part that fits fits
     pub marking_fits : AllFit w w'
     marking_fits u q F =
-        marked_fits w e I free w.tree w.pool w.homes w.sets w.tasks_out w.outputs w.steps w.end room marks marking_world u q q refl F refl refl refl F.form F.measured
+        marked_fits w e I free w.tree w.pool w.rests w.sets w.tasks_out w.outputs w.steps w.end room marks marking_world u q q refl F refl refl refl F.form F.measured
         (quiet_leaves w.program w.settings w.journal.items I.legal v v' e free quiet same (part_of w.settings q) (by_none q.task) F.fits)
 
 -- THE LAW
@@ -183,7 +183,7 @@ marks_enter w k (Mark u) t m marks room I free just at off count G =
     let heaps : (z : ℕ) → (z ≡ t → ⊥) → heap_of (with_heap l u f) z ≡ heap_of l z = λ z ne. ap or_fresh (with_off l u z f (λ q. ne (q ∙ just))) in
     let heap_t : heap_of (with_heap l u f) t ≡ record (heap_of l t) { marked = Some (length (marked_of m)) } =
     subst (λ z. heap_of (with_heap l u f) z ≡ record (heap_of l z) { marked = Some (length (marked_of m)) }) just (heap_by l u (length (marked_of m)) f (λ h. refl) (ap (λ z. (heap_of (with_heap l u f) z).marked) just ∙ count)) in
-    let counts : CountsGo w.program w.settings l (totals_of w) (totals_of w) k (Mark u) = (record { node = λ z. refl; task_out = λ z. refl; steps = refl; outputs = refl }, refl, refl) in (
+    let counts : CountsGo w.program w.settings l (tree_counts_of w) (tree_counts_of w) k (Mark u) = (record { node = λ z. refl; task_out = λ z. refl; steps = refl; outputs = refl }, refl, refl) in (
       marking_world w e I free tt t m marks room at off only just (λ z q. q) (heap_machine l u f) heap_t heaps counts G,
       marking_fits w e I free tt t m marks room at off only just (λ z q. q) (heap_machine l u f) heap_t heaps counts G,
     )
@@ -195,7 +195,7 @@ marks_enter w k (More u n) t m marks room I free just at off count G =
     let heaps : (z : ℕ) → (z ≡ t → ⊥) → heap_of (with_heap l u f) z ≡ heap_of l z = λ z ne. ap or_fresh (with_off l u z f (λ q. ne (q ∙ just))) in
     let heap_t : heap_of (with_heap l u f) t ≡ record (heap_of l t) { marked = Some (length (marked_of m)) } =
     subst (λ z. heap_of (with_heap l u f) z ≡ record (heap_of l z) { marked = Some (length (marked_of m)) }) just (heap_by l u (length (marked_of m)) f (λ h. refl) (ap (λ z. (heap_of (with_heap l u f) z).marked) just ∙ count)) in
-    let counts : CountsGo w.program w.settings l (totals_of w) (totals_of w) k (More u n) = (record { node = λ z. refl; task_out = λ z. refl; steps = refl; outputs = refl }, refl, refl) in (
+    let counts : CountsGo w.program w.settings l (tree_counts_of w) (tree_counts_of w) k (More u n) = (record { node = λ z. refl; task_out = λ z. refl; steps = refl; outputs = refl }, refl, refl) in (
       marking_world w e I free tt t m marks room at off only just (λ z q. q) (heap_machine l u f) heap_t heaps counts G,
       marking_fits w e I free tt t m marks room at off only just (λ z q. q) (heap_machine l u f) heap_t heaps counts G,
     )

@@ -13,7 +13,7 @@ use Rattle.run_ledger.proofs.Journals.{legal_sound}
 use Rattle.object_layout.specs.declared.word.Addr.{Addr}
 use Rattle.object_layout.specs.Chunks.{cell_of, object_count}
 use Rattle.object_layout.specs.ChunkValue.{ChunkValue}
-use Rattle.object_layout.specs.Graph.{IsClosed, IsHeld, Leads}
+use Rattle.object_layout.specs.Graph.{IsClosed, HasObjectAt, Leads}
 use Rattle.object_layout.specs.Objects.{Located}
 use Rattle.inner_mark_gc.specs.MarkingValue.{IsAllMarked, IsMarking, IsOf, MarkingValue, marked_of}
 use Rattle.inner_mark_gc.specs.Snapshot.{Fork, IsInSnapshot, IsSince, Starts}
@@ -27,7 +27,7 @@ use Rattle.core_relation.specs.Whole.{StandsFor}
 use Rattle.core_relation.proofs.notes.Rooted.{lies_in}
 use Rattle.core_entry_laws.proofs.notes.SnapshotNow.{snapshot_now}
 use Rattle.task_homes.specs.declared.task_at_rest.Rest.{Rest}
-use Rattle.shared_value.specs.SharedValue.{SharedValue, accounts, rest_at, totals_of, value_of}
+use Rattle.shared_value.specs.SharedValue.{SharedValue, accounts, rest_at, tree_counts_of, value_of}
 use Rattle.shared_value.specs.Stands.{HeapForm, IsSharedValue}
 use Rattle.shared_value.proofs.ObjectCounts.{objects_counted}
 use Rattle.shared_value.proofs.BeforeTheEnd.{stands_now}
@@ -35,7 +35,7 @@ use Rattle.heap_marking.specs.Marking.{MarksGoFurther}
 use Rattle.heap_marking.proofs.HeapClosed.{closed as is_closed}
 use Rattle.heap_marking.proofs.MarkBegun as begun
 
-module _ (w : SharedValue) (I : IsSharedValue w) (on : (accounts w).end ≡ None) (t : ℕ) (r : Rest) (there : rest_at w.homes t ≡ Some r) (wait : is_waiting (slice_get (accounts w).machine.tasks t) ≡ true) (keeps : ((value_of w).noted t).keeps ≡ true)
+module _ (w : SharedValue) (I : IsSharedValue w) (on : (accounts w).end ≡ None) (t : ℕ) (r : Rest) (there : rest_at w.rests t ≡ Some r) (wait : is_waiting (slice_get (accounts w).machine.tasks t) ≡ true) (keeps : ((value_of w).noted t).keeps ≡ true)
     (m : MarkingValue) (G : GoesOn (value_of w) t (heap_of (accounts w) t).snapshot m) where
   abbrev l : Ledger
   l = accounts w
@@ -46,7 +46,7 @@ module _ (w : SharedValue) (I : IsSharedValue w) (on : (accounts w).end ≡ None
   abbrev ks : List ChunkValue
   ks = r.heap.chunks
 
-  stands : StandsFor v (totals_of w) l
+  stands : StandsFor v (tree_counts_of w) l
   stands = stands_now w I on
 
   form : HeapForm r.heap
@@ -62,8 +62,8 @@ module _ (w : SharedValue) (I : IsSharedValue w) (on : (accounts w).end ≡ None
   now : (q : Located) → In (objects v t) q → IsReachedNow v l t q.at ↔ In (heap_of l t).snapshot (object_name q)
   now = snapshot_now v l t task.0 (legal_sound w.program w.settings w.journal.items I.legal) stands.homes task.1 wait (begun.rests w I on t r there wait keeps) (stands.since t keeps)
 
-  reached_held : (a : Addr) → IsInSnapshot G.fork (kept v t) a → IsHeld G.fork.heap a
-  reached_held a g = reached_within (Starts G.fork (kept v t)) (Leads G.fork.heap) (IsHeld G.fork.heap) (λ x s. s.0) (λ b x h d. d.1) a g
+  reached_held : (a : Addr) → IsInSnapshot G.fork (kept v t) a → HasObjectAt G.fork.heap a
+  reached_held a g = reached_within (Starts G.fork (kept v t)) (Leads G.fork.heap) (HasObjectAt G.fork.heap) (λ x s. s.0) (λ b x h d. d.1) a g
 
   written : (b a : Addr) → IsInSnapshot G.fork (kept v t) b → Leads ks b a → IsInSnapshot G.fork (kept v t) a
   written b a g d =
@@ -79,8 +79,8 @@ module _ (w : SharedValue) (I : IsSharedValue w) (on : (accounts w).end ≡ None
   overwritten b a d =
       let o = G.were b d.0 in
       let q = G.were a d.1 in
-      let from : IsHeld ks b = subst (IsHeld ks) o.2 (begun.is_held w I on t r there wait keeps o.0 o.1) in
-      let to : IsHeld ks a = subst (IsHeld ks) q.2 (begun.is_held w I on t r there wait keeps q.0 q.1) in
+      let from : HasObjectAt ks b = subst (HasObjectAt ks) o.2 (begun.is_held w I on t r there wait keeps o.0 o.1) in
+      let to : HasObjectAt ks a = subst (HasObjectAt ks) q.2 (begun.is_held w I on t r there wait keeps q.0 q.1) in
       let mine : v.owner a.chunk ≡ Some t = ap (λ (z : Addr). v.owner z.chunk) (sym q.2) ∙ lies_in v l stands.homes t q.0 (begun.rests w I on t r there wait keeps) q.1 in
       let refs : (cell_of ks b).refs ≡ o.0.refs = ap (λ x. (cell_of ks x).refs) (sym o.2) ∙ begun.refs_are w I on t r there wait keeps o.0 o.1 in
       elim (G.overwritten o.0 a o.1 mine (subst (λ z. Leads G.fork.heap z a) (sym o.2) d)) [
@@ -91,8 +91,8 @@ module _ (w : SharedValue) (I : IsSharedValue w) (on : (accounts w).end ≡ None
   pub is_since : IsSince G.fork (kept v t) ks
   is_since = record {
     objects = λ a. (
-      (λ h. let o = G.were a h in subst (IsHeld ks) o.2 (begun.is_held w I on t r there wait keeps o.0 o.1)),
-      (λ h. let o = begun.seen_at w I on t r there wait keeps a h in subst (IsHeld G.fork.heap) o.2 (G.there o.0 o.1)),
+      (λ h. let o = G.were a h in subst (HasObjectAt ks) o.2 (begun.is_held w I on t r there wait keeps o.0 o.1)),
+      (λ h. let o = begun.seen_at w I on t r there wait keeps a h in subst (HasObjectAt G.fork.heap) o.2 (G.there o.0 o.1)),
     );
     written = written;
     overwritten = overwritten;
@@ -136,8 +136,8 @@ module _ (w : SharedValue) (I : IsSharedValue w) (on : (accounts w).end ≡ None
       }
 
   -- what was kept is there
-  pub kept_held : All (IsHeld ks) (kept v t)
-  kept_held = all_from (IsHeld ks) (kept v t) (λ b i. let o = (stands.since t keeps).each b i in subst (IsHeld ks) o.2 (begun.is_held w I on t r there wait keeps o.0 o.1))
+  pub kept_held : All (HasObjectAt ks) (kept v t)
+  kept_held = all_from (HasObjectAt ks) (kept v t) (λ b i. let o = (stands.since t keeps).each b i in subst (HasObjectAt ks) o.2 (begun.is_held w I on t r there wait keeps o.0 o.1))
 
   -- and each reference into a chunk of the heap leads to an object
   pub closed : IsClosed ks

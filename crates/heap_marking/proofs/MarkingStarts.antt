@@ -13,7 +13,7 @@ use Rattle.run_ledger.specs.declared.data.Ledger.{Ledger}
 use Rattle.object_layout.specs.declared.word.Addr.{Addr}
 use Rattle.object_layout.specs.Chunks.{has_chunk}
 use Rattle.object_layout.specs.ChunkValue.{ChunkValue}
-use Rattle.object_layout.specs.Graph.{IsHeld}
+use Rattle.object_layout.specs.Graph.{HasObjectAt}
 use Rattle.object_layout.specs.Objects.{Located}
 use Rattle.task_frames.specs.declared.frames.Frame.{Frame}
 use Rattle.task_frames.specs.FramesValue.{frames_of}
@@ -79,7 +79,7 @@ frames_read at h x (Ended n r) e k = absurd cc
 frames_read at h x Joined e k = absurd cc
 
 -- A TASK THAT WAITS, with its rest
-module _ (w : SharedValue) (I : IsSharedValue w) (on : (accounts w).end ≡ None) (t : ℕ) (r : Rest) (there : rest_at w.homes t ≡ Some r) (wait : is_waiting (slice_get (accounts w).machine.tasks t) ≡ true) where
+module _ (w : SharedValue) (I : IsSharedValue w) (on : (accounts w).end ≡ None) (t : ℕ) (r : Rest) (there : rest_at w.rests t ≡ Some r) (wait : is_waiting (slice_get (accounts w).machine.tasks t) ≡ true) where
   abbrev l : Ledger
   l = accounts w
 
@@ -178,8 +178,8 @@ module _ (w : SharedValue) (I : IsSharedValue w) (on : (accounts w).end ≡ None
       from s = subst (λ xs. In xs a) (sym starts_by_rest) (back s)
 
   -- an object of the heap lies there
-  pub starts_held : ((value_of w).noted t).keeps ≡ true → All (IsHeld ks) (starts_of w t)
-  starts_held keeps = all_from (IsHeld ks) (starts_of w t) (λ a i. held_one a (held_by_start a ((starts_are a).0 i)))
+  pub starts_held : ((value_of w).noted t).keeps ≡ true → All (HasObjectAt ks) (starts_of w t)
+  starts_held keeps = all_from (HasObjectAt ks) (starts_of w t) (λ a i. held_one a (held_by_start a ((starts_are a).0 i)))
     where
       held_by_start : (a : Addr) → IsStart v l t a → (o : Located) × IsAt (v.homes t) a o
       held_by_start a (inl s) = (s.0, s.1)
@@ -187,5 +187,5 @@ module _ (w : SharedValue) (I : IsSharedValue w) (on : (accounts w).end ≡ None
           let q = held.root_here v l t W rests ks here ss sources_are (heaps_of w) read a ((roots_are a).1 R) in
           (q.0, (subst (λ cs. In (objects_in cs) q.0) (sym here) q.1, q.2))
 
-      held_one : (a : Addr) → (o : Located) × IsAt (v.homes t) a o → IsHeld ks a
-      held_one a q = subst (IsHeld ks) q.1.1 (begun.is_held w I on t r there wait keeps q.0 q.1.0)
+      held_one : (a : Addr) → (o : Located) × IsAt (v.homes t) a o → HasObjectAt ks a
+      held_one a q = subst (HasObjectAt ks) q.1.1 (begun.is_held w I on t r there wait keeps q.0 q.1.0)

@@ -20,7 +20,7 @@ use Rattle.run_ledger.proofs.Machine.{heap_machine}
 use Rattle.object_layout.specs.ChunkValue.{ChunkValue}
 use Rattle.chunk_pool.specs.PoolValue.{PoolValue, slot_at}
 use Rattle.write_barrier.specs.declared.sets.SetOf.{SetOf}
-use Rattle.write_barrier.specs.Stored.{Content as SetContent, content_at, content_of}
+use Rattle.write_barrier.specs.Stored.{Content, content_at, content_of}
 use Rattle.inner_mark_gc.specs.MarkingValue.{MarkingValue, marked_of}
 use Rattle.inner_mark_gc.specs.Swept.{AreGiven, gone_of}
 use Rattle.core_relation.specs.Changes.{KeepsJust}
@@ -38,7 +38,7 @@ use Rattle.shared_value.specs.Entered.{refused}
 use Rattle.shared_value.specs.Fits.{AllFit, Fits, part_of}
 use Rattle.shared_value.specs.Measured.{AreMeasured, KeepsUnits, RestsAreMeasured}
 use Rattle.shared_value.specs.Stands.{HeapForm, IsSharedValue}
-use Rattle.shared_value.specs.SharedValue.{SharedValue, accounts, home_in, marks_at, noted_in, rest_at, totals_of, value_of}
+use Rattle.shared_value.specs.SharedValue.{SharedValue, accounts, home_in, marks_at, noted_in, rest_at, tree_counts_of, value_of}
 use Rattle.shared_value.proofs.EntryMade.{entry_on}
 use Rattle.shared_value.proofs.MarkingEntryMade.{entered_marks, marked_fits, marked_world}
 use Rattle.shared_value.proofs.UnitsMeasured.{given_keeps, measured_kept, part_kept}
@@ -77,8 +77,8 @@ noted_by None (Some s) e = absurd cc
 noted_by (Some s) None e = absurd cc
 noted_by (Some s) (Some s') e =
     let same : content_of s' ≡ keeping false (content_of s) = same_Some (content_of s') (keeping false (content_of s)) e in (
-      ap (λ (c : SetContent). c.sources) same,
-      ap (λ (c : SetContent). c.keeps) same,
+      ap (λ (c : Content). c.sources) same,
+      ap (λ (c : Content). c.keeps) same,
     )
 
 is_there : {A : Type 0} (o : Option A) (x : A) → o ≡ Some x → IsSome o
@@ -110,7 +110,7 @@ module _ (w : SharedValue) (k t given : ℕ) (I : IsSharedValue w) (free : refus
   abbrev pub m : MarkingValue
   m = (start.Z w I on t T.cause).marks
 
-  pub there : rest_at w.homes t ≡ Some r
+  pub there : rest_at w.rests t ≡ Some r
   there = (start.Z w I on t T.cause).there
 
   pub marked : marks_at w.marks t ≡ Some m
@@ -124,13 +124,13 @@ module _ (w : SharedValue) (k t given : ℕ) (I : IsSharedValue w) (free : refus
     in_use = all_from (λ (c : ChunkValue). IsSome (slot_at w.pool c.number)) r.heap.chunks (λ c i. is_there (slot_at w.pool c.number) _ (home.measured_was w I on t T.cause T.none_left c i));
   }
 
-  pub has_home : IsSome (rest_at w.homes t)
-  has_home = is_there (rest_at w.homes t) r there
+  pub has_home : IsSome (rest_at w.rests t)
+  has_home = is_there (rest_at w.rests t) r there
 
   pub has_marking : IsSome (marks_at w.marks t)
   has_marking = is_there (marks_at w.marks t) m marked
 
-  pub can_all : (x : Rest) (y : MarkingValue) → rest_at w.homes t ≡ Some x → marks_at w.marks t ≡ Some y → CanSweep x.heap y w.pool
+  pub can_all : (x : Rest) (y : MarkingValue) → rest_at w.rests t ≡ Some x → marks_at w.marks t ≡ Some y → CanSweep x.heap y w.pool
   can_all x y is at = subst (λ (z : Rest). CanSweep z.heap y w.pool) (same_Some r x (sym there ∙ is)) (subst (λ (z : MarkingValue). CanSweep r.heap z w.pool) (same_Some m y (sym marked ∙ at)) can)
 
   module _ (pool : PoolValue) (G : AreGiven w.pool pool (gone_of r.heap (marked_of m))) (slots spare : ℕ) (sets : List SetOf) (many : length sets ≡ length w.sets) (kept_none : content_at sets t ≡ option_map (keeping false) (content_at w.sets t))
@@ -138,23 +138,23 @@ module _ (w : SharedValue) (k t given : ℕ) (I : IsSharedValue w) (free : refus
     abbrev rest' : Rest
     rest' = home.rest' w I on t T.cause T.none_left pool G slots spare
 
-    abbrev pub homes : List (Option Rest)
-    homes = slice_set w.homes t (Some rest')
+    abbrev pub rests : List (Option Rest)
+    rests = slice_set w.rests t (Some rest')
 
     abbrev pub marks : List (Option MarkingValue)
     marks = slice_set w.marks t None
 
     abbrev pub w' : SharedValue
-    w' = entered_marks w e w.tree pool homes sets w.tasks_out w.outputs w.steps w.end room marks
+    w' = entered_marks w e w.tree pool rests sets w.tasks_out w.outputs w.steps w.end room marks
 
     abbrev v' : Memory
     v' = value_of w'
 
-    rest_then : rest_at homes t ≡ Some rest'
-    rest_then = ap option_flatten (got_same w.homes t (Some r) (Some rest') (some_flat (slice_get w.homes t) r there))
+    rest_then : rest_at rests t ≡ Some rest'
+    rest_then = ap option_flatten (got_same w.rests t (Some r) (Some rest') (some_flat (slice_get w.rests t) r there))
 
-    rest_off : (u : ℕ) → (u ≡ t → ⊥) → rest_at homes u ≡ rest_at w.homes u
-    rest_off u ne = ap option_flatten (got_other w.homes t u (Some rest') ne)
+    rest_off : (u : ℕ) → (u ≡ t → ⊥) → rest_at rests u ≡ rest_at w.rests u
+    rest_off u ne = ap option_flatten (got_other w.rests t u (Some rest') ne)
 
     noted : ((noted_in (slice_get sets t)).sources ≡ (noted_in (slice_get w.sets t)).sources) × ((noted_in (slice_get sets t)).keeps ≡ false)
     noted = noted_by (slice_get w.sets t) (slice_get sets t) kept_none
@@ -175,20 +175,20 @@ module _ (w : SharedValue) (k t given : ℕ) (I : IsSharedValue w) (free : refus
       others = λ u ne. record { keeps = ap (λ o. (noted_in o).keeps) (others u ne); kept = ap (λ o. (noted_in o).kept) (others u ne); marked = ap option_flatten (got_other w.marks t u None ne) };
     }
 
-    counts : CountsGo w.program w.settings l (totals_of w) (totals_of w') k (Sweep t given)
+    counts : CountsGo w.program w.settings l (tree_counts_of w) (tree_counts_of w') k (Sweep t given)
     counts = (
       record { node = λ u. refl; task_out = λ u. refl; steps = refl; outputs = refl },
       (let g = G.units in let c = home.units_go w I on t T.cause T.none_left in let s = sweep_is w I on t T.cause T.none_left in let n = T.number in omega (arith, g, c, s, n)),
       refl,
     )
 
-    stands : StandsForAll v' (totals_of w') L
-    stands = sweeps_stand_for w.program w.settings w.journal.items I.form I.legal v v' (totals_of w) (totals_of w') k t given free I.stands keeps notes (ap (λ (h : Home). h.begun) (ap home_in rest_then) ∙ home.idle_home rest') counts
+    stands : StandsForAll v' (tree_counts_of w') L
+    stands = sweeps_stand_for w.program w.settings w.journal.items I.form I.legal v v' (tree_counts_of w) (tree_counts_of w') k t given free I.stands keeps notes (ap (λ (h : Home). h.begun) (ap home_in rest_then) ∙ home.idle_home rest') counts
 
-    heaps : (u : ℕ) (x : Rest) → rest_at homes u ≡ Some x → HeapForm x.heap
+    heaps : (u : ℕ) (x : Rest) → rest_at rests u ≡ Some x → HeapForm x.heap
     heaps u x is = elim (cases_eq u t) [
       | inl q ↦
-          let same : rest' ≡ x = same_Some rest' x (sym rest_then ∙ (ap (rest_at homes) (sym q) ∙ is)) in
+          let same : rest' ≡ x = same_Some rest' x (sym rest_then ∙ (ap (rest_at rests) (sym q) ∙ is)) in
           subst (λ (z : Rest). HeapForm z.heap) same (home.form_then w I on t T.cause T.none_left pool G slots spare)
       | inr ne ↦ I.heaps u x (sym (rest_off u ne) ∙ is)
     ]
@@ -196,17 +196,17 @@ module _ (w : SharedValue) (k t given : ℕ) (I : IsSharedValue w) (free : refus
     keeps_units : (u : ℕ) → (u ≡ t → ⊥) → KeepsUnits w.pool pool u
     keeps_units u ne = given_keeps w.pool pool (gone_of r.heap (marked_of m)) t u G (home.owned_gone w I on t T.cause T.none_left) ne
 
-    measured : RestsAreMeasured pool homes w.tasks_out
+    measured : RestsAreMeasured pool rests w.tasks_out
     measured u x is none = elim (cases_eq u t) [
       | inl q ↦
-          let same : rest' ≡ x = same_Some rest' x (sym rest_then ∙ (ap (rest_at homes) (sym q) ∙ is)) in
+          let same : rest' ≡ x = same_Some rest' x (sym rest_then ∙ (ap (rest_at rests) (sym q) ∙ is)) in
           subst (λ z. AreMeasured pool z x.heap.chunks) (sym q) (subst (λ (z : Rest). AreMeasured pool t z.heap.chunks) same (home.measured_then w I on t T.cause T.none_left pool G slots spare))
       | inr ne ↦ measured_kept w.pool pool u x.heap.chunks (keeps_units u ne) (I.measured u x (sym (rest_off u ne) ∙ is) none)
     ]
 
     pub swept_world : IsSharedValue w'
     swept_world =
-        marked_world w e I free w.tree pool homes sets w.tasks_out w.outputs w.steps w.end room marks (length-set w.homes t (Some rest') ∙ I.made) (many ∙ I.noted) refl G.limit stands heaps measured
+        marked_world w e I free w.tree pool rests sets w.tasks_out w.outputs w.steps w.end room marks (length-set w.rests t (Some rest') ∙ I.made) (many ∙ I.noted) refl G.limit stands heaps measured
 
     -- a task that a worker holds is another one
     apart : (u : ℕ) (q : Private) → Fits w u q → q.task ≡ t → ⊥
@@ -214,20 +214,20 @@ module _ (w : SharedValue) (k t given : ℕ) (I : IsSharedValue w) (free : refus
 
     pub swept_fits : AllFit w w'
     swept_fits u q F =
-        marked_fits w e I free w.tree pool homes sets w.tasks_out w.outputs w.steps w.end room marks swept_world u q q refl F refl refl refl F.form (part_kept w.pool pool q (keeps_units q.task (apart u q F)) F.measured)
+        marked_fits w e I free w.tree pool rests sets w.tasks_out w.outputs w.steps w.end room marks swept_world u q q refl F refl refl refl F.form (part_kept w.pool pool q (keeps_units q.task (apart u q F)) F.measured)
         (sweeps_leave w.program w.settings w.journal.items I.legal v v' k t given free keeps (part_of w.settings q) F.fits)
 
   -- AS THE CALL HAS IT
-  module _ (hs : List (Option Rest)) (pool : PoolValue) (S : SweepsHome w.homes hs w.pool pool t r m) (ms : List (Option MarkingValue)) (cleared : ms ≡ slice_set w.marks t None)
+  module _ (hs : List (Option Rest)) (pool : PoolValue) (S : SweepsHome w.rests hs w.pool pool t r m) (ms : List (Option MarkingValue)) (cleared : ms ≡ slice_set w.marks t None)
       (sets : List SetOf) (many : length sets ≡ length w.sets) (kept_none : content_at sets t ≡ option_map (keeping false) (content_at w.sets t)) (others : (u : ℕ) → u ≢ t → slice_get sets u ≡ slice_get w.sets u)
       (j : RoomyValue EntryValue) (made : j ≡ record { items = w.journal.items ++ e ∷ []; room = w.journal.room - 1 }) where
     abbrev pub entered_so : SharedValue
-    entered_so = record w { pool = pool; homes = hs; sets = sets; marks = ms; journal = j }
+    entered_so = record w { pool = pool; rests = hs; sets = sets; marks = ms; journal = j }
 
     so : entered_so ≡ w' pool S.given S.slots S.spare sets many kept_none others (w.journal.room - 1)
     so =
-        ap (λ x. record w { pool = pool; homes = x; sets = sets; marks = ms; journal = j }) S.homes
-        ∙ ap₂ (λ x y. record w { pool = pool; homes = homes pool S.given S.slots S.spare sets many kept_none others (w.journal.room - 1); sets = sets; marks = x; journal = y }) cleared made
+        ap (λ x. record w { pool = pool; rests = x; sets = sets; marks = ms; journal = j }) S.rests
+        ∙ ap₂ (λ x y. record w { pool = pool; rests = rests pool S.given S.slots S.spare sets many kept_none others (w.journal.room - 1); sets = sets; marks = x; journal = y }) cleared made
 
     pub world_so : IsSharedValue entered_so
     world_so = subst IsSharedValue (sym so) (swept_world pool S.given S.slots S.spare sets many kept_none others (w.journal.room - 1))

@@ -5,7 +5,7 @@ use Rattle.std.proofs.lemmas.List.Elements.{All-get_or}
 use Rattle.listed.proofs.Members.{in_from_kept}
 use Rattle.listed.proofs.Places.{all_from, in_map, read_in}
 use Rattle.listed.proofs.Options.{none_some}
-use Rattle.run_ledger.specs.declared.data.Heap.{Heap as Account}
+use Rattle.run_ledger.specs.declared.data.Heap.{Heap}
 use Rattle.run_ledger.specs.Heaps.{in_snapshot, is_empty, is_last_empty, swept_heap}
 use Rattle.run_ledger.specs.Reachable.{holds_name}
 use Rattle.object_layout.specs.declared.word.Addr.{Addr}
@@ -123,7 +123,7 @@ module _ (kept : List Addr) (h : LeafHeapValue) (F : HeapForm h) (none : h.reser
   }
 
   -- ITS ROOM
-  module _ (a : Account) (lists : small_names_of h.chunks ≡ a.chunks) (room : room_of h ≡ a.room) (agree : Agrees kept (holds_name a.snapshot) (objects_in (chunks_of h.chunks))) where
+  module _ (a : Heap) (lists : small_names_of h.chunks ≡ a.chunks) (room : room_of h ≡ a.room) (agree : Agrees kept (holds_name a.snapshot) (objects_in (chunks_of h.chunks))) where
     module _ (i : ℕ) (C : IsCurrent h.chunks (Some i)) (last : IsLastSmall h.chunks (Some i)) (here : h.current ≡ Some i) where
       abbrev k : ChunkValue
       k = chunk_at h.chunks i

@@ -7,7 +7,7 @@ use Rattle.listed.proofs.Places.{all_from, in_map}
 use Rattle.hh_model.specs.declared.data.State.{State}
 use Rattle.hh_model.specs.Effect.{row_of}
 use Rattle.hh_model.specs.Step.{is_joined}
-use Rattle.run_ledger.specs.declared.data.Heap.{Heap as Account}
+use Rattle.run_ledger.specs.declared.data.Heap.{Heap}
 use Rattle.run_ledger.specs.declared.data.Ledger.{Ledger}
 use Rattle.run_ledger.specs.Heaps.{heap_of, left_in, or_fresh, swept_heap, with_heap}
 use Rattle.run_ledger.proofs.Members.{holds_from_in, in_from_holds}
@@ -79,7 +79,7 @@ there_by l t n some = by (slice_get l.heaps t) refl
     none_some : {A : Type 0} → ◌≡◌ {A = Option ℕ} None (Some n) → A
     none_some q = absurd cc
 
-    by : (o : Option Account) → slice_get l.heaps t ≡ o → heap_of (with_heap l t swept_heap) t ≡ swept_heap (heap_of l t)
+    by : (o : Option Heap) → slice_get l.heaps t ≡ o → heap_of (with_heap l t swept_heap) t ≡ swept_heap (heap_of l t)
     by None e = none_some (sym (ap (λ o. (or_fresh o).marked) e) ∙ some)
     by (Some h) e = ap or_fresh (with_at l t swept_heap ∙ ap (heap_then swept_heap) e) ∙ sym (ap (λ o. swept_heap (or_fresh o)) e)
 
@@ -90,7 +90,7 @@ module _ (w : SharedValue) (I : IsSharedValue w) (on : (accounts w).end ≡ None
   abbrev v : Memory
   v = value_of w
 
-  abbrev a : Account
+  abbrev a : Heap
   a = heap_of (accounts w) t
 
   abbrev pub r : Rest
@@ -204,8 +204,8 @@ module _ (w : SharedValue) (I : IsSharedValue w) (on : (accounts w).end ≡ None
         names = subst (λ cs. HasNames cs (heap_of L t)) (sym chunks_then) (subst (HasNames (chunks_of now)) (sym account)
             (names_left kept l.machine a ks (form.filled kept r.heap F (start.none w I on t free) (start.large w I on t free)) (start.names w I on t free) (start.agree w I on t free none_left) (know w I on t free)));
         room = ap (λ (h : Home). h.room) home ∙ (room_there rest' ∙ (ap room_of heap_is
-            ∙ (form.plain_room kept r.heap F (start.none w I on t free) (start.large w I on t free) a (start.names w I on t free).small (start.room w I on t free) (start.agree w I on t free none_left) ∙ sym (ap (λ (z : Account). z.room) account))));
-        since = ap (λ (h : Home). h.since) home ∙ (since_there rest' ∙ (start.since w I on t free ∙ sym (ap (λ (z : Account). z.since) account)));
+            ∙ (form.plain_room kept r.heap F (start.none w I on t free) (start.large w I on t free) a (start.names w I on t free).small (start.room w I on t free) (start.agree w I on t free none_left) ∙ sym (ap (λ (z : Heap). z.room) account))));
+        since = ap (λ (h : Home). h.since) home ∙ (since_there rest' ∙ (start.since w I on t free ∙ sym (ap (λ (z : Heap). z.since) account)));
         count = λ live. ap (λ (h : Home). h.count) home ∙ (count_by heap' r.heap r.view r.allocations r.work ∙ (ap (λ (h : Home). h.count) (sym (start.here w I on t free))
             ∙ ((start.H w I on t free).count (ap (λ (m : State). is_joined (slice_get m.tasks t)) (sym machine) ∙ live) ∙ ap (λ (m : State). length (row_of (slice_get m.store t))) (sym machine))));
         owned = λ c i.
@@ -214,7 +214,7 @@ module _ (w : SharedValue) (I : IsSharedValue w) (on : (accounts w).end ≡ None
         inside = λ c o i j. inside_from now c o (subst (λ cs. In cs c) chunks_then i) j;
         once = λ o q i j e. (start.H w I on t free).once o q (was o i).0 (was q j).0 e;
         named = λ o q i j e. (start.H w I on t free).named o q (was o i).0 (was q j).0 e;
-        laid = subst (λ cs. AreLaidOut cs (heap_of L t).reserved) (sym chunks_then) (subst (λ (z : Account). AreLaidOut (chunks_of now) z.reserved) (sym account)
+        laid = subst (λ cs. AreLaidOut cs (heap_of L t).reserved) (sym chunks_then) (subst (λ (z : Heap). AreLaidOut (chunks_of now) z.reserved) (sym account)
             (laid_from plain (form.plain_formed kept r.heap F (start.none w I on t free) (start.large w I on t free)) a.reserved (start.nothing_reserved w I on t free)));
       }
 

@@ -7,7 +7,7 @@ use Rattle.hh_model.specs.declared.data.Status.{Status}
 use Rattle.hh_model.specs.declared.data.Status.TheVariants.{Running, Waiting, Ended, Joined}
 use Rattle.hh_model.specs.declared.data.Task.{Task}
 use Rattle.hh_model.specs.Step.{is_running, is_waiting, runs, waits}
-use Rattle.run_ledger.specs.declared.data.Heap.{Heap as Account}
+use Rattle.run_ledger.specs.declared.data.Heap.{Heap}
 use Rattle.run_ledger.specs.declared.data.Ledger.{Ledger}
 use Rattle.run_ledger.specs.Heaps.{heap_of, held_in, left_in}
 use Rattle.run_ledger.specs.Reachable.{holds_name}
@@ -32,7 +32,7 @@ use Rattle.task_homes.specs.declared.task_at_rest.Rest.{Rest}
 use Rattle.task_homes.specs.declared.task_at_rest.Work.{Work}
 use Rattle.task_homes.specs.declared.task_at_rest.Work.TheVariants.{Calls, Result}
 use Rattle.shared_value.specs.Objects.{chunk_of, chunks_of}
-use Rattle.shared_value.specs.SharedValue.{SharedValue, accounts, home_by, home_in, home_of, totals_of, value_of}
+use Rattle.shared_value.specs.SharedValue.{SharedValue, accounts, home_by, home_in, home_of, tree_counts_of, value_of}
 use Rattle.shared_value.specs.Stands.{HeapForm, IsSharedValue}
 use Rattle.shared_value.proofs.HeapCounts.{counted_from}
 use Rattle.shared_value.proofs.HeapForms.{reserved_none}
@@ -77,13 +77,13 @@ module _ (w : SharedValue) (I : IsSharedValue w) (on : (accounts w).end ≡ None
   abbrev v : Memory
   v = value_of w
 
-  abbrev a : Account
+  abbrev a : Heap
   a = heap_of (accounts w) t
 
   pub Z : StandsMarked w t
   Z = marks_stand w t I on free
 
-  pub S : StandsFor v (totals_of w) l
+  pub S : StandsFor v (tree_counts_of w) l
   S = stands_now w I on
 
   pub rests : Rests l t

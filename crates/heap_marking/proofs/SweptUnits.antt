@@ -7,7 +7,7 @@ use Rattle.std.proofs.lemmas.List.{length-map}
 use Rattle.std.proofs.lemmas.List.Sums.{sum_by-append, sum_by-cons}
 use Rattle.listed.proofs.Members.{in_append_left, in_append_right}
 use Rattle.hh_model.specs.declared.data.State.{State}
-use Rattle.run_ledger.specs.declared.data.Heap.{Heap as Account}
+use Rattle.run_ledger.specs.declared.data.Heap.{Heap}
 use Rattle.run_ledger.specs.declared.data.Ledger.{Ledger}
 use Rattle.run_ledger.specs.Heaps.{begun_in, heap_of, held, held_in, in_use, left_in, marked_in, or_fresh, small_in, sweep_number, swept_heap, units_in, units_sum, without_empty, words_at, words_sum}
 use Rattle.run_ledger.specs.Reachable.{holds_name}
@@ -36,7 +36,7 @@ use Rattle.heap_marking.proofs.SweptForm.{filled, gone_plain}
 use Rattle.heap_marking.proofs.SweptStart as start
 
 -- THE NUMBER OF A SWEEP, of chunks with these names
-module _ (kept : List Addr) (m : State) (a : Account) (ks : List ChunkValue) (F : AreFilled ks) (N : HasNames (chunks_of ks) a) (A : Agrees kept (holds_name a.snapshot) (objects_in (chunks_of ks))) (W : KnowWords kept m (objects_in (chunks_of ks))) where
+module _ (kept : List Addr) (m : State) (a : Heap) (ks : List ChunkValue) (F : AreFilled ks) (N : HasNames (chunks_of ks) a) (A : Agrees kept (holds_name a.snapshot) (objects_in (chunks_of ks))) (W : KnowWords kept m (objects_in (chunks_of ks))) where
   G : Goes kept m ks
   G = units_gone kept m ks F W
 
@@ -74,7 +74,7 @@ module _ (kept : List Addr) (m : State) (a : Account) (ks : List ChunkValue) (F 
       few x y p q r b = omega arith
 
 -- OF ALL HEAPS
-one_heap : (f : Account → ℕ) → f (or_fresh None) ≡ 0 → (hs : List Account) (t : ℕ) → f (or_fresh (slice_get hs t)) ≤ sum_by f hs
+one_heap : (f : Heap → ℕ) → f (or_fresh None) ≡ 0 → (hs : List Heap) (t : ℕ) → f (or_fresh (slice_get hs t)) ≤ sum_by f hs
 one_heap f none [] t = omega (arith, none)
 one_heap f none (h ∷ hs) zero = let s = sum_by-cons f h hs in omega (arith, s)
 one_heap f none (h ∷ hs) (suc t) = let s = sum_by-cons f h hs in let go : f (or_fresh (slice_get hs t)) ≤ sum_by f hs = one_heap f none hs t in omega (arith, s, go)
@@ -82,7 +82,7 @@ one_heap f none (h ∷ hs) (suc t) = let s = sum_by-cons f h hs in let go : f (o
 pub few_units : (l : Ledger) (t : ℕ) → units_in l.machine (heap_of l t) ≤ in_use l
 few_units l t = one_heap (units_in l.machine) refl l.heaps t
 
-one_words : (m : State) (hs : List Account) (t : ℕ) → words_sum m (held_in (or_fresh (slice_get hs t))) ≤ words_sum m (flat_map held_in hs)
+one_words : (m : State) (hs : List Heap) (t : ℕ) → words_sum m (held_in (or_fresh (slice_get hs t))) ≤ words_sum m (flat_map held_in hs)
 one_words m [] t = omega arith
 one_words m (h ∷ hs) zero = let s = sum_by-append (words_at m) (held_in h) (flat_map held_in hs) in omega (arith, s)
 one_words m (h ∷ hs) (suc t) =
@@ -132,7 +132,7 @@ module _ (m : State) where
           let s = ap (words_sum m) (map_append object_name (chunk_of k).objects (objects_in (large_chunks (chunks_of ks)))) ∙ sum_by-append (words_at m) (names_of (chunk_of k)) (map object_name (objects_in (large_chunks (chunks_of ks)))) in
           omega (arith, long, own, go, s)
 
-  pub held_few : (a : Account) (ks : List ChunkValue) → HasNames (chunks_of ks) a → Know (objects_in (chunks_of ks)) → length (objects_in (chunks_of ks)) ≤ words_sum m (held_in a)
+  pub held_few : (a : Heap) (ks : List ChunkValue) → HasNames (chunks_of ks) a → Know (objects_in (chunks_of ks)) → length (objects_in (chunks_of ks)) ≤ words_sum m (held_in a)
   held_few a ks N W =
       let both = sum_by-append (words_at m) (small_in a) a.large in
       let small = ap (λ ls. words_sum m (flat_map (λ ns. ns) ls)) N.small in
@@ -150,7 +150,7 @@ module _ (w : SharedValue) (I : IsSharedValue w) (on : (accounts w).end ≡ None
   abbrev l : Ledger
   l = accounts w
 
-  abbrev a : Account
+  abbrev a : Heap
   a = heap_of (accounts w) t
 
   abbrev marks : MarkingValue
@@ -209,7 +209,7 @@ module _ (w : SharedValue) (I : IsSharedValue w) (on : (accounts w).end ≡ None
         counted n m e few = omega (arith, e, few)
 
     -- as a call has the heap and the marking
-    pub would_be : (r : Rest) (m : MarkingValue) → rest_at w.homes t ≡ Some r → marks_at w.marks t ≡ Some m → IsDone m × (counted32 (unit_count (gone_of r.heap (marked_of m))) ≡ sweep_number l.machine a)
+    pub would_be : (r : Rest) (m : MarkingValue) → rest_at w.rests t ≡ Some r → marks_at w.marks t ≡ Some m → IsDone m × (counted32 (unit_count (gone_of r.heap (marked_of m))) ≡ sweep_number l.machine a)
     would_be r m there at =
         subst (λ (x : Rest). IsDone m × (counted32 (unit_count (gone_of x.heap (marked_of m))) ≡ sweep_number l.machine a)) (same_Some (start.Z w I on t free).rest r (sym (start.Z w I on t free).there ∙ there))
         (subst (λ (y : MarkingValue). IsDone y × (counted32 (unit_count (gone_of (start.Z w I on t free).rest.heap (marked_of y))) ≡ sweep_number l.machine a)) (same_Some marks m (sym (start.Z w I on t free).at ∙ at))

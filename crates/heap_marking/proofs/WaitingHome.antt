@@ -15,7 +15,7 @@ use Rattle.core_relation.specs.Stands.{Place}
 use Rattle.core_relation.specs.Memory.{Memory}
 use Rattle.core_relation.specs.Whole.{StandsFor}
 use Rattle.task_homes.specs.declared.task_at_rest.Rest.{Rest}
-use Rattle.shared_value.specs.SharedValue.{SharedValue, accounts, home_in, no_home, noted_in, rest_at, totals_of, value_of}
+use Rattle.shared_value.specs.SharedValue.{SharedValue, accounts, home_in, no_home, noted_in, rest_at, tree_counts_of, value_of}
 use Rattle.shared_value.specs.Stands.{IsSharedValue}
 use Rattle.shared_value.proofs.BeforeTheEnd.{stands_now}
 use Rattle.heap_marking.specs.MarkCauses.{is_state_waiting, waiting_cause}
@@ -38,20 +38,20 @@ module _ (w : SharedValue) (I : IsSharedValue w) (on : (accounts w).end ≡ None
   abbrev v : Memory
   v = value_of w
 
-  S : StandsFor v (totals_of w) l
+  S : StandsFor v (tree_counts_of w) l
   S = stands_now w I on
 
   tells : (is_state_waiting (option_map (λ m. m.state) (slice_get w.tree t)) ≡ true) × ((noted_in (slice_get w.sets t)).keeps ≡ true)
   tells = causes_by (is_state_waiting (option_map (λ m. m.state) (slice_get w.tree t))) (noted_in (slice_get w.sets t)).keeps free
 
   pub wait : is_waiting (slice_get l.machine.tasks t) ≡ true
-  wait = sym (waits_by (slice_get w.tree t) (slice_get l.machine.tasks t) (heap_of l t).worker (S.totals.node t)) ∙ tells.0
+  wait = sym (waits_by (slice_get w.tree t) (slice_get l.machine.tasks t) (heap_of l t).worker (S.tree_counts.node t)) ∙ tells.0
 
   pub keeps : ((value_of w).noted t).keeps ≡ true
   keeps = tells.1
 
   -- its home is there
-  home_there : (x : Task) → slice_get l.machine.tasks t ≡ Some x → (o : Option Rest) → rest_at w.homes t ≡ o → is_some o ≡ true
+  home_there : (x : Task) → slice_get l.machine.tasks t ≡ Some x → (o : Option Rest) → rest_at w.rests t ≡ o → is_some o ≡ true
   home_there x is (Some r) e = refl
   home_there x is None e = absurd (by x.status (ap is_waiting (sym is) ∙ wait) (subst (λ z. HoldsRead (Place v l) (home_in z) x x.status) e (S.homes.tasks t x (legal_idle w.program w.settings w.journal.items I.legal on t (waiting_stops (slice_get l.machine.tasks t) wait)) is)))
     where
@@ -68,10 +68,10 @@ module _ (w : SharedValue) (I : IsSharedValue w) (on : (accounts w).end ≡ None
       by None e h = absurd cc
       by (Some x) e h = (x, e)
 
-  pub rest : (r : Rest) × (rest_at w.homes t ≡ Some r)
-  rest = some_of (rest_at w.homes t) (home_there task.0 task.1 (rest_at w.homes t) refl)
+  pub rest : (r : Rest) × (rest_at w.rests t ≡ Some r)
+  rest = some_of (rest_at w.rests t) (home_there task.0 task.1 (rest_at w.rests t) refl)
 
-  pub never_gone : rest_at w.homes t ≡ None → ⊥
+  pub never_gone : rest_at w.rests t ≡ None → ⊥
   never_gone none = none_some (sym none ∙ rest.1)
     where
       none_some : {x : Rest} → ◌≡◌ {A = Option Rest} None (Some x) → ⊥

@@ -15,7 +15,7 @@ pub record StandsMarked (w : SharedValue) (t : ℕ) : Type 0 where
   pub wait : is_waiting (slice_get (accounts w).machine.tasks t) ≡ true
   pub keeps : ((value_of w).noted t).keeps ≡ true
   pub rest : Rest
-  pub there : rest_at w.homes t ≡ Some rest
+  pub there : rest_at w.rests t ≡ Some rest
   pub marks : MarkingValue
   pub at : marks_at w.marks t ≡ Some marks
   pub further : Further w t rest marks

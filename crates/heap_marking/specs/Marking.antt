@@ -8,7 +8,7 @@ use Rattle.run_ledger.specs.declared.data.Ledger.{Ledger}
 use Rattle.run_ledger.specs.Heaps.{heap_of, left_in}
 use Rattle.run_ledger.specs.Entries.{after}
 use Rattle.object_layout.specs.declared.word.Addr.{Addr}
-use Rattle.object_layout.specs.Graph.{IsClosed, IsHeld}
+use Rattle.object_layout.specs.Graph.{IsClosed, HasObjectAt}
 use Rattle.object_layout.specs.Objects.{Located}
 use Rattle.task_frames.specs.declared.frames.Frame.{Frame}
 use Rattle.inner_mark_gc.specs.MarkingValue.{IsAllMarked, IsMarking, IsOf, MarkingValue, marked_of}
@@ -33,7 +33,7 @@ IsStart v l t a = ((o : Located) × IsAt (v.homes t) a o × ((f : Frame) × In (
 abbrev pub MarksBegin : Type 0
 MarksBegin =
     (w : SharedValue) (t : ℕ) (r : Rest) (roots : List Addr) (m : MarkingValue) → let v : Memory = value_of w in let l : Ledger = accounts w in
-    IsSharedValue w → l.end ≡ None → rest_at w.homes t ≡ Some r → is_waiting (slice_get l.machine.tasks t) ≡ true → (v.noted t).keeps ≡ true
+    IsSharedValue w → l.end ≡ None → rest_at w.rests t ≡ Some r → is_waiting (slice_get l.machine.tasks t) ≡ true → (v.noted t).keeps ≡ true
     → ((a : Addr) → In roots a ↔ IsStart v l t a) → IsOf r.heap.chunks (kept_of v t) m → IsMarking (record { heap = r.heap.chunks; roots = roots }) (kept_of v t) m
     → GoesOn v t (heap_of l t).snapshot m
 
@@ -56,7 +56,7 @@ pub record Further (w : SharedValue) (t : ℕ) (r : Rest) (m : MarkingValue) : T
   pub since : IsSince fork (kept_of (value_of w) t) r.heap.chunks
   pub marks : IsMarking fork (kept_of (value_of w) t) m
   pub own : IsOf r.heap.chunks (kept_of (value_of w) t) m
-  pub kept : All (IsHeld r.heap.chunks) (kept_of (value_of w) t)
+  pub kept : All (HasObjectAt r.heap.chunks) (kept_of (value_of w) t)
   pub closed : IsClosed r.heap.chunks
   pub left : MarksStand (value_of w) (accounts w) t (marked_of m) → IsAllMarked fork (kept_of (value_of w) t) m ↔ (left_in (heap_of (accounts w) t) ≡ 0)
   pub further : (m' : MarkingValue) → IsOf r.heap.chunks (kept_of (value_of w) t) m'
@@ -64,14 +64,14 @@ pub record Further (w : SharedValue) (t : ℕ) (r : Rest) (m : MarkingValue) : T
 
 abbrev pub MarksGoFurther : Type 0
 MarksGoFurther =
-    (w : SharedValue) (t : ℕ) (r : Rest) (m : MarkingValue) → IsSharedValue w → (accounts w).end ≡ None → rest_at w.homes t ≡ Some r → is_waiting (slice_get (accounts w).machine.tasks t) ≡ true → ((value_of w).noted t).keeps ≡ true
+    (w : SharedValue) (t : ℕ) (r : Rest) (m : MarkingValue) → IsSharedValue w → (accounts w).end ≡ None → rest_at w.rests t ≡ Some r → is_waiting (slice_get (accounts w).machine.tasks t) ≡ true → ((value_of w).noted t).keeps ≡ true
     → GoesOn (value_of w) t (heap_of (accounts w) t).snapshot m → Further w t r m
 
 -- how many are marked further is what the account says: so many, or what is left
 abbrev pub MarksCount : Type 0
 MarksCount =
     (w : SharedValue) (k t : ℕ) (r : Rest) (m m' : MarkingValue) (n count : ℕ) → let v : Memory = value_of w in let l : Ledger = accounts w in
-    IsSharedValue w → l.end ≡ None → rest_at w.homes t ≡ Some r → is_waiting (slice_get l.machine.tasks t) ≡ true → (v.noted t).keeps ≡ true → marks_at w.marks t ≡ Some m
+    IsSharedValue w → l.end ≡ None → rest_at w.rests t ≡ Some r → is_waiting (slice_get l.machine.tasks t) ≡ true → (v.noted t).keeps ≡ true → marks_at w.marks t ≡ Some m
     → GoesOn v t (heap_of l t).snapshot m' → m'.marked ≡ m.marked + count → count ≤ n
     → (count < n → (f : Fork) → IsSince f (kept_of v t) r.heap.chunks → IsMarking f (kept_of v t) m → IsAllMarked f (kept_of v t) m')
     → (count ≡ min n (left_in (heap_of l t))) × ((heap_of (after w.program w.settings l (record { worker = k; kind = More t n })) t).marked ≡ Some (length (marked_of m')))

@@ -3,11 +3,11 @@ use Rattle.std.specs.Prelude.{◌≡◌, ◌↔◌, ℕ, Option, Some, None, Lis
 use Rattle.std.specs.List.{flat_map}
 use Rattle.object_layout.specs.declared.word.Addr.{Addr}
 use Rattle.object_layout.specs.ChunkValue.{ChunkValue}
-use Rattle.object_layout.specs.Graph.{IsHeld}
+use Rattle.object_layout.specs.Graph.{HasObjectAt}
 use Rattle.task_frames.specs.FramesValue.{frames_of}
 use Rattle.remembered_set.specs.declared.remembered.Source.{Source}
 use Rattle.remembered_set.specs.Moved.{into, targets_of}
-use Rattle.leaf_copy_gc.specs.Survivors.{held_by}
+use Rattle.leaf_copy_gc.specs.Survivors.{frame_references}
 use Rattle.inner_mark_gc.specs.MarkingValue.{IsMarking, IsOf, MarkingValue}
 use Rattle.inner_mark_gc.specs.Snapshot.{Fork}
 use Rattle.task_homes.specs.declared.task_at_rest.Rest.{Rest}
@@ -19,7 +19,7 @@ use Rattle.shared_value.specs.SharedValue.{SharedValue, rest_at}
 
 -- the references of a task's frames
 abbrev pub registers_of : Work → List (Option Addr)
-registers_of (Calls s) = held_by (frames_of s)
+registers_of (Calls s) = frame_references (frames_of s)
 registers_of (Result k r) = []
 
 -- of a heap at rest, with these remembered fields
@@ -31,10 +31,10 @@ starts_by heaps sources None = []
 starts_by heaps sources (Some r) = starts_in heaps sources r
 
 abbrev pub starts_of : SharedValue → ℕ → List Addr
-starts_of w t = starts_by (heaps_of w) (sources_of (slice_get w.sets t)) (rest_at w.homes t)
+starts_of w t = starts_by (heaps_of w) (sources_of (slice_get w.sets t)) (rest_at w.rests t)
 
 -- a marking of these chunks that has found these roots, and marked nothing yet
 pub record IsBegun (ks : List ChunkValue) (roots : List Addr) (m : MarkingValue) : Type 0 where
   pub none : m.marked ≡ 0
   pub own : (kept : List Addr) → IsOf ks kept m
-  pub marking : (f : Fork) (kept : List Addr) → f.roots ≡ roots → ((a : Addr) → IsHeld f.heap a ↔ IsHeld ks a) → IsMarking f kept m
+  pub marking : (f : Fork) (kept : List Addr) → f.roots ≡ roots → ((a : Addr) → HasObjectAt f.heap a ↔ HasObjectAt ks a) → IsMarking f kept m

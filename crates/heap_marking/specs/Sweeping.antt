@@ -16,5 +16,5 @@ pub record CanSweep (h : LeafHeapValue) (m : MarkingValue) (pool : PoolValue) : 
 pub record SweepsHome (old new : List (Option Rest)) (pool pool' : PoolValue) (t : ℕ) (r : Rest) (m : MarkingValue) : Type 0 where
   pub slots : ℕ
   pub spare : ℕ
-  pub homes : new ≡ slice_set old t (Some (record r { heap = with_places (swept r.heap (marked_of m)) slots spare }))
+  pub rests : new ≡ slice_set old t (Some (record r { heap = with_places (swept r.heap (marked_of m)) slots spare }))
   pub given : AreGiven pool pool' (gone_of r.heap (marked_of m))

@@ -2,10 +2,10 @@
 
 ghost use Rattle.std.specs.Prelude.{◌≡◌, ◌++◌, All, IfOk, IfSome, IsSome, OnOk, slice_get};
 ghost use Rattle.std.specs.List.{flat_map};
-ghost use Rattle.object_layout.specs.Graph.{IsHeld};
+ghost use Rattle.object_layout.specs.Graph.{HasObjectAt};
 ghost use Rattle.task_frames.specs.FramesValue.{frames_of};
 ghost use Rattle.remembered_set.specs.Moved.{into, AreFields};
-ghost use Rattle.leaf_copy_gc.specs.Survivors.{held_by};
+ghost use Rattle.leaf_copy_gc.specs.Survivors.{frame_references};
 ghost use Rattle.task_homes.specs.RestingHeaps.{refs_in, resting};
 ghost use Rattle.shared_value.specs.Roots.{sources_of};
 ghost use Rattle.shared_value.specs.SharedValue.{rest_at};
@@ -54,7 +54,7 @@ fn push_registers(
     frames: &Frames,
     heap: &LeafHeap,
 ) -> Result<(), AllocError>
-    ensures { OnOk result (starts.new.items ≡ starts.old.items ++ flat_map (into heap.now.chunks) (held_by (frames_of frames.now))) }
+    ensures { OnOk result (starts.new.items ≡ starts.old.items ++ flat_map (into heap.now.chunks) (frame_references (frames_of frames.now))) }
 {
     for frame in 0..frames.depth() {
         let references = frames.references_in(frame);
@@ -85,7 +85,7 @@ pub fn begin_marking(
 ) -> Result<Marking, AllocError>
     requires there { IsSome (rest_at heaps.now.homes.rests task) }
     requires fields { AreFields refs_in (resting heaps.now) (sources_of (slice_get heaps.now.homes.sets task)) }
-    requires held { IfSome (rest_at heaps.now.homes.rests task) (λ r. All (IsHeld r.heap.chunks) (starts_in (resting heaps.now) (sources_of (slice_get heaps.now.homes.sets task)) r)) }
+    requires held { IfSome (rest_at heaps.now.homes.rests task) (λ r. All (HasObjectAt r.heap.chunks) (starts_in (resting heaps.now) (sources_of (slice_get heaps.now.homes.sets task)) r)) }
     ensures { IfOk result (λ m. IfSome (rest_at heaps.now.homes.rests task) (λ r. IsBegun r.heap.chunks (starts_in (resting heaps.now) (sources_of (slice_get heaps.now.homes.sets task)) r) m)) }
 {
     match heaps.homes.rest(task) {

@@ -116,7 +116,7 @@ rises_from (f ∷ fs) up d =
 
 -- OF A SHARED VALUE
 module _ (w : SharedValue) (I : IsSharedValue w) where
-  near_in : (o : Option Rest) (u : ℕ) → rest_at w.homes u ≡ o → (a : Addr) → (q : Located) → In (objects_in (home_in o).chunks) q → q.at ≡ a → a.offset < 1024
+  near_in : (o : Option Rest) (u : ℕ) → rest_at w.rests u ≡ o → (a : Addr) → (q : Located) → In (objects_in (home_in o).chunks) q → q.at ≡ a → a.offset < 1024
   near_in None u e a q i at = absurd i
   near_in (Some r) u e a q i at = subst (λ (z : Addr). z.offset < 1024) at ((I.heaps u r e).near q (subst (λ ks. In (objects_in ks) q) (home_chunks r) i))
 
@@ -125,7 +125,7 @@ module _ (w : SharedValue) (I : IsSharedValue w) where
   source_near t s i =
       let k = I.stands.homes.sources t s i in
       let o = k.place.here k.rests in
-      near_in (rest_at w.homes (own (handed (accounts w)) k.name)) (own (handed (accounts w)) k.name) refl s.object o.0 o.1 o.2.at
+      near_in (rest_at w.rests (own (handed (accounts w)) k.name)) (own (handed (accounts w)) k.name) refl s.object o.0 o.1 o.2.at
 
   word_once : (a b : Addr) → a.offset < 1024 → b.offset < 1024 → word_of_ref (Some a) ≡ word_of_ref (Some b) → (a.chunk ≡ b.chunk) × (a.offset ≡ b.offset)
   word_once a b na nb e = let f : a.chunk * 1024 + a.offset + 1 ≡ b.chunk * 1024 + b.offset + 1 = e in (omega (arith, na, nb, f), omega (arith, na, nb, f))

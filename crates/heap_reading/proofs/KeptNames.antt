@@ -8,16 +8,16 @@ use Rattle.std.proofs.lemmas.Option.{same_Some}
 use Rattle.listed.proofs.Members.{contains_from_in}
 use Rattle.listed.proofs.Options.{some_map}
 use Rattle.hh_model.specs.declared.data.Name.{Name}
-use Rattle.hh_model.specs.declared.data.State.{State as Machine}
+use Rattle.hh_model.specs.declared.data.State.{State}
 use Rattle.hh_model.specs.declared.data.Status.{Status}
 use Rattle.hh_model.specs.declared.data.Status.TheVariants.{Running, Waiting, Ended, Joined}
 use Rattle.hh_model.specs.declared.data.Task.{Task}
 use Rattle.hh_model.specs.Step.{is_running, runs}
 use Rattle.hh_model.specs.declared.data.End.TheVariants.{Done, Trapped, Entangled}
-use Rattle.run_ledger.specs.declared.data.Heap.{Heap as Account}
+use Rattle.run_ledger.specs.declared.data.Heap.{Heap}
 use Rattle.run_ledger.specs.declared.data.Ledger.{Ledger}
 use Rattle.run_ledger.specs.declared.data.RunEnd.{RunEnd}
-use Rattle.run_ledger.specs.declared.data.RunEnd.TheVariants.{Fuel, Machine as MachineEnd, Pool}
+use Rattle.run_ledger.specs.declared.data.RunEnd.TheVariants.{Fuel, State as MachineEnd, Pool}
 use Rattle.run_ledger.specs.Heaps.{heap_of, held, held_in, in_use, let_go, or_fresh, small_in, words_at, words_sum}
 use Rattle.run_ledger.specs.Report.{held_not_running, held_not_running_from}
 use Rattle.run_ledger.proofs.Holders.{tasks_are_held_once}
@@ -92,7 +92,7 @@ chunks_many (k ∷ ks) = by (k.size == 1024) (chunks_many ks) ∙ sym (length-ap
         let both = length-append (chunk_of k).objects (objects_in (large_chunks (chunks_of ks))) in
         omega (arith, own, rest, both, go)
 
-held_many : (a : Account) (ks : List ChunkValue) → HasNames (chunks_of ks) a → length (held_in a) ≡ length (objects_in (chunks_of ks))
+held_many : (a : Heap) (ks : List ChunkValue) → HasNames (chunks_of ks) a → length (held_in a) ≡ length (objects_in (chunks_of ks))
 unfolding small_many large_many
 held_many a ks N =
     length-append (small_in a) a.large
@@ -126,8 +126,8 @@ module _ (w : SharedValue) (I : IsSharedValue w) (t : ℕ) where
 
   pub runs_is : is_state_running (option_map (λ m. m.state) (slice_get w.tree t)) ≡ is_running (slice_get l.machine.tasks t)
   runs_is =
-      runs_by (slice_get w.tree t) (slice_get (handed l).machine.tasks t) (heap_of (handed l) t).worker (I.stands.totals.node t)
-      ∙ ap (λ (m : Machine). is_running (slice_get m.tasks t)) same_machine
+      runs_by (slice_get w.tree t) (slice_get (handed l).machine.tasks t) (heap_of (handed l) t).worker (I.stands.tree_counts.node t)
+      ∙ ap (λ (m : State). is_running (slice_get m.tasks t)) same_machine
 
   pub none_of : is_running (slice_get l.machine.tasks t) ≡ true → held_unless_running l t ≡ []
   none_of e = ap (λ b. cond b [] (held_in (heap_of l t))) e
@@ -148,20 +148,20 @@ module _ (w : SharedValue) (I : IsSharedValue w) (t : ℕ) where
     many_by : (ks : List ChunkValue) → ((value_of w).homes t).chunks ≡ chunks_of ks → length (objects_in (chunks_of ks)) ≡ length (held_unless_running l t)
     many_by ks here = sym (held_many (heap_of (handed l) t) ks (names_are ks here)) ∙ (ap length (handed_held l t) ∙ ap length (sym kept_is))
 
-    here_by : (o : Option Rest) → rest_at w.homes t ≡ o → ((value_of w).homes t).chunks ≡ (home_in o).chunks
+    here_by : (o : Option Rest) → rest_at w.rests t ≡ o → ((value_of w).homes t).chunks ≡ (home_in o).chunks
     here_by o e = ap (λ x. (home_in x).chunks) e
 
     -- its objects and their words
-    pub objects_are : (r : Rest) → rest_at w.homes t ≡ Some r → object_count r.heap.chunks ≡ length (held_unless_running l t)
+    pub objects_are : (r : Rest) → rest_at w.rests t ≡ Some r → object_count r.heap.chunks ≡ length (held_unless_running l t)
     objects_are r there = objects_counted r.heap.chunks (I.heaps t r there).tidy ∙ many_by r.heap.chunks (here_by (Some r) there ∙ home_chunks r)
 
-    pub words_kept : (r : Rest) → rest_at w.homes t ≡ Some r → held_words r.heap.chunks ≡ words_sum l.machine (held_unless_running l t)
+    pub words_kept : (r : Rest) → rest_at w.rests t ≡ Some r → held_words r.heap.chunks ≡ words_sum l.machine (held_unless_running l t)
     words_kept r there =
         sym (words_are (value_of w) (handed l) t r.heap.chunks V rests (here_by (Some r) there ∙ home_chunks r) (I.heaps t r there).tidy)
-        ∙ ap₂ (λ (m : Machine) ns. words_sum m ns) same_machine (handed_held l t ∙ sym kept_is)
+        ∙ ap₂ (λ (m : State) ns. words_sum m ns) same_machine (handed_held l t ∙ sym kept_is)
 
     -- without a home it holds nothing
-    pub nothing_kept : rest_at w.homes t ≡ None → held_unless_running l t ≡ []
+    pub nothing_kept : rest_at w.rests t ≡ None → held_unless_running l t ≡ []
     nothing_kept none = empty (held_unless_running l t) (many_by [] (here_by None none))
       where
         empty : (ns : List Name) → 0 ≡ length ns → ns ≡ []
@@ -177,7 +177,7 @@ pub kept_more : (l : Ledger) (t : ℕ) → kept_before l (t + 1) ≡ kept_before
 kept_more l t = ap (kept_before l) (let e : t + 1 ≡ suc t = omega arith in e)
 
 -- what the heaps from t on hold
-kept_on : (l : Ledger) (hs : List Account) (t : ℕ) → ((i : ℕ) → slice_get hs i ≡ slice_get l.heaps (t + i)) → kept_before l t ++ held_not_running_from l.machine.tasks hs t ≡ kept_before l (t + length hs)
+kept_on : (l : Ledger) (hs : List Heap) (t : ℕ) → ((i : ℕ) → slice_get hs i ≡ slice_get l.heaps (t + i)) → kept_before l t ++ held_not_running_from l.machine.tasks hs t ≡ kept_before l (t + length hs)
 kept_on l [] t same = append-nil (kept_before l t) ∙ ap (kept_before l) (let e : t ≡ t + 0 = omega arith in e)
 kept_on l (h ∷ hs) t same =
     by (is_running (slice_get l.machine.tasks t)) refl
@@ -227,14 +227,14 @@ module _ (w : SharedValue) (I : IsSharedValue w) where
       omega (arith, o, a, f)
 
   -- each task has a home
-  homes_long : length w.homes ≡ length k.machine.tasks
+  homes_long : length w.rests ≡ length k.machine.tasks
   homes_long =
       I.made
       ∙ (same_length w.tree (handed k).machine.tasks
-      (λ u. ap is_some (I.stands.totals.node u) ∙ some_map (as_node (heap_of (handed k) u).worker) (slice_get (handed k).machine.tasks u))
-      ∙ ap (λ (m : Machine). length m.tasks) (goes_by k k.end).machine)
+      (λ u. ap is_some (I.stands.tree_counts.node u) ∙ some_map (as_node (heap_of (handed k) u).worker) (slice_get (handed k).machine.tasks u))
+      ∙ ap (λ (m : State). length m.tasks) (goes_by k k.end).machine)
 
-  pub homes_few : length w.homes < 2 ^ 32
+  pub homes_few : length w.rests < 2 ^ 32
   homes_few =
       let c = (journals_are_counted w.program w.settings w.journal.items).counts.made in
       let s = steps_are_bounded w.program w.settings w.journal.items I.legal in
@@ -242,7 +242,7 @@ module _ (w : SharedValue) (I : IsSharedValue w) where
       let h = homes_long in
       omega (arith, c, s, d, h)
 
-  pub kept_homes : kept_before k (length w.homes) ≡ held_not_running k
+  pub kept_homes : kept_before k (length w.rests) ≡ held_not_running k
   kept_homes = ap (kept_before k) (homes_long ∙ sym (tasks_are_held_once w.program w.settings w.journal.items I.legal).as_many) ∙ kept_all k
 
 -- one more task counted

@@ -132,9 +132,9 @@ some_numbered ks n (Some k) e = by (place_in ks n) refl e
     by (Some i) is z = ap (λ (x : ChunkValue). (chunk_of x).objects) (same_Some k.now (chunk_at ks i) z) ∙ sym (numbered_found ks n i is)
 
 -- of a task that doesn't run
-pub resting_objects : (w : SharedValue) (n t : ℕ) (r : Rest) → owner_of w.pool n ≡ Some t → is_state_running (state_of w.tree t) ≡ false → rest_at w.homes t ≡ Some r
+pub resting_objects : (w : SharedValue) (n t : ℕ) (r : Rest) → owner_of w.pool n ≡ Some t → is_state_running (state_of w.tree t) ≡ false → rest_at w.rests t ≡ Some r
     → objects_of w n ≡ objects_numbered n (chunks_of r.heap.chunks)
 resting_objects w n t r owned idle there =
     ap (objects_owned w n) owned
-    ∙ (ap (λ b. cond b [] (objects_numbered n (home_in (rest_at w.homes t)).chunks)) idle
+    ∙ (ap (λ b. cond b [] (objects_numbered n (home_in (rest_at w.rests t)).chunks)) idle
     ∙ (ap (λ o. objects_numbered n (home_in o).chunks) there ∙ ap (objects_numbered n) (home_chunks r)))

@@ -2,7 +2,7 @@
 use Rattle.std.proofs.Common.{◌≡◌, ℕ, Bool, true, false, Option, Some, None, List, [], ◌∷◌, option_map, slice_get, refl, ap, sym, subst, ◌∙◌}
 use Rattle.std.proofs.lemmas.Bool.{false≢true}
 use Rattle.std.proofs.lemmas.Option.{same_Some}
-use Rattle.hh_model.specs.declared.data.State.{State as Machine}
+use Rattle.hh_model.specs.declared.data.State.{State as MachineState}
 use Rattle.hh_model.specs.declared.data.Status.{Status}
 use Rattle.hh_model.specs.declared.data.Status.TheVariants.{Running, Waiting, Ended, Joined}
 use Rattle.hh_model.specs.declared.data.Task.{Task}
@@ -96,7 +96,7 @@ module _ (w : SharedValue) (I : IsSharedValue w) where
   worker t = (heap_of (handed l) t).worker
 
   nodes : (t : ℕ) → slice_get w.tree t ≡ option_map (as_node (worker t)) (slice_get l.machine.tasks t)
-  nodes t = I.stands.totals.node t ∙ ap (λ (m : Machine). option_map (as_node (worker t)) (slice_get m.tasks t)) same_machine
+  nodes t = I.stands.tree_counts.node t ∙ ap (λ (m : MachineState). option_map (as_node (worker t)) (slice_get m.tasks t)) same_machine
 
   pub task_of : (t : ℕ) (n : Node) → slice_get w.tree t ≡ Some n → (x : Task) × (slice_get l.machine.tasks t ≡ Some x) × IsNodeOf (worker t) n x
   task_of t n e = task_by (worker t) n (slice_get l.machine.tasks t) (sym e ∙ nodes t)

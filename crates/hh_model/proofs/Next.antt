@@ -19,7 +19,7 @@ use Rattle.hh_model.specs.declared.data.Trap.TheVariants.{Nil, Range, Frozen, Di
 use Rattle.hh_model.specs.declared.data.State.{State}
 use Rattle.hh_model.specs.Effect.{Effect, Goes, Prints, Calls, Forks, Returns, Traps, Stops, Setting, effect, object_at, put_object, or_trap, with_object, read_effect, int_in, ref_in, int_eq, onward, same_name, calculated, counts_in, place_in}
 use Rattle.hh_model.specs.Precedence.{precedes}
-use Rattle.hh_model.specs.Step.{fetched, step, start, run_from, root, stepped, follow, setting, can_step, forked, child, entry_frame, frame_limit, depth_limit, returned_to, last_return, child_ended_by, ended_task, joined_task, resumed, join_of, result_of, back_in, last_of, front_of, is_left, sibling, kept_by, or_same}
+use Rattle.hh_model.specs.Step.{fetched, step, start, run_from, root, stepped, follow, setting, can_step, forked, child, entry_frame, frame_limit, depth_limit, returned_to, last_return, child_ended_by, ended_task, joined_task, resumed, join_of, result_of, back_in, last_of, front_of, is_left, sibling, result_at, or_same}
 use Rattle.hh_model.specs.NextLaw.{HasNext, AlwaysNext, PacksAreFew}
 use Rattle.hh_model.proofs.Closed.{grown_cases, three_cases}
 use Rattle.hh_model.proofs.Steps.{last_in}
@@ -206,7 +206,7 @@ module _ (p : ProgramText) (I : IsProgram p) (m : State) (t : ℕ) (A : AllPlace
 
     last_placed : (o : Option ℕ) → AllPlaced p (last_return m t x o).tasks
     last_placed None = set_placed (ended_task x (result_of x.top)) mine
-    last_placed (Some parent) = child_placed parent (kept_by (slice_get m.tasks (sibling t)))
+    last_placed (Some parent) = child_placed parent (result_at (slice_get m.tasks (sibling t)))
 
     returned_placed : (o : Option Frame) → last_of x.below ≡ o → AllPlaced p (returned_to m t x o).tasks
     returned_placed None e = last_placed x.parent

@@ -18,12 +18,12 @@ use Rattle.hh_model.specs.declared.data.Trap.TheVariants.{Depth}
 use Rattle.hh_model.specs.declared.data.State.{State}
 use Rattle.hh_model.specs.Effect.{Effect, Goes, Prints, Calls, Forks, Returns, Traps, Stops, effect, object_at, onward, ref_in}
 use Rattle.hh_model.specs.Precedence.{precedes}
-use Rattle.hh_model.specs.Names.{named, refs_at, registers, held_by, task_names, words_asked}
-use Rattle.hh_model.specs.Step.{runs, waits, is_over, result_in, is_running, parent_of, parents, owner_of, strand, strand_of, edge, sibling, is_left, setting, follow, child, child_ended_by, last_return, returned_to, goes_on, join_of, kept_by, or_same, last_of, front_of, back_in, result_of, ended_by, depth_limit, stepped, step, can_step, fetched, entry_frame, asked_line, ended_task, frame_limit}
+use Rattle.hh_model.specs.Names.{named, refs_at, registers, names_from, task_names, words_asked}
+use Rattle.hh_model.specs.Step.{runs, waits, is_over, result_in, is_running, parent_of, parents, owner_of, strand, strand_of, edge, sibling, is_left, setting, follow, child, child_ended_by, last_return, returned_to, goes_on, join_of, result_at, or_same, last_of, front_of, back_in, result_of, ended_by, depth_limit, stepped, step, can_step, fetched, entry_frame, asked_line, ended_task, frame_limit}
 use Rattle.hh_model.proofs.Changes.{Change, Changes, StopsAt, effect_changes}
 use Rattle.hh_model.proofs.Carried.{in_from_named, named_from_in, in_set_cases, at_in, next_name, Carries, effect_carries}
 use Rattle.hh_model.proofs.Runs.{running_tells, ended_tells}
-use Rattle.hh_model.proofs.Kept.{Kept}
+use Rattle.hh_model.proofs.Kept.{SoundState}
 
 pub runs_is : (s : Status) → runs s ≡ true → s ≡ Running
 runs_is Running h = refl
@@ -75,10 +75,10 @@ front_registers (g ∷ k ∷ fs) r h =
     ]
 
 pub names_run : (x : Task) (r : Name) → x.status ≡ Running → In (registers (x.top ∷ x.below)) r → In (task_names x) r
-names_run x r e h = subst (λ s. In (held_by s (x.top ∷ x.below)) r) (sym e) h
+names_run x r e h = subst (λ s. In (names_from s (x.top ∷ x.below)) r) (sym e) h
 
 pub run_names : (x : Task) (r : Name) → x.status ≡ Running → In (task_names x) r → In (registers (x.top ∷ x.below)) r
-run_names x r e h = subst (λ s. In (held_by s (x.top ∷ x.below)) r) e h
+run_names x r e h = subst (λ s. In (names_from s (x.top ∷ x.below)) r) e h
 
 -- where the names of a stepping task come from, and those in the fields of the store
 module _ (p : ProgramText) (m : State) (t : ℕ) (x : Task) where
@@ -106,7 +106,7 @@ module _ (p : ProgramText) (m : State) (t : ℕ) (x : Task) where
   abbrev pub Put : Name → Name → Type 0
   Put n r = In (refs_at m.store n) r ⊎ ((In (task_names x) n ⊎ ((n ≡ next_name t m.store) × Allocates)) × In (task_names x) r)
 
-module _ (p : ProgramText) (m : State) (t : ℕ) (K : Kept m) (C : State → Type 0)
+module _ (p : ProgramText) (m : State) (t : ℕ) (K : SoundState m) (C : State → Type 0)
     (idle : C m)
     (halt : (x : Task) (e : End) → slice_get m.tasks t ≡ Some x → is_running (Some x) ≡ true → Halts p m t x e → C (ended_by m e))
     (stay : (x y : Task) (store : List (List Object)) (outs : List ℤ) → slice_get m.tasks t ≡ Some x → is_running (Some x) ≡ true
@@ -196,7 +196,7 @@ module _ (p : ProgramText) (m : State) (t : ℕ) (K : Kept m) (C : State → Typ
         result_names (kept_result z other ended) (inl (refl, side, run, ended_stops z.status other ended))
       where
         kept_result : (z : Task) (other : ℤ × Option Name) → result_in z.status ≡ Some other → (r : Name) → other.1 ≡ Some r → In (task_names z) r
-        kept_result z other e r h = subst (λ s. In (held_by s (z.top ∷ z.below)) r) (sym (ended_is z.status other e)) (named_from_in (other.1 ∷ []) r (inl h))
+        kept_result z other e r h = subst (λ s. In (names_from s (z.top ∷ z.below)) r) (sym (ended_is z.status other e)) (named_from_in (other.1 ∷ []) r (inl h))
     sides parent xp z other ip iz pp ended false side =
         let sib : sibling t ≡ t - 1 = cond-false (is_left t) (t + 1) (t - 1) side in
         let over = ended_tells z.status other ended in
@@ -210,17 +210,17 @@ module _ (p : ProgramText) (m : State) (t : ℕ) (K : Kept m) (C : State → Typ
         (kept_result z other ended) result_names (inr (sym back, side, run, ended_stops z.status other ended))
       where
         kept_result : (z : Task) (other : ℤ × Option Name) → result_in z.status ≡ Some other → (r : Name) → other.1 ≡ Some r → In (task_names z) r
-        kept_result z other e r h = subst (λ s. In (held_by s (z.top ∷ z.below)) r) (sym (ended_is z.status other e)) (named_from_in (other.1 ∷ []) r (inl h))
+        kept_result z other e r h = subst (λ s. In (names_from s (z.top ∷ z.below)) r) (sym (ended_is z.status other e)) (named_from_in (other.1 ∷ []) r (inl h))
 
-    ended_by_case : (parent : ℕ) (o : Option (ℤ × Option Name)) → x.parent ≡ Some parent → kept_by (slice_get m.tasks (sibling t)) ≡ o → C (child_ended_by m t x parent (result_of x.top) o)
+    ended_by_case : (parent : ℕ) (o : Option (ℤ × Option Name)) → x.parent ≡ Some parent → result_at (slice_get m.tasks (sibling t)) ≡ o → C (child_ended_by m t x parent (result_of x.top) o)
     ended_by_case parent None pp k = ends x (Some parent) m.end is run pp (inr (refl, refl)) result_names
     ended_by_case parent (Some other) pp k =
         same_or (slice_get m.tasks parent) _ (λ xp ip. same_or (slice_get m.tasks (sibling t)) _ (λ z iz.
-        sides parent xp z other ip iz pp (ap kept_by (sym iz) ∙ k) (is_left t) refl))
+        sides parent xp z other ip iz pp (ap result_at (sym iz) ∙ k) (is_left t) refl))
 
     last_case : (o : Option ℕ) → x.parent ≡ o → C (last_return m t x o)
     last_case None e = ends x None (Some Done) is run e (inl (refl, refl)) result_names
-    last_case (Some parent) e = ended_by_case parent (kept_by (slice_get m.tasks (sibling t))) e refl
+    last_case (Some parent) e = ended_by_case parent (result_at (slice_get m.tasks (sibling t))) e refl
 
     returned_case : (o : Option Frame) → last_of x.below ≡ o → C (returned_to m t x o)
     returned_case None e = last_case x.parent refl

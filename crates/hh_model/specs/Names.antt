@@ -30,14 +30,14 @@ registers [] = []
 registers (f ∷ fs) = named f.refs ++ registers fs
 
 -- what a task holds: its frames' registers while it runs or waits, its result once it has ended, nothing once it has joined
-abbrev pub held_by : Status → List Frame → List Name
-held_by Running frames = registers frames
-held_by Waiting frames = registers frames
-held_by (Ended k r) frames = named (r ∷ [])
-held_by Joined frames = []
+abbrev pub names_from : Status → List Frame → List Name
+names_from Running frames = registers frames
+names_from Waiting frames = registers frames
+names_from (Ended k r) frames = named (r ∷ [])
+names_from Joined frames = []
 
 abbrev pub task_names : Task → List Name
-task_names x = held_by x.status (x.top ∷ x.below)
+task_names x = names_from x.status (x.top ∷ x.below)
 
 -- the name of the next object of a task
 abbrev pub next_name : ℕ → List (List Object) → Name

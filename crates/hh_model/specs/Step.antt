@@ -187,9 +187,9 @@ join_of m p x l left right lr rr = record m {
   edges = m.edges ++ edge (strand_of l left) (strand p (x.joins + 1)) ∷ edge (strand_of (l + 1) right) (strand p (x.joins + 1)) ∷ [];
 }
 
-abbrev pub kept_by : Option Task → Option (ℤ × Option Name)
-kept_by None = None
-kept_by (Some x) = result_in x.status
+abbrev pub result_at : Option Task → Option (ℤ × Option Name)
+result_at None = None
+result_at (Some x) = result_in x.status
 
 abbrev pub or_same : {A : Type 0} → State → Option A → (A → State) → State
 or_same m None go = m
@@ -207,7 +207,7 @@ child_ended_by m t x p result (Some other) =
     if is_left t then join_of m p parent t x y result other else join_of m p parent (t - 1) y x other result))
 
 abbrev pub child_ended : State → ℕ → Task → ℕ → ℤ × Option Name → State
-child_ended m t x p result = child_ended_by m t x p result (kept_by (slice_get m.tasks (sibling t)))
+child_ended m t x p result = child_ended_by m t x p result (result_at (slice_get m.tasks (sibling t)))
 
 -- a frame hands back its i0 and r0
 abbrev pub result_of : Frame → ℤ × Option Name

@@ -61,18 +61,18 @@ TreeOf tasks edges = Tree (length tasks) (parents tasks) (joined tasks) (waiting
 abbrev pub StoreOf : ℕ → (ℕ → ℕ) → List (List Object) → Type 0
 StoreOf n js store = (m : Name) (o : Object) → object_at store m ≡ Some o → (o.strand.task ≡ m.task) × Known n js o.strand
 
-pub record KeptIn (tasks : List Task) (edges : List Edge) (store : List (List Object)) : Type 0 where
+pub record SoundStateIn (tasks : List Task) (edges : List Edge) (store : List (List Object)) : Type 0 where
   pub tree : TreeOf tasks edges
   pub store_of : StoreOf (length tasks) (joins_in tasks) store
 
-abbrev pub Kept : State → Type 0
-Kept m = KeptIn m.tasks m.edges m.store
+abbrev pub SoundState : State → Type 0
+SoundState m = SoundStateIn m.tasks m.edges m.store
 
-abbrev pub RunsAreKept : Type 0
-RunsAreKept = (p : ProgramText) (limit : ℕ) (ts : List ℕ) → Kept (run p limit ts)
+abbrev pub RunsAreSound : Type 0
+RunsAreSound = (p : ProgramText) (limit : ℕ) (ts : List ℕ) → SoundState (run p limit ts)
 
 abbrev pub StepsKeep : Type 0
-StepsKeep = (p : ProgramText) (m : State) (t : ℕ) → Kept m → Kept (step p m t)
+StepsKeep = (p : ProgramText) (m : State) (t : ℕ) → SoundState m → SoundState (step p m t)
 
 -- THE FIRST TASK
 

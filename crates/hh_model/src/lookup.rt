@@ -2,7 +2,7 @@
 
 ghost use Rattle.std.specs.Prelude.{◌≡◌, ◌<◌, length, option_copied, slice_get, IfSome};
 ghost use Rattle.hh_model.specs.Effect.{object_at};
-ghost use Rattle.hh_model.specs.Step.{asked, can_step, is_on_path, owner_of, parents, joined, kept_by, strand_of};
+ghost use Rattle.hh_model.specs.Step.{asked, can_step, is_on_path, owner_of, parents, joined, result_at, strand_of};
 
 use crate::data::{Name, Object, State, Status, Strand};
 use hh_lang::Program;
@@ -82,7 +82,7 @@ impl State {
 
     /// What a task ended with, where it has ended and not joined.
     pub(crate) fn result(&self, t: u32) -> Option<(i64, Option<Name>)>
-        ensures { result ≡ kept_by (slice_get self.now.tasks t) }
+        ensures { result ≡ result_at (slice_get self.now.tasks t) }
     {
         match self.tasks.get(t as usize) {
             Some(task) => match task.status {

@@ -9,7 +9,7 @@ use Rattle.object_layout.specs.ChunkValue.{ChunkValue}
 use Rattle.object_layout.specs.Chunks.{cell_of, same_address, held_size, one_each, sum_in}
 use Rattle.object_layout.specs.Place.{cell_at}
 use Rattle.object_layout.proofs.ChunkLaws as laws
-use Rattle.object_layout.specs.Graph.{IsHeld}
+use Rattle.object_layout.specs.Graph.{HasObjectAt}
 use Rattle.object_layout.proofs.Distinct.{once_from}
 use Rattle.listed.proofs.Members.{In, in_append_left, in_append_right}
 use Rattle.inner_mark_gc.specs.Snapshot.{object_count}
@@ -82,5 +82,5 @@ in_addresses (k ∷ ks) a o = by (in_addresses ks a) (k.number == a.chunk) refl 
     by rest false e o = in_append_right (cells_at k.cells k.number 0) _ _ (rest o)
 
 -- objects that are found, each once, are no more than there are
-pub found_within : (ks : List ChunkValue) (xs : List Addr) → IsDistinct same_address xs → ((a : Addr) → In xs a → IsHeld ks a) → length xs ≤ object_count ks
+pub found_within : (ks : List ChunkValue) (xs : List Addr) → IsDistinct same_address xs → ((a : Addr) → In xs a → HasObjectAt ks a) → length xs ≤ object_count ks
 found_within ks xs o h = let le = once_within xs (addresses ks) (once_from xs o) (λ a i. in_addresses ks a (laws.born_object ks a (h a i))) in subst (λ (n : ℕ). length xs ≤ n) (addresses_count ks) le

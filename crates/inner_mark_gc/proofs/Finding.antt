@@ -11,7 +11,7 @@ use Rattle.object_layout.proofs.ChunkLaws as laws
 use Rattle.object_layout.proofs.Distinct.{distinct_from}
 use Rattle.object_layout.specs.declared.word.Addr.{Addr}
 use Rattle.object_layout.specs.ChunkValue.{ChunkValue}
-use Rattle.object_layout.specs.Graph.{IsHeld, IsSound}
+use Rattle.object_layout.specs.Graph.{HasObjectAt, IsSound}
 use Rattle.listed.proofs.Members.{In, in_append_left, contains_from_in, in_from_contains}
 use Rattle.listed.proofs.Places.{all_from, got_in_take, in_take_more}
 use Rattle.inner_mark_gc.specs.MarkingValue.{Finds, HasRoom, MarkingValue, noted}
@@ -72,7 +72,7 @@ finds_noted P old new a p only e m f =
       followed = f;
     }
 
-pub room_noted : (h : List ChunkValue) (old new : MarkingValue) (a : Addr) → HasRoom h old → IsHeld h a → new.found ≡ noted old.found a
+pub room_noted : (h : List ChunkValue) (old new : MarkingValue) (a : Addr) → HasRoom h old → HasObjectAt h a → new.found ≡ noted old.found a
     → length old.found + old.slots ≤ length new.found + new.slots → length old.found + old.spare ≤ length new.found + new.spare → new.places ≡ old.places → HasRoom h new
 room_noted h old new a r held e s p q =
     let n = noted_is old.found a in
@@ -82,7 +82,7 @@ room_noted h old new a r held e s p q =
     record {
       each = λ x i. elim (n.each x (subst (λ (xs : List Addr). In xs x) e (in_from_contains new.found x i))) [
         | inl j ↦ r.each x (contains_from_in old.found x j)
-        | inr f ↦ subst (IsHeld h) f held
+        | inr f ↦ subst (HasObjectAt h) f held
       ];
       once = subst (IsDistinct same_address) (sym e) (n.once r.once);
       slots = omega arith;
@@ -155,14 +155,14 @@ owned_by : (ks : List ChunkValue) (n : ℕ) (b : Bool) → nat_lt (place_of ks n
 owned_by ks n true e o = grind arith
 owned_by ks n false e o = absurd (false≢true o)
 
-pub owned_held : (ks : List ChunkValue) (a : Addr) → IsSound ks (Some a) → is_some (place_in ks a.chunk) ≡ true → IsHeld ks a
+pub owned_held : (ks : List ChunkValue) (a : Addr) → IsSound ks (Some a) → is_some (place_in ks a.chunk) ≡ true → HasObjectAt ks a
 owned_held ks a sound o = (sound (owned_by ks a.chunk (nat_lt (place_of ks a.chunk) (length ks)) refl o)).0
 
 not_by : (ks : List ChunkValue) (n : ℕ) (b : Bool) → nat_lt (place_of ks n) (length ks) ≡ b → is_some (if b then Some (place_of ks n) else None) ≡ false → place_of ks n < length ks → ⊥
 not_by ks n true e o l = false≢true (sym o)
 not_by ks n false e o l = grind arith
 
-pub not_owned : (ks : List ChunkValue) (a : Addr) → is_some (place_in ks a.chunk) ≡ false → IsHeld ks a → ⊥
+pub not_owned : (ks : List ChunkValue) (a : Addr) → is_some (place_in ks a.chunk) ≡ false → HasObjectAt ks a → ⊥
 not_owned ks a o h = not_by ks a.chunk (nat_lt (place_of ks a.chunk) (length ks)) refl o (laws.chunk_of_object ks a (laws.born_object ks a h))
 
 pub held_in : (P : Addr → Type 0) (xs : List Addr) (a : Addr) → All P xs → Contains xs a → P a

@@ -9,7 +9,7 @@ use Rattle.object_layout.specs.Cell.{Cell, IsBorn, IsObject, Mark, Born, Moved, 
 use Rattle.object_layout.specs.ChunkValue.{ChunkValue}
 use Rattle.object_layout.specs.Place.{cell_at}
 use Rattle.object_layout.specs.Chunks.{cell_of, chunk_at, object_of, place_of}
-use Rattle.object_layout.specs.Graph.{IsHeld}
+use Rattle.object_layout.specs.Graph.{HasObjectAt}
 use Rattle.object_layout.proofs.ChunkLaws as laws
 use Rattle.listed.proofs.Members.{In, contains_from_in, in_from_contains}
 use Rattle.listed.proofs.Places.{in_take}
@@ -222,7 +222,7 @@ swept_is_snapshot f kept m h apart own is all a =
       λ held. by_test (has_address (marked_of m) a) refl (subst (λ (c : Cell). IsObject c.mark) read (held_object (cell_of (swept h (marked_of m)).chunks a) held)),
       λ s.
           let i = in_from_contains (marked_of m) a (all a s) in
-          let here : IsHeld h.chunks a = own.room.each a (contains_from_in m.found a (in_take m.marked m.found a i)) in
+          let here : HasObjectAt h.chunks a = own.room.each a (contains_from_in m.found a (in_take m.marked m.found a i)) in
           let same : object_of (swept h (marked_of m)).chunks a ≡ object_of h.chunks a = read ∙ ap (λ (b : Bool). cond b (object_of h.chunks a) no_cell) (in_has (marked_of m) a i) in
           object_held (cell_of (swept h (marked_of m)).chunks a) (subst (λ (c : Cell). IsBorn c.mark) (sym same) (subst (λ (c : Cell). IsBorn c.mark) (sym (laws.object_is h.chunks a (laws.born_object h.chunks a here))) here)),
     )

@@ -4,7 +4,7 @@ use Rattle.std.specs.Prelude.{◌↔◌}
 use Rattle.std.proofs.lemmas.List.{take_all, take-append-le, drop_all, length-append}
 use Rattle.object_layout.specs.declared.word.Addr.{Addr}
 use Rattle.object_layout.specs.ChunkValue.{ChunkValue}
-use Rattle.object_layout.specs.Graph.{IsHeld, Leads}
+use Rattle.object_layout.specs.Graph.{HasObjectAt, Leads}
 use Rattle.object_layout.proofs.Distinct.{once_from}
 use Rattle.listed.proofs.Members.{In, in_append_left, in_append_right, in_append_cases, contains_from_in, in_from_contains}
 use Rattle.listed.proofs.Places.{got_in_take, in_take, in_take_more}
@@ -51,16 +51,16 @@ still_within xs ys rest n m e l i =
 
 module _ (f : Fork) (kept : List Addr) where
   -- what was kept is of the snapshot
-  pub kept_starts : (h : List ChunkValue) → IsSince f kept h → All (IsHeld h) kept → (a : Addr) → Contains kept a → IsInSnapshot f kept a
+  pub kept_starts : (h : List ChunkValue) → IsSince f kept h → All (HasObjectAt h) kept → (a : Addr) → Contains kept a → IsInSnapshot f kept a
   kept_starts h s all a c =
-      reached_start (Starts f kept) (Leads f.heap) a ((s.objects a).1 (held_in (IsHeld h) kept a all c), contains_from_in (f.roots ++ kept) a (in_append_right f.roots kept a (in_from_contains kept a c)))
+      reached_start (Starts f kept) (Leads f.heap) a ((s.objects a).1 (held_in (HasObjectAt h) kept a all c), contains_from_in (f.roots ++ kept) a (in_append_right f.roots kept a (in_from_contains kept a c)))
 
-  pub begun : (h : List ChunkValue) (roots : List Addr) (old m : MarkingValue) → f.roots ≡ roots → ((a : Addr) → IsHeld f.heap a ↔ IsHeld h a) → All (IsHeld h) roots
+  pub begun : (h : List ChunkValue) (roots : List Addr) (old m : MarkingValue) → f.roots ≡ roots → ((a : Addr) → HasObjectAt f.heap a ↔ HasObjectAt h a) → All (HasObjectAt h) roots
       → old.found ≡ [] → Finds (Contains roots) old m → m.marked ≡ 0 → m.followed ≡ 0 → IsMarking f kept m
   begun h roots old m same objects all none finds zero_marked zero_followed = record {
     each = λ a i. elim (finds.each a i) [
       | inl j ↦ absurd (in_from_contains [] a (subst (λ (xs : List Addr). Contains xs a) none j))
-      | inr r ↦ reached_start (Starts f kept) (Leads f.heap) a ((objects a).1 (held_in (IsHeld h) roots a all r), contains_from_in (f.roots ++ kept) a (in_append_left f.roots kept a (subst (λ (xs : List Addr). In xs a) (sym same) (in_from_contains roots a r))))
+      | inr r ↦ reached_start (Starts f kept) (Leads f.heap) a ((objects a).1 (held_in (HasObjectAt h) roots a all r), contains_from_in (f.roots ++ kept) a (in_append_left f.roots kept a (subst (λ (xs : List Addr). In xs a) (sym same) (in_from_contains roots a r))))
     ];
     roots_found = λ a r. finds.all a (subst (λ (xs : List Addr). Contains xs a) same r);
     kept_found = λ a c. absurd (in_from_contains [] a (subst (λ (n : ℕ). Contains (take n kept) a) zero_followed c));
@@ -68,7 +68,7 @@ module _ (f : Fork) (kept : List Addr) where
   }
 
   -- what was kept is followed
-  pub followed : (h : List ChunkValue) (old new : MarkingValue) → IsSince f kept h → All (IsHeld h) kept → IsOf h kept old
+  pub followed : (h : List ChunkValue) (old new : MarkingValue) → IsSince f kept h → All (HasObjectAt h) kept → IsOf h kept old
       → Finds (Contains (drop old.followed kept)) (record old { followed = length kept }) new → IsMarking f kept old → IsMarking f kept new
   followed h old new s all own finds m =
       let P : Addr → Type 0 = Contains (drop old.followed kept) in
@@ -141,5 +141,5 @@ module _ (f : Fork) (kept : List Addr) where
       let within : m.marked ≤ length m.found = own.marked in
       omega arith
 
-  pub all_kept_found : (h : List ChunkValue) (m : MarkingValue) → IsSince f kept h → All (IsHeld h) kept → IsAllMarked f kept m → (a : Addr) → Contains kept a → Contains m.found a
+  pub all_kept_found : (h : List ChunkValue) (m : MarkingValue) → IsSince f kept h → All (HasObjectAt h) kept → IsAllMarked f kept m → (a : Addr) → Contains kept a → Contains m.found a
   all_kept_found h m s held all a c = contains_from_in m.found a (in_take m.marked m.found a (in_from_contains (marked_of m) a (all a (kept_starts h s held a c))))

@@ -4,11 +4,11 @@ use Rattle.object_layout.specs.declared.word.Addr.{Addr}
 use Rattle.object_layout.specs.Cell.{IsObject, no_cell}
 use Rattle.object_layout.specs.ChunkValue.{ChunkValue}
 use Rattle.object_layout.specs.Chunks.{cell_of, object_of}
-use Rattle.object_layout.specs.Graph.{IsHeld}
+use Rattle.object_layout.specs.Graph.{HasObjectAt}
 use Rattle.alloc_path.specs.LeafHeapValue.{AreApart, LeafHeapValue}
 use Rattle.inner_mark_gc.specs.Snapshot.{Fork, IsInSnapshot, Starts, object_count}
 use Rattle.inner_mark_gc.specs.MarkingValue.{has_address, marked_of, IsAllMarked, IsDone, IsMarking, IsOf, MarkingValue}
-use Rattle.inner_mark_gc.specs.Swept.{has_number, has_object, left_of, number_at, swept}
+use Rattle.inner_mark_gc.specs.Swept.{has_number, has_object, staying_of, number_at, swept}
 
 -- the snapshot that a marking is for, from the roots as they are when it begins and what was kept, is what the roots at the
 -- fork lead to: where each start is of that, and each root at the fork is still a root or was kept
@@ -31,7 +31,7 @@ MarkingGoesOn =
 abbrev pub MarkingStaysOf : Type 0
 MarkingStaysOf =
     (g h : List ChunkValue) (kept more : List Addr) (m : MarkingValue)
-    → ((a : Addr) → IsHeld g a → IsHeld h a) → object_count h ≡ object_count g → length h ≡ length g
+    → ((a : Addr) → HasObjectAt g a → HasObjectAt h a) → object_count h ≡ object_count g → length h ≡ length g
     → IsOf g kept m → IsOf h (kept ++ more) m
 
 -- where the whole snapshot is marked, all that was found is
@@ -51,10 +51,10 @@ abbrev pub SweptIsSnapshot : Type 0
 SweptIsSnapshot =
     (f : Fork) (kept : List Addr) (m : MarkingValue) (h : LeafHeapValue) → AreApart h.chunks
     → IsOf h.chunks kept m → IsMarking f kept m → IsAllMarked f kept m
-    → (a : Addr) → (IsObject (cell_of (swept h (marked_of m)).chunks a).mark → IsInSnapshot f kept a) × (IsInSnapshot f kept a → IsHeld (swept h (marked_of m)).chunks a)
+    → (a : Addr) → (IsObject (cell_of (swept h (marked_of m)).chunks a).mark → IsInSnapshot f kept a) × (IsInSnapshot f kept a → HasObjectAt (swept h (marked_of m)).chunks a)
 
 -- in each chunk that a sweep leaves lies an object, but for the reserved one
 abbrev pub EachLeftHolds : Type 0
 EachLeftHolds =
-    (h : LeafHeapValue) (kept : List Addr) (k : ChunkValue) → Contains (left_of h kept) k
+    (h : LeafHeapValue) (kept : List Addr) (k : ChunkValue) → Contains (staying_of h kept) k
     → (has_object k.cells ≡ true) ⊎ (has_number (number_at h.chunks h.reserved) k ≡ true)

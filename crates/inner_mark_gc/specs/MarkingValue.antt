@@ -3,7 +3,7 @@ use Rattle.std.specs.Prelude.{◌≡◌, ◌⊎◌, ℕ, ◌+◌, ◌<◌, ◌�
 use Rattle.std.specs.List.{IsDistinct, list_any}
 use Rattle.object_layout.specs.declared.word.Addr.{Addr}
 use Rattle.object_layout.specs.ChunkValue.{ChunkValue}
-use Rattle.object_layout.specs.Graph.{IsHeld, Leads}
+use Rattle.object_layout.specs.Graph.{HasObjectAt, Leads}
 pub use Rattle.object_layout.specs.Chunks.{same_address}
 use Rattle.inner_mark_gc.specs.Snapshot.{Fork, IsInSnapshot, object_count}
 
@@ -35,7 +35,7 @@ IsDone m = m.marked ≡ length m.found
 
 -- the objects found lie in the heap, each stands once, and there are places for all others, and for the chunks
 pub record HasRoom (h : List ChunkValue) (m : MarkingValue) : Type 0 where
-  pub each : (a : Addr) → Contains m.found a → IsHeld h a
+  pub each : (a : Addr) → Contains m.found a → HasObjectAt h a
   pub once : IsDistinct same_address m.found
   pub slots : object_count h < length m.found + m.slots
   pub spare : object_count h < length m.found + m.spare

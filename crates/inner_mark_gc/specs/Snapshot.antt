@@ -3,7 +3,7 @@ use Rattle.std.specs.Prelude.{◌↔◌, ◌⊎◌, List, ◌++◌, Contains}
 use Rattle.object_layout.specs.declared.word.Addr.{Addr}
 use Rattle.object_layout.specs.ChunkValue.{ChunkValue}
 pub use Rattle.object_layout.specs.Chunks.{object_count}
-pub use Rattle.object_layout.specs.Graph.{IsClosed, IsHeld, IsSound, Leads}
+pub use Rattle.object_layout.specs.Graph.{IsClosed, HasObjectAt, IsSound, Leads}
 use Rattle.walk_laws.specs.Reached.{IsReached}
 
 -- what a marking starts from: the heap as it was at the fork of its task, and the roots
@@ -13,7 +13,7 @@ pub record Fork : Type 0 where
 
 -- walks start at the roots, and at the references that were kept since the fork
 abbrev pub Starts : Fork → List Addr → Addr → Type 0
-Starts f kept a = IsHeld f.heap a × Contains (f.roots ++ kept) a
+Starts f kept a = HasObjectAt f.heap a × Contains (f.roots ++ kept) a
 
 -- the snapshot: what walks lead to through the heap as it was at the fork
 abbrev pub IsInSnapshot : Fork → List Addr → Addr → Type 0
@@ -22,6 +22,6 @@ IsInSnapshot f kept a = IsReached (Starts f kept) (Leads f.heap) a
 -- h is the heap since the fork: it has the same objects, of which only fields were written; what was
 -- written leads to objects of the snapshot, and what was overwritten was kept
 pub record IsSince (f : Fork) (kept : List Addr) (h : List ChunkValue) : Type 0 where
-  pub objects : (a : Addr) → IsHeld f.heap a ↔ IsHeld h a
+  pub objects : (a : Addr) → HasObjectAt f.heap a ↔ HasObjectAt h a
   pub written : (b a : Addr) → IsInSnapshot f kept b → Leads h b a → IsInSnapshot f kept a
   pub overwritten : (b a : Addr) → Leads f.heap b a → Leads h b a ⊎ Contains kept a

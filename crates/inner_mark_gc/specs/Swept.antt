@@ -53,8 +53,8 @@ abbrev pub goes : List Addr → Option ℕ → ChunkValue → Bool
 goes kept reserved k = not (stays kept reserved k)
 
 -- the chunks that are left, in their order, and those that go
-abbrev pub left_of : LeafHeapValue → List Addr → List ChunkValue
-left_of h kept = map (swept_chunk kept) (filter (stays kept (number_at h.chunks h.reserved)) h.chunks)
+abbrev pub staying_of : LeafHeapValue → List Addr → List ChunkValue
+staying_of h kept = map (swept_chunk kept) (filter (stays kept (number_at h.chunks h.reserved)) h.chunks)
 
 abbrev pub gone_of : LeafHeapValue → List Addr → List ChunkValue
 gone_of h kept = filter (goes kept (number_at h.chunks h.reserved)) h.chunks
@@ -63,9 +63,9 @@ gone_of h kept = filter (goes kept (number_at h.chunks h.reserved)) h.chunks
 -- is left, and keeps the reserved one
 abbrev pub swept : LeafHeapValue → List Addr → LeafHeapValue
 swept h kept = record h {
-  chunks = left_of h kept;
-  current = place_at (left_of h kept) (number_at h.chunks h.current);
-  reserved = place_at (left_of h kept) (number_at h.chunks h.reserved);
+  chunks = staying_of h kept;
+  current = place_at (staying_of h kept) (number_at h.chunks h.current);
+  reserved = place_at (staying_of h kept) (number_at h.chunks h.reserved);
 }
 
 -- ---- the pool

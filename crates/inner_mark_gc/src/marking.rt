@@ -4,7 +4,7 @@ ghost use Rattle.std.specs.Prelude.{◌≡◌, ◌+◌, ◌-◌, ◌<◌, ◌≤
 ghost use Rattle.object_layout.specs.declared.word.Addr.{Addr};
 ghost use Rattle.object_layout.specs.ChunkValue.{ChunkValue};
 ghost use Rattle.object_layout.specs.Chunks.{object_count};
-ghost use Rattle.object_layout.specs.Graph.{IsClosed, IsHeld, IsSound, Leads};
+ghost use Rattle.object_layout.specs.Graph.{IsClosed, HasObjectAt, IsSound, Leads};
 ghost use Rattle.inner_mark_gc.specs.Snapshot.{IsSince, Fork};
 ghost use Rattle.inner_mark_gc.specs.MarkingValue.{has_address, marked_of, noted, Finds, HasRoom, IsAllMarked, IsDone, IsMarking, IsOf};
 
@@ -44,10 +44,10 @@ impl Marking {
     /// A marking of a heap, which has found the roots, and marked nothing. It reserves for every object
     /// of the heap, and for its chunks.
     pub fn begin(alloc: Global, heap: &LeafHeap, roots: &[Addr]) -> Result<Marking, AllocError>
-        requires { All (IsHeld heap.now.chunks) roots.now }
+        requires { All (HasObjectAt heap.now.chunks) roots.now }
         ensures none { IfOk result (λ m. m.marked ≡ 0) }
         ensures own { IfOk result (λ m. (kept : List Addr) → IsOf heap.now.chunks kept m) }
-        ensures marking { IfOk result (λ m. (f : Fork) (kept : List Addr) → f.roots ≡ roots.now → ((a : Addr) → IsHeld f.heap a ↔ IsHeld heap.now.chunks a) → IsMarking f kept m) }
+        ensures marking { IfOk result (λ m. (f : Fork) (kept : List Addr) → f.roots ≡ roots.now → ((a : Addr) → HasObjectAt f.heap a ↔ HasObjectAt heap.now.chunks a) → IsMarking f kept m) }
     {
         Marking::begin_in(MarkingRoom::new(alloc), heap, roots)
     }
@@ -59,10 +59,10 @@ impl Marking {
         heap: &LeafHeap,
         roots: &[Addr],
     ) -> Result<Marking, AllocError>
-        requires { All (IsHeld heap.now.chunks) roots.now }
+        requires { All (HasObjectAt heap.now.chunks) roots.now }
         ensures none { IfOk result (λ m. m.marked ≡ 0) }
         ensures own { IfOk result (λ m. (kept : List Addr) → IsOf heap.now.chunks kept m) }
-        ensures marking { IfOk result (λ m. (f : Fork) (kept : List Addr) → f.roots ≡ roots.now → ((a : Addr) → IsHeld f.heap a ↔ IsHeld heap.now.chunks a) → IsMarking f kept m) }
+        ensures marking { IfOk result (λ m. (f : Fork) (kept : List Addr) → f.roots ≡ roots.now → ((a : Addr) → HasObjectAt f.heap a ↔ HasObjectAt heap.now.chunks a) → IsMarking f kept m) }
     {
         let MarkingRoom { found, known, left } = room;
         let mut marking = Marking {
@@ -99,7 +99,7 @@ impl Marking {
     /// at the fork. It costs what the objects marked refer to, and what was kept since the last call.
     pub fn some(&mut self, heap: &LeafHeap, kept: &[Addr], n: u32) -> u32
         requires closed { IsClosed heap.now.chunks }
-        requires kept { All (IsHeld heap.now.chunks) kept.now }
+        requires kept { All (HasObjectAt heap.now.chunks) kept.now }
         requires own { IsOf heap.now.chunks kept.now self.old }
         ensures own { IsOf heap.now.chunks kept.now self.new }
         ensures before { take self.old.marked self.new.found ≡ marked_of self.old }
@@ -121,7 +121,7 @@ impl Marking {
     /// last call of `some`.
     pub fn ready(&self, kept: &[Addr]) -> bool
         requires { self.now.followed ≤ length kept.now }
-        ensures ready { (f : Fork) (h : List ChunkValue) → All (IsHeld h) kept.now → IsOf h kept.now self.now → IsSince f kept.now h → IsMarking f kept.now self.now → (IsTrue result ↔ IsAllMarked f kept.now self.now) }
+        ensures ready { (f : Fork) (h : List ChunkValue) → All (HasObjectAt h) kept.now → IsOf h kept.now self.now → IsSince f kept.now h → IsMarking f kept.now self.now → (IsTrue result ↔ IsAllMarked f kept.now self.now) }
         ensures done { IsTrue result → IsDone self.now }
     {
         self.marked == self.found.len() && self.has_all(&kept[self.followed..])
@@ -167,8 +167,8 @@ impl Marking {
 
     // Finds what was kept since the last call.
     fn follow(&mut self, kept: &[Addr])
-        requires own { (h : List ChunkValue) × All (IsHeld h) kept.now × IsOf h kept.now self.old }
-        ensures own { (h : List ChunkValue) → All (IsHeld h) kept.now → IsOf h kept.now self.old → IsOf h kept.now self.new }
+        requires own { (h : List ChunkValue) × All (HasObjectAt h) kept.now × IsOf h kept.now self.old }
+        ensures own { (h : List ChunkValue) → All (HasObjectAt h) kept.now → IsOf h kept.now self.old → IsOf h kept.now self.new }
         ensures finds { Finds (Contains (drop self.old.followed kept.now)) (record self.old { followed = length kept.now }) self.new }
     {
         self.visit_all(&kept[self.followed..]);
@@ -209,7 +209,7 @@ impl Marking {
     fn visit(&mut self, heap: &LeafHeap, reference: Option<Addr>)
         requires sound { IsSound heap.now.chunks reference }
         requires room { HasRoom heap.now.chunks self.old }
-        ensures finds { Finds (λ a. IsHeld heap.now.chunks a × (reference ≡ Some a)) self.old self.new }
+        ensures finds { Finds (λ a. HasObjectAt heap.now.chunks a × (reference ≡ Some a)) self.old self.new }
         ensures room { HasRoom heap.now.chunks self.new }
     {
         if let Some(address) = reference {
@@ -221,7 +221,7 @@ impl Marking {
 
     // Finds what the references of an object lead to.
     fn visit_refs(&mut self, heap: &LeafHeap, object: Addr)
-        requires object { IsHeld heap.now.chunks object }
+        requires object { HasObjectAt heap.now.chunks object }
         requires closed { IsClosed heap.now.chunks }
         requires room { HasRoom heap.now.chunks self.old }
         ensures finds { Finds (Leads heap.now.chunks object) self.old self.new }
@@ -235,9 +235,9 @@ impl Marking {
 
     // Finds these objects.
     fn visit_all(&mut self, objects: &[Addr])
-        requires room { (h : List ChunkValue) × All (IsHeld h) objects.now × HasRoom h self.old }
+        requires room { (h : List ChunkValue) × All (HasObjectAt h) objects.now × HasRoom h self.old }
         ensures finds { Finds (Contains objects.now) self.old self.new }
-        ensures room { (h : List ChunkValue) → All (IsHeld h) objects.now → HasRoom h self.old → HasRoom h self.new }
+        ensures room { (h : List ChunkValue) → All (HasObjectAt h) objects.now → HasRoom h self.old → HasRoom h self.new }
     {
         for &object in objects {
             self.note(object);

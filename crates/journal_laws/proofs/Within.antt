@@ -10,7 +10,7 @@ use Rattle.hh_model.specs.declared.data.Name.{Name}
 use Rattle.hh_model.specs.declared.data.Status.{Status}
 use Rattle.hh_model.specs.declared.data.Status.TheVariants.{Running, Waiting, Ended, Joined}
 use Rattle.hh_model.specs.declared.data.Task.{Task}
-use Rattle.hh_model.specs.Names.{refs_at, registers, held_by, task_names}
+use Rattle.hh_model.specs.Names.{refs_at, registers, names_from, task_names}
 use Rattle.hh_model.specs.Step.{runs, waits, is_running, is_waiting, owner_of}
 use Rattle.run_ledger.specs.declared.data.Ledger.{Ledger}
 use Rattle.run_ledger.specs.Reachable.{StartsWithin, LeadsWithin, IsReachedWithin}
@@ -27,8 +27,8 @@ module _ (l : Ledger) (S : SoundLedger l) (t : ℕ) where
 
   -- what a task holds that runs or waits is in its registers
   names_by : (x : Task) (r : Name) (s : Status) → x.status ≡ s → (runs s ≡ true) ⊎ (waits s ≡ true) → In (registers (x.top ∷ x.below)) r → In (task_names x) r
-  names_by x r Running e work i = subst (λ v. In (held_by v (x.top ∷ x.below)) r) (sym e) i
-  names_by x r Waiting e work i = subst (λ v. In (held_by v (x.top ∷ x.below)) r) (sym e) i
+  names_by x r Running e work i = subst (λ v. In (names_from v (x.top ∷ x.below)) r) (sym e) i
+  names_by x r Waiting e work i = subst (λ v. In (names_from v (x.top ∷ x.below)) r) (sym e) i
   names_by x r (Ended k n) e (inl w) i = absurd (false≢true w)
   names_by x r (Ended k n) e (inr w) i = absurd (false≢true w)
   names_by x r Joined e (inl w) i = absurd (false≢true w)

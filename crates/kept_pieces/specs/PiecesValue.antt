@@ -13,9 +13,9 @@ pub record PiecesValue : Type 0 where
   pub lost : Bool
 
 -- what is kept, if anything is
-abbrev pub kept_of : Option PiecesValue → PiecesValue
-kept_of None = record { layers = []; stale = []; places = 0; lost = true }
-kept_of (Some p) = p
+abbrev pub pieces_of : Option PiecesValue → PiecesValue
+pieces_of None = record { layers = []; stale = []; places = 0; lost = true }
+pieces_of (Some p) = p
 
 -- whether a number is among these
 abbrev pub is_among : List ℕ → ℕ → Bool

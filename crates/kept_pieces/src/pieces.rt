@@ -56,11 +56,11 @@ pub struct Pieces {
 impl Model for Pieces {
     ghost use Rattle.std.specs.Prelude.{◌-◌, false, length, map, option_map, vec_capacity};
     ghost use Rattle.std.specs.Arc.{arc_value};
-    ghost use Rattle.kept_pieces.specs.PiecesValue.{kept_of, PiecesValue};
+    ghost use Rattle.kept_pieces.specs.PiecesValue.{pieces_of, PiecesValue};
 
     ghost Value = { PiecesValue };
 
-    ghost view = { λ p. kept_of (option_map (λ l. record { layers = map arc_value l.layers.items; stale = l.stale.items; places = vec_capacity l.stale - length l.stale.items; lost = false }) p.kept) };
+    ghost view = { λ p. pieces_of (option_map (λ l. record { layers = map arc_value l.layers.items; stale = l.stale.items; places = vec_capacity l.stale - length l.stale.items; lost = false }) p.kept) };
 }
 
 impl Pieces {

@@ -10,7 +10,7 @@ use Rattle.hh_model.specs.Effect.{row_of}
 use Rattle.hh_model.specs.Step.{asked, is_joined, is_waiting, waits}
 use Rattle.run_trace.specs.declared.entry.Kind.TheVariants.{Chunk as ChunkOf}
 use Rattle.run_trace.specs.Entry.{EntryValue}
-use Rattle.run_ledger.specs.declared.data.Heap.{Heap as Account}
+use Rattle.run_ledger.specs.declared.data.Heap.{Heap}
 use Rattle.run_ledger.specs.declared.data.Ledger.{Ledger}
 use Rattle.run_ledger.specs.declared.data.Refused.{Refused}
 use Rattle.run_ledger.specs.declared.data.Refused.TheVariants.{Collecting, Due, NotNeeded}
@@ -46,7 +46,7 @@ use Rattle.task_machine.specs.Accounts.{AreReserved, IsCounted}
 use Rattle.task_machine.specs.Fits.{IsShaped}
 use Rattle.task_machine.proofs.Added.{chunks_added, shape_added}
 use Rattle.shared_value.specs.Objects.{chunk_of, chunks_of}
-use Rattle.shared_value.specs.SharedValue.{SharedValue, accounts, totals_of, value_of}
+use Rattle.shared_value.specs.SharedValue.{SharedValue, accounts, tree_counts_of, value_of}
 use Rattle.shared_value.specs.Measured.{AreMeasured, IsMeasured, KeepsUnits}
 use Rattle.shared_value.specs.Stands.{HeapForm, IsSharedValue}
 use Rattle.shared_value.specs.Fits.{Fits, OthersFit, home_of_part}
@@ -75,7 +75,7 @@ needed false true x y h = refl
 needed false false x y h = absurd (false≢true h)
 
 -- the reserved chunk after it
-units_more : (number words : ℕ) (z : Account) → (is_small words ≡ false → z.reserved ≡ 0)
+units_more : (number words : ℕ) (z : Heap) → (is_small words ≡ false → z.reserved ≡ 0)
     → reserved_units z.reserved ++ map (λ (c : Chunk). c.units) (reserved_chunks (chunk_of (chunk_with number (chunk_units (Some words))) ∷ [])) ≡ reserved_units (with_chunk (Some words) z).reserved
 units_more number words z none = by (is_small words) refl
   where
@@ -113,7 +113,7 @@ module _ (w : SharedValue) (k : ℕ) (p : Private) (I : IsSharedValue w) (F : Fi
   asked_is : asked w.program l.machine t ≡ Some words
   asked_is = asks_is w k P I F on ∙ asks
 
-  abbrev more : Account → Account
+  abbrev more : Heap → Heap
   more = with_chunk (Some words)
 
   abbrev L : Ledger
@@ -131,7 +131,7 @@ module _ (w : SharedValue) (k : ℕ) (p : Private) (I : IsSharedValue w) (F : Fi
       (lt-ltb w.settings.chunks (units_in_use w.pool + chunk_units (Some words)) (let q : w.pool.limit ≡ w.settings.chunks = I.limit in omega (arith, full, q))))
 
   -- ---- WHERE IT IS GIVEN
-  there : (z : Account) × (slice_get l.heaps t ≡ Some z)
+  there : (z : Heap) × (slice_get l.heaps t ≡ Some z)
   there = account_is w k P I F on
 
   heap_then_is : slice_get L.heaps t ≡ Some (more there.0)
@@ -192,7 +192,7 @@ module _ (w : SharedValue) (k : ℕ) (p : Private) (I : IsSharedValue w) (F : Fi
     Q = record P { heap = g }
 
     abbrev w' : SharedValue
-    w' = entered w e w.tree pool w.homes w.sets w.tasks_out w.outputs w.steps w.end j.room
+    w' = entered w e w.tree pool w.rests w.sets w.tasks_out w.outputs w.steps w.end j.room
 
     abbrev v' : Memory
     v' = value_of w'
@@ -233,7 +233,7 @@ module _ (w : SharedValue) (k : ℕ) (p : Private) (I : IsSharedValue w) (F : Fi
     ]
 
     -- nothing moves
-    abbrev S : StandsFor v (totals_of w) l
+    abbrev S : StandsFor v (tree_counts_of w) l
     S = stands_now w I on
 
     objects_same : SameObjects v v' l L
@@ -253,13 +253,13 @@ module _ (w : SharedValue) (k : ℕ) (p : Private) (I : IsSharedValue w) (F : Fi
     notes : (u : ℕ) → NotesStay v v' u
     notes u = record { keeps = refl; kept = refl; marked = refl }
 
-    asks_units : AsksUnits (nat_lt w.settings.chunks (units_in_use w.pool + chunk_units (asked w.program l.machine t))) (totals_of w) (totals_of w') (chunk_units (asked w.program l.machine t))
+    asks_units : AsksUnits (nat_lt w.settings.chunks (units_in_use w.pool + chunk_units (asked w.program l.machine t))) (tree_counts_of w) (tree_counts_of w') (chunk_units (asked w.program l.machine t))
     asks_units =
-        subst (λ o. AsksUnits (nat_lt w.settings.chunks (units_in_use w.pool + chunk_units o)) (totals_of w) (totals_of w') (chunk_units o)) (sym asked_is)
-        (subst (λ b. AsksUnits b (totals_of w) (totals_of w') (chunk_units (Some words))) (sym (ap (λ n. nat_lt w.settings.chunks (n + chunk_units (Some words))) (used_now w I) ∙ fits_free))
+        subst (λ o. AsksUnits (nat_lt w.settings.chunks (units_in_use w.pool + chunk_units o)) (tree_counts_of w) (tree_counts_of w') (chunk_units o)) (sym asked_is)
+        (subst (λ b. AsksUnits b (tree_counts_of w) (tree_counts_of w') (chunk_units (Some words))) (sym (ap (λ n. nat_lt w.settings.chunks (n + chunk_units (Some words))) (used_now w I) ∙ fits_free))
         (T.units ∙ ap (λ n. units_in_use w.pool + n) sized, refl))
 
-    counts : CountsGo w.program w.settings l (totals_of w) (totals_of w') k (ChunkOf t)
+    counts : CountsGo w.program w.settings l (tree_counts_of w) (tree_counts_of w') k (ChunkOf t)
     counts = (record { node = λ u. refl; task_out = λ u. refl; steps = refl; outputs = refl }, asks_units)
 
     same : SameObjects v v' l (after w.program w.settings l e)
@@ -335,7 +335,7 @@ module _ (w : SharedValue) (k : ℕ) (p : Private) (I : IsSharedValue w) (F : Fi
           ap (λ ks. map object_name (objects_in (large_chunks (chunks_of ks)))) chunks_are
           ∙ (large_more K refl p.heap.chunks
           ∙ (ap (λ (z : Home). map object_name (objects_in (large_chunks z.chunks))) (sym here)
-          ∙ (H.names.large ∙ (ap (λ (z : Account). z.large) account_before ∙ (sym (chunk_large words there.0) ∙ ap (λ (z : Account). z.large) (sym account_then))))));
+          ∙ (H.names.large ∙ (ap (λ (z : Heap). z.large) account_before ∙ (sym (chunk_large words there.0) ∙ ap (λ (z : Heap). z.large) (sym account_then))))));
     }
 
     -- each of its chunks is one of before or the new one
@@ -357,8 +357,8 @@ module _ (w : SharedValue) (k : ℕ) (p : Private) (I : IsSharedValue w) (F : Fi
 
     spare_more : reserved_units spares ++ map (λ (c : Chunk). c.units) (reserved_chunks (chunk_of K ∷ [])) ≡ reserved_units spares_then
     spare_more =
-        ap₂ (λ n c. reserved_units n ++ map (λ (c : Chunk). c.units) (reserved_chunks (chunk_of (chunk_with number c) ∷ []))) (ap (λ (z : Account). z.reserved) account_before) sized
-        ∙ (units_more number words there.0 reserved_zero ∙ ap (λ (z : Account). reserved_units z.reserved) (sym account_then))
+        ap₂ (λ n c. reserved_units n ++ map (λ (c : Chunk). c.units) (reserved_chunks (chunk_of (chunk_with number c) ∷ []))) (ap (λ (z : Heap). z.reserved) account_before) sized
+        ∙ (units_more number words there.0 reserved_zero ∙ ap (λ (z : Heap). reserved_units z.reserved) (sym account_then))
 
     laid_then : AreLaidOut (after_.homes t).chunks spares_then
     laid_then =
@@ -385,7 +385,7 @@ module _ (w : SharedValue) (k : ℕ) (p : Private) (I : IsSharedValue w) (F : Fi
     home_then = record {
       names = subst (λ (z : Home). HasNames z.chunks (heap_of (rested L t) t)) (sym here') names_then;
       room = ap (λ (z : Home). z.room) here' ∙ counted_rested.room;
-      since = ap (λ (z : Home). z.since) here' ∙ (added_since ∙ (ap (λ (z : Home). z.since) (sym here) ∙ (H.since ∙ (ap (λ (z : Account). z.since) account_before ∙ (sym (chunk_since words there.0) ∙ ap (λ (z : Account). z.since) (sym account_then))))));
+      since = ap (λ (z : Home). z.since) here' ∙ (added_since ∙ (ap (λ (z : Home). z.since) (sym here) ∙ (H.since ∙ (ap (λ (z : Heap). z.since) account_before ∙ (sym (chunk_since words there.0) ∙ ap (λ (z : Heap). z.since) (sym account_then))))));
       count = λ live. ap (λ (z : Home). z.count) here' ∙ (ap (λ (z : Home). z.count) (sym here) ∙ (H.count (ap (λ (m : State). is_joined (slice_get m.tasks t)) rested_same ∙ live) ∙ ap (λ (m : State). length (row_of (slice_get m.store t))) rested_same));
       owned = λ c i. elim (chunk_cases c i) [
         | inl q ↦ owner_kept c.number t (H.owned c q)
@@ -438,7 +438,7 @@ module _ (w : SharedValue) (k : ℕ) (p : Private) (I : IsSharedValue w) (F : Fi
           | inl q ↦ subst (HomeStands after_ (rested L t)) (sym q) home_then
           | inr ne ↦
               let same : heap_of (rested L t) u ≡ heap_of (rested l t) u = ap or_fresh (with_off L t u let_go ne ∙ (heap_off u ne ∙ sym (with_off l t u let_go ne))) in
-              let rests : Rests (rested l t) u = ap (λ (z : Account). z.worker) (sym same) ∙ r in
+              let rests : Rests (rested l t) u = ap (λ (z : Heap). z.worker) (sym same) ∙ r in
               home_kept before after_ (rested l t) (rested L t) u (off_home v' t (home_of_part Q) u ne ∙ sym (off_home v t (home_of_part P) u ne)) (λ c e. owner_kept c u e) same
               (ap (λ (m : State). length (row_of (slice_get m.store u))) (heap_machine L t let_go ∙ (same_machine ∙ sym (heap_machine l t let_go))))
               (ap (λ (m : State). is_joined (slice_get m.tasks u)) (heap_machine L t let_go ∙ (same_machine ∙ sym (heap_machine l t let_go))))
@@ -446,7 +446,7 @@ module _ (w : SharedValue) (k : ℕ) (p : Private) (I : IsSharedValue w) (F : Fi
         ]
 
     none_then : (heap_of (rested L t) t).begun ≡ None
-    none_then = ap (λ (z : Account). z.begun) account_then ∙ (chunk_begun words there.0 ∙ (ap (λ o. (or_fresh o).begun) (sym there.1) ∙ account_idle w k P F on idle_part))
+    none_then = ap (λ (z : Heap). z.begun) account_then ∙ (chunk_begun words there.0 ∙ (ap (λ o. (or_fresh o).begun) (sym there.1) ∙ account_idle w k P F on idle_part))
 
     pub chunk_part : Fits w' k Q
     chunk_part =
@@ -468,7 +468,7 @@ module _ (w : SharedValue) (k : ℕ) (p : Private) (I : IsSharedValue w) (F : Fi
   full_end = Some (PoolOf (units_in_use w.pool))
 
   abbrev ended : SharedValue
-  ended = entered w full_event w.tree w.pool w.homes w.sets w.tasks_out w.outputs w.steps full_end j.room
+  ended = entered w full_event w.tree w.pool w.rests w.sets w.tasks_out w.outputs w.steps full_end j.room
 
   abbrev full_ledger : Ledger
   full_ledger = record (accounts w) { end = full_end }
@@ -482,14 +482,14 @@ module _ (w : SharedValue) (k : ℕ) (p : Private) (I : IsSharedValue w) (F : Fi
   full_notes : (u : ℕ) → NotesStay (value_of w) (value_of w) u
   full_notes u = record { keeps = refl; kept = refl; marked = refl }
 
-  full_units : AsksUnits (nat_lt w.settings.chunks (units_in_use w.pool + chunk_units (asked w.program (accounts w).machine p.task))) (totals_of w) (totals_of ended) (chunk_units (asked w.program (accounts w).machine p.task))
+  full_units : AsksUnits (nat_lt w.settings.chunks (units_in_use w.pool + chunk_units (asked w.program (accounts w).machine p.task))) (tree_counts_of w) (tree_counts_of ended) (chunk_units (asked w.program (accounts w).machine p.task))
   full_units =
       let limit : w.pool.limit ≡ w.settings.chunks = I.limit in
-      subst (λ o. AsksUnits (nat_lt w.settings.chunks (units_in_use w.pool + chunk_units o)) (totals_of w) (totals_of ended) (chunk_units o)) (sym (asked_is w k p I F on free words asks))
-      (subst (λ b. AsksUnits b (totals_of w) (totals_of ended) (chunk_units (Some words))) (sym (lt-ltb w.settings.chunks (units_in_use w.pool + chunk_units (Some words)) (omega (arith, full, limit))))
+      subst (λ o. AsksUnits (nat_lt w.settings.chunks (units_in_use w.pool + chunk_units o)) (tree_counts_of w) (tree_counts_of ended) (chunk_units o)) (sym (asked_is w k p I F on free words asks))
+      (subst (λ b. AsksUnits b (tree_counts_of w) (tree_counts_of ended) (chunk_units (Some words))) (sym (lt-ltb w.settings.chunks (units_in_use w.pool + chunk_units (Some words)) (omega (arith, full, limit))))
       (refl, refl))
 
-  full_counts : CountsGo w.program w.settings (accounts w) (totals_of w) (totals_of ended) k (ChunkOf p.task)
+  full_counts : CountsGo w.program w.settings (accounts w) (tree_counts_of w) (tree_counts_of ended) k (ChunkOf p.task)
   full_counts = (record { node = λ u. refl; task_out = λ u. refl; steps = refl; outputs = refl }, full_units)
 
   pub full_world : IsSharedValue ended
@@ -514,8 +514,8 @@ module _ (w : SharedValue) (k : ℕ) (p : Private) (I : IsSharedValue w) (F : Fi
 
   none_full : (heap_of (rested full_ledger p.task) p.task).begun ≡ None
   none_full =
-      ap (λ (z : Account). z.begun) (heaps_rested p.task)
-      ∙ (rested_view (λ (z : Account). z.begun) (λ z. refl) (accounts w) p.task ∙ account_idle w k (record p { fresh = 0 }) F on full_idle)
+      ap (λ (z : Heap). z.begun) (heaps_rested p.task)
+      ∙ (rested_view (λ (z : Heap). z.begun) (λ z. refl) (accounts w) p.task ∙ account_idle w k (record p { fresh = 0 }) F on full_idle)
 
   -- the part, whose heap may have places for other numbers of chunks
   pub full_part : (a b : ℕ) → Fits ended k (record p { fresh = 0; heap = with_places p.heap a b })

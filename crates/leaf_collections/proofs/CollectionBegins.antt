@@ -9,7 +9,7 @@ use Rattle.hh_model.specs.Effect.{row_of}
 use Rattle.hh_model.specs.Step.{is_joined, is_waiting, waits}
 use Rattle.run_trace.specs.declared.entry.Kind.TheVariants.{Begin}
 use Rattle.run_trace.specs.Entry.{EntryValue}
-use Rattle.run_ledger.specs.declared.data.Heap.{Heap as Account}
+use Rattle.run_ledger.specs.declared.data.Heap.{Heap}
 use Rattle.run_ledger.specs.declared.data.Ledger.{Ledger}
 use Rattle.run_ledger.specs.Heaps.{heap_of, or_fresh, take_of, with_heap, within}
 use Rattle.run_ledger.proofs.Machine.{heap_machine}
@@ -28,7 +28,7 @@ use Rattle.core_relation.specs.Whole.{StandsFor}
 use Rattle.core_relation.proofs.changes.Alone.{home_kept}
 use Rattle.task_machine.specs.declared.part.Begun.{Begun}
 use Rattle.task_machine.specs.declared.part.Private.{Private}
-use Rattle.shared_value.specs.SharedValue.{SharedValue, accounts, totals_of, value_of}
+use Rattle.shared_value.specs.SharedValue.{SharedValue, accounts, tree_counts_of, value_of}
 use Rattle.shared_value.specs.Measured.{KeepsUnits}
 use Rattle.shared_value.specs.Stands.{IsSharedValue}
 use Rattle.shared_value.specs.Fits.{Fits, OthersFit}
@@ -60,7 +60,7 @@ module _ (w : SharedValue) (k : ℕ) (p : Private) (I : IsSharedValue w) (F : Fi
   abbrev v : Memory
   v = value_of w
 
-  abbrev begun_with : Account → Account
+  abbrev begun_with : Heap → Heap
   begun_with z = record z { begun = Some (take_of l.machine z); survivors = within l t }
 
   abbrev L : Ledger
@@ -69,7 +69,7 @@ module _ (w : SharedValue) (k : ℕ) (p : Private) (I : IsSharedValue w) (F : Fi
   on : l.end ≡ None
   on = entry_on w e free
 
-  pub there : (z : Account) × (slice_get l.heaps t ≡ Some z)
+  pub there : (z : Heap) × (slice_get l.heaps t ≡ Some z)
   there = account_is w k P I F on
 
   pub heap_then_is : slice_get L.heaps t ≡ Some (begun_with there.0)
@@ -108,7 +108,7 @@ module _ (w : SharedValue) (k : ℕ) (p : Private) (I : IsSharedValue w) (F : Fi
     Q = record P { heap = g; begun = Some b }
 
     abbrev w' : SharedValue
-    w' = entered w e w.tree pool w.homes w.sets w.tasks_out w.outputs w.steps w.end j.room
+    w' = entered w e w.tree pool w.rests w.sets w.tasks_out w.outputs w.steps w.end j.room
 
     abbrev v' : Memory
     v' = value_of w'
@@ -138,7 +138,7 @@ module _ (w : SharedValue) (k : ℕ) (p : Private) (I : IsSharedValue w) (F : Fi
     ]
 
     -- NOTHING MOVES
-    abbrev S : StandsFor v (totals_of w) l
+    abbrev S : StandsFor v (tree_counts_of w) l
     S = stands_now w I on
 
     pub same : SameObjects v v' l L
@@ -158,7 +158,7 @@ module _ (w : SharedValue) (k : ℕ) (p : Private) (I : IsSharedValue w) (F : Fi
     pub notes : (u : ℕ) → NotesStay v v' u
     notes u = record { keeps = refl; kept = refl; marked = refl }
 
-    pub counts : CountsGo w.program w.settings l (totals_of w) (totals_of w') k (Begin t)
+    pub counts : CountsGo w.program w.settings l (tree_counts_of w) (tree_counts_of w') k (Begin t)
     counts = (
       record { node = λ u. refl; task_out = λ u. refl; steps = refl; outputs = refl },
       T.numbers.numbered.units ∙ ap (λ n. units_in_use w.pool + n) (T.numbers.count ∙ sym (take_is w k p I F)),

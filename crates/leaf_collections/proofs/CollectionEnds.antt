@@ -12,7 +12,7 @@ use Rattle.hh_model.specs.Step.{is_running, is_waiting, runs}
 use Rattle.hh_model.specs.declared.data.State.{State}
 use Rattle.run_trace.specs.Entry.{EntryValue}
 use Rattle.run_trace.specs.declared.entry.Kind.TheVariants.{End}
-use Rattle.run_ledger.specs.declared.data.Heap.{Heap as Account}
+use Rattle.run_ledger.specs.declared.data.Heap.{Heap}
 use Rattle.run_ledger.specs.declared.data.Ledger.{Ledger}
 use Rattle.run_ledger.specs.Heaps.{collected, heap_of, or_fresh, with_heap, with_heap_at}
 use Rattle.run_ledger.specs.Journals.{is_legal}
@@ -56,7 +56,7 @@ use Rattle.core_entry_laws.proofs.whole.Past.{running_idle}
 use Rattle.task_machine.specs.declared.part.Private.{Private}
 use Rattle.task_homes.specs.declared.task_at_rest.Rest.{Rest}
 use Rattle.shared_value.specs.Objects.{chunk_of, chunks_of}
-use Rattle.shared_value.specs.SharedValue.{SharedValue, accounts, home_in, rest_at, totals_of, value_of}
+use Rattle.shared_value.specs.SharedValue.{SharedValue, accounts, home_in, rest_at, tree_counts_of, value_of}
 use Rattle.shared_value.specs.Measured.{KeepsUnits, RestsAreMeasured}
 use Rattle.shared_value.specs.Stands.{IsSharedValue}
 use Rattle.shared_value.specs.Fits.{Fits, OthersFit, home_of_part, part_of}
@@ -76,10 +76,10 @@ use Rattle.shared_value.proofs.BeforeTheEnd.{stands_now}
 use Rattle.leaf_collections.specs.LeafEnd.{FitsCopied, end_event, ended}
 
 -- a heap that a worker holds is there
-held_there : (hs : List Account) (t k : ℕ) → (or_fresh (slice_get hs t)).worker ≡ Some k → t < length hs
+held_there : (hs : List Heap) (t k : ℕ) → (or_fresh (slice_get hs t)).worker ≡ Some k → t < length hs
 held_there hs t k = by (slice_get hs t) refl
   where
-    by : (o : Option Account) → slice_get hs t ≡ o → (or_fresh o).worker ≡ Some k → t < length hs
+    by : (o : Option Heap) → slice_get hs t ≡ o → (or_fresh o).worker ≡ Some k → t < length hs
     by None e h = absurd cc
     by (Some x) e h = got_within hs t x e
 
@@ -108,17 +108,17 @@ module _ (w : SharedValue) (k : ℕ) (p : Private) (moved : Moved) (I : IsShared
   C : CopyFits w.program w.settings t F.home (home_of_part (ended p)) (new_address moved.moved.items) v l
   C = subst (CopyFits w.program w.settings t F.home (home_of_part (ended p)) (new_address moved.moved.items) v) (aside_is l going) F.copy
 
-  S : StandsFor v (totals_of w) l
+  S : StandsFor v (tree_counts_of w) l
   S = stands_now w I on
 
   -- its task has been made
-  pub has_home : p.task < length w.homes
+  pub has_home : p.task < length w.rests
   has_home =
       let T : SoundLedger l = legal_sound w.program w.settings w.journal.items I.legal in
       let held : t < length l.heaps = held_there l.heaps t k F.held in
       let many : length l.heaps ≡ length l.machine.tasks = T.lengths in
       let x = got_some l.machine.tasks t (omega (arith, held, many)) in
-      subst (λ n. t < n) (sym I.made) (got_within w.tree t (as_node (heap_of l t).worker x.0) (S.totals.node t ∙ ap (option_map (as_node (heap_of l t).worker)) x.1))
+      subst (λ n. t < n) (sym I.made) (got_within w.tree t (as_node (heap_of l t).worker x.0) (S.tree_counts.node t ∙ ap (option_map (as_node (heap_of l t).worker)) x.1))
 
   sources_are : sources v t ≡ ss
   sources_are = noted_sources (slice_get w.sets t)
@@ -138,15 +138,15 @@ module _ (w : SharedValue) (k : ℕ) (p : Private) (moved : Moved) (I : IsShared
       let c = S.homes.contents (own l Q.name) lies.0 Q.rests lies.1 in
       let same : Q.object ≡ c.0 = same_Some Q.object c.0 (sym Q.is ∙ (ap (object_at l.machine.store) (sym lies.2.name) ∙ c.1)) in
       let long : length lies.0.refs ≡ length Q.object.refs = refs_long (Place v l) lies.0.refs c.0.refs c.2.refs ∙ ap (λ (z : Object). length z.refs) (sym same) in
-      by Q lies.0 lies.2.at long (rest_at w.homes (own l Q.name)) refl lies.1
+      by Q lies.0 lies.2.at long (rest_at w.rests (own l Q.name)) refl lies.1
     where
-      by : (Q : IsSource v l t s) (o : Located) → o.at ≡ s.object → length o.refs ≡ length Q.object.refs → (r : Option Rest) → rest_at w.homes (own l Q.name) ≡ r → In (objects_in (home_in r).chunks) o → At s
+      by : (Q : IsSource v l t s) (o : Located) → o.at ≡ s.object → length o.refs ≡ length Q.object.refs → (r : Option Rest) → rest_at w.rests (own l Q.name) ≡ r → In (objects_in (home_in r).chunks) o → At s
       by Q o e long None q j = absurd j
       by Q o e long (Some r) q j =
           let y = seen_object r.heap.chunks o (I.heaps (own l Q.name) r q).shaped.apart (subst (λ cs. In (objects_in cs) o) (home_chunks r) j) in
           let born : (cell_of r.heap.chunks s.object).mark ≡ Born o.birth = ap (λ z. (cell_of r.heap.chunks z).mark) (sym e) ∙ y.mark in
           let refs : refs_in (heaps_of w) s.object ≡ o.refs =
-          ap (λ z. refs_for w.homes z s.object) Q.place.chunk
+          ap (λ z. refs_for w.rests z s.object) Q.place.chunk
           ∙ (ap (λ z. refs_of_rest z s.object) q
           ∙ (ap (λ m. (marked_object m (cell_of r.heap.chunks s.object)).refs) born ∙ sym (ap (λ (z : Located). z.refs) y.is ∙ ap (λ z. (cell_of r.heap.chunks z).refs) e))) in
           let f : s.field < length Q.object.refs = Q.field in
@@ -182,7 +182,7 @@ module _ (w : SharedValue) (k : ℕ) (p : Private) (moved : Moved) (I : IsShared
     led = lead_all moved.moved.items ss (heaps_of w) Good (are_once ss once) (λ s i. (at s i).place) formed
 
     abbrev pub w' : SharedValue
-    w' = entered w e w.tree pool H'.homes w.sets w.tasks_out w.outputs w.steps w.end room
+    w' = entered w e w.tree pool H'.rests w.sets w.tasks_out w.outputs w.steps w.end room
 
     abbrev v' : Memory
     v' = value_of w'
@@ -200,7 +200,7 @@ module _ (w : SharedValue) (k : ℕ) (p : Private) (moved : Moved) (I : IsShared
     held_then : (heap_of L t).worker ≡ Some k
     held_then = ap (λ o. (or_fresh o).worker) (with_at l t (collected l.machine)) ∙ (by (slice_get l.heaps t) ∙ F.held)
       where
-        by : (o : Option Account) → (or_fresh (heap_then (collected l.machine) o)).worker ≡ (or_fresh o).worker
+        by : (o : Option Heap) → (or_fresh (heap_then (collected l.machine) o)).worker ≡ (or_fresh o).worker
         by None = refl
         by (Some z) = refl
 
@@ -248,7 +248,7 @@ module _ (w : SharedValue) (k : ℕ) (p : Private) (moved : Moved) (I : IsShared
       others = λ u ne. record { keeps = refl; kept = refl; marked = refl };
     }
 
-    counts : CountsGo w.program w.settings l (totals_of w) (totals_of w') k (End t moved.taken moved.given moved.left)
+    counts : CountsGo w.program w.settings l (tree_counts_of w) (tree_counts_of w') k (End t moved.taken moved.given moved.left)
     counts = (
       record { node = λ u. refl; task_out = λ u. refl; steps = refl; outputs = refl },
       (let g : units_in_use pool + units_kept w.pool moved.back.items ≡ units_in_use w.pool = G.units in let b : units_kept w.pool moved.back.items ≡ moved.given = F.back.units in omega (arith, g, b)),
@@ -256,19 +256,19 @@ module _ (w : SharedValue) (k : ℕ) (p : Private) (moved : Moved) (I : IsShared
     )
 
     -- WHAT STANDS
-    stands_so : StandsForAll v'' (totals_of w') L
-    stands_so = ends_stand_for w.program w.settings w.journal.items I.form I.legal v v'' (totals_of w) (totals_of w') k t moved.taken moved.given moved.left F.home (home_of_part (ended p)) f free I.stands C ends refl notes counts
+    stands_so : StandsForAll v'' (tree_counts_of w') L
+    stands_so = ends_stand_for w.program w.settings w.journal.items I.form I.legal v v'' (tree_counts_of w) (tree_counts_of w') k t moved.taken moved.given moved.left F.home (home_of_part (ended p)) f free I.stands C ends refl notes counts
 
     legal' : is_legal w.program w.settings (w.journal.items ++ e ∷ []) ≡ true
     legal' = legal_then w.program w.settings w.journal.items e I.legal free
 
     accounts' : accounts w' ≡ L
-    accounts' = accounts_are w e I free w.tree pool H'.homes w.sets w.tasks_out w.outputs w.steps w.end room
+    accounts' = accounts_are w e I free w.tree pool H'.rests w.sets w.tasks_out w.outputs w.steps w.end room
 
     on' : L.end ≡ None
     on' = by (slice_get l.heaps t) ∙ on
       where
-        by : (o : Option Account) → (with_heap_at l t (collected l.machine) o).end ≡ l.end
+        by : (o : Option Heap) → (with_heap_at l t (collected l.machine) o).end ≡ l.end
         by None = refl
         by (Some h) = refl
 
@@ -284,11 +284,11 @@ module _ (w : SharedValue) (k : ℕ) (p : Private) (moved : Moved) (I : IsShared
     waiters : (u : ℕ) → is_waiting (slice_get L.machine.tasks u) ≡ true → Rests L u
     waiters = subst (λ (z : Ledger). (u : ℕ) → is_waiting (slice_get z.machine.tasks u) ≡ true → Rests z u) accounts' (waiters_are_free w.program w.settings (w.journal.items ++ e ∷ []) legal')
 
-    stands_now_so : StandsFor v'' (totals_of w') L
-    stands_now_so = subst (λ o. StandsFor v'' (totals_of w') (by_end L o)) on' stands_so
+    stands_now_so : StandsFor v'' (tree_counts_of w') L
+    stands_now_so = subst (λ o. StandsFor v'' (tree_counts_of w') (by_end L o)) on' stands_so
 
-    stands_then : StandsForAll v' (totals_of w') L
-    stands_then = subst (λ o. StandsFor v' (totals_of w') (by_end L o)) (sym on') (stands_for_held v'' (λ u. v'.homes u) L same waiters (totals_of w') stands_now_so)
+    stands_then : StandsForAll v' (tree_counts_of w') L
+    stands_then = subst (λ o. StandsFor v' (tree_counts_of w') (by_end L o)) (sym on') (stands_for_held v'' (λ u. v'.homes u) L same waiters (tree_counts_of w') stands_now_so)
 
     -- THE UNITS
     own_apart : (c : ChunkValue) → In p.heap.chunks c → IsFresh moved.back.items c.number
@@ -297,11 +297,11 @@ module _ (w : SharedValue) (k : ℕ) (p : Private) (moved : Moved) (I : IsShared
     units_stay : (u : ℕ) → (u ≡ t → ⊥) → KeepsUnits w.pool pool u
     units_stay u ne = given_keeps w.pool pool moved.back.items t u G F.back.owned ne
 
-    measured_then : RestsAreMeasured pool H'.homes w.tasks_out
-    measured_then u r is none = measured_kept w.pool pool u r.heap.chunks (units_stay u (λ q. none k ((S.totals.task_out k u).1 (ap (λ z. (heap_of l z).worker) q ∙ F.held)))) (led.measured u r (unheld_rests w u I on none) is)
+    measured_then : RestsAreMeasured pool H'.rests w.tasks_out
+    measured_then u r is none = measured_kept w.pool pool u r.heap.chunks (units_stay u (λ q. none k ((S.tree_counts.task_out k u).1 (ap (λ z. (heap_of l z).worker) q ∙ F.held)))) (led.measured u r (unheld_rests w u I on none) is)
 
     pub end_world : IsSharedValue w'
-    end_world = entered_world w e I free w.tree pool H'.homes w.sets w.tasks_out w.outputs w.steps w.end room (led.count ∙ I.made) I.noted refl G.limit stands_then led.form measured_then
+    end_world = entered_world w e I free w.tree pool H'.rests w.sets w.tasks_out w.outputs w.steps w.end room (led.count ∙ I.made) I.noted refl G.limit stands_then led.form measured_then
 
     -- PARTS
     held_value : (q : Part) → FitsValue w.program w.settings q v'' L → FitsValue w.program w.settings q v' L
@@ -309,7 +309,7 @@ module _ (w : SharedValue) (k : ℕ) (p : Private) (moved : Moved) (I : IsShared
 
     pub end_fits : Fits w' k (ended p)
     end_fits = record {
-      held = held_on w e I free w.tree pool H'.homes w.sets w.tasks_out w.outputs w.steps w.end room end_world k t refl F.held;
+      held = held_on w e I free w.tree pool H'.rests w.sets w.tasks_out w.outputs w.steps w.end room end_world k t refl F.held;
       fits = subst (FitsValue w.program w.settings (part_of w.settings (ended p)) v') (sym accounts')
           (held_value (part_of w.settings (ended p))
           (subst (λ n. FitsValue w.program w.settings (part_for w.settings t (home_of_part (ended p)) n) v'' L) (sym F.fresh)
@@ -325,7 +325,7 @@ module _ (w : SharedValue) (k : ℕ) (p : Private) (moved : Moved) (I : IsShared
 
     pub end_others : OthersFit w w' k
     end_others u q ne Q =
-        part_fits w e I free w.tree pool H'.homes w.sets w.tasks_out w.outputs w.steps w.end room end_world u q q refl Q refl refl refl Q.form (part_kept w.pool pool q (units_stay q.task (apart u q ne Q)) Q.measured)
+        part_fits w e I free w.tree pool H'.rests w.sets w.tasks_out w.outputs w.steps w.end room end_world u q q refl Q refl refl refl Q.form (part_kept w.pool pool q (units_stay q.task (apart u q ne Q)) Q.measured)
         (held_value (part_of w.settings q)
         (ends_leave w.program w.settings w.journal.items I.legal v v'' k t moved.taken moved.given moved.left F.home (home_of_part (ended p)) f free C ends (part_of w.settings q)
         (λ same'. apart u q ne Q (sym same')) Q.fits))
@@ -340,10 +340,10 @@ module _ (w : SharedValue) (k : ℕ) (p : Private) (moved : Moved) (I : IsShared
       given = subst (λ z. AreGiven z pool moved.back.items) pool_same G
 
       abbrev pub entered_so : SharedValue
-      entered_so = record w { pool = pool; homes = X.homes; journal = j }
+      entered_so = record w { pool = pool; rests = X.rests; journal = j }
 
       so : entered_so ≡ w' pool given once (w.journal.room - 1)
-      so = ap₂ (λ hs z. record w { pool = pool; homes = hs; journal = z }) (ap (λ (h : Resting). h.homes) is) made
+      so = ap₂ (λ hs z. record w { pool = pool; rests = hs; journal = z }) (ap (λ (h : Resting). h.rests) is) made
 
       pub world_so : IsSharedValue entered_so
       world_so = subst IsSharedValue (sym so) (end_world pool given once (w.journal.room - 1))

@@ -8,7 +8,7 @@ use Rattle.hh_model.specs.Effect.{row_of}
 use Rattle.hh_model.specs.Step.{is_joined}
 use Rattle.run_trace.specs.declared.entry.Kind.TheVariants.{PutOff}
 use Rattle.run_trace.specs.Entry.{EntryValue}
-use Rattle.run_ledger.specs.declared.data.Heap.{Heap as Account}
+use Rattle.run_ledger.specs.declared.data.Heap.{Heap}
 use Rattle.run_ledger.specs.declared.data.Ledger.{Ledger}
 use Rattle.run_ledger.specs.declared.data.Refused.TheVariants.{PoolEnough}
 use Rattle.run_ledger.specs.Heaps.{heap_of, in_use, let_go, or_fresh, with_heap}
@@ -32,7 +32,7 @@ use Rattle.core_relation.specs.Whole.{BegunBy, StandsFor}
 use Rattle.core_relation.proofs.changes.Alone.{home_kept}
 use Rattle.core_relation.proofs.changes.With.{at_home, off_home}
 use Rattle.task_machine.specs.declared.part.Private.{Private}
-use Rattle.shared_value.specs.SharedValue.{SharedValue, accounts, totals_of, value_of}
+use Rattle.shared_value.specs.SharedValue.{SharedValue, accounts, tree_counts_of, value_of}
 use Rattle.shared_value.specs.Stands.{HeapForm, IsSharedValue}
 use Rattle.shared_value.specs.Fits.{Fits, OthersFit, home_of_part}
 use Rattle.shared_value.specs.Causes.{first_cause, or_else}
@@ -78,7 +78,7 @@ reset_form h F = record {
   spare = F.spare;
 }
 
-abbrev counted_anew : Account → Account
+abbrev counted_anew : Heap → Heap
 counted_anew z = record z { since = 0 }
 
 module _ (w : SharedValue) (k : ℕ) (p : Private) (I : IsSharedValue w) (F : Fits w k (record p { fresh = 0 })) (free : refused w (record { worker = k; kind = PutOff p.task }) ≡ None) (j : RoomyValue EntryValue) where
@@ -104,12 +104,12 @@ module _ (w : SharedValue) (k : ℕ) (p : Private) (I : IsSharedValue w) (F : Fi
   v = value_of w
 
   abbrev w' : SharedValue
-  w' = entered w e w.tree w.pool w.homes w.sets w.tasks_out w.outputs w.steps w.end j.room
+  w' = entered w e w.tree w.pool w.rests w.sets w.tasks_out w.outputs w.steps w.end j.room
 
   on : l.end ≡ None
   on = entry_on w e free
 
-  there : (z : Account) × (slice_get l.heaps t ≡ Some z)
+  there : (z : Heap) × (slice_get l.heaps t ≡ Some z)
   there = account_is w k P I F on
 
   heap_then_is : slice_get L.heaps t ≡ Some (counted_anew there.0)
@@ -130,7 +130,7 @@ module _ (w : SharedValue) (k : ℕ) (p : Private) (I : IsSharedValue w) (F : Fi
   same_machine : L.machine ≡ l.machine
   same_machine = heap_machine l t counted_anew
 
-  abbrev S : StandsFor v (totals_of w) l
+  abbrev S : StandsFor v (tree_counts_of w) l
   S = stands_now w I on
 
   same : SameObjects v v l L
@@ -150,7 +150,7 @@ module _ (w : SharedValue) (k : ℕ) (p : Private) (I : IsSharedValue w) (F : Fi
   notes : (u : ℕ) → NotesStay v v u
   notes u = record { keeps = refl; kept = refl; marked = refl }
 
-  counts : CountsGo w.program w.settings l (totals_of w) (totals_of w') k (PutOff t)
+  counts : CountsGo w.program w.settings l (tree_counts_of w) (tree_counts_of w') k (PutOff t)
   counts = (record { node = λ u. refl; task_out = λ u. refl; steps = refl; outputs = refl }, refl, refl)
 
   pub put_off_world : IsSharedValue w'
@@ -193,15 +193,15 @@ module _ (w : SharedValue) (k : ℕ) (p : Private) (I : IsSharedValue w) (F : Fi
   home_then = record {
     names = subst (λ (z : Home). HasNames z.chunks (heap_of (rested L t) t)) (sym here')
         (subst (HasNames (home_of_part Q).chunks) (sym account_same) (record { small = names.small; large = names.large }));
-    room = ap (λ (z : Home). z.room) here' ∙ (ap (λ (z : Home). z.room) (sym here) ∙ (H.room ∙ sym (ap (λ (z : Account). z.room) account_same)));
-    since = ap (λ (z : Home). z.since) here' ∙ sym (ap (λ (z : Account). z.since) account_same);
+    room = ap (λ (z : Home). z.room) here' ∙ (ap (λ (z : Home). z.room) (sym here) ∙ (H.room ∙ sym (ap (λ (z : Heap). z.room) account_same)));
+    since = ap (λ (z : Home). z.since) here' ∙ sym (ap (λ (z : Heap). z.since) account_same);
     count = λ live. ap (λ (z : Home). z.count) here' ∙ (ap (λ (z : Home). z.count) (sym here) ∙ (H.count (ap (λ (m : State). is_joined (slice_get m.tasks t)) rested_same ∙ live) ∙ ap (λ (m : State). length (row_of (slice_get m.store t))) rested_same));
     owned = λ c i. H.owned c (was c i);
     inside = λ c o i q. H.inside c o (was c i) q;
     once = λ o q a b e. H.once o q (object_was o a) (object_was q b) e;
     named = λ o q a b e. H.named o q (object_was o a) (object_was q b) e;
     laid = subst (λ (z : Home). AreLaidOut z.chunks (heap_of (rested L t) t).reserved) (sym here')
-        (subst (λ (z : Account). AreLaidOut (home_of_part Q).chunks z.reserved) (sym account_same) (subst (λ (z : Home). AreLaidOut z.chunks (heap_of (rested l t) t).reserved) here H.laid));
+        (subst (λ (z : Heap). AreLaidOut (home_of_part Q).chunks z.reserved) (sym account_same) (subst (λ (z : Home). AreLaidOut z.chunks (heap_of (rested l t) t).reserved) here H.laid));
   }
 
   part_same : SameObjects before after_ (rested l t) (rested L t)
@@ -229,7 +229,7 @@ module _ (w : SharedValue) (k : ℕ) (p : Private) (I : IsSharedValue w) (F : Fi
         | inl q ↦ subst (HomeStands after_ (rested L t)) (sym q) home_then
         | inr ne ↦
             let same : heap_of (rested L t) u ≡ heap_of (rested l t) u = ap or_fresh (with_off L t u let_go ne ∙ (heap_off u ne ∙ sym (with_off l t u let_go ne))) in
-            let rests : Rests (rested l t) u = ap (λ (z : Account). z.worker) (sym same) ∙ r in
+            let rests : Rests (rested l t) u = ap (λ (z : Heap). z.worker) (sym same) ∙ r in
             home_kept before after_ (rested l t) (rested L t) u (off_home v t (home_of_part Q) u ne ∙ sym (off_home v t (home_of_part P) u ne)) (λ c e. e) same
             (ap (λ (m : State). length (row_of (slice_get m.store u))) (heap_machine L t let_go ∙ (same_machine ∙ sym (heap_machine l t let_go))))
             (ap (λ (m : State). is_joined (slice_get m.tasks u)) (heap_machine L t let_go ∙ (same_machine ∙ sym (heap_machine l t let_go))))
@@ -242,7 +242,7 @@ module _ (w : SharedValue) (k : ℕ) (p : Private) (I : IsSharedValue w) (F : Fi
       none_begun w k P F on (on_due w.settings w.program l t (refused_if (is_pool_enough w.settings l t) (PoolEnough (in_use l)) None)) (entry_tells w.program w.settings l e (ap is_none free)).2
 
   none_then : (heap_of (rested L t) t).begun ≡ None
-  none_then = ap (λ (z : Account). z.begun) account_same ∙ (rested_view (λ (z : Account). z.begun) (λ z. refl) l t ∙ account_idle w k P F on idle_part)
+  none_then = ap (λ (z : Heap). z.begun) account_same ∙ (rested_view (λ (z : Heap). z.begun) (λ z. refl) l t ∙ account_idle w k P F on idle_part)
 
   pub put_off_part : Fits w' k Q
   put_off_part = quiet_own w e I free tt (λ u m. m) w.pool w.end j.room same notes counts refl (all_kept w.pool) k p (reset p.heap) p.begun F (reset_form p.heap F.form) F.measured part_same

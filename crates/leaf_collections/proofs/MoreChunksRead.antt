@@ -3,7 +3,7 @@ use Rattle.std.proofs.Common.{◌≡◌, ◌⊎◌, ℕ, zero, suc, ◌-◌, ◌
 use Rattle.std.proofs.lemmas.Bool.{cases_lt, cond-false, leb-false}
 use Rattle.std.proofs.lemmas.List.{length_push}
 use Rattle.hh_model.specs.declared.data.Name.{Name}
-use Rattle.run_ledger.specs.declared.data.Heap.{Heap as Account}
+use Rattle.run_ledger.specs.declared.data.Heap.{Heap}
 use Rattle.run_ledger.specs.Heaps.{chunk_words, is_small, units}
 use Rattle.run_ledger.specs.Entries.{chunk_units, with_chunk}
 use Rattle.object_layout.specs.Chunks.{chunk_at}
@@ -120,7 +120,7 @@ small_one number = record { number = number; size = 1024; cells = [] }
 abbrev pub chunk_with : ℕ → ℕ → ChunkValue
 chunk_with number u = record { number = number; size = 1024 * u; cells = [] }
 
-module _ (h : LeafHeapValue) (l : Account) (S : IsShaped h) (C : IsCounted h l) (number slots spare : ℕ) where
+module _ (h : LeafHeapValue) (l : Heap) (S : IsShaped h) (C : IsCounted h l) (number slots spare : ℕ) where
   small_counted : IsCounted (with_places (added h (small_one number)) slots spare) (record l { chunks = l.chunks ++ [] ∷ []; room = 1024 })
   small_counted = record {
     chunks = small_more (small_one number) refl h.chunks refl ∙ ap (λ xs. xs ++ [] ∷ []) C.chunks;
@@ -169,28 +169,28 @@ module _ (h : LeafHeapValue) (l : Account) (S : IsShaped h) (C : IsCounted h l) 
           subst (λ n. IsCounted (with_places (added h (chunk_with number u)) slots spare) (record l { reserved = n })) (sym is) (large_counted u two)
 
 -- what of an account a chunk leaves
-pub chunk_begun : (words : ℕ) (h : Account) → (with_chunk (Some words) h).begun ≡ h.begun
+pub chunk_begun : (words : ℕ) (h : Heap) → (with_chunk (Some words) h).begun ≡ h.begun
 chunk_begun words h = by (is_small words)
   where
     by : (b : Bool) → (cond b (record h { chunks = h.chunks ++ [] ∷ []; room = chunk_words }) (record h { reserved = chunk_units (Some words) })).begun ≡ h.begun
     by true = refl
     by false = refl
 
-pub chunk_since : (words : ℕ) (h : Account) → (with_chunk (Some words) h).since ≡ h.since
+pub chunk_since : (words : ℕ) (h : Heap) → (with_chunk (Some words) h).since ≡ h.since
 chunk_since words h = by (is_small words)
   where
     by : (b : Bool) → (cond b (record h { chunks = h.chunks ++ [] ∷ []; room = chunk_words }) (record h { reserved = chunk_units (Some words) })).since ≡ h.since
     by true = refl
     by false = refl
 
-pub chunk_large : (words : ℕ) (h : Account) → (with_chunk (Some words) h).large ≡ h.large
+pub chunk_large : (words : ℕ) (h : Heap) → (with_chunk (Some words) h).large ≡ h.large
 chunk_large words h = by (is_small words)
   where
     by : (b : Bool) → (cond b (record h { chunks = h.chunks ++ [] ∷ []; room = chunk_words }) (record h { reserved = chunk_units (Some words) })).large ≡ h.large
     by true = refl
     by false = refl
 
-pub chunk_held : (words : ℕ) (h : Account) → (with_chunk (Some words) h).worker ≡ h.worker
+pub chunk_held : (words : ℕ) (h : Heap) → (with_chunk (Some words) h).worker ≡ h.worker
 chunk_held words h = by (is_small words)
   where
     by : (b : Bool) → (cond b (record h { chunks = h.chunks ++ [] ∷ []; room = chunk_words }) (record h { reserved = chunk_units (Some words) })).worker ≡ h.worker

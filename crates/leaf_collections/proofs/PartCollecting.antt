@@ -8,7 +8,7 @@ use Rattle.hh_model.specs.Effect.{row_of}
 use Rattle.hh_model.specs.Step.{is_joined, is_waiting}
 use Rattle.run_trace.specs.declared.entry.Kind.TheVariants.{Begin}
 use Rattle.run_trace.specs.Entry.{EntryValue}
-use Rattle.run_ledger.specs.declared.data.Heap.{Heap as Account}
+use Rattle.run_ledger.specs.declared.data.Heap.{Heap}
 use Rattle.run_ledger.specs.declared.data.Ledger.{Ledger}
 use Rattle.run_ledger.specs.Heaps.{heap_of, let_go, or_fresh, take_of, with_heap, within}
 use Rattle.run_ledger.proofs.Machine.{heap_machine}
@@ -74,7 +74,7 @@ module _ (w : SharedValue) (k : ℕ) (p : Private) (I : IsSharedValue w) (F : Fi
   abbrev v : Memory
   v = value_of w
 
-  abbrev begun_with : Account → Account
+  abbrev begun_with : Heap → Heap
   begun_with z = record z { begun = Some (take_of l.machine z); survivors = within l t }
 
   abbrev L : Ledger
@@ -83,7 +83,7 @@ module _ (w : SharedValue) (k : ℕ) (p : Private) (I : IsSharedValue w) (F : Fi
   on : l.end ≡ None
   on = entry_on w e free
 
-  abbrev there : (z : Account) × (slice_get l.heaps t ≡ Some z)
+  abbrev there : (z : Heap) × (slice_get l.heaps t ≡ Some z)
   there = first.there w k p I F free
 
   heap_then_is : slice_get L.heaps t ≡ Some (begun_with there.0)
@@ -110,7 +110,7 @@ module _ (w : SharedValue) (k : ℕ) (p : Private) (I : IsSharedValue w) (F : Fi
     Q = record P { heap = g; begun = Some b }
 
     abbrev w' : SharedValue
-    w' = entered w e w.tree pool w.homes w.sets w.tasks_out w.outputs w.steps w.end j.room
+    w' = entered w e w.tree pool w.rests w.sets w.tasks_out w.outputs w.steps w.end j.room
 
     abbrev v' : Memory
     v' = value_of w'
@@ -165,19 +165,19 @@ module _ (w : SharedValue) (k : ℕ) (p : Private) (I : IsSharedValue w) (F : Fi
     home_then = record {
       names = subst (λ (z : Home). HasNames z.chunks (heap_of (rested L t) t)) (sym here')
           (subst (HasNames (home_of_part Q).chunks) (sym account_same) (record { small = names.small; large = names.large }));
-      room = ap (λ (z : Home). z.room) here' ∙ (ap (λ (z : Home). z.room) (sym here) ∙ (H.room ∙ sym (ap (λ (z : Account). z.room) account_same)));
-      since = ap (λ (z : Home). z.since) here' ∙ (ap (λ (z : Home). z.since) (sym here) ∙ (H.since ∙ sym (ap (λ (z : Account). z.since) account_same)));
+      room = ap (λ (z : Home). z.room) here' ∙ (ap (λ (z : Home). z.room) (sym here) ∙ (H.room ∙ sym (ap (λ (z : Heap). z.room) account_same)));
+      since = ap (λ (z : Home). z.since) here' ∙ (ap (λ (z : Home). z.since) (sym here) ∙ (H.since ∙ sym (ap (λ (z : Heap). z.since) account_same)));
       count = λ live. ap (λ (z : Home). z.count) here' ∙ (ap (λ (z : Home). z.count) (sym here) ∙ (H.count (ap (λ (m : State). is_joined (slice_get m.tasks t)) rested_same ∙ live) ∙ ap (λ (m : State). length (row_of (slice_get m.store t))) rested_same));
       owned = λ c i. owner_kept c.number t (H.owned c (was c i));
       inside = λ c o i q. H.inside c o (was c i) q;
       once = λ o q a b z. H.once o q (object_was o a) (object_was q b) z;
       named = λ o q a b z. H.named o q (object_was o a) (object_was q b) z;
       laid = subst (λ (z : Home). AreLaidOut z.chunks (heap_of (rested L t) t).reserved) (sym here')
-          (subst (λ (z : Account). AreLaidOut (home_of_part Q).chunks z.reserved) (sym account_same) (subst (λ (z : Home). AreLaidOut z.chunks (heap_of (rested l t) t).reserved) here H.laid));
+          (subst (λ (z : Heap). AreLaidOut (home_of_part Q).chunks z.reserved) (sym account_same) (subst (λ (z : Home). AreLaidOut z.chunks (heap_of (rested l t) t).reserved) here H.laid));
     }
 
     idle_before : (heap_of (rested l t) t).begun ≡ None
-    idle_before = rested_view (λ (z : Account). z.begun) (λ z. refl) l t ∙ account_idle w k P F on (begin_idle w k p I F free)
+    idle_before = rested_view (λ (z : Heap). z.begun) (λ z. refl) l t ∙ account_idle w k P F on (begin_idle w k p I F free)
 
     part_same : SameObjects before after_ (rested l t) (rested L t)
     part_same = record {
@@ -212,7 +212,7 @@ module _ (w : SharedValue) (k : ℕ) (p : Private) (I : IsSharedValue w) (F : Fi
         begun_at u q = elim (cases_eq u t) [
           | inl z ↦
               none_some (heap_of (rested l t) t).begun (take_of l.machine (heap_of (rested l t) t)) idle_before
-              (sym (ap (λ (y : Account). y.begun) account_same) ∙ (ap (λ y. (heap_of (rested L t) y).begun) (sym z) ∙ (q ∙ ap (λ y. (heap_of (rested l t) y).begun) z)))
+              (sym (ap (λ (y : Heap). y.begun) account_same) ∙ (ap (λ y. (heap_of (rested L t) y).begun) (sym z) ∙ (q ∙ ap (λ y. (heap_of (rested l t) y).begun) z)))
           | inr ne ↦ ap (λ (y : Home). y.begun) (off_home v' t (home_of_part Q) u ne ∙ sym (off_home v t (home_of_part P) u ne))
         ]
 
@@ -221,7 +221,7 @@ module _ (w : SharedValue) (k : ℕ) (p : Private) (I : IsSharedValue w) (F : Fi
           | inl q ↦ subst (HomeStands after_ (rested L t)) (sym q) home_then
           | inr ne ↦
               let same : heap_of (rested L t) u ≡ heap_of (rested l t) u = ap or_fresh (with_off L t u let_go ne ∙ (heap_off u ne ∙ sym (with_off l t u let_go ne))) in
-              let rests : Rests (rested l t) u = ap (λ (z : Account). z.worker) (sym same) ∙ r in
+              let rests : Rests (rested l t) u = ap (λ (z : Heap). z.worker) (sym same) ∙ r in
               home_kept before after_ (rested l t) (rested L t) u (off_home v' t (home_of_part Q) u ne ∙ sym (off_home v t (home_of_part P) u ne)) (λ c q. owner_kept c u q) same
               (ap (λ (m : State). length (row_of (slice_get m.store u))) (heap_machine L t let_go ∙ (same_machine ∙ sym (heap_machine l t let_go))))
               (ap (λ (m : State). is_joined (slice_get m.tasks u)) (heap_machine L t let_go ∙ (same_machine ∙ sym (heap_machine l t let_go))))

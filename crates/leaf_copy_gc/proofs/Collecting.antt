@@ -12,7 +12,7 @@ use Rattle.leaf_copy_gc.specs.Survivors.{olds, with_chunks, HaveNames}
 use Rattle.leaf_copy_gc.specs.Laid.{before, smalls, AreNew}
 use Rattle.leaf_copy_gc.specs.Redirected.{led_chunk}
 use Rattle.leaf_copy_gc.specs.Exchanged.{emptied, goes, stays, unreserved, reserved_of, reserved_place, named, last_place, CanName}
-use Rattle.leaf_copy_gc.specs.Collected.{IsLeft, keeps, leaves, laying_of, redirection}
+use Rattle.leaf_copy_gc.specs.Collected.{IsLeftBehind, keeps, leaves, laying_of, redirection}
 use Rattle.address_laws.proofs.Numbers as nums
 use Rattle.leaf_copy_gc.proofs.NewNumbers as new_numbers
 use Rattle.address_laws.proofs.Numbers.{numbers, Distinct}
@@ -23,7 +23,7 @@ use Rattle.leaf_copy_gc.proofs.Naming as naming
 use Rattle.leaf_copy_gc.proofs.Tidied as tidied
 
 module _ (h g : List ChunkValue) (ss : List Survivor) (news : List ChunkValue) (r : Option ℕ) (laid : List ChunkValue)
-    (left : IsLeft h g (olds ss) (redirection h ss (reverse news))) (tidy : AreTidy h) (apart : AreApart (h ++ news)) (new : AreNew news)
+    (left : IsLeftBehind h g (olds ss) (redirection h ss (reverse news))) (tidy : AreTidy h) (apart : AreApart (h ++ news)) (new : AreNew news)
     (once : Once (olds ss)) (names : HaveNames h ss) (reserved : IsReserved g r)
     (is : laid ≡ map (led_chunk (redirection h ss (reverse news))) (laying_of h ss (reverse news)).laid) where
   all_once : Distinct (numbers h ++ numbers news)

@@ -7,7 +7,7 @@ use Rattle.object_layout.specs.Cell.{Cell, Born, IsBorn, IsObject}
 use Rattle.object_layout.proofs.ChunkLaws as laws
 use Rattle.object_layout.specs.ChunkValue.{ChunkValue}
 use Rattle.object_layout.specs.Chunks.{cell_of}
-use Rattle.object_layout.specs.Graph.{IsClosed, IsHeld, IsSound, Leads}
+use Rattle.object_layout.specs.Graph.{IsClosed, HasObjectAt, IsSound, Leads}
 use Rattle.object_layout.proofs.Distinct.{Once, once_push}
 use Rattle.listed.proofs.Members.{In, in_append_left, in_append_right, in_append_cases, contains_from_in, in_from_contains}
 use Rattle.listed.proofs.Places.{all_from, in_read, read_in}
@@ -20,7 +20,7 @@ use Rattle.address_laws.proofs.Puts as puts
 use Rattle.leaf_copy_gc.proofs.FoundLemmas as marks
 use Rattle.leaf_copy_gc.proofs.FoundLemmas.{birth_live, live_birth, born_live}
 use Rattle.leaf_copy_gc.proofs.ListLemmas.{fold_append}
-use Rattle.leaf_copy_gc.specs.Survivors.{held_by, as_reference, with_chunks}
+use Rattle.leaf_copy_gc.specs.Survivors.{frame_references, as_reference, with_chunks}
 use Rattle.task_frames.specs.declared.frames.Frame.{Frame}
 
 -- ---- what has been found so far
@@ -42,7 +42,7 @@ module _ (h : List ChunkValue) (from : List (Option Addr)) where
   pub record Visits (s : CollectorValue) (rs : List (Option Addr)) (t : CollectorValue) : Type 0 where
     pub discovered : Discovered t
     pub grows : Grows s.found t.found
-    pub covers : (a : Addr) → In rs (Some a) → IsHeld h a → In (olds t.found) a
+    pub covers : (a : Addr) → In rs (Some a) → HasObjectAt h a → In (olds t.found) a
 
   stays : (s : CollectorValue) → Discovered s → Grows s.found s.found
   stays s d = ([], sym (append-nil s.found))
@@ -51,15 +51,15 @@ module _ (h : List ChunkValue) (from : List (Option Addr)) where
   grows_in xs ys g a i = subst (λ (zs : List Addr). In zs a) (sym (ap olds g.1 ∙ olds_push xs g.0)) (in_append_left (olds xs) (olds g.0) a i)
 
   -- the marks tell what was found
-  live_now : (s : CollectorValue) → Discovered s → (a : Addr) → IsHeld h a → (In (olds s.found) a → ⊥) → cell_of s.heap.chunks a ≡ cell_of h a
+  live_now : (s : CollectorValue) → Discovered s → (a : Addr) → HasObjectAt h a → (In (olds s.found) a → ⊥) → cell_of s.heap.chunks a ≡ cell_of h a
   live_now s d a l n = ap (λ (k : List ChunkValue). cell_of k a) d.marked ∙ marks.found_kept h (olds s.found) a n
 
-  module _ (s : CollectorValue) (d : Discovered s) (a : Addr) (kept : IsHeld h a → IsSurvivor h from a) where
+  module _ (s : CollectorValue) (d : Discovered s) (a : Addr) (kept : HasObjectAt h a → IsSurvivor h from a) where
     visit_found : (b : Birth) → birth_in (cell_of s.heap.chunks a).mark ≡ Some b → Visits s (Some a ∷ []) (visited_at s a (Some b))
     visit_found b e =
         let now : (cell_of s.heap.chunks a).mark ≡ Born b = birth_live (cell_of s.heap.chunks a).mark b e in
-        let there : IsHeld s.heap.chunks a = born_live (cell_of s.heap.chunks a).mark b now in
-        let was = marks.found_live h (olds s.found) a (subst (λ (k : List ChunkValue). IsHeld k a) d.marked there) in
+        let there : HasObjectAt s.heap.chunks a = born_live (cell_of s.heap.chunks a).mark b now in
+        let was = marks.found_live h (olds s.found) a (subst (λ (k : List ChunkValue). HasObjectAt k a) d.marked there) in
         let same : cell_of s.heap.chunks a ≡ cell_of h a = live_now s d a was.0 was.1 in
         let x : Survivor = record { birth = b; old = a } in
         let more : olds (s.found ++ x ∷ []) ≡ olds s.found ++ a ∷ [] = olds_push s.found (x ∷ []) in
@@ -106,20 +106,20 @@ module _ (h : List ChunkValue) (from : List (Option Addr)) where
         same_some : {c : Addr} → Some a ≡ Some c → a ≡ c
         same_some e = cc
 
-        known : (c : Addr) → a ≡ c → IsHeld h c → In (olds s.found) c
+        known : (c : Addr) → a ≡ c → HasObjectAt h c → In (olds s.found) c
         known c q l =
             elim (puts.in_or_not (olds s.found) c) [
               | inl i ↦ i
               | inr n ↦
-                  let now : IsHeld s.heap.chunks c = subst (λ (x : Cell). IsBorn x.mark) (sym (live_now s d c l n)) l in
-                  absurd (live_birth (cell_of s.heap.chunks a).mark (subst (IsHeld s.heap.chunks) (sym q) now) e)
+                  let now : HasObjectAt s.heap.chunks c = subst (λ (x : Cell). IsBorn x.mark) (sym (live_now s d c l n)) l in
+                  absurd (live_birth (cell_of s.heap.chunks a).mark (subst (HasObjectAt s.heap.chunks) (sym q) now) e)
             ]
 
     visit_at : (b : Option Birth) → birth_in (cell_of s.heap.chunks a).mark ≡ b → Visits s (Some a ∷ []) (visited_at s a b)
     visit_at None e = visit_known e
     visit_at (Some b) e = visit_found b e
 
-  pub visit_one : (s : CollectorValue) → Discovered s → (r : Option Addr) → ((a : Addr) → r ≡ Some a → IsHeld h a → IsSurvivor h from a) → Visits s (r ∷ []) (visited s r)
+  pub visit_one : (s : CollectorValue) → Discovered s → (r : Option Addr) → ((a : Addr) → r ≡ Some a → HasObjectAt h a → IsSurvivor h from a) → Visits s (r ∷ []) (visited s r)
   visit_one s d None kept =
       record {
         discovered = d;
@@ -143,7 +143,7 @@ module _ (h : List ChunkValue) (from : List (Option Addr)) where
       }
 
   -- each of a list of references is followed
-  pub visit_all : (s : CollectorValue) → Discovered s → (rs : List (Option Addr)) → ((a : Addr) → In rs (Some a) → IsHeld h a → IsSurvivor h from a) → Visits s rs (fold visited s rs)
+  pub visit_all : (s : CollectorValue) → Discovered s → (rs : List (Option Addr)) → ((a : Addr) → In rs (Some a) → HasObjectAt h a → IsSurvivor h from a) → Visits s rs (fold visited s rs)
   visit_all s d [] kept = record { discovered = d; grows = stays s d; covers = λ a i l. absurd i }
   visit_all s d (r ∷ rs) kept =
       let v = visit_one s d r (λ a e l. kept a (inl e) l) in
@@ -158,8 +158,8 @@ module _ (h : List ChunkValue) (from : List (Option Addr)) where
   }
 
   -- exactly what survives is found, where nothing is left to follow
-  pub found_exactly : (s : CollectorValue) → Discovered s → ((a : Addr) → In from (Some a) → IsHeld h a → In (olds s.found) a)
-      → ((m a : Addr) → In (olds s.found) m → In (cell_of h m).refs (Some a) → IsHeld h a → In (olds s.found) a)
+  pub found_exactly : (s : CollectorValue) → Discovered s → ((a : Addr) → In from (Some a) → HasObjectAt h a → In (olds s.found) a)
+      → ((m a : Addr) → In (olds s.found) m → In (cell_of h m).refs (Some a) → HasObjectAt h a → In (olds s.found) a)
       → (a : Addr) → Contains (olds s.found) a ↔ IsSurvivor h from a
   found_exactly s d first closed a = (
     λ c. d.kept a (in_from_contains (olds s.found) a c),
@@ -172,12 +172,12 @@ module _ (h : List ChunkValue) (from : List (Option Addr)) where
   -- all is found that the first n of those found refer to
   pub record Going (s : CollectorValue) (n : ℕ) : Type 0 where
     pub discovered : Discovered s
-    pub first : (a : Addr) → In from (Some a) → IsHeld h a → In (olds s.found) a
-    pub closed : (m a : Addr) → In (olds (take n s.found)) m → In (cell_of h m).refs (Some a) → IsHeld h a → In (olds s.found) a
+    pub first : (a : Addr) → In from (Some a) → HasObjectAt h a → In (olds s.found) a
+    pub closed : (m a : Addr) → In (olds (take n s.found)) m → In (cell_of h m).refs (Some a) → HasObjectAt h a → In (olds s.found) a
     pub within : n ≤ length s.found
 
-  pub survivor_live : (a : Addr) → IsSurvivor h from a → IsHeld h a
-  survivor_live a w = reached_within (Starts h from) (Leads h) (IsHeld h) (λ b q. q.0) (λ m b i q. q.1) a w
+  pub survivor_live : (a : Addr) → IsSurvivor h from a → HasObjectAt h a
+  survivor_live a w = reached_within (Starts h from) (Leads h) (HasObjectAt h) (λ b q. q.0) (λ m b i q. q.1) a w
 
   in_olds : (xs : List Survivor) (x : Survivor) → In xs x → In (olds xs) x.old
   in_olds [] x i = i
@@ -191,7 +191,7 @@ module _ (h : List ChunkValue) (from : List (Option Addr)) where
     next_in : In (olds s.found) x.old
     next_in = in_olds s.found x (subst (In s.found) (sym e) (in_read s.found n x l))
 
-    pub next_live : IsHeld h x.old
+    pub next_live : HasObjectAt h x.old
     next_live = survivor_live x.old (g.discovered.kept x.old next_in)
 
     same_refs : (cell_of s.heap.chunks x.old).refs ≡ (cell_of h x.old).refs
@@ -233,30 +233,30 @@ module _ (h : List ChunkValue) (from : List (Option Addr)) (closed : IsClosed h)
   pub targets_now : (rs : List (Option Addr)) → All (IsSound h) rs → All (IsTarget s.heap.chunks) rs
   targets_now rs all = λ k r l. target_now (get_or rs k r) (all k r l)
 
-  pub refs_now : (a : Addr) → IsHeld h a → All (IsTarget s.heap.chunks) (cell_of s.heap.chunks a).refs
+  pub refs_now : (a : Addr) → HasObjectAt h a → All (IsTarget s.heap.chunks) (cell_of s.heap.chunks a).refs
   refs_now a l =
       subst (λ (rs : List (Option Addr)). All (IsTarget s.heap.chunks) rs)
       (sym (ap (λ (k : List ChunkValue). (cell_of k a).refs) d.marked ∙ marks.all_found_refs h (olds s.found) a))
       (targets_now (cell_of h a).refs (closed a l))
 
   -- it is an object still, found or not
-  pub object_now : (a : Addr) → IsHeld h a → IsObject (cell_of s.heap.chunks a).mark
+  pub object_now : (a : Addr) → HasObjectAt h a → IsObject (cell_of s.heap.chunks a).mark
   object_now a l = subst (λ (k : List ChunkValue). IsObject (cell_of k a).mark) (sym d.marked) (marks.all_found_object h (olds s.found) a (laws.born_object h a l))
 
 -- the frames and the roots were followed
-module _ (b : CollectorValue) (none : b.found ≡ []) (fs : List Frame) (roots : List Addr) (sound : All (IsSound b.heap.chunks) (held_by fs ++ map as_reference roots)) where
-  pub frames_targets : All (IsTarget b.heap.chunks) (held_by fs)
-  frames_targets = all_from (IsTarget b.heap.chunks) (held_by fs) (λ r i. marks.sound_target b.heap.chunks r (read_in (IsSound b.heap.chunks) (held_by fs ++ map as_reference roots) r (in_append_left (held_by fs) (map as_reference roots) r i) sound))
+module _ (b : CollectorValue) (none : b.found ≡ []) (fs : List Frame) (roots : List Addr) (sound : All (IsSound b.heap.chunks) (frame_references fs ++ map as_reference roots)) where
+  pub frames_targets : All (IsTarget b.heap.chunks) (frame_references fs)
+  frames_targets = all_from (IsTarget b.heap.chunks) (frame_references fs) (λ r i. marks.sound_target b.heap.chunks r (read_in (IsSound b.heap.chunks) (frame_references fs ++ map as_reference roots) r (in_append_left (frame_references fs) (map as_reference roots) r i) sound))
 
-  pub roots_targets : (s : CollectorValue) → s ≡ fold visited b (held_by fs) → All (IsTarget s.heap.chunks) (map as_reference roots)
+  pub roots_targets : (s : CollectorValue) → s ≡ fold visited b (frame_references fs) → All (IsTarget s.heap.chunks) (map as_reference roots)
   roots_targets s e =
-      marks.fold_all_targets b (held_by fs) s.heap.chunks (ap (λ (t : CollectorValue). t.heap.chunks) e) (map as_reference roots)
-      (all_from (IsTarget b.heap.chunks) (map as_reference roots) (λ r i. marks.sound_target b.heap.chunks r (read_in (IsSound b.heap.chunks) (held_by fs ++ map as_reference roots) r (in_append_right (held_by fs) (map as_reference roots) r i) sound)))
+      marks.fold_all_targets b (frame_references fs) s.heap.chunks (ap (λ (t : CollectorValue). t.heap.chunks) e) (map as_reference roots)
+      (all_from (IsTarget b.heap.chunks) (map as_reference roots) (λ r i. marks.sound_target b.heap.chunks r (read_in (IsSound b.heap.chunks) (frame_references fs ++ map as_reference roots) r (in_append_right (frame_references fs) (map as_reference roots) r i) sound)))
 
-  pub begun : (s t : CollectorValue) → s ≡ fold visited b (held_by fs) → t ≡ fold visited s (map as_reference roots) → Going b.heap.chunks (held_by fs ++ map as_reference roots) t 0
+  pub begun : (s t : CollectorValue) → s ≡ fold visited b (frame_references fs) → t ≡ fold visited s (map as_reference roots) → Going b.heap.chunks (frame_references fs ++ map as_reference roots) t 0
   begun s t e f =
-      let from = held_by fs ++ map as_reference roots in
-      let whole : t ≡ fold visited b from = f ∙ (ap (λ (x : CollectorValue). fold visited x (map as_reference roots)) e ∙ sym (fold_append visited b (held_by fs) (map as_reference roots))) in
+      let from = frame_references fs ++ map as_reference roots in
+      let whole : t ≡ fold visited b from = f ∙ (ap (λ (x : CollectorValue). fold visited x (map as_reference roots)) e ∙ sym (fold_append visited b (frame_references fs) (map as_reference roots))) in
       let v = visit_all b.heap.chunks from b (discovered_none b.heap.chunks from b refl none) from (λ a i l. (0, (l, contains_from_in from (Some a) i))) in
       subst (λ (x : CollectorValue). Going b.heap.chunks from x 0) (sym whole) (record {
         discovered = v.discovered;

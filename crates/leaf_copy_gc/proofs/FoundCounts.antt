@@ -6,7 +6,7 @@ use Rattle.object_layout.specs.Cell.{Cell, Mark, Born, Moved, Hole, IsBorn, size
 use Rattle.object_layout.specs.ChunkValue.{ChunkValue}
 use Rattle.object_layout.specs.Place.{cell_at, put_cell}
 use Rattle.object_layout.specs.Chunks.{cell_of, put_object}
-use Rattle.object_layout.specs.Graph.{IsHeld}
+use Rattle.object_layout.specs.Graph.{HasObjectAt}
 use Rattle.leaf_copy_gc.specs.Survivors.{born_of, born_in, live_count}
 
 born_one : (m : Mark) → IsBorn m → born_of m ≡ 1
@@ -26,7 +26,7 @@ count_cells (c ∷ cs) (suc n) to l =
     rw t (omega arith))
     (cases_lt (suc n) (size_of c))
 
-pub count_found : (h : List ChunkValue) (a to : Addr) → IsHeld h a → live_count h ≡ live_count (put_object h a (with_mark (cell_of h a) (Moved to))) + 1
+pub count_found : (h : List ChunkValue) (a to : Addr) → HasObjectAt h a → live_count h ≡ live_count (put_object h a (with_mark (cell_of h a) (Moved to))) + 1
 count_found [] a to l = absurd l
 count_found (k ∷ ks) a to l =
     ⊎_elim

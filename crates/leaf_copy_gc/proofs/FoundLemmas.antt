@@ -5,7 +5,7 @@ use Rattle.object_layout.specs.declared.word.Birth.{Birth}
 use Rattle.object_layout.specs.Cell.{Cell, Mark, Born, Moved, Hole, IsBorn, IsObject, with_mark}
 use Rattle.object_layout.specs.ChunkValue.{ChunkValue}
 use Rattle.object_layout.specs.Chunks.{cell_of, place_in, place_of}
-use Rattle.object_layout.specs.Graph.{IsHeld, IsSound}
+use Rattle.object_layout.specs.Graph.{HasObjectAt, IsSound}
 use Rattle.object_layout.proofs.ChunkLaws as laws
 use Rattle.listed.proofs.Members.{In}
 use Rattle.object_layout.proofs.ChunkLaws.{length-put, place_of-put}
@@ -16,7 +16,7 @@ use Rattle.address_laws.proofs.Puts as puts
 pub found_other : (h : List ChunkValue) (x a : Addr) → (x ≡ a → ⊥) → cell_of (found_in h x) a ≡ cell_of h a
 found_other h x a ne = puts.mark_other h x (Moved x) a ne
 
-pub found_same : (h : List ChunkValue) (a : Addr) → IsHeld (found_in h a) a → ⊥
+pub found_same : (h : List ChunkValue) (a : Addr) → HasObjectAt (found_in h a) a → ⊥
 found_same h a l = puts.mark_dead h a (Moved a) (λ b. b) l
 
 pub found_refs : (h : List ChunkValue) (x a : Addr) → (cell_of (found_in h x) a).refs ≡ (cell_of h a).refs
@@ -38,12 +38,12 @@ all_found_alone h [] a m = refl
 all_found_alone h (x ∷ xs) a m = all_found_alone (found_in h x) xs a m ∙ puts.mark_alone h x (Moved x) a m
 
 -- what bears its birth name then bore it before, and is not marked
-pub found_live : (h : List ChunkValue) (xs : List Addr) (a : Addr) → IsHeld (all_found h xs) a → IsHeld h a × (In xs a → ⊥)
+pub found_live : (h : List ChunkValue) (xs : List Addr) (a : Addr) → HasObjectAt (all_found h xs) a → HasObjectAt h a × (In xs a → ⊥)
 found_live h [] a l = (l, λ i. i)
 found_live h (x ∷ xs) a l =
     let r = found_live (found_in h x) xs a l in
     elim (puts.same_or_other x a) [
-      | inl e ↦ absurd (found_same h a (subst (λ (y : Addr). IsHeld (found_in h y) a) e r.0))
+      | inl e ↦ absurd (found_same h a (subst (λ (y : Addr). HasObjectAt (found_in h y) a) e r.0))
       | inr n ↦ (subst (λ (c : Cell). IsBorn c.mark) (found_other h x a n) r.0, λ i. elim i [ inl e ↦ n e | inr j ↦ r.1 j ])
     ]
 
@@ -101,7 +101,7 @@ live_birth Hole l e = l
 pub born_live : (m : Mark) (b : Birth) → m ≡ Born b → IsBorn m
 born_live m b e = subst IsBorn (sym e) tt
 
-pub visit_live : (h : List ChunkValue) (a : Addr) (b : Birth) (r : Option Birth) → r ≡ birth_in (cell_of h a).mark → r ≡ Some b → IsHeld h a
+pub visit_live : (h : List ChunkValue) (a : Addr) (b : Birth) (r : Option Birth) → r ≡ birth_in (cell_of h a).mark → r ≡ Some b → HasObjectAt h a
 visit_live h a b r e f = born_live (cell_of h a).mark b (birth_live (cell_of h a).mark b (sym e ∙ f))
 
 pub visited_all_targets : (s : CollectorValue) (v : Option Addr) (k : List ChunkValue) → k ≡ (visited s v).heap.chunks → (rs : List (Option Addr)) → All (IsTarget s.heap.chunks) rs → All (IsTarget k) rs

@@ -5,7 +5,7 @@ use Rattle.task_frames.specs.declared.frames.Frame.{Frame}
 use Rattle.task_frames.specs.FramesValue.{references_of, references_written}
 use Rattle.listed.proofs.Members.{In, in_append_left, in_append_right}
 use Rattle.listed.proofs.Places.{all_from, read_in}
-use Rattle.leaf_copy_gc.specs.Survivors.{held_by}
+use Rattle.leaf_copy_gc.specs.Survivors.{frame_references}
 use Rattle.leaf_copy_gc.specs.Redirected.{led_frame}
 
 module _ (f : Option Addr → Option Addr) where
@@ -30,12 +30,12 @@ refs_same : (f g : Option Addr → Option Addr) (rs : List (Option Addr)) → ((
 refs_same f g [] e = refl
 refs_same f g (r ∷ rs) e = λ i. e r (inl refl) i ∷ refs_same f g rs (λ q j. e q (inr j)) i
 
-same_frames : (f g : Option Addr → Option Addr) (fs : List Frame) → ((r : Option Addr) → In (held_by fs) r → f r ≡ g r) → map (led_frame f) fs ≡ map (led_frame g) fs
+same_frames : (f g : Option Addr → Option Addr) (fs : List Frame) → ((r : Option Addr) → In (frame_references fs) r → f r ≡ g r) → map (led_frame f) fs ≡ map (led_frame g) fs
 same_frames f g [] e = refl
 same_frames f g (x ∷ xs) e =
     λ i.
-    ap (λ (rs : List (Option Addr)). let y : Frame = record x { refs = rs } in y) (refs_same f g x.refs (λ r j. e r (in_append_left x.refs (held_by xs) r j))) i
-    ∷ same_frames f g xs (λ r j. e r (in_append_right x.refs (held_by xs) r j)) i
+    ap (λ (rs : List (Option Addr)). let y : Frame = record x { refs = rs } in y) (refs_same f g x.refs (λ r j. e r (in_append_left x.refs (frame_references xs) r j))) i
+    ∷ same_frames f g xs (λ r j. e r (in_append_right x.refs (frame_references xs) r j)) i
 
-pub frames_same : (f g : Option Addr → Option Addr) (fs : List Frame) → All (λ r. f r ≡ g r) (held_by fs) → map (led_frame f) fs ≡ map (led_frame g) fs
-frames_same f g fs a = same_frames f g fs (λ r i. read_in (λ q. f q ≡ g q) (held_by fs) r i a)
+pub frames_same : (f g : Option Addr → Option Addr) (fs : List Frame) → All (λ r. f r ≡ g r) (frame_references fs) → map (led_frame f) fs ≡ map (led_frame g) fs
+frames_same f g fs a = same_frames f g fs (λ r i. read_in (λ q. f q ≡ g q) (frame_references fs) r i a)

@@ -7,7 +7,7 @@ use Rattle.object_layout.specs.declared.word.Addr.{Addr}
 use Rattle.object_layout.specs.Cell.{Cell, Born, Moved, IsObject, moved_to, size_of, with_mark}
 use Rattle.object_layout.specs.ChunkValue.{ChunkValue}
 use Rattle.object_layout.specs.Chunks.{cell_of, place_of}
-use Rattle.object_layout.specs.Graph.{IsClosed, IsHeld, IsSound}
+use Rattle.object_layout.specs.Graph.{IsClosed, HasObjectAt, IsSound}
 use Rattle.object_layout.proofs.Distinct.{Once}
 use Rattle.object_layout.proofs.ChunkLaws as laws
 use Rattle.listed.proofs.Members.{In, in_from_contains, contains_from_in}
@@ -121,7 +121,7 @@ module _ (h : List ChunkValue) (from : List (Option Addr)) (closed : IsClosed h)
   pub can_copy : HaveRoom (before spare) h (smalls h (olds ss)) → IsReady k ss
   can_copy room = moves.are_ready h k ss once as_were (subst (λ (y : Laying). HaveRoom y h (smalls h (olds ss))) (sym k_laying) room)
 
-  pub lives : (a : Addr) → In (olds ss) a → IsHeld h a
+  pub lives : (a : Addr) → In (olds ss) a → HasObjectAt h a
   lives a i = survivor_live h from a ((kept a).0 (contains_from_in (olds ss) a i))
 
   small_once : Once (olds (small_ones h ss))
@@ -132,7 +132,7 @@ module _ (h : List ChunkValue) (from : List (Option Addr)) (closed : IsClosed h)
 
   pub enough : 2 * ((small_words h + 1023) / 1024) ≤ length spare + 1 → HaveRoom (before spare) h (smalls h (olds ss))
   enough room =
-      let small : (a : Addr) → In (smalls h (olds ss)) a → IsHeld h a × (is_small h a ≡ true) = λ a i. let p = moves.in_smalls h (olds ss) a i in (lives a p.0, p.1) in
+      let small : (a : Addr) → In (smalls h (olds ss)) a → HasObjectAt h a × (is_small h a ≡ true) = λ a i. let p = moves.in_smalls h (olds ss) a i in (lives a p.0, p.1) in
       let most = rooms.sizes_most h (smalls h (olds ss)) (moves.once_smalls h (olds ss) once) small in
       let up : small_words h ≤ 1024 * ((small_words h + 1023) / 1024) = omega arith in
       rooms.enough_room h ((small_words h + 1023) / 1024) spare (smalls h (olds ss)) new (omega arith) room (λ a i. leb-true (size_of (cell_of h a)) 1024 (small a i).1)
@@ -182,7 +182,7 @@ module _ (h : List ChunkValue) (from : List (Option Addr)) (closed : IsClosed h)
               ∙ sym (ap (λ (o : Option Addr). Some (unwrap_or o a)) (moves.new_none (before spare) h (smalls h (olds ss)) a out)))))
         ]
 
-    pub leads_reference : (r : Option Addr) → IsSound h r → ((a : Addr) → r ≡ Some a → IsHeld h a → IsSurvivor h from a)
+    pub leads_reference : (r : Option Addr) → IsSound h r → ((a : Addr) → r ≡ Some a → HasObjectAt h a → IsSurvivor h from a)
         → Leads t.heap.chunks (relocations (before spare) h (smalls h (olds ss))) r
     leads_reference None s reach = (refl, tt)
     leads_reference (Some a) s reach = (

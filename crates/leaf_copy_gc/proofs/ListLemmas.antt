@@ -5,7 +5,7 @@ use Rattle.object_layout.specs.declared.word.Addr.{Addr}
 use Rattle.task_frames.specs.declared.frames.Frame.{Frame}
 use Rattle.task_frames.specs.FramesValue.{references_of}
 use Rattle.listed.proofs.Members.{In, in_append_left, in_append_right}
-use Rattle.leaf_copy_gc.specs.Survivors.{held_by}
+use Rattle.leaf_copy_gc.specs.Survivors.{frame_references}
 
 -- one step more of a fold
 pub fold_read : {S X : Type 0} (f : S → X → S) (s : S) (xs : List X) (k : ℕ) (d : X) → k < length xs → fold f s (take (k + 1) xs) ≡ f (fold f s (take k xs)) (get_or xs k d)
@@ -27,18 +27,18 @@ fold_map_read f g s (y ∷ ys) (suc k) d l = let n : suc k + 1 ≡ suc (k + 1) =
 -- ---- the references of frames
 
 pub fold_frames : {S : Type 0} (f : S → Option Addr → S) (s : S) (fs : List Frame) (k : ℕ) → k < length fs →
-    fold f s (held_by (take (k + 1) fs)) ≡ fold f (fold f s (held_by (take k fs))) (references_of fs k)
+    fold f s (frame_references (take (k + 1) fs)) ≡ fold f (fold f s (frame_references (take k fs))) (references_of fs k)
 fold_frames f s [] k l = absurd (omega arith)
 fold_frames f s (x ∷ xs) zero l = ap (fold f s) (append-nil x.refs)
 fold_frames f s (x ∷ xs) (suc k) l =
     let n : suc k + 1 ≡ suc (k + 1) = omega arith in
-    rw n (fold_append f s x.refs (held_by (take (k + 1) xs)) ∙ (fold_frames f (fold f s x.refs) xs k (omega arith)
-    ∙ ap (λ t. fold f t (references_of xs k)) (sym (fold_append f s x.refs (held_by (take k xs))))))
+    rw n (fold_append f s x.refs (frame_references (take (k + 1) xs)) ∙ (fold_frames f (fold f s x.refs) xs k (omega arith)
+    ∙ ap (λ t. fold f t (references_of xs k)) (sym (fold_append f s x.refs (frame_references (take k xs))))))
 
-pub in_frames : (fs : List Frame) (k : ℕ) (r : Option Addr) → In (references_of fs k) r → In (held_by fs) r
+pub in_frames : (fs : List Frame) (k : ℕ) (r : Option Addr) → In (references_of fs k) r → In (frame_references fs) r
 in_frames [] k r i = i
-in_frames (x ∷ xs) zero r i = in_append_left x.refs (held_by xs) r i
-in_frames (x ∷ xs) (suc k) r i = in_append_right x.refs (held_by xs) r (in_frames xs k r i)
+in_frames (x ∷ xs) zero r i = in_append_left x.refs (frame_references xs) r i
+in_frames (x ∷ xs) (suc k) r i = in_append_right x.refs (frame_references xs) r (in_frames xs k r i)
 
 -- one step more of a fold, by the element that was read
 pub fold_got : {S X : Type 0} (f : S → X → S) (s : S) (xs : List X) (k : ℕ) (x : X) → slice_get xs k ≡ Some x → fold f s (take (k + 1) xs) ≡ f (fold f s (take k xs)) x

@@ -8,7 +8,7 @@ use Rattle.object_layout.specs.declared.word.Birth.{Birth}
 use Rattle.object_layout.specs.Cell.{Cell, Mark, Born, Moved, IsBorn, IsObject, moved_to, size_of, with_mark}
 use Rattle.object_layout.specs.ChunkValue.{ChunkValue}
 use Rattle.object_layout.specs.Chunks.{cell_of, place_of, put_object}
-use Rattle.object_layout.specs.Graph.{IsHeld}
+use Rattle.object_layout.specs.Graph.{HasObjectAt}
 use Rattle.object_layout.proofs.Distinct.{Once}
 use Rattle.object_layout.proofs.ChunkLaws as laws
 use Rattle.remembered_set.specs.Moved.{new_of, same_address}
@@ -248,7 +248,7 @@ named_cell c b e = λ i. record { mark = sym e i; mutable = c.mutable; refs = c.
 pub are_as : (h : List ChunkValue) (xs : List Addr) (ss : List Survivor) → ((s : Survivor) → In ss s → (cell_of h s.old).mark ≡ Born s.birth) → AreAs h (all_found h xs) ss
 are_as h xs ss born s i =
     let b = born s i in
-    let live : IsHeld h s.old = subst IsBorn (sym b) tt in (
+    let live : HasObjectAt h s.old = subst IsBorn (sym b) tt in (
       marks.all_found_alone h xs s.old (Born s.birth) ∙ named_cell (cell_of h s.old) s.birth b,
       marks.all_found_object h xs s.old (laws.born_object h s.old live),
     )

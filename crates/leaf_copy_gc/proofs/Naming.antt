@@ -9,7 +9,7 @@ use Rattle.object_layout.specs.Cell.{Cell, Mark, Born, Moved, IsBorn, IsObject, 
 use Rattle.object_layout.specs.ChunkValue.{ChunkValue}
 use Rattle.object_layout.specs.Place.{cell_at}
 use Rattle.object_layout.specs.Chunks.{cell_of, chunk_at, place_of, place_in, put_object}
-use Rattle.object_layout.specs.Graph.{IsHeld}
+use Rattle.object_layout.specs.Graph.{HasObjectAt}
 use Rattle.object_layout.proofs.Distinct.{Once}
 use Rattle.object_layout.proofs.ChunkLaws as laws
 use Rattle.remembered_set.specs.Moved.{same_address}
@@ -150,8 +150,8 @@ module _ (h : List ChunkValue) (ss : List Survivor) (f : Option Addr → Option 
   born : (s : Survivor) → In ss s → (cell_of h s.old).mark ≡ Born s.birth
   born s i = read_in (λ (x : Survivor). (cell_of h x.old).mark ≡ Born x.birth) ss s i names
 
-  lives : (a : Addr) → In (olds ss) a → IsHeld h a
-  lives a i = let u = in_unmap ss a i in subst (IsHeld h) u.1.1 (subst IsBorn (sym (born u.0 u.1.0)) tt)
+  lives : (a : Addr) → In (olds ss) a → HasObjectAt h a
+  lives a i = let u = in_unmap ss a i in subst (HasObjectAt h) u.1.1 (subst IsBorn (sym (born u.0 u.1.0)) tt)
 
   lies : (a : Addr) → In (olds ss) a → In (numbers h) a.chunk
   lies a i =

@@ -5,7 +5,7 @@ use Rattle.object_layout.specs.declared.word.Addr.{Addr}
 use Rattle.object_layout.specs.Cell.{Born, Cell, Hole, IsObject, Mark, Moved, size_of}
 use Rattle.object_layout.specs.ChunkValue.{ChunkValue}
 use Rattle.object_layout.specs.Place.{cell_at}
-use Rattle.object_layout.specs.Chunks.{cell_of, held_in, held_size, held_words, small_part, small_words, sum_in}
+use Rattle.object_layout.specs.Chunks.{cell_of, object_words_in, held_size, held_words, small_part, small_words, sum_in}
 use Rattle.leaf_copy_gc.specs.declared.lists.Survivor.{Survivor}
 use Rattle.leaf_copy_gc.specs.Redirected.{followed_large, CanFollow}
 
@@ -33,7 +33,7 @@ size_small (Born b) n o e = part_small n e
 size_small (Moved to) n o e = part_small n e
 size_small Hole n o e = absurd o
 
-in_le : (cs : List Cell) → sum_in small_part cs ≤ held_in cs
+in_le : (cs : List Cell) → sum_in small_part cs ≤ object_words_in cs
 in_le [] = omega arith
 in_le (c ∷ cs) = let a = size_le c.mark (size_of c) in let b = in_le cs in omega arith
 
@@ -41,7 +41,7 @@ all_le : (ks : List ChunkValue) → small_words ks ≤ held_words ks
 all_le [] = omega arith
 all_le (k ∷ ks) = let a = in_le k.cells in let b = all_le ks in omega arith
 
-small_in : (cs : List Cell) (at : ℕ) → sum_in small_part cs ≡ held_in cs → IsObject (cell_at cs at).mark → size_of (cell_at cs at) ≤ 1024
+small_in : (cs : List Cell) (at : ℕ) → sum_in small_part cs ≡ object_words_in cs → IsObject (cell_at cs at).mark → size_of (cell_at cs at) ≤ 1024
 small_in [] at e o = absurd o
 small_in (c ∷ cs) zero e o =
     let a = size_le c.mark (size_of c) in

@@ -8,7 +8,7 @@ use Rattle.std.proofs.lemmas.Bool.{cases_lt, lt-ltb, le-ltb, false≢true}
 use Rattle.object_layout.specs.declared.word.Addr.{Addr}
 use Rattle.object_layout.specs.ChunkValue.{ChunkValue}
 use Rattle.object_layout.specs.Chunks.{cell_of}
-use Rattle.object_layout.specs.Graph.{IsClosed, IsHeld, IsSound, Leads}
+use Rattle.object_layout.specs.Graph.{IsClosed, HasObjectAt, IsSound, Leads}
 use Rattle.object_layout.proofs.Distinct.{Once}
 use Rattle.remembered_set.specs.Moved.{number_of, AreInOrder}
 use Rattle.listed.proofs.Members.{In, contains_from_in, in_from_contains}
@@ -103,7 +103,7 @@ moved_in_order y h xs ms p sorted o s =
 -- a survivor lies where references can lead
 pub survivor_place : (h : List ChunkValue) (from : List (Option Addr)) → IsClosed h → All (IsSound h) from → (a : Addr) → IsSurvivor h from a → a.offset < 1024
 survivor_place h from closed sound a w =
-    (reached_within (Starts h from) (Leads h) (λ (b : Addr). IsHeld h b × (b.offset < 1024))
+    (reached_within (Starts h from) (Leads h) (λ (b : Addr). HasObjectAt h b × (b.offset < 1024))
     (λ b q. (q.0, (read_in (IsSound h) from (Some b) (in_from_contains from (Some b) q.1) sound (live_chunk h b q.0)).1))
     (λ m b p q. (q.1, (read_in (IsSound h) (cell_of h m).refs (Some b) (in_from_contains (cell_of h m).refs (Some b) q.2) (closed m p.0) (live_chunk h b q.1)).1))
     a w).1

@@ -7,8 +7,8 @@ use Rattle.std.proofs.lemmas.List.Elements.{All-push}
 use Rattle.object_layout.specs.declared.word.Addr.{Addr}
 use Rattle.object_layout.specs.Cell.{Born, Cell, IsBorn, IsObject, size_of}
 use Rattle.object_layout.specs.ChunkValue.{ChunkValue}
-use Rattle.object_layout.specs.Chunks.{cell_of, chunk_at, held_in, held_size, held_words, no_chunk, one_each, small_part, sum_in, sum_of}
-use Rattle.object_layout.specs.Graph.{IsHeld}
+use Rattle.object_layout.specs.Chunks.{cell_of, chunk_at, object_words_in, held_size, held_words, no_chunk, one_each, small_part, sum_in, sum_of}
+use Rattle.object_layout.specs.Graph.{HasObjectAt}
 use Rattle.object_layout.specs.Place.{words_in}
 use Rattle.object_layout.proofs.ChunkLaws as laws
 use Rattle.object_layout.proofs.Distinct.{Once}
@@ -78,7 +78,7 @@ used_empty : (ks : List ChunkValue) (k : ChunkValue) → k.cells ≡ [] → used
 used_empty ks k e = let none : words_in k.cells ≡ 0 = ap words_in e in used_push ks k ∙ omega arith
 
 held_empty : (ks : List ChunkValue) (k : ChunkValue) → k.cells ≡ [] → held_words (ks ++ k ∷ []) ≡ held_words ks
-held_empty ks k e = let none : held_in k.cells ≡ 0 = ap held_in e in heap.held_words-append ks (k ∷ []) ∙ omega arith
+held_empty ks k e = let none : object_words_in k.cells ≡ 0 = ap object_words_in e in heap.held_words-append ks (k ∷ []) ∙ omega arith
 
 sum_empty : (f : ℕ → ℕ) (ks : List ChunkValue) (k : ChunkValue) → k.cells ≡ [] → sum_of f (ks ++ k ∷ []) ≡ sum_of f ks
 sum_empty f ks k e = let none : sum_in f k.cells ≡ 0 = ap (sum_in f) e in heap.sum_of-append f ks (k ∷ []) ∙ omega arith
@@ -122,9 +122,9 @@ module _ (f : Option Addr → Option Addr) where
   used_led [] = refl
   used_led (c ∷ cs) = ap (λ (n : ℕ). n + words_in (map (led_cell f) cs)) (size_led f c) ∙ ap (λ (n : ℕ). size_of c + n) (used_led cs)
 
-  held_led : (cs : List Cell) → held_in (map (led_cell f) cs) ≡ held_in cs
+  held_led : (cs : List Cell) → object_words_in (map (led_cell f) cs) ≡ object_words_in cs
   held_led [] = refl
-  held_led (c ∷ cs) = ap (λ (n : ℕ). held_size c.mark n + held_in (map (led_cell f) cs)) (size_led f c) ∙ ap (λ (n : ℕ). held_size c.mark (size_of c) + n) (held_led cs)
+  held_led (c ∷ cs) = ap (λ (n : ℕ). held_size c.mark n + object_words_in (map (led_cell f) cs)) (size_led f c) ∙ ap (λ (n : ℕ). held_size c.mark (size_of c) + n) (held_led cs)
 
   sum_led : (g : ℕ → ℕ) (cs : List Cell) → sum_in g (map (led_cell f) cs) ≡ sum_in g cs
   sum_led g [] = refl
@@ -136,7 +136,7 @@ module _ (f : Option Addr → Option Addr) where
 
   all_held : (ks : List ChunkValue) → held_words (map (led_chunk f) ks) ≡ held_words ks
   all_held [] = refl
-  all_held (k ∷ ks) = ap (λ (n : ℕ). n + held_words (map (led_chunk f) ks)) (held_led k.cells) ∙ ap (λ (n : ℕ). held_in k.cells + n) (all_held ks)
+  all_held (k ∷ ks) = ap (λ (n : ℕ). n + held_words (map (led_chunk f) ks)) (held_led k.cells) ∙ ap (λ (n : ℕ). object_words_in k.cells + n) (all_held ks)
 
   all_sum : (g : ℕ → ℕ) (ks : List ChunkValue) → sum_of g (map (led_chunk f) ks) ≡ sum_of g ks
   all_sum g [] = refl
@@ -153,12 +153,12 @@ module _ (f : Option Addr → Option Addr) where
 
 module _ (h : List ChunkValue) (ss : List Survivor) (spare : List ChunkValue) (names : HaveNames h ss) (once : Once (olds ss)) (new : AreNew spare)
     (enough : 2 * ((small_words h + 1023) / 1024) ≤ length spare + 1) where
-  lives : (a : Addr) → In (olds ss) a → IsHeld h a
+  lives : (a : Addr) → In (olds ss) a → HasObjectAt h a
   lives a i =
       let u = in_unmap ss a i in
-      subst (IsHeld h) u.1.1 (subst IsBorn (sym (read_in (λ (x : Survivor). (cell_of h x.old).mark ≡ Born x.birth) ss u.0 u.1.0 names)) tt)
+      subst (HasObjectAt h) u.1.1 (subst IsBorn (sym (read_in (λ (x : Survivor). (cell_of h x.old).mark ≡ Born x.birth) ss u.0 u.1.0 names)) tt)
 
-  small : (a : Addr) → In (smalls h (olds ss)) a → IsHeld h a × (is_small h a ≡ true)
+  small : (a : Addr) → In (smalls h (olds ss)) a → HasObjectAt h a × (is_small h a ≡ true)
   small a i = let p = moves.in_smalls h (olds ss) a i in (lives a p.0, p.1)
 
   room : HaveRoom (before spare) h (smalls h (olds ss))

@@ -8,7 +8,7 @@ use Rattle.object_layout.specs.Cell.{Cell, Mark, Born, Moved, Hole, IsBorn, size
 use Rattle.object_layout.specs.ChunkValue.{ChunkValue}
 use Rattle.object_layout.specs.Place.{cell_at, put_cell, words_in}
 use Rattle.object_layout.specs.Chunks.{cell_of, put_object}
-use Rattle.object_layout.specs.Graph.{IsHeld}
+use Rattle.object_layout.specs.Graph.{HasObjectAt}
 use Rattle.object_layout.proofs.Distinct.{Once}
 use Rattle.object_layout.proofs.PlaceLemmas as place
 use Rattle.listed.proofs.Members.{In, contains_from_in}
@@ -182,7 +182,7 @@ words_cells (c ∷ cs) (suc n) to l s =
           rw t (omega arith)
     ]
 
-words_found : (h : List ChunkValue) (a to : Addr) → IsHeld h a → is_small h a ≡ true → small_words h ≡ small_words (put_object h a (with_mark (cell_of h a) (Moved to))) + size_of (cell_of h a)
+words_found : (h : List ChunkValue) (a to : Addr) → HasObjectAt h a → is_small h a ≡ true → small_words h ≡ small_words (put_object h a (with_mark (cell_of h a) (Moved to))) + size_of (cell_of h a)
 words_found [] a to l s = absurd l
 words_found (k ∷ ks) a to l s =
     elim (cases_Bool (eqb k.number a.chunk)) [
@@ -198,7 +198,7 @@ sizes_found h a (x ∷ xs) n =
     omega arith
 
 -- the words of different small objects of a heap are no more than those of all its small objects
-pub sizes_most : (h : List ChunkValue) (xs : List Addr) → Once xs → ((a : Addr) → In xs a → IsHeld h a × (is_small h a ≡ true)) → sizes h xs ≤ small_words h
+pub sizes_most : (h : List ChunkValue) (xs : List Addr) → Once xs → ((a : Addr) → In xs a → HasObjectAt h a × (is_small h a ≡ true)) → sizes h xs ≤ small_words h
 sizes_most h [] o l = omega arith
 sizes_most h (a ∷ xs) o l =
     let n : In xs a → ⊥ = λ i. o.0 (contains_from_in xs a i) in

@@ -38,7 +38,7 @@ redirection h ss news = redirected (moves_of h ss news)
 -- ---- the old chunks, once all references are led
 
 -- a large survivor is where it was, marked as found, with its references led; what doesn't survive is as it was
-pub record IsLeft (h g : List ChunkValue) (ss : List Addr) (f : Option Addr → Option Addr) : Type 0 where
+pub record IsLeftBehind (h g : List ChunkValue) (ss : List Addr) (f : Option Addr → Option Addr) : Type 0 where
   pub alike : AreAlike h g
   pub large : (a : Addr) → Contains ss a → is_small h a ≡ false → cell_of g a ≡ led_cell f (with_mark (cell_of h a) (Moved a))
   pub others : (a : Addr) → (Contains ss a → ⊥) → cell_of g a ≡ cell_of h a
@@ -53,8 +53,8 @@ abbrev pub leaves : List Survivor → ChunkValue → Bool
 leaves ss k = not (keeps ss k)
 
 -- the chunks of large survivors, their references led
-abbrev pub kept_of : LeafHeapValue → List Survivor → List ChunkValue → List ChunkValue
-kept_of h ss news = map (led_chunk (redirection h.chunks ss news)) (filter (keeps ss) (unreserved h.chunks h.reserved))
+abbrev pub large_of : LeafHeapValue → List Survivor → List ChunkValue → List ChunkValue
+large_of h ss news = map (led_chunk (redirection h.chunks ss news)) (filter (keeps ss) (unreserved h.chunks h.reserved))
 
 -- the new chunks with the small survivors, their references led
 abbrev pub laid_of : LeafHeapValue → List Survivor → List ChunkValue → List ChunkValue
@@ -63,9 +63,9 @@ laid_of h ss news = map (led_chunk (redirection h.chunks ss news)) (laying_of h.
 -- the heap with just these survivors: it goes on filling the last new chunk, and keeps the reserved one
 abbrev pub collected : LeafHeapValue → List Survivor → List ChunkValue → LeafHeapValue
 collected h ss news = record h {
-  chunks = laid_of h ss news ++ (kept_of h ss news ++ reserved_of h.chunks h.reserved);
+  chunks = laid_of h ss news ++ (large_of h ss news ++ reserved_of h.chunks h.reserved);
   current = last_place (laid_of h ss news);
-  reserved = reserved_place (length (laid_of h ss news) + length (kept_of h ss news)) h.reserved;
+  reserved = reserved_place (length (laid_of h ss news) + length (large_of h ss news)) h.reserved;
   since = 0;
 }
 

@@ -7,7 +7,7 @@ use Rattle.object_layout.specs.declared.word.Addr.{Addr}
 use Rattle.object_layout.specs.Cell.{Born, Cell, Hole, Mark, Moved}
 use Rattle.object_layout.specs.ChunkValue.{ChunkValue}
 use Rattle.object_layout.specs.Chunks.{cell_of}
-pub use Rattle.object_layout.specs.Graph.{IsClosed, IsHeld, IsHeld as IsLive, IsSound, Leads}
+pub use Rattle.object_layout.specs.Graph.{IsClosed, HasObjectAt, IsSound, Leads}
 use Rattle.alloc_path.specs.LeafHeapValue.{LeafHeapValue}
 use Rattle.task_frames.specs.declared.frames.Frame.{Frame}
 use Rattle.task_frames.specs.FramesValue.{FramesValue, frames_of}
@@ -18,18 +18,18 @@ use Rattle.leaf_copy_gc.specs.declared.lists.Survivor.{Survivor}
 abbrev pub references_in : Frame → List (Option Addr)
 references_in f = f.refs
 
-abbrev pub held_by : List Frame → List (Option Addr)
-held_by fs = flat_map references_in fs
+abbrev pub frame_references : List Frame → List (Option Addr)
+frame_references fs = flat_map references_in fs
 
 abbrev pub as_reference : Addr → Option Addr
 as_reference a = Some a
 
 abbrev pub outside : FramesValue → List Addr → List (Option Addr)
-outside s roots = held_by (frames_of s) ++ map as_reference roots
+outside s roots = frame_references (frames_of s) ++ map as_reference roots
 
 -- these references refer to a
 abbrev pub Starts : List ChunkValue → List (Option Addr) → Addr → Type 0
-Starts h from a = IsHeld h a × Contains from (Some a)
+Starts h from a = HasObjectAt h a × Contains from (Some a)
 
 -- references from outside, and then those within the heap, lead to a
 abbrev pub IsSurvivor : List ChunkValue → List (Option Addr) → Addr → Type 0

@@ -5,7 +5,7 @@ ghost use Rattle.std.specs.List.{IsDistinct};
 ghost use Rattle.object_layout.specs.Cell.{IsObject, IsPlace};
 ghost use Rattle.object_layout.specs.Place.{cell_at, IsObjectAt};
 ghost use Rattle.object_layout.specs.Chunks.{cell_of, place_in, same_address};
-ghost use Rattle.leaf_copy_gc.specs.Survivors.{as_reference, held_by, olds, outside, with_chunks, HaveNames, IsSurvivor};
+ghost use Rattle.leaf_copy_gc.specs.Survivors.{as_reference, frame_references, olds, outside, with_chunks, HaveNames, IsSurvivor};
 ghost use Rattle.leaf_copy_gc.specs.Search.{all_found, birth_in, visited, IsTarget};
 ghost use Rattle.object_layout.specs.declared.word.Addr.{Addr};
 ghost use Rattle.object_layout.specs.Graph.{IsClosed, IsSound};
@@ -121,8 +121,8 @@ impl Collector {
 
     // Follows the references of all frames.
     fn visit_frames(&mut self, frames: &Frames)
-        requires { All (IsTarget self.old.heap.chunks) (held_by (frames_of frames.now)) }
-        ensures { self.new ≡ fold visited self.old (held_by (frames_of frames.now)) }
+        requires { All (IsTarget self.old.heap.chunks) (frame_references (frames_of frames.now)) }
+        ensures { self.new ≡ fold visited self.old (frame_references (frames_of frames.now)) }
     {
         for frame in 0..frames.depth() {
             let references = frames.references_in(frame);

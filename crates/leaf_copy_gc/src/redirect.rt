@@ -5,7 +5,7 @@ ghost use Rattle.object_layout.specs.Cell.{IsPlace};
 ghost use Rattle.object_layout.specs.Chunks.{cell_of, held_words, place_in, small_words};
 ghost use Rattle.object_layout.specs.Place.{cell_at, put_cell, IsObjectAt};
 ghost use Rattle.task_frames.specs.FramesValue.{frames_of};
-ghost use Rattle.leaf_copy_gc.specs.Survivors.{held_by, with_chunks};
+ghost use Rattle.leaf_copy_gc.specs.Survivors.{frame_references, with_chunks};
 ghost use Rattle.leaf_copy_gc.specs.Near.{Knows};
 ghost use Rattle.leaf_copy_gc.specs.Search.{IsTarget};
 ghost use Rattle.leaf_copy_gc.specs.Redirected.{followed, followed_at, followed_large, followed_ref, led_cell, led_chunk, led_frame, CanFollow, HasTargets};
@@ -122,7 +122,7 @@ fn follow_all(references: &mut [Option<Addr>], heap: &Space)
 
 // Leads the references of all frames.
 fn follow_frames(frames: &mut Frames, heap: &Space)
-    requires { All (IsTarget heap.now.chunks) (held_by (frames_of frames.old)) }
+    requires { All (IsTarget heap.now.chunks) (frame_references (frames_of frames.old)) }
     ensures { frames_of frames.new ≡ map (led_frame (followed_ref heap.now.chunks)) (frames_of frames.old) }
 {
     for frame in 0..frames.depth() {
@@ -174,7 +174,7 @@ impl Collector {
 
     /// Leads the references of all frames.
     pub(crate) fn lead_frames(&self, frames: &mut Frames)
-        requires { All (IsTarget self.now.heap.chunks) (held_by (frames_of frames.old)) }
+        requires { All (IsTarget self.now.heap.chunks) (frame_references (frames_of frames.old)) }
         ensures { frames_of frames.new ≡ map (led_frame (followed_ref self.now.heap.chunks)) (frames_of frames.old) }
     {
         follow_frames(frames, &self.heap);

@@ -24,9 +24,9 @@ use Rattle.hh_model.specs.declared.data.State.{State}
 use Rattle.hh_model.specs.Names.{words_asked, words_for}
 use Rattle.hh_model.specs.Effect.{with_int, Effect, Goes, Prints, Calls, Forks, Returns, Traps, Stops, Setting, effect, made, row_of, object_at, put_object, counts_in, int_in, ref_in, or_trap, with_object, read_effect, place_in, same_name, onward}
 use Rattle.hh_model.specs.Precedence.{precedes}
-use Rattle.hh_model.specs.Step.{entry_frame, setting, fetched, step, follow, returned_to, last_return, child_ended_by, or_same, last_of, ended_by, with_task, can_step, depth_limit, frame_limit, owner_of, owner_in, path_in, parents, parent_of, resumed, joined, is_running, is_waiting, is_joined, is_over, is_left, sibling, kept_by, result_in, result_of, ended_task, join_of, joined_task, child, strand, strand_of, edge, runs, waits, asked, asked_by, asked_line}
+use Rattle.hh_model.specs.Step.{entry_frame, setting, fetched, step, follow, returned_to, last_return, child_ended_by, or_same, last_of, ended_by, with_task, can_step, depth_limit, frame_limit, owner_of, owner_in, path_in, parents, parent_of, resumed, joined, is_running, is_waiting, is_joined, is_over, is_left, sibling, result_at, result_in, result_of, ended_task, join_of, joined_task, child, strand, strand_of, edge, runs, waits, asked, asked_by, asked_line}
 use Rattle.hh_model.proofs.Closed.{asked_at, waits_is}
-use Rattle.hh_model.proofs.Kept.{Kept, step_kept}
+use Rattle.hh_model.proofs.Kept.{SoundState, step_kept}
 use Rattle.path_laws.proofs.Objects.{put_here}
 use Rattle.path_laws.proofs.Leaves.{can_going}
 use Rattle.hh_model.proofs.Runs.{grown_at, three_left, three_right, running_tells, ended_tells, wp, parr}
@@ -263,7 +263,7 @@ module _ (p : ProgramText) (l : Ledger) (t : ℕ) (x : Task) (line : Line) (K : 
 
     last_ends : (o : Option ℕ) → x.parent ≡ o → x.below ≡ [] → step p m t ≡ last_return m t x o → (e : End) → (last_return m t x o).end ≡ Some e → Ends
     last_ends None root lone is e end = done root lone is
-    last_ends (Some parent) root lone is e end = contra e (sym (child_on parent (kept_by (slice_get m.tasks (sibling t)))) ∙ end)
+    last_ends (Some parent) root lone is e end = contra e (sym (child_on parent (result_at (slice_get m.tasks (sibling t)))) ∙ end)
 
     returns_end : (o : Option Frame) → last_of x.below ≡ o → step p m t ≡ returned_to m t x o → (e : End) → (returned_to m t x o).end ≡ Some e → Ends
     returns_end None q is e end = last_ends x.parent refl (none_last x.below q) is e end
@@ -461,7 +461,7 @@ module _ (p : ProgramText) (l : Ledger) (t : ℕ) (x : Task) (line : Line) (K : 
     fork_by true e h =
         let none = ap (words_asked m.field_limit x.top) il in
         let is : k ≡ at_fork (stepped_by l mf) t = then_ none mf e ∙ moves mf waiting_task going at_mf in
-        let kept : Kept mf = subst Kept e (step_kept p m t K.sound.kept) in
+        let kept : SoundState mf = subst SoundState e (step_kept p m t K.sound.kept) in
         let F : ForksTask l (at_fork (stepped_by l mf) t) t (length m.tasks) (length m.tasks + 1) g f x = fork_is l t x g f (l.steps + 1) new_edges I.task I.runs K.sound K.rows kept.tree.low in
         let names : within (stepped_by l mf) t ≡ within (rested l t) t = fork_names l t x g f (l.steps + 1) new_edges I.task I.runs K.sound K.rows kept.tree.low ∙ sym (within_rested l t t) in
         let r : (G : ForksTask (rested l t) k t (length m.tasks) (length m.tasks + 1) g f x) × (G.names ≡ within (rested l t) t) =
@@ -603,7 +603,7 @@ module _ (p : ProgramText) (l : Ledger) (t : ℕ) (x : Task) (line : Line) (K : 
           then_ none_ret mj e ∙ (moves mj z going at ∙ (ap₂ (moved_on (stepped_by l mj) t) zp st ∙ ap (join_heaps (stepped_by l mj) parent) side))
 
       join_case : (z : Task) → step p m t ≡ mj → slice_get mj.tasks t ≡ Some z → z.parent ≡ Some parent → z.status ≡ Joined → cond (is_left t) t (t - 1) ≡ c → (c ≡ t) ⊎ (runs xl.status ≡ false) → (c + 1 ≡ t) ⊎ (runs xr.status ≡ false)
-          → ((t ≡ c) × (rl ≡ result_of x.top) × (kept_by (slice_get m.tasks (c + 1)) ≡ Some rr)) ⊎ ((t ≡ c + 1) × (rr ≡ result_of x.top) × (kept_by (slice_get m.tasks c) ≡ Some rl)) → Last
+          → ((t ≡ c) × (rl ≡ result_of x.top) × (result_at (slice_get m.tasks (c + 1)) ≡ Some rr)) ⊎ ((t ≡ c + 1) × (rr ≡ result_of x.top) × (result_at (slice_get m.tasks c) ≡ Some rl)) → Last
       join_case z e at zp st side hl hr results = (
         Joining,
         record {
@@ -629,7 +629,7 @@ module _ (p : ProgramText) (l : Ledger) (t : ℕ) (x : Task) (line : Line) (K : 
         let jr : slice_get m.tasks (t + 1) ≡ Some z = ap (slice_get m.tasks) (sym sib) ∙ iz in
         join_case t xp x z result other ip I.task jr has side tells.0 over.0 tells.1 over.1 (inl refl) (joined_task x) e
         (three_left m.tasks t parent x z xp (joined_task x) (joined_task z) _ I.task jr ip (K.sound.kept.tree.low t parent (ap parent_of I.task ∙ has))) has refl (cond-true (is_left t) t (t - 1) side)
-        (inl refl) (inr (ended_stops z.status other ended)) (inl (refl, refl, ap kept_by jr ∙ ended))
+        (inl refl) (inr (ended_stops z.status other ended)) (inl (refl, refl, ap result_at jr ∙ ended))
     sides xp z other ip iz ended false side e =
         let sib : sibling t ≡ t - 1 = cond-false (is_left t) (t + 1) (t - 1) side in
         let over = ended_tells z.status other ended in
@@ -644,21 +644,21 @@ module _ (p : ProgramText) (l : Ledger) (t : ℕ) (x : Task) (line : Line) (K : 
         let low' : parent < t - 1 = K.sound.kept.tree.low (t - 1) parent (ap parent_of jl ∙ pz) in
         join_case (t - 1) xp z x other result ip jl jr pz (eq-eqb ((t - 1) % 2) 1 odd) over.0 tells.0 over.1 tells.1 (inr (sym back)) (joined_task x) e
         (ap (slice_get (join_of m parent xp (t - 1) z x other result).tasks) (sym back) ∙ three_right m.tasks (t - 1) parent z x xp (joined_task z) (joined_task x) _ jl jr ip low') has refl (cond-false (is_left t) t (t - 1) side)
-        (inr (ended_stops z.status other ended)) (inl back) (inr (sym back, refl, ap kept_by jl ∙ ended))
+        (inr (ended_stops z.status other ended)) (inl back) (inr (sym back, refl, ap result_at jl ∙ ended))
 
-    ended_case : (o : Option (ℤ × Option Name)) → kept_by (slice_get m.tasks (sibling t)) ≡ o → step p m t ≡ child_ended_by m t x parent (result_of x.top) o → Last
+    ended_case : (o : Option (ℤ × Option Name)) → result_at (slice_get m.tasks (sibling t)) ≡ o → step p m t ≡ child_ended_by m t x parent (result_of x.top) o → Last
     ended_case None q e = end_case e
     ended_case (Some other) q e =
         let xp = got parent (let lt : parent < t = K.sound.kept.tree.low t parent (ap parent_of I.task ∙ has) in let in_ : t < length m.tasks = got_within m.tasks t x I.task in omega (arith, lt, in_)) in
         by (slice_get m.tasks (sibling t)) refl xp.0 xp.1
       where
         by : (y : Option Task) → slice_get m.tasks (sibling t) ≡ y → (xp : Task) → slice_get m.tasks parent ≡ Some xp → Last
-        by None iz xp ip = absurd (none_kept (sym (ap kept_by iz) ∙ q))
+        by None iz xp ip = absurd (none_kept (sym (ap result_at iz) ∙ q))
           where
             none_kept : {r : ℤ × Option Name} → ◌≡◌ {A = Option (ℤ × Option Name)} None (Some r) → ⊥
             none_kept e = absurd cc
         by (Some z) iz xp ip =
-            sides xp z other ip iz (ap kept_by (sym iz) ∙ q) (is_left t) refl
+            sides xp z other ip iz (ap result_at (sym iz) ∙ q) (is_left t) refl
             (e ∙ (ap (λ o. or_same m o (λ w. or_same m (slice_get m.tasks (sibling t)) (λ y. cond (is_left t) (join_of m parent w t x y result other) (join_of m parent w (t - 1) y x other result)))) ip
             ∙ ap (λ o. or_same m o (λ y. cond (is_left t) (join_of m parent xp t x y result other) (join_of m parent xp (t - 1) y x other result))) iz))
 
@@ -669,7 +669,7 @@ module _ (p : ProgramText) (l : Ledger) (t : ℕ) (x : Task) (line : Line) (K : 
     where
       by : (o : Option ℕ) → x.parent ≡ o → step p m t ≡ last_return m t x o → is_none (last_return m t x o).end ≡ true → Last
       by None has e h = absurd (false≢true h)
-      by (Some parent) has e h = ended_case il lone parent has (kept_by (slice_get m.tasks (sibling t))) refl e
+      by (Some parent) has e h = ended_case il lone parent has (result_at (slice_get m.tasks (sibling t))) refl e
   ret_case il (f ∷ fs) lone h q end = absurd (false≢true h)
 
   -- BY THE INSTRUCTION

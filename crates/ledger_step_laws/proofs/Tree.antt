@@ -5,7 +5,7 @@ use Rattle.hh_model.specs.declared.data.Name.{Name}
 use Rattle.hh_model.specs.declared.data.Status.{Status}
 use Rattle.hh_model.specs.declared.data.Status.TheVariants.{Running, Waiting, Ended, Joined}
 use Rattle.hh_model.specs.declared.data.Task.{Task}
-use Rattle.hh_model.specs.Names.{held_by, task_names}
+use Rattle.hh_model.specs.Names.{names_from, task_names}
 use Rattle.hh_model.specs.Step.{is_waiting, is_joined, is_over, is_on_path, parents, joined}
 use Rattle.hh_model.proofs.Runs.{waiting, joins_in}
 use Rattle.hh_model.proofs.Tree.{not_above, owner_not_joined}
@@ -29,7 +29,7 @@ module _ (l : Ledger) (S : SoundLedger l) where
   pub holder_live : (u : ℕ) (x : Task) (n : Name) → slice_get l.machine.tasks u ≡ Some x → In (task_names x) n → is_joined (slice_get l.machine.tasks u) ≡ false
   holder_live u x n is i = ap is_joined is ∙ by x.status i
     where
-      by : (s : Status) → In (held_by s (x.top ∷ x.below)) n → is_over s ≡ false
+      by : (s : Status) → In (names_from s (x.top ∷ x.below)) n → is_over s ≡ false
       by Running i = refl
       by Waiting i = refl
       by (Ended k r) i = refl

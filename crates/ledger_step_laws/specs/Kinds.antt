@@ -1,7 +1,7 @@
 -- What a fork, a join, the end of a task and a store change of the accounts.
 use Rattle.std.specs.Prelude.{◌≡◌, ◌⊎◌, ℕ, ℤ, ◌+◌, ◌<◌, true, false, Option, Some, None, List, slice_get, slice_set, length}
 use Rattle.hh_model.specs.declared.data.Name.{Name}
-use Rattle.hh_model.specs.declared.data.Frame.{Frame as ModelFrame}
+use Rattle.hh_model.specs.declared.data.Frame.{Frame}
 use Rattle.hh_model.specs.declared.data.Object.{Object}
 use Rattle.hh_model.specs.declared.data.Status.TheVariants.{Running, Waiting, Ended}
 use Rattle.hh_model.specs.declared.data.Task.{Task}
@@ -85,7 +85,7 @@ pub record EndsTask (l l' : Ledger) (t : ℕ) (x : Task) : Type 0 where
   pub store : (n : Name) → object_at l'.machine.store n ≡ object_at l.machine.store n
 
 -- the frame that goes on, with a number in one of its registers where the step sets one
-abbrev pub onward_with : Option (ℕ × ℤ) → ModelFrame → ModelFrame
+abbrev pub onward_with : Option (ℕ × ℤ) → Frame → Frame
 onward_with None f = onward f
 onward_with (Some c) f = onward (with_int f c.0 c.1)
 

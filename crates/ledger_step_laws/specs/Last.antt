@@ -9,14 +9,14 @@ use Rattle.hh_lang.specs.Form.{ProgramText}
 use Rattle.run_trace.specs.Settings.{SettingsValue}
 use Rattle.hh_model.specs.declared.data.Name.{Name}
 use Rattle.hh_model.specs.declared.data.Object.{Object}
-use Rattle.hh_model.specs.declared.data.Frame.{Frame as ModelFrame}
+use Rattle.hh_model.specs.declared.data.Frame.{Frame}
 use Rattle.hh_model.specs.declared.data.Status.TheVariants.{Running}
 use Rattle.hh_model.specs.declared.data.Task.{Task}
 use Rattle.hh_model.specs.declared.data.End.{End}
 use Rattle.hh_model.specs.declared.data.End.TheVariants.{Done}
 use Rattle.hh_model.specs.declared.data.State.{State}
 use Rattle.hh_model.specs.Effect.{Goes, effect, object_at, put_object, onward, int_in, ref_in, with_int, place_in, same_name}
-use Rattle.hh_model.specs.Step.{asked, fetched, setting, is_running, kept_by, result_of, parents as parents_in}
+use Rattle.hh_model.specs.Step.{asked, fetched, setting, is_running, result_at, result_of, parents as parents_in}
 use Rattle.run_ledger.specs.declared.data.Ledger.{Ledger}
 use Rattle.run_ledger.specs.declared.data.RunEnd.TheVariants.{Machine}
 use Rattle.run_ledger.specs.Heaps.{within}
@@ -47,7 +47,7 @@ stepped_by l m = record l { machine = m; steps = l.steps + 1 }
 
 -- the instruction reads the object y and writes nothing: a field, a count of fields, or a compare and swap whose field isn't what
 -- was expected, and whose register tells so in the frame f
-abbrev pub JustReads : Task → Instr → Object → ModelFrame → Type 0
+abbrev pub JustReads : Task → Instr → Object → Frame → Type 0
 JustReads x (Getr d o k) y f = Unit {0}
 JustReads x (Geti d o k) y f = Unit {0}
 JustReads x (Cntr d o) y f = Unit {0}
@@ -60,7 +60,7 @@ JustReads x _ y f = ⊥
 pub record ReadsOther (l l' : Ledger) (t : ℕ) (x : Task) (line : Line) : Type 0 where
   pub name : Name
   pub object : Object
-  pub frame : ModelFrame
+  pub frame : Frame
   pub touches : touched x.top line.instr ≡ Some name
   pub is : object_at l.machine.store name ≡ Some object
   pub foreign : own l name ≡ t → ⊥
@@ -70,7 +70,7 @@ pub record ReadsOther (l l' : Ledger) (t : ℕ) (x : Task) (line : Line) : Type 
   pub alone : StepsAlone l l' t
 
 -- what a write makes of the object y and of the frame: a reference, a number, or a reference in place of one that was expected
-abbrev pub Wrote : Task → Instr → Object → Object → ModelFrame → Type 0
+abbrev pub Wrote : Task → Instr → Object → Object → Frame → Type 0
 Wrote x (Putr o k v) y y' f =
     (i : ℕ) × (place_in (length y.refs) (int_in x.top k) ≡ Some i) × (y.mutable ≡ true) × (y' ≡ record y { refs = slice_set y.refs i (ref_in x.top v) }) × (f ≡ onward x.top)
 Wrote x (Puti o k v) y y' f =
@@ -85,7 +85,7 @@ pub record WritesOther (l l' : Ledger) (t : ℕ) (x : Task) (line : Line) : Type
   pub name : Name
   pub object : Object
   pub written : Object
-  pub frame : ModelFrame
+  pub frame : Frame
   pub touches : touched x.top line.instr ≡ Some name
   pub foreign : own l name ≡ t → ⊥
   pub wrote : Wrote x line.instr object written frame
@@ -131,8 +131,8 @@ pub record EndsLast (l l' : Ledger) (t : ℕ) (x : Task) : Type 0 where
   -- whose child each task is stays
   pub parents : (u : ℕ) → parents_in l'.machine.tasks u ≡ parents_in l.machine.tasks u
   pub outputs : l'.machine.outputs ≡ l.machine.outputs
-  pub results : ((t ≡ left) × (left_result ≡ result_of x.top) × (kept_by (slice_get l.machine.tasks (left + 1)) ≡ Some right_result))
-      ⊎ ((t ≡ left + 1) × (right_result ≡ result_of x.top) × (kept_by (slice_get l.machine.tasks left) ≡ Some left_result))
+  pub results : ((t ≡ left) × (left_result ≡ result_of x.top) × (result_at (slice_get l.machine.tasks (left + 1)) ≡ Some right_result))
+      ⊎ ((t ≡ left + 1) × (right_result ≡ result_of x.top) × (result_at (slice_get l.machine.tasks left) ≡ Some left_result))
 
 -- it is the root's last, and the run is done
 pub record EndsDone (l l' : Ledger) (t : ℕ) (x : Task) : Type 0 where

@@ -15,7 +15,7 @@ use Rattle.hh_model.specs.declared.data.End.{End}
 use Rattle.hh_model.specs.declared.data.End.TheVariants.{Done}
 use Rattle.hh_model.specs.declared.data.State.{State}
 use Rattle.hh_model.specs.Effect.{effect}
-use Rattle.hh_model.specs.Step.{runs, waits, is_left, sibling, parents, parent_of, result_of, setting, follow, fetched, last_of, front_of, back_in, last_return, returned_to, child_ended_by, kept_by, ended_task, joined_task, resumed, join_of, or_same}
+use Rattle.hh_model.specs.Step.{runs, waits, is_left, sibling, parents, parent_of, result_of, setting, follow, fetched, last_of, front_of, back_in, last_return, returned_to, child_ended_by, result_at, ended_task, joined_task, resumed, join_of, or_same}
 use Rattle.model_laws.specs.Winner.{IsTurn}
 use Rattle.hh_model.proofs.Runs.{three_left, three_right}
 use Rattle.hh_model.proofs.Taken.{step_taken}
@@ -105,12 +105,12 @@ module _ (p : ProgramText) (limit : ℕ) (ts : List ℕ) where
         ∙ three_right m0.tasks (a.task - 1) parent z x xp (joined_task z) (joined_task x) (resumed xp other (result_of x.top)) (ap (slice_get m0.tasks) (sym sib) ∙ iz) (ap (slice_get m0.tasks) back ∙ on.is) ip (omega arith)))
         (refl, refl)
 
-    by_sibling : (parent : ℕ) (xp : Task) (other : ℤ × Option Name) → x.parent ≡ Some parent → slice_get m0.tasks parent ≡ Some xp → (o : Option Task) → slice_get m0.tasks (sibling a.task) ≡ o → kept_by o ≡ Some other
+    by_sibling : (parent : ℕ) (xp : Task) (other : ℤ × Option Name) → x.parent ≡ Some parent → slice_get m0.tasks parent ≡ Some xp → (o : Option Task) → slice_get m0.tasks (sibling a.task) ≡ o → result_at o ≡ Some other
         → at p limit ts (suc k) ≡ or_same m0 o (λ y. cond (is_left a.task) (join_of m0 parent xp a.task x y (result_of x.top) other) (join_of m0 parent xp (a.task - 1) y x other (result_of x.top))) → Gone
     by_sibling parent xp other pp ip None iz h e = absurd cc
     by_sibling parent xp other pp ip (Some z) iz h e = sides parent xp z other pp ip iz (is_left a.task) refl e
 
-    by_kept : (parent : ℕ) → x.parent ≡ Some parent → (o : Option (ℤ × Option Name)) → kept_by (slice_get m0.tasks (sibling a.task)) ≡ o → at p limit ts (suc k) ≡ child_ended_by m0 a.task x parent (result_of x.top) o → Gone
+    by_kept : (parent : ℕ) → x.parent ≡ Some parent → (o : Option (ℤ × Option Name)) → result_at (slice_get m0.tasks (sibling a.task)) ≡ o → at p limit ts (suc k) ≡ child_ended_by m0 a.task x parent (result_of x.top) o → Gone
     by_kept parent pp None h e = sleeps (ended_task x (result_of x.top)) (is_at _ (ended_task x (result_of x.top)) e (got_same m0.tasks a.task x (ended_task x (result_of x.top)) on.is)) (refl, refl)
     by_kept parent pp (Some other) h e =
         let tree = (kept_at p limit ts k).tree in
@@ -122,7 +122,7 @@ module _ (p : ProgramText) (limit : ℕ) (ts : List ℕ) where
 
     by_parent : (o : Option ℕ) → x.parent ≡ o → at p limit ts (suc k) ≡ last_return m0 a.task x o → Gone
     by_parent None pp e = inr (inr (Done, ap (λ (z : State). z.end) e))
-    by_parent (Some parent) pp e = by_kept parent pp (kept_by (slice_get m0.tasks (sibling a.task))) refl e
+    by_parent (Some parent) pp e = by_kept parent pp (result_at (slice_get m0.tasks (sibling a.task))) refl e
 
     by_last : (o : Option Frame) → last_of x.below ≡ o → at p limit ts (suc k) ≡ returned_to m0 a.task x o → Gone
     by_last None h e = by_parent x.parent refl e

@@ -9,7 +9,7 @@ use Rattle.object_layout.specs.ChunkValue.{ChunkValue}
 use Rattle.object_layout.specs.Chunks.{cell_of}
 use Rattle.task_frames.specs.declared.frames.Frame.{Frame}
 use Rattle.task_frames.specs.FramesValue.{FramesValue, depth_of, frames_of, references_of}
-use Rattle.leaf_copy_gc.specs.Survivors.{held_by, IsClosed}
+use Rattle.leaf_copy_gc.specs.Survivors.{frame_references, IsClosed}
 use Rattle.memory_scenes.specs.Fit.{IsFit}
 use Rattle.alloc_path.proofs.Settled.{at_offset}
 
@@ -38,9 +38,9 @@ count_last : (fs : List Frame) (t : Frame) → length (fs ++ t ∷ []) ≡ lengt
 count_last [] t = refl
 count_last (f ∷ fs) t = let ih = count_last fs t in omega arith
 
-held_each : (P : Option Addr → Type 0) (fs : List Frame) → ((k : ℕ) → k < length fs → All P (references_of fs k)) → All P (held_by fs)
+held_each : (P : Option Addr → Type 0) (fs : List Frame) → ((k : ℕ) → k < length fs → All P (references_of fs k)) → All P (frame_references fs)
 held_each P [] f = All-nil P
-held_each P (x ∷ fs) f = All-append P x.refs (held_by fs) (f 0 (omega arith)) (held_each P fs (λ k lt. f (suc k) (omega arith)))
+held_each P (x ∷ fs) f = All-append P x.refs (frame_references fs) (f 0 (omega arith)) (held_each P fs (λ k lt. f (suc k) (omega arith)))
 
-pub held_stack : (P : Option Addr → Type 0) (s : FramesValue) (n : ℕ) → depth_of s ≤ n → ((k : ℕ) → k < n → All P (references_of (frames_of s) k)) → All P (held_by (frames_of s))
+pub held_stack : (P : Option Addr → Type 0) (s : FramesValue) (n : ℕ) → depth_of s ≤ n → ((k : ℕ) → k < n → All P (references_of (frames_of s) k)) → All P (frame_references (frames_of s))
 held_stack P s n le f = held_each P (frames_of s) (λ k lt. let e = count_last s.below s.top in f k (omega arith))

@@ -3,7 +3,7 @@
 ghost use Rattle.std.specs.Prelude.{IsTrue};
 ghost use Rattle.object_layout.specs.Cell.{IsObject};
 ghost use Rattle.object_layout.specs.Chunks.{cell_of};
-ghost use Rattle.object_layout.specs.Graph.{IsHeld};
+ghost use Rattle.object_layout.specs.Graph.{HasObjectAt};
 
 use crate::soundness::{is_fresh, is_live};
 use alloc_path::{LeafHeap, New};
@@ -130,7 +130,7 @@ pub fn holds(heap: &LeafHeap, objects: &[Seen]) -> bool {
 
 // Whether an object lies there.
 fn is_object(heap: &LeafHeap, object: Addr) -> bool
-    ensures born { IsTrue result → IsHeld heap.now.chunks object }
+    ensures born { IsTrue result → HasObjectAt heap.now.chunks object }
     ensures object { IsTrue result → IsObject (cell_of heap.now.chunks object).mark }
 {
     is_live(heap.chunks(), object)

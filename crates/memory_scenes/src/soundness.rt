@@ -5,7 +5,7 @@ ghost use Rattle.object_layout.specs.Cell.{IsBorn};
 ghost use Rattle.object_layout.specs.Place.{cell_at, IsCellAt};
 ghost use Rattle.task_frames.specs.FramesValue.{frames_of};
 ghost use Rattle.alloc_path.specs.LeafHeapValue.{IsFresh};
-ghost use Rattle.leaf_copy_gc.specs.Survivors.{as_reference, held_by, outside, IsHeld, IsSound};
+ghost use Rattle.leaf_copy_gc.specs.Survivors.{as_reference, frame_references, outside, HasObjectAt, IsSound};
 
 use alloc_path::LeafHeap;
 use object_layout::{Addr, CHUNK_WORDS, Chunk, is_born_at, next_at};
@@ -35,7 +35,7 @@ fn is_born_in(chunk: &Chunk, offset: u32) -> bool
 
 /// Whether an object that bears its birth name lies at an address of these chunks.
 pub fn is_live(chunks: &[Chunk], object: Addr) -> bool
-    ensures { IsTrue result → IsHeld chunks.now object }
+    ensures { IsTrue result → HasObjectAt chunks.now object }
 {
     match chunks.split_first() {
         None => false,
@@ -85,7 +85,7 @@ fn roots_are_sound(heap: &LeafHeap, roots: &[Addr]) -> bool
 
 // The same of each reference that a frame holds.
 fn frames_are_sound(heap: &LeafHeap, frames: &Frames) -> bool
-    ensures { IsTrue result → All (IsSound heap.now.chunks) (held_by (frames_of frames.now)) }
+    ensures { IsTrue result → All (IsSound heap.now.chunks) (frame_references (frames_of frames.now)) }
 {
     for frame in 0..frames.depth() {
         if !are_sound(heap, &frames.references_in(frame)) {

@@ -2,7 +2,7 @@
 
 ghost use Rattle.std.specs.Prelude.{All, IfSome, IsSome, IsTrue};
 ghost use Rattle.chunk_pool.specs.PoolValue.{slot_at};
-ghost use Rattle.inner_mark_gc.specs.Snapshot.{IsClosed, IsHeld};
+ghost use Rattle.inner_mark_gc.specs.Snapshot.{IsClosed, HasObjectAt};
 ghost use Rattle.inner_mark_gc.specs.MarkingValue.{HasRoom, IsDone, IsOf};
 
 use crate::cells::is_fit_heap;
@@ -22,14 +22,14 @@ fn is_closed(heap: &LeafHeap) -> bool
 
 // Whether an object lies there.
 fn is_object(heap: &LeafHeap, object: Addr) -> bool
-    ensures { IsTrue result → IsHeld heap.now.chunks object }
+    ensures { IsTrue result → HasObjectAt heap.now.chunks object }
 {
     is_live(heap.chunks(), object)
 }
 
 // Whether objects lie at all these addresses.
 fn are_objects(heap: &LeafHeap, objects: &[Addr]) -> bool
-    ensures { IsTrue result → All (IsHeld heap.now.chunks) objects.now }
+    ensures { IsTrue result → All (HasObjectAt heap.now.chunks) objects.now }
 {
     for &object in objects {
         if !is_object(heap, object) {
@@ -62,7 +62,7 @@ fn pool_of(alloc: Global, chunks: &[Chunk]) -> Option<Pool>
 // Marks so many objects at a time until fewer are left, and says how many calls marked that many.
 fn mark_all(marking: &mut Marking, heap: &LeafHeap, kept: &[Addr], step: u32) -> u32
     requires closed { IsClosed heap.now.chunks }
-    requires kept { All (IsHeld heap.now.chunks) kept.now }
+    requires kept { All (HasObjectAt heap.now.chunks) kept.now }
     requires own { IsOf heap.now.chunks kept.now marking.old }
     ensures { IsOf heap.now.chunks kept.now marking.new }
 {
@@ -78,7 +78,7 @@ fn mark_all(marking: &mut Marking, heap: &LeafHeap, kept: &[Addr], step: u32) ->
 // calls marked that many.
 fn marked(mut marking: Marking, heap: &LeafHeap, kept: &[Addr], step: u32) -> Option<(u32, Marking)>
     requires closed { IsClosed heap.now.chunks }
-    requires kept { All (IsHeld heap.now.chunks) kept.now }
+    requires kept { All (HasObjectAt heap.now.chunks) kept.now }
     requires own { IsOf heap.now.chunks kept.now marking }
     ensures own { IfSome result (λ r. IsOf heap.now.chunks kept.now r.1) }
     ensures done { IfSome result (λ r. IsDone r.1) }
@@ -109,8 +109,8 @@ fn sweep(heap: &mut LeafHeap, pool: &mut Pool, marking: Marking) -> Option<(u32,
 // Whether all references within a heap lead to objects, and so do these roots and kept references.
 fn is_sound(heap: &LeafHeap, roots: &[Addr], kept: &[Addr]) -> bool
     ensures closed { IsTrue result → IsClosed heap.now.chunks }
-    ensures roots { IsTrue result → All (IsHeld heap.now.chunks) roots.now }
-    ensures kept { IsTrue result → All (IsHeld heap.now.chunks) kept.now }
+    ensures roots { IsTrue result → All (HasObjectAt heap.now.chunks) roots.now }
+    ensures kept { IsTrue result → All (HasObjectAt heap.now.chunks) kept.now }
 {
     is_closed(heap) && are_objects(heap, roots) && are_objects(heap, kept)
 }

@@ -5,7 +5,7 @@ ghost use Rattle.path_laws.specs.ReadLaws.{ReadsAreDecided, StopsAreReads};
 ghost use Rattle.model_laws.specs.Winner.{OneWinner, SomeCasWins};
 ghost use Rattle.hh_model.specs.NextLaw.{AlwaysNext, PacksAreFew};
 ghost use Rattle.hh_model.specs.Store.{TasksAreNumbered};
-ghost use Rattle.hh_model.specs.Tree.{RunsAreKept, StepsKeep, RunsHaveOneRoot};
+ghost use Rattle.hh_model.specs.Tree.{RunsAreSound, StepsKeep, RunsHaveOneRoot};
 ghost use Rattle.hh_model.specs.Counts.{RunsAreCounted, StepsCount, SizesAreBounded, LimitStays};
 ghost use Rattle.model_laws.specs.Turns.{RunsGoOn, StepsAreTaken};
 ghost use Rattle.hh_model.specs.Ends.{EndsAreSteps, RunningIsARun};
@@ -36,8 +36,8 @@ pub fn always_next()
 {}
 
 /// Every run keeps the tree of tasks: parents below children, waiting tasks above those that haven't joined, and precedence as paths.
-pub fn runs_are_kept()
-    ensures { RunsAreKept }
+pub fn runs_are_sound()
+    ensures { RunsAreSound }
 {}
 
 /// So does every step.

@@ -72,13 +72,13 @@ held_size (Moved to) n = n
 held_size Hole n = 0
 
 -- the words of all objects of a chunk, and of a list of chunks
-abbrev pub held_in : List Cell → ℕ
-held_in [] = 0
-held_in (c ∷ cs) = held_size c.mark (size_of c) + held_in cs
+abbrev pub object_words_in : List Cell → ℕ
+object_words_in [] = 0
+object_words_in (c ∷ cs) = held_size c.mark (size_of c) + object_words_in cs
 
 abbrev pub held_words : List ChunkValue → ℕ
 held_words [] = 0
-held_words (k ∷ ks) = held_in k.cells + held_words ks
+held_words (k ∷ ks) = object_words_in k.cells + held_words ks
 
 -- the same, where an object of n words counts for so many
 abbrev pub sum_in : (ℕ → ℕ) → List Cell → ℕ

@@ -6,18 +6,18 @@ use Rattle.object_layout.specs.ChunkValue.{ChunkValue}
 use Rattle.object_layout.specs.Chunks.{cell_of, place_of}
 
 -- an object that bears its birth name lies at this address of the heap
-abbrev pub IsHeld : List ChunkValue → Addr → Type 0
-IsHeld h a = IsBorn (cell_of h a).mark
+abbrev pub HasObjectAt : List ChunkValue → Addr → Type 0
+HasObjectAt h a = IsBorn (cell_of h a).mark
 
 -- a reference into the heap leads to an object there, at a place that a word can hold
 abbrev pub IsSound : List ChunkValue → Option Addr → Type 0
 IsSound h None = Unit {0}
-IsSound h (Some a) = place_of h a.chunk < length h → IsHeld h a × (a.offset < chunk_words)
+IsSound h (Some a) = place_of h a.chunk < length h → HasObjectAt h a × (a.offset < chunk_words)
 
 -- each reference of each object of the heap does
 abbrev pub IsClosed : List ChunkValue → Type 0
-IsClosed h = (b : Addr) → IsHeld h b → All (IsSound h) (cell_of h b).refs
+IsClosed h = (b : Addr) → HasObjectAt h b → All (IsSound h) (cell_of h b).refs
 
 -- the object at b refers to that at a
 abbrev pub Leads : List ChunkValue → Addr → Addr → Type 0
-Leads h b a = IsHeld h b × IsHeld h a × Contains (cell_of h b).refs (Some a)
+Leads h b a = HasObjectAt h b × HasObjectAt h a × Contains (cell_of h b).refs (Some a)

@@ -56,7 +56,7 @@ pub record IsForeign (w : SharedValue) (v : Memory) (l : Ledger) (t : ℕ) (n : 
   pub place : Place v l n a
   pub rests : Rests (accounts w) (own l n)
   pub rest : Rest
-  pub there : rest_at w.homes (own l n) ≡ Some rest
+  pub there : rest_at w.rests (own l n) ≡ Some rest
   pub birth : Birth
   pub mark : (cell_of rest.heap.chunks a).mark ≡ Born birth
   pub object : Object
@@ -122,10 +122,10 @@ module _ (w : SharedValue) (k : ℕ) (p : Private) (I : IsSharedValue w) (F : Fi
     rests_L : Rests L u
     rests_L = link.rests_then w k p I F on u apart rests
 
-    lies : Lies (home_in (rest_at w.homes u)).chunks n a
+    lies : Lies (home_in (rest_at w.rests u)).chunks n a
     lies = subst (λ (z : Home). Lies z.chunks n a) (link.off w k p I F on u apart) (P.here rests_L)
 
-    by : (o : Option Rest) → rest_at w.homes u ≡ o → Lies (home_in o).chunks n a → IsForeign w v' L t n a
+    by : (o : Option Rest) → rest_at w.rests u ≡ o → Lies (home_in o).chunks n a → IsForeign w v' L t n a
     by None e y = absurd y.1
     by (Some r) e y =
         let i : In (objects_in (chunks_of r.heap.chunks)) y.0 = subst (λ ks. In (objects_in ks) y.0) (rest_chunks r r.work) y.1 in
@@ -150,7 +150,7 @@ module _ (w : SharedValue) (k : ℕ) (p : Private) (I : IsSharedValue w) (F : Fi
         }
 
     pub foreign : IsForeign w v' L t n a
-    foreign = by (rest_at w.homes u) refl lies
+    foreign = by (rest_at w.rests u) refl lies
 
   -- the object in a register
   pub in_register : (o : ℕ) (n : Name) → ref_in x.top o ≡ Some n → (own L n ≡ t → ⊥) → (a : Addr) × (ref_of p.frames.top o ≡ Some a) × IsForeign w v' L t n a

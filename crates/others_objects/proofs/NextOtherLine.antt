@@ -191,10 +191,10 @@ module _ (w : SharedValue) (k : ℕ) (p : Private) (I : IsSharedValue w) (F : Fi
         same_owner : u ≡ owner
         same_owner = same_Some u owner (sym owns ∙ (ap (λ (z : Addr). pool_owner w.pool z.chunk) same_address ∙ owner_is))
 
-        pub rest_is : rest_at w.homes u ≡ Some foreign.rest
-        rest_is = ap (rest_at w.homes) same_owner ∙ foreign.there
+        pub rest_is : rest_at w.rests u ≡ Some foreign.rest
+        rest_is = ap (rest_at w.rests) same_owner ∙ foreign.there
 
-        module _ (r : Rest) (there : rest_at w.homes u ≡ Some r) where
+        module _ (r : Rest) (there : rest_at w.rests u ≡ Some r) where
           same_rest : r ≡ foreign.rest
           same_rest = same_Some r foreign.rest (sym there ∙ rest_is)
 

@@ -106,11 +106,11 @@ module _ (w : SharedValue) (k : ℕ) (p : Private) (I : IsSharedValue w) (F : Fi
       abbrev pub r' : Rest
       r' = put_rest r a d
 
-      abbrev pub homes : List (Option Rest)
-      homes = slice_set w.homes u (Some r')
+      abbrev pub rests : List (Option Rest)
+      rests = slice_set w.rests u (Some r')
 
       abbrev pub v' : Memory
-      v' = with_marks w.marks (value_by homes sets w.pool)
+      v' = with_marks w.marks (value_by rests sets w.pool)
 
       abbrev pub v1 : Memory
       v1 = record v' { homes = resting l v'.homes }
@@ -124,29 +124,29 @@ module _ (w : SharedValue) (k : ℕ) (p : Private) (I : IsSharedValue w) (F : Fi
       form : HeapForm r.heap
       form = I.heaps u r O.there
 
-      was_there : slice_get w.homes u ≡ Some (Some r)
-      was_there = by (slice_get w.homes u) O.there
+      was_there : slice_get w.rests u ≡ Some (Some r)
+      was_there = by (slice_get w.rests u) O.there
         where
           by : (o : Option (Option Rest)) → option_flatten o ≡ Some r → o ≡ Some (Some r)
           by None e = absurd cc
           by (Some x) e = ap Some e
 
       -- every heap keeps its form
-      pub forms : (z : ℕ) (s : Rest) → rest_at homes z ≡ Some s → HeapForm s.heap
+      pub forms : (z : ℕ) (s : Rest) → rest_at rests z ≡ Some s → HeapForm s.heap
       forms z s e = elim (cases_eq z u) [
         | inl q ↦
-            let is : s ≡ r' = same_Some s r' (sym e ∙ (ap (rest_at homes) q ∙ ap option_flatten (got_same w.homes u (Some r) (Some r') was_there))) in
+            let is : s ≡ r' = same_Some s r' (sym e ∙ (ap (rest_at rests) q ∙ ap option_flatten (got_same w.rests u (Some r) (Some r') was_there))) in
             subst (λ (x : Rest). HeapForm x.heap) (sym is) (form_written r.heap a d form mark size)
-        | inr ne ↦ I.heaps z s (sym (ap option_flatten (got_other w.homes u z (Some r') ne)) ∙ e)
+        | inr ne ↦ I.heaps z s (sym (ap option_flatten (got_other w.rests u z (Some r') ne)) ∙ e)
       ]
 
       -- and the pool has its chunks' units still
-      pub measures : RestsAreMeasured w.pool homes w.tasks_out
+      pub measures : RestsAreMeasured w.pool rests w.tasks_out
       measures z s e f' = elim (cases_eq z u) [
         | inl q ↦
-            let is : s ≡ r' = same_Some s r' (sym e ∙ (ap (rest_at homes) q ∙ ap option_flatten (got_same w.homes u (Some r) (Some r') was_there))) in
-            subst (λ (x : Rest). AreMeasured w.pool z x.heap.chunks) (sym is) (measured_written w.pool z r.heap.chunks a d (I.measured z r (ap (rest_at w.homes) q ∙ O.there) f'))
-        | inr ne ↦ I.measured z s (sym (ap option_flatten (got_other w.homes u z (Some r') ne)) ∙ e) f'
+            let is : s ≡ r' = same_Some s r' (sym e ∙ (ap (rest_at rests) q ∙ ap option_flatten (got_same w.rests u (Some r) (Some r') was_there))) in
+            subst (λ (x : Rest). AreMeasured w.pool z x.heap.chunks) (sym is) (measured_written w.pool z r.heap.chunks a d (I.measured z r (ap (rest_at w.rests) q ∙ O.there) f'))
+        | inr ne ↦ I.measured z s (sym (ap option_flatten (got_other w.rests u z (Some r') ne)) ∙ e) f'
       ]
 
       -- the home of the object's owner
@@ -163,14 +163,14 @@ module _ (w : SharedValue) (k : ℕ) (p : Private) (I : IsSharedValue w) (F : Fi
 
       home_owner : v'.homes u ≡ changed ((value_of w).homes u)
       home_owner =
-          ap home_in (ap option_flatten (got_same w.homes u (Some r) (Some r') was_there))
+          ap home_in (ap option_flatten (got_same w.rests u (Some r) (Some r') was_there))
           ∙ (home_written r.heap r'.heap r.view r.allocations r.work (room_written r.heap a d form mark size) refl
           ∙ (ap (λ (ks : List Chunk). record (home_of r) { chunks = ks }) (chunks_changed ∙ ap (map (mapped_chunk (put_at a f))) (sym (by_chunks r.heap r.view r.allocations r.work)))
           ∙ ap (λ o. changed (home_in o)) (sym O.there)))
 
       home_other : (z : ℕ) → (z ≡ t → ⊥) → (z ≡ u → ⊥) → Rests l z → v'.homes z ≡ changed ((value_of w).homes z)
       home_other z nt nu rz =
-          ap (λ o. home_in (option_flatten o)) (got_other w.homes u z (Some r') nu)
+          ap (λ o. home_in (option_flatten o)) (got_other w.rests u z (Some r') nu)
           ∙ ap (λ (ks : List Chunk). record ((value_of w).homes z) { chunks = ks }) (sym (chunks_elsewhere a f ((value_of w).homes z).chunks (none_other z nt nu rz)))
 
       home_by_worker : (z : ℕ) → (z ≡ t → ⊥) → (o : Option ℕ) → (heap_of l z).worker ≡ o → cond (is_none o) (v'.homes z) no_home ≡ changed (cond (is_none o) ((value_of w).homes z) no_home)
@@ -229,7 +229,7 @@ module _ (w : SharedValue) (k : ℕ) (p : Private) (I : IsSharedValue w) (F : Fi
       pub read_old : (o : Located) → In (objects old u) o → o.at ≡ a → (b : Birth) × (o ≡ located o.at.chunk o.at.offset b c)
       read_old o i at =
           let j : In (objects_in (resting l (value_of w).homes u).chunks) o = subst (λ (x : Home). In (objects_in x.chunks) o) (off_home v0 t h u O.apart) i in
-          let k' : In (objects_in (home_in (rest_at w.homes u)).chunks) o = subst (λ (x : Home). In (objects_in x.chunks) o) (resting_is l (value_of w).homes u O.rests) j in
+          let k' : In (objects_in (home_in (rest_at w.rests u)).chunks) o = subst (λ (x : Home). In (objects_in x.chunks) o) (resting_is l (value_of w).homes u O.rests) j in
           let m : In (objects_in (chunks_of r.heap.chunks)) o = subst (λ ks. In (objects_in ks) o) (by_chunks r.heap r.view r.allocations r.work) (subst (λ x. In (objects_in (home_in x).chunks) o) O.there k') in
           let y = seen_object r.heap.chunks o form.shaped.apart m in
           (o.birth, y.is ∙ ap (λ (z : Addr). located o.at.chunk o.at.offset o.birth (cell_of r.heap.chunks z)) at)

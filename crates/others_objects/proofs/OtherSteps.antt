@@ -5,7 +5,7 @@ use Rattle.std.proofs.lemmas.Bool.{cases_eq, cond-false, cond-true, ne_eqb}
 use Rattle.hh_lang.specs.declared.instr.Instr.{Instr}
 use Rattle.hh_lang.specs.declared.instr.Instr.TheVariants.{Set, Mov, Movr, Nil as NilOf, Calc, Same, Jmp, Jz, Newm, Pack, Getr, Geti, Putr, Puti, Cntr, Cnti, Freeze, Cas, Call, Par, Ret, Out}
 use Rattle.hh_lang.specs.declared.program.Line.{Line}
-use Rattle.hh_model.specs.declared.data.Frame.{Frame as Framed}
+use Rattle.hh_model.specs.declared.data.Frame.{Frame}
 use Rattle.hh_model.specs.declared.data.Name.{Name}
 use Rattle.hh_model.specs.declared.data.Object.{Object}
 use Rattle.hh_model.specs.declared.data.State.{State}
@@ -69,7 +69,7 @@ module _ (w : SharedValue) (k : ℕ) (p : Private) (I : IsSharedValue w) (F : Fi
   abbrev X : Task
   X = x w k p I F on
 
-  abbrev top : Framed
+  abbrev top : Frame
   top = X.top
 
   abbrev place : Name → Addr → Type 0
@@ -145,7 +145,7 @@ module _ (w : SharedValue) (k : ℕ) (p : Private) (I : IsSharedValue w) (F : Fi
     frozen i e go false act h rest = trap i e FrozenTrap h
 
     -- it reads
-    reads : (i : Instr) → line.instr ≡ i → (f : Framed) → JustReads X i q f → does i ≡ Goes f m.store → ReadsTo m t X line f
+    reads : (i : Instr) → line.instr ≡ i → (f : Frame) → JustReads X i q f → does i ≡ Goes f m.store → ReadsTo m t X line f
     reads i e f just goes' = record { name = n; object = q; touches = touches; is = O.is; reads = subst (λ z. JustReads X z q f) (sym e) just; does = ap does e ∙ goes' }
 
     -- ---- A REFERENCE IS READ

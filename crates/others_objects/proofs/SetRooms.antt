@@ -6,7 +6,7 @@ use Rattle.core_relation.specs.Memory.{Memory}
 use Rattle.core_relation.specs.Whole.{StandsForAll}
 use Rattle.core_relation.specs.Worker.{Fits as FitsValue}
 use Rattle.task_machine.specs.declared.part.Private.{Private}
-use Rattle.shared_value.specs.SharedValue.{SharedValue, accounts, marks_at, noted_in, totals_of, value_of}
+use Rattle.shared_value.specs.SharedValue.{SharedValue, accounts, marks_at, noted_in, tree_counts_of, value_of}
 use Rattle.shared_value.specs.Stands.{IsSharedValue}
 use Rattle.shared_value.specs.Fits.{Fits, part_of}
 use Rattle.shared_value.proofs.FieldsNoted.{noted_is, noted_of}
@@ -31,7 +31,7 @@ module _ (w : SharedValue) (sets : List SetOf) (many : length sets ≡ length w.
     noted = many ∙ I.noted;
     workers = I.workers;
     limit = I.limit;
-    stands = subst (λ (v : Memory). StandsForAll v (totals_of w) (accounts w)) value_same I.stands;
+    stands = subst (λ (v : Memory). StandsForAll v (tree_counts_of w) (accounts w)) value_same I.stands;
     heaps = I.heaps;
     measured = I.measured;
   }

@@ -4,7 +4,7 @@ use Rattle.std.specs.Option.{option_flatten}
 use Rattle.std.specs.Prelude.{IsSome, slice_index_or}
 use Rattle.std.proofs.lemmas.Option.{same_Some}
 use Rattle.listed.specs.RoomyValue.{RoomyValue}
-use Rattle.hh_model.specs.declared.data.Frame.{Frame as ModelFrame}
+use Rattle.hh_model.specs.declared.data.Frame.{Frame}
 use Rattle.hh_model.specs.declared.data.Name.{Name}
 use Rattle.hh_model.specs.declared.data.Object.{Object}
 use Rattle.hh_model.specs.declared.data.Task.{Task}
@@ -118,7 +118,7 @@ module _ (w : SharedValue) (k : ℕ) (p : Private) (I : IsSharedValue w) (F : Fi
       pub touches : touched S.task.top S.line.instr ≡ Some writes.name
       pub at : ref_of p.frames.top o ≡ Some a
       pub value : r ≡ ref_of p.frames.top b
-      pub not : (f : ModelFrame) → JustReads S.task S.line.instr writes.object f → ⊥
+      pub not : (f : Frame) → JustReads S.task S.line.instr writes.object f → ⊥
       pub pack : (y : Object) (v v' : Memory) (C : StoresInto v v' M t h S.task y o j b (flag_of swap)) → StoresNotes (with_home v t h) (with_home v' t C.0) t C.4 C.1 → Made v v' M t h S.task y S.line.instr C.0
 
   store_is : (swap : Option ℕ) (a : Addr) (i : ℕ) (r : Option Addr) → SaysOther w.program (then_places w p) p M.machine t S.task S.line (store_of swap a i r) → IsStoreOf swap a i r
@@ -177,7 +177,7 @@ module _ (w : SharedValue) (k : ℕ) (p : Private) (I : IsSharedValue w) (F : Fi
         by None e = tt
         by (Some z) e = let y = name_at place cell.refs foreign.object.refs i z foreign.refs e in placed y.0 z y.2
 
-    pub writable : IsWritable (length w.tree) w.pool w.homes a i
+    pub writable : IsWritable (length w.tree) w.pool w.rests a i
     writable = record {
       owner = owner;
       rest = foreign.rest;
@@ -204,7 +204,7 @@ module _ (w : SharedValue) (k : ℕ) (p : Private) (I : IsSharedValue w) (F : Fi
 
     abbrev pub after_store : List SetOf → Option Addr → RoomyValue EntryValue → SharedValue
     after_store sets q space = record w {
-      homes = slice_set w.homes owner (Some (put_rest foreign.rest a (cell_ref cell i q)));
+      rests = slice_set w.rests owner (Some (put_rest foreign.rest a (cell_ref cell i q)));
       sets = sets;
       steps = w.steps + (p.fresh + 1);
       journal = record { items = w.journal.items ++ alone_event k p ∷ []; room = space.room };
@@ -241,7 +241,7 @@ module _ (w : SharedValue) (k : ℕ) (p : Private) (I : IsSharedValue w) (F : Fi
     pub touches_number : touched S.task.top S.line.instr ≡ Some writes.name
     touches_number = ap (touched S.task.top) said.3 ∙ writes.named
 
-    pub not_number : (f : ModelFrame) → JustReads S.task S.line.instr writes.object f → ⊥
+    pub not_number : (f : Frame) → JustReads S.task S.line.instr writes.object f → ⊥
     not_number f q = reads_puti S.task S.line.instr writes.object f said.0 said.1 said.2 said.3 q
 
     abbrev pub foreign_number : IsForeign w (with_home (value_of w) t h) (rested M t) t n_number a
@@ -256,12 +256,12 @@ module _ (w : SharedValue) (k : ℕ) (p : Private) (I : IsSharedValue w) (F : Fi
     pub used_number : IsSome (slot_at w.pool a.chunk)
     used_number = owner_held w.pool a.chunk owner_number foreign_number.place.chunk
 
-    pub there_number : (z : ℕ) → pool_owner w.pool a.chunk ≡ Some z → IsSome (rest_at w.homes z)
-    there_number z e = subst (λ y. IsSome (rest_at w.homes y)) (sym (same_owner z e)) (subst IsSome (sym foreign_number.there) refl)
+    pub there_number : (z : ℕ) → pool_owner w.pool a.chunk ≡ Some z → IsSome (rest_at w.rests z)
+    there_number z e = subst (λ y. IsSome (rest_at w.rests y)) (sym (same_owner z e)) (subst IsSome (sym foreign_number.there) refl)
 
-    pub field_number : (z : ℕ) (r : Rest) → pool_owner w.pool a.chunk ≡ Some z → rest_at w.homes z ≡ Some r → i < length (object_of r.heap.chunks a).ints
+    pub field_number : (z : ℕ) (r : Rest) → pool_owner w.pool a.chunk ≡ Some z → rest_at w.rests z ≡ Some r → i < length (object_of r.heap.chunks a).ints
     field_number z r e f =
-        let is : r ≡ foreign_number.rest = same_Some r foreign_number.rest (sym f ∙ (ap (rest_at w.homes) (same_owner z e) ∙ foreign_number.there)) in
+        let is : r ≡ foreign_number.rest = same_Some r foreign_number.rest (sym f ∙ (ap (rest_at w.rests) (same_owner z e) ∙ foreign_number.there)) in
         subst (λ (q : Rest). i < length (object_of q.heap.chunks a).ints) (sym is)
         (stored.number_there w k p I F shared free_so writes.name writes.object touches_number writes.is writes.frame writes.store writes.does not_number said.0 writes.named a said.4
         said.2 said.1 i writes.place said.3 (store_frames None p.frames).top (store_top None p.frames))
@@ -271,7 +271,7 @@ module _ (w : SharedValue) (k : ℕ) (p : Private) (I : IsSharedValue w) (F : Fi
 
     abbrev pub after_number : ℤ → RoomyValue EntryValue → SharedValue
     after_number q space = record w {
-      homes = slice_set w.homes owner_number (Some (put_rest foreign_number.rest a (cell_int (cell_of foreign_number.rest.heap.chunks a) i q)));
+      rests = slice_set w.rests owner_number (Some (put_rest foreign_number.rest a (cell_int (cell_of foreign_number.rest.heap.chunks a) i q)));
       steps = w.steps + (p.fresh + 1);
       journal = record { items = w.journal.items ++ alone_event k p ∷ []; room = space.room };
     }

@@ -5,7 +5,7 @@ use Rattle.std.proofs.lemmas.Bool.{both_ways}
 use Rattle.std.proofs.lemmas.Option.{same_Some}
 use Rattle.hh_lang.specs.declared.instr.Instr.{Instr}
 use Rattle.hh_lang.specs.declared.instr.Instr.TheVariants.{Putr, Puti, Cas}
-use Rattle.hh_model.specs.declared.data.Frame.{Frame as ModelFrame}
+use Rattle.hh_model.specs.declared.data.Frame.{Frame}
 use Rattle.hh_model.specs.declared.data.Object.{Object}
 use Rattle.hh_model.specs.declared.data.Task.{Task}
 use Rattle.hh_model.specs.Effect.{int_in, place_in, ref_in, same_name}
@@ -27,13 +27,13 @@ by_putr v v' m t h x y i o k b e C N = subst (λ j. Made v v' m t h x y j C.0) (
 pub by_cas : (v v' : Memory) (m : Ledger) (t : ℕ) (h : Home) (x : Task) (y : Object) (i : Instr) (d o k e b : ℕ) → i ≡ Cas d o k e b → (C : StoresInto v v' m t h x y o k b (Some (d, pos 1))) → StoresNotes (with_home v t h) (with_home v' t C.0) t C.4 C.1 → Made v v' m t h x y i C.0
 by_cas v v' m t h x y i d o k w b e C N = subst (λ j. Made v v' m t h x y j C.0) (sym e) (C, N, refl)
 
-pub reads_putr : (x : Task) (i : Instr) (y : Object) (f : ModelFrame) (o k b : ℕ) → i ≡ Putr o k b → JustReads x i y f → ⊥
+pub reads_putr : (x : Task) (i : Instr) (y : Object) (f : Frame) (o k b : ℕ) → i ≡ Putr o k b → JustReads x i y f → ⊥
 reads_putr x i y f o k b e r = subst (λ j. JustReads x j y f) e r
 
-pub reads_puti : (x : Task) (i : Instr) (y : Object) (f : ModelFrame) (o k b : ℕ) → i ≡ Puti o k b → JustReads x i y f → ⊥
+pub reads_puti : (x : Task) (i : Instr) (y : Object) (f : Frame) (o k b : ℕ) → i ≡ Puti o k b → JustReads x i y f → ⊥
 reads_puti x i y f o k b e r = subst (λ j. JustReads x j y f) e r
 
-pub reads_cas : (x : Task) (i : Instr) (y : Object) (f : ModelFrame) (d o k w b at : ℕ) → i ≡ Cas d o k w b → place_in (length y.refs) (int_in x.top k) ≡ Some at → same_name (option_flatten (slice_get y.refs at)) (ref_in x.top w) ≡ true → JustReads x i y f → ⊥
+pub reads_cas : (x : Task) (i : Instr) (y : Object) (f : Frame) (d o k w b at : ℕ) → i ≡ Cas d o k w b → place_in (length y.refs) (int_in x.top k) ≡ Some at → same_name (option_flatten (slice_get y.refs at)) (ref_in x.top w) ≡ true → JustReads x i y f → ⊥
 reads_cas x i y f d o k w b at e place same r =
     let s = subst (λ j. JustReads x j y f) e r in
     let q : s.0 ≡ at = same_Some s.0 at (sym s.1 ∙ place) in

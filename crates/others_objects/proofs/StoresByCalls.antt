@@ -83,8 +83,8 @@ module _ (w : SharedValue) (k : ℕ) (p : Private) (I : IsSharedValue w) (F : Fi
 
   -- the value once so many steps are entered
   abbrev pub entered_by : List (Option Rest) → List SetOf → ℕ → RoomyValue EntryValue → SharedValue
-  entered_by homes sets m space = record w {
-    homes = homes;
+  entered_by rests sets m space = record w {
+    rests = rests;
     sets = sets;
     steps = w.steps + m;
     journal = record { items = w.journal.items ++ record { worker = k; kind = Ran p.task m } ∷ []; room = space.room };
@@ -194,14 +194,14 @@ module _ (w : SharedValue) (k : ℕ) (p : Private) (I : IsSharedValue w) (F : Fi
               (stores.stores_notes w k p I F on n a foreign o held at_a b i swap overwritten was sets C top goes)
 
           module _ (space : RoomyValue EntryValue) where
-            abbrev homes : List (Option Rest)
-            homes = slice_set w.homes (own (rested M t) n) (Some (put_rest rest a d))
+            abbrev rests : List (Option Rest)
+            rests = slice_set w.rests (own (rested M t) n) (Some (put_rest rest a d))
 
             abbrev pub stored : SharedValue
-            stored = entered_by homes sets (p.fresh + 1) space
+            stored = entered_by rests sets (p.fresh + 1) space
 
-            stored_is : entered_by homes sets (suc p.fresh) space ≡ stored
-            stored_is = ap (λ m. entered_by homes sets m space) more
+            stored_is : entered_by rests sets (suc p.fresh) space ≡ stored
+            stored_is = ap (λ m. entered_by rests sets m space) more
 
             pub reference_world : IsSharedValue stored
             reference_world =
@@ -264,7 +264,7 @@ module _ (w : SharedValue) (k : ℕ) (p : Private) (I : IsSharedValue w) (F : Fi
 
         module _ (space : RoomyValue EntryValue) where
           abbrev homes_n : List (Option Rest)
-          homes_n = slice_set w.homes (own (rested M t) n) (Some (put_rest rest_n a d_n))
+          homes_n = slice_set w.rests (own (rested M t) n) (Some (put_rest rest_n a d_n))
 
           abbrev pub stored_n : SharedValue
           stored_n = entered_by homes_n w.sets (p.fresh + 1) space

@@ -35,7 +35,7 @@ module _ (w : SharedValue) (I : IsSharedValue w) (on : (accounts w).end ≡ None
   l = accounts w
 
   same_node : (u : ℕ) → slice_get w.tree u ≡ option_map (as_node (heap_of l u).worker) (slice_get l.machine.tasks u)
-  same_node u = (stands_now w I on).totals.node u
+  same_node u = (stands_now w I on).tree_counts.node u
 
   pub paths_same : (a t : ℕ) → tree_path w.tree a t ≡ is_on_path l.machine.tasks a t
   paths_same a t = same_by (tree_parent w.tree) (parents l.machine.tasks) (λ u. same_parent (slice_get w.tree u) (slice_get l.machine.tasks u) (heap_of l u).worker (same_node u)) t a t

@@ -34,7 +34,7 @@ use Rattle.core_entry_laws.proofs.whole.RanWhole.{ran_stands_for}
 use Rattle.core_entry_laws.proofs.parts.Workers.{ran_leaves}
 use Rattle.task_machine.specs.declared.part.Private.{Private}
 use Rattle.task_homes.specs.declared.task_at_rest.Rest.{Rest}
-use Rattle.shared_value.specs.SharedValue.{SharedValue, accounts, totals_of, value_of}
+use Rattle.shared_value.specs.SharedValue.{SharedValue, accounts, tree_counts_of, value_of}
 use Rattle.shared_value.specs.Stands.{IsSharedValue}
 use Rattle.shared_value.specs.Fits.{Fits, OthersFit, home_of_part, part_of}
 use Rattle.shared_value.specs.Entered.{refused}
@@ -85,11 +85,11 @@ module _ (w : SharedValue) (k : ℕ) (p : Private) (I : IsSharedValue w) (F : Fi
       by None e = e
       by (Some x) e = running_not (slice_get l.machine.tasks u) h' ((tasks_are_held_once w.program w.settings w.journal.items I.legal).runs on u x e)
 
-  stands_0 : StandsFor v0 (totals_of w) l
-  stands_0 = stands_for_held (value_of w) v0.homes l (λ u r. resting_is l (value_of w).homes u r) waits_l (totals_of w) (stands_now w I on)
+  stands_0 : StandsFor v0 (tree_counts_of w) l
+  stands_0 = stands_for_held (value_of w) v0.homes l (λ u r. resting_is l (value_of w).homes u r) waits_l (tree_counts_of w) (stands_now w I on)
 
-  all_0 : StandsForAll v0 (totals_of w) l
-  all_0 = subst (λ o. StandsFor v0 (totals_of w) (by_end l o)) (sym on) stands_0
+  all_0 : StandsForAll v0 (tree_counts_of w) l
+  all_0 = subst (λ o. StandsFor v0 (tree_counts_of w) (by_end l o)) (sym on) stands_0
 
   abbrev R : Runs w.program w.settings l L t k p.fresh
   R = last.runs_so w k p I F shared free
@@ -99,8 +99,8 @@ module _ (w : SharedValue) (k : ℕ) (p : Private) (I : IsSharedValue w) (F : Fi
 
   module _ (n : Name) (a : Addr) (O : IsForeign w (with_home (value_of w) t h) (other.L w k p I F on) t n a) (d : Cell) (mark : d.mark ≡ (other.c w k p I F on n a O).mark) (size : size_of d ≡ size_of (other.c w k p I F on n a O))
       (f : Located → Located) (fields : (number at : ℕ) (b : Birth) → with_fields d (located number at b (other.c w k p I F on n a O)) ≡ f (located number at b (other.c w k p I F on n a O))) (sets : List SetOf) (many : length sets ≡ length w.sets) (top : Frame) where
-    abbrev pub homes : List (Option Rest)
-    homes = other.homes w k p I F on n a O d mark size f fields sets top
+    abbrev pub rests : List (Option Rest)
+    rests = other.rests w k p I F on n a O d mark size f fields sets top
 
     abbrev pub v' : Memory
     v' = other.v' w k p I F on n a O d mark size f fields sets top
@@ -156,23 +156,23 @@ module _ (w : SharedValue) (k : ℕ) (p : Private) (I : IsSharedValue w) (F : Fi
         steps = w.steps + suc p.fresh
 
         abbrev w' : SharedValue
-        w' = entered w (last_event k p) w.tree w.pool homes sets w.tasks_out w.outputs steps w.end j.room
+        w' = entered w (last_event k p) w.tree w.pool rests sets w.tasks_out w.outputs steps w.end j.room
 
-        counts : RanCounts w.program (totals_of w) (totals_of w') M L t k p.fresh S.task S.line Writing K
+        counts : RanCounts w.program (tree_counts_of w) (tree_counts_of w') M L t k p.fresh S.task S.line Writing K
         counts = record { tree = λ u. refl; task_out = λ u. refl; outputs = refl; end = refl; used = refl; steps = refl }
 
-        all_1 : StandsForAll v1 (totals_of w') L
-        all_1 = ran_stands_for w.program w.settings w.journal.items I.form I.legal v0 v1 (totals_of w) (totals_of w') k t p.fresh h free E all_0 own_0 C mk counts
+        all_1 : StandsForAll v1 (tree_counts_of w') L
+        all_1 = ran_stands_for w.program w.settings w.journal.items I.form I.legal v0 v1 (tree_counts_of w) (tree_counts_of w') k t p.fresh h free E all_0 own_0 C mk counts
 
-        all_then : StandsForAll v' (totals_of w') L
+        all_then : StandsForAll v' (tree_counts_of w') L
         all_then =
-            subst (λ o. StandsFor v' (totals_of w') (by_end L o)) (sym end_then)
-            (stands_for_held v1 v'.homes L same_then waits_then (totals_of w') (subst (λ o. StandsFor v1 (totals_of w') (by_end L o)) end_then all_1))
+            subst (λ o. StandsFor v' (tree_counts_of w') (by_end L o)) (sym end_then)
+            (stands_for_held v1 v'.homes L same_then waits_then (tree_counts_of w') (subst (λ o. StandsFor v1 (tree_counts_of w') (by_end L o)) end_then all_1))
 
         pub written_world : IsSharedValue w'
         written_world =
-            entered_world w (last_event k p) I free w.tree w.pool homes sets w.tasks_out w.outputs steps w.end j.room
-            (length-set w.homes (other.u w k p I F on n a O) _ ∙ I.made) (many ∙ I.noted) refl refl all_then
+            entered_world w (last_event k p) I free w.tree w.pool rests sets w.tasks_out w.outputs steps w.end j.room
+            (length-set w.rests (other.u w k p I F on n a O) _ ∙ I.made) (many ∙ I.noted) refl refl all_then
             (other.forms w k p I F on n a O d mark size f fields sets top) (other.measures w k p I F on n a O d mark size f fields sets top)
 
         pub written_goes : (accounts w').end ≡ None
@@ -180,14 +180,14 @@ module _ (w : SharedValue) (k : ℕ) (p : Private) (I : IsSharedValue w) (F : Fi
 
         pub written_part : Fits w' k q
         written_part =
-            part_fits w (last_event k p) I free w.tree w.pool homes sets w.tasks_out w.outputs steps w.end j.room written_world k p q refl F refl refl refl F.form F.measured
+            part_fits w (last_event k p) I free w.tree w.pool rests sets w.tasks_out w.outputs steps w.end j.room written_world k p q refl F refl refl refl F.form F.measured
             (fits_held v1 v'.homes L same_then w.program w.settings (part_of w.settings q) R.knows_then.sound goes_then
             (ran_fits_then w.program w.settings v0 v1 l L t k p.fresh h g E own_0 C gh))
 
         -- THE PARTS OF OTHERS
         pub written_others : OthersFit w w' k
         written_others u r ne G =
-            part_fits w (last_event k p) I free w.tree w.pool homes sets w.tasks_out w.outputs steps w.end j.room written_world u r r refl G refl refl refl G.form G.measured
+            part_fits w (last_event k p) I free w.tree w.pool rests sets w.tasks_out w.outputs steps w.end j.room written_world u r r refl G refl refl refl G.form G.measured
             (fits_held v1 v'.homes L same_then w.program w.settings (part_of w.settings r) R.knows_then.sound goes_then
             (ran_leaves w.program w.settings v0 v1 l L t k p.fresh h E own_0 C (part_of w.settings r) (held_apart w k u p r F G ne)
             (fits_held (value_of w) v0.homes l (λ z y. resting_is l (value_of w).homes z y) w.program w.settings (part_of w.settings r) R.knows.sound (last.before_goes w k p I F shared free) G.fits)))

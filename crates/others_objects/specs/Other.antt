@@ -179,13 +179,13 @@ TellsOther w p does number = TellsOtherOf w.program (then_places w p) p (then_ac
 
 -- the field i of the object at an address is there to be written, in the heap of its owner, and what stands in it may
 -- be let go
-pub record IsWritable (made : ℕ) (pool : PoolValue) (homes : List (Option Rest)) (a : Addr) (i : ℕ) : Type 0 where
+pub record IsWritable (made : ℕ) (pool : PoolValue) (rests : List (Option Rest)) (a : Addr) (i : ℕ) : Type 0 where
   pub owner : ℕ
   pub rest : Rest
   pub owns : owner_of pool a.chunk ≡ Some owner
   pub used : IsSome (slot_at pool a.chunk)
   pub inside : owner < made
-  pub there : rest_at homes owner ≡ Some rest
+  pub there : rest_at rests owner ≡ Some rest
   pub object : IsObject (cell_of rest.heap.chunks a).mark
   pub field : i < length (object_of rest.heap.chunks a).refs
   pub overwritten : IsOwned made pool (slice_index_or (object_of rest.heap.chunks a).refs i None)

@@ -7,7 +7,7 @@ use Rattle.hh_lang.specs.declared.instr.Instr.TheVariants.{Ret}
 use Rattle.hh_lang.specs.declared.program.Line.{Line}
 use Rattle.hh_model.specs.declared.data.End.{End}
 use Rattle.hh_model.specs.declared.data.End.TheVariants.{Done, Trapped}
-use Rattle.hh_model.specs.declared.data.State.{State as MachineState}
+use Rattle.hh_model.specs.declared.data.State.{State}
 use Rattle.hh_model.specs.declared.data.Task.{Task}
 use Rattle.hh_model.specs.declared.data.Trap.{Trap}
 use Rattle.hh_model.specs.Step.{ended_by, fetched, step}
@@ -118,7 +118,7 @@ module _ (w : SharedValue) (k : ℕ) (p : Private) (I : IsSharedValue w) (F : Fi
     abbrev finished : SharedValue
     finished = record w {
       tree = with_state w.tree p.task Ended;
-      homes = slice_set w.homes p.task (Some (ended_rest p));
+      rests = slice_set w.rests p.task (Some (ended_rest p));
       tasks_out = slice_set w.tasks_out k None;
       steps = w.steps + (p.fresh + 1);
       journal = record { items = w.journal.items ++ alone_event k p ∷ []; room = j.room };
@@ -127,7 +127,7 @@ module _ (w : SharedValue) (k : ℕ) (p : Private) (I : IsSharedValue w) (F : Fi
 
     finished_is : record w {
       tree = with_state w.tree p.task Ended;
-      homes = slice_set w.homes p.task (Some (ended_rest p));
+      rests = slice_set w.rests p.task (Some (ended_rest p));
       tasks_out = slice_set w.tasks_out k None;
       steps = w.steps + suc p.fresh;
       journal = record { items = w.journal.items ++ last_event k p ∷ []; room = j.room };
@@ -136,7 +136,7 @@ module _ (w : SharedValue) (k : ℕ) (p : Private) (I : IsSharedValue w) (F : Fi
     finished_is =
         ap (λ n. let z : SharedValue = record w {
           tree = with_state w.tree p.task Ended;
-          homes = slice_set w.homes p.task (Some (ended_rest p));
+          rests = slice_set w.rests p.task (Some (ended_rest p));
           tasks_out = slice_set w.tasks_out k None;
           steps = w.steps + n;
           journal = record { items = w.journal.items ++ record { worker = k; kind = Ran p.task n } ∷ []; room = j.room };
@@ -146,7 +146,7 @@ module _ (w : SharedValue) (k : ℕ) (p : Private) (I : IsSharedValue w) (F : Fi
     pub node_there : p.task < length w.tree
     node_there = has_node w k p I F shared last_free line T root
 
-    pub home_there : p.task < length w.homes
+    pub home_there : p.task < length w.rests
     home_there = has_home w k p I F shared last_free line T root
 
     pub finished_world : IsSharedValue finished
@@ -161,12 +161,12 @@ module _ (w : SharedValue) (k : ℕ) (p : Private) (I : IsSharedValue w) (F : Fi
     }
 
   -- WHERE OTHER TASKS HAVE PART IN THE STEP
-  abbrev m : MachineState
+  abbrev m : State
   m = (last.M w k p I F shared last_free).machine
 
   beyond_line : (x : Task) (line : Line) → slice_get m.tasks p.task ≡ Some x → fetched w.program x.top ≡ Some line → (is_joint x line.instr || not (owns m.tasks p.task (touched x.top line.instr))) ≡ true → is_beyond w.program (machine_after w p) p.task ≡ true
   beyond_line x line is next h =
-      ap (λ (z : MachineState). is_beyond w.program z p.task) (machine_same w k p I F shared runs_on)
+      ap (λ (z : State). is_beyond w.program z p.task) (machine_same w k p I F shared runs_on)
       ∙ (ap (is_beyond_by w.program m p.task) is ∙ (ap (is_beyond_line m p.task x) next ∙ h))
 
   pub other_beyond : (line : ℕ) → Tells w p Beyond line → is_beyond w.program (machine_after w p) p.task ≡ true

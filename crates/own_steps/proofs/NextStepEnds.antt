@@ -9,7 +9,7 @@ use Rattle.hh_lang.specs.declared.instr.Instr.TheVariants.{Set, Mov, Movr, Nil a
 use Rattle.hh_lang.specs.declared.instr.Operator.{Operator}
 use Rattle.hh_lang.specs.declared.program.Line.{Line}
 use Rattle.hh_lang.specs.Form.{ProgramText}
-use Rattle.hh_model.specs.declared.data.Frame.{Frame as Framed}
+use Rattle.hh_model.specs.declared.data.Frame.{Frame}
 use Rattle.hh_model.specs.declared.data.Name.{Name}
 use Rattle.hh_model.specs.declared.data.Object.{Object}
 use Rattle.hh_model.specs.declared.data.End.TheVariants.{Trapped}
@@ -40,7 +40,7 @@ use Rattle.shared_value.specs.declared.next_step.Ending.TheVariants.{Prints, Ret
 use Rattle.shared_value.specs.Next.{ending, instr_asks, is_joint, on_own, on_own_cell, unwritten}
 use Rattle.own_steps.specs.Alone.{SaysOf, TellsOf}
 
-last_there : (f : Framed) (fs : List Framed) → (g : Framed) × (last_of (f ∷ fs) ≡ Some g)
+last_there : (f : Frame) (fs : List Frame) → (g : Frame) × (last_of (f ∷ fs) ≡ Some g)
 last_there f [] = (f, refl)
 last_there f (k ∷ fs) = last_there k fs
 
@@ -48,7 +48,7 @@ module _ (p : ProgramText) (part : Private) (m : State) (above : Places) (F : Fi
   abbrev t : ℕ
   t = part.task
 
-  abbrev top : Framed
+  abbrev top : Frame
   top = F.task.top
 
   -- WHAT IT MEANS
@@ -65,7 +65,7 @@ module _ (p : ProgramText) (part : Private) (m : State) (above : Places) (F : Fi
   alone_not : {A : Type 0} (i : Instr) → line.instr ≡ i → is_open F.task i ≡ false → owns m.tasks t (touched F.task.top i) ≡ true → (step p m t).end ≡ None → A
   alone_not i e o h n = absurd (both_ways (is_private p m t) shared (is_alone p part m above F line at i e o h n))
 
-  never : {A : Type 0} (i : Instr) (e : line.instr ≡ i) (f : Framed) (store : List (List Object)) → seen i e ≡ Goes f store → is_open F.task i ≡ false → owns m.tasks t (touched F.task.top i) ≡ true → A
+  never : {A : Type 0} (i : Instr) (e : line.instr ≡ i) (f : Frame) (store : List (List Object)) → seen i e ≡ Goes f store → is_open F.task i ≡ false → owns m.tasks t (touched F.task.top i) ≡ true → A
   never i e f store s o h = alone_not i e o h (ap (λ (z : State). z.end) (step_by p part m above F line at i e (Goes f store) s) ∙ F.going)
 
   -- the step can't be done
@@ -141,12 +141,12 @@ module _ (p : ProgramText) (part : Private) (m : State) (above : Places) (F : Fi
       by true q = alone_not (Call g) e refl refl (ap (λ (z : State). z.end) (goes_by ∙ cond-true (nat_lt (length F.task.below + 1) frame_limit) _ _ q) ∙ F.going)
       by false q = goes_by ∙ cond-false (nat_lt (length F.task.below + 1) frame_limit) _ _ q
 
-  returns : (e : line.instr ≡ Ret) (fs : List Framed) → F.task.below ≡ fs → Says Ret Returns
+  returns : (e : line.instr ≡ Ret) (fs : List Frame) → F.task.below ≡ fs → Says Ret Returns
   returns e [] is = (refl, is)
   returns e (f ∷ fs) is =
       let g = last_there f fs in
       alone_not Ret e (ap has_no_caller is) refl
-      (ap (λ (z : State). z.end) (step_by p part m above F line at Ret e ReturnsBy refl ∙ (ap (λ (gs : List Framed). returned_to m t F.task (last_of gs)) is ∙ ap (returned_to m t F.task) g.1)) ∙ F.going)
+      (ap (λ (z : State). z.end) (step_by p part m above F line at Ret e ReturnsBy refl ∙ (ap (λ (gs : List Frame). returned_to m t F.task (last_of gs)) is ∙ ap (returned_to m t F.task) g.1)) ∙ F.going)
 
   says : (i : Instr) → line.instr ≡ i → Says i (ending part i)
   says (Set d k) e = never (Set d k) e _ _ refl refl refl
@@ -193,7 +193,7 @@ module _ (p : ProgramText) (part : Private) (m : State) (above : Places) (F : Fi
       (refs_index p part m above F line at _ O.object k O.stands)
       (λ j goes. either (Cas d o k w v) e (same_name (option_flatten (slice_get O.object.refs j)) (ref_in top w)) _ _ _ _ goes refl (owned_here p part m above F line at o n (Cas d o k w v) refl en O.owned)))
     where
-      either : {A : Type 0} (i : Instr) (e : line.instr ≡ i) (b : Bool) (f g : Framed) (st st' : List (List Object)) → seen i e ≡ cond b (Goes f st) (Goes g st') → is_open F.task i ≡ false → owns m.tasks t (touched F.task.top i) ≡ true → A
+      either : {A : Type 0} (i : Instr) (e : line.instr ≡ i) (b : Bool) (f g : Frame) (st st' : List (List Object)) → seen i e ≡ cond b (Goes f st) (Goes g st') → is_open F.task i ≡ false → owns m.tasks t (touched F.task.top i) ≡ true → A
       either i e true f g st st' goes o' h = never i e f st goes o' h
       either i e false f g st st' goes o' h = never i e g st' goes o' h
   says (Call g) e = calls g e (nat_lt (length F.task.below + 1) frame_limit) refl

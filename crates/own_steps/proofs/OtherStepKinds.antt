@@ -10,7 +10,7 @@ use Rattle.hh_lang.specs.declared.program.Line.{Line}
 use Rattle.hh_lang.specs.Form.{ProgramText}
 use Rattle.hh_model.specs.declared.data.End.{End}
 use Rattle.hh_model.specs.declared.data.End.TheVariants.{Done}
-use Rattle.hh_model.specs.declared.data.Frame.{Frame as ModelFrame}
+use Rattle.hh_model.specs.declared.data.Frame.{Frame}
 use Rattle.hh_model.specs.declared.data.Name.{Name}
 use Rattle.hh_model.specs.declared.data.Object.{Object}
 use Rattle.hh_model.specs.declared.data.State.{State}
@@ -27,7 +27,7 @@ use Rattle.ledger_step_laws.specs.Last.{Private, Reading, Writing, Printing, For
 use Rattle.own_steps.proofs.LastKinds.{joined_not}
 
 -- what an instruction reads and writes nothing of, it doesn't write
-reads_or_writes : {A : Type 0} (x : Task) (i : Instr) (y y' y'' : Object) (f f' : ModelFrame) → JustReads x i y f → Wrote x i y' y'' f' → y ≡ y' → A
+reads_or_writes : {A : Type 0} (x : Task) (i : Instr) (y y' y'' : Object) (f f' : Frame) → JustReads x i y f → Wrote x i y' y'' f' → y ≡ y' → A
 reads_or_writes x (Putr o k v) y y' y'' f f' r w e = absurd r
 reads_or_writes x (Puti o k v) y y' y'' f f' r w e = absurd r
 reads_or_writes x (Cas d o k v b) y y' y'' f f' r w e =
@@ -61,14 +61,14 @@ module _ (p : ProgramText) (m l' : Ledger) (t : ℕ) (x : Task) (line : Line) (s
           same_Some y W.object (sym at ∙ (ap (object_at m.machine.store) (same_Some n W.name (sym touches ∙ W.touches)) ∙ (ap (λ (s : State). object_at s.store W.name) (sym (heap_machine m t let_go)) ∙ W.writes.was)))
 
       -- it reads the object
-      pub reading : (f : ModelFrame) → JustReads x line.instr y f → (of : LastKind) → Last of → ReadsOther m l' t x line
+      pub reading : (f : Frame) → JustReads x line.instr y f → (of : LastKind) → Last of → ReadsOther m l' t x line
       reading f just of last = elim (works of last) [
         | inl R ↦ R
         | inr W ↦ reads_or_writes x line.instr y W.object W.written f W.frame just W.wrote (same_object W)
       ]
 
       -- it writes the object
-      pub writing : ((f : ModelFrame) → JustReads x line.instr y f → ⊥) → (of : LastKind) → Last of → WritesOther m l' t x line
+      pub writing : ((f : Frame) → JustReads x line.instr y f → ⊥) → (of : LastKind) → Last of → WritesOther m l' t x line
       writing not of last = elim (works of last) [
         | inl R ↦ absurd (not R.frame (subst (λ o. JustReads x line.instr o R.frame) (same_Some R.object y (sym R.is ∙ (ap (object_at m.machine.store) (same_Some R.name n (sym R.touches ∙ touches)) ∙ at))) R.reads))
         | inr W ↦ W

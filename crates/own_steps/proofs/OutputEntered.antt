@@ -24,7 +24,7 @@ use Rattle.core_entry_laws.proofs.parts.Sets.{numbers_go}
 use Rattle.core_entry_laws.proofs.parts.Workers.{ran_leaves}
 use Rattle.task_machine.specs.declared.part.Private.{Private}
 use Rattle.shared_value.specs.declared.next_step.Ending.TheVariants.{Prints as PrintsOf}
-use Rattle.shared_value.specs.SharedValue.{SharedValue, accounts, totals_of, value_of}
+use Rattle.shared_value.specs.SharedValue.{SharedValue, accounts, tree_counts_of, value_of}
 use Rattle.shared_value.specs.Stands.{IsSharedValue}
 use Rattle.shared_value.specs.Fits.{Fits, OthersFit, home_of_part, part_of}
 use Rattle.shared_value.specs.Entered.{refused}
@@ -110,15 +110,15 @@ module _ (w : SharedValue) (k : ℕ) (p : Private) (I : IsSharedValue w) (F : Fi
     steps = w.steps + suc p.fresh
 
     abbrev w' : SharedValue
-    w' = entered w (last_event k p) w.tree w.pool w.homes w.sets w.tasks_out outputs steps w.end j.room
+    w' = entered w (last_event k p) w.tree w.pool w.rests w.sets w.tasks_out outputs steps w.end j.room
 
-    counts : RanCounts w.program (totals_of w) (totals_of w') M L t k p.fresh S.task S.line Printing Q
+    counts : RanCounts w.program (tree_counts_of w) (tree_counts_of w') M L t k p.fresh S.task S.line Printing Q
     counts = record { tree = λ u. refl; task_out = λ u. refl; outputs = ap (λ x. w.outputs ++ x ∷ []) value_is; end = refl; used = refl; steps = refl }
 
     pub output_world : IsSharedValue w'
     output_world =
-        entered_world w (last_event k p) I free w.tree w.pool w.homes w.sets w.tasks_out outputs steps w.end j.room I.made I.noted refl refl
-        (ran_stands_for w.program w.settings w.journal.items I.form I.legal v v (totals_of w) (totals_of w') k t p.fresh h free E I.stands own refl tt counts)
+        entered_world w (last_event k p) I free w.tree w.pool w.rests w.sets w.tasks_out outputs steps w.end j.room I.made I.noted refl refl
+        (ran_stands_for w.program w.settings w.journal.items I.form I.legal v v (tree_counts_of w) (tree_counts_of w') k t p.fresh h free E I.stands own refl tt counts)
         I.heaps I.measured
 
     pub output_goes : (accounts w').end ≡ None
@@ -134,11 +134,11 @@ module _ (w : SharedValue) (k : ℕ) (p : Private) (I : IsSharedValue w) (F : Fi
 
     pub output_part : Fits w' k q
     output_part =
-        part_fits w (last_event k p) I free w.tree w.pool w.homes w.sets w.tasks_out outputs steps w.end j.room output_world k p q refl F refl refl refl F.form F.measured
+        part_fits w (last_event k p) I free w.tree w.pool w.rests w.sets w.tasks_out outputs steps w.end j.room output_world k p q refl F refl refl refl F.form F.measured
         (ran_fits_then w.program w.settings v v l L t k p.fresh h (home_of_part q) E own refl goes_home)
 
     -- THE PARTS OF OTHERS
     pub output_others : OthersFit w w' k
     output_others u r ne G =
-        part_fits w (last_event k p) I free w.tree w.pool w.homes w.sets w.tasks_out outputs steps w.end j.room output_world u r r refl G refl refl refl G.form G.measured
+        part_fits w (last_event k p) I free w.tree w.pool w.rests w.sets w.tasks_out outputs steps w.end j.room output_world u r r refl G refl refl refl G.form G.measured
         (ran_leaves w.program w.settings v v l L t k p.fresh h E own refl (part_of w.settings r) (held_apart w k u p r F G ne) G.fits)

@@ -4,13 +4,13 @@ use Rattle.std.proofs.Common.{◌≡◌, ℕ, ◌-◌, ◌<◌, ◌^◌, arith, 
 use Rattle.std.proofs.lemmas.Bool.{cases_eq}
 use Rattle.std.proofs.lemmas.Option.{same_Some}
 use Rattle.hh_lang.specs.Form.{ProgramText}
-use Rattle.hh_model.specs.declared.data.Frame.{Frame as FrameOfModel}
+use Rattle.hh_model.specs.declared.data.Frame.{Frame as ModelFrame}
 use Rattle.hh_model.specs.declared.data.Name.{Name}
 use Rattle.hh_model.specs.declared.data.Object.{Object}
 use Rattle.hh_model.specs.declared.data.Task.{Task}
 use Rattle.hh_model.specs.Effect.{object_at}
 use Rattle.hh_model.proofs.Steps.{runs_is}
-use Rattle.run_ledger.specs.declared.data.Heap.{Heap as Account}
+use Rattle.run_ledger.specs.declared.data.Heap.{Heap}
 use Rattle.run_ledger.specs.declared.data.Ledger.{Ledger}
 use Rattle.run_ledger.specs.Heaps.{heap_of}
 use Rattle.object_layout.specs.declared.word.Addr.{Addr}
@@ -19,7 +19,7 @@ use Rattle.object_layout.specs.Chunks.{cell_of}
 use Rattle.object_layout.specs.ChunkValue.{ChunkValue}
 use Rattle.object_layout.specs.Objects.{Located, located}
 use Rattle.object_layout.specs.ObjectLaws.{LiesThere}
-use Rattle.task_frames.specs.declared.frames.Frame.{Frame as FrameOfCode}
+use Rattle.task_frames.specs.declared.frames.Frame.{Frame}
 use Rattle.ledger_step_laws.specs.Accounts.{own}
 use Rattle.core_relation.specs.Memory.{Chunk, Home, In, Lies, Memory, object_name, objects, objects_in}
 use Rattle.core_relation.specs.Changes.{HomeIsRead}
@@ -50,10 +50,10 @@ module _ (place : Places) (at : Name → Addr → Type 0) (lies : (n : Name) (a 
   refs_read (Some n ∷ ns) (None ∷ as') h = absurd h.0
   refs_read (Some n ∷ ns) (Some a ∷ as') h = (lies n a h.0, refs_read ns as' h.1)
 
-  pub frame_read : (f : FrameOfModel) (g : FrameOfCode) → FrameStands place f g → FrameIsRead at g f
+  pub frame_read : (f : ModelFrame) (g : Frame) → FrameStands place f g → FrameIsRead at g f
   frame_read f g h = record { function = h.function; next = h.next; ints = h.ints; refs = refs_read f.refs g.refs h.refs }
 
-  pub frames_read : (fs : List FrameOfModel) (gs : List FrameOfCode) → FramesStand place fs gs → FramesAreRead at gs fs
+  pub frames_read : (fs : List ModelFrame) (gs : List Frame) → FramesStand place fs gs → FramesAreRead at gs fs
   frames_read [] [] h = tt
   frames_read [] (g ∷ gs) h = absurd h
   frames_read (f ∷ fs) [] h = absurd h
@@ -73,7 +73,7 @@ module _ (program : ProgramText) (q : Private) (L : Ledger) (above : Places) (G 
   abbrev ks : List Chunk
   ks = chunks_of q.heap.chunks
 
-  abbrev a_t : Account
+  abbrev a_t : Heap
   a_t = heap_of L t
 
   home_chunks : (v.homes t).chunks ≡ ks

@@ -9,8 +9,8 @@ use Rattle.listed.proofs.Places.{got_set}
 use Rattle.hh_lang.specs.declared.instr.Instr.{Instr}
 use Rattle.hh_lang.specs.declared.instr.Instr.TheVariants.{Ret}
 use Rattle.hh_model.specs.declared.data.End.TheVariants.{Done}
-use Rattle.hh_model.specs.declared.data.Frame.{Frame as Framed}
-use Rattle.hh_model.specs.declared.data.State.{State as MachineState}
+use Rattle.hh_model.specs.declared.data.Frame.{Frame}
+use Rattle.hh_model.specs.declared.data.State.{State}
 use Rattle.hh_model.specs.declared.data.Task.{Task}
 use Rattle.hh_model.specs.Effect.{effect}
 use Rattle.hh_model.specs.Step.{ended_by, ended_task, follow, last_of, last_return, parent_of, result_of, returned_to, runs, setting, with_task}
@@ -37,7 +37,7 @@ use Rattle.core_entry_laws.proofs.parts.Workers.{ran_leaves}
 use Rattle.task_machine.specs.declared.part.Private.{Private}
 use Rattle.shared_value.specs.declared.next_step.Ending.TheVariants.{Returns}
 use Rattle.task_homes.specs.declared.task_at_rest.Rest.{Rest}
-use Rattle.shared_value.specs.SharedValue.{SharedValue, accounts, home_in, home_of, rest_at, totals_of, value_of}
+use Rattle.shared_value.specs.SharedValue.{SharedValue, accounts, home_in, home_of, rest_at, tree_counts_of, value_of}
 use Rattle.shared_value.specs.Measured.{AreMeasured, RestsAreMeasured}
 use Rattle.shared_value.specs.Stands.{HeapForm, IsSharedValue}
 use Rattle.shared_value.specs.Fits.{Fits, OthersFit, home_of_part, part_of}
@@ -85,7 +85,7 @@ module _ (w : SharedValue) (k : ℕ) (p : Private) (I : IsSharedValue w) (F : Fi
   abbrev z : Task
   z = ended_task S.task (result_of S.task.top)
 
-  abbrev m' : MachineState
+  abbrev m' : State
   m' = ended_by (with_task M.machine t z) Done
 
   machine_is : L.machine ≡ m'
@@ -93,14 +93,14 @@ module _ (w : SharedValue) (k : ℕ) (p : Private) (I : IsSharedValue w) (F : Fi
       last.machine_then w k p I F shared free
       ∙ (last.taken w k p I F shared free
       ∙ (ap (λ (i : Instr). follow M.machine t S.task S.line.number (effect (setting M.machine t S.task) S.task.top M.machine.store i)) says.0
-      ∙ (ap (λ (fs : List Framed). returned_to M.machine t S.task (last_of fs)) says.1 ∙ ap (last_return M.machine t S.task) parent)))
+      ∙ (ap (λ (fs : List Frame). returned_to M.machine t S.task (last_of fs)) says.1 ∙ ap (last_return M.machine t S.task) parent)))
 
   at_then : slice_get L.machine.tasks t ≡ Some z
-  at_then = ap (λ (m : MachineState). slice_get m.tasks t) machine_is ∙ got_same M.machine.tasks t S.task z S.at.task
+  at_then = ap (λ (m : State). slice_get m.tasks t) machine_is ∙ got_same M.machine.tasks t S.task z S.at.task
 
   D : EndsDone M L t S.task
   D =
-      done w.program M L t S.task S.line (last.is_not_private w k p I F shared free) (ap (λ (m : MachineState). m.end) machine_is) z at_then refl S.at.task (ap runs S.at.runs) S.kind S.last S.on
+      done w.program M L t S.task S.line (last.is_not_private w k p I F shared free) (ap (λ (m : State). m.end) machine_is) z at_then refl S.at.task (ap runs S.at.runs) S.kind S.last S.on
 
   -- how the entry splits
   abbrev E : Runs w.program w.settings l L t k p.fresh
@@ -109,7 +109,7 @@ module _ (w : SharedValue) (k : ℕ) (p : Private) (I : IsSharedValue w) (F : Fi
   abbrev own : FitsValue w.program w.settings (part_for w.settings t h p.fresh) v l
   own = F.fits
 
-  S0 : StandsFor v (totals_of w) l
+  S0 : StandsFor v (tree_counts_of w) l
   S0 = stands_now w I (last.on w k p I F shared free)
 
   -- ---- THE HOME THAT IS HANDED BACK
@@ -117,12 +117,12 @@ module _ (w : SharedValue) (k : ℕ) (p : Private) (I : IsSharedValue w) (F : Fi
   rest = ended_rest p
 
   node_there : slice_get w.tree t ≡ Some (as_node (heap_of l t).worker F.fits.task)
-  node_there = S0.totals.node t ∙ ap (option_map (as_node (heap_of l t).worker)) F.fits.is
+  node_there = S0.tree_counts.node t ∙ ap (option_map (as_node (heap_of l t).worker)) F.fits.is
 
   pub has_node : t < length w.tree
   has_node = got_within w.tree t (as_node (heap_of l t).worker F.fits.task) node_there
 
-  pub has_home : t < length w.homes
+  pub has_home : t < length w.rests
   has_home = subst (λ n. t < n) (sym I.made) has_node
 
   abbrev vt : Memory
@@ -135,8 +135,8 @@ module _ (w : SharedValue) (k : ℕ) (p : Private) (I : IsSharedValue w) (F : Fi
     abbrev tree : List Node
     tree = with_state w.tree t Ended
 
-    abbrev homes : List (Option Rest)
-    homes = slice_set w.homes t (Some rest)
+    abbrev rests : List (Option Rest)
+    rests = slice_set w.rests t (Some rest)
 
     abbrev tasks_out : List (Option ℕ)
     tasks_out = slice_set w.tasks_out k None
@@ -145,16 +145,16 @@ module _ (w : SharedValue) (k : ℕ) (p : Private) (I : IsSharedValue w) (F : Fi
     steps = w.steps + suc p.fresh
 
     abbrev w' : SharedValue
-    w' = entered w (last_event k p) tree w.pool homes w.sets tasks_out w.outputs steps (Some (Machine Done)) j.room
+    w' = entered w (last_event k p) tree w.pool rests w.sets tasks_out w.outputs steps (Some (Machine Done)) j.room
 
     abbrev v' : Memory
     v' = value_of w'
 
-    rest_now : rest_at homes t ≡ Some rest
-    rest_now = ap option_flatten (got_set w.homes t (Some rest) has_home)
+    rest_now : rest_at rests t ≡ Some rest
+    rest_now = ap option_flatten (got_set w.rests t (Some rest) has_home)
 
-    rest_off : (u : ℕ) → (u ≡ t → ⊥) → rest_at homes u ≡ rest_at w.homes u
-    rest_off u ne = ap option_flatten (got_other w.homes t u (Some rest) ne)
+    rest_off : (u : ℕ) → (u ≡ t → ⊥) → rest_at rests u ≡ rest_at w.rests u
+    rest_off u ne = ap option_flatten (got_other w.rests t u (Some rest) ne)
 
     home_now : v'.homes t ≡ home_of rest
     home_now = ap home_in rest_now
@@ -177,7 +177,7 @@ module _ (w : SharedValue) (k : ℕ) (p : Private) (I : IsSharedValue w) (F : Fi
     notes : OthersNotes vt v' t
     notes = record { none = S0.keeps t ∙ ap (λ b. b && not (heap_of l t).swept) (last.idle w k p I F shared free); others = λ u ne. record { keeps = refl; kept = refl; marked = refl } }
 
-    counts : RanCounts w.program (totals_of w) (totals_of w') M L t k p.fresh S.task S.line Finishing D
+    counts : RanCounts w.program (tree_counts_of w) (tree_counts_of w') M L t k p.fresh S.task S.line Finishing D
     counts = record {
       tree = record { node = node_by w.tree t Ended (slice_get w.tree t) refl; others = λ u ne. node_off w.tree t Ended (slice_get w.tree t) u ne };
       task_out = record { task_out = ap option_flatten (got_set w.tasks_out k None (worker_there w (last_event k p) I free)); others = λ u ne. ap option_flatten (got_other w.tasks_out k u None ne) };
@@ -187,22 +187,22 @@ module _ (w : SharedValue) (k : ℕ) (p : Private) (I : IsSharedValue w) (F : Fi
       steps = refl;
     }
 
-    heaps_then : (u : ℕ) (r : Rest) → rest_at homes u ≡ Some r → HeapForm r.heap
+    heaps_then : (u : ℕ) (r : Rest) → rest_at rests u ≡ Some r → HeapForm r.heap
     heaps_then u r is = elim (cases_eq u t) [
-      | inl q ↦ subst (λ (z : Rest). HeapForm z.heap) (same_Some rest r (sym rest_now ∙ (ap (rest_at homes) (sym q) ∙ is))) F.form
+      | inl q ↦ subst (λ (z : Rest). HeapForm z.heap) (same_Some rest r (sym rest_now ∙ (ap (rest_at rests) (sym q) ∙ is))) F.form
       | inr ne ↦ I.heaps u r (sym (rest_off u ne) ∙ is)
     ]
 
-    measured_then : RestsAreMeasured w.pool homes tasks_out
+    measured_then : RestsAreMeasured w.pool rests tasks_out
     measured_then u r is f = elim (cases_eq u t) [
-      | inl q ↦ subst (λ z. AreMeasured w.pool z r.heap.chunks) (sym q) (subst (λ (z : Rest). AreMeasured w.pool t z.heap.chunks) (same_Some rest r (sym rest_now ∙ (ap (rest_at homes) (sym q) ∙ is))) F.measured.0)
+      | inl q ↦ subst (λ z. AreMeasured w.pool z r.heap.chunks) (sym q) (subst (λ (z : Rest). AreMeasured w.pool t z.heap.chunks) (same_Some rest r (sym rest_now ∙ (ap (rest_at rests) (sym q) ∙ is))) F.measured.0)
       | inr ne ↦ I.measured u r (sym (rest_off u ne) ∙ is) (unheld_before w.tasks_out k None u f (λ h. ne (same_Some u t (sym h ∙ task_is_out w k p I (last.on w k p I F shared free) F))))
     ]
 
     pub done_world : IsSharedValue w'
     done_world =
-        entered_world w (last_event k p) I free tree w.pool homes w.sets tasks_out w.outputs steps (Some (Machine Done)) j.room (length-set w.homes t (Some rest) ∙ (I.made ∙ sym (made_by w.tree t Ended (slice_get w.tree t)))) (I.noted ∙ sym (made_by w.tree t Ended (slice_get w.tree t))) (length-set w.tasks_out k None) refl
-        (ran_stands_for w.program w.settings w.journal.items I.form I.legal v v' (totals_of w) (totals_of w') k t p.fresh h free E I.stands own (p.frames.top, p.frames.below, ends_home) notes counts)
+        entered_world w (last_event k p) I free tree w.pool rests w.sets tasks_out w.outputs steps (Some (Machine Done)) j.room (length-set w.rests t (Some rest) ∙ (I.made ∙ sym (made_by w.tree t Ended (slice_get w.tree t)))) (I.noted ∙ sym (made_by w.tree t Ended (slice_get w.tree t))) (length-set w.tasks_out k None) refl
+        (ran_stands_for w.program w.settings w.journal.items I.form I.legal v v' (tree_counts_of w) (tree_counts_of w') k t p.fresh h free E I.stands own (p.frames.top, p.frames.below, ends_home) notes counts)
         heaps_then measured_then
 
     pub done_ends : (accounts w').end ≡ Some (Machine Done)
@@ -211,11 +211,11 @@ module _ (w : SharedValue) (k : ℕ) (p : Private) (I : IsSharedValue w) (F : Fi
     -- every heap is handed back
     pub done_rests : (u : ℕ) → Rests (handed (accounts w')) u
     done_rests u =
-        subst (λ (z : Ledger). Rests (handed z) u) (sym (accounts_are w (last_event k p) I free tree w.pool homes w.sets tasks_out w.outputs steps (Some (Machine Done)) j.room))
+        subst (λ (z : Ledger). Rests (handed z) u) (sym (accounts_are w (last_event k p) I free tree w.pool rests w.sets tasks_out w.outputs steps (Some (Machine Done)) j.room))
         (done_hands_all w.program w.settings l L t k p.fresh E D.ended u)
 
     -- THE PARTS OF OTHERS
     pub done_others : OthersFit w w' k
     done_others u r ne G =
-        part_fits w (last_event k p) I free tree w.pool homes w.sets tasks_out w.outputs steps (Some (Machine Done)) j.room done_world u r r (ap option_flatten (got_other w.tasks_out k u None ne)) G refl refl refl G.form G.measured
+        part_fits w (last_event k p) I free tree w.pool rests w.sets tasks_out w.outputs steps (Some (Machine Done)) j.room done_world u r r (ap option_flatten (got_other w.tasks_out k u None ne)) G refl refl refl G.form G.measured
         (ran_leaves w.program w.settings v v' l L t k p.fresh h E own (p.frames.top, p.frames.below, ends_home) (part_of w.settings r) (held_apart w k u p r F G ne) G.fits)

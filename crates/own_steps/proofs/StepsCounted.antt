@@ -4,7 +4,7 @@ use Rattle.hh_model.specs.declared.data.Name.{Name}
 use Rattle.hh_model.specs.declared.data.State.{State}
 use Rattle.hh_model.specs.declared.data.Status.TheVariants.{Running}
 use Rattle.run_trace.specs.Settings.{field_limit}
-use Rattle.run_ledger.specs.declared.data.Heap.{Heap as Account}
+use Rattle.run_ledger.specs.declared.data.Heap.{Heap}
 use Rattle.run_ledger.specs.declared.data.Ledger.{Ledger}
 use Rattle.run_ledger.specs.Heaps.{heap_of, let_go, or_fresh}
 use Rattle.run_ledger.specs.Sound.{collecting}
@@ -55,12 +55,12 @@ alone_between l a b t A B = record {
   store = λ n ne. let off : own l n ≡ t → ⊥ = λ e. ne (A.tree.owners n.task ∙ e) in B.store n off ∙ sym (A.store n off);
 }
 
-rested_counts : (h : HeapOfCode) (a g : Account) → a ≡ let_go g → IsCounted h g → IsCounted h a
+rested_counts : (h : HeapOfCode) (a g : Heap) → a ≡ let_go g → IsCounted h g → IsCounted h a
 rested_counts h a g e C =
     let D : IsCounted h (let_go g) = record { chunks = C.chunks; large = C.large; last = C.last; last_large = C.last_large; room = C.room; since = C.since; reserved = C.reserved } in
     subst (IsCounted h) (sym e) D
 
-heap_rested : (l : Ledger) (t : ℕ) (a : Account) → slice_get l.heaps t ≡ Some a → heap_of (rested l t) t ≡ let_go a
+heap_rested : (l : Ledger) (t : ℕ) (a : Heap) → slice_get l.heaps t ≡ Some a → heap_of (rested l t) t ≡ let_go a
 heap_rested l t a e = ap or_fresh (with_at l t let_go ∙ ap (heap_then let_go) e)
 
 -- ---- THE PART
@@ -111,7 +111,7 @@ module _ (w : SharedValue) (k : ℕ) (p q : Private) (n : ℕ) (I : IsSharedValu
   fits : FitsMachine w.program p M.machine above
   fits = subst (λ (m : State). FitsMachine w.program p m above) (link.machine_is w k p I F on) (link.first_fits w k p I F on)
 
-  there : (h : Account) × (slice_get M.heaps t ≡ Some h)
+  there : (h : Heap) × (slice_get M.heaps t ≡ Some h)
   there = ask.account_is w k p I F on
 
   account_was : heap_of M t ≡ there.0
@@ -145,7 +145,7 @@ module _ (w : SharedValue) (k : ℕ) (p q : Private) (n : ℕ) (I : IsSharedValu
   G = by n (omega arith)
 
   -- the account of its heap
-  abbrev later : Account
+  abbrev later : Heap
   later = account_after w.program M.machine t there.0 n
 
   heap_is : slice_get N.heaps t ≡ Some later
@@ -159,7 +159,7 @@ module _ (w : SharedValue) (k : ℕ) (p q : Private) (n : ℕ) (I : IsSharedValu
 
   pub begun_then : (heap_of L' t).begun ≡ None
   begun_then =
-      rested_view (λ (h : Account). h.begun) (λ h. refl) N t
+      rested_view (λ (h : Heap). h.begun) (λ h. refl) N t
       ∙ (ap (λ (z : Ledger). (heap_of z t).begun) more
       ∙ (ap (λ (x : Option ℕ × Option ℕ × List Name × Bool). x.1) (hold_same (slice_get M.heaps t) (slice_get M'.heaps t) G.after.heap) ∙ (ap (λ (x : Option ℕ × Option ℕ × List Name × Bool). x.1) (hold_same (slice_get l.heaps t) (slice_get M.heaps t) A.heap) ∙ account_idle w k p F on idle)))
 
@@ -171,7 +171,7 @@ module _ (w : SharedValue) (k : ℕ) (p q : Private) (n : ℕ) (I : IsSharedValu
       let f : field_limit w.settings.version ≤ 1000000 = limit_small w.settings.version in
       let leaf = leaf_few in
       let was : p.heap.since < 2 ^ 64 = F.form.since in
-      let same : p.heap.since ≡ there.0.since = ask.since_is w k p I F on ∙ ap (λ (h : Account). h.since) account_was in
+      let same : p.heap.since ≡ there.0.since = ask.since_is w k p I F on ∙ ap (λ (h : Heap). h.since) account_was in
       since_after w.program M.machine t there.0 p.leaf_limit (field_limit w.settings.version + 34) (omega (arith, was, same)) (omega (arith, f, leaf)) n accounted.not_due
       (λ i lt words e. asks_few w.program (packs_few w.program I.form) (field_limit w.settings.version) (steps w.program M.machine t i) t words (limit_at i (omega (arith, lt))) e)
 
@@ -185,7 +185,7 @@ module _ (w : SharedValue) (k : ℕ) (p q : Private) (n : ℕ) (I : IsSharedValu
   counts_then = rested_counts q.heap (heap_of L' t) later is_rested accounted.counted
 
   pub account_few : (heap_of L' t).since < 2 ^ 64
-  account_few = subst (λ (h : Account). h.since < 2 ^ 64) (sym is_rested) later_few
+  account_few = subst (λ (h : Heap). h.since < 2 ^ 64) (sym is_rested) later_few
 
   sound_at : SoundLedger N
   sound_at = (task_steps_sound w.program (p.fresh + n) l t ((link.knows w k p I F on).sound, calm)).0

@@ -2,7 +2,7 @@
 
 ghost use Rattle.std.specs.Prelude.{◌≡◌, ◌<◌, [], ℕ, IfOk, OnOk, None, Some, false, true};
 ghost use Rattle.run_ledger.specs.Pace.{is_paced};
-ghost use Rattle.task_machine.specs.declared.part.Private.{Private as Part};
+ghost use Rattle.task_machine.specs.declared.part.Private.{Private as PrivateOf};
 ghost use Rattle.shared_value.specs.Fits.{AllFit, Fits};
 ghost use Rattle.shared_value.specs.Stands.{IsSharedValue};
 ghost use Rattle.shared_value.specs.SharedValue.{accounts, rest_at};
@@ -56,7 +56,7 @@ impl Paced {
         ensures settings { IfOk result (λ s. s.settings ≡ settings) }
         ensures journal { IfOk result (λ s. s.journal.items ≡ []) }
         ensures on { IfOk result (λ s. s.halted ≡ false) }
-        ensures root { IfOk result (λ s. (r : RestOf) → rest_at s.homes 0 ≡ Some r → r.heap.chunks ≡ []) }
+        ensures root { IfOk result (λ s. (r : RestOf) → rest_at s.rests 0 ≡ Some r → r.heap.chunks ≡ []) }
     {
         let shared = Counted::new(alloc, program, settings)?;
         let paces = idle_paces(alloc, settings.workers())?;
@@ -87,7 +87,7 @@ impl Paced {
     pub fn reserve(&mut self) -> Result<(), AllocError>
         ensures same { self.new ≡ record self.old { journal = record { items = self.old.journal.items; room = self.new.journal.room } } }
         ensures room { OnOk result (0 < self.new.journal.room) }
-        ensures fit { (k : ℕ) (p : Part) → Fits self.old k p → Fits self.new k p }
+        ensures fit { (k : ℕ) (p : PrivateOf) → Fits self.old k p → Fits self.new k p }
     {
         self.shared.get_mut().reserve()
     }

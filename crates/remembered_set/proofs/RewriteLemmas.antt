@@ -6,7 +6,7 @@ use Rattle.std.proofs.lemmas.List.{get_or-set_same, get_or-set_other}
 use Rattle.object_layout.specs.declared.word.Addr.{Addr}
 use Rattle.remembered_set.specs.declared.remembered.Source.{Source}
 use Rattle.remembered_set.specs.Sources.{has_source, same_source, StandOnce}
-use Rattle.remembered_set.specs.Moved.{held_by, led_by, new_of, new_reference, redirected, written, AreFields}
+use Rattle.remembered_set.specs.Moved.{target_of, led_by, new_of, new_reference, redirected, written, AreFields}
 use Rattle.remembered_set.specs.Laws.{RewriteIsRead}
 use Rattle.remembered_set.proofs.Noting.{same_is, same_self}
 use Rattle.remembered_set.proofs.SourceLemmas as sources
@@ -53,14 +53,14 @@ module _ {S : Type 0} (refs_at : S → Addr → List (Option Addr)) (with_ref_at
 
   counts : (ms : List (Addr × Addr)) (w : S) (xs : List Source) (a : Addr) → length (refs_at (fold (one ms) w xs) a) ≡ length (refs_at w a)
   counts ms w [] a = refl
-  counts ms w (x ∷ xs) a = counts ms (one ms w x) xs a ∙ count_by w x (new_reference ms (held_by refs_at w x)) a
+  counts ms w (x ∷ xs) a = counts ms (one ms w x) xs a ∙ count_by w x (new_reference ms (target_of refs_at w x)) a
 
   -- a field that is no source stays
   stays : (ms : List (Addr × Addr)) (w : S) (xs : List Source) (a : Addr) (i : ℕ) → has_source xs (at a i) ≡ false → field (fold (one ms) w xs) a i ≡ field w a i
   stays ms w [] a i n = refl
   stays ms w (x ∷ xs) a i n =
       stays ms (one ms w x) xs a i (or_parts (same_source (at a i) x) (has_source xs (at a i)) n).1
-      ∙ miss w x (new_reference ms (held_by refs_at w x)) a i (λ e q. false≢true (sym (or_parts (same_source (at a i) x) (has_source xs (at a i)) n).0 ∙ is x e q))
+      ∙ miss w x (new_reference ms (target_of refs_at w x)) a i (λ e q. false≢true (sym (or_parts (same_source (at a i) x) (has_source xs (at a i)) n).0 ∙ is x e q))
     where
       is : (x : Source) → a ≡ x.object → i ≡ x.field → same_source (at a i) x ≡ true
       is x e q = ap (λ (s : Source). same_source s x) (ap (λ (b : Addr). at b i) e ∙ ap (at x.object) q) ∙ same_self x
@@ -73,11 +73,11 @@ module _ {S : Type 0} (refs_at : S → Addr → List (Option Addr)) (with_ref_at
     | inl t ↦
         let is : at a i ≡ x = same_is (at a i) x t in
         subst (λ (s : Source). field (fold (one ms) (one ms w x) xs) s.object s.field ≡ led_by ms (field w s.object s.field)) (sym is)
-        (stays ms (one ms w x) xs x.object x.field once.0 ∙ hit ms w x are.0 (held_by refs_at w x) refl)
+        (stays ms (one ms w x) xs x.object x.field once.0 ∙ hit ms w x are.0 (target_of refs_at w x) refl)
     | inr f ↦
         let rest : has_source xs (at a i) ≡ true = ap (λ (v : Bool). v || has_source xs (at a i)) (sym f) ∙ e in
         read ms (one ms w x) xs once.1 (sources.fields_kept refs_at with_ref_at same other ms w x xs are.1) a i true rest
-        ∙ ap (led_by ms) (miss w x (new_reference ms (held_by refs_at w x)) a i (λ q r. false≢true (sym f ∙ is q r)))
+        ∙ ap (led_by ms) (miss w x (new_reference ms (target_of refs_at w x)) a i (λ q r. false≢true (sym f ∙ is q r)))
   ]
     where
       is : a ≡ x.object → i ≡ x.field → same_source (at a i) x ≡ true

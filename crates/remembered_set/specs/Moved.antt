@@ -45,13 +45,13 @@ module _ {S : Type 0} (refs_at : S → Addr → List (Option Addr)) where
   AreFields w xs = AllByRecursion (λ s. s.field < length (refs_at w s.object)) xs
 
   -- what a source holds
-  abbrev pub held_by : S → Source → Option Addr
-  held_by w s = slice_index_or (refs_at w s.object) s.field None
+  abbrev pub target_of : S → Source → Option Addr
+  target_of w s = slice_index_or (refs_at w s.object) s.field None
 
   -- of what these sources hold, the references into these chunks
   abbrev pub targets_of : S → List ChunkValue → List Source → List Addr
   targets_of w ks [] = []
-  targets_of w ks (s ∷ ss) = into ks (held_by w s) ++ targets_of w ks ss
+  targets_of w ks (s ∷ ss) = into ks (target_of w s) ++ targets_of w ks ss
 
   module _ (with_ref_at : S → Addr → ℕ → Option Addr → S) where
     -- the field written, where there is a new address
@@ -61,7 +61,7 @@ module _ {S : Type 0} (refs_at : S → Addr → List (Option Addr)) where
 
     -- a source that holds an old address led to the new one; any other stays
     abbrev pub redirected : List (Addr × Addr) → S → Source → S
-    redirected ms w s = written w s (new_reference ms (held_by w s))
+    redirected ms w s = written w s (new_reference ms (target_of w s))
 
 -- a reference led to where its object is now, if that was moved
 abbrev pub led_by : List (Addr × Addr) → Option Addr → Option Addr

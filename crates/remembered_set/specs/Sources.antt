@@ -43,6 +43,6 @@ abbrev pub lifted : List Source → List Source → List ChunkValue → List Sou
 lifted xs ys ks = fold noted xs (outside ks ys)
 
 -- a table knows just these sources, and each stands once
-pub record IsKept (xs : List Source) (knows : Source → Bool) : Type 0 where
+pub record KnowsJust (xs : List Source) (knows : Source → Bool) : Type 0 where
   pub known : (s : Source) → knows s ≡ has_source xs s
   pub once : StandOnce xs

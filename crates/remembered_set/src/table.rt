@@ -3,7 +3,7 @@
 ghost use Rattle.std.specs.Prelude.{◌≡◌, ℕ, ◌+◌, ◌-◌, ◌<◌, ◌≤◌, [], ◌++◌, filter, fold, IfOk, OnOk, length, nat_eq, not, vec_capacity, vec_len};
 ghost use Rattle.std.specs.HashSet.{contains, hash_set_len, spare};
 ghost use Rattle.remembered_set.specs.declared.remembered.Source.{Source};
-ghost use Rattle.remembered_set.specs.Sources.{has_chunk, has_source, lifted, noted, same_source, IsKept, StandOnce};
+ghost use Rattle.remembered_set.specs.Sources.{has_chunk, has_source, lifted, noted, same_source, KnowsJust, StandOnce};
 ghost use Rattle.remembered_set.specs.Moved.{into_by, redirected, targets_of, AreFields, AreInOrder, ArePlaces};
 
 use crate::moved::new_of;
@@ -24,13 +24,13 @@ pub struct Table {
 impl Model for Table {
     ghost use Rattle.std.specs.Prelude.{◌+◌, ◌-◌, vec_capacity, vec_len};
     ghost use Rattle.std.specs.HashSet.{contains, hash_set_len, spare};
-    ghost use Rattle.remembered_set.specs.Sources.{same_source, IsKept, RememberedValue};
+    ghost use Rattle.remembered_set.specs.Sources.{same_source, KnowsJust, RememberedValue};
 
     ghost Value = { RememberedValue };
 
     ghost view = { λ r. record { sources = r.sources.items; slots = vec_capacity r.sources - vec_len r.sources; spare = spare r.known; numbers = hash_set_len r.numbers + spare r.numbers } };
 
-    ghost invariant = { λ r. IsKept r.sources.items (contains same_source r.known) };
+    ghost invariant = { λ r. KnowsJust r.sources.items (contains same_source r.known) };
 }
 
 impl Table {
@@ -151,7 +151,7 @@ fn push_target(
 fn note_in(sources: &mut Vec<Source>, known: &mut HashSet<Source>, source: Source)
     requires slots { vec_len sources.old < vec_capacity sources.old }
     requires spare { 0 < spare known.old }
-    requires kept { IsKept sources.old.items (contains same_source known.old) }
+    requires kept { KnowsJust sources.old.items (contains same_source known.old) }
     ensures noted { sources.new.items ≡ noted sources.old.items source }
     ensures known { (s : Source) → contains same_source known.new s ≡ has_source sources.new.items s }
     ensures once { StandOnce sources.new.items }
@@ -172,9 +172,9 @@ fn note_all(
 )
     requires slots { length from.now ≤ vec_capacity sources.old - vec_len sources.old }
     requires spare { length from.now ≤ spare known.old }
-    requires kept { IsKept sources.old.items (contains same_source known.old) }
+    requires kept { KnowsJust sources.old.items (contains same_source known.old) }
     ensures noted { sources.new.items ≡ fold noted sources.old.items (filter (λ s. not (contains nat_eq numbers.now s.object.chunk)) from.now) }
-    ensures kept { IsKept sources.new.items (contains same_source known.new) }
+    ensures kept { KnowsJust sources.new.items (contains same_source known.new) }
     ensures slots { vec_capacity sources.old - vec_len sources.old ≤ vec_capacity sources.new - vec_len sources.new + length from.now }
     ensures spare { spare known.old ≤ spare known.new + length from.now }
 {

@@ -13,7 +13,7 @@ use Rattle.hh_model.specs.declared.data.Task.{Task}
 use Rattle.hh_model.specs.declared.data.End.{End}
 use Rattle.hh_model.specs.declared.data.State.{State}
 use Rattle.hh_model.specs.Effect.{object_at, row_of, with_int, with_ref}
-use Rattle.hh_model.specs.Step.{can_step, edge, ended_by, goes_on, is_running, join_of, joined_task, kept_by, result_in, resumed, runs, strand, with_task}
+use Rattle.hh_model.specs.Step.{can_step, edge, ended_by, goes_on, is_running, join_of, joined_task, result_at, result_in, resumed, runs, strand, with_task}
 use Rattle.renaming_laws.specs.Renaming.{IsRenaming, name_to, ref_to, edge_to, object_to, frame_to, status_to, task_to, end_to}
 use Rattle.renaming_laws.specs.Alike.{AreAlike}
 use Rattle.renaming_laws.proofs.Effects.{set_carried}
@@ -22,7 +22,7 @@ use Rattle.renaming_laws.proofs.Lists.{ListTo, from_map, got_map, push_to, set_t
 abbrev pub result_to : (ℕ → ℕ) → ℤ × Option Name → ℤ × Option Name
 result_to f r = (r.0, ref_to f r.1)
 
-pub kept_to : (f : ℕ → ℕ) (o : Option Task) → kept_by (option_map (task_to f) o) ≡ option_map (result_to f) (kept_by o)
+pub kept_to : (f : ℕ → ℕ) (o : Option Task) → result_at (option_map (task_to f) o) ≡ option_map (result_to f) (result_at o)
 kept_to f None = refl
 kept_to f (Some x) = by x.status
   where

@@ -16,8 +16,8 @@ use Rattle.hh_model.specs.declared.data.Trap.TheVariants.{Depth}
 use Rattle.hh_model.specs.declared.data.End.TheVariants.{Done, Trapped, Entangled}
 use Rattle.hh_model.specs.declared.data.State.{State}
 use Rattle.hh_model.specs.Effect.{Effect, Goes, Prints, Calls, Forks, Returns, Traps, Stops, Setting, effect, int_in, object_at, onward, ref_in, row_of, with_int, with_ref}
-use Rattle.hh_model.specs.Step.{back_in, called, can_step, child, child_ended_by, depth_limit, ended_by, ended_task, entry_frame, fetched, follow, forked, frame_limit, front_of, is_left, join_of, kept_by, last_of, last_return, or_same, owner_of, parent_of, parents, result_of, returned, returned_to, setting, sibling, step, stepped, strand, with_task}
-use Rattle.hh_model.specs.Tree.{Kept}
+use Rattle.hh_model.specs.Step.{back_in, called, can_step, child, child_ended_by, depth_limit, ended_by, ended_task, entry_frame, fetched, follow, forked, frame_limit, front_of, is_left, join_of, result_at, last_of, last_return, or_same, owner_of, parent_of, parents, result_of, returned, returned_to, setting, sibling, step, stepped, strand, with_task}
+use Rattle.hh_model.specs.Tree.{SoundState}
 use Rattle.renaming_laws.specs.Renaming.{IsRenaming, ref_to, object_to, frame_to, task_to}
 use Rattle.renaming_laws.specs.Alike.{AreAlike}
 use Rattle.renaming_laws.proofs.Changed.{Change, Same, Grows, Edits, Edit, SetRef, SetNumber, Freezes, change_to, changed, edit_to, edited, put_in}
@@ -26,7 +26,7 @@ use Rattle.renaming_laws.proofs.Lists.{front_map, got_map, last_map, set_to}
 use Rattle.renaming_laws.proofs.Owners.{owner_to, test_to}
 use Rattle.renaming_laws.proofs.Follows.{StoreTo, can_to, forks, halted, joins, kept_to, object_there, own, result_to, row_to, written}
 
-module _ (p : ProgramText) (n : ℕ) (f g : ℕ → ℕ) (R : IsRenaming n f g) (m m' : State) (K : Kept m) (K' : Kept m') (rows : length m.store ≡ length m.tasks) (rows' : length m'.store ≡ length m'.tasks)
+module _ (p : ProgramText) (n : ℕ) (f g : ℕ → ℕ) (R : IsRenaming n f g) (m m' : State) (K : SoundState m) (K' : SoundState m') (rows : length m.store ≡ length m.tasks) (rows' : length m'.store ≡ length m'.tasks)
     (made : n ≤ length m.tasks) (A : AreAlike f m m') (t : ℕ) where
   abbrev Alike : State → State → Type 0
   Alike = AreAlike f
@@ -151,10 +151,10 @@ module _ (p : ProgramText) (n : ℕ) (f g : ℕ → ℕ) (R : IsRenaming n f g) 
         let A' = written n f g R m m' A t (ended_task x (result_of x.top)) (ended_task x' (result_of x'.top)) ended_there in
         halted n f g R (with_task m t (ended_task x (result_of x.top))) (with_task m' (f t) (ended_task x' (result_of x'.top))) A' Done
     by_parent (Some q) e =
-        subst (λ r. Alike (child_ended_by m t x q (result_of x.top) (kept_by (slice_get m.tasks (sibling t)))) (child_ended_by m' (f t) x' (f q) r (kept_by (slice_get m'.tasks (sibling (f t)))))) (sym result_there)
-        (subst (λ o. Alike (child_ended_by m t x q (result_of x.top) (kept_by (slice_get m.tasks (sibling t)))) (child_ended_by m' (f t) x' (f q) (result_to f (result_of x.top)) o))
-        (sym (ap (λ k. kept_by (slice_get m'.tasks k)) (R.siblings t) ∙ (ap kept_by (A.tasks (sibling t)) ∙ kept_to f (slice_get m.tasks (sibling t)))))
-        (by_other q e (kept_by (slice_get m.tasks (sibling t)))))
+        subst (λ r. Alike (child_ended_by m t x q (result_of x.top) (result_at (slice_get m.tasks (sibling t)))) (child_ended_by m' (f t) x' (f q) r (result_at (slice_get m'.tasks (sibling (f t)))))) (sym result_there)
+        (subst (λ o. Alike (child_ended_by m t x q (result_of x.top) (result_at (slice_get m.tasks (sibling t)))) (child_ended_by m' (f t) x' (f q) (result_to f (result_of x.top)) o))
+        (sym (ap (λ k. result_at (slice_get m'.tasks k)) (R.siblings t) ∙ (ap result_at (A.tasks (sibling t)) ∙ kept_to f (slice_get m.tasks (sibling t)))))
+        (by_other q e (result_at (slice_get m.tasks (sibling t)))))
 
     by_frame : (o : Option Frame) → Alike (returned_to m t x o) (returned_to m' (f t) x' (option_map (frame_to f) o))
     by_frame None = by_parent x.parent refl

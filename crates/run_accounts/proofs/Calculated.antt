@@ -39,21 +39,21 @@ module _ (s : AccountsValue) (t : ℕ) (is : calculates s.program s.ledger.machi
   none : asked s.program s.ledger.machine t ≡ None
   none = calculating.asks_nothing s.program s.ledger.machine t C
 
-  not_due : is_due s.limits s.program s.ledger t ≡ false
-  not_due = ap (λ o. on_asked o (λ w. nat_le s.limits.leaf (heap_of s.ledger t).since)) none
+  not_due : is_due s.settings s.program s.ledger t ≡ false
+  not_due = ap (λ o. on_asked o (λ w. nat_le s.settings.leaf (heap_of s.ledger t).since)) none
 
   not_in_need : is_in_need s.program s.ledger t ≡ false
   not_in_need = ap (λ o. on_asked o (lacks_room (heap_of s.ledger t))) none
 
-  stands : (is_due s.limits s.program s.ledger t || is_in_need s.program s.ledger t) ≡ false
+  stands : (is_due s.settings s.program s.ledger t || is_in_need s.program s.ledger t) ≡ false
   stands = ap₂ (λ a b. a || b) not_due not_in_need
 
   -- a further one can stand behind it
-  more : More ≡ stood s.limits s.program s.ledger t
+  more : More ≡ stood s.settings s.program s.ledger t
   more =
       let ended : false ≡ is_some (task_step s.program s.ledger t).machine.end =
       sym (ap (λ (m : State). is_some m.end) (task_step_machine s.program s.ledger t) ∙ ap is_some (calculating.ends_not s.program s.ledger.machine t C)) in
-      stood_is s.limits s.program s.ledger t true false not_due not_in_need (sym (calculating.is_own_matter s.program s.ledger.machine t C)) ended
+      stood_is s.settings s.program s.ledger t true false not_due not_in_need (sym (calculating.is_own_matter s.program s.ledger.machine t C)) ended
 
   -- the machine goes on, and no more changes
   went : s.used ≡ in_use s.ledger → used_after s.program s.ledger t ≡ in_use (task_step s.program s.ledger t)
@@ -68,7 +68,7 @@ module _ (s : AccountsValue) (t : ℕ) (is : calculates s.program s.ledger.machi
 -- ONE AFTER THE OTHER
 
 module _ (a : AccountsValue) (g : MachineValue) (t most n : ℕ) (program : g.program ≡ a.program) (state : g.state ≡ a.ledger.machine) (used : a.used ≡ in_use a.ledger)
-    (S : StaysSteady a.limits a.program a.ledger t most) (le : n ≤ most) (only : (k : ℕ) → k < n → calculates g.program (advanced_by g t k).state t ≡ true) where
+    (S : StaysSteady a.settings a.program a.ledger t most) (le : n ≤ most) (only : (k : ℕ) → k < n → calculates g.program (advanced_by g t k).state t ≡ true) where
   -- the accounts whose machine has taken so many of them
   abbrev moved : ℕ → Ledger
   moved k = record a.ledger { machine = (advanced_by g t k).state; steps = a.ledger.steps + k }
@@ -76,27 +76,27 @@ module _ (a : AccountsValue) (g : MachineValue) (t most n : ℕ) (program : g.pr
   -- they are those after so many steps of the entry, all of which stand
   pub record Along (k : ℕ) : Type 0 where
     pub program : (advanced_by g t k).program ≡ a.program
-    pub ran : Ran a.limits a.program a.ledger t most k (moved k)
+    pub ran : Ran a.settings a.program a.ledger t most k (moved k)
     pub used : a.used ≡ in_use (moved k)
 
   at_first : Along 0
   at_first =
       let same : a.ledger ≡ moved 0 = ap₂ (λ m k. let z : Ledger = record a.ledger { machine = m; steps = k } in z) (sym state) (omega arith) in
-      record { program = program; ran = subst (Ran a.limits a.program a.ledger t most 0) same (ran_none a.limits a.program a.ledger t most); used = used ∙ ap in_use same }
+      record { program = program; ran = subst (Ran a.settings a.program a.ledger t most 0) same (ran_none a.settings a.program a.ledger t most); used = used ∙ ap in_use same }
 
   one_more : (k : ℕ) → k < n → Along k → Along (suc k)
   one_more k lt A =
       let now : AccountsValue = record a { ledger = moved k } in
       let is : calculates a.program (moved k).machine t ≡ true = ap (λ p. calculates p (moved k).machine t) (sym program) ∙ only k lt in
       let within : k < most = omega arith in
-      let next : used_after a.program (moved k) t ≡ in_use (task_step a.program (moved k) t) = ran_used a.limits a.program a.ledger t most k (moved k) A.ran within S (stands now t is) in
+      let next : used_after a.program (moved k) t ≡ in_use (task_step a.program (moved k) t) = ran_used a.settings a.program a.ledger t most k (moved k) A.ran within S (stands now t is) in
       let w = went now t is A.used next in
       let same : moved (suc k) ≡ task_step a.program (moved k) t =
       ap₂ (λ p i. let z : Ledger = record a.ledger { machine = step p (advanced_by g t k).state t; steps = i } in z) A.program (omega arith) ∙ ap (λ (q : AccountsValue). q.ledger) w in
-      let r : Ran a.limits a.program a.ledger t most (k + 1) (task_step a.program (moved k) t) = ran_more a.limits a.program a.ledger t most k (moved k) A.ran within (more now t is) in
+      let r : Ran a.settings a.program a.ledger t most (k + 1) (task_step a.program (moved k) t) = ran_more a.settings a.program a.ledger t most k (moved k) A.ran within (more now t is) in
       record {
         program = A.program;
-        ran = subst (λ i. Ran a.limits a.program a.ledger t most i (moved (suc k))) (let e : k + 1 ≡ suc k = omega arith in e) (subst (Ran a.limits a.program a.ledger t most (k + 1)) (sym same) r);
+        ran = subst (λ i. Ran a.settings a.program a.ledger t most i (moved (suc k))) (let e : k + 1 ≡ suc k = omega arith in e) (subst (Ran a.settings a.program a.ledger t most (k + 1)) (sym same) r);
         used = ap (λ (q : AccountsValue). q.used) w ∙ ap in_use (sym same);
       }
 
@@ -104,7 +104,7 @@ module _ (a : AccountsValue) (g : MachineValue) (t most n : ℕ) (program : g.pr
   along zero le = at_first
   along (suc k) le = one_more k (omega (arith, le)) (along k (omega (arith, le)))
 
-  pub calculated_ran : Ran a.limits a.program a.ledger t most n (moved n)
+  pub calculated_ran : Ran a.settings a.program a.ledger t most n (moved n)
   calculated_ran = (along n (omega arith)).ran
 
   pub calculated_is : record a { ledger = moved n } ≡ went_on a (task_steps a.program a.ledger t n)

@@ -144,9 +144,9 @@ module _ (s : SettingsValue) (p : ProgramText) (l : Ledger) (t k done : ℕ) (no
   }
 
 -- the same, by the accounts at the entry and those that the loop has come to
-module _ (a b : AccountsValue) (t k done : ℕ) (is : b ≡ went_on a b.ledger) (R : Ran a.limits a.program a.ledger t k done b.ledger) (lt : done < k) where
-  el : b.limits ≡ a.limits
-  el = ap (λ (q : AccountsValue). q.limits) is
+module _ (a b : AccountsValue) (t k done : ℕ) (is : b ≡ went_on a b.ledger) (R : Ran a.settings a.program a.ledger t k done b.ledger) (lt : done < k) where
+  el : b.settings ≡ a.settings
+  el = ap (λ (q : AccountsValue). q.settings) is
 
   ep : b.program ≡ a.program
   ep = ap (λ (q : AccountsValue). q.program) is
@@ -154,29 +154,29 @@ module _ (a b : AccountsValue) (t k done : ℕ) (is : b ≡ went_on a b.ledger) 
   pub used_at : b.used ≡ in_use b.ledger
   used_at = ap (λ (q : AccountsValue). q.used) is
 
-  pub steady_at : StaysSteady a.limits a.program a.ledger t k → Steady b.ledger
-  steady_at S = ran_steady a.limits a.program a.ledger t k done b.ledger R lt S
+  pub steady_at : StaysSteady a.settings a.program a.ledger t k → Steady b.ledger
+  steady_at S = ran_steady a.settings a.program a.ledger t k done b.ledger R lt S
 
-  stands_as : (is_due b.limits b.program b.ledger t || is_in_need b.program b.ledger t) ≡ false → (is_due a.limits a.program b.ledger t || is_in_need a.program b.ledger t) ≡ false
+  stands_as : (is_due b.settings b.program b.ledger t || is_in_need b.program b.ledger t) ≡ false → (is_due a.settings a.program b.ledger t || is_in_need a.program b.ledger t) ≡ false
   stands_as fine = ap₂ (λ s p. is_due s p b.ledger t || is_in_need p b.ledger t) (sym el) (sym ep) ∙ fine
 
-  pub steady_after_at : StaysSteady a.limits a.program a.ledger t k → (is_due b.limits b.program b.ledger t || is_in_need b.program b.ledger t) ≡ false → Steady (task_step b.program b.ledger t)
+  pub steady_after_at : StaysSteady a.settings a.program a.ledger t k → (is_due b.settings b.program b.ledger t || is_in_need b.program b.ledger t) ≡ false → Steady (task_step b.program b.ledger t)
   steady_after_at S fine =
-      subst (λ p. Steady (task_step p b.ledger t)) (sym ep) (ran_steady_after a.limits a.program a.ledger t k done b.ledger R lt S (stands_as fine))
+      subst (λ p. Steady (task_step p b.ledger t)) (sym ep) (ran_steady_after a.settings a.program a.ledger t k done b.ledger R lt S (stands_as fine))
 
-  pub used_after_at : StaysSteady a.limits a.program a.ledger t k → (is_due b.limits b.program b.ledger t || is_in_need b.program b.ledger t) ≡ false → used_after b.program b.ledger t ≡ in_use (task_step b.program b.ledger t)
+  pub used_after_at : StaysSteady a.settings a.program a.ledger t k → (is_due b.settings b.program b.ledger t || is_in_need b.program b.ledger t) ≡ false → used_after b.program b.ledger t ≡ in_use (task_step b.program b.ledger t)
   used_after_at S fine =
-      subst (λ p. used_after p b.ledger t ≡ in_use (task_step p b.ledger t)) (sym ep) (ran_used a.limits a.program a.ledger t k done b.ledger R lt S (stands_as fine))
+      subst (λ p. used_after p b.ledger t ≡ in_use (task_step p b.ledger t)) (sym ep) (ran_used a.settings a.program a.ledger t k done b.ledger R lt S (stands_as fine))
 
-  module _ (how : Stood) (h : how ≡ stood b.limits b.program b.ledger t) where
-    stood_as : (w : Stood) → how ≡ w → w ≡ stood a.limits a.program b.ledger t
+  module _ (how : Stood) (h : how ≡ stood b.settings b.program b.ledger t) where
+    stood_as : (w : Stood) → how ≡ w → w ≡ stood a.settings a.program b.ledger t
     stood_as w e = sym e ∙ (h ∙ ap₂ (λ s p. stood s p b.ledger t) el ep)
 
-    pub not_at : how ≡ Not → done ≡ standing a.limits a.program a.ledger t k
-    not_at e = ran_not a.limits a.program a.ledger t k done b.ledger R lt (stood_as Not e)
+    pub not_at : how ≡ Not → done ≡ standing a.settings a.program a.ledger t k
+    not_at e = ran_not a.settings a.program a.ledger t k done b.ledger R lt (stood_as Not e)
 
-    pub last_at : how ≡ Last → done + 1 ≡ standing a.limits a.program a.ledger t k
-    last_at e = ran_last a.limits a.program a.ledger t k done b.ledger R lt (stood_as Last e)
+    pub last_at : how ≡ Last → done + 1 ≡ standing a.settings a.program a.ledger t k
+    last_at e = ran_last a.settings a.program a.ledger t k done b.ledger R lt (stood_as Last e)
 
     module _ (new : AccountsValue) (n : new ≡ went_on b (after_stood b.program b.ledger t how)) where
       new_is : (w : Stood) → how ≡ w → new ≡ went_on a (after_stood a.program b.ledger t w)
@@ -187,12 +187,12 @@ module _ (a b : AccountsValue) (t k done : ℕ) (is : b ≡ went_on a b.ledger) 
       new_not e = new_is Not e ∙ ap (went_on a) R.is
 
       pub new_last : how ≡ Last → new ≡ went_on a (task_steps a.program a.ledger t (done + 1))
-      new_last e = new_is Last e ∙ ap (went_on a) (ran_next a.limits a.program a.ledger t k done b.ledger R lt)
+      new_last e = new_is Last e ∙ ap (went_on a) (ran_next a.settings a.program a.ledger t k done b.ledger R lt)
 
-      pub new_more : how ≡ More → Ran a.limits a.program a.ledger t k (done + 1) new.ledger
+      pub new_more : how ≡ More → Ran a.settings a.program a.ledger t k (done + 1) new.ledger
       new_more e =
-          subst (Ran a.limits a.program a.ledger t k (done + 1)) (sym (ap (λ (q : AccountsValue). q.ledger) (new_is More e)))
-          (ran_more a.limits a.program a.ledger t k done b.ledger R lt (stood_as More e))
+          subst (Ran a.settings a.program a.ledger t k (done + 1)) (sym (ap (λ (q : AccountsValue). q.ledger) (new_is More e)))
+          (ran_more a.settings a.program a.ledger t k done b.ledger R lt (stood_as More e))
 
       pub new_went : how ≡ More → new ≡ went_on a new.ledger
       new_went e = let q = new_is More e in q ∙ ap (went_on a) (sym (ap (λ (x : AccountsValue). x.ledger) q))

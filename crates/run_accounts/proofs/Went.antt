@@ -21,17 +21,17 @@ same_went : (s new : AccountsValue) (l : Ledger) → Agrees s → in_use l ≡ i
 same_went s new l A same e = e ∙ ap (λ (u : ℕ). record s { ledger = l; used = u }) (A.used ∙ sym same)
 
 module _ (s new : AccountsValue) (w t : ℕ) (A : Agrees s) where
-  pub went_took : (taken : List (Option ℕ)) → new ≡ record s { ledger = after_kind s.program s.limits s.ledger w (Took t); taken = taken } → new ≡ record (went_on s (after_kind s.program s.limits s.ledger w (Took t))) { taken = taken }
+  pub went_took : (taken : List (Option ℕ)) → new ≡ record s { ledger = after_kind s.program s.settings s.ledger w (Took t); taken = taken } → new ≡ record (went_on s (after_kind s.program s.settings s.ledger w (Took t))) { taken = taken }
   went_took taken e =
-      e ∙ ap (λ (u : ℕ). record s { ledger = after_kind s.program s.limits s.ledger w (Took t); used = u; taken = taken }) (A.used ∙ sym (same_use s.ledger t _ (λ h. refl)))
+      e ∙ ap (λ (u : ℕ). record s { ledger = after_kind s.program s.settings s.ledger w (Took t); used = u; taken = taken }) (A.used ∙ sym (same_use s.ledger t _ (λ h. refl)))
 
-  pub went_put_off : new ≡ record s { ledger = after_kind s.program s.limits s.ledger w (PutOff t) } → new ≡ went_on s (after_kind s.program s.limits s.ledger w (PutOff t))
+  pub went_put_off : new ≡ record s { ledger = after_kind s.program s.settings s.ledger w (PutOff t) } → new ≡ went_on s (after_kind s.program s.settings s.ledger w (PutOff t))
   went_put_off e = same_went s new _ A (same_use s.ledger t _ (λ h. refl)) e
 
-  pub went_mark : new ≡ record s { ledger = after_kind s.program s.limits s.ledger w (Mark t) } → new ≡ went_on s (after_kind s.program s.limits s.ledger w (Mark t))
+  pub went_mark : new ≡ record s { ledger = after_kind s.program s.settings s.ledger w (Mark t) } → new ≡ went_on s (after_kind s.program s.settings s.ledger w (Mark t))
   went_mark e = same_went s new _ A (same_use s.ledger t _ (λ h. refl)) e
 
-  pub went_more : (n : ℕ) → new ≡ record s { ledger = after_kind s.program s.limits s.ledger w (More t n) } → new ≡ went_on s (after_kind s.program s.limits s.ledger w (More t n))
+  pub went_more : (n : ℕ) → new ≡ record s { ledger = after_kind s.program s.settings s.ledger w (More t n) } → new ≡ went_on s (after_kind s.program s.settings s.ledger w (More t n))
   went_more n e = same_went s new _ A (same_use s.ledger t _ (λ h. refl)) e
 
 -- CHUNKS AND COLLECTIONS THAT BEGIN
@@ -63,18 +63,18 @@ chunk_units_in l next h = by (on_asked next is_small)
     by true = omega arith
     by false = omega arith
 
-pub went_chunk : (s s1 new : AccountsValue) (w t before : ℕ) → Agrees s → before ≡ places_in (heap_of s.ledger t) → s1 ≡ record s { ledger = after_kind s.program s.limits s.ledger w (Chunk t) }
-    → new ≡ record s1 { used = s1.used + places_in (heap_of s1.ledger t) - before } → new ≡ went_on s (after_kind s.program s.limits s.ledger w (Chunk t))
+pub went_chunk : (s s1 new : AccountsValue) (w t before : ℕ) → Agrees s → before ≡ places_in (heap_of s.ledger t) → s1 ≡ record s { ledger = after_kind s.program s.settings s.ledger w (Chunk t) }
+    → new ≡ record s1 { used = s1.used + places_in (heap_of s1.ledger t) - before } → new ≡ went_on s (after_kind s.program s.settings s.ledger w (Chunk t))
 went_chunk s s1 new w t before A was e1 e =
-    placed_went s s1 new t _ before A was (by (nat_lt s.limits.chunks (in_use s.ledger + chunk_units (asked s.program s.ledger.machine t)))) e1 e
+    placed_went s s1 new t _ before A was (by (nat_lt s.settings.chunks (in_use s.ledger + chunk_units (asked s.program s.ledger.machine t)))) e1 e
   where
     by : (full : Bool) → let k = cond full (record s.ledger { end = Some (Pool (in_use s.ledger)) }) (with_heap s.ledger t (with_chunk (asked s.program s.ledger.machine t))) in
         in_use k ≡ in_use s.ledger + places_in (heap_of k t) - places_in (heap_of s.ledger t)
     by true = omega arith
     by false = placed_set s.ledger t (with_chunk (asked s.program s.ledger.machine t)) (chunk_units_in s.ledger (asked s.program s.ledger.machine t))
 
-pub went_begin : (s s1 new : AccountsValue) (w t before : ℕ) → Agrees s → before ≡ places_in (heap_of s.ledger t) → s1 ≡ record s { ledger = after_kind s.program s.limits s.ledger w (Begin t) }
-    → new ≡ record s1 { used = s1.used + places_in (heap_of s1.ledger t) - before } → new ≡ went_on s (after_kind s.program s.limits s.ledger w (Begin t))
+pub went_begin : (s s1 new : AccountsValue) (w t before : ℕ) → Agrees s → before ≡ places_in (heap_of s.ledger t) → s1 ≡ record s { ledger = after_kind s.program s.settings s.ledger w (Begin t) }
+    → new ≡ record s1 { used = s1.used + places_in (heap_of s1.ledger t) - before } → new ≡ went_on s (after_kind s.program s.settings s.ledger w (Begin t))
 went_begin s s1 new w t before A was e1 e = placed_went s s1 new t _ before A was (placed_set s.ledger t _ (λ h. omega arith)) e1 e
 
 -- COLLECTIONS THAT END, AND SWEEPS
@@ -82,7 +82,7 @@ went_begin s s1 new w t before A was e1 e = placed_went s s1 new t _ before A wa
 pub went_end : (s s1 new : AccountsValue) (w t a g n : ℕ) (parts : Collected) → Agrees s → with_collected (heap_of s.ledger t) parts ≡ collected s.ledger.machine (heap_of s.ledger t)
     → (parts.taken, parts.given, parts.left) ≡ end_numbers s.ledger.machine (heap_of s.ledger t)
     → s1 ≡ record s { used = s.used + (length parts.chunks - begun_in (heap_of s.ledger t)) - parts.given }
-    → new ≡ record s1 { ledger = with_heap s1.ledger t (collected s1.ledger.machine) } → new ≡ went_on s (after_kind s.program s.limits s.ledger w (EndOf t a g n))
+    → new ≡ record s1 { ledger = with_heap s1.ledger t (collected s1.ledger.machine) } → new ≡ went_on s (after_kind s.program s.settings s.ledger w (EndOf t a g n))
 went_end s s1 new w t a g n parts A heap numbers e1 e =
     e ∙ (ap (λ (k : AccountsValue). record k { ledger = with_heap k.ledger t (collected k.ledger.machine) }) e1
     ∙ ap (λ (u : ℕ). record s { ledger = with_heap s.ledger t (collected s.ledger.machine); used = u }) (ap (λ u. u + (length parts.chunks - begun_in (heap_of s.ledger t)) - parts.given) A.used ∙ by (heap_at s.ledger t) refl heap (ap (λ (q : ℕ × ℕ × ℕ). q.1) numbers)))
@@ -104,7 +104,7 @@ went_end s s1 new w t a g n parts A heap numbers e1 e =
         omega arith
 
 pub went_sweep : (s s1 new : AccountsValue) (w t g given : ℕ) → Agrees s → given ≡ sweep_number s.ledger.machine (heap_of s.ledger t) → s1 ≡ record s { used = s.used - given }
-    → new ≡ record s1 { ledger = with_heap s1.ledger t swept_heap } → new ≡ went_on s (after_kind s.program s.limits s.ledger w (Sweep t g))
+    → new ≡ record s1 { ledger = with_heap s1.ledger t swept_heap } → new ≡ went_on s (after_kind s.program s.settings s.ledger w (Sweep t g))
 went_sweep s s1 new w t g given A number e1 e =
     e ∙ (ap (λ (k : AccountsValue). record k { ledger = with_heap k.ledger t swept_heap }) e1
     ∙ ap (λ (u : ℕ). record s { ledger = with_heap s.ledger t swept_heap; used = u }) (ap (λ u. u - given) A.used ∙ by (heap_at s.ledger t) refl number))

@@ -21,11 +21,11 @@ use Rattle.ledger_heaps.specs.Accounts.{AreOwned}
 use Rattle.run_accounts.specs.declared.ran.Stood.{Stood}
 use Rattle.run_accounts.specs.declared.ran.Stood.TheVariants.{Not, Last, More}
 
--- the program, the limits and the accounts; and what is kept beside the accounts, so that an entry needn't ask all heaps:
--- the chunks in use, and for each worker the task that it took last
+-- the program, the settings and the accounts; and what is kept beside the accounts, so that an entry needn't ask all
+-- heaps: the chunks in use, and for each worker the task that it took last
 pub record AccountsValue : Type 0 where
   pub program : ProgramText
-  pub limits : SettingsValue
+  pub settings : SettingsValue
   pub ledger : Ledger
   pub used : ℕ
   pub taken : List (Option ℕ)

@@ -23,7 +23,7 @@ use std::marker::Model;
 pub struct Accounts<'p> {
     pub(crate) alloc: Global,
     pub(crate) program: &'p Program,
-    pub(crate) limits: Settings,
+    pub(crate) settings: Settings,
     pub(crate) machine: Machine<'p>,
     pub(crate) heaps: Listed<Heap>,
     pub(crate) steps: u64,
@@ -42,7 +42,7 @@ impl<'p> Model for Accounts<'p> {
 
     ghost view = { λ a. record {
       program = a.program.now;
-      limits = a.limits;
+      settings = a.settings;
       ledger = record { machine = a.machine.state; heaps = a.heaps; steps = a.steps; end = a.end };
       used = a.used;
       taken = a.taken;
@@ -69,17 +69,17 @@ impl<'p> Accounts<'p> {
     pub fn open(
         alloc: Global,
         program: &'p Program,
-        limits: Settings,
+        settings: Settings,
     ) -> Result<Accounts<'p>, AllocError>
-        ensures { IfOk result (λ a. a ≡ record { program = program.entry.now; limits = limits; ledger = opening program.entry.now limits; used = 0; taken = replicate 64 None }) }
+        ensures { IfOk result (λ a. a ≡ record { program = program.entry.now; settings = settings; ledger = opening program.entry.now settings; used = 0; taken = replicate 64 None }) }
     {
-        let machine = Machine::start(alloc, program, limits.version().field_limit())?;
+        let machine = Machine::start(alloc, program, settings.version().field_limit())?;
         let mut heaps = Listed::new(alloc);
         heaps.push(fresh(alloc))?;
         Ok(Accounts {
             alloc,
             program,
-            limits,
+            settings,
             machine,
             heaps,
             steps: 0,
@@ -89,11 +89,11 @@ impl<'p> Accounts<'p> {
         })
     }
 
-    /// The limits are in their ranges.
+    /// The settings are in their ranges.
     pub fn bounds(&self)
-        ensures { AreLimits self.now.limits }
+        ensures { AreLimits self.now.settings }
     {
-        let _ = self.limits.workers();
+        let _ = self.settings.workers();
     }
 
     /// The account of a task's heap.
@@ -251,7 +251,7 @@ impl<'p> Accounts<'p> {
 
     /// Whether the next step of a task allocates, and a leaf collection is due.
     pub(crate) fn is_due(&self, task: u32) -> bool
-        ensures { result ≡ is_due self.now.limits self.now.program self.now.ledger task }
+        ensures { result ≡ is_due self.now.settings self.now.program self.now.ledger task }
     {
         self.is_due_by(task, self.asked(task))
     }
@@ -259,10 +259,10 @@ impl<'p> Accounts<'p> {
     /// The same, where it is known what the step asks for.
     pub(crate) fn is_due_by(&self, task: u32, words: Option<usize>) -> bool
         requires { words ≡ asked self.now.program self.now.ledger.machine task }
-        ensures { result ≡ is_due self.now.limits self.now.program self.now.ledger task }
+        ensures { result ≡ is_due self.now.settings self.now.program self.now.ledger task }
     {
         match words {
-            Some(_) => self.limits.leaf() as u64 <= self.since(task),
+            Some(_) => self.settings.leaf() as u64 <= self.since(task),
             None => false,
         }
     }

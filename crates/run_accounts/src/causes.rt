@@ -52,7 +52,7 @@ impl<'p> Accounts<'p> {
 
     // A leaf collection of the task is to be due, and the worker at it.
     fn due_cause(&self, worker: u32, task: u32) -> Option<Refused>
-        ensures { result ≡ on_running self.now.ledger worker task (on_due self.now.limits self.now.program self.now.ledger task None) }
+        ensures { result ≡ on_running self.now.ledger worker task (on_due self.now.settings self.now.program self.now.ledger task None) }
     {
         if let Some(cause) = self.running_cause(worker, task) {
             return Some(cause);
@@ -67,14 +67,14 @@ impl<'p> Accounts<'p> {
     fn is_pool_enough(&self, task: u32) -> bool
         requires steady { Steady self.now.ledger }
         requires agrees { Agrees self.now }
-        ensures { result ≡ is_pool_enough self.now.limits self.now.ledger task }
+        ensures { result ≡ is_pool_enough self.now.settings self.now.ledger task }
     {
-        self.in_use() + self.take(task) <= self.limits.chunks() as u64
+        self.in_use() + self.take(task) <= self.settings.chunks() as u64
     }
 
     pub(crate) fn took_cause(&self, worker: u32, task: u32) -> Option<Refused>
         requires { Agrees self.now }
-        ensures { result ≡ kind_refusal self.now.program self.now.limits self.now.ledger worker (Took task) }
+        ensures { result ≡ kind_refusal self.now.program self.now.settings self.now.ledger worker (Took task) }
     {
         if !self.is_ready(task) {
             return Some(Refused::NotReady);
@@ -86,7 +86,7 @@ impl<'p> Accounts<'p> {
     }
 
     pub(crate) fn chunk_cause(&self, worker: u32, task: u32) -> Option<Refused>
-        ensures { result ≡ kind_refusal self.now.program self.now.limits self.now.ledger worker (Chunk task) }
+        ensures { result ≡ kind_refusal self.now.program self.now.settings self.now.ledger worker (Chunk task) }
     {
         if let Some(cause) = self.running_cause(worker, task) {
             return Some(cause);
@@ -103,7 +103,7 @@ impl<'p> Accounts<'p> {
     pub(crate) fn begin_cause(&self, worker: u32, task: u32) -> Option<Refused>
         requires steady { Steady self.now.ledger }
         requires agrees { Agrees self.now }
-        ensures { result ≡ kind_refusal self.now.program self.now.limits self.now.ledger worker (Begin task) }
+        ensures { result ≡ kind_refusal self.now.program self.now.settings self.now.ledger worker (Begin task) }
     {
         if let Some(cause) = self.due_cause(worker, task) {
             return Some(cause);
@@ -117,7 +117,7 @@ impl<'p> Accounts<'p> {
     pub(crate) fn put_off_cause(&self, worker: u32, task: u32) -> Option<Refused>
         requires steady { Steady self.now.ledger }
         requires agrees { Agrees self.now }
-        ensures { result ≡ kind_refusal self.now.program self.now.limits self.now.ledger worker (PutOff task) }
+        ensures { result ≡ kind_refusal self.now.program self.now.settings self.now.ledger worker (PutOff task) }
     {
         if let Some(cause) = self.due_cause(worker, task) {
             return Some(cause);
@@ -130,7 +130,7 @@ impl<'p> Accounts<'p> {
 
     pub(crate) fn mark_cause(&self, task: u32) -> Option<Refused>
         requires { Steady self.now.ledger }
-        ensures { (worker : ℕ) → result ≡ kind_refusal self.now.program self.now.limits self.now.ledger worker (Mark task) }
+        ensures { (worker : ℕ) → result ≡ kind_refusal self.now.program self.now.settings self.now.ledger worker (Mark task) }
     {
         if let Some(cause) = self.waiting_cause(task) {
             return Some(cause);
@@ -139,14 +139,14 @@ impl<'p> Accounts<'p> {
             return Some(Refused::Marking);
         }
         let words = self.words(task);
-        if words < self.limits.inner() as u64 {
+        if words < self.settings.inner() as u64 {
             return Some(Refused::NotDue(words));
         }
         None
     }
 
     pub(crate) fn more_cause(&self, task: u32) -> Option<Refused>
-        ensures { (worker count : ℕ) → result ≡ kind_refusal self.now.program self.now.limits self.now.ledger worker (More task count) }
+        ensures { (worker count : ℕ) → result ≡ kind_refusal self.now.program self.now.settings self.now.ledger worker (More task count) }
     {
         if let Some(cause) = self.marking_cause(task) {
             return Some(cause);
@@ -158,9 +158,9 @@ impl<'p> Accounts<'p> {
     }
 
     pub(crate) fn fuel_cause(&self) -> Option<Refused>
-        ensures { (worker : ℕ) → result ≡ kind_refusal self.now.program self.now.limits self.now.ledger worker Fuel }
+        ensures { (worker : ℕ) → result ≡ kind_refusal self.now.program self.now.settings self.now.ledger worker Fuel }
     {
-        if self.steps < self.limits.fuel() {
+        if self.steps < self.settings.fuel() {
             return Some(Refused::NotSpent(self.steps));
         }
         None

@@ -18,7 +18,7 @@ use std::alloc::AllocError;
 impl<'p> Accounts<'p> {
     pub(crate) fn took(&mut self, worker: u32, task: u32)
         requires { worker < 64 }
-        ensures { self.new ≡ record self.old { ledger = after_kind self.old.program self.old.limits self.old.ledger worker (Took task); taken = slice_set self.old.taken worker (Some task) } }
+        ensures { self.new ≡ record self.old { ledger = after_kind self.old.program self.old.settings self.old.ledger worker (Took task); taken = slice_set self.old.taken worker (Some task) } }
     {
         if (task as usize) < self.heaps.len() {
             self.heaps.at_mut(task as usize).worker = Some(worker);
@@ -27,7 +27,7 @@ impl<'p> Accounts<'p> {
     }
 
     pub(crate) fn put_off(&mut self, task: u32)
-        ensures { (worker : ℕ) → self.new ≡ record self.old { ledger = after_kind self.old.program self.old.limits self.old.ledger worker (PutOff task) } }
+        ensures { (worker : ℕ) → self.new ≡ record self.old { ledger = after_kind self.old.program self.old.settings self.old.ledger worker (PutOff task) } }
     {
         if (task as usize) < self.heaps.len() {
             self.heaps.at_mut(task as usize).since = 0;
@@ -35,7 +35,7 @@ impl<'p> Accounts<'p> {
     }
 
     pub(crate) fn mark(&mut self, task: u32)
-        ensures { (worker : ℕ) → self.new ≡ record self.old { ledger = after_kind self.old.program self.old.limits self.old.ledger worker (Mark task) } }
+        ensures { (worker : ℕ) → self.new ≡ record self.old { ledger = after_kind self.old.program self.old.settings self.old.ledger worker (Mark task) } }
     {
         if (task as usize) < self.heaps.len() {
             self.heaps.at_mut(task as usize).marked = Some(0);
@@ -43,7 +43,7 @@ impl<'p> Accounts<'p> {
     }
 
     pub(crate) fn fuel(&mut self)
-        ensures { (worker : ℕ) → self.new ≡ record self.old { ledger = after_kind self.old.program self.old.limits self.old.ledger worker Fuel } }
+        ensures { (worker : ℕ) → self.new ≡ record self.old { ledger = after_kind self.old.program self.old.settings self.old.ledger worker Fuel } }
     {
         self.end = Some(RunEnd::Fuel(self.steps));
     }
@@ -74,13 +74,13 @@ impl<'p> Accounts<'p> {
     pub(crate) fn chunk(&mut self, task: u32) -> Result<(), AllocError>
         requires steady { Steady self.old.ledger }
         requires agrees { Agrees self.old }
-        ensures ok { (worker : ℕ) → OnOk result (self.new ≡ record self.old { ledger = after_kind self.old.program self.old.limits self.old.ledger worker (Chunk task) }) }
+        ensures ok { (worker : ℕ) → OnOk result (self.new ≡ record self.old { ledger = after_kind self.old.program self.old.settings self.old.ledger worker (Chunk task) }) }
         ensures err { OnErr result (self.new ≡ self.old) }
     {
         let units = self.chunk_units(task);
         let in_use = self.in_use();
         let small = self.needs_small(task);
-        if in_use + units as u64 > self.limits.chunks() as u64 {
+        if in_use + units as u64 > self.settings.chunks() as u64 {
             self.end = Some(RunEnd::Pool(in_use as u32));
             return Ok(());
         }
@@ -99,7 +99,7 @@ impl<'p> Accounts<'p> {
     /// The task's leaf collection begins.
     pub(crate) fn begin(&mut self, task: u32) -> Result<(), AllocError>
         requires { Steady self.old.ledger }
-        ensures ok { (worker : ℕ) → OnOk result (self.new ≡ record self.old { ledger = after_kind self.old.program self.old.limits self.old.ledger worker (Begin task) }) }
+        ensures ok { (worker : ℕ) → OnOk result (self.new ≡ record self.old { ledger = after_kind self.old.program self.old.settings self.old.ledger worker (Begin task) }) }
         ensures err { OnErr result (self.new ≡ self.old) }
     {
         let survivors = within(self.alloc, self.machine.state(), &self.heaps, task)?;
@@ -115,7 +115,7 @@ impl<'p> Accounts<'p> {
     /// So many objects of the heap more are marked, at most.
     pub(crate) fn more(&mut self, task: u32, count: u32)
         requires { Steady self.old.ledger }
-        ensures { (worker : ℕ) → self.new ≡ record self.old { ledger = after_kind self.old.program self.old.limits self.old.ledger worker (More task count) } }
+        ensures { (worker : ℕ) → self.new ≡ record self.old { ledger = after_kind self.old.program self.old.settings self.old.ledger worker (More task count) } }
     {
         let marked = self.marked_by(task, count);
         if (task as usize) < self.heaps.len() {

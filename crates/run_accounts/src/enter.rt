@@ -38,9 +38,9 @@ impl<'p> Accounts<'p> {
     fn enter_took(&mut self, worker: u32, task: u32) -> Result<(), ApplyError>
         requires worker { worker < 64 }
         requires agrees { Agrees self.old }
-        ensures none { OnOk result (kind_refusal self.old.program self.old.limits self.old.ledger worker (Took task) ≡ None) }
-        ensures ok { OnOk result (self.new ≡ record (went_on self.old (after_kind self.old.program self.old.limits self.old.ledger worker (Took task))) { taken = slice_set self.old.taken worker (Some task) }) }
-        ensures err { IfErr result (FailsFor (kind_refusal self.old.program self.old.limits self.old.ledger worker (Took task))) }
+        ensures none { OnOk result (kind_refusal self.old.program self.old.settings self.old.ledger worker (Took task) ≡ None) }
+        ensures ok { OnOk result (self.new ≡ record (went_on self.old (after_kind self.old.program self.old.settings self.old.ledger worker (Took task))) { taken = slice_set self.old.taken worker (Some task) }) }
+        ensures err { IfErr result (FailsFor (kind_refusal self.old.program self.old.settings self.old.ledger worker (Took task))) }
     {
         if let Some(cause) = self.took_cause(worker, task) {
             return Err(ApplyError::Refused(cause));
@@ -51,11 +51,11 @@ impl<'p> Accounts<'p> {
 
     fn enter_ran(&mut self, worker: u32, task: u32, steps: u32) -> Result<(), ApplyError>
         requires few { steps ≤ most_steps }
-        requires stays { is_some (heap_of self.old.ledger task).begun ≡ false → StaysSteady self.old.limits self.old.program self.old.ledger task steps }
+        requires stays { is_some (heap_of self.old.ledger task).begun ≡ false → StaysSteady self.old.settings self.old.program self.old.ledger task steps }
         requires agrees { Agrees self.old }
-        ensures none { OnOk result (kind_refusal self.old.program self.old.limits self.old.ledger worker (Ran task steps) ≡ None) }
-        ensures ok { OnOk result (self.new ≡ went_on self.old (after_kind self.old.program self.old.limits self.old.ledger worker (Ran task steps))) }
-        ensures err { IfErr result (FailsFor (kind_refusal self.old.program self.old.limits self.old.ledger worker (Ran task steps))) }
+        ensures none { OnOk result (kind_refusal self.old.program self.old.settings self.old.ledger worker (Ran task steps) ≡ None) }
+        ensures ok { OnOk result (self.new ≡ went_on self.old (after_kind self.old.program self.old.settings self.old.ledger worker (Ran task steps))) }
+        ensures err { IfErr result (FailsFor (kind_refusal self.old.program self.old.settings self.old.ledger worker (Ran task steps))) }
     {
         if let Some(cause) = self.running_cause(worker, task) {
             return Err(ApplyError::Refused(cause));
@@ -71,9 +71,9 @@ impl<'p> Accounts<'p> {
     fn enter_chunk(&mut self, worker: u32, task: u32) -> Result<(), ApplyError>
         requires steady { Steady self.old.ledger }
         requires agrees { Agrees self.old }
-        ensures none { OnOk result (kind_refusal self.old.program self.old.limits self.old.ledger worker (Chunk task) ≡ None) }
-        ensures ok { OnOk result (self.new ≡ went_on self.old (after_kind self.old.program self.old.limits self.old.ledger worker (Chunk task))) }
-        ensures err { IfErr result (FailsFor (kind_refusal self.old.program self.old.limits self.old.ledger worker (Chunk task))) }
+        ensures none { OnOk result (kind_refusal self.old.program self.old.settings self.old.ledger worker (Chunk task) ≡ None) }
+        ensures ok { OnOk result (self.new ≡ went_on self.old (after_kind self.old.program self.old.settings self.old.ledger worker (Chunk task))) }
+        ensures err { IfErr result (FailsFor (kind_refusal self.old.program self.old.settings self.old.ledger worker (Chunk task))) }
     {
         if let Some(cause) = self.chunk_cause(worker, task) {
             return Err(ApplyError::Refused(cause));
@@ -87,9 +87,9 @@ impl<'p> Accounts<'p> {
     fn enter_begin(&mut self, worker: u32, task: u32) -> Result<(), ApplyError>
         requires steady { Steady self.old.ledger }
         requires agrees { Agrees self.old }
-        ensures none { OnOk result (kind_refusal self.old.program self.old.limits self.old.ledger worker (Begin task) ≡ None) }
-        ensures ok { OnOk result (self.new ≡ went_on self.old (after_kind self.old.program self.old.limits self.old.ledger worker (Begin task))) }
-        ensures err { IfErr result (FailsFor (kind_refusal self.old.program self.old.limits self.old.ledger worker (Begin task))) }
+        ensures none { OnOk result (kind_refusal self.old.program self.old.settings self.old.ledger worker (Begin task) ≡ None) }
+        ensures ok { OnOk result (self.new ≡ went_on self.old (after_kind self.old.program self.old.settings self.old.ledger worker (Begin task))) }
+        ensures err { IfErr result (FailsFor (kind_refusal self.old.program self.old.settings self.old.ledger worker (Begin task))) }
     {
         if let Some(cause) = self.begin_cause(worker, task) {
             return Err(ApplyError::Refused(cause));
@@ -103,9 +103,9 @@ impl<'p> Accounts<'p> {
     fn enter_end(&mut self, worker: u32, task: u32, said: (u32, u32, u32)) -> Result<(), ApplyError>
         requires steady { Steady self.old.ledger }
         requires agrees { Agrees self.old }
-        ensures none { OnOk result (kind_refusal self.old.program self.old.limits self.old.ledger worker (End task said.0 said.1 said.2) ≡ None) }
-        ensures ok { OnOk result (self.new ≡ went_on self.old (after_kind self.old.program self.old.limits self.old.ledger worker (End task said.0 said.1 said.2))) }
-        ensures err { IfErr result (FailsFor (kind_refusal self.old.program self.old.limits self.old.ledger worker (End task said.0 said.1 said.2))) }
+        ensures none { OnOk result (kind_refusal self.old.program self.old.settings self.old.ledger worker (End task said.0 said.1 said.2) ≡ None) }
+        ensures ok { OnOk result (self.new ≡ went_on self.old (after_kind self.old.program self.old.settings self.old.ledger worker (End task said.0 said.1 said.2))) }
+        ensures err { IfErr result (FailsFor (kind_refusal self.old.program self.old.settings self.old.ledger worker (End task said.0 said.1 said.2))) }
     {
         if let Some(cause) = self.collecting_cause(worker, task) {
             return Err(ApplyError::Refused(cause));
@@ -122,9 +122,9 @@ impl<'p> Accounts<'p> {
     fn enter_put_off(&mut self, worker: u32, task: u32) -> Result<(), ApplyError>
         requires steady { Steady self.old.ledger }
         requires agrees { Agrees self.old }
-        ensures none { OnOk result (kind_refusal self.old.program self.old.limits self.old.ledger worker (PutOff task) ≡ None) }
-        ensures ok { OnOk result (self.new ≡ went_on self.old (after_kind self.old.program self.old.limits self.old.ledger worker (PutOff task))) }
-        ensures err { IfErr result (FailsFor (kind_refusal self.old.program self.old.limits self.old.ledger worker (PutOff task))) }
+        ensures none { OnOk result (kind_refusal self.old.program self.old.settings self.old.ledger worker (PutOff task) ≡ None) }
+        ensures ok { OnOk result (self.new ≡ went_on self.old (after_kind self.old.program self.old.settings self.old.ledger worker (PutOff task))) }
+        ensures err { IfErr result (FailsFor (kind_refusal self.old.program self.old.settings self.old.ledger worker (PutOff task))) }
     {
         if let Some(cause) = self.put_off_cause(worker, task) {
             return Err(ApplyError::Refused(cause));
@@ -136,9 +136,9 @@ impl<'p> Accounts<'p> {
     fn enter_mark(&mut self, task: u32) -> Result<(), ApplyError>
         requires steady { Steady self.old.ledger }
         requires agrees { Agrees self.old }
-        ensures none { (worker : ℕ) → OnOk result (kind_refusal self.old.program self.old.limits self.old.ledger worker (Mark task) ≡ None) }
-        ensures ok { (worker : ℕ) → OnOk result (self.new ≡ went_on self.old (after_kind self.old.program self.old.limits self.old.ledger worker (Mark task))) }
-        ensures err { (worker : ℕ) → IfErr result (FailsFor (kind_refusal self.old.program self.old.limits self.old.ledger worker (Mark task))) }
+        ensures none { (worker : ℕ) → OnOk result (kind_refusal self.old.program self.old.settings self.old.ledger worker (Mark task) ≡ None) }
+        ensures ok { (worker : ℕ) → OnOk result (self.new ≡ went_on self.old (after_kind self.old.program self.old.settings self.old.ledger worker (Mark task))) }
+        ensures err { (worker : ℕ) → IfErr result (FailsFor (kind_refusal self.old.program self.old.settings self.old.ledger worker (Mark task))) }
     {
         if let Some(cause) = self.mark_cause(task) {
             return Err(ApplyError::Refused(cause));
@@ -150,9 +150,9 @@ impl<'p> Accounts<'p> {
     fn enter_more(&mut self, task: u32, count: u32) -> Result<(), ApplyError>
         requires steady { Steady self.old.ledger }
         requires agrees { Agrees self.old }
-        ensures none { (worker : ℕ) → OnOk result (kind_refusal self.old.program self.old.limits self.old.ledger worker (More task count) ≡ None) }
-        ensures ok { (worker : ℕ) → OnOk result (self.new ≡ went_on self.old (after_kind self.old.program self.old.limits self.old.ledger worker (More task count))) }
-        ensures err { (worker : ℕ) → IfErr result (FailsFor (kind_refusal self.old.program self.old.limits self.old.ledger worker (More task count))) }
+        ensures none { (worker : ℕ) → OnOk result (kind_refusal self.old.program self.old.settings self.old.ledger worker (More task count) ≡ None) }
+        ensures ok { (worker : ℕ) → OnOk result (self.new ≡ went_on self.old (after_kind self.old.program self.old.settings self.old.ledger worker (More task count))) }
+        ensures err { (worker : ℕ) → IfErr result (FailsFor (kind_refusal self.old.program self.old.settings self.old.ledger worker (More task count))) }
     {
         if let Some(cause) = self.more_cause(task) {
             return Err(ApplyError::Refused(cause));
@@ -164,9 +164,9 @@ impl<'p> Accounts<'p> {
     fn enter_sweep(&mut self, task: u32, given: u32) -> Result<(), ApplyError>
         requires steady { Steady self.old.ledger }
         requires agrees { Agrees self.old }
-        ensures none { (worker : ℕ) → OnOk result (kind_refusal self.old.program self.old.limits self.old.ledger worker (Sweep task given) ≡ None) }
-        ensures ok { (worker : ℕ) → OnOk result (self.new ≡ went_on self.old (after_kind self.old.program self.old.limits self.old.ledger worker (Sweep task given))) }
-        ensures err { (worker : ℕ) → IfErr result (FailsFor (kind_refusal self.old.program self.old.limits self.old.ledger worker (Sweep task given))) }
+        ensures none { (worker : ℕ) → OnOk result (kind_refusal self.old.program self.old.settings self.old.ledger worker (Sweep task given) ≡ None) }
+        ensures ok { (worker : ℕ) → OnOk result (self.new ≡ went_on self.old (after_kind self.old.program self.old.settings self.old.ledger worker (Sweep task given))) }
+        ensures err { (worker : ℕ) → IfErr result (FailsFor (kind_refusal self.old.program self.old.settings self.old.ledger worker (Sweep task given))) }
     {
         if let Some(cause) = self.marked_cause(task) {
             return Err(ApplyError::Refused(cause));
@@ -182,9 +182,9 @@ impl<'p> Accounts<'p> {
 
     fn enter_fuel(&mut self) -> Result<(), ApplyError>
         requires { Agrees self.old }
-        ensures none { (worker : ℕ) → OnOk result (kind_refusal self.old.program self.old.limits self.old.ledger worker Fuel ≡ None) }
-        ensures ok { (worker : ℕ) → OnOk result (self.new ≡ went_on self.old (after_kind self.old.program self.old.limits self.old.ledger worker Fuel)) }
-        ensures err { (worker : ℕ) → IfErr result (FailsFor (kind_refusal self.old.program self.old.limits self.old.ledger worker Fuel)) }
+        ensures none { (worker : ℕ) → OnOk result (kind_refusal self.old.program self.old.settings self.old.ledger worker Fuel ≡ None) }
+        ensures ok { (worker : ℕ) → OnOk result (self.new ≡ went_on self.old (after_kind self.old.program self.old.settings self.old.ledger worker Fuel)) }
+        ensures err { (worker : ℕ) → IfErr result (FailsFor (kind_refusal self.old.program self.old.settings self.old.ledger worker Fuel)) }
     {
         if let Some(cause) = self.fuel_cause() {
             return Err(ApplyError::Refused(cause));
@@ -198,10 +198,10 @@ impl<'p> Accounts<'p> {
         requires worker { worker < 64 }
         requires steady { Steady self.old.ledger }
         requires agrees { Agrees self.old }
-        requires stays { (t k : ℕ) → kind ≡ Ran t k → is_some (heap_of self.old.ledger t).begun ≡ false → StaysSteady self.old.limits self.old.program self.old.ledger t k }
-        ensures none { OnOk result (kind_refusal self.old.program self.old.limits self.old.ledger worker kind ≡ None) }
-        ensures ok { OnOk result (self.new ≡ record (went_on self.old (after_kind self.old.program self.old.limits self.old.ledger worker kind)) { taken = taken_after self.old.taken worker kind }) }
-        ensures err { IfErr result (FailsFor (kind_refusal self.old.program self.old.limits self.old.ledger worker kind)) }
+        requires stays { (t k : ℕ) → kind ≡ Ran t k → is_some (heap_of self.old.ledger t).begun ≡ false → StaysSteady self.old.settings self.old.program self.old.ledger t k }
+        ensures none { OnOk result (kind_refusal self.old.program self.old.settings self.old.ledger worker kind ≡ None) }
+        ensures ok { OnOk result (self.new ≡ record (went_on self.old (after_kind self.old.program self.old.settings self.old.ledger worker kind)) { taken = taken_after self.old.taken worker kind }) }
+        ensures err { IfErr result (FailsFor (kind_refusal self.old.program self.old.settings self.old.ledger worker kind)) }
     {
         match kind {
             Kind::Took(task) => self.enter_took(worker, task),
@@ -223,7 +223,7 @@ impl<'p> Accounts<'p> {
 
     // Why an entry is refused whatever it says of tasks: the run has ended, or its fuel is spent, or there is no such worker.
     fn general_cause(&self, worker: u32, kind: Kind) -> Option<Refused>
-        ensures { result ≡ general_refusal self.now.limits self.now.ledger worker kind }
+        ensures { result ≡ general_refusal self.now.settings self.now.ledger worker kind }
     {
         if self.end.is_some() {
             return Some(Refused::Over);
@@ -232,10 +232,10 @@ impl<'p> Accounts<'p> {
             Kind::Fuel => true,
             _ => false,
         };
-        if self.limits.fuel() <= self.steps && !ends {
+        if self.settings.fuel() <= self.steps && !ends {
             return Some(Refused::Spent(self.steps));
         }
-        if worker >= self.limits.workers() {
+        if worker >= self.settings.workers() {
             return Some(Refused::NoWorker);
         }
         None
@@ -246,10 +246,10 @@ impl<'p> Accounts<'p> {
     pub fn enter(&mut self, entry: Entry) -> Result<(), ApplyError>
         requires steady { Steady self.old.ledger }
         requires agrees { Agrees self.old }
-        requires stays { (t k : ℕ) → entry.kind ≡ Ran t k → is_some (heap_of self.old.ledger t).begun ≡ false → StaysSteady self.old.limits self.old.program self.old.ledger t k }
-        ensures none { OnOk result (refusal self.old.program self.old.limits self.old.ledger entry ≡ None) }
-        ensures ok { OnOk result (self.new ≡ record (went_on self.old (after self.old.program self.old.limits self.old.ledger entry)) { taken = taken_after self.old.taken entry.worker entry.kind }) }
-        ensures err { IfErr result (FailsFor (refusal self.old.program self.old.limits self.old.ledger entry)) }
+        requires stays { (t k : ℕ) → entry.kind ≡ Ran t k → is_some (heap_of self.old.ledger t).begun ≡ false → StaysSteady self.old.settings self.old.program self.old.ledger t k }
+        ensures none { OnOk result (refusal self.old.program self.old.settings self.old.ledger entry ≡ None) }
+        ensures ok { OnOk result (self.new ≡ record (went_on self.old (after self.old.program self.old.settings self.old.ledger entry)) { taken = taken_after self.old.taken entry.worker entry.kind }) }
+        ensures err { IfErr result (FailsFor (refusal self.old.program self.old.settings self.old.ledger entry)) }
     {
         if let Some(cause) = self.general_cause(entry.worker(), entry.kind()) {
             return Err(ApplyError::Refused(cause));

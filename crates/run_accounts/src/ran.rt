@@ -38,10 +38,10 @@ impl<'p> Accounts<'p> {
     // The calculations that come next in a task, at most so many: they stand, and a further step can behind each.
     fn calculate(&mut self, t: u32, most: u32) -> u32
         requires few { most ≤ most_steps }
-        requires steady { StaysSteady self.old.limits self.old.program self.old.ledger t most }
+        requires steady { StaysSteady self.old.settings self.old.program self.old.ledger t most }
         requires used { self.old.used ≡ in_use self.old.ledger }
         ensures most { result ≤ most }
-        ensures standing { standing self.old.limits self.old.program self.old.ledger t most ≡ result + standing self.old.limits self.old.program (task_steps self.old.program self.old.ledger t result) t (most - result) }
+        ensures standing { standing self.old.settings self.old.program self.old.ledger t most ≡ result + standing self.old.settings self.old.program (task_steps self.old.program self.old.ledger t result) t (most - result) }
         ensures all { result < most → calculates self.old.program self.new.ledger.machine t ≡ false }
         ensures after { self.new ≡ went_on self.old (task_steps self.old.program self.old.ledger t result) }
     {
@@ -53,10 +53,10 @@ impl<'p> Accounts<'p> {
     // One step of the entry, if it can stand in it.
     fn stand(&mut self, t: u32) -> Result<Stood, AllocError>
         requires before { Steady self.old.ledger }
-        requires after { (is_due self.old.limits self.old.program self.old.ledger t || is_in_need self.old.program self.old.ledger t) ≡ false → Steady (task_step self.old.program self.old.ledger t) }
+        requires after { (is_due self.old.settings self.old.program self.old.ledger t || is_in_need self.old.program self.old.ledger t) ≡ false → Steady (task_step self.old.program self.old.ledger t) }
         requires used { self.old.used ≡ in_use self.old.ledger }
-        requires next { (is_due self.old.limits self.old.program self.old.ledger t || is_in_need self.old.program self.old.ledger t) ≡ false → used_after self.old.program self.old.ledger t ≡ in_use (task_step self.old.program self.old.ledger t) }
-        ensures stood { IfOk result (λ how. how ≡ stood self.old.limits self.old.program self.old.ledger t) }
+        requires next { (is_due self.old.settings self.old.program self.old.ledger t || is_in_need self.old.program self.old.ledger t) ≡ false → used_after self.old.program self.old.ledger t ≡ in_use (task_step self.old.program self.old.ledger t) }
+        ensures stood { IfOk result (λ how. how ≡ stood self.old.settings self.old.program self.old.ledger t) }
         ensures after { IfOk result (λ how. self.new ≡ went_on self.old (after_stood self.old.program self.old.ledger t how)) }
     {
         let ahead = next_step(self.program, self.machine.state(), t);
@@ -71,9 +71,9 @@ impl<'p> Accounts<'p> {
     /// Takes the first of so many steps of a task, as many as can stand in one entry, and says how many those are.
     pub(crate) fn ran(&mut self, t: u32, steps: u32) -> Result<u32, AllocError>
         requires few { steps ≤ most_steps }
-        requires steady { StaysSteady self.old.limits self.old.program self.old.ledger t steps }
+        requires steady { StaysSteady self.old.settings self.old.program self.old.ledger t steps }
         requires used { self.old.used ≡ in_use self.old.ledger }
-        ensures standing { IfOk result (λ count. count ≡ standing self.old.limits self.old.program self.old.ledger t steps) }
+        ensures standing { IfOk result (λ count. count ≡ standing self.old.settings self.old.program self.old.ledger t steps) }
         ensures most { IfOk result (λ count. count ≤ steps) }
         ensures after { IfOk result (λ count. self.new ≡ went_on self.old (task_steps self.old.program self.old.ledger t count)) }
     {

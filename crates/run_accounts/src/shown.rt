@@ -14,11 +14,11 @@ impl<'p> Accounts<'p> {
         self.alloc
     }
 
-    /// The limits of the run.
-    pub fn limits(&self) -> Settings
-        ensures { result ≡ self.now.limits }
+    /// The settings of the run.
+    pub fn settings(&self) -> Settings
+        ensures { result ≡ self.now.settings }
     {
-        self.limits
+        self.settings
     }
 
     /// How the run ended, if it has.

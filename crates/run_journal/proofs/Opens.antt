@@ -40,19 +40,19 @@ module _ (p : ProgramText) (s : SettingsValue) where
       )
 
 -- what is kept beside the accounts, after an entry
-pub accounts_agree : (s : AccountsValue) → AreLimits s.limits → IsLegalLedger s.program s.limits s.ledger → Agrees s → (e : EntryValue) → refusal s.program s.limits s.ledger e ≡ None
-    → Agrees (record (went_on s (after s.program s.limits s.ledger e)) { taken = taken_after s.taken e.worker e.kind })
+pub accounts_agree : (s : AccountsValue) → AreLimits s.settings → IsLegalLedger s.program s.settings s.ledger → Agrees s → (e : EntryValue) → refusal s.program s.settings s.ledger e ≡ None
+    → Agrees (record (went_on s (after s.program s.settings s.ledger e)) { taken = taken_after s.taken e.worker e.kind })
 accounts_agree s limits L A e none =
-    let h : is_none (refusal s.program s.limits s.ledger e) ≡ true = ap is_none none in
-    let tells = entry_tells s.program s.limits s.ledger e h in
-    let S : SoundLedger s.ledger = subst SoundLedger (sym L.2) (legal_sound s.program s.limits L.0 L.1) in
-    let few : e.worker < s.limits.workers = ltb-true e.worker s.limits.workers (none_unless (nat_lt e.worker s.limits.workers) _ _ (none_where (nat_le s.limits.fuel s.ledger.steps && not (is_fuel e.kind)) _ _ (none_where (is_some s.ledger.end) _ _ h).1).1).0 in
-    let most : s.limits.workers ≤ 64 = limits.workers.1 in
+    let h : is_none (refusal s.program s.settings s.ledger e) ≡ true = ap is_none none in
+    let tells = entry_tells s.program s.settings s.ledger e h in
+    let S : SoundLedger s.ledger = subst SoundLedger (sym L.2) (legal_sound s.program s.settings L.0 L.1) in
+    let few : e.worker < s.settings.workers = ltb-true e.worker s.settings.workers (none_unless (nat_lt e.worker s.settings.workers) _ _ (none_where (nat_le s.settings.fuel s.ledger.steps && not (is_fuel e.kind)) _ _ (none_where (is_some s.ledger.end) _ _ h).1).1).0 in
+    let most : s.settings.workers ≤ 64 = limits.workers.1 in
     let places : length s.taken ≡ 64 = A.places in
     record {
       used = refl;
       places = as_long s.taken e.worker e.kind ∙ A.places;
-      taken = kind_tells s.program s.limits s.ledger s.taken A.taken S e.worker e.kind (omega arith) tells.2;
+      taken = kind_tells s.program s.settings s.ledger s.taken A.taken S e.worker e.kind (omega arith) tells.2;
     }
   where
     as_long : (taken : List (Option ℕ)) (w : ℕ) (kind : Kind) → length (taken_after taken w kind) ≡ length taken
@@ -68,9 +68,9 @@ accounts_agree s limits L A e none =
     as_long taken w Fuel = refl
 
 -- a book that goes on
-pub opened_after : (s new : AccountsValue) (stopped : Bool) → AreLimits s.limits → IsOpened s stopped → stopped ≡ false → (e : EntryValue) → refusal s.program s.limits s.ledger e ≡ None
-    → new ≡ record (went_on s (after s.program s.limits s.ledger e)) { taken = taken_after s.taken e.worker e.kind } → IsOpened new stopped
+pub opened_after : (s new : AccountsValue) (stopped : Bool) → AreLimits s.settings → IsOpened s stopped → stopped ≡ false → (e : EntryValue) → refusal s.program s.settings s.ledger e ≡ None
+    → new ≡ record (went_on s (after s.program s.settings s.ledger e)) { taken = taken_after s.taken e.worker e.kind } → IsOpened new stopped
 opened_after s new stopped limits I going e none is = record {
-  legal = λ q. subst (λ (k : AccountsValue). IsLegalLedger k.program k.limits k.ledger) (sym is) (ledger_after s.program s.limits s.ledger (I.legal going) e none);
+  legal = λ q. subst (λ (k : AccountsValue). IsLegalLedger k.program k.settings k.ledger) (sym is) (ledger_after s.program s.settings s.ledger (I.legal going) e none);
   agrees = λ q. subst Agrees (sym is) (accounts_agree s limits (I.legal going) (I.agrees going) e none);
 }

@@ -10,10 +10,10 @@ use Rattle.run_ledger.specs.Entries.{refusal}
 use Rattle.run_ledger.specs.Journals.{is_legal, ledger_of}
 use Rattle.run_accounts.specs.Accounts.{AccountsValue, Agrees}
 
--- the program, the limits and the accounts, and whether an entry was refused or found no memory
+-- the program, the settings and the accounts, and whether an entry was refused or found no memory
 pub record BookValue : Type 0 where
   pub program : ProgramText
-  pub limits : SettingsValue
+  pub settings : SettingsValue
   pub ledger : Ledger
   pub stopped : Bool
 
@@ -23,9 +23,9 @@ IsLegalLedger p s l = (journal : List EntryValue) × (is_legal p s journal ≡ t
 
 -- unless it is stopped, a book has the accounts of a legal journal, and what it keeps beside them agrees with them
 pub record IsOpened (s : AccountsValue) (stopped : Bool) : Type 0 where
-  pub legal : stopped ≡ false → IsLegalLedger s.program s.limits s.ledger
+  pub legal : stopped ≡ false → IsLegalLedger s.program s.settings s.ledger
   pub agrees : stopped ≡ false → Agrees s
 
 -- why a book refuses an entry
 abbrev pub cause_in : BookValue → EntryValue → Option Refused
-cause_in b e = if b.stopped then Some Stopped else refusal b.program b.limits b.ledger e
+cause_in b e = if b.stopped then Some Stopped else refusal b.program b.settings b.ledger e

@@ -31,7 +31,7 @@ impl<'p> Model for Book<'p> {
 
     ghost Value = { BookValue };
 
-    ghost view = { λ b. record { program = b.accounts.program; limits = b.accounts.limits; ledger = b.accounts.ledger; stopped = b.stopped } };
+    ghost view = { λ b. record { program = b.accounts.program; settings = b.accounts.settings; ledger = b.accounts.ledger; stopped = b.stopped } };
 
     ghost invariant = { λ b. IsOpened b.accounts b.stopped };
 }
@@ -43,7 +43,7 @@ impl<'p> Book<'p> {
         program: &'p Program,
         settings: Settings,
     ) -> Result<Book<'p>, AllocError>
-        ensures { IfOk result (λ b. b ≡ record { program = program.entry.now; limits = settings; ledger = opening program.entry.now settings; stopped = false }) }
+        ensures { IfOk result (λ b. b ≡ record { program = program.entry.now; settings = settings; ledger = opening program.entry.now settings; stopped = false }) }
     {
         Ok(Book {
             accounts: Accounts::open(alloc, program, settings)?,
@@ -54,8 +54,8 @@ impl<'p> Book<'p> {
     /// Enters an entry, unless it is refused.
     pub fn apply(&mut self, entry: Entry) -> Result<(), ApplyError>
         ensures open { OnOk result (self.old.stopped ≡ false) }
-        ensures legal { OnOk result (refusal self.old.program self.old.limits self.old.ledger entry ≡ None) }
-        ensures entered { OnOk result (self.new ≡ record self.old { ledger = after self.old.program self.old.limits self.old.ledger entry }) }
+        ensures legal { OnOk result (refusal self.old.program self.old.settings self.old.ledger entry ≡ None) }
+        ensures entered { OnOk result (self.new ≡ record self.old { ledger = after self.old.program self.old.settings self.old.ledger entry }) }
         ensures fails { IfErr result (FailsFor (cause_in self.old entry)) }
         ensures stops { OnErr result (self.new.stopped ≡ true) }
     {
@@ -119,7 +119,7 @@ impl<'p> Book<'p> {
     /// Unless it is stopped, its accounts are those of a legal journal, so each law on legal journals holds of them.
     pub fn legal(&self)
         requires { self.now.stopped ≡ false }
-        ensures { IsLegalLedger self.now.program self.now.limits self.now.ledger }
+        ensures { IsLegalLedger self.now.program self.now.settings self.now.ledger }
     {
         let _ = &self.accounts;
     }
@@ -127,7 +127,7 @@ impl<'p> Book<'p> {
     /// What the pace of inner collections demands of a worker's next entry, by what is kept of the worker.
     pub fn owed(&self, pace: &WorkerPace) -> Owed
         requires { self.now.stopped ≡ false }
-        ensures { result ≡ owed_by self.now.limits self.now.ledger pace.now }
+        ensures { result ≡ owed_by self.now.settings self.now.ledger pace.now }
     {
         self.accounts.bounds();
         owed(&self.accounts, pace)

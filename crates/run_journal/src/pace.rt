@@ -30,12 +30,12 @@ fn waits_on(accounts: &Accounts, fork: Strand) -> bool
 // Whether the heap that waits on this fork isn't marked, and has the words for it.
 fn is_to_mark(accounts: &Accounts, fork: Strand) -> bool
     requires { Steady accounts.now.ledger }
-    ensures { result ≡ is_to_mark accounts.now.limits accounts.now.ledger fork }
+    ensures { result ≡ is_to_mark accounts.now.settings accounts.now.ledger fork }
 {
     waits_on(accounts, fork)
         && !accounts.is_marked(fork.task)
         && !accounts.is_swept(fork.task)
-        && accounts.limits().inner() as u64 <= accounts.words(fork.task)
+        && accounts.settings().inner() as u64 <= accounts.words(fork.task)
 }
 
 // Whether a marking that began after this fork is neither given up nor swept.
@@ -71,7 +71,7 @@ fn owed_to_marks(accounts: &Accounts, forks: &[Strand]) -> Owed
 /// What the worker's next entry is to be, by what is kept of the worker.
 pub(crate) fn owed(accounts: &Accounts, pace: &WorkerPace) -> Owed
     requires { Steady accounts.now.ledger }
-    ensures { result ≡ owed_by accounts.now.limits accounts.now.ledger pace.now }
+    ensures { result ≡ owed_by accounts.now.settings accounts.now.ledger pace.now }
 {
     match pace.previous {
         Previous::Other => Owed::Nothing,

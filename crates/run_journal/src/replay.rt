@@ -35,9 +35,9 @@ impl From<AllocError> for ReplayError {
 // Enters the entries of a journal.
 fn enter_all(book: &mut Book, journal: &[Entry]) -> Result<(), ReplayError>
     requires { book.old.stopped ≡ false }
-    ensures book { OnOk result (book.new ≡ record book.old { ledger = after_all book.old.program book.old.limits book.old.ledger journal.now }) }
-    ensures legal { OnOk result (first_refused_from book.old.program book.old.limits book.old.ledger 1 journal.now ≡ None) }
-    ensures fails { IfErr result (ReplayFails (first_refused_from book.old.program book.old.limits book.old.ledger 1 journal.now)) }
+    ensures book { OnOk result (book.new ≡ record book.old { ledger = after_all book.old.program book.old.settings book.old.ledger journal.now }) }
+    ensures legal { OnOk result (first_refused_from book.old.program book.old.settings book.old.ledger 1 journal.now ≡ None) }
+    ensures fails { IfErr result (ReplayFails (first_refused_from book.old.program book.old.settings book.old.ledger 1 journal.now)) }
 {
     let mut index = 1;
     for entry in journal {
@@ -59,7 +59,7 @@ pub fn replayed<'p>(
     settings: Settings,
     journal: &[Entry],
 ) -> Result<Book<'p>, ReplayError>
-    ensures book { IfOk result (λ b. b ≡ record { program = program.entry.now; limits = settings; ledger = ledger_of program.entry.now settings journal.now; stopped = false }) }
+    ensures book { IfOk result (λ b. b ≡ record { program = program.entry.now; settings = settings; ledger = ledger_of program.entry.now settings journal.now; stopped = false }) }
     ensures legal { OnOk result (first_refused program.entry.now settings journal.now ≡ None) }
     ensures fails { IfErr result (ReplayFails (first_refused program.entry.now settings journal.now)) }
 {

@@ -8,7 +8,7 @@ use Rattle.hh_model.specs.declared.data.Name.{Name}
 use Rattle.hh_model.specs.declared.data.Status.{Status}
 use Rattle.hh_model.specs.declared.data.Status.TheVariants.{Running, Waiting, Ended, Joined}
 use Rattle.hh_model.specs.declared.data.Task.{Task}
-use Rattle.hh_model.specs.Names.{refs_at, registers, held_by, task_names}
+use Rattle.hh_model.specs.Names.{refs_at, registers, names_from, task_names}
 use Rattle.hh_model.specs.Step.{is_over, is_running, is_waiting, is_joined, parents, joined, owner_of, is_on_path, root, start, asked}
 use Rattle.hh_model.proofs.Tree.{not_above, owner_not_joined}
 use Rattle.hh_model.proofs.Runs.{waiting, running_tells}
@@ -81,7 +81,7 @@ module _ (l : Ledger) (S : SoundLedger l) (t : ℕ) (run : is_running (slice_get
   named_live Running r z e i = refl
   named_live Waiting r z e i = refl
   named_live (Ended q w) r z e i = refl
-  named_live Joined r z e i = absurd (subst (λ v. In (held_by v (z.top ∷ z.below)) r) e i)
+  named_live Joined r z e i = absurd (subst (λ v. In (names_from v (z.top ∷ z.below)) r) e i)
 
   regs : (u : ℕ) (z : Task) (r : Name) → slice_get l.machine.tasks u ≡ Some z → is_on_path l.machine.tasks t u ≡ true → In (task_names z) r → In (registers (frames_of (slice_get l.machine.tasks t))) r
   regs u z r e h i = elim (cases_eq u t) [

@@ -14,13 +14,13 @@ use Rattle.hh_model.specs.declared.data.End.{End}
 use Rattle.hh_model.specs.declared.data.End.TheVariants.{Done}
 use Rattle.hh_model.specs.declared.data.State.{State}
 use Rattle.hh_model.specs.Effect.{onward, int_in, ref_in}
-use Rattle.hh_model.specs.Names.{named, registers, held_by, task_names}
+use Rattle.hh_model.specs.Names.{named, registers, names_from, task_names}
 use Rattle.hh_model.specs.Step.{runs, waits, is_over, is_running, is_waiting, is_joined, is_left, parent_of, parents, joined, owner_in, owner_of, is_on_path, joined_task, resumed, child, step, can_step, goes_on, asked, join_of, ended_task, result_of, ended_by, strand, strand_of, edge}
 use Rattle.hh_model.proofs.Paths.{owner_live, owner_le, owner_same, path_same, owner_joins}
 use Rattle.hh_model.proofs.Tree.{not_above, owner_not_joined}
 use Rattle.hh_model.proofs.Carried.{next_name, named_from_in}
 use Rattle.hh_model.proofs.Runs.{waiting, running_tells, grown_length, grown_view, grown_view_front, grown_at, grown_other, wrest_fork, three_length, three_top, three_left, three_right, three_other, three_view, parl, parr, below, dp, wp, drest}
-use Rattle.hh_model.proofs.Kept.{KeptIn, step_kept}
+use Rattle.hh_model.proofs.Kept.{SoundStateIn, step_kept}
 use Rattle.hh_model.proofs.Steps.{step_cases, runs_is, register_cases}
 use Rattle.hh_model.proofs.Closed.{Closed, closed_step, grown_cases}
 use Rattle.path_laws.proofs.Disentangled.{Disentangled, disentangled_step}
@@ -174,13 +174,13 @@ module _ (p : ProgramText) (l : Ledger) (S : SoundLedger l) (t : ℕ) (x : Task)
   -- what a state after the step owes
   abbrev Owes : State → Type 0
   Owes m' =
-      KeptIn m'.tasks m'.edges m'.store → Disentangled m'.tasks m'.store → Closed m'.tasks m'.store (Keeps b.heaps)
+      SoundStateIn m'.tasks m'.edges m'.store → Disentangled m'.tasks m'.store → Closed m'.tasks m'.store (Keeps b.heaps)
       → ((u : ℕ) (ns : List Name) → (u ≡ t → ⊥) → Spares tasks l.machine.store l.heaps u ns → Spares m'.tasks m'.store b.heaps u ns)
       → Good (stepped_to b t m')
 
   -- the tree is as before
   steady : (m' : State) → length m'.tasks ≡ length tasks → ((a : ℕ) → owner_of m'.tasks a ≡ owner_of tasks a) → ((u : ℕ) → (u ≡ t → ⊥) → slice_get m'.tasks u ≡ slice_get tasks u) → waiting m'.tasks t ≡ false
-      → KeptIn m'.tasks m'.edges m'.store → Disentangled m'.tasks m'.store → Closed m'.tasks m'.store (Keeps b.heaps)
+      → SoundStateIn m'.tasks m'.edges m'.store → Disentangled m'.tasks m'.store → Closed m'.tasks m'.store (Keeps b.heaps)
       → ((u : ℕ) (ns : List Name) → (u ≡ t → ⊥) → Spares tasks l.machine.store l.heaps u ns → Spares m'.tasks m'.store b.heaps u ns)
       → Sound m'.tasks m'.edges m'.store b.heaps
   steady m' len own others idle_t K D C sp = record {
@@ -207,7 +207,7 @@ module _ (p : ProgramText) (l : Ledger) (S : SoundLedger l) (t : ℕ) (x : Task)
       let k : Ledger = record b { machine = m'; steps = b.steps + 1 } in
       subst Good (sym (ap (settled k t) on ∙ (ap (moved_to k t) at ∙ ap (moved_on k t y.parent) st))) (s, A.still ∙ idle, inl refl, inr (inl (ap is_running at ∙ ap runs st)), λ u ne w. A.others u ne)
 
-  same_sound : (m' : State) → m'.tasks ≡ tasks → KeptIn m'.tasks m'.edges m'.store → Disentangled m'.tasks m'.store → Closed m'.tasks m'.store (Keeps b.heaps)
+  same_sound : (m' : State) → m'.tasks ≡ tasks → SoundStateIn m'.tasks m'.edges m'.store → Disentangled m'.tasks m'.store → Closed m'.tasks m'.store (Keeps b.heaps)
       → ((u : ℕ) (ns : List Name) → (u ≡ t → ⊥) → Spares tasks l.machine.store l.heaps u ns → Spares m'.tasks m'.store b.heaps u ns)
       → Sound m'.tasks m'.edges m'.store b.heaps
   same_sound m' e K D C sp =
@@ -219,7 +219,7 @@ module _ (p : ProgramText) (l : Ledger) (S : SoundLedger l) (t : ℕ) (x : Task)
       ap (λ f. owner_in f (joined (slice_set tasks t y)) a) (same_view parent_of tasks t x y is ep) ∙ ap (λ f. owner_in (parents tasks) f a) (same_view is_joined tasks t x y is ed)
 
   written_sound : (m' : State) (y : Task) → m'.tasks ≡ slice_set tasks t y → y.parent ≡ x.parent → is_over y.status ≡ is_over x.status → waits y.status ≡ false
-      → KeptIn m'.tasks m'.edges m'.store → Disentangled m'.tasks m'.store → Closed m'.tasks m'.store (Keeps b.heaps)
+      → SoundStateIn m'.tasks m'.edges m'.store → Disentangled m'.tasks m'.store → Closed m'.tasks m'.store (Keeps b.heaps)
       → ((u : ℕ) (ns : List Name) → (u ≡ t → ⊥) → Spares tasks l.machine.store l.heaps u ns → Spares m'.tasks m'.store b.heaps u ns)
       → Sound m'.tasks m'.edges m'.store b.heaps
   written_sound m' y e ep ed ew K D C sp =
@@ -286,7 +286,7 @@ module _ (p : ProgramText) (l : Ledger) (S : SoundLedger l) (t : ℕ) (x : Task)
     named_live Running r z e i = refl
     named_live Waiting r z e i = refl
     named_live (Ended q w) r z e i = refl
-    named_live Joined r z e i = absurd (subst (λ v. In (held_by v (z.top ∷ z.below)) r) e i)
+    named_live Joined r z e i = absurd (subst (λ v. In (names_from v (z.top ∷ z.below)) r) e i)
 
     old_regs : (u : ℕ) (z : Task) (r : Name) → slice_get tasks u ≡ Some z → (u ≡ t → ⊥) → is_on_path all t u ≡ true → In (task_names z) r → ⊥
     old_regs u z r e ne h i =
@@ -376,7 +376,7 @@ module _ (p : ProgramText) (l : Ledger) (S : SoundLedger l) (t : ℕ) (x : Task)
     was_waiting : (u : ℕ) → (u ≡ t → ⊥) → waiting all u ≡ true → waiting tasks u ≡ true
     was_waiting u ne w = sym (wrest_fork tasks l.machine.edges t x (onward x.top) x.top x.top g k is run S.kept.tree u ne) ∙ w
 
-    fork_sound : KeptIn all mf.edges mf.store → Disentangled all mf.store → Closed all mf.store (Keeps b.heaps)
+    fork_sound : SoundStateIn all mf.edges mf.store → Disentangled all mf.store → Closed all mf.store (Keeps b.heaps)
         → ((u : ℕ) (ns : List Name) → (u ≡ t → ⊥) → Spares tasks l.machine.store l.heaps u ns → Spares all mf.store b.heaps u ns) → Sound all mf.edges mf.store heaps3
     fork_sound K D C sp = record {
       kept = K;
@@ -660,7 +660,7 @@ module _ (p : ProgramText) (l : Ledger) (S : SoundLedger l) (t : ℕ) (x : Task)
       λ e. both_ways (runs xp.status) stops_p (ap is_running (sym (ap (slice_get tasks) e ∙ ip)) ∙ r),
     )
 
-    join_sound : KeptIn after mj.edges l.machine.store → Disentangled after l.machine.store → Closed after l.machine.store (Keeps b.heaps)
+    join_sound : SoundStateIn after mj.edges l.machine.store → Disentangled after l.machine.store → Closed after l.machine.store (Keeps b.heaps)
         → ((u : ℕ) (ns : List Name) → (u ≡ t → ⊥) → Spares tasks l.machine.store l.heaps u ns → Spares after l.machine.store b.heaps u ns) → Sound after mj.edges l.machine.store j4
     join_sound K D C sp = record {
       kept = K;

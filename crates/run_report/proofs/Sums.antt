@@ -159,58 +159,58 @@ take_next (x ∷ xs) (suc i) e lt is = let q : suc i + 1 ≡ suc (i + 1) = omega
 
 -- a book that has come to the entry i, and the totals of the entries before it
 pub record IsAt (journal : List EntryValue) (b : BookValue) (i : ℕ) (sums : Totals) : Type 0 where
-  pub legal : is_legal b.program b.limits (take i journal) ≡ true
-  pub ledger : b.ledger ≡ ledger_of b.program b.limits (take i journal)
-  pub sums_are : sums ≡ totals_from b.program b.limits (opening b.program b.limits) (take i journal)
+  pub legal : is_legal b.program b.settings (take i journal) ≡ true
+  pub ledger : b.ledger ≡ ledger_of b.program b.settings (take i journal)
+  pub sums_are : sums ≡ totals_from b.program b.settings (opening b.program b.settings) (take i journal)
 
-pub at_first : (journal : List EntryValue) (b : BookValue) (sums : Totals) → sums ≡ no_totals → b.ledger ≡ opening b.program b.limits → IsAt journal b 0 sums
+pub at_first : (journal : List EntryValue) (b : BookValue) (sums : Totals) → sums ≡ no_totals → b.ledger ≡ opening b.program b.settings → IsAt journal b 0 sums
 at_first journal b sums es el = record { legal = refl; ledger = el; sums_are = es }
 
-module _ (journal : List EntryValue) (b : BookValue) (i : ℕ) (e : EntryValue) (lt : i < length journal) (is : e ≡ get_or journal i e) (none : refusal b.program b.limits b.ledger e ≡ None) (sums : Totals) (at : IsAt journal b i sums) where
-  legal_next : is_legal b.program b.limits (take (i + 1) journal) ≡ true
+module _ (journal : List EntryValue) (b : BookValue) (i : ℕ) (e : EntryValue) (lt : i < length journal) (is : e ≡ get_or journal i e) (none : refusal b.program b.settings b.ledger e ≡ None) (sums : Totals) (at : IsAt journal b i sums) where
+  legal_next : is_legal b.program b.settings (take (i + 1) journal) ≡ true
   legal_next =
-      let here : refusal b.program b.limits (ledger_of b.program b.limits (take i journal)) e ≡ None = ap (λ l. refusal b.program b.limits l e) (sym at.ledger) ∙ none in
-      ap (is_legal b.program b.limits) (take_next journal i e lt is)
-      ∙ joined_legal b.program b.limits (take i journal) (e ∷ []) (opening b.program b.limits) at.legal (ap (λ o. is_none o && true) here)
+      let here : refusal b.program b.settings (ledger_of b.program b.settings (take i journal)) e ≡ None = ap (λ l. refusal b.program b.settings l e) (sym at.ledger) ∙ none in
+      ap (is_legal b.program b.settings) (take_next journal i e lt is)
+      ∙ joined_legal b.program b.settings (take i journal) (e ∷ []) (opening b.program b.settings) at.legal (ap (λ o. is_none o && true) here)
 
-  ledger_next : after b.program b.limits b.ledger e ≡ ledger_of b.program b.limits (take (i + 1) journal)
+  ledger_next : after b.program b.settings b.ledger e ≡ ledger_of b.program b.settings (take (i + 1) journal)
   ledger_next =
-      ap (λ l. after b.program b.limits l e) at.ledger
-      ∙ (sym (after_cut b.program b.limits (take i journal) (e ∷ []) (opening b.program b.limits)) ∙ ap (ledger_of b.program b.limits) (sym (take_next journal i e lt is)))
+      ap (λ l. after b.program b.settings l e) at.ledger
+      ∙ (sym (after_cut b.program b.settings (take i journal) (e ∷ []) (opening b.program b.settings)) ∙ ap (ledger_of b.program b.settings) (sym (take_next journal i e lt is)))
 
-  sums_next : joined sums (entry_totals b.program b.limits b.ledger e) ≡ totals_from b.program b.limits (opening b.program b.limits) (take (i + 1) journal)
+  sums_next : joined sums (entry_totals b.program b.settings b.ledger e) ≡ totals_from b.program b.settings (opening b.program b.settings) (take (i + 1) journal)
   sums_next =
-      ap₂ (λ a l. joined a (entry_totals b.program b.limits l e)) at.sums_are at.ledger
-      ∙ (sym (totals_last b.program b.limits (take i journal) (opening b.program b.limits) e)
-      ∙ ap (totals_from b.program b.limits (opening b.program b.limits)) (sym (take_next journal i e lt is)))
+      ap₂ (λ a l. joined a (entry_totals b.program b.settings l e)) at.sums_are at.ledger
+      ∙ (sym (totals_last b.program b.settings (take i journal) (opening b.program b.settings) e)
+      ∙ ap (totals_from b.program b.settings (opening b.program b.settings)) (sym (take_next journal i e lt is)))
 
-  pub few_next : AreLimits b.limits → i + 1 < 2 ^ 64 → AreFew (joined sums (entry_totals b.program b.limits b.ledger e))
+  pub few_next : AreLimits b.settings → i + 1 < 2 ^ 64 → AreFew (joined sums (entry_totals b.program b.settings b.ledger e))
   few_next A short =
       let long : length (take (i + 1) journal) ≡ length (take i journal ++ e ∷ []) = ap length (take_next journal i e lt is) in
       let a = length-append (take i journal) (e ∷ []) in
       let c = length-take-le i journal (omega arith) in
-      subst AreFew (sym sums_next) (legal_few b.program b.limits A (take (i + 1) journal) legal_next (omega arith))
+      subst AreFew (sym sums_next) (legal_few b.program b.settings A (take (i + 1) journal) legal_next (omega arith))
 
-  pub at_next : (b' : BookValue) (sums' : Totals) → b' ≡ record b { ledger = after b.program b.limits b.ledger e } → sums' ≡ joined sums (entry_totals b.program b.limits b.ledger e) → IsAt journal b' (i + 1) sums'
+  pub at_next : (b' : BookValue) (sums' : Totals) → b' ≡ record b { ledger = after b.program b.settings b.ledger e } → sums' ≡ joined sums (entry_totals b.program b.settings b.ledger e) → IsAt journal b' (i + 1) sums'
   at_next b' sums' eb es =
       subst (λ x. IsAt journal x (i + 1) sums') (sym eb)
-      (subst (λ z. IsAt journal (record b { ledger = after b.program b.limits b.ledger e }) (i + 1) z) (sym es) (record { legal = legal_next; ledger = ledger_next; sums_are = sums_next }))
+      (subst (λ z. IsAt journal (record b { ledger = after b.program b.settings b.ledger e }) (i + 1) z) (sym es) (record { legal = legal_next; ledger = ledger_next; sums_are = sums_next }))
 
-pub at_end : (journal : List EntryValue) (b : BookValue) (i : ℕ) (sums : Totals) (p : ProgramText) (s : SettingsValue) → length journal ≤ i → b.program ≡ p → b.limits ≡ s → IsAt journal b i sums
+pub at_end : (journal : List EntryValue) (b : BookValue) (i : ℕ) (sums : Totals) (p : ProgramText) (s : SettingsValue) → length journal ≤ i → b.program ≡ p → b.settings ≡ s → IsAt journal b i sums
     → sums ≡ totals_from p s (opening p s) journal
 at_end journal b i sums p s ge ep es at =
-    at.sums_are ∙ (ap (totals_from b.program b.limits (opening b.program b.limits)) (take_all i journal ge) ∙ ap₂ (λ q k. totals_from q k (opening q k) journal) ep es)
+    at.sums_are ∙ (ap (totals_from b.program b.settings (opening b.program b.settings)) (take_all i journal ge) ∙ ap₂ (λ q k. totals_from q k (opening q k) journal) ep es)
 
-module _ (journal : List EntryValue) (b b' : BookValue) (i : ℕ) (e : EntryValue) (lt : i < length journal) (is : e ≡ get_or journal i e) (eb : b' ≡ record b { ledger = after b.program b.limits b.ledger e }) where
-  pub accounts_on : after_all b.program b.limits b.ledger (drop i journal) ≡ ledger_of b.program b.limits journal
-      → after_all b'.program b'.limits b'.ledger (drop (i + 1) journal) ≡ ledger_of b'.program b'.limits journal
+module _ (journal : List EntryValue) (b b' : BookValue) (i : ℕ) (e : EntryValue) (lt : i < length journal) (is : e ≡ get_or journal i e) (eb : b' ≡ record b { ledger = after b.program b.settings b.ledger e }) where
+  pub accounts_on : after_all b.program b.settings b.ledger (drop i journal) ≡ ledger_of b.program b.settings journal
+      → after_all b'.program b'.settings b'.ledger (drop (i + 1) journal) ≡ ledger_of b'.program b'.settings journal
   accounts_on inv =
-      subst (λ (x : BookValue). after_all x.program x.limits x.ledger (drop (i + 1) journal) ≡ ledger_of x.program x.limits journal) (sym eb)
-      (sym (accounts_next b.program b.limits b.ledger 0 journal i e lt is) ∙ inv)
+      subst (λ (x : BookValue). after_all x.program x.settings x.ledger (drop (i + 1) journal) ≡ ledger_of x.program x.settings journal) (sym eb)
+      (sym (accounts_next b.program b.settings b.ledger 0 journal i e lt is) ∙ inv)
 
-  pub refused_on : (n : ℕ) → refusal b.program b.limits b.ledger e ≡ None
-      → first_refused_from b.program b.limits b.ledger n (drop i journal) ≡ first_refused b.program b.limits journal
-      → first_refused_from b'.program b'.limits b'.ledger (n + 1) (drop (i + 1) journal) ≡ first_refused b'.program b'.limits journal
+  pub refused_on : (n : ℕ) → refusal b.program b.settings b.ledger e ≡ None
+      → first_refused_from b.program b.settings b.ledger n (drop i journal) ≡ first_refused b.program b.settings journal
+      → first_refused_from b'.program b'.settings b'.ledger (n + 1) (drop (i + 1) journal) ≡ first_refused b'.program b'.settings journal
   refused_on n none inv =
-      subst (λ (x : BookValue). first_refused_from x.program x.limits x.ledger (n + 1) (drop (i + 1) journal) ≡ first_refused x.program x.limits journal) (sym eb)
-      (sym (refused_next b.program b.limits b.ledger n journal i e lt is none) ∙ inv)
+      subst (λ (x : BookValue). first_refused_from x.program x.settings x.ledger (n + 1) (drop (i + 1) journal) ≡ first_refused x.program x.settings journal) (sym eb)
+      (sym (refused_next b.program b.settings b.ledger n journal i e lt is none) ∙ inv)

@@ -37,11 +37,11 @@ fn cleared_words(book: &Book, kind: Kind) -> u64
 // Enters an entry, and adds what it counts to the totals.
 fn enter(book: &mut Book, totals: Totals, entry: Entry) -> Result<Totals, ApplyError>
     requires open { book.old.stopped ≡ false }
-    requires few { refusal book.old.program book.old.limits book.old.ledger entry ≡ None → AreFew (joined totals (entry_totals book.old.program book.old.limits book.old.ledger entry)) }
-    ensures legal { OnOk result (refusal book.old.program book.old.limits book.old.ledger entry ≡ None) }
-    ensures entered { OnOk result (book.new ≡ record book.old { ledger = after book.old.program book.old.limits book.old.ledger entry }) }
-    ensures counts { IfOk result (λ sums. sums ≡ joined totals (entry_totals book.old.program book.old.limits book.old.ledger entry)) }
-    ensures fails { IfErr result (FailsFor (refusal book.old.program book.old.limits book.old.ledger entry)) }
+    requires few { refusal book.old.program book.old.settings book.old.ledger entry ≡ None → AreFew (joined totals (entry_totals book.old.program book.old.settings book.old.ledger entry)) }
+    ensures legal { OnOk result (refusal book.old.program book.old.settings book.old.ledger entry ≡ None) }
+    ensures entered { OnOk result (book.new ≡ record book.old { ledger = after book.old.program book.old.settings book.old.ledger entry }) }
+    ensures counts { IfOk result (λ sums. sums ≡ joined totals (entry_totals book.old.program book.old.settings book.old.ledger entry)) }
+    ensures fails { IfErr result (FailsFor (refusal book.old.program book.old.settings book.old.ledger entry)) }
 {
     let kind = entry.kind();
     let before = cleared_words(book, kind);
@@ -52,13 +52,13 @@ fn enter(book: &mut Book, totals: Totals, entry: Entry) -> Result<Totals, ApplyE
 
 // Enters the entries of a journal into the accounts of a run before its first entry, and adds up what they count.
 fn enter_all(book: &mut Book, journal: &[Entry]) -> Result<Totals, ReplayError>
-    requires limits { AreLimits book.old.limits }
-    requires first { book.old.ledger ≡ opening book.old.program book.old.limits }
+    requires limits { AreLimits book.old.settings }
+    requires first { book.old.ledger ≡ opening book.old.program book.old.settings }
     requires open { book.old.stopped ≡ false }
-    ensures book { OnOk result (book.new ≡ record book.old { ledger = ledger_of book.old.program book.old.limits journal.now }) }
-    ensures totals { IfOk result (λ t. t ≡ totals_from book.old.program book.old.limits (opening book.old.program book.old.limits) journal.now) }
-    ensures legal { OnOk result (first_refused book.old.program book.old.limits journal.now ≡ None) }
-    ensures fails { IfErr result (ReplayFails (first_refused book.old.program book.old.limits journal.now)) }
+    ensures book { OnOk result (book.new ≡ record book.old { ledger = ledger_of book.old.program book.old.settings journal.now }) }
+    ensures totals { IfOk result (λ t. t ≡ totals_from book.old.program book.old.settings (opening book.old.program book.old.settings) journal.now) }
+    ensures legal { OnOk result (first_refused book.old.program book.old.settings journal.now ≡ None) }
+    ensures fails { IfErr result (ReplayFails (first_refused book.old.program book.old.settings journal.now)) }
 {
     let mut totals = Totals::none();
     let mut index = 1;
@@ -84,7 +84,7 @@ pub(crate) fn count<'p>(
     settings: Settings,
     journal: &[Entry],
 ) -> Result<Counted<'p>, ReplayError>
-    ensures book { IfOk result (λ c. c.book ≡ record { program = program.entry.now; limits = settings; ledger = ledger_of program.entry.now settings journal.now; stopped = false }) }
+    ensures book { IfOk result (λ c. c.book ≡ record { program = program.entry.now; settings = settings; ledger = ledger_of program.entry.now settings journal.now; stopped = false }) }
     ensures totals { IfOk result (λ c. c.totals ≡ totals_from program.entry.now settings (opening program.entry.now settings) journal.now) }
     ensures legal { OnOk result (first_refused program.entry.now settings journal.now ≡ None) }
     ensures fails { IfErr result (ReplayFails (first_refused program.entry.now settings journal.now)) }

@@ -63,7 +63,7 @@ fn is_fuel(kind: Kind) -> bool
 // What the worker's next entry is to be.
 fn owed(book: &Book, paces: &Listed<WorkerPace>, worker: u32) -> Owed
     requires { book.now.stopped ≡ false }
-    ensures { result ≡ owed book.now.limits book.now.ledger (pace_of paces.now worker) }
+    ensures { result ≡ owed book.now.settings book.now.ledger (pace_of paces.now worker) }
 {
     match paces.get(worker as usize) {
         Some(pace) => book.owed(pace),
@@ -99,7 +99,7 @@ fn opening(alloc: Global, settings: Settings) -> Result<Listed<WorkerPace>, Allo
 // Whether an entry gives what its worker owes, or ends the run for spent fuel.
 fn is_given(book: &Book, paces: &Listed<WorkerPace>, entry: Entry) -> bool
     requires { book.now.stopped ≡ false }
-    ensures { result ≡ (is_fuel entry.kind || gives (owed book.now.limits book.now.ledger (pace_of paces.now entry.worker)) entry.kind) }
+    ensures { result ≡ (is_fuel entry.kind || gives (owed book.now.settings book.now.ledger (pace_of paces.now entry.worker)) entry.kind) }
 {
     is_fuel(entry.kind()) || gives(owed(book, paces, entry.worker()), entry.kind())
 }
@@ -111,7 +111,7 @@ fn are_given(
     journal: &[Entry],
 ) -> Result<bool, AllocError>
     requires { book.old.stopped ≡ false }
-    ensures { IfOk result (λ given. given ≡ is_paced_from book.old.program book.old.limits book.old.ledger paces.old journal.now) }
+    ensures { IfOk result (λ given. given ≡ is_paced_from book.old.program book.old.settings book.old.ledger paces.old journal.now) }
 {
     for entry in journal {
         if !is_given(book, paces, *entry) {

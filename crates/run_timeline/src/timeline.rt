@@ -90,10 +90,10 @@ fn add_entered(
 fn apply(book: &mut Book, held: u64, entry: Entry) -> Result<u64, ApplyError>
     requires open { book.old.stopped ≡ false }
     requires held { held ≡ words_held book.old.ledger }
-    ensures legal { OnOk result (refusal book.old.program book.old.limits book.old.ledger entry ≡ None) }
-    ensures entered { OnOk result (book.new ≡ record book.old { ledger = after book.old.program book.old.limits book.old.ledger entry }) }
-    ensures held { IfOk result (λ words. words ≡ words_held (after book.old.program book.old.limits book.old.ledger entry)) }
-    ensures fails { IfErr result (FailsFor (refusal book.old.program book.old.limits book.old.ledger entry)) }
+    ensures legal { OnOk result (refusal book.old.program book.old.settings book.old.ledger entry ≡ None) }
+    ensures entered { OnOk result (book.new ≡ record book.old { ledger = after book.old.program book.old.settings book.old.ledger entry }) }
+    ensures held { IfOk result (λ words. words ≡ words_held (after book.old.program book.old.settings book.old.ledger entry)) }
+    ensures fails { IfErr result (FailsFor (refusal book.old.program book.old.settings book.old.ledger entry)) }
 {
     let kind = entry.kind();
     let cleared = cleared_words(book, kind);
@@ -121,11 +121,11 @@ fn enter(
     requires program { book.old.program ≡ program.now }
     requires held { held ≡ words_held book.old.ledger }
     requires first { 0 < number }
-    ensures legal { OnOk result (refusal book.old.program book.old.limits book.old.ledger entry ≡ None) }
-    ensures entered { OnOk result (book.new ≡ record book.old { ledger = after book.old.program book.old.limits book.old.ledger entry }) }
-    ensures events { OnOk result (text.new.items ≡ text.old.items ++ flat_map further (entry_events program.now (counts_of book.old.ledger) (after book.old.program book.old.limits book.old.ledger entry) before number entry)) }
-    ensures held { IfOk result (λ words. words ≡ words_held (after book.old.program book.old.limits book.old.ledger entry)) }
-    ensures fails { IfErr result (FailsFor (refusal book.old.program book.old.limits book.old.ledger entry)) }
+    ensures legal { OnOk result (refusal book.old.program book.old.settings book.old.ledger entry ≡ None) }
+    ensures entered { OnOk result (book.new ≡ record book.old { ledger = after book.old.program book.old.settings book.old.ledger entry }) }
+    ensures events { OnOk result (text.new.items ≡ text.old.items ++ flat_map further (entry_events program.now (counts_of book.old.ledger) (after book.old.program book.old.settings book.old.ledger entry) before number entry)) }
+    ensures held { IfOk result (λ words. words ≡ words_held (after book.old.program book.old.settings book.old.ledger entry)) }
+    ensures fails { IfErr result (FailsFor (refusal book.old.program book.old.settings book.old.ledger entry)) }
 {
     let was = Counts {
         tasks: book.tasks() as u64,
@@ -151,14 +151,14 @@ fn enter_all(
     journal: &[Entry],
 ) -> Result<(), ReplayError>
     requires few { length journal.now < 2 ^ 32 - 1 }
-    requires limits { AreLimits book.old.limits }
-    requires first { book.old.ledger ≡ opening book.old.program book.old.limits }
+    requires limits { AreLimits book.old.settings }
+    requires first { book.old.ledger ≡ opening book.old.program book.old.settings }
     requires open { book.old.stopped ≡ false }
     requires program { book.old.program ≡ program.now }
-    ensures book { OnOk result (book.new ≡ record book.old { ledger = ledger_of book.old.program book.old.limits journal.now }) }
-    ensures events { OnOk result (text.new.items ≡ text.old.items ++ flat_map further (events_of book.old.program book.old.limits journal.now)) }
-    ensures legal { OnOk result (first_refused book.old.program book.old.limits journal.now ≡ None) }
-    ensures fails { IfErr result (ReplayFails (first_refused book.old.program book.old.limits journal.now)) }
+    ensures book { OnOk result (book.new ≡ record book.old { ledger = ledger_of book.old.program book.old.settings journal.now }) }
+    ensures events { OnOk result (text.new.items ≡ text.old.items ++ flat_map further (events_of book.old.program book.old.settings journal.now)) }
+    ensures legal { OnOk result (first_refused book.old.program book.old.settings journal.now ≡ None) }
+    ensures fails { IfErr result (ReplayFails (first_refused book.old.program book.old.settings journal.now)) }
 {
     let mut seats = [0u32; 64];
     let mut held: u64 = 0;

@@ -9,8 +9,8 @@ use Rattle.hh_model.specs.declared.data.Status.{Status}
 use Rattle.hh_model.specs.declared.data.Status.TheVariants.{Running, Waiting, Ended, Joined}
 use Rattle.hh_model.specs.declared.data.Task.{Task}
 use Rattle.hh_model.specs.declared.data.State.{State}
-use Rattle.hh_model.specs.Step.{ended_task, is_left, is_running, is_waiting, joined, joined_task, kept_by, parents, result_in, resumed, runs, sibling, waits}
-use Rattle.hh_model.specs.Tree.{Kept, waiting}
+use Rattle.hh_model.specs.Step.{ended_task, is_left, is_running, is_waiting, joined, joined_task, result_at, parents, result_in, resumed, runs, sibling, waits}
+use Rattle.hh_model.specs.Tree.{SoundState, waiting}
 use Rattle.hh_model.proofs.Root.{runs_tell}
 use Rattle.schedule_laws.proofs.Swapping.{AllAt, all_at, sets, sets_length, sets_other}
 use Rattle.schedule_laws.proofs.Moves.{Acts, IsPlain, Joins, Move, Moves, Splits, last_move, news, puts}
@@ -21,7 +21,7 @@ kept_status Waiting r e = absurd cc
 kept_status (Ended k n) r e = (refl, refl)
 kept_status Joined r e = absurd cc
 
-pub kept_tells : (o : Option Task) (r : ℤ × Option Name) → kept_by o ≡ Some r → (is_running o ≡ false) × (is_waiting o ≡ false)
+pub kept_tells : (o : Option Task) (r : ℤ × Option Name) → result_at o ≡ Some r → (is_running o ≡ false) × (is_waiting o ≡ false)
 kept_tells None r e = absurd cc
 kept_tells (Some x) r e = kept_status x.status r e
 
@@ -31,7 +31,7 @@ run_status Waiting e = absurd (false≢true e)
 run_status (Ended k n) e = absurd (false≢true e)
 run_status Joined e = absurd (false≢true e)
 
-pub run_keeps_none : (o : Option Task) → is_running o ≡ true → kept_by o ≡ None
+pub run_keeps_none : (o : Option Task) → is_running o ≡ true → result_at o ≡ None
 run_keeps_none None e = absurd (false≢true e)
 run_keeps_none (Some x) e = run_status x.status e
 
@@ -44,7 +44,7 @@ there_by view ts k a e ne = by (slice_get ts k) refl
 
 pub record IsEnded (m : State) (k : ℕ) : Type 0 where
   pub result : ℤ × Option Name
-  pub is : kept_by (slice_get m.tasks k) ≡ Some result
+  pub is : result_at (slice_get m.tasks k) ≡ Some result
 
 pub record EndedSibling (m : State) (u k : ℕ) : Type 0 where
   pub sibling_is : k ≡ sibling u
@@ -60,7 +60,7 @@ pub record WaitingParent (m : State) (u k : ℕ) : Type 0 where
 abbrev pub Kind : State → ℕ → ℕ → Type 0
 Kind m u k = (k ≡ u) ⊎ (EndedSibling m u k ⊎ WaitingParent m u k)
 
-module _ (m : State) (K : Kept m) where
+module _ (m : State) (K : SoundState m) where
   not_kept : (k : ℕ) → is_running (slice_get m.tasks k) ≡ true → IsEnded m k → ⊥
   not_kept k run e = both_ways (is_running (slice_get m.tasks k)) (kept_tells (slice_get m.tasks k) e.result e.is).0 run
 
@@ -108,13 +108,13 @@ module _ (m : State) (K : Kept m) where
 
   pub kind_within : (u : ℕ) → is_running (slice_get m.tasks u) ≡ true → (k : ℕ) → Kind m u k → k < length m.tasks
   kind_within u run k (inl e) = subst (λ j. j < length m.tasks) (sym e) (there_by is_running m.tasks u true run false≢true)
-  kind_within u run k (inr (inl a)) = there_by kept_by m.tasks k (Some a.ended.result) a.ended.is (λ e. cc)
+  kind_within u run k (inr (inl a)) = there_by result_at m.tasks k (Some a.ended.result) a.ended.is (λ e. cc)
   kind_within u run k (inr (inr a)) = there_by is_waiting m.tasks k true a.waits false≢true
 
   -- THE END OF A CHILD
 
   module _ (u : ℕ) (y : Task) (q : ℕ) (r : ℤ × Option Name) (above : parents m.tasks u ≡ Some q) (live : joined m.tasks u ≡ false) where
-    pub last_kinds : (o : Option (ℤ × Option Name)) → kept_by (slice_get m.tasks (sibling u)) ≡ o → (oq ow : Option Task) → AllAt (Kind m u) (puts u (last_move u y q r o oq ow))
+    pub last_kinds : (o : Option (ℤ × Option Name)) → result_at (slice_get m.tasks (sibling u)) ≡ o → (oq ow : Option Task) → AllAt (Kind m u) (puts u (last_move u y q r o oq ow))
     last_kinds None e oq ow = (inl refl, tt)
     last_kinds (Some other) e None ow = (inl refl, tt)
     last_kinds (Some other) e (Some xq) None = (inl refl, tt)
@@ -124,7 +124,7 @@ module _ (m : State) (K : Kept m) where
         parent = inr (inr (record { waits = K.tree.waits u q above live; above = above; ended = record { result = other; is = e } }))
 
         beside : (k : ℕ) → k ≡ sibling u → Kind m u k
-        beside k s = inr (inl (record { sibling_is = s; parent = q; above = above; ended = record { result = other; is = ap (λ j. kept_by (slice_get m.tasks j)) s ∙ e } }))
+        beside k s = inr (inl (record { sibling_is = s; parent = q; above = above; ended = record { result = other; is = ap (λ j. result_at (slice_get m.tasks j)) s ∙ e } }))
 
         by : (b : Bool) → is_left u ≡ b → AllAt (Kind m u) (puts u (cond b (Joins q u (joined_task y) (joined_task xw) (resumed xq r other)) (Joins q (u - 1) (joined_task xw) (joined_task y) (resumed xq other r))))
         by true b = (inl refl, (beside (u + 1) (sym (cond-true (is_left u) (u + 1) (u - 1) b)), (parent, tt)))
@@ -134,38 +134,38 @@ module _ (m : State) (K : Kept m) where
 
 -- WHO HAS ENDED
 
-kept_set : (ts : List Task) (k v : ℕ) (z : Task) → kept_by (slice_get ts v) ≡ None → result_in z.status ≡ None → kept_by (slice_get (slice_set ts k z) v) ≡ None
+kept_set : (ts : List Task) (k v : ℕ) (z : Task) → result_at (slice_get ts v) ≡ None → result_in z.status ≡ None → result_at (slice_get (slice_set ts k z) v) ≡ None
 kept_set ts k v z none plain = by (slice_get (slice_set ts k z) v) refl
   where
-    by : (o : Option Task) → slice_get (slice_set ts k z) v ≡ o → kept_by o ≡ None
+    by : (o : Option Task) → slice_get (slice_set ts k z) v ≡ o → result_at o ≡ None
     by None e = refl
     by (Some x) e = elim (got_cases ts k v z x e) [
       | inl h ↦ ap (λ (w : Task). result_in w.status) h.1 ∙ plain
-      | inr h ↦ ap kept_by (sym h) ∙ none
+      | inr h ↦ ap result_at (sym h) ∙ none
     ]
 
 -- a move leaves who hasn't ended so, but its own task by its end
-pub plain_quiet : (ts : List Task) (t : ℕ) (mv : Move) → IsPlain mv → (v : ℕ) → kept_by (slice_get ts v) ≡ None → kept_by (slice_get (sets (puts t mv) ts) v) ≡ None
+pub plain_quiet : (ts : List Task) (t : ℕ) (mv : Move) → IsPlain mv → (v : ℕ) → result_at (slice_get ts v) ≡ None → result_at (slice_get (sets (puts t mv) ts) v) ≡ None
 plain_quiet ts t (Acts y op) p v none = kept_set ts t v y none p
 plain_quiet ts t (Splits y c d) p v none = kept_set ts t v y none p
 plain_quiet ts t (Joins q l yl yr yq) p v none = absurd p
 
-pub last_quiet : (ts : List Task) (t : ℕ) (x : Task) (q : ℕ) (r : ℤ × Option Name) (o : Option (ℤ × Option Name)) (oq ow : Option Task) (v : ℕ) → (v ≡ t → ⊥) → kept_by (slice_get ts v) ≡ None
-    → kept_by (slice_get (sets (puts t (last_move t x q r o oq ow)) ts) v) ≡ None
-last_quiet ts t x q r None oq ow v ne none = ap kept_by (got_other ts t v (ended_task x r) ne) ∙ none
-last_quiet ts t x q r (Some other) None ow v ne none = ap kept_by (got_other ts t v x ne) ∙ none
-last_quiet ts t x q r (Some other) (Some xq) None v ne none = ap kept_by (got_other ts t v x ne) ∙ none
+pub last_quiet : (ts : List Task) (t : ℕ) (x : Task) (q : ℕ) (r : ℤ × Option Name) (o : Option (ℤ × Option Name)) (oq ow : Option Task) (v : ℕ) → (v ≡ t → ⊥) → result_at (slice_get ts v) ≡ None
+    → result_at (slice_get (sets (puts t (last_move t x q r o oq ow)) ts) v) ≡ None
+last_quiet ts t x q r None oq ow v ne none = ap result_at (got_other ts t v (ended_task x r) ne) ∙ none
+last_quiet ts t x q r (Some other) None ow v ne none = ap result_at (got_other ts t v x ne) ∙ none
+last_quiet ts t x q r (Some other) (Some xq) None v ne none = ap result_at (got_other ts t v x ne) ∙ none
 last_quiet ts t x q r (Some other) (Some xq) (Some xw) v ne none = by (is_left t)
   where
-    three : (l : ℕ) (a b c : Task) → result_in a.status ≡ None → result_in b.status ≡ None → result_in c.status ≡ None → kept_by (slice_get (sets ((l, a) ∷ (l + 1, b) ∷ (q, c) ∷ []) ts) v) ≡ None
+    three : (l : ℕ) (a b c : Task) → result_in a.status ≡ None → result_in b.status ≡ None → result_in c.status ≡ None → result_at (slice_get (sets ((l, a) ∷ (l + 1, b) ∷ (q, c) ∷ []) ts) v) ≡ None
     three l a b c ea eb ec = kept_set (slice_set (slice_set ts l a) (l + 1) b) q v c (kept_set (slice_set ts l a) (l + 1) v b (kept_set ts l v a none ea) eb) ec
 
-    by : (b : Bool) → kept_by (slice_get (sets (puts t (cond b (Joins q t (joined_task x) (joined_task xw) (resumed xq r other)) (Joins q (t - 1) (joined_task xw) (joined_task x) (resumed xq other r)))) ts) v) ≡ None
+    by : (b : Bool) → result_at (slice_get (sets (puts t (cond b (Joins q t (joined_task x) (joined_task xw) (resumed xq r other)) (Joins q (t - 1) (joined_task xw) (joined_task x) (resumed xq other r)))) ts) v) ≡ None
     by true = three t (joined_task x) (joined_task xw) (resumed xq r other) refl refl refl
     by false = three (t - 1) (joined_task xw) (joined_task x) (resumed xq other r) refl refl refl
 
 -- what comes of the end of u is the same after t's move
-module _ (m m1 : State) (K : Kept m) (t u : ℕ) (mt : Move) (M : Moves m m1 t mt) (two : t ≡ u → ⊥) (run_t : is_running (slice_get m.tasks t) ≡ true) (run_u : is_running (slice_get m.tasks u) ≡ true)
+module _ (m m1 : State) (K : SoundState m) (t u : ℕ) (mt : Move) (M : Moves m m1 t mt) (two : t ≡ u → ⊥) (run_t : is_running (slice_get m.tasks t) ≡ true) (run_u : is_running (slice_get m.tasks u) ≡ true)
     (kinds : AllAt (Kind m t) (puts t mt)) (q : ℕ) (above : parents m.tasks u ≡ Some q) where
   same_get : (v : ℕ) → v < length m.tasks → AllAt (λ j. v ≡ j → ⊥) (puts t mt) → slice_get m1.tasks v ≡ slice_get m.tasks v
   same_get v lt h =
@@ -175,22 +175,22 @@ module _ (m m1 : State) (K : Kept m) (t u : ℕ) (mt : Move) (M : Moves m m1 t m
   kind_same : (v : ℕ) → Kind m u v → slice_get m1.tasks v ≡ slice_get m.tasks v
   kind_same v k = same_get v (kind_within m K u run_u v k) (all_at (Kind m t) (λ j. v ≡ j → ⊥) (λ j a e. kinds_apart m K t u two run_t run_u j v a k (sym e)) (puts t mt) kinds)
 
-  pub last_same : (y : Task) (r : ℤ × Option Name) → (kept_by (slice_get m.tasks (sibling u)) ≡ None → kept_by (slice_get (sets (puts t mt) m.tasks) (sibling u)) ≡ None)
-      → last_move u y q r (kept_by (slice_get m1.tasks (sibling u))) (slice_get m1.tasks q) (slice_get m1.tasks (sibling u)) ≡ last_move u y q r (kept_by (slice_get m.tasks (sibling u))) (slice_get m.tasks q) (slice_get m.tasks (sibling u))
-  last_same y r quiet = by (kept_by (slice_get m.tasks (sibling u))) refl
+  pub last_same : (y : Task) (r : ℤ × Option Name) → (result_at (slice_get m.tasks (sibling u)) ≡ None → result_at (slice_get (sets (puts t mt) m.tasks) (sibling u)) ≡ None)
+      → last_move u y q r (result_at (slice_get m1.tasks (sibling u))) (slice_get m1.tasks q) (slice_get m1.tasks (sibling u)) ≡ last_move u y q r (result_at (slice_get m.tasks (sibling u))) (slice_get m.tasks q) (slice_get m.tasks (sibling u))
+  last_same y r quiet = by (result_at (slice_get m.tasks (sibling u))) refl
     where
       within : sibling u < length m.tasks
       within = K.tree.made (sibling u) q (K.tree.pairs u q above)
 
-      by : (o : Option (ℤ × Option Name)) → kept_by (slice_get m.tasks (sibling u)) ≡ o
-          → last_move u y q r (kept_by (slice_get m1.tasks (sibling u))) (slice_get m1.tasks q) (slice_get m1.tasks (sibling u)) ≡ last_move u y q r (kept_by (slice_get m.tasks (sibling u))) (slice_get m.tasks q) (slice_get m.tasks (sibling u))
+      by : (o : Option (ℤ × Option Name)) → result_at (slice_get m.tasks (sibling u)) ≡ o
+          → last_move u y q r (result_at (slice_get m1.tasks (sibling u))) (slice_get m1.tasks q) (slice_get m1.tasks (sibling u)) ≡ last_move u y q r (result_at (slice_get m.tasks (sibling u))) (slice_get m.tasks q) (slice_get m.tasks (sibling u))
       by None e =
           let front : slice_get m1.tasks (sibling u) ≡ slice_get (sets (puts t mt) m.tasks) (sibling u) = ap (λ ts. slice_get ts (sibling u)) M.tasks ∙ got_front (sets (puts t mt) m.tasks) (news mt) (sibling u) (omega (arith, sets_length (puts t mt) m.tasks, within)) in
-          let none : kept_by (slice_get m1.tasks (sibling u)) ≡ None = ap kept_by front ∙ quiet e in
+          let none : result_at (slice_get m1.tasks (sibling u)) ≡ None = ap result_at front ∙ quiet e in
           ap (λ o. last_move u y q r o (slice_get m1.tasks q) (slice_get m1.tasks (sibling u))) none ∙ ap (λ o. last_move u y q r o (slice_get m.tasks q) (slice_get m.tasks (sibling u))) (sym e)
       by (Some other) e =
           let ended : IsEnded m (sibling u) = record { result = other; is = e } in
           let sib : slice_get m1.tasks (sibling u) ≡ slice_get m.tasks (sibling u) = kind_same (sibling u) (inr (inl (record { sibling_is = refl; parent = q; above = above; ended = ended }))) in
           let par : slice_get m1.tasks q ≡ slice_get m.tasks q =
           kind_same q (inr (inr (record { waits = K.tree.waits u q above (runs_tell (slice_get m.tasks u) run_u).2; above = above; ended = ended }))) in
-          λ i. last_move u y q r (kept_by (sib i)) (par i) (sib i)
+          λ i. last_move u y q r (result_at (sib i)) (par i) (sib i)

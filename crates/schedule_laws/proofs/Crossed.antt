@@ -10,9 +10,9 @@ use Rattle.hh_model.specs.declared.data.Task.{Task}
 use Rattle.hh_model.specs.declared.data.State.{State}
 use Rattle.path_laws.specs.Disentangled.{Disentangled}
 use Rattle.hh_model.specs.Effect.{onward}
-use Rattle.hh_model.specs.Step.{child, is_left, is_running, joined_task, kept_by, parent_of, parents, result_of, resumed, setting, sibling}
+use Rattle.hh_model.specs.Step.{child, is_left, is_running, joined_task, result_at, parent_of, parents, result_of, resumed, setting, sibling}
 use Rattle.hh_model.specs.Store.{NamesAreStoredIn}
-use Rattle.hh_model.specs.Tree.{Kept}
+use Rattle.hh_model.specs.Tree.{SoundState}
 use Rattle.hh_model.proofs.Root.{runs_tell}
 use Rattle.renaming_laws.specs.Renaming.{IsRenaming, edge_to, end_to, object_to, task_to}
 use Rattle.renaming_laws.specs.Alike.{AreAlike}
@@ -51,7 +51,7 @@ pub record Resolved (m w m1 w1 : State) (u : ℕ) (y : Task) (i : Instr) : Type 
   pub shape : Shape u y move
   pub by : (change_in move ≡ Same) ⊎ ChangesBy (setting m u y) y.top m.store i (change_in move)
 
-module _ (m : State) (K : Kept m) (D : Disentangled m.tasks m.store) (N : NamesAreStoredIn m) (L : LowIn m) (rows : length m.store ≡ length m.tasks) (going : m.end ≡ None) where
+module _ (m : State) (K : SoundState m) (D : Disentangled m.tasks m.store) (N : NamesAreStoredIn m) (L : LowIn m) (rows : length m.store ≡ length m.tasks) (going : m.end ≡ None) where
   -- TWO MOVES
 
   module _ (t u : ℕ) (two : t ≡ u → ⊥) (run_t : is_running (slice_get m.tasks t) ≡ true) (run_u : is_running (slice_get m.tasks u) ≡ true) (m1 m2 m12 m21 : State) where
@@ -182,9 +182,9 @@ pub record Moved (m w : State) (u : ℕ) : Type 0 where
   pub move : Move
   pub here : Moves m w u move
   pub kinds : AllAt (Kind m u) (puts u move)
-  pub quiet : (v : ℕ) → (v ≡ u → ⊥) → kept_by (slice_get m.tasks v) ≡ None → kept_by (slice_get (sets (puts u move) m.tasks) v) ≡ None
+  pub quiet : (v : ℕ) → (v ≡ u → ⊥) → result_at (slice_get m.tasks v) ≡ None → result_at (slice_get (sets (puts u move) m.tasks) v) ≡ None
 
-module _ (m m1 : State) (K : Kept m) (u : ℕ) (y : Task) (running : y.status ≡ Running) (going : m.end ≡ None) (iu : slice_get m.tasks u ≡ Some y) (run_u : is_running (slice_get m.tasks u) ≡ true) (w w1 : State) (i : Instr) where
+module _ (m m1 : State) (K : SoundState m) (u : ℕ) (y : Task) (running : y.status ≡ Running) (going : m.end ≡ None) (iu : slice_get m.tasks u ≡ Some y) (run_u : is_running (slice_get m.tasks u) ≡ true) (w w1 : State) (i : Instr) where
   abbrev P : Type 0
   P = Plain m m1 u y running going w w1 i
 
@@ -195,7 +195,7 @@ module _ (m m1 : State) (K : Kept m) (u : ℕ) (y : Task) (running : y.status �
   above h = ap parent_of iu ∙ h.above
 
   abbrev last : ℕ → Move
-  last q = last_move u y q (result_of y.top) (kept_by (slice_get m.tasks (sibling u))) (slice_get m.tasks q) (slice_get m.tasks (sibling u))
+  last q = last_move u y q (result_of y.top) (result_at (slice_get m.tasks (sibling u))) (slice_get m.tasks q) (slice_get m.tasks (sibling u))
 
   pub moved_plain : P → Moved m w u
   moved_plain h = record { move = h.move; here = h.here; kinds = plain_kinds m u h.move h.plain; quiet = λ v ne none. plain_quiet m.tasks u h.move h.plain v none }
@@ -203,28 +203,28 @@ module _ (m m1 : State) (K : Kept m) (u : ℕ) (y : Task) (running : y.status �
   pub moved_last : E → Moved m w u
   moved_last h = record {
     move = last h.parent;
-    here = subst (λ z. Moves m z u (last h.parent)) (sym h.here) (last_moves m u y h.parent (result_of y.top) iu (kept_by (slice_get m.tasks (sibling u))));
-    kinds = last_kinds m K u y h.parent (result_of y.top) (above h) (runs_tell (slice_get m.tasks u) run_u).2 (kept_by (slice_get m.tasks (sibling u))) refl (slice_get m.tasks h.parent) (slice_get m.tasks (sibling u));
-    quiet = λ v ne none. last_quiet m.tasks u y h.parent (result_of y.top) (kept_by (slice_get m.tasks (sibling u))) (slice_get m.tasks h.parent) (slice_get m.tasks (sibling u)) v ne none;
+    here = subst (λ z. Moves m z u (last h.parent)) (sym h.here) (last_moves m u y h.parent (result_of y.top) iu (result_at (slice_get m.tasks (sibling u))));
+    kinds = last_kinds m K u y h.parent (result_of y.top) (above h) (runs_tell (slice_get m.tasks u) run_u).2 (result_at (slice_get m.tasks (sibling u))) refl (slice_get m.tasks h.parent) (slice_get m.tasks (sibling u));
+    quiet = λ v ne none. last_quiet m.tasks u y h.parent (result_of y.top) (result_at (slice_get m.tasks (sibling u))) (slice_get m.tasks h.parent) (slice_get m.tasks (sibling u)) v ne none;
   }
 
   pub plain_resolved : P → Resolved m w m1 w1 u y i
   plain_resolved h = record { move = h.move; here = h.here; there = h.there; kinds = plain_kinds m u h.move h.plain; stored = stored_by m u y i (change_in h.move) h.by; shape = h.shape; by = inr h.by }
 
   module _ (t : ℕ) (two : t ≡ u → ⊥) (run_t : is_running (slice_get m.tasks t) ≡ true) (mt : Move) (M : Moves m m1 t mt) (kt : AllAt (Kind m t) (puts t mt)) (iu1 : slice_get m1.tasks u ≡ Some y)
-      (quiet : kept_by (slice_get m.tasks (sibling u)) ≡ None → kept_by (slice_get (sets (puts t mt) m.tasks) (sibling u)) ≡ None) where
+      (quiet : result_at (slice_get m.tasks (sibling u)) ≡ None → result_at (slice_get (sets (puts t mt) m.tasks) (sibling u)) ≡ None) where
     pub last_resolved : E → Resolved m w m1 w1 u y i
     unfolding moved_last
     last_resolved h =
         let V = moved_last h in
-        let S = last_still m u y y h.parent (result_of y.top) (kept_by (slice_get m.tasks (sibling u))) (slice_get m.tasks h.parent) (slice_get m.tasks (sibling u)) in
+        let S = last_still m u y y h.parent (result_of y.top) (result_at (slice_get m.tasks (sibling u))) (slice_get m.tasks h.parent) (slice_get m.tasks (sibling u)) in
         record {
           move = last h.parent;
           here = V.here;
           there =
               subst (λ mv. Moves m1 w1 u mv) (last_same m m1 K t u mt M two run_t run_u kt h.parent (above h) y (result_of y.top) quiet)
-              (subst (λ z. Moves m1 z u (last_move u y h.parent (result_of y.top) (kept_by (slice_get m1.tasks (sibling u))) (slice_get m1.tasks h.parent) (slice_get m1.tasks (sibling u)))) (sym h.there)
-              (last_moves m1 u y h.parent (result_of y.top) iu1 (kept_by (slice_get m1.tasks (sibling u)))));
+              (subst (λ z. Moves m1 z u (last_move u y h.parent (result_of y.top) (result_at (slice_get m1.tasks (sibling u))) (slice_get m1.tasks h.parent) (slice_get m1.tasks (sibling u)))) (sym h.there)
+              (last_moves m1 u y h.parent (result_of y.top) iu1 (result_at (slice_get m1.tasks (sibling u)))));
           kinds = V.kinds;
           stored = subst (Stored m.store) (sym S.change) tt;
           shape = S.shape;

@@ -12,10 +12,10 @@ use Rattle.hh_model.specs.declared.data.Task.{Task}
 use Rattle.hh_model.specs.declared.data.State.{State}
 use Rattle.path_laws.specs.Disentangled.{Disentangled}
 use Rattle.hh_model.specs.Effect.{object_at, onward, row_of}
-use Rattle.hh_model.specs.Names.{held_by}
+use Rattle.hh_model.specs.Names.{names_from}
 use Rattle.hh_model.specs.Step.{child, edge, parent_of, strand}
 use Rattle.hh_model.specs.Store.{NamesAreStoredIn}
-use Rattle.hh_model.specs.Tree.{Kept}
+use Rattle.hh_model.specs.Tree.{SoundState}
 use Rattle.renaming_laws.specs.Laws.{swap}
 use Rattle.renaming_laws.specs.Renaming.{IsRenaming, edge_to, object_to, task_to}
 use Rattle.renaming_laws.proofs.Fixed.{KeepsTask, row_fixed, task_fixed}
@@ -68,7 +68,7 @@ module _ {A : Type 0} (n : ℕ) (odd : n % 2 ≡ 1) (xs : List A) (long : length
     ]
   ]
 
-module _ (m : State) (K : Kept m) (D : Disentangled m.tasks m.store) (N : NamesAreStoredIn m) (L : LowIn m) (rows : length m.store ≡ length m.tasks) where
+module _ (m : State) (K : SoundState m) (D : Disentangled m.tasks m.store) (N : NamesAreStoredIn m) (L : LowIn m) (rows : length m.store ≡ length m.tasks) where
   abbrev pub f : ℕ → ℕ
   f = swap (length m.tasks)
 
@@ -78,7 +78,7 @@ module _ (m : State) (K : Kept m) (D : Disentangled m.tasks m.store) (N : NamesA
   old_keeps : (v : ℕ) (x : Task) → slice_get m.tasks v ≡ Some x → KeepsTask f x
   old_keeps v x is = record {
     parent = λ q e. (let a : q < v = K.tree.low v q (ap parent_of is ∙ e) in let b : v < length m.tasks = got_within m.tasks v x is in stays q (omega arith));
-    result = λ k r e. stays r.task (D.of_task v x r is (subst (λ s. In (held_by s (x.top ∷ x.below)) r) (sym e) (inl refl))).0;
+    result = λ k r e. stays r.task (D.of_task v x r is (subst (λ s. In (names_from s (x.top ∷ x.below)) r) (sym e) (inl refl))).0;
     top = λ r i. stays r.task (L v x is x.top (inl refl) r i);
     below = λ y i r j. stays r.task (L v x is y (inr i) r j);
   }

@@ -20,9 +20,9 @@ use Rattle.hh_model.specs.declared.data.End.TheVariants.{Trapped}
 use Rattle.hh_model.specs.declared.data.State.{State}
 use Rattle.path_laws.specs.Disentangled.{Disentangled}
 use Rattle.hh_model.specs.Effect.{Effect, Goes, Prints, Calls, Forks, Returns, Traps, Stops, effect, int_in, place_in, ref_in, same_name}
-use Rattle.hh_model.specs.Step.{can_step, child_ended_by, depth_limit, ended_by, fetched, follow, frame_limit, goes_on, is_left, is_running, join_of, kept_by, last_of, last_return, or_same, owner_of, result_of, returned_to, run, setting, sibling, start, step, strand_of}
+use Rattle.hh_model.specs.Step.{can_step, child_ended_by, depth_limit, ended_by, fetched, follow, frame_limit, goes_on, is_left, is_running, join_of, result_at, last_of, last_return, or_same, owner_of, result_of, returned_to, run, setting, sibling, start, step, strand_of}
 use Rattle.hh_model.specs.Store.{NamesAreStoredIn}
-use Rattle.hh_model.specs.Tree.{Kept}
+use Rattle.hh_model.specs.Tree.{SoundState}
 use Rattle.hh_model.proofs.Carried.{at_in}
 use Rattle.hh_model.proofs.Counts.{run_push}
 use Rattle.path_laws.proofs.FreeReads.{run_disentangled}
@@ -74,7 +74,7 @@ module _ (m m1 : State) (u : ℕ) (y : Task) (going : m.end ≡ None) (going1 : 
       by_parent : (o : Option ℕ) → EndAlike (last_return m u y o).end (last_return m1 u y o).end
       by_parent None = tt
       by_parent (Some q) =
-          both_end (last_return m u y (Some q)) (last_return m1 u y (Some q)) (child_end m u y q (result_of y.top) (kept_by (slice_get m.tasks (sibling u)))) (child_end m1 u y q (result_of y.top) (kept_by (slice_get m1.tasks (sibling u))))
+          both_end (last_return m u y (Some q)) (last_return m1 u y (Some q)) (child_end m u y q (result_of y.top) (result_at (slice_get m.tasks (sibling u)))) (child_end m1 u y q (result_of y.top) (result_at (slice_get m1.tasks (sibling u))))
 
   pub ends_to : (May : Bool → Name → ℕ → Type 0) (line : ℕ) (i : Instr) (e e1 : Effect) → EffectAs (setting m u y) m1.edges (owner_of m1.tasks) y.top m.store m1.store May i e e1 → EndAlike (follow m u y line e).end (follow m1 u y line e1).end
   ends_to May line i (Goes a st) (Goes b st1) h = none_alike m.end m1.end going going1
@@ -135,7 +135,7 @@ module _ (p : ProgramText) (limit : ℕ) (ts : List ℕ) (t u : ℕ) (two : t �
   abbrev pub m1 : State
   m1 = step p m t
 
-  abbrev pub K : Kept m
+  abbrev pub K : SoundState m
   K = run_kept p (start p limit) ts (start_kept p limit)
 
   abbrev pub D : Disentangled m.tasks m.store

@@ -12,7 +12,7 @@ use Rattle.hh_model.specs.declared.data.End.{End}
 use Rattle.hh_model.specs.declared.data.End.TheVariants.{Trapped}
 use Rattle.hh_model.specs.declared.data.State.{State}
 use Rattle.hh_model.specs.Effect.{Effect, Goes, Prints, Calls, Forks, Returns, Traps, Stops, onward}
-use Rattle.hh_model.specs.Step.{back_in, child, child_ended_by, depth_limit, edge, ended_by, ended_task, entry_frame, follow, frame_limit, front_of, is_left, join_of, joined_task, kept_by, last_of, last_return, or_same, owner_of, result_in, result_of, resumed, returned_to, setting, sibling, strand}
+use Rattle.hh_model.specs.Step.{back_in, child, child_ended_by, depth_limit, edge, ended_by, ended_task, entry_frame, follow, frame_limit, front_of, is_left, join_of, joined_task, result_at, last_of, last_return, or_same, owner_of, result_in, result_of, resumed, returned_to, setting, sibling, strand}
 use Rattle.hh_model.proofs.Lists.{set_got}
 use Rattle.renaming_laws.proofs.Changed.{Change, Same, ChangesBy, changed}
 use Rattle.renaming_laws.proofs.Unnamed.{EffectAs}
@@ -147,8 +147,8 @@ module _ (m m1 : State) (u : ℕ) (y : Task) (running : y.status ≡ Running) (g
   pub record Last (w w1 : State) : Type 0 where
     pub parent : ℕ
     pub above : y.parent ≡ Some parent
-    pub here : w ≡ child_ended_by m u y parent (result_of y.top) (kept_by (slice_get m.tasks (sibling u)))
-    pub there : w1 ≡ child_ended_by m1 u y parent (result_of y.top) (kept_by (slice_get m1.tasks (sibling u)))
+    pub here : w ≡ child_ended_by m u y parent (result_of y.top) (result_at (slice_get m.tasks (sibling u)))
+    pub there : w1 ≡ child_ended_by m1 u y parent (result_of y.top) (result_at (slice_get m1.tasks (sibling u)))
 
   abbrev pub Two : State → State → Instr → Type 0
   Two w w1 i = Plain w w1 i ⊎ Last w w1

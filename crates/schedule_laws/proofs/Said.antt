@@ -13,7 +13,7 @@ use Rattle.hh_model.specs.declared.data.Task.{Task}
 use Rattle.hh_model.specs.declared.data.State.{State}
 use Rattle.hh_model.specs.Effect.{Effect, Goes, Prints, Calls, Forks, Returns, Traps, Stops, effect}
 use Rattle.hh_model.specs.Precedence.{Precedes, same_strand}
-use Rattle.hh_model.specs.Step.{can_step, child_ended_by, depth_limit, fetched, follow, frame_limit, is_left, join_of, kept_by, last_of, last_return, or_same, result_of, returned_to, run_from, setting, sibling, step, stepped, strand_of}
+use Rattle.hh_model.specs.Step.{can_step, child_ended_by, depth_limit, fetched, follow, frame_limit, is_left, join_of, result_at, last_of, last_return, or_same, result_of, returned_to, run_from, setting, sibling, step, stepped, strand_of}
 use Rattle.hh_model.proofs.Walks.{same_from_test}
 use Rattle.race_report.specs.Accesses.{with_some}
 use Rattle.renaming_laws.specs.Renaming.{strand_to}
@@ -52,7 +52,7 @@ module _ (p : ProgramText) (m : State) (t : ℕ) where
     where
       by : (o : Option ℕ) → (last_return m t x o).outputs ≡ m.outputs
       by None = refl
-      by (Some q) = ended x q (result_of x.top) (kept_by (slice_get m.tasks (sibling t)))
+      by (Some q) = ended x q (result_of x.top) (result_at (slice_get m.tasks (sibling t)))
 
   by_effect : (x : Task) (line : ℕ) (e : Effect) → Says (follow m t x line e) (print_by (strand_of t x) e)
   by_effect x line (Goes f st) = quiet (follow m t x line (Goes f st)) refl

@@ -10,9 +10,9 @@ use Rattle.hh_model.specs.declared.data.Status.TheVariants.{Running}
 use Rattle.hh_model.specs.declared.data.Task.{Task}
 use Rattle.hh_model.specs.declared.data.State.{State}
 use Rattle.path_laws.specs.Disentangled.{Disentangled}
-use Rattle.hh_model.specs.Step.{child_ended_by, edge, ended_task, is_left, is_running, joined_task, kept_by, parent_of, parents, result_of, resumed, setting, sibling, strand}
+use Rattle.hh_model.specs.Step.{child_ended_by, edge, ended_task, is_left, is_running, joined_task, result_at, parent_of, parents, result_of, resumed, setting, sibling, strand}
 use Rattle.hh_model.specs.Store.{NamesAreStoredIn}
-use Rattle.hh_model.specs.Tree.{Kept}
+use Rattle.hh_model.specs.Tree.{SoundState}
 use Rattle.hh_model.proofs.Root.{runs_tell}
 use Rattle.path_laws.proofs.Leaves.{wait_there}
 use Rattle.renaming_laws.proofs.Changed.{Change, ChangesBy, Edits, Grows, Same}
@@ -47,7 +47,7 @@ joined_even m m1 m2 m12 m21 t u q l z z' a b c at au Ht Hu Hu1 Ht2 =
       end = Ht2.end ∙ (Hu.end ∙ (sym Ht.end ∙ sym Hu1.end));
     }
 
-module _ (m : State) (K : Kept m) (D : Disentangled m.tasks m.store) (N : NamesAreStoredIn m) (L : LowIn m) (rows : length m.store ≡ length m.tasks) (going : m.end ≡ None)
+module _ (m : State) (K : SoundState m) (D : Disentangled m.tasks m.store) (N : NamesAreStoredIn m) (L : LowIn m) (rows : length m.store ≡ length m.tasks) (going : m.end ≡ None)
     (t u : ℕ) (two : t ≡ u → ⊥) (x y : Task) (is : slice_get m.tasks t ≡ Some x) (iu : slice_get m.tasks u ≡ Some y) (running_t : x.status ≡ Running) (running_u : y.status ≡ Running)
     (run_t : is_running (slice_get m.tasks t) ≡ true) (run_u : is_running (slice_get m.tasks u) ≡ true) (m1 m2 m12 m21 : State) where
   abbrev rt : ℤ × Option Name
@@ -58,14 +58,14 @@ module _ (m : State) (K : Kept m) (D : Disentangled m.tasks m.store) (N : NamesA
 
   -- what comes of the second end, after the first
   second : (v w : ℕ) (a b : Task) (ra rb : ℤ × Option Name) (n n' : State) (q : ℕ) → (v ≡ w → ⊥) → slice_get m.tasks v ≡ Some a → slice_get m.tasks w ≡ Some b → is_running (slice_get m.tasks v) ≡ true → sibling w ≡ v
-      → parents m.tasks w ≡ Some q → (xq : Task) → slice_get m.tasks q ≡ Some xq → (q ≡ v → ⊥) → n.tasks ≡ slice_set m.tasks v (ended_task a ra) → n' ≡ child_ended_by n w b q rb (kept_by (slice_get n.tasks (sibling w)))
+      → parents m.tasks w ≡ Some q → (xq : Task) → slice_get m.tasks q ≡ Some xq → (q ≡ v → ⊥) → n.tasks ≡ slice_set m.tasks v (ended_task a ra) → n' ≡ child_ended_by n w b q rb (result_at (slice_get n.tasks (sibling w)))
       → Moves n n' w (cond (is_left w) (Joins q w (joined_task b) (joined_task a) (resumed xq rb ra)) (Joins q (w - 1) (joined_task a) (joined_task b) (resumed xq ra rb)))
   second v w a b ra rb n n' q ne ia ib run sib above xq iq nq tasks is' =
       let here : slice_get n.tasks v ≡ Some (ended_task a ra) = ap (λ ts. slice_get ts v) tasks ∙ got_same m.tasks v a (ended_task a ra) ia in
       let beside : slice_get n.tasks (sibling w) ≡ Some (ended_task a ra) = ap (slice_get n.tasks) sib ∙ here in
       let other : slice_get n.tasks w ≡ Some b = ap (λ ts. slice_get ts w) tasks ∙ (got_other m.tasks v w (ended_task a ra) (λ e. ne (sym e)) ∙ ib) in
       let top : slice_get n.tasks q ≡ Some xq = ap (λ ts. slice_get ts q) tasks ∙ (got_other m.tasks v q (ended_task a ra) nq ∙ iq) in
-      subst (λ z. Moves n z w (cond (is_left w) (Joins q w (joined_task b) (joined_task a) (resumed xq rb ra)) (Joins q (w - 1) (joined_task a) (joined_task b) (resumed xq ra rb)))) (sym (is' ∙ ap (λ o. child_ended_by n w b q rb (kept_by o)) beside))
+      subst (λ z. Moves n z w (cond (is_left w) (Joins q w (joined_task b) (joined_task a) (resumed xq rb ra)) (Joins q (w - 1) (joined_task a) (joined_task b) (resumed xq ra rb)))) (sym (is' ∙ ap (λ o. child_ended_by n w b q rb (result_at o)) beside))
       (subst (λ (o : Option Task). Moves n (child_ended_by n w b q rb (Some ra)) w (last_move w b q rb (Some ra) o (Some (ended_task a ra)))) top
       (subst (λ (o : Option Task). Moves n (child_ended_by n w b q rb (Some ra)) w (last_move w b q rb (Some ra) (slice_get n.tasks q) o)) beside (last_moves n w b q rb other (Some ra))))
 
@@ -100,11 +100,11 @@ module _ (m : State) (K : Kept m) (D : Disentangled m.tasks m.store) (N : NamesA
       ended sib' a b c l at au eu et =
           let nt : q ≡ t → ⊥ = λ e. (let e' : q ≡ t = e in let h : q < t = lt in omega arith) in
           let nu : q ≡ u → ⊥ = λ e. (let e' : q ≡ u = e in let h : q < u = lu in omega arith) in
-          let H1 : m1 ≡ child_ended_by m t x Et.parent rt None = Et.here ∙ ap (child_ended_by m t x Et.parent rt) (ap (λ k. kept_by (slice_get m.tasks k)) sib' ∙ run_keeps_none (slice_get m.tasks u) run_u) in
-          let H2 : m2 ≡ child_ended_by m u y q ru None = Eu.here ∙ ap (child_ended_by m u y q ru) (ap (λ k. kept_by (slice_get m.tasks k)) sib ∙ run_keeps_none (slice_get m.tasks t) run_t) in
+          let H1 : m1 ≡ child_ended_by m t x Et.parent rt None = Et.here ∙ ap (child_ended_by m t x Et.parent rt) (ap (λ k. result_at (slice_get m.tasks k)) sib' ∙ run_keeps_none (slice_get m.tasks u) run_u) in
+          let H2 : m2 ≡ child_ended_by m u y q ru None = Eu.here ∙ ap (child_ended_by m u y q ru) (ap (λ k. result_at (slice_get m.tasks k)) sib ∙ run_keeps_none (slice_get m.tasks t) run_t) in
           let Ht : Moves m m1 t (Acts (ended_task x rt) Same) = subst (λ z. Moves m z t (Acts (ended_task x rt) Same)) (sym H1) (last_moves m t x Et.parent rt is None) in
           let Hu : Moves m m2 u (Acts (ended_task y ru) Same) = subst (λ z. Moves m z u (Acts (ended_task y ru) Same)) (sym H2) (last_moves m u y q ru iu None) in
-          let there = Et.there ∙ ap (λ k. child_ended_by m2 t x k rt (kept_by (slice_get m2.tasks (sibling t)))) same in
+          let there = Et.there ∙ ap (λ k. child_ended_by m2 t x k rt (result_at (slice_get m2.tasks (sibling t)))) same in
           let Hu1 : Moves m1 m12 u (Joins q l a b c) = subst (Moves m1 m12 u) eu (second t u x y rt ru m1 m12 q two is iu run_t sib pu top.0 top.1 nt (ap (λ (z : State). z.tasks) H1) Eu.there) in
           let Ht2 : Moves m2 m21 t (Joins q l a b c) = subst (Moves m2 m21 t) et (second u t y x ru rt m2 m21 q (λ e. two (sym e)) iu is run_u sib' pt top.0 top.1 nu (ap (λ (z : State). z.tasks) H2) there) in
           same_itself m m12 m21 (joined_even m m1 m2 m12 m21 t u q l (ended_task x rt) (ended_task y ru) a b c at au Ht Hu Hu1 Ht2)

@@ -12,7 +12,7 @@ use Rattle.hh_model.specs.declared.data.Frame.{Frame}
 use Rattle.hh_model.specs.declared.data.Task.{Task}
 use Rattle.hh_model.specs.declared.data.State.{State}
 use Rattle.hh_model.specs.Effect.{Effect, Goes, Prints, Calls, Forks, Returns, Traps, Stops, effect, object_at, put_object, row_of}
-use Rattle.hh_model.specs.Step.{can_step, child_ended_by, fetched, follow, is_left, is_running, kept_by, last_of, last_return, or_same, owner_of, result_of, returned_to, setting, sibling, step}
+use Rattle.hh_model.specs.Step.{can_step, child_ended_by, fetched, follow, is_left, is_running, result_at, last_of, last_return, or_same, owner_of, result_of, returned_to, setting, sibling, step}
 use Rattle.hh_model.specs.Store.{NamesAreStoredIn}
 use Rattle.hh_model.proofs.Carried.{flat_at}
 use Rattle.path_laws.proofs.Objects.{made_stays, put_here, put_other, rows_stay}
@@ -121,7 +121,7 @@ module _ (p : ProgramText) (m : State) (N : NamesAreStoredIn m) (t : ℕ) where
 
         by_parent : (o : Option ℕ) → StoreStep (last_return m t x o).store
         by_parent None = stays m.store refl
-        by_parent (Some q) = by_other q (kept_by (slice_get m.tasks (sibling t)))
+        by_parent (Some q) = by_other q (result_at (slice_get m.tasks (sibling t)))
 
     by_effect : (e : Effect) → effect (setting m t x) x.top m.store line.instr ≡ e → EffectAs (setting m t x) m.edges (owner_of m.tasks) x.top m.store m.store (λ b n k. Unit {0}) line.instr e e → StoreStep (follow m t x line.number e).store
     by_effect (Goes a st) does h = record {

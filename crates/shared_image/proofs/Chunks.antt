@@ -90,7 +90,7 @@ module _ (w : SharedValue) (I : IsSharedValue w) where
     where
       idle : (t : ℕ) (b : Bool) → Rises Lower (cond b [] (objects_numbered n (v.homes t).chunks))
       idle t true = tt
-      idle t false = home_rises n (rest_at w.homes t)
+      idle t false = home_rises n (rest_at w.rests t)
 
       by : (h : Option ℕ) → Rises Lower (objects_owned w n h)
       by None = tt

@@ -3,7 +3,7 @@ use Rattle.std.proofs.Common.{◌≡◌, ℕ, Option, Some, None, List, [], ◌�
 use Rattle.std.proofs.lemmas.Bool.{cases_Bool}
 use Rattle.listed.proofs.Places.{read_in}
 use Rattle.hh_model.specs.declared.data.Name.{Name}
-use Rattle.hh_model.specs.declared.data.State.{State as Machine}
+use Rattle.hh_model.specs.declared.data.State.{State}
 use Rattle.hh_model.specs.Effect.{object_at}
 use Rattle.hh_model.specs.Step.{is_running, owner_of}
 use Rattle.run_ledger.specs.declared.data.Ledger.{Ledger}
@@ -26,7 +26,7 @@ use Rattle.heap_reading.proofs.KeptNames.{handed_held}
 use Rattle.heap_image.specs.declared.picture.Picture.{Picture}
 use Rattle.heap_image.specs.Picture.{IsOwned}
 use Rattle.shared_image.specs.Drawn.{AreHeldInWords, IsHandedBack, IsPictureOf, drawn_object}
-use Rattle.shared_image.specs.Held.{AreReferences, HasJustKept, IsReference, StandsFor}
+use Rattle.shared_image.specs.Held.{AreReferences, HasJustHeld, IsReference, StandsFor}
 use Rattle.shared_image.proofs.Known.{k, owners, rests, runs, same}
 use Rattle.shared_image.proofs.Links.{owned_at}
 use Rattle.shared_image.proofs.Resting.{H, content}
@@ -39,7 +39,7 @@ module _ (w : SharedValue) (I : IsSharedValue w) (F : AreHeldInWords w) (p : Pic
   v = value_of w
 
   runs_now : (t : ℕ) → is_state_running (state_of w.tree t) ≡ is_running (slice_get l.machine.tasks t)
-  runs_now t = runs w I t ∙ ap (λ (m : Machine). is_running (slice_get m.tasks t)) (same w I)
+  runs_now t = runs w I t ∙ ap (λ (m : State). is_running (slice_get m.tasks t)) (same w I)
 
   drawn : (t : ℕ) → IsHandedBack w t → (o : Located) → In (objects v t) o → In p.objects (drawn_object (shown o))
   drawn t idle o i = (P.objects.each (drawn_object (shown o))).1 (t, o, idle, i, refl)
@@ -47,7 +47,7 @@ module _ (w : SharedValue) (I : IsSharedValue w) (F : AreHeldInWords w) (p : Pic
   reference : (a : Addr) (n : Name) → IsRef (Some a) → Place v (k w I) n a → IsReference p l (word_of_ref (Some a)) (Some n)
   reference a n near place =
       let u = own (k w I) n in
-      let owner : owner_of l.machine.tasks n.task ≡ u = ap (λ (m : Machine). owner_of m.tasks n.task) (sym (same w I)) in
+      let owner : owner_of l.machine.tasks n.task ≡ u = ap (λ (m : State). owner_of m.tasks n.task) (sym (same w I)) in
       elim (cases_Bool (is_state_running (state_of w.tree u))) [
         | inl on ↦
             inr (
@@ -73,14 +73,14 @@ module _ (w : SharedValue) (I : IsSharedValue w) (F : AreHeldInWords w) (p : Pic
       let x = content w I t idle o i in
       record {
         object = x.0;
-        is = ap (λ (m : Machine). object_at m.store (object_name o)) (sym (same w I)) ∙ x.1;
+        is = ap (λ (m : State). object_at m.store (object_name o)) (sym (same w I)) ∙ x.1;
         bears = (refl, refl);
         mutable = x.2.mutable;
         references = references o.refs x.0.refs (λ r j. read_in IsRef o.refs r j (F t o idle i).refs) x.2.refs;
         numbers = x.2.ints;
       }
 
-  pub just_kept : HasJustKept p l
+  pub just_kept : HasJustHeld p l
   just_kept = record {
     each = λ q j.
         let d = (P.objects.each q).0 j in

@@ -5,7 +5,7 @@ use Rattle.std.proofs.lemmas.Option.{slice_get_within}
 use Rattle.listed.specs.Members.{In}
 use Rattle.hh_model.specs.declared.data.Name.{Name}
 use Rattle.hh_model.specs.declared.data.Object.{Object}
-use Rattle.hh_model.specs.declared.data.State.{State as Machine}
+use Rattle.hh_model.specs.declared.data.State.{State}
 use Rattle.hh_model.specs.declared.data.Task.{Task}
 use Rattle.hh_model.specs.Counts.{Counted}
 use Rattle.hh_model.specs.Effect.{object_at, row_of}
@@ -55,13 +55,13 @@ module _ (w : SharedValue) (I : IsSharedValue w) where
   same = same_machine w I
 
   pub tree : TreeOf T k.machine.edges
-  tree = subst (λ (m : Machine). TreeOf m.tasks m.edges) (sym same) (tree_of w I)
+  tree = subst (λ (m : State). TreeOf m.tasks m.edges) (sym same) (tree_of w I)
 
   ran : l.machine ≡ run w.program (field_limit w.settings.version) (tasks_of w.journal.items)
   ran = machine_is_run w.program w.settings w.journal.items
 
   pub root : HasOneRoot T
-  root = subst (λ (m : Machine). HasOneRoot m.tasks) (sym (same ∙ ran)) (runs_have_one_root w.program (field_limit w.settings.version) (tasks_of w.journal.items))
+  root = subst (λ (m : State). HasOneRoot m.tasks) (sym (same ∙ ran)) (runs_have_one_root w.program (field_limit w.settings.version) (tasks_of w.journal.items))
 
   pub owners : AreOwners (parents T) (joined T) (waiting T)
   owners = owners_are_walks _ (parents T) (joined T) (waiting T) (joins_in T) k.machine.edges tree
@@ -71,7 +71,7 @@ module _ (w : SharedValue) (I : IsSharedValue w) where
 
   -- COUNTS
   counted : Counted l.steps T k.machine.store
-  counted = subst (λ (m : Machine). Counted l.steps m.tasks m.store) (sym same) (journals_are_counted w.program w.settings w.journal.items).counts
+  counted = subst (λ (m : State). Counted l.steps m.tasks m.store) (sym same) (journals_are_counted w.program w.settings w.journal.items).counts
 
   few_steps : l.steps ≤ 1000000256
   few_steps =
@@ -102,8 +102,8 @@ module _ (w : SharedValue) (I : IsSharedValue w) where
 
   pub fields_few : (n : Name) (x : Object) → object_at k.machine.store n ≡ Some x → length x.refs + length x.ints ≤ 1000000
   fields_few n x e =
-      let m : Machine = run w.program (field_limit w.settings.version) (tasks_of w.journal.items) in
-      let a = (sizes_are_bounded w.program (field_limit w.settings.version) (tasks_of w.journal.items)).together n x (subst (λ (z : Machine). object_at z.store n ≡ Some x) (same ∙ ran) e) in
+      let m : State = run w.program (field_limit w.settings.version) (tasks_of w.journal.items) in
+      let a = (sizes_are_bounded w.program (field_limit w.settings.version) (tasks_of w.journal.items)).together n x (subst (λ (z : State). object_at z.store n ≡ Some x) (same ∙ ran) e) in
       let b : m.field_limit ≡ field_limit w.settings.version = limit_stays w.program (field_limit w.settings.version) (tasks_of w.journal.items) in
       let c = few_by w.settings.version in
       let d : length x.refs + length x.ints ≤ max (field_limit w.settings.version) 32 = subst (λ f. length x.refs + length x.ints ≤ max f 32) b a in
@@ -113,17 +113,17 @@ module _ (w : SharedValue) (I : IsSharedValue w) where
   pub live_task : (x : Live) → IsLive w x → (y : Task) × (slice_get T x.number ≡ Some y) × (x.parent ≡ y.parent) × (joined T x.number ≡ false)
   live_task x L =
       let y = task_of w I x.number (record { parent = x.parent; state = x.state }) L.is in
-      (y.0, ap (λ (m : Machine). slice_get m.tasks x.number) same ∙ y.1, y.2.parent, ap (λ (m : Machine). joined m.tasks x.number) same ∙ live_now w I x.number (record { parent = x.parent; state = x.state }) L.is L.live)
+      (y.0, ap (λ (m : State). slice_get m.tasks x.number) same ∙ y.1, y.2.parent, ap (λ (m : State). joined m.tasks x.number) same ∙ live_now w I x.number (record { parent = x.parent; state = x.state }) L.is L.live)
 
   pub task_live : (t : ℕ) (y : Task) → slice_get T t ≡ Some y → joined T t ≡ false → (x : Live) × IsLive w x × (x.number ≡ t) × (x.parent ≡ y.parent)
   task_live t y e live =
-      let n = node_at w I t y (ap (λ (m : Machine). slice_get m.tasks t) (sym same) ∙ e) in
+      let n = node_at w I t y (ap (λ (m : State). slice_get m.tasks t) (sym same) ∙ e) in
       let x : Live = record { number = t; parent = n.0.parent; state = n.0.state } in
-      let off : n.0.state ≡ IsJoined → ⊥ = λ j. false≢true (sym live ∙ (ap (λ (m : Machine). joined m.tasks t) same ∙ joined_now w I t n.0 n.1 j)) in
+      let off : n.0.state ≡ IsJoined → ⊥ = λ j. false≢true (sym live ∙ (ap (λ (m : State). joined m.tasks t) same ∙ joined_now w I t n.0 n.1 j)) in
       (x, record { is = n.1; live = off }, refl, n.2.parent)
 
   pub runs : (t : ℕ) → is_state_running (state_of w.tree t) ≡ is_running (slice_get T t)
-  runs t = runs_is w I t ∙ ap (λ (m : Machine). is_running (slice_get m.tasks t)) (sym same)
+  runs t = runs_is w I t ∙ ap (λ (m : State). is_running (slice_get m.tasks t)) (sym same)
 
   pub rests : (t : ℕ) → is_state_running (state_of w.tree t) ≡ false → Rests k t
   rests t idle = journal_idle w.program w.settings w.journal.items I.form I.legal t (sym (runs_is w I t) ∙ idle)
@@ -131,4 +131,4 @@ module _ (w : SharedValue) (I : IsSharedValue w) where
   pub owned : (t : ℕ) (n : Name) → In (held_in (heap_of k t)) n → (n.task < length T) × (owner_of T n.task ≡ t)
   owned t n i =
       let o = (sound w I).owners t n (subst (λ ns. In ns n) (handed_held l t) i) in
-      (subst (λ (m : Machine). n.task < length m.tasks) (sym same) o.0, ap (λ (m : Machine). owner_of m.tasks n.task) same ∙ o.1)
+      (subst (λ (m : State). n.task < length m.tasks) (sym same) o.0, ap (λ (m : State). owner_of m.tasks n.task) same ∙ o.1)

@@ -4,7 +4,7 @@ use Rattle.std.proofs.lemmas.Bool.{false≢true}
 use Rattle.std.proofs.lemmas.Option.{same_Some}
 use Rattle.listed.specs.Members.{In}
 use Rattle.listed.proofs.Places.{got_some}
-use Rattle.hh_model.specs.declared.data.State.{State as Machine}
+use Rattle.hh_model.specs.declared.data.State.{State as MachineState}
 use Rattle.hh_model.specs.declared.data.Task.{Task}
 use Rattle.path_laws.specs.Paths.{IsWalkUp}
 use Rattle.hh_model.specs.Step.{is_on_path, joined, owner_of, parent_of, parents}
@@ -104,7 +104,7 @@ module _ (w : SharedValue) (I : IsSharedValue w) (p : Picture) (P : IsPictureOf 
 
   -- CHUNKS
   owner_now : (u : ℕ) → owner_of (accounts w).machine.tasks u ≡ owner_of TT u
-  owner_now u = ap (λ (m : Machine). owner_of m.tasks u) (sym (same w I))
+  owner_now u = ap (λ (m : MachineState). owner_of m.tasks u) (sym (same w I))
 
   pub chunk_in : (n t : ℕ) → v.owner n ≡ Some t → joined TT t ≡ false → (c : Chunk) × (h : Slot) × In p.chunks c × (slot_at w.pool n ≡ Some h) × (c.number ≡ n) × (c.owner ≡ t) × (c.words ≡ 1024 * h.units)
   chunk_in n t e live =

@@ -43,11 +43,11 @@ module _ (w : SharedValue) (I : IsSharedValue w) where
   pub made : (n t : ℕ) → v.owner n ≡ Some t → t < length TT
   made n t e = some_within TT t (S.made n t e)
 
-  near_by : (t : ℕ) (r : Option Rest) → rest_at w.homes t ≡ r → (o : Located) → In (objects_in (home_in r).chunks) o → o.at.offset < 1024
+  near_by : (t : ℕ) (r : Option Rest) → rest_at w.rests t ≡ r → (o : Located) → In (objects_in (home_in r).chunks) o → o.at.offset < 1024
   near_by t None e o i = absurd i
   near_by t (Some r) e o i = (I.heaps t r e).near o (subst (λ ks. In (objects_in ks) o) (home_chunks r) i)
 
-  measured_by : (t : ℕ) → IsUnheld w.tasks_out t → (r : Option Rest) → rest_at w.homes t ≡ r → (c : ChunkOf) → In (home_in r).chunks c → slot_at w.pool c.number ≡ Some (record { owner = t; units = c.units })
+  measured_by : (t : ℕ) → IsUnheld w.tasks_out t → (r : Option Rest) → rest_at w.rests t ≡ r → (c : ChunkOf) → In (home_in r).chunks c → slot_at w.pool c.number ≡ Some (record { owner = t; units = c.units })
   measured_by t un None e c i = absurd i
   measured_by t un (Some r) e c i =
       let q = map_in chunk_of r.heap.chunks c (subst (λ ks. In ks c) (home_chunks r) i) in
@@ -77,14 +77,14 @@ module _ (w : SharedValue) (I : IsSharedValue w) where
     owner = ap v.owner (H.inside chunk.0 o chunk.1 chunk.2) ∙ H.owned chunk.0 chunk.1
 
     pub near : o.at.offset < 1024
-    near = near_by t (rest_at w.homes t) refl o i
+    near = near_by t (rest_at w.rests t) refl o i
 
     unheld : IsUnheld w.tasks_out t
     unheld j h =
         let a : (heap_of (k w I) t).worker ≡ None = R in
-        let b : (heap_of (k w I) t).worker ≡ Some j = (I.stands.totals.task_out j t).0 h in
+        let b : (heap_of (k w I) t).worker ≡ Some j = (I.stands.tree_counts.task_out j t).0 h in
         absurd cc
 
     -- the pool has the units of its chunk
     pub measured : slot_at w.pool o.at.chunk ≡ Some (record { owner = t; units = chunk.0.units })
-    measured = ap (slot_at w.pool) (H.inside chunk.0 o chunk.1 chunk.2) ∙ measured_by t unheld (rest_at w.homes t) refl chunk.0 chunk.1
+    measured = ap (slot_at w.pool) (H.inside chunk.0 o chunk.1 chunk.2) ∙ measured_by t unheld (rest_at w.rests t) refl chunk.0 chunk.1

@@ -6,7 +6,7 @@ use Rattle.std.proofs.lemmas.List.{length-map}
 use Rattle.std.proofs.lemmas.Option.{slice_get_within}
 use Rattle.listed.proofs.Places.{read_in}
 use Rattle.hh_lang.proofs.Tests.{fits_passes}
-use Rattle.hh_model.specs.declared.data.State.{State as Machine}
+use Rattle.hh_model.specs.declared.data.State.{State}
 use Rattle.hh_model.specs.declared.data.Task.{Task as TaskOf}
 use Rattle.hh_model.specs.Step.{joined, owner_of, parent_of as parents_in, parents}
 use Rattle.hh_model.proofs.Paths.{owner_le}
@@ -77,7 +77,7 @@ module _ (w : SharedValue) (I : IsSharedValue w) (C : AreChunks w.pool.slots) (F
   owner_few : (u : ℕ) → u < length TT → owner_of (accounts w).machine.tasks u < length TT
   owner_few u lt =
       let le : owner_of TT u ≤ u = owner_le (parents TT) (tree w I).low (joined TT) u u in
-      let e : owner_of (accounts w).machine.tasks u ≡ owner_of TT u = ap (λ (m : Machine). owner_of m.tasks u) (sym (same w I)) in
+      let e : owner_of (accounts w).machine.tasks u ≡ owner_of TT u = ap (λ (m : State). owner_of m.tasks u) (sym (same w I)) in
       omega (arith, lt, le, e)
 
   units_few : (n : ℕ) (h : Slot) → slot_at w.pool n ≡ Some h → h.units ≤ 65536
@@ -182,7 +182,7 @@ module _ (w : SharedValue) (I : IsSharedValue w) (C : AreChunks w.pool.slots) (F
   chunk_owner c i =
       let x = (P.chunks.each c).0 i in
       let o : x.0.owner < length TT = subst (λ z. z < length TT) (sym x.1.owner) (owner_few x.1.held.owner (held_made x.0.number x.1.held x.1.is)) in
-      let now : x.0.owner ≡ owner_of TT x.1.held.owner = x.1.owner ∙ ap (λ (m : Machine). owner_of m.tasks x.1.held.owner) (sym (same w I)) in
+      let now : x.0.owner ≡ owner_of TT x.1.held.owner = x.1.owner ∙ ap (λ (m : State). owner_of m.tasks x.1.held.owner) (sym (same w I)) in
       let lives : joined TT x.0.owner ≡ false = subst (λ z. joined TT z ≡ false) (sym now) ((owners w I).live x.1.held.owner) in
       subst (λ (z : Chunk). HasTask p z.owner) (sym x.2) (has_task w I p P x.0.owner o lives)
 

@@ -44,13 +44,13 @@ pub record StandsFor (p : Picture) (l : Ledger) (q : Picked) (n : Name) : Type 0
   pub numbers : q.numbers ≡ object.ints
 
 -- the heap of a task that doesn't run holds the name
-abbrev pub IsKept : Ledger → Name → Type 0
-IsKept l n = (t : ℕ) × (is_running (slice_get l.machine.tasks t) ≡ false) × In (held_in (heap_of l t)) n
+abbrev pub IsHeldNotRunning : Ledger → Name → Type 0
+IsHeldNotRunning l n = (t : ℕ) × (is_running (slice_get l.machine.tasks t) ≡ false) × In (held_in (heap_of l t)) n
 
 -- each object stands for a name that is kept, and each such name has an object
-pub record HasJustKept (p : Picture) (l : Ledger) : Type 0 where
-  pub each : (q : Picked) → In p.objects q → (n : Name) × IsKept l n × StandsFor p l q n
-  pub all : (n : Name) → IsKept l n → (q : Picked) × In p.objects q × StandsFor p l q n
+pub record HasJustHeld (p : Picture) (l : Ledger) : Type 0 where
+  pub each : (q : Picked) → In p.objects q → (n : Name) × IsHeldNotRunning l n × StandsFor p l q n
+  pub all : (n : Name) → IsHeldNotRunning l n → (q : Picked) × In p.objects q × StandsFor p l q n
 
-abbrev pub PicturesHaveJustKept : Type 0
-PicturesHaveJustKept = (w : SharedValue) (p : Picture) → IsSharedValue w → AreHeldInWords w → IsPictureOf w p → HasJustKept p (accounts w)
+abbrev pub PicturesHaveJustHeld : Type 0
+PicturesHaveJustHeld = (w : SharedValue) (p : Picture) → IsSharedValue w → AreHeldInWords w → IsPictureOf w p → HasJustHeld p (accounts w)

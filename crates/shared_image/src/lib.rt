@@ -5,6 +5,6 @@ mod laws;
 mod picture;
 mod text;
 
-pub use laws::{pictures_are_sound, pictures_have_just_kept};
+pub use laws::{pictures_are_sound, pictures_have_just_held};
 pub use picture::draw;
 pub use text::image_text;

@@ -104,7 +104,7 @@ module _ (w : SharedValue) (k : ℕ) (p : Private) (I : IsSharedValue w) (F : Fi
 
 pub holds_none : (w after : SharedValue) (k : ℕ) (p : Private) → IsSharedValue w → IsSharedValue after → refused w (alone_event k p) ≡ None → after.tasks_out ≡ slice_set w.tasks_out k None → HoldsNone after k
 holds_none w after k p I I' free task_out t held =
-    no_task (sym (ap (λ hs. option_flatten (slice_get hs k)) task_out ∙ ap option_flatten (got_set w.tasks_out k None (worker_there w (alone_event k p) I free))) ∙ (I'.stands.totals.task_out k t).1 held)
+    no_task (sym (ap (λ hs. option_flatten (slice_get hs k)) task_out ∙ ap option_flatten (got_set w.tasks_out k None (worker_there w (alone_event k p) I free))) ∙ (I'.stands.tree_counts.task_out k t).1 held)
   where
     no_task : ◌≡◌ {A = Option ℕ} None (Some t) → ⊥
     no_task e = cc
@@ -117,11 +117,11 @@ some_is (Some s) = refl
 
 pub same_places : (w after : SharedValue) → SameButRoom w after → SameButPlaces w after
 same_places w after S =
-    let homes_are : after.homes ≡ w.homes = ap (λ (z : SharedValue). z.homes) S.same in
+    let homes_are : after.rests ≡ w.rests = ap (λ (z : SharedValue). z.rests) S.same in
     record {
-      rest = S.same ∙ ap (λ hs. let z : SharedValue = record w { homes = hs; sets = after.sets } in z) (sym homes_are);
+      rest = S.same ∙ ap (λ hs. let z : SharedValue = record w { rests = hs; sets = after.sets } in z) (sym homes_are);
       many = ap length homes_are;
-      homes = λ u. same_itself (rest_at w.homes u) (rest_at after.homes u) (ap (λ hs. rest_at hs u) homes_are);
+      rests = λ u. same_itself (rest_at w.rests u) (rest_at after.rests u) (ap (λ hs. rest_at hs u) homes_are);
       many_sets = same_length after.sets w.sets (λ u. sym (some_is (slice_get after.sets u)) ∙ (ap is_some (S.sets u) ∙ some_is (slice_get w.sets u)));
       sets = S.sets;
     }

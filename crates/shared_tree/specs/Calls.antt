@@ -34,7 +34,7 @@ pub record TakesTask (w after : SharedValue) (k t : ℕ) (answer : Result Privat
   pub enters : OnOk answer (Enters w after (record { worker = k; kind = Took t }))
   pub task : IfOk answer (λ (p : Private). p.task ≡ t)
   pub fresh : IfOk answer (λ (p : Private). p.fresh ≡ 0)
-  pub heap : IfOk answer (λ (p : Private). (r : Rest) × (rest_at w.homes t ≡ Some r) × (p.heap ≡ r.heap))
+  pub heap : IfOk answer (λ (p : Private). (r : Rest) × (rest_at w.rests t ≡ Some r) × (p.heap ≡ r.heap))
   pub idle : IfOk answer (λ (p : Private). p.begun ≡ None)
   pub fits : IfOk answer (λ (p : Private). Fits after k p)
   pub others : OnOk answer (OthersFit w after k)

@@ -33,7 +33,7 @@ impl Model for Left {
 
     ghost Value = { SharedValue };
 
-    ghost view = { λ s. record { program = s.program; settings = s.settings; tree = s.tree; pool = s.heaps.pool; homes = s.heaps.homes.rests; sets = s.heaps.homes.sets; marks = s.heaps.homes.marks; tasks_out = s.tasks_out; outputs = s.outputs; journal = record { items = []; room = 0 }; steps = s.steps; end = s.end; halted = s.halted } };
+    ghost view = { λ s. record { program = s.program; settings = s.settings; tree = s.tree; pool = s.heaps.pool; rests = s.heaps.homes.rests; sets = s.heaps.homes.sets; marks = s.heaps.homes.marks; tasks_out = s.tasks_out; outputs = s.outputs; journal = record { items = []; room = 0 }; steps = s.steps; end = s.end; halted = s.halted } };
 }
 
 impl Left {

@@ -33,7 +33,7 @@ impl Shared {
     /// What belongs to each task, and which task owns each chunk.
     pub fn heaps(&self) -> &Heaps
         ensures pool { result.now.pool ≡ self.now.pool }
-        ensures homes { result.now.homes.rests ≡ self.now.homes }
+        ensures homes { result.now.homes.rests ≡ self.now.rests }
         ensures sets { result.now.homes.sets ≡ self.now.sets }
         ensures marks { result.now.homes.marks ≡ self.now.marks }
     {

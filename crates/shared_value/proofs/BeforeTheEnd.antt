@@ -19,7 +19,7 @@ use Rattle.core_relation.specs.Whole.{StandsFor, by_end, handed}
 use Rattle.core_entry_laws.proofs.whole.TasksOut.{tasks_out_are_held}
 use Rattle.core_entry_laws.proofs.parts.Workers as workers
 use Rattle.task_machine.specs.declared.part.Private.{Private}
-use Rattle.shared_value.specs.SharedValue.{SharedValue, accounts, totals_of, value_of}
+use Rattle.shared_value.specs.SharedValue.{SharedValue, accounts, tree_counts_of, value_of}
 use Rattle.shared_value.specs.Stands.{IsSharedValue}
 use Rattle.shared_value.specs.Fits.{Fits, part_of}
 use Rattle.shared_value.proofs.OneAccount.{sum_put}
@@ -54,23 +54,23 @@ module _ (w : SharedValue) (I : IsSharedValue w) where
   goes_on = goes_by (accounts w) (accounts w).end
 
   pub end_now : w.end ≡ (accounts w).end
-  end_now = I.stands.totals.end ∙ goes_on.end
+  end_now = I.stands.tree_counts.end ∙ goes_on.end
 
   pub steps_now : w.steps ≡ (accounts w).steps
-  steps_now = I.stands.totals.steps ∙ goes_on.steps
+  steps_now = I.stands.tree_counts.steps ∙ goes_on.steps
 
   pub outputs_now : w.outputs ≡ (accounts w).machine.outputs
-  outputs_now = I.stands.totals.outputs ∙ ap (λ (m : State). m.outputs) goes_on.machine
+  outputs_now = I.stands.tree_counts.outputs ∙ ap (λ (m : State). m.outputs) goes_on.machine
 
   pub used_now : units_in_use w.pool ≡ in_use (accounts w)
-  used_now = I.stands.totals.used ∙ goes_on.used
+  used_now = I.stands.tree_counts.used ∙ goes_on.used
 
   -- before the end it stands for the accounts themselves
-  pub stands_now : (accounts w).end ≡ None → StandsFor (value_of w) (totals_of w) (accounts w)
-  stands_now on = subst (λ o. StandsFor (value_of w) (totals_of w) (by_end (accounts w) o)) on I.stands
+  pub stands_now : (accounts w).end ≡ None → StandsFor (value_of w) (tree_counts_of w) (accounts w)
+  stands_now on = subst (λ o. StandsFor (value_of w) (tree_counts_of w) (by_end (accounts w) o)) on I.stands
 
   pub task_out_now : (accounts w).end ≡ None → (k : ℕ) → option_flatten (slice_get w.tasks_out k) ≡ held_from k 0 (accounts w).heaps
-  task_out_now on k = tasks_out_are_held (totals_of w) (accounts w) (stands_now on).totals k
+  task_out_now on k = tasks_out_are_held (tree_counts_of w) (accounts w) (stands_now on).tree_counts k
 
 -- A PART THAT FITS, before the run's end
 module _ (w : SharedValue) (k : ℕ) (p : Private) (F : Fits w k p) (on : (accounts w).end ≡ None) where

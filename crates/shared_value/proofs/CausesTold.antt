@@ -54,7 +54,7 @@ ready_by (Some m) (Some x) o e = ap (λ (y : Node). is_state_ready (Some y.state
 took_is : (w : SharedValue) → IsSharedValue w → (accounts w).end ≡ None → (k t : ℕ) → k < w.settings.workers → kind_refusal w.program w.settings (accounts w) k (Took t) ≡ took_cause w k t
 took_is w I on k t lt =
     ap₂ (λ b o. refused_unless b NotReady (refused_holding o None))
-    (sym (ready_by (slice_get w.tree t) (slice_get (accounts w).machine.tasks t) (heap_of (accounts w) t).worker ((stands_now w I on).totals.node t)))
+    (sym (ready_by (slice_get w.tree t) (slice_get (accounts w).machine.tasks t) (heap_of (accounts w) t).worker ((stands_now w I on).tree_counts.node t)))
     (sym (task_out_now w I on k))
 
 worker_by : (a b c : Bool) (x y z : Refused) → is_some (refused_if a x (refused_if b y (refused_unless c z None))) ≡ false → c ≡ true

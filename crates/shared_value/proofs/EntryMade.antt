@@ -23,7 +23,7 @@ use Rattle.core_relation.specs.Whole.{StandsForAll, by_end}
 use Rattle.core_relation.specs.Worker.{Fits as FitsValue}
 use Rattle.task_machine.specs.declared.part.Private.{Private}
 use Rattle.task_homes.specs.declared.task_at_rest.Rest.{Rest}
-use Rattle.shared_value.specs.SharedValue.{SharedValue, accounts, rest_at, totals_of, value_of}
+use Rattle.shared_value.specs.SharedValue.{SharedValue, accounts, rest_at, tree_counts_of, value_of}
 use Rattle.shared_value.specs.Measured.{IsMeasured, IsUnheld, RestsAreMeasured}
 use Rattle.shared_value.specs.Stands.{HeapForm, IsSharedValue}
 use Rattle.shared_value.specs.Fits.{Fits, part_of}
@@ -56,13 +56,13 @@ held_apart w k u p q F G ne e = ne (same_Some u k (sym G.held ∙ (ap (λ t. (he
 
 -- the task of a part that a worker holds is out with it
 pub task_is_out : (w : SharedValue) (k : ℕ) (p : Private) → IsSharedValue w → (accounts w).end ≡ None → Fits w k p → option_flatten (slice_get w.tasks_out k) ≡ Some p.task
-task_is_out w k p I on F = ((stands_now w I on).totals.task_out k p.task).1 F.held
+task_is_out w k p I on F = ((stands_now w I on).tree_counts.task_out k p.task).1 F.held
 
 -- no task at rest is out with a worker, and one that is out with none is at rest
 pub unheld_at_rest : (w : SharedValue) (u : ℕ) → IsSharedValue w → (accounts w).end ≡ None → Rests (accounts w) u → IsUnheld w.tasks_out u
 unheld_at_rest w u I on rests j h =
     let a : (heap_of (accounts w) u).worker ≡ None = rests in
-    let b : (heap_of (accounts w) u).worker ≡ Some j = ((stands_now w I on).totals.task_out j u).0 h in
+    let b : (heap_of (accounts w) u).worker ≡ Some j = ((stands_now w I on).tree_counts.task_out j u).0 h in
     absurd cc
 
 pub unheld_rests : (w : SharedValue) (u : ℕ) → IsSharedValue w → (accounts w).end ≡ None → IsUnheld w.tasks_out u → Rests (accounts w) u
@@ -70,7 +70,7 @@ unheld_rests w u I on none = by (heap_of (accounts w) u).worker refl
   where
     by : (o : Option ℕ) → (heap_of (accounts w) u).worker ≡ o → Rests (accounts w) u
     by None e = e
-    by (Some j) e = absurd (none j (((stands_now w I on).totals.task_out j u).1 e))
+    by (Some j) e = absurd (none j (((stands_now w I on).tree_counts.task_out j u).1 e))
 
 -- whom no worker holds once one worker's task has changed, none held before
 pub unheld_before : (tasks_out : List (Option ℕ)) (k : ℕ) (x : Option ℕ) (u : ℕ) → IsUnheld (slice_set tasks_out k x) u → (option_flatten (slice_get tasks_out k) ≡ Some u → ⊥) → IsUnheld tasks_out u
@@ -81,17 +81,17 @@ unheld_before tasks_out k x u none other j e = elim (cases_eq j k) [
 
 -- the value with other fields and one entry more
 abbrev pub entered : SharedValue → EntryValue → List Node → PoolValue → List (Option Rest) → List SetOf → List (Option ℕ) → List ℤ → ℕ → Option RunEnd → ℕ → SharedValue
-entered w e tree pool homes sets tasks_out outputs steps end room = record w { tree = tree; pool = pool; homes = homes; sets = sets; tasks_out = tasks_out; outputs = outputs; steps = steps; end = end; journal = record { items = w.journal.items ++ e ∷ []; room = room } }
+entered w e tree pool rests sets tasks_out outputs steps end room = record w { tree = tree; pool = pool; rests = rests; sets = sets; tasks_out = tasks_out; outputs = outputs; steps = steps; end = end; journal = record { items = w.journal.items ++ e ∷ []; room = room } }
 
-module _ (w : SharedValue) (e : EntryValue) (I : IsSharedValue w) (free : refused w e ≡ None) (tree : List Node) (pool : PoolValue) (homes : List (Option Rest)) (sets : List SetOf) (tasks_out : List (Option ℕ)) (outputs : List ℤ) (steps : ℕ) (end : Option RunEnd) (room : ℕ) where
+module _ (w : SharedValue) (e : EntryValue) (I : IsSharedValue w) (free : refused w e ≡ None) (tree : List Node) (pool : PoolValue) (rests : List (Option Rest)) (sets : List SetOf) (tasks_out : List (Option ℕ)) (outputs : List ℤ) (steps : ℕ) (end : Option RunEnd) (room : ℕ) where
   abbrev w' : SharedValue
-  w' = entered w e tree pool homes sets tasks_out outputs steps end room
+  w' = entered w e tree pool rests sets tasks_out outputs steps end room
 
   pub accounts_are : accounts w' ≡ after w.program w.settings (accounts w) e
   accounts_are = accounts_then w.program w.settings w.journal.items e
 
-  pub entered_world : length homes ≡ length tree → length sets ≡ length tree → length tasks_out ≡ length w.tasks_out → pool.limit ≡ w.pool.limit
-      → StandsForAll (value_of w') (totals_of w') (after w.program w.settings (accounts w) e) → ((t : ℕ) (r : Rest) → rest_at homes t ≡ Some r → HeapForm r.heap) → RestsAreMeasured pool homes tasks_out → IsSharedValue w'
+  pub entered_world : length rests ≡ length tree → length sets ≡ length tree → length tasks_out ≡ length w.tasks_out → pool.limit ≡ w.pool.limit
+      → StandsForAll (value_of w') (tree_counts_of w') (after w.program w.settings (accounts w) e) → ((t : ℕ) (r : Rest) → rest_at rests t ≡ Some r → HeapForm r.heap) → RestsAreMeasured pool rests tasks_out → IsSharedValue w'
   entered_world made noted workers limit stands heaps measured = record {
     limits = I.limits;
     form = I.form;
@@ -100,7 +100,7 @@ module _ (w : SharedValue) (e : EntryValue) (I : IsSharedValue w) (free : refuse
     noted = noted;
     workers = workers ∙ I.workers;
     limit = limit ∙ I.limit;
-    stands = subst (λ (z : Ledger). StandsForAll (value_of w') (totals_of w') z) (sym accounts_are) stands;
+    stands = subst (λ (z : Ledger). StandsForAll (value_of w') (tree_counts_of w') z) (sym accounts_are) stands;
     heaps = heaps;
     measured = measured;
   }
@@ -108,10 +108,10 @@ module _ (w : SharedValue) (e : EntryValue) (I : IsSharedValue w) (free : refuse
   module _ (I' : IsSharedValue w') where
     -- a worker holds the task that is out with it
     pub held_when_out : (u t : ℕ) → option_flatten (slice_get tasks_out u) ≡ Some t → (heap_of (accounts w') t).worker ≡ Some u
-    held_when_out u t e = held_by_end (accounts w') (accounts w').end t u ((I'.stands.totals.task_out u t).0 e)
+    held_when_out u t e = held_by_end (accounts w') (accounts w').end t u ((I'.stands.tree_counts.task_out u t).0 e)
 
     pub held_on : (u t : ℕ) → option_flatten (slice_get tasks_out u) ≡ option_flatten (slice_get w.tasks_out u) → (heap_of (accounts w) t).worker ≡ Some u → (heap_of (accounts w') t).worker ≡ Some u
-    held_on u t same held = held_when_out u t (same ∙ ((stands_now w I (entry_on w e free)).totals.task_out u t).1 held)
+    held_on u t same held = held_when_out u t (same ∙ ((stands_now w I (entry_on w e free)).tree_counts.task_out u t).1 held)
 
     -- a part of a worker that goes on fits where its home does
     pub part_fits : (u : ℕ) (p q : Private) → option_flatten (slice_get tasks_out u) ≡ option_flatten (slice_get w.tasks_out u) → Fits w u p → q.task ≡ p.task → q.leaf_limit ≡ p.leaf_limit → q.field_limit ≡ p.field_limit → HeapForm q.heap → IsMeasured pool q

@@ -21,7 +21,7 @@ use Rattle.alloc_path.specs.PlaceLaws.{KeepsCounts}
 use Rattle.chunk_rows.specs.View.{Level}
 use Rattle.alloc_path.proofs.Counting.{writes_keep_counts}
 use Rattle.remembered_set.specs.declared.remembered.Source.{Source}
-use Rattle.remembered_set.specs.Moved.{held_by, new_reference, redirected, written}
+use Rattle.remembered_set.specs.Moved.{target_of, new_reference, redirected, written}
 use Rattle.leaf_copy_gc.specs.Redirected.{new_address}
 use Rattle.address_laws.proofs.Puts.{same_or_other}
 use Rattle.core_relation.specs.Memory.{Chunk, In, mapped_chunk, mapped_home, objects_in, put_at, rewritten_home}
@@ -50,26 +50,26 @@ pub record SourceThere (H : Resting) (s : Source) (Good : ℕ → Type 0) : Type
   pub good : Good home
   pub owner : owner_of H.pool s.object.chunk ≡ Some home
   pub rest : Rest
-  pub is : rest_at H.homes home ≡ Some rest
+  pub is : rest_at H.rests home ≡ Some rest
   pub birth : Birth
   pub born : (cell_of rest.heap.chunks s.object).mark ≡ Born birth
 
 -- the resting heaps are formed, and the good ones' chunks are their own, with their units
 pub record AreFormed (H : Resting) (Good : ℕ → Type 0) : Type 0 where
-  pub form : (u : ℕ) (r : Rest) → rest_at H.homes u ≡ Some r → HeapForm r.heap
-  pub measured : (u : ℕ) (r : Rest) → Good u → rest_at H.homes u ≡ Some r → AreMeasured H.pool u r.heap.chunks
-  pub owned : (u : ℕ) (r : Rest) → Good u → rest_at H.homes u ≡ Some r → (k : ChunkValue) → In r.heap.chunks k → owner_of H.pool k.number ≡ Some u
+  pub form : (u : ℕ) (r : Rest) → rest_at H.rests u ≡ Some r → HeapForm r.heap
+  pub measured : (u : ℕ) (r : Rest) → Good u → rest_at H.rests u ≡ Some r → AreMeasured H.pool u r.heap.chunks
+  pub owned : (u : ℕ) (r : Rest) → Good u → rest_at H.rests u ≡ Some r → (k : ChunkValue) → In r.heap.chunks k → owner_of H.pool k.number ≡ Some u
 
-rest_set : (homes : List (Option Rest)) (z : ℕ) (r x : Rest) → rest_at homes z ≡ Some r → rest_at (slice_set homes z (Some x)) z ≡ Some x
-rest_set homes z r x e = by (slice_get homes z) refl e
+rest_set : (rests : List (Option Rest)) (z : ℕ) (r x : Rest) → rest_at rests z ≡ Some r → rest_at (slice_set rests z (Some x)) z ≡ Some x
+rest_set rests z r x e = by (slice_get rests z) refl e
   where
-    by : (o : Option (Option Rest)) → slice_get homes z ≡ o → option_flatten o ≡ Some r → rest_at (slice_set homes z (Some x)) z ≡ Some x
+    by : (o : Option (Option Rest)) → slice_get rests z ≡ o → option_flatten o ≡ Some r → rest_at (slice_set rests z (Some x)) z ≡ Some x
     by None q h = absurd cc
     by (Some None) q h = absurd cc
-    by (Some (Some y)) q h = ap option_flatten (got_same homes z (Some y) (Some x) q)
+    by (Some (Some y)) q h = ap option_flatten (got_same rests z (Some y) (Some x) q)
 
-rest_off : (homes : List (Option Rest)) (z u : ℕ) (x : Option Rest) → (u ≡ z → ⊥) → rest_at (slice_set homes z x) u ≡ rest_at homes u
-rest_off homes z u x ne = ap option_flatten (got_other homes z u x ne)
+rest_off : (rests : List (Option Rest)) (z u : ℕ) (x : Option Rest) → (u ≡ z → ⊥) → rest_at (slice_set rests z x) u ≡ rest_at rests u
+rest_off rests z u x ne = ap option_flatten (got_other rests z u x ne)
 
 pub by_chunks : (h : LeafHeapValue) (view : List Level) (n : ℕ) (x : Work) → (home_by h view n x).chunks ≡ chunks_of h.chunks
 by_chunks h view n (Calls s) = refl
@@ -131,16 +131,16 @@ module _ (ms : List (Addr × Addr)) where
     abbrev c : Cell
     c = cell_of T.rest.heap.chunks s.object
 
-    held_is : held_by refs_in H s ≡ slice_index_or c.refs s.field None
+    held_is : target_of refs_in H s ≡ slice_index_or c.refs s.field None
     held_is =
-        ap (λ o. slice_index_or (refs_for H.homes o s.object) s.field None) T.owner
+        ap (λ o. slice_index_or (refs_for H.rests o s.object) s.field None) T.owner
         ∙ (ap (λ o. slice_index_or (refs_of_rest o s.object) s.field None) T.is ∙ ap (λ m. slice_index_or (marked_object m c).refs s.field None) T.born)
 
     -- the source's object, as it is read
-    at_source : (u : ℕ) → Good u → (o : Located) → In (objects_in (home_in (rest_at H.homes u)).chunks) o → o.at ≡ s.object → (u ≡ T.home) × (o.refs ≡ c.refs) × (o.mutable ≡ c.mutable) × (o.ints ≡ c.ints)
-    at_source u good o i e = by (rest_at H.homes u) refl i
+    at_source : (u : ℕ) → Good u → (o : Located) → In (objects_in (home_in (rest_at H.rests u)).chunks) o → o.at ≡ s.object → (u ≡ T.home) × (o.refs ≡ c.refs) × (o.mutable ≡ c.mutable) × (o.ints ≡ c.ints)
+    at_source u good o i e = by (rest_at H.rests u) refl i
       where
-        by : (q : Option Rest) → rest_at H.homes u ≡ q → In (objects_in (home_in q).chunks) o → (u ≡ T.home) × (o.refs ≡ c.refs) × (o.mutable ≡ c.mutable) × (o.ints ≡ c.ints)
+        by : (q : Option Rest) → rest_at H.rests u ≡ q → In (objects_in (home_in q).chunks) o → (u ≡ T.home) × (o.refs ≡ c.refs) × (o.mutable ≡ c.mutable) × (o.ints ≡ c.ints)
         by None h j = absurd j
         by (Some x) h j =
             let i' : In (objects_in (chunks_of x.heap.chunks)) o = subst (λ cs. In (objects_in cs) o) (home_chunks x) j in
@@ -148,7 +148,7 @@ module _ (ms : List (Addr × Addr)) where
             let k = map_in chunk_of x.heap.chunks ch.0 ch.1 in
             let number : k.0.number ≡ s.object.chunk = sym (numbered k.0.number 0 k.0.cells o (subst (λ (z : Chunk). In z.objects o) (sym k.2) ch.2)) ∙ ap (λ (z : Addr). z.chunk) e in
             let same : u ≡ T.home = same_Some u T.home (sym (F.owned u x good h k.0 k.1) ∙ (ap (owner_of H.pool) number ∙ T.owner)) in
-            let rest : x ≡ T.rest = same_Some x T.rest (sym h ∙ (ap (rest_at H.homes) same ∙ T.is)) in
+            let rest : x ≡ T.rest = same_Some x T.rest (sym h ∙ (ap (rest_at H.rests) same ∙ T.is)) in
             let y = seen_object x.heap.chunks o (F.form u x h).shaped.apart i' in
             let cell : cell_of x.heap.chunks o.at ≡ c = ap₂ (λ (z : Rest) (b : Addr). cell_of z.heap.chunks b) rest e in
             (same, ap (λ (z : Located). z.refs) y.is ∙ ap (λ (z : Cell). z.refs) cell, ap (λ (z : Located). z.mutable) y.is ∙ ap (λ (z : Cell). z.mutable) cell, ap (λ (z : Located). z.ints) y.is ∙ ap (λ (z : Cell). z.ints) cell)
@@ -158,7 +158,7 @@ module _ (ms : List (Addr × Addr)) where
     elsewhere o ne = ap (λ rs. record o { refs = rs }) (lead_off f s o.at 0 o.refs (λ k e q. ne (sym e)))
 
     -- the source's object is led
-    led_there : (o : Located) (x : Option Addr) → o.at ≡ s.object → o.refs ≡ c.refs → option_map f (held_by refs_in H s) ≡ x → lead_one f s o ≡ record o { refs = slice_set c.refs s.field x }
+    led_there : (o : Located) (x : Option Addr) → o.at ≡ s.object → o.refs ≡ c.refs → option_map f (target_of refs_in H s) ≡ x → lead_one f s o ≡ record o { refs = slice_set c.refs s.field x }
     led_there o x e same is =
         ap (λ rs. record o { refs = rs })
         (lead_at f s o.at 0 s.field o.refs (sym e) (let z : s.field ≡ 0 + s.field = omega arith in z)
@@ -166,41 +166,41 @@ module _ (ms : List (Addr × Addr)) where
 
     pub record Stepped (H' : Resting) : Type 0 where
       pub pool : H'.pool ≡ H.pool
-      pub count : length H'.homes ≡ length H.homes
+      pub count : length H'.rests ≡ length H.rests
       pub formed : AreFormed H' Good
-      pub homes : (u : ℕ) → Good u → home_in (rest_at H'.homes u) ≡ mapped_home (lead_one f s) (home_in (rest_at H.homes u))
+      pub homes : (u : ℕ) → Good u → home_in (rest_at H'.rests u) ≡ mapped_home (lead_one f s) (home_in (rest_at H.rests u))
       pub there : (x : Source) → SourceThere H x Good → SourceThere H' x Good
 
     -- nothing is written, since what it holds was not moved
-    kept : option_map f (held_by refs_in H s) ≡ held_by refs_in H s → Stepped H
+    kept : option_map f (target_of refs_in H s) ≡ target_of refs_in H s → Stepped H
     kept is = record {
       pool = refl;
       count = refl;
       formed = F;
-      homes = λ u good. sym (home_stays (lead_one f s) (home_in (rest_at H.homes u)) (λ o i. by u good o i (same_address o.at s.object) refl));
+      homes = λ u good. sym (home_stays (lead_one f s) (home_in (rest_at H.rests u)) (λ o i. by u good o i (same_address o.at s.object) refl));
       there = λ x y. y;
     }
       where
-        same_refs : (o : Located) → o.refs ≡ c.refs → record o { refs = slice_set c.refs s.field (held_by refs_in H s) } ≡ o
-        same_refs o e = ap (λ rs. record o { refs = rs }) (set_itself c.refs s.field (held_by refs_in H s) (sym held_is) ∙ sym e)
+        same_refs : (o : Located) → o.refs ≡ c.refs → record o { refs = slice_set c.refs s.field (target_of refs_in H s) } ≡ o
+        same_refs o e = ap (λ rs. record o { refs = rs }) (set_itself c.refs s.field (target_of refs_in H s) (sym held_is) ∙ sym e)
 
-        by : (u : ℕ) → Good u → (o : Located) → In (objects_in (home_in (rest_at H.homes u)).chunks) o → (v : Bool) → same_address o.at s.object ≡ v → lead_one f s o ≡ o
+        by : (u : ℕ) → Good u → (o : Located) → In (objects_in (home_in (rest_at H.rests u)).chunks) o → (v : Bool) → same_address o.at s.object ≡ v → lead_one f s o ≡ o
         by u good o i true e =
             let at : o.at ≡ s.object = at_is s.object o e in
             let q = at_source u good o i at in
-            led_there o (held_by refs_in H s) at q.1 is ∙ same_refs o q.1
+            led_there o (target_of refs_in H s) at q.1 is ∙ same_refs o q.1
         by u good o i false e = elsewhere o (λ at. false≢true (sym e ∙ is_at_it s.object o at))
 
     -- it is led to where its object is now
-    module _ (x : Option Addr) (is : option_map f (held_by refs_in H s) ≡ x) where
+    module _ (x : Option Addr) (is : option_map f (target_of refs_in H s) ≡ x) where
       abbrev d : Cell
       d = with_ref c s.field x
 
       abbrev r' : Rest
       r' = record T.rest { heap = with_ref_of T.rest.heap s.object s.field x }
 
-      abbrev homes' : List (Option Rest)
-      homes' = slice_set H.homes T.home (Some r')
+      abbrev rests' : List (Option Rest)
+      rests' = slice_set H.rests T.home (Some r')
 
       size : size_of d ≡ size_of c
       size = ap (λ n. 2 + (n + length c.ints)) (length-set c.refs s.field x)
@@ -213,32 +213,32 @@ module _ (ms : List (Addr × Addr)) where
         | inr ne ↦ ap (λ (z : Cell). z.mark) (laws.cell_of-put_other T.rest.heap.chunks s.object b d size ne)
       ]
 
-      form_now : (u : ℕ) (q : Rest) → rest_at homes' u ≡ Some q → HeapForm q.heap
+      form_now : (u : ℕ) (q : Rest) → rest_at rests' u ≡ Some q → HeapForm q.heap
       form_now u q e = elim (cases_eq u T.home) [
         | inl at ↦
-            let is' : q ≡ r' = same_Some q r' (sym e ∙ (ap (rest_at homes') at ∙ rest_set H.homes T.home T.rest r' T.is)) in
+            let is' : q ≡ r' = same_Some q r' (sym e ∙ (ap (rest_at rests') at ∙ rest_set H.rests T.home T.rest r' T.is)) in
             subst (λ (z : Rest). HeapForm z.heap) (sym is') (form_written T.rest.heap s.object d (F.form T.home T.rest T.is) refl size)
-        | inr ne ↦ F.form u q (sym (rest_off H.homes T.home u (Some r') ne) ∙ e)
+        | inr ne ↦ F.form u q (sym (rest_off H.rests T.home u (Some r') ne) ∙ e)
       ]
 
-      measured_now : (u : ℕ) (q : Rest) → Good u → rest_at homes' u ≡ Some q → AreMeasured H.pool u q.heap.chunks
+      measured_now : (u : ℕ) (q : Rest) → Good u → rest_at rests' u ≡ Some q → AreMeasured H.pool u q.heap.chunks
       measured_now u q good e = elim (cases_eq u T.home) [
         | inl at ↦
-            let is' : q ≡ r' = same_Some q r' (sym e ∙ (ap (rest_at homes') at ∙ rest_set H.homes T.home T.rest r' T.is)) in
-            subst (λ (z : Rest). AreMeasured H.pool u z.heap.chunks) (sym is') (measured_written H.pool u T.rest.heap.chunks s.object d (F.measured u T.rest good (ap (rest_at H.homes) at ∙ T.is)))
-        | inr ne ↦ F.measured u q good (sym (rest_off H.homes T.home u (Some r') ne) ∙ e)
+            let is' : q ≡ r' = same_Some q r' (sym e ∙ (ap (rest_at rests') at ∙ rest_set H.rests T.home T.rest r' T.is)) in
+            subst (λ (z : Rest). AreMeasured H.pool u z.heap.chunks) (sym is') (measured_written H.pool u T.rest.heap.chunks s.object d (F.measured u T.rest good (ap (rest_at H.rests) at ∙ T.is)))
+        | inr ne ↦ F.measured u q good (sym (rest_off H.rests T.home u (Some r') ne) ∙ e)
       ]
 
-      owned_now : (u : ℕ) (q : Rest) → Good u → rest_at homes' u ≡ Some q → (k : ChunkValue) → In q.heap.chunks k → owner_of H.pool k.number ≡ Some u
+      owned_now : (u : ℕ) (q : Rest) → Good u → rest_at rests' u ≡ Some q → (k : ChunkValue) → In q.heap.chunks k → owner_of H.pool k.number ≡ Some u
       owned_now u q good e k i = elim (cases_eq u T.home) [
         | inl at ↦
-            let is' : q ≡ r' = same_Some q r' (sym e ∙ (ap (rest_at homes') at ∙ rest_set H.homes T.home T.rest r' T.is)) in
+            let is' : q ≡ r' = same_Some q r' (sym e ∙ (ap (rest_at rests') at ∙ rest_set H.rests T.home T.rest r' T.is)) in
             let j = put_number T.rest.heap.chunks s.object d k (subst (λ (z : Rest). In z.heap.chunks k) is' i) in
-            ap (owner_of H.pool) (sym j.2) ∙ F.owned u T.rest good (ap (rest_at H.homes) at ∙ T.is) j.0 j.1
-        | inr ne ↦ F.owned u q good (sym (rest_off H.homes T.home u (Some r') ne) ∙ e) k i
+            ap (owner_of H.pool) (sym j.2) ∙ F.owned u T.rest good (ap (rest_at H.rests) at ∙ T.is) j.0 j.1
+        | inr ne ↦ F.owned u q good (sym (rest_off H.rests T.home u (Some r') ne) ∙ e) k i
       ]
 
-      one_is : (o : Located) → In (objects_in (home_in (rest_at H.homes T.home)).chunks) o → put_at s.object (with_fields d) o ≡ lead_one f s o
+      one_is : (o : Located) → In (objects_in (home_in (rest_at H.rests T.home)).chunks) o → put_at s.object (with_fields d) o ≡ lead_one f s o
       one_is o i = by (same_address o.at s.object) refl
         where
           by : (v : Bool) → same_address o.at s.object ≡ v → cond v (with_fields d o) o ≡ lead_one f s o
@@ -248,49 +248,49 @@ module _ (ms : List (Addr × Addr)) where
               (λ k. record o { mutable = sym q.2 k; refs = slice_set c.refs s.field x; ints = sym q.3 k }) ∙ sym (led_there o x at q.1 is)
           by false e = sym (elsewhere o (λ at. false≢true (sym e ∙ is_at_it s.object o at)))
 
-      homes_now : (u : ℕ) → Good u → home_in (rest_at homes' u) ≡ mapped_home (lead_one f s) (home_in (rest_at H.homes u))
+      homes_now : (u : ℕ) → Good u → home_in (rest_at rests' u) ≡ mapped_home (lead_one f s) (home_in (rest_at H.rests u))
       homes_now u good = elim (cases_eq u T.home) [
         | inl at ↦
-            ap (λ z. home_in (rest_at homes' z)) at
-            ∙ (ap home_in (rest_set H.homes T.home T.rest r' T.is)
+            ap (λ z. home_in (rest_at rests' z)) at
+            ∙ (ap home_in (rest_set H.rests T.home T.rest r' T.is)
             ∙ (home_written T.rest s.object s.field x T.birth (F.form T.home T.rest T.is) T.born
             ∙ (ap (λ q. mapped_home (put_at s.object (with_fields d)) (home_in q)) (sym T.is)
-            ∙ (home_each (put_at s.object (with_fields d)) (lead_one f s) (home_in (rest_at H.homes T.home)) one_is ∙ ap (λ z. mapped_home (lead_one f s) (home_in (rest_at H.homes z))) (sym at)))))
+            ∙ (home_each (put_at s.object (with_fields d)) (lead_one f s) (home_in (rest_at H.rests T.home)) one_is ∙ ap (λ z. mapped_home (lead_one f s) (home_in (rest_at H.rests z))) (sym at)))))
         | inr ne ↦
-            ap home_in (rest_off H.homes T.home u (Some r') ne)
-            ∙ sym (home_stays (lead_one f s) (home_in (rest_at H.homes u)) (λ o i. elsewhere o (λ at. ne (at_source u good o i at).0)))
+            ap home_in (rest_off H.rests T.home u (Some r') ne)
+            ∙ sym (home_stays (lead_one f s) (home_in (rest_at H.rests u)) (λ o i. elsewhere o (λ at. ne (at_source u good o i at).0)))
       ]
 
-      there_now : (z : Source) → SourceThere H z Good → SourceThere (record H { homes = homes' }) z Good
+      there_now : (z : Source) → SourceThere H z Good → SourceThere (record H { rests = rests' }) z Good
       there_now z Z = elim (cases_eq Z.home T.home) [
         | inl at ↦
-            let same : Z.rest ≡ T.rest = same_Some Z.rest T.rest (sym Z.is ∙ (ap (rest_at H.homes) at ∙ T.is)) in
+            let same : Z.rest ≡ T.rest = same_Some Z.rest T.rest (sym Z.is ∙ (ap (rest_at H.rests) at ∙ T.is)) in
             record {
               home = Z.home;
               good = Z.good;
               owner = Z.owner;
               rest = r';
-              is = ap (rest_at homes') at ∙ rest_set H.homes T.home T.rest r' T.is;
+              is = ap (rest_at rests') at ∙ rest_set H.rests T.home T.rest r' T.is;
               birth = Z.birth;
               born = mark_kept z.object ∙ (ap (λ (q : Rest). (cell_of q.heap.chunks z.object).mark) (sym same) ∙ Z.born);
             }
-        | inr ne ↦ record { home = Z.home; good = Z.good; owner = Z.owner; rest = Z.rest; is = rest_off H.homes T.home Z.home (Some r') ne ∙ Z.is; birth = Z.birth; born = Z.born }
+        | inr ne ↦ record { home = Z.home; good = Z.good; owner = Z.owner; rest = Z.rest; is = rest_off H.rests T.home Z.home (Some r') ne ∙ Z.is; birth = Z.birth; born = Z.born }
       ]
 
-      changed : Stepped (record H { homes = homes' })
+      changed : Stepped (record H { rests = rests' })
       changed = record {
         pool = refl;
-        count = length-set H.homes T.home (Some r');
+        count = length-set H.rests T.home (Some r');
         formed = record { form = form_now; measured = measured_now; owned = owned_now };
         homes = homes_now;
         there = there_now;
       }
 
-      written_is : with_ref_in H s.object s.field x ≡ record H { homes = homes' }
-      written_is = ap (λ hs. record H { homes = hs }) (ap (λ o. with_ref_for H.homes o s.object s.field x) T.owner ∙ ap (λ o. with_ref_at H.homes T.home o s.object s.field x) T.is)
+      written_is : with_ref_in H s.object s.field x ≡ record H { rests = rests' }
+      written_is = ap (λ hs. record H { rests = hs }) (ap (λ o. with_ref_for H.rests o s.object s.field x) T.owner ∙ ap (λ o. with_ref_at H.rests T.home o s.object s.field x) T.is)
 
     pub step : Stepped (redirected refs_in with_ref_in ms H s)
-    step = by (held_by refs_in H s) refl (new_reference ms (held_by refs_in H s)) refl
+    step = by (target_of refs_in H s) refl (new_reference ms (target_of refs_in H s)) refl
       where
         none_led : (h o : Option Addr) → new_reference ms h ≡ o → o ≡ None → option_map f h ≡ h
         none_led None o e n = refl
@@ -303,23 +303,23 @@ module _ (ms : List (Addr × Addr)) where
             none_some q = absurd cc
         some_led (Some z) o b e n = ap (λ q. Some (unwrap_or q z)) (e ∙ n)
 
-        by : (h : Option Addr) → held_by refs_in H s ≡ h → (o : Option Addr) → new_reference ms (held_by refs_in H s) ≡ o → Stepped (written refs_in with_ref_in H s o)
-        by h eh None e = kept (none_led (held_by refs_in H s) (new_reference ms (held_by refs_in H s)) refl e)
+        by : (h : Option Addr) → target_of refs_in H s ≡ h → (o : Option Addr) → new_reference ms (target_of refs_in H s) ≡ o → Stepped (written refs_in with_ref_in H s o)
+        by h eh None e = kept (none_led (target_of refs_in H s) (new_reference ms (target_of refs_in H s)) refl e)
         by h eh (Some b) e =
-            let is : option_map f (held_by refs_in H s) ≡ Some b = some_led (held_by refs_in H s) (new_reference ms (held_by refs_in H s)) b refl e in
+            let is : option_map f (target_of refs_in H s) ≡ Some b = some_led (target_of refs_in H s) (new_reference ms (target_of refs_in H s)) b refl e in
             subst Stepped (sym (written_is (Some b) is)) (changed (Some b) is)
 
   -- ---- ALL SOURCES
 
   pub record Led (H : Resting) (Good : ℕ → Type 0) (ss : List Source) (H' : Resting) : Type 0 where
     pub pool : H'.pool ≡ H.pool
-    pub count : length H'.homes ≡ length H.homes
-    pub form : (u : ℕ) (r : Rest) → rest_at H'.homes u ≡ Some r → HeapForm r.heap
-    pub measured : (u : ℕ) (r : Rest) → Good u → rest_at H'.homes u ≡ Some r → AreMeasured H.pool u r.heap.chunks
-    pub homes : (u : ℕ) → Good u → home_in (rest_at H'.homes u) ≡ rewritten_home f ss (home_in (rest_at H.homes u))
+    pub count : length H'.rests ≡ length H.rests
+    pub form : (u : ℕ) (r : Rest) → rest_at H'.rests u ≡ Some r → HeapForm r.heap
+    pub measured : (u : ℕ) (r : Rest) → Good u → rest_at H'.rests u ≡ Some r → AreMeasured H.pool u r.heap.chunks
+    pub homes : (u : ℕ) → Good u → home_in (rest_at H'.rests u) ≡ rewritten_home f ss (home_in (rest_at H.rests u))
 
   pub lead_all : (ss : List Source) (H : Resting) (Good : ℕ → Type 0) → AreOnce ss → ((s : Source) → In ss s → SourceThere H s Good) → AreFormed H Good → Led H Good ss (fold (redirected refs_in with_ref_in ms) H ss)
-  lead_all [] H Good once there F = record { pool = refl; count = refl; form = F.form; measured = F.measured; homes = λ u good. sym (none_home f (home_in (rest_at H.homes u))) }
+  lead_all [] H Good once there F = record { pool = refl; count = refl; form = F.form; measured = F.measured; homes = λ u good. sym (none_home f (home_in (rest_at H.rests u))) }
   lead_all (s ∷ ss) H Good once there F =
       let T = step H Good F s (there s (inl refl)) in
       let R = lead_all ss (redirected refs_in with_ref_in ms H s) Good once.1 (λ x i. T.there x (there x (inr i))) T.formed in
@@ -328,5 +328,5 @@ module _ (ms : List (Addr × Addr)) where
         count = R.count ∙ T.count;
         form = R.form;
         measured = λ u r good e. subst (λ (z : PoolValue). AreMeasured z u r.heap.chunks) T.pool (R.measured u r good e);
-        homes = λ u good. R.homes u good ∙ (ap (rewritten_home f ss) (T.homes u good) ∙ home_together f s ss (home_in (rest_at H.homes u)) once.0);
+        homes = λ u good. R.homes u good ∙ (ap (rewritten_home f ss) (T.homes u good) ∙ home_together f s ss (home_in (rest_at H.rests u)) once.0);
       }

@@ -23,7 +23,7 @@ use Rattle.core_relation.specs.Stands.{Stands}
 use Rattle.core_relation.specs.Whole.{BegunBy, StandsFor, as_node}
 use Rattle.core_entry_laws.proofs.whole.Journals.{first, first_stands}
 use Rattle.task_homes.specs.declared.task_at_rest.Rest.{Rest}
-use Rattle.shared_value.specs.SharedValue.{SharedValue, rest_at, value_of, totals_of, first_rest}
+use Rattle.shared_value.specs.SharedValue.{SharedValue, rest_at, value_of, tree_counts_of, first_rest}
 use Rattle.shared_value.specs.Measured.{AreMeasured, RestsAreMeasured}
 use Rattle.shared_value.specs.Stands.{HeapForm, IsSharedValue}
 
@@ -37,7 +37,7 @@ first_world_of p s slots spare n set = record {
   settings = s;
   tree = root_node ∷ [];
   pool = record { limit = s.chunks; slots = [] };
-  homes = Some (first_rest p slots spare) ∷ [];
+  rests = Some (first_rest p slots spare) ∷ [];
   sets = set ∷ [];
   marks = None ∷ [];
   tasks_out = replicate s.workers None;
@@ -75,11 +75,11 @@ module _ (p : ProgramText) (s : SettingsValue) (lims : AreLimits s) (form : IsPr
   waits_none zero = refl
   waits_none (suc t) = refl
 
-  node_is : (t : ℕ) → (totals_of w).node t ≡ option_map (as_node (heap_of l t).worker) (slice_get l.machine.tasks t)
+  node_is : (t : ℕ) → (tree_counts_of w).node t ≡ option_map (as_node (heap_of l t).worker) (slice_get l.machine.tasks t)
   node_is zero = refl
   node_is (suc t) = refl
 
-  no_task_out : (k t : ℕ) → (totals_of w).task_out k ≡ Some t ↔ (heap_of l t).worker ≡ Some k
+  no_task_out : (k t : ℕ) → (tree_counts_of w).task_out k ≡ Some t ↔ (heap_of l t).worker ≡ Some k
   no_task_out k t = ((λ e. absurd (never_out s.workers k e)), worker_at t)
     where
       never_out : (n k : ℕ) → option_flatten (slice_get (replicate n None) k) ≡ Some t → ⊥
@@ -87,7 +87,7 @@ module _ (p : ProgramText) (s : SettingsValue) (lims : AreLimits s) (form : IsPr
       never_out (suc n) zero e = absurd cc
       never_out (suc n) (suc k) e = never_out n k e
 
-      worker_at : (t : ℕ) → (heap_of l t).worker ≡ Some k → (totals_of w).task_out k ≡ Some t
+      worker_at : (t : ℕ) → (heap_of l t).worker ≡ Some k → (tree_counts_of w).task_out k ≡ Some t
       worker_at zero e = absurd cc
       worker_at (suc t) e = absurd cc
 
@@ -95,10 +95,10 @@ module _ (p : ProgramText) (s : SettingsValue) (lims : AreLimits s) (form : IsPr
   begun_at zero r = refl
   begun_at (suc t) r = refl
 
-  stands : StandsFor (value_of w) (totals_of w) l
+  stands : StandsFor (value_of w) (tree_counts_of w) l
   stands = record {
     homes = subst (λ (v : Memory). Stands v l) value_is (first_stands p s);
-    totals = record { node = node_is; task_out = no_task_out; used = refl; steps = refl; outputs = refl; end = refl };
+    tree_counts = record { node = node_is; task_out = no_task_out; used = refl; steps = refl; outputs = refl; end = refl };
     begun = begun_at;
     keeps = λ t. keeps_are t ∙ sym (ap (λ b. b && not (heap_of l t).swept) (waits_none t));
     since = λ t h. absurd (false≢true (sym (keeps_are t) ∙ h));
@@ -118,11 +118,11 @@ module _ (p : ProgramText) (s : SettingsValue) (lims : AreLimits s) (form : IsPr
     spare = λ i lt. absurd (omega (arith, lt));
   }
 
-  heaps : (t : ℕ) (r : Rest) → rest_at w.homes t ≡ Some r → HeapForm r.heap
+  heaps : (t : ℕ) (r : Rest) → rest_at w.rests t ≡ Some r → HeapForm r.heap
   heaps zero r e = subst (λ (x : Rest). HeapForm x.heap) (same_Some (first_rest p slots spare) r e) form_first
   heaps (suc t) r e = absurd cc
 
-  measured : RestsAreMeasured w.pool w.homes w.tasks_out
+  measured : RestsAreMeasured w.pool w.rests w.tasks_out
   measured zero r e f = subst (λ (x : Rest). AreMeasured w.pool zero x.heap.chunks) (same_Some (first_rest p slots spare) r e) (λ k i. absurd i)
   measured (suc t) r e f = absurd cc
 
@@ -141,19 +141,19 @@ module _ (p : ProgramText) (s : SettingsValue) (lims : AreLimits s) (form : IsPr
   }
 
 -- the same of fields that are these
-pub first_by : (p p' : ProgramText) (s : SettingsValue) (tree : List Node) (pool : PoolValue) (homes : List (Option Rest)) (sets : List SetOf) (marks : List (Option MarkingValue)) (tasks_out : List (Option ℕ)) (outputs : List ℤ) (journal : RoomyValue EntryValue) (r : Rest) (set : SetOf)
-    → AreLimits s → IsProgram p → p' ≡ p → tree ≡ root_node ∷ [] → pool ≡ record { limit = s.chunks; slots = [] } → homes ≡ Some r ∷ [] → r ≡ first_rest p r.heap.slots r.heap.spare → sets ≡ set ∷ [] → content_of set ≡ record { sources = []; kept = []; keeps = false }
+pub first_by : (p p' : ProgramText) (s : SettingsValue) (tree : List Node) (pool : PoolValue) (rests : List (Option Rest)) (sets : List SetOf) (marks : List (Option MarkingValue)) (tasks_out : List (Option ℕ)) (outputs : List ℤ) (journal : RoomyValue EntryValue) (r : Rest) (set : SetOf)
+    → AreLimits s → IsProgram p → p' ≡ p → tree ≡ root_node ∷ [] → pool ≡ record { limit = s.chunks; slots = [] } → rests ≡ Some r ∷ [] → r ≡ first_rest p r.heap.slots r.heap.spare → sets ≡ set ∷ [] → content_of set ≡ record { sources = []; kept = []; keeps = false }
     → marks ≡ None ∷ [] → tasks_out ≡ replicate s.workers None → outputs ≡ [] → journal.items ≡ []
-    → IsSharedValue (record { program = p'; settings = s; tree = tree; pool = pool; homes = homes; sets = sets; marks = marks; tasks_out = tasks_out; outputs = outputs; journal = journal; steps = 0; end = None; halted = false })
-first_by p p' s tree pool homes sets marks tasks_out outputs journal r set lims form ep et eo eh er es empty em ea eu ej =
-    let eh' : homes ≡ Some (first_rest p r.heap.slots r.heap.spare) ∷ [] = eh ∙ ap (λ x. Some x ∷ []) er in
+    → IsSharedValue (record { program = p'; settings = s; tree = tree; pool = pool; rests = rests; sets = sets; marks = marks; tasks_out = tasks_out; outputs = outputs; journal = journal; steps = 0; end = None; halted = false })
+first_by p p' s tree pool rests sets marks tasks_out outputs journal r set lims form ep et eo eh er es empty em ea eu ej =
+    let eh' : rests ≡ Some (first_rest p r.heap.slots r.heap.spare) ∷ [] = eh ∙ ap (λ x. Some x ∷ []) er in
     let ej' : journal ≡ record { items = []; room = journal.room } = ap (λ x. record { items = x; room = journal.room }) ej in
     let W : SharedValue = first_world_of p s r.heap.slots r.heap.spare journal.room set in
     subst IsSharedValue (sym (
-    ap (λ x. record W { program = x; tree = tree; pool = pool; homes = homes; sets = sets; marks = marks; tasks_out = tasks_out; outputs = outputs; journal = journal }) ep
-    ∙ (ap (λ x. record W { tree = x; pool = pool; homes = homes; sets = sets; marks = marks; tasks_out = tasks_out; outputs = outputs; journal = journal }) et
-    ∙ (ap (λ x. record W { pool = x; homes = homes; sets = sets; marks = marks; tasks_out = tasks_out; outputs = outputs; journal = journal }) eo
-    ∙ (ap (λ x. record W { homes = x; sets = sets; marks = marks; tasks_out = tasks_out; outputs = outputs; journal = journal }) eh'
+    ap (λ x. record W { program = x; tree = tree; pool = pool; rests = rests; sets = sets; marks = marks; tasks_out = tasks_out; outputs = outputs; journal = journal }) ep
+    ∙ (ap (λ x. record W { tree = x; pool = pool; rests = rests; sets = sets; marks = marks; tasks_out = tasks_out; outputs = outputs; journal = journal }) et
+    ∙ (ap (λ x. record W { pool = x; rests = rests; sets = sets; marks = marks; tasks_out = tasks_out; outputs = outputs; journal = journal }) eo
+    ∙ (ap (λ x. record W { rests = x; sets = sets; marks = marks; tasks_out = tasks_out; outputs = outputs; journal = journal }) eh'
     ∙ (ap (λ x. record W { sets = x; marks = marks; tasks_out = tasks_out; outputs = outputs; journal = journal }) es
     ∙ (ap (λ x. record W { marks = x; tasks_out = tasks_out; outputs = outputs; journal = journal }) em
     ∙ (ap (λ x. record W { tasks_out = x; outputs = outputs; journal = journal }) ea

@@ -6,7 +6,7 @@ use Rattle.listed.proofs.Places.{in_map}
 use Rattle.hh_model.specs.declared.data.Name.{Name}
 use Rattle.hh_model.specs.declared.data.State.{State}
 use Rattle.hh_model.specs.Effect.{object_at}
-use Rattle.run_ledger.specs.declared.data.Heap.{Heap as Account}
+use Rattle.run_ledger.specs.declared.data.Heap.{Heap}
 use Rattle.run_ledger.specs.declared.data.Ledger.{Ledger}
 use Rattle.run_ledger.specs.Heaps.{heap_of, let_go, small_in, take_of, words_of, words_sum}
 use Rattle.run_ledger.specs.Entries.{is_pool_enough}
@@ -83,7 +83,7 @@ module _ (w : SharedValue) (k : ℕ) (p : Private) (I : IsSharedValue w) (F : Fi
 
   chunks_are : (heap_of l t).chunks ≡ small_lists p.heap.chunks
   chunks_are =
-      sym (rested_view (λ (z : Account). z.chunks) (λ z. refl) (aside l) t)
+      sym (rested_view (λ (z : Heap). z.chunks) (λ z. refl) (aside l) t)
       ∙ (sym H.names.small ∙ (ap (λ (z : Home). map names_of (small_chunks z.chunks)) here ∙ small_names p.heap.chunks))
 
   laid : AreLaidOut h.chunks (heap_of L t).reserved

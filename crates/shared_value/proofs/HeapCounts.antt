@@ -2,7 +2,7 @@
 use Rattle.std.proofs.Common.{◌≡◌, ℕ, zero, suc, ◌+◌, ◌*◌, ◌/◌, ◌<◌, ◌^◌, ◌==◌, ◌&&◌, ◌++◌, not, arith, Bool, true, false, cond, Option, Some, None, List, [], ◌∷◌, length, map, inl, inr, refl, ap, ap₂, sym, subst, ◌∙◌, ne_eqb}
 use Rattle.std.proofs.lemmas.Bool.{cond-true, false≢true}
 use Rattle.hh_model.specs.declared.data.Name.{Name}
-use Rattle.run_ledger.specs.declared.data.Heap.{Heap as Account}
+use Rattle.run_ledger.specs.declared.data.Heap.{Heap}
 use Rattle.object_layout.specs.Cell.{Born, Cell, Hole, Mark, Moved, size_of}
 use Rattle.object_layout.specs.Chunks.{chunk_at}
 use Rattle.object_layout.specs.ChunkValue.{ChunkValue}
@@ -115,7 +115,7 @@ module _ (h : LeafHeapValue) (F : HeapForm h) (units : ℕ) (laid : map (λ (c :
   are_reserved (Some i) e = some_reserved i e
 
 -- THE HEAP IS COUNTED
-pub counted_from : (h : LeafHeapValue) (l : Account) → HeapForm h → HasNames (chunks_of h.chunks) l → room_of h ≡ l.room → h.since ≡ l.since → map (λ (c : Chunk). c.units) (reserved_chunks (chunks_of h.chunks)) ≡ reserved_units l.reserved → IsCounted h l
+pub counted_from : (h : LeafHeapValue) (l : Heap) → HeapForm h → HasNames (chunks_of h.chunks) l → room_of h ≡ l.room → h.since ≡ l.since → map (λ (c : Chunk). c.units) (reserved_chunks (chunks_of h.chunks)) ≡ reserved_units l.reserved → IsCounted h l
 counted_from h l F N room since laid = record {
   chunks = sym (small_names h.chunks) ∙ N.small;
   large = sym (large_are h.chunks) ∙ N.large;

@@ -7,7 +7,7 @@ use Rattle.hh_model.specs.declared.data.State.{State}
 use Rattle.run_ledger.specs.declared.data.Ledger.{Ledger}
 use Rattle.run_ledger.specs.Heaps.{heap_of, small_in, words_at, words_in, words_of, words_sum}
 use Rattle.object_layout.specs.Cell.{Born, Cell, Hole, Mark, Moved, moved_to, size_of}
-use Rattle.object_layout.specs.Chunks.{held_in, held_size, held_words}
+use Rattle.object_layout.specs.Chunks.{object_words_in, held_size, held_words}
 use Rattle.object_layout.specs.ChunkValue.{ChunkValue}
 use Rattle.object_layout.specs.Objects.{Located, located, located_by, objects_from}
 use Rattle.object_layout.proofs.ObjectLemmas.{behind}
@@ -24,14 +24,14 @@ use Rattle.shared_value.proofs.FreeChunks.{refs_long}
 use Rattle.shared_value.proofs.SmallWords.{SameWords}
 
 module _ (m : State) where
-  cells : (cs : List Cell) (number base : ℕ) → All (λ c. moved_to c.mark ≡ None) cs → ((o : Located) → In (objects_from number base cs) o → SameWords m o) → words_sum m (names_in cs) ≡ held_in cs
+  cells : (cs : List Cell) (number base : ℕ) → All (λ c. moved_to c.mark ≡ None) cs → ((o : Located) → In (objects_from number base cs) o → SameWords m o) → words_sum m (names_in cs) ≡ object_words_in cs
   cells [] number base tidy same = refl
   cells (c ∷ cs) number base tidy same =
       by c.mark refl same (tidy 0 c (omega arith))
       (cells cs number (base + size_of c) (λ i d lt. tidy (suc i) d (omega (arith, lt))) (λ o i. same o (behind number base c c.mark (objects_from number (base + size_of c) cs) o i)))
     where
-      by : (k : Mark) → c.mark ≡ k → ((o : Located) → In (located_by number base c k (objects_from number (base + size_of c) cs)) o → SameWords m o) → moved_to k ≡ None → words_sum m (names_in cs) ≡ held_in cs
-          → words_sum m (named_by k (names_in cs)) ≡ held_size k (size_of c) + held_in cs
+      by : (k : Mark) → c.mark ≡ k → ((o : Located) → In (located_by number base c k (objects_from number (base + size_of c) cs)) o → SameWords m o) → moved_to k ≡ None → words_sum m (names_in cs) ≡ object_words_in cs
+          → words_sum m (named_by k (names_in cs)) ≡ held_size k (size_of c) + object_words_in cs
       by (Born b) e same t go =
           let own : words_at m (name_of b) ≡ size_of c = same (located number base b c) (inl refl) ∙ omega arith in
           sum_by-cons (words_at m) (name_of b) (names_in cs) ∙ ap₂ (λ x y. x + y) own go
@@ -47,8 +47,8 @@ module _ (m : State) where
       (cells k.cells k.number 0 (tidy 0 k (omega arith)).unmoved (λ o i. same k o (inl refl) i))
       (all_counted ks (λ i d lt. tidy (suc i) d (omega (arith, lt))) (λ c o i. same c o (inr i)))
     where
-      by : (b : Bool) → words_sum m (names_in k.cells) ≡ held_in k.cells → words_sum m (flat_map (λ ns. ns) (small_lists ks)) + words_sum m (large_names ks) ≡ held_words ks
-          → words_sum m (flat_map (λ ns. ns) (cond b (names_in k.cells ∷ small_lists ks) (small_lists ks))) + words_sum m (cond b (large_names ks) (names_in k.cells ++ large_names ks)) ≡ held_in k.cells + held_words ks
+      by : (b : Bool) → words_sum m (names_in k.cells) ≡ object_words_in k.cells → words_sum m (flat_map (λ ns. ns) (small_lists ks)) + words_sum m (large_names ks) ≡ held_words ks
+          → words_sum m (flat_map (λ ns. ns) (cond b (names_in k.cells ∷ small_lists ks) (small_lists ks))) + words_sum m (cond b (large_names ks) (names_in k.cells ++ large_names ks)) ≡ object_words_in k.cells + held_words ks
       by true own go =
           let both : words_sum m (names_in k.cells ++ flat_map (λ ns. ns) (small_lists ks)) ≡ words_sum m (names_in k.cells) + words_sum m (flat_map (λ ns. ns) (small_lists ks)) = sum_by-append (words_at m) (names_in k.cells) (flat_map (λ ns. ns) (small_lists ks)) in
           omega (arith, both, own, go)

@@ -23,7 +23,7 @@ use Rattle.core_relation.specs.Begins.{IsReachedAt}
 use Rattle.core_relation.specs.Copies.{PartFits}
 use Rattle.core_relation.specs.Fits.{FitsAt, Part, ahead, with_home}
 use Rattle.core_relation.specs.Since.{NotedAt}
-use Rattle.core_relation.specs.Whole.{BegunBy, StandsFor, Totals}
+use Rattle.core_relation.specs.Whole.{BegunBy, StandsFor, TreeCounts}
 use Rattle.core_relation.specs.Worker.{Fits as FitsValue}
 use Rattle.core_relation.proofs.changes.Alone.{home_kept}
 use Rattle.core_relation.proofs.objects.Carry.{object_kept, task_kept}
@@ -77,18 +77,18 @@ module _ (v : Memory) (hs : ℕ → Home) (l : Ledger) (same : (u : ℕ) → Res
 
   -- who waits is held by nobody
   module _ (waits : (u : ℕ) → is_waiting (slice_get l.machine.tasks u) ≡ true → Rests l u) where
-    noted : (c : Totals) → StandsFor v c l → (t : ℕ) → Rests l t → NotedAt v' l t
+    noted : (c : TreeCounts) → StandsFor v c l → (t : ℕ) → Rests l t → NotedAt v' l t
     noted c S t r =
         notes_stay v v' l l t (record { keeps = refl; kept = refl; waits = refl; swept = refl; snapshot = refl; none_new = λ k e. e; frames = ap (λ (h : Home). h.frames) (same t r); rooted = λ b y. root_same v v' l l t (λ s i. i) (λ k e. e) b y y.rests (ap (λ (h : Home). objects_in h.chunks) (same y.home y.rests)) }) refl refl
         (same_whole v v' t (ap (λ (h : Home). objects_in h.chunks) (same t r)) (ap (λ (h : Home). length h.chunks) (same t r))) (record { keeps = S.keeps t; since = S.since t; marks = S.marks t })
 
-    rest : (c : Totals) → StandsFor v c l → (t : ℕ) → (v.noted t).keeps ≡ true → Rests l t
+    rest : (c : TreeCounts) → StandsFor v c l → (t : ℕ) → (v.noted t).keeps ≡ true → Rests l t
     rest c S t e = waits t (and_parts (is_waiting (slice_get l.machine.tasks t)) (not (heap_of l t).swept) (sym (S.keeps t) ∙ e)).0
 
-    pub stands_for_held : (c : Totals) → StandsFor v c l → StandsFor v' c l
+    pub stands_for_held : (c : TreeCounts) → StandsFor v c l → StandsFor v' c l
     stands_for_held c S = record {
       homes = stands_held S.homes;
-      totals = S.totals;
+      tree_counts = S.tree_counts;
       begun = λ t r. begun_held t r (hs t).begun (subst (λ (h : Home). BegunBy v l t h.begun) (sym (same t r)) (S.begun t r));
       keeps = S.keeps;
       since = λ t e. (noted c S t (rest c S t e)).since e;

@@ -28,12 +28,12 @@ journal_by j j' x e q is = is ∙ ap (λ y. record { items = j.items ++ y ∷ []
 
 -- the shared value with four of its fields changed
 pub four_changed : (w : SharedValue) (n n' : List Node) (h h' : List (Option Rest)) (a a' : List (Option ℕ)) (j j' : RoomyValue EntryValue) → n' ≡ n → h' ≡ h → a' ≡ a → j' ≡ j
-    → record w { tree = n'; homes = h'; tasks_out = a'; journal = j' } ≡ record w { tree = n; homes = h; tasks_out = a; journal = j }
+    → record w { tree = n'; rests = h'; tasks_out = a'; journal = j' } ≡ record w { tree = n; rests = h; tasks_out = a; journal = j }
 four_changed w n n' h h' a a' j j' en eh ea ej =
-    ap (λ x. record w { tree = x; homes = h'; tasks_out = a'; journal = j' }) en
-    ∙ (ap (λ x. record w { tree = n; homes = x; tasks_out = a'; journal = j' }) eh
-    ∙ (ap (λ x. record w { tree = n; homes = h; tasks_out = x; journal = j' }) ea
-    ∙ ap (λ x. record w { tree = n; homes = h; tasks_out = a; journal = x }) ej))
+    ap (λ x. record w { tree = x; rests = h'; tasks_out = a'; journal = j' }) en
+    ∙ (ap (λ x. record w { tree = n; rests = x; tasks_out = a'; journal = j' }) eh
+    ∙ (ap (λ x. record w { tree = n; rests = h; tasks_out = x; journal = j' }) ea
+    ∙ ap (λ x. record w { tree = n; rests = h; tasks_out = a; journal = x }) ej))
 
 -- room alone
 pub room_world : (w : SharedValue) (j : RoomyValue EntryValue) → j.items ≡ w.journal.items → IsSharedValue w → IsSharedValue (record w { journal = j })

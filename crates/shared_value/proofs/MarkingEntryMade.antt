@@ -14,7 +14,7 @@ use Rattle.core_relation.specs.Whole.{StandsForAll}
 use Rattle.core_relation.specs.Worker.{Fits as FitsValue}
 use Rattle.task_machine.specs.declared.part.Private.{Private}
 use Rattle.task_homes.specs.declared.task_at_rest.Rest.{Rest}
-use Rattle.shared_value.specs.SharedValue.{SharedValue, accounts, rest_at, totals_of, value_of}
+use Rattle.shared_value.specs.SharedValue.{SharedValue, accounts, rest_at, tree_counts_of, value_of}
 use Rattle.shared_value.specs.Measured.{IsMeasured, RestsAreMeasured}
 use Rattle.shared_value.specs.Stands.{HeapForm, IsSharedValue}
 use Rattle.shared_value.specs.Fits.{Fits, part_of}
@@ -25,17 +25,17 @@ use Rattle.shared_value.proofs.BeforeTheEnd.{stands_now}
 
 -- the value with other fields, marks among them, and one entry more
 abbrev pub entered_marks : SharedValue → EntryValue → List Node → PoolValue → List (Option Rest) → List SetOf → List (Option ℕ) → List ℤ → ℕ → Option RunEnd → ℕ → List (Option MarkingValue) → SharedValue
-entered_marks w e tree pool homes sets tasks_out outputs steps end room marks = record (entered w e tree pool homes sets tasks_out outputs steps end room) { marks = marks }
+entered_marks w e tree pool rests sets tasks_out outputs steps end room marks = record (entered w e tree pool rests sets tasks_out outputs steps end room) { marks = marks }
 
-module _ (w : SharedValue) (e : EntryValue) (I : IsSharedValue w) (free : refused w e ≡ None) (tree : List Node) (pool : PoolValue) (homes : List (Option Rest)) (sets : List SetOf) (tasks_out : List (Option ℕ)) (outputs : List ℤ) (steps : ℕ) (end : Option RunEnd) (room : ℕ) (marks : List (Option MarkingValue)) where
+module _ (w : SharedValue) (e : EntryValue) (I : IsSharedValue w) (free : refused w e ≡ None) (tree : List Node) (pool : PoolValue) (rests : List (Option Rest)) (sets : List SetOf) (tasks_out : List (Option ℕ)) (outputs : List ℤ) (steps : ℕ) (end : Option RunEnd) (room : ℕ) (marks : List (Option MarkingValue)) where
   abbrev w' : SharedValue
-  w' = entered_marks w e tree pool homes sets tasks_out outputs steps end room marks
+  w' = entered_marks w e tree pool rests sets tasks_out outputs steps end room marks
 
   pub marked_accounts : accounts w' ≡ after w.program w.settings (accounts w) e
   marked_accounts = accounts_then w.program w.settings w.journal.items e
 
-  pub marked_world : length homes ≡ length tree → length sets ≡ length tree → length tasks_out ≡ length w.tasks_out → pool.limit ≡ w.pool.limit
-      → StandsForAll (value_of w') (totals_of w') (after w.program w.settings (accounts w) e) → ((t : ℕ) (r : Rest) → rest_at homes t ≡ Some r → HeapForm r.heap) → RestsAreMeasured pool homes tasks_out → IsSharedValue w'
+  pub marked_world : length rests ≡ length tree → length sets ≡ length tree → length tasks_out ≡ length w.tasks_out → pool.limit ≡ w.pool.limit
+      → StandsForAll (value_of w') (tree_counts_of w') (after w.program w.settings (accounts w) e) → ((t : ℕ) (r : Rest) → rest_at rests t ≡ Some r → HeapForm r.heap) → RestsAreMeasured pool rests tasks_out → IsSharedValue w'
   marked_world made noted workers limit stands heaps measured = record {
     limits = I.limits;
     form = I.form;
@@ -44,14 +44,14 @@ module _ (w : SharedValue) (e : EntryValue) (I : IsSharedValue w) (free : refuse
     noted = noted;
     workers = workers ∙ I.workers;
     limit = limit ∙ I.limit;
-    stands = subst (λ (z : Ledger). StandsForAll (value_of w') (totals_of w') z) (sym marked_accounts) stands;
+    stands = subst (λ (z : Ledger). StandsForAll (value_of w') (tree_counts_of w') z) (sym marked_accounts) stands;
     heaps = heaps;
     measured = measured;
   }
 
   module _ (I' : IsSharedValue w') where
     marked_held : (u t : ℕ) → option_flatten (slice_get tasks_out u) ≡ option_flatten (slice_get w.tasks_out u) → (heap_of (accounts w) t).worker ≡ Some u → (heap_of (accounts w') t).worker ≡ Some u
-    marked_held u t same held = held_by_end (accounts w') (accounts w').end t u ((I'.stands.totals.task_out u t).0 (same ∙ ((stands_now w I (entry_on w e free)).totals.task_out u t).1 held))
+    marked_held u t same held = held_by_end (accounts w') (accounts w').end t u ((I'.stands.tree_counts.task_out u t).0 (same ∙ ((stands_now w I (entry_on w e free)).tree_counts.task_out u t).1 held))
 
     -- a part of a worker that goes on fits where its home does
     pub marked_fits : (u : ℕ) (p q : Private) → option_flatten (slice_get tasks_out u) ≡ option_flatten (slice_get w.tasks_out u) → Fits w u p → q.task ≡ p.task → q.leaf_limit ≡ p.leaf_limit → q.field_limit ≡ p.field_limit → HeapForm q.heap → IsMeasured pool q

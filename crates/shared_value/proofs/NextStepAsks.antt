@@ -6,12 +6,12 @@ use Rattle.hh_lang.specs.declared.instr.Instr.{Instr}
 use Rattle.hh_lang.specs.declared.instr.Instr.TheVariants.{Newm, Pack}
 use Rattle.hh_lang.specs.declared.program.Line.{Line}
 use Rattle.hh_lang.specs.Form.{ProgramText}
-use Rattle.hh_model.specs.declared.data.Frame.{Frame as Framed}
+use Rattle.hh_model.specs.declared.data.Frame.{Frame as ModelFrame}
 use Rattle.hh_model.specs.declared.data.State.{State}
 use Rattle.hh_model.specs.Effect.{counts_in}
 use Rattle.hh_model.specs.Names.{words_asked, words_for}
 use Rattle.hh_model.specs.Step.{asked, asked_by, asked_line, fetched, is_running}
-use Rattle.run_ledger.specs.declared.data.Heap.{Heap as Account}
+use Rattle.run_ledger.specs.declared.data.Heap.{Heap}
 use Rattle.run_ledger.specs.declared.data.Ledger.{Ledger}
 use Rattle.run_ledger.specs.Heaps.{heap_of, or_fresh}
 use Rattle.run_ledger.specs.Steps.{task_steps}
@@ -39,12 +39,12 @@ use Rattle.shared_value.proofs.StepsEntered.{counted_now}
 
 -- ---- THE WORDS THAT THE NEXT STEP ALLOCATES
 
-instr_same : (place : Places) (limit : ℕ) (f : Framed) (g : Frame) → FrameStands place f g → (i : Instr) → words_asked limit f i ≡ instr_asks limit g i
+instr_same : (place : Places) (limit : ℕ) (f : ModelFrame) (g : Frame) → FrameStands place f g → (i : Instr) → words_asked limit f i ≡ instr_asks limit g i
 instr_same place limit f g S (Newm d a b) = ap₂ (λ x y. words_for (counts_in limit x y)) (sym (int_same place f g a S)) (sym (int_same place f g b S))
 instr_same place limit f g S (Pack d r i) = refl
 instr_same place limit f g S _ = refl
 
-line_same : (place : Places) (limit : ℕ) (f : Framed) (g : Frame) → FrameStands place f g → (o : Option Line) → asked_line limit f o ≡ line_asks limit g o
+line_same : (place : Places) (limit : ℕ) (f : ModelFrame) (g : Frame) → FrameStands place f g → (o : Option Line) → asked_line limit f o ≡ line_asks limit g o
 line_same place limit f g S None = refl
 line_same place limit f g S (Some line) = instr_same place limit f g S line.instr
 
@@ -67,7 +67,7 @@ asks_two limit f (Some line) w e = instr_two limit f line.instr w e
 
 -- ---- A PART THAT FITS, before the run's end
 
-some_account : (o : Option Account) (k : ℕ) → (or_fresh o).worker ≡ Some k → (h : Account) × (o ≡ Some h)
+some_account : (o : Option Heap) (k : ℕ) → (or_fresh o).worker ≡ Some k → (h : Heap) × (o ≡ Some h)
 some_account None k e = absurd cc
 some_account (Some h) k e = (h, refl)
 
@@ -97,28 +97,28 @@ module _ (w : SharedValue) (k : ℕ) (p : Private) (I : IsSharedValue w) (F : Fi
       ∙ asked_same w.program p L.machine _ (link.first_fits w k p I F on)
 
   pub since_is : p.heap.since ≡ (heap_of M t).since
-  since_is = ap (λ (z : Home). z.since) (sym here) ∙ (home_is.since ∙ rested_view (λ (z : Account). z.since) (λ z. refl) M t)
+  since_is = ap (λ (z : Home). z.since) (sym here) ∙ (home_is.since ∙ rested_view (λ (z : Heap). z.since) (λ z. refl) M t)
 
   pub room_is : room_of p.heap ≡ (heap_of M t).room
-  room_is = ap (λ (z : Home). z.room) (sym here) ∙ (home_is.room ∙ rested_view (λ (z : Account). z.room) (λ z. refl) M t)
+  room_is = ap (λ (z : Home). z.room) (sym here) ∙ (home_is.room ∙ rested_view (λ (z : Heap). z.room) (λ z. refl) M t)
 
   C : IsCounted p.heap (heap_of L t)
   C = counted_now w k p I F on
 
   pub counted_is : IsCounted p.heap (heap_of M t)
   counted_is = record {
-    chunks = C.chunks ∙ rested_view (λ (z : Account). z.chunks) (λ z. refl) M t;
-    large = C.large ∙ rested_view (λ (z : Account). z.large) (λ z. refl) M t;
+    chunks = C.chunks ∙ rested_view (λ (z : Heap). z.chunks) (λ z. refl) M t;
+    large = C.large ∙ rested_view (λ (z : Heap). z.large) (λ z. refl) M t;
     last = C.last;
     last_large = C.last_large;
-    room = C.room ∙ rested_view (λ (z : Account). z.room) (λ z. refl) M t;
-    since = C.since ∙ ap counted (rested_view (λ (z : Account). z.since) (λ z. refl) M t);
-    reserved = subst (AreReserved p.heap.chunks p.heap.reserved) (rested_view (λ (z : Account). z.reserved) (λ z. refl) M t) C.reserved;
+    room = C.room ∙ rested_view (λ (z : Heap). z.room) (λ z. refl) M t;
+    since = C.since ∙ ap counted (rested_view (λ (z : Heap). z.since) (λ z. refl) M t);
+    reserved = subst (AreReserved p.heap.chunks p.heap.reserved) (rested_view (λ (z : Heap). z.reserved) (λ z. refl) M t) C.reserved;
   }
 
   -- the worker holds the task, which has an account
   pub held_is : (heap_of M t).worker ≡ Some k
   held_is = link.worker_then w k p I F on
 
-  pub account_is : (z : Account) × (slice_get M.heaps t ≡ Some z)
+  pub account_is : (z : Heap) × (slice_get M.heaps t ≡ Some z)
   account_is = some_account (slice_get M.heaps t) k held_is

@@ -29,7 +29,7 @@ use Rattle.core_entry_laws.proofs.whole.EntriesWhole.{quiet_stands_for}
 use Rattle.core_entry_laws.proofs.parts.WorkersPast.{quiet_leaves}
 use Rattle.task_machine.specs.declared.part.Begun.{Begun}
 use Rattle.task_machine.specs.declared.part.Private.{Private}
-use Rattle.shared_value.specs.SharedValue.{SharedValue, accounts, totals_of, value_of}
+use Rattle.shared_value.specs.SharedValue.{SharedValue, accounts, tree_counts_of, value_of}
 use Rattle.shared_value.specs.Measured.{IsMeasured, KeepsUnits}
 use Rattle.shared_value.specs.Stands.{HeapForm, IsSharedValue}
 use Rattle.shared_value.specs.Fits.{AllFit, Fits, home_of_part, part_of}
@@ -47,7 +47,7 @@ module _ (w : SharedValue) (e : EntryValue) (I : IsSharedValue w) (free : refuse
   L = after w.program w.settings l e
 
   abbrev pub w' : SharedValue
-  w' = entered w e w.tree pool w.homes w.sets w.tasks_out w.outputs w.steps end room
+  w' = entered w e w.tree pool w.rests w.sets w.tasks_out w.outputs w.steps end room
 
   abbrev pub v : Memory
   v = value_of w
@@ -55,16 +55,16 @@ module _ (w : SharedValue) (e : EntryValue) (I : IsSharedValue w) (free : refuse
   abbrev pub v' : Memory
   v' = value_of w'
 
-  module _ (same : SameObjects v v' l L) (notes : (u : ℕ) → NotesStay v v' u) (counts : CountsGo w.program w.settings l (totals_of w) (totals_of w') e.worker e.kind) (limit : pool.limit ≡ w.pool.limit) (keeps : (t : ℕ) → KeepsUnits w.pool pool t) where
+  module _ (same : SameObjects v v' l L) (notes : (u : ℕ) → NotesStay v v' u) (counts : CountsGo w.program w.settings l (tree_counts_of w) (tree_counts_of w') e.worker e.kind) (limit : pool.limit ≡ w.pool.limit) (keeps : (t : ℕ) → KeepsUnits w.pool pool t) where
     pub quiet_world : IsSharedValue w'
     quiet_world =
-        entered_world w e I free w.tree pool w.homes w.sets w.tasks_out w.outputs w.steps end room I.made I.noted refl limit
-        (quiet_stands_for w.program w.settings w.journal.items I.form I.legal v v' (totals_of w) (totals_of w') e free quiet I.stands same (λ u n. notes u) (λ u m. absurd (unmarked u m)) counts)
+        entered_world w e I free w.tree pool w.rests w.sets w.tasks_out w.outputs w.steps end room I.made I.noted refl limit
+        (quiet_stands_for w.program w.settings w.journal.items I.form I.legal v v' (tree_counts_of w) (tree_counts_of w') e free quiet I.stands same (λ u n. notes u) (λ u m. absurd (unmarked u m)) counts)
         I.heaps (λ t r i f. measured_kept w.pool pool t r.heap.chunks (keeps t) (I.measured t r i f))
 
     pub quiet_others : (u : ℕ) (q : Private) → (IsBy e.kind q.task → ⊥) → Fits w u q → Fits w' u q
     quiet_others u q ne F =
-        part_fits w e I free w.tree pool w.homes w.sets w.tasks_out w.outputs w.steps end room quiet_world u q q refl F refl refl refl F.form (part_kept w.pool pool q (keeps q.task) F.measured)
+        part_fits w e I free w.tree pool w.rests w.sets w.tasks_out w.outputs w.steps end room quiet_world u q q refl F refl refl refl F.form (part_kept w.pool pool q (keeps q.task) F.measured)
         (quiet_leaves w.program w.settings w.journal.items I.legal v v' e free quiet same (part_of w.settings q) ne F.fits)
 
     -- the part of the worker that enters it, without fresh steps, with another heap, and amid the collection b
@@ -78,7 +78,7 @@ module _ (w : SharedValue) (e : EntryValue) (I : IsSharedValue w) (free : refuse
       pub quiet_own : HeapForm g → IsMeasured pool Q → SameObjects (with_home v p.task (home_of_part P)) (with_home v' p.task (home_of_part Q)) (rested l p.task) (rested L p.task) → BegunBy (with_home v' p.task (home_of_part Q)) (rested L p.task) p.task b
           → Fits w' k Q
       quiet_own form measured part begun =
-          part_fits w e I free w.tree pool w.homes w.sets w.tasks_out w.outputs w.steps end room quiet_world k P Q refl F refl refl refl form measured
+          part_fits w e I free w.tree pool w.rests w.sets w.tasks_out w.outputs w.steps end room quiet_world k P Q refl F refl refl refl form measured
           (quiet_fits_then w.program w.settings w.journal.items I.legal v v' e p.task (home_of_part P) (home_of_part Q) free quiet F.fits part begun)
 
 -- where the machine and the accounts of heaps stay, the value may
@@ -105,12 +105,12 @@ module _ (w : SharedValue) (k : ℕ) (I : IsSharedValue w) (free : refused w (re
   e = record { worker = k; kind = Fuel }
 
   abbrev fueled : SharedValue
-  fueled = entered w e w.tree w.pool w.homes w.sets w.tasks_out w.outputs w.steps (Some (FuelEnd w.steps)) room
+  fueled = entered w e w.tree w.pool w.rests w.sets w.tasks_out w.outputs w.steps (Some (FuelEnd w.steps)) room
 
   same : SameObjects (value_of w) (value_of w) (accounts w) (after w.program w.settings (accounts w) e)
   same = same_value (value_of w) (accounts w) (after w.program w.settings (accounts w) e) refl (λ u. refl) (stands_now w I (entry_on w e free)).homes.homes
 
-  counts : CountsGo w.program w.settings (accounts w) (totals_of w) (totals_of fueled) k Fuel
+  counts : CountsGo w.program w.settings (accounts w) (tree_counts_of w) (tree_counts_of fueled) k Fuel
   counts = (record { node = λ u. refl; task_out = λ u. refl; steps = refl; outputs = refl }, refl, refl)
 
   notes : (u : ℕ) → NotesStay (value_of w) (value_of w) u

@@ -4,7 +4,7 @@ use Rattle.std.specs.Prelude.{option_map}
 use Rattle.std.proofs.lemmas.Bool.{cases_eq, cond-true, cond-false, eqb-true, ltb-true, false≢true, both_ways}
 use Rattle.std.proofs.lemmas.Option.{same_Some}
 use Rattle.listed.proofs.Places.{in_got, in_map}
-use Rattle.hh_model.specs.declared.data.Frame.{Frame as Framed}
+use Rattle.hh_model.specs.declared.data.Frame.{Frame as ModelFrame}
 use Rattle.hh_model.specs.declared.data.Name.{Name}
 use Rattle.hh_model.specs.declared.data.Object.{Object}
 use Rattle.hh_model.specs.declared.data.Status.TheVariants.{Running}
@@ -136,10 +136,10 @@ module _ (place : Name → Option Addr) where
   are_at (r ∷ rs) [] h = h
   are_at (r ∷ rs) (x ∷ xs) h = (is_at r x h.0, are_at rs xs h.1)
 
-  frame_stands : (f : Frame) (x : Framed) → FrameIsRead At f x → FrameStands place x f
+  frame_stands : (f : Frame) (x : ModelFrame) → FrameIsRead At f x → FrameStands place x f
   frame_stands f x h = record { function = h.function; next = h.next; ints = h.ints; refs = are_at f.refs x.refs h.refs }
 
-  frames_stand : (fs : List Frame) (xs : List Framed) → FramesAreRead At fs xs → FramesStand place xs fs
+  frames_stand : (fs : List Frame) (xs : List ModelFrame) → FramesAreRead At fs xs → FramesStand place xs fs
   frames_stand [] [] h = tt
   frames_stand [] (x ∷ xs) h = h
   frames_stand (f ∷ fs) [] h = h
@@ -392,7 +392,7 @@ module _ (w : SharedValue) (k : ℕ) (p : Private) (I : IsSharedValue w) (F : Fi
     | inr ne ↦
         let x = above_tells n a (sym (place_off n ne) ∙ e) in
         let f = found_is (objects v (own l n)) n a x.2 in
-        subst (λ (z : Addr). z.offset < 1024) f.at (rest_near (rest_at w.homes (own l n)) (λ r e. I.heaps (own l n) r e) f.object f.there)
+        subst (λ (z : Addr). z.offset < 1024) f.at (rest_near (rest_at w.rests (own l n)) (λ r e. I.heaps (own l n) r e) f.object f.there)
   ]
 
   heap : HeapStands place (owner_of L.machine.tasks) t L.machine.store p.heap.chunks above

@@ -12,7 +12,7 @@ use Rattle.object_layout.specs.Place.{words_in}
 use Rattle.object_layout.specs.Objects.{located, located_by, objects_from}
 use Rattle.object_layout.proofs.ObjectChanges.{appended_is_last}
 use Rattle.object_layout.proofs.PlaceLemmas.{words_in-push}
-use Rattle.alloc_path.specs.LeafHeapValue.{AreTidy, LeafHeapValue, IsKept, IsTidy, counted, place_for, placed_at, units}
+use Rattle.alloc_path.specs.LeafHeapValue.{AreTidy, LeafHeapValue, AgreesWithChunks, IsTidy, counted, place_for, placed_at, units}
 use Rattle.alloc_path.proofs.HeapLemmas as heap
 use Rattle.alloc_path.proofs.HeapLemmas.{part-set}
 use Rattle.alloc_path.proofs.Settled.{settled_placed}
@@ -59,7 +59,7 @@ module _ (h : LeafHeapValue) (F : Formed h) (i : ℕ) (c : Cell) (b : Birth) (bo
   abbrev table : ℕ → Option ℕ
   table n = option_map (λ j. 2 ^ 63 - j) (place_in h.chunks n)
 
-  keeps : IsKept h.chunks (record { layers = []; stale = []; places = 0; lost = true }) h.current h.reserved (counted (held_words h.chunks)) (counted (object_count h.chunks)) (counted (small_words h.chunks)) (2 ^ 63) table (length h.chunks)
+  keeps : AgreesWithChunks h.chunks (record { layers = []; stale = []; places = 0; lost = true }) h.current h.reserved (counted (held_words h.chunks)) (counted (object_count h.chunks)) (counted (small_words h.chunks)) (2 ^ 63) table (length h.chunks)
   keeps = record {
     current = F.shaped.current;
     reserved = F.shaped.reserved;

@@ -36,13 +36,13 @@ object_refs c e = ap (λ m. (marked_object m c).refs) e
 -- an object of a resting heap, as it is read there
 pub record RestObject (w : SharedValue) (u : ℕ) (o : Located) : Type 0 where
   pub rest : Rest
-  pub is : rest_at w.homes u ≡ Some rest
-  pub refs : refs_of_rest (rest_at w.homes u) o.at ≡ o.refs
+  pub is : rest_at w.rests u ≡ Some rest
+  pub refs : refs_of_rest (rest_at w.rests u) o.at ≡ o.refs
 
-pub rest_object : (w : SharedValue) (u : ℕ) → IsSharedValue w → (o : Located) → In (objects_in (home_in (rest_at w.homes u)).chunks) o → RestObject w u o
-rest_object w u I o i = by (rest_at w.homes u) refl i
+pub rest_object : (w : SharedValue) (u : ℕ) → IsSharedValue w → (o : Located) → In (objects_in (home_in (rest_at w.rests u)).chunks) o → RestObject w u o
+rest_object w u I o i = by (rest_at w.rests u) refl i
   where
-    by : (q : Option Rest) → rest_at w.homes u ≡ q → In (objects_in (home_in q).chunks) o → RestObject w u o
+    by : (q : Option Rest) → rest_at w.rests u ≡ q → In (objects_in (home_in q).chunks) o → RestObject w u o
     by None e j = absurd j
     by (Some r) e j =
         let y = seen_object r.heap.chunks o (I.heaps u r e).shaped.apart (subst (λ cs. In (objects_in cs) o) (home_chunks r) j) in
@@ -50,8 +50,8 @@ rest_object w u I o i = by (rest_at w.homes u) refl i
         record { rest = r; is = e; refs = ap (λ z. refs_of_rest z o.at) e ∙ refs }
 
 -- an object of a home at rest, as it is read in the value
-pub read_at_rest : (w : SharedValue) (u : ℕ) → IsSharedValue w → (o : Located) → In (objects_in (home_in (rest_at w.homes u)).chunks) o → (value_of w).owner o.at.chunk ≡ Some u → refs_in (heaps_of w) o.at ≡ o.refs
-read_at_rest w u I o i owner = ap (λ q. refs_for w.homes q o.at) owner ∙ (rest_object w u I o i).refs
+pub read_at_rest : (w : SharedValue) (u : ℕ) → IsSharedValue w → (o : Located) → In (objects_in (home_in (rest_at w.rests u)).chunks) o → (value_of w).owner o.at.chunk ≡ Some u → refs_in (heaps_of w) o.at ≡ o.refs
+read_at_rest w u I o i owner = ap (λ q. refs_for w.rests q o.at) owner ∙ (rest_object w u I o i).refs
 
 -- ---- A PART WITHOUT FRESH STEPS, before the run's end
 module _ (w : SharedValue) (k : ℕ) (p : Private) (I : IsSharedValue w) (F : Fits w k (record p { fresh = 0 })) (on : (accounts w).end ≡ None) where

@@ -15,7 +15,7 @@ use Rattle.object_layout.specs.ChunkValue.{ChunkValue}
 use Rattle.object_layout.specs.Objects.{Located}
 use Rattle.object_layout.proofs.ObjectLemmas.{has_own}
 use Rattle.remembered_set.specs.declared.remembered.Source.{Source}
-use Rattle.remembered_set.specs.Moved.{AreFields, held_by, into, targets_of}
+use Rattle.remembered_set.specs.Moved.{AreFields, target_of, into, targets_of}
 use Rattle.ledger_step_laws.specs.Accounts.{Rests, own}
 use Rattle.core_relation.specs.Begins.{AreRoots, IsRoot}
 use Rattle.core_relation.specs.Stands.{IsSource, Place, Stands}
@@ -47,18 +47,18 @@ pub into_there : (ks : List ChunkValue) (o : Option Addr) (a : Addr) → o ≡ S
 into_there ks o a e h = subst (λ z. In (into ks z) a) (sym e) (subst (λ v. In (cond v (a ∷ []) []) a) (sym h) (inl refl))
 
 module _ {S : Type 0} (refs_at : S → Addr → List (Option Addr)) (h : S) (ks : List ChunkValue) where
-  targets_tell : (ss : List Source) (a : Addr) → In (targets_of refs_at h ks ss) a → (s : Source) × In ss s × (held_by refs_at h s ≡ Some a) × (has_chunk ks a.chunk ≡ true)
+  targets_tell : (ss : List Source) (a : Addr) → In (targets_of refs_at h ks ss) a → (s : Source) × In ss s × (target_of refs_at h s ≡ Some a) × (has_chunk ks a.chunk ≡ true)
   targets_tell [] a i = absurd i
-  targets_tell (s ∷ ss) a i = elim (in_append_cases (into ks (held_by refs_at h s)) (targets_of refs_at h ks ss) a i) [
-    | inl j ↦ let t = into_tells ks (held_by refs_at h s) a j in (s, inl refl, t.0, t.1)
+  targets_tell (s ∷ ss) a i = elim (in_append_cases (into ks (target_of refs_at h s)) (targets_of refs_at h ks ss) a i) [
+    | inl j ↦ let t = into_tells ks (target_of refs_at h s) a j in (s, inl refl, t.0, t.1)
     | inr j ↦ let r = targets_tell ss a j in (r.0, inr r.1, r.2, r.3)
   ]
 
-  targets_there : (ss : List Source) (s : Source) (a : Addr) → In ss s → held_by refs_at h s ≡ Some a → has_chunk ks a.chunk ≡ true → In (targets_of refs_at h ks ss) a
+  targets_there : (ss : List Source) (s : Source) (a : Addr) → In ss s → target_of refs_at h s ≡ Some a → has_chunk ks a.chunk ≡ true → In (targets_of refs_at h ks ss) a
   targets_there [] s a i e c = absurd i
   targets_there (x ∷ ss) s a (inl q) e c =
-      in_append_left (into ks (held_by refs_at h x)) (targets_of refs_at h ks ss) a (into_there ks (held_by refs_at h x) a (ap (held_by refs_at h) q ∙ e) c)
-  targets_there (x ∷ ss) s a (inr j) e c = in_append_right (into ks (held_by refs_at h x)) (targets_of refs_at h ks ss) a (targets_there ss s a j e c)
+      in_append_left (into ks (target_of refs_at h x)) (targets_of refs_at h ks ss) a (into_there ks (target_of refs_at h x) a (ap (target_of refs_at h) q ∙ e) c)
+  targets_there (x ∷ ss) s a (inr j) e c = in_append_right (into ks (target_of refs_at h x)) (targets_of refs_at h ks ss) a (targets_there ss s a j e c)
 
 -- ---- CHUNKS
 
@@ -174,7 +174,7 @@ module _ (v : Memory) (l : Ledger) (t : ℕ) (W : Stands v l) (at_rest : Rests l
           let at : R.object.at ≡ s.object = R.at in
           let holds : slice_get R.object.refs s.field ≡ Some (Some a) = R.holds in
           let refs : refs_in hs s.object ≡ R.object.refs = refs_at_home R.home (λ e. S.below (owner ∙ e)) R.rests R.object R.there s.object at in
-          let is : held_by refs_in hs s ≡ Some a = ap (λ rs. slice_index_or rs s.field None) refs ∙ get_or_from_slice_get R.object.refs s.field (Some a) None holds in
+          let is : target_of refs_in hs s ≡ Some a = ap (λ rs. slice_index_or rs s.field None) refs ∙ get_or_from_slice_get R.object.refs s.field (Some a) None holds in
           let q = leads_here R.home R.rests R.object R.there R.source.field a R.holds R.into in
           targets_there refs_in hs ks ss s a (subst (λ xs. In xs s) sources_are R.noted) is (ap (λ (z : Addr). has_chunk ks z.chunk) (sym q.2) ∙ object_chunk q.0 q.1)
 

@@ -41,7 +41,7 @@ use Rattle.task_machine.specs.declared.part.Private.{Private}
 use Rattle.task_machine.specs.Accounts.{IsCounted}
 use Rattle.task_machine.specs.Fits.{unended}
 use Rattle.task_machine.specs.Outline.{steps}
-use Rattle.shared_value.specs.SharedValue.{SharedValue, accounts, totals_of, value_of}
+use Rattle.shared_value.specs.SharedValue.{SharedValue, accounts, tree_counts_of, value_of}
 use Rattle.shared_value.specs.Stands.{IsSharedValue}
 use Rattle.shared_value.specs.Fits.{Fits, OthersFit, beyond, home_of_part, part_of}
 use Rattle.shared_value.specs.Entered.{refused}
@@ -141,7 +141,7 @@ abbrev ran_event : ℕ → Private → ℕ → EntryValue
 ran_event k p m = record { worker = k; kind = Ran p.task m }
 
 abbrev ran_with : SharedValue → ℕ → Private → ℕ → ℕ → SharedValue
-ran_with w k p m room = entered w (ran_event k p m) w.tree w.pool w.homes w.sets w.tasks_out w.outputs (w.steps + m) w.end room
+ran_with w k p m room = entered w (ran_event k p m) w.tree w.pool w.rests w.sets w.tasks_out w.outputs (w.steps + m) w.end room
 
 module _ (w : SharedValue) (k : ℕ) (p : Private) (I : IsSharedValue w) (F : Fits w k p) (n : ℕ) (is : p.fresh ≡ suc n) (free : refused w (ran_event k p (suc n)) ≡ None) (room : ℕ) where
   abbrev e : EntryValue
@@ -184,25 +184,25 @@ module _ (w : SharedValue) (k : ℕ) (p : Private) (I : IsSharedValue w) (F : Fi
   own : FitsValue w.program w.settings (part_for w.settings t h (suc n)) v l
   own = subst (λ m. FitsValue w.program w.settings (part_for w.settings t h m) v l) is F.fits
 
-  counts : RanCounts w.program (totals_of w) (totals_of w') (task_steps w.program l t n) L t k n E.splits.task E.splits.line E.splits.kind E.splits.last
+  counts : RanCounts w.program (tree_counts_of w) (tree_counts_of w') (task_steps w.program l t n) L t k n E.splits.task E.splits.line E.splits.kind E.splits.last
   counts = record { tree = λ u. refl; task_out = λ u. refl; outputs = refl; end = refl; used = refl; steps = refl }
 
   ran_world_by : IsSharedValue w'
   ran_world_by =
-      entered_world w e I free w.tree w.pool w.homes w.sets w.tasks_out w.outputs (w.steps + suc n) w.end room I.made I.noted refl refl
-      (ran_stands_for w.program w.settings w.journal.items I.form I.legal v v (totals_of w) (totals_of w') k t n h free E I.stands own refl tt counts)
+      entered_world w e I free w.tree w.pool w.rests w.sets w.tasks_out w.outputs (w.steps + suc n) w.end room I.made I.noted refl refl
+      (ran_stands_for w.program w.settings w.journal.items I.form I.legal v v (tree_counts_of w) (tree_counts_of w') k t n h free E I.stands own refl tt counts)
       I.heaps I.measured
 
   -- THE PART, without fresh steps
   ran_part_by : Fits w' k (record p { fresh = 0 })
   ran_part_by =
-      part_fits w e I free w.tree w.pool w.homes w.sets w.tasks_out w.outputs (w.steps + suc n) w.end room ran_world_by k p (record p { fresh = 0 }) refl F refl refl refl F.form F.measured
+      part_fits w e I free w.tree w.pool w.rests w.sets w.tasks_out w.outputs (w.steps + suc n) w.end room ran_world_by k p (record p { fresh = 0 }) refl F refl refl refl F.form F.measured
       (ran_fits_then w.program w.settings v v l L t k n h h E own refl refl)
 
   -- THE PARTS OF OTHERS
   ran_others_by : OthersFit w w' k
   ran_others_by u q ne H =
-      part_fits w e I free w.tree w.pool w.homes w.sets w.tasks_out w.outputs (w.steps + suc n) w.end room ran_world_by u q q refl H refl refl refl H.form H.measured
+      part_fits w e I free w.tree w.pool w.rests w.sets w.tasks_out w.outputs (w.steps + suc n) w.end room ran_world_by u q q refl H refl refl refl H.form H.measured
       (ran_leaves w.program w.settings v v l L t k n h E own refl (part_of w.settings q) (held_apart w k u p q F H ne) H.fits)
 
 module _ (w : SharedValue) (k : ℕ) (p : Private) (I : IsSharedValue w) (F : Fits w k p) (pos : 0 < p.fresh) (free : refused w (record { worker = k; kind = Ran p.task p.fresh }) ≡ None) (j : RoomyValue EntryValue) where

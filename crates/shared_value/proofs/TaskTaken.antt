@@ -42,7 +42,7 @@ use Rattle.task_machine.specs.declared.part.Private.{Private}
 use Rattle.task_homes.specs.declared.task_at_rest.Rest.{Rest}
 use Rattle.task_homes.specs.declared.task_at_rest.Work.{Work}
 use Rattle.task_homes.specs.declared.task_at_rest.Work.TheVariants.{Calls, Result}
-use Rattle.shared_value.specs.SharedValue.{SharedValue, accounts, home_in, home_by, home_of, rest_at, totals_of, value_of}
+use Rattle.shared_value.specs.SharedValue.{SharedValue, accounts, home_in, home_by, home_of, rest_at, tree_counts_of, value_of}
 use Rattle.shared_value.specs.Measured.{RestsAreMeasured}
 use Rattle.shared_value.specs.Stands.{HeapForm, IsSharedValue}
 use Rattle.shared_value.specs.Fits.{Fits, IsAtWork, OthersFit, home_of_part, part_of, taken_part}
@@ -122,7 +122,7 @@ module _ (w : SharedValue) (k t : ℕ) (I : IsSharedValue w) (free : refused w (
   on : l.end ≡ None
   on = entry_on w e free
 
-  S : StandsFor v (totals_of w) l
+  S : StandsFor v (tree_counts_of w) l
   S = stands_now w I on
 
   ready : is_ready l t ≡ true
@@ -141,23 +141,23 @@ module _ (w : SharedValue) (k t : ℕ) (I : IsSharedValue w) (free : refused w (
   there : (x : Task) × (slice_get l.machine.tasks t ≡ Some x) × (x.status ≡ Running)
   there = task_of (slice_get l.machine.tasks t) running
 
-  pub calls : HasCalls (rest_at w.homes t)
-  calls = has_calls (Place v l) (rest_at w.homes t) there.0 there.2 (S.homes.tasks t there.0 rests there.1)
+  pub calls : HasCalls (rest_at w.rests t)
+  calls = has_calls (Place v l) (rest_at w.rests t) there.0 there.2 (S.homes.tasks t there.0 rests there.1)
 
-  pub has_home : t < length w.homes
-  has_home = there_by (slice_get w.homes t) refl calls
+  pub has_home : t < length w.rests
+  has_home = there_by (slice_get w.rests t) refl calls
     where
-      there_by : (o : Option (Option Rest)) → slice_get w.homes t ≡ o → HasCalls (option_flatten o) → t < length w.homes
+      there_by : (o : Option (Option Rest)) → slice_get w.rests t ≡ o → HasCalls (option_flatten o) → t < length w.rests
       there_by None q c = absurd c
-      there_by (Some x) q c = got_within w.homes t x q
+      there_by (Some x) q c = got_within w.rests t x q
 
   pub has_node : t < length w.tree
   has_node = subst (λ n. t < n) I.made has_home
 
-  pub calls_of : (r : Rest) → rest_at w.homes t ≡ Some r → (s : FramesValue) × (r.work ≡ Calls s)
+  pub calls_of : (r : Rest) → rest_at w.rests t ≡ Some r → (s : FramesValue) × (r.work ≡ Calls s)
   calls_of r q = subst HasCalls q calls
 
-  pub at_work : (r : Rest) → rest_at w.homes t ≡ Some r → IsAtWork r.work
+  pub at_work : (r : Rest) → rest_at w.rests t ≡ Some r → IsAtWork r.work
   at_work r q = subst IsAtWork (sym (calls_of r q).1) tt
 
   module _ (j : RoomyValue EntryValue) where
@@ -165,18 +165,18 @@ module _ (w : SharedValue) (k t : ℕ) (I : IsSharedValue w) (free : refused w (
     room = j.room
 
     abbrev w' : SharedValue
-    w' = entered w e (with_state w.tree t Out) w.pool (slice_set w.homes t None) w.sets (slice_set w.tasks_out k (Some t)) w.outputs w.steps w.end room
+    w' = entered w e (with_state w.tree t Out) w.pool (slice_set w.rests t None) w.sets (slice_set w.tasks_out k (Some t)) w.outputs w.steps w.end room
 
     abbrev v' : Memory
     v' = value_of w'
 
-    homes_off : (u : ℕ) → (u ≡ t → ⊥) → rest_at w'.homes u ≡ rest_at w.homes u
-    homes_off u ne = ap option_flatten (got_other w.homes t u None ne)
+    homes_off : (u : ℕ) → (u ≡ t → ⊥) → rest_at w'.rests u ≡ rest_at w.rests u
+    homes_off u ne = ap option_flatten (got_other w.rests t u None ne)
 
     but : SameBut v v' t
     but = record { homes = λ u ne. ap home_in (homes_off u ne); owner = λ c. refl; sources = λ u. refl }
 
-    counts : TakesNode (totals_of w) (totals_of w') k t
+    counts : TakesNode (tree_counts_of w) (tree_counts_of w') k t
     counts = record {
       task_out = ap option_flatten (got_set w.tasks_out k (Some t) (worker_there w e I free));
       tasks_out = λ c ne. ap option_flatten (got_other w.tasks_out k c (Some t) ne);
@@ -191,18 +191,18 @@ module _ (w : SharedValue) (k t : ℕ) (I : IsSharedValue w) (free : refused w (
     abbrev L : Ledger
     L = after w.program w.settings l e
 
-    heaps_then : (u : ℕ) (r : Rest) → rest_at w'.homes u ≡ Some r → HeapForm r.heap
+    heaps_then : (u : ℕ) (r : Rest) → rest_at w'.rests u ≡ Some r → HeapForm r.heap
     heaps_then u r is = elim (cases_eq u t) [
-      | inl q ↦ gone (sym (ap (rest_at w'.homes) q ∙ ap option_flatten (got_set w.homes t None has_home)) ∙ is)
+      | inl q ↦ gone (sym (ap (rest_at w'.rests) q ∙ ap option_flatten (got_set w.rests t None has_home)) ∙ is)
       | inr ne ↦ I.heaps u r (sym (homes_off u ne) ∙ is)
     ]
       where
         gone : {A : Type 0} → ◌≡◌ {A = Option Rest} None (Some r) → A
         gone x = absurd cc
 
-    measured_then : RestsAreMeasured w.pool w'.homes w'.tasks_out
+    measured_then : RestsAreMeasured w.pool w'.rests w'.tasks_out
     measured_then u r is f = elim (cases_eq u t) [
-      | inl q ↦ gone (sym (ap (rest_at w'.homes) q ∙ ap option_flatten (got_set w.homes t None has_home)) ∙ is)
+      | inl q ↦ gone (sym (ap (rest_at w'.rests) q ∙ ap option_flatten (got_set w.rests t None has_home)) ∙ is)
       | inr ne ↦ I.measured u r (sym (homes_off u ne) ∙ is) (unheld_before w.tasks_out k (Some t) u f (λ h. none_holds (held_from k 0 l.heaps) (sym (task_out_now w I on k) ∙ h) free_of_tasks))
     ]
       where
@@ -211,12 +211,12 @@ module _ (w : SharedValue) (k t : ℕ) (I : IsSharedValue w) (free : refused w (
 
     pub took_world : IsSharedValue w'
     took_world =
-        entered_world w e I free w'.tree w.pool w'.homes w.sets w'.tasks_out w.outputs w.steps w.end room (length-set w.homes t None ∙ (I.made ∙ sym (made_by w.tree t Out (slice_get w.tree t)))) (I.noted ∙ sym (made_by w.tree t Out (slice_get w.tree t))) (length-set w.tasks_out k (Some t)) refl
-        (took_stands_for w.program w.settings w.journal.items I.form I.legal v v' (totals_of w) (totals_of w') k t free I.stands but (λ u. record { keeps = refl; kept = refl; marked = refl }) counts)
+        entered_world w e I free w'.tree w.pool w'.rests w.sets w'.tasks_out w.outputs w.steps w.end room (length-set w.rests t None ∙ (I.made ∙ sym (made_by w.tree t Out (slice_get w.tree t)))) (I.noted ∙ sym (made_by w.tree t Out (slice_get w.tree t))) (length-set w.tasks_out k (Some t)) refl
+        (took_stands_for w.program w.settings w.journal.items I.form I.legal v v' (tree_counts_of w) (tree_counts_of w') k t free I.stands but (λ u. record { keeps = refl; kept = refl; marked = refl }) counts)
         heaps_then measured_then
 
     -- THE PART THAT IS TAKEN
-    module _ (r : Rest) (s : FramesValue) (rest_is : rest_at w.homes t ≡ Some r) (calls_is : r.work ≡ Calls s) where
+    module _ (r : Rest) (s : FramesValue) (rest_is : rest_at w.rests t ≡ Some r) (calls_is : r.work ≡ Calls s) where
       abbrev p : Private
       p = taken_part t w.settings.leaf (field_limit w.settings.version) r s
 
@@ -225,9 +225,9 @@ module _ (w : SharedValue) (k t : ℕ) (I : IsSharedValue w) (free : refused w (
 
       pub took_part : Fits w' k p
       took_part = record {
-        held = held_when_out w e I free w'.tree w.pool w'.homes w.sets w'.tasks_out w.outputs w.steps w.end room took_world k t counts.task_out;
-        fits = subst (FitsValue w.program w.settings (part_of w.settings p) v') (sym (accounts_are w e I free w'.tree w.pool w'.homes w.sets w'.tasks_out w.outputs w.steps w.end room))
-            (subst (λ (g : Home). FitsValue w.program w.settings (part_for w.settings t g 0) v' L) home_is (took_fits_then w.program w.settings w.journal.items I.legal v v' (totals_of w) k t free I.stands but));
+        held = held_when_out w e I free w'.tree w.pool w'.rests w.sets w'.tasks_out w.outputs w.steps w.end room took_world k t counts.task_out;
+        fits = subst (FitsValue w.program w.settings (part_of w.settings p) v') (sym (accounts_are w e I free w'.tree w.pool w'.rests w.sets w'.tasks_out w.outputs w.steps w.end room))
+            (subst (λ (g : Home). FitsValue w.program w.settings (part_for w.settings t g 0) v' L) home_is (took_fits_then w.program w.settings w.journal.items I.legal v v' (tree_counts_of w) k t free I.stands but));
         form = I.heaps t r rest_is;
         measured = (I.measured t r rest_is (unheld_at_rest w t I on rests), λ n i. absurd i);
         leaf_limit = refl;
@@ -237,5 +237,5 @@ module _ (w : SharedValue) (k t : ℕ) (I : IsSharedValue w) (free : refused w (
     -- THE PARTS OF OTHERS
     pub took_others : OthersFit w w' k
     took_others u q ne F =
-        part_fits w e I free w'.tree w.pool w'.homes w.sets w'.tasks_out w.outputs w.steps w.end room took_world u q q (counts.tasks_out u ne) F refl refl refl F.form F.measured
+        part_fits w e I free w'.tree w.pool w'.rests w.sets w'.tasks_out w.outputs w.steps w.end room took_world u q q (counts.tasks_out u ne) F refl refl refl F.form F.measured
         (took_leaves w.program w.settings w.journal.items I.legal v v' k t free but (part_of w.settings q) F.fits)

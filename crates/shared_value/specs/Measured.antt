@@ -20,7 +20,7 @@ IsUnheld tasks_out t = (k : ℕ) → option_flatten (slice_get tasks_out k) ≢ 
 
 -- it has the chunks of each task that no worker holds
 abbrev pub RestsAreMeasured : PoolValue → List (Option Rest) → List (Option ℕ) → Type 0
-RestsAreMeasured pool homes tasks_out = (t : ℕ) (r : Rest) → rest_at homes t ≡ Some r → IsUnheld tasks_out t → AreMeasured pool t r.heap.chunks
+RestsAreMeasured pool rests tasks_out = (t : ℕ) (r : Rest) → rest_at rests t ≡ Some r → IsUnheld tasks_out t → AreMeasured pool t r.heap.chunks
 
 -- it has a chunk of one unit for the task at each of these numbers
 abbrev pub AreUnits : PoolValue → ℕ → List ℕ → Type 0

@@ -10,7 +10,7 @@ use Rattle.task_homes.specs.RestingHeaps.{Resting, refs_in}
 use Rattle.shared_value.specs.SharedValue.{SharedValue}
 
 abbrev pub heaps_of : SharedValue → Resting
-heaps_of w = record { homes = w.homes; pool = w.pool }
+heaps_of w = record { rests = w.rests; pool = w.pool }
 
 abbrev pub roots_of : SharedValue → Private → List Addr
 roots_of w p = targets_of refs_in (heaps_of w) p.heap.chunks (sources_of (slice_get w.sets p.task))

@@ -20,7 +20,7 @@ use Rattle.inner_mark_gc.specs.MarkingValue.{MarkingValue}
 pub use Rattle.core_relation.specs.Memory.{no_home}
 pub use Rattle.task_homes.specs.HomesValue.{marks_at, rest_at}
 use Rattle.core_relation.specs.Memory.{Home, Noted, Memory}
-use Rattle.core_relation.specs.Whole.{Totals}
+use Rattle.core_relation.specs.Whole.{TreeCounts}
 use Rattle.task_homes.specs.declared.task_at_rest.Rest.{Rest}
 use Rattle.task_homes.specs.declared.task_at_rest.Work.{Work}
 use Rattle.task_homes.specs.declared.task_at_rest.Work.TheVariants.{Calls, Result}
@@ -33,7 +33,7 @@ pub record SharedValue : Type 0 where
   pub tree : List Node
   pub pool : PoolValue
   -- what goes with each task that no worker holds
-  pub homes : List (Option Rest)
+  pub rests : List (Option Rest)
   pub sets : List SetOf
   -- what is marked of each heap that is being marked; tasks behind the last have none
   pub marks : List (Option MarkingValue)
@@ -102,8 +102,8 @@ noted_in (Some s) = record { sources = s.remembered.sources; kept = s.kept.items
 -- ---- THE WHOLE
 
 abbrev pub value_by : List (Option Rest) → List SetOf → PoolValue → Memory
-value_by homes sets pool = record {
-  homes = λ t. home_in (rest_at homes t);
+value_by rests sets pool = record {
+  homes = λ t. home_in (rest_at rests t);
   noted = λ t. noted_in (slice_get sets t);
   owner = owner_of pool;
 }
@@ -112,10 +112,10 @@ abbrev pub with_marks : List (Option MarkingValue) → Memory → Memory
 with_marks marks v = record v { noted = λ t. record (v.noted t) { marked = marks_at marks t } }
 
 abbrev pub value_of : SharedValue → Memory
-value_of w = with_marks w.marks (value_by w.homes w.sets w.pool)
+value_of w = with_marks w.marks (value_by w.rests w.sets w.pool)
 
-abbrev pub totals_of : SharedValue → Totals
-totals_of w = record {
+abbrev pub tree_counts_of : SharedValue → TreeCounts
+tree_counts_of w = record {
   node = slice_get w.tree;
   task_out = λ k. option_flatten (slice_get w.tasks_out k);
   used = units_in_use w.pool;

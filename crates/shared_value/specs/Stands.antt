@@ -14,7 +14,7 @@ use Rattle.task_machine.specs.Fits.{IsShaped}
 use Rattle.task_homes.specs.declared.task_at_rest.Rest.{Rest}
 use Rattle.shared_value.specs.Measured.{RestsAreMeasured}
 use Rattle.shared_value.specs.Objects.{AreNear, chunk_of}
-use Rattle.shared_value.specs.SharedValue.{SharedValue, accounts, rest_at, totals_of, value_of}
+use Rattle.shared_value.specs.SharedValue.{SharedValue, accounts, rest_at, tree_counts_of, value_of}
 
 -- what of a heap alone is known, whoever holds it
 pub record HeapForm (h : LeafHeapValue) : Type 0 where
@@ -35,11 +35,11 @@ pub record IsSharedValue (w : SharedValue) : Type 0 where
   pub limits : AreLimits w.settings
   pub form : IsProgram w.program
   pub legal : is_legal w.program w.settings w.journal.items ≡ true
-  pub made : length w.homes ≡ length w.tree
+  pub made : length w.rests ≡ length w.tree
   pub noted : length w.sets ≡ length w.tree
   pub workers : length w.tasks_out ≡ w.settings.workers
   pub limit : w.pool.limit ≡ w.settings.chunks
-  pub stands : StandsForAll (value_of w) (totals_of w) (accounts w)
-  pub heaps : (t : ℕ) (r : Rest) → rest_at w.homes t ≡ Some r → HeapForm r.heap
+  pub stands : StandsForAll (value_of w) (tree_counts_of w) (accounts w)
+  pub heaps : (t : ℕ) (r : Rest) → rest_at w.rests t ≡ Some r → HeapForm r.heap
   -- the pool has just the units of each chunk
-  pub measured : RestsAreMeasured w.pool w.homes w.tasks_out
+  pub measured : RestsAreMeasured w.pool w.rests w.tasks_out

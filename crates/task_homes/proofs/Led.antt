@@ -2,7 +2,7 @@
 use Rattle.std.proofs.Common.{◌≡◌, Option, Some, None, List, [], ◌∷◌, fold, refl}
 use Rattle.object_layout.specs.declared.word.Addr.{Addr}
 use Rattle.remembered_set.specs.declared.remembered.Source.{Source}
-use Rattle.remembered_set.specs.Moved.{held_by, new_reference, redirected, written}
+use Rattle.remembered_set.specs.Moved.{target_of, new_reference, redirected, written}
 use Rattle.task_homes.specs.declared.heaps.Heaps.{Heaps}
 use Rattle.task_homes.specs.RestingHeaps.{heap_refs, refs_in, resting, with_heap_ref, with_ref_in, with_resting}
 
@@ -14,4 +14,4 @@ module _ (ms : List (Addr × Addr)) where
 
   pub led_rest : (h : Heaps) (ss : List Source) → fold (redirected heap_refs with_heap_ref ms) h ss ≡ with_resting h (fold (redirected refs_in with_ref_in ms) (resting h) ss)
   led_rest h [] = refl
-  led_rest h (s ∷ ss) = step h s ss (new_reference ms (held_by heap_refs h s)) (λ g. led_rest g ss)
+  led_rest h (s ∷ ss) = step h s ss (new_reference ms (target_of heap_refs h s)) (λ g. led_rest g ss)

@@ -13,74 +13,74 @@ use Rattle.task_homes.specs.HomesValue.{refs_of_rest, rest_at}
 
 -- what goes with each task that no worker holds, and who owns each chunk
 pub record Resting : Type 0 where
-  pub homes : List (Option Rest)
+  pub rests : List (Option Rest)
   pub pool : PoolValue
 
 -- the references of the object at an address, where the chunk is that task's
 abbrev pub refs_for : List (Option Rest) → Option ℕ → Addr → List (Option Addr)
-refs_for homes None a = []
-refs_for homes (Some t) a = refs_of_rest (rest_at homes t) a
+refs_for rests None a = []
+refs_for rests (Some t) a = refs_of_rest (rest_at rests t) a
 
 abbrev pub refs_in : Resting → Addr → List (Option Addr)
-refs_in h a = refs_for h.homes (owner_of h.pool a.chunk) a
+refs_in h a = refs_for h.rests (owner_of h.pool a.chunk) a
 
 -- one reference written
 abbrev pub with_ref_at : List (Option Rest) → ℕ → Option Rest → Addr → ℕ → Option Addr → List (Option Rest)
-with_ref_at homes t None a k r = homes
-with_ref_at homes t (Some x) a k r = slice_set homes t (Some (record x { heap = with_ref_of x.heap a k r }))
+with_ref_at rests t None a k r = rests
+with_ref_at rests t (Some x) a k r = slice_set rests t (Some (record x { heap = with_ref_of x.heap a k r }))
 
 abbrev pub with_ref_for : List (Option Rest) → Option ℕ → Addr → ℕ → Option Addr → List (Option Rest)
-with_ref_for homes None a k r = homes
-with_ref_for homes (Some t) a k r = with_ref_at homes t (rest_at homes t) a k r
+with_ref_for rests None a k r = rests
+with_ref_for rests (Some t) a k r = with_ref_at rests t (rest_at rests t) a k r
 
 abbrev pub with_ref_in : Resting → Addr → ℕ → Option Addr → Resting
-with_ref_in h a k r = record h { homes = with_ref_for h.homes (owner_of h.pool a.chunk) a k r }
+with_ref_in h a k r = record h { rests = with_ref_for h.rests (owner_of h.pool a.chunk) a k r }
 
 -- THE LAWS of a write
 
-same_at : (homes : List (Option Rest)) (t : ℕ) (a : Addr) (k : ℕ) (r : Option Addr) (o : Option (Option Rest)) → slice_get homes t ≡ o → refs_of_rest (rest_at (with_ref_at homes t (option_flatten o) a k r) t) a ≡ slice_set (refs_of_rest (option_flatten o) a) k r
-same_at homes t a k r None e = ap (λ z. refs_of_rest (option_flatten z) a) e
-same_at homes t a k r (Some None) e = ap (λ z. refs_of_rest (option_flatten z) a) e
-same_at homes t a k r (Some (Some x)) e =
-    ap (λ z. refs_of_rest (option_flatten z) a) (got_same homes t (Some x) (Some (record x { heap = with_ref_of x.heap a k r })) e) ∙ refs_of_same x.heap a k r
+same_at : (rests : List (Option Rest)) (t : ℕ) (a : Addr) (k : ℕ) (r : Option Addr) (o : Option (Option Rest)) → slice_get rests t ≡ o → refs_of_rest (rest_at (with_ref_at rests t (option_flatten o) a k r) t) a ≡ slice_set (refs_of_rest (option_flatten o) a) k r
+same_at rests t a k r None e = ap (λ z. refs_of_rest (option_flatten z) a) e
+same_at rests t a k r (Some None) e = ap (λ z. refs_of_rest (option_flatten z) a) e
+same_at rests t a k r (Some (Some x)) e =
+    ap (λ z. refs_of_rest (option_flatten z) a) (got_same rests t (Some x) (Some (record x { heap = with_ref_of x.heap a k r })) e) ∙ refs_of_same x.heap a k r
 
-other_at : (homes : List (Option Rest)) (t : ℕ) (a b : Addr) (k : ℕ) (r : Option Addr) → b ≢ a → (o : Option (Option Rest)) → slice_get homes t ≡ o → refs_of_rest (rest_at (with_ref_at homes t (option_flatten o) a k r) t) b ≡ refs_of_rest (option_flatten o) b
-other_at homes t a b k r ne None e = ap (λ z. refs_of_rest (option_flatten z) b) e
-other_at homes t a b k r ne (Some None) e = ap (λ z. refs_of_rest (option_flatten z) b) e
-other_at homes t a b k r ne (Some (Some x)) e =
-    ap (λ z. refs_of_rest (option_flatten z) b) (got_same homes t (Some x) (Some (record x { heap = with_ref_of x.heap a k r })) e) ∙ refs_of_other x.heap a b k r ne
+other_at : (rests : List (Option Rest)) (t : ℕ) (a b : Addr) (k : ℕ) (r : Option Addr) → b ≢ a → (o : Option (Option Rest)) → slice_get rests t ≡ o → refs_of_rest (rest_at (with_ref_at rests t (option_flatten o) a k r) t) b ≡ refs_of_rest (option_flatten o) b
+other_at rests t a b k r ne None e = ap (λ z. refs_of_rest (option_flatten z) b) e
+other_at rests t a b k r ne (Some None) e = ap (λ z. refs_of_rest (option_flatten z) b) e
+other_at rests t a b k r ne (Some (Some x)) e =
+    ap (λ z. refs_of_rest (option_flatten z) b) (got_same rests t (Some x) (Some (record x { heap = with_ref_of x.heap a k r })) e) ∙ refs_of_other x.heap a b k r ne
 
-off_at : (homes : List (Option Rest)) (t u : ℕ) (a b : Addr) (k : ℕ) (r : Option Addr) → (u ≡ t → ⊥) → (o : Option Rest) → refs_of_rest (rest_at (with_ref_at homes t o a k r) u) b ≡ refs_of_rest (rest_at homes u) b
-off_at homes t u a b k r ne None = refl
-off_at homes t u a b k r ne (Some x) = ap (λ z. refs_of_rest (option_flatten z) b) (got_other homes t u (Some (record x { heap = with_ref_of x.heap a k r })) ne)
+off_at : (rests : List (Option Rest)) (t u : ℕ) (a b : Addr) (k : ℕ) (r : Option Addr) → (u ≡ t → ⊥) → (o : Option Rest) → refs_of_rest (rest_at (with_ref_at rests t o a k r) u) b ≡ refs_of_rest (rest_at rests u) b
+off_at rests t u a b k r ne None = refl
+off_at rests t u a b k r ne (Some x) = ap (λ z. refs_of_rest (option_flatten z) b) (got_other rests t u (Some (record x { heap = with_ref_of x.heap a k r })) ne)
 
 pub refs_in_same : (h : Resting) (a : Addr) (k : ℕ) (r : Option Addr) → refs_in (with_ref_in h a k r) a ≡ slice_set (refs_in h a) k r
 refs_in_same h a k r = by (owner_of h.pool a.chunk)
   where
-    by : (o : Option ℕ) → refs_for (with_ref_for h.homes o a k r) o a ≡ slice_set (refs_for h.homes o a) k r
+    by : (o : Option ℕ) → refs_for (with_ref_for h.rests o a k r) o a ≡ slice_set (refs_for h.rests o a) k r
     by None = refl
-    by (Some t) = same_at h.homes t a k r (slice_get h.homes t) refl
+    by (Some t) = same_at h.rests t a k r (slice_get h.rests t) refl
 
 pub refs_in_other : (h : Resting) (a b : Addr) (k : ℕ) (r : Option Addr) → b ≢ a → refs_in (with_ref_in h a k r) b ≡ refs_in h b
 refs_in_other h a b k r ne = by (owner_of h.pool a.chunk) (owner_of h.pool b.chunk)
   where
-    by : (o q : Option ℕ) → refs_for (with_ref_for h.homes o a k r) q b ≡ refs_for h.homes q b
+    by : (o q : Option ℕ) → refs_for (with_ref_for h.rests o a k r) q b ≡ refs_for h.rests q b
     by None q = refl
     by (Some t) None = refl
     by (Some t) (Some u) = elim (cases_eq u t) [
       | inl e ↦
-          ap (λ z. refs_of_rest (rest_at (with_ref_at h.homes t (rest_at h.homes t) a k r) z) b) e
-          ∙ (other_at h.homes t a b k r ne (slice_get h.homes t) refl ∙ ap (λ z. refs_of_rest (rest_at h.homes z) b) (sym e))
-      | inr off ↦ off_at h.homes t u a b k r off (rest_at h.homes t)
+          ap (λ z. refs_of_rest (rest_at (with_ref_at h.rests t (rest_at h.rests t) a k r) z) b) e
+          ∙ (other_at h.rests t a b k r ne (slice_get h.rests t) refl ∙ ap (λ z. refs_of_rest (rest_at h.rests z) b) (sym e))
+      | inr off ↦ off_at h.rests t u a b k r off (rest_at h.rests t)
     ]
 
 -- THE HEAPS that hold them, beside what is noted and marked
 
 abbrev pub resting : Heaps → Resting
-resting h = record { homes = h.homes.rests; pool = h.pool }
+resting h = record { rests = h.homes.rests; pool = h.pool }
 
 abbrev pub with_resting : Heaps → Resting → Heaps
-with_resting h r = record h { homes = record h.homes { rests = r.homes } }
+with_resting h r = record h { homes = record h.homes { rests = r.rests } }
 
 abbrev pub heap_refs : Heaps → Addr → List (Option Addr)
 heap_refs h a = refs_in (resting h) a

@@ -5,7 +5,7 @@ use Rattle.hh_lang.specs.Form.{ProgramText}
 use Rattle.hh_model.specs.declared.data.State.{State}
 use Rattle.hh_model.specs.Effect.{row_of}
 use Rattle.hh_model.specs.Step.{asked, can_step, is_running, step}
-use Rattle.run_ledger.specs.declared.data.Heap.{Heap as Account}
+use Rattle.run_ledger.specs.declared.data.Heap.{Heap}
 use Rattle.run_ledger.specs.declared.data.Ledger.{Ledger}
 use Rattle.run_ledger.specs.Heaps.{placed, with_heap_at}
 use Rattle.run_ledger.specs.Steps.{allocated_by, task_steps}
@@ -15,13 +15,13 @@ use Rattle.task_machine.specs.Accounts.{AccountsAreSteps, FollowsSteps, account_
 use Rattle.task_machine.specs.Outline.{steps}
 
 -- what an allocation makes of the account
-allocated_account : (l : Ledger) (t : ℕ) (h : Account) (o : Option ℕ) → slice_get l.heaps t ≡ Some h → slice_get (allocated_by l t o).heaps t ≡ Some (account_by l.machine t h o)
+allocated_account : (l : Ledger) (t : ℕ) (h : Heap) (o : Option ℕ) → slice_get l.heaps t ≡ Some h → slice_get (allocated_by l t o).heaps t ≡ Some (account_by l.machine t h o)
 allocated_account l t h None there = there
 allocated_account l t h (Some w) there =
-    let f : Account → Account = λ z. placed z (record { task = t; count = length (row_of (slice_get l.machine.store t)) }) w in
-    ap (λ (q : Option Account). slice_get (with_heap_at l t f q).heaps t) there ∙ got_same l.heaps t h (f h) there
+    let f : Heap → Heap = λ z. placed z (record { task = t; count = length (row_of (slice_get l.machine.store t)) }) w in
+    ap (λ (q : Option Heap). slice_get (with_heap_at l t f q).heaps t) there ∙ got_same l.heaps t h (f h) there
 
-module _ (p : ProgramText) (l : Ledger) (t : ℕ) (h : Account) (there : slice_get l.heaps t ≡ Some h) where
+module _ (p : ProgramText) (l : Ledger) (t : ℕ) (h : Heap) (there : slice_get l.heaps t ≡ Some h) where
   follows : (k : ℕ) → ((i : ℕ) → i ≤ k → can_step (steps p l.machine t i) t ≡ true) → FollowsSteps p l t h k
   follows zero can = record { machine = refl; account = there }
   follows (suc k) can =

@@ -12,15 +12,15 @@ use Rattle.task_table.specs.declared.row.Row.{Row}
 use Rattle.task_table.specs.Rows.{rows_with, rows_from}
 use Rattle.task_table.specs.Table.{line_at, lines_from}
 
-module _ (journal : List EntryValue) (b b' : BookValue) (i : ℕ) (e : EntryValue) (lt : i < length journal) (is : e ≡ get_or journal i e) (eb : b' ≡ record b { ledger = after b.program b.limits b.ledger e }) where
+module _ (journal : List EntryValue) (b b' : BookValue) (i : ℕ) (e : EntryValue) (lt : i < length journal) (is : e ≡ get_or journal i e) (eb : b' ≡ record b { ledger = after b.program b.settings b.ledger e }) where
   -- the rows behind the rest of a journal, also behind the entry
   pub rows_on : (p : ProgramText) (rows more all : List Row) → b.program ≡ p
-      → rows_from b.program b.limits b.ledger rows (drop i journal) ≡ all
-      → more ≡ rows_with p b.ledger (after b.program b.limits b.ledger e) e rows
-      → rows_from b'.program b'.limits b'.ledger more (drop (i + 1) journal) ≡ all
+      → rows_from b.program b.settings b.ledger rows (drop i journal) ≡ all
+      → more ≡ rows_with p b.ledger (after b.program b.settings b.ledger e) e rows
+      → rows_from b'.program b'.settings b'.ledger more (drop (i + 1) journal) ≡ all
   rows_on p rows more all ep inv em =
-      (λ j. rows_from (eb j).program (eb j).limits (eb j).ledger ((em ∙ (λ k. rows_with (sym ep k) b.ledger (after b.program b.limits b.ledger e) e rows)) j) (drop (i + 1) journal))
-      ∙ ap (rows_from b.program b.limits b.ledger rows) (sym (cut b.program b.limits b.ledger 0 journal i e lt is))
+      (λ j. rows_from (eb j).program (eb j).settings (eb j).ledger ((em ∙ (λ k. rows_with (sym ep k) b.ledger (after b.program b.settings b.ledger e) e rows)) j) (drop (i + 1) journal))
+      ∙ ap (rows_from b.program b.settings b.ledger rows) (sym (cut b.program b.settings b.ledger 0 journal i e lt is))
       ∙ inv
 
 -- the line of a row, and the lines behind it

@@ -40,10 +40,10 @@ fn enter(
     entry: Entry,
 ) -> Result<(), ApplyError>
     requires open { book.old.stopped ≡ false }
-    ensures legal { OnOk result (refusal book.old.program book.old.limits book.old.ledger entry ≡ None) }
-    ensures entered { OnOk result (book.new ≡ record book.old { ledger = after book.old.program book.old.limits book.old.ledger entry }) }
-    ensures rows { OnOk result (rows.new ≡ rows_with program.now book.old.ledger (after book.old.program book.old.limits book.old.ledger entry) entry rows.old) }
-    ensures fails { IfErr result (FailsFor (refusal book.old.program book.old.limits book.old.ledger entry)) }
+    ensures legal { OnOk result (refusal book.old.program book.old.settings book.old.ledger entry ≡ None) }
+    ensures entered { OnOk result (book.new ≡ record book.old { ledger = after book.old.program book.old.settings book.old.ledger entry }) }
+    ensures rows { OnOk result (rows.new ≡ rows_with program.now book.old.ledger (after book.old.program book.old.settings book.old.ledger entry) entry rows.old) }
+    ensures fails { IfErr result (FailsFor (refusal book.old.program book.old.settings book.old.ledger entry)) }
 {
     let made = book.tasks() as u64;
     if made == u64::MAX {
@@ -63,14 +63,14 @@ fn enter_all(
     rows: &mut Listed<Row>,
     journal: &[Entry],
 ) -> Result<(), ReplayError>
-    requires limits { AreLimits book.old.limits }
-    requires first { book.old.ledger ≡ opening book.old.program book.old.limits }
+    requires limits { AreLimits book.old.settings }
+    requires first { book.old.ledger ≡ opening book.old.program book.old.settings }
     requires open { book.old.stopped ≡ false }
     requires program { book.old.program ≡ program.now }
-    ensures book { OnOk result (book.new ≡ record book.old { ledger = ledger_of book.old.program book.old.limits journal.now }) }
-    ensures rows { OnOk result (rows.new ≡ rows_from book.old.program book.old.limits (opening book.old.program book.old.limits) rows.old journal.now) }
-    ensures legal { OnOk result (first_refused book.old.program book.old.limits journal.now ≡ None) }
-    ensures fails { IfErr result (ReplayFails (first_refused book.old.program book.old.limits journal.now)) }
+    ensures book { OnOk result (book.new ≡ record book.old { ledger = ledger_of book.old.program book.old.settings journal.now }) }
+    ensures rows { OnOk result (rows.new ≡ rows_from book.old.program book.old.settings (opening book.old.program book.old.settings) rows.old journal.now) }
+    ensures legal { OnOk result (first_refused book.old.program book.old.settings journal.now ≡ None) }
+    ensures fails { IfErr result (ReplayFails (first_refused book.old.program book.old.settings journal.now)) }
 {
     let mut index: u64 = 1;
     for entry in journal {

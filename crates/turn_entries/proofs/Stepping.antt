@@ -4,7 +4,7 @@ use Rattle.hh_lang.specs.Form.{ProgramText}
 use Rattle.hh_model.specs.declared.data.State.{State}
 use Rattle.hh_model.specs.Counts.{Counted}
 use Rattle.hh_model.specs.Effect.{row_of}
-use Rattle.hh_model.specs.Tree.{Kept}
+use Rattle.hh_model.specs.Tree.{SoundState}
 use Rattle.hh_model.proofs.Counts.{steps_count}
 use Rattle.hh_model.proofs.Kept.{run_kept, start_kept, step_kept}
 use Rattle.run_trace.specs.Settings.{field_limit}
@@ -36,15 +36,15 @@ use Rattle.turn_entries.specs.Parts.{AtSome, HasGrown, IsPaused, MayRun}
 
 -- ---- ITS OBJECTS are counted
 
-counted_then : (p : ProgramText) (m : State) (t j n k : ℕ) → k ≡ n + j → Kept m → Counted j m.tasks m.store → Kept (steps p m t n) × Counted k (steps p m t n).tasks (steps p m t n).store
+counted_then : (p : ProgramText) (m : State) (t j n k : ℕ) → k ≡ n + j → SoundState m → Counted j m.tasks m.store → SoundState (steps p m t n) × Counted k (steps p m t n).tasks (steps p m t n).store
 counted_then p m t j zero k e K C = (K, subst (λ i. Counted i m.tasks m.store) (let h : j ≡ k = omega (arith, e) in h) C)
 counted_then p m t j (suc n) k e K C =
     let b = counted_then p m t j n (n + j) refl K C in
     let h : suc (n + j) ≡ k = omega (arith, e) in
     (step_kept p (steps p m t n) t b.0, subst (λ i. Counted i (steps p m t (suc n)).tasks (steps p m t (suc n)).store) h (steps_count p (steps p m t n) t (n + j) b.0 b.1))
 
-kept_now : (w : SharedValue) → Kept (accounts w).machine
-kept_now w = subst Kept (sym (machine_is_run w.program w.settings w.journal.items)) (run_kept w.program _ (tasks_of w.journal.items) (start_kept w.program (field_limit w.settings.version)))
+kept_now : (w : SharedValue) → SoundState (accounts w).machine
+kept_now w = subst SoundState (sym (machine_is_run w.program w.settings w.journal.items)) (run_kept w.program _ (tasks_of w.journal.items) (start_kept w.program (field_limit w.settings.version)))
 
 module _ (w : SharedValue) (k : ℕ) (part : Private) (I : IsSharedValue w) (on : (accounts w).end ≡ None) (F : Fits w k part) where
   pub first : FitsFirst w part
@@ -103,10 +103,10 @@ module _ (w : SharedValue) (text : ProgramText) (same : w.program ≡ text) (k :
 -- of a part that may run at some value
 module _ (p : ProgramText) (k : ℕ) (part : Private) (A : AtSome p (λ w. MayRun w k part)) where
   pub fits_some : FitsSome p part
-  fits_some = subst (λ q. FitsSome q part) A.1.program (machine_after A.0 part, _, first A.0 k part A.1.world A.1.goes A.2.fits)
+  fits_some = subst (λ q. FitsSome q part) A.1.program (machine_after A.0 part, _, first A.0 k part A.1.shared A.1.goes A.2.fits)
 
   pub few_then : (n : ℕ) → n ≤ private_limit → part.allocations + n < 4294967296
-  few_then n most = few_allocations A.0 k part A.1.world A.1.goes A.2.fits n A.2.few most
+  few_then n most = few_allocations A.0 k part A.1.shared A.1.goes A.2.fits n A.2.few most
 
   pub grows : (new : Private) (n : ℕ) → Runs p part n new → KeepsAccounts p part n new → KeepsRest part new → part.fresh + n ≤ private_limit → (why : Paused) → PausesBy p part n new why → (why ≡ Spent → new.fresh ≡ private_limit) → HasGrown p k part new why
-  grows new n runs kept rest few why by spent = λ w G f. paused_then w p G.program k G.world part new f G.goes A.2.idle n runs kept rest few why by spent
+  grows new n runs kept rest few why by spent = λ w G f. paused_then w p G.program k G.shared part new f G.goes A.2.idle n runs kept rest few why by spent

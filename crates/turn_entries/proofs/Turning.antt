@@ -56,8 +56,8 @@ module _ (w after : SharedValue) (S : IsSame w after) where
   }
 
   pub brings_then : (k : ℕ) (ready : Ready) → BringsTo w k ready → BringsTo after k ready
-  brings_then k (HasPaused part why) B = (B.0, S.all k B.0 B.1, λ z G f. B.2 z (record { world = G.world; program = G.program ∙ S.program; goes = G.goes }) f)
-  brings_then k (IsCopied c) B = (S.all k c.begun.value B.0, λ z G f. B.1 z (record { world = G.world; program = G.program ∙ S.program; goes = G.goes }) f)
+  brings_then k (HasPaused part why) B = (B.0, S.all k B.0 B.1, λ z G f. B.2 z (record { shared = G.shared; program = G.program ∙ S.program; goes = G.goes }) f)
+  brings_then k (IsCopied c) B = (S.all k c.begun.value B.0, λ z G f. B.1 z (record { shared = G.shared; program = G.program ∙ S.program; goes = G.goes }) f)
   brings_then k (Found task) B = tt
   brings_then k Wanting B = tt
 
@@ -75,9 +75,9 @@ one_of_all w after k kind enters all = one w after k kind enters (all_others w a
 -- after an entry by which every part still fits, the worker goes on with what it came with
 pub follows_paid : (w after : SharedValue) (k : ℕ) (ready : Ready) → IsSharedValue w → (accounts w).end ≡ None → is_wanting ready ≡ false → BringsTo w k ready → AllFit w after → after.program ≡ w.program → (accounts after).end ≡ None → Follows w after k ready (next_after ready)
 follows_paid w after k (HasPaused part why) I on met B all same goes =
-    let P = (B.2 w (record { world = I; program = refl; goes = on }) B.1).may in
+    let P = (B.2 w (record { shared = I; program = refl; goes = on }) B.1).may in
     (goes, record { fits = all k part P.fits; few = P.few; idle = P.idle })
-follows_paid w after k (IsCopied c) I on met B all same goes = (goes, refl, all k c.begun.value B.0, λ z G f. B.1 z (record { world = G.world; program = G.program ∙ same; goes = G.goes }) f)
+follows_paid w after k (IsCopied c) I on met B all same goes = (goes, refl, all k c.begun.value B.0, λ z G f. B.1 z (record { shared = G.shared; program = G.program ∙ same; goes = G.goes }) f)
 follows_paid w after k (Found (Some t)) I on met B all same goes = (goes, refl)
 follows_paid w after k (Found None) I on met B all same goes = (goes, inl refl)
 follows_paid w after k Wanting I on met B all same goes = absurd (false≢true (sym met))
@@ -104,7 +104,7 @@ entered_goes r after k ready kind next lent end ends I same told is going E on f
   made = kind;
   is_next = refl;
   enters = E;
-  world = I;
+  shared = I;
   on = E.enters.halted ∙ on;
   follows = follows (ap (λ (w : SharedValue). (accounts w).end) (sym same) ∙ (sym told ∙ none_of end (sym is ∙ going)));
 }
@@ -157,7 +157,7 @@ module _ (r : Run) (after : SharedValue) (e : after ≡ record r.paced { journal
     made = A.made;
     is_next = same_kind ∙ A.is_next;
     enters = then_one r.paced after (roomier r.paced after e all) (ap (λ (z : SharedValue). z.halted) e) run.paced k A.made A.enters;
-    world = A.world;
+    shared = A.shared;
     on = A.on;
     follows = follows_then run.paced next A.follows;
   }

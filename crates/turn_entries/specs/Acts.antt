@@ -57,7 +57,7 @@ pub record MakesEntry (r run : Run) (k : ℕ) (ready : Ready) (kind : Option Kin
   pub made : Kind
   pub is_next : kind ≡ Some made
   pub enters : EntersOne r.paced run.paced k made
-  pub world : IsSharedValue run.paced
+  pub shared : IsSharedValue run.paced
   pub on : run.paced.halted ≡ false
   pub follows : Follows r.paced run.paced k ready next
 

@@ -29,7 +29,7 @@ Sight = View Run EntryValue (Snapshot Private) Setup
 
 -- a value that runs this program, and hasn't ended
 pub record GoesOn (p : ProgramText) (w : SharedValue) : Type 0 where
-  pub world : IsSharedValue w
+  pub shared : IsSharedValue w
   pub program : w.program ≡ p
   pub goes : (accounts w).end ≡ None
 

@@ -14,7 +14,7 @@ use Rattle.atomic_table.proofs.Lists.{at_set, set_else}
 use Rattle.turn_lock.specs.declared.view.View.{View}
 use Rattle.turn_lock.specs.Journal.{NoneBy, AllBelow}
 use Rattle.turn_lock.specs.Seats.{Knows, Extends, IsAlike, with_looked, with_taken, with_given}
-use Rattle.turn_lock.specs.Rule.{Sees, IsFree, IsHeld, Turning, HasAll, looks, takes as took, gives as gave, returns}
+use Rattle.turn_lock.specs.Rule.{Sees, IsFree, IsTaken, Turning, HasAll, looks, takes as took, gives as gave, returns}
 use Rattle.turn_lock.proofs.Views.{Same, same, renumbered, set_hit, one_there}
 
 pub set_last : (a : ℕ) → bit_or a 1 ≡ a / 2 * 2 + 1
@@ -70,7 +70,7 @@ module _ {T E P S : Type 0} (journal : T → List E) (by : E → ℕ) (fits : T 
   Free = IsFree journal by fits setup
 
   abbrev Held : St → T → Type 0
-  Held = IsHeld journal by fits setup
+  Held = IsTaken journal by fits setup
 
   moved : (s : St) (r : Rule s) (id n : ℕ) (v w : V) (homes : List (maybe.Option (Option T))) (x : T) → get_elem? s.views id ≡ some v → Same v w
       → Free record { words = set s.words 0 n; homes = homes; views = set s.views id w } x ⊎ Held record { words = set s.words 0 n; homes = homes; views = set s.views id w } x

@@ -10,7 +10,7 @@ use Rattle.atomic_table.proofs.Lists.{at_set, set_else, at_longer, at_last}
 use Rattle.turn_lock.specs.declared.view.View.{View}
 use Rattle.turn_lock.specs.Journal.{NoneBy, AllBelow}
 use Rattle.turn_lock.specs.Seats.{opening_view}
-use Rattle.turn_lock.specs.Rule.{HasAll, Numbered, Sees, IsFree, IsHeld, Turning, with_seat_more, split_view, with_joined, spent_view}
+use Rattle.turn_lock.specs.Rule.{HasAll, Numbered, Sees, IsFree, IsTaken, Turning, with_seat_more, split_view, with_joined, spent_view}
 use Rattle.turn_lock.proofs.Views.{set_hit, one_there}
 
 abbrev first_of : {A : Type 0} → List A → Option A
@@ -120,7 +120,7 @@ module _ {T E P S : Type 0} (journal : T → List E) (by : E → ℕ) (fits : T 
   Free = IsFree journal by fits setup
 
   abbrev Held : St → T → Type 0
-  Held = IsHeld journal by fits setup
+  Held = IsTaken journal by fits setup
 
   pub hires : (id : ℕ) (v : V) → v.live ≡ true → v.worker ≡ 0 → v.taken ≡ None → v.joined ≡ [] → Splits Rule id v (with_seat_more v) (split_view v)
   hires id v live first idle none_joined s r at = let k = r.knows id v at live in let few = r.seats.counted id id v v at at live live first in

@@ -50,8 +50,8 @@ module _ {T E P S : Type 0} (journal : T → List E) (worker_of : E → ℕ) (fi
       × ((i : ℕ) (v : View T E P S) → get_elem? s.views i ≡ some v → v.taken ≡ None)
 
   -- one seat has the turn and took the value, and the word is twice the entries plus one
-  abbrev pub IsHeld : State (Option T) (View T E P S) → T → Type 0
-  IsHeld s value = (slice_index s.words 0 ≡ 2 * length (journal value) + 1)
+  abbrev pub IsTaken : State (Option T) (View T E P S) → T → Type 0
+  IsTaken s value = (slice_index s.words 0 ≡ 2 * length (journal value) + 1)
       × (h : ℕ) × (v : View T E P S) × (get_elem? s.views h ≡ some v) × (v.live ≡ true) × (v.taken ≡ Some value)
       × ((i : ℕ) (w : View T E P S) → get_elem? s.views i ≡ some w → i ≢ h → w.taken ≡ None)
 
@@ -59,7 +59,7 @@ module _ {T E P S : Type 0} (journal : T → List E) (worker_of : E → ℕ) (fi
     -- the value at home, or the one that was taken
     pub value : T
     pub wide : length s.words ≡ 1
-    pub turn : IsFree s value ⊎ IsHeld s value
+    pub turn : IsFree s value ⊎ IsTaken s value
     pub knows : (i : ℕ) (v : View T E P S) → get_elem? s.views i ≡ some v → v.live ≡ true → Sees value v
     -- somebody has seen the whole journal
     pub whole : (i : ℕ) × (v : View T E P S) × (get_elem? s.views i ≡ some v) × (v.live ≡ true) × HasAll value v

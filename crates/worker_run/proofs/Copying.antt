@@ -33,7 +33,7 @@ module _ (p : ProgramText) (w : SharedValue) (k : ℕ) (c : Collecting) (G : Goe
   b = record { roots = c.roots.items; news = map number_of news }
 
   copying : IsCopying w k c.part b news
-  copying = begun_is_copying w k M.before c.part c.roots.items c.to_chunks M.begun G.world M.fits M.fresh
+  copying = begun_is_copying w k M.before c.part c.roots.items c.to_chunks M.begun G.shared M.fits M.fresh
 
   pub takes : CanTake c.part.heap.chunks news
   takes = copying.new
@@ -41,7 +41,7 @@ module _ (p : ProgramText) (w : SharedValue) (k : ℕ) (c : Collecting) (G : Goe
   pub can_copy : CanCopy c.part.heap c.part.frames c.roots.items
   can_copy =
       begun_can_copy w.program w.settings c.part.task c.part.heap c.part.view c.part.allocations c.part.frames (record { roots = c.roots.items; news = map number_of news }) news (value_of w) (aside (accounts w)) M.fits.fits.task
-      (begun w k c.part b news copying) M.fits.fits.is (status w k c.part G.world M.fits G.goes)
+      (begun w k c.part b news copying) M.fits.fits.is (status w k c.part G.shared M.fits G.goes)
       (subst (λ ks. All (IsSound ks) (map as_reference c.roots.items)) (sym (ap (λ (q : Private). q.heap.chunks) M.begun.part)) M.begun.sound)
 
   pub copied : (h' : LeafHeapValue) (frames' : FramesValue) (moved : Moved) → IsCollected c.part.heap c.part.frames c.roots.items news h' frames' moved → FitsCopied w k (record c.part { heap = h'; frames = frames' }) moved

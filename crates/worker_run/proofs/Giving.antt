@@ -55,8 +55,8 @@ module _ (p : ProgramText) (d : Desk) (value : Run) (v : Sight) (K : Knows journ
   kept_fits part k = subst (λ (n : ℕ). Fits value.paced n part) number (subst (Fits value.paced v.worker) k.2 (K.part k.0 k.1))
 
   pub brings : (ready : Ready) → ComesWith p d.worker v ready → BringsTo value.paced d.worker ready
-  brings (HasPaused part why) C = (C.0, kept_fits C.0 C.1, λ w G f. C.2 w (record { world = G.world; program = G.program ∙ program_taken; goes = G.goes }) f)
-  brings (IsCopied c) C = (kept_fits c.begun.value C.0, λ w G f. C.1 w (record { world = G.world; program = G.program ∙ program_taken; goes = G.goes }) f)
+  brings (HasPaused part why) C = (C.0, kept_fits C.0 C.1, λ w G f. C.2 w (record { shared = G.shared; program = G.program ∙ program_taken; goes = G.goes }) f)
+  brings (IsCopied c) C = (kept_fits c.begun.value C.0, λ w G f. C.1 w (record { shared = G.shared; program = G.program ∙ program_taken; goes = G.goes }) f)
   brings (Found task) C = tt
   brings Wanting C = tt
 
@@ -67,7 +67,7 @@ program_entered z p d taken value D K kind enters = enters.enters.program ∙ pr
 -- an entry was made
 pub has_entry : (z : TableId) (p : ProgramText) (d e : Desk) (taken value : Run) → IsDesk z p d → e ≡ record d { seat = e.seat } → HasTurn z e.seat taken → view e.seat ≡ with_taken (view d.seat) taken
     → Knows journal_of worker_of FitsKept setup_of taken (view d.seat) → (kind : Kind) → EntersOne taken.paced value.paced d.worker kind → IsSharedValue value.paced → HasEntry z e value
-has_entry z p d e taken value D is turn sees K kind enters world = subst (λ (x : Desk). HasEntry z x value) (sym is) (record {
+has_entry z p d e taken value D is turn sees K kind enters shared = subst (λ (x : Desk). HasEntry z x value) (sym is) (record {
   taken = taken;
   turn = turn;
   number = ap (λ (v : Sight). v.worker) sees ∙ D.number;
@@ -78,7 +78,7 @@ has_entry z p d e taken value D is turn sees K kind enters world = subst (λ (x 
   thieves = D.thieves;
   kind = kind;
   enters = enters;
-  world = world;
+  shared = shared;
   within = (let a = own_within (view d.seat).worker (journal_of taken) in let b = ap length (own_of_taken journal_of worker_of FitsKept setup_of taken (view d.seat) K) in let c = ap length own in omega (arith, a, b, c));
 })
   where
@@ -106,8 +106,8 @@ module _ (z : TableId) (d : Desk) (value : Run) (H : HasEntry z d value) where
 
   -- what the worker goes on with
   pub goes : (next : Next) (v : Sight) (s : Snapshot Private) → TakesFrom value.paced d.worker next → v.part ≡ Some s → KeepsOf next s → GoesWith value.paced.program d.worker v next
-  goes (Running part) v s T e k = ((s, e, k), (value.paced, record { world = H.world; program = refl; goes = T.0 }, T.1))
-  goes (Collects c) v s T e k = ((s, e, k), (value.paced, record { world = H.world; program = refl; goes = T.0 }, T.1))
+  goes (Running part) v s T e k = ((s, e, k), (value.paced, record { shared = H.shared; program = refl; goes = T.0 }, T.1))
+  goes (Collects c) v s T e k = ((s, e, k), (value.paced, record { shared = H.shared; program = refl; goes = T.0 }, T.1))
   goes (HasCopied c) v s T e k = ((s, e, k), T.1)
   goes (GoesFor t) v s T e k = tt
   goes (Forked l r) v s T e k = tt

@@ -122,5 +122,5 @@ pub record HasEntry (z : TableId) (d : Desk) (value : Run) : Type 0 where
   pub thieves : length (thefts d.hand) ≡ d.settings.workers
   pub kind : Kind
   pub enters : EntersOne taken.paced value.paced d.worker kind
-  pub world : IsSharedValue value.paced
+  pub shared : IsSharedValue value.paced
   pub within : length (entries_of d) ≤ length taken.paced.journal.items

@@ -53,7 +53,7 @@ reserved_by w after S = record {
   rest = record {
     rest = ap (λ (z : SharedValue). let y : SharedValue = record z { journal = w.journal } in y) S.rest;
     many = S.many;
-    homes = S.homes;
+    rests = S.rests;
     many_sets = S.many_sets;
     sets = S.sets;
   };
@@ -141,9 +141,9 @@ module _ (w mid : SharedValue) (roomier : SameButRoomier w mid) (fit : AllFit w 
       by_room S = record {
         rest =
             ap (λ (z : SharedValue). let y : SharedValue = record z { journal = w.journal } in y) S.rest
-            ∙ ap (λ (z : SharedValue). let y : SharedValue = record z { homes = after.homes; sets = after.sets; journal = w.journal } in y) roomier;
-        many = S.many ∙ ap (λ (z : SharedValue). length z.homes) roomier;
-        homes = λ u. subst (λ (z : SharedValue). IsSameRest (rest_at z.homes u) (rest_at after.homes u)) roomier (S.homes u);
+            ∙ ap (λ (z : SharedValue). let y : SharedValue = record z { rests = after.rests; sets = after.sets; journal = w.journal } in y) roomier;
+        many = S.many ∙ ap (λ (z : SharedValue). length z.rests) roomier;
+        rests = λ u. subst (λ (z : SharedValue). IsSameRest (rest_at z.rests u) (rest_at after.rests u)) roomier (S.rests u);
         many_sets = S.many_sets ∙ ap (λ (z : SharedValue). length z.sets) roomier;
         sets = λ u. S.sets u ∙ ap (λ (z : SharedValue). content_at z.sets u) roomier;
       }

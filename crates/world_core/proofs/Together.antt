@@ -196,7 +196,7 @@ module _ (x : WorldValue) (I : IsSharedValue x.shared) (W : IsWhole x) where
   out t k e = by holding.0 (W.holdings k holding.0 holding.1) (R.all k holding.0 holding.1)
     where
       listed : slice_get w.tasks_out k ≡ Some (Some t)
-      listed = some_flat (slice_get w.tasks_out k) t ((I.stands.totals.task_out k t).1 e)
+      listed = some_flat (slice_get w.tasks_out k) t ((I.stands.tree_counts.task_out k t).1 e)
 
       holding : (h : Held) × (slice_get x.holdings k ≡ Some h)
       holding = got_some x.holdings k (let a = got_within w.tasks_out k (Some t) listed in let b = I.workers in let c = W.count in omega (arith, a, b, c))

@@ -1,7 +1,7 @@
 // A leaf collection of a task begins.
 
 ghost use Rattle.std.specs.Prelude.{◌≡◌, ◌<◌, None, false};
-ghost use Rattle.task_machine.specs.declared.part.Private.{Private as PartOf};
+ghost use Rattle.task_machine.specs.declared.part.Private.{Private as PrivateOf};
 ghost use Rattle.shared_value.specs.Causes.{first_cause};
 ghost use Rattle.shared_value.specs.LeafBegin.{HasBegun};
 ghost use Rattle.shared_value.specs.Fits.{Fits};
@@ -28,7 +28,7 @@ fn copy_begun(
     requires goes { (accounts shared.now).end ≡ None }
     requires fits { Fits shared.now worker part.old }
     requires fresh { part.old.fresh ≡ 0 }
-    requires begun { (before : PartOf) × HasBegun before part.old roots.now to_chunks }
+    requires begun { (before : PrivateOf) × HasBegun before part.old roots.now to_chunks }
     ensures { HoldsCopy shared.now worker part.new result }
 {
     shared.stands();

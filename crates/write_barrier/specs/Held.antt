@@ -8,6 +8,6 @@ use Rattle.write_barrier.specs.declared.sets.Form.TheVariants.{Bare, Full}
 abbrev pub bare : Bool → Noted
 bare keeps = record { remembered = record { sources = []; slots = 0; spare = 0; numbers = 0 }; kept = record { items = []; room = 0 }; keeps = keeps }
 
-abbrev pub held_in : Form → Noted
-held_in (Bare keeps) = bare keeps
-held_in (Full noted) = noted
+abbrev pub in_full : Form → Noted
+in_full (Bare keeps) = bare keeps
+in_full (Full noted) = noted

@@ -4,7 +4,7 @@ ghost use Rattle.std.specs.Prelude.{◌≡◌, ℕ, ◌<◌, ◌≤◌, IfSome, 
 ghost use Rattle.object_layout.specs.Cell.{IsPlace};
 ghost use Rattle.chunk_pool.specs.PoolValue.{slot_at};
 ghost use Rattle.remembered_set.specs.declared.remembered.Source.{Source};
-ghost use Rattle.remembered_set.specs.Moved.{held_by};
+ghost use Rattle.remembered_set.specs.Moved.{target_of};
 ghost use Rattle.write_barrier.specs.Stored.{content_after, content_at, heap_of, noted_in, IsOwned};
 
 use crate::noting::{keep, note_source, reserve_kept};
@@ -73,10 +73,10 @@ pub fn store<W: Words>(
     requires place { IsPlace value }
     requires object { IsOwned (length tree.now) pool.now (Some object) }
     requires value { IsOwned (length tree.now) pool.now value }
-    requires overwritten { IsOwned (length tree.now) pool.now (held_by W.refs_at words.old (record { object = object; field = field })) }
+    requires overwritten { IsOwned (length tree.now) pool.now (target_of W.refs_at words.old (record { object = object; field = field })) }
     requires sets { length tree.now ≤ length sets.old }
     ensures field { OnOk result (words.new ≡ W.with_ref_at words.old object field value) }
-    ensures sets { let source : Source = record { object = object; field = field } in OnOk result ((t : ℕ) → content_at sets.new t ≡ option_map (content_after tree.now pool.now source (held_by W.refs_at words.old source) value t) (content_at sets.old t)) }
+    ensures sets { let source : Source = record { object = object; field = field } in OnOk result ((t : ℕ) → content_at sets.new t ≡ option_map (content_after tree.now pool.now source (target_of W.refs_at words.old source) value t) (content_at sets.old t)) }
     ensures no_field { OnErr result (words.new ≡ words.old) }
     ensures no_sets { OnErr result ((t : ℕ) → content_at sets.new t ≡ content_at sets.old t) }
 {

@@ -3,7 +3,7 @@
 ghost use Rattle.std.specs.Prelude.{◌≡◌, ◌<◌, ◌≤◌, ◌++◌, ◌∷◌, [], IfErr, IfNone, IfOk, None, OnErr, OnOk, false, fold};
 ghost use Rattle.remembered_set.specs.Moved.{redirected, targets_of, AreFields, AreInOrder, ArePlaces};
 ghost use Rattle.remembered_set.specs.Sources.{noted as noted_with, notes_in, StandOnce};
-ghost use Rattle.write_barrier.specs.Held.{bare, held_in};
+ghost use Rattle.write_barrier.specs.Held.{bare, in_full};
 ghost use Rattle.write_barrier.specs.Stored.{content_of};
 
 use listed::Roomy;
@@ -46,9 +46,9 @@ impl Model for SetOf {
 
     ghost Value = { NotedOf };
 
-    ghost use Rattle.write_barrier.specs.Held.{held_in};
+    ghost use Rattle.write_barrier.specs.Held.{in_full};
 
-    ghost view = { λ s. held_in s.form };
+    ghost view = { λ s. in_full s.form };
 }
 
 // Nothing, of a heap that keeps nothing.
@@ -80,8 +80,8 @@ fn set_in(alloc: Global, remembered: Remembered, block: Apart<Noted>) -> SetOf
 
 // The block that there is, or a new one; for want of memory the form is handed back.
 fn opened(alloc: Global, form: Form) -> Result<Apart<Noted>, Form>
-    ensures ok { IfOk result (λ n. content_of n ≡ content_of (held_in form)) }
-    ensures places { IfOk result (λ n. (held_in form).kept.room ≤ n.kept.room) }
+    ensures ok { IfOk result (λ n. content_of n ≡ content_of (in_full form)) }
+    ensures places { IfOk result (λ n. (in_full form).kept.room ≤ n.kept.room) }
     ensures back { IfErr result (λ f. f ≡ form) }
 {
     match form {

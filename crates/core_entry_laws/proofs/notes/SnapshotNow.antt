@@ -10,7 +10,7 @@ use Rattle.hh_model.specs.declared.data.Name.{Name}
 use Rattle.hh_model.specs.declared.data.Status.{Status}
 use Rattle.hh_model.specs.declared.data.Status.TheVariants.{Running, Waiting, Ended, Joined}
 use Rattle.hh_model.specs.declared.data.Task.{Task}
-use Rattle.hh_model.specs.Names.{held_by, registers}
+use Rattle.hh_model.specs.Names.{names_from, registers}
 use Rattle.hh_model.specs.Step.{is_waiting, waits}
 use Rattle.run_ledger.specs.declared.data.Ledger.{Ledger}
 use Rattle.run_ledger.specs.Heaps.{heap_at, heap_of}
@@ -92,7 +92,7 @@ module _ (v : Memory) (l : Ledger) (t : ℕ) (x : Task) (S : SoundLedger l) (V :
   waits_holds (Ended k n) h r = absurd cc
   waits_holds Joined h r = absurd cc
 
-  waits_names : (st : Status) → waits st ≡ true → (n : Name) → In (registers (x.top ∷ x.below)) n → In (held_by st (x.top ∷ x.below)) n
+  waits_names : (st : Status) → waits st ≡ true → (n : Name) → In (registers (x.top ∷ x.below)) n → In (names_from st (x.top ∷ x.below)) n
   waits_names Running h n i = absurd cc
   waits_names Waiting h n i = i
   waits_names (Ended k m) h n i = absurd cc

@@ -8,7 +8,7 @@ use Rattle.run_trace.specs.declared.entry.Kind.{Kind}
 use Rattle.run_trace.specs.declared.entry.Kind.TheVariants.{Took, Ran, Chunk, Begin, End as EndOf, PutOff, Mark, More, Sweep, Fuel}
 use Rattle.hh_model.specs.declared.data.Status.{Status}
 use Rattle.hh_model.specs.declared.data.Status.TheVariants.{Running, Waiting, Ended, Joined}
-use Rattle.hh_model.specs.declared.data.State.{State as Machine}
+use Rattle.hh_model.specs.declared.data.State.{State}
 use Rattle.hh_model.specs.declared.data.Task.{Task}
 use Rattle.hh_model.specs.Step.{asked, is_running, runs}
 use Rattle.run_ledger.specs.declared.data.Heap.{Heap}
@@ -31,7 +31,7 @@ use Rattle.listed.proofs.Options.{none_is}
 use Rattle.run_ledger.proofs.Holders.{none_holding}
 use Rattle.heap_tree.specs.declared.state.State.TheVariants.{Out}
 use Rattle.heap_tree.specs.Node.{Node}
-use Rattle.core_relation.specs.Whole.{Totals, TotalsStand, state_by}
+use Rattle.core_relation.specs.Whole.{TreeCounts, TreeCountsStand, state_by}
 use Rattle.core_relation.specs.Counts.{SameCounts, TakesNode, AsksUnits, CountsGo}
 
 -- as the accounts have the node of a task that is held so
@@ -39,13 +39,13 @@ abbrev pub node_of : Option ℕ → Option Task → Option Node
 node_of w o = option_map (λ (x : Task). record { parent = x.parent; state = state_by x.status w }) o
 
 -- the machine and who holds what stay
-same_totals : (c c' : Totals) (l l' : Ledger) → SameTasks l l' → l'.steps ≡ l.steps → SameCounts c c' → c'.used ≡ in_use l' → c'.end ≡ l'.end → TotalsStand c l → TotalsStand c' l'
+same_totals : (c c' : TreeCounts) (l l' : Ledger) → SameTasks l l' → l'.steps ≡ l.steps → SameCounts c c' → c'.used ≡ in_use l' → c'.end ≡ l'.end → TreeCountsStand c l → TreeCountsStand c' l'
 same_totals c c' l l' L steps C used end T = record {
   task_out = λ w t. (λ e. L.worker t ∙ (T.task_out w t).0 (sym (C.task_out w) ∙ e), λ e. C.task_out w ∙ (T.task_out w t).1 (sym (L.worker t) ∙ e));
-  node = λ t. C.node t ∙ (T.node t ∙ ap₂ (λ w (m : Machine). node_of w (slice_get m.tasks t)) (sym (L.worker t)) (sym L.machine));
+  node = λ t. C.node t ∙ (T.node t ∙ ap₂ (λ w (m : State). node_of w (slice_get m.tasks t)) (sym (L.worker t)) (sym L.machine));
   used = used;
   steps = C.steps ∙ (T.steps ∙ sym steps);
-  outputs = C.outputs ∙ (T.outputs ∙ ap (λ (m : Machine). m.outputs) (sym L.machine));
+  outputs = C.outputs ∙ (T.outputs ∙ ap (λ (m : State). m.outputs) (sym L.machine));
   end = end;
 }
 
@@ -78,13 +78,13 @@ chunk_snapshot o h = by (on_asked o is_small)
     by false = refl
 
 -- one heap's account changes, and not who holds it
-heap_totals : (c c' : Totals) (l : Ledger) (t : ℕ) (f : Heap → Heap) → ((h : Heap) → (f h).worker ≡ h.worker) → ((h : Heap) → (f h).snapshot ≡ h.snapshot) → SameCounts c c' → c'.used ≡ in_use (with_heap l t f) → c'.end ≡ c.end → TotalsStand c l → TotalsStand c' (with_heap l t f)
+heap_totals : (c c' : TreeCounts) (l : Ledger) (t : ℕ) (f : Heap → Heap) → ((h : Heap) → (f h).worker ≡ h.worker) → ((h : Heap) → (f h).snapshot ≡ h.snapshot) → SameCounts c c' → c'.used ≡ in_use (with_heap l t f) → c'.end ≡ c.end → TreeCountsStand c l → TreeCountsStand c' (with_heap l t f)
 heap_totals c c' l t f w s C used end T =
     let e = with_steps l t f in
     same_totals c c' l (with_heap l t f) (same_tasks l t f w s) e.0 C used (end ∙ (T.end ∙ sym e.1)) T
 
-took_totals : (c c' : Totals) (l : Ledger) (t w : ℕ) (h : Heap) → slice_get l.heaps t ≡ Some h → is_running (slice_get l.machine.tasks t) ≡ true → (heap_of l t).worker ≡ None → ((u : ℕ) → (heap_of l u).worker ≡ Some w → ⊥) → in_use (with_heap l t (λ h. record h { worker = Some w })) ≡ in_use l → TakesNode c c' w t → TotalsStand c l
-    → TotalsStand c' (with_heap l t (λ h. record h { worker = Some w }))
+took_totals : (c c' : TreeCounts) (l : Ledger) (t w : ℕ) (h : Heap) → slice_get l.heaps t ≡ Some h → is_running (slice_get l.machine.tasks t) ≡ true → (heap_of l t).worker ≡ None → ((u : ℕ) → (heap_of l u).worker ≡ Some w → ⊥) → in_use (with_heap l t (λ h. record h { worker = Some w })) ≡ in_use l → TakesNode c c' w t → TreeCountsStand c l
+    → TreeCountsStand c' (with_heap l t (λ h. record h { worker = Some w }))
 took_totals c c' l t w h is run rests none used C T =
     let l' : Ledger = with_heap l t (λ h. record h { worker = Some w }) in
     let L = took_takes l t w h is in
@@ -95,12 +95,12 @@ took_totals c c' l t w h is run rests none used C T =
         | inl same ↦
             subst (λ z. c'.node z ≡ node_of (heap_of l' z).worker (slice_get l'.machine.tasks z)) (sym same)
             (C.node ∙ (ap (option_map (λ (n : Node). record n { state = Out })) (T.node t)
-            ∙ (out (slice_get l.machine.tasks t) (heap_of l t).worker run ∙ ap₂ (λ k (m : Machine). node_of k (slice_get m.tasks t)) (sym L.worker) (sym L.machine))))
-        | inr ne ↦ C.others u ne ∙ (T.node u ∙ ap₂ (λ (g : Heap) (m : Machine). node_of g.worker (slice_get m.tasks u)) (sym (L.heaps u ne)) (sym L.machine))
+            ∙ (out (slice_get l.machine.tasks t) (heap_of l t).worker run ∙ ap₂ (λ k (m : State). node_of k (slice_get m.tasks t)) (sym L.worker) (sym L.machine))))
+        | inr ne ↦ C.others u ne ∙ (T.node u ∙ ap₂ (λ (g : Heap) (m : State). node_of g.worker (slice_get m.tasks u)) (sym (L.heaps u ne)) (sym L.machine))
       ];
       used = C.used ∙ (T.used ∙ sym used);
       steps = C.steps ∙ (T.steps ∙ sym e.0);
-      outputs = C.outputs ∙ (T.outputs ∙ ap (λ (m : Machine). m.outputs) (sym L.machine));
+      outputs = C.outputs ∙ (T.outputs ∙ ap (λ (m : State). m.outputs) (sym L.machine));
       end = C.end ∙ (T.end ∙ sym e.1);
     }
   where
@@ -135,15 +135,15 @@ took_totals c c' l t w h is run rests none used C T =
         by (Ended n r) h = absurd cc
         by Joined h = absurd cc
 
-module _ (p : ProgramText) (s : SettingsValue) (journal : List EntryValue) (program : IsProgram p) (legal : is_legal p s journal ≡ true) (c c' : Totals) (T : TotalsStand c (ledger_of p s journal)) where
+module _ (p : ProgramText) (s : SettingsValue) (journal : List EntryValue) (program : IsProgram p) (legal : is_legal p s journal ≡ true) (c c' : TreeCounts) (T : TreeCountsStand c (ledger_of p s journal)) where
   abbrev l : Ledger
   l = ledger_of p s journal
 
-  chunk_totals : (asks : ℕ) (l' : Ledger) (v : Bool) → SameTasks l l' → l'.steps ≡ l.steps → ChunkGoes v l l' asks → SameCounts c c' → AsksUnits v c c' asks → TotalsStand c' l'
+  chunk_totals : (asks : ℕ) (l' : Ledger) (v : Bool) → SameTasks l l' → l'.steps ≡ l.steps → ChunkGoes v l l' asks → SameCounts c c' → AsksUnits v c c' asks → TreeCountsStand c' l'
   chunk_totals asks l' true L steps U C A = same_totals c c' l l' L steps C (A.0 ∙ (T.used ∙ ap in_use (sym U))) (A.1 ∙ (ap (λ k. Some (Pool k)) T.used ∙ ap (λ (z : Ledger). z.end) (sym U))) T
   chunk_totals asks l' false L steps U C A = same_totals c c' l l' L steps C (A.0 ∙ (ap (λ k. k + asks) T.used ∙ sym U.1)) (A.1 ∙ (T.end ∙ sym U.0)) T
 
-  by_kind : (w : ℕ) (kind : Kind) → is_none (refusal p s l (record { worker = w; kind = kind })) ≡ true → UseGoes p s l (after_kind p s l w kind) kind → CountsGo p s l c c' w kind → TotalsStand c' (after_kind p s l w kind)
+  by_kind : (w : ℕ) (kind : Kind) → is_none (refusal p s l (record { worker = w; kind = kind })) ≡ true → UseGoes p s l (after_kind p s l w kind) kind → CountsGo p s l c c' w kind → TreeCountsStand c' (after_kind p s l w kind)
   by_kind w (Took t) h U C =
       let r = none_unless (is_ready l t) _ _ (entry_tells p s l (record { worker = w; kind = Took t }) h).2 in
       let run = (and_parts (is_running (slice_get l.machine.tasks t)) _ r.0).0 in
@@ -166,5 +166,5 @@ module _ (p : ProgramText) (s : SettingsValue) (journal : List EntryValue) (prog
   by_kind w (Sweep t g) h U C = heap_totals c c' l t swept_heap (λ g. refl) (λ g. refl) C.0 (let x : c'.used + g ≡ c.used = C.1 in let y : in_use (with_heap l t swept_heap) + g ≡ in_use l = U in let z : c.used ≡ in_use l = T.used in omega (arith, x, y, z)) C.2 T
   by_kind w Fuel h U C = same_totals c c' l (after_kind p s l w Fuel) (same_itself l (after_kind p s l w Fuel) refl refl) refl C.0 (C.1 ∙ T.used) (C.2 ∙ ap (λ k. Some (FuelEnd k)) T.steps) T
 
-  pub counts_stand : (e : EntryValue) → refusal p s l e ≡ None → CountsGo p s l c c' e.worker e.kind → TotalsStand c' (after p s l e)
+  pub counts_stand : (e : EntryValue) → refusal p s l e ≡ None → CountsGo p s l c c' e.worker e.kind → TreeCountsStand c' (after p s l e)
   counts_stand e accepted C = by_kind e.worker e.kind (ap is_none accepted) (entries_use p s journal e program legal accepted) C

@@ -16,7 +16,7 @@ use Rattle.run_ledger.specs.Journals.{ledger_of}
 use Rattle.run_ledger.proofs.Journals.{entry_tells}
 use Rattle.core_relation.specs.Memory.{Memory}
 use Rattle.core_relation.specs.Counts.{IsQuiet}
-use Rattle.core_relation.specs.Whole.{Totals, StandsFor, StandsForAll, handed}
+use Rattle.core_relation.specs.Whole.{TreeCounts, StandsFor, StandsForAll, handed}
 use Rattle.core_entry_laws.specs.EntryLaws.{TookStandsFor, QuietStandsFor, SweepsStandFor, EndsStandFor}
 use Rattle.core_entry_laws.proofs.whole.Counts.{with_steps}
 use Rattle.core_entry_laws.proofs.whole.HandedBack.{handed_on}
@@ -47,7 +47,7 @@ module _ (p : ProgramText) (s : SettingsValue) (journal : List EntryValue) (e : 
   on : (ledger_of p s journal).end ≡ None
   on = none_of (ledger_of p s journal).end (entry_tells p s (ledger_of p s journal) e (ap is_none accepted)).0
 
-  before : (v : Memory) (c : Totals) → StandsForAll v c (ledger_of p s journal) → StandsFor v c (ledger_of p s journal)
+  before : (v : Memory) (c : TreeCounts) → StandsForAll v c (ledger_of p s journal) → StandsFor v c (ledger_of p s journal)
   before v c W = subst (StandsFor v c) (handed_on (ledger_of p s journal) on) W
 
 pub took_stands_for : TookStandsFor

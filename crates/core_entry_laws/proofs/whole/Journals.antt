@@ -16,9 +16,9 @@ use Rattle.core_relation.specs.Reads.{AllRead, TaskIsRead}
 use Rattle.ledger_step_laws.specs.Accounts.{Rests}
 use Rattle.core_relation.specs.Stands.{Place, HomeStands, Stands}
 pub use Rattle.core_entry_laws.specs.First.{first}
-use Rattle.core_entry_laws.specs.First.{first_totals}
+use Rattle.core_entry_laws.specs.First.{first_tree_counts}
 use Rattle.core_relation.specs.Since.{NotedAt}
-use Rattle.core_relation.specs.Whole.{TotalsStand, state_by}
+use Rattle.core_relation.specs.Whole.{TreeCountsStand, state_by}
 use Rattle.core_entry_laws.specs.EntryLaws.{FirstStandsFor}
 use Rattle.run_ledger.specs.Heaps.{heap_of}
 use Rattle.core_relation.proofs.objects.LaidOut.{none_laid}
@@ -81,7 +81,7 @@ first_stands p s = record {
 
 -- THE WHOLE
 
-first_tree : (p : ProgramText) (s : SettingsValue) → TotalsStand first_totals (opening p s)
+first_tree : (p : ProgramText) (s : SettingsValue) → TreeCountsStand first_tree_counts (opening p s)
 first_tree p s = record {
   node = node;
   task_out = λ w t. ((λ e. none_some e), (λ e. none_some (sym (worker t) ∙ e)));
@@ -95,12 +95,12 @@ first_tree p s = record {
     worker zero = refl
     worker (suc t) = refl
 
-    node : (t : ℕ) → first_totals.node t ≡ option_map (λ (x : Task). record { parent = x.parent; state = state_by x.status (heap_of (opening p s) t).worker }) (slice_get (opening p s).machine.tasks t)
+    node : (t : ℕ) → first_tree_counts.node t ≡ option_map (λ (x : Task). record { parent = x.parent; state = state_by x.status (heap_of (opening p s) t).worker }) (slice_get (opening p s).machine.tasks t)
     node zero = refl
     node (suc t) = refl
 
 pub first_stands_for : FirstStandsFor
-first_stands_for p s = whole_stands (first p) first_totals (opening p s) (first_stands p s) (first_tree p s) (λ t r. idle t) (λ t r. begun t) notes
+first_stands_for p s = whole_stands (first p) first_tree_counts (opening p s) (first_stands p s) (first_tree p s) (λ t r. idle t) (λ t r. begun t) notes
   where
     idle : (t : ℕ) → (heap_of (opening p s) t).begun ≡ None
     idle zero = refl

@@ -7,7 +7,7 @@ use Rattle.hh_lang.specs.Form.{ProgramText, IsProgram}
 use Rattle.run_trace.specs.Settings.{SettingsValue}
 use Rattle.run_trace.specs.Entry.{EntryValue}
 use Rattle.run_trace.specs.declared.entry.Kind.TheVariants.{Took, End as EndOf, Sweep}
-use Rattle.hh_model.specs.declared.data.State.{State as Machine}
+use Rattle.hh_model.specs.declared.data.State.{State}
 use Rattle.hh_model.specs.declared.data.Task.{Task}
 use Rattle.hh_model.specs.Effect.{object_at, row_of}
 use Rattle.hh_model.specs.Step.{owner_of, is_on_path, is_running, is_waiting, is_joined, runs, waits, can_step, goes_on}
@@ -35,7 +35,7 @@ use Rattle.core_relation.specs.Memory.{Home, Memory}
 use Rattle.core_relation.specs.Stands.{Stands}
 use Rattle.core_relation.specs.Since.{AllNoted, MarksOn, NotesStay, OthersNotes}
 use Rattle.core_relation.specs.Changes.{SameBut, SameObjects, KeepsJust}
-use Rattle.core_relation.specs.Whole.{Totals, BegunBy, StandsFor}
+use Rattle.core_relation.specs.Whole.{TreeCounts, BegunBy, StandsFor}
 use Rattle.core_relation.specs.Counts.{CountsGo, IsQuiet, IsMarked}
 use Rattle.core_entry_laws.proofs.notes.AllNotes.{sweeps_note, ends_note, steps_note, quiet_notes}
 use Rattle.core_entry_laws.proofs.whole.Counts.{counts_stand}
@@ -86,19 +86,19 @@ marked_heap hs t (Some h) e q = (h, e)
 takes_alone : (l l' : Ledger) (t w : ℕ) → Takes l l' t w → StepsAlone l l' t
 takes_alone l l' t w L = record {
   tree = record {
-    made = λ u. ap (λ (m : Machine). is_some (slice_get m.tasks u)) L.machine;
-    owners = λ a. ap (λ (m : Machine). owner_of m.tasks a) L.machine;
-    paths = λ a u. ap (λ (m : Machine). is_on_path m.tasks a u) L.machine;
-    waits = λ u. ap (λ (m : Machine). is_waiting (slice_get m.tasks u)) L.machine;
-    joins = λ u. ap (λ (m : Machine). is_joined (slice_get m.tasks u)) L.machine;
+    made = λ u. ap (λ (m : State). is_some (slice_get m.tasks u)) L.machine;
+    owners = λ a. ap (λ (m : State). owner_of m.tasks a) L.machine;
+    paths = λ a u. ap (λ (m : State). is_on_path m.tasks a u) L.machine;
+    waits = λ u. ap (λ (m : State). is_waiting (slice_get m.tasks u)) L.machine;
+    joins = λ u. ap (λ (m : State). is_joined (slice_get m.tasks u)) L.machine;
   };
-  tasks = λ u ne. ap (λ (m : Machine). slice_get m.tasks u) L.machine;
+  tasks = λ u ne. ap (λ (m : State). slice_get m.tasks u) L.machine;
   heaps = L.heaps;
-  rows = λ u ne. ap (λ (m : Machine). length (row_of (slice_get m.store u))) L.machine;
-  store = λ n ne. ap (λ (m : Machine). object_at m.store n) L.machine;
+  rows = λ u ne. ap (λ (m : State). length (row_of (slice_get m.store u))) L.machine;
+  store = λ n ne. ap (λ (m : State). object_at m.store n) L.machine;
 }
 
-module _ (p : ProgramText) (s : SettingsValue) (journal : List EntryValue) (program : IsProgram p) (legal : is_legal p s journal ≡ true) (v v' : Memory) (c c' : Totals) where
+module _ (p : ProgramText) (s : SettingsValue) (journal : List EntryValue) (program : IsProgram p) (legal : is_legal p s journal ≡ true) (v v' : Memory) (c c' : TreeCounts) where
   abbrev l : Ledger
   l = ledger_of p s journal
 
@@ -112,7 +112,7 @@ module _ (p : ProgramText) (s : SettingsValue) (journal : List EntryValue) (prog
   -- from its parts
   pub put_together : (e : EntryValue) → refusal p s l e ≡ None → StandsFor v c l → Stands v' (after p s l e) → AllNoted v' (after p s l e) → ((u : ℕ) → Rests (after p s l e) u → Rests l u) → ((u : ℕ) → Rests (after p s l e) u → (v'.homes u).begun ≡ (v.homes u).begun) → CountsGo p s l c c' e.worker e.kind → StandsFor v' c' (after p s l e)
   put_together e accepted W V' N' back begun C =
-      whole_stands v' c' (after p s l e) V' (counts_stand p s journal program legal c c' W.totals e accepted C) (rests_then e accepted)
+      whole_stands v' c' (after p s l e) V' (counts_stand p s journal program legal c c' W.tree_counts e accepted C) (rests_then e accepted)
       (λ u r. begun u r ∙ home_rests v l u (v.homes u).begun (W.begun u (back u r)) (legal_rests p s journal legal u (back u r))) N'
 
   pub took_stands_for : (w t : ℕ) → refusal p s l (record { worker = w; kind = Took t }) ≡ None → StandsFor v c l → SameBut v v' t → ((u : ℕ) → NotesStay v v' u) → CountsGo p s l c c' w (Took t) → StandsFor v' c' (after p s l (record { worker = w; kind = Took t }))
@@ -173,8 +173,8 @@ module _ (p : ProgramText) (s : SettingsValue) (journal : List EntryValue) (prog
       let idle = running_idle (slice_get l.machine.tasks t) run in
       let L = end_changes l t in
       let l' : Ledger = with_heap l t (collected l.machine) in
-      let idle' : is_waiting (slice_get l'.machine.tasks t) ≡ false = ap (λ (m : Machine). is_waiting (slice_get m.tasks t)) L.machine ∙ idle in
-      let rest_idle : is_waiting (slice_get (rested l t).machine.tasks t) ≡ false = ap (λ (m : Machine). is_waiting (slice_get m.tasks t)) (heap_machine l t let_go) ∙ idle in
+      let idle' : is_waiting (slice_get l'.machine.tasks t) ≡ false = ap (λ (m : State). is_waiting (slice_get m.tasks t)) L.machine ∙ idle in
+      let rest_idle : is_waiting (slice_get (rested l t).machine.tasks t) ≡ false = ap (λ (m : State). is_waiting (slice_get m.tasks t)) (heap_machine l t let_go) ∙ idle in
       let M = copies_end p s t h h' f v v' l x.0 g.0 S x.1 (runs_is x.0.status x.2) g.1 K E none in
       let can : can_step l.machine t ≡ true = ap₂ goes_on (legal_alive p s journal legal (none_of l.end tells.0)) run in
       let before_notes = notes_ahead p s (before s t h) v l x.0 (legal_knows p s journal legal) K.old.fits (record { task = x.1; runs = x.2; can = can; steady = inl refl }) (whole_notes v c l W) in

@@ -8,7 +8,7 @@ use Rattle.hh_lang.specs.Form.{ProgramText}
 use Rattle.run_trace.specs.Settings.{SettingsValue}
 use Rattle.hh_model.specs.declared.data.Status.{Status}
 use Rattle.hh_model.specs.declared.data.Status.TheVariants.{Running, Waiting, Ended, Joined}
-use Rattle.hh_model.specs.declared.data.State.{State as Machine}
+use Rattle.hh_model.specs.declared.data.State.{State}
 use Rattle.hh_model.specs.declared.data.Task.{Task}
 use Rattle.hh_model.specs.Effect.{int_in, onward}
 use Rattle.hh_model.specs.Step.{is_joined, is_over, is_running, is_waiting, parents, parent_of, result_of}
@@ -31,7 +31,7 @@ use Rattle.ledger_step_laws.proofs.Kin.{private_kin, steps_kin}
 use Rattle.ledger_step_laws.proofs.Private.{private_on}
 use Rattle.ledger_step_laws.proofs.Rested.{rested_worker}
 use Rattle.ledger_step_laws.proofs.Split.{worker_step, steps_worker, steps_go}
-use Rattle.core_relation.specs.Whole.{Totals, TotalsStand, state_by, handed}
+use Rattle.core_relation.specs.Whole.{TreeCounts, TreeCountsStand, state_by, handed}
 use Rattle.core_relation.specs.RanCounts.{node_then, NodesStay, NodeGoes, NodesFork, NodesJoin, TasksOutStay, LetsGo, RanCounts}
 use Rattle.core_entry_laws.proofs.whole.Counts.{node_of, with_steps}
 use Rattle.core_entry_laws.proofs.whole.HandedBack.{alive_machine, handed_on, handed_halt, handed_done}
@@ -59,7 +59,7 @@ joined_node w w' (Some x) (Some y) p is h e = ap₂ (λ q s. Some (record { pare
     by (Ended k r) h = absurd cc
     by Joined h = refl
 
-module _ (p : ProgramText) (s : SettingsValue) (l l' : Ledger) (t w k : ℕ) (E : Runs p s l l' t w k) (c c' : Totals) (T : TotalsStand c l) where
+module _ (p : ProgramText) (s : SettingsValue) (l l' : Ledger) (t w k : ℕ) (E : Runs p s l l' t w k) (c c' : TreeCounts) (T : TreeCountsStand c l) where
   abbrev m : Ledger
   m = task_steps p l t k
 
@@ -94,7 +94,7 @@ module _ (p : ProgramText) (s : SettingsValue) (l l' : Ledger) (t w k : ℕ) (E 
   ]
 
   -- a step that sets the task's frame, and leaves the accounts of heaps
-  sets : (y : Task) (m' : Machine) → l' ≡ stepped_by m m' → m'.tasks ≡ slice_set m.machine.tasks t y → y.parent ≡ x.parent → y.status ≡ x.status → NodesStay c c' → (u : ℕ) → c'.node u ≡ node_at l' u
+  sets : (y : Task) (m' : State) → l' ≡ stepped_by m m' → m'.tasks ≡ slice_set m.machine.tasks t y → y.parent ≡ x.parent → y.status ≡ x.status → NodesStay c c' → (u : ℕ) → c'.node u ≡ node_at l' u
   sets y m' e ts par st N =
       stays y (ap (λ (z : Ledger). slice_get z.machine.tasks t) e ∙ (ap (λ xs. slice_get xs t) ts ∙ got_same m.machine.tasks t x y S.at.task)) par (st ∙ S.at.runs) (ap (λ (z : Ledger). (heap_of z t).worker) e ∙ E.held)
       (λ u ne. ap (λ (z : Ledger). slice_get z.machine.tasks u) e ∙ (ap (λ xs. slice_get xs u) ts ∙ got_other m.machine.tasks t u y ne)) (λ u ne. ap (λ (z : Ledger). (heap_of z u).worker) e) N
@@ -106,12 +106,12 @@ module _ (p : ProgramText) (s : SettingsValue) (l l' : Ledger) (t w k : ℕ) (E 
       let g = private_on p m.machine t x go.3 S.at.task h in
       let A : StepsAlone m l' t = subst (λ (z : Ledger). StepsAlone m z t) (sym S.after) (private_alone p m t h (steps_know p s t k l E.task E.knows (inr E.collects) E.at E.runs E.can S.private).sound) in
       let e : l'.machine ≡ record m.machine { tasks = slice_set m.machine.tasks t g.task; store = g.store } = ap (λ (z : Ledger). z.machine) S.after ∙ (task_step_machine p m t ∙ g.is) in
-      stays g.task (ap (λ (z : Machine). slice_get z.tasks t) e ∙ got_same m.machine.tasks t x g.task S.at.task) g.parent (g.status ∙ S.at.runs) (ap (λ (z : Ledger). (heap_of z t).worker) S.after ∙ (worker_step p s t m h ∙ E.held))
+      stays g.task (ap (λ (z : State). slice_get z.tasks t) e ∙ got_same m.machine.tasks t x g.task S.at.task) g.parent (g.status ∙ S.at.runs) (ap (λ (z : Ledger). (heap_of z t).worker) S.after ∙ (worker_step p s t m h ∙ E.held))
       A.tasks (λ u ne. ap (λ (h : Heap). h.worker) (A.heaps u ne)) N
 
   -- let go of, the accounts of the other tasks are as before
   tasks_rested : (u : ℕ) → slice_get (rested m t).machine.tasks u ≡ slice_get m.machine.tasks u
-  tasks_rested u = ap (λ (z : Machine). slice_get z.tasks u) (heap_machine m t let_go)
+  tasks_rested u = ap (λ (z : State). slice_get z.tasks u) (heap_machine m t let_go)
 
   heaps_rested : (u : ℕ) → (u ≡ t → ⊥) → heap_of (rested m t) u ≡ heap_of m u
   heaps_rested u ne = ap or_fresh (with_off m t u let_go ne)
@@ -269,7 +269,7 @@ module _ (p : ProgramText) (s : SettingsValue) (l l' : Ledger) (t w k : ℕ) (E 
       let b : m.steps ≡ l.steps + k = task_steps_steps p k l t in
       omega (arith, a, b)
 
-  totals : (n : Ledger) → n.steps ≡ l'.steps → in_use n ≡ in_use l → n.machine.outputs ≡ c'.outputs → n.end ≡ c'.end → c'.used ≡ c.used → c'.steps ≡ c.steps + suc k → ((u z : ℕ) → c'.task_out u ≡ Some z ↔ (heap_of n z).worker ≡ Some u) → ((u : ℕ) → c'.node u ≡ node_at n u) → TotalsStand c' n
+  totals : (n : Ledger) → n.steps ≡ l'.steps → in_use n ≡ in_use l → n.machine.outputs ≡ c'.outputs → n.end ≡ c'.end → c'.used ≡ c.used → c'.steps ≡ c.steps + suc k → ((u z : ℕ) → c'.task_out u ≡ Some z ↔ (heap_of n z).worker ≡ Some u) → ((u : ℕ) → c'.node u ≡ node_at n u) → TreeCountsStand c' n
   totals n same usage outputs end used steps task_out node = record {
     node = node;
     task_out = task_out;
@@ -286,9 +286,9 @@ module _ (p : ProgramText) (s : SettingsValue) (l l' : Ledger) (t w k : ℕ) (E 
     on_end on = ran_end p s l l' t w k E (alive_machine p s l l' t w k E) on
 
     -- after a step after which the run goes on
-    goes : l'.machine.end ≡ None → l'.machine.outputs ≡ c'.outputs → c'.end ≡ c.end → c'.used ≡ c.used → c'.steps ≡ c.steps + suc k → ((u z : ℕ) → c'.task_out u ≡ Some z ↔ (heap_of l' z).worker ≡ Some u) → ((u : ℕ) → c'.node u ≡ node_at l' u) → TotalsStand c' (handed l')
+    goes : l'.machine.end ≡ None → l'.machine.outputs ≡ c'.outputs → c'.end ≡ c.end → c'.used ≡ c.used → c'.steps ≡ c.steps + suc k → ((u z : ℕ) → c'.task_out u ≡ Some z ↔ (heap_of l' z).worker ≡ Some u) → ((u : ℕ) → c'.node u ≡ node_at l' u) → TreeCountsStand c' (handed l')
     goes on outputs end used steps task_out node =
-        subst (TotalsStand c') (sym (handed_on l' (on_end on ∙ alive))) (totals l' refl same_use_then outputs (on_end on ∙ (sym T.end ∙ sym end)) used steps task_out node)
+        subst (TreeCountsStand c') (sym (handed_on l' (on_end on ∙ alive))) (totals l' refl same_use_then outputs (on_end on ∙ (sym T.end ∙ sym end)) used steps task_out node)
 
     -- the same outputs as before
     same_outputs : l'.machine.outputs ≡ m.machine.outputs → c'.outputs ≡ c.outputs → l'.machine.outputs ≡ c'.outputs
@@ -297,10 +297,10 @@ module _ (p : ProgramText) (s : SettingsValue) (l l' : Ledger) (t w k : ℕ) (E 
     private_then : is_private p m.machine t ≡ true → StepsAlone m l' t
     private_then h = subst (λ (z : Ledger). StepsAlone m z t) (sym S.after) (private_alone p m t h (steps_know p s t k l E.task E.knows (inr E.collects) E.at E.runs E.can S.private).sound)
 
-    set_task_out : (m' : Machine) → l' ≡ stepped_by m m' → TasksOutStay c c' → (u z : ℕ) → c'.task_out u ≡ Some z ↔ (heap_of l' z).worker ≡ Some u
+    set_task_out : (m' : State) → l' ≡ stepped_by m m' → TasksOutStay c c' → (u z : ℕ) → c'.task_out u ≡ Some z ↔ (heap_of l' z).worker ≡ Some u
     set_task_out m' e = task_out_same l' (workers_on l' (ap (λ (z : Ledger). (heap_of z t).worker) e ∙ E.held) (λ z ne. ap (λ (y : Ledger). (heap_of y z).worker) e))
 
-    by : (kind : LastKind) (K : IsOfKind p m l' t x S.line kind) → (GoesOn kind → l'.machine.end ≡ None) → RanCounts p c c' m l' t w k x S.line kind K → TotalsStand c' (handed l')
+    by : (kind : LastKind) (K : IsOfKind p m l' t x S.line kind) → (GoesOn kind → l'.machine.end ≡ None) → RanCounts p c c' m l' t w k x S.line kind K → TreeCountsStand c' (handed l')
     by Private K on N = goes (on tt) (same_outputs (ap (λ (z : Ledger). z.machine.outputs) S.after ∙ (private_kin p m t K).outputs) N.outputs) N.end N.used N.steps (task_out_same l' (workers_on l' (ap (λ (z : Ledger). (heap_of z t).worker) S.after ∙ (worker_step p s t m K ∙ E.held)) (λ z ne. ap (λ (h : Heap). h.worker) ((private_then K).heaps z ne))) N.task_out) (privately K N.tree)
     by Reading K on N =
         goes (on tt) (same_outputs (ap (λ (z : Ledger). z.machine.outputs) K.goes) N.outputs) N.end N.used N.steps (set_task_out _ K.goes N.task_out) (sets (record x { top = K.frame }) _ K.goes refl refl refl N.tree)
@@ -314,17 +314,17 @@ module _ (p : ProgramText) (s : SettingsValue) (l l' : Ledger) (t w k : ℕ) (E 
     by Joining K on N = goes (on tt) (same_outputs K.outputs N.outputs) N.end N.used N.steps (task_out_goes l' (joined_workers K) N.task_out) (joined K N.tree)
     by Finishing K on N =
         let with = with_steps l' t let_go in
-        subst (TotalsStand c') (sym (handed_done l l' t w k p s E K))
-        (totals (rested l' t) with.0 (same_use l' t let_go (λ h. refl) ∙ same_use_then) (ap (λ (z : Machine). z.outputs) (heap_machine l' t let_go) ∙ same_outputs K.outputs N.outputs) (with.1 ∙ (K.is ∙ sym N.end)) N.used N.steps (task_out_goes (rested l' t) (ended_workers (rested l' t) K.ends) N.task_out) (ended (rested l' t) K.ends N.tree))
+        subst (TreeCountsStand c') (sym (handed_done l l' t w k p s E K))
+        (totals (rested l' t) with.0 (same_use l' t let_go (λ h. refl) ∙ same_use_then) (ap (λ (z : State). z.outputs) (heap_machine l' t let_go) ∙ same_outputs K.outputs N.outputs) (with.1 ∙ (K.is ∙ sym N.end)) N.used N.steps (task_out_goes (rested l' t) (ended_workers (rested l' t) K.ends) N.task_out) (ended (rested l' t) K.ends N.tree))
     by Halting K on N =
-        subst (TotalsStand c') (sym (handed_halt m l' K))
-        (totals l' refl same_use_then (same_outputs (ap (λ (z : Machine). z.outputs) K.machine) N.outputs) (K.is ∙ sym N.end) N.used N.steps (task_out_same l' (workers_on l' (ap (λ hs. (or_fresh (slice_get hs t)).worker) K.heaps ∙ E.held) (λ z ne. ap (λ hs. (or_fresh (slice_get hs z)).worker) K.heaps)) N.task_out) (halted K N.tree))
+        subst (TreeCountsStand c') (sym (handed_halt m l' K))
+        (totals l' refl same_use_then (same_outputs (ap (λ (z : State). z.outputs) K.machine) N.outputs) (K.is ∙ sym N.end) N.used N.steps (task_out_same l' (workers_on l' (ap (λ hs. (or_fresh (slice_get hs t)).worker) K.heaps ∙ E.held) (λ z ne. ap (λ hs. (or_fresh (slice_get hs z)).worker) K.heaps)) N.task_out) (halted K N.tree))
       where
         halted : Halts m l' → NodesStay c c' → (u : ℕ) → c'.node u ≡ node_at l' u
         halted H N =
-            let is : slice_get l'.machine.tasks t ≡ Some x = ap (λ (z : Machine). slice_get z.tasks t) H.machine ∙ S.at.task in
+            let is : slice_get l'.machine.tasks t ≡ Some x = ap (λ (z : State). slice_get z.tasks t) H.machine ∙ S.at.task in
             let heaps : (u : ℕ) → (heap_of l' u).worker ≡ (heap_of m u).worker = λ u. ap (λ hs. (or_fresh (slice_get hs u)).worker) H.heaps in
-            stays x is refl S.at.runs (heaps t ∙ E.held) (λ u ne. ap (λ (z : Machine). slice_get z.tasks u) H.machine) (λ u ne. heaps u) N
+            stays x is refl S.at.runs (heaps t ∙ E.held) (λ u ne. ap (λ (z : State). slice_get z.tasks u) H.machine) (λ u ne. heaps u) N
 
-    pub ran_counts : RanCounts p c c' m l' t w k x S.line S.kind S.last → TotalsStand c' (handed l')
+    pub ran_counts : RanCounts p c c' m l' t w k x S.line S.kind S.last → TreeCountsStand c' (handed l')
     ran_counts = by S.kind S.last S.on

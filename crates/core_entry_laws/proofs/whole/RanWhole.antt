@@ -39,7 +39,7 @@ ran_stands_for p s journal program legal v v' c c' w t k h accepted E handed Q C
     let W : StandsFor v c l = subst (StandsFor v c) (handed_on l alive) handed in
     let F = part_now p s (part_for s t h (taken_by E.splits.kind k)) v l (alive_machine p s l (after p s l e) t w k E) Q in
     let both = ran_keeps p s v v' l (after p s l e) t w k h E alive W.homes (whole_notes v c l W) F.fits C M in
-    let counts = ran_counts p s l (after p s l e) t w k E c c' W.totals alive (entries_use p s journal e program legal accepted) N in
+    let counts = ran_counts p s l (after p s l e) t w k E c c' W.tree_counts alive (entries_use p s journal e program legal accepted) N in
     let still : (j : ℕ) → (heap_of (task_steps p l t j) t).begun ≡ None = λ j. none_collects (slice_get (task_steps p l t j).heaps t) (task_steps_sound p j l t (E.knows.sound, E.collects)).1 in
     let n : ℕ = taken_by E.splits.kind k in
     let own : h.begun ≡ None = home_rests (with_home v t h) _ t h.begun F.begun (rested_view (λ z. z.begun) (λ z. refl) (task_steps p l t n) t ∙ still n) in

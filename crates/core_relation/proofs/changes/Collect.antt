@@ -10,7 +10,7 @@ use Rattle.hh_model.specs.declared.data.Object.{Object}
 use Rattle.hh_model.specs.declared.data.Task.{Task}
 use Rattle.hh_model.specs.declared.data.State.{State}
 use Rattle.hh_model.specs.Effect.{object_at}
-use Rattle.hh_model.specs.Names.{held_by, task_names}
+use Rattle.hh_model.specs.Names.{names_from, task_names}
 use Rattle.hh_model.specs.Step.{is_waiting, is_joined, is_on_path, parents}
 use Rattle.hh_model.proofs.Paths.{path_itself}
 use Rattle.run_ledger.specs.declared.data.Heap.{Heap}
@@ -156,7 +156,7 @@ module _ (v v' : Memory) (l l' : Ledger) (t : ℕ) (x : Task) (f : Addr → Addr
       subst (HoldsRead (Place v' l') (v'.homes t) x) (sym B.runs)
       (subst (λ fs. FramesAreRead (Place v' l') fs (x.top ∷ x.below)) (sym C.frames)
       (frames_led (Place v l) (Place v' l') f (v.homes t).frames (x.top ∷ x.below)
-      (λ n i. g n (subst (λ s. In (held_by s (x.top ∷ x.below)) n) (sym B.runs) i))
+      (λ n i. g n (subst (λ s. In (names_from s (x.top ∷ x.below)) n) (sym B.runs) i))
       (subst (HoldsRead (Place v l) (v.homes t) x) B.runs k)))
 
   task : (u : ℕ) (y : Task) → Rests l' u → slice_get l'.machine.tasks u ≡ Some y → TaskIsRead (Place v' l') (v'.homes u) y

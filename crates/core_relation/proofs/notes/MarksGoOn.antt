@@ -1,7 +1,7 @@
 -- A marking that can go on still can, where objects stay and what was overwritten was kept.
 use Rattle.std.proofs.Common.{◌≡◌, ℕ, ◌+◌, ◌<◌, ◌≤◌, ◌++◌, arith, Some, List, length, length-append, ◌⊎◌, ◌↔◌, inl, inr, ap, sym, subst, ◌∙◌}
 use Rattle.object_layout.specs.declared.word.Addr.{Addr}
-use Rattle.object_layout.specs.Graph.{IsHeld, Leads}
+use Rattle.object_layout.specs.Graph.{HasObjectAt, Leads}
 use Rattle.object_layout.specs.Objects.{Located}
 use Rattle.hh_model.specs.declared.data.Name.{Name}
 use Rattle.listed.proofs.Members.{contains_from_in, in_append_cases, in_append_left, in_append_right, in_from_contains}
@@ -58,7 +58,7 @@ module _ (v v' : Memory) (t : ℕ) (snapshot : List Name) (m : MarkingValue) (mo
   goes_on = record {
     fork = G.fork;
     marks = subst (λ ks. IsMarking G.fork ks m) (sym grows) (marking_goes_on G.fork (kept v t) more m G.followed G.marks);
-    there = λ q i. (let o = were q i in subst (IsHeld G.fork.heap) (sym o.2) (G.there o.0 o.1));
+    there = λ q i. (let o = were q i in subst (HasObjectAt G.fork.heap) (sym o.2) (G.there o.0 o.1));
     were = λ a h. (let o = G.were a h in let q = there o.0 o.1 in (q.0, q.1, q.2 ∙ o.2));
     overwritten = λ q a i c w.
         let o = were q i in

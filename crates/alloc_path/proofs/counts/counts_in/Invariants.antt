@@ -1,5 +1,5 @@
 use Rattle.std.proofs.Common.{◌≡◌, ◌+◌, ◌-◌, ◌<◌, ◌≤◌}
-use Rattle.object_layout.specs.Chunks.{held_in, one_each, small_part, sum_in}
+use Rattle.object_layout.specs.Chunks.{object_words_in, one_each, small_part, sum_in}
 use Rattle.object_layout.specs.Place.{IsCellAt, cells_from}
 use Rattle.alloc_path.proofs.counts.counts_in.Given as goal
 
@@ -10,7 +10,7 @@ invariant-loop-at l = record {
   most_objects : l.objects ≤ l.at;
   most_small : l.small ≤ l.at;
   begins : l.at < l.used → IsCellAt l.chunk.cells l.at;
-  words : held_in l.chunk.cells ≡ l.words + held_in (cells_from l.chunk.cells l.at);
+  words : object_words_in l.chunk.cells ≡ l.words + object_words_in (cells_from l.chunk.cells l.at);
   objects : sum_in one_each l.chunk.cells ≡ l.objects + sum_in one_each (cells_from l.chunk.cells l.at);
   small : sum_in small_part l.chunk.cells ≡ l.small + sum_in small_part (cells_from l.chunk.cells l.at);
 }

@@ -1,7 +1,7 @@
 use Rattle.std.proofs.Common.{◌∙◌, ◌≤◌, ◌+◌, ap, take}
 use Rattle.std.proofs.lemmas.List.{take_more}
 use Rattle.std.proofs.lemmas.List.Elements.{All-push}
-use Rattle.object_layout.specs.Chunks.{held_in, held_words, one_each, small_part}
+use Rattle.object_layout.specs.Chunks.{object_words_in, held_words, one_each, small_part}
 use Rattle.object_layout.specs.ChunkValue.{ChunkValue}
 use Rattle.object_layout.specs.Place.{words_in}
 use Rattle.alloc_path.specs.LeafHeapValue.{counted}
@@ -15,7 +15,7 @@ loop-chunk-preserved c =
     let k = c.chunk-item.result in
     let more = heap.held_more ks i k c.loop-chunk-test.true c.chunk-item.is in
     let next = take_more ks i k c.loop-chunk-test.true in
-    let sum = heap.counted_more (held_words (take i ks)) (held_in k.cells) in
+    let sum = heap.counted_more (held_words (take i ks)) (object_words_in k.cells) in
     record {
       words = c.saturating_add-words.ensures ∙ rw (c.loop-chunk.invariant.words, c.counts_in-more.ensures.words, more) sum;
       objects = heap.sum_more one_each ks i k c.loop-chunk-test.true c.chunk-item.is _ _ c.loop-chunk.invariant.objects (c.saturating_add-objects.ensures ∙ ap (λ n. counted (c.loop-chunk.objects + n)) c.counts_in-more.ensures.objects);

@@ -14,7 +14,7 @@ pub overflow_cast-t-end : goal.overflow_cast-t-end
 overflow_cast-t-end c =
     let w : SharedValue = c.args.shared.now in
     let few = homes_few w c.stands.ensures in
-    let many : length c.heaps.result.now.homes.rests ≡ length w.homes = ap (λ (hs : List (Option Rest)). length hs) c.heaps.ensures.homes in
+    let many : length c.heaps.result.now.homes.rests ≡ length w.rests = ap (λ (hs : List (Option Rest)). length hs) c.heaps.ensures.homes in
     let is = c.len-t-end.ensures in
     omega (arith, few, many, is)
 
@@ -34,16 +34,16 @@ loop-t-preserved c =
 pub returns-clause-objects : goal.returns-clause-objects
 returns-clause-objects c =
     let w : SharedValue = c.args.shared.now in
-    let many : length c.heaps.result.now.homes.rests ≡ length w.homes = ap (λ (hs : List (Option Rest)). length hs) c.heaps.ensures.homes in
-    let end : c.loop-t.t ≡ length w.homes = omega (arith, many) in
+    let many : length c.heaps.result.now.homes.rests ≡ length w.rests = ap (λ (hs : List (Option Rest)). length hs) c.heaps.ensures.homes in
+    let end : c.loop-t.t ≡ length w.rests = omega (arith, many) in
     let is : length (kept_before (accounts w) c.loop-t.t) ≡ length (held_not_running (accounts w)) = ap (λ n. length (kept_before (accounts w) n)) end ∙ ap length (kept_homes w c.stands.ensures) in
     c.loop-t.invariant.objects ∙ (ap counted is ∙ counted_few (length (held_not_running (accounts w))) (objects_few w c.stands.ensures))
 
 pub returns-clause-words : goal.returns-clause-words
 returns-clause-words c =
     let w : SharedValue = c.args.shared.now in
-    let many : length c.heaps.result.now.homes.rests ≡ length w.homes = ap (λ (hs : List (Option Rest)). length hs) c.heaps.ensures.homes in
-    let end : c.loop-t.t ≡ length w.homes = omega (arith, many) in
+    let many : length c.heaps.result.now.homes.rests ≡ length w.rests = ap (λ (hs : List (Option Rest)). length hs) c.heaps.ensures.homes in
+    let end : c.loop-t.t ≡ length w.rests = omega (arith, many) in
     let is : words_sum (accounts w).machine (kept_before (accounts w) c.loop-t.t) ≡ words_sum (accounts w).machine (held_not_running (accounts w)) =
     ap (λ n. words_sum (accounts w).machine (kept_before (accounts w) n)) end ∙ ap (words_sum (accounts w).machine) (kept_homes w c.stands.ensures) in
     c.loop-t.invariant.words ∙ (ap counted is ∙ counted_few (words_sum (accounts w).machine (held_not_running (accounts w))) (words_few w c.stands.ensures))

@@ -29,7 +29,7 @@ returns-in-Some-clause-objects c =
     let w : SharedValue = c.args.shared.now in
     let state : c.is_running.result ≡ is_state_running (state_of w.tree c.args.t) = c.is_running.ensures ∙ (ap is_state_running c.state.ensures ∙ ap (λ (ns : List Node). is_state_running (state_of ns c.args.t)) c.tree.ensures) in
     let idle : is_running (slice_get (accounts w).machine.tasks c.args.t) ≡ false = sym (runs_is w c.stands.ensures c.args.t) ∙ (sym state ∙ c.if-is_running.false) in
-    let there : rest_at w.homes c.args.t ≡ Some c.in-Some.rest.now = ap (λ (hs : List (Option Rest)). rest_at hs c.args.t) (sym c.heaps.ensures.homes) ∙ (sym c.rest.ensures ∙ ap option_copied c.in-Some.is) in
+    let there : rest_at w.rests c.args.t ≡ Some c.in-Some.rest.now = ap (λ (hs : List (Option Rest)). rest_at hs c.args.t) (sym c.heaps.ensures.homes) ∙ (sym c.rest.ensures ∙ ap option_copied c.in-Some.is) in
     c.objects.ensures ∙ ap counted (objects_are w c.stands.ensures c.args.t idle c.in-Some.rest.now there)
 
 pub returns-in-Some-clause-words : goal.returns-in-Some-clause-words
@@ -37,7 +37,7 @@ returns-in-Some-clause-words c =
     let w : SharedValue = c.args.shared.now in
     let state : c.is_running.result ≡ is_state_running (state_of w.tree c.args.t) = c.is_running.ensures ∙ (ap is_state_running c.state.ensures ∙ ap (λ (ns : List Node). is_state_running (state_of ns c.args.t)) c.tree.ensures) in
     let idle : is_running (slice_get (accounts w).machine.tasks c.args.t) ≡ false = sym (runs_is w c.stands.ensures c.args.t) ∙ (sym state ∙ c.if-is_running.false) in
-    let there : rest_at w.homes c.args.t ≡ Some c.in-Some.rest.now = ap (λ (hs : List (Option Rest)). rest_at hs c.args.t) (sym c.heaps.ensures.homes) ∙ (sym c.rest.ensures ∙ ap option_copied c.in-Some.is) in
+    let there : rest_at w.rests c.args.t ≡ Some c.in-Some.rest.now = ap (λ (hs : List (Option Rest)). rest_at hs c.args.t) (sym c.heaps.ensures.homes) ∙ (sym c.rest.ensures ∙ ap option_copied c.in-Some.is) in
     c.words.ensures ∙ ap counted (words_kept w c.stands.ensures c.args.t idle c.in-Some.rest.now there)
 
 pub returns-in-None-clause-objects : goal.returns-in-None-clause-objects
@@ -45,7 +45,7 @@ returns-in-None-clause-objects c =
     let w : SharedValue = c.args.shared.now in
     let state : c.is_running.result ≡ is_state_running (state_of w.tree c.args.t) = c.is_running.ensures ∙ (ap is_state_running c.state.ensures ∙ ap (λ (ns : List Node). is_state_running (state_of ns c.args.t)) c.tree.ensures) in
     let idle : is_running (slice_get (accounts w).machine.tasks c.args.t) ≡ false = sym (runs_is w c.stands.ensures c.args.t) ∙ (sym state ∙ c.if-is_running.false) in
-    let none : rest_at w.homes c.args.t ≡ None = ap (λ (hs : List (Option Rest)). rest_at hs c.args.t) (sym c.heaps.ensures.homes) ∙ (sym c.rest.ensures ∙ ap option_copied c.in-None.is) in
+    let none : rest_at w.rests c.args.t ≡ None = ap (λ (hs : List (Option Rest)). rest_at hs c.args.t) (sym c.heaps.ensures.homes) ∙ (sym c.rest.ensures ∙ ap option_copied c.in-None.is) in
     sym (ap (λ (ns : List Name). counted (length ns)) (nothing_kept w c.stands.ensures c.args.t idle none))
 
 pub returns-in-None-clause-words : goal.returns-in-None-clause-words
@@ -53,5 +53,5 @@ returns-in-None-clause-words c =
     let w : SharedValue = c.args.shared.now in
     let state : c.is_running.result ≡ is_state_running (state_of w.tree c.args.t) = c.is_running.ensures ∙ (ap is_state_running c.state.ensures ∙ ap (λ (ns : List Node). is_state_running (state_of ns c.args.t)) c.tree.ensures) in
     let idle : is_running (slice_get (accounts w).machine.tasks c.args.t) ≡ false = sym (runs_is w c.stands.ensures c.args.t) ∙ (sym state ∙ c.if-is_running.false) in
-    let none : rest_at w.homes c.args.t ≡ None = ap (λ (hs : List (Option Rest)). rest_at hs c.args.t) (sym c.heaps.ensures.homes) ∙ (sym c.rest.ensures ∙ ap option_copied c.in-None.is) in
+    let none : rest_at w.rests c.args.t ≡ None = ap (λ (hs : List (Option Rest)). rest_at hs c.args.t) (sym c.heaps.ensures.homes) ∙ (sym c.rest.ensures ∙ ap option_copied c.in-None.is) in
     sym (ap (λ (ns : List Name). counted (words_sum (accounts w).machine ns)) (nothing_kept w c.stands.ensures c.args.t idle none))

@@ -4,7 +4,7 @@ use Rattle.object_layout.specs.declared.word.Addr.{Addr}
 use Rattle.task_frames.specs.declared.frames.Frame.{Frame}
 use Rattle.task_frames.specs.FramesValue.{frames_of, references_of}
 use Rattle.remembered_set.specs.Moved.{into}
-use Rattle.leaf_copy_gc.specs.Survivors.{held_by}
+use Rattle.leaf_copy_gc.specs.Survivors.{frame_references}
 use Rattle.heap_marking.proofs.FrameReferences.{frames_more}
 use Rattle.heap_marking.proofs.starts.push_registers.Goals as goal
 
@@ -17,5 +17,5 @@ loop-frame-preserved c =
     c.in_ok-push_all_own.ensures
     ∙ (ap (λ rs. c.loop-frame.starts.items ++ flat_map g rs) c.references_in-references.ensures
     ∙ (ap (λ xs. xs ++ flat_map g (references_of fs k)) c.loop-frame.invariant
-    ∙ (append_assoc c.args.starts.now.items (flat_map g (held_by (take k fs))) (flat_map g (references_of fs k))
+    ∙ (append_assoc c.args.starts.now.items (flat_map g (frame_references (take k fs))) (flat_map g (references_of fs k))
     ∙ ap (λ ys. c.args.starts.now.items ++ ys) (sym (frames_more g fs k within)))))

@@ -39,7 +39,7 @@ returns-clause-swept c = λ r m there marked.
     subst (λ (x : Rest). Swept x m) same_r (subst (λ (y : MarkingValue). Swept c.take_rest-rest.result y) same_m (record {
       slots = c.sweep_keeping-room.new.heap.slots;
       spare = c.sweep_keeping-room.new.heap.spare;
-      homes = ap (λ (w : HomesValue). w.rests) c.put_rest.ensures
+      rests = ap (λ (w : HomesValue). w.rests) c.put_rest.ensures
           ∙ (ap (λ (w : HomesValue). put c.sweep_keeping-room.new.heap w.rests) c.take_rest-rest.ensures.homes
           ∙ (ap (λ (w : HomesValue). put c.sweep_keeping-room.new.heap (slice_set w.rests t None)) c.take_marking.ensures.homes
           ∙ (set-set old.rests t None _

@@ -3,7 +3,7 @@ use Rattle.listed.proofs.Places.{all_from, read_in}
 use Rattle.object_layout.specs.declared.word.Addr.{Addr}
 use Rattle.task_frames.specs.declared.frames.Frame.{Frame}
 use Rattle.task_frames.specs.FramesValue.{frames_of, references_of}
-use Rattle.leaf_copy_gc.specs.Survivors.{held_by}
+use Rattle.leaf_copy_gc.specs.Survivors.{frame_references}
 use Rattle.leaf_copy_gc.specs.Search.{IsTarget}
 use Rattle.leaf_copy_gc.specs.Redirected.{followed_ref}
 use Rattle.leaf_copy_gc.proofs.FrameLemmas as frames
@@ -18,7 +18,7 @@ follow_all-requires c =
     ∙ (ap (λ (xs : List Frame). references_of xs c.loop-frame.frame) c.loop-frame.invariant ∙ frames.next_frame (followed_ref c.args.heap.now.chunks) fs c.loop-frame.frame within) in
     subst (λ (rs : List (Option Addr)). All (IsTarget c.args.heap.now.chunks) rs) (sym same)
     (all_from (IsTarget c.args.heap.now.chunks) (references_of fs c.loop-frame.frame)
-    (λ r i. read_in (IsTarget c.args.heap.now.chunks) (held_by fs) r (lists.in_frames fs c.loop-frame.frame r i) c.requires))
+    (λ r i. read_in (IsTarget c.args.heap.now.chunks) (frame_references fs) r (lists.in_frames fs c.loop-frame.frame r i) c.requires))
 
 pub loop-frame-preserved : goal.loop-frame-preserved
 loop-frame-preserved c =

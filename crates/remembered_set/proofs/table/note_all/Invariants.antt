@@ -2,14 +2,14 @@ use Rattle.std.proofs.Common.{◌≡◌, ◌+◌, ◌-◌, ◌≤◌, drop, fold
 use Rattle.std.specs.Prelude.{filter, nat_eq, not, vec_capacity, vec_len}
 use Rattle.std.specs.HashSet.{contains, spare}
 use Rattle.remembered_set.specs.declared.remembered.Source.{Source}
-use Rattle.remembered_set.specs.Sources.{noted, same_source, IsKept}
+use Rattle.remembered_set.specs.Sources.{noted, same_source, KnowsJust}
 use Rattle.remembered_set.proofs.table.note_all.Given as goal
 
 abbrev pub invariant-loop-source : goal.invariant-loop-source
 invariant-loop-source l = record {
   slots : vec_capacity l.fn.sources - vec_len l.fn.sources ≤ vec_capacity l.sources - vec_len l.sources + l.source-index;
   spare : spare l.fn.known ≤ spare l.known + l.source-index;
-  kept : IsKept l.sources.items (contains same_source l.known);
+  kept : KnowsJust l.sources.items (contains same_source l.known);
   rest :
       fold noted l.fn.sources.items (filter (λ (s : Source). not (contains nat_eq l.numbers s.object.chunk)) l.from)
       ≡ fold noted l.sources.items (filter (λ (s : Source). not (contains nat_eq l.numbers s.object.chunk)) (drop l.source-index l.from));

@@ -6,4 +6,4 @@ use Rattle.run_journal.proofs.replay.replayed.Goals as goal
 
 pub returns-in-Err-clause-fails : goal.returns-in-Err-clause-fails
 returns-in-Err-clause-fails c =
-    subst (λ (b : BookValue). ReplayFails (first_refused_from b.program b.limits b.ledger 1 c.args.journal.now) c.in-Err.error) c.in_ok-book.ensures c.in-Err.ensures.fails
+    subst (λ (b : BookValue). ReplayFails (first_refused_from b.program b.settings b.ledger 1 c.args.journal.now) c.in-Err.error) c.in_ok-book.ensures c.in-Err.ensures.fails

@@ -6,7 +6,7 @@ use Rattle.run_report.proofs.counting.enter_all.Goals as goal
 pub loop-entry-init : goal.loop-entry-init
 loop-entry-init c = record {
   program = search rules;
-  limits = search rules;
+  settings = search rules;
   stopped = search rules;
   index = search rules;
   accounts = search rules;
@@ -20,7 +20,7 @@ enter-requires-clause-few c none =
     let e = l.invariant.index in
     let f = l.auto.index-fits in
     few_next c.args.journal.now l.book l.entry-index c.entry-item.result c.loop-entry-test.true c.entry-item.is none l.totals l.invariant.at
-    (subst AreLimits (sym l.invariant.limits) c.requires.limits) (omega (arith, e, f))
+    (subst AreLimits (sym l.invariant.settings) c.requires.limits) (omega (arith, e, f))
 
 pub loop-entry-preserved : goal.loop-entry-preserved
 loop-entry-preserved c =
@@ -29,7 +29,7 @@ loop-entry-preserved c =
     let i = l.invariant in
     record {
       program = search rules;
-      limits = search rules;
+      settings = search rules;
       stopped = search rules;
       index = search rules;
       accounts = accounts_on c.args.journal.now l.book c.enter.new.book l.entry-index c.entry-item.result c.loop-entry-test.true c.entry-item.is k.ensures.entered i.accounts;
@@ -42,4 +42,4 @@ loop-entry-preserved c =
 pub returns-clause-totals : goal.returns-clause-totals
 returns-clause-totals c =
     let i = c.loop-entry.invariant in
-    at_end c.args.journal.now c.loop-entry.book c.loop-entry.entry-index c.loop-entry.totals c.args.book.now.program c.args.book.now.limits c.loop-entry-test.false i.program i.limits i.at
+    at_end c.args.journal.now c.loop-entry.book c.loop-entry.entry-index c.loop-entry.totals c.args.book.now.program c.args.book.now.settings c.loop-entry-test.false i.program i.settings i.at

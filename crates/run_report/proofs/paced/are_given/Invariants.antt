@@ -5,5 +5,5 @@ use Rattle.run_report.proofs.paced.are_given.Given as goal
 abbrev pub invariant-loop-entry : goal.invariant-loop-entry
 invariant-loop-entry l = record {
   stopped : l.book.stopped ≡ false;
-  rest : is_paced_from l.book.program l.book.limits l.book.ledger l.paces (drop l.entry-index l.journal) ≡ is_paced_from l.fn.book.program l.fn.book.limits l.fn.book.ledger l.fn.paces l.journal;
+  rest : is_paced_from l.book.program l.book.settings l.book.ledger l.paces (drop l.entry-index l.journal) ≡ is_paced_from l.fn.book.program l.fn.book.settings l.fn.book.ledger l.fn.paces l.journal;
 }

@@ -13,4 +13,4 @@ returns-in-Some-clause-held c =
     let cleared : c.cleared_words-cleared.result ≡ cleared_words b.ledger e.kind = c.cleared_words-cleared.ensures ∙ ap (cleared_words b.ledger) kind in
     c.in-Some.ensures
     ∙ (λ i. (c.requires.held i) + words_by (kind i) (objects i) (c.in_ok-apply.ensures.entered i).ledger.machine - (cleared i - cleared_words (c.in_ok-apply.ensures.entered i).ledger (kind i)))
-    ∙ sym (words_follow_entries b.program b.limits b.ledger e c.legal.ensures c.in_ok-apply.ensures.legal)
+    ∙ sym (words_follow_entries b.program b.settings b.ledger e c.legal.ensures c.in_ok-apply.ensures.legal)

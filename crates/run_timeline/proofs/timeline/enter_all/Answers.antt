@@ -8,7 +8,7 @@ use Rattle.run_timeline.proofs.timeline.enter_all.Goals as goal
 pub loop-entry-init : goal.loop-entry-init
 loop-entry-init c = record {
   program = refl;
-  limits = refl;
+  settings = refl;
   stopped = c.requires.open;
   index = refl;
   held = sym (ap words_held c.requires.first);
@@ -24,7 +24,7 @@ loop-entry-preserved c =
     let i = l.invariant in
     record {
       program = search rules;
-      limits = search rules;
+      settings = search rules;
       stopped = search rules;
       index = search rules;
       held = k.ensures.held ∙ sym (ap (λ (b : BookValue). words_held b.ledger) k.ensures.entered);

@@ -9,13 +9,13 @@ use Rattle.run_timeline.proofs.timeline.enter_all.Given as goal
 abbrev pub invariant-loop-entry : goal.invariant-loop-entry
 invariant-loop-entry l = record {
   program : l.book.program ≡ l.fn.book.program;
-  limits : l.book.limits ≡ l.fn.book.limits;
+  settings : l.book.settings ≡ l.fn.book.settings;
   stopped : l.book.stopped ≡ false;
   index : l.index ≡ l.entry-index + 1;
   held : l.held ≡ words_held l.book.ledger;
-  accounts : after_all l.book.program l.book.limits l.book.ledger (drop l.entry-index l.journal) ≡ ledger_of l.book.program l.book.limits l.journal;
-  refused : first_refused_from l.book.program l.book.limits l.book.ledger l.index (drop l.entry-index l.journal) ≡ first_refused l.book.program l.book.limits l.journal;
+  accounts : after_all l.book.program l.book.settings l.book.ledger (drop l.entry-index l.journal) ≡ ledger_of l.book.program l.book.settings l.journal;
+  refused : first_refused_from l.book.program l.book.settings l.book.ledger l.index (drop l.entry-index l.journal) ≡ first_refused l.book.program l.book.settings l.journal;
   text :
-      l.text.items ++ flat_map further (events_from l.book.program l.book.limits l.book.ledger l.seats l.index (drop l.entry-index l.journal))
-      ≡ l.fn.text.items ++ flat_map further (events_of l.fn.book.program l.fn.book.limits l.journal);
+      l.text.items ++ flat_map further (events_from l.book.program l.book.settings l.book.ledger l.seats l.index (drop l.entry-index l.journal))
+      ≡ l.fn.text.items ++ flat_map further (events_of l.fn.book.program l.fn.book.settings l.journal);
 }

@@ -16,12 +16,12 @@ returns-in_err-enter_all-clause-fails c =
     let given = err_from_is_err_and c.from_residual.result c.from_residual.ensures.1 in
     subst (λ r. IfErr r (ReplayFails (refused_as_run c.args.program.now c.args.settings c.args.journal.now))) (sym (given.1 ∙ ap Err given.2))
     (fails_whole (first_refused c.args.program.now c.args.settings c.args.journal.now) (end_of c.args.program.now c.args.settings c.args.journal.now) (length c.args.journal.now + 1) c.in_err-enter_all.field-0.0
-    (subst (λ (b : BookValue). ReplayFails (first_refused b.program b.limits c.args.journal.now) c.in_err-enter_all.field-0.0) c.in_ok-book.ensures c.in_err-enter_all.ensures.fails))
+    (subst (λ (b : BookValue). ReplayFails (first_refused b.program b.settings c.args.journal.now) c.in_err-enter_all.field-0.0) c.in_ok-book.ensures c.in_err-enter_all.ensures.fails))
 
 pub returns-clause-text : goal.returns-clause-text
 returns-clause-text c =
     c.in_ok-end.ensures
     ∙ ap (λ x. x ++ ending)
     (c.in_ok-enter_all.ensures.events
-    ∙ (λ j. (c.in_ok-text.ensures ∙ ap beginning c.workers.ensures.value) j ++ flat_map further (events_of (c.in_ok-book.ensures j).program (c.in_ok-book.ensures j).limits c.args.journal.now)))
+    ∙ (λ j. (c.in_ok-text.ensures ∙ ap beginning c.workers.ensures.value) j ++ flat_map further (events_of (c.in_ok-book.ensures j).program (c.in_ok-book.ensures j).settings c.args.journal.now)))
     ∙ timeline_made c.args.program.now c.args.settings c.args.journal.now

@@ -7,7 +7,7 @@ use Rattle.task_table.proofs.table.enter_all.Goals as goal
 pub loop-entry-init : goal.loop-entry-init
 loop-entry-init c = record {
   program = refl;
-  limits = refl;
+  settings = refl;
   stopped = c.requires.open;
   index = refl;
   accounts = search rules;
@@ -22,7 +22,7 @@ loop-entry-preserved c =
     let i = l.invariant in
     record {
       program = search rules;
-      limits = search rules;
+      settings = search rules;
       stopped = search rules;
       index = search rules;
       accounts = accounts_on c.args.journal.now l.book c.enter.new.book l.entry-index c.entry-item.result c.loop-entry-test.true c.entry-item.is k.ensures.entered i.accounts;

@@ -12,8 +12,8 @@ returns-clause-text c =
     let p = c.args.program.now in
     let journal = c.args.journal.now in
     let ledger : c.enter_all.new.book.ledger ≡ ledger_of p c.args.settings journal =
-    ap (λ (b : BookValue). b.ledger) c.in_ok-enter_all.ensures.book ∙ (λ j. ledger_of (c.in_ok-book.ensures j).program (c.in_ok-book.ensures j).limits journal) in
+    ap (λ (b : BookValue). b.ledger) c.in_ok-enter_all.ensures.book ∙ (λ j. ledger_of (c.in_ok-book.ensures j).program (c.in_ok-book.ensures j).settings journal) in
     let rows : c.as_slice.result.now ≡ rows_of p c.args.settings journal =
     c.as_slice.ensures ∙ c.in_ok-enter_all.ensures.rows
-    ∙ (λ j. rows_from (c.in_ok-book.ensures j).program (c.in_ok-book.ensures j).limits (opening (c.in_ok-book.ensures j).program (c.in_ok-book.ensures j).limits) (c.in_ok-rows.ensures j) journal) in
+    ∙ (λ j. rows_from (c.in_ok-book.ensures j).program (c.in_ok-book.ensures j).settings (opening (c.in_ok-book.ensures j).program (c.in_ok-book.ensures j).settings) (c.in_ok-rows.ensures j) journal) in
     c.in_ok-text_of.ensures ∙ (λ j. first_line ++ lines_from p (ledger j) 0 (rows j))

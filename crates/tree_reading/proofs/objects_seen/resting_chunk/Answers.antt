@@ -17,7 +17,7 @@ objects_are c =
     let t = c.in_ok-owner.field-0.owner in
     let held : owner_of w.pool c.args.number ≡ Some t = ap (λ (p : PoolValue). owner_of p c.args.number) (sym c.pool.ensures) ∙ ap (option_map (λ (h : Slot). h.owner)) (sym c.slot.ensures ∙ c.in_ok-owner.was) in
     let idle : is_state_running (state_of w.tree t) ≡ false = ap (λ (ns : List Node). is_state_running (state_of ns t)) (sym c.tree.ensures) ∙ (sym (ap is_state_running c.state.ensures) ∙ (sym c.is_running.ensures ∙ c.if-is_running.false)) in
-    let there : rest_at w.homes t ≡ Some c.in-Some.rest.now = ap (λ (hs : List (Option Rest)). rest_at hs t) (sym c.heaps.ensures.homes) ∙ (sym c.rest.ensures ∙ ap option_copied c.in-Some.is) in
+    let there : rest_at w.rests t ≡ Some c.in-Some.rest.now = ap (λ (hs : List (Option Rest)). rest_at hs t) (sym c.heaps.ensures.homes) ∙ (sym c.rest.ensures ∙ ap option_copied c.in-Some.is) in
     resting_objects w c.args.number t c.in-Some.rest.now held idle there
 
 pub returns-in-Some-clause-none : goal.returns-in-Some-clause-none

@@ -15,7 +15,7 @@ pub give-requires-clause-entry : goal.give-requires-clause-entry
 give-requires-clause-entry g c =
     let A = c.in-Entered.ensures in
     has_entry (identity c.args.shop.now.turn.now) c.args.shop.now.program.now c.args.desk.now (record c.args.desk.now { seat = c.take-run.new.seat }) c.take-run.result c.in-Entered.run' c.requires.desk refl c.take-run.ensures.turn c.take-run.ensures.seat
-    c.take-run.ensures.value A.made A.enters A.world
+    c.take-run.ensures.value A.made A.enters A.shared
 
 pub give-requires-clause-takes : goal.give-requires-clause-takes
 give-requires-clause-takes g c = takes_from c.take-run.result.paced c.in-Entered.run'.paced c.args.desk.now.worker c.args.ready c.in-Entered.next c.in-Entered.ensures.follows

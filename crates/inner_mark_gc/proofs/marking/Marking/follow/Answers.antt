@@ -1,7 +1,7 @@
 use Rattle.std.proofs.Common.{◌≡◌, ◌+◌, ◌++◌, ◌-◌, ◌≤◌, ℕ, List, All, Contains, drop, length, take, arith, refl, sym, ap, ◌∙◌, subst}
 use Rattle.std.proofs.lemmas.List.{length-append}
 use Rattle.object_layout.specs.declared.word.Addr.{Addr}
-use Rattle.object_layout.specs.Graph.{IsHeld}
+use Rattle.object_layout.specs.Graph.{HasObjectAt}
 use Rattle.listed.proofs.Members.{contains_from_in}
 use Rattle.listed.proofs.Places.{all_from, in_take}
 use Rattle.inner_mark_gc.specs.MarkingValue.{HasRoom, MarkingValue}
@@ -29,7 +29,7 @@ returns-clause-own c = λ h all own.
     let rest : List Addr = finds.grown.0 in
     let from : ℕ = c.visit_all.inside.followed in
     let v = c.self.view_is in
-    let R : HasRoom h _ = subst (HasRoom h) (sym v) (c.visit_all-2.ensures.room h (held_rest (IsHeld h) c.args.kept.now (length c.args.kept.now - from) from all) own.room) in
+    let R : HasRoom h _ = subst (HasRoom h) (sym v) (c.visit_all-2.ensures.room h (held_rest (HasObjectAt h) c.args.kept.now (length c.args.kept.now - from) from all) own.room) in
     let is_marked : c.self.inside.marked ≡ new.marked = ap (λ (m : MarkingValue). m.marked) v in
     let is_found : length c.self.inside.found.items ≡ length new.found = ap (λ (m : MarkingValue). length m.found) v in
     let same : new.marked ≡ old.marked = finds.marked in

@@ -1,5 +1,5 @@
 use Rattle.std.proofs.Common.{◌≡◌, Some, sym, ◌∙◌, subst}
-use Rattle.object_layout.specs.Graph.{IsHeld, IsSound}
+use Rattle.object_layout.specs.Graph.{HasObjectAt, IsSound}
 use Rattle.inner_mark_gc.proofs.Finding as finding
 use Rattle.inner_mark_gc.proofs.marking.Marking.visit.Goals as goal
 
@@ -13,7 +13,7 @@ pub returns-then-owns-clause-finds : goal.returns-then-owns-clause-finds
 returns-then-owns-clause-finds c =
     let sound : IsSound c.args.heap.now.chunks (Some c.in-Some.address) = subst (IsSound c.args.heap.now.chunks) c.in-Some.is c.requires.sound in
     let held = finding.owned_held c.args.heap.now.chunks c.in-Some.address sound (sym c.owns.ensures ∙ c.if-owns.true) in
-    finding.finds_noted (λ a. IsHeld c.args.heap.now.chunks a × (c.args.reference ≡ Some a)) c.args.self.now c.note.new.self c.in-Some.address
+    finding.finds_noted (λ a. HasObjectAt c.args.heap.now.chunks a × (c.args.reference ≡ Some a)) c.args.self.now c.note.new.self c.in-Some.address
     (held, c.in-Some.is)
     (λ x p. finding.some_same (sym c.in-Some.is ∙ p.1))
     c.note.ensures.found c.note.ensures.marked c.note.ensures.followed
@@ -27,5 +27,5 @@ returns-then-owns-clause-room c =
 
 pub returns-else-owns-clause-finds : goal.returns-else-owns-clause-finds
 returns-else-owns-clause-finds c =
-    finding.finds_none (λ a. IsHeld c.args.heap.now.chunks a × (c.args.reference ≡ Some a)) c.args.self.now
-    (λ a p. absurd (finding.not_owned c.args.heap.now.chunks c.in-Some.address (sym c.owns.ensures ∙ c.if-owns.false) (subst (IsHeld c.args.heap.now.chunks) (sym (finding.some_same (sym c.in-Some.is ∙ p.1))) p.0)))
+    finding.finds_none (λ a. HasObjectAt c.args.heap.now.chunks a × (c.args.reference ≡ Some a)) c.args.self.now
+    (λ a p. absurd (finding.not_owned c.args.heap.now.chunks c.in-Some.address (sym c.owns.ensures ∙ c.if-owns.false) (subst (HasObjectAt c.args.heap.now.chunks) (sym (finding.some_same (sym c.in-Some.is ∙ p.1))) p.0)))

@@ -5,7 +5,7 @@ use Rattle.object_layout.specs.declared.word.Header.{Header}
 use Rattle.object_layout.specs.Cell.{Cell}
 use Rattle.object_layout.specs.ChunkValue.{ChunkValue}
 use Rattle.object_layout.specs.Chunks.{cell_of, object_of}
-use Rattle.object_layout.specs.Graph.{IsHeld, IsSound, Leads}
+use Rattle.object_layout.specs.Graph.{HasObjectAt, IsSound, Leads}
 use Rattle.object_layout.proofs.ChunkLaws as laws
 use Rattle.inner_mark_gc.proofs.Finding as finding
 use Rattle.inner_mark_gc.proofs.marking.Marking.visit_refs.Goals as goal
@@ -19,14 +19,14 @@ sound_at ks rs k r all l is =
     let e : get_or rs k r ≡ r = cc in
     subst (IsSound ks) e (all k r l)
 
-refs_are : (ks : List ChunkValue) (b : Addr) → IsHeld ks b → (object_of ks b).refs ≡ (cell_of ks b).refs
+refs_are : (ks : List ChunkValue) (b : Addr) → HasObjectAt ks b → (object_of ks b).refs ≡ (cell_of ks b).refs
 refs_are ks b held = ap (λ (d : Cell). d.refs) (laws.object_is ks b (laws.born_object ks b held))
 
 pub visit-requires-clause-sound : goal.visit-requires-clause-sound
 visit-requires-clause-sound c =
     let ks = c.args.heap.now.chunks in
     let b : Addr = c.args.object in
-    let held : IsHeld ks b = c.requires.object in
+    let held : HasObjectAt ks b = c.requires.object in
     let count : c.own_header-field-end.result.nrefs ≡ length (object_of ks b).refs = ap (λ (h : Header). h.nrefs) c.own_header-field-end.ensures.kind in
     let less : c.loop-field.field < length (object_of ks b).refs = omega arith in
     sound_at ks (object_of ks b).refs c.loop-field.field c.own_ref-reference.result
@@ -35,7 +35,7 @@ visit-requires-clause-sound c =
 pub loop-field-preserved : goal.loop-field-preserved
 loop-field-preserved c = record {
   finds =
-      finding.finds_more (IsHeld c.args.heap.now.chunks) (λ (a : Addr). Some a) (object_of c.args.heap.now.chunks c.args.object).refs c.loop-field.field c.own_ref-reference.result
+      finding.finds_more (HasObjectAt c.args.heap.now.chunks) (λ (a : Addr). Some a) (object_of c.args.heap.now.chunks c.args.object).refs c.loop-field.field c.own_ref-reference.result
       c.args.self.now c.loop-field.self c.visit.new.self c.own_ref-reference.ensures.value
       c.loop-field.invariant.finds c.visit.ensures.finds;
   room = c.visit.ensures.room;
@@ -45,10 +45,10 @@ pub returns-clause-finds : goal.returns-clause-finds
 returns-clause-finds c =
     let ks = c.args.heap.now.chunks in
     let b : Addr = c.args.object in
-    let held : IsHeld ks b = c.requires.object in
+    let held : HasObjectAt ks b = c.requires.object in
     let refs = refs_are ks b held in
     let count : c.own_header-field-end.result.nrefs ≡ length (object_of ks b).refs = ap (λ (h : Header). h.nrefs) c.own_header-field-end.ensures.kind in
     let done : length (object_of ks b).refs ≤ c.loop-field.field = omega arith in
-    finding.finds_list (IsHeld ks) (Leads ks b) (λ (a : Addr). Some a) (object_of ks b).refs c.loop-field.field c.args.self.now c.loop-field.self done
+    finding.finds_list (HasObjectAt ks) (Leads ks b) (λ (a : Addr). Some a) (object_of ks b).refs c.loop-field.field c.args.self.now c.loop-field.self done
     (λ a p. (p.1, subst (λ (rs : List (Option Addr)). Contains rs (Some a)) (sym refs) p.2))
     (λ a p. (held, p.0, subst (λ (rs : List (Option Addr)). Contains rs (Some a)) refs p.1)) c.loop-field.invariant.finds

@@ -4,7 +4,7 @@ use Rattle.object_layout.specs.ChunkValue.{ChunkValue}
 use Rattle.object_layout.specs.Chunks.{cell_of}
 use Rattle.task_frames.specs.FramesValue.{frames_of}
 use Rattle.leaf_copy_gc.specs.declared.lists.Survivor.{Survivor}
-use Rattle.leaf_copy_gc.specs.Survivors.{as_reference, held_by, live_count, olds, outside, with_chunks}
+use Rattle.leaf_copy_gc.specs.Survivors.{as_reference, frame_references, live_count, olds, outside, with_chunks}
 use Rattle.leaf_copy_gc.specs.CollectorValue.{CollectorValue}
 use Rattle.leaf_copy_gc.proofs.Discovered as founds
 use Rattle.leaf_copy_gc.proofs.Discovered.{Going}
@@ -25,7 +25,7 @@ loop-next-init c =
     let fs = frames_of c.args.frames.now in
     record {
       going = founds.begun b c.requires.none fs c.args.roots.now c.requires.outside s t c.visit_frames.ensures c.visit_roots.ensures;
-      searches = founds.searches_then b s t (founds.searches_by b s (held_by fs) c.visit_frames.ensures) (founds.searches_by s t (map as_reference c.args.roots.now) c.visit_roots.ensures);
+      searches = founds.searches_then b s t (founds.searches_by b s (frame_references fs) c.visit_frames.ensures) (founds.searches_by s t (map as_reference c.args.roots.now) c.visit_roots.ensures);
     }
 
 pub visit_refs-requires-clause-object : goal.visit_refs-requires-clause-object

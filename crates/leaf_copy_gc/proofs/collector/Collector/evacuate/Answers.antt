@@ -2,7 +2,7 @@ use Rattle.std.proofs.Common.{List, map, sym, subst, ap, All, Option}
 use Rattle.object_layout.specs.ChunkValue.{ChunkValue}
 use Rattle.object_layout.specs.declared.word.Addr.{Addr}
 use Rattle.task_frames.specs.FramesValue.{frames_of}
-use Rattle.leaf_copy_gc.specs.Survivors.{as_reference, held_by, outside}
+use Rattle.leaf_copy_gc.specs.Survivors.{as_reference, frame_references, outside}
 use Rattle.leaf_copy_gc.specs.CollectorValue.{CollectorValue}
 use Rattle.leaf_copy_gc.specs.Search.{IsTarget}
 use Rattle.leaf_copy_gc.specs.Redirected.{CanFollow}
@@ -87,7 +87,7 @@ lead_frames-requires c =
     let t : CollectorValue = c.copy_all.new.self in
     let u : CollectorValue = c.lead_chunks.new.self in
     let same = ap (λ (z : CollectorValue). z.heap.chunks) c.lead_chunks.ensures in
-    frames.first_part (IsTarget u.heap.chunks) (held_by (frames_of c.args.frames.now)) (map as_reference c.args.roots.now)
+    frames.first_part (IsTarget u.heap.chunks) (frame_references (frames_of c.args.frames.now)) (map as_reference c.args.roots.now)
     (subst (λ (ks : List ChunkValue). All (IsTarget ks) from) (sym same) (phases.from_targets b from c.requires.closed c.requires.outside d s are t c.copy_all.ensures))
 
 pub lead_larges-requires : goal.lead_larges-requires

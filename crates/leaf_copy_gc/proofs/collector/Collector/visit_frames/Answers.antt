@@ -2,7 +2,7 @@ use Rattle.std.proofs.Common.{◌≡◌, ◌<◌, length, List, Option, sym, ap,
 use Rattle.listed.proofs.Places.{all_from, read_in}
 use Rattle.object_layout.specs.declared.word.Addr.{Addr}
 use Rattle.task_frames.specs.FramesValue.{frames_of, references_of}
-use Rattle.leaf_copy_gc.specs.Survivors.{held_by}
+use Rattle.leaf_copy_gc.specs.Survivors.{frame_references}
 use Rattle.leaf_copy_gc.specs.CollectorValue.{CollectorValue}
 use Rattle.leaf_copy_gc.specs.Search.{visited, IsTarget}
 use Rattle.leaf_copy_gc.proofs.FoundLemmas as founds
@@ -14,7 +14,7 @@ visit_all-requires c =
     let same = c.references_in-references.ensures in
     subst (λ (rs : List (Option Addr)). All (IsTarget c.loop-frame.self.heap.chunks) rs) (sym same)
     (all_from (IsTarget c.loop-frame.self.heap.chunks) (references_of (frames_of c.args.frames.now) c.loop-frame.frame)
-    (λ r i. read_in (IsTarget c.loop-frame.self.heap.chunks) (held_by (frames_of c.args.frames.now)) r (lists.in_frames (frames_of c.args.frames.now) c.loop-frame.frame r i) c.loop-frame.invariant.targets))
+    (λ r i. read_in (IsTarget c.loop-frame.self.heap.chunks) (frame_references (frames_of c.args.frames.now)) r (lists.in_frames (frames_of c.args.frames.now) c.loop-frame.frame r i) c.loop-frame.invariant.targets))
 
 pub loop-frame-preserved : goal.loop-frame-preserved
 loop-frame-preserved c =
@@ -25,5 +25,5 @@ loop-frame-preserved c =
     let within : c.loop-frame.frame < length fs = omega (arith, length-append c.args.frames.now.below) in
     record {
       visited = step ∙ (ap (λ (t : CollectorValue). fold visited t refs) c.loop-frame.invariant.visited ∙ sym (lists.fold_frames visited c.args.self.now fs c.loop-frame.frame within));
-      targets = founds.fold_all_targets s refs c.visit_all.new.self.heap.chunks (ap (λ (t : CollectorValue). t.heap.chunks) step) (held_by fs) c.loop-frame.invariant.targets;
+      targets = founds.fold_all_targets s refs c.visit_all.new.self.heap.chunks (ap (λ (t : CollectorValue). t.heap.chunks) step) (frame_references fs) c.loop-frame.invariant.targets;
     }

@@ -10,4 +10,4 @@ pub returns-clause-none : goal.returns-clause-none
 returns-clause-none c = λ w. sym (c.fuel_cause.ensures w) ∙ c.in_default.is
 
 pub returns-clause-ok : goal.returns-clause-ok
-returns-clause-ok c = λ w. c.fuel.ensures w ∙ ap (λ u. record c.args.self.now { ledger = after_kind c.args.self.now.program c.args.self.now.limits c.args.self.now.ledger w Fuel; used = u }) c.requires.used
+returns-clause-ok c = λ w. c.fuel.ensures w ∙ ap (λ u. record c.args.self.now { ledger = after_kind c.args.self.now.program c.args.self.now.settings c.args.self.now.ledger w Fuel; used = u }) c.requires.used

@@ -5,6 +5,6 @@ use Rattle.run_accounts.proofs.accounts.Accounts.ran.Given as goal
 
 abbrev pub invariant-loop-done : goal.invariant-loop-done
 invariant-loop-done l = record {
-  ran : Ran l.initial.self.limits l.initial.self.program l.initial.self.ledger l.t l.steps l.done l.self.ledger;
+  ran : Ran l.initial.self.settings l.initial.self.program l.initial.self.ledger l.t l.steps l.done l.self.ledger;
   is : l.self ≡ went_on l.initial.self l.self.ledger;
 }

@@ -15,8 +15,8 @@ use Rattle.shared_value.specs.Entered.{refused}
 use Rattle.shared_value.proofs.JournalGoesOn.{four_changed}
 use Rattle.own_steps.specs.Alone.{alone_event}
 use Rattle.own_steps.proofs.AloneEntries.{alone_small, next_small}
-use Rattle.child_tasks.specs.Forks.{ForksOn, ForksTo, HomesFork, IsAtFork, SetsFork, begun_rest, part_child, waiting_rest}
-use Rattle.child_tasks.proofs.ForkEntries.{alone_forks, alone_world, homes_fork_by, own_home, own_set}
+use Rattle.child_tasks.specs.Forks.{ForksOn, ForksTo, RestsFork, IsAtFork, SetsFork, begun_rest, part_child, waiting_rest}
+use Rattle.child_tasks.proofs.ForkEntries.{alone_forks, alone_world, rests_fork_by, own_home, own_set}
 use Rattle.child_tasks.proofs.NextStepForks.{few_tasks, fork_shared, on, tree_out}
 use Rattle.shared_tree.specs.contracts.shared.Shared.{the_view}
 use Rattle.shared_tree.proofs.StepsEntered.{along, entered}
@@ -135,17 +135,17 @@ invariant_of-self-2 c =
     let g : HomesValue = c.grow-grown.new.homes in
     let n : HomesValue = c.fork_homes-marked.new.homes in
     let grown : g ≡ record c.self.inside.heaps.homes { blocks = g.blocks; room = g.room } = c.in-Ok-grown.ensures.homes in
-    let made : p.task < length w.homes = own_home w k p I F at free c.args.left c.args.right B.0 B.1 low in
-    let first : c.in-Ok-grown.first ≡ part_child p (length w.homes) c.args.left c.in-Ok-grown.first.heap.slots c.in-Ok-grown.first.heap.spare = c.in-Ok-grown.ensures.left_child ∙ ap (λ n. part_child p n c.args.left c.in-Ok-grown.first.heap.slots c.in-Ok-grown.first.heap.spare) (sym I.made) in
-    let second : c.in-Ok-grown.second ≡ part_child p (length w.homes + 1) c.args.right c.in-Ok-grown.second.heap.slots c.in-Ok-grown.second.heap.spare = c.in-Ok-grown.ensures.right_child ∙ ap (λ n. part_child p (n + 1) c.args.right c.in-Ok-grown.second.heap.slots c.in-Ok-grown.second.heap.spare) (sym I.made) in
-    let rests : n.rests ≡ slice_set w.homes p.task (Some (waiting_rest p)) ++ Some (begun_rest c.in-Ok-grown.first) ∷ (Some (begun_rest c.in-Ok-grown.second) ∷ []) =
+    let made : p.task < length w.rests = own_home w k p I F at free c.args.left c.args.right B.0 B.1 low in
+    let first : c.in-Ok-grown.first ≡ part_child p (length w.rests) c.args.left c.in-Ok-grown.first.heap.slots c.in-Ok-grown.first.heap.spare = c.in-Ok-grown.ensures.left_child ∙ ap (λ n. part_child p n c.args.left c.in-Ok-grown.first.heap.slots c.in-Ok-grown.first.heap.spare) (sym I.made) in
+    let second : c.in-Ok-grown.second ≡ part_child p (length w.rests + 1) c.args.right c.in-Ok-grown.second.heap.slots c.in-Ok-grown.second.heap.spare = c.in-Ok-grown.ensures.right_child ∙ ap (λ n. part_child p (n + 1) c.args.right c.in-Ok-grown.second.heap.slots c.in-Ok-grown.second.heap.spare) (sym I.made) in
+    let rests : n.rests ≡ slice_set w.rests p.task (Some (waiting_rest p)) ++ Some (begun_rest c.in-Ok-grown.first) ∷ (Some (begun_rest c.in-Ok-grown.second) ∷ []) =
     c.fork_homes-marked.ensures.rests ∙ ap (λ (z : HomesValue). slice_set z.rests p.task (Some (waiting_rest p)) ++ Some (begun_rest c.in-Ok-grown.first) ∷ (Some (begun_rest c.in-Ok-grown.second) ∷ [])) grown in
     let marks : n.marks ≡ slice_set w.marks p.task None ++ None ∷ (None ∷ []) = c.fork_homes-marked.ensures.marks ∙ ap (λ (z : HomesValue). slice_set z.marks p.task None ++ None ∷ (None ∷ [])) grown in
-    let H : HomesFork w.homes n.rests p c.args.left c.args.right = homes_fork_by w.homes n.rests p c.args.left c.args.right c.in-Ok-grown.first c.in-Ok-grown.second made first second rests in
+    let H : RestsFork w.rests n.rests p c.args.left c.args.right = rests_fork_by w.rests n.rests p c.args.left c.args.right c.in-Ok-grown.first c.in-Ok-grown.second made first second rests in
     let N : SetsFork w.sets n.sets p.task = subst (λ (z : HomesValue). SetsFork z.sets n.sets p.task) grown c.fork_homes-marked.ensures.sets in
     let j : RoomyValue EntryValue = record { items = []; room = w.journal.room - 1 } in
     let v : SharedValue = record w { steps = w.steps + (p.fresh + 1); sets = n.sets; marks = n.marks } in
-    along w k p _ _ c.enter_alone.ensures.steps c.enter_alone.ensures.journal (λ m j. IsSharedValue (record v { steps = m; tree = c.grow-grown.new.tree; homes = n.rests; tasks_out = c.set.new.self; journal = j }))
+    along w k p _ _ c.enter_alone.ensures.steps c.enter_alone.ensures.journal (λ m j. IsSharedValue (record v { steps = m; tree = c.grow-grown.new.tree; rests = n.rests; tasks_out = c.set.new.self; journal = j }))
     (subst IsSharedValue (sym (four_changed v (forked w.tree p.task) _ n.rests n.rests (slice_set w.tasks_out k None) _ (entered w k p) _ c.in-Ok-grown.ensures.tree refl c.set.ensures refl))
     (alone_world w k p I F at free c.args.left c.args.right B.0 B.1 low n.rests n.sets H N n.marks marks j))
 
@@ -163,27 +163,27 @@ returns-clause-answered c =
     let g : HomesValue = c.grow-grown.new.homes in
     let n : HomesValue = c.fork_homes-marked.new.homes in
     let grown : g ≡ record c.self.inside.heaps.homes { blocks = g.blocks; room = g.room } = c.in-Ok-grown.ensures.homes in
-    let made : p.task < length w.homes = own_home w k p I F at free c.args.left c.args.right B.0 B.1 low in
-    let first : c.in-Ok-grown.first ≡ part_child p (length w.homes) c.args.left c.in-Ok-grown.first.heap.slots c.in-Ok-grown.first.heap.spare = c.in-Ok-grown.ensures.left_child ∙ ap (λ n. part_child p n c.args.left c.in-Ok-grown.first.heap.slots c.in-Ok-grown.first.heap.spare) (sym I.made) in
-    let second : c.in-Ok-grown.second ≡ part_child p (length w.homes + 1) c.args.right c.in-Ok-grown.second.heap.slots c.in-Ok-grown.second.heap.spare = c.in-Ok-grown.ensures.right_child ∙ ap (λ n. part_child p (n + 1) c.args.right c.in-Ok-grown.second.heap.slots c.in-Ok-grown.second.heap.spare) (sym I.made) in
-    let rests : n.rests ≡ slice_set w.homes p.task (Some (waiting_rest p)) ++ Some (begun_rest c.in-Ok-grown.first) ∷ (Some (begun_rest c.in-Ok-grown.second) ∷ []) =
+    let made : p.task < length w.rests = own_home w k p I F at free c.args.left c.args.right B.0 B.1 low in
+    let first : c.in-Ok-grown.first ≡ part_child p (length w.rests) c.args.left c.in-Ok-grown.first.heap.slots c.in-Ok-grown.first.heap.spare = c.in-Ok-grown.ensures.left_child ∙ ap (λ n. part_child p n c.args.left c.in-Ok-grown.first.heap.slots c.in-Ok-grown.first.heap.spare) (sym I.made) in
+    let second : c.in-Ok-grown.second ≡ part_child p (length w.rests + 1) c.args.right c.in-Ok-grown.second.heap.slots c.in-Ok-grown.second.heap.spare = c.in-Ok-grown.ensures.right_child ∙ ap (λ n. part_child p (n + 1) c.args.right c.in-Ok-grown.second.heap.slots c.in-Ok-grown.second.heap.spare) (sym I.made) in
+    let rests : n.rests ≡ slice_set w.rests p.task (Some (waiting_rest p)) ++ Some (begun_rest c.in-Ok-grown.first) ∷ (Some (begun_rest c.in-Ok-grown.second) ∷ []) =
     c.fork_homes-marked.ensures.rests ∙ ap (λ (z : HomesValue). slice_set z.rests p.task (Some (waiting_rest p)) ++ Some (begun_rest c.in-Ok-grown.first) ∷ (Some (begun_rest c.in-Ok-grown.second) ∷ [])) grown in
     let marks : n.marks ≡ slice_set w.marks p.task None ++ None ∷ (None ∷ []) = c.fork_homes-marked.ensures.marks ∙ ap (λ (z : HomesValue). slice_set z.marks p.task None ++ None ∷ (None ∷ [])) grown in
-    let H : HomesFork w.homes n.rests p c.args.left c.args.right = homes_fork_by w.homes n.rests p c.args.left c.args.right c.in-Ok-grown.first c.in-Ok-grown.second made first second rests in
+    let H : RestsFork w.rests n.rests p c.args.left c.args.right = rests_fork_by w.rests n.rests p c.args.left c.args.right c.in-Ok-grown.first c.in-Ok-grown.second made first second rests in
     let N : SetsFork w.sets n.sets p.task = subst (λ (z : HomesValue). SetsFork z.sets n.sets p.task) grown c.fork_homes-marked.ensures.sets in
     let j : RoomyValue EntryValue = record { items = []; room = w.journal.room - 1 } in
     let v : SharedValue = record w { steps = w.steps + (p.fresh + 1); sets = n.sets; marks = n.marks } in
-    subst (λ (z : SharedValue). ForksOn z (record v { steps = c.enter_alone.new.steps; tree = c.grow-grown.new.tree; homes = n.rests; tasks_out = c.set.new.self; journal = c.enter_alone.new.journal }) k p c.in-Ok-grown.first.task c.in-Ok-grown.second.task) c.self.view_is
-    (along w k p _ _ c.enter_alone.ensures.steps c.enter_alone.ensures.journal (λ m j. ForksOn w (record v { steps = m; tree = c.grow-grown.new.tree; homes = n.rests; tasks_out = c.set.new.self; journal = j }) k p c.in-Ok-grown.first.task c.in-Ok-grown.second.task)
+    subst (λ (z : SharedValue). ForksOn z (record v { steps = c.enter_alone.new.steps; tree = c.grow-grown.new.tree; rests = n.rests; tasks_out = c.set.new.self; journal = c.enter_alone.new.journal }) k p c.in-Ok-grown.first.task c.in-Ok-grown.second.task) c.self.view_is
+    (along w k p _ _ c.enter_alone.ensures.steps c.enter_alone.ensures.journal (λ m j. ForksOn w (record v { steps = m; tree = c.grow-grown.new.tree; rests = n.rests; tasks_out = c.set.new.self; journal = j }) k p c.in-Ok-grown.first.task c.in-Ok-grown.second.task)
     (subst (λ (z : SharedValue). ForksOn w z k p c.in-Ok-grown.first.task c.in-Ok-grown.second.task) (sym (four_changed v (forked w.tree p.task) _ n.rests n.rests (slice_set w.tasks_out k None) _ (entered w k p) _ c.in-Ok-grown.ensures.tree refl c.set.ensures refl))
     (alone_forks w k p I F at free c.args.left c.args.right B.0 B.1 low n.rests n.sets H N n.marks marks j c.in-Ok-grown.first.task c.in-Ok-grown.second.task
     (ap (λ (z : Child). z.task) c.in-Ok-grown.ensures.left_child) (ap (λ (z : Child). z.task) c.in-Ok-grown.ensures.right_child))))
 
 -- the same value, by what a call left that failed
-unchanged_by : (w : SharedValue) (n : List Node) (h g : HomesValue) → h.rests ≡ w.homes → h.sets ≡ w.sets → h.marks ≡ w.marks → n ≡ w.tree → g ≡ record h { blocks = g.blocks; room = g.room } → record w { tree = n; homes = g.rests; sets = g.sets; marks = g.marks } ≡ w
+unchanged_by : (w : SharedValue) (n : List Node) (h g : HomesValue) → h.rests ≡ w.rests → h.sets ≡ w.sets → h.marks ≡ w.marks → n ≡ w.tree → g ≡ record h { blocks = g.blocks; room = g.room } → record w { tree = n; rests = g.rests; sets = g.sets; marks = g.marks } ≡ w
 unchanged_by w n h g er es em en eg =
-    ap (λ (x : List Node). record w { tree = x; homes = g.rests; sets = g.sets; marks = g.marks }) en
-    ∙ (ap (λ (x : List (Option Rest)). record w { homes = x; sets = g.sets; marks = g.marks }) (ap (λ (z : HomesValue). z.rests) eg ∙ er)
+    ap (λ (x : List Node). record w { tree = x; rests = g.rests; sets = g.sets; marks = g.marks }) en
+    ∙ (ap (λ (x : List (Option Rest)). record w { rests = x; sets = g.sets; marks = g.marks }) (ap (λ (z : HomesValue). z.rests) eg ∙ er)
     ∙ (ap (λ (x : List SetOf). record w { sets = x; marks = g.marks }) (ap (λ (z : HomesValue). z.sets) eg ∙ es)
     ∙ ap (λ (x : List (Option MarkingValue)). record w { marks = x }) (ap (λ (z : HomesValue). z.marks) eg ∙ em)))
 

@@ -103,7 +103,7 @@ leave-requires-2 c =
     let made = other_made w k p I F at free ended in
     let o = c.sibling_of-other.ensures in
     let n = I.made in
-    let m : length c.leave.new.self.rests ≡ length w.homes = ap (λ (z : HomesValue). length z.rests) c.leave.ensures.homes ∙ length-set w.homes p.task None in
+    let m : length c.leave.new.self.rests ≡ length w.rests = ap (λ (z : HomesValue). length z.rests) c.leave.ensures.homes ∙ length-set w.rests p.task None in
     record { made = omega (arith, made, o, n, m) }
 
 pub take_rest-above-requires : goal.take_rest-above-requires
@@ -305,7 +305,7 @@ invariant_of-self c =
     let v : SharedValue = record w { pool = pool; sets = h6.sets; marks = h6.marks; steps = w.steps + (p.fresh + 1) } in
     let tree : c.join_children-rest.new.tree ≡ joined_nodes (with_state w.tree p.task Ended) c.args.parent left.side.task right.side.task = c.join_children-rest.ensures.tree ∙ ap (λ ns. joined_nodes ns c.args.parent left.side.task right.side.task) c.set_state.ensures in
     let same = four_changed v (joined_nodes (with_state w.tree p.task Ended) c.args.parent left.side.task right.side.task) c.join_children-rest.new.tree h6.rests h6.rests (slice_set w.tasks_out k None) c.set.new.self (entered w k p) _ tree refl c.set.ensures refl in
-    along w k p _ _ c.enter_alone.ensures.steps c.enter_alone.ensures.journal (λ n j. IsSharedValue (record v { steps = n; tree = c.join_children-rest.new.tree; homes = h6.rests; tasks_out = c.set.new.self; journal = j })) (subst IsSharedValue (sym same) both.0)
+    along w k p _ _ c.enter_alone.ensures.steps c.enter_alone.ensures.journal (λ n j. IsSharedValue (record v { steps = n; tree = c.join_children-rest.new.tree; rests = h6.rests; tasks_out = c.set.new.self; journal = j })) (subst IsSharedValue (sym same) both.0)
 
 pub returns-clause-joined : goal.returns-clause-joined
 returns-clause-joined c =
@@ -372,8 +372,8 @@ returns-clause-joined c =
     let v : SharedValue = record w { pool = pool; sets = h6.sets; marks = h6.marks; steps = w.steps + (p.fresh + 1) } in
     let tree : c.join_children-rest.new.tree ≡ joined_nodes (with_state w.tree p.task Ended) c.args.parent left.side.task right.side.task = c.join_children-rest.ensures.tree ∙ ap (λ ns. joined_nodes ns c.args.parent left.side.task right.side.task) c.set_state.ensures in
     let same = four_changed v (joined_nodes (with_state w.tree p.task Ended) c.args.parent left.side.task right.side.task) c.join_children-rest.new.tree h6.rests h6.rests (slice_set w.tasks_out k None) c.set.new.self (entered w k p) _ tree refl c.set.ensures refl in
-    subst (λ (z : SharedValue). EndsChild z (record v { steps = c.enter_alone.new.steps; tree = c.join_children-rest.new.tree; homes = h6.rests; tasks_out = c.set.new.self; journal = c.enter_alone.new.journal }) k p (Some c.args.parent)) c.self.view_is
-    (along w k p _ _ c.enter_alone.ensures.steps c.enter_alone.ensures.journal (λ n j. EndsChild w (record v { steps = n; tree = c.join_children-rest.new.tree; homes = h6.rests; tasks_out = c.set.new.self; journal = j }) k p (Some c.args.parent))
+    subst (λ (z : SharedValue). EndsChild z (record v { steps = c.enter_alone.new.steps; tree = c.join_children-rest.new.tree; rests = h6.rests; tasks_out = c.set.new.self; journal = c.enter_alone.new.journal }) k p (Some c.args.parent)) c.self.view_is
+    (along w k p _ _ c.enter_alone.ensures.steps c.enter_alone.ensures.journal (λ n j. EndsChild w (record v { steps = n; tree = c.join_children-rest.new.tree; rests = h6.rests; tasks_out = c.set.new.self; journal = j }) k p (Some c.args.parent))
     (subst (λ (z : SharedValue). EndsChild w z k p (Some c.args.parent)) (sym same) both.1))
 
 pub returns-clause-task_out : goal.returns-clause-task_out

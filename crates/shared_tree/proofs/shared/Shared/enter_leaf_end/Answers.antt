@@ -74,7 +74,7 @@ invariant_of-self c =
     let led : c.lead.new.heaps ≡ with_resting c.self.inside.heaps (led_heaps w p m) = c.lead.ensures.led ∙ ap (λ ms. with_resting c.self.inside.heaps (fold (redirected refs_in with_ref_in ms) (heaps_of w) (sources_of (slice_get w.sets p.task)))) c.deref.ensures.value in
     let once : StandOnce (sources_of (slice_get w.sets p.task)) = c.lead.ensures.once in
     let given : AreGiven (led_heaps w p m).pool c.give_all.new.pool m.back.items = subst (λ (z : PoolValue). AreGiven z c.give_all.new.pool m.back.items) (ap (λ (h : Heaps). h.pool) led ∙ sym (pool_same w k p m c.self.invariant F free (led_heaps w p m) refl once)) c.give_all.ensures in
-    subst (λ (h : Heaps). IsSharedValue (record w { pool = c.give_all.new.pool; homes = h.homes.rests; sets = h.homes.sets; marks = h.homes.marks; journal = c.push_reserved.new.self })) (sym led)
+    subst (λ (h : Heaps). IsSharedValue (record w { pool = c.give_all.new.pool; rests = h.homes.rests; sets = h.homes.sets; marks = h.homes.marks; journal = c.push_reserved.new.self })) (sym led)
     (world_so w k p m c.self.invariant F free (led_heaps w p m) refl once c.give_all.new.pool given c.push_reserved.new.self (journal_by w.journal _ _ (end_event k p m) c.new.ensures c.push_reserved.ensures))
 
 pub returns-clause-fits : goal.returns-clause-fits
@@ -88,7 +88,7 @@ returns-clause-fits c =
     let led : c.lead.new.heaps ≡ with_resting c.self.inside.heaps (led_heaps w p m) = c.lead.ensures.led ∙ ap (λ ms. with_resting c.self.inside.heaps (fold (redirected refs_in with_ref_in ms) (heaps_of w) (sources_of (slice_get w.sets p.task)))) c.deref.ensures.value in
     let once : StandOnce (sources_of (slice_get w.sets p.task)) = c.lead.ensures.once in
     let given : AreGiven (led_heaps w p m).pool c.give_all.new.pool m.back.items = subst (λ (z : PoolValue). AreGiven z c.give_all.new.pool m.back.items) (ap (λ (h : Heaps). h.pool) led ∙ sym (pool_same w k p m c.self.invariant F free (led_heaps w p m) refl once)) c.give_all.ensures in
-    subst (λ (h : Heaps). Fits (record w { pool = c.give_all.new.pool; homes = h.homes.rests; sets = h.homes.sets; marks = h.homes.marks; journal = c.push_reserved.new.self }) k (ended p)) (sym led)
+    subst (λ (h : Heaps). Fits (record w { pool = c.give_all.new.pool; rests = h.homes.rests; sets = h.homes.sets; marks = h.homes.marks; journal = c.push_reserved.new.self }) k (ended p)) (sym led)
     (fits_so w k p m c.self.invariant F free (led_heaps w p m) refl once c.give_all.new.pool given c.push_reserved.new.self (journal_by w.journal _ _ (end_event k p m) c.new.ensures c.push_reserved.ensures))
 
 pub returns-clause-others : goal.returns-clause-others
@@ -102,15 +102,15 @@ returns-clause-others c =
     let led : c.lead.new.heaps ≡ with_resting c.self.inside.heaps (led_heaps w p m) = c.lead.ensures.led ∙ ap (λ ms. with_resting c.self.inside.heaps (fold (redirected refs_in with_ref_in ms) (heaps_of w) (sources_of (slice_get w.sets p.task)))) c.deref.ensures.value in
     let once : StandOnce (sources_of (slice_get w.sets p.task)) = c.lead.ensures.once in
     let given : AreGiven (led_heaps w p m).pool c.give_all.new.pool m.back.items = subst (λ (z : PoolValue). AreGiven z c.give_all.new.pool m.back.items) (ap (λ (h : Heaps). h.pool) led ∙ sym (pool_same w k p m c.self.invariant F free (led_heaps w p m) refl once)) c.give_all.ensures in
-    subst (λ (z : SharedValue). OthersFit z (record w { pool = c.give_all.new.pool; homes = c.lead.new.heaps.homes.rests; sets = c.lead.new.heaps.homes.sets; marks = c.lead.new.heaps.homes.marks; journal = c.push_reserved.new.self }) k) c.self.view_is
-    (subst (λ (h : Heaps). OthersFit w (record w { pool = c.give_all.new.pool; homes = h.homes.rests; sets = h.homes.sets; marks = h.homes.marks; journal = c.push_reserved.new.self }) k) (sym led)
+    subst (λ (z : SharedValue). OthersFit z (record w { pool = c.give_all.new.pool; rests = c.lead.new.heaps.homes.rests; sets = c.lead.new.heaps.homes.sets; marks = c.lead.new.heaps.homes.marks; journal = c.push_reserved.new.self }) k) c.self.view_is
+    (subst (λ (h : Heaps). OthersFit w (record w { pool = c.give_all.new.pool; rests = h.homes.rests; sets = h.homes.sets; marks = h.homes.marks; journal = c.push_reserved.new.self }) k) (sym led)
     (others_so w k p m c.self.invariant F free (led_heaps w p m) refl once c.give_all.new.pool given c.push_reserved.new.self (journal_by w.journal _ _ (end_event k p m) c.new.ensures c.push_reserved.ensures)))
 
 pub returns-clause-enters : goal.returns-clause-enters
 returns-clause-enters c =
     let w : SharedValue = the_view c.self.inside in
     let e : EntryValue = end_event c.args.worker c.args.part.now c.args.moved in
-    subst (λ (z : SharedValue). Enters z (record w { pool = c.give_all.new.pool; homes = c.lead.new.heaps.homes.rests; sets = c.lead.new.heaps.homes.sets; marks = c.lead.new.heaps.homes.marks; journal = c.push_reserved.new.self }) e) c.self.view_is
+    subst (λ (z : SharedValue). Enters z (record w { pool = c.give_all.new.pool; rests = c.lead.new.heaps.homes.rests; sets = c.lead.new.heaps.homes.sets; marks = c.lead.new.heaps.homes.marks; journal = c.push_reserved.new.self }) e) c.self.view_is
     (record { journal = ap (λ (j : RoomyValue EntryValue). j.items) (journal_by w.journal _ _ e c.new.ensures c.push_reserved.ensures); program = refl; settings = refl; halted = refl })
 
 pub push_reserved-requires : goal.push_reserved-requires

@@ -40,8 +40,8 @@ invariant_of-self c =
     let ms : List (Option MarkingValue) = slice_set w.marks t (Some c.in_ok-marking.marking) in
     let at : marks_at ms t ≡ Some c.args.marking = ap (λ (h : HomesValue). marks_at h.marks t) (sym c.put_marking.ensures.homes) ∙ (c.put_marking.ensures.marking ∙ ap Some c.in_ok-marking.ensures.ok) in
     let both = mark_enters w c.self.invariant k t c.args.marking ms (w.journal.room - 1) at (λ u ne. ap option_flatten (got_other w.marks t u (Some c.in_ok-marking.marking) ne)) free c.requires.none goes in
-    subst (λ (j : RoomyValue EntryValue). IsSharedValue (record w { homes = c.put_marking.new.self.rests; sets = c.put_marking.new.self.sets; marks = c.put_marking.new.self.marks; journal = j })) (sym journal)
-    (subst (λ (h : HomesValue). IsSharedValue (record w { homes = h.rests; sets = h.sets; marks = h.marks; journal = record { items = w.journal.items ++ e ∷ []; room = w.journal.room - 1 } })) (sym c.put_marking.ensures.homes) both.0)
+    subst (λ (j : RoomyValue EntryValue). IsSharedValue (record w { rests = c.put_marking.new.self.rests; sets = c.put_marking.new.self.sets; marks = c.put_marking.new.self.marks; journal = j })) (sym journal)
+    (subst (λ (h : HomesValue). IsSharedValue (record w { rests = h.rests; sets = h.sets; marks = h.marks; journal = record { items = w.journal.items ++ e ∷ []; room = w.journal.room - 1 } })) (sym c.put_marking.ensures.homes) both.0)
 
 pub returns-clause-fits : goal.returns-clause-fits
 returns-clause-fits c =
@@ -55,9 +55,9 @@ returns-clause-fits c =
     let ms : List (Option MarkingValue) = slice_set w.marks t (Some c.in_ok-marking.marking) in
     let at : marks_at ms t ≡ Some c.args.marking = ap (λ (h : HomesValue). marks_at h.marks t) (sym c.put_marking.ensures.homes) ∙ (c.put_marking.ensures.marking ∙ ap Some c.in_ok-marking.ensures.ok) in
     let both = mark_enters w c.self.invariant k t c.args.marking ms (w.journal.room - 1) at (λ u ne. ap option_flatten (got_other w.marks t u (Some c.in_ok-marking.marking) ne)) free c.requires.none goes in
-    subst (λ (z : SharedValue). AllFit z (record w { homes = c.put_marking.new.self.rests; sets = c.put_marking.new.self.sets; marks = c.put_marking.new.self.marks; journal = c.push_reserved.new.self })) c.self.view_is
-    (subst (λ (j : RoomyValue EntryValue). AllFit w (record w { homes = c.put_marking.new.self.rests; sets = c.put_marking.new.self.sets; marks = c.put_marking.new.self.marks; journal = j })) (sym journal)
-    (subst (λ (h : HomesValue). AllFit w (record w { homes = h.rests; sets = h.sets; marks = h.marks; journal = record { items = w.journal.items ++ e ∷ []; room = w.journal.room - 1 } })) (sym c.put_marking.ensures.homes) both.1))
+    subst (λ (z : SharedValue). AllFit z (record w { rests = c.put_marking.new.self.rests; sets = c.put_marking.new.self.sets; marks = c.put_marking.new.self.marks; journal = c.push_reserved.new.self })) c.self.view_is
+    (subst (λ (j : RoomyValue EntryValue). AllFit w (record w { rests = c.put_marking.new.self.rests; sets = c.put_marking.new.self.sets; marks = c.put_marking.new.self.marks; journal = j })) (sym journal)
+    (subst (λ (h : HomesValue). AllFit w (record w { rests = h.rests; sets = h.sets; marks = h.marks; journal = record { items = w.journal.items ++ e ∷ []; room = w.journal.room - 1 } })) (sym c.put_marking.ensures.homes) both.1))
 
 pub push_reserved-requires : goal.push_reserved-requires
 push_reserved-requires c = subst (λ (z : SharedValue). 0 < z.journal.room) (sym c.self.view_is) c.requires.room

@@ -4,7 +4,7 @@ use Rattle.run_trace.specs.Entry.{EntryValue}
 use Rattle.run_trace.specs.declared.entry.Kind.TheVariants.{More}
 use Rattle.run_ledger.specs.Heaps.{heap_of, left_in}
 use Rattle.object_layout.specs.declared.word.Addr.{Addr}
-use Rattle.object_layout.specs.Graph.{IsHeld}
+use Rattle.object_layout.specs.Graph.{HasObjectAt}
 use Rattle.inner_mark_gc.specs.MarkingValue.{IsAllMarked, IsMarking, IsOf, MarkingValue}
 use Rattle.inner_mark_gc.specs.Snapshot.{Fork, IsSince}
 use Rattle.core_relation.specs.Since.{kept}
@@ -71,7 +71,7 @@ some-count-requires-clause-closed c =
     let free : refused w e ≡ None = subst (λ (z : SharedValue). refused z e ≡ None) (sym c.self.view_is) c.requires.free in
     let on : (accounts w).end ≡ None = entry_on w e free in
     let marks : marking_cause w t ≡ None = some_marks w c.self.invariant k t n free in
-    let there : rest_at w.homes t ≡ Some c.in-Some-rest.rest.now =
+    let there : rest_at w.rests t ≡ Some c.in-Some-rest.rest.now =
     ap (λ (h : HomesValue). rest_at h.rests t) (sym c.take_marking.ensures.homes) ∙ (sym c.rest.ensures ∙ ap option_copied c.in-Some-rest.is) in
     let at : marks_at w.marks t ≡ Some c.get_mut.result.now = sym c.take_marking.ensures.marking ∙ (c.in-Some.is ∙ ap Some (sym c.get_mut.ensures.value)) in
     let F : Further w t c.in-Some-rest.rest.now c.get_mut.result.now = further w c.self.invariant on t marks c.in-Some-rest.rest.now c.get_mut.result.now there at in
@@ -87,12 +87,12 @@ some-count-requires-clause-kept c =
     let free : refused w e ≡ None = subst (λ (z : SharedValue). refused z e ≡ None) (sym c.self.view_is) c.requires.free in
     let on : (accounts w).end ≡ None = entry_on w e free in
     let marks : marking_cause w t ≡ None = some_marks w c.self.invariant k t n free in
-    let there : rest_at w.homes t ≡ Some c.in-Some-rest.rest.now =
+    let there : rest_at w.rests t ≡ Some c.in-Some-rest.rest.now =
     ap (λ (h : HomesValue). rest_at h.rests t) (sym c.take_marking.ensures.homes) ∙ (sym c.rest.ensures ∙ ap option_copied c.in-Some-rest.is) in
     let at : marks_at w.marks t ≡ Some c.get_mut.result.now = sym c.take_marking.ensures.marking ∙ (c.in-Some.is ∙ ap Some (sym c.get_mut.ensures.value)) in
     let same : c.kept-kept.result.now ≡ kept (value_of w) t = c.kept-kept.ensures ∙ (ap (λ (h : HomesValue). kept_of (slice_get h.sets t)) c.take_marking.ensures.homes ∙ kept_noted (slice_get w.sets t)) in
     let F : Further w t c.in-Some-rest.rest.now c.get_mut.result.now = further w c.self.invariant on t marks c.in-Some-rest.rest.now c.get_mut.result.now there at in
-    subst (λ (xs : List Addr). All (IsHeld c.in-Some-rest.rest.now.heap.chunks) xs) (sym same) F.kept
+    subst (λ (xs : List Addr). All (HasObjectAt c.in-Some-rest.rest.now.heap.chunks) xs) (sym same) F.kept
 
 pub some-count-requires-clause-own : goal.some-count-requires-clause-own
 some-count-requires-clause-own c =
@@ -104,7 +104,7 @@ some-count-requires-clause-own c =
     let free : refused w e ≡ None = subst (λ (z : SharedValue). refused z e ≡ None) (sym c.self.view_is) c.requires.free in
     let on : (accounts w).end ≡ None = entry_on w e free in
     let marks : marking_cause w t ≡ None = some_marks w c.self.invariant k t n free in
-    let there : rest_at w.homes t ≡ Some c.in-Some-rest.rest.now =
+    let there : rest_at w.rests t ≡ Some c.in-Some-rest.rest.now =
     ap (λ (h : HomesValue). rest_at h.rests t) (sym c.take_marking.ensures.homes) ∙ (sym c.rest.ensures ∙ ap option_copied c.in-Some-rest.is) in
     let at : marks_at w.marks t ≡ Some c.get_mut.result.now = sym c.take_marking.ensures.marking ∙ (c.in-Some.is ∙ ap Some (sym c.get_mut.ensures.value)) in
     let same : c.kept-kept.result.now ≡ kept (value_of w) t = c.kept-kept.ensures ∙ (ap (λ (h : HomesValue). kept_of (slice_get h.sets t)) c.take_marking.ensures.homes ∙ kept_noted (slice_get w.sets t)) in
@@ -121,7 +121,7 @@ invariant_of-self c =
     let free : refused w e ≡ None = subst (λ (z : SharedValue). refused z e ≡ None) (sym c.self.view_is) c.requires.free in
     let on : (accounts w).end ≡ None = entry_on w e free in
     let marks : marking_cause w t ≡ None = some_marks w c.self.invariant k t n free in
-    let there : rest_at w.homes t ≡ Some c.in-Some-rest.rest.now =
+    let there : rest_at w.rests t ≡ Some c.in-Some-rest.rest.now =
     ap (λ (h : HomesValue). rest_at h.rests t) (sym c.take_marking.ensures.homes) ∙ (sym c.rest.ensures ∙ ap option_copied c.in-Some-rest.is) in
     let at : marks_at w.marks t ≡ Some c.get_mut.result.now = sym c.take_marking.ensures.marking ∙ (c.in-Some.is ∙ ap Some (sym c.get_mut.ensures.value)) in
     let same : c.kept-kept.result.now ≡ kept (value_of w) t = c.kept-kept.ensures ∙ (ap (λ (h : HomesValue). kept_of (slice_get h.sets t)) c.take_marking.ensures.homes ∙ kept_noted (slice_get w.sets t)) in
@@ -136,8 +136,8 @@ invariant_of-self c =
     let whole : c.put_marking.new.self ≡ record c.self.inside.heaps.homes { marks = ms } =
     c.put_marking.ensures.homes ∙ ap (λ (h : HomesValue). let z : HomesValue = record h { marks = slice_set h.marks t (Some c.some-count.new.self) } in z) c.take_marking.ensures.homes in
     let both = some_enters w c.self.invariant k t n free c.in-Some-rest.rest.now c.get_mut.result.now c.some-count.new.self c.some-count.result there at own c.some-count.ensures.count c.some-count.ensures.most goes left ms (w.journal.room - 1) put.0 put.1 in
-    subst (λ (j : RoomyValue EntryValue). IsSharedValue (record w { homes = c.put_marking.new.self.rests; sets = c.put_marking.new.self.sets; marks = c.put_marking.new.self.marks; journal = j })) (sym journal)
-    (subst (λ (h : HomesValue). IsSharedValue (record w { homes = h.rests; sets = h.sets; marks = h.marks; journal = record { items = w.journal.items ++ e ∷ []; room = w.journal.room - 1 } })) (sym whole) both.0)
+    subst (λ (j : RoomyValue EntryValue). IsSharedValue (record w { rests = c.put_marking.new.self.rests; sets = c.put_marking.new.self.sets; marks = c.put_marking.new.self.marks; journal = j })) (sym journal)
+    (subst (λ (h : HomesValue). IsSharedValue (record w { rests = h.rests; sets = h.sets; marks = h.marks; journal = record { items = w.journal.items ++ e ∷ []; room = w.journal.room - 1 } })) (sym whole) both.0)
 
 pub returns-clause-count : goal.returns-clause-count
 returns-clause-count c =
@@ -149,7 +149,7 @@ returns-clause-count c =
     let free : refused w e ≡ None = subst (λ (z : SharedValue). refused z e ≡ None) (sym c.self.view_is) c.requires.free in
     let on : (accounts w).end ≡ None = entry_on w e free in
     let marks : marking_cause w t ≡ None = some_marks w c.self.invariant k t n free in
-    let there : rest_at w.homes t ≡ Some c.in-Some-rest.rest.now =
+    let there : rest_at w.rests t ≡ Some c.in-Some-rest.rest.now =
     ap (λ (h : HomesValue). rest_at h.rests t) (sym c.take_marking.ensures.homes) ∙ (sym c.rest.ensures ∙ ap option_copied c.in-Some-rest.is) in
     let at : marks_at w.marks t ≡ Some c.get_mut.result.now = sym c.take_marking.ensures.marking ∙ (c.in-Some.is ∙ ap Some (sym c.get_mut.ensures.value)) in
     let same : c.kept-kept.result.now ≡ kept (value_of w) t = c.kept-kept.ensures ∙ (ap (λ (h : HomesValue). kept_of (slice_get h.sets t)) c.take_marking.ensures.homes ∙ kept_noted (slice_get w.sets t)) in
@@ -170,7 +170,7 @@ returns-clause-fits c =
     let free : refused w e ≡ None = subst (λ (z : SharedValue). refused z e ≡ None) (sym c.self.view_is) c.requires.free in
     let on : (accounts w).end ≡ None = entry_on w e free in
     let marks : marking_cause w t ≡ None = some_marks w c.self.invariant k t n free in
-    let there : rest_at w.homes t ≡ Some c.in-Some-rest.rest.now =
+    let there : rest_at w.rests t ≡ Some c.in-Some-rest.rest.now =
     ap (λ (h : HomesValue). rest_at h.rests t) (sym c.take_marking.ensures.homes) ∙ (sym c.rest.ensures ∙ ap option_copied c.in-Some-rest.is) in
     let at : marks_at w.marks t ≡ Some c.get_mut.result.now = sym c.take_marking.ensures.marking ∙ (c.in-Some.is ∙ ap Some (sym c.get_mut.ensures.value)) in
     let same : c.kept-kept.result.now ≡ kept (value_of w) t = c.kept-kept.ensures ∙ (ap (λ (h : HomesValue). kept_of (slice_get h.sets t)) c.take_marking.ensures.homes ∙ kept_noted (slice_get w.sets t)) in
@@ -185,6 +185,6 @@ returns-clause-fits c =
     let whole : c.put_marking.new.self ≡ record c.self.inside.heaps.homes { marks = ms } =
     c.put_marking.ensures.homes ∙ ap (λ (h : HomesValue). let z : HomesValue = record h { marks = slice_set h.marks t (Some c.some-count.new.self) } in z) c.take_marking.ensures.homes in
     let both = some_enters w c.self.invariant k t n free c.in-Some-rest.rest.now c.get_mut.result.now c.some-count.new.self c.some-count.result there at own c.some-count.ensures.count c.some-count.ensures.most goes left ms (w.journal.room - 1) put.0 put.1 in
-    subst (λ (z : SharedValue). AllFit z (record w { homes = c.put_marking.new.self.rests; sets = c.put_marking.new.self.sets; marks = c.put_marking.new.self.marks; journal = c.push_reserved.new.self })) c.self.view_is
-    (subst (λ (j : RoomyValue EntryValue). AllFit w (record w { homes = c.put_marking.new.self.rests; sets = c.put_marking.new.self.sets; marks = c.put_marking.new.self.marks; journal = j })) (sym journal)
-    (subst (λ (h : HomesValue). AllFit w (record w { homes = h.rests; sets = h.sets; marks = h.marks; journal = record { items = w.journal.items ++ e ∷ []; room = w.journal.room - 1 } })) (sym whole) both.1))
+    subst (λ (z : SharedValue). AllFit z (record w { rests = c.put_marking.new.self.rests; sets = c.put_marking.new.self.sets; marks = c.put_marking.new.self.marks; journal = c.push_reserved.new.self })) c.self.view_is
+    (subst (λ (j : RoomyValue EntryValue). AllFit w (record w { rests = c.put_marking.new.self.rests; sets = c.put_marking.new.self.sets; marks = c.put_marking.new.self.marks; journal = j })) (sym journal)
+    (subst (λ (h : HomesValue). AllFit w (record w { rests = h.rests; sets = h.sets; marks = h.marks; journal = record { items = w.journal.items ++ e ∷ []; room = w.journal.room - 1 } })) (sym whole) both.1))

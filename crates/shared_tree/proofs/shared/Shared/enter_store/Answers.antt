@@ -76,7 +76,7 @@ invariant_of-self c =
     let new : List SetOf = h.homes.sets in
     let many : length new ≡ length w.sets = c.write_reference.ensures.many in
     let same : (z : ℕ) → content_at new z ≡ content_at w.sets z = c.in_err-write_reference.ensures.no_sets in
-    subst IsSharedValue (written_by w w.steps w.journal h w.homes new c.write_reference.ensures.pool c.write_reference.ensures.marks c.in_err-write_reference.ensures.same refl) (roomier_world w new many same c.self.invariant)
+    subst IsSharedValue (written_by w w.steps w.journal h w.rests new c.write_reference.ensures.pool c.write_reference.ensures.marks c.in_err-write_reference.ensures.same refl) (roomier_world w new many same c.self.invariant)
 
 pub returns-in_err-write_reference-clause-same : goal.returns-in_err-write_reference-clause-same
 returns-in_err-write_reference-clause-same c =
@@ -92,7 +92,7 @@ returns-in_err-write_reference-clause-same c =
     let same : (z : ℕ) → content_at new z ≡ content_at w.sets z = c.in_err-write_reference.ensures.no_sets in
     always_err c.from_residual.result
     (subst (λ (z : SharedValue). SameButRoom z (with_heaps w h w.steps w.journal)) c.self.view_is
-    (subst (SameButRoom w) (written_by w w.steps w.journal h w.homes new c.write_reference.ensures.pool c.write_reference.ensures.marks c.in_err-write_reference.ensures.same refl) (roomier_same w new many same)))
+    (subst (SameButRoom w) (written_by w w.steps w.journal h w.rests new c.write_reference.ensures.pool c.write_reference.ensures.marks c.in_err-write_reference.ensures.same refl) (roomier_same w new many same)))
 
 pub enter_alone-requires-clause-small : goal.enter_alone-requires-clause-small
 enter_alone-requires-clause-small c =
@@ -128,13 +128,13 @@ invariant_of-self-2 c =
     let h : Heaps = c.write_reference.new.heaps in
     let new : List SetOf = h.homes.sets in
     let many : length new ≡ length w.sets = c.write_reference.ensures.many in
-    let homes : h.homes.rests ≡ slice_set w.homes (entries.owner w k p c.self.invariant F shared free c.args.swap c.args.object c.args.field c.args.value T.0 T.1) (Some (put_rest (entries.foreign w k p c.self.invariant F shared free c.args.swap c.args.object c.args.field c.args.value T.0 T.1).rest c.args.object (with_ref (cell_of (entries.foreign w k p c.self.invariant F shared free c.args.swap c.args.object c.args.field c.args.value T.0 T.1).rest.heap.chunks c.args.object) c.args.field c.args.value))) =
+    let rests : h.homes.rests ≡ slice_set w.rests (entries.owner w k p c.self.invariant F shared free c.args.swap c.args.object c.args.field c.args.value T.0 T.1) (Some (put_rest (entries.foreign w k p c.self.invariant F shared free c.args.swap c.args.object c.args.field c.args.value T.0 T.1).rest c.args.object (with_ref (cell_of (entries.foreign w k p c.self.invariant F shared free c.args.swap c.args.object c.args.field c.args.value T.0 T.1).rest.heap.chunks c.args.object) c.args.field c.args.value))) =
     c.in_ok-write_reference.ensures.written (entries.owner w k p c.self.invariant F shared free c.args.swap c.args.object c.args.field c.args.value T.0 T.1) (entries.foreign w k p c.self.invariant F shared free c.args.swap c.args.object c.args.field c.args.value T.0 T.1).rest (entries.foreign w k p c.self.invariant F shared free c.args.swap c.args.object c.args.field c.args.value T.0 T.1).place.chunk (entries.foreign w k p c.self.invariant F shared free c.args.swap c.args.object c.args.field c.args.value T.0 T.1).there in
     let C : (z : ℕ) → content_at new z ≡ option_map (content_after w.tree w.pool (record { object = c.args.object; field = c.args.field }) (slice_index_or (object_of (entries.foreign w k p c.self.invariant F shared free c.args.swap c.args.object c.args.field c.args.value T.0 T.1).rest.heap.chunks c.args.object).refs c.args.field None) c.args.value z) (content_at w.sets z) =
     c.in_ok-write_reference.ensures.noted (entries.owner w k p c.self.invariant F shared free c.args.swap c.args.object c.args.field c.args.value T.0 T.1) (entries.foreign w k p c.self.invariant F shared free c.args.swap c.args.object c.args.field c.args.value T.0 T.1).rest (entries.foreign w k p c.self.invariant F shared free c.args.swap c.args.object c.args.field c.args.value T.0 T.1).place.chunk (entries.foreign w k p c.self.invariant F shared free c.args.swap c.args.object c.args.field c.args.value T.0 T.1).there in
     let space : RoomyValue EntryValue = record { items = []; room = w.journal.room - 1 } in
     along w k p _ _ c.enter_alone.ensures.steps c.enter_alone.ensures.journal (λ n j. IsSharedValue (with_heaps w h n j))
-    (subst IsSharedValue (written_by w (w.steps + (p.fresh + 1)) (entered w k p) h _ new c.write_reference.ensures.pool c.write_reference.ensures.marks homes refl) (entries.store_world w k p c.self.invariant F shared free c.args.swap c.args.object c.args.field c.args.value T.0 T.1 new many C space))
+    (subst IsSharedValue (written_by w (w.steps + (p.fresh + 1)) (entered w k p) h _ new c.write_reference.ensures.pool c.write_reference.ensures.marks rests refl) (entries.store_world w k p c.self.invariant F shared free c.args.swap c.args.object c.args.field c.args.value T.0 T.1 new many C space))
 
 pub returns-clause-goes : goal.returns-clause-goes
 returns-clause-goes c =
@@ -149,7 +149,7 @@ returns-clause-goes c =
     let h : Heaps = c.write_reference.new.heaps in
     let new : List SetOf = h.homes.sets in
     let many : length new ≡ length w.sets = c.write_reference.ensures.many in
-    let homes : h.homes.rests ≡ slice_set w.homes (entries.owner w k p c.self.invariant F shared free c.args.swap c.args.object c.args.field c.args.value T.0 T.1) (Some (put_rest (entries.foreign w k p c.self.invariant F shared free c.args.swap c.args.object c.args.field c.args.value T.0 T.1).rest c.args.object (with_ref (cell_of (entries.foreign w k p c.self.invariant F shared free c.args.swap c.args.object c.args.field c.args.value T.0 T.1).rest.heap.chunks c.args.object) c.args.field c.args.value))) =
+    let rests : h.homes.rests ≡ slice_set w.rests (entries.owner w k p c.self.invariant F shared free c.args.swap c.args.object c.args.field c.args.value T.0 T.1) (Some (put_rest (entries.foreign w k p c.self.invariant F shared free c.args.swap c.args.object c.args.field c.args.value T.0 T.1).rest c.args.object (with_ref (cell_of (entries.foreign w k p c.self.invariant F shared free c.args.swap c.args.object c.args.field c.args.value T.0 T.1).rest.heap.chunks c.args.object) c.args.field c.args.value))) =
     c.in_ok-write_reference.ensures.written (entries.owner w k p c.self.invariant F shared free c.args.swap c.args.object c.args.field c.args.value T.0 T.1) (entries.foreign w k p c.self.invariant F shared free c.args.swap c.args.object c.args.field c.args.value T.0 T.1).rest (entries.foreign w k p c.self.invariant F shared free c.args.swap c.args.object c.args.field c.args.value T.0 T.1).place.chunk (entries.foreign w k p c.self.invariant F shared free c.args.swap c.args.object c.args.field c.args.value T.0 T.1).there in
     let C : (z : ℕ) → content_at new z ≡ option_map (content_after w.tree w.pool (record { object = c.args.object; field = c.args.field }) (slice_index_or (object_of (entries.foreign w k p c.self.invariant F shared free c.args.swap c.args.object c.args.field c.args.value T.0 T.1).rest.heap.chunks c.args.object).refs c.args.field None) c.args.value z) (content_at w.sets z) =
     c.in_ok-write_reference.ensures.noted (entries.owner w k p c.self.invariant F shared free c.args.swap c.args.object c.args.field c.args.value T.0 T.1) (entries.foreign w k p c.self.invariant F shared free c.args.swap c.args.object c.args.field c.args.value T.0 T.1).rest (entries.foreign w k p c.self.invariant F shared free c.args.swap c.args.object c.args.field c.args.value T.0 T.1).place.chunk (entries.foreign w k p c.self.invariant F shared free c.args.swap c.args.object c.args.field c.args.value T.0 T.1).there in
@@ -157,4 +157,4 @@ returns-clause-goes c =
     subst (λ (z : SharedValue). GoesAlone z (with_heaps w h c.enter_alone.new.steps c.enter_alone.new.journal) k p (record p { frames = c.go_on.new.frames; fresh = 0 })) c.self.view_is
     (subst (λ (s : FramesValue). GoesAlone w (with_heaps w h c.enter_alone.new.steps c.enter_alone.new.journal) k p (record p { frames = s; fresh = 0 })) (sym c.go_on.ensures)
     (along w k p _ _ c.enter_alone.ensures.steps c.enter_alone.ensures.journal (λ n j. GoesAlone w (with_heaps w h n j) k p (record p { frames = store_frames c.args.swap p.frames; fresh = 0 }))
-    (subst (λ (z : SharedValue). GoesAlone w z k p (record p { frames = store_frames c.args.swap p.frames; fresh = 0 })) (written_by w (w.steps + (p.fresh + 1)) (entered w k p) h _ new c.write_reference.ensures.pool c.write_reference.ensures.marks homes refl) (entries.store_goes w k p c.self.invariant F shared free c.args.swap c.args.object c.args.field c.args.value T.0 T.1 new many C space))))
+    (subst (λ (z : SharedValue). GoesAlone w z k p (record p { frames = store_frames c.args.swap p.frames; fresh = 0 })) (written_by w (w.steps + (p.fresh + 1)) (entered w k p) h _ new c.write_reference.ensures.pool c.write_reference.ensures.marks rests refl) (entries.store_goes w k p c.self.invariant F shared free c.args.swap c.args.object c.args.field c.args.value T.0 T.1 new many C space))))

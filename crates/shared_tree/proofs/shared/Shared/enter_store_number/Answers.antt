@@ -90,9 +90,9 @@ invariant_of-self c =
     let free : refused w (alone_event k p) ≡ None = subst (λ (z : SharedValue). refused z (alone_event k p) ≡ None) (sym c.self.view_is) c.requires.free in
     let T : (n : ℕ) × TellsOther w p (StoresNumber c.args.object c.args.field c.args.value) n = subst (λ (z : SharedValue). (n : ℕ) × TellsOther z p (StoresNumber c.args.object c.args.field c.args.value) n) (sym c.self.view_is) c.requires.stores in
     let h : Heaps = c.write_number.new.heaps in
-    let homes : h.homes ≡ written c.self.inside.heaps.homes (slice_set w.homes (entries.owner_number w k p c.self.invariant F shared free c.args.object c.args.field c.args.value T.0 T.1) (Some (put_rest (entries.foreign_number w k p c.self.invariant F shared free c.args.object c.args.field c.args.value T.0 T.1).rest c.args.object (with_int (cell_of (entries.foreign_number w k p c.self.invariant F shared free c.args.object c.args.field c.args.value T.0 T.1).rest.heap.chunks c.args.object) c.args.field c.args.value)))) =
+    let homes : h.homes ≡ written c.self.inside.heaps.homes (slice_set w.rests (entries.owner_number w k p c.self.invariant F shared free c.args.object c.args.field c.args.value T.0 T.1) (Some (put_rest (entries.foreign_number w k p c.self.invariant F shared free c.args.object c.args.field c.args.value T.0 T.1).rest c.args.object (with_int (cell_of (entries.foreign_number w k p c.self.invariant F shared free c.args.object c.args.field c.args.value T.0 T.1).rest.heap.chunks c.args.object) c.args.field c.args.value)))) =
     c.write_number.ensures.written (entries.owner_number w k p c.self.invariant F shared free c.args.object c.args.field c.args.value T.0 T.1) (entries.foreign_number w k p c.self.invariant F shared free c.args.object c.args.field c.args.value T.0 T.1).rest (entries.foreign_number w k p c.self.invariant F shared free c.args.object c.args.field c.args.value T.0 T.1).place.chunk (entries.foreign_number w k p c.self.invariant F shared free c.args.object c.args.field c.args.value T.0 T.1).there
-    ∙ ap (λ (z : ℤ). written c.self.inside.heaps.homes (slice_set w.homes (entries.owner_number w k p c.self.invariant F shared free c.args.object c.args.field c.args.value T.0 T.1) (Some (put_rest (entries.foreign_number w k p c.self.invariant F shared free c.args.object c.args.field c.args.value T.0 T.1).rest c.args.object (with_int (cell_of (entries.foreign_number w k p c.self.invariant F shared free c.args.object c.args.field c.args.value T.0 T.1).rest.heap.chunks c.args.object) c.args.field z))))) (to_z-of_z w64 c.args.value c.ranges.value) in
+    ∙ ap (λ (z : ℤ). written c.self.inside.heaps.homes (slice_set w.rests (entries.owner_number w k p c.self.invariant F shared free c.args.object c.args.field c.args.value T.0 T.1) (Some (put_rest (entries.foreign_number w k p c.self.invariant F shared free c.args.object c.args.field c.args.value T.0 T.1).rest c.args.object (with_int (cell_of (entries.foreign_number w k p c.self.invariant F shared free c.args.object c.args.field c.args.value T.0 T.1).rest.heap.chunks c.args.object) c.args.field z))))) (to_z-of_z w64 c.args.value c.ranges.value) in
     let space : RoomyValue EntryValue = record { items = []; room = w.journal.room - 1 } in
     along w k p _ _ c.enter_alone.ensures.steps c.enter_alone.ensures.journal (λ n j. IsSharedValue (with_heaps w h n j))
     (subst IsSharedValue (written_by w (w.steps + (p.fresh + 1)) (entered w k p) h _ w.sets c.write_number.ensures.pool (ap (λ (z : HomesValue). z.marks) homes) (ap (λ (z : HomesValue). z.rests) homes) (ap (λ (z : HomesValue). z.sets) homes)) (entries.number_world w k p c.self.invariant F shared free c.args.object c.args.field c.args.value T.0 T.1 space))
@@ -107,9 +107,9 @@ returns c =
     let free : refused w (alone_event k p) ≡ None = subst (λ (z : SharedValue). refused z (alone_event k p) ≡ None) (sym c.self.view_is) c.requires.free in
     let T : (n : ℕ) × TellsOther w p (StoresNumber c.args.object c.args.field c.args.value) n = subst (λ (z : SharedValue). (n : ℕ) × TellsOther z p (StoresNumber c.args.object c.args.field c.args.value) n) (sym c.self.view_is) c.requires.stores in
     let h : Heaps = c.write_number.new.heaps in
-    let homes : h.homes ≡ written c.self.inside.heaps.homes (slice_set w.homes (entries.owner_number w k p c.self.invariant F shared free c.args.object c.args.field c.args.value T.0 T.1) (Some (put_rest (entries.foreign_number w k p c.self.invariant F shared free c.args.object c.args.field c.args.value T.0 T.1).rest c.args.object (with_int (cell_of (entries.foreign_number w k p c.self.invariant F shared free c.args.object c.args.field c.args.value T.0 T.1).rest.heap.chunks c.args.object) c.args.field c.args.value)))) =
+    let homes : h.homes ≡ written c.self.inside.heaps.homes (slice_set w.rests (entries.owner_number w k p c.self.invariant F shared free c.args.object c.args.field c.args.value T.0 T.1) (Some (put_rest (entries.foreign_number w k p c.self.invariant F shared free c.args.object c.args.field c.args.value T.0 T.1).rest c.args.object (with_int (cell_of (entries.foreign_number w k p c.self.invariant F shared free c.args.object c.args.field c.args.value T.0 T.1).rest.heap.chunks c.args.object) c.args.field c.args.value)))) =
     c.write_number.ensures.written (entries.owner_number w k p c.self.invariant F shared free c.args.object c.args.field c.args.value T.0 T.1) (entries.foreign_number w k p c.self.invariant F shared free c.args.object c.args.field c.args.value T.0 T.1).rest (entries.foreign_number w k p c.self.invariant F shared free c.args.object c.args.field c.args.value T.0 T.1).place.chunk (entries.foreign_number w k p c.self.invariant F shared free c.args.object c.args.field c.args.value T.0 T.1).there
-    ∙ ap (λ (z : ℤ). written c.self.inside.heaps.homes (slice_set w.homes (entries.owner_number w k p c.self.invariant F shared free c.args.object c.args.field c.args.value T.0 T.1) (Some (put_rest (entries.foreign_number w k p c.self.invariant F shared free c.args.object c.args.field c.args.value T.0 T.1).rest c.args.object (with_int (cell_of (entries.foreign_number w k p c.self.invariant F shared free c.args.object c.args.field c.args.value T.0 T.1).rest.heap.chunks c.args.object) c.args.field z))))) (to_z-of_z w64 c.args.value c.ranges.value) in
+    ∙ ap (λ (z : ℤ). written c.self.inside.heaps.homes (slice_set w.rests (entries.owner_number w k p c.self.invariant F shared free c.args.object c.args.field c.args.value T.0 T.1) (Some (put_rest (entries.foreign_number w k p c.self.invariant F shared free c.args.object c.args.field c.args.value T.0 T.1).rest c.args.object (with_int (cell_of (entries.foreign_number w k p c.self.invariant F shared free c.args.object c.args.field c.args.value T.0 T.1).rest.heap.chunks c.args.object) c.args.field z))))) (to_z-of_z w64 c.args.value c.ranges.value) in
     let space : RoomyValue EntryValue = record { items = []; room = w.journal.room - 1 } in
     subst (λ (z : SharedValue). GoesAlone z (with_heaps w h c.enter_alone.new.steps c.enter_alone.new.journal) k p (record p { frames = c.go_on.new.frames; fresh = 0 })) c.self.view_is
     (subst (λ (s : FramesValue). GoesAlone w (with_heaps w h c.enter_alone.new.steps c.enter_alone.new.journal) k p (record p { frames = s; fresh = 0 })) (sym c.go_on.ensures)

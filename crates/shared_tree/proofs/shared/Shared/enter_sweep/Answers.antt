@@ -45,7 +45,7 @@ invariant_of-self c =
     let rests : c.forget_kept.new.homes.rests ≡ c.drop_unmarked.new.heaps.homes.rests = ap (λ (h : HomesValue). h.rests) c.forget_kept.ensures.homes in
     let marks : c.forget_kept.new.homes.marks ≡ slice_set w.marks t None = ap (λ (h : HomesValue). h.marks) c.forget_kept.ensures.homes ∙ ap (λ (h : HomesValue). h.marks) c.drop_unmarked.ensures.homes in
     let sets : c.drop_unmarked.new.heaps.homes.sets ≡ w.sets = ap (λ (h : HomesValue). h.sets) c.drop_unmarked.ensures.homes in
-    let swept = subst (λ hs. SweepsHome w.homes hs w.pool c.drop_unmarked.new.heaps.pool t (r w c.args.worker t c.args.given c.self.invariant free) (m w c.args.worker t c.args.given c.self.invariant free)) (sym rests)
+    let swept = subst (λ hs. SweepsHome w.rests hs w.pool c.drop_unmarked.new.heaps.pool t (r w c.args.worker t c.args.given c.self.invariant free) (m w c.args.worker t c.args.given c.self.invariant free)) (sym rests)
     (c.drop_unmarked.ensures.swept (r w c.args.worker t c.args.given c.self.invariant free) (m w c.args.worker t c.args.given c.self.invariant free)
     (there w c.args.worker t c.args.given c.self.invariant free) (marked w c.args.worker t c.args.given c.self.invariant free)) in
     let many : length c.forget_kept.new.homes.sets ≡ length w.sets = c.forget_kept.ensures.many ∙ ap length sets in
@@ -63,12 +63,12 @@ returns-clause-fits c =
     let rests : c.forget_kept.new.homes.rests ≡ c.drop_unmarked.new.heaps.homes.rests = ap (λ (h : HomesValue). h.rests) c.forget_kept.ensures.homes in
     let marks : c.forget_kept.new.homes.marks ≡ slice_set w.marks t None = ap (λ (h : HomesValue). h.marks) c.forget_kept.ensures.homes ∙ ap (λ (h : HomesValue). h.marks) c.drop_unmarked.ensures.homes in
     let sets : c.drop_unmarked.new.heaps.homes.sets ≡ w.sets = ap (λ (h : HomesValue). h.sets) c.drop_unmarked.ensures.homes in
-    let swept = subst (λ hs. SweepsHome w.homes hs w.pool c.drop_unmarked.new.heaps.pool t (r w c.args.worker t c.args.given c.self.invariant free) (m w c.args.worker t c.args.given c.self.invariant free)) (sym rests)
+    let swept = subst (λ hs. SweepsHome w.rests hs w.pool c.drop_unmarked.new.heaps.pool t (r w c.args.worker t c.args.given c.self.invariant free) (m w c.args.worker t c.args.given c.self.invariant free)) (sym rests)
     (c.drop_unmarked.ensures.swept (r w c.args.worker t c.args.given c.self.invariant free) (m w c.args.worker t c.args.given c.self.invariant free)
     (there w c.args.worker t c.args.given c.self.invariant free) (marked w c.args.worker t c.args.given c.self.invariant free)) in
     let many : length c.forget_kept.new.homes.sets ≡ length w.sets = c.forget_kept.ensures.many ∙ ap length sets in
     let none = c.forget_kept.ensures.none ∙ ap (λ xs. option_map (keeping false) (content_at xs t)) sets in
     let others : (u : ℕ) → (u ≡ t → ⊥) → slice_get c.forget_kept.new.homes.sets u ≡ slice_get w.sets u = λ u ne. c.forget_kept.ensures.others u ne ∙ ap (λ xs. slice_get xs u) sets in
-    subst (λ (z : SharedValue). AllFit z (record w { pool = c.drop_unmarked.new.heaps.pool; homes = c.forget_kept.new.homes.rests; sets = c.forget_kept.new.homes.sets; marks = c.forget_kept.new.homes.marks; journal = c.push_reserved.new.self })) c.self.view_is
+    subst (λ (z : SharedValue). AllFit z (record w { pool = c.drop_unmarked.new.heaps.pool; rests = c.forget_kept.new.homes.rests; sets = c.forget_kept.new.homes.sets; marks = c.forget_kept.new.homes.marks; journal = c.push_reserved.new.self })) c.self.view_is
     (fits_so w c.args.worker t c.args.given c.self.invariant free c.forget_kept.new.homes.rests c.drop_unmarked.new.heaps.pool swept c.forget_kept.new.homes.marks marks
     c.forget_kept.new.homes.sets many none others c.push_reserved.new.self (journal_by w.journal _ _ e c.new.ensures c.push_reserved.ensures))

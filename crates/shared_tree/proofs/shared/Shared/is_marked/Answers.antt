@@ -2,7 +2,7 @@ use Rattle.std.proofs.Common.{◌≡◌, ◌==◌, ◌↔◌, ◌≤◌, ℕ, Al
 use Rattle.run_ledger.specs.Heaps.{heap_of, left_in}
 use Rattle.object_layout.specs.declared.word.Addr.{Addr}
 use Rattle.object_layout.specs.ChunkValue.{ChunkValue}
-use Rattle.object_layout.specs.Graph.{IsHeld}
+use Rattle.object_layout.specs.Graph.{HasObjectAt}
 use Rattle.inner_mark_gc.specs.MarkingValue.{IsAllMarked, IsMarking, IsOf}
 use Rattle.inner_mark_gc.specs.Snapshot.{Fork, IsSince}
 use Rattle.core_relation.specs.Since.{kept}
@@ -45,6 +45,6 @@ returns c =
     let same : c.kept-kept.result.now ≡ kept (value_of w) t = c.kept-kept.ensures ∙ kept_noted (slice_get w.sets t) in
     let F : Further w t home.0 c.in-Some.marking.now = further w c.self.invariant on t free home.0 c.in-Some.marking.now home.1 at in
     left_by w c.self.invariant on t free home.0 c.in-Some.marking.now home.1 at c.ready.result
-    (λ f. subst (λ (xs : List Addr). (g : Fork) (h : List ChunkValue) → All (IsHeld h) xs → IsOf h xs c.in-Some.marking.now → IsSince g xs h → IsMarking g xs c.in-Some.marking.now → IsTrue c.ready.result ↔ IsAllMarked g xs c.in-Some.marking.now) same c.ready.ensures.ready
+    (λ f. subst (λ (xs : List Addr). (g : Fork) (h : List ChunkValue) → All (HasObjectAt h) xs → IsOf h xs c.in-Some.marking.now → IsSince g xs h → IsMarking g xs c.in-Some.marking.now → IsTrue c.ready.result ↔ IsAllMarked g xs c.in-Some.marking.now) same c.ready.ensures.ready
     f home.0.heap.chunks F.kept F.own)
     ∙ ap (λ (z : SharedValue). left_in (heap_of (accounts z) t) == 0) c.self.view_is

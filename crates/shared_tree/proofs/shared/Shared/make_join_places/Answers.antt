@@ -50,22 +50,22 @@ make_places-requires-clause-there c =
     parent_home w held.worker p c.self.invariant held.fits at held.free ended c.args.parent par
 
 -- nothing but what goes with the tasks and their sets
-placed : (w : SharedValue) (h n : HomesValue) → h.marks ≡ w.marks → n ≡ record h { rests = n.rests; sets = n.sets } → record w { homes = n.rests; sets = n.sets } ≡ record w { homes = n.rests; sets = n.sets; marks = n.marks }
-placed w h n em e = ap (λ (ms : List (Option MarkingValue)). record w { homes = n.rests; sets = n.sets; marks = ms }) (sym (ap (λ (z : HomesValue). z.marks) e ∙ em))
+placed : (w : SharedValue) (h n : HomesValue) → h.marks ≡ w.marks → n ≡ record h { rests = n.rests; sets = n.sets } → record w { rests = n.rests; sets = n.sets } ≡ record w { rests = n.rests; sets = n.sets; marks = n.marks }
+placed w h n em e = ap (λ (ms : List (Option MarkingValue)). record w { rests = n.rests; sets = n.sets; marks = ms }) (sym (ap (λ (z : HomesValue). z.marks) e ∙ em))
 
 pub invariant_of-self : goal.invariant_of-self
 invariant_of-self c =
     let w : SharedValue = the_view c.self.inside in
     let n : HomesValue = c.make_places.new.homes in
     subst IsSharedValue (placed w c.self.inside.heaps.homes n refl c.make_places.ensures.homes)
-    (places_world w (record w { homes = n.rests; sets = n.sets }) (placed_same w n.rests n.sets c.args.parent c.make_places.ensures.many c.make_places.ensures.others c.make_places.ensures.same c.make_places.ensures.many_sets c.make_places.ensures.same_sets) c.self.invariant)
+    (places_world w (record w { rests = n.rests; sets = n.sets }) (placed_same w n.rests n.sets c.args.parent c.make_places.ensures.many c.make_places.ensures.others c.make_places.ensures.same c.make_places.ensures.many_sets c.make_places.ensures.same_sets) c.self.invariant)
 
 pub returns-clause-same : goal.returns-clause-same
 returns-clause-same c =
     let w : SharedValue = the_view c.self.inside in
     let n : HomesValue = c.make_places.new.homes in
-    let S : SameButPlaces w (record w { homes = n.rests; sets = n.sets }) = placed_same w n.rests n.sets c.args.parent c.make_places.ensures.many c.make_places.ensures.others c.make_places.ensures.same c.make_places.ensures.many_sets c.make_places.ensures.same_sets in
-    subst (λ (z : SharedValue). SameButPlaces z (record w { homes = n.rests; sets = n.sets; marks = n.marks })) c.self.view_is
+    let S : SameButPlaces w (record w { rests = n.rests; sets = n.sets }) = placed_same w n.rests n.sets c.args.parent c.make_places.ensures.many c.make_places.ensures.others c.make_places.ensures.same c.make_places.ensures.many_sets c.make_places.ensures.same_sets in
+    subst (λ (z : SharedValue). SameButPlaces z (record w { rests = n.rests; sets = n.sets; marks = n.marks })) c.self.view_is
     (subst (SameButPlaces w) (placed w c.self.inside.heaps.homes n refl c.make_places.ensures.homes) S)
 
 -- where both are so of a call that was done, what follows is so
@@ -90,6 +90,6 @@ returns-clause-places c =
     let same = placed w c.self.inside.heaps.homes n refl c.make_places.ensures.homes in
     both_done _ _ _ c.make_places.result
     (λ h s. subst (λ (z : SharedValue). HasPlaces z p c.args.parent) same (placed_has w n.rests n.sets c.args.parent c.make_places.ensures.many c.make_places.ensures.others c.make_places.ensures.same c.make_places.ensures.many_sets c.make_places.ensures.same_sets p
-    (length p.heap.chunks + chunk_count (rest_at w.homes (sibling p.task))) (length (sources_at w.sets p.task) + length (sources_at w.sets (sibling p.task)))
+    (length p.heap.chunks + chunk_count (rest_at w.rests (sibling p.task))) (length (sources_at w.sets p.task) + length (sources_at w.sets (sibling p.task)))
     (λ f. parent_other w k p I F at free ended (e ∙ f)) refl h refl s))
     c.make_places.ensures.home_room c.make_places.ensures.set_room

@@ -36,7 +36,7 @@ returns-clause-none c =
     let t : ℕ = c.args.t in
     let free : waiting_cause w t ≡ None = ap (λ (z : SharedValue). waiting_cause z t) c.self.view_is ∙ mark_waits c.args.self.now c.stands.ensures k t c.requires.free.1 in
     let on : (accounts w).end ≡ None = ap (λ (z : SharedValue). (accounts z).end) c.self.view_is ∙ entry_on c.args.self.now (record { worker = k; kind = Mark t }) c.requires.free.1 in
-    done (λ (m : MarkingValue). IfSome (rest_at w.homes t) (λ (r : Rest). IsBegun r.heap.chunks (starts_in (heaps_of w) (sources_of (slice_get w.sets t)) r) m)) (λ m. m.marked ≡ 0) c.begin_marking.result
+    done (λ (m : MarkingValue). IfSome (rest_at w.rests t) (λ (r : Rest). IsBegun r.heap.chunks (starts_in (heaps_of w) (sources_of (slice_get w.sets t)) r) m)) (λ m. m.marked ≡ 0) c.begin_marking.result
     (λ m B. (mark_begun w c.self.invariant t on free m B).0)
     c.begin_marking.ensures
 
@@ -48,6 +48,6 @@ returns-clause-goes c =
     let free : waiting_cause w t ≡ None = ap (λ (z : SharedValue). waiting_cause z t) c.self.view_is ∙ mark_waits c.args.self.now c.stands.ensures k t c.requires.free.1 in
     let on : (accounts w).end ≡ None = ap (λ (z : SharedValue). (accounts z).end) c.self.view_is ∙ entry_on c.args.self.now (record { worker = k; kind = Mark t }) c.requires.free.1 in
     subst (λ (z : SharedValue). IfOk c.begin_marking.result (λ m. GoesOn (value_of z) t (heap_of (accounts z) t).snapshot m)) c.self.view_is
-    (done (λ (m : MarkingValue). IfSome (rest_at w.homes t) (λ (r : Rest). IsBegun r.heap.chunks (starts_in (heaps_of w) (sources_of (slice_get w.sets t)) r) m)) (λ m. GoesOn (value_of w) t (heap_of (accounts w) t).snapshot m) c.begin_marking.result
+    (done (λ (m : MarkingValue). IfSome (rest_at w.rests t) (λ (r : Rest). IsBegun r.heap.chunks (starts_in (heaps_of w) (sources_of (slice_get w.sets t)) r) m)) (λ m. GoesOn (value_of w) t (heap_of (accounts w) t).snapshot m) c.begin_marking.result
     (λ m B. (mark_begun w c.self.invariant t on free m B).1)
     c.begin_marking.ensures)

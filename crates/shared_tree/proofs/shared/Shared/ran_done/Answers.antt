@@ -56,7 +56,7 @@ make_block-requires c =
 
 pub invariant_of-self : goal.invariant_of-self
 invariant_of-self c =
-    subst (λ (h : HomesValue). IsSharedValue (record (the_view c.self.inside) { homes = h.rests; sets = h.sets; marks = h.marks })) (sym c.make_block.ensures.homes) c.self.invariant
+    subst (λ (h : HomesValue). IsSharedValue (record (the_view c.self.inside) { rests = h.rests; sets = h.sets; marks = h.marks })) (sym c.make_block.ensures.homes) c.self.invariant
 
 pub invariant_of-self-2 : goal.invariant_of-self-2
 invariant_of-self-2 c =
@@ -67,15 +67,15 @@ invariant_of-self-2 c =
     let shared : IsShared w p = subst (λ (z : SharedValue). IsShared z p) (sym c.self.view_is) c.requires.shared in
     let free : refused w (alone_event k p) ≡ None = subst (λ (z : SharedValue). refused z (alone_event k p) ≡ None) (sym c.self.view_is) c.requires.free in
     let T : (n : ℕ) × Tells w p Returns n = subst (λ (z : SharedValue). (n : ℕ) × Tells z p Returns n) (sym c.self.view_is) c.requires.returns in
-    let hm : HomesValue = record c.self.inside.heaps.homes { rests = slice_set w.homes p.task (Some (ended_rest p)); blocks = c.make_block.new.self.blocks } in
+    let hm : HomesValue = record c.self.inside.heaps.homes { rests = slice_set w.rests p.task (Some (ended_rest p)); blocks = c.make_block.new.self.blocks } in
     let put : c.put_rest.new.self ≡ hm =
     c.put_rest.ensures
     ∙ (ap (λ (h : HomesValue). record h { rests = slice_set h.rests p.task (Some c.at_end.result) }) c.make_block.ensures.homes
-    ∙ ap (λ (r : Rest). record hm { rests = slice_set w.homes p.task (Some r) }) c.at_end.ensures) in
+    ∙ ap (λ (r : Rest). record hm { rests = slice_set w.rests p.task (Some r) }) c.at_end.ensures) in
     along w k p _ _ c.enter_alone.ensures.steps c.enter_alone.ensures.journal
-    (λ n j. IsSharedValue (record w { steps = n; end = Some (Machine Done); tree = c.set_state.new.self; homes = c.put_rest.new.self.rests; sets = c.put_rest.new.self.sets; marks = c.put_rest.new.self.marks; tasks_out = c.set.new.self; journal = j }))
-    (subst (λ (h : HomesValue). IsSharedValue (record w { steps = w.steps + (p.fresh + 1); end = Some (Machine Done); tree = c.set_state.new.self; homes = h.rests; sets = h.sets; marks = h.marks; tasks_out = c.set.new.self; journal = entered w k p })) (sym put)
-    (subst IsSharedValue (sym (four_changed (record w { steps = w.steps + (p.fresh + 1); end = Some (Machine Done) }) (with_state w.tree p.task Ended) _ (slice_set w.homes p.task (Some (ended_rest p))) _ (slice_set w.tasks_out k None) _ (entered w k p) _
+    (λ n j. IsSharedValue (record w { steps = n; end = Some (Machine Done); tree = c.set_state.new.self; rests = c.put_rest.new.self.rests; sets = c.put_rest.new.self.sets; marks = c.put_rest.new.self.marks; tasks_out = c.set.new.self; journal = j }))
+    (subst (λ (h : HomesValue). IsSharedValue (record w { steps = w.steps + (p.fresh + 1); end = Some (Machine Done); tree = c.set_state.new.self; rests = h.rests; sets = h.sets; marks = h.marks; tasks_out = c.set.new.self; journal = entered w k p })) (sym put)
+    (subst IsSharedValue (sym (four_changed (record w { steps = w.steps + (p.fresh + 1); end = Some (Machine Done) }) (with_state w.tree p.task Ended) _ (slice_set w.rests p.task (Some (ended_rest p))) _ (slice_set w.tasks_out k None) _ (entered w k p) _
     c.set_state.ensures refl c.set.ensures refl))
     (finished_world w k p c.self.invariant F shared free T.0 T.1 c.requires.root (record { items = []; room = w.journal.room - 1 }))))
 
@@ -88,25 +88,25 @@ returns c =
     let shared : IsShared w p = subst (λ (z : SharedValue). IsShared z p) (sym c.self.view_is) c.requires.shared in
     let free : refused w (alone_event k p) ≡ None = subst (λ (z : SharedValue). refused z (alone_event k p) ≡ None) (sym c.self.view_is) c.requires.free in
     let T : (n : ℕ) × Tells w p Returns n = subst (λ (z : SharedValue). (n : ℕ) × Tells z p Returns n) (sym c.self.view_is) c.requires.returns in
-    let hm : HomesValue = record c.self.inside.heaps.homes { rests = slice_set w.homes p.task (Some (ended_rest p)); blocks = c.make_block.new.self.blocks } in
+    let hm : HomesValue = record c.self.inside.heaps.homes { rests = slice_set w.rests p.task (Some (ended_rest p)); blocks = c.make_block.new.self.blocks } in
     let put : c.put_rest.new.self ≡ hm =
     c.put_rest.ensures
     ∙ (ap (λ (h : HomesValue). record h { rests = slice_set h.rests p.task (Some c.at_end.result) }) c.make_block.ensures.homes
-    ∙ ap (λ (r : Rest). record hm { rests = slice_set w.homes p.task (Some r) }) c.at_end.ensures) in
-    let finishes : FinishesAlone c.args.self.now (record w { steps = c.enter_alone.new.steps; end = Some (Machine Done); tree = c.set_state.new.self; homes = c.put_rest.new.self.rests; sets = c.put_rest.new.self.sets; marks = c.put_rest.new.self.marks; tasks_out = c.set.new.self; journal = c.enter_alone.new.journal }) k p =
-    subst (λ (z : SharedValue). FinishesAlone z (record w { steps = c.enter_alone.new.steps; end = Some (Machine Done); tree = c.set_state.new.self; homes = c.put_rest.new.self.rests; sets = c.put_rest.new.self.sets; marks = c.put_rest.new.self.marks; tasks_out = c.set.new.self; journal = c.enter_alone.new.journal }) k p) c.self.view_is
+    ∙ ap (λ (r : Rest). record hm { rests = slice_set w.rests p.task (Some r) }) c.at_end.ensures) in
+    let finishes : FinishesAlone c.args.self.now (record w { steps = c.enter_alone.new.steps; end = Some (Machine Done); tree = c.set_state.new.self; rests = c.put_rest.new.self.rests; sets = c.put_rest.new.self.sets; marks = c.put_rest.new.self.marks; tasks_out = c.set.new.self; journal = c.enter_alone.new.journal }) k p =
+    subst (λ (z : SharedValue). FinishesAlone z (record w { steps = c.enter_alone.new.steps; end = Some (Machine Done); tree = c.set_state.new.self; rests = c.put_rest.new.self.rests; sets = c.put_rest.new.self.sets; marks = c.put_rest.new.self.marks; tasks_out = c.set.new.self; journal = c.enter_alone.new.journal }) k p) c.self.view_is
     (along w k p _ _ c.enter_alone.ensures.steps c.enter_alone.ensures.journal
-    (λ n j. FinishesAlone w (record w { steps = n; end = Some (Machine Done); tree = c.set_state.new.self; homes = c.put_rest.new.self.rests; sets = c.put_rest.new.self.sets; marks = c.put_rest.new.self.marks; tasks_out = c.set.new.self; journal = j }) k p)
-    (subst (λ (h : HomesValue). FinishesAlone w (record w { steps = w.steps + (p.fresh + 1); end = Some (Machine Done); tree = c.set_state.new.self; homes = h.rests; sets = h.sets; marks = h.marks; tasks_out = c.set.new.self; journal = entered w k p }) k p) (sym put)
-    (subst (λ (z : SharedValue). FinishesAlone w z k p) (sym (four_changed (record w { steps = w.steps + (p.fresh + 1); end = Some (Machine Done) }) (with_state w.tree p.task Ended) _ (slice_set w.homes p.task (Some (ended_rest p))) _ (slice_set w.tasks_out k None) _ (entered w k p) _
+    (λ n j. FinishesAlone w (record w { steps = n; end = Some (Machine Done); tree = c.set_state.new.self; rests = c.put_rest.new.self.rests; sets = c.put_rest.new.self.sets; marks = c.put_rest.new.self.marks; tasks_out = c.set.new.self; journal = j }) k p)
+    (subst (λ (h : HomesValue). FinishesAlone w (record w { steps = w.steps + (p.fresh + 1); end = Some (Machine Done); tree = c.set_state.new.self; rests = h.rests; sets = h.sets; marks = h.marks; tasks_out = c.set.new.self; journal = entered w k p }) k p) (sym put)
+    (subst (λ (z : SharedValue). FinishesAlone w z k p) (sym (four_changed (record w { steps = w.steps + (p.fresh + 1); end = Some (Machine Done) }) (with_state w.tree p.task Ended) _ (slice_set w.rests p.task (Some (ended_rest p))) _ (slice_set w.tasks_out k None) _ (entered w k p) _
     c.set_state.ensures refl c.set.ensures refl))
     (finishes_alone w k p c.self.invariant F shared free T.0 T.1 c.requires.root (record { items = []; room = w.journal.room - 1 }))))) in
     record { refused = refl; same = tt; still = tt; back = tt; answered = finishes }
 
 pub returns-then-is_err : goal.returns-then-is_err
 returns-then-is_err c =
-    let e : c.args.self.now ≡ record (the_view c.self.inside) { homes = c.make_block.new.self.rests; sets = c.make_block.new.self.sets; marks = c.make_block.new.self.marks } =
+    let e : c.args.self.now ≡ record (the_view c.self.inside) { rests = c.make_block.new.self.rests; sets = c.make_block.new.self.sets; marks = c.make_block.new.self.marks } =
     sym c.self.view_is
-    ∙ ap (λ (h : HomesValue). record (the_view c.self.inside) { homes = h.rests; sets = h.sets; marks = h.marks }) (sym c.make_block.ensures.homes) in
+    ∙ ap (λ (h : HomesValue). record (the_view c.self.inside) { rests = h.rests; sets = h.sets; marks = h.marks }) (sym c.make_block.ensures.homes) in
     subst (λ (z : SharedValue). EntersLeaving c.args.self.now z c.args.worker c.args.part (Err (record { cause = NoMemory; part = c.args.part }))) e
     (record { refused = refl; same = same_world c.args.self.now; still = λ k p F. F; back = refl; answered = tt })

@@ -55,7 +55,7 @@ set_state-requires c =
 
 pub invariant_of-self : goal.invariant_of-self
 invariant_of-self c =
-    subst (λ (h : HomesValue). IsSharedValue (record (the_view c.self.inside) { homes = h.rests; sets = h.sets; marks = h.marks })) (sym c.make_block.ensures.homes) c.self.invariant
+    subst (λ (h : HomesValue). IsSharedValue (record (the_view c.self.inside) { rests = h.rests; sets = h.sets; marks = h.marks })) (sym c.make_block.ensures.homes) c.self.invariant
 
 pub invariant_of-self-2 : goal.invariant_of-self-2
 invariant_of-self-2 c =
@@ -67,15 +67,15 @@ invariant_of-self-2 c =
     let free : refused w (alone_event k p) ≡ None = subst (λ (z : SharedValue). refused z (alone_event k p) ≡ None) (sym c.self.view_is) c.requires.free in
     let I : IsSharedValue w = c.self.invariant in
     let no : state_of w.tree (sibling p.task) ≡ Some Ended → ⊥ = λ e. c.requires.alone (subst (λ (z : SharedValue). state_of z.tree (sibling p.task) ≡ Some Ended) c.self.view_is e) in
-    let hm : HomesValue = record c.self.inside.heaps.homes { rests = slice_set w.homes p.task (Some (ended_rest p)); blocks = c.make_block.new.self.blocks } in
+    let hm : HomesValue = record c.self.inside.heaps.homes { rests = slice_set w.rests p.task (Some (ended_rest p)); blocks = c.make_block.new.self.blocks } in
     let put : c.put_rest.new.self ≡ hm =
     c.put_rest.ensures
     ∙ (ap (λ (h : HomesValue). record h { rests = slice_set h.rests p.task (Some c.at_end.result) }) c.make_block.ensures.homes
-    ∙ ap (λ (r : Rest). record hm { rests = slice_set w.homes p.task (Some r) }) c.at_end.ensures) in
+    ∙ ap (λ (r : Rest). record hm { rests = slice_set w.rests p.task (Some r) }) c.at_end.ensures) in
     along w k p _ _ c.enter_alone.ensures.steps c.enter_alone.ensures.journal
-    (λ n j. IsSharedValue (record w { steps = n; tree = c.set_state.new.self; homes = c.put_rest.new.self.rests; sets = c.put_rest.new.self.sets; marks = c.put_rest.new.self.marks; tasks_out = c.set.new.self; journal = j }))
-    (subst (λ (h : HomesValue). IsSharedValue (record w { steps = w.steps + (p.fresh + 1); tree = c.set_state.new.self; homes = h.rests; sets = h.sets; marks = h.marks; tasks_out = c.set.new.self; journal = entered w k p })) (sym put)
-    (subst IsSharedValue (sym (four_changed (record w { steps = w.steps + (p.fresh + 1) }) (with_state w.tree p.task Ended) _ (slice_set w.homes p.task (Some (ended_rest p))) _ (slice_set w.tasks_out k None) _ (entered w k p) _
+    (λ n j. IsSharedValue (record w { steps = n; tree = c.set_state.new.self; rests = c.put_rest.new.self.rests; sets = c.put_rest.new.self.sets; marks = c.put_rest.new.self.marks; tasks_out = c.set.new.self; journal = j }))
+    (subst (λ (h : HomesValue). IsSharedValue (record w { steps = w.steps + (p.fresh + 1); tree = c.set_state.new.self; rests = h.rests; sets = h.sets; marks = h.marks; tasks_out = c.set.new.self; journal = entered w k p })) (sym put)
+    (subst IsSharedValue (sym (four_changed (record w { steps = w.steps + (p.fresh + 1) }) (with_state w.tree p.task Ended) _ (slice_set w.rests p.task (Some (ended_rest p))) _ (slice_set w.tasks_out k None) _ (entered w k p) _
     c.set_state.ensures refl c.set.ensures refl))
     (alone_world w k p I F at free no (record { items = []; room = w.journal.room - 1 }))))
 
@@ -89,16 +89,16 @@ returns-clause-answered c =
     let free : refused w (alone_event k p) ≡ None = subst (λ (z : SharedValue). refused z (alone_event k p) ≡ None) (sym c.self.view_is) c.requires.free in
     let I : IsSharedValue w = c.self.invariant in
     let no : state_of w.tree (sibling p.task) ≡ Some Ended → ⊥ = λ e. c.requires.alone (subst (λ (z : SharedValue). state_of z.tree (sibling p.task) ≡ Some Ended) c.self.view_is e) in
-    let hm : HomesValue = record c.self.inside.heaps.homes { rests = slice_set w.homes p.task (Some (ended_rest p)); blocks = c.make_block.new.self.blocks } in
+    let hm : HomesValue = record c.self.inside.heaps.homes { rests = slice_set w.rests p.task (Some (ended_rest p)); blocks = c.make_block.new.self.blocks } in
     let put : c.put_rest.new.self ≡ hm =
     c.put_rest.ensures
     ∙ (ap (λ (h : HomesValue). record h { rests = slice_set h.rests p.task (Some c.at_end.result) }) c.make_block.ensures.homes
-    ∙ ap (λ (r : Rest). record hm { rests = slice_set w.homes p.task (Some r) }) c.at_end.ensures) in
-    subst (λ (z : SharedValue). EndsChild z (record w { steps = c.enter_alone.new.steps; tree = c.set_state.new.self; homes = c.put_rest.new.self.rests; sets = c.put_rest.new.self.sets; marks = c.put_rest.new.self.marks; tasks_out = c.set.new.self; journal = c.enter_alone.new.journal }) k p None) c.self.view_is
+    ∙ ap (λ (r : Rest). record hm { rests = slice_set w.rests p.task (Some r) }) c.at_end.ensures) in
+    subst (λ (z : SharedValue). EndsChild z (record w { steps = c.enter_alone.new.steps; tree = c.set_state.new.self; rests = c.put_rest.new.self.rests; sets = c.put_rest.new.self.sets; marks = c.put_rest.new.self.marks; tasks_out = c.set.new.self; journal = c.enter_alone.new.journal }) k p None) c.self.view_is
     (along w k p _ _ c.enter_alone.ensures.steps c.enter_alone.ensures.journal
-    (λ n j. EndsChild w (record w { steps = n; tree = c.set_state.new.self; homes = c.put_rest.new.self.rests; sets = c.put_rest.new.self.sets; marks = c.put_rest.new.self.marks; tasks_out = c.set.new.self; journal = j }) k p None)
-    (subst (λ (h : HomesValue). EndsChild w (record w { steps = w.steps + (p.fresh + 1); tree = c.set_state.new.self; homes = h.rests; sets = h.sets; marks = h.marks; tasks_out = c.set.new.self; journal = entered w k p }) k p None) (sym put)
-    (subst (λ (z : SharedValue). EndsChild w z k p None) (sym (four_changed (record w { steps = w.steps + (p.fresh + 1) }) (with_state w.tree p.task Ended) _ (slice_set w.homes p.task (Some (ended_rest p))) _ (slice_set w.tasks_out k None) _ (entered w k p) _
+    (λ n j. EndsChild w (record w { steps = n; tree = c.set_state.new.self; rests = c.put_rest.new.self.rests; sets = c.put_rest.new.self.sets; marks = c.put_rest.new.self.marks; tasks_out = c.set.new.self; journal = j }) k p None)
+    (subst (λ (h : HomesValue). EndsChild w (record w { steps = w.steps + (p.fresh + 1); tree = c.set_state.new.self; rests = h.rests; sets = h.sets; marks = h.marks; tasks_out = c.set.new.self; journal = entered w k p }) k p None) (sym put)
+    (subst (λ (z : SharedValue). EndsChild w z k p None) (sym (four_changed (record w { steps = w.steps + (p.fresh + 1) }) (with_state w.tree p.task Ended) _ (slice_set w.rests p.task (Some (ended_rest p))) _ (slice_set w.tasks_out k None) _ (entered w k p) _
     c.set_state.ensures refl c.set.ensures refl))
     (alone_ends w k p I F at free no (record { items = []; room = w.journal.room - 1 })))))
 

@@ -15,7 +15,7 @@ tree_long : (w : SharedValue) → IsSharedValue w → length w.tree ≡ length (
 tree_long w I =
     let k = accounts w in
     same_length w.tree (handed k).machine.tasks
-    (λ u. ap is_some (I.stands.totals.node u) ∙ some_map (as_node (heap_of (handed k) u).worker) (slice_get (handed k).machine.tasks u))
+    (λ u. ap is_some (I.stands.tree_counts.node u) ∙ some_map (as_node (heap_of (handed k) u).worker) (slice_get (handed k).machine.tasks u))
     ∙ ap (λ (m : State). length m.tasks) (goes_by k k.end).machine
 
 pub returns : goal.returns

@@ -22,7 +22,7 @@ returns c =
     let t : ℕ = c.args.t in
     let on : (accounts w).end ≡ None = ap (λ (z : SharedValue). (accounts z).end) c.self.view_is ∙ c.requires.goes in
     let free : waiting_cause w t ≡ None = ap (λ (z : SharedValue). waiting_cause z t) c.self.view_is ∙ c.requires.waits in
-    let there : rest_at w.homes t ≡ Some c.in-Some.rest.now = sym c.rest.ensures ∙ ap option_copied c.in-Some.is in
+    let there : rest_at w.rests t ≡ Some c.in-Some.rest.now = sym c.rest.ensures ∙ ap option_copied c.in-Some.is in
     c.words.ensures
     ∙ (ap counted (sym (words_now w c.self.invariant t on free c.in-Some.rest.now there))
     ∙ ap (λ (z : SharedValue). counted (words_in (accounts z).machine (heap_of (accounts z) t))) c.self.view_is)

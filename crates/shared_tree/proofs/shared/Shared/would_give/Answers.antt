@@ -22,7 +22,7 @@ would_give-requires c =
     let on : (accounts w).end ≡ None = ap (λ (z : SharedValue). (accounts z).end) c.self.view_is ∙ c.requires.goes in
     let free : marking_cause w t ≡ None = ap (λ (z : SharedValue). marking_cause z t) c.self.view_is ∙ c.requires.marked in
     let none_left : left_in (heap_of (accounts w) t) ≡ 0 = ap (λ (z : SharedValue). left_in (heap_of (accounts z) t)) c.self.view_is ∙ c.requires.none_left in
-    let there : rest_at w.homes t ≡ Some c.in-Some.rest.now = sym c.rest.ensures ∙ ap option_copied c.in-Some.is in
+    let there : rest_at w.rests t ≡ Some c.in-Some.rest.now = sym c.rest.ensures ∙ ap option_copied c.in-Some.is in
     let at : marks_at w.marks t ≡ Some c.in-Some-marking.marking.now = sym c.marking.ensures ∙ ap option_copied c.in-Some-marking.is in
     (would_be w c.self.invariant on t free none_left c.in-Some.rest.now c.in-Some-marking.marking.now there at).0
 
@@ -33,7 +33,7 @@ returns c =
     let on : (accounts w).end ≡ None = ap (λ (z : SharedValue). (accounts z).end) c.self.view_is ∙ c.requires.goes in
     let free : marking_cause w t ≡ None = ap (λ (z : SharedValue). marking_cause z t) c.self.view_is ∙ c.requires.marked in
     let none_left : left_in (heap_of (accounts w) t) ≡ 0 = ap (λ (z : SharedValue). left_in (heap_of (accounts z) t)) c.self.view_is ∙ c.requires.none_left in
-    let there : rest_at w.homes t ≡ Some c.in-Some.rest.now = sym c.rest.ensures ∙ ap option_copied c.in-Some.is in
+    let there : rest_at w.rests t ≡ Some c.in-Some.rest.now = sym c.rest.ensures ∙ ap option_copied c.in-Some.is in
     let at : marks_at w.marks t ≡ Some c.in-Some-marking.marking.now = sym c.marking.ensures ∙ ap option_copied c.in-Some-marking.is in
     c.would_give.ensures
     ∙ ((would_be w c.self.invariant on t free none_left c.in-Some.rest.now c.in-Some-marking.marking.now there at).1 ∙ ap (λ (z : SharedValue). sweep_number (accounts z).machine (heap_of (accounts z) t)) c.self.view_is)

@@ -28,7 +28,7 @@ returns-then-has_block-clause-led c =
     let e = c.rewrite.ensures.led ∙ led_rest c.args.moved.now H ss in
     let q : HomesValue → List Source → Heaps = λ w xs. record {
       homes = record w {
-        rests = (fold (redirected refs_in with_ref_in c.args.moved.now) (let r : Resting = record { homes = w.rests; pool = old.pool } in r) xs).homes;
+        rests = (fold (redirected refs_in with_ref_in c.args.moved.now) (let r : Resting = record { rests = w.rests; pool = old.pool } in r) xs).rests;
         sets = slice_set w.sets t set;
       };
       pool = old.pool;
