@@ -1,11 +1,9 @@
 -- A part that has just begun its collection can be copied.
-use Rattle.std.proofs.Common.{◌≡◌, ℕ, ◌+◌, ◌-◌, ◌*◌, ◌/◌, ◌≤◌, max, arith, All, List, length, refl, ap, sym, subst, ◌∙◌}
-use Rattle.run_ledger.specs.Heaps.{units}
+use Rattle.std.proofs.Common.{◌≡◌, ℕ, ◌+◌, ◌*◌, ◌/◌, ◌≤◌, arith, All, length, refl, ap, sym, subst, ◌∙◌}
 use Rattle.object_layout.specs.ChunkValue.{ChunkValue}
 use Rattle.object_layout.specs.Chunks.{small_words}
-use Rattle.alloc_path.specs.LeafHeapValue.{LeafHeapValue, IsFresh}
+use Rattle.alloc_path.specs.LeafHeapValue.{IsFresh}
 use Rattle.leaf_copy_gc.specs.Laid.{small_words as small_laid}
-use Rattle.leaf_copy_gc.specs.declared.lists.ToChunks.{ToChunks}
 use Rattle.leaf_copy_gc.proofs.Needs.{needs_are_counted}
 use Rattle.task_machine.specs.declared.part.Private.{Private}
 use Rattle.shared_value.specs.Due.{take_by}

@@ -1,5 +1,5 @@
 -- A part that was copied fits the shared value for the end of its collection.
-use Rattle.std.specs.Prelude.{◌≡◌, ℕ, ◌/◌, ◌++◌, Some, List, map}
+use Rattle.std.specs.Prelude.{◌≡◌, ℕ, Some, List, map}
 use Rattle.object_layout.specs.ChunkValue.{ChunkValue, number_of}
 use Rattle.object_layout.specs.declared.word.Addr.{Addr}
 use Rattle.alloc_path.specs.LeafHeapValue.{LeafHeapValue}
@@ -8,7 +8,6 @@ use Rattle.leaf_copy_gc.specs.declared.lists.Moved.{Moved}
 use Rattle.leaf_copy_gc.specs.declared.lists.ToChunks.{ToChunks}
 use Rattle.leaf_copy_gc.specs.Laws.{CanTake}
 use Rattle.leaf_copy_gc.specs.Lists.{IsCollected}
-use Rattle.core_relation.specs.Memory.{In}
 use Rattle.task_machine.specs.declared.part.Begun.{Begun}
 use Rattle.task_machine.specs.declared.part.Private.{Private}
 use Rattle.shared_value.specs.Fits.{Fits}

@@ -1,30 +1,55 @@
 -- The links of a list that has one place more.
-use Rattle.std.proofs.Common.{◌≡◌, ℕ, suc, ◌+◌, ◌≤◌, Option, Some, None, List, [], ◌∷◌, ◌++◌, length, slice_get, sym, ap, subst, ◌∙◌, arith, length-append}
+use Rattle.std.proofs.Common.{◌≡◌, ℕ, suc, ◌+◌, Option, Some, None, List, [], ◌∷◌, ◌++◌, length, slice_get, sym, ap, subst, ◌∙◌, arith, length-append, ◌<◌, refl}
+use Rattle.std.proofs.lemmas.Option.{same_Some}
 use Rattle.listed.proofs.Members.{got_front, got_past}
 use Rattle.listed.proofs.Places.{got_last}
 use Rattle.far_links.specs.Links.{AreLinked, IsNewLink}
+use Rattle.far_links.specs.declared.links.Link.{Link}
+use Rattle.far_links.specs.Lists.{parent_in, depth_in, far_in, up_from, depth_at, far_at, IsUp, new_link, AreLinks}
+use Rattle.far_links.proofs.Walks.{walk_depth}
 use Rattle.far_links.proofs.Growth.{links_go_on}
 
-module _ {X : Type 0} (parent_in : Option X → Option ℕ) (depth_in far_in : Option X → ℕ) (none : parent_in None ≡ None) (xs : List X) (x : X) where
+module _ {X : Type 0} (parent_of : Option X → Option ℕ) (depth_of far_of : Option X → ℕ) (none : parent_of None ≡ None) (xs : List X) (x : X) where
   abbrev more : List X
   more = xs ++ x ∷ []
 
-  pub linked_more : AreLinked (length xs) (λ i. parent_in (slice_get xs i)) (λ i. depth_in (slice_get xs i)) (λ i. far_in (slice_get xs i))
-      → IsNewLink (length xs) (λ i. depth_in (slice_get xs i)) (λ i. far_in (slice_get xs i)) (parent_in (Some x)) (depth_in (Some x)) (far_in (Some x))
-      → AreLinked (length more) (λ i. parent_in (slice_get more i)) (λ i. depth_in (slice_get more i)) (λ i. far_in (slice_get more i))
+  pub linked_more : AreLinked (length xs) (λ i. parent_of (slice_get xs i)) (λ i. depth_of (slice_get xs i)) (λ i. far_of (slice_get xs i))
+      → IsNewLink (length xs) (λ i. depth_of (slice_get xs i)) (λ i. far_of (slice_get xs i)) (parent_of (Some x)) (depth_of (Some x)) (far_of (Some x))
+      → AreLinked (length more) (λ i. parent_of (slice_get more i)) (λ i. depth_of (slice_get more i)) (λ i. far_of (slice_get more i))
   linked_more links new =
       let one : length more ≡ length xs + 1 = length-append xs (x ∷ []) in
       let len : suc (length xs) ≡ length more = omega arith in
-      subst (λ (m : ℕ). AreLinked m (λ i. parent_in (slice_get more i)) (λ i. depth_in (slice_get more i)) (λ i. far_in (slice_get more i))) len
+      subst (λ (m : ℕ). AreLinked m (λ i. parent_of (slice_get more i)) (λ i. depth_of (slice_get more i)) (λ i. far_of (slice_get more i))) len
       (links_go_on (length xs)
-      (λ i. parent_in (slice_get xs i)) (λ i. parent_in (slice_get more i))
-      (λ i. depth_in (slice_get xs i)) (λ i. depth_in (slice_get more i))
-      (λ i. far_in (slice_get xs i)) (λ i. far_in (slice_get more i))
+      (λ i. parent_of (slice_get xs i)) (λ i. parent_of (slice_get more i))
+      (λ i. depth_of (slice_get xs i)) (λ i. depth_of (slice_get more i))
+      (λ i. far_of (slice_get xs i)) (λ i. far_of (slice_get more i))
       links
       (record {
-        parents = λ u lt. ap parent_in (got_front xs (x ∷ []) u lt);
-        depths = λ u lt. ap depth_in (got_front xs (x ∷ []) u lt);
-        fars = λ u lt. ap far_in (got_front xs (x ∷ []) u lt);
-        past = λ u lt. ap parent_in (got_past more u (omega arith)) ∙ none;
-        new = subst (λ (o : Option X). IsNewLink (length xs) (λ i. depth_in (slice_get xs i)) (λ i. far_in (slice_get xs i)) (parent_in o) (depth_in o) (far_in o)) (sym (got_last xs x)) new;
+        parents = λ u lt. ap parent_of (got_front xs (x ∷ []) u lt);
+        depths = λ u lt. ap depth_of (got_front xs (x ∷ []) u lt);
+        fars = λ u lt. ap far_of (got_front xs (x ∷ []) u lt);
+        past = λ u lt. ap parent_of (got_past more u (omega arith)) ∙ none;
+        new = subst (λ (o : Option X). IsNewLink (length xs) (λ i. depth_of (slice_get xs i)) (λ i. far_of (slice_get xs i)) (parent_of o) (depth_of o) (far_of o)) (sym (got_last xs x)) new;
       }))
+
+-- ---- of plain links
+
+-- two ways up of one length lead to one place
+pub up_same : (ks : List Link) (n i j k : ℕ) → IsUp ks n i j → IsUp ks n i k → j ≡ k
+up_same ks n i j k a b = same_Some j k (sym a ∙ b)
+
+module _ (ks : List Link) (all : AreLinks ks) where
+  pub up_depth : (n i j : ℕ) → IsUp ks n i j → depth_at ks i ≡ depth_at ks j + n
+  up_depth n i j h = (walk_depth (length ks) (up_from ks) (depth_at ks) (far_at ks) all n i j h).0
+
+  abbrev pub IsWithin : Option ℕ → Type 0
+  IsWithin None = Unit {0}
+  IsWithin (Some p) = p < length ks
+
+  new_by : (m : Option ℕ) → IsWithin m → IsNewLink (length ks) (depth_at ks) (far_at ks) (new_link ks m).parent (new_link ks m).depth (new_link ks m).far
+  new_by None w = (refl, refl)
+  new_by (Some p) w = (w, refl, refl)
+
+  pub link_more : (m : Option ℕ) → IsWithin m → AreLinks (ks ++ new_link ks m ∷ [])
+  link_more m w = linked_more parent_in depth_in far_in refl ks (new_link ks m) all (new_by m w)

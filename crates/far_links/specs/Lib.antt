@@ -1,3 +1,4 @@
 pub mod Walk
 pub mod Links
 pub mod Laws
+pub mod Lists

@@ -1,14 +1,12 @@
 // Far links up a forest, along which an ancestor at any depth is found in few steps.
 #![tactic(auto)]
 
-ghost use Rattle.far_links.specs.Laws.{ClimbsAreShort, LinksGoOn};
+mod count;
+mod laws;
+mod links;
+mod list;
 
-/// A place more leaves the links as they should be.
-pub fn links_go_on()
-    ensures { LinksGoOn }
-{}
-
-/// A climb follows no more links than three times the logarithm of the depth plus one, to base 2 and rounded down.
-pub fn climbs_are_short()
-    ensures { ClimbsAreShort }
-{}
+pub use count::LinkCount;
+pub use laws::{climbs_are_short, links_go_on};
+pub use links::{FarLinks, Link, climb, climb_to, far_below};
+pub use list::link_below;

@@ -90,7 +90,7 @@ impl Entries {
     }
 
     /// The entry of a task, if it was made.
-    pub fn get(&self, t: u32) -> Option<Entry>
+    pub fn get(&self, t: usize) -> Option<Entry>
         ensures { result ≡ slice_get self.now t }
     {
         if t == 0 {
@@ -102,7 +102,7 @@ impl Entries {
             });
         }
         let child = t - 1;
-        match pair_at(&self.pairs, (child / 2) as usize) {
+        match pair_at(&self.pairs, child / 2) {
             Some(pair) => Some(child_entry(pair, child % 2 == 0)),
             None => None,
         }

@@ -1,14 +1,13 @@
 // The tree of tasks, one heap to each: states, parents, depths, and paths to the root.
 #![tactic(auto)]
 
-mod count;
 mod entries;
 mod laws;
 mod links;
 mod state;
 mod tree;
 
-pub use count::LinkCount;
+pub use far_links::LinkCount;
 pub use laws::{forks_make, pairs_stay, states_change};
 pub use state::State;
 pub use tree::Tree;

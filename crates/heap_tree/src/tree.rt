@@ -5,10 +5,10 @@ ghost use Rattle.hh_model.specs.Step.{depth_limit};
 ghost use Rattle.heap_tree.specs.Walk.{ancestor, IsUpFrom};
 ghost use Rattle.heap_tree.specs.Node.{root_node, parent_of, state_of, depth_of, is_on_path, with_state, forked, IsTree};
 
-use crate::count::LinkCount;
 use crate::entries::Entries;
-use crate::links::{Entry, climb, entry_at, jump_below};
+use crate::links::{Entry, entry_at};
 use crate::state::State;
+use far_links::{LinkCount, climb, far_below};
 use std::alloc::{AllocError, Global};
 use std::marker::{Brand, Model};
 use std::sync::ledger::{Blank, Ledger};
@@ -75,8 +75,8 @@ impl Tree {
         let left = self.entries.len();
         let child = Entry {
             parent: Some(t),
-            depth: entry_at(&self.entries, t).depth + 1,
-            jump: jump_below(&self.entries, t),
+            depth: entry_at(&self.entries, t as usize).depth + 1,
+            jump: far_below(&self.entries, t as usize) as u32,
             state: State::Ready,
         };
         put_children(&mut self.entries, t, child)?;
@@ -95,7 +95,7 @@ impl Tree {
     pub fn state(&self, t: u32) -> Option<State>
         ensures { result ≡ state_of self.now t }
     {
-        let entry = self.entries.get(t)?;
+        let entry = self.entries.get(t as usize)?;
         Some(entry.state)
     }
 
@@ -103,7 +103,7 @@ impl Tree {
     pub fn parent(&self, t: u32) -> Option<u32>
         ensures { result ≡ parent_of self.now t }
     {
-        let entry = self.entries.get(t)?;
+        let entry = self.entries.get(t as usize)?;
         entry.parent
     }
 
@@ -112,7 +112,7 @@ impl Tree {
         requires { t < length self.now }
         ensures { result ≡ depth_of self.now t }
     {
-        entry_at(&self.entries, t).depth
+        entry_at(&self.entries, t as usize).depth
     }
 
     /// The task at a depth on the path from `t` to the root. It follows the links that `path_counted` counts.
@@ -137,7 +137,7 @@ impl Tree {
         ensures counted { links.old ≤ links.new }
         ensures cost { (log : ℕ) → depth_of self.now t + 1 < 2 ^ (log + 1) → links.new ≤ links.old + 3 * log }
     {
-        climb(&self.entries, t, at_depth, links)
+        climb(&self.entries, t as usize, at_depth as usize, links) as u32
     }
 
     /// Whether `owner` is `reader` or stands above it. It follows the links that `on_path_counted` counts.
@@ -165,9 +165,9 @@ impl Tree {
         ensures counted { links.old ≤ links.new }
         ensures cost { (log : ℕ) → depth_of self.now reader + 1 < 2 ^ (log + 1) → links.new ≤ links.old + 3 * log }
     {
-        let depth = entry_at(&self.entries, owner).depth;
-        depth <= entry_at(&self.entries, reader).depth
-            && climb(&self.entries, reader, depth, links) == owner
+        let depth = entry_at(&self.entries, owner as usize).depth;
+        depth <= entry_at(&self.entries, reader as usize).depth
+            && climb(&self.entries, reader as usize, depth as usize, links) == owner as usize
     }
 }
 

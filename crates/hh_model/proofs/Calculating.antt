@@ -1,19 +1,15 @@
 -- Steps that only calculate: what they make of the frame, and what the machine is after them.
-use Rattle.std.proofs.Common.{◌≡◌, ℕ, zero, suc, ◌+◌, ◌<◌, ◌^◌, ◌&&◌, Bool, true, false, Option, Some, None, List, IsSomeAnd, is_some, slice_get, slice_set, refl, ap, ap₂, sym, ◌∙◌, ◌==◌, eqb-true, arith, set-set}
+use Rattle.std.proofs.Common.{◌≡◌, ℕ, zero, suc, ◌+◌, ◌<◌, ◌&&◌, Bool, true, false, Option, Some, None, IsSomeAnd, slice_get, slice_set, refl, ap, ap₂, sym, ◌∙◌, ◌==◌, eqb-true, arith, set-set}
 use Rattle.std.proofs.lemmas.Bool.{eqb-false}
 use Rattle.std.proofs.lemmas.List.{set-get_or}
 use Rattle.std.proofs.lemmas.Option.{get_or_from_slice_get}
 use Rattle.listed.proofs.Members.{got_same}
-use Rattle.hh_lang.specs.declared.instr.Instr.{Instr}
-use Rattle.hh_lang.specs.declared.instr.Instr.TheVariants.{Set, Mov, Movr, Nil, Calc, Same, Jmp, Jz, Newm, Pack, Getr, Geti, Putr, Puti, Cntr, Cnti, Freeze, Cas, Call, Par, Ret, Out}
 use Rattle.hh_lang.specs.declared.program.Line.{Line}
-use Rattle.hh_lang.specs.Form.{ProgramText}
 use Rattle.hh_model.specs.declared.data.Frame.{Frame}
-use Rattle.hh_model.specs.declared.data.Object.{Object}
 use Rattle.hh_model.specs.declared.data.Task.{Task}
 use Rattle.hh_model.specs.declared.data.State.{State}
-use Rattle.hh_model.specs.Effect.{Effect, Goes, Setting, calculated, effect, int_in}
-use Rattle.hh_model.specs.Calculations.{LeadsTo, Leads, Makes, advanced_by, calculates, calculates_by, calculates_line, calculates_next, is_calculation}
+use Rattle.hh_model.specs.Effect.{Goes}
+use Rattle.hh_model.specs.Calculations.{Leads, Makes, advanced_by, calculates, calculates_by, calculates_line, calculates_next, is_calculation}
 use Rattle.hh_model.specs.Machine.{IsOfRun, MachineValue, advanced}
 use Rattle.hh_model.specs.Step.{can_step, fetched, follow, goes_on, is_running, setting, step}
 use Rattle.hh_model.proofs.Counts.{step_reached}

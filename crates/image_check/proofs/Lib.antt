@@ -3,7 +3,6 @@ pub mod Rounds
 pub mod Entries
 pub mod Members
 pub mod Paths
-pub mod Ups
 pub mod Linked
 pub mod References
 pub mod Steps

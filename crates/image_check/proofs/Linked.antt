@@ -1,5 +1,5 @@
 -- Ancestors by links are those by numbers.
-use Rattle.std.proofs.Common.{◌≡◌, ◌<◌, ◌≤◌, ◌+◌, ◌-◌, ◌==◌, ℕ, zero, suc, Bool, true, false, cond, List, [], ◌∷◌, ◌++◌, length, get_or, refl, ap, sym, ◌∙◌, arith, inl, inr, ◌⊎◌, subst, length-append}
+use Rattle.std.proofs.Common.{◌≡◌, ◌<◌, ◌≤◌, ◌+◌, ◌-◌, ◌==◌, ℕ, zero, suc, Bool, true, false, cond, List, [], ◌∷◌, ◌++◌, length, get_or, refl, ap, sym, ◌∙◌, arith, subst, length-append}
 use Rattle.std.specs.Prelude.{Option, Some, None, slice_get, nat_eq, is_some, position, MatchOption}
 use Rattle.std.specs.Option.{option_map}
 use Rattle.std.specs.Map.{keys_of}
@@ -9,16 +9,17 @@ use Rattle.std.proofs.lemmas.Option.{same_Some, slice_get-get_or, slice_get-map}
 use Rattle.listed.proofs.Members.{got_front, got_back, got_within}
 use Rattle.listed.proofs.Options.{none_of}
 use Rattle.listed.proofs.Places.{got_some}
+use Rattle.far_links.specs.declared.links.Link.{Link}
+use Rattle.far_links.specs.Lists.{depth_at, parent_in as parent_in_link, up_from, IsUp, new_link}
+use Rattle.far_links.proofs.Lists.{up_same, up_depth, link_more, IsWithin}
 use Rattle.far_links.proofs.Walks.{ancestor_parent, first_link as link_up, link_first}
 use Rattle.image_check.specs.declared.line.Task.{Task}
-use Rattle.image_check.specs.declared.links.Link.{Link}
 use Rattle.image_check.specs.Table.{found, has, with_new}
-use Rattle.image_check.specs.Tasks.{Tasks, parent_in, parent_of, is_above, LinksLead, IsAncestor, HasParent}
-use Rattle.image_check.specs.Links.{depth_in, depth_at, parent_in_link, up_from, IsUp, new_link, AreLinks, StandsAt, IsParentAt, AreLinksOf}
+use Rattle.image_check.specs.Tasks.{Tasks, parent_in, parent_of, is_above, LinksLead, IsAncestor}
+use Rattle.image_check.specs.Links.{StandsAt, IsParentAt, AreLinksOf}
 use Rattle.image_check.proofs.Members.{equal}
 use Rattle.image_check.proofs.Paths.{Entry, AreOrdered, found_at, lead_up, first_link, met_ancestor, above, task_more, Where, where_is, apart_more, still_stands}
 use Rattle.image_check.proofs.Paths.Where.{front, last}
-use Rattle.image_check.proofs.Ups.{up_same, up_depth, link_more, IsWithin}
 
 -- FINDING A PLACE
 

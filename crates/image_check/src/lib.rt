@@ -6,7 +6,6 @@ mod check;
 mod faults;
 mod laws;
 mod line;
-mod links;
 mod number;
 mod owners;
 mod read;

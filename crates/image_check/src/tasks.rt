@@ -6,7 +6,7 @@ ghost use Rattle.image_check.specs.Tasks.{is_running, is_above, relation_of, Has
 ghost use Rattle.image_check.specs.Links.{StandsAt};
 
 use crate::line::{State, Task};
-use crate::links::{Link, climb, link_at, link_below};
+use far_links::{FarLinks, Link, climb_to, link_below};
 use indexmap::IndexMap;
 use std::alloc::{AllocError, Global};
 use std::marker::Model;
@@ -129,18 +129,18 @@ impl Tasks {
     pub(crate) fn is_ancestor(&self, above: u64, below: u64) -> bool
         ensures { result ≡ is_above self.now above below }
     {
-        let links = self.links.as_slice();
+        let links = &self.links;
         let Some(top) = self.place(above) else {
             return false;
         };
         let Some(place) = self.place(below) else {
             return false;
         };
-        let depth = link_at(links, top).depth;
-        if link_at(links, place).depth <= depth {
+        let depth = links.link(top).depth;
+        if links.link(place).depth <= depth {
             return false;
         }
-        climb(links, place, depth) == top
+        climb_to(links, place, depth) == top
     }
 
     /// How another task stands to a task.

@@ -1,5 +1,5 @@
 -- A frame from step to step.
-use Rattle.std.proofs.Common.{◌≡◌, ℕ, ℤ, zero, suc, ◌+◌, ◌-◌, ◌≤◌, Bool, true, false, Option, Some, None, List, [], ◌∷◌, length, take, slice_get, ◌⊎◌, inl, inr, refl, ap, sym, subst, ◌∙◌, arith}
+use Rattle.std.proofs.Common.{◌≡◌, ℕ, ℤ, zero, suc, ◌+◌, ◌-◌, ◌≤◌, Bool, true, false, Option, Some, None, List, length, take, slice_get, ◌⊎◌, inl, inr, refl, ap, sym, subst, ◌∙◌, arith}
 use Rattle.std.proofs.lemmas.Bool.{false≢true, cases_eq, both_ways}
 use Rattle.std.proofs.lemmas.Option.{same_Some}
 use Rattle.listed.proofs.Members.{got_same}
@@ -16,7 +16,7 @@ use Rattle.hh_model.specs.declared.data.Task.{Task}
 use Rattle.hh_model.specs.declared.data.End.{End}
 use Rattle.hh_model.specs.declared.data.State.{State}
 use Rattle.hh_model.specs.Effect.{Goes, Setting, effect}
-use Rattle.hh_model.specs.Step.{is_running, is_joined, runs, is_over, waits, result_in, is_waiting, can_step, goes_on, setting, follow, fetched, step, run_from, start, parent_of}
+use Rattle.hh_model.specs.Step.{is_running, is_joined, runs, is_over, waits, result_in, is_waiting, can_step, goes_on, setting, follow, fetched, step, start, parent_of}
 use Rattle.model_laws.specs.Winner.{after, IsTurn}
 use Rattle.hh_model.proofs.Kept.{SoundState, start_kept, run_kept}
 use Rattle.hh_model.proofs.Runs.{running_tells, ended_tells}

@@ -1,8 +1,8 @@
 -- Places name tasks.
-use Rattle.std.proofs.Common.{◌≡◌, ℕ, zero, suc, ◌+◌, ◌<◌, ◌≤◌, ◌%◌, ◌⊎◌, inl, inr, Bool, true, false, Option, Some, None, List, [], ◌∷◌, ◌++◌, Contains, length, slice_get, slice_set, refl, ap, ap₂, sym, subst, ◌∙◌, arith, eq-eqb, ne_eqb, length-append, length-set}
+use Rattle.std.proofs.Common.{◌≡◌, ℕ, zero, suc, ◌+◌, ◌<◌, ◌≤◌, ◌%◌, ◌⊎◌, inl, inr, true, false, Some, List, [], ◌∷◌, ◌++◌, Contains, length, slice_get, slice_set, refl, ap, sym, subst, ◌∙◌, arith, eq-eqb, ne_eqb, length-append, length-set}
 use Rattle.std.proofs.lemmas.Bool.{cases_eq, cases_lt}
 use Rattle.std.proofs.lemmas.Option.{same_Some}
-use Rattle.listed.proofs.Members.{In, contains_from_in, got_back, got_front, got_other, got_same, got_within, in_append_cases, in_append_left, in_append_right, in_from_contains}
+use Rattle.listed.proofs.Members.{In, contains_from_in, got_front, got_other, got_same, got_within, in_append_cases, in_append_left, in_append_right, in_from_contains}
 use Rattle.hh_lang.specs.Form.{ProgramText}
 use Rattle.hh_model.specs.declared.data.Strand.{Strand}
 use Rattle.hh_model.specs.declared.data.Edge.{Edge}
@@ -13,7 +13,7 @@ use Rattle.hh_model.specs.Effect.{onward}
 use Rattle.hh_model.specs.Step.{child, edge, parent_of, parents, ended_task, is_left, is_running, joined_task, result_of, resumed, run_from, start, step, strand, strand_of, waits}
 use Rattle.hh_model.proofs.Kept.{SoundState, start_kept, step_kept}
 use Rattle.hh_model.proofs.Steps.{runs_is, step_cases}
-use Rattle.renaming_laws.specs.PlaceLaw.{NameTasks, PlacesAreNames}
+use Rattle.renaming_laws.specs.PlaceLaw.{PlacesAreNames}
 use Rattle.renaming_laws.specs.Places.{IsPlace, Place}
 
 -- WHAT RUNS KEEP of the edges of forks, which lead into first strands

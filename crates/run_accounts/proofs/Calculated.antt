@@ -1,5 +1,5 @@
 -- Steps that only calculate, with their accounts.
-use Rattle.std.proofs.Common.{◌≡◌, ℕ, zero, suc, ◌+◌, ◌-◌, ◌<◌, ◌≤◌, ◌^◌, ◌||◌, true, false, Option, Some, None, slice_get, nat_le, is_some, refl, ap, ap₂, sym, subst, ◌∙◌, arith}
+use Rattle.std.proofs.Common.{◌≡◌, ℕ, zero, suc, ◌+◌, ◌<◌, ◌≤◌, ◌||◌, true, false, Option, Some, None, slice_get, nat_le, is_some, refl, ap, ap₂, sym, subst, ◌∙◌, arith}
 use Rattle.std.proofs.lemmas.Bool.{false≢true}
 use Rattle.hh_model.specs.declared.data.Task.{Task}
 use Rattle.hh_model.specs.declared.data.Status.{Status}
@@ -10,13 +10,13 @@ use Rattle.hh_model.specs.Machine.{MachineValue}
 use Rattle.hh_model.specs.Step.{asked, is_running, step}
 use Rattle.run_ledger.specs.declared.data.Ledger.{Ledger}
 use Rattle.run_ledger.specs.Heaps.{heap_of, in_use, lacks_room}
-use Rattle.run_ledger.specs.Steps.{is_due, is_in_need, moved_on, moved_to, on_asked, settled, standing, task_step, task_steps}
+use Rattle.run_ledger.specs.Steps.{is_due, is_in_need, moved_on, moved_to, on_asked, settled, task_step, task_steps}
 use Rattle.run_ledger.proofs.Machine.{task_step_machine}
 use Rattle.next_steps.proofs.Calculating as calculating
 use Rattle.next_steps.proofs.Calculating.{Calculation, found}
 use Rattle.run_accounts.specs.declared.ran.Stood.TheVariants.{More}
 use Rattle.run_accounts.specs.Accounts.{AccountsValue, StaysSteady, stood, used_after, went_on}
-use Rattle.run_accounts.proofs.Standings.{Ran, ran_more, ran_next, ran_none, ran_used, stood_is}
+use Rattle.run_accounts.proofs.Standings.{Ran, ran_more, ran_none, ran_used, stood_is}
 use Rattle.run_accounts.proofs.Stepped.{advanced, allocates_nothing, counts_nothing, steps_by}
 
 -- where the task runs on, no more changes

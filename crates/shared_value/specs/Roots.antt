@@ -1,9 +1,7 @@
 -- The roots of a part's heap: what the remembered fields that point down into it hold now.
-use Rattle.std.specs.Prelude.{Option, Some, None, List, [], slice_get}
+use Rattle.std.specs.Prelude.{List, slice_get}
 use Rattle.object_layout.specs.declared.word.Addr.{Addr}
-use Rattle.remembered_set.specs.declared.remembered.Source.{Source}
 use Rattle.remembered_set.specs.Moved.{targets_of}
-use Rattle.write_barrier.specs.declared.sets.SetOf.{SetOf}
 use Rattle.task_machine.specs.declared.part.Private.{Private}
 pub use Rattle.task_homes.specs.HomesValue.{sources_of}
 use Rattle.task_homes.specs.RestingHeaps.{Resting, refs_in}

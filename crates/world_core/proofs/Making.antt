@@ -18,7 +18,6 @@ use Rattle.shared_value.specs.Stands.{IsSharedValue}
 use Rattle.shared_value.specs.SharedValue.{SharedValue}
 use Rattle.own_steps.specs.Alone.{GoesAlone, HaltsAlone, alone_event}
 use Rattle.child_tasks.specs.Joins.{IsUnchanged}
-use Rattle.leaf_collections.specs.LeafEnd.{ended}
 use Rattle.shared_tree.specs.declared.ran.Ran.{Ran}
 use Rattle.shared_tree.specs.declared.ran.Ran.TheVariants.{Done, Ended, Forked, Over}
 use Rattle.shared_tree.specs.Ran.{RanTo}

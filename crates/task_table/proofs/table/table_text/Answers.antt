@@ -1,8 +1,6 @@
-use Rattle.std.proofs.Common.{◌≡◌, ◌++◌, List, ap, ◌∙◌}
-use Rattle.run_ledger.specs.declared.data.Ledger.{Ledger}
+use Rattle.std.proofs.Common.{◌≡◌, ◌++◌, ap, ◌∙◌}
 use Rattle.run_ledger.specs.Journals.{opening, ledger_of}
 use Rattle.run_journal.specs.BookValue.{BookValue}
-use Rattle.task_table.specs.declared.row.Row.{Row}
 use Rattle.task_table.specs.Rows.{rows_from}
 use Rattle.task_table.specs.Table.{first_line, lines_from, rows_of}
 use Rattle.task_table.proofs.table.table_text.Goals as goal

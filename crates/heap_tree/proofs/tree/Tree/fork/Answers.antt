@@ -19,8 +19,8 @@ put_children-requires-clause-shallow c =
     let low : c.entry_at.result.depth < depth_limit = fork_shallow c.args.self.now c.self.inside.entries c.self.view_is c.self.invariant c.args.t c.entry_at.result made got c.requires.shallow in
     omega arith
 
-pub jump_below-requires-clause-made : goal.jump_below-requires-clause-made
-jump_below-requires-clause-made c =
+pub far_below-requires-clause-there : goal.far_below-requires-clause-there
+far_below-requires-clause-there c =
     let made = made_from_state c.args.self.now c.args.t Out c.requires.out in
     (made_entry c.args.self.now c.self.inside.entries c.self.view_is c.self.invariant c.args.t made)
 
@@ -37,9 +37,9 @@ invariant_of-self-2 c =
     let made = made_from_state v t Out c.requires.out in
     let got = c.entry_at.ensures in
     let deep = depth_answer v es c.self.view_is c.self.invariant t c.entry_at.result made got in
-    let jump = c.jump_below.ensures in
+    let jump = c.far_below.ensures.value in
     let put = c.in_ok-put_children.ensures.ok in
-    let child : Entry = record { parent = Some t; depth = c.entry_at.result.depth + 1; jump = c.jump_below.result; state = Ready } in
+    let child : Entry = record { parent = Some t; depth = c.entry_at.result.depth + 1; jump = c.far_below.result; state = Ready } in
     (fork_answer v es c.put_children.new.entries t child c.self.view_is c.self.invariant made c.requires.few refl (ap (λ (m : ℕ). m + 1) deep) jump refl put).0
 
 pub returns-clause-ok : goal.returns-clause-ok
@@ -50,7 +50,7 @@ returns-clause-ok c =
     let made = made_from_state v t Out c.requires.out in
     let got = c.entry_at.ensures in
     let deep = depth_answer v es c.self.view_is c.self.invariant t c.entry_at.result made got in
-    let jump = c.jump_below.ensures in
+    let jump = c.far_below.ensures.value in
     let put = c.in_ok-put_children.ensures.ok in
-    let child : Entry = record { parent = Some t; depth = c.entry_at.result.depth + 1; jump = c.jump_below.result; state = Ready } in
+    let child : Entry = record { parent = Some t; depth = c.entry_at.result.depth + 1; jump = c.far_below.result; state = Ready } in
     (fork_answer v es c.put_children.new.entries t child c.self.view_is c.self.invariant made c.requires.few refl (ap (λ (m : ℕ). m + 1) deep) jump refl put).1

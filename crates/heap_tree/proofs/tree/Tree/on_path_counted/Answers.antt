@@ -27,4 +27,4 @@ returns-else-depth-entry_at-clause-walk g c =
 pub returns-then-depth-entry_at-clause-cost : goal.returns-then-depth-entry_at-clause-cost
 returns-then-depth-entry_at-clause-cost g c =
     let cost = c.climb.ensures.cost in
-    cost_seen c.args.self.now c.self.inside.entries c.self.view_is c.self.invariant c.args.reader c.requires.reader (λ (log : ℕ). c.climb.new.links ≤ c.args.links.now + 3 * log) cost
+    cost_seen c.args.self.now c.self.inside.entries c.self.view_is c.self.invariant c.args.reader c.requires.reader (λ (log : ℕ). c.climb.new.count ≤ c.args.links.now + 3 * log) cost

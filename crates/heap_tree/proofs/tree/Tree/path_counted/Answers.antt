@@ -13,11 +13,11 @@ returns-clause-up g c =
 
 pub returns-clause-there : goal.returns-clause-there
 returns-clause-there g c =
-    let made = c.climb.ensures.made in
-    let there = c.climb.ensures.there in
+    let made = c.climb.ensures.there in
+    let there = c.climb.ensures.depth in
     path_there c.args.self.now c.self.inside.entries c.self.view_is c.self.invariant c.climb.result c.args.at_depth made there
 
 pub returns-clause-cost : goal.returns-clause-cost
 returns-clause-cost g c =
     let cost = c.climb.ensures.cost in
-    cost_seen c.args.self.now c.self.inside.entries c.self.view_is c.self.invariant c.args.t c.requires.made (λ (log : ℕ). c.climb.new.links ≤ c.args.links.now + 3 * log) cost
+    cost_seen c.args.self.now c.self.inside.entries c.self.view_is c.self.invariant c.args.t c.requires.made (λ (log : ℕ). c.climb.new.count ≤ c.args.links.now + 3 * log) cost

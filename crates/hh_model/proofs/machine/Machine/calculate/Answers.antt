@@ -1,5 +1,4 @@
 use Rattle.std.proofs.Common.{rules, ◌≡◌, ◌∙◌, true, Some, ap, slice_get, subst, sym}
-use Rattle.hh_model.specs.declared.data.Task.{Task}
 use Rattle.hh_model.specs.Calculations.{advanced_by, calculates}
 use Rattle.hh_model.specs.Machine.{IsOfRun, MachineValue}
 use Rattle.hh_model.specs.Step.{can_step}
@@ -36,7 +35,7 @@ returns-clause-all c =
     λ lt.
     ap (λ (h : MachineValue). calculates c.args.self.now.program h.state c.args.t) (sym m)
     ∙ (ap (λ (h : MachineValue). calculates h.program (advanced_by g c.args.t n).state c.args.t) (sym same)
-        ∙ (as_frame g c.args.t c.at_mut-task.result.now can there n c.calculate_on-count.new.self L ∙ c.calculate_on-count.ensures.all lt))
+    ∙ (as_frame g c.args.t c.at_mut-task.result.now can there n c.calculate_on-count.new.self L ∙ c.calculate_on-count.ensures.all lt))
 
 pub returns-clause-after : goal.returns-clause-after
 returns-clause-after c =

@@ -1,8 +1,7 @@
-use Rattle.std.proofs.Common.{◌≡◌, ◌∙◌, List, ap, sym, subst}
-use Rattle.image_check.specs.declared.links.Link.{Link}
+use Rattle.std.proofs.Common.{◌∙◌, ap, sym, subst}
 use Rattle.image_check.specs.Table.{has, with_new}
 use Rattle.image_check.specs.Tasks.{Tasks}
-use Rattle.image_check.specs.Links.{new_link, IsParentAt}
+use Rattle.image_check.specs.Links.{IsParentAt}
 use Rattle.image_check.proofs.Linked.{put_answer}
 use Rattle.image_check.proofs.tasks.Tasks.put.Goals as goal
 
@@ -13,7 +12,7 @@ invariant_of-self-2 c =
     (subst (λ (xs : Tasks). IsParentAt xs c.args.task.parent c.parent_place-parent.result) (sym c.self.view_is) c.parent_place-parent.ensures)
     c.insert.new.self.entries c.reserve.new.self.items c.push_reserved.new.self.items c.link_below-link.result
     c.in_ok-insert.ensures.entries
-    (c.link_below-link.ensures ∙ ap (λ (xs : List Link). new_link xs c.parent_place-parent.result) c.deref.ensures.value)
+    c.link_below-link.ensures
     c.reserve.ensures.items
     c.push_reserved.ensures.items).0
 
@@ -24,6 +23,6 @@ returns c =
     (subst (λ (xs : Tasks). IsParentAt xs c.args.task.parent c.parent_place-parent.result) (sym c.self.view_is) c.parent_place-parent.ensures)
     c.insert.new.self.entries c.reserve.new.self.items c.push_reserved.new.self.items c.link_below-link.result
     c.in_ok-insert.ensures.entries
-    (c.link_below-link.ensures ∙ ap (λ (xs : List Link). new_link xs c.parent_place-parent.result) c.deref.ensures.value)
+    c.link_below-link.ensures
     c.reserve.ensures.items
     c.push_reserved.ensures.items).1 ∙ ap (λ (xs : Tasks). with_new xs c.args.task.number c.args.task) c.self.view_is
