@@ -179,6 +179,10 @@ module _ (k : ChunkValue) (at : ℕ) (d : Cell) (s : size_of d ≡ size_of (cell
       let same = place.words_in-put k.cells at d s in
       All-set (λ (x : ChunkValue). words_in x.cells ≤ x.size) ks i (with_cell k at d) (rw same here) h
 
+-- where a chunk is found, there is a place
+pub place_within : (ks : List ChunkValue) (n i : ℕ) → place_in ks n ≡ Some i → i < length ks
+place_within ks n i e = (chunks.place_found ks n i e).1
+
 -- what lies at an address, in the chunk that is found
 pub found_cell : (ks : List ChunkValue) (a : Addr) (o : Option (Bor ChunkValue)) → option_copied o ≡ option_map (λ i. chunk_at ks i) (place_in ks a.chunk) → IfSome o (λ k. cell_at k.now.cells a.offset ≡ cell_of ks a)
 found_cell ks a None e = tt

@@ -1,6 +1,7 @@
 // Reads and writes of the heap's own objects, by their addresses.
 
 ghost use Rattle.std.specs.Prelude.{◌≡◌, ◌^◌, ◌<◌, length, option_copied, option_map, slice_get, is_some, IfSome, Some};
+ghost use Rattle.object_layout.specs.declared.word.Addr.{Addr};
 ghost use Rattle.object_layout.specs.Cell.{Born, frozen, header_of, with_int, IsBorn, IsObject, IsPlace};
 ghost use Rattle.object_layout.specs.Place.{cell_at};
 ghost use Rattle.object_layout.specs.Chunks.{cell_of, chunk_at, has_chunk, object_of, place_in, put_object};
@@ -46,13 +47,13 @@ impl LeafHeap {
         self.space.own_chunk(object)
     }
 
-    /// The chunk in which an object of this heap lies, where it is known at which place that stands.
+    /// The chunk at a place: in it lies each object of this heap whose chunk stands there.
     #[inline(always)]
-    pub fn chunk_in(&self, place: usize, object: Addr) -> &Chunk
-        requires { place_in self.now.chunks object.chunk ≡ Some place }
-        ensures { cell_at result.now.cells object.offset ≡ cell_of self.now.chunks object }
+    pub fn chunk_in(&self, place: usize) -> &Chunk
+        requires { place < length self.now.chunks }
+        ensures { (object : Addr) → place_in self.now.chunks object.chunk ≡ Some place → cell_at result.now.cells object.offset ≡ cell_of self.now.chunks object }
     {
-        self.space.chunk_in(place, object)
+        self.space.chunk_in(place)
     }
 
     /// The kind of an object.

@@ -1,6 +1,7 @@
 // Reads and writes of the objects of a space, by their addresses.
 
 ghost use Rattle.std.specs.Prelude.{◌≡◌, ◌^◌, ◌<◌, length, option_copied, option_map, slice_get, is_some, IfSome, Some};
+ghost use Rattle.object_layout.specs.declared.word.Addr.{Addr};
 ghost use Rattle.object_layout.specs.Cell.{Born, Moved, frozen, header_of, with_int, with_mark, IsBorn, IsObject, IsPlace};
 ghost use Rattle.object_layout.specs.Place.{cell_at};
 ghost use Rattle.object_layout.specs.Chunks.{cell_of, chunk_at, has_chunk, object_of, place_in, place_of, put_object};
@@ -59,10 +60,10 @@ impl Space {
         self.chunks.at(self.own_place(object.chunk))
     }
 
-    /// The chunk in which an object of this heap lies, where it is known at which place that stands.
-    pub fn chunk_in(&self, place: usize, object: Addr) -> &Chunk
-        requires { place_in self.now.chunks object.chunk ≡ Some place }
-        ensures { cell_at result.now.cells object.offset ≡ cell_of self.now.chunks object }
+    /// The chunk at a place: in it lies each object of this heap whose chunk stands there.
+    pub fn chunk_in(&self, place: usize) -> &Chunk
+        requires { place < length self.now.chunks }
+        ensures { (object : Addr) → place_in self.now.chunks object.chunk ≡ Some place → cell_at result.now.cells object.offset ≡ cell_of self.now.chunks object }
     {
         self.chunks.at(place)
     }

@@ -1,4 +1,5 @@
 pub mod ListLemmas
+mod OwnObjects
 mod FoundCounts
 pub mod FoundLemmas
 mod Discovered

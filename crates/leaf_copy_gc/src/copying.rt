@@ -31,7 +31,7 @@ fn size_in(heap: &Space, place: usize, object: Addr) -> u32
     requires object { IsObject (cell_of heap.now.chunks object).mark }
     ensures { result ≡ size_of (cell_of heap.now.chunks object) }
 {
-    let header = header_at(heap.chunk_in(place, object), object.offset);
+    let header = header_at(heap.chunk_in(place), object.offset);
     2 + header.nrefs + header.nints
 }
 
@@ -56,7 +56,7 @@ fn copy_out(heap: &Space, place: usize, survivor: Survivor, to: &mut Chunk) -> A
     ensures address { result ≡ next_address to.old }
     ensures copied { to.new ≡ record to.old { cells = to.old.cells ++ survivor_cell heap.now.chunks survivor ∷ [] } }
 {
-    let from = heap.chunk_in(place, survivor.old);
+    let from = heap.chunk_in(place);
     let offset = copy_behind(from, survivor.old.offset, to);
     let address = Addr {
         chunk: to.number(),

@@ -43,7 +43,7 @@ fn live_at(heap: &Space, place: Option<usize>, object: Addr) -> Option<Live>
     ensures place { IfSome result (λ l. place_in heap.now.chunks object.chunk ≡ Some l.place) }
 {
     let place = place?;
-    let chunk = heap.chunk_in(place, object);
+    let chunk = heap.chunk_in(place);
     let birth = birth_in(chunk, object.offset)?;
     Some(Live { birth, place })
 }
@@ -54,7 +54,7 @@ pub(crate) fn refs_in(heap: &Space, place: usize, object: Addr) -> u32
     requires object { IsObject (cell_of heap.now.chunks object).mark }
     ensures { result ≡ length (cell_of heap.now.chunks object).refs }
 {
-    header_at(heap.chunk_in(place, object), object.offset).nrefs
+    header_at(heap.chunk_in(place), object.offset).nrefs
 }
 
 // A reference of an object, whose chunk stands at this place.
@@ -65,7 +65,7 @@ pub(crate) fn ref_in(heap: &Space, place: usize, object: Addr, field: u32) -> Op
     ensures value { slice_get (cell_of heap.now.chunks object).refs field ≡ Some result }
     ensures place { IsPlace result }
 {
-    ref_at(heap.chunk_in(place, object), object.offset, field)
+    ref_at(heap.chunk_in(place), object.offset, field)
 }
 
 impl Collector {

@@ -28,7 +28,7 @@ fn follow_in(heap: &Space, place: Option<usize>, address: Addr) -> Option<Addr>
 {
     match place {
         None => Some(address),
-        Some(place) => forwarded_at(heap.chunk_in(place, address), address.offset),
+        Some(place) => forwarded_at(heap.chunk_in(place), address.offset),
     }
 }
 

@@ -64,6 +64,12 @@ fn ref_at(refs: &[Option<Addr>; 16], i: u32) -> Option<Addr>
     refs[i as usize]
 }
 
+// There are sixteen registers of each kind.
+fn sixteen(ints: &[i64; 16], refs: &[Option<Addr>; 16])
+    ensures ints { length ints.now ≡ 16 }
+    ensures refs { length refs.now ≡ 16 }
+{}
+
 impl Frames {
     // The only frame of a task.
     fn only(alloc: Global, frame: Frame) -> Result<Frames, AllocError>
@@ -169,6 +175,14 @@ impl Frames {
         ensures { self.new ≡ with_next self.old next }
     {
         self.top.next = next;
+    }
+
+    /// The top frame has sixteen registers of each kind.
+    pub fn sixteen(&self)
+        ensures ints { length self.now.top.ints ≡ 16 }
+        ensures refs { length self.now.top.refs ≡ 16 }
+    {
+        sixteen(&self.top.ints, &self.top.refs);
     }
 
     /// A number register of the top frame.

@@ -33,7 +33,7 @@ impl Private {
         requires there { IsThere self.now.heap.chunks own }
         ensures cell { cell_at result.now.cells own.object.offset ≡ cell_of self.now.heap.chunks own.object }
     {
-        self.heap.chunk_in(own.place, own.object)
+        self.heap.chunk_in(own.place)
     }
 
     #[inline(always)]

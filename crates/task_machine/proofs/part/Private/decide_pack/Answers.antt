@@ -1,5 +1,4 @@
 use Rattle.std.proofs.Common.{◌≡◌, ◌+◌, arith, ap, sym, subst, ◌∙◌, is_some}
-use Rattle.std.proofs.lemmas.Option.{slice_get_within}
 use Rattle.alloc_path.specs.LeafHeapValue.{place_for}
 use Rattle.task_machine.specs.declared.plan.Plan.{Plan}
 use Rattle.task_machine.specs.declared.plan.Plan.TheVariants.{Pack}
@@ -9,15 +8,15 @@ use Rattle.task_machine.proofs.part.Private.decide_pack.Goals as goal
 
 pub returns-clause-wide : goal.returns-clause-wide
 returns-clause-wide c =
-    let ints = slice_get_within c.args.self.now.frames.top.ints 15 c.int.result c.int.ensures in
-    let refs = slice_get_within c.args.self.now.frames.top.refs 15 c.reference.result c.reference.ensures in
+    let ints = c.sixteen.ensures.ints in
+    let refs = c.sixteen.ensures.refs in
     (omega (arith, refs, c.count.ensures.value, c.count.ensures.within), omega (arith, ints, c.count-2.ensures.value, c.count-2.ensures.within))
 
 pub returns-clause-ready : goal.returns-clause-ready
 returns-clause-ready c =
     let part = c.args.self.now in
-    let ints = slice_get_within part.frames.top.ints 15 c.int.result c.int.ensures in
-    let refs = slice_get_within part.frames.top.refs 15 c.reference.result c.reference.ensures in
+    let ints = c.sixteen.ensures.ints in
+    let refs = c.sixteen.ensures.refs in
     let words : 2 + c.count.result + c.count-2.result ≡ 2 + c.args.refs + c.args.ints = omega (arith, c.count.ensures.value, c.count-2.ensures.value) in
     let P : Plan → Type 0 = λ q. IsReady part q in
     subst P (sym c.allocating.ensures) (alloc_ready part (2 + c.count.result + c.count-2.result) (Pack c.args.target c.args.refs c.args.ints)
