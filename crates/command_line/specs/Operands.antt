@@ -1,11 +1,11 @@
 -- What files and numbers ask for.
-use Rattle.std.specs.Prelude.{◌≡◌, ◌&&◌, ℕ, Bool, false, List, [], ◌∷◌, Option, Some, None, codes, if◌then◌else◌}
+use Rattle.std.specs.Prelude.{◌≡◌, ◌&&◌, ℕ, Bool, true, false, List, [], ◌∷◌, Option, Some, None, codes, if◌then◌else◌}
 use Rattle.std.specs.Str.Parse.{digits_value, without_leading_plus}
 use Rattle.clap.specs.Lexer.{strip_byte}
 use Rattle.clap.specs.ValueTests.{is_unsigned_in}
 use Rattle.clap.specs.Words.{Text}
 use Rattle.program_make.specs.Text.{size_limit}
-use Rattle.run_trace.specs.Settings.{SettingsValue, usual_limits}
+use Rattle.run_trace.specs.Settings.{SettingsValue, chunk_limit, fuel_limit, usual_limits, words_limit}
 use Rattle.command_line.specs.CommandLine.{command_line}
 use Rattle.command_line.specs.Examples.{usual_options}
 use Rattle.command_line.specs.declared.line.CommandLine.{CommandLine}

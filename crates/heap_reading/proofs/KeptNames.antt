@@ -17,7 +17,7 @@ use Rattle.hh_model.specs.declared.data.End.TheVariants.{Done, Trapped, Entangle
 use Rattle.run_ledger.specs.declared.data.Heap.{Heap}
 use Rattle.run_ledger.specs.declared.data.Ledger.{Ledger}
 use Rattle.run_ledger.specs.declared.data.RunEnd.{RunEnd}
-use Rattle.run_ledger.specs.declared.data.RunEnd.TheVariants.{Fuel, State as MachineEnd, Pool}
+use Rattle.run_ledger.specs.declared.data.RunEnd.TheVariants.{Fuel, Machine as MachineEnd, Pool}
 use Rattle.run_ledger.specs.Heaps.{heap_of, held, held_in, in_use, let_go, or_fresh, small_in, words_at, words_sum}
 use Rattle.run_ledger.specs.Report.{held_not_running, held_not_running_from}
 use Rattle.run_ledger.proofs.Holders.{tasks_are_held_once}

@@ -1,5 +1,5 @@
 -- Steps that only calculate, with their accounts.
-use Rattle.std.proofs.Common.{◌≡◌, ℕ, zero, suc, ◌+◌, ◌<◌, ◌≤◌, ◌||◌, true, false, Option, Some, None, slice_get, nat_le, is_some, refl, ap, ap₂, sym, subst, ◌∙◌, arith}
+use Rattle.std.proofs.Common.{◌≡◌, ℕ, zero, suc, ◌+◌, ◌-◌, ◌<◌, ◌≤◌, ◌||◌, true, false, Option, Some, None, slice_get, nat_le, is_some, refl, ap, ap₂, sym, subst, ◌∙◌, arith}
 use Rattle.std.proofs.lemmas.Bool.{false≢true}
 use Rattle.hh_model.specs.declared.data.Task.{Task}
 use Rattle.hh_model.specs.declared.data.Status.{Status}
@@ -10,7 +10,7 @@ use Rattle.hh_model.specs.Machine.{MachineValue}
 use Rattle.hh_model.specs.Step.{asked, is_running, step}
 use Rattle.run_ledger.specs.declared.data.Ledger.{Ledger}
 use Rattle.run_ledger.specs.Heaps.{heap_of, in_use, lacks_room}
-use Rattle.run_ledger.specs.Steps.{is_due, is_in_need, moved_on, moved_to, on_asked, settled, task_step, task_steps}
+use Rattle.run_ledger.specs.Steps.{is_due, is_in_need, moved_on, moved_to, on_asked, settled, standing, task_step, task_steps}
 use Rattle.run_ledger.proofs.Machine.{task_step_machine}
 use Rattle.next_steps.proofs.Calculating as calculating
 use Rattle.next_steps.proofs.Calculating.{Calculation, found}
@@ -29,6 +29,15 @@ settles_nothing l t (Some x) e = by x.status e
     by Waiting e = absurd (false≢true e)
     by (Ended k n) e = absurd (false≢true e)
     by Joined e = absurd (false≢true e)
+
+-- what they leave of the machine
+pub steps_taken : (g : MachineValue) (t k : ℕ) → (advanced_by g t k).steps ≡ g.steps + k
+steps_taken g t zero = omega arith
+steps_taken g t (suc k) = let e = steps_taken g t k in omega arith
+
+pub same_program : (g : MachineValue) (t k : ℕ) → (advanced_by g t k).program ≡ g.program
+same_program g t zero = refl
+same_program g t (suc k) = same_program g t k
 
 -- ONE OF THEM
 
@@ -74,15 +83,15 @@ module _ (a : AccountsValue) (g : MachineValue) (t most n : ℕ) (program : g.pr
   moved k = record a.ledger { machine = (advanced_by g t k).state; steps = a.ledger.steps + k }
 
   -- they are those after so many steps of the entry, all of which stand
-  pub record Along (k : ℕ) : Type 0 where
-    pub program : (advanced_by g t k).program ≡ a.program
+  record Along (k : ℕ) : Type 0 where
+    pub of : (advanced_by g t k).program ≡ a.program
     pub ran : Ran a.settings a.program a.ledger t most k (moved k)
-    pub used : a.used ≡ in_use (moved k)
+    pub uses : a.used ≡ in_use (moved k)
 
   at_first : Along 0
   at_first =
       let same : a.ledger ≡ moved 0 = ap₂ (λ m k. let z : Ledger = record a.ledger { machine = m; steps = k } in z) (sym state) (omega arith) in
-      record { program = program; ran = subst (Ran a.settings a.program a.ledger t most 0) same (ran_none a.settings a.program a.ledger t most); used = used ∙ ap in_use same }
+      record { of = program; ran = subst (Ran a.settings a.program a.ledger t most 0) same (ran_none a.settings a.program a.ledger t most); uses = used ∙ ap in_use same }
 
   one_more : (k : ℕ) → k < n → Along k → Along (suc k)
   one_more k lt A =
@@ -90,22 +99,25 @@ module _ (a : AccountsValue) (g : MachineValue) (t most n : ℕ) (program : g.pr
       let is : calculates a.program (moved k).machine t ≡ true = ap (λ p. calculates p (moved k).machine t) (sym program) ∙ only k lt in
       let within : k < most = omega arith in
       let next : used_after a.program (moved k) t ≡ in_use (task_step a.program (moved k) t) = ran_used a.settings a.program a.ledger t most k (moved k) A.ran within S (stands now t is) in
-      let w = went now t is A.used next in
+      let w = went now t is A.uses next in
       let same : moved (suc k) ≡ task_step a.program (moved k) t =
-      ap₂ (λ p i. let z : Ledger = record a.ledger { machine = step p (advanced_by g t k).state t; steps = i } in z) A.program (omega arith) ∙ ap (λ (q : AccountsValue). q.ledger) w in
+      ap₂ (λ p i. let z : Ledger = record a.ledger { machine = step p (advanced_by g t k).state t; steps = i } in z) A.of (omega arith) ∙ ap (λ (q : AccountsValue). q.ledger) w in
       let r : Ran a.settings a.program a.ledger t most (k + 1) (task_step a.program (moved k) t) = ran_more a.settings a.program a.ledger t most k (moved k) A.ran within (more now t is) in
       record {
-        program = A.program;
+        of = A.of;
         ran = subst (λ i. Ran a.settings a.program a.ledger t most i (moved (suc k))) (let e : k + 1 ≡ suc k = omega arith in e) (subst (Ran a.settings a.program a.ledger t most (k + 1)) (sym same) r);
-        used = ap (λ (q : AccountsValue). q.used) w ∙ ap in_use (sym same);
+        uses = ap (λ (q : AccountsValue). q.used) w ∙ ap in_use (sym same);
       }
 
   along : (k : ℕ) → k ≤ n → Along k
   along zero le = at_first
   along (suc k) le = one_more k (omega (arith, le)) (along k (omega (arith, le)))
 
-  pub calculated_ran : Ran a.settings a.program a.ledger t most n (moved n)
-  calculated_ran = (along n (omega arith)).ran
+  at_last : Along n
+  at_last = along n (omega arith)
+
+  pub calculated_standing : standing a.settings a.program a.ledger t most ≡ n + standing a.settings a.program (task_steps a.program a.ledger t n) t (most - n)
+  calculated_standing = at_last.ran.rest ∙ ap (λ l. n + standing a.settings a.program l t (most - n)) at_last.ran.is
 
   pub calculated_is : record a { ledger = moved n } ≡ went_on a (task_steps a.program a.ledger t n)
-  calculated_is = ap (λ u. let z : AccountsValue = record a { ledger = moved n; used = u } in z) (along n (omega arith)).used ∙ ap (went_on a) calculated_ran.is
+  calculated_is = ap (λ u. let z : AccountsValue = record a { ledger = moved n; used = u } in z) at_last.uses ∙ ap (went_on a) at_last.ran.is

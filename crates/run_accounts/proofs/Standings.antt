@@ -120,7 +120,7 @@ module _ (s : SettingsValue) (p : ProgramText) (l : Ledger) (t k done : ℕ) (no
 
 -- before the first step
 pub ran_none : (s : SettingsValue) (p : ProgramText) (l : Ledger) (t k : ℕ) → Ran s p l t k 0 l
-ran_none s p l t k = record { is = refl; rest = refl }
+ran_none s p l t k = record { is = refl; rest = let e : standing s p l t k ≡ standing s p l t (k - 0) = ap (standing s p l t) (omega arith) in omega arith }
 
 -- so many steps, and then so many of the rest
 module _ (s : SettingsValue) (p : ProgramText) (l : Ledger) (t k done : ℕ) (now : Ledger) (R : Ran s p l t k done now) (le : done ≤ k) where
@@ -196,6 +196,44 @@ module _ (a b : AccountsValue) (t k done : ℕ) (is : b ≡ went_on a b.ledger) 
 
       pub new_went : how ≡ More → new ≡ went_on a new.ledger
       new_went e = let q = new_is More e in q ∙ ap (went_on a) (sym (ap (λ (x : AccountsValue). x.ledger) q))
+
+-- so many steps that were counted at once, by the accounts before and after
+module _ (b new : AccountsValue) (t k n : ℕ)
+    (stand : standing b.settings b.program b.ledger t k ≡ n + standing b.settings b.program (task_steps b.program b.ledger t n) t (k - n)) (after : new ≡ went_on b (task_steps b.program b.ledger t n)) where
+  led : new.ledger ≡ task_steps b.program b.ledger t n
+  led = ap (λ (q : AccountsValue). q.ledger) after
+
+  pub counted_ran : Ran b.settings b.program b.ledger t k n new.ledger
+  counted_ran = record { is = led; rest = stand ∙ ap (λ l. n + standing b.settings b.program l t (k - n)) (sym led) }
+
+  pub counted_is : new ≡ went_on b new.ledger
+  counted_is = after ∙ ap (went_on b) (sym led)
+
+-- the same behind so many others
+module _ (a b : AccountsValue) (t k done : ℕ) (is : b ≡ went_on a b.ledger) (R : Ran a.settings a.program a.ledger t k done b.ledger) (le : done ≤ k) where
+  pub rest_at : StaysSteady a.settings a.program a.ledger t k → StaysSteady b.settings b.program b.ledger t (k - done)
+  rest_at S = subst (λ (q : AccountsValue). StaysSteady q.settings q.program b.ledger t (k - done)) (sym is) (rest_steady a.settings a.program a.ledger t k done b.ledger R le S)
+
+  module _ (new : AccountsValue) (n : ℕ) (stand : standing b.settings b.program b.ledger t (k - done) ≡ n + standing b.settings b.program (task_steps b.program b.ledger t n) t (k - done - n))
+      (after : new ≡ went_on b (task_steps b.program b.ledger t n)) where
+    pub on_ran : Ran a.settings a.program a.ledger t k (done + n) new.ledger
+    on_ran =
+        ran_on a.settings a.program a.ledger t k done b.ledger R le n new.ledger
+        (subst (λ (q : AccountsValue). Ran q.settings q.program b.ledger t (k - done) n new.ledger) is (counted_ran b new t (k - done) n stand after))
+
+    pub on_is : new ≡ went_on a new.ledger
+    on_is = counted_is b new t (k - done) n stand after ∙ ap (λ q. went_on q new.ledger) is
+
+  -- all of them
+  module _ (all : done ≡ k) where
+    pub all_stand : k ≡ standing a.settings a.program a.ledger t k
+    all_stand =
+        let none : standing a.settings a.program b.ledger t (k - done) ≡ 0 = ap (standing a.settings a.program b.ledger t) (let e : k - done ≡ 0 = omega arith in e) in
+        let rest = R.rest in
+        omega arith
+
+    pub all_went : b ≡ went_on a (task_steps a.program a.ledger t k)
+    all_went = is ∙ (ap (went_on a) R.is ∙ ap (λ n. went_on a (task_steps a.program a.ledger t n)) all)
 
 -- how a step stood that was taken
 pub stood_is : (s : SettingsValue) (p : ProgramText) (l : Ledger) (t : ℕ) (own ended : Bool) → is_due s p l t ≡ false → is_in_need p l t ≡ false → own ≡ is_own p l.machine t

@@ -38,7 +38,7 @@ use Rattle.world_core.specs.WorldValue.{Holds, HoldsCopy, HoldsPart}
 -- ---- A COPY fits for the end of its collection
 
 pub copying : (w : SharedValue) (k : ℕ) (p : Private) (moved : Moved) → IsSharedValue w → (H : HoldsCopy w k p moved) → IsCopying w k H.before H.begun H.news
-copying w k p moved I H = record { world = I; fits = H.fits; fresh = H.fresh; begun = H.amid; new = H.new; numbers = H.numbers }
+copying w k p moved I H = record { shared = I; fits = H.fits; fresh = H.fresh; begun = H.amid; new = H.new; numbers = H.numbers }
 
 pub copy_fits : (w : SharedValue) (k : ℕ) (p : Private) (moved : Moved) → IsSharedValue w → HoldsCopy w k p moved → FitsCopied w k p moved
 copy_fits w k p moved I H =

@@ -7,7 +7,7 @@ use Rattle.collection_tests.proofs.collecting.is_ready.Goals as goal
 pub returns : goal.returns
 returns c = λ h.
     let q : c.in-Some.small ≡ small_words c.args.heap.now.chunks = c.in-Some.ensures ∙ ap small_words c.chunks.ensures.chunks in
-    let few : c.in-Some.small ≤ 1024 = let t = c.if-small-gt1024.false in omega arith in
+    let few : c.in-Some.small ≤ 1024 = let t = c.if-small.false in omega arith in
     record {
       closed = c.is_fit_heap.ensures c.if-not-is_fit_heap.false;
       outside = c.outside_is_sound.ensures c.if-not-outside_is_sound.false;

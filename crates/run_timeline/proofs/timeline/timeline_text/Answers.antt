@@ -13,7 +13,7 @@ use Rattle.run_timeline.proofs.timeline.timeline_text.Goals as goal
 
 pub returns-in_err-enter_all-clause-fails : goal.returns-in_err-enter_all-clause-fails
 returns-in_err-enter_all-clause-fails c =
-    let given = err_from_is_err_and c.from_residual.result c.from_residual.ensures.1 in
+    let given = err_from_is_err_and c.from_residual-in_err-enter_all.result c.from_residual-in_err-enter_all.ensures.1 in
     subst (λ r. IfErr r (ReplayFails (refused_as_run c.args.program.now c.args.settings c.args.journal.now))) (sym (given.1 ∙ ap Err given.2))
     (fails_whole (first_refused c.args.program.now c.args.settings c.args.journal.now) (end_of c.args.program.now c.args.settings c.args.journal.now) (length c.args.journal.now + 1) c.in_err-enter_all.field-0.0
     (subst (λ (b : BookValue). ReplayFails (first_refused b.program b.settings c.args.journal.now) c.in_err-enter_all.field-0.0) c.in_ok-book.ensures c.in_err-enter_all.ensures.fails))

@@ -1,9 +1,20 @@
-use Rattle.std.proofs.Common.{◌≡◌, ◌++◌, ap, ◌∙◌}
-use Rattle.run_ledger.specs.Journals.{opening, ledger_of}
+use Rattle.std.proofs.Common.{◌≡◌, ◌++◌, ◌+◌, Err, ap, length, subst, sym, ◌∙◌}
+use Rattle.std.specs.Prelude.{IfErr}
+use Rattle.std.proofs.lemmas.Result.{err_from_is_err_and}
+use Rattle.run_ledger.specs.Journals.{end_of, first_refused, opening, ledger_of, refused_as_run}
 use Rattle.run_journal.specs.BookValue.{BookValue}
+use Rattle.run_journal.specs.Replay.{ReplayFails}
+use Rattle.run_timeline.proofs.Loops.{fails_whole}
 use Rattle.task_table.specs.Rows.{rows_from}
 use Rattle.task_table.specs.Table.{first_line, lines_from, rows_of}
 use Rattle.task_table.proofs.table.table_text.Goals as goal
+
+pub returns-in_err-enter_all-clause-fails : goal.returns-in_err-enter_all-clause-fails
+returns-in_err-enter_all-clause-fails c =
+    let given = err_from_is_err_and c.from_residual-in_err-enter_all.result c.from_residual-in_err-enter_all.ensures.1 in
+    subst (λ r. IfErr r (ReplayFails (refused_as_run c.args.program.now c.args.settings c.args.journal.now))) (sym (given.1 ∙ ap Err given.2))
+    (fails_whole (first_refused c.args.program.now c.args.settings c.args.journal.now) (end_of c.args.program.now c.args.settings c.args.journal.now) (length c.args.journal.now + 1) c.in_err-enter_all.field-0.0
+    (subst (λ (b : BookValue). ReplayFails (first_refused b.program b.settings c.args.journal.now) c.in_err-enter_all.field-0.0) c.in_ok-book.ensures c.in_err-enter_all.ensures.fails))
 
 pub returns-clause-text : goal.returns-clause-text
 returns-clause-text c =
