@@ -81,9 +81,9 @@ impl Marking {
     }
 
     /// Ends the marking, and keeps its room for the next. It takes as long as there are objects found. A room with
-    /// places for more than 65,536 objects is let go, so one is kept that takes no memory.
+    /// places for more than 1,048,576 objects is let go, so one is kept that takes no memory.
     pub fn into_room(self) -> MarkingRoom
-        ensures { result ≤ 2 ^ 16 }
+        ensures { result ≤ 2 ^ 20 }
     {
         let Marking {
             found,

@@ -11,7 +11,7 @@ use std::collections::HashSet;
 use std::marker::Model;
 
 // A room with places for more objects is let go.
-const MOST_PLACES: usize = 65_536;
+const MOST_PLACES: usize = 1_048_576;
 
 /// Empty lists and an empty table that are kept from one marking for the next. It is seen as the number of objects that
 /// its list has places for.
@@ -38,7 +38,7 @@ impl Model for MarkingRoom {
 impl MarkingRoom {
     /// A room that takes no memory.
     pub fn new(alloc: Global) -> MarkingRoom
-        ensures { result ≤ 2 ^ 16 }
+        ensures { result ≤ 2 ^ 20 }
     {
         MarkingRoom {
             found: Vec::new(alloc),
@@ -47,11 +47,11 @@ impl MarkingRoom {
         }
     }
 
-    // The room of these lists and this table, emptied by what was put in. One with places for more than 65,536 objects
+    // The room of these lists and this table, emptied by what was put in. One with places for more than 1,048,576 objects
     // is let go, and another is made that takes no memory.
     pub(crate) fn emptied(found: Vec<Addr>, known: HashSet<Addr>, left: Vec<Chunk>) -> MarkingRoom
         requires { (a : Addr) → contains same_address known a ≡ has_address found.items a }
-        ensures { result ≤ 2 ^ 16 }
+        ensures { result ≤ 2 ^ 20 }
     {
         if found.capacity() > MOST_PLACES {
             return MarkingRoom::new(*found.allocator());

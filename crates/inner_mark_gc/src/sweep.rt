@@ -55,7 +55,7 @@ impl Marking {
         ensures heap { heap.new ≡ with_places (swept heap.old (marked_of self)) heap.new.slots heap.new.spare }
         ensures pool { AreGiven pool.old pool.new (gone_of heap.old (marked_of self)) }
         ensures units { result.0 ≡ counted32 (unit_count (gone_of heap.old (marked_of self))) }
-        ensures kept { result.1 ≤ 2 ^ 16 }
+        ensures kept { result.1 ≤ 2 ^ 20 }
     {
         let mut left = self.take_list();
         let mut space = heap.open();
