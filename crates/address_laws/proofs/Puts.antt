@@ -1,5 +1,5 @@
 -- Objects of a heap by their addresses, where one was put elsewhere or marked.
-use Rattle.std.proofs.Common.{◌≡◌, ℕ, ◌<◌, true, false, List, [], ◌∷◌, length, refl, sym, ap, ◌∙◌, subst, ⊎_elim, inl, inr, ◌⊎◌, eqb, eqb-true, eq-eqb, is_some}
+use Rattle.std.proofs.Common.{◌≡◌, ℕ, ◌<◌, true, false, List, [], ◌∷◌, length, refl, sym, ap, ◌∙◌, subst, ⊎_elim, inl, inr, ◌⊎◌, eqb, is_some}
 use Rattle.std.proofs.lemmas.Bool.{cases_Bool, cases_lt, le-ltb}
 use Rattle.object_layout.specs.declared.word.Addr.{Addr}
 use Rattle.object_layout.specs.Cell.{Cell, Mark, IsBorn, IsObject, no_cell, with_mark}
@@ -9,23 +9,13 @@ use Rattle.object_layout.specs.Chunks.{cell_of, place_in, place_of, put_object}
 use Rattle.object_layout.specs.Graph.{HasObjectAt}
 use Rattle.object_layout.proofs.PlaceLemmas as place
 use Rattle.object_layout.proofs.ChunkLaws as laws
+use Rattle.object_layout.proofs.ChunkLaws.{addr_cases}
 use Rattle.listed.proofs.Members.{In}
-
--- two addresses are one, or not
-pub same_or_other : (a b : Addr) → (a ≡ b) ⊎ (a ≡ b → ⊥)
-same_or_other a b =
-    elim (cases_Bool (eqb a.chunk b.chunk)) [
-      | inl e ↦ elim (cases_Bool (eqb a.offset b.offset)) [
-        | inl f ↦ let c : a.chunk ≡ b.chunk = eqb-true a.chunk b.chunk e in let o : a.offset ≡ b.offset = eqb-true a.offset b.offset f in inl (λ i. record { chunk = c i; offset = o i })
-        | inr f ↦ inr (λ h. let t = eq-eqb a.offset b.offset (ap (λ (x : Addr). x.offset) h) in absurd cc)
-      ]
-      | inr e ↦ inr (λ h. let t = eq-eqb a.chunk b.chunk (ap (λ (x : Addr). x.chunk) h) in absurd cc)
-    ]
 
 pub in_or_not : (xs : List Addr) (a : Addr) → In xs a ⊎ (In xs a → ⊥)
 in_or_not [] a = inr (λ h. h)
 in_or_not (x ∷ xs) a =
-    elim (same_or_other x a) [
+    elim (addr_cases x a) [
       | inl e ↦ inl (inl e)
       | inr n ↦ elim (in_or_not xs a) [
         | inl i ↦ inl (inr i)
@@ -60,7 +50,7 @@ module _ (h : List ChunkValue) (x : Addr) (m : Mark) where
   -- nothing but marks changes
   pub mark_alone : (a : Addr) (n : Mark) → with_mark (cell_of (put_object h x (with_mark (cell_of h x) m)) a) n ≡ with_mark (cell_of h a) n
   mark_alone a n =
-      elim (same_or_other x a) [
+      elim (addr_cases x a) [
         | inl e ↦ subst (λ (y : Addr). with_mark (cell_of (put_object h x (with_mark (cell_of h x) m)) y) n ≡ with_mark (cell_of h y) n) e (elim (put_cases h x (with_mark (cell_of h x) m)) [
           | inl p ↦ ap (λ (c : Cell). with_mark c n) p
           | inr p ↦ ap (λ (c : Cell). with_mark c n) p.0
@@ -70,7 +60,7 @@ module _ (h : List ChunkValue) (x : Addr) (m : Mark) where
 
   pub mark_object : IsObject m → (a : Addr) → IsObject (cell_of h a).mark → IsObject (cell_of (put_object h x (with_mark (cell_of h x) m)) a).mark
   mark_object o a was =
-      elim (same_or_other x a) [
+      elim (addr_cases x a) [
         | inl e ↦ subst (λ (y : Addr). IsObject (cell_of (put_object h x (with_mark (cell_of h x) m)) y).mark) e (elim (put_cases h x (with_mark (cell_of h x) m)) [
           | inl p ↦ subst (λ (c : Cell). IsObject c.mark) (sym p) o
           | inr p ↦ subst (λ (c : Cell). IsObject c.mark) (sym p.0) (subst (λ (y : Addr). IsObject (cell_of h y).mark) (sym e) was)

@@ -30,7 +30,7 @@ words_kept : (ks : List ChunkValue) (a : Addr) (c : Cell) → c.mark ≡ (cell_o
 words_kept [] a c m s = refl
 words_kept (k ∷ ks) a c m s =
     elim (cases_Bool (eqb k.number a.chunk)) [
-      | inl e ↦ let mark = rw e at m in let size = rw e at s in rw e (ap (λ n. n + held_words ks) (heap.held_in-put k.cells a.offset c (ap₂ held_size mark size)))
+      | inl e ↦ let mark = rw e at m in let size = rw e at s in rw e (ap (λ n. n + held_words ks) (heap.object_words_in-put k.cells a.offset c (ap₂ held_size mark size)))
       | inr e ↦ let mark = rw e at m in let size = rw e at s in rw e (ap (λ n. object_words_in k.cells + n) (words_kept ks a c mark size))
     ]
 

@@ -22,20 +22,20 @@ use Rattle.object_layout.proofs.PlaceLemmas.{words_in-push}
 
 -- ---- the words of objects
 
-pub held_in-put : (cs : List Cell) (at : ℕ) (d : Cell) → held_size d.mark (size_of d) ≡ held_size (cell_at cs at).mark (size_of (cell_at cs at)) → object_words_in (put_cell cs at d) ≡ object_words_in cs
-held_in-put [] at d s = refl
-held_in-put (c ∷ cs) zero d s = rw s
-held_in-put (c ∷ cs) (suc n) d s =
+pub object_words_in-put : (cs : List Cell) (at : ℕ) (d : Cell) → held_size d.mark (size_of d) ≡ held_size (cell_at cs at).mark (size_of (cell_at cs at)) → object_words_in (put_cell cs at d) ≡ object_words_in cs
+object_words_in-put [] at d s = refl
+object_words_in-put (c ∷ cs) zero d s = rw s
+object_words_in-put (c ∷ cs) (suc n) d s =
     ⊎_elim
     (λ (above : suc n < size_of c). rw (lt-leb (size_of c) (suc n) above))
     (λ (within : size_of c ≤ suc n).
     let t = le-leb (size_of c) (suc n) within in
-    rw (t, held_in-put cs (suc n - size_of c) d (rw t at s)))
+    rw (t, object_words_in-put cs (suc n - size_of c) d (rw t at s)))
     (cases_lt (suc n) (size_of c))
 
-pub held_in-push : (cs : List Cell) (d : Cell) → object_words_in (cs ++ d ∷ []) ≡ object_words_in cs + held_size d.mark (size_of d)
-held_in-push [] d = omega arith
-held_in-push (c ∷ cs) d = let ih = held_in-push cs d in omega arith
+pub object_words_in-push : (cs : List Cell) (d : Cell) → object_words_in (cs ++ d ∷ []) ≡ object_words_in cs + held_size d.mark (size_of d)
+object_words_in-push [] d = omega arith
+object_words_in-push (c ∷ cs) d = let ih = object_words_in-push cs d in omega arith
 
 pub held_words-set : (ks : List ChunkValue) (i : ℕ) (k : ChunkValue) (d : ChunkValue) → i < length ks →
     held_words (set ks i k) + object_words_in (get_or ks i d).cells ≡ held_words ks + object_words_in k.cells
@@ -224,7 +224,7 @@ module _ (ks : List ChunkValue) (a : Addr) (i : ℕ) (k : ChunkValue) (o : IsObj
       AgreesWithChunks (set ks i (with_cell k a.offset d)) left filled kept count many part base place entries
   own_kept pieces filled kept count many part base place entries h d s z left shown =
       let r = own_read no_chunk in
-      let held = held_in-put k.cells a.offset d (s (size_of d) ∙ ap (held_size (cell_at k.cells a.offset).mark) z) in
+      let held = object_words_in-put k.cells a.offset d (s (size_of d) ∙ ap (held_size (cell_at k.cells a.offset).mark) z) in
       let sum = held_words-set ks i (with_cell k a.offset d) k own_in in
       let same : object_words_in (get_or ks i k).cells ≡ object_words_in k.cells = ap (λ (x : ChunkValue). object_words_in x.cells) (sym read) in
       let words : held_words (set ks i (with_cell k a.offset d)) ≡ held_words ks = omega arith in
@@ -337,7 +337,7 @@ module _ (h : LeafHeapValue) (pieces : PiecesValue) (count many part base : ℕ)
         let in' = fits_in (size_of c) i fits (omega arith) in
         let r' = get_or_read h.chunks i k in' read no_chunk in
         let new : ChunkValue = record k { cells = k.cells ++ c ∷ [] } in
-        let push = held_in-push k.cells c in
+        let push = object_words_in-push k.cells c in
         let size = held (size_of c) in
         let sum = held_words-set h.chunks i (record k { cells = k.cells ++ c ∷ [] }) k in' in
         let same : object_words_in (get_or h.chunks i k).cells ≡ object_words_in k.cells = ap (λ (x : ChunkValue). object_words_in x.cells) (sym read) in

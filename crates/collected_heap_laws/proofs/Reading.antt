@@ -26,7 +26,7 @@ use Rattle.leaf_copy_gc.proofs.Moves as moves
 use Rattle.leaf_copy_gc.proofs.Naming.{in_unmap}
 use Rattle.leaf_copy_gc.proofs.Naming as naming
 use Rattle.leaf_copy_gc.proofs.Rebuilt as rebuilt
-use Rattle.leaf_copy_gc.proofs.Rebuilt.{NoneThere, first_of}
+use Rattle.leaf_copy_gc.proofs.Rebuilt.{first_of, none_at}
 use Rattle.remembered_set.specs.Moved.{same_address}
 use Rattle.leaf_copy_gc.proofs.Rooms as rooms
 use Rattle.leaf_copy_gc.specs.Laid.{Laying, HaveRoom, before, is_small, small_words, smalls, laid_all, laid_at, laid_one, next_place, opened, open_next, placed, relocations, room_in}
@@ -36,7 +36,7 @@ use Rattle.leaf_copy_gc.proofs.LastChunk.{some_room}
 use Rattle.address_laws.proofs.Numbers as nums
 use Rattle.leaf_copy_gc.proofs.NewNumbers as new_numbers
 use Rattle.address_laws.proofs.Numbers.{numbers, Distinct}
-use Rattle.leaf_copy_gc.proofs.NewNumbers.{Within}
+use Rattle.leaf_copy_gc.proofs.NewNumbers.{within_at}
 use Rattle.address_laws.proofs.Extent as extent
 
 -- what has an object has its number
@@ -189,14 +189,6 @@ unreserved_in ks (Some i) w k j n = elim (removed_or_at ks i k j) [
   | inr z ↦ absurd (n (ap (λ (x : ChunkValue). x.cells) z ∙ w.1.1))
 ]
 
-pub within_of : (ks : List ChunkValue) (o : Option ℕ) → IsReserved ks o → Within ks o
-within_of ks None w = tt
-within_of ks (Some i) w = w.0
-
-pub none_of : (ks : List ChunkValue) (o : Option ℕ) → IsReserved ks o → NoneThere ks o
-none_of ks None w = tt
-none_of ks (Some i) w = w.1.1
-
 module _ (h : LeafHeapValue) (from : List (Option Addr)) (ss : List Survivor) (news : List ChunkValue) (s : AreSurvivors h.chunks from ss) (t : CanTake h.chunks news)
     (settled : IsSettled h.chunks) (reserved : IsReserved h.chunks h.reserved) where
   tidy : AreTidy h.chunks
@@ -250,7 +242,7 @@ module _ (h : LeafHeapValue) (from : List (Option Addr)) (ss : List Survivor) (n
             let full : k.cells ≡ [] → ⊥ = λ e. let n = ap (λ (cs : List Cell). length cs) e in absurd (omega arith) in
             let stays = in_kept (keeps ss) (unreserved h.chunks h.reserved) k (unreserved_in h.chunks h.reserved reserved k j full) kept in
             let out = λ (z : In (numbers (laid_of h ss (reverse news))) a.chunk). laid_apart a.chunk z (object_number h.chunks a (laws.born_object h.chunks a live)) in
-            naming.goal_kept h.chunks ss f h.reserved (laid_of h ss (reverse news)) tidy once_h (once_from (olds ss) s.once) s.names laid_apart laid_once (within_of h.chunks h.reserved reserved) (none_of h.chunks h.reserved reserved) a out k stays q
+            naming.goal_kept h.chunks ss f h.reserved (laid_of h ss (reverse news)) tidy once_h (once_from (olds ss) s.once) s.names laid_apart laid_once (within_at h.chunks h.reserved reserved) (none_at h.chunks h.reserved reserved) a out k stays q
             ∙ (led_cell_at f k.cells a.offset ∙ ap (led_cell f) (sym there))
           where
             at_first : (k : ChunkValue) → k.number ≡ a.chunk → k.cells ≡ cell_at k.cells 0 ∷ [] → IsBorn (cell_at k.cells a.offset).mark → (o : ℕ) → o ≡ a.offset → a ≡ first_of k

@@ -25,9 +25,9 @@ use Rattle.address_laws.proofs.Extent as extent
 use Rattle.address_laws.proofs.Numbers.{Distinct, numbers}
 use Rattle.address_laws.proofs.Numbers as nums
 use Rattle.leaf_copy_gc.proofs.NewNumbers as new_numbers
+use Rattle.leaf_copy_gc.proofs.NewNumbers.{within_at}
 use Rattle.leaf_copy_gc.proofs.Naming.{in_unreserved}
 use Rattle.collected_heap_laws.proofs.Reading as reading
-use Rattle.collected_heap_laws.proofs.Reading.{within_of}
 use Rattle.inner_mark_gc.specs.Swept.{units_kept}
 use Rattle.core_relation.specs.Memory.{In}
 use Rattle.core_relation.proofs.objects.Members.{map_in}
@@ -123,7 +123,7 @@ module _ (h : LeafHeapValue) (from : List (Option Addr)) (ss : List Survivor) (n
       subst (In (numbers h.chunks)) (ap (λ (z : ChunkValue). z.number) x.2 ∙ d.1.1) (extent.number_there h.chunks x.0 (in_unreserved h.chunks h.reserved x.0 k.0))
 
   within : new_numbers.Within h.chunks h.reserved
-  within = within_of h.chunks h.reserved (naming.reserved h from ss news S T m a O)
+  within = within_at h.chunks h.reserved (naming.reserved h from ss news S T m a O)
 
   laid_same : numbers L ≡ numbers y.laid
   laid_same = reading.laid_numbers h from ss news S T (naming.settled h from ss news S T m a O) (naming.reserved h from ss news S T m a O)

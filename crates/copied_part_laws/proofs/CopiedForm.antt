@@ -26,11 +26,10 @@ use Rattle.leaf_copy_gc.specs.Redirected.{led_cell, led_chunk}
 use Rattle.leaf_copy_gc.specs.Exchanged.{reserved_of, unreserved}
 use Rattle.leaf_copy_gc.specs.Collected.{AreSurvivors, collected, keeps, large_of, laid_of, laying_of}
 use Rattle.leaf_copy_gc.specs.Laws.{CanTake}
-use Rattle.leaf_copy_gc.proofs.NewNumbers.{new_reverse}
+use Rattle.leaf_copy_gc.proofs.NewNumbers.{new_reverse, within_at}
 use Rattle.collected_heap_laws.proofs.Reading as reading
 use Rattle.leaf_copy_gc.proofs.Tidied.{all_tidy}
 use Rattle.leaf_copy_gc.proofs.Packing.{used_led}
-use Rattle.collected_heap_laws.proofs.Reading.{within_of}
 use Rattle.core_relation.specs.Memory.{Chunk, In, objects_in}
 use Rattle.core_relation.specs.Layout.{AreLaidOut, HoldsLarge, has_none, reserved_chunks, reserved_units, words}
 use Rattle.core_relation.proofs.objects.Members.{in_map, map_in}
@@ -256,7 +255,7 @@ module _ (h : LeafHeapValue) (from : List (Option Addr)) (ss : List Survivor) (n
       reserved = reserved_behind h.chunks L K h.reserved O.form.shaped.reserved;
     };
     near = near_each;
-    tidy = all_tidy g h.chunks ss news h.reserved O.form.tidy T.new (within_of h.chunks h.reserved O.form.shaped.reserved) L refl;
+    tidy = all_tidy g h.chunks ss news h.reserved O.form.tidy T.new (within_at h.chunks h.reserved O.form.shaped.reserved) L refl;
     within = all_from (λ k. words_in k.cells ≤ k.size) (L ++ (K ++ R)) within_each;
     last = last_small L (K ++ R) (λ k i. (part k i).big);
     last_large = last_behind h.chunks L K h.reserved;

@@ -27,14 +27,13 @@ use Rattle.leaf_copy_gc.specs.Laid.{Laying, before, smalls}
 use Rattle.leaf_copy_gc.specs.Exchanged.{emptied, reserved_of, unreserved}
 use Rattle.leaf_copy_gc.specs.Collected.{AreSurvivors, back_of, keeps, large_of, laid_of, laying_of, leaves}
 use Rattle.leaf_copy_gc.specs.Laws.{CanTake}
-use Rattle.leaf_copy_gc.proofs.NewNumbers.{new_reverse}
+use Rattle.leaf_copy_gc.proofs.NewNumbers.{new_reverse, within_at}
 use Rattle.address_laws.proofs.Numbers.{numbers, removed_at}
 use Rattle.leaf_copy_gc.proofs.NewNumbers as new_numbers
 use Rattle.address_laws.proofs.Extent as extent
 use Rattle.leaf_copy_gc.proofs.Tidied.{all_tidy}
 use Rattle.leaf_copy_gc.proofs.Naming.{in_unreserved}
 use Rattle.collected_heap_laws.proofs.Reading as reading
-use Rattle.collected_heap_laws.proofs.Reading.{within_of}
 use Rattle.core_relation.specs.Memory.{In, object_name, objects_in}
 use Rattle.core_relation.specs.Layout.{words}
 use Rattle.core_relation.proofs.objects.Members.{in_map, in_objects, map_in}
@@ -90,7 +89,7 @@ module _ (h : LeafHeapValue) (from : List (Option Addr)) (ss : List Survivor) (n
   -- ---- THE WORDS LEFT
 
   tidy_now : AreTidy (L ++ (K ++ R))
-  tidy_now = all_tidy (forming.g h from ss news S T m a O) h.chunks ss news h.reserved O.form.tidy T.new (within_of h.chunks h.reserved O.form.shaped.reserved) L refl
+  tidy_now = all_tidy (forming.g h from ss news S T m a O) h.chunks ss news h.reserved O.form.tidy T.new (within_at h.chunks h.reserved O.form.shaped.reserved) L refl
 
   words_now : (o : Located) → In (objects_in (chunks_of (L ++ (K ++ R)))) o → words_at m (object_name o) ≡ words o
   words_now o i =

@@ -30,13 +30,13 @@ use Rattle.leaf_copy_gc.proofs.Moves as moves
 use Rattle.leaf_copy_gc.proofs.Naming as naming
 use Rattle.address_laws.proofs.Numbers as nums
 use Rattle.leaf_copy_gc.proofs.NewNumbers as new_numbers
+use Rattle.leaf_copy_gc.proofs.NewNumbers.{within_at}
 use Rattle.address_laws.proofs.Numbers.{numbers}
 use Rattle.leaf_copy_gc.proofs.Order.{first_in, firsts, in_first}
 use Rattle.collected_heap_laws.proofs.Reading as reading
 use Rattle.leaf_copy_gc.proofs.Rebuilt as rebuilt
-use Rattle.leaf_copy_gc.proofs.Rebuilt.{first_of}
+use Rattle.leaf_copy_gc.proofs.Rebuilt.{first_of, none_at}
 use Rattle.leaf_copy_gc.proofs.Naming.{in_unreserved}
-use Rattle.collected_heap_laws.proofs.Reading.{none_of, within_of}
 use Rattle.core_relation.specs.Memory.{In, copied_object, objects_in}
 use Rattle.core_relation.proofs.objects.Members.{in_objects, map_in}
 use Rattle.shared_value.specs.Objects.{chunk_of, chunks_of}
@@ -99,7 +99,7 @@ module _ (h : LeafHeapValue) (from : List (Option Addr)) (ss : List Survivor) (n
   laid_new n i = nums.in_reverse news n (subst (λ ns. In ns n) (reading.laid_parts h from ss news S T settled reserved) (in_append_left (numbers y.laid) (numbers y.spare) n (subst (λ ns. In ns n) (reading.laid_numbers h from ss news S T settled reserved) i)))
 
   pub apart_now : AreApart ks'
-  apart_now = nums.distinct_apart ks' (naming.goal_once h.chunks ss g h.reserved (laid_of h ss (reverse news)) settled.tidy (reading.once_h h from ss news S T settled reserved) (once_from (olds ss) S.once) S.names (reading.laid_apart h from ss news S T settled reserved) (reading.laid_once h from ss news S T settled reserved) (within_of h.chunks h.reserved reserved) (none_of h.chunks h.reserved reserved))
+  apart_now = nums.distinct_apart ks' (naming.goal_once h.chunks ss g h.reserved (laid_of h ss (reverse news)) settled.tidy (reading.once_h h from ss news S T settled reserved) (once_from (olds ss) S.once) S.names (reading.laid_apart h from ss news S T settled reserved) (reading.laid_once h from ss news S T settled reserved) (within_at h.chunks h.reserved reserved) (none_at h.chunks h.reserved reserved))
 
   -- ---- where survivors lead
 

@@ -2,6 +2,7 @@
 use Rattle.std.proofs.Common.{◌≡◌, ◌≢◌, ◌==◌, ℕ, zero, suc, ◌+◌, ◌-◌, ◌^◌, ◌<◌, ◌≤◌, Bool, true, false, cond, Option, Some, None, ◌⊎◌, inl, inr, refl, sym, ap, subst, ◌∙◌, arith, eqb-true, eq-eqb}
 use Rattle.std.proofs.lemmas.Bool.{cases_lt, false≢true}
 use Rattle.std.proofs.lemmas.Option.{same_Some}
+use Rattle.listed.proofs.Numbers.{below_next}
 use Rattle.far_links.specs.Walk.{ancestor}
 use Rattle.far_links.specs.Links.{AreLinked, HasRank, HasOneMore, IsNewLink, span, next_far}
 use Rattle.far_links.specs.Laws.{LinksGoOn}
@@ -12,7 +13,7 @@ module _ (n : ℕ) (par par' : ℕ → Option ℕ) (dep dep' jmp jmp' : ℕ → 
     (same_par : (u : ℕ) → u < n → par' u ≡ par u) (same_dep : (u : ℕ) → u < n → dep' u ≡ dep u) (same_jmp : (u : ℕ) → u < n → jmp' u ≡ jmp u)
     (none_past : (u : ℕ) → n < u → par' u ≡ None) where
   split : (u : ℕ) → u < suc n → (u < n) ⊎ (u ≡ n)
-  split u lt = elim (cases_lt u n) [ inl l ↦ inl l | inr g ↦ inr (omega arith) ]
+  split u lt = below_next u n (omega (arith, lt))
 
   same_up : (k u : ℕ) → u < n → ancestor par' k u ≡ ancestor par k u
   same_up = same_ancestor n par par' links.low same_par

@@ -20,7 +20,7 @@ use Rattle.run_ledger.specs.Sound.{SoundLedger}
 use Rattle.run_ledger.proofs.Machine.{machine_is_run}
 use Rattle.run_ledger.proofs.Journals.{legal_sound}
 use Rattle.alloc_path.specs.LeafHeapValue.{counted}
-use Rattle.heap_tree.specs.Node.{Node, parent_of, state_of as state_in}
+use Rattle.heap_tree.specs.Node.{Node, state_of as state_in}
 use Rattle.core_relation.specs.Whole.{StandsFor, state_by, as_node}
 use Rattle.shared_value.specs.Causes.{or_else}
 use Rattle.shared_value.specs.Entered.{Enters}
@@ -28,7 +28,7 @@ use Rattle.shared_value.specs.Stands.{IsSharedValue}
 use Rattle.shared_value.specs.SharedValue.{SharedValue, accounts, marks_at, noted_in, tree_counts_of, value_of}
 use Rattle.shared_value.proofs.JournalGoesOn.{accounts_then}
 use Rattle.shared_value.proofs.BeforeTheEnd.{stands_now}
-use Rattle.shared_value.proofs.TaskTaken.{same_parent}
+use Rattle.shared_value.proofs.TaskTaken.{parent_is}
 use Rattle.heap_marking.specs.declared.pace.Fork.{Fork}
 use Rattle.heap_marking.specs.MarkCauses.{is_state_waiting, marking_cause, waiting_cause}
 use Rattle.heap_marking.specs.Pace.{IsForkIn, IsForkOf, KeepsPace, PacesStay, is_going, is_live_child, is_state_joined, is_to_begin}
@@ -75,9 +75,6 @@ module _ (w : SharedValue) (I : IsSharedValue w) (on : (accounts w).end ≡ None
 
   pub joined_is : (t : ℕ) → is_state_joined (state_in w.tree t) ≡ joined l.machine.tasks t
   joined_is t = joined_by (slice_get w.tree t) (slice_get l.machine.tasks t) (heap_of l t).worker (S.tree_counts.node t)
-
-  pub parent_is : (t : ℕ) → parent_of w.tree t ≡ parents l.machine.tasks t
-  parent_is t = same_parent (slice_get w.tree t) (slice_get l.machine.tasks t) (heap_of l t).worker (S.tree_counts.node t)
 
   pub waiting_is : (t : ℕ) → is_state_waiting (state_in w.tree t) ≡ is_waiting (slice_get l.machine.tasks t)
   waiting_is t = waits_by (slice_get w.tree t) (slice_get l.machine.tasks t) (heap_of l t).worker (S.tree_counts.node t)
@@ -154,7 +151,7 @@ module _ (w : SharedValue) (I : IsSharedValue w) (on : (accounts w).end ≡ None
 
   -- THE FORK on which a task waits
   child_is : (t c : ℕ) → is_live_child w.tree t c ≡ lives_below l.machine.tasks t c
-  child_is t c = ap₂ (λ o j. option_is o t && not j) (parent_is c) (joined_is c)
+  child_is t c = ap₂ (λ o j. option_is o t && not j) (parent_is w I c) (joined_is c)
 
   known : SoundLedger l
   known = legal_sound w.program w.settings w.journal.items I.legal

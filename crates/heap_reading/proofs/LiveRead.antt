@@ -1,7 +1,7 @@
 -- The tasks that haven't joined, and the chunks in use, one after another.
-use Rattle.std.proofs.Common.{◌≡◌, ℕ, ◌+◌, ◌<◌, ◌*◌, ◌⊎◌, arith, List, [], ◌∷◌, ◌++◌, slice_get, inl, inr, ap, sym, subst, ◌∙◌}
-use Rattle.std.proofs.lemmas.Bool.{cases_lt}
+use Rattle.std.proofs.Common.{◌≡◌, ℕ, ◌+◌, ◌<◌, ◌*◌, arith, List, [], ◌∷◌, ◌++◌, slice_get, inl, inr, ap, sym, subst, ◌∙◌}
 use Rattle.std.proofs.lemmas.Option.{same_Some}
+use Rattle.listed.proofs.Numbers.{below_next}
 use Rattle.hh_model.specs.Step.{owner_of}
 use Rattle.chunk_pool.specs.declared.pool.Slot.{Slot}
 use Rattle.chunk_pool.specs.PoolValue.{slot_at}
@@ -11,10 +11,6 @@ use Rattle.heap_reading.specs.declared.live.InUse.{InUse}
 use Rattle.heap_reading.specs.declared.live.Live.{Live}
 use Rattle.heap_reading.specs.Image.{AreAll, IsInUse, IsLiveIn}
 use Rattle.heap_reading.proofs.InOrder.{all_more, all_none, all_same}
-
--- one below the next number is one below this one, or this one
-below_next : (n k : ℕ) → n < k + 1 → (n < k) ⊎ (n ≡ k)
-below_next n k lt = elim (cases_lt n k) [ inl a ↦ inl a | inr a ↦ inr (let e : n ≡ k = omega (arith, a, lt) in e) ]
 
 module _ {A : Type 0} (number : A → ℕ) (Is : A → Type 0) (once : (x y : A) → Is x → Is y → number x ≡ number y → x ≡ y) where
   abbrev Below : ℕ → A → Type 0

@@ -7,7 +7,7 @@ use Rattle.hh_model.specs.declared.data.Status.{Status}
 use Rattle.hh_model.specs.declared.data.Status.TheVariants.{Running, Waiting, Ended, Joined}
 use Rattle.hh_model.specs.declared.data.Task.{Task}
 use Rattle.path_laws.specs.Paths.{AreOwners, IsWalkOfJoined}
-use Rattle.hh_model.specs.Step.{is_joined, is_over, joined, owner_of, parent_of as parents_in, parents}
+use Rattle.hh_model.specs.Step.{is_joined, is_over, joined, owner_of, parents}
 use Rattle.hh_model.specs.Tree.{TreeOf, joins_in, waiting}
 use Rattle.path_laws.proofs.PathLaws.{owners_are_walks}
 use Rattle.run_ledger.specs.declared.data.Ledger.{Ledger}
@@ -16,7 +16,7 @@ use Rattle.run_ledger.specs.Sound.{SoundLedger}
 use Rattle.run_ledger.proofs.Journals.{legal_sound}
 use Rattle.heap_tree.specs.declared.state.State.{State}
 use Rattle.heap_tree.specs.declared.state.State.TheVariants.{Ready, Out, Waiting as Waits, Ended as HasEnded, Joined as HasJoined}
-use Rattle.heap_tree.specs.Node.{Node, parent_in, parent_of}
+use Rattle.heap_tree.specs.Node.{Node}
 use Rattle.core_relation.specs.Whole.{handed, state_by, as_node}
 use Rattle.shared_value.specs.SharedValue.{SharedValue, accounts}
 use Rattle.shared_value.specs.Stands.{IsSharedValue}
@@ -116,11 +116,6 @@ module _ (w : SharedValue) (I : IsSharedValue w) where
       let k = task_of t n e in
       ap is_joined k.1 ∙ (sym (by_status k.0.status (worker t)) ∙ (ap has_joined (sym k.2.state) ∙ live_state n.state j))
 
-  pub parent_now : (t : ℕ) (n : Node) → slice_get w.tree t ≡ Some n → parents l.machine.tasks t ≡ n.parent
-  parent_now t n e =
-      let k = task_of t n e in
-      ap parents_in k.1 ∙ sym k.2.parent
-
   pub unmade_now : (t : ℕ) → slice_get w.tree t ≡ None → slice_get l.machine.tasks t ≡ None
   unmade_now t e = by (slice_get l.machine.tasks t) (sym (nodes t) ∙ e)
     where
@@ -153,10 +148,3 @@ module _ (w : SharedValue) (I : IsSharedValue w) where
       none_in None z = refl
       none_in (Some m) z = absurd cc
   told_live t (Some s) e off = let k = state_in (slice_get w.tree t) s e in live_now t k.0 k.1 (λ j. off (ap Some (sym k.2 ∙ j)))
-
-  pub told_parent : (t : ℕ) → parent_of w.tree t ≡ parents l.machine.tasks t
-  told_parent t = by (slice_get w.tree t) refl
-    where
-      by : (o : Option Node) → slice_get w.tree t ≡ o → parent_in o ≡ parents l.machine.tasks t
-      by None e = sym (ap parents_in (unmade_now t e))
-      by (Some n) e = sym (parent_now t n e)

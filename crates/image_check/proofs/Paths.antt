@@ -4,6 +4,7 @@ use Rattle.std.specs.Prelude.{Option, Some, None, ◌==◌, slice_get, nat_eq, i
 use Rattle.std.proofs.lemmas.Bool.{or_cases, or_left, or_right}
 use Rattle.std.proofs.lemmas.Option.{same_Some}
 use Rattle.listed.proofs.Members.{got_front, got_back, got_within}
+use Rattle.listed.proofs.Numbers.{below_next}
 use Rattle.image_check.specs.declared.line.Task.{Task}
 use Rattle.image_check.specs.declared.tasks.Relation.TheVariants.{Own, Above, Below, Apart}
 use Rattle.image_check.specs.Table.{found, has}
@@ -127,15 +128,12 @@ module _ (es : Tasks) (n : ℕ) (t : Task) where
     front : i < length es → slice_get es i ≡ Some e → Where i e
     last : i ≡ length es → (n, t) ≡ e → Where i e
 
-  two : (a b : ℕ) → a < b + 1 → (a < b) ⊎ (a ≡ b)
-  two a b lt = grind (arith, lt)
-
   where_by : (i : ℕ) (e : Entry) → slice_get task_more i ≡ Some e → (i < length es) ⊎ (i ≡ length es) → Where i e
   where_by i e got (inl lt) = front lt (sym (same_entry i lt) ∙ got)
   where_by i e got (inr at_end) = last at_end (let f : Some (n, t) ≡ Some e = sym last_entry ∙ ap (slice_get task_more) (sym at_end) ∙ got in cc)
 
   pub where_is : (i : ℕ) (e : Entry) → slice_get task_more i ≡ Some e → Where i e
-  where_is i e got = where_by i e got (let w : i < length task_more = got_within task_more i e got in let s : length task_more ≡ length es + 1 = length-append es ((n, t) ∷ []) in two i (length es) (omega (arith, w, s)))
+  where_is i e got = where_by i e got (let w : i < length task_more = got_within task_more i e got in let s : length task_more ≡ length es + 1 = length-append es ((n, t) ∷ []) in below_next i (length es) (omega (arith, w, s)))
 
   not_new : has es n ≡ false → (i : ℕ) (e : Entry) → slice_get es i ≡ Some e → e.0 ≡ n → ⊥
   not_new new i e got same = let x = there es i e got in let f : has es n ≡ true = ap (has es) (sym same) ∙ ap is_some x.1 in cc

@@ -16,9 +16,9 @@ use Rattle.leaf_copy_gc.specs.Collected.{IsLeftBehind, keeps, leaves, laying_of,
 use Rattle.address_laws.proofs.Numbers as nums
 use Rattle.leaf_copy_gc.proofs.NewNumbers as new_numbers
 use Rattle.address_laws.proofs.Numbers.{numbers, Distinct}
-use Rattle.leaf_copy_gc.proofs.NewNumbers.{Within}
+use Rattle.leaf_copy_gc.proofs.NewNumbers.{Within, within_at}
 use Rattle.leaf_copy_gc.proofs.Rebuilt as rebuilt
-use Rattle.leaf_copy_gc.proofs.Rebuilt.{marked_chunk, NoneThere}
+use Rattle.leaf_copy_gc.proofs.Rebuilt.{marked_chunk, NoneThere, none_at}
 use Rattle.leaf_copy_gc.proofs.Naming as naming
 use Rattle.leaf_copy_gc.proofs.Tidied as tidied
 
@@ -49,16 +49,15 @@ module _ (h g : List ChunkValue) (ss : List Survivor) (news : List ChunkValue) (
       let k = subst (λ (ns : List ℕ). In ns n) laid_parts (in_append_left (numbers (laying_of h ss (reverse news)).laid) (numbers (laying_of h ss (reverse news)).spare) n (subst (λ (ns : List ℕ). In ns n) laid_numbers i)) in
       nums.distinct_apart_parts (numbers h) (numbers news) all_once n j (nums.in_reverse news n k)
 
-  within_at : (o : Option ℕ) → IsReserved g o → Within h o
-  within_at None w = tt
-  within_at (Some i) w = let n = nums.alike_length h g left.alike in let l : i < length g = w.0 in omega arith
+  within_before : (o : Option ℕ) → Within g o → Within h o
+  within_before None w = tt
+  within_before (Some i) w = let n = nums.alike_length h g left.alike in let l : i < length g = w in omega arith
 
-  none_at : (o : Option ℕ) → IsReserved g o → NoneThere g o
-  none_at None w = tt
-  none_at (Some i) w = w.1.1
+  within : Within h r
+  within = within_before r (within_at g r reserved)
 
   reserved_is : reserved_of g r ≡ reserved_of h r
-  reserved_is = rebuilt.reserved_same h g r left.alike (none_at r reserved)
+  reserved_is = rebuilt.reserved_same h g r left.alike (none_at g r reserved)
 
   none_before : (o : Option ℕ) → reserved_of g o ≡ reserved_of h o → NoneThere g o → NoneThere h o
   none_before None e n = tt
@@ -74,17 +73,17 @@ module _ (h g : List ChunkValue) (ss : List Survivor) (news : List ChunkValue) (
   pub go_is : map emptied (filter goes (unreserved g r)) ≡ map emptied (filter (leaves ss) (unreserved h r))
   go_is = rebuilt.go_same ss (redirection h ss (reverse news)) (unreserved h r) (unreserved g r) pairs
 
-  now_is : laid ++ (filter stays (unreserved g r) ++ reserved_of g r) ≡ naming.Now h ss (redirection h ss (reverse news)) r laid tidy once_h once names laid_apart laid_once (within_at r reserved) (none_before r reserved_is (none_at r reserved))
+  now_is : laid ++ (filter stays (unreserved g r) ++ reserved_of g r) ≡ naming.Now h ss (redirection h ss (reverse news)) r laid tidy once_h once names laid_apart laid_once within (none_before r reserved_is (none_at g r reserved))
   now_is = ap (λ (xs : List ChunkValue). laid ++ (xs ++ reserved_of g r)) stay_is ∙ ap (λ (xs : List ChunkValue). laid ++ (map (marked_chunk ss (redirection h ss (reverse news))) (filter (keeps ss) (unreserved h r)) ++ xs)) reserved_is
 
   pub now_apart : AreApart (laid ++ (filter stays (unreserved g r) ++ reserved_of g r))
-  now_apart = subst AreApart (sym now_is) (nums.distinct_apart _ (naming.now_once h ss (redirection h ss (reverse news)) r laid tidy once_h once names laid_apart laid_once (within_at r reserved) (none_before r reserved_is (none_at r reserved))))
+  now_apart = subst AreApart (sym now_is) (nums.distinct_apart _ (naming.now_once h ss (redirection h ss (reverse news)) r laid tidy once_h once names laid_apart laid_once within (none_before r reserved_is (none_at g r reserved))))
 
   pub can_name : CanName (laid ++ (filter stays (unreserved g r) ++ reserved_of g r)) ss
-  can_name = subst (λ (ks : List ChunkValue). CanName ks ss) (sym now_is) (naming.ready h ss (redirection h ss (reverse news)) r laid tidy once_h once names laid_apart laid_once (within_at r reserved) (none_before r reserved_is (none_at r reserved)))
+  can_name = subst (λ (ks : List ChunkValue). CanName ks ss) (sym now_is) (naming.ready h ss (redirection h ss (reverse news)) r laid tidy once_h once names laid_apart laid_once within (none_before r reserved_is (none_at g r reserved)))
 
   pub named_is : fold named (laid ++ (filter stays (unreserved g r) ++ reserved_of g r)) ss ≡ laid ++ (map (led_chunk (redirection h ss (reverse news))) (filter (keeps ss) (unreserved h r)) ++ reserved_of h r)
-  named_is = ap (λ (ks : List ChunkValue). fold named ks ss) now_is ∙ naming.same h ss (redirection h ss (reverse news)) r laid tidy once_h once names laid_apart laid_once (within_at r reserved) (none_before r reserved_is (none_at r reserved))
+  named_is = ap (λ (ks : List ChunkValue). fold named ks ss) now_is ∙ naming.same h ss (redirection h ss (reverse news)) r laid tidy once_h once names laid_apart laid_once within (none_before r reserved_is (none_at g r reserved))
 
   pub small_last : IsCurrent laid (last_place laid)
   small_last = new_numbers.current_last laid (subst new_numbers.AreSmall (sym is) (new_numbers.small_of_map (led_chunk (redirection h ss (reverse news))) (λ k. refl) (laying_of h ss (reverse news)).laid (new_numbers.laid_small (before (reverse news)) h (smalls h (olds ss)) tt (new_numbers.new_reverse news new))))
@@ -102,8 +101,8 @@ module _ (h g : List ChunkValue) (ss : List Survivor) (news : List ChunkValue) (
 
   pub settled : IsSettled (laid ++ (map (led_chunk (redirection h ss (reverse news))) (filter (keeps ss) (unreserved h r)) ++ reserved_of h r))
   settled = record {
-    tidy = tidied.all_tidy (redirection h ss (reverse news)) h ss news r tidy new (within_at r reserved) laid is;
-    apart = nums.distinct_apart _ (naming.goal_once h ss (redirection h ss (reverse news)) r laid tidy once_h once names laid_apart laid_once (within_at r reserved) (none_before r reserved_is (none_at r reserved)));
+    tidy = tidied.all_tidy (redirection h ss (reverse news)) h ss news r tidy new within laid is;
+    apart = nums.distinct_apart _ (naming.goal_once h ss (redirection h ss (reverse news)) r laid tidy once_h once names laid_apart laid_once within (none_before r reserved_is (none_at g r reserved)));
   }
 
   pub settled_now : (E M N : LeafHeapValue) → E.chunks ≡ laid ++ (filter stays (unreserved g r) ++ reserved_of g r) → M ≡ with_chunks E (fold named E.chunks ss) → N ≡ record M { since = 0 } → IsSettled N.chunks

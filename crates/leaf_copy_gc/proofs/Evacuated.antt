@@ -11,6 +11,7 @@ use Rattle.object_layout.specs.Cell.{Cell, Moved, IsObject, size_of, with_mark}
 use Rattle.object_layout.specs.ChunkValue.{ChunkValue}
 use Rattle.object_layout.specs.Chunks.{cell_of}
 use Rattle.object_layout.specs.Graph.{IsClosed, IsSound}
+use Rattle.object_layout.proofs.ChunkLaws.{addr_cases}
 use Rattle.object_layout.proofs.Distinct.{Once}
 use Rattle.remembered_set.specs.Moved.{same_address}
 use Rattle.listed.proofs.Members.{In, in_from_contains, contains_from_in}
@@ -23,7 +24,6 @@ use Rattle.leaf_copy_gc.specs.Copying.{copied, copied_one}
 use Rattle.leaf_copy_gc.specs.Redirected.{followed_ref, followed_large, redirected, led_cell}
 use Rattle.address_laws.specs.Alike.{AreAlike}
 use Rattle.leaf_copy_gc.specs.Collected.{IsLeftBehind}
-use Rattle.address_laws.proofs.Puts as puts
 use Rattle.leaf_copy_gc.proofs.Moves as moves
 use Rattle.leaf_copy_gc.proofs.Larges as larges
 use Rattle.leaf_copy_gc.proofs.Leading as leading
@@ -114,7 +114,7 @@ count_once : (xs : List Addr) → Once xs → (a : Addr) → count a xs ≤ 1
 unfolding count
 count_once [] o a = omega arith
 count_once (x ∷ xs) o a =
-    elim (puts.same_or_other x a) [
+    elim (addr_cases x a) [
       | inl e ↦
           let none = count_none xs a (λ i. o.0 (contains_from_in xs x (subst (In xs) (sym e) i))) in
           rw (moves.addr_itself x a e) (omega arith)

@@ -8,7 +8,7 @@ use Rattle.object_layout.specs.Chunks.{cell_of, place_in, place_of}
 use Rattle.object_layout.specs.Graph.{HasObjectAt, IsSound}
 use Rattle.object_layout.proofs.ChunkLaws as laws
 use Rattle.listed.proofs.Members.{In}
-use Rattle.object_layout.proofs.ChunkLaws.{length-put, place_of-put}
+use Rattle.object_layout.proofs.ChunkLaws.{addr_cases, length-put, place_of-put}
 use Rattle.leaf_copy_gc.specs.CollectorValue.{CollectorValue}
 use Rattle.leaf_copy_gc.specs.Search.{found_in, all_found, birth_in, visited, visited_at, IsTarget}
 use Rattle.address_laws.proofs.Puts as puts
@@ -42,7 +42,7 @@ pub found_live : (h : List ChunkValue) (xs : List Addr) (a : Addr) → HasObject
 found_live h [] a l = (l, λ i. i)
 found_live h (x ∷ xs) a l =
     let r = found_live (found_in h x) xs a l in
-    elim (puts.same_or_other x a) [
+    elim (addr_cases x a) [
       | inl e ↦ absurd (found_same h a (subst (λ (y : Addr). HasObjectAt (found_in h y) a) e r.0))
       | inr n ↦ (subst (λ (c : Cell). IsBorn c.mark) (found_other h x a n) r.0, λ i. elim i [ inl e ↦ n e | inr j ↦ r.1 j ])
     ]

@@ -17,7 +17,6 @@ use Rattle.leaf_copy_gc.specs.Search.{IsTarget}
 use Rattle.leaf_copy_gc.specs.Laid.{is_small}
 use Rattle.leaf_copy_gc.specs.Redirected.{followed_ref, followed_at, followed_large, led_cell, HasTargets, CanFollow}
 use Rattle.address_laws.specs.Alike.{AreAlike}
-use Rattle.address_laws.proofs.Puts as puts
 use Rattle.leaf_copy_gc.proofs.FollowLemmas as follows
 
 -- ---- shape
@@ -101,7 +100,7 @@ pub larges_led : (g : List ChunkValue) (ss : List Survivor) (f : Option Addr →
     → (a : Addr) → In (olds ss) a → IsObject (cell_of g a).mark → is_small g a ≡ false → cell_of (fold followed_large g ss) a ≡ led_cell f (cell_of g a)
 larges_led g [] f o same a i ob l = absurd i
 larges_led g (s ∷ ss) f o same a i ob l =
-    elim (puts.same_or_other s.old a) [
+    elim (laws.addr_cases s.old a) [
       | inl e ↦
           let rest : In (olds ss) a → ⊥ = λ j. o.0 (contains_from_in (olds ss) s.old (subst (In (olds ss)) (sym e) j)) in
           larges_other (followed_large g s) ss a rest

@@ -14,7 +14,7 @@ use Rattle.object_layout.proofs.ChunkLaws as laws
 use Rattle.remembered_set.specs.Moved.{new_of, same_address}
 use Rattle.listed.proofs.Members.{In, contains_from_in, in_from_contains}
 use Rattle.listed.proofs.Places.{in_map}
-use Rattle.object_layout.proofs.ChunkLaws.{length-put, place_of-put}
+use Rattle.object_layout.proofs.ChunkLaws.{addr_cases, length-put, place_of-put}
 use Rattle.leaf_copy_gc.specs.declared.lists.Survivor.{Survivor}
 use Rattle.leaf_copy_gc.specs.Survivors.{olds, old_of}
 use Rattle.leaf_copy_gc.specs.Search.{all_found, found_in, IsTarget}
@@ -186,7 +186,7 @@ module _ (h : List ChunkValue) where
       moved_to (cell_of (fold copied_one k ss).heap.chunks a).mark ≡ Some (new_address (relocations k.laying h (olds ss)) a)
   copied_mark k [] once as' a i = absurd i
   copied_mark k (s ∷ ss) once as' a i =
-      elim (puts.same_or_other s.old a) [
+      elim (addr_cases s.old a) [
         | inl e ↦
             let c : Cell = with_mark (cell_of k.heap.chunks s.old) (Moved (laid_at k.laying (size_of (cell_of k.heap.chunks s.old)))) in
             let rest : In (olds ss) a → ⊥ = λ j. not_again s ss once (subst (In (olds ss)) (sym e) j) in
@@ -221,7 +221,7 @@ module _ (h : List ChunkValue) where
 
 marked_stays : (h : List ChunkValue) (x a : Addr) → (cell_of h a).mark ≡ Moved a → (cell_of (found_in h x) a).mark ≡ Moved a
 marked_stays h x a e =
-    elim (puts.same_or_other x a) [
+    elim (addr_cases x a) [
       | inl q ↦ subst (λ (y : Addr). (cell_of (found_in h y) a).mark ≡ Moved a) (sym q) (elim (puts.put_cases h a (with_mark (cell_of h a) (Moved a))) [
         | inl p ↦ ap (λ (c : Cell). c.mark) p
         | inr p ↦ ap (λ (c : Cell). c.mark) p.0 ∙ e
@@ -236,7 +236,7 @@ all_marked_stays h (x ∷ xs) a e = all_marked_stays (found_in h x) xs a (marked
 pub found_marked : (h : List ChunkValue) (xs : List Addr) (a : Addr) → In xs a → IsObject (cell_of h a).mark → (cell_of (all_found h xs) a).mark ≡ Moved a
 found_marked h [] a i o = absurd i
 found_marked h (x ∷ xs) a i o =
-    elim (puts.same_or_other x a) [
+    elim (addr_cases x a) [
       | inl e ↦ all_marked_stays (found_in h x) xs a (subst (λ (y : Addr). (cell_of (found_in h y) a).mark ≡ Moved a) (sym e) (ap (λ (c : Cell). c.mark) (laws.cell_of-put_same h a (with_mark (cell_of h a) (Moved a)) o)))
       | inr n ↦ found_marked (found_in h x) xs a (elim i [ inl e ↦ absurd (n e) | inr j ↦ j ]) (puts.mark_object h x (Moved x) tt a o)
     ]

@@ -5,7 +5,7 @@ use Rattle.object_layout.specs.declared.word.Addr.{Addr}
 use Rattle.object_layout.specs.Cell.{Cell, size_of}
 use Rattle.object_layout.specs.ChunkValue.{ChunkValue}
 use Rattle.object_layout.specs.Chunks.{chunk_at, cell_of}
-use Rattle.alloc_path.specs.LeafHeapValue.{IsCurrent}
+use Rattle.alloc_path.specs.LeafHeapValue.{IsCurrent, IsReserved}
 use Rattle.listed.proofs.Members.{In}
 use Rattle.leaf_copy_gc.specs.Laid.{Laying, AreNew, laid_all, laid_one, opened, open_next, placed, room_in}
 use Rattle.leaf_copy_gc.specs.Exchanged.{last_place, reserved_of, unreserved}
@@ -15,6 +15,10 @@ use Rattle.address_laws.proofs.Numbers.{numbers, Distinct, numbers_append, in_re
 abbrev pub Within : List ChunkValue → Option ℕ → Type 0
 Within ks None = Unit {0}
 Within ks (Some i) = i < length ks
+
+pub within_at : (ks : List ChunkValue) (o : Option ℕ) → IsReserved ks o → Within ks o
+within_at ks None w = tt
+within_at ks (Some i) w = w.0
 
 module _ (ks : List ChunkValue) (d : Distinct (numbers ks)) where
   pub in_unreserved : (r : Option ℕ) (n : ℕ) → In (numbers (unreserved ks r)) n → In (numbers ks) n

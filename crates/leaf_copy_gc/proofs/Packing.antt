@@ -40,7 +40,7 @@ used_placed (k ∷ (x ∷ ks)) c l = let ih = used_placed (x ∷ ks) c (omega ar
 
 held_placed : (ks : List ChunkValue) (c : Cell) → 0 < length ks → held_words (placed ks c) ≡ held_words ks + held_size c.mark (size_of c)
 held_placed [] c l = absurd (omega arith)
-held_placed (k ∷ []) c l = let e = heap.held_in-push k.cells c in omega arith
+held_placed (k ∷ []) c l = let e = heap.object_words_in-push k.cells c in omega arith
 held_placed (k ∷ (x ∷ ks)) c l = let ih = held_placed (x ∷ ks) c (omega arith) in omega arith
 
 sum_placed : (f : ℕ → ℕ) (ks : List ChunkValue) (c : Cell) → 0 < length ks → sum_of f (placed ks c) ≡ sum_of f ks + held_size c.mark (f (size_of c))

@@ -9,7 +9,7 @@ use Rattle.object_layout.specs.Cell.{Cell, Moved, moved_to, size_of, with_mark}
 use Rattle.object_layout.specs.ChunkValue.{ChunkValue}
 use Rattle.object_layout.specs.Place.{cell_at}
 use Rattle.object_layout.specs.Chunks.{cell_of, chunk_at}
-use Rattle.alloc_path.specs.LeafHeapValue.{AreTidy, IsTidy}
+use Rattle.alloc_path.specs.LeafHeapValue.{AreTidy, IsReserved, IsTidy}
 use Rattle.remembered_set.specs.Moved.{same_address}
 use Rattle.listed.proofs.Members.{In, contains_from_in, in_from_contains}
 use Rattle.leaf_copy_gc.specs.declared.lists.Survivor.{Survivor}
@@ -210,9 +210,14 @@ reserved_at (k ∷ ks) (l ∷ ls) zero a e =
     λ j. record { number = a.0.0 j; size = a.0.1 j; cells = (e ∙ sym none) j }
 reserved_at (k ∷ ks) (l ∷ ls) (suc i) a e = reserved_at ks ls i a.1 e
 
+-- the reserved chunk is empty
 abbrev pub NoneThere : List ChunkValue → Option ℕ → Type 0
 NoneThere g None = Unit {0}
 NoneThere g (Some i) = (chunk_at g i).cells ≡ []
+
+pub none_at : (ks : List ChunkValue) (o : Option ℕ) → IsReserved ks o → NoneThere ks o
+none_at ks None w = tt
+none_at ks (Some i) w = w.1.1
 
 pub reserved_same : (h g : List ChunkValue) (r : Option ℕ) → AreAlike h g → NoneThere g r → reserved_of g r ≡ reserved_of h r
 reserved_same h g None a e = refl

@@ -1,5 +1,5 @@
 -- So many chunks are enough.
-use Rattle.std.proofs.Common.{eqb, ◌≡◌, ℕ, zero, suc, ◌+◌, ◌-◌, ◌*◌, ◌<◌, ◌≤◌, true, List, [], ◌∷◌, ◌++◌, length, refl, sym, ap, ◌∙◌, subst, arith, inl, inr, ◌⊎◌}
+use Rattle.std.proofs.Common.{eqb, ◌≡◌, ℕ, zero, suc, ◌+◌, ◌-◌, ◌*◌, ◌<◌, ◌≤◌, true, List, [], ◌∷◌, ◌++◌, length, refl, sym, ap, ◌∙◌, subst, arith, inl, inr}
 use Rattle.std.specs.Prelude.{nat_le}
 use Rattle.std.proofs.lemmas.Bool.{cases_lt, cases_Bool, lt-ltb, le-ltb, le-leb, lt-leb}
 use Rattle.std.proofs.lemmas.List.{length_push}
@@ -12,6 +12,7 @@ use Rattle.object_layout.specs.Graph.{HasObjectAt}
 use Rattle.object_layout.proofs.Distinct.{Once}
 use Rattle.object_layout.proofs.PlaceLemmas as place
 use Rattle.listed.proofs.Members.{In, contains_from_in}
+use Rattle.chunk_sizes.proofs.Filled.{Filled, filled_more, filled_next}
 use Rattle.leaf_copy_gc.specs.Search.{found_in}
 use Rattle.leaf_copy_gc.specs.Laid.{Laying, room_in, placed, next_place, laid_one, open_next, HasRoom, HaveRoom, AreNew, is_small, small_size, small_in, small_words}
 use Rattle.leaf_copy_gc.proofs.FoundLemmas as marks
@@ -48,28 +49,15 @@ length_placed [] c = refl
 length_placed (k ∷ []) c = refl
 length_placed (k ∷ (l ∷ ks)) c = let ih = length_placed (l ∷ ks) c in omega arith
 
--- chunks are half full on average: of which u words lie in the last one
-abbrev pub Filled : ℕ → ℕ → ℕ → Type 0
-Filled chunks u total = (j : ℕ) × (((chunks ≡ 2 * j) × (1024 * j ≤ total)) ⊎ ((chunks ≡ 2 * j + 1) × (1024 * j + u ≤ total)))
-
 -- the last chunk has 1,024 words
 abbrev pub Whole : List ChunkValue → Type 0
 Whole ks = (0 < length ks → room_in ks + (next_place ks).offset ≡ 1024) × (length ks ≡ 0 → room_in ks ≡ 0)
 
-filled_more : (k u c t : ℕ) → 0 < k → Filled k u t → Filled k (u + c) (t + c)
-filled_more k u c t l f = (f.0, elim f.1 [ inl p ↦ inl (p.0, let q : 1024 * f.0 ≤ t = p.1 in omega arith) | inr p ↦ inr (p.0, let q : 1024 * f.0 + u ≤ t = p.1 in omega arith) ])
-
-filled_next : (k u c t : ℕ) → Filled k u t → (0 < k → 1024 < u + c) → Filled (k + 1) c (t + c)
-filled_next k u c t f over = elim f.1 [
-  | inl p ↦ (f.0, inr (let a : k ≡ 2 * f.0 = p.0 in omega arith, let q : 1024 * f.0 ≤ t = p.1 in omega arith))
-  | inr p ↦ (f.0 + 1, inl (let a : k ≡ 2 * f.0 + 1 = p.0 in omega arith, let a : k ≡ 2 * f.0 + 1 = p.0 in let q : 1024 * f.0 + u ≤ t = p.1 in let o = over (omega arith) in omega arith))
-]
-
 -- a chunk is left where one more is wanted
 some_left : (k u c t n s : ℕ) → Filled k u t → (0 < k → 1024 < u + c) → 0 < c → t + c ≤ 1024 * n → 2 * n ≤ k + s + 1 → 0 < s
 some_left k u c t n s f over pos most enough = elim f.1 [
-  | inl p ↦ let a : k ≡ 2 * f.0 = p.0 in let q : 1024 * f.0 ≤ t = p.1 in omega arith
-  | inr p ↦ let a : k ≡ 2 * f.0 + 1 = p.0 in let q : 1024 * f.0 + u ≤ t = p.1 in let o = over (omega arith) in omega arith
+  | inl p ↦ let a : k ≡ 2 * f.0 = p.0 in let q : 1025 * f.0 ≤ t = p.1 in omega arith
+  | inr p ↦ let a : k ≡ 2 * f.0 + 1 = p.0 in let q : 1025 * f.0 + u ≤ t = p.1 in let o = over (omega arith) in omega arith
 ]
 
 module _ (h : List ChunkValue) (n : ℕ) where
@@ -94,7 +82,7 @@ module _ (h : List ChunkValue) (n : ℕ) where
         record {
           whole = ((λ _. omega arith), (λ z. absurd (omega arith)));
           fresh = g.fresh;
-          filled = rw (len, p) (filled_more (length y.laid) (next_place y.laid).offset (size_of c) t some g.filled);
+          filled = rw (len, p) (filled_more (length y.laid) (next_place y.laid).offset (size_of c) t g.filled);
           most = omega arith;
           enough = omega arith;
         },

@@ -2,7 +2,7 @@
 -- or a push.
 use Rattle.std.proofs.Common.{◌≡◌, ℕ, zero, suc, ◌<◌, ◌≤◌, true, false, List, [], ◌∷◌, ◌++◌, length, length-set, get_or, set, refl, sym, ap, ◌∙◌, arith, ⊎_elim, inl, inr, ◌⊎◌, eqb, one-add}
 use Rattle.std.specs.Prelude.{◌≢◌, Option, Some, None, slice_set}
-use Rattle.std.proofs.lemmas.Bool.{cases_Bool, cases_lt, eqb-true, le-ltb, lt-ltb}
+use Rattle.std.proofs.lemmas.Bool.{cases_Bool, cases_eq, cases_lt, eqb-true, le-ltb, lt-ltb}
 use Rattle.std.proofs.lemmas.List.{get_or-set_same}
 use Rattle.object_layout.specs.declared.word.Addr.{Addr}
 use Rattle.object_layout.specs.Cell.{Cell, Mark, Born, Moved, Hole, IsBorn, IsObject, as_object, no_cell, with_ref, size_of}
@@ -110,6 +110,16 @@ same_addr x y e f =
     let one : x ≡ record { chunk = y.chunk; offset = x.offset } = ap (λ (n : ℕ). let r : Addr = record { chunk = n; offset = x.offset } in r) e in
     let two : record { chunk = y.chunk; offset = x.offset } ≡ y = ap (λ (n : ℕ). let r : Addr = record { chunk = y.chunk; offset = n } in r) f in
     one ∙ two
+
+-- two addresses are one, or not
+pub addr_cases : (a b : Addr) → (a ≡ b) ⊎ (a ≢ b)
+addr_cases a b = elim (cases_eq a.chunk b.chunk) [
+  | inl e ↦ elim (cases_eq a.offset b.offset) [
+    | inl f ↦ inl (same_addr a b e f)
+    | inr n ↦ inr (λ h. n (ap (λ (x : Addr). x.offset) h))
+  ]
+  | inr n ↦ inr (λ h. n (ap (λ (x : Addr). x.chunk) h))
+]
 
 -- other addresses stay, where the cell put there is as large as the old one
 pub cell_of-put_other : (ks : List ChunkValue) (a b : Addr) (c : Cell) → size_of c ≡ size_of (cell_of ks a) → b ≢ a →

@@ -11,7 +11,7 @@ use Rattle.heap_tree.specs.Node.{Node, parent_of as tree_parent, is_on_path as t
 use Rattle.shared_value.specs.SharedValue.{SharedValue, accounts}
 use Rattle.shared_value.specs.Stands.{IsSharedValue}
 use Rattle.shared_value.proofs.BeforeTheEnd.{stands_now}
-use Rattle.shared_value.proofs.TaskTaken.{same_parent}
+use Rattle.shared_value.proofs.TaskTaken.{parent_is}
 use Rattle.core_relation.specs.Whole.{as_node}
 
 same_through : (f g : ℕ → Bool) → ((u : ℕ) → f u ≡ g u) → (o q : Option ℕ) → o ≡ q → through o false f ≡ through q false g
@@ -38,7 +38,7 @@ module _ (w : SharedValue) (I : IsSharedValue w) (on : (accounts w).end ≡ None
   same_node u = (stands_now w I on).tree_counts.node u
 
   pub paths_same : (a t : ℕ) → tree_path w.tree a t ≡ is_on_path l.machine.tasks a t
-  paths_same a t = same_by (tree_parent w.tree) (parents l.machine.tasks) (λ u. same_parent (slice_get w.tree u) (slice_get l.machine.tasks u) (heap_of l u).worker (same_node u)) t a t
+  paths_same a t = same_by (tree_parent w.tree) (parents l.machine.tasks) (parent_is w I) t a t
 
   -- a task that was made has its place in the tree
   pub made_there : (u : ℕ) → is_some (slice_get l.machine.tasks u) ≡ true → u < length w.tree

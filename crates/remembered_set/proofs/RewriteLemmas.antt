@@ -4,6 +4,7 @@ use Rattle.std.specs.Prelude.{◌≢◌, slice_set, unwrap_or}
 use Rattle.std.proofs.lemmas.Bool.{cases_Bool, false≢true, or_parts}
 use Rattle.std.proofs.lemmas.List.{get_or-set_same, get_or-set_other}
 use Rattle.object_layout.specs.declared.word.Addr.{Addr}
+use Rattle.object_layout.proofs.ChunkLaws.{addr_cases}
 use Rattle.remembered_set.specs.declared.remembered.Source.{Source}
 use Rattle.remembered_set.specs.Sources.{has_source, same_source, StandOnce}
 use Rattle.remembered_set.specs.Moved.{target_of, led_by, new_of, new_reference, redirected, written, AreFields}
@@ -39,7 +40,7 @@ module _ {S : Type 0} (refs_at : S → Addr → List (Option Addr)) (with_ref_at
   -- any other stays
   miss : (w : S) (s : Source) (o : Option Addr) (a : Addr) (i : ℕ) → (a ≡ s.object → i ≡ s.field → ⊥) → field (written refs_at with_ref_at w s o) a i ≡ field w a i
   miss w s None a i ne = refl
-  miss w s (Some b) a i ne = elim (sources.addr_cases s.object a) [
+  miss w s (Some b) a i ne = elim (addr_cases a s.object) [
     | inl e ↦
         subst (λ (x : Addr). field (with_ref_at w s.object s.field (Some b)) x i ≡ field w x i) (sym e)
         (ap (λ (xs : List (Option Addr)). get_or xs i None) (same w s.object s.field (Some b)) ∙ get_or-set_other (refs_at w s.object) s.field i (Some b) None (λ q. ne e q))

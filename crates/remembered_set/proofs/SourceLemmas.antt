@@ -1,24 +1,10 @@
 -- Fields that are read and written through whoever holds heaps.
-use Rattle.std.proofs.Common.{◌≡◌, ℕ, Bool, List, [], ◌∷◌, length, refl, ap, ◌∙◌, ⊎_elim, inl, inr, ◌⊎◌, Option, Some, None, length-set}
+use Rattle.std.proofs.Common.{◌≡◌, ℕ, Bool, List, [], ◌∷◌, length, refl, ap, ◌∙◌, ⊎_elim, Option, Some, None, length-set}
 use Rattle.std.specs.Prelude.{◌≢◌, slice_set}
-use Rattle.std.proofs.lemmas.Bool.{cases_eq}
 use Rattle.object_layout.specs.declared.word.Addr.{Addr}
+use Rattle.object_layout.proofs.ChunkLaws.{addr_cases}
 use Rattle.remembered_set.specs.declared.remembered.Source.{Source}
 use Rattle.remembered_set.specs.Moved.{into_by, redirected, written, AreFields}
-
-pub addr_cases : (a b : Addr) → (b ≡ a) ⊎ (b ≢ a)
-addr_cases a b =
-    ⊎_elim
-    (λ (e : b.chunk ≡ a.chunk).
-    ⊎_elim
-    (λ (f : b.offset ≡ a.offset).
-    let one : b ≡ record { chunk = a.chunk; offset = b.offset } = ap (λ (n : ℕ). let r : Addr = record { chunk = n; offset = b.offset } in r) e in
-    let two : record { chunk = a.chunk; offset = b.offset } ≡ a = ap (λ (n : ℕ). let r : Addr = record { chunk = a.chunk; offset = n } in r) f in
-    inl (one ∙ two))
-    (λ (ne : b.offset ≡ a.offset → ⊥). inr (λ h. ne (ap (λ (x : Addr). x.offset) h)))
-    (cases_eq b.offset a.offset))
-    (λ (ne : b.chunk ≡ a.chunk → ⊥). inr (λ h. ne (ap (λ (x : Addr). x.chunk) h)))
-    (cases_eq b.chunk a.chunk)
 
 module _ {S : Type 0} (refs_at : S → Addr → List (Option Addr)) (with_ref_at : S → Addr → ℕ → Option Addr → S)
     (same : (w : S) (a : Addr) (k : ℕ) (r : Option Addr) → refs_at (with_ref_at w a k r) a ≡ slice_set (refs_at w a) k r)
@@ -29,7 +15,7 @@ module _ {S : Type 0} (refs_at : S → Addr → List (Option Addr)) (with_ref_at
       ⊎_elim
       (λ (e : b ≡ a). rw e (ap (λ (xs : List (Option Addr)). length xs) (same w a k r) ∙ simp length-set))
       (λ (ne : b ≢ a). ap (λ (xs : List (Option Addr)). length xs) (other w a b k r ne))
-      (addr_cases a b)
+      (addr_cases b a)
 
   fields_with : (w : S) (a : Addr) (k : ℕ) (r : Option Addr) (xs : List Source) → AreFields refs_at w xs → AreFields refs_at (with_ref_at w a k r) xs
   fields_with w a k r [] h = h

@@ -3,28 +3,13 @@ use Rattle.std.proofs.Common.{◌≡◌, ℕ, suc, ◌+◌, ◌-◌, ◌*◌, �
 use Rattle.std.proofs.lemmas.Bool.{leb-false}
 use Rattle.std.proofs.lemmas.List.Sums.{sum_by-append, sum_by-cons}
 use Rattle.listed.proofs.Members.{In}
+use Rattle.chunk_sizes.proofs.Filled.{Filled, filled_more, filled_next}
 use Rattle.hh_model.specs.declared.data.Name.{Name}
 use Rattle.hh_model.specs.declared.data.State.{State}
 use Rattle.run_ledger.specs.declared.data.Heap.{Heap}
 use Rattle.run_ledger.specs.Heaps.{chunk_words, units, words_at, words_sum, small_in, lay, laid_onto, small_survivors, collected, take_of, without_empty, is_last_empty, room_behind}
 use Rattle.run_ledger.specs.Space.{last_words}
 use Rattle.run_ledger.proofs.Weights.{survivors_weight}
-
--- of so many lists with u words in the last one and so many in all, two neighbours have more than a chunk's words
-abbrev Filled : ℕ → ℕ → ℕ → Type 0
-Filled lists u words = (j : ℕ) × (((lists ≡ 2 * j) × (1025 * j ≤ words)) ⊎ ((lists ≡ 2 * j + 1) × (1025 * j + u ≤ words)))
-
-filled_more : (k u w t : ℕ) → 0 < k → Filled k u t → Filled k (u + w) (t + w)
-filled_more k u w t l (j, inl f) = (j, inl (f.0, let q : 1025 * j ≤ t = f.1 in omega arith))
-filled_more k u w t l (j, inr f) = (j, inr (f.0, let q : 1025 * j + u ≤ t = f.1 in omega arith))
-
-filled_next : (k u w t : ℕ) → Filled k u t → (0 < k → 1024 < u + w) → Filled (k + 1) w (t + w)
-filled_next k u w t (j, inl f) over = (j, inr (let a : k ≡ 2 * j = f.0 in omega arith, let q : 1025 * j ≤ t = f.1 in omega arith))
-filled_next k u w t (j, inr f) over =
-    let a : k ≡ 2 * j + 1 = f.0 in
-    let q : 1025 * j + u ≤ t = f.1 in
-    let o : 1024 < u + w = over (omega arith) in
-    (j + 1, inl (omega arith, omega arith))
 
 module _ (m : State) where
   abbrev Laid : List (List Name) → Name → List (List Name) → Type 0
@@ -56,7 +41,7 @@ module _ (m : State) where
   filled_lay : (lists lists' : List (List Name)) (n : Name) (t : ℕ) → FilledLists lists t → Laid lists n lists' → FilledLists lists' (t + words_at m n)
   filled_lay lists lists' n t F (inl h) =
       subst (λ k. Filled k (last_words m lists') (t + words_at m n)) (sym h.1)
-      (subst (λ u. Filled (length lists) u (t + words_at m n)) (sym h.2) (filled_more (length lists) (last_words m lists) (words_at m n) t h.0 F))
+      (subst (λ u. Filled (length lists) u (t + words_at m n)) (sym h.2) (filled_more (length lists) (last_words m lists) (words_at m n) t F))
   filled_lay lists lists' n t F (inr h) =
       subst (λ k. Filled k (last_words m lists') (t + words_at m n)) (sym h.0)
       (subst (λ u. Filled (length lists + 1) u (t + words_at m n)) (sym h.1) (filled_next (length lists) (last_words m lists) (words_at m n) t F h.2))

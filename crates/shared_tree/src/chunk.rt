@@ -71,9 +71,7 @@ impl Shared {
         if let Some(cause) = self.chunk_refused(worker, part) {
             return Err(NotEntered::Refuses(cause));
         }
-        match self.give_chunk(worker, part) {
-            Ok(()) => Ok(()),
-            Err(_) => Err(NotEntered::NoMemory),
-        }
+        self.give_chunk(worker, part)?;
+        Ok(())
     }
 }

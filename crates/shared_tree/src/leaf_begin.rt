@@ -82,9 +82,6 @@ impl Shared {
             return Err(NotEntered::Refuses(cause));
         }
         let task = part.task;
-        match self.enter_begin(worker, task, part) {
-            Ok(begun) => Ok(begun),
-            Err(_) => Err(NotEntered::NoMemory),
-        }
+        Ok(self.enter_begin(worker, task, part)?)
     }
 }

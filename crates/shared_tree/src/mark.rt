@@ -76,12 +76,8 @@ impl Shared {
         if let Some(cause) = self.mark_refused(worker, t) {
             return Err(NotEntered::Refuses(cause));
         }
-        let Ok(marking) = self.marking_of(t) else {
-            return Err(NotEntered::NoMemory);
-        };
-        match self.enter_mark(worker, t, marking) {
-            Ok(()) => Ok(()),
-            Err(_) => Err(NotEntered::NoMemory),
-        }
+        let marking = self.marking_of(t)?;
+        self.enter_mark(worker, t, marking)?;
+        Ok(())
     }
 }

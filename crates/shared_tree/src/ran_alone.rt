@@ -135,10 +135,10 @@ impl Shared {
         self.stands();
         let (ending, line) = self.next_ending(part);
         match ending {
-            Ending::Prints(value) => match self.enter_output(worker, part, value) {
-                Ok(()) => Ok(Some(Lent::Goes)),
-                Err(_) => Err(NotEntered::NoMemory),
-            },
+            Ending::Prints(value) => {
+                self.enter_output(worker, part, value)?;
+                Ok(Some(Lent::Goes))
+            }
             Ending::Traps(kind) => {
                 let end = End::Trapped(kind, part.task, line);
                 self.enter_halt(worker, part, end);

@@ -86,9 +86,7 @@ impl Shared {
         ensures back { OnErr result (part.new ≡ part.old) }
         ensures answered { IfOk result (LentTo self.old self.new worker part.old part.new) }
     {
-        match self.enter_store(worker, part, object, field, value, swap) {
-            Ok(()) => Ok(Lent::Goes),
-            Err(_) => Err(NotEntered::NoMemory),
-        }
+        self.enter_store(worker, part, object, field, value, swap)?;
+        Ok(Lent::Goes)
     }
 }

@@ -23,7 +23,6 @@ use Rattle.alloc_path.proofs.Counting.{writes_keep_counts}
 use Rattle.remembered_set.specs.declared.remembered.Source.{Source}
 use Rattle.remembered_set.specs.Moved.{target_of, new_reference, redirected, written}
 use Rattle.leaf_copy_gc.specs.Redirected.{new_address}
-use Rattle.address_laws.proofs.Puts.{same_or_other}
 use Rattle.core_relation.specs.Memory.{Chunk, In, mapped_chunk, mapped_home, objects_in, put_at, rewritten_home}
 use Rattle.core_relation.proofs.objects.Members.{in_chunk, map_in}
 use Rattle.core_relation.proofs.changes.Write.{at_is}
@@ -206,7 +205,7 @@ module _ (ms : List (Addr × Addr)) where
       size = ap (λ n. 2 + (n + length c.ints)) (length-set c.refs s.field x)
 
       mark_kept : (b : Addr) → (cell_of (put_object T.rest.heap.chunks s.object d) b).mark ≡ (cell_of T.rest.heap.chunks b).mark
-      mark_kept b = elim (same_or_other b s.object) [
+      mark_kept b = elim (laws.addr_cases b s.object) [
         | inl e ↦
             subst (λ z. (cell_of (put_object T.rest.heap.chunks s.object d) z).mark ≡ (cell_of T.rest.heap.chunks z).mark) (sym e)
             (ap (λ (z : Cell). z.mark) (laws.cell_of-put_same T.rest.heap.chunks s.object d (subst IsObject (sym T.born) tt)))

@@ -8,9 +8,10 @@ use Rattle.listed.proofs.Members.{got_same, got_other, got_within}
 use Rattle.listed.proofs.Places.{got_set}
 use Rattle.listed.proofs.Options.{none_is}
 use Rattle.hh_model.specs.declared.data.Name.{Name}
+use Rattle.hh_model.specs.declared.data.State.{State as MachineState}
 use Rattle.hh_model.specs.declared.data.Task.{Task}
 use Rattle.hh_model.specs.declared.data.Status.TheVariants.{Running}
-use Rattle.hh_model.specs.Step.{is_running, parent_of}
+use Rattle.hh_model.specs.Step.{is_running, parent_of, parents}
 use Rattle.hh_model.proofs.Steps.{runs_is}
 use Rattle.run_trace.specs.declared.entry.Kind.TheVariants.{Took}
 use Rattle.run_trace.specs.Entry.{EntryValue}
@@ -25,7 +26,7 @@ use Rattle.object_layout.specs.declared.word.Addr.{Addr}
 use Rattle.task_frames.specs.FramesValue.{FramesValue}
 use Rattle.heap_tree.specs.declared.state.State.{State}
 use Rattle.heap_tree.specs.declared.state.State.TheVariants.{Out}
-use Rattle.heap_tree.specs.Node.{Node, set_at, with_state, parent_in}
+use Rattle.heap_tree.specs.Node.{Node, set_at, with_state, parent_in, parent_of as parent_in_tree}
 use Rattle.ledger_step_laws.specs.Accounts.{Rests}
 use Rattle.core_relation.specs.Memory.{Home, Memory}
 use Rattle.core_relation.specs.Changes.{SameBut}
@@ -34,7 +35,7 @@ use Rattle.core_relation.specs.Reads.{TaskIsRead, HoldsRead}
 use Rattle.core_relation.specs.Stands.{Place}
 use Rattle.core_relation.specs.Fits.{part_for}
 use Rattle.core_relation.specs.Worker.{Fits as FitsValue}
-use Rattle.core_relation.specs.Whole.{StandsFor, as_node}
+use Rattle.core_relation.specs.Whole.{StandsFor, as_node, handed}
 use Rattle.core_entry_laws.proofs.whole.EntriesWhole.{took_stands_for}
 use Rattle.core_entry_laws.proofs.parts.TookFits.{took_fits_then}
 use Rattle.core_entry_laws.proofs.parts.WorkersPast.{took_leaves}
@@ -48,14 +49,21 @@ use Rattle.shared_value.specs.Stands.{HeapForm, IsSharedValue}
 use Rattle.shared_value.specs.Fits.{Fits, IsAtWork, OthersFit, home_of_part, part_of, taken_part}
 use Rattle.shared_value.specs.Entered.{refused}
 use Rattle.shared_value.proofs.EntryMade.{accounts_are, entered, entered_world, entry_on, held_when_out, part_fits, unheld_at_rest, unheld_before}
-use Rattle.shared_value.proofs.BeforeTheEnd.{task_out_now, stands_now}
+use Rattle.shared_value.proofs.BeforeTheEnd.{goes_by, task_out_now, stands_now}
 
 -- a task as its account says
-pub same_parent : (o : Option Node) (q : Option Task) (worker : Option ℕ) → o ≡ option_map (as_node worker) q → parent_in o ≡ parent_of q
+same_parent : (o : Option Node) (q : Option Task) (worker : Option ℕ) → o ≡ option_map (as_node worker) q → parent_in o ≡ parent_of q
 same_parent None None k e = refl
 same_parent None (Some x) k e = absurd cc
 same_parent (Some n) None k e = absurd cc
 same_parent (Some n) (Some x) k e = ap (λ (z : Node). z.parent) (same_Some n (as_node k x) e)
+
+-- the tree and the machine tell the same parent, whether or not the run has ended
+pub parent_is : (w : SharedValue) → IsSharedValue w → (t : ℕ) → parent_in_tree w.tree t ≡ parents (accounts w).machine.tasks t
+parent_is w I t =
+    let l : Ledger = accounts w in
+    same_parent (slice_get w.tree t) (slice_get (handed l).machine.tasks t) (heap_of (handed l) t).worker (I.stands.tree_counts.node t)
+    ∙ ap (λ (m : MachineState). parents m.tasks t) (goes_by l l.end).machine
 
 pub some_flat : {A : Type 0} (o : Option (Option A)) (x : A) → option_flatten o ≡ Some x → o ≡ Some (Some x)
 some_flat None x e = absurd cc

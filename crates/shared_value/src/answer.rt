@@ -1,6 +1,7 @@
 // Why a call made no entry.
 
 use run_ledger::Refused;
+use std::alloc::AllocError;
 use task_machine::Private;
 
 /// Why a call made no entry.
@@ -10,6 +11,17 @@ pub enum NotEntered {
     Refuses(Refused),
     /// It isn't refused, and there was no memory for what it takes.
     NoMemory,
+}
+
+impl From<AllocError> for NotEntered {
+    ghost use Rattle.std.specs.Prelude.{◌≡◌};
+    ghost use Rattle.shared_value.specs.declared.answer.NotEntered.TheVariants.{NoMemory};
+
+    ghost from_gives = { λ _ e. e ≡ NoMemory };
+
+    fn from(_: AllocError) -> NotEntered {
+        NotEntered::NoMemory
+    }
 }
 
 /// Why a part's steps weren't entered, and the part.

@@ -6,8 +6,9 @@ use Rattle.heap_tree.specs.declared.state.State.TheVariants.{Ready, Out, Waiting
 use Rattle.heap_tree.specs.Node.{Node, parent_of, state_of}
 use Rattle.shared_value.specs.Stands.{IsSharedValue}
 use Rattle.shared_value.specs.SharedValue.{SharedValue, accounts}
+use Rattle.shared_value.proofs.TaskTaken.{parent_is}
 use Rattle.heap_marking.specs.Pace.{is_state_joined}
-use Rattle.heap_reading.proofs.TreeNow.{owner_live, owner_up, told_joined, told_live, told_parent, tree_of}
+use Rattle.heap_reading.proofs.TreeNow.{owner_live, owner_up, told_joined, told_live, tree_of}
 use Rattle.tree_reading.proofs.tasks_and_chunks.owner_now.Goals as goal
 
 joined_state : (o : Option State) → is_state_joined o ≡ true → o ≡ Some Joined
@@ -28,7 +29,7 @@ goes_on w I t e = told_live w I t (state_of w.tree t) refl (λ j. false≢true (
 never_none : (w : SharedValue) → IsSharedValue w → (t : ℕ) → joined (accounts w).machine.tasks t ≡ true → parent_of w.tree t ≡ None → ⊥
 never_none w I t j none =
     let p = (tree_of w I).rooted t j in
-    let both = sym none ∙ (told_parent w I t ∙ p.1) in
+    let both = sym none ∙ (parent_is w I t ∙ p.1) in
     absurd cc
 
 pub unreachable-requires : goal.unreachable-requires
@@ -42,7 +43,7 @@ pub loop-tree-smaller : goal.loop-tree-smaller
 loop-tree-smaller c =
     let w : SharedValue = c.args.shared.now in
     let t : ℕ = c.loop-tree.owner in
-    let parent : parents (accounts w).machine.tasks t ≡ Some c.in-Some.parent = sym (told_parent w c.stands.ensures t) ∙ (ap (λ (ns : List Node). parent_of ns t) (sym c.tree-tree.ensures) ∙ (sym c.parent.ensures ∙ c.in-Some.is)) in
+    let parent : parents (accounts w).machine.tasks t ≡ Some c.in-Some.parent = sym (parent_is w c.stands.ensures t) ∙ (ap (λ (ns : List Node). parent_of ns t) (sym c.tree-tree.ensures) ∙ (sym c.parent.ensures ∙ c.in-Some.is)) in
     (tree_of w c.stands.ensures).low t c.in-Some.parent parent
 
 pub loop-tree-preserved : goal.loop-tree-preserved
@@ -50,7 +51,7 @@ loop-tree-preserved c =
     let w : SharedValue = c.args.shared.now in
     let t : ℕ = c.loop-tree.owner in
     let j : is_state_joined (state_of w.tree t) ≡ true = ap (λ (ns : List Node). is_state_joined (state_of ns t)) (sym c.tree-tree.ensures) ∙ (sym (ap is_state_joined c.state.ensures) ∙ (sym c.is_joined.ensures ∙ c.loop-tree-test.true)) in
-    let parent : parents (accounts w).machine.tasks t ≡ Some c.in-Some.parent = sym (told_parent w c.stands.ensures t) ∙ (ap (λ (ns : List Node). parent_of ns t) (sym c.tree-tree.ensures) ∙ (sym c.parent.ensures ∙ c.in-Some.is)) in
+    let parent : parents (accounts w).machine.tasks t ≡ Some c.in-Some.parent = sym (parent_is w c.stands.ensures t) ∙ (ap (λ (ns : List Node). parent_of ns t) (sym c.tree-tree.ensures) ∙ (sym c.parent.ensures ∙ c.in-Some.is)) in
     sym (owner_up w c.stands.ensures t c.in-Some.parent (has_joined w c.stands.ensures t j) parent) ∙ c.loop-tree.invariant
 
 pub returns : goal.returns

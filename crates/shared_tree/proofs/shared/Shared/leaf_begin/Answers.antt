@@ -1,27 +1,37 @@
-use Rattle.std.proofs.Common.{refl, sym, ◌∙◌}
+use Rattle.std.proofs.Common.{Result, refl, sym, ◌∙◌}
+use Rattle.std.specs.Prelude.{Vec}
+use Rattle.std.specs.declared.alloc.Global.{Global}
+use Rattle.object_layout.specs.declared.word.Addr.{Addr}
+use Rattle.leaf_copy_gc.specs.declared.lists.ToChunks.{ToChunks}
+use Rattle.shared_value.specs.declared.answer.NotEntered.{NotEntered}
+use Rattle.shared_tree.specs.Calls.{BeginsLeaf}
+use Rattle.shared_tree.proofs.HandedOn.{for_memory}
 use Rattle.shared_tree.proofs.shared.Shared.leaf_begin.Goals as goal
 
 pub returns-in-Some : goal.returns-in-Some
 returns-in-Some c = record { refused = sym c.leaf_begin_refused.ensures ∙ c.in-Some.is; same = refl; back = refl; begun = tt; enters = tt; fits = c.requires.fits; others = tt }
 
-pub returns-in-Ok : goal.returns-in-Ok
-returns-in-Ok c = record {
+pub returns : goal.returns
+returns c = record {
   refused = sym c.leaf_begin_refused.ensures ∙ c.in_default.is;
   same = tt;
   back = tt;
-  begun = c.in-Ok.ensures.begun;
-  enters = c.in-Ok.ensures.enters;
+  begun = c.in_ok-enter_begin.ensures.begun;
+  enters = c.in_ok-enter_begin.ensures.enters;
   fits = c.enter_begin.ensures.fits;
-  others = c.in-Ok.ensures.others;
+  others = c.in_ok-enter_begin.ensures.others;
 }
 
-pub returns-in-Err : goal.returns-in-Err
-returns-in-Err c = record {
-  refused = sym c.leaf_begin_refused.ensures ∙ c.in_default.is;
-  same = c.in-Err.ensures.same;
-  back = c.in-Err.ensures.back;
-  begun = tt;
-  enters = tt;
-  fits = c.enter_begin.ensures.fits;
-  others = tt;
-}
+pub returns-in_err-enter_begin : goal.returns-in_err-enter_begin
+returns-in_err-enter_begin c =
+    for_memory (λ (r : Result (Vec Addr Global × ToChunks) NotEntered). BeginsLeaf c.args.self.now c.enter_begin.new.self c.args.worker c.args.part.now c.enter_begin.new.part r)
+    (record {
+      refused = sym c.leaf_begin_refused.ensures ∙ c.in_default.is;
+      same = c.in_err-enter_begin.ensures.same;
+      back = c.in_err-enter_begin.ensures.back;
+      begun = tt;
+      enters = tt;
+      fits = c.enter_begin.ensures.fits;
+      others = tt;
+    })
+    c.from_residual.result c.from_residual.ensures.1

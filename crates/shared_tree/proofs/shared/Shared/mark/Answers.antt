@@ -1,8 +1,11 @@
-use Rattle.std.proofs.Common.{◌≡◌, None, refl, sym, subst, ◌∙◌, ◌<◌}
+use Rattle.std.proofs.Common.{◌≡◌, Result, None, refl, sym, subst, ◌∙◌, ◌<◌}
 use Rattle.run_trace.specs.declared.entry.Kind.TheVariants.{Mark}
+use Rattle.shared_value.specs.declared.answer.NotEntered.{NotEntered}
 use Rattle.shared_value.specs.Entered.{refused, Enters}
 use Rattle.shared_value.specs.Fits.{AllFit}
 use Rattle.shared_value.specs.SharedValue.{SharedValue}
+use Rattle.shared_tree.specs.Calls.{BeginsMarking}
+use Rattle.shared_tree.proofs.HandedOn.{for_memory}
 use Rattle.shared_tree.proofs.shared.Shared.mark.Goals as goal
 
 pub marking_of-requires : goal.marking_of-requires
@@ -18,16 +21,21 @@ enter_mark-requires-clause-room c = subst (λ (z : SharedValue). 0 < z.journal.r
 pub returns-in-Some : goal.returns-in-Some
 returns-in-Some c = record { refused = sym c.mark_refused.ensures ∙ c.in-Some.is; same = refl; enters = tt; fits = tt }
 
-pub returns-in_default-marking_of : goal.returns-in_default-marking_of
-returns-in_default-marking_of c = record { refused = sym c.mark_refused.ensures ∙ c.in_default.is; same = c.marking_of.ensures.same; enters = tt; fits = tt }
+pub returns-in_err-marking : goal.returns-in_err-marking
+returns-in_err-marking c =
+    for_memory (λ (r : Result (Unit {0}) NotEntered). BeginsMarking c.args.self.now c.marking_of.new.self c.args.worker c.args.t r)
+    (record { refused = sym c.mark_refused.ensures ∙ c.in_default.is; same = c.marking_of.ensures.same; enters = tt; fits = tt }) c.from_residual.result c.from_residual.ensures.1
 
-pub returns-in-Err : goal.returns-in-Err
-returns-in-Err c = record { refused = sym c.mark_refused.ensures ∙ c.in_default.is; same = c.in-Err.ensures.same ∙ c.marking_of.ensures.same; enters = tt; fits = tt }
+pub returns-in_err-enter_mark : goal.returns-in_err-enter_mark
+returns-in_err-enter_mark c =
+    for_memory (λ (r : Result (Unit {0}) NotEntered). BeginsMarking c.args.self.now c.enter_mark.new.self c.args.worker c.args.t r)
+    (record { refused = sym c.mark_refused.ensures ∙ c.in_default.is; same = c.in_err-enter_mark.ensures.same ∙ c.marking_of.ensures.same; enters = tt; fits = tt })
+    c.from_residual-in_err-enter_mark.result c.from_residual-in_err-enter_mark.ensures.1
 
-pub returns-in-Ok-enter_mark : goal.returns-in-Ok-enter_mark
-returns-in-Ok-enter_mark c = record {
+pub returns : goal.returns
+returns c = record {
   refused = sym c.mark_refused.ensures ∙ c.in_default.is;
   same = tt;
-  enters = subst (λ (z : SharedValue). Enters z c.enter_mark.new.self (record { worker = c.args.worker; kind = Mark c.args.t })) c.marking_of.ensures.same c.in-Ok-enter_mark.ensures.enters;
-  fits = subst (λ (z : SharedValue). AllFit z c.enter_mark.new.self) c.marking_of.ensures.same c.in-Ok-enter_mark.ensures.fits;
+  enters = subst (λ (z : SharedValue). Enters z c.enter_mark.new.self (record { worker = c.args.worker; kind = Mark c.args.t })) c.marking_of.ensures.same c.in_ok-enter_mark.ensures.enters;
+  fits = subst (λ (z : SharedValue). AllFit z c.enter_mark.new.self) c.marking_of.ensures.same c.in_ok-enter_mark.ensures.fits;
 }

@@ -1,12 +1,17 @@
-use Rattle.std.proofs.Common.{◌≡◌, ℕ, ℤ, SFits, w64, rules, None, refl, sym, subst, ◌∙◌}
+use Rattle.std.proofs.Common.{◌≡◌, ℕ, ℤ, SFits, w64, rules, Option, None, Result, refl, sym, subst, ◌∙◌}
+use Rattle.std.specs.Prelude.{IfOk, OnErr}
 use Rattle.std.proofs.lemmas.Int.{to_z-of_z}
 use Rattle.task_machine.specs.declared.part.Private.{Private}
+use Rattle.shared_value.specs.declared.answer.NotEntered.{NotEntered}
 use Rattle.shared_value.specs.declared.next_step.Ending.{Ending}
 use Rattle.shared_value.specs.declared.next_step.Ending.TheVariants.{Beyond, Prints, Returns}
 use Rattle.shared_value.specs.SharedValue.{SharedValue}
-use Rattle.shared_value.specs.Entered.{refused}
+use Rattle.shared_value.specs.Entered.{Answers, refused}
 use Rattle.own_steps.specs.Alone.{Tells, alone_event}
 use Rattle.own_steps.proofs.AloneEntries.{child_beyond, other_beyond, trap_is}
+use Rattle.shared_tree.specs.declared.ran_lent.Lent.{Lent}
+use Rattle.shared_tree.specs.Ran.{AloneTo}
+use Rattle.shared_tree.proofs.HandedOn.{for_memory}
 use Rattle.shared_tree.proofs.shared.Shared.ran_alone.Goals as goal
 
 pub returns-else-part-eq0-clause-answered : goal.returns-else-part-eq0-clause-answered
@@ -46,11 +51,14 @@ enter_halt-requires-clause-ends c =
 pub returns-in-Some-clause-refused : goal.returns-in-Some-clause-refused
 returns-in-Some-clause-refused c = sym c.alone_refused.ensures ∙ c.in-Some.is
 
-pub returns-in-Ok-clause-refused : goal.returns-in-Ok-clause-refused
-returns-in-Ok-clause-refused c = sym c.alone_refused.ensures ∙ c.in_default.is
+pub returns-in_ok-enter_output-in-Prints-clause-refused : goal.returns-in_ok-enter_output-in-Prints-clause-refused
+returns-in_ok-enter_output-in-Prints-clause-refused c = sym c.alone_refused.ensures ∙ c.in_default.is
 
-pub returns-in-Err-clause-refused : goal.returns-in-Err-clause-refused
-returns-in-Err-clause-refused c = sym c.alone_refused.ensures ∙ c.in_default.is
+pub returns-in_err-enter_output-in-Prints-clause-refused : goal.returns-in_err-enter_output-in-Prints-clause-refused
+returns-in_err-enter_output-in-Prints-clause-refused c =
+    let w : SharedValue = c.args.self.now in
+    for_memory (λ (r : Result (Option Lent) NotEntered). Answers r (refused w (alone_event c.args.worker c.args.part.now))) (sym c.alone_refused.ensures ∙ c.in_default.is)
+    c.from_residual.result c.from_residual.ensures.1
 
 pub returns-in-Traps-clause-refused : goal.returns-in-Traps-clause-refused
 returns-in-Traps-clause-refused c = sym c.alone_refused.ensures ∙ c.in_default.is
@@ -80,14 +88,27 @@ enter_output-requires-clause-prints c =
 pub enter_halt-requires-clause-free : goal.enter_halt-requires-clause-free
 enter_halt-requires-clause-free c = sym c.alone_refused.ensures ∙ c.in_default.is
 
-pub returns-in-Ok-clause-answered : goal.returns-in-Ok-clause-answered
-returns-in-Ok-clause-answered c = c.in-Ok.ensures.goes
+pub returns-in_ok-enter_output-in-Prints-clause-answered : goal.returns-in_ok-enter_output-in-Prints-clause-answered
+returns-in_ok-enter_output-in-Prints-clause-answered c = c.in_ok-enter_output-in-Prints.ensures.goes
+
+pub returns-in_err-enter_output-in-Prints-clause-answered : goal.returns-in_err-enter_output-in-Prints-clause-answered
+returns-in_err-enter_output-in-Prints-clause-answered c =
+    let w : SharedValue = c.args.self.now in
+    for_memory (λ (r : Result (Option Lent) NotEntered). IfOk r (AloneTo w c.enter_output.new.self c.args.worker c.args.part.now c.enter_output.new.part)) tt
+    c.from_residual.result c.from_residual.ensures.1
 
 pub returns-in-Traps-clause-answered : goal.returns-in-Traps-clause-answered
 returns-in-Traps-clause-answered c = c.enter_halt.ensures
 
-pub returns-in-Err-clause-same : goal.returns-in-Err-clause-same
-returns-in-Err-clause-same c = c.in-Err.ensures.same
+pub returns-in_err-enter_output-in-Prints-clause-same : goal.returns-in_err-enter_output-in-Prints-clause-same
+returns-in_err-enter_output-in-Prints-clause-same c =
+    for_memory (λ (r : Result (Option Lent) NotEntered). OnErr r (c.enter_output.new.self ≡ c.args.self.now)) c.in_err-enter_output-in-Prints.ensures.same
+    c.from_residual.result c.from_residual.ensures.1
+
+pub returns-in_err-enter_output-in-Prints-clause-back : goal.returns-in_err-enter_output-in-Prints-clause-back
+returns-in_err-enter_output-in-Prints-clause-back c =
+    for_memory (λ (r : Result (Option Lent) NotEntered). OnErr r (c.enter_output.new.part ≡ c.args.part.now)) c.in_err-enter_output-in-Prints.ensures.back
+    c.from_residual.result c.from_residual.ensures.1
 
 pub enter_halt-requires-clause-other : goal.enter_halt-requires-clause-other
 enter_halt-requires-clause-other c = λ e. cc
