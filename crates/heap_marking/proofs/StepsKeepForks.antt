@@ -12,7 +12,7 @@ use Rattle.hh_model.specs.declared.data.Task.{Task}
 use Rattle.hh_model.specs.declared.data.State.{State}
 use Rattle.hh_model.specs.Effect.{onward}
 use Rattle.hh_model.specs.Step.{child, ended_task, is_joined, is_left, is_over, is_running, is_waiting, joined, joined_task, parent_of, parents, result_of, resumed, run, run_from, sibling, start, step, waits}
-use Rattle.hh_model.specs.Tree.{SoundState, TreeOf, waiting}
+use Rattle.hh_model.specs.Tree.{IsForkJoinState, TreeOf, waiting}
 use Rattle.hh_model.proofs.Kept.{start_kept, step_kept}
 use Rattle.hh_model.proofs.Runs.{below, grown_left, grown_other, grown_past, grown_right, grown_view_front, running_tells, three_left, three_other, three_right, three_top}
 use Rattle.hh_model.proofs.Steps.{step_cases}
@@ -214,7 +214,7 @@ module _ (ts : List Task) (edges : List Edge) (K : TreeOf ts edges) (p l : ℕ) 
   }
 
 -- A STEP
-pub step_moves : (p : ProgramText) (m : State) (t : ℕ) → SoundState m → TreeMoves m.tasks (step p m t).tasks
+pub step_moves : (p : ProgramText) (m : State) (t : ℕ) → IsForkJoinState m → TreeMoves m.tasks (step p m t).tasks
 step_moves p m t K =
     step_cases p m t K (λ m'. TreeMoves m.tasks m'.tasks) (tree_same m.tasks) (λ z e is r why. tree_same m.tasks)
     (λ z y store outs is r ep ed es ej names fields alters grows. let q = running_tells z.status r in set_moves m.tasks t z y is r ep (ap is_over es ∙ q.0) (ap waits es ∙ q.1))
@@ -226,7 +226,7 @@ step_moves p m t K =
 abbrev pub HaveLive : List Task → Type 0
 HaveLive ts = (u : ℕ) → waiting ts u ≡ true → (c : ℕ) × (parents ts c ≡ Some u) × (joined ts c ≡ false)
 
-live_from : (p : ProgramText) (us : List ℕ) (m : State) → SoundState m → HaveLive m.tasks → HaveLive (run_from p m us).tasks
+live_from : (p : ProgramText) (us : List ℕ) (m : State) → IsForkJoinState m → HaveLive m.tasks → HaveLive (run_from p m us).tasks
 live_from p [] m K h = h
 live_from p (t ∷ us) m K h = live_from p us (step p m t) (step_kept p m t K) ((step_moves p m t K).live h)
 

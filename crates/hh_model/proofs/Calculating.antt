@@ -1,19 +1,54 @@
 -- Steps that only calculate: what they make of the frame, and what the machine is after them.
-use Rattle.std.proofs.Common.{◌≡◌, ℕ, zero, suc, ◌+◌, ◌<◌, ◌&&◌, Bool, true, false, Option, Some, None, IsSomeAnd, slice_get, slice_set, refl, ap, ap₂, sym, ◌∙◌, ◌==◌, eqb-true, arith, set-set}
-use Rattle.std.proofs.lemmas.Bool.{eqb-false}
+use Rattle.std.proofs.Common.{◌≡◌, ℕ, ℤ, zero, suc, ◌+◌, ◌<◌, ◌&&◌, Bool, true, false, Option, Some, None, IsSomeAnd, is_some, List, slice_get, slice_set, refl, ap, ap₂, sym, ◌∙◌, ◌==◌, eqb-true, arith, set-set}
+use Rattle.std.proofs.lemmas.Bool.{eqb-false, false≢true}
 use Rattle.std.proofs.lemmas.List.{set-get_or}
 use Rattle.std.proofs.lemmas.Option.{get_or_from_slice_get}
 use Rattle.listed.proofs.Members.{got_same}
+use Rattle.hh_lang.specs.declared.instr.Instr.{Instr}
+use Rattle.hh_lang.specs.declared.instr.Instr.TheVariants.{Set, Mov, Movr, Nil, Calc, Same, Jmp, Jz, Newm, Pack, Getr, Geti, Putr, Puti, Cntr, Cnti, Freeze, Cas, Call, Par, Ret, Out}
 use Rattle.hh_lang.specs.declared.program.Line.{Line}
 use Rattle.hh_model.specs.declared.data.Frame.{Frame}
+use Rattle.hh_model.specs.declared.data.Object.{Object}
 use Rattle.hh_model.specs.declared.data.Task.{Task}
+use Rattle.hh_model.specs.declared.data.Trap.TheVariants.{Div as DivTrap}
 use Rattle.hh_model.specs.declared.data.State.{State}
-use Rattle.hh_model.specs.Effect.{Goes}
+use Rattle.hh_model.specs.Effect.{Goes, calculated, int_in, onward, or_trap, with_int}
 use Rattle.hh_model.specs.Calculations.{Leads, Makes, advanced_by, calculates, calculates_by, calculates_line, calculates_next, is_calculation}
 use Rattle.hh_model.specs.Machine.{IsOfRun, MachineValue, advanced}
 use Rattle.hh_model.specs.Step.{can_step, fetched, follow, goes_on, is_running, setting, step}
 use Rattle.hh_model.proofs.Counts.{step_reached}
 use Rattle.hh_model.proofs.Taken.{step_taken}
+
+-- an operator that gives a number sets a register
+goes_on_with : (f : Frame) (d : ℕ) (o : Option ℤ) → is_some o ≡ true
+    → (g : Frame) × ((store : List (List Object)) → or_trap DivTrap o (λ x. Goes (onward (with_int f d x)) store) ≡ Goes g store)
+goes_on_with f d None e = absurd (false≢true e)
+goes_on_with f d (Some x) e = (_, λ store. refl)
+
+-- a calculation makes a frame, whatever it sees of its task and of the store
+pub makes_frame : (f : Frame) (i : Instr) → is_calculation f i ≡ true → (g : Frame) × Makes i f g
+makes_frame f (Set d k) e = (_, λ s store. refl)
+makes_frame f (Mov d a) e = (_, λ s store. refl)
+makes_frame f (Movr d a) e = (_, λ s store. refl)
+makes_frame f (Nil d) e = (_, λ s store. refl)
+makes_frame f (Calc op d a b) e = let m = goes_on_with f d (calculated op (int_in f a) (int_in f b)) e in (m.0, λ s. m.1)
+makes_frame f (Same d a b) e = (_, λ s store. refl)
+makes_frame f (Jmp to) e = (_, λ s store. refl)
+makes_frame f (Jz a to) e = (_, λ s store. refl)
+makes_frame f (Newm d a b) e = absurd (false≢true e)
+makes_frame f (Pack d r i) e = absurd (false≢true e)
+makes_frame f (Getr d o k) e = absurd (false≢true e)
+makes_frame f (Geti d o k) e = absurd (false≢true e)
+makes_frame f (Putr o k v) e = absurd (false≢true e)
+makes_frame f (Puti o k v) e = absurd (false≢true e)
+makes_frame f (Cntr d o) e = absurd (false≢true e)
+makes_frame f (Cnti d o) e = absurd (false≢true e)
+makes_frame f (Freeze o) e = absurd (false≢true e)
+makes_frame f (Cas d o k x v) e = absurd (false≢true e)
+makes_frame f (Call g) e = absurd (false≢true e)
+makes_frame f (Par g h) e = absurd (false≢true e)
+makes_frame f Ret e = absurd (false≢true e)
+makes_frame f (Out a) e = absurd (false≢true e)
 
 -- a task of the machine whose top frame becomes this one
 abbrev framed : MachineValue → ℕ → Task → ℕ → Frame → MachineValue

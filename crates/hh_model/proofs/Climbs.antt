@@ -1,5 +1,5 @@
 -- One step up, of the walks that find an owner and a path.
-use Rattle.std.proofs.Common.{◌≡◌, ℕ, zero, suc, ◌+◌, ◌-◌, ◌<◌, Bool, true, false, cond, ◌||◌, ◌==◌, Option, Some, None, refl, ap, ◌∙◌, arith}
+use Rattle.std.proofs.Common.{◌≡◌, ℕ, zero, suc, ◌+◌, ◌-◌, ◌<◌, Bool, true, false, cond, ◌||◌, ◌==◌, Option, Some, refl, ap, ◌∙◌, arith}
 use Rattle.hh_model.specs.Step.{through, owner_by, path_by}
 
 module _ (par : ℕ → Option ℕ) where

@@ -14,7 +14,7 @@ use Rattle.hh_model.specs.Names.{named, refs_of, refs_at, registers, names_from,
 use Rattle.hh_model.specs.Step.{waits, is_running, is_waiting, is_joined, parent_of, joined_task, resumed, child, step, asked, asked_by, asked_line, fetched}
 use Rattle.hh_model.proofs.Carried.{in_from_named, named_from_in, in_set_cases, next_name}
 use Rattle.hh_model.proofs.Runs.{waiting}
-use Rattle.hh_model.proofs.Kept.{SoundState}
+use Rattle.hh_model.proofs.Kept.{IsForkJoinState}
 use Rattle.hh_model.proofs.Steps.{Drawn, Put, Allocates, runs_is, names_run, register_cases, step_cases}
 pub use Rattle.hh_model.specs.Closed.{Closed}
 
@@ -83,7 +83,7 @@ resumed_names xp rl rr r w h =
 pub asked_at : (p : ProgramText) (m : State) (t : ℕ) (x : Task) → slice_get m.tasks t ≡ Some x → is_running (Some x) ≡ true → asked p m t ≡ asked_line m.field_limit x.top (fetched p x.top)
 asked_at p m t x is run = ap (asked_by p m) is ∙ ap (λ b. cond b (asked_line m.field_limit x.top (fetched p x.top)) None) run
 
-module _ (p : ProgramText) (m : State) (t : ℕ) (K : SoundState m) (P P' : Name → Type 0)
+module _ (p : ProgramText) (m : State) (t : ℕ) (K : IsForkJoinState m) (P P' : Name → Type 0)
     (up : (n : Name) → P n → P' n) (down : (n : Name) → P' n → P n ⊎ (n ≡ next_name t m.store)) (new : is_some (asked p m t) ≡ true → P' (next_name t m.store))
     (I : Closed m.tasks m.store P) where
   fields : (n r : Name) → P' n → In (refs_at m.store n) r → P' r

@@ -13,7 +13,7 @@ use Rattle.hh_model.specs.Step.{root, child, joined_task, resumed, ended_task, r
 use Rattle.hh_model.specs.Machine.{MachineValue, IsOfRun, IsSound, advanced}
 use Rattle.hh_model.proofs.Closed.{grown_cases, three_cases}
 use Rattle.hh_model.proofs.Runs.{grown_length}
-use Rattle.hh_model.proofs.Kept.{SoundState, step_kept, start_kept, run_kept, path_is_precedence_in}
+use Rattle.hh_model.proofs.Kept.{IsForkJoinState, step_kept, start_kept, run_kept, path_is_precedence_in}
 use Rattle.hh_model.proofs.Steps.{Alters, step_cases}
 use Rattle.hh_model.specs.Counts.{RunsAreCounted, StepsCount}
 pub use Rattle.hh_model.specs.Counts.{Counted}
@@ -33,7 +33,7 @@ two_rows [] (suc (suc t)) k old = omega arith
 two_rows (r ∷ store) zero k old = old
 two_rows (r ∷ store) (suc t) k old = two_rows store t k old
 
-module _ (p : ProgramText) (m : State) (t : ℕ) (K : SoundState m) (k : ℕ) (I : Counted k m.tasks m.store) where
+module _ (p : ProgramText) (m : State) (t : ℕ) (K : IsForkJoinState m) (k : ℕ) (I : Counted k m.tasks m.store) where
   more : (u : ℕ) → length (row_of (slice_get m.store u)) ≤ suc k
   more u = let h : length (row_of (slice_get m.store u)) ≤ k = I.objects u in omega arith
 
@@ -137,7 +137,7 @@ run_push p m [] t = refl
 run_push p m (u ∷ ts) t = run_push p (step p m u) ts t
 
 -- the limit of fields stays
-pub step_limit : (p : ProgramText) (m : State) (t : ℕ) → SoundState m → (step p m t).field_limit ≡ m.field_limit
+pub step_limit : (p : ProgramText) (m : State) (t : ℕ) → IsForkJoinState m → (step p m t).field_limit ≡ m.field_limit
 step_limit p m t K =
     step_cases p m t K (λ m'. m'.field_limit ≡ m.field_limit) refl (λ x e is run why. refl) (λ x y store outs is run ep ed es ej names fields alters grows. refl)
     (λ x parent e is run pp which result. refl) (λ x g h is run next top. refl) (λ parent l xp xl xr rl rr ip il ir pl left dl dr wl wr nl nr side. refl)
@@ -153,7 +153,7 @@ start_counted p limit = record { made = omega arith; rows = refl; objects = none
     first zero x e = subst (λ (w : Task). w.joins ≤ 0) (same_Some (root p) x e) (omega arith)
     first (suc t) x e = absurd cc
 
-pub run_counted : (p : ProgramText) (m : State) (ts : List ℕ) (k : ℕ) → SoundState m → Counted k m.tasks m.store → (n : ℕ) → n ≡ k + length ts → Counted n (run_from p m ts).tasks (run_from p m ts).store
+pub run_counted : (p : ProgramText) (m : State) (ts : List ℕ) (k : ℕ) → IsForkJoinState m → Counted k m.tasks m.store → (n : ℕ) → n ≡ k + length ts → Counted n (run_from p m ts).tasks (run_from p m ts).store
 run_counted p m [] k K I n e = subst (λ j. Counted j m.tasks m.store) (let h : k ≡ n = omega arith in h) I
 run_counted p m (t ∷ ts) k K I n e = run_counted p (step p m t) ts (suc k) (step_kept p m t K) (counted_step p m t K k I) n (omega arith)
 
@@ -164,7 +164,7 @@ pub steps_count : StepsCount
 steps_count p m t k K I = counted_step p m t K k I
 
 -- the store has a row for each task
-pub rows_from : (p : ProgramText) (m : State) (ts : List ℕ) (k : ℕ) → SoundState m → Counted k m.tasks m.store → length (run_from p m ts).store ≡ length (run_from p m ts).tasks
+pub rows_from : (p : ProgramText) (m : State) (ts : List ℕ) (k : ℕ) → IsForkJoinState m → Counted k m.tasks m.store → length (run_from p m ts).store ≡ length (run_from p m ts).tasks
 rows_from p m [] k K I = I.rows
 rows_from p m (t ∷ ts) k K I = rows_from p (step p m t) ts (suc k) (step_kept p m t K) (counted_step p m t K k I)
 
@@ -172,7 +172,7 @@ rows_from p m (t ∷ ts) k K I = rows_from p (step p m t) ts (suc k) (step_kept 
 
 pub step_reached : (g : MachineValue) (t : ℕ) → IsOfRun g → IsOfRun (advanced g t)
 step_reached g t r =
-    let K : SoundState g.state = subst SoundState (sym r.2) (run_kept g.program (start g.program g.state.field_limit) r.0 (start_kept g.program g.state.field_limit)) in (
+    let K : IsForkJoinState g.state = subst IsForkJoinState (sym r.2) (run_kept g.program (start g.program g.state.field_limit) r.0 (start_kept g.program g.state.field_limit)) in (
       r.0 ++ t ∷ [],
       length-append r.0 (t ∷ []) ∙ ap (λ k. k + 1) r.1,
       ap (λ s. step g.program s t) r.2 ∙ (sym (run_push g.program (start g.program g.state.field_limit) r.0 t)
@@ -181,7 +181,7 @@ step_reached g t r =
 
 pub reached_sound : (g : MachineValue) → IsOfRun g → g.steps < 2 ^ 30 → IsSound g.state
 reached_sound g r few =
-    let K : SoundState g.state = subst SoundState (sym r.2) (run_kept g.program (start g.program g.state.field_limit) r.0 (start_kept g.program g.state.field_limit)) in
+    let K : IsForkJoinState g.state = subst IsForkJoinState (sym r.2) (run_kept g.program (start g.program g.state.field_limit) r.0 (start_kept g.program g.state.field_limit)) in
     let I : Counted (length r.0) g.state.tasks g.state.store =
     subst (λ (s : State). Counted (length r.0) s.tasks s.store) (sym r.2) (run_counted g.program (start g.program g.state.field_limit) r.0 0 (start_kept g.program g.state.field_limit) (start_counted g.program g.state.field_limit) (length r.0) (omega arith)) in
     record {

@@ -10,7 +10,7 @@ use Rattle.hh_model.specs.declared.data.End.{End}
 use Rattle.hh_model.specs.declared.data.End.TheVariants.{Done}
 use Rattle.hh_model.specs.declared.data.State.{State}
 use Rattle.hh_model.specs.Step.{can_step, ended_task, goes_on, is_running, result_of, run, run_from, start, step}
-use Rattle.hh_model.specs.Tree.{SoundState}
+use Rattle.hh_model.specs.Tree.{IsForkJoinState}
 use Rattle.hh_model.specs.Ends.{EndsAreSteps, EndsDone, IsEnded, RunningIsARun, unended}
 use Rattle.hh_model.proofs.Counts.{run_push}
 use Rattle.hh_model.proofs.Kept.{run_kept, start_kept}
@@ -22,7 +22,7 @@ pub still : (m : State) → m.end ≡ None → unended m ≡ m
 still m none = λ i. record m { end = (sym none) i }
 
 -- the step that ends the run
-module _ (p : ProgramText) (m : State) (t : ℕ) (K : SoundState m) (R : OneRoot m.tasks) (none : m.end ≡ None) (e : End) where
+module _ (p : ProgramText) (m : State) (t : ℕ) (K : IsForkJoinState m) (R : OneRoot m.tasks) (none : m.end ≡ None) (e : End) where
   abbrev Ended : State → Type 0
   Ended m' = m'.end ≡ Some e → (unended m' ≡ m) ⊎ EndsDone m e m'
 
@@ -64,7 +64,7 @@ module _ (p : ProgramText) (limit : ℕ) (all : List ℕ) (e : End) where
   abbrev At : List ℕ → State
   At ts = run p limit ts
 
-  kept_at : (ts : List ℕ) → SoundState (At ts)
+  kept_at : (ts : List ℕ) → IsForkJoinState (At ts)
   kept_at ts = run_kept p (start p limit) ts (start_kept p limit)
 
   ends_here : (before : List ℕ) (t : ℕ) (rest : List ℕ) (q : End) → all ≡ before ++ t ∷ rest → (At before).end ≡ None → (step p (At before) t).end ≡ Some q → run_from p (step p (At before) t) rest ≡ At all

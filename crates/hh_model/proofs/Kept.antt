@@ -24,7 +24,7 @@ use Rattle.hh_model.proofs.Tree.{Known}
 use Rattle.hh_model.proofs.Stores.{StandsAs, Keeps, effect_keeps}
 use Rattle.hh_model.proofs.Runs.{waiting, joins_of, joins_in, TreeOf, same_tree, running_tells, ended_tells, grown_length, grown_view, fork_tree, join_tree, join_joins, join_length}
 use Rattle.hh_model.specs.Tree.{RunsAreSound}
-pub use Rattle.hh_model.specs.Tree.{StoreOf, SoundStateIn, SoundState}
+pub use Rattle.hh_model.specs.Tree.{StoreOf, IsForkJoinStateIn, IsForkJoinState}
 
 store_wider : (n n' : ℕ) (js js' : ℕ → ℕ) (store : List (List Object)) → n ≤ n' → ((u : ℕ) → js u ≤ js' u) → StoreOf n js store → StoreOf n' js' store
 store_wider n n' js js' store le more S m o e =
@@ -37,7 +37,7 @@ store_wider n n' js js' store le more S m o e =
 -- a task is written with the same place in the tree
 written : (tasks : List Task) (edges : List Edge) (store : List (List Object)) (t : ℕ) (x y : Task) → slice_get tasks t ≡ Some x
     → y.parent ≡ x.parent → is_over y.status ≡ is_over x.status → waits y.status ≡ waits x.status → y.joins ≡ x.joins
-    → SoundStateIn tasks edges store → SoundStateIn (slice_set tasks t y) edges store
+    → IsForkJoinStateIn tasks edges store → IsForkJoinStateIn (slice_set tasks t y) edges store
 written tasks edges store t x y is p d w j K = record {
   tree = same_tree tasks edges t x y is p d w j K.tree;
   store_of =
@@ -49,7 +49,7 @@ written tasks edges store t x y is p d w j K = record {
 
 -- the store after a step of a task
 stored : (tasks : List Task) (edges : List Edge) (store store' : List (List Object)) (m : State) (t : ℕ) (x : Task) → m.tasks ≡ tasks → slice_get tasks t ≡ Some x
-    → StandsAs (setting m t x) store store' → SoundStateIn tasks edges store → SoundStateIn tasks edges store'
+    → StandsAs (setting m t x) store store' → IsForkJoinStateIn tasks edges store → IsForkJoinStateIn tasks edges store'
 stored tasks edges store store' m t x em is stands K = record {
   tree = K.tree;
   store_of = λ n o e. elim (stands n o e) [
@@ -71,15 +71,15 @@ empty_rows [] (suc (suc k)) c o e = absurd cc
 empty_rows (row ∷ rows) zero c o e = e
 empty_rows (row ∷ rows) (suc k) c o e = empty_rows rows k c o e
 
-either_kept : (b : Bool) (m m' : State) → SoundState m → SoundState m' → SoundState (cond b m m')
+either_kept : (b : Bool) (m m' : State) → IsForkJoinState m → IsForkJoinState m' → IsForkJoinState (cond b m m')
 either_kept true m m' k k' = k
 either_kept false m m' k k' = k'
 
-same_kept : {A : Type 0} (m : State) (o : Option A) (go : A → State) → SoundState m → ((x : A) → o ≡ Some x → SoundState (go x)) → SoundState (or_same m o go)
+same_kept : {A : Type 0} (m : State) (o : Option A) (go : A → State) → IsForkJoinState m → ((x : A) → o ≡ Some x → IsForkJoinState (go x)) → IsForkJoinState (or_same m o go)
 same_kept m None go k each = k
 same_kept m (Some x) go k each = each x refl
 
-module _ (m : State) (t : ℕ) (x : Task) (is : slice_get m.tasks t ≡ Some x) (run : is_running (Some x) ≡ true) (K : SoundState m) where
+module _ (m : State) (t : ℕ) (x : Task) (is : slice_get m.tasks t ≡ Some x) (run : is_running (Some x) ≡ true) (K : IsForkJoinState m) where
   tells : (is_over x.status ≡ false) × (waits x.status ≡ false)
   tells = running_tells x.status run
 
@@ -89,7 +89,7 @@ module _ (m : State) (t : ℕ) (x : Task) (is : slice_get m.tasks t ≡ Some x) 
   abbrev all : ℕ → ℕ → List Task
   all g h = slice_set m.tasks t y ++ child t (x.depth + 1) g x.top ∷ child t (x.depth + 1) h x.top ∷ []
 
-  forked_kept : (g h line : ℕ) → SoundState (forked m t x g h line)
+  forked_kept : (g h line : ℕ) → IsForkJoinState (forked m t x g h line)
   forked_kept g h line = either_kept (nat_lt x.depth depth_limit) _ (ended_by m (Trapped Depth t line)) (record {
     tree = fork_tree m.tasks m.edges t x (onward x.top) x.top x.top g h is run K.tree;
     store_of =
@@ -102,7 +102,7 @@ module _ (m : State) (t : ℕ) (x : Task) (is : slice_get m.tasks t ≡ Some x) 
   join_kept : (p l : ℕ) (xp xl xr : Task) (rl rr : ℤ × Option Name)
       → slice_get m.tasks p ≡ Some xp → slice_get m.tasks l ≡ Some xl → slice_get m.tasks (l + 1) ≡ Some xr
       → xl.parent ≡ Some p → is_left l ≡ true → is_over xl.status ≡ false → is_over xr.status ≡ false → waits xl.status ≡ false → waits xr.status ≡ false
-      → SoundState (join_of m p xp l xl xr rl rr)
+      → IsForkJoinState (join_of m p xp l xl xr rl rr)
   join_kept p l xp xl xr rl rr ip il ir pl left dl dr wl wr = record {
     tree = join_tree m.tasks m.edges l p xl xr xp rl rr il ir ip pl left dl dr wl wr K.tree;
     store_of =
@@ -113,7 +113,7 @@ module _ (m : State) (t : ℕ) (x : Task) (is : slice_get m.tasks t ≡ Some x) 
   }
 
   sides : (p : ℕ) (xp z : Task) (result other : ℤ × Option Name) → slice_get m.tasks p ≡ Some xp → slice_get m.tasks (sibling t) ≡ Some z → x.parent ≡ Some p → (is_over z.status ≡ false) × (waits z.status ≡ false)
-      → (b : Bool) → is_left t ≡ b → SoundState (cond b (join_of m p xp t x z result other) (join_of m p xp (t - 1) z x other result))
+      → (b : Bool) → is_left t ≡ b → IsForkJoinState (cond b (join_of m p xp t x z result other) (join_of m p xp (t - 1) z x other result))
   sides p xp z result other ip iz pp over true side =
       let sib : sibling t ≡ t + 1 = cond-true (is_left t) (t + 1) (t - 1) side in
       join_kept p t xp x z result other ip is (ap (slice_get m.tasks) (sym sib) ∙ iz) pp side tells.0 over.0 tells.1 over.1
@@ -127,21 +127,21 @@ module _ (m : State) (t : ℕ) (x : Task) (is : slice_get m.tasks t ≡ Some x) 
       join_kept p (t - 1) xp z x other result ip (ap (slice_get m.tasks) (sym sib) ∙ iz) (ap (slice_get m.tasks) back ∙ is)
       (ap parent_of (sym iz) ∙ K.tree.pairs t p par) (eq-eqb ((t - 1) % 2) 1 odd) over.0 tells.0 over.1 tells.1
 
-  ended_kept : (p : ℕ) (result : ℤ × Option Name) (o : Option (ℤ × Option Name)) → x.parent ≡ Some p → result_at (slice_get m.tasks (sibling t)) ≡ o → SoundState (child_ended_by m t x p result o)
+  ended_kept : (p : ℕ) (result : ℤ × Option Name) (o : Option (ℤ × Option Name)) → x.parent ≡ Some p → result_at (slice_get m.tasks (sibling t)) ≡ o → IsForkJoinState (child_ended_by m t x p result o)
   ended_kept p result None pp k = written m.tasks m.edges m.store t x (ended_task x result) is refl (sym tells.0) (sym tells.1) refl K
   ended_kept p result (Some other) pp k =
       same_kept m (slice_get m.tasks p) _ K (λ parent ip. same_kept m (slice_get m.tasks (sibling t)) _ K (λ z iz.
       sides p parent z result other ip iz pp (ended_tells z.status other (ap result_at (sym iz) ∙ k)) (is_left t) refl))
 
-  last_kept : (o : Option ℕ) → x.parent ≡ o → SoundState (last_return m t x o)
+  last_kept : (o : Option ℕ) → x.parent ≡ o → IsForkJoinState (last_return m t x o)
   last_kept None e = written m.tasks m.edges m.store t x (ended_task x (result_of x.top)) is refl (sym tells.0) (sym tells.1) refl K
   last_kept (Some p) e = ended_kept p (result_of x.top) (result_at (slice_get m.tasks (sibling t))) e refl
 
-  returned_kept : (o : Option Frame) → SoundState (returned_to m t x o)
+  returned_kept : (o : Option Frame) → IsForkJoinState (returned_to m t x o)
   returned_kept None = last_kept x.parent refl
   returned_kept (Some f) = written m.tasks m.edges m.store t x (record x { top = back_in f x.top; below = front_of x.below }) is refl refl refl refl K
 
-  follow_kept : (line : ℕ) (e : Effect) → Keeps (setting m t x) m.store e → SoundState (follow m t x line e)
+  follow_kept : (line : ℕ) (e : Effect) → Keeps (setting m t x) m.store e → IsForkJoinState (follow m t x line e)
   follow_kept line (Goes f store) keeps = written m.tasks m.edges store t x (record x { top = f }) is refl refl refl refl (stored m.tasks m.edges m.store store m t x refl is keeps K)
   follow_kept line (Prints k) keeps = written m.tasks m.edges m.store t x (record x { top = onward x.top }) is refl refl refl refl K
   follow_kept line (Calls g) keeps =
@@ -152,11 +152,11 @@ module _ (m : State) (t : ℕ) (x : Task) (is : slice_get m.tasks t ≡ Some x) 
   follow_kept line (Traps kind) keeps = K
   follow_kept line (Stops n) keeps = K
 
-  stepped_kept : (p : ProgramText) (o : Option Line) → SoundState (stepped p m t x o)
+  stepped_kept : (p : ProgramText) (o : Option Line) → IsForkJoinState (stepped p m t x o)
   stepped_kept p None = K
   stepped_kept p (Some line) = follow_kept line.number (effect (setting m t x) x.top m.store line.instr) (effect_keeps (setting m t x) m.store x.top line.instr)
 
-step_by : (p : ProgramText) (m : State) (t : ℕ) → SoundState m → (b : Bool) → can_step m t ≡ b → SoundState (cond b (or_same m (slice_get m.tasks t) (λ x. stepped p m t x (fetched p x.top))) m)
+step_by : (p : ProgramText) (m : State) (t : ℕ) → IsForkJoinState m → (b : Bool) → can_step m t ≡ b → IsForkJoinState (cond b (or_same m (slice_get m.tasks t) (λ x. stepped p m t x (fetched p x.top))) m)
 step_by p m t K false e = K
 step_by p m t K true e = same_kept m (slice_get m.tasks t) _ K (λ x is. stepped_kept m t x is (ap is_running (sym is) ∙ running m.end e) K p (fetched p x.top))
   where
@@ -164,10 +164,10 @@ step_by p m t K true e = same_kept m (slice_get m.tasks t) _ K (λ x is. stepped
     running None h = h
     running (Some z) h = absurd (false≢true h)
 
-pub step_kept : (p : ProgramText) (m : State) (t : ℕ) → SoundState m → SoundState (step p m t)
+pub step_kept : (p : ProgramText) (m : State) (t : ℕ) → IsForkJoinState m → IsForkJoinState (step p m t)
 step_kept p m t K = step_by p m t K (can_step m t) refl
 
-pub run_kept : (p : ProgramText) (m : State) (ts : List ℕ) → SoundState m → SoundState (run_from p m ts)
+pub run_kept : (p : ProgramText) (m : State) (ts : List ℕ) → IsForkJoinState m → IsForkJoinState (run_from p m ts)
 run_kept p m [] K = K
 run_kept p m (t ∷ ts) K = run_kept p (step p m t) ts (step_kept p m t K)
 
@@ -211,14 +211,14 @@ pub no_objects : (k c : ℕ) (o : Object) → slice_get (row_of (slice_get ([] �
 no_objects zero c o e = absurd cc
 no_objects (suc k) c o e = absurd cc
 
-pub start_kept : (p : ProgramText) (limit : ℕ) → SoundState (start p limit)
+pub start_kept : (p : ProgramText) (limit : ℕ) → IsForkJoinState (start p limit)
 start_kept p limit = record {
   tree = root_tree (root p) refl refl refl refl;
   store_of = λ n o e. absurd (no_objects n.task n.count o e);
 }
 
 -- the test of precedence sees the path
-pub seen : (m : State) → SoundState m → (t : ℕ) (x : Task) (n : Name) (o : Object) → slice_get m.tasks t ≡ Some x → is_running (Some x) ≡ true → object_at m.store n ≡ Some o
+pub seen : (m : State) → IsForkJoinState m → (t : ℕ) (x : Task) (n : Name) (o : Object) → slice_get m.tasks t ≡ Some x → is_running (Some x) ≡ true → object_at m.store n ≡ Some o
     → precedes m.edges o.strand (strand_of t x) ≡ is_on_path m.tasks (owner_of m.tasks n.task) t
 seen m K t x n o is run e =
     let k = K.store_of n o e in
@@ -228,7 +228,7 @@ seen m K t x n o is run e =
     ∙ (I.path o.strand.task o.strand.joins t k.1.0 k.1.1 (got_within m.tasks t x is) live
     ∙ ap (λ a. is_on_path m.tasks (owner_of m.tasks a) t) k.0)
 
-pub path_is_precedence_in : (m : State) → SoundState m → PathIsPrecedenceIn m
+pub path_is_precedence_in : (m : State) → IsForkJoinState m → PathIsPrecedenceIn m
 path_is_precedence_in m K t x n o is run e =
     let I = K.tree in
     let at = seen m K t x n o is run e in (

@@ -11,7 +11,7 @@ use Rattle.hh_model.specs.Effect.{onward}
 use Rattle.hh_model.specs.Step.{step, run, start, parent_of, child, joined_task, resumed, ended_task, result_of}
 use Rattle.hh_model.specs.Store.{TasksStay, MakesChildren, TasksAreNumbered}
 use Rattle.hh_model.proofs.Runs.{grown_length, grown_left, grown_right}
-use Rattle.hh_model.proofs.Kept.{SoundState, start_kept, run_kept}
+use Rattle.hh_model.proofs.Kept.{IsForkJoinState, start_kept, run_kept}
 use Rattle.hh_model.proofs.Steps.{step_cases}
 
 -- a task that stands where another stood, of the same parent and depth
@@ -30,7 +30,7 @@ set_stands tasks t u x y z is p d s =
 more_stands : (tasks : List Task) (c d : Task) (u : ℕ) (z : Task) → Stands tasks u z → Stands (tasks ++ c ∷ d ∷ []) u z
 more_stands tasks c d u z s = (s.0, got_front tasks (c ∷ d ∷ []) u (got_within tasks u s.0 s.1) ∙ s.1, s.2, s.3)
 
-module _ (p : ProgramText) (m : State) (t : ℕ) (K : SoundState m) where
+module _ (p : ProgramText) (m : State) (t : ℕ) (K : IsForkJoinState m) where
   abbrev Numbered : State → Type 0
   Numbered m' = TasksStay m m' × ((length m'.tasks ≡ length m.tasks) ⊎ MakesChildren p m m' t)
 

@@ -19,7 +19,7 @@ use Rattle.hh_model.specs.Precedence.{precedes}
 use Rattle.hh_model.specs.Step.{fetched, step, start, run_from, run, root, stepped, follow, setting, can_step, forked, child, entry_frame, frame_limit, depth_limit, returned_to, last_return, child_ended_by, ended_task, joined_task, resumed, join_of, result_of, back_in, last_of, front_of, is_left, sibling, result_at, or_same}
 use Rattle.hh_model.proofs.Closed.{grown_cases, three_cases}
 use Rattle.hh_model.proofs.Steps.{Alters, last_in, step_cases}
-use Rattle.hh_model.specs.Tree.{SoundState}
+use Rattle.hh_model.specs.Tree.{IsForkJoinState}
 use Rattle.hh_model.specs.Counts.{IsWide, HasFewFields, SizesAreBounded, LimitStays}
 use Rattle.hh_model.proofs.Changes.{SetsRef, SetsInt, Freezes, IsSized}
 use Rattle.hh_model.proofs.Counts.{step_limit}
@@ -220,7 +220,7 @@ sized : (limit : ℕ) (f : Frame) (o : Object) → IsWide f → IsSized limit f 
 sized limit f o w (inl s) = (record { refs = omega (arith, s); ints = omega (arith, s) }, omega (arith, s))
 sized limit f o w (inr s) = let a = s.0 in let b = s.1 in let c = w.refs in let d = w.ints in (record { refs = omega (arith, a, c); ints = omega (arith, b, d) }, omega (arith, a, b, c, d))
 
-module _ (p : ProgramText) (m : State) (t : ℕ) (K : SoundState m) (A : AllWide m.tasks) (F : FewIn m.field_limit m.store) where
+module _ (p : ProgramText) (m : State) (t : ℕ) (K : IsForkJoinState m) (A : AllWide m.tasks) (F : FewIn m.field_limit m.store) where
   resized : (x y : Object) → Bounded m.field_limit x → length y.refs ≡ length x.refs → length y.ints ≡ length x.ints → Bounded m.field_limit y
   resized x y few a b = let c = few.0.refs in let d = few.0.ints in let e = few.1 in (record { refs = omega (arith, a, c); ints = omega (arith, b, d) }, omega (arith, a, b, e))
 
@@ -253,14 +253,14 @@ module _ (p : ProgramText) (m : State) (t : ℕ) (K : SoundState m) (A : AllWide
 
 -- RUNS
 
-pub limit_from : (p : ProgramText) (m : State) (ts : List ℕ) → SoundState m → (run_from p m ts).field_limit ≡ m.field_limit
+pub limit_from : (p : ProgramText) (m : State) (ts : List ℕ) → IsForkJoinState m → (run_from p m ts).field_limit ≡ m.field_limit
 limit_from p m [] K = refl
 limit_from p m (t ∷ ts) K = limit_from p (step p m t) ts (step_kept p m t K) ∙ step_limit p m t K
 
 pub limit_stays : LimitStays
 limit_stays p limit ts = limit_from p (start p limit) ts (start_kept p limit)
 
-few_from : (p : ProgramText) (m : State) (ts : List ℕ) (limit : ℕ) → m.field_limit ≡ limit → SoundState m → AllWide m.tasks → FewIn limit m.store → FewIn limit (run_from p m ts).store
+few_from : (p : ProgramText) (m : State) (ts : List ℕ) (limit : ℕ) → m.field_limit ≡ limit → IsForkJoinState m → AllWide m.tasks → FewIn limit m.store → FewIn limit (run_from p m ts).store
 few_from p m [] limit e K A F = F
 few_from p m (t ∷ ts) limit e K A F =
     few_from p (step p m t) ts limit (step_limit p m t K ∙ e) (step_kept p m t K) (step_wide p m t A)

@@ -23,7 +23,7 @@ use Rattle.hh_model.specs.Step.{runs, waits, is_over, result_in, is_running, par
 use Rattle.hh_model.proofs.Changes.{Change, Changes, StopsAt, effect_changes}
 use Rattle.hh_model.proofs.Carried.{in_from_named, named_from_in, in_set_cases, at_in, next_name, Carries, effect_carries}
 use Rattle.hh_model.proofs.Runs.{running_tells, ended_tells}
-use Rattle.hh_model.proofs.Kept.{SoundState}
+use Rattle.hh_model.proofs.Kept.{IsForkJoinState}
 
 pub runs_is : (s : Status) → runs s ≡ true → s ≡ Running
 runs_is Running h = refl
@@ -106,7 +106,7 @@ module _ (p : ProgramText) (m : State) (t : ℕ) (x : Task) where
   abbrev pub Put : Name → Name → Type 0
   Put n r = In (refs_at m.store n) r ⊎ ((In (task_names x) n ⊎ ((n ≡ next_name t m.store) × Allocates)) × In (task_names x) r)
 
-module _ (p : ProgramText) (m : State) (t : ℕ) (K : SoundState m) (C : State → Type 0)
+module _ (p : ProgramText) (m : State) (t : ℕ) (K : IsForkJoinState m) (C : State → Type 0)
     (idle : C m)
     (halt : (x : Task) (e : End) → slice_get m.tasks t ≡ Some x → is_running (Some x) ≡ true → Halts p m t x e → C (ended_by m e))
     (stay : (x y : Task) (store : List (List Object)) (outs : List ℤ) → slice_get m.tasks t ≡ Some x → is_running (Some x) ≡ true

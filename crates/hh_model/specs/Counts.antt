@@ -8,7 +8,7 @@ use Rattle.hh_model.specs.declared.data.Task.{Task}
 use Rattle.hh_model.specs.declared.data.State.{State}
 use Rattle.hh_model.specs.Effect.{object_at, row_of}
 use Rattle.hh_model.specs.Step.{step, run}
-use Rattle.hh_model.specs.Tree.{SoundState}
+use Rattle.hh_model.specs.Tree.{IsForkJoinState}
 
 -- TASKS, OBJECTS AND JOINS
 
@@ -24,7 +24,7 @@ abbrev pub RunsAreCounted : Type 0
 RunsAreCounted = (p : ProgramText) (limit : ℕ) (ts : List ℕ) → let m = run p limit ts in Counted (length ts) m.tasks m.store
 
 abbrev pub StepsCount : Type 0
-StepsCount = (p : ProgramText) (m : State) (t k : ℕ) → SoundState m → Counted k m.tasks m.store → let m' = step p m t in Counted (suc k) m'.tasks m'.store
+StepsCount = (p : ProgramText) (m : State) (t k : ℕ) → IsForkJoinState m → Counted k m.tasks m.store → let m' = step p m t in Counted (suc k) m'.tasks m'.store
 
 -- REGISTERS AND FIELDS
 

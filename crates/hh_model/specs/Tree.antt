@@ -61,18 +61,19 @@ TreeOf tasks edges = Tree (length tasks) (parents tasks) (joined tasks) (waiting
 abbrev pub StoreOf : ℕ → (ℕ → ℕ) → List (List Object) → Type 0
 StoreOf n js store = (m : Name) (o : Object) → object_at store m ≡ Some o → (o.strand.task ≡ m.task) × Known n js o.strand
 
-pub record SoundStateIn (tasks : List Task) (edges : List Edge) (store : List (List Object)) : Type 0 where
+-- the tasks stand in a tree, the edges are those of its forks and joins, and each object was made at a strand that was begun
+pub record IsForkJoinStateIn (tasks : List Task) (edges : List Edge) (store : List (List Object)) : Type 0 where
   pub tree : TreeOf tasks edges
   pub store_of : StoreOf (length tasks) (joins_in tasks) store
 
-abbrev pub SoundState : State → Type 0
-SoundState m = SoundStateIn m.tasks m.edges m.store
+abbrev pub IsForkJoinState : State → Type 0
+IsForkJoinState m = IsForkJoinStateIn m.tasks m.edges m.store
 
 abbrev pub RunsAreSound : Type 0
-RunsAreSound = (p : ProgramText) (limit : ℕ) (ts : List ℕ) → SoundState (run p limit ts)
+RunsAreSound = (p : ProgramText) (limit : ℕ) (ts : List ℕ) → IsForkJoinState (run p limit ts)
 
 abbrev pub StepsKeep : Type 0
-StepsKeep = (p : ProgramText) (m : State) (t : ℕ) → SoundState m → SoundState (step p m t)
+StepsKeep = (p : ProgramText) (m : State) (t : ℕ) → IsForkJoinState m → IsForkJoinState (step p m t)
 
 -- THE FIRST TASK
 

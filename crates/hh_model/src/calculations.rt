@@ -28,9 +28,9 @@ impl Frame {
         }
     }
 
-    // Does an instruction that only calculates, or leaves the frame as it is.
+    /// Does an instruction that only calculates, or leaves the frame as it is.
     #[inline(always)]
-    fn calculate(&mut self, instr: Instr) -> bool
+    pub(crate) fn calculate(&mut self, instr: Instr) -> bool
         requires { self.old.next + 1 < 2 ^ 32 }
         ensures only { result ≡ is_calculation self.old instr }
         ensures makes { result ≡ true → Makes instr self.old self.new }

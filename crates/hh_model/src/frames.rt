@@ -1,7 +1,7 @@
 // Changes of a task's frames.
 
 ghost use Rattle.std.specs.Prelude.{◌≡◌, ◌<◌, ◌+◌, ◌^◌, ◌++◌, ◌∷◌, [], length, slice_get, IfSome, OnOk, OnErr, IfNone};
-ghost use Rattle.hh_model.specs.Effect.{int_in, onward, ref_in, with_int, with_ref};
+ghost use Rattle.hh_model.specs.Effect.{onward, with_int, with_ref};
 ghost use Rattle.hh_model.specs.Step.{with_task, called, entry_frame, last_of, front_of};
 
 use crate::data::{End, Frame, Name, State, Trap};
@@ -51,39 +51,6 @@ impl State {
         let task = self.tasks.at_mut(t as usize);
         task.top.set_reference(target, value);
         task.top.advance();
-    }
-
-    /// A task goes on at a place of its function.
-    #[inline(always)]
-    pub(crate) fn jump(&mut self, t: u32, to: u32)
-        requires { t < length self.old.tasks }
-        ensures { IfSome (slice_get self.old.tasks t) (λ x. self.new ≡ with_task self.old t (record x { top = record x.top { next = to } })) }
-    {
-        self.tasks.at_mut(t as usize).top.next = to;
-    }
-
-    /// A number register of a task gets what another one holds.
-    #[inline(always)]
-    pub(crate) fn copy_int(&mut self, t: u32, target: IntReg, source: IntReg)
-        requires made { t < length self.old.tasks }
-        requires next { IfSome (slice_get self.old.tasks t) (λ x. x.top.next + 1 < 2 ^ 32) }
-        ensures { IfSome (slice_get self.old.tasks t) (λ x. self.new ≡ with_task self.old t (record x { top = onward (with_int x.top target (int_in x.top source)) })) }
-    {
-        let top = &self.tasks.at(t as usize).top;
-        let value = top.int(source);
-        self.set_int(t, target, value);
-    }
-
-    /// A reference register of a task gets what another one holds.
-    #[inline(always)]
-    pub(crate) fn copy_reference(&mut self, t: u32, target: RefReg, source: RefReg)
-        requires made { t < length self.old.tasks }
-        requires next { IfSome (slice_get self.old.tasks t) (λ x. x.top.next + 1 < 2 ^ 32) }
-        ensures { IfSome (slice_get self.old.tasks t) (λ x. self.new ≡ with_task self.old t (record x { top = onward (with_ref x.top target (ref_in x.top source)) })) }
-    {
-        let top = &self.tasks.at(t as usize).top;
-        let value = top.reference(source);
-        self.set_reference(t, target, value);
     }
 
     /// A frame waits below the top one, which goes on in a function.

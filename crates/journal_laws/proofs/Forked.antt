@@ -15,7 +15,7 @@ use Rattle.hh_model.specs.declared.data.State.{State}
 use Rattle.hh_model.specs.Effect.{onward}
 use Rattle.hh_model.specs.Names.{refs_at, refs_of, registers, words_asked}
 use Rattle.hh_model.specs.Step.{asked, asked_line, can_step, child, ended_task, fetched, is_running, is_waiting, joined_task, owner_of, parent_of, parents, result_of, resumed, step, waits}
-use Rattle.hh_model.specs.Tree.{SoundState, waiting}
+use Rattle.hh_model.specs.Tree.{IsForkJoinState, waiting}
 use Rattle.hh_model.proofs.Closed.{asked_at}
 use Rattle.path_laws.proofs.Leaves.{fork_owner, rows_same}
 use Rattle.hh_model.proofs.Paths.{path_same}
@@ -58,7 +58,7 @@ within_sees l m' n t V =
     (ap₂ (λ a b. a ++ b) V.registers
     (ap₂ (λ f above. flat_map f (filter above (held l))) refs (fun_ext V.above)))
 
-module _ (p : ProgramText) (m : State) (t : ℕ) (K : SoundState m) (can : can_step m t ≡ true) where
+module _ (p : ProgramText) (m : State) (t : ℕ) (K : IsForkJoinState m) (can : can_step m t ≡ true) where
   abbrev Forked : State → Type 0
   Forked m' = waiting m'.tasks t ≡ true → (asked p m t ≡ None) × SeesSame m m' t
 

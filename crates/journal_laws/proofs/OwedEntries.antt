@@ -15,7 +15,7 @@ use Rattle.hh_model.specs.declared.data.Task.{Task}
 use Rattle.hh_model.specs.declared.data.State.{State}
 use Rattle.hh_model.specs.Effect.{onward}
 use Rattle.hh_model.specs.Step.{waits, is_waiting, child, joined_task, resumed, ended_task, result_of, step, can_step, asked, strand_of}
-use Rattle.hh_model.proofs.Kept.{SoundState}
+use Rattle.hh_model.proofs.Kept.{IsForkJoinState}
 use Rattle.hh_model.proofs.Steps.{step_cases}
 use Rattle.hh_model.proofs.Runs.{grown_at, grown_other, three_top, three_left, three_right, three_other, below}
 use Rattle.run_ledger.specs.declared.data.Heap.{Heap}
@@ -41,7 +41,7 @@ use Rattle.run_ledger.proofs.Booked.{wait_run}
 -- TASKS
 
 -- each task has joined as often as before or more often
-pub joins_grow : (p : ProgramText) (m : State) (t u : ℕ) (x : Task) → SoundState m → slice_get m.tasks u ≡ Some x → (y : Task) × (slice_get (step p m t).tasks u ≡ Some y) × (x.joins ≤ y.joins)
+pub joins_grow : (p : ProgramText) (m : State) (t u : ℕ) (x : Task) → IsForkJoinState m → slice_get m.tasks u ≡ Some x → (y : Task) × (slice_get (step p m t).tasks u ≡ Some y) × (x.joins ≤ y.joins)
 joins_grow p m t u x K at =
     step_cases p m t K (λ m'. (y : Task) × (slice_get m'.tasks u ≡ Some y) × (x.joins ≤ y.joins)) same (λ z e is r why. same)
     (λ z y store outs is r ep ed es ej names fields alters grows. set z y is (omega (arith, ej)))
@@ -78,7 +78,7 @@ joins_grow p m t u x K at =
     ]
 
 -- a task that waits goes on to wait as it is, or has joined once more
-pub waiting_moves : (p : ProgramText) (m : State) (t u : ℕ) (x : Task) → SoundState m → (u ≡ t → ⊥) → slice_get m.tasks u ≡ Some x → waits x.status ≡ true
+pub waiting_moves : (p : ProgramText) (m : State) (t u : ℕ) (x : Task) → IsForkJoinState m → (u ≡ t → ⊥) → slice_get m.tasks u ≡ Some x → waits x.status ≡ true
     → (slice_get (step p m t).tasks u ≡ Some x) ⊎ ((y : Task) × (slice_get (step p m t).tasks u ≡ Some y) × (x.joins < y.joins))
 waiting_moves p m t u x K ne at w =
     step_cases p m t K (λ m'. (slice_get m'.tasks u ≡ Some x) ⊎ ((y : Task) × (slice_get m'.tasks u ≡ Some y) × (x.joins < y.joins))) (inl at) (λ z e is r why. inl at)

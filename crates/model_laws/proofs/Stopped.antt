@@ -17,7 +17,7 @@ use Rattle.hh_model.specs.declared.data.State.{State}
 use Rattle.hh_model.specs.Effect.{Effect, Goes, Stops, Setting, effect, int_in, object_at, onward, or_trap, place_in, read_effect, ref_in, with_object, with_ref}
 use Rattle.hh_model.specs.Precedence.{Precedes, precedes}
 use Rattle.hh_model.specs.Step.{can_step, ended_by, ended_task, follow, goes_on, is_running, joined, owner_of, parents, result_of, run, setting, start, step, strand_of}
-use Rattle.hh_model.specs.Tree.{SoundState, waiting, joins_in}
+use Rattle.hh_model.specs.Tree.{IsForkJoinState, waiting, joins_in}
 use Rattle.path_laws.specs.ReadLaws.{IsDecided, IsRead, IsStopped, ReadsAreDecided, ReadsNext, StopsAreReads, StopsRead}
 use Rattle.hh_model.proofs.Kept.{run_kept, start_kept}
 use Rattle.hh_model.proofs.Steps.{Halts, step_cases}
@@ -35,7 +35,7 @@ read_is s f store instr d o k source n x at getr named is place field =
     ∙ (ap (λ w. or_trap Range w (λ i. read_effect s f store d (option_flatten (slice_get x.refs i)))) place
     ∙ ap (λ w. read_effect s f store d (option_flatten w)) field)))
 
-module _ (p : ProgramText) (m : State) (K : SoundState m) (going : m.end ≡ None) (t : ℕ) (x : Task) (d : ℕ) (n : Name) (o : Object) (R : ReadsNext p m t x d n o) where
+module _ (p : ProgramText) (m : State) (K : IsForkJoinState m) (going : m.end ≡ None) (t : ℕ) (x : Task) (d : ℕ) (n : Name) (o : Object) (R : ReadsNext p m t x d n o) where
   can : can_step m t ≡ true
   can = ap₂ (λ e y. goes_on e (is_running y)) going R.next.task ∙ R.running
 
@@ -85,7 +85,7 @@ reads_are_decided p limit ts t x d n o going R = decided p (run p limit ts) (run
 
 -- STOPS
 
-module _ (p : ProgramText) (m : State) (t : ℕ) (K : SoundState m) (going : m.end ≡ None) where
+module _ (p : ProgramText) (m : State) (t : ℕ) (K : IsForkJoinState m) (going : m.end ≡ None) where
   abbrev Stopped : State → Type 0
   Stopped m' = (reader owner : ℕ) → m'.end ≡ Some (Entangled reader owner) → (reader ≡ t) × StopsRead p m t owner
 

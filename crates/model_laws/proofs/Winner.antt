@@ -20,7 +20,7 @@ use Rattle.hh_model.specs.Store.{IsWriteTo, IsNext, StaysAs}
 use Rattle.model_laws.specs.Winner.{Field, FieldHolds, MayWrite, after, IsCas, expects, brings, Yields, OnlyFromNil, IsUntried, OneWinner}
 use Rattle.hh_model.proofs.Stores.{put_cases, made_cases}
 use Rattle.hh_model.proofs.Changes.{WritesField}
-use Rattle.hh_model.proofs.Kept.{SoundState, start_kept, run_kept, empty_rows, no_objects}
+use Rattle.hh_model.proofs.Kept.{IsForkJoinState, start_kept, run_kept, empty_rows, no_objects}
 use Rattle.path_laws.proofs.Objects.{made_stays, put_here, put_other, rows_stay, same_stays, stays_on, object_later}
 use Rattle.hh_model.proofs.Steps.{Alters, step_cases}
 use Rattle.hh_model.proofs.Taken.{step_taken, step_idle}
@@ -59,7 +59,7 @@ index_of count (pos k) at e = in_range (nat_lt k count) refl e
     in_range false lt h = absurd cc
 index_of count (negsuc k) at e = absurd cc
 
-module _ (p : ProgramText) (m : State) (t : ℕ) (K : SoundState m) (field : Field) (o : Object) (r : Option Name) where
+module _ (p : ProgramText) (m : State) (t : ℕ) (K : IsForkJoinState m) (field : Field) (o : Object) (r : Option Name) where
   -- the next instruction of the task is a putr on the field
   pub record PutrNext : Type 0 where
     pub task : Task
@@ -166,7 +166,7 @@ module _ (p : ProgramText) (m : State) (t : ℕ) (K : SoundState m) (field : Fie
         (λ parent l xp xl xr rl rr ip il ir pl left dl dr wl wr nl nr side. same_becomes)
 
 -- an object that a step made has nil fields, if it is mutable
-module _ (p : ProgramText) (m : State) (t : ℕ) (K : SoundState m) (n : Name) (none : object_at m.store n ≡ None) where
+module _ (p : ProgramText) (m : State) (t : ℕ) (K : IsForkJoinState m) (n : Name) (none : object_at m.store n ≡ None) where
   abbrev NilNew : List (List Object) → Type 0
   NilNew store = (o : Object) (r : Option Name) → object_at store n ≡ Some o → o.mutable ≡ true → In o.refs r → r ≡ None
 
@@ -262,7 +262,7 @@ module _ (p : ProgramText) (limit : ℕ) (ts : List ℕ) (field : Field) (only :
   abbrev At : ℕ → State
   At i = after p limit ts i
 
-  kept : (i : ℕ) → SoundState (At i)
+  kept : (i : ℕ) → IsForkJoinState (At i)
   kept i = run_kept p (start p limit) (take i ts) (start_kept p limit)
 
   -- the next moment comes by a step, or by none

@@ -1,5 +1,5 @@
 -- A step that only calculates: it is the task's own matter, allocates nothing, and the task runs on.
-use Rattle.std.proofs.Common.{◌≡◌, ℕ, ℤ, ◌&&◌, not, is_some, Bool, true, false, List, Option, Some, None, slice_get, slice_set, refl, ap, sym, ◌∙◌}
+use Rattle.std.proofs.Common.{◌≡◌, ℕ, ◌&&◌, not, Bool, true, false, Option, Some, None, slice_get, slice_set, refl, ap, sym, ◌∙◌}
 use Rattle.std.proofs.lemmas.Bool.{false≢true, cond-true}
 use Rattle.listed.proofs.Members.{got_same}
 use Rattle.hh_lang.specs.declared.instr.Instr.{Instr}
@@ -7,49 +7,17 @@ use Rattle.hh_lang.specs.declared.instr.Instr.TheVariants.{Set, Mov, Movr, Nil, 
 use Rattle.hh_lang.specs.declared.program.Line.{Line}
 use Rattle.hh_lang.specs.Form.{ProgramText}
 use Rattle.hh_model.specs.declared.data.Frame.{Frame}
-use Rattle.hh_model.specs.declared.data.Object.{Object}
 use Rattle.hh_model.specs.declared.data.Task.{Task}
-use Rattle.hh_model.specs.declared.data.Trap.TheVariants.{Div as DivTrap}
 use Rattle.hh_model.specs.declared.data.State.{State}
 use Rattle.hh_model.specs.Calculations.{calculates, calculates_by, calculates_line, is_calculation}
-use Rattle.hh_model.specs.Effect.{Goes, Setting, calculated, effect, int_in, onward, or_trap, with_int}
 use Rattle.hh_model.specs.Names.{words_asked}
 use Rattle.hh_model.specs.Step.{asked, asked_by, asked_line, can_step, fetched, follow, is_running, or_same, setting, step, stepped}
+use Rattle.hh_model.proofs.Calculating.{makes_frame}
 use Rattle.run_ledger.specs.Steps.{is_open, works_alone}
 use Rattle.run_ledger.proofs.Steps.{goes_tells}
 use Rattle.next_steps.specs.Own.{is_own, is_own_by, is_own_line}
 
 -- ---- WHAT IT DOES
-
--- an operator that gives a number sets a register
-goes_on_with : (f : Frame) (store : List (List Object)) (d : ℕ) (o : Option ℤ) → is_some o ≡ true → (g : Frame) × (or_trap DivTrap o (λ x. Goes (onward (with_int f d x)) store) ≡ Goes g store)
-goes_on_with f store d None e = absurd (false≢true e)
-goes_on_with f store d (Some x) e = (_, refl)
-
--- it makes a new frame, and the store is as it was
-effect_goes : (s : Setting) (f : Frame) (store : List (List Object)) (i : Instr) → is_calculation f i ≡ true → (g : Frame) × (effect s f store i ≡ Goes g store)
-effect_goes s f store (Set d k) e = (_, refl)
-effect_goes s f store (Mov d a) e = (_, refl)
-effect_goes s f store (Movr d a) e = (_, refl)
-effect_goes s f store (Nil d) e = (_, refl)
-effect_goes s f store (Calc op d a b) e = goes_on_with f store d (calculated op (int_in f a) (int_in f b)) e
-effect_goes s f store (Same d a b) e = (_, refl)
-effect_goes s f store (Jmp to) e = (_, refl)
-effect_goes s f store (Jz a to) e = (_, refl)
-effect_goes s f store (Newm d a b) e = absurd (false≢true e)
-effect_goes s f store (Pack d r i) e = absurd (false≢true e)
-effect_goes s f store (Getr d o k) e = absurd (false≢true e)
-effect_goes s f store (Geti d o k) e = absurd (false≢true e)
-effect_goes s f store (Putr o k v) e = absurd (false≢true e)
-effect_goes s f store (Puti o k v) e = absurd (false≢true e)
-effect_goes s f store (Cntr d o) e = absurd (false≢true e)
-effect_goes s f store (Cnti d o) e = absurd (false≢true e)
-effect_goes s f store (Freeze o) e = absurd (false≢true e)
-effect_goes s f store (Cas d o k x v) e = absurd (false≢true e)
-effect_goes s f store (Call g) e = absurd (false≢true e)
-effect_goes s f store (Par g h) e = absurd (false≢true e)
-effect_goes s f store Ret e = absurd (false≢true e)
-effect_goes s f store (Out a) e = absurd (false≢true e)
 
 -- it asks for nothing, and is the task's own matter
 abbrev Alone : State → ℕ → Task → Instr → Type 0
@@ -110,10 +78,10 @@ module _ (p : ProgramText) (m : State) (t : ℕ) (C : Calculation p m t) where
 
   step_is : (g : Frame) × (step p m t ≡ record m { tasks = slice_set m.tasks t (record C.task { top = g }) })
   step_is =
-      let E = effect_goes (setting m t C.task) C.task.top m.store C.line.instr C.only in (
+      let E = makes_frame C.task.top C.line.instr C.only in (
         E.0,
         cond-true (can_step m t) _ _ C.can ∙ (ap (λ o. or_same m o (λ x. stepped p m t x (fetched p x.top))) C.there
-            ∙ (ap (stepped p m t C.task) C.next ∙ ap (follow m t C.task C.line.number) E.1)),
+            ∙ (ap (stepped p m t C.task) C.next ∙ ap (follow m t C.task C.line.number) (E.1 (setting m t C.task) m.store))),
       )
 
   -- the machine hasn't ended with it

@@ -11,7 +11,7 @@ use Rattle.hh_model.specs.declared.data.State.{State}
 use Rattle.hh_model.specs.declared.data.Task.{Task}
 use Rattle.hh_model.specs.Step.{parent_of, parents, run, run_from, start, step}
 use Rattle.hh_model.specs.Store.{MakesChildren, TasksStay}
-use Rattle.hh_model.specs.Tree.{AreLow, SoundState}
+use Rattle.hh_model.specs.Tree.{AreLow, IsForkJoinState}
 use Rattle.hh_model.proofs.Kept.{start_kept, step_kept}
 use Rattle.hh_model.proofs.Numbers.{numbered}
 use Rattle.heap_tree.specs.Walk.{depth_by, depth_in, through}
@@ -21,7 +21,7 @@ pub record AreDeep (tasks : List Task) : Type 0 where
   pub root : (u : ℕ) (x : Task) → slice_get tasks u ≡ Some x → x.parent ≡ None → x.depth ≡ 0
   pub child : (u q : ℕ) (x y : Task) → slice_get tasks u ≡ Some x → x.parent ≡ Some q → slice_get tasks q ≡ Some y → x.depth ≡ y.depth + 1
 
-module _ (p : ProgramText) (m : State) (t : ℕ) (K : SoundState m) (D : AreDeep m.tasks) where
+module _ (p : ProgramText) (m : State) (t : ℕ) (K : IsForkJoinState m) (D : AreDeep m.tasks) where
   abbrev m' : State
   m' = step p m t
 
@@ -87,7 +87,7 @@ module _ (p : ProgramText) (m : State) (t : ℕ) (K : SoundState m) (D : AreDeep
     ];
   }
 
-deep_from : (p : ProgramText) (ts : List ℕ) (m : State) → SoundState m → AreDeep m.tasks → AreDeep (run_from p m ts).tasks
+deep_from : (p : ProgramText) (ts : List ℕ) (m : State) → IsForkJoinState m → AreDeep m.tasks → AreDeep (run_from p m ts).tasks
 deep_from p [] m K D = D
 deep_from p (t ∷ ts) m K D = deep_from p ts (step p m t) (step_kept p m t K) (deep_step p m t K D)
 

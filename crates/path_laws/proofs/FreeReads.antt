@@ -23,20 +23,20 @@ use Rattle.hh_model.proofs.Paths.{path_itself}
 use Rattle.hh_model.proofs.Carried.{named_from_in, at_in}
 use Rattle.hh_model.proofs.Runs.{waiting, joins_in, running_tells}
 use Rattle.hh_model.proofs.Tree.{not_above, owner_not_joined}
-use Rattle.hh_model.proofs.Kept.{SoundState, seen, start_kept, run_kept, step_kept}
+use Rattle.hh_model.proofs.Kept.{IsForkJoinState, seen, start_kept, run_kept, step_kept}
 use Rattle.hh_model.proofs.Closed.{Closed}
 use Rattle.path_laws.proofs.Disentangled.{Disentangled, OnePath, disentangled_step, start_disentangled}
 use Rattle.path_laws.proofs.Stored.{run_stored}
 use Rattle.hh_model.proofs.Steps.{Halts, step_cases, names_run, runs_is, in_registers}
 
-disentangled_from : (p : ProgramText) (m : State) (ts : List ℕ) → SoundState m → Disentangled m.tasks m.store → Disentangled (run_from p m ts).tasks (run_from p m ts).store
+disentangled_from : (p : ProgramText) (m : State) (ts : List ℕ) → IsForkJoinState m → Disentangled m.tasks m.store → Disentangled (run_from p m ts).tasks (run_from p m ts).store
 disentangled_from p m [] K I = I
 disentangled_from p m (t ∷ ts) K I = disentangled_from p (step p m t) ts (step_kept p m t K) (disentangled_step p m t K I)
 
 pub run_disentangled : (p : ProgramText) (limit : ℕ) (ts : List ℕ) → Disentangled (run p limit ts).tasks (run p limit ts).store
 run_disentangled p limit ts = disentangled_from p (start p limit) ts (start_kept p limit) (start_disentangled p limit)
 
-module _ (m : State) (K : SoundState m) (t : ℕ) (x : Task) (is : slice_get m.tasks t ≡ Some x) (run' : is_running (Some x) ≡ true) where
+module _ (m : State) (K : IsForkJoinState m) (t : ℕ) (x : Task) (is : slice_get m.tasks t ≡ Some x) (run' : is_running (Some x) ≡ true) where
   live : joined m.tasks t ≡ false
   live = ap is_joined is ∙ (running_tells x.status run').0
 
@@ -54,7 +54,7 @@ module _ (m : State) (K : SoundState m) (t : ℕ) (x : Task) (is : slice_get m.t
         (owner_not_joined (length m.tasks) (parents m.tasks) (joined m.tasks) (waiting m.tasks) (joins_in m.tasks) m.edges K.tree a) ne idle) h)
   ]
 
-module _ (m : State) (K : SoundState m) (I : Disentangled m.tasks m.store) (S : Closed m.tasks m.store (IsStored m)) (t : ℕ) (x : Task) (is : slice_get m.tasks t ≡ Some x) (run' : is_running (Some x) ≡ true) where
+module _ (m : State) (K : IsForkJoinState m) (I : Disentangled m.tasks m.store) (S : Closed m.tasks m.store (IsStored m)) (t : ℕ) (x : Task) (is : slice_get m.tasks t ≡ Some x) (run' : is_running (Some x) ≡ true) where
   -- where the owners of what an object's fields name are on the task's path, it reads them freely
   module _ (n : Name) (o : Object) (held : IsStored m n) (at_n : object_at m.store n ≡ Some o) (above : (r : Name) → In o.refs (Some r) → is_on_path m.tasks (owner_of m.tasks r.task) t ≡ true) where
     stored : (r : Name) → In o.refs (Some r) → IsStored m r
@@ -89,7 +89,7 @@ own_reads_go p limit ts t x n o H own =
     own_reads (run p limit ts) (run_kept p (start p limit) ts (start_kept p limit)) (run_disentangled p limit ts) (run_stored p limit ts) t x H.task H.running n o
     (in_from_contains (task_names x) n H.name) H.object own
 
-module _ (p : ProgramText) (m : State) (t : ℕ) (K : SoundState m) where
+module _ (p : ProgramText) (m : State) (t : ℕ) (K : IsForkJoinState m) where
   abbrev Named : State → Type 0
   Named m' = (reader owner : ℕ) → m'.end ≡ Some (Entangled reader owner) → (m.end ≡ Some (Entangled reader owner)) ⊎ ((reader ≡ t) × IsStop m t owner)
 

@@ -16,7 +16,7 @@ use Rattle.hh_model.proofs.Stores.{put_cases, made_cases}
 use Rattle.hh_model.proofs.Carried.{named_from_in}
 use Rattle.hh_model.proofs.Changes.{SetsRef, SetsInt, Freezes}
 use Rattle.hh_model.proofs.Runs.{running_tells}
-use Rattle.hh_model.proofs.Kept.{SoundState, start_kept, step_kept, run_kept, empty_rows}
+use Rattle.hh_model.proofs.Kept.{IsForkJoinState, start_kept, step_kept, run_kept, empty_rows}
 use Rattle.path_laws.proofs.Disentangled.{Disentangled, OnePath, disentangled_step, start_disentangled, no_refs, up_forked, up_joined}
 use Rattle.path_laws.proofs.Stored.{run_stored}
 use Rattle.path_laws.proofs.FreeReads.{up_from, reads_freely, run_disentangled}
@@ -29,7 +29,7 @@ Up par jd a b = path_in par (owner_in par jd a) (owner_in par jd b) ≡ true
 abbrev pub Upward : (ℕ → Option ℕ) → (ℕ → Bool) → List (List Object) → Type 0
 Upward par jd store = (k r : Name) (o : Object) → object_at store k ≡ Some o → o.mutable ≡ false → In o.refs (Some r) → Up par jd r.task k.task
 
-module _ (p : ProgramText) (m : State) (t : ℕ) (K : SoundState m) (I : Disentangled m.tasks m.store) (U : Upward (parents m.tasks) (joined m.tasks) m.store) where
+module _ (p : ProgramText) (m : State) (t : ℕ) (K : IsForkJoinState m) (I : Disentangled m.tasks m.store) (U : Upward (parents m.tasks) (joined m.tasks) m.store) where
   abbrev par : ℕ → Option ℕ
   par = parents m.tasks
 
@@ -98,7 +98,7 @@ module _ (p : ProgramText) (m : State) (t : ℕ) (K : SoundState m) (I : Disenta
       (λ parent l xp xl xr rl rr ip il ir pl left dl dr wl wr nl nr side k r o at f i.
       up_joined p m t K I parent l xp xl xr rl rr ip il ir pl left dl dr wl wr nl nr r.task k.task (U k r o at f i))
 
-upward_from : (p : ProgramText) (m : State) (ts : List ℕ) → SoundState m → Disentangled m.tasks m.store → Upward (parents m.tasks) (joined m.tasks) m.store
+upward_from : (p : ProgramText) (m : State) (ts : List ℕ) → IsForkJoinState m → Disentangled m.tasks m.store → Upward (parents m.tasks) (joined m.tasks) m.store
     → Upward (parents (run_from p m ts).tasks) (joined (run_from p m ts).tasks) (run_from p m ts).store
 upward_from p m [] K I U = U
 upward_from p m (t ∷ ts) K I U = upward_from p (step p m t) ts (step_kept p m t K) (disentangled_step p m t K I) (upward_step p m t K I U)

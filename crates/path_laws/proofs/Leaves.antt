@@ -12,7 +12,7 @@ use Rattle.hh_model.specs.declared.data.End.{End}
 use Rattle.hh_model.specs.declared.data.State.{State}
 use Rattle.hh_model.specs.Effect.{object_at, onward, put_object, row_of}
 use Rattle.hh_model.specs.Step.{can_step, child, ended_task, goes_on, is_joined, is_left, is_on_path, is_over, is_running, is_waiting, joined, joined_task, owner_in, owner_of, parent_of, parents, result_of, resumed, run, runs, start, step, waits}
-use Rattle.hh_model.specs.Tree.{SoundState, waiting, joins_in}
+use Rattle.hh_model.specs.Tree.{IsForkJoinState, waiting, joins_in}
 use Rattle.path_laws.specs.Disentangled.{Disentangled}
 use Rattle.path_laws.specs.Leaves.{LeavesOwner, StepsLeaveOwners, StepsWaitAlone, WaitsAlone}
 use Rattle.hh_model.proofs.Closed.{grown_cases, three_cases, waits_is}
@@ -49,7 +49,7 @@ put_leaves store k n y ne = elim (cases_eq n.task k.task) [
 ]
 
 -- owners after a fork
-module _ (m : State) (t : ℕ) (K : SoundState m) (x : Task) (g h : ℕ) (is : slice_get m.tasks t ≡ Some x) (run : is_running (Some x) ≡ true) where
+module _ (m : State) (t : ℕ) (K : IsForkJoinState m) (x : Task) (g h : ℕ) (is : slice_get m.tasks t ≡ Some x) (run : is_running (Some x) ≡ true) where
   abbrev fy : Task
   fy = record x { status = Waiting; top = onward x.top }
 
@@ -77,7 +77,7 @@ module _ (m : State) (t : ℕ) (K : SoundState m) (x : Task) (g h : ℕ) (is : s
   pub fork_owner : (a : ℕ) → owner_of fork_tasks a ≡ owner_of m.tasks a
   fork_owner a = ap (λ f. owner_in (parents fork_tasks) f a) joined_same ∙ own_all a
 
-module _ (p : ProgramText) (m : State) (t : ℕ) (K : SoundState m) (D : Disentangled m.tasks m.store) (u : ℕ) (ne : u ≡ t → ⊥) (run_u : is_running (slice_get m.tasks u) ≡ true) where
+module _ (p : ProgramText) (m : State) (t : ℕ) (K : IsForkJoinState m) (D : Disentangled m.tasks m.store) (u : ℕ) (ne : u ≡ t → ⊥) (run_u : is_running (slice_get m.tasks u) ≡ true) where
   abbrev n : ℕ
   n = length m.tasks
 
@@ -243,7 +243,7 @@ goes_tells (Some e) b h = absurd (false≢true h)
 pub can_going : (m : State) (t : ℕ) → can_step m t ≡ true → m.end ≡ None
 can_going m t can = goes_tells m.end (is_running (slice_get m.tasks t)) can
 
-module _ (p : ProgramText) (m : State) (t : ℕ) (K : SoundState m) where
+module _ (p : ProgramText) (m : State) (t : ℕ) (K : IsForkJoinState m) where
   module _ (u : ℕ) (ne : u ≡ t → ⊥) where
     abbrev Waited : List Task → Type 0
     Waited tasks = waiting tasks u ≡ true → waiting m.tasks u ≡ true

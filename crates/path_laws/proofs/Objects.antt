@@ -13,7 +13,7 @@ use Rattle.hh_model.specs.Step.{step, run, run_from, start, setting}
 use Rattle.hh_model.specs.Store.{IsWriteTo, WritesNext, StaysAs, NothingLeaves, ObjectsStay, OutputsGrow}
 use Rattle.hh_model.proofs.Stores.{in_row}
 use Rattle.hh_model.proofs.Changes.{SetsRef, SetsInt, Freezes}
-use Rattle.hh_model.proofs.Kept.{SoundState, start_kept, run_kept, step_kept}
+use Rattle.hh_model.proofs.Kept.{IsForkJoinState, start_kept, run_kept, step_kept}
 use Rattle.hh_model.proofs.Steps.{Alters, step_cases}
 
 -- an object after another one was made
@@ -78,7 +78,7 @@ int_stays x at k h = record { strand = refl; refs = refl; ints = length-set x.in
 freeze_stays : (x : Object) → StaysAs x (record x { mutable = false })
 freeze_stays x = record { strand = refl; refs = refl; ints = refl; frozen = λ f. λ i. record x { mutable = (sym f) i } }
 
-module _ (p : ProgramText) (m : State) (t : ℕ) (K : SoundState m) where
+module _ (p : ProgramText) (m : State) (t : ℕ) (K : IsForkJoinState m) where
   abbrev Later : Name → Object → List (List Object) → Type 0
   Later n o store = (new : Object) × (object_at store n ≡ Some new) × StaysAs o new × ((new ≡ o) ⊎ WritesNext p m t n)
 
@@ -130,7 +130,7 @@ module _ (p : ProgramText) (m : State) (t : ℕ) (K : SoundState m) where
 pub nothing_leaves : NothingLeaves
 nothing_leaves p limit ts t n o is = object_later p (run p limit ts) t (run_kept p (start p limit) ts (start_kept p limit)) n o is
 
-objects_from : (p : ProgramText) (m : State) (more : List ℕ) (n : Name) (o : Object) → SoundState m → object_at m.store n ≡ Some o
+objects_from : (p : ProgramText) (m : State) (more : List ℕ) (n : Name) (o : Object) → IsForkJoinState m → object_at m.store n ≡ Some o
     → (new : Object) × (object_at (run_from p m more).store n ≡ Some new) × StaysAs o new
 objects_from p m [] n o K is = (o, is, same_stays o)
 objects_from p m (t ∷ more) n o K is =
@@ -141,7 +141,7 @@ objects_from p m (t ∷ more) n o K is =
 pub objects_stay : ObjectsStay
 objects_stay p limit ts more n o is = objects_from p (run p limit ts) more n o (run_kept p (start p limit) ts (start_kept p limit)) is
 
-outputs_from : (p : ProgramText) (m : State) (more : List ℕ) → SoundState m → (outs : List ℤ) × ((run_from p m more).outputs ≡ m.outputs ++ outs)
+outputs_from : (p : ProgramText) (m : State) (more : List ℕ) → IsForkJoinState m → (outs : List ℤ) × ((run_from p m more).outputs ≡ m.outputs ++ outs)
 outputs_from p m [] K = ([], sym (append-nil m.outputs))
 outputs_from p m (t ∷ more) K =
     let l = outputs_later p m t K in

@@ -20,7 +20,7 @@ use Rattle.hh_model.specs.Step.{setting, fetched, step, follow, root, start, run
 use Rattle.hh_model.specs.Store.{IsStored, NamesAreStored}
 use Rattle.hh_model.proofs.Stores.{put_cases, made_cases}
 use Rattle.hh_model.proofs.Carried.{named_from_in, next_name}
-use Rattle.hh_model.proofs.Kept.{SoundState, start_kept, step_kept, empty_rows}
+use Rattle.hh_model.proofs.Kept.{IsForkJoinState, start_kept, step_kept, empty_rows}
 use Rattle.hh_model.proofs.Steps.{Alters, step_cases}
 use Rattle.hh_model.proofs.Closed.{Closed, closed_step, asked_at}
 use Rattle.path_laws.proofs.Disentangled.{no_refs}
@@ -67,7 +67,7 @@ made_here store t row o e =
     ∙ (ap (slice_get (row_of (slice_get store t) ++ o ∷ [])) (let h : length (row_of (slice_get store t)) ≡ length (row_of (slice_get store t)) + 0 = omega arith in h)
     ∙ got_back (row_of (slice_get store t)) (o ∷ []) 0)
 
-module _ (p : ProgramText) (m : State) (t : ℕ) (K : SoundState m) (rows : length m.store ≡ length m.tasks) where
+module _ (p : ProgramText) (m : State) (t : ℕ) (K : IsForkJoinState m) (rows : length m.store ≡ length m.tasks) where
   next_by : (x : Task) (o : Option Line) → can_step m t ≡ true → slice_get m.tasks t ≡ Some x → fetched p x.top ≡ o → is_some (asked_line m.field_limit x.top o) ≡ true → IsStored (step p m t) (next_name t m.store)
   next_by x None can is il h = absurd (false≢true h)
   next_by x (Some line) can is il h =
@@ -122,7 +122,7 @@ module _ (p : ProgramText) (m : State) (t : ℕ) (K : SoundState m) (rows : leng
   pub stored_step : All m → All (step p m t)
   stored_step I = stored_by (can_step m t) refl I
 
-stored_from : (p : ProgramText) (m : State) (ts : List ℕ) (k : ℕ) → SoundState m → Counted k m.tasks m.store → Closed m.tasks m.store (IsStored m) → Closed (run_from p m ts).tasks (run_from p m ts).store (IsStored (run_from p m ts))
+stored_from : (p : ProgramText) (m : State) (ts : List ℕ) (k : ℕ) → IsForkJoinState m → Counted k m.tasks m.store → Closed m.tasks m.store (IsStored m) → Closed (run_from p m ts).tasks (run_from p m ts).store (IsStored (run_from p m ts))
 stored_from p m [] k K I C = C
 stored_from p m (t ∷ ts) k K I C = stored_from p (step p m t) ts (suc k) (step_kept p m t K) (counted_step p m t K k I) (stored_step p m t K I.rows C)
 

@@ -9,7 +9,7 @@ use Rattle.hh_model.specs.declared.data.State.{State}
 use Rattle.hh_model.specs.Names.{refs_at, task_names}
 use Rattle.hh_model.specs.Step.{parents, joined, owner_in, path_in, step, run}
 use Rattle.path_laws.specs.Paths.{OnePath}
-use Rattle.hh_model.specs.Tree.{SoundState}
+use Rattle.hh_model.specs.Tree.{IsForkJoinState}
 
 -- the owner of a name stands on the path of the task u, where n tasks have these parents
 abbrev pub IsOnPathOf : ℕ → (ℕ → Option ℕ) → (ℕ → Bool) → ℕ → Name → Type 0
@@ -31,4 +31,4 @@ abbrev pub NamesAreOnPath : Type 0
 NamesAreOnPath = (p : ProgramText) (limit : ℕ) (ts : List ℕ) → let m = run p limit ts in Disentangled m.tasks m.store
 
 abbrev pub StepsDisentangle : Type 0
-StepsDisentangle = (p : ProgramText) (m : State) (t : ℕ) → SoundState m → Disentangled m.tasks m.store → let m' = step p m t in Disentangled m'.tasks m'.store
+StepsDisentangle = (p : ProgramText) (m : State) (t : ℕ) → IsForkJoinState m → Disentangled m.tasks m.store → let m' = step p m t in Disentangled m'.tasks m'.store

@@ -15,7 +15,7 @@ use Rattle.hh_lang.specs.Form.{ProgramText}
 use Rattle.hh_model.specs.declared.data.Edge.{Edge}
 use Rattle.hh_model.specs.Precedence.{Precedes, precedes}
 use Rattle.hh_model.specs.Step.{run, start}
-use Rattle.hh_model.proofs.Kept.{SoundState, run_kept, start_kept}
+use Rattle.hh_model.proofs.Kept.{IsForkJoinState, run_kept, start_kept}
 use Rattle.race_report.specs.declared.data.Field.{Field}
 use Rattle.race_report.specs.declared.data.Access.{Access}
 use Rattle.race_report.specs.declared.data.Race.{Race}
@@ -94,7 +94,7 @@ module _ (sight : Sight) (p : ProgramText) (limit : ℕ) (ts : List ℕ) where
   abbrev ss : List Seen
   ss = seen sight p limit ts
 
-  K : SoundState (start p limit)
+  K : IsForkJoinState (start p limit)
   K = start_kept p limit
 
   mapped : map (λ (v : Seen). v.access) ss ≡ all

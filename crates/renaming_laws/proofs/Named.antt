@@ -11,7 +11,7 @@ use Rattle.hh_model.specs.declared.data.State.{State}
 use Rattle.hh_model.specs.declared.data.Status.TheVariants.{Running, Waiting}
 use Rattle.hh_model.specs.Effect.{onward}
 use Rattle.hh_model.specs.Step.{child, edge, parent_of, parents, ended_task, is_left, is_running, joined_task, result_of, resumed, run_from, start, step, strand, strand_of, waits}
-use Rattle.hh_model.proofs.Kept.{SoundState, start_kept, step_kept}
+use Rattle.hh_model.proofs.Kept.{IsForkJoinState, start_kept, step_kept}
 use Rattle.hh_model.proofs.Steps.{runs_is, step_cases}
 use Rattle.renaming_laws.specs.PlaceLaw.{PlacesAreNames}
 use Rattle.renaming_laws.specs.Places.{IsPlace, Place}
@@ -224,7 +224,7 @@ joined_on tasks edges d e later later' F = record {
       ]
     ]
 
-step_forks : (p : ProgramText) (m : State) (t : ℕ) → SoundState m → Forks m.tasks m.edges → Forks (step p m t).tasks (step p m t).edges
+step_forks : (p : ProgramText) (m : State) (t : ℕ) → IsForkJoinState m → Forks m.tasks m.edges → Forks (step p m t).tasks (step p m t).edges
 step_forks p m t K F =
     step_cases p m t K (λ m'. Forks m'.tasks m'.edges) F (λ x e is run why. F)
     (λ x y store outs is run ep ed es ej names fields alters grows.
@@ -248,7 +248,7 @@ step_forks p m t K F =
     parent_is : (m : State) (l : ℕ) (xl : Task) (parent : ℕ) → slice_get m.tasks l ≡ Some xl → xl.parent ≡ Some parent → parents m.tasks l ≡ Some parent
     parent_is m l xl parent il pl = ap parent_of il ∙ pl
 
-run_forks : (p : ProgramText) (m : State) (ts : List ℕ) → SoundState m → Forks m.tasks m.edges → Forks (run_from p m ts).tasks (run_from p m ts).edges
+run_forks : (p : ProgramText) (m : State) (ts : List ℕ) → IsForkJoinState m → Forks m.tasks m.edges → Forks (run_from p m ts).tasks (run_from p m ts).edges
 run_forks p m [] K F = F
 run_forks p m (t ∷ ts) K F = run_forks p (step p m t) ts (step_kept p m t K) (step_forks p m t K F)
 

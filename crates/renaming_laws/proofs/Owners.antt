@@ -12,7 +12,7 @@ use Rattle.hh_model.specs.declared.data.Task.{Task}
 use Rattle.hh_model.specs.declared.data.State.{State}
 use Rattle.hh_model.specs.Precedence.{Precedes, precedes}
 use Rattle.hh_model.specs.Step.{is_joined, is_over, joined, owner_by, owner_of, parent_of, parents, through}
-use Rattle.hh_model.specs.Tree.{SoundState}
+use Rattle.hh_model.specs.Tree.{IsForkJoinState}
 use Rattle.hh_model.proofs.Paths.{owner_live}
 use Rattle.renaming_laws.specs.Renaming.{IsRenaming, strand_to, edge_to, status_to, task_to}
 use Rattle.renaming_laws.specs.Alike.{AreAlike}
@@ -32,7 +32,7 @@ joined_to : (f : ℕ → ℕ) (o : Option Task) → is_joined (option_map (task_
 joined_to f None = refl
 joined_to f (Some x) = over_to f x.status
 
-module _ (n : ℕ) (f g : ℕ → ℕ) (R : IsRenaming n f g) (m m' : State) (K : SoundState m) (K' : SoundState m') (A : AreAlike f m m') where
+module _ (n : ℕ) (f g : ℕ → ℕ) (R : IsRenaming n f g) (m m' : State) (K : IsForkJoinState m) (K' : IsForkJoinState m') (A : AreAlike f m m') where
   abbrev par : ℕ → Option ℕ
   par = parents m.tasks
 

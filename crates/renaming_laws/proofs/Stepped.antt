@@ -17,7 +17,7 @@ use Rattle.hh_model.specs.declared.data.End.TheVariants.{Done, Trapped, Entangle
 use Rattle.hh_model.specs.declared.data.State.{State}
 use Rattle.hh_model.specs.Effect.{Effect, Goes, Prints, Calls, Forks, Returns, Traps, Stops, Setting, effect, int_in, object_at, onward, ref_in, row_of, with_int, with_ref}
 use Rattle.hh_model.specs.Step.{back_in, called, can_step, child, child_ended_by, depth_limit, ended_by, ended_task, entry_frame, fetched, follow, forked, frame_limit, front_of, is_left, join_of, result_at, last_of, last_return, or_same, owner_of, parent_of, parents, result_of, returned, returned_to, setting, sibling, step, stepped, strand, with_task}
-use Rattle.hh_model.specs.Tree.{SoundState}
+use Rattle.hh_model.specs.Tree.{IsForkJoinState}
 use Rattle.renaming_laws.specs.Renaming.{IsRenaming, ref_to, object_to, frame_to, task_to}
 use Rattle.renaming_laws.specs.Alike.{AreAlike}
 use Rattle.renaming_laws.proofs.Changed.{Change, Same, Grows, Edits, Edit, SetRef, SetNumber, Freezes, change_to, changed, edit_to, edited, put_in}
@@ -26,7 +26,7 @@ use Rattle.renaming_laws.proofs.Lists.{front_map, got_map, last_map, set_to}
 use Rattle.renaming_laws.proofs.Owners.{owner_to, test_to}
 use Rattle.renaming_laws.proofs.Follows.{StoreTo, can_to, forks, halted, joins, kept_to, object_there, own, result_to, row_to, written}
 
-module _ (p : ProgramText) (n : ℕ) (f g : ℕ → ℕ) (R : IsRenaming n f g) (m m' : State) (K : SoundState m) (K' : SoundState m') (rows : length m.store ≡ length m.tasks) (rows' : length m'.store ≡ length m'.tasks)
+module _ (p : ProgramText) (n : ℕ) (f g : ℕ → ℕ) (R : IsRenaming n f g) (m m' : State) (K : IsForkJoinState m) (K' : IsForkJoinState m') (rows : length m.store ≡ length m.tasks) (rows' : length m'.store ≡ length m'.tasks)
     (made : n ≤ length m.tasks) (A : AreAlike f m m') (t : ℕ) where
   abbrev Alike : State → State → Type 0
   Alike = AreAlike f

@@ -15,7 +15,7 @@ use Rattle.hh_model.specs.declared.data.State.{State}
 use Rattle.hh_model.specs.Effect.{onward}
 use Rattle.hh_model.specs.Step.{runs, is_running, child, joined_task, resumed, ended_task, result_of, step, can_step, asked, asked_by, asked_line, fetched}
 use Rattle.hh_model.proofs.Carried.{next_name}
-use Rattle.hh_model.proofs.Kept.{SoundState}
+use Rattle.hh_model.proofs.Kept.{IsForkJoinState}
 use Rattle.hh_model.proofs.Steps.{step_cases}
 use Rattle.hh_model.proofs.Counts.{step_limit}
 use Rattle.hh_model.proofs.Runs.{waiting, grown_other, three_other, wp, below}
@@ -104,7 +104,7 @@ pub wait_run : (m : State) (u : ℕ) → waiting m.tasks u ≡ true → is_runni
 wait_run m u w r = both_ways (is_running (slice_get m.tasks u)) (waiting_stops (slice_get m.tasks u) w) r
 
 -- a step leaves the other tasks that run as they are
-pub step_others : (p : ProgramText) (m : State) (t u : ℕ) → SoundState m → (u ≡ t → ⊥) → is_running (slice_get m.tasks u) ≡ true → slice_get (step p m t).tasks u ≡ slice_get m.tasks u
+pub step_others : (p : ProgramText) (m : State) (t u : ℕ) → IsForkJoinState m → (u ≡ t → ⊥) → is_running (slice_get m.tasks u) ≡ true → slice_get (step p m t).tasks u ≡ slice_get m.tasks u
 step_others p m t u K ne run =
     step_cases p m t K (λ m'. slice_get m'.tasks u ≡ slice_get m.tasks u) refl (λ x e is r why. refl)
     (λ x y store outs is r ep ed es ej names fields alters grows. got_other m.tasks t u y ne)

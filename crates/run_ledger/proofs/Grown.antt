@@ -27,7 +27,7 @@ use Rattle.hh_model.specs.Store.{IsStored}
 use Rattle.hh_model.specs.Step.{setting, fetched, step, follow, called, returned, returned_to, last_return, child_ended_by, last_of, result_at, result_of, sibling, is_left, or_same, join_of, ended_by, can_step, is_running, asked, asked_line, frame_limit, depth_limit}
 use Rattle.hh_model.proofs.Stores.{put_cases, made_cases, in_row}
 use Rattle.hh_model.proofs.Carried.{next_name}
-use Rattle.hh_model.proofs.Kept.{SoundState, empty_rows}
+use Rattle.hh_model.proofs.Kept.{IsForkJoinState, empty_rows}
 use Rattle.hh_model.proofs.Closed.{asked_at}
 use Rattle.path_laws.proofs.Objects.{object_later}
 use Rattle.path_laws.proofs.Stored.{made_here}
@@ -255,7 +255,7 @@ pub record Grown (p : ProgramText) (m : State) (t : ℕ) : Type 0 where
 pub next_unstored : (m : State) (t : ℕ) → IsStored m (next_name t m.store) → ⊥
 next_unstored m t s = let lt : length (row_of (slice_get m.store t)) < length (row_of (slice_get m.store t)) = got_within (row_of (slice_get m.store t)) (length (row_of (slice_get m.store t))) s.0 s.1 in omega arith
 
-module _ (p : ProgramText) (m : State) (t : ℕ) (K : SoundState m) (can : can_step m t ≡ true) (t_row : t < length m.store) where
+module _ (p : ProgramText) (m : State) (t : ℕ) (K : IsForkJoinState m) (can : can_step m t ≡ true) (t_row : t < length m.store) where
   same_words : (o new : Object) → length new.refs ≡ length o.refs → length new.ints ≡ length o.ints → words_of (Some new) ≡ words_of (Some o)
   same_words o new r i = ap₂ (λ a b. 2 + a + b) r i
 

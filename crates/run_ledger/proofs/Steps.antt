@@ -20,7 +20,7 @@ use Rattle.hh_model.proofs.Paths.{owner_live, owner_le, owner_same, path_same, o
 use Rattle.hh_model.proofs.Tree.{not_above, owner_not_joined}
 use Rattle.hh_model.proofs.Carried.{next_name, named_from_in}
 use Rattle.hh_model.proofs.Runs.{waiting, running_tells, grown_length, grown_view, grown_view_front, grown_at, grown_other, wrest_fork, three_length, three_top, three_left, three_right, three_other, three_view, parl, parr, below, dp, wp, drest}
-use Rattle.hh_model.proofs.Kept.{SoundStateIn, step_kept}
+use Rattle.hh_model.proofs.Kept.{IsForkJoinStateIn, step_kept}
 use Rattle.hh_model.proofs.Steps.{step_cases, runs_is, register_cases}
 use Rattle.hh_model.proofs.Closed.{Closed, closed_step, grown_cases}
 use Rattle.path_laws.proofs.Disentangled.{Disentangled, disentangled_step}
@@ -174,13 +174,13 @@ module _ (p : ProgramText) (l : Ledger) (S : SoundLedger l) (t : ℕ) (x : Task)
   -- what a state after the step owes
   abbrev Owes : State → Type 0
   Owes m' =
-      SoundStateIn m'.tasks m'.edges m'.store → Disentangled m'.tasks m'.store → Closed m'.tasks m'.store (Keeps b.heaps)
+      IsForkJoinStateIn m'.tasks m'.edges m'.store → Disentangled m'.tasks m'.store → Closed m'.tasks m'.store (Keeps b.heaps)
       → ((u : ℕ) (ns : List Name) → (u ≡ t → ⊥) → Spares tasks l.machine.store l.heaps u ns → Spares m'.tasks m'.store b.heaps u ns)
       → Good (stepped_to b t m')
 
   -- the tree is as before
   steady : (m' : State) → length m'.tasks ≡ length tasks → ((a : ℕ) → owner_of m'.tasks a ≡ owner_of tasks a) → ((u : ℕ) → (u ≡ t → ⊥) → slice_get m'.tasks u ≡ slice_get tasks u) → waiting m'.tasks t ≡ false
-      → SoundStateIn m'.tasks m'.edges m'.store → Disentangled m'.tasks m'.store → Closed m'.tasks m'.store (Keeps b.heaps)
+      → IsForkJoinStateIn m'.tasks m'.edges m'.store → Disentangled m'.tasks m'.store → Closed m'.tasks m'.store (Keeps b.heaps)
       → ((u : ℕ) (ns : List Name) → (u ≡ t → ⊥) → Spares tasks l.machine.store l.heaps u ns → Spares m'.tasks m'.store b.heaps u ns)
       → Sound m'.tasks m'.edges m'.store b.heaps
   steady m' len own others idle_t K D C sp = record {
@@ -207,7 +207,7 @@ module _ (p : ProgramText) (l : Ledger) (S : SoundLedger l) (t : ℕ) (x : Task)
       let k : Ledger = record b { machine = m'; steps = b.steps + 1 } in
       subst Good (sym (ap (settled k t) on ∙ (ap (moved_to k t) at ∙ ap (moved_on k t y.parent) st))) (s, A.still ∙ idle, inl refl, inr (inl (ap is_running at ∙ ap runs st)), λ u ne w. A.others u ne)
 
-  same_sound : (m' : State) → m'.tasks ≡ tasks → SoundStateIn m'.tasks m'.edges m'.store → Disentangled m'.tasks m'.store → Closed m'.tasks m'.store (Keeps b.heaps)
+  same_sound : (m' : State) → m'.tasks ≡ tasks → IsForkJoinStateIn m'.tasks m'.edges m'.store → Disentangled m'.tasks m'.store → Closed m'.tasks m'.store (Keeps b.heaps)
       → ((u : ℕ) (ns : List Name) → (u ≡ t → ⊥) → Spares tasks l.machine.store l.heaps u ns → Spares m'.tasks m'.store b.heaps u ns)
       → Sound m'.tasks m'.edges m'.store b.heaps
   same_sound m' e K D C sp =
@@ -219,7 +219,7 @@ module _ (p : ProgramText) (l : Ledger) (S : SoundLedger l) (t : ℕ) (x : Task)
       ap (λ f. owner_in f (joined (slice_set tasks t y)) a) (same_view parent_of tasks t x y is ep) ∙ ap (λ f. owner_in (parents tasks) f a) (same_view is_joined tasks t x y is ed)
 
   written_sound : (m' : State) (y : Task) → m'.tasks ≡ slice_set tasks t y → y.parent ≡ x.parent → is_over y.status ≡ is_over x.status → waits y.status ≡ false
-      → SoundStateIn m'.tasks m'.edges m'.store → Disentangled m'.tasks m'.store → Closed m'.tasks m'.store (Keeps b.heaps)
+      → IsForkJoinStateIn m'.tasks m'.edges m'.store → Disentangled m'.tasks m'.store → Closed m'.tasks m'.store (Keeps b.heaps)
       → ((u : ℕ) (ns : List Name) → (u ≡ t → ⊥) → Spares tasks l.machine.store l.heaps u ns → Spares m'.tasks m'.store b.heaps u ns)
       → Sound m'.tasks m'.edges m'.store b.heaps
   written_sound m' y e ep ed ew K D C sp =
@@ -376,7 +376,7 @@ module _ (p : ProgramText) (l : Ledger) (S : SoundLedger l) (t : ℕ) (x : Task)
     was_waiting : (u : ℕ) → (u ≡ t → ⊥) → waiting all u ≡ true → waiting tasks u ≡ true
     was_waiting u ne w = sym (wrest_fork tasks l.machine.edges t x (onward x.top) x.top x.top g k is run S.kept.tree u ne) ∙ w
 
-    fork_sound : SoundStateIn all mf.edges mf.store → Disentangled all mf.store → Closed all mf.store (Keeps b.heaps)
+    fork_sound : IsForkJoinStateIn all mf.edges mf.store → Disentangled all mf.store → Closed all mf.store (Keeps b.heaps)
         → ((u : ℕ) (ns : List Name) → (u ≡ t → ⊥) → Spares tasks l.machine.store l.heaps u ns → Spares all mf.store b.heaps u ns) → Sound all mf.edges mf.store heaps3
     fork_sound K D C sp = record {
       kept = K;
@@ -660,7 +660,7 @@ module _ (p : ProgramText) (l : Ledger) (S : SoundLedger l) (t : ℕ) (x : Task)
       λ e. both_ways (runs xp.status) stops_p (ap is_running (sym (ap (slice_get tasks) e ∙ ip)) ∙ r),
     )
 
-    join_sound : SoundStateIn after mj.edges l.machine.store → Disentangled after l.machine.store → Closed after l.machine.store (Keeps b.heaps)
+    join_sound : IsForkJoinStateIn after mj.edges l.machine.store → Disentangled after l.machine.store → Closed after l.machine.store (Keeps b.heaps)
         → ((u : ℕ) (ns : List Name) → (u ≡ t → ⊥) → Spares tasks l.machine.store l.heaps u ns → Spares after l.machine.store b.heaps u ns) → Sound after mj.edges l.machine.store j4
     join_sound K D C sp = record {
       kept = K;

@@ -14,7 +14,7 @@ use Rattle.hh_model.specs.declared.data.State.{State}
 use Rattle.hh_model.specs.Step.{step, can_step, asked}
 use Rattle.hh_model.specs.Store.{IsStored}
 use Rattle.hh_model.proofs.Carried.{next_name}
-use Rattle.hh_model.proofs.Kept.{SoundState}
+use Rattle.hh_model.proofs.Kept.{IsForkJoinState}
 use Rattle.hh_model.proofs.Taken.{can_made}
 use Rattle.hh_model.proofs.Counts.{Counted, counted_step, start_counted}
 use Rattle.run_ledger.specs.declared.data.Heap.{Heap}
@@ -160,7 +160,7 @@ module _ (p : ProgramText) (l : Ledger) (t : ℕ) (S : SoundAt t l) (I : Stocked
   heap : (h : Heap) × (slice_get l.heaps t ≡ Some h)
   heap = heap_of_task l t S.0 (can_tells m t can).1
 
-  K : SoundState l.machine
+  K : IsForkJoinState l.machine
   K = S.0.kept
 
   row : t < length l.machine.store

@@ -9,7 +9,7 @@ use Rattle.hh_model.specs.declared.data.Object.{Object}
 use Rattle.hh_model.specs.declared.data.Edge.{Edge}
 use Rattle.hh_model.specs.declared.data.Task.{Task}
 use Rattle.hh_model.specs.Step.{is_running, owner_of}
-use Rattle.hh_model.specs.Tree.{waiting, SoundStateIn}
+use Rattle.hh_model.specs.Tree.{waiting, IsForkJoinStateIn}
 use Rattle.hh_model.specs.Closed.{Closed}
 use Rattle.path_laws.specs.Disentangled.{Disentangled}
 use Rattle.run_ledger.specs.declared.data.Heap.{Heap}
@@ -62,7 +62,7 @@ survivors_at (Some h) = h.survivors
 -- all that is reached is held; what the heap of a task that waits is used for is in its snapshot; and what the heap of a task
 -- amid a leaf collection is used for is among its survivors
 pub record Sound (tasks : List Task) (edges : List Edge) (store : List (List Object)) (heaps : List Heap) : Type 0 where
-  pub kept : SoundStateIn tasks edges store
+  pub kept : IsForkJoinStateIn tasks edges store
   pub apart : Disentangled tasks store
   pub lengths : length heaps ≡ length tasks
   pub owners : Owners tasks heaps

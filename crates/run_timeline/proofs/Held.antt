@@ -12,7 +12,7 @@ use Rattle.hh_model.specs.Store.{IsStored}
 use Rattle.hh_model.specs.Step.{asked, can_step, run_from, start, step}
 use Rattle.hh_model.proofs.Carried.{next_name}
 use Rattle.hh_model.proofs.Counts.{counted_step, runs_are_counted}
-use Rattle.hh_model.proofs.Kept.{SoundState, run_kept, start_kept, step_kept}
+use Rattle.hh_model.proofs.Kept.{IsForkJoinState, run_kept, start_kept, step_kept}
 use Rattle.hh_model.proofs.Taken.{can_made, step_idle}
 use Rattle.run_trace.specs.declared.entry.Kind.{Kind}
 use Rattle.run_trace.specs.declared.entry.Kind.TheVariants.{Took, Ran, Chunk, Begin, End, PutOff, Mark, More, Sweep, Fuel}
@@ -116,7 +116,7 @@ module _ (p : ProgramText) (t : ℕ) where
 
   -- STEPS
 
-  step_has : (base first j : ℕ) (m : State) → SoundState m → Counted j m.tasks m.store → HasMore base first m → HasMore base first (step p m t)
+  step_has : (base first j : ℕ) (m : State) → IsForkJoinState m → Counted j m.tasks m.store → HasMore base first m → HasMore base first (step p m t)
   step_has base first j m K C H = elim (cases_Bool (can_step m t)) [
     | inl can ↦
         let rows : length m.store ≡ length m.tasks = C.rows in
@@ -125,7 +125,7 @@ module _ (p : ProgramText) (t : ℕ) where
     | inr not ↦ subst (HasMore base first) (sym (step_idle p m t not)) H
   ]
 
-  pub steps_have : (base first k j : ℕ) (m : State) → SoundState m → Counted j m.tasks m.store → HasMore base first m → HasMore base first (run_from p m (replicate k t))
+  pub steps_have : (base first k j : ℕ) (m : State) → IsForkJoinState m → Counted j m.tasks m.store → HasMore base first m → HasMore base first (run_from p m (replicate k t))
   steps_have base first zero j m K C H = H
   steps_have base first (suc k) j m K C H =
       steps_have base first k (suc j) (step p m t) (step_kept p m t K) (counted_step p m t K j C) (step_has base first j m K C H)
@@ -164,8 +164,8 @@ module _ (p : ProgramText) (s : SettingsValue) (journal : List EntryValue) (lega
   abbrev l' : Ledger
   l' = after p s l e
 
-  kept : SoundState l.machine
-  kept = subst SoundState (sym (machine_is_run p s journal)) (run_kept p (start p (field_limit s.version)) (tasks_of journal) (start_kept p (field_limit s.version)))
+  kept : IsForkJoinState l.machine
+  kept = subst IsForkJoinState (sym (machine_is_run p s journal)) (run_kept p (start p (field_limit s.version)) (tasks_of journal) (start_kept p (field_limit s.version)))
 
   counted : Counted (length (tasks_of journal)) l.machine.tasks l.machine.store
   counted = subst (λ (m : State). Counted (length (tasks_of journal)) m.tasks m.store) (sym (machine_is_run p s journal)) (runs_are_counted p (field_limit s.version) (tasks_of journal))

@@ -10,7 +10,7 @@ use Rattle.hh_model.specs.declared.data.Status.TheVariants.{Running, Waiting, En
 use Rattle.hh_model.specs.declared.data.Task.{Task}
 use Rattle.hh_model.specs.declared.data.State.{State}
 use Rattle.hh_model.specs.Step.{ended_task, is_left, is_running, is_waiting, joined, joined_task, result_at, parents, result_in, resumed, runs, sibling, waits}
-use Rattle.hh_model.specs.Tree.{SoundState, waiting}
+use Rattle.hh_model.specs.Tree.{IsForkJoinState, waiting}
 use Rattle.hh_model.proofs.Root.{runs_tell}
 use Rattle.schedule_laws.proofs.Swapping.{AllAt, all_at, sets, sets_length, sets_other}
 use Rattle.schedule_laws.proofs.Moves.{Acts, IsPlain, Joins, Move, Moves, Splits, last_move, news, puts}
@@ -60,7 +60,7 @@ pub record WaitingParent (m : State) (u k : ℕ) : Type 0 where
 abbrev pub Kind : State → ℕ → ℕ → Type 0
 Kind m u k = (k ≡ u) ⊎ (EndedSibling m u k ⊎ WaitingParent m u k)
 
-module _ (m : State) (K : SoundState m) where
+module _ (m : State) (K : IsForkJoinState m) where
   not_kept : (k : ℕ) → is_running (slice_get m.tasks k) ≡ true → IsEnded m k → ⊥
   not_kept k run e = both_ways (is_running (slice_get m.tasks k)) (kept_tells (slice_get m.tasks k) e.result e.is).0 run
 
@@ -165,7 +165,7 @@ last_quiet ts t x q r (Some other) (Some xq) (Some xw) v ne none = by (is_left t
     by false = three (t - 1) (joined_task xw) (joined_task x) (resumed xq other r) refl refl refl
 
 -- what comes of the end of u is the same after t's move
-module _ (m m1 : State) (K : SoundState m) (t u : ℕ) (mt : Move) (M : Moves m m1 t mt) (two : t ≡ u → ⊥) (run_t : is_running (slice_get m.tasks t) ≡ true) (run_u : is_running (slice_get m.tasks u) ≡ true)
+module _ (m m1 : State) (K : IsForkJoinState m) (t u : ℕ) (mt : Move) (M : Moves m m1 t mt) (two : t ≡ u → ⊥) (run_t : is_running (slice_get m.tasks t) ≡ true) (run_u : is_running (slice_get m.tasks u) ≡ true)
     (kinds : AllAt (Kind m t) (puts t mt)) (q : ℕ) (above : parents m.tasks u ≡ Some q) where
   same_get : (v : ℕ) → v < length m.tasks → AllAt (λ j. v ≡ j → ⊥) (puts t mt) → slice_get m1.tasks v ≡ slice_get m.tasks v
   same_get v lt h =

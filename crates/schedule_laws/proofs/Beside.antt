@@ -17,7 +17,7 @@ use Rattle.path_laws.specs.Leaves.{LeavesOwner}
 use Rattle.hh_model.specs.Precedence.{precedes}
 use Rattle.hh_model.specs.Step.{is_on_path, is_running, joined, owner_of, parents, setting, step, strand_of}
 use Rattle.hh_model.specs.Store.{NamesAreStoredIn}
-use Rattle.hh_model.specs.Tree.{SoundState, joins_in, waiting}
+use Rattle.hh_model.specs.Tree.{IsForkJoinState, joins_in, waiting}
 use Rattle.hh_model.proofs.Counts.{step_limit}
 use Rattle.path_laws.proofs.Leaves.{leaves_owner}
 use Rattle.hh_model.proofs.Paths.{owner_live}
@@ -47,7 +47,7 @@ edit_strand Freezes o = refl
 abbrev pub Leaves : ProgramText → State → ℕ → Bool → Name → ℕ → Type 0
 Leaves p m t b n k = (a : Access) → access_of p m t ≡ Some a → a.field ≡ field_of b n k → a.writes ≡ true → ⊥
 
-module _ (p : ProgramText) (m : State) (K : SoundState m) (D : Disentangled m.tasks m.store) (N : NamesAreStoredIn m) (t u : ℕ) (two : t ≡ u → ⊥) (y : Task) (iu : slice_get m.tasks u ≡ Some y) (run_u : is_running (Some y) ≡ true) where
+module _ (p : ProgramText) (m : State) (K : IsForkJoinState m) (D : Disentangled m.tasks m.store) (N : NamesAreStoredIn m) (t u : ℕ) (two : t ≡ u → ⊥) (y : Task) (iu : slice_get m.tasks u ≡ Some y) (run_u : is_running (Some y) ≡ true) where
   abbrev m1 : State
   m1 = step p m t
 

@@ -14,7 +14,7 @@ use Rattle.hh_model.specs.declared.data.State.{State}
 use Rattle.hh_model.specs.Counts.{Counted}
 use Rattle.hh_model.specs.Effect.{Effect, Goes, Prints, Calls, Forks, Returns, Traps, Stops, effect, int_in, object_at, ref_in, same_name}
 use Rattle.hh_model.specs.Step.{can_step, fetched, setting, step, strand_of}
-use Rattle.hh_model.specs.Tree.{SoundState}
+use Rattle.hh_model.specs.Tree.{IsForkJoinState}
 use Rattle.hh_model.proofs.Counts.{counted_step}
 use Rattle.hh_model.proofs.Kept.{step_kept}
 use Rattle.race_report.specs.declared.data.Field.{Field}
@@ -43,7 +43,7 @@ access_there f s line writes swaps None = refl
 access_there f s line writes swaps (Some field) = refl
 
 module _ (p : ProgramText) (n : ℕ) (f g : ℕ → ℕ) (R : IsRenaming n f g) where
-  module _ (m m' : State) (K : SoundState m) (K' : SoundState m') (rows : length m.store ≡ length m.tasks) (rows' : length m'.store ≡ length m'.tasks) (made : n ≤ length m.tasks) (A : AreAlike f m m') (t : ℕ) where
+  module _ (m m' : State) (K : IsForkJoinState m) (K' : IsForkJoinState m') (rows : length m.store ≡ length m.tasks) (rows' : length m'.store ≡ length m'.tasks) (made : n ≤ length m.tasks) (A : AreAlike f m m') (t : ℕ) where
     value_there : (field : Field) → value_of m'.store (field_to f field) ≡ ref_to f (value_of m.store field)
     value_there field =
         ap (λ o. option_flatten (slice_get (refs_in o) field.index)) (object_there n f g R m m' A field.name) ∙ by (object_at m.store field.name)
@@ -135,7 +135,7 @@ module _ (p : ProgramText) (n : ℕ) (f g : ℕ → ℕ) (R : IsRenaming n f g) 
     pub prints : prints_from p m' (map f ts) ≡ map (print_to f) (prints_from p m ts)
     pub turns : turns_from p m' (map f ts) ≡ turns_from p m ts
 
-  pub carried : (ts : List ℕ) (m m' : State) (k k' : ℕ) → SoundState m → SoundState m' → Counted k m.tasks m.store → Counted k' m'.tasks m'.store → n ≤ length m.tasks → AreAlike f m m' → Carried m m' ts
+  pub carried : (ts : List ℕ) (m m' : State) (k k' : ℕ) → IsForkJoinState m → IsForkJoinState m' → Counted k m.tasks m.store → Counted k' m'.tasks m'.store → n ≤ length m.tasks → AreAlike f m m' → Carried m m' ts
   carried [] m m' k k' K K' I I' made A = record { accesses = refl; prints = refl; turns = refl }
   carried (t ∷ ts) m m' k k' K K' I I' made A =
       let up = step_grows p m t K in

@@ -12,7 +12,7 @@ use Rattle.hh_model.specs.declared.data.End.TheVariants.{Done, Trapped, Entangle
 use Rattle.hh_model.specs.declared.data.State.{State}
 use Rattle.hh_model.specs.Effect.{object_at}
 use Rattle.hh_model.specs.Step.{is_running}
-use Rattle.hh_model.specs.Tree.{SoundState}
+use Rattle.hh_model.specs.Tree.{IsForkJoinState}
 use Rattle.renaming_laws.specs.Renaming.{object_to, task_to, end_to}
 use Rattle.renaming_laws.specs.Alike.{AreAlike}
 use Rattle.renaming_laws.proofs.Changed.{Change, Same, Grows, Edits, Edit, changed, edited}
@@ -68,7 +68,7 @@ in_swap es xs bs e i = elim (in_append_cases (es ++ xs) bs e i) [
   ]
 ]
 
-module _ (m : State) (K : SoundState m) (rows : length m.store ≡ length m.tasks) (t u : ℕ) (two : t ≡ u → ⊥) (run_t : is_running (slice_get m.tasks t) ≡ true) (run_u : is_running (slice_get m.tasks u) ≡ true) (mt mu : Move)
+module _ (m : State) (K : IsForkJoinState m) (rows : length m.store ≡ length m.tasks) (t u : ℕ) (two : t ≡ u → ⊥) (run_t : is_running (slice_get m.tasks t) ≡ true) (run_u : is_running (slice_get m.tasks u) ≡ true) (mt mu : Move)
     (kt : AllAt (Kind m t) (puts t mt)) (ku : AllAt (Kind m u) (puts u mu)) (st : Stored m.store (change_in mt)) (su : Stored m.store (change_in mu)) where
   stored_on : (op : Change) → Stored m.store op → (b : Change) → Stored m.store b → (v : ℕ) → Stored (changed op v m.store) b
   stored_on op s Same z v = tt

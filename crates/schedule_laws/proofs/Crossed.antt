@@ -12,7 +12,7 @@ use Rattle.path_laws.specs.Disentangled.{Disentangled}
 use Rattle.hh_model.specs.Effect.{onward}
 use Rattle.hh_model.specs.Step.{child, is_left, is_running, joined_task, result_at, parent_of, parents, result_of, resumed, setting, sibling}
 use Rattle.hh_model.specs.Store.{NamesAreStoredIn}
-use Rattle.hh_model.specs.Tree.{SoundState}
+use Rattle.hh_model.specs.Tree.{IsForkJoinState}
 use Rattle.hh_model.proofs.Root.{runs_tell}
 use Rattle.renaming_laws.specs.Renaming.{IsRenaming, edge_to, end_to, object_to, task_to}
 use Rattle.renaming_laws.specs.Alike.{AreAlike}
@@ -51,7 +51,7 @@ pub record Resolved (m w m1 w1 : State) (u : ℕ) (y : Task) (i : Instr) : Type 
   pub shape : Shape u y move
   pub by : (change_in move ≡ Same) ⊎ ChangesBy (setting m u y) y.top m.store i (change_in move)
 
-module _ (m : State) (K : SoundState m) (D : Disentangled m.tasks m.store) (N : NamesAreStoredIn m) (L : LowIn m) (rows : length m.store ≡ length m.tasks) (going : m.end ≡ None) where
+module _ (m : State) (K : IsForkJoinState m) (D : Disentangled m.tasks m.store) (N : NamesAreStoredIn m) (L : LowIn m) (rows : length m.store ≡ length m.tasks) (going : m.end ≡ None) where
   -- TWO MOVES
 
   module _ (t u : ℕ) (two : t ≡ u → ⊥) (run_t : is_running (slice_get m.tasks t) ≡ true) (run_u : is_running (slice_get m.tasks u) ≡ true) (m1 m2 m12 m21 : State) where
@@ -184,7 +184,7 @@ pub record Moved (m w : State) (u : ℕ) : Type 0 where
   pub kinds : AllAt (Kind m u) (puts u move)
   pub quiet : (v : ℕ) → (v ≡ u → ⊥) → result_at (slice_get m.tasks v) ≡ None → result_at (slice_get (sets (puts u move) m.tasks) v) ≡ None
 
-module _ (m m1 : State) (K : SoundState m) (u : ℕ) (y : Task) (running : y.status ≡ Running) (going : m.end ≡ None) (iu : slice_get m.tasks u ≡ Some y) (run_u : is_running (slice_get m.tasks u) ≡ true) (w w1 : State) (i : Instr) where
+module _ (m m1 : State) (K : IsForkJoinState m) (u : ℕ) (y : Task) (running : y.status ≡ Running) (going : m.end ≡ None) (iu : slice_get m.tasks u ≡ Some y) (run_u : is_running (slice_get m.tasks u) ≡ true) (w w1 : State) (i : Instr) where
   abbrev P : Type 0
   P = Plain m m1 u y running going w w1 i
 

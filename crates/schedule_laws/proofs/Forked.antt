@@ -15,7 +15,7 @@ use Rattle.hh_model.specs.Effect.{object_at, onward, row_of}
 use Rattle.hh_model.specs.Names.{names_from}
 use Rattle.hh_model.specs.Step.{child, edge, parent_of, strand}
 use Rattle.hh_model.specs.Store.{NamesAreStoredIn}
-use Rattle.hh_model.specs.Tree.{SoundState}
+use Rattle.hh_model.specs.Tree.{IsForkJoinState}
 use Rattle.renaming_laws.specs.Laws.{swap}
 use Rattle.renaming_laws.specs.Renaming.{IsRenaming, edge_to, object_to, task_to}
 use Rattle.renaming_laws.proofs.Fixed.{KeepsTask, row_fixed, task_fixed}
@@ -68,7 +68,7 @@ module _ {A : Type 0} (n : ℕ) (odd : n % 2 ≡ 1) (xs : List A) (long : length
     ]
   ]
 
-module _ (m : State) (K : SoundState m) (D : Disentangled m.tasks m.store) (N : NamesAreStoredIn m) (L : LowIn m) (rows : length m.store ≡ length m.tasks) where
+module _ (m : State) (K : IsForkJoinState m) (D : Disentangled m.tasks m.store) (N : NamesAreStoredIn m) (L : LowIn m) (rows : length m.store ≡ length m.tasks) where
   abbrev pub f : ℕ → ℕ
   f = swap (length m.tasks)
 

@@ -20,7 +20,7 @@ use Rattle.hh_model.specs.Counts.{Counted}
 use Rattle.hh_model.specs.Effect.{Effect, Goes, Prints, Calls, Forks, Returns, Traps, Stops, effect, object_at}
 use Rattle.hh_model.specs.Precedence.{Precedes}
 use Rattle.hh_model.specs.Step.{can_step, fetched, is_running, owner_of, run, run_from, setting, start, step, strand_of}
-use Rattle.hh_model.specs.Tree.{SoundState}
+use Rattle.hh_model.specs.Tree.{IsForkJoinState}
 use Rattle.hh_model.proofs.Counts.{counted_step, run_push}
 use Rattle.hh_model.proofs.EndLaws.{ended_stays}
 use Rattle.hh_model.proofs.Kept.{step_kept}
@@ -72,7 +72,7 @@ map_fixed h each [] = refl
 map_fixed h each (x ∷ xs) = let a = sym (each x) in let b = map_fixed h each xs in λ i. a i ∷ b i
 
 -- the step that ends a run by the return of main is the root's
-done_root : (p : ProgramText) (m : State) (t : ℕ) → SoundState m → m.end ≡ None → (step p m t).end ≡ Some Done → (x : Task) × (slice_get m.tasks t ≡ Some x) × (x.parent ≡ None)
+done_root : (p : ProgramText) (m : State) (t : ℕ) → IsForkJoinState m → m.end ≡ None → (step p m t).end ≡ Some Done → (x : Task) × (slice_get m.tasks t ≡ Some x) × (x.parent ≡ None)
 done_root p m t K going =
     step_cases p m t K (λ m'. m'.end ≡ Some Done → (x : Task) × (slice_get m.tasks t ≡ Some x) × (x.parent ≡ None)) not_yet
     (λ x e is run why h. absurd (elim (why) [
@@ -258,13 +258,13 @@ module _ (p : ProgramText) (limit : ℕ) (hs ts : List ℕ) (t u : ℕ) (two : t
     abbrev j : ℕ → ℕ
     j = then F.f C0.f
 
-    K0 : SoundState n0
+    K0 : IsForkJoinState n0
     K0 = kept_here p limit hs
 
-    K1 : SoundState n1
+    K1 : IsForkJoinState n1
     K1 = step_kept p n0 t K0
 
-    K2 : SoundState n2
+    K2 : IsForkJoinState n2
     K2 = step_kept p n0 u K0
 
     I12 : Counted (suc (suc (length hs))) n12.tasks n12.store

@@ -22,7 +22,7 @@ use Rattle.path_laws.specs.Disentangled.{Disentangled}
 use Rattle.hh_model.specs.Effect.{Effect, Goes, Prints, Calls, Forks, Returns, Traps, Stops, effect, int_in, place_in, ref_in, same_name}
 use Rattle.hh_model.specs.Step.{can_step, child_ended_by, depth_limit, ended_by, fetched, follow, frame_limit, goes_on, is_left, is_running, join_of, result_at, last_of, last_return, or_same, owner_of, result_of, returned_to, run, setting, sibling, start, step, strand_of}
 use Rattle.hh_model.specs.Store.{NamesAreStoredIn}
-use Rattle.hh_model.specs.Tree.{SoundState}
+use Rattle.hh_model.specs.Tree.{IsForkJoinState}
 use Rattle.hh_model.proofs.Carried.{at_in}
 use Rattle.hh_model.proofs.Counts.{run_push}
 use Rattle.path_laws.proofs.FreeReads.{run_disentangled}
@@ -135,7 +135,7 @@ module _ (p : ProgramText) (limit : ℕ) (ts : List ℕ) (t u : ℕ) (two : t �
   abbrev pub m1 : State
   m1 = step p m t
 
-  abbrev pub K : SoundState m
+  abbrev pub K : IsForkJoinState m
   K = run_kept p (start p limit) ts (start_kept p limit)
 
   abbrev pub D : Disentangled m.tasks m.store

@@ -15,7 +15,7 @@ use Rattle.hh_model.specs.Effect.{object_at, onward}
 use Rattle.hh_model.specs.Names.{names_from, registers, task_names}
 use Rattle.hh_model.specs.Step.{child, ended_task, is_running, joined_task, result_of, resumed, run, run_from, runs, start, step, waits}
 use Rattle.hh_model.specs.Store.{NamesAreStoredIn}
-use Rattle.hh_model.specs.Tree.{SoundState}
+use Rattle.hh_model.specs.Tree.{IsForkJoinState}
 use Rattle.hh_model.proofs.Closed.{grown_cases, three_cases}
 use Rattle.path_laws.proofs.Disentangled.{disentangled_step, start_disentangled}
 use Rattle.hh_model.proofs.Kept.{start_kept, step_kept}
@@ -44,7 +44,7 @@ live_names x h f i r j = by x.status h (in_registers (x.top ∷ x.below) f r i j
 live_low : (m : State) → Disentangled m.tasks m.store → (v : ℕ) (x : Task) → slice_get m.tasks v ≡ Some x → (runs x.status ≡ true) ⊎ (waits x.status ≡ true) → LowFrames (length m.tasks) x
 live_low m D v x is live f i r j = (D.of_task v x r is (live_names x live f i r j)).0
 
-module _ (p : ProgramText) (m : State) (t : ℕ) (K : SoundState m) (D : Disentangled m.tasks m.store) (L : LowIn m) where
+module _ (p : ProgramText) (m : State) (t : ℕ) (K : IsForkJoinState m) (D : Disentangled m.tasks m.store) (L : LowIn m) where
   -- a task whose frames it had before, or that runs or waits
   abbrev OldOrLive : List Task → Type 0
   OldOrLive ts = (v : ℕ) (x : Task) → slice_get ts v ≡ Some x → LowFrames (length m.tasks) x ⊎ ((runs x.status ≡ true) ⊎ (waits x.status ≡ true))
@@ -87,7 +87,7 @@ module _ (p : ProgramText) (m : State) (t : ℕ) (K : SoundState m) (D : Disenta
     | inr live ↦ live_low (step p m t) (disentangled_step p m t K D) v x is live
   ]
 
-pub low_from : (p : ProgramText) (m : State) (ts : List ℕ) → SoundState m → Disentangled m.tasks m.store → LowIn m → LowIn (run_from p m ts)
+pub low_from : (p : ProgramText) (m : State) (ts : List ℕ) → IsForkJoinState m → Disentangled m.tasks m.store → LowIn m → LowIn (run_from p m ts)
 low_from p m [] K D L = L
 low_from p m (t ∷ ts) K D L = low_from p (step p m t) ts (step_kept p m t K) (disentangled_step p m t K D) (low_step p m t K D L)
 
@@ -102,7 +102,7 @@ run_low p limit ts = low_from p (start p limit) ts (start_kept p limit) (start_d
         by (suc v) e = absurd cc
 
 -- an object's strand and what its fields name
-pub object_low : (m : State) → SoundState m → NamesAreStoredIn m → (n : Name) (o : Object) → object_at m.store n ≡ Some o → (o.strand.task < length m.tasks) × ((r : Name) → In o.refs (Some r) → r.task < length m.tasks)
+pub object_low : (m : State) → IsForkJoinState m → NamesAreStoredIn m → (n : Name) (o : Object) → object_at m.store n ≡ Some o → (o.strand.task < length m.tasks) × ((r : Name) → In o.refs (Some r) → r.task < length m.tasks)
 object_low m K N n o is = (
   (K.store_of n o is).1.0,
   (λ r i. (let z = N.in_fields n r o is (contains_from_in o.refs (Some r) i) in let k = K.store_of r z.0 z.1 in let lt : z.0.strand.task < length m.tasks = k.1.0 in let e : z.0.strand.task ≡ r.task = k.0 in omega arith)),

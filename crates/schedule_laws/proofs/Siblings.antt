@@ -12,7 +12,7 @@ use Rattle.hh_model.specs.declared.data.State.{State}
 use Rattle.path_laws.specs.Disentangled.{Disentangled}
 use Rattle.hh_model.specs.Step.{child_ended_by, edge, ended_task, is_left, is_running, joined_task, result_at, parent_of, parents, result_of, resumed, setting, sibling, strand}
 use Rattle.hh_model.specs.Store.{NamesAreStoredIn}
-use Rattle.hh_model.specs.Tree.{SoundState}
+use Rattle.hh_model.specs.Tree.{IsForkJoinState}
 use Rattle.hh_model.proofs.Root.{runs_tell}
 use Rattle.path_laws.proofs.Leaves.{wait_there}
 use Rattle.renaming_laws.proofs.Changed.{Change, ChangesBy, Edits, Grows, Same}
@@ -47,7 +47,7 @@ joined_even m m1 m2 m12 m21 t u q l z z' a b c at au Ht Hu Hu1 Ht2 =
       end = Ht2.end ∙ (Hu.end ∙ (sym Ht.end ∙ sym Hu1.end));
     }
 
-module _ (m : State) (K : SoundState m) (D : Disentangled m.tasks m.store) (N : NamesAreStoredIn m) (L : LowIn m) (rows : length m.store ≡ length m.tasks) (going : m.end ≡ None)
+module _ (m : State) (K : IsForkJoinState m) (D : Disentangled m.tasks m.store) (N : NamesAreStoredIn m) (L : LowIn m) (rows : length m.store ≡ length m.tasks) (going : m.end ≡ None)
     (t u : ℕ) (two : t ≡ u → ⊥) (x y : Task) (is : slice_get m.tasks t ≡ Some x) (iu : slice_get m.tasks u ≡ Some y) (running_t : x.status ≡ Running) (running_u : y.status ≡ Running)
     (run_t : is_running (slice_get m.tasks t) ≡ true) (run_u : is_running (slice_get m.tasks u) ≡ true) (m1 m2 m12 m21 : State) where
   abbrev rt : ℤ × Option Name

@@ -4,7 +4,7 @@ use Rattle.hh_lang.specs.Form.{ProgramText}
 use Rattle.hh_model.specs.declared.data.State.{State}
 use Rattle.hh_model.specs.Counts.{Counted}
 use Rattle.hh_model.specs.Effect.{row_of}
-use Rattle.hh_model.specs.Tree.{SoundState}
+use Rattle.hh_model.specs.Tree.{IsForkJoinState}
 use Rattle.hh_model.proofs.Counts.{steps_count}
 use Rattle.hh_model.proofs.Kept.{run_kept, start_kept, step_kept}
 use Rattle.run_trace.specs.Settings.{field_limit}
@@ -35,15 +35,15 @@ use Rattle.turn_entries.specs.Parts.{AtSome, HasGrown, IsPaused, MayRun}
 
 -- ---- ITS OBJECTS are counted
 
-counted_then : (p : ProgramText) (m : State) (t j n k : ℕ) → k ≡ n + j → SoundState m → Counted j m.tasks m.store → SoundState (steps p m t n) × Counted k (steps p m t n).tasks (steps p m t n).store
+counted_then : (p : ProgramText) (m : State) (t j n k : ℕ) → k ≡ n + j → IsForkJoinState m → Counted j m.tasks m.store → IsForkJoinState (steps p m t n) × Counted k (steps p m t n).tasks (steps p m t n).store
 counted_then p m t j zero k e K C = (K, subst (λ i. Counted i m.tasks m.store) (let h : j ≡ k = omega (arith, e) in h) C)
 counted_then p m t j (suc n) k e K C =
     let b = counted_then p m t j n (n + j) refl K C in
     let h : suc (n + j) ≡ k = omega (arith, e) in
     (step_kept p (steps p m t n) t b.0, subst (λ i. Counted i (steps p m t (suc n)).tasks (steps p m t (suc n)).store) h (steps_count p (steps p m t n) t (n + j) b.0 b.1))
 
-kept_now : (w : SharedValue) → SoundState (accounts w).machine
-kept_now w = subst SoundState (sym (machine_is_run w.program w.settings w.journal.items)) (run_kept w.program _ (tasks_of w.journal.items) (start_kept w.program (field_limit w.settings.version)))
+kept_now : (w : SharedValue) → IsForkJoinState (accounts w).machine
+kept_now w = subst IsForkJoinState (sym (machine_is_run w.program w.settings w.journal.items)) (run_kept w.program _ (tasks_of w.journal.items) (start_kept w.program (field_limit w.settings.version)))
 
 module _ (w : SharedValue) (k : ℕ) (part : Private) (I : IsSharedValue w) (on : (accounts w).end ≡ None) (F : Fits w k part) where
   pub first : FitsFirst w part
