@@ -13,7 +13,7 @@ use Rattle.heap_tree.specs.declared.state.State.TheVariants.{Ready, Waiting}
 use Rattle.heap_tree.specs.declared.links.Entry.{Entry}
 use Rattle.heap_tree.specs.Walk.{ancestor, IsUpFrom, depth_in, path_in}
 use Rattle.heap_tree.specs.Node.{Node, parent_in, parent_of, state_of, depth_of, is_on_path, set_at, with_state, child_of, forked, IsTree}
-use Rattle.heap_tree.specs.Links.{node_of, parent_kept, depth_kept, jump_kept, parent_at, depth_at, jump_at, IsLinked}
+use Rattle.heap_tree.specs.Links.{node_of, parent_kept, depth_kept, far_kept, parent_at, depth_at, far_at, IsLinked}
 use Rattle.listed.proofs.Members.{got_front, view_step}
 use Rattle.listed.proofs.Options.{same_truth}
 use Rattle.listed.proofs.Places.{got_last}
@@ -33,7 +33,7 @@ parents_seen es = λ i t. parent_seen es t i
 pub depth_seen : (es : List Entry) (t : ℕ) → IsLinked es → t < length es → depth_of (map node_of es) t ≡ depth_at es t
 depth_seen es t linked made =
     ap (λ (par : ℕ → Option ℕ). depth_in par t) (parents_seen es)
-    ∙ depth_in_is (length es) (parent_at es) (depth_at es) (jump_at es) linked.links t made
+    ∙ depth_in_is (length es) (parent_at es) (depth_at es) (far_at es) linked.links t made
 
 pub tree_seen : (es : List Entry) → IsLinked es → IsTree (map node_of es)
 tree_seen es linked =
@@ -51,13 +51,13 @@ up_seen es t d r linked made up = rw (depth_seen es t linked made, parents_seen 
 
 module _ (es : List Entry) (linked : IsLinked es) where
   path_walks : (a t : ℕ) → IsUpFrom (parent_at es) t a → path_in (parent_at es) a t ≡ true
-  path_walks = path_from_walk (length es) (parent_at es) (depth_at es) (jump_at es) linked.links
+  path_walks = path_from_walk (length es) (parent_at es) (depth_at es) (far_at es) linked.links
 
   walks_path : (a t : ℕ) → path_in (parent_at es) a t ≡ true → IsUpFrom (parent_at es) t a
-  walks_path = walk_from_path (length es) (parent_at es) (depth_at es) (jump_at es) linked.links
+  walks_path = walk_from_path (length es) (parent_at es) (depth_at es) (far_at es) linked.links
 
   walks_deep : (k t a : ℕ) → ancestor (parent_at es) k t ≡ Some a → (depth_at es t ≡ depth_at es a + k) × (a ≤ t)
-  walks_deep = walk_depth (length es) (parent_at es) (depth_at es) (jump_at es) linked.links
+  walks_deep = walk_depth (length es) (parent_at es) (depth_at es) (far_at es) linked.links
 
   kept_here : (t a r : ℕ) → ancestor (parent_at es) (depth_at es t - depth_at es a) t ≡ Some r → (r == a) ≡ path_in (parent_at es) a t
   kept_here t a r up =
@@ -100,7 +100,7 @@ module _ (es : List Entry) (t : ℕ) (e : Entry) (state : State) (is : slice_get
       let len : length changed ≡ length es = length-set es t (record e { state = state }) in
       let p : ◌≡◌ {A = ℕ → Option ℕ} (parent_at changed) (parent_at es) = λ i u. view_step parent_kept es t e (record e { state = state }) is refl u i in
       let d : ◌≡◌ {A = ℕ → ℕ} (depth_at changed) (depth_at es) = λ i u. view_step depth_kept es t e (record e { state = state }) is refl u i in
-      let j : ◌≡◌ {A = ℕ → ℕ} (jump_at changed) (jump_at es) = λ i u. view_step jump_kept es t e (record e { state = state }) is refl u i in
+      let j : ◌≡◌ {A = ℕ → ℕ} (far_at changed) (far_at es) = λ i u. view_step far_kept es t e (record e { state = state }) is refl u i in
       record {
         few = rw len linked.few;
         rooted = rw len linked.rooted;
@@ -115,14 +115,14 @@ module _ (es : List Entry) (t : ℕ) (e : Entry) (state : State) (is : slice_get
 
 -- ---- one child more
 
-module _ (es : List Entry) (t : ℕ) (c : Entry) (made : t < length es) (its_par : c.parent ≡ Some t) (its_dep : c.depth ≡ depth_at es t + 1) (its_jmp : c.jump ≡ next_far (depth_at es) (jump_at es) t) where
+module _ (es : List Entry) (t : ℕ) (c : Entry) (made : t < length es) (its_par : c.parent ≡ Some t) (its_dep : c.depth ≡ depth_at es t + 1) (its_far : c.far ≡ next_far (depth_at es) (far_at es) t) where
   abbrev grown : List Entry
   grown = es ++ c ∷ []
 
-  pub child_linked : AreLinked (length es) (parent_at es) (depth_at es) (jump_at es) → AreLinked (length grown) (parent_at grown) (depth_at grown) (jump_at grown)
+  pub child_linked : AreLinked (length es) (parent_at es) (depth_at es) (far_at es) → AreLinked (length grown) (parent_at grown) (depth_at grown) (far_at grown)
   child_linked links =
-      linked_more parent_kept depth_kept jump_kept refl es c links
-      (subst (λ (o : Option ℕ). IsNewLink (length es) (depth_at es) (jump_at es) o c.depth c.jump) (sym its_par) (made, its_dep, its_jmp))
+      linked_more parent_kept depth_kept far_kept refl es c links
+      (subst (λ (o : Option ℕ). IsNewLink (length es) (depth_at es) (far_at es) o c.depth c.far) (sym its_par) (made, its_dep, its_far))
 
   pub child_root : ((u : ℕ) → u < length es → parent_at es u ≡ None → u ≡ 0) → (u : ℕ) → u < length grown → parent_at grown u ≡ None → u ≡ 0
   child_root root u lt none =
@@ -138,51 +138,51 @@ module _ (es : List Entry) (t : ℕ) (c : Entry) (made : t < length es) (its_par
   grown_depth : (u : ℕ) → u < length es → depth_at grown u ≡ depth_at es u
   grown_depth u lt = ap depth_kept (got_front es (c ∷ []) u lt)
 
-  grown_jump : (u : ℕ) → u < length es → jump_at grown u ≡ jump_at es u
-  grown_jump u lt = ap jump_kept (got_front es (c ∷ []) u lt)
+  grown_far : (u : ℕ) → u < length es → far_at grown u ≡ far_at es u
+  grown_far u lt = ap far_kept (got_front es (c ∷ []) u lt)
 
   -- a sibling's far link leads where the child's does
-  pub same_jump : AreLinked (length es) (parent_at es) (depth_at es) (jump_at es) → next_far (depth_at grown) (jump_at grown) t ≡ next_far (depth_at es) (jump_at es) t
-  same_jump links =
-      let l : jump_at es t ≤ t = links.far_low t made in
-      let m : jump_at es (jump_at es t) ≤ jump_at es t = links.far_low (jump_at es t) (omega arith) in
-      let jt : jump_at grown t ≡ jump_at es t = grown_jump t made in
-      let jj : jump_at grown (jump_at es t) ≡ jump_at es (jump_at es t) = grown_jump (jump_at es t) (omega arith) in
+  pub same_far : AreLinked (length es) (parent_at es) (depth_at es) (far_at es) → next_far (depth_at grown) (far_at grown) t ≡ next_far (depth_at es) (far_at es) t
+  same_far links =
+      let l : far_at es t ≤ t = links.far_low t made in
+      let m : far_at es (far_at es t) ≤ far_at es t = links.far_low (far_at es t) (omega arith) in
+      let jt : far_at grown t ≡ far_at es t = grown_far t made in
+      let jj : far_at grown (far_at es t) ≡ far_at es (far_at es t) = grown_far (far_at es t) (omega arith) in
       let d0 : depth_at grown t ≡ depth_at es t = grown_depth t made in
-      let d1 : depth_at grown (jump_at es t) ≡ depth_at es (jump_at es t) = grown_depth (jump_at es t) (omega arith) in
-      let d2 : depth_at grown (jump_at es (jump_at es t)) ≡ depth_at es (jump_at es (jump_at es t)) = grown_depth (jump_at es (jump_at es t)) (omega arith) in
+      let d1 : depth_at grown (far_at es t) ≡ depth_at es (far_at es t) = grown_depth (far_at es t) (omega arith) in
+      let d2 : depth_at grown (far_at es (far_at es t)) ≡ depth_at es (far_at es (far_at es t)) = grown_depth (far_at es (far_at es t)) (omega arith) in
       rw (jt, jj, d0, d1, d2)
 
 -- ---- a fork
 
-module _ (es : List Entry) (t : ℕ) (c : Entry) (linked : IsLinked es) (made : t < length es) (few : length es < 2 ^ 31) (its_par : c.parent ≡ Some t) (its_dep : c.depth ≡ depth_at es t + 1) (its_jmp : c.jump ≡ next_far (depth_at es) (jump_at es) t) where
+module _ (es : List Entry) (t : ℕ) (c : Entry) (linked : IsLinked es) (made : t < length es) (few : length es < 2 ^ 31) (its_par : c.parent ≡ Some t) (its_dep : c.depth ≡ depth_at es t + 1) (its_far : c.far ≡ next_far (depth_at es) (far_at es) t) where
   pub two_linked : IsLinked ((es ++ c ∷ []) ++ c ∷ [])
   two_linked =
       let grown = es ++ c ∷ [] in
       let len : length grown ≡ length es + 1 = length-append es (c ∷ []) in
       let len2 : length (grown ++ c ∷ []) ≡ length grown + 1 = length-append grown (c ∷ []) in
-      let dep2 = its_dep ∙ ap (λ (m : ℕ). m + 1) (sym (grown_depth es t c made its_par its_dep its_jmp t made)) in
-      let jmp2 = its_jmp ∙ sym (same_jump es t c made its_par its_dep its_jmp linked.links) in
+      let dep2 = its_dep ∙ ap (λ (m : ℕ). m + 1) (sym (grown_depth es t c made its_par its_dep its_far t made)) in
+      let far2 = its_far ∙ sym (same_far es t c made its_par its_dep its_far linked.links) in
       record {
         few = omega arith;
         rooted = omega arith;
-        root = child_root (es ++ c ∷ []) t c (omega arith) its_par dep2 jmp2 (child_root es t c made its_par its_dep its_jmp linked.root);
-        links = child_linked (es ++ c ∷ []) t c (omega arith) its_par dep2 jmp2 (child_linked es t c made its_par its_dep its_jmp linked.links);
+        root = child_root (es ++ c ∷ []) t c (omega arith) its_par dep2 far2 (child_root es t c made its_par its_dep its_far linked.root);
+        links = child_linked (es ++ c ∷ []) t c (omega arith) its_par dep2 far2 (child_linked es t c made its_par its_dep its_far linked.links);
       }
 
 module _ (es : List Entry) (t : ℕ) (e c : Entry) (is : slice_get es t ≡ Some e) where
   abbrev waits : List Entry
   waits = set es t (record e { state = Waiting })
 
-  pub fork_linked : IsLinked es → length es < 2 ^ 31 → c.parent ≡ Some t → c.depth ≡ depth_at es t + 1 → c.jump ≡ next_far (depth_at es) (jump_at es) t → IsLinked (waits ++ c ∷ (c ∷ []))
-  fork_linked linked few its_par its_dep its_jmp =
+  pub fork_linked : IsLinked es → length es < 2 ^ 31 → c.parent ≡ Some t → c.depth ≡ depth_at es t + 1 → c.far ≡ next_far (depth_at es) (far_at es) t → IsLinked (waits ++ c ∷ (c ∷ []))
+  fork_linked linked few its_par its_dep its_far =
       let len : length waits ≡ length es = length-set es t (record e { state = Waiting }) in
       let d : ◌≡◌ {A = ℕ → ℕ} (depth_at waits) (depth_at es) = λ i u. view_step depth_kept es t e (record e { state = Waiting }) is refl u i in
-      let j : ◌≡◌ {A = ℕ → ℕ} (jump_at waits) (jump_at es) = λ i u. view_step jump_kept es t e (record e { state = Waiting }) is refl u i in
+      let j : ◌≡◌ {A = ℕ → ℕ} (far_at waits) (far_at es) = λ i u. view_step far_kept es t e (record e { state = Waiting }) is refl u i in
       let within : t < length es = slice_get_within es t e is in
       let two = two_linked waits t c (state_linked es t e Waiting is linked) (omega arith) (omega arith) its_par
       (its_dep ∙ ap (λ (f : ℕ → ℕ). f t + 1) (sym d))
-      (its_jmp ∙ (λ i. next_far (sym d i) (sym j i) t)) in
+      (its_far ∙ (λ i. next_far (sym d i) (sym j i) t)) in
       subst IsLinked (append_assoc waits (c ∷ []) (c ∷ [])) two
 
   pub fork_seen : c.parent ≡ Some t → c.state ≡ Ready → map node_of (waits ++ c ∷ (c ∷ [])) ≡ forked (map node_of es) t
@@ -282,15 +282,15 @@ state_answer v es new t state view_is linked made put =
 
 -- and a fork
 pub fork_answer : (v : List Node) (es new : List Entry) (t : ℕ) (c : Entry) → map node_of es ≡ v → IsLinked es → t < length v → length v < 2 ^ 31
-    → c.parent ≡ Some t → c.depth ≡ depth_of v t + 1 → c.jump ≡ next_far (depth_at es) (jump_at es) t → c.state ≡ Ready
+    → c.parent ≡ Some t → c.depth ≡ depth_of v t + 1 → c.far ≡ next_far (depth_at es) (far_at es) t → c.state ≡ Ready
     → IfSome (slice_get es t) (λ e. new ≡ slice_set es t (record e { state = Waiting }) ++ c ∷ (c ∷ [])) → IsLinked new × (map node_of new ≡ forked v t)
-fork_answer v es new t c view_is linked made few its_par its_dep its_jmp its_state put =
+fork_answer v es new t c view_is linked made few its_par its_dep its_far its_state put =
     let within = made_entry v es view_is linked t made in
     let got = got_some es t within in
     let is : new ≡ slice_set es t (record got.0 { state = Waiting }) ++ c ∷ (c ∷ []) = let P : Option Entry → Type 0 = λ o. IfSome o (λ e. new ≡ slice_set es t (record e { state = Waiting }) ++ c ∷ (c ∷ [])) in subst P got.1 put in
     let len : length (map node_of es) ≡ length es = length-map es node_of in
     let same : length (map node_of es) ≡ length v = ap length view_is in
     let deep : depth_at es t ≡ depth_of v t = ap depth_kept got.1 ∙ depth_answer v es view_is linked t got.0 made got.1 in (
-      subst IsLinked (sym is) (fork_linked es t got.0 c got.1 linked (omega arith) its_par (its_dep ∙ ap (λ (m : ℕ). m + 1) (sym deep)) its_jmp),
+      subst IsLinked (sym is) (fork_linked es t got.0 c got.1 linked (omega arith) its_par (its_dep ∙ ap (λ (m : ℕ). m + 1) (sym deep)) its_far),
       ap (map node_of) is ∙ (fork_seen es t got.0 c got.1 its_par its_state ∙ ap (λ (w : List Node). forked w t) view_is),
     )

@@ -6,7 +6,7 @@ use Rattle.far_links.specs.Links.{AreLinked}
 use Rattle.far_links.proofs.Walks.{first_link, link_first, shallow}
 use Rattle.heap_tree.specs.Walk.{through, ancestor, IsUpFrom, depth_by, depth_in, path_by, path_in}
 
-module _ (n : ℕ) (par : ℕ → Option ℕ) (dep jmp : ℕ → ℕ) (links : AreLinked n par dep jmp) where
+module _ (n : ℕ) (par : ℕ → Option ℕ) (dep far : ℕ → ℕ) (links : AreLinked n par dep far) where
   -- ---- depths
 
   depth_more : (fuel t : ℕ) (p : Option ℕ) → par t ≡ p → t < n → ((q : ℕ) → par t ≡ Some q → depth_by par fuel q ≡ dep q) → through p 0 (λ q. suc (depth_by par fuel q)) ≡ dep t
@@ -18,7 +18,7 @@ module _ (n : ℕ) (par : ℕ → Option ℕ) (dep jmp : ℕ → ℕ) (links : A
 
   depth_by_is : (fuel t : ℕ) → t ≤ fuel → t < n → depth_by par fuel t ≡ dep t
   depth_by_is zero t le made =
-      let s : dep t ≤ t = shallow n par dep jmp links t made in
+      let s : dep t ≤ t = shallow n par dep far links t made in
       omega arith
   depth_by_is (suc fuel) t le made =
       depth_more fuel t (par t) refl made (λ q e. let l : q < t = links.low t q e in depth_by_is fuel q (omega arith) (omega arith))

@@ -16,9 +16,9 @@ abbrev pub depth_kept : Option Entry → ℕ
 depth_kept None = 0
 depth_kept (Some e) = e.depth
 
-abbrev pub jump_kept : Option Entry → ℕ
-jump_kept None = 0
-jump_kept (Some e) = e.jump
+abbrev pub far_kept : Option Entry → ℕ
+far_kept None = 0
+far_kept (Some e) = e.far
 
 abbrev pub parent_at : List Entry → ℕ → Option ℕ
 parent_at entries t = parent_kept (slice_get entries t)
@@ -26,12 +26,12 @@ parent_at entries t = parent_kept (slice_get entries t)
 abbrev pub depth_at : List Entry → ℕ → ℕ
 depth_at entries t = depth_kept (slice_get entries t)
 
-abbrev pub jump_at : List Entry → ℕ → ℕ
-jump_at entries t = jump_kept (slice_get entries t)
+abbrev pub far_at : List Entry → ℕ → ℕ
+far_at entries t = far_kept (slice_get entries t)
 
 -- task 0 alone has no parent, and the links are as they should be
 pub record IsLinked (entries : List Entry) : Type 0 where
   pub few : length entries ≤ 2 ^ 31 + 1
   pub rooted : 0 < length entries
   pub root : (t : ℕ) → t < length entries → parent_at entries t ≡ None → t ≡ 0
-  pub links : AreLinked (length entries) (parent_at entries) (depth_at entries) (jump_at entries)
+  pub links : AreLinked (length entries) (parent_at entries) (depth_at entries) (far_at entries)

@@ -5,11 +5,11 @@ use Rattle.heap_tree.specs.declared.links.Entry.{Entry}
 use Rattle.heap_tree.specs.declared.entries.Pair.{Pair}
 
 abbrev pub root_entry : State → Entry
-root_entry s = record { parent = None; depth = 0; jump = 0; state = s }
+root_entry s = record { parent = None; depth = 0; far = 0; state = s }
 
 -- of the left one or the right one of two children
 abbrev pub child_entry : Pair → Bool → Entry
-child_entry p left = record { parent = Some p.parent; depth = p.depth; jump = p.jump; state = if left then p.left else p.right }
+child_entry p left = record { parent = Some p.parent; depth = p.depth; far = p.far; state = if left then p.left else p.right }
 
 -- one of the two in another state
 abbrev pub with_child : Pair → Bool → State → Pair

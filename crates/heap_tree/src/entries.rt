@@ -12,7 +12,7 @@ use std::marker::Model;
 #[derive(Clone, Copy)]
 pub struct Pair {
     pub parent: u32,
-    pub jump: u32,
+    pub far: u32,
     pub depth: u16,
     pub left: State,
     pub right: State,
@@ -42,7 +42,7 @@ fn child_entry(pair: Pair, left: bool) -> Entry
     Entry {
         parent: Some(pair.parent),
         depth: pair.depth as u32,
-        jump: pair.jump,
+        far: pair.far,
         state: if left { pair.left } else { pair.right },
     }
 }
@@ -97,7 +97,7 @@ impl Entries {
             return Some(Entry {
                 parent: None,
                 depth: 0,
-                jump: 0,
+                far: 0,
                 state: self.root,
             });
         }
@@ -130,7 +130,7 @@ impl Entries {
     {
         self.pairs.push(Pair {
             parent,
-            jump: child.jump,
+            far: child.far,
             depth: child.depth as u16,
             left: child.state,
             right: child.state,

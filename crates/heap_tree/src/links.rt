@@ -1,7 +1,7 @@
 // What the tree keeps of each task, and its links.
 
 ghost use Rattle.std.specs.Prelude.{◌≡◌, ◌<◌, length, slice_get, Some};
-ghost use Rattle.heap_tree.specs.Links.{parent_at, depth_at, jump_at};
+ghost use Rattle.heap_tree.specs.Links.{parent_at, depth_at, far_at};
 
 use crate::entries::Entries;
 use crate::state::State;
@@ -12,7 +12,7 @@ use far_links::{FarLinks, Link};
 pub struct Entry {
     pub parent: Option<u32>,
     pub depth: u32,
-    pub jump: u32,
+    pub far: u32,
     pub state: State,
 }
 
@@ -42,19 +42,19 @@ fn link_of(entries: &Entries, t: usize) -> Link
     requires { t < length entries.now }
     ensures parent { result.parent ≡ parent_at entries.now t }
     ensures depth { result.depth ≡ depth_at entries.now t }
-    ensures far { result.far ≡ jump_at entries.now t }
+    ensures far { result.far ≡ far_at entries.now t }
 {
     let entry = entry_at(entries, t);
     Link {
         depth: entry.depth as usize,
         parent: place_of(entry.parent),
-        far: entry.jump as usize,
+        far: entry.far as usize,
     }
 }
 
 impl FarLinks for Entries {
     ghost use Rattle.std.specs.Prelude.{length};
-    ghost use Rattle.heap_tree.specs.Links.{parent_at, depth_at, jump_at};
+    ghost use Rattle.heap_tree.specs.Links.{parent_at, depth_at, far_at};
 
     ghost places = { λ entries. length entries };
 
@@ -62,7 +62,7 @@ impl FarLinks for Entries {
 
     ghost depth_at = { depth_at };
 
-    ghost far_at = { jump_at };
+    ghost far_at = { far_at };
 
     fn link(&self, place: usize) -> Link {
         link_of(self, place)

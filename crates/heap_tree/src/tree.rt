@@ -76,7 +76,7 @@ impl Tree {
         let child = Entry {
             parent: Some(t),
             depth: entry_at(&self.entries, t as usize).depth + 1,
-            jump: far_below(&self.entries, t as usize) as u32,
+            far: far_below(&self.entries, t as usize) as u32,
             state: State::Ready,
         };
         put_children(&mut self.entries, t, child)?;

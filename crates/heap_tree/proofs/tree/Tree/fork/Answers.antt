@@ -37,10 +37,10 @@ invariant_of-self-2 c =
     let made = made_from_state v t Out c.requires.out in
     let got = c.entry_at.ensures in
     let deep = depth_answer v es c.self.view_is c.self.invariant t c.entry_at.result made got in
-    let jump = c.far_below.ensures.value in
+    let far = c.far_below.ensures.value in
     let put = c.in_ok-put_children.ensures.ok in
-    let child : Entry = record { parent = Some t; depth = c.entry_at.result.depth + 1; jump = c.far_below.result; state = Ready } in
-    (fork_answer v es c.put_children.new.entries t child c.self.view_is c.self.invariant made c.requires.few refl (ap (λ (m : ℕ). m + 1) deep) jump refl put).0
+    let child : Entry = record { parent = Some t; depth = c.entry_at.result.depth + 1; far = c.far_below.result; state = Ready } in
+    (fork_answer v es c.put_children.new.entries t child c.self.view_is c.self.invariant made c.requires.few refl (ap (λ (m : ℕ). m + 1) deep) far refl put).0
 
 pub returns-clause-ok : goal.returns-clause-ok
 returns-clause-ok c =
@@ -50,7 +50,7 @@ returns-clause-ok c =
     let made = made_from_state v t Out c.requires.out in
     let got = c.entry_at.ensures in
     let deep = depth_answer v es c.self.view_is c.self.invariant t c.entry_at.result made got in
-    let jump = c.far_below.ensures.value in
+    let far = c.far_below.ensures.value in
     let put = c.in_ok-put_children.ensures.ok in
-    let child : Entry = record { parent = Some t; depth = c.entry_at.result.depth + 1; jump = c.far_below.result; state = Ready } in
-    (fork_answer v es c.put_children.new.entries t child c.self.view_is c.self.invariant made c.requires.few refl (ap (λ (m : ℕ). m + 1) deep) jump refl put).1
+    let child : Entry = record { parent = Some t; depth = c.entry_at.result.depth + 1; far = c.far_below.result; state = Ready } in
+    (fork_answer v es c.put_children.new.entries t child c.self.view_is c.self.invariant made c.requires.few refl (ap (λ (m : ℕ). m + 1) deep) far refl put).1
