@@ -17,22 +17,22 @@ use Rattle.run_ledger.specs.Heaps.{heap_of}
 use Rattle.heap_tree.specs.declared.state.State.TheVariants.{Ended}
 use Rattle.heap_tree.specs.Node.{Node, state_of as state_in_tree, with_state}
 use Rattle.ledger_step_laws.specs.Last.{EndsFirst, Ending, Runs, Splits}
-use Rattle.core_relation.specs.Memory.{Home, Memory}
-use Rattle.core_relation.specs.Changes.{EndsHome}
-use Rattle.core_relation.specs.Fits.{part_for, with_home}
+use Rattle.core_relation.specs.Memory.{Belongings, Memory}
+use Rattle.core_relation.specs.Changes.{EndsBelongings}
+use Rattle.core_relation.specs.Fits.{part_for, with_belongings}
 use Rattle.core_relation.specs.RanCounts.{RanCounts}
 use Rattle.core_relation.specs.Since.{OthersNotes}
 use Rattle.core_relation.specs.Whole.{StandsFor}
 use Rattle.core_relation.specs.Worker.{Fits as FitsValue}
 use Rattle.core_entry_laws.proofs.whole.RanWhole.{ran_stands_for}
-use Rattle.core_relation.proofs.changes.With.{at_home, off_home}
+use Rattle.core_relation.proofs.changes.With.{at_belongings, off_belongings}
 use Rattle.core_entry_laws.proofs.parts.Workers.{ran_leaves}
 use Rattle.task_machine.specs.declared.part.Private.{Private}
 use Rattle.task_homes.specs.declared.task_at_rest.Rest.{Rest}
-use Rattle.shared_value.specs.SharedValue.{SharedValue, accounts, home_in, home_of, rest_at, tree_counts_of, value_of}
+use Rattle.shared_value.specs.SharedValue.{SharedValue, accounts, belongings_in, belongings_of, rest_at, tree_counts_of, value_of}
 use Rattle.shared_value.specs.Measured.{AreMeasured, RestsAreMeasured}
 use Rattle.shared_value.specs.Stands.{HeapForm, IsSharedValue}
-use Rattle.shared_value.specs.Fits.{Fits, OthersFit, home_of_part, part_of}
+use Rattle.shared_value.specs.Fits.{Fits, OthersFit, belongings_of_part, part_of}
 use Rattle.shared_value.specs.Entered.{refused}
 use Rattle.shared_value.proofs.EntryMade.{accounts_are, entered, entered_world, task_is_out, held_apart, part_fits, unheld_before}
 use Rattle.shared_value.proofs.BeforeTheEnd.{end_now, stands_now}
@@ -66,8 +66,8 @@ module _ (w : SharedValue) (k : ℕ) (p : Private) (I : IsSharedValue w) (F : Fi
   abbrev v : Memory
   v = value_of w
 
-  abbrev h : Home
-  h = home_of_part p
+  abbrev h : Belongings
+  h = belongings_of_part p
 
   abbrev S : Splits w.program w.settings l L t p.fresh
   S = steps.S w k p I F at_end free
@@ -113,7 +113,7 @@ module _ (w : SharedValue) (k : ℕ) (p : Private) (I : IsSharedValue w) (F : Fi
       let stops : is_running (slice_get L.machine.tasks q) ≡ false = ap is_running same ∙ waiting_stops (slice_get M.machine.tasks q) (steps.parent_waits w k p I F at_end free) in
       ap (where_running L.machine.tasks) par ∙ ap (λ b. if b then Some q else None) stops
 
-  -- ---- THE HOME THAT IS HANDED BACK
+  -- ---- THE BELONGINGS THAT ARE HANDED BACK
   abbrev rest : Rest
   rest = ended_rest p
 
@@ -124,10 +124,10 @@ module _ (w : SharedValue) (k : ℕ) (p : Private) (I : IsSharedValue w) (F : Fi
   has_home = subst (λ n. t < n) (sym I.made) has_node
 
   abbrev vt : Memory
-  vt = with_home v t h
+  vt = with_belongings v t h
 
-  here : vt.homes t ≡ h
-  here = at_home v t h
+  here : vt.belongings t ≡ h
+  here = at_belongings v t h
 
   module _ (j : RoomyValue EntryValue) where
     abbrev tree : List Node
@@ -154,20 +154,20 @@ module _ (w : SharedValue) (k : ℕ) (p : Private) (I : IsSharedValue w) (F : Fi
     rest_off : (u : ℕ) → (u ≡ t → ⊥) → rest_at rests u ≡ rest_at w.rests u
     rest_off u ne = ap option_flatten (got_other w.rests t u (Some rest) ne)
 
-    home_now : v'.homes t ≡ home_of rest
-    home_now = ap home_in rest_now
+    belongings_now : v'.belongings t ≡ belongings_of rest
+    belongings_now = ap belongings_in rest_now
 
-    ends_home : EndsHome vt v' t p.frames.top p.frames.below
-    ends_home = record {
-      frames = ap (λ (i : Home). i.frames) here;
-      result = ap (λ (i : Home). i.result) home_now;
-      begun = ap (λ (i : Home). i.begun) home_now ∙ (sym (last.none w k p I F shared free_last) ∙ ap (λ (i : Home). i.begun) (sym here));
-      view = ap (λ (i : Home). i.view) home_now ∙ ap (λ (i : Home). i.view) (sym here);
-      chunks = ap (λ (i : Home). i.chunks) home_now ∙ ap (λ (i : Home). i.chunks) (sym here);
-      room = ap (λ (i : Home). i.room) home_now ∙ ap (λ (i : Home). i.room) (sym here);
-      since = ap (λ (i : Home). i.since) home_now ∙ ap (λ (i : Home). i.since) (sym here);
-      count = ap (λ (i : Home). i.count) home_now ∙ ap (λ (i : Home). i.count) (sym here);
-      others = λ u ne. ap home_in (rest_off u ne) ∙ sym (off_home v t h u ne);
+    ends_belongings : EndsBelongings vt v' t p.frames.top p.frames.below
+    ends_belongings = record {
+      frames = ap (λ (i : Belongings). i.frames) here;
+      result = ap (λ (i : Belongings). i.result) belongings_now;
+      begun = ap (λ (i : Belongings). i.begun) belongings_now ∙ (sym (last.none w k p I F shared free_last) ∙ ap (λ (i : Belongings). i.begun) (sym here));
+      view = ap (λ (i : Belongings). i.view) belongings_now ∙ ap (λ (i : Belongings). i.view) (sym here);
+      chunks = ap (λ (i : Belongings). i.chunks) belongings_now ∙ ap (λ (i : Belongings). i.chunks) (sym here);
+      room = ap (λ (i : Belongings). i.room) belongings_now ∙ ap (λ (i : Belongings). i.room) (sym here);
+      since = ap (λ (i : Belongings). i.since) belongings_now ∙ ap (λ (i : Belongings). i.since) (sym here);
+      count = ap (λ (i : Belongings). i.count) belongings_now ∙ ap (λ (i : Belongings). i.count) (sym here);
+      others = λ u ne. ap belongings_in (rest_off u ne) ∙ sym (off_belongings v t h u ne);
       owner = λ c. refl;
       sources = λ u. refl;
     }
@@ -200,7 +200,7 @@ module _ (w : SharedValue) (k : ℕ) (p : Private) (I : IsSharedValue w) (F : Fi
     ended_world : IsSharedValue w'
     ended_world =
         entered_world w (last_event k p) I free_last tree w.pool rests w.sets tasks_out w.outputs all_steps w.end j.room (length-set w.rests t (Some rest) ∙ (I.made ∙ sym (made_by w.tree t Ended (slice_get w.tree t)))) (I.noted ∙ sym (made_by w.tree t Ended (slice_get w.tree t))) (length-set w.tasks_out k None) refl
-        (ran_stands_for w.program w.settings w.journal.items I.form I.legal v v' (tree_counts_of w) (tree_counts_of w') k t p.fresh h free_last E I.stands own (p.frames.top, p.frames.below, ends_home) notes counts)
+        (ran_stands_for w.program w.settings w.journal.items I.form I.legal v v' (tree_counts_of w) (tree_counts_of w') k t p.fresh h free_last E I.stands own (p.frames.top, p.frames.below, ends_belongings) notes counts)
         heaps_then measured_then
 
     ended_goes : (accounts w').end ≡ None
@@ -214,7 +214,7 @@ module _ (w : SharedValue) (k : ℕ) (p : Private) (I : IsSharedValue w) (F : Fi
     ended_others : OthersFit w w' k
     ended_others u r ne G =
         part_fits w (last_event k p) I free_last tree w.pool rests w.sets tasks_out w.outputs all_steps w.end j.room ended_world u r r (ap option_flatten (got_other w.tasks_out k u None ne)) G refl refl refl G.form G.measured
-        (ran_leaves w.program w.settings v v' l L t k p.fresh h E own (p.frames.top, p.frames.below, ends_home) (part_of w.settings r) (held_apart w k u p r F G ne) G.fits)
+        (ran_leaves w.program w.settings v v' l L t k p.fresh h E own (p.frames.top, p.frames.below, ends_belongings) (part_of w.settings r) (held_apart w k u p r F G ne) G.fits)
 
     -- ---- AS THE CALL HAS IT
     more : suc p.fresh ≡ p.fresh + 1

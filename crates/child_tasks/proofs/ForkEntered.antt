@@ -26,24 +26,24 @@ use Rattle.write_barrier.specs.Stored.{content_at, content_of}
 use Rattle.inner_mark_gc.specs.MarkingValue.{MarkingValue}
 use Rattle.ledger_step_laws.specs.Accounts.{rested}
 use Rattle.ledger_step_laws.specs.Last.{Forking, ForksOn, Runs, Splits}
-use Rattle.core_relation.specs.Memory.{Home, Noted, Memory, sources}
+use Rattle.core_relation.specs.Memory.{Belongings, Noted, Memory, sources}
 use Rattle.core_relation.specs.Begins.{AreRoots}
-use Rattle.core_relation.specs.Changes.{ForksHome, advanced, child_home}
-use Rattle.core_relation.specs.Fits.{part_for, with_home}
+use Rattle.core_relation.specs.Changes.{ForksBelongings, advanced, child_belongings}
+use Rattle.core_relation.specs.Fits.{part_for, with_belongings}
 use Rattle.core_relation.specs.RanCounts.{NodesFork, RanCounts}
 use Rattle.core_relation.specs.Since.{ForksNotes}
 use Rattle.core_relation.specs.Worker.{Fits as FitsValue}
 use Rattle.core_entry_laws.proofs.whole.RanWhole.{ran_stands_for}
-use Rattle.core_relation.proofs.changes.With.{at_home, off_home}
+use Rattle.core_relation.proofs.changes.With.{at_belongings, off_belongings}
 use Rattle.core_entry_laws.proofs.parts.Workers.{ran_leaves}
 use Rattle.task_machine.specs.declared.part.Private.{Private}
 use Rattle.task_homes.specs.declared.task_at_rest.Rest.{Rest}
 use Rattle.task_homes.specs.HomesValue.{keeping}
 use Rattle.shared_value.specs.Objects.{levels_of}
-use Rattle.shared_value.specs.SharedValue.{SharedValue, marks_at, accounts, home_in, home_of, noted_in, rest_at, tree_counts_of, value_of}
+use Rattle.shared_value.specs.SharedValue.{SharedValue, marks_at, accounts, belongings_in, belongings_of, noted_in, rest_at, tree_counts_of, value_of}
 use Rattle.shared_value.specs.Measured.{AreMeasured, RestsAreMeasured}
 use Rattle.shared_value.specs.Stands.{HeapForm, IsSharedValue}
-use Rattle.shared_value.specs.Fits.{Fits, OthersFit, home_of_part, part_of}
+use Rattle.shared_value.specs.Fits.{Fits, OthersFit, belongings_of_part, part_of}
 use Rattle.shared_value.specs.Entered.{refused}
 use Rattle.shared_value.proofs.FieldsNoted.{noted_of}
 use Rattle.shared_value.proofs.EntryMade.{task_is_out, held_apart, unheld_before}
@@ -96,8 +96,8 @@ module _ (w : SharedValue) (k : ℕ) (p : Private) (I : IsSharedValue w) (F : Fi
   abbrev v : Memory
   v = value_of w
 
-  abbrev h : Home
-  h = home_of_part p
+  abbrev h : Belongings
+  h = belongings_of_part p
 
   abbrev S : Splits w.program w.settings l L t p.fresh
   S = steps.S w k p I F at_fork free
@@ -159,10 +159,10 @@ module _ (w : SharedValue) (k : ℕ) (p : Private) (I : IsSharedValue w) (F : Fi
   has_node = let n = steps.node_out w I (steps.on w k p I F at_fork free) k p F in got_within w.tree t n.0 n.1
 
   abbrev vt : Memory
-  vt = with_home v t h
+  vt = with_belongings v t h
 
-  here : vt.homes t ≡ h
-  here = at_home v t h
+  here : vt.belongings t ≡ h
+  here = at_belongings v t h
 
   module _ (rests : List (Option Rest)) (sets : List SetOf) (H : RestsFork w.rests rests p left right) (N : SetsFork w.sets sets t) (marks : List (Option MarkingValue)) (unmarked : (u : ℕ) → marks_at marks u ≡ marks_at (slice_set w.marks t None) u) (j : RoomyValue EntryValue) where
     abbrev tree : List Node
@@ -206,16 +206,16 @@ module _ (w : SharedValue) (k : ℕ) (p : Private) (I : IsSharedValue w) (F : Fi
       | inr nt ↦ ap (λ (z : Noted). z.sources) (same_noted u nt na nb)
     ]
 
-    -- a child sees what is immutable in its parent's home
-    begun_home : (g : ℕ) → record (child_home g h) { view = levels_of (view_below p.heap.chunks (Some p.view)) } ≡ child_home g h
-    begun_home g = ap (λ ls. let z : Home = record (child_home g h) { view = ls ∷ levels_of p.view } in z) (level_is p.heap.chunks)
+    -- a child sees what is immutable in its parent's belongings
+    begun_belongings : (g : ℕ) → record (child_belongings g h) { view = levels_of (view_below p.heap.chunks (Some p.view)) } ≡ child_belongings g h
+    begun_belongings g = ap (λ ls. let z : Belongings = record (child_belongings g h) { view = ls ∷ levels_of p.view } in z) (level_is p.heap.chunks)
 
-    forks_home : ForksHome vt v' t a (a + 1) Q.left Q.right
-    forks_home = record {
-      home = ap home_in H.parent ∙ (ap (λ o. let z : Home = record (home_of (waiting_rest p)) { begun = o } in z) (sym (last.none w k p I F shared free_last)) ∙ ap (λ (z : Home). record z { frames = advanced z.frames }) (sym here));
-      left = ap v'.homes home_is ∙ (ap home_in H.left_home.2 ∙ (begun_home left ∙ ap₂ (λ g (z : Home). child_home g z) (sym left_is) (sym here)));
-      right = ap (λ n. v'.homes (n + 1)) home_is ∙ (ap home_in H.right_home.2 ∙ (begun_home right ∙ ap₂ (λ g (z : Home). child_home g z) (sym right_is) (sym here)));
-      others = λ u nt na nb. ap home_in (H.others u nt (λ e. na (e ∙ sym home_is)) (λ e. nb (e ∙ ap (λ n. n + 1) (sym home_is)))) ∙ sym (off_home v t h u nt);
+    forks_belongings : ForksBelongings vt v' t a (a + 1) Q.left Q.right
+    forks_belongings = record {
+      belongings = ap belongings_in H.parent ∙ (ap (λ o. let z : Belongings = record (belongings_of (waiting_rest p)) { begun = o } in z) (sym (last.none w k p I F shared free_last)) ∙ ap (λ (z : Belongings). record z { frames = advanced z.frames }) (sym here));
+      left = ap v'.belongings home_is ∙ (ap belongings_in H.left_home.2 ∙ (begun_belongings left ∙ ap₂ (λ g (z : Belongings). child_belongings g z) (sym left_is) (sym here)));
+      right = ap (λ n. v'.belongings (n + 1)) home_is ∙ (ap belongings_in H.right_home.2 ∙ (begun_belongings right ∙ ap₂ (λ g (z : Belongings). child_belongings g z) (sym right_is) (sym here)));
+      others = λ u nt na nb. ap belongings_in (H.others u nt (λ e. na (e ∙ sym home_is)) (λ e. nb (e ∙ ap (λ n. n + 1) (sym home_is)))) ∙ sym (off_belongings v t h u nt);
       owner = λ c. refl;
       left_noted = ap (λ (z : Noted). z.sources) (noted_then a ∙ ap noted_of left_set);
       right_noted = ap (λ (z : Noted). z.sources) (noted_then (a + 1) ∙ ap noted_of right_set);
@@ -317,7 +317,7 @@ module _ (w : SharedValue) (k : ℕ) (p : Private) (I : IsSharedValue w) (F : Fi
         let n = all w.tree t in
         marked_world w (last_event k p) I free_last tree w.pool rests sets tasks_out w.outputs all_steps w.end j.room marks
         (H.count ∙ (ap (λ n. n + 2) I.made ∙ sym n)) (N.count ∙ (ap (λ n. n + 2) I.noted ∙ sym n)) (length-set w.tasks_out k None) refl
-        (ran_stands_for w.program w.settings w.journal.items I.form I.legal v v' (tree_counts_of w) (tree_counts_of w') k t p.fresh h free_last E I.stands own forks_home (roots.0, roots.1, forks_notes) counts)
+        (ran_stands_for w.program w.settings w.journal.items I.form I.legal v v' (tree_counts_of w) (tree_counts_of w') k t p.fresh h free_last E I.stands own forks_belongings (roots.0, roots.1, forks_notes) counts)
         heaps_then measured_then
 
     pub forked_goes : (accounts w').end ≡ None
@@ -327,4 +327,4 @@ module _ (w : SharedValue) (k : ℕ) (p : Private) (I : IsSharedValue w) (F : Fi
     pub forked_others : OthersFit w w' k
     forked_others u r ne G =
         marked_fits w (last_event k p) I free_last tree w.pool rests sets tasks_out w.outputs all_steps w.end j.room marks forked_world u r r (ap option_flatten (got_other w.tasks_out k u None ne)) G refl refl refl G.form G.measured
-        (ran_leaves w.program w.settings v v' l L t k p.fresh h E own forks_home (part_of w.settings r) (held_apart w k u p r F G ne) G.fits)
+        (ran_leaves w.program w.settings v v' l L t k p.fresh h E own forks_belongings (part_of w.settings r) (held_apart w k u p r F G ne) G.fits)

@@ -24,9 +24,9 @@ use Rattle.inner_mark_gc.specs.MarkingValue.{MarkingValue}
 use Rattle.fork_join.specs.Joined.{AreRelabelled, joined_nodes, with_results}
 use Rattle.ledger_step_laws.specs.Accounts.{rested}
 use Rattle.ledger_step_laws.specs.Last.{EndsLast, Joining, Runs, Splits}
-use Rattle.core_relation.specs.Memory.{Home, Noted, Memory, sources}
-use Rattle.core_relation.specs.Changes.{HasResult, JoinsHomes}
-use Rattle.core_relation.specs.Fits.{part_for, with_home}
+use Rattle.core_relation.specs.Memory.{Belongings, Noted, Memory, sources}
+use Rattle.core_relation.specs.Changes.{HasResult, JoinsBelongings}
+use Rattle.core_relation.specs.Fits.{part_for, with_belongings}
 use Rattle.core_relation.specs.RanCounts.{NodesJoin, RanCounts}
 use Rattle.core_relation.specs.Since.{JoinsNotes}
 use Rattle.core_relation.specs.Stands.{Stands}
@@ -37,9 +37,9 @@ use Rattle.task_machine.specs.declared.part.Private.{Private}
 use Rattle.task_homes.specs.declared.task_at_rest.Rest.{Rest}
 use Rattle.task_homes.specs.declared.task_at_rest.Work.{Work}
 use Rattle.task_homes.specs.declared.task_at_rest.Work.TheVariants.{Calls}
-use Rattle.shared_value.specs.SharedValue.{SharedValue, no_home, noted_in, accounts, home_by, home_in, marks_at, rest_at, tree_counts_of, value_of}
+use Rattle.shared_value.specs.SharedValue.{SharedValue, no_belongings, noted_in, accounts, belongings_by, belongings_in, marks_at, rest_at, tree_counts_of, value_of}
 use Rattle.shared_value.specs.Stands.{HeapForm, IsSharedValue}
-use Rattle.shared_value.specs.Fits.{Fits, OthersFit, home_of_part, part_of}
+use Rattle.shared_value.specs.Fits.{Fits, OthersFit, belongings_of_part, part_of}
 use Rattle.shared_value.specs.Entered.{refused}
 use Rattle.shared_value.proofs.FieldsNoted.{noted_of}
 use Rattle.shared_value.proofs.EntryMade.{held_apart}
@@ -54,7 +54,7 @@ use Rattle.child_tasks.specs.Joins.{AreSides, RestsJoin, IsRestOf, SetsJoin, sou
 use Rattle.child_tasks.proofs.ChildReturns as steps
 use Rattle.child_tasks.proofs.JoinUnits.{joined_measured, others_measured}
 use Rattle.child_tasks.proofs.SetsNoted.{noted_by}
-use Rattle.child_tasks.proofs.JoinHomes.{Merges, by_content, joins_homes}
+use Rattle.child_tasks.proofs.JoinHomes.{Merges, by_content, joins_belongings}
 use Rattle.child_tasks.proofs.JoinTree.{joined_long, left_node, other_node, parent_node, right_node}
 use Rattle.child_tasks.proofs.MergedHeapForm.{merged_form}
 use Rattle.child_tasks.proofs.SiblingReturned as before
@@ -76,11 +76,11 @@ module _ (w : SharedValue) (k : ℕ) (p : Private) (I : IsSharedValue w) (F : Fi
   abbrev v : Memory
   v = value_of w
 
-  abbrev h : Home
-  h = home_of_part p
+  abbrev h : Belongings
+  h = belongings_of_part p
 
   abbrev vt : Memory
-  vt = with_home v t h
+  vt = with_belongings v t h
 
   abbrev x : Task
   x = (steps.S w k p I F at_end free).task
@@ -97,10 +97,10 @@ module _ (w : SharedValue) (k : ℕ) (p : Private) (I : IsSharedValue w) (F : Fi
   abbrev Q : EndsLast M L t x
   Q = before.Q w k p I F at_end free ended
 
-  here : vt.homes t ≡ h
+  here : vt.belongings t ≡ h
   here = before.here w k p I F at_end free ended
 
-  off : (u : ℕ) → (u ≡ t → ⊥) → vt.homes u ≡ v.homes u
+  off : (u : ℕ) → (u ≡ t → ⊥) → vt.belongings u ≡ v.belongings u
   off u ne = before.off w k p I F at_end free ended u ne
 
   abbrev l : Ledger
@@ -157,14 +157,14 @@ module _ (w : SharedValue) (k : ℕ) (p : Private) (I : IsSharedValue w) (F : Fi
             record { keeps = ap (λ (z : Noted). z.keeps) e; kept = ap (λ (z : Noted). z.kept) e; marked = unmarked u f.0 f.1 };
       }
 
-      -- ---- THE HOMES
+      -- ---- THE BELONGINGS
       abbrev HasBoth : ℕ → LeafHeapValue → Type 0
-      HasBoth u g = (n : ℕ) × (z : Work) × (view : List Level) × (vt.homes u ≡ home_by g view n z) × (v'.homes u ≡ no_home)
+      HasBoth u g = (n : ℕ) × (z : Work) × (view : List Level) × (vt.belongings u ≡ belongings_by g view n z) × (v'.belongings u ≡ no_belongings)
 
       both_then : HasBoth c lh × HasBoth (c + 1) rh
       both_then =
-          both.sides_of w k p I F at_end free ended above beside frames above_is calls beside_is c lh rh al ar side HasBoth (p.allocations, Calls p.frames, p.view, before.own_here w k p I F at_end free ended, ap home_in H.own_home)
-          (beside.allocations, beside.work, beside.view, (both.home_beside w k p I F at_end free ended above beside frames above_is calls beside_is c lh rh al ar side), ap home_in H.other_home)
+          both.sides_of w k p I F at_end free ended above beside frames above_is calls beside_is c lh rh al ar side HasBoth (p.allocations, Calls p.frames, p.view, before.own_here w k p I F at_end free ended, ap belongings_in H.own_home)
+          (beside.allocations, beside.work, beside.view, (both.belongings_beside w k p I F at_end free ended above beside frames above_is calls beside_is c lh rh al ar side), ap belongings_in H.other_home)
 
       merges : Merges vt v' w.pool pool q c (c + 1) al ar
       merges = record {
@@ -181,16 +181,16 @@ module _ (w : SharedValue) (k : ℕ) (p : Private) (I : IsSharedValue w) (F : Fi
         frames = frames;
         left_work = both_then.0.1;
         right_work = both_then.1.1;
-        own_home = (both.home_above w k p I F at_end free ended above beside frames above_is calls beside_is c lh rh al ar side);
-        left_home = both_then.0.3;
-        right_home = both_then.1.3;
-        own_then = ap home_in H.parent_home;
+        own_belongings = (both.belongings_above w k p I F at_end free ended above beside frames above_is calls beside_is c lh rh al ar side);
+        left_belongings = both_then.0.3;
+        right_belongings = both_then.1.3;
+        own_then = ap belongings_in H.parent_home;
         left_then = both_then.0.4;
         right_then = both_then.1.4;
         heap_is = heap_is;
         room_is = room_is;
         small = (both.small w k p I F at_end free ended above beside frames above_is calls beside_is c lh rh al ar side);
-        others = λ u nq nc nd. let e = both.apart_of w k p I F at_end free ended above beside frames above_is calls beside_is c lh rh al ar side u nc nd in ap home_in (H.others u nq e.0 e.1) ∙ sym (off u e.0);
+        others = λ u nq nc nd. let e = both.apart_of w k p I F at_end free ended above beside frames above_is calls beside_is c lh rh al ar side u nc nd in ap belongings_in (H.others u nq e.0 e.1) ∙ sym (off u e.0);
         owner = λ n. refl;
         owner_then = λ n. refl;
         relabelled = relabelled;
@@ -206,10 +206,10 @@ module _ (w : SharedValue) (k : ℕ) (p : Private) (I : IsSharedValue w) (F : Fi
         others_noted = λ u nq nc nd. ap (λ (z : Noted). z.sources) (same_noted u nq nc nd);
       }
 
-      joins_so : JoinsHomes vt v' Q.parent Q.left (Q.left + 1) al ar
+      joins_so : JoinsBelongings vt v' Q.parent Q.left (Q.left + 1) al ar
       joins_so =
-          subst (λ n. JoinsHomes vt v' Q.parent n (n + 1) al ar) (sym (both.left_is w k p I F at_end free ended above beside frames above_is calls beside_is c lh rh al ar side))
-          (subst (λ n. JoinsHomes vt v' n c (c + 1) al ar) (sym (before.parent_same w k p I F at_end free ended)) (joins_homes vt v' R W w.pool pool q c (c + 1) al ar (both.rests_q w k p I F at_end free ended above beside frames above_is calls beside_is c lh rh al ar side) (both.rests_c w k p I F at_end free ended above beside frames above_is calls beside_is c lh rh al ar side) (both.rests_d w k p I F at_end free ended above beside frames above_is calls beside_is c lh rh al ar side) merges))
+          subst (λ n. JoinsBelongings vt v' Q.parent n (n + 1) al ar) (sym (both.left_is w k p I F at_end free ended above beside frames above_is calls beside_is c lh rh al ar side))
+          (subst (λ n. JoinsBelongings vt v' n c (c + 1) al ar) (sym (before.parent_same w k p I F at_end free ended)) (joins_belongings vt v' R W w.pool pool q c (c + 1) al ar (both.rests_q w k p I F at_end free ended above beside frames above_is calls beside_is c lh rh al ar side) (both.rests_c w k p I F at_end free ended above beside frames above_is calls beside_is c lh rh al ar side) (both.rests_d w k p I F at_end free ended above beside frames above_is calls beside_is c lh rh al ar side) merges))
 
       notes_so : JoinsNotes vt v' Q.parent Q.left (Q.left + 1)
       notes_so = subst (λ n. JoinsNotes vt v' Q.parent n (n + 1)) (sym (both.left_is w k p I F at_end free ended above beside frames above_is calls beside_is c lh rh al ar side)) (subst (λ n. JoinsNotes vt v' n c (c + 1)) (sym (before.parent_same w k p I F at_end free ended)) notes)
@@ -264,7 +264,7 @@ module _ (w : SharedValue) (k : ℕ) (p : Private) (I : IsSharedValue w) (F : Fi
       ]
 
       abbrev Made : Type 0
-      Made = (a : ℤ × Option Addr) × (b : ℤ × Option Addr) × JoinsHomes vt v' Q.parent Q.left (Q.left + 1) a b × HasResult vt R Q.left Q.left_result a × HasResult vt R (Q.left + 1) Q.right_result b
+      Made = (a : ℤ × Option Addr) × (b : ℤ × Option Addr) × JoinsBelongings vt v' Q.parent Q.left (Q.left + 1) a b × HasResult vt R Q.left Q.left_result a × HasResult vt R (Q.left + 1) Q.right_result b
 
       made : Made
       made = (al, ar, joins_so, (both.results w k p I F at_end free ended above beside frames above_is calls beside_is c lh rh al ar side).0, (both.results w k p I F at_end free ended above beside frames above_is calls beside_is c lh rh al ar side).1)

@@ -22,14 +22,14 @@ use Rattle.write_barrier.specs.Stored.{Content}
 use Rattle.fork_join.specs.Joined.{AreRelabelled, with_results as with_both}
 use Rattle.fork_join.proofs.Owners.{joined_are_owned}
 use Rattle.ledger_step_laws.specs.Accounts.{Rests, own}
-use Rattle.core_relation.specs.Memory.{Chunk, Home, no_home, In, Memory, sources}
-use Rattle.core_relation.specs.Changes.{IsLifted, JoinsHomes, top_with_results}
+use Rattle.core_relation.specs.Memory.{Chunk, Belongings, no_belongings, In, Memory, sources}
+use Rattle.core_relation.specs.Changes.{IsLifted, JoinsBelongings, top_with_results}
 use Rattle.core_relation.specs.Stands.{Stands}
 use Rattle.core_relation.proofs.objects.Members.{in_chunk, map_in}
 use Rattle.task_homes.specs.declared.task_at_rest.Work.{Work}
 use Rattle.task_homes.specs.declared.task_at_rest.Work.TheVariants.{Calls, Result}
 use Rattle.shared_value.specs.Objects.{chunk_of, chunks_of}
-use Rattle.shared_value.specs.SharedValue.{home_by}
+use Rattle.shared_value.specs.SharedValue.{belongings_by}
 use Rattle.shared_value.proofs.FieldsLed.{by_chunks}
 use Rattle.shared_value.proofs.FieldsNoted.{noted_of}
 use Rattle.shared_value.proofs.RootsHeld.{chunk_in}
@@ -41,9 +41,9 @@ use Rattle.child_tasks.specs.Joins.{sources_by}
 pub in_has : (ks : List ChunkValue) (k : ChunkValue) → In ks k → has_chunk ks k.number ≡ true
 in_has ks k i = found_any ks k.number ∙ any_from_in (λ (c : ChunkValue). eqb c.number k.number) ks k i (eq-eqb k.number k.number refl)
 
--- ---- HOMES
+-- ---- BELONGINGS
 
-pub by_since : (h : LeafHeapValue) (view : List Level) (n : ℕ) (x : Work) → (home_by h view n x).since ≡ h.since
+pub by_since : (h : LeafHeapValue) (view : List Level) (n : ℕ) (x : Work) → (belongings_by h view n x).since ≡ h.since
 by_since h view n (Calls s) = refl
 by_since h view n (Result k r) = refl
 
@@ -67,16 +67,16 @@ pub record Merges (v v' : Memory) (pool pool' : PoolValue) (q c d : ℕ) (al ar 
   pub frames : FramesValue
   pub left_work : Work
   pub right_work : Work
-  pub own_home : v.homes q ≡ home_by own_heap own_view own_count (Calls frames)
-  pub left_home : v.homes c ≡ home_by left_heap left_view left_count left_work
-  pub right_home : v.homes d ≡ home_by right_heap right_view right_count right_work
-  pub own_then : v'.homes q ≡ home_by heap_then own_view own_count (Calls (with_both frames al ar))
-  pub left_then : v'.homes c ≡ no_home
-  pub right_then : v'.homes d ≡ no_home
+  pub own_belongings : v.belongings q ≡ belongings_by own_heap own_view own_count (Calls frames)
+  pub left_belongings : v.belongings c ≡ belongings_by left_heap left_view left_count left_work
+  pub right_belongings : v.belongings d ≡ belongings_by right_heap right_view right_count right_work
+  pub own_then : v'.belongings q ≡ belongings_by heap_then own_view own_count (Calls (with_both frames al ar))
+  pub left_then : v'.belongings c ≡ no_belongings
+  pub right_then : v'.belongings d ≡ no_belongings
   pub heap_is : heap_then ≡ with_places (merged own_heap left_heap right_heap) heap_then.slots heap_then.spare
   pub room_is : room_of heap_then ≡ room_of own_heap
   pub small : own_heap.since + (left_heap.since + right_heap.since) < 2 ^ 64
-  pub others : (u : ℕ) → (u ≡ q → ⊥) → (u ≡ c → ⊥) → (u ≡ d → ⊥) → v'.homes u ≡ v.homes u
+  pub others : (u : ℕ) → (u ≡ q → ⊥) → (u ≡ c → ⊥) → (u ≡ d → ⊥) → v'.belongings u ≡ v.belongings u
   pub owner : (n : ℕ) → v.owner n ≡ owner_of pool n
   pub owner_then : (n : ℕ) → v'.owner n ≡ owner_of pool' n
   pub relabelled : AreRelabelled pool pool' (left_heap.chunks ++ right_heap.chunks) q
@@ -99,23 +99,23 @@ module _ (v v' : Memory) (l : Ledger) (V : Stands v l) (pool pool' : PoolValue) 
   both = J.left_heap.chunks ++ J.right_heap.chunks
 
   -- a content of a home is owned by its task
-  owned_at : (u n : ℕ) (h : LeafHeapValue) (view : List Level) (x : Work) → v.homes u ≡ home_by h view n x → Rests l u → (k : ChunkValue) → In h.chunks k → v.owner k.number ≡ Some u
+  owned_at : (u n : ℕ) (h : LeafHeapValue) (view : List Level) (x : Work) → v.belongings u ≡ belongings_by h view n x → Rests l u → (k : ChunkValue) → In h.chunks k → v.owner k.number ≡ Some u
   owned_at u n h view x e r k i =
-      (V.homes u r).owned (chunk_of k) (subst (λ (ks : List Chunk). In ks (chunk_of k)) (sym (ap (λ (z : Home). z.chunks) e ∙ by_chunks h view n x)) (in_map chunk_of h.chunks k i))
+      (V.belongings u r).owned (chunk_of k) (subst (λ (ks : List Chunk). In ks (chunk_of k)) (sym (ap (λ (z : Belongings). z.chunks) e ∙ by_chunks h view n x)) (in_map chunk_of h.chunks k i))
 
   own_owned : (k : ChunkValue) → In ks k → v.owner k.number ≡ Some q
-  own_owned k i = owned_at q J.own_count J.own_heap J.own_view (Calls J.frames) J.own_home rq k i
+  own_owned k i = owned_at q J.own_count J.own_heap J.own_view (Calls J.frames) J.own_belongings rq k i
 
   left_owned : (k : ChunkValue) → In J.left_heap.chunks k → v.owner k.number ≡ Some c
-  left_owned k i = owned_at c J.left_count J.left_heap J.left_view J.left_work J.left_home rc k i
+  left_owned k i = owned_at c J.left_count J.left_heap J.left_view J.left_work J.left_belongings rc k i
 
   right_owned : (k : ChunkValue) → In J.right_heap.chunks k → v.owner k.number ≡ Some d
-  right_owned k i = owned_at d J.right_count J.right_heap J.right_view J.right_work J.right_home rd k i
+  right_owned k i = owned_at d J.right_count J.right_heap J.right_view J.right_work J.right_belongings rd k i
 
   -- the content of a chunk of a home
-  content_at : (u n : ℕ) (h : LeafHeapValue) (view : List Level) (x : Work) → v.homes u ≡ home_by h view n x → (k : Chunk) → In (v.homes u).chunks k → (z : ChunkValue) × In h.chunks z × (z.number ≡ k.number)
+  content_at : (u n : ℕ) (h : LeafHeapValue) (view : List Level) (x : Work) → v.belongings u ≡ belongings_by h view n x → (k : Chunk) → In (v.belongings u).chunks k → (z : ChunkValue) × In h.chunks z × (z.number ≡ k.number)
   content_at u n h view x e k i =
-      let z = map_in chunk_of h.chunks k (subst (λ (ks : List Chunk). In ks k) (ap (λ (z : Home). z.chunks) e ∙ by_chunks h view n x) i) in
+      let z = map_in chunk_of h.chunks k (subst (λ (ks : List Chunk). In ks k) (ap (λ (z : Belongings). z.chunks) e ∙ by_chunks h view n x) i) in
       (z.0, z.1, ap (λ (y : Chunk). y.number) z.2)
 
   given : (n u : ℕ) → has_chunk both n ≡ true → v.owner n ≡ Some u → v'.owner n ≡ Some q
@@ -124,14 +124,14 @@ module _ (v v' : Memory) (l : Ledger) (V : Stands v l) (pool pool' : PoolValue) 
   stays : (n : ℕ) → has_chunk both n ≡ false → v'.owner n ≡ v.owner n
   stays n off = J.owner_then n ∙ ((joined_are_owned pool pool' both q J.relabelled n).1 off ∙ sym (J.owner n))
 
-  pub owner_left : (k : Chunk) → In (v.homes c).chunks k → v'.owner k.number ≡ Some q
+  pub owner_left : (k : Chunk) → In (v.belongings c).chunks k → v'.owner k.number ≡ Some q
   owner_left k i =
-      let z = content_at c J.left_count J.left_heap J.left_view J.left_work J.left_home k i in
+      let z = content_at c J.left_count J.left_heap J.left_view J.left_work J.left_belongings k i in
       ap v'.owner (sym z.2) ∙ given z.0.number c (in_has both z.0 (in_append_left J.left_heap.chunks J.right_heap.chunks z.0 z.1)) (left_owned z.0 z.1)
 
-  pub owner_right : (k : Chunk) → In (v.homes d).chunks k → v'.owner k.number ≡ Some q
+  pub owner_right : (k : Chunk) → In (v.belongings d).chunks k → v'.owner k.number ≡ Some q
   owner_right k i =
-      let z = content_at d J.right_count J.right_heap J.right_view J.right_work J.right_home k i in
+      let z = content_at d J.right_count J.right_heap J.right_view J.right_work J.right_belongings k i in
       ap v'.owner (sym z.2) ∙ given z.0.number d (in_has both z.0 (in_append_right J.left_heap.chunks J.right_heap.chunks z.0 z.1)) (right_owned z.0 z.1)
 
   -- who owned a number that is given
@@ -169,9 +169,9 @@ module _ (v v' : Memory) (l : Ledger) (V : Stands v l) (pool pool' : PoolValue) 
       let K = V.sources u s i in
       let mine : own l K.name ≡ q = same_Some (own l K.name) q (sym K.place.chunk ∙ e) in
       let y = K.place.here K.rests in
-      let k = in_chunk (v.homes (own l K.name)).chunks y.0 y.1 in
-      let z = content_at q J.own_count J.own_heap J.own_view (Calls J.frames) J.own_home k.0 (subst (λ u. In (v.homes u).chunks k.0) mine k.1) in
-      let number : k.0.number ≡ s.object.chunk = sym ((V.homes (own l K.name) K.rests).inside k.0 y.0 k.1 k.2) ∙ ap (λ (b : Addr). b.chunk) y.2.at in
+      let k = in_chunk (v.belongings (own l K.name)).chunks y.0 y.1 in
+      let z = content_at q J.own_count J.own_heap J.own_view (Calls J.frames) J.own_belongings k.0 (subst (λ u. In (v.belongings u).chunks k.0) mine k.1) in
+      let number : k.0.number ≡ s.object.chunk = sym ((V.belongings (own l K.name) K.rests).inside k.0 y.0 k.1 k.2) ∙ ap (λ (b : Addr). b.chunk) y.2.at in
       ap (has_chunk ks) (sym (z.2 ∙ number)) ∙ in_has ks z.0 z.1
 
   to_lifted : (u : ℕ) (xs : List Source) (s : Source) → sources v u ≡ xs → Contains xs s → has_chunk ks s.object.chunk ≡ false → IsLifted v q u s
@@ -206,35 +206,35 @@ module _ (v v' : Memory) (l : Ledger) (V : Stands v l) (pool pool' : PoolValue) 
       ]) in
       subst (λ ss. In ss s) (sym J.own_noted_then) (in_from_contains (lifted one J.right_sources ks) s found)
 
-  -- ---- THE HOMES
+  -- ---- THE BELONGINGS
 
-  chunks_then : (v'.homes q).chunks ≡ (v.homes c).chunks ++ (v.homes d).chunks ++ (v.homes q).chunks
+  chunks_then : (v'.belongings q).chunks ≡ (v.belongings c).chunks ++ (v.belongings d).chunks ++ (v.belongings q).chunks
   chunks_then =
-      ap (λ (z : Home). z.chunks) J.own_then
+      ap (λ (z : Belongings). z.chunks) J.own_then
       ∙ (ap (λ (h : LeafHeapValue). chunks_of h.chunks) J.heap_is
       ∙ (map-append chunk_of J.left_heap.chunks (J.right_heap.chunks ++ ks)
       ∙ (ap (λ zs. chunks_of J.left_heap.chunks ++ zs) (map-append chunk_of J.right_heap.chunks ks)
       ∙ (sym (append_assoc (chunks_of J.left_heap.chunks) (chunks_of J.right_heap.chunks) (chunks_of ks))
-      ∙ sym (ap₂ (λ x y. x ++ y) (ap₂ (λ x y. x ++ y) (ap (λ (z : Home). z.chunks) J.left_home ∙ by_chunks J.left_heap J.left_view J.left_count J.left_work) (ap (λ (z : Home). z.chunks) J.right_home ∙ by_chunks J.right_heap J.right_view J.right_count J.right_work)) (ap (λ (z : Home). z.chunks) J.own_home))))))
+      ∙ sym (ap₂ (λ x y. x ++ y) (ap₂ (λ x y. x ++ y) (ap (λ (z : Belongings). z.chunks) J.left_belongings ∙ by_chunks J.left_heap J.left_view J.left_count J.left_work) (ap (λ (z : Belongings). z.chunks) J.right_belongings ∙ by_chunks J.right_heap J.right_view J.right_count J.right_work)) (ap (λ (z : Belongings). z.chunks) J.own_belongings))))))
 
-  since_then : (v'.homes q).since ≡ (v.homes q).since + (v.homes c).since + (v.homes d).since
+  since_then : (v'.belongings q).since ≡ (v.belongings q).since + (v.belongings c).since + (v.belongings d).since
   since_then =
-      let a : (v.homes q).since ≡ J.own_heap.since = ap (λ (z : Home). z.since) J.own_home in
-      let b : (v.homes c).since ≡ J.left_heap.since = ap (λ (z : Home). z.since) J.left_home ∙ by_since J.left_heap J.left_view J.left_count J.left_work in
-      let e : (v.homes d).since ≡ J.right_heap.since = ap (λ (z : Home). z.since) J.right_home ∙ by_since J.right_heap J.right_view J.right_count J.right_work in
-      let f : (v'.homes q).since ≡ counted (J.own_heap.since + (J.left_heap.since + J.right_heap.since)) = ap (λ (z : Home). z.since) J.own_then ∙ ap (λ (h : LeafHeapValue). h.since) J.heap_is in
+      let a : (v.belongings q).since ≡ J.own_heap.since = ap (λ (z : Belongings). z.since) J.own_belongings in
+      let b : (v.belongings c).since ≡ J.left_heap.since = ap (λ (z : Belongings). z.since) J.left_belongings ∙ by_since J.left_heap J.left_view J.left_count J.left_work in
+      let e : (v.belongings d).since ≡ J.right_heap.since = ap (λ (z : Belongings). z.since) J.right_belongings ∙ by_since J.right_heap J.right_view J.right_count J.right_work in
+      let f : (v'.belongings q).since ≡ counted (J.own_heap.since + (J.left_heap.since + J.right_heap.since)) = ap (λ (z : Belongings). z.since) J.own_then ∙ ap (λ (h : LeafHeapValue). h.since) J.heap_is in
       let small = J.small in
       omega (arith, a, b, e, f, small)
 
-  pub joins_homes : JoinsHomes v v' q c d al ar
-  joins_homes = record {
+  pub joins_belongings : JoinsBelongings v v' q c d al ar
+  joins_belongings = record {
     chunks = chunks_then;
-    room = ap (λ (z : Home). z.room) J.own_then ∙ (J.room_is ∙ sym (ap (λ (z : Home). z.room) J.own_home));
+    room = ap (λ (z : Belongings). z.room) J.own_then ∙ (J.room_is ∙ sym (ap (λ (z : Belongings). z.room) J.own_belongings));
     since = since_then;
-    count = ap (λ (z : Home). z.count) J.own_then ∙ sym (ap (λ (z : Home). z.count) J.own_home);
-    frames = ap (λ (z : Home). z.frames) J.own_then ∙ ap (λ (z : Home). top_with_results al ar z.frames) (sym J.own_home);
-    view = ap (λ (z : Home). z.view) J.own_then ∙ sym (ap (λ (z : Home). z.view) J.own_home);
-    begun = ap (λ (z : Home). z.begun) J.own_then ∙ sym (ap (λ (z : Home). z.begun) J.own_home);
+    count = ap (λ (z : Belongings). z.count) J.own_then ∙ sym (ap (λ (z : Belongings). z.count) J.own_belongings);
+    frames = ap (λ (z : Belongings). z.frames) J.own_then ∙ ap (λ (z : Belongings). top_with_results al ar z.frames) (sym J.own_belongings);
+    view = ap (λ (z : Belongings). z.view) J.own_then ∙ sym (ap (λ (z : Belongings). z.view) J.own_belongings);
+    begun = ap (λ (z : Belongings). z.begun) J.own_then ∙ sym (ap (λ (z : Belongings). z.begun) J.own_belongings);
     left = J.left_then;
     right = J.right_then;
     others = J.others;

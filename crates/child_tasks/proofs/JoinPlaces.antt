@@ -10,14 +10,14 @@ use Rattle.chunk_rows.specs.View.{Level}
 use Rattle.heap_tree.specs.Pairs.{sibling}
 use Rattle.write_barrier.specs.declared.sets.SetOf.{SetOf}
 use Rattle.write_barrier.specs.Stored.{content_at, content_of}
-use Rattle.core_relation.specs.Memory.{Home, Noted, Memory}
+use Rattle.core_relation.specs.Memory.{Belongings, Noted, Memory}
 use Rattle.core_relation.specs.Whole.{StandsForAll}
 use Rattle.core_relation.specs.Worker.{Fits as FitsValue}
 use Rattle.task_machine.specs.declared.part.Private.{Private}
 use Rattle.task_homes.specs.declared.task_at_rest.Rest.{Rest}
 use Rattle.task_homes.specs.declared.task_at_rest.Work.{Work}
 use Rattle.task_homes.specs.declared.task_at_rest.Work.TheVariants.{Calls, Result}
-use Rattle.shared_value.specs.SharedValue.{SharedValue, accounts, marks_at, home_by, home_in, rest_at, tree_counts_of, value_of}
+use Rattle.shared_value.specs.SharedValue.{SharedValue, accounts, marks_at, belongings_by, belongings_in, rest_at, tree_counts_of, value_of}
 use Rattle.shared_value.specs.Measured.{AreMeasured, IsUnheld}
 use Rattle.shared_value.specs.Stands.{HeapForm, IsSharedValue}
 use Rattle.shared_value.specs.Fits.{Fits, part_of}
@@ -28,13 +28,13 @@ use Rattle.child_tasks.specs.ChildEnds.{EndsChild}
 use Rattle.child_tasks.specs.Joins.{HasPlaces, IsSameRest, SameButPlaces, chunk_count, sources_at, sources_by}
 use Rattle.child_tasks.proofs.SetsNoted.{noted_by}
 
-same_home : (h : LeafHeapValue) (view : List Level) (n slots spare : ℕ) (x : Work) → home_by (with_places h slots spare) view n x ≡ home_by h view n x
-same_home h view n slots spare (Calls s) = refl
-same_home h view n slots spare (Result k r) = refl
+same_belongings : (h : LeafHeapValue) (view : List Level) (n slots spare : ℕ) (x : Work) → belongings_by (with_places h slots spare) view n x ≡ belongings_by h view n x
+same_belongings h view n slots spare (Calls s) = refl
+same_belongings h view n slots spare (Result k r) = refl
 
-home_same : (o o' : Option Rest) → IsSameRest o o' → home_in o' ≡ home_in o
-home_same None o' e = ap home_in e
-home_same (Some r) o' e = ap home_in e.2 ∙ same_home r.heap r.view r.allocations e.0 e.1 r.work
+belongings_same : (o o' : Option Rest) → IsSameRest o o' → belongings_in o' ≡ belongings_in o
+belongings_same None o' e = ap belongings_in e
+belongings_same (Some r) o' e = ap belongings_in e.2 ∙ same_belongings r.heap r.view r.allocations e.0 e.1 r.work
 
 module _ (w : SharedValue) (rests : List (Option Rest)) (sets : List SetOf) (many : length rests ≡ length w.rests) (same : (u : ℕ) → IsSameRest (rest_at w.rests u) (rest_at rests u)) (many_sets : length sets ≡ length w.sets)
     (same_sets : (u : ℕ) → content_at sets u ≡ content_at w.sets u) where
@@ -43,10 +43,10 @@ module _ (w : SharedValue) (rests : List (Option Rest)) (sets : List SetOf) (man
 
   value_same : value_of w' ≡ value_of w
   value_same =
-      let hs : (λ t. home_in (rest_at rests t)) ≡ (λ t. home_in (rest_at w.rests t)) = fun_ext (λ u. home_same (rest_at w.rests u) (rest_at rests u) (same u)) in
+      let hs : (λ t. belongings_in (rest_at rests t)) ≡ (λ t. belongings_in (rest_at w.rests t)) = fun_ext (λ u. belongings_same (rest_at w.rests u) (rest_at rests u) (same u)) in
       let ns : (value_of w').noted ≡ (value_of w).noted = fun_ext (λ u. ap (λ (z : Noted). record z { marked = marks_at w.marks u }) (noted_by sets u ∙ (ap noted_of (same_sets u) ∙ sym (noted_by w.sets u)))) in
-      ap (λ (f : ℕ → Home). let v : Memory = record { homes = f; noted = (value_of w').noted; owner = (value_of w).owner } in v) hs
-      ∙ ap (λ (f : ℕ → Noted). let v : Memory = record { homes = (value_of w).homes; noted = f; owner = (value_of w).owner } in v) ns
+      ap (λ (f : ℕ → Belongings). let v : Memory = record { belongings = f; noted = (value_of w').noted; owner = (value_of w).owner } in v) hs
+      ∙ ap (λ (f : ℕ → Noted). let v : Memory = record { belongings = (value_of w).belongings; noted = f; owner = (value_of w).owner } in v) ns
 
   module _ (I : IsSharedValue w) where
     form_then : (u : ℕ) (r : Rest) (o : Option Rest) → rest_at w.rests u ≡ o → IsSameRest o (rest_at rests u) → rest_at rests u ≡ Some r → HeapForm r.heap

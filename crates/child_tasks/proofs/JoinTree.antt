@@ -20,7 +20,7 @@ use Rattle.core_relation.specs.RanCounts.{node_then}
 use Rattle.task_homes.specs.declared.task_at_rest.Work.{Work}
 use Rattle.task_homes.specs.declared.task_at_rest.Work.TheVariants.{Calls, Result}
 use Rattle.task_homes.specs.declared.task_at_rest.Rest.{Rest}
-use Rattle.shared_value.specs.SharedValue.{home_by, home_in, home_of}
+use Rattle.shared_value.specs.SharedValue.{belongings_by, belongings_in, belongings_of}
 use Rattle.shared_value.proofs.TaskTaken.{made_by, node_by, node_off}
 pub use Rattle.shared_value.proofs.TaskTaken.{HasCalls}
 
@@ -94,7 +94,7 @@ kept_is (Some y) r e = (y, refl, by y.status e)
     by (EndedOf n z) e = let q : (n, z) ≡ r = same_Some (n, z) r e in ap₂ EndedOf (ap (λ (i : ℤ × Option Name). i.0) q) (ap (λ (i : ℤ × Option Name). i.1) q)
     by JoinedOf e = absurd cc
 
-pub by_room : (h : LeafHeapValue) (view : List Level) (n : ℕ) (x : Work) → (home_by h view n x).room ≡ room_of h
+pub by_room : (h : LeafHeapValue) (view : List Level) (n : ℕ) (x : Work) → (belongings_by h view n x).room ≡ room_of h
 by_room h view n (Calls s) = refl
 by_room h view n (Result k r) = refl
 
@@ -116,10 +116,10 @@ waiting_is x e = by x.status e
     by (EndedOf n r) e = absurd (false≢true e)
     by JoinedOf e = absurd (false≢true e)
 
-pub waiting_calls : (at : Name → Addr → Type 0) (o : Option Rest) (x : Task) → x.status ≡ WaitingOf → TaskIsRead at (home_in o) x → HasCalls o
-waiting_calls at None x e h = absurd (subst (HoldsRead at (home_in None) x) e h)
-waiting_calls at (Some r) x e h = by r.work refl (subst (HoldsRead at (home_of r) x) e h)
+pub waiting_calls : (at : Name → Addr → Type 0) (o : Option Rest) (x : Task) → x.status ≡ WaitingOf → TaskIsRead at (belongings_in o) x → HasCalls o
+waiting_calls at None x e h = absurd (subst (HoldsRead at (belongings_in None) x) e h)
+waiting_calls at (Some r) x e h = by r.work refl (subst (HoldsRead at (belongings_of r) x) e h)
   where
-    by : (k : Work) → r.work ≡ k → HoldsRead at (home_by r.heap r.view r.allocations k) x WaitingOf → HasCalls (Some r)
+    by : (k : Work) → r.work ≡ k → HoldsRead at (belongings_by r.heap r.view r.allocations k) x WaitingOf → HasCalls (Some r)
     by (Calls s) q g = (s, q)
     by (Result n a) q g = absurd g

@@ -22,9 +22,9 @@ use Rattle.heap_tree.specs.Node.{state_of as state_in_tree}
 use Rattle.fork_join.specs.Joined.{AreInUse}
 use Rattle.ledger_step_laws.specs.Accounts.{Rests, rested}
 use Rattle.ledger_step_laws.specs.Last.{EndsLast, Splits}
-use Rattle.core_relation.specs.Memory.{Chunk, Home, In, Memory}
+use Rattle.core_relation.specs.Memory.{Chunk, Belongings, In, Memory}
 use Rattle.core_relation.specs.Changes.{HasResult}
-use Rattle.core_relation.specs.Fits.{with_home}
+use Rattle.core_relation.specs.Fits.{with_belongings}
 use Rattle.core_relation.specs.Stands.{Stands}
 use Rattle.task_machine.specs.declared.part.Private.{Private}
 use Rattle.task_machine.specs.Accounts.{AreReserved}
@@ -32,9 +32,9 @@ use Rattle.task_homes.specs.declared.task_at_rest.Rest.{Rest}
 use Rattle.task_homes.specs.declared.task_at_rest.Work.{Work}
 use Rattle.task_homes.specs.declared.task_at_rest.Work.TheVariants.{Calls, Result}
 use Rattle.shared_value.specs.Objects.{chunk_of}
-use Rattle.shared_value.specs.SharedValue.{SharedValue, accounts, home_by, home_in, home_of, rest_at, value_of}
+use Rattle.shared_value.specs.SharedValue.{SharedValue, accounts, belongings_by, belongings_in, belongings_of, rest_at, value_of}
 use Rattle.shared_value.specs.Stands.{HeapForm, IsSharedValue}
-use Rattle.shared_value.specs.Fits.{Fits, home_of_part}
+use Rattle.shared_value.specs.Fits.{Fits, belongings_of_part}
 use Rattle.shared_value.specs.Entered.{refused}
 use Rattle.shared_value.proofs.RootsHeld.{chunk_in}
 use Rattle.own_steps.specs.Alone.{alone_event}
@@ -66,11 +66,11 @@ module _ (w : SharedValue) (k : ℕ) (p : Private) (I : IsSharedValue w) (F : Fi
   abbrev v : Memory
   v = value_of w
 
-  abbrev h : Home
-  h = home_of_part p
+  abbrev h : Belongings
+  h = belongings_of_part p
 
   abbrev vt : Memory
-  vt = with_home v t h
+  vt = with_belongings v t h
 
   abbrev x : Task
   x = (steps.S w k p I F at_end free).task
@@ -90,41 +90,41 @@ module _ (w : SharedValue) (k : ℕ) (p : Private) (I : IsSharedValue w) (F : Fi
   abbrev Q : EndsLast M L t x
   Q = before.Q w k p I F at_end free ended
 
-  here : vt.homes t ≡ h
+  here : vt.belongings t ≡ h
   here = before.here w k p I F at_end free ended
 
-  off : (u : ℕ) → (u ≡ t → ⊥) → vt.homes u ≡ v.homes u
+  off : (u : ℕ) → (u ≡ t → ⊥) → vt.belongings u ≡ v.belongings u
   off u ne = before.off w k p I F at_end free ended u ne
 
-  abbrev pub HasHome : ℕ → LeafHeapValue → Type 0
-  HasHome u g = (n : ℕ) × (z : Work) × (view : List Level) × (vt.homes u ≡ home_by g view n z)
+  abbrev pub HasBelongings : ℕ → LeafHeapValue → Type 0
+  HasBelongings u g = (n : ℕ) × (z : Work) × (view : List Level) × (vt.belongings u ≡ belongings_by g view n z)
 
-  owner_at : (u : ℕ) (g : LeafHeapValue) → HasHome u g → Rests R u → (n : ℕ) → has_chunk g.chunks n ≡ true → v.owner n ≡ Some u
+  owner_at : (u : ℕ) (g : LeafHeapValue) → HasBelongings u g → Rests R u → (n : ℕ) → has_chunk g.chunks n ≡ true → v.owner n ≡ Some u
   owner_at u g e rests n has =
       let y = chunk_in g.chunks n has in
-      ap v.owner (sym y.2) ∙ (W.homes u rests).owned (chunk_of y.0) (subst (λ (ks : List Chunk). In ks (chunk_of y.0)) (sym (ap (λ (i : Home). i.chunks) e.3 ∙ by_chunks g e.2 e.0 e.1)) (in_map chunk_of g.chunks y.0 y.1))
+      ap v.owner (sym y.2) ∙ (W.belongings u rests).owned (chunk_of y.0) (subst (λ (ks : List Chunk). In ks (chunk_of y.0)) (sym (ap (λ (i : Belongings). i.chunks) e.3 ∙ by_chunks g e.2 e.0 e.1)) (in_map chunk_of g.chunks y.0 y.1))
 
   -- no two heaps have a chunk of one number
-  heaps_apart : (u z : ℕ) (a b : LeafHeapValue) → HasHome u a → HasHome z b → Rests R u → Rests R z → (u ≡ z → ⊥) → (n : ℕ) → has_chunk a.chunks n ≡ true → has_chunk b.chunks n ≡ false
+  heaps_apart : (u z : ℕ) (a b : LeafHeapValue) → HasBelongings u a → HasBelongings z b → Rests R u → Rests R z → (u ≡ z → ⊥) → (n : ℕ) → has_chunk a.chunks n ≡ true → has_chunk b.chunks n ≡ false
   heaps_apart u z a b ea eb ru rz ne n has = elim (cases_Bool (has_chunk b.chunks n)) [
     | inl there ↦ absurd (ne (same_Some u z (sym (owner_at u a ea ru n has) ∙ owner_at z b eb rz n there)))
     | inr out ↦ out
   ]
 
-  by_result : (g : LeafHeapValue) (view : List Level) (n : ℕ) (z : Work) → (home_by g view n z).result ≡ work_result z
+  by_result : (g : LeafHeapValue) (view : List Level) (n : ℕ) (z : Work) → (belongings_by g view n z).result ≡ work_result z
   by_result g view n (Calls f) = refl
   by_result g view n (Result i a) = refl
 
   module _ (above beside : Rest) (frames : FramesValue) (above_is : rest_at w.rests q ≡ Some above) (calls : above.work ≡ Calls frames) (beside_is : IsRestOf (rest_at w.rests s) beside) (c : ℕ) (lh rh : LeafHeapValue) (al ar : ℤ × Option Addr) (side : AreSides p s beside c lh rh al ar) where
-    pub home_above : vt.homes q ≡ home_by above.heap above.view above.allocations (Calls frames)
-    home_above = off q (steps.parent_apart w k p I F at_end free) ∙ (ap home_in above_is ∙ ap (home_by above.heap above.view above.allocations) calls)
+    pub belongings_above : vt.belongings q ≡ belongings_by above.heap above.view above.allocations (Calls frames)
+    belongings_above = off q (steps.parent_apart w k p I F at_end free) ∙ (ap belongings_in above_is ∙ ap (belongings_by above.heap above.view above.allocations) calls)
 
-    beside_home : (o : Option Rest) → IsRestOf o beside → home_in o ≡ home_of beside
-    beside_home None e = ap home_of (sym e.2)
-    beside_home (Some z) e = ap home_of (sym e)
+    beside_belongings : (o : Option Rest) → IsRestOf o beside → belongings_in o ≡ belongings_of beside
+    beside_belongings None e = ap belongings_of (sym e.2)
+    beside_belongings (Some z) e = ap belongings_of (sym e)
 
-    pub home_beside : vt.homes s ≡ home_by beside.heap beside.view beside.allocations beside.work
-    home_beside = off s (steps.other_apart w k p I F at_end free) ∙ beside_home (rest_at w.rests s) beside_is
+    pub belongings_beside : vt.belongings s ≡ belongings_by beside.heap beside.view beside.allocations beside.work
+    belongings_beside = off s (steps.other_apart w k p I F at_end free) ∙ beside_belongings (rest_at w.rests s) beside_is
 
     beside_form : (o : Option Rest) → rest_at w.rests s ≡ o → IsRestOf o beside → HeapForm beside.heap
     beside_form None f e = subst (λ (z : Rest). HeapForm z.heap) (sym e.2) (empty_form e.0 e.1)
@@ -153,7 +153,7 @@ module _ (w : SharedValue) (k : ℕ) (p : Private) (I : IsSharedValue w) (F : Fi
       returns = e;
       frame = p.frames.top;
       below = p.frames.below;
-      frames = ap (λ (i : Home). i.frames) here;
+      frames = ap (λ (i : Belongings). i.frames) here;
       result = refl;
     })
 
@@ -164,7 +164,7 @@ module _ (w : SharedValue) (k : ℕ) (p : Private) (I : IsSharedValue w) (F : Fi
           task = z.0;
           is = ap (λ (m : State). slice_get m.tasks s) (before.machine_rests w k p I F at_end free ended) ∙ z.1;
           ended = z.2;
-          result = ap (λ (i : Home). i.result) home_beside ∙ by_result beside.heap beside.view beside.allocations beside.work;
+          result = ap (λ (i : Belongings). i.result) belongings_beside ∙ by_result beside.heap beside.view beside.allocations beside.work;
         })
 
     pub results : HasResult vt R Q.left Q.left_result al × HasResult vt R (Q.left + 1) Q.right_result ar
@@ -195,14 +195,14 @@ module _ (w : SharedValue) (k : ℕ) (p : Private) (I : IsSharedValue w) (F : Fi
     pub q_low : q < c
     q_low = let a = (steps.kept_tree w k p I F at_end free).low Q.left Q.parent (before.left_par w k p I F at_end free ended) in omega (arith, a, (before.parent_same w k p I F at_end free ended), left_is)
 
-    own_home : HasHome t p.heap
-    own_home = (p.allocations, Calls p.frames, p.view, before.own_here w k p I F at_end free ended)
+    own_belongings : HasBelongings t p.heap
+    own_belongings = (p.allocations, Calls p.frames, p.view, before.own_here w k p I F at_end free ended)
 
-    other_home : HasHome s beside.heap
-    other_home = (beside.allocations, beside.work, beside.view, home_beside)
+    other_belongings : HasBelongings s beside.heap
+    other_belongings = (beside.allocations, beside.work, beside.view, belongings_beside)
 
-    above_has : HasHome q above.heap
-    above_has = (above.allocations, Calls frames, above.view, home_above)
+    above_has : HasBelongings q above.heap
+    above_has = (above.allocations, Calls frames, above.view, belongings_above)
 
     -- what is so of both is so of the left one and of the right one
     pub sides_of : (P : ℕ → LeafHeapValue → Type 0) → P t p.heap → P s beside.heap → P c lh × P (c + 1) rh
@@ -212,8 +212,8 @@ module _ (w : SharedValue) (k : ℕ) (p : Private) (I : IsSharedValue w) (F : Fi
         by (inl m) = (subst (λ u. P u lh) m.0 (subst (P t) (sym m.2) a), subst (λ u. P u rh) m.1 (subst (P s) (sym m.3) b))
         by (inr m) = (subst (λ u. P u lh) m.0 (subst (P s) (sym m.2) b), subst (λ u. P u rh) m.1 (subst (P t) (sym m.3) a))
 
-    child_homes : HasHome c lh × HasHome (c + 1) rh
-    child_homes = sides_of HasHome own_home other_home
+    children_belongings : HasBelongings c lh × HasBelongings (c + 1) rh
+    children_belongings = sides_of HasBelongings own_belongings other_belongings
 
     pub child_forms : HeapForm lh × HeapForm rh
     child_forms = sides_of (λ u g. HeapForm g) F.form other_form
@@ -221,35 +221,35 @@ module _ (w : SharedValue) (k : ℕ) (p : Private) (I : IsSharedValue w) (F : Fi
     pub left_none : lh.reserved ≡ None
     left_none =
         none_reserved lh child_forms.0.shaped.reserved
-        (subst (AreReserved lh.chunks lh.reserved) (ap (λ u. (heap_of R u).reserved) (sym left_is) ∙ Q.can.left_spares) (before.counted_home w k p I F at_end free ended c child_homes.0.0 lh child_homes.0.2 child_homes.0.1 child_homes.0.3 rests_c child_forms.0).reserved)
+        (subst (AreReserved lh.chunks lh.reserved) (ap (λ u. (heap_of R u).reserved) (sym left_is) ∙ Q.can.left_spares) (before.counted_belongings w k p I F at_end free ended c children_belongings.0.0 lh children_belongings.0.2 children_belongings.0.1 children_belongings.0.3 rests_c child_forms.0).reserved)
 
     pub right_none : rh.reserved ≡ None
     right_none =
         none_reserved rh child_forms.1.shaped.reserved
-        (subst (AreReserved rh.chunks rh.reserved) (ap (λ u. (heap_of R (u + 1)).reserved) (sym left_is) ∙ Q.can.right_spares) (before.counted_home w k p I F at_end free ended (c + 1) child_homes.1.0 rh child_homes.1.2 child_homes.1.1 child_homes.1.3 rests_d child_forms.1).reserved)
+        (subst (AreReserved rh.chunks rh.reserved) (ap (λ u. (heap_of R (u + 1)).reserved) (sym left_is) ∙ Q.can.right_spares) (before.counted_belongings w k p I F at_end free ended (c + 1) children_belongings.1.0 rh children_belongings.1.2 children_belongings.1.1 children_belongings.1.3 rests_d child_forms.1).reserved)
 
     pub small : above.heap.since + (lh.since + rh.since) < 2 ^ 64
     small =
-        let a : above.heap.since ≡ (heap_of R q).since = before.since_home w k p I F at_end free ended q above.allocations above.heap above.view (Calls frames) home_above rests_q in
-        let b : lh.since ≡ (heap_of R c).since = before.since_home w k p I F at_end free ended c child_homes.0.0 lh child_homes.0.2 child_homes.0.1 child_homes.0.3 rests_c in
-        let e : rh.since ≡ (heap_of R (c + 1)).since = before.since_home w k p I F at_end free ended (c + 1) child_homes.1.0 rh child_homes.1.2 child_homes.1.1 child_homes.1.3 rests_d in
+        let a : above.heap.since ≡ (heap_of R q).since = before.since_belongings w k p I F at_end free ended q above.allocations above.heap above.view (Calls frames) belongings_above rests_q in
+        let b : lh.since ≡ (heap_of R c).since = before.since_belongings w k p I F at_end free ended c children_belongings.0.0 lh children_belongings.0.2 children_belongings.0.1 children_belongings.0.3 rests_c in
+        let e : rh.since ≡ (heap_of R (c + 1)).since = before.since_belongings w k p I F at_end free ended (c + 1) children_belongings.1.0 rh children_belongings.1.2 children_belongings.1.1 children_belongings.1.3 rests_d in
         omega (arith, a, b, e, before.since_low w k p I F at_end free ended q, before.since_low w k p I F at_end free ended c, before.since_low w k p I F at_end free ended (c + 1))
 
     -- the merged chunks have numbers of their own
     pub joined_apart : AreApart (lh.chunks ++ (rh.chunks ++ above.heap.chunks))
     joined_apart =
         apart_together lh.chunks (rh.chunks ++ above.heap.chunks) child_forms.0.shaped.apart
-        (apart_together rh.chunks above.heap.chunks child_forms.1.shaped.apart above_form.shaped.apart (heaps_apart (c + 1) q rh above.heap child_homes.1 above_has rests_d rests_q (λ e. let lt = q_low in omega (arith, e, lt))))
+        (apart_together rh.chunks above.heap.chunks child_forms.1.shaped.apart above_form.shaped.apart (heaps_apart (c + 1) q rh above.heap children_belongings.1 above_has rests_d rests_q (λ e. let lt = q_low in omega (arith, e, lt))))
         (λ n has. has_append rh.chunks above.heap.chunks n ∙ or_from (has_chunk rh.chunks n) (has_chunk above.heap.chunks n)
-        (heaps_apart c (c + 1) lh rh child_homes.0 child_homes.1 rests_c rests_d (λ e. omega (arith, e)) n has)
-        (heaps_apart c q lh above.heap child_homes.0 above_has rests_c rests_q (λ e. let lt = q_low in omega (arith, e, lt)) n has))
+        (heaps_apart c (c + 1) lh rh children_belongings.0 children_belongings.1 rests_c rests_d (λ e. omega (arith, e)) n has)
+        (heaps_apart c q lh above.heap children_belongings.0 above_has rests_c rests_q (λ e. let lt = q_low in omega (arith, e, lt)) n has))
 
     -- and are in use
     pub left_used : AreInUse w.pool lh.chunks
-    left_used = all_from (λ y. IsSome (slot_at w.pool y.number)) lh.chunks (λ y i. owner_held w.pool y.number c (owner_at c lh child_homes.0 rests_c y.number (in_has lh.chunks y i)))
+    left_used = all_from (λ y. IsSome (slot_at w.pool y.number)) lh.chunks (λ y i. owner_held w.pool y.number c (owner_at c lh children_belongings.0 rests_c y.number (in_has lh.chunks y i)))
 
     pub right_used : AreInUse w.pool rh.chunks
-    right_used = all_from (λ y. IsSome (slot_at w.pool y.number)) rh.chunks (λ y i. owner_held w.pool y.number (c + 1) (owner_at (c + 1) rh child_homes.1 rests_d y.number (in_has rh.chunks y i)))
+    right_used = all_from (λ y. IsSome (slot_at w.pool y.number)) rh.chunks (λ y i. owner_held w.pool y.number (c + 1) (owner_at (c + 1) rh children_belongings.1 rests_d y.number (in_has rh.chunks y i)))
 
     pub child_of_two : (t ≡ c) ⊎ (t ≡ c + 1)
     child_of_two = by side

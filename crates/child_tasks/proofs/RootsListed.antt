@@ -31,7 +31,7 @@ RootsOf v l t ss = (roots : List Addr) × ((a : Addr) → In roots a ↔ ((s : S
 
 module _ (v : Memory) (l : Ledger) (t : ℕ) (V : Stands v l) where
   owned : (u : ℕ) (o : Located) → Rests l u → In (objects v u) o → v.owner o.at.chunk ≡ Some u
-  owned u o r i = let k = in_chunk (v.homes u).chunks o i in ap v.owner ((V.homes u r).inside k.0 o k.1 k.2) ∙ (V.homes u r).owned k.0 k.1
+  owned u o r i = let k = in_chunk (v.belongings u).chunks o i in ap v.owner ((V.belongings u r).inside k.0 o k.1 k.2) ∙ (V.belongings u r).owned k.0 k.1
 
   module _ (s : Source) (K : IsSource v l t s) where
     abbrev u : ℕ
@@ -50,7 +50,7 @@ module _ (v : Memory) (l : Ledger) (t : ℕ) (V : Stands v l) where
     only : (a : Addr) (R : RootBy v l t s a) → R.object ≡ q
     only a R =
         let home : R.home ≡ u = same_Some R.home u (sym (owned R.home R.object R.rests R.there) ∙ (ap (λ (b : Addr). v.owner b.chunk) R.at ∙ K.place.chunk)) in
-        (V.homes u K.rests).once R.object q (subst (λ z. In (objects v z) R.object) home R.there) q_there (R.at ∙ sym q_at)
+        (V.belongings u K.rests).once R.object q (subst (λ z. In (objects v z) R.object) home R.there) q_there (R.at ∙ sym q_at)
 
     held : (a : Addr) → RootBy v l t s a → slice_get q.refs s.field ≡ Some (Some a)
     held a R = ap (λ (z : Located). slice_get z.refs s.field) (sym (only a R)) ∙ R.holds

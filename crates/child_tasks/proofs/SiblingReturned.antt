@@ -24,20 +24,20 @@ use Rattle.ledger_step_laws.specs.Accounts.{Rests, rested}
 use Rattle.ledger_step_laws.specs.Last.{EndsLast, Joining, Runs, Splits}
 use Rattle.ledger_step_laws.proofs.Ahead.{with_off}
 use Rattle.ledger_step_laws.proofs.Rested.{rested_view}
-use Rattle.core_relation.specs.Memory.{Chunk, Home, Memory}
-use Rattle.core_relation.specs.Fits.{part_for, with_home}
+use Rattle.core_relation.specs.Memory.{Chunk, Belongings, Memory}
+use Rattle.core_relation.specs.Fits.{part_for, with_belongings}
 use Rattle.core_relation.specs.Layout.{reserved_chunks, reserved_units}
 use Rattle.core_relation.specs.Reads.{TaskIsRead}
-use Rattle.core_relation.specs.Stands.{HasNames, HomeStands, Place, Stands}
+use Rattle.core_relation.specs.Stands.{HasNames, BelongingsStand, Place, Stands}
 use Rattle.core_relation.specs.Worker.{Fits as FitsValue}
-use Rattle.core_relation.proofs.changes.With.{at_home, off_home}
+use Rattle.core_relation.proofs.changes.With.{at_belongings, off_belongings}
 use Rattle.task_machine.specs.declared.part.Private.{Private}
 use Rattle.task_machine.specs.Accounts.{IsCounted}
 use Rattle.task_homes.specs.declared.task_at_rest.Work.{Work}
 use Rattle.task_homes.specs.declared.task_at_rest.Work.TheVariants.{Calls}
-use Rattle.shared_value.specs.SharedValue.{SharedValue, accounts, home_by, rest_at, value_of}
+use Rattle.shared_value.specs.SharedValue.{SharedValue, accounts, belongings_by, rest_at, value_of}
 use Rattle.shared_value.specs.Stands.{HeapForm, IsSharedValue}
-use Rattle.shared_value.specs.Fits.{Fits, home_of_part}
+use Rattle.shared_value.specs.Fits.{Fits, belongings_of_part}
 use Rattle.shared_value.specs.Entered.{refused}
 use Rattle.shared_value.proofs.HeapCounts.{counted_from}
 use Rattle.shared_value.proofs.PartFitsMachine as link
@@ -76,11 +76,11 @@ module _ (w : SharedValue) (k : ℕ) (p : Private) (I : IsSharedValue w) (F : Fi
   abbrev pub v : Memory
   v = value_of w
 
-  abbrev pub h : Home
-  h = home_of_part p
+  abbrev pub h : Belongings
+  h = belongings_of_part p
 
   abbrev pub vt : Memory
-  vt = with_home v t h
+  vt = with_belongings v t h
 
   abbrev pub S : Splits w.program w.settings l L t p.fresh
   S = steps.S w k p I F at_end free
@@ -236,28 +236,28 @@ module _ (w : SharedValue) (k : ℕ) (p : Private) (I : IsSharedValue w) (F : Fi
       ] in
       omega (arith, b, c, e)
 
-  pub here : vt.homes t ≡ h
-  here = at_home v t h
+  pub here : vt.belongings t ≡ h
+  here = at_belongings v t h
 
   -- it is amid no collection
-  pub own_here : vt.homes t ≡ home_by p.heap p.view p.allocations (Calls p.frames)
-  own_here = here ∙ ap (λ o. let z : Home = record (home_by p.heap p.view p.allocations (Calls p.frames)) { begun = o } in z) (last.none w k p I F shared free_last)
+  pub own_here : vt.belongings t ≡ belongings_by p.heap p.view p.allocations (Calls p.frames)
+  own_here = here ∙ ap (λ o. let z : Belongings = record (belongings_by p.heap p.view p.allocations (Calls p.frames)) { begun = o } in z) (last.none w k p I F shared free_last)
 
-  pub off : (u : ℕ) → (u ≡ t → ⊥) → vt.homes u ≡ v.homes u
-  off u ne = off_home v t h u ne
+  pub off : (u : ℕ) → (u ≡ t → ⊥) → vt.belongings u ≡ v.belongings u
+  off u ne = off_belongings v t h u ne
 
   -- a heap is counted as its account says
-  pub counted_home : (u n : ℕ) (g : LeafHeapValue) (view : List Level) (z : Work) → vt.homes u ≡ home_by g view n z → Rests R u → HeapForm g → IsCounted g (heap_of R u)
-  counted_home u n g view z e rests form =
-      let H : HomeStands vt R u = W.homes u rests in
+  pub counted_belongings : (u n : ℕ) (g : LeafHeapValue) (view : List Level) (z : Work) → vt.belongings u ≡ belongings_by g view n z → Rests R u → HeapForm g → IsCounted g (heap_of R u)
+  counted_belongings u n g view z e rests form =
+      let H : BelongingsStand vt R u = W.belongings u rests in
       counted_from g (heap_of R u) form
-      (subst (λ ks. HasNames ks (heap_of R u)) (ap (λ (i : Home). i.chunks) e ∙ by_chunks g view n z) H.names)
-      (sym (by_room g view n z) ∙ (ap (λ (i : Home). i.room) (sym e) ∙ H.room))
-      (sym (by_since g view n z) ∙ (ap (λ (i : Home). i.since) (sym e) ∙ H.since))
-      (subst (λ (ks : List Chunk). map (λ (c : Chunk). c.units) (reserved_chunks ks) ≡ reserved_units (heap_of R u).reserved) (ap (λ (i : Home). i.chunks) e ∙ by_chunks g view n z) H.laid.reserved)
+      (subst (λ ks. HasNames ks (heap_of R u)) (ap (λ (i : Belongings). i.chunks) e ∙ by_chunks g view n z) H.names)
+      (sym (by_room g view n z) ∙ (ap (λ (i : Belongings). i.room) (sym e) ∙ H.room))
+      (sym (by_since g view n z) ∙ (ap (λ (i : Belongings). i.since) (sym e) ∙ H.since))
+      (subst (λ (ks : List Chunk). map (λ (c : Chunk). c.units) (reserved_chunks ks) ≡ reserved_units (heap_of R u).reserved) (ap (λ (i : Belongings). i.chunks) e ∙ by_chunks g view n z) H.laid.reserved)
 
-  pub since_home : (u n : ℕ) (g : LeafHeapValue) (view : List Level) (z : Work) → vt.homes u ≡ home_by g view n z → Rests R u → g.since ≡ (heap_of R u).since
-  since_home u n g view z e rests = sym (by_since g view n z) ∙ (ap (λ (i : Home). i.since) (sym e) ∙ (W.homes u rests).since)
+  pub since_belongings : (u n : ℕ) (g : LeafHeapValue) (view : List Level) (z : Work) → vt.belongings u ≡ belongings_by g view n z → Rests R u → g.since ≡ (heap_of R u).since
+  since_belongings u n g view z e rests = sym (by_since g view n z) ∙ (ap (λ (i : Belongings). i.since) (sym e) ∙ (W.belongings u rests).since)
 
   -- the parent's frames are in the value
   pub rests_parent : Rests R q
@@ -271,5 +271,5 @@ module _ (w : SharedValue) (k : ℕ) (p : Private) (I : IsSharedValue w) (F : Fi
 
   pub parent_calls : HasCalls (rest_at w.rests q)
   parent_calls =
-      let held : TaskIsRead (Place vt R) (vt.homes q) xp = W.tasks q xp rests_parent (ap (λ (m : State). slice_get m.tasks q) machine_rests ∙ above_task.1) in
-      waiting_calls (Place vt R) (rest_at w.rests q) xp above_status (subst (λ (i : Home). TaskIsRead (Place vt R) i xp) (off q (steps.parent_apart w k p I F at_end free)) held)
+      let held : TaskIsRead (Place vt R) (vt.belongings q) xp = W.tasks q xp rests_parent (ap (λ (m : State). slice_get m.tasks q) machine_rests ∙ above_task.1) in
+      waiting_calls (Place vt R) (rest_at w.rests q) xp above_status (subst (λ (i : Belongings). TaskIsRead (Place vt R) i xp) (off q (steps.parent_apart w k p I F at_end free)) held)

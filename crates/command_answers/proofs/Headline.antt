@@ -16,7 +16,7 @@ use Rattle.run_ledger.proofs.Cuts.{journals_can_be_cut}
 use Rattle.journal_laws.proofs.Drops.{held_is_undropped}
 use Rattle.run_ledger.proofs.Journals.{nothing_reachable_is_freed}
 use Rattle.ledger_step_laws.specs.Accounts.{Rests}
-use Rattle.core_relation.specs.Stands.{HomeStands}
+use Rattle.core_relation.specs.Stands.{BelongingsStand}
 use Rattle.core_relation.specs.Memory.{In, Memory, object_name}
 use Rattle.core_relation.specs.Whole.{handed}
 use Rattle.core_relation.proofs.objects.Members.{held_object, object_held}
@@ -36,16 +36,16 @@ module _ (w : SharedValue) (I : IsSharedValue w) (t : ℕ) (R : Rests (handed (a
   abbrev v : Memory
   v = value_of w
 
-  H : HomeStands v (handed l) t
-  H = I.stands.homes.homes t R
+  H : BelongingsStand v (handed l) t
+  H = I.stands.belongings.belongings t R
 
   heap_is_held : HeapIsHeld v l t
   heap_is_held = record {
     each = λ o i.
-        contains_from_in (held_in (heap_of l t)) (object_name o) (subst (λ ns. In ns (object_name o)) (handed_held l t) (object_held (v.homes t).chunks (heap_of (handed l) t) H.names o i));
-    all = λ n c. held_object (v.homes t).chunks (heap_of (handed l) t) H.names n (subst (λ ns. In ns n) (sym (handed_held l t)) (in_from_contains (held_in (heap_of l t)) n c));
+        contains_from_in (held_in (heap_of l t)) (object_name o) (subst (λ ns. In ns (object_name o)) (handed_held l t) (object_held (v.belongings t).chunks (heap_of (handed l) t) H.names o i));
+    all = λ n c. held_object (v.belongings t).chunks (heap_of (handed l) t) H.names n (subst (λ ns. In ns n) (sym (handed_held l t)) (in_from_contains (held_in (heap_of l t)) n c));
     once = H.named;
-    contents = λ o i. let x = I.stands.homes.contents t o R i in (x.0, ap (λ (m : State). object_at m.store (object_name o)) (sym (same_machine w I)) ∙ x.1, x.2);
+    contents = λ o i. let x = I.stands.belongings.contents t o R i in (x.0, ap (λ (m : State). object_at m.store (object_name o)) (sym (same_machine w I)) ∙ x.1, x.2);
   }
 
 heaps_are_held : (w : SharedValue) (I : IsSharedValue w) → HeapsAreHeld (Some (without_journal w)) (accounts w)

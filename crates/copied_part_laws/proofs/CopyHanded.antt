@@ -22,17 +22,17 @@ use Rattle.ledger_step_laws.specs.Accounts.{aside}
 use Rattle.ledger_step_laws.proofs.Rested.{rested_view}
 use Rattle.core_relation.specs.Copies.{PartFits, before}
 use Rattle.core_relation.specs.Fits.{part_for}
-use Rattle.core_relation.specs.Memory.{Home, In}
+use Rattle.core_relation.specs.Memory.{Belongings, In}
 use Rattle.core_relation.proofs.objects.Members.{in_map}
 use Rattle.task_machine.specs.declared.part.Begun.{Begun}
 use Rattle.task_machine.specs.declared.part.Private.{Private}
-use Rattle.shared_value.specs.Fits.{home_of_part}
+use Rattle.shared_value.specs.Fits.{belongings_of_part}
 use Rattle.shared_value.specs.Measured.{AreMeasured, AreUnits, news_of}
 use Rattle.shared_value.proofs.UnitsMeasured.{measured_both}
-use Rattle.shared_value.specs.SharedValue.{SharedValue, accounts, frames_down, home_with, value_of}
+use Rattle.shared_value.specs.SharedValue.{SharedValue, accounts, frames_down, belongings_with, value_of}
 use Rattle.leaf_collections.specs.LeafEnd.{AreBack, FitsCopied}
 use Rattle.heap_marking.proofs.SweptUnits.{few_units}
-use Rattle.copied_part_laws.specs.Copied.{IsBegun, part_home}
+use Rattle.copied_part_laws.specs.Copied.{IsBegun, part_belongings}
 use Rattle.copied_part_laws.specs.Handed.{CopiedFits, IsCopying}
 use Rattle.copied_part_laws.proofs.ChunksGivenBack as back
 use Rattle.copied_part_laws.proofs.CopyMade as copying
@@ -57,16 +57,16 @@ module _ (w : SharedValue) (k : ℕ) (p : Private) (b : Begun) (news : List Chun
   abbrev pub l : Ledger
   l = aside (accounts w)
 
-  abbrev pub H : Home
-  H = part_home p.heap p.view p.allocations p.frames (Some b)
+  abbrev pub H : Belongings
+  H = part_belongings p.heap p.view p.allocations p.frames (Some b)
 
-  home_is : home_of_part p ≡ H
-  home_is = ap (λ o. record (home_with p.heap p.view p.allocations (frames_down p.frames) (pos 0, None)) { begun = o }) C.begun
+  belongings_is : belongings_of_part p ≡ H
+  belongings_is = ap (λ o. record (belongings_with p.heap p.view p.allocations (frames_down p.frames) (pos 0, None)) { begun = o }) C.begun
 
   fits : PartFits w.program w.settings (before w.settings p.task H) (value_of w) (aside (accounts w))
   fits =
       subst (λ n. PartFits w.program w.settings (part_for w.settings p.task H n) (value_of w) (aside (accounts w))) C.fresh
-      (subst (λ (h : Home). PartFits w.program w.settings (part_for w.settings p.task h p.fresh) (value_of w) (aside (accounts w))) home_is C.fits.fits.part)
+      (subst (λ (h : Belongings). PartFits w.program w.settings (part_for w.settings p.task h p.fresh) (value_of w) (aside (accounts w))) belongings_is C.fits.fits.part)
 
   pub begun : IsBegun w.program w.settings p.task p.heap p.view p.allocations p.frames b news (value_of w) (aside (accounts w))
   begun = record {
@@ -129,7 +129,7 @@ module _ (w : SharedValue) (k : ℕ) (p : Private) (b : Begun) (news : List Chun
     copied =
         let made = copies_fit w.program w.settings p.task p.heap p.view p.allocations p.frames b news (value_of w) (aside (accounts w)) begun h' s' out D in
         record {
-          home = H;
+          belongings = H;
           held = C.fits.held;
           copy = made.0;
           form = made.1;

@@ -32,21 +32,21 @@ use Rattle.collected_heap_laws.proofs.Telling.{moves_are_told}
 use Rattle.ledger_step_laws.specs.Accounts.{rested}
 use Rattle.ledger_step_laws.proofs.Rested.{rested_view, rested_worker}
 use Rattle.task_machine.specs.declared.part.Begun.{Begun}
-use Rattle.core_relation.specs.Memory.{Chunk, Home, In, Memory, copied_object, object_name, objects_in}
+use Rattle.core_relation.specs.Memory.{Chunk, Belongings, In, Memory, copied_object, object_name, objects_in}
 use Rattle.core_relation.specs.Layout.{AreLaidOut, words}
 use Rattle.core_relation.specs.Begins.{IsReachedAt}
-use Rattle.core_relation.specs.Stands.{HasNames, HomeStands, Place, Stands}
-use Rattle.core_relation.specs.Fits.{with_home}
+use Rattle.core_relation.specs.Stands.{HasNames, BelongingsStand, Place, Stands}
+use Rattle.core_relation.specs.Fits.{with_belongings}
 use Rattle.core_relation.specs.Whole.{BegunStands}
 use Rattle.core_relation.specs.Copies.{CopyFits, IsCopy}
 use Rattle.core_relation.proofs.objects.Members.{in_map, map_in}
-use Rattle.core_relation.proofs.changes.With.{at_home}
+use Rattle.core_relation.proofs.changes.With.{at_belongings}
 use Rattle.shared_value.specs.Objects.{chunk_of, chunks_of}
 use Rattle.shared_value.specs.Stands.{HeapForm}
 use Rattle.shared_value.specs.SharedValue.{frames_down}
 use Rattle.shared_value.proofs.FreeChunks.{refs_long}
 use Rattle.shared_value.proofs.HeapLaidOut.{inside_from}
-use Rattle.copied_part_laws.specs.Copied.{CopiesFit, IsBegun, part_home}
+use Rattle.copied_part_laws.specs.Copied.{CopiesFit, IsBegun, part_belongings}
 use Rattle.copied_part_laws.proofs.CopiedForm as forming
 use Rattle.copied_part_laws.proofs.BeforeTheCopy.{Old}
 use Rattle.copied_part_laws.proofs.NamesLaid.{room_last}
@@ -82,11 +82,11 @@ frames_led f s s' e =
 -- ---- WORDS
 
 module _ (p : ProgramText) (st : SettingsValue) (t : ℕ) (h : LeafHeapValue) (view : List Level) (count : ℕ) (s : FramesValue) (b : Begun) (news : List ChunkValue) (v : Memory) (l : Ledger) (B : IsBegun p st t h view count s b news v l) where
-  abbrev pub H : Home
-  H = part_home h view count s (Some b)
+  abbrev pub H : Belongings
+  H = part_belongings h view count s (Some b)
 
   abbrev pub V : Memory
-  V = with_home v t H
+  V = with_belongings v t H
 
   abbrev pub lt : Ledger
   lt = rested l t
@@ -97,11 +97,11 @@ module _ (p : ProgramText) (st : SettingsValue) (t : ℕ) (h : LeafHeapValue) (v
   pub stands : Stands V lt
   stands = B.fits.fits.stands
 
-  pub home : HomeStands V lt t
-  home = stands.homes t (rested_worker l t)
+  pub belongings : BelongingsStand V lt t
+  belongings = stands.belongings t (rested_worker l t)
 
-  pub here : V.homes t ≡ H
-  here = at_home v t H
+  pub here : V.belongings t ≡ H
+  here = at_belongings v t H
 
   pub began : BegunStands V lt t b
   began = B.fits.begun
@@ -109,16 +109,16 @@ module _ (p : ProgramText) (st : SettingsValue) (t : ℕ) (h : LeafHeapValue) (v
   pub machine : lt.machine ≡ l.machine
   machine = heap_machine l t let_go
 
-  pub there : (o : Located) → In (objects_in (chunks_of h.chunks)) o → In (objects_in (V.homes t).chunks) o
-  there o i = subst (λ (z : Home). In (objects_in z.chunks) o) (sym here) i
+  pub there : (o : Located) → In (objects_in (chunks_of h.chunks)) o → In (objects_in (V.belongings t).chunks) o
+  there o i = subst (λ (z : Belongings). In (objects_in z.chunks) o) (sym here) i
 
   names : HasNames (chunks_of h.chunks) a
   names =
-      let n : HasNames (chunks_of h.chunks) (heap_of lt t) = subst (λ (z : Home). HasNames z.chunks (heap_of lt t)) here home.names in
+      let n : HasNames (chunks_of h.chunks) (heap_of lt t) = subst (λ (z : Belongings). HasNames z.chunks (heap_of lt t)) here belongings.names in
       record { small = n.small ∙ rested_view (λ x. x.chunks) (λ x. refl) l t; large = n.large ∙ rested_view (λ x. x.large) (λ x. refl) l t }
 
   laid : AreLaidOut (chunks_of h.chunks) a.reserved
-  laid = subst (AreLaidOut (chunks_of h.chunks)) (rested_view (λ x. x.reserved) (λ x. refl) l t) (subst (λ (z : Home). AreLaidOut z.chunks (heap_of lt t).reserved) here home.laid)
+  laid = subst (AreLaidOut (chunks_of h.chunks)) (rested_view (λ x. x.reserved) (λ x. refl) l t) (subst (λ (z : Belongings). AreLaidOut z.chunks (heap_of lt t).reserved) here belongings.laid)
 
   survivors_same : (heap_of lt t).survivors ≡ a.survivors
   survivors_same = rested_view (λ x. x.survivors) (λ x. refl) l t
@@ -134,24 +134,24 @@ module _ (p : ProgramText) (st : SettingsValue) (t : ℕ) (h : LeafHeapValue) (v
 
   -- its chunks are t's
   pub owned_chunk : (k : ChunkValue) → In h.chunks k → v.owner k.number ≡ Some t
-  owned_chunk k i = home.owned (chunk_of k) (subst (λ (z : Home). In z.chunks (chunk_of k)) (sym here) (in_map chunk_of h.chunks k i))
+  owned_chunk k i = belongings.owned (chunk_of k) (subst (λ (z : Belongings). In z.chunks (chunk_of k)) (sym here) (in_map chunk_of h.chunks k i))
 
   module _ (ss : List Survivor) (S : AreSurvivors h.chunks (outside s b.roots) ss) where
     lives : (o : Located) → In (objects_in (chunks_of h.chunks)) o → In (olds ss) o.at → In a.survivors (object_name o)
     lives o i j =
         let w : IsReachedAt H b.roots o.at = reached_back h.chunks B.form.shaped.apart H s b.roots refl refl o.at ((S.exactly o.at).0 (contains_from_in (olds ss) o.at j)) in
-        subst (λ ns. In ns (object_name o)) survivors_same ((began.survivors o (there o i)).0 (subst (λ (z : Home). IsReachedAt z b.roots o.at) (sym here) w))
+        subst (λ ns. In ns (object_name o)) survivors_same ((began.survivors o (there o i)).0 (subst (λ (z : Belongings). IsReachedAt z b.roots o.at) (sym here) w))
 
     dies : (o : Located) → In (objects_in (chunks_of h.chunks)) o → In a.survivors (object_name o) → In (olds ss) o.at
     dies o i j =
-        let w : IsReachedAt (V.homes t) b.roots o.at = (began.survivors o (there o i)).1 (subst (λ ns. In ns (object_name o)) (sym survivors_same) j) in
-        in_from_contains (olds ss) o.at ((S.exactly o.at).1 (reached_to h.chunks B.form.shaped.apart H s b.roots refl refl o.at (subst (λ (z : Home). IsReachedAt z b.roots o.at) here w)))
+        let w : IsReachedAt (V.belongings t) b.roots o.at = (began.survivors o (there o i)).1 (subst (λ ns. In ns (object_name o)) (sym survivors_same) j) in
+        in_from_contains (olds ss) o.at ((S.exactly o.at).1 (reached_to h.chunks B.form.shaped.apart H s b.roots refl refl o.at (subst (λ (z : Belongings). IsReachedAt z b.roots o.at) here w)))
 
     pub old : Old h ss l.machine a
     old = record {
       form = B.form;
       names = names;
-      named = λ o q i j e. home.named o q (there o i) (there q j) e;
+      named = λ o q i j e. belongings.named o q (there o i) (there q j) e;
       words = read_words;
       laid = laid;
       lives = lives;
@@ -197,7 +197,7 @@ module _ (p : ProgramText) (st : SettingsValue) (t : ℕ) (h : LeafHeapValue) (v
     named_now o q i j e =
         let x = came o i in
         let z = came q j in
-        let same : x.0 ≡ z.0 = home.named x.0 z.0 (there x.0 x.1) (there z.0 z.1) (ap object_name (sym x.3) ∙ (e ∙ ap object_name z.3)) in
+        let same : x.0 ≡ z.0 = belongings.named x.0 z.0 (there x.0 x.1) (there z.0 z.1) (ap object_name (sym x.3) ∙ (e ∙ ap object_name z.3)) in
         x.3 ∙ (ap (copied_object to) same ∙ sym z.3)
 
     owned_each : (k : ChunkValue) → In (L ++ (K ++ R)) k → v.owner k.number ≡ Some t
@@ -224,7 +224,7 @@ module _ (p : ProgramText) (st : SettingsValue) (t : ℕ) (h : LeafHeapValue) (v
         let k = held_by h.chunks q.0 q.1 in
         out' (chunk_of k.chunk) (in_map chunk_of h.chunks k.chunk k.there) (sym (span k.chunk.cells k.chunk.number 0 q.0 k.object).chunk ∙ ap (λ (z : Addr). z.chunk) q.2))
 
-    copy_now : IsCopy v l t H (part_home N view count s' None) to
+    copy_now : IsCopy v l t H (part_belongings N view count s' None) to
     copy_now = record {
       names = naming.names h (outside s b.roots) C.survivors news C.are B.new l.machine a O;
       room = room_last L (K ++ R) ∙ naming.room_now h (outside s b.roots) C.survivors news C.are B.new l.machine a O;
@@ -242,11 +242,11 @@ module _ (p : ProgramText) (st : SettingsValue) (t : ℕ) (h : LeafHeapValue) (v
       same = same_out;
     }
 
-    pub fits : CopyFits p st t H (part_home h' view count s' None) (new_address out.moved.items) v l
+    pub fits : CopyFits p st t H (part_belongings h' view count s' None) (new_address out.moved.items) v l
     fits = record {
       old = B.fits;
       collects = ap is_some (sym (rested_view (λ x. x.begun) (λ x. refl) l t) ∙ began.few);
-      copy = subst (λ w. IsCopy v l t H (part_home h' view count s' None) w) (sym f_is) (subst (λ (z : LeafHeapValue). IsCopy v l t H (part_home z view count s' None) to) (sym C.heap) copy_now);
+      copy = subst (λ w. IsCopy v l t H (part_belongings h' view count s' None) w) (sym f_is) (subst (λ (z : LeafHeapValue). IsCopy v l t H (part_belongings z view count s' None) to) (sym C.heap) copy_now);
     }
 
     pub form : HeapForm h'

@@ -24,7 +24,7 @@ use Rattle.task_frames.specs.FramesValue.{FramesValue, frames_of}
 use Rattle.leaf_copy_gc.specs.Survivors.{as_reference, frame_references as refs_held, outside, references_in}
 use Rattle.ledger_step_laws.proofs.Rested.{rested_view, rested_worker}
 use Rattle.task_machine.specs.declared.part.Begun.{Begun}
-use Rattle.core_relation.specs.Memory.{Home, In, Memory}
+use Rattle.core_relation.specs.Memory.{Belongings, In, Memory}
 use Rattle.core_relation.specs.Reads.{AllRead, FramesAreRead, HoldsRead, TaskIsRead}
 use Rattle.core_relation.specs.Stands.{Place}
 use Rattle.shared_value.specs.Objects.{chunks_of}
@@ -71,21 +71,21 @@ module _ (p : ProgramText) (st : SettingsValue) (t : ℕ) (h : LeafHeapValue) (v
   abbrev At : Name → Addr → Type 0
   At n r = Place V lt n r
 
-  home : (V.homes t).chunks ≡ chunks_of h.chunks
-  home = ap (λ (z : Home). z.chunks) (copying.here p st t h view count s b news v l B)
+  belongings : (V.belongings t).chunks ≡ chunks_of h.chunks
+  belongings = ap (λ (z : Belongings). z.chunks) (copying.here p st t h view count s b news v l B)
 
   -- where a name is read
   sound_at : (n : Name) (r : Addr) → At n r → IsSound h.chunks (Some r)
-  sound_at = reads.sound_at V lt (copying.stands p st t h view count s b news v l B) t (rested_worker l t) h.chunks home B.form.shaped.apart B.form.near
+  sound_at = reads.sound_at V lt (copying.stands p st t h view count s b news v l B) t (rested_worker l t) h.chunks belongings B.form.shaped.apart B.form.near
 
   closed : IsClosed h.chunks
-  closed = reads.closed V lt (copying.stands p st t h view count s b news v l B) t (rested_worker l t) h.chunks home B.form.shaped.apart B.form.near
+  closed = reads.closed V lt (copying.stands p st t h view count s b news v l B) t (rested_worker l t) h.chunks belongings B.form.shaped.apart B.form.near
 
   module _ (x : Task) (is : slice_get l.machine.tasks t ≡ Some x) (runs : x.status ≡ Running) (rooted : All (IsSound h.chunks) (map as_reference b.roots)) where
     read : FramesAreRead At (frames_down s) (x.top ∷ x.below)
     read =
-        let T : TaskIsRead At (V.homes t) x = (copying.stands p st t h view count s b news v l B).tasks t x (rested_worker l t) (ap (λ (m : State). slice_get m.tasks t) (copying.machine p st t h view count s b news v l B) ∙ is) in
-        subst (λ (z : Home). FramesAreRead At z.frames (x.top ∷ x.below)) (copying.here p st t h view count s b news v l B) (subst (HoldsRead At (V.homes t) x) runs T)
+        let T : TaskIsRead At (V.belongings t) x = (copying.stands p st t h view count s b news v l B).tasks t x (rested_worker l t) (ap (λ (m : State). slice_get m.tasks t) (copying.machine p st t h view count s b news v l B) ∙ is) in
+        subst (λ (z : Belongings). FramesAreRead At z.frames (x.top ∷ x.below)) (copying.here p st t h view count s b news v l B) (subst (HoldsRead At (V.belongings t) x) runs T)
 
     from_stack : (f : Frame) → In (frames_of s) f → In (frames_down s) f
     from_stack f i = elim (in_append_cases s.below (s.top ∷ []) f i) [

@@ -11,26 +11,26 @@ use Rattle.alloc_path.specs.LeafHeapValue.{AreApart}
 use Rattle.task_frames.specs.declared.frames.Frame.{Frame}
 use Rattle.task_frames.specs.FramesValue.{FramesValue, frames_of}
 use Rattle.leaf_copy_gc.specs.Survivors.{IsSurvivor, Starts, as_reference, frame_references, outside, references_in}
-use Rattle.core_relation.specs.Memory.{Home, In, objects_in}
+use Rattle.core_relation.specs.Memory.{Belongings, In, objects_in}
 use Rattle.core_relation.specs.Begins.{IsAt, IsReachedAt, LeadsAt, StartsAt}
 use Rattle.core_relation.proofs.objects.Members.{in_map, map_in}
 use Rattle.shared_value.specs.Objects.{chunks_of}
 use Rattle.shared_value.specs.SharedValue.{frames_down}
 use Rattle.heap_marking.proofs.HeapClosed.{held_seen, seen_held}
 
-module _ (ks : List ChunkValue) (A : AreApart ks) (home : Home) (s : FramesValue) (roots : List Addr) (chunks : home.chunks ≡ chunks_of ks) (frames : home.frames ≡ frames_down s) where
+module _ (ks : List ChunkValue) (A : AreApart ks) (belongings : Belongings) (s : FramesValue) (roots : List Addr) (chunks : belongings.chunks ≡ chunks_of ks) (frames : belongings.frames ≡ frames_down s) where
   -- ---- OBJECTS
 
-  in_chunks : (o : Located) → In (objects_in home.chunks) o → In (objects_in (chunks_of ks)) o
+  in_chunks : (o : Located) → In (objects_in belongings.chunks) o → In (objects_in (chunks_of ks)) o
   in_chunks o i = subst (λ cs. In (objects_in cs) o) chunks i
 
-  live_at : (a : Addr) (o : Located) → IsAt home a o → HasObjectAt ks a
+  live_at : (a : Addr) (o : Located) → IsAt belongings a o → HasObjectAt ks a
   live_at a o at = subst (HasObjectAt ks) at.1 (seen_held ks A o (in_chunks o at.0)).0
 
-  refs_at : (a : Addr) (o : Located) → IsAt home a o → o.refs ≡ (cell_of ks a).refs
+  refs_at : (a : Addr) (o : Located) → IsAt belongings a o → o.refs ≡ (cell_of ks a).refs
   refs_at a o at = sym (seen_held ks A o (in_chunks o at.0)).1 ∙ ap (λ (z : Addr). (cell_of ks z).refs) at.1
 
-  pub object_at : (a : Addr) → HasObjectAt ks a → (o : Located) × IsAt home a o
+  pub object_at : (a : Addr) → HasObjectAt ks a → (o : Located) × IsAt belongings a o
   object_at a l = let o = held_seen ks a l in (o.0, (subst (λ cs. In (objects_in cs) o.0) (sym chunks) o.1, o.2))
 
   -- ---- REGISTERS
@@ -46,10 +46,10 @@ module _ (ks : List ChunkValue) (A : AreApart ks) (home : Home) (s : FramesValue
     | inr (inr z) ↦ absurd z
   ]
 
-  held_to : (a : Addr) (f : Frame) → In home.frames f → In f.refs (Some a) → In (frame_references (frames_of s)) (Some a)
+  held_to : (a : Addr) (f : Frame) → In belongings.frames f → In f.refs (Some a) → In (frame_references (frames_of s)) (Some a)
   held_to a f i j = in_flat references_in (frames_of s) f (Some a) (in_stack f (subst (λ fs. In fs f) frames i)) j
 
-  held_back : (a : Addr) → In (frame_references (frames_of s)) (Some a) → (f : Frame) × In home.frames f × In f.refs (Some a)
+  held_back : (a : Addr) → In (frame_references (frames_of s)) (Some a) → (f : Frame) × In belongings.frames f × In f.refs (Some a)
   held_back a i =
       let g = flat_in references_in (frames_of s) (Some a) i in
       (g.1, subst (λ fs. In fs g.1) (sym frames) (from_stack g.1 (got_in (frames_of s) g.0 g.1 g.2)), g.3)
@@ -62,7 +62,7 @@ module _ (ks : List ChunkValue) (A : AreApart ks) (home : Home) (s : FramesValue
 
   -- ---- WALKS
 
-  starts_to : (a : Addr) → StartsAt home roots a → Starts ks (outside s roots) a
+  starts_to : (a : Addr) → StartsAt belongings roots a → Starts ks (outside s roots) a
   starts_to a w = (
     live_at a w.0 w.1,
     contains_from_in (outside s roots) (Some a) (elim w.2 [
@@ -71,7 +71,7 @@ module _ (ks : List ChunkValue) (A : AreApart ks) (home : Home) (s : FramesValue
     ]),
   )
 
-  starts_back : (a : Addr) → Starts ks (outside s roots) a → StartsAt home roots a
+  starts_back : (a : Addr) → Starts ks (outside s roots) a → StartsAt belongings roots a
   starts_back a w =
       let o = object_at a w.0 in (
         o.0,
@@ -82,25 +82,25 @@ module _ (ks : List ChunkValue) (A : AreApart ks) (home : Home) (s : FramesValue
         ],
       )
 
-  leads_to : (m a : Addr) → LeadsAt home m a → Leads ks m a
+  leads_to : (m a : Addr) → LeadsAt belongings m a → Leads ks m a
   leads_to m a w = (live_at m w.0 w.2, live_at a w.1 w.4, contains_from_in (cell_of ks m).refs (Some a) (subst (λ rs. In rs (Some a)) (refs_at m w.0 w.2) w.3))
 
-  leads_back : (m a : Addr) → Leads ks m a → LeadsAt home m a
+  leads_back : (m a : Addr) → Leads ks m a → LeadsAt belongings m a
   leads_back m a w =
       let o = object_at m w.0 in
       let q = object_at a w.1 in
       (o.0, q.0, o.1, subst (λ rs. In rs (Some a)) (sym (refs_at m o.0 o.1)) (in_from_contains (cell_of ks m).refs (Some a) w.2), q.1)
 
-  walk_to : (k : ℕ) (a : Addr) → IsWalk (StartsAt home roots) (LeadsAt home) k a → IsWalk (Starts ks (outside s roots)) (Leads ks) k a
+  walk_to : (k : ℕ) (a : Addr) → IsWalk (StartsAt belongings roots) (LeadsAt belongings) k a → IsWalk (Starts ks (outside s roots)) (Leads ks) k a
   walk_to zero a w = starts_to a w
   walk_to (suc k) a w = (w.0, walk_to k w.0 w.1, leads_to w.0 a w.2)
 
-  walk_back : (k : ℕ) (a : Addr) → IsWalk (Starts ks (outside s roots)) (Leads ks) k a → IsWalk (StartsAt home roots) (LeadsAt home) k a
+  walk_back : (k : ℕ) (a : Addr) → IsWalk (Starts ks (outside s roots)) (Leads ks) k a → IsWalk (StartsAt belongings roots) (LeadsAt belongings) k a
   walk_back zero a w = starts_back a w
   walk_back (suc k) a w = (w.0, walk_back k w.0 w.1, leads_back w.0 a w.2)
 
-  pub reached_to : (a : Addr) → IsReachedAt home roots a → IsSurvivor ks (outside s roots) a
+  pub reached_to : (a : Addr) → IsReachedAt belongings roots a → IsSurvivor ks (outside s roots) a
   reached_to a w = (w.0, walk_to w.0 a w.1)
 
-  pub reached_back : (a : Addr) → IsSurvivor ks (outside s roots) a → IsReachedAt home roots a
+  pub reached_back : (a : Addr) → IsSurvivor ks (outside s roots) a → IsReachedAt belongings roots a
   reached_back a w = (w.0, walk_back w.0 a w.1)

@@ -1,4 +1,4 @@
--- What a leaf collection makes of a part: the home before it and after it, and where it leads addresses.
+-- What a leaf collection makes of a part: the belongings before it and after it, and where it leads addresses.
 use Rattle.std.specs.Prelude.{◌≡◌, ℕ, ◌≤◌, pos, All, Some, None, List, Option, length, map, slice_get}
 use Rattle.hh_lang.specs.Form.{ProgramText}
 use Rattle.hh_model.specs.declared.data.Status.TheVariants.{Running}
@@ -18,20 +18,20 @@ use Rattle.leaf_copy_gc.specs.Lists.{IsCollected}
 use Rattle.leaf_copy_gc.specs.Redirected.{new_address}
 use Rattle.leaf_copy_gc.specs.Survivors.{as_reference, outside}
 use Rattle.task_machine.specs.declared.part.Begun.{Begun}
-use Rattle.core_relation.specs.Memory.{Home, In, Memory}
+use Rattle.core_relation.specs.Memory.{Belongings, In, Memory}
 use Rattle.core_relation.specs.Copies.{CopyFits, PartFits, before}
 use Rattle.shared_value.specs.Stands.{HeapForm}
-use Rattle.shared_value.specs.SharedValue.{frames_down, home_with}
+use Rattle.shared_value.specs.SharedValue.{frames_down, belongings_with}
 
--- the home of a part, with the collection that it has begun, or none
-abbrev pub part_home : LeafHeapValue → List Level → ℕ → FramesValue → Option Begun → Home
-part_home h view count s begun = record (home_with h view count (frames_down s) (pos 0, None)) { begun = begun }
+-- the belongings of a part, with the collection that it has begun, or none
+abbrev pub part_belongings : LeafHeapValue → List Level → ℕ → FramesValue → Option Begun → Belongings
+part_belongings h view count s begun = record (belongings_with h view count (frames_down s) (pos 0, None)) { begun = begun }
 
 -- a part of t, with the collection b that it has begun, fits; its heap h is formed as every heap is, and the new chunks are those that the
 -- collection took
 pub record IsBegun (p : ProgramText) (s : SettingsValue) (t : ℕ) (h : LeafHeapValue) (view : List Level) (count : ℕ) (frames : FramesValue) (b : Begun) (news : List ChunkValue) (v : Memory) (l : Ledger) : Type 0 where
   pub form : HeapForm h
-  pub fits : PartFits p s (before s t (part_home h view count frames (Some b))) v l
+  pub fits : PartFits p s (before s t (part_belongings h view count frames (Some b))) v l
   pub new : CanTake h.chunks news
   pub took : (k : ChunkValue) → In news k → In b.news k.number
   pub all : length b.news ≡ length news
@@ -41,7 +41,7 @@ abbrev pub CopiesFit : Type 0
 CopiesFit =
     (p : ProgramText) (s : SettingsValue) (t : ℕ) (h : LeafHeapValue) (view : List Level) (count : ℕ) (frames : FramesValue) (b : Begun) (news : List ChunkValue) (v : Memory) (l : Ledger) → IsBegun p s t h view count frames b news v l
     → (h' : LeafHeapValue) (frames' : FramesValue) (out : Moved) → IsCollected h frames b.roots news h' frames' out
-    → CopyFits p s t (part_home h view count frames (Some b)) (part_home h' view count frames' None) (new_address out.moved.items) v l × HeapForm h'
+    → CopyFits p s t (part_belongings h view count frames (Some b)) (part_belongings h' view count frames' None) (new_address out.moved.items) v l × HeapForm h'
 
 -- the numbers that it comes to are those that its entry is to say, where the heap has no more units than a run may use
 abbrev pub NumbersAreSaid : Type 0

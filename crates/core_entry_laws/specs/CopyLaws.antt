@@ -18,11 +18,11 @@ use Rattle.run_ledger.specs.Reachable.{is_name}
 use Rattle.hh_model.specs.declared.data.Name.{Name}
 use Rattle.core_relation.specs.Marking.{MarksStand}
 use Rattle.run_ledger.specs.Sound.{SoundLedger}
-use Rattle.core_relation.specs.Memory.{Home, Memory, In, object_name, objects}
+use Rattle.core_relation.specs.Memory.{Belongings, Memory, In, object_name, objects}
 use Rattle.ledger_step_laws.specs.Accounts.{Rests, rested, AlikeFor}
 use Rattle.task_machine.specs.declared.part.Begun.{Begun}
 use Rattle.core_relation.specs.Stands.{Stands}
-use Rattle.core_relation.specs.Fits.{with_home}
+use Rattle.core_relation.specs.Fits.{with_belongings}
 use Rattle.core_relation.specs.Changes.{Moves}
 use Rattle.core_relation.specs.Worker.{Fits}
 
@@ -35,22 +35,22 @@ CollectionsBegin =
 
 abbrev pub BegunStays : Type 0
 BegunStays =
-    (v v' : Memory) (l l' : Ledger) (t : ℕ) (b : Begun) → v'.homes t ≡ v.homes t → ((k : ℕ) → v.owner k ≡ Some t → v'.owner k ≡ Some t) → heap_of l' t ≡ heap_of l t → BegunStands v l t b → BegunStands v' l' t b
+    (v v' : Memory) (l l' : Ledger) (t : ℕ) (b : Begun) → v'.belongings t ≡ v.belongings t → ((k : ℕ) → v.owner k ≡ Some t → v'.owner k ≡ Some t) → heap_of l' t ≡ heap_of l t → BegunStands v l t b → BegunStands v' l' t b
 
 -- COPIES: what copying made of a part fits for the end of its collection alone
 
 -- whatever others enter before that
 abbrev pub CopiesStay : Type 0
 CopiesStay =
-    (p : ProgramText) (s : SettingsValue) (t : ℕ) (h h' : Home) (f : Addr → Addr) (v v' : Memory) (l l' : Ledger) → SoundLedger l → AlikeFor t l l' → ((k : ℕ) → v.owner k ≡ Some t → v'.owner k ≡ Some t)
+    (p : ProgramText) (s : SettingsValue) (t : ℕ) (h h' : Belongings) (f : Addr → Addr) (v v' : Memory) (l l' : Ledger) → SoundLedger l → AlikeFor t l l' → ((k : ℕ) → v.owner k ≡ Some t → v'.owner k ≡ Some t)
     → l'.machine.end ≡ None → Fits p s (before s t h) v' l' → CopyFits p s t h h' f v l → CopyFits p s t h h' f v' l'
 
 -- the end of the collection is what the law on collections asks for, and after it the part fits
 abbrev pub CopiesEnd : Type 0
 CopiesEnd =
-    (p : ProgramText) (s : SettingsValue) (t : ℕ) (h h' : Home) (f : Addr → Addr) (v v' : Memory) (l : Ledger) (x : Task) (hs : Heap) → SoundLedger l → slice_get l.machine.tasks t ≡ Some x → x.status ≡ Running → slice_get l.heaps t ≡ Some hs
+    (p : ProgramText) (s : SettingsValue) (t : ℕ) (h h' : Belongings) (f : Addr → Addr) (v v' : Memory) (l : Ledger) (x : Task) (hs : Heap) → SoundLedger l → slice_get l.machine.tasks t ≡ Some x → x.status ≡ Running → slice_get l.heaps t ≡ Some hs
     → CopyFits p s t h h' f v l → EndsAt v v' t h' f → h'.begun ≡ None → let l' : Ledger = with_heap l t (collected l.machine) in
-    Moves (with_home v t h) (with_home v' t h') (rested l t) (rested l' t) t (heap_of (rested l t) t).survivors f × PartFits p s (before s t h') v' l'
+    Moves (with_belongings v t h) (with_belongings v' t h') (rested l t) (rested l' t) t (heap_of (rested l t) t).survivors f × PartFits p s (before s t h') v' l'
 
 -- MARKS: nothing is left to mark exactly where each object of the snapshot is marked, where that holds each name once, and all of it is
 -- held

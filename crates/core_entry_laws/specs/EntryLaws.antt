@@ -19,7 +19,7 @@ use Rattle.run_trace.specs.Settings.{SettingsValue}
 use Rattle.hh_model.specs.declared.data.End.TheVariants.{Done}
 use Rattle.run_ledger.specs.declared.data.Ledger.{Ledger}
 use Rattle.run_ledger.specs.Heaps.{heap_of}
-use Rattle.core_relation.specs.Memory.{Home, Memory}
+use Rattle.core_relation.specs.Memory.{Belongings, Memory}
 use Rattle.ledger_step_laws.specs.Accounts.{Rests}
 use Rattle.core_relation.specs.Stands.{Stands}
 use Rattle.core_relation.specs.Fits.{part_for}
@@ -43,7 +43,7 @@ TookStandsFor =
 -- private steps and a last one, of whatever kind
 abbrev pub RanStandsFor : Type 0
 RanStandsFor =
-    (p : ProgramText) (s : SettingsValue) (journal : List EntryValue) → IsProgram p → is_legal p s journal ≡ true → (v v' : Memory) (c c' : TreeCounts) (w t k : ℕ) (h : Home) → let l : Ledger = ledger_of p s journal in let e : EntryValue = record { worker = w; kind = Ran t (suc k) } in
+    (p : ProgramText) (s : SettingsValue) (journal : List EntryValue) → IsProgram p → is_legal p s journal ≡ true → (v v' : Memory) (c c' : TreeCounts) (w t k : ℕ) (h : Belongings) → let l : Ledger = ledger_of p s journal in let e : EntryValue = record { worker = w; kind = Ran t (suc k) } in
     let l' : Ledger = after p s l e in
     refusal p s l e ≡ None → (E : Runs p s l l' t w k) → StandsForAll v c l → Fits p s (part_for s t h (taken_by E.splits.kind k)) v l
     → (C : Makes p v v' (task_steps p l t k) l' t h E.splits.task E.splits.line E.splits.kind E.splits.last) → Marks p v v' (task_steps p l t k) l' t h E.splits.task E.splits.line E.splits.kind E.splits.last C
@@ -60,12 +60,12 @@ QuietStandsFor =
 abbrev pub SweepsStandFor : Type 0
 SweepsStandFor =
     (p : ProgramText) (s : SettingsValue) (journal : List EntryValue) → IsProgram p → is_legal p s journal ≡ true → (v v' : Memory) (c c' : TreeCounts) (w t given : ℕ) → let l : Ledger = ledger_of p s journal in let e : EntryValue = record { worker = w; kind = Sweep t given } in
-    refusal p s l e ≡ None → StandsForAll v c l → KeepsJust v v' l (after p s l e) t (heap_of l t).snapshot → OthersNotes v v' t → (v'.homes t).begun ≡ None → CountsGo p s l c c' w (Sweep t given) → StandsForAll v' c' (after p s l e)
+    refusal p s l e ≡ None → StandsForAll v c l → KeepsJust v v' l (after p s l e) t (heap_of l t).snapshot → OthersNotes v v' t → (v'.belongings t).begun ≡ None → CountsGo p s l c c' w (Sweep t given) → StandsForAll v' c' (after p s l e)
 
 -- the end of a leaf collection
 abbrev pub EndsStandFor : Type 0
 EndsStandFor =
-    (p : ProgramText) (s : SettingsValue) (journal : List EntryValue) → IsProgram p → is_legal p s journal ≡ true → (v v' : Memory) (c c' : TreeCounts) (w t taken given left : ℕ) (h h' : Home) (f : Addr → Addr) → let l : Ledger = ledger_of p s journal in
+    (p : ProgramText) (s : SettingsValue) (journal : List EntryValue) → IsProgram p → is_legal p s journal ≡ true → (v v' : Memory) (c c' : TreeCounts) (w t taken given left : ℕ) (h h' : Belongings) (f : Addr → Addr) → let l : Ledger = ledger_of p s journal in
     let e : EntryValue = record { worker = w; kind = End t taken given left } in
     refusal p s l e ≡ None → StandsForAll v c l → CopyFits p s t h h' f v l → EndsAt v v' t h' f → h'.begun ≡ None → OthersNotes v v' t → CountsGo p s l c c' w (End t taken given left) → StandsForAll v' c' (after p s l e)
 
@@ -78,7 +78,7 @@ DoneHandsAll =
 
 abbrev pub WholeStands : Type 0
 WholeStands =
-    (v : Memory) (c : TreeCounts) (l : Ledger) → Stands v l → TreeCountsStand c l → ((t : ℕ) → Rests l t → (heap_of l t).begun ≡ None) → ((t : ℕ) → Rests l t → (v.homes t).begun ≡ None) → AllNoted v l → StandsFor v c l
+    (v : Memory) (c : TreeCounts) (l : Ledger) → Stands v l → TreeCountsStand c l → ((t : ℕ) → Rests l t → (heap_of l t).begun ≡ None) → ((t : ℕ) → Rests l t → (v.belongings t).begun ≡ None) → AllNoted v l → StandsFor v c l
 
 abbrev pub WholeNotes : Type 0
 WholeNotes = (v : Memory) (c : TreeCounts) (l : Ledger) → StandsFor v c l → AllNoted v l

@@ -3,16 +3,16 @@ use Rattle.std.specs.Prelude.{ℕ, zero, suc, pos, false, Option, Some, None, []
 use Rattle.hh_lang.specs.Form.{ProgramText}
 use Rattle.heap_tree.specs.declared.state.State.TheVariants.{Ready}
 use Rattle.heap_tree.specs.Node.{Node}
-use Rattle.core_relation.specs.Memory.{Home, no_home, Memory}
+use Rattle.core_relation.specs.Memory.{Belongings, no_belongings, Memory}
 use Rattle.core_relation.specs.Whole.{TreeCounts}
 
-abbrev pub first_home : ProgramText → ℕ → Home
-first_home p zero = record no_home { frames = record { function = p.main; next = 0; ints = replicate 16 (pos 0); refs = replicate 16 None } ∷ [] }
-first_home p (suc t) = no_home
+abbrev pub first_belongings : ProgramText → ℕ → Belongings
+first_belongings p zero = record no_belongings { frames = record { function = p.main; next = 0; ints = replicate 16 (pos 0); refs = replicate 16 None } ∷ [] }
+first_belongings p (suc t) = no_belongings
 
 abbrev pub first : ProgramText → Memory
 first p = record {
-  homes = first_home p;
+  belongings = first_belongings p;
   noted = λ u. record { sources = []; kept = []; keeps = false; marked = None };
   owner = λ k. None;
 }

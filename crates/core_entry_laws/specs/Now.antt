@@ -17,10 +17,10 @@ use Rattle.core_relation.specs.Since.{Since, kept}
 
 -- walks start at an object that a register or a root names, or that was kept
 abbrev pub StartsNow : Memory → Ledger → ℕ → Addr → Type 0
-StartsNow v l t a = (o : Located) × IsAt (v.homes t) a o × (((f : Frame) × In (v.homes t).frames f × In f.refs (Some a)) ⊎ (IsRoot v l t a ⊎ In (kept v t) a))
+StartsNow v l t a = (o : Located) × IsAt (v.belongings t) a o × (((f : Frame) × In (v.belongings t).frames f × In f.refs (Some a)) ⊎ (IsRoot v l t a ⊎ In (kept v t) a))
 
 abbrev pub IsReachedNow : Memory → Ledger → ℕ → Addr → Type 0
-IsReachedNow v l t a = IsReached (StartsNow v l t) (LeadsAt (v.homes t)) a
+IsReachedNow v l t a = IsReached (StartsNow v l t) (LeadsAt (v.belongings t)) a
 
 -- that is its snapshot
 abbrev pub SnapshotsAreNow : Type 0

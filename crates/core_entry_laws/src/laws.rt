@@ -125,7 +125,7 @@ pub fn ends_fit()
     ensures { EndsFit }
 {}
 
-/// After a read or an output its home is read as it should be, where its top frame is.
+/// After a read or an output its belongings are read as they should be, where its top frame is.
 pub fn frames_go()
     ensures { FramesGo }
 {}

@@ -35,7 +35,7 @@ pub record GoesOn (v : Memory) (t : ℕ) (names : List Name) (m : MarkingValue) 
   pub followed : m.followed ≤ length (v.noted t).kept
   pub slots : length (objects v t) < length m.found + m.slots
   pub spare : length (objects v t) < length m.found + m.spare
-  pub places : length (v.homes t).chunks ≤ m.places
+  pub places : length (v.belongings t).chunks ≤ m.places
 
 abbrev pub MarkedBy : Memory → Ledger → ℕ → Option MarkingValue → Type 0
 MarkedBy v l t None = (heap_of l t).marked ≡ None

@@ -28,7 +28,7 @@ pub record Chunk : Type 0 where
 
 -- what goes with a task: its heap, its frames (the top one first), the result that it ended with, and how many objects it
 -- has allocated
-pub record Home : Type 0 where
+pub record Belongings : Type 0 where
   pub chunks : List Chunk
   pub room : ℕ
   pub since : ℕ
@@ -40,8 +40,8 @@ pub record Home : Type 0 where
   pub view : List (List Chunk)
 
 -- of a task that isn't made, or has joined
-abbrev pub no_home : Home
-no_home = record { chunks = []; room = 0; since = 0; count = 0; frames = []; result = (pos 0, None); begun = None; view = [] }
+abbrev pub no_belongings : Belongings
+no_belongings = record { chunks = []; room = 0; since = 0; count = 0; frames = []; result = (pos 0, None); begun = None; view = [] }
 
 -- what is noted of a heap: the fields that point down into it, the overwritten references into it, whether these are kept, and
 -- what is found and marked, while it is being marked
@@ -51,10 +51,10 @@ pub record Noted : Type 0 where
   pub keeps : Bool
   pub marked : Option MarkingValue
 
--- the homes of the tasks that no worker holds (of the others they mean nothing), what is noted of each heap, and which task
--- owns the chunk of a number, where that is in use
+-- the belongings of the tasks that no worker holds (of the others they mean nothing), what is noted of each heap, and
+-- which task owns the chunk of a number, where that is in use
 pub record Memory : Type 0 where
-  pub homes : ℕ → Home
+  pub belongings : ℕ → Belongings
   pub noted : ℕ → Noted
   pub owner : ℕ → Option ℕ
 
@@ -63,7 +63,7 @@ abbrev pub objects_in : List Chunk → List Located
 objects_in ks = flat_map (λ k. k.objects) ks
 
 abbrev pub objects : Memory → ℕ → List Located
-objects v t = objects_in (v.homes t).chunks
+objects v t = objects_in (v.belongings t).chunks
 
 abbrev pub sources : Memory → ℕ → List Source
 sources v t = (v.noted t).sources
@@ -93,15 +93,15 @@ rewritten_refs f ss a i (r ∷ rs) = (if list_any (is_source a i) ss then option
 abbrev pub rewritten : (Addr → Addr) → List Source → Located → Located
 rewritten f ss o = record o { refs = rewritten_refs f ss o.at 0 o.refs }
 
--- a home with each object changed
+-- belongings with each object changed
 abbrev pub mapped_chunk : (Located → Located) → Chunk → Chunk
 mapped_chunk one k = record k { objects = map one k.objects }
 
-abbrev pub mapped_home : (Located → Located) → Home → Home
-mapped_home one h = record h { chunks = map (mapped_chunk one) h.chunks }
+abbrev pub mapped_belongings : (Located → Located) → Belongings → Belongings
+mapped_belongings one h = record h { chunks = map (mapped_chunk one) h.chunks }
 
-abbrev pub rewritten_home : (Addr → Addr) → List Source → Home → Home
-rewritten_home f ss h = mapped_home (rewritten f ss) h
+abbrev pub rewritten_belongings : (Addr → Addr) → List Source → Belongings → Belongings
+rewritten_belongings f ss h = mapped_belongings (rewritten f ss) h
 
 -- the object at an address changed, any other as it is
 abbrev pub put_at : Addr → (Located → Located) → Located → Located

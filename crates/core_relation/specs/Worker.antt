@@ -13,8 +13,8 @@ use Rattle.core_relation.specs.Fits.{Part}
 use Rattle.core_relation.specs.Frames.{IsSteady, NotOf}
 use Rattle.core_relation.specs.Copies.{PartFits}
 
--- its task runs, and with its home the memory stands for the accounts after its fresh steps, in which the task rests; the
--- machine's end is left aside
+-- its task runs, and with its belongings the memory stands for the accounts after its fresh steps, in which the task
+-- rests; the machine's end is left aside
 pub record Fits (p : ProgramText) (s : SettingsValue) (q : Part) (v : Memory) (l : Ledger) : Type 0 where
   pub task : Task
   pub is : slice_get l.machine.tasks q.task ≡ Some task

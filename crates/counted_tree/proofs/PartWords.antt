@@ -13,12 +13,12 @@ use Rattle.run_ledger.proofs.Machine.{heap_machine}
 use Rattle.object_layout.specs.Chunks.{held_words}
 use Rattle.ledger_step_laws.specs.Accounts.{aside, rested}
 use Rattle.ledger_step_laws.proofs.Rested.{rested_view, rested_worker}
-use Rattle.core_relation.specs.Fits.{with_home}
+use Rattle.core_relation.specs.Fits.{with_belongings}
 use Rattle.core_relation.specs.Stands.{Stands}
-use Rattle.core_relation.specs.Memory.{Home, Memory}
-use Rattle.core_relation.proofs.changes.With.{at_home}
+use Rattle.core_relation.specs.Memory.{Belongings, Memory}
+use Rattle.core_relation.proofs.changes.With.{at_belongings}
 use Rattle.task_machine.specs.declared.part.Private.{Private}
-use Rattle.shared_value.specs.Fits.{Fits, home_of_part}
+use Rattle.shared_value.specs.Fits.{Fits, belongings_of_part}
 use Rattle.shared_value.specs.Stands.{IsSharedValue}
 use Rattle.shared_value.specs.SharedValue.{SharedValue, accounts, value_of}
 use Rattle.shared_value.proofs.HeapWords.{words_are}
@@ -51,11 +51,11 @@ module _ (w : SharedValue) (k : ℕ) (p : Private) (F : Fits w k (record p { fre
   abbrev t : ℕ
   t = p.task
 
-  abbrev h : Home
-  h = home_of_part (record p { fresh = 0 })
+  abbrev h : Belongings
+  h = belongings_of_part (record p { fresh = 0 })
 
   abbrev v' : Memory
-  v' = with_home (value_of w) t h
+  v' = with_belongings (value_of w) t h
 
   abbrev L : Ledger
   L = rested (aside l) t
@@ -72,4 +72,4 @@ module _ (w : SharedValue) (k : ℕ) (p : Private) (F : Fits w k (record p { fre
   pub part_words : words_in l.machine (heap_of l t) ≡ held_words p.heap.chunks
   part_words =
       sym (same_words (held_in (heap_of L t)) ∙ ap (words_sum l.machine) held_is)
-      ∙ words_are v' L t p.heap.chunks W (rested_worker (aside l) t) (ap (λ (z : Home). z.chunks) (at_home (value_of w) t h)) F.form.tidy
+      ∙ words_are v' L t p.heap.chunks W (rested_worker (aside l) t) (ap (λ (z : Belongings). z.chunks) (at_belongings (value_of w) t h)) F.form.tidy

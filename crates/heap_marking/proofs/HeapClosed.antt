@@ -1,4 +1,4 @@
--- The heap of a task, as its home stands: each reference into it leads to an object.
+-- The heap of a task, as its belongings stand: each reference into it leads to an object.
 use Rattle.std.proofs.Common.{◌≡◌, ℕ, ◌<◌, true, Option, Some, None, List, is_some, length, nat_lt, refl, ap, sym, subst, ◌∙◌}
 use Rattle.std.proofs.lemmas.Bool.{cond-true, lt-ltb}
 use Rattle.std.proofs.lemmas.Option.{same_Some}
@@ -32,17 +32,17 @@ held_seen ks a h = by (cell_of ks a).mark refl h
 pub seen_held : (ks : List ChunkValue) → AreApart ks → (o : Located) → In (objects_in (chunks_of ks)) o → HasObjectAt ks o.at × ((cell_of ks o.at).refs ≡ o.refs)
 seen_held ks apart o i = let y = seen_object ks o apart i in (subst IsBorn (sym y.mark) tt, sym (ap (λ (z : Located). z.refs) y.is))
 
-module _ (v : Memory) (l : Ledger) (V : Stands v l) (t : ℕ) (rests : Rests l t) (ks : List ChunkValue) (home : (v.homes t).chunks ≡ chunks_of ks) (apart : AreApart ks) (near : AreNear ks) where
+module _ (v : Memory) (l : Ledger) (V : Stands v l) (t : ℕ) (rests : Rests l t) (ks : List ChunkValue) (belongings : (v.belongings t).chunks ≡ chunks_of ks) (apart : AreApart ks) (near : AreNear ks) where
   -- where a name is read
   pub sound_at : (n : Name) (a : Addr) → Place v l n a → IsSound ks (Some a)
   sound_at n a P inside =
       let there : has_chunk ks a.chunk ≡ true = ap is_some (cond-true (nat_lt (place_of ks a.chunk) (length ks)) (Some (place_of ks a.chunk)) None (lt-ltb (place_of ks a.chunk) (length ks) inside)) in
       let k = chunk_in ks a.chunk there in
-      let mine : v.owner a.chunk ≡ Some t = ap v.owner (sym k.2) ∙ (V.homes t rests).owned (chunk_of k.0) (subst (λ (cs : List Chunk). In cs (chunk_of k.0)) (sym home) (in_map chunk_of ks k.0 k.1)) in
+      let mine : v.owner a.chunk ≡ Some t = ap v.owner (sym k.2) ∙ (V.belongings t rests).owned (chunk_of k.0) (subst (λ (cs : List Chunk). In cs (chunk_of k.0)) (sym belongings) (in_map chunk_of ks k.0 k.1)) in
       let o : own l n ≡ t = same_Some (own l n) t (sym P.chunk ∙ mine) in
       let lies = P.here (subst (Rests l) (sym o) rests) in
       let here : In (objects v t) lies.0 = subst (λ u. In (objects v u) lies.0) o lies.1 in
-      let i : In (objects_in (chunks_of ks)) lies.0 = subst (λ (cs : List Chunk). In (objects_in cs) lies.0) home here in (
+      let i : In (objects_in (chunks_of ks)) lies.0 = subst (λ (cs : List Chunk). In (objects_in cs) lies.0) belongings here in (
         subst (HasObjectAt ks) lies.2.at (seen_held ks apart lies.0 i).0,
         subst (λ (z : Addr). z.offset < 1024) lies.2.at (near lies.0 i),
       )
@@ -54,7 +54,7 @@ module _ (v : Memory) (l : Ledger) (V : Stands v l) (t : ℕ) (rests : Rests l t
       one None i = tt
       one (Some a) i =
           let o = held_seen ks b held in
-          let c = V.contents t o.0 rests (subst (λ (cs : List Chunk). In (objects_in cs) o.0) (sym home) o.1) in
+          let c = V.contents t o.0 rests (subst (λ (cs : List Chunk). In (objects_in cs) o.0) (sym belongings) o.1) in
           let j = in_got o.0.refs (Some a) (subst (λ (rs : List (Option Addr)). In rs (Some a)) o.3 i) in
           let n = name_at (Place v l) o.0.refs c.0.refs j.0 a c.2.refs j.1 in
           sound_at n.0 a n.2

@@ -30,11 +30,11 @@ use Rattle.core_relation.specs.Whole.{StandsFor}
 use Rattle.core_entry_laws.proofs.notes.SnapshotNow.{snapshot_now}
 use Rattle.task_homes.specs.declared.task_at_rest.Rest.{Rest}
 use Rattle.shared_value.specs.Objects.{chunks_of}
-use Rattle.shared_value.specs.SharedValue.{SharedValue, accounts, home_in, rest_at, tree_counts_of, value_of}
+use Rattle.shared_value.specs.SharedValue.{SharedValue, accounts, belongings_in, rest_at, tree_counts_of, value_of}
 use Rattle.shared_value.specs.Stands.{HeapForm, IsSharedValue}
 use Rattle.shared_value.proofs.BeforeTheEnd.{stands_now}
 use Rattle.shared_value.proofs.ObjectCounts.{objects_counted}
-use Rattle.shared_value.proofs.FieldsLed.{home_chunks}
+use Rattle.shared_value.proofs.FieldsLed.{belongings_chunks}
 use Rattle.heap_marking.specs.Marking.{MarksBegin}
 use Rattle.heap_marking.proofs.HeapClosed.{held_seen, seen_held}
 
@@ -64,54 +64,54 @@ module _ (w : SharedValue) (I : IsSharedValue w) (on : (accounts w).end ≡ None
   form : HeapForm r.heap
   form = I.heaps t r there
 
-  pub home_is : (v.homes t).chunks ≡ chunks_of ks
-  home_is = ap (λ o. (home_in o).chunks) there ∙ home_chunks r
+  pub belongings_is : (v.belongings t).chunks ≡ chunks_of ks
+  belongings_is = ap (λ o. (belongings_in o).chunks) there ∙ belongings_chunks r
 
-  pub to_home : (o : Located) → In (objects_in (chunks_of ks)) o → In (objects v t) o
-  to_home o i = subst (λ cs. In (objects_in cs) o) (sym home_is) i
+  pub to_belongings : (o : Located) → In (objects_in (chunks_of ks)) o → In (objects v t) o
+  to_belongings o i = subst (λ cs. In (objects_in cs) o) (sym belongings_is) i
 
-  pub from_home : (o : Located) → In (objects v t) o → In (objects_in (chunks_of ks)) o
-  from_home o i = subst (λ cs. In (objects_in cs) o) home_is i
+  pub from_belongings : (o : Located) → In (objects v t) o → In (objects_in (chunks_of ks)) o
+  from_belongings o i = subst (λ cs. In (objects_in cs) o) belongings_is i
 
   pub is_held : (o : Located) → In (objects v t) o → HasObjectAt ks o.at
-  is_held o i = (seen_held ks form.shaped.apart o (from_home o i)).0
+  is_held o i = (seen_held ks form.shaped.apart o (from_belongings o i)).0
 
   pub seen_at : (a : Addr) → HasObjectAt ks a → (o : Located) × In (objects v t) o × (o.at ≡ a) × ((cell_of ks a).refs ≡ o.refs)
-  seen_at a h = let o = held_seen ks a h in (o.0, to_home o.0 o.1, o.2, o.3)
+  seen_at a h = let o = held_seen ks a h in (o.0, to_belongings o.0 o.1, o.2, o.3)
 
   pub refs_are : (o : Located) → In (objects v t) o → (cell_of ks o.at).refs ≡ o.refs
-  refs_are o i = (seen_held ks form.shaped.apart o (from_home o i)).1
+  refs_are o i = (seen_held ks form.shaped.apart o (from_belongings o i)).1
 
   -- the roots: what registers name, and what remembered fields hold
-  module _ (roots : List Addr) (are : (a : Addr) → In roots a ↔ (((o : Located) × IsAt (v.homes t) a o × ((f : Frame) × In (v.homes t).frames f × In f.refs (Some a))) ⊎ IsRoot v l t a)) where
+  module _ (roots : List Addr) (are : (a : Addr) → In roots a ↔ (((o : Located) × IsAt (v.belongings t) a o × ((f : Frame) × In (v.belongings t).frames f × In f.refs (Some a))) ⊎ IsRoot v l t a)) where
     abbrev pub f : Fork
     f = record { heap = ks; roots = roots }
 
     abbrev IsThere : Addr → Type 0
-    IsThere a = IsReachedNow v l t a × ((o : Located) × IsAt (v.homes t) a o)
+    IsThere a = IsReachedNow v l t a × ((o : Located) × IsAt (v.belongings t) a o)
 
     start_now : (a : Addr) → Starts f (kept v t) a → IsThere a
     start_now a s =
         let o = seen_at a s.0 in
-        let at : IsAt (v.homes t) a o.0 = (o.1, o.2) in
-        let now : ((g : Frame) × In (v.homes t).frames g × In g.refs (Some a)) ⊎ (IsRoot v l t a ⊎ In (kept v t) a) = elim (in_append_cases roots (kept v t) a (in_from_contains (roots ++ kept v t) a s.1)) [
+        let at : IsAt (v.belongings t) a o.0 = (o.1, o.2) in
+        let now : ((g : Frame) × In (v.belongings t).frames g × In g.refs (Some a)) ⊎ (IsRoot v l t a ⊎ In (kept v t) a) = elim (in_append_cases roots (kept v t) a (in_from_contains (roots ++ kept v t) a s.1)) [
           | inl i ↦ elim ((are a).0 i) [ inl n ↦ inl n.2 | inr y ↦ inr (inl y) ]
           | inr k ↦ inr (inr k)
         ] in
-        (reached_start (StartsNow v l t) (LeadsAt (v.homes t)) a (o.0, at, now), (o.0, at))
+        (reached_start (StartsNow v l t) (LeadsAt (v.belongings t)) a (o.0, at, now), (o.0, at))
 
     more_now : (b a : Addr) → IsThere b → Leads ks b a → IsThere a
     more_now b a y d =
-        let o : (o : Located) × IsAt (v.homes t) b o = y.1 in
+        let o : (o : Located) × IsAt (v.belongings t) b o = y.1 in
         let q = seen_at a d.1 in
-        let at : IsAt (v.homes t) a q.0 = (q.1, q.2) in
+        let at : IsAt (v.belongings t) a q.0 = (q.1, q.2) in
         let refs : (cell_of ks b).refs ≡ o.0.refs = ap (λ x. (cell_of ks x).refs) (sym o.1.1) ∙ refs_are o.0 o.1.0 in
-        (reached_more (StartsNow v l t) (LeadsAt (v.homes t)) b a y.0 (o.0, q.0, o.1, subst (λ rs. In rs (Some a)) refs (in_from_contains (cell_of ks b).refs (Some a) d.2), at), (q.0, at))
+        (reached_more (StartsNow v l t) (LeadsAt (v.belongings t)) b a y.0 (o.0, q.0, o.1, subst (λ rs. In rs (Some a)) refs (in_from_contains (cell_of ks b).refs (Some a) d.2), at), (q.0, at))
 
     to_now : (a : Addr) → IsInSnapshot f (kept v t) a → IsReachedNow v l t a
     to_now a g = (reached_within (Starts f (kept v t)) (Leads ks) IsThere start_now more_now a g).0
 
-    held_at : (a : Addr) (o : Located) → IsAt (v.homes t) a o → HasObjectAt ks a
+    held_at : (a : Addr) (o : Located) → IsAt (v.belongings t) a o → HasObjectAt ks a
     held_at a o at = subst (HasObjectAt ks) at.1 (is_held o at.0)
 
     start_then : (a : Addr) → StartsNow v l t a → IsInSnapshot f (kept v t) a
@@ -127,13 +127,13 @@ module _ (w : SharedValue) (I : IsSharedValue w) (on : (accounts w).end ≡ None
           ]),
         )
 
-    more_then : (b a : Addr) → IsInSnapshot f (kept v t) b → LeadsAt (v.homes t) b a → IsInSnapshot f (kept v t) a
+    more_then : (b a : Addr) → IsInSnapshot f (kept v t) b → LeadsAt (v.belongings t) b a → IsInSnapshot f (kept v t) a
     more_then b a g d =
         let refs : (cell_of ks b).refs ≡ d.0.refs = ap (λ x. (cell_of ks x).refs) (sym d.2.1) ∙ refs_are d.0 d.2.0 in
         reached_more (Starts f (kept v t)) (Leads ks) b a g (held_at b d.0 d.2, held_at a d.1 d.4, contains_from_in (cell_of ks b).refs (Some a) (subst (λ rs. In rs (Some a)) (sym refs) d.3))
 
     from_now : (a : Addr) → IsReachedNow v l t a → IsInSnapshot f (kept v t) a
-    from_now a g = reached_within (StartsNow v l t) (LeadsAt (v.homes t)) (IsInSnapshot f (kept v t)) start_then more_then a g
+    from_now a g = reached_within (StartsNow v l t) (LeadsAt (v.belongings t)) (IsInSnapshot f (kept v t)) start_then more_then a g
 
     task : (x : Task) × (slice_get l.machine.tasks t ≡ Some x)
     task = by (slice_get l.machine.tasks t) refl wait
@@ -144,14 +144,14 @@ module _ (w : SharedValue) (I : IsSharedValue w) (on : (accounts w).end ≡ None
 
     pub snapshot_is : (o : Located) → In (objects v t) o → IsInSnapshot f (kept v t) o.at ↔ In (heap_of l t).snapshot (object_name o)
     snapshot_is o i =
-        let s = snapshot_now v l t task.0 sound stands.homes task.1 wait rests (stands.since t keeps) o i in
+        let s = snapshot_now v l t task.0 sound stands.belongings task.1 wait rests (stands.since t keeps) o i in
         ((λ g. s.0 (to_now o.at g)), (λ n. from_now o.at (s.1 n)))
 
     -- what the marking has then
     pub begun_goes_on : (m : MarkingValue) → IsOf ks (kept v t) m → IsMarking f (kept v t) m → GoesOn v t (heap_of l t).snapshot m
     begun_goes_on m own marks =
-        let count : object_count ks ≡ length (objects v t) = objects_counted ks form.tidy ∙ ap (λ cs. length (objects_in cs)) (sym home_is) in
-        let chunks : length ks ≡ length (v.homes t).chunks = sym (length_chunks ks) ∙ ap (λ cs. length cs) (sym home_is) in
+        let count : object_count ks ≡ length (objects v t) = objects_counted ks form.tidy ∙ ap (λ cs. length (objects_in cs)) (sym belongings_is) in
+        let chunks : length ks ≡ length (v.belongings t).chunks = sym (length_chunks ks) ∙ ap (λ cs. length cs) (sym belongings_is) in
         record {
           fork = f;
           marks = marks;

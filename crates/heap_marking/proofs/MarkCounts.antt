@@ -68,9 +68,9 @@ marks_count w k t r m m' n c I on there wait keeps at G' sum most last =
     let each = marked_each v t (heap_of l t).snapshot m' G' in
     let long : length (marked_of m) ≡ m.marked = take_long m.marked m.found G.marked in
     let long' : length (marked_of m') ≡ m'.marked = take_long m'.marked m'.found G'.marked in
-    let few : length (marked_of m') ≤ length (heap_of l t).snapshot = few_marked v l t (marked_of m') S.homes rests each (distinct_take m'.marked m'.found G'.once) in
+    let few : length (marked_of m') ≤ length (heap_of l t).snapshot = few_marked v l t (marked_of m') S.belongings rests each (distinct_take m'.marked m'.found G'.once) in
     let all : c < n → length (heap_of l t).snapshot ≤ length (marked_of m') = λ lt.
-    all_marked v l t (marked_of m') S.homes rests each F.once (λ x i. in_from_contains (held_in (heap_of l t)) x (F.held x (contains_from_in (heap_of l t).snapshot x i)))
+    all_marked v l t (marked_of m') S.belongings rests each F.once (λ x i. in_from_contains (held_in (heap_of l t)) x (F.held x (contains_from_in (heap_of l t).snapshot x i)))
     (λ q i j. in_from_contains (marked_of m') q.at (last lt G.fork (is_since w I on t r there wait keeps m G) G.marks q.at ((G.snapshot q i).1 j))) in
     let marked : marked_in (heap_of l t) ≡ length (marked_of m) = ap (λ (o : Option ℕ). unwrap_or o 0) M.0.count in
     let so : c ≡ min n (length (heap_of l t).snapshot - m.marked) = counted_by c n m.marked (length (heap_of l t).snapshot) m'.marked sum most (omega (arith, few, long')) (λ lt. let le = all lt in omega (arith, le, long')) in

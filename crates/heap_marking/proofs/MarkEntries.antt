@@ -38,14 +38,14 @@ use Rattle.shared_value.specs.Entered.{refused}
 use Rattle.shared_value.specs.Fits.{AllFit}
 use Rattle.task_homes.specs.RestingHeaps.{refs_in}
 use Rattle.shared_value.specs.Roots.{heaps_of, sources_of}
-use Rattle.shared_value.specs.SharedValue.{SharedValue, accounts, home_in, marks_at, noted_in, rest_at, value_of}
+use Rattle.shared_value.specs.SharedValue.{SharedValue, accounts, belongings_in, marks_at, noted_in, rest_at, value_of}
 use Rattle.shared_value.specs.Stands.{IsSharedValue}
 use Rattle.shared_value.proofs.HeapWords.{words_are}
 use Rattle.shared_value.proofs.EntryMade.{entry_on}
 use Rattle.shared_value.proofs.FirstCauses.{found_first, nothing_first}
 use Rattle.shared_value.proofs.BeforeTheEnd.{stands_now}
 use Rattle.shared_value.proofs.CausesTold.{on_is, refused_is}
-use Rattle.shared_value.proofs.FieldsLed.{home_chunks}
+use Rattle.shared_value.proofs.FieldsLed.{belongings_chunks}
 use Rattle.heap_marking.specs.MarkCauses.{marking_cause, waiting_cause, words_cause}
 use Rattle.heap_marking.specs.Marking.{marked_more}
 use Rattle.heap_marking.specs.Starts.{IsBegun, starts_by, starts_in, starts_of}
@@ -141,8 +141,8 @@ pub words_now : (w : SharedValue) (I : IsSharedValue w) (t : ℕ) (on : (account
 words_now w I t on free r there =
     let l : Ledger = accounts w in
     let wait = homes.wait w I on t free in
-    words_are (value_of w) l t r.heap.chunks (stands_now w I on).homes (legal_idle w.program w.settings w.journal.items I.legal on t (waiting_stops (slice_get l.machine.tasks t) wait))
-    (ap (λ o. (home_in o).chunks) there ∙ home_chunks r) (I.heaps t r there).tidy
+    words_are (value_of w) l t r.heap.chunks (stands_now w I on).belongings (legal_idle w.program w.settings w.journal.items I.legal on t (waiting_stops (slice_get l.machine.tasks t) wait))
+    (ap (λ o. (belongings_in o).chunks) there ∙ belongings_chunks r) (I.heaps t r there).tidy
 
 -- what it keeps
 pub kept_noted : (o : Option SetOf) → kept_of o ≡ (noted_in o).kept

@@ -28,8 +28,8 @@ use Rattle.core_relation.specs.Counts.{CountsGo, IsMarked, IsQuiet}
 use Rattle.core_relation.specs.Marking.{GoesOn, MarkedBy}
 use Rattle.core_relation.specs.Since.{MarksOn, NotesStay, kept}
 use Rattle.core_relation.specs.Layout.{AreLaidOut}
-use Rattle.core_relation.specs.Stands.{HasNames, HomeStands}
-use Rattle.core_relation.proofs.changes.Alone.{home_kept}
+use Rattle.core_relation.specs.Stands.{HasNames, BelongingsStand}
+use Rattle.core_relation.proofs.changes.Alone.{belongings_kept}
 use Rattle.core_relation.specs.Whole.{StandsFor}
 use Rattle.core_relation.specs.Worker.{IsBy}
 use Rattle.core_entry_laws.proofs.whole.EntriesWhole.{quiet_stands_for}
@@ -43,12 +43,12 @@ use Rattle.shared_value.proofs.MarkingEntryMade.{entered_marks, marked_fits, mar
 use Rattle.shared_value.proofs.BeforeTheEnd.{stands_now}
 use Rattle.heap_marking.specs.Marking.{MarksEnter}
 
--- a home whose account has another count of marks alone
-home_marked : (v v' : Memory) (l L : Ledger) (t : ℕ) (o : Option ℕ) → v'.homes t ≡ v.homes t → ((k : ℕ) → v.owner k ≡ Some t → v'.owner k ≡ Some t) → L.machine ≡ l.machine → heap_of L t ≡ record (heap_of l t) { marked = o } → HomeStands v l t → HomeStands v' L t
-home_marked v v' l L t o homes owner machine heap H =
-    let before : HomeStands v' l t = home_kept v v' l l t homes owner refl refl refl H in
+-- belongings whose account has another count of marks alone
+belongings_marked : (v v' : Memory) (l L : Ledger) (t : ℕ) (o : Option ℕ) → v'.belongings t ≡ v.belongings t → ((k : ℕ) → v.owner k ≡ Some t → v'.owner k ≡ Some t) → L.machine ≡ l.machine → heap_of L t ≡ record (heap_of l t) { marked = o } → BelongingsStand v l t → BelongingsStand v' L t
+belongings_marked v v' l L t o belongings owner machine heap H =
+    let before : BelongingsStand v' l t = belongings_kept v v' l l t belongings owner refl refl refl H in
     record {
-      names = subst (HasNames (v'.homes t).chunks) (sym heap) (record { small = before.names.small; large = before.names.large });
+      names = subst (HasNames (v'.belongings t).chunks) (sym heap) (record { small = before.names.small; large = before.names.large });
       room = before.room ∙ sym (ap (λ (h : Heap). h.room) heap);
       since = before.since ∙ sym (ap (λ (h : Heap). h.since) heap);
       count = λ live. before.count (ap (λ (m : State). is_joined (slice_get m.tasks t)) (sym machine) ∙ live) ∙ ap (λ (m : State). length (row_of (slice_get m.store t))) (sym machine);
@@ -56,7 +56,7 @@ home_marked v v' l L t o homes owner machine heap H =
       inside = before.inside;
       once = before.once;
       named = before.named;
-      laid = subst (λ (h : Heap). AreLaidOut (v'.homes t).chunks h.reserved) (sym heap) before.laid;
+      laid = subst (λ (h : Heap). AreLaidOut (v'.belongings t).chunks h.reserved) (sym heap) before.laid;
     }
 
 module _ (w : SharedValue) (e : EntryValue) (I : IsSharedValue w) (free : refused w e ≡ None) (quiet : IsQuiet e.kind) (t : ℕ) (m : MarkingValue) (marks : List (Option MarkingValue)) (room : ℕ)
@@ -87,17 +87,17 @@ module _ (w : SharedValue) (e : EntryValue) (I : IsSharedValue w) (free : refuse
       | inr ne ↦ ap (λ (h : Heap). h.worker) (heaps u ne)
     ]
 
-    home_at : (u : ℕ) → Rests L u → HomeStands v' L u
-    home_at u r =
-        let H : HomeStands v l u = S0.homes.homes u (sym (worker_same u) ∙ r) in
+    belongings_at : (u : ℕ) → Rests L u → BelongingsStand v' L u
+    belongings_at u r =
+        let H : BelongingsStand v l u = S0.belongings.belongings u (sym (worker_same u) ∙ r) in
         elim (cases_eq u t) [
-          | inl q ↦ subst (HomeStands v' L) (sym q) (home_marked v v' l L t (Some (length (marked_of m))) refl (λ k o. o) machine heap_t (subst (HomeStands v l) q H))
-          | inr ne ↦ home_kept v v' l L u refl (λ k o. o) (heaps u ne) (ap (λ (z : State). length (row_of (slice_get z.store u))) machine) (ap (λ (z : State). is_joined (slice_get z.tasks u)) machine) H
+          | inl q ↦ subst (BelongingsStand v' L) (sym q) (belongings_marked v v' l L t (Some (length (marked_of m))) refl (λ k o. o) machine heap_t (subst (BelongingsStand v l) q H))
+          | inr ne ↦ belongings_kept v v' l L u refl (λ k o. o) (heaps u ne) (ap (λ (z : State). length (row_of (slice_get z.store u))) machine) (ap (λ (z : State). is_joined (slice_get z.tasks u)) machine) H
         ]
 
     same : SameObjects v v' l L
     same = record {
-      home = home_at;
+      belongings = belongings_at;
       objects = λ u. refl;
       chunks = λ u h. refl;
       frames = λ u. refl;

@@ -60,7 +60,7 @@ module _ (w : SharedValue) (I : IsSharedValue w) (on : (accounts w).end ≡ None
       by (Some x) e h = (x, e)
 
   now : (q : Located) → In (objects v t) q → IsReachedNow v l t q.at ↔ In (heap_of l t).snapshot (object_name q)
-  now = snapshot_now v l t task.0 (legal_sound w.program w.settings w.journal.items I.legal) stands.homes task.1 wait (begun.rests w I on t r there wait keeps) (stands.since t keeps)
+  now = snapshot_now v l t task.0 (legal_sound w.program w.settings w.journal.items I.legal) stands.belongings task.1 wait (begun.rests w I on t r there wait keeps) (stands.since t keeps)
 
   reached_held : (a : Addr) → IsInSnapshot G.fork (kept v t) a → HasObjectAt G.fork.heap a
   reached_held a g = reached_within (Starts G.fork (kept v t)) (Leads G.fork.heap) (HasObjectAt G.fork.heap) (λ x s. s.0) (λ b x h d. d.1) a g
@@ -72,7 +72,7 @@ module _ (w : SharedValue) (I : IsSharedValue w) (on : (accounts w).end ≡ None
       let name = (G.snapshot o.0 o.1).0 (subst (IsInSnapshot G.fork (kept v t)) (sym o.2) g) in
       let from : IsReachedNow v l t b = subst (IsReachedNow v l t) o.2 ((now o.0 o.1).1 name) in
       let refs : (cell_of ks b).refs ≡ o.0.refs = ap (λ x. (cell_of ks x).refs) (sym o.2) ∙ begun.refs_are w I on t r there wait keeps o.0 o.1 in
-      let to : IsReachedNow v l t a = reached_more (StartsNow v l t) (LeadsAt (v.homes t)) b a from (o.0, q.0, (o.1, o.2), subst (λ rs. In rs (Some a)) refs (in_from_contains (cell_of ks b).refs (Some a) d.2), (q.1, q.2)) in
+      let to : IsReachedNow v l t a = reached_more (StartsNow v l t) (LeadsAt (v.belongings t)) b a from (o.0, q.0, (o.1, o.2), subst (λ rs. In rs (Some a)) refs (in_from_contains (cell_of ks b).refs (Some a) d.2), (q.1, q.2)) in
       subst (IsInSnapshot G.fork (kept v t)) q.2 ((G.snapshot q.0 q.1).1 ((now q.0 q.1).0 (subst (IsReachedNow v l t) (sym q.2) to)))
 
   overwritten : (b a : Addr) → Leads G.fork.heap b a → Leads ks b a ⊎ Contains (kept v t) a
@@ -81,7 +81,7 @@ module _ (w : SharedValue) (I : IsSharedValue w) (on : (accounts w).end ≡ None
       let q = G.were a d.1 in
       let from : HasObjectAt ks b = subst (HasObjectAt ks) o.2 (begun.is_held w I on t r there wait keeps o.0 o.1) in
       let to : HasObjectAt ks a = subst (HasObjectAt ks) q.2 (begun.is_held w I on t r there wait keeps q.0 q.1) in
-      let mine : v.owner a.chunk ≡ Some t = ap (λ (z : Addr). v.owner z.chunk) (sym q.2) ∙ lies_in v l stands.homes t q.0 (begun.rests w I on t r there wait keeps) q.1 in
+      let mine : v.owner a.chunk ≡ Some t = ap (λ (z : Addr). v.owner z.chunk) (sym q.2) ∙ lies_in v l stands.belongings t q.0 (begun.rests w I on t r there wait keeps) q.1 in
       let refs : (cell_of ks b).refs ≡ o.0.refs = ap (λ x. (cell_of ks x).refs) (sym o.2) ∙ begun.refs_are w I on t r there wait keeps o.0 o.1 in
       elim (G.overwritten o.0 a o.1 mine (subst (λ z. Leads G.fork.heap z a) (sym o.2) d)) [
         | inl i ↦ inl (from, to, contains_from_in (cell_of ks b).refs (Some a) (subst (λ rs. In rs (Some a)) (sym refs) i))
@@ -101,8 +101,8 @@ module _ (w : SharedValue) (I : IsSharedValue w) (on : (accounts w).end ≡ None
   -- what was marked further can go on
   pub goes_further : (m' : MarkingValue) → IsOf ks (kept v t) m' → ((f : Fork) → IsSince f (kept v t) ks → IsMarking f (kept v t) m → IsMarking f (kept v t) m') → GoesOn v t (heap_of l t).snapshot m'
   goes_further m' own marks =
-      let count : object_count ks ≡ length (objects v t) = objects_counted ks form.tidy ∙ ap (λ cs. length (objects_in cs)) (sym (begun.home_is w I on t r there wait keeps)) in
-      let chunks : length ks ≡ length (v.homes t).chunks = sym (begun.length_chunks ks) ∙ ap (λ cs. length cs) (sym (begun.home_is w I on t r there wait keeps)) in
+      let count : object_count ks ≡ length (objects v t) = objects_counted ks form.tidy ∙ ap (λ cs. length (objects_in cs)) (sym (begun.belongings_is w I on t r there wait keeps)) in
+      let chunks : length ks ≡ length (v.belongings t).chunks = sym (begun.length_chunks ks) ∙ ap (λ cs. length cs) (sym (begun.belongings_is w I on t r there wait keeps)) in
       record {
         fork = G.fork;
         marks = marks G.fork is_since G.marks;
@@ -121,8 +121,8 @@ module _ (w : SharedValue) (I : IsSharedValue w) (on : (accounts w).end ≡ None
   -- WHAT IT ASKS: what it has found lies in the heap
   pub own : IsOf ks (kept v t) m
   own =
-      let count : object_count ks ≡ length (objects v t) = objects_counted ks form.tidy ∙ ap (λ cs. length (objects_in cs)) (sym (begun.home_is w I on t r there wait keeps)) in
-      let chunks : length ks ≡ length (v.homes t).chunks = sym (begun.length_chunks ks) ∙ ap (λ cs. length cs) (sym (begun.home_is w I on t r there wait keeps)) in
+      let count : object_count ks ≡ length (objects v t) = objects_counted ks form.tidy ∙ ap (λ cs. length (objects_in cs)) (sym (begun.belongings_is w I on t r there wait keeps)) in
+      let chunks : length ks ≡ length (v.belongings t).chunks = sym (begun.length_chunks ks) ∙ ap (λ cs. length cs) (sym (begun.belongings_is w I on t r there wait keeps)) in
       record {
         room = record {
           each = λ a c. (is_since.objects a).0 (reached_held a (G.marks.each a c));
@@ -141,13 +141,13 @@ module _ (w : SharedValue) (I : IsSharedValue w) (on : (accounts w).end ≡ None
 
   -- and each reference into a chunk of the heap leads to an object
   pub closed : IsClosed ks
-  closed = is_closed v l stands.homes t (begun.rests w I on t r there wait keeps) ks (begun.home_is w I on t r there wait keeps) form.shaped.apart form.near
+  closed = is_closed v l stands.belongings t (begun.rests w I on t r there wait keeps) ks (begun.belongings_is w I on t r there wait keeps) form.shaped.apart form.near
 
   -- WHEN NOTHING IS LEFT
   pub left_is : MarksStand v l t (marked_of m) → IsAllMarked G.fork (kept v t) m ↔ (left_in (heap_of l t) ≡ 0)
   left_is M =
       let S = snapshots_are_held w.program w.settings w.journal.items t I.legal wait in
-      let all = marks_are_all v l t (marked_of m) stands.homes (begun.rests w I on t r there wait keeps) S.once
+      let all = marks_are_all v l t (marked_of m) stands.belongings (begun.rests w I on t r there wait keeps) S.once
       (λ n i. in_from_contains (held_in (heap_of l t)) n (S.held n (contains_from_in (heap_of l t).snapshot n i))) M in (
         (λ a. all.1 (λ q i n. in_from_contains (marked_of m) q.at (a q.at ((G.snapshot q i).1 n)))),
         (λ e a g.

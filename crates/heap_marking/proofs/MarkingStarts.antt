@@ -25,7 +25,7 @@ use Rattle.ledger_step_laws.proofs.Split.{legal_idle}
 use Rattle.core_relation.specs.Begins.{AreRoots, IsAt}
 use Rattle.core_relation.specs.Reads.{FramesAreRead, HoldsRead}
 use Rattle.core_relation.specs.Stands.{Place, Stands}
-use Rattle.core_relation.specs.Memory.{Home, In, Memory, objects, objects_in, sources}
+use Rattle.core_relation.specs.Memory.{Belongings, In, Memory, objects, objects_in, sources}
 use Rattle.core_relation.proofs.objects.Members.{from_flat, in_chunk}
 use Rattle.core_relation.proofs.notes.Roots.{frame_name}
 use Rattle.task_homes.specs.declared.task_at_rest.Rest.{Rest}
@@ -34,27 +34,27 @@ use Rattle.task_homes.specs.declared.task_at_rest.Work.TheVariants.{Calls, Resul
 use Rattle.shared_value.specs.Objects.{chunks_of}
 use Rattle.task_homes.specs.RestingHeaps.{refs_in}
 use Rattle.shared_value.specs.Roots.{heaps_of, sources_of}
-use Rattle.shared_value.specs.SharedValue.{SharedValue, accounts, frames_down, home_by, home_in, home_of, rest_at, value_of}
+use Rattle.shared_value.specs.SharedValue.{SharedValue, accounts, frames_down, belongings_by, belongings_in, belongings_of, rest_at, value_of}
 use Rattle.shared_value.specs.Stands.{IsSharedValue}
 use Rattle.shared_value.proofs.BeforeTheEnd.{stands_now}
 use Rattle.shared_value.proofs.RootsHeld as held
 use Rattle.shared_value.proofs.RootsHeld.{into_tells, into_there}
 use Rattle.shared_value.proofs.RootsByAccounts.{read_at_rest}
-use Rattle.shared_value.proofs.FieldsLed.{home_chunks}
+use Rattle.shared_value.proofs.FieldsLed.{belongings_chunks}
 use Rattle.shared_value.proofs.FieldsNoted.{noted_sources}
 use Rattle.heap_marking.specs.Marking.{IsStart}
 use Rattle.heap_marking.specs.Starts.{registers_of, starts_by, starts_in, starts_of}
 use Rattle.heap_marking.proofs.MarkBegun as begun
 
--- REGISTERS: the references of frames, in the order of a stack and in that of a home
+-- REGISTERS: the references of frames, in the order of a stack and in that of belongings
 abbrev seen_frames : Work → List Frame
 seen_frames (Calls s) = frames_down s
 seen_frames (Result k r) = []
 
-home_frames : (r : Rest) → (home_of r).frames ≡ seen_frames r.work
-home_frames r = by r.work
+belongings_frames : (r : Rest) → (belongings_of r).frames ≡ seen_frames r.work
+belongings_frames r = by r.work
   where
-    by : (x : Work) → (home_by r.heap r.view r.allocations x).frames ≡ seen_frames x
+    by : (x : Work) → (belongings_by r.heap r.view r.allocations x).frames ≡ seen_frames x
     by (Calls s) = refl
     by (Result k n) = refl
 
@@ -72,7 +72,7 @@ registers_there (Calls s) f o (inl e) j = in_flat references_in (frames_of s) f 
 registers_there (Calls s) f o (inr i) j = in_flat references_in (frames_of s) f o (in_append_left s.below (s.top ∷ []) f i) j
 registers_there (Result k r) f o i j = absurd i
 
-frames_read : (at : Name → Addr → Type 0) (h : Home) (x : Task) (s : Status) → waits s ≡ true → HoldsRead at h x s → FramesAreRead at h.frames (x.top ∷ x.below)
+frames_read : (at : Name → Addr → Type 0) (h : Belongings) (x : Task) (s : Status) → waits s ≡ true → HoldsRead at h x s → FramesAreRead at h.frames (x.top ∷ x.below)
 frames_read at h x Running e k = k
 frames_read at h x Waiting e k = k
 frames_read at h x (Ended n r) e k = absurd cc
@@ -93,24 +93,24 @@ module _ (w : SharedValue) (I : IsSharedValue w) (on : (accounts w).end ≡ None
   ss = sources_of (slice_get w.sets t)
 
   W : Stands v l
-  W = (stands_now w I on).homes
+  W = (stands_now w I on).belongings
 
   rests : Rests l t
   rests = legal_idle w.program w.settings w.journal.items I.legal on t (waiting_stops (slice_get l.machine.tasks t) wait)
 
-  here : (v.homes t).chunks ≡ chunks_of ks
-  here = ap (λ o. (home_in o).chunks) there ∙ home_chunks r
+  here : (v.belongings t).chunks ≡ chunks_of ks
+  here = ap (λ o. (belongings_in o).chunks) there ∙ belongings_chunks r
 
-  frames_are : (v.homes t).frames ≡ seen_frames r.work
-  frames_are = ap (λ o. (home_in o).frames) there ∙ home_frames r
+  frames_are : (v.belongings t).frames ≡ seen_frames r.work
+  frames_are = ap (λ o. (belongings_in o).frames) there ∙ belongings_frames r
 
   sources_are : sources v t ≡ ss
   sources_are = noted_sources (slice_get w.sets t)
 
   read : (u : ℕ) → (u ≡ t → ⊥) → Rests l u → (o : Located) → In (objects v u) o → refs_in (heaps_of w) o.at ≡ o.refs
   read u ne q o i =
-      let c = in_chunk (v.homes u).chunks o i in
-      read_at_rest w u I o i (ap v.owner ((W.homes u q).inside c.0 o c.1 c.2) ∙ (W.homes u q).owned c.0 c.1)
+      let c = in_chunk (v.belongings u).chunks o i in
+      read_at_rest w u I o i (ap v.owner ((W.belongings u q).inside c.0 o c.1 c.2) ∙ (W.belongings u q).owned c.0 c.1)
 
   -- its remembered fields are fields
   pub fields_there : AreFields refs_in (heaps_of w) ss
@@ -126,13 +126,13 @@ module _ (w : SharedValue) (I : IsSharedValue w) (on : (accounts w).end ≡ None
       by None e h = absurd cc
       by (Some x) e h = (x, e)
 
-  registers_read : FramesAreRead (Place v l) (v.homes t).frames (task.0.top ∷ task.0.below)
-  registers_read = frames_read (Place v l) (v.homes t) task.0 task.0.status (ap is_waiting (sym task.1) ∙ wait) (W.tasks t task.0 rests task.1)
+  registers_read : FramesAreRead (Place v l) (v.belongings t).frames (task.0.top ∷ task.0.below)
+  registers_read = frames_read (Place v l) (v.belongings t) task.0 task.0.status (ap is_waiting (sym task.1) ∙ wait) (W.tasks t task.0 rests task.1)
 
   -- an object of the heap lies where a register leads into it
-  at_register : (f : Frame) (a : Addr) → In (v.homes t).frames f → In f.refs (Some a) → has_chunk ks a.chunk ≡ true → (q : Located) × IsAt (v.homes t) a q
+  at_register : (f : Frame) (a : Addr) → In (v.belongings t).frames f → In f.refs (Some a) → has_chunk ks a.chunk ≡ true → (q : Located) × IsAt (v.belongings t) a q
   at_register f a i j h =
-      let n = frame_name (Place v l) (v.homes t).frames (task.0.top ∷ task.0.below) f a registers_read i j in
+      let n = frame_name (Place v l) (v.belongings t).frames (task.0.top ∷ task.0.below) f a registers_read i j in
       let q = held.lies_here v l t W rests ks here ss sources_are (heaps_of w) read n.0 a n.2 (held.own_chunk v l t W rests ks here ss sources_are (heaps_of w) read a.chunk h) in
       (q.0, (subst (λ cs. In (objects_in cs) q.0) (sym here) q.1, q.2))
 
@@ -150,11 +150,11 @@ module _ (w : SharedValue) (I : IsSharedValue w) (on : (accounts w).end ≡ None
       let o = from_flat (into ks) (registers_of r.work) a i in
       let b = into_tells ks o.0 a o.2 in
       let f = registers_tell r.work (Some a) (subst (In (registers_of r.work)) b.0 o.1) in
-      let j : In (v.homes t).frames f.0 = subst (λ fs. In fs f.0) (sym frames_are) f.1 in
+      let j : In (v.belongings t).frames f.0 = subst (λ fs. In fs f.0) (sym frames_are) f.1 in
       let q = at_register f.0 a j f.2 b.1 in
       inl (q.0, q.1, (f.0, j, f.2))
 
-  register_from : (a : Addr) (o : Located) → IsAt (v.homes t) a o → (f : Frame) → In (v.homes t).frames f → In f.refs (Some a) → In own a
+  register_from : (a : Addr) (o : Located) → IsAt (v.belongings t) a o → (f : Frame) → In (v.belongings t).frames f → In f.refs (Some a) → In own a
   register_from a o at f i j =
       let h : has_chunk ks a.chunk ≡ true =
       ap (λ (z : Addr). has_chunk ks z.chunk) (sym at.1) ∙ held.object_chunk v l t W rests ks here ss sources_are (heaps_of w) read o (subst (λ cs. In (objects_in cs) o) here at.0) in
@@ -181,11 +181,11 @@ module _ (w : SharedValue) (I : IsSharedValue w) (on : (accounts w).end ≡ None
   pub starts_held : ((value_of w).noted t).keeps ≡ true → All (HasObjectAt ks) (starts_of w t)
   starts_held keeps = all_from (HasObjectAt ks) (starts_of w t) (λ a i. held_one a (held_by_start a ((starts_are a).0 i)))
     where
-      held_by_start : (a : Addr) → IsStart v l t a → (o : Located) × IsAt (v.homes t) a o
+      held_by_start : (a : Addr) → IsStart v l t a → (o : Located) × IsAt (v.belongings t) a o
       held_by_start a (inl s) = (s.0, s.1)
       held_by_start a (inr R) =
           let q = held.root_here v l t W rests ks here ss sources_are (heaps_of w) read a ((roots_are a).1 R) in
           (q.0, (subst (λ cs. In (objects_in cs) q.0) (sym here) q.1, q.2))
 
-      held_one : (a : Addr) → (o : Located) × IsAt (v.homes t) a o → HasObjectAt ks a
+      held_one : (a : Addr) → (o : Located) × IsAt (v.belongings t) a o → HasObjectAt ks a
       held_one a q = subst (HasObjectAt ks) q.1.1 (begun.is_held w I on t r there wait keeps q.0 q.1.0)

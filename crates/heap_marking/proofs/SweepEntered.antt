@@ -26,7 +26,7 @@ use Rattle.inner_mark_gc.specs.Swept.{AreGiven, gone_of}
 use Rattle.core_relation.specs.Changes.{KeepsJust}
 use Rattle.core_relation.specs.Counts.{CountsGo}
 use Rattle.core_relation.specs.Since.{OthersNotes}
-use Rattle.core_relation.specs.Memory.{Home, Memory, sources}
+use Rattle.core_relation.specs.Memory.{Belongings, Memory, sources}
 use Rattle.core_relation.specs.Whole.{StandsForAll}
 use Rattle.core_entry_laws.proofs.whole.EntriesWhole.{sweeps_stand_for}
 use Rattle.core_entry_laws.proofs.parts.WorkersPast.{sweeps_leave}
@@ -38,7 +38,7 @@ use Rattle.shared_value.specs.Entered.{refused}
 use Rattle.shared_value.specs.Fits.{AllFit, Fits, part_of}
 use Rattle.shared_value.specs.Measured.{AreMeasured, KeepsUnits, RestsAreMeasured}
 use Rattle.shared_value.specs.Stands.{HeapForm, IsSharedValue}
-use Rattle.shared_value.specs.SharedValue.{SharedValue, accounts, home_in, marks_at, noted_in, rest_at, tree_counts_of, value_of}
+use Rattle.shared_value.specs.SharedValue.{SharedValue, accounts, belongings_in, marks_at, noted_in, rest_at, tree_counts_of, value_of}
 use Rattle.shared_value.proofs.EntryMade.{entry_on}
 use Rattle.shared_value.proofs.MarkingEntryMade.{entered_marks, marked_fits, marked_world}
 use Rattle.shared_value.proofs.UnitsMeasured.{given_keeps, measured_kept, part_kept}
@@ -166,8 +166,8 @@ module _ (w : SharedValue) (k t given : ℕ) (I : IsSharedValue w) (free : refus
     ]
 
     keeps : KeepsJust v v' l L t (heap_of l t).snapshot
-    keeps = home.keeps_just w I on t T.cause T.none_left pool G slots spare v' L (ap home_in rest_then) refl (home.there_by l t (length (marked_of m)) (start.M w I on t T.cause).0.count) (heap_machine l t swept_heap)
-        (λ u ne. ap home_in (rest_off u ne)) sources_same
+    keeps = home.keeps_just w I on t T.cause T.none_left pool G slots spare v' L (ap belongings_in rest_then) refl (home.there_by l t (length (marked_of m)) (start.M w I on t T.cause).0.count) (heap_machine l t swept_heap)
+        (λ u ne. ap belongings_in (rest_off u ne)) sources_same
 
     notes : OthersNotes v v' t
     notes = record {
@@ -183,7 +183,7 @@ module _ (w : SharedValue) (k t given : ℕ) (I : IsSharedValue w) (free : refus
     )
 
     stands : StandsForAll v' (tree_counts_of w') L
-    stands = sweeps_stand_for w.program w.settings w.journal.items I.form I.legal v v' (tree_counts_of w) (tree_counts_of w') k t given free I.stands keeps notes (ap (λ (h : Home). h.begun) (ap home_in rest_then) ∙ home.idle_home rest') counts
+    stands = sweeps_stand_for w.program w.settings w.journal.items I.form I.legal v v' (tree_counts_of w) (tree_counts_of w') k t given free I.stands keeps notes (ap (λ (h : Belongings). h.begun) (ap belongings_in rest_then) ∙ home.idle_belongings rest') counts
 
     heaps : (u : ℕ) (x : Rest) → rest_at rests u ≡ Some x → HeapForm x.heap
     heaps u x is = elim (cases_eq u t) [

@@ -24,8 +24,8 @@ use Rattle.inner_mark_gc.specs.Swept.{AreGiven, gone_of, goes, swept, units_kept
 use Rattle.ledger_step_laws.proofs.Ahead.{heap_then, with_at}
 use Rattle.core_relation.specs.Changes.{KeepsJust}
 use Rattle.core_relation.specs.Layout.{AreLaidOut}
-use Rattle.core_relation.specs.Stands.{HasNames, HomeStands}
-use Rattle.core_relation.specs.Memory.{Chunk, Home, In, Memory, object_name, objects, objects_in, sources}
+use Rattle.core_relation.specs.Stands.{HasNames, BelongingsStand}
+use Rattle.core_relation.specs.Memory.{Chunk, Belongings, In, Memory, object_name, objects, objects_in, sources}
 use Rattle.core_relation.proofs.objects.Members.{map_in}
 use Rattle.task_homes.specs.declared.task_at_rest.Rest.{Rest}
 use Rattle.task_homes.specs.declared.task_at_rest.Work.{Work}
@@ -33,11 +33,11 @@ use Rattle.task_homes.specs.declared.task_at_rest.Work.TheVariants.{Calls, Resul
 use Rattle.shared_value.specs.Measured.{AreMeasured}
 use Rattle.shared_value.specs.Objects.{chunk_of, chunks_of}
 use Rattle.shared_value.specs.Stands.{HeapForm, IsSharedValue}
-use Rattle.shared_value.specs.SharedValue.{SharedValue, accounts, home_by, home_of, value_of}
+use Rattle.shared_value.specs.SharedValue.{SharedValue, accounts, belongings_by, belongings_of, value_of}
 use Rattle.shared_value.proofs.HeapForms.{places_form}
 use Rattle.shared_value.proofs.EntryMade.{unheld_at_rest}
 use Rattle.shared_value.proofs.HeapLaidOut.{inside_from, laid_from, same_chunk}
-use Rattle.shared_value.proofs.FieldsLed.{home_chunks}
+use Rattle.shared_value.proofs.FieldsLed.{belongings_chunks}
 use Rattle.shared_value.proofs.FieldsNoted.{fresh_by, owned_before}
 use Rattle.heap_marking.specs.MarkCauses.{marking_cause}
 use Rattle.heap_marking.proofs.SweptCells.{is_there}
@@ -49,26 +49,26 @@ use Rattle.heap_marking.proofs.SweptStart.{room_there, since_there}
 use Rattle.heap_marking.proofs.SweptUnits.{know, names_left}
 
 -- what goes with a task beside its heap
-abbrev frames_by : (h g : HeapOfCode) (view : List Level) (n : ℕ) (x : Work) → (home_by h view n x).frames ≡ (home_by g view n x).frames
+abbrev frames_by : (h g : HeapOfCode) (view : List Level) (n : ℕ) (x : Work) → (belongings_by h view n x).frames ≡ (belongings_by g view n x).frames
 frames_by h g view n (Calls s) = refl
 frames_by h g view n (Result k r) = refl
 
-abbrev result_by : (h g : HeapOfCode) (view : List Level) (n : ℕ) (x : Work) → (home_by h view n x).result ≡ (home_by g view n x).result
+abbrev result_by : (h g : HeapOfCode) (view : List Level) (n : ℕ) (x : Work) → (belongings_by h view n x).result ≡ (belongings_by g view n x).result
 result_by h g view n (Calls s) = refl
 result_by h g view n (Result k r) = refl
 
-abbrev count_by : (h g : HeapOfCode) (view : List Level) (n : ℕ) (x : Work) → (home_by h view n x).count ≡ (home_by g view n x).count
+abbrev count_by : (h g : HeapOfCode) (view : List Level) (n : ℕ) (x : Work) → (belongings_by h view n x).count ≡ (belongings_by g view n x).count
 count_by h g view n (Calls s) = refl
 count_by h g view n (Result k r) = refl
 
-abbrev view_by : (h g : HeapOfCode) (view : List Level) (n : ℕ) (x : Work) → (home_by h view n x).view ≡ (home_by g view n x).view
+abbrev view_by : (h g : HeapOfCode) (view : List Level) (n : ℕ) (x : Work) → (belongings_by h view n x).view ≡ (belongings_by g view n x).view
 view_by h g view n (Calls s) = refl
 view_by h g view n (Result k r) = refl
 
-pub idle_home : (r : Rest) → (home_of r).begun ≡ None
-idle_home r = by r.work
+pub idle_belongings : (r : Rest) → (belongings_of r).begun ≡ None
+idle_belongings r = by r.work
   where
-    by : (x : Work) → (home_by r.heap r.view r.allocations x).begun ≡ None
+    by : (x : Work) → (belongings_by r.heap r.view r.allocations x).begun ≡ None
     by (Calls s) = refl
     by (Result k b) = refl
 
@@ -178,9 +178,9 @@ module _ (w : SharedValue) (I : IsSharedValue w) (on : (accounts w).end ≡ None
     owned n u o = owned_before w.pool pool (gone_of r.heap kept) n u G.free (G.others n) o
 
     -- THE HOME, in a value and accounts that have it so
-    module _ (v' : Memory) (L : Ledger) (home : v'.homes t ≡ home_of rest') (owner : v'.owner ≡ owner_of pool) (account : heap_of L t ≡ swept_heap a) (machine : L.machine ≡ l.machine) where
-      chunks_then : (v'.homes t).chunks ≡ chunks_of now
-      chunks_then = ap (λ (h : Home). h.chunks) home ∙ (home_chunks rest' ∙ ap chunks_of chunks_are)
+    module _ (v' : Memory) (L : Ledger) (belongings : v'.belongings t ≡ belongings_of rest') (owner : v'.owner ≡ owner_of pool) (account : heap_of L t ≡ swept_heap a) (machine : L.machine ≡ l.machine) where
+      chunks_then : (v'.belongings t).chunks ≡ chunks_of now
+      chunks_then = ap (λ (h : Belongings). h.chunks) belongings ∙ (belongings_chunks rest' ∙ ap chunks_of chunks_are)
 
       objects_then : objects v' t ≡ filter (is_there kept) (objects_in (chunks_of ks))
       objects_then = ap objects_in chunks_then ∙ objects_left kept ks (form.filled kept r.heap F (start.none w I on t free) (start.large w I on t free))
@@ -193,20 +193,20 @@ module _ (w : SharedValue) (I : IsSharedValue w) (on : (accounts w).end ≡ None
           let f = in_from_kept (is_there kept) (objects_in (chunks_of ks)) o (subst (λ os. In os o) objects_then i) in
           (subst (λ os. In os o) (sym objects_before) f.0, f.1)
 
-      chunk_was : (c : Chunk) → In (v'.homes t).chunks c → (x : ChunkValue) × In ks x × (has kept x ≡ true) × (x.number ≡ c.number)
+      chunk_was : (c : Chunk) → In (v'.belongings t).chunks c → (x : ChunkValue) × In ks x × (has kept x ≡ true) × (x.number ≡ c.number)
       chunk_was c i =
           let y = map_in chunk_of now c (subst (λ cs. In cs c) chunks_then i) in
           let x = left_was kept ks y.0 y.1 in
           (x.0, x.1, x.2, ap (λ (z : ChunkValue). z.number) x.3 ∙ ap (λ (z : Chunk). z.number) y.2)
 
-      home_then : HomeStands v' L t
-      home_then = record {
+      belongings_then : BelongingsStand v' L t
+      belongings_then = record {
         names = subst (λ cs. HasNames cs (heap_of L t)) (sym chunks_then) (subst (HasNames (chunks_of now)) (sym account)
             (names_left kept l.machine a ks (form.filled kept r.heap F (start.none w I on t free) (start.large w I on t free)) (start.names w I on t free) (start.agree w I on t free none_left) (know w I on t free)));
-        room = ap (λ (h : Home). h.room) home ∙ (room_there rest' ∙ (ap room_of heap_is
+        room = ap (λ (h : Belongings). h.room) belongings ∙ (room_there rest' ∙ (ap room_of heap_is
             ∙ (form.plain_room kept r.heap F (start.none w I on t free) (start.large w I on t free) a (start.names w I on t free).small (start.room w I on t free) (start.agree w I on t free none_left) ∙ sym (ap (λ (z : Heap). z.room) account))));
-        since = ap (λ (h : Home). h.since) home ∙ (since_there rest' ∙ (start.since w I on t free ∙ sym (ap (λ (z : Heap). z.since) account)));
-        count = λ live. ap (λ (h : Home). h.count) home ∙ (count_by heap' r.heap r.view r.allocations r.work ∙ (ap (λ (h : Home). h.count) (sym (start.here w I on t free))
+        since = ap (λ (h : Belongings). h.since) belongings ∙ (since_there rest' ∙ (start.since w I on t free ∙ sym (ap (λ (z : Heap). z.since) account)));
+        count = λ live. ap (λ (h : Belongings). h.count) belongings ∙ (count_by heap' r.heap r.view r.allocations r.work ∙ (ap (λ (h : Belongings). h.count) (sym (start.here w I on t free))
             ∙ ((start.H w I on t free).count (ap (λ (m : State). is_joined (slice_get m.tasks t)) (sym machine) ∙ live) ∙ ap (λ (m : State). length (row_of (slice_get m.store t))) (sym machine))));
         owned = λ c i.
             let x = chunk_was c i in
@@ -218,9 +218,9 @@ module _ (w : SharedValue) (I : IsSharedValue w) (on : (accounts w).end ≡ None
             (laid_from plain (form.plain_formed kept r.heap F (start.none w I on t free) (start.large w I on t free)) a.reserved (start.nothing_reserved w I on t free)));
       }
 
-      pub keeps_just : ((u : ℕ) → (u ≡ t → ⊥) → v'.homes u ≡ v.homes u) → ((u : ℕ) → sources v' u ≡ sources v u) → KeepsJust v v' l L t a.snapshot
+      pub keeps_just : ((u : ℕ) → (u ≡ t → ⊥) → v'.belongings u ≡ v.belongings u) → ((u : ℕ) → sources v' u ≡ sources v u) → KeepsJust v v' l L t a.snapshot
       keeps_just off noted = record {
-        home = home_then;
+        belongings = belongings_then;
         kept = λ o i n.
             let j : In (objects_in (chunks_of ks)) o = subst (λ os. In os o) objects_before i in
             subst (λ os. In os o) (sym objects_then) (in_kept (is_there kept) (objects_in (chunks_of ks)) o j (start.agree w I on t free none_left o j ∙ holds_from_in a.snapshot (object_name o) n));
@@ -228,9 +228,9 @@ module _ (w : SharedValue) (I : IsSharedValue w) (on : (accounts w).end ≡ None
             let x = was o i in
             let j : In (objects_in (chunks_of ks)) o = subst (λ os. In os o) objects_before x.0 in
             (x.0, in_from_holds a.snapshot (object_name o) (sym (start.agree w I on t free none_left o j) ∙ x.1));
-        frames = ap (λ (h : Home). h.frames) home ∙ (frames_by heap' r.heap r.view r.allocations r.work ∙ ap (λ (h : Home). h.frames) (sym (start.here w I on t free)));
-        result = ap (λ (h : Home). h.result) home ∙ (result_by heap' r.heap r.view r.allocations r.work ∙ ap (λ (h : Home). h.result) (sym (start.here w I on t free)));
-        view = ap (λ (h : Home). h.view) home ∙ (view_by heap' r.heap r.view r.allocations r.work ∙ ap (λ (h : Home). h.view) (sym (start.here w I on t free)));
+        frames = ap (λ (h : Belongings). h.frames) belongings ∙ (frames_by heap' r.heap r.view r.allocations r.work ∙ ap (λ (h : Belongings). h.frames) (sym (start.here w I on t free)));
+        result = ap (λ (h : Belongings). h.result) belongings ∙ (result_by heap' r.heap r.view r.allocations r.work ∙ ap (λ (h : Belongings). h.result) (sym (start.here w I on t free)));
+        view = ap (λ (h : Belongings). h.view) belongings ∙ (view_by heap' r.heap r.view r.allocations r.work ∙ ap (λ (h : Belongings). h.view) (sym (start.here w I on t free)));
         others = off;
         owners = λ n u ne o. ap (λ (f : ℕ → Option ℕ). f n) owner ∙ owners n u ne o;
         owned = λ n u o. owned n u (ap (λ (f : ℕ → Option ℕ). f n) (sym owner) ∙ o);

@@ -22,9 +22,9 @@ use Rattle.ledger_step_laws.specs.Accounts.{Rests}
 use Rattle.core_relation.specs.Layout.{AreLaidOut}
 use Rattle.core_relation.specs.Marking.{MarkedBy}
 use Rattle.core_relation.specs.Since.{kept as kept_of}
-use Rattle.core_relation.specs.Stands.{HasNames, HomeStands}
+use Rattle.core_relation.specs.Stands.{HasNames, BelongingsStand}
 use Rattle.object_layout.specs.Objects.{Located}
-use Rattle.core_relation.specs.Memory.{Home, In, Memory, object_name, objects, objects_in}
+use Rattle.core_relation.specs.Memory.{Belongings, In, Memory, object_name, objects, objects_in}
 use Rattle.core_relation.specs.Whole.{StandsFor}
 use Rattle.core_entry_laws.proofs.notes.MarksAll.{marks_are_all}
 use Rattle.task_machine.specs.Accounts.{AreReserved, IsCounted}
@@ -32,11 +32,11 @@ use Rattle.task_homes.specs.declared.task_at_rest.Rest.{Rest}
 use Rattle.task_homes.specs.declared.task_at_rest.Work.{Work}
 use Rattle.task_homes.specs.declared.task_at_rest.Work.TheVariants.{Calls, Result}
 use Rattle.shared_value.specs.Objects.{chunk_of, chunks_of}
-use Rattle.shared_value.specs.SharedValue.{SharedValue, accounts, home_by, home_in, home_of, tree_counts_of, value_of}
+use Rattle.shared_value.specs.SharedValue.{SharedValue, accounts, belongings_by, belongings_in, belongings_of, tree_counts_of, value_of}
 use Rattle.shared_value.specs.Stands.{HeapForm, IsSharedValue}
 use Rattle.shared_value.proofs.HeapCounts.{counted_from}
 use Rattle.shared_value.proofs.HeapForms.{reserved_none}
-use Rattle.shared_value.proofs.FieldsLed.{home_chunks}
+use Rattle.shared_value.proofs.FieldsLed.{belongings_chunks}
 use Rattle.shared_value.proofs.BeforeTheEnd.{stands_now}
 use Rattle.heap_marking.specs.MarkCauses.{marking_cause}
 use Rattle.heap_marking.specs.MarkStand.{StandsMarked}
@@ -56,17 +56,17 @@ apart (Some x) a b = by x.status a b
     by (Ended n q) a b = absurd cc
     by Joined a b = absurd cc
 
-pub room_there : (r : Rest) → (home_of r).room ≡ room_of r.heap
+pub room_there : (r : Rest) → (belongings_of r).room ≡ room_of r.heap
 room_there r = by r.work
   where
-    by : (x : Work) → (home_by r.heap r.view r.allocations x).room ≡ room_of r.heap
+    by : (x : Work) → (belongings_by r.heap r.view r.allocations x).room ≡ room_of r.heap
     by (Calls s) = refl
     by (Result n b) = refl
 
-pub since_there : (r : Rest) → (home_of r).since ≡ r.heap.since
+pub since_there : (r : Rest) → (belongings_of r).since ≡ r.heap.since
 since_there r = by r.work
   where
-    by : (x : Work) → (home_by r.heap r.view r.allocations x).since ≡ r.heap.since
+    by : (x : Work) → (belongings_by r.heap r.view r.allocations x).since ≡ r.heap.since
     by (Calls s) = refl
     by (Result n b) = refl
 
@@ -95,14 +95,14 @@ module _ (w : SharedValue) (I : IsSharedValue w) (on : (accounts w).end ≡ None
   pub form : HeapForm Z.rest.heap
   form = I.heaps t Z.rest Z.there
 
-  pub H : HomeStands v l t
-  H = S.homes.homes t rests
+  pub H : BelongingsStand v l t
+  H = S.belongings.belongings t rests
 
-  pub here : v.homes t ≡ home_of Z.rest
-  here = ap home_in Z.there
+  pub here : v.belongings t ≡ belongings_of Z.rest
+  here = ap belongings_in Z.there
 
-  pub chunks_here : (v.homes t).chunks ≡ chunks_of Z.rest.heap.chunks
-  chunks_here = ap (λ (h : Home). h.chunks) here ∙ home_chunks Z.rest
+  pub chunks_here : (v.belongings t).chunks ≡ chunks_of Z.rest.heap.chunks
+  chunks_here = ap (λ (h : Belongings). h.chunks) here ∙ belongings_chunks Z.rest
 
   pub laid : AreLaidOut (chunks_of Z.rest.heap.chunks) a.reserved
   laid = subst (λ cs. AreLaidOut cs a.reserved) chunks_here H.laid
@@ -111,10 +111,10 @@ module _ (w : SharedValue) (I : IsSharedValue w) (on : (accounts w).end ≡ None
   names = subst (λ cs. HasNames cs a) chunks_here H.names
 
   pub room : room_of Z.rest.heap ≡ a.room
-  room = sym (room_there Z.rest) ∙ (ap (λ (h : Home). h.room) (sym here) ∙ H.room)
+  room = sym (room_there Z.rest) ∙ (ap (λ (h : Belongings). h.room) (sym here) ∙ H.room)
 
   pub since : Z.rest.heap.since ≡ a.since
-  since = sym (since_there Z.rest) ∙ (ap (λ (h : Home). h.since) (sym here) ∙ H.since)
+  since = sym (since_there Z.rest) ∙ (ap (λ (h : Belongings). h.since) (sym here) ∙ H.since)
 
   counted : IsCounted Z.rest.heap a
   counted = counted_from Z.rest.heap a form names room since laid.reserved
@@ -152,7 +152,7 @@ module _ (w : SharedValue) (I : IsSharedValue w) (on : (accounts w).end ≡ None
         marked e =
             let held = snapshots_are_held w.program w.settings w.journal.items t I.legal Z.wait in
             in_has (marked_of Z.marks) o.at
-            ((marks_are_all v l t (marked_of Z.marks) S.homes rests held.once (λ n j. in_from_contains (held_in a) n (held.held n (contains_from_in a.snapshot n j))) M.0).0 none_left o (object_there o i) (in_from_holds a.snapshot (object_name o) e))
+            ((marks_are_all v l t (marked_of Z.marks) S.belongings rests held.once (λ n j. in_from_contains (held_in a) n (held.held n (contains_from_in a.snapshot n j))) M.0).0 none_left o (object_there o i) (in_from_holds a.snapshot (object_name o) e))
 
     -- and all that was found is marked
     pub done : IsDone Z.marks

@@ -160,7 +160,7 @@ module _ (w : SharedValue) (I : IsSharedValue w) (on : (accounts w).end ≡ None
   ks = (start.Z w I on t free).rest.heap.chunks
 
   pub know : (o : Located) → In (objects_in (chunks_of ks)) o → words_at l.machine (object_name o) ≡ words o
-  know o i = words_same (value_of w) l t ks (start.S w I on t free).homes (start.rests w I on t free) (start.chunks_here w I on t free) o (start.object_there w I on t free o i)
+  know o i = words_same (value_of w) l t ks (start.S w I on t free).belongings (start.rests w I on t free) (start.chunks_here w I on t free) o (start.object_there w I on t free o i)
 
   used : in_use l ≤ 65536
   used =

@@ -15,7 +15,7 @@ use Rattle.core_relation.specs.Stands.{Place}
 use Rattle.core_relation.specs.Memory.{Memory}
 use Rattle.core_relation.specs.Whole.{StandsFor}
 use Rattle.task_homes.specs.declared.task_at_rest.Rest.{Rest}
-use Rattle.shared_value.specs.SharedValue.{SharedValue, accounts, home_in, no_home, noted_in, rest_at, tree_counts_of, value_of}
+use Rattle.shared_value.specs.SharedValue.{SharedValue, accounts, belongings_in, no_belongings, noted_in, rest_at, tree_counts_of, value_of}
 use Rattle.shared_value.specs.Stands.{IsSharedValue}
 use Rattle.shared_value.proofs.BeforeTheEnd.{stands_now}
 use Rattle.heap_marking.specs.MarkCauses.{is_state_waiting, waiting_cause}
@@ -53,9 +53,9 @@ module _ (w : SharedValue) (I : IsSharedValue w) (on : (accounts w).end ≡ None
   -- its home is there
   home_there : (x : Task) → slice_get l.machine.tasks t ≡ Some x → (o : Option Rest) → rest_at w.rests t ≡ o → is_some o ≡ true
   home_there x is (Some r) e = refl
-  home_there x is None e = absurd (by x.status (ap is_waiting (sym is) ∙ wait) (subst (λ z. HoldsRead (Place v l) (home_in z) x x.status) e (S.homes.tasks t x (legal_idle w.program w.settings w.journal.items I.legal on t (waiting_stops (slice_get l.machine.tasks t) wait)) is)))
+  home_there x is None e = absurd (by x.status (ap is_waiting (sym is) ∙ wait) (subst (λ z. HoldsRead (Place v l) (belongings_in z) x x.status) e (S.belongings.tasks t x (legal_idle w.program w.settings w.journal.items I.legal on t (waiting_stops (slice_get l.machine.tasks t) wait)) is)))
     where
-      by : (s : Status) → waits s ≡ true → HoldsRead (Place v l) no_home x s → ⊥
+      by : (s : Status) → waits s ≡ true → HoldsRead (Place v l) no_belongings x s → ⊥
       by Running h r = r
       by Waiting h r = r
       by (Ended k n) h r = absurd cc

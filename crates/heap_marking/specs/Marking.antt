@@ -27,7 +27,7 @@ use Rattle.core_relation.specs.Counts.{IsMarked}
 -- where a marking of the heap of t begins: at an object of it that a register of t names, or to which a remembered
 -- field refers
 abbrev pub IsStart : Memory → Ledger → ℕ → Addr → Type 0
-IsStart v l t a = ((o : Located) × IsAt (v.homes t) a o × ((f : Frame) × In (v.homes t).frames f × In f.refs (Some a))) ⊎ IsRoot v l t a
+IsStart v l t a = ((o : Located) × IsAt (v.belongings t) a o × ((f : Frame) × In (v.belongings t).frames f × In f.refs (Some a))) ⊎ IsRoot v l t a
 
 -- of a task that waits, whose overwritten references are kept, such a marking goes on to just the snapshot
 abbrev pub MarksBegin : Type 0

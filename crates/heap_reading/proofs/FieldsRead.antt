@@ -23,8 +23,8 @@ use Rattle.core_relation.specs.Whole.{handed}
 use Rattle.core_relation.proofs.objects.Members.{map_in}
 use Rattle.task_homes.specs.declared.task_at_rest.Rest.{Rest}
 use Rattle.shared_value.specs.Stands.{IsSharedValue}
-use Rattle.shared_value.specs.SharedValue.{SharedValue, accounts, home_in, noted_in, rest_at, value_of}
-use Rattle.shared_value.proofs.FieldsLed.{home_chunks}
+use Rattle.shared_value.specs.SharedValue.{SharedValue, accounts, belongings_in, noted_in, rest_at, value_of}
+use Rattle.shared_value.proofs.FieldsLed.{belongings_chunks}
 use Rattle.heap_reading.specs.declared.noted.Field.{Field}
 use Rattle.heap_reading.specs.Image.{AreAll, FieldBefore, IsNoted, Rises, field_of}
 
@@ -116,14 +116,14 @@ rises_from (f ∷ fs) up d =
 
 -- OF A SHARED VALUE
 module _ (w : SharedValue) (I : IsSharedValue w) where
-  near_in : (o : Option Rest) (u : ℕ) → rest_at w.rests u ≡ o → (a : Addr) → (q : Located) → In (objects_in (home_in o).chunks) q → q.at ≡ a → a.offset < 1024
+  near_in : (o : Option Rest) (u : ℕ) → rest_at w.rests u ≡ o → (a : Addr) → (q : Located) → In (objects_in (belongings_in o).chunks) q → q.at ≡ a → a.offset < 1024
   near_in None u e a q i at = absurd i
-  near_in (Some r) u e a q i at = subst (λ (z : Addr). z.offset < 1024) at ((I.heaps u r e).near q (subst (λ ks. In (objects_in ks) q) (home_chunks r) i))
+  near_in (Some r) u e a q i at = subst (λ (z : Addr). z.offset < 1024) at ((I.heaps u r e).near q (subst (λ ks. In (objects_in ks) q) (belongings_chunks r) i))
 
   -- words can hold where the objects of remembered fields lie
   pub source_near : (t : ℕ) (s : Source) → In (sources (value_of w) t) s → s.object.offset < 1024
   source_near t s i =
-      let k = I.stands.homes.sources t s i in
+      let k = I.stands.belongings.sources t s i in
       let o = k.place.here k.rests in
       near_in (rest_at w.rests (own (handed (accounts w)) k.name)) (own (handed (accounts w)) k.name) refl s.object o.0 o.1 o.2.at
 

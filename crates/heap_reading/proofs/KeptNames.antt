@@ -1,4 +1,4 @@
--- What the heaps of tasks hold that don't run, as their homes count it.
+-- What the heaps of tasks hold that don't run, as their belongings count it.
 use Rattle.std.proofs.Common.{◌≡◌, ℕ, zero, suc, ◌+◌, ◌-◌, ◌*◌, ◌^◌, ◌<◌, ◌≤◌, ◌==◌, ◌++◌, arith, Bool, true, false, cond, not, Option, Some, None, List, [], ◌∷◌, length, length-append, map, min, is_some, option_map, slice_get, inl, inr, refl, ap, ap₂, sym, subst, ◌∙◌}
 use Rattle.std.specs.List.{flat_map}
 use Rattle.std.proofs.lemmas.Bool.{cases_eq}
@@ -39,11 +39,11 @@ use Rattle.core_relation.specs.Memory.{object_name, objects_in}
 use Rattle.core_relation.specs.Whole.{by_end, handed, state_by, as_node}
 use Rattle.task_homes.specs.declared.task_at_rest.Rest.{Rest}
 use Rattle.shared_value.specs.Objects.{chunk_of, chunks_of}
-use Rattle.shared_value.specs.SharedValue.{SharedValue, accounts, home_in, rest_at, value_of}
+use Rattle.shared_value.specs.SharedValue.{SharedValue, accounts, belongings_in, rest_at, value_of}
 use Rattle.shared_value.specs.Stands.{IsSharedValue}
 use Rattle.shared_value.proofs.HeapWords.{words_are}
 use Rattle.shared_value.proofs.SameLength.{same_length}
-use Rattle.shared_value.proofs.FieldsLed.{home_chunks}
+use Rattle.shared_value.proofs.FieldsLed.{belongings_chunks}
 use Rattle.shared_value.proofs.ObjectCounts.{objects_counted}
 use Rattle.shared_value.proofs.BeforeTheEnd.{goes_by}
 use Rattle.heap_reading.specs.HeldNames.{is_state_running, held_unless_running}
@@ -137,27 +137,27 @@ module _ (w : SharedValue) (I : IsSharedValue w) (t : ℕ) where
     rests = journal_idle w.program w.settings w.journal.items I.form I.legal t idle
 
     V : Stands (value_of w) (handed l)
-    V = I.stands.homes
+    V = I.stands.belongings
 
     kept_is : held_unless_running l t ≡ held_in (heap_of l t)
     kept_is = ap (λ b. cond b [] (held_in (heap_of l t))) idle
 
-    names_are : (ks : List ChunkValue) → ((value_of w).homes t).chunks ≡ chunks_of ks → HasNames (chunks_of ks) (heap_of (handed l) t)
-    names_are ks here = subst (λ cs. HasNames cs (heap_of (handed l) t)) here (V.homes t rests).names
+    names_are : (ks : List ChunkValue) → ((value_of w).belongings t).chunks ≡ chunks_of ks → HasNames (chunks_of ks) (heap_of (handed l) t)
+    names_are ks here = subst (λ cs. HasNames cs (heap_of (handed l) t)) here (V.belongings t rests).names
 
-    many_by : (ks : List ChunkValue) → ((value_of w).homes t).chunks ≡ chunks_of ks → length (objects_in (chunks_of ks)) ≡ length (held_unless_running l t)
+    many_by : (ks : List ChunkValue) → ((value_of w).belongings t).chunks ≡ chunks_of ks → length (objects_in (chunks_of ks)) ≡ length (held_unless_running l t)
     many_by ks here = sym (held_many (heap_of (handed l) t) ks (names_are ks here)) ∙ (ap length (handed_held l t) ∙ ap length (sym kept_is))
 
-    here_by : (o : Option Rest) → rest_at w.rests t ≡ o → ((value_of w).homes t).chunks ≡ (home_in o).chunks
-    here_by o e = ap (λ x. (home_in x).chunks) e
+    here_by : (o : Option Rest) → rest_at w.rests t ≡ o → ((value_of w).belongings t).chunks ≡ (belongings_in o).chunks
+    here_by o e = ap (λ x. (belongings_in x).chunks) e
 
     -- its objects and their words
     pub objects_are : (r : Rest) → rest_at w.rests t ≡ Some r → object_count r.heap.chunks ≡ length (held_unless_running l t)
-    objects_are r there = objects_counted r.heap.chunks (I.heaps t r there).tidy ∙ many_by r.heap.chunks (here_by (Some r) there ∙ home_chunks r)
+    objects_are r there = objects_counted r.heap.chunks (I.heaps t r there).tidy ∙ many_by r.heap.chunks (here_by (Some r) there ∙ belongings_chunks r)
 
     pub words_kept : (r : Rest) → rest_at w.rests t ≡ Some r → held_words r.heap.chunks ≡ words_sum l.machine (held_unless_running l t)
     words_kept r there =
-        sym (words_are (value_of w) (handed l) t r.heap.chunks V rests (here_by (Some r) there ∙ home_chunks r) (I.heaps t r there).tidy)
+        sym (words_are (value_of w) (handed l) t r.heap.chunks V rests (here_by (Some r) there ∙ belongings_chunks r) (I.heaps t r there).tidy)
         ∙ ap₂ (λ (m : State) ns. words_sum m ns) same_machine (handed_held l t ∙ sym kept_is)
 
     -- without a home it holds nothing

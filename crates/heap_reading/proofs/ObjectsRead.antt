@@ -15,8 +15,8 @@ use Rattle.heap_tree.specs.Node.{state_of}
 use Rattle.core_relation.specs.Memory.{In}
 use Rattle.task_homes.specs.declared.task_at_rest.Rest.{Rest}
 use Rattle.shared_value.specs.Objects.{chunk_of, chunks_of}
-use Rattle.shared_value.specs.SharedValue.{SharedValue, home_in, rest_at}
-use Rattle.shared_value.proofs.FieldsLed.{home_chunks}
+use Rattle.shared_value.specs.SharedValue.{SharedValue, belongings_in, rest_at}
+use Rattle.shared_value.proofs.FieldsLed.{belongings_chunks}
 use Rattle.heap_reading.specs.declared.seen.Seen.{Seen as Shown}
 use Rattle.heap_reading.specs.HeldNames.{is_state_running}
 use Rattle.heap_reading.specs.Image.{IsInWords, objects_numbered, objects_of, objects_owned, shown}
@@ -136,5 +136,5 @@ pub resting_objects : (w : SharedValue) (n t : ℕ) (r : Rest) → owner_of w.po
     → objects_of w n ≡ objects_numbered n (chunks_of r.heap.chunks)
 resting_objects w n t r owned idle there =
     ap (objects_owned w n) owned
-    ∙ (ap (λ b. cond b [] (objects_numbered n (home_in (rest_at w.rests t)).chunks)) idle
-    ∙ (ap (λ o. objects_numbered n (home_in o).chunks) there ∙ ap (objects_numbered n) (home_chunks r)))
+    ∙ (ap (λ b. cond b [] (objects_numbered n (belongings_in (rest_at w.rests t)).chunks)) idle
+    ∙ (ap (λ o. objects_numbered n (belongings_in o).chunks) there ∙ ap (objects_numbered n) (belongings_chunks r)))

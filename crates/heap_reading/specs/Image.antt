@@ -66,7 +66,7 @@ objects_numbered number (k ∷ ks) = if k.number == number then k.objects else o
 -- in the heap of a task, unless that runs
 abbrev pub objects_owned : SharedValue → ℕ → Option ℕ → List Located
 objects_owned w number None = []
-objects_owned w number (Some t) = if is_state_running (state_of w.tree t) then [] else objects_numbered number ((value_of w).homes t).chunks
+objects_owned w number (Some t) = if is_state_running (state_of w.tree t) then [] else objects_numbered number ((value_of w).belongings t).chunks
 
 -- in its owner's heap
 abbrev pub objects_of : SharedValue → ℕ → List Located

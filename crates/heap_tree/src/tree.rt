@@ -8,10 +8,10 @@ ghost use Rattle.heap_tree.specs.Node.{root_node, parent_of, state_of, depth_of,
 use crate::entries::Entries;
 use crate::links::{Entry, entry_at};
 use crate::state::State;
-use far_links::{LinkCount, climb, far_below};
+use far_links::{LinkCount, climb, climb_to, far_below};
 use std::alloc::{AllocError, Global};
-use std::marker::{Brand, Model};
-use std::sync::ledger::{Blank, Ledger};
+use std::marker::Model;
+use std::sync::ledger::Ledger;
 
 /// The tasks made so far, each with its parent and its state. The root is task 0.
 #[derive(Drop)]
@@ -123,7 +123,7 @@ impl Tree {
         ensures there { depth_of self.now result ≡ at_depth }
         ensures made { result < length self.now }
     {
-        path_from::<Brand>(self, t, at_depth, Blank::new(1))
+        climb_to(&self.entries, t as usize, at_depth as usize) as u32
     }
 
     /// `path`, which counts the links that it follows. They are no more than three times the logarithm of the
@@ -147,7 +147,9 @@ impl Tree {
         ensures value { result ≡ is_on_path self.now owner reader }
         ensures walk { IsTrue result ↔ IsUpFrom (parent_of self.now) reader owner }
     {
-        on_path_from::<Brand>(self, reader, owner, Blank::new(1))
+        let depth = entry_at(&self.entries, owner as usize).depth;
+        depth <= entry_at(&self.entries, reader as usize).depth
+            && climb_to(&self.entries, reader as usize, depth as usize) == owner as usize
     }
 
     /// `on_path`, which counts the links that it follows. They are no more than three times the logarithm of
@@ -169,33 +171,4 @@ impl Tree {
         depth <= entry_at(&self.entries, reader as usize).depth
             && climb(&self.entries, reader as usize, depth as usize, links) == owner as usize
     }
-}
-
-// `path_counted` from a new count, which is let go.
-fn path_from<L: Ledger>(tree: &Tree, t: u32, at_depth: u32, blank: Blank) -> u32
-    requires name { blank.name ≡ L.name }
-    requires parts { blank.parts ≡ L.parts }
-    requires some { 0 < blank.parts }
-    requires made { t < length tree.now }
-    requires within { at_depth ≤ depth_of tree.now t }
-    ensures up { ancestor (parent_of tree.now) (depth_of tree.now t - at_depth) t ≡ Some result }
-    ensures there { depth_of tree.now result ≡ at_depth }
-    ensures made { result < length tree.now }
-{
-    let mut links = LinkCount::<L>::new(blank);
-    tree.path_counted(t, at_depth, &mut links)
-}
-
-// `on_path_counted` from a new count, which is let go.
-fn on_path_from<L: Ledger>(tree: &Tree, reader: u32, owner: u32, blank: Blank) -> bool
-    requires name { blank.name ≡ L.name }
-    requires parts { blank.parts ≡ L.parts }
-    requires some { 0 < blank.parts }
-    requires reader { reader < length tree.now }
-    requires owner { owner < length tree.now }
-    ensures value { result ≡ is_on_path tree.now owner reader }
-    ensures walk { IsTrue result ↔ IsUpFrom (parent_of tree.now) reader owner }
-{
-    let mut links = LinkCount::<L>::new(blank);
-    tree.on_path_counted(reader, owner, &mut links)
 }

@@ -31,16 +31,16 @@ use Rattle.alloc_path.specs.LeafHeapValue.{LeafHeapValue, IsFresh, added, with_p
 use Rattle.ledger_step_laws.specs.Accounts.{Rests, rested}
 use Rattle.ledger_step_laws.proofs.Ahead.{heap_then, with_at, with_off}
 use Rattle.ledger_step_laws.proofs.Rested.{rested_view}
-use Rattle.core_relation.specs.Memory.{Chunk, Home, In, Memory, object_name, objects, objects_in}
+use Rattle.core_relation.specs.Memory.{Chunk, Belongings, In, Memory, object_name, objects, objects_in}
 use Rattle.core_relation.specs.Layout.{AreLaidOut, reserved_chunks, reserved_units}
-use Rattle.core_relation.specs.Stands.{HasNames, HomeStands, large_chunks}
+use Rattle.core_relation.specs.Stands.{HasNames, BelongingsStand, large_chunks}
 use Rattle.core_relation.specs.Changes.{SameObjects}
 use Rattle.core_relation.specs.Counts.{AsksUnits, CountsGo}
 use Rattle.core_relation.specs.Since.{NotesStay}
 use Rattle.core_relation.specs.Whole.{BegunBy, StandsFor}
-use Rattle.core_relation.specs.Fits.{with_home}
-use Rattle.core_relation.proofs.changes.Alone.{home_kept}
-use Rattle.core_relation.proofs.changes.With.{at_home, off_home}
+use Rattle.core_relation.specs.Fits.{with_belongings}
+use Rattle.core_relation.proofs.changes.Alone.{belongings_kept}
+use Rattle.core_relation.proofs.changes.With.{at_belongings, off_belongings}
 use Rattle.task_machine.specs.declared.part.Private.{Private}
 use Rattle.task_machine.specs.Accounts.{AreReserved, IsCounted}
 use Rattle.task_machine.specs.Fits.{IsShaped}
@@ -49,7 +49,7 @@ use Rattle.shared_value.specs.Objects.{chunk_of, chunks_of}
 use Rattle.shared_value.specs.SharedValue.{SharedValue, accounts, tree_counts_of, value_of}
 use Rattle.shared_value.specs.Measured.{AreMeasured, IsMeasured, KeepsUnits}
 use Rattle.shared_value.specs.Stands.{HeapForm, IsSharedValue}
-use Rattle.shared_value.specs.Fits.{Fits, OthersFit, home_of_part}
+use Rattle.shared_value.specs.Fits.{Fits, OthersFit, belongings_of_part}
 use Rattle.shared_value.specs.Next.{part_asks}
 use Rattle.shared_value.specs.Causes.{need_cause}
 use Rattle.shared_value.specs.Entered.{refused}
@@ -62,7 +62,7 @@ use Rattle.shared_value.proofs.HeapForms.{reserved_none}
 use Rattle.shared_value.proofs.PartFitsMachine as link
 use Rattle.shared_value.proofs.UnitsMeasured.{all_kept, measured_both, measured_new, part_kept, taken_keeps}
 use Rattle.shared_value.proofs.BeforeTheEnd.{stands_now, used_now}
-use Rattle.shared_value.proofs.StepsEntered.{fits_now, home_is, status}
+use Rattle.shared_value.proofs.StepsEntered.{fits_now, belongings_is, status}
 use Rattle.shared_value.proofs.HeapForms.{places_form}
 use Rattle.shared_value.proofs.HeapLaidOut.{some_units}
 use Rattle.leaf_collections.proofs.MoreChunksRead.{units_some, chunk_begun, chunk_held, chunk_large, chunk_since, chunk_with, grown_counted, in_more, large_more, none_in, objects_more}
@@ -238,7 +238,7 @@ module _ (w : SharedValue) (k : ℕ) (p : Private) (I : IsSharedValue w) (F : Fi
 
     objects_same : SameObjects v v' l L
     objects_same = record {
-      home = λ u r. home_kept v v' l L u refl (λ c e. owner_kept c u e) (ap or_fresh (heap_off u (not_t u r))) (ap (λ (m : State). length (row_of (slice_get m.store u))) same_machine) (ap (λ (m : State). is_joined (slice_get m.tasks u)) same_machine) (S.homes.homes u (rested_before u r));
+      belongings = λ u r. belongings_kept v v' l L u refl (λ c e. owner_kept c u e) (ap or_fresh (heap_off u (not_t u r))) (ap (λ (m : State). length (row_of (slice_get m.store u))) same_machine) (ap (λ (m : State). is_joined (slice_get m.tasks u)) same_machine) (S.belongings.belongings u (rested_before u r));
       objects = λ u. refl;
       chunks = λ u e. refl;
       frames = λ u. refl;
@@ -273,19 +273,19 @@ module _ (w : SharedValue) (k : ℕ) (p : Private) (I : IsSharedValue w) (F : Fi
 
     -- ---- THE PART
     abbrev before : Memory
-    before = with_home v t (home_of_part P)
+    before = with_belongings v t (belongings_of_part P)
 
     abbrev after_ : Memory
-    after_ = with_home v' t (home_of_part Q)
+    after_ = with_belongings v' t (belongings_of_part Q)
 
-    here : before.homes t ≡ home_of_part P
-    here = at_home v t (home_of_part P)
+    here : before.belongings t ≡ belongings_of_part P
+    here = at_belongings v t (belongings_of_part P)
 
-    here' : after_.homes t ≡ home_of_part Q
-    here' = at_home v' t (home_of_part Q)
+    here' : after_.belongings t ≡ belongings_of_part Q
+    here' = at_belongings v' t (belongings_of_part Q)
 
-    H : HomeStands before (rested l t) t
-    H = home_is w k P I F on
+    H : BelongingsStand before (rested l t) t
+    H = belongings_is w k P I F on
 
     counted_then : IsCounted g (more there.0)
     counted_then = grown_counted p.heap there.0 F.form.shaped (subst (IsCounted p.heap) (ap or_fresh there.1) (counted_is w k P I F on)) number slots spare words u sized
@@ -298,7 +298,7 @@ module _ (w : SharedValue) (k : ℕ) (p : Private) (I : IsSharedValue w) (F : Fi
         by None q = q
         by (Some i) q =
             let c = link.placed_in p.heap.chunks number i q in
-            let a : v.owner number ≡ Some t = ap v.owner (sym c.2) ∙ H.owned (chunk_of c.0) (subst (λ (z : Home). In z.chunks (chunk_of c.0)) (sym here) (in_map chunk_of p.heap.chunks c.0 c.1)) in
+            let a : v.owner number ≡ Some t = ap v.owner (sym c.2) ∙ H.owned (chunk_of c.0) (subst (λ (z : Belongings). In z.chunks (chunk_of c.0)) (sym here) (in_map chunk_of p.heap.chunks c.0 c.1)) in
             let b = owner_free in
             absurd cc
 
@@ -316,7 +316,7 @@ module _ (w : SharedValue) (k : ℕ) (p : Private) (I : IsSharedValue w) (F : Fi
     shaped_then : IsShaped g
     shaped_then = shape_added p.heap K refl size_least fresh F.form.shaped slots spare
 
-    objects_then : objects_in (home_of_part Q).chunks ≡ objects_in (home_of_part P).chunks
+    objects_then : objects_in (belongings_of_part Q).chunks ≡ objects_in (belongings_of_part P).chunks
     objects_then = ap (λ ks. objects_in (chunks_of ks)) chunks_are ∙ objects_more K refl p.heap.chunks
 
     account_then : heap_of (rested L t) t ≡ let_go (more there.0)
@@ -328,26 +328,26 @@ module _ (w : SharedValue) (k : ℕ) (p : Private) (I : IsSharedValue w) (F : Fi
     counted_rested : IsCounted g (heap_of (rested L t) t)
     counted_rested = subst (IsCounted g) (sym account_then) (record { chunks = counted_then.chunks; large = counted_then.large; last = counted_then.last; last_large = counted_then.last_large; room = counted_then.room; since = counted_then.since; reserved = counted_then.reserved })
 
-    names_then : HasNames (home_of_part Q).chunks (heap_of (rested L t) t)
+    names_then : HasNames (belongings_of_part Q).chunks (heap_of (rested L t) t)
     names_then = record {
       small = small_names g.chunks ∙ counted_rested.chunks;
       large =
           ap (λ ks. map object_name (objects_in (large_chunks (chunks_of ks)))) chunks_are
           ∙ (large_more K refl p.heap.chunks
-          ∙ (ap (λ (z : Home). map object_name (objects_in (large_chunks z.chunks))) (sym here)
+          ∙ (ap (λ (z : Belongings). map object_name (objects_in (large_chunks z.chunks))) (sym here)
           ∙ (H.names.large ∙ (ap (λ (z : Heap). z.large) account_before ∙ (sym (chunk_large words there.0) ∙ ap (λ (z : Heap). z.large) (sym account_then))))));
     }
 
     -- each of its chunks is one of before or the new one
-    chunk_cases : (c : Chunk) → In (after_.homes t).chunks c → In (before.homes t).chunks c ⊎ (chunk_of K ≡ c)
+    chunk_cases : (c : Chunk) → In (after_.belongings t).chunks c → In (before.belongings t).chunks c ⊎ (chunk_of K ≡ c)
     chunk_cases c i =
-        elim (in_more p.heap.chunks K c (subst (λ ks. In (chunks_of ks) c) chunks_are (subst (λ (z : Home). In z.chunks c) here' i))) [
-          | inl j ↦ inl (subst (λ (z : Home). In z.chunks c) (sym here) j)
+        elim (in_more p.heap.chunks K c (subst (λ ks. In (chunks_of ks) c) chunks_are (subst (λ (z : Belongings). In z.chunks c) here' i))) [
+          | inl j ↦ inl (subst (λ (z : Belongings). In z.chunks c) (sym here) j)
           | inr q ↦ inr q
         ]
 
     was : (o : Located) → In (objects after_ t) o → In (objects before t) o
-    was o i = subst (λ (z : Home). In (objects_in z.chunks) o) (sym here) (subst (λ os. In os o) objects_then (subst (λ (z : Home). In (objects_in z.chunks) o) here' i))
+    was o i = subst (λ (z : Belongings). In (objects_in z.chunks) o) (sym here) (subst (λ os. In os o) objects_then (subst (λ (z : Belongings). In (objects_in z.chunks) o) here' i))
 
     abbrev spares : ℕ
     spares = (heap_of (rested l t) t).reserved
@@ -360,11 +360,11 @@ module _ (w : SharedValue) (k : ℕ) (p : Private) (I : IsSharedValue w) (F : Fi
         ap₂ (λ n c. reserved_units n ++ map (λ (c : Chunk). c.units) (reserved_chunks (chunk_of (chunk_with number c) ∷ []))) (ap (λ (z : Heap). z.reserved) account_before) sized
         ∙ (units_more number words there.0 reserved_zero ∙ ap (λ (z : Heap). reserved_units z.reserved) (sym account_then))
 
-    laid_then : AreLaidOut (after_.homes t).chunks spares_then
+    laid_then : AreLaidOut (after_.belongings t).chunks spares_then
     laid_then =
-        subst (λ (z : Home). AreLaidOut z.chunks spares_then) (sym here')
+        subst (λ (z : Belongings). AreLaidOut z.chunks spares_then) (sym here')
         (subst (λ ks. AreLaidOut (chunks_of ks) spares_then) (sym chunks_are)
-        (laid_more K refl p.heap.chunks fresh spares spares_then (subst (λ (z : Home). AreLaidOut z.chunks spares) here H.laid) spare_more))
+        (laid_more K refl p.heap.chunks fresh spares spares_then (subst (λ (z : Belongings). AreLaidOut z.chunks spares) here H.laid) spare_more))
 
     none_reserved : 2 ≤ u → p.heap.reserved ≡ None
     none_reserved two =
@@ -381,12 +381,12 @@ module _ (w : SharedValue) (k : ℕ) (p : Private) (I : IsSharedValue w) (F : Fi
     rested_same : (rested l t).machine ≡ (rested L t).machine
     rested_same = heap_machine l t let_go ∙ (sym same_machine ∙ sym (heap_machine L t let_go))
 
-    home_then : HomeStands after_ (rested L t) t
-    home_then = record {
-      names = subst (λ (z : Home). HasNames z.chunks (heap_of (rested L t) t)) (sym here') names_then;
-      room = ap (λ (z : Home). z.room) here' ∙ counted_rested.room;
-      since = ap (λ (z : Home). z.since) here' ∙ (added_since ∙ (ap (λ (z : Home). z.since) (sym here) ∙ (H.since ∙ (ap (λ (z : Heap). z.since) account_before ∙ (sym (chunk_since words there.0) ∙ ap (λ (z : Heap). z.since) (sym account_then))))));
-      count = λ live. ap (λ (z : Home). z.count) here' ∙ (ap (λ (z : Home). z.count) (sym here) ∙ (H.count (ap (λ (m : State). is_joined (slice_get m.tasks t)) rested_same ∙ live) ∙ ap (λ (m : State). length (row_of (slice_get m.store t))) rested_same));
+    belongings_then : BelongingsStand after_ (rested L t) t
+    belongings_then = record {
+      names = subst (λ (z : Belongings). HasNames z.chunks (heap_of (rested L t) t)) (sym here') names_then;
+      room = ap (λ (z : Belongings). z.room) here' ∙ counted_rested.room;
+      since = ap (λ (z : Belongings). z.since) here' ∙ (added_since ∙ (ap (λ (z : Belongings). z.since) (sym here) ∙ (H.since ∙ (ap (λ (z : Heap). z.since) account_before ∙ (sym (chunk_since words there.0) ∙ ap (λ (z : Heap). z.since) (sym account_then))))));
+      count = λ live. ap (λ (z : Belongings). z.count) here' ∙ (ap (λ (z : Belongings). z.count) (sym here) ∙ (H.count (ap (λ (m : State). is_joined (slice_get m.tasks t)) rested_same ∙ live) ∙ ap (λ (m : State). length (row_of (slice_get m.store t))) rested_same));
       owned = λ c i. elim (chunk_cases c i) [
         | inl q ↦ owner_kept c.number t (H.owned c q)
         | inr q ↦ ap (λ (z : Chunk). v'.owner z.number) (sym q) ∙ owner_new
@@ -409,40 +409,40 @@ module _ (w : SharedValue) (k : ℕ) (p : Private) (I : IsSharedValue w) (F : Fi
 
     part_same : SameObjects before after_ (rested l t) (rested L t)
     part_same = record {
-      home = home_at;
-      objects = λ u. seen (λ (z : Home). objects_in z.chunks) objects_then u;
+      belongings = belongings_at;
+      objects = λ u. seen (λ (z : Belongings). objects_in z.chunks) objects_then u;
       chunks = λ u e. elim (cases_eq u t) [
         | inl q ↦ absurd (both_ways (is_waiting (slice_get l.machine.tasks t)) idle (ap (λ z. is_waiting (slice_get l.machine.tasks z)) (sym q) ∙ (ap (λ (m : State). is_waiting (slice_get m.tasks u)) (sym (heap_machine l t let_go)) ∙ e)))
-        | inr ne ↦ ap (λ (z : Home). length z.chunks) (off_home v' t (home_of_part Q) u ne ∙ sym (off_home v t (home_of_part P) u ne))
+        | inr ne ↦ ap (λ (z : Belongings). length z.chunks) (off_belongings v' t (belongings_of_part Q) u ne ∙ sym (off_belongings v t (belongings_of_part P) u ne))
       ];
-      frames = λ u. seen (λ (z : Home). z.frames) refl u;
-      result = λ u. seen (λ (z : Home). z.result) refl u;
-      view = λ u. seen (λ (z : Home). z.view) refl u;
+      frames = λ u. seen (λ (z : Belongings). z.frames) refl u;
+      result = λ u. seen (λ (z : Belongings). z.result) refl u;
+      view = λ u. seen (λ (z : Belongings). z.view) refl u;
       owner = owner_kept;
       taken = λ c u e. elim (owner_taken c u e) [
         | inl q ↦ inl q
         | inr q ↦ inr (ap (λ (m : State). is_waiting (slice_get m.tasks u)) (heap_machine l t let_go) ∙ q.0, ap (λ (m : State). is_some (slice_get m.tasks u)) (heap_machine l t let_go) ∙ q.1)
       ];
-      begun = λ u e. seen (λ (z : Home). z.begun) refl u;
+      begun = λ u e. seen (λ (z : Belongings). z.begun) refl u;
       sources = λ u. refl;
     }
       where
-        seen : {A : Type 0} (view : Home → A) → view (home_of_part Q) ≡ view (home_of_part P) → (u : ℕ) → view (after_.homes u) ≡ view (before.homes u)
+        seen : {A : Type 0} (view : Belongings → A) → view (belongings_of_part Q) ≡ view (belongings_of_part P) → (u : ℕ) → view (after_.belongings u) ≡ view (before.belongings u)
         seen view e u = elim (cases_eq u t) [
-          | inl q ↦ ap (λ z. view (after_.homes z)) q ∙ (ap view here' ∙ (e ∙ (ap view (sym here) ∙ ap (λ z. view (before.homes z)) (sym q))))
-          | inr ne ↦ ap view (off_home v' t (home_of_part Q) u ne ∙ sym (off_home v t (home_of_part P) u ne))
+          | inl q ↦ ap (λ z. view (after_.belongings z)) q ∙ (ap view here' ∙ (e ∙ (ap view (sym here) ∙ ap (λ z. view (before.belongings z)) (sym q))))
+          | inr ne ↦ ap view (off_belongings v' t (belongings_of_part Q) u ne ∙ sym (off_belongings v t (belongings_of_part P) u ne))
         ]
 
-        home_at : (u : ℕ) → Rests (rested L t) u → HomeStands after_ (rested L t) u
-        home_at u r = elim (cases_eq u t) [
-          | inl q ↦ subst (HomeStands after_ (rested L t)) (sym q) home_then
+        belongings_at : (u : ℕ) → Rests (rested L t) u → BelongingsStand after_ (rested L t) u
+        belongings_at u r = elim (cases_eq u t) [
+          | inl q ↦ subst (BelongingsStand after_ (rested L t)) (sym q) belongings_then
           | inr ne ↦
               let same : heap_of (rested L t) u ≡ heap_of (rested l t) u = ap or_fresh (with_off L t u let_go ne ∙ (heap_off u ne ∙ sym (with_off l t u let_go ne))) in
               let rests : Rests (rested l t) u = ap (λ (z : Heap). z.worker) (sym same) ∙ r in
-              home_kept before after_ (rested l t) (rested L t) u (off_home v' t (home_of_part Q) u ne ∙ sym (off_home v t (home_of_part P) u ne)) (λ c e. owner_kept c u e) same
+              belongings_kept before after_ (rested l t) (rested L t) u (off_belongings v' t (belongings_of_part Q) u ne ∙ sym (off_belongings v t (belongings_of_part P) u ne)) (λ c e. owner_kept c u e) same
               (ap (λ (m : State). length (row_of (slice_get m.store u))) (heap_machine L t let_go ∙ (same_machine ∙ sym (heap_machine l t let_go))))
               (ap (λ (m : State). is_joined (slice_get m.tasks u)) (heap_machine L t let_go ∙ (same_machine ∙ sym (heap_machine l t let_go))))
-              ((fits_now w k P I F on).stands.homes u rests)
+              ((fits_now w k P I F on).stands.belongings u rests)
         ]
 
     none_then : (heap_of (rested L t) t).begun ≡ None
@@ -477,7 +477,7 @@ module _ (w : SharedValue) (k : ℕ) (p : Private) (I : IsSharedValue w) (F : Fi
   ends_so = full_then w k p I F on free words asks full
 
   full_same : SameObjects (value_of w) (value_of w) (accounts w) (after w.program w.settings (accounts w) full_event)
-  full_same = subst (SameObjects (value_of w) (value_of w) (accounts w)) (sym ends_so) (same_value (value_of w) (accounts w) full_ledger refl (λ u. refl) (stands_now w I on).homes.homes)
+  full_same = subst (SameObjects (value_of w) (value_of w) (accounts w)) (sym ends_so) (same_value (value_of w) (accounts w) full_ledger refl (λ u. refl) (stands_now w I on).belongings.belongings)
 
   full_notes : (u : ℕ) → NotesStay (value_of w) (value_of w) u
   full_notes u = record { keeps = refl; kept = refl; marked = refl }
@@ -498,8 +498,8 @@ module _ (w : SharedValue) (k : ℕ) (p : Private) (I : IsSharedValue w) (F : Fi
   pub full_others : OthersFit w ended k
   full_others o q ne G = quiet_others w full_event I free tt (λ u m. m) w.pool full_end j.room full_same full_notes full_counts refl (all_kept w.pool) o q (held_apart w k o (record p { fresh = 0 }) q F G ne) G
 
-  abbrev full_home : Memory
-  full_home = with_home (value_of w) p.task (home_of_part (record p { fresh = 0 }))
+  abbrev full_belongings : Memory
+  full_belongings = with_belongings (value_of w) p.task (belongings_of_part (record p { fresh = 0 }))
 
   heaps_rested : (u : ℕ) → heap_of (rested full_ledger p.task) u ≡ heap_of (rested (accounts w) p.task) u
   heaps_rested u = elim (cases_eq u p.task) [
@@ -521,9 +521,9 @@ module _ (w : SharedValue) (k : ℕ) (p : Private) (I : IsSharedValue w) (F : Fi
   pub full_part : (a b : ℕ) → Fits ended k (record p { fresh = 0; heap = with_places p.heap a b })
   full_part a b =
       quiet_own w full_event I free tt (λ u m. m) w.pool full_end j.room full_same full_notes full_counts refl (all_kept w.pool) k p (with_places p.heap a b) p.begun F (places_form p.heap a b F.form) F.measured
-      (subst (λ (z : Ledger). SameObjects full_home full_home (rested (accounts w) p.task) (rested z p.task)) (sym ends_so)
-      (same_value full_home (rested (accounts w) p.task) (rested full_ledger p.task) (heap_machine full_ledger p.task let_go ∙ sym (heap_machine (accounts w) p.task let_go)) heaps_rested (fits_now w k (record p { fresh = 0 }) I F on).stands.homes))
-      (subst (λ (z : Ledger). BegunBy full_home (rested z p.task) p.task p.begun) (sym ends_so) (subst (λ o. BegunBy full_home (rested full_ledger p.task) p.task o) (sym full_idle) none_full))
+      (subst (λ (z : Ledger). SameObjects full_belongings full_belongings (rested (accounts w) p.task) (rested z p.task)) (sym ends_so)
+      (same_value full_belongings (rested (accounts w) p.task) (rested full_ledger p.task) (heap_machine full_ledger p.task let_go ∙ sym (heap_machine (accounts w) p.task let_go)) heaps_rested (fits_now w k (record p { fresh = 0 }) I F on).stands.belongings))
+      (subst (λ (z : Ledger). BegunBy full_belongings (rested z p.task) p.task p.begun) (sym ends_so) (subst (λ o. BegunBy full_belongings (rested full_ledger p.task) p.task o) (sym full_idle) none_full))
 
 -- ---- AS THE CALL HAS IT
 

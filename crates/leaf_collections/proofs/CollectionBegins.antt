@@ -25,7 +25,7 @@ use Rattle.core_relation.specs.Counts.{CountsGo}
 use Rattle.core_relation.specs.Since.{NotesStay}
 use Rattle.core_relation.specs.Memory.{In, Memory}
 use Rattle.core_relation.specs.Whole.{StandsFor}
-use Rattle.core_relation.proofs.changes.Alone.{home_kept}
+use Rattle.core_relation.proofs.changes.Alone.{belongings_kept}
 use Rattle.task_machine.specs.declared.part.Begun.{Begun}
 use Rattle.task_machine.specs.declared.part.Private.{Private}
 use Rattle.shared_value.specs.SharedValue.{SharedValue, accounts, tree_counts_of, value_of}
@@ -143,7 +143,7 @@ module _ (w : SharedValue) (k : ℕ) (p : Private) (I : IsSharedValue w) (F : Fi
 
     pub same : SameObjects v v' l L
     same = record {
-      home = λ u r. home_kept v v' l L u refl (λ c q. owner_kept c u q) (ap or_fresh (heap_off u (not_t u r))) (ap (λ (m : State). length (row_of (slice_get m.store u))) same_machine) (ap (λ (m : State). is_joined (slice_get m.tasks u)) same_machine) (S.homes.homes u (rested_before u r));
+      belongings = λ u r. belongings_kept v v' l L u refl (λ c q. owner_kept c u q) (ap or_fresh (heap_off u (not_t u r))) (ap (λ (m : State). length (row_of (slice_get m.store u))) same_machine) (ap (λ (m : State). is_joined (slice_get m.tasks u)) same_machine) (S.belongings.belongings u (rested_before u r));
       objects = λ u. refl;
       chunks = λ u e. refl;
       frames = λ u. refl;

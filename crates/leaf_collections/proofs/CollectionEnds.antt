@@ -43,7 +43,7 @@ use Rattle.core_relation.specs.Copies.{CopyFits, EndsAt}
 use Rattle.core_relation.specs.Counts.{CountsGo}
 use Rattle.core_relation.specs.Since.{OthersNotes}
 use Rattle.core_relation.specs.Stands.{IsSource, Place}
-use Rattle.core_relation.specs.Memory.{Chunk, Home, In, Lies, Memory, objects_in, rewritten_home, sources}
+use Rattle.core_relation.specs.Memory.{Chunk, Belongings, In, Lies, Memory, objects_in, rewritten_belongings, sources}
 use Rattle.core_relation.specs.Fits.{Part, part_for}
 use Rattle.core_relation.specs.Whole.{StandsFor, StandsForAll, as_node, by_end}
 use Rattle.core_relation.specs.Worker.{Fits as FitsValue}
@@ -56,10 +56,10 @@ use Rattle.core_entry_laws.proofs.whole.Past.{running_idle}
 use Rattle.task_machine.specs.declared.part.Private.{Private}
 use Rattle.task_homes.specs.declared.task_at_rest.Rest.{Rest}
 use Rattle.shared_value.specs.Objects.{chunk_of, chunks_of}
-use Rattle.shared_value.specs.SharedValue.{SharedValue, accounts, home_in, rest_at, tree_counts_of, value_of}
+use Rattle.shared_value.specs.SharedValue.{SharedValue, accounts, belongings_in, rest_at, tree_counts_of, value_of}
 use Rattle.shared_value.specs.Measured.{KeepsUnits, RestsAreMeasured}
 use Rattle.shared_value.specs.Stands.{IsSharedValue}
-use Rattle.shared_value.specs.Fits.{Fits, OthersFit, home_of_part, part_of}
+use Rattle.shared_value.specs.Fits.{Fits, OthersFit, belongings_of_part, part_of}
 use Rattle.task_homes.specs.HomesValue.{refs_of_rest}
 use Rattle.task_homes.specs.RestingHeaps.{Resting, refs_for, refs_in, with_ref_in}
 use Rattle.shared_value.specs.Roots.{heaps_of, sources_of}
@@ -70,7 +70,7 @@ use Rattle.shared_value.proofs.JournalGoesOn.{legal_then}
 use Rattle.shared_value.proofs.FreeChunks.{refs_long}
 use Rattle.shared_value.proofs.HeldTasks.{fits_held, stands_for_held}
 use Rattle.shared_value.proofs.FieldsNoted.{are_once, fresh_by, noted_sources, owned_before}
-use Rattle.shared_value.proofs.FieldsLed.{AreFormed, Led, SourceThere, home_chunks, lead_all}
+use Rattle.shared_value.proofs.FieldsLed.{AreFormed, Led, SourceThere, belongings_chunks, lead_all}
 use Rattle.shared_value.proofs.UnitsMeasured.{given_keeps, measured_given, measured_kept, part_kept}
 use Rattle.shared_value.proofs.BeforeTheEnd.{stands_now}
 use Rattle.leaf_collections.specs.LeafEnd.{FitsCopied, end_event, ended}
@@ -105,8 +105,8 @@ module _ (w : SharedValue) (k : ℕ) (p : Private) (moved : Moved) (I : IsShared
   going : l.machine.end ≡ None
   going = machine_goes_on w.program w.settings w.journal.items on
 
-  C : CopyFits w.program w.settings t F.home (home_of_part (ended p)) (new_address moved.moved.items) v l
-  C = subst (CopyFits w.program w.settings t F.home (home_of_part (ended p)) (new_address moved.moved.items) v) (aside_is l going) F.copy
+  C : CopyFits w.program w.settings t F.belongings (belongings_of_part (ended p)) (new_address moved.moved.items) v l
+  C = subst (CopyFits w.program w.settings t F.belongings (belongings_of_part (ended p)) (new_address moved.moved.items) v) (aside_is l going) F.copy
 
   S : StandsFor v (tree_counts_of w) l
   S = stands_now w I on
@@ -133,17 +133,17 @@ module _ (w : SharedValue) (k : ℕ) (p : Private) (moved : Moved) (I : IsShared
 
   at : (s : Source) → In ss s → At s
   at s i =
-      let Q : IsSource v l t s = S.homes.sources t s (subst (λ xs. In xs s) (sym sources_are) i) in
-      let lies : Lies (v.homes (own l Q.name)).chunks Q.name s.object = Q.place.here Q.rests in
-      let c = S.homes.contents (own l Q.name) lies.0 Q.rests lies.1 in
+      let Q : IsSource v l t s = S.belongings.sources t s (subst (λ xs. In xs s) (sym sources_are) i) in
+      let lies : Lies (v.belongings (own l Q.name)).chunks Q.name s.object = Q.place.here Q.rests in
+      let c = S.belongings.contents (own l Q.name) lies.0 Q.rests lies.1 in
       let same : Q.object ≡ c.0 = same_Some Q.object c.0 (sym Q.is ∙ (ap (object_at l.machine.store) (sym lies.2.name) ∙ c.1)) in
       let long : length lies.0.refs ≡ length Q.object.refs = refs_long (Place v l) lies.0.refs c.0.refs c.2.refs ∙ ap (λ (z : Object). length z.refs) (sym same) in
       by Q lies.0 lies.2.at long (rest_at w.rests (own l Q.name)) refl lies.1
     where
-      by : (Q : IsSource v l t s) (o : Located) → o.at ≡ s.object → length o.refs ≡ length Q.object.refs → (r : Option Rest) → rest_at w.rests (own l Q.name) ≡ r → In (objects_in (home_in r).chunks) o → At s
+      by : (Q : IsSource v l t s) (o : Located) → o.at ≡ s.object → length o.refs ≡ length Q.object.refs → (r : Option Rest) → rest_at w.rests (own l Q.name) ≡ r → In (objects_in (belongings_in r).chunks) o → At s
       by Q o e long None q j = absurd j
       by Q o e long (Some r) q j =
-          let y = seen_object r.heap.chunks o (I.heaps (own l Q.name) r q).shaped.apart (subst (λ cs. In (objects_in cs) o) (home_chunks r) j) in
+          let y = seen_object r.heap.chunks o (I.heaps (own l Q.name) r q).shaped.apart (subst (λ cs. In (objects_in cs) o) (belongings_chunks r) j) in
           let born : (cell_of r.heap.chunks s.object).mark ≡ Born o.birth = ap (λ z. (cell_of r.heap.chunks z).mark) (sym e) ∙ y.mark in
           let refs : refs_in (heaps_of w) s.object ≡ o.refs =
           ap (λ z. refs_for w.rests z s.object) Q.place.chunk
@@ -163,7 +163,7 @@ module _ (w : SharedValue) (k : ℕ) (p : Private) (moved : Moved) (I : IsShared
   formed = record {
     form = I.heaps;
     measured = λ u r good q. I.measured u r q (unheld_at_rest w u I on good);
-    owned = λ u r good q c i. (S.homes.homes u good).owned (chunk_of c) (subst (λ (h : Home). In h.chunks (chunk_of c)) (sym (ap home_in q)) (subst (λ cs. In cs (chunk_of c)) (sym (home_chunks r)) (in_map chunk_of r.heap.chunks c i)));
+    owned = λ u r good q c i. (S.belongings.belongings u good).owned (chunk_of c) (subst (λ (h : Belongings). In h.chunks (chunk_of c)) (sym (ap belongings_in q)) (subst (λ cs. In cs (chunk_of c)) (sym (belongings_chunks r)) (in_map chunk_of r.heap.chunks c i)));
   }
 
   -- the chunks given back are in use
@@ -195,7 +195,7 @@ module _ (w : SharedValue) (k : ℕ) (p : Private) (moved : Moved) (I : IsShared
 
     -- with what it would be where tasks are held
     abbrev v'' : Memory
-    v'' = record v' { homes = λ u. rewritten_home f (sources v t) (v.homes u) }
+    v'' = record v' { belongings = λ u. rewritten_belongings f (sources v t) (v.belongings u) }
 
     held_then : (heap_of L t).worker ≡ Some k
     held_then = ap (λ o. (or_fresh o).worker) (with_at l t (collected l.machine)) ∙ (by (slice_get l.heaps t) ∙ F.held)
@@ -210,8 +210,8 @@ module _ (w : SharedValue) (k : ℕ) (p : Private) (moved : Moved) (I : IsShared
       | inr ne ↦ ap (λ o. (or_fresh o).worker) (sym (with_off l t u (collected l.machine) ne)) ∙ r
     ]
 
-    same : (u : ℕ) → Rests L u → v'.homes u ≡ v''.homes u
-    same u r = led.homes u (rests_before u r) ∙ ap (λ xs. rewritten_home f xs (v.homes u)) (sym sources_are)
+    same : (u : ℕ) → Rests L u → v'.belongings u ≡ v''.belongings u
+    same u r = led.belongings u (rests_before u r) ∙ ap (λ xs. rewritten_belongings f xs (v.belongings u)) (sym sources_are)
 
     -- WHO OWNS CHUNKS
     back_mine : (c : ChunkValue) → In moved.back.items c → owner_of w.pool c.number ≡ Some t
@@ -232,7 +232,7 @@ module _ (w : SharedValue) (k : ℕ) (p : Private) (moved : Moved) (I : IsShared
     owned : (n u : ℕ) → owner_of pool n ≡ Some u → owner_of w.pool n ≡ Some u
     owned n u o = owned_before w.pool pool moved.back.items n u G.free (G.others n) o
 
-    ends : EndsAt v v'' t (home_of_part (ended p)) f
+    ends : EndsAt v v'' t (belongings_of_part (ended p)) f
     ends = record { others = λ u ne. refl; owners = owners; mine = mine; owned = owned; sources = λ u. refl }
 
     -- NOTES AND COUNTS
@@ -257,7 +257,7 @@ module _ (w : SharedValue) (k : ℕ) (p : Private) (moved : Moved) (I : IsShared
 
     -- WHAT STANDS
     stands_so : StandsForAll v'' (tree_counts_of w') L
-    stands_so = ends_stand_for w.program w.settings w.journal.items I.form I.legal v v'' (tree_counts_of w) (tree_counts_of w') k t moved.taken moved.given moved.left F.home (home_of_part (ended p)) f free I.stands C ends refl notes counts
+    stands_so = ends_stand_for w.program w.settings w.journal.items I.form I.legal v v'' (tree_counts_of w) (tree_counts_of w') k t moved.taken moved.given moved.left F.belongings (belongings_of_part (ended p)) f free I.stands C ends refl notes counts
 
     legal' : is_legal w.program w.settings (w.journal.items ++ e ∷ []) ≡ true
     legal' = legal_then w.program w.settings w.journal.items e I.legal free
@@ -288,7 +288,7 @@ module _ (w : SharedValue) (k : ℕ) (p : Private) (moved : Moved) (I : IsShared
     stands_now_so = subst (λ o. StandsFor v'' (tree_counts_of w') (by_end L o)) on' stands_so
 
     stands_then : StandsForAll v' (tree_counts_of w') L
-    stands_then = subst (λ o. StandsFor v' (tree_counts_of w') (by_end L o)) (sym on') (stands_for_held v'' (λ u. v'.homes u) L same waiters (tree_counts_of w') stands_now_so)
+    stands_then = subst (λ o. StandsFor v' (tree_counts_of w') (by_end L o)) (sym on') (stands_for_held v'' (λ u. v'.belongings u) L same waiters (tree_counts_of w') stands_now_so)
 
     -- THE UNITS
     own_apart : (c : ChunkValue) → In p.heap.chunks c → IsFresh moved.back.items c.number
@@ -305,15 +305,15 @@ module _ (w : SharedValue) (k : ℕ) (p : Private) (moved : Moved) (I : IsShared
 
     -- PARTS
     held_value : (q : Part) → FitsValue w.program w.settings q v'' L → FitsValue w.program w.settings q v' L
-    held_value q fits = fits_held v'' (λ u. v'.homes u) L same w.program w.settings q sound' going' fits
+    held_value q fits = fits_held v'' (λ u. v'.belongings u) L same w.program w.settings q sound' going' fits
 
     pub end_fits : Fits w' k (ended p)
     end_fits = record {
       held = held_on w e I free w.tree pool H'.rests w.sets w.tasks_out w.outputs w.steps w.end room end_world k t refl F.held;
       fits = subst (FitsValue w.program w.settings (part_of w.settings (ended p)) v') (sym accounts')
           (held_value (part_of w.settings (ended p))
-          (subst (λ n. FitsValue w.program w.settings (part_for w.settings t (home_of_part (ended p)) n) v'' L) (sym F.fresh)
-          (ends_fit_then w.program w.settings w.journal.items I.legal v v'' k t moved.taken moved.given moved.left F.home (home_of_part (ended p)) f free C ends refl)));
+          (subst (λ n. FitsValue w.program w.settings (part_for w.settings t (belongings_of_part (ended p)) n) v'' L) (sym F.fresh)
+          (ends_fit_then w.program w.settings w.journal.items I.legal v v'' k t moved.taken moved.given moved.left F.belongings (belongings_of_part (ended p)) f free C ends refl)));
       form = F.form;
       measured = (measured_given w.pool pool moved.back.items t p.heap.chunks G own_apart F.measured, λ n i. absurd i);
       leaf_limit = F.leaf_limit;
@@ -327,7 +327,7 @@ module _ (w : SharedValue) (k : ℕ) (p : Private) (moved : Moved) (I : IsShared
     end_others u q ne Q =
         part_fits w e I free w.tree pool H'.rests w.sets w.tasks_out w.outputs w.steps w.end room end_world u q q refl Q refl refl refl Q.form (part_kept w.pool pool q (units_stay q.task (apart u q ne Q)) Q.measured)
         (held_value (part_of w.settings q)
-        (ends_leave w.program w.settings w.journal.items I.legal v v'' k t moved.taken moved.given moved.left F.home (home_of_part (ended p)) f free C ends (part_of w.settings q)
+        (ends_leave w.program w.settings w.journal.items I.legal v v'' k t moved.taken moved.given moved.left F.belongings (belongings_of_part (ended p)) f free C ends (part_of w.settings q)
         (λ same'. apart u q ne Q (sym same')) Q.fits))
 
   -- AS THE CALL HAS IT

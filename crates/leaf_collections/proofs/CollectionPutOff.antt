@@ -22,19 +22,19 @@ use Rattle.ledger_step_laws.proofs.Ahead.{heap_then, with_at, with_off}
 use Rattle.ledger_step_laws.proofs.Rested.{rested_view}
 use Rattle.core_relation.specs.Changes.{SameObjects}
 use Rattle.core_relation.specs.Counts.{CountsGo}
-use Rattle.core_relation.specs.Fits.{with_home}
+use Rattle.core_relation.specs.Fits.{with_belongings}
 use Rattle.core_relation.specs.Layout.{AreLaidOut}
 use Rattle.core_relation.specs.Since.{NotesStay}
-use Rattle.core_relation.specs.Stands.{HasNames, HomeStands}
+use Rattle.core_relation.specs.Stands.{HasNames, BelongingsStand}
 use Rattle.object_layout.specs.Objects.{Located}
-use Rattle.core_relation.specs.Memory.{Chunk, Home, In, Memory, objects, objects_in}
+use Rattle.core_relation.specs.Memory.{Chunk, Belongings, In, Memory, objects, objects_in}
 use Rattle.core_relation.specs.Whole.{BegunBy, StandsFor}
-use Rattle.core_relation.proofs.changes.Alone.{home_kept}
-use Rattle.core_relation.proofs.changes.With.{at_home, off_home}
+use Rattle.core_relation.proofs.changes.Alone.{belongings_kept}
+use Rattle.core_relation.proofs.changes.With.{at_belongings, off_belongings}
 use Rattle.task_machine.specs.declared.part.Private.{Private}
 use Rattle.shared_value.specs.SharedValue.{SharedValue, accounts, tree_counts_of, value_of}
 use Rattle.shared_value.specs.Stands.{HeapForm, IsSharedValue}
-use Rattle.shared_value.specs.Fits.{Fits, OthersFit, home_of_part}
+use Rattle.shared_value.specs.Fits.{Fits, OthersFit, belongings_of_part}
 use Rattle.shared_value.specs.Causes.{first_cause, or_else}
 use Rattle.shared_value.specs.Due.{due_cause}
 use Rattle.shared_value.specs.Entered.{refused}
@@ -46,7 +46,7 @@ use Rattle.shared_value.proofs.NothingMoves.{quiet_others, quiet_own, quiet_worl
 use Rattle.shared_value.proofs.UnitsMeasured.{all_kept}
 use Rattle.shared_value.proofs.BeforeTheEnd.{stands_now, used_now}
 use Rattle.shared_value.proofs.CausesTold.{on_is, refused_is}
-use Rattle.shared_value.proofs.StepsEntered.{fits_now, home_is}
+use Rattle.shared_value.proofs.StepsEntered.{fits_now, belongings_is}
 use Rattle.leaf_collections.proofs.WhyNotDue.{due_is}
 
 -- WHY IT IS REFUSED
@@ -135,7 +135,7 @@ module _ (w : SharedValue) (k : ℕ) (p : Private) (I : IsSharedValue w) (F : Fi
 
   same : SameObjects v v l L
   same = record {
-    home = λ u r. home_kept v v l L u refl (λ c e. e) (ap or_fresh (heap_off u (not_t u r))) (ap (λ (m : State). length (row_of (slice_get m.store u))) same_machine) (ap (λ (m : State). is_joined (slice_get m.tasks u)) same_machine) (S.homes.homes u (rested_before u r));
+    belongings = λ u r. belongings_kept v v l L u refl (λ c e. e) (ap or_fresh (heap_off u (not_t u r))) (ap (λ (m : State). length (row_of (slice_get m.store u))) same_machine) (ap (λ (m : State). is_joined (slice_get m.tasks u)) same_machine) (S.belongings.belongings u (rested_before u r));
     objects = λ u. refl;
     chunks = λ u e. refl;
     frames = λ u. refl;
@@ -158,82 +158,82 @@ module _ (w : SharedValue) (k : ℕ) (p : Private) (I : IsSharedValue w) (F : Fi
 
   -- THE PART
   abbrev before : Memory
-  before = with_home v t (home_of_part P)
+  before = with_belongings v t (belongings_of_part P)
 
   abbrev after_ : Memory
-  after_ = with_home v t (home_of_part Q)
+  after_ = with_belongings v t (belongings_of_part Q)
 
-  here : before.homes t ≡ home_of_part P
-  here = at_home v t (home_of_part P)
+  here : before.belongings t ≡ belongings_of_part P
+  here = at_belongings v t (belongings_of_part P)
 
-  here' : after_.homes t ≡ home_of_part Q
-  here' = at_home v t (home_of_part Q)
+  here' : after_.belongings t ≡ belongings_of_part Q
+  here' = at_belongings v t (belongings_of_part Q)
 
-  H : HomeStands before (rested l t) t
-  H = home_is w k P I F on
+  H : BelongingsStand before (rested l t) t
+  H = belongings_is w k P I F on
 
   account_same : heap_of (rested L t) t ≡ counted_anew (heap_of (rested l t) t)
   account_same =
       ap or_fresh (with_at L t let_go ∙ ap (heap_then let_go) heap_then_is)
       ∙ ap counted_anew (sym (ap or_fresh (with_at l t let_go ∙ ap (heap_then let_go) there.1)))
 
-  names : HasNames (home_of_part P).chunks (heap_of (rested l t) t)
-  names = subst (λ (z : Home). HasNames z.chunks (heap_of (rested l t) t)) here H.names
+  names : HasNames (belongings_of_part P).chunks (heap_of (rested l t) t)
+  names = subst (λ (z : Belongings). HasNames z.chunks (heap_of (rested l t) t)) here H.names
 
-  was : (c : Chunk) → In (after_.homes t).chunks c → In (before.homes t).chunks c
-  was c i = subst (λ (z : Home). In z.chunks c) (sym here) (subst (λ (z : Home). In z.chunks c) here' i)
+  was : (c : Chunk) → In (after_.belongings t).chunks c → In (before.belongings t).chunks c
+  was c i = subst (λ (z : Belongings). In z.chunks c) (sym here) (subst (λ (z : Belongings). In z.chunks c) here' i)
 
   object_was : (o : Located) → In (objects after_ t) o → In (objects before t) o
-  object_was o i = subst (λ (z : Home). In (objects_in z.chunks) o) (sym here) (subst (λ (z : Home). In (objects_in z.chunks) o) here' i)
+  object_was o i = subst (λ (z : Belongings). In (objects_in z.chunks) o) (sym here) (subst (λ (z : Belongings). In (objects_in z.chunks) o) here' i)
 
   rested_same : (rested l t).machine ≡ (rested L t).machine
   rested_same = heap_machine l t let_go ∙ (sym same_machine ∙ sym (heap_machine L t let_go))
 
-  home_then : HomeStands after_ (rested L t) t
-  home_then = record {
-    names = subst (λ (z : Home). HasNames z.chunks (heap_of (rested L t) t)) (sym here')
-        (subst (HasNames (home_of_part Q).chunks) (sym account_same) (record { small = names.small; large = names.large }));
-    room = ap (λ (z : Home). z.room) here' ∙ (ap (λ (z : Home). z.room) (sym here) ∙ (H.room ∙ sym (ap (λ (z : Heap). z.room) account_same)));
-    since = ap (λ (z : Home). z.since) here' ∙ sym (ap (λ (z : Heap). z.since) account_same);
-    count = λ live. ap (λ (z : Home). z.count) here' ∙ (ap (λ (z : Home). z.count) (sym here) ∙ (H.count (ap (λ (m : State). is_joined (slice_get m.tasks t)) rested_same ∙ live) ∙ ap (λ (m : State). length (row_of (slice_get m.store t))) rested_same));
+  belongings_then : BelongingsStand after_ (rested L t) t
+  belongings_then = record {
+    names = subst (λ (z : Belongings). HasNames z.chunks (heap_of (rested L t) t)) (sym here')
+        (subst (HasNames (belongings_of_part Q).chunks) (sym account_same) (record { small = names.small; large = names.large }));
+    room = ap (λ (z : Belongings). z.room) here' ∙ (ap (λ (z : Belongings). z.room) (sym here) ∙ (H.room ∙ sym (ap (λ (z : Heap). z.room) account_same)));
+    since = ap (λ (z : Belongings). z.since) here' ∙ sym (ap (λ (z : Heap). z.since) account_same);
+    count = λ live. ap (λ (z : Belongings). z.count) here' ∙ (ap (λ (z : Belongings). z.count) (sym here) ∙ (H.count (ap (λ (m : State). is_joined (slice_get m.tasks t)) rested_same ∙ live) ∙ ap (λ (m : State). length (row_of (slice_get m.store t))) rested_same));
     owned = λ c i. H.owned c (was c i);
     inside = λ c o i q. H.inside c o (was c i) q;
     once = λ o q a b e. H.once o q (object_was o a) (object_was q b) e;
     named = λ o q a b e. H.named o q (object_was o a) (object_was q b) e;
-    laid = subst (λ (z : Home). AreLaidOut z.chunks (heap_of (rested L t) t).reserved) (sym here')
-        (subst (λ (z : Heap). AreLaidOut (home_of_part Q).chunks z.reserved) (sym account_same) (subst (λ (z : Home). AreLaidOut z.chunks (heap_of (rested l t) t).reserved) here H.laid));
+    laid = subst (λ (z : Belongings). AreLaidOut z.chunks (heap_of (rested L t) t).reserved) (sym here')
+        (subst (λ (z : Heap). AreLaidOut (belongings_of_part Q).chunks z.reserved) (sym account_same) (subst (λ (z : Belongings). AreLaidOut z.chunks (heap_of (rested l t) t).reserved) here H.laid));
   }
 
   part_same : SameObjects before after_ (rested l t) (rested L t)
   part_same = record {
-    home = home_at;
-    objects = λ u. seen (λ (z : Home). objects_in z.chunks) refl u;
-    chunks = λ u e. seen (λ (z : Home). length z.chunks) refl u;
-    frames = λ u. seen (λ (z : Home). z.frames) refl u;
-    result = λ u. seen (λ (z : Home). z.result) refl u;
-    view = λ u. seen (λ (z : Home). z.view) refl u;
+    belongings = belongings_at;
+    objects = λ u. seen (λ (z : Belongings). objects_in z.chunks) refl u;
+    chunks = λ u e. seen (λ (z : Belongings). length z.chunks) refl u;
+    frames = λ u. seen (λ (z : Belongings). z.frames) refl u;
+    result = λ u. seen (λ (z : Belongings). z.result) refl u;
+    view = λ u. seen (λ (z : Belongings). z.view) refl u;
     owner = λ c u e. e;
     taken = λ c u e. inl e;
-    begun = λ u e. seen (λ (z : Home). z.begun) refl u;
+    begun = λ u e. seen (λ (z : Belongings). z.begun) refl u;
     sources = λ u. refl;
   }
     where
-      seen : {A : Type 0} (view : Home → A) → view (home_of_part Q) ≡ view (home_of_part P) → (u : ℕ) → view (after_.homes u) ≡ view (before.homes u)
+      seen : {A : Type 0} (view : Belongings → A) → view (belongings_of_part Q) ≡ view (belongings_of_part P) → (u : ℕ) → view (after_.belongings u) ≡ view (before.belongings u)
       seen view e u = elim (cases_eq u t) [
-        | inl q ↦ ap (λ z. view (after_.homes z)) q ∙ (ap view here' ∙ (e ∙ (ap view (sym here) ∙ ap (λ z. view (before.homes z)) (sym q))))
-        | inr ne ↦ ap view (off_home v t (home_of_part Q) u ne ∙ sym (off_home v t (home_of_part P) u ne))
+        | inl q ↦ ap (λ z. view (after_.belongings z)) q ∙ (ap view here' ∙ (e ∙ (ap view (sym here) ∙ ap (λ z. view (before.belongings z)) (sym q))))
+        | inr ne ↦ ap view (off_belongings v t (belongings_of_part Q) u ne ∙ sym (off_belongings v t (belongings_of_part P) u ne))
       ]
 
-      home_at : (u : ℕ) → Rests (rested L t) u → HomeStands after_ (rested L t) u
-      home_at u r = elim (cases_eq u t) [
-        | inl q ↦ subst (HomeStands after_ (rested L t)) (sym q) home_then
+      belongings_at : (u : ℕ) → Rests (rested L t) u → BelongingsStand after_ (rested L t) u
+      belongings_at u r = elim (cases_eq u t) [
+        | inl q ↦ subst (BelongingsStand after_ (rested L t)) (sym q) belongings_then
         | inr ne ↦
             let same : heap_of (rested L t) u ≡ heap_of (rested l t) u = ap or_fresh (with_off L t u let_go ne ∙ (heap_off u ne ∙ sym (with_off l t u let_go ne))) in
             let rests : Rests (rested l t) u = ap (λ (z : Heap). z.worker) (sym same) ∙ r in
-            home_kept before after_ (rested l t) (rested L t) u (off_home v t (home_of_part Q) u ne ∙ sym (off_home v t (home_of_part P) u ne)) (λ c e. e) same
+            belongings_kept before after_ (rested l t) (rested L t) u (off_belongings v t (belongings_of_part Q) u ne ∙ sym (off_belongings v t (belongings_of_part P) u ne)) (λ c e. e) same
             (ap (λ (m : State). length (row_of (slice_get m.store u))) (heap_machine L t let_go ∙ (same_machine ∙ sym (heap_machine l t let_go))))
             (ap (λ (m : State). is_joined (slice_get m.tasks u)) (heap_machine L t let_go ∙ (same_machine ∙ sym (heap_machine l t let_go))))
-            ((fits_now w k P I F on).stands.homes u rests)
+            ((fits_now w k P I F on).stands.belongings u rests)
       ]
 
   -- the part is amid no leaf collection

@@ -25,22 +25,22 @@ use Rattle.ledger_step_laws.proofs.Known.{legal_knows}
 use Rattle.ledger_step_laws.proofs.Rested.{rested_sound, rested_view, rested_worker}
 use Rattle.ledger_step_laws.proofs.Wrote.{waits_rest}
 use Rattle.core_relation.specs.Changes.{SameObjects}
-use Rattle.core_relation.specs.Fits.{with_home}
+use Rattle.core_relation.specs.Fits.{with_belongings}
 use Rattle.core_relation.specs.Layout.{AreLaidOut}
-use Rattle.core_relation.specs.Stands.{HasNames, HomeStands}
-use Rattle.core_relation.specs.Memory.{Chunk, Home, In, Memory, objects, objects_in}
+use Rattle.core_relation.specs.Stands.{HasNames, BelongingsStand}
+use Rattle.core_relation.specs.Memory.{Chunk, Belongings, In, Memory, objects, objects_in}
 use Rattle.core_relation.specs.Whole.{BegunStands, Begins}
-use Rattle.core_relation.proofs.changes.Alone.{home_kept}
+use Rattle.core_relation.proofs.changes.Alone.{belongings_kept}
 use Rattle.core_entry_laws.proofs.notes.Begun.{begins}
 use Rattle.core_relation.proofs.objects.Members.{map_in}
-use Rattle.core_relation.proofs.changes.With.{at_home, off_home}
+use Rattle.core_relation.proofs.changes.With.{at_belongings, off_belongings}
 use Rattle.task_machine.specs.declared.part.Begun.{Begun}
 use Rattle.task_machine.specs.declared.part.Private.{Private}
 use Rattle.shared_value.specs.Objects.{chunk_of}
 use Rattle.shared_value.specs.SharedValue.{SharedValue, accounts, value_of}
 use Rattle.shared_value.specs.Measured.{IsMeasured}
 use Rattle.shared_value.specs.Stands.{IsSharedValue}
-use Rattle.shared_value.specs.Fits.{Fits, home_of_part}
+use Rattle.shared_value.specs.Fits.{Fits, belongings_of_part}
 use Rattle.shared_value.specs.Due.{take_by}
 use Rattle.shared_value.specs.Entered.{refused}
 use Rattle.shared_value.specs.Roots.{roots_of}
@@ -51,7 +51,7 @@ use Rattle.shared_value.proofs.FreeChunks.{take_is}
 use Rattle.shared_value.proofs.NothingMoves.{quiet_own}
 use Rattle.shared_value.proofs.PartFitsMachine as link
 use Rattle.shared_value.proofs.UnitsMeasured.{all_taken_units, measured_kept}
-use Rattle.shared_value.proofs.StepsEntered.{fits_now, home_is, status}
+use Rattle.shared_value.proofs.StepsEntered.{fits_now, belongings_is, status}
 use Rattle.shared_value.proofs.RootsByAccounts.{are_roots}
 use Rattle.leaf_collections.proofs.WhyNoCollection.{begin_idle}
 use Rattle.leaf_collections.proofs.CollectionBegins as first
@@ -125,19 +125,19 @@ module _ (w : SharedValue) (k : ℕ) (p : Private) (I : IsSharedValue w) (F : Fi
     were_free = first.were_free w k p I F free pool news slots spare T j
 
     abbrev before : Memory
-    before = with_home v t (home_of_part P)
+    before = with_belongings v t (belongings_of_part P)
 
     abbrev after_ : Memory
-    after_ = with_home v' t (home_of_part Q)
+    after_ = with_belongings v' t (belongings_of_part Q)
 
-    here : before.homes t ≡ home_of_part P
-    here = at_home v t (home_of_part P)
+    here : before.belongings t ≡ belongings_of_part P
+    here = at_belongings v t (belongings_of_part P)
 
-    here' : after_.homes t ≡ home_of_part Q
-    here' = at_home v' t (home_of_part Q)
+    here' : after_.belongings t ≡ belongings_of_part Q
+    here' = at_belongings v' t (belongings_of_part Q)
 
-    H : HomeStands before (rested l t) t
-    H = home_is w k P I F on
+    H : BelongingsStand before (rested l t) t
+    H = belongings_is w k P I F on
 
     account_same : heap_of (rested L t) t ≡ begun_with (heap_of (rested l t) t)
     account_same =
@@ -149,31 +149,31 @@ module _ (w : SharedValue) (k : ℕ) (p : Private) (I : IsSharedValue w) (F : Fi
         rested_view (take_of l.machine) (λ z. refl) l t
         ∙ (take_is w k p I F ∙ (sym T.numbers.count ∙ sym (length_map number_of ks)))
 
-    names : HasNames (home_of_part P).chunks (heap_of (rested l t) t)
-    names = subst (λ (z : Home). HasNames z.chunks (heap_of (rested l t) t)) here H.names
+    names : HasNames (belongings_of_part P).chunks (heap_of (rested l t) t)
+    names = subst (λ (z : Belongings). HasNames z.chunks (heap_of (rested l t) t)) here H.names
 
-    was : (c : Chunk) → In (after_.homes t).chunks c → In (before.homes t).chunks c
-    was c i = subst (λ (z : Home). In z.chunks c) (sym here) (subst (λ (z : Home). In z.chunks c) here' i)
+    was : (c : Chunk) → In (after_.belongings t).chunks c → In (before.belongings t).chunks c
+    was c i = subst (λ (z : Belongings). In z.chunks c) (sym here) (subst (λ (z : Belongings). In z.chunks c) here' i)
 
     object_was : (o : Located) → In (objects after_ t) o → In (objects before t) o
-    object_was o i = subst (λ (z : Home). In (objects_in z.chunks) o) (sym here) (subst (λ (z : Home). In (objects_in z.chunks) o) here' i)
+    object_was o i = subst (λ (z : Belongings). In (objects_in z.chunks) o) (sym here) (subst (λ (z : Belongings). In (objects_in z.chunks) o) here' i)
 
     rested_same : (rested l t).machine ≡ (rested L t).machine
     rested_same = heap_machine l t let_go ∙ (sym same_machine ∙ sym (heap_machine L t let_go))
 
-    home_then : HomeStands after_ (rested L t) t
-    home_then = record {
-      names = subst (λ (z : Home). HasNames z.chunks (heap_of (rested L t) t)) (sym here')
-          (subst (HasNames (home_of_part Q).chunks) (sym account_same) (record { small = names.small; large = names.large }));
-      room = ap (λ (z : Home). z.room) here' ∙ (ap (λ (z : Home). z.room) (sym here) ∙ (H.room ∙ sym (ap (λ (z : Heap). z.room) account_same)));
-      since = ap (λ (z : Home). z.since) here' ∙ (ap (λ (z : Home). z.since) (sym here) ∙ (H.since ∙ sym (ap (λ (z : Heap). z.since) account_same)));
-      count = λ live. ap (λ (z : Home). z.count) here' ∙ (ap (λ (z : Home). z.count) (sym here) ∙ (H.count (ap (λ (m : State). is_joined (slice_get m.tasks t)) rested_same ∙ live) ∙ ap (λ (m : State). length (row_of (slice_get m.store t))) rested_same));
+    belongings_then : BelongingsStand after_ (rested L t) t
+    belongings_then = record {
+      names = subst (λ (z : Belongings). HasNames z.chunks (heap_of (rested L t) t)) (sym here')
+          (subst (HasNames (belongings_of_part Q).chunks) (sym account_same) (record { small = names.small; large = names.large }));
+      room = ap (λ (z : Belongings). z.room) here' ∙ (ap (λ (z : Belongings). z.room) (sym here) ∙ (H.room ∙ sym (ap (λ (z : Heap). z.room) account_same)));
+      since = ap (λ (z : Belongings). z.since) here' ∙ (ap (λ (z : Belongings). z.since) (sym here) ∙ (H.since ∙ sym (ap (λ (z : Heap). z.since) account_same)));
+      count = λ live. ap (λ (z : Belongings). z.count) here' ∙ (ap (λ (z : Belongings). z.count) (sym here) ∙ (H.count (ap (λ (m : State). is_joined (slice_get m.tasks t)) rested_same ∙ live) ∙ ap (λ (m : State). length (row_of (slice_get m.store t))) rested_same));
       owned = λ c i. owner_kept c.number t (H.owned c (was c i));
       inside = λ c o i q. H.inside c o (was c i) q;
       once = λ o q a b z. H.once o q (object_was o a) (object_was q b) z;
       named = λ o q a b z. H.named o q (object_was o a) (object_was q b) z;
-      laid = subst (λ (z : Home). AreLaidOut z.chunks (heap_of (rested L t) t).reserved) (sym here')
-          (subst (λ (z : Heap). AreLaidOut (home_of_part Q).chunks z.reserved) (sym account_same) (subst (λ (z : Home). AreLaidOut z.chunks (heap_of (rested l t) t).reserved) here H.laid));
+      laid = subst (λ (z : Belongings). AreLaidOut z.chunks (heap_of (rested L t) t).reserved) (sym here')
+          (subst (λ (z : Heap). AreLaidOut (belongings_of_part Q).chunks z.reserved) (sym account_same) (subst (λ (z : Belongings). AreLaidOut z.chunks (heap_of (rested l t) t).reserved) here H.laid));
     }
 
     idle_before : (heap_of (rested l t) t).begun ≡ None
@@ -181,12 +181,12 @@ module _ (w : SharedValue) (k : ℕ) (p : Private) (I : IsSharedValue w) (F : Fi
 
     part_same : SameObjects before after_ (rested l t) (rested L t)
     part_same = record {
-      home = home_at;
-      objects = λ u. seen (λ (z : Home). objects_in z.chunks) refl u;
-      chunks = λ u e. seen (λ (z : Home). length z.chunks) refl u;
-      frames = λ u. seen (λ (z : Home). z.frames) refl u;
-      result = λ u. seen (λ (z : Home). z.result) refl u;
-      view = λ u. seen (λ (z : Home). z.view) refl u;
+      belongings = belongings_at;
+      objects = λ u. seen (λ (z : Belongings). objects_in z.chunks) refl u;
+      chunks = λ u e. seen (λ (z : Belongings). length z.chunks) refl u;
+      frames = λ u. seen (λ (z : Belongings). z.frames) refl u;
+      result = λ u. seen (λ (z : Belongings). z.result) refl u;
+      view = λ u. seen (λ (z : Belongings). z.view) refl u;
       owner = owner_kept;
       taken = λ c u q. elim (owner_taken c u q) [
         | inl a ↦ inl a
@@ -196,10 +196,10 @@ module _ (w : SharedValue) (k : ℕ) (p : Private) (I : IsSharedValue w) (F : Fi
       sources = λ u. refl;
     }
       where
-        seen : {A : Type 0} (view : Home → A) → view (home_of_part Q) ≡ view (home_of_part P) → (u : ℕ) → view (after_.homes u) ≡ view (before.homes u)
+        seen : {A : Type 0} (view : Belongings → A) → view (belongings_of_part Q) ≡ view (belongings_of_part P) → (u : ℕ) → view (after_.belongings u) ≡ view (before.belongings u)
         seen view q u = elim (cases_eq u t) [
-          | inl z ↦ ap (λ y. view (after_.homes y)) z ∙ (ap view here' ∙ (q ∙ (ap view (sym here) ∙ ap (λ y. view (before.homes y)) (sym z))))
-          | inr ne ↦ ap view (off_home v' t (home_of_part Q) u ne ∙ sym (off_home v t (home_of_part P) u ne))
+          | inl z ↦ ap (λ y. view (after_.belongings y)) z ∙ (ap view here' ∙ (q ∙ (ap view (sym here) ∙ ap (λ y. view (before.belongings y)) (sym z))))
+          | inr ne ↦ ap view (off_belongings v' t (belongings_of_part Q) u ne ∙ sym (off_belongings v t (belongings_of_part P) u ne))
         ]
 
         none_some : {A : Type 0} (o : Option ℕ) (n : ℕ) → o ≡ None → Some n ≡ o → A
@@ -208,24 +208,24 @@ module _ (w : SharedValue) (k : ℕ) (p : Private) (I : IsSharedValue w) (F : Fi
             by : {A : Type 0} → Some n ≡ None → A
             by z = absurd cc
 
-        begun_at : (u : ℕ) → (heap_of (rested L t) u).begun ≡ (heap_of (rested l t) u).begun → (after_.homes u).begun ≡ (before.homes u).begun
+        begun_at : (u : ℕ) → (heap_of (rested L t) u).begun ≡ (heap_of (rested l t) u).begun → (after_.belongings u).begun ≡ (before.belongings u).begun
         begun_at u q = elim (cases_eq u t) [
           | inl z ↦
               none_some (heap_of (rested l t) t).begun (take_of l.machine (heap_of (rested l t) t)) idle_before
               (sym (ap (λ (y : Heap). y.begun) account_same) ∙ (ap (λ y. (heap_of (rested L t) y).begun) (sym z) ∙ (q ∙ ap (λ y. (heap_of (rested l t) y).begun) z)))
-          | inr ne ↦ ap (λ (y : Home). y.begun) (off_home v' t (home_of_part Q) u ne ∙ sym (off_home v t (home_of_part P) u ne))
+          | inr ne ↦ ap (λ (y : Belongings). y.begun) (off_belongings v' t (belongings_of_part Q) u ne ∙ sym (off_belongings v t (belongings_of_part P) u ne))
         ]
 
-        home_at : (u : ℕ) → Rests (rested L t) u → HomeStands after_ (rested L t) u
-        home_at u r = elim (cases_eq u t) [
-          | inl q ↦ subst (HomeStands after_ (rested L t)) (sym q) home_then
+        belongings_at : (u : ℕ) → Rests (rested L t) u → BelongingsStand after_ (rested L t) u
+        belongings_at u r = elim (cases_eq u t) [
+          | inl q ↦ subst (BelongingsStand after_ (rested L t)) (sym q) belongings_then
           | inr ne ↦
               let same : heap_of (rested L t) u ≡ heap_of (rested l t) u = ap or_fresh (with_off L t u let_go ne ∙ (heap_off u ne ∙ sym (with_off l t u let_go ne))) in
               let rests : Rests (rested l t) u = ap (λ (z : Heap). z.worker) (sym same) ∙ r in
-              home_kept before after_ (rested l t) (rested L t) u (off_home v' t (home_of_part Q) u ne ∙ sym (off_home v t (home_of_part P) u ne)) (λ c q. owner_kept c u q) same
+              belongings_kept before after_ (rested l t) (rested L t) u (off_belongings v' t (belongings_of_part Q) u ne ∙ sym (off_belongings v t (belongings_of_part P) u ne)) (λ c q. owner_kept c u q) same
               (ap (λ (m : State). length (row_of (slice_get m.store u))) (heap_machine L t let_go ∙ (same_machine ∙ sym (heap_machine l t let_go))))
               (ap (λ (m : State). is_joined (slice_get m.tasks u)) (heap_machine L t let_go ∙ (same_machine ∙ sym (heap_machine l t let_go))))
-              ((fits_now w k P I F on).stands.homes u rests)
+              ((fits_now w k P I F on).stands.belongings u rests)
         ]
 
     -- THE COLLECTION
@@ -233,7 +233,7 @@ module _ (w : SharedValue) (k : ℕ) (p : Private) (I : IsSharedValue w) (F : Fi
     new_is n i = map_in number_of ks n i
 
     -- no new chunk is one of the heap's
-    pub new_apart : (n : ℕ) (c : Chunk) → In (map number_of ks) n → In (before.homes t).chunks c → c.number ≡ n → ⊥
+    pub new_apart : (n : ℕ) (c : Chunk) → In (map number_of ks) n → In (before.belongings t).chunks c → c.number ≡ n → ⊥
     new_apart n c i q z =
         let x = new_is n i in
         let a : v.owner n ≡ Some t = ap v.owner (sym z) ∙ H.owned c q in
@@ -242,7 +242,7 @@ module _ (w : SharedValue) (k : ℕ) (p : Private) (I : IsSharedValue w) (F : Fi
 
     begins_so : Begins before after_ (rested l t) (rested L t) t b
     begins_so = record {
-      home = here' ∙ ap (λ (z : Home). record z { begun = Some b }) (sym here);
+      belongings = here' ∙ ap (λ (z : Belongings). record z { begun = Some b }) (sym here);
       heap = account_same ∙ ap₂ (λ n ns. record (heap_of (rested l t) t) { begun = Some n; survivors = ns }) take_rested (sym (within_rested l t t));
       once = distinct_numbers ks T.numbers.numbered.apart;
       owned = λ n i. let x = new_is n i in ap v'.owner (sym x.2) ∙ first.owner_new w k p I F free pool news slots spare T j x.0.number (has_own ks x.0 x.0.number x.1 refl);
@@ -268,4 +268,4 @@ module _ (w : SharedValue) (k : ℕ) (p : Private) (I : IsSharedValue w) (F : Fi
         by None q = q
         by (Some n) q =
             let x = link.placed_in p.heap.chunks c.number n q in
-            absurd (new_apart c.number (chunk_of x.0) (in_map number_of ks c i) (subst (λ (z : Home). In z.chunks (chunk_of x.0)) (sym here) (in_map chunk_of p.heap.chunks x.0 x.1)) x.2)
+            absurd (new_apart c.number (chunk_of x.0) (in_map number_of ks c i) (subst (λ (z : Belongings). In z.chunks (chunk_of x.0)) (sym here) (in_map chunk_of p.heap.chunks x.0 x.1)) x.2)

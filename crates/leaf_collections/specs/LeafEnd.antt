@@ -13,9 +13,9 @@ use Rattle.leaf_copy_gc.specs.Redirected.{new_address}
 use Rattle.inner_mark_gc.specs.Swept.{units_kept}
 use Rattle.ledger_step_laws.specs.Accounts.{aside}
 use Rattle.core_relation.specs.Copies.{CopyFits}
-use Rattle.core_relation.specs.Memory.{Home}
+use Rattle.core_relation.specs.Memory.{Belongings}
 use Rattle.task_machine.specs.declared.part.Private.{Private}
-use Rattle.shared_value.specs.Fits.{home_of_part}
+use Rattle.shared_value.specs.Fits.{belongings_of_part}
 use Rattle.shared_value.specs.Measured.{AreMeasured}
 use Rattle.shared_value.specs.Stands.{HeapForm}
 use Rattle.shared_value.specs.SharedValue.{SharedValue, accounts, value_of}
@@ -37,10 +37,10 @@ pub record AreBack (w : SharedValue) (p : Private) (ks : List ChunkValue) (given
 
 -- the part as it was copied, with what the copying came to
 pub record FitsCopied (w : SharedValue) (worker : ℕ) (p : Private) (moved : Moved) : Type 0 where
-  -- its home before
-  pub home : Home
+  -- its belongings before
+  pub belongings : Belongings
   pub held : (heap_of (accounts w) p.task).worker ≡ Some worker
-  pub copy : CopyFits w.program w.settings p.task home (home_of_part (ended p)) (new_address moved.moved.items) (value_of w) (aside (accounts w))
+  pub copy : CopyFits w.program w.settings p.task belongings (belongings_of_part (ended p)) (new_address moved.moved.items) (value_of w) (aside (accounts w))
   pub form : HeapForm p.heap
   pub measured : AreMeasured w.pool p.task p.heap.chunks
   pub fresh : p.fresh ≡ 0

@@ -18,22 +18,22 @@ use Rattle.listed.proofs.Options.{same_truth}
 module _ (v : Memory) (l : Ledger) (W : Stands v l) where
   -- the second name's owner rests
   module _ (n m : Name) (a b : Addr) (P : Place v l n a) (Q : Place v l m b) (rests : Rests l (own l m)) where
-    there : Lies (v.homes (own l m)).chunks m b
+    there : Lies (v.belongings (own l m)).chunks m b
     there = Q.here rests
 
     -- one address is of one name
     one_name : a ≡ b → n ≡ m
     one_name e =
         let u : own l n ≡ own l m = same_Some (own l n) (own l m) (sym P.chunk ∙ (ap (λ (z : Addr). v.owner z.chunk) e ∙ Q.chunk)) in
-        let x : Lies (v.homes (own l m)).chunks n a = subst (λ z. Lies (v.homes z).chunks n a) u (P.here (subst (Rests l) (sym u) rests)) in
-        let same : x.0 ≡ there.0 = (W.homes (own l m) rests).once x.0 there.0 x.1 there.1 (x.2.at ∙ (e ∙ sym there.2.at)) in
+        let x : Lies (v.belongings (own l m)).chunks n a = subst (λ z. Lies (v.belongings z).chunks n a) u (P.here (subst (Rests l) (sym u) rests)) in
+        let same : x.0 ≡ there.0 = (W.belongings (own l m) rests).once x.0 there.0 x.1 there.1 (x.2.at ∙ (e ∙ sym there.2.at)) in
         sym x.2.name ∙ (ap object_name same ∙ there.2.name)
 
     -- one name lies at one address
     one_place : n ≡ m → a ≡ b
     one_place e =
-        let x : Lies (v.homes (own l m)).chunks m a = subst (λ z. Lies (v.homes (own l z)).chunks z a) e (P.here (subst (λ z. Rests l (own l z)) (sym e) rests)) in
-        let same : x.0 ≡ there.0 = (W.homes (own l m) rests).named x.0 there.0 x.1 there.1 (x.2.name ∙ sym there.2.name) in
+        let x : Lies (v.belongings (own l m)).chunks m a = subst (λ z. Lies (v.belongings (own l z)).chunks z a) e (P.here (subst (λ z. Rests l (own l z)) (sym e) rests)) in
+        let same : x.0 ≡ there.0 = (W.belongings (own l m) rests).named x.0 there.0 x.1 there.1 (x.2.name ∙ sym there.2.name) in
         sym x.2.at ∙ (ap (λ (z : Located). z.at) same ∙ there.2.at)
 
     address_is : same_address a b ≡ true → a ≡ b

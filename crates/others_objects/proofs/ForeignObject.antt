@@ -18,21 +18,21 @@ use Rattle.object_layout.specs.Cell.{Born, Cell}
 use Rattle.object_layout.specs.Chunks.{cell_of}
 use Rattle.object_layout.specs.Objects.{Located}
 use Rattle.ledger_step_laws.specs.Accounts.{Rests, own, rested}
-use Rattle.core_relation.specs.Memory.{Home, In, Lies, Memory, objects, objects_in}
-use Rattle.core_relation.specs.Fits.{with_home}
+use Rattle.core_relation.specs.Memory.{Belongings, In, Lies, Memory, objects, objects_in}
+use Rattle.core_relation.specs.Fits.{with_belongings}
 use Rattle.core_relation.specs.Reads.{AllRead, FrameIsRead, FramesAreRead, HoldsRead, Reads}
 use Rattle.core_relation.specs.Stands.{Place}
 use Rattle.core_relation.proofs.objects.Carry.{field_of}
-use Rattle.core_relation.proofs.changes.With.{at_home}
+use Rattle.core_relation.proofs.changes.With.{at_belongings}
 use Rattle.task_machine.specs.declared.part.Private.{Private}
 use Rattle.task_frames.specs.FramesValue.{int_of, ref_of}
 use Rattle.task_homes.specs.declared.task_at_rest.Rest.{Rest}
 use Rattle.task_homes.specs.declared.task_at_rest.Work.{Work}
 use Rattle.task_homes.specs.declared.task_at_rest.Work.TheVariants.{Calls, Result}
-use Rattle.shared_value.specs.SharedValue.{SharedValue, accounts, frames_down, home_by, home_in, rest_at, value_of}
+use Rattle.shared_value.specs.SharedValue.{SharedValue, accounts, frames_down, belongings_by, belongings_in, rest_at, value_of}
 use Rattle.shared_value.specs.Objects.{chunks_of}
 use Rattle.shared_value.specs.Stands.{IsSharedValue}
-use Rattle.shared_value.specs.Fits.{Fits, home_of_part}
+use Rattle.shared_value.specs.Fits.{Fits, belongings_of_part}
 use Rattle.shared_value.proofs.CellsRead.{seen_object}
 use Rattle.shared_value.proofs.PartFitsMachine as link
 
@@ -44,8 +44,8 @@ reads_name at None (Some m) n h e = absurd h
 reads_name at (Some a) None n h e = absurd h
 reads_name at (Some a) (Some m) n h e = (a, refl, subst (λ z. at z a) (same_Some m n e) h)
 
--- the home of who rests has the chunks of its heap
-rest_chunks : (r : Rest) (x : Work) → (home_by r.heap r.view r.allocations x).chunks ≡ chunks_of r.heap.chunks
+-- the belongings of who rests have the chunks of its heap
+rest_chunks : (r : Rest) (x : Work) → (belongings_by r.heap r.view r.allocations x).chunks ≡ chunks_of r.heap.chunks
 rest_chunks r (Calls s) = refl
 rest_chunks r (Result k b) = refl
 
@@ -75,11 +75,11 @@ module _ (w : SharedValue) (k : ℕ) (p : Private) (I : IsSharedValue w) (F : Fi
   abbrev v : Memory
   v = value_of w
 
-  abbrev h : Home
-  h = home_of_part p
+  abbrev h : Belongings
+  h = belongings_of_part p
 
   abbrev v' : Memory
-  v' = with_home v t h
+  v' = with_belongings v t h
 
   abbrev L : Ledger
   L = rested (task_steps w.program l t p.fresh) t
@@ -87,14 +87,14 @@ module _ (w : SharedValue) (k : ℕ) (p : Private) (I : IsSharedValue w) (F : Fi
   abbrev pub x : Task
   x = (link.A w k p I F on).task
 
-  here : v'.homes t ≡ h
-  here = at_home v t h
+  here : v'.belongings t ≡ h
+  here = at_belongings v t h
 
   -- ITS REGISTERS
   frames : FramesAreRead (Place v' L) (frames_down p.frames) (x.top ∷ x.below)
   frames =
-      subst (λ (z : Home). FramesAreRead (Place v' L) z.frames (x.top ∷ x.below)) here
-      (subst (HoldsRead (Place v' L) (v'.homes t) x) (link.run_status w k p I F on) ((link.W w k p I F on).tasks t x (link.at_rest w k p I F on) (link.is w k p I F on)))
+      subst (λ (z : Belongings). FramesAreRead (Place v' L) z.frames (x.top ∷ x.below)) here
+      (subst (HoldsRead (Place v' L) (v'.belongings t) x) (link.run_status w k p I F on) ((link.W w k p I F on).tasks t x (link.at_rest w k p I F on) (link.is w k p I F on)))
 
   pub frame : FrameIsRead (Place v' L) p.frames.top x.top
   frame = frames.0
@@ -122,16 +122,16 @@ module _ (w : SharedValue) (k : ℕ) (p : Private) (I : IsSharedValue w) (F : Fi
     rests_L : Rests L u
     rests_L = link.rests_then w k p I F on u apart rests
 
-    lies : Lies (home_in (rest_at w.rests u)).chunks n a
-    lies = subst (λ (z : Home). Lies z.chunks n a) (link.off w k p I F on u apart) (P.here rests_L)
+    lies : Lies (belongings_in (rest_at w.rests u)).chunks n a
+    lies = subst (λ (z : Belongings). Lies z.chunks n a) (link.off w k p I F on u apart) (P.here rests_L)
 
-    by : (o : Option Rest) → rest_at w.rests u ≡ o → Lies (home_in o).chunks n a → IsForeign w v' L t n a
+    by : (o : Option Rest) → rest_at w.rests u ≡ o → Lies (belongings_in o).chunks n a → IsForeign w v' L t n a
     by None e y = absurd y.1
     by (Some r) e y =
         let i : In (objects_in (chunks_of r.heap.chunks)) y.0 = subst (λ ks. In (objects_in ks) y.0) (rest_chunks r r.work) y.1 in
         let z = seen_object r.heap.chunks y.0 (I.heaps u r e).shaped.apart i in
         let c : cell_of r.heap.chunks y.0.at ≡ cell_of r.heap.chunks a = ap (cell_of r.heap.chunks) y.2.at in
-        let j : In (objects v' u) y.0 = subst (λ (q : Home). In (objects_in q.chunks) y.0) (sym (link.off w k p I F on u apart)) (subst (λ q. In (objects_in (home_in q).chunks) y.0) (sym e) y.1) in
+        let j : In (objects v' u) y.0 = subst (λ (q : Belongings). In (objects_in q.chunks) y.0) (sym (link.off w k p I F on u apart)) (subst (λ q. In (objects_in (belongings_in q).chunks) y.0) (sym e) y.1) in
         let q = (link.W w k p I F on).contents u y.0 rests_L j in
         record {
           apart = apart;

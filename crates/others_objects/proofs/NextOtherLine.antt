@@ -25,7 +25,7 @@ use Rattle.task_frames.specs.declared.frames.Frame.{Frame}
 use Rattle.write_barrier.specs.Stored.{IsOwned}
 use Rattle.ledger_step_laws.specs.Accounts.{own, rested}
 use Rattle.core_relation.specs.Memory.{Memory}
-use Rattle.core_relation.specs.Fits.{with_home}
+use Rattle.core_relation.specs.Fits.{with_belongings}
 use Rattle.core_relation.specs.Stands.{Place}
 use Rattle.core_relation.proofs.notes.Roots.{name_at}
 use Rattle.task_machine.specs.declared.part.Private.{Private}
@@ -33,7 +33,7 @@ use Rattle.task_frames.specs.FramesValue.{ref_of}
 use Rattle.task_machine.proofs.Owned.{born_is, born_object}
 use Rattle.shared_value.specs.SharedValue.{SharedValue, accounts, rest_at, value_of}
 use Rattle.shared_value.specs.Stands.{IsSharedValue}
-use Rattle.shared_value.specs.Fits.{Fits, home_of_part}
+use Rattle.shared_value.specs.Fits.{Fits, belongings_of_part}
 use Rattle.shared_value.specs.Next.{next_line}
 use Rattle.task_homes.specs.declared.task_at_rest.Rest.{Rest}
 use Rattle.shared_value.proofs.PartFitsMachine as link
@@ -81,7 +81,7 @@ module _ (w : SharedValue) (k : ℕ) (p : Private) (I : IsSharedValue w) (F : Fi
   l = accounts w
 
   abbrev pub v' : Memory
-  v' = with_home (value_of w) t (home_of_part p)
+  v' = with_belongings (value_of w) t (belongings_of_part p)
 
   abbrev pub M : Ledger
   M = task_steps w.program l t p.fresh

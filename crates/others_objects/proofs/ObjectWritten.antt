@@ -19,22 +19,22 @@ use Rattle.task_frames.specs.declared.frames.Frame.{Frame}
 use Rattle.remembered_set.specs.declared.remembered.Source.{Source}
 use Rattle.write_barrier.specs.declared.sets.SetOf.{SetOf}
 use Rattle.ledger_step_laws.specs.Accounts.{Rests, own, rested}
-use Rattle.core_relation.specs.Memory.{Chunk, Home, In, Memory, mapped_chunk, object_name, objects, objects_in, put_at, sources}
+use Rattle.core_relation.specs.Memory.{Chunk, Belongings, In, Memory, mapped_chunk, object_name, objects, objects_in, put_at, sources}
 use Rattle.core_relation.specs.Changes.{WritesAt}
-use Rattle.core_relation.specs.Fits.{with_home}
+use Rattle.core_relation.specs.Fits.{with_belongings}
 use Rattle.core_relation.specs.Layout.{words}
-use Rattle.core_relation.specs.Stands.{HomeStands}
+use Rattle.core_relation.specs.Stands.{BelongingsStand}
 use Rattle.core_relation.proofs.objects.Members.{in_chunk}
-use Rattle.core_relation.proofs.changes.With.{at_home, off_home}
+use Rattle.core_relation.proofs.changes.With.{at_belongings, off_belongings}
 use Rattle.task_machine.specs.declared.part.Private.{Private}
 use Rattle.task_homes.specs.declared.task_at_rest.Rest.{Rest}
 use Rattle.task_homes.specs.declared.task_at_rest.Work.{Work}
 use Rattle.task_homes.specs.declared.task_at_rest.Work.TheVariants.{Calls, Result}
-use Rattle.shared_value.specs.SharedValue.{SharedValue, accounts, home_by, home_in, home_of, no_home, rest_at, value_by, value_of, with_marks}
+use Rattle.shared_value.specs.SharedValue.{SharedValue, accounts, belongings_by, belongings_in, belongings_of, no_belongings, rest_at, value_by, value_of, with_marks}
 use Rattle.shared_value.specs.Objects.{chunks_of}
 use Rattle.shared_value.specs.Measured.{AreMeasured, RestsAreMeasured}
 use Rattle.shared_value.specs.Stands.{HeapForm, IsSharedValue}
-use Rattle.shared_value.specs.Fits.{Fits, home_of_part}
+use Rattle.shared_value.specs.Fits.{Fits, belongings_of_part}
 use Rattle.shared_value.proofs.FieldsLed.{by_chunks}
 use Rattle.shared_value.proofs.CellsRead.{seen_object}
 use Rattle.shared_value.proofs.PartFitsMachine as link
@@ -43,17 +43,17 @@ use Rattle.shared_value.proofs.ObjectRewritten.{chunks_elsewhere, chunks_put, ch
 use Rattle.others_objects.specs.Other.{put_rest}
 use Rattle.others_objects.proofs.ForeignObject.{IsForeign}
 
--- a home whose heap alone changes
-home_written : (h h' : LeafHeapValue) (view : List Level) (count : ℕ) (x : Work) → room_of h' ≡ room_of h → h'.since ≡ h.since → home_by h' view count x ≡ record (home_by h view count x) { chunks = chunks_of h'.chunks }
-home_written h h' view count (Calls s) er es = ap₂ (λ n m. record (home_by h view count (Calls s)) { chunks = chunks_of h'.chunks; room = n; since = m }) er es
-home_written h h' view count (Result k b) er es = ap₂ (λ n m. record (home_by h view count (Result k b)) { chunks = chunks_of h'.chunks; room = n; since = m }) er es
+-- belongings whose heap alone changes
+belongings_written : (h h' : LeafHeapValue) (view : List Level) (count : ℕ) (x : Work) → room_of h' ≡ room_of h → h'.since ≡ h.since → belongings_by h' view count x ≡ record (belongings_by h view count x) { chunks = chunks_of h'.chunks }
+belongings_written h h' view count (Calls s) er es = ap₂ (λ n m. record (belongings_by h view count (Calls s)) { chunks = chunks_of h'.chunks; room = n; since = m }) er es
+belongings_written h h' view count (Result k b) er es = ap₂ (λ n m. record (belongings_by h view count (Result k b)) { chunks = chunks_of h'.chunks; room = n; since = m }) er es
 
--- the homes of the tasks that no worker holds
-abbrev pub resting : Ledger → (ℕ → Home) → ℕ → Home
-resting l hs u = cond (is_none (heap_of l u).worker) (hs u) no_home
+-- the belongings of the tasks that no worker holds
+abbrev pub resting : Ledger → (ℕ → Belongings) → ℕ → Belongings
+resting l hs u = cond (is_none (heap_of l u).worker) (hs u) no_belongings
 
-pub resting_is : (l : Ledger) (hs : ℕ → Home) (u : ℕ) → Rests l u → resting l hs u ≡ hs u
-resting_is l hs u r = cond-true (is_none (heap_of l u).worker) (hs u) no_home (ap is_none r)
+pub resting_is : (l : Ledger) (hs : ℕ → Belongings) (u : ℕ) → Rests l u → resting l hs u ≡ hs u
+resting_is l hs u r = cond-true (is_none (heap_of l u).worker) (hs u) no_belongings (ap is_none r)
 
 module _ (w : SharedValue) (k : ℕ) (p : Private) (I : IsSharedValue w) (F : Fits w k p) (on : (accounts w).end ≡ None) where
   abbrev pub t : ℕ
@@ -62,17 +62,17 @@ module _ (w : SharedValue) (k : ℕ) (p : Private) (I : IsSharedValue w) (F : Fi
   abbrev pub l : Ledger
   l = accounts w
 
-  abbrev pub h : Home
-  h = home_of_part p
+  abbrev pub h : Belongings
+  h = belongings_of_part p
 
   abbrev pub L : Ledger
   L = rested (task_steps w.program l t p.fresh) t
 
-  -- the value without the homes of those that workers hold
+  -- the value without the belongings of those that workers hold
   abbrev pub v0 : Memory
-  v0 = record (value_of w) { homes = resting l (value_of w).homes }
+  v0 = record (value_of w) { belongings = resting l (value_of w).belongings }
 
-  module _ (n : Name) (a : Addr) (O : IsForeign w (with_home (value_of w) t h) L t n a) where
+  module _ (n : Name) (a : Addr) (O : IsForeign w (with_belongings (value_of w) t h) L t n a) where
     abbrev pub u : ℕ
     u = own L n
 
@@ -86,19 +86,19 @@ module _ (w : SharedValue) (k : ℕ) (p : Private) (I : IsSharedValue w) (F : Fi
     owner_apart : (z : ℕ) → (value_of w).owner a.chunk ≡ Some z → z ≡ u
     owner_apart z e = same_Some z u (sym e ∙ O.place.chunk)
 
-    lies_with : (z : ℕ) (hs : Home) → HomeStands (with_home (value_of w) t h) L z → (with_home (value_of w) t h).homes z ≡ hs → (z ≡ u → ⊥) → (o : Located) → In (objects_in hs.chunks) o → o.at ≡ a → ⊥
+    lies_with : (z : ℕ) (hs : Belongings) → BelongingsStand (with_belongings (value_of w) t h) L z → (with_belongings (value_of w) t h).belongings z ≡ hs → (z ≡ u → ⊥) → (o : Located) → In (objects_in hs.chunks) o → o.at ≡ a → ⊥
     lies_with z hs H e ne o i at =
         let x = in_chunk hs.chunks o i in
-        let j : In ((with_home (value_of w) t h).homes z).chunks x.0 = subst (λ (q : Home). In q.chunks x.0) (sym e) x.1 in
+        let j : In ((with_belongings (value_of w) t h).belongings z).chunks x.0 = subst (λ (q : Belongings). In q.chunks x.0) (sym e) x.1 in
         ne (owner_apart z (ap (λ (q : Addr). (value_of w).owner q.chunk) (sym at) ∙ (ap (value_of w).owner (H.inside x.0 o j x.2) ∙ H.owned x.0 j)))
 
     -- neither the task itself has an object there, nor another one that no worker holds
     none_own : (o : Located) → In (objects_in h.chunks) o → o.at ≡ a → ⊥
-    none_own o i at = lies_with t h ((link.W w k p I F on).homes t (link.at_rest w k p I F on)) (at_home (value_of w) t h) (λ e. O.apart (sym e)) o i at
+    none_own o i at = lies_with t h ((link.W w k p I F on).belongings t (link.at_rest w k p I F on)) (at_belongings (value_of w) t h) (λ e. O.apart (sym e)) o i at
 
-    none_other : (z : ℕ) → (z ≡ t → ⊥) → (z ≡ u → ⊥) → Rests l z → (o : Located) → In (objects_in ((value_of w).homes z).chunks) o → o.at ≡ a → ⊥
+    none_other : (z : ℕ) → (z ≡ t → ⊥) → (z ≡ u → ⊥) → Rests l z → (o : Located) → In (objects_in ((value_of w).belongings z).chunks) o → o.at ≡ a → ⊥
     none_other z nt nu rz o i at =
-        lies_with z ((value_of w).homes z) ((link.W w k p I F on).homes z (link.rests_then w k p I F on z nt rz)) (off_home (value_of w) t h z nt) nu o i at
+        lies_with z ((value_of w).belongings z) ((link.W w k p I F on).belongings z (link.rests_then w k p I F on z nt rz)) (off_belongings (value_of w) t h z nt) nu o i at
 
     -- THE OBJECT IS WRITTEN: its cell is d then, and the object as it is read is changed by f
     module _ (d : Cell) (mark : d.mark ≡ c.mark) (size : size_of d ≡ size_of c) (f : Located → Located) (fields : (number at : ℕ) (b : Birth) → with_fields d (located number at b c) ≡ f (located number at b c))
@@ -113,13 +113,13 @@ module _ (w : SharedValue) (k : ℕ) (p : Private) (I : IsSharedValue w) (F : Fi
       v' = with_marks w.marks (value_by rests sets w.pool)
 
       abbrev pub v1 : Memory
-      v1 = record v' { homes = resting l v'.homes }
+      v1 = record v' { belongings = resting l v'.belongings }
 
       abbrev pub q : Private
       q = record p { frames = record { below = p.frames.below; top = top }; fresh = 0 }
 
-      abbrev pub g : Home
-      g = home_of_part q
+      abbrev pub g : Belongings
+      g = belongings_of_part q
 
       form : HeapForm r.heap
       form = I.heaps u r O.there
@@ -149,8 +149,8 @@ module _ (w : SharedValue) (k : ℕ) (p : Private) (I : IsSharedValue w) (F : Fi
         | inr ne ↦ I.measured z s (sym (ap option_flatten (got_other w.rests u z (Some r') ne)) ∙ e) f'
       ]
 
-      -- the home of the object's owner
-      abbrev changed : Home → Home
+      -- the belongings of the object's owner
+      abbrev changed : Belongings → Belongings
       changed x = record x { chunks = map (mapped_chunk (put_at a f)) x.chunks }
 
       chunks_changed : chunks_of r'.heap.chunks ≡ map (mapped_chunk (put_at a f)) (chunks_of r.heap.chunks)
@@ -161,45 +161,45 @@ module _ (w : SharedValue) (k : ℕ) (p : Private) (I : IsSharedValue w) (F : Fi
           let e : o ≡ located o.at.chunk o.at.offset o.birth c = y.is ∙ ap (λ (z : Addr). located o.at.chunk o.at.offset o.birth (cell_of r.heap.chunks z)) at in
           ap (with_fields d) e ∙ (fields o.at.chunk o.at.offset o.birth ∙ ap f (sym e)))
 
-      home_owner : v'.homes u ≡ changed ((value_of w).homes u)
-      home_owner =
-          ap home_in (ap option_flatten (got_same w.rests u (Some r) (Some r') was_there))
-          ∙ (home_written r.heap r'.heap r.view r.allocations r.work (room_written r.heap a d form mark size) refl
-          ∙ (ap (λ (ks : List Chunk). record (home_of r) { chunks = ks }) (chunks_changed ∙ ap (map (mapped_chunk (put_at a f))) (sym (by_chunks r.heap r.view r.allocations r.work)))
-          ∙ ap (λ o. changed (home_in o)) (sym O.there)))
+      belongings_owner : v'.belongings u ≡ changed ((value_of w).belongings u)
+      belongings_owner =
+          ap belongings_in (ap option_flatten (got_same w.rests u (Some r) (Some r') was_there))
+          ∙ (belongings_written r.heap r'.heap r.view r.allocations r.work (room_written r.heap a d form mark size) refl
+          ∙ (ap (λ (ks : List Chunk). record (belongings_of r) { chunks = ks }) (chunks_changed ∙ ap (map (mapped_chunk (put_at a f))) (sym (by_chunks r.heap r.view r.allocations r.work)))
+          ∙ ap (λ o. changed (belongings_in o)) (sym O.there)))
 
-      home_other : (z : ℕ) → (z ≡ t → ⊥) → (z ≡ u → ⊥) → Rests l z → v'.homes z ≡ changed ((value_of w).homes z)
-      home_other z nt nu rz =
-          ap (λ o. home_in (option_flatten o)) (got_other w.rests u z (Some r') nu)
-          ∙ ap (λ (ks : List Chunk). record ((value_of w).homes z) { chunks = ks }) (sym (chunks_elsewhere a f ((value_of w).homes z).chunks (none_other z nt nu rz)))
+      belongings_other : (z : ℕ) → (z ≡ t → ⊥) → (z ≡ u → ⊥) → Rests l z → v'.belongings z ≡ changed ((value_of w).belongings z)
+      belongings_other z nt nu rz =
+          ap (λ o. belongings_in (option_flatten o)) (got_other w.rests u z (Some r') nu)
+          ∙ ap (λ (ks : List Chunk). record ((value_of w).belongings z) { chunks = ks }) (sym (chunks_elsewhere a f ((value_of w).belongings z).chunks (none_other z nt nu rz)))
 
-      home_by_worker : (z : ℕ) → (z ≡ t → ⊥) → (o : Option ℕ) → (heap_of l z).worker ≡ o → cond (is_none o) (v'.homes z) no_home ≡ changed (cond (is_none o) ((value_of w).homes z) no_home)
-      home_by_worker z nt (Some x) e = refl
-      home_by_worker z nt None e = elim (cases_eq z u) [
-        | inl q ↦ subst (λ y. v'.homes y ≡ changed ((value_of w).homes y)) (sym q) home_owner
-        | inr nu ↦ home_other z nt nu e
+      belongings_by_worker : (z : ℕ) → (z ≡ t → ⊥) → (o : Option ℕ) → (heap_of l z).worker ≡ o → cond (is_none o) (v'.belongings z) no_belongings ≡ changed (cond (is_none o) ((value_of w).belongings z) no_belongings)
+      belongings_by_worker z nt (Some x) e = refl
+      belongings_by_worker z nt None e = elim (cases_eq z u) [
+        | inl q ↦ subst (λ y. v'.belongings y ≡ changed ((value_of w).belongings y)) (sym q) belongings_owner
+        | inr nu ↦ belongings_other z nt nu e
       ]
 
       abbrev old : Memory
-      old = with_home v0 t h
+      old = with_belongings v0 t h
 
       abbrev new : Memory
-      new = with_home v1 t g
+      new = with_belongings v1 t g
 
-      pub home_off : (z : ℕ) → (z ≡ t → ⊥) → new.homes z ≡ changed (old.homes z)
-      home_off z nt = off_home v1 t g z nt ∙ (home_by_worker z nt (heap_of l z).worker refl ∙ ap changed (sym (off_home v0 t h z nt)))
+      pub belongings_off : (z : ℕ) → (z ≡ t → ⊥) → new.belongings z ≡ changed (old.belongings z)
+      belongings_off z nt = off_belongings v1 t g z nt ∙ (belongings_by_worker z nt (heap_of l z).worker refl ∙ ap changed (sym (off_belongings v0 t h z nt)))
 
-      pub home_new : new.homes t ≡ g
-      home_new = at_home v1 t g
+      pub belongings_new : new.belongings t ≡ g
+      belongings_new = at_belongings v1 t g
 
-      pub home_old : old.homes t ≡ h
-      home_old = at_home v0 t h
+      pub belongings_old : old.belongings t ≡ h
+      belongings_old = at_belongings v0 t h
 
-      -- what it makes of any home, but for the frames of its own
-      each : {A : Type 0} (look : Home → A) → look g ≡ look (changed h) → (z : ℕ) → look (new.homes z) ≡ look (changed (old.homes z))
+      -- what it makes of any belongings, but for the frames of its own
+      each : {A : Type 0} (look : Belongings → A) → look g ≡ look (changed h) → (z : ℕ) → look (new.belongings z) ≡ look (changed (old.belongings z))
       each look own z = elim (cases_eq z t) [
-        | inl e ↦ ap (λ y. look (new.homes y)) e ∙ (ap look home_new ∙ (own ∙ (ap (λ x. look (changed x)) (sym home_old) ∙ ap (λ y. look (changed (old.homes y))) (sym e))))
-        | inr ne ↦ ap look (home_off z ne)
+        | inl e ↦ ap (λ y. look (new.belongings y)) e ∙ (ap look belongings_new ∙ (own ∙ (ap (λ x. look (changed x)) (sym belongings_old) ∙ ap (λ y. look (changed (old.belongings y))) (sym e))))
+        | inr ne ↦ ap look (belongings_off z ne)
       ]
 
       pub writes : ((o : Located) → object_name (f o) ≡ object_name o) → ((o : Located) → (f o).at ≡ o.at) → ((o : Located) → words (f o) ≡ words o) → ((o : Located) → (f o).mutable ≡ o.mutable) → ((z : ℕ) (s : Source) → In (sources (value_of w) z) s → In (sources v' z) s) → WritesAt old new t a f
@@ -214,29 +214,29 @@ module _ (w : SharedValue) (k : ℕ) (p : Private) (I : IsSharedValue w) (F : Fi
         count = each (λ x. x.count) refl;
         begun = each (λ x. x.begun) refl;
         view = each (λ x. x.view) refl;
-        frames = λ z ne. ap (λ (x : Home). x.frames) (home_off z ne);
-        result = λ z ne. ap (λ (x : Home). x.result) (home_off z ne);
+        frames = λ z ne. ap (λ (x : Belongings). x.frames) (belongings_off z ne);
+        result = λ z ne. ap (λ (x : Belongings). x.result) (belongings_off z ne);
         owner = λ y. refl;
         noted = noted;
       }
 
-      -- THE OBJECT lies in no other home
-      none_by : (z : ℕ) → (z ≡ t → ⊥) → (z ≡ u → ⊥) → (o : Located) → o.at ≡ a → (x : Option ℕ) → (heap_of l z).worker ≡ x → In (objects_in (cond (is_none x) ((value_of w).homes z) no_home).chunks) o → ⊥
+      -- THE OBJECT lies in no other task's heap
+      none_by : (z : ℕ) → (z ≡ t → ⊥) → (z ≡ u → ⊥) → (o : Located) → o.at ≡ a → (x : Option ℕ) → (heap_of l z).worker ≡ x → In (objects_in (cond (is_none x) ((value_of w).belongings z) no_belongings).chunks) o → ⊥
       none_by z nt nu o at (Some y) e j = j
       none_by z nt nu o at None e j = none_other z nt nu e o j at
 
       -- and is read from its cell
       pub read_old : (o : Located) → In (objects old u) o → o.at ≡ a → (b : Birth) × (o ≡ located o.at.chunk o.at.offset b c)
       read_old o i at =
-          let j : In (objects_in (resting l (value_of w).homes u).chunks) o = subst (λ (x : Home). In (objects_in x.chunks) o) (off_home v0 t h u O.apart) i in
-          let k' : In (objects_in (home_in (rest_at w.rests u)).chunks) o = subst (λ (x : Home). In (objects_in x.chunks) o) (resting_is l (value_of w).homes u O.rests) j in
-          let m : In (objects_in (chunks_of r.heap.chunks)) o = subst (λ ks. In (objects_in ks) o) (by_chunks r.heap r.view r.allocations r.work) (subst (λ x. In (objects_in (home_in x).chunks) o) O.there k') in
+          let j : In (objects_in (resting l (value_of w).belongings u).chunks) o = subst (λ (x : Belongings). In (objects_in x.chunks) o) (off_belongings v0 t h u O.apart) i in
+          let k' : In (objects_in (belongings_in (rest_at w.rests u)).chunks) o = subst (λ (x : Belongings). In (objects_in x.chunks) o) (resting_is l (value_of w).belongings u O.rests) j in
+          let m : In (objects_in (chunks_of r.heap.chunks)) o = subst (λ ks. In (objects_in ks) o) (by_chunks r.heap r.view r.allocations r.work) (subst (λ x. In (objects_in (belongings_in x).chunks) o) O.there k') in
           let y = seen_object r.heap.chunks o form.shaped.apart m in
           (o.birth, y.is ∙ ap (λ (z : Addr). located o.at.chunk o.at.offset o.birth (cell_of r.heap.chunks z)) at)
 
       pub there_old : (o : Located) × In (objects old u) o × (o.at ≡ a) × ((b : Birth) × (o ≡ located o.at.chunk o.at.offset b c))
       there_old =
           let x = O.place.here (link.rests_then w k p I F on u O.apart O.rests) in
-          let i : In (objects_in ((value_of w).homes u).chunks) x.0 = subst (λ (y : Home). In (objects_in y.chunks) x.0) (off_home (value_of w) t h u O.apart) x.1 in
-          let j : In (objects old u) x.0 = subst (λ (y : Home). In (objects_in y.chunks) x.0) (sym (off_home v0 t h u O.apart)) (subst (λ (y : Home). In (objects_in y.chunks) x.0) (sym (resting_is l (value_of w).homes u O.rests)) i) in
+          let i : In (objects_in ((value_of w).belongings u).chunks) x.0 = subst (λ (y : Belongings). In (objects_in y.chunks) x.0) (off_belongings (value_of w) t h u O.apart) x.1 in
+          let j : In (objects old u) x.0 = subst (λ (y : Belongings). In (objects_in y.chunks) x.0) (sym (off_belongings v0 t h u O.apart)) (subst (λ (y : Belongings). In (objects_in y.chunks) x.0) (sym (resting_is l (value_of w).belongings u O.rests)) i) in
           (x.0, j, x.2.at, read_old x.0 j x.2.at)

@@ -32,7 +32,7 @@ use Rattle.heap_tree.specs.Node.{is_on_path as tree_path}
 use Rattle.ledger_step_laws.specs.Accounts.{Rests, own, rested}
 use Rattle.ledger_step_laws.specs.Last.{JustReads}
 use Rattle.core_relation.specs.Memory.{In, Memory}
-use Rattle.core_relation.specs.Fits.{with_home}
+use Rattle.core_relation.specs.Fits.{with_belongings}
 use Rattle.core_relation.specs.Reads.{Reads}
 use Rattle.core_relation.specs.Stands.{Place}
 use Rattle.core_relation.proofs.objects.Carry.{field_of}
@@ -40,7 +40,7 @@ use Rattle.task_machine.specs.declared.part.Private.{Private}
 use Rattle.task_frames.specs.FramesValue.{int_of, ref_of}
 use Rattle.shared_value.specs.SharedValue.{SharedValue, accounts, value_of}
 use Rattle.shared_value.specs.Stands.{IsSharedValue}
-use Rattle.shared_value.specs.Fits.{Fits, home_of_part}
+use Rattle.shared_value.specs.Fits.{Fits, belongings_of_part}
 use Rattle.shared_value.proofs.PartFitsMachine as link
 use Rattle.shared_value.proofs.FreeChunks.{refs_long}
 use Rattle.others_objects.specs.declared.other.OtherStep.{OtherStep}
@@ -58,7 +58,7 @@ module _ (w : SharedValue) (k : ℕ) (p : Private) (I : IsSharedValue w) (F : Fi
   l = accounts w
 
   abbrev v' : Memory
-  v' = with_home (value_of w) t (home_of_part p)
+  v' = with_belongings (value_of w) t (belongings_of_part p)
 
   abbrev L : Ledger
   L = rested (task_steps w.program l t p.fresh) t

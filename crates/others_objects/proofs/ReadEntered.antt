@@ -13,7 +13,7 @@ use Rattle.run_ledger.specs.declared.data.Ledger.{Ledger}
 use Rattle.run_ledger.specs.Steps.{task_steps}
 use Rattle.task_frames.specs.declared.frames.Frame.{Frame}
 use Rattle.ledger_step_laws.specs.Last.{Reading, ReadsOther, Runs, Splits, stepped_by}
-use Rattle.core_relation.specs.Memory.{Home, Memory}
+use Rattle.core_relation.specs.Memory.{Belongings, Memory}
 use Rattle.core_relation.specs.Fits.{part_for}
 use Rattle.core_relation.specs.Makes.{StepsTo}
 use Rattle.core_relation.specs.RanCounts.{RanCounts}
@@ -26,7 +26,7 @@ use Rattle.core_entry_laws.proofs.parts.Workers.{ran_leaves}
 use Rattle.task_machine.specs.declared.part.Private.{Private}
 use Rattle.shared_value.specs.SharedValue.{SharedValue, accounts, tree_counts_of, value_of}
 use Rattle.shared_value.specs.Stands.{IsSharedValue}
-use Rattle.shared_value.specs.Fits.{Fits, OthersFit, home_of_part, part_of}
+use Rattle.shared_value.specs.Fits.{Fits, OthersFit, belongings_of_part, part_of}
 use Rattle.shared_value.specs.Entered.{refused}
 use Rattle.shared_value.proofs.EntryMade.{entered, entered_world, held_apart, part_fits}
 use Rattle.shared_value.proofs.BeforeTheEnd.{end_now}
@@ -59,8 +59,8 @@ module _ (w : SharedValue) (k : ℕ) (p : Private) (I : IsSharedValue w) (F : Fi
   abbrev v : Memory
   v = value_of w
 
-  abbrev h : Home
-  h = home_of_part p
+  abbrev h : Belongings
+  h = belongings_of_part p
 
   abbrev S : Splits w.program w.settings l L t p.fresh
   S = last.S w k p I F shared free
@@ -125,14 +125,14 @@ module _ (w : SharedValue) (k : ℕ) (p : Private) (I : IsSharedValue w) (F : Fi
       abbrev q : Private
       q = record p { frames = record { below = p.frames.below; top = g }; fresh = 0 }
 
-      goes_home : StepsTo v L t h (home_of_part q)
-      goes_home =
+      belongings_go_on : StepsTo v L t h (belongings_of_part q)
+      belongings_go_on =
           frames_go w.program w.settings v l L t k p.fresh h E own p.frames.top g p.frames.below top M.machine.outputs R.alone goes_to refl read
 
       pub read_part : Fits w' k q
       read_part =
           part_fits w (last_event k p) I free w.tree w.pool w.rests w.sets w.tasks_out w.outputs steps w.end j.room read_world k p q refl F refl refl refl F.form F.measured
-          (ran_fits_then w.program w.settings v v l L t k p.fresh h (home_of_part q) E own refl goes_home)
+          (ran_fits_then w.program w.settings v v l L t k p.fresh h (belongings_of_part q) E own refl belongings_go_on)
 
       -- THE PARTS OF OTHERS
       pub read_others : OthersFit w w' k

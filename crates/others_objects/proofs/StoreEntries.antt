@@ -21,9 +21,9 @@ use Rattle.write_barrier.specs.declared.sets.SetOf.{SetOf}
 use Rattle.write_barrier.specs.Stored.{IsOwned, content_after, content_at}
 use Rattle.ledger_step_laws.specs.Accounts.{own, rested}
 use Rattle.ledger_step_laws.specs.Last.{JustReads, Splits}
-use Rattle.core_relation.specs.Memory.{Home, Memory}
+use Rattle.core_relation.specs.Memory.{Belongings, Memory}
 use Rattle.core_relation.specs.Changes.{gone_on}
-use Rattle.core_relation.specs.Fits.{with_home}
+use Rattle.core_relation.specs.Fits.{with_belongings}
 use Rattle.core_relation.specs.Makes.{StoresInto}
 use Rattle.core_relation.specs.Since.{StoresNotes}
 use Rattle.core_relation.specs.Stands.{Place}
@@ -33,7 +33,7 @@ use Rattle.task_machine.proofs.Owned.{born_is, born_object}
 use Rattle.task_homes.specs.declared.task_at_rest.Rest.{Rest}
 use Rattle.shared_value.specs.SharedValue.{SharedValue, accounts, rest_at, value_of}
 use Rattle.shared_value.specs.Stands.{IsSharedValue}
-use Rattle.shared_value.specs.Fits.{Fits, home_of_part}
+use Rattle.shared_value.specs.Fits.{Fits, belongings_of_part}
 use Rattle.shared_value.specs.Entered.{refused}
 use Rattle.shared_value.proofs.PartFitsMachine as link
 use Rattle.shared_value.proofs.RootsHeld.{got_index}
@@ -72,8 +72,8 @@ module _ (w : SharedValue) (k : ℕ) (p : Private) (I : IsSharedValue w) (F : Fi
   abbrev pub M : Ledger
   M = task_steps w.program l t p.fresh
 
-  abbrev pub h : Home
-  h = home_of_part p
+  abbrev pub h : Belongings
+  h = belongings_of_part p
 
   abbrev pub free_so : refused w (last_event k p) ≡ None
   free_so = last_free w k p I F shared free
@@ -91,7 +91,7 @@ module _ (w : SharedValue) (k : ℕ) (p : Private) (I : IsSharedValue w) (F : Fi
   owned b u e = made_there w I on u (sym ((link.alone w k p I F on).tree.made u) ∙ (link.W w k p I F on).made b u e)
 
   abbrev pub place : Name → Addr → Type 0
-  place = Place (with_home (value_of w) t h) (rested M t)
+  place = Place (with_belongings (value_of w) t h) (rested M t)
 
   placed : (n : Name) (e : Addr) → place n e → IsOwned (length w.tree) w.pool (Some e)
   placed n e P = (owner_held w.pool e.chunk (own (rested M t) n) P.chunk, λ u q. owned e.chunk u q)
@@ -119,7 +119,7 @@ module _ (w : SharedValue) (k : ℕ) (p : Private) (I : IsSharedValue w) (F : Fi
       pub at : ref_of p.frames.top o ≡ Some a
       pub value : r ≡ ref_of p.frames.top b
       pub not : (f : Frame) → JustReads S.task S.line.instr writes.object f → ⊥
-      pub pack : (y : Object) (v v' : Memory) (C : StoresInto v v' M t h S.task y o j b (flag_of swap)) → StoresNotes (with_home v t h) (with_home v' t C.0) t C.4 C.1 → Made v v' M t h S.task y S.line.instr C.0
+      pub pack : (y : Object) (v v' : Memory) (C : StoresInto v v' M t h S.task y o j b (flag_of swap)) → StoresNotes (with_belongings v t h) (with_belongings v' t C.0) t C.4 C.1 → Made v v' M t h S.task y S.line.instr C.0
 
   store_is : (swap : Option ℕ) (a : Addr) (i : ℕ) (r : Option Addr) → SaysOther w.program (then_places w p) p M.machine t S.task S.line (store_of swap a i r) → IsStoreOf swap a i r
   store_is None a i r s = record {
@@ -152,7 +152,7 @@ module _ (w : SharedValue) (k : ℕ) (p : Private) (I : IsSharedValue w) (F : Fi
     abbrev pub n : Name
     n = store.writes.name
 
-    abbrev pub foreign : IsForeign w (with_home (value_of w) t h) (rested M t) t n a
+    abbrev pub foreign : IsForeign w (with_belongings (value_of w) t h) (rested M t) t n a
     foreign =
         stored.foreign w k p I F shared free_so n store.writes.object store.touches store.writes.is store.writes.frame store.writes.store store.writes.does store.not store.o store.writes.named a store.at
 
@@ -244,7 +244,7 @@ module _ (w : SharedValue) (k : ℕ) (p : Private) (I : IsSharedValue w) (F : Fi
     pub not_number : (f : Frame) → JustReads S.task S.line.instr writes.object f → ⊥
     not_number f q = reads_puti S.task S.line.instr writes.object f said.0 said.1 said.2 said.3 q
 
-    abbrev pub foreign_number : IsForeign w (with_home (value_of w) t h) (rested M t) t n_number a
+    abbrev pub foreign_number : IsForeign w (with_belongings (value_of w) t h) (rested M t) t n_number a
     foreign_number = stored.foreign w k p I F shared free_so writes.name writes.object touches_number writes.is writes.frame writes.store writes.does not_number said.0 writes.named a said.4
 
     abbrev pub owner_number : ℕ

@@ -11,20 +11,20 @@ use Rattle.hh_model.specs.declared.data.Task.{Task}
 use Rattle.hh_model.specs.Effect.{int_in, place_in, ref_in, same_name}
 use Rattle.run_ledger.specs.declared.data.Ledger.{Ledger}
 use Rattle.ledger_step_laws.specs.Last.{JustReads}
-use Rattle.core_relation.specs.Memory.{Home, Memory}
-use Rattle.core_relation.specs.Fits.{with_home}
-use Rattle.core_relation.specs.Makes.{Stores, StoresHome, StoresInto}
+use Rattle.core_relation.specs.Memory.{Belongings, Memory}
+use Rattle.core_relation.specs.Fits.{with_belongings}
+use Rattle.core_relation.specs.Makes.{Stores, BelongingsAfterStore, StoresInto}
 use Rattle.core_relation.specs.Marks.{StoreMarks}
 use Rattle.core_relation.specs.Since.{StoresNotes}
 
 -- a write by its instruction: what it makes of the value, and of what is noted
-abbrev pub Made : (v v' : Memory) (m : Ledger) (t : ℕ) (h : Home) (x : Task) (y : Object) (i : Instr) → Home → Type 0
-Made v v' m t h x y i g = (C : Stores v v' m t h x y i) × StoreMarks v v' m t h x y i C × StoresHome v v' m t h x y i C g
+abbrev pub Made : (v v' : Memory) (m : Ledger) (t : ℕ) (h : Belongings) (x : Task) (y : Object) (i : Instr) → Belongings → Type 0
+Made v v' m t h x y i g = (C : Stores v v' m t h x y i) × StoreMarks v v' m t h x y i C × BelongingsAfterStore v v' m t h x y i C g
 
-pub by_putr : (v v' : Memory) (m : Ledger) (t : ℕ) (h : Home) (x : Task) (y : Object) (i : Instr) (o k b : ℕ) → i ≡ Putr o k b → (C : StoresInto v v' m t h x y o k b None) → StoresNotes (with_home v t h) (with_home v' t C.0) t C.4 C.1 → Made v v' m t h x y i C.0
+pub by_putr : (v v' : Memory) (m : Ledger) (t : ℕ) (h : Belongings) (x : Task) (y : Object) (i : Instr) (o k b : ℕ) → i ≡ Putr o k b → (C : StoresInto v v' m t h x y o k b None) → StoresNotes (with_belongings v t h) (with_belongings v' t C.0) t C.4 C.1 → Made v v' m t h x y i C.0
 by_putr v v' m t h x y i o k b e C N = subst (λ j. Made v v' m t h x y j C.0) (sym e) (C, N, refl)
 
-pub by_cas : (v v' : Memory) (m : Ledger) (t : ℕ) (h : Home) (x : Task) (y : Object) (i : Instr) (d o k e b : ℕ) → i ≡ Cas d o k e b → (C : StoresInto v v' m t h x y o k b (Some (d, pos 1))) → StoresNotes (with_home v t h) (with_home v' t C.0) t C.4 C.1 → Made v v' m t h x y i C.0
+pub by_cas : (v v' : Memory) (m : Ledger) (t : ℕ) (h : Belongings) (x : Task) (y : Object) (i : Instr) (d o k e b : ℕ) → i ≡ Cas d o k e b → (C : StoresInto v v' m t h x y o k b (Some (d, pos 1))) → StoresNotes (with_belongings v t h) (with_belongings v' t C.0) t C.4 C.1 → Made v v' m t h x y i C.0
 by_cas v v' m t h x y i d o k w b e C N = subst (λ j. Made v v' m t h x y j C.0) (sym e) (C, N, refl)
 
 pub reads_putr : (x : Task) (i : Instr) (y : Object) (f : Frame) (o k b : ℕ) → i ≡ Putr o k b → JustReads x i y f → ⊥

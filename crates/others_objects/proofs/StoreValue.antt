@@ -20,10 +20,10 @@ use Rattle.remembered_set.specs.declared.remembered.Source.{Source}
 use Rattle.write_barrier.specs.declared.sets.SetOf.{SetOf}
 use Rattle.write_barrier.specs.Stored.{content_after, content_at}
 use Rattle.ledger_step_laws.specs.Accounts.{own}
-use Rattle.core_relation.specs.Memory.{Home, In, Memory, objects, sources}
+use Rattle.core_relation.specs.Memory.{Belongings, In, Memory, objects, sources}
 use Rattle.core_relation.specs.Changes.{StoresAt, StoresNumberAt, gone_on, with_field, with_number}
 use Rattle.task_frames.specs.FramesValue.{ref_of, int_of}
-use Rattle.core_relation.specs.Fits.{with_home}
+use Rattle.core_relation.specs.Fits.{with_belongings}
 use Rattle.core_relation.specs.Reads.{Reads}
 use Rattle.core_relation.specs.Since.{Keeps, OthersNotes, StoresNotes}
 use Rattle.core_relation.specs.Stands.{Place}
@@ -31,7 +31,7 @@ use Rattle.core_relation.proofs.changes.Store as store
 use Rattle.task_machine.specs.declared.part.Private.{Private}
 use Rattle.shared_value.specs.SharedValue.{SharedValue, accounts, value_of}
 use Rattle.shared_value.specs.Stands.{IsSharedValue}
-use Rattle.shared_value.specs.Fits.{Fits, home_of_part}
+use Rattle.shared_value.specs.Fits.{Fits, belongings_of_part}
 use Rattle.shared_value.proofs.PartFitsMachine as link
 use Rattle.shared_value.proofs.BeforeTheEnd.{stands_now, status}
 use Rattle.others_objects.proofs.ForeignObject.{IsForeign, holds, register_at, x}
@@ -53,8 +53,8 @@ module _ (w : SharedValue) (k : ℕ) (p : Private) (I : IsSharedValue w) (F : Fi
   abbrev l : Ledger
   l = accounts w
 
-  abbrev h : Home
-  h = home_of_part p
+  abbrev h : Belongings
+  h = belongings_of_part p
 
   abbrev L : Ledger
   L = other.L w k p I F on
@@ -84,7 +84,7 @@ module _ (w : SharedValue) (k : ℕ) (p : Private) (I : IsSharedValue w) (F : Fi
       let y : u ≤ a = path_le (parents L.machine.tasks) low a u a back in
       ne (omega (arith, x, y)))
 
-  module _ (n : Name) (a : Addr) (O : IsForeign w (with_home (value_of w) t h) L t n a) (o : ℕ) (held : ref_in X.top o ≡ Some n) (at_a : ref_of p.frames.top o ≡ Some a) where
+  module _ (n : Name) (a : Addr) (O : IsForeign w (with_belongings (value_of w) t h) L t n a) (o : ℕ) (held : ref_in X.top o ≡ Some n) (at_a : ref_of p.frames.top o ≡ Some a) where
     abbrev c : Cell
     c = other.c w k p I F on n a O
 
@@ -108,23 +108,23 @@ module _ (w : SharedValue) (k : ℕ) (p : Private) (I : IsSharedValue w) (F : Fi
       f = with_field i value
 
       abbrev old : Memory
-      old = with_home v0 t h
+      old = with_belongings v0 t h
 
       abbrev v1 : Memory
       v1 = other.v1 w k p I F on n a O d refl size f (λ number at birth. refl) sets top
 
-      abbrev g : Home
+      abbrev g : Belongings
       g = other.g w k p I F on n a O d refl size f (λ number at birth. refl) sets top
 
       abbrev new : Memory
-      new = with_home v1 t g
+      new = with_belongings v1 t g
 
       fields_of : (s : Located) → length (f s).refs ≡ length s.refs
       fields_of s = length-set s.refs i value
 
       down : (e : Addr) (y z : ℕ) → ref_of p.frames.top b ≡ Some e → v0.owner a.chunk ≡ Some y → v0.owner e.chunk ≡ Some z → is_on_path L.machine.tasks z y ≡ false → In (sources new z) (record { object = a; field = i })
       down e y z er ea ee off =
-          let r = reads_address (Place (with_home (value_of w) t h) L) (ref_of p.frames.top b) (ref_in X.top b) e (register_at w k p I F on b) er in
+          let r = reads_address (Place (with_belongings (value_of w) t h) L) (ref_of p.frames.top b) (ref_in X.top b) e (register_at w k p I F on b) er in
           let yn : y ≡ u = same_Some y u (sym ea ∙ O.place.chunk) in
           let zr : z ≡ own L r.0 = same_Some z (own L r.0) (sym ee ∙ r.2.chunk) in
           let off' : is_on_path L.machine.tasks (own L r.0) u ≡ false = ap₂ (is_on_path L.machine.tasks) (sym zr) (sym yn) ∙ off in
@@ -142,8 +142,8 @@ module _ (w : SharedValue) (k : ℕ) (p : Private) (I : IsSharedValue w) (F : Fi
 
       pub stores_at : StoresAt old new L t p.frames.top p.frames.below a b i swap
       stores_at = record {
-        frames = ap (λ (y : Home). y.frames) (other.home_old w k p I F on n a O d refl size f (λ number at birth. refl) sets top);
-        goes = ap (λ (y : Home). y.frames) (other.home_new w k p I F on n a O d refl size f (λ number at birth. refl) sets top) ∙ ap (λ (y : Frame). y ∷ p.frames.below) goes;
+        frames = ap (λ (y : Belongings). y.frames) (other.belongings_old w k p I F on n a O d refl size f (λ number at birth. refl) sets top);
+        goes = ap (λ (y : Belongings). y.frames) (other.belongings_new w k p I F on n a O d refl size f (λ number at birth. refl) sets top) ∙ ap (λ (y : Frame). y ∷ p.frames.below) goes;
         writes = other.writes w k p I F on n a O d refl size f (λ number at birth. refl) sets top (λ s. refl) (λ s. refl) (λ s. ap (λ m. 2 + m + length s.ints) (fields_of s)) (λ s. refl)
             (λ z s j. noting.sources_grow w.tree w.pool w.sets sets a i overwritten value u O.place.chunk C z s j);
         down = down;
@@ -193,15 +193,15 @@ module _ (w : SharedValue) (k : ℕ) (p : Private) (I : IsSharedValue w) (F : Fi
       f_number = with_number i number
 
       abbrev new_number : Memory
-      new_number = with_home (other.v1 w k p I F on n a O d_number refl size_number f_number (λ number at birth. refl) w.sets top) t (other.g w k p I F on n a O d_number refl size_number f_number (λ number at birth. refl) w.sets top)
+      new_number = with_belongings (other.v1 w k p I F on n a O d_number refl size_number f_number (λ number at birth. refl) w.sets top) t (other.g w k p I F on n a O d_number refl size_number f_number (λ number at birth. refl) w.sets top)
 
-      pub stores_number : StoresNumberAt (with_home v0 t h) new_number t p.frames.top p.frames.below a b i
+      pub stores_number : StoresNumberAt (with_belongings v0 t h) new_number t p.frames.top p.frames.below a b i
       stores_number = record {
-        frames = ap (λ (y : Home). y.frames) (other.home_old w k p I F on n a O d_number refl size_number f_number (λ number at birth. refl) w.sets top);
-        goes = ap (λ (y : Home). y.frames) (other.home_new w k p I F on n a O d_number refl size_number f_number (λ number at birth. refl) w.sets top) ∙ ap (λ (y : Frame). y ∷ p.frames.below) goes;
+        frames = ap (λ (y : Belongings). y.frames) (other.belongings_old w k p I F on n a O d_number refl size_number f_number (λ number at birth. refl) w.sets top);
+        goes = ap (λ (y : Belongings). y.frames) (other.belongings_new w k p I F on n a O d_number refl size_number f_number (λ number at birth. refl) w.sets top) ∙ ap (λ (y : Frame). y ∷ p.frames.below) goes;
         writes = other.writes w k p I F on n a O d_number refl size_number f_number (λ number at birth. refl) w.sets top (λ s. refl) (λ s. refl) (λ s. ap (λ m. 2 + length s.refs + m) (length-set s.ints i number)) (λ s. refl) (λ z s j. j);
         only = λ z s j. j;
       }
 
-      pub number_notes : OthersNotes (with_home v0 t h) new_number t
+      pub number_notes : OthersNotes (with_belongings v0 t h) new_number t
       number_notes = record { none = none_kept; others = λ z ne. record { keeps = refl; kept = refl; marked = refl } }

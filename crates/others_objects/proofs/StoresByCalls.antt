@@ -26,9 +26,9 @@ use Rattle.write_barrier.specs.declared.sets.SetOf.{SetOf}
 use Rattle.write_barrier.specs.Stored.{content_after, content_at}
 use Rattle.ledger_step_laws.specs.Accounts.{own, rested}
 use Rattle.ledger_step_laws.specs.Last.{JustReads, Splits, WritesOther}
-use Rattle.core_relation.specs.Memory.{Home, Memory}
+use Rattle.core_relation.specs.Memory.{Belongings, Memory}
 use Rattle.core_relation.specs.Changes.{StoresAt, gone_on, with_field, with_number as number_field}
-use Rattle.core_relation.specs.Fits.{with_home}
+use Rattle.core_relation.specs.Fits.{with_belongings}
 use Rattle.core_relation.specs.Makes.{StoresInto}
 use Rattle.core_relation.specs.Since.{StoresNotes}
 use Rattle.task_machine.specs.declared.part.Private.{Private}
@@ -37,7 +37,7 @@ use Rattle.task_machine.proofs.Owned.{born_object}
 use Rattle.task_homes.specs.declared.task_at_rest.Rest.{Rest}
 use Rattle.shared_value.specs.SharedValue.{SharedValue, accounts, value_of}
 use Rattle.shared_value.specs.Stands.{IsSharedValue}
-use Rattle.shared_value.specs.Fits.{Fits, OthersFit, home_of_part}
+use Rattle.shared_value.specs.Fits.{Fits, OthersFit, belongings_of_part}
 use Rattle.shared_value.specs.Entered.{refused}
 use Rattle.shared_value.proofs.PartFitsMachine as link
 use Rattle.shared_value.proofs.FreeChunks.{refs_long}
@@ -66,8 +66,8 @@ module _ (w : SharedValue) (k : ℕ) (p : Private) (I : IsSharedValue w) (F : Fi
   abbrev pub L : Ledger
   L = last.L w k p I F shared free
 
-  abbrev pub h : Home
-  h = home_of_part p
+  abbrev pub h : Belongings
+  h = belongings_of_part p
 
   abbrev pub S : Splits w.program w.settings l L t p.fresh
   S = last.S w k p I F shared free
@@ -124,10 +124,10 @@ module _ (w : SharedValue) (k : ℕ) (p : Private) (I : IsSharedValue w) (F : Fi
       pub held : ref_in X.top o ≡ Some n
       held = ap (λ (q : Task). ref_in q.top o) task_is ∙ named
 
-      pub foreign : IsForeign w (with_home (value_of w) t h) (rested M t) t n a
+      pub foreign : IsForeign w (with_belongings (value_of w) t h) (rested M t) t n a
       foreign =
           let r = in_register w k p I F on o n held apart in
-          subst (IsForeign w (with_home (value_of w) t h) (rested M t) t n) (same_Some r.0 a (sym r.1 ∙ at_a)) r.2
+          subst (IsForeign w (with_belongings (value_of w) t h) (rested M t) t n) (same_Some r.0 a (sym r.1 ∙ at_a)) r.2
 
       same_foreign : foreign.object ≡ y
       same_foreign = same_Some foreign.object y (sym foreign.is ∙ (ap (λ (m : State). object_at m.store n) (link.machine_is w k p I F on) ∙ is))
@@ -140,7 +140,7 @@ module _ (w : SharedValue) (k : ℕ) (p : Private) (I : IsSharedValue w) (F : Fi
 
       -- ---- A REFERENCE, from the register b, into the field i, whose number is in the register j
       module _ (b j i : ℕ) (swap : Option (ℕ × ℤ)) (place : place_in (length y.refs) (int_in S.task.top j) ≡ Some i)
-          (pack : (y' : Object) (v v' : Memory) (C : StoresInto v v' M t h S.task y' o j b swap) → StoresNotes (with_home v t h) (with_home v' t C.0) t C.4 C.1 → Made v v' M t h S.task y' S.line.instr C.0)
+          (pack : (y' : Object) (v v' : Memory) (C : StoresInto v v' M t h S.task y' o j b swap) → StoresNotes (with_belongings v t h) (with_belongings v' t C.0) t C.4 C.1 → Made v v' M t h S.task y' S.line.instr C.0)
           (top : Frame) (goes : top ≡ gone_on swap p.frames.top) where
         abbrev pub rest : Rest
         rest = foreign.rest
@@ -181,10 +181,10 @@ module _ (w : SharedValue) (k : ℕ) (p : Private) (I : IsSharedValue w) (F : Fi
           abbrev q : Private
           q = record p { frames = record { below = p.frames.below; top = top }; fresh = 0 }
 
-          abbrev g : Home
-          g = home_of_part q
+          abbrev g : Belongings
+          g = belongings_of_part q
 
-          at : StoresAt (with_home v0 t h) (with_home v1 t g) (rested M t) t p.frames.top p.frames.below a b i swap
+          at : StoresAt (with_belongings v0 t h) (with_belongings v1 t g) (rested M t) t p.frames.top p.frames.below a b i swap
           at = stores.stores_at w k p I F on n a foreign o held at_a b i swap overwritten was sets C top goes
 
           made : Made v0 v1 M t h S.task K.object S.line.instr g
@@ -251,8 +251,8 @@ module _ (w : SharedValue) (k : ℕ) (p : Private) (I : IsSharedValue w) (F : Fi
         abbrev q_n : Private
         q_n = record p { frames = record { below = p.frames.below; top = top }; fresh = 0 }
 
-        abbrev g_n : Home
-        g_n = home_of_part q_n
+        abbrev g_n : Belongings
+        g_n = belongings_of_part q_n
 
         made_n : Made v0_n v1_n M t h S.task K.object S.line.instr g_n
         made_n =

@@ -22,9 +22,9 @@ use Rattle.task_frames.specs.declared.frames.Frame.{Frame}
 use Rattle.write_barrier.specs.declared.sets.SetOf.{SetOf}
 use Rattle.ledger_step_laws.specs.Accounts.{Rests}
 use Rattle.ledger_step_laws.specs.Last.{Runs, Splits, Writing, WritesOther}
-use Rattle.core_relation.specs.Memory.{Home, Memory}
-use Rattle.core_relation.specs.Fits.{part_for, with_home}
-use Rattle.core_relation.specs.Makes.{Stores, StoresHome}
+use Rattle.core_relation.specs.Memory.{Belongings, Memory}
+use Rattle.core_relation.specs.Fits.{part_for, with_belongings}
+use Rattle.core_relation.specs.Makes.{Stores, BelongingsAfterStore}
 use Rattle.core_relation.specs.Marks.{StoreMarks}
 use Rattle.core_relation.specs.RanCounts.{RanCounts}
 use Rattle.core_relation.specs.Whole.{StandsFor, StandsForAll, by_end}
@@ -36,7 +36,7 @@ use Rattle.task_machine.specs.declared.part.Private.{Private}
 use Rattle.task_homes.specs.declared.task_at_rest.Rest.{Rest}
 use Rattle.shared_value.specs.SharedValue.{SharedValue, accounts, tree_counts_of, value_of}
 use Rattle.shared_value.specs.Stands.{IsSharedValue}
-use Rattle.shared_value.specs.Fits.{Fits, OthersFit, home_of_part, part_of}
+use Rattle.shared_value.specs.Fits.{Fits, OthersFit, belongings_of_part, part_of}
 use Rattle.shared_value.specs.Entered.{refused}
 use Rattle.shared_value.proofs.EntryMade.{entered, entered_world, held_apart, part_fits}
 use Rattle.shared_value.proofs.HeldTasks.{fits_held, stands_for_held}
@@ -65,8 +65,8 @@ module _ (w : SharedValue) (k : ℕ) (p : Private) (I : IsSharedValue w) (F : Fi
   abbrev pub L : Ledger
   L = last.L w k p I F shared free
 
-  abbrev pub h : Home
-  h = home_of_part p
+  abbrev pub h : Belongings
+  h = belongings_of_part p
 
   abbrev pub S : Splits w.program w.settings l L t p.fresh
   S = last.S w k p I F shared free
@@ -86,7 +86,7 @@ module _ (w : SharedValue) (k : ℕ) (p : Private) (I : IsSharedValue w) (F : Fi
       by (Some x) e = running_not (slice_get l.machine.tasks u) h' ((tasks_are_held_once w.program w.settings w.journal.items I.legal).runs on u x e)
 
   stands_0 : StandsFor v0 (tree_counts_of w) l
-  stands_0 = stands_for_held (value_of w) v0.homes l (λ u r. resting_is l (value_of w).homes u r) waits_l (tree_counts_of w) (stands_now w I on)
+  stands_0 = stands_for_held (value_of w) v0.belongings l (λ u r. resting_is l (value_of w).belongings u r) waits_l (tree_counts_of w) (stands_now w I on)
 
   all_0 : StandsForAll v0 (tree_counts_of w) l
   all_0 = subst (λ o. StandsFor v0 (tree_counts_of w) (by_end l o)) (sym on) stands_0
@@ -95,9 +95,9 @@ module _ (w : SharedValue) (k : ℕ) (p : Private) (I : IsSharedValue w) (F : Fi
   R = last.runs_so w k p I F shared free
 
   own_0 : FitsValue w.program w.settings (part_for w.settings t h p.fresh) v0 l
-  own_0 = fits_held (value_of w) v0.homes l (λ u r. resting_is l (value_of w).homes u r) w.program w.settings (part_for w.settings t h p.fresh) R.knows.sound (last.before_goes w k p I F shared free) F.fits
+  own_0 = fits_held (value_of w) v0.belongings l (λ u r. resting_is l (value_of w).belongings u r) w.program w.settings (part_for w.settings t h p.fresh) R.knows.sound (last.before_goes w k p I F shared free) F.fits
 
-  module _ (n : Name) (a : Addr) (O : IsForeign w (with_home (value_of w) t h) (other.L w k p I F on) t n a) (d : Cell) (mark : d.mark ≡ (other.c w k p I F on n a O).mark) (size : size_of d ≡ size_of (other.c w k p I F on n a O))
+  module _ (n : Name) (a : Addr) (O : IsForeign w (with_belongings (value_of w) t h) (other.L w k p I F on) t n a) (d : Cell) (mark : d.mark ≡ (other.c w k p I F on n a O).mark) (size : size_of d ≡ size_of (other.c w k p I F on n a O))
       (f : Located → Located) (fields : (number at : ℕ) (b : Birth) → with_fields d (located number at b (other.c w k p I F on n a O)) ≡ f (located number at b (other.c w k p I F on n a O))) (sets : List SetOf) (many : length sets ≡ length w.sets) (top : Frame) where
     abbrev pub rests : List (Option Rest)
     rests = other.rests w k p I F on n a O d mark size f fields sets top
@@ -111,10 +111,10 @@ module _ (w : SharedValue) (k : ℕ) (p : Private) (I : IsSharedValue w) (F : Fi
     abbrev pub q : Private
     q = other.q w k p I F on n a O d mark size f fields sets top
 
-    abbrev pub g : Home
-    g = home_of_part q
+    abbrev pub g : Belongings
+    g = belongings_of_part q
 
-    module _ (K : WritesOther M L t S.task S.line) (C : Stores v0 v1 M t h S.task K.object S.line.instr) (mk : StoreMarks v0 v1 M t h S.task K.object S.line.instr C) (gh : StoresHome v0 v1 M t h S.task K.object S.line.instr C g) where
+    module _ (K : WritesOther M L t S.task S.line) (C : Stores v0 v1 M t h S.task K.object S.line.instr) (mk : StoreMarks v0 v1 M t h S.task K.object S.line.instr C) (gh : BelongingsAfterStore v0 v1 M t h S.task K.object S.line.instr C g) where
       goes_then : L.machine.end ≡ None
       goes_then = ap (λ (y : Ledger). y.machine.end) K.goes ∙ last.mid_goes w k p I F shared free
 
@@ -135,8 +135,8 @@ module _ (w : SharedValue) (k : ℕ) (p : Private) (I : IsSharedValue w) (F : Fi
         | inr ne ↦ ap (λ o. (or_fresh o).worker) (sym (last.heap_off w k p I F shared free u ne)) ∙ (ap (λ (z : Heap). z.worker) (sym (heap_then u)) ∙ r)
       ]
 
-      same_then : (u : ℕ) → Rests L u → v'.homes u ≡ v1.homes u
-      same_then u r = sym (resting_is l v'.homes u (rests_then u r))
+      same_then : (u : ℕ) → Rests L u → v'.belongings u ≡ v1.belongings u
+      same_then u r = sym (resting_is l v'.belongings u (rests_then u r))
 
       -- and so does who waits
       at_then : slice_get L.machine.tasks t ≡ Some (record S.task { top = K.frame })
@@ -167,7 +167,7 @@ module _ (w : SharedValue) (k : ℕ) (p : Private) (I : IsSharedValue w) (F : Fi
         all_then : StandsForAll v' (tree_counts_of w') L
         all_then =
             subst (λ o. StandsFor v' (tree_counts_of w') (by_end L o)) (sym end_then)
-            (stands_for_held v1 v'.homes L same_then waits_then (tree_counts_of w') (subst (λ o. StandsFor v1 (tree_counts_of w') (by_end L o)) end_then all_1))
+            (stands_for_held v1 v'.belongings L same_then waits_then (tree_counts_of w') (subst (λ o. StandsFor v1 (tree_counts_of w') (by_end L o)) end_then all_1))
 
         pub written_world : IsSharedValue w'
         written_world =
@@ -181,13 +181,13 @@ module _ (w : SharedValue) (k : ℕ) (p : Private) (I : IsSharedValue w) (F : Fi
         pub written_part : Fits w' k q
         written_part =
             part_fits w (last_event k p) I free w.tree w.pool rests sets w.tasks_out w.outputs steps w.end j.room written_world k p q refl F refl refl refl F.form F.measured
-            (fits_held v1 v'.homes L same_then w.program w.settings (part_of w.settings q) R.knows_then.sound goes_then
+            (fits_held v1 v'.belongings L same_then w.program w.settings (part_of w.settings q) R.knows_then.sound goes_then
             (ran_fits_then w.program w.settings v0 v1 l L t k p.fresh h g E own_0 C gh))
 
         -- THE PARTS OF OTHERS
         pub written_others : OthersFit w w' k
         written_others u r ne G =
             part_fits w (last_event k p) I free w.tree w.pool rests sets w.tasks_out w.outputs steps w.end j.room written_world u r r refl G refl refl refl G.form G.measured
-            (fits_held v1 v'.homes L same_then w.program w.settings (part_of w.settings r) R.knows_then.sound goes_then
+            (fits_held v1 v'.belongings L same_then w.program w.settings (part_of w.settings r) R.knows_then.sound goes_then
             (ran_leaves w.program w.settings v0 v1 l L t k p.fresh h E own_0 C (part_of w.settings r) (held_apart w k u p r F G ne)
-            (fits_held (value_of w) v0.homes l (λ z y. resting_is l (value_of w).homes z y) w.program w.settings (part_of w.settings r) R.knows.sound (last.before_goes w k p I F shared free) G.fits)))
+            (fits_held (value_of w) v0.belongings l (λ z y. resting_is l (value_of w).belongings z y) w.program w.settings (part_of w.settings r) R.knows.sound (last.before_goes w k p I F shared free) G.fits)))

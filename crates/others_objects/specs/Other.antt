@@ -28,13 +28,13 @@ use Rattle.heap_tree.specs.Node.{Node, is_on_path}
 use Rattle.write_barrier.specs.Stored.{content_at, IsOwned}
 use Rattle.ledger_step_laws.specs.Accounts.{rested}
 use Rattle.ledger_step_laws.specs.Last.{JustReads}
-use Rattle.core_relation.specs.Fits.{with_home}
+use Rattle.core_relation.specs.Fits.{with_belongings}
 use Rattle.core_relation.specs.Reads.{Reads}
 use Rattle.core_relation.specs.Stands.{Place}
 use Rattle.task_machine.specs.declared.part.Private.{Private}
 use Rattle.task_homes.specs.declared.task_at_rest.Rest.{Rest}
 use Rattle.shared_value.specs.SharedValue.{SharedValue, rest_at, value_of}
-use Rattle.shared_value.specs.Fits.{Fits, home_of_part}
+use Rattle.shared_value.specs.Fits.{Fits, belongings_of_part}
 use Rattle.own_steps.specs.Alone.{machine_after, then_accounts}
 use Rattle.others_objects.specs.declared.other.OtherStep.{OtherStep}
 use Rattle.others_objects.specs.declared.other.OtherStep.TheVariants.{SetsNumber, SetsReference, Stops, Traps, StoresReference, Swaps, StoresNumber}
@@ -170,7 +170,7 @@ pub record TellsOtherOf (p : ProgramText) (at : Name → Addr → Type 0) (part 
 
 -- where names lie after the part's fresh steps
 abbrev pub then_places : SharedValue → Private → Name → Addr → Type 0
-then_places w p = Place (with_home (value_of w) p.task (home_of_part p)) (rested (then_accounts w p) p.task)
+then_places w p = Place (with_belongings (value_of w) p.task (belongings_of_part p)) (rested (then_accounts w p) p.task)
 
 abbrev pub TellsOther : SharedValue → Private → OtherStep → ℕ → Type 0
 TellsOther w p does number = TellsOtherOf w.program (then_places w p) p (then_accounts w p).machine p.task does number

@@ -18,15 +18,15 @@ use Rattle.alloc_path.specs.LeafHeapValue.{AreTidy, AreWithin, IsTidy}
 use Rattle.alloc_path.proofs.Near.{are_near}
 use Rattle.ledger_step_laws.specs.Accounts.{Rests, own, rested}
 use Rattle.ledger_step_laws.proofs.Rested.{rested_worker}
-use Rattle.core_relation.specs.Memory.{Home, In, Lies, Memory, objects, objects_in}
-use Rattle.core_relation.specs.Changes.{StepsAtHome}
+use Rattle.core_relation.specs.Memory.{Belongings, In, Lies, Memory, objects, objects_in}
+use Rattle.core_relation.specs.Changes.{StepsInBelongings}
 use Rattle.core_relation.specs.Copies.{PartFits}
-use Rattle.core_relation.specs.Fits.{with_home}
-use Rattle.core_relation.specs.Stands.{HomeStands, Place, Stands}
+use Rattle.core_relation.specs.Fits.{with_belongings}
+use Rattle.core_relation.specs.Stands.{BelongingsStand, Place, Stands}
 use Rattle.core_relation.proofs.objects.Members.{in_chunk}
 use Rattle.core_relation.proofs.changes.Own.{stepped}
 use Rattle.core_relation.specs.Whole.{BegunBy}
-use Rattle.core_relation.proofs.changes.With.{at_home, off_home}
+use Rattle.core_relation.proofs.changes.With.{at_belongings, off_belongings}
 use Rattle.core_entry_laws.proofs.parts.Quiet.{aside_is}
 use Rattle.task_machine.specs.declared.part.Private.{Private}
 use Rattle.task_machine.specs.Accounts.{IsCounted, KeepsAccounts}
@@ -38,7 +38,7 @@ use Rattle.shared_value.specs.Objects.{chunk_of}
 use Rattle.shared_value.specs.SharedValue.{SharedValue, accounts, value_of}
 use Rattle.shared_value.specs.Measured.{IsMeasured}
 use Rattle.shared_value.specs.Stands.{HeapForm, IsSharedValue}
-use Rattle.shared_value.specs.Fits.{Fits, home_of_part, part_of}
+use Rattle.shared_value.specs.Fits.{Fits, belongings_of_part, part_of}
 use Rattle.shared_value.specs.Links.{above_of}
 use Rattle.shared_value.proofs.CellsRead.{object_seen, seen_object}
 use Rattle.shared_value.proofs.PlacedForm.{Formed, formed_tidy}
@@ -48,7 +48,7 @@ use Rattle.shared_value.proofs.PartFitsMachine as link
 use Rattle.shared_value.proofs.OutlineKept.{run_keeps_places}
 use Rattle.own_steps.proofs.StepsCounted as run
 use Rattle.own_steps.proofs.FormByOutline.{run_formed}
-use Rattle.own_steps.proofs.PartHome.{home_read}
+use Rattle.own_steps.proofs.PartBelongings.{belongings_read}
 
 module _ (w : SharedValue) (k : ℕ) (p q : Private) (n : ℕ) (I : IsSharedValue w) (F : Fits w k p) (on : (accounts w).end ≡ None) (idle : p.begun ≡ None) (R : Runs w.program p n q) (C : KeepsAccounts w.program p n q) (rest : KeepsRest p q) (few : p.fresh + n ≤ 257) where
   abbrev l : Ledger
@@ -86,22 +86,22 @@ module _ (w : SharedValue) (k : ℕ) (p q : Private) (n : ℕ) (I : IsSharedValu
   counts_then = run.counts_then w k p q n I F on idle R C
 
   abbrev before : Memory
-  before = with_home v t (home_of_part p)
+  before = with_belongings v t (belongings_of_part p)
 
   abbrev after : Memory
-  after = with_home v t (home_of_part Q)
+  after = with_belongings v t (belongings_of_part Q)
 
-  was : before.homes t ≡ home_of_part p
-  was = at_home v t (home_of_part p)
+  was : before.belongings t ≡ belongings_of_part p
+  was = at_belongings v t (belongings_of_part p)
 
-  here : after.homes t ≡ home_of_part Q
-  here = at_home v t (home_of_part Q)
+  here : after.belongings t ≡ belongings_of_part Q
+  here = at_belongings v t (belongings_of_part Q)
 
-  old : HomeStands before L t
-  old = (link.W w k p I F on).homes t (link.at_rest w k p I F on)
+  old : BelongingsStand before L t
+  old = (link.W w k p I F on).belongings t (link.at_rest w k p I F on)
 
-  old_chunk : (c : ChunkValue) → In p.heap.chunks c → In (before.homes t).chunks (chunk_of c)
-  old_chunk c i = subst (λ (h : Home). In h.chunks (chunk_of c)) (sym was) (in_map chunk_of p.heap.chunks c i)
+  old_chunk : (c : ChunkValue) → In p.heap.chunks c → In (before.belongings t).chunks (chunk_of c)
+  old_chunk c i = subst (λ (h : Belongings). In h.chunks (chunk_of c)) (sym was) (in_map chunk_of p.heap.chunks c i)
 
   -- what of its heap is known
   formed_before : Formed p.heap
@@ -145,18 +145,18 @@ module _ (w : SharedValue) (k : ℕ) (p q : Private) (n : ℕ) (I : IsSharedValu
 
   -- ---- THE VALUE WITH IT
   -- each object stays where it lies
-  stays : (m : Name) (a : Addr) → Lies (before.homes t).chunks m a → Lies (after.homes t).chunks m a
+  stays : (m : Name) (a : Addr) → Lies (before.belongings t).chunks m a → Lies (after.belongings t).chunks m a
   stays m a y =
-      let z = seen_object p.heap.chunks y.0 F.form.shaped.apart (subst (λ (h : Home). In (objects_in h.chunks) y.0) was y.1) in
+      let z = seen_object p.heap.chunks y.0 F.form.shaped.apart (subst (λ (h : Belongings). In (objects_in h.chunks) y.0) was y.1) in
       let i = object_seen q.heap.chunks y.0.at y.0.birth (keeps.stays y.0.at y.0.birth z.mark) in
-      subst (λ (h : Home). Lies h.chunks m a) (sym here) (_, i, record { name = y.2.name; at = y.2.at })
+      subst (λ (h : Belongings). Lies h.chunks m a) (sym here) (_, i, record { name = y.2.name; at = y.2.at })
 
-  at_home_then : StepsAtHome before after t
-  at_home_then = record {
-    others = λ u ne. off_home v t (home_of_part Q) u ne ∙ sym (off_home v t (home_of_part p) u ne);
+  at_belongings_then : StepsInBelongings before after t
+  at_belongings_then = record {
+    others = λ u ne. off_belongings v t (belongings_of_part Q) u ne ∙ sym (off_belongings v t (belongings_of_part p) u ne);
     owner = λ c. refl;
     sources = λ u. refl;
-    view = ap (λ (z : Home). z.view) here ∙ ap (λ (z : Home). z.view) (sym was);
+    view = ap (λ (z : Belongings). z.view) here ∙ ap (λ (z : Belongings). z.view) (sym was);
     stays = stays;
   }
 
@@ -171,20 +171,20 @@ module _ (w : SharedValue) (k : ℕ) (p q : Private) (n : ℕ) (I : IsSharedValu
       let u : ℕ = own l m in
       let same : own L' m ≡ u = run.owner_then w k p q n I F on idle R C m in
       let r : Rests L u = link.rests_then w k p I F on u x.0 x.1 in
-      let H : HomeStands before L u = (link.W w k p I F on).homes u r in
-      let i : In (objects before u) f.object = subst (λ (h : Home). In (objects_in h.chunks) f.object) (sym (off_home v t (home_of_part p) u x.0)) f.there in
-      let c = in_chunk (before.homes u).chunks f.object i in
+      let H : BelongingsStand before L u = (link.W w k p I F on).belongings u r in
+      let i : In (objects before u) f.object = subst (λ (h : Belongings). In (objects_in h.chunks) f.object) (sym (off_belongings v t (belongings_of_part p) u x.0)) f.there in
+      let c = in_chunk (before.belongings u).chunks f.object i in
       let owner : v.owner a.chunk ≡ Some u = ap (λ (z : Addr). v.owner z.chunk) (sym f.at) ∙ (ap v.owner (H.inside c.0 f.object c.1 c.2) ∙ H.owned c.0 c.1) in
       record {
         chunk = owner ∙ ap Some (sym same);
-        here = λ z. subst (λ y. Lies (after.homes y).chunks m a) (sym same) (subst (λ (h : Home). Lies h.chunks m a) (sym (off_home v t (home_of_part Q) u x.0)) (f.object, f.there, record { name = f.name; at = f.at }));
+        here = λ z. subst (λ y. Lies (after.belongings y).chunks m a) (sym same) (subst (λ (h : Belongings). Lies h.chunks m a) (sym (off_belongings v t (belongings_of_part Q) u x.0)) (f.object, f.there, record { name = f.name; at = f.at }));
       }
 
   stands_then : Stands after L'
   stands_then =
       stepped before after L L' t (link.sound w k p I F on) (run.sound_then w k p q n I F on idle R C) (link.W w k p I F on) (run.alone_then w k p q n I F on idle R C)
-      (link.at_rest w k p I F on) (rested_worker (task_steps w.program l t (p.fresh + n)) t) (link.idle w k p I F on) at_home_then
-      (home_read w.program Q L' above machine_then formed_then counts_then (run.account_few w k p q n I F on idle R C) after here owned_then elsewhere)
+      (link.at_rest w k p I F on) (rested_worker (task_steps w.program l t (p.fresh + n)) t) (link.idle w k p I F on) at_belongings_then
+      (belongings_read w.program Q L' above machine_then formed_then counts_then (run.account_few w k p q n I F on idle R C) after here owned_then elsewhere)
 
   measured_then : IsMeasured w.pool Q
   measured_then = (

@@ -109,7 +109,7 @@ module _ (w : SharedValue) (k : ℕ) (p : Private) (I : IsSharedValue w) (F : Fi
   pub held_mid : (heap_of M t).worker ≡ Some k
   held_mid = link.worker_then w k p I F on
 
-  -- heaps of others, and whose home is in the value
+  -- heaps of others, and whose belongings are in the value
   pub heap_off : (u : ℕ) → (u ≡ t → ⊥) → slice_get M.heaps u ≡ slice_get l.heaps u
   heap_off u ne = A.heaps u ne
 

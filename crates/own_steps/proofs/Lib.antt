@@ -10,7 +10,7 @@ pub mod RunHalted
 pub mod RunDone
 pub mod AloneEntries
 pub mod FormByOutline
-pub mod PartHome
+pub mod PartBelongings
 pub mod StepsCounted
 pub mod FitsAfterSteps
 pub mod TaskNotHeld

@@ -23,24 +23,24 @@ use Rattle.heap_tree.specs.declared.state.State.TheVariants.{Ended}
 use Rattle.heap_tree.specs.Node.{Node, with_state}
 use Rattle.ledger_step_laws.specs.Accounts.{Rests}
 use Rattle.ledger_step_laws.specs.Last.{EndsDone, Finishing, Runs, Splits}
-use Rattle.core_relation.specs.Memory.{Home, Memory}
-use Rattle.core_relation.specs.Changes.{EndsHome}
-use Rattle.core_relation.specs.Fits.{part_for, with_home}
+use Rattle.core_relation.specs.Memory.{Belongings, Memory}
+use Rattle.core_relation.specs.Changes.{EndsBelongings}
+use Rattle.core_relation.specs.Fits.{part_for, with_belongings}
 use Rattle.core_relation.specs.RanCounts.{RanCounts}
 use Rattle.core_relation.specs.Since.{OthersNotes}
 use Rattle.core_relation.specs.Whole.{StandsFor, handed, as_node}
 use Rattle.core_relation.specs.Worker.{Fits as FitsValue}
 use Rattle.core_entry_laws.proofs.whole.DoneHands.{done_hands_all}
 use Rattle.core_entry_laws.proofs.whole.RanWhole.{ran_stands_for}
-use Rattle.core_relation.proofs.changes.With.{at_home, off_home}
+use Rattle.core_relation.proofs.changes.With.{at_belongings, off_belongings}
 use Rattle.core_entry_laws.proofs.parts.Workers.{ran_leaves}
 use Rattle.task_machine.specs.declared.part.Private.{Private}
 use Rattle.shared_value.specs.declared.next_step.Ending.TheVariants.{Returns}
 use Rattle.task_homes.specs.declared.task_at_rest.Rest.{Rest}
-use Rattle.shared_value.specs.SharedValue.{SharedValue, accounts, home_in, home_of, rest_at, tree_counts_of, value_of}
+use Rattle.shared_value.specs.SharedValue.{SharedValue, accounts, belongings_in, belongings_of, rest_at, tree_counts_of, value_of}
 use Rattle.shared_value.specs.Measured.{AreMeasured, RestsAreMeasured}
 use Rattle.shared_value.specs.Stands.{HeapForm, IsSharedValue}
-use Rattle.shared_value.specs.Fits.{Fits, OthersFit, home_of_part, part_of}
+use Rattle.shared_value.specs.Fits.{Fits, OthersFit, belongings_of_part, part_of}
 use Rattle.shared_value.specs.Entered.{refused}
 use Rattle.shared_value.proofs.EntryMade.{accounts_are, entered, entered_world, task_is_out, held_apart, part_fits, unheld_before}
 use Rattle.shared_value.proofs.BeforeTheEnd.{end_now, stands_now}
@@ -70,8 +70,8 @@ module _ (w : SharedValue) (k : ℕ) (p : Private) (I : IsSharedValue w) (F : Fi
   abbrev v : Memory
   v = value_of w
 
-  abbrev h : Home
-  h = home_of_part p
+  abbrev h : Belongings
+  h = belongings_of_part p
 
   abbrev S : Splits w.program w.settings l L t p.fresh
   S = last.S w k p I F shared free
@@ -112,7 +112,7 @@ module _ (w : SharedValue) (k : ℕ) (p : Private) (I : IsSharedValue w) (F : Fi
   S0 : StandsFor v (tree_counts_of w) l
   S0 = stands_now w I (last.on w k p I F shared free)
 
-  -- ---- THE HOME THAT IS HANDED BACK
+  -- ---- THE BELONGINGS THAT ARE HANDED BACK
   abbrev rest : Rest
   rest = ended_rest p
 
@@ -126,10 +126,10 @@ module _ (w : SharedValue) (k : ℕ) (p : Private) (I : IsSharedValue w) (F : Fi
   has_home = subst (λ n. t < n) (sym I.made) has_node
 
   abbrev vt : Memory
-  vt = with_home v t h
+  vt = with_belongings v t h
 
-  here : vt.homes t ≡ h
-  here = at_home v t h
+  here : vt.belongings t ≡ h
+  here = at_belongings v t h
 
   module _ (j : RoomyValue EntryValue) where
     abbrev tree : List Node
@@ -156,20 +156,20 @@ module _ (w : SharedValue) (k : ℕ) (p : Private) (I : IsSharedValue w) (F : Fi
     rest_off : (u : ℕ) → (u ≡ t → ⊥) → rest_at rests u ≡ rest_at w.rests u
     rest_off u ne = ap option_flatten (got_other w.rests t u (Some rest) ne)
 
-    home_now : v'.homes t ≡ home_of rest
-    home_now = ap home_in rest_now
+    belongings_now : v'.belongings t ≡ belongings_of rest
+    belongings_now = ap belongings_in rest_now
 
-    ends_home : EndsHome vt v' t p.frames.top p.frames.below
-    ends_home = record {
-      frames = ap (λ (z : Home). z.frames) here;
-      result = ap (λ (z : Home). z.result) home_now;
-      begun = ap (λ (z : Home). z.begun) home_now ∙ (sym (last.none w k p I F shared free) ∙ ap (λ (z : Home). z.begun) (sym here));
-      view = ap (λ (z : Home). z.view) home_now ∙ ap (λ (z : Home). z.view) (sym here);
-      chunks = ap (λ (z : Home). z.chunks) home_now ∙ ap (λ (z : Home). z.chunks) (sym here);
-      room = ap (λ (z : Home). z.room) home_now ∙ ap (λ (z : Home). z.room) (sym here);
-      since = ap (λ (z : Home). z.since) home_now ∙ ap (λ (z : Home). z.since) (sym here);
-      count = ap (λ (z : Home). z.count) home_now ∙ ap (λ (z : Home). z.count) (sym here);
-      others = λ u ne. ap home_in (rest_off u ne) ∙ sym (off_home v t h u ne);
+    ends_belongings : EndsBelongings vt v' t p.frames.top p.frames.below
+    ends_belongings = record {
+      frames = ap (λ (z : Belongings). z.frames) here;
+      result = ap (λ (z : Belongings). z.result) belongings_now;
+      begun = ap (λ (z : Belongings). z.begun) belongings_now ∙ (sym (last.none w k p I F shared free) ∙ ap (λ (z : Belongings). z.begun) (sym here));
+      view = ap (λ (z : Belongings). z.view) belongings_now ∙ ap (λ (z : Belongings). z.view) (sym here);
+      chunks = ap (λ (z : Belongings). z.chunks) belongings_now ∙ ap (λ (z : Belongings). z.chunks) (sym here);
+      room = ap (λ (z : Belongings). z.room) belongings_now ∙ ap (λ (z : Belongings). z.room) (sym here);
+      since = ap (λ (z : Belongings). z.since) belongings_now ∙ ap (λ (z : Belongings). z.since) (sym here);
+      count = ap (λ (z : Belongings). z.count) belongings_now ∙ ap (λ (z : Belongings). z.count) (sym here);
+      others = λ u ne. ap belongings_in (rest_off u ne) ∙ sym (off_belongings v t h u ne);
       owner = λ c. refl;
       sources = λ u. refl;
     }
@@ -202,7 +202,7 @@ module _ (w : SharedValue) (k : ℕ) (p : Private) (I : IsSharedValue w) (F : Fi
     pub done_world : IsSharedValue w'
     done_world =
         entered_world w (last_event k p) I free tree w.pool rests w.sets tasks_out w.outputs steps (Some (Machine Done)) j.room (length-set w.rests t (Some rest) ∙ (I.made ∙ sym (made_by w.tree t Ended (slice_get w.tree t)))) (I.noted ∙ sym (made_by w.tree t Ended (slice_get w.tree t))) (length-set w.tasks_out k None) refl
-        (ran_stands_for w.program w.settings w.journal.items I.form I.legal v v' (tree_counts_of w) (tree_counts_of w') k t p.fresh h free E I.stands own (p.frames.top, p.frames.below, ends_home) notes counts)
+        (ran_stands_for w.program w.settings w.journal.items I.form I.legal v v' (tree_counts_of w) (tree_counts_of w') k t p.fresh h free E I.stands own (p.frames.top, p.frames.below, ends_belongings) notes counts)
         heaps_then measured_then
 
     pub done_ends : (accounts w').end ≡ Some (Machine Done)
@@ -218,4 +218,4 @@ module _ (w : SharedValue) (k : ℕ) (p : Private) (I : IsSharedValue w) (F : Fi
     pub done_others : OthersFit w w' k
     done_others u r ne G =
         part_fits w (last_event k p) I free tree w.pool rests w.sets tasks_out w.outputs steps (Some (Machine Done)) j.room done_world u r r (ap option_flatten (got_other w.tasks_out k u None ne)) G refl refl refl G.form G.measured
-        (ran_leaves w.program w.settings v v' l L t k p.fresh h E own (p.frames.top, p.frames.below, ends_home) (part_of w.settings r) (held_apart w k u p r F G ne) G.fits)
+        (ran_leaves w.program w.settings v v' l L t k p.fresh h E own (p.frames.top, p.frames.below, ends_belongings) (part_of w.settings r) (held_apart w k u p r F G ne) G.fits)

@@ -14,8 +14,8 @@ use Rattle.core_relation.proofs.objects.Members.{in_map, in_objects, map_in}
 use Rattle.task_homes.specs.declared.task_at_rest.Rest.{Rest}
 use Rattle.shared_value.specs.Objects.{chunk_of, chunks_of}
 use Rattle.shared_value.specs.Stands.{IsSharedValue}
-use Rattle.shared_value.specs.SharedValue.{SharedValue, home_in, rest_at, value_of}
-use Rattle.shared_value.proofs.FieldsLed.{home_chunks}
+use Rattle.shared_value.specs.SharedValue.{SharedValue, belongings_in, rest_at, value_of}
+use Rattle.shared_value.proofs.FieldsLed.{belongings_chunks}
 use Rattle.heap_reading.specs.HeldNames.{is_state_running}
 use Rattle.heap_reading.specs.Image.{AreAll, Rises, objects_numbered, objects_of, objects_owned, shown}
 use Rattle.heap_image.specs.declared.picture.Picked.{Picked}
@@ -81,16 +81,16 @@ module _ (w : SharedValue) (I : IsSharedValue w) where
   abbrev v : Memory
   v = value_of w
 
-  home_rises : (n : ℕ) (r : Option Rest) → Rises Lower (objects_numbered n (home_in r).chunks)
-  home_rises n None = tt
-  home_rises n (Some r) = subst (λ ks. Rises Lower (objects_numbered n ks)) (sym (home_chunks r)) (numbered_rises n r.heap.chunks)
+  belongings_rises : (n : ℕ) (r : Option Rest) → Rises Lower (objects_numbered n (belongings_in r).chunks)
+  belongings_rises n None = tt
+  belongings_rises n (Some r) = subst (λ ks. Rises Lower (objects_numbered n ks)) (sym (belongings_chunks r)) (numbered_rises n r.heap.chunks)
 
   of_rises : (n : ℕ) → Rises Lower (objects_of w n)
   of_rises n = by (owner_of w.pool n)
     where
-      idle : (t : ℕ) (b : Bool) → Rises Lower (cond b [] (objects_numbered n (v.homes t).chunks))
+      idle : (t : ℕ) (b : Bool) → Rises Lower (cond b [] (objects_numbered n (v.belongings t).chunks))
       idle t true = tt
-      idle t false = home_rises n (rest_at w.rests t)
+      idle t false = belongings_rises n (rest_at w.rests t)
 
       by : (h : Option ℕ) → Rises Lower (objects_owned w n h)
       by None = tt
@@ -108,11 +108,11 @@ module _ (w : SharedValue) (I : IsSharedValue w) where
   pub told_back : (n : ℕ) (o : Located) → In (objects_of w n) o → IsToldOf n o
   told_back n o i = by (owner_of w.pool n) refl i
     where
-      idle : (t : ℕ) → owner_of w.pool n ≡ Some t → (b : Bool) → is_state_running (state_of w.tree t) ≡ b → In (cond b [] (objects_numbered n (v.homes t).chunks)) o → IsToldOf n o
+      idle : (t : ℕ) → owner_of w.pool n ≡ Some t → (b : Bool) → is_state_running (state_of w.tree t) ≡ b → In (cond b [] (objects_numbered n (v.belongings t).chunks)) o → IsToldOf n o
       idle t e true f j = absurd j
       idle t e false f j =
-          let c = numbered_in n (v.homes t).chunks o j in
-          let here : In (objects v t) o = in_objects (v.homes t).chunks c.0 o c.1 c.3 in
+          let c = numbered_in n (v.belongings t).chunks o j in
+          let here : In (objects v t) o = in_objects (v.belongings t).chunks c.0 o c.1 c.3 in
           record { task = t; idle = f; here = here; held = e; chunk = (H w I t f o here).inside c.0 o c.1 c.3 ∙ c.2; near = near w I t f o here }
 
       by : (h : Option ℕ) → owner_of w.pool n ≡ h → In (objects_owned w n h) o → IsToldOf n o
@@ -123,8 +123,8 @@ module _ (w : SharedValue) (I : IsSharedValue w) where
   told_there t idle o i =
       let c = chunk w I t idle o i in
       let number : c.0.number ≡ o.at.chunk = sym ((H w I t idle o i).inside c.0 o c.1 c.2) in
-      let found : In (objects_numbered o.at.chunk (v.homes t).chunks) o = in_numbered o.at.chunk (v.homes t).chunks c.0 o (H w I t idle o i).laid.numbers c.1 number c.2 in
-      let one : In (objects_owned w o.at.chunk (Some t)) o = subst (λ b. In (cond b [] (objects_numbered o.at.chunk (v.homes t).chunks)) o) (sym idle) found in
+      let found : In (objects_numbered o.at.chunk (v.belongings t).chunks) o = in_numbered o.at.chunk (v.belongings t).chunks c.0 o (H w I t idle o i).laid.numbers c.1 number c.2 in
+      let one : In (objects_owned w o.at.chunk (Some t)) o = subst (λ b. In (cond b [] (objects_numbered o.at.chunk (v.belongings t).chunks)) o) (sym idle) found in
       subst (λ h. In (objects_owned w o.at.chunk h) o) (sym (owner w I t idle o i)) one
 
   abbrev pub one : Located → Picked

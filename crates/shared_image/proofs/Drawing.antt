@@ -22,7 +22,7 @@ use Rattle.remembered_set.specs.declared.remembered.Source.{Source}
 use Rattle.ledger_step_laws.specs.Accounts.{Rests, own}
 use Rattle.core_relation.specs.Layout.{words}
 use Rattle.core_relation.specs.Reads.{IsRead}
-use Rattle.core_relation.specs.Stands.{HomeStands, IsSource, Place}
+use Rattle.core_relation.specs.Stands.{BelongingsStand, IsSource, Place}
 use Rattle.core_relation.specs.Memory.{Chunk as ChunkOf, In, Memory, object_name, objects, sources}
 use Rattle.core_relation.proofs.objects.Members.{map_in}
 use Rattle.core_relation.proofs.notes.Roots.{name_at}
@@ -54,7 +54,7 @@ module _ (w : SharedValue) (I : IsSharedValue w) (F : AreHeldInWords w) (p : Pic
     abbrev pub R : Rests (k w I) t
     R = Known_R w I t idle o i
 
-    abbrev pub H : HomeStands v (k w I) t
+    abbrev pub H : BelongingsStand v (k w I) t
     H = Known_H w I t idle o i
 
     abbrev pub content : (x : Object) × (object_at (k w I).machine.store (object_name o) ≡ Some x) × IsRead (Place v (k w I)) o x
@@ -66,7 +66,7 @@ module _ (w : SharedValue) (I : IsSharedValue w) (F : AreHeldInWords w) (p : Pic
     abbrev pub live : joined TT t ≡ false
     live = Known_live w I t idle o i
 
-    abbrev pub chunk : (c : ChunkOf) × In (v.homes t).chunks c × In c.objects o
+    abbrev pub chunk : (c : ChunkOf) × In (v.belongings t).chunks c × In c.objects o
     chunk = Known_chunk w I t idle o i
 
     abbrev pub owner : v.owner o.at.chunk ≡ Some t

@@ -84,11 +84,11 @@ module _ (w : SharedValue) (I : IsSharedValue w) (F : AreHeldInWords w) (p : Pic
   just_kept = record {
     each = λ q j.
         let d = (P.objects.each q).0 j in
-        let held : In (held_in (heap_of (k w I) d.0)) (object_name d.1) = object_held (v.homes d.0).chunks (heap_of (k w I) d.0) (H w I d.0 d.2 d.1 d.3).names d.1 d.3 in
+        let held : In (held_in (heap_of (k w I) d.0)) (object_name d.1) = object_held (v.belongings d.0).chunks (heap_of (k w I) d.0) (H w I d.0 d.2 d.1 d.3).names d.1 d.3 in
         (object_name d.1, (d.0, sym (runs_now d.0) ∙ d.2, subst (λ ns. In ns (object_name d.1)) (handed_held l d.0) held), subst (λ z. StandsFor p l z (object_name d.1)) (sym d.4) (stands d.0 d.2 d.1 d.3));
     all = λ n h.
         let idle : IsHandedBack w h.0 = runs_now h.0 ∙ h.1 in
-        let names = (I.stands.homes.homes h.0 (rests w I h.0 idle)).names in
-        let o = held_object (v.homes h.0).chunks (heap_of (k w I) h.0) names n (subst (λ ns. In ns n) (sym (handed_held l h.0)) h.2) in
+        let names = (I.stands.belongings.belongings h.0 (rests w I h.0 idle)).names in
+        let o = held_object (v.belongings h.0).chunks (heap_of (k w I) h.0) names n (subst (λ ns. In ns n) (sym (handed_held l h.0)) h.2) in
         (drawn_object (shown o.0), drawn h.0 idle o.0 o.1, subst (StandsFor p l (drawn_object (shown o.0))) o.2 (stands h.0 idle o.0 o.1));
   }

@@ -11,15 +11,15 @@ use Rattle.object_layout.specs.Objects.{Located}
 use Rattle.chunk_pool.specs.PoolValue.{slot_at}
 use Rattle.ledger_step_laws.specs.Accounts.{Rests, own}
 use Rattle.core_relation.specs.Reads.{IsRead}
-use Rattle.core_relation.specs.Stands.{HomeStands, Place, Stands}
+use Rattle.core_relation.specs.Stands.{BelongingsStand, Place, Stands}
 use Rattle.core_relation.specs.Memory.{Chunk as ChunkOf, In, Memory, object_name, objects, objects_in}
 use Rattle.core_relation.proofs.objects.Members.{in_chunk, map_in, object_held}
 use Rattle.task_homes.specs.declared.task_at_rest.Rest.{Rest}
 use Rattle.shared_value.specs.Measured.{IsUnheld}
 use Rattle.shared_value.specs.Objects.{chunk_of}
 use Rattle.shared_value.specs.Stands.{IsSharedValue}
-use Rattle.shared_value.specs.SharedValue.{SharedValue, home_in, rest_at, value_of}
-use Rattle.shared_value.proofs.FieldsLed.{home_chunks}
+use Rattle.shared_value.specs.SharedValue.{SharedValue, belongings_in, rest_at, value_of}
+use Rattle.shared_value.proofs.FieldsLed.{belongings_chunks}
 use Rattle.shared_image.specs.Drawn.{IsHandedBack}
 use Rattle.shared_image.proofs.Known.{T, k, owned, owners, rests}
 
@@ -38,19 +38,19 @@ module _ (w : SharedValue) (I : IsSharedValue w) where
   TT = T w I
 
   pub S : Stands v (k w I)
-  S = I.stands.homes
+  S = I.stands.belongings
 
   pub made : (n t : ℕ) → v.owner n ≡ Some t → t < length TT
   made n t e = some_within TT t (S.made n t e)
 
-  near_by : (t : ℕ) (r : Option Rest) → rest_at w.rests t ≡ r → (o : Located) → In (objects_in (home_in r).chunks) o → o.at.offset < 1024
+  near_by : (t : ℕ) (r : Option Rest) → rest_at w.rests t ≡ r → (o : Located) → In (objects_in (belongings_in r).chunks) o → o.at.offset < 1024
   near_by t None e o i = absurd i
-  near_by t (Some r) e o i = (I.heaps t r e).near o (subst (λ ks. In (objects_in ks) o) (home_chunks r) i)
+  near_by t (Some r) e o i = (I.heaps t r e).near o (subst (λ ks. In (objects_in ks) o) (belongings_chunks r) i)
 
-  measured_by : (t : ℕ) → IsUnheld w.tasks_out t → (r : Option Rest) → rest_at w.rests t ≡ r → (c : ChunkOf) → In (home_in r).chunks c → slot_at w.pool c.number ≡ Some (record { owner = t; units = c.units })
+  measured_by : (t : ℕ) → IsUnheld w.tasks_out t → (r : Option Rest) → rest_at w.rests t ≡ r → (c : ChunkOf) → In (belongings_in r).chunks c → slot_at w.pool c.number ≡ Some (record { owner = t; units = c.units })
   measured_by t un None e c i = absurd i
   measured_by t un (Some r) e c i =
-      let q = map_in chunk_of r.heap.chunks c (subst (λ ks. In ks c) (home_chunks r) i) in
+      let q = map_in chunk_of r.heap.chunks c (subst (λ ks. In ks c) (belongings_chunks r) i) in
       subst (λ (z : ChunkOf). slot_at w.pool z.number ≡ Some (record { owner = t; units = z.units })) q.2 (I.measured t r e un q.0 q.1)
 
   -- AN OBJECT OF A HEAP HANDED BACK
@@ -58,20 +58,20 @@ module _ (w : SharedValue) (I : IsSharedValue w) where
     pub R : Rests (k w I) t
     R = rests w I t idle
 
-    pub H : HomeStands v (k w I) t
-    H = S.homes t R
+    pub H : BelongingsStand v (k w I) t
+    H = S.belongings t R
 
     pub content : (x : Object) × (object_at (k w I).machine.store (object_name o) ≡ Some x) × IsRead (Place v (k w I)) o x
     content = S.contents t o R i
 
     pub own_is : own (k w I) (object_name o) ≡ t
-    own_is = (owned w I t (object_name o) (object_held (v.homes t).chunks (heap_of (k w I) t) H.names o i)).1
+    own_is = (owned w I t (object_name o) (object_held (v.belongings t).chunks (heap_of (k w I) t) H.names o i)).1
 
     pub live : joined TT t ≡ false
     live = subst (λ u. joined TT u ≡ false) own_is ((owners w I).live o.birth.task)
 
-    pub chunk : (c : ChunkOf) × In (v.homes t).chunks c × In c.objects o
-    chunk = in_chunk (v.homes t).chunks o i
+    pub chunk : (c : ChunkOf) × In (v.belongings t).chunks c × In c.objects o
+    chunk = in_chunk (v.belongings t).chunks o i
 
     pub owner : v.owner o.at.chunk ≡ Some t
     owner = ap v.owner (H.inside chunk.0 o chunk.1 chunk.2) ∙ H.owned chunk.0 chunk.1

@@ -16,13 +16,13 @@ use Rattle.run_ledger.specs.Sound.{collecting}
 use Rattle.ledger_step_laws.specs.Accounts.{rested}
 use Rattle.ledger_step_laws.proofs.Rested.{rested_view}
 use Rattle.core_relation.specs.Copies.{PartFits}
-use Rattle.core_relation.specs.Fits.{with_home}
+use Rattle.core_relation.specs.Fits.{with_belongings}
 use Rattle.core_relation.specs.Memory.{Memory}
 use Rattle.core_relation.specs.Whole.{BegunBy}
 use Rattle.task_machine.specs.declared.part.Begun.{Begun}
 use Rattle.task_machine.specs.declared.part.Private.{Private}
 use Rattle.shared_value.specs.SharedValue.{SharedValue, accounts, value_of}
-use Rattle.shared_value.specs.Fits.{Fits, home_of_part, part_of}
+use Rattle.shared_value.specs.Fits.{Fits, belongings_of_part, part_of}
 use Rattle.shared_value.proofs.BeforeTheEnd.{alive, part_now, status}
 use Rattle.shared_value.proofs.StepAccounts.{After, after_all, hold_same}
 
@@ -49,7 +49,7 @@ module _ (w : SharedValue) (k : ℕ) (p : Private) (F : Fits w k p) (on : (accou
   L = rested M t
 
   abbrev v' : Memory
-  v' = with_home (value_of w) t (home_of_part p)
+  v' = with_belongings (value_of w) t (belongings_of_part p)
 
   V : PartFits w.program w.settings (part_of w.settings p) (value_of w) l
   V = part_now w k p F on

@@ -113,7 +113,7 @@ module _ (w : SharedValue) (e : EntryValue) (I : IsSharedValue w) (free : refuse
     pub held_on : (u t : ℕ) → option_flatten (slice_get tasks_out u) ≡ option_flatten (slice_get w.tasks_out u) → (heap_of (accounts w) t).worker ≡ Some u → (heap_of (accounts w') t).worker ≡ Some u
     held_on u t same held = held_when_out u t (same ∙ ((stands_now w I (entry_on w e free)).tree_counts.task_out u t).1 held)
 
-    -- a part of a worker that goes on fits where its home does
+    -- a part of a worker that goes on fits where its belongings do
     pub part_fits : (u : ℕ) (p q : Private) → option_flatten (slice_get tasks_out u) ≡ option_flatten (slice_get w.tasks_out u) → Fits w u p → q.task ≡ p.task → q.leaf_limit ≡ p.leaf_limit → q.field_limit ≡ p.field_limit → HeapForm q.heap → IsMeasured pool q
         → FitsValue w.program w.settings (part_of w.settings q) (value_of w') (after w.program w.settings (accounts w) e) → Fits w' u q
     part_fits u p q same F et el ef form measured fits = record {

@@ -23,7 +23,7 @@ use Rattle.alloc_path.proofs.Counting.{writes_keep_counts}
 use Rattle.remembered_set.specs.declared.remembered.Source.{Source}
 use Rattle.remembered_set.specs.Moved.{target_of, new_reference, redirected, written}
 use Rattle.leaf_copy_gc.specs.Redirected.{new_address}
-use Rattle.core_relation.specs.Memory.{Chunk, In, mapped_chunk, mapped_home, objects_in, put_at, rewritten_home}
+use Rattle.core_relation.specs.Memory.{Chunk, In, mapped_chunk, mapped_belongings, objects_in, put_at, rewritten_belongings}
 use Rattle.core_relation.proofs.objects.Members.{in_chunk, map_in}
 use Rattle.core_relation.proofs.changes.Write.{at_is}
 use Rattle.core_relation.proofs.changes.Shown.{is_at_it}
@@ -35,9 +35,9 @@ use Rattle.task_homes.specs.HomesValue.{refs_of_rest}
 use Rattle.task_homes.specs.RestingHeaps.{Resting, refs_for, refs_in, with_ref_at, with_ref_for, with_ref_in}
 use Rattle.shared_value.specs.Measured.{AreMeasured}
 use Rattle.shared_value.specs.Stands.{HeapForm}
-use Rattle.shared_value.specs.SharedValue.{home_by, home_in, home_of, rest_at}
+use Rattle.shared_value.specs.SharedValue.{belongings_by, belongings_in, belongings_of, rest_at}
 use Rattle.shared_value.proofs.CellsRead.{numbered, seen_object}
-use Rattle.shared_value.proofs.FieldsLedTogether.{AreOnce, home_each, home_stays, home_together, lead_at, lead_off, lead_one, none_home, set_itself}
+use Rattle.shared_value.proofs.FieldsLedTogether.{AreOnce, belongings_each, belongings_stays, belongings_together, lead_at, lead_off, lead_one, none_belongings, set_itself}
 use Rattle.shared_value.proofs.UnitsMeasured.{measured_written}
 use Rattle.shared_value.proofs.ObjectRewritten.{chunks_put, form_written}
 
@@ -70,12 +70,12 @@ rest_set rests z r x e = by (slice_get rests z) refl e
 rest_off : (rests : List (Option Rest)) (z u : ℕ) (x : Option Rest) → (u ≡ z → ⊥) → rest_at (slice_set rests z x) u ≡ rest_at rests u
 rest_off rests z u x ne = ap option_flatten (got_other rests z u x ne)
 
-pub by_chunks : (h : LeafHeapValue) (view : List Level) (n : ℕ) (x : Work) → (home_by h view n x).chunks ≡ chunks_of h.chunks
+pub by_chunks : (h : LeafHeapValue) (view : List Level) (n : ℕ) (x : Work) → (belongings_by h view n x).chunks ≡ chunks_of h.chunks
 by_chunks h view n (Calls s) = refl
 by_chunks h view n (Result k r) = refl
 
-pub home_chunks : (r : Rest) → (home_of r).chunks ≡ chunks_of r.heap.chunks
-home_chunks r = by_chunks r.heap r.view r.allocations r.work
+pub belongings_chunks : (r : Rest) → (belongings_of r).chunks ≡ chunks_of r.heap.chunks
+belongings_chunks r = by_chunks r.heap r.view r.allocations r.work
 
 room_written : (h : LeafHeapValue) (a : Addr) (d : Cell) → d.mark ≡ (cell_of h.chunks a).mark → size_of d ≡ size_of (cell_of h.chunks a) → room_at (put_object h.chunks a d) h.current ≡ room_of h
 room_written h a d mark size = by h.current
@@ -102,9 +102,9 @@ module _ (ms : List (Addr × Addr)) where
   f a = new_address ms a
 
   -- a heap with one reference written
-  home_written : (r : Rest) (a : Addr) (k : ℕ) (x : Option Addr) (b : Birth) → HeapForm r.heap → (cell_of r.heap.chunks a).mark ≡ Born b
-      → home_of (record r { heap = with_ref_of r.heap a k x }) ≡ mapped_home (put_at a (with_fields (with_ref (cell_of r.heap.chunks a) k x))) (home_of r)
-  home_written r a k x b F e = by r.work
+  belongings_written : (r : Rest) (a : Addr) (k : ℕ) (x : Option Addr) (b : Birth) → HeapForm r.heap → (cell_of r.heap.chunks a).mark ≡ Born b
+      → belongings_of (record r { heap = with_ref_of r.heap a k x }) ≡ mapped_belongings (put_at a (with_fields (with_ref (cell_of r.heap.chunks a) k x))) (belongings_of r)
+  belongings_written r a k x b F e = by r.work
     where
       size : size_of (with_ref (cell_of r.heap.chunks a) k x) ≡ size_of (cell_of r.heap.chunks a)
       size = ap (λ n. 2 + (n + length (cell_of r.heap.chunks a).ints)) (length-set (cell_of r.heap.chunks a).refs k x)
@@ -115,9 +115,9 @@ module _ (ms : List (Addr × Addr)) where
       room : room_of (with_ref_of r.heap a k x) ≡ room_of r.heap
       room = room_written r.heap a (with_ref (cell_of r.heap.chunks a) k x) refl size
 
-      by : (w : Work) → home_by (with_ref_of r.heap a k x) r.view r.allocations w ≡ mapped_home (put_at a (with_fields (with_ref (cell_of r.heap.chunks a) k x))) (home_by r.heap r.view r.allocations w)
-      by (Calls s) = ap₂ (λ cs n. record (home_by r.heap r.view r.allocations (Calls s)) { chunks = cs; room = n }) chunks room
-      by (Result n q) = ap₂ (λ cs m. record (home_by r.heap r.view r.allocations (Result n q)) { chunks = cs; room = m }) chunks room
+      by : (w : Work) → belongings_by (with_ref_of r.heap a k x) r.view r.allocations w ≡ mapped_belongings (put_at a (with_fields (with_ref (cell_of r.heap.chunks a) k x))) (belongings_by r.heap r.view r.allocations w)
+      by (Calls s) = ap₂ (λ cs n. record (belongings_by r.heap r.view r.allocations (Calls s)) { chunks = cs; room = n }) chunks room
+      by (Result n q) = ap₂ (λ cs m. record (belongings_by r.heap r.view r.allocations (Result n q)) { chunks = cs; room = m }) chunks room
 
   -- ONE SOURCE
   module _ (H : Resting) (Good : ℕ → Type 0) (F : AreFormed H Good) (s : Source) (T : SourceThere H s Good) where
@@ -136,13 +136,13 @@ module _ (ms : List (Addr × Addr)) where
         ∙ (ap (λ o. slice_index_or (refs_of_rest o s.object) s.field None) T.is ∙ ap (λ m. slice_index_or (marked_object m c).refs s.field None) T.born)
 
     -- the source's object, as it is read
-    at_source : (u : ℕ) → Good u → (o : Located) → In (objects_in (home_in (rest_at H.rests u)).chunks) o → o.at ≡ s.object → (u ≡ T.home) × (o.refs ≡ c.refs) × (o.mutable ≡ c.mutable) × (o.ints ≡ c.ints)
+    at_source : (u : ℕ) → Good u → (o : Located) → In (objects_in (belongings_in (rest_at H.rests u)).chunks) o → o.at ≡ s.object → (u ≡ T.home) × (o.refs ≡ c.refs) × (o.mutable ≡ c.mutable) × (o.ints ≡ c.ints)
     at_source u good o i e = by (rest_at H.rests u) refl i
       where
-        by : (q : Option Rest) → rest_at H.rests u ≡ q → In (objects_in (home_in q).chunks) o → (u ≡ T.home) × (o.refs ≡ c.refs) × (o.mutable ≡ c.mutable) × (o.ints ≡ c.ints)
+        by : (q : Option Rest) → rest_at H.rests u ≡ q → In (objects_in (belongings_in q).chunks) o → (u ≡ T.home) × (o.refs ≡ c.refs) × (o.mutable ≡ c.mutable) × (o.ints ≡ c.ints)
         by None h j = absurd j
         by (Some x) h j =
-            let i' : In (objects_in (chunks_of x.heap.chunks)) o = subst (λ cs. In (objects_in cs) o) (home_chunks x) j in
+            let i' : In (objects_in (chunks_of x.heap.chunks)) o = subst (λ cs. In (objects_in cs) o) (belongings_chunks x) j in
             let ch = in_chunk (chunks_of x.heap.chunks) o i' in
             let k = map_in chunk_of x.heap.chunks ch.0 ch.1 in
             let number : k.0.number ≡ s.object.chunk = sym (numbered k.0.number 0 k.0.cells o (subst (λ (z : Chunk). In z.objects o) (sym k.2) ch.2)) ∙ ap (λ (z : Addr). z.chunk) e in
@@ -167,7 +167,7 @@ module _ (ms : List (Addr × Addr)) where
       pub pool : H'.pool ≡ H.pool
       pub count : length H'.rests ≡ length H.rests
       pub formed : AreFormed H' Good
-      pub homes : (u : ℕ) → Good u → home_in (rest_at H'.rests u) ≡ mapped_home (lead_one f s) (home_in (rest_at H.rests u))
+      pub belongings : (u : ℕ) → Good u → belongings_in (rest_at H'.rests u) ≡ mapped_belongings (lead_one f s) (belongings_in (rest_at H.rests u))
       pub there : (x : Source) → SourceThere H x Good → SourceThere H' x Good
 
     -- nothing is written, since what it holds was not moved
@@ -176,14 +176,14 @@ module _ (ms : List (Addr × Addr)) where
       pool = refl;
       count = refl;
       formed = F;
-      homes = λ u good. sym (home_stays (lead_one f s) (home_in (rest_at H.rests u)) (λ o i. by u good o i (same_address o.at s.object) refl));
+      belongings = λ u good. sym (belongings_stays (lead_one f s) (belongings_in (rest_at H.rests u)) (λ o i. by u good o i (same_address o.at s.object) refl));
       there = λ x y. y;
     }
       where
         same_refs : (o : Located) → o.refs ≡ c.refs → record o { refs = slice_set c.refs s.field (target_of refs_in H s) } ≡ o
         same_refs o e = ap (λ rs. record o { refs = rs }) (set_itself c.refs s.field (target_of refs_in H s) (sym held_is) ∙ sym e)
 
-        by : (u : ℕ) → Good u → (o : Located) → In (objects_in (home_in (rest_at H.rests u)).chunks) o → (v : Bool) → same_address o.at s.object ≡ v → lead_one f s o ≡ o
+        by : (u : ℕ) → Good u → (o : Located) → In (objects_in (belongings_in (rest_at H.rests u)).chunks) o → (v : Bool) → same_address o.at s.object ≡ v → lead_one f s o ≡ o
         by u good o i true e =
             let at : o.at ≡ s.object = at_is s.object o e in
             let q = at_source u good o i at in
@@ -237,7 +237,7 @@ module _ (ms : List (Addr × Addr)) where
         | inr ne ↦ F.owned u q good (sym (rest_off H.rests T.home u (Some r') ne) ∙ e) k i
       ]
 
-      one_is : (o : Located) → In (objects_in (home_in (rest_at H.rests T.home)).chunks) o → put_at s.object (with_fields d) o ≡ lead_one f s o
+      one_is : (o : Located) → In (objects_in (belongings_in (rest_at H.rests T.home)).chunks) o → put_at s.object (with_fields d) o ≡ lead_one f s o
       one_is o i = by (same_address o.at s.object) refl
         where
           by : (v : Bool) → same_address o.at s.object ≡ v → cond v (with_fields d o) o ≡ lead_one f s o
@@ -247,17 +247,17 @@ module _ (ms : List (Addr × Addr)) where
               (λ k. record o { mutable = sym q.2 k; refs = slice_set c.refs s.field x; ints = sym q.3 k }) ∙ sym (led_there o x at q.1 is)
           by false e = sym (elsewhere o (λ at. false≢true (sym e ∙ is_at_it s.object o at)))
 
-      homes_now : (u : ℕ) → Good u → home_in (rest_at rests' u) ≡ mapped_home (lead_one f s) (home_in (rest_at H.rests u))
-      homes_now u good = elim (cases_eq u T.home) [
+      belongings_now_all : (u : ℕ) → Good u → belongings_in (rest_at rests' u) ≡ mapped_belongings (lead_one f s) (belongings_in (rest_at H.rests u))
+      belongings_now_all u good = elim (cases_eq u T.home) [
         | inl at ↦
-            ap (λ z. home_in (rest_at rests' z)) at
-            ∙ (ap home_in (rest_set H.rests T.home T.rest r' T.is)
-            ∙ (home_written T.rest s.object s.field x T.birth (F.form T.home T.rest T.is) T.born
-            ∙ (ap (λ q. mapped_home (put_at s.object (with_fields d)) (home_in q)) (sym T.is)
-            ∙ (home_each (put_at s.object (with_fields d)) (lead_one f s) (home_in (rest_at H.rests T.home)) one_is ∙ ap (λ z. mapped_home (lead_one f s) (home_in (rest_at H.rests z))) (sym at)))))
+            ap (λ z. belongings_in (rest_at rests' z)) at
+            ∙ (ap belongings_in (rest_set H.rests T.home T.rest r' T.is)
+            ∙ (belongings_written T.rest s.object s.field x T.birth (F.form T.home T.rest T.is) T.born
+            ∙ (ap (λ q. mapped_belongings (put_at s.object (with_fields d)) (belongings_in q)) (sym T.is)
+            ∙ (belongings_each (put_at s.object (with_fields d)) (lead_one f s) (belongings_in (rest_at H.rests T.home)) one_is ∙ ap (λ z. mapped_belongings (lead_one f s) (belongings_in (rest_at H.rests z))) (sym at)))))
         | inr ne ↦
-            ap home_in (rest_off H.rests T.home u (Some r') ne)
-            ∙ sym (home_stays (lead_one f s) (home_in (rest_at H.rests u)) (λ o i. elsewhere o (λ at. ne (at_source u good o i at).0)))
+            ap belongings_in (rest_off H.rests T.home u (Some r') ne)
+            ∙ sym (belongings_stays (lead_one f s) (belongings_in (rest_at H.rests u)) (λ o i. elsewhere o (λ at. ne (at_source u good o i at).0)))
       ]
 
       there_now : (z : Source) → SourceThere H z Good → SourceThere (record H { rests = rests' }) z Good
@@ -281,7 +281,7 @@ module _ (ms : List (Addr × Addr)) where
         pool = refl;
         count = length-set H.rests T.home (Some r');
         formed = record { form = form_now; measured = measured_now; owned = owned_now };
-        homes = homes_now;
+        belongings = belongings_now_all;
         there = there_now;
       }
 
@@ -315,10 +315,10 @@ module _ (ms : List (Addr × Addr)) where
     pub count : length H'.rests ≡ length H.rests
     pub form : (u : ℕ) (r : Rest) → rest_at H'.rests u ≡ Some r → HeapForm r.heap
     pub measured : (u : ℕ) (r : Rest) → Good u → rest_at H'.rests u ≡ Some r → AreMeasured H.pool u r.heap.chunks
-    pub homes : (u : ℕ) → Good u → home_in (rest_at H'.rests u) ≡ rewritten_home f ss (home_in (rest_at H.rests u))
+    pub belongings : (u : ℕ) → Good u → belongings_in (rest_at H'.rests u) ≡ rewritten_belongings f ss (belongings_in (rest_at H.rests u))
 
   pub lead_all : (ss : List Source) (H : Resting) (Good : ℕ → Type 0) → AreOnce ss → ((s : Source) → In ss s → SourceThere H s Good) → AreFormed H Good → Led H Good ss (fold (redirected refs_in with_ref_in ms) H ss)
-  lead_all [] H Good once there F = record { pool = refl; count = refl; form = F.form; measured = F.measured; homes = λ u good. sym (none_home f (home_in (rest_at H.rests u))) }
+  lead_all [] H Good once there F = record { pool = refl; count = refl; form = F.form; measured = F.measured; belongings = λ u good. sym (none_belongings f (belongings_in (rest_at H.rests u))) }
   lead_all (s ∷ ss) H Good once there F =
       let T = step H Good F s (there s (inl refl)) in
       let R = lead_all ss (redirected refs_in with_ref_in ms H s) Good once.1 (λ x i. T.there x (there x (inr i))) T.formed in
@@ -327,5 +327,5 @@ module _ (ms : List (Addr × Addr)) where
         count = R.count ∙ T.count;
         form = R.form;
         measured = λ u r good e. subst (λ (z : PoolValue). AreMeasured z u r.heap.chunks) T.pool (R.measured u r good e);
-        homes = λ u good. R.homes u good ∙ (ap (rewritten_home f ss) (T.homes u good) ∙ home_together f s ss (home_in (rest_at H.rests u)) once.0);
+        belongings = λ u good. R.belongings u good ∙ (ap (rewritten_belongings f ss) (T.belongings u good) ∙ belongings_together f s ss (belongings_in (rest_at H.rests u)) once.0);
       }

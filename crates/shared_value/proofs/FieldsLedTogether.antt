@@ -7,7 +7,7 @@ use Rattle.std.proofs.lemmas.Bool.{eqb-true, false≢true}
 use Rattle.object_layout.specs.declared.word.Addr.{Addr}
 use Rattle.object_layout.specs.Objects.{Located}
 use Rattle.remembered_set.specs.declared.remembered.Source.{Source}
-use Rattle.core_relation.specs.Memory.{Chunk, Home, In, is_source, mapped_chunk, mapped_home, objects_in, rewritten, rewritten_home, rewritten_refs}
+use Rattle.core_relation.specs.Memory.{Chunk, Belongings, In, is_source, mapped_chunk, mapped_belongings, objects_in, rewritten, rewritten_belongings, rewritten_refs}
 use Rattle.core_relation.proofs.objects.Members.{in_chunk, in_objects}
 
 -- ---- ONE SOURCE AFTER ANOTHER
@@ -53,7 +53,7 @@ none_rewritten : (f : Addr → Addr) (a : Addr) (i : ℕ) (rs : List (Option Add
 none_rewritten f a i [] = refl
 none_rewritten f a i (r ∷ rs) = ap (λ xs. r ∷ xs) (none_rewritten f a (suc i) rs)
 
--- homes
+-- belongings
 objects_each : (one two : Located → Located) (os : List Located) → ((o : Located) → In os o → one o ≡ two o) → map one os ≡ map two os
 objects_each one two [] h = refl
 objects_each one two (o ∷ os) h = ap₂ (λ x xs. x ∷ xs) (h o (inl refl)) (objects_each one two os (λ q i. h q (inr i)))
@@ -64,8 +64,8 @@ chunks_each one two (k ∷ ks) h =
     ap₂ (λ x xs. record k { objects = x } ∷ xs) (objects_each one two k.objects (λ o i. h o (in_objects (k ∷ ks) k o (inl refl) i)))
     (chunks_each one two ks (λ o i. let c = in_chunk ks o i in h o (in_objects (k ∷ ks) c.0 o (inr c.1) c.2)))
 
-pub home_each : (one two : Located → Located) (h : Home) → ((o : Located) → In (objects_in h.chunks) o → one o ≡ two o) → mapped_home one h ≡ mapped_home two h
-home_each one two h e = ap (λ ks. record h { chunks = ks }) (chunks_each one two h.chunks e)
+pub belongings_each : (one two : Located → Located) (h : Belongings) → ((o : Located) → In (objects_in h.chunks) o → one o ≡ two o) → mapped_belongings one h ≡ mapped_belongings two h
+belongings_each one two h e = ap (λ ks. record h { chunks = ks }) (chunks_each one two h.chunks e)
 
 objects_same : (os : List Located) → map (λ (o : Located). o) os ≡ os
 objects_same [] = refl
@@ -76,8 +76,8 @@ chunks_none [] = refl
 chunks_none (k ∷ ks) = ap₂ (λ x xs. record k { objects = x } ∷ xs) (objects_same k.objects) (chunks_none ks)
 
 -- where no object changes
-pub home_stays : (one : Located → Located) (h : Home) → ((o : Located) → In (objects_in h.chunks) o → one o ≡ o) → mapped_home one h ≡ h
-home_stays one h e = home_each one (λ o. o) h e ∙ ap (λ ks. record h { chunks = ks }) (chunks_none h.chunks)
+pub belongings_stays : (one : Located → Located) (h : Belongings) → ((o : Located) → In (objects_in h.chunks) o → one o ≡ o) → mapped_belongings one h ≡ h
+belongings_stays one h e = belongings_each one (λ o. o) h e ∙ ap (λ ks. record h { chunks = ks }) (chunks_none h.chunks)
 
 objects_twice : (one two : Located → Located) (os : List Located) → map one (map two os) ≡ map (λ o. one (two o)) os
 objects_twice one two [] = refl
@@ -87,13 +87,13 @@ chunks_twice : (one two : Located → Located) (ks : List Chunk) → map (mapped
 chunks_twice one two [] = refl
 chunks_twice one two (k ∷ ks) = ap₂ (λ x xs. record k { objects = x } ∷ xs) (objects_twice one two k.objects) (chunks_twice one two ks)
 
-pub home_together : (f : Addr → Addr) (s : Source) (ss : List Source) (h : Home) → list_any (is_source s.object s.field) ss ≡ false → rewritten_home f ss (mapped_home (lead_one f s) h) ≡ rewritten_home f (s ∷ ss) h
-home_together f s ss h once =
+pub belongings_together : (f : Addr → Addr) (s : Source) (ss : List Source) (h : Belongings) → list_any (is_source s.object s.field) ss ≡ false → rewritten_belongings f ss (mapped_belongings (lead_one f s) h) ≡ rewritten_belongings f (s ∷ ss) h
+belongings_together f s ss h once =
     ap (λ ks. record h { chunks = ks }) (chunks_twice (rewritten f ss) (lead_one f s) h.chunks)
-    ∙ home_each (λ o. rewritten f ss (lead_one f s o)) (rewritten f (s ∷ ss)) h (λ o i. one_together f s ss o once)
+    ∙ belongings_each (λ o. rewritten f ss (lead_one f s o)) (rewritten f (s ∷ ss)) h (λ o i. one_together f s ss o once)
 
-pub none_home : (f : Addr → Addr) (h : Home) → rewritten_home f [] h ≡ h
-none_home f h = home_stays (rewritten f []) h (λ o i. ap (λ rs. record o { refs = rs }) (none_rewritten f o.at 0 o.refs))
+pub none_belongings : (f : Addr → Addr) (h : Belongings) → rewritten_belongings f [] h ≡ h
+none_belongings f h = belongings_stays (rewritten f []) h (λ o i. ap (λ rs. record o { refs = rs }) (none_rewritten f o.at 0 o.refs))
 
 -- ---- THE REFERENCES OF ONE OBJECT
 

@@ -55,9 +55,9 @@ module _ (p : ProgramText) (s : SettingsValue) (lims : AreLimits s) (form : IsPr
   abbrev l : Ledger
   l = opening p s
 
-  homes_are : (t : ℕ) → (value_of w).homes t ≡ (first p).homes t
-  homes_are zero = refl
-  homes_are (suc t) = refl
+  belongings_are : (t : ℕ) → (value_of w).belongings t ≡ (first p).belongings t
+  belongings_are zero = refl
+  belongings_are (suc t) = refl
 
   noted_are : (t : ℕ) → (value_of w).noted t ≡ (first p).noted t
   noted_are zero = ap (λ (c : Content). record { sources = c.sources; kept = c.kept; keeps = c.keeps; marked = None }) empty
@@ -65,8 +65,8 @@ module _ (p : ProgramText) (s : SettingsValue) (lims : AreLimits s) (form : IsPr
 
   value_is : first p ≡ value_of w
   value_is = sym (
-      ap (λ hs. record (value_of w) { homes = hs }) (fun_ext homes_are)
-      ∙ ap (λ ns. record { homes = (first p).homes; noted = ns; owner = (value_of w).owner }) (fun_ext noted_are))
+      ap (λ hs. record (value_of w) { belongings = hs }) (fun_ext belongings_are)
+      ∙ ap (λ ns. record { belongings = (first p).belongings; noted = ns; owner = (value_of w).owner }) (fun_ext noted_are))
 
   keeps_are : (t : ℕ) → ((value_of w).noted t).keeps ≡ false
   keeps_are t = ap (λ (z : Noted). z.keeps) (noted_are t)
@@ -91,13 +91,13 @@ module _ (p : ProgramText) (s : SettingsValue) (lims : AreLimits s) (form : IsPr
       worker_at zero e = absurd cc
       worker_at (suc t) e = absurd cc
 
-  begun_at : (t : ℕ) → Rests l t → BegunBy (value_of w) l t ((value_of w).homes t).begun
+  begun_at : (t : ℕ) → Rests l t → BegunBy (value_of w) l t ((value_of w).belongings t).begun
   begun_at zero r = refl
   begun_at (suc t) r = refl
 
   stands : StandsFor (value_of w) (tree_counts_of w) l
   stands = record {
-    homes = subst (λ (v : Memory). Stands v l) value_is (first_stands p s);
+    belongings = subst (λ (v : Memory). Stands v l) value_is (first_stands p s);
     tree_counts = record { node = node_is; task_out = no_task_out; used = refl; steps = refl; outputs = refl; end = refl };
     begun = begun_at;
     keeps = λ t. keeps_are t ∙ sym (ap (λ b. b && not (heap_of l t).swept) (waits_none t));

@@ -19,18 +19,18 @@ use Rattle.alloc_path.specs.LeafHeapValue.{counted}
 use Rattle.ledger_step_laws.specs.Accounts.{aside, rested}
 use Rattle.ledger_step_laws.proofs.Rested.{rested_view, rested_worker}
 use Rattle.core_relation.specs.Layout.{AreLaidOut}
-use Rattle.core_relation.specs.Fits.{with_home}
+use Rattle.core_relation.specs.Fits.{with_belongings}
 use Rattle.core_relation.specs.Reads.{AllRead}
-use Rattle.core_relation.specs.Stands.{HomeStands, Stands, names_of, small_chunks}
-use Rattle.core_relation.specs.Memory.{Home, In, Memory, object_name, objects_in}
+use Rattle.core_relation.specs.Stands.{BelongingsStand, Stands, names_of, small_chunks}
+use Rattle.core_relation.specs.Memory.{Belongings, In, Memory, object_name, objects_in}
 use Rattle.core_relation.proofs.objects.Members.{in_objects}
-use Rattle.core_relation.proofs.changes.With.{at_home}
+use Rattle.core_relation.proofs.changes.With.{at_belongings}
 use Rattle.task_machine.specs.declared.part.Private.{Private}
 use Rattle.task_machine.specs.Accounts.{small_lists}
 use Rattle.shared_value.specs.Objects.{chunk_of}
 use Rattle.shared_value.specs.SharedValue.{SharedValue, accounts, value_of}
 use Rattle.shared_value.specs.Stands.{IsSharedValue}
-use Rattle.shared_value.specs.Fits.{Fits, home_of_part}
+use Rattle.shared_value.specs.Fits.{Fits, belongings_of_part}
 use Rattle.shared_value.specs.Due.{take_by}
 use Rattle.shared_value.proofs.HeapCounts.{small_names}
 use Rattle.shared_value.proofs.BeforeTheEnd.{used_now}
@@ -51,11 +51,11 @@ module _ (w : SharedValue) (k : ℕ) (p : Private) (I : IsSharedValue w) (F : Fi
   abbrev t : ℕ
   t = p.task
 
-  abbrev h : Home
-  h = home_of_part (record p { fresh = 0 })
+  abbrev h : Belongings
+  h = belongings_of_part (record p { fresh = 0 })
 
   abbrev v' : Memory
-  v' = with_home (value_of w) t h
+  v' = with_belongings (value_of w) t h
 
   abbrev L : Ledger
   L = rested (aside l) t
@@ -66,28 +66,28 @@ module _ (w : SharedValue) (k : ℕ) (p : Private) (I : IsSharedValue w) (F : Fi
   at_rest : (heap_of L t).worker ≡ None
   at_rest = rested_worker (aside l) t
 
-  H : HomeStands v' L t
-  H = W.homes t at_rest
+  H : BelongingsStand v' L t
+  H = W.belongings t at_rest
 
-  here : v'.homes t ≡ h
-  here = at_home (value_of w) t h
+  here : v'.belongings t ≡ h
+  here = at_belongings (value_of w) t h
 
   store_is : L.machine.store ≡ l.machine.store
   store_is = ap (λ (m : State). m.store) (heap_machine (aside l) t let_go)
 
   words_same : (o : Located) → In (objects_in h.chunks) o → SameWords l.machine o
   words_same o i =
-      let c = W.contents t o at_rest (subst (λ (z : Home). In (objects_in z.chunks) o) (sym here) i) in
+      let c = W.contents t o at_rest (subst (λ (z : Belongings). In (objects_in z.chunks) o) (sym here) i) in
       ap (λ s. words_of (object_at s (object_name o))) (sym store_is)
       ∙ (ap words_of c.1 ∙ ap₂ (λ a b. 2 + a + b) (sym (refs_long _ o.refs c.0.refs c.2.refs)) (ap length (sym c.2.ints)))
 
   chunks_are : (heap_of l t).chunks ≡ small_lists p.heap.chunks
   chunks_are =
       sym (rested_view (λ (z : Heap). z.chunks) (λ z. refl) (aside l) t)
-      ∙ (sym H.names.small ∙ (ap (λ (z : Home). map names_of (small_chunks z.chunks)) here ∙ small_names p.heap.chunks))
+      ∙ (sym H.names.small ∙ (ap (λ (z : Belongings). map names_of (small_chunks z.chunks)) here ∙ small_names p.heap.chunks))
 
   laid : AreLaidOut h.chunks (heap_of L t).reserved
-  laid = subst (λ (z : Home). AreLaidOut z.chunks (heap_of L t).reserved) here H.laid
+  laid = subst (λ (z : Belongings). AreLaidOut z.chunks (heap_of L t).reserved) here H.laid
 
   -- the words of its small objects are those of their names
   pub small_is : words_sum l.machine (small_in (heap_of l t)) ≡ small_words p.heap.chunks

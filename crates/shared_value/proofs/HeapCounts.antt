@@ -1,4 +1,4 @@
--- A heap is as its account says, by what of it alone is known and what its home is read as.
+-- A heap is as its account says, by what of it alone is known and what its belongings are read as.
 use Rattle.std.proofs.Common.{◌≡◌, ℕ, zero, suc, ◌+◌, ◌*◌, ◌/◌, ◌<◌, ◌^◌, ◌==◌, ◌&&◌, ◌++◌, not, arith, Bool, true, false, cond, Option, Some, None, List, [], ◌∷◌, length, map, inl, inr, refl, ap, ap₂, sym, subst, ◌∙◌, ne_eqb}
 use Rattle.std.proofs.lemmas.Bool.{cond-true, false≢true}
 use Rattle.hh_model.specs.declared.data.Name.{Name}

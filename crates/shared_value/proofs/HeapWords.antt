@@ -13,7 +13,7 @@ use Rattle.object_layout.specs.Objects.{Located, located, located_by, objects_fr
 use Rattle.object_layout.proofs.ObjectLemmas.{behind}
 use Rattle.alloc_path.specs.LeafHeapValue.{AreTidy}
 use Rattle.ledger_step_laws.specs.Accounts.{Rests}
-use Rattle.core_relation.specs.Stands.{HomeStands, Stands, large_chunks, names_of, small_chunks}
+use Rattle.core_relation.specs.Stands.{BelongingsStand, Stands, large_chunks, names_of, small_chunks}
 use Rattle.core_relation.specs.Memory.{Chunk, In, Memory, object_name, objects, objects_in}
 use Rattle.core_relation.proofs.objects.Members.{in_objects}
 use Rattle.task_machine.specs.Accounts.{large_names, named_by, names_in, small_lists}
@@ -57,9 +57,9 @@ module _ (m : State) where
           omega (arith, both, own, go)
 
 -- a value stands for these accounts, and a heap with these chunks is at rest
-module _ (v : Memory) (l : Ledger) (t : ℕ) (ks : List ChunkValue) (V : Stands v l) (rests : Rests l t) (here : (v.homes t).chunks ≡ chunks_of ks) where
-  H : HomeStands v l t
-  H = V.homes t rests
+module _ (v : Memory) (l : Ledger) (t : ℕ) (ks : List ChunkValue) (V : Stands v l) (rests : Rests l t) (here : (v.belongings t).chunks ≡ chunks_of ks) where
+  H : BelongingsStand v l t
+  H = V.belongings t rests
 
   -- each object has as many words as the machine's of its name
   pub words_same : (o : Located) → In (objects v t) o → SameWords l.machine o

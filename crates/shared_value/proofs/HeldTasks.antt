@@ -16,49 +16,49 @@ use Rattle.ledger_step_laws.specs.Accounts.{Rests, own}
 use Rattle.ledger_step_laws.proofs.Rested.{rested_worker}
 use Rattle.ledger_step_laws.specs.Accounts.{StepsAlone}
 use Rattle.task_machine.specs.declared.part.Begun.{Begun}
-use Rattle.core_relation.specs.Memory.{Home, In, Lies, Memory, objects, objects_in, shown_at}
+use Rattle.core_relation.specs.Memory.{Belongings, In, Lies, Memory, objects, objects_in, shown_at}
 use Rattle.core_relation.specs.Reads.{TaskIsRead}
 use Rattle.core_relation.specs.Stands.{Place, Stands}
 use Rattle.core_relation.specs.Begins.{IsReachedAt}
 use Rattle.core_relation.specs.Copies.{PartFits}
-use Rattle.core_relation.specs.Fits.{FitsAt, Part, ahead, with_home}
+use Rattle.core_relation.specs.Fits.{FitsAt, Part, ahead, with_belongings}
 use Rattle.core_relation.specs.Since.{NotedAt}
 use Rattle.core_relation.specs.Whole.{BegunBy, StandsFor, TreeCounts}
 use Rattle.core_relation.specs.Worker.{Fits as FitsValue}
-use Rattle.core_relation.proofs.changes.Alone.{home_kept}
+use Rattle.core_relation.proofs.changes.Alone.{belongings_kept}
 use Rattle.core_relation.proofs.objects.Carry.{object_kept, task_kept}
 use Rattle.core_relation.proofs.changes.Giving.{gives_kept}
 use Rattle.core_relation.proofs.notes.Notes.{notes_stay, same_whole}
 use Rattle.core_entry_laws.proofs.parts.Parts.{ahead_alone}
 use Rattle.core_relation.proofs.notes.Rooted.{root_same}
 use Rattle.core_relation.proofs.changes.Same.{source_same}
-use Rattle.core_relation.proofs.changes.With.{at_home, off_home}
+use Rattle.core_relation.proofs.changes.With.{at_belongings, off_belongings}
 use Rattle.core_entry_laws.proofs.parts.Quiet.{aside_is}
 
--- the same value, with other homes of the tasks that workers hold
-module _ (v : Memory) (hs : ℕ → Home) (l : Ledger) (same : (u : ℕ) → Rests l u → hs u ≡ v.homes u) where
+-- the same value, with other belongings of the tasks that workers hold
+module _ (v : Memory) (hs : ℕ → Belongings) (l : Ledger) (same : (u : ℕ) → Rests l u → hs u ≡ v.belongings u) where
   abbrev v' : Memory
-  v' = record v { homes = hs }
+  v' = record v { belongings = hs }
 
   place : (n : Name) (a : Addr) → Place v l n a → Place v' l n a
-  place n a p = record { chunk = p.chunk; here = λ r. subst (λ (h : Home). Lies h.chunks n a) (sym (same (own l n) r)) (p.here r) }
+  place n a p = record { chunk = p.chunk; here = λ r. subst (λ (h : Belongings). Lies h.chunks n a) (sym (same (own l n) r)) (p.here r) }
 
   was : (u : ℕ) (o : Located) → Rests l u → In (objects v' u) o → In (objects v u) o
-  was u o r i = subst (λ (h : Home). In (objects_in h.chunks) o) (same u r) i
+  was u o r i = subst (λ (h : Belongings). In (objects_in h.chunks) o) (same u r) i
 
   is : (u : ℕ) (o : Located) → Rests l u → In (objects v u) o → In (objects v' u) o
-  is u o r i = subst (λ (h : Home). In (objects_in h.chunks) o) (sym (same u r)) i
+  is u o r i = subst (λ (h : Belongings). In (objects_in h.chunks) o) (sym (same u r)) i
 
   pub stands_held : Stands v l → Stands v' l
   stands_held V = record {
     made = V.made;
-    homes = λ u r. home_kept v v' l l u (same u r) (λ k e. e) refl refl refl (V.homes u r);
+    belongings = λ u r. belongings_kept v v' l l u (same u r) (λ k e. e) refl refl refl (V.belongings u r);
     contents = λ u o r i. (let c = V.contents u o r (was u o r i) in (c.0, c.1, object_kept (Place v l) (Place v' l) o c.0 (λ n j. place n) c.2));
-    tasks = λ u x r e. subst (λ (h : Home). TaskIsRead (Place v' l) h x) (sym (same u r)) (task_kept (Place v l) (Place v' l) (v.homes u) x (λ n j. place n) (V.tasks u x r e));
+    tasks = λ u x r e. subst (λ (h : Belongings). TaskIsRead (Place v' l) h x) (sym (same u r)) (task_kept (Place v l) (Place v' l) (v.belongings u) x (λ n j. place n) (V.tasks u x r e));
     remembered = λ u o x i n r j e at. V.remembered u o x i n r (was u o r j) e at;
     sources = λ u s i. (let k = V.sources u s i in source_same l l refl v v' u s k (place k.name s.object k.place) refl k.kept);
-    views = λ u r live z o up ne rz i. ap (λ (h : Home). shown_at h.view o.at) (same u r) ∙ V.views u r live z o up ne rz (was z o rz i);
-    gives = λ u z r live up ne w rz. gives_kept v v' z u (ap (λ (h : Home). h.view) (same u r)) (ap (λ (h : Home). h.view) (same z rz)) (λ n o. o) (V.gives u z r live up ne w rz);
+    views = λ u r live z o up ne rz i. ap (λ (h : Belongings). shown_at h.view o.at) (same u r) ∙ V.views u r live z o up ne rz (was z o rz i);
+    gives = λ u z r live up ne w rz. gives_kept v v' z u (ap (λ (h : Belongings). h.view) (same u r)) (ap (λ (h : Belongings). h.view) (same z rz)) (λ n o. o) (V.gives u z r live up ne w rz);
   }
 
   begun_held : (t : ℕ) → Rests l t → (b : Option Begun) → BegunBy v l t b → BegunBy v' l t b
@@ -67,11 +67,11 @@ module _ (v : Memory) (hs : ℕ → Home) (l : Ledger) (same : (u : ℕ) → Res
     few = B.few;
     once = B.once;
     owned = B.owned;
-    apart = λ k c i j. B.apart k c i (subst (λ (h : Home). In h.chunks c) (same t r) j);
+    apart = λ k c i j. B.apart k c i (subst (λ (h : Belongings). In h.chunks c) (same t r) j);
     survivors = λ o i.
         let s = B.survivors o (was t o r i) in (
-          (λ e. s.0 (subst (λ (h : Home). IsReachedAt h b.roots o.at) (same t r) e)),
-          (λ e. subst (λ (h : Home). IsReachedAt h b.roots o.at) (sym (same t r)) (s.1 e)),
+          (λ e. s.0 (subst (λ (h : Belongings). IsReachedAt h b.roots o.at) (same t r) e)),
+          (λ e. subst (λ (h : Belongings). IsReachedAt h b.roots o.at) (sym (same t r)) (s.1 e)),
         );
   }
 
@@ -79,26 +79,26 @@ module _ (v : Memory) (hs : ℕ → Home) (l : Ledger) (same : (u : ℕ) → Res
   module _ (waits : (u : ℕ) → is_waiting (slice_get l.machine.tasks u) ≡ true → Rests l u) where
     noted : (c : TreeCounts) → StandsFor v c l → (t : ℕ) → Rests l t → NotedAt v' l t
     noted c S t r =
-        notes_stay v v' l l t (record { keeps = refl; kept = refl; waits = refl; swept = refl; snapshot = refl; none_new = λ k e. e; frames = ap (λ (h : Home). h.frames) (same t r); rooted = λ b y. root_same v v' l l t (λ s i. i) (λ k e. e) b y y.rests (ap (λ (h : Home). objects_in h.chunks) (same y.home y.rests)) }) refl refl
-        (same_whole v v' t (ap (λ (h : Home). objects_in h.chunks) (same t r)) (ap (λ (h : Home). length h.chunks) (same t r))) (record { keeps = S.keeps t; since = S.since t; marks = S.marks t })
+        notes_stay v v' l l t (record { keeps = refl; kept = refl; waits = refl; swept = refl; snapshot = refl; none_new = λ k e. e; frames = ap (λ (h : Belongings). h.frames) (same t r); rooted = λ b y. root_same v v' l l t (λ s i. i) (λ k e. e) b y y.rests (ap (λ (h : Belongings). objects_in h.chunks) (same y.home y.rests)) }) refl refl
+        (same_whole v v' t (ap (λ (h : Belongings). objects_in h.chunks) (same t r)) (ap (λ (h : Belongings). length h.chunks) (same t r))) (record { keeps = S.keeps t; since = S.since t; marks = S.marks t })
 
     rest : (c : TreeCounts) → StandsFor v c l → (t : ℕ) → (v.noted t).keeps ≡ true → Rests l t
     rest c S t e = waits t (and_parts (is_waiting (slice_get l.machine.tasks t)) (not (heap_of l t).swept) (sym (S.keeps t) ∙ e)).0
 
     pub stands_for_held : (c : TreeCounts) → StandsFor v c l → StandsFor v' c l
     stands_for_held c S = record {
-      homes = stands_held S.homes;
+      belongings = stands_held S.belongings;
       tree_counts = S.tree_counts;
-      begun = λ t r. begun_held t r (hs t).begun (subst (λ (h : Home). BegunBy v l t h.begun) (sym (same t r)) (S.begun t r));
+      begun = λ t r. begun_held t r (hs t).begun (subst (λ (h : Belongings). BegunBy v l t h.begun) (sym (same t r)) (S.begun t r));
       keeps = S.keeps;
       since = λ t e. (noted c S t (rest c S t e)).since e;
       marks = λ t e. (noted c S t (rest c S t e)).marks e;
     }
 
 -- A PART
-module _ (v : Memory) (hs : ℕ → Home) (l : Ledger) (same : (u : ℕ) → Rests l u → hs u ≡ v.homes u) (p : ProgramText) (s : SettingsValue) (q : Part) (S : SoundLedger l) where
+module _ (v : Memory) (hs : ℕ → Belongings) (l : Ledger) (same : (u : ℕ) → Rests l u → hs u ≡ v.belongings u) (p : ProgramText) (s : SettingsValue) (q : Part) (S : SoundLedger l) where
   abbrev w : Memory
-  w = record v { homes = hs }
+  w = record v { belongings = hs }
 
   abbrev t : ℕ
   t = q.task
@@ -106,19 +106,19 @@ module _ (v : Memory) (hs : ℕ → Home) (l : Ledger) (same : (u : ℕ) → Res
   abbrev K : Ledger
   K = ahead p q l
 
-  -- its homes beside its own
+  -- its belongings beside its own
   module _ (A : StepsAlone l K t) where
-    with_same : (u : ℕ) → Rests K u → (with_home w t q.home).homes u ≡ (with_home v t q.home).homes u
+    with_same : (u : ℕ) → Rests K u → (with_belongings w t q.belongings).belongings u ≡ (with_belongings v t q.belongings).belongings u
     with_same u r = elim (cases_eq u t) [
-      | inl e ↦ ap (with_home w t q.home).homes e ∙ (at_home w t q.home ∙ (sym (at_home v t q.home) ∙ ap (with_home v t q.home).homes (sym e)))
-      | inr ne ↦ off_home w t q.home u ne ∙ (same u (ap (λ (h : Heap). h.worker) (sym (A.heaps u ne)) ∙ r) ∙ sym (off_home v t q.home u ne))
+      | inl e ↦ ap (with_belongings w t q.belongings).belongings e ∙ (at_belongings w t q.belongings ∙ (sym (at_belongings v t q.belongings) ∙ ap (with_belongings v t q.belongings).belongings (sym e)))
+      | inr ne ↦ off_belongings w t q.belongings u ne ∙ (same u (ap (λ (h : Heap). h.worker) (sym (A.heaps u ne)) ∙ r) ∙ sym (off_belongings v t q.belongings u ne))
     ]
 
-    stands_part : Stands (with_home v t q.home) K → Stands (with_home w t q.home) K
-    stands_part V = stands_held (with_home v t q.home) (with_home w t q.home).homes K with_same V
+    stands_part : Stands (with_belongings v t q.belongings) K → Stands (with_belongings w t q.belongings) K
+    stands_part V = stands_held (with_belongings v t q.belongings) (with_belongings w t q.belongings).belongings K with_same V
 
-    begun_part : BegunBy (with_home v t q.home) K t q.home.begun → BegunBy (with_home w t q.home) K t q.home.begun
-    begun_part B = begun_held (with_home v t q.home) (with_home w t q.home).homes K with_same t (rested_worker _ t) q.home.begun B
+    begun_part : BegunBy (with_belongings v t q.belongings) K t q.belongings.begun → BegunBy (with_belongings w t q.belongings) K t q.belongings.begun
+    begun_part B = begun_held (with_belongings v t q.belongings) (with_belongings w t q.belongings).belongings K with_same t (rested_worker _ t) q.belongings.begun B
 
   pub fits_held : l.machine.end ≡ None → FitsValue p s q v l → FitsValue p s q w l
   fits_held going F =

@@ -18,10 +18,10 @@ use Rattle.run_ledger.specs.Steps.{task_steps}
 use Rattle.alloc_path.specs.LeafHeapValue.{counted, room_of}
 use Rattle.task_frames.specs.declared.frames.Frame.{Frame}
 use Rattle.ledger_step_laws.proofs.Rested.{rested_view, rested_worker}
-use Rattle.core_relation.specs.Stands.{HomeStands}
-use Rattle.core_relation.specs.Fits.{ahead, with_home}
-use Rattle.core_relation.specs.Memory.{Home}
-use Rattle.core_relation.proofs.changes.With.{at_home}
+use Rattle.core_relation.specs.Stands.{BelongingsStand}
+use Rattle.core_relation.specs.Fits.{ahead, with_belongings}
+use Rattle.core_relation.specs.Memory.{Belongings}
+use Rattle.core_relation.proofs.changes.With.{at_belongings}
 use Rattle.task_machine.specs.declared.part.Private.{Private}
 use Rattle.task_machine.specs.Accounts.{AreReserved, IsCounted}
 use Rattle.task_machine.specs.Fits.{FitsNow as FitsMachine}
@@ -32,7 +32,7 @@ use Rattle.task_machine.proofs.Fitting.{int_same}
 use Rattle.task_machine.proofs.Accounted.{words_for_some}
 use Rattle.shared_value.specs.SharedValue.{SharedValue, accounts, value_of}
 use Rattle.shared_value.specs.Stands.{IsSharedValue}
-use Rattle.shared_value.specs.Fits.{Fits, home_of_part, part_of}
+use Rattle.shared_value.specs.Fits.{Fits, belongings_of_part, part_of}
 use Rattle.shared_value.specs.Next.{instr_asks, line_asks, part_asks}
 use Rattle.shared_value.proofs.PartFitsMachine as link
 use Rattle.shared_value.proofs.StepsEntered.{counted_now}
@@ -81,14 +81,14 @@ module _ (w : SharedValue) (k : ℕ) (p : Private) (I : IsSharedValue w) (F : Fi
   abbrev L : Ledger
   L = ahead w.program (part_of w.settings p) (accounts w)
 
-  abbrev h : Home
-  h = home_of_part p
+  abbrev h : Belongings
+  h = belongings_of_part p
 
-  pub home_is : HomeStands (with_home (value_of w) t h) L t
-  home_is = (link.V w k p I F on).stands.homes t (rested_worker M t)
+  pub belongings_is : BelongingsStand (with_belongings (value_of w) t h) L t
+  belongings_is = (link.V w k p I F on).stands.belongings t (rested_worker M t)
 
-  here : (with_home (value_of w) t h).homes t ≡ h
-  here = at_home (value_of w) t h
+  here : (with_belongings (value_of w) t h).belongings t ≡ h
+  here = at_belongings (value_of w) t h
 
   -- its next step allocates as many words as that of its task then
   pub asks_is : asked w.program M.machine t ≡ part_asks w.program p
@@ -97,10 +97,10 @@ module _ (w : SharedValue) (k : ℕ) (p : Private) (I : IsSharedValue w) (F : Fi
       ∙ asked_same w.program p L.machine _ (link.first_fits w k p I F on)
 
   pub since_is : p.heap.since ≡ (heap_of M t).since
-  since_is = ap (λ (z : Home). z.since) (sym here) ∙ (home_is.since ∙ rested_view (λ (z : Heap). z.since) (λ z. refl) M t)
+  since_is = ap (λ (z : Belongings). z.since) (sym here) ∙ (belongings_is.since ∙ rested_view (λ (z : Heap). z.since) (λ z. refl) M t)
 
   pub room_is : room_of p.heap ≡ (heap_of M t).room
-  room_is = ap (λ (z : Home). z.room) (sym here) ∙ (home_is.room ∙ rested_view (λ (z : Heap). z.room) (λ z. refl) M t)
+  room_is = ap (λ (z : Belongings). z.room) (sym here) ∙ (belongings_is.room ∙ rested_view (λ (z : Heap). z.room) (λ z. refl) M t)
 
   C : IsCounted p.heap (heap_of L t)
   C = counted_now w k p I F on

@@ -18,12 +18,12 @@ use Rattle.ledger_step_laws.specs.Accounts.{Rests, rested}
 use Rattle.core_relation.specs.Memory.{Memory}
 use Rattle.core_relation.specs.Changes.{SameObjects}
 use Rattle.core_relation.specs.Counts.{CountsGo, IsMarked, IsQuiet}
-use Rattle.core_relation.specs.Fits.{with_home}
+use Rattle.core_relation.specs.Fits.{with_belongings}
 use Rattle.core_relation.specs.Since.{NotesStay}
-use Rattle.core_relation.specs.Stands.{HomeStands}
+use Rattle.core_relation.specs.Stands.{BelongingsStand}
 use Rattle.core_relation.specs.Whole.{BegunBy}
 use Rattle.core_relation.specs.Worker.{IsBy}
-use Rattle.core_relation.proofs.changes.Alone.{home_kept}
+use Rattle.core_relation.proofs.changes.Alone.{belongings_kept}
 use Rattle.core_entry_laws.proofs.parts.OwnFits.{quiet_fits_then}
 use Rattle.core_entry_laws.proofs.whole.EntriesWhole.{quiet_stands_for}
 use Rattle.core_entry_laws.proofs.parts.WorkersPast.{quiet_leaves}
@@ -32,7 +32,7 @@ use Rattle.task_machine.specs.declared.part.Private.{Private}
 use Rattle.shared_value.specs.SharedValue.{SharedValue, accounts, tree_counts_of, value_of}
 use Rattle.shared_value.specs.Measured.{IsMeasured, KeepsUnits}
 use Rattle.shared_value.specs.Stands.{HeapForm, IsSharedValue}
-use Rattle.shared_value.specs.Fits.{AllFit, Fits, home_of_part, part_of}
+use Rattle.shared_value.specs.Fits.{AllFit, Fits, belongings_of_part, part_of}
 use Rattle.shared_value.specs.Entered.{refused}
 use Rattle.shared_value.proofs.EntryMade.{entered, entered_world, entry_on, part_fits}
 use Rattle.shared_value.proofs.BeforeTheEnd.{stands_now}
@@ -75,16 +75,16 @@ module _ (w : SharedValue) (e : EntryValue) (I : IsSharedValue w) (free : refuse
       abbrev pub Q : Private
       Q = record p { fresh = 0; heap = g; begun = b }
 
-      pub quiet_own : HeapForm g → IsMeasured pool Q → SameObjects (with_home v p.task (home_of_part P)) (with_home v' p.task (home_of_part Q)) (rested l p.task) (rested L p.task) → BegunBy (with_home v' p.task (home_of_part Q)) (rested L p.task) p.task b
+      pub quiet_own : HeapForm g → IsMeasured pool Q → SameObjects (with_belongings v p.task (belongings_of_part P)) (with_belongings v' p.task (belongings_of_part Q)) (rested l p.task) (rested L p.task) → BegunBy (with_belongings v' p.task (belongings_of_part Q)) (rested L p.task) p.task b
           → Fits w' k Q
       quiet_own form measured part begun =
           part_fits w e I free w.tree pool w.rests w.sets w.tasks_out w.outputs w.steps end room quiet_world k P Q refl F refl refl refl form measured
-          (quiet_fits_then w.program w.settings w.journal.items I.legal v v' e p.task (home_of_part P) (home_of_part Q) free quiet F.fits part begun)
+          (quiet_fits_then w.program w.settings w.journal.items I.legal v v' e p.task (belongings_of_part P) (belongings_of_part Q) free quiet F.fits part begun)
 
 -- where the machine and the accounts of heaps stay, the value may
-pub same_value : (v : Memory) (l L : Ledger) → L.machine ≡ l.machine → ((u : ℕ) → heap_of L u ≡ heap_of l u) → ((u : ℕ) → Rests l u → HomeStands v l u) → SameObjects v v l L
-same_value v l L m heaps homes = record {
-  home = λ u r. home_kept v v l L u refl (λ k e. e) (heaps u) (ap (λ (z : State). length (row_of (slice_get z.store u))) m) (ap (λ (z : State). is_joined (slice_get z.tasks u)) m) (homes u (ap (λ (h : Heap). h.worker) (sym (heaps u)) ∙ r));
+pub same_value : (v : Memory) (l L : Ledger) → L.machine ≡ l.machine → ((u : ℕ) → heap_of L u ≡ heap_of l u) → ((u : ℕ) → Rests l u → BelongingsStand v l u) → SameObjects v v l L
+same_value v l L m heaps belongings = record {
+  belongings = λ u r. belongings_kept v v l L u refl (λ k e. e) (heaps u) (ap (λ (z : State). length (row_of (slice_get z.store u))) m) (ap (λ (z : State). is_joined (slice_get z.tasks u)) m) (belongings u (ap (λ (h : Heap). h.worker) (sym (heaps u)) ∙ r));
   objects = λ u. refl;
   chunks = λ u e. refl;
   frames = λ u. refl;
@@ -108,7 +108,7 @@ module _ (w : SharedValue) (k : ℕ) (I : IsSharedValue w) (free : refused w (re
   fueled = entered w e w.tree w.pool w.rests w.sets w.tasks_out w.outputs w.steps (Some (FuelEnd w.steps)) room
 
   same : SameObjects (value_of w) (value_of w) (accounts w) (after w.program w.settings (accounts w) e)
-  same = same_value (value_of w) (accounts w) (after w.program w.settings (accounts w) e) refl (λ u. refl) (stands_now w I (entry_on w e free)).homes.homes
+  same = same_value (value_of w) (accounts w) (after w.program w.settings (accounts w) e) refl (λ u. refl) (stands_now w I (entry_on w e free)).belongings.belongings
 
   counts : CountsGo w.program w.settings (accounts w) (tree_counts_of w) (tree_counts_of fueled) k Fuel
   counts = (record { node = λ u. refl; task_out = λ u. refl; steps = refl; outputs = refl }, refl, refl)

@@ -1,4 +1,4 @@
--- A part that fits the shared value fits the machine, with the addresses of the value's homes.
+-- A part that fits the shared value fits the machine, with the addresses of the value's belongings.
 use Rattle.std.proofs.Common.{◌≡◌, ℕ, ◌+◌, ◌<◌, ◌≤◌, ◌==◌, arith, Bool, true, false, cond, Option, Some, None, List, [], ◌∷◌, ◌++◌, length, nat_lt, replicate, slice_get, is_none, ◌⊎◌, inl, inr, refl, ap, sym, subst, ◌∙◌, eq-eqb, ne_eqb}
 use Rattle.std.specs.Prelude.{option_map}
 use Rattle.std.proofs.lemmas.Bool.{cases_eq, cond-true, cond-false, eqb-true, ltb-true, false≢true, both_ways}
@@ -43,27 +43,27 @@ use Rattle.ledger_step_laws.specs.Accounts.{StepsAlone}
 use Rattle.ledger_step_laws.proofs.Rested.{rested_worker}
 use Rattle.ledger_step_laws.proofs.Known.{legal_knows}
 use Rattle.ledger_step_laws.proofs.Tree.{leaf_alone}
-use Rattle.core_relation.specs.Memory.{Chunk, Home, In, Lies, Memory, as_shown, object_name, objects, objects_in, shown_at}
+use Rattle.core_relation.specs.Memory.{Chunk, Belongings, In, Lies, Memory, as_shown, object_name, objects, objects_in, shown_at}
 use Rattle.core_relation.specs.Reads.{AllRead, FrameIsRead, FramesAreRead, HoldsRead, IsRead, Reads, TaskIsRead}
-use Rattle.core_relation.specs.Stands.{HomeStands, Place, Stands}
-use Rattle.core_relation.specs.Fits.{FitsAt as FitsValue, ahead, with_home}
-use Rattle.core_relation.proofs.changes.Alone.{home_own}
+use Rattle.core_relation.specs.Stands.{BelongingsStand, Place, Stands}
+use Rattle.core_relation.specs.Fits.{FitsAt as FitsValue, ahead, with_belongings}
+use Rattle.core_relation.proofs.changes.Alone.{belongings_own}
 use Rattle.core_relation.proofs.objects.Carry.{object_kept, task_kept}
 use Rattle.core_relation.proofs.objects.Members.{in_chunk}
 use Rattle.core_entry_laws.proofs.parts.Parts.{ahead_alone, ahead_sound}
 use Rattle.core_relation.proofs.changes.Shown.{noted_mutable}
-use Rattle.core_relation.proofs.changes.With.{at_home, off_home}
+use Rattle.core_relation.proofs.changes.With.{at_belongings, off_belongings}
 use Rattle.core_entry_laws.proofs.parts.Quiet.{aside_is}
 use Rattle.task_machine.specs.declared.part.Private.{Private}
 use Rattle.task_machine.specs.Place.{AreAt, FrameStands, FramesStand, IsAt, birth_of, name_of}
 use Rattle.task_machine.specs.Fits.{FitsNow as FitsMachine, HeapStands, IsOwn, IsRun, IsShownBy, StackStands}
 use Rattle.shared_value.specs.Objects.{chunk_of}
-use Rattle.shared_value.specs.SharedValue.{SharedValue, accounts, frames_down, rest_at, value_of, home_in, home_by}
+use Rattle.shared_value.specs.SharedValue.{SharedValue, accounts, frames_down, rest_at, value_of, belongings_in, belongings_by}
 use Rattle.task_homes.specs.declared.task_at_rest.Rest.{Rest}
 use Rattle.task_homes.specs.declared.task_at_rest.Work.{Work}
 use Rattle.task_homes.specs.declared.task_at_rest.Work.TheVariants.{Calls, Result}
 use Rattle.shared_value.specs.Stands.{HeapForm, IsSharedValue}
-use Rattle.shared_value.specs.Fits.{Fits, home_of_part, part_of}
+use Rattle.shared_value.specs.Fits.{Fits, belongings_of_part, part_of}
 use Rattle.shared_value.specs.Links.{FitsFirst, above_of, find_at}
 use Rattle.shared_value.proofs.CellsRead.{object_seen, seen_object}
 use Rattle.shared_value.proofs.Levels.{shown_found, shown_there}
@@ -147,11 +147,11 @@ module _ (place : Name → Option Addr) where
 
 -- ---- THE LINK
 
-rest_near : (o : Option Rest) → ((r : Rest) → o ≡ Some r → HeapForm r.heap) → (q : Located) → In (objects_in (home_in o).chunks) q → q.at.offset < 1024
+rest_near : (o : Option Rest) → ((r : Rest) → o ≡ Some r → HeapForm r.heap) → (q : Located) → In (objects_in (belongings_in o).chunks) q → q.at.offset < 1024
 rest_near None h q i = absurd i
 rest_near (Some r) h q i = by r.work i
   where
-    by : (x : Work) → In (objects_in (home_by r.heap r.view r.allocations x).chunks) q → q.at.offset < 1024
+    by : (x : Work) → In (objects_in (belongings_by r.heap r.view r.allocations x).chunks) q → q.at.offset < 1024
     by (Calls s) j = (h r refl).near q j
     by (Result n b) j = (h r refl).near q j
 
@@ -165,11 +165,11 @@ module _ (w : SharedValue) (k : ℕ) (p : Private) (I : IsSharedValue w) (F : Fi
   abbrev v : Memory
   v = value_of w
 
-  abbrev h : Home
-  h = home_of_part p
+  abbrev h : Belongings
+  h = belongings_of_part p
 
   abbrev v' : Memory
-  v' = with_home v t h
+  v' = with_belongings v t h
 
   abbrev then_ : Ledger
   then_ = task_steps w.program l t p.fresh
@@ -216,11 +216,11 @@ module _ (w : SharedValue) (k : ℕ) (p : Private) (I : IsSharedValue w) (F : Fi
   pub at_rest : Rests L t
   at_rest = rested_worker then_ t
 
-  here : v'.homes t ≡ h
-  here = at_home v t h
+  here : v'.belongings t ≡ h
+  here = at_belongings v t h
 
-  pub off : (u : ℕ) → (u ≡ t → ⊥) → v'.homes u ≡ v.homes u
-  off u ne = off_home v t h u ne
+  pub off : (u : ℕ) → (u ≡ t → ⊥) → v'.belongings u ≡ v.belongings u
+  off u ne = off_belongings v t h u ne
 
   pub own_same : (n : Name) → own L n ≡ own l n
   own_same n = alone.tree.owners n.task
@@ -273,41 +273,41 @@ module _ (w : SharedValue) (k : ℕ) (p : Private) (I : IsSharedValue w) (F : Fi
       by false q None r g = ((λ z. false≢true (sym q ∙ eq-eqb (own l n) t z)), r, g)
 
   named_here : (o q : Located) → In (objects_in h.chunks) o → In (objects_in h.chunks) q → object_name o ≡ object_name q → o ≡ q
-  named_here o q i j e = (W.homes t at_rest).named o q (subst (λ (z : Home). In (objects_in z.chunks) o) (sym here) i) (subst (λ (z : Home). In (objects_in z.chunks) q) (sym here) j) e
+  named_here o q i j e = (W.belongings t at_rest).named o q (subst (λ (z : Belongings). In (objects_in z.chunks) o) (sym here) i) (subst (λ (z : Belongings). In (objects_in z.chunks) q) (sym here) j) e
 
-  home_off : (a : ℕ) → (a ≡ t → ⊥) → Rests l a → HomeStands v' L a
-  home_off a ne r = W.homes a (rests_then a ne r)
+  belongings_off : (a : ℕ) → (a ≡ t → ⊥) → Rests l a → BelongingsStand v' L a
+  belongings_off a ne r = W.belongings a (rests_then a ne r)
 
   pub named_off : (a : ℕ) → (a ≡ t → ⊥) → Rests l a → (o q : Located) → In (objects v a) o → In (objects v a) q → object_name o ≡ object_name q → o ≡ q
-  named_off a ne r o q i j e = (home_off a ne r).named o q (subst (λ (z : Home). In (objects_in z.chunks) o) (sym (off a ne)) i) (subst (λ (z : Home). In (objects_in z.chunks) q) (sym (off a ne)) j) e
+  named_off a ne r o q i j e = (belongings_off a ne r).named o q (subst (λ (z : Belongings). In (objects_in z.chunks) o) (sym (off a ne)) i) (subst (λ (z : Belongings). In (objects_in z.chunks) q) (sym (off a ne)) j) e
 
   -- a name of the path lies where the map has it
   place_is : (n : Name) (a : Addr) → is_on_path L.machine.tasks (own L n) t ≡ true → Place v' L n a → place n ≡ Some a
   place_is n a path P = elim (cases_eq (own l n) t) [
     | inl e ↦
         let e' : own L n ≡ t = own_same n ∙ e in
-        let lies : Lies h.chunks n a = subst (λ (z : Home). Lies z.chunks n a) here (subst (λ u. Lies (v'.homes u).chunks n a) e' (P.here (subst (Rests L) (sym e') at_rest))) in
+        let lies : Lies h.chunks n a = subst (λ (z : Belongings). Lies z.chunks n a) here (subst (λ u. Lies (v'.belongings u).chunks n a) e' (P.here (subst (Rests L) (sym e') at_rest))) in
         place_own n e ∙ found_at h.chunks n a named_here lies
     | inr ne ↦
         let ne' : own L n ≡ t → ⊥ = λ z. ne (sym (own_same n) ∙ z) in
         let r : Rests l (own l n) = subst (Rests l) (own_same n) (rests_above (own L n) ne' path) in
-        let lies : Lies (v.homes (own l n)).chunks n a = subst (λ (z : Home). Lies z.chunks n a) (off (own l n) ne) (subst (λ u. Lies (v'.homes u).chunks n a) (own_same n) (P.here (rests_then (own L n) ne' (rests_above (own L n) ne' path)))) in
-        place_off n ne ∙ (above_rests n ne r ∙ found_at (v.homes (own l n)).chunks n a (named_off (own l n) ne r) lies)
+        let lies : Lies (v.belongings (own l n)).chunks n a = subst (λ (z : Belongings). Lies z.chunks n a) (off (own l n) ne) (subst (λ u. Lies (v'.belongings u).chunks n a) (own_same n) (P.here (rests_then (own L n) ne' (rests_above (own L n) ne' path)))) in
+        place_off n ne ∙ (above_rests n ne r ∙ found_at (v.belongings (own l n)).chunks n a (named_off (own l n) ne r) lies)
   ]
 
   -- FRAMES
-  task_at : TaskIsRead (At place) (v'.homes t) A.task
-  task_at = task_kept (Place v' L) (At place) (v'.homes t) A.task (λ n i a P. place_is n a (sound.apart.of_task t A.task n is i).1 P) (W.tasks t A.task at_rest is)
+  task_at : TaskIsRead (At place) (v'.belongings t) A.task
+  task_at = task_kept (Place v' L) (At place) (v'.belongings t) A.task (λ n i a P. place_is n a (sound.apart.of_task t A.task n is i).1 P) (W.tasks t A.task at_rest is)
 
   frames_at : FramesAreRead (At place) (frames_down p.frames) (A.task.top ∷ A.task.below)
-  frames_at = subst (λ (z : Home). FramesAreRead (At place) z.frames (A.task.top ∷ A.task.below)) here (subst (HoldsRead (At place) (v'.homes t) A.task) run_status task_at)
+  frames_at = subst (λ (z : Belongings). FramesAreRead (At place) z.frames (A.task.top ∷ A.task.below)) here (subst (HoldsRead (At place) (v'.belongings t) A.task) run_status task_at)
 
   stack : StackStands place A.task p.frames
   stack = record { top = frame_stands place p.frames.top A.task.top frames_at.0; below = frames_stand place p.frames.below A.task.below frames_at.1 }
 
   -- OBJECTS
   in_here : (o : Located) → In (objects_in h.chunks) o → In (objects v' t) o
-  in_here o i = subst (λ (z : Home). In (objects_in z.chunks) o) (sym here) i
+  in_here o i = subst (λ (z : Belongings). In (objects_in z.chunks) o) (sym here) i
 
   -- a reference of an own object goes up or inside
   refs_up : (o : Located) (x : Object) → In (objects v' t) o → object_at L.machine.store (object_name o) ≡ Some x → (n : Name) → In x.refs (Some n) → is_on_path L.machine.tasks (own L n) t ≡ true
@@ -317,8 +317,8 @@ module _ (w : SharedValue) (k : ℕ) (p : Private) (I : IsSharedValue w) (F : Fi
         | inl path ↦ path
         | inr s ↦
             let S = W.sources (own L n) _ s in
-            let c = in_chunk (v'.homes t).chunks o i in
-            let owner : v'.owner o.at.chunk ≡ Some t = ap v'.owner ((W.homes t at_rest).inside c.0 o c.1 c.2) ∙ (W.homes t at_rest).owned c.0 c.1 in
+            let c = in_chunk (v'.belongings t).chunks o i in
+            let owner : v'.owner o.at.chunk ≡ Some t = ap v'.owner ((W.belongings t at_rest).inside c.0 o c.1 c.2) ∙ (W.belongings t at_rest).owned c.0 c.1 in
             let same : own L S.name ≡ t = same_Some (own L S.name) t (sym S.place.chunk ∙ owner) in
             absurd (both_ways (is_waiting (slice_get L.machine.tasks t)) idle (ap (λ z. is_waiting (slice_get L.machine.tasks z)) (sym same) ∙ S.waits))
       ]
@@ -329,7 +329,7 @@ module _ (w : SharedValue) (k : ℕ) (p : Private) (I : IsSharedValue w) (F : Fi
       (c.0, c.1, object_kept (Place v' L) (At place) o c.0 (λ n j a P. place_is n a (refs_up o c.0 (in_here o i) c.1 n j) P) c.2)
 
   own_here : (o : Located) → In (objects_in h.chunks) o → own L (object_name o) ≡ t
-  own_here o i = home_own v' L sound t (W.homes t at_rest) o (in_here o i)
+  own_here o i = belongings_own v' L sound t (W.belongings t at_rest) o (in_here o i)
 
   cell_is_own : (a : Addr) (b : Birth) → (cell_of p.heap.chunks a).mark ≡ Born b → IsOwn place (owner_of L.machine.tasks) t L.machine.store (name_of b) a (cell_of p.heap.chunks a)
   cell_is_own a b e =
@@ -354,8 +354,8 @@ module _ (w : SharedValue) (k : ℕ) (p : Private) (I : IsSharedValue w) (F : Fi
   -- where the map has a name, its chunk is its owner's
   pub above_chunk : (n : Name) (a : Addr) → (own l n ≡ t → ⊥) → (r : Rests l (own l n)) → (o : Located) → In (objects v (own l n)) o → o.at ≡ a → v.owner a.chunk ≡ Some (own l n)
   above_chunk n a ne r o i q =
-      let H = home_off (own l n) ne r in
-      let c = in_chunk (v'.homes (own l n)).chunks o (subst (λ (z : Home). In (objects_in z.chunks) o) (sym (off (own l n) ne)) i) in
+      let H = belongings_off (own l n) ne r in
+      let c = in_chunk (v'.belongings (own l n)).chunks o (subst (λ (z : Belongings). In (objects_in z.chunks) o) (sym (off (own l n) ne)) i) in
       ap (λ (z : Addr). v.owner z.chunk) (sym q) ∙ (ap v.owner (H.inside c.0 o c.1 c.2) ∙ H.owned c.0 c.1)
 
   once : (n m : Name) (a : Addr) → above n ≡ Some a → above m ≡ Some a → n ≡ m
@@ -365,9 +365,9 @@ module _ (w : SharedValue) (k : ℕ) (p : Private) (I : IsSharedValue w) (F : Fi
       let f = found_is (objects v (own l n)) n a x.2 in
       let g = found_is (objects v (own l m)) m a y.2 in
       let same : own l m ≡ own l n = same_Some (own l m) (own l n) (sym (above_chunk m a y.0 y.1 g.object g.there g.at) ∙ above_chunk n a x.0 x.1 f.object f.there f.at) in
-      let H = home_off (own l n) x.0 x.1 in
-      let i = subst (λ (z : Home). In (objects_in z.chunks) f.object) (sym (off (own l n) x.0)) f.there in
-      let j = subst (λ (z : Home). In (objects_in z.chunks) g.object) (sym (off (own l n) x.0)) (subst (λ u. In (objects v u) g.object) same g.there) in
+      let H = belongings_off (own l n) x.0 x.1 in
+      let i = subst (λ (z : Belongings). In (objects_in z.chunks) f.object) (sym (off (own l n) x.0)) f.there in
+      let j = subst (λ (z : Belongings). In (objects_in z.chunks) g.object) (sym (off (own l n) x.0)) (subst (λ u. In (objects v u) g.object) same g.there) in
       let o : f.object ≡ g.object = H.once f.object g.object i j (f.at ∙ sym g.at) in
       sym f.name ∙ (ap object_name o ∙ g.name)
 
@@ -380,8 +380,8 @@ module _ (w : SharedValue) (k : ℕ) (p : Private) (I : IsSharedValue w) (F : Fi
           let x = above_tells n a e in
           let f = found_is (objects v (own l n)) n a x.2 in
           let c = placed_in p.heap.chunks a.chunk i q in
-          let there : In (v'.homes t).chunks (chunk_of c.0) = subst (λ (z : Home). In z.chunks (chunk_of c.0)) (sym here) (in_map chunk_of p.heap.chunks c.0 c.1) in
-          let mine : v.owner a.chunk ≡ Some t = ap v.owner (sym c.2) ∙ (W.homes t at_rest).owned (chunk_of c.0) there in
+          let there : In (v'.belongings t).chunks (chunk_of c.0) = subst (λ (z : Belongings). In z.chunks (chunk_of c.0)) (sym here) (in_map chunk_of p.heap.chunks c.0 c.1) in
+          let mine : v.owner a.chunk ≡ Some t = ap v.owner (sym c.2) ∙ (W.belongings t at_rest).owned (chunk_of c.0) there in
           absurd (x.0 (same_Some (own l n) t (sym (above_chunk n a x.0 x.1 f.object f.there f.at) ∙ mine)))
 
   within : (n : Name) (a : Addr) → place n ≡ Some a → a.offset < 1024
@@ -420,7 +420,7 @@ module _ (w : SharedValue) (k : ℕ) (p : Private) (I : IsSharedValue w) (F : Fi
     q = found.object
 
     in_then : In (objects v' u) q
-    in_then = subst (λ (z : Home). In (objects_in z.chunks) q) (sym (off u tells.0)) found.there
+    in_then = subst (λ (z : Belongings). In (objects_in z.chunks) q) (sym (off u tells.0)) found.there
 
     rest_then : Rests L u
     rest_then = rests_then u tells.0 tells.1
@@ -431,7 +431,7 @@ module _ (w : SharedValue) (k : ℕ) (p : Private) (I : IsSharedValue w) (F : Fi
     view_shows : option_map (shown_there a) (seen_at p.view a) ≡ as_shown q
     view_shows =
         sym (shown_found p.view a)
-        ∙ (ap (λ (z : Home). shown_at z.view a) (sym here) ∙ (ap (shown_at (v'.homes t).view) (sym found.at) ∙ W.views t at_rest live u q above_now tells.0 rest_then in_then))
+        ∙ (ap (λ (z : Belongings). shown_at z.view a) (sym here) ∙ (ap (shown_at (v'.belongings t).view) (sym found.at) ∙ W.views t at_rest live u q above_now tells.0 rest_then in_then))
 
     read : (x : Object) × (object_at L.machine.store (object_name q) ≡ Some x) × IsRead (Place v' L) q x
     read = W.contents u q rest_then in_then
@@ -497,7 +497,7 @@ module _ (w : SharedValue) (k : ℕ) (p : Private) (I : IsSharedValue w) (F : Fi
     is = is;
     running = ap runs run_status;
     limit = F.field_limit ∙ sym (ap (λ (m : State). m.field_limit) machine_is ∙ (A.limit ∙ limit));
-    count = ap (λ (z : Home). z.count) (sym here) ∙ (W.homes t at_rest).count live;
+    count = ap (λ (z : Belongings). z.count) (sym here) ∙ (W.belongings t at_rest).count live;
     place = place;
     stack = stack;
     heap = heap;

@@ -10,24 +10,24 @@ use Rattle.remembered_set.specs.Moved.{AreFields}
 use Rattle.ledger_step_laws.specs.Accounts.{Rests, rested}
 use Rattle.ledger_step_laws.proofs.Rested.{rested_worker}
 use Rattle.core_relation.specs.Begins.{AreRoots}
-use Rattle.core_relation.specs.Fits.{with_home}
+use Rattle.core_relation.specs.Fits.{with_belongings}
 use Rattle.core_relation.specs.Stands.{Stands}
-use Rattle.core_relation.specs.Memory.{Home, In, Memory, objects, objects_in, sources}
+use Rattle.core_relation.specs.Memory.{Belongings, In, Memory, objects, objects_in, sources}
 use Rattle.core_relation.proofs.objects.Members.{in_chunk}
-use Rattle.core_relation.proofs.changes.With.{at_home, off_home}
+use Rattle.core_relation.proofs.changes.With.{at_belongings, off_belongings}
 use Rattle.task_machine.specs.declared.part.Private.{Private}
 use Rattle.task_homes.specs.declared.task_at_rest.Rest.{Rest}
 use Rattle.shared_value.specs.Objects.{chunks_of}
-use Rattle.shared_value.specs.SharedValue.{SharedValue, accounts, home_in, rest_at, value_of}
+use Rattle.shared_value.specs.SharedValue.{SharedValue, accounts, belongings_in, rest_at, value_of}
 use Rattle.shared_value.specs.Stands.{IsSharedValue}
-use Rattle.shared_value.specs.Fits.{Fits, home_of_part}
+use Rattle.shared_value.specs.Fits.{Fits, belongings_of_part}
 use Rattle.task_homes.specs.HomesValue.{refs_of_rest}
 use Rattle.task_homes.specs.RestingHeaps.{refs_for, refs_in}
 use Rattle.shared_value.specs.Roots.{heaps_of, roots_of, sources_of}
 use Rattle.shared_value.proofs.CellsRead.{seen_object}
 use Rattle.shared_value.proofs.RootsHeld as held
 use Rattle.shared_value.proofs.StepsEntered.{fits_now}
-use Rattle.shared_value.proofs.FieldsLed.{home_chunks}
+use Rattle.shared_value.proofs.FieldsLed.{belongings_chunks}
 use Rattle.shared_value.proofs.FieldsNoted.{noted_sources}
 
 object_refs : (c : Cell) {b : _} → c.mark ≡ Born b → (marked_object c.mark c).refs ≡ c.refs
@@ -39,18 +39,18 @@ pub record RestObject (w : SharedValue) (u : ℕ) (o : Located) : Type 0 where
   pub is : rest_at w.rests u ≡ Some rest
   pub refs : refs_of_rest (rest_at w.rests u) o.at ≡ o.refs
 
-pub rest_object : (w : SharedValue) (u : ℕ) → IsSharedValue w → (o : Located) → In (objects_in (home_in (rest_at w.rests u)).chunks) o → RestObject w u o
+pub rest_object : (w : SharedValue) (u : ℕ) → IsSharedValue w → (o : Located) → In (objects_in (belongings_in (rest_at w.rests u)).chunks) o → RestObject w u o
 rest_object w u I o i = by (rest_at w.rests u) refl i
   where
-    by : (q : Option Rest) → rest_at w.rests u ≡ q → In (objects_in (home_in q).chunks) o → RestObject w u o
+    by : (q : Option Rest) → rest_at w.rests u ≡ q → In (objects_in (belongings_in q).chunks) o → RestObject w u o
     by None e j = absurd j
     by (Some r) e j =
-        let y = seen_object r.heap.chunks o (I.heaps u r e).shaped.apart (subst (λ cs. In (objects_in cs) o) (home_chunks r) j) in
+        let y = seen_object r.heap.chunks o (I.heaps u r e).shaped.apart (subst (λ cs. In (objects_in cs) o) (belongings_chunks r) j) in
         let refs : (object_of r.heap.chunks o.at).refs ≡ o.refs = object_refs (cell_of r.heap.chunks o.at) y.mark ∙ sym (ap (λ (z : Located). z.refs) y.is) in
         record { rest = r; is = e; refs = ap (λ z. refs_of_rest z o.at) e ∙ refs }
 
--- an object of a home at rest, as it is read in the value
-pub read_at_rest : (w : SharedValue) (u : ℕ) → IsSharedValue w → (o : Located) → In (objects_in (home_in (rest_at w.rests u)).chunks) o → (value_of w).owner o.at.chunk ≡ Some u → refs_in (heaps_of w) o.at ≡ o.refs
+-- an object of a task at rest, as it is read in the value
+pub read_at_rest : (w : SharedValue) (u : ℕ) → IsSharedValue w → (o : Located) → In (objects_in (belongings_in (rest_at w.rests u)).chunks) o → (value_of w).owner o.at.chunk ≡ Some u → refs_in (heaps_of w) o.at ≡ o.refs
 read_at_rest w u I o i owner = ap (λ q. refs_for w.rests q o.at) owner ∙ (rest_object w u I o i).refs
 
 -- ---- A PART WITHOUT FRESH STEPS, before the run's end
@@ -65,7 +65,7 @@ module _ (w : SharedValue) (k : ℕ) (p : Private) (I : IsSharedValue w) (F : Fi
   v = value_of w
 
   abbrev v' : Memory
-  v' = with_home v t (home_of_part P)
+  v' = with_belongings v t (belongings_of_part P)
 
   abbrev L : Ledger
   L = rested (accounts w) t
@@ -79,17 +79,17 @@ module _ (w : SharedValue) (k : ℕ) (p : Private) (I : IsSharedValue w) (F : Fi
   at_rest : Rests L t
   at_rest = rested_worker (accounts w) t
 
-  here : (v'.homes t).chunks ≡ chunks_of p.heap.chunks
-  here = ap (λ (z : Home). z.chunks) (at_home v t (home_of_part P))
+  here : (v'.belongings t).chunks ≡ chunks_of p.heap.chunks
+  here = ap (λ (z : Belongings). z.chunks) (at_belongings v t (belongings_of_part P))
 
   sources_are : sources v' t ≡ ss
   sources_are = noted_sources (slice_get w.sets t)
 
-  -- the objects of other homes are read in the value
+  -- the objects of other tasks are read in the value
   read : (u : ℕ) → (u ≡ t → ⊥) → Rests L u → (o : Located) → In (objects v' u) o → refs_in (heaps_of w) o.at ≡ o.refs
   read u ne r o i =
-      let c = in_chunk (v'.homes u).chunks o i in
-      read_at_rest w u I o (subst (λ (z : Home). In (objects_in z.chunks) o) (off_home v t (home_of_part P) u ne) i) (ap v'.owner ((W.homes u r).inside c.0 o c.1 c.2) ∙ (W.homes u r).owned c.0 c.1)
+      let c = in_chunk (v'.belongings u).chunks o i in
+      read_at_rest w u I o (subst (λ (z : Belongings). In (objects_in z.chunks) o) (off_belongings v t (belongings_of_part P) u ne) i) (ap v'.owner ((W.belongings u r).inside c.0 o c.1 c.2) ∙ (W.belongings u r).owned c.0 c.1)
 
   -- EACH SOURCE IS A FIELD
   pub are_fields : AreFields refs_in (heaps_of w) ss

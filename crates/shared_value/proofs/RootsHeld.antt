@@ -71,13 +71,13 @@ chunk_in ks number h = by (place_in ks number) refl h
 
 -- ---- A VALUE THAT STANDS, and a heap at rest with these chunks and remembered fields; heaps by whose words the objects of all other
 -- heaps are read
-module _ (v : Memory) (l : Ledger) (t : ℕ) (W : Stands v l) (at_rest : Rests l t) (ks : List ChunkValue) (here : (v.homes t).chunks ≡ chunks_of ks) (ss : List Source) (sources_are : sources v t ≡ ss) (hs : Resting)
+module _ (v : Memory) (l : Ledger) (t : ℕ) (W : Stands v l) (at_rest : Rests l t) (ks : List ChunkValue) (here : (v.belongings t).chunks ≡ chunks_of ks) (ss : List Source) (sources_are : sources v t ≡ ss) (hs : Resting)
     (read : (u : ℕ) → (u ≡ t → ⊥) → Rests l u → (o : Located) → In (objects v u) o → refs_in hs o.at ≡ o.refs) where
-  -- the owner of a resting home's object
+  -- the owner of a resting task's object
   owner_at : (u : ℕ) → Rests l u → (o : Located) → In (objects v u) o → v.owner o.at.chunk ≡ Some u
   owner_at u r o i =
-      let c = in_chunk (v.homes u).chunks o i in
-      ap v.owner ((W.homes u r).inside c.0 o c.1 c.2) ∙ (W.homes u r).owned c.0 c.1
+      let c = in_chunk (v.belongings u).chunks o i in
+      ap v.owner ((W.belongings u r).inside c.0 o c.1 c.2) ∙ (W.belongings u r).owned c.0 c.1
 
   -- a source's object, in its home
   record SourceAt (s : Source) : Type 0 where
@@ -89,13 +89,13 @@ module _ (v : Memory) (l : Ledger) (t : ℕ) (W : Stands v l) (at_rest : Rests l
     refs : refs_in hs s.object ≡ object.refs
     field : s.field < length object.refs
 
-  refs_at_home : (u : ℕ) → (u ≡ t → ⊥) → Rests l u → (o : Located) → In (objects v u) o → (a : Addr) → o.at ≡ a → refs_in hs a ≡ o.refs
-  refs_at_home u ne r o i a e = ap (refs_in hs) (sym e) ∙ read u ne r o i
+  refs_at_belongings : (u : ℕ) → (u ≡ t → ⊥) → Rests l u → (o : Located) → In (objects v u) o → (a : Addr) → o.at ≡ a → refs_in hs a ≡ o.refs
+  refs_at_belongings u ne r o i a e = ap (refs_in hs) (sym e) ∙ read u ne r o i
 
   source_at : (s : Source) → In ss s → SourceAt s
   source_at s i =
       let S : IsSource v l t s = W.sources t s (subst (λ xs. In xs s) (sym sources_are) i) in
-      let lies : Lies (v.homes (own l S.name)).chunks S.name s.object = S.place.here S.rests in
+      let lies : Lies (v.belongings (own l S.name)).chunks S.name s.object = S.place.here S.rests in
       let o : Located = lies.0 in
       let c = W.contents (own l S.name) o S.rests lies.1 in
       let same : S.object ≡ c.0 = same_Some S.object c.0 (sym S.is ∙ (ap (object_at l.machine.store) (sym lies.2.name) ∙ c.1)) in
@@ -107,7 +107,7 @@ module _ (v : Memory) (l : Ledger) (t : ℕ) (W : Stands v l) (at_rest : Rests l
         object = o;
         there = lies.1;
         at = lies.2.at;
-        refs = refs_at_home (own l S.name) S.below S.rests o lies.1 s.object lies.2.at;
+        refs = refs_at_belongings (own l S.name) S.below S.rests o lies.1 s.object lies.2.at;
         field = omega (arith, long, within);
       }
 
@@ -119,22 +119,22 @@ module _ (v : Memory) (l : Ledger) (t : ℕ) (W : Stands v l) (at_rest : Rests l
   pub lies_here : (n : Name) (a : Addr) → Place v l n a → v.owner a.chunk ≡ Some t → (q : Located) × In (objects_in (chunks_of ks)) q × (q.at ≡ a)
   lies_here n a p mine =
       let owned : own l n ≡ t = same_Some (own l n) t (sym p.chunk ∙ mine) in
-      let lies : Lies (v.homes t).chunks n a = subst (λ z. Lies (v.homes z).chunks n a) owned (p.here (subst (Rests l) (sym owned) at_rest)) in
+      let lies : Lies (v.belongings t).chunks n a = subst (λ z. Lies (v.belongings z).chunks n a) owned (p.here (subst (Rests l) (sym owned) at_rest)) in
       (lies.0, subst (λ cs. In (objects_in cs) lies.0) here lies.1, lies.2.at)
 
   -- whose chunk it is
   pub own_chunk : (number : ℕ) → has_chunk ks number ≡ true → v.owner number ≡ Some t
   own_chunk number h =
       let c = chunk_in ks number h in
-      ap v.owner (sym c.2) ∙ (W.homes t at_rest).owned (chunk_of c.0) (subst (λ cs. In cs (chunk_of c.0)) (sym here) (in_map chunk_of ks c.0 c.1))
+      ap v.owner (sym c.2) ∙ (W.belongings t at_rest).owned (chunk_of c.0) (subst (λ cs. In cs (chunk_of c.0)) (sym here) (in_map chunk_of ks c.0 c.1))
 
   pub object_chunk : (q : Located) → In (objects_in (chunks_of ks)) q → has_chunk ks q.at.chunk ≡ true
   object_chunk q i =
       let c = in_chunk (chunks_of ks) q i in
       let d = map_in chunk_of ks c.0 c.1 in
-      has_own ks d.0 q.at.chunk d.1 (ap (λ (z : Chunk). z.number) d.2 ∙ sym ((W.homes t at_rest).inside c.0 q (subst (λ cs. In cs c.0) (sym here) c.1) c.2))
+      has_own ks d.0 q.at.chunk d.1 (ap (λ (z : Chunk). z.number) d.2 ∙ sym ((W.belongings t at_rest).inside c.0 q (subst (λ cs. In cs c.0) (sym here) c.1) c.2))
 
-  -- the object in the heap to which a reference of another home's object leads
+  -- the object in the heap to which a reference of another task's object leads
   leads_here : (u : ℕ) → Rests l u → (o : Located) → In (objects v u) o → (i : ℕ) (a : Addr) → slice_get o.refs i ≡ Some (Some a) → v.owner a.chunk ≡ Some t → (q : Located) × In (objects_in (chunks_of ks)) q × (q.at ≡ a)
   leads_here u r o j i a e mine =
       let c = W.contents u o r j in
@@ -173,7 +173,7 @@ module _ (v : Memory) (l : Ledger) (t : ℕ) (W : Stands v l) (at_rest : Rests l
           let owner : own l S.name ≡ R.home = same_Some (own l S.name) R.home (sym S.place.chunk ∙ (ap (λ (z : Addr). v.owner z.chunk) (sym R.at) ∙ owner_at R.home R.rests R.object R.there)) in
           let at : R.object.at ≡ s.object = R.at in
           let holds : slice_get R.object.refs s.field ≡ Some (Some a) = R.holds in
-          let refs : refs_in hs s.object ≡ R.object.refs = refs_at_home R.home (λ e. S.below (owner ∙ e)) R.rests R.object R.there s.object at in
+          let refs : refs_in hs s.object ≡ R.object.refs = refs_at_belongings R.home (λ e. S.below (owner ∙ e)) R.rests R.object R.there s.object at in
           let is : target_of refs_in hs s ≡ Some a = ap (λ rs. slice_index_or rs s.field None) refs ∙ get_or_from_slice_get R.object.refs s.field (Some a) None holds in
           let q = leads_here R.home R.rests R.object R.there R.source.field a R.holds R.into in
           targets_there refs_in hs ks ss s a (subst (λ xs. In xs s) sources_are R.noted) is (ap (λ (z : Addr). has_chunk ks z.chunk) (sym q.2) ∙ object_chunk q.0 q.1)

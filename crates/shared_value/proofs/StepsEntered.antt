@@ -27,15 +27,15 @@ use Rattle.ledger_step_laws.specs.Last.{Private as PrivateKind, Runs}
 use Rattle.ledger_step_laws.proofs.Rested.{rested_worker}
 use Rattle.ledger_step_laws.proofs.Split.{entry_runs}
 use Rattle.core_relation.specs.Layout.{reserved_chunks, reserved_units}
-use Rattle.core_relation.specs.Memory.{Chunk, Home, Memory}
-use Rattle.core_relation.specs.Fits.{FitsAt, ahead, part_for, with_home}
+use Rattle.core_relation.specs.Memory.{Chunk, Belongings, Memory}
+use Rattle.core_relation.specs.Fits.{FitsAt, ahead, part_for, with_belongings}
 use Rattle.core_relation.specs.Frames.{IsSteady}
 use Rattle.core_relation.specs.RanCounts.{RanCounts}
-use Rattle.core_relation.specs.Stands.{HasNames, HomeStands}
+use Rattle.core_relation.specs.Stands.{HasNames, BelongingsStand}
 use Rattle.core_relation.specs.Worker.{Fits as FitsValue}
 use Rattle.core_entry_laws.proofs.parts.RanFits.{ran_fits_then}
 use Rattle.core_entry_laws.proofs.whole.RanWhole.{ran_stands_for}
-use Rattle.core_relation.proofs.changes.With.{at_home}
+use Rattle.core_relation.proofs.changes.With.{at_belongings}
 use Rattle.core_entry_laws.proofs.parts.Workers.{ran_leaves}
 use Rattle.task_machine.specs.declared.part.Private.{Private}
 use Rattle.task_machine.specs.Accounts.{IsCounted}
@@ -43,7 +43,7 @@ use Rattle.task_machine.specs.Fits.{unended}
 use Rattle.task_machine.specs.Outline.{steps}
 use Rattle.shared_value.specs.SharedValue.{SharedValue, accounts, tree_counts_of, value_of}
 use Rattle.shared_value.specs.Stands.{IsSharedValue}
-use Rattle.shared_value.specs.Fits.{Fits, OthersFit, beyond, home_of_part, part_of}
+use Rattle.shared_value.specs.Fits.{Fits, OthersFit, beyond, belongings_of_part, part_of}
 use Rattle.shared_value.specs.Entered.{refused}
 use Rattle.shared_value.specs.Causes.{first_cause, or_else}
 use Rattle.shared_value.proofs.HeapCounts.{counted_from}
@@ -73,22 +73,22 @@ module _ (w : SharedValue) (k : ℕ) (p : Private) (I : IsSharedValue w) (F : Fi
   status = now.status w k p F on
 
   abbrev vp : Memory
-  vp = with_home (value_of w) p.task (home_of_part p)
+  vp = with_belongings (value_of w) p.task (belongings_of_part p)
 
   abbrev M : Ledger
   M = ahead w.program (part_of w.settings p) (accounts w)
 
-  here : vp.homes p.task ≡ home_of_part p
-  here = at_home (value_of w) p.task (home_of_part p)
+  here : vp.belongings p.task ≡ belongings_of_part p
+  here = at_belongings (value_of w) p.task (belongings_of_part p)
 
-  pub home_is : HomeStands vp M p.task
-  home_is = fits_now.stands.homes p.task (rested_worker (task_steps w.program (accounts w) p.task p.fresh) p.task)
+  pub belongings_is : BelongingsStand vp M p.task
+  belongings_is = fits_now.stands.belongings p.task (rested_worker (task_steps w.program (accounts w) p.task p.fresh) p.task)
 
   -- its heap is as its account then says
   pub counted_now : IsCounted p.heap (heap_of M p.task)
   counted_now =
-      counted_from p.heap (heap_of M p.task) F.form (subst (λ (z : Home). HasNames z.chunks (heap_of M p.task)) here home_is.names) (ap (λ (z : Home). z.room) (sym here) ∙ home_is.room) (ap (λ (z : Home). z.since) (sym here) ∙ home_is.since)
-      (subst (λ (z : Home). map (λ (c : Chunk). c.units) (reserved_chunks z.chunks) ≡ reserved_units (heap_of M p.task).reserved) here home_is.laid.reserved)
+      counted_from p.heap (heap_of M p.task) F.form (subst (λ (z : Belongings). HasNames z.chunks (heap_of M p.task)) here belongings_is.names) (ap (λ (z : Belongings). z.room) (sym here) ∙ belongings_is.room) (ap (λ (z : Belongings). z.since) (sym here) ∙ belongings_is.since)
+      (subst (λ (z : Belongings). map (λ (c : Chunk). c.units) (reserved_chunks z.chunks) ≡ reserved_units (heap_of M p.task).reserved) here belongings_is.laid.reserved)
 
 -- WHY IT IS REFUSED
 
@@ -153,8 +153,8 @@ module _ (w : SharedValue) (k : ℕ) (p : Private) (I : IsSharedValue w) (F : Fi
   abbrev t : ℕ
   t = p.task
 
-  abbrev h : Home
-  h = home_of_part p
+  abbrev h : Belongings
+  h = belongings_of_part p
 
   abbrev L : Ledger
   L = after w.program w.settings l e

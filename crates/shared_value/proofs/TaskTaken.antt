@@ -28,7 +28,7 @@ use Rattle.heap_tree.specs.declared.state.State.{State}
 use Rattle.heap_tree.specs.declared.state.State.TheVariants.{Out}
 use Rattle.heap_tree.specs.Node.{Node, set_at, with_state, parent_in, parent_of as parent_in_tree}
 use Rattle.ledger_step_laws.specs.Accounts.{Rests}
-use Rattle.core_relation.specs.Memory.{Home, Memory}
+use Rattle.core_relation.specs.Memory.{Belongings, Memory}
 use Rattle.core_relation.specs.Changes.{SameBut}
 use Rattle.core_relation.specs.Counts.{TakesNode}
 use Rattle.core_relation.specs.Reads.{TaskIsRead, HoldsRead}
@@ -43,10 +43,10 @@ use Rattle.task_machine.specs.declared.part.Private.{Private}
 use Rattle.task_homes.specs.declared.task_at_rest.Rest.{Rest}
 use Rattle.task_homes.specs.declared.task_at_rest.Work.{Work}
 use Rattle.task_homes.specs.declared.task_at_rest.Work.TheVariants.{Calls, Result}
-use Rattle.shared_value.specs.SharedValue.{SharedValue, accounts, home_in, home_by, home_of, rest_at, tree_counts_of, value_of}
+use Rattle.shared_value.specs.SharedValue.{SharedValue, accounts, belongings_in, belongings_by, belongings_of, rest_at, tree_counts_of, value_of}
 use Rattle.shared_value.specs.Measured.{RestsAreMeasured}
 use Rattle.shared_value.specs.Stands.{HeapForm, IsSharedValue}
-use Rattle.shared_value.specs.Fits.{Fits, IsAtWork, OthersFit, home_of_part, part_of, taken_part}
+use Rattle.shared_value.specs.Fits.{Fits, IsAtWork, OthersFit, belongings_of_part, part_of, taken_part}
 use Rattle.shared_value.specs.Entered.{refused}
 use Rattle.shared_value.proofs.EntryMade.{accounts_are, entered, entered_world, entry_on, held_when_out, part_fits, unheld_at_rest, unheld_before}
 use Rattle.shared_value.proofs.BeforeTheEnd.{goes_by, task_out_now, stands_now}
@@ -79,11 +79,11 @@ abbrev pub HasCalls : Option Rest → Type 0
 HasCalls None = ⊥
 HasCalls (Some r) = (s : FramesValue) × (r.work ≡ Calls s)
 
-has_calls : (at : Name → Addr → Type 0) (o : Option Rest) (x : Task) → x.status ≡ Running → TaskIsRead at (home_in o) x → HasCalls o
-has_calls at None x e h = absurd (subst (HoldsRead at (home_in None) x) e h)
-has_calls at (Some r) x e h = by r.work refl (subst (HoldsRead at (home_of r) x) e h)
+has_calls : (at : Name → Addr → Type 0) (o : Option Rest) (x : Task) → x.status ≡ Running → TaskIsRead at (belongings_in o) x → HasCalls o
+has_calls at None x e h = absurd (subst (HoldsRead at (belongings_in None) x) e h)
+has_calls at (Some r) x e h = by r.work refl (subst (HoldsRead at (belongings_of r) x) e h)
   where
-    by : (k : Work) → r.work ≡ k → HoldsRead at (home_by r.heap r.view r.allocations k) x Running → HasCalls (Some r)
+    by : (k : Work) → r.work ≡ k → HoldsRead at (belongings_by r.heap r.view r.allocations k) x Running → HasCalls (Some r)
     by (Calls s) q g = (s, q)
     by (Result n a) q g = absurd g
 
@@ -150,7 +150,7 @@ module _ (w : SharedValue) (k t : ℕ) (I : IsSharedValue w) (free : refused w (
   there = task_of (slice_get l.machine.tasks t) running
 
   pub calls : HasCalls (rest_at w.rests t)
-  calls = has_calls (Place v l) (rest_at w.rests t) there.0 there.2 (S.homes.tasks t there.0 rests there.1)
+  calls = has_calls (Place v l) (rest_at w.rests t) there.0 there.2 (S.belongings.tasks t there.0 rests there.1)
 
   pub has_home : t < length w.rests
   has_home = there_by (slice_get w.rests t) refl calls
@@ -182,7 +182,7 @@ module _ (w : SharedValue) (k t : ℕ) (I : IsSharedValue w) (free : refused w (
     homes_off u ne = ap option_flatten (got_other w.rests t u None ne)
 
     but : SameBut v v' t
-    but = record { homes = λ u ne. ap home_in (homes_off u ne); owner = λ c. refl; sources = λ u. refl }
+    but = record { belongings = λ u ne. ap belongings_in (homes_off u ne); owner = λ c. refl; sources = λ u. refl }
 
     counts : TakesNode (tree_counts_of w) (tree_counts_of w') k t
     counts = record {
@@ -228,14 +228,14 @@ module _ (w : SharedValue) (k t : ℕ) (I : IsSharedValue w) (free : refused w (
       abbrev p : Private
       p = taken_part t w.settings.leaf (field_limit w.settings.version) r s
 
-      home_is : v.homes t ≡ home_of_part p
-      home_is = ap home_in rest_is ∙ ap (home_by r.heap r.view r.allocations) calls_is
+      belongings_is : v.belongings t ≡ belongings_of_part p
+      belongings_is = ap belongings_in rest_is ∙ ap (belongings_by r.heap r.view r.allocations) calls_is
 
       pub took_part : Fits w' k p
       took_part = record {
         held = held_when_out w e I free w'.tree w.pool w'.rests w.sets w'.tasks_out w.outputs w.steps w.end room took_world k t counts.task_out;
         fits = subst (FitsValue w.program w.settings (part_of w.settings p) v') (sym (accounts_are w e I free w'.tree w.pool w'.rests w.sets w'.tasks_out w.outputs w.steps w.end room))
-            (subst (λ (g : Home). FitsValue w.program w.settings (part_for w.settings t g 0) v' L) home_is (took_fits_then w.program w.settings w.journal.items I.legal v v' (tree_counts_of w) k t free I.stands but));
+            (subst (λ (g : Belongings). FitsValue w.program w.settings (part_for w.settings t g 0) v' L) belongings_is (took_fits_then w.program w.settings w.journal.items I.legal v v' (tree_counts_of w) k t free I.stands but));
         form = I.heaps t r rest_is;
         measured = (I.measured t r rest_is (unheld_at_rest w t I on rests), λ n i. absurd i);
         leaf_limit = refl;

@@ -7,7 +7,7 @@ use Rattle.run_ledger.specs.Heaps.{heap_of}
 use Rattle.run_ledger.specs.Steps.{task_steps}
 use Rattle.task_frames.specs.FramesValue.{FramesValue}
 use Rattle.ledger_step_laws.specs.Accounts.{aside, rested}
-use Rattle.core_relation.specs.Memory.{Home}
+use Rattle.core_relation.specs.Memory.{Belongings}
 use Rattle.core_relation.specs.Fits.{Part, part_for}
 use Rattle.core_relation.specs.Worker.{Fits as FitsValue}
 use Rattle.task_machine.specs.declared.part.Private.{Private}
@@ -16,15 +16,15 @@ use Rattle.task_homes.specs.declared.task_at_rest.Work.{Work}
 use Rattle.task_homes.specs.declared.task_at_rest.Work.TheVariants.{Calls, Result}
 use Rattle.shared_value.specs.Measured.{IsMeasured}
 use Rattle.shared_value.specs.Stands.{HeapForm}
-use Rattle.shared_value.specs.SharedValue.{SharedValue, accounts, frames_down, home_with, value_of}
+use Rattle.shared_value.specs.SharedValue.{SharedValue, accounts, frames_down, belongings_with, value_of}
 
--- the home that a part holds, with the collection that it has begun
-abbrev pub home_of_part : Private → Home
-home_of_part p = record (home_with p.heap p.view p.allocations (frames_down p.frames) (pos 0, None)) { begun = p.begun }
+-- the belongings that a part holds, with the collection that it has begun
+abbrev pub belongings_of_part : Private → Belongings
+belongings_of_part p = record (belongings_with p.heap p.view p.allocations (frames_down p.frames) (pos 0, None)) { begun = p.begun }
 
 -- with the limits of the settings
 abbrev pub part_of : SettingsValue → Private → Part
-part_of s p = part_for s p.task (home_of_part p) p.fresh
+part_of s p = part_for s p.task (belongings_of_part p) p.fresh
 
 -- the accounts after the part's fresh steps, the machine's end left aside
 abbrev pub beyond : ProgramText → Ledger → Private → Ledger

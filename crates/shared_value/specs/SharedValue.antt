@@ -17,9 +17,9 @@ use Rattle.task_frames.specs.FramesValue.{FramesValue}
 use Rattle.heap_tree.specs.Node.{Node}
 use Rattle.write_barrier.specs.declared.sets.SetOf.{SetOf}
 use Rattle.inner_mark_gc.specs.MarkingValue.{MarkingValue}
-pub use Rattle.core_relation.specs.Memory.{no_home}
+pub use Rattle.core_relation.specs.Memory.{no_belongings}
 pub use Rattle.task_homes.specs.HomesValue.{marks_at, rest_at}
-use Rattle.core_relation.specs.Memory.{Home, Noted, Memory}
+use Rattle.core_relation.specs.Memory.{Belongings, Noted, Memory}
 use Rattle.core_relation.specs.Whole.{TreeCounts}
 use Rattle.task_homes.specs.declared.task_at_rest.Rest.{Rest}
 use Rattle.task_homes.specs.declared.task_at_rest.Work.{Work}
@@ -63,15 +63,15 @@ first_rest p slots spare = record {
   allocations = 0;
 }
 
--- ---- HOMES
+-- ---- BELONGINGS
 
 -- the top frame, and then those that wait, the oldest first
 abbrev pub frames_down : FramesValue → List Frame
 frames_down s = s.top ∷ s.below
 
 -- a heap, a view and a count of allocations, and the frames of a task at work
-abbrev pub home_with : LeafHeapValue → List Level → ℕ → List Frame → ℤ × Option Addr → Home
-home_with h view count frames result = record {
+abbrev pub belongings_with : LeafHeapValue → List Level → ℕ → List Frame → ℤ × Option Addr → Belongings
+belongings_with h view count frames result = record {
   chunks = chunks_of h.chunks;
   room = room_of h;
   since = h.since;
@@ -82,16 +82,16 @@ home_with h view count frames result = record {
   view = levels_of view;
 }
 
-abbrev pub home_by : LeafHeapValue → List Level → ℕ → Work → Home
-home_by h view count (Calls s) = home_with h view count (frames_down s) (pos 0, None)
-home_by h view count (Result k r) = home_with h view count [] (k, r)
+abbrev pub belongings_by : LeafHeapValue → List Level → ℕ → Work → Belongings
+belongings_by h view count (Calls s) = belongings_with h view count (frames_down s) (pos 0, None)
+belongings_by h view count (Result k r) = belongings_with h view count [] (k, r)
 
-abbrev pub home_of : Rest → Home
-home_of r = home_by r.heap r.view r.allocations r.work
+abbrev pub belongings_of : Rest → Belongings
+belongings_of r = belongings_by r.heap r.view r.allocations r.work
 
-abbrev pub home_in : Option Rest → Home
-home_in None = no_home
-home_in (Some r) = home_of r
+abbrev pub belongings_in : Option Rest → Belongings
+belongings_in None = no_belongings
+belongings_in (Some r) = belongings_of r
 
 -- ---- WHAT IS NOTED
 
@@ -103,7 +103,7 @@ noted_in (Some s) = record { sources = s.remembered.sources; kept = s.kept.items
 
 abbrev pub value_by : List (Option Rest) → List SetOf → PoolValue → Memory
 value_by rests sets pool = record {
-  homes = λ t. home_in (rest_at rests t);
+  belongings = λ t. belongings_in (rest_at rests t);
   noted = λ t. noted_in (slice_get sets t);
   owner = owner_of pool;
 }

@@ -48,8 +48,11 @@ IsPopped old new = old.below ≡ frames_of new
 abbrev pub with_next : FramesValue → ℕ → FramesValue
 with_next s next = record s { top = record s.top { next = next } }
 
+abbrev pub int_written : Frame → ℕ → ℤ → Frame
+int_written f i value = record f { ints = slice_set f.ints i value }
+
 abbrev pub with_int : FramesValue → ℕ → ℤ → FramesValue
-with_int s i value = record s { top = record s.top { ints = slice_set s.top.ints i value } }
+with_int s i value = record s { top = int_written s.top i value }
 
 abbrev pub ref_written : Frame → ℕ → Option Addr → Frame
 ref_written f i value = record f { refs = slice_set f.refs i value }

@@ -1,1 +1,2 @@
+pub mod FramesLends
 pub mod FramesValue

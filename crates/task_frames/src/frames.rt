@@ -2,9 +2,11 @@
 
 ghost use Rattle.std.specs.Prelude.{◌≡◌, ◌<◌, ◌≤◌, ◌↔◌, [], length, IfOk, OnOk, OnErr, Err, Some, slice_get};
 ghost use Rattle.hh_lang.specs.Limits.{frame_limit};
-ghost use Rattle.task_frames.specs.FramesValue.{FramesValue, branched, depth_of, frames_of, reference_at, pushed, IsPopped, references_of, references_written, with_next, with_int, with_reference, with_reference_at};
+ghost use Rattle.std.specs.Borrow.{sem};
+ghost use Rattle.task_frames.specs.FramesLends.{lends_top};
+ghost use Rattle.task_frames.specs.FramesValue.{FramesValue, branched, depth_of, frames_of, int_of, int_written, ref_of, ref_written, reference_at, pushed, IsPopped, references_of, references_written, with_next, with_int, with_reference, with_reference_at};
 
-use hh_lang::FRAME_LIMIT;
+use hh_lang::{FRAME_LIMIT, IntReg, RefReg};
 use object_layout::Addr;
 use std::alloc::{AllocError, Global};
 use std::marker::Model;
@@ -69,6 +71,36 @@ fn sixteen(ints: &[i64; 16], refs: &[Option<Addr>; 16])
     ensures ints { length ints.now ≡ 16 }
     ensures refs { length refs.now ≡ 16 }
 {}
+
+impl Frame {
+    /// What a number register holds.
+    pub fn int(&self, register: IntReg) -> i64
+        ensures { result ≡ int_of self.now register }
+    {
+        self.ints[register.index()]
+    }
+
+    /// Writes a number register.
+    pub fn set_int(&mut self, register: IntReg, value: i64)
+        ensures { self.new ≡ int_written self.old register value }
+    {
+        self.ints[register.index()] = value;
+    }
+
+    /// What a reference register holds; None is nil.
+    pub fn reference(&self, register: RefReg) -> Option<Addr>
+        ensures { result ≡ ref_of self.now register }
+    {
+        self.refs[register.index()]
+    }
+
+    /// Writes a reference register.
+    pub fn set_reference(&mut self, register: RefReg, value: Option<Addr>)
+        ensures { self.new ≡ ref_written self.old register value }
+    {
+        self.refs[register.index()] = value;
+    }
+}
 
 impl Frames {
     // The only frame of a task.
@@ -154,6 +186,14 @@ impl Frames {
         ensures { result.now ≡ self.now.top }
     {
         &self.top
+    }
+
+    /// The top frame, to be changed.
+    pub fn top_mut(&mut self) -> &mut Frame
+        ensures* writes_back { sem 𝓛 (lends_top self.entry result) }
+        ensures value { result.now ≡ self.old.top }
+    {
+        &mut self.top
     }
 
     /// The function that the top frame runs.

@@ -105,26 +105,6 @@ impl Private {
         }
     }
 
-    // The same of a plan that jumps.
-    #[inline(always)]
-    fn take_jump(&mut self, plan: Plan, instr: &Instr) -> Came
-        requires next { self.old.frames.top.next + 1 < 2 ^ 32 }
-        requires fresh { self.old.fresh + 1 < 2 ^ 32 }
-        requires few { self.old.allocations + 1 < 2 ^ 32 }
-        requires safe { IsSafe self.old }
-        requires limit { self.old.field_limit < 2 ^ 20 }
-        requires same { plan ≡ planned self.old instr.now }
-        ensures { ComesOf self.old plan self.new result }
-    {
-        match plan {
-            Plan::Jump(to) => {
-                self.jump(to);
-                Came::Taken
-            }
-            _ => self.go_slowly(instr),
-        }
-    }
-
     // The same of a plan that mostly writes a field.
     #[inline(always)]
     fn take_write(&mut self, plan: Plan, instr: &Instr) -> Came
@@ -171,10 +151,10 @@ impl Private {
         }
     }
 
-    // Takes the step that an instruction on an object comes to, or a rarer one, or says why there is none. It stands
-    // apart, so that steps of arithmetic aren't the slower for what a placement keeps at hand.
+    /// Takes the step that an instruction comes to, or says why there is none: mostly it works on an object, since what
+    /// only calculates was done before.
     #[inline(never)]
-    fn go_on_object(&mut self, instr: &Instr) -> Came
+    pub(crate) fn go(&mut self, instr: &Instr) -> Came
         requires next { self.old.frames.top.next + 1 < 2 ^ 32 }
         requires fresh { self.old.fresh + 1 < 2 ^ 32 }
         requires few { self.old.allocations + 1 < 2 ^ 32 }
@@ -206,41 +186,6 @@ impl Private {
                 self.take_write(plan, instr)
             }
             _ => self.go_slowly(instr),
-        }
-    }
-
-    /// Takes the step that an instruction comes to, or says why there is none.
-    #[inline(always)]
-    pub(crate) fn go(&mut self, instr: &Instr) -> Came
-        requires next { self.old.frames.top.next + 1 < 2 ^ 32 }
-        requires fresh { self.old.fresh + 1 < 2 ^ 32 }
-        requires few { self.old.allocations + 1 < 2 ^ 32 }
-        requires safe { IsSafe self.old }
-        requires limit { self.old.field_limit < 2 ^ 20 }
-        ensures wide { IsWide self.old instr.now }
-        ensures ready { IsReady self.old (planned self.old instr.now) }
-        ensures comes { ComesOf self.old (planned self.old instr.now) self.new result }
-    {
-        match instr {
-            Instr::Set(target, value) => self.take_int(Plan::SetInt(*target, *value), instr),
-            Instr::Mov(target, source) => {
-                let value = self.int(*source);
-                self.take_int(Plan::SetInt(*target, value), instr)
-            }
-            Instr::Movr(target, source) => {
-                let value = self.reference(*source);
-                self.take_reference(Plan::SetReference(*target, value), instr)
-            }
-            Instr::Calc(operator, target, left, right) => {
-                let plan = self.decide_calc(*operator, *target, *left, *right);
-                self.take_int(plan, instr)
-            }
-            Instr::Jmp(to) => self.take_jump(Plan::Jump(*to), instr),
-            Instr::Jz(tested, to) => {
-                let plan = self.decide_jz(*tested, *to);
-                self.take_jump(plan, instr)
-            }
-            _ => self.go_on_object(instr),
         }
     }
 }

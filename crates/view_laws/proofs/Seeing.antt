@@ -20,7 +20,7 @@ use Rattle.run_ledger.proofs.Steps.{task_steps_sound}
 use Rattle.ledger_step_laws.proofs.Known.{legal_knows}
 use Rattle.object_layout.specs.Objects.{Located}
 use Rattle.core_relation.specs.Memory.{In, Memory, objects}
-use Rattle.core_relation.specs.Stands.{HomeStands}
+use Rattle.core_relation.specs.Stands.{BelongingsStand}
 use Rattle.core_relation.proofs.objects.Members.{in_chunk}
 use Rattle.task_machine.specs.Run.{Runs}
 use Rattle.shared_value.proofs.PartFitsMachine as link
@@ -53,10 +53,10 @@ seen_names_are_held p s journal t k legal c x n m by is i leads =
 
 -- ---- LEVELS
 
--- the chunk in which an object of a home lies is its task's
-lies_own : (v : Memory) (l : Ledger) (u : ℕ) (o : Located) → HomeStands v l u → In (objects v u) o → v.owner o.at.chunk ≡ Some u
+-- the chunk in which an object of a task lies is its task's
+lies_own : (v : Memory) (l : Ledger) (u : ℕ) (o : Located) → BelongingsStand v l u → In (objects v u) o → v.owner o.at.chunk ≡ Some u
 lies_own v l u o H i =
-    let c = in_chunk (v.homes u).chunks o i in
+    let c = in_chunk (v.belongings u).chunks o i in
     ap v.owner (H.inside c.0 o c.1 c.2) ∙ H.owned c.0 c.1
 
 pub levels_are_apart : LevelsAreApart
@@ -65,10 +65,10 @@ levels_are_apart v l t u V r live up ne w ru =
     record {
       place = G.place;
       behind = G.behind;
-      levels = λ i level o lt at has there. G.apart i o.at.chunk level lt at has (lies_own v l u o (V.homes u ru) there);
+      levels = λ i level o lt at has there. G.apart i o.at.chunk level lt at has (lies_own v l u o (V.belongings u ru) there);
       own = λ o has there.
-          let mine : v.owner o.at.chunk ≡ Some t = ap v.owner (sym has.2) ∙ (V.homes t r).owned has.0 has.1 in
-          ne (same_Some u t (sym (lies_own v l u o (V.homes u ru) there) ∙ mine));
+          let mine : v.owner o.at.chunk ≡ Some t = ap v.owner (sym has.2) ∙ (V.belongings t r).owned has.0 has.1 in
+          ne (same_Some u t (sym (lies_own v l u o (V.belongings u ru) there) ∙ mine));
     }
 
 -- ---- READS

@@ -61,9 +61,9 @@ SeenNamesAreHeld =
 -- chunk that a nearer level has, and in none of t's own
 pub record IsApart (v : Memory) (u t : ℕ) : Type 0 where
   pub place : ℕ
-  pub behind : drop (suc place) (v.homes t).view ≡ (v.homes u).view
-  pub levels : (i : ℕ) (level : List Chunk) (o : Located) → i < place → slice_get (v.homes t).view i ≡ Some level → HasNumber level o.at.chunk → In (objects v u) o → ⊥
-  pub own : (o : Located) → HasNumber (v.homes t).chunks o.at.chunk → In (objects v u) o → ⊥
+  pub behind : drop (suc place) (v.belongings t).view ≡ (v.belongings u).view
+  pub levels : (i : ℕ) (level : List Chunk) (o : Located) → i < place → slice_get (v.belongings t).view i ≡ Some level → HasNumber level o.at.chunk → In (objects v u) o → ⊥
+  pub own : (o : Located) → HasNumber (v.belongings t).chunks o.at.chunk → In (objects v u) o → ⊥
 
 abbrev pub LevelsAreApart : Type 0
 LevelsAreApart =

@@ -8,7 +8,7 @@ use Rattle.object_layout.specs.declared.word.Addr.{Addr}
 use Rattle.remembered_set.specs.declared.remembered.Source.{Source}
 use Rattle.ledger_step_laws.specs.Accounts.{Knows, aside}
 use Rattle.core_relation.specs.Fits.{Part}
-use Rattle.core_relation.specs.Stands.{HomeStands, IsSource, Place, Stands}
+use Rattle.core_relation.specs.Stands.{BelongingsStand, IsSource, Place, Stands}
 use Rattle.core_relation.specs.Memory.{Memory}
 use Rattle.core_relation.specs.Worker.{Fits}
 use Rattle.core_relation.proofs.objects.Carry.{object_kept, task_kept}
@@ -23,8 +23,8 @@ module _ (v : Memory) (l : Ledger) where
   place : (n : Name) (a : Addr) → Place v l n a → Place v (aside l) n a
   place n a P = record { chunk = P.chunk; here = P.here }
 
-  home : (t : ℕ) → HomeStands v l t → HomeStands v (aside l) t
-  home t H = record { names = H.names; room = H.room; since = H.since; count = H.count; owned = H.owned; inside = H.inside; once = H.once; named = H.named; laid = H.laid }
+  belongings : (t : ℕ) → BelongingsStand v l t → BelongingsStand v (aside l) t
+  belongings t H = record { names = H.names; room = H.room; since = H.since; count = H.count; owned = H.owned; inside = H.inside; once = H.once; named = H.named; laid = H.laid }
 
   source : (t : ℕ) (s : Source) → IsSource v l t s → IsSource v (aside l) t s
   source t s S = record {
@@ -45,9 +45,9 @@ module _ (v : Memory) (l : Ledger) where
   pub stands_aside : Stands v l → Stands v (aside l)
   stands_aside S = record {
     made = S.made;
-    homes = λ t r. home t (S.homes t r);
+    belongings = λ t r. belongings t (S.belongings t r);
     contents = λ t o r i. (let c = S.contents t o r i in (c.0, c.1, object_kept (Place v l) (Place v (aside l)) o c.0 (λ n m a h. place n a h) c.2));
-    tasks = λ t x r e. task_kept (Place v l) (Place v (aside l)) (v.homes t) x (λ n m a h. place n a h) (S.tasks t x r e);
+    tasks = λ t x r e. task_kept (Place v l) (Place v (aside l)) (v.belongings t) x (λ n m a h. place n a h) (S.tasks t x r e);
     remembered = S.remembered;
     sources = λ t s i. source t s (S.sources t s i);
     views = S.views;

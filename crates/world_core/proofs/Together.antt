@@ -220,7 +220,7 @@ module _ (x : WorldValue) (I : IsSharedValue x.shared) (W : IsWhole x) where
   parts_stand = record {
     parts = R.parts;
     are = parts_are;
-    stands = all_fit_together w.program w.settings R.parts (value_of w) L knows refl (stands_aside (value_of w) (handed l) I.stands.homes) (all_fit R.parts R.fit);
+    stands = all_fit_together w.program w.settings R.parts (value_of w) L knows refl (stands_aside (value_of w) (handed l) I.stands.belongings) (all_fit R.parts R.fit);
     rest = rest;
   }
 

@@ -1,10 +1,11 @@
--- All parts together: with the home of each part that a worker holds put into the shared value, that stands for the accounts.
+-- All parts together: with the belongings of each part that a worker holds put into the shared value, that stands for
+-- the accounts.
 use Rattle.std.specs.Prelude.{◌≡◌, ℕ, Some, List, slice_get}
 use Rattle.run_ledger.specs.declared.data.Ledger.{Ledger}
 use Rattle.leaf_copy_gc.specs.declared.lists.Moved.{Moved}
 use Rattle.ledger_step_laws.specs.Accounts.{Rests, aside}
 use Rattle.core_relation.specs.Fits.{Part as PartOf}
-use Rattle.core_relation.specs.Frames.{all_ahead, with_homes}
+use Rattle.core_relation.specs.Frames.{all_ahead, with_all_belongings}
 use Rattle.core_relation.specs.Stands.{Stands}
 use Rattle.core_relation.specs.Memory.{In}
 use Rattle.core_relation.specs.Whole.{handed}
@@ -46,8 +47,8 @@ with_parts w qs = all_ahead w.program qs (aside (handed (accounts w)))
 pub record PartsStand (x : WorldValue) : Type 0 where
   pub parts : List PartOf
   pub are : AreParts x parts
-  -- with all their homes
-  pub stands : Stands (with_homes (value_of x.shared) parts) (with_parts x.shared parts)
+  -- with all their belongings
+  pub stands : Stands (with_all_belongings (value_of x.shared) parts) (with_parts x.shared parts)
   -- then no heap and no frame is missing
   pub rest : (t : ℕ) → Rests (with_parts x.shared parts) t
 

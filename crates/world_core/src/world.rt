@@ -96,7 +96,7 @@ impl World {
     }
 
     /// What every world keeps: the shared value stands for its journal, which is legal, and what each worker holds fits
-    /// it; with the homes of all parts put in it stands for its accounts.
+    /// it; with the belongings of all parts put in it stands for its accounts.
     pub fn stands(&self)
         ensures shared { IsSharedValue self.now.shared }
         ensures whole { IsWhole self.now }

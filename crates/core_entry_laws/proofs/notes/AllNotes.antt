@@ -15,14 +15,14 @@ use Rattle.run_ledger.specs.declared.data.Heap.{Heap}
 use Rattle.run_ledger.specs.declared.data.Ledger.{Ledger}
 use Rattle.run_ledger.specs.Heaps.{heap_of, within}
 use Rattle.run_ledger.specs.Sound.{SoundLedger}
-use Rattle.core_relation.specs.Memory.{Home, In, Memory, object_name, objects, objects_in, put_at, rewritten, sources}
+use Rattle.core_relation.specs.Memory.{Belongings, In, Memory, object_name, objects, objects_in, put_at, rewritten, sources}
 use Rattle.listed.proofs.Members.{in_append_right}
 use Rattle.task_frames.specs.declared.frames.Frame.{Frame}
 use Rattle.ledger_step_laws.specs.Accounts.{Rests, StepsAlone, ChangesHeap}
 use Rattle.core_relation.specs.Stands.{Stands}
 use Rattle.core_relation.specs.Begins.{AreRoots, IsRoot}
 use Rattle.core_relation.specs.Since.{NotedAt, SameNotes, AllNoted, NotesStay, Noting, ForksNotes, JoinsNotes, OthersNotes, StoresNotes}
-use Rattle.core_relation.specs.Changes.{KeepsJust, Moves, ForksHome, JoinsHomes, StoresAt, StoresNumberAt, WritesAt, with_number}
+use Rattle.core_relation.specs.Changes.{KeepsJust, Moves, ForksBelongings, JoinsBelongings, StoresAt, StoresNumberAt, WritesAt, with_number}
 use Rattle.task_frames.specs.FramesValue.{ref_of}
 use Rattle.ledger_step_laws.specs.Kinds.{CanJoin, ForksTask, JoinsTasks, StoresOne, StoresNumber}
 use Rattle.core_relation.proofs.objects.Mapped.{to_mapped}
@@ -32,7 +32,7 @@ use Rattle.core_relation.proofs.notes.Notes.{notes_stay, notes_with, same_whole,
 
 -- the accounts of u's heap stay
 same_notes : (v v' : Memory) (l l' : Ledger) (u : ℕ) → NotesStay v v' u → ((k : ℕ) → v'.owner k ≡ Some u → v.owner k ≡ Some u) → is_waiting (slice_get l'.machine.tasks u) ≡ is_waiting (slice_get l.machine.tasks u) → (heap_of l' u).swept ≡ (heap_of l u).swept → (heap_of l' u).snapshot ≡ (heap_of l u).snapshot
-    → (v'.homes u).frames ≡ (v.homes u).frames → ((b : Addr) → IsRoot v l u b → IsRoot v' l' u b) → SameNotes v v' l l' u
+    → (v'.belongings u).frames ≡ (v.belongings u).frames → ((b : Addr) → IsRoot v l u b → IsRoot v' l' u b) → SameNotes v v' l l' u
 same_notes v v' l l' u N none_new w s n f r = record { keeps = N.keeps; kept = N.kept; waits = w; swept = s; snapshot = n; none_new = none_new; frames = f; rooted = r }
 
 -- who doesn't wait needs none
@@ -52,15 +52,15 @@ joined_rests (Some x) h = by x.status h
     by (Ended k n) h = refl
     by Joined h = refl
 
-forks_root : (v v' : Memory) (l l' : Ledger) (t a b g h : ℕ) (x : Task) → Stands v l → x.status ≡ Running → ForksTask l l' t a b g h x → ForksHome v v' t a b g h → (u : ℕ) → (u ≡ a → ⊥) → (u ≡ b → ⊥) → (c : Addr) → IsRoot v l u c → IsRoot v' l' u c
+forks_root : (v v' : Memory) (l l' : Ledger) (t a b g h : ℕ) (x : Task) → Stands v l → x.status ≡ Running → ForksTask l l' t a b g h x → ForksBelongings v v' t a b g h → (u : ℕ) → (u ≡ a → ⊥) → (u ≡ b → ⊥) → (c : Addr) → IsRoot v l u c → IsRoot v' l' u c
 forks_root v v' l l' t a b g h x V runs F C u oa ob c r =
     let nt = root_apart v l V t (ap is_waiting F.task ∙ ap (λ s. is_waiting (Some (record x { status = s }))) runs) u c r in
     let na = root_apart v l V a (ap is_waiting F.unmade_left) u c r in
     let nb = root_apart v l V b (ap is_waiting F.unmade_right) u c r in
-    root_same v v' l l' u (noted_by v v' u (C.sources u oa ob)) (λ k o. C.owner k ∙ o) c r (ap (λ (z : Heap). z.worker) (F.heaps r.home nt na nb) ∙ r.rests) (ap (λ (z : Home). objects_in z.chunks) (C.others r.home nt na nb))
+    root_same v v' l l' u (noted_by v v' u (C.sources u oa ob)) (λ k o. C.owner k ∙ o) c r (ap (λ (z : Heap). z.worker) (F.heaps r.home nt na nb) ∙ r.rests) (ap (λ (z : Belongings). objects_in z.chunks) (C.others r.home nt na nb))
 
 pub forks_note : (v v' : Memory) (l l' : Ledger) (t a b g h : ℕ) (x : Task) (roots : List Addr) → SoundLedger l → Stands v l → x.status ≡ Running → Rests l t → ((u : ℕ) → is_waiting (slice_get l.machine.tasks u) ≡ true → Rests l u)
-    → (F : ForksTask l l' t a b g h x) → ForksHome v v' t a b g h → AreRoots v l t roots → F.names ≡ within l t → ForksNotes v v' t a b → AllNoted v l → AllNoted v' l'
+    → (F : ForksTask l l' t a b g h x) → ForksBelongings v v' t a b g h → AreRoots v l t roots → F.names ≡ within l t → ForksNotes v v' t a b → AllNoted v l → AllNoted v' l'
 forks_note v v' l l' t a b g h x roots S V runs rests at_rest F C R names N H u = elim (cases_eq u t) [
   | inl e ↦ subst (NotedAt v' l') (sym e) (fork_notes v v' l l' t a b g h x roots S V runs rests at_rest F C R names N.kept N.marked N.keeps)
   | inr nt ↦ elim (cases_eq u a) [
@@ -70,13 +70,13 @@ forks_note v v' l l' t a b g h x roots S V runs rests at_rest F C R names N H u 
       | inr nb ↦
           let heap = F.heaps u nt na nb in
           notes_stay v v' l l' u (same_notes v v' l l' u (N.others u nt na nb) (λ k g. sym (C.owner k) ∙ g) (ap is_waiting (F.tasks u nt na nb)) (ap (λ (z : Heap). z.swept) heap) (ap (λ (z : Heap). z.snapshot) heap)
-          (ap (λ (z : Home). z.frames) (C.others u nt na nb)) (forks_root v v' l l' t a b g h x V runs F C u na nb)) (N.others u nt na nb).marked (ap (λ (z : Heap). z.marked) heap)
-          (same_whole v v' u (ap (λ (z : Home). objects_in z.chunks) (C.others u nt na nb)) (ap (λ (z : Home). length z.chunks) (C.others u nt na nb))) (H u)
+          (ap (λ (z : Belongings). z.frames) (C.others u nt na nb)) (forks_root v v' l l' t a b g h x V runs F C u na nb)) (N.others u nt na nb).marked (ap (λ (z : Heap). z.marked) heap)
+          (same_whole v v' u (ap (λ (z : Belongings). objects_in z.chunks) (C.others u nt na nb)) (ap (λ (z : Belongings). length z.chunks) (C.others u nt na nb))) (H u)
     ]
   ]
 ]
 
-joins_root : (v v' : Memory) (l l' : Ledger) (p c d : ℕ) (x : Task) (rl rr : ℤ × Option Name) (al ar : ℤ × Option Addr) → Stands v l → JoinsTasks l l' p c d x rl rr → CanJoin l p c d x → JoinsHomes v v' p c d al ar
+joins_root : (v v' : Memory) (l l' : Ledger) (p c d : ℕ) (x : Task) (rl rr : ℤ × Option Name) (al ar : ℤ × Option Addr) → Stands v l → JoinsTasks l l' p c d x rl rr → CanJoin l p c d x → JoinsBelongings v v' p c d al ar
     → (u : ℕ) → (u ≡ p → ⊥) → (u ≡ c → ⊥) → (u ≡ d → ⊥) → (b : Addr) → IsRoot v l u b → IsRoot v' l' u b
 joins_root v v' l l' p c d x rl rr al ar V J K C u np nc nd b r =
     let rc = root_apart v l V c K.left_idle u b r in
@@ -84,17 +84,17 @@ joins_root v v' l l' p c d x rl rr al ar V J K C u np nc nd b r =
     elim (cases_eq r.home p) [
       | inl e ↦
           let i : In (objects v p) r.object = subst (λ z. In (objects v z) r.object) e r.there in
-          let k = in_chunk (v.homes p).chunks r.object i in
-          let k' : In (v'.homes p).chunks k.0 = subst (λ ks. In ks k.0) (sym C.chunks) (in_append_right ((v.homes c).chunks ++ (v.homes d).chunks) (v.homes p).chunks k.0 k.1) in
+          let k = in_chunk (v.belongings p).chunks r.object i in
+          let k' : In (v'.belongings p).chunks k.0 = subst (λ ks. In ks k.0) (sym C.chunks) (in_append_right ((v.belongings c).chunks ++ (v.belongings d).chunks) (v.belongings p).chunks k.0 k.1) in
           root_by v v' l l' u (noted_by v v' u (C.sources u np nc nd)) (λ k o. C.owners k u nc nd o) b r
           (subst (Rests l') (sym e) (ap (λ (z : Heap). z.worker) J.heap ∙ subst (Rests l) e r.rests))
-          r.object (subst (λ z. In (objects v' z) r.object) (sym e) (in_objects (v'.homes p).chunks k.0 r.object k' k.2)) refl r.holds
+          r.object (subst (λ z. In (objects v' z) r.object) (sym e) (in_objects (v'.belongings p).chunks k.0 r.object k' k.2)) refl r.holds
       | inr rp ↦
           root_same v v' l l' u (noted_by v v' u (C.sources u np nc nd)) (λ k o. C.owners k u nc nd o) b r (ap (λ (z : Heap). z.worker) (J.heaps r.home rp rc rd) ∙ r.rests)
-          (ap (λ (z : Home). objects_in z.chunks) (C.others r.home rp rc rd))
+          (ap (λ (z : Belongings). objects_in z.chunks) (C.others r.home rp rc rd))
     ]
 
-pub joins_note : (v v' : Memory) (l l' : Ledger) (p c d : ℕ) (x : Task) (rl rr : ℤ × Option Name) (al ar : ℤ × Option Addr) → Stands v l → JoinsTasks l l' p c d x rl rr → CanJoin l p c d x → JoinsHomes v v' p c d al ar → JoinsNotes v v' p c d → AllNoted v l → AllNoted v' l'
+pub joins_note : (v v' : Memory) (l l' : Ledger) (p c d : ℕ) (x : Task) (rl rr : ℤ × Option Name) (al ar : ℤ × Option Addr) → Stands v l → JoinsTasks l l' p c d x rl rr → CanJoin l p c d x → JoinsBelongings v v' p c d al ar → JoinsNotes v v' p c d → AllNoted v l → AllNoted v' l'
 joins_note v v' l l' p c d x rl rr al ar V J K C N H u = elim (cases_eq u p) [
   | inl e ↦ subst (NotedAt v' l') (sym e) (not_waiting v' l' p N.parent (ap is_waiting J.resumed))
   | inr np ↦ elim (cases_eq u c) [
@@ -104,8 +104,8 @@ joins_note v v' l l' p c d x rl rr al ar V J K C N H u = elim (cases_eq u p) [
       | inr nd ↦
           let heap = J.heaps u np nc nd in
           notes_stay v v' l l' u (same_notes v v' l l' u (N.others u np nc nd) (λ k g. elim (C.owned k u g) [ inl old ↦ old | inr new ↦ absurd (np new.0) ]) (ap is_waiting (J.tasks u np nc nd)) (ap (λ (z : Heap). z.swept) heap) (ap (λ (z : Heap). z.snapshot) heap)
-          (ap (λ (z : Home). z.frames) (C.others u np nc nd)) (joins_root v v' l l' p c d x rl rr al ar V J K C u np nc nd)) (N.others u np nc nd).marked (ap (λ (z : Heap). z.marked) heap)
-          (same_whole v v' u (ap (λ (z : Home). objects_in z.chunks) (C.others u np nc nd)) (ap (λ (z : Home). length z.chunks) (C.others u np nc nd))) (H u)
+          (ap (λ (z : Belongings). z.frames) (C.others u np nc nd)) (joins_root v v' l l' p c d x rl rr al ar V J K C u np nc nd)) (N.others u np nc nd).marked (ap (λ (z : Heap). z.marked) heap)
+          (same_whole v v' u (ap (λ (z : Belongings). objects_in z.chunks) (C.others u np nc nd)) (ap (λ (z : Belongings). length z.chunks) (C.others u np nc nd))) (H u)
     ]
   ]
 ]
@@ -116,7 +116,7 @@ sweeps_root v v' l l' t V L C u nt b r = elim (cases_eq r.home t) [
       let i = C.kept r.object (subst (λ z. In (objects v z) r.object) e r.there) (subst (λ z. In (heap_of l z).snapshot (object_name r.object)) e (root_kept v l V u b r)) in
       root_by v v' l l' u (noted_by v v' u (C.sources u)) (λ k o. C.owners k u nt o) b r (subst (Rests l') (sym e) (L.worker ∙ subst (Rests l) e r.rests)) r.object (subst (λ z. In (objects v' z) r.object) (sym e) i) refl r.holds
   | inr ne ↦
-      root_same v v' l l' u (noted_by v v' u (C.sources u)) (λ k o. C.owners k u nt o) b r (ap (λ (z : Heap). z.worker) (L.others r.home ne) ∙ r.rests) (ap (λ (z : Home). objects_in z.chunks) (C.others r.home ne))
+      root_same v v' l l' u (noted_by v v' u (C.sources u)) (λ k o. C.owners k u nt o) b r (ap (λ (z : Heap). z.worker) (L.others r.home ne) ∙ r.rests) (ap (λ (z : Belongings). objects_in z.chunks) (C.others r.home ne))
 ]
 
 pub sweeps_note : (v v' : Memory) (l l' : Ledger) (t : ℕ) → Stands v l → ChangesHeap l l' t → (heap_of l' t).swept ≡ true → KeepsJust v v' l l' t (heap_of l t).snapshot → OthersNotes v v' t → AllNoted v l → AllNoted v' l'
@@ -125,8 +125,8 @@ sweeps_note v v' l l' t V L swept C N H u = elim (cases_eq u t) [
   | inr nt ↦
       let heap = L.others u nt in
       notes_stay v v' l l' u (same_notes v v' l l' u (N.others u nt) (λ k g. C.owned k u g) (ap (λ (m : State). is_waiting (slice_get m.tasks u)) L.machine) (ap (λ (z : Heap). z.swept) heap) (ap (λ (z : Heap). z.snapshot) heap)
-      (ap (λ (z : Home). z.frames) (C.others u nt)) (sweeps_root v v' l l' t V L C u nt)) (N.others u nt).marked (ap (λ (z : Heap). z.marked) heap)
-      (same_whole v v' u (ap (λ (z : Home). objects_in z.chunks) (C.others u nt)) (ap (λ (z : Home). length z.chunks) (C.others u nt))) (H u)
+      (ap (λ (z : Belongings). z.frames) (C.others u nt)) (sweeps_root v v' l l' t V L C u nt)) (N.others u nt).marked (ap (λ (z : Heap). z.marked) heap)
+      (same_whole v v' u (ap (λ (z : Belongings). objects_in z.chunks) (C.others u nt)) (ap (λ (z : Belongings). length z.chunks) (C.others u nt))) (H u)
 ]
   where
     by : (a b : Bool) → b ≡ true → (a && not b) ≡ false
@@ -139,7 +139,7 @@ ends_root : (v v' : Memory) (l l' : Ledger) (t : ℕ) (names : List Name) (f : A
 ends_root v v' l l' t names f V idle L C u nt b r =
     let ne = root_apart v l V t idle u b r in
     root_by v v' l l' u (noted_by v v' u (C.sources u)) (λ k o. C.owners k u nt o) b r (ap (λ (z : Heap). z.worker) (L.others r.home ne) ∙ r.rests) (rewritten f (sources v t) r.object)
-    (subst (λ (h : Home). In (objects_in h.chunks) (rewritten f (sources v t) r.object)) (sym (C.others r.home ne)) (to_mapped (rewritten f (sources v t)) (λ o. refl) (λ o. refl) (v.homes r.home).chunks r.object r.there)) refl
+    (subst (λ (h : Belongings). In (objects_in h.chunks) (rewritten f (sources v t) r.object)) (sym (C.others r.home ne)) (to_mapped (rewritten f (sources v t)) (λ o. refl) (λ o. refl) (v.belongings r.home).chunks r.object r.there)) refl
     (rewritten_at f (sources v t) r.object.at 0 r.object.refs r.source.field b (C.same b u nt r.into) r.holds)
 
 pub ends_note : (v v' : Memory) (l l' : Ledger) (t : ℕ) (names : List Name) (f : Addr → Addr) → Stands v l → is_waiting (slice_get l.machine.tasks t) ≡ false → ChangesHeap l l' t → Moves v v' l l' t names f → OthersNotes v v' t → AllNoted v l → AllNoted v' l'
@@ -148,25 +148,25 @@ ends_note v v' l l' t names f V idle L C N H u = elim (cases_eq u t) [
   | inr nt ↦
       let heap = L.others u nt in
       notes_stay v v' l l' u (same_notes v v' l l' u (N.others u nt) (λ k g. C.owned k u g) (ap (λ (m : State). is_waiting (slice_get m.tasks u)) L.machine) (ap (λ (z : Heap). z.swept) heap) (ap (λ (z : Heap). z.snapshot) heap)
-      (ap (λ (z : Home). z.frames) (C.others u nt)) (ends_root v v' l l' t names f V idle L C u nt)) (N.others u nt).marked (ap (λ (z : Heap). z.marked) heap)
+      (ap (λ (z : Belongings). z.frames) (C.others u nt)) (ends_root v v' l l' t names f V idle L C u nt)) (N.others u nt).marked (ap (λ (z : Heap). z.marked) heap)
       (moves_whole v v' l l' t u names f nt C) (H u)
 ]
 
 -- a step of t alone, also its end
-pub steps_note : (v v' : Memory) (l l' : Ledger) (t : ℕ) → is_waiting (slice_get l.machine.tasks t) ≡ false → StepsAlone l l' t → ((u : ℕ) → (u ≡ t → ⊥) → v'.homes u ≡ v.homes u) → ((k : ℕ) → v'.owner k ≡ v.owner k) → ((u : ℕ) → sources v' u ≡ sources v u)
+pub steps_note : (v v' : Memory) (l l' : Ledger) (t : ℕ) → is_waiting (slice_get l.machine.tasks t) ≡ false → StepsAlone l l' t → ((u : ℕ) → (u ≡ t → ⊥) → v'.belongings u ≡ v.belongings u) → ((k : ℕ) → v'.owner k ≡ v.owner k) → ((u : ℕ) → sources v' u ≡ sources v u)
     → ((u : ℕ) (b : Addr) (r : IsRoot v l u b) → r.home ≡ t → ⊥) → OthersNotes v v' t → AllNoted v l → AllNoted v' l'
 steps_note v v' l l' t idle A C owner same apart N H u = elim (cases_eq u t) [
   | inl e ↦ subst (NotedAt v' l') (sym e) (not_waiting v' l' t N.none (A.tree.waits t ∙ idle))
   | inr nt ↦
       let heap = A.heaps u nt in
       notes_stay v v' l l' u (same_notes v v' l l' u (N.others u nt) (λ k g. sym (owner k) ∙ g) (A.tree.waits u) (ap (λ (z : Heap). z.swept) heap) (ap (λ (z : Heap). z.snapshot) heap)
-      (ap (λ (z : Home). z.frames) (C u nt))
-      (λ b r. let ne = apart u b r in root_same v v' l l' u (noted_by v v' u (same u)) (λ k o. owner k ∙ o) b r (ap (λ (z : Heap). z.worker) (A.heaps r.home ne) ∙ r.rests) (ap (λ (z : Home). objects_in z.chunks) (C r.home ne)))) (N.others u nt).marked (ap (λ (z : Heap). z.marked) heap)
-      (same_whole v v' u (ap (λ (z : Home). objects_in z.chunks) (C u nt)) (ap (λ (z : Home). length z.chunks) (C u nt))) (H u)
+      (ap (λ (z : Belongings). z.frames) (C u nt))
+      (λ b r. let ne = apart u b r in root_same v v' l l' u (noted_by v v' u (same u)) (λ k o. owner k ∙ o) b r (ap (λ (z : Heap). z.worker) (A.heaps r.home ne) ∙ r.rests) (ap (λ (z : Belongings). objects_in z.chunks) (C r.home ne)))) (N.others u nt).marked (ap (λ (z : Heap). z.marked) heap)
+      (same_whole v v' u (ap (λ (z : Belongings). objects_in z.chunks) (C u nt)) (ap (λ (z : Belongings). length z.chunks) (C u nt))) (H u)
 ]
 
 -- an entry that moves nothing
-pub quiet_notes : (v v' : Memory) (l l' : Ledger) → l'.machine ≡ l.machine → ((u : ℕ) → Rests l u → Rests l' u) → ((u : ℕ) → (v'.homes u).frames ≡ (v.homes u).frames) → ((k u : ℕ) → v.owner k ≡ Some u → v'.owner k ≡ Some u) → ((u : ℕ) → sources v' u ≡ sources v u) → ((u : ℕ) → (heap_of l' u).swept ≡ (heap_of l u).swept) → ((u : ℕ) → (heap_of l' u).snapshot ≡ (heap_of l u).snapshot) → ((u : ℕ) → objects v' u ≡ objects v u) → ((u : ℕ) → is_waiting (slice_get l.machine.tasks u) ≡ true → length (v'.homes u).chunks ≡ length (v.homes u).chunks)
+pub quiet_notes : (v v' : Memory) (l l' : Ledger) → l'.machine ≡ l.machine → ((u : ℕ) → Rests l u → Rests l' u) → ((u : ℕ) → (v'.belongings u).frames ≡ (v.belongings u).frames) → ((k u : ℕ) → v.owner k ≡ Some u → v'.owner k ≡ Some u) → ((u : ℕ) → sources v' u ≡ sources v u) → ((u : ℕ) → (heap_of l' u).swept ≡ (heap_of l u).swept) → ((u : ℕ) → (heap_of l' u).snapshot ≡ (heap_of l u).snapshot) → ((u : ℕ) → objects v' u ≡ objects v u) → ((u : ℕ) → is_waiting (slice_get l.machine.tasks u) ≡ true → length (v'.belongings u).chunks ≡ length (v.belongings u).chunks)
     → ((k u : ℕ) → v'.owner k ≡ Some u → (v.owner k ≡ Some u) ⊎ (is_waiting (slice_get l.machine.tasks u) ≡ false)) → ((u : ℕ) → Noting v v' l l' u) → AllNoted v l → AllNoted v' l'
 quiet_notes v v' l l' m rest frames owner noted swept snapshot same chunks taken N H u = by (is_waiting (slice_get l.machine.tasks u)) refl (N u)
   where
@@ -190,7 +190,7 @@ quiet_notes v v' l l' m rest frames owner noted swept snapshot same chunks taken
 numbers_root : (v v' : Memory) (l l' : Ledger) (w : ℕ) (a : Addr) (i : ℕ) (k : ℤ) → WritesAt v v' w a (with_number i k) → ((z : ℕ) → (heap_of l' z).worker ≡ (heap_of l z).worker) → (u : ℕ) (b : Addr) → IsRoot v l u b → IsRoot v' l' u b
 numbers_root v v' l l' w a i k C rest u b r =
     root_by v v' l l' u (C.noted u) (λ c o. C.owner c ∙ o) b r (rest r.home ∙ r.rests) (one r.object)
-    (subst (λ ks. In (objects_in ks) (one r.object)) (sym (C.chunks r.home)) (to_mapped one (number_name a i k) (number_at a i k) (v.homes r.home).chunks r.object r.there)) (number_at a i k r.object) (ap (λ rs. slice_get rs r.source.field) (number_refs a i k r.object) ∙ r.holds)
+    (subst (λ ks. In (objects_in ks) (one r.object)) (sym (C.chunks r.home)) (to_mapped one (number_name a i k) (number_at a i k) (v.belongings r.home).chunks r.object r.there)) (number_at a i k r.object) (ap (λ rs. slice_get rs r.source.field) (number_refs a i k r.object) ∙ r.holds)
   where
     one : Located → Located
     one q = put_at a (with_number i k) q

@@ -7,7 +7,7 @@ use Rattle.run_ledger.specs.declared.data.Heap.{Heap}
 use Rattle.run_ledger.specs.declared.data.Ledger.{Ledger}
 use Rattle.run_ledger.specs.Heaps.{heap_of}
 use Rattle.run_ledger.specs.Sound.{SoundLedger}
-use Rattle.core_relation.specs.Memory.{Home, Memory, In, object_name, objects_in}
+use Rattle.core_relation.specs.Memory.{Belongings, Memory, In, object_name, objects_in}
 use Rattle.ledger_step_laws.specs.Accounts.{Rests}
 use Rattle.task_machine.specs.declared.part.Begun.{Begun}
 use Rattle.core_relation.specs.Stands.{Stands}
@@ -21,23 +21,23 @@ begins v v' l l' t x b S V is runs rests at_rest R B = record {
   few = ap (λ (h : Heap). h.begun) B.heap;
   once = B.once;
   owned = B.owned;
-  apart = λ k c i j. B.apart k c i (subst (λ (h : Home). In h.chunks c) B.home j);
+  apart = λ k c i j. B.apart k c i (subst (λ (h : Belongings). In h.chunks c) B.belongings j);
   survivors = λ o i.
-      let r = reached_both v l t x b.roots S V is runs rests at_rest R o (subst (λ (h : Home). In (objects_in h.chunks) o) B.home i) in (
-        (λ w. subst (λ (h : Heap). In h.survivors (object_name o)) (sym B.heap) (r.0 (subst (λ (h : Home). IsReachedAt h b.roots o.at) B.home w))),
-        (λ w. subst (λ (h : Home). IsReachedAt h b.roots o.at) (sym B.home) (r.1 (subst (λ (h : Heap). In h.survivors (object_name o)) B.heap w))),
+      let r = reached_both v l t x b.roots S V is runs rests at_rest R o (subst (λ (h : Belongings). In (objects_in h.chunks) o) B.belongings i) in (
+        (λ w. subst (λ (h : Heap). In h.survivors (object_name o)) (sym B.heap) (r.0 (subst (λ (h : Belongings). IsReachedAt h b.roots o.at) B.belongings w))),
+        (λ w. subst (λ (h : Belongings). IsReachedAt h b.roots o.at) (sym B.belongings) (r.1 (subst (λ (h : Heap). In h.survivors (object_name o)) B.heap w))),
       );
 }
 
-pub begun_stays : (v v' : Memory) (l l' : Ledger) (t : ℕ) (b : Begun) → v'.homes t ≡ v.homes t → ((k : ℕ) → v.owner k ≡ Some t → v'.owner k ≡ Some t) → heap_of l' t ≡ heap_of l t → BegunStands v l t b → BegunStands v' l' t b
-begun_stays v v' l l' t b home owner heap B = record {
+pub begun_stays : (v v' : Memory) (l l' : Ledger) (t : ℕ) (b : Begun) → v'.belongings t ≡ v.belongings t → ((k : ℕ) → v.owner k ≡ Some t → v'.owner k ≡ Some t) → heap_of l' t ≡ heap_of l t → BegunStands v l t b → BegunStands v' l' t b
+begun_stays v v' l l' t b belongings owner heap B = record {
   few = ap (λ (h : Heap). h.begun) heap ∙ B.few;
   once = B.once;
   owned = λ k i. owner k (B.owned k i);
-  apart = λ k c i j. B.apart k c i (subst (λ (h : Home). In h.chunks c) home j);
+  apart = λ k c i j. B.apart k c i (subst (λ (h : Belongings). In h.chunks c) belongings j);
   survivors = λ o i.
-      let r = B.survivors o (subst (λ (h : Home). In (objects_in h.chunks) o) home i) in (
-        (λ w. subst (λ (h : Heap). In h.survivors (object_name o)) (sym heap) (r.0 (subst (λ (h : Home). IsReachedAt h b.roots o.at) home w))),
-        (λ w. subst (λ (h : Home). IsReachedAt h b.roots o.at) (sym home) (r.1 (subst (λ (h : Heap). In h.survivors (object_name o)) heap w))),
+      let r = B.survivors o (subst (λ (h : Belongings). In (objects_in h.chunks) o) belongings i) in (
+        (λ w. subst (λ (h : Heap). In h.survivors (object_name o)) (sym heap) (r.0 (subst (λ (h : Belongings). IsReachedAt h b.roots o.at) belongings w))),
+        (λ w. subst (λ (h : Belongings). IsReachedAt h b.roots o.at) (sym belongings) (r.1 (subst (λ (h : Heap). In h.survivors (object_name o)) heap w))),
       );
 }

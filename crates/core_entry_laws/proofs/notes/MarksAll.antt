@@ -113,7 +113,7 @@ module _ (v : Memory) (l : Ledger) (t : ℕ) (V : Stands v l) (rests : Rests l t
   name_in : (bs : List Addr) (each : Each bs) (q : Located) → In (objects v t) q → In bs q.at → In (names bs each) (object_name q)
   unfolding names
   name_in [] each q i j = absurd j
-  name_in (a ∷ bs) each q i (inl e) = let r = each a (inl refl) in inl (ap object_name ((V.homes t rests).once r.0 q r.1 i (r.2 ∙ e)))
+  name_in (a ∷ bs) each q i (inl e) = let r = each a (inl refl) in inl (ap object_name ((V.belongings t rests).once r.0 q r.1 i (r.2 ∙ e)))
   name_in (a ∷ bs) each q i (inr j) = inr (name_in bs (λ b k. each b (inr k)) q i j)
 
   once_marked : (bs : List Addr) (each : Each bs) → IsDistinct same_address bs → NamedOnce (names bs each)
@@ -123,7 +123,7 @@ module _ (v : Memory) (l : Ledger) (t : ℕ) (V : Stands v l) (rests : Rests l t
     (λ i.
         let q = each a (inl refl) in
         let r = named_by bs (λ b j. each b (inr j)) (object_name q.0) i in
-        let same : r.0 ≡ q.0 = (V.homes t rests).named r.0 q.0 r.1 q.1 r.2 in
+        let same : r.0 ≡ q.0 = (V.belongings t rests).named r.0 q.0 r.1 q.1 r.2 in
         none_from a bs d.0 (subst (In bs) (ap (λ (o : Located). o.at) same ∙ q.2) r.3)),
     once_marked bs (λ b j. each b (inr j)) d.1,
   )
@@ -144,7 +144,7 @@ all_marked v l t marked V rests each distinct held every =
     let ns = names v l t V rests marked each in
     let as_many : length ns ≡ length marked = as_many v l t V rests marked each in
     let le : length (heap_of l t).snapshot ≤ length ns = no_more (heap_of l t).snapshot ns (once_names (heap_of l t).snapshot distinct) (λ n i.
-    let o = held_object (v.homes t).chunks (heap_of l t) (V.homes t rests).names n (held n i) in
+    let o = held_object (v.belongings t).chunks (heap_of l t) (V.belongings t rests).names n (held n i) in
     subst (In ns) o.2 (name_in v l t V rests marked each o.0 o.1 (every o.0 o.1 (subst (In (heap_of l t).snapshot) (sym o.2) i)))) in
     omega (arith, le, as_many)
 
@@ -158,10 +158,10 @@ marks_are_all v l t marked V rests distinct held M =
       (λ none q i j.
           let le : length (heap_of l t).snapshot ≤ length ns = (let z : length (heap_of l t).snapshot - marked_in (heap_of l t) ≡ 0 = none in omega (arith, z, count, as_many)) in
           let r = named_by v l t V rests marked M.each (object_name q) (all_of ns (heap_of l t).snapshot once all le (object_name q) j) in
-          subst (λ (o : Located). In marked o.at) ((V.homes t rests).named r.0 q r.1 i r.2) r.3),
+          subst (λ (o : Located). In marked o.at) ((V.belongings t rests).named r.0 q r.1 i r.2) r.3),
       (λ every.
           let le : length (heap_of l t).snapshot ≤ length ns = no_more (heap_of l t).snapshot ns (once_names (heap_of l t).snapshot distinct) (λ n i.
-          let o = held_object (v.homes t).chunks (heap_of l t) (V.homes t rests).names n (held n i) in
+          let o = held_object (v.belongings t).chunks (heap_of l t) (V.belongings t rests).names n (held n i) in
           subst (In ns) o.2 (name_in v l t V rests marked M.each o.0 o.1 (every o.0 o.1 (subst (In (heap_of l t).snapshot) (sym o.2) i)))) in
           let z : length (heap_of l t).snapshot - marked_in (heap_of l t) ≡ 0 = omega (arith, le, count, as_many) in
           z),

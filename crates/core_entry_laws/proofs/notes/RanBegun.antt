@@ -1,4 +1,4 @@
--- An entry of steps leaves no collection that has begun in a home at rest.
+-- An entry of steps leaves no collection that has begun in belongings at rest.
 use Rattle.std.proofs.Common.{◌≡◌, ℕ, ◌+◌, Some, None, List, length, slice_get, inl, inr, refl, ap, sym, subst, ◌∙◌}
 use Rattle.std.proofs.lemmas.Bool.{cases_eq}
 use Rattle.listed.proofs.Options.{none_some}
@@ -18,16 +18,16 @@ use Rattle.ledger_step_laws.proofs.Ahead.{private_alone, steps_alone_all, with_o
 use Rattle.ledger_step_laws.proofs.Along.{steps_know}
 use Rattle.ledger_step_laws.proofs.Rested.{rested_view}
 use Rattle.ledger_step_laws.proofs.Split.{worker_step}
-use Rattle.core_relation.specs.Memory.{Home, Memory}
-use Rattle.core_relation.specs.Fits.{with_home}
-use Rattle.core_relation.specs.Changes.{EndsHome}
+use Rattle.core_relation.specs.Memory.{Belongings, Memory}
+use Rattle.core_relation.specs.Fits.{with_belongings}
+use Rattle.core_relation.specs.Changes.{EndsBelongings}
 use Rattle.core_relation.specs.Makes.{Stores, Makes}
 use Rattle.core_relation.specs.Whole.{handed}
 use Rattle.core_entry_laws.proofs.whole.HandedBack.{alive_machine, handed_on, handed_halt, handed_done}
 use Rattle.core_entry_laws.proofs.whole.RunsOn.{ran_end}
-use Rattle.core_relation.proofs.changes.With.{at_home, off_home}
+use Rattle.core_relation.proofs.changes.With.{at_belongings, off_belongings}
 
-module _ (p : ProgramText) (s : SettingsValue) (v v' : Memory) (l l' : Ledger) (t w k : ℕ) (h : Home) (E : Runs p s l l' t w k) (alive : l.end ≡ None) (resting : (u : ℕ) → Rests l u → (v.homes u).begun ≡ None) (own : h.begun ≡ None) (accounts : (u : ℕ) → Rests l' u → (heap_of l' u).begun ≡ None) (still : (heap_of (task_steps p l t k) t).begun ≡ None) where
+module _ (p : ProgramText) (s : SettingsValue) (v v' : Memory) (l l' : Ledger) (t w k : ℕ) (h : Belongings) (E : Runs p s l l' t w k) (alive : l.end ≡ None) (resting : (u : ℕ) → Rests l u → (v.belongings u).begun ≡ None) (own : h.begun ≡ None) (accounts : (u : ℕ) → Rests l' u → (heap_of l' u).begun ≡ None) (still : (heap_of (task_steps p l t k) t).begun ≡ None) where
   abbrev m : Ledger
   m = task_steps p l t k
 
@@ -35,51 +35,51 @@ module _ (p : ProgramText) (s : SettingsValue) (v v' : Memory) (l l' : Ledger) (
   S = E.splits
 
   abbrev vt : Memory
-  vt = with_home v t h
+  vt = with_belongings v t h
 
   abbrev Idle : Ledger → Type 0
-  Idle n = (u : ℕ) → Rests n u → ((heap_of n u).begun ≡ None) × ((v'.homes u).begun ≡ None)
+  Idle n = (u : ℕ) → Rests n u → ((heap_of n u).begun ≡ None) × ((v'.belongings u).begun ≡ None)
 
   alone : StepsAlone l m t
   alone = steps_alone_all p s t k l (E.knows.sound, E.collects) S.private
 
-  other : (u : ℕ) → (u ≡ t → ⊥) → Rests m u → (v.homes u).begun ≡ None
+  other : (u : ℕ) → (u ≡ t → ⊥) → Rests m u → (v.belongings u).begun ≡ None
   other u ne r = resting u (ap (λ (z : Heap). z.worker) (sym (alone.heaps u ne)) ∙ r)
 
-  -- with the part's home
-  before : (u : ℕ) → Rests (rested m t) u → (vt.homes u).begun ≡ None
+  -- with the part's belongings
+  before : (u : ℕ) → Rests (rested m t) u → (vt.belongings u).begun ≡ None
   before u r = elim (cases_eq u t) [
-    | inl e ↦ ap (λ z. (vt.homes z).begun) e ∙ (ap (λ (z : Home). z.begun) (at_home v t h) ∙ own)
-    | inr ne ↦ ap (λ (z : Home). z.begun) (off_home v t h u ne) ∙ other u ne (ap (λ o. (or_fresh o).worker) (sym (with_off m t u let_go ne)) ∙ r)
+    | inl e ↦ ap (λ z. (vt.belongings z).begun) e ∙ (ap (λ (z : Belongings). z.begun) (at_belongings v t h) ∙ own)
+    | inr ne ↦ ap (λ (z : Belongings). z.begun) (off_belongings v t h u ne) ∙ other u ne (ap (λ o. (or_fresh o).worker) (sym (with_off m t u let_go ne)) ∙ r)
   ]
 
   -- the worker goes on with the task
-  held : (heap_of l' t).worker ≡ Some w → ((u : ℕ) → (u ≡ t → ⊥) → heap_of l' u ≡ heap_of m u) → ((u : ℕ) → (u ≡ t → ⊥) → (v'.homes u).begun ≡ (v.homes u).begun) → Idle l'
+  held : (heap_of l' t).worker ≡ Some w → ((u : ℕ) → (u ≡ t → ⊥) → heap_of l' u ≡ heap_of m u) → ((u : ℕ) → (u ≡ t → ⊥) → (v'.belongings u).begun ≡ (v.belongings u).begun) → Idle l'
   held out heaps same u r = elim (cases_eq u t) [
     | inl e ↦ none_some (sym (subst (Rests l') e r) ∙ out)
     | inr ne ↦ (accounts u r, same u ne ∙ other u ne (ap (λ (z : Heap). z.worker) (sym (heaps u ne)) ∙ r))
   ]
 
   stays : v' ≡ v → (heap_of l' t).worker ≡ Some w → ((u : ℕ) → (u ≡ t → ⊥) → heap_of l' u ≡ heap_of m u) → Idle l'
-  stays e out heaps = held out heaps (λ u ne. ap (λ (z : Memory). (z.homes u).begun) e)
+  stays e out heaps = held out heaps (λ u ne. ap (λ (z : Memory). (z.belongings u).begun) e)
 
   goes : l'.machine.end ≡ None → Idle l' → Idle (handed l')
   goes on = subst Idle (sym (handed_on l' (ran_end p s l l' t w k E (alive_machine p s l l' t w k E) on ∙ alive)))
 
   -- it has ended
-  ended : (n : Ledger) (f : Frame) (fs : List Frame) → EndsTask (rested m t) n t S.task → EndsHome vt v' t f fs → ((u : ℕ) → Rests n u → (heap_of n u).begun ≡ None) → Idle n
+  ended : (n : Ledger) (f : Frame) (fs : List Frame) → EndsTask (rested m t) n t S.task → EndsBelongings vt v' t f fs → ((u : ℕ) → Rests n u → (heap_of n u).begun ≡ None) → Idle n
   ended n f fs L C at u r = (
     at u r,
     elim (cases_eq u t) [
-      | inl e ↦ ap (λ z. (v'.homes z).begun) e ∙ (C.begun ∙ (ap (λ (z : Home). z.begun) (at_home v t h) ∙ own))
-      | inr ne ↦ ap (λ (z : Home). z.begun) (C.others u ne) ∙ before u (ap (λ (z : Heap). z.worker) (sym (L.alone.heaps u ne)) ∙ r)
+      | inl e ↦ ap (λ z. (v'.belongings z).begun) e ∙ (C.begun ∙ (ap (λ (z : Belongings). z.begun) (at_belongings v t h) ∙ own))
+      | inr ne ↦ ap (λ (z : Belongings). z.begun) (C.others u ne) ∙ before u (ap (λ (z : Heap). z.worker) (sym (L.alone.heaps u ne)) ∙ r)
     ],
   )
 
-  wrote : (g : Home) (begun : (u : ℕ) → ((with_home v' t g).homes u).begun ≡ (vt.homes u).begun) (u : ℕ) → (u ≡ t → ⊥) → (v'.homes u).begun ≡ (v.homes u).begun
-  wrote g begun u ne = ap (λ (z : Home). z.begun) (sym (off_home v' t g u ne)) ∙ (begun u ∙ ap (λ (z : Home). z.begun) (off_home v t h u ne))
+  wrote : (g : Belongings) (begun : (u : ℕ) → ((with_belongings v' t g).belongings u).begun ≡ (vt.belongings u).begun) (u : ℕ) → (u ≡ t → ⊥) → (v'.belongings u).begun ≡ (v.belongings u).begun
+  wrote g begun u ne = ap (λ (z : Belongings). z.begun) (sym (off_belongings v' t g u ne)) ∙ (begun u ∙ ap (λ (z : Belongings). z.begun) (off_belongings v t h u ne))
 
-  writes : (W : WritesOther m l' t S.task S.line) (instr : Instr) → Stores v v' m t h S.task W.object instr → (u : ℕ) → (u ≡ t → ⊥) → (v'.homes u).begun ≡ (v.homes u).begun
+  writes : (W : WritesOther m l' t S.task S.line) (instr : Instr) → Stores v v' m t h S.task W.object instr → (u : ℕ) → (u ≡ t → ⊥) → (v'.belongings u).begun ≡ (v.belongings u).begun
   writes W (Putr o i b) C = wrote C.0 C.6.writes.begun
   writes W (Cas d o i e b) C = wrote C.0 C.6.writes.begun
   writes W (Puti o i b) C = wrote C.0 C.6.writes.begun
@@ -112,30 +112,30 @@ module _ (p : ProgramText) (s : SettingsValue) (v v' : Memory) (l l' : Ledger) (
   by Printing K on C = goes (on tt) (stays C (ap (λ (z : Ledger). (heap_of z t).worker) K.goes ∙ E.held) K.alone.heaps)
   by Forking K on C = goes (on tt) (λ u r. (accounts u r, forked u r))
     where
-      forked : (u : ℕ) → Rests l' u → (v'.homes u).begun ≡ None
+      forked : (u : ℕ) → Rests l' u → (v'.belongings u).begun ≡ None
       forked u r =
           let a : ℕ = length m.machine.tasks in
           elim (cases_eq u t) [
-            | inl e ↦ ap (λ z. (v'.homes z).begun) e ∙ (ap (λ (z : Home). z.begun) C.home ∙ (ap (λ (z : Home). z.begun) (at_home v t h) ∙ own))
+            | inl e ↦ ap (λ z. (v'.belongings z).begun) e ∙ (ap (λ (z : Belongings). z.begun) C.belongings ∙ (ap (λ (z : Belongings). z.begun) (at_belongings v t h) ∙ own))
             | inr nt ↦ elim (cases_eq u a) [
-              | inl e ↦ ap (λ z. (v'.homes z).begun) e ∙ ap (λ (z : Home). z.begun) C.left
+              | inl e ↦ ap (λ z. (v'.belongings z).begun) e ∙ ap (λ (z : Belongings). z.begun) C.left
               | inr na ↦ elim (cases_eq u (a + 1)) [
-                | inl e ↦ ap (λ z. (v'.homes z).begun) e ∙ ap (λ (z : Home). z.begun) C.right
-                | inr nb ↦ ap (λ (z : Home). z.begun) (C.others u nt na nb) ∙ before u (ap (λ (z : Heap). z.worker) (sym (K.forks.heaps u nt na nb)) ∙ r)
+                | inl e ↦ ap (λ z. (v'.belongings z).begun) e ∙ ap (λ (z : Belongings). z.begun) C.right
+                | inr nb ↦ ap (λ (z : Belongings). z.begun) (C.others u nt na nb) ∙ before u (ap (λ (z : Heap). z.worker) (sym (K.forks.heaps u nt na nb)) ∙ r)
               ]
             ]
           ]
   by Ending K on C = goes (on tt) (ended l' C.0 C.1 K.ends C.2 accounts)
   by Joining K on C = goes (on tt) (λ u r. (accounts u r, joined u r))
     where
-      joined : (u : ℕ) → Rests l' u → (v'.homes u).begun ≡ None
+      joined : (u : ℕ) → Rests l' u → (v'.belongings u).begun ≡ None
       joined u r = elim (cases_eq u K.parent) [
-        | inl e ↦ ap (λ z. (v'.homes z).begun) e ∙ (C.2.begun ∙ before K.parent K.can.rests)
+        | inl e ↦ ap (λ z. (v'.belongings z).begun) e ∙ (C.2.begun ∙ before K.parent K.can.rests)
         | inr np ↦ elim (cases_eq u K.left) [
-          | inl e ↦ ap (λ z. (v'.homes z).begun) e ∙ ap (λ (z : Home). z.begun) C.2.left
+          | inl e ↦ ap (λ z. (v'.belongings z).begun) e ∙ ap (λ (z : Belongings). z.begun) C.2.left
           | inr nl ↦ elim (cases_eq u (K.left + 1)) [
-            | inl e ↦ ap (λ z. (v'.homes z).begun) e ∙ ap (λ (z : Home). z.begun) C.2.right
-            | inr nr ↦ ap (λ (z : Home). z.begun) (C.2.others u np nl nr) ∙ before u (ap (λ (z : Heap). z.worker) (sym (K.joins.heaps u np nl nr)) ∙ r)
+            | inl e ↦ ap (λ z. (v'.belongings z).begun) e ∙ ap (λ (z : Belongings). z.begun) C.2.right
+            | inr nr ↦ ap (λ (z : Belongings). z.begun) (C.2.others u np nl nr) ∙ before u (ap (λ (z : Heap). z.worker) (sym (K.joins.heaps u np nl nr)) ∙ r)
           ]
         ]
       ]

@@ -26,7 +26,7 @@ use Rattle.ledger_step_laws.specs.Last.{Wrote, WritesOther, LastKind, Private, R
 use Rattle.ledger_step_laws.proofs.Ahead.{private_alone, alone_along, steps_alone_all, with_off}
 use Rattle.ledger_step_laws.proofs.Along.{steps_know}
 use Rattle.ledger_step_laws.proofs.Tree.{leaf_alone}
-use Rattle.core_relation.specs.Memory.{Home, Memory, In}
+use Rattle.core_relation.specs.Memory.{Belongings, Memory, In}
 use Rattle.core_relation.specs.Makes.{taken_by}
 use Rattle.core_relation.specs.Fits.{Part, FitsAt, ahead, part_for}
 use Rattle.core_relation.specs.Frames.{IsOut, AreOut}
@@ -118,7 +118,7 @@ mutable_is x y y' f (Par g h) W = absurd W
 mutable_is x y y' f Ret W = absurd W
 mutable_is x y y' f (Out a) W = absurd W
 
-module _ (p : ProgramText) (s : SettingsValue) (v : Memory) (l l' : Ledger) (t w k : ℕ) (h : Home) (E : Runs p s l l' t w k) (on : l'.machine.end ≡ None) where
+module _ (p : ProgramText) (s : SettingsValue) (v : Memory) (l l' : Ledger) (t w k : ℕ) (h : Belongings) (E : Runs p s l l' t w k) (on : l'.machine.end ≡ None) where
   abbrev q : Part
   q = part_for s t h k
 

@@ -9,16 +9,16 @@ use Rattle.run_ledger.specs.Heaps.{or_fresh}
 use Rattle.ledger_step_laws.specs.Accounts.{Knows}
 use Rattle.core_relation.specs.Memory.{Memory}
 use Rattle.core_relation.specs.Stands.{Stands}
-use Rattle.core_relation.specs.Fits.{Part, FitsAt, with_home, ahead}
+use Rattle.core_relation.specs.Fits.{Part, FitsAt, with_belongings, ahead}
 use Rattle.core_relation.specs.Worker.{AllFit}
 use Rattle.core_entry_laws.specs.WorkerLaws.{AllFitTogether}
 use Rattle.core_entry_laws.proofs.parts.Workers.{out, part_now}
-use Rattle.core_relation.specs.Frames.{IsOut, NotOf, AllFitAt, with_homes, all_ahead}
+use Rattle.core_relation.specs.Frames.{IsOut, NotOf, AllFitAt, with_all_belongings, all_ahead}
 use Rattle.core_entry_laws.proofs.parts.Pair as pair
 
--- a part fits the memory with another's home in it, by the accounts with the other's steps
+-- a part fits the memory with another's belongings in it, by the accounts with the other's steps
 module _ (p : ProgramText) (s : SettingsValue) (q r : Part) (v : Memory) (l : Ledger) (x y : Task) (K : Knows l) (F : FitsAt p s q v l) (G : FitsAt p s r v l) (O : IsOut l q x) (P : IsOut l r y) (ne : q.task ≡ r.task → ⊥) where
-  pub fits_on_top : FitsAt p s r (with_home v q.task q.home) (ahead p q l)
+  pub fits_on_top : FitsAt p s r (with_belongings v q.task q.belongings) (ahead p q l)
   fits_on_top = record {
     worker = G.worker;
     out = ap (λ o. (or_fresh o).worker) (pair.alike p s q r v l x y K F G O P ne).heap ∙ G.out;
@@ -36,7 +36,7 @@ module _ (p : ProgramText) (s : SettingsValue) (q r : Part) (v : Memory) (l : Le
   }
 
 module _ (p : ProgramText) (s : SettingsValue) where
-  rest_on_top : (q : Part) (v : Memory) (l : Ledger) (x : Task) → Knows l → FitsAt p s q v l → IsOut l q x → (rs : List Part) → NotOf q.task rs → AllFitAt p s rs v l → AllFitAt p s rs (with_home v q.task q.home) (ahead p q l)
+  rest_on_top : (q : Part) (v : Memory) (l : Ledger) (x : Task) → Knows l → FitsAt p s q v l → IsOut l q x → (rs : List Part) → NotOf q.task rs → AllFitAt p s rs v l → AllFitAt p s rs (with_belongings v q.task q.belongings) (ahead p q l)
   rest_on_top q v l x K F O [] N A = tt
   rest_on_top q v l x K F O (r ∷ rs) N A = (
     fits_on_top p s q r v l x A.1 K F A.0 O A.2 N.0,
@@ -49,10 +49,10 @@ module _ (p : ProgramText) (s : SettingsValue) where
   ahead_knows : (q : Part) (v : Memory) (l : Ledger) (x : Task) → Knows l → FitsAt p s q v l → IsOut l q x → Knows (ahead p q l)
   ahead_knows q v l x K F O = pair.knows_ahead p s q v l x K F O
 
-  pub all_stand : (qs : List Part) (v : Memory) (l : Ledger) → Knows l → Stands v l → AllFitAt p s qs v l → Stands (with_homes v qs) (all_ahead p qs l)
+  pub all_stand : (qs : List Part) (v : Memory) (l : Ledger) → Knows l → Stands v l → AllFitAt p s qs v l → Stands (with_all_belongings v qs) (all_ahead p qs l)
   all_stand [] v l K V A = V
   all_stand (q ∷ qs) v l K V A =
-      all_stand qs (with_home v q.task q.home) (ahead p q l) (ahead_knows q v l A.1 K A.0 A.2) A.0.stands (rest_on_top q v l A.1 K A.0 A.2 qs A.3 A.4)
+      all_stand qs (with_belongings v q.task q.belongings) (ahead p q l) (ahead_knows q v l A.1 K A.0 A.2) A.0.stands (rest_on_top q v l A.1 K A.0 A.2 qs A.3 A.4)
 
 -- parts that fit, by the accounts as they are
 by_accounts : (p : ProgramText) (s : SettingsValue) (qs : List Part) (v : Memory) (l : Ledger) → l.machine.end ≡ None → AllFit p s qs v l → AllFitAt p s qs v l

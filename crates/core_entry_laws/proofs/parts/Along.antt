@@ -111,7 +111,7 @@ module _ (p : ProgramText) (s : SettingsValue) (q : Part) where
         few = F.few;
         private = a.0;
         stands =
-            step_frame v (ahead p q l) (ahead p q l') t w q.task q.home (ahead_sound p s q l K.sound c) (alone_ahead l l' (ahead p q l) (ahead p q l') t B N N' E)
+            step_frame v (ahead p q l) (ahead p q l') t w q.task q.belongings (ahead_sound p s q l K.sound c) (alone_ahead l l' (ahead p q l) (ahead p q l') t B N N' E)
             (ap (λ (i : Heap). i.worker) (N.heaps t ne) ∙ out) (ap (λ (i : Heap). i.worker) (N'.heaps t ne) ∙ out') (N.tree.waits t ∙ idle) F.stands;
       }
     where

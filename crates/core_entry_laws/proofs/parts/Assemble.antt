@@ -1,4 +1,5 @@
--- Two parts that fit a memory fit it together: with both homes in it, it stands for the accounts in which both tasks rest.
+-- Two parts that fit a memory fit it together: with the belongings of both in it, it stands for the accounts in which
+-- both tasks rest.
 use Rattle.std.proofs.Common.{◌≡◌, ℕ, true, false, Some, slice_get, ◌⊎◌, inl, inr, ap, sym, subst, ◌∙◌}
 use Rattle.std.proofs.lemmas.Bool.{cases_eq, both_ways}
 use Rattle.std.proofs.lemmas.Option.{same_Some}
@@ -14,19 +15,19 @@ use Rattle.run_ledger.specs.declared.data.Ledger.{Ledger}
 use Rattle.run_ledger.specs.Heaps.{heap_of}
 use Rattle.run_ledger.specs.Sound.{SoundLedger}
 use Rattle.remembered_set.specs.declared.remembered.Source.{Source}
-use Rattle.core_relation.specs.Memory.{Home, Memory, In, object_name, objects, objects_in, sources, Lies, shown_at}
+use Rattle.core_relation.specs.Memory.{Belongings, Memory, In, object_name, objects, objects_in, sources, Lies, shown_at}
 use Rattle.core_relation.specs.Reads.{IsRead, TaskIsRead}
 use Rattle.ledger_step_laws.specs.Accounts.{own, Rests, StepsAlone}
-use Rattle.core_relation.specs.Stands.{Gives, Place, HomeStands, IsSource, Stands, IsShown}
+use Rattle.core_relation.specs.Stands.{Gives, Place, BelongingsStand, IsSource, Stands, IsShown}
 use Rattle.core_relation.specs.Changes.{SameBut}
 use Rattle.core_relation.proofs.objects.Carry.{object_kept, task_kept, object_both, task_both}
-use Rattle.core_relation.proofs.changes.Alone.{home_own, home_kept}
+use Rattle.core_relation.proofs.changes.Alone.{belongings_own, belongings_kept}
 use Rattle.core_relation.proofs.changes.Sweep.{refers}
 use Rattle.core_relation.proofs.changes.Giving.{gives_kept}
 use Rattle.ledger_step_laws.proofs.Tree.{leaf_alone}
 
--- v1 has t's home, v2 has u's, and v has both; l1 and l2 are the accounts for them. What the tasks own is apart: from l1 to l
--- only what u owns changes, from l2 to l only what t owns.
+-- v1 has t's belongings, v2 has u's, and v has both; l1 and l2 are the accounts for them. What the tasks own is apart:
+-- from l1 to l only what u owns changes, from l2 to l only what t owns.
 module _ (v v1 v2 : Memory) (l l1 l2 : Ledger) (t u : ℕ) (apart : t ≡ u → ⊥) (S1 : SoundLedger l1) (S2 : SoundLedger l2) (V1 : Stands v1 l1) (V2 : Stands v2 l2)
     (A1 : StepsAlone l1 l u) (A2 : StepsAlone l2 l t) (C1 : SameBut v1 v u) (C2 : SameBut v2 v t)
     (idle_t : is_waiting (slice_get l.machine.tasks t) ≡ false) (idle_u : is_waiting (slice_get l.machine.tasks u) ≡ false)
@@ -48,16 +49,16 @@ module _ (v v1 v2 : Memory) (l l1 l2 : Ledger) (t u : ℕ) (apart : t ≡ u → 
   place1 n a ne p = record {
     chunk = C1.owner a.chunk ∙ (p.chunk ∙ ap Some (sym (own1 n)));
     here = λ r.
-        subst (λ (h : Home). Lies h.chunks n a) (sym (C1.homes (own l n) ne))
-        (subst (λ z. Lies (v1.homes z).chunks n a) (sym (own1 n)) (p.here (subst (Rests l1) (own1 n) (rest1 (own l n) ne r))));
+        subst (λ (h : Belongings). Lies h.chunks n a) (sym (C1.belongings (own l n) ne))
+        (subst (λ z. Lies (v1.belongings z).chunks n a) (sym (own1 n)) (p.here (subst (Rests l1) (own1 n) (rest1 (own l n) ne r))));
   }
 
   place2 : (n : Name) (a : Addr) → (own l n ≡ t → ⊥) → Place v2 l2 n a → Place v l n a
   place2 n a ne p = record {
     chunk = C2.owner a.chunk ∙ (p.chunk ∙ ap Some (sym (own2 n)));
     here = λ r.
-        subst (λ (h : Home). Lies h.chunks n a) (sym (C2.homes (own l n) ne))
-        (subst (λ z. Lies (v2.homes z).chunks n a) (sym (own2 n)) (p.here (subst (Rests l2) (own2 n) (rest2 (own l n) ne r))));
+        subst (λ (h : Belongings). Lies h.chunks n a) (sym (C2.belongings (own l n) ne))
+        (subst (λ z. Lies (v2.belongings z).chunks n a) (sym (own2 n)) (p.here (subst (Rests l2) (own2 n) (rest2 (own l n) ne r))));
   }
 
   place : (n : Name) (a : Addr) → Place v1 l1 n a → Place v2 l2 n a → Place v l n a
@@ -82,24 +83,24 @@ module _ (v v1 v2 : Memory) (l l1 l2 : Ledger) (t u : ℕ) (apart : t ≡ u → 
   not_t a (inr h) e = apart (leaf_alone l2 S2 t u (sym (A2.tree.waits t) ∙ idle_t) (sym (A2.tree.joins u) ∙ live_u) (ap (λ z. is_on_path l2.machine.tasks z u) (sym e) ∙ h))
 
   from1 : (z : ℕ) (o : Located) → (z ≡ u → ⊥) → In (objects v z) o → In (objects v1 z) o
-  from1 z o ne i = subst (λ (h : Home). In (objects_in h.chunks) o) (C1.homes z ne) i
+  from1 z o ne i = subst (λ (h : Belongings). In (objects_in h.chunks) o) (C1.belongings z ne) i
 
   from2 : (z : ℕ) (o : Located) → (z ≡ t → ⊥) → In (objects v z) o → In (objects v2 z) o
-  from2 z o ne i = subst (λ (h : Home). In (objects_in h.chunks) o) (C2.homes z ne) i
+  from2 z o ne i = subst (λ (h : Belongings). In (objects_in h.chunks) o) (C2.belongings z ne) i
 
-  home : (z : ℕ) → Rests l z → HomeStands v l z
-  home z r = elim (cases_eq z u) [
+  belongings : (z : ℕ) → Rests l z → BelongingsStand v l z
+  belongings z r = elim (cases_eq z u) [
     | inl e ↦
         let ne : z ≡ t → ⊥ = λ f. apart (sym f ∙ e) in
-        home_kept v2 v l2 l z (C2.homes z ne) (λ k g. C2.owner k ∙ g) (A2.heaps z ne) (A2.rows z ne) (A2.tree.joins z) (V2.homes z (rest2 z ne r))
-    | inr ne ↦ home_kept v1 v l1 l z (C1.homes z ne) (λ k g. C1.owner k ∙ g) (A1.heaps z ne) (A1.rows z ne) (A1.tree.joins z) (V1.homes z (rest1 z ne r))
+        belongings_kept v2 v l2 l z (C2.belongings z ne) (λ k g. C2.owner k ∙ g) (A2.heaps z ne) (A2.rows z ne) (A2.tree.joins z) (V2.belongings z (rest2 z ne r))
+    | inr ne ↦ belongings_kept v1 v l1 l z (C1.belongings z ne) (λ k g. C1.owner k ∙ g) (A1.heaps z ne) (A1.rows z ne) (A1.tree.joins z) (V1.belongings z (rest1 z ne r))
   ]
 
   owner1 : (z : ℕ) (o : Located) → (z ≡ u → ⊥) → Rests l z → In (objects v z) o → own l1 (object_name o) ≡ z
-  owner1 z o ne r i = home_own v1 l1 S1 z (V1.homes z (rest1 z ne r)) o (from1 z o ne i)
+  owner1 z o ne r i = belongings_own v1 l1 S1 z (V1.belongings z (rest1 z ne r)) o (from1 z o ne i)
 
   owner2 : (z : ℕ) (o : Located) → (z ≡ t → ⊥) → Rests l z → In (objects v z) o → own l2 (object_name o) ≡ z
-  owner2 z o ne r i = home_own v2 l2 S2 z (V2.homes z (rest2 z ne r)) o (from2 z o ne i)
+  owner2 z o ne r i = belongings_own v2 l2 S2 z (V2.belongings z (rest2 z ne r)) o (from2 z o ne i)
 
   -- the object of a name that isn't u's, and of one that isn't t's
   object1 : (z : ℕ) (o : Located) → (z ≡ u → ⊥) → Rests l z → In (objects v z) o → object_at l.machine.store (object_name o) ≡ object_at l1.machine.store (object_name o)
@@ -141,28 +142,28 @@ module _ (v v1 v2 : Memory) (l l1 l2 : Ledger) (t u : ℕ) (apart : t ≡ u → 
         ]
   ]
 
-  task : (z : ℕ) (x : Task) → Rests l z → slice_get l.machine.tasks z ≡ Some x → TaskIsRead (Place v l) (v.homes z) x
+  task : (z : ℕ) (x : Task) → Rests l z → slice_get l.machine.tasks z ≡ Some x → TaskIsRead (Place v l) (v.belongings z) x
   task z x r is = elim (cases_eq z u) [
     | inl e ↦
         let ne : z ≡ t → ⊥ = λ f. apart (sym f ∙ e) in
         let is2 : slice_get l2.machine.tasks z ≡ Some x = sym (A2.tasks z ne) ∙ is in
-        subst (λ (h : Home). TaskIsRead (Place v l) h x) (sym (C2.homes z ne))
-        (task_kept (Place v2 l2) (Place v l) (v2.homes z) x
+        subst (λ (h : Belongings). TaskIsRead (Place v l) h x) (sym (C2.belongings z ne))
+        (task_kept (Place v2 l2) (Place v l) (v2.belongings z) x
         (λ n j a. place2 n a (λ f. not_t (own l2 n) (inr (ap (is_on_path l2.machine.tasks (own l2 n)) (sym e) ∙ (S2.apart.of_task z x n is2 j).1)) (sym (own2 n) ∙ f)))
         (V2.tasks z x (rest2 z ne r) is2))
     | inr nu ↦
         let is1 : slice_get l1.machine.tasks z ≡ Some x = sym (A1.tasks z nu) ∙ is in
         elim (cases_eq z t) [
           | inl e ↦
-              subst (λ (h : Home). TaskIsRead (Place v l) h x) (sym (C1.homes z nu))
-              (task_kept (Place v1 l1) (Place v l) (v1.homes z) x
+              subst (λ (h : Belongings). TaskIsRead (Place v l) h x) (sym (C1.belongings z nu))
+              (task_kept (Place v1 l1) (Place v l) (v1.belongings z) x
               (λ n j a. place1 n a (λ f. not_u (own l1 n) (inr (ap (is_on_path l1.machine.tasks (own l1 n)) (sym e) ∙ (S1.apart.of_task z x n is1 j).1)) (sym (own1 n) ∙ f)))
               (V1.tasks z x (rest1 z nu r) is1))
           | inr nt ↦
               let is2 : slice_get l2.machine.tasks z ≡ Some x = sym (A2.tasks z nt) ∙ is in
-              let k1 : TaskIsRead (Place v1 l1) (v.homes z) x = subst (λ (h : Home). TaskIsRead (Place v1 l1) h x) (sym (C1.homes z nu)) (V1.tasks z x (rest1 z nu r) is1) in
-              let k2 : TaskIsRead (Place v2 l2) (v.homes z) x = subst (λ (h : Home). TaskIsRead (Place v2 l2) h x) (sym (C2.homes z nt)) (V2.tasks z x (rest2 z nt r) is2) in
-              task_both (Place v1 l1) (Place v2 l2) (Place v l) (v.homes z) x place k1 k2
+              let k1 : TaskIsRead (Place v1 l1) (v.belongings z) x = subst (λ (h : Belongings). TaskIsRead (Place v1 l1) h x) (sym (C1.belongings z nu)) (V1.tasks z x (rest1 z nu r) is1) in
+              let k2 : TaskIsRead (Place v2 l2) (v.belongings z) x = subst (λ (h : Belongings). TaskIsRead (Place v2 l2) h x) (sym (C2.belongings z nt)) (V2.tasks z x (rest2 z nt r) is2) in
+              task_both (Place v1 l1) (Place v2 l2) (Place v l) (v.belongings z) x place k1 k2
         ]
   ]
 
@@ -209,12 +210,12 @@ module _ (v v1 v2 : Memory) (l l1 l2 : Ledger) (t u : ℕ) (apart : t ≡ u → 
         let up2 : is_on_path l2.machine.tasks w z ≡ true = sym (path2 w z) ∙ up in
         let j2 : is_joined (slice_get l2.machine.tasks z) ≡ false = sym (A2.tree.joins z) ∙ j in
         let wt : w ≡ t → ⊥ = λ f. nt (sym (leaf_alone l2 S2 t z (sym (A2.tree.waits t) ∙ idle_t) j2 (ap (λ y. is_on_path l2.machine.tasks y z) (sym f) ∙ up2))) in
-        ap (λ (h : Home). shown_at h.view o.at) (C2.homes z nt) ∙ V2.views z (rest2 z nt r) j2 w o up2 ne (rest2 w wt rw) (from2 w o wt i)
+        ap (λ (h : Belongings). shown_at h.view o.at) (C2.belongings z nt) ∙ V2.views z (rest2 z nt r) j2 w o up2 ne (rest2 w wt rw) (from2 w o wt i)
     | inr nu ↦
         let up1 : is_on_path l1.machine.tasks w z ≡ true = sym (path1 w z) ∙ up in
         let j1 : is_joined (slice_get l1.machine.tasks z) ≡ false = sym (A1.tree.joins z) ∙ j in
         let wu : w ≡ u → ⊥ = λ f. nu (sym (leaf_alone l1 S1 u z (sym (A1.tree.waits u) ∙ idle_u) j1 (ap (λ y. is_on_path l1.machine.tasks y z) (sym f) ∙ up1))) in
-        ap (λ (h : Home). shown_at h.view o.at) (C1.homes z nu) ∙ V1.views z (rest1 z nu r) j1 w o up1 ne (rest1 w wu rw) (from1 w o wu i)
+        ap (λ (h : Belongings). shown_at h.view o.at) (C1.belongings z nu) ∙ V1.views z (rest1 z nu r) j1 w o up1 ne (rest1 w wu rw) (from1 w o wu i)
   ]
 
   give : (z w : ℕ) → Rests l z → is_joined (slice_get l.machine.tasks z) ≡ false → is_on_path l.machine.tasks w z ≡ true → (w ≡ z → ⊥) → is_waiting (slice_get l.machine.tasks w) ≡ true → Rests l w → Gives v w z
@@ -224,12 +225,12 @@ module _ (v v1 v2 : Memory) (l l1 l2 : Ledger) (t u : ℕ) (apart : t ≡ u → 
       elim (cases_eq z u) [
         | inl e ↦
             let nt : z ≡ t → ⊥ = λ f. apart (sym f ∙ e) in
-            gives_kept v2 v w z (ap (λ (h : Home). h.view) (C2.homes z nt)) (ap (λ (h : Home). h.view) (C2.homes w wt)) (λ n o. sym (C2.owner n) ∙ o)
+            gives_kept v2 v w z (ap (λ (h : Belongings). h.view) (C2.belongings z nt)) (ap (λ (h : Belongings). h.view) (C2.belongings w wt)) (λ n o. sym (C2.owner n) ∙ o)
             (V2.gives z w (rest2 z nt r) (sym (A2.tree.joins z) ∙ j) (sym (path2 w z) ∙ up) ne (sym (A2.tree.waits w) ∙ wait) (rest2 w wt rw))
         | inr nu ↦
-            gives_kept v1 v w z (ap (λ (h : Home). h.view) (C1.homes z nu)) (ap (λ (h : Home). h.view) (C1.homes w wu)) (λ n o. sym (C1.owner n) ∙ o)
+            gives_kept v1 v w z (ap (λ (h : Belongings). h.view) (C1.belongings z nu)) (ap (λ (h : Belongings). h.view) (C1.belongings w wu)) (λ n o. sym (C1.owner n) ∙ o)
             (V1.gives z w (rest1 z nu r) (sym (A1.tree.joins z) ∙ j) (sym (path1 w z) ∙ up) ne (sym (A1.tree.waits w) ∙ wait) (rest1 w wu rw))
       ]
 
   pub assembled : Stands v l
-  assembled = record { made = λ k z e. A1.tree.made z ∙ V1.made k z (sym (C1.owner k) ∙ e); homes = home; contents = content; tasks = task; remembered = remember; sources = source; views = view; gives = give }
+  assembled = record { made = λ k z e. A1.tree.made z ∙ V1.made k z (sym (C1.owner k) ∙ e); belongings = belongings; contents = content; tasks = task; remembered = remember; sources = source; views = view; gives = give }

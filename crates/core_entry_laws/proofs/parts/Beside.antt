@@ -11,45 +11,45 @@ use Rattle.hh_model.specs.Effect.{object_at}
 use Rattle.hh_model.specs.Step.{is_on_path}
 use Rattle.run_ledger.specs.declared.data.Heap.{Heap}
 use Rattle.run_ledger.specs.declared.data.Ledger.{Ledger}
-use Rattle.core_relation.specs.Memory.{Home, Memory}
+use Rattle.core_relation.specs.Memory.{Belongings, Memory}
 use Rattle.core_relation.specs.Reads.{Reads}
 use Rattle.ledger_step_laws.specs.Accounts.{own, Rests, StepsAlone, WritesOne, AlikeFor}
 use Rattle.core_relation.specs.Stands.{Place, Stands}
-use Rattle.core_relation.specs.Fits.{with_home}
+use Rattle.core_relation.specs.Fits.{with_belongings}
 use Rattle.ledger_step_laws.specs.Kinds.{ForksTask, JoinsTasks, CanJoin}
-use Rattle.core_relation.specs.Changes.{ForksHome, JoinsHomes}
+use Rattle.core_relation.specs.Changes.{ForksBelongings, JoinsBelongings}
 use Rattle.core_entry_laws.proofs.parts.Assemble.{assembled}
 use Rattle.core_relation.specs.Frames.{Beside}
 use Rattle.core_relation.proofs.changes.Fork.{forked_stands}
 use Rattle.core_relation.proofs.changes.Join.{joined_stands}
-use Rattle.core_relation.proofs.changes.With.{off_home, with_both}
+use Rattle.core_relation.proofs.changes.With.{off_belongings, with_both}
 use Rattle.core_relation.proofs.changes.Lifts.{forks_too, forks_with, joins_too, joins_with}
 
 -- both fit together
-pub together : (v : Memory) (lt k K : Ledger) (t u : ℕ) (g h : Home) → Beside lt k K t u → Stands (with_home v t g) lt → Stands (with_home v u h) k → Stands (with_home (with_home v t g) u h) K
+pub together : (v : Memory) (lt k K : Ledger) (t u : ℕ) (g h : Belongings) → Beside lt k K t u → Stands (with_belongings v t g) lt → Stands (with_belongings v u h) k → Stands (with_belongings (with_belongings v t g) u h) K
 together v lt k K t u g h B Vt Vu =
-    assembled (with_home (with_home v t g) u h) (with_home v t g) (with_home v u h) K lt k t u B.apart B.sound_t B.sound_u Vt Vu B.steps_t B.steps_u
-    (record { homes = λ z ne. off_home (with_home v t g) u h z ne; owner = λ i. refl; sources = λ z. refl })
-    (record { homes = λ z ne. with_both v t u g h B.apart z ∙ off_home (with_home v u h) t g z ne; owner = λ i. refl; sources = λ z. refl })
+    assembled (with_belongings (with_belongings v t g) u h) (with_belongings v t g) (with_belongings v u h) K lt k t u B.apart B.sound_t B.sound_u Vt Vu B.steps_t B.steps_u
+    (record { belongings = λ z ne. off_belongings (with_belongings v t g) u h z ne; owner = λ i. refl; sources = λ z. refl })
+    (record { belongings = λ z ne. with_both v t u g h B.apart z ∙ off_belongings (with_belongings v u h) t g z ne; owner = λ i. refl; sources = λ z. refl })
     B.idle_t B.idle_u B.live_t B.live_u
 
 -- t forks: from lt to l', and with u's steps from K to k'
-pub fork_frame : (v v' : Memory) (lt l' k k' K : Ledger) (t u a b f i : ℕ) (g h : Home) (x : Task) → Beside lt k K t u → (a ≡ u → ⊥) → (b ≡ u → ⊥) → StepsAlone l' k' u → AlikeFor u K k'
-    → x.status ≡ Running → Rests lt t → ForksTask lt l' t a b f i x → ForksHome (with_home v t g) v' t a b f i
-    → Stands (with_home v t g) lt → Stands (with_home v u h) k → Stands (with_home v' u h) k'
+pub fork_frame : (v v' : Memory) (lt l' k k' K : Ledger) (t u a b f i : ℕ) (g h : Belongings) (x : Task) → Beside lt k K t u → (a ≡ u → ⊥) → (b ≡ u → ⊥) → StepsAlone l' k' u → AlikeFor u K k'
+    → x.status ≡ Running → Rests lt t → ForksTask lt l' t a b f i x → ForksBelongings (with_belongings v t g) v' t a b f i
+    → Stands (with_belongings v t g) lt → Stands (with_belongings v u h) k → Stands (with_belongings v' u h) k'
 fork_frame v v' lt l' k k' K t u a b f i g h x B na nb A' E runs rests F C Vt Vu =
-    forked_stands (with_home (with_home v t g) u h) (with_home v' u h) K k' t a b f i x B.sound (together v lt k K t u g h B Vt Vu) runs
+    forked_stands (with_belongings (with_belongings v t g) u h) (with_belongings v' u h) K k' t a b f i x B.sound (together v lt k K t u g h B Vt Vu) runs
     (ap (λ (z : Heap). z.worker) (B.steps_t.heaps t B.apart) ∙ rests)
-    (forks_too lt l' K k' u B.steps_t A' E t a b f i x B.apart na nb F) (forks_with (with_home v t g) v' u h t a b f i B.apart na nb C)
+    (forks_too lt l' K k' u B.steps_t A' E t a b f i x B.apart na nb F) (forks_with (with_belongings v t g) v' u h t a b f i B.apart na nb C)
 
 -- t ends, with its sibling's end before, and both join p: from lt to l', and with u's steps from K to k'
-pub join_frame : (v v' : Memory) (lt l' k k' K : Ledger) (t u p c d : ℕ) (g h : Home) (x : Task) (rl rr : ℤ × Option Name) (al ar : ℤ × Option Addr) → Beside lt k K t u → (p ≡ u → ⊥) → (c ≡ u → ⊥) → (d ≡ u → ⊥)
-    → StepsAlone l' k' u → AlikeFor u K k' → JoinsTasks lt l' p c d x rl rr → CanJoin K p c d x → JoinsHomes (with_home v t g) v' p c d al ar
-    → (al.0 ≡ rl.0) × Reads (Place (with_home (with_home v t g) u h) K) al.1 rl.1 → (ar.0 ≡ rr.0) × Reads (Place (with_home (with_home v t g) u h) K) ar.1 rr.1
-    → Stands (with_home v t g) lt → Stands (with_home v u h) k → Stands (with_home v' u h) k'
+pub join_frame : (v v' : Memory) (lt l' k k' K : Ledger) (t u p c d : ℕ) (g h : Belongings) (x : Task) (rl rr : ℤ × Option Name) (al ar : ℤ × Option Addr) → Beside lt k K t u → (p ≡ u → ⊥) → (c ≡ u → ⊥) → (d ≡ u → ⊥)
+    → StepsAlone l' k' u → AlikeFor u K k' → JoinsTasks lt l' p c d x rl rr → CanJoin K p c d x → JoinsBelongings (with_belongings v t g) v' p c d al ar
+    → (al.0 ≡ rl.0) × Reads (Place (with_belongings (with_belongings v t g) u h) K) al.1 rl.1 → (ar.0 ≡ rr.0) × Reads (Place (with_belongings (with_belongings v t g) u h) K) ar.1 rr.1
+    → Stands (with_belongings v t g) lt → Stands (with_belongings v u h) k → Stands (with_belongings v' u h) k'
 join_frame v v' lt l' k k' K t u p c d g h x rl rr al ar B np nc nd A' E J T C gl gr Vt Vu =
-    joined_stands (with_home (with_home v t g) u h) (with_home v' u h) K k' p c d x rl rr al ar B.sound (together v lt k K t u g h B Vt Vu)
-    (joins_too lt l' K k' u B.steps_t A' E p c d x rl rr np nc nd J) T (joins_with (with_home v t g) v' u h p c d al ar np nc nd C) gl gr
+    joined_stands (with_belongings (with_belongings v t g) u h) (with_belongings v' u h) K k' p c d x rl rr al ar B.sound (together v lt k K t u g h B Vt Vu)
+    (joins_too lt l' K k' u B.steps_t A' E p c d x rl rr np nc nd J) T (joins_with (with_belongings v t g) v' u h p c d al ar np nc nd C) gl gr
 
 -- WHAT OTHERS DO LEAVES u's ACCOUNTS ALIKE
 

@@ -15,11 +15,11 @@ use Rattle.run_ledger.specs.declared.data.Ledger.{Ledger}
 use Rattle.run_ledger.specs.Heaps.{heap_of, or_fresh, let_go, collected, with_heap}
 use Rattle.run_ledger.specs.Sound.{SoundLedger}
 use Rattle.run_ledger.proofs.Machine.{heap_machine}
-use Rattle.core_relation.specs.Memory.{Home, Memory, In, object_name, objects_in, sources, copied_object, rewritten_home}
+use Rattle.core_relation.specs.Memory.{Belongings, Memory, In, object_name, objects_in, sources, copied_object, rewritten_belongings}
 use Rattle.task_frames.specs.FramesValue.{led_frame}
 use Rattle.core_relation.specs.Layout.{AreLaidOut}
-use Rattle.core_relation.specs.Stands.{names_of, small_chunks, large_chunks, HasNames, HomeStands, Stands}
-use Rattle.core_relation.specs.Fits.{Part, FitsAt, with_home, ahead}
+use Rattle.core_relation.specs.Stands.{names_of, small_chunks, large_chunks, HasNames, BelongingsStand, Stands}
+use Rattle.core_relation.specs.Fits.{Part, FitsAt, with_belongings, ahead}
 use Rattle.ledger_step_laws.specs.Accounts.{rested, ChangesHeap}
 use Rattle.core_relation.specs.Changes.{Moves}
 use Rattle.core_relation.specs.Whole.{BegunBy}
@@ -30,25 +30,25 @@ use Rattle.core_relation.proofs.changes.Collect.{collected as collection}
 use Rattle.ledger_step_laws.proofs.Rested.{rested_worker, rested_view, rested_sound}
 use Rattle.ledger_step_laws.proofs.Entries.{end_changes}
 use Rattle.task_machine.specs.declared.part.Begun.{Begun}
-use Rattle.core_relation.proofs.changes.With.{at_home, off_home}
+use Rattle.core_relation.proofs.changes.With.{at_belongings, off_belongings}
 
 -- a begun collection stands past what leaves its part
-pub begun_by_stays : (v v' : Memory) (l l' : Ledger) (t : ℕ) (o : Option Begun) → v'.homes t ≡ v.homes t → ((k : ℕ) → v.owner k ≡ Some t → v'.owner k ≡ Some t) → heap_of l' t ≡ heap_of l t → BegunBy v l t o → BegunBy v' l' t o
-begun_by_stays v v' l l' t None home owner heap B = ap (λ (h : Heap). h.begun) heap ∙ B
-begun_by_stays v v' l l' t (Some b) home owner heap B = begun_stays v v' l l' t b home owner heap B
+pub begun_by_stays : (v v' : Memory) (l l' : Ledger) (t : ℕ) (o : Option Begun) → v'.belongings t ≡ v.belongings t → ((k : ℕ) → v.owner k ≡ Some t → v'.owner k ≡ Some t) → heap_of l' t ≡ heap_of l t → BegunBy v l t o → BegunBy v' l' t o
+begun_by_stays v v' l l' t None belongings owner heap B = ap (λ (h : Heap). h.begun) heap ∙ B
+begun_by_stays v v' l l' t (Some b) belongings owner heap B = begun_stays v v' l l' t b belongings owner heap B
 
 -- so what others enter leaves a part with its collection fitting, where it leaves it fitting
 pub part_stays : (p : ProgramText) (s : SettingsValue) (q : Part) (v v' : Memory) (l l' : Ledger) → ((k : ℕ) → v.owner k ≡ Some q.task → v'.owner k ≡ Some q.task) → heap_of (ahead p q l') q.task ≡ heap_of (ahead p q l) q.task → FitsAt p s q v' l' → PartFits p s q v l → PartFits p s q v' l'
 part_stays p s q v v' l l' owner heap F G = record {
   fits = F;
-  begun = begun_by_stays (with_home v q.task q.home) (with_home v' q.task q.home) (ahead p q l) (ahead p q l') q.task q.home.begun (at_home v' q.task q.home ∙ sym (at_home v q.task q.home)) owner heap G.begun;
+  begun = begun_by_stays (with_belongings v q.task q.belongings) (with_belongings v' q.task q.belongings) (ahead p q l) (ahead p q l') q.task q.belongings.begun (at_belongings v' q.task q.belongings ∙ sym (at_belongings v q.task q.belongings)) owner heap G.begun;
 }
 
 pub rested_heap : (l l' : Ledger) (t : ℕ) → slice_get l'.heaps t ≡ slice_get l.heaps t → heap_of (rested l' t) t ≡ heap_of (rested l t) t
 rested_heap l l' t e = ap or_fresh (with_at l' t let_go ∙ (ap (heap_then let_go) e ∙ sym (with_at l t let_go)))
 
 -- and a copy
-pub copy_stays : (p : ProgramText) (s : SettingsValue) (t : ℕ) (h h' : Home) (f : Addr → Addr) (v v' : Memory) (l l' : Ledger) → ((k : ℕ) → v.owner k ≡ Some t → v'.owner k ≡ Some t) → slice_get l'.heaps t ≡ slice_get l.heaps t
+pub copy_stays : (p : ProgramText) (s : SettingsValue) (t : ℕ) (h h' : Belongings) (f : Addr → Addr) (v v' : Memory) (l l' : Ledger) → ((k : ℕ) → v.owner k ≡ Some t → v'.owner k ≡ Some t) → slice_get l'.heaps t ≡ slice_get l.heaps t
     → collected l'.machine (heap_of l t) ≡ collected l.machine (heap_of l t) → FitsAt p s (before s t h) v' l' → CopyFits p s t h h' f v l → CopyFits p s t h h' f v' l'
 copy_stays p s t h h' f v v' l l' owner heap same F C =
     let e : heap_of l' t ≡ heap_of l t = ap or_fresh heap in
@@ -76,7 +76,7 @@ copy_stays p s t h h' f v v' l l' owner heap same F C =
 
 -- THE END OF THE COLLECTION
 
-module _ (p : ProgramText) (s : SettingsValue) (t : ℕ) (h h' : Home) (f : Addr → Addr) (v v' : Memory) (l : Ledger) (x : Task) (w : ℕ) (S : SoundLedger l) (is : slice_get l.machine.tasks t ≡ Some x) (runs : x.status ≡ Running)
+module _ (p : ProgramText) (s : SettingsValue) (t : ℕ) (h h' : Belongings) (f : Addr → Addr) (v v' : Memory) (l : Ledger) (x : Task) (w : ℕ) (S : SoundLedger l) (is : slice_get l.machine.tasks t ≡ Some x) (runs : x.status ≡ Running)
     (hs : Heap) (there : slice_get l.heaps t ≡ Some hs) (C : CopyFits p s t h h' f v l) (E : EndsAt v v' t h' f) where
   abbrev l' : Ledger
   l' = with_heap l t (collected l.machine)
@@ -88,10 +88,10 @@ module _ (p : ProgramText) (s : SettingsValue) (t : ℕ) (h h' : Home) (f : Addr
   lt' = rested l' t
 
   abbrev V : Memory
-  V = with_home v t h
+  V = with_belongings v t h
 
   abbrev V' : Memory
-  V' = with_home v' t h'
+  V' = with_belongings v' t h'
 
   machine' : l'.machine ≡ l.machine
   machine' = heap_machine l t (collected l.machine)
@@ -113,44 +113,44 @@ module _ (p : ProgramText) (s : SettingsValue) (t : ℕ) (h h' : Home) (f : Addr
   survivors : (heap_of lt t).survivors ≡ (heap_of l t).survivors
   survivors = rested_view (λ h. h.survivors) (λ h. refl) l t
 
-  new_home : V'.homes t ≡ h'
-  new_home = at_home v' t h'
+  new_belongings : V'.belongings t ≡ h'
+  new_belongings = at_belongings v' t h'
 
-  old_home : V.homes t ≡ h
-  old_home = at_home v t h
+  old_belongings : V.belongings t ≡ h
+  old_belongings = at_belongings v t h
 
-  H : HomeStands V lt t
-  H = C.old.fits.stands.homes t (rested_worker l t)
+  H : BelongingsStand V lt t
+  H = C.old.fits.stands.belongings t (rested_worker l t)
 
-  home : HomeStands V' lt' t
-  home = record {
+  belongings : BelongingsStand V' lt' t
+  belongings = record {
     names = record {
-      small = ap (λ (z : Home). map names_of (small_chunks z.chunks)) new_home ∙ (C.copy.names.small ∙ (ap (λ (z : Heap). z.chunks) (sym heap') ∙ sym (rested_view (λ z. z.chunks) (λ z. refl) l' t)));
-      large = ap (λ (z : Home). map object_name (objects_in (large_chunks z.chunks))) new_home ∙ (C.copy.names.large ∙ (ap (λ (z : Heap). z.large) (sym heap') ∙ sym (rested_view (λ z. z.large) (λ z. refl) l' t)));
+      small = ap (λ (z : Belongings). map names_of (small_chunks z.chunks)) new_belongings ∙ (C.copy.names.small ∙ (ap (λ (z : Heap). z.chunks) (sym heap') ∙ sym (rested_view (λ z. z.chunks) (λ z. refl) l' t)));
+      large = ap (λ (z : Belongings). map object_name (objects_in (large_chunks z.chunks))) new_belongings ∙ (C.copy.names.large ∙ (ap (λ (z : Heap). z.large) (sym heap') ∙ sym (rested_view (λ z. z.large) (λ z. refl) l' t)));
     };
-    room = ap (λ (z : Home). z.room) new_home ∙ (C.copy.room ∙ (ap (λ (z : Heap). z.room) (sym heap') ∙ sym (rested_view (λ z. z.room) (λ z. refl) l' t)));
-    since = ap (λ (z : Home). z.since) new_home ∙ (C.copy.since ∙ (ap (λ (z : Heap). z.since) (sym heap') ∙ sym (rested_view (λ z. z.since) (λ z. refl) l' t)));
+    room = ap (λ (z : Belongings). z.room) new_belongings ∙ (C.copy.room ∙ (ap (λ (z : Heap). z.room) (sym heap') ∙ sym (rested_view (λ z. z.room) (λ z. refl) l' t)));
+    since = ap (λ (z : Belongings). z.since) new_belongings ∙ (C.copy.since ∙ (ap (λ (z : Heap). z.since) (sym heap') ∙ sym (rested_view (λ z. z.since) (λ z. refl) l' t)));
     count = λ live.
-        ap (λ (z : Home). z.count) new_home
-        ∙ (C.copy.count ∙ (sym (ap (λ (z : Home). z.count) old_home) ∙ (H.count (sym (ap (λ (m : State). is_joined (slice_get m.tasks t)) rested_changes.machine) ∙ live) ∙ sym (ap (λ (m : State). length (row_of (slice_get m.store t))) rested_changes.machine))));
-    owned = λ c i. E.mine c (subst (λ (z : Home). In z.chunks c) new_home i);
-    inside = λ c o i j. C.copy.inside c o (subst (λ (z : Home). In z.chunks c) new_home i) j;
-    once = λ o q i j e. C.copy.once o q (subst (λ (z : Home). In (objects_in z.chunks) o) new_home i) (subst (λ (z : Home). In (objects_in z.chunks) q) new_home j) e;
-    named = λ o q i j e. C.copy.named o q (subst (λ (z : Home). In (objects_in z.chunks) o) new_home i) (subst (λ (z : Home). In (objects_in z.chunks) q) new_home j) e;
-    laid = subst (λ (z : Home). AreLaidOut z.chunks (heap_of lt' t).reserved) (sym new_home) (subst (AreLaidOut h'.chunks) (sym (rested_view (λ z. z.reserved) (λ z. refl) l' t ∙ ap (λ (z : Heap). z.reserved) heap')) C.copy.laid);
+        ap (λ (z : Belongings). z.count) new_belongings
+        ∙ (C.copy.count ∙ (sym (ap (λ (z : Belongings). z.count) old_belongings) ∙ (H.count (sym (ap (λ (m : State). is_joined (slice_get m.tasks t)) rested_changes.machine) ∙ live) ∙ sym (ap (λ (m : State). length (row_of (slice_get m.store t))) rested_changes.machine))));
+    owned = λ c i. E.mine c (subst (λ (z : Belongings). In z.chunks c) new_belongings i);
+    inside = λ c o i j. C.copy.inside c o (subst (λ (z : Belongings). In z.chunks c) new_belongings i) j;
+    once = λ o q i j e. C.copy.once o q (subst (λ (z : Belongings). In (objects_in z.chunks) o) new_belongings i) (subst (λ (z : Belongings). In (objects_in z.chunks) q) new_belongings j) e;
+    named = λ o q i j e. C.copy.named o q (subst (λ (z : Belongings). In (objects_in z.chunks) o) new_belongings i) (subst (λ (z : Belongings). In (objects_in z.chunks) q) new_belongings j) e;
+    laid = subst (λ (z : Belongings). AreLaidOut z.chunks (heap_of lt' t).reserved) (sym new_belongings) (subst (AreLaidOut h'.chunks) (sym (rested_view (λ z. z.reserved) (λ z. refl) l' t ∙ ap (λ (z : Heap). z.reserved) heap')) C.copy.laid);
   }
 
   pub moves : Moves V V' lt lt' t (heap_of lt t).survivors f
   moves = record {
-    home = home;
-    kept = λ o i j. subst (λ (z : Home). In (objects_in z.chunks) (copied_object f o)) (sym new_home) (C.copy.kept o (subst (λ (z : Home). In (objects_in z.chunks) o) old_home i) (subst (λ ns. In ns (object_name o)) survivors j));
+    belongings = belongings;
+    kept = λ o i j. subst (λ (z : Belongings). In (objects_in z.chunks) (copied_object f o)) (sym new_belongings) (C.copy.kept o (subst (λ (z : Belongings). In (objects_in z.chunks) o) old_belongings i) (subst (λ ns. In ns (object_name o)) survivors j));
     only = λ o i.
-        let r = C.copy.only o (subst (λ (z : Home). In (objects_in z.chunks) o) new_home i) in
-        (r.0, subst (λ (z : Home). In (objects_in z.chunks) r.0) (sym old_home) r.1, subst (λ ns. In ns (object_name r.0)) (sym survivors) r.2, r.3);
-    frames = ap (λ (z : Home). z.frames) new_home ∙ (C.copy.frames ∙ ap (λ (z : Home). map (led_frame (option_map f)) z.frames) (sym old_home));
-    view = ap (λ (z : Home). z.view) new_home ∙ (C.copy.view ∙ ap (λ (z : Home). z.view) (sym old_home));
-    others = λ u nu. off_home v' t h' u nu ∙ (E.others u nu ∙ ap (rewritten_home f (sources v t)) (sym (off_home v t h u nu)));
-    same = λ a u nu o. C.copy.same a (λ c i e. nu (same_Some u t (sym o ∙ (ap v.owner (sym e) ∙ H.owned c (subst (λ (z : Home). In z.chunks c) (sym old_home) i)))));
+        let r = C.copy.only o (subst (λ (z : Belongings). In (objects_in z.chunks) o) new_belongings i) in
+        (r.0, subst (λ (z : Belongings). In (objects_in z.chunks) r.0) (sym old_belongings) r.1, subst (λ ns. In ns (object_name r.0)) (sym survivors) r.2, r.3);
+    frames = ap (λ (z : Belongings). z.frames) new_belongings ∙ (C.copy.frames ∙ ap (λ (z : Belongings). map (led_frame (option_map f)) z.frames) (sym old_belongings));
+    view = ap (λ (z : Belongings). z.view) new_belongings ∙ (C.copy.view ∙ ap (λ (z : Belongings). z.view) (sym old_belongings));
+    others = λ u nu. off_belongings v' t h' u nu ∙ (E.others u nu ∙ ap (rewritten_belongings f (sources v t)) (sym (off_belongings v t h u nu)));
+    same = λ a u nu o. C.copy.same a (λ c i e. nu (same_Some u t (sym o ∙ (ap v.owner (sym e) ∙ H.owned c (subst (λ (z : Belongings). In z.chunks c) (sym old_belongings) i)))));
     owners = E.owners;
     owned = E.owned;
     sources = E.sources;

@@ -13,9 +13,9 @@ use Rattle.run_ledger.specs.Heaps.{heap_of, or_fresh, let_go}
 use Rattle.run_ledger.specs.Steps.{task_steps}
 use Rattle.run_ledger.specs.Sound.{collecting}
 use Rattle.run_ledger.proofs.Machine.{heap_machine}
-use Rattle.core_relation.specs.Memory.{Home, Memory}
+use Rattle.core_relation.specs.Memory.{Belongings, Memory}
 use Rattle.ledger_step_laws.specs.Accounts.{ArePrivate, rested, StepsAlone, ChangesHeap, Knows}
-use Rattle.core_relation.specs.Fits.{Part, FitsAt, ahead, with_home, part_for}
+use Rattle.core_relation.specs.Fits.{Part, FitsAt, ahead, with_belongings, part_for}
 use Rattle.core_relation.specs.Changes.{Moves}
 use Rattle.core_relation.specs.Frames.{IsSteady, IsOut, Beside, EndsBeside}
 use Rattle.ledger_step_laws.proofs.Ahead.{SameOf, with_off}
@@ -24,14 +24,14 @@ use Rattle.ledger_step_laws.proofs.Rested.{rested_sound, rested_worker, rested_v
 use Rattle.core_entry_laws.proofs.parts.Pair.{beside}
 use Rattle.core_entry_laws.proofs.parts.Frame.{collect_frame}
 
-module _ (p : ProgramText) (s : SettingsValue) (t : ℕ) (g g' : Home) (r : Part) (v v' : Memory) (l l' : Ledger) (w : ℕ) (x y : Task) (f : Addr → Addr) (K : Knows l) (K' : Knows l') where
+module _ (p : ProgramText) (s : SettingsValue) (t : ℕ) (g g' : Belongings) (r : Part) (v v' : Memory) (l l' : Ledger) (w : ℕ) (x y : Task) (f : Addr → Addr) (K : Knows l) (K' : Knows l') where
   -- the part of t, that has begun its collection
   abbrev q : Part
   q = part_for s t g 0
 
   module _ (F : FitsAt p s q v l) (G : FitsAt p s r v l) (O : IsOut l q x) (P : IsOut l r y) (ne : t ≡ r.task → ⊥) (runs : x.status ≡ Running) (begun : is_some (heap_of l t).begun ≡ true)
       (L : ChangesHeap l l' t) (same : slice_get l'.heaps r.task ≡ slice_get l.heaps r.task) (out' : (heap_of l' t).worker ≡ Some w)
-      (M : Moves (with_home v t g) (with_home v' t g') (rested l t) (rested l' t) t (heap_of (rested l t) t).survivors f) where
+      (M : Moves (with_belongings v t g) (with_belongings v' t g') (rested l t) (rested l' t) t (heap_of (rested l t) t).survivors f) where
     abbrev lt : Ledger
     lt = rested l t
 
@@ -84,7 +84,7 @@ module _ (p : ProgramText) (s : SettingsValue) (t : ℕ) (g g' : Home) (r : Part
       snapshot = rested_view (λ h. h.snapshot) (λ h. refl) l' t ∙ (L.snapshot ∙ sym (rested_view (λ h. h.snapshot) (λ h. refl) l t));
     }
 
-    all_ends : EndsBeside v v' lt lt' (ahead p r l) (ahead p r l') (ahead p r lt) (ahead p r lt') t r.task w g g' r.home x f
+    all_ends : EndsBeside v v' lt lt' (ahead p r l) (ahead p r l') (ahead p r lt) (ahead p r lt') t r.task w g g' r.belongings x f
     all_ends = record {
       apart = ne;
       sound_t = B.sound_t;
@@ -123,5 +123,5 @@ module _ (p : ProgramText) (s : SettingsValue) (t : ℕ) (g g' : Home) (r : Part
       out = ap (λ o. (or_fresh o).worker) same ∙ G.out;
       few = G.few;
       private = at_l'.0;
-      stands = collect_frame v v' lt lt' (ahead p r l) (ahead p r l') (ahead p r lt) (ahead p r lt') t r.task w g g' r.home x f all_ends F.stands G.stands;
+      stands = collect_frame v v' lt lt' (ahead p r l) (ahead p r l') (ahead p r lt) (ahead p r lt') t r.task w g g' r.belongings x f all_ends F.stands G.stands;
     }

@@ -12,10 +12,10 @@ use Rattle.run_ledger.specs.declared.data.Ledger.{Ledger}
 use Rattle.run_ledger.specs.Heaps.{heap_of}
 use Rattle.run_ledger.specs.Sound.{SoundLedger}
 use Rattle.remembered_set.specs.declared.remembered.Source.{Source}
-use Rattle.core_relation.specs.Memory.{Home, Memory, In, objects, objects_in, sources}
+use Rattle.core_relation.specs.Memory.{Belongings, Memory, In, objects, objects_in, sources}
 use Rattle.ledger_step_laws.specs.Accounts.{own, Rests, StepsAlone, ChangesHeap}
 use Rattle.core_relation.specs.Stands.{Stands}
-use Rattle.core_relation.specs.Fits.{with_home}
+use Rattle.core_relation.specs.Fits.{with_belongings}
 use Rattle.core_relation.specs.Changes.{KeepsJust, Moves}
 use Rattle.core_relation.specs.Frames.{EndsBeside}
 use Rattle.core_relation.proofs.objects.Members.{in_chunk}
@@ -24,30 +24,30 @@ use Rattle.core_relation.proofs.changes.Sweep.{swept}
 use Rattle.core_relation.proofs.changes.Collect.{collected}
 use Rattle.core_relation.proofs.changes.Release.{released}
 use Rattle.core_entry_laws.proofs.parts.Assemble.{assembled}
-use Rattle.core_relation.proofs.changes.With.{at_home, off_home, with_both, heap_with, keeps_with, moves_with}
+use Rattle.core_relation.proofs.changes.With.{at_belongings, off_belongings, with_both, heap_with, keeps_with, moves_with}
 
--- a sweep of t's heap: the part of u, with home h, whose steps lead from l to k and from l' to k'
-pub sweep_frame : (v v' : Memory) (l l' k k' : Ledger) (t u : ℕ) (h : Home) → (t ≡ u → ⊥) → StepsAlone l k u → StepsAlone l' k' u → k'.machine ≡ k.machine → heap_of k' u ≡ heap_of k u
+-- a sweep of t's heap: the part of u, with belongings h, whose steps lead from l to k and from l' to k'
+pub sweep_frame : (v v' : Memory) (l l' k k' : Ledger) (t u : ℕ) (h : Belongings) → (t ≡ u → ⊥) → StepsAlone l k u → StepsAlone l' k' u → k'.machine ≡ k.machine → heap_of k' u ≡ heap_of k u
     → SoundLedger k → is_waiting (slice_get l.machine.tasks t) ≡ true → Rests l t → ChangesHeap l l' t → KeepsJust v v' l l' t (heap_of l t).snapshot
-    → Stands (with_home v u h) k → Stands (with_home v' u h) k'
+    → Stands (with_belongings v u h) k → Stands (with_belongings v' u h) k'
 sweep_frame v v' l l' k k' t u h apart A A' em eh S waits rests L C V =
     let heap : heap_of k t ≡ heap_of l t = A.heaps t apart in
-    swept (with_home v u h) (with_home v' u h) k k' t (heap_of k t).snapshot S V (A.tree.waits t ∙ waits) (ap (λ (i : Heap). i.worker) heap ∙ rests)
+    swept (with_belongings v u h) (with_belongings v' u h) k k' t (heap_of k t).snapshot S V (A.tree.waits t ∙ waits) (ap (λ (i : Heap). i.worker) heap ∙ rests)
     (heap_with v v' l l' k k' t u h apart A A' L em eh)
-    (subst (λ (i : Heap). KeepsJust (with_home v u h) (with_home v' u h) k k' t i.snapshot) (sym heap) (keeps_with v v' l l' k k' t u h apart A A' (heap_of l t).snapshot C))
+    (subst (λ (i : Heap). KeepsJust (with_belongings v u h) (with_belongings v' u h) k k' t i.snapshot) (sym heap) (keeps_with v v' l l' k k' t u h apart A A' (heap_of l t).snapshot C))
 
--- private steps of t, whose home isn't in the memory: those of u lead from l to k and from l' to k'
-pub step_frame : (v : Memory) (k k' : Ledger) (t w u : ℕ) (h : Home) → SoundLedger k → StepsAlone k k' t → (heap_of k t).worker ≡ Some w → (heap_of k' t).worker ≡ Some w → is_waiting (slice_get k.machine.tasks t) ≡ false
-    → Stands (with_home v u h) k → Stands (with_home v u h) k'
-step_frame v k k' t w u h S A out out' runs V = steps_alone (with_home v u h) k k' t w S V A out out' runs
+-- private steps of t, whose belongings aren't in the memory: those of u lead from l to k and from l' to k'
+pub step_frame : (v : Memory) (k k' : Ledger) (t w u : ℕ) (h : Belongings) → SoundLedger k → StepsAlone k k' t → (heap_of k t).worker ≡ Some w → (heap_of k' t).worker ≡ Some w → is_waiting (slice_get k.machine.tasks t) ≡ false
+    → Stands (with_belongings v u h) k → Stands (with_belongings v u h) k'
+step_frame v k k' t w u h S A out out' runs V = steps_alone (with_belongings v u h) k k' t w S V A out out' runs
 
-module _ (v v' : Memory) (lt lt' k k' K K' : Ledger) (t u w : ℕ) (g g' h : Home) (x : Task) (f : Addr → Addr) (E : EndsBeside v v' lt lt' k k' K K' t u w g g' h x f)
-    (Vt : Stands (with_home v t g) lt) (Vu : Stands (with_home v u h) k) where
+module _ (v v' : Memory) (lt lt' k k' K K' : Ledger) (t u w : ℕ) (g g' h : Belongings) (x : Task) (f : Addr → Addr) (E : EndsBeside v v' lt lt' k k' K K' t u w g g' h x f)
+    (Vt : Stands (with_belongings v t g) lt) (Vu : Stands (with_belongings v u h) k) where
   abbrev both : Memory
-  both = with_home (with_home v t g) u h
+  both = with_belongings (with_belongings v t g) u h
 
   abbrev both' : Memory
-  both' = with_home (with_home v' t g') u h
+  both' = with_belongings (with_belongings v' t g') u h
 
   idle_t : is_waiting (slice_get K.machine.tasks t) ≡ false
   idle_t = ap is_waiting E.collects.task ∙ ap (λ s. is_waiting (Some (record x { status = s }))) E.collects.runs
@@ -57,17 +57,17 @@ module _ (v v' : Memory) (lt lt' k k' K K' : Ledger) (t u w : ℕ) (g g' h : Hom
 
   before : Stands both K
   before =
-      assembled both (with_home v t g) (with_home v u h) K lt k t u E.apart E.sound_t E.sound_u Vt Vu E.steps_t E.steps_u
-      (record { homes = λ z ne. off_home (with_home v t g) u h z ne; owner = λ i. refl; sources = λ z. refl })
-      (record { homes = λ z ne. with_both v t u g h E.apart z ∙ off_home (with_home v u h) t g z ne; owner = λ i. refl; sources = λ z. refl })
+      assembled both (with_belongings v t g) (with_belongings v u h) K lt k t u E.apart E.sound_t E.sound_u Vt Vu E.steps_t E.steps_u
+      (record { belongings = λ z ne. off_belongings (with_belongings v t g) u h z ne; owner = λ i. refl; sources = λ z. refl })
+      (record { belongings = λ z ne. with_both v t u g h E.apart z ∙ off_belongings (with_belongings v u h) t g z ne; owner = λ i. refl; sources = λ z. refl })
       idle_t E.idle live_t E.live
 
   none : (o : Located) (s : Source) → In (objects_in h.chunks) o → In (sources v t) s → s.object.chunk ≡ o.at.chunk → ⊥
   none o s i j e =
       let q = before.sources t s j in
-      let H = before.homes u E.rests in
-      let there : In (objects both u) o = subst (λ (y : Home). In (objects_in y.chunks) o) (sym (at_home (with_home v t g) u h)) i in
-      let c = in_chunk (both.homes u).chunks o there in
+      let H = before.belongings u E.rests in
+      let there : In (objects both u) o = subst (λ (y : Belongings). In (objects_in y.chunks) o) (sym (at_belongings (with_belongings v t g) u h)) i in
+      let c = in_chunk (both.belongings u).chunks o there in
       let mine : v.owner o.at.chunk ≡ Some u = ap v.owner (H.inside c.0 o c.1 c.2) ∙ H.owned c.0 c.1 in
       let same : own K q.name ≡ u = same_Some (own K q.name) u (sym q.place.chunk ∙ (ap v.owner e ∙ mine)) in
       both_ways (is_waiting (slice_get K.machine.tasks u)) E.idle (ap (λ z. is_waiting (slice_get K.machine.tasks z)) (sym same) ∙ q.waits)
@@ -75,13 +75,13 @@ module _ (v v' : Memory) (lt lt' k k' K K' : Ledger) (t u w : ℕ) (g g' h : Hom
   moves : Moves both both' K K' t (heap_of K t).survivors f
   moves =
       subst (λ ns. Moves both both' K K' t ns f) (sym E.survivors)
-      (moves_with (with_home v t g) (with_home v' t g') lt lt' K K' t u h E.apart E.steps_t E.steps_t' (heap_of lt t).survivors f none E.moves)
+      (moves_with (with_belongings v t g) (with_belongings v' t g') lt lt' K K' t u h E.apart E.steps_t E.steps_t' (heap_of lt t).survivors f none E.moves)
 
   after : Stands both' K'
-  after = collected both both' K K' t x f E.sound before E.collects (heap_with (with_home v t g) (with_home v' t g') lt lt' K K' t u h E.apart E.steps_t E.steps_t' E.ends E.machine E.heap) moves
+  after = collected both both' K K' t x f E.sound before E.collects (heap_with (with_belongings v t g) (with_belongings v' t g') lt lt' K K' t u h E.apart E.steps_t E.steps_t' E.ends E.machine E.heap) moves
 
   -- what the worker of t holds fits the memory after it, and so does the part of u
-  pub collect_frame : Stands (with_home v' u h) k'
+  pub collect_frame : Stands (with_belongings v' u h) k'
   collect_frame =
-      released both' (with_home v' u h) K' k' t w after (ap (λ (m : State). is_waiting (slice_get m.tasks t)) E.machine ∙ idle_t) E.takes
-      (record { homes = λ z ne. sym (with_both v' t u g' h E.apart z ∙ off_home (with_home v' u h) t g' z ne); owner = λ i. refl; sources = λ z. refl })
+      released both' (with_belongings v' u h) K' k' t w after (ap (λ (m : State). is_waiting (slice_get m.tasks t)) E.machine ∙ idle_t) E.takes
+      (record { belongings = λ z ne. sym (with_both v' t u g' h E.apart z ∙ off_belongings (with_belongings v' u h) t g' z ne); owner = λ i. refl; sources = λ z. refl })

@@ -20,10 +20,10 @@ use Rattle.run_ledger.specs.Steps.{task_steps}
 use Rattle.run_ledger.specs.Sound.{collecting}
 use Rattle.run_ledger.proofs.Machine.{heap_machine}
 use Rattle.task_frames.specs.declared.frames.Frame.{Frame}
-use Rattle.core_relation.specs.Memory.{Home, Memory, In, objects, objects_in}
+use Rattle.core_relation.specs.Memory.{Belongings, Memory, In, objects, objects_in}
 use Rattle.ledger_step_laws.specs.Accounts.{own, Rests, ArePrivate, rested, StepsAlone, AlikeFor, Knows}
 use Rattle.core_relation.specs.Stands.{Stands}
-use Rattle.core_relation.specs.Fits.{Part, FitsAt, ahead, with_home}
+use Rattle.core_relation.specs.Fits.{Part, FitsAt, ahead, with_belongings}
 use Rattle.ledger_step_laws.specs.Kinds.{StoresOne, StoresNumber}
 use Rattle.core_relation.specs.Changes.{StoresAt, StoresNumberAt}
 use Rattle.task_frames.specs.FramesValue.{ref_of}
@@ -37,13 +37,14 @@ use Rattle.core_entry_laws.proofs.parts.Pair.{beside}
 use Rattle.core_entry_laws.proofs.parts.Parts.{ahead_alone, ahead_same}
 use Rattle.core_relation.proofs.changes.Release.{released}
 use Rattle.ledger_step_laws.proofs.Tree.{leaf_alone}
-use Rattle.core_relation.proofs.changes.With.{at_home, off_home, with_both}
+use Rattle.core_relation.proofs.changes.With.{at_belongings, off_belongings, with_both}
 use Rattle.core_entry_laws.proofs.parts.Others.{private', out', alone', alike'}
 use Rattle.core_relation.proofs.changes.Numbers as numbers
 use Rattle.core_entry_laws.proofs.parts.Pair as pair
 use Rattle.core_relation.proofs.changes.Store as store
 
--- q's worker goes on with the task: its home is g' then, and the memory stands for the accounts in which it rests
+-- q's worker goes on with the task: its belongings are g' then, and the memory stands for the accounts in which it
+-- rests
 module _ (p : ProgramText) (s : SettingsValue) (q r : Part) (v : Memory) (l l' : Ledger) (x y : Task) (K : Knows l) (K' : Knows l') (F : FitsAt p s q v l) (G : FitsAt p s r v l) (O : IsOut l q x) (P : IsOut l r y) (ne : q.task ≡ r.task → ⊥)
     (w : ℕ) (out : (heap_of l' q.task).worker ≡ Some w) (limit : l'.machine.field_limit ≡ (ahead p q l).machine.field_limit) (end : l'.machine.end ≡ (ahead p q l).machine.end) (heap : slice_get l'.heaps r.task ≡ slice_get (ahead p q l).heaps r.task) where
   abbrev lq : Ledger
@@ -79,11 +80,11 @@ module _ (p : ProgramText) (s : SettingsValue) (q r : Part) (v : Memory) (l l' :
   rests_both : Rests both q.task
   rests_both = ap (λ (h : Heap). h.worker) (BB.steps_t.heaps q.task ne) ∙ rested_worker (task_steps p l q.task q.fresh) q.task
 
-  before : Stands (with_home (with_home v q.task q.home) r.task r.home) both
-  before = together v lq (ahead p r l) both q.task r.task q.home r.home BB F.stands G.stands
+  before : Stands (with_belongings (with_belongings v q.task q.belongings) r.task r.belongings) both
+  before = together v lq (ahead p r l) both q.task r.task q.belongings r.belongings BB F.stands G.stands
 
   -- the part fits what is given back
-  module _ (E : AlikeFor r.task lq lt') (v' : Memory) (g' : Home) (idle : is_waiting (slice_get then_.machine.tasks q.task) ≡ false) (V : Stands (with_home (with_home v' q.task g') r.task r.home) then_) where
+  module _ (E : AlikeFor r.task lq lt') (v' : Memory) (g' : Belongings) (idle : is_waiting (slice_get then_.machine.tasks q.task) ≡ false) (V : Stands (with_belongings (with_belongings v' q.task g') r.task r.belongings) then_) where
     pri : ArePrivate p s lt' r.task r.fresh
     pri = private' p s q r v l lt' x y K K2 F G O P ne E
 
@@ -112,7 +113,7 @@ module _ (p : ProgramText) (s : SettingsValue) (q r : Part) (v : Memory) (l l' :
       out = ap (λ o. (or_fresh o).worker) (sym (with_off l' q.task r.task let_go off)) ∙ outer;
       few = G.few;
       private = at_l'.0;
-      stands = released (with_home (with_home v' q.task g') r.task r.home) (with_home v' r.task r.home) then_ (ahead p r l') q.task w V idle
+      stands = released (with_belongings (with_belongings v' q.task g') r.task r.belongings) (with_belongings v' r.task r.belongings) then_ (ahead p r l') q.task w V idle
           (record {
             machine = at_l'.1.machine;
             worker = ap (λ (h : Heap). h.worker) (N0.heaps q.task ne) ∙ out;
@@ -121,7 +122,7 @@ module _ (p : ProgramText) (s : SettingsValue) (q r : Part) (v : Memory) (l l' :
               | inr nr ↦ N0.heaps u nr ∙ (ap or_fresh (sym (with_off l' q.task u let_go nu)) ∙ sym (N1.heaps u nr))
             ];
           })
-          (record { homes = λ z nz. sym (with_both v' q.task r.task g' r.home ne z ∙ off_home (with_home v' r.task r.home) q.task g' z nz); owner = λ k. refl; sources = λ u. refl });
+          (record { belongings = λ z nz. sym (with_both v' q.task r.task g' r.belongings ne z ∙ off_belongings (with_belongings v' r.task r.belongings) q.task g' z nz); owner = λ k. refl; sources = λ u. refl });
     }
 
   -- a name that q's task holds isn't r's
@@ -132,22 +133,22 @@ module _ (p : ProgramText) (s : SettingsValue) (q r : Part) (v : Memory) (l l' :
         off (leaf_alone lq BB.sound_t r.task q.task (sym (BB.steps_t.tree.waits r.task) ∙ BB.idle_u) live
         (ap (λ k. is_on_path lq.machine.tasks k q.task) (sym e) ∙ (BB.sound_t.apart.of_task q.task z n is holds).1))
 
-    none_there : (a : Addr) → v.owner a.chunk ≡ Some (own lq n) → (o : Located) → In (objects_in r.home.chunks) o → o.at.chunk ≡ a.chunk → ⊥
+    none_there : (a : Addr) → v.owner a.chunk ≡ Some (own lq n) → (o : Located) → In (objects_in r.belongings.chunks) o → o.at.chunk ≡ a.chunk → ⊥
     none_there a owns o i e =
         let rests_r : Rests both r.task = rested_worker (task_steps p lq r.task r.fresh) r.task in
-        let H = before.homes r.task rests_r in
-        let there : In (objects (with_home (with_home v q.task q.home) r.task r.home) r.task) o = subst (λ (h : Home). In (objects_in h.chunks) o) (sym (at_home (with_home v q.task q.home) r.task r.home)) i in
-        let c = in_chunk ((with_home (with_home v q.task q.home) r.task r.home).homes r.task).chunks o there in
+        let H = before.belongings r.task rests_r in
+        let there : In (objects (with_belongings (with_belongings v q.task q.belongings) r.task r.belongings) r.task) o = subst (λ (h : Belongings). In (objects_in h.chunks) o) (sym (at_belongings (with_belongings v q.task q.belongings) r.task r.belongings)) i in
+        let c = in_chunk ((with_belongings (with_belongings v q.task q.belongings) r.task r.belongings).belongings r.task).chunks o there in
         let mine : v.owner o.at.chunk ≡ Some r.task = ap v.owner (H.inside c.0 o c.1 c.2) ∙ H.owned c.0 c.1 in
         not_own (same_Some (own lq n) r.task (sym owns ∙ (ap v.owner (sym e) ∙ mine)))
 
   -- it stores a reference
-  pub fits_store : (v' : Memory) (g' : Home) (z : Task) (n : Name) (yy : Object) (o b i : ℕ) (c : Option (ℕ × ℤ)) (f : Frame) (fs : List Frame) (a : Addr) → StoresOne lq lt' q.task z n yy o b i c
-      → StoresAt (with_home v q.task q.home) (with_home v' q.task g') lq q.task f fs a b i c → ref_of f o ≡ Some a → FitsAt p s r v' l'
+  pub fits_store : (v' : Memory) (g' : Belongings) (z : Task) (n : Name) (yy : Object) (o b i : ℕ) (c : Option (ℕ × ℤ)) (f : Frame) (fs : List Frame) (a : Addr) → StoresOne lq lt' q.task z n yy o b i c
+      → StoresAt (with_belongings v q.task q.belongings) (with_belongings v' q.task g') lq q.task f fs a b i c → ref_of f o ≡ Some a → FitsAt p s r v' l'
   fits_store v' g' z n yy o b i c f fs a L C at_a =
       let rests : Rests lq q.task = rested_worker (task_steps p l q.task q.fresh) q.task in
-      let vt = with_home v q.task q.home in
-      let vt' = with_home v' q.task g' in
+      let vt = with_belongings v q.task q.belongings in
+      let vt' = with_belongings v' q.task g' in
       let holds = store.holds vt vt' lq lt' q.task z n yy o b i c f fs a BB.sound_t F.stands rests L C at_a o n L.object in
       let place = store.place vt vt' lq lt' q.task z n yy o b i c f fs a BB.sound_t F.stands rests L C at_a in
       let other = not_own z n L.task L.runs holds in
@@ -156,16 +157,16 @@ module _ (p : ProgramText) (s : SettingsValue) (q r : Part) (v : Memory) (l l' :
       let EE = alike' p s q r v l lt' x y K K2 F G O P ne E in
       let L' = stores_too lq lt' both then_ r.task BB.steps_t A' EE q.task z n yy o b i c ne other BB.idle_u L in
       fits_goes E v' g' (A'.tree.waits q.task ∙ (L.writes.tree.waits q.task ∙ (sym (BB.steps_t.tree.waits q.task) ∙ BB.idle_t)))
-      (store.stored (with_home vt r.task r.home) (with_home vt' r.task r.home) both then_ q.task z n yy o b i c f fs a BB.sound before rests_both L'
-      (stores_with vt vt' r.task r.home lq both q.task f fs a b i c ne BB.steps_t.tree.paths (none_there z n L.task L.runs holds a place.chunk) C) at_a)
+      (store.stored (with_belongings vt r.task r.belongings) (with_belongings vt' r.task r.belongings) both then_ q.task z n yy o b i c f fs a BB.sound before rests_both L'
+      (stores_with vt vt' r.task r.belongings lq both q.task f fs a b i c ne BB.steps_t.tree.paths (none_there z n L.task L.runs holds a place.chunk) C) at_a)
 
   -- or a number
-  pub fits_number : (v' : Memory) (g' : Home) (z : Task) (n : Name) (yy : Object) (o b i : ℕ) (f : Frame) (fs : List Frame) (a : Addr) → StoresNumber lq lt' q.task z n yy o b i
-      → StoresNumberAt (with_home v q.task q.home) (with_home v' q.task g') q.task f fs a b i → ref_of f o ≡ Some a → FitsAt p s r v' l'
+  pub fits_number : (v' : Memory) (g' : Belongings) (z : Task) (n : Name) (yy : Object) (o b i : ℕ) (f : Frame) (fs : List Frame) (a : Addr) → StoresNumber lq lt' q.task z n yy o b i
+      → StoresNumberAt (with_belongings v q.task q.belongings) (with_belongings v' q.task g') q.task f fs a b i → ref_of f o ≡ Some a → FitsAt p s r v' l'
   fits_number v' g' z n yy o b i f fs a L C at_a =
       let rests : Rests lq q.task = rested_worker (task_steps p l q.task q.fresh) q.task in
-      let vt = with_home v q.task q.home in
-      let vt' = with_home v' q.task g' in
+      let vt = with_belongings v q.task q.belongings in
+      let vt' = with_belongings v' q.task g' in
       let holds = numbers.holds vt vt' lq lt' q.task z n yy o b i f fs a BB.sound_t F.stands rests L C at_a o n L.object in
       let place = numbers.place vt vt' lq lt' q.task z n yy o b i f fs a BB.sound_t F.stands rests L C at_a in
       let other = not_own z n L.task L.runs holds in
@@ -174,5 +175,5 @@ module _ (p : ProgramText) (s : SettingsValue) (q r : Part) (v : Memory) (l l' :
       let EE = alike' p s q r v l lt' x y K K2 F G O P ne E in
       let L' = numbers_too lq lt' both then_ r.task BB.steps_t A' EE q.task z n yy o b i ne other BB.idle_u L in
       fits_goes E v' g' (A'.tree.waits q.task ∙ (L.writes.tree.waits q.task ∙ (sym (BB.steps_t.tree.waits q.task) ∙ BB.idle_t)))
-      (numbers.numbered (with_home vt r.task r.home) (with_home vt' r.task r.home) both then_ q.task z n yy o b i f fs a BB.sound before rests_both L'
-      (numbers_with vt vt' r.task r.home q.task f fs a b i ne (none_there z n L.task L.runs holds a place.chunk) C) at_a)
+      (numbers.numbered (with_belongings vt r.task r.belongings) (with_belongings vt' r.task r.belongings) both then_ q.task z n yy o b i f fs a BB.sound before rests_both L'
+      (numbers_with vt vt' r.task r.belongings q.task f fs a b i ne (none_there z n L.task L.runs holds a place.chunk) C) at_a)

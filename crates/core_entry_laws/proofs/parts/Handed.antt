@@ -10,32 +10,32 @@ use Rattle.run_ledger.proofs.Machine.{heap_machine}
 use Rattle.ledger_step_laws.specs.Accounts.{rested}
 use Rattle.ledger_step_laws.proofs.Ahead.{with_off}
 use Rattle.ledger_step_laws.proofs.Rested.{rested_worker, rested_view}
-use Rattle.core_relation.specs.Memory.{Home, Memory}
+use Rattle.core_relation.specs.Memory.{Belongings, Memory}
 use Rattle.core_relation.specs.Stands.{Stands}
-use Rattle.core_relation.specs.Fits.{FitsAt, with_home, ahead, part_for}
+use Rattle.core_relation.specs.Fits.{FitsAt, with_belongings, ahead, part_for}
 use Rattle.core_entry_laws.proofs.parts.Statements.{StoresFit, NumbersFit, QuietFitsAt, StepsFit}
 use Rattle.core_relation.proofs.changes.Numbers.{numbered}
 use Rattle.core_relation.proofs.changes.Own.{stepped}
 use Rattle.core_relation.proofs.changes.Renew.{renewed}
 use Rattle.core_relation.proofs.changes.Store.{stored}
 
-fits_now : (p : ProgramText) (s : SettingsValue) (t : ℕ) (g : Home) (v : Memory) (l : Ledger) (w : ℕ) → (heap_of l t).worker ≡ Some w → Stands (with_home v t g) (rested l t) → FitsAt p s (part_for s t g 0) v l
+fits_now : (p : ProgramText) (s : SettingsValue) (t : ℕ) (g : Belongings) (v : Memory) (l : Ledger) (w : ℕ) → (heap_of l t).worker ≡ Some w → Stands (with_belongings v t g) (rested l t) → FitsAt p s (part_for s t g 0) v l
 fits_now p s t g v l w out V = record { worker = w; out = out; few = omega arith; private = tt; stands = V }
 
 pub stores_fit : StoresFit
 stores_fit p s q v v' l l' g w z n o ro rv i c f fs a S F out L C at =
     fits_now p s q.task g v' l' w out
-    (stored (with_home v q.task q.home) (with_home v' q.task g) (ahead p q l) (rested l' q.task) q.task z n o ro rv i c f fs a S F.stands (rested_worker (task_steps p l q.task q.fresh) q.task) L C at)
+    (stored (with_belongings v q.task q.belongings) (with_belongings v' q.task g) (ahead p q l) (rested l' q.task) q.task z n o ro rv i c f fs a S F.stands (rested_worker (task_steps p l q.task q.fresh) q.task) L C at)
 
 pub numbers_fit : NumbersFit
 numbers_fit p s q v v' l l' g w z n o ro rv i f fs a S F out L C at =
     fits_now p s q.task g v' l' w out
-    (numbered (with_home v q.task q.home) (with_home v' q.task g) (ahead p q l) (rested l' q.task) q.task z n o ro rv i f fs a S F.stands (rested_worker (task_steps p l q.task q.fresh) q.task) L C at)
+    (numbered (with_belongings v q.task q.belongings) (with_belongings v' q.task g) (ahead p q l) (rested l' q.task) q.task z n o ro rv i f fs a S F.stands (rested_worker (task_steps p l q.task q.fresh) q.task) L C at)
 
 pub quiet_fits : QuietFitsAt
 quiet_fits p s t h g v v' l l' L C F =
     fits_now p s t g v' l' F.worker (L.worker t ∙ F.out)
-    (renewed (with_home v t h) (with_home v' t g) (rested l t) (rested l' t) F.stands
+    (renewed (with_belongings v t h) (with_belongings v' t g) (rested l t) (rested l' t) F.stands
     (record {
       machine = heap_machine l' t let_go ∙ (L.machine ∙ sym (heap_machine l t let_go));
       worker = λ u. elim (cases_eq u t) [
@@ -53,4 +53,4 @@ quiet_fits p s t h g v v' l l' L C F =
 pub steps_fit : StepsFit
 steps_fit p s q v v' l l' g w S S' F out A idle C H =
     fits_now p s q.task g v' l' w out
-    (stepped (with_home v q.task q.home) (with_home v' q.task g) (ahead p q l) (rested l' q.task) q.task S S' F.stands A (rested_worker (task_steps p l q.task q.fresh) q.task) (rested_worker l' q.task) idle C H)
+    (stepped (with_belongings v q.task q.belongings) (with_belongings v' q.task g) (ahead p q l) (rested l' q.task) q.task S S' F.stands A (rested_worker (task_steps p l q.task q.fresh) q.task) (rested_worker l' q.task) idle C H)

@@ -13,13 +13,13 @@ use Rattle.run_ledger.specs.Heaps.{heap_of, or_fresh}
 use Rattle.run_ledger.specs.Steps.{task_steps}
 use Rattle.run_ledger.specs.Sound.{collecting}
 use Rattle.task_frames.specs.declared.frames.Frame.{Frame}
-use Rattle.core_relation.specs.Memory.{Home, Memory}
+use Rattle.core_relation.specs.Memory.{Belongings, Memory}
 use Rattle.core_relation.specs.Reads.{Reads, FramesAreRead, HoldsRead}
 use Rattle.ledger_step_laws.specs.Accounts.{Rests, ArePrivate, StepsAlone, AlikeFor, Knows}
 use Rattle.core_relation.specs.Stands.{Place, Stands}
-use Rattle.core_relation.specs.Fits.{Part, FitsAt, ahead, with_home}
+use Rattle.core_relation.specs.Fits.{Part, FitsAt, ahead, with_belongings}
 use Rattle.ledger_step_laws.specs.Kinds.{ForksTask, JoinsTasks, CanJoin, EndsTask}
-use Rattle.core_relation.specs.Changes.{ForksHome, JoinsHomes, EndsHome, HasResult}
+use Rattle.core_relation.specs.Changes.{ForksBelongings, JoinsBelongings, EndsBelongings, HasResult}
 use Rattle.task_frames.specs.FramesValue.{ref_of}
 use Rattle.core_relation.specs.Frames.{IsSteady, IsOut, Beside}
 use Rattle.ledger_step_laws.proofs.Along.{alike_steps}
@@ -31,7 +31,7 @@ use Rattle.core_relation.proofs.changes.Lifts.{can_too, ends_too, ends_with}
 use Rattle.core_relation.proofs.changes.Finish.{finished}
 use Rattle.core_entry_laws.proofs.parts.Pair.{beside}
 use Rattle.core_entry_laws.proofs.parts.Parts.{ahead_alone, ahead_sound}
-use Rattle.core_relation.proofs.changes.With.{off_home}
+use Rattle.core_relation.proofs.changes.With.{off_belongings}
 use Rattle.core_entry_laws.proofs.parts.Pair as pair
 use Rattle.listed.proofs.Options.{none_some}
 
@@ -39,11 +39,11 @@ use Rattle.listed.proofs.Options.{none_some}
 
 pub result_read : (v : Memory) (l : Ledger) (c : ℕ) (r : ℤ × Option Name) (a : ℤ × Option Addr) → Stands v l → Rests l c → HasResult v l c r a → (a.0 ≡ r.0) × Reads (Place v l) a.1 r.1
 result_read v l c r a V rests (inl E) =
-    let k : ((v.homes c).result.0 ≡ r.0) × Reads (Place v l) (v.homes c).result.1 r.1 = subst (HoldsRead (Place v l) (v.homes c) E.task) E.ended (V.tasks c E.task rests E.is) in
+    let k : ((v.belongings c).result.0 ≡ r.0) × Reads (Place v l) (v.belongings c).result.1 r.1 = subst (HoldsRead (Place v l) (v.belongings c) E.task) E.ended (V.tasks c E.task rests E.is) in
     subst (λ (q : ℤ × Option Addr). (q.0 ≡ r.0) × Reads (Place v l) q.1 r.1) E.result k
 result_read v l c r a V rests (inr E) =
     let k : FramesAreRead (Place v l) (E.frame ∷ E.below) (E.task.top ∷ E.task.below) =
-    subst (λ fs. FramesAreRead (Place v l) fs (E.task.top ∷ E.task.below)) E.frames (subst (HoldsRead (Place v l) (v.homes c) E.task) E.runs (V.tasks c E.task rests E.is)) in
+    subst (λ fs. FramesAreRead (Place v l) fs (E.task.top ∷ E.task.below)) E.frames (subst (HoldsRead (Place v l) (v.belongings c) E.task) E.runs (V.tasks c E.task rests E.is)) in
     subst (λ (q : ℤ × Option Addr). (q.0 ≡ r.0) × Reads (Place v l) q.1 r.1) (sym E.result)
     (subst (λ (q : ℤ × Option Name). ((unwrap_or (slice_get E.frame.ints 0) (pos 0)) ≡ q.0) × Reads (Place v l) (ref_of E.frame 0) q.1) (sym E.returns)
     (ap (λ is. unwrap_or (slice_get is 0) (pos 0)) k.0.ints, field_of (Place v l) E.frame.refs E.task.top.refs 0 k.0.refs))
@@ -107,39 +107,39 @@ module _ (p : ProgramText) (s : SettingsValue) (q r : Part) (v : Memory) (l l' :
   pub apart' : (z : ℕ) → Rests l' z → z ≡ r.task → ⊥
   apart' z h e = absurd (none_some (sym h ∙ (ap (λ k. (heap_of l' k).worker) e ∙ out')))
 
-  pub fits_by : (v' : Memory) → Stands (with_home v' r.task r.home) lr' → FitsAt p s r v' l'
+  pub fits_by : (v' : Memory) → Stands (with_belongings v' r.task r.belongings) lr' → FitsAt p s r v' l'
   fits_by v' V = record { worker = G.worker; out = out'; few = G.few; private = then'.0; stands = V }
 
   -- q's task forks
-  pub fits_fork : (v' : Memory) (a b f i : ℕ) (z : Task) → z.status ≡ Running → ForksTask lq l' q.task a b f i z → ForksHome (with_home v q.task q.home) v' q.task a b f i → FitsAt p s r v' l'
+  pub fits_fork : (v' : Memory) (a b f i : ℕ) (z : Task) → z.status ≡ Running → ForksTask lq l' q.task a b f i z → ForksBelongings (with_belongings v q.task q.belongings) v' q.task a b f i → FitsAt p s r v' l'
   fits_fork v' a b f i z runs L C =
-      fits_by v' (fork_frame v v' lq l' (ahead p r l) lr' both q.task r.task a b f i q.home r.home z B (apart' a (ap (λ (h : Heap). h.worker) L.heap_left)) (apart' b (ap (λ (h : Heap). h.worker) L.heap_right)) alone' alike'
+      fits_by v' (fork_frame v v' lq l' (ahead p r l) lr' both q.task r.task a b f i q.belongings r.belongings z B (apart' a (ap (λ (h : Heap). h.worker) L.heap_left)) (apart' b (ap (λ (h : Heap). h.worker) L.heap_right)) alone' alike'
       runs (rested_worker (task_steps p l q.task q.fresh) q.task) L C F.stands G.stands)
 
   -- q's task ends, and joins with its sibling
-  pub fits_join : (v' : Memory) (j c d : ℕ) (z : Task) (rl rr : ℤ × Option Name) (al ar : ℤ × Option Addr) → JoinsTasks lq l' j c d z rl rr → CanJoin lq j c d z → JoinsHomes (with_home v q.task q.home) v' j c d al ar
-      → HasResult (with_home v q.task q.home) lq c rl al → HasResult (with_home v q.task q.home) lq d rr ar → FitsAt p s r v' l'
+  pub fits_join : (v' : Memory) (j c d : ℕ) (z : Task) (rl rr : ℤ × Option Name) (al ar : ℤ × Option Addr) → JoinsTasks lq l' j c d z rl rr → CanJoin lq j c d z → JoinsBelongings (with_belongings v q.task q.belongings) v' j c d al ar
+      → HasResult (with_belongings v q.task q.belongings) lq c rl al → HasResult (with_belongings v q.task q.belongings) lq d rr ar → FitsAt p s r v' l'
   fits_join v' j c d z rl rr al ar L T C gl gr =
       let nj = apart_then j T.rests in
       let nc = apart_then c T.left_rests in
       let nd = apart_then d T.right_rests in
       let A = B.steps_t in
       let T' = can_too lq l' both lr' r.task A alone' alike' j c d z nj nc nd T in
-      let V = together v lq (ahead p r l) both q.task r.task q.home r.home B F.stands G.stands in
-      fits_by v' (join_frame v v' lq l' (ahead p r l) lr' both q.task r.task j c d q.home r.home z rl rr al ar B nj nc nd alone' alike' L T' C
-      (result_read (with_home (with_home v q.task q.home) r.task r.home) both c rl al V T'.left_rests (result_too c rl al nc gl))
-      (result_read (with_home (with_home v q.task q.home) r.task r.home) both d rr ar V T'.right_rests (result_too d rr ar nd gr)) F.stands G.stands)
+      let V = together v lq (ahead p r l) both q.task r.task q.belongings r.belongings B F.stands G.stands in
+      fits_by v' (join_frame v v' lq l' (ahead p r l) lr' both q.task r.task j c d q.belongings r.belongings z rl rr al ar B nj nc nd alone' alike' L T' C
+      (result_read (with_belongings (with_belongings v q.task q.belongings) r.task r.belongings) both c rl al V T'.left_rests (result_too c rl al nc gl))
+      (result_read (with_belongings (with_belongings v q.task q.belongings) r.task r.belongings) both d rr ar V T'.right_rests (result_too d rr ar nd gr)) F.stands G.stands)
     where
-      result_too : (c : ℕ) (k : ℤ × Option Name) (a : ℤ × Option Addr) → (c ≡ r.task → ⊥) → HasResult (with_home v q.task q.home) lq c k a → HasResult (with_home (with_home v q.task q.home) r.task r.home) both c k a
-      result_too c k a nc (inl e) = inl (record { task = e.task; is = B.steps_t.tasks c nc ∙ e.is; ended = e.ended; result = ap (λ (h : Home). h.result) (off_home (with_home v q.task q.home) r.task r.home c nc) ∙ e.result })
-      result_too c k a nc (inr e) = inr (record { task = e.task; is = B.steps_t.tasks c nc ∙ e.is; runs = e.runs; returns = e.returns; frame = e.frame; below = e.below; frames = ap (λ (h : Home). h.frames) (off_home (with_home v q.task q.home) r.task r.home c nc) ∙ e.frames; result = e.result })
+      result_too : (c : ℕ) (k : ℤ × Option Name) (a : ℤ × Option Addr) → (c ≡ r.task → ⊥) → HasResult (with_belongings v q.task q.belongings) lq c k a → HasResult (with_belongings (with_belongings v q.task q.belongings) r.task r.belongings) both c k a
+      result_too c k a nc (inl e) = inl (record { task = e.task; is = B.steps_t.tasks c nc ∙ e.is; ended = e.ended; result = ap (λ (h : Belongings). h.result) (off_belongings (with_belongings v q.task q.belongings) r.task r.belongings c nc) ∙ e.result })
+      result_too c k a nc (inr e) = inr (record { task = e.task; is = B.steps_t.tasks c nc ∙ e.is; runs = e.runs; returns = e.returns; frame = e.frame; below = e.below; frames = ap (λ (h : Belongings). h.frames) (off_belongings (with_belongings v q.task q.belongings) r.task r.belongings c nc) ∙ e.frames; result = e.result })
 
   -- q's task ends, and its sibling goes on
-  pub fits_finish : (v' : Memory) (z : Task) (f : Frame) (fs : List Frame) → EndsTask lq l' q.task z → EndsHome (with_home v q.task q.home) v' q.task f fs → FitsAt p s r v' l'
+  pub fits_finish : (v' : Memory) (z : Task) (f : Frame) (fs : List Frame) → EndsTask lq l' q.task z → EndsBelongings (with_belongings v q.task q.belongings) v' q.task f fs → FitsAt p s r v' l'
   fits_finish v' z f fs L C =
       let A = B.steps_t in
       let M : StepsAlone both lr' q.task = alone_ahead p s r lq l' both lr' q.task L.alone A alone' alike' in
       let rests : Rests both q.task = ap (λ (h : Heap). h.worker) (A.heaps q.task ne) ∙ rested_worker (task_steps p l q.task q.fresh) q.task in
-      fits_by v' (finished (with_home (with_home v q.task q.home) r.task r.home) (with_home v' r.task r.home) both lr' q.task z f fs B.sound (ahead_sound p s r l' K'.sound steady')
-      (together v lq (ahead p r l) both q.task r.task q.home r.home B F.stands G.stands) rests
-      (ends_too lq l' both lr' r.task A alone' alike' q.task z ne M L) (ends_with (with_home v q.task q.home) v' r.task r.home q.task f fs ne C))
+      fits_by v' (finished (with_belongings (with_belongings v q.task q.belongings) r.task r.belongings) (with_belongings v' r.task r.belongings) both lr' q.task z f fs B.sound (ahead_sound p s r l' K'.sound steady')
+      (together v lq (ahead p r l) both q.task r.task q.belongings r.belongings B F.stands G.stands) rests
+      (ends_too lq l' both lr' r.task A alone' alike' q.task z ne M L) (ends_with (with_belongings v q.task q.belongings) v' r.task r.belongings q.task f fs ne C))

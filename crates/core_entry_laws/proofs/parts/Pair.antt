@@ -13,7 +13,7 @@ use Rattle.run_ledger.specs.Sound.{collecting}
 use Rattle.run_ledger.proofs.Machine.{heap_machine}
 use Rattle.core_relation.specs.Memory.{Memory}
 use Rattle.core_relation.specs.Stands.{Stands}
-use Rattle.core_relation.specs.Fits.{Part, FitsAt, ahead, with_home}
+use Rattle.core_relation.specs.Fits.{Part, FitsAt, ahead, with_belongings}
 use Rattle.ledger_step_laws.specs.Accounts.{ArePrivate, StepsAlone, AlikeFor, Knows}
 use Rattle.core_relation.specs.Frames.{IsSteady, IsOut, Beside}
 use Rattle.ledger_step_laws.proofs.Ahead.{with_off}
@@ -87,6 +87,6 @@ module _ (p : ProgramText) (s : SettingsValue) (q r : Part) (v : Memory) (l : Le
     live_u = more.tree.joins r.task ∙ (N.tree.joins r.task ∙ (ap is_joined P.task ∙ (tells y P.runs).0));
   }
 
-  -- so the memory with both homes stands for the accounts with the steps of both
-  pub fit_together : Stands (with_home (with_home v q.task q.home) r.task r.home) both
-  fit_together = together v lq lr both q.task r.task q.home r.home beside F.stands G.stands
+  -- so the memory with the belongings of both stands for the accounts with the steps of both
+  pub fit_together : Stands (with_belongings (with_belongings v q.task q.belongings) r.task r.belongings) both
+  fit_together = together v lq lr both q.task r.task q.belongings r.belongings beside F.stands G.stands

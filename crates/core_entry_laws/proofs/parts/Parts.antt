@@ -55,7 +55,7 @@ module _ (p : ProgramText) (s : SettingsValue) (q : Part) where
         out = ap (λ o. (or_fresh o).worker) same ∙ F.out;
         few = F.few;
         private = a.0;
-        stands = sweep_frame v v' l l' (ahead p q l) (ahead p q l') t q.task q.home apart (ahead_alone l S c F.private) (ahead_alone l' S' c' a.0) a.1.machine (ap or_fresh a.1.heap) (ahead_sound l S c) waits rests L C F.stands;
+        stands = sweep_frame v v' l l' (ahead p q l) (ahead p q l') t q.task q.belongings apart (ahead_alone l S c F.private) (ahead_alone l' S' c' a.0) a.1.machine (ap or_fresh a.1.heap) (ahead_sound l S c) waits rests L C F.stands;
       }
     where
       steady : IsSteady q l → IsSteady q l'

@@ -12,20 +12,20 @@ use Rattle.run_ledger.specs.declared.data.Ledger.{Ledger}
 use Rattle.run_ledger.specs.Heaps.{heap_of, or_fresh}
 use Rattle.run_ledger.specs.Steps.{task_steps}
 use Rattle.run_ledger.specs.Sound.{Sound, SoundLedger, collecting}
-use Rattle.core_relation.specs.Memory.{Home, Memory, objects_in}
+use Rattle.core_relation.specs.Memory.{Belongings, Memory, objects_in}
 use Rattle.ledger_step_laws.specs.Accounts.{Rests, aside, ArePrivate, StepsAlone, Takes, SameTasks}
-use Rattle.core_relation.specs.Stands.{HomeStands}
-use Rattle.core_relation.specs.Fits.{StillFits, Part, FitsAt, ahead, with_home}
+use Rattle.core_relation.specs.Stands.{BelongingsStand}
+use Rattle.core_relation.specs.Fits.{StillFits, Part, FitsAt, ahead, with_belongings}
 use Rattle.core_relation.specs.Changes.{SameBut, SameObjects}
 use Rattle.core_relation.specs.Frames.{IsSteady}
 use Rattle.ledger_step_laws.specs.Last.{Halts}
 use Rattle.ledger_step_laws.proofs.Ahead.{SameOf}
-use Rattle.core_relation.proofs.changes.Alone.{home_kept}
+use Rattle.core_relation.proofs.changes.Alone.{belongings_kept}
 use Rattle.ledger_step_laws.proofs.Rested.{rested_worker}
 use Rattle.core_entry_laws.proofs.parts.Parts.{ahead_alone, ahead_same}
 use Rattle.core_relation.proofs.changes.Release.{released}
 use Rattle.core_relation.proofs.changes.Renew.{renewed}
-use Rattle.core_relation.proofs.changes.With.{at_home, off_home}
+use Rattle.core_relation.proofs.changes.With.{at_belongings, off_belongings}
 
 module _ (p : ProgramText) (s : SettingsValue) (q : Part) (v : Memory) (l l' : Ledger) (S : SoundLedger l) (S' : SoundLedger l') (c : IsSteady q l) (E : SameOf q.task l l') (F : FitsAt p s q v l) where
   abbrev u : ℕ
@@ -72,12 +72,12 @@ module _ (p : ProgramText) (s : SettingsValue) (q : Part) (v : Memory) (l l' : L
         out = out';
         few = F.few;
         private = then_.0;
-        stands = released (with_home v u q.home) (with_home v' u q.home) k k' t w F.stands (N.tree.waits t ∙ idle)
+        stands = released (with_belongings v u q.belongings) (with_belongings v' u q.belongings) k k' t w F.stands (N.tree.waits t ∙ idle)
             (record { machine = then_.1.machine; worker = ap (λ (h : Heap). h.worker) (N'.heaps t ne) ∙ L.worker; heaps = λ z nz. heap_too (λ h. h) z (L.heaps z nz) })
             (record {
-              homes = λ z nz. elim (cases_eq z u) [
-                | inl f ↦ ap (with_home v' u q.home).homes f ∙ (at_home v' u q.home ∙ (sym (at_home v u q.home) ∙ ap (with_home v u q.home).homes (sym f)))
-                | inr nu ↦ off_home v' u q.home z nu ∙ (C.homes z nz ∙ sym (off_home v u q.home z nu))
+              belongings = λ z nz. elim (cases_eq z u) [
+                | inl f ↦ ap (with_belongings v' u q.belongings).belongings f ∙ (at_belongings v' u q.belongings ∙ (sym (at_belongings v u q.belongings) ∙ ap (with_belongings v u q.belongings).belongings (sym f)))
+                | inr nu ↦ off_belongings v' u q.belongings z nu ∙ (C.belongings z nz ∙ sym (off_belongings v u q.belongings z nu))
               ];
               owner = C.owner;
               sources = C.sources;
@@ -91,12 +91,12 @@ module _ (p : ProgramText) (s : SettingsValue) (q : Part) (v : Memory) (l l' : L
     out = out';
     few = F.few;
     private = then_.0;
-    stands = renewed (with_home v u q.home) (with_home v u q.home) k k' F.stands
+    stands = renewed (with_belongings v u q.belongings) (with_belongings v u q.belongings) k k' F.stands
         (record { machine = then_.1.machine; worker = λ z. heap_too (λ h. h.worker) z (ap (λ (h : Heap). h.worker) (heaps z)); snapshot = λ z. heap_too (λ h. h.snapshot) z (ap (λ (h : Heap). h.snapshot) (heaps z)) })
         (record {
-          home = λ z r.
+          belongings = λ z r.
               let e : heap_of k' z ≡ heap_of k z = heap_too (λ h. h) z (heaps z) in
-              home_kept (with_home v u q.home) (with_home v u q.home) k k' z refl (λ i e. e) e (ap (λ (m : State). length (row_of (slice_get m.store z))) then_.1.machine) (ap (λ (m : State). is_joined (slice_get m.tasks z)) then_.1.machine) (F.stands.homes z (ap (λ (h : Heap). h.worker) (sym e) ∙ r));
+              belongings_kept (with_belongings v u q.belongings) (with_belongings v u q.belongings) k k' z refl (λ i e. e) e (ap (λ (m : State). length (row_of (slice_get m.store z))) then_.1.machine) (ap (λ (m : State). is_joined (slice_get m.tasks z)) then_.1.machine) (F.stands.belongings z (ap (λ (h : Heap). h.worker) (sym e) ∙ r));
           objects = λ z. refl;
           chunks = λ z e. refl;
           frames = λ z. refl;
@@ -116,10 +116,10 @@ module _ (p : ProgramText) (s : SettingsValue) (q : Part) (v : Memory) (l l' : L
     out = out';
     few = F.few;
     private = then_.0;
-    stands = renewed (with_home v u q.home) (with_home v' u q.home) k k' F.stands
+    stands = renewed (with_belongings v u q.belongings) (with_belongings v' u q.belongings) k k' F.stands
         (record { machine = then_.1.machine; worker = λ z. heap_too (λ h. h.worker) z (L.worker z); snapshot = λ z. heap_too (λ h. h.snapshot) z (L.snapshot z) })
         (record {
-          home = home;
+          belongings = belongings;
           objects = λ z. seen (λ h. objects_in h.chunks) z (C.objects z);
           chunks = λ z e. seen (λ h. length h.chunks) z (C.chunks z (sym (N.tree.waits z) ∙ e));
           frames = λ z. seen (λ h. h.frames) z (C.frames z);
@@ -132,29 +132,29 @@ module _ (p : ProgramText) (s : SettingsValue) (q : Part) (v : Memory) (l l' : L
         });
   }
     where
-      seen : {A : Type 0} (view : Home → A) (z : ℕ) → view (v'.homes z) ≡ view (v.homes z) → view ((with_home v' u q.home).homes z) ≡ view ((with_home v u q.home).homes z)
+      seen : {A : Type 0} (view : Belongings → A) (z : ℕ) → view (v'.belongings z) ≡ view (v.belongings z) → view ((with_belongings v' u q.belongings).belongings z) ≡ view ((with_belongings v u q.belongings).belongings z)
       seen view z e = elim (cases_eq z u) [
-        | inl f ↦ ap (λ j. view ((with_home v' u q.home).homes j)) f ∙ (ap view (at_home v' u q.home) ∙ (ap view (sym (at_home v u q.home)) ∙ ap (λ j. view ((with_home v u q.home).homes j)) (sym f)))
-        | inr ne ↦ ap view (off_home v' u q.home z ne) ∙ (e ∙ ap view (sym (off_home v u q.home z ne)))
+        | inl f ↦ ap (λ j. view ((with_belongings v' u q.belongings).belongings j)) f ∙ (ap view (at_belongings v' u q.belongings) ∙ (ap view (sym (at_belongings v u q.belongings)) ∙ ap (λ j. view ((with_belongings v u q.belongings).belongings j)) (sym f)))
+        | inr ne ↦ ap view (off_belongings v' u q.belongings z ne) ∙ (e ∙ ap view (sym (off_belongings v u q.belongings z ne)))
       ]
 
-      begun : (z : ℕ) → (heap_of k' z).begun ≡ (heap_of k z).begun → ((with_home v' u q.home).homes z).begun ≡ ((with_home v u q.home).homes z).begun
+      begun : (z : ℕ) → (heap_of k' z).begun ≡ (heap_of k z).begun → ((with_belongings v' u q.belongings).belongings z).begun ≡ ((with_belongings v u q.belongings).belongings z).begun
       begun z e = elim (cases_eq z u) [
-        | inl f ↦ ap (λ j. ((with_home v' u q.home).homes j).begun) f ∙ (ap (λ (h : Home). h.begun) (at_home v' u q.home) ∙ (ap (λ (h : Home). h.begun) (sym (at_home v u q.home)) ∙ ap (λ j. ((with_home v u q.home).homes j).begun) (sym f)))
+        | inl f ↦ ap (λ j. ((with_belongings v' u q.belongings).belongings j).begun) f ∙ (ap (λ (h : Belongings). h.begun) (at_belongings v' u q.belongings) ∙ (ap (λ (h : Belongings). h.begun) (sym (at_belongings v u q.belongings)) ∙ ap (λ j. ((with_belongings v u q.belongings).belongings j).begun) (sym f)))
         | inr ne ↦
-            ap (λ (h : Home). h.begun) (off_home v' u q.home z ne)
-            ∙ (C.begun z (ap (λ (h : Heap). h.begun) (sym (N'.heaps z ne)) ∙ (e ∙ ap (λ (h : Heap). h.begun) (N.heaps z ne))) ∙ ap (λ (h : Home). h.begun) (sym (off_home v u q.home z ne)))
+            ap (λ (h : Belongings). h.begun) (off_belongings v' u q.belongings z ne)
+            ∙ (C.begun z (ap (λ (h : Heap). h.begun) (sym (N'.heaps z ne)) ∙ (e ∙ ap (λ (h : Heap). h.begun) (N.heaps z ne))) ∙ ap (λ (h : Belongings). h.begun) (sym (off_belongings v u q.belongings z ne)))
       ]
 
-      home : (z : ℕ) → Rests k' z → HomeStands (with_home v' u q.home) k' z
-      home z r = elim (cases_eq z u) [
+      belongings : (z : ℕ) → Rests k' z → BelongingsStand (with_belongings v' u q.belongings) k' z
+      belongings z r = elim (cases_eq z u) [
         | inl f ↦
             let rests : Rests k u = rested_worker (task_steps p l u q.fresh) u in
-            subst (HomeStands (with_home v' u q.home) k') (sym f)
-            (home_kept (with_home v u q.home) (with_home v' u q.home) k k' u (at_home v' u q.home ∙ sym (at_home v u q.home)) (λ i e. C.owner i u e) (ap or_fresh then_.1.heap)
-            (ap (λ (m : State). length (row_of (slice_get m.store u))) then_.1.machine) (ap (λ (m : State). is_joined (slice_get m.tasks u)) then_.1.machine) (F.stands.homes u rests))
+            subst (BelongingsStand (with_belongings v' u q.belongings) k') (sym f)
+            (belongings_kept (with_belongings v u q.belongings) (with_belongings v' u q.belongings) k k' u (at_belongings v' u q.belongings ∙ sym (at_belongings v u q.belongings)) (λ i e. C.owner i u e) (ap or_fresh then_.1.heap)
+            (ap (λ (m : State). length (row_of (slice_get m.store u))) then_.1.machine) (ap (λ (m : State). is_joined (slice_get m.tasks u)) then_.1.machine) (F.stands.belongings u rests))
         | inr ne ↦
-            home_kept v' (with_home v' u q.home) l' k' z (off_home v' u q.home z ne) (λ i e. e) (N'.heaps z ne) (N'.rows z ne) (N'.tree.joins z) (C.home z (ap (λ (h : Heap). h.worker) (sym (N'.heaps z ne)) ∙ r))
+            belongings_kept v' (with_belongings v' u q.belongings) l' k' z (off_belongings v' u q.belongings z ne) (λ i e. e) (N'.heaps z ne) (N'.rows z ne) (N'.tree.joins z) (C.belongings z (ap (λ (h : Heap). h.worker) (sym (N'.heaps z ne)) ∙ r))
       ]
 
 -- THE RUN ENDS

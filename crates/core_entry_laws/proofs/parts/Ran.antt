@@ -21,8 +21,8 @@ use Rattle.ledger_step_laws.proofs.Ahead.{private_alone, alone_along, steps_alon
 use Rattle.ledger_step_laws.proofs.Along.{steps_limit, steps_end, steps_off, steps_know}
 use Rattle.ledger_step_laws.proofs.Split.{worker_step, steps_worker}
 use Rattle.ledger_step_laws.proofs.Wrote.{is_store, is_swap, is_number}
-use Rattle.core_relation.specs.Memory.{Home, Memory}
-use Rattle.core_relation.specs.Fits.{Part, FitsAt, StillFits, with_home, ahead, part_for}
+use Rattle.core_relation.specs.Memory.{Belongings, Memory}
+use Rattle.core_relation.specs.Fits.{Part, FitsAt, StillFits, with_belongings, ahead, part_for}
 use Rattle.core_relation.specs.Changes.{StoresAt, StoresNumberAt}
 use Rattle.core_relation.specs.Frames.{IsOut, IsSteady, AreOut}
 use Rattle.core_relation.specs.Makes.{Stores, StoresInto, Makes, taken_by}
@@ -35,7 +35,7 @@ use Rattle.run_ledger.specs.Sound.{collecting}
 use Rattle.run_ledger.proofs.Machine.{heap_machine}
 use Rattle.path_laws.proofs.Leaves.{can_going}
 
-module _ (p : ProgramText) (s : SettingsValue) (v v' : Memory) (l l' : Ledger) (t w k : ℕ) (h : Home) (E : Runs p s l l' t w k) (on : l'.machine.end ≡ None) where
+module _ (p : ProgramText) (s : SettingsValue) (v v' : Memory) (l l' : Ledger) (t w k : ℕ) (h : Belongings) (E : Runs p s l l' t w k) (on : l'.machine.end ≡ None) where
   abbrev q : Part
   q = part_for s t h k
 
@@ -80,7 +80,7 @@ module _ (p : ProgramText) (s : SettingsValue) (v v' : Memory) (l l' : Ledger) (
         let same : C.1 ≡ L.0 = same_Some C.1 L.0 (sym C.5 ∙ L.1) in
         let held : (heap_of l' t).worker ≡ Some w = ap (λ (z : Ledger). (heap_of z t).worker) W.goes ∙ E.held in
         leave.stores p s q v v' l l' C.0 w S.task W.name W.object o b L.0 c C.2 C.3 C.4 E.knows E.knows_then F held L.2
-        (subst (λ j. StoresAt (with_home v t h) (with_home v' t C.0) (rested m t) t C.2 C.3 C.4 b j c) same C.6) C.7 r E.task y out left G
+        (subst (λ j. StoresAt (with_belongings v t h) (with_belongings v' t C.0) (rested m t) t C.2 C.3 C.4 b j c) same C.6) C.7 r E.task y out left G
 
     writes : FitsAt p s q v l → (W : WritesOther m l' t S.task S.line) (instr : Instr) → S.line.instr ≡ instr → Stores v v' m t h S.task W.object instr → FitsAt p s r v' l'
     writes F W (Putr o i b) is C = stores F W o i b None (is_store p m l' t S.task S.line E.idle S.at W o i b is) C
@@ -92,7 +92,7 @@ module _ (p : ProgramText) (s : SettingsValue) (v v' : Memory) (l l' : Ledger) (
         let same : C.1 ≡ L.0 = same_Some C.1 L.0 (sym C.5 ∙ L.1) in
         let held : (heap_of l' t).worker ≡ Some w = ap (λ (z : Ledger). (heap_of z t).worker) W.goes ∙ E.held in
         leave.numbers p s q v v' l l' C.0 w S.task W.name W.object o b L.0 C.2 C.3 C.4 E.knows E.knows_then F held L.2
-        (subst (StoresNumberAt (with_home v t h) (with_home v' t C.0) t C.2 C.3 C.4 b) same C.6) C.7 r E.task y out left G
+        (subst (StoresNumberAt (with_belongings v t h) (with_belongings v' t C.0) t C.2 C.3 C.4 b) same C.6) C.7 r E.task y out left G
     writes F W (Set d a) is C = absurd C
     writes F W (Mov d a) is C = absurd C
     writes F W (Movr d a) is C = absurd C
@@ -136,7 +136,7 @@ module _ (p : ProgramText) (s : SettingsValue) (v v' : Memory) (l l' : Ledger) (
 
 -- ALSO WHERE THE RUN ENDS, the machine's end left aside
 
-module _ (p : ProgramText) (s : SettingsValue) (v v' : Memory) (l l' : Ledger) (t w k : ℕ) (h : Home) (E : Runs p s l l' t w k) where
+module _ (p : ProgramText) (s : SettingsValue) (v v' : Memory) (l l' : Ledger) (t w k : ℕ) (h : Belongings) (E : Runs p s l l' t w k) where
   abbrev mk : Ledger
   mk = task_steps p l t k
 

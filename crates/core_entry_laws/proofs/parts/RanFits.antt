@@ -25,23 +25,23 @@ use Rattle.ledger_step_laws.proofs.Private.{private_on}
 use Rattle.ledger_step_laws.proofs.Rested.{rested_sound, rested_view}
 use Rattle.ledger_step_laws.proofs.Split.{steps_go, worker_step}
 use Rattle.ledger_step_laws.proofs.Wrote.{is_store, is_swap, is_number}
-use Rattle.core_relation.specs.Memory.{Home, Memory}
-use Rattle.core_relation.specs.Fits.{Part, FitsAt, part_for, ahead, with_home}
+use Rattle.core_relation.specs.Memory.{Belongings, Memory}
+use Rattle.core_relation.specs.Fits.{Part, FitsAt, part_for, ahead, with_belongings}
 use Rattle.core_relation.specs.Copies.{PartFits}
 use Rattle.core_relation.specs.Changes.{StoresNumberAt}
-use Rattle.core_relation.specs.Makes.{Stores, StoresInto, StoresHome, StepsTo, GoesHome, Makes, taken_by}
+use Rattle.core_relation.specs.Makes.{Stores, StoresInto, BelongingsAfterStore, StepsTo, BelongingsAfter, Makes, taken_by}
 use Rattle.core_relation.specs.Whole.{BegunBy}
 use Rattle.core_relation.specs.Worker.{Fits}
 use Rattle.core_entry_laws.specs.WorkerLaws.{RanFits}
 use Rattle.core_entry_laws.proofs.parts.Handed.{stores_fit, numbers_fit, steps_fit}
 use Rattle.core_entry_laws.proofs.whole.HandedBack.{alive_machine}
-use Rattle.core_entry_laws.proofs.whole.Past.{home_rests}
+use Rattle.core_entry_laws.proofs.whole.Past.{belongings_rests}
 use Rattle.core_entry_laws.proofs.parts.Quiet.{aside_is}
 use Rattle.core_entry_laws.proofs.parts.Ran.{halt_fits}
 use Rattle.core_entry_laws.proofs.whole.RanWhole.{none_collects}
 use Rattle.core_relation.proofs.changes.Takes.{ran_fits}
 use Rattle.core_entry_laws.proofs.whole.Together.{none_begun}
-use Rattle.core_relation.proofs.changes.With.{at_home}
+use Rattle.core_relation.proofs.changes.With.{at_belongings}
 use Rattle.core_entry_laws.proofs.parts.Workers.{part_now}
 
 -- let go of before and after
@@ -66,7 +66,7 @@ both_rested l l' t A = record {
     el : (rested l' t).machine ≡ l'.machine
     el = heap_machine l' t let_go
 
-module _ (p : ProgramText) (s : SettingsValue) (v v' : Memory) (l l' : Ledger) (t w k : ℕ) (h g : Home) (E : Runs p s l l' t w k) where
+module _ (p : ProgramText) (s : SettingsValue) (v v' : Memory) (l l' : Ledger) (t w k : ℕ) (h g : Belongings) (E : Runs p s l l' t w k) where
   abbrev m : Ledger
   m = task_steps p l t k
 
@@ -92,8 +92,8 @@ module _ (p : ProgramText) (s : SettingsValue) (v v' : Memory) (l l' : Ledger) (
   still_then : (heap_of l' t).begun ≡ None
   still_then = ap (λ (z : Ledger). (heap_of z t).begun) (sym last) ∙ still (suc k)
 
-  none_begun_then : (n : Ledger) → (heap_of n t).begun ≡ None → g.begun ≡ None → BegunBy (with_home v' t g) (ahead p (part_for s t g 0) n) t g.begun
-  none_begun_then n e none = none_begun (with_home v' t g) (ahead p (part_for s t g 0) n) t g.begun none (rested_view (λ z. z.begun) (λ z. refl) n t ∙ e)
+  none_begun_then : (n : Ledger) → (heap_of n t).begun ≡ None → g.begun ≡ None → BegunBy (with_belongings v' t g) (ahead p (part_for s t g 0) n) t g.begun
+  none_begun_then n e none = none_begun (with_belongings v' t g) (ahead p (part_for s t g 0) n) t g.begun none (rested_view (λ z. z.begun) (λ z. refl) n t ∙ e)
 
   -- the part after it
   fits : (n : Ledger) → aside l' ≡ n → (y : Task) → slice_get l'.machine.tasks t ≡ Some y → is_running (Some y) ≡ true → (heap_of n t).begun ≡ None → g.begun ≡ None → FitsAt p s (part_for s t g 0) v' n → Fits p s (part_for s t g 0) v' l'
@@ -139,24 +139,24 @@ module _ (p : ProgramText) (s : SettingsValue) (v v' : Memory) (l l' : Ledger) (
         begun_same C.0 (C.6.writes.begun t),
       )
     where
-      begun_same : (j : Home) → ((with_home v' t j).homes t).begun ≡ ((with_home v t h).homes t).begun → j.begun ≡ h.begun
-      begun_same j e = ap (λ (z : Home). z.begun) (sym (at_home v' t j)) ∙ (e ∙ ap (λ (z : Home). z.begun) (at_home v t h))
+      begun_same : (j : Belongings) → ((with_belongings v' t j).belongings t).begun ≡ ((with_belongings v t h).belongings t).begun → j.begun ≡ h.begun
+      begun_same j e = ap (λ (z : Belongings). z.begun) (sym (at_belongings v' t j)) ∙ (e ∙ ap (λ (z : Belongings). z.begun) (at_belongings v t h))
 
-  writes : FitsAt p s q v l → (W : WritesOther m l' t S.task S.line) (instr : Instr) → S.line.instr ≡ instr → (C : Stores v v' m t h S.task W.object instr) → StoresHome v v' m t h S.task W.object instr C g → FitsAt p s (part_for s t g 0) v' l' × (g.begun ≡ h.begun)
+  writes : FitsAt p s q v l → (W : WritesOther m l' t S.task S.line) (instr : Instr) → S.line.instr ≡ instr → (C : Stores v v' m t h S.task W.object instr) → BelongingsAfterStore v v' m t h S.task W.object instr C g → FitsAt p s (part_for s t g 0) v' l' × (g.begun ≡ h.begun)
   writes F W (Putr o i b) is C e =
       let r = stores F W o i b None (is_store p m l' t S.task S.line E.idle S.at W o i b is) C in
-      subst (λ (j : Home). FitsAt p s (part_for s t j 0) v' l' × (j.begun ≡ h.begun)) (sym e) r
+      subst (λ (j : Belongings). FitsAt p s (part_for s t j 0) v' l' × (j.begun ≡ h.begun)) (sym e) r
   writes F W (Cas d o i x b) is C e =
       let L = is_swap p m l' t S.task S.line E.idle S.at W d o i x b is in
       let r = stores F W o i b (Some (d, pos 1)) (L.0, L.1, L.3) C in
-      subst (λ (j : Home). FitsAt p s (part_for s t j 0) v' l' × (j.begun ≡ h.begun)) (sym e) r
+      subst (λ (j : Belongings). FitsAt p s (part_for s t j 0) v' l' × (j.begun ≡ h.begun)) (sym e) r
   writes F W (Puti o i b) is C e =
       let L = is_number p m l' t S.task S.line E.idle S.at W o i b is in
       let same : C.1 ≡ L.0 = same_Some C.1 L.0 (sym C.5 ∙ L.1) in
-      let C' : StoresNumberAt (with_home v t h) (with_home v' t C.0) t C.2 C.3 C.4 b L.0 = subst (StoresNumberAt (with_home v t h) (with_home v' t C.0) t C.2 C.3 C.4 b) same C.6 in
-      subst (λ (j : Home). FitsAt p s (part_for s t j 0) v' l' × (j.begun ≡ h.begun)) (sym e) (
+      let C' : StoresNumberAt (with_belongings v t h) (with_belongings v' t C.0) t C.2 C.3 C.4 b L.0 = subst (StoresNumberAt (with_belongings v t h) (with_belongings v' t C.0) t C.2 C.3 C.4 b) same C.6 in
+      subst (λ (j : Belongings). FitsAt p s (part_for s t j 0) v' l' × (j.begun ≡ h.begun)) (sym e) (
         numbers_fit p s q v v' l l' C.0 w S.task W.name W.object o b L.0 C.2 C.3 C.4 sound F (held _ W.goes) L.2 C' C.7,
-        ap (λ (z : Home). z.begun) (sym (at_home v' t C.0)) ∙ (C.6.writes.begun t ∙ ap (λ (z : Home). z.begun) (at_home v t h)),
+        ap (λ (z : Belongings). z.begun) (sym (at_belongings v' t C.0)) ∙ (C.6.writes.begun t ∙ ap (λ (z : Belongings). z.begun) (at_belongings v t h)),
       )
   writes F W (Set d a) is C e = absurd C
   writes F W (Mov d a) is C e = absurd C
@@ -180,12 +180,12 @@ module _ (p : ProgramText) (s : SettingsValue) (v v' : Memory) (l l' : Ledger) (
 
   -- it had begun none
   own : (j : ℕ) → PartFits p s (part_for s t h j) v l → h.begun ≡ None
-  own j F = home_rests (with_home v t h) (ahead p (part_for s t h j) l) t h.begun F.begun (rested_view (λ z. z.begun) (λ z. refl) (task_steps p l t j) t ∙ still j)
+  own j F = belongings_rests (with_belongings v t h) (ahead p (part_for s t h j) l) t h.begun F.begun (rested_view (λ z. z.begun) (λ z. refl) (task_steps p l t j) t ∙ still j)
 
   runs_now : is_running (Some S.task) ≡ true
   runs_now = ap runs S.at.runs
 
-  by : (kind : LastKind) (K : IsOfKind p m l' t S.task S.line kind) → (GoesOn kind → l'.machine.end ≡ None) → PartFits p s (part_for s t h (taken_by kind k)) v l → (C : Makes p v v' m l' t h S.task S.line kind K) → GoesHome p v v' m l' t h S.task S.line kind K C g → Fits p s (part_for s t g 0) v' l'
+  by : (kind : LastKind) (K : IsOfKind p m l' t S.task S.line kind) → (GoesOn kind → l'.machine.end ≡ None) → PartFits p s (part_for s t h (taken_by kind k)) v l → (C : Makes p v v' m l' t h S.task S.line kind K) → BelongingsAfter p v v' m l' t h S.task S.line kind K C g → Fits p s (part_for s t g 0) v' l'
   by Private K on F C G =
       let go = steps_go p s t k l E.task E.knows E.collects E.at E.runs E.can S.private in
       let x = private_on p m.machine t S.task go.3 S.at.task K in
@@ -193,8 +193,8 @@ module _ (p : ProgramText) (s : SettingsValue) (v v' : Memory) (l l' : Ledger) (
       ap (λ (z : State). slice_get z.tasks t) (ap (λ (z : Ledger). z.machine) S.after ∙ (task_step_machine p m t ∙ x.is)) ∙ got_same m.machine.tasks t S.task x.task S.at.task in
       let out : (heap_of (task_steps p l t (suc k)) t).worker ≡ Some w = ap (λ (z : Ledger). (heap_of z t).worker) (steps_last p l t k) ∙ (worker_step p s t m K ∙ E.held) in
       let V : FitsAt p s (part_for s t h 0) v l' = subst (FitsAt p s (part_for s t h 0) v) last (ran_fits p s (part_for s t h (suc k)) v l w F.fits out) in
-      goes (on tt) x.task is (ap runs (x.status ∙ S.at.runs)) (ap (λ (z : Home). z.begun) G ∙ own (suc k) F)
-      (subst (λ (z : Memory). FitsAt p s (part_for s t g 0) z l') (sym C) (subst (λ (j : Home). FitsAt p s (part_for s t j 0) v l') (sym G) V))
+      goes (on tt) x.task is (ap runs (x.status ∙ S.at.runs)) (ap (λ (z : Belongings). z.begun) G ∙ own (suc k) F)
+      (subst (λ (z : Memory). FitsAt p s (part_for s t g 0) z l') (sym C) (subst (λ (j : Belongings). FitsAt p s (part_for s t j 0) v l') (sym G) V))
   by Reading K on F C G =
       goes (on tt) (record S.task { top = K.frame }) (set_task (record S.task { top = K.frame }) _ K.goes refl) runs_now (G.2 ∙ own k F) (steps F.fits C _ K.goes K.alone G)
   by Writing K on F C G =
@@ -207,8 +207,8 @@ module _ (p : ProgramText) (s : SettingsValue) (v v' : Memory) (l l' : Ledger) (
   by Joining K on F C G = absurd G
   by Finishing K on F C G = absurd G
   by Halting K on F C G =
-      fits (aside l') refl S.task (ap (λ (z : State). slice_get z.tasks t) K.machine ∙ S.at.task) runs_now (ap (λ hs. (or_fresh (slice_get hs t)).begun) K.heaps ∙ still k) (ap (λ (z : Home). z.begun) G ∙ own k F)
-      (subst (λ (z : Memory). FitsAt p s (part_for s t g 0) z (aside l')) (sym C) (subst (λ (j : Home). FitsAt p s (part_for s t j 0) v (aside l')) (sym G) (halt_fits p s v v l l' t w k h E F.fits K)))
+      fits (aside l') refl S.task (ap (λ (z : State). slice_get z.tasks t) K.machine ∙ S.at.task) runs_now (ap (λ hs. (or_fresh (slice_get hs t)).begun) K.heaps ∙ still k) (ap (λ (z : Belongings). z.begun) G ∙ own k F)
+      (subst (λ (z : Memory). FitsAt p s (part_for s t g 0) z (aside l')) (sym C) (subst (λ (j : Belongings). FitsAt p s (part_for s t j 0) v (aside l')) (sym G) (halt_fits p s v v l l' t w k h E F.fits K)))
 
 pub ran_fits_then : RanFits
 ran_fits_then p s v v' l l' t w k h g E Q C G =

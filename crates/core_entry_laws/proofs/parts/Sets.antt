@@ -23,13 +23,13 @@ use Rattle.ledger_step_laws.specs.Last.{stepped_by}
 use Rattle.ledger_step_laws.proofs.Ahead.{with_off}
 use Rattle.ledger_step_laws.proofs.Last.{rest_heaps}
 use Rattle.ledger_step_laws.proofs.Rested.{rested_worker, rested_sound}
-use Rattle.core_relation.specs.Memory.{Home, Memory, In, object_name, objects, objects_in, Lies}
+use Rattle.core_relation.specs.Memory.{Belongings, Memory, In, object_name, objects, objects_in, Lies}
 use Rattle.core_relation.specs.Reads.{IsRead, FrameIsRead, FramesAreRead, HoldsRead, TaskIsRead}
 use Rattle.core_relation.specs.Stands.{Place}
-use Rattle.core_relation.specs.Fits.{FitsAt, with_home, part_for}
-use Rattle.core_relation.specs.Changes.{StepsAtHome, gone_on}
+use Rattle.core_relation.specs.Fits.{FitsAt, with_belongings, part_for}
+use Rattle.core_relation.specs.Changes.{StepsInBelongings, gone_on}
 use Rattle.core_relation.proofs.objects.Carry.{object_kept, task_kept}
-use Rattle.core_relation.proofs.changes.Finish.{home_alike}
+use Rattle.core_relation.proofs.changes.Finish.{belongings_alike}
 use Rattle.core_entry_laws.proofs.whole.HandedBack.{alive_machine}
 use Rattle.core_entry_laws.proofs.parts.Workers.{part_now}
 use Rattle.core_relation.specs.Makes.{StepsTo}
@@ -40,23 +40,23 @@ use Rattle.task_frames.specs.declared.frames.Frame.{Frame}
 use Rattle.ledger_step_laws.proofs.Along.{steps_know}
 use Rattle.core_relation.proofs.changes.Own.{place_own}
 use Rattle.core_relation.proofs.changes.Store.{goes_on}
-use Rattle.core_relation.proofs.changes.With.{at_home, off_home}
+use Rattle.core_relation.proofs.changes.With.{at_belongings, off_belongings}
 
-module _ (p : ProgramText) (s : SettingsValue) (t k : ℕ) (h : Home) (v : Memory) (l l' : Ledger) (w : ℕ) (x : Task) (top : ModelFrame) (outs : List ℤ) (f gone : Frame) (fs : List Frame) (S : SoundLedger (task_steps p l t k)) (S' : SoundLedger l')
+module _ (p : ProgramText) (s : SettingsValue) (t k : ℕ) (h : Belongings) (v : Memory) (l l' : Ledger) (w : ℕ) (x : Task) (top : ModelFrame) (outs : List ℤ) (f gone : Frame) (fs : List Frame) (S : SoundLedger (task_steps p l t k)) (S' : SoundLedger l')
     (F : FitsAt p s (part_for s t h k) v l) (held : (heap_of (task_steps p l t k) t).worker ≡ Some w) (is : slice_get (task_steps p l t k).machine.tasks t ≡ Some x) (runs : x.status ≡ Running) (A : StepsAlone (task_steps p l t k) l' t)
     (goes : l' ≡ stepped_by (task_steps p l t k) (record (task_steps p l t k).machine { tasks = slice_set (task_steps p l t k).machine.tasks t (record x { top = top }); outputs = outs })) (frames : h.frames ≡ f ∷ fs)
-    (reads : FrameIsRead (Place (with_home v t h) (rested (task_steps p l t k) t)) f x.top → FrameIsRead (Place (with_home v t h) (rested (task_steps p l t k) t)) gone top) where
+    (reads : FrameIsRead (Place (with_belongings v t h) (rested (task_steps p l t k) t)) f x.top → FrameIsRead (Place (with_belongings v t h) (rested (task_steps p l t k) t)) gone top) where
   abbrev m : Ledger
   m = task_steps p l t k
 
-  abbrev g : Home
+  abbrev g : Belongings
   g = record h { frames = gone ∷ fs }
 
   abbrev vt : Memory
-  vt = with_home v t h
+  vt = with_belongings v t h
 
   abbrev vt' : Memory
-  vt' = with_home v t g
+  vt' = with_belongings v t g
 
   abbrev lt : Ledger
   lt = rested m t
@@ -106,16 +106,16 @@ module _ (p : ProgramText) (s : SettingsValue) (t k : ℕ) (h : Home) (v : Memor
   idle : is_waiting (slice_get lt.machine.tasks t) ≡ false
   idle = ap is_waiting at_lt ∙ ap (λ st. is_waiting (Some (record x { status = st }))) runs
 
-  -- a view of the home that its frames don't change
-  seen : {B : Type 0} (view : Home → B) → view g ≡ view h → view (vt'.homes t) ≡ view (vt.homes t)
-  seen view e = ap view (at_home v t g) ∙ (e ∙ sym (ap view (at_home v t h)))
+  -- a view of the belongings that its frames don't change
+  seen : {B : Type 0} (view : Belongings → B) → view g ≡ view h → view (vt'.belongings t) ≡ view (vt.belongings t)
+  seen view e = ap view (at_belongings v t g) ∙ (e ∙ sym (ap view (at_belongings v t h)))
 
-  chunks_same : (vt'.homes t).chunks ≡ (vt.homes t).chunks
+  chunks_same : (vt'.belongings t).chunks ≡ (vt.belongings t).chunks
   chunks_same = seen (λ z. z.chunks) refl
 
-  at_step : StepsAtHome vt vt' t
+  at_step : StepsInBelongings vt vt' t
   at_step = record {
-    others = λ u ne. off_home v t g u ne ∙ sym (off_home v t h u ne);
+    others = λ u ne. off_belongings v t g u ne ∙ sym (off_belongings v t h u ne);
     owner = λ n. refl;
     sources = λ u. refl;
     view = seen (λ z. z.view) refl;
@@ -132,12 +132,12 @@ module _ (p : ProgramText) (s : SettingsValue) (t k : ℕ) (h : Home) (v : Memor
   at_lt' = ap (λ (z : State). slice_get z.tasks t) el ∙ (ap (λ (z : Ledger). slice_get z.machine.tasks t) goes ∙ got_same m.machine.tasks t x z' is)
 
   read_then : FramesAreRead (Place vt lt) (f ∷ fs) (x.top ∷ x.below)
-  read_then = subst (λ gs. FramesAreRead (Place vt lt) gs (x.top ∷ x.below)) (ap (λ (z : Home). z.frames) (at_home v t h) ∙ frames) (subst (HoldsRead (Place vt lt) (vt.homes t) x) runs (F.stands.tasks t x rests at_lt))
+  read_then = subst (λ gs. FramesAreRead (Place vt lt) gs (x.top ∷ x.below)) (ap (λ (z : Belongings). z.frames) (at_belongings v t h) ∙ frames) (subst (HoldsRead (Place vt lt) (vt.belongings t) x) runs (F.stands.tasks t x rests at_lt))
 
-  read_now : TaskIsRead (Place vt lt) (vt'.homes t) z'
+  read_now : TaskIsRead (Place vt lt) (vt'.belongings t) z'
   read_now =
-      subst (HoldsRead (Place vt lt) (vt'.homes t) z') (sym runs)
-      (subst (λ gs. FramesAreRead (Place vt lt) gs (top ∷ x.below)) (sym (ap (λ (z : Home). z.frames) (at_home v t g))) (reads read_then.0, read_then.1))
+      subst (HoldsRead (Place vt lt) (vt'.belongings t) z') (sym runs)
+      (subst (λ gs. FramesAreRead (Place vt lt) gs (top ∷ x.below)) (sym (ap (λ (z : Belongings). z.frames) (at_belongings v t g))) (reads read_then.0, read_then.1))
 
   content : (o : Located) → In (objects vt' t) o → (y : Object) × (object_at lt'.machine.store (object_name o) ≡ Some y) × IsRead (Place vt' lt') o y
   content o i =
@@ -148,9 +148,9 @@ module _ (p : ProgramText) (s : SettingsValue) (t k : ℕ) (h : Home) (v : Memor
   frames_step = (
     at_step,
     record {
-      home = home_alike vt vt' lt lt' t chunks_same (seen (λ z. z.room) refl) (seen (λ z. z.since) refl) (seen (λ z. z.count) refl) (λ n e. e) heap_same row_same (alone.tree.joins t) (F.stands.homes t rests);
+      belongings = belongings_alike vt vt' lt lt' t chunks_same (seen (λ z. z.room) refl) (seen (λ z. z.since) refl) (seen (λ z. z.count) refl) (λ n e. e) heap_same row_same (alone.tree.joins t) (F.stands.belongings t rests);
       contents = content;
-      task = λ y e. subst (λ (z : Task). TaskIsRead (Place vt' lt') (vt'.homes t) z) (same_Some z' y (sym at_lt' ∙ e)) (task_kept (Place vt lt) (Place vt' lt') (vt'.homes t) z' (λ n j. place n) read_now);
+      task = λ y e. subst (λ (z : Task). TaskIsRead (Place vt' lt') (vt'.belongings t) z) (same_Some z' y (sym at_lt' ∙ e)) (task_kept (Place vt lt) (Place vt' lt') (vt'.belongings t) z' (λ n j. place n) read_now);
     },
     refl,
   )

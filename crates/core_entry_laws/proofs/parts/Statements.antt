@@ -16,10 +16,10 @@ use Rattle.run_ledger.specs.Heaps.{heap_of, with_heap, collected}
 use Rattle.run_ledger.specs.Sound.{SoundLedger}
 use Rattle.task_frames.specs.declared.frames.Frame.{Frame}
 use Rattle.core_relation.specs.Stands.{Stands}
-use Rattle.core_relation.specs.Memory.{Home, Memory}
+use Rattle.core_relation.specs.Memory.{Belongings, Memory}
 use Rattle.ledger_step_laws.specs.Accounts.{Rests, rested, StepsAlone, Takes, SameTasks, Knows, Leaves}
-use Rattle.core_relation.specs.Fits.{Part, FitsAt, with_home, ahead, part_for}
-use Rattle.core_relation.specs.Changes.{SameBut, SameObjects, JoinsHomes, ForksHome, StoresAt, StepsAtHome, HomeIsRead, HasResult, EndsHome, StoresNumberAt}
+use Rattle.core_relation.specs.Fits.{Part, FitsAt, with_belongings, ahead, part_for}
+use Rattle.core_relation.specs.Changes.{SameBut, SameObjects, JoinsBelongings, ForksBelongings, StoresAt, StepsInBelongings, BelongingsAreRead, HasResult, EndsBelongings, StoresNumberAt}
 use Rattle.task_frames.specs.FramesValue.{ref_of}
 use Rattle.ledger_step_laws.specs.Kinds.{JoinsTasks, CanJoin, ForksTask, StoresOne, EndsTask, StoresNumber}
 use Rattle.core_relation.specs.Frames.{IsSteady, IsOut, AreOut}
@@ -27,33 +27,33 @@ use Rattle.core_relation.specs.Frames.{IsSteady, IsOut, AreOut}
 abbrev pub ForksLeaveFitting : Type 0
 ForksLeaveFitting =
     (p : ProgramText) (s : SettingsValue) (q : Part) (v v' : Memory) (l l' : Ledger) (a b f i : ℕ) (z : Task) → Knows l → Knows l' → FitsAt p s q v l
-    → z.status ≡ Running → ForksTask (ahead p q l) l' q.task a b f i z → ForksHome (with_home v q.task q.home) v' q.task a b f i
+    → z.status ≡ Running → ForksTask (ahead p q l) l' q.task a b f i z → ForksBelongings (with_belongings v q.task q.belongings) v' q.task a b f i
     → (r : Part) (x y : Task) → AreOut l q r x y → Leaves r.task (ahead p q l) l' → FitsAt p s r v l → FitsAt p s r v' l'
 
 abbrev pub JoinsLeaveFitting : Type 0
 JoinsLeaveFitting =
     (p : ProgramText) (s : SettingsValue) (q : Part) (v v' : Memory) (l l' : Ledger) (j c d : ℕ) (z : Task) (rl rr : ℤ × Option Name) (al ar : ℤ × Option Addr) → Knows l → Knows l' → FitsAt p s q v l
-    → JoinsTasks (ahead p q l) l' j c d z rl rr → CanJoin (ahead p q l) j c d z → JoinsHomes (with_home v q.task q.home) v' j c d al ar
-    → HasResult (with_home v q.task q.home) (ahead p q l) c rl al → HasResult (with_home v q.task q.home) (ahead p q l) d rr ar
+    → JoinsTasks (ahead p q l) l' j c d z rl rr → CanJoin (ahead p q l) j c d z → JoinsBelongings (with_belongings v q.task q.belongings) v' j c d al ar
+    → HasResult (with_belongings v q.task q.belongings) (ahead p q l) c rl al → HasResult (with_belongings v q.task q.belongings) (ahead p q l) d rr ar
     → (r : Part) (x y : Task) → AreOut l q r x y → Leaves r.task (ahead p q l) l' → FitsAt p s r v l → FitsAt p s r v' l'
 
 abbrev pub FinishesLeaveFitting : Type 0
 FinishesLeaveFitting =
     (p : ProgramText) (s : SettingsValue) (q : Part) (v v' : Memory) (l l' : Ledger) (z : Task) (f : Frame) (fs : List Frame) → Knows l → Knows l' → FitsAt p s q v l
-    → EndsTask (ahead p q l) l' q.task z → EndsHome (with_home v q.task q.home) v' q.task f fs
+    → EndsTask (ahead p q l) l' q.task z → EndsBelongings (with_belongings v q.task q.belongings) v' q.task f fs
     → (r : Part) (x y : Task) → AreOut l q r x y → Leaves r.task (ahead p q l) l' → FitsAt p s r v l → FitsAt p s r v' l'
 
--- after a store its worker holds the task still, with the home g
+-- after a store its worker holds the task still, with the belongings g
 abbrev pub StoresLeaveFitting : Type 0
 StoresLeaveFitting =
-    (p : ProgramText) (s : SettingsValue) (q : Part) (v v' : Memory) (l l' : Ledger) (g : Home) (w : ℕ) (z : Task) (n : Name) (o : Object) (ro rv i : ℕ) (c : Option (ℕ × ℤ)) (f : Frame) (fs : List Frame) (a : Addr) → Knows l → Knows l' → FitsAt p s q v l
-    → (heap_of l' q.task).worker ≡ Some w → StoresOne (ahead p q l) (rested l' q.task) q.task z n o ro rv i c → StoresAt (with_home v q.task q.home) (with_home v' q.task g) (ahead p q l) q.task f fs a rv i c → ref_of f ro ≡ Some a
+    (p : ProgramText) (s : SettingsValue) (q : Part) (v v' : Memory) (l l' : Ledger) (g : Belongings) (w : ℕ) (z : Task) (n : Name) (o : Object) (ro rv i : ℕ) (c : Option (ℕ × ℤ)) (f : Frame) (fs : List Frame) (a : Addr) → Knows l → Knows l' → FitsAt p s q v l
+    → (heap_of l' q.task).worker ≡ Some w → StoresOne (ahead p q l) (rested l' q.task) q.task z n o ro rv i c → StoresAt (with_belongings v q.task q.belongings) (with_belongings v' q.task g) (ahead p q l) q.task f fs a rv i c → ref_of f ro ≡ Some a
     → (r : Part) (x y : Task) → AreOut l q r x y → Leaves r.task (ahead p q l) l' → FitsAt p s r v l → FitsAt p s r v' l'
 
 abbrev pub NumbersLeaveFitting : Type 0
 NumbersLeaveFitting =
-    (p : ProgramText) (s : SettingsValue) (q : Part) (v v' : Memory) (l l' : Ledger) (g : Home) (w : ℕ) (z : Task) (n : Name) (o : Object) (ro rv i : ℕ) (f : Frame) (fs : List Frame) (a : Addr) → Knows l → Knows l' → FitsAt p s q v l
-    → (heap_of l' q.task).worker ≡ Some w → StoresNumber (ahead p q l) (rested l' q.task) q.task z n o ro rv i → StoresNumberAt (with_home v q.task q.home) (with_home v' q.task g) q.task f fs a rv i → ref_of f ro ≡ Some a
+    (p : ProgramText) (s : SettingsValue) (q : Part) (v v' : Memory) (l l' : Ledger) (g : Belongings) (w : ℕ) (z : Task) (n : Name) (o : Object) (ro rv i : ℕ) (f : Frame) (fs : List Frame) (a : Addr) → Knows l → Knows l' → FitsAt p s q v l
+    → (heap_of l' q.task).worker ≡ Some w → StoresNumber (ahead p q l) (rested l' q.task) q.task z n o ro rv i → StoresNumberAt (with_belongings v q.task q.belongings) (with_belongings v' q.task g) q.task f fs a rv i → ref_of f ro ≡ Some a
     → (r : Part) (x y : Task) → AreOut l q r x y → Leaves r.task (ahead p q l) l' → FitsAt p s r v l → FitsAt p s r v' l'
 
 abbrev pub TakingsLeaveFitting : Type 0
@@ -69,38 +69,38 @@ QuietLeavesFitting =
 
 abbrev pub StoresFit : Type 0
 StoresFit =
-    (p : ProgramText) (s : SettingsValue) (q : Part) (v v' : Memory) (l l' : Ledger) (g : Home) (w : ℕ) (z : Task) (n : Name) (o : Object) (ro rv i : ℕ) (c : Option (ℕ × ℤ)) (f : Frame) (fs : List Frame) (a : Addr) → SoundLedger (ahead p q l) → FitsAt p s q v l
-    → (heap_of l' q.task).worker ≡ Some w → StoresOne (ahead p q l) (rested l' q.task) q.task z n o ro rv i c → StoresAt (with_home v q.task q.home) (with_home v' q.task g) (ahead p q l) q.task f fs a rv i c → ref_of f ro ≡ Some a
+    (p : ProgramText) (s : SettingsValue) (q : Part) (v v' : Memory) (l l' : Ledger) (g : Belongings) (w : ℕ) (z : Task) (n : Name) (o : Object) (ro rv i : ℕ) (c : Option (ℕ × ℤ)) (f : Frame) (fs : List Frame) (a : Addr) → SoundLedger (ahead p q l) → FitsAt p s q v l
+    → (heap_of l' q.task).worker ≡ Some w → StoresOne (ahead p q l) (rested l' q.task) q.task z n o ro rv i c → StoresAt (with_belongings v q.task q.belongings) (with_belongings v' q.task g) (ahead p q l) q.task f fs a rv i c → ref_of f ro ≡ Some a
     → FitsAt p s (part_for s q.task g 0) v' l'
 
 abbrev pub NumbersFit : Type 0
 NumbersFit =
-    (p : ProgramText) (s : SettingsValue) (q : Part) (v v' : Memory) (l l' : Ledger) (g : Home) (w : ℕ) (z : Task) (n : Name) (o : Object) (ro rv i : ℕ) (f : Frame) (fs : List Frame) (a : Addr) → SoundLedger (ahead p q l) → FitsAt p s q v l
-    → (heap_of l' q.task).worker ≡ Some w → StoresNumber (ahead p q l) (rested l' q.task) q.task z n o ro rv i → StoresNumberAt (with_home v q.task q.home) (with_home v' q.task g) q.task f fs a rv i → ref_of f ro ≡ Some a
+    (p : ProgramText) (s : SettingsValue) (q : Part) (v v' : Memory) (l l' : Ledger) (g : Belongings) (w : ℕ) (z : Task) (n : Name) (o : Object) (ro rv i : ℕ) (f : Frame) (fs : List Frame) (a : Addr) → SoundLedger (ahead p q l) → FitsAt p s q v l
+    → (heap_of l' q.task).worker ≡ Some w → StoresNumber (ahead p q l) (rested l' q.task) q.task z n o ro rv i → StoresNumberAt (with_belongings v q.task q.belongings) (with_belongings v' q.task g) q.task f fs a rv i → ref_of f ro ≡ Some a
     → FitsAt p s (part_for s q.task g 0) v' l'
 
 abbrev pub QuietFitsAt : Type 0
 QuietFitsAt =
-    (p : ProgramText) (s : SettingsValue) (t : ℕ) (h g : Home) (v v' : Memory) (l l' : Ledger) → SameTasks l l' → SameObjects (with_home v t h) (with_home v' t g) (rested l t) (rested l' t)
+    (p : ProgramText) (s : SettingsValue) (t : ℕ) (h g : Belongings) (v v' : Memory) (l l' : Ledger) → SameTasks l l' → SameObjects (with_belongings v t h) (with_belongings v' t g) (rested l t) (rested l' t)
     → FitsAt p s (part_for s t h 0) v l → FitsAt p s (part_for s t g 0) v' l'
 
--- a read of another task's object, an output: its own home is read as it should be
+-- a read of another task's object, an output: its own belongings are read as they should be
 abbrev pub StepsFit : Type 0
 StepsFit =
-    (p : ProgramText) (s : SettingsValue) (q : Part) (v v' : Memory) (l l' : Ledger) (g : Home) (w : ℕ) → SoundLedger (ahead p q l) → SoundLedger (rested l' q.task) → FitsAt p s q v l → (heap_of l' q.task).worker ≡ Some w
-    → StepsAlone (ahead p q l) (rested l' q.task) q.task → is_waiting (slice_get (ahead p q l).machine.tasks q.task) ≡ false → StepsAtHome (with_home v q.task q.home) (with_home v' q.task g) q.task → HomeIsRead (with_home v' q.task g) (rested l' q.task) q.task
+    (p : ProgramText) (s : SettingsValue) (q : Part) (v v' : Memory) (l l' : Ledger) (g : Belongings) (w : ℕ) → SoundLedger (ahead p q l) → SoundLedger (rested l' q.task) → FitsAt p s q v l → (heap_of l' q.task).worker ≡ Some w
+    → StepsAlone (ahead p q l) (rested l' q.task) q.task → is_waiting (slice_get (ahead p q l).machine.tasks q.task) ≡ false → StepsInBelongings (with_belongings v q.task q.belongings) (with_belongings v' q.task g) q.task → BelongingsAreRead (with_belongings v' q.task g) (rested l' q.task) q.task
     → FitsAt p s (part_for s q.task g 0) v' l'
 
 -- the end of a copy's collection, for others
 abbrev pub CopiesLeave : Type 0
 CopiesLeave =
-    (p : ProgramText) (s : SettingsValue) (t : ℕ) (h h' : Home) (f : Addr → Addr) (v v' : Memory) (l : Ledger) (x : Task) (hs : Heap) → Knows l → Knows (with_heap l t (collected l.machine)) → slice_get l.machine.tasks t ≡ Some x → x.status ≡ Running → slice_get l.heaps t ≡ Some hs
+    (p : ProgramText) (s : SettingsValue) (t : ℕ) (h h' : Belongings) (f : Addr → Addr) (v v' : Memory) (l : Ledger) (x : Task) (hs : Heap) → Knows l → Knows (with_heap l t (collected l.machine)) → slice_get l.machine.tasks t ≡ Some x → x.status ≡ Running → slice_get l.heaps t ≡ Some hs
     → CopyFits p s t h h' f v l → EndsAt v v' t h' f → (r : Part) (y : Task) → IsOut l r y → (t ≡ r.task → ⊥) → FitsAt p s r v l → FitsAt p s r v' (with_heap l t (collected l.machine))
 
 abbrev pub NotesAhead : Type 0
 NotesAhead =
-    (p : ProgramText) (s : SettingsValue) (q : Part) (v : Memory) (l : Ledger) (x : Task) → Knows l → FitsAt p s q v l → IsOut l q x → AllNoted v l → AllNoted (with_home v q.task q.home) (ahead p q l)
+    (p : ProgramText) (s : SettingsValue) (q : Part) (v : Memory) (l : Ledger) (x : Task) → Knows l → FitsAt p s q v l → IsOut l q x → AllNoted v l → AllNoted (with_belongings v q.task q.belongings) (ahead p q l)
 
 abbrev pub NotesBack : Type 0
 NotesBack =
-    (t : ℕ) (g : Home) (v : Memory) (l : Ledger) → is_waiting (slice_get l.machine.tasks t) ≡ false → Stands (with_home v t g) (rested l t) → AllNoted (with_home v t g) (rested l t) → AllNoted v l
+    (t : ℕ) (g : Belongings) (v : Memory) (l : Ledger) → is_waiting (slice_get l.machine.tasks t) ≡ false → Stands (with_belongings v t g) (rested l t) → AllNoted (with_belongings v t g) (rested l t) → AllNoted v l

@@ -1,4 +1,4 @@
--- The home of a task that a worker takes fits.
+-- The belongings of a task that a worker takes fit.
 use Rattle.std.proofs.Common.{length, ◌≡◌, ℕ, Some, None, is_none, slice_get, inl, inr, refl, ap, sym, subst, ◌∙◌}
 use Rattle.std.proofs.lemmas.Bool.{and_parts, cases_eq}
 use Rattle.listed.proofs.Options.{none_is, none_of}
@@ -19,30 +19,30 @@ use Rattle.ledger_step_laws.proofs.Ahead.{heap_then, with_at}
 use Rattle.ledger_step_laws.proofs.Entries.{took_takes}
 use Rattle.ledger_step_laws.proofs.Rested.{rested_view}
 use Rattle.ledger_step_laws.proofs.Split.{legal_alive}
-use Rattle.core_relation.specs.Memory.{Home, Memory, objects_in}
-use Rattle.core_relation.specs.Fits.{Part, FitsAt, part_for, ahead, with_home}
+use Rattle.core_relation.specs.Memory.{Belongings, Memory, objects_in}
+use Rattle.core_relation.specs.Fits.{Part, FitsAt, part_for, ahead, with_belongings}
 use Rattle.core_relation.specs.Changes.{SameBut}
 use Rattle.core_relation.specs.Copies.{PartFits}
 use Rattle.core_relation.specs.Whole.{StandsFor}
 use Rattle.core_entry_laws.proofs.whole.HandedBack.{handed_on}
 use Rattle.core_entry_laws.specs.WorkerLaws.{TookFits}
-use Rattle.core_relation.proofs.changes.Alone.{home_kept}
-use Rattle.core_entry_laws.proofs.whole.Past.{home_rests, legal_rests, running_idle}
+use Rattle.core_relation.proofs.changes.Alone.{belongings_kept}
+use Rattle.core_entry_laws.proofs.whole.Past.{belongings_rests, legal_rests, running_idle}
 use Rattle.core_entry_laws.proofs.parts.Quiet.{aside_is}
 use Rattle.core_relation.proofs.changes.Renew.{renewed}
 use Rattle.core_relation.proofs.changes.Takes.{took_fits}
 use Rattle.core_entry_laws.proofs.whole.Together.{none_begun}
-use Rattle.core_relation.proofs.changes.With.{at_home, off_home}
+use Rattle.core_relation.proofs.changes.With.{at_belongings, off_belongings}
 
 -- what the memory has in the part's place doesn't matter
 module _ (p : ProgramText) (s : SettingsValue) (q : Part) (v v' : Memory) (l : Ledger) (C : SameBut v v' q.task) (F : FitsAt p s q v l) where
   abbrev k : Ledger
   k = ahead p q l
 
-  same : (u : ℕ) → (with_home v' q.task q.home).homes u ≡ (with_home v q.task q.home).homes u
+  same : (u : ℕ) → (with_belongings v' q.task q.belongings).belongings u ≡ (with_belongings v q.task q.belongings).belongings u
   same u = elim (cases_eq u q.task) [
-    | inl e ↦ ap (with_home v' q.task q.home).homes e ∙ (at_home v' q.task q.home ∙ (sym (at_home v q.task q.home) ∙ ap (with_home v q.task q.home).homes (sym e)))
-    | inr ne ↦ off_home v' q.task q.home u ne ∙ (C.homes u ne ∙ sym (off_home v q.task q.home u ne))
+    | inl e ↦ ap (with_belongings v' q.task q.belongings).belongings e ∙ (at_belongings v' q.task q.belongings ∙ (sym (at_belongings v q.task q.belongings) ∙ ap (with_belongings v q.task q.belongings).belongings (sym e)))
+    | inr ne ↦ off_belongings v' q.task q.belongings u ne ∙ (C.belongings u ne ∙ sym (off_belongings v q.task q.belongings u ne))
   ]
 
   pub fits_beside : FitsAt p s q v' l
@@ -51,17 +51,17 @@ module _ (p : ProgramText) (s : SettingsValue) (q : Part) (v v' : Memory) (l : L
     out = F.out;
     few = F.few;
     private = F.private;
-    stands = renewed (with_home v q.task q.home) (with_home v' q.task q.home) k k F.stands (record { machine = refl; worker = λ u. refl; snapshot = λ u. refl })
+    stands = renewed (with_belongings v q.task q.belongings) (with_belongings v' q.task q.belongings) k k F.stands (record { machine = refl; worker = λ u. refl; snapshot = λ u. refl })
         (record {
-          home = λ u r. home_kept (with_home v q.task q.home) (with_home v' q.task q.home) k k u (same u) (λ i e. C.owner i ∙ e) refl refl refl (F.stands.homes u r);
-          objects = λ u. ap (λ (z : Home). objects_in z.chunks) (same u);
-          chunks = λ u e. ap (λ (z : Home). length z.chunks) (same u);
-          frames = λ u. ap (λ (z : Home). z.frames) (same u);
-          result = λ u. ap (λ (z : Home). z.result) (same u);
-          view = λ u. ap (λ (z : Home). z.view) (same u);
+          belongings = λ u r. belongings_kept (with_belongings v q.task q.belongings) (with_belongings v' q.task q.belongings) k k u (same u) (λ i e. C.owner i ∙ e) refl refl refl (F.stands.belongings u r);
+          objects = λ u. ap (λ (z : Belongings). objects_in z.chunks) (same u);
+          chunks = λ u e. ap (λ (z : Belongings). length z.chunks) (same u);
+          frames = λ u. ap (λ (z : Belongings). z.frames) (same u);
+          result = λ u. ap (λ (z : Belongings). z.result) (same u);
+          view = λ u. ap (λ (z : Belongings). z.view) (same u);
           owner = λ i u e. C.owner i ∙ e;
           taken = λ i u e. inl (sym (C.owner i) ∙ e);
-          begun = λ u e. ap (λ (z : Home). z.begun) (same u);
+          begun = λ u e. ap (λ (z : Belongings). z.begun) (same u);
           sources = C.sources;
         });
   }
@@ -71,7 +71,7 @@ took_fits_then p s journal legal v v' c w t accepted handed C =
     let e : EntryValue = record { worker = w; kind = Took t } in
     let l : Ledger = ledger_of p s journal in
     let l' : Ledger = after p s l e in
-    let q : Part = part_for s t (v.homes t) 0 in
+    let q : Part = part_for s t (v.belongings t) 0 in
     let W : StandsFor v c l = subst (StandsFor v c) (handed_on l (none_of l.end (entry_tells p s l e (ap is_none accepted)).0)) handed in
     let ready = (none_unless (is_ready l t) _ _ (entry_tells p s l e (ap is_none accepted)).2).0 in
     let both = and_parts (is_running (slice_get l.machine.tasks t)) _ ready in
@@ -81,8 +81,8 @@ took_fits_then p s journal legal v v' c w t accepted handed C =
     let L = took_takes l t w g.0 g.1 in
     let on : l'.machine.end ≡ None = ap (λ (z : State). z.end) L.machine ∙ legal_alive p s journal legal (none_of l.end (entry_tells p s l e (ap is_none accepted)).0) in
     let none = legal_rests p s journal legal t rests in
-    let own : (v.homes t).begun ≡ None = home_rests v l t (v.homes t).begun (W.begun t rests) none in
+    let own : (v.belongings t).begun ≡ None = belongings_rests v l t (v.belongings t).begun (W.begun t rests) none in
     let heap : (heap_of l' t).begun ≡ None = ap (λ o. (or_fresh o).begun) (with_at l t (λ h. record h { worker = Some w }) ∙ ap (heap_then (λ h. record h { worker = Some w })) g.1) ∙ (ap (λ o. (or_fresh o).begun) (sym g.1) ∙ none) in
-    let V : FitsAt p s q v' l' = fits_beside p s q v v' l' C (took_fits p s v l t w g.0 g.1 W.homes rests (running_idle (slice_get l.machine.tasks t) both.0)) in
-    let part : PartFits p s q v' l' = record { fits = V; begun = none_begun (with_home v' t (v.homes t)) (rested l' t) t (v.homes t).begun own (rested_view (λ z. z.begun) (λ z. refl) l' t ∙ heap) } in
+    let V : FitsAt p s q v' l' = fits_beside p s q v v' l' C (took_fits p s v l t w g.0 g.1 W.belongings rests (running_idle (slice_get l.machine.tasks t) both.0)) in
+    let part : PartFits p s q v' l' = record { fits = V; begun = none_begun (with_belongings v' t (v.belongings t)) (rested l' t) t (v.belongings t).begun own (rested_view (λ z. z.begun) (λ z. refl) l' t ∙ heap) } in
     record { task = x.0; is = ap (λ (z : State). slice_get z.tasks t) L.machine ∙ x.1; runs = x.2; steady = inl refl; part = subst (PartFits p s q v') (sym (aside_is l' on)) part; leaf = refl; fields = refl }

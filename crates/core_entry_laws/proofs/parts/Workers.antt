@@ -16,7 +16,7 @@ use Rattle.ledger_step_laws.specs.Accounts.{AlikeFor, ArePrivate, Knows, aside}
 use Rattle.ledger_step_laws.specs.Last.{WritesOther, LastKind, Private, Reading, Writing, Printing, Forking, Ending, Joining, Finishing, Halting, IsOfKind, GoesOn, Halts, Runs, Splits}
 use Rattle.ledger_step_laws.proofs.Ahead.{SameOf, steps_alone_all}
 use Rattle.ledger_step_laws.proofs.Along.{alike_steps, steps_know, steps_limit, steps_end, steps_off}
-use Rattle.core_relation.specs.Memory.{Home, Memory}
+use Rattle.core_relation.specs.Memory.{Belongings, Memory}
 use Rattle.core_relation.specs.Fits.{Part, FitsAt, part_for, ahead}
 use Rattle.core_relation.specs.Frames.{AreOut, IsOut, IsSteady}
 use Rattle.core_relation.specs.Copies.{PartFits}
@@ -65,7 +65,7 @@ module _ (p : ProgramText) (s : SettingsValue) (r : Part) (v : Memory) (l : Ledg
 
 -- AN ENTRY OF STEPS
 
-module _ (p : ProgramText) (s : SettingsValue) (v v' : Memory) (l l' : Ledger) (t w k : ℕ) (h : Home) (E : Runs p s l l' t w k) (r : Part) (ne : t ≡ r.task → ⊥) (R : Fits p s r v l) where
+module _ (p : ProgramText) (s : SettingsValue) (v v' : Memory) (l l' : Ledger) (t w k : ℕ) (h : Belongings) (E : Runs p s l l' t w k) (r : Part) (ne : t ≡ r.task → ⊥) (R : Fits p s r v l) where
   abbrev m : Ledger
   m = task_steps p l t k
 

@@ -14,7 +14,7 @@ use Rattle.hh_model.specs.declared.data.Task.{Task}
 use Rattle.core_relation.specs.Memory.{In, objects}
 use Rattle.core_relation.specs.Reads.{AllRead, TaskIsRead}
 use Rattle.ledger_step_laws.specs.Accounts.{Rests}
-use Rattle.core_relation.specs.Stands.{Place, HomeStands, Stands}
+use Rattle.core_relation.specs.Stands.{Place, BelongingsStand, Stands}
 pub use Rattle.core_entry_laws.specs.First.{first}
 use Rattle.core_entry_laws.specs.First.{first_tree_counts}
 use Rattle.core_relation.specs.Since.{NotedAt}
@@ -32,7 +32,7 @@ nils at (suc n) = (tt, nils at n)
 pub first_stands : (p : ProgramText) (s : SettingsValue) → Stands (first p) (opening p s)
 first_stands p s = record {
   made = λ k t e. none_some e;
-  homes = λ t r. home t;
+  belongings = λ t r. belongings t;
   contents = λ t o r i. absurd (empty t o i);
   tasks = task;
   remembered = λ t o x i n r j is at. absurd (empty t o j);
@@ -49,8 +49,8 @@ first_stands p s = record {
     none_waits zero e = false≢true e
     none_waits (suc u) e = false≢true e
 
-    home : (t : ℕ) → HomeStands (first p) (opening p s) t
-    home zero = record {
+    belongings : (t : ℕ) → BelongingsStand (first p) (opening p s) t
+    belongings zero = record {
       names = record { small = refl; large = refl };
       room = refl;
       since = refl;
@@ -61,7 +61,7 @@ first_stands p s = record {
       named = λ o q i j e. absurd i;
       laid = none_laid;
     }
-    home (suc t) = record {
+    belongings (suc t) = record {
       names = record { small = refl; large = refl };
       room = refl;
       since = refl;
@@ -73,9 +73,9 @@ first_stands p s = record {
       laid = none_laid;
     }
 
-    task : (t : ℕ) (x : Task) → Rests (opening p s) t → slice_get (opening p s).machine.tasks t ≡ Some x → TaskIsRead (Place (first p) (opening p s)) ((first p).homes t) x
+    task : (t : ℕ) (x : Task) → Rests (opening p s) t → slice_get (opening p s).machine.tasks t ≡ Some x → TaskIsRead (Place (first p) (opening p s)) ((first p).belongings t) x
     task zero x r is =
-        subst (λ (y : Task). TaskIsRead (Place (first p) (opening p s)) ((first p).homes 0) y) (same_Some (root p) x is)
+        subst (λ (y : Task). TaskIsRead (Place (first p) (opening p s)) ((first p).belongings 0) y) (same_Some (root p) x is)
         (record { function = refl; next = refl; ints = refl; refs = nils (Place (first p) (opening p s)) 16 }, tt)
     task (suc t) x r is = absurd cc
 
@@ -106,7 +106,7 @@ first_stands_for p s = whole_stands (first p) first_tree_counts (opening p s) (f
     idle zero = refl
     idle (suc t) = refl
 
-    begun : (t : ℕ) → ((first p).homes t).begun ≡ None
+    begun : (t : ℕ) → ((first p).belongings t).begun ≡ None
     begun zero = refl
     begun (suc t) = refl
 

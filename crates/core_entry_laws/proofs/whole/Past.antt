@@ -31,7 +31,7 @@ use Rattle.ledger_step_laws.proofs.Entries.{took_takes, sweep_changes, end_chang
 use Rattle.ledger_step_laws.proofs.Known.{legal_knows}
 use Rattle.ledger_step_laws.proofs.Split.{legal_alive, legal_idle}
 use Rattle.task_machine.specs.declared.part.Begun.{Begun}
-use Rattle.core_relation.specs.Memory.{Home, Memory}
+use Rattle.core_relation.specs.Memory.{Belongings, Memory}
 use Rattle.core_relation.specs.Stands.{Stands}
 use Rattle.core_relation.specs.Since.{AllNoted, MarksOn, NotesStay, OthersNotes}
 use Rattle.core_relation.specs.Changes.{SameBut, SameObjects, KeepsJust}
@@ -45,7 +45,7 @@ use Rattle.core_entry_laws.proofs.notes.NotesAhead.{notes_ahead, notes_back}
 use Rattle.core_relation.proofs.notes.Rooted.{root_apart}
 use Rattle.core_relation.proofs.changes.Takes.{ran_stands}
 use Rattle.core_relation.specs.Copies.{CopyFits, EndsAt, before}
-use Rattle.core_relation.specs.Fits.{with_home}
+use Rattle.core_relation.specs.Fits.{with_belongings}
 use Rattle.core_relation.proofs.changes.Release.{released}
 use Rattle.core_relation.proofs.changes.Renew.{renewed}
 use Rattle.core_relation.proofs.changes.Sweep.{swept}
@@ -71,9 +71,9 @@ idle_by (Some b) k f e = absurd (false≢true (ap is_some (sym e) ∙ f refl))
 pub legal_rests : (p : ProgramText) (s : SettingsValue) (journal : List EntryValue) → is_legal p s journal ≡ true → (t : ℕ) → Rests (ledger_of p s journal) t → (heap_of (ledger_of p s journal) t).begun ≡ None
 legal_rests p s journal legal t r = idle_by (heap_of (ledger_of p s journal) t).begun (heap_of (ledger_of p s journal) t).worker ((tasks_are_held_once p s journal legal).collecting t) r
 
-pub home_rests : (v : Memory) (l : Ledger) (t : ℕ) (o : Option Begun) → BegunBy v l t o → (heap_of l t).begun ≡ None → o ≡ None
-home_rests v l t None B e = refl
-home_rests v l t (Some b) B e = absurd (none_some (sym e ∙ B.few))
+pub belongings_rests : (v : Memory) (l : Ledger) (t : ℕ) (o : Option Begun) → BegunBy v l t o → (heap_of l t).begun ≡ None → o ≡ None
+belongings_rests v l t None B e = refl
+belongings_rests v l t (Some b) B e = absurd (none_some (sym e ∙ B.few))
 
 pub running_idle : (o : Option Task) → is_running o ≡ true → is_waiting o ≡ false
 running_idle None h = refl
@@ -110,10 +110,10 @@ module _ (p : ProgramText) (s : SettingsValue) (journal : List EntryValue) (prog
       (legal_rests p s (journal ++ e ∷ []) (legal_more p s e journal (opening p s) legal (ap is_none accepted)))
 
   -- from its parts
-  pub put_together : (e : EntryValue) → refusal p s l e ≡ None → StandsFor v c l → Stands v' (after p s l e) → AllNoted v' (after p s l e) → ((u : ℕ) → Rests (after p s l e) u → Rests l u) → ((u : ℕ) → Rests (after p s l e) u → (v'.homes u).begun ≡ (v.homes u).begun) → CountsGo p s l c c' e.worker e.kind → StandsFor v' c' (after p s l e)
+  pub put_together : (e : EntryValue) → refusal p s l e ≡ None → StandsFor v c l → Stands v' (after p s l e) → AllNoted v' (after p s l e) → ((u : ℕ) → Rests (after p s l e) u → Rests l u) → ((u : ℕ) → Rests (after p s l e) u → (v'.belongings u).begun ≡ (v.belongings u).begun) → CountsGo p s l c c' e.worker e.kind → StandsFor v' c' (after p s l e)
   put_together e accepted W V' N' back begun C =
       whole_stands v' c' (after p s l e) V' (counts_stand p s journal program legal c c' W.tree_counts e accepted C) (rests_then e accepted)
-      (λ u r. begun u r ∙ home_rests v l u (v.homes u).begun (W.begun u (back u r)) (legal_rests p s journal legal u (back u r))) N'
+      (λ u r. begun u r ∙ belongings_rests v l u (v.belongings u).begun (W.begun u (back u r)) (legal_rests p s journal legal u (back u r))) N'
 
   pub took_stands_for : (w t : ℕ) → refusal p s l (record { worker = w; kind = Took t }) ≡ None → StandsFor v c l → SameBut v v' t → ((u : ℕ) → NotesStay v v' u) → CountsGo p s l c c' w (Took t) → StandsFor v' c' (after p s l (record { worker = w; kind = Took t }))
   took_stands_for w t accepted W B N C =
@@ -124,16 +124,16 @@ module _ (p : ProgramText) (s : SettingsValue) (journal : List EntryValue) (prog
       let l' : Ledger = with_heap l t (λ h. record h { worker = Some w }) in
       let L = took_takes l t w g.0 g.1 in
       let other : (u : ℕ) → Rests l' u → u ≡ t → ⊥ = λ u q e. none_some (sym (subst (Rests l') e q) ∙ L.worker) in
-      put_together (record { worker = w; kind = Took t }) accepted W (released v v' l l' t w W.homes idle L B)
-      (steps_note v v' l l' t idle (takes_alone l l' t w L) B.homes B.owner B.sources (root_apart v l W.homes t idle) (record { none = (N t).keeps ∙ (W.keeps t ∙ ap (λ b. b && not (heap_of l t).swept) idle); others = λ u ne. N u }) (whole_notes v c l W))
+      put_together (record { worker = w; kind = Took t }) accepted W (released v v' l l' t w W.belongings idle L B)
+      (steps_note v v' l l' t idle (takes_alone l l' t w L) B.belongings B.owner B.sources (root_apart v l W.belongings t idle) (record { none = (N t).keeps ∙ (W.keeps t ∙ ap (λ b. b && not (heap_of l t).swept) idle); others = λ u ne. N u }) (whole_notes v c l W))
       (λ u q. ap (λ (h : Heap). h.worker) (sym (L.heaps u (other u q))) ∙ q)
-      (λ u q. ap (λ (h : Home). h.begun) (B.homes u (other u q))) C
+      (λ u q. ap (λ (h : Belongings). h.begun) (B.belongings u (other u q))) C
 
   pub quiet_stands_for : (e : EntryValue) → refusal p s l e ≡ None → IsQuiet e.kind → StandsFor v c l → SameObjects v v' l (after p s l e)
       → ((u : ℕ) → (IsMarked e.kind u → ⊥) → NotesStay v v' u) → ((u : ℕ) → IsMarked e.kind u → MarksOn v v' (after p s l e) u) → CountsGo p s l c c' e.worker e.kind → StandsFor v' c' (after p s l e)
   quiet_stands_for e accepted quiet W B N M C =
       let Q = quiet_by p s l e.worker e.kind quiet in
-      put_together e accepted W (renewed v v' l (after p s l e) W.homes Q.0 B)
+      put_together e accepted W (renewed v v' l (after p s l e) W.belongings Q.0 B)
       (quiet_notes v v' l (after p s l e) Q.0.machine (λ u r. Q.0.worker u ∙ r) B.frames B.owner B.sources Q.1 Q.0.snapshot B.objects B.chunks (λ k u g. elim (B.taken k u g) [ inl old ↦ inl old | inr new ↦ inr new.0 ])
       (λ u. elim (marked_or p s l e.worker e.kind quiet u) [ inl m ↦ inr (inr (M u m)) | inr m ↦ inl (N u m.0, m.1) ]) (whole_notes v c l W))
       (λ u r. sym (Q.0.worker u) ∙ r) (λ u r. B.begun u (rests_then e accepted u r ∙ sym (legal_rests p s journal legal u (sym (Q.0.worker u) ∙ r)))) C
@@ -143,7 +143,7 @@ module _ (p : ProgramText) (s : SettingsValue) (journal : List EntryValue) (prog
   swept_heap_at t h e = ap (λ o. (or_fresh o).swept) (with_at l t swept_heap ∙ ap (heap_then swept_heap) e)
 
   pub sweeps_stand_for : (w t given : ℕ) → refusal p s l (record { worker = w; kind = Sweep t given }) ≡ None → StandsFor v c l → KeepsJust v v' l (after p s l (record { worker = w; kind = Sweep t given })) t (heap_of l t).snapshot → OthersNotes v v' t
-      → (v'.homes t).begun ≡ None → CountsGo p s l c c' w (Sweep t given) → StandsFor v' c' (after p s l (record { worker = w; kind = Sweep t given }))
+      → (v'.belongings t).begun ≡ None → CountsGo p s l c c' w (Sweep t given) → StandsFor v' c' (after p s l (record { worker = w; kind = Sweep t given }))
   sweeps_stand_for w t given accepted W B N begun C =
       let e : EntryValue = record { worker = w; kind = Sweep t given } in
       let wait = (wait_tells l t _ (entry_tells p s l e (ap is_none accepted)).2).0 in
@@ -154,14 +154,14 @@ module _ (p : ProgramText) (s : SettingsValue) (journal : List EntryValue) (prog
       let rests : Rests l t = legal_idle p s journal legal on t (waiting_stops (slice_get l.machine.tasks t) wait) in
       let swept_then : (heap_of l' t).swept ≡ true = swept_heap_at t (marked_heap l.heaps t (slice_get l.heaps t) refl marked).0 (marked_heap l.heaps t (slice_get l.heaps t) refl marked).1 in
       let back : (u : ℕ) → Rests l' u → Rests l u = λ u r. sym (heap_view (λ h. h.worker) l t swept_heap (λ h. refl) u) ∙ r in
-      put_together e accepted W (swept v v' l l' t (heap_of l t).snapshot S W.homes wait rests L B)
-      (sweeps_note v v' l l' t W.homes L swept_then B N (whole_notes v c l W))
+      put_together e accepted W (swept v v' l l' t (heap_of l t).snapshot S W.belongings wait rests L B)
+      (sweeps_note v v' l l' t W.belongings L swept_then B N (whole_notes v c l W))
       (λ u r. sym (heap_view (λ h. h.worker) l t swept_heap (λ h. refl) u) ∙ r) (λ u r. elim (cases_eq u t) [
-        | inl same ↦ ap (λ z. (v'.homes z).begun) same ∙ (begun ∙ sym (home_rests v l u (v.homes u).begun (W.begun u (back u r)) (legal_rests p s journal legal u (back u r))))
-        | inr ne ↦ ap (λ (h : Home). h.begun) (B.others u ne)
+        | inl same ↦ ap (λ z. (v'.belongings z).begun) same ∙ (begun ∙ sym (belongings_rests v l u (v.belongings u).begun (W.begun u (back u r)) (legal_rests p s journal legal u (back u r))))
+        | inr ne ↦ ap (λ (h : Belongings). h.begun) (B.others u ne)
       ]) C
 
-  pub ends_stand_for : (w t taken given left : ℕ) (h h' : Home) (f : Addr → Addr) → refusal p s l (record { worker = w; kind = EndOf t taken given left }) ≡ None → StandsFor v c l → CopyFits p s t h h' f v l → EndsAt v v' t h' f → h'.begun ≡ None → OthersNotes v v' t
+  pub ends_stand_for : (w t taken given left : ℕ) (h h' : Belongings) (f : Addr → Addr) → refusal p s l (record { worker = w; kind = EndOf t taken given left }) ≡ None → StandsFor v c l → CopyFits p s t h h' f v l → EndsAt v v' t h' f → h'.begun ≡ None → OthersNotes v v' t
       → CountsGo p s l c c' w (EndOf t taken given left) → StandsFor v' c' (after p s l (record { worker = w; kind = EndOf t taken given left }))
   ends_stand_for w t taken given left h h' f accepted W K E none N C =
       let e : EntryValue = record { worker = w; kind = EndOf t taken given left } in
@@ -180,10 +180,10 @@ module _ (p : ProgramText) (s : SettingsValue) (journal : List EntryValue) (prog
       let before_notes = notes_ahead p s (before s t h) v l x.0 (legal_knows p s journal legal) K.old.fits (record { task = x.1; runs = x.2; can = can; steady = inl refl }) (whole_notes v c l W) in
       put_together e accepted W (ran_stands p s (before s t h') v' l' M.1.fits.worker M.1.fits M.1.fits.out idle')
       (notes_back t h' v' l' idle' M.1.fits.stands
-      (ends_note (with_home v t h) (with_home v' t h') (rested l t) (rested l' t) t (heap_of (rested l t) t).survivors f K.old.fits.stands rest_idle (rested_changes p s t h h' f v v' l x.0 0 S x.1 (runs_is x.0.status x.2) g.0 g.1 K E) M.0
+      (ends_note (with_belongings v t h) (with_belongings v' t h') (rested l t) (rested l' t) t (heap_of (rested l t) t).survivors f K.old.fits.stands rest_idle (rested_changes p s t h h' f v v' l x.0 0 S x.1 (runs_is x.0.status x.2) g.0 g.1 K E) M.0
       (record { none = N.none; others = λ u ne. record { keeps = (N.others u ne).keeps; kept = (N.others u ne).kept; marked = (N.others u ne).marked } }) before_notes))
       (λ u q. sym (heap_view (λ z. z.worker) l t (collected l.machine) (λ z. refl) u) ∙ q)
-      (λ u q. ap (λ (z : Home). z.begun) (E.others u (other u (sym (heap_view (λ z. z.worker) l t (collected l.machine) (λ z. refl) u) ∙ q)))) C
+      (λ u q. ap (λ (z : Belongings). z.begun) (E.others u (other u (sym (heap_view (λ z. z.worker) l t (collected l.machine) (λ z. refl) u) ∙ q)))) C
     where
       other : (u : ℕ) → Rests l u → u ≡ t → ⊥
       other u q e = none_some (sym (subst (Rests l) e q) ∙ K.old.fits.out)

@@ -22,9 +22,9 @@ use Rattle.ledger_step_laws.proofs.Along.{steps_know}
 use Rattle.ledger_step_laws.proofs.Rested.{rested_worker, rested_sound}
 use Rattle.ledger_step_laws.proofs.Split.{worker_step, steps_worker}
 use Rattle.ledger_step_laws.proofs.Wrote.{is_store, is_swap, is_number, waits_rest}
-use Rattle.core_relation.specs.Memory.{Home, Memory}
+use Rattle.core_relation.specs.Memory.{Belongings, Memory}
 use Rattle.core_relation.specs.Stands.{Stands}
-use Rattle.core_relation.specs.Fits.{Part, FitsAt, with_home, part_for}
+use Rattle.core_relation.specs.Fits.{Part, FitsAt, with_belongings, part_for}
 use Rattle.core_relation.specs.Changes.{StoresNumberAt}
 use Rattle.core_relation.specs.Since.{AllNoted, StoresNotes}
 use Rattle.core_relation.specs.Makes.{Stores, StoresInto, Makes, taken_by}
@@ -43,7 +43,7 @@ use Rattle.core_entry_laws.proofs.parts.Others.{result_read}
 use Rattle.core_relation.proofs.notes.Rooted.{root_apart}
 use Rattle.core_relation.proofs.changes.Takes.{ran_stands}
 
-module _ (p : ProgramText) (s : SettingsValue) (v v' : Memory) (l l' : Ledger) (t w k : ℕ) (h : Home) (E : Runs p s l l' t w k) (alive : l.end ≡ None) (V : Stands v l) (N : AllNoted v l) where
+module _ (p : ProgramText) (s : SettingsValue) (v v' : Memory) (l l' : Ledger) (t w k : ℕ) (h : Belongings) (E : Runs p s l l' t w k) (alive : l.end ≡ None) (V : Stands v l) (N : AllNoted v l) where
   abbrev q : Part
   q = part_for s t h k
 
@@ -53,9 +53,9 @@ module _ (p : ProgramText) (s : SettingsValue) (v v' : Memory) (l l' : Ledger) (
   abbrev S : Splits p s l l' t k
   S = E.splits
 
-  -- the memory with the part's home in it, and its accounts
+  -- the memory with the part's belongings in it, and its accounts
   abbrev vt : Memory
-  vt = with_home v t h
+  vt = with_belongings v t h
 
   abbrev lt : Ledger
   lt = rested m t
@@ -101,7 +101,7 @@ module _ (p : ProgramText) (s : SettingsValue) (v v' : Memory) (l l' : Ledger) (
     notes_t = notes_ahead p s q v l E.task E.knows F (record { task = E.at; runs = E.runs; can = E.can; steady = inr E.collects }) N
 
     stores : (W : WritesOther m l' t S.task S.line) (o i b : ℕ) (c : Option (ℕ × ℤ)) (L : (j : ℕ) × (place_in (length W.object.refs) (int_in S.task.top i) ≡ Some j) × StoresOne lt (rested l' t) t S.task W.name W.object o b j c)
-        (C : StoresInto v v' m t h S.task W.object o i b c) → StoresNotes vt (with_home v' t C.0) t C.4 C.1 → Both
+        (C : StoresInto v v' m t h S.task W.object o i b c) → StoresNotes vt (with_belongings v' t C.0) t C.4 C.1 → Both
     stores W o i b c L C M =
         let same : L.0 ≡ C.1 = same_Some L.0 C.1 (sym L.1 ∙ C.5) in
         let L' : StoresOne lt (rested l' t) t S.task W.name W.object o b C.1 c = subst (λ j. StoresOne lt (rested l' t) t S.task W.name W.object o b j c) same L.2 in
@@ -109,7 +109,7 @@ module _ (p : ProgramText) (s : SettingsValue) (v v' : Memory) (l l' : Ledger) (
         let idle' : is_waiting (slice_get l'.machine.tasks t) ≡ false = ap (λ (z : State). is_waiting (slice_get z.tasks t)) (sym (heap_machine l' t let_go)) ∙ (L'.writes.tree.waits t ∙ idle_t) in
         let fits : FitsAt p s (part_for s t C.0 0) v' l' = stores_fit p s q v v' l l' C.0 w S.task W.name W.object o b C.1 c C.2 C.3 C.4 sound F held L' C.6 C.7 in (
           ran_stands p s (part_for s t C.0 0) v' l' w fits held idle',
-          notes_back t C.0 v' l' idle' fits.stands (stores_note vt (with_home v' t C.0) lt (rested l' t) t S.task W.name W.object o b C.1 c C.2 C.3 C.4 sound F.stands rests L' C.6 C.7 M notes_t),
+          notes_back t C.0 v' l' idle' fits.stands (stores_note vt (with_belongings v' t C.0) lt (rested l' t) t S.task W.name W.object o b C.1 c C.2 C.3 C.4 sound F.stands rests L' C.6 C.7 M notes_t),
         )
 
     writes : (W : WritesOther m l' t S.task S.line) (instr : Instr) → S.line.instr ≡ instr → (C : Stores v v' m t h S.task W.object instr) → StoreMarks v v' m t h S.task W.object instr C → Both
@@ -120,12 +120,12 @@ module _ (p : ProgramText) (s : SettingsValue) (v v' : Memory) (l l' : Ledger) (
     writes W (Puti o i b) is C M =
         let L = is_number p m l' t S.task S.line E.idle S.at W o i b is in
         let same : C.1 ≡ L.0 = same_Some C.1 L.0 (sym C.5 ∙ L.1) in
-        let C' : StoresNumberAt vt (with_home v' t C.0) t C.2 C.3 C.4 b L.0 = subst (StoresNumberAt vt (with_home v' t C.0) t C.2 C.3 C.4 b) same C.6 in
+        let C' : StoresNumberAt vt (with_belongings v' t C.0) t C.2 C.3 C.4 b L.0 = subst (StoresNumberAt vt (with_belongings v' t C.0) t C.2 C.3 C.4 b) same C.6 in
         let held : (heap_of l' t).worker ≡ Some w = ap (λ (z : Ledger). (heap_of z t).worker) W.goes ∙ E.held in
         let idle' : is_waiting (slice_get l'.machine.tasks t) ≡ false = ap (λ (z : State). is_waiting (slice_get z.tasks t)) (sym (heap_machine l' t let_go)) ∙ (L.2.writes.tree.waits t ∙ idle_t) in
         let fits : FitsAt p s (part_for s t C.0 0) v' l' = numbers_fit p s q v v' l l' C.0 w S.task W.name W.object o b L.0 C.2 C.3 C.4 sound F held L.2 C' C.7 in (
           ran_stands p s (part_for s t C.0 0) v' l' w fits held idle',
-          notes_back t C.0 v' l' idle' fits.stands (numbers_note vt (with_home v' t C.0) lt (rested l' t) t S.task W.name W.object o b L.0 C.2 C.3 C.4 L.2 C' M notes_t),
+          notes_back t C.0 v' l' idle' fits.stands (numbers_note vt (with_belongings v' t C.0) lt (rested l' t) t S.task W.name W.object o b L.0 C.2 C.3 C.4 L.2 C' M notes_t),
         )
     writes W (Set d a) is C M = absurd C
     writes W (Mov d a) is C M = absurd C

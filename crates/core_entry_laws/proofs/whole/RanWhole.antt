@@ -14,14 +14,14 @@ use Rattle.run_ledger.specs.Sound.{collecting}
 use Rattle.ledger_step_laws.proofs.Rested.{rested_view}
 use Rattle.run_ledger.proofs.Use.{entries_use}
 use Rattle.run_ledger.proofs.Steps.{task_steps_sound}
-use Rattle.core_relation.specs.Fits.{part_for, with_home}
+use Rattle.core_relation.specs.Fits.{part_for, with_belongings}
 use Rattle.core_relation.specs.Makes.{taken_by}
 use Rattle.core_entry_laws.specs.EntryLaws.{RanStandsFor}
 use Rattle.core_relation.specs.Whole.{StandsFor}
 use Rattle.core_entry_laws.proofs.whole.HandedBack.{handed_on}
 use Rattle.core_entry_laws.proofs.whole.HandedBack.{alive_machine}
 use Rattle.core_entry_laws.proofs.parts.Workers.{part_now}
-use Rattle.core_entry_laws.proofs.whole.Past.{home_rests, legal_rests, rests_then}
+use Rattle.core_entry_laws.proofs.whole.Past.{belongings_rests, legal_rests, rests_then}
 use Rattle.core_entry_laws.proofs.notes.RanBegun.{ran_idle}
 use Rattle.core_entry_laws.proofs.whole.RanCounts.{ran_counts}
 use Rattle.core_entry_laws.proofs.whole.RanPast.{ran_keeps}
@@ -38,10 +38,10 @@ ran_stands_for p s journal program legal v v' c c' w t k h accepted E handed Q C
     let alive : l.end ≡ None = none_of l.end (entry_tells p s l e (ap is_none accepted)).0 in
     let W : StandsFor v c l = subst (StandsFor v c) (handed_on l alive) handed in
     let F = part_now p s (part_for s t h (taken_by E.splits.kind k)) v l (alive_machine p s l (after p s l e) t w k E) Q in
-    let both = ran_keeps p s v v' l (after p s l e) t w k h E alive W.homes (whole_notes v c l W) F.fits C M in
+    let both = ran_keeps p s v v' l (after p s l e) t w k h E alive W.belongings (whole_notes v c l W) F.fits C M in
     let counts = ran_counts p s l (after p s l e) t w k E c c' W.tree_counts alive (entries_use p s journal e program legal accepted) N in
     let still : (j : ℕ) → (heap_of (task_steps p l t j) t).begun ≡ None = λ j. none_collects (slice_get (task_steps p l t j).heaps t) (task_steps_sound p j l t (E.knows.sound, E.collects)).1 in
     let n : ℕ = taken_by E.splits.kind k in
-    let own : h.begun ≡ None = home_rests (with_home v t h) _ t h.begun F.begun (rested_view (λ z. z.begun) (λ z. refl) (task_steps p l t n) t ∙ still n) in
-    let idle = ran_idle p s v v' l (after p s l e) t w k h E alive (λ u r. home_rests v l u (v.homes u).begun (W.begun u r) (legal_rests p s journal legal u r)) own (rests_then p s journal program legal v v' c c' e accepted) (still k) C in
+    let own : h.begun ≡ None = belongings_rests (with_belongings v t h) _ t h.begun F.begun (rested_view (λ z. z.begun) (λ z. refl) (task_steps p l t n) t ∙ still n) in
+    let idle = ran_idle p s v v' l (after p s l e) t w k h E alive (λ u r. belongings_rests v l u (v.belongings u).begun (W.begun u r) (legal_rests p s journal legal u r)) own (rests_then p s journal program legal v v' c c' e accepted) (still k) C in
     whole_stands v' c' _ both.0 counts (λ u r. (idle u r).0) (λ u r. (idle u r).1) both.1

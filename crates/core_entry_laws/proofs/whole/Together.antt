@@ -36,7 +36,7 @@ none_begun v l t None e h = h
 none_begun v l t (Some b) e h = absurd cc
 
 pub whole_stands : WholeStands
-whole_stands v c l V T begun none N = record { homes = V; tree_counts = T; begun = λ t r. none_begun v l t (v.homes t).begun (none t r) (begun t r); keeps = λ t. (N t).keeps; since = λ t. (N t).since; marks = λ t. (N t).marks }
+whole_stands v c l V T begun none N = record { belongings = V; tree_counts = T; begun = λ t r. none_begun v l t (v.belongings t).begun (none t r) (begun t r); keeps = λ t. (N t).keeps; since = λ t. (N t).since; marks = λ t. (N t).marks }
 
 pub whole_notes : WholeNotes
 whole_notes v c l W t = record { keeps = W.keeps t; since = W.since t; marks = W.marks t }

@@ -1,4 +1,4 @@
--- A private step of a task whose home isn't in the memory: the memory stands for the accounts after it too.
+-- A private step of a task whose belongings aren't in the memory: the memory stands for the accounts after it too.
 use Rattle.std.proofs.Common.{◌≡◌, ℕ, false, Some, length, slice_get, inl, inr, refl, ap, sym, subst, ◌∙◌}
 use Rattle.std.proofs.lemmas.Bool.{both_ways}
 use Rattle.object_layout.specs.declared.word.Addr.{Addr}
@@ -10,30 +10,30 @@ use Rattle.run_ledger.specs.declared.data.Heap.{Heap}
 use Rattle.run_ledger.specs.declared.data.Ledger.{Ledger}
 use Rattle.run_ledger.specs.Heaps.{heap_of}
 use Rattle.run_ledger.specs.Sound.{SoundLedger}
-use Rattle.core_relation.specs.Memory.{Home, Memory, In, object_name, objects, objects_in, sources, Lies}
+use Rattle.core_relation.specs.Memory.{Belongings, Memory, In, object_name, objects, objects_in, sources, Lies}
 use Rattle.ledger_step_laws.specs.Accounts.{own, Rests, StepsAlone}
 use Rattle.core_relation.specs.Layout.{AreLaidOut}
-use Rattle.core_relation.specs.Stands.{Place, HasNames, HomeStands, Stands}
+use Rattle.core_relation.specs.Stands.{Place, HasNames, BelongingsStand, Stands}
 use Rattle.core_relation.proofs.objects.Carry.{object_kept, task_kept}
 use Rattle.core_relation.proofs.objects.Members.{object_held}
 
--- a home's objects are those of its task
-pub home_own : (v : Memory) (l : Ledger) → SoundLedger l → (t : ℕ) → HomeStands v l t → (o : Located) → In (objects v t) o → own l (object_name o) ≡ t
-home_own v l S t H o i = (S.owners t (object_name o) (object_held (v.homes t).chunks (heap_of l t) H.names o i)).1
+-- the objects among a task's belongings are its own
+pub belongings_own : (v : Memory) (l : Ledger) → SoundLedger l → (t : ℕ) → BelongingsStand v l t → (o : Located) → In (objects v t) o → own l (object_name o) ≡ t
+belongings_own v l S t H o i = (S.owners t (object_name o) (object_held (v.belongings t).chunks (heap_of l t) H.names o i)).1
 
--- what a home's account says stays with it
-pub home_kept : (v v' : Memory) (l l' : Ledger) (t : ℕ) → v'.homes t ≡ v.homes t → ((k : ℕ) → v.owner k ≡ Some t → v'.owner k ≡ Some t) → heap_of l' t ≡ heap_of l t → length (row_of (slice_get l'.machine.store t)) ≡ length (row_of (slice_get l.machine.store t))
-    → is_joined (slice_get l'.machine.tasks t) ≡ is_joined (slice_get l.machine.tasks t) → HomeStands v l t → HomeStands v' l' t
-home_kept v v' l l' t eh ow el er ej H = record {
-  names = subst (λ (h : Home). HasNames h.chunks (heap_of l' t)) (sym eh) (subst (HasNames (v.homes t).chunks) (sym el) H.names);
-  room = ap (λ (h : Home). h.room) eh ∙ (H.room ∙ sym (ap (λ (h : Heap). h.room) el));
-  since = ap (λ (h : Home). h.since) eh ∙ (H.since ∙ sym (ap (λ (h : Heap). h.since) el));
-  count = λ live. ap (λ (h : Home). h.count) eh ∙ (H.count (sym ej ∙ live) ∙ sym er);
-  owned = λ k i. ow k.number (H.owned k (subst (λ (h : Home). In h.chunks k) eh i));
-  inside = λ k o i j. H.inside k o (subst (λ (h : Home). In h.chunks k) eh i) j;
-  once = λ o p i j e. H.once o p (subst (λ (h : Home). In (objects_in h.chunks) o) eh i) (subst (λ (h : Home). In (objects_in h.chunks) p) eh j) e;
-  named = λ o p i j e. H.named o p (subst (λ (h : Home). In (objects_in h.chunks) o) eh i) (subst (λ (h : Home). In (objects_in h.chunks) p) eh j) e;
-  laid = subst (λ (h : Home). AreLaidOut h.chunks (heap_of l' t).reserved) (sym eh) (subst (λ (h : Heap). AreLaidOut (v.homes t).chunks h.reserved) (sym el) H.laid);
+-- what the account says of a task's belongings stays with them
+pub belongings_kept : (v v' : Memory) (l l' : Ledger) (t : ℕ) → v'.belongings t ≡ v.belongings t → ((k : ℕ) → v.owner k ≡ Some t → v'.owner k ≡ Some t) → heap_of l' t ≡ heap_of l t → length (row_of (slice_get l'.machine.store t)) ≡ length (row_of (slice_get l.machine.store t))
+    → is_joined (slice_get l'.machine.tasks t) ≡ is_joined (slice_get l.machine.tasks t) → BelongingsStand v l t → BelongingsStand v' l' t
+belongings_kept v v' l l' t eh ow el er ej H = record {
+  names = subst (λ (h : Belongings). HasNames h.chunks (heap_of l' t)) (sym eh) (subst (HasNames (v.belongings t).chunks) (sym el) H.names);
+  room = ap (λ (h : Belongings). h.room) eh ∙ (H.room ∙ sym (ap (λ (h : Heap). h.room) el));
+  since = ap (λ (h : Belongings). h.since) eh ∙ (H.since ∙ sym (ap (λ (h : Heap). h.since) el));
+  count = λ live. ap (λ (h : Belongings). h.count) eh ∙ (H.count (sym ej ∙ live) ∙ sym er);
+  owned = λ k i. ow k.number (H.owned k (subst (λ (h : Belongings). In h.chunks k) eh i));
+  inside = λ k o i j. H.inside k o (subst (λ (h : Belongings). In h.chunks k) eh i) j;
+  once = λ o p i j e. H.once o p (subst (λ (h : Belongings). In (objects_in h.chunks) o) eh i) (subst (λ (h : Belongings). In (objects_in h.chunks) p) eh j) e;
+  named = λ o p i j e. H.named o p (subst (λ (h : Belongings). In (objects_in h.chunks) o) eh i) (subst (λ (h : Belongings). In (objects_in h.chunks) p) eh j) e;
+  laid = subst (λ (h : Belongings). AreLaidOut h.chunks (heap_of l' t).reserved) (sym eh) (subst (λ (h : Heap). AreLaidOut (v.belongings t).chunks h.reserved) (sym el) H.laid);
 }
 
 module _ (v : Memory) (l l' : Ledger) (t w : ℕ) (S : SoundLedger l) (V : Stands v l) (A : StepsAlone l l' t)
@@ -49,7 +49,7 @@ module _ (v : Memory) (l l' : Ledger) (t w : ℕ) (S : SoundLedger l) (V : Stand
       let e : own l' n ≡ own l n = A.tree.owners n.task in
       record {
         chunk = p.chunk ∙ ap Some (sym e);
-        here = λ r. subst (λ u. Lies (v.homes u).chunks n a) (sym e) (p.here (rest (own l n) (subst (Rests l') e r)));
+        here = λ r. subst (λ u. Lies (v.belongings u).chunks n a) (sym e) (p.here (rest (own l n) (subst (Rests l') e r)));
       }
 
   pub steps_alone : Stands v l'
@@ -57,14 +57,14 @@ module _ (v : Memory) (l l' : Ledger) (t w : ℕ) (S : SoundLedger l) (V : Stand
     views = λ u r j z o up ne rz i. V.views u (rest u r) (sym (A.tree.joins u) ∙ j) z o (sym (A.tree.paths z u) ∙ up) ne (rest z rz) i;
     gives = λ u z r j up ne w rz. V.gives u z (rest u r) (sym (A.tree.joins u) ∙ j) (sym (A.tree.paths z u) ∙ up) ne (sym (A.tree.waits z) ∙ w) (rest z rz);
     made = λ k u e. A.tree.made u ∙ V.made k u e;
-    homes = λ u r. home_kept v v l l' u refl (λ k e. e) (A.heaps u (other u r)) (A.rows u (other u r)) (A.tree.joins u) (V.homes u (rest u r));
+    belongings = λ u r. belongings_kept v v l l' u refl (λ k e. e) (A.heaps u (other u r)) (A.rows u (other u r)) (A.tree.joins u) (V.belongings u (rest u r));
     contents = λ u o r i.
         let c = V.contents u o (rest u r) i in
-        let ne : own l (object_name o) ≡ t → ⊥ = λ e. other u r (sym (home_own v l S u (V.homes u (rest u r)) o i) ∙ e) in
+        let ne : own l (object_name o) ≡ t → ⊥ = λ e. other u r (sym (belongings_own v l S u (V.belongings u (rest u r)) o i) ∙ e) in
         (c.0, A.store (object_name o) ne ∙ c.1, object_kept (Place v l) (Place v l') o c.0 (λ n j. place n) c.2);
-    tasks = λ u x r is. task_kept (Place v l) (Place v l') (v.homes u) x (λ n j. place n) (V.tasks u x (rest u r) (sym (A.tasks u (other u r)) ∙ is));
+    tasks = λ u x r is. task_kept (Place v l) (Place v l') (v.belongings u) x (λ n j. place n) (V.tasks u x (rest u r) (sym (A.tasks u (other u r)) ∙ is));
     remembered = λ u o x i n r j is at.
-        let ne : own l (object_name o) ≡ t → ⊥ = λ e. other u r (sym (home_own v l S u (V.homes u (rest u r)) o j) ∙ e) in
+        let ne : own l (object_name o) ≡ t → ⊥ = λ e. other u r (sym (belongings_own v l S u (V.belongings u (rest u r)) o j) ∙ e) in
         elim (V.remembered u o x i n (rest u r) j (sym (A.store (object_name o) ne) ∙ is) at) [
           | inl h ↦ inl (ap (λ k. is_on_path l'.machine.tasks k u) (A.tree.owners n.task) ∙ (A.tree.paths (own l n) u ∙ h))
           | inr s ↦ inr (subst (λ k. In (sources v k) (record { object = o.at; field = i })) (sym (A.tree.owners n.task)) s)

@@ -18,19 +18,19 @@ use Rattle.run_ledger.specs.declared.data.Ledger.{Ledger}
 use Rattle.run_ledger.specs.Heaps.{heap_of, or_fresh}
 use Rattle.run_ledger.specs.Sound.{SoundLedger, Spares, survivors_at, collecting}
 use Rattle.remembered_set.specs.declared.remembered.Source.{Source}
-use Rattle.core_relation.specs.Memory.{Home, Memory, In, object_name, objects, objects_in, sources, Lies, copied_object, rewritten, rewritten_home}
+use Rattle.core_relation.specs.Memory.{Belongings, Memory, In, object_name, objects, objects_in, sources, Lies, copied_object, rewritten, rewritten_belongings}
 use Rattle.core_relation.specs.Reads.{IsRead, FramesAreRead, HoldsRead, TaskIsRead}
 use Rattle.ledger_step_laws.specs.Accounts.{own, Rests, ChangesHeap}
-use Rattle.core_relation.specs.Stands.{Place, HomeStands, IsSource, Stands}
+use Rattle.core_relation.specs.Stands.{Place, BelongingsStand, IsSource, Stands}
 use Rattle.core_relation.specs.Changes.{Moves}
 use Rattle.core_relation.specs.Frames.{Collects}
 use Rattle.core_relation.proofs.changes.Same.{own_same, path_same, store_same, source_same}
 use Rattle.core_relation.proofs.objects.Carry.{Led, task_kept, same_holding, all_led, frames_led, all_rewritten}
 use Rattle.core_relation.proofs.objects.Members.{in_chunk}
-use Rattle.core_relation.proofs.changes.Alone.{home_own}
+use Rattle.core_relation.proofs.changes.Alone.{belongings_own}
 use Rattle.core_relation.proofs.changes.Sweep.{refers, is_kept, Live, live_task, live_ref}
 use Rattle.core_relation.proofs.objects.LaidOut.{rewritten_words}
-use Rattle.core_relation.proofs.objects.Mapped.{from_mapped, lies_mapped, home_mapped}
+use Rattle.core_relation.proofs.objects.Mapped.{from_mapped, lies_mapped, belongings_mapped}
 use Rattle.ledger_step_laws.proofs.Tree.{own_live, leaf_alone, holder_live}
 use Rattle.core_relation.proofs.changes.Shown.{collection_shown, noted_mutable}
 use Rattle.core_relation.proofs.changes.Giving.{gives_kept}
@@ -66,15 +66,15 @@ module _ (v v' : Memory) (l l' : Ledger) (t : ℕ) (x : Task) (f : Addr → Addr
   -- a survivor of t lies where its address is led
   moved : (n : Name) (a : Addr) → own l n ≡ t → Live l t S survivors spares n → Place v l n a → Place v' l' n (f a)
   moved n a e g p =
-      let q : Lies (v.homes t).chunks n a = subst (λ u. Lies (v.homes u).chunks n a) e (p.here (subst (Rests l) (sym e) B.rests)) in
+      let q : Lies (v.belongings t).chunks n a = subst (λ u. Lies (v.belongings u).chunks n a) e (p.here (subst (Rests l) (sym e) B.rests)) in
       let i : In (objects v' t) (copied_object f q.0) = C.kept q.0 q.1 (subst (In survivors) (sym q.2.name) (g e)) in
-      let q' : Lies (v'.homes t).chunks n (f a) = (copied_object f q.0, i, record { name = q.2.name; at = ap f q.2.at }) in
-      let k = in_chunk (v'.homes t).chunks (copied_object f q.0) i in
-      let at : (f a).chunk ≡ k.0.number = ap (λ (b : Addr). (f b).chunk) (sym q.2.at) ∙ C.home.inside k.0 (copied_object f q.0) k.1 k.2 in
+      let q' : Lies (v'.belongings t).chunks n (f a) = (copied_object f q.0, i, record { name = q.2.name; at = ap f q.2.at }) in
+      let k = in_chunk (v'.belongings t).chunks (copied_object f q.0) i in
+      let at : (f a).chunk ≡ k.0.number = ap (λ (b : Addr). (f b).chunk) (sym q.2.at) ∙ C.belongings.inside k.0 (copied_object f q.0) k.1 k.2 in
       let e' : own l' n ≡ t = own_same l l' L.machine n ∙ e in
       record {
-        chunk = ap v'.owner at ∙ (C.home.owned k.0 k.1 ∙ ap Some (sym e'));
-        here = λ r. subst (λ u. Lies (v'.homes u).chunks n (f a)) (sym e') q';
+        chunk = ap v'.owner at ∙ (C.belongings.owned k.0 k.1 ∙ ap Some (sym e'));
+        here = λ r. subst (λ u. Lies (v'.belongings u).chunks n (f a)) (sym e') q';
       }
 
   -- all else lies where it lay, and its address is led nowhere else
@@ -83,9 +83,9 @@ module _ (v v' : Memory) (l l' : Ledger) (t : ℕ) (x : Task) (f : Addr → Addr
     record {
       chunk = C.owners a.chunk (own l n) ne p.chunk ∙ ap Some (sym (own_same l l' L.machine n));
       here = λ r.
-          let q : Lies (v.homes (own l n)).chunks n a = p.here (rest (own l n) (subst (Rests l') (own_same l l' L.machine n) r)) in
-          subst (λ u. Lies (v'.homes u).chunks n a) (sym (own_same l l' L.machine n))
-          (subst (λ (h : Home). Lies h.chunks n a) (sym (C.others (own l n) ne)) (lies_mapped (rewritten f (sources v t)) (λ o. refl) (λ o. refl) (v.homes (own l n)).chunks n a q));
+          let q : Lies (v.belongings (own l n)).chunks n a = p.here (rest (own l n) (subst (Rests l') (own_same l l' L.machine n) r)) in
+          subst (λ u. Lies (v'.belongings u).chunks n a) (sym (own_same l l' L.machine n))
+          (subst (λ (h : Belongings). Lies h.chunks n a) (sym (C.others (own l n) ne)) (lies_mapped (rewritten f (sources v t)) (λ o. refl) (λ o. refl) (v.belongings (own l n)).chunks n a q));
     },
     C.same a (own l n) ne p.chunk,
   )
@@ -96,15 +96,15 @@ module _ (v v' : Memory) (l l' : Ledger) (t : ℕ) (x : Task) (f : Addr → Addr
     | inr ne ↦ let q = still n a ne p in subst (Place v' l' n) (sym q.1) q.0
   ]
 
-  home : (u : ℕ) → Rests l' u → HomeStands v' l' u
-  home u r = elim (cases_eq u t) [
-    | inl e ↦ subst (HomeStands v' l') (sym e) C.home
-    | inr ne ↦ home_mapped (rewritten f (sources v t)) (λ o. refl) (λ o. refl) v v' l l' u (C.others u ne) (λ k. C.owners k u ne) (L.others u ne) (ap (λ (m : State). slice_get m.store u) L.machine) (ap (λ (m : State). is_joined (slice_get m.tasks u)) L.machine) (rewritten_words f (sources v t)) (V.homes u (rest u r))
+  belongings : (u : ℕ) → Rests l' u → BelongingsStand v' l' u
+  belongings u r = elim (cases_eq u t) [
+    | inl e ↦ subst (BelongingsStand v' l') (sym e) C.belongings
+    | inr ne ↦ belongings_mapped (rewritten f (sources v t)) (λ o. refl) (λ o. refl) v v' l l' u (C.others u ne) (λ k. C.owners k u ne) (L.others u ne) (ap (λ (m : State). slice_get m.store u) L.machine) (ap (λ (m : State). is_joined (slice_get m.tasks u)) L.machine) (rewritten_words f (sources v t)) (V.belongings u (rest u r))
   ]
 
-  -- what stands in another home, before the rewriting
+  -- what stands in another task's heap, before the rewriting
   was : (u : ℕ) (o : Located) → (u ≡ t → ⊥) → In (objects v' u) o → (q : Located) × In (objects v u) q × (rewritten f (sources v t) q ≡ o)
-  was u o ne i = from_mapped (rewritten f (sources v t)) (λ o. refl) (λ o. refl) (v.homes u).chunks o (subst (λ (h : Home). In (objects_in h.chunks) o) (C.others u ne) i)
+  was u o ne i = from_mapped (rewritten f (sources v t)) (λ o. refl) (λ o. refl) (v.belongings u).chunks o (subst (λ (h : Belongings). In (objects_in h.chunks) o) (C.others u ne) i)
 
   -- a field of another's object: what it names is no object of t, or it is remembered
   field : (u : ℕ) (o : Located) (y : Object) → (u ≡ t → ⊥) → Rests l u → In (objects v u) o → object_at l.machine.store (object_name o) ≡ Some y → (j : ℕ) (n : Name) → slice_get y.refs j ≡ Some (Some n) → Led (Place v l) (Place v' l') f (sources v t) o.at j n
@@ -114,12 +114,12 @@ module _ (v v' : Memory) (l l' : Ledger) (t : ℕ) (x : Task) (f : Addr → Addr
         | inl e ↦ inl (
           elim (V.remembered u o y j n r i is at) [
             | inl h ↦
-                let mine : own l (object_name o) ≡ u = home_own v l S u (V.homes u r) o i in
+                let mine : own l (object_name o) ≡ u = belongings_own v l S u (V.belongings u r) o i in
                 let live : is_joined (slice_get l.machine.tasks u) ≡ false = ap (λ z. is_joined (slice_get l.machine.tasks z)) (sym mine) ∙ own_live l S (object_name o) in
                 absurd (ne (sym (leaf_alone l S t u idle live (ap (λ z. is_on_path l.machine.tasks z u) (sym e) ∙ h))))
             | inr s ↦ subst (λ z. In (sources v z) (record { object = o.at; field = j })) e s
           ],
-          λ a p. moved n a e (live_ref l t S survivors spares (object_name o) n y is (is_kept v l u (V.homes u r) o i) (λ e'. absurd (ne (sym (home_own v l S u (V.homes u r) o i) ∙ e'))) (got_in y.refs j (Some n) at)) p,
+          λ a p. moved n a e (live_ref l t S survivors spares (object_name o) n y is (is_kept v l u (V.belongings u r) o i) (λ e'. absurd (ne (sym (belongings_own v l S u (V.belongings u r) o i) ∙ e'))) (got_in y.refs j (Some n) at)) p,
         )
       ]
 
@@ -134,7 +134,7 @@ module _ (v v' : Memory) (l l' : Ledger) (t : ℕ) (x : Task) (f : Addr → Addr
           record {
             mutable = c.2.mutable;
             ints = c.2.ints;
-            refs = all_led (Place v l) (Place v' l') f q.0.refs c.0.refs (λ n j a. led_place n a (live_ref l t S survivors spares (object_name q.0) n c.0 c.1 (is_kept v l t (V.homes t B.rests) q.0 q.1) (λ e. q.2) j)) c.2.refs;
+            refs = all_led (Place v l) (Place v' l') f q.0.refs c.0.refs (λ n j a. led_place n a (live_ref l t S survivors spares (object_name q.0) n c.0 c.1 (is_kept v l t (V.belongings t B.rests) q.0 q.1) (λ e. q.2) j)) c.2.refs;
           },
         )
     | inr ne ↦
@@ -151,27 +151,27 @@ module _ (v v' : Memory) (l l' : Ledger) (t : ℕ) (x : Task) (f : Addr → Addr
         )
   ]
 
-  own_task : TaskIsRead (Place v l) (v.homes t) x → ((n : Name) → In (task_names x) n → (a : Addr) → Place v l n a → Place v' l' n (f a)) → TaskIsRead (Place v' l') (v'.homes t) x
+  own_task : TaskIsRead (Place v l) (v.belongings t) x → ((n : Name) → In (task_names x) n → (a : Addr) → Place v l n a → Place v' l' n (f a)) → TaskIsRead (Place v' l') (v'.belongings t) x
   own_task k g =
-      subst (HoldsRead (Place v' l') (v'.homes t) x) (sym B.runs)
+      subst (HoldsRead (Place v' l') (v'.belongings t) x) (sym B.runs)
       (subst (λ fs. FramesAreRead (Place v' l') fs (x.top ∷ x.below)) (sym C.frames)
-      (frames_led (Place v l) (Place v' l') f (v.homes t).frames (x.top ∷ x.below)
+      (frames_led (Place v l) (Place v' l') f (v.belongings t).frames (x.top ∷ x.below)
       (λ n i. g n (subst (λ s. In (names_from s (x.top ∷ x.below)) n) (sym B.runs) i))
-      (subst (HoldsRead (Place v l) (v.homes t) x) B.runs k)))
+      (subst (HoldsRead (Place v l) (v.belongings t) x) B.runs k)))
 
-  task : (u : ℕ) (y : Task) → Rests l' u → slice_get l'.machine.tasks u ≡ Some y → TaskIsRead (Place v' l') (v'.homes u) y
+  task : (u : ℕ) (y : Task) → Rests l' u → slice_get l'.machine.tasks u ≡ Some y → TaskIsRead (Place v' l') (v'.belongings u) y
   task u y r is =
       let is' : slice_get l.machine.tasks u ≡ Some y = sym (ap (λ (m : State). slice_get m.tasks u) L.machine) ∙ is in
       elim (cases_eq u t) [
         | inl e ↦
             let same : x ≡ y = same_Some x y (sym B.task ∙ (ap (slice_get l.machine.tasks) (sym e) ∙ is')) in
-            subst (λ (z : Task). TaskIsRead (Place v' l') (v'.homes u) z) same
-            (subst (λ z. TaskIsRead (Place v' l') (v'.homes z) x) (sym e)
+            subst (λ (z : Task). TaskIsRead (Place v' l') (v'.belongings u) z) same
+            (subst (λ z. TaskIsRead (Place v' l') (v'.belongings z) x) (sym e)
             (own_task (V.tasks t x B.rests B.task) (λ n i a. led_place n a (live_task l t S survivors spares t x n B.task i))))
         | inr ne ↦
-            subst (λ (h : Home). TaskIsRead (Place v' l') h y) (sym (C.others u ne))
-            (same_holding (Place v' l') (v.homes u) (rewritten_home f (sources v t) (v.homes u)) y refl refl
-            (task_kept (Place v l) (Place v' l') (v.homes u) y
+            subst (λ (h : Belongings). TaskIsRead (Place v' l') h y) (sym (C.others u ne))
+            (same_holding (Place v' l') (v.belongings u) (rewritten_belongings f (sources v t) (v.belongings u)) y refl refl
+            (task_kept (Place v l) (Place v' l') (v.belongings u) y
             (λ n i a p. (still n a (λ e. ne (sym (leaf_alone l S t u idle (holder_live l S u y n is' i) (ap (λ z. is_on_path l.machine.tasks z u) (sym e) ∙ (S.apart.of_task u y n is' i).1)))) p).0)
             (V.tasks u y (rest u r) is')))
       ]
@@ -195,7 +195,7 @@ module _ (v v' : Memory) (l l' : Ledger) (t : ℕ) (x : Task) (f : Addr → Addr
       elim (cases_eq u t) [
         | inl e ↦
             let q = C.only o (subst (λ z. In (objects v' z) o) e j) in
-            let mine : own l (object_name o) ≡ t = ap (λ (z : Located). own l (object_name z)) q.3 ∙ home_own v l S t (V.homes t B.rests) q.0 q.1 in
+            let mine : own l (object_name o) ≡ t = ap (λ (z : Located). own l (object_name z)) q.3 ∙ belongings_own v l S t (V.belongings t B.rests) q.0 q.1 in
             inl (subst (λ z. is_on_path l'.machine.tasks (own l' n) z ≡ true) (sym e) (up n (own_up o y n mine is' (got_in y.refs i (Some n) at))))
         | inr ne ↦
             let q = was u o ne j in
@@ -216,8 +216,8 @@ module _ (v v' : Memory) (l l' : Ledger) (t : ℕ) (x : Task) (f : Addr → Addr
       source_same l l' L.machine v v' u s k (still k.name s.object ne k.place).0 (worker_same (own l k.name))
       (subst (λ (h : Heap). In h.snapshot k.name) (sym (L.others (own l k.name) ne)) k.kept)
 
-  view_same : (z : ℕ) → (v'.homes z).view ≡ (v.homes z).view
-  view_same z = elim (cases_eq z t) [ inl e ↦ ap (λ k. (v'.homes k).view) e ∙ (C.view ∙ ap (λ k. (v.homes k).view) (sym e)) | inr ne ↦ ap (λ (h : Home). h.view) (C.others z ne) ]
+  view_same : (z : ℕ) → (v'.belongings z).view ≡ (v.belongings z).view
+  view_same z = elim (cases_eq z t) [ inl e ↦ ap (λ k. (v'.belongings k).view) e ∙ (C.view ∙ ap (λ k. (v.belongings k).view) (sym e)) | inr ne ↦ ap (λ (h : Belongings). h.view) (C.others z ne) ]
 
   pub collected : Stands v' l'
-  collected = record { made = λ k u e. ap (λ (m : State). is_some (slice_get m.tasks u)) L.machine ∙ V.made k u (C.owned k u e); homes = home; contents = content; tasks = task; remembered = remember; sources = source; gives = λ z u r j up ne w ru. gives_kept v v' u z (view_same z) (view_same u) (λ k o. C.owned k u o) (V.gives z u (rest z r) (sym (ap (λ (m : State). is_joined (slice_get m.tasks z)) L.machine) ∙ j) (sym (path_same l l' L.machine u z) ∙ up) ne (sym (ap (λ (m : State). is_waiting (slice_get m.tasks u)) L.machine) ∙ w) (rest u ru)); views = λ z r j. collection_shown v v' l l' t (heap_of l t).survivors f S V.views C idle (λ u o s i q k e. noted_mutable v l t u o s V i q k e) view_same (λ u y. path_same l l' L.machine u y) rest z (rest z r) (sym (ap (λ (m : State). is_joined (slice_get m.tasks z)) L.machine) ∙ j) }
+  collected = record { made = λ k u e. ap (λ (m : State). is_some (slice_get m.tasks u)) L.machine ∙ V.made k u (C.owned k u e); belongings = belongings; contents = content; tasks = task; remembered = remember; sources = source; gives = λ z u r j up ne w ru. gives_kept v v' u z (view_same z) (view_same u) (λ k o. C.owned k u o) (V.gives z u (rest z r) (sym (ap (λ (m : State). is_joined (slice_get m.tasks z)) L.machine) ∙ j) (sym (path_same l l' L.machine u z) ∙ up) ne (sym (ap (λ (m : State). is_waiting (slice_get m.tasks u)) L.machine) ∙ w) (rest u ru)); views = λ z r j. collection_shown v v' l l' t (heap_of l t).survivors f S V.views C idle (λ u o s i q k e. noted_mutable v l t u o s V i q k e) view_same (λ u y. path_same l l' L.machine u y) rest z (rest z r) (sym (ap (λ (m : State). is_joined (slice_get m.tasks z)) L.machine) ∙ j) }

@@ -1,4 +1,4 @@
--- A fork: the parent waits, its children have fresh homes, and nothing moves.
+-- A fork: the parent waits, its children have fresh belongings, and nothing moves.
 use Rattle.std.proofs.Common.{is_some, ◌≡◌, ℕ, ◌+◌, true, false, Some, List, [], ◌∷◌, map, length, slice_get, ◌⊎◌, inl, inr, refl, ap, sym, subst, ◌∙◌}
 use Rattle.std.proofs.lemmas.Bool.{cases_eq, both_ways}
 use Rattle.std.proofs.lemmas.Option.{same_Some}
@@ -17,16 +17,16 @@ use Rattle.run_ledger.specs.Heaps.{heap_of, fresh}
 use Rattle.run_ledger.specs.Sound.{SoundLedger}
 use Rattle.task_frames.specs.declared.frames.Frame.{Frame}
 use Rattle.remembered_set.specs.declared.remembered.Source.{Source}
-use Rattle.core_relation.specs.Memory.{Home, Memory, In, object_name, objects, objects_in, sources, Lies}
+use Rattle.core_relation.specs.Memory.{Belongings, Memory, In, object_name, objects, objects_in, sources, Lies}
 use Rattle.core_relation.specs.Reads.{FramesAreRead, HoldsRead, TaskIsRead}
 use Rattle.ledger_step_laws.specs.Accounts.{own, Rests}
 use Rattle.core_relation.specs.Layout.{AreLaidOut}
-use Rattle.core_relation.specs.Stands.{Place, names_of, small_chunks, large_chunks, HasNames, HomeStands, IsSource, Stands, IsShown}
+use Rattle.core_relation.specs.Stands.{Place, names_of, small_chunks, large_chunks, HasNames, BelongingsStand, IsSource, Stands, IsShown}
 use Rattle.ledger_step_laws.specs.Kinds.{ForksTask}
-use Rattle.core_relation.specs.Changes.{ForksHome, advanced, entered, child_home}
+use Rattle.core_relation.specs.Changes.{ForksBelongings, advanced, entered, child_belongings}
 use Rattle.core_relation.proofs.objects.Carry.{object_kept, task_kept, frames_kept}
 use Rattle.core_relation.proofs.objects.LaidOut.{none_laid}
-use Rattle.core_relation.proofs.changes.Alone.{home_kept}
+use Rattle.core_relation.proofs.changes.Alone.{belongings_kept}
 use Rattle.core_relation.proofs.changes.Giving.{fork_gives}
 use Rattle.core_relation.proofs.changes.Shown.{left_shown, right_shown, rest_shown}
 
@@ -38,7 +38,7 @@ entered_read : (at : Name → Addr → Type 0) (fs : List Frame) (t d g : ℕ) (
 entered_read at [] t d g f xs h = absurd h
 entered_read at (y ∷ fs) t d g f xs h = (record { function = refl; next = refl; ints = h.0.ints; refs = h.0.refs }, tt)
 
-module _ (v v' : Memory) (l l' : Ledger) (t a b g h : ℕ) (x : Task) (S : SoundLedger l) (V : Stands v l) (runs : x.status ≡ Running) (rests : Rests l t) (F : ForksTask l l' t a b g h x) (C : ForksHome v v' t a b g h) where
+module _ (v v' : Memory) (l l' : Ledger) (t a b g h : ℕ) (x : Task) (S : SoundLedger l) (V : Stands v l) (runs : x.status ≡ Running) (rests : Rests l t) (F : ForksTask l l' t a b g h x) (C : ForksBelongings v v' t a b g h) where
   abbrev IsOther : ℕ → Type 0
   IsOther z = (z ≡ t → ⊥) × (z ≡ a → ⊥) × (z ≡ b → ⊥)
 
@@ -54,17 +54,17 @@ module _ (v v' : Memory) (l l' : Ledger) (t a b g h : ℕ) (x : Task) (S : Sound
   idle : is_waiting (slice_get l.machine.tasks t) ≡ false
   idle = ap is_waiting F.task ∙ ap (λ s. is_waiting (Some (record x { status = s }))) runs
 
-  -- an old home is as it was, but for the frames
-  chunks_same : (z : ℕ) → (z ≡ a → ⊥) → (z ≡ b → ⊥) → (v'.homes z).chunks ≡ (v.homes z).chunks
+  -- old belongings are as they were, but for the frames
+  chunks_same : (z : ℕ) → (z ≡ a → ⊥) → (z ≡ b → ⊥) → (v'.belongings z).chunks ≡ (v.belongings z).chunks
   chunks_same z na nb = elim (cases_eq z t) [
-    | inl e ↦ ap (λ k. (v'.homes k).chunks) e ∙ (ap (λ (i : Home). i.chunks) C.home ∙ ap (λ k. (v.homes k).chunks) (sym e))
-    | inr nt ↦ ap (λ (i : Home). i.chunks) (C.others z nt na nb)
+    | inl e ↦ ap (λ k. (v'.belongings k).chunks) e ∙ (ap (λ (i : Belongings). i.chunks) C.belongings ∙ ap (λ k. (v.belongings k).chunks) (sym e))
+    | inr nt ↦ ap (λ (i : Belongings). i.chunks) (C.others z nt na nb)
   ]
 
   -- a new one has no object
   none_new : (z : ℕ) (o : Located) → (z ≡ a) ⊎ (z ≡ b) → In (objects v' z) o → ⊥
-  none_new z o (inl e) i = subst (λ (k : Home). In (objects_in k.chunks) o) (ap v'.homes e ∙ C.left) i
-  none_new z o (inr e) i = subst (λ (k : Home). In (objects_in k.chunks) o) (ap v'.homes e ∙ C.right) i
+  none_new z o (inl e) i = subst (λ (k : Belongings). In (objects_in k.chunks) o) (ap v'.belongings e ∙ C.left) i
+  none_new z o (inr e) i = subst (λ (k : Belongings). In (objects_in k.chunks) o) (ap v'.belongings e ∙ C.right) i
 
   rest : (z : ℕ) → (z ≡ a → ⊥) → (z ≡ b → ⊥) → Rests l' z → Rests l z
   rest z na nb r = elim (cases_eq z t) [
@@ -72,12 +72,12 @@ module _ (v v' : Memory) (l l' : Ledger) (t a b g h : ℕ) (x : Task) (S : Sound
     | inr nt ↦ ap (λ (i : Heap). i.worker) (sym (F.heaps z nt na nb)) ∙ r
   ]
 
-  -- what a name's place was in an old home it is
+  -- what a name's place was in old belongings it is
   place_in : (n : Name) (c : Addr) → (own l n ≡ a → ⊥) → (own l n ≡ b → ⊥) → Place v l n c → Place v' l' n c
   place_in n c na nb p = record {
     chunk = C.owner c.chunk ∙ (p.chunk ∙ ap Some (sym (F.owners n.task)));
     here = λ r.
-        subst (λ z. Lies (v'.homes z).chunks n c) (sym (F.owners n.task))
+        subst (λ z. Lies (v'.belongings z).chunks n c) (sym (F.owners n.task))
         (subst (λ ks. Lies ks n c) (sym (chunks_same (own l n) na nb)) (p.here (rest (own l n) na nb (subst (Rests l') (F.owners n.task) r))));
   }
 
@@ -113,70 +113,70 @@ module _ (v v' : Memory) (l l' : Ledger) (t a b g h : ℕ) (x : Task) (S : Sound
     running : is_joined (slice_get l.machine.tasks t) ≡ false
     running = ap is_joined F.task ∙ ap (λ s. is_joined (Some (record x { status = s }))) runs
 
-    old_home : HomeStands v' l' t
-    old_home =
-        let H = V.homes t rests in
+    old_belongings : BelongingsStand v' l' t
+    old_belongings =
+        let H = V.belongings t rests in
         record {
           names = record {
-            small = ap (λ ks. map names_of (small_chunks ks)) (ap (λ (i : Home). i.chunks) C.home) ∙ (H.names.small ∙ sym (ap (λ (i : Heap). i.chunks) F.heap));
-            large = ap (λ ks. map object_name (objects_in (large_chunks ks))) (ap (λ (i : Home). i.chunks) C.home) ∙ (H.names.large ∙ sym (ap (λ (i : Heap). i.large) F.heap));
+            small = ap (λ ks. map names_of (small_chunks ks)) (ap (λ (i : Belongings). i.chunks) C.belongings) ∙ (H.names.small ∙ sym (ap (λ (i : Heap). i.chunks) F.heap));
+            large = ap (λ ks. map object_name (objects_in (large_chunks ks))) (ap (λ (i : Belongings). i.chunks) C.belongings) ∙ (H.names.large ∙ sym (ap (λ (i : Heap). i.large) F.heap));
           };
-          room = ap (λ (i : Home). i.room) C.home ∙ (H.room ∙ sym (ap (λ (i : Heap). i.room) F.heap));
-          since = ap (λ (i : Home). i.since) C.home ∙ (H.since ∙ sym (ap (λ (i : Heap). i.since) F.heap));
-          count = λ live. ap (λ (i : Home). i.count) C.home ∙ (H.count running ∙ sym (F.rows t));
-          owned = λ k i. C.owner k.number ∙ H.owned k (subst (λ (j : Home). In j.chunks k) C.home i);
-          inside = λ k o i j. H.inside k o (subst (λ (j : Home). In j.chunks k) C.home i) j;
-          once = λ o q i j e. H.once o q (subst (λ (j : Home). In (objects_in j.chunks) o) C.home i) (subst (λ (j : Home). In (objects_in j.chunks) q) C.home j) e;
-          named = λ o q i j e. H.named o q (subst (λ (j : Home). In (objects_in j.chunks) o) C.home i) (subst (λ (j : Home). In (objects_in j.chunks) q) C.home j) e;
-          laid = subst (λ (i : Home). AreLaidOut i.chunks (heap_of l' t).reserved) (sym C.home) (subst (AreLaidOut (v.homes t).chunks) (sym (ap (λ (i : Heap). i.reserved) F.heap)) H.laid);
+          room = ap (λ (i : Belongings). i.room) C.belongings ∙ (H.room ∙ sym (ap (λ (i : Heap). i.room) F.heap));
+          since = ap (λ (i : Belongings). i.since) C.belongings ∙ (H.since ∙ sym (ap (λ (i : Heap). i.since) F.heap));
+          count = λ live. ap (λ (i : Belongings). i.count) C.belongings ∙ (H.count running ∙ sym (F.rows t));
+          owned = λ k i. C.owner k.number ∙ H.owned k (subst (λ (j : Belongings). In j.chunks k) C.belongings i);
+          inside = λ k o i j. H.inside k o (subst (λ (j : Belongings). In j.chunks k) C.belongings i) j;
+          once = λ o q i j e. H.once o q (subst (λ (j : Belongings). In (objects_in j.chunks) o) C.belongings i) (subst (λ (j : Belongings). In (objects_in j.chunks) q) C.belongings j) e;
+          named = λ o q i j e. H.named o q (subst (λ (j : Belongings). In (objects_in j.chunks) o) C.belongings i) (subst (λ (j : Belongings). In (objects_in j.chunks) q) C.belongings j) e;
+          laid = subst (λ (i : Belongings). AreLaidOut i.chunks (heap_of l' t).reserved) (sym C.belongings) (subst (AreLaidOut (v.belongings t).chunks) (sym (ap (λ (i : Heap). i.reserved) F.heap)) H.laid);
         }
 
-    new_home : (z f : ℕ) → v'.homes z ≡ child_home f (v.homes t) → heap_of l' z ≡ fresh → length (row_of (slice_get l.machine.store z)) ≡ 0 → HomeStands v' l' z
-    new_home z f eh el er = record {
-      names = subst (λ (i : Home). HasNames i.chunks (heap_of l' z)) (sym eh) (subst (HasNames []) (sym el) (record { small = refl; large = refl }));
-      room = ap (λ (i : Home). i.room) eh ∙ sym (ap (λ (i : Heap). i.room) el);
-      since = ap (λ (i : Home). i.since) eh ∙ sym (ap (λ (i : Heap). i.since) el);
-      count = λ live. ap (λ (i : Home). i.count) eh ∙ sym (F.rows z ∙ er);
-      owned = λ k i. absurd (subst (λ (j : Home). In j.chunks k) eh i);
-      inside = λ k o i j. absurd (subst (λ (j : Home). In j.chunks k) eh i);
-      once = λ o q i j e. absurd (subst (λ (j : Home). In (objects_in j.chunks) o) eh i);
-      named = λ o q i j e. absurd (subst (λ (j : Home). In (objects_in j.chunks) o) eh i);
-      laid = subst (λ (i : Home). AreLaidOut i.chunks (heap_of l' z).reserved) (sym eh) (subst (AreLaidOut []) (sym (ap (λ (i : Heap). i.reserved) el)) none_laid);
+    new_belongings : (z f : ℕ) → v'.belongings z ≡ child_belongings f (v.belongings t) → heap_of l' z ≡ fresh → length (row_of (slice_get l.machine.store z)) ≡ 0 → BelongingsStand v' l' z
+    new_belongings z f eh el er = record {
+      names = subst (λ (i : Belongings). HasNames i.chunks (heap_of l' z)) (sym eh) (subst (HasNames []) (sym el) (record { small = refl; large = refl }));
+      room = ap (λ (i : Belongings). i.room) eh ∙ sym (ap (λ (i : Heap). i.room) el);
+      since = ap (λ (i : Belongings). i.since) eh ∙ sym (ap (λ (i : Heap). i.since) el);
+      count = λ live. ap (λ (i : Belongings). i.count) eh ∙ sym (F.rows z ∙ er);
+      owned = λ k i. absurd (subst (λ (j : Belongings). In j.chunks k) eh i);
+      inside = λ k o i j. absurd (subst (λ (j : Belongings). In j.chunks k) eh i);
+      once = λ o q i j e. absurd (subst (λ (j : Belongings). In (objects_in j.chunks) o) eh i);
+      named = λ o q i j e. absurd (subst (λ (j : Belongings). In (objects_in j.chunks) o) eh i);
+      laid = subst (λ (i : Belongings). AreLaidOut i.chunks (heap_of l' z).reserved) (sym eh) (subst (AreLaidOut []) (sym (ap (λ (i : Heap). i.reserved) el)) none_laid);
     }
 
-    home : (z : ℕ) → Rests l' z → HomeStands v' l' z
-    home z r = elim (which z) [
-      | inl e ↦ subst (HomeStands v' l') (sym e) old_home
+    belongings : (z : ℕ) → Rests l' z → BelongingsStand v' l' z
+    belongings z r = elim (which z) [
+      | inl e ↦ subst (BelongingsStand v' l') (sym e) old_belongings
       | inr w ↦ elim w [
-        | inl e ↦ subst (HomeStands v' l') (sym e) (new_home a g C.left F.heap_left F.new_left)
+        | inl e ↦ subst (BelongingsStand v' l') (sym e) (new_belongings a g C.left F.heap_left F.new_left)
         | inr w' ↦ elim w' [
-          | inl e ↦ subst (HomeStands v' l') (sym e) (new_home b h C.right F.heap_right F.new_right)
-          | inr o ↦ home_kept v v' l l' z (C.others z o.0 o.1 o.2) (λ k e. C.owner k ∙ e) (F.heaps z o.0 o.1 o.2) (F.rows z) (ap is_joined (F.tasks z o.0 o.1 o.2)) (V.homes z (rest z o.1 o.2 r))
+          | inl e ↦ subst (BelongingsStand v' l') (sym e) (new_belongings b h C.right F.heap_right F.new_right)
+          | inr o ↦ belongings_kept v v' l l' z (C.others z o.0 o.1 o.2) (λ k e. C.owner k ∙ e) (F.heaps z o.0 o.1 o.2) (F.rows z) (ap is_joined (F.tasks z o.0 o.1 o.2)) (V.belongings z (rest z o.1 o.2 r))
         ]
       ]
     ]
 
-    frames_then : FramesAreRead (Place v' l') (v.homes t).frames (x.top ∷ x.below)
-    frames_then = frames_kept (Place v l) (Place v' l') (v.homes t).frames (x.top ∷ x.below) (λ n j. place n) (subst (HoldsRead (Place v l) (v.homes t) x) runs (V.tasks t x rests F.task))
+    frames_then : FramesAreRead (Place v' l') (v.belongings t).frames (x.top ∷ x.below)
+    frames_then = frames_kept (Place v l) (Place v' l') (v.belongings t).frames (x.top ∷ x.below) (λ n j. place n) (subst (HoldsRead (Place v l) (v.belongings t) x) runs (V.tasks t x rests F.task))
 
-    new_task : (z f : ℕ) (y : Task) → v'.homes z ≡ child_home f (v.homes t) → slice_get l'.machine.tasks z ≡ Some (child t (x.depth + 1) f x.top) → slice_get l'.machine.tasks z ≡ Some y → TaskIsRead (Place v' l') (v'.homes z) y
+    new_task : (z f : ℕ) (y : Task) → v'.belongings z ≡ child_belongings f (v.belongings t) → slice_get l'.machine.tasks z ≡ Some (child t (x.depth + 1) f x.top) → slice_get l'.machine.tasks z ≡ Some y → TaskIsRead (Place v' l') (v'.belongings z) y
     new_task z f y eh it is =
-        subst (λ (w : Task). TaskIsRead (Place v' l') (v'.homes z) w) (same_Some (child t (x.depth + 1) f x.top) y (sym it ∙ is))
-        (subst (λ (i : Home). TaskIsRead (Place v' l') i (child t (x.depth + 1) f x.top)) (sym eh) (entered_read (Place v' l') (v.homes t).frames t (x.depth + 1) f x.top x.below frames_then))
+        subst (λ (w : Task). TaskIsRead (Place v' l') (v'.belongings z) w) (same_Some (child t (x.depth + 1) f x.top) y (sym it ∙ is))
+        (subst (λ (i : Belongings). TaskIsRead (Place v' l') i (child t (x.depth + 1) f x.top)) (sym eh) (entered_read (Place v' l') (v.belongings t).frames t (x.depth + 1) f x.top x.below frames_then))
 
-    task : (z : ℕ) (y : Task) → Rests l' z → slice_get l'.machine.tasks z ≡ Some y → TaskIsRead (Place v' l') (v'.homes z) y
+    task : (z : ℕ) (y : Task) → Rests l' z → slice_get l'.machine.tasks z ≡ Some y → TaskIsRead (Place v' l') (v'.belongings z) y
     task z y r is = elim (which z) [
       | inl e ↦
-          subst (λ u. TaskIsRead (Place v' l') (v'.homes u) y) (sym e)
-          (subst (λ (w : Task). TaskIsRead (Place v' l') (v'.homes t) w) (same_Some (record x { status = Waiting; top = onward x.top }) y (sym F.waits ∙ (ap (slice_get l'.machine.tasks) (sym e) ∙ is)))
-          (subst (λ (i : Home). TaskIsRead (Place v' l') i (record x { status = Waiting; top = onward x.top })) (sym C.home) (advanced_read (Place v' l') (v.homes t).frames x.top x.below frames_then)))
+          subst (λ u. TaskIsRead (Place v' l') (v'.belongings u) y) (sym e)
+          (subst (λ (w : Task). TaskIsRead (Place v' l') (v'.belongings t) w) (same_Some (record x { status = Waiting; top = onward x.top }) y (sym F.waits ∙ (ap (slice_get l'.machine.tasks) (sym e) ∙ is)))
+          (subst (λ (i : Belongings). TaskIsRead (Place v' l') i (record x { status = Waiting; top = onward x.top })) (sym C.belongings) (advanced_read (Place v' l') (v.belongings t).frames x.top x.below frames_then)))
       | inr w ↦ elim w [
-        | inl e ↦ subst (λ u. TaskIsRead (Place v' l') (v'.homes u) y) (sym e) (new_task a g y C.left F.left (ap (slice_get l'.machine.tasks) (sym e) ∙ is))
+        | inl e ↦ subst (λ u. TaskIsRead (Place v' l') (v'.belongings u) y) (sym e) (new_task a g y C.left F.left (ap (slice_get l'.machine.tasks) (sym e) ∙ is))
         | inr w' ↦ elim w' [
-          | inl e ↦ subst (λ u. TaskIsRead (Place v' l') (v'.homes u) y) (sym e) (new_task b h y C.right F.right (ap (slice_get l'.machine.tasks) (sym e) ∙ is))
+          | inl e ↦ subst (λ u. TaskIsRead (Place v' l') (v'.belongings u) y) (sym e) (new_task b h y C.right F.right (ap (slice_get l'.machine.tasks) (sym e) ∙ is))
           | inr o ↦
-              subst (λ (i : Home). TaskIsRead (Place v' l') i y) (sym (C.others z o.0 o.1 o.2))
-              (task_kept (Place v l) (Place v' l') (v.homes z) y (λ n j. place n) (V.tasks z y (rest z o.1 o.2 r) (sym (F.tasks z o.0 o.1 o.2) ∙ is)))
+              subst (λ (i : Belongings). TaskIsRead (Place v' l') i y) (sym (C.others z o.0 o.1 o.2))
+              (task_kept (Place v l) (Place v' l') (v.belongings z) y (λ n j. place n) (V.tasks z y (rest z o.1 o.2 r) (sym (F.tasks z o.0 o.1 o.2) ∙ is)))
         ]
       ]
     ]
@@ -228,10 +228,10 @@ module _ (v v' : Memory) (l l' : Ledger) (t a b g h : ℕ) (x : Task) (S : Sound
           | inr nt ↦ ap is_joined (F.tasks z nt na nb) ∙ k
         ]
 
-    view_same : (z : ℕ) → (z ≡ a → ⊥) → (z ≡ b → ⊥) → (v'.homes z).view ≡ (v.homes z).view
+    view_same : (z : ℕ) → (z ≡ a → ⊥) → (z ≡ b → ⊥) → (v'.belongings z).view ≡ (v.belongings z).view
     view_same z na nb = elim (cases_eq z t) [
-      | inl e ↦ ap (λ k. (v'.homes k).view) e ∙ (ap (λ (i : Home). i.view) C.home ∙ ap (λ k. (v.homes k).view) (sym e))
-      | inr nt ↦ ap (λ (i : Home). i.view) (C.others z nt na nb)
+      | inl e ↦ ap (λ k. (v'.belongings k).view) e ∙ (ap (λ (i : Belongings). i.view) C.belongings ∙ ap (λ k. (v.belongings k).view) (sym e))
+      | inr nt ↦ ap (λ (i : Belongings). i.view) (C.others z nt na nb)
     ]
 
     live_then : (z : ℕ) → (z ≡ a → ⊥) → (z ≡ b → ⊥) → is_joined (slice_get l'.machine.tasks z) ≡ false → is_joined (slice_get l.machine.tasks z) ≡ false
@@ -242,9 +242,9 @@ module _ (v v' : Memory) (l l' : Ledger) (t a b g h : ℕ) (x : Task) (S : Sound
 
     view : (z : ℕ) → Rests l' z → is_joined (slice_get l'.machine.tasks z) ≡ false → IsShown v' l' z
     view z r j = elim (cases_eq z a) [
-      | inl e ↦ subst (IsShown v' l') (sym e) (left_shown v v' l l' t a b g h x V V.views rests running F C view_same (ap (λ (i : Home). i.view) C.left))
+      | inl e ↦ subst (IsShown v' l') (sym e) (left_shown v v' l l' t a b g h x V V.views rests running F C view_same (ap (λ (i : Belongings). i.view) C.left))
       | inr na ↦ elim (cases_eq z b) [
-        | inl e ↦ subst (IsShown v' l') (sym e) (right_shown v v' l l' t a b g h x V V.views rests running F C view_same (ap (λ (i : Home). i.view) C.right))
+        | inl e ↦ subst (IsShown v' l') (sym e) (right_shown v v' l l' t a b g h x V V.views rests running F C view_same (ap (λ (i : Belongings). i.view) C.right))
         | inr nb ↦ rest_shown v v' l l' t a b g h x V V.views rests running F C view_same z na nb (rest z na nb r) (live_then z na nb j)
       ]
     ]
@@ -252,7 +252,7 @@ module _ (v v' : Memory) (l l' : Ledger) (t a b g h : ℕ) (x : Task) (S : Sound
     pub forked_stands : Stands v' l'
     forked_stands = record {
       made = made;
-      homes = home;
+      belongings = belongings;
       contents = λ z o r i.
           let w = was z o r i in
           let k = V.contents z o w.2 w.3 in

@@ -13,16 +13,16 @@ use Rattle.run_ledger.specs.Sound.{SoundLedger}
 use Rattle.ledger_step_laws.specs.Accounts.{Rests}
 use Rattle.ledger_step_laws.specs.Kinds.{ForksTask}
 use Rattle.ledger_step_laws.proofs.Tree.{leaf_alone}
-use Rattle.core_relation.specs.Memory.{Chunk, Home, Memory, frozen_chunk, frozen_chunks}
-use Rattle.core_relation.specs.Changes.{ForksHome}
-use Rattle.core_relation.specs.Stands.{Gives, HasNumber, HomeStands, Stands}
+use Rattle.core_relation.specs.Memory.{Chunk, Belongings, Memory, frozen_chunk, frozen_chunks}
+use Rattle.core_relation.specs.Changes.{ForksBelongings}
+use Rattle.core_relation.specs.Stands.{Gives, HasNumber, BelongingsStand, Stands}
 use Rattle.core_relation.proofs.objects.Members.{map_in}
 
 abbrev pub EachGives : Memory → Ledger → Type 0
 EachGives v l = (t u : ℕ) → Rests l t → is_joined (slice_get l.machine.tasks t) ≡ false → is_on_path l.machine.tasks u t ≡ true → (u ≡ t → ⊥) → is_waiting (slice_get l.machine.tasks u) ≡ true → Rests l u → Gives v u t
 
 -- where the views of both stay, and the one who gave gets no chunk
-pub gives_kept : (v v' : Memory) (u t : ℕ) → (v'.homes t).view ≡ (v.homes t).view → (v'.homes u).view ≡ (v.homes u).view → ((n : ℕ) → v'.owner n ≡ Some u → v.owner n ≡ Some u) → Gives v u t → Gives v' u t
+pub gives_kept : (v v' : Memory) (u t : ℕ) → (v'.belongings t).view ≡ (v.belongings t).view → (v'.belongings u).view ≡ (v.belongings u).view → ((n : ℕ) → v'.owner n ≡ Some u → v.owner n ≡ Some u) → Gives v u t → Gives v' u t
 gives_kept v v' u t et eu own G = record {
   place = G.place;
   behind = ap (drop (suc G.place)) et ∙ (G.behind ∙ sym eu);
@@ -41,15 +41,15 @@ waits_live (Some y) e = by y.status e
     by Joined e = absurd (false≢true e)
 
 -- a heap's level has only chunks of its task
-level_is_own : (v : Memory) (l : Ledger) (t n : ℕ) → HomeStands v l t → HasNumber (frozen_chunks (v.homes t).chunks) n → v.owner n ≡ Some t
+level_is_own : (v : Memory) (l : Ledger) (t n : ℕ) → BelongingsStand v l t → HasNumber (frozen_chunks (v.belongings t).chunks) n → v.owner n ≡ Some t
 level_is_own v l t n H has =
-    let k = map_in frozen_chunk (v.homes t).chunks has.0 has.1 in
+    let k = map_in frozen_chunk (v.belongings t).chunks has.0 has.1 in
     ap v.owner (sym (ap (λ (c : Chunk). c.number) k.2 ∙ has.2)) ∙ H.owned k.0 k.1
 
 -- A FORK
 module _ (v v' : Memory) (l l' : Ledger) (t a b g h : ℕ) (x : Task) (S : SoundLedger l) (V : Stands v l) (T : EachGives v l) (rests : Rests l t) (runs : x.status ≡ Running)
-    (live : is_joined (slice_get l.machine.tasks t) ≡ false) (F : ForksTask l l' t a b g h x) (C : ForksHome v v' t a b g h)
-    (same : (z : ℕ) → (z ≡ a → ⊥) → (z ≡ b → ⊥) → (v'.homes z).view ≡ (v.homes z).view) where
+    (live : is_joined (slice_get l.machine.tasks t) ≡ false) (F : ForksTask l l' t a b g h x) (C : ForksBelongings v v' t a b g h)
+    (same : (z : ℕ) → (z ≡ a → ⊥) → (z ≡ b → ⊥) → (v'.belongings z).view ≡ (v.belongings z).view) where
   idle : is_waiting (slice_get l.machine.tasks t) ≡ false
   idle = ap is_waiting F.task ∙ ap (λ s. is_waiting (Some (record x { status = s }))) runs
 
@@ -66,29 +66,29 @@ module _ (v v' : Memory) (l l' : Ledger) (t a b g h : ℕ) (x : Task) (S : Sound
   waits u nt na nb w = ap is_waiting (sym (F.tasks u nt na nb)) ∙ w
 
   -- its own level
-  gives_own : (z : ℕ) → (v'.homes z).view ≡ frozen_chunks (v.homes t).chunks ∷ (v.homes t).view → Gives v' t z
+  gives_own : (z : ℕ) → (v'.belongings z).view ≡ frozen_chunks (v.belongings t).chunks ∷ (v.belongings t).view → Gives v' t z
   gives_own z new = record {
     place = 0;
-    behind = ap (drop 1) new ∙ ap (λ (i : Home). i.view) (sym C.home);
+    behind = ap (drop 1) new ∙ ap (λ (i : Belongings). i.view) (sym C.belongings);
     apart = λ i n level lt. absurd (omega (arith, lt));
   }
 
   -- and the others, behind it
-  gives_more : (z u : ℕ) → (v'.homes z).view ≡ frozen_chunks (v.homes t).chunks ∷ (v.homes t).view → (v'.homes u).view ≡ (v.homes u).view → (u ≡ t → ⊥) → Gives v u t → Gives v' u z
+  gives_more : (z u : ℕ) → (v'.belongings z).view ≡ frozen_chunks (v.belongings t).chunks ∷ (v.belongings t).view → (v'.belongings u).view ≡ (v.belongings u).view → (u ≡ t → ⊥) → Gives v u t → Gives v' u z
   gives_more z u new eu nt G = record {
     place = suc G.place;
     behind = ap (drop (suc (suc G.place))) new ∙ (G.behind ∙ sym eu);
     apart = λ i n level lt at has o. by i n level lt (ap (λ ls. slice_get ls i) (sym new) ∙ at) has (sym (C.owner n) ∙ o);
   }
     where
-      by : (i n : ℕ) (level : List Chunk) → i < suc G.place → slice_get (frozen_chunks (v.homes t).chunks ∷ (v.homes t).view) i ≡ Some level → HasNumber level n → v.owner n ≡ Some u → ⊥
+      by : (i n : ℕ) (level : List Chunk) → i < suc G.place → slice_get (frozen_chunks (v.belongings t).chunks ∷ (v.belongings t).view) i ≡ Some level → HasNumber level n → v.owner n ≡ Some u → ⊥
       by zero n level lt at has o =
-          let is : frozen_chunks (v.homes t).chunks ≡ level = same_Some (frozen_chunks (v.homes t).chunks) level at in
-          nt (same_Some u t (sym o ∙ level_is_own v l t n (V.homes t rests) (subst (λ ks. HasNumber ks n) (sym is) has)))
+          let is : frozen_chunks (v.belongings t).chunks ≡ level = same_Some (frozen_chunks (v.belongings t).chunks) level at in
+          nt (same_Some u t (sym o ∙ level_is_own v l t n (V.belongings t rests) (subst (λ ks. HasNumber ks n) (sym is) has)))
       by (suc i) n level lt at has o = G.apart i n level (omega (arith, lt)) at has o
 
   -- to a child
-  gives_child : (z u : ℕ) → ((y : ℕ) → is_on_path l'.machine.tasks y z ≡ true → (y ≡ z) ⊎ (is_on_path l.machine.tasks y t ≡ true)) → (v'.homes z).view ≡ frozen_chunks (v.homes t).chunks ∷ (v.homes t).view
+  gives_child : (z u : ℕ) → ((y : ℕ) → is_on_path l'.machine.tasks y z ≡ true → (y ≡ z) ⊎ (is_on_path l.machine.tasks y t ≡ true)) → (v'.belongings z).view ≡ frozen_chunks (v.belongings t).chunks ∷ (v.belongings t).view
       → is_on_path l'.machine.tasks u z ≡ true → (u ≡ z → ⊥) → is_waiting (slice_get l'.machine.tasks u) ≡ true → Rests l' u → Gives v' u z
   gives_child z u above new up ne w r = elim (above u up) [
     | inl e ↦ absurd (ne e)
@@ -113,9 +113,9 @@ module _ (v v' : Memory) (l l' : Ledger) (t a b g h : ℕ) (x : Task) (S : Sound
   pub fork_gives : (z u : ℕ) → ((z ≡ a → ⊥) → (z ≡ b → ⊥) → Rests l z) → ((z ≡ a → ⊥) → (z ≡ b → ⊥) → is_joined (slice_get l.machine.tasks z) ≡ false) → is_on_path l'.machine.tasks u z ≡ true → (u ≡ z → ⊥)
       → is_waiting (slice_get l'.machine.tasks u) ≡ true → Rests l' u → Gives v' u z
   fork_gives z u rz lz up ne w r = elim (cases_eq z a) [
-    | inl e ↦ subst (Gives v' u) (sym e) (gives_child a u F.above_left (ap (λ (i : Home). i.view) C.left) (subst (λ y. is_on_path l'.machine.tasks u y ≡ true) e up) (λ f. ne (f ∙ sym e)) w r)
+    | inl e ↦ subst (Gives v' u) (sym e) (gives_child a u F.above_left (ap (λ (i : Belongings). i.view) C.left) (subst (λ y. is_on_path l'.machine.tasks u y ≡ true) e up) (λ f. ne (f ∙ sym e)) w r)
     | inr na ↦ elim (cases_eq z b) [
-      | inl e ↦ subst (Gives v' u) (sym e) (gives_child b u F.above_right (ap (λ (i : Home). i.view) C.right) (subst (λ y. is_on_path l'.machine.tasks u y ≡ true) e up) (λ f. ne (f ∙ sym e)) w r)
+      | inl e ↦ subst (Gives v' u) (sym e) (gives_child b u F.above_right (ap (λ (i : Belongings). i.view) C.right) (subst (λ y. is_on_path l'.machine.tasks u y ≡ true) e up) (λ f. ne (f ∙ sym e)) w r)
       | inr nb ↦ gives_rest z u na nb (rz na nb) (lz na nb) up ne w r
     ]
   ]

@@ -22,23 +22,23 @@ use Rattle.run_ledger.specs.Heaps.{heap_of, emptied}
 use Rattle.run_ledger.specs.Sound.{SoundLedger}
 use Rattle.task_frames.specs.declared.frames.Frame.{Frame}
 use Rattle.remembered_set.specs.declared.remembered.Source.{Source}
-use Rattle.core_relation.specs.Memory.{Chunk, Home, no_home, Memory, In, object_name, objects, objects_in, sources, Lies}
+use Rattle.core_relation.specs.Memory.{Chunk, Belongings, no_belongings, Memory, In, object_name, objects, objects_in, sources, Lies}
 use Rattle.core_relation.specs.Reads.{Reads, IsRead, FrameIsRead, FramesAreRead, HoldsRead, TaskIsRead}
 use Rattle.ledger_step_laws.specs.Accounts.{own, Rests}
 use Rattle.core_relation.specs.Layout.{AreLaidOut}
-use Rattle.core_relation.specs.Stands.{Place, HasNames, names_of, small_chunks, large_chunks, Gives, HomeStands, IsSource, Stands, IsShown}
+use Rattle.core_relation.specs.Stands.{Place, HasNames, names_of, small_chunks, large_chunks, Gives, BelongingsStand, IsSource, Stands, IsShown}
 use Rattle.ledger_step_laws.specs.Kinds.{JoinsTasks, CanJoin}
-use Rattle.core_relation.specs.Changes.{JoinsHomes, with_results, top_with_results}
+use Rattle.core_relation.specs.Changes.{JoinsBelongings, with_results, top_with_results}
 use Rattle.core_relation.proofs.objects.Carry.{object_kept, task_kept, frames_kept, read_kept, all_set}
 use Rattle.core_relation.proofs.objects.Members.{in_chunk, in_objects}
 use Rattle.core_relation.proofs.objects.LaidOut.{none_laid, laid_both}
 use Rattle.core_relation.proofs.objects.Merged.{small_both, large_both}
-use Rattle.core_relation.proofs.changes.Alone.{home_own, home_kept}
+use Rattle.core_relation.proofs.changes.Alone.{belongings_own, belongings_kept}
 use Rattle.ledger_step_laws.proofs.Tree.{leaf_alone}
 use Rattle.core_relation.proofs.changes.Shown.{join_shown}
 use Rattle.core_relation.proofs.changes.Giving.{gives_kept, waits_live}
 
-joined_holds : (at : Name → Addr → Type 0) (h : Home) (y : Task) → is_joined (Some y) ≡ true → TaskIsRead at h y
+joined_holds : (at : Name → Addr → Type 0) (h : Belongings) (y : Task) → is_joined (Some y) ≡ true → TaskIsRead at h y
 joined_holds at h y e = by y.status e
   where
     by : (s : Status) → is_over s ≡ true → HoldsRead at h y s
@@ -48,7 +48,7 @@ joined_holds at h y e = by y.status e
     by Joined e = tt
 
 module _ (v v' : Memory) (l l' : Ledger) (p c d : ℕ) (x : Task) (rl rr : ℤ × Option Name) (al ar : ℤ × Option Addr) (S : SoundLedger l) (V : Stands v l)
-    (J : JoinsTasks l l' p c d x rl rr) (T : CanJoin l p c d x) (H : JoinsHomes v v' p c d al ar)
+    (J : JoinsTasks l l' p c d x rl rr) (T : CanJoin l p c d x) (H : JoinsBelongings v v' p c d al ar)
     (gl : (al.0 ≡ rl.0) × Reads (Place v l) al.1 rl.1) (gr : (ar.0 ≡ rr.0) × Reads (Place v l) ar.1 rr.1) where
   abbrev par : ℕ → Option ℕ
   par = parents l.machine.tasks
@@ -141,22 +141,22 @@ module _ (v v' : Memory) (l l' : Ledger) (p c d : ℕ) (x : Task) (rl rr : ℤ �
   part_rests z (inl e) = ap (λ k. (heap_of l k).worker) e ∙ T.rests
   part_rests z (inr ch) = child_rests z ch
 
-  chunk_in : (z : ℕ) (k : Chunk) → IsPart z → In (v.homes z).chunks k → In (v'.homes p).chunks k
+  chunk_in : (z : ℕ) (k : Chunk) → IsPart z → In (v.belongings z).chunks k → In (v'.belongings p).chunks k
   chunk_in z k part i = subst (λ ks. In ks k) (sym H.chunks) (by part)
     where
-      by : IsPart z → In ((v.homes c).chunks ++ (v.homes d).chunks ++ (v.homes p).chunks) k
-      by (inl e) = in_append_right ((v.homes c).chunks ++ (v.homes d).chunks) (v.homes p).chunks k (subst (λ y. In (v.homes y).chunks k) e i)
-      by (inr (inl e)) = in_append_left ((v.homes c).chunks ++ (v.homes d).chunks) (v.homes p).chunks k (in_append_left (v.homes c).chunks (v.homes d).chunks k (subst (λ y. In (v.homes y).chunks k) e i))
-      by (inr (inr e)) = in_append_left ((v.homes c).chunks ++ (v.homes d).chunks) (v.homes p).chunks k (in_append_right (v.homes c).chunks (v.homes d).chunks k (subst (λ y. In (v.homes y).chunks k) e i))
+      by : IsPart z → In ((v.belongings c).chunks ++ (v.belongings d).chunks ++ (v.belongings p).chunks) k
+      by (inl e) = in_append_right ((v.belongings c).chunks ++ (v.belongings d).chunks) (v.belongings p).chunks k (subst (λ y. In (v.belongings y).chunks k) e i)
+      by (inr (inl e)) = in_append_left ((v.belongings c).chunks ++ (v.belongings d).chunks) (v.belongings p).chunks k (in_append_left (v.belongings c).chunks (v.belongings d).chunks k (subst (λ y. In (v.belongings y).chunks k) e i))
+      by (inr (inr e)) = in_append_left ((v.belongings c).chunks ++ (v.belongings d).chunks) (v.belongings p).chunks k (in_append_right (v.belongings c).chunks (v.belongings d).chunks k (subst (λ y. In (v.belongings y).chunks k) e i))
 
-  chunk_was : (k : Chunk) → In (v'.homes p).chunks k → (z : ℕ) × IsPart z × In (v.homes z).chunks k
-  chunk_was k i = elim (in_append_cases ((v.homes c).chunks ++ (v.homes d).chunks) (v.homes p).chunks k (subst (λ ks. In ks k) H.chunks i)) [
-    | inl b ↦ elim (in_append_cases (v.homes c).chunks (v.homes d).chunks k b) [ inl a ↦ (c, inr (inl refl), a) | inr a ↦ (d, inr (inr refl), a) ]
+  chunk_was : (k : Chunk) → In (v'.belongings p).chunks k → (z : ℕ) × IsPart z × In (v.belongings z).chunks k
+  chunk_was k i = elim (in_append_cases ((v.belongings c).chunks ++ (v.belongings d).chunks) (v.belongings p).chunks k (subst (λ ks. In ks k) H.chunks i)) [
+    | inl b ↦ elim (in_append_cases (v.belongings c).chunks (v.belongings d).chunks k b) [ inl a ↦ (c, inr (inl refl), a) | inr a ↦ (d, inr (inr refl), a) ]
     | inr a ↦ (p, inl refl, a)
   ]
 
-  lies_in : (z : ℕ) (n : Name) (a : Addr) → IsPart z → Lies (v.homes z).chunks n a → Lies (v'.homes p).chunks n a
-  lies_in z n a part q = let k = in_chunk (v.homes z).chunks q.0 q.1 in (q.0, in_objects (v'.homes p).chunks k.0 q.0 (chunk_in z k.0 part k.1) k.2, q.2)
+  lies_in : (z : ℕ) (n : Name) (a : Addr) → IsPart z → Lies (v.belongings z).chunks n a → Lies (v'.belongings p).chunks n a
+  lies_in z n a part q = let k = in_chunk (v.belongings z).chunks q.0 q.1 in (q.0, in_objects (v'.belongings p).chunks k.0 q.0 (chunk_in z k.0 part k.1) k.2, q.2)
 
   -- where an object stood before
   pub record Was (z : ℕ) (o : Located) : Type 0 where
@@ -166,26 +166,26 @@ module _ (v v' : Memory) (l l' : Ledger) (p c d : ℕ) (x : Task) (rl rr : ℤ �
     pub came : ((z ≡ p) × IsPart home) ⊎ ((home ≡ z) × IsOther z)
 
   no_object : (z : ℕ) (o : Located) → IsChild z → In (objects v' z) o → ⊥
-  no_object z o (inl e) i = subst (λ (h : Home). In (objects_in h.chunks) o) (ap v'.homes e ∙ H.left) i
-  no_object z o (inr e) i = subst (λ (h : Home). In (objects_in h.chunks) o) (ap v'.homes e ∙ H.right) i
+  no_object z o (inl e) i = subst (λ (h : Belongings). In (objects_in h.chunks) o) (ap v'.belongings e ∙ H.left) i
+  no_object z o (inr e) i = subst (λ (h : Belongings). In (objects_in h.chunks) o) (ap v'.belongings e ∙ H.right) i
 
   was : (z : ℕ) (o : Located) → Rests l' z → In (objects v' z) o → Was z o
   was z o r i = elim (which z) [
     | inl e ↦
-        let k = in_chunk (v'.homes p).chunks o (subst (λ y. In (objects v' y) o) e i) in
+        let k = in_chunk (v'.belongings p).chunks o (subst (λ y. In (objects v' y) o) e i) in
         let w = chunk_was k.0 k.1 in
-        record { home = w.0; rests = part_rests w.0 w.1; there = in_objects (v.homes w.0).chunks k.0 o w.2 k.2; came = inl (e, w.1) }
+        record { home = w.0; rests = part_rests w.0 w.1; there = in_objects (v.belongings w.0).chunks k.0 o w.2 k.2; came = inl (e, w.1) }
     | inr w ↦ elim w [
       | inl ch ↦ absurd (no_object z o ch i)
-      | inr ot ↦ record { home = z; rests = rest z r; there = subst (λ (h : Home). In (objects_in h.chunks) o) (H.others z ot.0 ot.1 ot.2) i; came = inr (refl, ot) }
+      | inr ot ↦ record { home = z; rests = rest z r; there = subst (λ (h : Belongings). In (objects_in h.chunks) o) (H.others z ot.0 ot.1 ot.2) i; came = inr (refl, ot) }
     ]
   ]
 
   -- a chunk of any of them is the parent's then
-  relabelled : (z : ℕ) (k : Chunk) → IsPart z → In (v.homes z).chunks k → v'.owner k.number ≡ Some p
-  relabelled z k (inl e) i = H.owners k.number p p_c p_d ((V.homes z (part_rests z (inl e))).owned k i ∙ ap Some e)
-  relabelled z k (inr (inl e)) i = H.owner_left k (subst (λ y. In (v.homes y).chunks k) e i)
-  relabelled z k (inr (inr e)) i = H.owner_right k (subst (λ y. In (v.homes y).chunks k) e i)
+  relabelled : (z : ℕ) (k : Chunk) → IsPart z → In (v.belongings z).chunks k → v'.owner k.number ≡ Some p
+  relabelled z k (inl e) i = H.owners k.number p p_c p_d ((V.belongings z (part_rests z (inl e))).owned k i ∙ ap Some e)
+  relabelled z k (inr (inl e)) i = H.owner_left k (subst (λ y. In (v.belongings y).chunks k) e i)
+  relabelled z k (inr (inr e)) i = H.owner_right k (subst (λ y. In (v.belongings y).chunks k) e i)
 
   -- PLACES
 
@@ -193,24 +193,24 @@ module _ (v v' : Memory) (l l' : Ledger) (p c d : ℕ) (x : Task) (rl rr : ℤ �
   place n a q = elim (J.owners n.task) [
     | inl m ↦ record {
       chunk = given m.1 (q.here (child_rests (own l n) m.1)) ∙ ap Some (sym m.0);
-      here = λ r. subst (λ u. Lies (v'.homes u).chunks n a) (sym m.0) (lies_in (own l n) n a (inr m.1) (q.here (child_rests (own l n) m.1)));
+      here = λ r. subst (λ u. Lies (v'.belongings u).chunks n a) (sym m.0) (lies_in (own l n) n a (inr m.1) (q.here (child_rests (own l n) m.1)));
     }
     | inr m ↦ record {
       chunk = H.owners a.chunk (own l n) m.1.0 m.1.1 q.chunk ∙ ap Some (sym m.0);
       here = λ r.
-          let there : Lies (v.homes (own l n)).chunks n a = q.here (rest (own l n) (subst (Rests l') m.0 r)) in
-          subst (λ u. Lies (v'.homes u).chunks n a) (sym m.0) (
+          let there : Lies (v.belongings (own l n)).chunks n a = q.here (rest (own l n) (subst (Rests l') m.0 r)) in
+          subst (λ u. Lies (v'.belongings u).chunks n a) (sym m.0) (
           elim (cases_eq (own l n) p) [
-            | inl e ↦ subst (λ u. Lies (v'.homes u).chunks n a) (sym e) (lies_in (own l n) n a (inl e) there)
-            | inr ne ↦ subst (λ (h : Home). Lies h.chunks n a) (sym (H.others (own l n) ne m.1.0 m.1.1)) there
+            | inl e ↦ subst (λ u. Lies (v'.belongings u).chunks n a) (sym e) (lies_in (own l n) n a (inl e) there)
+            | inr ne ↦ subst (λ (h : Belongings). Lies h.chunks n a) (sym (H.others (own l n) ne m.1.0 m.1.1)) there
           ]);
     }
   ]
     where
-      given : IsChild (own l n) → Lies (v.homes (own l n)).chunks n a → v'.owner a.chunk ≡ Some p
+      given : IsChild (own l n) → Lies (v.belongings (own l n)).chunks n a → v'.owner a.chunk ≡ Some p
       given ch y =
-          let k = in_chunk (v.homes (own l n)).chunks y.0 y.1 in
-          ap v'.owner (ap (λ (b : Addr). b.chunk) (sym y.2.at) ∙ (V.homes (own l n) (child_rests (own l n) ch)).inside k.0 y.0 k.1 k.2) ∙ relabelled (own l n) k.0 (inr ch) k.1
+          let k = in_chunk (v.belongings (own l n)).chunks y.0 y.1 in
+          ap v'.owner (ap (λ (b : Addr). b.chunk) (sym y.2.at) ∙ (V.belongings (own l n) (child_rests (own l n) ch)).inside k.0 y.0 k.1 k.2) ∙ relabelled (own l n) k.0 (inr ch) k.1
 
   store_same : (n : Name) → object_at l'.machine.store n ≡ object_at l.machine.store n
   store_same n = J.store n
@@ -218,57 +218,57 @@ module _ (v v' : Memory) (l l' : Ledger) (p c d : ℕ) (x : Task) (rl rr : ℤ �
   row_same : (u : ℕ) → length (row_of (slice_get l'.machine.store u)) ≡ length (row_of (slice_get l.machine.store u))
   row_same u = J.rows u
 
-  -- HOMES
+  -- BELONGINGS
 
   owned_by : (z : ℕ) (o : Located) → Rests l z → In (objects v z) o → v.owner o.at.chunk ≡ Some z
-  owned_by z o r i = let k = in_chunk (v.homes z).chunks o i in ap v.owner ((V.homes z r).inside k.0 o k.1 k.2) ∙ (V.homes z r).owned k.0 k.1
+  owned_by z o r i = let k = in_chunk (v.belongings z).chunks o i in ap v.owner ((V.belongings z r).inside k.0 o k.1 k.2) ∙ (V.belongings z r).owned k.0 k.1
 
   abbrev A : List Chunk
-  A = (v.homes c).chunks
+  A = (v.belongings c).chunks
 
   abbrev B : List Chunk
-  B = (v.homes d).chunks
+  B = (v.belongings d).chunks
 
   abbrev C : List Chunk
-  C = (v.homes p).chunks
+  C = (v.belongings p).chunks
 
   abbrev both : Heap
   both = record (heap_of l p) { chunks = (heap_of l c).chunks ++ (heap_of l d).chunks; large = (heap_of l c).large ++ (heap_of l d).large }
 
   both_names : HasNames (A ++ B) both
   both_names = record {
-    small = small_both A B (heap_of l c) (heap_of l d) (V.homes c T.left_rests).names (V.homes d T.right_rests).names;
-    large = large_both A B (heap_of l c) (heap_of l d) (V.homes c T.left_rests).names (V.homes d T.right_rests).names;
+    small = small_both A B (heap_of l c) (heap_of l d) (V.belongings c T.left_rests).names (V.belongings d T.right_rests).names;
+    large = large_both A B (heap_of l c) (heap_of l d) (V.belongings c T.left_rests).names (V.belongings d T.right_rests).names;
   }
 
-  merged_names : HasNames (v'.homes p).chunks (heap_of l' p)
+  merged_names : HasNames (v'.belongings p).chunks (heap_of l' p)
   merged_names = record {
-    small = ap (λ ks. map names_of (small_chunks ks)) H.chunks ∙ (small_both (A ++ B) C both (heap_of l p) both_names (V.homes p T.rests).names ∙ sym (ap (λ (h : Heap). h.chunks) J.heap));
-    large = ap (λ ks. map object_name (objects_in (large_chunks ks))) H.chunks ∙ (large_both (A ++ B) C both (heap_of l p) both_names (V.homes p T.rests).names ∙ sym (ap (λ (h : Heap). h.large) J.heap));
+    small = ap (λ ks. map names_of (small_chunks ks)) H.chunks ∙ (small_both (A ++ B) C both (heap_of l p) both_names (V.belongings p T.rests).names ∙ sym (ap (λ (h : Heap). h.chunks) J.heap));
+    large = ap (λ ks. map object_name (objects_in (large_chunks ks))) H.chunks ∙ (large_both (A ++ B) C both (heap_of l p) both_names (V.belongings p T.rests).names ∙ sym (ap (λ (h : Heap). h.large) J.heap));
   }
 
-  merged_home : HomeStands v' l' p
-  merged_home = record {
+  merged_belongings : BelongingsStand v' l' p
+  merged_belongings = record {
     names = merged_names;
-    room = H.room ∙ ((V.homes p T.rests).room ∙ sym (ap (λ (h : Heap). h.room) J.heap));
+    room = H.room ∙ ((V.belongings p T.rests).room ∙ sym (ap (λ (h : Heap). h.room) J.heap));
     since =
-        let a : (v.homes p).since ≡ (heap_of l p).since = (V.homes p T.rests).since in
-        let b : (v.homes c).since ≡ (heap_of l c).since = (V.homes c T.left_rests).since in
-        let e : (v.homes d).since ≡ (heap_of l d).since = (V.homes d T.right_rests).since in
+        let a : (v.belongings p).since ≡ (heap_of l p).since = (V.belongings p T.rests).since in
+        let b : (v.belongings c).since ≡ (heap_of l c).since = (V.belongings c T.left_rests).since in
+        let e : (v.belongings d).since ≡ (heap_of l d).since = (V.belongings d T.right_rests).since in
         H.since ∙ (ap₂ (λ i j. i + j) (ap₂ (λ i j. i + j) a b) e ∙ sym (ap (λ (h : Heap). h.since) J.heap));
-    count = λ live. H.count ∙ ((V.homes p T.rests).count parent_was_live ∙ sym (row_same p));
+    count = λ live. H.count ∙ ((V.belongings p T.rests).count parent_was_live ∙ sym (row_same p));
     owned = λ k i. let w = chunk_was k i in relabelled w.0 k w.1 w.2;
-    inside = λ k o i j. let w = chunk_was k i in (V.homes w.0 (part_rests w.0 w.1)).inside k o w.2 j;
+    inside = λ k o i j. let w = chunk_was k i in (V.belongings w.0 (part_rests w.0 w.1)).inside k o w.2 j;
     once = λ o q i j e.
         let a = was p o rests' i in
         let b = was p q rests' j in
         let same : a.home ≡ b.home = same_Some a.home b.home (sym (owned_by a.home o a.rests a.there) ∙ (ap (λ (z : Addr). v.owner z.chunk) e ∙ owned_by b.home q b.rests b.there)) in
-        (V.homes a.home a.rests).once o q a.there (subst (λ z. In (objects v z) q) (sym same) b.there) e;
+        (V.belongings a.home a.rests).once o q a.there (subst (λ z. In (objects v z) q) (sym same) b.there) e;
     named = λ o q i j e.
         let a = was p o rests' i in
         let b = was p q rests' j in
-        let same : a.home ≡ b.home = sym (home_own v l S a.home (V.homes a.home a.rests) o a.there) ∙ (ap (own l) e ∙ home_own v l S b.home (V.homes b.home b.rests) q b.there) in
-        (V.homes a.home a.rests).named o q a.there (subst (λ z. In (objects v z) q) (sym same) b.there) e;
+        let same : a.home ≡ b.home = sym (belongings_own v l S a.home (V.belongings a.home a.rests) o a.there) ∙ (ap (own l) e ∙ belongings_own v l S b.home (V.belongings b.home b.rests) q b.there) in
+        (V.belongings a.home a.rests).named o q a.there (subst (λ z. In (objects v z) q) (sym same) b.there) e;
     laid = subst (λ ks. AreLaidOut ks (heap_of l' p).reserved) (sym H.chunks) (subst (AreLaidOut (A ++ B ++ C)) (sym (ap (λ (h : Heap). h.reserved) J.heap))
         (laid_both (A ++ B) C (heap_of l p).reserved (laid_both A B 0 (subst (AreLaidOut A) T.left_spares (at c (inr (inl refl))).laid) (subst (AreLaidOut B) T.right_spares (at d (inr (inr refl))).laid)
         (λ j k a b e. T.two (one_owner j k c d (inr (inl refl)) (inr (inr refl)) a b e)) (at c (inr (inl refl))).inside (at d (inr (inr refl))).inside)
@@ -281,38 +281,38 @@ module _ (v v' : Memory) (l l' : Ledger) (p c d : ℕ) (x : Task) (rl rr : ℤ �
         (at p (inl refl)).inside));
   }
     where
-      at : (z : ℕ) → IsPart z → HomeStands v l z
-      at z part = V.homes z (part_rests z part)
+      at : (z : ℕ) → IsPart z → BelongingsStand v l z
+      at z part = V.belongings z (part_rests z part)
 
       -- a number is of one heap's chunk
-      one_owner : (j k : Chunk) (y z : ℕ) → IsPart y → IsPart z → In (v.homes y).chunks j → In (v.homes z).chunks k → j.number ≡ k.number → y ≡ z
+      one_owner : (j k : Chunk) (y z : ℕ) → IsPart y → IsPart z → In (v.belongings y).chunks j → In (v.belongings z).chunks k → j.number ≡ k.number → y ≡ z
       one_owner j k y z a b i m e = same_Some y z (sym ((at y a).owned j i) ∙ (ap v.owner e ∙ (at z b).owned k m))
 
       rests' : Rests l' p
       rests' = ap (λ (h : Heap). h.worker) J.heap ∙ T.rests
 
-  empty_home : (z : ℕ) → is_joined (slice_get l'.machine.tasks z) ≡ true → (heap_of l z).reserved ≡ 0 → v'.homes z ≡ no_home → heap_of l' z ≡ emptied (heap_of l z) → HomeStands v' l' z
-  empty_home z gone spare eh el = record {
-    names = subst (λ (h : Home). HasNames h.chunks (heap_of l' z)) (sym eh) (subst (HasNames []) (sym el) (record { small = refl; large = refl }));
-    room = ap (λ (h : Home). h.room) eh ∙ sym (ap (λ (h : Heap). h.room) el);
-    since = ap (λ (h : Home). h.since) eh ∙ sym (ap (λ (h : Heap). h.since) el);
+  empty_belongings : (z : ℕ) → is_joined (slice_get l'.machine.tasks z) ≡ true → (heap_of l z).reserved ≡ 0 → v'.belongings z ≡ no_belongings → heap_of l' z ≡ emptied (heap_of l z) → BelongingsStand v' l' z
+  empty_belongings z gone spare eh el = record {
+    names = subst (λ (h : Belongings). HasNames h.chunks (heap_of l' z)) (sym eh) (subst (HasNames []) (sym el) (record { small = refl; large = refl }));
+    room = ap (λ (h : Belongings). h.room) eh ∙ sym (ap (λ (h : Heap). h.room) el);
+    since = ap (λ (h : Belongings). h.since) eh ∙ sym (ap (λ (h : Heap). h.since) el);
     count = λ live. absurd (both_ways (is_joined (slice_get l'.machine.tasks z)) live gone);
-    owned = λ k i. absurd (subst (λ (h : Home). In h.chunks k) eh i);
-    inside = λ k o i j. absurd (subst (λ (h : Home). In h.chunks k) eh i);
-    once = λ o q i j e. absurd (subst (λ (h : Home). In (objects_in h.chunks) o) eh i);
-    named = λ o q i j e. absurd (subst (λ (h : Home). In (objects_in h.chunks) o) eh i);
-    laid = subst (λ (h : Home). AreLaidOut h.chunks (heap_of l' z).reserved) (sym eh) (subst (AreLaidOut []) (sym (ap (λ (h : Heap). h.reserved) el ∙ spare)) none_laid);
+    owned = λ k i. absurd (subst (λ (h : Belongings). In h.chunks k) eh i);
+    inside = λ k o i j. absurd (subst (λ (h : Belongings). In h.chunks k) eh i);
+    once = λ o q i j e. absurd (subst (λ (h : Belongings). In (objects_in h.chunks) o) eh i);
+    named = λ o q i j e. absurd (subst (λ (h : Belongings). In (objects_in h.chunks) o) eh i);
+    laid = subst (λ (h : Belongings). AreLaidOut h.chunks (heap_of l' z).reserved) (sym eh) (subst (AreLaidOut []) (sym (ap (λ (h : Heap). h.reserved) el ∙ spare)) none_laid);
   }
 
-  home : (z : ℕ) → Rests l' z → HomeStands v' l' z
-  home z r = elim (which z) [
-    | inl e ↦ subst (HomeStands v' l') (sym e) merged_home
+  belongings : (z : ℕ) → Rests l' z → BelongingsStand v' l' z
+  belongings z r = elim (which z) [
+    | inl e ↦ subst (BelongingsStand v' l') (sym e) merged_belongings
     | inr w ↦ elim w [
       | inl ch ↦ elim ch [
-        | inl e ↦ subst (HomeStands v' l') (sym e) (empty_home c J.left T.left_spares H.left J.heap_left)
-        | inr e ↦ subst (HomeStands v' l') (sym e) (empty_home d J.right T.right_spares H.right J.heap_right)
+        | inl e ↦ subst (BelongingsStand v' l') (sym e) (empty_belongings c J.left T.left_spares H.left J.heap_left)
+        | inr e ↦ subst (BelongingsStand v' l') (sym e) (empty_belongings d J.right T.right_spares H.right J.heap_right)
       ]
-      | inr o ↦ home_kept v v' l l' z (H.others z o.0 o.1 o.2) (λ k. H.owners k z o.1 o.2) (J.heaps z o.0 o.1 o.2) (row_same z) (ap is_joined (J.tasks z o.0 o.1 o.2)) (V.homes z (rest z r))
+      | inr o ↦ belongings_kept v v' l l' z (H.others z o.0 o.1 o.2) (λ k. H.owners k z o.1 o.2) (J.heaps z o.0 o.1 o.2) (row_same z) (ap is_joined (J.tasks z o.0 o.1 o.2)) (V.belongings z (rest z r))
     ]
   ]
 
@@ -362,22 +362,22 @@ module _ (v v' : Memory) (l l' : Ledger) (p c d : ℕ) (x : Task) (rl rr : ℤ �
   resumed_frames [] k = absurd k
   resumed_frames (f ∷ fs) k = (resumed_frame f x.top k.0, k.1)
 
-  parent_task : TaskIsRead (Place v' l') (v'.homes p) (resumed x rl rr)
+  parent_task : TaskIsRead (Place v' l') (v'.belongings p) (resumed x rl rr)
   parent_task =
-      let k : FramesAreRead (Place v l) (v.homes p).frames (x.top ∷ x.below) = subst (HoldsRead (Place v l) (v.homes p) x) T.waits (V.tasks p x T.rests J.parent) in
+      let k : FramesAreRead (Place v l) (v.belongings p).frames (x.top ∷ x.below) = subst (HoldsRead (Place v l) (v.belongings p) x) T.waits (V.tasks p x T.rests J.parent) in
       subst (λ fs. FramesAreRead (Place v' l') fs ((resumed x rl rr).top ∷ x.below)) (sym H.frames)
-      (resumed_frames (v.homes p).frames (frames_kept (Place v l) (Place v' l') (v.homes p).frames (x.top ∷ x.below) (λ n i. place n) k))
+      (resumed_frames (v.belongings p).frames (frames_kept (Place v l) (Place v' l') (v.belongings p).frames (x.top ∷ x.below) (λ n i. place n) k))
 
-  task : (z : ℕ) (y : Task) → Rests l' z → slice_get l'.machine.tasks z ≡ Some y → TaskIsRead (Place v' l') (v'.homes z) y
+  task : (z : ℕ) (y : Task) → Rests l' z → slice_get l'.machine.tasks z ≡ Some y → TaskIsRead (Place v' l') (v'.belongings z) y
   task z y r is = elim (which z) [
     | inl e ↦
         let same : resumed x rl rr ≡ y = same_Some (resumed x rl rr) y (sym J.resumed ∙ (ap (slice_get l'.machine.tasks) (sym e) ∙ is)) in
-        subst (λ (w : Task). TaskIsRead (Place v' l') (v'.homes z) w) same (subst (λ u. TaskIsRead (Place v' l') (v'.homes u) (resumed x rl rr)) (sym e) parent_task)
+        subst (λ (w : Task). TaskIsRead (Place v' l') (v'.belongings z) w) same (subst (λ u. TaskIsRead (Place v' l') (v'.belongings u) (resumed x rl rr)) (sym e) parent_task)
     | inr w ↦ elim w [
-      | inl ch ↦ joined_holds (Place v' l') (v'.homes z) y (ap is_joined (sym is) ∙ elim ch [ inl e ↦ ap (λ k. is_joined (slice_get l'.machine.tasks k)) e ∙ J.left | inr e ↦ ap (λ k. is_joined (slice_get l'.machine.tasks k)) e ∙ J.right ])
+      | inl ch ↦ joined_holds (Place v' l') (v'.belongings z) y (ap is_joined (sym is) ∙ elim ch [ inl e ↦ ap (λ k. is_joined (slice_get l'.machine.tasks k)) e ∙ J.left | inr e ↦ ap (λ k. is_joined (slice_get l'.machine.tasks k)) e ∙ J.right ])
       | inr o ↦
-          subst (λ (h : Home). TaskIsRead (Place v' l') h y) (sym (H.others z o.0 o.1 o.2))
-          (task_kept (Place v l) (Place v' l') (v.homes z) y (λ n j. place n) (V.tasks z y (rest z r) (sym (J.tasks z o.0 o.1 o.2) ∙ is)))
+          subst (λ (h : Belongings). TaskIsRead (Place v' l') h y) (sym (H.others z o.0 o.1 o.2))
+          (task_kept (Place v l) (Place v' l') (v.belongings z) y (λ n j. place n) (V.tasks z y (rest z r) (sym (J.tasks z o.0 o.1 o.2) ∙ is)))
     ]
   ]
 
@@ -498,10 +498,10 @@ module _ (v v' : Memory) (l l' : Ledger) (p c d : ℕ) (x : Task) (rl rr : ℤ �
       let gone : (k : ℕ) → is_joined (slice_get l'.machine.tasks k) ≡ true → z ≡ k → ⊥ = λ k g f. both_ways (is_joined (slice_get l'.machine.tasks z)) j (ap (λ y. is_joined (slice_get l'.machine.tasks y)) f ∙ g) in
       let nc : z ≡ c → ⊥ = gone c J.left in
       let nd : z ≡ d → ⊥ = gone d J.right in
-      let shown : Rests l z → is_joined (slice_get l.machine.tasks z) ≡ false → (v'.homes z).view ≡ (v.homes z).view → IsShown v' l' z = λ rz lz same. join_shown v v' l l' p c d x rl rr al ar only_children V.views J H T z same rz lz j in
+      let shown : Rests l z → is_joined (slice_get l.machine.tasks z) ≡ false → (v'.belongings z).view ≡ (v.belongings z).view → IsShown v' l' z = λ rz lz same. join_shown v v' l l' p c d x rl rr al ar only_children V.views J H T z same rz lz j in
       elim (cases_eq z p) [
-        | inl e ↦ shown (ap (λ k. (heap_of l k).worker) e ∙ T.rests) (ap (λ k. is_joined (slice_get l.machine.tasks k)) e ∙ parent_was_live) (ap (λ k. (v'.homes k).view) e ∙ (H.view ∙ ap (λ k. (v.homes k).view) (sym e)))
-        | inr np ↦ shown (ap (λ (k : Heap). k.worker) (sym (J.heaps z np nc nd)) ∙ r) (ap is_joined (sym (J.tasks z np nc nd)) ∙ j) (ap (λ (k : Home). k.view) (H.others z np nc nd))
+        | inl e ↦ shown (ap (λ k. (heap_of l k).worker) e ∙ T.rests) (ap (λ k. is_joined (slice_get l.machine.tasks k)) e ∙ parent_was_live) (ap (λ k. (v'.belongings k).view) e ∙ (H.view ∙ ap (λ k. (v.belongings k).view) (sym e)))
+        | inr np ↦ shown (ap (λ (k : Heap). k.worker) (sym (J.heaps z np nc nd)) ∙ r) (ap is_joined (sym (J.tasks z np nc nd)) ∙ j) (ap (λ (k : Belongings). k.view) (H.others z np nc nd))
       ]
 
   give : (z u : ℕ) → Rests l' z → is_joined (slice_get l'.machine.tasks z) ≡ false → is_on_path l'.machine.tasks u z ≡ true → (u ≡ z → ⊥) → is_waiting (slice_get l'.machine.tasks u) ≡ true → Rests l' u → Gives v' u z
@@ -514,15 +514,15 @@ module _ (v v' : Memory) (l l' : Ledger) (p c d : ℕ) (x : Task) (rl rr : ℤ �
       let du = gone u d J.right live_u in
       let w1 : is_waiting (slice_get l.machine.tasks u) ≡ true = ap is_waiting (sym (J.tasks u pu cu du)) ∙ w in
       let ru1 : Rests l u = ap (λ (k : Heap). k.worker) (sym (J.heaps u pu cu du)) ∙ ru in
-      let same_u : (v'.homes u).view ≡ (v.homes u).view = ap (λ (k : Home). k.view) (H.others u pu cu du) in
+      let same_u : (v'.belongings u).view ≡ (v.belongings u).view = ap (λ (k : Belongings). k.view) (H.others u pu cu du) in
       let own : (n : ℕ) → v'.owner n ≡ Some u → v.owner n ≡ Some u = λ n o. elim (H.owned n u o) [ inl old ↦ old | inr new ↦ absurd (pu new.0) ] in
-      let kept : (v'.homes z).view ≡ (v.homes z).view → Rests l z → is_joined (slice_get l.machine.tasks z) ≡ false → Gives v' u z = λ same rz lz. gives_kept v v' u z same same_u own (V.gives z u rz lz up1 ne w1 ru1) in
+      let kept : (v'.belongings z).view ≡ (v.belongings z).view → Rests l z → is_joined (slice_get l.machine.tasks z) ≡ false → Gives v' u z = λ same rz lz. gives_kept v v' u z same same_u own (V.gives z u rz lz up1 ne w1 ru1) in
       let nc = gone z c J.left j in
       let nd = gone z d J.right j in
       elim (cases_eq z p) [
-        | inl e ↦ kept (ap (λ k. (v'.homes k).view) e ∙ (H.view ∙ ap (λ k. (v.homes k).view) (sym e))) (ap (λ k. (heap_of l k).worker) e ∙ T.rests) (ap (λ k. is_joined (slice_get l.machine.tasks k)) e ∙ parent_was_live)
-        | inr np ↦ kept (ap (λ (k : Home). k.view) (H.others z np nc nd)) (ap (λ (k : Heap). k.worker) (sym (J.heaps z np nc nd)) ∙ r) (ap is_joined (sym (J.tasks z np nc nd)) ∙ j)
+        | inl e ↦ kept (ap (λ k. (v'.belongings k).view) e ∙ (H.view ∙ ap (λ k. (v.belongings k).view) (sym e))) (ap (λ k. (heap_of l k).worker) e ∙ T.rests) (ap (λ k. is_joined (slice_get l.machine.tasks k)) e ∙ parent_was_live)
+        | inr np ↦ kept (ap (λ (k : Belongings). k.view) (H.others z np nc nd)) (ap (λ (k : Heap). k.worker) (sym (J.heaps z np nc nd)) ∙ r) (ap is_joined (sym (J.tasks z np nc nd)) ∙ j)
       ]
 
   pub joined_stands : Stands v' l'
-  joined_stands = record { made = made; homes = home; contents = content; tasks = task; remembered = remember; sources = source; views = view; gives = give }
+  joined_stands = record { made = made; belongings = belongings; contents = content; tasks = task; remembered = remember; sources = source; views = view; gives = give }

@@ -1,5 +1,5 @@
--- What the last step of an entry changes of the accounts and of the memory, it changes so of those with the steps and the home
--- of another task's part.
+-- What the last step of an entry changes of the accounts and of the memory, it changes so of those with the steps and
+-- the belongings of another task's part.
 use Rattle.std.proofs.Common.{◌≡◌, ℕ, ℤ, ◌+◌, false, Option, List, ◌++◌, map, length, slice_get, ◌⊎◌, inl, inr, refl, ap, ap₂, sym, subst, ◌∙◌}
 use Rattle.std.proofs.lemmas.Bool.{cases_eq, both_ways}
 use Rattle.object_layout.specs.declared.word.Addr.{Addr}
@@ -13,13 +13,13 @@ use Rattle.run_ledger.specs.declared.data.Ledger.{Ledger}
 use Rattle.run_ledger.specs.Heaps.{heap_of, or_fresh, merged, emptied, forked_heap}
 use Rattle.run_ledger.specs.declared.data.Heap.{Heap}
 use Rattle.task_frames.specs.declared.frames.Frame.{Frame}
-use Rattle.core_relation.specs.Memory.{Home, Memory, In, objects_in, mapped_chunk, put_at}
+use Rattle.core_relation.specs.Memory.{Belongings, Memory, In, objects_in, mapped_chunk, put_at}
 use Rattle.ledger_step_laws.specs.Accounts.{own, StepsAlone, WritesOne, AlikeFor}
-use Rattle.core_relation.specs.Fits.{with_home}
+use Rattle.core_relation.specs.Fits.{with_belongings}
 use Rattle.ledger_step_laws.specs.Kinds.{ForksTask, JoinsTasks, CanJoin, StoresOne, StoresNumber, EndsTask}
-use Rattle.core_relation.specs.Changes.{ForksHome, JoinsHomes, WritesAt, StoresAt, StoresNumberAt, EndsHome, child_home, advanced, top_with_results}
+use Rattle.core_relation.specs.Changes.{ForksBelongings, JoinsBelongings, WritesAt, StoresAt, StoresNumberAt, EndsBelongings, child_belongings, advanced, top_with_results}
 use Rattle.core_relation.proofs.objects.Untouched.{chunks_unwritten}
-use Rattle.core_relation.proofs.changes.With.{at_home, off_home}
+use Rattle.core_relation.proofs.changes.With.{at_belongings, off_belongings}
 
 -- l and l' before and after the step of another task, k and k' with the private steps of u
 module _ (l l' k k' : Ledger) (u : ℕ) (A : StepsAlone l k u) (A' : StepsAlone l' k' u) (E : AlikeFor u k k') where
@@ -182,52 +182,52 @@ module _ (l l' k k' : Ledger) (u : ℕ) (A : StepsAlone l k u) (A' : StepsAlone 
     store = λ n. store_too n (W.store n);
   }
 
--- THE MEMORY, with u's home in it
+-- THE MEMORY, with u's belongings in it
 
-module _ (v v' : Memory) (u : ℕ) (h : Home) where
+module _ (v v' : Memory) (u : ℕ) (h : Belongings) where
   abbrev w : Memory
-  w = with_home v u h
+  w = with_belongings v u h
 
   abbrev w' : Memory
-  w' = with_home v' u h
+  w' = with_belongings v' u h
 
-  homes_too : (z : ℕ) → v'.homes z ≡ v.homes z → w'.homes z ≡ w.homes z
-  homes_too z e = elim (cases_eq z u) [
-    | inl f ↦ ap w'.homes f ∙ (at_home v' u h ∙ (sym (at_home v u h) ∙ ap w.homes (sym f)))
-    | inr ne ↦ off_home v' u h z ne ∙ (e ∙ sym (off_home v u h z ne))
+  belongings_too : (z : ℕ) → v'.belongings z ≡ v.belongings z → w'.belongings z ≡ w.belongings z
+  belongings_too z e = elim (cases_eq z u) [
+    | inl f ↦ ap w'.belongings f ∙ (at_belongings v' u h ∙ (sym (at_belongings v u h) ∙ ap w.belongings (sym f)))
+    | inr ne ↦ off_belongings v' u h z ne ∙ (e ∙ sym (off_belongings v u h z ne))
   ]
 
-  pub forks_with : (t a b g i : ℕ) → (t ≡ u → ⊥) → (a ≡ u → ⊥) → (b ≡ u → ⊥) → ForksHome v v' t a b g i → ForksHome w w' t a b g i
+  pub forks_with : (t a b g i : ℕ) → (t ≡ u → ⊥) → (a ≡ u → ⊥) → (b ≡ u → ⊥) → ForksBelongings v v' t a b g i → ForksBelongings w w' t a b g i
   forks_with t a b g i nt na nb F = record {
-    home = off_home v' u h t nt ∙ (F.home ∙ ap (λ (y : Home). record y { frames = advanced y.frames }) (sym (off_home v u h t nt)));
-    left = off_home v' u h a na ∙ (F.left ∙ ap (λ (y : Home). child_home g y) (sym (off_home v u h t nt)));
-    right = off_home v' u h b nb ∙ (F.right ∙ ap (λ (y : Home). child_home i y) (sym (off_home v u h t nt)));
-    others = λ z zt za zb. homes_too z (F.others z zt za zb);
+    belongings = off_belongings v' u h t nt ∙ (F.belongings ∙ ap (λ (y : Belongings). record y { frames = advanced y.frames }) (sym (off_belongings v u h t nt)));
+    left = off_belongings v' u h a na ∙ (F.left ∙ ap (λ (y : Belongings). child_belongings g y) (sym (off_belongings v u h t nt)));
+    right = off_belongings v' u h b nb ∙ (F.right ∙ ap (λ (y : Belongings). child_belongings i y) (sym (off_belongings v u h t nt)));
+    others = λ z zt za zb. belongings_too z (F.others z zt za zb);
     owner = F.owner;
     left_noted = F.left_noted;
     right_noted = F.right_noted;
     sources = F.sources;
   }
 
-  pub joins_with : (p c d : ℕ) (rl rr : ℤ × Option Addr) → (p ≡ u → ⊥) → (c ≡ u → ⊥) → (d ≡ u → ⊥) → JoinsHomes v v' p c d rl rr → JoinsHomes w w' p c d rl rr
+  pub joins_with : (p c d : ℕ) (rl rr : ℤ × Option Addr) → (p ≡ u → ⊥) → (c ≡ u → ⊥) → (d ≡ u → ⊥) → JoinsBelongings v v' p c d rl rr → JoinsBelongings w w' p c d rl rr
   joins_with p c d rl rr np nc nd J =
-      let ep : w.homes p ≡ v.homes p = off_home v u h p np in
-      let ec : w.homes c ≡ v.homes c = off_home v u h c nc in
-      let ed : w.homes d ≡ v.homes d = off_home v u h d nd in
-      let ep' : w'.homes p ≡ v'.homes p = off_home v' u h p np in
+      let ep : w.belongings p ≡ v.belongings p = off_belongings v u h p np in
+      let ec : w.belongings c ≡ v.belongings c = off_belongings v u h c nc in
+      let ed : w.belongings d ≡ v.belongings d = off_belongings v u h d nd in
+      let ep' : w'.belongings p ≡ v'.belongings p = off_belongings v' u h p np in
       record {
-        chunks = ap (λ (y : Home). y.chunks) ep' ∙ (J.chunks ∙ sym (ap₂ (λ x y. x ++ y) (ap₂ (λ x y. x ++ y) (ap (λ (y : Home). y.chunks) ec) (ap (λ (y : Home). y.chunks) ed)) (ap (λ (y : Home). y.chunks) ep)));
-        room = ap (λ (y : Home). y.room) ep' ∙ (J.room ∙ sym (ap (λ (y : Home). y.room) ep));
-        since = ap (λ (y : Home). y.since) ep' ∙ (J.since ∙ sym (ap₂ (λ x y. x + y) (ap₂ (λ x y. x + y) (ap (λ (y : Home). y.since) ep) (ap (λ (y : Home). y.since) ec)) (ap (λ (y : Home). y.since) ed)));
-        count = ap (λ (y : Home). y.count) ep' ∙ (J.count ∙ sym (ap (λ (y : Home). y.count) ep));
-        begun = ap (λ (y : Home). y.begun) ep' ∙ (J.begun ∙ sym (ap (λ (y : Home). y.begun) ep));
-        view = ap (λ (y : Home). y.view) ep' ∙ (J.view ∙ sym (ap (λ (y : Home). y.view) ep));
-        frames = ap (λ (y : Home). y.frames) ep' ∙ (J.frames ∙ sym (ap (λ (y : Home). top_with_results rl rr y.frames) ep));
-        left = off_home v' u h c nc ∙ J.left;
-        right = off_home v' u h d nd ∙ J.right;
-        others = λ z zp zc zd. homes_too z (J.others z zp zc zd);
-        owner_left = λ k i. J.owner_left k (subst (λ (y : Home). In y.chunks k) ec i);
-        owner_right = λ k i. J.owner_right k (subst (λ (y : Home). In y.chunks k) ed i);
+        chunks = ap (λ (y : Belongings). y.chunks) ep' ∙ (J.chunks ∙ sym (ap₂ (λ x y. x ++ y) (ap₂ (λ x y. x ++ y) (ap (λ (y : Belongings). y.chunks) ec) (ap (λ (y : Belongings). y.chunks) ed)) (ap (λ (y : Belongings). y.chunks) ep)));
+        room = ap (λ (y : Belongings). y.room) ep' ∙ (J.room ∙ sym (ap (λ (y : Belongings). y.room) ep));
+        since = ap (λ (y : Belongings). y.since) ep' ∙ (J.since ∙ sym (ap₂ (λ x y. x + y) (ap₂ (λ x y. x + y) (ap (λ (y : Belongings). y.since) ep) (ap (λ (y : Belongings). y.since) ec)) (ap (λ (y : Belongings). y.since) ed)));
+        count = ap (λ (y : Belongings). y.count) ep' ∙ (J.count ∙ sym (ap (λ (y : Belongings). y.count) ep));
+        begun = ap (λ (y : Belongings). y.begun) ep' ∙ (J.begun ∙ sym (ap (λ (y : Belongings). y.begun) ep));
+        view = ap (λ (y : Belongings). y.view) ep' ∙ (J.view ∙ sym (ap (λ (y : Belongings). y.view) ep));
+        frames = ap (λ (y : Belongings). y.frames) ep' ∙ (J.frames ∙ sym (ap (λ (y : Belongings). top_with_results rl rr y.frames) ep));
+        left = off_belongings v' u h c nc ∙ J.left;
+        right = off_belongings v' u h d nd ∙ J.right;
+        others = λ z zp zc zd. belongings_too z (J.others z zp zc zd);
+        owner_left = λ k i. J.owner_left k (subst (λ (y : Belongings). In y.chunks k) ec i);
+        owner_right = λ k i. J.owner_right k (subst (λ (y : Belongings). In y.chunks k) ed i);
         owners = J.owners;
         owned = J.owned;
         lifted = J.lifted;
@@ -236,14 +236,14 @@ module _ (v v' : Memory) (u : ℕ) (h : Home) where
         sources = J.sources;
       }
 
-  -- what is seen of a home, of u's or of another
-  view_too : {A : Type 0} (view was : Home → A) (z : ℕ) → view h ≡ was h → ((z ≡ u → ⊥) → view (v'.homes z) ≡ was (v.homes z)) → view (w'.homes z) ≡ was (w.homes z)
+  -- what is seen of the belongings, of u's or of another
+  view_too : {A : Type 0} (view was : Belongings → A) (z : ℕ) → view h ≡ was h → ((z ≡ u → ⊥) → view (v'.belongings z) ≡ was (v.belongings z)) → view (w'.belongings z) ≡ was (w.belongings z)
   view_too view was z mine e = elim (cases_eq z u) [
-    | inl f ↦ ap (λ j. view (w'.homes j)) f ∙ (ap view (at_home v' u h) ∙ (mine ∙ (ap was (sym (at_home v u h)) ∙ ap (λ j. was (w.homes j)) (sym f))))
-    | inr ne ↦ ap view (off_home v' u h z ne) ∙ (e ne ∙ ap was (sym (off_home v u h z ne)))
+    | inl f ↦ ap (λ j. view (w'.belongings j)) f ∙ (ap view (at_belongings v' u h) ∙ (mine ∙ (ap was (sym (at_belongings v u h)) ∙ ap (λ j. was (w.belongings j)) (sym f))))
+    | inr ne ↦ ap view (off_belongings v' u h z ne) ∙ (e ne ∙ ap was (sym (off_belongings v u h z ne)))
   ]
 
-  -- a write of an object that isn't in u's home
+  -- a write of an object that isn't in u's belongings
   pub writes_with : (t : ℕ) (a : Addr) (f : Located → Located) → ((o : Located) → In (objects_in h.chunks) o → o.at.chunk ≡ a.chunk → ⊥) → WritesAt v v' t a f → WritesAt w w' t a f
   writes_with t a f none C = record {
     same_name = C.same_name;
@@ -265,8 +265,8 @@ module _ (v v' : Memory) (u : ℕ) (h : Home) where
   pub stores_with : (l k : Ledger) (t : ℕ) (f : Frame) (fs : List Frame) (a : Addr) (o i : ℕ) (c : Option (ℕ × ℤ)) → (t ≡ u → ⊥) → ((b z : ℕ) → is_on_path k.machine.tasks b z ≡ is_on_path l.machine.tasks b z)
       → ((q : Located) → In (objects_in h.chunks) q → q.at.chunk ≡ a.chunk → ⊥) → StoresAt v v' l t f fs a o i c → StoresAt w w' k t f fs a o i c
   stores_with l k t f fs a o i c nt paths none C = record {
-    frames = ap (λ (j : Home). j.frames) (off_home v u h t nt) ∙ C.frames;
-    goes = ap (λ (j : Home). j.frames) (off_home v' u h t nt) ∙ C.goes;
+    frames = ap (λ (j : Belongings). j.frames) (off_belongings v u h t nt) ∙ C.frames;
+    goes = ap (λ (j : Belongings). j.frames) (off_belongings v' u h t nt) ∙ C.goes;
     writes = writes_with t a _ none C.writes;
     down = λ b c d e ec ed off. C.down b c d e ec ed (sym (paths d c) ∙ off);
     only = λ z s j. elim (C.only z s j) [
@@ -277,23 +277,23 @@ module _ (v v' : Memory) (u : ℕ) (h : Home) where
 
   pub numbers_with : (t : ℕ) (f : Frame) (fs : List Frame) (a : Addr) (o i : ℕ) → (t ≡ u → ⊥) → ((q : Located) → In (objects_in h.chunks) q → q.at.chunk ≡ a.chunk → ⊥) → StoresNumberAt v v' t f fs a o i → StoresNumberAt w w' t f fs a o i
   numbers_with t f fs a o i nt none C = record {
-    frames = ap (λ (j : Home). j.frames) (off_home v u h t nt) ∙ C.frames;
-    goes = ap (λ (j : Home). j.frames) (off_home v' u h t nt) ∙ C.goes;
+    frames = ap (λ (j : Belongings). j.frames) (off_belongings v u h t nt) ∙ C.frames;
+    goes = ap (λ (j : Belongings). j.frames) (off_belongings v' u h t nt) ∙ C.goes;
     writes = writes_with t a _ none C.writes;
     only = C.only;
   }
 
-  pub ends_with : (t : ℕ) (f : Frame) (fs : List Frame) → (t ≡ u → ⊥) → EndsHome v v' t f fs → EndsHome w w' t f fs
+  pub ends_with : (t : ℕ) (f : Frame) (fs : List Frame) → (t ≡ u → ⊥) → EndsBelongings v v' t f fs → EndsBelongings w w' t f fs
   ends_with t f fs nt C = record {
-    frames = ap (λ (j : Home). j.frames) (off_home v u h t nt) ∙ C.frames;
-    result = ap (λ (j : Home). j.result) (off_home v' u h t nt) ∙ C.result;
+    frames = ap (λ (j : Belongings). j.frames) (off_belongings v u h t nt) ∙ C.frames;
+    result = ap (λ (j : Belongings). j.result) (off_belongings v' u h t nt) ∙ C.result;
     begun = view_too (λ j. j.begun) (λ j. j.begun) t refl (λ ne. C.begun);
     view = view_too (λ j. j.view) (λ j. j.view) t refl (λ ne. C.view);
     chunks = view_too (λ j. j.chunks) (λ j. j.chunks) t refl (λ ne. C.chunks);
     room = view_too (λ j. j.room) (λ j. j.room) t refl (λ ne. C.room);
     since = view_too (λ j. j.since) (λ j. j.since) t refl (λ ne. C.since);
     count = view_too (λ j. j.count) (λ j. j.count) t refl (λ ne. C.count);
-    others = λ z zt. homes_too z (C.others z zt);
+    others = λ z zt. belongings_too z (C.others z zt);
     owner = C.owner;
     sources = C.sources;
   }

@@ -29,7 +29,7 @@ use Rattle.core_relation.proofs.changes.Write.{written}
 module _ (v v' : Memory) (l l' : Ledger) (t : ℕ) (x : Task) (n : Name) (y : Object) (o w i : ℕ) (f : Frame) (fs : List Frame) (a : Addr) (S : SoundLedger l) (V : Stands v l) (rests : Rests l t)
     (L : StoresNumber l l' t x n y o w i) (C : StoresNumberAt v v' t f fs a w i) (at_a : ref_of f o ≡ Some a) where
   frames : FramesAreRead (Place v l) (f ∷ fs) (x.top ∷ x.below)
-  frames = subst (λ zs. FramesAreRead (Place v l) zs (x.top ∷ x.below)) C.frames (subst (HoldsRead (Place v l) (v.homes t) x) L.runs (V.tasks t x rests L.task))
+  frames = subst (λ zs. FramesAreRead (Place v l) zs (x.top ∷ x.below)) C.frames (subst (HoldsRead (Place v l) (v.belongings t) x) L.runs (V.tasks t x rests L.task))
 
   pub holds : (j : ℕ) (m : Name) → ref_in x.top j ≡ Some m → In (task_names x) m
   holds j m e = names_run x m L.runs (in_registers (x.top ∷ x.below) x.top m (inl refl) (at_in x.top.refs j m e))
@@ -59,15 +59,15 @@ module _ (v v' : Memory) (l l' : Ledger) (t : ℕ) (x : Task) (n : Name) (y : Ob
   minds : (j : ℕ) (r : Name) → slice_get y.refs j ≡ Some (Some r) → (is_on_path l.machine.tasks (own l r) (own l n) ≡ true) ⊎ In (sources v' (own l r)) (record { object = a; field = j })
   minds j r e = elim (at_old (place.here rests_n)) [ inl p ↦ inl p | inr s ↦ inr (C.writes.noted (own l r) (record { object = a; field = j }) s) ]
     where
-      at_old : Lies (v.homes (own l n)).chunks n a → (is_on_path l.machine.tasks (own l r) (own l n) ≡ true) ⊎ In (sources v (own l r)) (record { object = a; field = j })
+      at_old : Lies (v.belongings (own l n)).chunks n a → (is_on_path l.machine.tasks (own l r) (own l n) ≡ true) ⊎ In (sources v (own l r)) (record { object = a; field = j })
       at_old q =
           subst (λ (c : Addr). (is_on_path l.machine.tasks (own l r) (own l n) ≡ true) ⊎ In (sources v (own l r)) (record { object = c; field = j })) q.2.at
           (V.remembered (own l n) q.0 y j r rests_n q.1 (ap (object_at l.machine.store) q.2.name ∙ L.writes.was) e)
 
-  task : (z : Task) → Rests l t → slice_get l'.machine.tasks t ≡ Some z → TaskIsRead (Place v l) (v'.homes t) z
+  task : (z : Task) → Rests l t → slice_get l'.machine.tasks t ≡ Some z → TaskIsRead (Place v l) (v'.belongings t) z
   task z r e =
-      subst (λ (k : Task). TaskIsRead (Place v l) (v'.homes t) k) (same_Some (record x { top = onward x.top }) z (sym L.goes ∙ e))
-      (subst (HoldsRead (Place v l) (v'.homes t) (record x { top = onward x.top })) (sym L.runs)
+      subst (λ (k : Task). TaskIsRead (Place v l) (v'.belongings t) k) (same_Some (record x { top = onward x.top }) z (sym L.goes ∙ e))
+      (subst (HoldsRead (Place v l) (v'.belongings t) (record x { top = onward x.top })) (sym L.runs)
       (subst (λ gs. FramesAreRead (Place v l) gs (onward x.top ∷ x.below)) (sym C.goes)
       (record { function = frames.0.function; next = ap (λ k. k + 1) frames.0.next; ints = frames.0.ints; refs = frames.0.refs }, frames.1)))
 

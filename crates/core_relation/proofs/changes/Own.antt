@@ -1,4 +1,4 @@
--- A private step of a task whose home is in the memory: what is shown of its home is enough.
+-- A private step of a task whose belongings are in the memory: what is shown of its belongings is enough.
 use Rattle.std.proofs.Common.{◌≡◌, ℕ, true, false, Option, Some, None, slice_get, ◌⊎◌, inl, inr, refl, ap, sym, subst, ◌∙◌}
 use Rattle.std.proofs.lemmas.Bool.{cases_eq, both_ways}
 use Rattle.listed.proofs.Members.{got_in}
@@ -15,20 +15,20 @@ use Rattle.run_ledger.specs.declared.data.Ledger.{Ledger}
 use Rattle.run_ledger.specs.Heaps.{heap_of}
 use Rattle.run_ledger.specs.Sound.{SoundLedger}
 use Rattle.remembered_set.specs.declared.remembered.Source.{Source}
-use Rattle.core_relation.specs.Memory.{Home, Memory, In, object_name, objects, objects_in, sources, Lies, shown_at}
+use Rattle.core_relation.specs.Memory.{Belongings, Memory, In, object_name, objects, objects_in, sources, Lies, shown_at}
 use Rattle.core_relation.specs.Reads.{IsRead, TaskIsRead}
 use Rattle.ledger_step_laws.specs.Accounts.{own, Rests, StepsAlone}
-use Rattle.core_relation.specs.Stands.{Place, Gives, HomeStands, IsSource, Stands, IsShown}
-use Rattle.core_relation.specs.Changes.{StepsAtHome, HomeIsRead, Allocates}
+use Rattle.core_relation.specs.Stands.{Place, Gives, BelongingsStand, IsSource, Stands, IsShown}
+use Rattle.core_relation.specs.Changes.{StepsInBelongings, BelongingsAreRead, Allocates}
 use Rattle.core_relation.proofs.objects.Carry.{object_kept, task_kept}
 use Rattle.core_relation.proofs.objects.Members.{in_chunk}
-use Rattle.core_relation.proofs.changes.Alone.{home_own, home_kept}
+use Rattle.core_relation.proofs.changes.Alone.{belongings_own, belongings_kept}
 use Rattle.core_relation.proofs.changes.Sweep.{refers}
 use Rattle.core_relation.proofs.changes.Giving.{gives_kept}
 use Rattle.ledger_step_laws.proofs.Tree.{own_live, leaf_alone}
 
 module _ (v v' : Memory) (l l' : Ledger) (t : ℕ) (S : SoundLedger l) (S' : SoundLedger l') (V : Stands v l) (A : StepsAlone l l' t) (rests : Rests l t) (rests' : Rests l' t)
-    (idle : is_waiting (slice_get l.machine.tasks t) ≡ false) (C : StepsAtHome v v' t) where
+    (idle : is_waiting (slice_get l.machine.tasks t) ≡ false) (C : StepsInBelongings v v' t) where
   rest : (u : ℕ) → Rests l' u → Rests l u
   rest u r = elim (cases_eq u t) [
     | inl e ↦ ap (λ z. (heap_of l z).worker) e ∙ rests
@@ -41,19 +41,19 @@ module _ (v v' : Memory) (l l' : Ledger) (t : ℕ) (S : SoundLedger l) (S' : Sou
       record {
         chunk = C.owner a.chunk ∙ (p.chunk ∙ ap Some (sym e));
         here = λ r.
-            let q : Lies (v.homes (own l n)).chunks n a = p.here (rest (own l n) (subst (Rests l') e r)) in
-            subst (λ u. Lies (v'.homes u).chunks n a) (sym e) (elim (cases_eq (own l n) t) [
-              | inl f ↦ subst (λ u. Lies (v'.homes u).chunks n a) (sym f) (C.stays n a (subst (λ u. Lies (v.homes u).chunks n a) f q))
-              | inr ne ↦ subst (λ (h : Home). Lies h.chunks n a) (sym (C.others (own l n) ne)) q
+            let q : Lies (v.belongings (own l n)).chunks n a = p.here (rest (own l n) (subst (Rests l') e r)) in
+            subst (λ u. Lies (v'.belongings u).chunks n a) (sym e) (elim (cases_eq (own l n) t) [
+              | inl f ↦ subst (λ u. Lies (v'.belongings u).chunks n a) (sym f) (C.stays n a (subst (λ u. Lies (v.belongings u).chunks n a) f q))
+              | inr ne ↦ subst (λ (h : Belongings). Lies h.chunks n a) (sym (C.others (own l n) ne)) q
             ]);
       }
 
-  module _ (H : HomeIsRead v' l' t) where
+  module _ (H : BelongingsAreRead v' l' t) where
     was : (u : ℕ) (o : Located) → (u ≡ t → ⊥) → In (objects v' u) o → In (objects v u) o
-    was u o ne i = subst (λ (h : Home). In (objects_in h.chunks) o) (C.others u ne) i
+    was u o ne i = subst (λ (h : Belongings). In (objects_in h.chunks) o) (C.others u ne) i
 
     store_same : (u : ℕ) (o : Located) → (u ≡ t → ⊥) → Rests l u → In (objects v u) o → object_at l'.machine.store (object_name o) ≡ object_at l.machine.store (object_name o)
-    store_same u o ne r i = A.store (object_name o) (λ e. ne (sym (home_own v l S u (V.homes u r) o i) ∙ e))
+    store_same u o ne r i = A.store (object_name o) (λ e. ne (sym (belongings_own v l S u (V.belongings u r) o i) ∙ e))
 
     content : (u : ℕ) (o : Located) → Rests l' u → In (objects v' u) o → (x : Object) × (object_at l'.machine.store (object_name o) ≡ Some x) × IsRead (Place v' l') o x
     content u o r i = elim (cases_eq u t) [
@@ -63,10 +63,10 @@ module _ (v v' : Memory) (l l' : Ledger) (t : ℕ) (S : SoundLedger l) (S' : Sou
           (c.0, store_same u o ne (rest u r) (was u o ne i) ∙ c.1, object_kept (Place v l) (Place v' l') o c.0 (λ n j. place_own n) c.2)
     ]
 
-    task : (u : ℕ) (x : Task) → Rests l' u → slice_get l'.machine.tasks u ≡ Some x → TaskIsRead (Place v' l') (v'.homes u) x
+    task : (u : ℕ) (x : Task) → Rests l' u → slice_get l'.machine.tasks u ≡ Some x → TaskIsRead (Place v' l') (v'.belongings u) x
     task u x r is = elim (cases_eq u t) [
-      | inl e ↦ subst (λ z. TaskIsRead (Place v' l') (v'.homes z) x) (sym e) (H.task x (ap (slice_get l'.machine.tasks) (sym e) ∙ is))
-      | inr ne ↦ subst (λ (h : Home). TaskIsRead (Place v' l') h x) (sym (C.others u ne)) (task_kept (Place v l) (Place v' l') (v.homes u) x (λ n j. place_own n) (V.tasks u x (rest u r) (sym (A.tasks u ne) ∙ is)))
+      | inl e ↦ subst (λ z. TaskIsRead (Place v' l') (v'.belongings z) x) (sym e) (H.task x (ap (slice_get l'.machine.tasks) (sym e) ∙ is))
+      | inr ne ↦ subst (λ (h : Belongings). TaskIsRead (Place v' l') h x) (sym (C.others u ne)) (task_kept (Place v l) (Place v' l') (v.belongings u) x (λ n j. place_own n) (V.tasks u x (rest u r) (sym (A.tasks u ne) ∙ is)))
     ]
 
     idle' : is_waiting (slice_get l'.machine.tasks t) ≡ false
@@ -75,7 +75,7 @@ module _ (v v' : Memory) (l l' : Ledger) (t : ℕ) (S : SoundLedger l) (S' : Sou
     -- a running task's objects refer up or inside
     own_up : (o : Located) (y : Object) (n : Name) → In (objects v' t) o → object_at l'.machine.store (object_name o) ≡ Some y → In y.refs (Some n) → is_on_path l'.machine.tasks (own l' n) t ≡ true
     own_up o y n j is i =
-        let e : own l' (object_name o) ≡ t = home_own v' l' S' t H.home o j in
+        let e : own l' (object_name o) ≡ t = belongings_own v' l' S' t H.belongings o j in
         elim (S'.apart.of_object (object_name o) n (refers l'.machine.store (object_name o) n y is i)).2 [
           | inl h ↦
               let q : t ≡ own l' n = leaf_alone l' S' t (own l' n) idle' (own_live l' S' n) (ap (λ z. is_on_path l'.machine.tasks z (own l' n)) (sym e) ∙ h) in
@@ -115,10 +115,10 @@ module _ (v v' : Memory) (l l' : Ledger) (t : ℕ) (S : SoundLedger l) (S' : Sou
           kept = subst (λ z. In (heap_of l' z).snapshot k.name) (sym e) (subst (λ (h : Heap). In h.snapshot k.name) (sym (A.heaps (own l k.name) ne)) k.kept);
         }
 
-    view_same : (z : ℕ) → (v'.homes z).view ≡ (v.homes z).view
+    view_same : (z : ℕ) → (v'.belongings z).view ≡ (v.belongings z).view
     view_same z = elim (cases_eq z t) [
-      | inl e ↦ ap (λ k. (v'.homes k).view) e ∙ (C.view ∙ ap (λ k. (v.homes k).view) (sym e))
-      | inr nt ↦ ap (λ (h : Home). h.view) (C.others z nt)
+      | inl e ↦ ap (λ k. (v'.belongings k).view) e ∙ (C.view ∙ ap (λ k. (v.belongings k).view) (sym e))
+      | inr nt ↦ ap (λ (h : Belongings). h.view) (C.others z nt)
     ]
 
     view : (z : ℕ) → Rests l' z → is_joined (slice_get l'.machine.tasks z) ≡ false → IsShown v' l' z
@@ -126,7 +126,7 @@ module _ (v v' : Memory) (l l' : Ledger) (t : ℕ) (S : SoundLedger l) (S' : Sou
         let up1 : is_on_path l.machine.tasks w z ≡ true = sym (A.tree.paths w z) ∙ up in
         let j1 : is_joined (slice_get l.machine.tasks z) ≡ false = sym (A.tree.joins z) ∙ j in
         let wt : w ≡ t → ⊥ = λ f. ne (leaf_alone l S w z (ap (λ y. is_waiting (slice_get l.machine.tasks y)) f ∙ idle) j1 up1) in
-        ap (λ s. shown_at s o.at) (view_same z) ∙ V.views z (rest z r) j1 w o up1 ne (rest w rw) (subst (λ (h : Home). In (objects_in h.chunks) o) (C.others w wt) i)
+        ap (λ s. shown_at s o.at) (view_same z) ∙ V.views z (rest z r) j1 w o up1 ne (rest w rw) (subst (λ (h : Belongings). In (objects_in h.chunks) o) (C.others w wt) i)
 
     give : (z w : ℕ) → Rests l' z → is_joined (slice_get l'.machine.tasks z) ≡ false → is_on_path l'.machine.tasks w z ≡ true → (w ≡ z → ⊥) → is_waiting (slice_get l'.machine.tasks w) ≡ true → Rests l' w → Gives v' w z
     give z w r j up ne wait rw =
@@ -137,9 +137,9 @@ module _ (v v' : Memory) (l l' : Ledger) (t : ℕ) (S : SoundLedger l) (S' : Sou
     pub stepped : Stands v' l'
     stepped = record {
       made = λ k u e. A.tree.made u ∙ V.made k u (sym (C.owner k) ∙ e);
-      homes = λ u r. elim (cases_eq u t) [
-        | inl e ↦ subst (HomeStands v' l') (sym e) H.home
-        | inr ne ↦ home_kept v v' l l' u (C.others u ne) (λ k e. C.owner k ∙ e) (A.heaps u ne) (A.rows u ne) (A.tree.joins u) (V.homes u (rest u r))
+      belongings = λ u r. elim (cases_eq u t) [
+        | inl e ↦ subst (BelongingsStand v' l') (sym e) H.belongings
+        | inr ne ↦ belongings_kept v v' l l' u (C.others u ne) (λ k e. C.owner k ∙ e) (A.heaps u ne) (A.rows u ne) (A.tree.joins u) (V.belongings u (rest u r))
       ];
       contents = content;
       tasks = task;
@@ -157,11 +157,11 @@ module _ (v v' : Memory) (l l' : Ledger) (t : ℕ) (S : SoundLedger l) (S' : Sou
 
     place_new : Place v' l' (object_name o) o.at
     place_new =
-        let e : own l' (object_name o) ≡ t = home_own v' l' S' t N.home o there in
-        let k = in_chunk (v'.homes t).chunks o there in
+        let e : own l' (object_name o) ≡ t = belongings_own v' l' S' t N.belongings o there in
+        let k = in_chunk (v'.belongings t).chunks o there in
         record {
-          chunk = ap v'.owner (N.home.inside k.0 o k.1 k.2) ∙ (N.home.owned k.0 k.1 ∙ ap Some (sym e));
-          here = λ r. subst (λ u. Lies (v'.homes u).chunks (object_name o) o.at) (sym e) (o, there, record { name = refl; at = refl });
+          chunk = ap v'.owner (N.belongings.inside k.0 o k.1 k.2) ∙ (N.belongings.owned k.0 k.1 ∙ ap Some (sym e));
+          here = λ r. subst (λ u. Lies (v'.belongings u).chunks (object_name o) o.at) (sym e) (o, there, record { name = refl; at = refl });
         }
 
     place_either : (n : Name) (a : Addr) → Place v l n a ⊎ ((object_name o ≡ n) × (o.at ≡ a)) → Place v' l' n a
@@ -179,7 +179,7 @@ module _ (v v' : Memory) (l l' : Ledger) (t : ℕ) (S : SoundLedger l) (S' : Sou
 
     pub allocated : Stands v' l'
     allocated = stepped (record {
-      home = N.home;
+      belongings = N.belongings;
       contents = λ q i. old_or_new q ((N.objects q).0 i);
-      task = λ y is. task_kept (λ n a. Place v l n a ⊎ ((object_name o ≡ n) × (o.at ≡ a))) (Place v' l') (v'.homes t) y (λ n j. place_either n) (N.task y is);
+      task = λ y is. task_kept (λ n a. Place v l n a ⊎ ((object_name o ≡ n) × (o.at ≡ a))) (Place v' l') (v'.belongings t) y (λ n j. place_either n) (N.task y is);
     })

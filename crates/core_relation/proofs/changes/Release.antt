@@ -1,4 +1,4 @@
--- A worker takes a task, with its home: the memory stands without it.
+-- A worker takes a task, with its belongings: the memory stands without it.
 use Rattle.std.proofs.Common.{is_some, ◌≡◌, ℕ, false, Some, length, slice_get, inl, inr, ap, sym, subst, ◌∙◌}
 use Rattle.std.proofs.lemmas.Bool.{both_ways}
 use Rattle.object_layout.specs.declared.word.Addr.{Addr}
@@ -10,14 +10,14 @@ use Rattle.hh_model.specs.Step.{is_joined, is_waiting, is_on_path}
 use Rattle.run_ledger.specs.declared.data.Heap.{Heap}
 use Rattle.run_ledger.specs.declared.data.Ledger.{Ledger}
 use Rattle.run_ledger.specs.Heaps.{heap_of}
-use Rattle.core_relation.specs.Memory.{Home, Memory, In, object_name, objects, objects_in, sources, Lies, shown_at}
+use Rattle.core_relation.specs.Memory.{Belongings, Memory, In, object_name, objects, objects_in, sources, Lies, shown_at}
 use Rattle.core_relation.specs.Reads.{TaskIsRead}
 use Rattle.ledger_step_laws.specs.Accounts.{own, Rests, Takes}
 use Rattle.core_relation.specs.Stands.{Place, Stands}
 use Rattle.core_relation.specs.Changes.{SameBut}
 use Rattle.core_relation.proofs.changes.Same.{own_same, path_same, store_same, source_same}
 use Rattle.core_relation.proofs.objects.Carry.{object_kept, task_kept}
-use Rattle.core_relation.proofs.changes.Alone.{home_kept}
+use Rattle.core_relation.proofs.changes.Alone.{belongings_kept}
 use Rattle.core_relation.proofs.changes.Giving.{gives_kept}
 
 module _ (v v' : Memory) (l l' : Ledger) (t w : ℕ) (V : Stands v l) (idle : is_waiting (slice_get l.machine.tasks t) ≡ false) (L : Takes l l' t w) (C : SameBut v v' t) where
@@ -32,28 +32,28 @@ module _ (v v' : Memory) (l l' : Ledger) (t w : ℕ) (V : Stands v l) (idle : is
     chunk = C.owner a.chunk ∙ (p.chunk ∙ ap Some (sym (own_same l l' L.machine n)));
     here = λ r.
         let r' : Rests l' (own l n) = subst (Rests l') (own_same l l' L.machine n) r in
-        subst (λ u. Lies (v'.homes u).chunks n a) (sym (own_same l l' L.machine n))
-        (subst (λ (h : Home). Lies h.chunks n a) (sym (C.homes (own l n) (other (own l n) r'))) (p.here (rest (own l n) r')));
+        subst (λ u. Lies (v'.belongings u).chunks n a) (sym (own_same l l' L.machine n))
+        (subst (λ (h : Belongings). Lies h.chunks n a) (sym (C.belongings (own l n) (other (own l n) r'))) (p.here (rest (own l n) r')));
   }
 
   was : (u : ℕ) (o : Located) → Rests l' u → In (objects v' u) o → In (objects v u) o
-  was u o r i = subst (λ (h : Home). In (objects_in h.chunks) o) (C.homes u (other u r)) i
+  was u o r i = subst (λ (h : Belongings). In (objects_in h.chunks) o) (C.belongings u (other u r)) i
 
   pub released : Stands v' l'
   released = record {
     views = λ u r j z o up ne rz i.
-        ap (λ (h : Home). shown_at h.view o.at) (C.homes u (other u r)) ∙ V.views u (rest u r) (sym (ap (λ (m : State). is_joined (slice_get m.tasks u)) L.machine) ∙ j) z o (sym (path_same l l' L.machine z u) ∙ up) ne (rest z rz) (was z o rz i);
+        ap (λ (h : Belongings). shown_at h.view o.at) (C.belongings u (other u r)) ∙ V.views u (rest u r) (sym (ap (λ (m : State). is_joined (slice_get m.tasks u)) L.machine) ∙ j) z o (sym (path_same l l' L.machine z u) ∙ up) ne (rest z rz) (was z o rz i);
     gives = λ u z r j up ne w rz.
-        gives_kept v v' z u (ap (λ (h : Home). h.view) (C.homes u (other u r))) (ap (λ (h : Home). h.view) (C.homes z (other z rz))) (λ n o. sym (C.owner n) ∙ o)
+        gives_kept v v' z u (ap (λ (h : Belongings). h.view) (C.belongings u (other u r))) (ap (λ (h : Belongings). h.view) (C.belongings z (other z rz))) (λ n o. sym (C.owner n) ∙ o)
         (V.gives u z (rest u r) (sym (ap (λ (m : State). is_joined (slice_get m.tasks u)) L.machine) ∙ j) (sym (path_same l l' L.machine z u) ∙ up) ne (sym (ap (λ (m : State). is_waiting (slice_get m.tasks z)) L.machine) ∙ w) (rest z rz));
     made = λ k u e. ap (λ (m : State). is_some (slice_get m.tasks u)) L.machine ∙ V.made k u (sym (C.owner k) ∙ e);
-    homes = λ u r. home_kept v v' l l' u (C.homes u (other u r)) (λ k e. C.owner k ∙ e) (L.heaps u (other u r)) (ap (λ (m : State). length (row_of (slice_get m.store u))) L.machine) (ap (λ (m : State). is_joined (slice_get m.tasks u)) L.machine) (V.homes u (rest u r));
+    belongings = λ u r. belongings_kept v v' l l' u (C.belongings u (other u r)) (λ k e. C.owner k ∙ e) (L.heaps u (other u r)) (ap (λ (m : State). length (row_of (slice_get m.store u))) L.machine) (ap (λ (m : State). is_joined (slice_get m.tasks u)) L.machine) (V.belongings u (rest u r));
     contents = λ u o r i.
         let c = V.contents u o (rest u r) (was u o r i) in
         (c.0, store_same l l' L.machine (object_name o) ∙ c.1, object_kept (Place v l) (Place v' l') o c.0 (λ n j. place n) c.2);
     tasks = λ u x r is.
-        subst (λ (h : Home). TaskIsRead (Place v' l') h x) (sym (C.homes u (other u r)))
-        (task_kept (Place v l) (Place v' l') (v.homes u) x (λ n j. place n) (V.tasks u x (rest u r) (sym (ap (λ (m : State). slice_get m.tasks u) L.machine) ∙ is)));
+        subst (λ (h : Belongings). TaskIsRead (Place v' l') h x) (sym (C.belongings u (other u r)))
+        (task_kept (Place v l) (Place v' l') (v.belongings u) x (λ n j. place n) (V.tasks u x (rest u r) (sym (ap (λ (m : State). slice_get m.tasks u) L.machine) ∙ is)));
     remembered = λ u o x i n r j is at.
         elim (V.remembered u o x i n (rest u r) (was u o r j) (sym (store_same l l' L.machine (object_name o)) ∙ is) at) [
           | inl h ↦ inl (ap (λ k. is_on_path l'.machine.tasks k u) (own_same l l' L.machine n) ∙ (path_same l l' L.machine (own l n) u ∙ h))

@@ -19,13 +19,13 @@ module _ (v v' : Memory) (l l' : Ledger) (V : Stands v l) (L : SameTasks l l') (
   rest : (u : ℕ) → Rests l' u → Rests l u
   rest u r = sym (L.worker u) ∙ r
 
-  lies : (u : ℕ) (n : Name) (a : Addr) → Lies (v.homes u).chunks n a → Lies (v'.homes u).chunks n a
+  lies : (u : ℕ) (n : Name) (a : Addr) → Lies (v.belongings u).chunks n a → Lies (v'.belongings u).chunks n a
   lies u n a q = (q.0, subst (λ os. In os q.0) (sym (C.objects u)) q.1, q.2)
 
   place : (n : Name) (a : Addr) → Place v l n a → Place v' l' n a
   place n a p = record {
     chunk = C.owner a.chunk (own l n) p.chunk ∙ ap Some (sym (own_same l l' L.machine n));
-    here = λ r. subst (λ u. Lies (v'.homes u).chunks n a) (sym (own_same l l' L.machine n)) (lies (own l n) n a (p.here (rest (own l n) (subst (Rests l') (own_same l l' L.machine n) r))));
+    here = λ r. subst (λ u. Lies (v'.belongings u).chunks n a) (sym (own_same l l' L.machine n)) (lies (own l n) n a (p.here (rest (own l n) (subst (Rests l') (own_same l l' L.machine n) r))));
   }
 
   was : (u : ℕ) (o : Located) → In (objects v' u) o → In (objects v u) o
@@ -40,13 +40,13 @@ module _ (v v' : Memory) (l l' : Ledger) (V : Stands v l) (L : SameTasks l l') (
         gives_kept v v' z u (C.view u) (C.view z) (λ n o. elim (C.taken n z o) [ inl old ↦ old | inr new ↦ absurd (both_ways (is_waiting (slice_get l.machine.tasks z)) new.0 w1) ])
         (V.gives u z (rest u r) (sym (ap (λ (m : State). is_joined (slice_get m.tasks u)) L.machine) ∙ j) (sym (path_same l l' L.machine z u) ∙ up) ne w1 (rest z rz));
     made = λ k u e. ap (λ (m : State). is_some (slice_get m.tasks u)) L.machine ∙ elim (C.taken k u e) [ inl old ↦ V.made k u old | inr new ↦ new.1 ];
-    homes = C.home;
+    belongings = C.belongings;
     contents = λ u o r i.
         let c = V.contents u o (rest u r) (was u o i) in
         (c.0, store_same l l' L.machine (object_name o) ∙ c.1, object_kept (Place v l) (Place v' l') o c.0 (λ n j. place n) c.2);
     tasks = λ u x r is.
-        same_holding (Place v' l') (v.homes u) (v'.homes u) x (C.frames u) (C.result u)
-        (task_kept (Place v l) (Place v' l') (v.homes u) x (λ n j. place n) (V.tasks u x (rest u r) (sym (ap (λ (m : State). slice_get m.tasks u) L.machine) ∙ is)));
+        same_holding (Place v' l') (v.belongings u) (v'.belongings u) x (C.frames u) (C.result u)
+        (task_kept (Place v l) (Place v' l') (v.belongings u) x (λ n j. place n) (V.tasks u x (rest u r) (sym (ap (λ (m : State). slice_get m.tasks u) L.machine) ∙ is)));
     remembered = λ u o x i n r j is at.
         elim (V.remembered u o x i n (rest u r) (was u o j) (sym (store_same l l' L.machine (object_name o)) ∙ is) at) [
           | inl h ↦ inl (ap (λ k. is_on_path l'.machine.tasks k u) (own_same l l' L.machine n) ∙ (path_same l l' L.machine (own l n) u ∙ h))

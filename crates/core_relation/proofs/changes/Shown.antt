@@ -18,11 +18,11 @@ use Rattle.run_ledger.specs.declared.data.Ledger.{Ledger}
 use Rattle.run_ledger.specs.Heaps.{heap_of}
 use Rattle.run_ledger.specs.Sound.{SoundLedger}
 use Rattle.remembered_set.specs.declared.remembered.Source.{Source}
-use Rattle.core_relation.specs.Memory.{Chunk, Home, Memory, In, object_name, objects, objects_in, sources, is_source, rewritten_refs, rewritten, put_at, frozen_chunk, frozen_chunks, chunk_of, seen_at, seen_in, shown_at, as_shown}
+use Rattle.core_relation.specs.Memory.{Chunk, Belongings, Memory, In, object_name, objects, objects_in, sources, is_source, rewritten_refs, rewritten, put_at, frozen_chunk, frozen_chunks, chunk_of, seen_at, seen_in, shown_at, as_shown}
 use Rattle.ledger_step_laws.specs.Accounts.{own, Rests}
-use Rattle.core_relation.specs.Stands.{HomeStands, IsShown, Stands}
+use Rattle.core_relation.specs.Stands.{BelongingsStand, IsShown, Stands}
 use Rattle.ledger_step_laws.specs.Kinds.{ForksTask, JoinsTasks, CanJoin}
-use Rattle.core_relation.specs.Changes.{ForksHome, advanced, JoinsHomes, KeepsJust, Moves, WritesAt}
+use Rattle.core_relation.specs.Changes.{ForksBelongings, advanced, JoinsBelongings, KeepsJust, Moves, WritesAt}
 use Rattle.ledger_step_laws.proofs.Tree.{leaf_alone}
 use Rattle.core_relation.proofs.objects.Members.{in_chunk, in_objects}
 use Rattle.core_relation.proofs.objects.Mapped.{from_mapped}
@@ -43,7 +43,7 @@ is_at_it a o e =
 abbrev AreShown : Memory → Ledger → Type 0
 AreShown v l = (t : ℕ) → Rests l t → is_joined (slice_get l.machine.tasks t) ≡ false → IsShown v l t
 
--- THE LEVEL OF A HOME
+-- THE LEVEL OF A TASK
 
 all_at : (P : ℕ → Type 0) (xs : List ℕ) (x : ℕ) → AllByRecursion P xs → In xs x → P x
 all_at P [] x a i = absurd i
@@ -110,55 +110,55 @@ module _ (o : Located) where
       by true e = none_seen os once e ∙ sym (cond-true o.mutable None (Some o) e)
       by false e = one_seen os once i e ∙ sym (cond-false o.mutable None (Some o) e)
 
--- the level of a home shows each of its objects
-level_shows : (v : Memory) (l : Ledger) (t : ℕ) (o : Located) (below : List (List Chunk)) → HomeStands v l t → In (objects v t) o → shown_at (frozen_chunks (v.homes t).chunks ∷ below) o.at ≡ as_shown o
+-- the level of a task shows each of its objects
+level_shows : (v : Memory) (l : Ledger) (t : ℕ) (o : Located) (below : List (List Chunk)) → BelongingsStand v l t → In (objects v t) o → shown_at (frozen_chunks (v.belongings t).chunks ∷ below) o.at ≡ as_shown o
 level_shows v l t o below H i =
-    let c = in_chunk (v.homes t).chunks o i in
+    let c = in_chunk (v.belongings t).chunks o i in
     let at = H.inside c.0 o c.1 c.2 in
-    ap (λ z. seen_in z o.at (shown_at below o.at)) (ap (chunk_of (frozen_chunks (v.homes t).chunks)) at ∙ found (v.homes t).chunks c.0 H.laid.numbers c.1)
-    ∙ as_kept o c.0.objects (λ p j e. H.once p o (in_objects (v.homes t).chunks c.0 p c.1 j) i e) c.2
+    ap (λ z. seen_in z o.at (shown_at below o.at)) (ap (chunk_of (frozen_chunks (v.belongings t).chunks)) at ∙ found (v.belongings t).chunks c.0 H.laid.numbers c.1)
+    ∙ as_kept o c.0.objects (λ p j e. H.once p o (in_objects (v.belongings t).chunks c.0 p c.1 j) i e) c.2
 
 -- and no object of another's
-level_passes : (v : Memory) (l : Ledger) (t u : ℕ) (o : Located) (below : List (List Chunk)) → HomeStands v l t → HomeStands v l u → (u ≡ t → ⊥) → In (objects v u) o → shown_at (frozen_chunks (v.homes t).chunks ∷ below) o.at ≡ shown_at below o.at
+level_passes : (v : Memory) (l : Ledger) (t u : ℕ) (o : Located) (below : List (List Chunk)) → BelongingsStand v l t → BelongingsStand v l u → (u ≡ t → ⊥) → In (objects v u) o → shown_at (frozen_chunks (v.belongings t).chunks ∷ below) o.at ≡ shown_at below o.at
 level_passes v l t u o below H K ne i =
-    let c = in_chunk (v.homes u).chunks o i in
-    ap (λ z. seen_in z o.at (shown_at below o.at)) (none_found (v.homes t).chunks o.at.chunk (λ k j e.
+    let c = in_chunk (v.belongings u).chunks o i in
+    ap (λ z. seen_in z o.at (shown_at below o.at)) (none_found (v.belongings t).chunks o.at.chunk (λ k j e.
     ne (same_Some u t (sym (K.owned c.0 c.1) ∙ (ap v.owner (sym (K.inside c.0 o c.1 c.2) ∙ sym e) ∙ H.owned k j)))))
 
 -- A FORK
 module _ (v v' : Memory) (l l' : Ledger) (t a b g h : ℕ) (x : Task) (V : Stands v l) (T : AreShown v l) (rests : Rests l t)
-    (live : is_joined (slice_get l.machine.tasks t) ≡ false) (F : ForksTask l l' t a b g h x) (C : ForksHome v v' t a b g h)
-    (same : (z : ℕ) → (z ≡ a → ⊥) → (z ≡ b → ⊥) → (v'.homes z).view ≡ (v.homes z).view) where
-  -- an object of any home was there before, and its task is none of the children
+    (live : is_joined (slice_get l.machine.tasks t) ≡ false) (F : ForksTask l l' t a b g h x) (C : ForksBelongings v v' t a b g h)
+    (same : (z : ℕ) → (z ≡ a → ⊥) → (z ≡ b → ⊥) → (v'.belongings z).view ≡ (v.belongings z).view) where
+  -- an object of any task was there before, and its task is none of the children
   none_new : (z : ℕ) (o : Located) → (z ≡ a) ⊎ (z ≡ b) → In (objects v' z) o → ⊥
-  none_new z o (inl e) i = subst (λ (k : Home). In (objects_in k.chunks) o) (ap v'.homes e ∙ C.left) i
-  none_new z o (inr e) i = subst (λ (k : Home). In (objects_in k.chunks) o) (ap v'.homes e ∙ C.right) i
+  none_new z o (inl e) i = subst (λ (k : Belongings). In (objects_in k.chunks) o) (ap v'.belongings e ∙ C.left) i
+  none_new z o (inr e) i = subst (λ (k : Belongings). In (objects_in k.chunks) o) (ap v'.belongings e ∙ C.right) i
 
   was : (u : ℕ) (o : Located) → Rests l' u → In (objects v' u) o → Rests l u × In (objects v u) o
   was u o r i = elim (cases_eq u t) [
-    | inl e ↦ (ap (λ k. (heap_of l k).worker) e ∙ rests, subst (λ (k : Home). In (objects_in k.chunks) o) (ap v'.homes e ∙ (C.home ∙ ap (λ (k : Home). record k { frames = advanced (v.homes t).frames }) (sym (ap v.homes e)))) i)
+    | inl e ↦ (ap (λ k. (heap_of l k).worker) e ∙ rests, subst (λ (k : Belongings). In (objects_in k.chunks) o) (ap v'.belongings e ∙ (C.belongings ∙ ap (λ (k : Belongings). record k { frames = advanced (v.belongings t).frames }) (sym (ap v.belongings e)))) i)
     | inr nt ↦
         let na : u ≡ a → ⊥ = λ e. none_new u o (inl e) i in
         let nb : u ≡ b → ⊥ = λ e. none_new u o (inr e) i in
-        (ap (λ (z : Heap). z.worker) (sym (F.heaps u nt na nb)) ∙ r, subst (λ (k : Home). In (objects_in k.chunks) o) (C.others u nt na nb) i)
+        (ap (λ (z : Heap). z.worker) (sym (F.heaps u nt na nb)) ∙ r, subst (λ (k : Belongings). In (objects_in k.chunks) o) (C.others u nt na nb) i)
   ]
 
   -- a child
-  child_shown : (z : ℕ) → ((u : ℕ) → is_on_path l'.machine.tasks u z ≡ true → (u ≡ z) ⊎ (is_on_path l.machine.tasks u t ≡ true)) → (v'.homes z).view ≡ frozen_chunks (v.homes t).chunks ∷ (v.homes t).view → IsShown v' l' z
+  child_shown : (z : ℕ) → ((u : ℕ) → is_on_path l'.machine.tasks u z ≡ true → (u ≡ z) ⊎ (is_on_path l.machine.tasks u t ≡ true)) → (v'.belongings z).view ≡ frozen_chunks (v.belongings t).chunks ∷ (v.belongings t).view → IsShown v' l' z
   child_shown z above new u o up ne r i =
       let w = was u o r i in
       ap (λ s. shown_at s o.at) new ∙ elim (above u up) [
         | inl e ↦ absurd (ne e)
         | inr p ↦ elim (cases_eq u t) [
-          | inl e ↦ level_shows v l t o (v.homes t).view (V.homes t rests) (subst (λ k. In (objects v k) o) e w.1)
-          | inr nt ↦ level_passes v l t u o (v.homes t).view (V.homes t rests) (V.homes u w.0) nt w.1 ∙ T t rests live u o p nt w.0 w.1
+          | inl e ↦ level_shows v l t o (v.belongings t).view (V.belongings t rests) (subst (λ k. In (objects v k) o) e w.1)
+          | inr nt ↦ level_passes v l t u o (v.belongings t).view (V.belongings t rests) (V.belongings u w.0) nt w.1 ∙ T t rests live u o p nt w.0 w.1
         ]
       ]
 
-  pub left_shown : (v'.homes a).view ≡ frozen_chunks (v.homes t).chunks ∷ (v.homes t).view → IsShown v' l' a
+  pub left_shown : (v'.belongings a).view ≡ frozen_chunks (v.belongings t).chunks ∷ (v.belongings t).view → IsShown v' l' a
   left_shown new = child_shown a F.above_left new
 
-  pub right_shown : (v'.homes b).view ≡ frozen_chunks (v.homes t).chunks ∷ (v.homes t).view → IsShown v' l' b
+  pub right_shown : (v'.belongings b).view ≡ frozen_chunks (v.belongings t).chunks ∷ (v.belongings t).view → IsShown v' l' b
   right_shown new = child_shown b F.above_right new
 
   -- any other
@@ -168,20 +168,20 @@ module _ (v v' : Memory) (l l' : Ledger) (t a b g h : ℕ) (x : Task) (V : Stand
       ap (λ s. shown_at s o.at) (same z na nb) ∙ T z rz lz u o (sym (F.paths u z na nb) ∙ up) ne w.0 w.1
 
 -- A JOIN: the parent runs on, so it stands above nobody else that is live
-module _ (v v' : Memory) (l l' : Ledger) (p c d : ℕ) (x : Task) (rl rr : ℤ × Option Name) (al ar : ℤ × Option Addr) (nobody : (z : ℕ) → is_joined (slice_get l.machine.tasks z) ≡ false → is_on_path l.machine.tasks p z ≡ true → (z ≡ p → ⊥) × (z ≡ c → ⊥) × (z ≡ d → ⊥) → ⊥) (T : AreShown v l) (J : JoinsTasks l l' p c d x rl rr) (C : JoinsHomes v v' p c d al ar)
-    (K : CanJoin l p c d x) (z : ℕ) (same : (v'.homes z).view ≡ (v.homes z).view) where
+module _ (v v' : Memory) (l l' : Ledger) (p c d : ℕ) (x : Task) (rl rr : ℤ × Option Name) (al ar : ℤ × Option Addr) (nobody : (z : ℕ) → is_joined (slice_get l.machine.tasks z) ≡ false → is_on_path l.machine.tasks p z ≡ true → (z ≡ p → ⊥) × (z ≡ c → ⊥) × (z ≡ d → ⊥) → ⊥) (T : AreShown v l) (J : JoinsTasks l l' p c d x rl rr) (C : JoinsBelongings v v' p c d al ar)
+    (K : CanJoin l p c d x) (z : ℕ) (same : (v'.belongings z).view ≡ (v.belongings z).view) where
   pub join_shown : Rests l z → is_joined (slice_get l.machine.tasks z) ≡ false → is_joined (slice_get l'.machine.tasks z) ≡ false → IsShown v' l' z
   join_shown rz lz lz' u o up ne r i = elim (cases_eq u p) [
     | inl e ↦
         let gone : (k : ℕ) → is_joined (slice_get l'.machine.tasks k) ≡ true → z ≡ k → ⊥ = λ k g f. both_ways (is_joined (slice_get l'.machine.tasks z)) lz' (ap (λ y. is_joined (slice_get l'.machine.tasks y)) f ∙ g) in
         absurd (nobody z lz (ap (λ y. is_on_path l.machine.tasks y z) (sym e) ∙ (sym (J.paths u z) ∙ up)) ((λ f. ne (e ∙ sym f)), gone c J.left, gone d J.right))
     | inr np ↦ elim (cases_eq u c) [
-      | inl e ↦ absurd (subst (λ (k : Home). In (objects_in k.chunks) o) (ap v'.homes e ∙ C.left) i)
+      | inl e ↦ absurd (subst (λ (k : Belongings). In (objects_in k.chunks) o) (ap v'.belongings e ∙ C.left) i)
       | inr nc ↦ elim (cases_eq u d) [
-        | inl e ↦ absurd (subst (λ (k : Home). In (objects_in k.chunks) o) (ap v'.homes e ∙ C.right) i)
+        | inl e ↦ absurd (subst (λ (k : Belongings). In (objects_in k.chunks) o) (ap v'.belongings e ∙ C.right) i)
         | inr nd ↦
             ap (λ s. shown_at s o.at) same
-            ∙ T z rz lz u o (sym (J.paths u z) ∙ up) ne (ap (λ (k : Heap). k.worker) (sym (J.heaps u np nc nd)) ∙ r) (subst (λ (k : Home). In (objects_in k.chunks) o) (C.others u np nc nd) i)
+            ∙ T z rz lz u o (sym (J.paths u z) ∙ up) ne (ap (λ (k : Heap). k.worker) (sym (J.heaps u np nc nd)) ∙ r) (subst (λ (k : Belongings). In (objects_in k.chunks) o) (C.others u np nc nd) i)
       ]
     ]
   ]
@@ -189,7 +189,7 @@ module _ (v v' : Memory) (l l' : Ledger) (p c d : ℕ) (x : Task) (rl rr : ℤ �
 -- A WRITE: what is written is mutable, and stays so
 module _ (v v' : Memory) (l l' : Ledger) (t : ℕ) (a : Addr) (f : Located → Located) (T : AreShown v l) (C : WritesAt v v' t a f)
     (kind : (o : Located) → (f o).mutable ≡ o.mutable) (written : (u : ℕ) (o : Located) → In (objects v u) o → Rests l u → o.at ≡ a → o.mutable ≡ true)
-    (same : (z : ℕ) → (v'.homes z).view ≡ (v.homes z).view) (paths : (u z : ℕ) → is_on_path l'.machine.tasks u z ≡ is_on_path l.machine.tasks u z) (rests : (u : ℕ) → Rests l' u → Rests l u) where
+    (same : (z : ℕ) → (v'.belongings z).view ≡ (v.belongings z).view) (paths : (u z : ℕ) → is_on_path l'.machine.tasks u z ≡ is_on_path l.machine.tasks u z) (rests : (u : ℕ) → Rests l' u → Rests l u) where
   one_name : (o : Located) → object_name (put_at a f o) ≡ object_name o
   one_name o = by (same_address o.at a)
     where
@@ -215,18 +215,18 @@ module _ (v v' : Memory) (l l' : Ledger) (t : ℕ) (a : Addr) (f : Located → L
 
   pub write_shown : (z : ℕ) → Rests l z → is_joined (slice_get l.machine.tasks z) ≡ false → IsShown v' l' z
   write_shown z rz lz u o up ne r i =
-      let w = from_mapped (put_at a f) one_name one_at (v.homes u).chunks o (subst (λ ks. In (objects_in ks) o) (C.chunks u) i) in
+      let w = from_mapped (put_at a f) one_name one_at (v.belongings u).chunks o (subst (λ ks. In (objects_in ks) o) (C.chunks u) i) in
       let at : o.at ≡ w.0.at = ap (λ (q : Located). q.at) (sym w.2) ∙ one_at w.0 in
-      ap₂ (λ s b. shown_at s b) (same z) at ∙ subst (λ (q : Located). shown_at (v.homes z).view w.0.at ≡ as_shown q) w.2
-      (one_shown (shown_at (v.homes z).view w.0.at) u w.0 (rests u r) w.1 (T z rz lz u w.0 (sym (paths u z) ∙ up) ne (rests u r) w.1))
+      ap₂ (λ s b. shown_at s b) (same z) at ∙ subst (λ (q : Located). shown_at (v.belongings z).view w.0.at ≡ as_shown q) w.2
+      (one_shown (shown_at (v.belongings z).view w.0.at) u w.0 (rests u r) w.1 (T z rz lz u w.0 (sym (paths u z) ∙ up) ne (rests u r) w.1))
 
 -- A SWEEP: objects only go
 module _ (v v' : Memory) (l l' : Ledger) (t : ℕ) (names : List Name) (T : AreShown v l) (C : KeepsJust v v' l l' t names)
-    (same : (z : ℕ) → (v'.homes z).view ≡ (v.homes z).view) (paths : (u z : ℕ) → is_on_path l'.machine.tasks u z ≡ is_on_path l.machine.tasks u z) (rests : (u : ℕ) → Rests l' u → Rests l u) where
+    (same : (z : ℕ) → (v'.belongings z).view ≡ (v.belongings z).view) (paths : (u z : ℕ) → is_on_path l'.machine.tasks u z ≡ is_on_path l.machine.tasks u z) (rests : (u : ℕ) → Rests l' u → Rests l u) where
   pub sweep_shown : (z : ℕ) → Rests l z → is_joined (slice_get l.machine.tasks z) ≡ false → IsShown v' l' z
   sweep_shown z rz lz u o up ne r i = ap (λ s. shown_at s o.at) (same z) ∙ T z rz lz u o (sym (paths u z) ∙ up) ne (rests u r) (elim (cases_eq u t) [
     | inl e ↦ subst (λ k. In (objects v k) o) (sym e) (C.only o (subst (λ k. In (objects v' k) o) e i)).0
-    | inr nt ↦ subst (λ (k : Home). In (objects_in k.chunks) o) (C.others u nt) i
+    | inr nt ↦ subst (λ (k : Belongings). In (objects_in k.chunks) o) (C.others u nt) i
   ])
 
 -- THE END OF A LEAF COLLECTION: t runs, so it stands above nobody else that is live; what is remembered is mutable
@@ -248,8 +248,8 @@ pub noted_mutable : (v : Memory) (l : Ledger) (t u : ℕ) (o : Located) (s : Sou
 noted_mutable v l t u o s V i r j e =
     let k = V.sources t s j in
     let q = k.place.here k.rests in
-    let c = in_chunk (v.homes u).chunks o i in
-    let H = V.homes u r in
+    let c = in_chunk (v.belongings u).chunks o i in
+    let H = V.belongings u r in
     let mine : own l k.name ≡ u = same_Some (own l k.name) u (sym k.place.chunk ∙ (ap (λ (b : Addr). v.owner b.chunk) e ∙ (ap v.owner (H.inside c.0 o c.1 c.2) ∙ H.owned c.0 c.1))) in
     let same : q.0 ≡ o = H.once q.0 o (subst (λ z. In (objects v z) q.0) mine q.1) i (q.2.at ∙ e) in
     let x = V.contents u o r i in
@@ -258,7 +258,7 @@ noted_mutable v l t u o s V i r j e =
 
 module _ (v v' : Memory) (l l' : Ledger) (t : ℕ) (names : List Name) (f : Addr → Addr) (S : SoundLedger l) (T : AreShown v l) (C : Moves v v' l l' t names f) (idle : is_waiting (slice_get l.machine.tasks t) ≡ false)
     (noted : (u : ℕ) (o : Located) (s : Source) → In (objects v u) o → Rests l u → In (sources v t) s → s.object ≡ o.at → o.mutable ≡ true)
-    (same : (z : ℕ) → (v'.homes z).view ≡ (v.homes z).view) (paths : (u z : ℕ) → is_on_path l'.machine.tasks u z ≡ is_on_path l.machine.tasks u z) (rests : (u : ℕ) → Rests l' u → Rests l u) where
+    (same : (z : ℕ) → (v'.belongings z).view ≡ (v.belongings z).view) (paths : (u z : ℕ) → is_on_path l'.machine.tasks u z ≡ is_on_path l.machine.tasks u z) (rests : (u : ℕ) → Rests l' u → Rests l u) where
   abbrev ss : List Source
   ss = sources v t
 
@@ -275,8 +275,8 @@ module _ (v v' : Memory) (l l' : Ledger) (t : ℕ) (names : List Name) (f : Addr
       elim (cases_eq u t) [
         | inl e ↦ absurd (ne (leaf_alone l S u z (ap (λ k. is_waiting (slice_get l.machine.tasks k)) e ∙ idle) lz up'))
         | inr nt ↦
-            let w = from_mapped (rewritten f ss) (λ q. refl) (λ q. refl) (v.homes u).chunks o (subst (λ (k : Home). In (objects_in k.chunks) o) (C.others u nt) i) in
+            let w = from_mapped (rewritten f ss) (λ q. refl) (λ q. refl) (v.belongings u).chunks o (subst (λ (k : Belongings). In (objects_in k.chunks) o) (C.others u nt) i) in
             let at : o.at ≡ w.0.at = ap (λ (q : Located). q.at) (sym w.2) in
-            ap₂ (λ s b. shown_at s b) (same z) at ∙ subst (λ (q : Located). shown_at (v.homes z).view w.0.at ≡ as_shown q) w.2
-            (one_led (shown_at (v.homes z).view w.0.at) u w.0 (rests u r) w.1 (T z rz lz u w.0 up' ne (rests u r) w.1))
+            ap₂ (λ s b. shown_at s b) (same z) at ∙ subst (λ (q : Located). shown_at (v.belongings z).view w.0.at ≡ as_shown q) w.2
+            (one_led (shown_at (v.belongings z).view w.0.at) u w.0 (rests u r) w.1 (T z rz lz u w.0 up' ne (rests u r) w.1))
       ]

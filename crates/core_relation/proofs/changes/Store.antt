@@ -64,7 +64,7 @@ goes_on at (Some c) f z R = record { function = R.function; next = ap (λ k. k +
 module _ (v v' : Memory) (l l' : Ledger) (t : ℕ) (x : Task) (n : Name) (y : Object) (o w i : ℕ) (c : Option (ℕ × ℤ)) (f : Frame) (fs : List Frame) (a : Addr) (S : SoundLedger l) (V : Stands v l) (rests : Rests l t)
     (L : StoresOne l l' t x n y o w i c) (C : StoresAt v v' l t f fs a w i c) (at_a : ref_of f o ≡ Some a) where
   frames : FramesAreRead (Place v l) (f ∷ fs) (x.top ∷ x.below)
-  frames = subst (λ zs. FramesAreRead (Place v l) zs (x.top ∷ x.below)) C.frames (subst (HoldsRead (Place v l) (v.homes t) x) L.runs (V.tasks t x rests L.task))
+  frames = subst (λ zs. FramesAreRead (Place v l) zs (x.top ∷ x.below)) C.frames (subst (HoldsRead (Place v l) (v.belongings t) x) L.runs (V.tasks t x rests L.task))
 
   pub holds : (j : ℕ) (m : Name) → ref_in x.top j ≡ Some m → In (task_names x) m
   holds j m e = names_run x m L.runs (in_registers (x.top ∷ x.below) x.top m (inl refl) (at_in x.top.refs j m e))
@@ -121,7 +121,7 @@ module _ (v v' : Memory) (l l' : Ledger) (t : ℕ) (x : Task) (n : Name) (y : Ob
       by true h q k = inl h
       by false h q k = inr (subst (λ z. In (sources v' (own l r)) (record { object = a; field = z })) (sym k) (C.down q.0 (own l n) (own l r) q.1 place.chunk q.2.chunk h))
 
-      at_old : slice_get y.refs j ≡ Some (Some r) → Lies (v.homes (own l n)).chunks n a → (is_on_path l.machine.tasks (own l r) (own l n) ≡ true) ⊎ In (sources v (own l r)) (record { object = a; field = j })
+      at_old : slice_get y.refs j ≡ Some (Some r) → Lies (v.belongings (own l n)).chunks n a → (is_on_path l.machine.tasks (own l r) (own l n) ≡ true) ⊎ In (sources v (own l r)) (record { object = a; field = j })
       at_old old q =
           subst (λ (c : Addr). (is_on_path l.machine.tasks (own l r) (own l n) ≡ true) ⊎ In (sources v (own l r)) (record { object = c; field = j })) q.2.at
           (V.remembered (own l n) q.0 y j r rests_n q.1 (ap (object_at l.machine.store) q.2.name ∙ L.writes.was) old)
@@ -155,11 +155,11 @@ module _ (v v' : Memory) (l l' : Ledger) (t : ℕ) (x : Task) (n : Name) (y : Ob
             kept = kept l S t x L.task n m.0 hn hr off';
           }))
 
-  task : (z : Task) → Rests l t → slice_get l'.machine.tasks t ≡ Some z → TaskIsRead (Place v l) (v'.homes t) z
+  task : (z : Task) → Rests l t → slice_get l'.machine.tasks t ≡ Some z → TaskIsRead (Place v l) (v'.belongings t) z
   task z r e =
       let z' : Task = record x { top = onward_with c x.top } in
-      subst (λ (k : Task). TaskIsRead (Place v l) (v'.homes t) k) (same_Some z' z (sym L.goes ∙ e))
-      (subst (HoldsRead (Place v l) (v'.homes t) z') (sym L.runs)
+      subst (λ (k : Task). TaskIsRead (Place v l) (v'.belongings t) k) (same_Some z' z (sym L.goes ∙ e))
+      (subst (HoldsRead (Place v l) (v'.belongings t) z') (sym L.runs)
       (subst (λ gs. FramesAreRead (Place v l) gs (onward_with c x.top ∷ x.below)) (sym C.goes)
       (goes_on (Place v l) c f x.top frames.0, frames.1)))
 

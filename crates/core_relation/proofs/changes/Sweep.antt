@@ -17,15 +17,15 @@ use Rattle.run_ledger.specs.declared.data.Ledger.{Ledger}
 use Rattle.run_ledger.specs.Heaps.{heap_of, or_fresh}
 use Rattle.run_ledger.specs.Sound.{SoundLedger, Keeps, InHeaps, Spares, snapshot_at}
 use Rattle.remembered_set.specs.declared.remembered.Source.{Source}
-use Rattle.core_relation.specs.Memory.{Home, Memory, In, object_name, objects, objects_in, sources, Lies}
+use Rattle.core_relation.specs.Memory.{Belongings, Memory, In, object_name, objects, objects_in, sources, Lies}
 use Rattle.core_relation.specs.Reads.{TaskIsRead}
 use Rattle.ledger_step_laws.specs.Accounts.{own, Rests, ChangesHeap}
-use Rattle.core_relation.specs.Stands.{Place, HomeStands, IsSource, Stands}
+use Rattle.core_relation.specs.Stands.{Place, BelongingsStand, IsSource, Stands}
 use Rattle.core_relation.specs.Changes.{KeepsJust}
 use Rattle.core_relation.proofs.changes.Same.{own_same, path_same, store_same, source_same}
 use Rattle.core_relation.proofs.objects.Carry.{object_kept, task_kept, same_holding}
 use Rattle.core_relation.proofs.objects.Members.{object_held, in_chunk}
-use Rattle.core_relation.proofs.changes.Alone.{home_own, home_kept}
+use Rattle.core_relation.proofs.changes.Alone.{belongings_own, belongings_kept}
 use Rattle.core_relation.proofs.changes.Giving.{gives_kept}
 
 pub snapshot_is : (o : Option Heap) → snapshot_at o ≡ (or_fresh o).snapshot
@@ -36,9 +36,9 @@ snapshot_is (Some h) = refl
 pub refers : (store : List (List Object)) (n r : Name) (x : Object) → object_at store n ≡ Some x → In x.refs (Some r) → In (refs_at store n) r
 refers store n r x is i = subst (λ o. In (refs_of o) r) (sym is) (named_from_in x.refs r i)
 
--- an object of a home is kept by the ledger
-pub is_kept : (v : Memory) (l : Ledger) (u : ℕ) → HomeStands v l u → (o : Located) → In (objects v u) o → Keeps l.heaps (object_name o)
-is_kept v l u H o i = (u, object_held (v.homes u).chunks (heap_of l u) H.names o i)
+-- an object of a task is kept by the ledger
+pub is_kept : (v : Memory) (l : Ledger) (u : ℕ) → BelongingsStand v l u → (o : Located) → In (objects v u) o → Keeps l.heaps (object_name o)
+is_kept v l u H o i = (u, object_held (v.belongings u).chunks (heap_of l u) H.names o i)
 
 -- with its owner's heap kept to some names, whatever is read of it bears one of them
 module _ (l : Ledger) (t : ℕ) (S : SoundLedger l) (names : List Name) (spares : Spares l.machine.tasks l.machine.store l.heaps t names) where
@@ -79,55 +79,55 @@ module _ (v v' : Memory) (l l' : Ledger) (t : ℕ) (names : List Name) (S : Soun
     | inr ne ↦ ap (λ (h : Heap). h.snapshot) (L.others u ne)
   ]
 
-  -- what stays in a home was there, and bears a name of the snapshot if it is in this one
+  -- what stays in a heap was there, and bears a name of the snapshot if it is in this one
   was : (u : ℕ) (o : Located) → In (objects v' u) o → In (objects v u) o × (u ≡ t → In snapshot (object_name o))
   was u o i = elim (cases_eq u t) [
     | inl e ↦
         let q = C.only o (subst (λ z. In (objects v' z) o) e i) in
         (subst (λ z. In (objects v z) o) (sym e) q.0, λ e. q.1)
-    | inr ne ↦ (subst (λ (h : Home). In (objects_in h.chunks) o) (C.others u ne) i, λ e. absurd (ne e))
+    | inr ne ↦ (subst (λ (h : Belongings). In (objects_in h.chunks) o) (C.others u ne) i, λ e. absurd (ne e))
   ]
 
-  at_home : (n : Name) (a : Addr) → own l n ≡ t → Live l t S snapshot spares n → Place v l n a → Lies (v'.homes t).chunks n a
-  at_home n a e f p =
-      let q : Lies (v.homes t).chunks n a = subst (λ u. Lies (v.homes u).chunks n a) e (p.here (subst (Rests l) (sym e) rests)) in
+  at_belongings : (n : Name) (a : Addr) → own l n ≡ t → Live l t S snapshot spares n → Place v l n a → Lies (v'.belongings t).chunks n a
+  at_belongings n a e f p =
+      let q : Lies (v.belongings t).chunks n a = subst (λ u. Lies (v.belongings u).chunks n a) e (p.here (subst (Rests l) (sym e) rests)) in
       (q.0, C.kept q.0 q.1 (subst (In snapshot) (sym q.2.name) (f e)), q.2)
 
   place : (n : Name) (a : Addr) → Live l t S snapshot spares n → Place v l n a → Place v' l' n a
   place n a f p = elim (cases_eq (own l n) t) [
     | inl e ↦
-        let q = at_home n a e f p in
-        let k = in_chunk (v'.homes t).chunks q.0 q.1 in
-        let at : a.chunk ≡ k.0.number = ap (λ (b : Addr). b.chunk) (sym q.2.at) ∙ C.home.inside k.0 q.0 k.1 k.2 in
+        let q = at_belongings n a e f p in
+        let k = in_chunk (v'.belongings t).chunks q.0 q.1 in
+        let at : a.chunk ≡ k.0.number = ap (λ (b : Addr). b.chunk) (sym q.2.at) ∙ C.belongings.inside k.0 q.0 k.1 k.2 in
         let e' : own l' n ≡ t = own_same l l' L.machine n ∙ e in
         record {
-          chunk = ap v'.owner at ∙ (C.home.owned k.0 k.1 ∙ ap Some (sym e'));
-          here = λ r. subst (λ u. Lies (v'.homes u).chunks n a) (sym e') q;
+          chunk = ap v'.owner at ∙ (C.belongings.owned k.0 k.1 ∙ ap Some (sym e'));
+          here = λ r. subst (λ u. Lies (v'.belongings u).chunks n a) (sym e') q;
         }
     | inr ne ↦ record {
       chunk = C.owners a.chunk (own l n) ne p.chunk ∙ ap Some (sym (own_same l l' L.machine n));
       here = λ r.
-          subst (λ u. Lies (v'.homes u).chunks n a) (sym (own_same l l' L.machine n))
-          (subst (λ (h : Home). Lies h.chunks n a) (sym (C.others (own l n) ne)) (p.here (rest (own l n) (subst (Rests l') (own_same l l' L.machine n) r))));
+          subst (λ u. Lies (v'.belongings u).chunks n a) (sym (own_same l l' L.machine n))
+          (subst (λ (h : Belongings). Lies h.chunks n a) (sym (C.others (own l n) ne)) (p.here (rest (own l n) (subst (Rests l') (own_same l l' L.machine n) r))));
     }
   ]
 
-  home : (u : ℕ) → Rests l' u → HomeStands v' l' u
-  home u r = elim (cases_eq u t) [
-    | inl e ↦ subst (HomeStands v' l') (sym e) C.home
-    | inr ne ↦ home_kept v v' l l' u (C.others u ne) (λ k. C.owners k u ne) (L.others u ne) (ap (λ (m : State). length (row_of (slice_get m.store u))) L.machine) (ap (λ (m : State). is_joined (slice_get m.tasks u)) L.machine) (V.homes u (rest u r))
+  belongings : (u : ℕ) → Rests l' u → BelongingsStand v' l' u
+  belongings u r = elim (cases_eq u t) [
+    | inl e ↦ subst (BelongingsStand v' l') (sym e) C.belongings
+    | inr ne ↦ belongings_kept v v' l l' u (C.others u ne) (λ k. C.owners k u ne) (L.others u ne) (ap (λ (m : State). length (row_of (slice_get m.store u))) L.machine) (ap (λ (m : State). is_joined (slice_get m.tasks u)) L.machine) (V.belongings u (rest u r))
   ]
 
   live_object : (u : ℕ) (o : Located) → Rests l' u → In (objects v' u) o → Live l t S snapshot spares (object_name o)
-  live_object u o r i e = let q = was u o i in q.1 (sym (home_own v l S u (V.homes u (rest u r)) o q.0) ∙ e)
+  live_object u o r i e = let q = was u o i in q.1 (sym (belongings_own v l S u (V.belongings u (rest u r)) o q.0) ∙ e)
 
-  task : (u : ℕ) (x : Task) → Rests l' u → slice_get l'.machine.tasks u ≡ Some x → TaskIsRead (Place v' l') (v'.homes u) x
+  task : (u : ℕ) (x : Task) → Rests l' u → slice_get l'.machine.tasks u ≡ Some x → TaskIsRead (Place v' l') (v'.belongings u) x
   task u x r is =
       let is' : slice_get l.machine.tasks u ≡ Some x = sym (ap (λ (m : State). slice_get m.tasks u) L.machine) ∙ is in
-      let k : TaskIsRead (Place v' l') (v.homes u) x = task_kept (Place v l) (Place v' l') (v.homes u) x (λ n j a. place n a (live_task l t S snapshot spares u x n is' j)) (V.tasks u x (rest u r) is') in
+      let k : TaskIsRead (Place v' l') (v.belongings u) x = task_kept (Place v l) (Place v' l') (v.belongings u) x (λ n j a. place n a (live_task l t S snapshot spares u x n is' j)) (V.tasks u x (rest u r) is') in
       elim (cases_eq u t) [
-        | inl e ↦ same_holding (Place v' l') (v.homes u) (v'.homes u) x (ap (λ z. (v'.homes z).frames) e ∙ (C.frames ∙ ap (λ z. (v.homes z).frames) (sym e))) (ap (λ z. (v'.homes z).result) e ∙ (C.result ∙ ap (λ z. (v.homes z).result) (sym e))) k
-        | inr ne ↦ subst (λ (h : Home). TaskIsRead (Place v' l') h x) (sym (C.others u ne)) k
+        | inl e ↦ same_holding (Place v' l') (v.belongings u) (v'.belongings u) x (ap (λ z. (v'.belongings z).frames) e ∙ (C.frames ∙ ap (λ z. (v.belongings z).frames) (sym e))) (ap (λ z. (v'.belongings z).result) e ∙ (C.result ∙ ap (λ z. (v.belongings z).result) (sym e))) k
+        | inr ne ↦ subst (λ (h : Belongings). TaskIsRead (Place v' l') h x) (sym (C.others u ne)) k
       ]
 
   source : (u : ℕ) (s : Source) → In (sources v' u) s → IsSource v' l' u s
@@ -136,21 +136,21 @@ module _ (v v' : Memory) (l l' : Ledger) (t : ℕ) (names : List Name) (S : Soun
       source_same l l' L.machine v v' u s k (place k.name s.object (λ o. subst (λ z. In (heap_of l z).snapshot k.name) o k.kept) k.place) (worker_same (own l k.name))
       (subst (λ ns. In ns k.name) (sym (snapshot_same (own l k.name))) k.kept)
 
-  view_same : (z : ℕ) → (v'.homes z).view ≡ (v.homes z).view
-  view_same z = elim (cases_eq z t) [ inl e ↦ ap (λ k. (v'.homes k).view) e ∙ (C.view ∙ ap (λ k. (v.homes k).view) (sym e)) | inr ne ↦ ap (λ (h : Home). h.view) (C.others z ne) ]
+  view_same : (z : ℕ) → (v'.belongings z).view ≡ (v.belongings z).view
+  view_same z = elim (cases_eq z t) [ inl e ↦ ap (λ k. (v'.belongings k).view) e ∙ (C.view ∙ ap (λ k. (v.belongings k).view) (sym e)) | inr ne ↦ ap (λ (h : Belongings). h.view) (C.others z ne) ]
 
   pub swept : Stands v' l'
   swept = record {
     gives = λ z u r j up ne w ru. gives_kept v v' u z (view_same z) (view_same u) (λ k o. C.owned k u o) (V.gives z u (rest z r) (sym (ap (λ (m : State). is_joined (slice_get m.tasks z)) L.machine) ∙ j) (sym (path_same l l' L.machine u z) ∙ up) ne (sym (ap (λ (m : State). is_waiting (slice_get m.tasks u)) L.machine) ∙ w) (rest u ru));
     views = λ z r j. sweep_shown v v' l l' t snapshot V.views C view_same (λ u y. path_same l l' L.machine u y) rest z (rest z r) (sym (ap (λ (m : State). is_joined (slice_get m.tasks z)) L.machine) ∙ j);
     made = λ k u e. ap (λ (m : State). is_some (slice_get m.tasks u)) L.machine ∙ V.made k u (C.owned k u e);
-    homes = home;
+    belongings = belongings;
     contents = λ u o r i.
         let w = was u o i in
         let c = V.contents u o (rest u r) w.0 in (
           c.0,
           store_same l l' L.machine (object_name o) ∙ c.1,
-          object_kept (Place v l) (Place v' l') o c.0 (λ n j a. place n a (live_ref l t S snapshot spares (object_name o) n c.0 c.1 (is_kept v l u (V.homes u (rest u r)) o w.0) (live_object u o r i) j)) c.2,
+          object_kept (Place v l) (Place v' l') o c.0 (λ n j a. place n a (live_ref l t S snapshot spares (object_name o) n c.0 c.1 (is_kept v l u (V.belongings u (rest u r)) o w.0) (live_object u o r i) j)) c.2,
         );
     tasks = task;
     remembered = λ u o x i n r j is at.

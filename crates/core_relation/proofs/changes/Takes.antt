@@ -11,16 +11,16 @@ use Rattle.run_ledger.specs.declared.data.Ledger.{Ledger}
 use Rattle.run_ledger.specs.Heaps.{heap_of, or_fresh, with_heap, let_go}
 use Rattle.run_ledger.specs.Steps.{task_steps}
 use Rattle.run_ledger.proofs.Machine.{heap_machine}
-use Rattle.core_relation.specs.Memory.{Home, Memory, objects_in}
+use Rattle.core_relation.specs.Memory.{Belongings, Memory, objects_in}
 use Rattle.ledger_step_laws.specs.Accounts.{Rests, rested}
 use Rattle.core_relation.specs.Stands.{Stands}
-use Rattle.core_relation.specs.Fits.{Part, FitsAt, with_home, part_for}
+use Rattle.core_relation.specs.Fits.{Part, FitsAt, with_belongings, part_for}
 use Rattle.ledger_step_laws.proofs.Ahead.{heap_then, with_at, with_off}
-use Rattle.core_relation.proofs.changes.Alone.{home_kept}
+use Rattle.core_relation.proofs.changes.Alone.{belongings_kept}
 use Rattle.ledger_step_laws.proofs.Entries.{took_takes}
 use Rattle.core_relation.proofs.changes.Release.{released}
 use Rattle.core_relation.proofs.changes.Renew.{renewed}
-use Rattle.core_relation.proofs.changes.With.{at_home, off_home}
+use Rattle.core_relation.proofs.changes.With.{at_belongings, off_belongings}
 
 -- TAKEN
 
@@ -48,16 +48,16 @@ module _ (p : ProgramText) (s : SettingsValue) (v : Memory) (l : Ledger) (t w : 
   machine_back = heap_machine l' t let_go ∙ heap_machine l t (λ h. record h { worker = Some w })
 
   abbrev q : Part
-  q = part_for s t (v.homes t) 0
+  q = part_for s t (v.belongings t) 0
 
-  same_home : (u : ℕ) → (with_home v t (v.homes t)).homes u ≡ v.homes u
-  same_home u = elim (cases_eq u t) [
-    | inl e ↦ ap (with_home v t (v.homes t)).homes e ∙ (at_home v t (v.homes t) ∙ ap v.homes (sym e))
-    | inr ne ↦ off_home v t (v.homes t) u ne
+  same_belongings : (u : ℕ) → (with_belongings v t (v.belongings t)).belongings u ≡ v.belongings u
+  same_belongings u = elim (cases_eq u t) [
+    | inl e ↦ ap (with_belongings v t (v.belongings t)).belongings e ∙ (at_belongings v t (v.belongings t) ∙ ap v.belongings (sym e))
+    | inr ne ↦ off_belongings v t (v.belongings t) u ne
   ]
 
   pub took_stands : Stands v l'
-  took_stands = released v v l l' t w V idle (took_takes l t w h is) (record { homes = λ u ne. refl; owner = λ k. refl; sources = λ u. refl })
+  took_stands = released v v l l' t w V idle (took_takes l t w h is) (record { belongings = λ u ne. refl; owner = λ k. refl; sources = λ u. refl })
 
   pub took_fits : FitsAt p s q v l'
   took_fits = record {
@@ -65,18 +65,18 @@ module _ (p : ProgramText) (s : SettingsValue) (v : Memory) (l : Ledger) (t w : 
     out = (took_takes l t w h is).worker;
     few = omega arith;
     private = tt;
-    stands = renewed v (with_home v t (v.homes t)) l back V
+    stands = renewed v (with_belongings v t (v.belongings t)) l back V
         (record { machine = machine_back; worker = λ u. ap (λ (z : Heap). z.worker) (heap_back u); snapshot = λ u. ap (λ (z : Heap). z.snapshot) (heap_back u) })
         (record {
-          home = λ u r. home_kept v (with_home v t (v.homes t)) l back u (same_home u) (λ k e. e) (heap_back u) (ap (λ (m : State). length (row_of (slice_get m.store u))) machine_back) (ap (λ (m : State). is_joined (slice_get m.tasks u)) machine_back) (V.homes u (ap (λ (z : Heap). z.worker) (sym (heap_back u)) ∙ r));
-          objects = λ u. ap (λ (z : Home). objects_in z.chunks) (same_home u);
-          chunks = λ u e. ap (λ (z : Home). length z.chunks) (same_home u);
-          frames = λ u. ap (λ (z : Home). z.frames) (same_home u);
-          result = λ u. ap (λ (z : Home). z.result) (same_home u);
-          view = λ u. ap (λ (z : Home). z.view) (same_home u);
+          belongings = λ u r. belongings_kept v (with_belongings v t (v.belongings t)) l back u (same_belongings u) (λ k e. e) (heap_back u) (ap (λ (m : State). length (row_of (slice_get m.store u))) machine_back) (ap (λ (m : State). is_joined (slice_get m.tasks u)) machine_back) (V.belongings u (ap (λ (z : Heap). z.worker) (sym (heap_back u)) ∙ r));
+          objects = λ u. ap (λ (z : Belongings). objects_in z.chunks) (same_belongings u);
+          chunks = λ u e. ap (λ (z : Belongings). length z.chunks) (same_belongings u);
+          frames = λ u. ap (λ (z : Belongings). z.frames) (same_belongings u);
+          result = λ u. ap (λ (z : Belongings). z.result) (same_belongings u);
+          view = λ u. ap (λ (z : Belongings). z.view) (same_belongings u);
           owner = λ k u e. e;
           taken = λ k u e. inl e;
-          begun = λ u e. ap (λ (z : Home). z.begun) (same_home u);
+          begun = λ u e. ap (λ (z : Belongings). z.begun) (same_belongings u);
           sources = λ u. refl;
         });
   }
@@ -95,6 +95,6 @@ module _ (p : ProgramText) (s : SettingsValue) (q : Part) (v : Memory) (l : Ledg
   -- and the memory stands without it
   pub ran_stands : is_waiting (slice_get then_.machine.tasks q.task) ≡ false → Stands v then_
   ran_stands idle =
-      released (with_home v q.task q.home) v (rested then_ q.task) then_ q.task w F.stands (ap (λ (m : State). is_waiting (slice_get m.tasks q.task)) (heap_machine then_ q.task let_go) ∙ idle)
+      released (with_belongings v q.task q.belongings) v (rested then_ q.task) then_ q.task w F.stands (ap (λ (m : State). is_waiting (slice_get m.tasks q.task)) (heap_machine then_ q.task let_go) ∙ idle)
       (record { machine = sym (heap_machine then_ q.task let_go); worker = out; heaps = λ u ne. ap or_fresh (sym (with_off then_ q.task u let_go ne)) })
-      (record { homes = λ u ne. sym (off_home v q.task q.home u ne); owner = λ k. refl; sources = λ u. refl })
+      (record { belongings = λ u ne. sym (off_belongings v q.task q.belongings u ne); owner = λ k. refl; sources = λ u. refl })

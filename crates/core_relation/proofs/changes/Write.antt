@@ -23,8 +23,8 @@ use Rattle.core_relation.specs.Stands.{Place, IsSource, Stands}
 use Rattle.core_relation.specs.Changes.{WritesAt, WritesWell}
 use Rattle.core_relation.proofs.objects.Carry.{object_kept, task_kept, same_holding}
 use Rattle.core_relation.proofs.objects.Members.{in_chunk}
-use Rattle.core_relation.proofs.objects.Mapped.{from_mapped, lies_mapped, home_mapped_by}
-use Rattle.core_relation.proofs.changes.Alone.{home_own}
+use Rattle.core_relation.proofs.objects.Mapped.{from_mapped, lies_mapped, belongings_mapped_by}
+use Rattle.core_relation.proofs.changes.Alone.{belongings_own}
 pub use Rattle.core_relation.proofs.changes.Shown.{at_is, is_at_it}
 use Rattle.core_relation.proofs.changes.Shown.{write_shown}
 use Rattle.core_relation.proofs.changes.Giving.{gives_kept}
@@ -67,29 +67,29 @@ module _ (v v' : Memory) (l l' : Ledger) (t : ℕ) (n : Name) (a : Addr) (x x' :
   place m b p = record {
     chunk = C.owner b.chunk ∙ (p.chunk ∙ ap Some (sym (owner_same m)));
     here = λ r.
-        subst (λ u. Lies (v'.homes u).chunks m b) (sym (owner_same m))
+        subst (λ u. Lies (v'.belongings u).chunks m b) (sym (owner_same m))
         (subst (λ ks. Lies ks m b) (sym (C.chunks (own l m)))
-        (lies_mapped one one_name one_at (v.homes (own l m)).chunks m b (p.here (rest (own l m) (subst (Rests l') (owner_same m) r)))));
+        (lies_mapped one one_name one_at (v.belongings (own l m)).chunks m b (p.here (rest (own l m) (subst (Rests l') (owner_same m) r)))));
   }
 
   was : (u : ℕ) (o : Located) → In (objects v' u) o → (q : Located) × In (objects v u) q × (one q ≡ o)
-  was u o i = from_mapped one one_name one_at (v.homes u).chunks o (subst (λ ks. In (objects_in ks) o) (C.chunks u) i)
+  was u o i = from_mapped one one_name one_at (v.belongings u).chunks o (subst (λ ks. In (objects_in ks) o) (C.chunks u) i)
 
   -- the object that is written is that of the name, and no other is
   written_is : (u : ℕ) (o : Located) → Rests l u → In (objects v u) o → o.at ≡ a → object_name o ≡ n
   written_is u o r i e =
-      let q : Lies (v.homes (own l n)).chunks n a = W.place.here W.rests in
-      let k = in_chunk (v.homes u).chunks o i in
-      let mine : v.owner a.chunk ≡ Some u = ap (λ (b : Addr). v.owner b.chunk) (sym e) ∙ (ap v.owner ((V.homes u r).inside k.0 o k.1 k.2) ∙ (V.homes u r).owned k.0 k.1) in
+      let q : Lies (v.belongings (own l n)).chunks n a = W.place.here W.rests in
+      let k = in_chunk (v.belongings u).chunks o i in
+      let mine : v.owner a.chunk ≡ Some u = ap (λ (b : Addr). v.owner b.chunk) (sym e) ∙ (ap v.owner ((V.belongings u r).inside k.0 o k.1 k.2) ∙ (V.belongings u r).owned k.0 k.1) in
       let same : own l n ≡ u = same_Some (own l n) u (sym W.place.chunk ∙ mine) in
-      let p : o ≡ q.0 = (V.homes u r).once o q.0 i (subst (λ z. In (objects v z) q.0) same q.1) (e ∙ sym q.2.at) in
+      let p : o ≡ q.0 = (V.belongings u r).once o q.0 i (subst (λ z. In (objects v z) q.0) same q.1) (e ∙ sym q.2.at) in
       ap object_name p ∙ q.2.name
 
   name_is : (u : ℕ) (o : Located) → Rests l u → In (objects v u) o → object_name o ≡ n → o.at ≡ a
   name_is u o r i e =
-      let q : Lies (v.homes (own l n)).chunks n a = W.place.here W.rests in
-      let same : own l n ≡ u = sym (ap (own l) e) ∙ home_own v l S u (V.homes u r) o i in
-      let p : o ≡ q.0 = (V.homes u r).named o q.0 i (subst (λ z. In (objects v z) q.0) same q.1) (e ∙ sym q.2.name) in
+      let q : Lies (v.belongings (own l n)).chunks n a = W.place.here W.rests in
+      let same : own l n ≡ u = sym (ap (own l) e) ∙ belongings_own v l S u (V.belongings u r) o i in
+      let p : o ≡ q.0 = (V.belongings u r).named o q.0 i (subst (λ z. In (objects v z) q.0) same q.1) (e ∙ sym q.2.name) in
       ap (λ (z : Located). z.at) p ∙ q.2.at
 
   -- an object before the write is the one that is written, or stays as it is
@@ -118,10 +118,10 @@ module _ (v v' : Memory) (l l' : Ledger) (t : ℕ) (n : Name) (a : Addr) (x x' :
         | inr w ↦ subst Content (sym w.1) (c.0, L.others (object_name q.0) w.0 ∙ c.1, object_kept (Place v l) (Place v' l') q.0 c.0 (λ m j. place m) c.2)
       ])
 
-  task : (u : ℕ) (y : Task) → Rests l' u → slice_get l'.machine.tasks u ≡ Some y → TaskIsRead (Place v' l') (v'.homes u) y
-  task u y r is = task_kept (Place v l) (Place v' l') (v'.homes u) y (λ m j. place m) (elim (cases_eq u t) [
-    | inl e ↦ subst (λ z. TaskIsRead (Place v l) (v'.homes z) y) (sym e) (W.task y (subst (Rests l) e (rest u r)) (ap (slice_get l'.machine.tasks) (sym e) ∙ is))
-    | inr ne ↦ same_holding (Place v l) (v.homes u) (v'.homes u) y (C.frames u ne) (C.result u ne) (V.tasks u y (rest u r) (sym (L.tasks u ne) ∙ is))
+  task : (u : ℕ) (y : Task) → Rests l' u → slice_get l'.machine.tasks u ≡ Some y → TaskIsRead (Place v' l') (v'.belongings u) y
+  task u y r is = task_kept (Place v l) (Place v' l') (v'.belongings u) y (λ m j. place m) (elim (cases_eq u t) [
+    | inl e ↦ subst (λ z. TaskIsRead (Place v l) (v'.belongings z) y) (sym e) (W.task y (subst (Rests l) e (rest u r)) (ap (slice_get l'.machine.tasks) (sym e) ∙ is))
+    | inr ne ↦ same_holding (Place v l) (v.belongings u) (v'.belongings u) y (C.frames u ne) (C.result u ne) (V.tasks u y (rest u r) (sym (L.tasks u ne) ∙ is))
   ])
 
   abbrev Minds : ℕ → Name → Source → Type 0
@@ -140,7 +140,7 @@ module _ (v v' : Memory) (l l' : Ledger) (t : ℕ) (n : Name) (a : Addr) (x x' :
       subst (λ (b : Addr). Minds u r (record { object = b; field = i })) (sym e) (minds u r (record { object = p.0.at; field = i }) (elim (cases u p.0 (rest u q) p.1) [
         | inl w ↦
             let same : x' ≡ y = same_Some x' y (sym L.is ∙ (ap (object_at l'.machine.store) (sym w.0) ∙ is')) in
-            let mine : own l n ≡ u = sym (ap (own l) w.0) ∙ home_own v l S u (V.homes u (rest u q)) p.0 p.1 in
+            let mine : own l n ≡ u = sym (ap (own l) w.0) ∙ belongings_own v l S u (V.belongings u (rest u q)) p.0 p.1 in
             subst (λ z. (is_on_path l.machine.tasks (own l r) z ≡ true) ⊎ In (sources v' (own l r)) (record { object = p.0.at; field = i })) mine
             (subst (λ (b : Addr). (is_on_path l.machine.tasks (own l r) (own l n) ≡ true) ⊎ In (sources v' (own l r)) (record { object = b; field = i })) (sym w.1)
             (W.minds i r (ap (λ (z : Object). slice_get z.refs i) same ∙ at)))
@@ -186,7 +186,7 @@ module _ (v v' : Memory) (l l' : Ledger) (t : ℕ) (n : Name) (a : Addr) (x x' :
   pub written : Stands v' l'
   written = record {
     made = λ k u e. L.tree.made u ∙ V.made k u (sym (C.owner k) ∙ e);
-    homes = λ u r. home_mapped_by one one_name one_at v v' l l' u (C.chunks u) (C.room u) (C.since u) (C.count u) (λ k e. C.owner k ∙ e) (L.heaps u) (L.rows u) (L.tree.joins u) one_words (V.homes u (rest u r));
+    belongings = λ u r. belongings_mapped_by one one_name one_at v v' l l' u (C.chunks u) (C.room u) (C.since u) (C.count u) (λ k e. C.owner k ∙ e) (L.heaps u) (L.rows u) (L.tree.joins u) one_words (V.belongings u (rest u r));
     contents = content;
     tasks = task;
     remembered = remember;

@@ -43,7 +43,7 @@ module _ (f : Fork) (kept more : List Addr) (of : (a : Addr) → In more a → I
 module _ (v v' : Memory) (t : ℕ) (snapshot : List Name) (m : MarkingValue) (more : List Addr) (grows : kept v' t ≡ kept v t ++ more)
     (there : (o : Located) → In (objects v t) o → (q : Located) × In (objects v' t) q × (q.at ≡ o.at) × (object_name q ≡ object_name o))
     (were : (q : Located) → In (objects v' t) q → (o : Located) × In (objects v t) o × (q.at ≡ o.at) × (object_name q ≡ object_name o) × ((a : Addr) → v.owner a.chunk ≡ Some t → In o.refs (Some a) → In q.refs (Some a) ⊎ In (kept v' t) a))
-    (none_new : (k : ℕ) → v'.owner k ≡ Some t → v.owner k ≡ Some t) (count : length (objects v' t) ≡ length (objects v t)) (chunks : length (v'.homes t).chunks ≡ length (v.homes t).chunks)
+    (none_new : (k : ℕ) → v'.owner k ≡ Some t → v.owner k ≡ Some t) (count : length (objects v' t) ≡ length (objects v t)) (chunks : length (v'.belongings t).chunks ≡ length (v.belongings t).chunks)
     (new : (b : Addr) → In more b → (o : Located) × In (objects v t) o × (o.at ≡ b) × In snapshot (object_name o)) (G : GoesOn v t snapshot m) where
   of : (a : Addr) → In more a → IsInSnapshot G.fork (kept v t) a
   of a i = let o = new a i in subst (IsInSnapshot G.fork (kept v t)) o.2 ((G.snapshot o.0 o.1).1 o.3)

@@ -24,13 +24,13 @@ use Rattle.inner_mark_gc.specs.MarkingValue.{MarkingValue}
 use Rattle.listed.proofs.Members.{in_append_right}
 use Rattle.task_frames.specs.declared.frames.Frame.{Frame}
 use Rattle.remembered_set.specs.declared.remembered.Source.{Source}
-use Rattle.core_relation.specs.Memory.{Chunk, Home, Memory, In, object_name, objects, objects_in, sources, is_source, rewritten, rewritten_refs, rewritten_home, mapped_chunk, put_at}
+use Rattle.core_relation.specs.Memory.{Chunk, Belongings, Memory, In, object_name, objects, objects_in, sources, is_source, rewritten, rewritten_refs, rewritten_belongings, mapped_chunk, put_at}
 use Rattle.ledger_step_laws.specs.Accounts.{own, Rests}
 use Rattle.core_relation.specs.Stands.{Place, Stands}
 use Rattle.core_relation.specs.Begins.{IsReachedAt, AreRoots}
 use Rattle.core_relation.specs.Marking.{GoesOn, MarkedBy}
 use Rattle.core_relation.specs.Since.{Since, Keeps, kept, NotedAt, SameNotes, NoNotes, StaysWhole}
-use Rattle.core_relation.specs.Changes.{Moves, ForksHome, WritesAt, StoresAt, with_field, with_number}
+use Rattle.core_relation.specs.Changes.{Moves, ForksBelongings, WritesAt, StoresAt, with_field, with_number}
 use Rattle.task_frames.specs.FramesValue.{ref_of}
 use Rattle.ledger_step_laws.specs.Kinds.{ForksTask, StoresOne}
 use Rattle.core_relation.proofs.objects.Mapped.{count_mapped, from_mapped, length_map, to_mapped}
@@ -65,7 +65,7 @@ marks_carry v v' l l' t o o' same account stay further M = subst (MarkedBy v' l'
 module _ (v v' : Memory) (l l' : Ledger) (t : ℕ) (N : SameNotes v v' l l' t) where
   since_stays : StaysWhole v v' t → Since v l t → Since v' l' t
   since_stays S H = record {
-    home = H.home;
+    belongings = H.belongings;
     roots = H.roots;
     registers = λ f j. let g = H.registers f j in (g.0, subst (λ fs. In fs g.0) (sym N.frames) g.1, g.2);
     rooted = λ b j. elim (H.rooted b j) [ inl r ↦ inl (N.rooted b r) | inr k ↦ inr (subst (λ bs. In bs b) (sym N.kept) k) ];
@@ -74,8 +74,8 @@ module _ (v v' : Memory) (l l' : Ledger) (t : ℕ) (N : SameNotes v v' l l' t) w
     snapshot = λ q i.
         let z = S.were q i in
         let r = H.snapshot z.0 z.1 in (
-          (λ w. subst (λ ns. In ns (object_name q)) (sym N.snapshot) (subst (In (heap_of l t).snapshot) (sym z.3) (r.0 (subst (IsReachedAt H.home H.roots) z.2 w)))),
-          (λ w. subst (IsReachedAt H.home H.roots) (sym z.2) (r.1 (subst (In (heap_of l t).snapshot) z.3 (subst (λ ns. In ns (object_name q)) N.snapshot w)))),
+          (λ w. subst (λ ns. In ns (object_name q)) (sym N.snapshot) (subst (In (heap_of l t).snapshot) (sym z.3) (r.0 (subst (IsReachedAt H.belongings H.roots) z.2 w)))),
+          (λ w. subst (IsReachedAt H.belongings H.roots) (sym z.2) (r.1 (subst (In (heap_of l t).snapshot) z.3 (subst (λ ns. In ns (object_name q)) N.snapshot w)))),
         );
     overwritten = λ o q b i j e k c.
         let z = S.were q j in
@@ -107,7 +107,7 @@ module _ (v v' : Memory) (l l' : Ledger) (t : ℕ) (N : SameNotes v v' l l' t) w
       marks_carry v v' l l' t (v.noted t).marked (v'.noted t).marked marked account
       (λ q i j. let z = S.there q i in (z.0, z.1, z.2, subst (λ ns. In ns (object_name z.0)) (sym N.snapshot) (subst (In (heap_of l t).snapshot) (sym z.3) j))) (still_goes S) (H.marks (sym N.keeps ∙ e))) H
 
-pub same_whole : (v v' : Memory) (t : ℕ) → objects v' t ≡ objects v t → length (v'.homes t).chunks ≡ length (v.homes t).chunks → StaysWhole v v' t
+pub same_whole : (v v' : Memory) (t : ℕ) → objects v' t ≡ objects v t → length (v'.belongings t).chunks ≡ length (v.belongings t).chunks → StaysWhole v v' t
 same_whole v v' t e chunks = record {
   count = ap (λ (os : List Located). length os) e;
   chunks = chunks;
@@ -127,13 +127,13 @@ rewritten_keeps f ss a i (r ∷ rs) b e (inr j) = inr (rewritten_keeps f ss a (s
 
 pub moves_whole : (v v' : Memory) (l l' : Ledger) (u t : ℕ) (names : List Name) (f : Addr → Addr) → (t ≡ u → ⊥) → Moves v v' l l' u names f → StaysWhole v v' t
 moves_whole v v' l l' u t names f ne M =
-    let e : v'.homes t ≡ rewritten_home f (sources v u) (v.homes t) = M.others t ne in
+    let e : v'.belongings t ≡ rewritten_belongings f (sources v u) (v.belongings t) = M.others t ne in
     record {
-      count = ap (λ (h : Home). length (objects_in h.chunks)) e ∙ count_mapped (rewritten f (sources v u)) (λ o. refl) (λ o. refl) (v.homes t).chunks;
-      chunks = ap (λ (h : Home). length h.chunks) e ∙ length_map (mapped_chunk (rewritten f (sources v u))) (v.homes t).chunks;
-      there = λ o i. (rewritten f (sources v u) o, subst (λ (h : Home). In (objects_in h.chunks) (rewritten f (sources v u) o)) (sym e) (to_mapped (rewritten f (sources v u)) (λ o. refl) (λ o. refl) (v.homes t).chunks o i), refl, refl);
+      count = ap (λ (h : Belongings). length (objects_in h.chunks)) e ∙ count_mapped (rewritten f (sources v u)) (λ o. refl) (λ o. refl) (v.belongings t).chunks;
+      chunks = ap (λ (h : Belongings). length h.chunks) e ∙ length_map (mapped_chunk (rewritten f (sources v u))) (v.belongings t).chunks;
+      there = λ o i. (rewritten f (sources v u) o, subst (λ (h : Belongings). In (objects_in h.chunks) (rewritten f (sources v u) o)) (sym e) (to_mapped (rewritten f (sources v u)) (λ o. refl) (λ o. refl) (v.belongings t).chunks o i), refl, refl);
       were = λ q i.
-          let z = from_mapped (rewritten f (sources v u)) (λ o. refl) (λ o. refl) (v.homes t).chunks q (subst (λ (h : Home). In (objects_in h.chunks) q) e i) in (
+          let z = from_mapped (rewritten f (sources v u)) (λ o. refl) (λ o. refl) (v.belongings t).chunks q (subst (λ (h : Belongings). In (objects_in h.chunks) q) e i) in (
             z.0,
             z.1,
             ap (λ (o : Located). o.at) (sym z.2),
@@ -168,11 +168,11 @@ module _ (a : Addr) (i : ℕ) (k : ℤ) where
 -- so does a store of a number
 pub numbers_whole : (v v' : Memory) (w : ℕ) (a : Addr) (i : ℕ) (k : ℤ) (t : ℕ) → WritesAt v v' w a (with_number i k) → StaysWhole v v' t
 numbers_whole v v' w a i k t C = record {
-  count = ap (λ ks. length (objects_in ks)) (C.chunks t) ∙ count_mapped one (number_name a i k) (number_at a i k) (v.homes t).chunks;
-  chunks = ap (λ (ks : List Chunk). length ks) (C.chunks t) ∙ length_map (mapped_chunk one) (v.homes t).chunks;
-  there = λ o j. (one o, subst (λ ks. In (objects_in ks) (one o)) (sym (C.chunks t)) (to_mapped one (number_name a i k) (number_at a i k) (v.homes t).chunks o j), number_at a i k o, number_name a i k o);
+  count = ap (λ ks. length (objects_in ks)) (C.chunks t) ∙ count_mapped one (number_name a i k) (number_at a i k) (v.belongings t).chunks;
+  chunks = ap (λ (ks : List Chunk). length ks) (C.chunks t) ∙ length_map (mapped_chunk one) (v.belongings t).chunks;
+  there = λ o j. (one o, subst (λ ks. In (objects_in ks) (one o)) (sym (C.chunks t)) (to_mapped one (number_name a i k) (number_at a i k) (v.belongings t).chunks o j), number_at a i k o, number_name a i k o);
   were = λ q j.
-      let z = from_mapped one (number_name a i k) (number_at a i k) (v.homes t).chunks q (subst (λ ks. In (objects_in ks) q) (C.chunks t) j) in (
+      let z = from_mapped one (number_name a i k) (number_at a i k) (v.belongings t).chunks q (subst (λ ks. In (objects_in ks) q) (C.chunks t) j) in (
         z.0,
         z.1,
         ap (λ (o : Located). o.at) (sym z.2) ∙ number_at a i k z.0,
@@ -186,7 +186,7 @@ numbers_whole v v' w a i k t C = record {
 
 -- in any store each object stays where it lies
 pub writes_stay : (v v' : Memory) (w : ℕ) (a : Addr) (f : Located → Located) (t : ℕ) → WritesAt v v' w a f → (q : Located) → In (objects v t) q → (z : Located) × In (objects v' t) z × (z.at ≡ q.at) × (object_name z ≡ object_name q)
-writes_stay v v' w a f t C q j = (put_at a f q, subst (λ ks. In (objects_in ks) (put_at a f q)) (sym (C.chunks t)) (to_mapped (put_at a f) one_name one_at (v.homes t).chunks q j), one_at q, one_name q)
+writes_stay v v' w a f t C q j = (put_at a f q, subst (λ ks. In (objects_in ks) (put_at a f q)) (sym (C.chunks t)) (to_mapped (put_at a f) one_name one_at (v.belongings t).chunks q j), one_at q, one_name q)
   where
     one_name : (o : Located) → object_name (put_at a f o) ≡ object_name o
     one_name o = by (same_address o.at a)
@@ -210,7 +210,7 @@ no_notes v' l' t N = record { keeps = N.keeps ∙ sym N.needless; since = λ e. 
 -- A FORK
 
 pub fork_notes : (v v' : Memory) (l l' : Ledger) (t a b g h : ℕ) (x : Task) (roots : List Addr) → SoundLedger l → Stands v l → x.status ≡ Running → Rests l t → ((u : ℕ) → is_waiting (slice_get l.machine.tasks u) ≡ true → Rests l u)
-    → (F : ForksTask l l' t a b g h x) → ForksHome v v' t a b g h → AreRoots v l t roots → F.names ≡ within l t → kept v' t ≡ [] → (v'.noted t).marked ≡ None → (v'.noted t).keeps ≡ true → NotedAt v' l' t
+    → (F : ForksTask l l' t a b g h x) → ForksBelongings v v' t a b g h → AreRoots v l t roots → F.names ≡ within l t → kept v' t ≡ [] → (v'.noted t).marked ≡ None → (v'.noted t).keeps ≡ true → NotedAt v' l' t
 fork_notes v v' l l' t a b g h x roots S V runs rests at_rest F C R names none unmarked keeps = record {
   keeps = keeps ∙ sym (ap₂ (λ a b. a && not b) (ap is_waiting F.waits) (ap (λ (z : Heap). z.swept) F.heap));
   since = λ e. since_fork v v' l l' t a b g h x roots S V runs rests at_rest F C R (λ n. ((λ i. subst (λ ns. In ns n) (sym names) i), (λ i. subst (λ ns. In ns n) names i))) none;
@@ -239,14 +239,14 @@ module _ (v v' : Memory) (l l' : Ledger) (t : ℕ) (x : Task) (n : Name) (y : Ob
       let mine : own l n ≡ z = same_Some (own l n) z (sym place.chunk ∙ oz) in
       let p = place.here rests_n in
       let j' : In (objects v (own l n)) q = subst (λ k. In (objects v k) q) (sym mine) j in
-      let same : q ≡ p.0 = (V.homes (own l n) rests_n).once q p.0 j' p.1 (e ∙ sym p.2.at) in
+      let same : q ≡ p.0 = (V.belongings (own l n) rests_n).once q p.0 j' p.1 (e ∙ sym p.2.at) in
       let c = V.contents (own l n) q rests_n j' in
       let is : c.0 ≡ y = same_Some c.0 y (sym c.1 ∙ (ap (object_at l.machine.store) (ap object_name same ∙ p.2.name) ∙ L.writes.was)) in
       let r = name_at (Place v l) q.refs c.0.refs i b c.2.refs g in
       let theirs : own l r.0 ≡ u = same_Some (own l r.0) u (sym r.2.chunk ∙ ob) in
       let k = r.2.here (subst (Rests l) (sym theirs) (L.waits u wait)) in
       let k' : In (objects v u) k.0 = subst (λ m. In (objects v m) k.0) theirs k.1 in
-      let held : In (names_of (heap_at l u)) (object_name k.0) = object_held (v.homes u).chunks (heap_of l u) (V.homes u (L.waits u wait)).names k.0 k' in
+      let held : In (names_of (heap_at l u)) (object_name k.0) = object_held (v.belongings u).chunks (heap_of l u) (V.belongings u (L.waits u wait)).names k.0 k' in
       let P = (S.waits u wait).of_object n r.0 ((S.waits u wait).of_task t x n L.task holds) (refers l.machine.store n r.0 y L.writes.was (subst (λ (m : Object). In m.refs (Some r.0)) is (got_in c.0.refs i (Some r.0) r.1))) in
       (k.0, k', k.2.at, subst (λ ns. In ns (object_name k.0)) (snapshot_is (slice_get l.heaps u)) (subst (In (snapshot_at (slice_get l.heaps u))) (sym k.2.name) (P.1 (subst (InHeaps l.heaps u) k.2.name held))))
 
@@ -270,7 +270,7 @@ module _ (v v' : Memory) (l l' : Ledger) (t : ℕ) (x : Task) (n : Name) (y : Ob
   -- a marking can go on
   store_goes : Since v' l' u → Keeps v v' u a i → (m : MarkingValue) → GoesOn v u (heap_of l u).snapshot m → GoesOn v' u (heap_of l' u).snapshot m
   store_goes H' K m G =
-      let back : (q : Located) → In (objects v' u) q → (o : Located) × In (objects v u) o × (one o ≡ q) = λ q j. from_mapped one one_name one_at (v.homes u).chunks q (subst (λ ks. In (objects_in ks) q) (C.writes.chunks u) j) in
+      let back : (q : Located) → In (objects v' u) q → (o : Located) × In (objects v u) o × (one o ≡ q) = λ q j. from_mapped one one_name one_at (v.belongings u).chunks q (subst (λ ks. In (objects_in ks) q) (C.writes.chunks u) j) in
       let same : (heap_of l' u).snapshot ≡ (heap_of l u).snapshot = ap (λ (g : Heap). g.snapshot) (L.writes.heaps u) in
       subst (λ ns. GoesOn v' u ns m) (sym same)
       (goes_on v v' u (heap_of l u).snapshot m K.more K.grows (λ o j. writes_stay v v' t a _ u C.writes o j)
@@ -281,7 +281,7 @@ module _ (v v' : Memory) (l l' : Ledger) (t : ℕ) (x : Task) (n : Name) (y : Ob
         ap object_name (sym o.2) ∙ one_name o.0,
         λ b c r. subst (λ (z : Located). In z.refs (Some b) ⊎ In (kept v' u) b) o.2 (write_stays v v' l u i a (ref_of f w) V (L.waits u wait) K o.0 b o.1 r c),
       ))
-      (λ k g. sym (C.writes.owner k) ∙ g) (ap (λ ks. length (objects_in ks)) (C.writes.chunks u) ∙ count_mapped one one_name one_at (v.homes u).chunks) (ap (λ (ks : List Chunk). length ks) (C.writes.chunks u) ∙ length_map (mapped_chunk one) (v.homes u).chunks)
+      (λ k g. sym (C.writes.owner k) ∙ g) (ap (λ ks. length (objects_in ks)) (C.writes.chunks u) ∙ count_mapped one one_name one_at (v.belongings u).chunks) (ap (λ (ks : List Chunk). length ks) (C.writes.chunks u) ∙ length_map (mapped_chunk one) (v.belongings u).chunks)
       (λ b j.
       let q = H'.each b (subst (λ ks. In ks b) (sym K.grows) (in_append_right (kept v u) K.more b j)) in
       let o = back q.0 q.1 in (

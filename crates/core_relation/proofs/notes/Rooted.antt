@@ -18,13 +18,13 @@ use Rattle.core_relation.specs.Begins.{IsRoot}
 use Rattle.core_relation.specs.Changes.{advanced}
 use Rattle.core_relation.proofs.objects.Members.{in_chunk}
 
--- THE HOME OF A ROOT
+-- THE TASK OF A ROOT
 
--- an object lies in a chunk of its home's task
+-- an object lies in a chunk of its task
 pub lies_in : (v : Memory) (l : Ledger) → Stands v l → (z : ℕ) (q : Located) → Rests l z → In (objects v z) q → v.owner q.at.chunk ≡ Some z
 lies_in v l V z q r i =
-    let k = in_chunk (v.homes z).chunks q i in
-    ap v.owner ((V.homes z r).inside k.0 q k.1 k.2) ∙ (V.homes z r).owned k.0 k.1
+    let k = in_chunk (v.belongings z).chunks q i in
+    ap v.owner ((V.belongings z r).inside k.0 q k.1 k.2) ∙ (V.belongings z r).owned k.0 k.1
 
 pub root_owner : (v : Memory) (l : Ledger) (V : Stands v l) (u : ℕ) (b : Addr) (r : IsRoot v l u b) → own l (V.sources u r.source r.noted).name ≡ r.home
 root_owner v l V u b r =
@@ -45,7 +45,7 @@ root_kept v l V u b r =
     let own_home = root_owner v l V u b r in
     let p = s.place.here s.rests in
     let p' : In (objects v r.home) p.0 = subst (λ z. In (objects v z) p.0) own_home p.1 in
-    let same : r.object ≡ p.0 = (V.homes r.home r.rests).once r.object p.0 r.there p' (r.at ∙ sym p.2.at) in
+    let same : r.object ≡ p.0 = (V.belongings r.home r.rests).once r.object p.0 r.there p' (r.at ∙ sym p.2.at) in
     let name : s.name ≡ object_name r.object = sym p.2.name ∙ ap object_name (sym same) in
     subst (In (heap_of l r.home).snapshot) name (subst (λ z. In (heap_of l z).snapshot s.name) own_home s.kept)
 

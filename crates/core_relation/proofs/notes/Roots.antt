@@ -22,13 +22,13 @@ use Rattle.run_ledger.proofs.Reached.{reached_root, reached_more, reached_is_wal
 use Rattle.run_ledger.specs.Sound.{SoundLedger}
 use Rattle.run_ledger.proofs.Sound.{in_held, held_keeps}
 use Rattle.task_frames.specs.declared.frames.Frame.{Frame}
-use Rattle.core_relation.specs.Memory.{Home, Memory, In, object_name, objects, sources}
+use Rattle.core_relation.specs.Memory.{Belongings, Memory, In, object_name, objects, sources}
 use Rattle.core_relation.specs.Reads.{AllRead, FramesAreRead, HoldsRead}
 use Rattle.ledger_step_laws.specs.Accounts.{own, Rests}
 use Rattle.core_relation.specs.Stands.{Place, Stands}
 use Rattle.core_relation.specs.Begins.{StartsAt, LeadsAt, IsReachedAt, AreRoots}
 use Rattle.core_relation.proofs.objects.Members.{object_held, held_object, in_chunk, from_flat}
-use Rattle.core_relation.proofs.changes.Alone.{home_own}
+use Rattle.core_relation.proofs.changes.Alone.{belongings_own}
 use Rattle.core_relation.proofs.changes.Sweep.{refers, is_kept}
 use Rattle.ledger_step_laws.proofs.Tree.{own_live, leaf_alone}
 
@@ -76,8 +76,8 @@ frame_address at (g ∷ fs) (x ∷ xs) n h i = elim (in_append_cases (named x.re
 
 module _ (v : Memory) (l : Ledger) (t : ℕ) (x : Task) (roots : List Addr) (S : SoundLedger l) (V : Stands v l) (is : slice_get l.machine.tasks t ≡ Some x) (runs : x.status ≡ Running) (rests : Rests l t)
     (at_rest : (u : ℕ) → is_waiting (slice_get l.machine.tasks u) ≡ true → Rests l u) (R : AreRoots v l t roots) where
-  abbrev h : Home
-  h = v.homes t
+  abbrev h : Belongings
+  h = v.belongings t
 
   abbrev names : List Name
   names = held_in (heap_of l t)
@@ -95,26 +95,26 @@ module _ (v : Memory) (l : Ledger) (t : ℕ) (x : Task) (roots : List Addr) (S :
   registers_are = ap frames_of is
 
   owned : (u : ℕ) (o : Located) → Rests l u → In (objects v u) o → v.owner o.at.chunk ≡ Some u
-  owned u o r i = let k = in_chunk (v.homes u).chunks o i in ap v.owner ((V.homes u r).inside k.0 o k.1 k.2) ∙ (V.homes u r).owned k.0 k.1
+  owned u o r i = let k = in_chunk (v.belongings u).chunks o i in ap v.owner ((V.belongings u r).inside k.0 o k.1 k.2) ∙ (V.belongings u r).owned k.0 k.1
 
   -- what lies at an address that stands for a name bears it
   bears : (u : ℕ) (o : Located) (n : Name) (a : Addr) → Rests l u → In (objects v u) o → o.at ≡ a → Place v l n a → (object_name o ≡ n) × (own l n ≡ u)
   bears u o n a r i e p =
       let mine : own l n ≡ u = same_Some (own l n) u (sym p.chunk ∙ (ap (λ (b : Addr). v.owner b.chunk) (sym e) ∙ owned u o r i)) in
       let q = p.here (subst (Rests l) (sym mine) r) in
-      let same : o ≡ q.0 = (V.homes u r).once o q.0 i (subst (λ z. In (objects v z) q.0) mine q.1) (e ∙ sym q.2.at) in
+      let same : o ≡ q.0 = (V.belongings u r).once o q.0 i (subst (λ z. In (objects v z) q.0) mine q.1) (e ∙ sym q.2.at) in
       (ap object_name same ∙ q.2.name, mine)
 
   -- and an address that stands for its name is where it lies
   lies_at : (o : Located) (n : Name) (a : Addr) → In (objects v t) o → object_name o ≡ n → Place v l n a → a ≡ o.at
   lies_at o n a i e p =
-      let mine : own l n ≡ t = sym (ap (own l) e) ∙ home_own v l S t (V.homes t rests) o i in
+      let mine : own l n ≡ t = sym (ap (own l) e) ∙ belongings_own v l S t (V.belongings t rests) o i in
       let q = p.here (subst (Rests l) (sym mine) rests) in
-      let same : o ≡ q.0 = (V.homes t rests).named o q.0 i (subst (λ z. In (objects v z) q.0) mine q.1) (e ∙ sym q.2.name) in
+      let same : o ≡ q.0 = (V.belongings t rests).named o q.0 i (subst (λ z. In (objects v z) q.0) mine q.1) (e ∙ sym q.2.name) in
       sym q.2.at ∙ ap (λ (z : Located). z.at) (sym same)
 
   is_name_held : (o : Located) → In (objects v t) o → In names (object_name o)
-  is_name_held o i = object_held h.chunks (heap_of l t) (V.homes t rests).names o i
+  is_name_held o i = object_held h.chunks (heap_of l t) (V.belongings t rests).names o i
 
   -- FROM ADDRESSES TO NAMES
 
@@ -128,7 +128,7 @@ module _ (v : Memory) (l : Ledger) (t : ℕ) (x : Task) (roots : List Addr) (S :
       let b = bears k.home k.object s.name k.source.object k.rests k.there k.at s.place in
       let up : is_above l.machine.tasks (own l (object_name k.object)) t ≡ true =
       subst (λ z. is_above l.machine.tasks (own l z) t ≡ true) (sym b.0) (and_from (is_on_path l.machine.tasks (own l s.name) t) (not (own l s.name == t)) s.above (ap not (ne_eqb (own l s.name) t s.below))) in
-      let held_q : In (held l) (object_name k.object) = in_held l (object_name k.object) (is_kept v l k.home (V.homes k.home k.rests) k.object k.there) in
+      let held_q : In (held l) (object_name k.object) = in_held l (object_name k.object) (is_kept v l k.home (V.belongings k.home k.rests) k.object k.there) in
       subst (In (roots_of l t)) (sym m.0)
       (in_append_right (registers (frames_of (slice_get l.machine.tasks t))) _ f.0
       (in_flat (refs_at l.machine.store) _ (object_name k.object) f.0
@@ -191,12 +191,12 @@ module _ (v : Memory) (l : Ledger) (t : ℕ) (x : Task) (roots : List Addr) (S :
           let mine : own l m ≡ k.0 = (S.owners k.0 m k.1).1 in
           let ab = above_rests m up in
           let ru : Rests l k.0 = subst (Rests l) mine ab.0 in
-          let q = held_object (v.homes k.0).chunks (heap_of l k.0) (V.homes k.0 ru).names m k.1 in
+          let q = held_object (v.belongings k.0).chunks (heap_of l k.0) (V.belongings k.0 ru).names m k.1 in
           let c = V.contents k.0 q.0 ru q.1 in
           let j = in_got c.0.refs (Some (object_name o)) (in_from_named c.0.refs (object_name o) (subst (λ z. In (refs_of z) (object_name o)) (ap (object_at l.machine.store) (sym q.2) ∙ c.1) r)) in
           let b = address_at (Place v l) q.0.refs c.0.refs j.0 (object_name o) c.2.refs j.1 in
           let at : b.0 ≡ o.at = lies_at o (object_name o) b.0 i refl b.2 in
-          let own_o : own l (object_name o) ≡ t = home_own v l S t (V.homes t rests) o i in
+          let own_o : own l (object_name o) ≡ t = belongings_own v l S t (V.belongings t rests) o i in
           elim (V.remembered k.0 q.0 c.0 j.0 (object_name o) ru q.1 c.1 j.1) [
             | inl d ↦ absurd (ab.1 (ap (λ z. is_on_path l.machine.tasks z (own l m)) (sym own_o) ∙ (ap (is_on_path l.machine.tasks (own l (object_name o))) mine ∙ d)))
             | inr s ↦ (R o.at).1 (record {
@@ -216,7 +216,7 @@ module _ (v : Memory) (l : Ledger) (t : ℕ) (x : Task) (roots : List Addr) (S :
   to_addresses zero n o i e w = (zero, (o, (i, refl), start_address o i (subst (In (roots_of l t)) (sym e) (in_from_contains (roots_of l t) n w.1))))
   to_addresses (suc k) n o i e w =
       let m = held_within k w.0 w.1 in
-      let q = held_object h.chunks (heap_of l t) (V.homes t rests).names w.0 m in
+      let q = held_object h.chunks (heap_of l t) (V.belongings t rests).names w.0 m in
       let more = to_addresses k w.0 q.0 q.1 q.2 w.1 in
       let c = V.contents t q.0 rests q.1 in
       let r : In (refs_at l.machine.store (object_name q.0)) (object_name o) = subst (λ z. In (refs_at l.machine.store z) (object_name o)) (sym q.2) (subst (In (refs_at l.machine.store w.0)) (sym e) (in_from_contains (refs_at l.machine.store w.0) n w.2.1)) in

@@ -14,13 +14,13 @@ use Rattle.run_ledger.specs.declared.data.Heap.{Heap}
 use Rattle.run_ledger.specs.declared.data.Ledger.{Ledger}
 use Rattle.run_ledger.specs.Heaps.{heap_of, within}
 use Rattle.run_ledger.specs.Sound.{SoundLedger}
-use Rattle.core_relation.specs.Memory.{Home, Memory, In, object_name, objects, objects_in, put_at}
+use Rattle.core_relation.specs.Memory.{Belongings, Memory, In, object_name, objects, objects_in, put_at}
 use Rattle.ledger_step_laws.specs.Accounts.{Rests, WritesOne}
 use Rattle.core_relation.specs.Stands.{Stands}
 use Rattle.core_relation.specs.Begins.{IsReachedAt, IsRoot, AreRoots}
 use Rattle.core_relation.specs.Since.{Since, Keeps, kept}
 use Rattle.ledger_step_laws.specs.Kinds.{ForksTask}
-use Rattle.core_relation.specs.Changes.{ForksHome, WritesAt, with_field}
+use Rattle.core_relation.specs.Changes.{ForksBelongings, WritesAt, with_field}
 use Rattle.core_relation.proofs.objects.Mapped.{from_mapped, to_mapped}
 use Rattle.core_relation.proofs.notes.Rooted.{in_advanced, lies_in, noted_by, root_apart, root_by, root_same}
 use Rattle.core_relation.proofs.notes.Roots.{reached_both}
@@ -29,29 +29,29 @@ use Rattle.object_layout.specs.Chunks.{same_address}
 
 -- AT THE FORK
 pub since_fork : (v v' : Memory) (l l' : Ledger) (t a b g h : ℕ) (x : Task) (roots : List Addr) → SoundLedger l → Stands v l → x.status ≡ Running → Rests l t → ((u : ℕ) → is_waiting (slice_get l.machine.tasks u) ≡ true → Rests l u)
-    → (F : ForksTask l l' t a b g h x) → ForksHome v v' t a b g h → AreRoots v l t roots → ((n : Name) → In (within l t) n ↔ In F.names n) → kept v' t ≡ [] → Since v' l' t
+    → (F : ForksTask l l' t a b g h x) → ForksBelongings v v' t a b g h → AreRoots v l t roots → ((n : Name) → In (within l t) n ↔ In F.names n) → kept v' t ≡ [] → Since v' l' t
 since_fork v v' l l' t a b g h x roots S V runs rests at_rest F C R same none =
-    let back : (q : Located) → In (objects v' t) q → In (objects v t) q = λ q i. subst (λ (y : Home). In (objects_in y.chunks) q) C.home i in
+    let back : (q : Located) → In (objects v' t) q → In (objects v t) q = λ q i. subst (λ (y : Belongings). In (objects_in y.chunks) q) C.belongings i in
     let idle : is_waiting (slice_get l.machine.tasks t) ≡ false = ap is_waiting F.task ∙ ap (λ s. is_waiting (Some (record x { status = s }))) runs in
     record {
-      home = v.homes t;
+      belongings = v.belongings t;
       roots = roots;
-      registers = λ f i. let g = in_advanced (v.homes t).frames f i in (g.0, subst (λ (y : Home). In y.frames g.0) (sym C.home) g.1, g.2);
+      registers = λ f i. let g = in_advanced (v.belongings t).frames f i in (g.0, subst (λ (y : Belongings). In y.frames g.0) (sym C.belongings) g.1, g.2);
       rooted = λ c i.
           let r = (R c).0 i in
           let nt = root_apart v l V t idle t c r in
           let na = root_apart v l V a (ap is_waiting F.unmade_left) t c r in
           let nb = root_apart v l V b (ap is_waiting F.unmade_right) t c r in
           inl (root_same v v' l l' t (noted_by v v' t (C.sources t (λ e. F.left_apart (sym e)) (λ e. F.right_apart (sym e)))) (λ k o. C.owner k ∙ o) c r
-          (ap (λ (y : Heap). y.worker) (F.heaps r.home nt na nb) ∙ r.rests) (ap (λ (y : Home). objects_in y.chunks) (C.others r.home nt na nb)));
-      there = λ o i. (o, subst (λ (y : Home). In (objects_in y.chunks) o) (sym C.home) i, refl, refl);
+          (ap (λ (y : Heap). y.worker) (F.heaps r.home nt na nb) ∙ r.rests) (ap (λ (y : Belongings). objects_in y.chunks) (C.others r.home nt na nb)));
+      there = λ o i. (o, subst (λ (y : Belongings). In (objects_in y.chunks) o) (sym C.belongings) i, refl, refl);
       were = λ q i. (q, back q i, refl, refl);
       snapshot = λ q i.
           let r = reached_both v l t x roots S V F.task runs rests at_rest R q (back q i) in (
             (λ w. subst (λ (y : Heap). In y.snapshot (object_name q)) (sym F.heap) ((same (object_name q)).0 (r.0 w))),
             (λ k. r.1 ((same (object_name q)).1 (subst (λ (y : Heap). In y.snapshot (object_name q)) F.heap k))),
           );
-      overwritten = λ o q c i j e k w. inl (subst (λ (z : Located). In z.refs (Some c)) ((V.homes t rests).once o q i (back q j) (sym e)) k);
+      overwritten = λ o q c i j e k w. inl (subst (λ (z : Located). In z.refs (Some c)) ((V.belongings t rests).once o q i (back q j) (sym e)) k);
       each = λ c i. absurd (subst (λ cs. In cs c) none i);
     }
 
@@ -73,7 +73,7 @@ module _ (v v' : Memory) (l : Ledger) (t i : ℕ) (a : Addr) (value : Option Add
           let r = in_got q.refs (Some b) k in
           subst (λ (s : Located). In s.refs (Some b) ⊎ In (kept v' t) b) (sym (cond-true (same_address q.at a) (with_field i value q) q e)) (at r.0 r.1 e)
 
-module _ (v v' : Memory) (l l' : Ledger) (t w i : ℕ) (n : Name) (y y' : Object) (a : Addr) (value : Option Addr) (V : Stands v l) (rests : Rests l t) (frames : (v'.homes t).frames ≡ (v.homes t).frames) (H : Since v l t) (L : WritesOne l l' w n y y') (C : WritesAt v v' w a (with_field i value)) (K : Keeps v v' t a i)
+module _ (v v' : Memory) (l l' : Ledger) (t w i : ℕ) (n : Name) (y y' : Object) (a : Addr) (value : Option Addr) (V : Stands v l) (rests : Rests l t) (frames : (v'.belongings t).frames ≡ (v.belongings t).frames) (H : Since v l t) (L : WritesOne l l' w n y y') (C : WritesAt v v' w a (with_field i value)) (K : Keeps v v' t a i)
     (of_snapshot : (u : ℕ) (q : Located) (b : Addr) → v.owner a.chunk ≡ Some u → In (objects v u) q → q.at ≡ a → slice_get q.refs i ≡ Some (Some b) → v.owner b.chunk ≡ Some t → (o : Located) × In (objects v t) o × (o.at ≡ b) × In (heap_of l t).snapshot (object_name o)) where
   abbrev one : Located → Located
   one q = put_at a (with_field i value) q
@@ -93,10 +93,10 @@ module _ (v v' : Memory) (l l' : Ledger) (t w i : ℕ) (n : Name) (y y' : Object
       by false = refl
 
   was : (q' : Located) → In (objects v' t) q' → (q : Located) × In (objects v t) q × (one q ≡ q')
-  was q' j = from_mapped one one_name one_at (v.homes t).chunks q' (subst (λ ks. In (objects_in ks) q') (C.chunks t) j)
+  was q' j = from_mapped one one_name one_at (v.belongings t).chunks q' (subst (λ ks. In (objects_in ks) q') (C.chunks t) j)
 
   then_ : (u : ℕ) (q : Located) → In (objects v u) q → In (objects v' u) (one q)
-  then_ u q j = subst (λ ks. In (objects_in ks) (one q)) (sym (C.chunks u)) (to_mapped one one_name one_at (v.homes u).chunks q j)
+  then_ u q j = subst (λ ks. In (objects_in ks) (one q)) (sym (C.chunks u)) (to_mapped one one_name one_at (v.belongings u).chunks q j)
 
   now : (q : Located) → In (objects v t) q → In (objects v' t) (one q)
   now = then_ t
@@ -129,7 +129,7 @@ module _ (v v' : Memory) (l l' : Ledger) (t w i : ℕ) (n : Name) (y y' : Object
 
   pub since_write : Since v' l' t
   since_write = record {
-    home = H.home;
+    belongings = H.belongings;
     roots = H.roots;
     registers = λ f j. let g = H.registers f j in (g.0, subst (λ fs. In fs g.0) (sym frames) g.1, g.2);
     rooted = λ b j. elim (H.rooted b j) [ inl r ↦ root_then b r | inr k ↦ inr (kept_on b k) ];
@@ -140,8 +140,8 @@ module _ (v v' : Memory) (l l' : Ledger) (t w i : ℕ) (n : Name) (y y' : Object
         let at : p.0.at ≡ q'.at = sym (one_at p.0) ∙ ap (λ (z : Located). z.at) p.2 in
         let name : object_name p.0 ≡ object_name q' = sym (one_name p.0) ∙ ap object_name p.2 in
         let r = H.snapshot p.0 p.1 in (
-          (λ z. same_snapshot (object_name q') (subst (In (heap_of l t).snapshot) name (r.0 (subst (IsReachedAt H.home H.roots) (sym at) z)))),
-          (λ z. subst (IsReachedAt H.home H.roots) at (r.1 (subst (λ (s : Heap). In s.snapshot (object_name p.0)) (L.heaps t) (subst (In (heap_of l' t).snapshot) (sym name) z)))),
+          (λ z. same_snapshot (object_name q') (subst (In (heap_of l t).snapshot) name (r.0 (subst (IsReachedAt H.belongings H.roots) (sym at) z)))),
+          (λ z. subst (IsReachedAt H.belongings H.roots) at (r.1 (subst (λ (s : Heap). In s.snapshot (object_name p.0)) (L.heaps t) (subst (In (heap_of l' t).snapshot) (sym name) z)))),
         );
     overwritten = λ o q' b j k e z c.
         let p = was q' k in

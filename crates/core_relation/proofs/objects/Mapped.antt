@@ -1,4 +1,4 @@
--- A home whose objects are changed, but for their names and addresses.
+-- Belongings whose objects are changed, but for their names and addresses.
 use Rattle.std.proofs.Common.{suc, ◌≡◌, ℕ, Bool, true, false, not, cond, Some, List, [], ◌∷◌, ◌++◌, map, length, slice_get, refl, ap, ap₂, sym, subst, ◌∙◌}
 use Rattle.listed.proofs.Places.{in_map}
 use Rattle.object_layout.specs.declared.word.Addr.{Addr}
@@ -9,9 +9,9 @@ use Rattle.hh_model.specs.Step.{is_joined}
 use Rattle.run_ledger.specs.declared.data.Heap.{Heap}
 use Rattle.run_ledger.specs.declared.data.Ledger.{Ledger}
 use Rattle.run_ledger.specs.Heaps.{heap_of}
-use Rattle.core_relation.specs.Memory.{Chunk, Home, Memory, In, object_name, objects_in, Lies, mapped_chunk, mapped_home}
+use Rattle.core_relation.specs.Memory.{Chunk, Belongings, Memory, In, object_name, objects_in, Lies, mapped_chunk, mapped_belongings}
 use Rattle.core_relation.specs.Layout.{words, AreLaidOut}
-use Rattle.core_relation.specs.Stands.{names_of, small_chunks, large_chunks, HasNames, HomeStands}
+use Rattle.core_relation.specs.Stands.{names_of, small_chunks, large_chunks, HasNames, BelongingsStand}
 use Rattle.core_relation.proofs.objects.LaidOut.{laid_mapped}
 use Rattle.core_relation.proofs.objects.Members.{map_in}
 
@@ -69,34 +69,34 @@ module _ (one : Located → Located) (same_name : (o : Located) → object_name 
   pub lies_mapped : (ks : List Chunk) (n : Name) (a : Addr) → Lies ks n a → Lies (map chunk ks) n a
   lies_mapped ks n a q = (one q.0, to_mapped ks q.0 q.1, record { name = same_name q.0 ∙ q.2.name; at = same_at q.0 ∙ q.2.at })
 
-  pub home_mapped_by : (v v' : Memory) (l l' : Ledger) (t : ℕ) → (v'.homes t).chunks ≡ map chunk (v.homes t).chunks → (v'.homes t).room ≡ (v.homes t).room → (v'.homes t).since ≡ (v.homes t).since → (v'.homes t).count ≡ (v.homes t).count
+  pub belongings_mapped_by : (v v' : Memory) (l l' : Ledger) (t : ℕ) → (v'.belongings t).chunks ≡ map chunk (v.belongings t).chunks → (v'.belongings t).room ≡ (v.belongings t).room → (v'.belongings t).since ≡ (v.belongings t).since → (v'.belongings t).count ≡ (v.belongings t).count
       → ((k : ℕ) → v.owner k ≡ Some t → v'.owner k ≡ Some t) → heap_of l' t ≡ heap_of l t → length (row_of (slice_get l'.machine.store t)) ≡ length (row_of (slice_get l.machine.store t))
-      → is_joined (slice_get l'.machine.tasks t) ≡ is_joined (slice_get l.machine.tasks t) → ((o : Located) → words (one o) ≡ words o) → HomeStands v l t → HomeStands v' l' t
-  home_mapped_by v v' l l' t ec eo es en ow el er ej same_words H = record {
-    names = subst (λ ks. HasNames ks (heap_of l' t)) (sym ec) (subst (HasNames (map chunk (v.homes t).chunks)) (sym el) (names_mapped (v.homes t).chunks (heap_of l t) H.names));
+      → is_joined (slice_get l'.machine.tasks t) ≡ is_joined (slice_get l.machine.tasks t) → ((o : Located) → words (one o) ≡ words o) → BelongingsStand v l t → BelongingsStand v' l' t
+  belongings_mapped_by v v' l l' t ec eo es en ow el er ej same_words H = record {
+    names = subst (λ ks. HasNames ks (heap_of l' t)) (sym ec) (subst (HasNames (map chunk (v.belongings t).chunks)) (sym el) (names_mapped (v.belongings t).chunks (heap_of l t) H.names));
     room = eo ∙ (H.room ∙ sym (ap (λ (h : Heap). h.room) el));
     since = es ∙ (H.since ∙ sym (ap (λ (h : Heap). h.since) el));
     count = λ live. en ∙ (H.count (sym ej ∙ live) ∙ sym er);
-    owned = λ k i. let q = map_in chunk (v.homes t).chunks k (subst (λ ks. In ks k) ec i) in
+    owned = λ k i. let q = map_in chunk (v.belongings t).chunks k (subst (λ ks. In ks k) ec i) in
         ow k.number (ap (λ (c : Chunk). v.owner c.number) (sym q.2) ∙ H.owned q.0 q.1);
     inside = λ k o i j.
-        let q = map_in chunk (v.homes t).chunks k (subst (λ ks. In ks k) ec i) in
+        let q = map_in chunk (v.belongings t).chunks k (subst (λ ks. In ks k) ec i) in
         let p = map_in one q.0.objects o (subst (λ (c : Chunk). In c.objects o) (sym q.2) j) in
         ap (λ (c : Located). c.at.chunk) (sym p.2) ∙ (ap (λ (c : Addr). c.chunk) (same_at p.0) ∙ H.inside q.0 p.0 q.1 p.1 ∙ ap (λ (c : Chunk). c.number) q.2);
     once = λ o p i j e.
-        let a = from_mapped (v.homes t).chunks o (subst (λ ks. In (objects_in ks) o) ec i) in
-        let b = from_mapped (v.homes t).chunks p (subst (λ ks. In (objects_in ks) p) ec j) in
+        let a = from_mapped (v.belongings t).chunks o (subst (λ ks. In (objects_in ks) o) ec i) in
+        let b = from_mapped (v.belongings t).chunks p (subst (λ ks. In (objects_in ks) p) ec j) in
         let same : a.0 ≡ b.0 = H.once a.0 b.0 a.1 b.1 (sym (same_at a.0) ∙ (ap (λ (c : Located). c.at) a.2 ∙ (e ∙ (ap (λ (c : Located). c.at) (sym b.2) ∙ same_at b.0)))) in
         sym a.2 ∙ (ap one same ∙ b.2);
     named = λ o p i j e.
-        let a = from_mapped (v.homes t).chunks o (subst (λ ks. In (objects_in ks) o) ec i) in
-        let b = from_mapped (v.homes t).chunks p (subst (λ ks. In (objects_in ks) p) ec j) in
+        let a = from_mapped (v.belongings t).chunks o (subst (λ ks. In (objects_in ks) o) ec i) in
+        let b = from_mapped (v.belongings t).chunks p (subst (λ ks. In (objects_in ks) p) ec j) in
         let same : a.0 ≡ b.0 = H.named a.0 b.0 a.1 b.1 (sym (same_name a.0) ∙ (ap object_name a.2 ∙ (e ∙ (ap object_name (sym b.2) ∙ same_name b.0)))) in
         sym a.2 ∙ (ap one same ∙ b.2);
-    laid = subst (λ ks. AreLaidOut ks (heap_of l' t).reserved) (sym ec) (subst (λ (h : Heap). AreLaidOut (map chunk (v.homes t).chunks) h.reserved) (sym el) (laid_mapped one same_at same_words (v.homes t).chunks (heap_of l t).reserved H.laid));
+    laid = subst (λ ks. AreLaidOut ks (heap_of l' t).reserved) (sym ec) (subst (λ (h : Heap). AreLaidOut (map chunk (v.belongings t).chunks) h.reserved) (sym el) (laid_mapped one same_at same_words (v.belongings t).chunks (heap_of l t).reserved H.laid));
   }
 
-  pub home_mapped : (v v' : Memory) (l l' : Ledger) (t : ℕ) → v'.homes t ≡ mapped_home one (v.homes t) → ((k : ℕ) → v.owner k ≡ Some t → v'.owner k ≡ Some t) → heap_of l' t ≡ heap_of l t → slice_get l'.machine.store t ≡ slice_get l.machine.store t
-      → is_joined (slice_get l'.machine.tasks t) ≡ is_joined (slice_get l.machine.tasks t) → ((o : Located) → words (one o) ≡ words o) → HomeStands v l t → HomeStands v' l' t
-  home_mapped v v' l l' t eh ow el er ej same_words H =
-      home_mapped_by v v' l l' t (ap (λ (h : Home). h.chunks) eh) (ap (λ (h : Home). h.room) eh) (ap (λ (h : Home). h.since) eh) (ap (λ (h : Home). h.count) eh) ow el (ap (λ r. length (row_of r)) er) ej same_words H
+  pub belongings_mapped : (v v' : Memory) (l l' : Ledger) (t : ℕ) → v'.belongings t ≡ mapped_belongings one (v.belongings t) → ((k : ℕ) → v.owner k ≡ Some t → v'.owner k ≡ Some t) → heap_of l' t ≡ heap_of l t → slice_get l'.machine.store t ≡ slice_get l.machine.store t
+      → is_joined (slice_get l'.machine.tasks t) ≡ is_joined (slice_get l.machine.tasks t) → ((o : Located) → words (one o) ≡ words o) → BelongingsStand v l t → BelongingsStand v' l' t
+  belongings_mapped v v' l l' t eh ow el er ej same_words H =
+      belongings_mapped_by v v' l l' t (ap (λ (h : Belongings). h.chunks) eh) (ap (λ (h : Belongings). h.room) eh) (ap (λ (h : Belongings). h.since) eh) (ap (λ (h : Belongings). h.count) eh) ow el (ap (λ r. length (row_of r)) er) ej same_words H

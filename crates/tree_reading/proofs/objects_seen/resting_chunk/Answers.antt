@@ -33,7 +33,7 @@ returns-then-is_running-clause-none c = λ none.
     let t = c.in_ok-owner.field-0.owner in
     let held : owner_of w.pool c.args.number ≡ Some t = ap (λ (p : PoolValue). owner_of p c.args.number) (sym c.pool.ensures) ∙ ap (option_map (λ (h : Slot). h.owner)) (sym c.slot.ensures ∙ c.in_ok-owner.was) in
     let runs : is_state_running (state_of w.tree t) ≡ true = ap (λ (ns : List Node). is_state_running (state_of ns t)) (sym c.tree.ensures) ∙ (sym (ap is_state_running c.state.ensures) ∙ (sym c.is_running.ensures ∙ c.if-is_running.true)) in
-    ap (objects_owned w c.args.number) held ∙ ap (λ b. if b then [] else objects_numbered c.args.number ((value_of w).homes t).chunks) runs
+    ap (objects_owned w c.args.number) held ∙ ap (λ b. if b then [] else objects_numbered c.args.number ((value_of w).belongings t).chunks) runs
 
 pub returns-in_err-owner-clause-none : goal.returns-in_err-owner-clause-none
 returns-in_err-owner-clause-none c = λ none.

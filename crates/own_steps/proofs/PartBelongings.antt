@@ -1,5 +1,5 @@
--- The home of a part that fits the machine, and whose heap is as its account says, is read by the addresses that it has
--- in a value.
+-- The belongings of a part that fits the machine, and whose heap is as its account says, are read by the addresses that
+-- it has in a value.
 use Rattle.std.proofs.Common.{◌≡◌, ℕ, ◌-◌, ◌<◌, ◌^◌, arith, Option, Some, None, List, [], ◌∷◌, min, slice_get, inl, inr, refl, ap, ap₂, sym, subst, ◌∙◌}
 use Rattle.std.proofs.lemmas.Bool.{cases_eq}
 use Rattle.std.proofs.lemmas.Option.{same_Some}
@@ -21,18 +21,18 @@ use Rattle.object_layout.specs.Objects.{Located, located}
 use Rattle.object_layout.specs.ObjectLaws.{LiesThere}
 use Rattle.task_frames.specs.declared.frames.Frame.{Frame}
 use Rattle.ledger_step_laws.specs.Accounts.{own}
-use Rattle.core_relation.specs.Memory.{Chunk, Home, In, Lies, Memory, object_name, objects, objects_in}
-use Rattle.core_relation.specs.Changes.{HomeIsRead}
+use Rattle.core_relation.specs.Memory.{Chunk, Belongings, In, Lies, Memory, object_name, objects, objects_in}
+use Rattle.core_relation.specs.Changes.{BelongingsAreRead}
 use Rattle.core_relation.specs.Layout.{AreLaidOut}
 use Rattle.core_relation.specs.Reads.{AllRead, FrameIsRead, FramesAreRead, HoldsRead, IsRead, TaskIsRead}
-use Rattle.core_relation.specs.Stands.{HasNames, HomeStands, Place}
+use Rattle.core_relation.specs.Stands.{HasNames, BelongingsStand, Place}
 use Rattle.core_relation.proofs.objects.Members.{in_chunk}
 use Rattle.task_machine.specs.declared.part.Private.{Private}
 use Rattle.task_machine.specs.Accounts.{IsCounted}
 use Rattle.task_machine.specs.Fits.{FitsNow as FitsMachine}
 use Rattle.task_machine.specs.Place.{AreAt, FrameStands, FramesStand, Places, birth_of}
 use Rattle.shared_value.specs.Objects.{chunks_of}
-use Rattle.shared_value.specs.Fits.{home_of_part}
+use Rattle.shared_value.specs.Fits.{belongings_of_part}
 use Rattle.shared_value.proofs.CellsRead.{object_seen, seen_object}
 use Rattle.shared_value.proofs.HeapCounts.{large_are, small_names}
 use Rattle.shared_value.proofs.PlacedForm.{Formed}
@@ -59,10 +59,10 @@ module _ (place : Places) (at : Name → Addr → Type 0) (lies : (n : Name) (a 
   frames_read (f ∷ fs) [] h = absurd h
   frames_read (f ∷ fs) (g ∷ gs) h = (frame_read f g h.0, frames_read fs gs h.1)
 
--- ---- THE HOME
+-- ---- THE BELONGINGS
 
 module _ (program : ProgramText) (q : Private) (L : Ledger) (above : Places) (G : FitsMachine program q L.machine above) (F : Formed q.heap) (C : IsCounted q.heap (heap_of L q.task)) (few : (heap_of L q.task).since < 2 ^ 64)
-    (v : Memory) (here : v.homes q.task ≡ home_of_part q) (owned : (k : ChunkValue) → In q.heap.chunks k → v.owner k.number ≡ Some q.task)
+    (v : Memory) (here : v.belongings q.task ≡ belongings_of_part q) (owned : (k : ChunkValue) → In q.heap.chunks k → v.owner k.number ≡ Some q.task)
     (elsewhere : (n : Name) (a : Addr) → (own L n ≡ q.task → ⊥) → above n ≡ Some a → Place v L n a) where
   abbrev t : ℕ
   t = q.task
@@ -76,11 +76,11 @@ module _ (program : ProgramText) (q : Private) (L : Ledger) (above : Places) (G 
   abbrev a_t : Heap
   a_t = heap_of L t
 
-  home_chunks : (v.homes t).chunks ≡ ks
-  home_chunks = ap (λ (h : Home). h.chunks) here
+  belongings_chunks : (v.belongings t).chunks ≡ ks
+  belongings_chunks = ap (λ (h : Belongings). h.chunks) here
 
   in_part : (o : Located) → In (objects v t) o → In (objects_in ks) o
-  in_part o i = subst (λ cs. In (objects_in cs) o) home_chunks i
+  in_part o i = subst (λ cs. In (objects_in cs) o) belongings_chunks i
 
   lying : (o : Located) → In (objects_in ks) o → LiesThere cells o
   lying o i = seen_object cells o F.shaped.apart i
@@ -106,17 +106,17 @@ module _ (program : ProgramText) (q : Private) (L : Ledger) (above : Places) (G 
   same_name : (o r : Located) → In (objects_in ks) o → In (objects_in ks) r → object_name o ≡ object_name r → o ≡ r
   same_name o r i j e = same_place o r i j (same_Some o.at r.at (sym (placed o i) ∙ (ap G.place e ∙ placed r j)))
 
-  home_then : HomeStands v L t
-  home_then = record {
-    names = subst (λ cs. HasNames cs a_t) (sym home_chunks) (record { small = small_names cells ∙ C.chunks; large = large_are cells ∙ C.large });
-    room = ap (λ (h : Home). h.room) here ∙ C.room;
-    since = ap (λ (h : Home). h.since) here ∙ (C.since ∙ (let e : min a_t.since (2 ^ 64 - 1) ≡ a_t.since = omega (arith, few) in e));
-    count = λ live. ap (λ (h : Home). h.count) here ∙ G.count;
-    owned = λ k i. owned_chunk k (subst (λ cs. In cs k) home_chunks i);
-    inside = λ k o i j. inside_from cells k o (subst (λ cs. In cs k) home_chunks i) j;
+  belongings_then : BelongingsStand v L t
+  belongings_then = record {
+    names = subst (λ cs. HasNames cs a_t) (sym belongings_chunks) (record { small = small_names cells ∙ C.chunks; large = large_are cells ∙ C.large });
+    room = ap (λ (h : Belongings). h.room) here ∙ C.room;
+    since = ap (λ (h : Belongings). h.since) here ∙ (C.since ∙ (let e : min a_t.since (2 ^ 64 - 1) ≡ a_t.since = omega (arith, few) in e));
+    count = λ live. ap (λ (h : Belongings). h.count) here ∙ G.count;
+    owned = λ k i. owned_chunk k (subst (λ cs. In cs k) belongings_chunks i);
+    inside = λ k o i j. inside_from cells k o (subst (λ cs. In cs k) belongings_chunks i) j;
     once = λ o r i j. same_place o r (in_part o i) (in_part r j);
     named = λ o r i j. same_name o r (in_part o i) (in_part r j);
-    laid = subst (λ cs. AreLaidOut cs a_t.reserved) (sym home_chunks) (laid_from q.heap F a_t.reserved C.reserved);
+    laid = subst (λ cs. AreLaidOut cs a_t.reserved) (sym belongings_chunks) (laid_from q.heap F a_t.reserved C.reserved);
   }
 
   -- ---- ADDRESSES
@@ -127,7 +127,7 @@ module _ (program : ProgramText) (q : Private) (L : Ledger) (above : Places) (G 
       let c = in_chunk ks _ i in
       record {
         chunk = ap v.owner (inside_from cells c.0 _ c.1 c.2) ∙ (owned_chunk c.0 c.1 ∙ ap Some (sym mine));
-        here = λ r. subst (λ u. Lies (v.homes u).chunks n a) (sym mine) (subst (λ cs. Lies cs n a) (sym home_chunks) (located a.chunk a.offset (birth_of n) (cell_of cells a), i, record { name = refl; at = refl }));
+        here = λ r. subst (λ u. Lies (v.belongings u).chunks n a) (sym mine) (subst (λ cs. Lies cs n a) (sym belongings_chunks) (located a.chunk a.offset (birth_of n) (cell_of cells a), i, record { name = refl; at = refl }));
       }
 
   lies : (n : Name) (a : Addr) → G.place n ≡ Some a → Place v L n a
@@ -140,13 +140,13 @@ module _ (program : ProgramText) (q : Private) (L : Ledger) (above : Places) (G 
       subst (λ (z : Located). (x : Object) × (object_at L.machine.store (object_name z) ≡ Some x) × IsRead (Place v L) z x) (sym y.is)
       (O.object, O.is, record { mutable = O.stands.mutable; refs = refs_read G.place (Place v L) lies O.object.refs (cell_of cells o.at).refs O.stands.refs; ints = O.stands.ints })
 
-  task_then : (x : Task) → slice_get L.machine.tasks t ≡ Some x → TaskIsRead (Place v L) (v.homes t) x
+  task_then : (x : Task) → slice_get L.machine.tasks t ≡ Some x → TaskIsRead (Place v L) (v.belongings t) x
   task_then x e =
       let same : G.task ≡ x = same_Some G.task x (sym G.is ∙ e) in
-      let read : FramesAreRead (Place v L) (home_of_part q).frames (G.task.top ∷ G.task.below) =
+      let read : FramesAreRead (Place v L) (belongings_of_part q).frames (G.task.top ∷ G.task.below) =
       (frame_read G.place (Place v L) lies G.task.top q.frames.top G.stack.top, frames_read G.place (Place v L) lies G.task.below q.frames.below G.stack.below) in
-      subst (TaskIsRead (Place v L) (v.homes t)) same
-      (subst (HoldsRead (Place v L) (v.homes t) G.task) (sym (runs_is G.task.status G.running)) (subst (λ (z : Home). FramesAreRead (Place v L) z.frames (G.task.top ∷ G.task.below)) (sym here) read))
+      subst (TaskIsRead (Place v L) (v.belongings t)) same
+      (subst (HoldsRead (Place v L) (v.belongings t) G.task) (sym (runs_is G.task.status G.running)) (subst (λ (z : Belongings). FramesAreRead (Place v L) z.frames (G.task.top ∷ G.task.below)) (sym here) read))
 
-  pub home_read : HomeIsRead v L t
-  home_read = record { home = home_then; contents = content; task = task_then }
+  pub belongings_read : BelongingsAreRead v L t
+  belongings_read = record { belongings = belongings_then; contents = content; task = task_then }

@@ -1,0 +1,81 @@
+-- Calculations are private steps.
+use Rattle.std.proofs.Common.{◌≡◌, ℕ, zero, suc, ◌+◌, Option, Some, None, IsSomeAnd, refl, ap, sym, subst, ◌∙◌, arith}
+use Rattle.hh_lang.specs.declared.program.Line.{Line}
+use Rattle.hh_lang.specs.Form.{ProgramText, line_at}
+use Rattle.task_frames.specs.declared.frames.Frame.{Frame}
+use Rattle.task_machine.specs.declared.part.Private.{Private}
+use Rattle.task_machine.specs.declared.plan.Plan.{Plan}
+use Rattle.task_machine.specs.declared.plan.Plan.TheVariants.{Pause, SetInt, SetReference, Jump, Call, Return, New, Pack, WriteReference, WriteInt, Swap, Freeze}
+use Rattle.task_machine.specs.Calculations.{IsCalculation, Leads, LeadsTo, Makes, with_top}
+use Rattle.task_machine.specs.Plan.{planned}
+use Rattle.task_machine.specs.Ready.{FitsSome, IsReady}
+use Rattle.task_machine.specs.Run.{IsStepPlan, KeepsRest, Runs}
+use Rattle.task_machine.proofs.Agreement.{line_agrees}
+use Rattle.task_machine.proofs.Ends.{is_step, runs_more}
+
+-- the part with this top frame, after so many steps more
+abbrev after : Private → Frame → ℕ → Private
+after part f n = record (with_top part f) { fresh = part.fresh + n }
+
+step_plan : (plan : Plan) → IsCalculation plan → IsStepPlan plan
+step_plan (Pause why) h = absurd h
+step_plan (SetInt d x) h = tt
+step_plan (SetReference d r) h = tt
+step_plan (Jump to) h = tt
+step_plan (Call g) h = tt
+step_plan Return h = tt
+step_plan (New d r i) h = tt
+step_plan (Pack d r i) h = tt
+step_plan (WriteReference s at r) h = tt
+step_plan (WriteInt s at x) h = tt
+step_plan (Swap d s at r) h = tt
+step_plan (Freeze s) h = tt
+
+ready_plan : (part : Private) (plan : Plan) → IsCalculation plan → IsReady part plan
+ready_plan part (Pause why) h = absurd h
+ready_plan part (SetInt d x) h = tt
+ready_plan part (SetReference d r) h = tt
+ready_plan part (Jump to) h = tt
+ready_plan part (Call g) h = absurd h
+ready_plan part Return h = absurd h
+ready_plan part (New d r i) h = absurd h
+ready_plan part (Pack d r i) h = absurd h
+ready_plan part (WriteReference s at r) h = absurd h
+ready_plan part (WriteInt s at x) h = absurd h
+ready_plan part (Swap d s at r) h = absurd h
+ready_plan part (Freeze s) h = absurd h
+
+module _ (p : ProgramText) (old : Private) (k : ℕ) (mid : Private) (S : FitsSome p old) (R : Runs p old k mid) where
+  one_by : (n : ℕ) (h g : Frame) (o : Option Line) → line_at p h.function h.next ≡ o → IsSomeAnd o (λ line. Makes line.instr h g)
+      → Runs p old (k + n) (after mid h n) → Runs p old (k + suc n) (after mid g (suc n))
+  one_by n h g None e M before = absurd M
+  one_by n h g (Some line) e M before =
+      let behind : Private = record mid { fresh = mid.fresh + n } in
+      let here : Private = after mid h n in
+      let plan : Plan = planned here line.instr in
+      let does = M behind in
+      let fresh : mid.fresh + suc n ≡ (mid.fresh + n) + 1 = omega arith in
+      let is = ap (λ z. let w : Private = record (with_top mid g) { fresh = z } in w) fresh ∙ sym does.1.1 in
+      let count : (k + n) + 1 ≡ k + suc n = omega arith in
+      subst (λ z. Runs p old z (after mid g (suc n))) count
+      (runs_more p old (k + n) here S before plan (is_step plan (step_plan plan does.1.0)) (λ m above F. line_agrees p here m above F line e does.0)
+      (ready_plan here plan does.1.0) (after mid g (suc n)) is)
+
+  all : (n : ℕ) (g : Frame) → Leads p mid.frames.top n g → Runs p old (k + n) (after mid g n)
+  all zero g L =
+      let fresh : mid.fresh ≡ mid.fresh + 0 = omega arith in
+      let count : k ≡ k + 0 = omega arith in
+      let top : mid ≡ after mid g 0 = ap (with_top mid) L ∙ ap (λ z. let w : Private = record (with_top mid g) { fresh = z } in w) fresh in
+      subst (λ z. Runs p old (k + 0) z) top (subst (λ z. Runs p old z mid) count R)
+  all (suc n) g (h, L, T) = one_by n h g (line_at p h.function h.next) refl T (all n h L)
+
+  -- so many of them are so many steps more
+  pub calculated : (n : ℕ) (new : Private) → Leads p mid.frames.top n new.frames.top → new ≡ record (with_top mid new.frames.top) { fresh = mid.fresh + n } → Runs p old (k + n) new
+  calculated n new L is = subst (λ z. Runs p old (k + n) z) (sym is) (all n new.frames.top L)
+
+-- they change the top frame and the count of fresh steps alone
+pub rest_calculated : (old mid new : Private) (n : ℕ) → KeepsRest old mid → new ≡ record (with_top mid new.frames.top) { fresh = mid.fresh + n } → KeepsRest old new
+rest_calculated old mid new n K is =
+    let P : Private → Type 0 = λ z. KeepsRest old z in
+    let w : Private = after mid new.frames.top n in
+    subst P (sym is) (ap (λ (z : Private). let r : Private = record z { frames = w.frames; heap = w.heap; allocations = w.allocations; fresh = w.fresh } in r) K)

@@ -1,0 +1,123 @@
+// Steps that only calculate: one after the other, with the top frame at hand.
+
+ghost use Rattle.std.specs.Prelude.{◌≡◌, ◌≤◌, ◌<◌, ◌+◌, ◌^◌, true, false};
+ghost use Rattle.task_frames.specs.FramesValue.{int_written, ref_written};
+ghost use Rattle.task_machine.specs.Calculations.{Leads, Makes, with_top};
+
+use crate::part::Private;
+use hh_lang::{Instr, IntReg, Operator, Program, RefReg};
+use hh_model::calculate;
+use object_layout::{Addr, is_same_reference};
+use task_frames::Frame;
+
+// Sets a number register, and goes on with the next instruction.
+#[inline(always)]
+fn set_int(frame: &mut Frame, target: IntReg, value: i64)
+    requires { frame.old.next + 1 < 2 ^ 32 }
+    ensures { frame.new ≡ record (int_written frame.old target value) { next = frame.old.next + 1 } }
+{
+    frame.set_int(target, value);
+    frame.next += 1;
+}
+
+// Sets a reference register, and goes on with the next instruction.
+#[inline(always)]
+fn set_reference(frame: &mut Frame, target: RefReg, value: Option<Addr>)
+    requires { frame.old.next + 1 < 2 ^ 32 }
+    ensures { frame.new ≡ record (ref_written frame.old target value) { next = frame.old.next + 1 } }
+{
+    frame.set_reference(target, value);
+    frame.next += 1;
+}
+
+// Sets a register by an operator, or leaves the frame as it is where that divides by 0.
+#[inline(always)]
+fn calc(frame: &mut Frame, operator: Operator, target: IntReg, left: IntReg, right: IntReg) -> bool
+    requires { frame.old.next + 1 < 2 ^ 32 }
+    ensures makes { result ≡ true → Makes (Instr.Calc operator target left right) frame.old frame.new }
+    ensures stays { result ≡ false → frame.new ≡ frame.old }
+    ensures function { frame.new.function ≡ frame.old.function }
+{
+    match calculate(operator, frame.int(left), frame.int(right)) {
+        Some(value) => {
+            set_int(frame, target, value);
+            true
+        }
+        None => false,
+    }
+}
+
+// Goes on elsewhere where a register is 0, and else with the next instruction.
+#[inline(always)]
+fn jump_at_zero(frame: &mut Frame, tested: IntReg, to: u32)
+    requires { frame.old.next + 1 < 2 ^ 32 }
+    ensures makes { Makes (Instr.Jz tested to) frame.old frame.new }
+    ensures function { frame.new.function ≡ frame.old.function }
+{
+    if frame.int(tested) == 0 {
+        frame.next = to;
+    } else {
+        frame.next += 1;
+    }
+}
+
+// Does an instruction that only calculates, or leaves the frame as it is.
+#[inline(always)]
+fn calculate_once(frame: &mut Frame, instr: &Instr) -> bool
+    requires { frame.old.next + 1 < 2 ^ 32 }
+    ensures makes { result ≡ true → Makes instr.now frame.old frame.new }
+    ensures stays { result ≡ false → frame.new ≡ frame.old }
+    ensures function { frame.new.function ≡ frame.old.function }
+{
+    match instr {
+        Instr::Set(target, value) => set_int(frame, *target, *value),
+        Instr::Mov(target, source) => set_int(frame, *target, frame.int(*source)),
+        Instr::Movr(target, source) => set_reference(frame, *target, frame.reference(*source)),
+        Instr::Nil(target) => set_reference(frame, *target, None),
+        Instr::Calc(operator, target, left, right) => {
+            return calc(frame, *operator, *target, *left, *right);
+        }
+        Instr::Same(target, left, right) => {
+            let same = is_same_reference(frame.reference(*left), frame.reference(*right));
+            set_int(frame, *target, if same { 1 } else { 0 });
+        }
+        Instr::Jmp(to) => frame.next = *to,
+        Instr::Jz(tested, to) => jump_at_zero(frame, *tested, *to),
+        _ => return false,
+    }
+    true
+}
+
+// Calculates as long as what comes next is a calculation, at most so many times, and says how many times.
+fn calculate_on(frame: &mut Frame, program: &Program, most: u32) -> u32
+    ensures most { result ≤ most }
+    ensures leads { Leads program.now frame.old result frame.new }
+{
+    program.form();
+    let Some(function) = program.functions().get(frame.function as usize) else {
+        return 0;
+    };
+    for done in 0..most {
+        let Some(line) = function.code.get(frame.next as usize) else {
+            return done;
+        };
+        if !calculate_once(frame, &line.instr) {
+            return done;
+        }
+    }
+    most
+}
+
+impl Private {
+    /// Takes steps as long as they only calculate, at most so many, and says how many.
+    pub(crate) fn calculate(&mut self, program: &Program, most: u32) -> u32
+        requires { self.old.fresh + most < 2 ^ 32 }
+        ensures most { result ≤ most }
+        ensures leads { Leads program.now self.old.frames.top result self.new.frames.top }
+        ensures rest { self.new ≡ record (with_top self.old self.new.frames.top) { fresh = self.old.fresh + result } }
+    {
+        let done = calculate_on(self.frames.top_mut(), program, most);
+        self.fresh += done;
+        done
+    }
+}
