@@ -6,12 +6,18 @@ use Rattle.task_frames.specs.declared.frames.Frame.{Frame}
 use Rattle.task_machine.specs.declared.part.Private.{Private}
 use Rattle.task_machine.specs.declared.plan.Plan.{Plan}
 use Rattle.task_machine.specs.declared.plan.Plan.TheVariants.{Pause, SetInt, SetReference, Jump, Call, Return, New, Pack, WriteReference, WriteInt, Swap, Freeze}
-use Rattle.task_machine.specs.Calculations.{IsCalculation, Leads, LeadsTo, Makes, with_top}
+use Rattle.task_machine.specs.Calculations.{IsCalculation, Leads, Makes, with_top}
 use Rattle.task_machine.specs.Plan.{planned}
 use Rattle.task_machine.specs.Ready.{FitsSome, IsReady}
 use Rattle.task_machine.specs.Run.{IsStepPlan, KeepsRest, Runs}
 use Rattle.task_machine.proofs.Agreement.{line_agrees}
 use Rattle.task_machine.proofs.Ends.{is_step, runs_more}
+
+-- a calculation more
+pub leads_more : (p : ProgramText) (f h g : Frame) (k : ℕ) (line : Line) → Leads p f k h → line_at p h.function h.next ≡ Some line → Makes line.instr h g → Leads p f (k + 1) g
+leads_more p f h g k line L e M =
+    let one : suc k ≡ k + 1 = omega arith in
+    subst (λ n. Leads p f n g) one (h, L, subst (λ o. IsSomeAnd o (λ (l : Line). Makes l.instr h g)) (sym e) M)
 
 -- the part with this top frame, after so many steps more
 abbrev after : Private → Frame → ℕ → Private
@@ -55,11 +61,11 @@ module _ (p : ProgramText) (old : Private) (k : ℕ) (mid : Private) (S : FitsSo
       let plan : Plan = planned here line.instr in
       let does = M behind in
       let fresh : mid.fresh + suc n ≡ (mid.fresh + n) + 1 = omega arith in
-      let is = ap (λ z. let w : Private = record (with_top mid g) { fresh = z } in w) fresh ∙ sym does.1.1 in
+      let is = ap (λ z. let w : Private = record (with_top mid g) { fresh = z } in w) fresh ∙ sym does.2 in
       let count : (k + n) + 1 ≡ k + suc n = omega arith in
       subst (λ z. Runs p old z (after mid g (suc n))) count
-      (runs_more p old (k + n) here S before plan (is_step plan (step_plan plan does.1.0)) (λ m above F. line_agrees p here m above F line e does.0)
-      (ready_plan here plan does.1.0) (after mid g (suc n)) is)
+      (runs_more p old (k + n) here S before plan (is_step plan (step_plan plan does.1)) (λ m above F. line_agrees p here m above F line e does.0)
+      (ready_plan here plan does.1) (after mid g (suc n)) is)
 
   all : (n : ℕ) (g : Frame) → Leads p mid.frames.top n g → Runs p old (k + n) (after mid g n)
   all zero g L =

@@ -1,5 +1,5 @@
 -- Steps that only calculate, with the top frame at hand: they set a register of it, or the place where it goes on.
-use Rattle.std.specs.Prelude.{◌≡◌, ℕ, zero, suc, ◌+◌, IsSomeAnd, None}
+use Rattle.std.specs.Prelude.{◌≡◌, ℕ, zero, suc, IsSomeAnd}
 use Rattle.hh_lang.specs.declared.instr.Instr.{Instr}
 use Rattle.hh_lang.specs.Form.{ProgramText, line_at}
 use Rattle.task_frames.specs.declared.frames.Frame.{Frame}

@@ -1,11 +1,12 @@
 // Steps that only calculate: one after the other, with the top frame at hand.
 
-ghost use Rattle.std.specs.Prelude.{◌≡◌, ◌≤◌, ◌<◌, ◌+◌, ◌^◌, true, false};
+ghost use Rattle.std.specs.Prelude.{◌≡◌, ◌≤◌, ◌<◌, ◌+◌, ◌^◌, true, false, None, option_copied};
+ghost use Rattle.hh_lang.specs.Form.{line_at};
 ghost use Rattle.task_frames.specs.FramesValue.{int_written, ref_written};
 ghost use Rattle.task_machine.specs.Calculations.{Leads, Makes, with_top};
 
 use crate::part::Private;
-use hh_lang::{Instr, IntReg, Operator, Program, RefReg};
+use hh_lang::{Instr, IntReg, Line, Operator, Program, RefReg};
 use hh_model::calculate;
 use object_layout::{Addr, is_same_reference};
 use task_frames::Frame;
@@ -88,36 +89,46 @@ fn calculate_once(frame: &mut Frame, instr: &Instr) -> bool
     true
 }
 
-// Calculates as long as what comes next is a calculation, at most so many times, and says how many times.
-fn calculate_on(frame: &mut Frame, program: &Program, most: u32) -> u32
-    ensures most { result ≤ most }
-    ensures leads { Leads program.now frame.old result frame.new }
+// Calculates as long as what comes next is a calculation, at most so many times: how many times, and then the line that
+// comes next, unless so many are spent.
+fn calculate_on<'a>(frame: &mut Frame, program: &'a Program, most: u32) -> (u32, Option<&'a Line>)
+    ensures most { result.0 ≤ most }
+    ensures leads { Leads program.now frame.old result.0 frame.new }
+    ensures line { result.0 < most → option_copied result.1 ≡ line_at program.now frame.new.function frame.new.next }
+    ensures spent { result.0 ≡ most → result.1 ≡ None }
 {
     program.form();
     let Some(function) = program.functions().get(frame.function as usize) else {
-        return 0;
+        return (0, None);
     };
     for done in 0..most {
         let Some(line) = function.code.get(frame.next as usize) else {
-            return done;
+            return (done, None);
         };
         if !calculate_once(frame, &line.instr) {
-            return done;
+            return (done, Some(line));
         }
     }
-    most
+    (most, None)
 }
 
 impl Private {
-    /// Takes steps as long as they only calculate, at most so many, and says how many.
-    pub(crate) fn calculate(&mut self, program: &Program, most: u32) -> u32
+    /// Takes steps as long as they only calculate, at most so many: how many it took, and then the line that comes next,
+    /// unless so many are spent.
+    pub(crate) fn calculate<'a>(
+        &mut self,
+        program: &'a Program,
+        most: u32,
+    ) -> (u32, Option<&'a Line>)
         requires { self.old.fresh + most < 2 ^ 32 }
-        ensures most { result ≤ most }
-        ensures leads { Leads program.now self.old.frames.top result self.new.frames.top }
-        ensures rest { self.new ≡ record (with_top self.old self.new.frames.top) { fresh = self.old.fresh + result } }
+        ensures most { result.0 ≤ most }
+        ensures leads { Leads program.now self.old.frames.top result.0 self.new.frames.top }
+        ensures rest { self.new ≡ record (with_top self.old self.new.frames.top) { fresh = self.old.fresh + result.0 } }
+        ensures line { result.0 < most → option_copied result.1 ≡ line_at program.now self.new.frames.top.function self.new.frames.top.next }
+        ensures spent { result.0 ≡ most → result.1 ≡ None }
     {
-        let done = calculate_on(self.frames.top_mut(), program, most);
+        let (done, line) = calculate_on(self.frames.top_mut(), program, most);
         self.fresh += done;
-        done
+        (done, line)
     }
 }

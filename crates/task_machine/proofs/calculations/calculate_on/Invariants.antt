@@ -1,0 +1,9 @@
+use Rattle.std.proofs.Common.{◌≡◌}
+use Rattle.task_machine.specs.Calculations.{Leads}
+use Rattle.task_machine.proofs.calculations.calculate_on.Given as goal
+
+abbrev pub invariant-loop-done : goal.invariant-loop-done
+invariant-loop-done l = record {
+  leads : Leads l.initial.program l.initial.frame l.done l.frame;
+  function : l.frame.function ≡ l.initial.frame.function;
+}
