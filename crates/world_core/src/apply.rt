@@ -108,8 +108,6 @@ pub(crate) fn make_entry(
     ensures made { AnswersAll shared.old shared.new entry holdings.new result }
 {
     shared.stands();
-    if shared.reserve().is_err() {
-        return Err(NotEntered::NoMemory);
-    }
+    shared.reserve()?;
     make(shared, holdings, entry)
 }

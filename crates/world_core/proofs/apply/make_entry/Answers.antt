@@ -1,8 +1,14 @@
+use Rattle.std.proofs.Common.{Result}
+use Rattle.shared_value.specs.declared.answer.NotEntered.{NotEntered}
+use Rattle.shared_tree.proofs.HandedOn.{for_memory}
+use Rattle.world_core.specs.Applied.{AnswersAll}
 use Rattle.world_core.proofs.Applying.{all_mid, from_room, wants_room}
 use Rattle.world_core.proofs.apply.make_entry.Goals as goal
 
-pub returns-then-is_err-clause-made : goal.returns-then-is_err-clause-made
-returns-then-is_err-clause-made c = wants_room c.args.shared.now c.reserve.new.self c.reserve.ensures.same c.reserve.ensures.fit c.args.holdings.now c.requires.hold
+pub returns-in_err-reserve-clause-made : goal.returns-in_err-reserve-clause-made
+returns-in_err-reserve-clause-made c =
+    for_memory (λ (r : Result (Unit {0}) NotEntered). AnswersAll c.args.shared.now c.reserve.new.self c.args.entry c.args.holdings.now r)
+    (wants_room c.args.shared.now c.reserve.new.self c.reserve.ensures.same c.reserve.ensures.fit c.args.holdings.now c.requires.hold) c.from_residual.result c.from_residual.ensures.1
 
 pub make-requires-clause-hold : goal.make-requires-clause-hold
 make-requires-clause-hold c = all_mid c.args.shared.now c.reserve.new.self c.reserve.ensures.same c.reserve.ensures.fit c.args.holdings.now c.requires.hold
