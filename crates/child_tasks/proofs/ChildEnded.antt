@@ -113,7 +113,7 @@ module _ (w : SharedValue) (k : ℕ) (p : Private) (I : IsSharedValue w) (F : Fi
       let stops : is_running (slice_get L.machine.tasks q) ≡ false = ap is_running same ∙ waiting_stops (slice_get M.machine.tasks q) (steps.parent_waits w k p I F at_end free) in
       ap (where_running L.machine.tasks) par ∙ ap (λ b. if b then Some q else None) stops
 
-  -- ---- THE BELONGINGS THAT ARE HANDED BACK
+  -- ---- THE REST THAT IS HANDED BACK
   abbrev rest : Rest
   rest = ended_rest p
 

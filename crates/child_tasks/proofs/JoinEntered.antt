@@ -54,11 +54,11 @@ use Rattle.child_tasks.specs.Joins.{AreSides, RestsJoin, IsRestOf, SetsJoin, sou
 use Rattle.child_tasks.proofs.ChildReturns as steps
 use Rattle.child_tasks.proofs.JoinUnits.{joined_measured, others_measured}
 use Rattle.child_tasks.proofs.SetsNoted.{noted_by}
-use Rattle.child_tasks.proofs.JoinHomes.{Merges, by_content, joins_belongings}
+use Rattle.child_tasks.proofs.JoinBelongings.{Merges, by_content, joins_belongings}
 use Rattle.child_tasks.proofs.JoinTree.{joined_long, left_node, other_node, parent_node, right_node}
 use Rattle.child_tasks.proofs.MergedHeapForm.{merged_form}
 use Rattle.child_tasks.proofs.SiblingReturned as before
-use Rattle.child_tasks.proofs.JoinedHomes as both
+use Rattle.child_tasks.proofs.JoinedBelongings as both
 
 module _ (w : SharedValue) (k : ℕ) (p : Private) (I : IsSharedValue w) (F : Fits w k p) (at_end : IsAtEnd w p) (free : refused w (alone_event k p) ≡ None) (ended : state_in_tree w.tree (steps.other w k p I F at_end free) ≡ Some Ended) where
   abbrev t : ℕ

@@ -39,7 +39,7 @@ use Rattle.child_tasks.specs.Joins.{AreSides, CanJoin, HasPlaces, RestsJoin, IsR
 use Rattle.child_tasks.proofs.ChildReturns as steps
 use Rattle.child_tasks.proofs.NextStepForks.{tree_parents}
 use Rattle.child_tasks.proofs.JoinTree.{HasCalls}
-use Rattle.child_tasks.proofs.JoinedHomes as both_sides
+use Rattle.child_tasks.proofs.JoinedBelongings as both_sides
 use Rattle.child_tasks.proofs.SiblingReturned as before
 use Rattle.child_tasks.proofs.JoinEntered as joined
 use Rattle.child_tasks.proofs.TwoChildren.{both, count_of, each, in_pairs, right_next, sides, waits_in}

@@ -33,8 +33,8 @@ use Rattle.own_steps.specs.Alone.{alone_event}
 use Rattle.child_tasks.specs.ChildEnds.{IsAtEnd}
 use Rattle.child_tasks.specs.Joins.{AreSides, RestsJoin, IsRestOf}
 use Rattle.child_tasks.proofs.ChildReturns as steps
-use Rattle.child_tasks.proofs.JoinHomes.{in_has}
-use Rattle.child_tasks.proofs.JoinedHomes as both
+use Rattle.child_tasks.proofs.JoinBelongings.{in_has}
+use Rattle.child_tasks.proofs.JoinedBelongings as both
 
 module _ (w : SharedValue) (k : ℕ) (p : Private) (I : IsSharedValue w) (F : Fits w k p) (at_end : IsAtEnd w p) (free : refused w (alone_event k p) ≡ None) (ended : state_in_tree w.tree (steps.other w k p I F at_end free) ≡ Some Ended) where
   abbrev t : ℕ

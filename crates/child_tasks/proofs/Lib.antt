@@ -8,10 +8,10 @@ pub mod ChildReturns
 pub mod LastReturnKinds
 pub mod ChildEnded
 pub mod MergedHeapForm
-pub mod JoinHomes
+pub mod JoinBelongings
 pub mod JoinTree
 pub mod SiblingReturned
-pub mod JoinedHomes
+pub mod JoinedBelongings
 pub mod JoinEntered
 pub mod JoinPlaces
 pub mod TwoChildren

@@ -15,10 +15,10 @@ use Rattle.core_relation.proofs.objects.Members.{in_chunk}
 
 -- this remembered field holds the root
 pub record RootBy (v : Memory) (l : Ledger) (t : ℕ) (s : Source) (a : Addr) : Type 0 where
-  pub home : ℕ
+  pub task : ℕ
   pub object : Located
-  pub rests : Rests l home
-  pub there : In (objects v home) object
+  pub rests : Rests l task
+  pub there : In (objects v task) object
   pub at : object.at ≡ s.object
   pub holds : slice_get object.refs s.field ≡ Some (Some a)
   pub into : v.owner a.chunk ≡ Some t
@@ -49,8 +49,8 @@ module _ (v : Memory) (l : Ledger) (t : ℕ) (V : Stands v l) where
     -- no other object lies there
     only : (a : Addr) (R : RootBy v l t s a) → R.object ≡ q
     only a R =
-        let home : R.home ≡ u = same_Some R.home u (sym (owned R.home R.object R.rests R.there) ∙ (ap (λ (b : Addr). v.owner b.chunk) R.at ∙ K.place.chunk)) in
-        (V.belongings u K.rests).once R.object q (subst (λ z. In (objects v z) R.object) home R.there) q_there (R.at ∙ sym q_at)
+        let same : R.task ≡ u = same_Some R.task u (sym (owned R.task R.object R.rests R.there) ∙ (ap (λ (b : Addr). v.owner b.chunk) R.at ∙ K.place.chunk)) in
+        (V.belongings u K.rests).once R.object q (subst (λ z. In (objects v z) R.object) same R.there) q_there (R.at ∙ sym q_at)
 
     held : (a : Addr) → RootBy v l t s a → slice_get q.refs s.field ≡ Some (Some a)
     held a R = ap (λ (z : Located). slice_get z.refs s.field) (sym (only a R)) ∙ R.holds
@@ -64,7 +64,7 @@ module _ (v : Memory) (l : Ledger) (t : ℕ) (V : Stands v l) where
       | inl y ↦ (
         Some a,
         λ b. (
-          (λ g. let same : a ≡ b = same_Some a b g in record { home = u; object = q; rests = K.rests; there = q_there; at = q_at; holds = e ∙ ap (λ (z : Addr). Some (Some z)) same; into = ap (λ (z : Addr). v.owner z.chunk) (sym same) ∙ (f ∙ ap Some y) }),
+          (λ g. let same : a ≡ b = same_Some a b g in record { task = u; object = q; rests = K.rests; there = q_there; at = q_at; holds = e ∙ ap (λ (z : Addr). Some (Some z)) same; into = ap (λ (z : Addr). v.owner z.chunk) (sym same) ∙ (f ∙ ap Some y) }),
           (λ R. same_Some (Some a) (Some b) (sym e ∙ held b R)),
         ),
       )
@@ -115,7 +115,7 @@ module _ (v : Memory) (l : Ledger) (t : ℕ) (V : Stands v l) where
       let r = roots_of (sources v t) (λ s i. V.sources t s i) in (
         r.0,
         λ a. (
-          (λ i. let f = (r.1 a).0 i in let R : RootBy v l t f.0 a = f.2 in record { source = f.0; home = R.home; object = R.object; rests = R.rests; noted = f.1; there = R.there; at = R.at; holds = R.holds; into = R.into }),
-          (λ R. (r.1 a).1 (R.source, R.noted, record { home = R.home; object = R.object; rests = R.rests; there = R.there; at = R.at; holds = R.holds; into = R.into })),
+          (λ i. let f = (r.1 a).0 i in let R : RootBy v l t f.0 a = f.2 in record { source = f.0; task = R.task; object = R.object; rests = R.rests; noted = f.1; there = R.there; at = R.at; holds = R.holds; into = R.into }),
+          (λ R. (r.1 a).1 (R.source, R.noted, record { task = R.task; object = R.object; rests = R.rests; there = R.there; at = R.at; holds = R.holds; into = R.into })),
         ),
       )

@@ -47,7 +47,7 @@ use Rattle.own_steps.proofs.LastStepEntry.{last_event}
 use Rattle.child_tasks.specs.ChildEnds.{IsAtEnd, running_parent, where_running}
 use Rattle.child_tasks.proofs.ChildReturns as steps
 use Rattle.shared_value.proofs.FieldsLed.{by_chunks}
-use Rattle.child_tasks.proofs.JoinHomes.{by_since}
+use Rattle.child_tasks.proofs.JoinBelongings.{by_since}
 use Rattle.child_tasks.proofs.JoinTree.{HasCalls, IsOver, by_room, kept_is, waiting_calls, waiting_is}
 use Rattle.child_tasks.proofs.LastReturnKinds.{joins}
 

@@ -60,13 +60,13 @@ module _ (w : SharedValue) (k : ℕ) (p : Private) (b : Begun) (news : List Chun
   abbrev pub H : Belongings
   H = part_belongings p.heap p.view p.allocations p.frames (Some b)
 
-  belongings_is : belongings_of_part p ≡ H
-  belongings_is = ap (λ o. record (belongings_with p.heap p.view p.allocations (frames_down p.frames) (pos 0, None)) { begun = o }) C.begun
+  belongings_are : belongings_of_part p ≡ H
+  belongings_are = ap (λ o. record (belongings_with p.heap p.view p.allocations (frames_down p.frames) (pos 0, None)) { begun = o }) C.begun
 
   fits : PartFits w.program w.settings (before w.settings p.task H) (value_of w) (aside (accounts w))
   fits =
       subst (λ n. PartFits w.program w.settings (part_for w.settings p.task H n) (value_of w) (aside (accounts w))) C.fresh
-      (subst (λ (h : Belongings). PartFits w.program w.settings (part_for w.settings p.task h p.fresh) (value_of w) (aside (accounts w))) belongings_is C.fits.fits.part)
+      (subst (λ (h : Belongings). PartFits w.program w.settings (part_for w.settings p.task h p.fresh) (value_of w) (aside (accounts w))) belongings_are C.fits.fits.part)
 
   pub begun : IsBegun w.program w.settings p.task p.heap p.view p.allocations p.frames b news (value_of w) (aside (accounts w))
   begun = record {

@@ -52,8 +52,8 @@ CopiesEnd =
     → CopyFits p s t h h' f v l → EndsAt v v' t h' f → h'.begun ≡ None → let l' : Ledger = with_heap l t (collected l.machine) in
     Moves (with_belongings v t h) (with_belongings v' t h') (rested l t) (rested l' t) t (heap_of (rested l t) t).survivors f × PartFits p s (before s t h') v' l'
 
--- MARKS: nothing is left to mark exactly where each object of the snapshot is marked, where that holds each name once, and all of it is
--- held
+-- MARKS: nothing is left to mark exactly where each object of the snapshot is marked, where that holds each name once,
+-- and all of it is held
 abbrev pub MarksAreAll : Type 0
 MarksAreAll =
     (v : Memory) (l : Ledger) (t : ℕ) (marked : List Addr) → Stands v l → Rests l t → IsDistinct is_name (heap_of l t).snapshot → ((n : Name) → In (heap_of l t).snapshot n → In (held_in (heap_of l t)) n)

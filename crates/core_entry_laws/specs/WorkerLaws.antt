@@ -1,4 +1,5 @@
--- The laws of what workers hold: an entry of one leaves what every other holds fitting, and what it makes of its own fits.
+-- The laws of what workers hold: an entry of one leaves what every other holds fitting, and what it makes of its own
+-- fits.
 use Rattle.std.specs.Prelude.{◌≡◌, ℕ, ℤ, true, Option, None, List, ◌∷◌, slice_set}
 use Rattle.object_layout.specs.declared.word.Addr.{Addr}
 use Rattle.hh_lang.specs.Form.{ProgramText}
@@ -94,8 +95,8 @@ FramesGo =
     StepsAlone m l' t → l' ≡ stepped_by m (record m.machine { tasks = slice_set m.machine.tasks t (record E.splits.task { top = top }); outputs = outs }) → h.frames ≡ f ∷ fs
     → (FrameIsRead (Place (with_belongings v t h) (rested m t)) f E.splits.task.top → FrameIsRead (Place (with_belongings v t h) (rested m t)) g top) → StepsTo v l' t h (record h { frames = g ∷ fs })
 
--- where it sets at most a number register: the read of a number or of a count of fields, a compare and swap that finds what it doesn't
--- expect, an output
+-- where it sets at most a number register: the read of a number or of a count of fields, a compare and swap that finds
+-- what it doesn't expect, an output
 abbrev pub NumbersGo : Type 0
 NumbersGo =
     (p : ProgramText) (s : SettingsValue) (v : Memory) (l l' : Ledger) (t w k : ℕ) (h : Belongings) → (E : Runs p s l l' t w k) → Fits p s (part_for s t h k) v l

@@ -26,8 +26,8 @@ pub record Chunk : Type 0 where
   pub large : Bool
   pub objects : List Located
 
--- what goes with a task: its heap, its frames (the top one first), the result that it ended with, and how many objects it
--- has allocated
+-- what goes with a task: its heap, its frames (the top one first), the result that it ended with, and how many objects
+-- it has allocated
 pub record Belongings : Type 0 where
   pub chunks : List Chunk
   pub room : ℕ
@@ -43,8 +43,8 @@ pub record Belongings : Type 0 where
 abbrev pub no_belongings : Belongings
 no_belongings = record { chunks = []; room = 0; since = 0; count = 0; frames = []; result = (pos 0, None); begun = None; view = [] }
 
--- what is noted of a heap: the fields that point down into it, the overwritten references into it, whether these are kept, and
--- what is found and marked, while it is being marked
+-- what is noted of a heap: the fields that point down into it, the overwritten references into it, whether these are
+-- kept, and what is found and marked, while it is being marked
 pub record Noted : Type 0 where
   pub sources : List Source
   pub kept : List Addr

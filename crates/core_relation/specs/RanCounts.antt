@@ -1,5 +1,5 @@
--- How an entry of steps changes the tree and the counts of the shared value, by its last step: x is the task before it, line the line that it
--- takes, m the accounts.
+-- How an entry of steps changes the tree and the counts of the shared value, by its last step: x is the task before it,
+-- line the line that it takes, m the accounts.
 use Rattle.std.specs.Prelude.{◌≡◌, ℕ, suc, ◌+◌, ◌++◌, ◌∷◌, [], Some, None, length, option_map}
 use Rattle.hh_lang.specs.declared.program.Line.{Line}
 use Rattle.hh_lang.specs.Form.{ProgramText}

@@ -20,6 +20,6 @@ pub mod SweptPlaces
 pub mod SweptForm
 pub mod SweptStart
 pub mod SweptUnits
-pub mod SweptHome
+pub mod SweptBelongings
 pub mod SweepEntered
 pub mod SweptRefusals

@@ -64,14 +64,14 @@ module _ (w : SharedValue) (I : IsSharedValue w) (on : (accounts w).end ≡ None
   form : HeapForm r.heap
   form = I.heaps t r there
 
-  pub belongings_is : (v.belongings t).chunks ≡ chunks_of ks
-  belongings_is = ap (λ o. (belongings_in o).chunks) there ∙ belongings_chunks r
+  pub chunks_are : (v.belongings t).chunks ≡ chunks_of ks
+  chunks_are = ap (λ o. (belongings_in o).chunks) there ∙ belongings_chunks r
 
   pub to_belongings : (o : Located) → In (objects_in (chunks_of ks)) o → In (objects v t) o
-  to_belongings o i = subst (λ cs. In (objects_in cs) o) (sym belongings_is) i
+  to_belongings o i = subst (λ cs. In (objects_in cs) o) (sym chunks_are) i
 
   pub from_belongings : (o : Located) → In (objects v t) o → In (objects_in (chunks_of ks)) o
-  from_belongings o i = subst (λ cs. In (objects_in cs) o) belongings_is i
+  from_belongings o i = subst (λ cs. In (objects_in cs) o) chunks_are i
 
   pub is_held : (o : Located) → In (objects v t) o → HasObjectAt ks o.at
   is_held o i = (seen_held ks form.shaped.apart o (from_belongings o i)).0
@@ -150,8 +150,8 @@ module _ (w : SharedValue) (I : IsSharedValue w) (on : (accounts w).end ≡ None
     -- what the marking has then
     pub begun_goes_on : (m : MarkingValue) → IsOf ks (kept v t) m → IsMarking f (kept v t) m → GoesOn v t (heap_of l t).snapshot m
     begun_goes_on m own marks =
-        let count : object_count ks ≡ length (objects v t) = objects_counted ks form.tidy ∙ ap (λ cs. length (objects_in cs)) (sym belongings_is) in
-        let chunks : length ks ≡ length (v.belongings t).chunks = sym (length_chunks ks) ∙ ap (λ cs. length cs) (sym belongings_is) in
+        let count : object_count ks ≡ length (objects v t) = objects_counted ks form.tidy ∙ ap (λ cs. length (objects_in cs)) (sym chunks_are) in
+        let chunks : length ks ≡ length (v.belongings t).chunks = sym (length_chunks ks) ∙ ap (λ cs. length cs) (sym chunks_are) in
         record {
           fork = f;
           marks = marks;

@@ -101,8 +101,8 @@ module _ (w : SharedValue) (I : IsSharedValue w) (on : (accounts w).end ≡ None
   -- what was marked further can go on
   pub goes_further : (m' : MarkingValue) → IsOf ks (kept v t) m' → ((f : Fork) → IsSince f (kept v t) ks → IsMarking f (kept v t) m → IsMarking f (kept v t) m') → GoesOn v t (heap_of l t).snapshot m'
   goes_further m' own marks =
-      let count : object_count ks ≡ length (objects v t) = objects_counted ks form.tidy ∙ ap (λ cs. length (objects_in cs)) (sym (begun.belongings_is w I on t r there wait keeps)) in
-      let chunks : length ks ≡ length (v.belongings t).chunks = sym (begun.length_chunks ks) ∙ ap (λ cs. length cs) (sym (begun.belongings_is w I on t r there wait keeps)) in
+      let count : object_count ks ≡ length (objects v t) = objects_counted ks form.tidy ∙ ap (λ cs. length (objects_in cs)) (sym (begun.chunks_are w I on t r there wait keeps)) in
+      let chunks : length ks ≡ length (v.belongings t).chunks = sym (begun.length_chunks ks) ∙ ap (λ cs. length cs) (sym (begun.chunks_are w I on t r there wait keeps)) in
       record {
         fork = G.fork;
         marks = marks G.fork is_since G.marks;
@@ -121,8 +121,8 @@ module _ (w : SharedValue) (I : IsSharedValue w) (on : (accounts w).end ≡ None
   -- WHAT IT ASKS: what it has found lies in the heap
   pub own : IsOf ks (kept v t) m
   own =
-      let count : object_count ks ≡ length (objects v t) = objects_counted ks form.tidy ∙ ap (λ cs. length (objects_in cs)) (sym (begun.belongings_is w I on t r there wait keeps)) in
-      let chunks : length ks ≡ length (v.belongings t).chunks = sym (begun.length_chunks ks) ∙ ap (λ cs. length cs) (sym (begun.belongings_is w I on t r there wait keeps)) in
+      let count : object_count ks ≡ length (objects v t) = objects_counted ks form.tidy ∙ ap (λ cs. length (objects_in cs)) (sym (begun.chunks_are w I on t r there wait keeps)) in
+      let chunks : length ks ≡ length (v.belongings t).chunks = sym (begun.length_chunks ks) ∙ ap (λ cs. length cs) (sym (begun.chunks_are w I on t r there wait keeps)) in
       record {
         room = record {
           each = λ a c. (is_since.objects a).0 (reached_held a (G.marks.each a c));
@@ -141,7 +141,7 @@ module _ (w : SharedValue) (I : IsSharedValue w) (on : (accounts w).end ≡ None
 
   -- and each reference into a chunk of the heap leads to an object
   pub closed : IsClosed ks
-  closed = is_closed v l stands.belongings t (begun.rests w I on t r there wait keeps) ks (begun.belongings_is w I on t r there wait keeps) form.shaped.apart form.near
+  closed = is_closed v l stands.belongings t (begun.rests w I on t r there wait keeps) ks (begun.chunks_are w I on t r there wait keeps) form.shaped.apart form.near
 
   -- WHEN NOTHING IS LEFT
   pub left_is : MarksStand v l t (marked_of m) → IsAllMarked G.fork (kept v t) m ↔ (left_in (heap_of l t) ≡ 0)

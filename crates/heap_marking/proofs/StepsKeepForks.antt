@@ -13,7 +13,7 @@ use Rattle.hh_model.specs.declared.data.State.{State}
 use Rattle.hh_model.specs.Effect.{onward}
 use Rattle.hh_model.specs.Step.{child, ended_task, is_joined, is_left, is_over, is_running, is_waiting, joined, joined_task, parent_of, parents, result_of, resumed, run, run_from, sibling, start, step, waits}
 use Rattle.hh_model.specs.Tree.{IsForkJoinState, TreeOf, waiting}
-use Rattle.hh_model.proofs.Kept.{start_kept, step_kept}
+use Rattle.hh_model.proofs.ForkJoinStates.{start_is_fork_join_state, step_is_fork_join_state}
 use Rattle.hh_model.proofs.Runs.{below, grown_left, grown_other, grown_past, grown_right, grown_view_front, running_tells, three_left, three_other, three_right, three_top}
 use Rattle.hh_model.proofs.Steps.{step_cases}
 
@@ -228,10 +228,10 @@ HaveLive ts = (u : ℕ) → waiting ts u ≡ true → (c : ℕ) × (parents ts c
 
 live_from : (p : ProgramText) (us : List ℕ) (m : State) → IsForkJoinState m → HaveLive m.tasks → HaveLive (run_from p m us).tasks
 live_from p [] m K h = h
-live_from p (t ∷ us) m K h = live_from p us (step p m t) (step_kept p m t K) ((step_moves p m t K).live h)
+live_from p (t ∷ us) m K h = live_from p us (step p m t) (step_is_fork_join_state p m t K) ((step_moves p m t K).live h)
 
 pub runs_have_live : (p : ProgramText) (limit : ℕ) (us : List ℕ) → HaveLive (run p limit us).tasks
-runs_have_live p limit us = live_from p us (start p limit) (start_kept p limit) first
+runs_have_live p limit us = live_from p us (start p limit) (start_is_fork_join_state p limit) first
   where
     first : HaveLive (start p limit).tasks
     first zero w = absurd (false≢true w)

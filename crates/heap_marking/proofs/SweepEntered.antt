@@ -46,7 +46,7 @@ use Rattle.shared_value.proofs.TaskTaken.{some_flat}
 use Rattle.heap_marking.specs.MarkCauses.{marking_cause}
 use Rattle.heap_marking.specs.Sweeping.{CanSweep, SweepsHome}
 use Rattle.heap_marking.proofs.MarkCauses.{marks_refuse}
-use Rattle.heap_marking.proofs.SweptHome as home
+use Rattle.heap_marking.proofs.SweptBelongings as swept
 use Rattle.heap_marking.proofs.SweptStart as start
 use Rattle.heap_marking.proofs.SweptUnits.{sweep_is}
 
@@ -121,7 +121,7 @@ module _ (w : SharedValue) (k t given : ℕ) (I : IsSharedValue w) (free : refus
   can = record {
     done = start.done w I on t T.cause T.none_left;
     room = (start.Z w I on t T.cause).further.own.room;
-    in_use = all_from (λ (c : ChunkValue). IsSome (slot_at w.pool c.number)) r.heap.chunks (λ c i. is_there (slot_at w.pool c.number) _ (home.measured_was w I on t T.cause T.none_left c i));
+    in_use = all_from (λ (c : ChunkValue). IsSome (slot_at w.pool c.number)) r.heap.chunks (λ c i. is_there (slot_at w.pool c.number) _ (swept.measured_was w I on t T.cause T.none_left c i));
   }
 
   pub has_home : IsSome (rest_at w.rests t)
@@ -136,7 +136,7 @@ module _ (w : SharedValue) (k t given : ℕ) (I : IsSharedValue w) (free : refus
   module _ (pool : PoolValue) (G : AreGiven w.pool pool (gone_of r.heap (marked_of m))) (slots spare : ℕ) (sets : List SetOf) (many : length sets ≡ length w.sets) (kept_none : content_at sets t ≡ option_map (keeping false) (content_at w.sets t))
       (others : (u : ℕ) → u ≢ t → slice_get sets u ≡ slice_get w.sets u) (room : ℕ) where
     abbrev rest' : Rest
-    rest' = home.rest' w I on t T.cause T.none_left pool G slots spare
+    rest' = swept.rest' w I on t T.cause T.none_left pool G slots spare
 
     abbrev pub rests : List (Option Rest)
     rests = slice_set w.rests t (Some rest')
@@ -166,7 +166,7 @@ module _ (w : SharedValue) (k t given : ℕ) (I : IsSharedValue w) (free : refus
     ]
 
     keeps : KeepsJust v v' l L t (heap_of l t).snapshot
-    keeps = home.keeps_just w I on t T.cause T.none_left pool G slots spare v' L (ap belongings_in rest_then) refl (home.there_by l t (length (marked_of m)) (start.M w I on t T.cause).0.count) (heap_machine l t swept_heap)
+    keeps = swept.keeps_just w I on t T.cause T.none_left pool G slots spare v' L (ap belongings_in rest_then) refl (swept.there_by l t (length (marked_of m)) (start.M w I on t T.cause).0.count) (heap_machine l t swept_heap)
         (λ u ne. ap belongings_in (rest_off u ne)) sources_same
 
     notes : OthersNotes v v' t
@@ -178,29 +178,29 @@ module _ (w : SharedValue) (k t given : ℕ) (I : IsSharedValue w) (free : refus
     counts : CountsGo w.program w.settings l (tree_counts_of w) (tree_counts_of w') k (Sweep t given)
     counts = (
       record { node = λ u. refl; task_out = λ u. refl; steps = refl; outputs = refl },
-      (let g = G.units in let c = home.units_go w I on t T.cause T.none_left in let s = sweep_is w I on t T.cause T.none_left in let n = T.number in omega (arith, g, c, s, n)),
+      (let g = G.units in let c = swept.units_go w I on t T.cause T.none_left in let s = sweep_is w I on t T.cause T.none_left in let n = T.number in omega (arith, g, c, s, n)),
       refl,
     )
 
     stands : StandsForAll v' (tree_counts_of w') L
-    stands = sweeps_stand_for w.program w.settings w.journal.items I.form I.legal v v' (tree_counts_of w) (tree_counts_of w') k t given free I.stands keeps notes (ap (λ (h : Belongings). h.begun) (ap belongings_in rest_then) ∙ home.idle_belongings rest') counts
+    stands = sweeps_stand_for w.program w.settings w.journal.items I.form I.legal v v' (tree_counts_of w) (tree_counts_of w') k t given free I.stands keeps notes (ap (λ (h : Belongings). h.begun) (ap belongings_in rest_then) ∙ swept.idle_belongings rest') counts
 
     heaps : (u : ℕ) (x : Rest) → rest_at rests u ≡ Some x → HeapForm x.heap
     heaps u x is = elim (cases_eq u t) [
       | inl q ↦
           let same : rest' ≡ x = same_Some rest' x (sym rest_then ∙ (ap (rest_at rests) (sym q) ∙ is)) in
-          subst (λ (z : Rest). HeapForm z.heap) same (home.form_then w I on t T.cause T.none_left pool G slots spare)
+          subst (λ (z : Rest). HeapForm z.heap) same (swept.form_then w I on t T.cause T.none_left pool G slots spare)
       | inr ne ↦ I.heaps u x (sym (rest_off u ne) ∙ is)
     ]
 
     keeps_units : (u : ℕ) → (u ≡ t → ⊥) → KeepsUnits w.pool pool u
-    keeps_units u ne = given_keeps w.pool pool (gone_of r.heap (marked_of m)) t u G (home.owned_gone w I on t T.cause T.none_left) ne
+    keeps_units u ne = given_keeps w.pool pool (gone_of r.heap (marked_of m)) t u G (swept.owned_gone w I on t T.cause T.none_left) ne
 
     measured : RestsAreMeasured pool rests w.tasks_out
     measured u x is none = elim (cases_eq u t) [
       | inl q ↦
           let same : rest' ≡ x = same_Some rest' x (sym rest_then ∙ (ap (rest_at rests) (sym q) ∙ is)) in
-          subst (λ z. AreMeasured pool z x.heap.chunks) (sym q) (subst (λ (z : Rest). AreMeasured pool t z.heap.chunks) same (home.measured_then w I on t T.cause T.none_left pool G slots spare))
+          subst (λ z. AreMeasured pool z x.heap.chunks) (sym q) (subst (λ (z : Rest). AreMeasured pool t z.heap.chunks) same (swept.measured_then w I on t T.cause T.none_left pool G slots spare))
       | inr ne ↦ measured_kept w.pool pool u x.heap.chunks (keeps_units u ne) (I.measured u x (sym (rest_off u ne) ∙ is) none)
     ]
 

@@ -1,4 +1,5 @@
--- A set of names that holds what the tasks hold and is closed under references stays so: what is out of reach stays out of reach.
+-- A set of names that holds what the tasks hold and is closed under references stays so: what is out of reach stays out
+-- of reach.
 use Rattle.std.proofs.Common.{◌≡◌, ℕ, ℤ, zero, suc, ◌+◌, true, false, cond, Option, Some, None, List, [], ◌∷◌, ◌++◌, length, set, slice_get, slice_set, ◌⊎◌, inl, inr, refl, ap, sym, subst, ◌∙◌, arith, is_some}
 use Rattle.std.proofs.lemmas.Bool.{false≢true}
 use Rattle.listed.proofs.Members.{In, got_cases, got_past, in_append_right, in_append_left}
@@ -14,7 +15,7 @@ use Rattle.hh_model.specs.Names.{named, refs_of, refs_at, registers, names_from,
 use Rattle.hh_model.specs.Step.{waits, is_running, is_waiting, is_joined, parent_of, joined_task, resumed, child, step, asked, asked_by, asked_line, fetched}
 use Rattle.hh_model.proofs.Carried.{in_from_named, named_from_in, in_set_cases, next_name}
 use Rattle.hh_model.proofs.Runs.{waiting}
-use Rattle.hh_model.proofs.Kept.{IsForkJoinState}
+use Rattle.hh_model.proofs.ForkJoinStates.{IsForkJoinState}
 use Rattle.hh_model.proofs.Steps.{Drawn, Put, Allocates, runs_is, names_run, register_cases, step_cases}
 pub use Rattle.hh_model.specs.Closed.{Closed}
 

@@ -13,7 +13,7 @@ use Rattle.hh_model.specs.Step.{root, child, joined_task, resumed, ended_task, r
 use Rattle.hh_model.specs.Machine.{MachineValue, IsOfRun, IsSound, advanced}
 use Rattle.hh_model.proofs.Closed.{grown_cases, three_cases}
 use Rattle.hh_model.proofs.Runs.{grown_length}
-use Rattle.hh_model.proofs.Kept.{IsForkJoinState, step_kept, start_kept, run_kept, path_is_precedence_in}
+use Rattle.hh_model.proofs.ForkJoinStates.{IsForkJoinState, step_is_fork_join_state, start_is_fork_join_state, run_is_fork_join_state, path_is_precedence_in}
 use Rattle.hh_model.proofs.Steps.{Alters, step_cases}
 use Rattle.hh_model.specs.Counts.{RunsAreCounted, StepsCount}
 pub use Rattle.hh_model.specs.Counts.{Counted}
@@ -155,10 +155,10 @@ start_counted p limit = record { made = omega arith; rows = refl; objects = none
 
 pub run_counted : (p : ProgramText) (m : State) (ts : List ℕ) (k : ℕ) → IsForkJoinState m → Counted k m.tasks m.store → (n : ℕ) → n ≡ k + length ts → Counted n (run_from p m ts).tasks (run_from p m ts).store
 run_counted p m [] k K I n e = subst (λ j. Counted j m.tasks m.store) (let h : k ≡ n = omega arith in h) I
-run_counted p m (t ∷ ts) k K I n e = run_counted p (step p m t) ts (suc k) (step_kept p m t K) (counted_step p m t K k I) n (omega arith)
+run_counted p m (t ∷ ts) k K I n e = run_counted p (step p m t) ts (suc k) (step_is_fork_join_state p m t K) (counted_step p m t K k I) n (omega arith)
 
 pub runs_are_counted : RunsAreCounted
-runs_are_counted p limit ts = run_counted p (start p limit) ts 0 (start_kept p limit) (start_counted p limit) (length ts) (omega arith)
+runs_are_counted p limit ts = run_counted p (start p limit) ts 0 (start_is_fork_join_state p limit) (start_counted p limit) (length ts) (omega arith)
 
 pub steps_count : StepsCount
 steps_count p m t k K I = counted_step p m t K k I
@@ -166,13 +166,13 @@ steps_count p m t k K I = counted_step p m t K k I
 -- the store has a row for each task
 pub rows_from : (p : ProgramText) (m : State) (ts : List ℕ) (k : ℕ) → IsForkJoinState m → Counted k m.tasks m.store → length (run_from p m ts).store ≡ length (run_from p m ts).tasks
 rows_from p m [] k K I = I.rows
-rows_from p m (t ∷ ts) k K I = rows_from p (step p m t) ts (suc k) (step_kept p m t K) (counted_step p m t K k I)
+rows_from p m (t ∷ ts) k K I = rows_from p (step p m t) ts (suc k) (step_is_fork_join_state p m t K) (counted_step p m t K k I)
 
 -- MACHINES
 
 pub step_reached : (g : MachineValue) (t : ℕ) → IsOfRun g → IsOfRun (advanced g t)
 step_reached g t r =
-    let K : IsForkJoinState g.state = subst IsForkJoinState (sym r.2) (run_kept g.program (start g.program g.state.field_limit) r.0 (start_kept g.program g.state.field_limit)) in (
+    let K : IsForkJoinState g.state = subst IsForkJoinState (sym r.2) (run_is_fork_join_state g.program (start g.program g.state.field_limit) r.0 (start_is_fork_join_state g.program g.state.field_limit)) in (
       r.0 ++ t ∷ [],
       length-append r.0 (t ∷ []) ∙ ap (λ k. k + 1) r.1,
       ap (λ s. step g.program s t) r.2 ∙ (sym (run_push g.program (start g.program g.state.field_limit) r.0 t)
@@ -181,9 +181,9 @@ step_reached g t r =
 
 pub reached_sound : (g : MachineValue) → IsOfRun g → g.steps < 2 ^ 30 → IsSound g.state
 reached_sound g r few =
-    let K : IsForkJoinState g.state = subst IsForkJoinState (sym r.2) (run_kept g.program (start g.program g.state.field_limit) r.0 (start_kept g.program g.state.field_limit)) in
+    let K : IsForkJoinState g.state = subst IsForkJoinState (sym r.2) (run_is_fork_join_state g.program (start g.program g.state.field_limit) r.0 (start_is_fork_join_state g.program g.state.field_limit)) in
     let I : Counted (length r.0) g.state.tasks g.state.store =
-    subst (λ (s : State). Counted (length r.0) s.tasks s.store) (sym r.2) (run_counted g.program (start g.program g.state.field_limit) r.0 0 (start_kept g.program g.state.field_limit) (start_counted g.program g.state.field_limit) (length r.0) (omega arith)) in
+    subst (λ (s : State). Counted (length r.0) s.tasks s.store) (sym r.2) (run_counted g.program (start g.program g.state.field_limit) r.0 0 (start_is_fork_join_state g.program g.state.field_limit) (start_counted g.program g.state.field_limit) (length r.0) (omega arith)) in
     record {
       path = path_is_precedence_in g.state K;
       above = K.tree.low;

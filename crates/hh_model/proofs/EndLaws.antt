@@ -13,7 +13,7 @@ use Rattle.hh_model.specs.Step.{can_step, ended_task, goes_on, is_running, resul
 use Rattle.hh_model.specs.Tree.{IsForkJoinState}
 use Rattle.hh_model.specs.Ends.{EndsAreSteps, EndsDone, IsEnded, RunningIsARun, unended}
 use Rattle.hh_model.proofs.Counts.{run_push}
-use Rattle.hh_model.proofs.Kept.{run_kept, start_kept}
+use Rattle.hh_model.proofs.ForkJoinStates.{run_is_fork_join_state, start_is_fork_join_state}
 use Rattle.hh_model.proofs.Root.{OneRoot, one_root, run_root}
 use Rattle.hh_model.proofs.Steps.{step_cases}
 use Rattle.hh_model.proofs.Taken.{step_idle}
@@ -65,7 +65,7 @@ module _ (p : ProgramText) (limit : ℕ) (all : List ℕ) (e : End) where
   At ts = run p limit ts
 
   kept_at : (ts : List ℕ) → IsForkJoinState (At ts)
-  kept_at ts = run_kept p (start p limit) ts (start_kept p limit)
+  kept_at ts = run_is_fork_join_state p (start p limit) ts (start_is_fork_join_state p limit)
 
   ends_here : (before : List ℕ) (t : ℕ) (rest : List ℕ) (q : End) → all ≡ before ++ t ∷ rest → (At before).end ≡ None → (step p (At before) t).end ≡ Some q → run_from p (step p (At before) t) rest ≡ At all
       → (At all).end ≡ Some e → IsEnded p limit all e
@@ -112,7 +112,7 @@ module _ (p : ProgramText) (limit : ℕ) (ts : List ℕ) (t : ℕ) (runs : is_ru
             false≢true (ap is_running (sym (got_same b.tasks 0 D.root (ended_task D.root (result_of D.root.top)) D.is))
             ∙ (ap (λ k. is_running (slice_get (slice_set b.tasks 0 (ended_task D.root (result_of D.root.top))) k)) (sym first) ∙ runs'))
         | inr other ↦
-            other ((one_root b (run_kept p (start p limit) E.before (start_kept p limit)) (run_root p limit E.before)).alone t (ap is_running D.is ∙ D.running)
+            other ((one_root b (run_is_fork_join_state p (start p limit) E.before (start_is_fork_join_state p limit)) (run_root p limit E.before)).alone t (ap is_running D.is ∙ D.running)
             (ap is_running (sym (got_other b.tasks 0 t (ended_task D.root (result_of D.root.top)) other)) ∙ runs'))
       ]
 

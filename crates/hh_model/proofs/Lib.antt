@@ -7,7 +7,7 @@ pub mod Joins
 pub mod Forks
 pub mod Stores
 pub mod Runs
-pub mod Kept
+pub mod ForkJoinStates
 pub mod Carried
 pub mod Changes
 pub mod Steps

@@ -11,7 +11,7 @@ use Rattle.hh_model.specs.Effect.{onward}
 use Rattle.hh_model.specs.Step.{step, run, start, parent_of, child, joined_task, resumed, ended_task, result_of}
 use Rattle.hh_model.specs.Store.{TasksStay, MakesChildren, TasksAreNumbered}
 use Rattle.hh_model.proofs.Runs.{grown_length, grown_left, grown_right}
-use Rattle.hh_model.proofs.Kept.{IsForkJoinState, start_kept, run_kept}
+use Rattle.hh_model.proofs.ForkJoinStates.{IsForkJoinState, start_is_fork_join_state, run_is_fork_join_state}
 use Rattle.hh_model.proofs.Steps.{step_cases}
 
 -- a task that stands where another stood, of the same parent and depth
@@ -78,4 +78,4 @@ module _ (p : ProgramText) (m : State) (t : ℕ) (K : IsForkJoinState m) where
           got_other (slice_set m.tasks l (joined_task xl)) (l + 1) parent (joined_task xr) (λ e. omega arith) ∙ (got_other m.tasks l parent (joined_task xl) (λ e. omega arith) ∙ ip)
 
 pub tasks_are_numbered : TasksAreNumbered
-tasks_are_numbered p limit ts t = numbered p (run p limit ts) t (run_kept p (start p limit) ts (start_kept p limit))
+tasks_are_numbered p limit ts t = numbered p (run p limit ts) t (run_is_fork_join_state p (start p limit) ts (start_is_fork_join_state p limit))

@@ -14,7 +14,7 @@ use Rattle.hh_model.specs.Effect.{onward}
 use Rattle.hh_model.specs.Step.{step, run, run_from, start, parents, joined, parent_of, path_in, is_on_path, is_running, is_waiting, is_joined, child, ended_task, result_of, joined_task, resumed}
 use Rattle.hh_model.specs.Tree.{IsForkJoinState, HasOneRoot, RunsHaveOneRoot, waiting, joins_in}
 use Rattle.hh_model.proofs.Closed.{grown_cases}
-use Rattle.hh_model.proofs.Kept.{step_kept, start_kept, run_kept}
+use Rattle.hh_model.proofs.ForkJoinStates.{step_is_fork_join_state, start_is_fork_join_state, run_is_fork_join_state}
 use Rattle.hh_model.proofs.Paths.{path_child, path_itself}
 use Rattle.hh_model.proofs.Runs.{running_tells}
 use Rattle.hh_model.proofs.Tree.{not_above}
@@ -63,10 +63,10 @@ module _ (p : ProgramText) (m : State) (t : ℕ) (K : IsForkJoinState m) (R : On
 
 root_from : (p : ProgramText) (ts : List ℕ) (m : State) → IsForkJoinState m → OneRoot m.tasks → OneRoot (run_from p m ts).tasks
 root_from p [] m K R = R
-root_from p (t ∷ ts) m K R = root_from p ts (step p m t) (step_kept p m t K) (root_step p m t K R)
+root_from p (t ∷ ts) m K R = root_from p ts (step p m t) (step_is_fork_join_state p m t K) (root_step p m t K R)
 
 pub run_root : (p : ProgramText) (limit : ℕ) (ts : List ℕ) → OneRoot (run p limit ts).tasks
-run_root p limit ts = root_from p ts (start p limit) (start_kept p limit) first
+run_root p limit ts = root_from p ts (start p limit) (start_is_fork_join_state p limit) first
   where
     first : OneRoot (start p limit).tasks
     first zero x e none = refl
@@ -108,4 +108,4 @@ module _ (m : State) (K : IsForkJoinState m) (R : OneRoot m.tasks) where
   one_root = record { only = R; none = λ x is. no_parent x is x.parent refl; above = λ t lt. above_all t t (omega arith) lt; alone = alone }
 
 pub runs_have_one_root : RunsHaveOneRoot
-runs_have_one_root p limit ts = one_root (run p limit ts) (run_kept p (start p limit) ts (start_kept p limit)) (run_root p limit ts)
+runs_have_one_root p limit ts = one_root (run p limit ts) (run_is_fork_join_state p (start p limit) ts (start_is_fork_join_state p limit)) (run_root p limit ts)

@@ -23,7 +23,7 @@ use Rattle.hh_model.specs.Tree.{IsForkJoinState}
 use Rattle.hh_model.specs.Counts.{IsWide, HasFewFields, SizesAreBounded, LimitStays}
 use Rattle.hh_model.proofs.Changes.{SetsRef, SetsInt, Freezes, IsSized}
 use Rattle.hh_model.proofs.Counts.{step_limit}
-use Rattle.hh_model.proofs.Kept.{empty_rows, no_objects, start_kept, step_kept}
+use Rattle.hh_model.proofs.ForkJoinStates.{empty_rows, no_objects, start_is_fork_join_state, step_is_fork_join_state}
 use Rattle.hh_model.proofs.Stores.{put_cases, made_cases}
 
 -- INSTRUCTIONS
@@ -255,15 +255,15 @@ module _ (p : ProgramText) (m : State) (t : ℕ) (K : IsForkJoinState m) (A : Al
 
 pub limit_from : (p : ProgramText) (m : State) (ts : List ℕ) → IsForkJoinState m → (run_from p m ts).field_limit ≡ m.field_limit
 limit_from p m [] K = refl
-limit_from p m (t ∷ ts) K = limit_from p (step p m t) ts (step_kept p m t K) ∙ step_limit p m t K
+limit_from p m (t ∷ ts) K = limit_from p (step p m t) ts (step_is_fork_join_state p m t K) ∙ step_limit p m t K
 
 pub limit_stays : LimitStays
-limit_stays p limit ts = limit_from p (start p limit) ts (start_kept p limit)
+limit_stays p limit ts = limit_from p (start p limit) ts (start_is_fork_join_state p limit)
 
 few_from : (p : ProgramText) (m : State) (ts : List ℕ) (limit : ℕ) → m.field_limit ≡ limit → IsForkJoinState m → AllWide m.tasks → FewIn limit m.store → FewIn limit (run_from p m ts).store
 few_from p m [] limit e K A F = F
 few_from p m (t ∷ ts) limit e K A F =
-    few_from p (step p m t) ts limit (step_limit p m t K ∙ e) (step_kept p m t K) (step_wide p m t A)
+    few_from p (step p m t) ts limit (step_limit p m t K ∙ e) (step_is_fork_join_state p m t K) (step_wide p m t A)
     (subst (λ k. FewIn k (step p m t).store) e (few_step p m t K A (subst (λ k. FewIn k m.store) (sym e) F)))
 
 pub sizes_are_bounded : SizesAreBounded
@@ -276,4 +276,4 @@ sizes_are_bounded p limit ts = record {
     few : FewIn (run p limit ts).field_limit (run p limit ts).store
     few =
         subst (λ k. FewIn k (run p limit ts).store) (sym (limit_stays p limit ts))
-        (few_from p (start p limit) ts limit refl (start_kept p limit) (start_wide p limit) (λ n o e. absurd (no_objects n.task n.count o e)))
+        (few_from p (start p limit) ts limit refl (start_is_fork_join_state p limit) (start_wide p limit) (λ n o e. absurd (no_objects n.task n.count o e)))

@@ -23,7 +23,7 @@ use Rattle.hh_model.specs.Step.{runs, waits, is_over, result_in, is_running, par
 use Rattle.hh_model.proofs.Changes.{Change, Changes, StopsAt, effect_changes}
 use Rattle.hh_model.proofs.Carried.{in_from_named, named_from_in, in_set_cases, at_in, next_name, Carries, effect_carries}
 use Rattle.hh_model.proofs.Runs.{running_tells, ended_tells}
-use Rattle.hh_model.proofs.Kept.{IsForkJoinState}
+use Rattle.hh_model.proofs.ForkJoinStates.{IsForkJoinState}
 
 pub runs_is : (s : Status) → runs s ≡ true → s ≡ Running
 runs_is Running h = refl

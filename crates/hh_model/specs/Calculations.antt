@@ -12,8 +12,8 @@ use Rattle.hh_model.specs.Effect.{Goes, Setting, calculated, effect, int_in}
 use Rattle.hh_model.specs.Machine.{MachineValue, advanced}
 use Rattle.hh_model.specs.Step.{can_step, fetched}
 
--- the instruction sets a register of its frame or the place where that goes on: one by an operator does where that gives a
--- number, so not where it divides by 0
+-- the instruction sets a register of its frame or the place where that goes on: one by an operator does where that
+-- gives a number, so not where it divides by 0
 abbrev pub is_calculation : Frame → Instr → Bool
 is_calculation f (Set d k) = true
 is_calculation f (Mov d a) = true

@@ -12,8 +12,8 @@ use Rattle.hh_model.specs.Tree.{IsForkJoinState}
 
 -- TASKS, OBJECTS AND JOINS
 
--- after k steps there are at most two tasks for each and the first one, a row of the store for each task, and at most one
--- object in a row and one join of a task for each step
+-- after k steps there are at most two tasks for each and the first one, a row of the store for each task, and at most
+-- one object in a row and one join of a task for each step
 pub record Counted (k : ℕ) (tasks : List Task) (store : List (List Object)) : Type 0 where
   pub made : length tasks ≤ 2 * k + 1
   pub rows : length store ≡ length tasks

@@ -79,8 +79,8 @@ abbrev pub flag : Bool → ℤ
 flag true = pos 1
 flag false = pos 0
 
--- what an operator gives, or none where it divides by 0. A quotient is rounded toward zero; the least number by -1 gives
--- the least number again, and the remainder 0
+-- what an operator gives, or none where it divides by 0. A quotient is rounded toward zero; the least number by -1
+-- gives the least number again, and the remainder 0
 abbrev pub calculated : Operator → ℤ → ℤ → Option ℤ
 calculated Add x y = Some (int_wrapping_add w64 x y)
 calculated Sub x y = Some (int_wrapping_sub w64 x y)
@@ -147,8 +147,8 @@ read_effect s f store d None = Goes (onward (with_ref f d None)) store
 read_effect s f store d (Some n) =
     or_trap Nil (object_at store n) (λ o. if precedes s.edges o.strand s.strand then Goes (onward (with_ref f d (Some n))) store else Stops n)
 
--- a compare and swap at a field of an object that may be written: where the field is what is expected it becomes the new
--- reference, and d is 1; else d is 0
+-- a compare and swap at a field of an object that may be written: where the field is what is expected it becomes the
+-- new reference, and d is 1; else d is 0
 abbrev pub swap_effect : Frame → List (List Object) → ℕ → ℕ → ℕ → Name → ℕ → Object → Effect
 swap_effect f store d e v n at x =
     if same_name (option_flatten (slice_get x.refs at)) (ref_in f e)

@@ -19,8 +19,8 @@ pub record EndsDone (before : State) (e : End) (m : State) : Type 0 where
   pub running : is_running (Some root) ≡ true
   pub ended : unended m ≡ with_task before 0 (ended_task root (result_of root.top))
 
--- the steps of a run that ended: some after which it went on, the one that ended it, and others that changed nothing. That one
--- changed nothing but the end, by a trap or a stopped read, or the root ended by it
+-- the steps of a run that ended: some after which it went on, the one that ended it, and others that changed nothing.
+-- That one changed nothing but the end, by a trap or a stopped read, or the root ended by it
 pub record IsEnded (p : ProgramText) (limit : ℕ) (ts : List ℕ) (e : End) : Type 0 where
   pub before : List ℕ
   pub last : ℕ

@@ -29,7 +29,8 @@ abbrev pub registers : List Frame → List Name
 registers [] = []
 registers (f ∷ fs) = named f.refs ++ registers fs
 
--- what a task holds: its frames' registers while it runs or waits, its result once it has ended, nothing once it has joined
+-- what a task holds: its frames' registers while it runs or waits, its result once it has ended, nothing once it has
+-- joined
 abbrev pub names_from : Status → List Frame → List Name
 names_from Running frames = registers frames
 names_from Waiting frames = registers frames

@@ -11,8 +11,8 @@ use Rattle.hh_model.specs.Step.{fetched, run}
 abbrev pub HasNext : ProgramText → Frame → Type 0
 HasNext p f = (line : Line) × (fetched p f ≡ Some line)
 
--- in every run of a program each frame of each task has a next instruction; for a task that has ended it is the return by
--- which it did. So a step of a task that can take one is never for want of an instruction
+-- in every run of a program each frame of each task has a next instruction; for a task that has ended it is the return
+-- by which it did. So a step of a task that can take one is never for want of an instruction
 abbrev pub AlwaysNext : Type 0
 AlwaysNext =
     (p : ProgramText) (limit : ℕ) (ts : List ℕ) (t : ℕ) (x : Task) (f : Frame)

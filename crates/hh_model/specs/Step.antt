@@ -179,8 +179,8 @@ resumed p l r = record p {
 abbrev pub joined_task : Task → Task
 joined_task x = record x { status = Joined }
 
--- both children of the task p have ended, the left one l and the right one after it: they join p, and the last strand of
--- each has an edge to the new strand of p
+-- both children of the task p have ended, the left one l and the right one after it: they join p, and the last strand
+-- of each has an edge to the new strand of p
 abbrev pub join_of : State → ℕ → Task → ℕ → Task → Task → ℤ × Option Name → ℤ × Option Name → State
 join_of m p x l left right lr rr = record m {
   tasks = slice_set (slice_set (slice_set m.tasks l (joined_task left)) (l + 1) (joined_task right)) p (resumed x lr rr);

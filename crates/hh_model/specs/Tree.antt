@@ -24,7 +24,8 @@ joins_of (Some x) = x.joins
 abbrev pub joins_in : List Task → ℕ → ℕ
 joins_in tasks t = joins_of (slice_get tasks t)
 
--- THE TREE, over plain functions of a task's number: its parent, whether it has joined or waits, and how often it was joined
+-- THE TREE, over plain functions of a task's number: its parent, whether it has joined or waits, and how often it was
+-- joined
 
 -- a parent's number is below its child's
 abbrev pub AreLow : (ℕ → Option ℕ) → Type 0
@@ -61,7 +62,8 @@ TreeOf tasks edges = Tree (length tasks) (parents tasks) (joined tasks) (waiting
 abbrev pub StoreOf : ℕ → (ℕ → ℕ) → List (List Object) → Type 0
 StoreOf n js store = (m : Name) (o : Object) → object_at store m ≡ Some o → (o.strand.task ≡ m.task) × Known n js o.strand
 
--- the tasks stand in a tree, the edges are those of its forks and joins, and each object was made at a strand that was begun
+-- the tasks stand in a tree, the edges are those of its forks and joins, and each object was made at a strand of its
+-- task that was begun
 pub record IsForkJoinStateIn (tasks : List Task) (edges : List Edge) (store : List (List Object)) : Type 0 where
   pub tree : TreeOf tasks edges
   pub store_of : StoreOf (length tasks) (joins_in tasks) store
@@ -69,8 +71,8 @@ pub record IsForkJoinStateIn (tasks : List Task) (edges : List Edge) (store : Li
 abbrev pub IsForkJoinState : State → Type 0
 IsForkJoinState m = IsForkJoinStateIn m.tasks m.edges m.store
 
-abbrev pub RunsAreSound : Type 0
-RunsAreSound = (p : ProgramText) (limit : ℕ) (ts : List ℕ) → IsForkJoinState (run p limit ts)
+abbrev pub RunsAreForkJoinStates : Type 0
+RunsAreForkJoinStates = (p : ProgramText) (limit : ℕ) (ts : List ℕ) → IsForkJoinState (run p limit ts)
 
 abbrev pub StepsKeep : Type 0
 StepsKeep = (p : ProgramText) (m : State) (t : ℕ) → IsForkJoinState m → IsForkJoinState (step p m t)

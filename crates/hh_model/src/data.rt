@@ -2,8 +2,8 @@
 
 use listed::Listed;
 
-/// Where an object was allocated: its task, and how many objects that task had allocated before. Names are ordered by task,
-/// then by count.
+/// Where an object was allocated: its task, and how many objects that task had allocated before. Names are ordered by
+/// task, then by count.
 #[derive(Clone, Copy, PartialEq, Eq, PartialOrd, Ord, Hash)]
 pub struct Name {
     pub task: u32,

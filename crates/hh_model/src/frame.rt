@@ -36,7 +36,8 @@ impl Frame {
         self.refs[register.index()] = value;
     }
 
-    /// The words that an instruction allocates, where it allocates: two for the header and the name, and one for each field.
+    /// The words that an instruction allocates, where it allocates: two for the header and the name, and one for each
+    /// field.
     pub fn asked(&self, field_limit: u32, instr: Instr) -> Option<usize>
         ensures { result ≡ words_asked field_limit self.now instr }
     {

@@ -47,8 +47,8 @@ impl MarkingRoom {
         }
     }
 
-    // The room of these lists and this table, emptied by what was put in. One with places for more than 1,048,576 objects
-    // is let go, and another is made that takes no memory.
+    // The room of these lists and this table, emptied by what was put in. One with places for more than 1,048,576
+    // objects is let go, and another is made that takes no memory.
     pub(crate) fn emptied(found: Vec<Addr>, known: HashSet<Addr>, left: Vec<Chunk>) -> MarkingRoom
         requires { (a : Addr) → contains same_address known a ≡ has_address found.items a }
         ensures { result ≤ 2 ^ 20 }

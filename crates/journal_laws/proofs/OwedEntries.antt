@@ -15,7 +15,7 @@ use Rattle.hh_model.specs.declared.data.Task.{Task}
 use Rattle.hh_model.specs.declared.data.State.{State}
 use Rattle.hh_model.specs.Effect.{onward}
 use Rattle.hh_model.specs.Step.{waits, is_waiting, child, joined_task, resumed, ended_task, result_of, step, can_step, asked, strand_of}
-use Rattle.hh_model.proofs.Kept.{IsForkJoinState}
+use Rattle.hh_model.proofs.ForkJoinStates.{IsForkJoinState}
 use Rattle.hh_model.proofs.Steps.{step_cases}
 use Rattle.hh_model.proofs.Runs.{grown_at, grown_other, three_top, three_left, three_right, three_other, below}
 use Rattle.run_ledger.specs.declared.data.Heap.{Heap}

@@ -62,7 +62,7 @@ use Rattle.shared_value.proofs.HeapForms.{reserved_none}
 use Rattle.shared_value.proofs.PartFitsMachine as link
 use Rattle.shared_value.proofs.UnitsMeasured.{all_kept, measured_both, measured_new, part_kept, taken_keeps}
 use Rattle.shared_value.proofs.BeforeTheEnd.{stands_now, used_now}
-use Rattle.shared_value.proofs.StepsEntered.{fits_now, belongings_is, status}
+use Rattle.shared_value.proofs.StepsEntered.{fits_now, belongings_stand, status}
 use Rattle.shared_value.proofs.HeapForms.{places_form}
 use Rattle.shared_value.proofs.HeapLaidOut.{some_units}
 use Rattle.leaf_collections.proofs.MoreChunksRead.{units_some, chunk_begun, chunk_held, chunk_large, chunk_since, chunk_with, grown_counted, in_more, large_more, none_in, objects_more}
@@ -285,7 +285,7 @@ module _ (w : SharedValue) (k : ℕ) (p : Private) (I : IsSharedValue w) (F : Fi
     here' = at_belongings v' t (belongings_of_part Q)
 
     H : BelongingsStand before (rested l t) t
-    H = belongings_is w k P I F on
+    H = belongings_stand w k P I F on
 
     counted_then : IsCounted g (more there.0)
     counted_then = grown_counted p.heap there.0 F.form.shaped (subst (IsCounted p.heap) (ap or_fresh there.1) (counted_is w k P I F on)) number slots spare words u sized

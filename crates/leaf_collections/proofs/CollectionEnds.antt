@@ -152,7 +152,7 @@ module _ (w : SharedValue) (k : ℕ) (p : Private) (moved : Moved) (I : IsShared
           let f : s.field < length Q.object.refs = Q.field in
           let n = ap length refs in
           record {
-            place = record { home = own l Q.name; good = Q.rests; owner = Q.place.chunk; rest = r; is = q; birth = o.birth; born = born };
+            place = record { task = own l Q.name; good = Q.rests; owner = Q.place.chunk; rest = r; is = q; birth = o.birth; born = born };
             field = omega (arith, f, long, n);
           }
 

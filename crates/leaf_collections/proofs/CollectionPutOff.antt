@@ -46,7 +46,7 @@ use Rattle.shared_value.proofs.NothingMoves.{quiet_others, quiet_own, quiet_worl
 use Rattle.shared_value.proofs.UnitsMeasured.{all_kept}
 use Rattle.shared_value.proofs.BeforeTheEnd.{stands_now, used_now}
 use Rattle.shared_value.proofs.CausesTold.{on_is, refused_is}
-use Rattle.shared_value.proofs.StepsEntered.{fits_now, belongings_is}
+use Rattle.shared_value.proofs.StepsEntered.{fits_now, belongings_stand}
 use Rattle.leaf_collections.proofs.WhyNotDue.{due_is}
 
 -- WHY IT IS REFUSED
@@ -170,7 +170,7 @@ module _ (w : SharedValue) (k : ℕ) (p : Private) (I : IsSharedValue w) (F : Fi
   here' = at_belongings v t (belongings_of_part Q)
 
   H : BelongingsStand before (rested l t) t
-  H = belongings_is w k P I F on
+  H = belongings_stand w k P I F on
 
   account_same : heap_of (rested L t) t ≡ counted_anew (heap_of (rested l t) t)
   account_same =

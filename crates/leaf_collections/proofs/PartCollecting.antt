@@ -51,7 +51,7 @@ use Rattle.shared_value.proofs.FreeChunks.{take_is}
 use Rattle.shared_value.proofs.NothingMoves.{quiet_own}
 use Rattle.shared_value.proofs.PartFitsMachine as link
 use Rattle.shared_value.proofs.UnitsMeasured.{all_taken_units, measured_kept}
-use Rattle.shared_value.proofs.StepsEntered.{fits_now, belongings_is, status}
+use Rattle.shared_value.proofs.StepsEntered.{fits_now, belongings_stand, status}
 use Rattle.shared_value.proofs.RootsByAccounts.{are_roots}
 use Rattle.leaf_collections.proofs.WhyNoCollection.{begin_idle}
 use Rattle.leaf_collections.proofs.CollectionBegins as first
@@ -137,7 +137,7 @@ module _ (w : SharedValue) (k : ℕ) (p : Private) (I : IsSharedValue w) (F : Fi
     here' = at_belongings v' t (belongings_of_part Q)
 
     H : BelongingsStand before (rested l t) t
-    H = belongings_is w k P I F on
+    H = belongings_stand w k P I F on
 
     account_same : heap_of (rested L t) t ≡ begun_with (heap_of (rested l t) t)
     account_same =

@@ -1,4 +1,5 @@
--- Private steps of a task come to the same before and after what others do: the task, its heap's account and its objects.
+-- Private steps of a task come to the same before and after what others do: the task, its heap's account and its
+-- objects.
 use Rattle.std.proofs.Common.{◌≡◌, ℕ, zero, suc, pos, ◌+◌, ◌==◌, ◌&&◌, ◌||◌, ◌<◌, not, Bool, true, false, cond, Option, Some, None, List, [], ◌∷◌, ◌++◌, length, slice_get, slice_set, replicate, ◌⊎◌, inl, inr, refl, ap, ap₂, sym, subst, ◌∙◌, arith, is_none, nat_lt, length-set}
 use Rattle.std.specs.Option.{option_flatten}
 use Rattle.std.proofs.lemmas.Bool.{false≢true, and_parts, and_from, eqb-true, eq-eqb, cases_eq, or_cases, or_left, or_right, not-true}
@@ -24,7 +25,7 @@ use Rattle.hh_model.specs.Precedence.{precedes}
 use Rattle.hh_model.specs.Store.{IsStored}
 use Rattle.hh_model.specs.Step.{strand_of, is_on_path, setting, fetched, step, follow, returned_to, last_of, front_of, back_in, entry_frame, with_task, ended_by, can_step, goes_on, is_running, is_joined, is_over, frame_limit, owner_of, parents, joined, runs, asked, asked_by, asked_line}
 use Rattle.hh_model.proofs.Carried.{at_in, named_from_in}
-use Rattle.hh_model.proofs.Kept.{seen}
+use Rattle.hh_model.proofs.ForkJoinStates.{seen}
 use Rattle.hh_model.proofs.Steps.{runs_is, names_run, in_registers}
 use Rattle.path_laws.proofs.Objects.{put_here}
 use Rattle.path_laws.proofs.FreeReads.{own_reads}
@@ -148,7 +149,8 @@ module _ (l l' : Ledger) (u : ℕ) (x : Task) (K : Knows l) (K' : Knows l') (A :
     mine : (r : Option Name) → owns m.tasks u r ≡ true → (n : Name) → r ≡ Some n → own l n ≡ u
     mine r h n e = eqb-true (owner_of m.tasks n.task) u (ap (owns m.tasks u) (sym e) ∙ h)
 
-    -- a read that goes on by the one account goes on by the other: whose owner stands on the path by the one does so by the other
+    -- a read that goes on by the one account goes on by the other: whose owner stands on the path by the one does so by
+    -- the other
     stopped : (n : Name) (e' : Effect) → Good (Stops n) e'
     stopped n e' h = absurd (false≢true h)
 

@@ -10,7 +10,7 @@ use Rattle.run_ledger.specs.declared.data.Ledger.{Ledger}
 use Rattle.run_ledger.specs.Sound.{SoundLedger}
 use Rattle.hh_model.specs.Closed.{Closed}
 use Rattle.hh_model.proofs.Counts.{start_counted, rows_from}
-use Rattle.hh_model.proofs.Kept.{start_kept}
+use Rattle.hh_model.proofs.ForkJoinStates.{start_is_fork_join_state}
 use Rattle.path_laws.proofs.Stored.{run_stored}
 use Rattle.run_ledger.specs.Journals.{ledger_of, is_legal, tasks_of}
 use Rattle.run_ledger.proofs.Journals.{legal_sound}
@@ -23,7 +23,7 @@ legal_knows p s journal legal =
     record {
       sound = legal_sound p s journal legal;
       stored = subst (λ (m : State). Closed m.tasks m.store (IsStored m)) (sym e) (run_stored p (field_limit s.version) (tasks_of journal));
-      rows = subst (λ (m : State). length m.store ≡ length m.tasks) (sym e) (rows_from p (start p (field_limit s.version)) (tasks_of journal) 0 (start_kept p (field_limit s.version)) (start_counted p (field_limit s.version)));
+      rows = subst (λ (m : State). length m.store ≡ length m.tasks) (sym e) (rows_from p (start p (field_limit s.version)) (tasks_of journal) 0 (start_is_fork_join_state p (field_limit s.version)) (start_counted p (field_limit s.version)));
     }
 
 -- of any accounts whose machine is that of a run
@@ -31,5 +31,5 @@ pub run_knows : (p : ProgramText) (limit : ℕ) (ts : List ℕ) (l : Ledger) →
 run_knows p limit ts l S e = record {
   sound = S;
   stored = subst (λ (m : State). Closed m.tasks m.store (IsStored m)) (sym e) (run_stored p limit ts);
-  rows = subst (λ (m : State). length m.store ≡ length m.tasks) (sym e) (rows_from p (start p limit) ts 0 (start_kept p limit) (start_counted p limit));
+  rows = subst (λ (m : State). length m.store ≡ length m.tasks) (sym e) (rows_from p (start p limit) ts 0 (start_is_fork_join_state p limit) (start_counted p limit));
 }

@@ -26,7 +26,7 @@ use Rattle.hh_model.specs.Effect.{with_int, Effect, Goes, Prints, Calls, Forks, 
 use Rattle.hh_model.specs.Precedence.{precedes}
 use Rattle.hh_model.specs.Step.{entry_frame, setting, fetched, step, follow, returned_to, last_return, child_ended_by, or_same, last_of, ended_by, with_task, can_step, depth_limit, frame_limit, owner_of, owner_in, path_in, parents, parent_of, resumed, joined, is_running, is_waiting, is_joined, is_over, is_left, sibling, result_at, result_in, result_of, ended_task, join_of, joined_task, child, strand, strand_of, edge, runs, waits, asked, asked_by, asked_line}
 use Rattle.hh_model.proofs.Closed.{asked_at, waits_is}
-use Rattle.hh_model.proofs.Kept.{IsForkJoinState, step_kept}
+use Rattle.hh_model.proofs.ForkJoinStates.{IsForkJoinState, step_is_fork_join_state}
 use Rattle.path_laws.proofs.Objects.{put_here}
 use Rattle.path_laws.proofs.Leaves.{can_going}
 use Rattle.hh_model.proofs.Runs.{grown_at, three_left, three_right, running_tells, ended_tells, wp, parr}
@@ -461,7 +461,7 @@ module _ (p : ProgramText) (l : Ledger) (t : ℕ) (x : Task) (line : Line) (K : 
     fork_by true e h =
         let none = ap (words_asked m.field_limit x.top) il in
         let is : k ≡ at_fork (stepped_by l mf) t = then_ none mf e ∙ moves mf waiting_task going at_mf in
-        let kept : IsForkJoinState mf = subst IsForkJoinState e (step_kept p m t K.sound.kept) in
+        let kept : IsForkJoinState mf = subst IsForkJoinState e (step_is_fork_join_state p m t K.sound.kept) in
         let F : ForksTask l (at_fork (stepped_by l mf) t) t (length m.tasks) (length m.tasks + 1) g f x = fork_is l t x g f (l.steps + 1) new_edges I.task I.runs K.sound K.rows kept.tree.low in
         let names : within (stepped_by l mf) t ≡ within (rested l t) t = fork_names l t x g f (l.steps + 1) new_edges I.task I.runs K.sound K.rows kept.tree.low ∙ sym (within_rested l t t) in
         let r : (G : ForksTask (rested l t) k t (length m.tasks) (length m.tasks + 1) g f x) × (G.names ≡ within (rested l t) t) =

@@ -16,7 +16,7 @@ use Rattle.run_ledger.specs.Sound.{SoundLedger}
 abbrev pub own : Ledger → Name → ℕ
 own l n = owner_of l.machine.tasks n.task
 
--- no worker holds the task: its home is in the value
+-- no worker holds the task: its belongings are in the value
 abbrev pub Rests : Ledger → ℕ → Type 0
 Rests l t = (heap_of l t).worker ≡ None
 

@@ -18,7 +18,7 @@ use Rattle.hh_model.specs.declared.data.State.{State}
 use Rattle.hh_model.specs.Effect.{Goes, Setting, effect}
 use Rattle.hh_model.specs.Step.{is_running, is_joined, runs, is_over, waits, result_in, is_waiting, can_step, goes_on, setting, follow, fetched, step, start, parent_of}
 use Rattle.model_laws.specs.Winner.{after, IsTurn}
-use Rattle.hh_model.proofs.Kept.{IsForkJoinState, start_kept, run_kept}
+use Rattle.hh_model.proofs.ForkJoinStates.{IsForkJoinState, start_is_fork_join_state, run_is_fork_join_state}
 use Rattle.hh_model.proofs.Runs.{running_tells, ended_tells}
 use Rattle.hh_model.proofs.Taken.{step_taken, step_idle, can_runs}
 use Rattle.model_laws.proofs.Winner.{run_next, run_past}
@@ -47,7 +47,7 @@ module _ (p : ProgramText) (limit : ℕ) (ts : List ℕ) where
   at i = after p limit ts i
 
   pub kept_at : (i : ℕ) → IsForkJoinState (at i)
-  kept_at i = run_kept p (start p limit) (take i ts) (start_kept p limit)
+  kept_at i = run_is_fork_join_state p (start p limit) (take i ts) (start_is_fork_join_state p limit)
 
   pub at_next : (i u : ℕ) → slice_get ts i ≡ Some u → at (suc i) ≡ step p (at i) u
   at_next i u e = run_next p (start p limit) ts i u e
@@ -143,7 +143,8 @@ module _ (p : ProgramText) (limit : ℕ) (ts : List ℕ) where
 
   -- A FRAME ON TOP
 
-  -- the frame a is on top of its running task after i steps: it is f, those frames wait below, and the task lies that deep
+  -- the frame a is on top of its running task after i steps: it is f, those frames wait below, and the task lies that
+  -- deep
   pub record OnTop (a : Activation) (bs : List Frame) (d i : ℕ) (f : Frame) : Type 0 where
     pub x : Task
     pub is : slice_get (at i).tasks a.task ≡ Some x

@@ -19,7 +19,7 @@ use Rattle.hh_model.specs.Precedence.{Precedes, precedes}
 use Rattle.hh_model.specs.Step.{can_step, ended_by, ended_task, follow, goes_on, is_running, joined, owner_of, parents, result_of, run, setting, start, step, strand_of}
 use Rattle.hh_model.specs.Tree.{IsForkJoinState, waiting, joins_in}
 use Rattle.path_laws.specs.ReadLaws.{IsDecided, IsRead, IsStopped, ReadsAreDecided, ReadsNext, StopsAreReads, StopsRead}
-use Rattle.hh_model.proofs.Kept.{run_kept, start_kept}
+use Rattle.hh_model.proofs.ForkJoinStates.{run_is_fork_join_state, start_is_fork_join_state}
 use Rattle.hh_model.proofs.Steps.{Halts, step_cases}
 use Rattle.hh_model.proofs.Taken.{step_taken}
 use Rattle.hh_model.proofs.Tree.{owner_not_joined}
@@ -81,7 +81,7 @@ module _ (p : ProgramText) (m : State) (K : IsForkJoinState m) (going : m.end �
   decided = decided_by (precedes m.edges o.strand (strand_of t x)) refl
 
 pub reads_are_decided : ReadsAreDecided
-reads_are_decided p limit ts t x d n o going R = decided p (run p limit ts) (run_kept p (start p limit) ts (start_kept p limit)) going t x d n o R
+reads_are_decided p limit ts t x d n o going R = decided p (run p limit ts) (run_is_fork_join_state p (start p limit) ts (start_is_fork_join_state p limit)) going t x d n o R
 
 -- STOPS
 
@@ -144,4 +144,4 @@ module _ (p : ProgramText) (m : State) (t : ℕ) (K : IsForkJoinState m) (going 
       (λ parent l xp xl xr rl rr ip il ir pl left dl dr wl wr nl nr side reader owner q. same m refl reader owner q)
 
 pub stops_are_reads : StopsAreReads
-stops_are_reads p limit ts t reader owner going h = stopped_step p (run p limit ts) t (run_kept p (start p limit) ts (start_kept p limit)) going reader owner h
+stops_are_reads p limit ts t reader owner going h = stopped_step p (run p limit ts) t (run_is_fork_join_state p (start p limit) ts (start_is_fork_join_state p limit)) going reader owner h

@@ -20,7 +20,7 @@ use Rattle.hh_model.specs.Store.{IsWriteTo, IsNext, StaysAs}
 use Rattle.model_laws.specs.Winner.{Field, FieldHolds, MayWrite, after, IsCas, expects, brings, Yields, OnlyFromNil, IsUntried, OneWinner}
 use Rattle.hh_model.proofs.Stores.{put_cases, made_cases}
 use Rattle.hh_model.proofs.Changes.{WritesField}
-use Rattle.hh_model.proofs.Kept.{IsForkJoinState, start_kept, run_kept, empty_rows, no_objects}
+use Rattle.hh_model.proofs.ForkJoinStates.{IsForkJoinState, start_is_fork_join_state, run_is_fork_join_state, empty_rows, no_objects}
 use Rattle.path_laws.proofs.Objects.{made_stays, put_here, put_other, rows_stay, same_stays, stays_on, object_later}
 use Rattle.hh_model.proofs.Steps.{Alters, step_cases}
 use Rattle.hh_model.proofs.Taken.{step_taken, step_idle}
@@ -263,7 +263,7 @@ module _ (p : ProgramText) (limit : ℕ) (ts : List ℕ) (field : Field) (only :
   At i = after p limit ts i
 
   kept : (i : ℕ) → IsForkJoinState (At i)
-  kept i = run_kept p (start p limit) (take i ts) (start_kept p limit)
+  kept i = run_is_fork_join_state p (start p limit) (take i ts) (start_is_fork_join_state p limit)
 
   -- the next moment comes by a step, or by none
   module _ (i : ℕ) (C : State → Type 0) (idle : C (At i)) (taken : (t : ℕ) → slice_get ts i ≡ Some t → can_step (At i) t ≡ true → C (step p (At i) t)) where

@@ -93,13 +93,13 @@ module _ (p : ProgramText) (limit : ℕ) (ts : List ℕ) where
     -- from the first one on the field holds what that one brought
     pub keeps : (i j : ℕ) (c : IsCas field i) → IsUntried field i → i < j → FieldHolds (after p limit ts j) field (brings field i c)
 
--- ONE WINNER: for every list of steps and every reference field that no putr writes, and which each cas would set from nil
--- to an object
+-- ONE WINNER: for every list of steps and every reference field that no putr writes, and which each cas would set from
+-- nil to an object
 abbrev pub OneWinner : Type 0
 OneWinner = (p : ProgramText) (limit : ℕ) (ts : List ℕ) (field : Field) → OnlyFromNil p limit ts field → HasOneWinner p limit ts field
 
--- SOME CAS WINS: so the law speaks of something. There is a run in which no putr is taken on a field, and each cas on it would set it
--- from nil to an object, with two of them, by two tasks: the first yields 1 and the second 0
+-- SOME CAS WINS: so the law speaks of something. There is a run in which no putr is taken on a field, and each cas on
+-- it would set it from nil to an object, with two of them, by two tasks: the first yields 1 and the second 0
 abbrev pub SomeCasWins : Type 0
 SomeCasWins =
     (p : ProgramText) × (limit : ℕ) × (ts : List ℕ) × (field : Field) × OnlyFromNil p limit ts field × (i : ℕ) × (j : ℕ) × (c : IsCas p limit ts field i) × (d : IsCas p limit ts field j)

@@ -5,7 +5,7 @@ ghost use Rattle.path_laws.specs.ReadLaws.{ReadsAreDecided, StopsAreReads};
 ghost use Rattle.model_laws.specs.Winner.{OneWinner, SomeCasWins};
 ghost use Rattle.hh_model.specs.NextLaw.{AlwaysNext, PacksAreFew};
 ghost use Rattle.hh_model.specs.Store.{TasksAreNumbered};
-ghost use Rattle.hh_model.specs.Tree.{RunsAreSound, StepsKeep, RunsHaveOneRoot};
+ghost use Rattle.hh_model.specs.Tree.{RunsAreForkJoinStates, StepsKeep, RunsHaveOneRoot};
 ghost use Rattle.hh_model.specs.Counts.{RunsAreCounted, StepsCount, SizesAreBounded, LimitStays};
 ghost use Rattle.model_laws.specs.Turns.{RunsGoOn, StepsAreTaken};
 ghost use Rattle.hh_model.specs.Ends.{EndsAreSteps, RunningIsARun};
@@ -20,7 +20,8 @@ pub fn tasks_are_numbered()
     ensures { TasksAreNumbered }
 {}
 
-/// Of the compare and swaps that would set a field from nil, the first yields 1 and all others 0; the field keeps its value.
+/// Of the compare and swaps that would set a field from nil, the first yields 1 and all others 0; the field keeps its
+/// value.
 pub fn one_winner()
     ensures { OneWinner }
 {}
@@ -35,9 +36,10 @@ pub fn always_next()
     ensures { AlwaysNext }
 {}
 
-/// Every run keeps the tree of tasks: parents below children, waiting tasks above those that haven't joined, and precedence as paths.
-pub fn runs_are_sound()
-    ensures { RunsAreSound }
+/// Every run keeps the tree of tasks: parents below children, waiting tasks above those that haven't joined, and
+/// precedence as paths.
+pub fn runs_are_fork_join_states()
+    ensures { RunsAreForkJoinStates }
 {}
 
 /// So does every step.
@@ -50,7 +52,8 @@ pub fn runs_have_one_root()
     ensures { RunsHaveOneRoot }
 {}
 
-/// After so many steps there are at most two tasks for each and the first one, a row of objects for each task, and at most one object in a row for each step.
+/// After so many steps there are at most two tasks for each and the first one, a row of objects for each task, and at
+/// most one object in a row for each step.
 pub fn runs_are_counted()
     ensures { RunsAreCounted }
 {}
@@ -60,7 +63,8 @@ pub fn steps_count()
     ensures { StepsCount }
 {}
 
-/// Each frame has 16 registers of each kind, and each object at most the larger of the limit and 16 fields of each kind.
+/// Each frame has 16 registers of each kind, and each object at most the larger of the limit and 16 fields of each
+/// kind.
 pub fn sizes_are_bounded()
     ensures { SizesAreBounded }
 {}
@@ -90,7 +94,8 @@ pub fn running_is_a_run()
     ensures { RunningIsARun }
 {}
 
-/// A read goes on exactly where the strand of what it reads precedes the reader's, and is stopped exactly where it doesn't; a stop changes nothing but the end.
+/// A read goes on exactly where the strand of what it reads precedes the reader's, and is stopped exactly where it
+/// doesn't; a stop changes nothing but the end.
 pub fn reads_are_decided()
     ensures { ReadsAreDecided }
 {}

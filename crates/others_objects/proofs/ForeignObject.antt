@@ -44,7 +44,7 @@ reads_name at None (Some m) n h e = absurd h
 reads_name at (Some a) None n h e = absurd h
 reads_name at (Some a) (Some m) n h e = (a, refl, subst (λ z. at z a) (same_Some m n e) h)
 
--- the belongings of who rests have the chunks of its heap
+-- the belongings of a task at rest have the chunks of its heap
 rest_chunks : (r : Rest) (x : Work) → (belongings_by r.heap r.view r.allocations x).chunks ≡ chunks_of r.heap.chunks
 rest_chunks r (Calls s) = refl
 rest_chunks r (Result k b) = refl

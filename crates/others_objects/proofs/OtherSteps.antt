@@ -19,7 +19,7 @@ use Rattle.hh_model.specs.Step.{can_step, fetched, follow, goes_on, is_running, 
 use Rattle.hh_model.specs.Store.{IsStored}
 use Rattle.hh_model.specs.Closed.{Closed}
 use Rattle.hh_model.proofs.Carried.{at_in, named_from_in}
-use Rattle.hh_model.proofs.Kept.{seen}
+use Rattle.hh_model.proofs.ForkJoinStates.{seen}
 use Rattle.path_laws.proofs.Stored.{run_stored}
 use Rattle.hh_model.proofs.Taken.{step_taken}
 use Rattle.run_ledger.specs.declared.data.Ledger.{Ledger}

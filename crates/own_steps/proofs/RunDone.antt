@@ -112,7 +112,7 @@ module _ (w : SharedValue) (k : ℕ) (p : Private) (I : IsSharedValue w) (F : Fi
   S0 : StandsFor v (tree_counts_of w) l
   S0 = stands_now w I (last.on w k p I F shared free)
 
-  -- ---- THE BELONGINGS THAT ARE HANDED BACK
+  -- ---- THE REST THAT IS HANDED BACK
   abbrev rest : Rest
   rest = ended_rest p
 

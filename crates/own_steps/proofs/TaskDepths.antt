@@ -12,7 +12,7 @@ use Rattle.hh_model.specs.declared.data.Task.{Task}
 use Rattle.hh_model.specs.Step.{parent_of, parents, run, run_from, start, step}
 use Rattle.hh_model.specs.Store.{MakesChildren, TasksStay}
 use Rattle.hh_model.specs.Tree.{AreLow, IsForkJoinState}
-use Rattle.hh_model.proofs.Kept.{start_kept, step_kept}
+use Rattle.hh_model.proofs.ForkJoinStates.{start_is_fork_join_state, step_is_fork_join_state}
 use Rattle.hh_model.proofs.Numbers.{numbered}
 use Rattle.heap_tree.specs.Walk.{depth_by, depth_in, through}
 
@@ -89,10 +89,10 @@ module _ (p : ProgramText) (m : State) (t : ℕ) (K : IsForkJoinState m) (D : Ar
 
 deep_from : (p : ProgramText) (ts : List ℕ) (m : State) → IsForkJoinState m → AreDeep m.tasks → AreDeep (run_from p m ts).tasks
 deep_from p [] m K D = D
-deep_from p (t ∷ ts) m K D = deep_from p ts (step p m t) (step_kept p m t K) (deep_step p m t K D)
+deep_from p (t ∷ ts) m K D = deep_from p ts (step p m t) (step_is_fork_join_state p m t K) (deep_step p m t K D)
 
 pub run_deep : (p : ProgramText) (limit : ℕ) (ts : List ℕ) → AreDeep (run p limit ts).tasks
-run_deep p limit ts = deep_from p ts (start p limit) (start_kept p limit) (record { root = first; child = none })
+run_deep p limit ts = deep_from p ts (start p limit) (start_is_fork_join_state p limit) (record { root = first; child = none })
   where
     first : (u : ℕ) (x : Task) → slice_get (start p limit).tasks u ≡ Some x → x.parent ≡ None → x.depth ≡ 0
     first zero x e n = ap (λ (k : Task). k.depth) (sym (same_Some _ x e))

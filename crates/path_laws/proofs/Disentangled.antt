@@ -16,7 +16,7 @@ use Rattle.hh_model.specs.Step.{waits, is_over, is_running, is_waiting, is_joine
 use Rattle.hh_model.proofs.Paths.{AreLow, path_child, path_itself, path_same, owner_same, owner_live, owner_le, owner_joins, on_one_path, path_parent}
 use Rattle.hh_model.proofs.Carried.{in_from_named, next_name}
 use Rattle.hh_model.proofs.Runs.{running_tells, grown_length, grown_view, grown_view_front, grown_left, grown_right, fork_tree, three_length, three_view, three_left, three_right, parl, parr, below, dp, drest}
-use Rattle.hh_model.proofs.Kept.{IsForkJoinState, seen}
+use Rattle.hh_model.proofs.ForkJoinStates.{IsForkJoinState, seen}
 use Rattle.hh_model.proofs.Steps.{Drawn, Put, runs_is, names_run, register_cases, step_cases}
 use Rattle.hh_model.proofs.Closed.{waits_is, refs_grown, grown_cases, three_cases, joined_names, resumed_names}
 pub use Rattle.path_laws.specs.Paths.{OnePath}

@@ -23,7 +23,7 @@ use Rattle.hh_model.proofs.Paths.{path_itself}
 use Rattle.hh_model.proofs.Carried.{named_from_in, at_in}
 use Rattle.hh_model.proofs.Runs.{waiting, joins_in, running_tells}
 use Rattle.hh_model.proofs.Tree.{not_above, owner_not_joined}
-use Rattle.hh_model.proofs.Kept.{IsForkJoinState, seen, start_kept, run_kept, step_kept}
+use Rattle.hh_model.proofs.ForkJoinStates.{IsForkJoinState, seen, start_is_fork_join_state, run_is_fork_join_state, step_is_fork_join_state}
 use Rattle.hh_model.proofs.Closed.{Closed}
 use Rattle.path_laws.proofs.Disentangled.{Disentangled, OnePath, disentangled_step, start_disentangled}
 use Rattle.path_laws.proofs.Stored.{run_stored}
@@ -31,10 +31,10 @@ use Rattle.hh_model.proofs.Steps.{Halts, step_cases, names_run, runs_is, in_regi
 
 disentangled_from : (p : ProgramText) (m : State) (ts : List ℕ) → IsForkJoinState m → Disentangled m.tasks m.store → Disentangled (run_from p m ts).tasks (run_from p m ts).store
 disentangled_from p m [] K I = I
-disentangled_from p m (t ∷ ts) K I = disentangled_from p (step p m t) ts (step_kept p m t K) (disentangled_step p m t K I)
+disentangled_from p m (t ∷ ts) K I = disentangled_from p (step p m t) ts (step_is_fork_join_state p m t K) (disentangled_step p m t K I)
 
 pub run_disentangled : (p : ProgramText) (limit : ℕ) (ts : List ℕ) → Disentangled (run p limit ts).tasks (run p limit ts).store
-run_disentangled p limit ts = disentangled_from p (start p limit) ts (start_kept p limit) (start_disentangled p limit)
+run_disentangled p limit ts = disentangled_from p (start p limit) ts (start_is_fork_join_state p limit) (start_disentangled p limit)
 
 module _ (m : State) (K : IsForkJoinState m) (t : ℕ) (x : Task) (is : slice_get m.tasks t ≡ Some x) (run' : is_running (Some x) ≡ true) where
   live : joined m.tasks t ≡ false
@@ -86,7 +86,7 @@ module _ (m : State) (K : IsForkJoinState m) (I : Disentangled m.tasks m.store) 
 
 pub own_reads_go : OwnReadsGo
 own_reads_go p limit ts t x n o H own =
-    own_reads (run p limit ts) (run_kept p (start p limit) ts (start_kept p limit)) (run_disentangled p limit ts) (run_stored p limit ts) t x H.task H.running n o
+    own_reads (run p limit ts) (run_is_fork_join_state p (start p limit) ts (start_is_fork_join_state p limit)) (run_disentangled p limit ts) (run_stored p limit ts) t x H.task H.running n o
     (in_from_contains (task_names x) n H.name) H.object own
 
 module _ (p : ProgramText) (m : State) (t : ℕ) (K : IsForkJoinState m) where
@@ -141,7 +141,7 @@ module _ (p : ProgramText) (m : State) (t : ℕ) (K : IsForkJoinState m) where
 
 pub stops_name_owners : StopsNameOwners
 stops_name_owners p limit ts t reader owner none h =
-    elim (named_stop p (run p limit ts) t (run_kept p (start p limit) ts (start_kept p limit)) reader owner h) [
+    elim (named_stop p (run p limit ts) t (run_is_fork_join_state p (start p limit) ts (start_is_fork_join_state p limit)) reader owner h) [
       | inl was ↦ none_some (sym none ∙ was)
       | inr stop ↦ stop
     ]

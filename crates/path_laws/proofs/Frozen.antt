@@ -16,7 +16,7 @@ use Rattle.hh_model.proofs.Stores.{put_cases, made_cases}
 use Rattle.hh_model.proofs.Carried.{named_from_in}
 use Rattle.hh_model.proofs.Changes.{SetsRef, SetsInt, Freezes}
 use Rattle.hh_model.proofs.Runs.{running_tells}
-use Rattle.hh_model.proofs.Kept.{IsForkJoinState, start_kept, step_kept, run_kept, empty_rows}
+use Rattle.hh_model.proofs.ForkJoinStates.{IsForkJoinState, start_is_fork_join_state, step_is_fork_join_state, run_is_fork_join_state, empty_rows}
 use Rattle.path_laws.proofs.Disentangled.{Disentangled, OnePath, disentangled_step, start_disentangled, no_refs, up_forked, up_joined}
 use Rattle.path_laws.proofs.Stored.{run_stored}
 use Rattle.path_laws.proofs.FreeReads.{up_from, reads_freely, run_disentangled}
@@ -101,18 +101,18 @@ module _ (p : ProgramText) (m : State) (t : ℕ) (K : IsForkJoinState m) (I : Di
 upward_from : (p : ProgramText) (m : State) (ts : List ℕ) → IsForkJoinState m → Disentangled m.tasks m.store → Upward (parents m.tasks) (joined m.tasks) m.store
     → Upward (parents (run_from p m ts).tasks) (joined (run_from p m ts).tasks) (run_from p m ts).store
 upward_from p m [] K I U = U
-upward_from p m (t ∷ ts) K I U = upward_from p (step p m t) ts (step_kept p m t K) (disentangled_step p m t K I) (upward_step p m t K I U)
+upward_from p m (t ∷ ts) K I U = upward_from p (step p m t) ts (step_is_fork_join_state p m t K) (disentangled_step p m t K I) (upward_step p m t K I U)
 
 no_objects_yet : (p : ProgramText) (limit : ℕ) → Upward (parents (start p limit).tasks) (joined (start p limit).tasks) (start p limit).store
 no_objects_yet p limit k r o at f h = absurd (no_refs k.task k.count r (subst (λ w. In (refs_of w) r) (sym at) (named_from_in o.refs r h)))
 
 pub run_upward : (p : ProgramText) (limit : ℕ) (ts : List ℕ) → Upward (parents (run p limit ts).tasks) (joined (run p limit ts).tasks) (run p limit ts).store
-run_upward p limit ts = upward_from p (start p limit) ts (start_kept p limit) (start_disentangled p limit) (no_objects_yet p limit)
+run_upward p limit ts = upward_from p (start p limit) ts (start_is_fork_join_state p limit) (start_disentangled p limit) (no_objects_yet p limit)
 
 pub frozen_reads_go : FrozenReadsGo
 frozen_reads_go p limit ts t x n o H frozen =
     let m = run p limit ts in
-    let K = run_kept p (start p limit) ts (start_kept p limit) in
+    let K = run_is_fork_join_state p (start p limit) ts (start_is_fork_join_state p limit) in
     let I = run_disentangled p limit ts in
     let own = (I.of_task t x n H.task (in_from_contains (task_names x) n H.name)).1 in
     reads_freely m K I (run_stored p limit ts) t x H.task H.running n o (o, H.object) H.object

@@ -17,7 +17,7 @@ use Rattle.path_laws.specs.Disentangled.{Disentangled}
 use Rattle.path_laws.specs.Leaves.{LeavesOwner, StepsLeaveOwners, StepsWaitAlone, WaitsAlone}
 use Rattle.hh_model.proofs.Closed.{grown_cases, three_cases, waits_is}
 use Rattle.path_laws.proofs.FreeReads.{run_disentangled}
-use Rattle.hh_model.proofs.Kept.{run_kept, start_kept}
+use Rattle.hh_model.proofs.ForkJoinStates.{run_is_fork_join_state, start_is_fork_join_state}
 use Rattle.hh_model.proofs.Paths.{owner_joins, owner_live, owner_same}
 use Rattle.hh_model.proofs.Root.{runs_tell}
 use Rattle.hh_model.proofs.Runs.{running_tells, grown_other, grown_view, grown_view_front, fork_tree, three_left, three_right, three_other, three_view, parl, parr, below, dp, drest, wp}
@@ -221,7 +221,7 @@ module _ (p : ProgramText) (m : State) (t : ℕ) (K : IsForkJoinState m) (D : Di
       (λ parent l xp xl xr rl rr ip il ir pl left dl dr wl wr nl nr side. joins parent l xp xl xr rl rr ip il ir pl left dl dr wl wr side _ refl refl)
 
 pub steps_leave_owners : StepsLeaveOwners
-steps_leave_owners p limit ts t u ne run_u = leaves_owner p (run p limit ts) t (run_kept p (start p limit) ts (start_kept p limit)) (run_disentangled p limit ts) u ne run_u
+steps_leave_owners p limit ts t u ne run_u = leaves_owner p (run p limit ts) t (run_is_fork_join_state p (start p limit) ts (start_is_fork_join_state p limit)) (run_disentangled p limit ts) u ne run_u
 
 -- WAITING
 
@@ -298,4 +298,4 @@ module _ (p : ProgramText) (m : State) (t : ℕ) (K : IsForkJoinState m) where
   waits_alone = record { others = λ u ne. waited u ne; own = waits_on }
 
 pub steps_wait_alone : StepsWaitAlone
-steps_wait_alone p limit ts t = waits_alone p (run p limit ts) t (run_kept p (start p limit) ts (start_kept p limit))
+steps_wait_alone p limit ts t = waits_alone p (run p limit ts) t (run_is_fork_join_state p (start p limit) ts (start_is_fork_join_state p limit))

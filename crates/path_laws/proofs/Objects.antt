@@ -13,7 +13,7 @@ use Rattle.hh_model.specs.Step.{step, run, run_from, start, setting}
 use Rattle.hh_model.specs.Store.{IsWriteTo, WritesNext, StaysAs, NothingLeaves, ObjectsStay, OutputsGrow}
 use Rattle.hh_model.proofs.Stores.{in_row}
 use Rattle.hh_model.proofs.Changes.{SetsRef, SetsInt, Freezes}
-use Rattle.hh_model.proofs.Kept.{IsForkJoinState, start_kept, run_kept, step_kept}
+use Rattle.hh_model.proofs.ForkJoinStates.{IsForkJoinState, start_is_fork_join_state, run_is_fork_join_state, step_is_fork_join_state}
 use Rattle.hh_model.proofs.Steps.{Alters, step_cases}
 
 -- an object after another one was made
@@ -128,25 +128,25 @@ module _ (p : ProgramText) (m : State) (t : ℕ) (K : IsForkJoinState m) where
       same = ([], sym (append-nil m.outputs))
 
 pub nothing_leaves : NothingLeaves
-nothing_leaves p limit ts t n o is = object_later p (run p limit ts) t (run_kept p (start p limit) ts (start_kept p limit)) n o is
+nothing_leaves p limit ts t n o is = object_later p (run p limit ts) t (run_is_fork_join_state p (start p limit) ts (start_is_fork_join_state p limit)) n o is
 
 objects_from : (p : ProgramText) (m : State) (more : List ℕ) (n : Name) (o : Object) → IsForkJoinState m → object_at m.store n ≡ Some o
     → (new : Object) × (object_at (run_from p m more).store n ≡ Some new) × StaysAs o new
 objects_from p m [] n o K is = (o, is, same_stays o)
 objects_from p m (t ∷ more) n o K is =
     let l = object_later p m t K n o is in
-    let r = objects_from p (step p m t) more n l.0 (step_kept p m t K) l.1 in
+    let r = objects_from p (step p m t) more n l.0 (step_is_fork_join_state p m t K) l.1 in
     (r.0, r.1, stays_on o l.0 r.0 l.2 r.2)
 
 pub objects_stay : ObjectsStay
-objects_stay p limit ts more n o is = objects_from p (run p limit ts) more n o (run_kept p (start p limit) ts (start_kept p limit)) is
+objects_stay p limit ts more n o is = objects_from p (run p limit ts) more n o (run_is_fork_join_state p (start p limit) ts (start_is_fork_join_state p limit)) is
 
 outputs_from : (p : ProgramText) (m : State) (more : List ℕ) → IsForkJoinState m → (outs : List ℤ) × ((run_from p m more).outputs ≡ m.outputs ++ outs)
 outputs_from p m [] K = ([], sym (append-nil m.outputs))
 outputs_from p m (t ∷ more) K =
     let l = outputs_later p m t K in
-    let r = outputs_from p (step p m t) more (step_kept p m t K) in
+    let r = outputs_from p (step p m t) more (step_is_fork_join_state p m t K) in
     (l.0 ++ r.0, r.1 ∙ (ap (λ os. os ++ r.0) l.1 ∙ append_assoc m.outputs l.0 r.0))
 
 pub outputs_grow : OutputsGrow
-outputs_grow p limit ts more = outputs_from p (run p limit ts) more (run_kept p (start p limit) ts (start_kept p limit))
+outputs_grow p limit ts more = outputs_from p (run p limit ts) more (run_is_fork_join_state p (start p limit) ts (start_is_fork_join_state p limit))

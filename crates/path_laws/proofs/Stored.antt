@@ -20,7 +20,7 @@ use Rattle.hh_model.specs.Step.{setting, fetched, step, follow, root, start, run
 use Rattle.hh_model.specs.Store.{IsStored, NamesAreStored}
 use Rattle.hh_model.proofs.Stores.{put_cases, made_cases}
 use Rattle.hh_model.proofs.Carried.{named_from_in, next_name}
-use Rattle.hh_model.proofs.Kept.{IsForkJoinState, start_kept, step_kept, empty_rows}
+use Rattle.hh_model.proofs.ForkJoinStates.{IsForkJoinState, start_is_fork_join_state, step_is_fork_join_state, empty_rows}
 use Rattle.hh_model.proofs.Steps.{Alters, step_cases}
 use Rattle.hh_model.proofs.Closed.{Closed, closed_step, asked_at}
 use Rattle.path_laws.proofs.Disentangled.{no_refs}
@@ -124,7 +124,7 @@ module _ (p : ProgramText) (m : State) (t : ℕ) (K : IsForkJoinState m) (rows :
 
 stored_from : (p : ProgramText) (m : State) (ts : List ℕ) (k : ℕ) → IsForkJoinState m → Counted k m.tasks m.store → Closed m.tasks m.store (IsStored m) → Closed (run_from p m ts).tasks (run_from p m ts).store (IsStored (run_from p m ts))
 stored_from p m [] k K I C = C
-stored_from p m (t ∷ ts) k K I C = stored_from p (step p m t) ts (suc k) (step_kept p m t K) (counted_step p m t K k I) (stored_step p m t K I.rows C)
+stored_from p m (t ∷ ts) k K I C = stored_from p (step p m t) ts (suc k) (step_is_fork_join_state p m t K) (counted_step p m t K k I) (stored_step p m t K I.rows C)
 
 start_stored : (p : ProgramText) (limit : ℕ) → Closed (start p limit).tasks (start p limit).store (IsStored (start p limit))
 start_stored p limit = record { of_task = no_names; of_object = λ n r s h. absurd (no_refs n.task n.count r h) }
@@ -134,7 +134,7 @@ start_stored p limit = record { of_task = no_names; of_object = λ n r s h. absu
     no_names (suc u) x r e h = absurd cc
 
 pub run_stored : (p : ProgramText) (limit : ℕ) (ts : List ℕ) → Closed (run p limit ts).tasks (run p limit ts).store (IsStored (run p limit ts))
-run_stored p limit ts = stored_from p (start p limit) ts 0 (start_kept p limit) (start_counted p limit) (start_stored p limit)
+run_stored p limit ts = stored_from p (start p limit) ts 0 (start_is_fork_join_state p limit) (start_counted p limit) (start_stored p limit)
 
 pub names_are_stored : NamesAreStored
 names_are_stored p limit ts = record {

@@ -15,7 +15,7 @@ use Rattle.hh_lang.specs.Form.{ProgramText}
 use Rattle.hh_model.specs.declared.data.Edge.{Edge}
 use Rattle.hh_model.specs.Precedence.{Precedes, precedes}
 use Rattle.hh_model.specs.Step.{run, start}
-use Rattle.hh_model.proofs.Kept.{IsForkJoinState, run_kept, start_kept}
+use Rattle.hh_model.proofs.ForkJoinStates.{IsForkJoinState, run_is_fork_join_state, start_is_fork_join_state}
 use Rattle.race_report.specs.declared.data.Field.{Field}
 use Rattle.race_report.specs.declared.data.Access.{Access}
 use Rattle.race_report.specs.declared.data.Race.{Race}
@@ -95,7 +95,7 @@ module _ (sight : Sight) (p : ProgramText) (limit : ℕ) (ts : List ℕ) where
   ss = seen sight p limit ts
 
   K : IsForkJoinState (start p limit)
-  K = start_kept p limit
+  K = start_is_fork_join_state p limit
 
   mapped : map (λ (v : Seen). v.access) ss ≡ all
   mapped = seen_accesses sight p (start p limit) ts
@@ -103,7 +103,7 @@ module _ (sight : Sight) (p : ProgramText) (limit : ℕ) (ts : List ℕ) where
   tells : (i j : ℕ) (u v : Seen) → i < j → slice_get ss i ≡ Some u → slice_get ss j ≡ Some v → (label_precedes u.label v.label ≡ true → Precedes edges u.access.strand v.access.strand) × (Precedes edges u.access.strand v.access.strand → label_precedes u.label v.label ≡ true)
   tells i j u v lt eu ev =
       let e = seen_tells sight p (start p limit) K ts u v i j lt eu ev in
-      let right = (run_kept p (start p limit) ts K).tree.right u.access.strand v.access.strand in
+      let right = (run_is_fork_join_state p (start p limit) ts K).tree.right u.access.strand v.access.strand in
       ((λ h. right.0 (sym e ∙ h)), (λ w. e ∙ right.1 w))
 
   race_from : (q : Key) (i j : ℕ) (u v : Seen) → Clash q ss i j u v → RaceAt edges all v.access.field i j u.access v.access
@@ -204,9 +204,9 @@ race_places (Found x ∷ ws) (suc i) (suc j) r s lt e e' = let k = race_places w
 -- accesses of one strand precede the same later ones
 strands_tell : (sight : Sight) (p : ProgramText) (limit : ℕ) (ts : List ℕ) → StrandsTell (seen sight p limit ts)
 strands_tell sight p limit ts i k j u w v li lk eu ew ev same =
-    seen_tells sight p (start p limit) (start_kept p limit) ts u v i j li eu ev
+    seen_tells sight p (start p limit) (start_is_fork_join_state p limit) ts u v i j li eu ev
     ∙ ap (λ s. precedes (run p limit ts).edges s v.access.strand) same
-    ∙ sym (seen_tells sight p (start p limit) (start_kept p limit) ts w v k j lk ew ev)
+    ∙ sym (seen_tells sight p (start p limit) (start_is_fork_join_state p limit) ts w v k j lk ew ev)
 
 module _ (sight : Sight) (p : ProgramText) (limit : ℕ) (ts : List ℕ) (kept : BTreeMap Key Watch) (ordered : tree.IsOrdered key_cmp kept)
     (is : (q : Key) → tree.get key_cmp kept q ≡ kept_from q None (seen sight p limit ts)) where

@@ -11,7 +11,7 @@ use Rattle.hh_model.specs.declared.data.State.{State}
 use Rattle.hh_model.specs.declared.data.Status.TheVariants.{Running, Waiting}
 use Rattle.hh_model.specs.Effect.{onward}
 use Rattle.hh_model.specs.Step.{child, edge, parent_of, parents, ended_task, is_left, is_running, joined_task, result_of, resumed, run_from, start, step, strand, strand_of, waits}
-use Rattle.hh_model.proofs.Kept.{IsForkJoinState, start_kept, step_kept}
+use Rattle.hh_model.proofs.ForkJoinStates.{IsForkJoinState, start_is_fork_join_state, step_is_fork_join_state}
 use Rattle.hh_model.proofs.Steps.{runs_is, step_cases}
 use Rattle.renaming_laws.specs.PlaceLaw.{PlacesAreNames}
 use Rattle.renaming_laws.specs.Places.{IsPlace, Place}
@@ -250,7 +250,7 @@ step_forks p m t K F =
 
 run_forks : (p : ProgramText) (m : State) (ts : List ℕ) → IsForkJoinState m → Forks m.tasks m.edges → Forks (run_from p m ts).tasks (run_from p m ts).edges
 run_forks p m [] K F = F
-run_forks p m (t ∷ ts) K F = run_forks p (step p m t) ts (step_kept p m t K) (step_forks p m t K F)
+run_forks p m (t ∷ ts) K F = run_forks p (step p m t) ts (step_is_fork_join_state p m t K) (step_forks p m t K F)
 
 start_forks : (p : ProgramText) (limit : ℕ) → Forks (start p limit).tasks (start p limit).edges
 start_forks p limit = record {
@@ -306,7 +306,7 @@ module _ (tasks : List Task) (edges : List Edge) (F : Forks tasks edges) where
 
 pub places_are_names : PlacesAreNames
 places_are_names p limit ts =
-    let F = run_forks p (start p limit) ts (start_kept p limit) (start_forks p limit) in
+    let F = run_forks p (start p limit) ts (start_is_fork_join_state p limit) (start_forks p limit) in
     let m = run_from p (start p limit) ts in record {
       each = λ t lt. each_by m.tasks m.edges F (length m.tasks) t lt lt;
       one = one_place m.tasks m.edges F;

@@ -8,7 +8,7 @@ use Rattle.hh_model.specs.Effect.{onward}
 use Rattle.hh_model.specs.Step.{child, ended_task, joined_task, result_of, resumed, run_from, start, step}
 use Rattle.hh_model.specs.Tree.{IsForkJoinState}
 use Rattle.hh_model.proofs.Counts.{counted_step, run_counted, start_counted}
-use Rattle.hh_model.proofs.Kept.{run_kept, start_kept, step_kept}
+use Rattle.hh_model.proofs.ForkJoinStates.{run_is_fork_join_state, start_is_fork_join_state, step_is_fork_join_state}
 use Rattle.hh_model.proofs.Steps.{step_cases}
 use Rattle.renaming_laws.specs.Alike.{AreAlike}
 use Rattle.renaming_laws.specs.Laws.{RunsAreCarried, StepsAreCarried}
@@ -33,22 +33,22 @@ step_grows p m t K =
 
 pub run_grows : (p : ProgramText) (m : State) (ts : List ℕ) → IsForkJoinState m → length m.tasks ≤ length (run_from p m ts).tasks
 run_grows p m [] K = omega arith
-run_grows p m (t ∷ ts) K = let a = step_grows p m t K in let b = run_grows p (step p m t) ts (step_kept p m t K) in omega arith
+run_grows p m (t ∷ ts) K = let a = step_grows p m t K in let b = run_grows p (step p m t) ts (step_is_fork_join_state p m t K) in omega arith
 
 pub run_to : (p : ProgramText) (n : ℕ) (f g : ℕ → ℕ) → IsRenaming n f g → (more : List ℕ) (m m' : State) (k k' : ℕ) → IsForkJoinState m → IsForkJoinState m' → Counted k m.tasks m.store → Counted k' m'.tasks m'.store
     → n ≤ length m.tasks → AreAlike f m m' → AreAlike f (run_from p m more) (run_from p m' (map f more))
 run_to p n f g R [] m m' k k' K K' I I' made A = A
 run_to p n f g R (t ∷ more) m m' k k' K K' I I' made A =
     let up = step_grows p m t K in
-    run_to p n f g R more (step p m t) (step p m' (f t)) (suc k) (suc k') (step_kept p m t K) (step_kept p m' (f t) K') (counted_step p m t K k I) (counted_step p m' (f t) K' k' I') (omega arith)
+    run_to p n f g R more (step p m t) (step p m' (f t)) (suc k) (suc k') (step_is_fork_join_state p m t K) (step_is_fork_join_state p m' (f t) K') (counted_step p m t K k I) (counted_step p m' (f t) K' k' I') (omega arith)
     (step_to p n f g R m m' K K' I.rows I'.rows made A t)
 
 module _ (p : ProgramText) (limit : ℕ) (ts : List ℕ) where
   pub kept_here : IsForkJoinState (run_from p (start p limit) ts)
-  kept_here = run_kept p (start p limit) ts (start_kept p limit)
+  kept_here = run_is_fork_join_state p (start p limit) ts (start_is_fork_join_state p limit)
 
   pub counted_here : Counted (length ts) (run_from p (start p limit) ts).tasks (run_from p (start p limit) ts).store
-  counted_here = run_counted p (start p limit) ts 0 (start_kept p limit) (start_counted p limit) (length ts) (omega arith)
+  counted_here = run_counted p (start p limit) ts 0 (start_is_fork_join_state p limit) (start_counted p limit) (length ts) (omega arith)
 
 pub steps_are_carried : StepsAreCarried
 steps_are_carried p n limit f g ts us t R made A =

@@ -1,5 +1,5 @@
--- The chunks of heaps: what a leaf collection took, where room comes from, what waits for a large object, and how many are
--- in use.
+-- The chunks of heaps: what a leaf collection took, where room comes from, what waits for a large object, and how many
+-- are in use.
 use Rattle.std.proofs.Common.{◌≡◌, ℕ, zero, suc, ◌+◌, ◌-◌, ◌*◌, ◌<◌, ◌≤◌, ◌==◌, ◌||◌, not, max, Bool, true, false, cond, Option, Some, None, List, [], ◌∷◌, ◌++◌, length, slice_get, slice_set, sum_by, nat_lt, inl, inr, refl, ap, ap₂, sym, subst, ◌∙◌, arith, is_some, length-append}
 use Rattle.std.proofs.lemmas.Bool.{false≢true, both_ways, cases_eq, ltb-false, eqb-true, cases_lt}
 use Rattle.std.proofs.lemmas.List.Sums.{sum_by-append, sum_by-cons}
@@ -15,7 +15,7 @@ use Rattle.hh_model.specs.declared.data.State.{State}
 use Rattle.hh_model.specs.Effect.{onward}
 use Rattle.hh_model.specs.Step.{runs, is_running, child, joined_task, resumed, ended_task, result_of, step, can_step, asked, asked_by, asked_line, fetched}
 use Rattle.hh_model.proofs.Carried.{next_name}
-use Rattle.hh_model.proofs.Kept.{IsForkJoinState}
+use Rattle.hh_model.proofs.ForkJoinStates.{IsForkJoinState}
 use Rattle.hh_model.proofs.Steps.{step_cases}
 use Rattle.hh_model.proofs.Counts.{step_limit}
 use Rattle.hh_model.proofs.Runs.{waiting, grown_other, three_other, wp, below}
@@ -67,9 +67,9 @@ put_length (ns ∷ ms ∷ rest) n l = ap suc (put_length (ms ∷ rest) n (omega 
 
 -- ONE HEAP
 
--- while a leaf collection goes on it has the chunks that it takes, and none waits for a large object; where there is room
--- there is a chunk; where a chunk waits, the task's next step allocates the large object that fits, and isn't due; no list
--- has more words than a chunk, and the last one leaves the room that is there
+-- while a leaf collection goes on it has the chunks that it takes, and none waits for a large object; where there is
+-- room there is a chunk; where a chunk waits, the task's next step allocates the large object that fits, and isn't due;
+-- no list has more words than a chunk, and the last one leaves the room that is there
 pub record Booked (p : ProgramText) (s : SettingsValue) (m : State) (u : ℕ) (h : Heap) : Type 0 where
   pub begun : (c : ℕ) → h.begun ≡ Some c → (c ≡ take_of m h) × (h.reserved ≡ 0)
   pub room : 0 < h.room → 0 < length h.chunks

@@ -27,7 +27,7 @@ use Rattle.hh_model.specs.Store.{IsStored}
 use Rattle.hh_model.specs.Step.{setting, fetched, step, follow, called, returned, returned_to, last_return, child_ended_by, last_of, result_at, result_of, sibling, is_left, or_same, join_of, ended_by, can_step, is_running, asked, asked_line, frame_limit, depth_limit}
 use Rattle.hh_model.proofs.Stores.{put_cases, made_cases, in_row}
 use Rattle.hh_model.proofs.Carried.{next_name}
-use Rattle.hh_model.proofs.Kept.{IsForkJoinState, empty_rows}
+use Rattle.hh_model.proofs.ForkJoinStates.{IsForkJoinState, empty_rows}
 use Rattle.hh_model.proofs.Closed.{asked_at}
 use Rattle.path_laws.proofs.Objects.{object_later}
 use Rattle.path_laws.proofs.Stored.{made_here}

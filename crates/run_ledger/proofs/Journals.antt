@@ -12,7 +12,7 @@ use Rattle.hh_model.specs.Names.{refs_at, registers, names_from, task_names}
 use Rattle.hh_model.specs.Step.{is_over, is_running, is_waiting, is_joined, parents, joined, owner_of, is_on_path, root, start, asked}
 use Rattle.hh_model.proofs.Tree.{not_above, owner_not_joined}
 use Rattle.hh_model.proofs.Runs.{waiting, running_tells}
-use Rattle.hh_model.proofs.Kept.{start_kept}
+use Rattle.hh_model.proofs.ForkJoinStates.{start_is_fork_join_state}
 use Rattle.hh_model.proofs.Steps.{runs_is, run_names}
 use Rattle.hh_model.proofs.Closed.{Closed}
 use Rattle.path_laws.proofs.Disentangled.{start_disentangled}
@@ -212,7 +212,7 @@ root_idle p limit (suc u) w = false≢true w
 
 pub opening_sound : (p : ProgramText) (s : SettingsValue) → SoundLedger (opening p s)
 opening_sound p s = record {
-  kept = start_kept p (field_limit s.version);
+  kept = start_is_fork_join_state p (field_limit s.version);
   apart = start_disentangled p (field_limit s.version);
   lengths = refl;
   owners = λ u n i. absurd (fresh_names u n i);

@@ -20,7 +20,7 @@ use Rattle.hh_model.proofs.Paths.{owner_live, owner_le, owner_same, path_same, o
 use Rattle.hh_model.proofs.Tree.{not_above, owner_not_joined}
 use Rattle.hh_model.proofs.Carried.{next_name, named_from_in}
 use Rattle.hh_model.proofs.Runs.{waiting, running_tells, grown_length, grown_view, grown_view_front, grown_at, grown_other, wrest_fork, three_length, three_top, three_left, three_right, three_other, three_view, parl, parr, below, dp, wp, drest}
-use Rattle.hh_model.proofs.Kept.{IsForkJoinStateIn, step_kept}
+use Rattle.hh_model.proofs.ForkJoinStates.{IsForkJoinStateIn, step_is_fork_join_state}
 use Rattle.hh_model.proofs.Steps.{step_cases, runs_is, register_cases}
 use Rattle.hh_model.proofs.Closed.{Closed, closed_step, grown_cases}
 use Rattle.path_laws.proofs.Disentangled.{Disentangled, disentangled_step}
@@ -750,7 +750,7 @@ module _ (p : ProgramText) (l : Ledger) (S : SoundLedger l) (t : ℕ) (x : Task)
         edges = l.machine.edges ++ edge (strand_of t w) (strand (length tasks) 0) ∷ edge (strand_of t w) (strand (length tasks + 1) 0) ∷ [];
       })) ex (fork_case g h (subst (λ (w : Task). (r : Name) → In w.top.refs (Some r) → In (task_names w) r) (sym ex) top)))
       (λ parent c xp xl xr rl rr ip il ir pl left dl dr wl wr nl nr side. join_case parent c xp xl xr rl rr ip il ir pl left dl dr wl wr side)
-      (step_kept p m t S.kept) (disentangled_step p m t S.kept S.apart) all1 spares1
+      (step_is_fork_join_state p m t S.kept) (disentangled_step p m t S.kept S.apart) all1 spares1
 
 pub goes_tells : (o : Option End) (b : Bool) → goes_on o b ≡ true → (o ≡ None) × (b ≡ true)
 goes_tells None b h = (refl, h)

@@ -14,7 +14,7 @@ use Rattle.hh_model.specs.declared.data.State.{State}
 use Rattle.hh_model.specs.Step.{step, can_step, asked}
 use Rattle.hh_model.specs.Store.{IsStored}
 use Rattle.hh_model.proofs.Carried.{next_name}
-use Rattle.hh_model.proofs.Kept.{IsForkJoinState}
+use Rattle.hh_model.proofs.ForkJoinStates.{IsForkJoinState}
 use Rattle.hh_model.proofs.Taken.{can_made}
 use Rattle.hh_model.proofs.Counts.{Counted, counted_step, start_counted}
 use Rattle.run_ledger.specs.declared.data.Heap.{Heap}

@@ -12,7 +12,7 @@ use Rattle.hh_model.specs.Store.{IsStored}
 use Rattle.hh_model.specs.Step.{asked, can_step, run_from, start, step}
 use Rattle.hh_model.proofs.Carried.{next_name}
 use Rattle.hh_model.proofs.Counts.{counted_step, runs_are_counted}
-use Rattle.hh_model.proofs.Kept.{IsForkJoinState, run_kept, start_kept, step_kept}
+use Rattle.hh_model.proofs.ForkJoinStates.{IsForkJoinState, run_is_fork_join_state, start_is_fork_join_state, step_is_fork_join_state}
 use Rattle.hh_model.proofs.Taken.{can_made, step_idle}
 use Rattle.run_trace.specs.declared.entry.Kind.{Kind}
 use Rattle.run_trace.specs.declared.entry.Kind.TheVariants.{Took, Ran, Chunk, Begin, End, PutOff, Mark, More, Sweep, Fuel}
@@ -128,7 +128,7 @@ module _ (p : ProgramText) (t : ℕ) where
   pub steps_have : (base first k j : ℕ) (m : State) → IsForkJoinState m → Counted j m.tasks m.store → HasMore base first m → HasMore base first (run_from p m (replicate k t))
   steps_have base first zero j m K C H = H
   steps_have base first (suc k) j m K C H =
-      steps_have base first k (suc j) (step p m t) (step_kept p m t K) (counted_step p m t K j C) (step_has base first j m K C H)
+      steps_have base first k (suc j) (step p m t) (step_is_fork_join_state p m t K) (counted_step p m t K j C) (step_has base first j m K C H)
 
   at_first : (m : State) → HasMore (store_words m.store) (objects_made m t) m
   at_first m =
@@ -165,7 +165,7 @@ module _ (p : ProgramText) (s : SettingsValue) (journal : List EntryValue) (lega
   l' = after p s l e
 
   kept : IsForkJoinState l.machine
-  kept = subst IsForkJoinState (sym (machine_is_run p s journal)) (run_kept p (start p (field_limit s.version)) (tasks_of journal) (start_kept p (field_limit s.version)))
+  kept = subst IsForkJoinState (sym (machine_is_run p s journal)) (run_is_fork_join_state p (start p (field_limit s.version)) (tasks_of journal) (start_is_fork_join_state p (field_limit s.version)))
 
   counted : Counted (length (tasks_of journal)) l.machine.tasks l.machine.store
   counted = subst (λ (m : State). Counted (length (tasks_of journal)) m.tasks m.store) (sym (machine_is_run p s journal)) (runs_are_counted p (field_limit s.version) (tasks_of journal))

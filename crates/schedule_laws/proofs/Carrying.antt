@@ -16,7 +16,7 @@ use Rattle.hh_model.specs.Effect.{Effect, Goes, Prints, Calls, Forks, Returns, T
 use Rattle.hh_model.specs.Step.{can_step, fetched, setting, step, strand_of}
 use Rattle.hh_model.specs.Tree.{IsForkJoinState}
 use Rattle.hh_model.proofs.Counts.{counted_step}
-use Rattle.hh_model.proofs.Kept.{step_kept}
+use Rattle.hh_model.proofs.ForkJoinStates.{step_is_fork_join_state}
 use Rattle.race_report.specs.declared.data.Field.{Field}
 use Rattle.race_report.specs.declared.data.Access.{Access}
 use Rattle.race_report.specs.Accesses.{access, access_by, access_of, accesses_from, field_at, line_access, refs_in, swap_access, task_access, unless_trap, value_of, with_some}
@@ -139,7 +139,7 @@ module _ (p : ProgramText) (n : ℕ) (f g : ℕ → ℕ) (R : IsRenaming n f g) 
   carried [] m m' k k' K K' I I' made A = record { accesses = refl; prints = refl; turns = refl }
   carried (t ∷ ts) m m' k k' K K' I I' made A =
       let up = step_grows p m t K in
-      let rest = carried ts (step p m t) (step p m' (f t)) (suc k) (suc k') (step_kept p m t K) (step_kept p m' (f t) K') (counted_step p m t K k I) (counted_step p m' (f t) K' k' I') (omega arith)
+      let rest = carried ts (step p m t) (step p m' (f t)) (suc k) (suc k') (step_is_fork_join_state p m t K) (step_is_fork_join_state p m' (f t) K') (counted_step p m t K k I) (counted_step p m' (f t) K' k' I') (omega arith)
       (step_to p n f g R m m' K K' I.rows I'.rows made A t) in
       record {
         accesses = ap₂ with_some (access_to_there m m' K K' I.rows I'.rows made A t) rest.accesses ∙ some_map (access_to f) (access_of p m t) (accesses_from p (step p m t) ts);

@@ -23,7 +23,7 @@ use Rattle.hh_model.specs.Step.{can_step, fetched, is_running, owner_of, run, ru
 use Rattle.hh_model.specs.Tree.{IsForkJoinState}
 use Rattle.hh_model.proofs.Counts.{counted_step, run_push}
 use Rattle.hh_model.proofs.EndLaws.{ended_stays}
-use Rattle.hh_model.proofs.Kept.{step_kept}
+use Rattle.hh_model.proofs.ForkJoinStates.{step_is_fork_join_state}
 use Rattle.hh_model.proofs.Root.{runs_have_one_root}
 use Rattle.hh_model.proofs.Steps.{step_cases}
 use Rattle.path_laws.proofs.Stored.{names_are_stored}
@@ -262,10 +262,10 @@ module _ (p : ProgramText) (limit : ℕ) (hs ts : List ℕ) (t u : ℕ) (two : t
     K0 = kept_here p limit hs
 
     K1 : IsForkJoinState n1
-    K1 = step_kept p n0 t K0
+    K1 = step_is_fork_join_state p n0 t K0
 
     K2 : IsForkJoinState n2
-    K2 = step_kept p n0 u K0
+    K2 = step_is_fork_join_state p n0 u K0
 
     I12 : Counted (suc (suc (length hs))) n12.tasks n12.store
     I12 = counted_step p n1 u K1 (suc (length hs)) (counted_step p n0 t K0 (length hs) (counted_here p limit hs))
@@ -274,10 +274,10 @@ module _ (p : ProgramText) (limit : ℕ) (hs ts : List ℕ) (t u : ℕ) (two : t
     I21 = counted_step p n2 t K2 (suc (length hs)) (counted_step p n0 u K0 (length hs) (counted_here p limit hs))
 
     over : AreAlike f0 (run_from p n12 F.rest) (run_from p n21 (map f0 F.rest))
-    over = run_to p (length n12.tasks) f0 f0 C0.renaming F.rest n12 n21 (suc (suc (length hs))) (suc (suc (length hs))) (step_kept p n1 u K1) (step_kept p n2 t K2) I12 I21 (omega arith) C0.alike
+    over = run_to p (length n12.tasks) f0 f0 C0.renaming F.rest n12 n21 (suc (suc (length hs))) (suc (suc (length hs))) (step_is_fork_join_state p n1 u K1) (step_is_fork_join_state p n2 t K2) I12 I21 (omega arith) C0.alike
 
     made : Carried p (length n12.tasks) f0 f0 C0.renaming n12 n21 F.rest
-    made = carried p (length n12.tasks) f0 f0 C0.renaming F.rest n12 n21 (suc (suc (length hs))) (suc (suc (length hs))) (step_kept p n1 u K1) (step_kept p n2 t K2) I12 I21 (omega arith) C0.alike
+    made = carried p (length n12.tasks) f0 f0 C0.renaming F.rest n12 n21 (suc (suc (length hs))) (suc (suc (length hs))) (step_is_fork_join_state p n1 u K1) (step_is_fork_join_state p n2 t K2) I12 I21 (omega arith) C0.alike
 
     stays : (v : ℕ) → v < length n0.tasks → j v ≡ v
     stays v lt = let grown = step_grows p n0 t K0 in ap f0 (F.old v (omega arith)) ∙ C0.old v lt
@@ -291,7 +291,7 @@ module _ (p : ProgramText) (limit : ℕ) (hs ts : List ℕ) (t u : ℕ) (two : t
 
     pub exchanged : Front p limit hs (t ∷ ts) u
     exchanged =
-        let wide : length n12.tasks ≤ length (run_from p n1 ts).tasks = omega (arith, run_grows p n12 F.rest (step_kept p n1 u K1), F.alike.count) in
+        let wide : length n12.tasks ≤ length (run_from p n1 ts).tasks = omega (arith, run_grows p n12 F.rest (step_is_fork_join_state p n1 u K1), F.alike.count) in
         record {
           rest = t ∷ map f0 F.rest;
           f = j;

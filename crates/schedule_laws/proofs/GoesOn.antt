@@ -11,7 +11,7 @@ use Rattle.hh_model.specs.declared.data.State.{State}
 use Rattle.hh_model.specs.Precedence.{Precedes}
 use Rattle.hh_model.specs.Step.{can_step, run, run_from, start, step}
 use Rattle.hh_model.proofs.Counts.{run_on, run_push}
-use Rattle.hh_model.proofs.Kept.{run_kept}
+use Rattle.hh_model.proofs.ForkJoinStates.{run_is_fork_join_state}
 use Rattle.hh_model.proofs.Taken.{step_idle, can_task}
 use Rattle.race_report.specs.declared.data.Access.{Access}
 use Rattle.race_report.specs.Accesses.{access_of, accesses_from, task_access, with_some}
@@ -101,7 +101,7 @@ every_run_goes_on p limit ts us S none =
     let all : turns_from p (start p limit) us + turns_from p m more ≡ turns_from p (start p limit) ts = sym (turns_append p (start p limit) us more) ∙ C.turned in
     let least : 1 ≤ turns_from p m more = G.some in
     let K = kept_here p limit us in
-    let K' = run_kept p m more K in
+    let K' = run_is_fork_join_state p m more K in
     let later : InOrder (run_from p m more).edges (accesses_from p (start p limit) us) =
     order_front (run_from p m more).edges (accesses_from p (start p limit) us) (accesses_from p m more)
     (subst (λ xs. InOrder (run_from p m more).edges xs) (accesses_append p (start p limit) us more) (subst (λ (w : State). InOrder w.edges (accesses_from p (start p limit) (us ++ more))) there C.order)) in

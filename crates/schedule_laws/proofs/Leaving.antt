@@ -26,7 +26,7 @@ use Rattle.hh_model.specs.Tree.{IsForkJoinState}
 use Rattle.hh_model.proofs.Carried.{at_in}
 use Rattle.hh_model.proofs.Counts.{run_push}
 use Rattle.path_laws.proofs.FreeReads.{run_disentangled}
-use Rattle.hh_model.proofs.Kept.{run_kept, start_kept}
+use Rattle.hh_model.proofs.ForkJoinStates.{run_is_fork_join_state, start_is_fork_join_state}
 use Rattle.path_laws.proofs.Stored.{names_are_stored}
 use Rattle.hh_model.proofs.Taken.{step_none, step_taken, can_task}
 use Rattle.race_report.specs.declared.data.Field.{Field}
@@ -136,7 +136,7 @@ module _ (p : ProgramText) (limit : ℕ) (ts : List ℕ) (t u : ℕ) (two : t �
   m1 = step p m t
 
   abbrev pub K : IsForkJoinState m
-  K = run_kept p (start p limit) ts (start_kept p limit)
+  K = run_is_fork_join_state p (start p limit) ts (start_is_fork_join_state p limit)
 
   abbrev pub D : Disentangled m.tasks m.store
   D = run_disentangled p limit ts

@@ -18,7 +18,7 @@ use Rattle.hh_model.specs.Store.{NamesAreStoredIn}
 use Rattle.hh_model.specs.Tree.{IsForkJoinState}
 use Rattle.hh_model.proofs.Closed.{grown_cases, three_cases}
 use Rattle.path_laws.proofs.Disentangled.{disentangled_step, start_disentangled}
-use Rattle.hh_model.proofs.Kept.{start_kept, step_kept}
+use Rattle.hh_model.proofs.ForkJoinStates.{start_is_fork_join_state, step_is_fork_join_state}
 use Rattle.hh_model.proofs.Steps.{in_registers, step_cases}
 use Rattle.renaming_laws.proofs.Runs.{step_grows}
 
@@ -89,10 +89,10 @@ module _ (p : ProgramText) (m : State) (t : ℕ) (K : IsForkJoinState m) (D : Di
 
 pub low_from : (p : ProgramText) (m : State) (ts : List ℕ) → IsForkJoinState m → Disentangled m.tasks m.store → LowIn m → LowIn (run_from p m ts)
 low_from p m [] K D L = L
-low_from p m (t ∷ ts) K D L = low_from p (step p m t) ts (step_kept p m t K) (disentangled_step p m t K D) (low_step p m t K D L)
+low_from p m (t ∷ ts) K D L = low_from p (step p m t) ts (step_is_fork_join_state p m t K) (disentangled_step p m t K D) (low_step p m t K D L)
 
 pub run_low : (p : ProgramText) (limit : ℕ) (ts : List ℕ) → LowIn (run p limit ts)
-run_low p limit ts = low_from p (start p limit) ts (start_kept p limit) (start_disentangled p limit) start_low
+run_low p limit ts = low_from p (start p limit) ts (start_is_fork_join_state p limit) (start_disentangled p limit) start_low
   where
     start_low : LowIn (start p limit)
     start_low v x is = live_low (start p limit) (start_disentangled p limit) v x is (by v is)

@@ -7,7 +7,7 @@ use Rattle.hh_model.specs.declared.data.State.{State}
 use Rattle.hh_model.specs.Precedence.{precedes}
 use Rattle.hh_model.specs.Step.{is_joined, is_waiting, joined, owner_in, parents, path_in, run, run_from, start, strand, strand_of}
 use Rattle.hh_model.specs.Tree.{joins_in, joins_of, waiting}
-use Rattle.hh_model.proofs.Kept.{IsForkJoinState, run_kept, start_kept}
+use Rattle.hh_model.proofs.ForkJoinStates.{IsForkJoinState, run_is_fork_join_state, start_is_fork_join_state}
 use Rattle.hh_model.proofs.Paths.{owner_live}
 use Rattle.hh_model.proofs.Runs.{running_tells}
 use Rattle.hh_model.proofs.Tree.{not_above}
@@ -41,7 +41,7 @@ module _ (m : State) (K : IsForkJoinState m) (t u : ℕ) (x y : Task) (two : t �
 pub running_tasks_are_apart : RunningTasksAreApart
 running_tasks_are_apart p limit ts more t u x y two R S w =
     let m = run p limit ts in
-    let K : IsForkJoinState m = run_kept p (start p limit) ts (start_kept p limit) in
-    let K' : IsForkJoinState (run_from p m more) = run_kept p m more K in
+    let K : IsForkJoinState m = run_is_fork_join_state p (start p limit) ts (start_is_fork_join_state p limit) in
+    let K' : IsForkJoinState (run_from p m more) = run_is_fork_join_state p m more K in
     let stays = (run_keeps p m more K).fixed (strand_of t x) (strand_of u y) (begun_running m u y S) in
     both_ways (precedes (run_from p m more).edges (strand_of t x) (strand_of u y)) (stays ∙ apart m K t u x y two R S) ((K'.tree.right (strand_of t x) (strand_of u y)).1 w)

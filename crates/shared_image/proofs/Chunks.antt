@@ -81,16 +81,16 @@ module _ (w : SharedValue) (I : IsSharedValue w) where
   abbrev v : Memory
   v = value_of w
 
-  belongings_rises : (n : ℕ) (r : Option Rest) → Rises Lower (objects_numbered n (belongings_in r).chunks)
-  belongings_rises n None = tt
-  belongings_rises n (Some r) = subst (λ ks. Rises Lower (objects_numbered n ks)) (sym (belongings_chunks r)) (numbered_rises n r.heap.chunks)
+  numbered_belongings_rise : (n : ℕ) (r : Option Rest) → Rises Lower (objects_numbered n (belongings_in r).chunks)
+  numbered_belongings_rise n None = tt
+  numbered_belongings_rise n (Some r) = subst (λ ks. Rises Lower (objects_numbered n ks)) (sym (belongings_chunks r)) (numbered_rises n r.heap.chunks)
 
   of_rises : (n : ℕ) → Rises Lower (objects_of w n)
   of_rises n = by (owner_of w.pool n)
     where
       idle : (t : ℕ) (b : Bool) → Rises Lower (cond b [] (objects_numbered n (v.belongings t).chunks))
       idle t true = tt
-      idle t false = belongings_rises n (rest_at w.rests t)
+      idle t false = numbered_belongings_rise n (rest_at w.rests t)
 
       by : (h : Option ℕ) → Rises Lower (objects_owned w n h)
       by None = tt

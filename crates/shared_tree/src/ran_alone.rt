@@ -4,7 +4,7 @@ ghost use Rattle.std.specs.Prelude.{◌≡◌, ◌≢◌, ◌<◌, ℕ, OnErr, O
 ghost use Rattle.hh_model.specs.Step.{ended_by, step};
 ghost use Rattle.shared_value.specs.Entered.{refused, Answers};
 ghost use Rattle.shared_value.specs.Fits.{Fits};
-ghost use Rattle.own_steps.specs.Alone.{alone_event, then_accounts, FinishesAlone, GoesAlone, HaltsAlone, IsShared, Tells};
+ghost use Rattle.own_steps.specs.Alone.{alone_event, then_accounts, GoesAlone, HaltsAlone, IsShared, Tells};
 ghost use Rattle.shared_tree.specs.Calls.{EntersLeaving};
 ghost use Rattle.shared_tree.specs.Ran.{AloneTo, MayBeEntered};
 

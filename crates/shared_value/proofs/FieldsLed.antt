@@ -1,4 +1,5 @@
--- The remembered fields of a heap are led to where its objects are now: what is read then in the heaps that no worker holds.
+-- The remembered fields of a heap are led to where its objects are now: what is read then in the heaps that no worker
+-- holds.
 use Rattle.std.proofs.Common.{◌≡◌, ℕ, ◌+◌, ◌-◌, ◌==◌, arith, Bool, true, false, cond, Option, Some, None, List, [], ◌∷◌, fold, length, map, slice_get, inl, inr, refl, ap, ap₂, sym, subst, ◌∙◌}
 use Rattle.std.specs.Option.{option_flatten, option_map}
 use Rattle.std.specs.Prelude.{slice_index_or, slice_set, unwrap_or}
@@ -37,7 +38,7 @@ use Rattle.shared_value.specs.Measured.{AreMeasured}
 use Rattle.shared_value.specs.Stands.{HeapForm}
 use Rattle.shared_value.specs.SharedValue.{belongings_by, belongings_in, belongings_of, rest_at}
 use Rattle.shared_value.proofs.CellsRead.{numbered, seen_object}
-use Rattle.shared_value.proofs.FieldsLedTogether.{AreOnce, belongings_each, belongings_stays, belongings_together, lead_at, lead_off, lead_one, none_belongings, set_itself}
+use Rattle.shared_value.proofs.FieldsLedTogether.{AreOnce, belongings_each, belongings_together, lead_at, lead_off, lead_one, mapped_belongings_stay, none_belongings, set_itself}
 use Rattle.shared_value.proofs.UnitsMeasured.{measured_written}
 use Rattle.shared_value.proofs.ObjectRewritten.{chunks_put, form_written}
 
@@ -45,11 +46,11 @@ use Rattle.shared_value.proofs.ObjectRewritten.{chunks_put, form_written}
 
 -- where a source's object is
 pub record SourceThere (H : Resting) (s : Source) (Good : ℕ → Type 0) : Type 0 where
-  pub home : ℕ
-  pub good : Good home
-  pub owner : owner_of H.pool s.object.chunk ≡ Some home
+  pub task : ℕ
+  pub good : Good task
+  pub owner : owner_of H.pool s.object.chunk ≡ Some task
   pub rest : Rest
-  pub is : rest_at H.rests home ≡ Some rest
+  pub is : rest_at H.rests task ≡ Some rest
   pub birth : Birth
   pub born : (cell_of rest.heap.chunks s.object).mark ≡ Born birth
 
@@ -136,17 +137,17 @@ module _ (ms : List (Addr × Addr)) where
         ∙ (ap (λ o. slice_index_or (refs_of_rest o s.object) s.field None) T.is ∙ ap (λ m. slice_index_or (marked_object m c).refs s.field None) T.born)
 
     -- the source's object, as it is read
-    at_source : (u : ℕ) → Good u → (o : Located) → In (objects_in (belongings_in (rest_at H.rests u)).chunks) o → o.at ≡ s.object → (u ≡ T.home) × (o.refs ≡ c.refs) × (o.mutable ≡ c.mutable) × (o.ints ≡ c.ints)
+    at_source : (u : ℕ) → Good u → (o : Located) → In (objects_in (belongings_in (rest_at H.rests u)).chunks) o → o.at ≡ s.object → (u ≡ T.task) × (o.refs ≡ c.refs) × (o.mutable ≡ c.mutable) × (o.ints ≡ c.ints)
     at_source u good o i e = by (rest_at H.rests u) refl i
       where
-        by : (q : Option Rest) → rest_at H.rests u ≡ q → In (objects_in (belongings_in q).chunks) o → (u ≡ T.home) × (o.refs ≡ c.refs) × (o.mutable ≡ c.mutable) × (o.ints ≡ c.ints)
+        by : (q : Option Rest) → rest_at H.rests u ≡ q → In (objects_in (belongings_in q).chunks) o → (u ≡ T.task) × (o.refs ≡ c.refs) × (o.mutable ≡ c.mutable) × (o.ints ≡ c.ints)
         by None h j = absurd j
         by (Some x) h j =
             let i' : In (objects_in (chunks_of x.heap.chunks)) o = subst (λ cs. In (objects_in cs) o) (belongings_chunks x) j in
             let ch = in_chunk (chunks_of x.heap.chunks) o i' in
             let k = map_in chunk_of x.heap.chunks ch.0 ch.1 in
             let number : k.0.number ≡ s.object.chunk = sym (numbered k.0.number 0 k.0.cells o (subst (λ (z : Chunk). In z.objects o) (sym k.2) ch.2)) ∙ ap (λ (z : Addr). z.chunk) e in
-            let same : u ≡ T.home = same_Some u T.home (sym (F.owned u x good h k.0 k.1) ∙ (ap (owner_of H.pool) number ∙ T.owner)) in
+            let same : u ≡ T.task = same_Some u T.task (sym (F.owned u x good h k.0 k.1) ∙ (ap (owner_of H.pool) number ∙ T.owner)) in
             let rest : x ≡ T.rest = same_Some x T.rest (sym h ∙ (ap (rest_at H.rests) same ∙ T.is)) in
             let y = seen_object x.heap.chunks o (F.form u x h).shaped.apart i' in
             let cell : cell_of x.heap.chunks o.at ≡ c = ap₂ (λ (z : Rest) (b : Addr). cell_of z.heap.chunks b) rest e in
@@ -176,7 +177,7 @@ module _ (ms : List (Addr × Addr)) where
       pool = refl;
       count = refl;
       formed = F;
-      belongings = λ u good. sym (belongings_stays (lead_one f s) (belongings_in (rest_at H.rests u)) (λ o i. by u good o i (same_address o.at s.object) refl));
+      belongings = λ u good. sym (mapped_belongings_stay (lead_one f s) (belongings_in (rest_at H.rests u)) (λ o i. by u good o i (same_address o.at s.object) refl));
       there = λ x y. y;
     }
       where
@@ -199,7 +200,7 @@ module _ (ms : List (Addr × Addr)) where
       r' = record T.rest { heap = with_ref_of T.rest.heap s.object s.field x }
 
       abbrev rests' : List (Option Rest)
-      rests' = slice_set H.rests T.home (Some r')
+      rests' = slice_set H.rests T.task (Some r')
 
       size : size_of d ≡ size_of c
       size = ap (λ n. 2 + (n + length c.ints)) (length-set c.refs s.field x)
@@ -213,80 +214,80 @@ module _ (ms : List (Addr × Addr)) where
       ]
 
       form_now : (u : ℕ) (q : Rest) → rest_at rests' u ≡ Some q → HeapForm q.heap
-      form_now u q e = elim (cases_eq u T.home) [
+      form_now u q e = elim (cases_eq u T.task) [
         | inl at ↦
-            let is' : q ≡ r' = same_Some q r' (sym e ∙ (ap (rest_at rests') at ∙ rest_set H.rests T.home T.rest r' T.is)) in
-            subst (λ (z : Rest). HeapForm z.heap) (sym is') (form_written T.rest.heap s.object d (F.form T.home T.rest T.is) refl size)
-        | inr ne ↦ F.form u q (sym (rest_off H.rests T.home u (Some r') ne) ∙ e)
+            let is' : q ≡ r' = same_Some q r' (sym e ∙ (ap (rest_at rests') at ∙ rest_set H.rests T.task T.rest r' T.is)) in
+            subst (λ (z : Rest). HeapForm z.heap) (sym is') (form_written T.rest.heap s.object d (F.form T.task T.rest T.is) refl size)
+        | inr ne ↦ F.form u q (sym (rest_off H.rests T.task u (Some r') ne) ∙ e)
       ]
 
       measured_now : (u : ℕ) (q : Rest) → Good u → rest_at rests' u ≡ Some q → AreMeasured H.pool u q.heap.chunks
-      measured_now u q good e = elim (cases_eq u T.home) [
+      measured_now u q good e = elim (cases_eq u T.task) [
         | inl at ↦
-            let is' : q ≡ r' = same_Some q r' (sym e ∙ (ap (rest_at rests') at ∙ rest_set H.rests T.home T.rest r' T.is)) in
+            let is' : q ≡ r' = same_Some q r' (sym e ∙ (ap (rest_at rests') at ∙ rest_set H.rests T.task T.rest r' T.is)) in
             subst (λ (z : Rest). AreMeasured H.pool u z.heap.chunks) (sym is') (measured_written H.pool u T.rest.heap.chunks s.object d (F.measured u T.rest good (ap (rest_at H.rests) at ∙ T.is)))
-        | inr ne ↦ F.measured u q good (sym (rest_off H.rests T.home u (Some r') ne) ∙ e)
+        | inr ne ↦ F.measured u q good (sym (rest_off H.rests T.task u (Some r') ne) ∙ e)
       ]
 
       owned_now : (u : ℕ) (q : Rest) → Good u → rest_at rests' u ≡ Some q → (k : ChunkValue) → In q.heap.chunks k → owner_of H.pool k.number ≡ Some u
-      owned_now u q good e k i = elim (cases_eq u T.home) [
+      owned_now u q good e k i = elim (cases_eq u T.task) [
         | inl at ↦
-            let is' : q ≡ r' = same_Some q r' (sym e ∙ (ap (rest_at rests') at ∙ rest_set H.rests T.home T.rest r' T.is)) in
+            let is' : q ≡ r' = same_Some q r' (sym e ∙ (ap (rest_at rests') at ∙ rest_set H.rests T.task T.rest r' T.is)) in
             let j = put_number T.rest.heap.chunks s.object d k (subst (λ (z : Rest). In z.heap.chunks k) is' i) in
             ap (owner_of H.pool) (sym j.2) ∙ F.owned u T.rest good (ap (rest_at H.rests) at ∙ T.is) j.0 j.1
-        | inr ne ↦ F.owned u q good (sym (rest_off H.rests T.home u (Some r') ne) ∙ e) k i
+        | inr ne ↦ F.owned u q good (sym (rest_off H.rests T.task u (Some r') ne) ∙ e) k i
       ]
 
-      one_is : (o : Located) → In (objects_in (belongings_in (rest_at H.rests T.home)).chunks) o → put_at s.object (with_fields d) o ≡ lead_one f s o
+      one_is : (o : Located) → In (objects_in (belongings_in (rest_at H.rests T.task)).chunks) o → put_at s.object (with_fields d) o ≡ lead_one f s o
       one_is o i = by (same_address o.at s.object) refl
         where
           by : (v : Bool) → same_address o.at s.object ≡ v → cond v (with_fields d o) o ≡ lead_one f s o
           by true e =
               let at : o.at ≡ s.object = at_is s.object o e in
-              let q = at_source T.home T.good o i at in
+              let q = at_source T.task T.good o i at in
               (λ k. record o { mutable = sym q.2 k; refs = slice_set c.refs s.field x; ints = sym q.3 k }) ∙ sym (led_there o x at q.1 is)
           by false e = sym (elsewhere o (λ at. false≢true (sym e ∙ is_at_it s.object o at)))
 
-      belongings_now_all : (u : ℕ) → Good u → belongings_in (rest_at rests' u) ≡ mapped_belongings (lead_one f s) (belongings_in (rest_at H.rests u))
-      belongings_now_all u good = elim (cases_eq u T.home) [
+      belongings_are_mapped : (u : ℕ) → Good u → belongings_in (rest_at rests' u) ≡ mapped_belongings (lead_one f s) (belongings_in (rest_at H.rests u))
+      belongings_are_mapped u good = elim (cases_eq u T.task) [
         | inl at ↦
             ap (λ z. belongings_in (rest_at rests' z)) at
-            ∙ (ap belongings_in (rest_set H.rests T.home T.rest r' T.is)
-            ∙ (belongings_written T.rest s.object s.field x T.birth (F.form T.home T.rest T.is) T.born
+            ∙ (ap belongings_in (rest_set H.rests T.task T.rest r' T.is)
+            ∙ (belongings_written T.rest s.object s.field x T.birth (F.form T.task T.rest T.is) T.born
             ∙ (ap (λ q. mapped_belongings (put_at s.object (with_fields d)) (belongings_in q)) (sym T.is)
-            ∙ (belongings_each (put_at s.object (with_fields d)) (lead_one f s) (belongings_in (rest_at H.rests T.home)) one_is ∙ ap (λ z. mapped_belongings (lead_one f s) (belongings_in (rest_at H.rests z))) (sym at)))))
+            ∙ (belongings_each (put_at s.object (with_fields d)) (lead_one f s) (belongings_in (rest_at H.rests T.task)) one_is ∙ ap (λ z. mapped_belongings (lead_one f s) (belongings_in (rest_at H.rests z))) (sym at)))))
         | inr ne ↦
-            ap belongings_in (rest_off H.rests T.home u (Some r') ne)
-            ∙ sym (belongings_stays (lead_one f s) (belongings_in (rest_at H.rests u)) (λ o i. elsewhere o (λ at. ne (at_source u good o i at).0)))
+            ap belongings_in (rest_off H.rests T.task u (Some r') ne)
+            ∙ sym (mapped_belongings_stay (lead_one f s) (belongings_in (rest_at H.rests u)) (λ o i. elsewhere o (λ at. ne (at_source u good o i at).0)))
       ]
 
       there_now : (z : Source) → SourceThere H z Good → SourceThere (record H { rests = rests' }) z Good
-      there_now z Z = elim (cases_eq Z.home T.home) [
+      there_now z Z = elim (cases_eq Z.task T.task) [
         | inl at ↦
             let same : Z.rest ≡ T.rest = same_Some Z.rest T.rest (sym Z.is ∙ (ap (rest_at H.rests) at ∙ T.is)) in
             record {
-              home = Z.home;
+              task = Z.task;
               good = Z.good;
               owner = Z.owner;
               rest = r';
-              is = ap (rest_at rests') at ∙ rest_set H.rests T.home T.rest r' T.is;
+              is = ap (rest_at rests') at ∙ rest_set H.rests T.task T.rest r' T.is;
               birth = Z.birth;
               born = mark_kept z.object ∙ (ap (λ (q : Rest). (cell_of q.heap.chunks z.object).mark) (sym same) ∙ Z.born);
             }
-        | inr ne ↦ record { home = Z.home; good = Z.good; owner = Z.owner; rest = Z.rest; is = rest_off H.rests T.home Z.home (Some r') ne ∙ Z.is; birth = Z.birth; born = Z.born }
+        | inr ne ↦ record { task = Z.task; good = Z.good; owner = Z.owner; rest = Z.rest; is = rest_off H.rests T.task Z.task (Some r') ne ∙ Z.is; birth = Z.birth; born = Z.born }
       ]
 
       changed : Stepped (record H { rests = rests' })
       changed = record {
         pool = refl;
-        count = length-set H.rests T.home (Some r');
+        count = length-set H.rests T.task (Some r');
         formed = record { form = form_now; measured = measured_now; owned = owned_now };
-        belongings = belongings_now_all;
+        belongings = belongings_are_mapped;
         there = there_now;
       }
 
       written_is : with_ref_in H s.object s.field x ≡ record H { rests = rests' }
-      written_is = ap (λ hs. record H { rests = hs }) (ap (λ o. with_ref_for H.rests o s.object s.field x) T.owner ∙ ap (λ o. with_ref_at H.rests T.home o s.object s.field x) T.is)
+      written_is = ap (λ hs. record H { rests = hs }) (ap (λ o. with_ref_for H.rests o s.object s.field x) T.owner ∙ ap (λ o. with_ref_at H.rests T.task o s.object s.field x) T.is)
 
     pub step : Stepped (redirected refs_in with_ref_in ms H s)
     step = by (target_of refs_in H s) refl (new_reference ms (target_of refs_in H s)) refl

@@ -76,8 +76,8 @@ chunks_none [] = refl
 chunks_none (k ∷ ks) = ap₂ (λ x xs. record k { objects = x } ∷ xs) (objects_same k.objects) (chunks_none ks)
 
 -- where no object changes
-pub belongings_stays : (one : Located → Located) (h : Belongings) → ((o : Located) → In (objects_in h.chunks) o → one o ≡ o) → mapped_belongings one h ≡ h
-belongings_stays one h e = belongings_each one (λ o. o) h e ∙ ap (λ ks. record h { chunks = ks }) (chunks_none h.chunks)
+pub mapped_belongings_stay : (one : Located → Located) (h : Belongings) → ((o : Located) → In (objects_in h.chunks) o → one o ≡ o) → mapped_belongings one h ≡ h
+mapped_belongings_stay one h e = belongings_each one (λ o. o) h e ∙ ap (λ ks. record h { chunks = ks }) (chunks_none h.chunks)
 
 objects_twice : (one two : Located → Located) (os : List Located) → map one (map two os) ≡ map (λ o. one (two o)) os
 objects_twice one two [] = refl
@@ -93,7 +93,7 @@ belongings_together f s ss h once =
     ∙ belongings_each (λ o. rewritten f ss (lead_one f s o)) (rewritten f (s ∷ ss)) h (λ o i. one_together f s ss o once)
 
 pub none_belongings : (f : Addr → Addr) (h : Belongings) → rewritten_belongings f [] h ≡ h
-none_belongings f h = belongings_stays (rewritten f []) h (λ o i. ap (λ rs. record o { refs = rs }) (none_rewritten f o.at 0 o.refs))
+none_belongings f h = mapped_belongings_stay (rewritten f []) h (λ o i. ap (λ rs. record o { refs = rs }) (none_rewritten f o.at 0 o.refs))
 
 -- ---- THE REFERENCES OF ONE OBJECT
 

@@ -1,5 +1,5 @@
--- What a value has for tasks that workers hold means nothing: two values that differ there alone stand for the same accounts,
--- and the same parts fit them.
+-- What a value has for tasks that workers hold means nothing: two values that differ there alone stand for the same
+-- accounts, and the same parts fit them.
 use Rattle.std.proofs.Common.{length, ◌≡◌, ℕ, true, not, Option, Some, None, slice_get, inl, inr, refl, ap, sym, subst, ◌∙◌}
 use Rattle.std.proofs.lemmas.Bool.{cases_eq, and_parts}
 use Rattle.hh_lang.specs.Form.{ProgramText}
@@ -79,7 +79,7 @@ module _ (v : Memory) (hs : ℕ → Belongings) (l : Ledger) (same : (u : ℕ) �
   module _ (waits : (u : ℕ) → is_waiting (slice_get l.machine.tasks u) ≡ true → Rests l u) where
     noted : (c : TreeCounts) → StandsFor v c l → (t : ℕ) → Rests l t → NotedAt v' l t
     noted c S t r =
-        notes_stay v v' l l t (record { keeps = refl; kept = refl; waits = refl; swept = refl; snapshot = refl; none_new = λ k e. e; frames = ap (λ (h : Belongings). h.frames) (same t r); rooted = λ b y. root_same v v' l l t (λ s i. i) (λ k e. e) b y y.rests (ap (λ (h : Belongings). objects_in h.chunks) (same y.home y.rests)) }) refl refl
+        notes_stay v v' l l t (record { keeps = refl; kept = refl; waits = refl; swept = refl; snapshot = refl; none_new = λ k e. e; frames = ap (λ (h : Belongings). h.frames) (same t r); rooted = λ b y. root_same v v' l l t (λ s i. i) (λ k e. e) b y y.rests (ap (λ (h : Belongings). objects_in h.chunks) (same y.task y.rests)) }) refl refl
         (same_whole v v' t (ap (λ (h : Belongings). objects_in h.chunks) (same t r)) (ap (λ (h : Belongings). length h.chunks) (same t r))) (record { keeps = S.keeps t; since = S.since t; marks = S.marks t })
 
     rest : (c : TreeCounts) → StandsFor v c l → (t : ℕ) → (v.noted t).keeps ≡ true → Rests l t

@@ -1,4 +1,5 @@
--- What a part knows of its accounts after its fresh steps: the words that the next step allocates, the room, the words placed.
+-- What a part knows of its accounts after its fresh steps: the words that the next step allocates, the room, the words
+-- placed.
 use Rattle.std.proofs.Common.{◌≡◌, ℕ, ◌+◌, ◌≤◌, arith, Option, Some, None, slice_get, refl, ap, ap₂, sym, subst, ◌∙◌}
 use Rattle.std.proofs.lemmas.Bool.{cond-true}
 use Rattle.std.proofs.lemmas.Option.{same_Some}
@@ -84,8 +85,8 @@ module _ (w : SharedValue) (k : ℕ) (p : Private) (I : IsSharedValue w) (F : Fi
   abbrev h : Belongings
   h = belongings_of_part p
 
-  pub belongings_is : BelongingsStand (with_belongings (value_of w) t h) L t
-  belongings_is = (link.V w k p I F on).stands.belongings t (rested_worker M t)
+  pub belongings_stand : BelongingsStand (with_belongings (value_of w) t h) L t
+  belongings_stand = (link.V w k p I F on).stands.belongings t (rested_worker M t)
 
   here : (with_belongings (value_of w) t h).belongings t ≡ h
   here = at_belongings (value_of w) t h
@@ -97,10 +98,10 @@ module _ (w : SharedValue) (k : ℕ) (p : Private) (I : IsSharedValue w) (F : Fi
       ∙ asked_same w.program p L.machine _ (link.first_fits w k p I F on)
 
   pub since_is : p.heap.since ≡ (heap_of M t).since
-  since_is = ap (λ (z : Belongings). z.since) (sym here) ∙ (belongings_is.since ∙ rested_view (λ (z : Heap). z.since) (λ z. refl) M t)
+  since_is = ap (λ (z : Belongings). z.since) (sym here) ∙ (belongings_stand.since ∙ rested_view (λ (z : Heap). z.since) (λ z. refl) M t)
 
   pub room_is : room_of p.heap ≡ (heap_of M t).room
-  room_is = ap (λ (z : Belongings). z.room) (sym here) ∙ (belongings_is.room ∙ rested_view (λ (z : Heap). z.room) (λ z. refl) M t)
+  room_is = ap (λ (z : Belongings). z.room) (sym here) ∙ (belongings_stand.room ∙ rested_view (λ (z : Heap). z.room) (λ z. refl) M t)
 
   C : IsCounted p.heap (heap_of L t)
   C = counted_now w k p I F on

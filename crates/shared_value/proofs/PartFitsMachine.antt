@@ -12,7 +12,7 @@ use Rattle.hh_model.specs.declared.data.State.{State}
 use Rattle.hh_model.specs.Effect.{object_at}
 use Rattle.hh_model.specs.Step.{is_joined, is_over, is_on_path, is_waiting, owner_of, parents, run, run_from, runs, start, waits}
 use Rattle.hh_model.proofs.Counts.{run_on}
-use Rattle.hh_model.proofs.Kept.{start_kept}
+use Rattle.hh_model.proofs.ForkJoinStates.{start_is_fork_join_state}
 use Rattle.hh_model.proofs.Paths.{path_along, path_le}
 use Rattle.hh_model.proofs.Sizes.{limit_from}
 use Rattle.run_trace.specs.Settings.{field_limit}
@@ -477,7 +477,7 @@ module _ (w : SharedValue) (k : ℕ) (p : Private) (I : IsSharedValue w) (F : Fi
   started = machine_is_run w.program w.settings w.journal.items
 
   pub limit : l.machine.field_limit ≡ field_limit w.settings.version
-  limit = ap (λ (m : State). m.field_limit) started ∙ limit_from w.program (start w.program (field_limit w.settings.version)) (tasks_of w.journal.items) (start_kept w.program (field_limit w.settings.version))
+  limit = ap (λ (m : State). m.field_limit) started ∙ limit_from w.program (start w.program (field_limit w.settings.version)) (tasks_of w.journal.items) (start_is_fork_join_state w.program (field_limit w.settings.version))
 
   reached : IsRun w.program L.machine
   reached = (

@@ -69,8 +69,8 @@ chunk_in ks number h = by (place_in ks number) refl h
     by None e h = absurd (false≢true h)
     by (Some i) e h = placed_in ks number i e
 
--- ---- A VALUE THAT STANDS, and a heap at rest with these chunks and remembered fields; heaps by whose words the objects of all other
--- heaps are read
+-- ---- A VALUE THAT STANDS, and a heap at rest with these chunks and remembered fields; heaps by whose words the
+-- objects of all other heaps are read
 module _ (v : Memory) (l : Ledger) (t : ℕ) (W : Stands v l) (at_rest : Rests l t) (ks : List ChunkValue) (here : (v.belongings t).chunks ≡ chunks_of ks) (ss : List Source) (sources_are : sources v t ≡ ss) (hs : Resting)
     (read : (u : ℕ) → (u ≡ t → ⊥) → Rests l u → (o : Located) → In (objects v u) o → refs_in hs o.at ≡ o.refs) where
   -- the owner of a resting task's object
@@ -79,12 +79,12 @@ module _ (v : Memory) (l : Ledger) (t : ℕ) (W : Stands v l) (at_rest : Rests l
       let c = in_chunk (v.belongings u).chunks o i in
       ap v.owner ((W.belongings u r).inside c.0 o c.1 c.2) ∙ (W.belongings u r).owned c.0 c.1
 
-  -- a source's object, in its home
+  -- a source's object, and the task that it belongs to
   record SourceAt (s : Source) : Type 0 where
-    home : ℕ
-    rests : Rests l home
+    task : ℕ
+    rests : Rests l task
     object : Located
-    there : In (objects v home) object
+    there : In (objects v task) object
     at : object.at ≡ s.object
     refs : refs_in hs s.object ≡ object.refs
     field : s.field < length object.refs
@@ -102,7 +102,7 @@ module _ (v : Memory) (l : Ledger) (t : ℕ) (W : Stands v l) (at_rest : Rests l
       let long : length o.refs ≡ length S.object.refs = refs_long (Place v l) o.refs c.0.refs c.2.refs ∙ ap (λ (z : Object). length z.refs) (sym same) in
       let within : s.field < length S.object.refs = S.field in
       record {
-        home = own l S.name;
+        task = own l S.name;
         rests = S.rests;
         object = o;
         there = lies.1;
@@ -156,7 +156,7 @@ module _ (v : Memory) (l : Ledger) (t : ℕ) (W : Stands v l) (at_rest : Rests l
           let is : slice_index_or A.object.refs T.0.field None ≡ Some a = ap (λ rs. slice_index_or rs T.0.field None) (sym A.refs) ∙ T.2 in
           record {
             source = T.0;
-            home = A.home;
+            task = A.task;
             object = A.object;
             rests = A.rests;
             noted = subst (λ xs. In xs T.0) (sym sources_are) T.1;
@@ -170,14 +170,14 @@ module _ (v : Memory) (l : Ledger) (t : ℕ) (W : Stands v l) (at_rest : Rests l
       from R =
           let s = R.source in
           let S : IsSource v l t R.source = W.sources t R.source R.noted in
-          let owner : own l S.name ≡ R.home = same_Some (own l S.name) R.home (sym S.place.chunk ∙ (ap (λ (z : Addr). v.owner z.chunk) (sym R.at) ∙ owner_at R.home R.rests R.object R.there)) in
+          let owner : own l S.name ≡ R.task = same_Some (own l S.name) R.task (sym S.place.chunk ∙ (ap (λ (z : Addr). v.owner z.chunk) (sym R.at) ∙ owner_at R.task R.rests R.object R.there)) in
           let at : R.object.at ≡ s.object = R.at in
           let holds : slice_get R.object.refs s.field ≡ Some (Some a) = R.holds in
-          let refs : refs_in hs s.object ≡ R.object.refs = refs_at_belongings R.home (λ e. S.below (owner ∙ e)) R.rests R.object R.there s.object at in
+          let refs : refs_in hs s.object ≡ R.object.refs = refs_at_belongings R.task (λ e. S.below (owner ∙ e)) R.rests R.object R.there s.object at in
           let is : target_of refs_in hs s ≡ Some a = ap (λ rs. slice_index_or rs s.field None) refs ∙ get_or_from_slice_get R.object.refs s.field (Some a) None holds in
-          let q = leads_here R.home R.rests R.object R.there R.source.field a R.holds R.into in
+          let q = leads_here R.task R.rests R.object R.there R.source.field a R.holds R.into in
           targets_there refs_in hs ks ss s a (subst (λ xs. In xs s) sources_are R.noted) is (ap (λ (z : Addr). has_chunk ks z.chunk) (sym q.2) ∙ object_chunk q.0 q.1)
 
   -- and each is an object of the heap
   pub root_here : (a : Addr) → In (targets_of refs_in hs ks ss) a → (q : Located) × In (objects_in (chunks_of ks)) q × (q.at ≡ a)
-  root_here a i = let R = (are_roots a).0 i in leads_here R.home R.rests R.object R.there R.source.field a R.holds R.into
+  root_here a i = let R = (are_roots a).0 i in leads_here R.task R.rests R.object R.there R.source.field a R.holds R.into

@@ -81,14 +81,14 @@ module _ (w : SharedValue) (k : ℕ) (p : Private) (I : IsSharedValue w) (F : Fi
   here : vp.belongings p.task ≡ belongings_of_part p
   here = at_belongings (value_of w) p.task (belongings_of_part p)
 
-  pub belongings_is : BelongingsStand vp M p.task
-  belongings_is = fits_now.stands.belongings p.task (rested_worker (task_steps w.program (accounts w) p.task p.fresh) p.task)
+  pub belongings_stand : BelongingsStand vp M p.task
+  belongings_stand = fits_now.stands.belongings p.task (rested_worker (task_steps w.program (accounts w) p.task p.fresh) p.task)
 
   -- its heap is as its account then says
   pub counted_now : IsCounted p.heap (heap_of M p.task)
   counted_now =
-      counted_from p.heap (heap_of M p.task) F.form (subst (λ (z : Belongings). HasNames z.chunks (heap_of M p.task)) here belongings_is.names) (ap (λ (z : Belongings). z.room) (sym here) ∙ belongings_is.room) (ap (λ (z : Belongings). z.since) (sym here) ∙ belongings_is.since)
-      (subst (λ (z : Belongings). map (λ (c : Chunk). c.units) (reserved_chunks z.chunks) ≡ reserved_units (heap_of M p.task).reserved) here belongings_is.laid.reserved)
+      counted_from p.heap (heap_of M p.task) F.form (subst (λ (z : Belongings). HasNames z.chunks (heap_of M p.task)) here belongings_stand.names) (ap (λ (z : Belongings). z.room) (sym here) ∙ belongings_stand.room) (ap (λ (z : Belongings). z.since) (sym here) ∙ belongings_stand.since)
+      (subst (λ (z : Belongings). map (λ (c : Chunk). c.units) (reserved_chunks z.chunks) ≡ reserved_units (heap_of M p.task).reserved) here belongings_stand.laid.reserved)
 
 -- WHY IT IS REFUSED
 

@@ -228,14 +228,14 @@ module _ (w : SharedValue) (k t : ℕ) (I : IsSharedValue w) (free : refused w (
       abbrev p : Private
       p = taken_part t w.settings.leaf (field_limit w.settings.version) r s
 
-      belongings_is : v.belongings t ≡ belongings_of_part p
-      belongings_is = ap belongings_in rest_is ∙ ap (belongings_by r.heap r.view r.allocations) calls_is
+      belongings_are : v.belongings t ≡ belongings_of_part p
+      belongings_are = ap belongings_in rest_is ∙ ap (belongings_by r.heap r.view r.allocations) calls_is
 
       pub took_part : Fits w' k p
       took_part = record {
         held = held_when_out w e I free w'.tree w.pool w'.rests w.sets w'.tasks_out w.outputs w.steps w.end room took_world k t counts.task_out;
         fits = subst (FitsValue w.program w.settings (part_of w.settings p) v') (sym (accounts_are w e I free w'.tree w.pool w'.rests w.sets w'.tasks_out w.outputs w.steps w.end room))
-            (subst (λ (g : Belongings). FitsValue w.program w.settings (part_for w.settings t g 0) v' L) belongings_is (took_fits_then w.program w.settings w.journal.items I.legal v v' (tree_counts_of w) k t free I.stands but));
+            (subst (λ (g : Belongings). FitsValue w.program w.settings (part_for w.settings t g 0) v' L) belongings_are (took_fits_then w.program w.settings w.journal.items I.legal v v' (tree_counts_of w) k t free I.stands but));
         form = I.heaps t r rest_is;
         measured = (I.measured t r rest_is (unheld_at_rest w t I on rests), λ n i. absurd i);
         leaf_limit = refl;

@@ -13,15 +13,15 @@ use Rattle.task_machine.specs.Run.{IsStepPlan, KeepsRest, Runs}
 use Rattle.task_machine.proofs.Agreement.{line_agrees}
 use Rattle.task_machine.proofs.Ends.{is_step, runs_more}
 
--- a calculation more
+-- one calculation more
 pub leads_more : (p : ProgramText) (f h g : Frame) (k : ℕ) (line : Line) → Leads p f k h → line_at p h.function h.next ≡ Some line → Makes line.instr h g → Leads p f (k + 1) g
 leads_more p f h g k line L e M =
     let one : suc k ≡ k + 1 = omega arith in
     subst (λ n. Leads p f n g) one (h, L, subst (λ o. IsSomeAnd o (λ (l : Line). Makes l.instr h g)) (sym e) M)
 
 -- the part with this top frame, after so many steps more
-abbrev after : Private → Frame → ℕ → Private
-after part f n = record (with_top part f) { fresh = part.fresh + n }
+abbrev with_top_after : Private → Frame → ℕ → Private
+with_top_after part f n = record (with_top part f) { fresh = part.fresh + n }
 
 step_plan : (plan : Plan) → IsCalculation plan → IsStepPlan plan
 step_plan (Pause why) h = absurd h
@@ -52,36 +52,36 @@ ready_plan part (Swap d s at r) h = absurd h
 ready_plan part (Freeze s) h = absurd h
 
 module _ (p : ProgramText) (old : Private) (k : ℕ) (mid : Private) (S : FitsSome p old) (R : Runs p old k mid) where
-  one_by : (n : ℕ) (h g : Frame) (o : Option Line) → line_at p h.function h.next ≡ o → IsSomeAnd o (λ line. Makes line.instr h g)
-      → Runs p old (k + n) (after mid h n) → Runs p old (k + suc n) (after mid g (suc n))
-  one_by n h g None e M before = absurd M
-  one_by n h g (Some line) e M before =
+  one_runs : (n : ℕ) (h g : Frame) (o : Option Line) → line_at p h.function h.next ≡ o → IsSomeAnd o (λ line. Makes line.instr h g)
+      → Runs p old (k + n) (with_top_after mid h n) → Runs p old (k + suc n) (with_top_after mid g (suc n))
+  one_runs n h g None e M before = absurd M
+  one_runs n h g (Some line) e M before =
       let behind : Private = record mid { fresh = mid.fresh + n } in
-      let here : Private = after mid h n in
+      let here : Private = with_top_after mid h n in
       let plan : Plan = planned here line.instr in
       let does = M behind in
       let fresh : mid.fresh + suc n ≡ (mid.fresh + n) + 1 = omega arith in
       let is = ap (λ z. let w : Private = record (with_top mid g) { fresh = z } in w) fresh ∙ sym does.2 in
       let count : (k + n) + 1 ≡ k + suc n = omega arith in
-      subst (λ z. Runs p old z (after mid g (suc n))) count
+      subst (λ z. Runs p old z (with_top_after mid g (suc n))) count
       (runs_more p old (k + n) here S before plan (is_step plan (step_plan plan does.1)) (λ m above F. line_agrees p here m above F line e does.0)
-      (ready_plan here plan does.1) (after mid g (suc n)) is)
+      (ready_plan here plan does.1) (with_top_after mid g (suc n)) is)
 
-  all : (n : ℕ) (g : Frame) → Leads p mid.frames.top n g → Runs p old (k + n) (after mid g n)
-  all zero g L =
+  all_run : (n : ℕ) (g : Frame) → Leads p mid.frames.top n g → Runs p old (k + n) (with_top_after mid g n)
+  all_run zero g L =
       let fresh : mid.fresh ≡ mid.fresh + 0 = omega arith in
       let count : k ≡ k + 0 = omega arith in
-      let top : mid ≡ after mid g 0 = ap (with_top mid) L ∙ ap (λ z. let w : Private = record (with_top mid g) { fresh = z } in w) fresh in
+      let top : mid ≡ with_top_after mid g 0 = ap (with_top mid) L ∙ ap (λ z. let w : Private = record (with_top mid g) { fresh = z } in w) fresh in
       subst (λ z. Runs p old (k + 0) z) top (subst (λ z. Runs p old z mid) count R)
-  all (suc n) g (h, L, T) = one_by n h g (line_at p h.function h.next) refl T (all n h L)
+  all_run (suc n) g (h, L, T) = one_runs n h g (line_at p h.function h.next) refl T (all_run n h L)
 
   -- so many of them are so many steps more
   pub calculated : (n : ℕ) (new : Private) → Leads p mid.frames.top n new.frames.top → new ≡ record (with_top mid new.frames.top) { fresh = mid.fresh + n } → Runs p old (k + n) new
-  calculated n new L is = subst (λ z. Runs p old (k + n) z) (sym is) (all n new.frames.top L)
+  calculated n new L is = subst (λ z. Runs p old (k + n) z) (sym is) (all_run n new.frames.top L)
 
 -- they change the top frame and the count of fresh steps alone
 pub rest_calculated : (old mid new : Private) (n : ℕ) → KeepsRest old mid → new ≡ record (with_top mid new.frames.top) { fresh = mid.fresh + n } → KeepsRest old new
 rest_calculated old mid new n K is =
     let P : Private → Type 0 = λ z. KeepsRest old z in
-    let w : Private = after mid new.frames.top n in
+    let w : Private = with_top_after mid new.frames.top n in
     subst P (sym is) (ap (λ (z : Private). let r : Private = record z { frames = w.frames; heap = w.heap; allocations = w.allocations; fresh = w.fresh } in r) K)

@@ -14,13 +14,14 @@ use Rattle.task_machine.proofs.Calculated.{calculated, rest_calculated}
 use Rattle.task_machine.proofs.CallPlans.{call_stands}
 use Rattle.task_machine.proofs.Ends.{AgreesAll, IsRunTo, few_made, fresh_is, is_step, limit_is, rest_more, run_to, runs_more, runs_none, still_fits}
 
-pub record IsOn (p : ProgramText) (old : Private) (budget left : ℕ) (now : Private) : Type 0 where
+-- the steps of the budget that aren't left led from the old part to this one
+pub record IsOnItsWay (p : ProgramText) (old : Private) (budget left : ℕ) (now : Private) : Type 0 where
   pub within : left ≤ budget
   pub fits : FitsSome p old
   pub runs : Runs p old (budget - left) now
   pub rest : KeepsRest old now
 
-pub at_first : (p : ProgramText) (part : Private) (budget : ℕ) → FitsSome p part → IsOn p part budget budget part
+pub at_first : (p : ProgramText) (part : Private) (budget : ℕ) → FitsSome p part → IsOnItsWay p part budget budget part
 at_first p part budget S = record {
   within = omega arith;
   fits = S;
@@ -28,10 +29,10 @@ at_first p part budget S = record {
   rest = refl;
 }
 
-module _ (p : ProgramText) (old : Private) (budget left : ℕ) (now : Private) (O : IsOn p old budget left now) where
-  -- calculations more
-  pub on_by : (done : ℕ) (new : Private) → done ≤ left → Leads p now.frames.top done new.frames.top → new ≡ record (with_top now new.frames.top) { fresh = now.fresh + done } → IsOn p old budget (left - done) new
-  on_by done new most L is =
+module _ (p : ProgramText) (old : Private) (budget left : ℕ) (now : Private) (O : IsOnItsWay p old budget left now) where
+  -- after so many calculations more
+  pub after_calculations : (done : ℕ) (new : Private) → done ≤ left → Leads p now.frames.top done new.frames.top → new ≡ record (with_top now new.frames.top) { fresh = now.fresh + done } → IsOnItsWay p old budget (left - done) new
+  after_calculations done new most L is =
       let within : left ≤ budget = O.within in
       let count : (budget - left) + done ≡ budget - (left - done) = omega (arith, within, most) in
       record {
@@ -41,8 +42,8 @@ module _ (p : ProgramText) (old : Private) (budget left : ℕ) (now : Private) (
         rest = rest_calculated old now new done O.rest is;
       }
 
-  pub there : FitsSome p now
-  there = still_fits p old (budget - left) now O.fits O.runs
+  pub fits_there : FitsSome p now
+  fits_there = still_fits p old (budget - left) now O.fits O.runs
 
   pub fresh_there : now.fresh ≡ old.fresh + (budget - left)
   fresh_there = fresh_is p old (budget - left) now O.fits O.runs
@@ -57,14 +58,14 @@ module _ (p : ProgramText) (old : Private) (budget left : ℕ) (now : Private) (
   to_here = run_to p old (budget - left) now O.fits O.runs budget (omega arith) O.rest
 
   pub safe_there : IsSafe now
-  safe_there = some_safe p now there
+  safe_there = some_safe p now fits_there
 
   pub next_there : IsProgram p → now.frames.top.next + 1 < 2 ^ 32
-  next_there I = some_next p now there I
+  next_there I = some_next p now fits_there I
 
   -- a line comes next
   pub never_none : IsProgram p → line_at p now.frames.top.function now.frames.top.next ≡ None → ⊥
-  never_none I none = let h = some_line p now there I in is_some h.0 (sym none ∙ h.1)
+  never_none I none = let h = some_line p now fits_there I in is_some h.0 (sym none ∙ h.1)
     where
       is_some : (l : Line) → None ≡ Some l → ⊥
       is_some l e = cc
@@ -76,9 +77,9 @@ module _ (p : ProgramText) (old : Private) (budget left : ℕ) (now : Private) (
     pub stands_at_call : IsCallPlan (planned now line.instr) → StandsAtCall p now
     stands_at_call h = call_stands p now (subst IsCallPlan (ap (planned_line now) (sym next)) h)
 
-    -- one step more
-    pub one_on : 0 < left → IsStepPlan (planned now line.instr) → IsReady now (planned now line.instr) → (new : Private) → new ≡ taken now (planned now line.instr) → IsOn p old budget (left - 1) new
-    one_on some step ready new is =
+    -- after one step more
+    pub after_step : 0 < left → IsStepPlan (planned now line.instr) → IsReady now (planned now line.instr) → (new : Private) → new ≡ taken now (planned now line.instr) → IsOnItsWay p old budget (left - 1) new
+    after_step some step ready new is =
         let plan : Plan = planned now line.instr in
         let within : left ≤ budget = O.within in
         let count : (budget - left) + 1 ≡ budget - (left - 1) = omega (arith, within, some) in
@@ -91,8 +92,8 @@ module _ (p : ProgramText) (old : Private) (budget left : ℕ) (now : Private) (
 
 -- ---- whether steps are left, by the line that comes next
 
-pub some_left : {X : Type 0} (done left : ℕ) (o : Option X) (x : X) → done ≤ left → (done ≡ left → o ≡ None) → o ≡ Some x → done < left
-some_left done left o x most spent is = elim (cases_lt done left) [
+pub steps_are_left : {X : Type 0} (done left : ℕ) (o : Option X) (x : X) → done ≤ left → (done ≡ left → o ≡ None) → o ≡ Some x → done < left
+steps_are_left done left o x most spent is = elim (cases_lt done left) [
   | inl lt ↦ lt
   | inr ge ↦ let e : done ≡ left = omega (arith, most, ge) in absurd (none_some (sym (spent e) ∙ is))
 ]
@@ -100,6 +101,6 @@ some_left done left o x most spent is = elim (cases_lt done left) [
     none_some : None ≡ Some x → ⊥
     none_some e = cc
 
-pub is_none : {X : Type 0} (o : Option X) → ((x : X) → o ≡ Some x → ⊥) → o ≡ None
-is_none None n = refl
-is_none (Some x) n = absurd (n x refl)
+pub none_if_not_some : {X : Type 0} (o : Option X) → ((x : X) → o ≡ Some x → ⊥) → o ≡ None
+none_if_not_some None n = refl
+none_if_not_some (Some x) n = absurd (n x refl)

@@ -28,7 +28,7 @@ use Rattle.hh_model.specs.Tree.{AreLow}
 use Rattle.hh_model.proofs.Carried.{at_in}
 use Rattle.path_laws.proofs.FreeReads.{run_disentangled}
 use Rattle.path_laws.proofs.Frozen.{frozen_reads_go, run_upward}
-use Rattle.hh_model.proofs.Kept.{run_kept, start_kept}
+use Rattle.hh_model.proofs.ForkJoinStates.{run_is_fork_join_state, start_is_fork_join_state}
 use Rattle.hh_model.proofs.Paths.{path_le}
 use Rattle.hh_model.proofs.Steps.{in_registers, names_run, runs_is}
 use Rattle.path_laws.proofs.Stored.{run_stored}
@@ -69,7 +69,7 @@ refers_up p m r t n o =
     subst L (sym r.2) (λ is frozen on ne. record {
       others = λ k h own.
           let w = run p r.0 r.1 in
-          let low : AreLow (parents w.tasks) = (run_kept p (start p r.0) r.1 (start_kept p r.0)).tree.low in
+          let low : AreLow (parents w.tasks) = (run_is_fork_join_state p (start p r.0) r.1 (start_is_fork_join_state p r.0)).tree.low in
           let up : path_in (parents w.tasks) (owner_of w.tasks k.task) (owner_of w.tasks n.task) ≡ true = run_upward p r.0 r.1 n k o is frozen h in
           let over : owner_of w.tasks k.task ≤ owner_of w.tasks n.task = path_le (parents w.tasks) low _ _ _ up in
           let under : owner_of w.tasks n.task ≤ t = path_le (parents w.tasks) low _ _ _ on in

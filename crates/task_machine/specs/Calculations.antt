@@ -9,7 +9,7 @@ use Rattle.task_machine.specs.declared.plan.Plan.TheVariants.{SetInt, SetReferen
 use Rattle.task_machine.specs.Plan.{moved, planned, taken}
 use Rattle.task_machine.specs.Ready.{IsWide}
 
--- a part whose top frame is this one
+-- the part with this top frame
 abbrev pub with_top : Private → Frame → Private
 with_top part f = record part { frames = record part.frames { top = f } }
 
@@ -26,11 +26,11 @@ Makes i f g =
     (part : Private) → IsWide (with_top part f) i × IsCalculation (planned (with_top part f) i)
     × (taken (with_top part f) (planned (with_top part f) i) ≡ moved part (record part.frames { top = g }))
 
--- so does the next instruction of a frame
+-- the next instruction of a frame does so
 abbrev pub LeadsTo : ProgramText → Frame → Frame → Type 0
 LeadsTo p f g = IsSomeAnd (line_at p f.function f.next) (λ line. Makes line.instr f g)
 
--- so do its next ones, one after the other
+-- so many next ones do so, one after the other
 abbrev pub Leads : ProgramText → Frame → ℕ → Frame → Type 0
 Leads p f zero g = f ≡ g
 Leads p f (suc k) g = (h : Frame) × (Leads p f k h) × (LeadsTo p h g)

@@ -31,7 +31,8 @@ fn set_reference(frame: &mut Frame, target: RefReg, value: Option<Addr>)
     frame.next += 1;
 }
 
-// Sets a register by an operator, or leaves the frame as it is where that divides by 0.
+// Sets a register by an operator and goes on with the next instruction, or leaves the frame as it is where that
+// divides by 0.
 #[inline(always)]
 fn calc(frame: &mut Frame, operator: Operator, target: IntReg, left: IntReg, right: IntReg) -> bool
     requires { frame.old.next + 1 < 2 ^ 32 }
@@ -113,8 +114,8 @@ fn calculate_on<'a>(frame: &mut Frame, program: &'a Program, most: u32) -> (u32,
 }
 
 impl Private {
-    /// Takes steps as long as they only calculate, at most so many: how many it took, and then the line that comes next,
-    /// unless so many are spent.
+    /// Takes steps as long as they only calculate, at most so many: how many it took, and then the line that comes
+    /// next, unless so many are spent.
     pub(crate) fn calculate<'a>(
         &mut self,
         program: &'a Program,

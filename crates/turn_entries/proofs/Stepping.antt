@@ -6,7 +6,7 @@ use Rattle.hh_model.specs.Counts.{Counted}
 use Rattle.hh_model.specs.Effect.{row_of}
 use Rattle.hh_model.specs.Tree.{IsForkJoinState}
 use Rattle.hh_model.proofs.Counts.{steps_count}
-use Rattle.hh_model.proofs.Kept.{run_kept, start_kept, step_kept}
+use Rattle.hh_model.proofs.ForkJoinStates.{run_is_fork_join_state, start_is_fork_join_state, step_is_fork_join_state}
 use Rattle.run_trace.specs.Settings.{field_limit}
 use Rattle.run_trace.specs.Entry.{private_limit}
 use Rattle.run_ledger.specs.declared.data.Ledger.{Ledger}
@@ -40,10 +40,10 @@ counted_then p m t j zero k e K C = (K, subst (λ i. Counted i m.tasks m.store) 
 counted_then p m t j (suc n) k e K C =
     let b = counted_then p m t j n (n + j) refl K C in
     let h : suc (n + j) ≡ k = omega (arith, e) in
-    (step_kept p (steps p m t n) t b.0, subst (λ i. Counted i (steps p m t (suc n)).tasks (steps p m t (suc n)).store) h (steps_count p (steps p m t n) t (n + j) b.0 b.1))
+    (step_is_fork_join_state p (steps p m t n) t b.0, subst (λ i. Counted i (steps p m t (suc n)).tasks (steps p m t (suc n)).store) h (steps_count p (steps p m t n) t (n + j) b.0 b.1))
 
 kept_now : (w : SharedValue) → IsForkJoinState (accounts w).machine
-kept_now w = subst IsForkJoinState (sym (machine_is_run w.program w.settings w.journal.items)) (run_kept w.program _ (tasks_of w.journal.items) (start_kept w.program (field_limit w.settings.version)))
+kept_now w = subst IsForkJoinState (sym (machine_is_run w.program w.settings w.journal.items)) (run_is_fork_join_state w.program _ (tasks_of w.journal.items) (start_is_fork_join_state w.program (field_limit w.settings.version)))
 
 module _ (w : SharedValue) (k : ℕ) (part : Private) (I : IsSharedValue w) (on : (accounts w).end ≡ None) (F : Fits w k part) where
   pub first : FitsFirst w part

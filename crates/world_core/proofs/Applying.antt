@@ -136,7 +136,7 @@ module _ (w mid : SharedValue) (roomier : SameButRoomier w mid) (fit : AllFit w 
     holds = R.holds;
   }
     where
-      -- places of belongings and sets say nothing of the journal
+      -- places of homes and sets say nothing of the journal
       by_room : SameButPlaces mid (record after { journal = mid.journal }) → SameButPlaces w (record after { journal = w.journal })
       by_room S = record {
         rest =

@@ -57,7 +57,7 @@ forks_root v v' l l' t a b g h x V runs F C u oa ob c r =
     let nt = root_apart v l V t (ap is_waiting F.task ∙ ap (λ s. is_waiting (Some (record x { status = s }))) runs) u c r in
     let na = root_apart v l V a (ap is_waiting F.unmade_left) u c r in
     let nb = root_apart v l V b (ap is_waiting F.unmade_right) u c r in
-    root_same v v' l l' u (noted_by v v' u (C.sources u oa ob)) (λ k o. C.owner k ∙ o) c r (ap (λ (z : Heap). z.worker) (F.heaps r.home nt na nb) ∙ r.rests) (ap (λ (z : Belongings). objects_in z.chunks) (C.others r.home nt na nb))
+    root_same v v' l l' u (noted_by v v' u (C.sources u oa ob)) (λ k o. C.owner k ∙ o) c r (ap (λ (z : Heap). z.worker) (F.heaps r.task nt na nb) ∙ r.rests) (ap (λ (z : Belongings). objects_in z.chunks) (C.others r.task nt na nb))
 
 pub forks_note : (v v' : Memory) (l l' : Ledger) (t a b g h : ℕ) (x : Task) (roots : List Addr) → SoundLedger l → Stands v l → x.status ≡ Running → Rests l t → ((u : ℕ) → is_waiting (slice_get l.machine.tasks u) ≡ true → Rests l u)
     → (F : ForksTask l l' t a b g h x) → ForksBelongings v v' t a b g h → AreRoots v l t roots → F.names ≡ within l t → ForksNotes v v' t a b → AllNoted v l → AllNoted v' l'
@@ -81,7 +81,7 @@ joins_root : (v v' : Memory) (l l' : Ledger) (p c d : ℕ) (x : Task) (rl rr : �
 joins_root v v' l l' p c d x rl rr al ar V J K C u np nc nd b r =
     let rc = root_apart v l V c K.left_idle u b r in
     let rd = root_apart v l V d K.right_idle u b r in
-    elim (cases_eq r.home p) [
+    elim (cases_eq r.task p) [
       | inl e ↦
           let i : In (objects v p) r.object = subst (λ z. In (objects v z) r.object) e r.there in
           let k = in_chunk (v.belongings p).chunks r.object i in
@@ -90,8 +90,8 @@ joins_root v v' l l' p c d x rl rr al ar V J K C u np nc nd b r =
           (subst (Rests l') (sym e) (ap (λ (z : Heap). z.worker) J.heap ∙ subst (Rests l) e r.rests))
           r.object (subst (λ z. In (objects v' z) r.object) (sym e) (in_objects (v'.belongings p).chunks k.0 r.object k' k.2)) refl r.holds
       | inr rp ↦
-          root_same v v' l l' u (noted_by v v' u (C.sources u np nc nd)) (λ k o. C.owners k u nc nd o) b r (ap (λ (z : Heap). z.worker) (J.heaps r.home rp rc rd) ∙ r.rests)
-          (ap (λ (z : Belongings). objects_in z.chunks) (C.others r.home rp rc rd))
+          root_same v v' l l' u (noted_by v v' u (C.sources u np nc nd)) (λ k o. C.owners k u nc nd o) b r (ap (λ (z : Heap). z.worker) (J.heaps r.task rp rc rd) ∙ r.rests)
+          (ap (λ (z : Belongings). objects_in z.chunks) (C.others r.task rp rc rd))
     ]
 
 pub joins_note : (v v' : Memory) (l l' : Ledger) (p c d : ℕ) (x : Task) (rl rr : ℤ × Option Name) (al ar : ℤ × Option Addr) → Stands v l → JoinsTasks l l' p c d x rl rr → CanJoin l p c d x → JoinsBelongings v v' p c d al ar → JoinsNotes v v' p c d → AllNoted v l → AllNoted v' l'
@@ -111,12 +111,12 @@ joins_note v v' l l' p c d x rl rr al ar V J K C N H u = elim (cases_eq u p) [
 ]
 
 sweeps_root : (v v' : Memory) (l l' : Ledger) (t : ℕ) → Stands v l → ChangesHeap l l' t → KeepsJust v v' l l' t (heap_of l t).snapshot → (u : ℕ) → (u ≡ t → ⊥) → (b : Addr) → IsRoot v l u b → IsRoot v' l' u b
-sweeps_root v v' l l' t V L C u nt b r = elim (cases_eq r.home t) [
+sweeps_root v v' l l' t V L C u nt b r = elim (cases_eq r.task t) [
   | inl e ↦
       let i = C.kept r.object (subst (λ z. In (objects v z) r.object) e r.there) (subst (λ z. In (heap_of l z).snapshot (object_name r.object)) e (root_kept v l V u b r)) in
       root_by v v' l l' u (noted_by v v' u (C.sources u)) (λ k o. C.owners k u nt o) b r (subst (Rests l') (sym e) (L.worker ∙ subst (Rests l) e r.rests)) r.object (subst (λ z. In (objects v' z) r.object) (sym e) i) refl r.holds
   | inr ne ↦
-      root_same v v' l l' u (noted_by v v' u (C.sources u)) (λ k o. C.owners k u nt o) b r (ap (λ (z : Heap). z.worker) (L.others r.home ne) ∙ r.rests) (ap (λ (z : Belongings). objects_in z.chunks) (C.others r.home ne))
+      root_same v v' l l' u (noted_by v v' u (C.sources u)) (λ k o. C.owners k u nt o) b r (ap (λ (z : Heap). z.worker) (L.others r.task ne) ∙ r.rests) (ap (λ (z : Belongings). objects_in z.chunks) (C.others r.task ne))
 ]
 
 pub sweeps_note : (v v' : Memory) (l l' : Ledger) (t : ℕ) → Stands v l → ChangesHeap l l' t → (heap_of l' t).swept ≡ true → KeepsJust v v' l l' t (heap_of l t).snapshot → OthersNotes v v' t → AllNoted v l → AllNoted v' l'
@@ -138,8 +138,8 @@ sweeps_note v v' l l' t V L swept C N H u = elim (cases_eq u t) [
 ends_root : (v v' : Memory) (l l' : Ledger) (t : ℕ) (names : List Name) (f : Addr → Addr) → Stands v l → is_waiting (slice_get l.machine.tasks t) ≡ false → ChangesHeap l l' t → Moves v v' l l' t names f → (u : ℕ) → (u ≡ t → ⊥) → (b : Addr) → IsRoot v l u b → IsRoot v' l' u b
 ends_root v v' l l' t names f V idle L C u nt b r =
     let ne = root_apart v l V t idle u b r in
-    root_by v v' l l' u (noted_by v v' u (C.sources u)) (λ k o. C.owners k u nt o) b r (ap (λ (z : Heap). z.worker) (L.others r.home ne) ∙ r.rests) (rewritten f (sources v t) r.object)
-    (subst (λ (h : Belongings). In (objects_in h.chunks) (rewritten f (sources v t) r.object)) (sym (C.others r.home ne)) (to_mapped (rewritten f (sources v t)) (λ o. refl) (λ o. refl) (v.belongings r.home).chunks r.object r.there)) refl
+    root_by v v' l l' u (noted_by v v' u (C.sources u)) (λ k o. C.owners k u nt o) b r (ap (λ (z : Heap). z.worker) (L.others r.task ne) ∙ r.rests) (rewritten f (sources v t) r.object)
+    (subst (λ (h : Belongings). In (objects_in h.chunks) (rewritten f (sources v t) r.object)) (sym (C.others r.task ne)) (to_mapped (rewritten f (sources v t)) (λ o. refl) (λ o. refl) (v.belongings r.task).chunks r.object r.there)) refl
     (rewritten_at f (sources v t) r.object.at 0 r.object.refs r.source.field b (C.same b u nt r.into) r.holds)
 
 pub ends_note : (v v' : Memory) (l l' : Ledger) (t : ℕ) (names : List Name) (f : Addr → Addr) → Stands v l → is_waiting (slice_get l.machine.tasks t) ≡ false → ChangesHeap l l' t → Moves v v' l l' t names f → OthersNotes v v' t → AllNoted v l → AllNoted v' l'
@@ -154,14 +154,14 @@ ends_note v v' l l' t names f V idle L C N H u = elim (cases_eq u t) [
 
 -- a step of t alone, also its end
 pub steps_note : (v v' : Memory) (l l' : Ledger) (t : ℕ) → is_waiting (slice_get l.machine.tasks t) ≡ false → StepsAlone l l' t → ((u : ℕ) → (u ≡ t → ⊥) → v'.belongings u ≡ v.belongings u) → ((k : ℕ) → v'.owner k ≡ v.owner k) → ((u : ℕ) → sources v' u ≡ sources v u)
-    → ((u : ℕ) (b : Addr) (r : IsRoot v l u b) → r.home ≡ t → ⊥) → OthersNotes v v' t → AllNoted v l → AllNoted v' l'
+    → ((u : ℕ) (b : Addr) (r : IsRoot v l u b) → r.task ≡ t → ⊥) → OthersNotes v v' t → AllNoted v l → AllNoted v' l'
 steps_note v v' l l' t idle A C owner same apart N H u = elim (cases_eq u t) [
   | inl e ↦ subst (NotedAt v' l') (sym e) (not_waiting v' l' t N.none (A.tree.waits t ∙ idle))
   | inr nt ↦
       let heap = A.heaps u nt in
       notes_stay v v' l l' u (same_notes v v' l l' u (N.others u nt) (λ k g. sym (owner k) ∙ g) (A.tree.waits u) (ap (λ (z : Heap). z.swept) heap) (ap (λ (z : Heap). z.snapshot) heap)
       (ap (λ (z : Belongings). z.frames) (C u nt))
-      (λ b r. let ne = apart u b r in root_same v v' l l' u (noted_by v v' u (same u)) (λ k o. owner k ∙ o) b r (ap (λ (z : Heap). z.worker) (A.heaps r.home ne) ∙ r.rests) (ap (λ (z : Belongings). objects_in z.chunks) (C r.home ne)))) (N.others u nt).marked (ap (λ (z : Heap). z.marked) heap)
+      (λ b r. let ne = apart u b r in root_same v v' l l' u (noted_by v v' u (same u)) (λ k o. owner k ∙ o) b r (ap (λ (z : Heap). z.worker) (A.heaps r.task ne) ∙ r.rests) (ap (λ (z : Belongings). objects_in z.chunks) (C r.task ne)))) (N.others u nt).marked (ap (λ (z : Heap). z.marked) heap)
       (same_whole v v' u (ap (λ (z : Belongings). objects_in z.chunks) (C u nt)) (ap (λ (z : Belongings). length z.chunks) (C u nt))) (H u)
 ]
 
@@ -178,7 +178,7 @@ quiet_notes v v' l l' m rest frames owner noted swept snapshot same chunks taken
     none_new e k g = elim (taken k u g) [ inl old ↦ old | inr new ↦ absurd (both_ways (is_waiting (slice_get l.machine.tasks u)) new e) ]
 
     rooted : (b : Addr) → IsRoot v l u b → IsRoot v' l' u b
-    rooted b r = root_same v v' l l' u (noted_by v v' u (noted u)) (λ k. owner k u) b r (rest r.home r.rests) (same r.home)
+    rooted b r = root_same v v' l l' u (noted_by v v' u (noted u)) (λ k. owner k u) b r (rest r.task r.rests) (same r.task)
 
     by : (b : Bool) → is_waiting (slice_get l.machine.tasks u) ≡ b → Noting v v' l l' u → NotedAt v' l' u
     by b e (inr (inl n)) = not_waiting v' l' u n.0 (waits ∙ n.1)
@@ -189,8 +189,8 @@ quiet_notes v v' l l' m rest frames owner noted swept snapshot same chunks taken
 
 numbers_root : (v v' : Memory) (l l' : Ledger) (w : ℕ) (a : Addr) (i : ℕ) (k : ℤ) → WritesAt v v' w a (with_number i k) → ((z : ℕ) → (heap_of l' z).worker ≡ (heap_of l z).worker) → (u : ℕ) (b : Addr) → IsRoot v l u b → IsRoot v' l' u b
 numbers_root v v' l l' w a i k C rest u b r =
-    root_by v v' l l' u (C.noted u) (λ c o. C.owner c ∙ o) b r (rest r.home ∙ r.rests) (one r.object)
-    (subst (λ ks. In (objects_in ks) (one r.object)) (sym (C.chunks r.home)) (to_mapped one (number_name a i k) (number_at a i k) (v.belongings r.home).chunks r.object r.there)) (number_at a i k r.object) (ap (λ rs. slice_get rs r.source.field) (number_refs a i k r.object) ∙ r.holds)
+    root_by v v' l l' u (C.noted u) (λ c o. C.owner c ∙ o) b r (rest r.task ∙ r.rests) (one r.object)
+    (subst (λ ks. In (objects_in ks) (one r.object)) (sym (C.chunks r.task)) (to_mapped one (number_name a i k) (number_at a i k) (v.belongings r.task).chunks r.object r.there)) (number_at a i k r.object) (ap (λ rs. slice_get rs r.source.field) (number_refs a i k r.object) ∙ r.holds)
   where
     one : Located → Located
     one q = put_at a (with_number i k) q

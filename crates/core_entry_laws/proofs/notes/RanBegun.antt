@@ -1,4 +1,4 @@
--- An entry of steps leaves no collection that has begun in belongings at rest.
+-- An entry of steps leaves no collection that has begun among the belongings of a task at rest.
 use Rattle.std.proofs.Common.{◌≡◌, ℕ, ◌+◌, Some, None, List, length, slice_get, inl, inr, refl, ap, sym, subst, ◌∙◌}
 use Rattle.std.proofs.lemmas.Bool.{cases_eq}
 use Rattle.listed.proofs.Options.{none_some}

@@ -1,4 +1,5 @@
--- What the registers and the roots reach now of a heap that waits, with what was kept since its task forked, is just its snapshot.
+-- What the registers and the roots reach now of a heap that waits, with what was kept since its task forked, is just
+-- its snapshot.
 use Rattle.std.proofs.Common.{◌≡◌, ◌⊎◌, ◌↔◌, ℕ, true, Some, List, ◌∷◌, slice_get, inl, inr, refl, ap, sym, subst, ◌∙◌}
 use Rattle.std.proofs.lemmas.Option.{same_Some}
 use Rattle.listed.proofs.Members.{got_in}
@@ -110,10 +111,10 @@ module _ (v : Memory) (l : Ledger) (t : ℕ) (x : Task) (S : SoundLedger l) (V :
   root_live : (a : Addr) → IsRoot v l t a → Kept a
   root_live a r =
       let s = V.sources t r.source r.noted in
-      let owner : own l s.name ≡ r.home = root_owner v l V t a r in
-      let mine : own l (object_name r.object) ≡ r.home = belongings_own v l S r.home (V.belongings r.home r.rests) r.object r.there in
+      let owner : own l s.name ≡ r.task = root_owner v l V t a r in
+      let mine : own l (object_name r.object) ≡ r.task = belongings_own v l S r.task (V.belongings r.task r.rests) r.object r.there in
       let other : InHeaps l.heaps t (object_name r.object) → ⊥ = λ h. s.below (owner ∙ (sym mine ∙ (S.owners t (object_name r.object) h).1)) in
-      leads_live r.home r.rests r.object r.there (is_kept v l r.home (V.belongings r.home r.rests) r.object r.there, λ h. absurd (other h)) r.source.field a r.holds
+      leads_live r.task r.rests r.object r.there (is_kept v l r.task (V.belongings r.task r.rests) r.object r.there, λ h. absurd (other h)) r.source.field a r.holds
 
   kept_live : (a : Addr) → In (kept v t) a → Kept a
   kept_live a k q i e =

@@ -1,4 +1,5 @@
--- A step after which its worker goes on with the task leaves the parts of others fitting: a store of a reference or of a number.
+-- A step after which its worker goes on with the task leaves the parts of others fitting: a store of a reference or of
+-- a number.
 use Rattle.std.proofs.Common.{◌≡◌, ℕ, ℤ, false, Option, Some, List, slice_get, inl, inr, refl, ap, sym, subst, ◌∙◌}
 use Rattle.std.proofs.lemmas.Bool.{cases_eq}
 use Rattle.std.proofs.lemmas.Option.{same_Some}

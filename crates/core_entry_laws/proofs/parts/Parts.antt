@@ -1,5 +1,5 @@
--- Sweeps and the ends of leaf collections keep each part of another task fitting: the laws of the ledger that this needs are
--- proved.
+-- Sweeps and the ends of leaf collections keep each part of another task fitting: the laws of the ledger that this
+-- needs are proved.
 use Rattle.std.proofs.Common.{◌≡◌, ℕ, true, false, slice_get, ◌⊎◌, inl, inr, refl, ap, sym, subst, ◌∙◌}
 use Rattle.hh_lang.specs.Form.{ProgramText}
 use Rattle.run_trace.specs.Settings.{SettingsValue}
@@ -39,7 +39,8 @@ module _ (p : ProgramText) (s : SettingsValue) (q : Part) where
   pub ahead_sound : (l : Ledger) → SoundLedger l → IsSteady q l → SoundLedger (ahead p q l)
   ahead_sound l S c = rested_sound (task_steps p l q.task q.fresh) q.task (many_sound q.fresh l S c)
 
-  -- an entry that leaves the machine and the account of the part's heap: the steps are private after it too, and come to the same
+  -- an entry that leaves the machine and the account of the part's heap: the steps are private after it too, and come
+  -- to the same
   pub ahead_same : (l l' : Ledger) → SameOf q.task l l' → ArePrivate p s l q.task q.fresh → ArePrivate p s l' q.task q.fresh × SameOf q.task (ahead p q l) (ahead p q l')
   ahead_same l l' E h = let r = steps_same p s q.task q.fresh l l' E h in (r.0, rested_same (task_steps p l q.task q.fresh) (task_steps p l' q.task q.fresh) q.task r.1)
 

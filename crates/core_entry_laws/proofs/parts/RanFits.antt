@@ -35,7 +35,7 @@ use Rattle.core_relation.specs.Worker.{Fits}
 use Rattle.core_entry_laws.specs.WorkerLaws.{RanFits}
 use Rattle.core_entry_laws.proofs.parts.Handed.{stores_fit, numbers_fit, steps_fit}
 use Rattle.core_entry_laws.proofs.whole.HandedBack.{alive_machine}
-use Rattle.core_entry_laws.proofs.whole.Past.{belongings_rests}
+use Rattle.core_entry_laws.proofs.whole.Past.{none_begun_by_ledger}
 use Rattle.core_entry_laws.proofs.parts.Quiet.{aside_is}
 use Rattle.core_entry_laws.proofs.parts.Ran.{halt_fits}
 use Rattle.core_entry_laws.proofs.whole.RanWhole.{none_collects}
@@ -180,7 +180,7 @@ module _ (p : ProgramText) (s : SettingsValue) (v v' : Memory) (l l' : Ledger) (
 
   -- it had begun none
   own : (j : ℕ) → PartFits p s (part_for s t h j) v l → h.begun ≡ None
-  own j F = belongings_rests (with_belongings v t h) (ahead p (part_for s t h j) l) t h.begun F.begun (rested_view (λ z. z.begun) (λ z. refl) (task_steps p l t j) t ∙ still j)
+  own j F = none_begun_by_ledger (with_belongings v t h) (ahead p (part_for s t h j) l) t h.begun F.begun (rested_view (λ z. z.begun) (λ z. refl) (task_steps p l t j) t ∙ still j)
 
   runs_now : is_running (Some S.task) ≡ true
   runs_now = ap runs S.at.runs

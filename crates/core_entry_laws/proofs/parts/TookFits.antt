@@ -27,7 +27,7 @@ use Rattle.core_relation.specs.Whole.{StandsFor}
 use Rattle.core_entry_laws.proofs.whole.HandedBack.{handed_on}
 use Rattle.core_entry_laws.specs.WorkerLaws.{TookFits}
 use Rattle.core_relation.proofs.changes.Alone.{belongings_kept}
-use Rattle.core_entry_laws.proofs.whole.Past.{belongings_rests, legal_rests, running_idle}
+use Rattle.core_entry_laws.proofs.whole.Past.{legal_rests, none_begun_by_ledger, running_idle}
 use Rattle.core_entry_laws.proofs.parts.Quiet.{aside_is}
 use Rattle.core_relation.proofs.changes.Renew.{renewed}
 use Rattle.core_relation.proofs.changes.Takes.{took_fits}
@@ -81,7 +81,7 @@ took_fits_then p s journal legal v v' c w t accepted handed C =
     let L = took_takes l t w g.0 g.1 in
     let on : l'.machine.end ≡ None = ap (λ (z : State). z.end) L.machine ∙ legal_alive p s journal legal (none_of l.end (entry_tells p s l e (ap is_none accepted)).0) in
     let none = legal_rests p s journal legal t rests in
-    let own : (v.belongings t).begun ≡ None = belongings_rests v l t (v.belongings t).begun (W.begun t rests) none in
+    let own : (v.belongings t).begun ≡ None = none_begun_by_ledger v l t (v.belongings t).begun (W.begun t rests) none in
     let heap : (heap_of l' t).begun ≡ None = ap (λ o. (or_fresh o).begun) (with_at l t (λ h. record h { worker = Some w }) ∙ ap (heap_then (λ h. record h { worker = Some w })) g.1) ∙ (ap (λ o. (or_fresh o).begun) (sym g.1) ∙ none) in
     let V : FitsAt p s q v' l' = fits_beside p s q v v' l' C (took_fits p s v l t w g.0 g.1 W.belongings rests (running_idle (slice_get l.machine.tasks t) both.0)) in
     let part : PartFits p s q v' l' = record { fits = V; begun = none_begun (with_belongings v' t (v.belongings t)) (rested l' t) t (v.belongings t).begun own (rested_view (λ z. z.begun) (λ z. refl) l' t ∙ heap) } in

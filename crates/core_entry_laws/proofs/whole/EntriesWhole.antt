@@ -1,4 +1,5 @@
--- The whole relation past each accepted entry that isn't of steps, from whole to whole: none of them makes the run done.
+-- The whole relation past each accepted entry that isn't of steps, from whole to whole: none of them makes the run
+-- done.
 use Rattle.std.proofs.Common.{◌≡◌, ◌+◌, List, ℕ, Bool, true, false, cond, None, Some, is_none, nat_lt, refl, ap, sym, subst, ◌∙◌}
 use Rattle.listed.proofs.Options.{none_of}
 use Rattle.hh_lang.specs.Form.{ProgramText}

@@ -71,9 +71,9 @@ idle_by (Some b) k f e = absurd (false≢true (ap is_some (sym e) ∙ f refl))
 pub legal_rests : (p : ProgramText) (s : SettingsValue) (journal : List EntryValue) → is_legal p s journal ≡ true → (t : ℕ) → Rests (ledger_of p s journal) t → (heap_of (ledger_of p s journal) t).begun ≡ None
 legal_rests p s journal legal t r = idle_by (heap_of (ledger_of p s journal) t).begun (heap_of (ledger_of p s journal) t).worker ((tasks_are_held_once p s journal legal).collecting t) r
 
-pub belongings_rests : (v : Memory) (l : Ledger) (t : ℕ) (o : Option Begun) → BegunBy v l t o → (heap_of l t).begun ≡ None → o ≡ None
-belongings_rests v l t None B e = refl
-belongings_rests v l t (Some b) B e = absurd (none_some (sym e ∙ B.few))
+pub none_begun_by_ledger : (v : Memory) (l : Ledger) (t : ℕ) (o : Option Begun) → BegunBy v l t o → (heap_of l t).begun ≡ None → o ≡ None
+none_begun_by_ledger v l t None B e = refl
+none_begun_by_ledger v l t (Some b) B e = absurd (none_some (sym e ∙ B.few))
 
 pub running_idle : (o : Option Task) → is_running o ≡ true → is_waiting o ≡ false
 running_idle None h = refl
@@ -113,7 +113,7 @@ module _ (p : ProgramText) (s : SettingsValue) (journal : List EntryValue) (prog
   pub put_together : (e : EntryValue) → refusal p s l e ≡ None → StandsFor v c l → Stands v' (after p s l e) → AllNoted v' (after p s l e) → ((u : ℕ) → Rests (after p s l e) u → Rests l u) → ((u : ℕ) → Rests (after p s l e) u → (v'.belongings u).begun ≡ (v.belongings u).begun) → CountsGo p s l c c' e.worker e.kind → StandsFor v' c' (after p s l e)
   put_together e accepted W V' N' back begun C =
       whole_stands v' c' (after p s l e) V' (counts_stand p s journal program legal c c' W.tree_counts e accepted C) (rests_then e accepted)
-      (λ u r. begun u r ∙ belongings_rests v l u (v.belongings u).begun (W.begun u (back u r)) (legal_rests p s journal legal u (back u r))) N'
+      (λ u r. begun u r ∙ none_begun_by_ledger v l u (v.belongings u).begun (W.begun u (back u r)) (legal_rests p s journal legal u (back u r))) N'
 
   pub took_stands_for : (w t : ℕ) → refusal p s l (record { worker = w; kind = Took t }) ≡ None → StandsFor v c l → SameBut v v' t → ((u : ℕ) → NotesStay v v' u) → CountsGo p s l c c' w (Took t) → StandsFor v' c' (after p s l (record { worker = w; kind = Took t }))
   took_stands_for w t accepted W B N C =
@@ -157,7 +157,7 @@ module _ (p : ProgramText) (s : SettingsValue) (journal : List EntryValue) (prog
       put_together e accepted W (swept v v' l l' t (heap_of l t).snapshot S W.belongings wait rests L B)
       (sweeps_note v v' l l' t W.belongings L swept_then B N (whole_notes v c l W))
       (λ u r. sym (heap_view (λ h. h.worker) l t swept_heap (λ h. refl) u) ∙ r) (λ u r. elim (cases_eq u t) [
-        | inl same ↦ ap (λ z. (v'.belongings z).begun) same ∙ (begun ∙ sym (belongings_rests v l u (v.belongings u).begun (W.begun u (back u r)) (legal_rests p s journal legal u (back u r))))
+        | inl same ↦ ap (λ z. (v'.belongings z).begun) same ∙ (begun ∙ sym (none_begun_by_ledger v l u (v.belongings u).begun (W.begun u (back u r)) (legal_rests p s journal legal u (back u r))))
         | inr ne ↦ ap (λ (h : Belongings). h.begun) (B.others u ne)
       ]) C
 

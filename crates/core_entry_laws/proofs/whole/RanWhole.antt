@@ -21,7 +21,7 @@ use Rattle.core_relation.specs.Whole.{StandsFor}
 use Rattle.core_entry_laws.proofs.whole.HandedBack.{handed_on}
 use Rattle.core_entry_laws.proofs.whole.HandedBack.{alive_machine}
 use Rattle.core_entry_laws.proofs.parts.Workers.{part_now}
-use Rattle.core_entry_laws.proofs.whole.Past.{belongings_rests, legal_rests, rests_then}
+use Rattle.core_entry_laws.proofs.whole.Past.{legal_rests, none_begun_by_ledger, rests_then}
 use Rattle.core_entry_laws.proofs.notes.RanBegun.{ran_idle}
 use Rattle.core_entry_laws.proofs.whole.RanCounts.{ran_counts}
 use Rattle.core_entry_laws.proofs.whole.RanPast.{ran_keeps}
@@ -42,6 +42,6 @@ ran_stands_for p s journal program legal v v' c c' w t k h accepted E handed Q C
     let counts = ran_counts p s l (after p s l e) t w k E c c' W.tree_counts alive (entries_use p s journal e program legal accepted) N in
     let still : (j : ℕ) → (heap_of (task_steps p l t j) t).begun ≡ None = λ j. none_collects (slice_get (task_steps p l t j).heaps t) (task_steps_sound p j l t (E.knows.sound, E.collects)).1 in
     let n : ℕ = taken_by E.splits.kind k in
-    let own : h.begun ≡ None = belongings_rests (with_belongings v t h) _ t h.begun F.begun (rested_view (λ z. z.begun) (λ z. refl) (task_steps p l t n) t ∙ still n) in
-    let idle = ran_idle p s v v' l (after p s l e) t w k h E alive (λ u r. belongings_rests v l u (v.belongings u).begun (W.begun u r) (legal_rests p s journal legal u r)) own (rests_then p s journal program legal v v' c c' e accepted) (still k) C in
+    let own : h.begun ≡ None = none_begun_by_ledger (with_belongings v t h) _ t h.begun F.begun (rested_view (λ z. z.begun) (λ z. refl) (task_steps p l t n) t ∙ still n) in
+    let idle = ran_idle p s v v' l (after p s l e) t w k h E alive (λ u r. none_begun_by_ledger v l u (v.belongings u).begun (W.begun u r) (legal_rests p s journal legal u r)) own (rests_then p s journal program legal v v' c c' e accepted) (still k) C in
     whole_stands v' c' _ both.0 counts (λ u r. (idle u r).0) (λ u r. (idle u r).1) both.1

@@ -1,5 +1,6 @@
--- The end of a leaf collection: the survivors of a running task lie at new addresses, and each reference to one is led there.
-use Rattle.std.proofs.Common.{is_some, ◌≡◌, ℕ, ◌+◌, arith, true, false, Option, Some, None, List, ◌∷◌, slice_get, ◌⊎◌, inl, inr, refl, ap, sym, subst, ◌∙◌, is_some}
+-- The end of a leaf collection: the survivors of a running task lie at new addresses, and each reference to one is led
+-- there.
+use Rattle.std.proofs.Common.{◌≡◌, ℕ, ◌+◌, arith, true, false, Option, Some, None, List, ◌∷◌, slice_get, ◌⊎◌, inl, inr, refl, ap, sym, subst, ◌∙◌, is_some}
 use Rattle.std.proofs.lemmas.Bool.{cases_eq, both_ways}
 use Rattle.std.proofs.lemmas.Option.{same_Some}
 use Rattle.listed.proofs.Members.{got_in}

@@ -54,7 +54,7 @@ module _ (v v' : Memory) (l l' : Ledger) (t a b g h : ℕ) (x : Task) (S : Sound
   idle : is_waiting (slice_get l.machine.tasks t) ≡ false
   idle = ap is_waiting F.task ∙ ap (λ s. is_waiting (Some (record x { status = s }))) runs
 
-  -- old belongings are as they were, but for the frames
+  -- the belongings of a task that was there are as they were, but for the frames
   chunks_same : (z : ℕ) → (z ≡ a → ⊥) → (z ≡ b → ⊥) → (v'.belongings z).chunks ≡ (v.belongings z).chunks
   chunks_same z na nb = elim (cases_eq z t) [
     | inl e ↦ ap (λ k. (v'.belongings k).chunks) e ∙ (ap (λ (i : Belongings). i.chunks) C.belongings ∙ ap (λ k. (v.belongings k).chunks) (sym e))
@@ -72,7 +72,7 @@ module _ (v v' : Memory) (l l' : Ledger) (t a b g h : ℕ) (x : Task) (S : Sound
     | inr nt ↦ ap (λ (i : Heap). i.worker) (sym (F.heaps z nt na nb)) ∙ r
   ]
 
-  -- what a name's place was in old belongings it is
+  -- what a name's place was among such belongings it is
   place_in : (n : Name) (c : Addr) → (own l n ≡ a → ⊥) → (own l n ≡ b → ⊥) → Place v l n c → Place v' l' n c
   place_in n c na nb p = record {
     chunk = C.owner c.chunk ∙ (p.chunk ∙ ap Some (sym (F.owners n.task)));

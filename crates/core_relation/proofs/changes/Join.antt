@@ -160,10 +160,10 @@ module _ (v v' : Memory) (l l' : Ledger) (p c d : ℕ) (x : Task) (rl rr : ℤ �
 
   -- where an object stood before
   pub record Was (z : ℕ) (o : Located) : Type 0 where
-    pub home : ℕ
-    pub rests : Rests l home
-    pub there : In (objects v home) o
-    pub came : ((z ≡ p) × IsPart home) ⊎ ((home ≡ z) × IsOther z)
+    pub task : ℕ
+    pub rests : Rests l task
+    pub there : In (objects v task) o
+    pub came : ((z ≡ p) × IsPart task) ⊎ ((task ≡ z) × IsOther z)
 
   no_object : (z : ℕ) (o : Located) → IsChild z → In (objects v' z) o → ⊥
   no_object z o (inl e) i = subst (λ (h : Belongings). In (objects_in h.chunks) o) (ap v'.belongings e ∙ H.left) i
@@ -174,10 +174,10 @@ module _ (v v' : Memory) (l l' : Ledger) (p c d : ℕ) (x : Task) (rl rr : ℤ �
     | inl e ↦
         let k = in_chunk (v'.belongings p).chunks o (subst (λ y. In (objects v' y) o) e i) in
         let w = chunk_was k.0 k.1 in
-        record { home = w.0; rests = part_rests w.0 w.1; there = in_objects (v.belongings w.0).chunks k.0 o w.2 k.2; came = inl (e, w.1) }
+        record { task = w.0; rests = part_rests w.0 w.1; there = in_objects (v.belongings w.0).chunks k.0 o w.2 k.2; came = inl (e, w.1) }
     | inr w ↦ elim w [
       | inl ch ↦ absurd (no_object z o ch i)
-      | inr ot ↦ record { home = z; rests = rest z r; there = subst (λ (h : Belongings). In (objects_in h.chunks) o) (H.others z ot.0 ot.1 ot.2) i; came = inr (refl, ot) }
+      | inr ot ↦ record { task = z; rests = rest z r; there = subst (λ (h : Belongings). In (objects_in h.chunks) o) (H.others z ot.0 ot.1 ot.2) i; came = inr (refl, ot) }
     ]
   ]
 
@@ -262,13 +262,13 @@ module _ (v v' : Memory) (l l' : Ledger) (p c d : ℕ) (x : Task) (rl rr : ℤ �
     once = λ o q i j e.
         let a = was p o rests' i in
         let b = was p q rests' j in
-        let same : a.home ≡ b.home = same_Some a.home b.home (sym (owned_by a.home o a.rests a.there) ∙ (ap (λ (z : Addr). v.owner z.chunk) e ∙ owned_by b.home q b.rests b.there)) in
-        (V.belongings a.home a.rests).once o q a.there (subst (λ z. In (objects v z) q) (sym same) b.there) e;
+        let same : a.task ≡ b.task = same_Some a.task b.task (sym (owned_by a.task o a.rests a.there) ∙ (ap (λ (z : Addr). v.owner z.chunk) e ∙ owned_by b.task q b.rests b.there)) in
+        (V.belongings a.task a.rests).once o q a.there (subst (λ z. In (objects v z) q) (sym same) b.there) e;
     named = λ o q i j e.
         let a = was p o rests' i in
         let b = was p q rests' j in
-        let same : a.home ≡ b.home = sym (belongings_own v l S a.home (V.belongings a.home a.rests) o a.there) ∙ (ap (own l) e ∙ belongings_own v l S b.home (V.belongings b.home b.rests) q b.there) in
-        (V.belongings a.home a.rests).named o q a.there (subst (λ z. In (objects v z) q) (sym same) b.there) e;
+        let same : a.task ≡ b.task = sym (belongings_own v l S a.task (V.belongings a.task a.rests) o a.there) ∙ (ap (own l) e ∙ belongings_own v l S b.task (V.belongings b.task b.rests) q b.there) in
+        (V.belongings a.task a.rests).named o q a.there (subst (λ z. In (objects v z) q) (sym same) b.there) e;
     laid = subst (λ ks. AreLaidOut ks (heap_of l' p).reserved) (sym H.chunks) (subst (AreLaidOut (A ++ B ++ C)) (sym (ap (λ (h : Heap). h.reserved) J.heap))
         (laid_both (A ++ B) C (heap_of l p).reserved (laid_both A B 0 (subst (AreLaidOut A) T.left_spares (at c (inr (inl refl))).laid) (subst (AreLaidOut B) T.right_spares (at d (inr (inr refl))).laid)
         (λ j k a b e. T.two (one_owner j k c d (inr (inl refl)) (inr (inr refl)) a b e)) (at c (inr (inl refl))).inside (at d (inr (inr refl))).inside)
@@ -342,7 +342,7 @@ module _ (v v' : Memory) (l l' : Ledger) (p c d : ℕ) (x : Task) (rl rr : ℤ �
   content : (z : ℕ) (o : Located) → Rests l' z → In (objects v' z) o → (y : Object) × (object_at l'.machine.store (object_name o) ≡ Some y) × IsRead (Place v' l') o y
   content z o r i =
       let w = was z o r i in
-      let k = V.contents w.home o w.rests w.there in
+      let k = V.contents w.task o w.rests w.there in
       (k.0, store_same (object_name o) ∙ k.1, object_kept (Place v l) (Place v' l') o k.0 (λ n j. place n) k.2)
 
   -- FRAMES
@@ -399,30 +399,30 @@ module _ (v v' : Memory) (l l' : Ledger) (p c d : ℕ) (x : Task) (rl rr : ℤ �
 
   -- into what was a child's heap
   into_child : (z : ℕ) (o : Located) (i : ℕ) (n : Name) (w : Was z o) → own l' n ≡ p → IsChild (own l n)
-      → (is_on_path l.machine.tasks (own l n) w.home ≡ true) ⊎ In (sources v (own l n)) (record { object = o.at; field = i }) → Minds z n (record { object = o.at; field = i })
+      → (is_on_path l.machine.tasks (own l n) w.task ≡ true) ⊎ In (sources v (own l n)) (record { object = o.at; field = i }) → Minds z n (record { object = o.at; field = i })
   into_child z o i n w e ch old = subst (λ u. (is_on_path l'.machine.tasks u z ≡ true) ⊎ In (sources v' u) (record { object = o.at; field = i })) (sym e) (by w.came old)
     where
-      by : ((z ≡ p) × IsPart w.home) ⊎ ((w.home ≡ z) × IsOther z) → (is_on_path l.machine.tasks (own l n) w.home ≡ true) ⊎ In (sources v (own l n)) (record { object = o.at; field = i })
+      by : ((z ≡ p) × IsPart w.task) ⊎ ((w.task ≡ z) × IsOther z) → (is_on_path l.machine.tasks (own l n) w.task ≡ true) ⊎ In (sources v (own l n)) (record { object = o.at; field = i })
           → (is_on_path l'.machine.tasks p z ≡ true) ⊎ In (sources v' p) (record { object = o.at; field = i })
       by (inl m) old = inl (ap (λ k. is_on_path l'.machine.tasks p k) m.0 ∙ (J.paths p p ∙ on_itself))
       by (inr m) (inl h) = inl (J.paths p z ∙ under (own l n) z ch (ap (λ k. is_on_path l.machine.tasks (own l n) k) (sym m.0) ∙ h))
-      by (inr m) (inr s) = inr (source_lifts (own l n) (record { object = o.at; field = i }) ch (λ g. m.1.0 (sym m.0 ∙ same_Some w.home p (sym (owned_by w.home o w.rests w.there) ∙ g))) s)
+      by (inr m) (inr s) = inr (source_lifts (own l n) (record { object = o.at; field = i }) ch (λ g. m.1.0 (sym m.0 ∙ same_Some w.task p (sym (owned_by w.task o w.rests w.there) ∙ g))) s)
 
   -- into another heap
   into_other : (z : ℕ) (o : Located) (i : ℕ) (n : Name) (w : Was z o) → own l' n ≡ own l n → (own l n ≡ c → ⊥) → (own l n ≡ d → ⊥)
-      → (is_on_path l.machine.tasks (own l n) w.home ≡ true) ⊎ In (sources v (own l n)) (record { object = o.at; field = i }) → Minds z n (record { object = o.at; field = i })
+      → (is_on_path l.machine.tasks (own l n) w.task ≡ true) ⊎ In (sources v (own l n)) (record { object = o.at; field = i }) → Minds z n (record { object = o.at; field = i })
   into_other z o i n w e nc nd old = subst (λ u. (is_on_path l'.machine.tasks u z ≡ true) ⊎ In (sources v' u) (record { object = o.at; field = i })) (sym e) (by old)
     where
       not_child : (y : ℕ) → IsChild y → own l n ≡ y → ⊥
       not_child y (inl f) g = nc (g ∙ f)
       not_child y (inr f) g = nd (g ∙ f)
 
-      up : ((z ≡ p) × IsPart w.home) ⊎ ((w.home ≡ z) × IsOther z) → is_on_path l.machine.tasks (own l n) w.home ≡ true → is_on_path l.machine.tasks (own l n) z ≡ true
+      up : ((z ≡ p) × IsPart w.task) ⊎ ((w.task ≡ z) × IsOther z) → is_on_path l.machine.tasks (own l n) w.task ≡ true → is_on_path l.machine.tasks (own l n) z ≡ true
       up (inl (m, inl f)) h = ap (λ k. is_on_path l.machine.tasks (own l n) k) (m ∙ sym f) ∙ h
-      up (inl (m, inr ch)) h = ap (λ k. is_on_path l.machine.tasks (own l n) k) m ∙ over (own l n) w.home ch (not_child w.home ch) h
+      up (inl (m, inr ch)) h = ap (λ k. is_on_path l.machine.tasks (own l n) k) m ∙ over (own l n) w.task ch (not_child w.task ch) h
       up (inr m) h = ap (λ k. is_on_path l.machine.tasks (own l n) k) (sym m.0) ∙ h
 
-      by : (is_on_path l.machine.tasks (own l n) w.home ≡ true) ⊎ In (sources v (own l n)) (record { object = o.at; field = i })
+      by : (is_on_path l.machine.tasks (own l n) w.task ≡ true) ⊎ In (sources v (own l n)) (record { object = o.at; field = i })
           → (is_on_path l'.machine.tasks (own l n) z ≡ true) ⊎ In (sources v' (own l n)) (record { object = o.at; field = i })
       by (inl h) = inl (J.paths (own l n) z ∙ up w.came h)
       by (inr s) = inr (source_stays (own l n) (record { object = o.at; field = i }) nc nd s)
@@ -431,7 +431,7 @@ module _ (v v' : Memory) (l l' : Ledger) (p c d : ℕ) (x : Task) (rl rr : ℤ �
       → (is_on_path l'.machine.tasks (own l' n) z ≡ true) ⊎ In (sources v' (own l' n)) (record { object = o.at; field = i })
   remember z o y i n r j is at =
       let w = was z o r j in
-      let old = V.remembered w.home o y i n w.rests w.there (sym (store_same (object_name o)) ∙ is) at in
+      let old = V.remembered w.task o y i n w.rests w.there (sym (store_same (object_name o)) ∙ is) at in
       elim (J.owners n.task) [
         | inl m ↦ into_child z o i n w m.0 m.1 old
         | inr m ↦ into_other z o i n w m.0 m.1.0 m.1.1 old

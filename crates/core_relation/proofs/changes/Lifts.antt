@@ -236,7 +236,7 @@ module _ (v v' : Memory) (u : ℕ) (h : Belongings) where
         sources = J.sources;
       }
 
-  -- what is seen of the belongings, of u's or of another
+  -- what is seen of a task's belongings, of u's or of another's
   view_too : {A : Type 0} (view was : Belongings → A) (z : ℕ) → view h ≡ was h → ((z ≡ u → ⊥) → view (v'.belongings z) ≡ was (v.belongings z)) → view (w'.belongings z) ≡ was (w.belongings z)
   view_too view was z mine e = elim (cases_eq z u) [
     | inl f ↦ ap (λ j. view (w'.belongings j)) f ∙ (ap view (at_belongings v' u h) ∙ (mine ∙ (ap was (sym (at_belongings v u h)) ∙ ap (λ j. was (w.belongings j)) (sym f))))

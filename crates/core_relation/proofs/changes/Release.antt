@@ -1,4 +1,4 @@
--- A worker takes a task, with its belongings: the memory stands without it.
+-- A worker takes a task, with its belongings: the memory stands without them.
 use Rattle.std.proofs.Common.{is_some, ◌≡◌, ℕ, false, Some, length, slice_get, inl, inr, ap, sym, subst, ◌∙◌}
 use Rattle.std.proofs.lemmas.Bool.{both_ways}
 use Rattle.object_layout.specs.declared.word.Addr.{Addr}

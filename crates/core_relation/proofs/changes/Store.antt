@@ -31,8 +31,8 @@ use Rattle.core_relation.proofs.changes.Sweep.{snapshot_is}
 use Rattle.ledger_step_laws.proofs.Tree.{own_live, leaf_alone}
 use Rattle.core_relation.proofs.changes.Write.{written}
 
--- of two names that a running task holds, where the owner of the one isn't on the path of the other's: the other's owner stands
--- above it and waits, and its sweep keeps the other
+-- of two names that a running task holds, where the owner of the one isn't on the path of the other's: the other's
+-- owner stands above it and waits, and its sweep keeps the other
 module _ (l : Ledger) (S : SoundLedger l) (t : ℕ) (x : Task) (is : slice_get l.machine.tasks t ≡ Some x) (n r : Name) (holds_n : In (task_names x) n) (holds_r : In (task_names x) r) (off : is_on_path l.machine.tasks (own l r) (own l n) ≡ false) where
   pub above : is_on_path l.machine.tasks (own l n) (own l r) ≡ true
   above = elim (on_one_path (parents l.machine.tasks) S.kept.tree.low (own l n) (own l r) t (S.apart.of_task t x n is holds_n).1 (S.apart.of_task t x r is holds_r).1) [

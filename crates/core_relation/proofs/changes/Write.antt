@@ -1,5 +1,5 @@
--- A step writes a field, of an object of its task or of one above it: nothing moves, and a reference that points down is
--- remembered.
+-- A step writes a field, of an object of its task or of one above it: nothing moves, and a reference that points down
+-- is remembered.
 use Rattle.std.proofs.Common.{◌≡◌, ℕ, ◌<◌, Bool, true, false, cond, Some, length, slice_get, ◌⊎◌, inl, inr, refl, ap, sym, subst, ◌∙◌}
 use Rattle.std.proofs.lemmas.Bool.{cases_eq, both_ways, cond-true, cond-false}
 use Rattle.std.proofs.lemmas.Option.{same_Some}

@@ -26,35 +26,35 @@ lies_in v l V z q r i =
     let k = in_chunk (v.belongings z).chunks q i in
     ap v.owner ((V.belongings z r).inside k.0 q k.1 k.2) ∙ (V.belongings z r).owned k.0 k.1
 
-pub root_owner : (v : Memory) (l : Ledger) (V : Stands v l) (u : ℕ) (b : Addr) (r : IsRoot v l u b) → own l (V.sources u r.source r.noted).name ≡ r.home
+pub root_owner : (v : Memory) (l : Ledger) (V : Stands v l) (u : ℕ) (b : Addr) (r : IsRoot v l u b) → own l (V.sources u r.source r.noted).name ≡ r.task
 root_owner v l V u b r =
     let s = V.sources u r.source r.noted in
-    same_Some (own l s.name) r.home (sym s.place.chunk ∙ (ap (λ (a : Addr). v.owner a.chunk) (sym r.at) ∙ lies_in v l V r.home r.object r.rests r.there))
+    same_Some (own l s.name) r.task (sym s.place.chunk ∙ (ap (λ (a : Addr). v.owner a.chunk) (sym r.at) ∙ lies_in v l V r.task r.object r.rests r.there))
 
 -- it waits
-pub root_waits : (v : Memory) (l : Ledger) → Stands v l → (u : ℕ) (b : Addr) → (r : IsRoot v l u b) → is_waiting (slice_get l.machine.tasks r.home) ≡ true
+pub root_waits : (v : Memory) (l : Ledger) → Stands v l → (u : ℕ) (b : Addr) → (r : IsRoot v l u b) → is_waiting (slice_get l.machine.tasks r.task) ≡ true
 root_waits v l V u b r = ap (λ z. is_waiting (slice_get l.machine.tasks z)) (sym (root_owner v l V u b r)) ∙ (V.sources u r.source r.noted).waits
 
-pub root_apart : (v : Memory) (l : Ledger) → Stands v l → (t : ℕ) → is_waiting (slice_get l.machine.tasks t) ≡ false → (u : ℕ) (b : Addr) (r : IsRoot v l u b) → r.home ≡ t → ⊥
+pub root_apart : (v : Memory) (l : Ledger) → Stands v l → (t : ℕ) → is_waiting (slice_get l.machine.tasks t) ≡ false → (u : ℕ) (b : Addr) (r : IsRoot v l u b) → r.task ≡ t → ⊥
 root_apart v l V t idle u b r e = both_ways (is_waiting (slice_get l.machine.tasks t)) idle (ap (λ z. is_waiting (slice_get l.machine.tasks z)) (sym e) ∙ root_waits v l V u b r)
 
 -- and its snapshot has the object
-pub root_kept : (v : Memory) (l : Ledger) → Stands v l → (u : ℕ) (b : Addr) → (r : IsRoot v l u b) → In (heap_of l r.home).snapshot (object_name r.object)
+pub root_kept : (v : Memory) (l : Ledger) → Stands v l → (u : ℕ) (b : Addr) → (r : IsRoot v l u b) → In (heap_of l r.task).snapshot (object_name r.object)
 root_kept v l V u b r =
     let s = V.sources u r.source r.noted in
-    let own_home = root_owner v l V u b r in
+    let own_task = root_owner v l V u b r in
     let p = s.place.here s.rests in
-    let p' : In (objects v r.home) p.0 = subst (λ z. In (objects v z) p.0) own_home p.1 in
-    let same : r.object ≡ p.0 = (V.belongings r.home r.rests).once r.object p.0 r.there p' (r.at ∙ sym p.2.at) in
+    let p' : In (objects v r.task) p.0 = subst (λ z. In (objects v z) p.0) own_task p.1 in
+    let same : r.object ≡ p.0 = (V.belongings r.task r.rests).once r.object p.0 r.there p' (r.at ∙ sym p.2.at) in
     let name : s.name ≡ object_name r.object = sym p.2.name ∙ ap object_name (sym same) in
-    subst (In (heap_of l r.home).snapshot) name (subst (λ z. In (heap_of l z).snapshot s.name) own_home s.kept)
+    subst (In (heap_of l r.task).snapshot) name (subst (λ z. In (heap_of l z).snapshot s.name) own_task s.kept)
 
 -- A ROOT STAYS where its object does, with the field
 module _ (v v' : Memory) (l l' : Ledger) (u : ℕ) (noted : (s : Source) → In (sources v u) s → In (sources v' u) s) (into : (k : ℕ) → v.owner k ≡ Some u → v'.owner k ≡ Some u) where
-  pub root_by : (b : Addr) (r : IsRoot v l u b) → Rests l' r.home → (q : Located) → In (objects v' r.home) q → q.at ≡ r.object.at → slice_get q.refs r.source.field ≡ Some (Some b) → IsRoot v' l' u b
-  root_by b r rests q i at holds = record { source = r.source; home = r.home; object = q; rests = rests; noted = noted r.source r.noted; there = i; at = at ∙ r.at; holds = holds; into = into b.chunk r.into }
+  pub root_by : (b : Addr) (r : IsRoot v l u b) → Rests l' r.task → (q : Located) → In (objects v' r.task) q → q.at ≡ r.object.at → slice_get q.refs r.source.field ≡ Some (Some b) → IsRoot v' l' u b
+  root_by b r rests q i at holds = record { source = r.source; task = r.task; object = q; rests = rests; noted = noted r.source r.noted; there = i; at = at ∙ r.at; holds = holds; into = into b.chunk r.into }
 
-  pub root_same : (b : Addr) (r : IsRoot v l u b) → Rests l' r.home → objects v' r.home ≡ objects v r.home → IsRoot v' l' u b
+  pub root_same : (b : Addr) (r : IsRoot v l u b) → Rests l' r.task → objects v' r.task ≡ objects v r.task → IsRoot v' l' u b
   root_same b r rests same = root_by b r rests r.object (subst (λ os. In os r.object) (sym same) r.there) refl r.holds
 
 -- where sources are the same list

@@ -1,4 +1,5 @@
--- What the registers and the roots of a begun collection reach by addresses is what is reached within the heap by names.
+-- What the registers and the roots of a begun collection reach by addresses is what is reached within the heap by
+-- names.
 use Rattle.std.proofs.Common.{◌≡◌, ℕ, zero, suc, ◌==◌, not, Bool, true, false, Option, Some, None, List, [], ◌∷◌, slice_get, ◌⊎◌, ◌↔◌, inl, inr, refl, ap, sym, subst, ◌∙◌, ne_eqb}
 use Rattle.std.proofs.lemmas.Bool.{and_from, and_parts, eqb-false, not-true}
 use Rattle.std.proofs.lemmas.Option.{same_Some}
@@ -121,14 +122,14 @@ module _ (v : Memory) (l : Ledger) (t : ℕ) (x : Task) (roots : List Addr) (S :
   root_name : (o : Located) (a : Addr) → In (objects v t) o → o.at ≡ a → In roots a → In (roots_of l t) (object_name o)
   root_name o a i e j =
       let k = (R a).0 j in
-      let c = V.contents k.home k.object k.rests k.there in
+      let c = V.contents k.task k.object k.rests k.there in
       let f = name_at (Place v l) k.object.refs c.0.refs k.source.field a c.2.refs k.holds in
       let m = bears t o f.0 a rests i e f.2 in
       let s = V.sources t k.source k.noted in
-      let b = bears k.home k.object s.name k.source.object k.rests k.there k.at s.place in
+      let b = bears k.task k.object s.name k.source.object k.rests k.there k.at s.place in
       let up : is_above l.machine.tasks (own l (object_name k.object)) t ≡ true =
       subst (λ z. is_above l.machine.tasks (own l z) t ≡ true) (sym b.0) (and_from (is_on_path l.machine.tasks (own l s.name) t) (not (own l s.name == t)) s.above (ap not (ne_eqb (own l s.name) t s.below))) in
-      let held_q : In (held l) (object_name k.object) = in_held l (object_name k.object) (is_kept v l k.home (V.belongings k.home k.rests) k.object k.there) in
+      let held_q : In (held l) (object_name k.object) = in_held l (object_name k.object) (is_kept v l k.task (V.belongings k.task k.rests) k.object k.there) in
       subst (In (roots_of l t)) (sym m.0)
       (in_append_right (registers (frames_of (slice_get l.machine.tasks t))) _ f.0
       (in_flat (refs_at l.machine.store) _ (object_name k.object) f.0
@@ -201,7 +202,7 @@ module _ (v : Memory) (l : Ledger) (t : ℕ) (x : Task) (roots : List Addr) (S :
             | inl d ↦ absurd (ab.1 (ap (λ z. is_on_path l.machine.tasks z (own l m)) (sym own_o) ∙ (ap (is_on_path l.machine.tasks (own l (object_name o))) mine ∙ d)))
             | inr s ↦ (R o.at).1 (record {
               source = record { object = q.0.at; field = j.0 };
-              home = k.0;
+              task = k.0;
               object = q.0;
               rests = ru;
               noted = subst (λ z. In (sources v z) (record { object = q.0.at; field = j.0 })) own_o s;

@@ -43,7 +43,7 @@ since_fork v v' l l' t a b g h x roots S V runs rests at_rest F C R same none =
           let na = root_apart v l V a (ap is_waiting F.unmade_left) t c r in
           let nb = root_apart v l V b (ap is_waiting F.unmade_right) t c r in
           inl (root_same v v' l l' t (noted_by v v' t (C.sources t (λ e. F.left_apart (sym e)) (λ e. F.right_apart (sym e)))) (λ k o. C.owner k ∙ o) c r
-          (ap (λ (y : Heap). y.worker) (F.heaps r.home nt na nb) ∙ r.rests) (ap (λ (y : Belongings). objects_in y.chunks) (C.others r.home nt na nb)));
+          (ap (λ (y : Heap). y.worker) (F.heaps r.task nt na nb) ∙ r.rests) (ap (λ (y : Belongings). objects_in y.chunks) (C.others r.task nt na nb)));
       there = λ o i. (o, subst (λ (y : Belongings). In (objects_in y.chunks) o) (sym C.belongings) i, refl, refl);
       were = λ q i. (q, back q i, refl, refl);
       snapshot = λ q i.
@@ -116,14 +116,14 @@ module _ (v v' : Memory) (l l' : Ledger) (t w i : ℕ) (n : Name) (y y' : Object
     where
       goes_on : slice_get (one r.object).refs r.source.field ≡ Some (Some b) → IsRoot v' l' t b ⊎ In (kept v' t) b
       goes_on e =
-          inl (root_by v v' l l' t (C.noted t) (λ k o. C.owner k ∙ o) b r (ap (λ (y : Heap). y.worker) (L.heaps r.home) ∙ r.rests) (one r.object) (then_ r.home r.object r.there) (one_at r.object) e)
+          inl (root_by v v' l l' t (C.noted t) (λ k o. C.owner k ∙ o) b r (ap (λ (y : Heap). y.worker) (L.heaps r.task) ∙ r.rests) (one r.object) (then_ r.task r.object r.there) (one_at r.object) e)
 
       by : (z : Bool) → same_address r.object.at a ≡ z → IsRoot v' l' t b ⊎ In (kept v' t) b
       by false e = goes_on (ap (λ (s : Located). slice_get s.refs r.source.field) (cond-false (same_address r.object.at a) (with_field i value r.object) r.object e) ∙ r.holds)
       by true e = elim (cases_eq r.source.field i) [
         | inl f ↦
             let at : r.object.at ≡ a = at_is a r.object e in
-            inr (K.old r.home r.object b (ap (λ (y : Addr). v.owner y.chunk) (sym at) ∙ lies_in v l V r.home r.object r.rests r.there) r.there at (ap (slice_get r.object.refs) (sym f) ∙ r.holds) r.into)
+            inr (K.old r.task r.object b (ap (λ (y : Addr). v.owner y.chunk) (sym at) ∙ lies_in v l V r.task r.object r.rests r.there) r.there at (ap (slice_get r.object.refs) (sym f) ∙ r.holds) r.into)
         | inr ne ↦ goes_on (ap (λ (s : Located). slice_get s.refs r.source.field) (cond-true (same_address r.object.at a) (with_field i value r.object) r.object e) ∙ (got_other r.object.refs i r.source.field value ne ∙ r.holds))
       ]
 

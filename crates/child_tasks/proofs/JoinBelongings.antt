@@ -1,4 +1,4 @@
--- What a join makes of two homes and their parent's, in the words of the relation.
+-- What a join makes of the belongings of two children and of their parent, in the words of the relation.
 use Rattle.std.proofs.Common.{◌≡◌, ◌⊎◌, ℕ, ℤ, ◌+◌, ◌<◌, ◌^◌, ◌++◌, arith, true, false, Option, Some, None, List, [], inl, inr, refl, ap, ap₂, sym, subst, ◌∙◌, eqb, eq-eqb, append_assoc}
 use Rattle.std.specs.Prelude.{Contains}
 use Rattle.std.proofs.lemmas.Bool.{cases_Bool, false≢true}
@@ -52,7 +52,7 @@ pub by_content : (o : Option Content) → (noted_of o).sources ≡ sources_by o
 by_content None = refl
 by_content (Some c) = refl
 
--- what the code makes of the homes of the task q and its children c and d
+-- what the code makes of the belongings of the task q and its children c and d
 pub record Merges (v v' : Memory) (pool pool' : PoolValue) (q c d : ℕ) (al ar : ℤ × Option Addr) : Type 0 where
   pub own_heap : LeafHeapValue
   pub left_heap : LeafHeapValue
@@ -98,7 +98,7 @@ module _ (v v' : Memory) (l : Ledger) (V : Stands v l) (pool pool' : PoolValue) 
   abbrev both : List ChunkValue
   both = J.left_heap.chunks ++ J.right_heap.chunks
 
-  -- a content of a home is owned by its task
+  -- the chunks among a task's belongings are its own
   owned_at : (u n : ℕ) (h : LeafHeapValue) (view : List Level) (x : Work) → v.belongings u ≡ belongings_by h view n x → Rests l u → (k : ChunkValue) → In h.chunks k → v.owner k.number ≡ Some u
   owned_at u n h view x e r k i =
       (V.belongings u r).owned (chunk_of k) (subst (λ (ks : List Chunk). In ks (chunk_of k)) (sym (ap (λ (z : Belongings). z.chunks) e ∙ by_chunks h view n x)) (in_map chunk_of h.chunks k i))
@@ -112,7 +112,7 @@ module _ (v v' : Memory) (l : Ledger) (V : Stands v l) (pool pool' : PoolValue) 
   right_owned : (k : ChunkValue) → In J.right_heap.chunks k → v.owner k.number ≡ Some d
   right_owned k i = owned_at d J.right_count J.right_heap J.right_view J.right_work J.right_belongings rd k i
 
-  -- the content of a chunk of a home
+  -- the content of a chunk among a task's belongings
   content_at : (u n : ℕ) (h : LeafHeapValue) (view : List Level) (x : Work) → v.belongings u ≡ belongings_by h view n x → (k : Chunk) → In (v.belongings u).chunks k → (z : ChunkValue) × In h.chunks z × (z.number ≡ k.number)
   content_at u n h view x e k i =
       let z = map_in chunk_of h.chunks k (subst (λ (ks : List Chunk). In ks k) (ap (λ (z : Belongings). z.chunks) e ∙ by_chunks h view n x) i) in

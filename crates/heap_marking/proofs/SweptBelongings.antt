@@ -1,4 +1,4 @@
--- A sweep leaves in a home just what its snapshot names.
+-- A sweep leaves in a heap just what its snapshot names.
 use Rattle.std.proofs.Common.{◌≡◌, ℕ, ◌*◌, ◌/◌, arith, All, true, false, Option, Some, None, List, [], ◌∷◌, filter, length, option_map, slice_get, inl, inr, refl, ap, sym, subst, ◌∙◌}
 use Rattle.std.proofs.lemmas.Bool.{false≢true, not-true}
 use Rattle.std.proofs.lemmas.Option.{same_Some}
@@ -177,7 +177,7 @@ module _ (w : SharedValue) (I : IsSharedValue w) (on : (accounts w).end ≡ None
     pub owned : (n u : ℕ) → owner_of pool n ≡ Some u → owner_of w.pool n ≡ Some u
     owned n u o = owned_before w.pool pool (gone_of r.heap kept) n u G.free (G.others n) o
 
-    -- THE HOME, in a value and accounts that have it so
+    -- THE BELONGINGS, in a value and accounts that have them so
     module _ (v' : Memory) (L : Ledger) (belongings : v'.belongings t ≡ belongings_of rest') (owner : v'.owner ≡ owner_of pool) (account : heap_of L t ≡ swept_heap a) (machine : L.machine ≡ l.machine) where
       chunks_then : (v'.belongings t).chunks ≡ chunks_of now
       chunks_then = ap (λ (h : Belongings). h.chunks) belongings ∙ (belongings_chunks rest' ∙ ap chunks_of chunks_are)

@@ -1,4 +1,4 @@
--- Every step keeps the tree and the store.
+-- The first state is a fork-join state, and every step keeps the tree and the store.
 use Rattle.std.proofs.Common.{◌≡◌, ℕ, ℤ, zero, suc, ◌+◌, ◌-◌, ◌%◌, ◌<◌, ◌≤◌, Bool, true, false, cond, Option, Some, None, List, [], ◌∷◌, ◌++◌, length, slice_get, slice_set, nat_lt, inl, inr, refl, ap, sym, subst, ◌∙◌, arith, length-set, eq-eqb}
 use Rattle.std.proofs.lemmas.Bool.{both_ways, cond-true, cond-false, false≢true, eqb-false}
 use Rattle.listed.proofs.Members.{got_within, same_view}
@@ -23,7 +23,7 @@ use Rattle.hh_model.proofs.Walks.{decides_none, same_itself}
 use Rattle.hh_model.proofs.Tree.{Known}
 use Rattle.hh_model.proofs.Stores.{StandsAs, Keeps, effect_keeps}
 use Rattle.hh_model.proofs.Runs.{waiting, joins_of, joins_in, TreeOf, same_tree, running_tells, ended_tells, grown_length, grown_view, fork_tree, join_tree, join_joins, join_length}
-use Rattle.hh_model.specs.Tree.{RunsAreSound}
+use Rattle.hh_model.specs.Tree.{RunsAreForkJoinStates}
 pub use Rattle.hh_model.specs.Tree.{StoreOf, IsForkJoinStateIn, IsForkJoinState}
 
 store_wider : (n n' : ℕ) (js js' : ℕ → ℕ) (store : List (List Object)) → n ≤ n' → ((u : ℕ) → js u ≤ js' u) → StoreOf n js store → StoreOf n' js' store
@@ -71,13 +71,13 @@ empty_rows [] (suc (suc k)) c o e = absurd cc
 empty_rows (row ∷ rows) zero c o e = e
 empty_rows (row ∷ rows) (suc k) c o e = empty_rows rows k c o e
 
-either_kept : (b : Bool) (m m' : State) → IsForkJoinState m → IsForkJoinState m' → IsForkJoinState (cond b m m')
-either_kept true m m' k k' = k
-either_kept false m m' k k' = k'
+either_is_fork_join_state : (b : Bool) (m m' : State) → IsForkJoinState m → IsForkJoinState m' → IsForkJoinState (cond b m m')
+either_is_fork_join_state true m m' k k' = k
+either_is_fork_join_state false m m' k k' = k'
 
-same_kept : {A : Type 0} (m : State) (o : Option A) (go : A → State) → IsForkJoinState m → ((x : A) → o ≡ Some x → IsForkJoinState (go x)) → IsForkJoinState (or_same m o go)
-same_kept m None go k each = k
-same_kept m (Some x) go k each = each x refl
+or_same_is_fork_join_state : {A : Type 0} (m : State) (o : Option A) (go : A → State) → IsForkJoinState m → ((x : A) → o ≡ Some x → IsForkJoinState (go x)) → IsForkJoinState (or_same m o go)
+or_same_is_fork_join_state m None go k each = k
+or_same_is_fork_join_state m (Some x) go k each = each x refl
 
 module _ (m : State) (t : ℕ) (x : Task) (is : slice_get m.tasks t ≡ Some x) (run : is_running (Some x) ≡ true) (K : IsForkJoinState m) where
   tells : (is_over x.status ≡ false) × (waits x.status ≡ false)
@@ -89,8 +89,8 @@ module _ (m : State) (t : ℕ) (x : Task) (is : slice_get m.tasks t ≡ Some x) 
   abbrev all : ℕ → ℕ → List Task
   all g h = slice_set m.tasks t y ++ child t (x.depth + 1) g x.top ∷ child t (x.depth + 1) h x.top ∷ []
 
-  forked_kept : (g h line : ℕ) → IsForkJoinState (forked m t x g h line)
-  forked_kept g h line = either_kept (nat_lt x.depth depth_limit) _ (ended_by m (Trapped Depth t line)) (record {
+  forked_is_fork_join_state : (g h line : ℕ) → IsForkJoinState (forked m t x g h line)
+  forked_is_fork_join_state g h line = either_is_fork_join_state (nat_lt x.depth depth_limit) _ (ended_by m (Trapped Depth t line)) (record {
     tree = fork_tree m.tasks m.edges t x (onward x.top) x.top x.top g h is run K.tree;
     store_of =
         store_wider (length m.tasks) (length (all g h)) (joins_in m.tasks) (joins_in (all g h)) (m.store ++ [] ∷ [] ∷ [])
@@ -99,11 +99,11 @@ module _ (m : State) (t : ℕ) (x : Task) (is : slice_get m.tasks t ≡ Some x) 
         (λ n o e. K.store_of n o (empty_rows m.store n.task n.count o e));
   }) K
 
-  join_kept : (p l : ℕ) (xp xl xr : Task) (rl rr : ℤ × Option Name)
+  join_is_fork_join_state : (p l : ℕ) (xp xl xr : Task) (rl rr : ℤ × Option Name)
       → slice_get m.tasks p ≡ Some xp → slice_get m.tasks l ≡ Some xl → slice_get m.tasks (l + 1) ≡ Some xr
       → xl.parent ≡ Some p → is_left l ≡ true → is_over xl.status ≡ false → is_over xr.status ≡ false → waits xl.status ≡ false → waits xr.status ≡ false
       → IsForkJoinState (join_of m p xp l xl xr rl rr)
-  join_kept p l xp xl xr rl rr ip il ir pl left dl dr wl wr = record {
+  join_is_fork_join_state p l xp xl xr rl rr ip il ir pl left dl dr wl wr = record {
     tree = join_tree m.tasks m.edges l p xl xr xp rl rr il ir ip pl left dl dr wl wr K.tree;
     store_of =
         store_wider (length m.tasks) (length (join_of m p xp l xl xr rl rr).tasks) (joins_in m.tasks) (joins_in (join_of m p xp l xl xr rl rr).tasks) m.store
@@ -116,7 +116,7 @@ module _ (m : State) (t : ℕ) (x : Task) (is : slice_get m.tasks t ≡ Some x) 
       → (b : Bool) → is_left t ≡ b → IsForkJoinState (cond b (join_of m p xp t x z result other) (join_of m p xp (t - 1) z x other result))
   sides p xp z result other ip iz pp over true side =
       let sib : sibling t ≡ t + 1 = cond-true (is_left t) (t + 1) (t - 1) side in
-      join_kept p t xp x z result other ip is (ap (slice_get m.tasks) (sym sib) ∙ iz) pp side tells.0 over.0 tells.1 over.1
+      join_is_fork_join_state p t xp x z result other ip is (ap (slice_get m.tasks) (sym sib) ∙ iz) pp side tells.0 over.0 tells.1 over.1
   sides p xp z result other ip iz pp over false side =
       let sib : sibling t ≡ t - 1 = cond-false (is_left t) (t + 1) (t - 1) side in
       let par : parents m.tasks t ≡ Some p = ap parent_of is ∙ pp in
@@ -124,52 +124,52 @@ module _ (m : State) (t : ℕ) (x : Task) (is : slice_get m.tasks t ≡ Some x) 
       let back : t - 1 + 1 ≡ t = omega arith in
       let even : t % 2 ≡ 1 → ⊥ = eqb-false (t % 2) 1 side in
       let odd : (t - 1) % 2 ≡ 1 = omega arith in
-      join_kept p (t - 1) xp z x other result ip (ap (slice_get m.tasks) (sym sib) ∙ iz) (ap (slice_get m.tasks) back ∙ is)
+      join_is_fork_join_state p (t - 1) xp z x other result ip (ap (slice_get m.tasks) (sym sib) ∙ iz) (ap (slice_get m.tasks) back ∙ is)
       (ap parent_of (sym iz) ∙ K.tree.pairs t p par) (eq-eqb ((t - 1) % 2) 1 odd) over.0 tells.0 over.1 tells.1
 
-  ended_kept : (p : ℕ) (result : ℤ × Option Name) (o : Option (ℤ × Option Name)) → x.parent ≡ Some p → result_at (slice_get m.tasks (sibling t)) ≡ o → IsForkJoinState (child_ended_by m t x p result o)
-  ended_kept p result None pp k = written m.tasks m.edges m.store t x (ended_task x result) is refl (sym tells.0) (sym tells.1) refl K
-  ended_kept p result (Some other) pp k =
-      same_kept m (slice_get m.tasks p) _ K (λ parent ip. same_kept m (slice_get m.tasks (sibling t)) _ K (λ z iz.
+  child_ended_is_fork_join_state : (p : ℕ) (result : ℤ × Option Name) (o : Option (ℤ × Option Name)) → x.parent ≡ Some p → result_at (slice_get m.tasks (sibling t)) ≡ o → IsForkJoinState (child_ended_by m t x p result o)
+  child_ended_is_fork_join_state p result None pp k = written m.tasks m.edges m.store t x (ended_task x result) is refl (sym tells.0) (sym tells.1) refl K
+  child_ended_is_fork_join_state p result (Some other) pp k =
+      or_same_is_fork_join_state m (slice_get m.tasks p) _ K (λ parent ip. or_same_is_fork_join_state m (slice_get m.tasks (sibling t)) _ K (λ z iz.
       sides p parent z result other ip iz pp (ended_tells z.status other (ap result_at (sym iz) ∙ k)) (is_left t) refl))
 
-  last_kept : (o : Option ℕ) → x.parent ≡ o → IsForkJoinState (last_return m t x o)
-  last_kept None e = written m.tasks m.edges m.store t x (ended_task x (result_of x.top)) is refl (sym tells.0) (sym tells.1) refl K
-  last_kept (Some p) e = ended_kept p (result_of x.top) (result_at (slice_get m.tasks (sibling t))) e refl
+  last_return_is_fork_join_state : (o : Option ℕ) → x.parent ≡ o → IsForkJoinState (last_return m t x o)
+  last_return_is_fork_join_state None e = written m.tasks m.edges m.store t x (ended_task x (result_of x.top)) is refl (sym tells.0) (sym tells.1) refl K
+  last_return_is_fork_join_state (Some p) e = child_ended_is_fork_join_state p (result_of x.top) (result_at (slice_get m.tasks (sibling t))) e refl
 
-  returned_kept : (o : Option Frame) → IsForkJoinState (returned_to m t x o)
-  returned_kept None = last_kept x.parent refl
-  returned_kept (Some f) = written m.tasks m.edges m.store t x (record x { top = back_in f x.top; below = front_of x.below }) is refl refl refl refl K
+  returned_to_is_fork_join_state : (o : Option Frame) → IsForkJoinState (returned_to m t x o)
+  returned_to_is_fork_join_state None = last_return_is_fork_join_state x.parent refl
+  returned_to_is_fork_join_state (Some f) = written m.tasks m.edges m.store t x (record x { top = back_in f x.top; below = front_of x.below }) is refl refl refl refl K
 
-  follow_kept : (line : ℕ) (e : Effect) → Keeps (setting m t x) m.store e → IsForkJoinState (follow m t x line e)
-  follow_kept line (Goes f store) keeps = written m.tasks m.edges store t x (record x { top = f }) is refl refl refl refl (stored m.tasks m.edges m.store store m t x refl is keeps K)
-  follow_kept line (Prints k) keeps = written m.tasks m.edges m.store t x (record x { top = onward x.top }) is refl refl refl refl K
-  follow_kept line (Calls g) keeps =
-      either_kept (nat_lt (length x.below + 1) frame_limit) _ (ended_by m (Trapped Depth t line))
+  follow_is_fork_join_state : (line : ℕ) (e : Effect) → Keeps (setting m t x) m.store e → IsForkJoinState (follow m t x line e)
+  follow_is_fork_join_state line (Goes f store) keeps = written m.tasks m.edges store t x (record x { top = f }) is refl refl refl refl (stored m.tasks m.edges m.store store m t x refl is keeps K)
+  follow_is_fork_join_state line (Prints k) keeps = written m.tasks m.edges m.store t x (record x { top = onward x.top }) is refl refl refl refl K
+  follow_is_fork_join_state line (Calls g) keeps =
+      either_is_fork_join_state (nat_lt (length x.below + 1) frame_limit) _ (ended_by m (Trapped Depth t line))
       (written m.tasks m.edges m.store t x (record x { top = entry_frame g x.top; below = x.below ++ onward x.top ∷ [] }) is refl refl refl refl K) K
-  follow_kept line (Forks g h) keeps = forked_kept g h line
-  follow_kept line Returns keeps = returned_kept (last_of x.below)
-  follow_kept line (Traps kind) keeps = K
-  follow_kept line (Stops n) keeps = K
+  follow_is_fork_join_state line (Forks g h) keeps = forked_is_fork_join_state g h line
+  follow_is_fork_join_state line Returns keeps = returned_to_is_fork_join_state (last_of x.below)
+  follow_is_fork_join_state line (Traps kind) keeps = K
+  follow_is_fork_join_state line (Stops n) keeps = K
 
-  stepped_kept : (p : ProgramText) (o : Option Line) → IsForkJoinState (stepped p m t x o)
-  stepped_kept p None = K
-  stepped_kept p (Some line) = follow_kept line.number (effect (setting m t x) x.top m.store line.instr) (effect_keeps (setting m t x) m.store x.top line.instr)
+  stepped_is_fork_join_state : (p : ProgramText) (o : Option Line) → IsForkJoinState (stepped p m t x o)
+  stepped_is_fork_join_state p None = K
+  stepped_is_fork_join_state p (Some line) = follow_is_fork_join_state line.number (effect (setting m t x) x.top m.store line.instr) (effect_keeps (setting m t x) m.store x.top line.instr)
 
 step_by : (p : ProgramText) (m : State) (t : ℕ) → IsForkJoinState m → (b : Bool) → can_step m t ≡ b → IsForkJoinState (cond b (or_same m (slice_get m.tasks t) (λ x. stepped p m t x (fetched p x.top))) m)
 step_by p m t K false e = K
-step_by p m t K true e = same_kept m (slice_get m.tasks t) _ K (λ x is. stepped_kept m t x is (ap is_running (sym is) ∙ running m.end e) K p (fetched p x.top))
+step_by p m t K true e = or_same_is_fork_join_state m (slice_get m.tasks t) _ K (λ x is. stepped_is_fork_join_state m t x is (ap is_running (sym is) ∙ running m.end e) K p (fetched p x.top))
   where
     running : (o : Option End) → goes_on o (is_running (slice_get m.tasks t)) ≡ true → is_running (slice_get m.tasks t) ≡ true
     running None h = h
     running (Some z) h = absurd (false≢true h)
 
-pub step_kept : (p : ProgramText) (m : State) (t : ℕ) → IsForkJoinState m → IsForkJoinState (step p m t)
-step_kept p m t K = step_by p m t K (can_step m t) refl
+pub step_is_fork_join_state : (p : ProgramText) (m : State) (t : ℕ) → IsForkJoinState m → IsForkJoinState (step p m t)
+step_is_fork_join_state p m t K = step_by p m t K (can_step m t) refl
 
-pub run_kept : (p : ProgramText) (m : State) (ts : List ℕ) → IsForkJoinState m → IsForkJoinState (run_from p m ts)
-run_kept p m [] K = K
-run_kept p m (t ∷ ts) K = run_kept p (step p m t) ts (step_kept p m t K)
+pub run_is_fork_join_state : (p : ProgramText) (m : State) (ts : List ℕ) → IsForkJoinState m → IsForkJoinState (run_from p m ts)
+run_is_fork_join_state p m [] K = K
+run_is_fork_join_state p m (t ∷ ts) K = run_is_fork_join_state p (step p m t) ts (step_is_fork_join_state p m t K)
 
 module _ (x : Task) (none : x.parent ≡ None) (run : is_over x.status ≡ false) (idle : waits x.status ≡ false) (zero_joins : x.joins ≡ 0) where
   orphan : (t p : ℕ) → parents (x ∷ []) t ≡ Some p → ⊥
@@ -211,8 +211,8 @@ pub no_objects : (k c : ℕ) (o : Object) → slice_get (row_of (slice_get ([] �
 no_objects zero c o e = absurd cc
 no_objects (suc k) c o e = absurd cc
 
-pub start_kept : (p : ProgramText) (limit : ℕ) → IsForkJoinState (start p limit)
-start_kept p limit = record {
+pub start_is_fork_join_state : (p : ProgramText) (limit : ℕ) → IsForkJoinState (start p limit)
+start_is_fork_join_state p limit = record {
   tree = root_tree (root p) refl refl refl refl;
   store_of = λ n o e. absurd (no_objects n.task n.count o e);
 }
@@ -237,7 +237,7 @@ path_is_precedence_in m K t x n o is run e =
     )
 
 pub path_is_precedence : PathIsPrecedence
-path_is_precedence p limit ts = path_is_precedence_in (run p limit ts) (run_kept p (start p limit) ts (start_kept p limit))
+path_is_precedence p limit ts = path_is_precedence_in (run p limit ts) (run_is_fork_join_state p (start p limit) ts (start_is_fork_join_state p limit))
 
-pub runs_are_sound : RunsAreSound
-runs_are_sound p limit ts = run_kept p (start p limit) ts (start_kept p limit)
+pub runs_are_fork_join_states : RunsAreForkJoinStates
+runs_are_fork_join_states p limit ts = run_is_fork_join_state p (start p limit) ts (start_is_fork_join_state p limit)

@@ -1,4 +1,4 @@
--- A join: the homes that it merges.
+-- A join: the belongings that it merges.
 use Rattle.std.proofs.Common.{◌≡◌, ◌⊎◌, ℕ, ℤ, ◌+◌, ◌<◌, ◌^◌, ◌++◌, arith, true, false, Option, Some, None, List, slice_get, inl, inr, refl, ap, sym, subst, ◌∙◌}
 use Rattle.std.specs.Prelude.{IsSome}
 use Rattle.std.proofs.lemmas.Bool.{cases_Bool, or_from}
@@ -45,7 +45,7 @@ use Rattle.child_tasks.proofs.ChildReturns as steps
 use Rattle.child_tasks.proofs.SetsNoted.{empty_form}
 use Rattle.shared_value.proofs.FieldsLed.{by_chunks}
 use Rattle.shared_value.proofs.UnitsMeasured.{owner_held}
-use Rattle.child_tasks.proofs.JoinHomes.{in_has}
+use Rattle.child_tasks.proofs.JoinBelongings.{in_has}
 use Rattle.child_tasks.proofs.JoinTree.{kept_is}
 use Rattle.child_tasks.proofs.MergedHeapForm.{none_reserved}
 use Rattle.child_tasks.proofs.SiblingReturned as before
