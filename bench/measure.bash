@@ -134,7 +134,7 @@ workers_table() {
   local name workers file cells
   echo "Runs by workers: seconds elapsed, and of processors."
   head_of text turns "1 worker" 2 4 64
-  for name in private_work fork_tree; do
+  for name in private_work private_objects fork_tree; do
     file=$(text "$name")
     cells=()
     for workers in 1 2 4 64; do
