@@ -1,14 +1,14 @@
 -- Chunks of the same numbers, sizes and objects are the same.
 use Rattle.std.proofs.Common.{◌≡◌, ℕ, suc, ◌+◌, List, [], ◌∷◌, ◌++◌, map, refl, sym, ap, ◌∙◌, subst, arith, inl, inr, ◌⊎◌, eqb, eqb-true, eq-eqb}
 use Rattle.std.specs.Prelude.{nat_le}
-use Rattle.std.proofs.lemmas.Bool.{cases_Bool}
+use Rattle.std.proofs.lemmas.Bool.{cases_Bool, cases_eq}
 use Rattle.object_layout.specs.declared.word.Addr.{Addr}
 use Rattle.object_layout.specs.Cell.{Cell, no_cell, size_of}
 use Rattle.object_layout.specs.ChunkValue.{ChunkValue}
 use Rattle.object_layout.specs.Place.{cell_at}
 use Rattle.object_layout.specs.Chunks.{cell_of}
 use Rattle.listed.proofs.Members.{In}
-use Rattle.object_layout.proofs.ObjectLemmas.{cell_skip}
+use Rattle.object_layout.proofs.PlaceLemmas.{cell_at-past}
 use Rattle.address_laws.specs.Alike.{AreAlike}
 use Rattle.address_laws.specs.Laws.{SameByAddress}
 use Rattle.address_laws.proofs.Numbers.{numbers, Distinct, alike_numbers, apart_distinct}
@@ -21,7 +21,7 @@ cells_same (c ∷ cs) (d ∷ ds) s e =
     let head : c ≡ d = e 0 in
     let size : size_of d ≡ size_of c = ap size_of (sym head) in
     let rest : map size_of ds ≡ map size_of cs = cc in
-    λ i. head i ∷ cells_same cs ds rest (λ at. sym (cell_skip c cs at (size_of c + at) refl) ∙ (e (size_of c + at) ∙ cell_skip d ds at (size_of c + at) (omega arith))) i
+    λ i. head i ∷ cells_same cs ds rest (λ at. sym (cell_at-past c cs at (size_of c + at) refl) ∙ (e (size_of c + at) ∙ cell_at-past d ds at (size_of c + at) (omega arith))) i
 
 same_content : (k l : ChunkValue) → l.number ≡ k.number → l.size ≡ k.size → k.cells ≡ l.cells → k ≡ l
 same_content k l n s e = λ i. record { number = sym n i; size = sym s i; cells = e i }
@@ -45,12 +45,9 @@ later k ks a n =
       | inr e ↦ rw e refl
     ]
 
-pub number_cases : (m n : ℕ) → (m ≡ n) ⊎ (m ≡ n → ⊥)
-number_cases m n = elim (cases_Bool (eqb m n)) [ inl e ↦ inl (eqb-true m n e) | inr e ↦ inr (λ h. let t = eq-eqb m n h in absurd cc) ]
-
 pub in_numbers : (ns : List ℕ) (n : ℕ) → In ns n ⊎ (In ns n → ⊥)
 in_numbers [] n = inr (λ i. i)
-in_numbers (m ∷ ns) n = elim (number_cases m n) [
+in_numbers (m ∷ ns) n = elim (cases_eq m n) [
   | inl e ↦ inl (inl e)
   | inr ne ↦ elim (in_numbers ns n) [ inl i ↦ inl (inr i) | inr m' ↦ inr (λ i. elim i [ inl e ↦ ne e | inr j ↦ m' j ]) ]
 ]
@@ -66,7 +63,7 @@ same_chunks (k ∷ ks) (l ∷ ls) a d e =
   where
     rest : (x : Addr) → cell_of ks x ≡ cell_of ls x
     rest x =
-        elim (number_cases k.number x.chunk) [
+        elim (cases_eq k.number x.chunk) [
           | inl q ↦
               let out : In (numbers ks) x.chunk → ⊥ = λ i. d.0 (subst (In (numbers ks)) (sym q) i) in
               nowhere ks x out ∙ sym (nowhere ls x (λ i. out (subst (λ (ns : List ℕ). In ns x.chunk) (alike_numbers ks ls a.1) i)))
@@ -81,7 +78,7 @@ same_by_address ks ls a d e = same_chunks ks ls a (apart_distinct ks d) e
 pub in_first : (ks ls : List ChunkValue) (a : Addr) → In (numbers ks) a.chunk → cell_of (ks ++ ls) a ≡ cell_of ks a
 in_first [] ls a i = absurd i
 in_first (k ∷ ks) ls a i =
-    elim (number_cases k.number a.chunk) [
+    elim (cases_eq k.number a.chunk) [
       | inl e ↦ here k (ks ++ ls) a e ∙ sym (here k ks a e)
       | inr n ↦ later k (ks ++ ls) a n ∙ (in_first ks ls a (elim i [ inl e ↦ absurd (n e) | inr j ↦ j ]) ∙ sym (later k ks a n))
     ]
@@ -89,12 +86,6 @@ in_first (k ∷ ks) ls a i =
 pub in_second : (ks ls : List ChunkValue) (a : Addr) → (In (numbers ks) a.chunk → ⊥) → cell_of (ks ++ ls) a ≡ cell_of ls a
 in_second [] ls a n = refl
 in_second (k ∷ ks) ls a n = later k (ks ++ ls) a (λ e. n (inl e)) ∙ in_second ks ls a (λ i. n (inr i))
-
--- the chunk of a number
-pub chunk_in : (ks : List ChunkValue) (n : ℕ) → In (numbers ks) n → (k : ChunkValue) × (In ks k × (k.number ≡ n))
-chunk_in [] n i = absurd i
-chunk_in (k ∷ ks) n (inl e) = (k, (inl refl, e))
-chunk_in (k ∷ ks) n (inr i) = let r = chunk_in ks n i in (r.0, (inr r.1.0, r.1.1))
 
 pub number_there : (ks : List ChunkValue) (k : ChunkValue) → In ks k → In (numbers ks) k.number
 number_there [] k i = i

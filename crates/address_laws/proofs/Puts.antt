@@ -1,15 +1,13 @@
 -- Objects of a heap by their addresses, where one was put elsewhere or marked.
-use Rattle.std.proofs.Common.{◌≡◌, ℕ, ◌<◌, true, false, List, [], ◌∷◌, length, refl, sym, ap, ◌∙◌, subst, ⊎_elim, inl, inr, ◌⊎◌, eqb, is_some}
-use Rattle.std.proofs.lemmas.Bool.{cases_Bool, cases_lt, le-ltb}
+use Rattle.std.proofs.Common.{◌≡◌, ℕ, ◌<◌, true, List, [], ◌∷◌, length, refl, sym, ap, ◌∙◌, subst, inl, inr, ◌⊎◌, is_some}
+use Rattle.std.proofs.lemmas.Bool.{cases_lt, le-ltb}
 use Rattle.object_layout.specs.declared.word.Addr.{Addr}
-use Rattle.object_layout.specs.Cell.{Cell, Mark, IsBorn, IsObject, no_cell, with_mark}
+use Rattle.object_layout.specs.Cell.{Cell, Mark, IsBorn, IsObject, with_mark}
 use Rattle.object_layout.specs.ChunkValue.{ChunkValue}
-use Rattle.object_layout.specs.Place.{cell_at, put_cell}
 use Rattle.object_layout.specs.Chunks.{cell_of, place_in, place_of, put_object}
 use Rattle.object_layout.specs.Graph.{HasObjectAt}
-use Rattle.object_layout.proofs.PlaceLemmas as place
 use Rattle.object_layout.proofs.ChunkLaws as laws
-use Rattle.object_layout.proofs.ChunkLaws.{addr_cases}
+use Rattle.object_layout.proofs.ChunkLaws.{addr_cases, put_cases}
 use Rattle.listed.proofs.Members.{In}
 
 pub in_or_not : (xs : List Addr) (a : Addr) → In xs a ⊎ (In xs a → ⊥)
@@ -22,24 +20,6 @@ in_or_not (x ∷ xs) a =
         | inr m ↦ inr (λ h. elim h [ inl e ↦ n e | inr i ↦ m i ])
       ]
     ]
-
--- ---- one object put elsewhere
-
--- what was put is there, or no object or hole is
-cell_put : (cs : List Cell) (at : ℕ) (c : Cell) → (cell_at (put_cell cs at c) at ≡ c) ⊎ ((cell_at (put_cell cs at c) at ≡ cell_at cs at) × (cell_at cs at ≡ no_cell))
-cell_put cs at c =
-    elim (place.cell_or_none cs at) [
-      | inl o ↦ inl (place.cell_at-put_same cs at c o)
-      | inr o ↦ inr (ap (λ (xs : List Cell). cell_at xs at) (place.put_nowhere cs at c o.0), o.1)
-    ]
-
-pub put_cases : (h : List ChunkValue) (a : Addr) (c : Cell) → (cell_of (put_object h a c) a ≡ c) ⊎ ((cell_of (put_object h a c) a ≡ cell_of h a) × (cell_of h a ≡ no_cell))
-put_cases [] a c = inr (refl, refl)
-put_cases (k ∷ ks) a c =
-    ⊎_elim
-    (λ (e : eqb k.number a.chunk ≡ true). rw (e, e) (cell_put k.cells a.offset c))
-    (λ (e : eqb k.number a.chunk ≡ false). rw (e, e) (put_cases ks a c))
-    (cases_Bool (eqb k.number a.chunk))
 
 -- ---- one object marked
 

@@ -23,7 +23,7 @@ use Rattle.core_relation.specs.Fits.{part_for, with_belongings}
 use Rattle.core_relation.specs.RanCounts.{RanCounts}
 use Rattle.core_relation.specs.Since.{OthersNotes}
 use Rattle.core_relation.specs.Whole.{StandsFor}
-use Rattle.core_relation.specs.Worker.{Fits as FitsValue}
+use Rattle.core_relation.specs.Worker.{WorkerFits}
 use Rattle.core_entry_laws.proofs.whole.RanWhole.{ran_stands_for}
 use Rattle.core_relation.proofs.changes.With.{at_belongings, off_belongings}
 use Rattle.core_entry_laws.proofs.parts.Workers.{ran_leaves}
@@ -99,7 +99,7 @@ module _ (w : SharedValue) (k : ℕ) (p : Private) (I : IsSharedValue w) (F : Fi
   abbrev E : Runs w.program w.settings l L t k p.fresh
   E = record (last.runs_so w k p I F shared free_last) { splits = record S { kind = Ending; last = D; apart = last.is_not_private w k p I F shared free_last; on = λ u. goes_then } }
 
-  abbrev own : FitsValue w.program w.settings (part_for w.settings t h p.fresh) v l
+  abbrev own : WorkerFits w.program w.settings (part_for w.settings t h p.fresh) v l
   own = F.fits
 
   S0 : StandsFor v (tree_counts_of w) l

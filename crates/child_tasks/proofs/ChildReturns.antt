@@ -35,12 +35,13 @@ use Rattle.shared_value.specs.SharedValue.{SharedValue, accounts}
 use Rattle.shared_value.proofs.PartFitsMachine as link
 use Rattle.shared_value.proofs.BeforeTheEnd.{stands_now}
 use Rattle.shared_value.proofs.StepAccounts.{After}
+use Rattle.shared_value.proofs.TaskTaken.{parent_is as tree_parent_is}
 use Rattle.own_steps.specs.Alone.{IsShared, alone_event, machine_after}
 use Rattle.own_steps.proofs.AloneEntries.{last_free, runs_on}
 use Rattle.own_steps.proofs.LastStepEntry as last
 use Rattle.own_steps.proofs.LastSteps.{machine_same}
 use Rattle.child_tasks.specs.ChildEnds.{IsAtEnd, is_last, is_last_by, is_last_line}
-use Rattle.child_tasks.proofs.NextStepForks.{node_out, tree_long, tree_parents}
+use Rattle.child_tasks.proofs.NextStepForks.{node_out, tree_long}
 
 -- ---- IT ISN'T PRIVATE
 
@@ -132,7 +133,7 @@ module _ (w : SharedValue) (k : ℕ) (p : Private) (I : IsSharedValue w) (F : Fi
   last_here : is_last S.task S.line.instr ≡ true
   last_here =
       ap (is_last_line S.task) (sym S.at.next)
-      ∙ (ap (is_last_by w.program) (sym S.at.task) ∙ (ap (λ (m : MachineState). is_last_by w.program (slice_get m.tasks t)) (sym (machine_same w k p I F shared on)) ∙ at_end.ends))
+      ∙ (ap (is_last_by w.program) (sym S.at.task) ∙ (ap (λ (m : MachineState). is_last_by w.program (slice_get m.tasks t)) (sym (machine_same w k p I F on)) ∙ at_end.ends))
 
   pub says : (S.line.instr ≡ Ret) × (S.task.below ≡ []) × (q : ℕ) × (S.task.parent ≡ Some q)
   says = last_is S.task S.line.instr last_here
@@ -175,7 +176,7 @@ module _ (w : SharedValue) (k : ℕ) (p : Private) (I : IsSharedValue w) (F : Fi
   ]
 
   pub tree_parent : parent_in_tree w.tree t ≡ Some parent
-  tree_parent = tree_parents w I on t ∙ (sym (then_parents t) ∙ par_mid)
+  tree_parent = tree_parent_is w I t ∙ (sym (then_parents t) ∙ par_mid)
 
   -- fewer than 2^31 tasks
   pub few_tasks : length w.tree < 2 ^ 31

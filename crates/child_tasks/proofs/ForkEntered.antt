@@ -32,7 +32,7 @@ use Rattle.core_relation.specs.Changes.{ForksBelongings, advanced, child_belongi
 use Rattle.core_relation.specs.Fits.{part_for, with_belongings}
 use Rattle.core_relation.specs.RanCounts.{NodesFork, RanCounts}
 use Rattle.core_relation.specs.Since.{ForksNotes}
-use Rattle.core_relation.specs.Worker.{Fits as FitsValue}
+use Rattle.core_relation.specs.Worker.{WorkerFits}
 use Rattle.core_entry_laws.proofs.whole.RanWhole.{ran_stands_for}
 use Rattle.core_relation.proofs.changes.With.{at_belongings, off_belongings}
 use Rattle.core_entry_laws.proofs.parts.Workers.{ran_leaves}
@@ -59,7 +59,7 @@ use Rattle.child_tasks.specs.Forks.{ForksTo, RestsFork, IsAtFork, SetsFork, wait
 use Rattle.child_tasks.proofs.NextStepForks as steps
 use Rattle.child_tasks.proofs.LastForkKinds.{forks}
 use Rattle.child_tasks.proofs.RootsListed.{roots_are}
-use Rattle.child_tasks.proofs.SetsNoted.{empty_form, keeping_kept, keeping_sources, noted_by}
+use Rattle.child_tasks.proofs.SetsNoted.{empty_form, heap_at, keeping_kept, keeping_sources, noted_by}
 
 abbrev left_of : Instr → ℕ
 left_of (Par g h) = g
@@ -142,7 +142,7 @@ module _ (w : SharedValue) (k : ℕ) (p : Private) (I : IsSharedValue w) (F : Fi
   abbrev E : Runs w.program w.settings l L t k p.fresh
   E = record (last.runs_so w k p I F shared free_last) { splits = record S { kind = Forking; last = Q; apart = last.is_not_private w k p I F shared free_last; on = λ u. goes_then } }
 
-  abbrev own : FitsValue w.program w.settings (part_for w.settings t h p.fresh) v l
+  abbrev own : WorkerFits w.program w.settings (part_for w.settings t h p.fresh) v l
   own = F.fits
 
   -- ---- THE NUMBERS OF THE CHILDREN
@@ -282,16 +282,13 @@ module _ (w : SharedValue) (k : ℕ) (p : Private) (I : IsSharedValue w) (F : Fi
       steps = refl;
     }
 
-    heap_at : (u : ℕ) (r q : Rest) → rest_at rests u ≡ Some r → rest_at rests u ≡ Some q → HeapForm q.heap → HeapForm r.heap
-    heap_at u r q is that form = subst (λ (z : Rest). HeapForm z.heap) (same_Some q r (sym that ∙ is)) form
-
     heaps_then : (u : ℕ) (r : Rest) → rest_at rests u ≡ Some r → HeapForm r.heap
     heaps_then u r is = elim (cases_eq u t) [
-      | inl e ↦ heap_at t r (waiting_rest p) (ap (rest_at rests) (sym e) ∙ is) H.parent F.form
+      | inl e ↦ heap_at (rest_at rests t) r (waiting_rest p) (ap (rest_at rests) (sym e) ∙ is) H.parent F.form
       | inr nt ↦ elim (cases_eq u (length w.rests)) [
-        | inl e ↦ heap_at (length w.rests) r _ (ap (rest_at rests) (sym e) ∙ is) H.left_home.2 (empty_form H.left_home.0 H.left_home.1)
+        | inl e ↦ heap_at (rest_at rests (length w.rests)) r _ (ap (rest_at rests) (sym e) ∙ is) H.left_home.2 (empty_form H.left_home.0 H.left_home.1)
         | inr na ↦ elim (cases_eq u (length w.rests + 1)) [
-          | inl e ↦ heap_at (length w.rests + 1) r _ (ap (rest_at rests) (sym e) ∙ is) H.right_home.2 (empty_form H.right_home.0 H.right_home.1)
+          | inl e ↦ heap_at (rest_at rests (length w.rests + 1)) r _ (ap (rest_at rests) (sym e) ∙ is) H.right_home.2 (empty_form H.right_home.0 H.right_home.1)
           | inr nb ↦ I.heaps u r (sym (H.others u nt na nb) ∙ is)
         ]
       ]

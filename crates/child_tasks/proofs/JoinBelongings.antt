@@ -5,7 +5,7 @@ use Rattle.std.proofs.lemmas.Bool.{cases_Bool, false≢true}
 use Rattle.std.proofs.lemmas.List.{map-append}
 use Rattle.std.proofs.lemmas.Option.{same_Some}
 use Rattle.listed.proofs.Members.{any_from_in, contains_from_in, in_append_cases, in_append_left, in_append_right, in_from_contains}
-use Rattle.listed.proofs.Places.{in_map}
+use Rattle.listed.proofs.Places.{in_map, map_in}
 use Rattle.run_ledger.specs.declared.data.Ledger.{Ledger}
 use Rattle.object_layout.specs.declared.word.Addr.{Addr}
 use Rattle.object_layout.specs.Chunks.{has_chunk}
@@ -25,7 +25,7 @@ use Rattle.ledger_step_laws.specs.Accounts.{Rests, own}
 use Rattle.core_relation.specs.Memory.{Chunk, Belongings, no_belongings, In, Memory, sources}
 use Rattle.core_relation.specs.Changes.{IsLifted, JoinsBelongings, top_with_results}
 use Rattle.core_relation.specs.Stands.{Stands}
-use Rattle.core_relation.proofs.objects.Members.{in_chunk, map_in}
+use Rattle.core_relation.proofs.objects.Members.{in_chunk}
 use Rattle.task_homes.specs.declared.task_at_rest.Work.{Work}
 use Rattle.task_homes.specs.declared.task_at_rest.Work.TheVariants.{Calls, Result}
 use Rattle.shared_value.specs.Objects.{chunk_of, chunks_of}

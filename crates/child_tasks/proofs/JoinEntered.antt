@@ -2,7 +2,6 @@
 use Rattle.std.proofs.Common.{◌≡◌, ℕ, ℤ, suc, ◌+◌, ◌++◌, arith, Option, Some, None, List, [], ◌∷◌, length-set, slice_get, slice_set, inl, inr, refl, ap, sym, subst, ◌∙◌}
 use Rattle.std.specs.Option.{option_flatten}
 use Rattle.std.proofs.lemmas.Bool.{cases_eq}
-use Rattle.std.proofs.lemmas.Option.{same_Some}
 use Rattle.listed.proofs.Members.{got_other}
 use Rattle.listed.specs.RoomyValue.{RoomyValue}
 use Rattle.listed.proofs.Places.{got_set}
@@ -30,7 +29,7 @@ use Rattle.core_relation.specs.Fits.{part_for, with_belongings}
 use Rattle.core_relation.specs.RanCounts.{NodesJoin, RanCounts}
 use Rattle.core_relation.specs.Since.{JoinsNotes}
 use Rattle.core_relation.specs.Stands.{Stands}
-use Rattle.core_relation.specs.Worker.{Fits as FitsValue}
+use Rattle.core_relation.specs.Worker.{WorkerFits}
 use Rattle.core_entry_laws.proofs.whole.RanWhole.{ran_stands_for}
 use Rattle.core_entry_laws.proofs.parts.Workers.{ran_leaves}
 use Rattle.task_machine.specs.declared.part.Private.{Private}
@@ -53,7 +52,7 @@ use Rattle.child_tasks.specs.ChildEnds.{EndsChild, IsAtEnd, running_parent}
 use Rattle.child_tasks.specs.Joins.{AreSides, RestsJoin, IsRestOf, SetsJoin, sources_at}
 use Rattle.child_tasks.proofs.ChildReturns as steps
 use Rattle.child_tasks.proofs.JoinUnits.{joined_measured, others_measured}
-use Rattle.child_tasks.proofs.SetsNoted.{noted_by}
+use Rattle.child_tasks.proofs.SetsNoted.{heap_at, noted_by}
 use Rattle.child_tasks.proofs.JoinBelongings.{Merges, by_content, joins_belongings}
 use Rattle.child_tasks.proofs.JoinTree.{joined_long, left_node, other_node, parent_node, right_node}
 use Rattle.child_tasks.proofs.MergedHeapForm.{merged_form}
@@ -115,7 +114,7 @@ module _ (w : SharedValue) (k : ℕ) (p : Private) (I : IsSharedValue w) (F : Fi
   abbrev E : Runs w.program w.settings l L t k p.fresh
   E = before.E w k p I F at_end free ended
 
-  abbrev own : FitsValue w.program w.settings (part_for w.settings t h p.fresh) v l
+  abbrev own : WorkerFits w.program w.settings (part_for w.settings t h p.fresh) v l
   own = F.fits
 
   module _ (above beside : Rest) (frames : FramesValue) (above_is : rest_at w.rests q ≡ Some above) (calls : above.work ≡ Calls frames) (beside_is : IsRestOf (rest_at w.rests s) beside) (c : ℕ) (lh rh : LeafHeapValue) (al ar : ℤ × Option Addr) (side : AreSides p s beside c lh rh al ar) where
@@ -248,12 +247,9 @@ module _ (w : SharedValue) (k : ℕ) (p : Private) (I : IsSharedValue w) (F : Fi
       heap_form : HeapForm heap
       heap_form = subst HeapForm (sym heap_is) (merged_form above.heap lh rh (both.above_form w k p I F at_end free ended above beside frames above_is calls beside_is c lh rh al ar side) (both.child_forms w k p I F at_end free ended above beside frames above_is calls beside_is c lh rh al ar side).0 (both.child_forms w k p I F at_end free ended above beside frames above_is calls beside_is c lh rh al ar side).1 (both.joined_apart w k p I F at_end free ended above beside frames above_is calls beside_is c lh rh al ar side) (both.left_none w k p I F at_end free ended above beside frames above_is calls beside_is c lh rh al ar side) (both.right_none w k p I F at_end free ended above beside frames above_is calls beside_is c lh rh al ar side) heap.slots heap.spare)
 
-      heap_at : (u : ℕ) (i z : Rest) → rest_at rests u ≡ Some i → rest_at rests u ≡ Some z → HeapForm z.heap → HeapForm i.heap
-      heap_at u i z is that form = subst (λ (z : Rest). HeapForm z.heap) (same_Some z i (sym that ∙ is)) form
-
       heaps_then : (u : ℕ) (i : Rest) → rest_at rests u ≡ Some i → HeapForm i.heap
       heaps_then u i is = elim (cases_eq u q) [
-        | inl e ↦ heap_at q i _ (ap (rest_at rests) (sym e) ∙ is) H.parent_home heap_form
+        | inl e ↦ heap_at (rest_at rests q) i _ (ap (rest_at rests) (sym e) ∙ is) H.parent_home heap_form
         | inr nq ↦ elim (cases_eq u t) [
           | inl e ↦ none_some (sym H.own_home ∙ (ap (rest_at rests) (sym e) ∙ is))
           | inr nt ↦ elim (cases_eq u s) [

@@ -12,7 +12,7 @@ use Rattle.write_barrier.specs.declared.sets.SetOf.{SetOf}
 use Rattle.write_barrier.specs.Stored.{content_at, content_of}
 use Rattle.core_relation.specs.Memory.{Belongings, Noted, Memory}
 use Rattle.core_relation.specs.Whole.{StandsForAll}
-use Rattle.core_relation.specs.Worker.{Fits as FitsValue}
+use Rattle.core_relation.specs.Worker.{WorkerFits}
 use Rattle.task_machine.specs.declared.part.Private.{Private}
 use Rattle.task_homes.specs.declared.task_at_rest.Rest.{Rest}
 use Rattle.task_homes.specs.declared.task_at_rest.Work.{Work}
@@ -74,7 +74,7 @@ module _ (w : SharedValue) (rests : List (Option Rest)) (sets : List SetOf) (man
   places_fit_by : (k : ℕ) (p : Private) → Fits w k p → Fits w' k p
   places_fit_by k p F = record {
     held = F.held;
-    fits = subst (λ (v : Memory). FitsValue w.program w.settings (part_of w.settings p) v (accounts w)) (sym value_same) F.fits;
+    fits = subst (λ (v : Memory). WorkerFits w.program w.settings (part_of w.settings p) v (accounts w)) (sym value_same) F.fits;
     form = F.form;
     measured = F.measured;
     leaf_limit = F.leaf_limit;

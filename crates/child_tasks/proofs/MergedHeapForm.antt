@@ -1,18 +1,19 @@
 -- The heap of a task that took over its children's keeps the form of a heap.
-use Rattle.std.proofs.Common.{◌≡◌, ◌⊎◌, ℕ, ◌+◌, ◌-◌, ◌*◌, ◌/◌, ◌<◌, ◌≤◌, ◌^◌, ◌++◌, arith, Option, Some, None, List, [], length, length-append, get_or, option_map, inl, inr, refl, ap, sym, subst, ◌∙◌}
+use Rattle.std.proofs.Common.{◌≡◌, ◌⊎◌, ℕ, ◌+◌, ◌-◌, ◌*◌, ◌/◌, ◌<◌, ◌≤◌, ◌^◌, ◌++◌, arith, Option, Some, None, List, [], length, length-append, option_map, inl, inr, refl, ap, sym, subst, ◌∙◌}
 use Rattle.std.proofs.lemmas.Bool.{cases_lt}
 use Rattle.std.proofs.lemmas.List.{get_or_append_left, get_or-append-add}
 use Rattle.std.proofs.lemmas.List.Elements.{All-append}
 use Rattle.listed.proofs.Members.{in_append_cases}
-use Rattle.listed.proofs.Places.{in_map}
+use Rattle.listed.proofs.Places.{in_map, map_in}
 use Rattle.listed.proofs.Options.{none_some}
 use Rattle.object_layout.specs.Chunks.{AreApart, chunk_at, no_chunk}
 use Rattle.object_layout.specs.ChunkValue.{ChunkValue}
 use Rattle.object_layout.specs.Place.{words_in}
 use Rattle.object_layout.specs.Objects.{Located}
 use Rattle.alloc_path.specs.LeafHeapValue.{LeafHeapValue, IsCurrent, IsReserved, IsTidy, counted, merged, with_places}
+use Rattle.fork_join.proofs.Room.{behind}
 use Rattle.core_relation.specs.Memory.{Chunk, In, objects_in}
-use Rattle.core_relation.proofs.objects.Members.{in_chunk, in_objects, map_in}
+use Rattle.core_relation.proofs.objects.Members.{in_chunk, in_objects}
 use Rattle.task_machine.specs.Accounts.{AreReserved, IsLastLarge, IsLastSmall}
 use Rattle.shared_value.specs.Objects.{chunk_of, chunks_of}
 use Rattle.shared_value.specs.Stands.{HeapForm}
@@ -43,34 +44,29 @@ module _ (ls rs ks : List ChunkValue) where
   at_right : (i : ℕ) → i < length rs → chunk_at merged_chunks (length ls + i) ≡ chunk_at rs i
   at_right i lt = get_or-append-add ls (rs ++ ks) i no_chunk ∙ get_or_append_left rs ks no_chunk i lt
 
-  at_own : (i : ℕ) → chunk_at merged_chunks (i + n) ≡ chunk_at ks i
-  at_own i =
-      let turned : i + n ≡ length ls + (length rs + i) = omega arith in
-      ap (λ m. get_or merged_chunks m no_chunk) turned ∙ (get_or-append-add ls (rs ++ ks) (length rs + i) no_chunk ∙ get_or-append-add rs ks i no_chunk)
-
   -- an own chunk behind a place
   own_behind : (i j : ℕ) → i + n < j → (j - n) + n ≡ j
   own_behind i j lt = omega (arith, lt)
 
   current : (o : Option ℕ) → IsCurrent ks o → IsCurrent merged_chunks (option_map (λ i. i + n) o)
   current None C = tt
-  current (Some i) C = (omega (arith, C.0, long), ap (λ (z : ChunkValue). z.size) (at_own i) ∙ C.1)
+  current (Some i) C = (omega (arith, C.0, long), ap (λ (z : ChunkValue). z.size) (behind ls rs ks i) ∙ C.1)
 
   reserved : (o : Option ℕ) → IsReserved ks o → IsReserved merged_chunks (option_map (λ i. i + n) o)
   reserved None R = tt
-  reserved (Some i) R = (omega (arith, R.0, long), (subst (λ (z : ChunkValue). 1024 < z.size) (sym (at_own i)) R.1.0, ap (λ (z : ChunkValue). z.cells) (at_own i) ∙ R.1.1))
+  reserved (Some i) R = (omega (arith, R.0, long), (subst (λ (z : ChunkValue). 1024 < z.size) (sym (behind ls rs ks i)) R.1.0, ap (λ (z : ChunkValue). z.cells) (behind ls rs ks i) ∙ R.1.1))
 
   last_small : (o : Option ℕ) → IsLastSmall ks o → IsLastSmall merged_chunks (option_map (λ i. i + n) o)
   last_small None C = tt
   last_small (Some i) C = λ j lt within small.
       let e : (j - n) + n ≡ j = own_behind i j lt in
-      C (j - n) (omega (arith, lt)) (omega (arith, within, long, lt)) (ap (λ (z : ChunkValue). z.size) (sym (at_own (j - n)) ∙ ap (chunk_at merged_chunks) e) ∙ small)
+      C (j - n) (omega (arith, lt)) (omega (arith, within, long, lt)) (ap (λ (z : ChunkValue). z.size) (sym (behind ls rs ks (j - n)) ∙ ap (chunk_at merged_chunks) e) ∙ small)
 
   last_large : (o : Option ℕ) → IsLastLarge ks o → IsLastLarge merged_chunks (option_map (λ i. i + n) o)
   last_large None C = tt
   last_large (Some i) C = λ j lt within.
       let e : (j - n) + n ≡ j = own_behind i j lt in
-      ap (λ (z : ChunkValue). z.size) (ap (chunk_at merged_chunks) (sym e) ∙ at_own (j - n)) ∙ C (j - n) (omega (arith, lt)) (omega (arith, within, long, lt))
+      ap (λ (z : ChunkValue). z.size) (ap (chunk_at merged_chunks) (sym e) ∙ behind ls rs ks (j - n)) ∙ C (j - n) (omega (arith, lt)) (omega (arith, within, long, lt))
 
   content_cases : (c : ChunkValue) → In merged_chunks c → In ls c ⊎ (In rs c ⊎ In ks c)
   content_cases c i = elim (in_append_cases ls (rs ++ ks) c i) [ inl a ↦ inl a | inr b ↦ inr (in_append_cases rs ks c b) ]
@@ -119,7 +115,7 @@ module _ (h a b : LeafHeapValue) (H : HeapForm h) (A : HeapForm a) (B : HeapForm
           none_some (sym none_right ∙ B.spare (i - length ls) lt' x.0 x.1)
       | inr more ↦
           let e : (i - m) + m ≡ i = omega (arith, more) in
-          let x = subst IsEmptyLarge (ap (chunk_at all) (sym e) ∙ at_own ls rs ks (i - m)) E in
+          let x = subst IsEmptyLarge (ap (chunk_at all) (sym e) ∙ behind ls rs ks (i - m)) E in
           ap (option_map (λ j. j + m)) (H.spare (i - m) (omega (arith, lt, more, long ls rs ks)) x.0 x.1) ∙ ap Some e
     ]
   ]

@@ -19,7 +19,7 @@ use Rattle.run_ledger.specs.Steps.{is_open, is_private_by, is_private_line, task
 use Rattle.run_ledger.proofs.Bounds.{ran_tells}
 use Rattle.journal_laws.proofs.Counted.{journals_are_counted}
 use Rattle.heap_tree.specs.declared.state.State.TheVariants.{Out}
-use Rattle.heap_tree.specs.Node.{Node, depth_of, parent_in, parent_of as parent_in_tree, state_of as state_in_tree}
+use Rattle.heap_tree.specs.Node.{Node, depth_of, parent_of as parent_in_tree, state_of as state_in_tree}
 use Rattle.ledger_step_laws.specs.Last.{Splits}
 use Rattle.core_relation.specs.Whole.{StandsFor, state_by, as_node}
 use Rattle.task_machine.specs.declared.part.Private.{Private}
@@ -38,6 +38,7 @@ use Rattle.shared_value.proofs.BeforeTheEnd.{stands_now}
 use Rattle.shared_value.proofs.StepsEntered.{status}
 use Rattle.shared_value.proofs.StepAccounts.{After}
 use Rattle.shared_value.proofs.SameLength.{same_length}
+use Rattle.shared_value.proofs.TaskTaken.{parent_is}
 use Rattle.own_steps.specs.Alone.{IsShared, Tells, alone_event, machine_after}
 use Rattle.own_steps.proofs.AloneEntries.{last_free, runs_on}
 use Rattle.own_steps.proofs.TaskDepths.{AreDeep, deep_in, run_deep}
@@ -72,16 +73,9 @@ module _ (w : SharedValue) (p : Private) where
 
 -- ---- THE TREE AND THE TASKS
 
-task_parent : (w : Option ℕ) (o : Option Task) → parent_in (option_map (as_node w) o) ≡ parent_of o
-task_parent w None = refl
-task_parent w (Some x) = refl
-
 module _ (w : SharedValue) (I : IsSharedValue w) (on : (accounts w).end ≡ None) where
   abbrev S0 : StandsFor (value_of w) (tree_counts_of w) (accounts w)
   S0 = stands_now w I on
-
-  pub tree_parents : (u : ℕ) → parent_in_tree w.tree u ≡ parents (accounts w).machine.tasks u
-  tree_parents u = ap parent_in (S0.tree_counts.node u) ∙ task_parent (heap_of (accounts w) u).worker (slice_get (accounts w).machine.tasks u)
 
   -- as many tasks as nodes
   pub tree_long : length w.tree ≡ length (accounts w).machine.tasks
@@ -124,10 +118,10 @@ module _ (w : SharedValue) (k : ℕ) (p : Private) (I : IsSharedValue w) (F : Fi
   above = above_of (value_of w) l t
 
   abbrev G : FitsMachine w.program p M.machine above
-  G = fits_machine w k p I F shared on
+  G = fits_machine w k p I F on
 
   fork_at : is_fork_by w.program (Some G.task) ≡ true
-  fork_at = ap (is_fork_by w.program) (sym G.is) ∙ (ap (λ (m : State). is_fork_by w.program (slice_get m.tasks t)) (sym (machine_same w k p I F shared on)) ∙ at_fork.forks)
+  fork_at = ap (is_fork_by w.program) (sym G.is) ∙ (ap (λ (m : State). is_fork_by w.program (slice_get m.tasks t)) (sym (machine_same w k p I F on)) ∙ at_fork.forks)
 
   line_at : (line : Line) → next_line w.program p ≡ Some line → fetched w.program G.task.top ≡ Some line
   line_at line e = sym (same_line w.program p M.machine above G) ∙ e
@@ -167,7 +161,7 @@ module _ (w : SharedValue) (k : ℕ) (p : Private) (I : IsSharedValue w) (F : Fi
   deep = let r = G.reached in subst (λ (m : State). AreDeep m.tasks) (sym r.2) (run_deep w.program r.0 r.1)
 
   pub depth_is : depth_of w.tree t ≡ S.task.depth
-  depth_is = deep_in M.machine.tasks low deep (parent_in_tree w.tree) (λ u. tree_parents w I on u ∙ sym (then_parents u)) t S.task S.at.task
+  depth_is = deep_in M.machine.tasks low deep (parent_in_tree w.tree) (λ u. parent_is w I u ∙ sym (then_parents u)) t S.task S.at.task
 
   -- fewer than 2^31 tasks
   pub few_tasks : length w.tree < 2 ^ 31

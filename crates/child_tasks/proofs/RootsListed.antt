@@ -11,7 +11,7 @@ use Rattle.ledger_step_laws.specs.Accounts.{Rests, own}
 use Rattle.core_relation.specs.Memory.{In, Memory, objects, sources}
 use Rattle.core_relation.specs.Begins.{AreRoots}
 use Rattle.core_relation.specs.Stands.{IsSource, Stands}
-use Rattle.core_relation.proofs.objects.Members.{in_chunk}
+use Rattle.core_relation.proofs.objects.Members.{lies_in}
 
 -- this remembered field holds the root
 pub record RootBy (v : Memory) (l : Ledger) (t : ℕ) (s : Source) (a : Addr) : Type 0 where
@@ -30,9 +30,6 @@ abbrev pub RootsOf : Memory → Ledger → ℕ → List Source → Type 0
 RootsOf v l t ss = (roots : List Addr) × ((a : Addr) → In roots a ↔ ((s : Source) × In ss s × RootBy v l t s a))
 
 module _ (v : Memory) (l : Ledger) (t : ℕ) (V : Stands v l) where
-  owned : (u : ℕ) (o : Located) → Rests l u → In (objects v u) o → v.owner o.at.chunk ≡ Some u
-  owned u o r i = let k = in_chunk (v.belongings u).chunks o i in ap v.owner ((V.belongings u r).inside k.0 o k.1 k.2) ∙ (V.belongings u r).owned k.0 k.1
-
   module _ (s : Source) (K : IsSource v l t s) where
     abbrev u : ℕ
     u = own l K.name
@@ -49,7 +46,7 @@ module _ (v : Memory) (l : Ledger) (t : ℕ) (V : Stands v l) where
     -- no other object lies there
     only : (a : Addr) (R : RootBy v l t s a) → R.object ≡ q
     only a R =
-        let same : R.task ≡ u = same_Some R.task u (sym (owned R.task R.object R.rests R.there) ∙ (ap (λ (b : Addr). v.owner b.chunk) R.at ∙ K.place.chunk)) in
+        let same : R.task ≡ u = same_Some R.task u (sym (lies_in v l V R.task R.object R.rests R.there) ∙ (ap (λ (b : Addr). v.owner b.chunk) R.at ∙ K.place.chunk)) in
         (V.belongings u K.rests).once R.object q (subst (λ z. In (objects v z) R.object) same R.there) q_there (R.at ∙ sym q_at)
 
     held : (a : Addr) → RootBy v l t s a → slice_get q.refs s.field ≡ Some (Some a)

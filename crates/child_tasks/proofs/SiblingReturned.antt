@@ -29,7 +29,7 @@ use Rattle.core_relation.specs.Fits.{part_for, with_belongings}
 use Rattle.core_relation.specs.Layout.{reserved_chunks, reserved_units}
 use Rattle.core_relation.specs.Reads.{TaskIsRead}
 use Rattle.core_relation.specs.Stands.{HasNames, BelongingsStand, Place, Stands}
-use Rattle.core_relation.specs.Worker.{Fits as FitsValue}
+use Rattle.core_relation.specs.Worker.{WorkerFits}
 use Rattle.core_relation.proofs.changes.With.{at_belongings, off_belongings}
 use Rattle.task_machine.specs.declared.part.Private.{Private}
 use Rattle.task_machine.specs.Accounts.{IsCounted}
@@ -156,7 +156,7 @@ module _ (w : SharedValue) (k : ℕ) (p : Private) (I : IsSharedValue w) (F : Fi
   abbrev pub E : Runs w.program w.settings l L t k p.fresh
   E = record (last.runs_so w k p I F shared free_last) { splits = record S { kind = Joining; last = Q; apart = last.is_not_private w k p I F shared free_last; on = λ u. over_then.end } }
 
-  abbrev pub own : FitsValue w.program w.settings (part_for w.settings t h p.fresh) v l
+  abbrev pub own : WorkerFits w.program w.settings (part_for w.settings t h p.fresh) v l
   own = F.fits
 
   -- ---- WHO JOINS

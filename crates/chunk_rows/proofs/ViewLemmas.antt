@@ -101,11 +101,6 @@ put_shows (Ok x) p now q l ks same puts fails needs h =
     lists.shown_again q ks (λ n. puts n ∙ (ap (λ (o : Option PieceValue). option_or o (cond now.lost None (nearest now.layers n))) (needs n) ∙ lists.all_shown now ks shows n))
 put_shows (Err e) p now q l ks same puts fails needs h = subst (λ (k : PiecesValue). Shows k ks) (sym (fails ∙ same)) h
 
--- what was added, where memory was there for it
-pub when_added : {T E : Type 0} (r : Result T E) (P Q : Type 0) → (P → Q) → OnOk r P → OnOk r Q
-when_added (Ok x) P Q f h = f h
-when_added (Err e) P Q f h = h
-
 -- the piece of the next of some numbers is added
 pub next_number : (ks : List ChunkValue) (xs : List ℕ) (i d : ℕ) → i < length xs → (now was before : Option PieceValue) (n : ℕ) → now ≡ option_or was (cond (eqb (get_or xs i d) n) (piece_in (level_of ks) n) None) →
     was ≡ option_or before (cond (is_among (take i xs) n) (piece_in (level_of ks) n) None) → now ≡ option_or before (cond (is_among (take (i + 1) xs) n) (piece_in (level_of ks) n) None)

@@ -6,7 +6,7 @@ use Rattle.std.proofs.lemmas.List.{length-reverse}
 use Rattle.std.proofs.lemmas.Bool.{cases_Bool, cases_lt, le-leb, lt-leb, leb-true, false≢true}
 use Rattle.object_layout.specs.declared.word.Addr.{Addr}
 use Rattle.object_layout.specs.Cell.{Born, Cell, IsBorn, IsObject, no_cell, size_of}
-use Rattle.object_layout.specs.ChunkValue.{ChunkValue}
+use Rattle.object_layout.specs.ChunkValue.{ChunkValue, number_of}
 use Rattle.object_layout.specs.Place.{cell_at, IsCellAt}
 use Rattle.object_layout.specs.Chunks.{cell_of, chunk_at}
 use Rattle.object_layout.specs.Graph.{HasObjectAt}
@@ -14,16 +14,15 @@ use Rattle.object_layout.proofs.PlaceLemmas as place
 use Rattle.object_layout.proofs.ChunkLaws as laws
 use Rattle.object_layout.proofs.Distinct.{once_from}
 use Rattle.listed.proofs.Members.{In, in_append_left, in_from_contains, in_kept}
-use Rattle.listed.proofs.Places.{read_in}
+use Rattle.listed.proofs.Places.{map_in, read_in}
 use Rattle.alloc_path.specs.LeafHeapValue.{AreTidy, LeafHeapValue, IsReserved, IsSettled, IsTidy}
 use Rattle.leaf_copy_gc.specs.declared.lists.Survivor.{Survivor}
-use Rattle.leaf_copy_gc.specs.Survivors.{olds}
+use Rattle.leaf_copy_gc.specs.Survivors.{olds, old_of}
 use Rattle.leaf_copy_gc.specs.Exchanged.{reserved_of, unreserved}
 use Rattle.leaf_copy_gc.specs.Collected.{AreSurvivors, collected, keeps, large_of, laid_of, moves_of, redirection}
 use Rattle.leaf_copy_gc.specs.Laws.{CanTake}
 use Rattle.collected_heap_laws.specs.Laws.{LargeAreRead, MovedAreRead}
 use Rattle.leaf_copy_gc.proofs.Moves as moves
-use Rattle.leaf_copy_gc.proofs.Naming.{in_unmap}
 use Rattle.leaf_copy_gc.proofs.Naming as naming
 use Rattle.leaf_copy_gc.proofs.Rebuilt as rebuilt
 use Rattle.leaf_copy_gc.proofs.Rebuilt.{first_of, none_at}
@@ -140,8 +139,8 @@ led_there f (k ∷ ks) a =
 module _ (h : LeafHeapValue) (from : List (Option Addr)) (ss : List Survivor) (news : List ChunkValue) (s : AreSurvivors h.chunks from ss) (t : CanTake h.chunks news) where
   lives : (a : Addr) → In (olds ss) a → HasObjectAt h.chunks a
   lives a i =
-      let u = in_unmap ss a i in
-      subst (HasObjectAt h.chunks) u.1.1 (subst IsBorn (sym (read_in (λ (x : Survivor). (cell_of h.chunks x.old).mark ≡ Born x.birth) ss u.0 u.1.0 s.names)) tt)
+      let u = map_in old_of ss a i in
+      subst (HasObjectAt h.chunks) u.2 (subst IsBorn (sym (read_in (λ (x : Survivor). (cell_of h.chunks x.old).mark ≡ Born x.birth) ss u.0 u.1 s.names)) tt)
 
   pub small : (a : Addr) → In (smalls h.chunks (olds ss)) a → HasObjectAt h.chunks a × (is_small h.chunks a ≡ true)
   small a i = let p = moves.in_smalls h.chunks (olds ss) a i in (lives a p.0, p.1)
@@ -218,14 +217,14 @@ module _ (h : LeafHeapValue) (from : List (Option Addr)) (ss : List Survivor) (n
   module _ (a : Addr) (i : In (olds ss) a) (big : is_small h.chunks a ≡ false) where
     live : HasObjectAt h.chunks a
     live =
-        let u = in_unmap ss a i in
-        subst (HasObjectAt h.chunks) u.1.1 (subst IsBorn (sym (read_in (λ (x : Survivor). (cell_of h.chunks x.old).mark ≡ Born x.birth) ss u.0 u.1.0 s.names)) tt)
+        let u = map_in old_of ss a i in
+        subst (HasObjectAt h.chunks) u.2 (subst IsBorn (sym (read_in (λ (x : Survivor). (cell_of h.chunks x.old).mark ≡ Born x.birth) ss u.0 u.1 s.names)) tt)
 
-    own : (k : ChunkValue) × (In h.chunks k × (k.number ≡ a.chunk))
-    own = extent.chunk_in h.chunks a.chunk (object_number h.chunks a (laws.born_object h.chunks a live))
+    own : (k : ChunkValue) × In h.chunks k × (k.number ≡ a.chunk)
+    own = map_in number_of h.chunks a.chunk (object_number h.chunks a (laws.born_object h.chunks a live))
 
     pub large_read : cell_of (collected h ss (reverse news)).chunks a ≡ led_cell (redirection h.chunks ss (reverse news)) (cell_of h.chunks a)
-    large_read = in_its own.0 own.1.0 own.1.1
+    large_read = in_its own.0 own.1 own.2
       where
         in_its : (k : ChunkValue) → In h.chunks k → k.number ≡ a.chunk → cell_of (collected h ss (reverse news)).chunks a ≡ led_cell (redirection h.chunks ss (reverse news)) (cell_of h.chunks a)
         in_its k j q =

@@ -5,10 +5,11 @@ use Rattle.std.specs.List.Sorted.{IsPermutation}
 use Rattle.std.proofs.lemmas.Bool.{cases_Bool}
 use Rattle.std.proofs.lemmas.List.Sorted.{Contains-permutation, IsPermutation-map, IsPermutation-sym}
 use Rattle.listed.proofs.Members.{In, contains_from_in, in_from_contains}
+use Rattle.listed.proofs.Places.{map_in}
 use Rattle.object_layout.specs.declared.word.Addr.{Addr}
 use Rattle.object_layout.specs.ChunkValue.{ChunkValue}
 use Rattle.object_layout.specs.Chunks.{cell_of, has_chunk}
-use Rattle.object_layout.proofs.Distinct.{Once, once_from, same_is}
+use Rattle.object_layout.proofs.Distinct.{Once, is_same, once_from, same_is}
 use Rattle.object_layout.proofs.ChunkLaws as laws
 use Rattle.object_layout.proofs.Owning.{fresh_none}
 use Rattle.alloc_path.specs.LeafHeapValue.{LeafHeapValue}
@@ -35,21 +36,16 @@ none_by : (ms : List Moved) (a : Addr) → (In (map first_in ms) a → ⊥) → 
 none_by [] a n = refl
 none_by (m ∷ ms) a n = rw (moves.addr_other m.0 a (λ e. n (inl e))) (none_by ms a (λ i. n (inr i)))
 
-some_by : (ms : List Moved) (m : Moved) → Once (map first_in ms) → In ms m → new_of ms m.0 ≡ Some m.1
+-- a move is found by its old address
+pub some_by : (ms : List Moved) (m : Moved) → Once (map first_in ms) → In ms m → new_of ms m.0 ≡ Some m.1
 some_by [] m o i = absurd i
-some_by (x ∷ ms) m o (inl e) = rw (moves.addr_itself x.0 m.0 (ap (λ (p : Moved). p.0) e)) (ap (λ (p : Moved). Some p.1) e)
+some_by (x ∷ ms) m o (inl e) = rw (is_same x.0 m.0 (ap (λ (p : Moved). p.0) e)) (ap (λ (p : Moved). Some p.1) e)
 some_by (x ∷ ms) m o (inr i) =
     rw (moves.addr_other x.0 m.0 (λ e. o.0 (contains_from_in (map first_in ms) x.0 (subst (In (map first_in ms)) (sym e) (in_first ms m i))))) (some_by ms m o.1 i)
 
--- the move of an address, if it was moved
-from_first : (ms : List Moved) (a : Addr) → In (map first_in ms) a → (m : Moved) × In ms m × (m.0 ≡ a)
-from_first [] a i = absurd i
-from_first (m ∷ ms) a (inl e) = (m, inl refl, e)
-from_first (m ∷ ms) a (inr i) = let r = from_first ms a i in (r.0, inr r.1, r.2)
-
 found_by : (ms : List Moved) (a : Addr) → new_of ms a ≡ None → Once (map first_in ms) → In (map first_in ms) a → ⊥
 found_by ms a e o i =
-    let r = from_first ms a i in
+    let r = map_in first_in ms a i in
     let s : new_of ms a ≡ Some r.0.1 = ap (new_of ms) (sym r.2) ∙ some_by ms r.0 o r.1 in
     cc
 
@@ -67,10 +63,14 @@ AreSame ms ns = (m : Moved) → In ms m → In ns m
 
 same_by : (ms ns : List Moved) (a : Addr) → Once (map first_in ms) → Once (map first_in ns) → AreSame ms ns → AreSame ns ms → (o : Option Addr) → new_of ms a ≡ o → new_of ns a ≡ o
 same_by ms ns a once once' to from None e =
-    none_by ns a (λ i. let r = from_first ns a i in found_by ms a e once (subst (In (map first_in ms)) r.2 (in_first ms r.0 (from r.0 r.1))))
+    none_by ns a (λ i. let r = map_in first_in ns a i in found_by ms a e once (subst (In (map first_in ms)) r.2 (in_first ms r.0 (from r.0 r.1))))
 same_by ms ns a once once' to from (Some b) e =
     let r = picked ms a b e in
     ap (new_of ns) (sym r.2) ∙ (some_by ns r.0 once' (to r.0 r.1) ∙ (sym (some_by ms r.0 once r.1) ∙ (ap (new_of ms) r.2 ∙ e)))
+
+-- the moves of survivors have each old address once
+pub once_moves : (ks : List ChunkValue) (from : List (Option Addr)) (ss : List Survivor) (spare : List ChunkValue) → AreSurvivors ks from ss → Once (map first_in (moves_of ks ss spare))
+once_moves ks from ss spare s = subst Once (sym (firsts (before spare) ks (smalls ks (olds ss)))) (moves.once_smalls ks (olds ss) (once_from (olds ss) s.once))
 
 -- ---- places
 
@@ -100,7 +100,7 @@ module _ (h : LeafHeapValue) (from : List (Option Addr)) (ss : List Survivor) (n
   firsts_are = firsts (before (reverse news)) h.chunks (smalls h.chunks (olds ss))
 
   once_all : Once (map first_in all)
-  once_all = subst Once (sym firsts_are) (moves.once_smalls h.chunks (olds ss) (once_from (olds ss) s.once))
+  once_all = once_moves h.chunks from ss (reverse news) s
 
   once_moved : Once (map first_in moved)
   once_moved = once_sorted (map first_in all) (map first_in moved) (IsPermutation-map first_in all moved p) once_all
@@ -119,7 +119,7 @@ module _ (h : LeafHeapValue) (from : List (Option Addr)) (ss : List Survivor) (n
   outside a out =
       none_by moved a
       (λ i.
-      let r = from_first moved a i in
+      let r = map_in first_in moved a i in
       let j : In (smalls h.chunks (olds ss)) a = subst (λ (xs : List Addr). In xs a) firsts_are (subst (In (map first_in all)) r.2 (in_first all r.0 (back r.0 r.1))) in
       let object = laws.born_object h.chunks a (reading.small h from ss news s t a j).0 in
       nums.fresh_none h.chunks a.chunk ((fresh_none h.chunks a.chunk).1 out) (reading.object_number h.chunks a object))

@@ -88,8 +88,8 @@ fn flag<'w>(alloc: Global, name: &'w str) -> Arg<'w>
     Arg::new(alloc, name).long(name).action(ArgAction::SetTrue)
 }
 
-// A command with an argument more, where it was made.
-fn with_argument<'w>(
+/// A command with an argument more, where it was made.
+pub fn with_argument<'w>(
     whole: Result<Command<'w>, AllocError>,
     argument: Arg<'w>,
 ) -> Result<Command<'w>, AllocError>

@@ -5,11 +5,11 @@ use Rattle.std.proofs.lemmas.Bool.{false≢true}
 use Rattle.std.proofs.lemmas.List.{reverse-append}
 use Rattle.std.specs.Prelude.{option_map}
 use Rattle.listed.proofs.Members.{in_append_cases, in_append_left, in_append_right, in_from_kept}
-use Rattle.listed.proofs.Places.{all_from}
+use Rattle.listed.proofs.Places.{all_from, map_in}
 use Rattle.hh_model.specs.declared.data.State.{State}
 use Rattle.run_ledger.specs.declared.data.Heap.{Heap}
 use Rattle.object_layout.specs.declared.word.Addr.{Addr}
-use Rattle.object_layout.specs.ChunkValue.{ChunkValue}
+use Rattle.object_layout.specs.ChunkValue.{ChunkValue, number_of}
 use Rattle.chunk_pool.specs.declared.pool.Slot.{Slot}
 use Rattle.chunk_pool.specs.PoolValue.{PoolValue, slot_at, owner_of, slot_units}
 use Rattle.alloc_path.specs.LeafHeapValue.{AreApart, LeafHeapValue, IsFresh}
@@ -30,12 +30,11 @@ use Rattle.leaf_copy_gc.proofs.Naming.{in_unreserved}
 use Rattle.collected_heap_laws.proofs.Reading as reading
 use Rattle.inner_mark_gc.specs.Swept.{units_kept}
 use Rattle.core_relation.specs.Memory.{In}
-use Rattle.core_relation.proofs.objects.Members.{map_in}
 use Rattle.shared_value.specs.Measured.{AreMeasured}
+use Rattle.shared_value.proofs.HeapLaidOut.{same_chunk}
 use Rattle.copied_part_laws.proofs.ChunkWords as units_of
 use Rattle.copied_part_laws.proofs.CopiedForm.{told_in}
 use Rattle.copied_part_laws.proofs.BeforeTheCopy.{Old}
-use Rattle.copied_part_laws.proofs.ObjectsApart.{one_number}
 use Rattle.copied_part_laws.proofs.ObjectsMoved as moving
 use Rattle.copied_part_laws.proofs.CopiedNames as naming
 
@@ -102,13 +101,13 @@ module _ (h : LeafHeapValue) (from : List (Option Addr)) (ss : List Survivor) (n
   -- one chunk doesn't stay and leave
   stay_or_leave : (n : ℕ) → In (numbers (filter (leaves ss) U)) n → In (numbers K) n → ⊥
   stay_or_leave n i j =
-      let c = extent.chunk_in (filter (leaves ss) U) n i in
-      let l = in_from_kept (leaves ss) U c.0 c.1.0 in
-      let d = extent.chunk_in K n j in
-      let x = map_in (led_chunk (moving.g h from ss news S T (naming.settled h from ss news S T m a O) (naming.reserved h from ss news S T m a O))) (filter (keeps ss) U) d.0 d.1.0 in
+      let c = map_in number_of (filter (leaves ss) U) n i in
+      let l = in_from_kept (leaves ss) U c.0 c.1 in
+      let d = map_in number_of K n j in
+      let x = map_in (led_chunk (moving.g h from ss news S T (naming.settled h from ss news S T m a O) (naming.reserved h from ss news S T m a O))) (filter (keeps ss) U) d.0 d.1 in
       let k = in_from_kept (keeps ss) U x.0 x.1 in
-      let same : c.0 ≡ x.0 = one_number h.chunks (naming.settled h from ss news S T m a O).apart c.0 x.0 (in_unreserved h.chunks h.reserved c.0 l.0) (in_unreserved h.chunks h.reserved x.0 k.0)
-      (c.1.1 ∙ sym (ap (λ (z : ChunkValue). z.number) x.2 ∙ d.1.1)) in
+      let same : c.0 ≡ x.0 = same_chunk h.chunks c.0 x.0 (naming.settled h from ss news S T m a O).apart (in_unreserved h.chunks h.reserved c.0 l.0) (in_unreserved h.chunks h.reserved x.0 k.0)
+      (c.2 ∙ sym (ap (λ (z : ChunkValue). z.number) x.2 ∙ d.2)) in
       both_not (keeps ss x.0) k.1 (ap (leaves ss) (sym same) ∙ l.1)
     where
       both_not : (b : Bool) → b ≡ true → not b ≡ true → ⊥
@@ -117,10 +116,10 @@ module _ (h : LeafHeapValue) (from : List (Option Addr)) (ss : List Survivor) (n
 
   kept_old : (n : ℕ) → In (numbers K) n → In (numbers h.chunks) n
   kept_old n j =
-      let d = extent.chunk_in K n j in
-      let x = map_in (led_chunk (moving.g h from ss news S T (naming.settled h from ss news S T m a O) (naming.reserved h from ss news S T m a O))) (filter (keeps ss) U) d.0 d.1.0 in
+      let d = map_in number_of K n j in
+      let x = map_in (led_chunk (moving.g h from ss news S T (naming.settled h from ss news S T m a O) (naming.reserved h from ss news S T m a O))) (filter (keeps ss) U) d.0 d.1 in
       let k = in_from_kept (keeps ss) U x.0 x.1 in
-      subst (In (numbers h.chunks)) (ap (λ (z : ChunkValue). z.number) x.2 ∙ d.1.1) (extent.number_there h.chunks x.0 (in_unreserved h.chunks h.reserved x.0 k.0))
+      subst (In (numbers h.chunks)) (ap (λ (z : ChunkValue). z.number) x.2 ∙ d.2) (extent.number_there h.chunks x.0 (in_unreserved h.chunks h.reserved x.0 k.0))
 
   within : new_numbers.Within h.chunks h.reserved
   within = within_at h.chunks h.reserved (naming.reserved h from ss news S T m a O)
@@ -180,8 +179,8 @@ module _ (h : LeafHeapValue) (from : List (Option Addr)) (ss : List Survivor) (n
         record { chunk = x.0; there = in_append_left h.chunks news x.0 (in_unreserved h.chunks h.reserved x.0 p.0); number = ap (λ (z : ChunkValue). z.number) x.2; size = ap (λ (z : ChunkValue). z.size) x.2 }
     | inr j ↦
         let n = new_number k.number (extent.number_there y.spare k (reversed y.spare k j)) in
-        let c = extent.chunk_in news k.number n in
-        record { chunk = c.0; there = in_append_right h.chunks news c.0 c.1.0; number = c.1.1; size = size_of_new news c.0 T.new c.1.0 ∙ sym (size_of_new y.spare k spare_new (reversed y.spare k j)) }
+        let c = map_in number_of news k.number n in
+        record { chunk = c.0; there = in_append_right h.chunks news c.0 c.1; number = c.2; size = size_of_new news c.0 T.new c.1 ∙ sym (size_of_new y.spare k spare_new (reversed y.spare k j)) }
   ]
     where
       spare_new : AreNew y.spare
@@ -192,8 +191,8 @@ module _ (h : LeafHeapValue) (from : List (Option Addr)) (ss : List Survivor) (n
   heap_was k i = elim (in_append_cases L (K ++ R) k i) [
     | inl j ↦
         let n = moving.laid_new h from ss news S T (naming.settled h from ss news S T m a O) (naming.reserved h from ss news S T m a O) k.number (extent.number_there L k j) in
-        let c = extent.chunk_in news k.number n in
-        record { chunk = c.0; there = in_append_right h.chunks news c.0 c.1.0; number = c.1.1; size = size_of_new news c.0 T.new c.1.0 ∙ sym (told_in m L k (naming.told h from ss news S T m a O) j) }
+        let c = map_in number_of news k.number n in
+        record { chunk = c.0; there = in_append_right h.chunks news c.0 c.1; number = c.2; size = size_of_new news c.0 T.new c.1 ∙ sym (told_in m L k (naming.told h from ss news S T m a O) j) }
     | inr j ↦ elim (in_append_cases K R k j) [
       | inl q ↦
           let x = map_in (led_chunk (moving.g h from ss news S T (naming.settled h from ss news S T m a O) (naming.reserved h from ss news S T m a O))) (filter (keeps ss) U) k q in

@@ -5,7 +5,7 @@ use Rattle.std.specs.Prelude.{reverse}
 use Rattle.std.proofs.lemmas.Bool.{cases_lt, cond-false, cond-true, false≢true}
 use Rattle.std.proofs.lemmas.List.{length-map}
 use Rattle.listed.proofs.Members.{in_append_cases}
-use Rattle.listed.proofs.Places.{all_from, read_in}
+use Rattle.listed.proofs.Places.{all_from, in_map, map_in, read_in}
 use Rattle.hh_model.specs.declared.data.State.{State}
 use Rattle.run_ledger.specs.declared.data.Heap.{Heap}
 use Rattle.run_ledger.specs.Heaps.{units}
@@ -32,7 +32,6 @@ use Rattle.leaf_copy_gc.proofs.Tidied.{all_tidy}
 use Rattle.leaf_copy_gc.proofs.Packing.{used_led}
 use Rattle.core_relation.specs.Memory.{Chunk, In, objects_in}
 use Rattle.core_relation.specs.Layout.{AreLaidOut, HoldsLarge, has_none, reserved_chunks, reserved_units, words}
-use Rattle.core_relation.proofs.objects.Members.{in_map, map_in}
 use Rattle.task_machine.specs.Accounts.{AreReserved, IsCounted}
 use Rattle.shared_value.specs.Objects.{chunk_of, chunks_of}
 use Rattle.shared_value.specs.Stands.{HeapForm}

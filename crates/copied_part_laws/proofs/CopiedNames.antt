@@ -5,7 +5,7 @@ use Rattle.std.specs.List.{flat_map, list_any}
 use Rattle.std.proofs.lemmas.Bool.{cases_Bool, cases_lt, cond-false, cond-true, eqb-true, false≢true, le-leb, leb-true, lt-leb, not-true}
 use Rattle.std.proofs.lemmas.List.{append-nil}
 use Rattle.listed.proofs.Members.{in_append_cases, in_flat, in_from_kept, in_kept}
-use Rattle.listed.proofs.Places.{in_map, read_in}
+use Rattle.listed.proofs.Places.{in_map, map_in, read_in}
 use Rattle.hh_model.specs.declared.data.Name.{Name}
 use Rattle.hh_model.specs.declared.data.State.{State}
 use Rattle.run_ledger.specs.declared.data.Heap.{Heap}
@@ -31,14 +31,14 @@ use Rattle.leaf_copy_gc.specs.Collected.{AreSurvivors, keeps, large_of, laid_of,
 use Rattle.leaf_copy_gc.specs.Laws.{CanTake}
 use Rattle.leaf_copy_gc.proofs.Moves.{in_small, olds_small, small_ones}
 use Rattle.leaf_copy_gc.proofs.Moves as moves
-use Rattle.leaf_copy_gc.proofs.Naming.{in_unmap, in_unreserved}
+use Rattle.leaf_copy_gc.proofs.Naming.{in_unreserved}
 use Rattle.leaf_copy_gc.proofs.NewNumbers.{new_reverse}
 use Rattle.collected_heap_laws.proofs.Reading as reading
 use Rattle.leaf_copy_gc.proofs.Rebuilt.{any_here, any_none, first_of}
 use Rattle.core_relation.specs.Memory.{Chunk, In, object_name, objects_in}
 use Rattle.core_relation.specs.Layout.{words}
 use Rattle.core_relation.specs.Stands.{HasNames, names_of, small_chunks}
-use Rattle.core_relation.proofs.objects.Members.{from_flat, in_objects, map_in}
+use Rattle.core_relation.proofs.objects.Members.{from_flat, in_objects}
 use Rattle.task_machine.specs.Accounts.{large_names, names_in, small_lists}
 use Rattle.shared_value.specs.Objects.{chunk_of, chunks_of}
 use Rattle.shared_value.proofs.CellsRead.{object_seen, seen_object}
@@ -94,8 +94,8 @@ module _ (h : LeafHeapValue) (from : List (Option Addr)) (ss : List Survivor) (n
   -- that is found by its address
   pub survivor_of : (o : Located) → In (objects_in (chunks_of h.chunks)) o → In (olds ss) o.at → (s : Survivor) × In ss s × (object_of s ≡ o)
   survivor_of o i j =
-      let s = in_unmap ss o.at j in
-      (s.0, s.1.0, once h.chunks settled.apart (object_of s.0) o (object_there s.0 s.1.0) i s.1.1)
+      let s = map_in old_of ss o.at j in
+      (s.0, s.1, once h.chunks settled.apart (object_of s.0) o (object_there s.0 s.1) i s.2)
 
   pub cell_words : (o : Located) → In (objects_in (chunks_of h.chunks)) o → size_of (cell_of h.chunks o.at) ≡ words o
   cell_words o i =

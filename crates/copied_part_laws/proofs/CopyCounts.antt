@@ -5,7 +5,7 @@ use Rattle.std.specs.List.{flat_map}
 use Rattle.std.proofs.lemmas.Bool.{cases_Bool, cond-false, eqb-true, false≢true}
 use Rattle.std.proofs.lemmas.List.{length-map, length-reverse}
 use Rattle.std.proofs.lemmas.List.Sums.{sum_by-append, sum_by-cons}
-use Rattle.listed.proofs.Places.{read_in}
+use Rattle.listed.proofs.Places.{in_map, map_in, read_in}
 use Rattle.hh_model.specs.declared.data.Name.{Name}
 use Rattle.hh_model.specs.declared.data.State.{State}
 use Rattle.run_ledger.specs.declared.data.Heap.{Heap}
@@ -36,7 +36,7 @@ use Rattle.leaf_copy_gc.proofs.Naming.{in_unreserved}
 use Rattle.collected_heap_laws.proofs.Reading as reading
 use Rattle.core_relation.specs.Memory.{In, object_name, objects_in}
 use Rattle.core_relation.specs.Layout.{words}
-use Rattle.core_relation.proofs.objects.Members.{in_map, in_objects, map_in}
+use Rattle.core_relation.proofs.objects.Members.{in_objects}
 use Rattle.task_machine.specs.Accounts.{large_names, names_in, small_lists}
 use Rattle.shared_value.specs.Objects.{chunk_of, chunks_of}
 use Rattle.shared_value.proofs.HeapCounts.{large_are, names_are, small_names}

@@ -3,6 +3,7 @@ use Rattle.std.proofs.Common.{◌≡◌, ℕ, zero, suc, ◌/◌, ◌++◌, ◌�
 use Rattle.std.specs.Prelude.{pos, reverse}
 use Rattle.std.proofs.lemmas.List.{length-map}
 use Rattle.std.proofs.lemmas.List.Sums.{sum_by-cons}
+use Rattle.listed.proofs.Places.{in_map}
 use Rattle.run_ledger.specs.declared.data.Ledger.{Ledger}
 use Rattle.run_ledger.specs.Heaps.{end_numbers, heap_of, in_use, units_in}
 use Rattle.run_ledger.proofs.Space.{use_is_bounded}
@@ -23,7 +24,6 @@ use Rattle.ledger_step_laws.proofs.Rested.{rested_view}
 use Rattle.core_relation.specs.Copies.{PartFits, before}
 use Rattle.core_relation.specs.Fits.{part_for}
 use Rattle.core_relation.specs.Memory.{Belongings, In}
-use Rattle.core_relation.proofs.objects.Members.{in_map}
 use Rattle.task_machine.specs.declared.part.Begun.{Begun}
 use Rattle.task_machine.specs.declared.part.Private.{Private}
 use Rattle.shared_value.specs.Fits.{belongings_of_part}

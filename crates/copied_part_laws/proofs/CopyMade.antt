@@ -3,6 +3,7 @@ use Rattle.std.proofs.Common.{◌≡◌, ℕ, ◌+◌, arith, Option, Some, None
 use Rattle.std.specs.Option.{option_map}
 use Rattle.std.specs.Prelude.{reverse, unwrap_or}
 use Rattle.listed.proofs.Members.{contains_from_in, in_append_cases, in_from_contains}
+use Rattle.listed.proofs.Places.{in_map, map_in}
 use Rattle.hh_lang.specs.Form.{ProgramText}
 use Rattle.hh_model.specs.declared.data.Object.{Object}
 use Rattle.hh_model.specs.declared.data.State.{State}
@@ -13,7 +14,7 @@ use Rattle.run_ledger.specs.declared.data.Ledger.{Ledger}
 use Rattle.run_ledger.specs.Heaps.{heap_of, let_go, words_at, words_of}
 use Rattle.run_ledger.proofs.Machine.{heap_machine}
 use Rattle.object_layout.specs.declared.word.Addr.{Addr}
-use Rattle.object_layout.specs.ChunkValue.{ChunkValue}
+use Rattle.object_layout.specs.ChunkValue.{ChunkValue, number_of}
 use Rattle.object_layout.specs.Objects.{Located}
 use Rattle.alloc_path.specs.LeafHeapValue.{LeafHeapValue, with_places}
 use Rattle.chunk_rows.specs.View.{Level}
@@ -39,7 +40,6 @@ use Rattle.core_relation.specs.Stands.{HasNames, BelongingsStand, Place, Stands}
 use Rattle.core_relation.specs.Fits.{with_belongings}
 use Rattle.core_relation.specs.Whole.{BegunStands}
 use Rattle.core_relation.specs.Copies.{CopyFits, IsCopy}
-use Rattle.core_relation.proofs.objects.Members.{in_map, map_in}
 use Rattle.core_relation.proofs.changes.With.{at_belongings}
 use Rattle.shared_value.specs.Objects.{chunk_of, chunks_of}
 use Rattle.shared_value.specs.Stands.{HeapForm}
@@ -204,8 +204,8 @@ module _ (p : ProgramText) (st : SettingsValue) (t : ℕ) (h : LeafHeapValue) (v
     owned_each k i = elim (in_append_cases L (K ++ R) k i) [
       | inl j ↦
           let n = moving.laid_new h (outside s b.roots) C.survivors news C.are B.new (naming.settled h (outside s b.roots) C.survivors news C.are B.new l.machine a O) (naming.reserved h (outside s b.roots) C.survivors news C.are B.new l.machine a O) k.number (extent.number_there L k j) in
-          let c = extent.chunk_in news k.number n in
-          began.owned k.number (subst (In b.news) c.1.1 (B.took c.0 c.1.0))
+          let c = map_in number_of news k.number n in
+          began.owned k.number (subst (In b.news) c.2 (B.took c.0 c.1))
       | inr j ↦ elim (in_append_cases K R k j) [
         | inl d ↦
             let x = map_in (led_chunk (moving.g h (outside s b.roots) C.survivors news C.are B.new (naming.settled h (outside s b.roots) C.survivors news C.are B.new l.machine a O) (naming.reserved h (outside s b.roots) C.survivors news C.are B.new l.machine a O))) (filter (keeps C.survivors) (unreserved h.chunks h.reserved)) k d in

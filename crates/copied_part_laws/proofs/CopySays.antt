@@ -33,6 +33,7 @@ use Rattle.heap_marking.proofs.HeapClosed as reads
 use Rattle.copied_part_laws.specs.Copied.{BegunCanCopy, CanCopy, IsBegun, NumbersAreSaid}
 use Rattle.copied_part_laws.proofs.CopyMade as copying
 use Rattle.copied_part_laws.proofs.CopyCounts as counting
+use Rattle.copied_part_laws.proofs.SurvivorsReached.{from_stack}
 
 -- ---- NUMBERS
 
@@ -87,18 +88,11 @@ module _ (p : ProgramText) (st : SettingsValue) (t : ℕ) (h : LeafHeapValue) (v
         let T : TaskIsRead At (V.belongings t) x = (copying.stands p st t h view count s b news v l B).tasks t x (rested_worker l t) (ap (λ (m : State). slice_get m.tasks t) (copying.machine p st t h view count s b news v l B) ∙ is) in
         subst (λ (z : Belongings). FramesAreRead At z.frames (x.top ∷ x.below)) (copying.here p st t h view count s b news v l B) (subst (HoldsRead At (V.belongings t) x) runs T)
 
-    from_stack : (f : Frame) → In (frames_of s) f → In (frames_down s) f
-    from_stack f i = elim (in_append_cases s.below (s.top ∷ []) f i) [
-      | inl j ↦ inr j
-      | inr (inl e) ↦ inl e
-      | inr (inr z) ↦ absurd z
-    ]
-
     held : (r : Option Addr) → In (refs_held (frames_of s)) r → IsSound h.chunks r
     held None i = tt
     held (Some r) i =
         let f = flat_in references_in (frames_of s) (Some r) i in
-        let n = frame_one At (frames_down s) (x.top ∷ x.below) f.1 r read (from_stack f.1 (got_in (frames_of s) f.0 f.1 f.2)) f.3 in
+        let n = frame_one At (frames_down s) (x.top ∷ x.below) f.1 r read (from_stack s f.1 (got_in (frames_of s) f.0 f.1 f.2)) f.3 in
         sound_at n.0 r n.1
 
     root : (r : Option Addr) → In (map as_reference b.roots) r → IsSound h.chunks r

@@ -1,6 +1,7 @@
 -- Where the objects of chunks lie: each within its own chunk, and none over another.
 use Rattle.std.proofs.Common.{◌≡◌, ◌⊎◌, ℕ, ◌+◌, ◌*◌, ◌/◌, ◌≤◌, arith, true, List, [], ◌∷◌, map, inl, inr, refl, ap, sym, subst, ◌∙◌}
 use Rattle.std.proofs.lemmas.Bool.{cases_eq}
+use Rattle.listed.proofs.Places.{map_in}
 use Rattle.object_layout.specs.declared.word.Addr.{Addr}
 use Rattle.object_layout.specs.Cell.{Born, Cell, Hole, Mark, Moved, size_of}
 use Rattle.object_layout.specs.ChunkValue.{ChunkValue}
@@ -9,10 +10,9 @@ use Rattle.object_layout.specs.Objects.{Located, located_by, objects_from}
 use Rattle.alloc_path.specs.LeafHeapValue.{AreApart}
 use Rattle.core_relation.specs.Memory.{Chunk, In, objects_in}
 use Rattle.core_relation.specs.Layout.{AreApart as ObjectsApart, AreLaidOut, HoldsLarge, reserved_chunks, reserved_units, words}
-use Rattle.core_relation.proofs.objects.Members.{in_chunk, map_in}
+use Rattle.core_relation.proofs.objects.Members.{in_chunk}
 use Rattle.shared_value.specs.Objects.{chunk_of, chunks_of}
-use Rattle.shared_value.proofs.CellsRead.{fresh_off}
-use Rattle.shared_value.proofs.HeapLaidOut.{apart_here, distinct_from}
+use Rattle.shared_value.proofs.HeapLaidOut.{apart_here, distinct_from, same_chunk}
 use Rattle.leaf_collections.proofs.MoreChunksLaid.{small_units}
 
 -- ---- IN ONE CHUNK
@@ -55,13 +55,6 @@ only_first number base c Hole o q i j = absurd i
 
 -- ---- IN A LIST OF CHUNKS
 
-pub one_number : (ks : List ChunkValue) → AreApart ks → (k j : ChunkValue) → In ks k → In ks j → k.number ≡ j.number → k ≡ j
-one_number [] A k j i h q = absurd i
-one_number (x ∷ xs) A k j (inl e) (inl d) q = sym e ∙ d
-one_number (x ∷ xs) A k j (inl e) (inr h) q = absurd (fresh_off xs j x.number A.0 h (sym (ap (λ (z : ChunkValue). z.number) e ∙ q)))
-one_number (x ∷ xs) A k j (inr i) (inl d) q = absurd (fresh_off xs k x.number A.0 i (q ∙ sym (ap (λ (z : ChunkValue). z.number) d)))
-one_number (x ∷ xs) A k j (inr i) (inr h) q = one_number xs A.1 k j i h q
-
 -- the chunk in which an object is read
 pub record Holds (ks : List ChunkValue) (o : Located) : Type 0 where
   pub chunk : ChunkValue
@@ -80,7 +73,7 @@ once ks A o q i j e =
     let g = held_by ks q j in
     let so = span h.chunk.cells h.chunk.number 0 o h.object in
     let sq = span g.chunk.cells g.chunk.number 0 q g.object in
-    let same : g.chunk ≡ h.chunk = one_number ks A g.chunk h.chunk g.there h.there (sym sq.chunk ∙ (ap (λ (a : Addr). a.chunk) (sym e) ∙ so.chunk)) in
+    let same : g.chunk ≡ h.chunk = same_chunk ks g.chunk h.chunk A g.there h.there (sym sq.chunk ∙ (ap (λ (a : Addr). a.chunk) (sym e) ∙ so.chunk)) in
     elim (apart_here h.chunk.cells h.chunk.number 0 o q h.object (subst (λ (z : ChunkValue). In (objects_from z.number 0 z.cells) q) same g.object)) [
       | inl d ↦ d
       | inr (inl ne) ↦ absurd (ne (ap (λ (a : Addr). a.chunk) e))
@@ -96,7 +89,7 @@ apart ks A o q i j = elim (cases_eq o.at.chunk q.at.chunk) [
       let g = held_by ks q j in
       let so = span h.chunk.cells h.chunk.number 0 o h.object in
       let sq = span g.chunk.cells g.chunk.number 0 q g.object in
-      let same : g.chunk ≡ h.chunk = one_number ks A g.chunk h.chunk g.there h.there (sym sq.chunk ∙ (sym e ∙ so.chunk)) in
+      let same : g.chunk ≡ h.chunk = same_chunk ks g.chunk h.chunk A g.there h.there (sym sq.chunk ∙ (sym e ∙ so.chunk)) in
       apart_here h.chunk.cells h.chunk.number 0 o q h.object (subst (λ (z : ChunkValue). In (objects_from z.number 0 z.cells) q) same g.object)
 ]
 

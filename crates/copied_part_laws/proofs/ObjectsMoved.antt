@@ -5,19 +5,19 @@ use Rattle.std.specs.Prelude.{nat_le, reverse, unwrap_or}
 use Rattle.std.specs.List.{list_any}
 use Rattle.std.proofs.lemmas.Bool.{and_parts, cases_Bool, cases_lt, false≢true, le-leb, leb-true}
 use Rattle.listed.proofs.Members.{contains_from_in, in_append_cases, in_append_left, in_from_any, in_from_kept}
-use Rattle.listed.proofs.Places.{in_map, read_in}
+use Rattle.listed.proofs.Places.{in_map, map_in, read_in}
 use Rattle.object_layout.specs.declared.word.Addr.{Addr}
 use Rattle.object_layout.specs.declared.word.Birth.{Birth}
 use Rattle.object_layout.specs.Cell.{Born, Cell, size_of}
 use Rattle.object_layout.specs.ChunkValue.{ChunkValue}
 use Rattle.object_layout.specs.Place.{cell_at}
 use Rattle.object_layout.specs.Chunks.{cell_of}
-use Rattle.object_layout.proofs.Distinct.{Once, once_from, same_is}
+use Rattle.object_layout.proofs.Distinct.{once_from, same_is}
 use Rattle.object_layout.proofs.ObjectChanges.{led_are_read}
 use Rattle.object_layout.specs.Objects.{Located, led_object, located, located_by, objects_from}
 use Rattle.object_layout.proofs.ObjectLemmas.{chunk_there}
 use Rattle.alloc_path.specs.LeafHeapValue.{AreApart, LeafHeapValue, IsReserved, IsSettled, IsTidy}
-use Rattle.remembered_set.specs.Moved.{new_of, same_address}
+use Rattle.remembered_set.specs.Moved.{same_address}
 use Rattle.leaf_copy_gc.specs.declared.lists.Survivor.{Survivor}
 use Rattle.leaf_copy_gc.specs.Survivors.{olds, old_of}
 use Rattle.leaf_copy_gc.specs.Laid.{Laying, before, is_small, smalls}
@@ -34,28 +34,18 @@ use Rattle.leaf_copy_gc.proofs.NewNumbers.{within_at}
 use Rattle.address_laws.proofs.Numbers.{numbers}
 use Rattle.leaf_copy_gc.proofs.Order.{first_in, firsts, in_first}
 use Rattle.collected_heap_laws.proofs.Reading as reading
+use Rattle.collected_heap_laws.proofs.Telling.{once_moves, some_by}
 use Rattle.leaf_copy_gc.proofs.Rebuilt as rebuilt
 use Rattle.leaf_copy_gc.proofs.Rebuilt.{first_of, none_at}
 use Rattle.leaf_copy_gc.proofs.Naming.{in_unreserved}
 use Rattle.core_relation.specs.Memory.{In, copied_object, objects_in}
-use Rattle.core_relation.proofs.objects.Members.{in_objects, map_in}
+use Rattle.core_relation.proofs.objects.Members.{in_objects}
 use Rattle.shared_value.specs.Objects.{chunk_of, chunks_of}
 use Rattle.shared_value.proofs.CellsRead.{object_seen, seen_object}
 use Rattle.copied_part_laws.proofs.ObjectsApart.{Holds, held_by}
 use Rattle.copied_part_laws.proofs.ObjectsPlaced.{laid_objects, seen_only}
 
 -- ---- WHERE ADDRESSES LEAD
-
-some_by : (ms : List (Addr × Addr)) (m : Addr × Addr) → Once (map first_in ms) → In ms m → new_of ms m.0 ≡ Some m.1
-some_by [] m o i = absurd i
-some_by (x ∷ ms) m o (inl e) = rw (moves.addr_itself x.0 m.0 (ap (λ (p : Addr × Addr). p.0) e)) (ap (λ (p : Addr × Addr). Some p.1) e)
-some_by (x ∷ ms) m o (inr i) =
-    rw (moves.addr_other x.0 m.0 (λ e. o.0 (contains_from_in (map first_in ms) x.0 (subst (In (map first_in ms)) (sym e) (in_first ms m i))))) (some_by ms m o.1 i)
-
-from_first : (ms : List (Addr × Addr)) (a : Addr) → In (map first_in ms) a → (m : Addr × Addr) × In ms m × (m.0 ≡ a)
-from_first [] a i = absurd i
-from_first (m ∷ ms) a (inl e) = (m, inl refl, e)
-from_first (m ∷ ms) a (inr i) = let r = from_first ms a i in (r.0, inr r.1, r.2)
 
 -- the reserved chunk is of the heap, and empty
 pub of_reserved : (ks : List ChunkValue) (r : Option ℕ) → IsReserved ks r → (k : ChunkValue) → In (reserved_of ks r) k → In ks k × (1024 < k.size) × (k.cells ≡ [])
@@ -109,11 +99,8 @@ module _ (h : LeafHeapValue) (from : List (Option Addr)) (ss : List Survivor) (n
   firsts_are : map first_in ms ≡ xs
   firsts_are = firsts (before (reverse news)) h.chunks xs
 
-  once_moves : Once (map first_in ms)
-  once_moves = subst Once (sym firsts_are) (moves.once_smalls h.chunks (olds ss) (once_from (olds ss) S.once))
-
   pub to_new : (m : Addr × Addr) → In ms m → to m.0 ≡ m.1
-  to_new m i = ap (λ (o : Option Addr). unwrap_or o m.0) (some_by ms m once_moves i)
+  to_new m i = ap (λ (o : Option Addr). unwrap_or o m.0) (some_by ms m (once_moves h.chunks from ss (reverse news) S) i)
 
   pub to_itself : (a : Addr) → (In xs a → ⊥) → to a ≡ a
   to_itself a n = ap (λ (o : Option Addr). unwrap_or o a) (moves.new_none (before (reverse news)) h.chunks xs a n)
@@ -124,9 +111,9 @@ module _ (h : LeafHeapValue) (from : List (Option Addr)) (ss : List Survivor) (n
   -- a survivor is read where it was
   pub seen_there : (a : Addr) → In (olds ss) a → (o : Located) × In (objects_in (chunks_of h.chunks)) o × (o.at ≡ a)
   seen_there a i =
-      let s = naming.in_unmap ss a i in
-      let born : (cell_of h.chunks s.0.old).mark ≡ Born s.0.birth = read_in (λ (x : Survivor). (cell_of h.chunks x.old).mark ≡ Born x.birth) ss s.0 s.1.0 S.names in
-      (located s.0.old.chunk s.0.old.offset s.0.birth (cell_of h.chunks s.0.old), object_seen h.chunks s.0.old s.0.birth born, s.1.1)
+      let s = map_in old_of ss a i in
+      let born : (cell_of h.chunks s.0.old).mark ≡ Born s.0.birth = read_in (λ (x : Survivor). (cell_of h.chunks x.old).mark ≡ Born x.birth) ss s.0 s.1 S.names in
+      (located s.0.old.chunk s.0.old.offset s.0.birth (cell_of h.chunks s.0.old), object_seen h.chunks s.0.old s.0.birth born, s.2)
 
   -- ---- what was there is there now
 
@@ -144,7 +131,7 @@ module _ (h : LeafHeapValue) (from : List (Option Addr)) (ss : List Survivor) (n
     | inl small ↦
         let l = seen_object h.chunks o settled.apart i in
         let x : In xs o.at = moves.to_smalls h.chunks (olds ss) o.at j small in
-        let m = from_first ms o.at (subst (λ as'. In as' o.at) (sym firsts_are) x) in
+        let m = map_in first_in ms o.at (subst (λ as'. In as' o.at) (sym firsts_are) x) in
         let e : to o.at ≡ m.0.1 = ap to (sym m.2) ∙ to_new m.0 m.1 in
         let read : cell_of ks' m.0.1 ≡ led_cell g (cell_of h.chunks o.at) = reading.moved_are_read h from ss news S T m.0.0 m.0.1 (contains_from_in ms m.0 m.1) ∙ ap (λ (z : Addr). led_cell g (cell_of h.chunks z)) m.2 in
         there_now o m.0.1 o.birth l.is l.mark e read
@@ -216,8 +203,8 @@ module _ (h : LeafHeapValue) (from : List (Option Addr)) (ss : List Survivor) (n
   pub kept_some : (k : ChunkValue) → In (filter (keeps ss) (unreserved h.chunks h.reserved)) k → objects_from k.number 0 (map (led_cell g) k.cells) ≡ [] → ⊥
   kept_some k i e =
       let A = alone k i in
-      let s = naming.in_unmap ss (first_of k) A.survives in
-      let born : (cell_of h.chunks (first_of k)).mark ≡ Born s.0.birth = ap (λ (z : Addr). (cell_of h.chunks z).mark) (sym s.1.1) ∙ read_in (λ (x : Survivor). (cell_of h.chunks x.old).mark ≡ Born x.birth) ss s.0 s.1.0 S.names in
+      let s = map_in old_of ss (first_of k) A.survives in
+      let born : (cell_of h.chunks (first_of k)).mark ≡ Born s.0.birth = ap (λ (z : Addr). (cell_of h.chunks z).mark) (sym s.2) ∙ read_in (λ (x : Survivor). (cell_of h.chunks x.old).mark ≡ Born x.birth) ss s.0 s.1 S.names in
       let mark : (cell_at k.cells 0).mark ≡ Born s.0.birth = ap (λ (c : Cell). c.mark) (sym (extent.chunk_there h.chunks k (reading.once_h h from ss news S T settled reserved) A.there (first_of k) refl)) ∙ born in
       let c : Cell = led_cell g (cell_at k.cells 0) in
       let here : objects_from k.number 0 (map (led_cell g) k.cells) ≡ located k.number 0 s.0.birth c ∷ [] = ap (λ cs. objects_from k.number 0 (map (led_cell g) cs)) A.one ∙ ap (λ m. located_by k.number 0 c m []) mark in

@@ -2,7 +2,7 @@
 use Rattle.std.proofs.Common.{◌≡◌, ℕ, suc, ◌+◌, ◌<◌, ◌≤◌, arith, Bool, true, false, cond, List, [], ◌∷◌, length, get_or, map, filter, is_lt, inl, inr, refl, ap₂, sym, subst, ◌∙◌, eq-eqb}
 use Rattle.std.proofs.lemmas.Bool.{cases_lt, false≢true, le-ltb, lt-ltb}
 use Rattle.listed.proofs.Members.{contains_from_in, in_from_contains, in_from_kept, in_kept}
-use Rattle.listed.proofs.Places.{in_map}
+use Rattle.listed.proofs.Places.{in_map, map_in}
 use Rattle.hh_model.specs.declared.data.Name.{Name}
 use Rattle.hh_model.specs.declared.data.State.{State}
 use Rattle.run_ledger.specs.declared.data.Heap.{Heap}
@@ -15,7 +15,6 @@ use Rattle.object_layout.proofs.Distinct.{Once}
 use Rattle.leaf_copy_gc.specs.declared.lists.Survivor.{Survivor}
 use Rattle.leaf_copy_gc.specs.Survivors.{olds, old_of, survivor_order}
 use Rattle.core_relation.specs.Memory.{In}
-use Rattle.core_relation.proofs.objects.Members.{map_in}
 use Rattle.core_entry_laws.proofs.notes.MarksAll.{NamedOnce}
 use Rattle.copied_part_laws.proofs.NamesLaid.{birth_name}
 

@@ -1,6 +1,7 @@
 -- The survivors of a leaf collection are what the registers and the roots reach, as the relation has it.
 use Rattle.std.proofs.Common.{◌≡◌, ℕ, zero, suc, Option, Some, List, [], ◌∷◌, map, inl, inr, ap, sym, subst, ◌∙◌}
 use Rattle.listed.proofs.Members.{contains_from_in, flat_in, got_in, in_append_cases, in_append_left, in_append_right, in_flat, in_from_contains}
+use Rattle.listed.proofs.Places.{in_map, map_in}
 use Rattle.walk_laws.specs.Reached.{IsWalk}
 use Rattle.object_layout.specs.declared.word.Addr.{Addr}
 use Rattle.object_layout.specs.Chunks.{cell_of}
@@ -13,10 +14,17 @@ use Rattle.task_frames.specs.FramesValue.{FramesValue, frames_of}
 use Rattle.leaf_copy_gc.specs.Survivors.{IsSurvivor, Starts, as_reference, frame_references, outside, references_in}
 use Rattle.core_relation.specs.Memory.{Belongings, In, objects_in}
 use Rattle.core_relation.specs.Begins.{IsAt, IsReachedAt, LeadsAt, StartsAt}
-use Rattle.core_relation.proofs.objects.Members.{in_map, map_in}
 use Rattle.shared_value.specs.Objects.{chunks_of}
 use Rattle.shared_value.specs.SharedValue.{frames_down}
 use Rattle.heap_marking.proofs.HeapClosed.{held_seen, seen_held}
+
+-- the frames of a stack, from the bottom, are those from the top
+pub from_stack : (s : FramesValue) (g : Frame) → In (frames_of s) g → In (frames_down s) g
+from_stack s g i = elim (in_append_cases s.below (s.top ∷ []) g i) [
+  | inl j ↦ inr j
+  | inr (inl e) ↦ inl e
+  | inr (inr z) ↦ absurd z
+]
 
 module _ (ks : List ChunkValue) (A : AreApart ks) (belongings : Belongings) (s : FramesValue) (roots : List Addr) (chunks : belongings.chunks ≡ chunks_of ks) (frames : belongings.frames ≡ frames_down s) where
   -- ---- OBJECTS
@@ -39,20 +47,13 @@ module _ (ks : List ChunkValue) (A : AreApart ks) (belongings : Belongings) (s :
   in_stack f (inl e) = in_append_right s.below (s.top ∷ []) f (inl e)
   in_stack f (inr i) = in_append_left s.below (s.top ∷ []) f i
 
-  from_stack : (g : Frame) → In (frames_of s) g → In (frames_down s) g
-  from_stack g i = elim (in_append_cases s.below (s.top ∷ []) g i) [
-    | inl j ↦ inr j
-    | inr (inl e) ↦ inl e
-    | inr (inr z) ↦ absurd z
-  ]
-
   held_to : (a : Addr) (f : Frame) → In belongings.frames f → In f.refs (Some a) → In (frame_references (frames_of s)) (Some a)
   held_to a f i j = in_flat references_in (frames_of s) f (Some a) (in_stack f (subst (λ fs. In fs f) frames i)) j
 
   held_back : (a : Addr) → In (frame_references (frames_of s)) (Some a) → (f : Frame) × In belongings.frames f × In f.refs (Some a)
   held_back a i =
       let g = flat_in references_in (frames_of s) (Some a) i in
-      (g.1, subst (λ fs. In fs g.1) (sym frames) (from_stack g.1 (got_in (frames_of s) g.0 g.1 g.2)), g.3)
+      (g.1, subst (λ fs. In fs g.1) (sym frames) (from_stack s g.1 (got_in (frames_of s) g.0 g.1 g.2)), g.3)
 
   root_back : (rs : List Addr) (a : Addr) → In (map as_reference rs) (Some a) → In rs a
   root_back rs a i = let r = map_in as_reference rs (Some a) i in subst (In rs) (some_same r.0 r.2) r.1

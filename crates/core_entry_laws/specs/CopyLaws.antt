@@ -24,7 +24,7 @@ use Rattle.task_machine.specs.declared.part.Begun.{Begun}
 use Rattle.core_relation.specs.Stands.{Stands}
 use Rattle.core_relation.specs.Fits.{with_belongings}
 use Rattle.core_relation.specs.Changes.{Moves}
-use Rattle.core_relation.specs.Worker.{Fits}
+use Rattle.core_relation.specs.Worker.{WorkerFits}
 
 -- COLLECTIONS THAT HAVE BEGUN
 
@@ -43,7 +43,7 @@ BegunStays =
 abbrev pub CopiesStay : Type 0
 CopiesStay =
     (p : ProgramText) (s : SettingsValue) (t : ℕ) (h h' : Belongings) (f : Addr → Addr) (v v' : Memory) (l l' : Ledger) → SoundLedger l → AlikeFor t l l' → ((k : ℕ) → v.owner k ≡ Some t → v'.owner k ≡ Some t)
-    → l'.machine.end ≡ None → Fits p s (before s t h) v' l' → CopyFits p s t h h' f v l → CopyFits p s t h h' f v' l'
+    → l'.machine.end ≡ None → WorkerFits p s (before s t h) v' l' → CopyFits p s t h h' f v l → CopyFits p s t h h' f v' l'
 
 -- the end of the collection is what the law on collections asks for, and after it the part fits
 abbrev pub CopiesEnd : Type 0

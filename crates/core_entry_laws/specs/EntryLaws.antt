@@ -25,7 +25,7 @@ use Rattle.core_relation.specs.Stands.{Stands}
 use Rattle.core_relation.specs.Fits.{part_for}
 use Rattle.core_relation.specs.Changes.{KeepsJust, SameBut, SameObjects}
 use Rattle.core_entry_laws.specs.First.{first, first_tree_counts}
-use Rattle.core_relation.specs.Worker.{Fits}
+use Rattle.core_relation.specs.Worker.{WorkerFits}
 
 -- THE WHOLE RELATION before any entry
 
@@ -45,7 +45,7 @@ abbrev pub RanStandsFor : Type 0
 RanStandsFor =
     (p : ProgramText) (s : SettingsValue) (journal : List EntryValue) → IsProgram p → is_legal p s journal ≡ true → (v v' : Memory) (c c' : TreeCounts) (w t k : ℕ) (h : Belongings) → let l : Ledger = ledger_of p s journal in let e : EntryValue = record { worker = w; kind = Ran t (suc k) } in
     let l' : Ledger = after p s l e in
-    refusal p s l e ≡ None → (E : Runs p s l l' t w k) → StandsForAll v c l → Fits p s (part_for s t h (taken_by E.splits.kind k)) v l
+    refusal p s l e ≡ None → (E : Runs p s l l' t w k) → StandsForAll v c l → WorkerFits p s (part_for s t h (taken_by E.splits.kind k)) v l
     → (C : Makes p v v' (task_steps p l t k) l' t h E.splits.task E.splits.line E.splits.kind E.splits.last) → Marks p v v' (task_steps p l t k) l' t h E.splits.task E.splits.line E.splits.kind E.splits.last C
     → RanCounts p c c' (task_steps p l t k) l' t w k E.splits.task E.splits.line E.splits.kind E.splits.last → StandsForAll v' c' l'
 

@@ -25,7 +25,7 @@ use Rattle.core_relation.specs.Counts.{IsQuiet}
 use Rattle.core_relation.specs.Fits.{Part, part_for, with_belongings}
 use Rattle.core_relation.specs.Makes.{Makes, BelongingsAfter, StepsTo, taken_by}
 use Rattle.core_relation.specs.Whole.{TreeCounts, BegunBy, StandsForAll}
-use Rattle.core_relation.specs.Worker.{AllFit, Fits, IsBy}
+use Rattle.core_relation.specs.Worker.{IsBy, WorkerFits, WorkersFit}
 use Rattle.core_relation.specs.Frames.{with_all_belongings, all_ahead}
 
 -- WHAT ANOTHER HOLDS
@@ -33,29 +33,29 @@ use Rattle.core_relation.specs.Frames.{with_all_belongings, all_ahead}
 abbrev pub TookLeaves : Type 0
 TookLeaves =
     (p : ProgramText) (s : SettingsValue) (journal : List EntryValue) → is_legal p s journal ≡ true → (v v' : Memory) (w t : ℕ) → let l : Ledger = ledger_of p s journal in let e : EntryValue = record { worker = w; kind = Took t } in
-    refusal p s l e ≡ None → SameBut v v' t → (r : Part) → Fits p s r v l → Fits p s r v' (after p s l e)
+    refusal p s l e ≡ None → SameBut v v' t → (r : Part) → WorkerFits p s r v l → WorkerFits p s r v' (after p s l e)
 
 abbrev pub RanLeaves : Type 0
 RanLeaves =
-    (p : ProgramText) (s : SettingsValue) (v v' : Memory) (l l' : Ledger) (t w k : ℕ) (h : Belongings) → (E : Runs p s l l' t w k) → Fits p s (part_for s t h (taken_by E.splits.kind k)) v l
-    → Makes p v v' (task_steps p l t k) l' t h E.splits.task E.splits.line E.splits.kind E.splits.last → (r : Part) → (t ≡ r.task → ⊥) → Fits p s r v l → Fits p s r v' l'
+    (p : ProgramText) (s : SettingsValue) (v v' : Memory) (l l' : Ledger) (t w k : ℕ) (h : Belongings) → (E : Runs p s l l' t w k) → WorkerFits p s (part_for s t h (taken_by E.splits.kind k)) v l
+    → Makes p v v' (task_steps p l t k) l' t h E.splits.task E.splits.line E.splits.kind E.splits.last → (r : Part) → (t ≡ r.task → ⊥) → WorkerFits p s r v l → WorkerFits p s r v' l'
 
 -- a chunk, the begin of a leaf collection or its putting off, a marking's begin or going on, the end of fuel
 abbrev pub QuietLeaves : Type 0
 QuietLeaves =
     (p : ProgramText) (s : SettingsValue) (journal : List EntryValue) → is_legal p s journal ≡ true → (v v' : Memory) (e : EntryValue) → let l : Ledger = ledger_of p s journal in
-    refusal p s l e ≡ None → IsQuiet e.kind → SameObjects v v' l (after p s l e) → (r : Part) → (IsBy e.kind r.task → ⊥) → Fits p s r v l → Fits p s r v' (after p s l e)
+    refusal p s l e ≡ None → IsQuiet e.kind → SameObjects v v' l (after p s l e) → (r : Part) → (IsBy e.kind r.task → ⊥) → WorkerFits p s r v l → WorkerFits p s r v' (after p s l e)
 
 abbrev pub SweepsLeave : Type 0
 SweepsLeave =
     (p : ProgramText) (s : SettingsValue) (journal : List EntryValue) → is_legal p s journal ≡ true → (v v' : Memory) (w t given : ℕ) → let l : Ledger = ledger_of p s journal in let e : EntryValue = record { worker = w; kind = Sweep t given } in
-    refusal p s l e ≡ None → KeepsJust v v' l (after p s l e) t (heap_of l t).snapshot → (r : Part) → Fits p s r v l → Fits p s r v' (after p s l e)
+    refusal p s l e ≡ None → KeepsJust v v' l (after p s l e) t (heap_of l t).snapshot → (r : Part) → WorkerFits p s r v l → WorkerFits p s r v' (after p s l e)
 
 abbrev pub EndsLeave : Type 0
 EndsLeave =
     (p : ProgramText) (s : SettingsValue) (journal : List EntryValue) → is_legal p s journal ≡ true → (v v' : Memory) (w t taken given left : ℕ) (h h' : Belongings) (f : Addr → Addr) → let l : Ledger = ledger_of p s journal in
     let e : EntryValue = record { worker = w; kind = End t taken given left } in
-    refusal p s l e ≡ None → CopyFits p s t h h' f v l → EndsAt v v' t h' f → (r : Part) → (t ≡ r.task → ⊥) → Fits p s r v l → Fits p s r v' (after p s l e)
+    refusal p s l e ≡ None → CopyFits p s t h h' f v l → EndsAt v v' t h' f → (r : Part) → (t ≡ r.task → ⊥) → WorkerFits p s r v l → WorkerFits p s r v' (after p s l e)
 
 -- WHAT ITS WORKER HOLDS
 
@@ -63,34 +63,34 @@ EndsLeave =
 abbrev pub TookFits : Type 0
 TookFits =
     (p : ProgramText) (s : SettingsValue) (journal : List EntryValue) → is_legal p s journal ≡ true → (v v' : Memory) (c : TreeCounts) (w t : ℕ) → let l : Ledger = ledger_of p s journal in let e : EntryValue = record { worker = w; kind = Took t } in
-    refusal p s l e ≡ None → StandsForAll v c l → SameBut v v' t → Fits p s (part_for s t (v.belongings t) 0) v' (after p s l e)
+    refusal p s l e ≡ None → StandsForAll v c l → SameBut v v' t → WorkerFits p s (part_for s t (v.belongings t) 0) v' (after p s l e)
 
 -- after an entry of steps, where the worker goes on with the task or the run halts
 abbrev pub RanFits : Type 0
 RanFits =
-    (p : ProgramText) (s : SettingsValue) (v v' : Memory) (l l' : Ledger) (t w k : ℕ) (h g : Belongings) → (E : Runs p s l l' t w k) → Fits p s (part_for s t h (taken_by E.splits.kind k)) v l
+    (p : ProgramText) (s : SettingsValue) (v v' : Memory) (l l' : Ledger) (t w k : ℕ) (h g : Belongings) → (E : Runs p s l l' t w k) → WorkerFits p s (part_for s t h (taken_by E.splits.kind k)) v l
     → (C : Makes p v v' (task_steps p l t k) l' t h E.splits.task E.splits.line E.splits.kind E.splits.last) → BelongingsAfter p v v' (task_steps p l t k) l' t h E.splits.task E.splits.line E.splits.kind E.splits.last C g
-    → Fits p s (part_for s t g 0) v' l'
+    → WorkerFits p s (part_for s t g 0) v' l'
 
 -- after a chunk, the begin of its leaf collection or its putting off
 abbrev pub QuietFits : Type 0
 QuietFits =
     (p : ProgramText) (s : SettingsValue) (journal : List EntryValue) → is_legal p s journal ≡ true → (v v' : Memory) (e : EntryValue) (t : ℕ) (h g : Belongings) → let l : Ledger = ledger_of p s journal in let l' : Ledger = after p s l e in
-    refusal p s l e ≡ None → IsQuiet e.kind → Fits p s (part_for s t h 0) v l → SameObjects (with_belongings v t h) (with_belongings v' t g) (rested l t) (rested l' t) → BegunBy (with_belongings v' t g) (rested l' t) t g.begun
-    → Fits p s (part_for s t g 0) v' l'
+    refusal p s l e ≡ None → IsQuiet e.kind → WorkerFits p s (part_for s t h 0) v l → SameObjects (with_belongings v t h) (with_belongings v' t g) (rested l t) (rested l' t) → BegunBy (with_belongings v' t g) (rested l' t) t g.begun
+    → WorkerFits p s (part_for s t g 0) v' l'
 
 -- and after the end of its leaf collection, what copying made of it
 abbrev pub EndsFit : Type 0
 EndsFit =
     (p : ProgramText) (s : SettingsValue) (journal : List EntryValue) → is_legal p s journal ≡ true → (v v' : Memory) (w t taken given left : ℕ) (h h' : Belongings) (f : Addr → Addr) → let l : Ledger = ledger_of p s journal in
     let e : EntryValue = record { worker = w; kind = End t taken given left } in
-    refusal p s l e ≡ None → CopyFits p s t h h' f v l → EndsAt v v' t h' f → h'.begun ≡ None → Fits p s (part_for s t h' 0) v' (after p s l e)
+    refusal p s l e ≡ None → CopyFits p s t h h' f v l → EndsAt v v' t h' f → h'.begun ≡ None → WorkerFits p s (part_for s t h' 0) v' (after p s l e)
 
 -- HOW ITS BELONGINGS ARE READ after a read or an output, which change its top frame alone
 
 abbrev pub FramesGo : Type 0
 FramesGo =
-    (p : ProgramText) (s : SettingsValue) (v : Memory) (l l' : Ledger) (t w k : ℕ) (h : Belongings) → (E : Runs p s l l' t w k) → Fits p s (part_for s t h k) v l
+    (p : ProgramText) (s : SettingsValue) (v : Memory) (l l' : Ledger) (t w k : ℕ) (h : Belongings) → (E : Runs p s l l' t w k) → WorkerFits p s (part_for s t h k) v l
     → (f g : Frame) (fs : List Frame) (top : ModelFrame) (outs : List ℤ) → let m : Ledger = task_steps p l t k in
     StepsAlone m l' t → l' ≡ stepped_by m (record m.machine { tasks = slice_set m.machine.tasks t (record E.splits.task { top = top }); outputs = outs }) → h.frames ≡ f ∷ fs
     → (FrameIsRead (Place (with_belongings v t h) (rested m t)) f E.splits.task.top → FrameIsRead (Place (with_belongings v t h) (rested m t)) g top) → StepsTo v l' t h (record h { frames = g ∷ fs })
@@ -99,7 +99,7 @@ FramesGo =
 -- what it doesn't expect, an output
 abbrev pub NumbersGo : Type 0
 NumbersGo =
-    (p : ProgramText) (s : SettingsValue) (v : Memory) (l l' : Ledger) (t w k : ℕ) (h : Belongings) → (E : Runs p s l l' t w k) → Fits p s (part_for s t h k) v l
+    (p : ProgramText) (s : SettingsValue) (v : Memory) (l l' : Ledger) (t w k : ℕ) (h : Belongings) → (E : Runs p s l l' t w k) → WorkerFits p s (part_for s t h k) v l
     → (f : Frame) (fs : List Frame) (c : Option (ℕ × ℤ)) (outs : List ℤ) → let m : Ledger = task_steps p l t k in
     StepsAlone m l' t → l' ≡ stepped_by m (record m.machine { tasks = slice_set m.machine.tasks t (record E.splits.task { top = onward_with c E.splits.task.top }); outputs = outs }) → h.frames ≡ f ∷ fs
     → StepsTo v l' t h (record h { frames = gone_on c f ∷ fs })
@@ -107,10 +107,10 @@ NumbersGo =
 -- PARTS TOGETHER: any number of parts that fit a memory fit it together, with all belongings and the steps of all
 abbrev pub AllFitTogether : Type 0
 AllFitTogether =
-    (p : ProgramText) (s : SettingsValue) (qs : List Part) (v : Memory) (l : Ledger) → Knows l → l.machine.end ≡ None → Stands v l → AllFit p s qs v l → Stands (with_all_belongings v qs) (all_ahead p qs l)
+    (p : ProgramText) (s : SettingsValue) (qs : List Part) (v : Memory) (l : Ledger) → Knows l → l.machine.end ≡ None → Stands v l → WorkersFit p s qs v l → Stands (with_all_belongings v qs) (all_ahead p qs l)
 
 -- an entry of steps leaves the accounts alike for each other task with a part
 abbrev pub RanAlike : Type 0
 RanAlike =
-    (p : ProgramText) (s : SettingsValue) (v : Memory) (l l' : Ledger) (t w k : ℕ) (h : Belongings) → (E : Runs p s l l' t w k) → Fits p s (part_for s t h (taken_by E.splits.kind k)) v l
-    → (r : Part) → (t ≡ r.task → ⊥) → Fits p s r v l → GoesOn E.splits.kind → AlikeFor r.task l l'
+    (p : ProgramText) (s : SettingsValue) (v : Memory) (l l' : Ledger) (t w k : ℕ) (h : Belongings) → (E : Runs p s l l' t w k) → WorkerFits p s (part_for s t h (taken_by E.splits.kind k)) v l
+    → (r : Part) → (t ≡ r.task → ⊥) → WorkerFits p s r v l → GoesOn E.splits.kind → AlikeFor r.task l l'

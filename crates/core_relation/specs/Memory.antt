@@ -117,9 +117,9 @@ abbrev pub frozen_chunks : List Chunk → List Chunk
 frozen_chunks ks = map frozen_chunk ks
 
 -- the first chunk of a number
-abbrev pub chunk_of : List Chunk → ℕ → Option Chunk
-chunk_of [] a = None
-chunk_of (k ∷ ks) a = if k.number == a then Some k else chunk_of ks a
+abbrev pub chunk_among : List Chunk → ℕ → Option Chunk
+chunk_among [] a = None
+chunk_among (k ∷ ks) a = if k.number == a then Some k else chunk_among ks a
 
 abbrev pub seen_at : List Located → Addr → Option Located
 seen_at [] a = None
@@ -132,7 +132,7 @@ seen_in (Some k) a below = seen_at k.objects a
 -- the nearest level that has the address's chunk decides
 abbrev pub shown_at : List (List Chunk) → Addr → Option Located
 shown_at [] a = None
-shown_at (ks ∷ kss) a = seen_in (chunk_of ks a.chunk) a (shown_at kss a)
+shown_at (ks ∷ kss) a = seen_in (chunk_among ks a.chunk) a (shown_at kss a)
 
 -- an object that is mutable isn't shown
 abbrev pub as_shown : Located → Option Located

@@ -15,7 +15,7 @@ use Rattle.core_relation.specs.Copies.{PartFits}
 
 -- its task runs, and with its belongings the memory stands for the accounts after its fresh steps, in which the task
 -- rests; the machine's end is left aside
-pub record Fits (p : ProgramText) (s : SettingsValue) (q : Part) (v : Memory) (l : Ledger) : Type 0 where
+pub record WorkerFits (p : ProgramText) (s : SettingsValue) (q : Part) (v : Memory) (l : Ledger) : Type 0 where
   pub task : Task
   pub is : slice_get l.machine.tasks q.task ≡ Some task
   pub runs : is_running (Some task) ≡ true
@@ -39,6 +39,6 @@ IsBy (Sweep t given) u = ⊥
 IsBy Fuel u = ⊥
 
 -- each of these fits, and no two are of one task
-abbrev pub AllFit : ProgramText → SettingsValue → List Part → Memory → Ledger → Type 0
-AllFit p s [] v l = Unit {0}
-AllFit p s (q ∷ qs) v l = Fits p s q v l × NotOf q.task qs × AllFit p s qs v l
+abbrev pub WorkersFit : ProgramText → SettingsValue → List Part → Memory → Ledger → Type 0
+WorkersFit p s [] v l = Unit {0}
+WorkersFit p s (q ∷ qs) v l = WorkerFits p s q v l × NotOf q.task qs × WorkersFit p s qs v l

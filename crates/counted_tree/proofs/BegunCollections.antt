@@ -25,7 +25,7 @@ use Rattle.listed.proofs.Options.{none_some}
 use Rattle.run_ledger.specs.Journals.{is_legal, ledger_of}
 use Rattle.run_ledger.specs.Laws.{HoldsOnce, HoldsTasks, LeavesTask}
 use Rattle.run_ledger.specs.Sound.{SoundAt, SoundLedger, collecting}
-use Rattle.run_ledger.proofs.Cuts.{none_is}
+use Rattle.run_ledger.proofs.Cuts.{legal_then, none_is}
 use Rattle.run_ledger.proofs.Frames.{entries_leave_others, held_is, left_step, heap_off, heap_view}
 use Rattle.run_ledger.proofs.Holders.{tasks_are_held_once}
 use Rattle.run_ledger.proofs.Journals.{collecting_is, entry_tells, legal_sound, none_unless, none_where, out_tells, wait_tells}
@@ -35,7 +35,6 @@ use Rattle.journal_laws.proofs.Waiters.{waiters_are_free}
 use Rattle.journal_laws.proofs.History.{idle_then}
 use Rattle.run_ledger.proofs.Machine.{heap_machine}
 use Rattle.ledger_step_laws.proofs.Ahead.{heap_then, with_at}
-use Rattle.shared_value.proofs.JournalGoesOn.{legal_then}
 
 -- STEPS of a task begin no leaf collection of another one
 module _ (p : ProgramText) (t u : ℕ) (ne : t ≡ u → ⊥) where

@@ -19,6 +19,7 @@ use Rattle.run_ledger.specs.Heaps.{collected, heap_of, held_in, in_use, swept_he
 use Rattle.run_ledger.specs.Journals.{ledger_of, opening}
 use Rattle.run_ledger.specs.Report.{lost}
 use Rattle.run_ledger.proofs.Machine.{heap_machine}
+use Rattle.run_ledger.proofs.Cuts.{legal_then}
 use Rattle.object_layout.specs.Chunks.{held_words}
 use Rattle.alloc_path.specs.LeafHeapValue.{counted as counted64}
 use Rattle.run_report.specs.Totals.{AreFew, cleared_words, counted, entry_totals, joined, no_totals, totals_from}
@@ -30,7 +31,6 @@ use Rattle.shared_value.specs.Entered.{Enters, refused}
 use Rattle.shared_value.specs.Fits.{Fits}
 use Rattle.shared_value.specs.Stands.{IsSharedValue}
 use Rattle.shared_value.specs.SharedValue.{SharedValue, accounts}
-use Rattle.shared_value.proofs.JournalGoesOn.{legal_then}
 use Rattle.own_steps.specs.Alone.{alone_event}
 use Rattle.child_tasks.specs.Joins.{IsUnchanged}
 use Rattle.shared_tree.specs.declared.ran.Ran.{Ran as RanOf}

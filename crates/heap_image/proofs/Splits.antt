@@ -3,7 +3,7 @@ use Rattle.std.proofs.Common.{◌≡◌, ◌<◌, ℕ, suc, Bool, true, false, L
 use Rattle.std.specs.Prelude.{Some, slice_get, nat_lt}
 use Rattle.listed.specs.Members.{In}
 use Rattle.listed.proofs.Members.{in_append_left, in_append_right, in_append_cases}
-use Rattle.listed.proofs.Places.{in_got}
+use Rattle.listed.proofs.Places.{got_middle, in_got}
 use Rattle.heap_image.specs.Picture.{Rises}
 
 -- of two places one comes first
@@ -16,10 +16,6 @@ first_of_two i j = by (nat_lt i j) (nat_lt j i) refl refl
     by false false e f = inr (inl (grind (arith, e, f)))
 
 module _ {A : Type 0} where
-  got_middle : (a : List A) (x : A) (b : List A) → slice_get (a ++ x ∷ b) (length a) ≡ Some x
-  got_middle [] x b = refl
-  got_middle (y ∷ a) x b = got_middle a x b
-
   module _ (before : A → A → Type 0) where
     pub behind_first : (y : A) (ys : List A) → Rises before (y ∷ ys) → Rises before ys
     behind_first y ys r i j x z lt g h = r (suc i) (suc j) x z (omega (arith, lt)) g h

@@ -1,15 +1,12 @@
 -- What is found in the tables that the verifier makes of a picture's lists.
-use Rattle.std.proofs.Common.{◌≡◌, ℕ, Bool, true, false, List, [], ◌∷◌, ◌++◌, map, refl, ap, sym, ◌∙◌, inl, inr, arith}
+use Rattle.std.proofs.Common.{◌≡◌, ℕ, Bool, true, false, List, [], ◌∷◌, ◌++◌, map, refl, ap, sym, ◌∙◌, inl, inr}
 use Rattle.std.specs.Prelude.{Some, None, nat_eq, is_some}
 use Rattle.std.proofs.lemmas.Option.{same_Some}
-use Rattle.std.proofs.lemmas.Bool.{ne_eqb}
+use Rattle.std.proofs.lemmas.Bool.{ne_eqb, eqb-true}
 use Rattle.listed.specs.Members.{In}
 use Rattle.image_check.specs.Table.{found, has, with_entry, with_new}
 use Rattle.image_check.specs.Sets.{is_among, with_item}
 use Rattle.image_check.proofs.Entries.{itself}
-
-equal : (x y : ℕ) → nat_eq x y ≡ true → x ≡ y
-equal x y e = grind (arith, e)
 
 module _ {X V : Type 0} (key : X → ℕ) (val : X → V) where
   abbrev pub entry : X → ℕ × V
@@ -23,7 +20,7 @@ module _ {X V : Type 0} (key : X → ℕ) (val : X → V) where
   found_in (y ∷ ys) x one h = by (nat_eq (key x) (key y)) refl h (found_in ys x (λ z i. one z (inr i)))
     where
       by : (b : Bool) → nat_eq (key x) (key y) ≡ b → In (y ∷ ys) x → (In ys x → found (table ys) (key x) ≡ Some (val x)) → found (table (y ∷ ys)) (key x) ≡ Some (val x)
-      by true e i again = rw e (ap Some (one y (inl refl) (sym (equal (key x) (key y) e))))
+      by true e i again = rw e (ap Some (one y (inl refl) (sym (eqb-true (key x) (key y) e))))
       by false e (inl i) again = absurd (let g : nat_eq (key x) (key y) ≡ true = ap (λ z. nat_eq (key x) (key z)) i ∙ itself (key x) in cc)
       by false e (inr i) again = rw e (again i)
 
@@ -36,7 +33,7 @@ module _ {X V : Type 0} (key : X → ℕ) (val : X → V) where
   found_from (y ∷ ys) n v h = by (nat_eq n (key y)) refl h (found_from ys n v)
     where
       by : (b : Bool) → nat_eq n (key y) ≡ b → found (table (y ∷ ys)) n ≡ Some v → (found (table ys) n ≡ Some v → (x : X) × In ys x × (key x ≡ n) × (val x ≡ v)) → (x : X) × In (y ∷ ys) x × (key x ≡ n) × (val x ≡ v)
-      by true e g again = (y, inl refl, sym (equal n (key y) e), same_Some (val y) v (rw e at g))
+      by true e g again = (y, inl refl, sym (eqb-true n (key y) e), same_Some (val y) v (rw e at g))
       by false e g again = let r = again (rw e at g) in (r.0, inr r.1, r.2, r.3)
 
   -- an entry more, under a number that none has

@@ -1,12 +1,11 @@
 -- A marking of a heap that waits begins, from the registers and the roots as they are now:
 -- it can go on to the whole snapshot.
-use Rattle.std.proofs.Common.{◌≡◌, ◌⊎◌, ◌↔◌, ℕ, suc, ◌+◌, ◌<◌, ◌≤◌, ◌++◌, true, Option, Some, None, List, [], ◌∷◌, length, slice_get, inl, inr, refl, ap, sym, subst, ◌∙◌}
-use Rattle.std.proofs.lemmas.Bool.{false≢true}
+use Rattle.std.proofs.Common.{◌≡◌, ◌⊎◌, ◌↔◌, ℕ, suc, ◌+◌, ◌<◌, ◌≤◌, ◌++◌, true, Some, None, List, [], ◌∷◌, length, slice_get, inl, inr, refl, ap, sym, subst, ◌∙◌}
 use Rattle.listed.proofs.Members.{contains_from_in, in_append_cases, in_append_left, in_append_right, in_from_contains}
 use Rattle.walk_laws.proofs.Reached.{reached_more, reached_start, reached_within}
 use Rattle.hh_model.specs.declared.data.Task.{Task}
 use Rattle.hh_model.specs.Step.{is_waiting}
-use Rattle.path_laws.proofs.Leaves.{waiting_stops}
+use Rattle.path_laws.proofs.Leaves.{wait_there, waiting_stops}
 use Rattle.run_ledger.specs.declared.data.Ledger.{Ledger}
 use Rattle.run_ledger.specs.Heaps.{heap_of}
 use Rattle.run_ledger.specs.Sound.{SoundLedger}
@@ -136,11 +135,7 @@ module _ (w : SharedValue) (I : IsSharedValue w) (on : (accounts w).end ≡ None
     from_now a g = reached_within (StartsNow v l t) (LeadsAt (v.belongings t)) (IsInSnapshot f (kept v t)) start_then more_then a g
 
     task : (x : Task) × (slice_get l.machine.tasks t ≡ Some x)
-    task = by (slice_get l.machine.tasks t) refl wait
-      where
-        by : (o : Option Task) → slice_get l.machine.tasks t ≡ o → is_waiting o ≡ true → (x : Task) × (slice_get l.machine.tasks t ≡ Some x)
-        by None e h = absurd (false≢true h)
-        by (Some x) e h = (x, e)
+    task = wait_there (slice_get l.machine.tasks t) wait
 
     pub snapshot_is : (o : Located) → In (objects v t) o → IsInSnapshot f (kept v t) o.at ↔ In (heap_of l t).snapshot (object_name o)
     snapshot_is o i =

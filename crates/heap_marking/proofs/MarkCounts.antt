@@ -1,8 +1,9 @@
 -- How many objects a marking marks, as its account counts them.
-use Rattle.std.proofs.Common.{◌≡◌, ℕ, zero, suc, ◌+◌, ◌-◌, ◌<◌, ◌≤◌, arith, min, Option, Some, None, List, [], ◌∷◌, length, slice_get, take, inl, inr, refl, ap, sym, subst, ◌∙◌}
+use Rattle.std.proofs.Common.{◌≡◌, ℕ, ◌+◌, ◌-◌, ◌<◌, ◌≤◌, arith, min, Option, Some, None, List, length, slice_get, inl, inr, refl, ap, sym, subst, ◌∙◌}
 use Rattle.std.specs.Prelude.{unwrap_or}
 use Rattle.std.proofs.Math.Nat.{min-eq_left, min-eq_right}
 use Rattle.std.proofs.lemmas.Bool.{cases_lt}
+use Rattle.std.proofs.lemmas.List.{length-take-le}
 use Rattle.listed.proofs.Members.{contains_from_in, in_from_contains}
 use Rattle.listed.proofs.Places.{in_take}
 use Rattle.walk_laws.proofs.Reached.{reached_within}
@@ -29,11 +30,6 @@ use Rattle.shared_value.proofs.BeforeTheEnd.{stands_now}
 use Rattle.heap_marking.specs.Marking.{MarksCount}
 use Rattle.heap_marking.proofs.MarkBegun as begun
 use Rattle.heap_marking.proofs.MarkingGoesOn.{is_since}
-
-take_long : (n : ℕ) (xs : List Addr) → n ≤ length xs → length (take n xs) ≡ n
-take_long zero xs le = refl
-take_long (suc n) [] le = absurd (omega (arith, le))
-take_long (suc n) (x ∷ xs) le = ap suc (take_long n xs (omega (arith, le)))
 
 -- what is marked is of the snapshot
 marked_each : (v : Memory) (t : ℕ) (names : List Name) (m : MarkingValue) → GoesOn v t names m → (a : Addr) → In (marked_of m) a → (q : Located) × In (objects v t) q × (q.at ≡ a) × In names (object_name q)
@@ -66,8 +62,8 @@ marks_count w k t r m m' n c I on there wait keeps at G' sum most last =
     let G : GoesOn v t (heap_of l t).snapshot m = M.1 in
     let F = snapshots_are_held w.program w.settings w.journal.items t I.legal wait in
     let each = marked_each v t (heap_of l t).snapshot m' G' in
-    let long : length (marked_of m) ≡ m.marked = take_long m.marked m.found G.marked in
-    let long' : length (marked_of m') ≡ m'.marked = take_long m'.marked m'.found G'.marked in
+    let long : length (marked_of m) ≡ m.marked = length-take-le m.marked m.found G.marked in
+    let long' : length (marked_of m') ≡ m'.marked = length-take-le m'.marked m'.found G'.marked in
     let few : length (marked_of m') ≤ length (heap_of l t).snapshot = few_marked v l t (marked_of m') S.belongings rests each (distinct_take m'.marked m'.found G'.once) in
     let all : c < n → length (heap_of l t).snapshot ≤ length (marked_of m') = λ lt.
     all_marked v l t (marked_of m') S.belongings rests each F.once (λ x i. in_from_contains (held_in (heap_of l t)) x (F.held x (contains_from_in (heap_of l t).snapshot x i)))

@@ -22,7 +22,7 @@ use Rattle.shared_value.specs.Stands.{IsSharedValue}
 use Rattle.shared_value.proofs.BeforeTheEnd.{stands_now}
 use Rattle.heap_marking.specs.MarkCauses.{marking_cause, waiting_cause}
 use Rattle.heap_marking.specs.Marking.{Further}
-use Rattle.heap_marking.specs.MarkStand.{MarksStand}
+use Rattle.heap_marking.specs.MarkStand.{MarkedHeapStands}
 use Rattle.heap_marking.proofs.MarkingGoesOn.{marks_go_further}
 use Rattle.heap_marking.proofs.WaitingHome as homes
 use Rattle.heap_marking.proofs.WaitingHome.{some_of}
@@ -104,7 +104,7 @@ module _ (w : SharedValue) (I : IsSharedValue w) (on : (accounts w).end ≡ None
         let L = F.left M.0 in
         ready_by b (left_in (heap_of l t)) ((λ h. L.0 (R.0 h)), (λ z. R.1 (L.1 z)))
 
-pub marks_stand : MarksStand
+pub marks_stand : MarkedHeapStands
 marks_stand w t I on free =
     let r = rest w I on t free in
     let m = marks w I on t free in

@@ -1,11 +1,11 @@
 -- A marking that can go on marks more: what it asks of the heap, and that it can go on then.
-use Rattle.std.proofs.Common.{◌≡◌, ◌⊎◌, ◌↔◌, ℕ, ◌+◌, ◌<◌, ◌≤◌, true, Option, Some, None, List, All, Contains, length, slice_get, inl, inr, refl, ap, sym, subst, ◌∙◌}
-use Rattle.std.proofs.lemmas.Bool.{false≢true}
+use Rattle.std.proofs.Common.{◌≡◌, ◌⊎◌, ◌↔◌, ℕ, ◌+◌, ◌<◌, ◌≤◌, true, Some, None, List, All, Contains, length, slice_get, inl, inr, ap, sym, subst, ◌∙◌}
 use Rattle.listed.proofs.Members.{contains_from_in, in_from_contains}
 use Rattle.listed.proofs.Places.{all_from}
 use Rattle.walk_laws.proofs.Reached.{reached_more, reached_within}
 use Rattle.hh_model.specs.declared.data.Task.{Task}
 use Rattle.hh_model.specs.Step.{is_waiting}
+use Rattle.path_laws.proofs.Leaves.{wait_there}
 use Rattle.run_ledger.specs.declared.data.Ledger.{Ledger}
 use Rattle.run_ledger.specs.Heaps.{heap_of, held_in, left_in}
 use Rattle.journal_laws.proofs.History.{snapshots_are_held}
@@ -24,7 +24,7 @@ use Rattle.core_entry_laws.proofs.notes.MarksAll.{marks_are_all}
 use Rattle.core_entry_laws.specs.Now.{IsReachedNow, StartsNow}
 use Rattle.core_relation.specs.Since.{kept}
 use Rattle.core_relation.specs.Whole.{StandsFor}
-use Rattle.core_relation.proofs.notes.Rooted.{lies_in}
+use Rattle.core_relation.proofs.objects.Members.{lies_in}
 use Rattle.core_entry_laws.proofs.notes.SnapshotNow.{snapshot_now}
 use Rattle.task_homes.specs.declared.task_at_rest.Rest.{Rest}
 use Rattle.shared_value.specs.SharedValue.{SharedValue, accounts, rest_at, tree_counts_of, value_of}
@@ -53,11 +53,7 @@ module _ (w : SharedValue) (I : IsSharedValue w) (on : (accounts w).end ≡ None
   form = I.heaps t r there
 
   task : (x : Task) × (slice_get l.machine.tasks t ≡ Some x)
-  task = by (slice_get l.machine.tasks t) refl wait
-    where
-      by : (o : Option Task) → slice_get l.machine.tasks t ≡ o → is_waiting o ≡ true → (x : Task) × (slice_get l.machine.tasks t ≡ Some x)
-      by None e h = absurd (false≢true h)
-      by (Some x) e h = (x, e)
+  task = wait_there (slice_get l.machine.tasks t) wait
 
   now : (q : Located) → In (objects v t) q → IsReachedNow v l t q.at ↔ In (heap_of l t).snapshot (object_name q)
   now = snapshot_now v l t task.0 (legal_sound w.program w.settings w.journal.items I.legal) stands.belongings task.1 wait (begun.rests w I on t r there wait keeps) (stands.since t keeps)

@@ -8,7 +8,7 @@ use Rattle.hh_model.specs.declared.data.Status.TheVariants.{Running, Waiting, En
 use Rattle.hh_model.specs.declared.data.Task.{Task}
 use Rattle.hh_model.specs.declared.data.Name.{Name}
 use Rattle.hh_model.specs.Step.{is_waiting, waits}
-use Rattle.path_laws.proofs.Leaves.{waiting_stops}
+use Rattle.path_laws.proofs.Leaves.{wait_there, waiting_stops}
 use Rattle.run_ledger.specs.declared.data.Ledger.{Ledger}
 use Rattle.object_layout.specs.declared.word.Addr.{Addr}
 use Rattle.object_layout.specs.Chunks.{has_chunk}
@@ -26,7 +26,7 @@ use Rattle.core_relation.specs.Begins.{AreRoots, IsAt}
 use Rattle.core_relation.specs.Reads.{FramesAreRead, HoldsRead}
 use Rattle.core_relation.specs.Stands.{Place, Stands}
 use Rattle.core_relation.specs.Memory.{Belongings, In, Memory, objects, objects_in, sources}
-use Rattle.core_relation.proofs.objects.Members.{from_flat, in_chunk}
+use Rattle.core_relation.proofs.objects.Members.{from_flat, lies_in}
 use Rattle.core_relation.proofs.notes.Roots.{frame_name}
 use Rattle.task_homes.specs.declared.task_at_rest.Rest.{Rest}
 use Rattle.task_homes.specs.declared.task_at_rest.Work.{Work}
@@ -108,9 +108,7 @@ module _ (w : SharedValue) (I : IsSharedValue w) (on : (accounts w).end ≡ None
   sources_are = noted_sources (slice_get w.sets t)
 
   read : (u : ℕ) → (u ≡ t → ⊥) → Rests l u → (o : Located) → In (objects v u) o → refs_in (heaps_of w) o.at ≡ o.refs
-  read u ne q o i =
-      let c = in_chunk (v.belongings u).chunks o i in
-      read_at_rest w u I o i (ap v.owner ((W.belongings u q).inside c.0 o c.1 c.2) ∙ (W.belongings u q).owned c.0 c.1)
+  read u ne q o i = read_at_rest w u I o i (lies_in v l W u o q i)
 
   -- its remembered fields are fields
   pub fields_there : AreFields refs_in (heaps_of w) ss
@@ -120,11 +118,7 @@ module _ (w : SharedValue) (I : IsSharedValue w) (on : (accounts w).end ≡ None
   roots_are = held.are_roots v l t W rests ks here ss sources_are (heaps_of w) read
 
   task : (x : Task) × (slice_get l.machine.tasks t ≡ Some x)
-  task = by (slice_get l.machine.tasks t) refl wait
-    where
-      by : (o : Option Task) → slice_get l.machine.tasks t ≡ o → is_waiting o ≡ true → (x : Task) × (slice_get l.machine.tasks t ≡ Some x)
-      by None e h = absurd cc
-      by (Some x) e h = (x, e)
+  task = wait_there (slice_get l.machine.tasks t) wait
 
   registers_read : FramesAreRead (Place v l) (v.belongings t).frames (task.0.top ∷ task.0.below)
   registers_read = frames_read (Place v l) (v.belongings t) task.0 task.0.status (ap is_waiting (sym task.1) ∙ wait) (W.tasks t task.0 rests task.1)

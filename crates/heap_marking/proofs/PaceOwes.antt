@@ -1,5 +1,5 @@
 -- What is owed is told by what is kept.
-use Rattle.std.proofs.Common.{◌≡◌, ℕ, zero, suc, ◌+◌, ◌<◌, ◌&&◌, not, Bool, true, false, cond, Option, Some, None, List, [], ◌∷◌, ◌++◌, length, slice_get, inl, inr, refl, ap, sym, subst, ◌∙◌, arith, is_some, nat_le, length-append, get_or}
+use Rattle.std.proofs.Common.{◌≡◌, ℕ, ◌+◌, ◌<◌, ◌&&◌, not, Bool, true, false, cond, Option, Some, None, List, [], ◌∷◌, ◌++◌, length, slice_get, inl, inr, refl, ap, sym, subst, ◌∙◌, arith, is_some, nat_le, length-append}
 use Rattle.std.proofs.lemmas.Bool.{both_ways, cases_lt}
 use Rattle.std.proofs.lemmas.Option.{same_Some}
 use Rattle.listed.proofs.Members.{got_back, got_front, got_within}
@@ -171,12 +171,6 @@ owed_is limits l marks (Forked f) OtherEntry k = absurd k
 owed_is limits l marks (Forked f) RanEntry k = absurd k
 owed_is limits l marks (Forked f) (ForkedEntry s) k =
     ap (λ b. cond b (OwesMark f.task) (owed_to_marks l marks)) (begins_is l f s k limits) ∙ ap (λ u. cond (is_to_mark limits l s) (OwesMark u) (owed_to_marks l marks)) k.task
-
--- A PLACE of a list
-pub got_at : (forks : List Fork) (k : ℕ) (d : Fork) → k < length forks → slice_get forks k ≡ Some (get_or forks k d)
-got_at [] k d lt = absurd (omega arith)
-got_at (f ∷ forks) zero d lt = refl
-got_at (f ∷ forks) (suc k) d lt = got_at forks k d (omega arith)
 
 -- a pace without its last marking, which is over
 pub drop_keeps : (l : Ledger) (q q' : Pace) (f : Fork) (x : WorkerPace) → q'.previous ≡ q.previous → q.marks.items ≡ q'.marks.items ++ f ∷ [] → is_going l f ≡ false → KeepsPace l q x → KeepsPace l q' x

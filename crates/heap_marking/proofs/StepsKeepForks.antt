@@ -1,7 +1,7 @@
 -- What a step of the machine leaves of forks: whose child each task is, and which have joined; a task that waits goes
 -- on to wait until its children join.
-use Rattle.std.proofs.Common.{◌≡◌, ◌⊎◌, ℕ, ℤ, zero, suc, ◌+◌, ◌-◌, ◌<◌, Bool, true, false, Option, Some, List, [], ◌∷◌, ◌++◌, length, slice_get, slice_set, inl, inr, refl, ap, sym, subst, ◌∙◌, arith}
-use Rattle.std.proofs.lemmas.Bool.{false≢true, both_ways, cases_eq, cases_lt, cond-true}
+use Rattle.std.proofs.Common.{◌≡◌, ◌⊎◌, ℕ, ℤ, zero, suc, ◌+◌, ◌<◌, Bool, true, false, Option, Some, List, [], ◌∷◌, ◌++◌, length, slice_get, slice_set, inl, inr, refl, ap, sym, subst, ◌∙◌, arith}
+use Rattle.std.proofs.lemmas.Bool.{false≢true, both_ways, cases_eq, cases_lt}
 use Rattle.std.proofs.lemmas.Option.{same_Some}
 use Rattle.listed.proofs.Members.{got_other, got_within, view_step}
 use Rattle.hh_lang.specs.Form.{ProgramText}
@@ -14,7 +14,7 @@ use Rattle.hh_model.specs.Effect.{onward}
 use Rattle.hh_model.specs.Step.{child, ended_task, is_joined, is_left, is_over, is_running, is_waiting, joined, joined_task, parent_of, parents, result_of, resumed, run, run_from, sibling, start, step, waits}
 use Rattle.hh_model.specs.Tree.{IsForkJoinState, TreeOf, waiting}
 use Rattle.hh_model.proofs.ForkJoinStates.{start_is_fork_join_state, step_is_fork_join_state}
-use Rattle.hh_model.proofs.Runs.{below, grown_left, grown_other, grown_past, grown_right, grown_view_front, running_tells, three_left, three_other, three_right, three_top}
+use Rattle.hh_model.proofs.Runs.{below, grown_left, grown_other, grown_past, grown_right, grown_view_front, parl, parr, running_tells, sib, three_left, three_other, three_right, three_top}
 use Rattle.hh_model.proofs.Steps.{step_cases}
 
 -- a task that waited waits as before, with the children that it waits for, or has joined with all that it had
@@ -145,13 +145,13 @@ module _ (ts : List Task) (edges : List Edge) (K : TreeOf ts edges) (p l : ℕ) 
   at_other u nl nr np = three_other ts l p xl xr xp (joined_task xl) (joined_task xr) (resumed xp rl rr) il ir ip under u nl nr np
 
   parent_left : parents ts l ≡ Some p
-  parent_left = ap parent_of il ∙ pl
+  parent_left = parl ts edges l p xl xr xp rl rr il ir ip pl left dl dr wl wr K
 
   next : sibling l ≡ l + 1
-  next = cond-true (is_left l) (l + 1) (l - 1) left
+  next = sib ts edges l p xl xr xp rl rr il ir ip pl left dl dr wl wr K
 
   parent_right : parents ts (l + 1) ≡ Some p
-  parent_right = ap (parents ts) (sym next) ∙ K.pairs l p parent_left
+  parent_right = parr ts edges l p xl xr xp rl rr il ir ip pl left dl dr wl wr K
 
   top_live : joined ts p ≡ false
   top_live = K.apart p (K.waits l p parent_left (ap is_joined il ∙ dl))

@@ -3,7 +3,7 @@ use Rattle.std.proofs.Common.{◌≡◌, ℕ, ◌*◌, ◌/◌, arith, All, true
 use Rattle.std.proofs.lemmas.Bool.{false≢true, not-true}
 use Rattle.std.proofs.lemmas.Option.{same_Some}
 use Rattle.listed.proofs.Members.{in_from_kept, in_kept}
-use Rattle.listed.proofs.Places.{all_from, in_map}
+use Rattle.listed.proofs.Places.{all_from, in_map, map_in}
 use Rattle.hh_model.specs.declared.data.State.{State}
 use Rattle.hh_model.specs.Effect.{row_of}
 use Rattle.hh_model.specs.Step.{is_joined}
@@ -26,7 +26,6 @@ use Rattle.core_relation.specs.Changes.{KeepsJust}
 use Rattle.core_relation.specs.Layout.{AreLaidOut}
 use Rattle.core_relation.specs.Stands.{HasNames, BelongingsStand}
 use Rattle.core_relation.specs.Memory.{Chunk, Belongings, In, Memory, object_name, objects, objects_in, sources}
-use Rattle.core_relation.proofs.objects.Members.{map_in}
 use Rattle.task_homes.specs.declared.task_at_rest.Rest.{Rest}
 use Rattle.task_homes.specs.declared.task_at_rest.Work.{Work}
 use Rattle.task_homes.specs.declared.task_at_rest.Work.TheVariants.{Calls, Result}

@@ -2,6 +2,8 @@
 use Rattle.std.proofs.Common.{◌≡◌, ℕ, suc, ◌+◌, ◌*◌, ◌/◌, ◌==◌, ◌++◌, arith, Bool, true, false, cond, not, None, List, [], ◌∷◌, All, filter, length, map, inl, inr, refl, ap, ap₂, sym, subst, ◌∙◌}
 use Rattle.std.proofs.lemmas.Bool.{eqb-true, false≢true}
 use Rattle.std.proofs.lemmas.List.Sums.{sum_by-append, sum_by-cons}
+use Rattle.std.proofs.lemmas.List.{map-append}
+use Rattle.std.proofs.lemmas.List.Elements.{filter-append}
 use Rattle.listed.proofs.Members.{in_append_left, in_append_right}
 use Rattle.hh_model.specs.declared.data.Name.{Name}
 use Rattle.hh_model.specs.declared.data.State.{State}
@@ -18,7 +20,6 @@ use Rattle.inner_mark_gc.specs.Swept.{goes, has_object, stays, swept_chunk}
 use Rattle.core_relation.specs.Layout.{HoldsLarge, has_none, words}
 use Rattle.core_relation.specs.Stands.{large_chunks, names_of, small_chunks}
 use Rattle.core_relation.specs.Memory.{In, object_name, objects_in}
-use Rattle.core_relation.proofs.objects.Merged.{filter_append, map_append}
 use Rattle.shared_value.specs.Objects.{chunk_of, chunks_of}
 use Rattle.shared_value.proofs.SmallWords.{SameWords}
 use Rattle.heap_marking.proofs.SweptCells.{is_there, object_left}
@@ -61,7 +62,7 @@ module _ (kept : List Addr) where
   -- OBJECTS
   pub objects_left : (ks : List ChunkValue) → AreFilled ks → objects_in (chunks_of (left ks)) ≡ filter (is_there kept) (objects_in (chunks_of ks))
   objects_left [] F = refl
-  objects_left (k ∷ ks) F = by (has k) refl (objects_left ks (λ j i. F j (inr i))) ∙ sym (filter_append (is_there kept) (chunk_of k).objects (objects_in (chunks_of ks)))
+  objects_left (k ∷ ks) F = by (has k) refl (objects_left ks (λ j i. F j (inr i))) ∙ sym (filter-append (is_there kept) (chunk_of k).objects (objects_in (chunks_of ks)))
     where
       by : (b : Bool) → has k ≡ b → objects_in (chunks_of (left ks)) ≡ filter (is_there kept) (objects_in (chunks_of ks))
           → objects_in (chunks_of (map (swept_chunk kept) (cond b (k ∷ filter (stays kept None) ks) (filter (stays kept None) ks)))) ≡ kept_in k ++ filter (is_there kept) (objects_in (chunks_of ks))
@@ -136,7 +137,7 @@ module _ (kept : List Addr) where
     large_left (k ∷ ks) F A = by (has k) refl (k.size == 1024) refl (large_left ks (λ j i. F j (inr i)) (behind k ks A))
       where
         both : filter keep (map object_name ((chunk_of k).objects ++ objects_in (large_chunks (chunks_of ks)))) ≡ names k ++ filter keep (large ks)
-        both = ap (filter keep) (map_append object_name (chunk_of k).objects (objects_in (large_chunks (chunks_of ks)))) ∙ filter_append keep (names_of (chunk_of k)) (large ks)
+        both = ap (filter keep) (map-append object_name (chunk_of k).objects (objects_in (large_chunks (chunks_of ks)))) ∙ filter-append keep (names_of (chunk_of k)) (large ks)
 
         by : (b : Bool) → has k ≡ b → (s : Bool) → (k.size == 1024) ≡ s → large (left ks) ≡ filter keep (large ks)
             → map object_name (objects_in (large_chunks (chunks_of (map (swept_chunk kept) (cond b (k ∷ filter (stays kept None) ks) (filter (stays kept None) ks))))))
@@ -145,7 +146,7 @@ module _ (kept : List Addr) where
             ap (λ z. map object_name (objects_in (cond (not z) (chunk_of (swept_chunk kept k) ∷ large_chunks (chunks_of (left ks))) (large_chunks (chunks_of (left ks)))))) q ∙ go
         by true e false q go =
             ap (λ z. map object_name (objects_in (cond (not z) (chunk_of (swept_chunk kept k) ∷ large_chunks (chunks_of (left ks))) (large_chunks (chunks_of (left ks)))))) q
-            ∙ (map_append object_name (chunk_of (swept_chunk kept k)).objects (objects_in (large_chunks (chunks_of (left ks))))
+            ∙ (map-append object_name (chunk_of (swept_chunk kept k)).objects (objects_in (large_chunks (chunks_of (left ks))))
             ∙ (ap₂ (λ a b. a ++ b) (names_are k (here k ks A)) go ∙ sym both))
         by false e true q go = go
         by false e false q go = go ∙ (ap (λ a. a ++ filter keep (large ks)) (sym (no_names k (F k (inl refl)) (here k ks A) e)) ∙ sym both)
@@ -173,7 +174,7 @@ module _ (kept : List Addr) where
     units_of os = units_sum m (map object_name os)
 
     units_both : (os qs : List Located) → units_of (os ++ qs) ≡ units_of os + units_of qs
-    units_both os qs = ap (units_sum m) (map_append object_name os qs) ∙ sum_by-append (λ n. units (words_at m n)) (map object_name os) (map object_name qs)
+    units_both os qs = ap (units_sum m) (map-append object_name os qs) ∙ sum_by-append (λ n. units (words_at m n)) (map object_name os) (map object_name qs)
 
     -- a large chunk has its object's units
     one_large : (k : ChunkValue) → IsFilled k → (k.size == 1024) ≡ false → KnowWords (chunk_of k).objects → (o : Located) × ((chunk_of k).objects ≡ o ∷ []) × (units_of (o ∷ []) ≡ units k.size)

@@ -2,6 +2,7 @@
 use Rattle.std.proofs.Common.{◌≡◌, ℕ, zero, suc, ◌+◌, ◌<◌, ◌==◌, arith, Bool, true, false, cond, not, Some, None, List, [], ◌∷◌, filter, length, map, refl, ap, sym, subst, ◌∙◌, eq-eqb, ne_eqb}
 use Rattle.std.proofs.lemmas.Bool.{cond-false, cond-true, eqb-true, false≢true}
 use Rattle.listed.proofs.Members.{in_from_kept}
+use Rattle.listed.proofs.Places.{map_in}
 use Rattle.hh_model.specs.declared.data.Name.{Name}
 use Rattle.run_ledger.specs.Heaps.{is_empty, is_last_empty}
 use Rattle.object_layout.specs.declared.word.Addr.{Addr}
@@ -12,7 +13,6 @@ use Rattle.alloc_path.specs.LeafHeapValue.{AreApart, IsFresh}
 use Rattle.inner_mark_gc.specs.Swept.{stays, swept_chunk}
 use Rattle.core_relation.specs.Stands.{names_of, small_chunks}
 use Rattle.core_relation.specs.Memory.{In}
-use Rattle.core_relation.proofs.objects.Members.{map_in}
 use Rattle.task_machine.specs.Accounts.{IsLastSmall}
 use Rattle.shared_value.specs.Objects.{chunk_of, chunks_of}
 use Rattle.shared_value.proofs.CellsRead.{fresh_off}

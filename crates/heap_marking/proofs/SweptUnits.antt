@@ -1,9 +1,9 @@
 -- How many units go with the chunks that a sweep gives back: what the account says.
-use Rattle.std.proofs.Common.{◌≡◌, ℕ, zero, suc, ◌+◌, ◌-◌, ◌*◌, ◌^◌, ◌<◌, ◌≤◌, ◌==◌, ◌++◌, arith, Bool, true, false, cond, not, Option, Some, None, List, [], ◌∷◌, filter, length, length-append, map, min, sum_by, slice_get, take, inl, inr, refl, ap, ap₂, sym, subst, ◌∙◌}
+use Rattle.std.proofs.Common.{◌≡◌, ℕ, zero, suc, ◌+◌, ◌-◌, ◌*◌, ◌^◌, ◌<◌, ◌≤◌, ◌==◌, ◌++◌, arith, Bool, true, false, cond, not, Option, Some, None, List, [], ◌∷◌, filter, length, length-append, map, min, sum_by, slice_get, inl, inr, refl, ap, ap₂, sym, subst, ◌∙◌}
 use Rattle.std.specs.Prelude.{unwrap_or}
 use Rattle.std.specs.List.{flat_map}
 use Rattle.std.proofs.lemmas.Option.{same_Some}
-use Rattle.std.proofs.lemmas.List.{length-map}
+use Rattle.std.proofs.lemmas.List.{length-map, map-append, length-take-le}
 use Rattle.std.proofs.lemmas.List.Sums.{sum_by-append, sum_by-cons}
 use Rattle.listed.proofs.Members.{in_append_left, in_append_right}
 use Rattle.hh_model.specs.declared.data.State.{State}
@@ -23,7 +23,6 @@ use Rattle.core_relation.specs.Layout.{words}
 use Rattle.core_relation.specs.Marking.{MarkedBy}
 use Rattle.core_relation.specs.Stands.{HasNames, large_chunks, names_of, small_chunks}
 use Rattle.core_relation.specs.Memory.{In, object_name, objects_in}
-use Rattle.core_relation.proofs.objects.Merged.{map_append}
 use Rattle.task_homes.specs.declared.task_at_rest.Rest.{Rest}
 use Rattle.shared_value.specs.Objects.{chunk_of, chunks_of}
 use Rattle.shared_value.specs.SharedValue.{SharedValue, accounts, marks_at, rest_at, value_of}
@@ -129,7 +128,7 @@ module _ (m : State) where
           let s = sum_by-append (words_at m) (names_of (chunk_of k)) (flat_map (λ ns. ns) (map names_of (small_chunks (chunks_of ks)))) in
           omega (arith, long, own, go, s)
       by false own go =
-          let s = ap (words_sum m) (map_append object_name (chunk_of k).objects (objects_in (large_chunks (chunks_of ks)))) ∙ sum_by-append (words_at m) (names_of (chunk_of k)) (map object_name (objects_in (large_chunks (chunks_of ks)))) in
+          let s = ap (words_sum m) (map-append object_name (chunk_of k).objects (objects_in (large_chunks (chunks_of ks)))) ∙ sum_by-append (words_at m) (names_of (chunk_of k)) (map object_name (objects_in (large_chunks (chunks_of ks)))) in
           omega (arith, long, own, go, s)
 
   pub held_few : (a : Heap) (ks : List ChunkValue) → HasNames (chunks_of ks) a → Know (objects_in (chunks_of ks)) → length (objects_in (chunks_of ks)) ≤ words_sum m (held_in a)
@@ -139,11 +138,6 @@ module _ (m : State) where
       let large = ap (words_sum m) N.large in
       let few : length (objects_in (chunks_of ks)) ≤ small_words ks + large_words ks = chunks_few ks W in
       omega (arith, both, small, large, few)
-
-take_long : {A : Type 0} (n : ℕ) (xs : List A) → n ≤ length xs → length (take n xs) ≡ n
-take_long zero xs le = refl
-take_long (suc n) [] le = absurd (omega (arith, le))
-take_long (suc n) (x ∷ xs) le = ap suc (take_long n xs (omega (arith, le)))
 
 -- OF A HEAP that is marked
 module _ (w : SharedValue) (I : IsSharedValue w) (on : (accounts w).end ≡ None) (t : ℕ) (free : marking_cause w t ≡ None) where
@@ -186,7 +180,7 @@ module _ (w : SharedValue) (I : IsSharedValue w) (on : (accounts w).end ≡ None
   pub count_at : (m : MarkingValue) → marks_at w.marks t ≡ Some m → m.marked ≡ marked_in a
   count_at m at =
       let M : MarkedBy (value_of w) l t (Some m) = subst (MarkedBy (value_of w) l t) at ((start.S w I on t free).marks t (start.Z w I on t free).keeps) in
-      sym (ap (λ (o : Option ℕ). unwrap_or o 0) M.0.count ∙ take_long m.marked m.found M.1.marked)
+      sym (ap (λ (o : Option ℕ). unwrap_or o 0) M.0.count ∙ length-take-le m.marked m.found M.1.marked)
 
   module _ (none_left : left_in a ≡ 0) where
     abbrev kept : List Addr

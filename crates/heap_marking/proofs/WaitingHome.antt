@@ -4,7 +4,7 @@ use Rattle.hh_model.specs.declared.data.Status.{Status}
 use Rattle.hh_model.specs.declared.data.Status.TheVariants.{Running, Waiting, Ended, Joined}
 use Rattle.hh_model.specs.declared.data.Task.{Task}
 use Rattle.hh_model.specs.Step.{is_waiting, waits}
-use Rattle.path_laws.proofs.Leaves.{waiting_stops}
+use Rattle.path_laws.proofs.Leaves.{wait_there, waiting_stops}
 use Rattle.run_ledger.specs.declared.data.Ledger.{Ledger}
 use Rattle.run_ledger.specs.declared.data.Refused.TheVariants.{NotWaiting, Swept}
 use Rattle.run_ledger.specs.Entries.{refused_unless}
@@ -62,11 +62,7 @@ module _ (w : SharedValue) (I : IsSharedValue w) (on : (accounts w).end ≡ None
       by Joined h r = absurd cc
 
   pub task : (x : Task) × (slice_get l.machine.tasks t ≡ Some x)
-  task = by (slice_get l.machine.tasks t) refl wait
-    where
-      by : (o : Option Task) → slice_get l.machine.tasks t ≡ o → is_waiting o ≡ true → (x : Task) × (slice_get l.machine.tasks t ≡ Some x)
-      by None e h = absurd cc
-      by (Some x) e h = (x, e)
+  task = wait_there (slice_get l.machine.tasks t) wait
 
   pub rest : (r : Rest) × (rest_at w.rests t ≡ Some r)
   rest = some_of (rest_at w.rests t) (home_there task.0 task.1 (rest_at w.rests t) refl)

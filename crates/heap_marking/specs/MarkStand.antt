@@ -24,5 +24,5 @@ pub record StandsMarked (w : SharedValue) (t : ℕ) : Type 0 where
       → ready ≡ (left_in (heap_of (accounts w) t) == 0)
 
 -- where no cause speaks against it
-abbrev pub MarksStand : Type 0
-MarksStand = (w : SharedValue) (t : ℕ) → IsSharedValue w → (accounts w).end ≡ None → marking_cause w t ≡ None → StandsMarked w t
+abbrev pub MarkedHeapStands : Type 0
+MarkedHeapStands = (w : SharedValue) (t : ℕ) → IsSharedValue w → (accounts w).end ≡ None → marking_cause w t ≡ None → StandsMarked w t

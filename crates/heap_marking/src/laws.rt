@@ -1,7 +1,7 @@
 // The laws of entries that mark a heap, each the clause of a function that does nothing.
 
 ghost use Rattle.heap_marking.specs.MarkCauses.{MarksRefuse};
-ghost use Rattle.heap_marking.specs.MarkStand.{MarksStand};
+ghost use Rattle.heap_marking.specs.MarkStand.{MarkedHeapStands};
 ghost use Rattle.heap_marking.specs.Marking.{MarksBegin, MarksCount, MarksEnter, MarksGoFurther};
 
 /// A marking that begins from the registers and the roots as they are now goes on to just the snapshot.
@@ -31,5 +31,5 @@ pub fn marks_count()
 
 /// Where no cause speaks against it a heap is being marked: its home and its marking are there.
 pub fn marks_stand()
-    ensures { MarksStand }
+    ensures { MarkedHeapStands }
 {}

@@ -9,7 +9,7 @@ use Rattle.std.proofs.lemmas.Option.{slice_get_past}
 use Rattle.std.proofs.lemmas.List.Sorted.{Contains-permutation, IsPermutation-sym}
 use Rattle.std.proofs.lemmas.Map.Keys.{IsDistinct-IsPermutation, IsDistinct-head, IsDistinct-tail}
 use Rattle.listed.proofs.Members.{In, any_from_in, contains_from_in, in_from_contains}
-use Rattle.listed.proofs.Places.{each_in, in_map}
+use Rattle.listed.proofs.Places.{each_in, in_map, map_in}
 use Rattle.object_layout.specs.declared.word.Addr.{Addr}
 use Rattle.object_layout.specs.Layout.{word_of_ref}
 use Rattle.object_layout.specs.Objects.{Located}
@@ -20,7 +20,6 @@ use Rattle.write_barrier.specs.declared.sets.SetOf.{SetOf}
 use Rattle.ledger_step_laws.specs.Accounts.{own}
 use Rattle.core_relation.specs.Memory.{objects_in, sources}
 use Rattle.core_relation.specs.Whole.{handed}
-use Rattle.core_relation.proofs.objects.Members.{map_in}
 use Rattle.task_homes.specs.declared.task_at_rest.Rest.{Rest}
 use Rattle.shared_value.specs.Stands.{IsSharedValue}
 use Rattle.shared_value.specs.SharedValue.{SharedValue, accounts, belongings_in, noted_in, rest_at, value_of}

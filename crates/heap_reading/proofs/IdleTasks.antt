@@ -22,7 +22,7 @@ use Rattle.run_ledger.specs.Steps.{allocated_in, settled, stepped_to, task_step,
 use Rattle.run_ledger.specs.Entries.{after, chunk_units, refusal, with_chunk}
 use Rattle.run_ledger.specs.Journals.{is_legal, ledger_of}
 use Rattle.run_ledger.proofs.Journals.{entry_tells}
-use Rattle.run_ledger.proofs.Cuts.{journals_can_be_cut}
+use Rattle.run_ledger.proofs.Cuts.{journals_can_be_cut, legal_then}
 use Rattle.run_ledger.proofs.Machine.{stepped_machine, heap_machine}
 use Rattle.run_ledger.proofs.Holders.{allocated_end, heap_end, moved_to_end}
 use Rattle.ledger_step_laws.specs.Accounts.{Rests, rested}
@@ -31,7 +31,7 @@ use Rattle.ledger_step_laws.proofs.Split.{entry_runs, legal_idle}
 use Rattle.core_relation.specs.Whole.{handed}
 use Rattle.core_entry_laws.proofs.whole.DoneHands.{done_hands_all, others_idle}
 use Rattle.core_entry_laws.proofs.whole.HandedBack.{handed_halt, handed_on}
-use Rattle.shared_value.proofs.JournalGoesOn.{accounts_then, legal_then}
+use Rattle.shared_value.proofs.JournalGoesOn.{accounts_then}
 
 -- WHILE THE MACHINE GOES ON SO DOES THE RUN, over steps of a task
 abbrev Goes : Ledger → Type 0

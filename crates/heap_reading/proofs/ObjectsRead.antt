@@ -19,7 +19,7 @@ use Rattle.shared_value.specs.SharedValue.{SharedValue, belongings_in, rest_at}
 use Rattle.shared_value.proofs.FieldsLed.{belongings_chunks}
 use Rattle.heap_reading.specs.declared.seen.Seen.{Seen as Shown}
 use Rattle.heap_reading.specs.HeldNames.{is_state_running}
-use Rattle.heap_reading.specs.Image.{IsInWords, objects_numbered, objects_of, objects_owned, shown}
+use Rattle.heap_reading.specs.Image.{IsInWords, in_words, objects_numbered, objects_of, objects_owned}
 
 -- ONE ITEM MORE
 pub take_next : {A : Type 0} (xs : List A) (k : ℕ) (x : A) → slice_get xs k ≡ Some x → take (k + 1) xs ≡ take k xs ++ x ∷ []
@@ -67,11 +67,11 @@ module _ (number at next : ℕ) (cells : List Cell) (c : Cell) (rest : cells_fro
     born_here : here ≡ one ∷ there
     born_here = here_is ∙ ap (λ m. located_by number at c m there) born
 
-    pub objects_more : (os os' all : List Shown) → os' ≡ os ++ shown one ∷ [] → os ++ map shown here ≡ all → os' ++ map shown there ≡ all
+    pub objects_more : (os os' all : List Shown) → os' ≡ os ++ in_words one ∷ [] → os ++ map in_words here ≡ all → os' ++ map in_words there ≡ all
     objects_more os os' all more e =
-        ap (λ z. z ++ map shown there) more
-        ∙ (append_assoc os (shown one ∷ []) (map shown there)
-        ∙ (ap (λ z. os ++ map shown z) (sym born_here) ∙ e))
+        ap (λ z. z ++ map in_words there) more
+        ∙ (append_assoc os (in_words one ∷ []) (map in_words there)
+        ∙ (ap (λ z. os ++ map in_words z) (sym born_here) ∙ e))
 
     pub words_more : (all : List Located) → IsInWords one → ((o : Located) → In all o → IsInWords o ⊎ In here o) → (o : Located) → In all o → IsInWords o ⊎ In there o
     words_more all words was o i = elim (was o i) [
@@ -83,8 +83,8 @@ module _ (number at next : ℕ) (cells : List Cell) (c : Cell) (rest : cells_fro
     none_here : here ≡ there
     none_here = here_is ∙ skipped number at c c.mark there still off
 
-    pub objects_same : (os all : List Shown) → os ++ map shown here ≡ all → os ++ map shown there ≡ all
-    objects_same os all e = ap (λ z. os ++ map shown z) (sym none_here) ∙ e
+    pub objects_same : (os all : List Shown) → os ++ map in_words here ≡ all → os ++ map in_words there ≡ all
+    objects_same os all e = ap (λ z. os ++ map in_words z) (sym none_here) ∙ e
 
     pub words_same : (all : List Located) → ((o : Located) → In all o → IsInWords o ⊎ In here o) → (o : Located) → In all o → IsInWords o ⊎ In there o
     words_same all was o i = elim (was o i) [ inl w ↦ inl w | inr j ↦ inr (subst (λ z. In z o) none_here j) ]

@@ -73,8 +73,8 @@ abbrev pub objects_of : SharedValue → ℕ → List Located
 objects_of w number = objects_owned w number (holder_of w.pool number)
 
 -- with addresses as numbers, 0 for nil
-abbrev pub shown : Located → Seen
-shown o = record { at = word_of_ref (Some o.at); birth = o.birth; mutable = o.mutable; refs = map word_of_ref o.refs; ints = o.ints }
+abbrev pub in_words : Located → Seen
+in_words o = record { at = word_of_ref (Some o.at); birth = o.birth; mutable = o.mutable; refs = map word_of_ref o.refs; ints = o.ints }
 
 -- words hold its fields
 pub record IsInWords (o : Located) : Type 0 where

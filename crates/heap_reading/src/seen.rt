@@ -8,7 +8,7 @@ ghost use Rattle.object_layout.specs.Place.{cell_at, object_at};
 ghost use Rattle.object_layout.specs.declared.word.Birth.{Birth as BirthOf};
 ghost use Rattle.object_layout.specs.Objects.{located};
 ghost use Rattle.shared_value.specs.Objects.{chunk_of};
-ghost use Rattle.heap_reading.specs.Image.{shown, AreInWords};
+ghost use Rattle.heap_reading.specs.Image.{in_words, AreInWords};
 
 use listed::Listed;
 use object_layout::{
@@ -73,7 +73,7 @@ fn ints_at(alloc: Global, chunk: &Chunk, at: u32, count: u32) -> Result<Listed<i
 // The object at an offset.
 fn seen_at(alloc: Global, chunk: &Chunk, at: u32) -> Result<Seen, AllocError>
     requires { IsBorn (cell_at chunk.now.cells at).mark }
-    ensures object { IfOk result (λ o. (b : BirthOf) → (cell_at chunk.now.cells at).mark ≡ IsBornAs b → o ≡ shown (located chunk.now.number at b (cell_at chunk.now.cells at))) }
+    ensures object { IfOk result (λ o. (b : BirthOf) → (cell_at chunk.now.cells at).mark ≡ IsBornAs b → o ≡ in_words (located chunk.now.number at b (cell_at chunk.now.cells at))) }
     ensures refs { IfOk result (λ o. All IsRef (cell_at chunk.now.cells at).refs) }
     ensures ints { IfOk result (λ o. All (FitsSigned w64) (cell_at chunk.now.cells at).ints) }
 {
@@ -93,7 +93,7 @@ fn seen_at(alloc: Global, chunk: &Chunk, at: u32) -> Result<Seen, AllocError>
 /// The objects of a chunk in which none was moved.
 pub fn seen_in(alloc: Global, chunk: &Chunk) -> Result<Listed<Seen>, AllocError>
     requires { All (λ c. moved_to c.mark ≡ None) chunk.now.cells }
-    ensures objects { IfOk result (λ objects. objects ≡ map shown (chunk_of chunk.now).objects) }
+    ensures objects { IfOk result (λ objects. objects ≡ map in_words (chunk_of chunk.now).objects) }
     ensures words { IfOk result (λ objects. AreInWords (chunk_of chunk.now).objects) }
 {
     let mut objects = Listed::new(alloc);

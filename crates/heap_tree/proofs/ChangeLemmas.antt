@@ -1,5 +1,5 @@
 -- What a change of state and a fork leave, and what they make.
-use Rattle.std.proofs.Common.{◌≡◌, ◌≢◌, ℕ, zero, suc, ◌+◌, ◌-◌, ◌<◌, ◌≤◌, ◌%◌, arith, List, [], ◌∷◌, ◌++◌, length, set, ◌⊎◌, inl, inr, refl, sym, ap, ◌∙◌, subst, Option, Some, None, slice_get, append_assoc, length-append, length-set}
+use Rattle.std.proofs.Common.{◌≡◌, ◌≢◌, ℕ, ◌+◌, ◌-◌, ◌<◌, ◌≤◌, ◌%◌, arith, List, [], ◌∷◌, ◌++◌, length, set, ◌⊎◌, inl, inr, refl, sym, ap, ◌∙◌, subst, Option, Some, None, slice_get, append_assoc, length-append, length-set}
 use Rattle.std.specs.Prelude.{option_map}
 use Rattle.std.proofs.Math.Path.{fun_ext}
 use Rattle.std.proofs.lemmas.Bool.{cases_eq, cases_lt, eq-eqb, ne_eqb}
@@ -8,39 +8,22 @@ use Rattle.heap_tree.specs.declared.state.State.TheVariants.{Waiting}
 use Rattle.heap_tree.specs.Node.{Node, parent_in, parent_of, set_at, state_of, with_state, child_of, forked}
 use Rattle.heap_tree.specs.Pairs.{ArePaired, sibling}
 use Rattle.heap_tree.specs.Laws.{ForkMakes, ForksMake, PairsStay, StatesChange}
-use Rattle.listed.proofs.Members.{got_front, view_step}
-use Rattle.listed.proofs.Places.{got_last}
+use Rattle.listed.proofs.Members.{got_front, got_other, view_step}
+use Rattle.listed.proofs.Places.{got_last, got_none, got_set}
 
 -- ---- a change of state
-
-set_same : (nodes : List Node) (t : ℕ) (n : Node) → t < length nodes → slice_get (set nodes t n) t ≡ Some n
-set_same [] t n lt = absurd (omega arith)
-set_same (x ∷ xs) zero n lt = refl
-set_same (x ∷ xs) (suc t) n lt = set_same xs t n (omega arith)
-
-set_other : (nodes : List Node) (t u : ℕ) (n : Node) → u ≢ t → slice_get (set nodes t n) u ≡ slice_get nodes u
-set_other [] t u n ne = refl
-set_other (x ∷ xs) zero zero n ne = absurd (ne refl)
-set_other (x ∷ xs) zero (suc u) n ne = refl
-set_other (x ∷ xs) (suc t) zero n ne = refl
-set_other (x ∷ xs) (suc t) (suc u) n ne = set_other xs t u n (λ e. ne (ap suc e))
-
-got_none : (nodes : List Node) (t : ℕ) → slice_get nodes t ≡ None → t < length nodes → ⊥
-got_none [] t e lt = omega arith
-got_none (x ∷ xs) zero e lt = cc
-got_none (x ∷ xs) (suc t) e lt = got_none xs t e (omega arith)
 
 changes_by : (nodes : List Node) (t : ℕ) (s : State) (o : Option Node) → slice_get nodes t ≡ o
     → (length (set_at nodes t s o) ≡ length nodes)
     × ((u : ℕ) → parent_of (set_at nodes t s o) u ≡ parent_of nodes u)
     × (t < length nodes → state_of (set_at nodes t s o) t ≡ Some s)
     × ((u : ℕ) → u ≢ t → state_of (set_at nodes t s o) u ≡ state_of nodes u)
-changes_by nodes t s None e = (refl, (λ u. refl), (λ lt. absurd (got_none nodes t e lt)), (λ u ne. refl))
+changes_by nodes t s None e = (refl, (λ u. refl), (λ lt. absurd (got_none nodes t lt e)), (λ u ne. refl))
 changes_by nodes t s (Some n) e = (
   simp length-set,
   view_step parent_in nodes t n (record n { state = s }) e refl,
-  (λ lt. ap (λ (o : Option Node). option_map (λ (x : Node). x.state) o) (set_same nodes t (record n { state = s }) lt)),
-  (λ u ne. ap (λ (o : Option Node). option_map (λ (x : Node). x.state) o) (set_other nodes t u (record n { state = s }) ne)),
+  (λ lt. ap (λ (o : Option Node). option_map (λ (x : Node). x.state) o) (got_set nodes t (record n { state = s }) lt)),
+  (λ u ne. ap (λ (o : Option Node). option_map (λ (x : Node). x.state) o) (got_other nodes t u (record n { state = s }) ne)),
 )
 
 pub states_change : StatesChange

@@ -16,7 +16,7 @@ use Rattle.heap_tree.specs.Node.{Node, parent_in, parent_of, state_of, depth_of,
 use Rattle.heap_tree.specs.Links.{node_of, parent_kept, depth_kept, far_kept, parent_at, depth_at, far_at, IsLinked}
 use Rattle.listed.proofs.Members.{got_front, view_step}
 use Rattle.listed.proofs.Options.{same_truth}
-use Rattle.listed.proofs.Places.{got_last}
+use Rattle.listed.proofs.Places.{got_last, got_some}
 use Rattle.heap_tree.proofs.WalkLemmas.{depth_in_is, walk_from_path, path_from_walk}
 
 parent_in_map : (o : Option Entry) → parent_in (option_map node_of o) ≡ parent_kept o
@@ -251,11 +251,6 @@ module _ (v : List Node) (es : List Entry) (view_is : map node_of es ≡ v) (lin
   fork_shallow t e made got lt =
       let same : e.depth ≡ depth_of v t = depth_answer t e made got in
       omega arith
-
-got_some : (es : List Entry) (t : ℕ) → t < length es → (e : Entry) × (slice_get es t ≡ Some e)
-got_some [] t lt = absurd (omega arith)
-got_some (x ∷ es) zero lt = (x, refl)
-got_some (x ∷ es) (suc t) lt = got_some es t (omega arith)
 
 -- callers see the state that is kept
 pub entry_state : (v : List Node) (es : List Entry) → map node_of es ≡ v → (t : ℕ) (e : Entry) → slice_get es t ≡ Some e → Some e.state ≡ state_of v t

@@ -1,6 +1,6 @@
 -- Lists that were written, and their last items.
-use Rattle.std.proofs.Common.{◌≡◌, ℕ, zero, suc, ◌<◌, Some, List, [], ◌∷◌, ◌++◌, length, slice_get, slice_set, refl, ap, sym, arith}
-use Rattle.std.proofs.lemmas.List.{set-set}
+use Rattle.std.proofs.Common.{◌≡◌, ℕ, zero, suc, ◌<◌, Some, List, [], ◌∷◌, ◌++◌, length, slice_get, slice_set, refl, ap, sym}
+use Rattle.std.proofs.lemmas.List.{set-set, set-append_left}
 use Rattle.hh_model.specs.Step.{last_of, front_of}
 
 -- the last write stays, in the words of a step (`returns.rt` cites it)
@@ -18,12 +18,16 @@ last_push [] x = refl
 last_push (y ∷ []) x = refl
 last_push (y ∷ z ∷ xs) x = last_push (z ∷ xs) x
 
+-- a list with an item has a last one
+pub last_there : {A : Type 0} (x : A) (xs : List A) → (y : A) × (last_of (x ∷ xs) ≡ Some y)
+last_there x [] = (x, refl)
+last_there x (y ∷ xs) = last_there y xs
+
 pub front_push : {A : Type 0} (xs : List A) (x : A) → front_of (xs ++ x ∷ []) ≡ xs
 front_push [] x = refl
 front_push (y ∷ []) x = refl
 front_push (y ∷ z ∷ xs) x = ap (λ zs. y ∷ zs) (front_push (z ∷ xs) x)
 
+-- a write to the first of two lists, in the words of a step (`fork.rt` cites it)
 pub set_front : {A : Type 0} (xs ys : List A) (k : ℕ) (x : A) → k < length xs → slice_set (xs ++ ys) k x ≡ slice_set xs k x ++ ys
-set_front [] ys k x lt = absurd (omega arith)
-set_front (y ∷ xs) ys zero x lt = refl
-set_front (y ∷ xs) ys (suc k) x lt = ap (λ zs. y ∷ zs) (set_front xs ys k x (omega arith))
+set_front xs ys k x lt = set-append_left xs ys k x lt

@@ -244,6 +244,10 @@ module _ (tasks : List Task) (edges : List Edge) (l p : ℕ) (xl xr xp : Task) (
     | inr np ↦ ap is_joined (three_other tasks l p xl xr xp yl yr yp il ir ip below u nl nr np)
   ]
 
+  -- who joins them goes on
+  pub joiner_live : joined after p ≡ false
+  joiner_live = drest p (λ e. let q : p < l = below in omega arith) (λ e. let q : p < l = below in omega arith) ∙ (ap is_joined ip ∙ dp)
+
   wrest : (u : ℕ) → (u ≡ p → ⊥) → waiting after u ≡ waiting tasks u
   wrest u np = elim (cases_eq u l) [
     | inl e ↦ ap (waiting after) e ∙ (ap is_waiting (three_left tasks l p xl xr xp yl yr yp il ir ip below) ∙ sym (ap (waiting tasks) e ∙ (ap is_waiting il ∙ wl)))

@@ -57,8 +57,9 @@ impl State {
         }
     }
 
+    /// The task that forked a task; None for the root, and where there is no such task.
     #[inline(always)]
-    fn parent(&self, t: u32) -> Option<u32>
+    pub fn parent(&self, t: u32) -> Option<u32>
         ensures { result ≡ parents self.now.tasks t }
     {
         match self.tasks.get(t as usize) {

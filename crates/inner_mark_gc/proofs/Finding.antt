@@ -1,5 +1,5 @@
 -- What is found, step by step.
-use Rattle.std.proofs.Common.{◌≡◌, ℕ, zero, suc, ◌+◌, ◌<◌, ◌≤◌, List, [], ◌∷◌, ◌++◌, length, get_or, take, refl, sym, ap, ◌∙◌, subst, arith, ◌⊎◌, inl, inr, Contains, All, Some, None, slice_get}
+use Rattle.std.proofs.Common.{◌≡◌, ℕ, ◌+◌, ◌<◌, ◌≤◌, List, [], ◌++◌, length, get_or, take, refl, sym, ap, ◌∙◌, subst, arith, ◌⊎◌, inl, inr, Contains, All, Some, None, slice_get}
 use Rattle.std.proofs.lemmas.List.{append-nil, append_assoc, take_all, length-drop}
 use Rattle.std.proofs.Common.{Bool, true, false, nat_lt, drop, ◌-◌}
 use Rattle.std.specs.Prelude.{is_some, if◌then◌else◌}
@@ -13,7 +13,7 @@ use Rattle.object_layout.specs.declared.word.Addr.{Addr}
 use Rattle.object_layout.specs.ChunkValue.{ChunkValue}
 use Rattle.object_layout.specs.Graph.{HasObjectAt, IsSound}
 use Rattle.listed.proofs.Members.{In, in_append_left, contains_from_in, in_from_contains}
-use Rattle.listed.proofs.Places.{all_from, got_in_take, in_take_more}
+use Rattle.listed.proofs.Places.{all_from, got_in_take, in_take_more, take_more_in}
 use Rattle.inner_mark_gc.specs.MarkingValue.{Finds, HasRoom, MarkingValue, noted}
 use Rattle.inner_mark_gc.specs.Snapshot.{object_count}
 use Rattle.inner_mark_gc.proofs.Addresses.{noted_is}
@@ -106,18 +106,6 @@ finds_both P Q R old mid new f g split left right = record {
   marked = g.marked ∙ f.marked;
   followed = g.followed ∙ f.followed;
 }
-
--- ---- the first so many of a list
-
-pub take_more_in : {X : Type 0} (xs : List X) (k : ℕ) (y : X) → In (take k xs) y → In (take (k + 1) xs) y
-take_more_in [] zero y i = absurd i
-take_more_in [] (suc k) y i = absurd i
-take_more_in (z ∷ zs) zero y i = absurd i
-take_more_in (z ∷ zs) (suc k) y i = let n : suc k + 1 ≡ suc (k + 1) = omega arith in rw n (go (take_more_in zs k y) i)
-  where
-    go : (In (take k zs) y → In (take (k + 1) zs) y) → In (z ∷ take k zs) y → In (z ∷ take (k + 1) zs) y
-    go rest (inl f) = inl f
-    go rest (inr j) = inr (rest j)
 
 -- one element more of a list whose elements are found
 pub finds_more : {X : Type 0} (H : Addr → Type 0) (of : Addr → X) (xs : List X) (k : ℕ) (x : X) (old mid new : MarkingValue) → slice_get xs k ≡ Some x

@@ -2,7 +2,7 @@
 use Rattle.std.proofs.Common.{◌≡◌, ℕ, zero, suc, ◌+◌, ◌<◌, Bool, true, false, cond, List, [], ◌∷◌, ◌++◌, length, filter, map, take, get_or, refl, sym, ap, ◌∙◌, subst, arith, ◌⊎◌, inl, inr, eqb, Some, None, All}
 use Rattle.std.specs.Prelude.{IsSome}
 use Rattle.std.proofs.lemmas.Bool.{cases_Bool, eq-eqb, eqb-true, lt-ltb, ne_eqb, false≢true}
-use Rattle.std.proofs.lemmas.List.{take_more}
+use Rattle.std.proofs.lemmas.List.{take_more, map-append}
 use Rattle.std.proofs.lemmas.List.Elements.{All-append, All-cons, All-head, All-nil, All-tail}
 use Rattle.object_layout.specs.ChunkValue.{ChunkValue}
 use Rattle.object_layout.specs.Chunks.{place_in, place_of}
@@ -136,11 +136,7 @@ module _ (p : ChunkValue → Bool) (ks : List ChunkValue) (k : ChunkValue) where
       omega arith
 
   pub mapped_more : (f : ChunkValue → ChunkValue) → map f (filter p (ks ++ k ∷ [])) ≡ map f (filter p ks) ++ map f (filter p (k ∷ []))
-  mapped_more f = ap (map f) (filter_more ks) ∙ map_append (filter p ks) (filter p (k ∷ []))
-    where
-      map_append : (xs ys : List ChunkValue) → map f (xs ++ ys) ≡ map f xs ++ map f ys
-      map_append [] ys = refl
-      map_append (x ∷ xs) ys = ap (λ (zs : List ChunkValue). f x ∷ zs) (map_append xs ys)
+  mapped_more f = ap (map f) (filter_more ks) ∙ map-append f (filter p ks) (filter p (k ∷ []))
 
   pub given_more : IsFresh ks k.number → (a b c : PoolValue) → AreGiven a b (filter p ks) → AreGiven b c (filter p (k ∷ [])) → AreGiven a c (filter p (ks ++ k ∷ []))
   given_more fresh a b c g h = subst (λ (xs : List ChunkValue). AreGiven a c xs) (sym (filter_more ks)) (given_both a b c (filter p ks) (filter p (k ∷ [])) g h (fresh_some fresh (p k)))

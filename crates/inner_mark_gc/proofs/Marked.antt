@@ -1,7 +1,7 @@
 -- A marking marks the snapshot.
 use Rattle.std.proofs.Common.{◌≡◌, ℕ, zero, suc, ◌+◌, ◌<◌, ◌≤◌, List, [], ◌∷◌, ◌++◌, length, take, drop, sym, ap, ◌∙◌, subst, arith, ◌⊎◌, inl, inr, Contains, All, Some, slice_get}
 use Rattle.std.specs.Prelude.{◌↔◌}
-use Rattle.std.proofs.lemmas.List.{take_all, take-append-le, drop_all, length-append}
+use Rattle.std.proofs.lemmas.List.{take_all, take-append-le, drop_all, length-append, length-take}
 use Rattle.object_layout.specs.declared.word.Addr.{Addr}
 use Rattle.object_layout.specs.ChunkValue.{ChunkValue}
 use Rattle.object_layout.specs.Graph.{HasObjectAt, Leads}
@@ -35,11 +35,6 @@ take_more_is xs ys rest n e l = take_grown xs ys rest (n + 1) e (omega arith)
 
 pub none_left : (n : ℕ) (xs : List Addr) → n ≡ length xs → (a : Addr) → Contains (drop n xs) a → ⊥
 none_left n xs e a c = let d : drop n xs ≡ [] = drop_all n xs (omega arith) in in_from_contains [] a (subst (λ (ys : List Addr). Contains ys a) d c)
-
-take_few : {X : Type 0} (n : ℕ) (xs : List X) → length (take n xs) ≤ n
-take_few zero xs = omega arith
-take_few (suc n) [] = omega arith
-take_few (suc n) (x ∷ xs) = let ih : length (take n xs) ≤ n = take_few n xs in omega arith
 
 pub still_within : (xs ys rest : List Addr) (n m : ℕ) → ys ≡ xs ++ rest → n < length xs → m ≡ n + 1 → m ≤ length ys
 still_within xs ys rest n m e l i =
@@ -137,7 +132,7 @@ module _ (f : Fork) (kept : List Addr) where
   pub all_found_marked : (h : List ChunkValue) (m : MarkingValue) → IsOf h kept m → IsMarking f kept m → IsAllMarked f kept m → m.marked ≡ length m.found
   all_found_marked h m own is all =
       let le : length m.found ≤ length (take m.marked m.found) = once_within m.found (take m.marked m.found) (once_from m.found own.room.once) (λ a i. in_from_contains (take m.marked m.found) a (all a (is.each a (contains_from_in m.found a i)))) in
-      let few : length (take m.marked m.found) ≤ m.marked = take_few m.marked m.found in
+      let few : length (take m.marked m.found) ≤ m.marked = omega (arith, length-take m.marked m.found) in
       let within : m.marked ≤ length m.found = own.marked in
       omega arith
 

@@ -1,5 +1,5 @@
 -- The words that heaps count since their last leaf collections.
-use Rattle.std.proofs.Common.{◌≡◌, ℕ, zero, suc, ◌+◌, ◌-◌, ◌*◌, ◌≤◌, Bool, true, false, cond, Option, Some, None, List, [], ◌∷◌, ◌++◌, slice_get, slice_set, nat_lt, refl, ap, sym, subst, ◌∙◌, arith, is_none}
+use Rattle.std.proofs.Common.{◌≡◌, ℕ, zero, suc, ◌+◌, ◌*◌, ◌≤◌, Bool, true, false, cond, Option, Some, None, List, [], ◌∷◌, ◌++◌, slice_get, slice_set, nat_lt, refl, ap, sym, subst, ◌∙◌, arith, is_none}
 use Rattle.std.proofs.lemmas.Bool.{and_parts}
 use Rattle.std.proofs.lemmas.List.Sums.{sum_by-cons}
 use Rattle.run_trace.specs.declared.entry.Kind.{Kind}
@@ -7,7 +7,6 @@ use Rattle.run_trace.specs.declared.entry.Kind.TheVariants.{Took, Ran, Chunk, Be
 use Rattle.run_trace.specs.Entry.{EntryValue}
 use Rattle.run_trace.specs.Settings.{SettingsValue, field_limit}
 use Rattle.hh_lang.specs.Form.{ProgramText}
-use Rattle.hh_model.specs.declared.data.Name.{Name}
 use Rattle.hh_model.specs.declared.data.State.{State}
 use Rattle.hh_model.specs.Step.{step, can_step, asked}
 use Rattle.hh_model.proofs.Carried.{next_name}
@@ -15,7 +14,7 @@ use Rattle.hh_model.proofs.Counts.{step_limit}
 use Rattle.run_ledger.specs.declared.data.Heap.{Heap}
 use Rattle.run_ledger.specs.declared.data.Ledger.{Ledger}
 use Rattle.run_ledger.specs.declared.data.RunEnd.TheVariants.{Pool}
-use Rattle.run_ledger.specs.Heaps.{heap_of, or_fresh, with_heap, with_heap_at, placed, put_last, is_small, chunk_words, in_use, collected, swept_heap}
+use Rattle.run_ledger.specs.Heaps.{heap_of, or_fresh, with_heap, with_heap_at, placed, is_small, chunk_words, in_use, collected, swept_heap}
 use Rattle.run_ledger.specs.Steps.{allocated_by, allocated_in, stepped_to, task_step, task_steps, on_asked}
 use Rattle.run_ledger.specs.Entries.{refusal, kind_refusal, after_kind, after, with_chunk, chunk_units}
 use Rattle.run_ledger.specs.Journals.{opening, after_all, ledger_of, is_legal, is_legal_from}
@@ -27,6 +26,7 @@ use Rattle.run_ledger.proofs.Machine.{stepped_machine}
 use Rattle.run_ledger.proofs.Sound.{SoundLedger}
 use Rattle.run_ledger.proofs.Steps.{SoundAt, step_leaves, heap_of_task, can_tells, task_step_sound}
 use Rattle.run_ledger.proofs.Weights.{total, total_set, Additive, moves_total}
+use Rattle.run_ledger.proofs.Held.{placed_since}
 use Rattle.run_ledger.proofs.Stocks.{with_heap_any}
 use Rattle.run_ledger.proofs.Bounds.{task_step_steps}
 use Rattle.run_ledger.proofs.Journals.{out_tells, entry_tells, entry_sound, opening_sound}
@@ -36,14 +36,6 @@ since_in h = h.since
 
 pub since_additive : Additive since_in
 since_additive = record { let_go = λ h. refl; fresh = refl; forked = λ ns h. refl; merged = λ p l r. omega arith }
-
--- a heap counts the words that are placed in it
-pub placed_since : (h : Heap) (n : Name) (w : ℕ) → (placed h n w).since ≡ h.since + w
-placed_since h n w = by (is_small w)
-  where
-    by : (v : Bool) → (cond v (record h { chunks = put_last h.chunks n; room = h.room - w; since = h.since + w }) (record h { large = h.large ++ n ∷ []; reserved = 0; since = h.since + w })).since ≡ h.since + w
-    by true = refl
-    by false = refl
 
 module _ (p : ProgramText) (limit most : ℕ) (asks : AsksAtMost p limit most) where
   -- the limit of fields stays, and each step counts at most so many words

@@ -2,7 +2,7 @@
 use Rattle.std.proofs.Common.{◌≡◌, ℕ, ◌+◌, ◌^◌, ◌<◌, ◌≤◌, ◌++◌, arith, Some, None, List, [], ◌∷◌, length, map, All, ap, sym, subst, ◌∙◌}
 use Rattle.std.specs.Prelude.{vec_len}
 use Rattle.listed.specs.RoomyValue.{RoomyValue}
-use Rattle.listed.proofs.Places.{all_from}
+use Rattle.listed.proofs.Places.{all_from, map_in}
 use Rattle.run_trace.specs.declared.entry.Kind.TheVariants.{Begin}
 use Rattle.run_trace.specs.Entry.{EntryValue}
 use Rattle.object_layout.specs.declared.word.Addr.{Addr}
@@ -18,7 +18,6 @@ use Rattle.leaf_copy_gc.specs.Lists.{AreReserved}
 use Rattle.leaf_copy_gc.specs.Survivors.{as_reference}
 use Rattle.leaf_copy_gc.proofs.FoundLemmas.{born_live}
 use Rattle.core_relation.specs.Memory.{In}
-use Rattle.core_relation.proofs.objects.Members.{map_in}
 use Rattle.task_machine.specs.declared.part.Private.{Private}
 use Rattle.task_machine.specs.declared.part.Begun.{Begun}
 use Rattle.shared_value.specs.SharedValue.{SharedValue, accounts}

@@ -4,7 +4,7 @@ use Rattle.std.proofs.lemmas.Bool.{cases_eq}
 use Rattle.std.proofs.lemmas.Option.{same_Some}
 use Rattle.listed.specs.RoomyValue.{RoomyValue}
 use Rattle.listed.proofs.Members.{got_within}
-use Rattle.listed.proofs.Places.{each_from, got_some, in_map, read_in}
+use Rattle.listed.proofs.Places.{each_from, got_some, in_map, map_in, read_in}
 use Rattle.listed.proofs.Options.{none_some}
 use Rattle.hh_model.specs.declared.data.Object.{Object}
 use Rattle.hh_model.specs.Effect.{object_at}
@@ -22,6 +22,7 @@ use Rattle.run_ledger.proofs.Journals.{legal_sound}
 use Rattle.journal_laws.proofs.Waiters.{waiters_are_free}
 use Rattle.run_ledger.proofs.Going.{machine_goes_on}
 use Rattle.run_ledger.proofs.Machine.{heap_machine}
+use Rattle.run_ledger.proofs.Cuts.{legal_then}
 use Rattle.object_layout.specs.declared.word.Addr.{Addr}
 use Rattle.object_layout.specs.Cell.{Born, marked_object}
 use Rattle.object_layout.specs.Chunks.{cell_of}
@@ -46,9 +47,8 @@ use Rattle.core_relation.specs.Stands.{IsSource, Place}
 use Rattle.core_relation.specs.Memory.{Chunk, Belongings, In, Lies, Memory, objects_in, rewritten_belongings, sources}
 use Rattle.core_relation.specs.Fits.{Part, part_for}
 use Rattle.core_relation.specs.Whole.{StandsFor, StandsForAll, as_node, by_end}
-use Rattle.core_relation.specs.Worker.{Fits as FitsValue}
+use Rattle.core_relation.specs.Worker.{WorkerFits}
 use Rattle.core_entry_laws.proofs.whole.EntriesWhole.{ends_stand_for}
-use Rattle.core_relation.proofs.objects.Members.{map_in}
 use Rattle.core_entry_laws.proofs.parts.OwnFits.{ends_fit_then}
 use Rattle.core_entry_laws.proofs.parts.WorkersPast.{ends_leave}
 use Rattle.core_entry_laws.proofs.parts.Quiet.{aside_is}
@@ -66,7 +66,6 @@ use Rattle.shared_value.specs.Roots.{heaps_of, sources_of}
 use Rattle.shared_value.specs.Entered.{refused}
 use Rattle.shared_value.proofs.CellsRead.{fresh_off, seen_object}
 use Rattle.shared_value.proofs.EntryMade.{accounts_are, entered, entered_world, entry_on, held_on, part_fits, unheld_at_rest, unheld_rests}
-use Rattle.shared_value.proofs.JournalGoesOn.{legal_then}
 use Rattle.shared_value.proofs.FreeChunks.{refs_long}
 use Rattle.shared_value.proofs.HeldTasks.{fits_held, stands_for_held}
 use Rattle.shared_value.proofs.FieldsNoted.{are_once, fresh_by, noted_sources, owned_before}
@@ -304,15 +303,15 @@ module _ (w : SharedValue) (k : ℕ) (p : Private) (moved : Moved) (I : IsShared
     end_world = entered_world w e I free w.tree pool H'.rests w.sets w.tasks_out w.outputs w.steps w.end room (led.count ∙ I.made) I.noted refl G.limit stands_then led.form measured_then
 
     -- PARTS
-    held_value : (q : Part) → FitsValue w.program w.settings q v'' L → FitsValue w.program w.settings q v' L
+    held_value : (q : Part) → WorkerFits w.program w.settings q v'' L → WorkerFits w.program w.settings q v' L
     held_value q fits = fits_held v'' (λ u. v'.belongings u) L same w.program w.settings q sound' going' fits
 
     pub end_fits : Fits w' k (ended p)
     end_fits = record {
       held = held_on w e I free w.tree pool H'.rests w.sets w.tasks_out w.outputs w.steps w.end room end_world k t refl F.held;
-      fits = subst (FitsValue w.program w.settings (part_of w.settings (ended p)) v') (sym accounts')
+      fits = subst (WorkerFits w.program w.settings (part_of w.settings (ended p)) v') (sym accounts')
           (held_value (part_of w.settings (ended p))
-          (subst (λ n. FitsValue w.program w.settings (part_for w.settings t (belongings_of_part (ended p)) n) v'' L) (sym F.fresh)
+          (subst (λ n. WorkerFits w.program w.settings (part_for w.settings t (belongings_of_part (ended p)) n) v'' L) (sym F.fresh)
           (ends_fit_then w.program w.settings w.journal.items I.legal v v'' k t moved.taken moved.given moved.left F.belongings (belongings_of_part (ended p)) f free C ends refl)));
       form = F.form;
       measured = (measured_given w.pool pool moved.back.items t p.heap.chunks G own_apart F.measured, λ n i. absurd i);

@@ -1,7 +1,8 @@
 -- How a heap with an empty chunk more is laid out, and what is known of it.
-use Rattle.std.proofs.Common.{◌≡◌, ◌⊎◌, ℕ, ◌*◌, ◌/◌, ◌<◌, ◌≤◌, ◌==◌, ◌&&◌, ◌++◌, not, arith, Bool, true, false, cond, Option, Some, None, List, [], ◌∷◌, length, length-append, map, inl, inr, refl, ap, sym, subst, ◌∙◌, ne_eqb}
+use Rattle.std.proofs.Common.{◌≡◌, ◌⊎◌, ℕ, ◌*◌, ◌/◌, ◌<◌, ◌≤◌, ◌==◌, ◌&&◌, ◌++◌, not, arith, Bool, true, false, cond, Option, Some, None, List, [], ◌∷◌, length, length-append, inl, inr, refl, ap, sym, subst, ◌∙◌, ne_eqb}
 use Rattle.std.specs.List.{AllByRecursion, IsDistinct}
 use Rattle.std.proofs.lemmas.Bool.{cases_lt, cond-true, cond-false, eqb-true}
+use Rattle.listed.proofs.Places.{map_in}
 use Rattle.object_layout.specs.Chunks.{chunk_at}
 use Rattle.object_layout.specs.ChunkValue.{ChunkValue}
 use Rattle.object_layout.specs.Place.{words_in}
@@ -9,19 +10,13 @@ use Rattle.alloc_path.specs.LeafHeapValue.{AreTidy, AreWithin, LeafHeapValue, Is
 use Rattle.alloc_path.proofs.HeapLemmas.{at_push, at_last}
 use Rattle.core_relation.specs.Layout.{AreLaidOut, has_none, reserved_chunks, reserved_units}
 use Rattle.core_relation.specs.Memory.{Chunk, In}
-use Rattle.core_relation.proofs.objects.Members.{map_in}
+use Rattle.core_relation.proofs.objects.LaidOut.{numbers, units_of}
 use Rattle.task_machine.specs.Accounts.{IsLastLarge, IsLastSmall}
 use Rattle.task_machine.specs.Fits.{IsShaped}
 use Rattle.shared_value.specs.Objects.{AreNear, chunk_of, chunks_of}
 use Rattle.shared_value.specs.Stands.{HeapForm}
 use Rattle.shared_value.proofs.CellsRead.{fresh_off}
 use Rattle.leaf_collections.proofs.MoreChunksRead.{all_more, chunk_with, in_more, none_in, objects_more}
-
-abbrev units_of : List Chunk → List ℕ
-units_of cs = map (λ (c : Chunk). c.units) cs
-
-abbrev numbers_of : List Chunk → List ℕ
-numbers_of cs = map (λ (c : Chunk). c.number) cs
 
 distinct_more : (ns : List ℕ) (n : ℕ) → IsDistinct (λ a b. a == b) ns → ((x : ℕ) → In ns x → x ≡ n → ⊥) → IsDistinct (λ a b. a == b) (ns ++ n ∷ [])
 unfolding IsDistinct
@@ -32,7 +27,7 @@ distinct_more (x ∷ xs) n d off = (all xs d.0 (ne_eqb x n (λ e. off x (inl ref
     all [] a b = (b, tt)
     all (y ∷ ys) a b = (a.0, all ys a.1 b)
 
-numbers_more : (ks : List ChunkValue) (k : ChunkValue) → numbers_of (chunks_of (ks ++ k ∷ [])) ≡ numbers_of (chunks_of ks) ++ k.number ∷ []
+numbers_more : (ks : List ChunkValue) (k : ChunkValue) → numbers (chunks_of (ks ++ k ∷ [])) ≡ numbers (chunks_of ks) ++ k.number ∷ []
 numbers_more [] k = refl
 numbers_more (x ∷ xs) k = ap (λ ns. x.number ∷ ns) (numbers_more xs k)
 
@@ -53,7 +48,7 @@ small_units k e = by (k.size == 1024) refl e
     by false q h = absurd cc
 
 module _ (k : ChunkValue) (empty : k.cells ≡ []) (ks : List ChunkValue) (fresh : IsFresh ks k.number) where
-  off : (x : ℕ) → In (numbers_of (chunks_of ks)) x → x ≡ k.number → ⊥
+  off : (x : ℕ) → In (numbers (chunks_of ks)) x → x ≡ k.number → ⊥
   off x i e =
       let c = map_in (λ (c : Chunk). c.number) (chunks_of ks) x i in
       let j = map_in chunk_of ks c.0 c.1 in
@@ -61,7 +56,7 @@ module _ (k : ChunkValue) (empty : k.cells ≡ []) (ks : List ChunkValue) (fresh
 
   pub laid_more : (spare spare' : ℕ) → AreLaidOut (chunks_of ks) spare → reserved_units spare ++ units_of (reserved_chunks (chunk_of k ∷ [])) ≡ reserved_units spare' → AreLaidOut (chunks_of (ks ++ k ∷ [])) spare'
   laid_more spare spare' L e = record {
-    numbers = subst (IsDistinct (λ a b. a == b)) (sym (numbers_more ks k)) (distinct_more (numbers_of (chunks_of ks)) k.number L.numbers off);
+    numbers = subst (IsDistinct (λ a b. a == b)) (sym (numbers_more ks k)) (distinct_more (numbers (chunks_of ks)) k.number L.numbers off);
     within = λ c o i j. elim (in_more ks k c i) [
       | inl a ↦ L.within c o a j
       | inr a ↦ absurd (subst (λ os. In os o) (none_in k empty) (subst (λ (z : Chunk). In z.objects o) (sym a) j))

@@ -1,8 +1,9 @@
 -- The part once its leaf collection has begun.
 use Rattle.std.proofs.Common.{◌≡◌, ℕ, true, false, Option, Some, None, List, [], length, map, slice_get, is_some, ◌⊎◌, inl, inr, refl, ap, ap₂, sym, subst, ◌∙◌}
 use Rattle.std.proofs.lemmas.Bool.{cases_eq}
+use Rattle.std.proofs.lemmas.List.{length-map}
 use Rattle.listed.specs.RoomyValue.{RoomyValue}
-use Rattle.listed.proofs.Places.{in_map}
+use Rattle.listed.proofs.Places.{in_map, map_in}
 use Rattle.hh_model.specs.declared.data.State.{State}
 use Rattle.hh_model.specs.Effect.{row_of}
 use Rattle.hh_model.specs.Step.{is_joined, is_waiting}
@@ -32,7 +33,6 @@ use Rattle.core_relation.specs.Memory.{Chunk, Belongings, In, Memory, objects, o
 use Rattle.core_relation.specs.Whole.{BegunStands, Begins}
 use Rattle.core_relation.proofs.changes.Alone.{belongings_kept}
 use Rattle.core_entry_laws.proofs.notes.Begun.{begins}
-use Rattle.core_relation.proofs.objects.Members.{map_in}
 use Rattle.core_relation.proofs.changes.With.{at_belongings, off_belongings}
 use Rattle.task_machine.specs.declared.part.Begun.{Begun}
 use Rattle.task_machine.specs.declared.part.Private.{Private}
@@ -55,7 +55,6 @@ use Rattle.shared_value.proofs.StepsEntered.{fits_now, belongings_stand, status}
 use Rattle.shared_value.proofs.RootsByAccounts.{are_roots}
 use Rattle.leaf_collections.proofs.WhyNoCollection.{begin_idle}
 use Rattle.leaf_collections.proofs.CollectionBegins as first
-use Rattle.core_relation.proofs.objects.Mapped.{length_map}
 use Rattle.leaf_collections.proofs.NewChunks.{distinct_numbers, idle_rest}
 
 module _ (w : SharedValue) (k : ℕ) (p : Private) (I : IsSharedValue w) (F : Fits w k (record p { fresh = 0 })) (free : refused w (record { worker = k; kind = Begin p.task }) ≡ None) where
@@ -147,7 +146,7 @@ module _ (w : SharedValue) (k : ℕ) (p : Private) (I : IsSharedValue w) (F : Fi
     take_rested : take_of l.machine (heap_of (rested l t) t) ≡ length (map number_of ks)
     take_rested =
         rested_view (take_of l.machine) (λ z. refl) l t
-        ∙ (take_is w k p I F ∙ (sym T.numbers.count ∙ sym (length_map number_of ks)))
+        ∙ (take_is w k p I F ∙ (sym T.numbers.count ∙ sym (length-map ks number_of)))
 
     names : HasNames (belongings_of_part P).chunks (heap_of (rested l t) t)
     names = subst (λ (z : Belongings). HasNames z.chunks (heap_of (rested l t) t)) here H.names

@@ -1,6 +1,7 @@
 -- What a search finds is what survives.
 use Rattle.std.proofs.Common.{◌≡◌, ℕ, suc, ◌+◌, ◌<◌, ◌≤◌, List, [], ◌∷◌, ◌++◌, length, get_or, take, fold, refl, sym, ap, ◌∙◌, subst, arith, inl, inr, Option, Some, None, Contains, ◌↔◌, length-append, All, map}
 use Rattle.std.proofs.lemmas.List.{append_assoc, append-nil, take_more, take_all, get_or_append_left, take-append-le}
+use Rattle.std.proofs.lemmas.List.Sums.{fold-append}
 use Rattle.object_layout.specs.declared.word.Addr.{Addr}
 use Rattle.object_layout.specs.declared.word.Birth.{Birth}
 use Rattle.object_layout.specs.Cell.{Cell, Born, IsBorn, IsObject}
@@ -19,7 +20,6 @@ use Rattle.leaf_copy_gc.specs.Search.{found_in, all_found, visited, visited_at, 
 use Rattle.address_laws.proofs.Puts as puts
 use Rattle.leaf_copy_gc.proofs.FoundLemmas as marks
 use Rattle.leaf_copy_gc.proofs.FoundLemmas.{birth_live, live_birth, born_live}
-use Rattle.leaf_copy_gc.proofs.ListLemmas.{fold_append}
 use Rattle.leaf_copy_gc.specs.Survivors.{frame_references, as_reference, with_chunks}
 use Rattle.task_frames.specs.declared.frames.Frame.{Frame}
 
@@ -256,7 +256,7 @@ module _ (b : CollectorValue) (none : b.found ≡ []) (fs : List Frame) (roots :
   pub begun : (s t : CollectorValue) → s ≡ fold visited b (frame_references fs) → t ≡ fold visited s (map as_reference roots) → Going b.heap.chunks (frame_references fs ++ map as_reference roots) t 0
   begun s t e f =
       let from = frame_references fs ++ map as_reference roots in
-      let whole : t ≡ fold visited b from = f ∙ (ap (λ (x : CollectorValue). fold visited x (map as_reference roots)) e ∙ sym (fold_append visited b (frame_references fs) (map as_reference roots))) in
+      let whole : t ≡ fold visited b from = f ∙ (ap (λ (x : CollectorValue). fold visited x (map as_reference roots)) e ∙ sym (fold-append visited b (frame_references fs) (map as_reference roots))) in
       let v = visit_all b.heap.chunks from b (discovered_none b.heap.chunks from b refl none) from (λ a i l. (0, (l, contains_from_in from (Some a) i))) in
       subst (λ (x : CollectorValue). Going b.heap.chunks from x 0) (sym whole) (record {
         discovered = v.discovered;

@@ -12,7 +12,7 @@ use Rattle.object_layout.specs.ChunkValue.{ChunkValue}
 use Rattle.object_layout.specs.Chunks.{cell_of}
 use Rattle.object_layout.specs.Graph.{IsClosed, IsSound}
 use Rattle.object_layout.proofs.ChunkLaws.{addr_cases}
-use Rattle.object_layout.proofs.Distinct.{Once}
+use Rattle.object_layout.proofs.Distinct.{Once, is_same}
 use Rattle.remembered_set.specs.Moved.{same_address}
 use Rattle.listed.proofs.Members.{In, in_from_contains, contains_from_in}
 use Rattle.leaf_copy_gc.specs.declared.lists.Survivor.{Survivor}
@@ -107,7 +107,7 @@ count_none (x ∷ xs) a n = let ih = count_none xs a (λ i. n (inr i)) in rw (mo
 count_in : (xs : List Addr) (a : Addr) → In xs a → 0 < count a xs
 unfolding count
 count_in [] a i = absurd i
-count_in (x ∷ xs) a (inl e) = rw (moves.addr_itself x a e) (omega arith)
+count_in (x ∷ xs) a (inl e) = rw (is_same x a e) (omega arith)
 count_in (x ∷ xs) a (inr i) = let ih = count_in xs a i in omega arith
 
 count_once : (xs : List Addr) → Once xs → (a : Addr) → count a xs ≤ 1
@@ -117,13 +117,13 @@ count_once (x ∷ xs) o a =
     elim (addr_cases x a) [
       | inl e ↦
           let none = count_none xs a (λ i. o.0 (contains_from_in xs x (subst (In xs) (sym e) i))) in
-          rw (moves.addr_itself x a e) (omega arith)
+          rw (is_same x a e) (omega arith)
       | inr n ↦ let ih = count_once xs o.1 a in rw (moves.addr_other x a n) (omega arith)
     ]
 
 count_head : (xs : List Addr) (x : Addr) → count x (x ∷ xs) ≡ 1 + count x xs
 unfolding count
-count_head xs x = rw (moves.addr_itself x x refl) refl
+count_head xs x = rw (is_same x x refl) refl
 
 count_tail : (xs : List Addr) (x a : Addr) → count a xs ≤ count a (x ∷ xs)
 unfolding count

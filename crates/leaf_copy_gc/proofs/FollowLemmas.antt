@@ -10,12 +10,11 @@ use Rattle.object_layout.specs.Place.{cell_at, object_at, put_cell, words_in, Is
 use Rattle.object_layout.specs.Chunks.{cell_of, object_of, put_object}
 use Rattle.object_layout.proofs.PlaceLemmas as place
 use Rattle.object_layout.proofs.ChunkLaws as laws
-use Rattle.object_layout.proofs.ChunkLaws.{addr_cases, length-put, place_of-put, put_object-put_object}
+use Rattle.object_layout.proofs.ChunkLaws.{length-put, mark_put, place_of-put, put_object-put_object}
 use Rattle.leaf_copy_gc.specs.Search.{IsTarget}
 use Rattle.leaf_copy_gc.specs.Redirected.{led_cell, followed, followed_ref}
 use Rattle.leaf_copy_gc.proofs.Upto as upto
 use Rattle.leaf_copy_gc.proofs.Upto.{led_upto}
-use Rattle.address_laws.proofs.Puts as puts
 
 pub size_led : (f : Option Addr → Option Addr) (c : Cell) → size_of (led_cell f c) ≡ size_of c
 size_led f c = let e = length-map c.refs f in omega arith
@@ -51,16 +50,6 @@ module _ (f : Option Addr → Option Addr) (cs : List Cell) (at : ℕ) (o : IsOb
     was r e = upto.upto_read f (cell_at cs at) k l r (got r e)
 
 -- ---- an object of the heap, as far as its references below k
-
-mark_put : (h : List ChunkValue) (x : Addr) (c : Cell) → c.mark ≡ (cell_of h x).mark → size_of c ≡ size_of (cell_of h x) → (a : Addr) → (cell_of (put_object h x c) a).mark ≡ (cell_of h a).mark
-mark_put h x c m s a =
-    elim (addr_cases x a) [
-      | inl e ↦ subst (λ (y : Addr). (cell_of (put_object h x c) y).mark ≡ (cell_of h y).mark) e (elim (puts.put_cases h x c) [
-        | inl p ↦ ap (λ (d : Cell). d.mark) p ∙ m
-        | inr p ↦ ap (λ (d : Cell). d.mark) p.0
-      ])
-      | inr n ↦ ap (λ (d : Cell). d.mark) (laws.cell_of-put_other h x a c s (λ e. n (sym e)))
-    ]
 
 module _ (h : List ChunkValue) (x : Addr) (c : Cell) (m : c.mark ≡ (cell_of h x).mark) (s : size_of c ≡ size_of (cell_of h x)) where
   followed_put : (a : Addr) → followed (put_object h x c) a ≡ followed h a

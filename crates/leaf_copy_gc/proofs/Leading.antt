@@ -4,14 +4,14 @@ use Rattle.std.specs.Prelude.{nat_lt, unwrap_or}
 use Rattle.std.proofs.lemmas.Bool.{cases_lt, lt-ltb, le-ltb, leb-true, false≢true}
 use Rattle.std.proofs.lemmas.List.Elements.{All-cons, All-head, All-tail}
 use Rattle.object_layout.specs.declared.word.Addr.{Addr}
-use Rattle.object_layout.specs.Cell.{Cell, Born, Moved, IsObject, moved_to, size_of, with_mark}
+use Rattle.object_layout.specs.Cell.{Cell, Moved, IsObject, moved_to, size_of, with_mark}
 use Rattle.object_layout.specs.ChunkValue.{ChunkValue}
 use Rattle.object_layout.specs.Chunks.{cell_of, place_of}
 use Rattle.object_layout.specs.Graph.{IsClosed, HasObjectAt, IsSound}
 use Rattle.object_layout.proofs.Distinct.{Once}
 use Rattle.object_layout.proofs.ChunkLaws as laws
 use Rattle.listed.proofs.Members.{In, in_from_contains, contains_from_in}
-use Rattle.listed.proofs.Places.{in_map, in_read, read_in}
+use Rattle.listed.proofs.Places.{in_map, in_read}
 use Rattle.leaf_copy_gc.specs.declared.lists.Survivor.{Survivor}
 use Rattle.leaf_copy_gc.specs.Survivors.{IsSurvivor, olds, old_of, HaveNames}
 use Rattle.leaf_copy_gc.specs.Search.{all_found, IsTarget}
@@ -25,6 +25,7 @@ use Rattle.leaf_copy_gc.proofs.Discovered.{survivor_live}
 use Rattle.leaf_copy_gc.proofs.Moves as moves
 use Rattle.leaf_copy_gc.proofs.Moves.{AreAs, small_ones}
 use Rattle.leaf_copy_gc.proofs.Rooms as rooms
+use Rattle.leaf_copy_gc.proofs.Naming.{born}
 
 -- ---- what lies in the new chunks
 
@@ -112,11 +113,8 @@ module _ (h : List ChunkValue) (from : List (Option Addr)) (closed : IsClosed h)
     (names : HaveNames h ss)
     (k : CollectorValue) (k_old : k.heap.chunks ≡ all_found h found) (k_laying : k.laying ≡ before spare) (k_moved : k.moved ≡ [])
     (new : AreNew spare) where
-  born : (s : Survivor) → In ss s → (cell_of h s.old).mark ≡ Born s.birth
-  born s i = read_in (λ (x : Survivor). (cell_of h x.old).mark ≡ Born x.birth) ss s i names
-
   pub as_were : AreAs h k.heap.chunks ss
-  as_were = subst (λ (old : List ChunkValue). AreAs h old ss) (sym k_old) (moves.are_as h found ss born)
+  as_were = subst (λ (old : List ChunkValue). AreAs h old ss) (sym k_old) (moves.are_as h found ss (born h ss names))
 
   pub can_copy : HaveRoom (before spare) h (smalls h (olds ss)) → IsReady k ss
   can_copy room = moves.are_ready h k ss once as_were (subst (λ (y : Laying). HaveRoom y h (smalls h (olds ss))) (sym k_laying) room)

@@ -1,21 +1,12 @@
 -- Lists, read and folded in steps.
-use Rattle.std.proofs.Common.{◌≡◌, ℕ, zero, suc, ◌+◌, ◌<◌, List, [], ◌∷◌, ◌++◌, length, get_or, take, map, fold, refl, sym, ap, ◌∙◌, arith, Option, Some, slice_get}
+use Rattle.std.proofs.Common.{◌≡◌, ℕ, zero, suc, ◌+◌, ◌<◌, List, [], ◌∷◌, length, get_or, take, map, fold, refl, sym, ap, ◌∙◌, arith, Option, Some, slice_get}
 use Rattle.std.proofs.lemmas.List.{append-nil}
+use Rattle.std.proofs.lemmas.List.Sums.{fold-append}
 use Rattle.object_layout.specs.declared.word.Addr.{Addr}
 use Rattle.task_frames.specs.declared.frames.Frame.{Frame}
 use Rattle.task_frames.specs.FramesValue.{references_of}
 use Rattle.listed.proofs.Members.{In, in_append_left, in_append_right}
 use Rattle.leaf_copy_gc.specs.Survivors.{frame_references}
-
--- one step more of a fold
-pub fold_read : {S X : Type 0} (f : S → X → S) (s : S) (xs : List X) (k : ℕ) (d : X) → k < length xs → fold f s (take (k + 1) xs) ≡ f (fold f s (take k xs)) (get_or xs k d)
-fold_read f s [] k d l = absurd (omega arith)
-fold_read f s (y ∷ ys) zero d l = refl
-fold_read f s (y ∷ ys) (suc k) d l = let n : suc k + 1 ≡ suc (k + 1) = omega arith in rw n (fold_read f (f s y) ys k d (omega arith))
-
-pub fold_append : {S X : Type 0} (f : S → X → S) (s : S) (xs ys : List X) → fold f s (xs ++ ys) ≡ fold f (fold f s xs) ys
-fold_append f s [] ys = refl
-fold_append f s (x ∷ xs) ys = fold_append f (f s x) xs ys
 
 -- one step more of a fold over a mapped list
 pub fold_map_read : {S X Y : Type 0} (f : S → Y → S) (g : X → Y) (s : S) (xs : List X) (k : ℕ) (d : X) → k < length xs →
@@ -32,8 +23,8 @@ fold_frames f s [] k l = absurd (omega arith)
 fold_frames f s (x ∷ xs) zero l = ap (fold f s) (append-nil x.refs)
 fold_frames f s (x ∷ xs) (suc k) l =
     let n : suc k + 1 ≡ suc (k + 1) = omega arith in
-    rw n (fold_append f s x.refs (frame_references (take (k + 1) xs)) ∙ (fold_frames f (fold f s x.refs) xs k (omega arith)
-    ∙ ap (λ t. fold f t (references_of xs k)) (sym (fold_append f s x.refs (frame_references (take k xs))))))
+    rw n (fold-append f s x.refs (frame_references (take (k + 1) xs)) ∙ (fold_frames f (fold f s x.refs) xs k (omega arith)
+    ∙ ap (λ t. fold f t (references_of xs k)) (sym (fold-append f s x.refs (frame_references (take k xs))))))
 
 pub in_frames : (fs : List Frame) (k : ℕ) (r : Option Addr) → In (references_of fs k) r → In (frame_references fs) r
 in_frames [] k r i = i

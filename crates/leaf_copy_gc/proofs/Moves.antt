@@ -1,7 +1,7 @@
 -- What the copying comes to.
-use Rattle.std.proofs.Common.{◌≡◌, ℕ, Bool, true, false, cond, List, [], ◌∷◌, ◌++◌, length, filter, fold, refl, sym, ap, ◌∙◌, subst, arith, inl, inr, eqb, eqb-true, eq-eqb, Option, Some, None}
+use Rattle.std.proofs.Common.{◌≡◌, ℕ, Bool, true, false, cond, List, [], ◌∷◌, ◌++◌, length, filter, fold, refl, sym, ap, ◌∙◌, subst, arith, inl, inr, eqb, eqb-true, Option, Some, None}
 use Rattle.std.specs.Prelude.{nat_le}
-use Rattle.std.proofs.lemmas.Bool.{cases_Bool, and_parts, and_from, false≢true}
+use Rattle.std.proofs.lemmas.Bool.{cases_Bool, and_parts, false≢true}
 use Rattle.std.proofs.lemmas.List.{append_assoc, append-nil}
 use Rattle.object_layout.specs.declared.word.Addr.{Addr}
 use Rattle.object_layout.specs.declared.word.Birth.{Birth}
@@ -9,7 +9,7 @@ use Rattle.object_layout.specs.Cell.{Cell, Mark, Born, Moved, IsBorn, IsObject, 
 use Rattle.object_layout.specs.ChunkValue.{ChunkValue}
 use Rattle.object_layout.specs.Chunks.{cell_of, place_of, put_object}
 use Rattle.object_layout.specs.Graph.{HasObjectAt}
-use Rattle.object_layout.proofs.Distinct.{Once}
+use Rattle.object_layout.proofs.Distinct.{Once, is_same}
 use Rattle.object_layout.proofs.ChunkLaws as laws
 use Rattle.remembered_set.specs.Moved.{new_of, same_address}
 use Rattle.listed.proofs.Members.{In, contains_from_in, in_from_contains}
@@ -26,9 +26,6 @@ use Rattle.address_laws.proofs.Puts as puts
 use Rattle.leaf_copy_gc.proofs.FoundLemmas as marks
 
 -- ---- the list of what was moved
-
-pub addr_itself : (a b : Addr) → a ≡ b → same_address a b ≡ true
-addr_itself a b e = and_from (eqb a.chunk b.chunk) (eqb a.offset b.offset) (eq-eqb a.chunk b.chunk (ap (λ (x : Addr). x.chunk) e)) (eq-eqb a.offset b.offset (ap (λ (x : Addr). x.offset) e))
 
 pub addr_other : (a b : Addr) → (a ≡ b → ⊥) → same_address a b ≡ false
 addr_other a b n =
@@ -191,7 +188,7 @@ module _ (h : List ChunkValue) where
             let c : Cell = with_mark (cell_of k.heap.chunks s.old) (Moved (laid_at k.laying (size_of (cell_of k.heap.chunks s.old)))) in
             let rest : In (olds ss) a → ⊥ = λ j. not_again s ss once (subst (In (olds ss)) (sym e) j) in
             let here : cell_of (copied_one k s).heap.chunks a ≡ c = subst (λ (b : Addr). cell_of (put_object k.heap.chunks s.old c) b ≡ c) e (laws.cell_of-put_same k.heap.chunks s.old c (as' s (inl refl)).1) in
-            rw (addr_itself s.old a e)
+            rw (is_same s.old a e)
             (ap (λ (d : Cell). moved_to d.mark) (copied_other (copied_one k s) ss a rest ∙ here)
             ∙ ap (λ (d : Cell). Some (laid_at k.laying (size_of d))) (as' s (inl refl)).0)
         | inr n ↦
@@ -222,7 +219,7 @@ module _ (h : List ChunkValue) where
 marked_stays : (h : List ChunkValue) (x a : Addr) → (cell_of h a).mark ≡ Moved a → (cell_of (found_in h x) a).mark ≡ Moved a
 marked_stays h x a e =
     elim (addr_cases x a) [
-      | inl q ↦ subst (λ (y : Addr). (cell_of (found_in h y) a).mark ≡ Moved a) (sym q) (elim (puts.put_cases h a (with_mark (cell_of h a) (Moved a))) [
+      | inl q ↦ subst (λ (y : Addr). (cell_of (found_in h y) a).mark ≡ Moved a) (sym q) (elim (laws.put_cases h a (with_mark (cell_of h a) (Moved a))) [
         | inl p ↦ ap (λ (c : Cell). c.mark) p
         | inr p ↦ ap (λ (c : Cell). c.mark) p.0 ∙ e
       ])

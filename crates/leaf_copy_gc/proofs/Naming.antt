@@ -6,7 +6,7 @@ use Rattle.std.proofs.lemmas.Bool.{cases_lt, false≢true, and_parts, le-leb, lt
 use Rattle.object_layout.specs.declared.word.Addr.{Addr}
 use Rattle.object_layout.specs.declared.word.Birth.{Birth}
 use Rattle.object_layout.specs.Cell.{Cell, Mark, Born, Moved, IsBorn, IsObject, no_cell, size_of, with_mark}
-use Rattle.object_layout.specs.ChunkValue.{ChunkValue}
+use Rattle.object_layout.specs.ChunkValue.{ChunkValue, number_of}
 use Rattle.object_layout.specs.Place.{cell_at}
 use Rattle.object_layout.specs.Chunks.{cell_of, chunk_at, place_of, place_in, put_object}
 use Rattle.object_layout.specs.Graph.{HasObjectAt}
@@ -16,7 +16,7 @@ use Rattle.remembered_set.specs.Moved.{same_address}
 use Rattle.alloc_path.specs.LeafHeapValue.{AreTidy, IsTidy}
 use Rattle.alloc_path.proofs.HeapLemmas.{none_there}
 use Rattle.listed.proofs.Members.{In, contains_from_in, in_from_kept, in_append_cases}
-use Rattle.listed.proofs.Places.{in_map, read_in}
+use Rattle.listed.proofs.Places.{in_map, map_in, read_in}
 use Rattle.object_layout.proofs.ChunkLaws.{length-put, place_of-put}
 use Rattle.object_layout.proofs.ObjectLemmas.{chunk_there}
 use Rattle.leaf_copy_gc.specs.declared.lists.Survivor.{Survivor}
@@ -35,10 +35,13 @@ use Rattle.address_laws.proofs.Extent as extent
 use Rattle.leaf_copy_gc.proofs.Rebuilt as rebuilt
 use Rattle.leaf_copy_gc.proofs.Rebuilt.{first_of, marked_chunk, NoneThere}
 
-pub in_unmap : (ss : List Survivor) (a : Addr) → In (olds ss) a → (s : Survivor) × (In ss s × (s.old ≡ a))
-in_unmap [] a i = absurd i
-in_unmap (s ∷ ss) a (inl e) = (s, (inl refl, e))
-in_unmap (s ∷ ss) a (inr i) = let r = in_unmap ss a i in (r.0, (inr r.1.0, r.1.1))
+-- ---- survivors by their names
+
+pub born : (h : List ChunkValue) (ss : List Survivor) → HaveNames h ss → (s : Survivor) → In ss s → (cell_of h s.old).mark ≡ Born s.birth
+born h ss names s i = read_in (λ (x : Survivor). (cell_of h x.old).mark ≡ Born x.birth) ss s i names
+
+pub lives : (h : List ChunkValue) (ss : List Survivor) → HaveNames h ss → (a : Addr) → In (olds ss) a → HasObjectAt h a
+lives h ss names a i = let u = map_in old_of ss a i in subst (HasObjectAt h) u.2 (subst IsBorn (sym (born h ss names u.0 u.1)) tt)
 
 -- ---- names, one after another
 
@@ -147,17 +150,11 @@ module _ (h : List ChunkValue) (ss : List Survivor) (f : Option Addr → Option 
   abbrev pub Goal : List ChunkValue
   Goal = laid ++ (map (led_chunk f) (filter (keeps ss) (unreserved h r)) ++ reserved_of h r)
 
-  born : (s : Survivor) → In ss s → (cell_of h s.old).mark ≡ Born s.birth
-  born s i = read_in (λ (x : Survivor). (cell_of h x.old).mark ≡ Born x.birth) ss s i names
-
-  lives : (a : Addr) → In (olds ss) a → HasObjectAt h a
-  lives a i = let u = in_unmap ss a i in subst (HasObjectAt h) u.1.1 (subst IsBorn (sym (born u.0 u.1.0)) tt)
-
   lies : (a : Addr) → In (olds ss) a → In (numbers h) a.chunk
   lies a i =
       elim (extent.in_numbers (numbers h) a.chunk) [
         | inl j ↦ j
-        | inr n ↦ let z = subst (λ (c : Cell). IsBorn c.mark) (extent.nowhere h a n) (lives a i) in absurd z
+        | inr n ↦ let z = subst (λ (c : Cell). IsBorn c.mark) (extent.nowhere h a n) (lives h ss names a i) in absurd z
       ]
 
   kept_in : (k : ChunkValue) → In (filter (keeps ss) (unreserved h r)) k → In h k × (keeps ss k ≡ true)
@@ -187,7 +184,7 @@ module _ (h : List ChunkValue) (ss : List Survivor) (f : Option Addr → Option 
       at_first (suc n) z =
           let there : cell_of h a ≡ no_cell = extent.chunk_there h k d i a q ∙ (ap (λ (p : ℕ). cell_at k.cells p) (sym z)
           ∙ (ap (λ (cs : List Cell). cell_at cs (suc n)) (kept_alone k i e).0 ∙ extent.alone_cell (cell_at k.cells 0) n)) in
-          let dead = subst (λ (c : Cell). IsBorn c.mark) there (lives a j) in absurd dead
+          let dead = subst (λ (c : Cell). IsBorn c.mark) there (lives h ss names a j) in absurd dead
 
   not_reserved : (a : Addr) → In (olds ss) a → In (numbers (reserved_of h r)) a.chunk → ⊥
   not_reserved a j i = go r within none i
@@ -196,7 +193,7 @@ module _ (h : List ChunkValue) (ss : List Survivor) (f : Option Addr → Option 
       go None w z i = i
       go (Some x) w z (inl e) =
           let there : cell_of h a ≡ no_cell = extent.chunk_there h (chunk_at h x) d (chunk_there h x w) a e ∙ ap (λ (cs : List Cell). cell_at cs a.offset) z in
-          let dead = subst (λ (c : Cell). IsBorn c.mark) there (lives a j) in dead
+          let dead = subst (λ (c : Cell). IsBorn c.mark) there (lives h ss names a j) in dead
       go (Some x) w z (inr i) = i
 
   marked_numbers : numbers (map (marked_chunk ss f) (filter (keeps ss) (unreserved h r))) ≡ numbers (filter (keeps ss) (unreserved h r))
@@ -215,9 +212,9 @@ module _ (h : List ChunkValue) (ss : List Survivor) (f : Option Addr → Option 
         | inl x ↦ absurd (not_laid a j x)
         | inr y ↦ elim (in_append_numbers (map (marked_chunk ss f) (filter (keeps ss) (unreserved h r))) (reserved_of h r) a.chunk y) [
           | inl z ↦
-              let c = extent.chunk_in (filter (keeps ss) (unreserved h r)) a.chunk (subst (λ (ns : List ℕ). In ns a.chunk) marked_numbers z) in
-              let p = kept_in c.0 c.1.0 in
-              (c.0, (c.1.0, first_only c.0 p.0 p.1 a c.1.1 j))
+              let c = map_in number_of (filter (keeps ss) (unreserved h r)) a.chunk (subst (λ (ns : List ℕ). In ns a.chunk) marked_numbers z) in
+              let p = kept_in c.0 c.1 in
+              (c.0, (c.1, first_only c.0 p.0 p.1 a c.2 j))
           | inr z ↦ absurd (not_reserved a j z)
         ]
       ]
@@ -275,7 +272,7 @@ module _ (h : List ChunkValue) (ss : List Survivor) (f : Option Addr → Option 
         | inl j ↦
             let p = kept_in k i in
             let e = first_only k p.0 p.1 a q j in
-            let u = in_unmap ss a j in
+            let u = map_in old_of ss a j in
             let s : Survivor = u.0 in
             let owned : place_of Now a.chunk < length Now = elim (cases_lt (place_of Now a.chunk) (length Now)) [
               | inl l ↦ l
@@ -283,10 +280,10 @@ module _ (h : List ChunkValue) (ss : List Survivor) (f : Option Addr → Option 
             ] in
             let object : IsObject (cell_of Now a).mark = subst (λ (c : Cell). IsObject c.mark) (sym (now_marked a k j i e)) tt in
             let was : (cell_at k.cells 0).mark ≡ Born s.birth =
-            ap (λ (c : Cell). c.mark) (sym (extent.chunk_there h k d p.0 (first_of k) refl) ∙ ap (cell_of h) (sym e)) ∙ (ap (λ (x : Addr). (cell_of h x).mark) (sym u.1.1) ∙ born s u.1.0) in
+            ap (λ (c : Cell). c.mark) (sym (extent.chunk_there h k d p.0 (first_of k) refl) ∙ ap (cell_of h) (sym e)) ∙ (ap (λ (x : Addr). (cell_of h x).mark) (sym u.2) ∙ born h ss names s u.1) in
             let step : cell_of (fold named Now ss) a ≡ with_mark (cell_of Now a) (Born s.birth) =
-            subst (λ (x : Addr). cell_of (fold named Now ss) x ≡ with_mark (cell_of Now x) (Born s.birth)) u.1.1
-            (names_same Now ss once s u.1.0 (subst (λ (x : Addr). place_of Now x.chunk < length Now) (sym u.1.1) owned) (subst (λ (x : Addr). IsObject (cell_of Now x).mark) (sym u.1.1) object)) in
+            subst (λ (x : Addr). cell_of (fold named Now ss) x ≡ with_mark (cell_of Now x) (Born s.birth)) u.2
+            (names_same Now ss once s u.1 (subst (λ (x : Addr). place_of Now x.chunk < length Now) (sym u.2) owned) (subst (λ (x : Addr). IsObject (cell_of Now x).mark) (sym u.2) object)) in
             let right : cell_of Goal a ≡ led_cell f (cell_at k.cells 0) =
             goal_kept a out k i q ∙ (ap (λ (o : ℕ). cell_at (led_chunk f k).cells o) (ap (λ (x : Addr). x.offset) e)
             ∙ ap (λ (cs : List Cell). cell_at (map (led_cell f) cs) 0) (kept_alone k p.0 p.1).0) in
@@ -302,7 +299,7 @@ module _ (h : List ChunkValue) (ss : List Survivor) (f : Option Addr → Option 
             ∙ (extent.in_first laid (map (marked_chunk ss f) (filter (keeps ss) (unreserved h r)) ++ reserved_of h r) a i
             ∙ sym (extent.in_first laid (map (led_chunk f) (filter (keeps ss) (unreserved h r)) ++ reserved_of h r) a i))
         | inr out ↦ elim (extent.in_numbers (numbers (filter (keeps ss) (unreserved h r))) a.chunk) [
-          | inl i ↦ let c = extent.chunk_in (filter (keeps ss) (unreserved h r)) a.chunk i in kept_same a out c.0 c.1.0 c.1.1
+          | inl i ↦ let c = map_in number_of (filter (keeps ss) (unreserved h r)) a.chunk i in kept_same a out c.0 c.1 c.2
           | inr n ↦
               let now : cell_of Now a ≡ cell_of (reserved_of h r) a =
               extent.in_second laid (map (marked_chunk ss f) (filter (keeps ss) (unreserved h r)) ++ reserved_of h r) a out

@@ -5,7 +5,7 @@ use Rattle.std.proofs.lemmas.Bool.{le-leb, leb-true}
 use Rattle.std.proofs.lemmas.List.{append-nil, get_or_read, take_more}
 use Rattle.std.proofs.lemmas.List.Elements.{All-push}
 use Rattle.object_layout.specs.declared.word.Addr.{Addr}
-use Rattle.object_layout.specs.Cell.{Born, Cell, IsBorn, IsObject, size_of}
+use Rattle.object_layout.specs.Cell.{Cell, IsObject, size_of}
 use Rattle.object_layout.specs.ChunkValue.{ChunkValue}
 use Rattle.object_layout.specs.Chunks.{cell_of, chunk_at, object_words_in, held_size, held_words, no_chunk, one_each, small_part, sum_in, sum_of}
 use Rattle.object_layout.specs.Graph.{HasObjectAt}
@@ -14,7 +14,6 @@ use Rattle.object_layout.proofs.ChunkLaws as laws
 use Rattle.object_layout.proofs.Distinct.{Once}
 use Rattle.object_layout.proofs.PlaceLemmas as place
 use Rattle.listed.proofs.Members.{In}
-use Rattle.listed.proofs.Places.{read_in}
 use Rattle.alloc_path.specs.Counted.{AreCounted}
 use Rattle.alloc_path.specs.LeafHeapValue.{counted, IsReserved}
 use Rattle.alloc_path.specs.declared.counts.Counts.{Counts}
@@ -28,7 +27,7 @@ use Rattle.leaf_copy_gc.specs.Collected.{laying_of, moves_of}
 use Rattle.leaf_copy_gc.proofs.FollowLemmas.{size_led}
 use Rattle.leaf_copy_gc.proofs.LastChunk.{some_room}
 use Rattle.leaf_copy_gc.proofs.Moves as moves
-use Rattle.leaf_copy_gc.proofs.Naming.{in_unmap}
+use Rattle.leaf_copy_gc.proofs.Naming.{lives}
 use Rattle.leaf_copy_gc.proofs.Rooms as rooms
 
 -- ---- an object more
@@ -153,13 +152,8 @@ module _ (f : Option Addr → Option Addr) where
 
 module _ (h : List ChunkValue) (ss : List Survivor) (spare : List ChunkValue) (names : HaveNames h ss) (once : Once (olds ss)) (new : AreNew spare)
     (enough : 2 * ((small_words h + 1023) / 1024) ≤ length spare + 1) where
-  lives : (a : Addr) → In (olds ss) a → HasObjectAt h a
-  lives a i =
-      let u = in_unmap ss a i in
-      subst (HasObjectAt h) u.1.1 (subst IsBorn (sym (read_in (λ (x : Survivor). (cell_of h x.old).mark ≡ Born x.birth) ss u.0 u.1.0 names)) tt)
-
   small : (a : Addr) → In (smalls h (olds ss)) a → HasObjectAt h a × (is_small h a ≡ true)
-  small a i = let p = moves.in_smalls h (olds ss) a i in (lives a p.0, p.1)
+  small a i = let p = moves.in_smalls h (olds ss) a i in (lives h ss names a p.0, p.1)
 
   room : HaveRoom (before spare) h (smalls h (olds ss))
   room =

@@ -9,6 +9,7 @@ use Rattle.object_layout.specs.Cell.{Cell, Moved, moved_to, size_of, with_mark}
 use Rattle.object_layout.specs.ChunkValue.{ChunkValue}
 use Rattle.object_layout.specs.Place.{cell_at}
 use Rattle.object_layout.specs.Chunks.{cell_of, chunk_at}
+use Rattle.object_layout.proofs.Distinct.{is_same}
 use Rattle.alloc_path.specs.LeafHeapValue.{AreTidy, IsReserved, IsTidy}
 use Rattle.remembered_set.specs.Moved.{same_address}
 use Rattle.listed.proofs.Members.{In, contains_from_in, in_from_contains}
@@ -56,7 +57,7 @@ one_length (c ∷ (b ∷ cs)) ds e l = absurd (omega arith)
 
 pub any_here : (ss : List Survivor) (a : Addr) → In (olds ss) a → list_any (λ (s : Survivor). same_address s.old a) ss ≡ true
 any_here [] a i = absurd i
-any_here (s ∷ ss) a (inl e) = rw (moves.addr_itself s.old a e) refl
+any_here (s ∷ ss) a (inl e) = rw (is_same s.old a e) refl
 any_here (s ∷ ss) a (inr i) =
     elim (cases_Bool (same_address s.old a)) [
       | inl e ↦ rw e refl

@@ -1,13 +1,14 @@
 -- The tasks above a task, and what their heaps' objects refer to.
 use Rattle.std.proofs.Common.{◌≡◌, ℕ, zero, suc, ◌==◌, Bool, true, false, cond, not, Option, Some, None, List, [], ◌∷◌, slice_get, filter, ◌⊎◌, inl, inr, refl, ap, sym, subst, ◌∙◌, eqb, eqb-true, eq-eqb}
 use Rattle.std.specs.List.{flat_map}
-use Rattle.std.proofs.lemmas.Bool.{and_parts, and_from, or_cases, or_left, or_right, false≢true, not-true}
+use Rattle.std.proofs.lemmas.Bool.{and_parts, and_from, or_cases, or_right, false≢true, not-true}
 use Rattle.listed.proofs.Members.{In, contains_from_in, in_flat, flat_in, in_kept, in_from_kept, got_in}
 use Rattle.listed.proofs.Options.{same_truth}
 use Rattle.hh_model.specs.declared.data.Name.{Name}
 use Rattle.hh_model.specs.declared.data.State.{State}
 use Rattle.hh_model.specs.Names.{refs_at}
 use Rattle.hh_model.specs.Step.{owner_of, is_on_path, parents, path_by, through}
+use Rattle.hh_model.proofs.Climbs.{path_here}
 use Rattle.run_ledger.specs.declared.data.Heap.{Heap}
 use Rattle.run_ledger.specs.Reachable.{holds_name}
 use Rattle.run_ledger.specs.Heaps.{held, is_above}
@@ -26,10 +27,6 @@ same_holds ns ms f g n =
 
 -- PATHS
 
-path_itself : (par : ℕ → Option ℕ) (k a : ℕ) → path_by par k a a ≡ true
-path_itself par zero a = eq-eqb a a refl
-path_itself par (suc k) a = or_left (eqb a a) (through (par a) false (path_by par k a)) (eq-eqb a a refl)
-
 module _ (par : ℕ → Option ℕ) (k a : ℕ) (rest : (p : ℕ) → path_by par k a p ≡ true → (a ≡ p) ⊎ In (ancestors_by par k p) a) where
   up_from : (o : Option ℕ) → through o false (path_by par k a) ≡ true → In (through o [] (λ p. p ∷ ancestors_by par k p)) a
   up_from None h = absurd (false≢true h)
@@ -46,7 +43,7 @@ above_from_path par (suc k) a at h =
 module _ (par : ℕ → Option ℕ) (k a : ℕ) (rest : (p : ℕ) → In (ancestors_by par k p) a → path_by par k a p ≡ true) where
   down_from : (o : Option ℕ) → In (through o [] (λ p. p ∷ ancestors_by par k p)) a → through o false (path_by par k a) ≡ true
   down_from None i = absurd i
-  down_from (Some p) (inl e) = subst (λ q. path_by par k a q ≡ true) (sym e) (path_itself par k a)
+  down_from (Some p) (inl e) = subst (λ q. path_by par k a q ≡ true) (sym e) (path_here par k a a (eq-eqb a a refl))
   down_from (Some p) (inr i) = rest p i
 
 path_from_above : (par : ℕ → Option ℕ) (k a at : ℕ) → In (ancestors_by par k at) a → path_by par k a at ≡ true

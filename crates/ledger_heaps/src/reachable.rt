@@ -5,7 +5,7 @@ ghost use Rattle.std.specs.List.{flat_map};
 ghost use Rattle.std.specs.HashSet.{contains};
 ghost use Rattle.hh_model.specs.declared.data.Name.{Name};
 ghost use Rattle.hh_model.specs.Names.{refs_at, registers};
-ghost use Rattle.hh_model.specs.Step.{owner_of, parents};
+ghost use Rattle.hh_model.specs.Step.{owner_of};
 ghost use Rattle.run_ledger.specs.Reachable.{holds_name, is_name};
 ghost use Rattle.run_ledger.specs.Heaps.{frames_of, held, held_in, heap_of, is_above, roots_of, within};
 ghost use Rattle.ledger_heaps.specs.Accounts.{accounts, AreOwned};
@@ -114,22 +114,13 @@ fn ancestors(alloc: Global, machine: &State, t: u32) -> Result<Listed<u32>, Allo
     let mut above = Listed::new(alloc);
     let mut at = t;
     for _ in 0..t {
-        let Some(parent) = parent(machine, at) else {
+        let Some(parent) = machine.parent(at) else {
             return Ok(above);
         };
         above.push(parent)?;
         at = parent;
     }
     Ok(above)
-}
-
-fn parent(machine: &State, t: u32) -> Option<u32>
-    ensures { result ≡ parents machine.now.tasks t }
-{
-    match machine.tasks.get(t as usize) {
-        Some(task) => task.parent,
-        None => None,
-    }
 }
 
 // Meets what the objects of these tasks' heaps refer to, but for one task's.

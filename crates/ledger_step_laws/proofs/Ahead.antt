@@ -1,7 +1,8 @@
 -- Private steps of a task change nothing but what it owns, and depend on nothing but the machine and the account of its heap.
-use Rattle.std.proofs.Common.{is_some, ◌≡◌, ℕ, zero, suc, ◌+◌, Bool, true, false, cond, Option, Some, None, List, [], ◌∷◌, ◌++◌, length, slice_get, slice_set, inl, inr, refl, ap, ap₂, sym, subst, ◌∙◌, nat_le, length-set}
+use Rattle.std.proofs.Common.{is_some, ◌≡◌, ℕ, zero, suc, ◌+◌, Bool, true, false, cond, Option, Some, None, List, [], ◌∷◌, ◌++◌, length, slice_get, slice_set, inl, inr, refl, ap, ap₂, sym, subst, ◌∙◌, nat_le}
 use Rattle.std.proofs.lemmas.Bool.{false≢true, cases_eq, cond-true, cond-false}
 use Rattle.listed.proofs.Members.{got_same, got_other, same_view, view_step}
+use Rattle.listed.proofs.Places.{none_set}
 use Rattle.hh_lang.specs.Form.{ProgramText}
 use Rattle.run_trace.specs.Settings.{SettingsValue}
 use Rattle.hh_model.specs.declared.data.Name.{Name}
@@ -11,9 +12,9 @@ use Rattle.hh_model.specs.declared.data.Task.{Task}
 use Rattle.hh_model.specs.declared.data.State.{State}
 use Rattle.hh_model.specs.Effect.{object_at, put_object, row_of}
 use Rattle.hh_model.specs.Step.{step, can_step, is_running, is_waiting, is_joined, is_over, waits, is_on_path, path_in, owner_of, owner_in, parents, joined, parent_of, asked}
-use Rattle.hh_model.proofs.Paths.{owner_live}
 use Rattle.hh_model.proofs.Steps.{runs_is}
 use Rattle.hh_model.proofs.Taken.{can_runs}
+use Rattle.hh_model.proofs.Climbs.{owner_here}
 use Rattle.run_ledger.specs.declared.data.Heap.{Heap}
 use Rattle.run_ledger.specs.declared.data.Ledger.{Ledger}
 use Rattle.run_ledger.specs.Heaps.{heap_of, or_fresh, with_heap, with_heap_at, placed, let_go, lacks_room}
@@ -24,13 +25,9 @@ use Rattle.run_ledger.proofs.Steps.{SoundAt, task_step_sound}
 use Rattle.ledger_step_laws.specs.Accounts.{own, rested, ArePrivate, StepsAlone}
 use Rattle.ledger_step_laws.proofs.Private.{GoesOn, StoreBy, private_on}
 use Rattle.path_laws.proofs.Leaves.{can_going}
+use Rattle.path_laws.proofs.Objects.{put_rows}
 
 -- ROWS AND OBJECTS
-
-pub got_none : {A : Type 0} (xs : List A) (k : ℕ) (y : A) → slice_get xs k ≡ None → slice_get (slice_set xs k y) k ≡ None
-got_none [] k y e = e
-got_none (x ∷ xs) zero y e = absurd cc
-got_none (x ∷ xs) (suc k) y e = got_none xs k y e
 
 pub put_other : (store : List (List Object)) (m : Name) (y : Object) (n : Name) → (n ≡ m → ⊥) → object_at (put_object store m y) n ≡ object_at store n
 put_other store m y n ne = elim (cases_eq n.task m.task) [
@@ -42,22 +39,10 @@ put_other store m y n ne = elim (cases_eq n.task m.task) [
   where
     row : (o : Option (List Object)) → slice_get store m.task ≡ o → (n.count ≡ m.count → ⊥) → slice_get (row_of (slice_get (put_object store m y) m.task)) n.count ≡ slice_get (row_of (slice_get store m.task)) n.count
     row None is count =
-        ap (λ r. slice_get (row_of r) n.count) (got_none store m.task (slice_set (row_of (slice_get store m.task)) m.count y) is ∙ sym is)
+        ap (λ r. slice_get (row_of r) n.count) (none_set store m.task (slice_set (row_of (slice_get store m.task)) m.count y) is ∙ sym is)
     row (Some xs) is count =
         ap (λ r. slice_get (row_of r) n.count) (got_same store m.task xs (slice_set (row_of (slice_get store m.task)) m.count y) is)
         ∙ got_other (row_of (slice_get store m.task)) m.count n.count y count
-
-pub put_rows : (store : List (List Object)) (m : Name) (y : Object) (u : ℕ) → length (row_of (slice_get (put_object store m y) u)) ≡ length (row_of (slice_get store u))
-put_rows store m y u = elim (cases_eq u m.task) [
-  | inr off ↦ ap (λ r. length (row_of r)) (got_other store m.task u (slice_set (row_of (slice_get store m.task)) m.count y) off)
-  | inl e ↦ ap (λ k. length (row_of (slice_get (put_object store m y) k))) e ∙ (row (slice_get store m.task) refl ∙ ap (λ k. length (row_of (slice_get store k))) (sym e))
-]
-  where
-    row : (o : Option (List Object)) → slice_get store m.task ≡ o → length (row_of (slice_get (put_object store m y) m.task)) ≡ length (row_of (slice_get store m.task))
-    row None is = ap (λ r. length (row_of r)) (got_none store m.task (slice_set (row_of (slice_get store m.task)) m.count y) is ∙ sym is)
-    row (Some xs) is =
-        ap (λ r. length (row_of r)) (got_same store m.task xs (slice_set (row_of (slice_get store m.task)) m.count y) is)
-        ∙ length-set (row_of (slice_get store m.task)) m.count y
 
 -- ACCOUNTS OF AN ALLOCATION
 
@@ -150,7 +135,7 @@ module _ (p : ProgramText) (l : Ledger) (t : ℕ) (private : is_private p l.mach
     own_self : owner_of l.machine.tasks t ≡ t
     own_self =
         let run : x.status ≡ Running = runs_is x.status (ap is_running (sym is) ∙ can_runs l.machine t can) in
-        owner_live (parents l.machine.tasks) S.kept.tree.low (joined l.machine.tasks) t t (ap is_joined is ∙ ap is_over run)
+        owner_here (parents l.machine.tasks) (joined l.machine.tasks) t t (ap is_joined is ∙ ap is_over run)
 
     rows_by : (store : List (List Object)) → StoreBy l.machine t x store → (u : ℕ) → (u ≡ t → ⊥) → length (row_of (slice_get store u)) ≡ length (row_of (slice_get l.machine.store u))
     rows_by store (inl e) u ne = ap (λ s. length (row_of (slice_get s u))) e

@@ -27,15 +27,16 @@ use Rattle.hh_model.specs.Step.{strand_of, is_on_path, setting, fetched, step, f
 use Rattle.hh_model.proofs.Carried.{at_in, named_from_in}
 use Rattle.hh_model.proofs.ForkJoinStates.{seen}
 use Rattle.hh_model.proofs.Steps.{runs_is, names_run, in_registers}
-use Rattle.path_laws.proofs.Objects.{put_here}
+use Rattle.path_laws.proofs.Objects.{put_here, put_rows}
 use Rattle.path_laws.proofs.FreeReads.{own_reads}
 use Rattle.hh_model.proofs.Taken.{step_taken}
-use Rattle.hh_model.proofs.Paths.{owner_live}
+use Rattle.hh_model.proofs.Climbs.{owner_here}
 use Rattle.run_ledger.specs.declared.data.Ledger.{Ledger}
 use Rattle.run_ledger.specs.Heaps.{placed}
-use Rattle.run_ledger.specs.Steps.{allocated_by, task_step, touched, is_open, owns, works_alone, is_read, is_frozen, is_frozen_above, has_no_caller, is_private, is_private_by, is_private_line}
+use Rattle.run_ledger.specs.Steps.{allocated_by, task_step, touched, is_open, owns, works_alone, is_read, is_frozen, is_frozen_above, is_private, is_private_by, is_private_line}
 use Rattle.run_ledger.proofs.Machine.{task_step_machine}
-use Rattle.ledger_step_laws.proofs.Ahead.{put_other, put_rows, heap_after, heap_then, with_at, private_alone}
+use Rattle.ledger_step_laws.proofs.Ahead.{put_other, heap_after, heap_then, with_at, private_alone}
+use Rattle.ledger_step_laws.proofs.Private.{last_caller}
 use Rattle.ledger_step_laws.proofs.Rested.{name_cases}
 use Rattle.ledger_step_laws.specs.Accounts.{own, AlikeFor, Knows}
 
@@ -201,14 +202,6 @@ module _ (l l' : Ledger) (u : ℕ) (x : Task) (K : Knows l) (K' : Knows l') (A :
       | inr up ↦ above r go go' up each'
     ]
 
-    last_some : (fs : List Frame) → has_no_caller fs ≡ false → (f : Frame) × (last_of fs ≡ Some f)
-    last_some [] h = absurd (false≢true (sym h))
-    last_some (f ∷ fs) h = last f fs
-      where
-        last : (f : Frame) (fs : List Frame) → (g : Frame) × (last_of (f ∷ fs) ≡ Some g)
-        last f [] = (f, refl)
-        last f (g ∷ fs) = last g fs
-
     abbrev entered : ℕ → Task
     entered g = record x { top = entry_frame g x.top; below = x.below ++ onward x.top ∷ [] }
 
@@ -253,7 +246,7 @@ module _ (l l' : Ledger) (u : ℕ) (x : Task) (K : Knows l) (K' : Knows l') (A :
         either y.mutable _ (Traps Frozen) _ (Traps Frozen) (either (same_name (option_flatten (slice_get y.refs at)) (ref_in x.top e)) _ _ _ _ (put _ n y _ own e') (same _)) (traps Frozen (Traps Frozen))))
     good (Call g) c h = called_on g (nat_lt (length x.below + 1) frame_limit)
     good (Par f g) c h = absurd (false≢true (sym c))
-    good Ret c h = λ e. let r = last_some x.below c in returned_on (last_of x.below) r.0 r.1
+    good Ret c h = λ e. let r = last_caller x.below c in returned_on (last_of x.below) r.0 r.1
     good (Out a) c h = absurd (false≢true (sym c))
 
   -- ONE STEP
@@ -335,7 +328,7 @@ module _ (l l' : Ledger) (u : ℕ) (x : Task) (K : Knows l) (K' : Knows l') (A :
     stays' n = (private_alone p l' u private' K'.sound).tree.owners n.task
 
     own_self : owner_of m.tasks u ≡ u
-    own_self = owner_live (parents m.tasks) K.sound.kept.tree.low (joined m.tasks) u u (ap is_joined at_u ∙ ap is_over (runs_is x.status run))
+    own_self = owner_here (parents m.tasks) (joined m.tasks) u u (ap is_joined at_u ∙ ap is_over (runs_is x.status run))
 
     there : (row : List Object) × (slice_get m.store u ≡ Some row)
     there = row_there l u x K.rows at_u

@@ -13,8 +13,9 @@ use Rattle.hh_model.specs.declared.data.Task.{Task}
 use Rattle.hh_model.specs.declared.data.State.{State}
 use Rattle.hh_model.specs.Effect.{object_at, row_of, onward}
 use Rattle.hh_model.specs.Step.{is_joined, is_over, waits, is_left, is_on_path, path_in, path_by, through, owner_of, owner_in, parents, joined, parent_of, child, joined_task, resumed, join_of}
-use Rattle.hh_model.proofs.Paths.{AreLow, path_child, path_same, owner_same, owner_live, owner_joins}
+use Rattle.hh_model.proofs.Paths.{AreLow, path_child, path_same, owner_same, owner_joins}
 use Rattle.hh_model.proofs.Runs.{grown_at, grown_left, grown_right, grown_other, grown_past, grown_view, grown_view_front, three_top, three_left, three_right, three_other, three_view, drest, parr}
+use Rattle.hh_model.proofs.Climbs.{owner_here}
 use Rattle.run_ledger.specs.declared.data.Heap.{Heap}
 use Rattle.run_ledger.specs.declared.data.Ledger.{Ledger}
 use Rattle.run_ledger.specs.Heaps.{heap_of, or_fresh, with_heap, with_heap_at, let_go, held, held_in, roots_of, frames_of, is_above, fresh, within, swept_heap, collected, forked_heap, merged, emptied}
@@ -27,24 +28,18 @@ use Rattle.ledger_step_laws.specs.Accounts.{rested, ChangesHeap, Takes, SameTask
 use Rattle.run_ledger.specs.Sound.{SoundLedger}
 use Rattle.run_ledger.proofs.Reached.{once_by}
 use Rattle.run_ledger.proofs.Machine.{heap_machine}
+use Rattle.run_ledger.proofs.Frames.{heap_view}
 use Rattle.ledger_step_laws.specs.Kinds.{ForksTask, JoinsTasks}
 use Rattle.ledger_step_laws.proofs.Ahead.{with_at, with_off, heap_then}
 
 -- ONE HEAP
 
-heap_at_then : (l : Ledger) (t : ℕ) (f : Heap → Heap) → {A : Type 0} (view : Heap → A) → ((h : Heap) → view (f h) ≡ view h) → view (heap_of (with_heap l t f) t) ≡ view (heap_of l t)
-heap_at_then l t f view same = ap (λ o. view (or_fresh o)) (with_at l t f) ∙ by (slice_get l.heaps t)
-  where
-    by : (o : Option Heap) → view (or_fresh (heap_then f o)) ≡ view (or_fresh o)
-    by None = refl
-    by (Some h) = same h
-
 pub changes_heap : (l : Ledger) (t : ℕ) (f : Heap → Heap) → ((h : Heap) → (f h).worker ≡ h.worker) → ((h : Heap) → (f h).snapshot ≡ h.snapshot) → ChangesHeap l (with_heap l t f) t
 changes_heap l t f w s = record {
   machine = heap_machine l t f;
   others = λ u ne. ap or_fresh (with_off l t u f ne);
-  worker = heap_at_then l t f (λ h. h.worker) w;
-  snapshot = heap_at_then l t f (λ h. h.snapshot) s;
+  worker = heap_view (λ h. h.worker) l t f w t;
+  snapshot = heap_view (λ h. h.snapshot) l t f s t;
 }
 
 pub sweep_changes : (l : Ledger) (t : ℕ) → ChangesHeap l (with_heap l t swept_heap) t
@@ -180,7 +175,7 @@ module _ (l : Ledger) (t : ℕ) (x : Task) (g h n : ℕ) (edges : List Edge) (is
           ap (λ jd. owner_in (parents all) jd k) joined_same ∙ owner_same (parents tasks) (parents all) S.kept.tree.low a par_front (joined tasks) k k lk
       | inr ge ↦
           let none : joined tasks k ≡ false = ap is_joined (past k ge) in
-          owner_live (parents all) low' (joined all) k k (ap (λ jd. jd k) joined_same ∙ none) ∙ sym (owner_live (parents tasks) S.kept.tree.low (joined tasks) k k none)
+          owner_here (parents all) (joined all) k k (ap (λ jd. jd k) joined_same ∙ none) ∙ sym (owner_here (parents tasks) (joined tasks) k k none)
     ]
 
     path_all : (z u : ℕ) → (u ≡ a → ⊥) → (u ≡ a + 1 → ⊥) → is_on_path all z u ≡ is_on_path tasks z u

@@ -27,7 +27,7 @@ use Rattle.hh_model.specs.Precedence.{precedes}
 use Rattle.hh_model.specs.Step.{entry_frame, setting, fetched, step, follow, returned_to, last_return, child_ended_by, or_same, last_of, ended_by, with_task, can_step, depth_limit, frame_limit, owner_of, owner_in, path_in, parents, parent_of, resumed, joined, is_running, is_waiting, is_joined, is_over, is_left, sibling, result_at, result_in, result_of, ended_task, join_of, joined_task, child, strand, strand_of, edge, runs, waits, asked, asked_by, asked_line}
 use Rattle.hh_model.proofs.Closed.{asked_at, waits_is}
 use Rattle.hh_model.proofs.ForkJoinStates.{IsForkJoinState, step_is_fork_join_state}
-use Rattle.path_laws.proofs.Objects.{put_here}
+use Rattle.path_laws.proofs.Objects.{put_here, put_rows}
 use Rattle.path_laws.proofs.Leaves.{can_going}
 use Rattle.hh_model.proofs.Runs.{grown_at, three_left, three_right, running_tells, ended_tells, wp, parr}
 use Rattle.hh_model.proofs.Steps.{ended_stops}
@@ -41,8 +41,9 @@ use Rattle.ledger_step_laws.specs.Accounts.{own, Rests, rested, StepsAlone, Writ
 use Rattle.ledger_step_laws.specs.Kinds.{ForksTask, EndsTask, JoinsTasks, CanJoin}
 use Rattle.ledger_step_laws.specs.Last.{LastKind, Private, Reading, Writing, Printing, Forking, Ending, Joining, Finishing, Halting, IsOfKind, GoesOn, IsApart, IdleRest, OnlyAskersReserve, IsAt, JustReads, Wrote, stepped_by, EndsDone, Halts}
 use Rattle.run_ledger.proofs.Machine.{task_step_machine, heap_machine}
-use Rattle.ledger_step_laws.proofs.Ahead.{private_end, put_other, put_rows, with_off}
-use Rattle.ledger_step_laws.proofs.Rested.{rested_worker, rested_view}
+use Rattle.run_ledger.proofs.Frames.{heap_view}
+use Rattle.ledger_step_laws.proofs.Ahead.{private_end, put_other, with_off}
+use Rattle.ledger_step_laws.proofs.Rested.{rested_worker}
 use Rattle.ledger_step_laws.proofs.Entries.{fork_is, fork_is_names, fork_names, join_is, within_rested}
 
 -- LET GO OF
@@ -61,13 +62,6 @@ rest_is l t = by (slice_get l.heaps t)
 
 pub rest_heaps : (l l' : Ledger) (t : ℕ) → l'.heaps ≡ l.heaps → (rested l' t).heaps ≡ (rested l t).heaps
 rest_heaps l l' t e = rest_is l' t ∙ (ap (λ hs. rest_by hs t (slice_get hs t)) e ∙ sym (rest_is l t))
-
--- a heap of which the worker doesn't matter
-rested_of : {A : Type 0} (view : Heap → A) → ((h : Heap) → view (let_go h) ≡ view h) → (l : Ledger) (t u : ℕ) → view (heap_of (rested l t) u) ≡ view (heap_of l u)
-rested_of view same l t u = elim (cases_eq u t) [
-  | inl e ↦ ap (λ k. view (heap_of (rested l t) k)) e ∙ (rested_view view same l t ∙ ap (λ k. view (heap_of l k)) (sym e))
-  | inr ne ↦ ap (λ o. view (or_fresh o)) (with_off l t u let_go ne)
-]
 
 -- A STEP OF t CHANGES ITS TASK, AND AT MOST ONE OBJECT
 
@@ -436,7 +430,7 @@ module _ (p : ProgramText) (l : Ledger) (t : ℕ) (x : Task) (line : Line) (K : 
         right_apart = F.right_apart;
         two = F.two;
         names = F.names;
-        heap = F.heap ∙ sym (rested_of (forked_heap F.names) (λ h. refl) l t t);
+        heap = F.heap ∙ sym (heap_view (forked_heap F.names) l t let_go (λ h. refl) t);
         heap_left = F.heap_left;
         heap_right = F.heap_right;
         heaps = λ u a b c. F.heaps u a b c ∙ ap or_fresh (sym (with_off l t u let_go a));
@@ -545,10 +539,10 @@ module _ (p : ProgramText) (l : Ledger) (t : ℕ) (x : Task) (line : Line) (K : 
         heap =
             J.heap
             ∙ (ap (λ h. merged h (heap_of l c) (heap_of l (c + 1))) (ap or_fresh (sym (with_off l t parent let_go np)))
-            ∙ (sym (rested_of (λ h. merged (heap_of (rested l t) parent) h (heap_of l (c + 1))) (λ h. refl) l t c)
-            ∙ sym (rested_of (λ h. merged (heap_of (rested l t) parent) (heap_of (rested l t) c) h) (λ h. refl) l t (c + 1))));
-        heap_left = J.heap_left ∙ sym (rested_of emptied (λ h. refl) l t c);
-        heap_right = J.heap_right ∙ sym (rested_of emptied (λ h. refl) l t (c + 1));
+            ∙ (sym (heap_view (λ h. merged (heap_of (rested l t) parent) h (heap_of l (c + 1))) l t let_go (λ h. refl) c)
+            ∙ sym (heap_view (λ h. merged (heap_of (rested l t) parent) (heap_of (rested l t) c) h) l t let_go (λ h. refl) (c + 1))));
+        heap_left = J.heap_left ∙ sym (heap_view emptied l t let_go (λ h. refl) c);
+        heap_right = J.heap_right ∙ sym (heap_view emptied l t let_go (λ h. refl) (c + 1));
         heaps = λ u a b d. J.heaps u a b d ∙ ap or_fresh (sym (with_off l t u let_go (λ e. elim which [ inl q ↦ b (e ∙ q) | inr q ↦ d (e ∙ q) ])));
       }
 
@@ -575,7 +569,7 @@ module _ (p : ProgramText) (l : Ledger) (t : ℕ) (x : Task) (line : Line) (K : 
 
       -- no chunk is reserved for who doesn't ask for words
       none_spare : (u : ℕ) (y : Task) → slice_get m.tasks u ≡ Some y → (u ≡ t) ⊎ (runs y.status ≡ false) → (heap_of (rested l t) u).reserved ≡ 0
-      none_spare u y is which = rested_of (λ h. h.reserved) (λ h. refl) l t u ∙ spare u (elim which [
+      none_spare u y is which = heap_view (λ h. h.reserved) l t let_go (λ h. refl) u ∙ spare u (elim which [
         | inl e ↦ ap (asked p m) e ∙ (asked_at p m t x I.task running ∙ (ap (asked_line m.field_limit x.top) I.next ∙ none_ret))
         | inr stopped ↦ ap (asked_by p m) is ∙ ap (λ b. cond b (asked_line m.field_limit y.top (fetched p y.top)) None) stopped
       ])

@@ -13,6 +13,7 @@ use Rattle.ledger_step_laws.proofs.Ahead.{heap_then, with_at}
 use Rattle.hh_model.specs.Store.{IsStored}
 use Rattle.hh_model.specs.Closed.{Closed}
 use Rattle.run_ledger.proofs.Machine.{heap_machine}
+use Rattle.run_ledger.proofs.Frames.{heap_view}
 
 pub name_cases : (m n : Name) → (m ≡ n) ⊎ (m ≡ n → ⊥)
 name_cases m n = elim (cases_eq m.task n.task) [
@@ -31,11 +32,7 @@ rested_worker l t = ap (λ o. (or_fresh o).worker) (with_at l t let_go) ∙ by (
     by (Some h) = refl
 
 pub rested_view : {A : Type 0} (view : Heap → A) → ((h : Heap) → view (let_go h) ≡ view h) → (l : Ledger) (t : ℕ) → view (heap_of (rested l t) t) ≡ view (heap_of l t)
-rested_view view same l t = ap (λ o. view (or_fresh o)) (with_at l t let_go) ∙ by (slice_get l.heaps t)
-  where
-    by : (o : Option Heap) → view (or_fresh (heap_then let_go o)) ≡ view (or_fresh o)
-    by None = refl
-    by (Some h) = same h
+rested_view view same l t = heap_view view l t let_go same t
 
 pub rested_sound : (l : Ledger) (t : ℕ) → SoundLedger l → SoundLedger (rested l t)
 rested_sound l t S = by (slice_get l.heaps t) refl

@@ -30,6 +30,17 @@ got_set [] k y lt = absurd (omega arith)
 got_set (x ∷ xs) zero y lt = refl
 got_set (x ∷ xs) (suc k) y lt = got_set xs k y (omega arith)
 
+-- past its end a list stays as it is
+pub none_set : {A : Type 0} (xs : List A) (k : ℕ) (y : A) → slice_get xs k ≡ None → slice_get (slice_set xs k y) k ≡ None
+none_set [] k y e = e
+none_set (x ∷ xs) zero y e = absurd cc
+none_set (x ∷ xs) (suc k) y e = none_set xs k y e
+
+-- what stands behind the items of a list
+pub got_middle : {A : Type 0} (xs : List A) (x : A) (ys : List A) → slice_get (xs ++ x ∷ ys) (length xs) ≡ Some x
+got_middle [] x ys = refl
+got_middle (y ∷ xs) x ys = got_middle xs x ys
+
 pub got_last : {A : Type 0} (xs : List A) (y : A) → slice_get (xs ++ y ∷ []) (length xs) ≡ Some y
 got_last [] y = refl
 got_last (x ∷ xs) y = got_last xs y
@@ -68,11 +79,27 @@ in_map f [] x i = absurd i
 in_map f (y ∷ ys) x (inl e) = inl (ap f e)
 in_map f (y ∷ ys) x (inr i) = inr (in_map f ys x i)
 
+-- an item of the mapped list comes from one of the list
+pub map_in : {A B : Type 0} (f : A → B) (xs : List A) (y : B) → In (map f xs) y → (x : A) × In xs x × (f x ≡ y)
+map_in f [] y i = absurd i
+map_in f (x ∷ xs) y (inl e) = (x, inl refl, e)
+map_in f (x ∷ xs) y (inr i) = let r = map_in f xs y i in (r.0, inr r.1, r.2)
+
 pub in_take : {A : Type 0} (k : ℕ) (xs : List A) (z : A) → In (take k xs) z → In xs z
 in_take zero xs z h = absurd h
 in_take (suc k) [] z h = h
 in_take (suc k) (x ∷ xs) z (inl e) = inl e
 in_take (suc k) (x ∷ xs) z (inr h) = inr (in_take k xs z h)
+
+pub take_more_in : {A : Type 0} (xs : List A) (k : ℕ) (y : A) → In (take k xs) y → In (take (k + 1) xs) y
+take_more_in [] zero y i = absurd i
+take_more_in [] (suc k) y i = absurd i
+take_more_in (z ∷ zs) zero y i = absurd i
+take_more_in (z ∷ zs) (suc k) y i = let n : suc k + 1 ≡ suc (k + 1) = omega arith in rw n (go (take_more_in zs k y) i)
+  where
+    go : (In (take k zs) y → In (take (k + 1) zs) y) → In (z ∷ take k zs) y → In (z ∷ take (k + 1) zs) y
+    go rest (inl f) = inl f
+    go rest (inr j) = inr (rest j)
 
 -- the first items and the next one
 pub got_in_take : {A : Type 0} (xs : List A) (k : ℕ) (x : A) → slice_get xs k ≡ Some x → In (take (k + 1) xs) x

@@ -19,6 +19,10 @@ use Rattle.loop_nest_laws.proofs.Children.{ForksAndGoesOn, forks_and_goes_on, re
 use Rattle.loop_nest_laws.proofs.Ends.{comes_to_last}
 use Rattle.loop_nest_laws.proofs.Registers.{int_set, int_other, nil_set, code_at, Holds, sets_13, sets_14, moved}
 
+-- an instruction that stays in its function goes on to the next place
+pub onto : (k n : ℕ) → k + 1 ≡ n → (F : Frame → Frame) → ((f : Frame) → (F f).function ≡ f.function) → ((f : Frame) → (F f).next ≡ f.next + 1) → (f : Frame) → f.next ≡ k → ((F f).function ≡ f.function) × ((F f).next ≡ n)
+onto k n e F fun next f at = (fun f, next f ∙ (ap (λ z. z + 1) at ∙ e))
+
 module _ (p : ProgramText) (limit : ℕ) (ts : List ℕ) (a : Activation) (bs : List Frame) (d m : ℕ) (w : Takes p limit ts a m) (is_ret : w.line.instr ≡ Ret) (high : length bs ≡ a.height) where
   -- the frame has come by plain steps to this place of this function, and X holds of it
   pub record At (i q k : ℕ) (X : Frame → Type 0) : Type 0 where
@@ -65,9 +69,6 @@ module _ (p : ProgramText) (limit : ℕ) (ts : List ℕ) (a : Activation) (bs : 
 
     abbrev Has : ℤ → ℤ → Frame → Type 0
     Has first last f = Holds g f first last
-
-    onto : (k n : ℕ) → k + 1 ≡ n → (F : Frame → Frame) → ((f : Frame) → (F f).function ≡ f.function) → ((f : Frame) → (F f).next ≡ f.next + 1) → (f : Frame) → f.next ≡ k → ((F f).function ≡ f.function) × ((F f).next ≡ n)
-    onto k n e F fun next f at = (fun f, next f ∙ (ap (λ z. z + 1) at ∙ e))
 
     -- a jump
     jumps : (b : Bool) (f : Frame) (to : ℕ) (s : Setting) (store : List (List Object)) → int_in f 14 ≡ flag b → effect s f store (Jz 14 to) ≡ Goes (cond b (onward f) (record f { next = to })) store

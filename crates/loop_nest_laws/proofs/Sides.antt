@@ -16,7 +16,7 @@ use Rattle.loop_nest_laws.proofs.Turns.{OnTop, IsPlain}
 use Rattle.loop_nest_laws.proofs.Calls.{calls_and_goes_on, handed}
 use Rattle.loop_nest_laws.proofs.Nests.{middle}
 use Rattle.loop_nest_laws.proofs.Registers.{int_set, int_other, nil_set, code_at, Holds, sets_13, sets_14, sets_0, sets_1, moved}
-use Rattle.loop_nest_laws.proofs.Frames.{At, next_at, ends_at, begin_at}
+use Rattle.loop_nest_laws.proofs.Frames.{At, next_at, ends_at, begin_at, onto}
 
 module _ (p : ProgramText) (limit : ℕ) (ts : List ℕ) (a : Activation) (bs : List Frame) (d m : ℕ) (w : Takes p limit ts a m) (is_ret : w.line.instr ≡ Ret) (high : length bs ≡ a.height)
     (loop : Loop) (g : Frame) (first last : ℤ) where
@@ -37,9 +37,6 @@ module _ (p : ProgramText) (limit : ℕ) (ts : List ℕ) (a : Activation) (bs : 
     pub back : HandsBack p limit ts (called_frame a k0) e number ref
     pub result : ref ≡ None → result_of w.task.top ≡ (number, None)
     pub only : (j : ℕ) (v : Takes p limit ts a j) → i ≤ j → IsPlain v.line.instr ⊎ ((j ≡ k0) × (v.line.instr ≡ Call loop.whole))
-
-  onto : (k n : ℕ) → k + 1 ≡ n → (F : Frame → Frame) → ((f : Frame) → (F f).function ≡ f.function) → ((f : Frame) → (F f).next ≡ f.next + 1) → (f : Frame) → f.next ≡ k → ((F f).function ≡ f.function) × ((F f).next ≡ n)
-  onto k n e F fun next f at = (fun f, next f ∙ (ap (λ z. z + 1) at ∙ e))
 
   module _ (q : ℕ) (code : List Instr) (is : instrs_of p q ≡ code)
       (at0 : slice_get code 0 ≡ Some (Set 13 (pos 2))) (at1 : slice_get code 1 ≡ Some (Calc Sub 14 1 0)) (at2 : slice_get code 2 ≡ Some (Calc Div 14 14 13)) (at4 : slice_get code 4 ≡ Some (Call loop.whole)) (at5 : slice_get code 5 ≡ Some Ret) where

@@ -1,13 +1,13 @@
 -- Laws of objects by their addresses: where a chunk is found, and what is at an address after a put
 -- or a push.
-use Rattle.std.proofs.Common.{◌≡◌, ℕ, zero, suc, ◌<◌, ◌≤◌, true, false, List, [], ◌∷◌, ◌++◌, length, length-set, get_or, set, refl, sym, ap, ◌∙◌, arith, ⊎_elim, inl, inr, ◌⊎◌, eqb, one-add}
+use Rattle.std.proofs.Common.{◌≡◌, ℕ, zero, suc, ◌<◌, ◌≤◌, true, false, List, [], ◌∷◌, ◌++◌, length, length-set, get_or, set, refl, sym, ap, subst, ◌∙◌, arith, ⊎_elim, inl, inr, ◌⊎◌, eqb, one-add}
 use Rattle.std.specs.Prelude.{◌≢◌, Option, Some, None, slice_set}
 use Rattle.std.proofs.lemmas.Bool.{cases_Bool, cases_eq, cases_lt, eqb-true, le-ltb, lt-ltb}
 use Rattle.std.proofs.lemmas.List.{get_or-set_same}
 use Rattle.object_layout.specs.declared.word.Addr.{Addr}
 use Rattle.object_layout.specs.Cell.{Cell, Mark, Born, Moved, Hole, IsBorn, IsObject, as_object, no_cell, with_ref, size_of}
 use Rattle.object_layout.specs.ChunkValue.{ChunkValue}
-use Rattle.object_layout.specs.Place.{cell_at, words_in}
+use Rattle.object_layout.specs.Place.{cell_at, put_cell, words_in}
 use Rattle.object_layout.proofs.PlaceLemmas as place
 use Rattle.object_layout.specs.Chunks.{cell_of, chunk_at, next_address, no_chunk, object_of, place_in, place_of, push_object, put_object, with_cell}
 use Rattle.object_layout.proofs.PlaceLemmas.{object_of_born}
@@ -149,6 +149,33 @@ cell_of-put_same (k ∷ ks) a c o =
     (λ (e : eqb k.number a.chunk ≡ true). let p = rw e at o in rw (e, e) (place.cell_at-put_same k.cells a.offset c (place.cell_of_object k.cells a.offset p)))
     (λ (e : eqb k.number a.chunk ≡ false). let p = rw e at o in rw (e, e) (cell_of-put_same ks a c p))
     (cases_Bool (eqb k.number a.chunk))
+
+-- what was put is there, or no object or hole is
+cell_put : (cs : List Cell) (at : ℕ) (c : Cell) → (cell_at (put_cell cs at c) at ≡ c) ⊎ ((cell_at (put_cell cs at c) at ≡ cell_at cs at) × (cell_at cs at ≡ no_cell))
+cell_put cs at c =
+    elim (place.cell_or_none cs at) [
+      | inl o ↦ inl (place.cell_at-put_same cs at c o)
+      | inr o ↦ inr (ap (λ (xs : List Cell). cell_at xs at) (place.put_nowhere cs at c o.0), o.1)
+    ]
+
+pub put_cases : (h : List ChunkValue) (a : Addr) (c : Cell) → (cell_of (put_object h a c) a ≡ c) ⊎ ((cell_of (put_object h a c) a ≡ cell_of h a) × (cell_of h a ≡ no_cell))
+put_cases [] a c = inr (refl, refl)
+put_cases (k ∷ ks) a c =
+    ⊎_elim
+    (λ (e : eqb k.number a.chunk ≡ true). rw (e, e) (cell_put k.cells a.offset c))
+    (λ (e : eqb k.number a.chunk ≡ false). rw (e, e) (put_cases ks a c))
+    (cases_Bool (eqb k.number a.chunk))
+
+-- marks stay, where the cell put there bears the same one and is as large
+pub mark_put : (h : List ChunkValue) (x : Addr) (c : Cell) → c.mark ≡ (cell_of h x).mark → size_of c ≡ size_of (cell_of h x) → (a : Addr) → (cell_of (put_object h x c) a).mark ≡ (cell_of h a).mark
+mark_put h x c m s a =
+    elim (addr_cases x a) [
+      | inl e ↦ subst (λ (y : Addr). (cell_of (put_object h x c) y).mark ≡ (cell_of h y).mark) e (elim (put_cases h x c) [
+        | inl p ↦ ap (λ (d : Cell). d.mark) p ∙ m
+        | inr p ↦ ap (λ (d : Cell). d.mark) p.0
+      ])
+      | inr n ↦ ap (λ (d : Cell). d.mark) (cell_of-put_other h x a c s (λ e. n (sym e)))
+    ]
 
 pub object_of-put_other : (ks : List ChunkValue) (a b : Addr) (c : Cell) → size_of c ≡ size_of (cell_of ks a) → b ≢ a →
     object_of (put_object ks a c) b ≡ object_of ks b

@@ -1,5 +1,5 @@
 -- Lists in which no address stands twice.
-use Rattle.std.proofs.Common.{◌≡◌, ℕ, zero, suc, ◌==◌, true, false, List, [], ◌∷◌, ◌++◌, take, Contains, inl, inr, refl, sym, subst}
+use Rattle.std.proofs.Common.{◌≡◌, ℕ, zero, suc, ◌==◌, true, false, List, [], ◌∷◌, ◌++◌, take, Contains, inl, inr, refl, ap, sym, subst}
 use Rattle.std.specs.List.{AllByRecursion, IsDistinct}
 use Rattle.std.proofs.lemmas.Bool.{and_from, and_parts, both_ways, eq-eqb, eqb-true, false_from_ne_true}
 use Rattle.listed.proofs.Members.{In, contains_from_in, in_append_cases, in_from_contains}
@@ -17,6 +17,9 @@ pub same_is : (a b : Addr) → same_address a b ≡ true → a ≡ b
 same_is a b e =
     let p = and_parts (a.chunk == b.chunk) (a.offset == b.offset) e in
     same_addr a b (eqb-true a.chunk b.chunk p.0) (eqb-true a.offset b.offset p.1)
+
+pub is_same : (a b : Addr) → a ≡ b → same_address a b ≡ true
+is_same a b e = and_from (a.chunk == b.chunk) (a.offset == b.offset) (eq-eqb a.chunk b.chunk (ap (λ (x : Addr). x.chunk) e)) (eq-eqb a.offset b.offset (ap (λ (x : Addr). x.offset) e))
 
 pub same_self : (a : Addr) → same_address a a ≡ true
 same_self a = and_from (a.chunk == a.chunk) (a.offset == a.offset) (eq-eqb a.chunk a.chunk refl) (eq-eqb a.offset a.offset refl)

@@ -1,5 +1,5 @@
 -- The objects that are read from cells, and the cells.
-use Rattle.std.proofs.Common.{◌≡◌, ℕ, zero, suc, ◌+◌, ◌-◌, ◌<◌, ◌≤◌, ◌==◌, arith, Bool, true, false, cond, List, [], ◌∷◌, length, nat_le, inl, inr, refl, ap, sym, subst, ◌∙◌, eq-eqb, ne_eqb, le-leb}
+use Rattle.std.proofs.Common.{◌≡◌, ℕ, zero, suc, ◌+◌, ◌-◌, ◌<◌, ◌≤◌, ◌==◌, arith, Bool, true, false, cond, List, [], ◌∷◌, length, nat_le, inl, inr, refl, ap, sym, subst, ◌∙◌, eq-eqb, ne_eqb}
 use Rattle.std.proofs.lemmas.Bool.{cond-true, cond-false, eqb-true, leb-true, false≢true}
 use Rattle.listed.proofs.Members.{In, any_from_in, contains_from_in, flat_in, got_in, in_flat, in_from_contains}
 use Rattle.object_layout.specs.declared.word.Addr.{Addr}
@@ -11,6 +11,7 @@ use Rattle.object_layout.specs.Place.{cell_at}
 use Rattle.object_layout.specs.Objects.{Located, located, located_by, objects_from, objects_in, objects_of}
 use Rattle.object_layout.specs.ObjectLaws.{LiesThere, ObjectsHaveChunks, ObjectsLieThere}
 use Rattle.object_layout.proofs.Owning.{found_any, fresh_none}
+use Rattle.object_layout.proofs.PlaceLemmas.{cell_at-past}
 
 -- ---- the cells of one chunk
 
@@ -21,13 +22,6 @@ behind number at c Hole os o i = i
 
 pub first : (number at : ℕ) (c : Cell) (m : Mark) (b : Birth) (os : List Located) → m ≡ Born b → In (located_by number at c m os) (located number at b c)
 first number at c m b os e = subst (λ z. In (located_by number at c z os) (located number at b c)) (sym e) (inl refl)
-
--- what begins behind a cell
-pub cell_skip : (c : Cell) (cs : List Cell) (off k : ℕ) → k ≡ size_of c + off → cell_at (c ∷ cs) k ≡ cell_at cs off
-cell_skip c cs off zero e = absurd (omega (arith, e))
-cell_skip c cs off (suc n) e =
-    cond-true (nat_le (size_of c) (suc n)) (cell_at cs (suc n - size_of c)) no_cell (le-leb (size_of c) (suc n) (omega (arith, e)))
-    ∙ ap (cell_at cs) (omega (arith, e))
 
 -- a cell that bears a name is read
 pub cell_read : (cs : List Cell) (number base off at : ℕ) (b : Birth) → at ≡ base + off → (cell_at cs off).mark ≡ Born b → In (objects_from number base cs) (located number at b (cell_at cs off))
@@ -53,7 +47,7 @@ record Found (number base : ℕ) (cs : List Cell) (o : Located) : Type 0 where
 
 found_behind : (number base : ℕ) (c : Cell) (cs : List Cell) (o : Located) → Found number (base + size_of c) cs o → Found number base (c ∷ cs) o
 found_behind number base c cs o f =
-    let e : cell_at (c ∷ cs) (size_of c + f.off) ≡ cell_at cs f.off = cell_skip c cs f.off (size_of c + f.off) refl in
+    let e : cell_at (c ∷ cs) (size_of c + f.off) ≡ cell_at cs f.off = cell_at-past c cs f.off (size_of c + f.off) refl in
     let a : base + size_of c + f.off ≡ base + (size_of c + f.off) = omega arith in
     record {
       off = size_of c + f.off;

@@ -1,11 +1,12 @@
 -- What the words of an object tell.
-use Rattle.std.proofs.Common.{◌≡◌, ℕ, zero, suc, ◌+◌, ◌-◌, ◌<◌, ◌≤◌, ◌^◌, Bool, true, false, List, [], ◌∷◌, length, get_or, eqb, refl, sym, ap, ◌∙◌, arith, Some, None, Option}
+use Rattle.std.proofs.Common.{◌≡◌, ℕ, suc, ◌+◌, ◌-◌, ◌<◌, ◌≤◌, ◌^◌, Bool, true, false, length, get_or, eqb, refl, sym, ap, ◌∙◌, arith, Some, None, Option}
 use Rattle.std.specs.Prelude.{map, pos, slice_get, slice_index, FitsSigned, IsTrue, ◌↔◌, not, ◌≢◌}
 use Rattle.std.specs.Int.{w64, cast_unsigned, cast_signed}
 use Rattle.std.proofs.lemmas.List.{get_or_append_left, get_or-map, length-map, get_or-append_right}
 use Rattle.std.proofs.lemmas.List.Elements.{All-get_or}
 use Rattle.std.proofs.lemmas.Bool.{eq-eqb, ne_eqb}
 use Rattle.std.proofs.lemmas.Int.{to_z-of_z}
+use Rattle.std.proofs.lemmas.Option.{slice_get-get_or}
 use Rattle.object_layout.specs.declared.word.Addr.{Addr}
 use Rattle.object_layout.specs.declared.word.Header.{Header}
 use Rattle.object_layout.specs.Cell.{Cell, Mark, Born, Moved, Hole, IsCell, IsMark, IsPlace, IsRef, IsBorn, IsObject, moved_to, header_of}
@@ -35,11 +36,6 @@ int_is c k l =
     let f : length c.refs + k - length c.refs ≡ k = omega arith in
     rw e (get_or-append_right (map word_of_ref c.refs) (map (cast_unsigned w64) c.ints) (length c.refs) (length c.refs + k) 0 (length-map c.refs word_of_ref) (omega arith)
     ∙ rw f (get_or-map (cast_unsigned w64) c.ints k (pos 0) 0 l))
-
-slice_get_at : {X : Type 0} (xs : List X) (k : ℕ) (d : X) → k < length xs → slice_get xs k ≡ Some (get_or xs k d)
-slice_get_at [] k d l = absurd (omega arith)
-slice_get_at (x ∷ xs) zero d l = refl
-slice_get_at (x ∷ xs) (suc k) d l = slice_get_at xs k d (omega arith)
 
 pub IsPlace-from_ref : (r : Option Addr) → IsRef r → IsPlace r
 IsPlace-from_ref None h = tt
@@ -80,13 +76,13 @@ module _ (c : Cell) (ok : IsCell c) (w : ℕ) where
   ref_read k l e =
       let at : IsRef (get_or c.refs k None) = All-get_or IsRef c.refs k None l ok.refs in
       let back = ref_of_word-word_of_ref (get_or c.refs k None) at in
-      rw (e, ref_is c k l) (word_of_ref-lt (get_or c.refs k None) at, slice_get_at c.refs k None l ∙ ap Some (sym back), rw back (IsPlace-from_ref _ at))
+      rw (e, ref_is c k l) (word_of_ref-lt (get_or c.refs k None) at, slice_get-get_or c.refs k None l ∙ ap Some (sym back), rw back (IsPlace-from_ref _ at))
 
   pub int_read : (k : ℕ) → k < length c.ints → w ≡ slice_index (words_of_cell c) (2 + (length c.refs + k)) →
       slice_get c.ints k ≡ Some (cast_signed w64 w)
   int_read k l e =
       let at : FitsSigned w64 (get_or c.ints k (pos 0)) = All-get_or (FitsSigned w64) c.ints k (pos 0) l ok.ints in
-      rw (e, int_is c k l) (slice_get_at c.ints k (pos 0) l ∙ ap Some (sym (to_z-of_z w64 (get_or c.ints k (pos 0)) at)))
+      rw (e, int_is c k l) (slice_get-get_or c.ints k (pos 0) l ∙ ap Some (sym (to_z-of_z w64 (get_or c.ints k (pos 0)) at)))
 
 pub not_gone_moved : (m : Mark) → is_gone m ≡ false → moved_to m ≡ None
 not_gone_moved (Born b) h = refl

@@ -42,7 +42,7 @@ module _ (w : SharedValue) (k : ℕ) (p : Private) (I : IsSharedValue w) (F : Fi
   beyond_other beyond line next f r =
       let g = frame w k p I F on in
       let at : fetched w.program X.top ≡ Some line = ap₂ (line_at w.program) (sym g.function) (sym g.next) ∙ next in
-      let same = machine_same w k p I F shared on in
+      let same = machine_same w k p I F on in
       let is = (link.A w k p I F on).is in
       let h : is_beyond_line m t X (Some line) ≡ true =
       ap (is_beyond_line m t X) (sym at) ∙ (ap (is_beyond_by w.program m t) (sym is) ∙ (ap (λ (z : State). is_beyond w.program z t) (sym same) ∙ beyond)) in

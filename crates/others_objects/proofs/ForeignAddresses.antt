@@ -1,14 +1,16 @@
 -- Addresses of names: which are the same, where one name's owner rests.
-use Rattle.std.proofs.Common.{◌≡◌, ◌==◌, true, Option, Some, None, refl, ap, ap₂, sym, subst, ◌∙◌, eq-eqb}
-use Rattle.std.proofs.lemmas.Bool.{eqb-true, and_parts, and_from}
+use Rattle.std.proofs.Common.{◌≡◌, ◌==◌, true, Option, Some, None, refl, ap, sym, subst, ◌∙◌, eq-eqb}
+use Rattle.std.proofs.lemmas.Bool.{and_from}
 use Rattle.std.proofs.lemmas.Option.{same_Some}
 use Rattle.hh_model.specs.declared.data.Name.{Name}
 use Rattle.hh_model.specs.Effect.{same_name}
 use Rattle.run_ledger.specs.declared.data.Ledger.{Ledger}
+use Rattle.run_ledger.proofs.Members.{same_from_is_name}
 use Rattle.object_layout.specs.declared.word.Addr.{Addr}
 use Rattle.object_layout.specs.Chunks.{same_address}
 use Rattle.object_layout.specs.References.{same_reference}
 use Rattle.object_layout.specs.Objects.{Located}
+use Rattle.object_layout.proofs.Distinct.{is_same, same_is}
 use Rattle.ledger_step_laws.specs.Accounts.{Rests, own}
 use Rattle.core_relation.specs.Memory.{Lies, Memory, object_name}
 use Rattle.core_relation.specs.Reads.{Reads}
@@ -36,24 +38,11 @@ module _ (v : Memory) (l : Ledger) (W : Stands v l) where
         let same : x.0 ≡ there.0 = (W.belongings (own l m) rests).named x.0 there.0 x.1 there.1 (x.2.name ∙ sym there.2.name) in
         sym x.2.at ∙ (ap (λ (z : Located). z.at) same ∙ there.2.at)
 
-    address_is : same_address a b ≡ true → a ≡ b
-    address_is h =
-        let q = and_parts (a.chunk == b.chunk) (a.offset == b.offset) h in
-        ap₂ (λ x y. let z : Addr = record { chunk = x; offset = y } in z) (eqb-true a.chunk b.chunk q.0) (eqb-true a.offset b.offset q.1)
-
-    name_is : same_name (Some n) (Some m) ≡ true → n ≡ m
-    name_is h =
-        let q = and_parts (n.task == m.task) (n.count == m.count) h in
-        ap₂ (λ x y. let z : Name = record { task = x; count = y } in z) (eqb-true n.task m.task q.0) (eqb-true n.count m.count q.1)
-
-    is_address : a ≡ b → same_address a b ≡ true
-    is_address e = and_from (a.chunk == b.chunk) (a.offset == b.offset) (eq-eqb a.chunk b.chunk (ap (λ (z : Addr). z.chunk) e)) (eq-eqb a.offset b.offset (ap (λ (z : Addr). z.offset) e))
-
     is_name : n ≡ m → same_name (Some n) (Some m) ≡ true
     is_name e = and_from (n.task == m.task) (n.count == m.count) (eq-eqb n.task m.task (ap (λ (z : Name). z.task) e)) (eq-eqb n.count m.count (ap (λ (z : Name). z.count) e))
 
     same_some : same_address a b ≡ same_name (Some n) (Some m)
-    same_some = same_truth (same_address a b) (same_name (Some n) (Some m)) (λ h. is_name (one_name (address_is h))) (λ h. is_address (one_place (name_is h)))
+    same_some = same_truth (same_address a b) (same_name (Some n) (Some m)) (λ h. is_name (one_name (same_is a b h))) (λ h. is_same a b (one_place (same_from_is_name n m h)))
 
   -- so the tests of references and of names are the same
   pub tests_same : (a b : Option Addr) (n m : Option Name) → Reads (Place v l) a n → Reads (Place v l) b m → ((z : Name) → m ≡ Some z → Rests l (own l z)) → same_reference a b ≡ same_name n m

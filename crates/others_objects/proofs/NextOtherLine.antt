@@ -114,7 +114,7 @@ module _ (w : SharedValue) (k : ℕ) (p : Private) (I : IsSharedValue w) (F : Fi
         touches_by M.machine.tasks t X.top line.instr (touched X.top line.instr) refl
         (ap (λ o. is_other_line M.machine t X o) (sym at)
         ∙ (ap (is_other_by w.program M.machine t) (sym (link.A w k p I F on).is)
-        ∙ (ap (λ (m : State). is_other w.program m t) (sym (machine_same w k p I F shared on)) ∙ other)))
+        ∙ (ap (λ (m : State). is_other w.program m t) (sym (machine_same w k p I F on)) ∙ other)))
 
     abbrev pub n : Name
     n = touches.name

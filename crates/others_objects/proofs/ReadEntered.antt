@@ -18,7 +18,7 @@ use Rattle.core_relation.specs.Fits.{part_for}
 use Rattle.core_relation.specs.Makes.{StepsTo}
 use Rattle.core_relation.specs.RanCounts.{RanCounts}
 use Rattle.core_relation.specs.Reads.{FrameIsRead}
-use Rattle.core_relation.specs.Worker.{Fits as FitsValue}
+use Rattle.core_relation.specs.Worker.{WorkerFits}
 use Rattle.core_entry_laws.proofs.parts.RanFits.{ran_fits_then}
 use Rattle.core_entry_laws.proofs.whole.RanWhole.{ran_stands_for}
 use Rattle.core_entry_laws.proofs.parts.Sets.{frames_go}
@@ -93,7 +93,7 @@ module _ (w : SharedValue) (k : ℕ) (p : Private) (I : IsSharedValue w) (F : Fi
     abbrev E : Runs w.program w.settings l L t k p.fresh
     E = record (last.runs_so w k p I F shared free) { splits = record S { kind = Reading; last = R; apart = last.is_not_private w k p I F shared free; on = λ u. goes_then } }
 
-    abbrev own : FitsValue w.program w.settings (part_for w.settings t h p.fresh) v l
+    abbrev own : WorkerFits w.program w.settings (part_for w.settings t h p.fresh) v l
     own = F.fits
 
     frame_is : R.frame ≡ top

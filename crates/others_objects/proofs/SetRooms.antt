@@ -4,7 +4,7 @@ use Rattle.write_barrier.specs.declared.sets.SetOf.{SetOf}
 use Rattle.write_barrier.specs.Stored.{content_at}
 use Rattle.core_relation.specs.Memory.{Memory}
 use Rattle.core_relation.specs.Whole.{StandsForAll}
-use Rattle.core_relation.specs.Worker.{Fits as FitsValue}
+use Rattle.core_relation.specs.Worker.{WorkerFits}
 use Rattle.task_machine.specs.declared.part.Private.{Private}
 use Rattle.shared_value.specs.SharedValue.{SharedValue, accounts, marks_at, noted_in, tree_counts_of, value_of}
 use Rattle.shared_value.specs.Stands.{IsSharedValue}
@@ -39,7 +39,7 @@ module _ (w : SharedValue) (sets : List SetOf) (many : length sets ≡ length w.
   pub roomier_fit : (k : ℕ) (p : Private) → Fits w k p → Fits roomier k p
   roomier_fit k p F = record {
     held = F.held;
-    fits = subst (λ (v : Memory). FitsValue w.program w.settings (part_of w.settings p) v (accounts w)) value_same F.fits;
+    fits = subst (λ (v : Memory). WorkerFits w.program w.settings (part_of w.settings p) v (accounts w)) value_same F.fits;
     form = F.form;
     measured = F.measured;
     leaf_limit = F.leaf_limit;

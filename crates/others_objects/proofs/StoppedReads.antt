@@ -27,5 +27,5 @@ stopped_reads w v k p q I F shared on G reader owner stop =
     journal ∙ (accounts_then w.program w.settings w.journal.items (alone_event k p) ∙ (ap (λ n. task_steps w.program l p.task n) more ∙ steps_last w.program l p.task p.fresh)) in
     let machine : (accounts v).machine ≡ step w.program (machine_after w p) p.task =
     ap (λ (z : Ledger). z.machine) then_
-    ∙ (task_step_machine w.program (task_steps w.program l p.task p.fresh) p.task ∙ ap (λ (m : State). step w.program m p.task) (sym (machine_same w k p I F shared on))) in
+    ∙ (task_step_machine w.program (task_steps w.program l p.task p.fresh) p.task ∙ ap (λ (m : State). step w.program m p.task) (sym (machine_same w k p I F on))) in
     none_some (sym (machine_goes_on v.program v.settings v.journal.items G.goes) ∙ (ap (λ (m : State). m.end) machine ∙ stop))

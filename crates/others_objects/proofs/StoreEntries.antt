@@ -2,7 +2,7 @@
 use Rattle.std.proofs.Common.{◌≡◌, ℕ, ℤ, pos, ◌+◌, ◌<◌, ◌++◌, Option, Some, None, List, [], ◌∷◌, length, slice_get, slice_set, option_map, refl, ap, sym, subst, ◌∙◌}
 use Rattle.std.specs.Option.{option_flatten}
 use Rattle.std.specs.Prelude.{IsSome, slice_index_or}
-use Rattle.std.proofs.lemmas.Option.{same_Some}
+use Rattle.std.proofs.lemmas.Option.{same_Some, slice_get-get_or}
 use Rattle.listed.specs.RoomyValue.{RoomyValue}
 use Rattle.hh_model.specs.declared.data.Frame.{Frame}
 use Rattle.hh_model.specs.declared.data.Name.{Name}
@@ -36,7 +36,6 @@ use Rattle.shared_value.specs.Stands.{IsSharedValue}
 use Rattle.shared_value.specs.Fits.{Fits, belongings_of_part}
 use Rattle.shared_value.specs.Entered.{refused}
 use Rattle.shared_value.proofs.PartFitsMachine as link
-use Rattle.shared_value.proofs.RootsHeld.{got_index}
 use Rattle.shared_value.proofs.UnitsMeasured.{owner_held}
 use Rattle.own_steps.specs.Alone.{GoesAlone, IsShared, alone_event}
 use Rattle.own_steps.proofs.AloneEntries.{is_safe, last_free}
@@ -171,7 +170,7 @@ module _ (w : SharedValue) (k : ℕ) (p : Private) (I : IsSharedValue w) (F : Fi
         store.b store.j i (flag_of swap) store.writes.place store.pack (store_frames swap p.frames).top (store_top swap p.frames)
 
     held_owned : IsOwned (length w.tree) w.pool (slice_index_or (object_of foreign.rest.heap.chunks a).refs i None)
-    held_owned = by (slice_index_or (object_of foreign.rest.heap.chunks a).refs i None) (ap (λ (q : Cell). slice_get q.refs i) (sym cell_is) ∙ got_index (object_of foreign.rest.heap.chunks a).refs i None field_there)
+    held_owned = by (slice_index_or (object_of foreign.rest.heap.chunks a).refs i None) (ap (λ (q : Cell). slice_get q.refs i) (sym cell_is) ∙ slice_get-get_or (object_of foreign.rest.heap.chunks a).refs i None field_there)
       where
         by : (q : Option Addr) → slice_get cell.refs i ≡ Some q → IsOwned (length w.tree) w.pool q
         by None e = tt

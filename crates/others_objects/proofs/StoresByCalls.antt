@@ -1,7 +1,7 @@
 -- Stores into objects of other tasks, as the calls have them.
 use Rattle.std.proofs.Common.{◌≡◌, ℕ, ℤ, suc, ◌+◌, ◌<◌, ◌++◌, arith, Option, Some, None, List, [], ◌∷◌, length, slice_get, slice_set, option_map, refl, ap, sym, subst, ◌∙◌}
 use Rattle.std.specs.Prelude.{slice_index_or}
-use Rattle.std.proofs.lemmas.Option.{same_Some}
+use Rattle.std.proofs.lemmas.Option.{same_Some, slice_get-get_or}
 use Rattle.listed.proofs.Members.{got_same}
 use Rattle.listed.specs.RoomyValue.{RoomyValue}
 use Rattle.hh_lang.specs.declared.instr.Instr.{Instr}
@@ -41,7 +41,6 @@ use Rattle.shared_value.specs.Fits.{Fits, OthersFit, belongings_of_part}
 use Rattle.shared_value.specs.Entered.{refused}
 use Rattle.shared_value.proofs.PartFitsMachine as link
 use Rattle.shared_value.proofs.FreeChunks.{refs_long}
-use Rattle.shared_value.proofs.RootsHeld.{got_index}
 use Rattle.own_steps.specs.Alone.{GoesAlone, IsShared}
 use Rattle.own_steps.proofs.LastStepEntry as last
 use Rattle.own_steps.proofs.LastStepEntry.{last_event}
@@ -160,7 +159,7 @@ module _ (w : SharedValue) (k : ℕ) (p : Private) (I : IsSharedValue w) (F : Fi
             subst (λ m. i < m) (sym (ap (λ (q : Cell). length q.refs) object_same ∙ refs_many)) lt
 
         was : slice_get cell.refs i ≡ Some overwritten
-        was = ap (λ (q : Cell). slice_get q.refs i) (sym object_same) ∙ got_index (object_of rest.heap.chunks a).refs i None field_there
+        was = ap (λ (q : Cell). slice_get q.refs i) (sym object_same) ∙ slice_get-get_or (object_of rest.heap.chunks a).refs i None field_there
 
         abbrev value : Option Addr
         value = ref_of p.frames.top b

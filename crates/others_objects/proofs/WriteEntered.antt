@@ -28,7 +28,7 @@ use Rattle.core_relation.specs.Makes.{Stores, BelongingsAfterStore}
 use Rattle.core_relation.specs.Marks.{StoreMarks}
 use Rattle.core_relation.specs.RanCounts.{RanCounts}
 use Rattle.core_relation.specs.Whole.{StandsFor, StandsForAll, by_end}
-use Rattle.core_relation.specs.Worker.{Fits as FitsValue}
+use Rattle.core_relation.specs.Worker.{WorkerFits}
 use Rattle.core_entry_laws.proofs.parts.RanFits.{ran_fits_then}
 use Rattle.core_entry_laws.proofs.whole.RanWhole.{ran_stands_for}
 use Rattle.core_entry_laws.proofs.parts.Workers.{ran_leaves}
@@ -94,7 +94,7 @@ module _ (w : SharedValue) (k : ℕ) (p : Private) (I : IsSharedValue w) (F : Fi
   abbrev R : Runs w.program w.settings l L t k p.fresh
   R = last.runs_so w k p I F shared free
 
-  own_0 : FitsValue w.program w.settings (part_for w.settings t h p.fresh) v0 l
+  own_0 : WorkerFits w.program w.settings (part_for w.settings t h p.fresh) v0 l
   own_0 = fits_held (value_of w) v0.belongings l (λ u r. resting_is l (value_of w).belongings u r) w.program w.settings (part_for w.settings t h p.fresh) R.knows.sound (last.before_goes w k p I F shared free) F.fits
 
   module _ (n : Name) (a : Addr) (O : IsForeign w (with_belongings (value_of w) t h) (other.L w k p I F on) t n a) (d : Cell) (mark : d.mark ≡ (other.c w k p I F on n a O).mark) (size : size_of d ≡ size_of (other.c w k p I F on n a O))

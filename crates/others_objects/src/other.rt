@@ -14,7 +14,7 @@ use heap_tree::Tree;
 use hh_lang::{Instr, IntReg, RefReg};
 use hh_model::Trap;
 use object_layout::{Addr, is_same_reference};
-use shared_value::{field_index, number, reference};
+use shared_value::field_index;
 use task_machine::Private;
 
 /// What a step does with an object that another task owns.
@@ -41,14 +41,14 @@ pub fn named(part: &Private, instr: Instr) -> Option<Addr>
     ensures { result ≡ object_named part.now.frames.top instr }
 {
     match instr {
-        Instr::Getr(_, object, _) => reference(part, object),
-        Instr::Geti(_, object, _) => reference(part, object),
-        Instr::Putr(object, _, _) => reference(part, object),
-        Instr::Puti(object, _, _) => reference(part, object),
-        Instr::Cntr(_, object) => reference(part, object),
-        Instr::Cnti(_, object) => reference(part, object),
-        Instr::Freeze(object) => reference(part, object),
-        Instr::Cas(_, object, _, _, _) => reference(part, object),
+        Instr::Getr(_, object, _) => part.reference(object),
+        Instr::Geti(_, object, _) => part.reference(object),
+        Instr::Putr(object, _, _) => part.reference(object),
+        Instr::Puti(object, _, _) => part.reference(object),
+        Instr::Cntr(_, object) => part.reference(object),
+        Instr::Cnti(_, object) => part.reference(object),
+        Instr::Freeze(object) => part.reference(object),
+        Instr::Cas(_, object, _, _, _) => part.reference(object),
         _ => None,
     }
 }
@@ -81,7 +81,7 @@ fn reading_reference(
     ensures { result ≡ or_range (place_in (length (object_of heap.now.chunks object).refs) (int_of part.now.frames.top index)) (λ i. reads_into tree.now pool.now part.now.task register (unwrap_or (slice_get (object_of heap.now.chunks object).refs i) None)) }
 {
     let count = heap.own_header(object).nrefs;
-    match field_index(count, number(part, index)) {
+    match field_index(count, part.int(index)) {
         None => OtherStep::Traps(Trap::Range),
         Some(field) => {
             let held = heap.own_ref(object, field);
@@ -101,7 +101,7 @@ fn reading_number(
     ensures { result ≡ or_range (place_in (length (object_of heap.now.chunks object).ints) (int_of part.now.frames.top index)) (λ i. OtherStep.SetsNumber register (unwrap_or (slice_get (object_of heap.now.chunks object).ints i) (pos 0))) }
 {
     let count = heap.own_header(object).nints;
-    match field_index(count, number(part, index)) {
+    match field_index(count, part.int(index)) {
         None => OtherStep::Traps(Trap::Range),
         Some(field) => OtherStep::SetsNumber(register, heap.own_int(object, field)),
     }
@@ -118,11 +118,11 @@ fn writing_reference(
     ensures { result ≡ or_range (place_in (length (object_of heap.now.chunks object).refs) (int_of part.now.frames.top index)) (λ i. or_frozen (object_of heap.now.chunks object) (OtherStep.StoresReference object i (ref_of part.now.frames.top value))) }
 {
     let header = heap.own_header(object);
-    match field_index(header.nrefs, number(part, index)) {
+    match field_index(header.nrefs, part.int(index)) {
         None => OtherStep::Traps(Trap::Range),
         Some(field) => {
             if header.mutable {
-                OtherStep::StoresReference(object, field, reference(part, value))
+                OtherStep::StoresReference(object, field, part.reference(value))
             } else {
                 OtherStep::Traps(Trap::Frozen)
             }
@@ -141,11 +141,11 @@ fn writing_number(
     ensures { result ≡ or_range (place_in (length (object_of heap.now.chunks object).ints) (int_of part.now.frames.top index)) (λ i. or_frozen (object_of heap.now.chunks object) (OtherStep.StoresNumber object i (int_of part.now.frames.top value))) }
 {
     let header = heap.own_header(object);
-    match field_index(header.nints, number(part, index)) {
+    match field_index(header.nints, part.int(index)) {
         None => OtherStep::Traps(Trap::Range),
         Some(field) => {
             if header.mutable {
-                OtherStep::StoresNumber(object, field, number(part, value))
+                OtherStep::StoresNumber(object, field, part.int(value))
             } else {
                 OtherStep::Traps(Trap::Frozen)
             }
@@ -184,19 +184,19 @@ fn comparing(
     ensures { result ≡ or_range (place_in (length (object_of heap.now.chunks object).refs) (int_of part.now.frames.top index)) (λ i. or_frozen (object_of heap.now.chunks object) (swaps register object (unwrap_or (slice_get (object_of heap.now.chunks object).refs i) None) (ref_of part.now.frames.top expected) i (ref_of part.now.frames.top value))) }
 {
     let header = heap.own_header(object);
-    match field_index(header.nrefs, number(part, index)) {
+    match field_index(header.nrefs, part.int(index)) {
         None => OtherStep::Traps(Trap::Range),
         Some(field) => {
             if header.mutable {
                 let held = heap.own_ref(object, field);
-                let expected = reference(part, expected);
+                let expected = part.reference(expected);
                 swapping(
                     register,
                     object,
                     held,
                     expected,
                     field,
-                    reference(part, value),
+                    part.reference(value),
                 )
             } else {
                 OtherStep::Traps(Trap::Frozen)

@@ -63,7 +63,7 @@ module _ (w : SharedValue) (k : ℕ) (p : Private) (I : IsSharedValue w) (F : Fi
 
   -- the part fits a machine
   pub fits_some : FitsSome w.program p
-  fits_some = let G = fits_machine w k p I F shared runs_on in (_, _, G)
+  fits_some = let G = fits_machine w k p I F runs_on in (_, _, G)
 
   pub next_small : p.frames.top.next + 1 < 2 ^ 32
   next_small = some_next w.program p fits_some I.form
@@ -166,7 +166,7 @@ module _ (w : SharedValue) (k : ℕ) (p : Private) (I : IsSharedValue w) (F : Fi
 
   beyond_line : (x : Task) (line : Line) → slice_get m.tasks p.task ≡ Some x → fetched w.program x.top ≡ Some line → (is_joint x line.instr || not (owns m.tasks p.task (touched x.top line.instr))) ≡ true → is_beyond w.program (machine_after w p) p.task ≡ true
   beyond_line x line is next h =
-      ap (λ (z : State). is_beyond w.program z p.task) (machine_same w k p I F shared runs_on)
+      ap (λ (z : State). is_beyond w.program z p.task) (machine_same w k p I F runs_on)
       ∙ (ap (is_beyond_by w.program m p.task) is ∙ (ap (is_beyond_line m p.task x) next ∙ h))
 
   pub other_beyond : (line : ℕ) → Tells w p Beyond line → is_beyond w.program (machine_after w p) p.task ≡ true

@@ -20,7 +20,7 @@ use Rattle.ledger_step_laws.specs.Last.{Runs, Splits}
 use Rattle.ledger_step_laws.proofs.Along.{steps_know}
 use Rattle.ledger_step_laws.proofs.Known.{legal_knows}
 use Rattle.ledger_step_laws.proofs.Split.{entry_runs}
-use Rattle.core_relation.specs.Worker.{Fits as FitsValue}
+use Rattle.core_relation.specs.Worker.{WorkerFits}
 use Rattle.task_machine.specs.declared.part.Private.{Private}
 use Rattle.shared_value.specs.SharedValue.{SharedValue, accounts, value_of}
 use Rattle.shared_value.specs.Stands.{IsSharedValue}
@@ -60,7 +60,7 @@ module _ (w : SharedValue) (k : ℕ) (p : Private) (I : IsSharedValue w) (F : Fi
   abbrev pub S : Splits w.program w.settings l L t p.fresh
   S = runs_so.splits
 
-  pub own : FitsValue w.program w.settings (part_of w.settings p) (value_of w) l
+  pub own : WorkerFits w.program w.settings (part_of w.settings p) (value_of w) l
   own = F.fits
 
   pub before_goes : l.machine.end ≡ None

@@ -16,7 +16,7 @@ use Rattle.run_ledger.specs.Heaps.{heap_of, lacks_room}
 use Rattle.run_ledger.specs.Steps.{is_due, is_in_need, is_private, most_steps, on_asked, standing, task_step, task_steps}
 use Rattle.run_ledger.specs.Entries.{kind_refusal, refused_if, refused_unless}
 use Rattle.ledger_step_laws.specs.Accounts.{ArePrivate}
-use Rattle.core_relation.specs.Fits.{FitsAt as FitsValue, ahead}
+use Rattle.core_relation.specs.Fits.{FitsAt, ahead}
 use Rattle.core_entry_laws.proofs.parts.Quiet.{aside_is}
 use Rattle.task_machine.specs.declared.part.Private.{Private}
 use Rattle.task_machine.specs.Fits.{FitsNow as FitsMachine}
@@ -48,6 +48,15 @@ standing_last p s t (suc k) l h due need shared =
     cond-false (is_due s p l t || is_in_need p l t) 0 (cond (is_private p l.machine t) (suc (standing s p (task_step p l t) t (suc k))) 1) (ap₂ (λ a b. a || b) h.0 h.1)
     ∙ (cond-true (is_private p l.machine t) (suc (standing s p (task_step p l t) t (suc k))) 1 h.2 ∙ ap suc (standing_last p s t k (task_step p l t) h.3 due need shared))
 
+-- BEFORE ITS NEXT STEP
+module _ (w : SharedValue) (k : ℕ) (p : Private) (I : IsSharedValue w) (F : Fits w k p) (on : (accounts w).end ≡ None) where
+  pub fits_machine : FitsMachine w.program p (task_steps w.program (accounts w) p.task p.fresh).machine (above_of (value_of w) (accounts w) p.task)
+  fits_machine = subst (λ (m : State). FitsMachine w.program p m (above_of (value_of w) (accounts w) p.task)) (link.machine_is w k p I F on) (link.first_fits w k p I F on)
+
+  -- the machine that the contracts speak of
+  pub machine_same : machine_after w p ≡ (task_steps w.program (accounts w) p.task p.fresh).machine
+  machine_same = ap (λ (z : Ledger). (ahead w.program (part_of w.settings p) z).machine) (aside_is (accounts w) (goes w k p I F on)) ∙ link.machine_is w k p I F on
+
 module _ (w : SharedValue) (k : ℕ) (p : Private) (I : IsSharedValue w) (F : Fits w k p) (shared : IsShared w p) (on : (accounts w).end ≡ None) where
   abbrev t : ℕ
   t = p.task
@@ -58,36 +67,29 @@ module _ (w : SharedValue) (k : ℕ) (p : Private) (I : IsSharedValue w) (F : Fi
   abbrev M : Ledger
   M = task_steps w.program l t p.fresh
 
-  V : FitsValue w.program w.settings (part_of w.settings p) (value_of w) l
+  V : FitsAt w.program w.settings (part_of w.settings p) (value_of w) l
   V = fits_now w k p I F on
 
   abbrev above : Places
   above = above_of (value_of w) l t
 
-  pub fits_machine : FitsMachine w.program p M.machine above
-  fits_machine = subst (λ (m : State). FitsMachine w.program p m above) (link.machine_is w k p I F on) (link.first_fits w k p I F on)
-
-  -- the machine that the contracts speak of
-  pub machine_same : machine_after w p ≡ M.machine
-  machine_same = ap (λ (z : Ledger). (ahead w.program (part_of w.settings p) z).machine) (aside_is l (goes w k p I F on)) ∙ link.machine_is w k p I F on
-
   pub shared_now : is_private w.program M.machine t ≡ false
-  shared_now = ap (λ (m : State). is_private w.program m t) (sym machine_same) ∙ shared.last
+  shared_now = ap (λ (m : State). is_private w.program m t) (sym (machine_same w k p I F on)) ∙ shared.last
 
   -- the line that comes next
   pub some_line : (line : Line) × (next_line w.program p ≡ Some line)
-  some_line = has_line w.program p M.machine above fits_machine I.form
+  some_line = has_line w.program p M.machine above (fits_machine w k p I F on) I.form
 
-  at : (line : Line) → next_line w.program p ≡ Some line → fetched w.program fits_machine.task.top ≡ Some line
-  at line e = sym (same_line w.program p M.machine above fits_machine) ∙ e
+  at : (line : Line) → next_line w.program p ≡ Some line → fetched w.program (fits_machine w k p I F on).task.top ≡ Some line
+  at line e = sym (same_line w.program p M.machine above (fits_machine w k p I F on)) ∙ e
 
   pub tells : (line : Line) → next_line w.program p ≡ Some line → Tells w p (ending p line.instr) line.number
-  tells line e = ending_tells w.program p M.machine above fits_machine line (at line e) shared_now
+  tells line e = ending_tells w.program p M.machine above (fits_machine w k p I F on) line (at line e) shared_now
 
   asks : asked w.program M.machine t ≡ None
   asks =
       asks_is w k p I F on
-      ∙ (ap (line_asks p.field_limit p.frames.top) some_line.1 ∙ asks_none w.program p M.machine above fits_machine some_line.0 (at some_line.0 some_line.1) shared_now)
+      ∙ (ap (line_asks p.field_limit p.frames.top) some_line.1 ∙ asks_none w.program p M.machine above (fits_machine w k p I F on) some_line.0 (at some_line.0 some_line.1) shared_now)
 
   pub not_due : is_due w.settings w.program M t ≡ false
   not_due = ap (λ o. on_asked o (λ n. nat_le w.settings.leaf (heap_of M t).since)) asks

@@ -1,5 +1,5 @@
 -- A part's next private steps, in the accounts: they are private there, neither due nor in need, and the heap follows.
-use Rattle.std.proofs.Common.{◌≡◌, ℕ, zero, suc, ◌+◌, ◌<◌, ◌≤◌, ◌^◌, arith, true, false, Option, Some, None, slice_get, nat_le, refl, ap, ap₂, sym, subst, ◌∙◌}
+use Rattle.std.proofs.Common.{◌≡◌, ℕ, zero, suc, ◌+◌, ◌<◌, ◌≤◌, ◌^◌, arith, true, false, Some, None, slice_get, nat_le, refl, ap, ap₂, sym, subst, ◌∙◌}
 use Rattle.hh_lang.specs.Form.{ProgramText}
 use Rattle.hh_model.specs.declared.data.Status.TheVariants.{Running}
 use Rattle.hh_model.specs.declared.data.Task.{Task}
@@ -9,17 +9,17 @@ use Rattle.run_trace.specs.Settings.{SettingsValue}
 use Rattle.run_ledger.specs.declared.data.Heap.{Heap}
 use Rattle.run_ledger.specs.declared.data.Ledger.{Ledger}
 use Rattle.run_ledger.specs.Heaps.{heap_of, or_fresh, lacks_room}
-use Rattle.run_ledger.specs.Steps.{allocated_by, is_due, is_in_need, is_private, on_asked, task_step, task_steps}
+use Rattle.run_ledger.specs.Steps.{is_due, is_in_need, is_private, on_asked, task_step, task_steps}
 use Rattle.run_ledger.proofs.Machine.{task_step_machine}
 use Rattle.run_ledger.proofs.Steps.{steps_last}
 use Rattle.ledger_step_laws.specs.Accounts.{ArePrivate}
-use Rattle.ledger_step_laws.proofs.Ahead.{heap_then, with_at}
 use Rattle.task_machine.specs.declared.part.Private.{Private}
 use Rattle.task_machine.specs.Accounts.{IsCounted, KeepsAccounts, RanBy, account_after, account_by}
 use Rattle.task_machine.specs.Fits.{FitsNow as FitsMachine}
 use Rattle.task_machine.specs.Outline.{steps}
 use Rattle.task_machine.specs.Place.{Places}
 use Rattle.task_machine.specs.Run.{Ran, Runs}
+use Rattle.task_machine.proofs.Ledgers.{allocated_account}
 use Rattle.shared_value.proofs.StepAccounts.{After, after_none, after_both, after_one, step_is}
 
 module _ (p : ProgramText) (s : SettingsValue) (t : ℕ) where
@@ -41,12 +41,8 @@ module _ (p : ProgramText) (s : SettingsValue) (t : ℕ) where
 
   -- what a private step makes of the account of its heap
   module _ (l : Ledger) (x : Task) (h : Heap) (going : l.machine.end ≡ None) (is : slice_get l.machine.tasks t ≡ Some x) (run : x.status ≡ Running) (there : slice_get l.heaps t ≡ Some h) (private : is_private p l.machine t ≡ true) where
-    allocated : (o : Option ℕ) → slice_get (allocated_by l t o).heaps t ≡ Some (account_by l.machine t h o)
-    allocated None = there
-    allocated (Some w) = with_at l t _ ∙ ap (heap_then _) there
-
     pub account_step : slice_get (task_step p l t).heaps t ≡ Some (account_by l.machine t h (asked p l.machine t))
-    account_step = ap (λ (k : Ledger). slice_get k.heaps t) (step_is p l t x going is run private) ∙ allocated (asked p l.machine t)
+    account_step = ap (λ (k : Ledger). slice_get k.heaps t) (step_is p l t x going is run private) ∙ allocated_account l t h (asked p l.machine t) there
 
   -- the accounts after so many of them
   pub record Follows (l : Ledger) (x : Task) (h : Heap) (i : ℕ) : Type 0 where

@@ -1,9 +1,8 @@
 -- What the next step of a part does in the machine, where it is no private one.
-use Rattle.std.proofs.Common.{◌≡◌, ℕ, ℤ, pos, ◌+◌, ◌==◌, ◌||◌, not, eq-eqb, Bool, true, false, cond, Option, Some, None, List, [], ◌∷◌, ◌++◌, length, replicate, slice_get, slice_set, unwrap_or, is_some, nat_lt, inl, refl, ap, ap₂, sym, subst, ◌∙◌}
+use Rattle.std.proofs.Common.{◌≡◌, ℕ, ℤ, pos, ◌+◌, ◌==◌, ◌||◌, not, eq-eqb, Bool, true, false, cond, Option, Some, None, List, [], ◌∷◌, ◌++◌, length, replicate, slice_get, slice_set, unwrap_or, is_some, nat_lt, refl, ap, ap₂, sym, subst, ◌∙◌}
 use Rattle.std.specs.Option.{option_flatten}
 use Rattle.std.proofs.lemmas.Bool.{both_ways, cond-false, cond-true}
 use Rattle.std.proofs.Math.Bool.{or-true}
-use Rattle.listed.proofs.Members.{contains_from_in}
 use Rattle.hh_lang.specs.declared.instr.Instr.{Instr}
 use Rattle.hh_lang.specs.declared.instr.Instr.TheVariants.{Set, Mov, Movr, Nil as NilOf, Calc, Same, Jmp, Jz, Newm, Pack, Getr, Geti, Putr, Puti, Cntr, Cnti, Freeze, Cas, Call, Par, Ret, Out}
 use Rattle.hh_lang.specs.declared.instr.Operator.{Operator}
@@ -16,13 +15,10 @@ use Rattle.hh_model.specs.declared.data.End.TheVariants.{Trapped}
 use Rattle.hh_model.specs.declared.data.State.{State}
 use Rattle.hh_model.specs.declared.data.Trap.{Trap}
 use Rattle.hh_model.specs.declared.data.Trap.TheVariants.{Div as DivTrap, Nil as NilTrap, Range, Frozen as FrozenTrap, Size as SizeTrap, Depth as DepthTrap}
-use Rattle.hh_model.specs.Effect.{Effect, Goes, Calls, Returns as ReturnsBy, Traps as TrapsBy, calculated, counts_in, int_in, made, object_at, onward, or_trap, place_in, put_object, read_effect, ref_in, same_name, unless_frozen, with_int}
+use Rattle.hh_model.specs.Effect.{Effect, Goes, Calls, Returns as ReturnsBy, Traps as TrapsBy, calculated, counts_in, int_in, made, onward, or_trap, place_in, put_object, read_effect, ref_in, same_name, unless_frozen, with_int}
 use Rattle.hh_model.specs.Names.{words_for}
 use Rattle.hh_model.specs.Step.{ended_by, entry_frame, fetched, frame_limit, last_of, owner_of, returned_to, setting, step, with_task}
-use Rattle.path_laws.specs.ReadLaws.{Holds, ReadsFreely}
-use Rattle.hh_model.proofs.Carried.{at_in}
-use Rattle.path_laws.proofs.FreeReads.{own_reads_go}
-use Rattle.hh_model.proofs.Steps.{in_registers, names_run, runs_is}
+use Rattle.hh_model.proofs.Lists.{last_there}
 use Rattle.run_ledger.specs.Steps.{has_no_caller, is_open, is_private, owns, touched}
 use Rattle.object_layout.specs.declared.word.Addr.{Addr}
 use Rattle.object_layout.specs.Cell.{Cell}
@@ -33,16 +29,12 @@ use Rattle.task_machine.specs.Place.{IsAt, Places}
 use Rattle.task_frames.specs.FramesValue.{int_of, ref_of}
 use Rattle.task_machine.proofs.Fitting.{is_alone, step_by, x}
 use Rattle.task_machine.proofs.Owned.{other_at, own_object}
-use Rattle.task_machine.proofs.OwnReads.{Own, ints_index, nil_effect, object_effect, owned_here, refs_index}
+use Rattle.task_machine.proofs.OwnReads.{Own, ints_index, nil_effect, object_effect, owned_here, reads, refs_index}
 use Rattle.task_machine.proofs.Registers.{does, int_here, ref_here}
 use Rattle.shared_value.specs.declared.next_step.Ending.{Ending}
 use Rattle.shared_value.specs.declared.next_step.Ending.TheVariants.{Prints, Returns, Traps, Beyond}
 use Rattle.shared_value.specs.Next.{ending, instr_asks, is_joint, on_own, on_own_cell, unwritten}
 use Rattle.own_steps.specs.Alone.{SaysOf, TellsOf}
-
-last_there : (f : Frame) (fs : List Frame) → (g : Frame) × (last_of (f ∷ fs) ≡ Some g)
-last_there f [] = (f, refl)
-last_there f (k ∷ fs) = last_there k fs
 
 module _ (p : ProgramText) (part : Private) (m : State) (above : Places) (F : Fits p part m above) (line : Line) (at : fetched p (x p part m above F).top ≡ Some line) (shared : is_private p m part.task ≡ false) where
   abbrev t : ℕ
@@ -107,18 +99,6 @@ module _ (p : ProgramText) (part : Private) (m : State) (above : Places) (F : Fi
   write i e go r None q is same rest = subst (λ z. Says i (unwritten z)) (sym same) (trap i e Range is)
   write i e go r (Some k) q is same rest = subst (λ z. Says i (unwritten z)) (sym same) (write_by i e k (go k) q.mutable is (rest k))
 
-  -- a read of an own object is never stopped
-  reads : (o : ℕ) (n : Name) (q : Object) → ref_in F.task.top o ≡ Some n → object_at m.store n ≡ Some q → owner_of m.tasks n.task ≡ part.task → ReadsFreely m part.task F.task q
-  reads o n q en is own =
-      let G : State → Type 0 = λ w. Holds w part.task F.task n q → owner_of w.tasks n.task ≡ part.task → ReadsFreely w part.task F.task q in
-      let law : G m = subst G (sym F.reached.2) (own_reads_go p F.reached.0 F.reached.1 part.task F.task n q) in
-      law (record {
-        task = F.is;
-        running = F.running;
-        name = contains_from_in _ n (names_run F.task n (runs_is F.task.status F.running) (in_registers (F.task.top ∷ F.task.below) F.task.top n (inl refl) (at_in F.task.top.refs o n en)));
-        object = is;
-      }) own
-
   -- ---- BY THE INSTRUCTION
   calc : (op : Operator) (d a b : ℕ) (e : line.instr ≡ Calc op d a b) (o : Option ℤ) → calculated op (int_in top a) (int_in top b) ≡ o → Says (Calc op d a b) (Traps DivTrap)
   calc op d a b e None is = trap (Calc op d a b) e DivTrap (ap (λ o. or_trap DivTrap o (λ v. Goes (onward (with_int top d v)) m.store)) is)
@@ -162,7 +142,7 @@ module _ (p : ProgramText) (part : Private) (m : State) (above : Places) (F : Fi
   says (Getr d o k) e =
       object_says (Getr d o k) e o (λ c. Traps Range) refl (nil_effect p part m above F line at o _) (λ n a en O.
       range (Getr d o k) e (λ j. read_effect (setting m t F.task) top m.store d (option_flatten (slice_get O.object.refs j))) (place_in (length O.object.refs) (int_in top k)) (object_effect p part m above F line at o n O.object _ en O.is)
-      (λ j goes. never (Getr d o k) e _ _ (goes ∙ (reads o n O.object en O.is O.owned).goes j d) refl (owned_here p part m above F line at o n (Getr d o k) refl en O.owned)))
+      (λ j goes. never (Getr d o k) e _ _ (goes ∙ (reads p part m above F line at o n O.object en O.is O.owned).goes j d) refl (owned_here p part m above F line at o n (Getr d o k) refl en O.owned)))
   says (Geti d o k) e =
       object_says (Geti d o k) e o (λ c. Traps Range) refl (nil_effect p part m above F line at o _) (λ n a en O.
       range (Geti d o k) e (λ j. Goes (onward (with_int top d (unwrap_or (slice_get O.object.ints j) (pos 0)))) m.store) (place_in (length O.object.ints) (int_in top k)) (object_effect p part m above F line at o n O.object _ en O.is)

@@ -14,7 +14,7 @@ use Rattle.ledger_step_laws.specs.Last.{Halting, Halts, Runs, Splits}
 use Rattle.core_relation.specs.Memory.{Belongings, Memory}
 use Rattle.core_relation.specs.Fits.{part_for}
 use Rattle.core_relation.specs.RanCounts.{RanCounts}
-use Rattle.core_relation.specs.Worker.{Fits as FitsValue}
+use Rattle.core_relation.specs.Worker.{WorkerFits}
 use Rattle.core_entry_laws.proofs.parts.RanFits.{ran_fits_then}
 use Rattle.core_entry_laws.proofs.whole.RanWhole.{ran_stands_for}
 use Rattle.core_entry_laws.proofs.parts.Workers.{ran_leaves}
@@ -62,7 +62,7 @@ module _ (w : SharedValue) (k : ℕ) (p : Private) (I : IsSharedValue w) (F : Fi
   abbrev E : Runs w.program w.settings l L t k p.fresh
   E = record (last.runs_so w k p I F shared free) { splits = record S { kind = Halting; last = H; apart = last.is_not_private w k p I F shared free; on = λ b. absurd b } }
 
-  abbrev own : FitsValue w.program w.settings (part_for w.settings t h p.fresh) v l
+  abbrev own : WorkerFits w.program w.settings (part_for w.settings t h p.fresh) v l
   own = F.fits
 
   end_same : x ≡ H.end

@@ -36,6 +36,7 @@ use Rattle.shared_value.proofs.StepsEntered.{status}
 use Rattle.shared_value.proofs.StepAccounts.{After, hold_same}
 use Rattle.own_steps.proofs.WordsFew.{asks_few, since_after}
 use Rattle.own_steps.proofs.NextPrivateSteps.{Follows, follows, private_more, ran_machine, ran_private}
+use Rattle.own_steps.proofs.LastSteps.{fits_machine}
 
 -- ---- ACCOUNTS
 
@@ -108,9 +109,6 @@ module _ (w : SharedValue) (k : ℕ) (p q : Private) (n : ℕ) (I : IsSharedValu
   now_goes : M.machine.end ≡ None
   now_goes = A.goes ∙ goes
 
-  fits : FitsMachine w.program p M.machine above
-  fits = subst (λ (m : State). FitsMachine w.program p m above) (link.machine_is w k p I F on) (link.first_fits w k p I F on)
-
   there : (h : Heap) × (slice_get M.heaps t ≡ Some h)
   there = ask.account_is w k p I F on
 
@@ -125,7 +123,7 @@ module _ (w : SharedValue) (k : ℕ) (p q : Private) (n : ℕ) (I : IsSharedValu
 
   -- ---- THE STEPS
   pub ran : Ran w.program p M.machine above n q
-  ran = R M.machine above fits
+  ran = R M.machine above (fits_machine w k p I F on)
 
   leaf_few : p.leaf_limit ≤ 1000000
   leaf_few = let a : p.leaf_limit ≡ w.settings.leaf = F.leaf_limit in let b : w.settings.leaf ≤ 1000000 = I.limits.leaf.1 in omega (arith, a, b)
@@ -136,7 +134,7 @@ module _ (w : SharedValue) (k : ℕ) (p q : Private) (n : ℕ) (I : IsSharedValu
   pub private_then : ArePrivate w.program w.settings l t (p.fresh + n)
   private_then =
       private_more w.program w.settings t p.fresh n l (link.V w k p I F on).private
-      (ran_private w.program w.settings p q n R C F.leaf_limit small M A.task there.0 now_goes A.is run there.1 above fits counts)
+      (ran_private w.program w.settings p q n R C F.leaf_limit small M A.task there.0 now_goes A.is run there.1 above (fits_machine w k p I F on) counts)
 
   by : (i : ℕ) → i ≤ n → Follows w.program w.settings t M A.task there.0 i
   by i le = follows w.program w.settings t M A.task there.0 now_goes A.is run there.1 i (λ j lt. ran.private j (omega (arith, lt, le)))
@@ -155,7 +153,7 @@ module _ (w : SharedValue) (k : ℕ) (p q : Private) (n : ℕ) (I : IsSharedValu
   is_rested = heap_rested N t later heap_is
 
   accounted : RanBy w.program p M.machine n q there.0
-  accounted = C M.machine above there.0 fits small counts
+  accounted = C M.machine above there.0 (fits_machine w k p I F on) small counts
 
   pub begun_then : (heap_of L' t).begun ≡ None
   begun_then =
@@ -179,7 +177,7 @@ module _ (w : SharedValue) (k : ℕ) (p q : Private) (n : ℕ) (I : IsSharedValu
   pub machine_then : FitsMachine w.program q L'.machine above
   machine_then =
       subst (λ (m : State). FitsMachine w.program q m above) (sym (heap_machine N t let_go ∙ ap (λ (z : Ledger). z.machine) more))
-      (ran_machine w.program w.settings p q n R C F.leaf_limit small M A.task there.0 now_goes A.is run there.1 above fits counts)
+      (ran_machine w.program w.settings p q n R C F.leaf_limit small M A.task there.0 now_goes A.is run there.1 above (fits_machine w k p I F on) counts)
 
   pub counts_then : IsCounted q.heap (heap_of L' t)
   counts_then = rested_counts q.heap (heap_of L' t) later is_rested accounted.counted

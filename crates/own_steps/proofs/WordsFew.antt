@@ -13,8 +13,8 @@ use Rattle.hh_model.specs.Step.{asked}
 use Rattle.run_ledger.specs.declared.data.Heap.{Heap}
 use Rattle.run_ledger.specs.Space.{AsksAtMost}
 use Rattle.run_ledger.specs.Steps.{on_asked}
+use Rattle.run_ledger.proofs.Held.{placed_since}
 use Rattle.journal_laws.proofs.Asked.{counts_few, asked_at_line}
-use Rattle.journal_laws.proofs.Since.{placed_since}
 use Rattle.task_machine.specs.Accounts.{account_after, account_by}
 use Rattle.task_machine.specs.Outline.{steps}
 use Rattle.shared_value.proofs.Packs.{IsFew, PacksFew}

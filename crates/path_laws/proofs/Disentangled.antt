@@ -13,12 +13,13 @@ use Rattle.hh_model.specs.declared.data.State.{State}
 use Rattle.hh_model.specs.Effect.{row_of, onward, ref_in}
 use Rattle.hh_model.specs.Names.{refs_of, refs_at, task_names}
 use Rattle.hh_model.specs.Step.{waits, is_over, is_running, is_waiting, is_joined, parent_of, parents, joined, owner_in, path_in, is_left, joined_task, resumed, child, step, root, run, start, ended_task, result_of}
-use Rattle.hh_model.proofs.Paths.{AreLow, path_child, path_itself, path_same, owner_same, owner_live, owner_le, owner_joins, on_one_path, path_parent}
+use Rattle.hh_model.proofs.Paths.{AreLow, path_child, path_itself, path_same, owner_same, owner_le, owner_joins, on_one_path, path_parent}
 use Rattle.hh_model.proofs.Carried.{in_from_named, next_name}
-use Rattle.hh_model.proofs.Runs.{running_tells, grown_length, grown_view, grown_view_front, grown_left, grown_right, fork_tree, three_length, three_view, three_left, three_right, parl, parr, below, dp, drest}
+use Rattle.hh_model.proofs.Runs.{running_tells, grown_length, grown_view, grown_view_front, grown_left, grown_right, fork_tree, three_length, three_view, three_left, three_right, parl, parr, below, drest, joiner_live}
 use Rattle.hh_model.proofs.ForkJoinStates.{IsForkJoinState, seen}
 use Rattle.hh_model.proofs.Steps.{Drawn, Put, runs_is, names_run, register_cases, step_cases}
 use Rattle.hh_model.proofs.Closed.{waits_is, refs_grown, grown_cases, three_cases, joined_names, resumed_names}
+use Rattle.hh_model.proofs.Climbs.{owner_here}
 pub use Rattle.path_laws.specs.Paths.{OnePath}
 pub use Rattle.path_laws.specs.Disentangled.{IsOnPathOf, AreOnOnePath, Apart, Disentangled}
 
@@ -121,7 +122,7 @@ module _ (p : ProgramText) (m : State) (t : ℕ) (K : IsForkJoinState m) (I : Di
   own_next : (x : Task) → slice_get m.tasks t ≡ Some x → is_running (Some x) ≡ true → IsOnPathOf n par jd t (next_name t m.store)
   own_next x is run =
       let live : jd t ≡ false = ap is_joined is ∙ (running_tells x.status run).0 in
-      (got_within m.tasks t x is, ap (λ a. path_in par a t) (owner_live par low jd t t live) ∙ path_itself par low t)
+      (got_within m.tasks t x is, ap (λ a. path_in par a t) (owner_here par jd t t live) ∙ path_itself par low t)
 
   drawn : (x : Task) (r : Name) → slice_get m.tasks t ≡ Some x → is_running (Some x) ≡ true → Drawn p m t x r → IsOnPathOf n par jd t r
   drawn x r is run (inl old) = I.of_task t x r is old
@@ -239,8 +240,7 @@ module _ (p : ProgramText) (m : State) (t : ℕ) (K : IsForkJoinState m) (I : Di
     rest = drest m.tasks m.edges l parent xl xr xp rl rr il ir ip pl left dl dr wl wr K.tree
 
     live_p : joined after parent ≡ false
-    live_p = rest parent (λ e. let b : parent < l = under in omega arith) (λ e. let b : parent < l = under in omega arith)
-        ∙ (ap is_joined ip ∙ dp m.tasks m.edges l parent xl xr xp rl rr il ir ip pl left dl dr wl wr K.tree)
+    live_p = joiner_live m.tasks m.edges l parent xl xr xp rl rr il ir ip pl left dl dr wl wr K.tree
 
     own_up : (u : ℕ) (r : Name) → IsOnPathOf n par jd u r → IsOnPathOf n par (joined after) u r
     own_up u r f = (f.0, own_joins par low jd (joined after) l (l + 1) parent up_l up_r (ap is_joined il ∙ dl) (ap is_joined ir ∙ dr) live_p over_l over_r rest u r.task f.1)

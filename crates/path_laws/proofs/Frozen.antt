@@ -11,7 +11,7 @@ use Rattle.hh_model.specs.Effect.{object_at}
 use Rattle.hh_model.specs.Names.{task_names, refs_at, refs_of}
 use Rattle.hh_model.specs.Step.{is_over, is_running, is_joined, joined, parents, parent_of, path_in, owner_in, owner_of, run, run_from, start, setting, step, ended_task, result_of}
 use Rattle.path_laws.specs.ReadLaws.{FrozenReadsGo}
-use Rattle.hh_model.proofs.Paths.{owner_live, path_along}
+use Rattle.hh_model.proofs.Paths.{path_along}
 use Rattle.hh_model.proofs.Stores.{put_cases, made_cases}
 use Rattle.hh_model.proofs.Carried.{named_from_in}
 use Rattle.hh_model.proofs.Changes.{SetsRef, SetsInt, Freezes}
@@ -21,6 +21,7 @@ use Rattle.path_laws.proofs.Disentangled.{Disentangled, OnePath, disentangled_st
 use Rattle.path_laws.proofs.Stored.{run_stored}
 use Rattle.path_laws.proofs.FreeReads.{up_from, reads_freely, run_disentangled}
 use Rattle.hh_model.proofs.Steps.{Alters, step_cases, names_run, runs_is, in_registers}
+use Rattle.hh_model.proofs.Climbs.{owner_here}
 
 -- the owner of the one stands on the path of the owner of the other
 abbrev pub Up : (ℕ → Option ℕ) → (ℕ → Bool) → ℕ → ℕ → Type 0
@@ -70,7 +71,7 @@ module _ (p : ProgramText) (m : State) (t : ℕ) (K : IsForkJoinState m) (I : Di
         elim (made_cases m.store t a.new k o (ap (λ w. object_at w k) (sym a.is) ∙ at)) [
           | inl new ↦
               let g = a.fields r (subst (λ (w : Object). In w.refs (Some r)) new.2 h) in
-              own k r (ap (owner_in par jd) new.0 ∙ owner_live par K.tree.low jd t t live) (held r g.1)
+              own k r (ap (owner_in par jd) new.0 ∙ owner_here par jd t t live) (held r g.1)
           | inr old ↦ U k r o old f h
         ]
     altered store (inr (line, il, inr (inr w))) k r o at f h =

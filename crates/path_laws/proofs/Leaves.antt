@@ -1,5 +1,5 @@
 -- What a step leaves of the tasks that run beside it.
-use Rattle.std.proofs.Common.{◌≡◌, ℕ, ℤ, zero, suc, ◌+◌, ◌<◌, Bool, true, false, Option, Some, None, List, [], ◌∷◌, ◌++◌, length, slice_get, slice_set, ◌⊎◌, inl, inr, refl, ap, sym, ◌∙◌, arith}
+use Rattle.std.proofs.Common.{◌≡◌, ℕ, ℤ, zero, suc, ◌+◌, ◌<◌, Bool, true, false, Option, Some, None, List, [], ◌∷◌, ◌++◌, length, slice_get, slice_set, ◌⊎◌, inl, inr, refl, ap, sym, ◌∙◌}
 use Rattle.std.proofs.lemmas.Bool.{cases_eq, cases_lt, both_ways, false≢true}
 use Rattle.std.proofs.Math.Path.{fun_ext}
 use Rattle.listed.proofs.Members.{got_same, got_other, got_past, got_within, same_view}
@@ -18,11 +18,12 @@ use Rattle.path_laws.specs.Leaves.{LeavesOwner, StepsLeaveOwners, StepsWaitAlone
 use Rattle.hh_model.proofs.Closed.{grown_cases, three_cases, waits_is}
 use Rattle.path_laws.proofs.FreeReads.{run_disentangled}
 use Rattle.hh_model.proofs.ForkJoinStates.{run_is_fork_join_state, start_is_fork_join_state}
-use Rattle.hh_model.proofs.Paths.{owner_joins, owner_live, owner_same}
+use Rattle.hh_model.proofs.Paths.{owner_joins, owner_same}
 use Rattle.hh_model.proofs.Root.{runs_tell}
-use Rattle.hh_model.proofs.Runs.{running_tells, grown_other, grown_view, grown_view_front, fork_tree, three_left, three_right, three_other, three_view, parl, parr, below, dp, drest, wp}
+use Rattle.hh_model.proofs.Runs.{running_tells, grown_other, grown_view, grown_view_front, three_left, three_right, three_other, three_view, parl, parr, below, drest, wp, joiner_live}
 use Rattle.hh_model.proofs.Steps.{Alters, in_registers, names_run, runs_is, step_cases}
 use Rattle.hh_model.proofs.Tree.{not_above}
+use Rattle.hh_model.proofs.Climbs.{owner_here}
 
 -- OBJECTS
 
@@ -48,6 +49,10 @@ put_leaves store k n y ne = elim (cases_eq n.task k.task) [
   | inr other ↦ ap (λ w. slice_get (row_of w) n.count) (got_other store k.task n.task (slice_set (row_of (slice_get store k.task)) k.count y) other)
 ]
 
+-- what changes no task leaves them all
+pub same_owner : (m : State) (u : ℕ) → LeavesOwner m m u
+same_owner m u = record { task = refl; owned = λ a. ((λ q. q), (λ q. q)); objects = λ n own. refl }
+
 -- owners after a fork
 module _ (m : State) (t : ℕ) (K : IsForkJoinState m) (x : Task) (g h : ℕ) (is : slice_get m.tasks t ≡ Some x) (run : is_running (Some x) ≡ true) where
   abbrev fy : Task
@@ -70,8 +75,8 @@ module _ (m : State) (t : ℕ) (K : IsForkJoinState m) (x : Task) (g h : ℕ) (i
     | inl lt ↦ owner_same (parents m.tasks) (parents fork_tasks) K.tree.low (length m.tasks) (λ v lv. grown_view_front m.tasks t x fy fl fr is parent_of refl v lv) (joined m.tasks) a a lt
     | inr ge ↦
         let live : joined m.tasks a ≡ false = ap is_joined (got_past m.tasks a ge) in
-        owner_live (parents fork_tasks) (fork_tree m.tasks m.edges t x (onward x.top) x.top x.top g h is run K.tree).low (joined m.tasks) a a live
-        ∙ sym (owner_live (parents m.tasks) K.tree.low (joined m.tasks) a a live)
+        owner_here (parents fork_tasks) (joined m.tasks) a a live
+        ∙ sym (owner_here (parents m.tasks) (joined m.tasks) a a live)
   ]
 
   pub fork_owner : (a : ℕ) → owner_of fork_tasks a ≡ owner_of m.tasks a
@@ -95,7 +100,7 @@ module _ (p : ProgramText) (m : State) (t : ℕ) (K : IsForkJoinState m) (D : Di
   off_path x is run = not_above n par jd (waiting m.tasks) (joins_in m.tasks) m.edges K.tree u t (ap is_joined is ∙ (running_tells x.status run).0) ne idle_u
 
   own_t : (x : Task) → slice_get m.tasks t ≡ Some x → is_running (Some x) ≡ true → owner_of m.tasks t ≡ t
-  own_t x is run = owner_live par K.tree.low jd t t (ap is_joined is ∙ (running_tells x.status run).0)
+  own_t x is run = owner_here par jd t t (ap is_joined is ∙ (running_tells x.status run).0)
 
   abbrev Keeps : List (List Object) → Type 0
   Keeps store = (k : Name) → owner_of m.tasks k.task ≡ u → object_at store k ≡ object_at m.store k
@@ -125,9 +130,6 @@ module _ (p : ProgramText) (m : State) (t : ℕ) (K : IsForkJoinState m) (D : Di
   written x y is ep ed =
       by_same (slice_set m.tasks t y)
       (λ a. ap (λ f. owner_in f (joined (slice_set m.tasks t y)) a) (same_view parent_of m.tasks t x y is ep) ∙ ap (λ f. owner_in par f a) (same_view is_joined m.tasks t x y is ed))
-
-  same : LeavesOwner m m u
-  same = record { task = refl; owned = by_same m.tasks (λ a. refl); objects = λ k own. refl }
 
   module _ (x : Task) (g h : ℕ) (is : slice_get m.tasks t ≡ Some x) (run : is_running (Some x) ≡ true) where
     abbrev y : Task
@@ -162,8 +164,7 @@ module _ (p : ProgramText) (m : State) (t : ℕ) (K : IsForkJoinState m) (D : Di
     rest = drest m.tasks m.edges l parent xl xr xp rl rr il ir ip pl left dl dr wl wr K.tree
 
     live_p : joined after parent ≡ false
-    live_p = rest parent (λ e. let q : parent < l = under in omega arith) (λ e. let q : parent < l = under in omega arith)
-        ∙ (ap is_joined ip ∙ dp m.tasks m.edges l parent xl xr xp rl rr il ir ip pl left dl dr wl wr K.tree)
+    live_p = joiner_live m.tasks m.edges l parent xl xr xp rl rr il ir ip pl left dl dr wl wr K.tree
 
     own_after : (a : ℕ) → owner_of after a ≡ owner_in par (joined after) a
     own_after a = ap (λ f. owner_in f (joined after) a) (fun_ext (three_view m.tasks l parent xl xr xp (joined_task xl) (joined_task xr) (resumed xp rl rr) il ir ip under parent_of refl refl refl))
@@ -206,7 +207,7 @@ module _ (p : ProgramText) (m : State) (t : ℕ) (K : IsForkJoinState m) (D : Di
 
   pub leaves_owner : LeavesOwner m (step p m t) u
   leaves_owner =
-      step_cases p m t K (λ m'. LeavesOwner m m' u) same (λ x e is run why. record { task = refl; owned = by_same m.tasks (λ a. refl); objects = λ k own. refl })
+      step_cases p m t K (λ m'. LeavesOwner m m' u) (same_owner m u) (λ x e is run why. record { task = refl; owned = by_same m.tasks (λ a. refl); objects = λ k own. refl })
       (λ x y store outs is run ep ed es ej names fields alters grows. record {
         task = got_other m.tasks t u y ne;
         owned = written x y is ep (ap is_over es);

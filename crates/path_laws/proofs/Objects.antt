@@ -1,8 +1,9 @@
 -- After a step every object is there.
-use Rattle.std.proofs.Common.{◌≡◌, ℕ, ℤ, zero, suc, ◌<◌, true, false, Option, Some, List, [], ◌∷◌, ◌++◌, length, slice_get, slice_set, set, ◌⊎◌, inl, inr, refl, ap, sym, subst, ◌∙◌, length-set, append_assoc, append-nil}
+use Rattle.std.proofs.Common.{◌≡◌, ℕ, ℤ, zero, suc, ◌<◌, true, false, Option, Some, None, List, [], ◌∷◌, ◌++◌, length, slice_get, slice_set, set, ◌⊎◌, inl, inr, refl, ap, sym, subst, ◌∙◌, length-set, append_assoc, append-nil}
 use Rattle.std.proofs.lemmas.Bool.{cases_eq, both_ways}
 use Rattle.std.proofs.lemmas.Option.{same_Some}
 use Rattle.listed.proofs.Members.{got_same, got_other, got_front, got_within}
+use Rattle.listed.proofs.Places.{none_set}
 use Rattle.hh_lang.specs.Form.{ProgramText}
 use Rattle.hh_model.specs.declared.data.Name.{Name}
 use Rattle.hh_model.specs.declared.data.Object.{Object}
@@ -37,6 +38,19 @@ put_here store n x y is =
     let r = in_row store (slice_get store n.task) n.task n.count x refl is in
     ap (λ w. slice_get (row_of w) n.count) (got_same store n.task r.0 (slice_set (row_of (slice_get store n.task)) n.count y) r.1)
     ∙ (ap (λ w. slice_get (slice_set (row_of w) n.count y) n.count) r.1 ∙ got_same r.0 n.count x y r.2)
+
+-- a row is as long after an object was put there
+pub put_rows : (store : List (List Object)) (m : Name) (y : Object) (u : ℕ) → length (row_of (slice_get (put_object store m y) u)) ≡ length (row_of (slice_get store u))
+put_rows store m y u = elim (cases_eq u m.task) [
+  | inr off ↦ ap (λ r. length (row_of r)) (got_other store m.task u (slice_set (row_of (slice_get store m.task)) m.count y) off)
+  | inl e ↦ ap (λ k. length (row_of (slice_get (put_object store m y) k))) e ∙ (row (slice_get store m.task) refl ∙ ap (λ k. length (row_of (slice_get store k))) (sym e))
+]
+  where
+    row : (o : Option (List Object)) → slice_get store m.task ≡ o → length (row_of (slice_get (put_object store m y) m.task)) ≡ length (row_of (slice_get store m.task))
+    row None is = ap (λ r. length (row_of r)) (none_set store m.task (slice_set (row_of (slice_get store m.task)) m.count y) is ∙ sym is)
+    row (Some xs) is =
+        ap (λ r. length (row_of r)) (got_same store m.task xs (slice_set (row_of (slice_get store m.task)) m.count y) is)
+        ∙ length-set (row_of (slice_get store m.task)) m.count y
 
 -- an object after another one was put there
 pub put_other : (store : List (List Object)) (k n : Name) (y o : Object) → object_at store n ≡ Some o → ((n.task ≡ k.task) × (n.count ≡ k.count) → ⊥)

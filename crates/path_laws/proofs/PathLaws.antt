@@ -4,8 +4,9 @@ use Rattle.std.proofs.lemmas.Bool.{or_cases, or_right, false≢true, false_from_
 use Rattle.hh_model.specs.Step.{through, owner_by, path_by, path_in}
 use Rattle.hh_model.specs.Tree.{AreLow}
 use Rattle.path_laws.specs.Paths.{IsWalkUp, IsWalkOfJoined, PathsAreWalks, OwnersAreWalks, OwnersJoin, PathsStay}
-use Rattle.hh_model.proofs.Paths.{path_child, path_itself, path_le, path_through, path_parent, path_along, path_same, on_one_path, owner_live, owner_joins, owner_same}
+use Rattle.hh_model.proofs.Paths.{path_child, path_itself, path_le, path_through, path_parent, path_along, path_same, on_one_path, owner_joins, owner_same}
 use Rattle.hh_model.proofs.Tree.{live_up, not_above, owner_not_joined}
+use Rattle.hh_model.proofs.Climbs.{owner_here}
 
 module _ (par : ℕ → Option ℕ) where
   abbrev Leads : ℕ → ℕ → Type 0
@@ -59,7 +60,7 @@ pub owners_are_walks : OwnersAreWalks
 owners_are_walks n par jd wt js es I = record {
   live = owner_not_joined n par jd wt js es I;
   walks = λ a. leads_joined par jd a a;
-  own = λ a. owner_live par I.low jd a a;
+  own = λ a. owner_here par jd a a;
   above = λ a t. live_up n par jd wt js es I t a t;
   joined = λ a t j live. false_from_ne_true (path_in par a t) (λ h. both_ways (jd a) (live_up n par jd wt js es I t a t h live) j);
   leaf = not_above n par jd wt js es I;

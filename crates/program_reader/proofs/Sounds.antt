@@ -2,9 +2,9 @@
 use Rattle.std.proofs.Common.{◌≡◌, ◌<◌, ◌≤◌, ◌+◌, ◌++◌, ◌^◌, ℕ, Bool, true, false, cond, List, [], ◌∷◌, length, map, take, arith, refl, ap, sym, subst, ◌∙◌}
 use Rattle.std.specs.Prelude.{Option, Some, None, ◌&&◌}
 use Rattle.std.specs.List.{All}
-use Rattle.std.proofs.lemmas.List.Elements.{All-nil}
+use Rattle.std.proofs.lemmas.List.Elements.{All-nil, All-push}
 use Rattle.std.proofs.lemmas.Bool.{both_ways}
-use Rattle.std.proofs.lemmas.List.{map-append}
+use Rattle.std.proofs.lemmas.List.{map-append, length_push}
 use Rattle.hh_lang.specs.declared.instr.Instr.TheVariants.{Ret}
 use Rattle.hh_lang.specs.declared.program.Line.{Line}
 use Rattle.hh_lang.specs.declared.program.Fun.{Fun}
@@ -24,7 +24,7 @@ use Rattle.program_reader.specs.Reading.{spot_in, after_begin, after_end, after_
 use Rattle.program_reader.proofs.Causes.{IsFaultless}
 use Rattle.program_reader.proofs.Ranges.{all_functions, IsInRange}
 use Rattle.program_reader.proofs.Spots.{Follows, first_named}
-use Rattle.program_reader.proofs.Steps.{Told, wrong_none, outside_begin, inside_end, unknown_never, push_length, push_all, new_name}
+use Rattle.program_reader.proofs.Steps.{Told, wrong_none, outside_begin, inside_end, unknown_never, new_name}
 
 abbrev pub fun_names : List Fun → List (List ℕ)
 fun_names fs = map (λ f. f.name) fs
@@ -81,13 +81,13 @@ module _ (o : Outline) (r : Reader) (above : List (List ℕ)) (l : List ℕ) (ls
       let code = r.code ++ line_of Ret n ∷ [] in
       let fun : Fun = record { name = r.name; code = code } in
       let before : fun_names r.done ++ r.name ∷ [] ≡ entry_names (outline_above above).functions = ap (λ b. cond b (fun_names r.done ++ r.name ∷ []) (fun_names r.done)) (sym i) ∙ g.names in
-      let size : length code ≡ length r.code + 1 = push_length r.code (line_of Ret n) in
+      let size : length code ≡ length r.code + 1 = length_push r.code (line_of Ret n) in
       let next : r.labels.next + 1 ≡ length code = ap (λ s. s.next + 1) stop ∙ ap (λ k. k + 1) (sym (g.placed i)) ∙ sym size in
-      let named : All (λ m. NamesExist (all_functions o) (length code) m.instr) code = subst (λ k. All (λ m. NamesExist (all_functions o) k m.instr) code) next (push_all (InRange o r) r.code (line_of Ret n) (g.code i) tt) in
+      let named : All (λ m. NamesExist (all_functions o) (length code) m.instr) code = subst (λ k. All (λ m. NamesExist (all_functions o) k m.instr) code) next (All-push (InRange o r) r.code (line_of Ret n) (g.code i) tt) in
       let function : IsFunction (all_functions o) fun = record { sized = omega (arith, size, g.short, few); names = named; ends = ends r.code n } in
       record {
         names = map-append (λ (u : Fun). u.name) r.done (fun ∷ []) ∙ before;
-        done = push_all (IsFunction (all_functions o)) r.done fun g.done function;
+        done = All-push (IsFunction (all_functions o)) r.done fun g.done function;
         code = λ t. absurd (both_ways false refl t);
         placed = λ t. absurd (both_ways false refl t);
         short = omega arith;
@@ -100,9 +100,9 @@ module _ (o : Outline) (r : Reader) (above : List (List ℕ)) (l : List ℕ) (ls
   order_sound (Does i) t w a b = record {
     names = g.names;
     done = g.done;
-    code = λ e. push_all (InRange o r) r.code (line_of i n) (g.code e) t;
-    placed = λ e. push_length r.code (line_of i n) ∙ ap (λ k. k + 1) (g.placed e);
-    short = omega (arith, push_length r.code (line_of i n), g.short);
+    code = λ e. All-push (InRange o r) r.code (line_of i n) (g.code e) t;
+    placed = λ e. length_push r.code (line_of i n) ∙ ap (λ k. k + 1) (g.placed e);
+    short = omega (arith, length_push r.code (line_of i n), g.short);
     begun = omega (arith, g.begun);
     labeled = omega (arith, g.labeled);
     orders = omega (arith, g.orders);

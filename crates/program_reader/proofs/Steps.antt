@@ -1,9 +1,8 @@
 -- One line without a fault more.
-use Rattle.std.proofs.Common.{◌≡◌, ◌<◌, ◌+◌, ◌++◌, ℕ, zero, suc, Bool, true, false, cond, List, [], ◌∷◌, length, take, arith, refl, ap, sym, ◌∙◌, append_assoc, length-append}
+use Rattle.std.proofs.Common.{◌≡◌, ◌+◌, ◌++◌, ℕ, Bool, true, false, cond, List, [], ◌∷◌, length, take, arith, refl, ap, sym, ◌∙◌, append_assoc}
 use Rattle.std.specs.Prelude.{Option, Some, None, ◌&&◌, ◌||◌}
-use Rattle.std.specs.List.{All}
-use Rattle.std.proofs.lemmas.List.Elements.{All-append}
 use Rattle.std.proofs.lemmas.Bool.{both_ways}
+use Rattle.std.proofs.lemmas.List.{length_push}
 use Rattle.hh_lang.specs.declared.instr.Instr.{Instr}
 use Rattle.hh_lang.specs.declared.instr.Instr.TheVariants.{Ret}
 use Rattle.hh_lang.specs.declared.program.Line.{Line}
@@ -50,16 +49,6 @@ pub unknown_never : (b : Bool) → is_misplaced b Unknown ≡ false → ⊥
 unknown_never true e = cc
 unknown_never false e = cc
 
-pub push_length : {A : Type 0} (xs : List A) (x : A) → length (xs ++ x ∷ []) ≡ length xs + 1
-push_length xs x = grind (arith, length-append)
-
-single : {A : Type 0} (P : A → Type 0) (x : A) → P x → All P (x ∷ [])
-single P x h zero d lt = h
-single P x h (suc k) d lt = absurd (let l : suc k < 1 = lt in omega arith)
-
-pub push_all : {A : Type 0} (P : A → Type 0) (xs : List A) (x : A) → All P xs → P x → All P (xs ++ x ∷ [])
-push_all P xs x h k = All-append P xs (x ∷ []) h (single P x k)
-
 -- a name that is new is noted behind the others
 pub new_name : (es : List Entry) (name : List ℕ) (n : ℕ) → is_noted es name ≡ false → noted es name n ≡ es ++ record { name = name; number = n } ∷ []
 new_name es name n e = ap (λ b. cond b es (es ++ record { name = name; number = n } ∷ [])) e
@@ -89,7 +78,7 @@ module _ (o : Outline) (r : Reader) (above : List (List ℕ)) (l : List ℕ) (ls
       record {
         inside = refl;
         begun = ap (λ k. k + 1) f.begun;
-        named = ap length e1 ∙ push_length (outline_above above).functions (record { name = name; number = length above + 1 }) ∙ ap (λ k. k + 1) f.named;
+        named = ap length e1 ∙ length_push (outline_above above).functions (record { name = name; number = length above + 1 }) ∙ ap (λ k. k + 1) f.named;
         orders = omega (arith, f.orders);
         opened = λ t. (refl, refl);
       }
@@ -107,7 +96,7 @@ module _ (o : Outline) (r : Reader) (above : List (List ℕ)) (l : List ℕ) (ls
   label_labeled p None e w a = absurd (wrong_none x e w)
   label_labeled p (Some name) e w a =
       let fresh : is_noted (labels_above above).entries name ≡ false = ap (λ es. is_noted es name) (sym (first_labeled r above (l ∷ ls) p)) ∙ a in
-      ap length (new_name (labels_above above).entries name (labels_above above).next fresh) ∙ push_length (labels_above above).entries (record { name = name; number = (labels_above above).next }) ∙ ap (λ k. k + 1) p.labeled
+      ap length (new_name (labels_above above).entries name (labels_above above).next fresh) ∙ length_push (labels_above above).entries (record { name = name; number = (labels_above above).next }) ∙ ap (λ k. k + 1) p.labeled
 
   label_after : (ends_body Label ≡ false → labels_onto (labels_above above) (l ∷ ls) ≡ labels_onto (label_line Label ws (labels_above above)) ls) → x ≡ named (only_name ws) → has_wrong_operand x ≡ false → is_named_in (take r.labeled r.labels.entries) (only_name ws) ≡ false → After (record r { labeled = r.labeled + 1 }) above Label ws None ls
   label_after on e w a = record {

@@ -1,13 +1,13 @@
 // The access that the next step of a task makes.
 
 ghost use Rattle.std.specs.Prelude.{◌≡◌, ◌<◌, ◌^◌, ℕ, pos, IfSome};
-ghost use Rattle.hh_model.specs.Effect.{Setting, effect, place_in, same_name};
+ghost use Rattle.hh_model.specs.Effect.{Setting, effect, place_in};
 ghost use Rattle.race_report.specs.Accesses.{access_of, access_by, unless_trap};
 ghost use Rattle.race_report.specs.Few.{AreFew};
 
 use crate::data::{Access, Field};
 use hh_lang::{Instr, IntReg, Program, RefReg};
-use hh_model::{Frame, Name, State, Strand};
+use hh_model::{Frame, State, Strand, is_same};
 
 // A number as the index of one of so many fields.
 fn field_index(count: usize, index: i64) -> Option<u32>
@@ -20,17 +20,6 @@ fn field_index(count: usize, index: i64) -> Option<u32>
     }
     let at = index as usize;
     if at < count { Some(at as u32) } else { None }
-}
-
-// Whether both are nil, or the same object.
-fn is_same(left: Option<Name>, right: Option<Name>) -> bool
-    ensures { result ≡ same_name left right }
-{
-    match (left, right) {
-        (None, None) => true,
-        (Some(left), Some(right)) => left.task == right.task && left.count == right.count,
-        _ => false,
-    }
 }
 
 // Where an instruction stands: the strand that takes it, and its line.

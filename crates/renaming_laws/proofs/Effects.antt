@@ -4,6 +4,8 @@ use Rattle.std.proofs.Common.{◌≡◌, ℕ, zero, suc, pos, ◌==◌, ◌&&◌
 use Rattle.std.specs.Option.{option_flatten, option_map}
 use Rattle.std.proofs.lemmas.Bool.{cases_eq, false≢true}
 use Rattle.std.proofs.Math.Seq.{map-set}
+use Rattle.std.proofs.lemmas.Option.{slice_get-map}
+use Rattle.std.proofs.lemmas.List.{take-map}
 use Rattle.listed.proofs.Members.{In}
 use Rattle.hh_lang.specs.declared.instr.Instr.{Instr}
 use Rattle.hh_lang.specs.declared.instr.Instr.TheVariants.{Set, Mov, Movr, Nil as NilOf, Calc, Same as SameOf, Jmp, Jz, Newm, Pack, Getr, Geti, Putr, Puti, Cntr, Cnti, Freeze, Cas, Call, Par, Ret, Out}
@@ -18,12 +20,6 @@ use Rattle.hh_model.specs.Precedence.{precedes}
 use Rattle.hh_model.proofs.Carried.{at_in}
 use Rattle.renaming_laws.specs.Renaming.{name_to, ref_to, strand_to, object_to, frame_to}
 use Rattle.renaming_laws.proofs.Changed.{Change, Same, Grows, Edits, ChangesBy, Edit, SetRef, SetNumber, Freezes, EditsBy, Reach, Reaches, change_to, changed, edit_to, edited, put_in}
-use Rattle.renaming_laws.proofs.Lists.{got_map}
-
-take_map : {A B : Type 0} (h : A → B) (k : ℕ) (xs : List A) → take k (map h xs) ≡ map h (take k xs)
-take_map h zero xs = refl
-take_map h (suc k) [] = refl
-take_map h (suc k) (x ∷ xs) = ap (λ ys. h x ∷ ys) (take_map h k xs)
 
 module _ (f g : ℕ → ℕ) (back : (t : ℕ) → g (f t) ≡ t) where
   -- NAMES
@@ -37,7 +33,7 @@ module _ (f g : ℕ → ℕ) (back : (t : ℕ) → g (f t) ≡ t) where
   flat_to (Some r) = refl
 
   pub ref_carried : (x : Frame) (i : ℕ) → ref_in (frame_to f x) i ≡ ref_to f (ref_in x i)
-  ref_carried x i = ap option_flatten (got_map (ref_to f) x.refs i) ∙ flat_to (slice_get x.refs i)
+  ref_carried x i = ap option_flatten (slice_get-map (ref_to f) x.refs i) ∙ flat_to (slice_get x.refs i)
 
   pub set_carried : (x : Frame) (d : ℕ) (r : Option Name) → with_ref (frame_to f x) d (ref_to f r) ≡ frame_to f (with_ref x d r)
   set_carried x d r = ap (λ rs. record x { refs = rs }) (sym (map-set (ref_to f) x.refs d r))
@@ -198,7 +194,7 @@ module _ (f g : ℕ → ℕ) (back : (t : ℕ) → g (f t) ≡ t) where
           let i = Newm d a b in
           trap S i Size (counts_in s.field_limit (int_in x a) (int_in x b)) _ _ (λ n e.
           new S i d _ _ (ap (λ rs. record { strand = strand_to f s.strand; mutable = true; refs = rs; ints = replicate n.1 (pos 0) }) (sym (none_map n.0))))
-      effect_carried (Pack d r k) may = new S (Pack d r k) d _ _ (ap (λ rs. record { strand = strand_to f s.strand; mutable = false; refs = rs; ints = take k x.ints }) (take_map (ref_to f) r x.refs))
+      effect_carried (Pack d r k) may = new S (Pack d r k) d _ _ (ap (λ rs. record { strand = strand_to f s.strand; mutable = false; refs = rs; ints = take k x.ints }) (take-map (ref_to f) r x.refs))
       effect_carried (Getr d o k) may =
           let i = Getr d o k in
           object S i o _ _ (λ n y y' e held was was' seen.

@@ -1,6 +1,7 @@
 -- A step of a renamed task is the renamed step.
 use Rattle.std.proofs.Common.{◌≡◌, ℕ, ℤ, ◌+◌, ◌≤◌, Bool, Option, Some, None, List, [], ◌∷◌, ◌++◌, length, map, slice_get, slice_set, inl, inr, refl, ap, sym, subst, ◌∙◌, arith, length-append, length-set}
 use Rattle.std.specs.Option.{option_map}
+use Rattle.std.proofs.lemmas.Option.{slice_get-map}
 use Rattle.listed.proofs.Members.{In, in_append_cases, in_append_left, in_append_right}
 use Rattle.listed.proofs.Places.{in_map}
 use Rattle.hh_model.specs.declared.data.Name.{Name}
@@ -17,7 +18,7 @@ use Rattle.hh_model.specs.Step.{can_step, edge, ended_by, goes_on, is_running, j
 use Rattle.renaming_laws.specs.Renaming.{IsRenaming, name_to, ref_to, edge_to, object_to, frame_to, status_to, task_to, end_to}
 use Rattle.renaming_laws.specs.Alike.{AreAlike}
 use Rattle.renaming_laws.proofs.Effects.{set_carried}
-use Rattle.renaming_laws.proofs.Lists.{ListTo, from_map, got_map, push_to, set_to}
+use Rattle.renaming_laws.proofs.Lists.{ListTo, from_map, push_to, set_to}
 
 abbrev pub result_to : (ℕ → ℕ) → ℤ × Option Name → ℤ × Option Name
 result_to f r = (r.0, ref_to f r.1)
@@ -64,7 +65,7 @@ module _ (n : ℕ) (f g : ℕ → ℕ) (R : IsRenaming n f g) (m m' : State) (A 
   pub object_there : (k : Name) → object_at m'.store (name_to f k) ≡ option_map (object_to f) (object_at m.store k)
   object_there k =
       ap (λ w. slice_get (row_of w) k.count) (A.objects k.task)
-      ∙ (ap (λ (w : List Object). slice_get w k.count) (row_to f (slice_get m.store k.task)) ∙ got_map (object_to f) (row_of (slice_get m.store k.task)) k.count)
+      ∙ (ap (λ (w : List Object). slice_get w k.count) (row_to f (slice_get m.store k.task)) ∙ slice_get-map (object_to f) (row_of (slice_get m.store k.task)) k.count)
 
   -- WHAT A STEP MAKES OF BOTH
 

@@ -2,13 +2,9 @@
 use Rattle.std.proofs.Common.{◌≡◌, ℕ, zero, suc, ◌+◌, ◌-◌, ◌<◌, ◌≤◌, Option, Some, None, List, [], ◌∷◌, ◌++◌, length, map, slice_get, slice_set, ◌⊎◌, inl, inr, refl, ap, sym, subst, ◌∙◌, arith}
 use Rattle.std.specs.Option.{option_map}
 use Rattle.std.proofs.lemmas.Bool.{cases_eq, cases_lt}
+use Rattle.std.proofs.lemmas.Option.{slice_get-map}
 use Rattle.listed.proofs.Members.{In, got_front, got_back, got_other}
 use Rattle.hh_model.specs.Step.{last_of, front_of}
-
-pub got_map : {A B : Type 0} (h : A → B) (xs : List A) (k : ℕ) → slice_get (map h xs) k ≡ option_map h (slice_get xs k)
-got_map h [] k = refl
-got_map h (x ∷ xs) zero = refl
-got_map h (x ∷ xs) (suc k) = got_map h xs k
 
 pub got_set : {A : Type 0} (xs : List A) (k : ℕ) (x : A) → slice_get (slice_set xs k x) k ≡ option_map (λ y. x) (slice_get xs k)
 got_set [] k x = refl
@@ -56,7 +52,7 @@ module _ {A : Type 0} (f g : ℕ → ℕ) (back : (t : ℕ) → g (f t) ≡ t) (
         let j : f k ≡ length ys + (k - length xs) = omega (arith, beyond k ge, len) in
         let i : length xs + (k - length xs) ≡ k = omega arith in
         ap (slice_get (ys ++ map h zs)) j ∙ (got_back ys (map h zs) (k - length xs)
-        ∙ (got_map h zs (k - length xs) ∙ ap (option_map h) (sym (got_back xs zs (k - length xs)) ∙ ap (slice_get (xs ++ zs)) i)))
+        ∙ (slice_get-map h zs (k - length xs) ∙ ap (option_map h) (sym (got_back xs zs (k - length xs)) ∙ ap (slice_get (xs ++ zs)) i)))
   ]
     where
       below : k < length xs → (f k < length xs) ⊎ (length xs ≤ f k) → f k < length ys

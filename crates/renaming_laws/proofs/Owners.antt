@@ -13,7 +13,7 @@ use Rattle.hh_model.specs.declared.data.State.{State}
 use Rattle.hh_model.specs.Precedence.{Precedes, precedes}
 use Rattle.hh_model.specs.Step.{is_joined, is_over, joined, owner_by, owner_of, parent_of, parents, through}
 use Rattle.hh_model.specs.Tree.{IsForkJoinState}
-use Rattle.hh_model.proofs.Paths.{owner_live}
+use Rattle.hh_model.proofs.Climbs.{owner_here}
 use Rattle.renaming_laws.specs.Renaming.{IsRenaming, strand_to, edge_to, status_to, task_to}
 use Rattle.renaming_laws.specs.Alike.{AreAlike}
 use Rattle.renaming_laws.proofs.Carried.{walk_to}
@@ -31,6 +31,10 @@ parent_to f (Some x) = refl
 joined_to : (f : ℕ → ℕ) (o : Option Task) → is_joined (option_map (task_to f) o) ≡ is_joined o
 joined_to f None = refl
 joined_to f (Some x) = over_to f x.status
+
+-- what precedes goes on to precede
+pub walks : (f : ℕ → ℕ) (a b : State) → AreAlike f a b → (u v : Strand) → Precedes a.edges u v → Precedes b.edges (strand_to f u) (strand_to f v)
+walks f a b A u v w = walk_to f a.edges b.edges (λ e. (A.edges e).1) w.0 u v w.1
 
 module _ (n : ℕ) (f g : ℕ → ℕ) (R : IsRenaming n f g) (m m' : State) (K : IsForkJoinState m) (K' : IsForkJoinState m') (A : AreAlike f m m') where
   abbrev par : ℕ → Option ℕ
@@ -52,7 +56,7 @@ module _ (n : ℕ) (f g : ℕ → ℕ) (R : IsRenaming n f g) (m m' : State) (K 
   jd_at a = ap is_joined (A.tasks a) ∙ joined_to f (slice_get m.tasks a)
 
   live : (k k' a : ℕ) → jd a ≡ false → owner_by par' jd' k' (f a) ≡ f (owner_by par jd k a)
-  live k k' a e = owner_live par' K'.tree.low jd' k' (f a) (jd_at a ∙ e) ∙ ap f (sym (owner_live par K.tree.low jd k a e))
+  live k k' a e = owner_here par' jd' k' (f a) (jd_at a ∙ e) ∙ ap f (sym (owner_here par jd k a e))
 
   -- a task that has joined, and its parent
   abbrev Under : ℕ → Type 0
@@ -90,16 +94,10 @@ module _ (n : ℕ) (f g : ℕ → ℕ) (R : IsRenaming n f g) (m m' : State) (K 
 
   -- STRANDS
 
-  edge_there : (e : Edge) → In m.edges e → In m'.edges (edge_to f e)
-  edge_there e i = (A.edges e).1 i
-
   edge_here : (e : Edge) → In m'.edges e → In m.edges (edge_to g e)
   edge_here e i =
       let same : edge_to f (edge_to g e) ≡ e = λ j. record { source = record { task = R.forth e.source.task j; joins = e.source.joins }; target = record { task = R.forth e.target.task j; joins = e.target.joins } } in
       (A.edges (edge_to g e)).0 (subst (In m'.edges) (sym same) i)
-
-  precedes_there : (u v : Strand) → Precedes m.edges u v → Precedes m'.edges (strand_to f u) (strand_to f v)
-  precedes_there u v w = walk_to f m.edges m'.edges edge_there w.0 u v w.1
 
   precedes_here : (u v : Strand) → Precedes m'.edges (strand_to f u) (strand_to f v) → Precedes m.edges u v
   precedes_here u v w =
@@ -110,4 +108,4 @@ module _ (n : ℕ) (f g : ℕ → ℕ) (R : IsRenaming n f g) (m m' : State) (K 
   test_to u v =
       same_truth (precedes m'.edges (strand_to f u) (strand_to f v)) (precedes m.edges u v)
       (λ e. (K.tree.right u v).1 (precedes_here u v ((K'.tree.right (strand_to f u) (strand_to f v)).0 e)))
-      (λ e. (K'.tree.right (strand_to f u) (strand_to f v)).1 (precedes_there u v ((K.tree.right u v).0 e)))
+      (λ e. (K'.tree.right (strand_to f u) (strand_to f v)).1 (walks f m m' A u v ((K.tree.right u v).0 e)))

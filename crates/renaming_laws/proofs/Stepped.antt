@@ -4,6 +4,7 @@ use Rattle.std.specs.Option.{option_map}
 use Rattle.std.proofs.lemmas.Bool.{cond-true, cond-false}
 use Rattle.std.proofs.lemmas.List.{length-map, map-append}
 use Rattle.std.proofs.Math.Seq.{map-set}
+use Rattle.std.proofs.lemmas.Option.{slice_get-map}
 use Rattle.hh_lang.specs.declared.instr.Instr.{Instr}
 use Rattle.hh_lang.specs.declared.program.Line.{Line}
 use Rattle.hh_lang.specs.Form.{ProgramText}
@@ -22,7 +23,7 @@ use Rattle.renaming_laws.specs.Renaming.{IsRenaming, ref_to, object_to, frame_to
 use Rattle.renaming_laws.specs.Alike.{AreAlike}
 use Rattle.renaming_laws.proofs.Changed.{Change, Same, Grows, Edits, Edit, SetRef, SetNumber, Freezes, change_to, changed, edit_to, edited, put_in}
 use Rattle.renaming_laws.proofs.Effects.{EffectTo, Sees, SeenTo, TestTo, effect_carried, ref_carried, same_task, set_carried}
-use Rattle.renaming_laws.proofs.Lists.{front_map, got_map, last_map, set_to}
+use Rattle.renaming_laws.proofs.Lists.{front_map, last_map, set_to}
 use Rattle.renaming_laws.proofs.Owners.{owner_to, test_to}
 use Rattle.renaming_laws.proofs.Follows.{StoreTo, can_to, forks, halted, joins, kept_to, object_there, own, result_to, row_to, written}
 
@@ -55,7 +56,7 @@ module _ (p : ProgramText) (n : ℕ) (f g : ℕ → ℕ) (R : IsRenaming n f g) 
       where
         seen : (k : Name) (o : Option Object) → SeenTo f g R.back s m'.edges (owner_of m'.tasks) x.top m.store m'.store (λ b k i. Unit {0}) k o (option_map (object_to f) o)
         seen k None = tt
-        seen k (Some o) = record { mutable = refl; refs = length-map o.refs (ref_to f); ints = refl; ref_at = λ i may. got_map (ref_to f) o.refs i; int_at = λ i may. refl }
+        seen k (Some o) = record { mutable = refl; refs = length-map o.refs (ref_to f); ints = refl; ref_at = λ i may. slice_get-map (ref_to f) o.refs i; int_at = λ i may. refl }
 
         tested : (o : Option Object) → TestTo f g R.back s m'.edges (owner_of m'.tasks) x.top m.store m'.store (λ b k i. Unit {0}) o (option_map (object_to f) o)
         tested None = tt
@@ -97,7 +98,7 @@ module _ (p : ProgramText) (n : ℕ) (f g : ℕ → ℕ) (R : IsRenaming n f g) 
         let row : List Object = row_of (slice_get m.store k.task) in
         row_set k.task (put_in row k.count e (slice_get row k.count)) (put_in (row_of (slice_get m'.store (f k.task))) k.count (edit_to f e) (slice_get (row_of (slice_get m'.store (f k.task))) k.count))
         (ap (λ w. put_in w k.count (edit_to f e) (slice_get w k.count)) (rows_at k.task)
-        ∙ (ap (put_in (map (object_to f) row) k.count (edit_to f e)) (got_map (object_to f) row k.count) ∙ put_there row k.count e (slice_get row k.count)))
+        ∙ (ap (put_in (map (object_to f) row) k.count (edit_to f e)) (slice_get-map (object_to f) row k.count) ∙ put_there row k.count e (slice_get row k.count)))
 
     -- RETURNS
 

@@ -1,6 +1,6 @@
 -- One step of a task, put together from its parts.
-use Rattle.std.proofs.Common.{◌≡◌, ℕ, ◌+◌, ◌-◌, ◌<◌, ◌≤◌, ◌^◌, ◌==◌, not, Bool, true, false, cond, List, [], ◌∷◌, ◌++◌, Option, Some, None, slice_get, slice_set, inl, inr, refl, ap, ap₂, sym, subst, ◌∙◌, arith, nat_lt}
-use Rattle.std.proofs.lemmas.Bool.{false≢true, cases_eq, eqb-true, leb-true, cond-true, cond-false, not-false}
+use Rattle.std.proofs.Common.{◌≡◌, ℕ, ◌+◌, ◌<◌, ◌≤◌, ◌^◌, ◌==◌, not, Bool, true, false, cond, List, [], ◌∷◌, ◌++◌, Option, Some, None, slice_get, slice_set, inl, inr, refl, ap, ap₂, sym, subst, ◌∙◌, arith, nat_lt}
+use Rattle.std.proofs.lemmas.Bool.{false≢true, cases_eq, eqb-true, leb-true, cond-true, not-false}
 use Rattle.std.proofs.lemmas.Option.{same_Some}
 use Rattle.listed.proofs.Members.{In, got_same, got_other, got_front, got_within, contains_from_in, in_from_contains}
 use Rattle.hh_lang.specs.Form.{ProgramText}
@@ -16,6 +16,7 @@ use Rattle.run_ledger.specs.declared.data.Ledger.{Ledger}
 use Rattle.run_ledger.specs.Heaps.{heap_of, or_fresh, heap_at, fresh, with_heap, with_heap_at, held_in, in_use, placed, is_small, lacks_room, units, units_in, within, forked_heap}
 use Rattle.run_ledger.specs.Steps.{allocated_in, allocated_by, task_step, settled, moved_to, moved_on, at_fork, is_in_need, on_asked}
 use Rattle.run_ledger.proofs.Machine.{heap_machine}
+use Rattle.run_ledger.proofs.Held.{placed_since}
 use Rattle.run_accounts.proofs.Snaps.{settled_paired}
 use Rattle.ledger_heaps.specs.Accounts.{AreOwned}
 use Rattle.run_accounts.specs.Accounts.{AccountsValue, Steady, ArePaired, Forks, large_by, next_large, used_by, used_after, went_on}
@@ -60,21 +61,12 @@ counts_nothing s k t r e = ap (λ (o : Option ℕ). record k { used = used_by k.
 
 -- WORDS SINCE THE LAST COLLECTION
 
-placed_since : (h : Heap) (n : Name) (w : ℕ) (b : Bool)
-    → (cond b (record h { chunks = h.chunks; room = h.room - w; since = h.since + w }) (record h { large = h.large ++ n ∷ []; reserved = 0; since = h.since + w })).since ≡ h.since + w
-placed_since h n w true = refl
-placed_since h n w false = refl
-
 -- what has room is no larger than a chunk, or than what waits for it
 pub small_enough : (h : Heap) (w : ℕ) (b : Bool) → is_small w ≡ b → cond b (nat_lt h.room w) (not (h.reserved == units w)) ≡ false → h.reserved < 2 ^ 20 → w < 2 ^ 31
 small_enough h w true is e few = let le : w ≤ 1024 = leb-true w 1024 is in omega arith
 small_enough h w false is e few =
     let r : h.reserved ≡ units w = eqb-true h.reserved (units w) (not-false (h.reserved == units w) e) in
     omega arith
-
-pub placed_is : (h : Heap) (n : Name) (w : ℕ) (b : Bool) → is_small w ≡ b → (placed h n w).since ≡ h.since + w
-placed_is h n w true e = ap (λ (q : Heap). q.since) (cond-true (is_small w) _ _ e)
-placed_is h n w false e = ap (λ (q : Heap). q.since) (cond-false (is_small w) _ _ e)
 
 module _ (l : Ledger) (t : ℕ) (S : Steady l) where
   at_heap : (w : ℕ) (o : Option Heap) → heap_at l t ≡ o → lacks_room (or_fresh o) w ≡ false → (f : Heap → Heap) → ((h : Heap) → (f h).since ≡ h.since + w)
@@ -101,7 +93,7 @@ module _ (l : Ledger) (t : ℕ) (S : Steady l) where
 
   since_by : (o : Option ℕ) → on_asked o (lacks_room (heap_of l t)) ≡ false → (u : ℕ) → (heap_of (allocated_by l t o) u).since < 2 ^ 62
   since_by None e u = let a = S.since u in omega arith
-  since_by (Some w) e u = at_heap w (heap_at l t) refl e (λ h. placed h _ w) (λ h. placed_is h _ w (is_small w) refl) u
+  since_by (Some w) e u = at_heap w (heap_at l t) refl e (λ h. placed h _ w) (λ h. placed_since h _ w) u
 
 pub since_few : (p : ProgramText) (l : Ledger) (t : ℕ) → Steady l → is_in_need p l t ≡ false → (s s1 s2 s3 : AccountsValue) (used : ℕ) → s.program ≡ p → s.ledger ≡ l
     → s1 ≡ record s { ledger = allocated_in s.program s.ledger t } → s2 ≡ record s1 { ledger = advanced s1.program s1.ledger t } → s3 ≡ record s2 { used = used }

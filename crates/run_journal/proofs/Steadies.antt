@@ -22,6 +22,7 @@ use Rattle.run_ledger.specs.Space.{store_words}
 use Rattle.run_ledger.proofs.Machine.{stepped_machine}
 use Rattle.run_ledger.proofs.Sound.{SoundLedger, names_of, collecting}
 use Rattle.run_ledger.proofs.Moves.{Moves}
+use Rattle.run_ledger.proofs.Held.{placed_since}
 use Rattle.run_ledger.proofs.Steps.{SoundAt, heap_of_task, can_tells, task_step_sound}
 use Rattle.run_ledger.proofs.Weights.{weight, weight_additive, total, total_set, moves_total, collected_weight, swept_weight}
 use Rattle.run_ledger.proofs.Stocks.{StockedLedger, G, L, with_heap_any, chunk_lighter, allocated_total, task_step_stocked, legal_stocked}
@@ -33,7 +34,7 @@ use Rattle.run_ledger.proofs.Cuts.{after_cut, cut_legal}
 use Rattle.run_ledger.proofs.Bounds.{asked_bounds, stands_by, ran_tells, task_steps_steps, steps_are_bounded}
 use Rattle.journal_laws.proofs.Since.{since_additive, since_in}
 use Rattle.run_accounts.specs.Accounts.{Steady, StaysSteady}
-use Rattle.run_accounts.proofs.Stepped.{small_enough, placed_is}
+use Rattle.run_accounts.proofs.Stepped.{small_enough}
 use Rattle.run_accounts.proofs.Snaps.{one_each, Snaps, snaps_set, snaps_allocated, snaps_settled, sound_paired}
 use Rattle.run_accounts.proofs.Uses.{one_of, step_used}
 
@@ -83,9 +84,6 @@ module _ (p : ProgramText) (s : SettingsValue) (A : AreLimits s) (l : Ledger) (t
 
   placed_long : (w : ℕ) → length (allocated_by l t (Some w)).heaps ≡ length l.heaps
   placed_long w = with_heap_any (λ q. length q.heaps ≡ length l.heaps) l t _ refl (λ h e. length-set l.heaps t _)
-
-  placed_since : (h : Heap) (n : Name) (w : ℕ) → since_in (placed h n w) ≡ h.since + w
-  placed_since h n w = placed_is h n w (is_small w) refl
 
   -- after the allocation
   record Placed (q : Ledger) : Type 0 where

@@ -335,7 +335,7 @@ module _ (p : ProgramText) (s : SettingsValue) (l : Ledger) (t : ℕ) (S : Sound
   }
 
 module _ (p : ProgramText) (s : SettingsValue) where
-  task_step_booked : (l : Ledger) (t : ℕ) → SoundAt t l → StockedLedger l → BookedLedger p s l → (is_due s p l t || is_in_need p l t) ≡ false → BookedLedger p s (task_step p l t)
+  pub task_step_booked : (l : Ledger) (t : ℕ) → SoundAt t l → StockedLedger l → BookedLedger p s l → (is_due s p l t || is_in_need p l t) ≡ false → BookedLedger p s (task_step p l t)
   task_step_booked l t S I B fine = by (can_step l.machine t) refl
     where
       by : (v : Bool) → can_step l.machine t ≡ v → BookedLedger p s (cond v (stepped_to (allocated_in p l t) t (step p l.machine t)) (record l { steps = l.steps + 1 }))

@@ -9,7 +9,7 @@ use Rattle.run_ledger.specs.declared.data.Ledger.{Ledger}
 use Rattle.run_ledger.specs.declared.data.Refused.{Refused}
 use Rattle.run_ledger.specs.declared.data.RefusedAt.{RefusedAt}
 use Rattle.run_ledger.specs.Entries.{refusal, after}
-use Rattle.run_ledger.specs.Journals.{opening, after_all, is_legal_from, refused_or, first_refused_from}
+use Rattle.run_ledger.specs.Journals.{opening, after_all, ledger_of, is_legal, is_legal_from, refused_or, first_refused_from}
 use Rattle.run_ledger.specs.Cuts.{LegalIsUnrefused, JournalsCanBeCut, FirstRefusedIsFirst}
 
 module _ (p : ProgramText) (s : SettingsValue) where
@@ -29,6 +29,10 @@ module _ (p : ProgramText) (s : SettingsValue) where
   joined_legal (e ∷ first) rest l h g =
       let both = and_parts (is_none (refusal p s l e)) (is_legal_from p s (after p s l e) first) h in
       and_from (is_none (refusal p s l e)) (is_legal_from p s (after p s l e) (first ++ rest)) both.0 (joined_legal first rest (after p s l e) both.1 g)
+
+  -- a journal stays legal with an entry more that isn't refused
+  pub legal_then : (journal : List EntryValue) (e : EntryValue) → is_legal p s journal ≡ true → refusal p s (ledger_of p s journal) e ≡ None → is_legal p s (journal ++ e ∷ []) ≡ true
+  legal_then journal e legal none = joined_legal journal (e ∷ []) (opening p s) legal (ap (λ o. is_none o && true) none)
 
   abbrev Unrefused : Ledger → List EntryValue → Type 0
   Unrefused l journal = (before : List EntryValue) (e : EntryValue) (rest : List EntryValue) → journal ≡ before ++ e ∷ rest → refusal p s (after_all p s l before) e ≡ None

@@ -1,7 +1,8 @@
 -- A large object has just the words that the step asks for.
-use Rattle.std.proofs.Common.{◌≡◌, ℕ, zero, suc, pos, ◌+◌, ◌<◌, ◌≤◌, arith, true, false, Option, Some, None, List, length, slice_get, replicate, refl, ap, sym, ◌∙◌}
+use Rattle.std.proofs.Common.{◌≡◌, ℕ, pos, ◌+◌, ◌<◌, ◌≤◌, arith, true, false, Option, Some, None, List, length, slice_get, replicate, refl, ap, sym, ◌∙◌}
 use Rattle.std.proofs.lemmas.Bool.{leb-false}
 use Rattle.std.proofs.lemmas.Option.{same_Some}
+use Rattle.std.proofs.lemmas.List.{length-replicate}
 use Rattle.listed.proofs.Members.{got_within}
 use Rattle.listed.proofs.Places.{got_some}
 use Rattle.listed.proofs.Options.{none_some}
@@ -9,6 +10,7 @@ use Rattle.hh_lang.specs.declared.instr.Instr.{Instr}
 use Rattle.hh_lang.specs.declared.instr.Instr.TheVariants.{Set, Mov, Movr, Nil as NilOf, Calc, Same, Jmp, Jz, Newm, Pack, Getr, Geti, Putr, Puti, Cntr, Cnti, Freeze, Cas, Call, Par, Ret, Out}
 use Rattle.hh_lang.specs.declared.program.Line.{Line}
 use Rattle.hh_lang.specs.Form.{ProgramText, line_at}
+use Rattle.hh_model.specs.declared.data.Name.{Name}
 use Rattle.hh_model.specs.declared.data.Object.{Object}
 use Rattle.hh_model.specs.declared.data.Frame.{Frame}
 use Rattle.hh_model.specs.declared.data.Task.{Task}
@@ -31,10 +33,6 @@ PacksAreSmall p = (g n : ℕ) (line : Line) (d r i : ℕ) → line_at p g n ≡ 
 abbrev MakesJust : Setting → Frame → List (List Object) → ℕ → Effect → Type 0
 MakesJust s f store w e = (d : ℕ) × (o : Object) × (e ≡ made s f store d o) × (words_of (Some o) ≡ w)
 
-length_same : {A : Type 0} (k : ℕ) (x : A) → length (replicate k x) ≡ k
-length_same zero x = refl
-length_same (suc k) x = ap suc (length_same k x)
-
 newm_just : (s : Setting) (f : Frame) (store : List (List Object)) (d : ℕ) (o : Option (ℕ × ℕ)) (w : ℕ) → words_for o ≡ Some w
     → MakesJust s f store w (or_trap Size o (λ n. made s f store d (record { strand = s.strand; mutable = true; refs = replicate n.0 None; ints = replicate n.1 (pos 0) })))
 newm_just s f store d None w e = none_some e
@@ -42,7 +40,7 @@ newm_just s f store d (Some n) w e = (
   d,
   record { strand = s.strand; mutable = true; refs = replicate n.0 None; ints = replicate n.1 (pos 0) },
   refl,
-  ap (λ k. 2 + k + length (replicate n.1 (pos 0))) (length_same n.0 None) ∙ (ap (λ k. 2 + n.0 + k) (length_same n.1 (pos 0)) ∙ same_Some (2 + n.0 + n.1) w e),
+  ap (λ k. 2 + k + length (replicate n.1 (pos 0))) (length-replicate {A = Option Name} n.0 None) ∙ (ap (λ k. 2 + n.0 + k) (length-replicate n.1 (pos 0)) ∙ same_Some (2 + n.0 + n.1) w e),
 )
 
 pack_small : {A : Type 0} (r i w : ℕ) → 2 + r + i ≡ w → r ≤ 16 → i ≤ 16 → is_small w ≡ false → A

@@ -24,7 +24,7 @@ use Rattle.run_ledger.proofs.Machine.{stepped_machine}
 use Rattle.run_ledger.proofs.Sound.{SoundLedger}
 use Rattle.run_ledger.proofs.Steps.{SoundAt, step_leaves, task_step_sound}
 use Rattle.path_laws.specs.Leaves.{LeavesOwner}
-use Rattle.path_laws.proofs.Leaves.{leaves_owner}
+use Rattle.path_laws.proofs.Leaves.{leaves_owner, same_owner}
 use Rattle.run_ledger.proofs.Booked.{wait_run}
 use Rattle.run_ledger.proofs.Stocks.{with_heap_any}
 use Rattle.run_ledger.proofs.Cuts.{cut_legal}
@@ -34,9 +34,6 @@ use Rattle.run_ledger.proofs.Journals.{none_unless, out_tells, wait_tells, entry
 -- the task u is as it was, with what it owns, and the account of its heap
 abbrev Left : ℕ → Ledger → Ledger → Type 0
 Left u l k = LeavesOwner l.machine k.machine u × (slice_get k.heaps u ≡ slice_get l.heaps u)
-
-same_owner : (m : State) (u : ℕ) → LeavesOwner m m u
-same_owner m u = record { task = refl; owned = λ a. ((λ q. q), (λ q. q)); objects = λ n own. refl }
 
 both_owner : (m m' m'' : State) (u : ℕ) → LeavesOwner m m' u → LeavesOwner m' m'' u → LeavesOwner m m'' u
 both_owner m m' m'' u A B = record {

@@ -5,6 +5,7 @@ use Rattle.std.proofs.Common.{◌≡◌, ℕ, ℤ, zero, suc, pos, ◌+◌, ◌-
 use Rattle.std.specs.Option.{option_flatten}
 use Rattle.std.proofs.lemmas.Bool.{false≢true}
 use Rattle.std.proofs.lemmas.Option.{same_Some}
+use Rattle.std.proofs.lemmas.List.{length-take, length-replicate}
 use Rattle.listed.proofs.Members.{got_within}
 use Rattle.listed.proofs.Places.{got_some}
 use Rattle.listed.proofs.Options.{none_some}
@@ -134,15 +135,6 @@ module _ (s : Setting) (f : Frame) (store : List (List Object)) where
   reads d None = same
   reads d (Some n) = trap Nil (object_at store n) _ (λ o. either (precedes s.edges o.strand s.strand) _ (Stops n) same refl)
 
-  length_take : {A : Type 0} (k : ℕ) (xs : List A) → length (take k xs) ≤ k
-  length_take zero xs = omega arith
-  length_take (suc k) [] = omega arith
-  length_take (suc k) (x ∷ xs) = let h = length_take k xs in omega arith
-
-  length_same : {A : Type 0} (k : ℕ) (x : A) → length (replicate k x) ≡ k
-  length_same zero x = refl
-  length_same (suc k) x = ap suc (length_same k x)
-
   newm : (d : ℕ) (o : Option (ℕ × ℕ)) → Makes s store (words_for o) (or_trap Size o (λ n. made s f store d (record { strand = s.strand; mutable = true; refs = replicate n.0 None; ints = replicate n.1 (pos 0) })))
   newm d None = refl
   newm d (Some n) = inr (
@@ -150,7 +142,7 @@ module _ (s : Setting) (f : Frame) (store : List (List Object)) where
     refl,
     record {
       new = record { strand = s.strand; mutable = true; refs = replicate n.0 None; ints = replicate n.1 (pos 0) };
-      size = omega (arith, length_same {A = Option Name} n.0 None, length_same n.1 (pos 0));
+      size = omega (arith, length-replicate {A = Option Name} n.0 None, length-replicate n.1 (pos 0));
       is = refl;
     },
   )
@@ -170,7 +162,7 @@ module _ (s : Setting) (f : Frame) (store : List (List Object)) where
     refl,
     record {
       new = record { strand = s.strand; mutable = false; refs = take r f.refs; ints = take i f.ints };
-      size = omega (arith, length_take r f.refs, length_take i f.ints);
+      size = omega (arith, length-take r f.refs, length-take i f.ints);
       is = refl;
     },
   )

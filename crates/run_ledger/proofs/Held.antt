@@ -93,6 +93,14 @@ placed_begun_by h n w false = refl
 pub placed_begun : (h : Heap) (n : Name) (w : ℕ) → (placed h n w).begun ≡ h.begun
 placed_begun h n w = placed_begun_by h n w (is_small w)
 
+placed_since_by : (h : Heap) (n : Name) (w : ℕ) (b : Bool) → (cond b (small_placed h n w) (large_placed h n w)).since ≡ h.since + w
+placed_since_by h n w true = refl
+placed_since_by h n w false = refl
+
+-- a heap counts the words that are placed in it
+pub placed_since : (h : Heap) (n : Name) (w : ℕ) → (placed h n w).since ≡ h.since + w
+placed_since h n w = placed_since_by h n w (is_small w)
+
 -- an empty chunk
 pub chunk_down : (h : Heap) (room : ℕ) (x : Name) → In (held_in (record h { chunks = h.chunks ++ [] ∷ []; room = room })) x → In (held_in h) x
 chunk_down h room x i = elim (held_cases (record h { chunks = h.chunks ++ [] ∷ []; room = room }) x i) [

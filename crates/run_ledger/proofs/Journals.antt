@@ -5,11 +5,9 @@ use Rattle.std.proofs.lemmas.Option.{same_Some}
 use Rattle.listed.proofs.Members.{In, in_from_contains, contains_from_in}
 use Rattle.hh_lang.specs.Form.{ProgramText}
 use Rattle.hh_model.specs.declared.data.Name.{Name}
-use Rattle.hh_model.specs.declared.data.Status.{Status}
-use Rattle.hh_model.specs.declared.data.Status.TheVariants.{Running, Waiting, Ended, Joined}
 use Rattle.hh_model.specs.declared.data.Task.{Task}
-use Rattle.hh_model.specs.Names.{refs_at, registers, names_from, task_names}
-use Rattle.hh_model.specs.Step.{is_over, is_running, is_waiting, is_joined, parents, joined, owner_of, is_on_path, root, start, asked}
+use Rattle.hh_model.specs.Names.{refs_at, registers, task_names}
+use Rattle.hh_model.specs.Step.{is_running, is_waiting, is_joined, parents, joined, owner_of, is_on_path, root, start, asked}
 use Rattle.hh_model.proofs.Tree.{not_above, owner_not_joined}
 use Rattle.hh_model.proofs.Runs.{waiting, running_tells}
 use Rattle.hh_model.proofs.ForkJoinStates.{start_is_fork_join_state}
@@ -34,7 +32,7 @@ use Rattle.run_ledger.specs.Laws.{IsHeldByTask, Refers, KeepsReachable, NothingR
 use Rattle.run_ledger.proofs.Held.{chunk_down, chunk_up, collected_down, collected_up, swept_down, swept_up}
 use Rattle.run_ledger.specs.Sound.{ChangesKeepSound, EntriesKeepSound}
 use Rattle.run_ledger.proofs.Sound.{InHeaps, Keeps, Spares, collecting, snapshot_at, survivors_at, Sound, SoundLedger, closed_same, frozen, renewed, changed, cut, spares_kept, up_with, down, in_held, held_keeps}
-use Rattle.run_ledger.proofs.Steps.{task_steps_sound}
+use Rattle.run_ledger.proofs.Steps.{named_live, task_steps_sound}
 
 -- a refusal that is none
 pub none_where : (b : Bool) (c : Refused) (rest : Option Refused) → is_none (refused_if b c rest) ≡ true → (b ≡ false) × (is_none rest ≡ true)
@@ -76,12 +74,6 @@ module _ (l : Ledger) (S : SoundLedger l) (t : ℕ) (run : is_running (slice_get
 
   not_above_t : (u : ℕ) → joined l.machine.tasks u ≡ false → (t ≡ u → ⊥) → is_on_path l.machine.tasks t u ≡ false
   not_above_t u live ne = not_above (length l.machine.tasks) (parents l.machine.tasks) (joined l.machine.tasks) (waiting l.machine.tasks) _ l.machine.edges S.kept.tree t u live ne not_waiting
-
-  named_live : (s : Status) (r : Name) (z : Task) → z.status ≡ s → In (task_names z) r → is_over s ≡ false
-  named_live Running r z e i = refl
-  named_live Waiting r z e i = refl
-  named_live (Ended q w) r z e i = refl
-  named_live Joined r z e i = absurd (subst (λ v. In (names_from v (z.top ∷ z.below)) r) e i)
 
   regs : (u : ℕ) (z : Task) (r : Name) → slice_get l.machine.tasks u ≡ Some z → is_on_path l.machine.tasks t u ≡ true → In (task_names z) r → In (registers (frames_of (slice_get l.machine.tasks t))) r
   regs u z r e h i = elim (cases_eq u t) [

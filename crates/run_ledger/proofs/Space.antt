@@ -36,6 +36,14 @@ use Rattle.run_ledger.proofs.Booked.{Booked, BookedLedger, no_begun, asked_runs,
 use Rattle.run_ledger.proofs.Cuts.{cut_legal}
 use Rattle.run_ledger.proofs.Journals.{none_unless, none_where, out_tells, wait_tells, entry_tells, entry_sound, opening_sound, not_waiting}
 
+-- no collection, no chunks set aside for it
+pub begun_none : (h : Heap) → is_some h.begun ≡ false → begun_in h ≡ 0
+begun_none h e = by h.begun e
+  where
+    by : (o : Option ℕ) → is_some o ≡ false → unwrap_or o 0 ≡ 0
+    by None q = refl
+    by (Some c) q = absurd (false≢true (sym q))
+
 module _ (p : ProgramText) (s : SettingsValue) where
   -- the account of one heap changes, and it has at most so many chunks more in use
   set_booked : (l : Ledger) (t extra : ℕ) (f : Heap → Heap) → BookedLedger p s l
@@ -73,13 +81,6 @@ module _ (p : ProgramText) (s : SettingsValue) where
   -- the heap that an entry speaks of
   heap_is : (l : Ledger) (t : ℕ) (h : Heap) → slice_get l.heaps t ≡ Some h → heap_of l t ≡ h
   heap_is l t h e = ap or_fresh e
-
-  begun_none : (h : Heap) → is_some h.begun ≡ false → begun_in h ≡ 0
-  begun_none h e = by h.begun e
-    where
-      by : (o : Option ℕ) → is_some o ≡ false → unwrap_or o 0 ≡ 0
-      by None q = refl
-      by (Some c) q = absurd (false≢true (sym q))
 
   due_by : (o : Option ℕ) (b : Bool) → on_asked o (λ w. b) ≡ true → b ≡ true
   due_by None b e = absurd (false≢true e)

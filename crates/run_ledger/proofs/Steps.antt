@@ -16,13 +16,14 @@ use Rattle.hh_model.specs.declared.data.State.{State}
 use Rattle.hh_model.specs.Effect.{onward, int_in, ref_in}
 use Rattle.hh_model.specs.Names.{named, registers, names_from, task_names}
 use Rattle.hh_model.specs.Step.{runs, waits, is_over, is_running, is_waiting, is_joined, is_left, parent_of, parents, joined, owner_in, owner_of, is_on_path, joined_task, resumed, child, step, can_step, goes_on, asked, join_of, ended_task, result_of, ended_by, strand, strand_of, edge}
-use Rattle.hh_model.proofs.Paths.{owner_live, owner_le, owner_same, path_same, owner_joins}
+use Rattle.hh_model.proofs.Paths.{owner_le, owner_same, path_same, owner_joins}
 use Rattle.hh_model.proofs.Tree.{not_above, owner_not_joined}
 use Rattle.hh_model.proofs.Carried.{next_name, named_from_in}
 use Rattle.hh_model.proofs.Runs.{waiting, running_tells, grown_length, grown_view, grown_view_front, grown_at, grown_other, wrest_fork, three_length, three_top, three_left, three_right, three_other, three_view, parl, parr, below, dp, wp, drest}
 use Rattle.hh_model.proofs.ForkJoinStates.{IsForkJoinStateIn, step_is_fork_join_state}
 use Rattle.hh_model.proofs.Steps.{step_cases, runs_is, register_cases}
 use Rattle.hh_model.proofs.Closed.{Closed, closed_step, grown_cases}
+use Rattle.hh_model.proofs.Climbs.{owner_here}
 use Rattle.path_laws.proofs.Disentangled.{Disentangled, disentangled_step}
 use Rattle.run_ledger.specs.declared.data.Heap.{Heap}
 use Rattle.run_ledger.specs.declared.data.Ledger.{Ledger}
@@ -120,6 +121,13 @@ fresh_collecting [] (suc (suc u)) c = c
 fresh_collecting (h ∷ hs) zero c = c
 fresh_collecting (h ∷ hs) (suc u) c = fresh_collecting hs u c
 
+-- a task that names something isn't over
+pub named_live : (s : Status) (r : Name) (z : Task) → z.status ≡ s → In (task_names z) r → is_over s ≡ false
+named_live Running r z e i = refl
+named_live Waiting r z e i = refl
+named_live (Ended q w) r z e i = refl
+named_live Joined r z e i = absurd (subst (λ v. In (names_from v (z.top ∷ z.below)) r) e i)
+
 module _ (p : ProgramText) (l : Ledger) (S : SoundLedger l) (t : ℕ) (x : Task) (is : slice_get l.machine.tasks t ≡ Some x) (run : is_running (Some x) ≡ true) (idle : collecting (slice_get l.heaps t) ≡ false) (going : l.machine.end ≡ None)
     (b : Ledger) (A : Allots t (next_name t l.machine.store) (is_some (asked p l.machine t)) l.heaps b.heaps) where
   abbrev m : State
@@ -138,7 +146,7 @@ module _ (p : ProgramText) (l : Ledger) (S : SoundLedger l) (t : ℕ) (x : Task)
   tn = got_within tasks t x is
 
   own_t : owner_of tasks t ≡ t
-  own_t = owner_live (parents tasks) S.kept.tree.low (joined tasks) t t (ap is_joined is ∙ tells.0)
+  own_t = owner_here (parents tasks) (joined tasks) t t (ap is_joined is ∙ tells.0)
 
   owners1 : Owners tasks b.heaps
   owners1 u n i = elim (A.down u n i) [
@@ -281,12 +289,6 @@ module _ (p : ProgramText) (l : Ledger) (S : SoundLedger l) (t : ℕ) (x : Task)
 
     frames_t : frames_of (slice_get all t) ≡ y.top ∷ y.below
     frames_t = ap frames_of (grown_at tasks t x y cl cr is)
-
-    named_live : (s : Status) (r : Name) (z : Task) → z.status ≡ s → In (task_names z) r → is_over s ≡ false
-    named_live Running r z e i = refl
-    named_live Waiting r z e i = refl
-    named_live (Ended q w) r z e i = refl
-    named_live Joined r z e i = absurd (subst (λ v. In (names_from v (z.top ∷ z.below)) r) e i)
 
     old_regs : (u : ℕ) (z : Task) (r : Name) → slice_get tasks u ≡ Some z → (u ≡ t → ⊥) → is_on_path all t u ≡ true → In (task_names z) r → ⊥
     old_regs u z r e ne h i =

@@ -22,13 +22,13 @@ use Rattle.run_ledger.specs.Steps.{on_asked, allocated_by, allocated_in, stepped
 use Rattle.run_ledger.specs.Entries.{refusal, after, after_kind, chunk_units, with_chunk, is_out, counted}
 use Rattle.run_ledger.specs.Journals.{ledger_of, is_legal}
 use Rattle.run_ledger.proofs.Booked as booked
-use Rattle.run_ledger.proofs.Booked.{BookedLedger, asked_runs, put_length, units_additive, total_same, task_steps_booked}
+use Rattle.run_ledger.proofs.Booked.{BookedLedger, asked_runs, put_length, units_additive, total_same, task_step_booked}
 use Rattle.run_ledger.proofs.Bounds.{stands_by, ran_tells}
 use Rattle.run_ledger.proofs.Journals.{none_unless, none_where, out_tells, wait_tells, entry_tells, legal_sound}
 use Rattle.run_ledger.proofs.Laid.{collected_bound, nonempty_length}
 use Rattle.run_ledger.proofs.Machine.{stepped_machine}
 use Rattle.run_ledger.proofs.Sound.{collecting, SoundLedger}
-use Rattle.run_ledger.proofs.Space.{legal_booked}
+use Rattle.run_ledger.proofs.Space.{begun_none, legal_booked}
 use Rattle.run_ledger.proofs.Steps.{SoundAt, StepLeaves, heap_of_task, task_step_sound}
 use Rattle.run_ledger.proofs.Stocks.{StockedLedger, L, task_step_stocked, legal_stocked}
 use Rattle.run_ledger.proofs.Weights.{total, total_set, moves_total, kept_weight}
@@ -99,19 +99,11 @@ module _ (p : ProgramText) (s : SettingsValue) (packs : PacksAreSmall p) where
       by false e = refl
       by true e = step_use p s packs l t S I B e fine
 
-  one_stands : (l : Ledger) (t : ℕ) (a b : Bool) → a ≡ false → 1 ≤ cond a 0 (cond b (suc (standing s p (task_step p l t) t zero)) 1)
-  one_stands l t true b e = absurd (false≢true (sym e))
-  one_stands l t false true e = omega arith
-  one_stands l t false false e = omega arith
-
-  step_booked : (l : Ledger) (t : ℕ) → SoundAt t l → StockedLedger l → BookedLedger p s l → (is_due s p l t || is_in_need p l t) ≡ false → BookedLedger p s (task_step p l t)
-  step_booked l t S I B fine = task_steps_booked p s 1 l t S I B (one_stands l t (is_due s p l t || is_in_need p l t) (is_private p l.machine t) fine)
-
   pub steps_use : (k : ℕ) (l : Ledger) (t : ℕ) → SoundAt t l → StockedLedger l → BookedLedger p s l → k ≤ standing s p l t k → in_use (task_steps p l t k) ≡ in_use l
   steps_use zero l t S I B h = refl
   steps_use (suc k) l t S I B h =
       elim (stands_by p s t l k (is_due s p l t || is_in_need p l t) (is_private p l.machine t) (standing s p (task_step p l t) t k) h) [
-        | inl f ↦ steps_use k (task_step p l t) t (task_step_sound p l t S) (task_step_stocked p l t S I) (step_booked l t S I B f.0) f.1.1 ∙ task_step_use l t S I B f.0
+        | inl f ↦ steps_use k (task_step p l t) t (task_step_sound p l t S) (task_step_stocked p l t S I) (task_step_booked p s l t S I B f.0) f.1.1 ∙ task_step_use l t S I B f.0
         | inr f ↦ ap (λ j. in_use (task_steps p (task_step p l t) t j)) f.1 ∙ task_step_use l t S I B f.0
       ]
 
@@ -132,13 +124,6 @@ same_use l t f same = by (heap_at l t) refl
     by : (o : Option Heap) → heap_at l t ≡ o → in_use (with_heap_at l t f o) ≡ in_use l
     by None e = refl
     by (Some h) e = let a = total_set (units_in l.machine) l.heaps t h (f h) e in let c = same h in let g : in_use l ≡ total (units_in l.machine) l.heaps = refl in omega arith
-
-begun_zero : (h : Heap) → is_some h.begun ≡ false → begun_in h ≡ 0
-begun_zero h e = by h.begun e
-  where
-    by : (o : Option ℕ) → is_some o ≡ false → unwrap_or o 0 ≡ 0
-    by None q = refl
-    by (Some c) q = absurd (false≢true (sym q))
 
 module _ (p : ProgramText) (s : SettingsValue) (l : Ledger) (t : ℕ) (S : SoundLedger l) (B : BookedLedger p s l) where
   -- a chunk is given, or the run ends
@@ -174,7 +159,7 @@ module _ (p : ProgramText) (s : SettingsValue) (l : Ledger) (t : ℕ) (S : Sound
   -- a leaf collection begins
   pub begin_use : (h : Heap) → slice_get l.heaps t ≡ Some h → collecting (slice_get l.heaps t) ≡ false → UseGoes p s l (after_kind p s l 0 (Begin t)) (Begin t)
   begin_use h e idle =
-      let z = begun_zero h (ap collecting (sym e) ∙ idle) in
+      let z = begun_none h (ap collecting (sym e) ∙ idle) in
       let same : take_of l.machine (heap_of l t) ≡ take_of l.machine h = ap (λ o. take_of l.machine (or_fresh o)) e in
       let h' : Heap = record h { begun = Some (take_of l.machine h); survivors = within l t } in
       let u : units_in l.machine h' ≡ length h.chunks + units_sum l.machine h.large + h.reserved + take_of l.machine h = refl in

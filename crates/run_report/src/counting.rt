@@ -22,8 +22,8 @@ pub(crate) struct Counted<'p> {
     pub(crate) totals: Totals,
 }
 
-// The words of the heap that an entry collects or sweeps, and 0 for another entry.
-fn cleared_words(book: &Book, kind: Kind) -> u64
+/// The words of the heap that an entry collects or sweeps, and 0 for another entry.
+pub fn cleared_words(book: &Book, kind: Kind) -> u64
     requires { book.now.stopped ≡ false }
     ensures { result ≡ cleared_words book.now.ledger kind }
 {

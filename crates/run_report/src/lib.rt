@@ -7,6 +7,7 @@ mod texts;
 mod totals;
 mod whole;
 
+pub use counting::cleared_words;
 pub use paced::is_paced;
 pub use texts::{end_text, outputs_text, refused_text, report_text};
 pub use totals::Totals;

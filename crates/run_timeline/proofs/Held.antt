@@ -1,5 +1,5 @@
 -- The words that are held follow from entry to entry.
-use Rattle.std.proofs.Common.{◌≡◌, ℕ, zero, suc, ◌+◌, ◌-◌, ◌<◌, ◌≤◌, true, false, inl, inr, ◌&&◌, Option, Some, None, List, [], ◌∷◌, ◌++◌, length, slice_get, replicate, refl, ap, ap₂, sym, subst, ◌∙◌, arith, is_some, is_none}
+use Rattle.std.proofs.Common.{◌≡◌, ℕ, zero, suc, ◌+◌, ◌-◌, ◌<◌, ◌≤◌, true, false, inl, inr, Option, Some, None, List, [], ◌∷◌, ◌++◌, length, slice_get, replicate, refl, ap, ap₂, sym, subst, ◌∙◌, arith, is_some}
 use Rattle.std.proofs.lemmas.Bool.{cases_Bool, cases_lt}
 use Rattle.listed.proofs.Members.{got_within}
 use Rattle.listed.proofs.Places.{got_some}
@@ -24,7 +24,7 @@ use Rattle.run_ledger.specs.Entries.{after, after_kind, refusal}
 use Rattle.run_ledger.specs.Journals.{after_all, is_legal, ledger_of, opening, tasks_in, tasks_of}
 use Rattle.run_ledger.specs.Report.{freed_by_end, freed_by_sweep, tally}
 use Rattle.run_ledger.specs.Space.{store_words}
-use Rattle.run_ledger.proofs.Cuts.{after_cut, joined_legal}
+use Rattle.run_ledger.proofs.Cuts.{after_cut, legal_then}
 use Rattle.run_ledger.proofs.Grown.{Grown, grown}
 use Rattle.run_ledger.proofs.Machine.{entries_move_machine, machine_is_run}
 use Rattle.run_ledger.proofs.Weights.{sum_flat}
@@ -170,9 +170,6 @@ module _ (p : ProgramText) (s : SettingsValue) (journal : List EntryValue) (lega
   counted : Counted (length (tasks_of journal)) l.machine.tasks l.machine.store
   counted = subst (λ (m : State). Counted (length (tasks_of journal)) m.tasks m.store) (sym (machine_is_run p s journal)) (runs_are_counted p (field_limit s.version) (tasks_of journal))
 
-  legal_next : is_legal p s (journal ++ e ∷ []) ≡ true
-  legal_next = joined_legal p s journal (e ∷ []) (opening p s) legal (ap (λ o. is_none o && true) none)
-
   next : l' ≡ ledger_of p s (journal ++ e ∷ [])
   next = sym (after_cut p s journal (e ∷ []) (opening p s))
 
@@ -214,7 +211,7 @@ module _ (p : ProgramText) (s : SettingsValue) (journal : List EntryValue) (lega
       let sweeps = tally_last p s freed_by_sweep journal (opening p s) e in
       let before : Accounted (tally p s freed_by_end (opening p s) journal + tally p s freed_by_sweep (opening p s) journal) l = accounted journal legal in
       let behind : Accounted (tally p s freed_by_end (opening p s) (journal ++ e ∷ []) + tally p s freed_by_sweep (opening p s) (journal ++ e ∷ [])) l' =
-      subst (Accounted (tally p s freed_by_end (opening p s) (journal ++ e ∷ []) + tally p s freed_by_sweep (opening p s) (journal ++ e ∷ []))) (sym next) (accounted (journal ++ e ∷ []) legal_next) in
+      subst (Accounted (tally p s freed_by_end (opening p s) (journal ++ e ∷ []) + tally p s freed_by_sweep (opening p s) (journal ++ e ∷ []))) (sym next) (accounted (journal ++ e ∷ []) (legal_then p s journal e legal none)) in
       let made : Grew e.kind l'.machine = grew_by e.kind l'.machine moved in
       let gone = lost_by p s l e.worker e.kind in
       omega (arith, ends, sweeps, before, behind, made, gone)

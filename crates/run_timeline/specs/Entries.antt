@@ -11,6 +11,7 @@ use Rattle.hh_model.specs.declared.data.State.{State}
 use Rattle.run_trace.specs.declared.entry.Kind.{Kind}
 use Rattle.run_trace.specs.declared.entry.Kind.TheVariants.{Took, Ran, Chunk, Begin, End, PutOff, Mark, More, Sweep, Fuel}
 use Rattle.run_trace.specs.Entry.{EntryValue}
+use Rattle.run_trace.specs.Line.{kind_name}
 use Rattle.run_ledger.specs.declared.data.RunEnd.{RunEnd}
 use Rattle.run_ledger.specs.declared.data.RunEnd.TheVariants.{Machine}
 use Rattle.run_ledger.specs.declared.data.Ledger.{Ledger}
@@ -23,18 +24,6 @@ use Rattle.run_timeline.specs.Words.{words_held}
 use Rattle.run_timeline.specs.Events.{event, arguments, one_number, two_numbers, end_time, span, arrow_begins, arrow_ends}
 
 -- THE ENTRY ITSELF
-
-abbrev pub kind_name : Kind → List ℕ
-kind_name (Took t) = codes "took"
-kind_name (Ran t k) = codes "ran"
-kind_name (Chunk t) = codes "chunk"
-kind_name (Begin t) = codes "begin"
-kind_name (End t taken given left) = codes "end"
-kind_name (PutOff t) = codes "putoff"
-kind_name (Mark t) = codes "mark"
-kind_name (More t n) = codes "some"
-kind_name (Sweep t given) = codes "sweep"
-kind_name Fuel = codes "fuel"
 
 abbrev pub of_task : ℕ → Members → Members
 of_task t more = Member (codes "task") (Number t) more

@@ -16,10 +16,11 @@ ghost use Rattle.run_timeline.specs.Pieces.{beginning, ending};
 use crate::entry::add_slice;
 use crate::events::{add_lane, add_process};
 use crate::tasks::{add_begins_and_ends, add_counted, add_run_ended};
-use crate::words::{Counts, cleared_words, objects_by, words_behind};
+use crate::words::{Counts, objects_by, words_behind};
 use hh_lang::Program;
 use run_journal::{ApplyError, Book, ReplayError};
 use run_ledger::{Refused, RefusedAt};
+use run_report::cleared_words;
 use run_trace::{Entry, Settings};
 use std::alloc::{AllocError, Global};
 

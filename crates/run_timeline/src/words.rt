@@ -7,6 +7,7 @@ ghost use Rattle.run_timeline.specs.Words.{objects_made, words_made, objects_by,
 use hh_model::{Name, State};
 use ledger_heaps::words_at;
 use run_journal::Book;
+use run_report::cleared_words;
 use run_trace::Kind;
 
 /// Counts of accounts.
@@ -18,18 +19,6 @@ pub struct Counts {
     pub chunks: u64,
     /// The words held.
     pub words: u64,
-}
-
-/// The words of the heap that an entry collects or sweeps, and 0 for another entry.
-pub(crate) fn cleared_words(book: &Book, kind: Kind) -> u64
-    requires { book.now.stopped ≡ false }
-    ensures { result ≡ cleared_words book.now.ledger kind }
-{
-    match kind {
-        Kind::End(task, _, _, _) => book.words(task),
-        Kind::Sweep(task, _) => book.words(task),
-        _ => 0,
-    }
 }
 
 // How many objects a task has made.

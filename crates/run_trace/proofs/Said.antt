@@ -12,7 +12,7 @@ use Rattle.run_trace.specs.declared.entry.Kind.{Kind}
 use Rattle.run_trace.specs.declared.entry.Kind.TheVariants.{Took, Ran, Chunk, Begin, End, PutOff, Mark, More, Sweep, Fuel}
 use Rattle.run_trace.specs.declared.line.Said.TheVariants.{Says}
 use Rattle.run_trace.specs.Entry.{EntryValue, IsEvent, IsKind}
-use Rattle.run_trace.specs.Line.{unsigned_number, numbers_in, kind_of, kind_by, entry_by, said_by_words, said_by, kind_words, spaced}
+use Rattle.run_trace.specs.Line.{unsigned_number, numbers_in, kind_of, kind_by, entry_by, said_by_words, said_by, kind_name, kind_words, spaced}
 use Rattle.run_trace.proofs.Numbers.{as_option}
 use Rattle.run_trace.proofs.Words.{ArePlain, AreProper, decimal_is_proper, words_spaced}
 
@@ -81,19 +81,7 @@ entry_is_proper e h = (decimal_is_proper e.worker (worker_word e.worker h.0), ki
 
 -- WHAT IS SAID
 
--- the word of an entry, and its numbers
-abbrev verb_of : Kind → List ℕ
-verb_of (Took t) = codes "took"
-verb_of (Ran t k) = codes "ran"
-verb_of (Chunk t) = codes "chunk"
-verb_of (Begin t) = codes "begin"
-verb_of (End t taken given left) = codes "end"
-verb_of (PutOff t) = codes "putoff"
-verb_of (Mark t) = codes "mark"
-verb_of (More t n) = codes "some"
-verb_of (Sweep t given) = codes "sweep"
-verb_of Fuel = codes "fuel"
-
+-- the numbers of an entry
 abbrev operands_of : Kind → List (List ℕ)
 operands_of (Took t) = decimal t ∷ []
 operands_of (Ran t k) = decimal t ∷ decimal k ∷ []
@@ -106,7 +94,7 @@ operands_of (More t n) = decimal t ∷ decimal n ∷ []
 operands_of (Sweep t given) = decimal t ∷ decimal given ∷ []
 operands_of Fuel = []
 
-kind_words_are : (kind : Kind) → kind_words kind ≡ verb_of kind ∷ operands_of kind
+kind_words_are : (kind : Kind) → kind_words kind ≡ kind_name kind ∷ operands_of kind
 kind_words_are (Took t) = refl
 kind_words_are (Ran t k) = refl
 kind_words_are (Chunk t) = refl
@@ -124,7 +112,7 @@ steps_within t k low high = let e : (nat_le 1 k && nat_le k 257) ≡ true = grin
 marks_within : (t n : ℕ) → 1 ≤ n → n ≤ 1024 → kind_of (codes "some") (t ∷ n ∷ []) ≡ Some (More t n)
 marks_within t n low high = let e : (nat_le 1 n && nat_le n 1024) ≡ true = grind (arith, low, high) in rw e refl
 
-kind_again : (kind : Kind) → IsKind kind → kind_by (verb_of kind) (numbers_in (operands_of kind)) ≡ Some kind
+kind_again : (kind : Kind) → IsKind kind → kind_by (kind_name kind) (numbers_in (operands_of kind)) ≡ Some kind
 kind_again (Took t) h = rw (number_again t h) refl
 kind_again (Ran t k) h = rw (number_again t h.0, number_again k (step_count k h.1.1)) (steps_within t k h.1.0 h.1.1)
 kind_again (Chunk t) h = rw (number_again t h) refl

@@ -73,6 +73,19 @@ said_by l = if is_utf8 l then said_by_words (words_of l) else Wrong
 
 -- WRITING
 
+-- the word of an entry
+abbrev pub kind_name : Kind → List ℕ
+kind_name (Took t) = codes "took"
+kind_name (Ran t k) = codes "ran"
+kind_name (Chunk t) = codes "chunk"
+kind_name (Begin t) = codes "begin"
+kind_name (End t taken given left) = codes "end"
+kind_name (PutOff t) = codes "putoff"
+kind_name (Mark t) = codes "mark"
+kind_name (More t n) = codes "some"
+kind_name (Sweep t given) = codes "sweep"
+kind_name Fuel = codes "fuel"
+
 abbrev pub kind_words : Kind → List (List ℕ)
 kind_words (Took t) = codes "took" ∷ decimal t ∷ []
 kind_words (Ran t k) = codes "ran" ∷ decimal t ∷ decimal k ∷ []

@@ -20,10 +20,10 @@ use Rattle.hh_model.specs.Store.{NamesAreStoredIn}
 use Rattle.hh_model.specs.Tree.{IsForkJoinState, joins_in, waiting}
 use Rattle.hh_model.proofs.Counts.{step_limit}
 use Rattle.path_laws.proofs.Leaves.{leaves_owner}
-use Rattle.hh_model.proofs.Paths.{owner_live}
 use Rattle.hh_model.proofs.Root.{runs_tell}
 use Rattle.hh_model.proofs.Steps.{in_registers, names_run, runs_is}
 use Rattle.hh_model.proofs.Tree.{not_above}
+use Rattle.hh_model.proofs.Climbs.{owner_here}
 use Rattle.race_report.specs.declared.data.Access.{Access}
 use Rattle.race_report.specs.Accesses.{access_of}
 use Rattle.race_report.proofs.LabelSteps.{begun_running, run_keeps}
@@ -124,7 +124,7 @@ module _ (p : ProgramText) (m : State) (K : IsForkJoinState m) (D : Disentangled
 
   pub sees : SeesSame s m1.edges (owner_of m1.tasks) y.top m.store m1.store (Leaves p m t)
   sees = record {
-    count = same_length (row_of (slice_get m1.store u)) (row_of (slice_get m.store u)) (λ k. leaves.objects (record { task = u; count = k }) (owner_live (parents m.tasks) K.tree.low (joined m.tasks) u u live_u));
+    count = same_length (row_of (slice_get m1.store u)) (row_of (slice_get m.store u)) (λ k. leaves.objects (record { task = u; count = k }) (owner_here (parents m.tasks) (joined m.tasks) u u live_u));
     objects = λ n i. (let o = held p m N u y iu run_u n i in let z = same_object n o.0 (not_frozen n i) o.1 in (o.0, z.0, o.1, z.1, z.2));
     owners = λ n i. (let o = leaves.owned n.task in elim (cases_eq (owner_of m.tasks n.task) u) [
       | inl e ↦ eq-eqb (owner_of m1.tasks n.task) u (o.1 e) ∙ sym (eq-eqb (owner_of m.tasks n.task) u e)

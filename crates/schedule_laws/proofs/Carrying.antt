@@ -1,6 +1,7 @@
 -- Accesses, prints and turns under a renaming.
 use Rattle.std.proofs.Common.{◌≡◌, ℕ, ℤ, suc, pos, negsuc, ◌+◌, ◌≤◌, Bool, true, false, cond, Option, Some, None, List, [], ◌∷◌, length, map, slice_get, refl, ap, ap₂, ◌∙◌, arith}
 use Rattle.std.specs.Option.{option_flatten, option_map}
+use Rattle.std.proofs.lemmas.Option.{slice_get-map}
 use Rattle.hh_lang.specs.declared.instr.Instr.{Instr}
 use Rattle.hh_lang.specs.declared.instr.Instr.TheVariants.{Getr, Geti, Putr, Puti, Cas}
 use Rattle.hh_lang.specs.declared.program.Line.{Line}
@@ -24,7 +25,6 @@ use Rattle.renaming_laws.specs.Renaming.{IsRenaming, frame_to, object_to, ref_to
 use Rattle.renaming_laws.specs.Alike.{AreAlike}
 use Rattle.renaming_laws.proofs.Effects.{flat_to, ref_carried, same_carried}
 use Rattle.renaming_laws.proofs.Follows.{can_to, object_there}
-use Rattle.renaming_laws.proofs.Lists.{got_map}
 use Rattle.renaming_laws.proofs.Runs.{step_grows}
 use Rattle.renaming_laws.proofs.Stepped.{Acts, acts, step_to}
 use Rattle.schedule_laws.specs.Agrees.{access_to, field_to}
@@ -50,7 +50,7 @@ module _ (p : ProgramText) (n : ℕ) (f g : ℕ → ℕ) (R : IsRenaming n f g) 
       where
         by : (o : Option Object) → option_flatten (slice_get (refs_in (option_map (object_to f) o)) field.index) ≡ ref_to f (option_flatten (slice_get (refs_in o) field.index))
         by None = refl
-        by (Some o) = ap option_flatten (got_map (ref_to f) o.refs field.index) ∙ flat_to f g R.back (slice_get o.refs field.index)
+        by (Some o) = ap option_flatten (slice_get-map (ref_to f) o.refs field.index) ∙ flat_to f g R.back (slice_get o.refs field.index)
 
     swap_there : (s : Strand) (line : ℕ) (r : Option Name) (o : Option Field) → swap_access (strand_to f s) line m'.store (ref_to f r) (option_map (field_to f) o) ≡ option_map (access_to f) (swap_access s line m.store r o)
     swap_there s line r None = refl

@@ -18,10 +18,10 @@ use Rattle.race_report.specs.declared.data.Access.{Access}
 use Rattle.race_report.specs.Accesses.{access_of, accesses_from, task_access, with_some}
 use Rattle.renaming_laws.specs.Renaming.{IsRenaming, end_to, strand_to}
 use Rattle.renaming_laws.specs.Alike.{AreAlike}
-use Rattle.renaming_laws.proofs.Carried.{walk_to}
 use Rattle.renaming_laws.proofs.Lists.{from_map}
 use Rattle.renaming_laws.proofs.Runs.{kept_here, step_grows}
 use Rattle.renaming_laws.proofs.Unnamed.{itself}
+use Rattle.renaming_laws.proofs.Owners.{walks}
 use Rattle.schedule_laws.specs.Agrees.{Agrees, access_to, field_to}
 use Rattle.schedule_laws.specs.Clashes.{Clash}
 use Rattle.schedule_laws.specs.Laws.{EveryEndAgrees, OneRunSpeaksForAll, SpeaksUp}
@@ -50,9 +50,6 @@ pub record Comes (p : ProgramText) (m : State) (ts : List ℕ) (end : State) (al
 -- a list of steps that comes to the same
 abbrev pub ComesAs : ProgramText → State → List ℕ → List ℕ → Type 0
 ComesAs p m ts us = Comes p m ts (run_from p m us) (accesses_from p m us) (prints_from p m us) (turns_from p m us)
-
-walks : (f : ℕ → ℕ) (a b : State) → AreAlike f a b → (u v : Strand) → Precedes a.edges u v → Precedes b.edges (strand_to f u) (strand_to f v)
-walks f a b A u v w = walk_to f a.edges b.edges (λ e. (A.edges e).1) w.0 u v w.1
 
 access_back : (f g : ℕ → ℕ) → ((t : ℕ) → g (f t) ≡ t) → (a : Access) → access_to g (access_to f a) ≡ a
 access_back f g back a =

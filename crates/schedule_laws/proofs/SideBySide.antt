@@ -8,9 +8,9 @@ use Rattle.hh_model.specs.Precedence.{precedes}
 use Rattle.hh_model.specs.Step.{is_joined, is_waiting, joined, owner_in, parents, path_in, run, run_from, start, strand, strand_of}
 use Rattle.hh_model.specs.Tree.{joins_in, joins_of, waiting}
 use Rattle.hh_model.proofs.ForkJoinStates.{IsForkJoinState, run_is_fork_join_state, start_is_fork_join_state}
-use Rattle.hh_model.proofs.Paths.{owner_live}
 use Rattle.hh_model.proofs.Runs.{running_tells}
 use Rattle.hh_model.proofs.Tree.{not_above}
+use Rattle.hh_model.proofs.Climbs.{owner_here}
 use Rattle.race_report.specs.LabelLaw.{Runs}
 use Rattle.race_report.proofs.LabelSteps.{begun_running, run_keeps}
 use Rattle.schedule_laws.specs.Steps.{RunningTasksAreApart}
@@ -36,7 +36,7 @@ module _ (m : State) (K : IsForkJoinState m) (t u : ℕ) (x y : Task) (two : t �
   pub apart : precedes m.edges (strand_of t x) (strand_of u y) ≡ false
   apart =
       ap (λ j. precedes m.edges (strand t x.joins) (strand u j)) (sym (ap joins_of S.is))
-      ∙ (now ∙ (ap (λ o. path_in (parents m.tasks) o u) (owner_live (parents m.tasks) K.tree.low (joined m.tasks) t t live) ∙ off_path))
+      ∙ (now ∙ (ap (λ o. path_in (parents m.tasks) o u) (owner_here (parents m.tasks) (joined m.tasks) t t live) ∙ off_path))
 
 pub running_tasks_are_apart : RunningTasksAreApart
 running_tasks_are_apart p limit ts more t u x y two R S w =

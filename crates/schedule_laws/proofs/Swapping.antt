@@ -1,13 +1,12 @@
 -- Writes of lists at different places, in either order.
 use Rattle.std.proofs.Common.{◌≡◌, ℕ, zero, suc, ◌<◌, Option, Some, None, List, [], ◌∷◌, ◌++◌, length, slice_get, slice_set, inl, inr, refl, ap, sym, subst, ◌∙◌, length-set}
 use Rattle.std.proofs.lemmas.Bool.{cases_eq}
-use Rattle.std.proofs.lemmas.List.{set-set, set_comm}
+use Rattle.std.proofs.lemmas.List.{set-set, set_comm, set-append_left}
 use Rattle.listed.proofs.Members.{got_front, got_other, got_same, got_within}
 use Rattle.hh_model.specs.declared.data.Name.{Name}
 use Rattle.hh_model.specs.declared.data.Object.{Object}
 use Rattle.hh_model.specs.declared.data.Task.{Task}
 use Rattle.hh_model.specs.Effect.{object_at, row_of}
-use Rattle.hh_model.proofs.Lists.{set_front}
 use Rattle.renaming_laws.proofs.Changed.{Change, Same, Grows, Edits, Edit, changed, edited, edited_row, put_in}
 
 -- TASKS
@@ -36,7 +35,7 @@ sets_other (x ∷ xs) ts k h = sets_other xs (slice_set ts x.0 x.1) k h.1 ∙ go
 pub sets_front : (xs : List (ℕ × Task)) (ts more : List Task) → AllAt (λ k. k < length ts) xs → sets xs (ts ++ more) ≡ sets xs ts ++ more
 sets_front [] ts more h = refl
 sets_front (x ∷ xs) ts more h =
-    ap (sets xs) (set_front ts more x.0 x.1 h.0)
+    ap (sets xs) (set-append_left ts more x.0 x.1 h.0)
     ∙ sets_front xs (slice_set ts x.0 x.1) more (subst (λ n. AllAt (λ k. k < n) xs) (sym (length-set ts x.0 x.1)) h.1)
 
 set_past : (xs : List (ℕ × Task)) (ts : List Task) (k : ℕ) (z : Task) → AllAt (λ j. k ≡ j → ⊥) xs → slice_set (sets xs ts) k z ≡ sets xs (slice_set ts k z)
@@ -88,7 +87,7 @@ Agree a b = Unit {0}
 
 edit_push : (row : List Object) (o : Object) (c : ℕ) (e : Edit) (old : Object) → slice_get row c ≡ Some old → edited_row (row ++ o ∷ []) c e ≡ edited_row row c e ++ o ∷ []
 edit_push row o c e old is =
-    ap (put_in (row ++ o ∷ []) c e) (front row c is) ∙ (set_front row (o ∷ []) c (edited e old) (got_within row c old is) ∙ ap (λ w. put_in row c e w ++ o ∷ []) (sym is))
+    ap (put_in (row ++ o ∷ []) c e) (front row c is) ∙ (set-append_left row (o ∷ []) c (edited e old) (got_within row c old is) ∙ ap (λ w. put_in row c e w ++ o ∷ []) (sym is))
   where
     front : (row : List Object) (c : ℕ) → slice_get row c ≡ Some old → slice_get (row ++ o ∷ []) c ≡ Some old
     front [] c h = absurd cc
@@ -152,8 +151,8 @@ changed_length (Edits n e) t store = length-set store n.task (edited_row (row_of
 pub changed_front : (op : Change) (t : ℕ) (store more : List (List Object)) → t < length store → Stored store op → changed op t (store ++ more) ≡ changed op t store ++ more
 changed_front Same t store more lt s = refl
 changed_front (Grows o) t store more lt s =
-    ap (λ w. slice_set (store ++ more) t (row_of w ++ o ∷ [])) (got_front store more t lt) ∙ set_front store more t (row_of (slice_get store t) ++ o ∷ []) lt
+    ap (λ w. slice_set (store ++ more) t (row_of w ++ o ∷ [])) (got_front store more t lt) ∙ set-append_left store more t (row_of (slice_get store t) ++ o ∷ []) lt
 changed_front (Edits n e) t store more lt s =
     let z = row_at store n s.0 s.1 in
     let within : n.task < length store = got_within store n.task z.0 z.1 in
-    ap (λ w. slice_set (store ++ more) n.task (edited_row (row_of w) n.count e)) (got_front store more n.task within) ∙ set_front store more n.task (edited_row (row_of (slice_get store n.task)) n.count e) within
+    ap (λ w. slice_set (store ++ more) n.task (edited_row (row_of w) n.count e)) (got_front store more n.task within) ∙ set-append_left store more n.task (edited_row (row_of (slice_get store n.task)) n.count e) within

@@ -3,21 +3,21 @@ use Rattle.std.proofs.Common.{◌≡◌, ℕ, ◌+◌, ◌*◌, ◌<◌, ◌≤�
 use Rattle.std.specs.List.{IsDistinct}
 use Rattle.std.proofs.lemmas.Bool.{eq-eqb, false≢true}
 use Rattle.std.proofs.lemmas.Map.Keys.{IsDistinct-head, IsDistinct-tail}
-use Rattle.listed.proofs.Places.{each_in}
+use Rattle.listed.proofs.Places.{each_in, in_map, map_in}
 use Rattle.object_layout.specs.Cell.{Born, Cell, Hole, Mark, Moved, size_of}
 use Rattle.object_layout.specs.ChunkValue.{ChunkValue}
 use Rattle.object_layout.specs.Objects.{Located, located_by, objects_from}
 use Rattle.chunk_pool.specs.PoolValue.{owner_of}
 use Rattle.heap_tree.specs.Node.{state_of}
 use Rattle.core_relation.specs.Memory.{Chunk, In, Memory, objects}
-use Rattle.core_relation.proofs.objects.Members.{in_map, in_objects, map_in}
+use Rattle.core_relation.proofs.objects.Members.{in_objects}
 use Rattle.task_homes.specs.declared.task_at_rest.Rest.{Rest}
 use Rattle.shared_value.specs.Objects.{chunk_of, chunks_of}
 use Rattle.shared_value.specs.Stands.{IsSharedValue}
 use Rattle.shared_value.specs.SharedValue.{SharedValue, belongings_in, rest_at, value_of}
 use Rattle.shared_value.proofs.FieldsLed.{belongings_chunks}
 use Rattle.heap_reading.specs.HeldNames.{is_state_running}
-use Rattle.heap_reading.specs.Image.{AreAll, Rises, objects_numbered, objects_of, objects_owned, shown}
+use Rattle.heap_reading.specs.Image.{AreAll, Rises, in_words, objects_numbered, objects_of, objects_owned}
 use Rattle.heap_image.specs.declared.picture.Picked.{Picked}
 use Rattle.heap_image.specs.Picture.{ObjectBefore}
 use Rattle.shared_image.specs.Drawn.{IsHandedBack, drawn_object}
@@ -128,16 +128,16 @@ module _ (w : SharedValue) (I : IsSharedValue w) where
       subst (λ h. In (objects_owned w o.at.chunk h) o) (sym (owner w I t idle o i)) one
 
   abbrev pub one : Located → Picked
-  one o = drawn_object (shown o)
+  one o = drawn_object (in_words o)
 
   -- all of a chunk are drawn in order
-  pub told_in_order : (n : ℕ) → AreAll ObjectBefore (λ q. (o : Located) × In (objects_of w n) o × (q ≡ one o)) (map drawn_object (map shown (objects_of w n)))
+  pub told_in_order : (n : ℕ) → AreAll ObjectBefore (λ q. (o : Located) × In (objects_of w n) o × (q ≡ one o)) (map drawn_object (map in_words (objects_of w n)))
   told_in_order n = record {
-    rising = rises_map (λ x y. ObjectBefore (drawn_object x) (drawn_object y)) ObjectBefore drawn_object (map shown (objects_of w n))
-        (rises_map Lower (λ x y. ObjectBefore (drawn_object x) (drawn_object y)) shown (objects_of w n) (of_rises n) up) (λ x y i j b. b);
+    rising = rises_map (λ x y. ObjectBefore (drawn_object x) (drawn_object y)) ObjectBefore drawn_object (map in_words (objects_of w n))
+        (rises_map Lower (λ x y. ObjectBefore (drawn_object x) (drawn_object y)) in_words (objects_of w n) (of_rises n) up) (λ x y i j b. b);
     each = λ q. (
-      (λ i. (let a = map_in drawn_object (map shown (objects_of w n)) q i in let b = map_in shown (objects_of w n) a.0 a.1 in (b.0, b.1, sym a.2 ∙ ap drawn_object (sym b.2)))),
-      (λ h. subst (In (map drawn_object (map shown (objects_of w n)))) (sym h.2) (in_map drawn_object (map shown (objects_of w n)) (shown h.0) (in_map shown (objects_of w n) h.0 h.1))),
+      (λ i. (let a = map_in drawn_object (map in_words (objects_of w n)) q i in let b = map_in in_words (objects_of w n) a.0 a.1 in (b.0, b.1, sym a.2 ∙ ap drawn_object (sym b.2)))),
+      (λ h. subst (In (map drawn_object (map in_words (objects_of w n)))) (sym h.2) (in_map drawn_object (map in_words (objects_of w n)) (in_words h.0) (in_map in_words (objects_of w n) h.0 h.1))),
     );
   }
     where

@@ -3,7 +3,7 @@ use Rattle.std.proofs.Common.{◌≡◌, ◌⊎◌, ℕ, ◌+◌, ◌*◌, ◌<�
 use Rattle.std.proofs.lemmas.Bool.{cases_Bool}
 use Rattle.std.proofs.lemmas.List.{length-map}
 use Rattle.std.proofs.lemmas.Option.{same_Some, slice_get-map}
-use Rattle.listed.proofs.Places.{got_some, in_got, read_in}
+use Rattle.listed.proofs.Places.{got_some, in_got, map_in, read_in}
 use Rattle.listed.proofs.Members.{got_in}
 use Rattle.hh_model.specs.declared.data.Name.{Name}
 use Rattle.hh_model.specs.declared.data.Object.{Object}
@@ -24,13 +24,12 @@ use Rattle.core_relation.specs.Layout.{words}
 use Rattle.core_relation.specs.Reads.{IsRead}
 use Rattle.core_relation.specs.Stands.{BelongingsStand, IsSource, Place}
 use Rattle.core_relation.specs.Memory.{Chunk as ChunkOf, In, Memory, object_name, objects, sources}
-use Rattle.core_relation.proofs.objects.Members.{map_in}
 use Rattle.core_relation.proofs.notes.Roots.{name_at}
 use Rattle.shared_value.specs.Stands.{IsSharedValue}
 use Rattle.shared_value.specs.SharedValue.{SharedValue, value_of}
 use Rattle.shared_value.proofs.FreeChunks.{refs_long}
 use Rattle.heap_reading.specs.HeldNames.{is_state_running}
-use Rattle.heap_reading.specs.Image.{field_of, shown}
+use Rattle.heap_reading.specs.Image.{field_of, in_words}
 use Rattle.image_check.specs.declared.line.Remembered.{Remembered}
 use Rattle.image_check.specs.Place.{offset}
 use Rattle.heap_image.specs.declared.picture.Picked.{Picked}
@@ -79,7 +78,7 @@ module _ (w : SharedValue) (I : IsSharedValue w) (F : AreHeldInWords w) (p : Pic
     measured = Known_measured w I t idle o i
 
     abbrev pub q : Picked
-    q = drawn_object (shown o)
+    q = drawn_object (in_words o)
 
     pub here : In p.objects q
     here = (P.objects.each q).1 (t, o, idle, i, refl)
@@ -121,7 +120,7 @@ module _ (w : SharedValue) (I : IsSharedValue w) (F : AreHeldInWords w) (p : Pic
           | inl on ↦ inr (u, owned_at w I p P a u ref.0 m.2.chunk lives, running w I p P u (made w I a.chunk u m.2.chunk) lives on)
           | inr off ↦
               let d = m.2.here (rests w I u off) in
-              inl (drawn_object (shown d.0), (P.objects.each (drawn_object (shown d.0))).1 (u, d.0, off, d.1, refl), ap (λ z. word_of_ref (Some z)) d.2.at)
+              inl (drawn_object (in_words d.0), (P.objects.each (drawn_object (in_words d.0))).1 (u, d.0, off, d.1, refl), ap (λ z. word_of_ref (Some z)) d.2.at)
         ])
 
     leads_by : (n : ℕ) (r : Option Addr) → slice_get o.refs n ≡ Some r → IsRef r → LeadsSomewhere p (word_of_ref r)
@@ -185,12 +184,12 @@ module _ (w : SharedValue) (I : IsSharedValue w) (F : AreHeldInWords w) (p : Pic
         let same : t ≡ u = sym (own_is t idle o i) ∙ (ap (own (k w I)) e ∙ own_is u still s j) in
         ap (λ (z : Located). z.at) ((H t idle o i).named o s i (subst (λ z. In (objects v z) s) (sym same) j) e)
 
-    pub apart : AreApart (drawn_object (shown o)) (drawn_object (shown s))
+    pub apart : AreApart (drawn_object (in_words o)) (drawn_object (in_words s))
     apart lt e =
         let chunks : o.at.chunk ≡ s.at.chunk = sym (chunk_of_word o.at (near t idle o i)) ∙ (e ∙ chunk_of_word s.at (near u still s j)) in
         let same : t ≡ u = same_Some t u (sym (owner t idle o i) ∙ (ap v.owner chunks ∙ owner u still s j)) in
         let first : o.at.offset < s.at.offset = before_offset o.at s.at chunks lt in
-        let a : end_of (drawn_object (shown o)) ≡ o.at.offset + words o = end_is t idle o i in
+        let a : end_of (drawn_object (in_words o)) ≡ o.at.offset + words o = end_is t idle o i in
         let b : offset (word_of_ref (Some s.at)) ≡ s.at.offset = offset_of_word s.at (near u still s j) in
         elim ((H t idle o i).laid.apart o s i (subst (λ z. In (objects v z) s) (sym same) j)) [
           | inl one ↦ absurd (let c : o.at.offset ≡ s.at.offset = ap (λ (z : Located). z.at.offset) one in omega (arith, c, first))
@@ -218,7 +217,7 @@ module _ (w : SharedValue) (I : IsSharedValue w) (F : AreHeldInWords w) (p : Pic
       let lt : s.field < length K.object.refs = K.field in
       let at : word_of_ref (Some d.0.at) ≡ word_of_ref (Some s.object) = ap (λ z. word_of_ref (Some z)) d.2.at in
       record {
-        object = drawn_object (shown d.0);
+        object = drawn_object (in_words d.0);
         drawn = here t idle d.0 d.1;
         address = at;
         place = omega (arith, a, b, m, lt);

@@ -21,7 +21,7 @@ use Rattle.core_relation.proofs.objects.Members.{held_object, object_held}
 use Rattle.shared_value.specs.Stands.{IsSharedValue}
 use Rattle.shared_value.specs.SharedValue.{SharedValue, accounts, value_of}
 use Rattle.heap_reading.specs.HeldNames.{is_state_running}
-use Rattle.heap_reading.specs.Image.{shown}
+use Rattle.heap_reading.specs.Image.{in_words}
 use Rattle.heap_reading.proofs.KeptNames.{handed_held}
 use Rattle.heap_image.specs.declared.picture.Picture.{Picture}
 use Rattle.heap_image.specs.Picture.{IsOwned}
@@ -41,8 +41,8 @@ module _ (w : SharedValue) (I : IsSharedValue w) (F : AreHeldInWords w) (p : Pic
   runs_now : (t : ℕ) → is_state_running (state_of w.tree t) ≡ is_running (slice_get l.machine.tasks t)
   runs_now t = runs w I t ∙ ap (λ (m : State). is_running (slice_get m.tasks t)) (same w I)
 
-  drawn : (t : ℕ) → IsHandedBack w t → (o : Located) → In (objects v t) o → In p.objects (drawn_object (shown o))
-  drawn t idle o i = (P.objects.each (drawn_object (shown o))).1 (t, o, idle, i, refl)
+  drawn : (t : ℕ) → IsHandedBack w t → (o : Located) → In (objects v t) o → In p.objects (drawn_object (in_words o))
+  drawn t idle o i = (P.objects.each (drawn_object (in_words o))).1 (t, o, idle, i, refl)
 
   reference : (a : Addr) (n : Name) → IsRef (Some a) → Place v (k w I) n a → IsReference p l (word_of_ref (Some a)) (Some n)
   reference a n near place =
@@ -56,7 +56,7 @@ module _ (w : SharedValue) (I : IsSharedValue w) (F : AreHeldInWords w) (p : Pic
             )
         | inr off ↦
             let d = place.here (rests w I u off) in
-            inl (drawn_object (shown d.0), drawn u off d.0 d.1, ap (λ z. word_of_ref (Some z)) d.2.at, (ap (λ (z : Name). z.task) d.2.name, ap (λ (z : Name). z.count) d.2.name))
+            inl (drawn_object (in_words d.0), drawn u off d.0 d.1, ap (λ z. word_of_ref (Some z)) d.2.at, (ap (λ (z : Name). z.task) d.2.name, ap (λ (z : Name). z.count) d.2.name))
       ]
 
   references : (rs : List (Option Addr)) (xs : List (Option Name)) → ((r : Option Addr) → In rs r → IsRef r) → AllRead (Place v (k w I)) rs xs → AreReferences p l (map word_of_ref rs) xs
@@ -68,7 +68,7 @@ module _ (w : SharedValue) (I : IsSharedValue w) (F : AreHeldInWords w) (p : Pic
   references (Some a ∷ rs) (None ∷ xs) near h = absurd h.0
   references (Some a ∷ rs) (Some n ∷ xs) near h = (reference a n (near (Some a) (inl refl)) h.0, references rs xs (λ r i. near r (inr i)) h.1)
 
-  stands : (t : ℕ) (idle : IsHandedBack w t) (o : Located) (i : In (objects v t) o) → StandsFor p l (drawn_object (shown o)) (object_name o)
+  stands : (t : ℕ) (idle : IsHandedBack w t) (o : Located) (i : In (objects v t) o) → StandsFor p l (drawn_object (in_words o)) (object_name o)
   stands t idle o i =
       let x = content w I t idle o i in
       record {
@@ -90,5 +90,5 @@ module _ (w : SharedValue) (I : IsSharedValue w) (F : AreHeldInWords w) (p : Pic
         let idle : IsHandedBack w h.0 = runs_now h.0 ∙ h.1 in
         let names = (I.stands.belongings.belongings h.0 (rests w I h.0 idle)).names in
         let o = held_object (v.belongings h.0).chunks (heap_of (k w I) h.0) names n (subst (λ ns. In ns n) (sym (handed_held l h.0)) h.2) in
-        (drawn_object (shown o.0), drawn h.0 idle o.0 o.1, subst (StandsFor p l (drawn_object (shown o.0))) o.2 (stands h.0 idle o.0 o.1));
+        (drawn_object (in_words o.0), drawn h.0 idle o.0 o.1, subst (StandsFor p l (drawn_object (in_words o.0))) o.2 (stands h.0 idle o.0 o.1));
   }

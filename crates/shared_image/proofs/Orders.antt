@@ -2,7 +2,7 @@
 use Rattle.std.proofs.Common.{◌≡◌, ◌⊎◌, ℕ, zero, suc, Some, List, [], ◌∷◌, ◌++◌, map, slice_get, take, inl, inr, refl, sym, subst}
 use Rattle.listed.specs.Members.{In}
 use Rattle.listed.proofs.Members.{in_append_cases, in_append_left, in_append_right, got_in}
-use Rattle.core_relation.proofs.objects.Members.{in_map, map_in}
+use Rattle.listed.proofs.Places.{in_map, map_in}
 use Rattle.heap_reading.specs.Image.{AreAll, Rises}
 
 pub rises_append : {A : Type 0} (before : A → A → Type 0) (xs ys : List A) → Rises before xs → Rises before ys → ((x y : A) → In xs x → In ys y → before x y) → Rises before (xs ++ ys)

@@ -2,6 +2,7 @@
 use Rattle.std.proofs.Common.{◌≡◌, ℕ, ◌<◌, true, false, Option, Some, None, List, length, is_some, slice_get, refl, ap, subst, ◌∙◌}
 use Rattle.std.proofs.lemmas.Bool.{false≢true}
 use Rattle.std.proofs.lemmas.Option.{slice_get_within}
+use Rattle.listed.proofs.Places.{map_in}
 use Rattle.hh_model.specs.declared.data.Object.{Object}
 use Rattle.hh_model.specs.declared.data.Task.{Task}
 use Rattle.hh_model.specs.Effect.{object_at}
@@ -13,7 +14,7 @@ use Rattle.ledger_step_laws.specs.Accounts.{Rests, own}
 use Rattle.core_relation.specs.Reads.{IsRead}
 use Rattle.core_relation.specs.Stands.{BelongingsStand, Place, Stands}
 use Rattle.core_relation.specs.Memory.{Chunk as ChunkOf, In, Memory, object_name, objects, objects_in}
-use Rattle.core_relation.proofs.objects.Members.{in_chunk, map_in, object_held}
+use Rattle.core_relation.proofs.objects.Members.{in_chunk, object_held}
 use Rattle.task_homes.specs.declared.task_at_rest.Rest.{Rest}
 use Rattle.shared_value.specs.Measured.{IsUnheld}
 use Rattle.shared_value.specs.Objects.{chunk_of}

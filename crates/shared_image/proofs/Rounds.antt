@@ -1,7 +1,6 @@
 -- A picture grows chunk by chunk, and task by task.
-use Rattle.std.proofs.Common.{◌≡◌, ◌⊎◌, ℕ, ◌+◌, ◌*◌, ◌<◌, Option, Some, None, List, [], ◌∷◌, ◌++◌, map, option_map, slice_get, take, inl, inr, refl, sym, subst}
-use Rattle.listed.proofs.Members.{in_append_left}
-use Rattle.listed.proofs.Places.{got_in_take, in_take_more}
+use Rattle.std.proofs.Common.{◌≡◌, ◌⊎◌, ℕ, ◌+◌, ◌*◌, ◌<◌, Option, Some, None, List, ◌++◌, map, option_map, slice_get, take, inl, inr, refl, sym, subst}
+use Rattle.listed.proofs.Places.{got_in_take, in_take_more, take_more_in}
 use Rattle.hh_model.specs.Step.{owner_of}
 use Rattle.chunk_pool.specs.declared.pool.Slot.{Slot}
 use Rattle.chunk_pool.specs.PoolValue.{slot_at}
@@ -12,9 +11,8 @@ use Rattle.shared_value.specs.SharedValue.{SharedValue, accounts, value_of}
 use Rattle.heap_reading.specs.declared.live.InUse.{InUse}
 use Rattle.heap_reading.specs.declared.live.Live.{Live}
 use Rattle.heap_reading.specs.declared.noted.Field.{Field}
-use Rattle.heap_reading.specs.Image.{AreAll, AreInWords, ChunkBefore as InUseBefore, FieldBefore as NotedBefore, IsInUse, IsLive, IsNoted, LiveBefore, objects_of, shown}
+use Rattle.heap_reading.specs.Image.{AreAll, AreInWords, ChunkBefore as InUseBefore, FieldBefore as NotedBefore, IsInUse, IsLive, IsNoted, LiveBefore, in_words, objects_of}
 use Rattle.heap_reading.proofs.InOrder.{all_same}
-use Rattle.heap_reading.proofs.ObjectsRead.{take_next}
 use Rattle.image_check.specs.declared.line.Remembered.{Remembered}
 use Rattle.heap_image.specs.declared.picture.Picked.{Picked}
 use Rattle.heap_image.specs.Picture.{ChunkBefore, FieldBefore, ObjectBefore, TaskBefore}
@@ -24,19 +22,16 @@ use Rattle.shared_image.proofs.Chunks.{one, told_apart, told_back, told_in_order
 use Rattle.shared_image.proofs.Orders.{all_append, all_map, rises_before}
 use Rattle.shared_image.proofs.Resting.{owner}
 
-front : {A : Type 0} (xs : List A) (i : ℕ) (x y : A) → slice_get xs i ≡ Some x → In (take i xs) y → In (take (i + 1) xs) y
-front xs i x y e j = subst (λ zs. In zs y) (sym (take_next xs i x e)) (in_append_left (take i xs) (x ∷ []) y j)
-
 module _ (w : SharedValue) (I : IsSharedValue w) where
   -- CHUNKS
   module _ (cs : List InUse) (i : ℕ) (c : InUse) (all : AreAll InUseBefore (IsInUse w) cs) (is : slice_get cs i ≡ Some c) where
     abbrev Here : Picked → Type 0
-    Here q = (o : Located) × In (objects_of w c.number) o × (q ≡ drawn_object (shown o))
+    Here q = (o : Located) × In (objects_of w c.number) o × (q ≡ drawn_object (in_words o))
 
-    pub objects_step : (old new : List Picked) → AreAll ObjectBefore (AreObjectsOf w (take i cs)) old → new ≡ old ++ map drawn_object (map shown (objects_of w c.number)) → AreAll ObjectBefore (AreObjectsOf w (take (i + 1) cs)) new
+    pub objects_step : (old new : List Picked) → AreAll ObjectBefore (AreObjectsOf w (take i cs)) old → new ≡ old ++ map drawn_object (map in_words (objects_of w c.number)) → AreAll ObjectBefore (AreObjectsOf w (take (i + 1) cs)) new
     objects_step old new so more =
         subst (AreAll ObjectBefore (AreObjectsOf w (take (i + 1) cs))) (sym more)
-        (all_append ObjectBefore (AreObjectsOf w (take i cs)) Here (AreObjectsOf w (take (i + 1) cs)) old (map drawn_object (map shown (objects_of w c.number))) so (told_in_order w I c.number) both join split)
+        (all_append ObjectBefore (AreObjectsOf w (take i cs)) Here (AreObjectsOf w (take (i + 1) cs)) old (map drawn_object (map in_words (objects_of w c.number))) so (told_in_order w I c.number) both join split)
       where
         both : (x y : Picked) → AreObjectsOf w (take i cs) x → Here y → ObjectBefore x y
         both x y X Y =
@@ -44,7 +39,7 @@ module _ (w : SharedValue) (I : IsSharedValue w) where
             subst (λ z. ObjectBefore z y) (sym X.4) (subst (ObjectBefore (one w I X.1)) (sym Y.2) (told_apart w I X.0.number c.number X.1 Y.0 lt X.3 Y.1))
 
         join : (x : Picked) → AreObjectsOf w (take i cs) x ⊎ Here x → AreObjectsOf w (take (i + 1) cs) x
-        join x (inl X) = (X.0, X.1, front cs i c X.0 is X.2, X.3, X.4)
+        join x (inl X) = (X.0, X.1, take_more_in cs i X.0 X.2, X.3, X.4)
         join x (inr Y) = (c, Y.0, got_in_take cs i c is, Y.1, Y.2)
 
         split : (x : Picked) → AreObjectsOf w (take (i + 1) cs) x → AreObjectsOf w (take i cs) x ⊎ Here x
@@ -94,7 +89,7 @@ module _ (w : SharedValue) (I : IsSharedValue w) where
             inl (subst (λ (z : Remembered). z.task < g.task) (sym X.4) (subst (λ (z : Remembered). X.0.number < z.task) (sym Y.2) lt))
 
         join : (f : Remembered) → AreFieldsOf w (take i xs) f ⊎ Its f → AreFieldsOf w (take (i + 1) xs) f
-        join f (inl X) = (X.0, X.1, front xs i x X.0 is X.2, X.3, X.4)
+        join f (inl X) = (X.0, X.1, take_more_in xs i X.0 X.2, X.3, X.4)
         join f (inr Y) = (x, Y.0, got_in_take xs i x is, Y.1, Y.2)
 
         split : (f : Remembered) → AreFieldsOf w (take (i + 1) xs) f → AreFieldsOf w (take i xs) f ⊎ Its f

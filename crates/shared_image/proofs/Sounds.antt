@@ -4,7 +4,7 @@ use Rattle.std.specs.Prelude.{FitsSigned}
 use Rattle.std.specs.Int.{w64}
 use Rattle.std.proofs.lemmas.List.{length-map}
 use Rattle.std.proofs.lemmas.Option.{slice_get_within}
-use Rattle.listed.proofs.Places.{read_in}
+use Rattle.listed.proofs.Places.{map_in, read_in}
 use Rattle.hh_lang.proofs.Tests.{fits_passes}
 use Rattle.hh_model.specs.declared.data.State.{State}
 use Rattle.hh_model.specs.declared.data.Task.{Task as TaskOf}
@@ -20,13 +20,12 @@ use Rattle.chunk_pool.specs.declared.pool.Slot.{Slot}
 use Rattle.chunk_pool.specs.PoolValue.{AreChunks, slot_at, slot_in, slot_units, units_in, units_in_use}
 use Rattle.core_relation.specs.Stands.{Place}
 use Rattle.core_relation.specs.Memory.{In, Memory, object_name, objects}
-use Rattle.core_relation.proofs.objects.Members.{map_in}
 use Rattle.shared_value.specs.Stands.{IsSharedValue}
 use Rattle.shared_value.specs.SharedValue.{SharedValue, accounts, value_of}
 use Rattle.shared_value.proofs.BeforeTheEnd.{used_now}
 use Rattle.shared_value.proofs.FreeChunks.{refs_long}
 use Rattle.heap_reading.specs.declared.live.Live.{Live}
-use Rattle.heap_reading.specs.Image.{IsLive, shown}
+use Rattle.heap_reading.specs.Image.{IsLive, in_words}
 use Rattle.image_check.specs.declared.line.Birth.{Birth}
 use Rattle.image_check.specs.declared.line.Task.{Task}
 use Rattle.image_check.specs.declared.line.Chunk.{Chunk}
@@ -116,7 +115,7 @@ module _ (w : SharedValue) (I : IsSharedValue w) (C : AreChunks w.pool.slots) (F
     ref_long None ref = omega arith
     ref_long (Some a) ref = let lt = word_long a ref.0 ref.1 in omega (arith, lt)
 
-    form_of : IsObjectForm (drawn_object (shown o))
+    form_of : IsObjectForm (drawn_object (in_words o))
     form_of =
         let x = content w I F p P t idle o i in
         let n = stored_few w I (object_name o) x.0 x.1 in
@@ -190,7 +189,7 @@ module _ (w : SharedValue) (I : IsSharedValue w) (C : AreChunks w.pool.slots) (F
   same_birth o q i j e =
       let a = (P.objects.each o).0 i in
       let b = (P.objects.each q).0 j in
-      let birth : (drawn_object (shown a.1)).birth ≡ (drawn_object (shown b.1)).birth = sym (ap (λ (z : Picked). z.birth) a.4) ∙ (e ∙ ap (λ (z : Picked). z.birth) b.4) in
+      let birth : (drawn_object (in_words a.1)).birth ≡ (drawn_object (in_words b.1)).birth = sym (ap (λ (z : Picked). z.birth) a.4) ∙ (e ∙ ap (λ (z : Picked). z.birth) b.4) in
       let task : a.1.birth.task ≡ b.1.birth.task = ap (λ (z : Birth). z.task) birth in
       let count : a.1.birth.count ≡ b.1.birth.count = ap (λ (z : Birth). z.count) birth in
       let name : object_name a.1 ≡ object_name b.1 = λ n. record { task = task n; count = count n } in
@@ -210,7 +209,7 @@ module _ (w : SharedValue) (I : IsSharedValue w) (C : AreChunks w.pool.slots) (F
     apart = λ o q i j.
         let a = (P.objects.each o).0 i in
         let b = (P.objects.each q).0 j in
-        subst (λ z. AreApart z q) (sym a.4) (subst (AreApart (drawn_object (shown a.1))) (sym b.4) (apart w I F p P a.0 a.2 a.1 a.3 b.0 b.2 b.1 b.3));
+        subst (λ z. AreApart z q) (sym a.4) (subst (AreApart (drawn_object (in_words a.1))) (sym b.4) (apart w I F p P a.0 a.2 a.1 a.3 b.0 b.2 b.1 b.3));
     leads = λ o x i j. (let a = (P.objects.each o).0 i in leads w I F p P a.0 a.2 a.1 a.3 x (subst (λ (z : Picked). In z.references x) a.4 j));
     keeps = λ o n x t u i e ot ou.
         let a = (P.objects.each o).0 i in

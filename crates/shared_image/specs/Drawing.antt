@@ -6,14 +6,14 @@ use Rattle.shared_value.specs.SharedValue.{SharedValue}
 use Rattle.heap_reading.specs.declared.live.InUse.{InUse}
 use Rattle.heap_reading.specs.declared.live.Live.{Live}
 use Rattle.heap_reading.specs.declared.noted.Field.{Field}
-use Rattle.heap_reading.specs.Image.{IsNoted, objects_of, shown}
+use Rattle.heap_reading.specs.Image.{IsNoted, in_words, objects_of}
 use Rattle.image_check.specs.declared.line.Remembered.{Remembered}
 use Rattle.heap_image.specs.declared.picture.Picked.{Picked}
 use Rattle.shared_image.specs.Drawn.{drawn_field, drawn_object}
 
 -- it is an object of one of these chunks
 abbrev pub AreObjectsOf : SharedValue → List InUse → Picked → Type 0
-AreObjectsOf w cs q = (c : InUse) × (o : Located) × In cs c × In (objects_of w c.number) o × (q ≡ drawn_object (shown o))
+AreObjectsOf w cs q = (c : InUse) × (o : Located) × In cs c × In (objects_of w c.number) o × (q ≡ drawn_object (in_words o))
 
 -- it is a field that the set of one of these tasks has
 abbrev pub AreFieldsOf : SharedValue → List Live → Remembered → Type 0

@@ -11,7 +11,7 @@ use Rattle.heap_reading.specs.declared.live.Live.{Live}
 use Rattle.heap_reading.specs.declared.noted.Field.{Field}
 use Rattle.heap_reading.specs.declared.seen.Seen.{Seen}
 use Rattle.heap_reading.specs.HeldNames.{is_state_running}
-use Rattle.heap_reading.specs.Image.{AreAll, IsInUse, IsInWords, IsLive, IsNoted, shown}
+use Rattle.heap_reading.specs.Image.{AreAll, IsInUse, IsInWords, IsLive, IsNoted, in_words}
 use Rattle.image_check.specs.declared.line.State.{State as Drawn}
 use Rattle.image_check.specs.declared.line.State.TheVariants.{Running as IsRunning, Waiting as IsWaiting, Ended as HasEnded}
 use Rattle.image_check.specs.declared.line.Task.{Task}
@@ -59,7 +59,7 @@ IsHandedBack w t = is_state_running (state_of w.tree t) ≡ false
 
 -- it is an object of a heap handed back
 abbrev pub IsObjectOf : SharedValue → Picked → Type 0
-IsObjectOf w q = (t : ℕ) × (o : Located) × IsHandedBack w t × In (objects (value_of w) t) o × (q ≡ drawn_object (shown o))
+IsObjectOf w q = (t : ℕ) × (o : Located) × IsHandedBack w t × In (objects (value_of w) t) o × (q ≡ drawn_object (in_words o))
 
 -- it is a field that the set of a task that hasn't joined has
 abbrev pub IsFieldOf : SharedValue → Remembered → Type 0

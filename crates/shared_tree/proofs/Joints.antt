@@ -63,10 +63,10 @@ module _ (w : SharedValue) (k : ℕ) (p : Private) (I : IsSharedValue w) (F : Fi
   above = above_of (value_of w) (accounts w) t
 
   abbrev G : FitsMachine w.program p M.machine above
-  G = fits_machine w k p I F shared on
+  G = fits_machine w k p I F on
 
   machine_is : machine_after w p ≡ M.machine
-  machine_is = machine_same w k p I F shared on
+  machine_is = machine_same w k p I F on
 
   at : fetched w.program G.task.top ≡ Some line
   at = sym (same_line w.program p M.machine above G) ∙ next

@@ -13,6 +13,7 @@ use Rattle.run_ledger.specs.Heaps.{heap_of, let_go, or_fresh}
 use Rattle.run_ledger.specs.Entries.{after}
 use Rattle.run_ledger.proofs.Journals.{entry_tells}
 use Rattle.run_ledger.specs.declared.data.RunEnd.TheVariants.{Fuel, Machine, Pool}
+use Rattle.run_ledger.proofs.Cuts.{legal_then}
 use Rattle.chunk_pool.specs.PoolValue.{PoolValue}
 use Rattle.heap_tree.specs.Node.{Node}
 use Rattle.write_barrier.specs.declared.sets.SetOf.{SetOf}
@@ -20,7 +21,7 @@ use Rattle.ledger_step_laws.specs.Accounts.{Rests, rested}
 use Rattle.ledger_step_laws.proofs.Ahead.{with_off}
 use Rattle.ledger_step_laws.proofs.Rested.{rested_worker}
 use Rattle.core_relation.specs.Whole.{StandsForAll, by_end}
-use Rattle.core_relation.specs.Worker.{Fits as FitsValue}
+use Rattle.core_relation.specs.Worker.{WorkerFits}
 use Rattle.task_machine.specs.declared.part.Private.{Private}
 use Rattle.task_homes.specs.declared.task_at_rest.Rest.{Rest}
 use Rattle.shared_value.specs.SharedValue.{SharedValue, accounts, rest_at, tree_counts_of, value_of}
@@ -28,7 +29,7 @@ use Rattle.shared_value.specs.Measured.{IsMeasured, IsUnheld, RestsAreMeasured}
 use Rattle.shared_value.specs.Stands.{HeapForm, IsSharedValue}
 use Rattle.shared_value.specs.Fits.{Fits, part_of}
 use Rattle.shared_value.specs.Entered.{refused}
-use Rattle.shared_value.proofs.JournalGoesOn.{accounts_then, legal_then}
+use Rattle.shared_value.proofs.JournalGoesOn.{accounts_then}
 use Rattle.shared_value.proofs.BeforeTheEnd.{stands_now}
 
 -- nothing is refused after the run's end but as over
@@ -115,10 +116,10 @@ module _ (w : SharedValue) (e : EntryValue) (I : IsSharedValue w) (free : refuse
 
     -- a part of a worker that goes on fits where its belongings do
     pub part_fits : (u : ℕ) (p q : Private) → option_flatten (slice_get tasks_out u) ≡ option_flatten (slice_get w.tasks_out u) → Fits w u p → q.task ≡ p.task → q.leaf_limit ≡ p.leaf_limit → q.field_limit ≡ p.field_limit → HeapForm q.heap → IsMeasured pool q
-        → FitsValue w.program w.settings (part_of w.settings q) (value_of w') (after w.program w.settings (accounts w) e) → Fits w' u q
+        → WorkerFits w.program w.settings (part_of w.settings q) (value_of w') (after w.program w.settings (accounts w) e) → Fits w' u q
     part_fits u p q same F et el ef form measured fits = record {
       held = ap (λ z. (heap_of (accounts w') z).worker) et ∙ held_on u p.task same F.held;
-      fits = subst (FitsValue w.program w.settings (part_of w.settings q) (value_of w')) (sym accounts_are) fits;
+      fits = subst (WorkerFits w.program w.settings (part_of w.settings q) (value_of w')) (sym accounts_are) fits;
       form = form;
       measured = measured;
       leaf_limit = el ∙ F.leaf_limit;

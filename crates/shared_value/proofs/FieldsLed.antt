@@ -7,12 +7,14 @@ use Rattle.std.proofs.lemmas.Bool.{cases_eq, false≢true}
 use Rattle.std.proofs.lemmas.List.{length-set}
 use Rattle.std.proofs.lemmas.Option.{same_Some}
 use Rattle.listed.proofs.Members.{got_other, got_same}
+use Rattle.listed.proofs.Places.{map_in}
 use Rattle.object_layout.specs.declared.word.Addr.{Addr}
 use Rattle.object_layout.specs.declared.word.Birth.{Birth}
-use Rattle.object_layout.specs.Cell.{Born, Cell, IsObject, marked_object, size_of, with_ref}
+use Rattle.object_layout.specs.Cell.{Born, Cell, marked_object, size_of, with_ref}
 use Rattle.object_layout.specs.Chunks.{cell_of, put_object, same_address, with_cell}
 use Rattle.object_layout.specs.ChunkValue.{ChunkValue}
 use Rattle.object_layout.proofs.ChunkLaws as laws
+use Rattle.object_layout.proofs.Distinct.{is_same, same_is}
 use Rattle.object_layout.specs.Objects.{Located, with_fields}
 use Rattle.chunk_pool.specs.PoolValue.{PoolValue, owner_of}
 use Rattle.alloc_path.specs.LeafHeapValue.{LeafHeapValue, room_of}
@@ -25,9 +27,7 @@ use Rattle.remembered_set.specs.declared.remembered.Source.{Source}
 use Rattle.remembered_set.specs.Moved.{target_of, new_reference, redirected, written}
 use Rattle.leaf_copy_gc.specs.Redirected.{new_address}
 use Rattle.core_relation.specs.Memory.{Chunk, In, mapped_chunk, mapped_belongings, objects_in, put_at, rewritten_belongings}
-use Rattle.core_relation.proofs.objects.Members.{in_chunk, map_in}
-use Rattle.core_relation.proofs.changes.Write.{at_is}
-use Rattle.core_relation.proofs.changes.Shown.{is_at_it}
+use Rattle.core_relation.proofs.objects.Members.{in_chunk}
 use Rattle.task_homes.specs.declared.task_at_rest.Rest.{Rest}
 use Rattle.task_homes.specs.declared.task_at_rest.Work.{Work}
 use Rattle.task_homes.specs.declared.task_at_rest.Work.TheVariants.{Calls, Result}
@@ -186,10 +186,10 @@ module _ (ms : List (Addr × Addr)) where
 
         by : (u : ℕ) → Good u → (o : Located) → In (objects_in (belongings_in (rest_at H.rests u)).chunks) o → (v : Bool) → same_address o.at s.object ≡ v → lead_one f s o ≡ o
         by u good o i true e =
-            let at : o.at ≡ s.object = at_is s.object o e in
+            let at : o.at ≡ s.object = same_is o.at s.object e in
             let q = at_source u good o i at in
             led_there o (target_of refs_in H s) at q.1 is ∙ same_refs o q.1
-        by u good o i false e = elsewhere o (λ at. false≢true (sym e ∙ is_at_it s.object o at))
+        by u good o i false e = elsewhere o (λ at. false≢true (sym e ∙ is_same o.at s.object at))
 
     -- it is led to where its object is now
     module _ (x : Option Addr) (is : option_map f (target_of refs_in H s) ≡ x) where
@@ -206,12 +206,7 @@ module _ (ms : List (Addr × Addr)) where
       size = ap (λ n. 2 + (n + length c.ints)) (length-set c.refs s.field x)
 
       mark_kept : (b : Addr) → (cell_of (put_object T.rest.heap.chunks s.object d) b).mark ≡ (cell_of T.rest.heap.chunks b).mark
-      mark_kept b = elim (laws.addr_cases b s.object) [
-        | inl e ↦
-            subst (λ z. (cell_of (put_object T.rest.heap.chunks s.object d) z).mark ≡ (cell_of T.rest.heap.chunks z).mark) (sym e)
-            (ap (λ (z : Cell). z.mark) (laws.cell_of-put_same T.rest.heap.chunks s.object d (subst IsObject (sym T.born) tt)))
-        | inr ne ↦ ap (λ (z : Cell). z.mark) (laws.cell_of-put_other T.rest.heap.chunks s.object b d size ne)
-      ]
+      mark_kept b = laws.mark_put T.rest.heap.chunks s.object d refl size b
 
       form_now : (u : ℕ) (q : Rest) → rest_at rests' u ≡ Some q → HeapForm q.heap
       form_now u q e = elim (cases_eq u T.task) [
@@ -243,10 +238,10 @@ module _ (ms : List (Addr × Addr)) where
         where
           by : (v : Bool) → same_address o.at s.object ≡ v → cond v (with_fields d o) o ≡ lead_one f s o
           by true e =
-              let at : o.at ≡ s.object = at_is s.object o e in
+              let at : o.at ≡ s.object = same_is o.at s.object e in
               let q = at_source T.task T.good o i at in
               (λ k. record o { mutable = sym q.2 k; refs = slice_set c.refs s.field x; ints = sym q.3 k }) ∙ sym (led_there o x at q.1 is)
-          by false e = sym (elsewhere o (λ at. false≢true (sym e ∙ is_at_it s.object o at)))
+          by false e = sym (elsewhere o (λ at. false≢true (sym e ∙ is_same o.at s.object at)))
 
       belongings_are_mapped : (u : ℕ) → Good u → belongings_in (rest_at rests' u) ≡ mapped_belongings (lead_one f s) (belongings_in (rest_at H.rests u))
       belongings_are_mapped u good = elim (cases_eq u T.task) [

@@ -24,7 +24,7 @@ use Rattle.core_relation.specs.Copies.{PartFits}
 use Rattle.core_relation.specs.Fits.{FitsAt, Part, ahead, with_belongings}
 use Rattle.core_relation.specs.Since.{NotedAt}
 use Rattle.core_relation.specs.Whole.{BegunBy, StandsFor, TreeCounts}
-use Rattle.core_relation.specs.Worker.{Fits as FitsValue}
+use Rattle.core_relation.specs.Worker.{WorkerFits}
 use Rattle.core_relation.proofs.changes.Alone.{belongings_kept}
 use Rattle.core_relation.proofs.objects.Carry.{object_kept, task_kept}
 use Rattle.core_relation.proofs.changes.Giving.{gives_kept}
@@ -120,7 +120,7 @@ module _ (v : Memory) (hs : ℕ → Belongings) (l : Ledger) (same : (u : ℕ) �
     begun_part : BegunBy (with_belongings v t q.belongings) K t q.belongings.begun → BegunBy (with_belongings w t q.belongings) K t q.belongings.begun
     begun_part B = begun_held (with_belongings v t q.belongings) (with_belongings w t q.belongings).belongings K with_same t (rested_worker _ t) q.belongings.begun B
 
-  pub fits_held : l.machine.end ≡ None → FitsValue p s q v l → FitsValue p s q w l
+  pub fits_held : l.machine.end ≡ None → WorkerFits p s q v l → WorkerFits p s q w l
   fits_held going F =
       let P : PartFits p s q v l = subst (PartFits p s q v) (aside_is l going) F.part in
       let A : StepsAlone l K t = ahead_alone p s q l S F.steady P.fits.private in

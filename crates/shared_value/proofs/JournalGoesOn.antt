@@ -1,12 +1,11 @@
--- An entry that isn't refused: the journal stays legal, and its accounts go on from those before it.
-use Rattle.std.proofs.Common.{◌≡◌, ℕ, ◌-◌, true, Option, None, List, [], ◌∷◌, ◌++◌, refl, ap, sym, subst, ◌∙◌, is_none}
-use Rattle.std.proofs.lemmas.Bool.{and_from}
+-- A journal with an entry more: its accounts go on from those before it.
+use Rattle.std.proofs.Common.{◌≡◌, ℕ, ◌-◌, true, Option, List, [], ◌∷◌, ◌++◌, ap, sym, subst, ◌∙◌}
 use Rattle.listed.specs.RoomyValue.{RoomyValue}
 use Rattle.hh_lang.specs.Form.{ProgramText}
 use Rattle.run_trace.specs.Entry.{EntryValue}
 use Rattle.run_trace.specs.Settings.{SettingsValue}
-use Rattle.run_ledger.specs.Entries.{refusal, after}
-use Rattle.run_ledger.specs.Journals.{ledger_of, is_legal}
+use Rattle.run_ledger.specs.Entries.{after}
+use Rattle.run_ledger.specs.Journals.{ledger_of}
 use Rattle.run_ledger.proofs.Cuts.{journals_can_be_cut}
 use Rattle.heap_tree.specs.Node.{Node}
 use Rattle.task_machine.specs.declared.part.Private.{Private}
@@ -17,10 +16,6 @@ use Rattle.shared_value.specs.Stands.{IsSharedValue}
 
 pub accounts_then : (p : ProgramText) (s : SettingsValue) (j : List EntryValue) (e : EntryValue) → ledger_of p s (j ++ e ∷ []) ≡ after p s (ledger_of p s j) e
 accounts_then p s j e = (journals_can_be_cut p s j (e ∷ [])).accounts
-
-pub legal_then : (p : ProgramText) (s : SettingsValue) (j : List EntryValue) (e : EntryValue) → is_legal p s j ≡ true → refusal p s (ledger_of p s j) e ≡ None → is_legal p s (j ++ e ∷ []) ≡ true
-legal_then p s j e legal free =
-    (journals_can_be_cut p s j (e ∷ [])).legal.1 (legal, and_from (is_none (refusal p s (ledger_of p s j) e)) true (ap is_none free) refl)
 
 -- the journal with an entry that was made
 pub journal_by : (j j' : RoomyValue EntryValue) (x e : EntryValue) → x ≡ e → j' ≡ record { items = j.items ++ x ∷ []; room = j.room - 1 } → j' ≡ record { items = j.items ++ e ∷ []; room = j.room - 1 }

@@ -12,7 +12,7 @@ use Rattle.object_layout.specs.Piece.{PieceValue, frozen_at, frozen_from, lasts}
 use Rattle.object_layout.specs.Objects.{Located, located, located_by, objects_from}
 use Rattle.chunk_rows.specs.View.{Level, level_of, nearest, piece_in}
 use Rattle.chunk_rows.specs.View.{seen_at as view_at, seen_in as view_in}
-use Rattle.core_relation.specs.Memory.{Chunk, chunk_of as chunk_among, frozen_chunks, seen_at, seen_in, shown_at}
+use Rattle.core_relation.specs.Memory.{Chunk, chunk_among, frozen_chunks, seen_at, seen_in, shown_at}
 use Rattle.shared_value.specs.Objects.{birth_in, chunks_of, levels_of, shown, shown_chunk}
 
 -- ---- THE LEVEL OF A HEAP

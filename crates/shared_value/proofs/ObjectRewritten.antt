@@ -3,7 +3,7 @@ use Rattle.std.proofs.Common.{◌≡◌, ℕ, ◌+◌, ◌-◌, ◌*◌, ◌/◌
 use Rattle.std.proofs.lemmas.Bool.{cond-true, eqb-true, false≢true}
 use Rattle.std.proofs.lemmas.List.{length-map}
 use Rattle.std.proofs.lemmas.List.Elements.{All-cons, All-head, All-nil, All-tail}
-use Rattle.listed.proofs.Places.{in_map}
+use Rattle.listed.proofs.Places.{in_map, map_in}
 use Rattle.object_layout.specs.declared.word.Addr.{Addr}
 use Rattle.object_layout.specs.Cell.{Born, Cell, Hole, Mark, Moved, moved_to, size_of}
 use Rattle.object_layout.specs.Chunks.{cell_of, chunk_at, put_object, same_address, with_cell}
@@ -12,10 +12,10 @@ use Rattle.object_layout.specs.Place.{cell_at, words_in}
 use Rattle.object_layout.specs.Objects.{Located, changed_at, located_by, objects_from, objects_of, with_fields}
 use Rattle.object_layout.proofs.ChunkLaws.{length-put}
 use Rattle.object_layout.proofs.ObjectChanges.{put_changes_one}
+use Rattle.object_layout.proofs.Distinct.{same_is}
 use Rattle.alloc_path.specs.LeafHeapValue.{AreApart, LeafHeapValue, IsTidy, room_at, room_of, units}
 use Rattle.core_relation.specs.Memory.{Chunk, In, mapped_chunk, objects_in, put_at}
-use Rattle.core_relation.proofs.objects.Members.{in_chunk, map_in, in_objects}
-use Rattle.core_relation.proofs.changes.Write.{at_is}
+use Rattle.core_relation.proofs.objects.Members.{in_chunk, in_objects}
 use Rattle.task_machine.specs.Accounts.{IsLastLarge, IsLastSmall}
 use Rattle.task_machine.specs.Outline.{outline_of_cell, outline_of_chunk}
 use Rattle.task_machine.proofs.Outlines.{outline_at, outline_size, written_outline}
@@ -32,7 +32,7 @@ elsewhere a f [] h = refl
 elsewhere a f (o ∷ os) h = ap₂ (λ x xs. x ∷ xs) (by (same_address o.at a) refl) (elsewhere a f os (λ q i. h q (inr i)))
   where
     by : (b : Bool) → same_address o.at a ≡ b → cond b (f o) o ≡ o
-    by true e = absurd (h o (inl refl) (at_is a o e))
+    by true e = absurd (h o (inl refl) (same_is o.at a e))
     by false e = refl
 
 -- and those of other chunks, whole
@@ -48,7 +48,7 @@ put_same a f g [] h = refl
 put_same a f g (o ∷ os) h = ap₂ (λ x xs. x ∷ xs) (by (same_address o.at a) refl) (put_same a f g os (λ q i. h q (inr i)))
   where
     by : (b : Bool) → same_address o.at a ≡ b → cond b (f o) o ≡ cond b (g o) o
-    by true e = h o (inl refl) (at_is a o e)
+    by true e = h o (inl refl) (same_is o.at a e)
     by false e = refl
 
 pub chunks_same : (a : Addr) (f g : Located → Located) (ks : List Chunk) → ((o : Located) → In (objects_in ks) o → o.at ≡ a → f o ≡ g o) → map (mapped_chunk (put_at a f)) ks ≡ map (mapped_chunk (put_at a g)) ks

@@ -1,6 +1,6 @@
 -- A run of private steps keeps the places of objects: it only adds to chunks that are there.
 use Rattle.std.proofs.Common.{◌≡◌, ℕ, zero, suc, ◌-◌, Bool, true, false, cond, Option, Some, None, List, [], ◌∷◌, map, nat_le, slice_set, ◌==◌, inl, inr, refl, ap, sym, subst, ◌∙◌}
-use Rattle.listed.proofs.Places.{in_map}
+use Rattle.listed.proofs.Places.{in_map, map_in}
 use Rattle.hh_lang.specs.Form.{ProgramText}
 use Rattle.hh_model.specs.declared.data.State.{State}
 use Rattle.hh_model.specs.Step.{asked}
@@ -12,7 +12,6 @@ use Rattle.object_layout.specs.Place.{cell_at}
 use Rattle.alloc_path.specs.LeafHeapValue.{LeafHeapValue, place_for, placed}
 use Rattle.alloc_path.proofs.PlacedLaws.{cell_of-others}
 use Rattle.core_relation.specs.Memory.{In}
-use Rattle.core_relation.proofs.objects.Members.{map_in}
 use Rattle.task_machine.specs.declared.part.Private.{Private}
 use Rattle.task_machine.specs.Outline.{outline_after, outline_by, outline_of, outline_of_cell, outline_of_chunk, steps}
 use Rattle.task_machine.specs.Place.{Places}

@@ -46,7 +46,7 @@ use Rattle.ledger_step_laws.proofs.Tree.{leaf_alone}
 use Rattle.core_relation.specs.Memory.{Chunk, Belongings, In, Lies, Memory, as_shown, object_name, objects, objects_in, shown_at}
 use Rattle.core_relation.specs.Reads.{AllRead, FrameIsRead, FramesAreRead, HoldsRead, IsRead, Reads, TaskIsRead}
 use Rattle.core_relation.specs.Stands.{BelongingsStand, Place, Stands}
-use Rattle.core_relation.specs.Fits.{FitsAt as FitsValue, ahead, with_belongings}
+use Rattle.core_relation.specs.Fits.{FitsAt, ahead, with_belongings}
 use Rattle.core_relation.proofs.changes.Alone.{belongings_own}
 use Rattle.core_relation.proofs.objects.Carry.{object_kept, task_kept}
 use Rattle.core_relation.proofs.objects.Members.{in_chunk}
@@ -177,7 +177,7 @@ module _ (w : SharedValue) (k : ℕ) (p : Private) (I : IsSharedValue w) (F : Fi
   abbrev L : Ledger
   L = ahead w.program (part_of w.settings p) l
 
-  pub V : FitsValue w.program w.settings (part_of w.settings p) v l
+  pub V : FitsAt w.program w.settings (part_of w.settings p) v l
   V = fits_now w k p I F on
 
   pub W : Stands v' L

@@ -1,10 +1,10 @@
 -- What remembered fields hold of a heap at rest, as far as it points into the heap, are its roots.
-use Rattle.std.proofs.Common.{◌≡◌, ℕ, zero, suc, ◌<◌, arith, Bool, true, false, cond, Option, Some, None, List, [], ◌∷◌, inl, inr, length, slice_get, is_some, refl, ap, sym, subst, ◌∙◌}
+use Rattle.std.proofs.Common.{◌≡◌, ℕ, ◌<◌, arith, Bool, true, false, cond, Option, Some, None, List, [], ◌∷◌, inl, inr, length, slice_get, is_some, refl, ap, sym, subst, ◌∙◌}
 use Rattle.std.specs.Prelude.{slice_index_or}
 use Rattle.std.proofs.lemmas.Bool.{false≢true}
-use Rattle.std.proofs.lemmas.Option.{get_or_from_slice_get, same_Some}
+use Rattle.std.proofs.lemmas.Option.{get_or_from_slice_get, same_Some, slice_get-get_or}
 use Rattle.listed.proofs.Members.{in_append_cases, in_append_left, in_append_right}
-use Rattle.listed.proofs.Places.{each_from, in_map}
+use Rattle.listed.proofs.Places.{each_from, in_map, map_in}
 use Rattle.hh_model.specs.declared.data.Name.{Name}
 use Rattle.hh_model.specs.declared.data.Object.{Object}
 use Rattle.hh_model.specs.Effect.{object_at}
@@ -20,7 +20,7 @@ use Rattle.ledger_step_laws.specs.Accounts.{Rests, own}
 use Rattle.core_relation.specs.Begins.{AreRoots, IsRoot}
 use Rattle.core_relation.specs.Stands.{IsSource, Place, Stands}
 use Rattle.core_relation.specs.Memory.{Chunk, In, Lies, Memory, objects, objects_in, sources}
-use Rattle.core_relation.proofs.objects.Members.{in_chunk, map_in}
+use Rattle.core_relation.proofs.objects.Members.{in_chunk, lies_in}
 use Rattle.core_relation.proofs.notes.Roots.{name_at}
 use Rattle.shared_value.specs.Objects.{chunk_of, chunks_of}
 use Rattle.task_homes.specs.RestingHeaps.{Resting, refs_in}
@@ -28,11 +28,6 @@ use Rattle.shared_value.proofs.FreeChunks.{refs_long}
 use Rattle.shared_value.proofs.PartFitsMachine.{placed_in}
 
 -- ---- LISTS
-
-pub got_index : {A : Type 0} (xs : List A) (i : ℕ) (d : A) → i < length xs → slice_get xs i ≡ Some (slice_index_or xs i d)
-got_index [] i d lt = absurd (omega (arith, lt))
-got_index (x ∷ xs) zero d lt = refl
-got_index (x ∷ xs) (suc i) d lt = got_index xs i d (omega (arith, lt))
 
 pub into_tells : (ks : List ChunkValue) (o : Option Addr) (a : Addr) → In (into ks o) a → (o ≡ Some a) × (has_chunk ks a.chunk ≡ true)
 into_tells ks None a i = absurd i
@@ -73,12 +68,6 @@ chunk_in ks number h = by (place_in ks number) refl h
 -- objects of all other heaps are read
 module _ (v : Memory) (l : Ledger) (t : ℕ) (W : Stands v l) (at_rest : Rests l t) (ks : List ChunkValue) (here : (v.belongings t).chunks ≡ chunks_of ks) (ss : List Source) (sources_are : sources v t ≡ ss) (hs : Resting)
     (read : (u : ℕ) → (u ≡ t → ⊥) → Rests l u → (o : Located) → In (objects v u) o → refs_in hs o.at ≡ o.refs) where
-  -- the owner of a resting task's object
-  owner_at : (u : ℕ) → Rests l u → (o : Located) → In (objects v u) o → v.owner o.at.chunk ≡ Some u
-  owner_at u r o i =
-      let c = in_chunk (v.belongings u).chunks o i in
-      ap v.owner ((W.belongings u r).inside c.0 o c.1 c.2) ∙ (W.belongings u r).owned c.0 c.1
-
   -- a source's object, and the task that it belongs to
   record SourceAt (s : Source) : Type 0 where
     task : ℕ
@@ -152,7 +141,7 @@ module _ (v : Memory) (l : Ledger) (t : ℕ) (W : Stands v l) (at_rest : Rests l
       to i =
           let T = targets_tell refs_in hs ks ss a i in
           let A = source_at T.0 T.1 in
-          let holds : slice_get A.object.refs T.0.field ≡ Some (slice_index_or A.object.refs T.0.field None) = got_index A.object.refs T.0.field None A.field in
+          let holds : slice_get A.object.refs T.0.field ≡ Some (slice_index_or A.object.refs T.0.field None) = slice_get-get_or A.object.refs T.0.field None A.field in
           let is : slice_index_or A.object.refs T.0.field None ≡ Some a = ap (λ rs. slice_index_or rs T.0.field None) (sym A.refs) ∙ T.2 in
           record {
             source = T.0;
@@ -170,7 +159,7 @@ module _ (v : Memory) (l : Ledger) (t : ℕ) (W : Stands v l) (at_rest : Rests l
       from R =
           let s = R.source in
           let S : IsSource v l t R.source = W.sources t R.source R.noted in
-          let owner : own l S.name ≡ R.task = same_Some (own l S.name) R.task (sym S.place.chunk ∙ (ap (λ (z : Addr). v.owner z.chunk) (sym R.at) ∙ owner_at R.task R.rests R.object R.there)) in
+          let owner : own l S.name ≡ R.task = same_Some (own l S.name) R.task (sym S.place.chunk ∙ (ap (λ (z : Addr). v.owner z.chunk) (sym R.at) ∙ lies_in v l W R.task R.object R.rests R.there)) in
           let at : R.object.at ≡ s.object = R.at in
           let holds : slice_get R.object.refs s.field ≡ Some (Some a) = R.holds in
           let refs : refs_in hs s.object ≡ R.object.refs = refs_at_belongings R.task (λ e. S.below (owner ∙ e)) R.rests R.object R.there s.object at in

@@ -32,7 +32,7 @@ use Rattle.core_relation.specs.Fits.{FitsAt, ahead, part_for, with_belongings}
 use Rattle.core_relation.specs.Frames.{IsSteady}
 use Rattle.core_relation.specs.RanCounts.{RanCounts}
 use Rattle.core_relation.specs.Stands.{HasNames, BelongingsStand}
-use Rattle.core_relation.specs.Worker.{Fits as FitsValue}
+use Rattle.core_relation.specs.Worker.{WorkerFits}
 use Rattle.core_entry_laws.proofs.parts.RanFits.{ran_fits_then}
 use Rattle.core_entry_laws.proofs.whole.RanWhole.{ran_stands_for}
 use Rattle.core_relation.proofs.changes.With.{at_belongings}
@@ -181,8 +181,8 @@ module _ (w : SharedValue) (k : ℕ) (p : Private) (I : IsSharedValue w) (F : Fi
   abbrev E : Runs w.program w.settings l L t k n
   E = record R { splits = record R.splits { kind = PrivateKind; last = private_at w.program w.settings t n l private; apart = tt; on = λ u. A.goes ∙ goes w k p I F on } }
 
-  own : FitsValue w.program w.settings (part_for w.settings t h (suc n)) v l
-  own = subst (λ m. FitsValue w.program w.settings (part_for w.settings t h m) v l) is F.fits
+  own : WorkerFits w.program w.settings (part_for w.settings t h (suc n)) v l
+  own = subst (λ m. WorkerFits w.program w.settings (part_for w.settings t h m) v l) is F.fits
 
   counts : RanCounts w.program (tree_counts_of w) (tree_counts_of w') (task_steps w.program l t n) L t k n E.splits.task E.splits.line E.splits.kind E.splits.last
   counts = record { tree = λ u. refl; task_out = λ u. refl; outputs = refl; end = refl; used = refl; steps = refl }

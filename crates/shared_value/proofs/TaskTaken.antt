@@ -34,7 +34,7 @@ use Rattle.core_relation.specs.Counts.{TakesNode}
 use Rattle.core_relation.specs.Reads.{TaskIsRead, HoldsRead}
 use Rattle.core_relation.specs.Stands.{Place}
 use Rattle.core_relation.specs.Fits.{part_for}
-use Rattle.core_relation.specs.Worker.{Fits as FitsValue}
+use Rattle.core_relation.specs.Worker.{WorkerFits}
 use Rattle.core_relation.specs.Whole.{StandsFor, as_node, handed}
 use Rattle.core_entry_laws.proofs.whole.EntriesWhole.{took_stands_for}
 use Rattle.core_entry_laws.proofs.parts.TookFits.{took_fits_then}
@@ -234,8 +234,8 @@ module _ (w : SharedValue) (k t : ℕ) (I : IsSharedValue w) (free : refused w (
       pub took_part : Fits w' k p
       took_part = record {
         held = held_when_out w e I free w'.tree w.pool w'.rests w.sets w'.tasks_out w.outputs w.steps w.end room took_world k t counts.task_out;
-        fits = subst (FitsValue w.program w.settings (part_of w.settings p) v') (sym (accounts_are w e I free w'.tree w.pool w'.rests w.sets w'.tasks_out w.outputs w.steps w.end room))
-            (subst (λ (g : Belongings). FitsValue w.program w.settings (part_for w.settings t g 0) v' L) belongings_are (took_fits_then w.program w.settings w.journal.items I.legal v v' (tree_counts_of w) k t free I.stands but));
+        fits = subst (WorkerFits w.program w.settings (part_of w.settings p) v') (sym (accounts_are w e I free w'.tree w.pool w'.rests w.sets w'.tasks_out w.outputs w.steps w.end room))
+            (subst (λ (g : Belongings). WorkerFits w.program w.settings (part_for w.settings t g 0) v' L) belongings_are (took_fits_then w.program w.settings w.journal.items I.legal v v' (tree_counts_of w) k t free I.stands but));
         form = I.heaps t r rest_is;
         measured = (I.measured t r rest_is (unheld_at_rest w t I on rests), λ n i. absurd i);
         leaf_limit = refl;

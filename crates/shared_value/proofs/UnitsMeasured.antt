@@ -4,7 +4,7 @@ use Rattle.std.specs.Prelude.{IsSome}
 use Rattle.std.proofs.lemmas.Bool.{cases_Bool, cases_eq, cond-false, cond-true, false≢true}
 use Rattle.std.proofs.lemmas.Option.{same_Some}
 use Rattle.listed.proofs.Options.{none_some}
-use Rattle.listed.proofs.Places.{read_in}
+use Rattle.listed.proofs.Places.{map_in, read_in}
 use Rattle.object_layout.specs.declared.word.Addr.{Addr}
 use Rattle.object_layout.specs.Cell.{Cell}
 use Rattle.object_layout.specs.Chunks.{has_chunk, place_in, put_object, with_cell}
@@ -15,7 +15,6 @@ use Rattle.alloc_path.specs.LeafHeapValue.{IsFresh}
 use Rattle.inner_mark_gc.specs.Swept.{AreGiven}
 use Rattle.fork_join.specs.Joined.{AreRelabelled, with_owner}
 use Rattle.core_relation.specs.Memory.{In}
-use Rattle.core_relation.proofs.objects.Members.{map_in}
 use Rattle.task_machine.specs.declared.part.Private.{Private}
 use Rattle.shared_value.specs.Measured.{AreMeasured, AreUnits, IsMeasured, KeepsUnits}
 use Rattle.shared_value.proofs.CellsRead.{fresh_off}

@@ -9,7 +9,7 @@ use Rattle.task_frames.specs.FramesValue.{FramesValue}
 use Rattle.ledger_step_laws.specs.Accounts.{aside, rested}
 use Rattle.core_relation.specs.Memory.{Belongings}
 use Rattle.core_relation.specs.Fits.{Part, part_for}
-use Rattle.core_relation.specs.Worker.{Fits as FitsValue}
+use Rattle.core_relation.specs.Worker.{WorkerFits}
 use Rattle.task_machine.specs.declared.part.Private.{Private}
 use Rattle.task_homes.specs.declared.task_at_rest.Rest.{Rest}
 use Rattle.task_homes.specs.declared.task_at_rest.Work.{Work}
@@ -34,7 +34,7 @@ beyond program l p = rested (task_steps program (aside l) p.task p.fresh) p.task
 -- limits of the settings
 pub record FitsFor (w : SharedValue) (l : Ledger) (worker : ℕ) (p : Private) : Type 0 where
   pub held : (heap_of l p.task).worker ≡ Some worker
-  pub fits : FitsValue w.program w.settings (part_of w.settings p) (value_of w) l
+  pub fits : WorkerFits w.program w.settings (part_of w.settings p) (value_of w) l
   pub form : HeapForm p.heap
   pub measured : IsMeasured w.pool p
   pub leaf_limit : p.leaf_limit ≡ w.settings.leaf

@@ -11,5 +11,5 @@ mod taken;
 pub use answer::{NotEntered, NotRan};
 pub use causes::first_cause;
 pub use copy::copy_program;
-pub use next_step::{Ending, field_index, last_step, number, reference, words_asked};
+pub use next_step::{Ending, field_index, last_step, words_asked};
 pub use taken::opened;

@@ -2,13 +2,12 @@
 
 ghost use Rattle.std.specs.Prelude.{◌≡◌, ◌<◌, ◌^◌, length, IfSome};
 ghost use Rattle.hh_model.specs.Effect.{counts_in, place_in};
-ghost use Rattle.task_frames.specs.FramesValue.{int_of, ref_of};
+ghost use Rattle.task_frames.specs.FramesValue.{int_of};
 ghost use Rattle.task_machine.specs.Ready.{IsSafe};
 ghost use Rattle.shared_value.specs.Next.{ending, instr_asks, on_own, part_asks, unwritten};
 
 use hh_lang::{Instr, IntReg, Program, RefReg};
 use hh_model::Trap;
-use object_layout::Addr;
 use task_machine::Private;
 
 // The counts of fields that two numbers ask for, where both are counts and together within the limit.
@@ -27,20 +26,6 @@ fn field_counts(limit: u32, refs: i64, ints: i64) -> Option<(u32, u32)>
     }
 }
 
-/// What a number register of the top frame holds.
-pub fn number(part: &Private, register: IntReg) -> i64
-    ensures { result ≡ int_of part.now.frames.top register }
-{
-    part.frames.int(register.index() as u32)
-}
-
-/// What a reference register of the top frame holds.
-pub fn reference(part: &Private, register: RefReg) -> Option<Addr>
-    ensures { result ≡ ref_of part.now.frames.top register }
-{
-    part.frames.reference(register.index() as u32)
-}
-
 fn asked_by(part: &Private, instr: Instr) -> Option<u32>
     requires { part.now.field_limit < 2 ^ 20 }
     ensures asked { result ≡ instr_asks part.now.field_limit part.now.frames.top instr }
@@ -48,7 +33,7 @@ fn asked_by(part: &Private, instr: Instr) -> Option<u32>
 {
     match instr {
         Instr::Newm(_, refs, ints) => {
-            match field_counts(part.field_limit, number(part, refs), number(part, ints)) {
+            match field_counts(part.field_limit, part.int(refs), part.int(ints)) {
                 Some((refs, ints)) => Some(2 + refs + ints),
                 None => None,
             }
@@ -102,7 +87,7 @@ pub fn field_index(count: u32, index: i64) -> Option<u32>
 fn reading(part: &Private, object: RefReg) -> Ending
     ensures { result ≡ on_own part.now object (λ c. Ending.Traps Trap.Range) }
 {
-    let Some(object) = reference(part, object) else {
+    let Some(object) = part.reference(object) else {
         return Ending::Traps(Trap::Nil);
     };
     if part.heap.owns(object) {
@@ -116,7 +101,7 @@ fn reading(part: &Private, object: RefReg) -> Ending
 fn allowed(part: &Private, object: RefReg) -> Ending
     ensures { result ≡ on_own part.now object (λ c. Ending.Beyond) }
 {
-    match reference(part, object) {
+    match part.reference(object) {
         None => Ending::Traps(Trap::Nil),
         Some(_) => Ending::Beyond,
     }
@@ -136,28 +121,28 @@ fn writing_reference(part: &Private, object: RefReg, index: IntReg) -> Ending
     requires { IsSafe part.now }
     ensures { result ≡ on_own part.now object (λ c. unwritten (place_in (length c.refs) (int_of part.now.frames.top index))) }
 {
-    let Some(object) = reference(part, object) else {
+    let Some(object) = part.reference(object) else {
         return Ending::Traps(Trap::Nil);
     };
     if !part.heap.owns(object) {
         return Ending::Beyond;
     }
     let count = part.heap.own_header(object).nrefs;
-    unwritten(field_index(count, number(part, index)))
+    unwritten(field_index(count, part.int(index)))
 }
 
 fn writing_number(part: &Private, object: RefReg, index: IntReg) -> Ending
     requires { IsSafe part.now }
     ensures { result ≡ on_own part.now object (λ c. unwritten (place_in (length c.ints) (int_of part.now.frames.top index))) }
 {
-    let Some(object) = reference(part, object) else {
+    let Some(object) = part.reference(object) else {
         return Ending::Traps(Trap::Nil);
     };
     if !part.heap.owns(object) {
         return Ending::Beyond;
     }
     let count = part.heap.own_header(object).nints;
-    unwritten(field_index(count, number(part, index)))
+    unwritten(field_index(count, part.int(index)))
 }
 
 /// What an instruction does that comes to no private step.
@@ -166,7 +151,7 @@ pub fn last_step(part: &Private, instr: Instr) -> Ending
     ensures { result ≡ ending part.now instr }
 {
     match instr {
-        Instr::Out(register) => Ending::Prints(number(part, register)),
+        Instr::Out(register) => Ending::Prints(part.int(register)),
         Instr::Ret => Ending::Returns,
         Instr::Calc(_, _, _, _) => Ending::Traps(Trap::Div),
         Instr::Newm(_, _, _) => Ending::Traps(Trap::Size),

@@ -1,5 +1,5 @@
 -- Relations between the places of two lists, and one theft among a hand's.
-use Rattle.std.proofs.Common.{◌≡◌, ⊎_elim, ◌⊎◌, ◌++◌, ℕ, List, [], ◌∷◌, length, set, slice_get, Option, Some, None, IfNone, map, length-append, sym, refl, ap, ◌∙◌, subst, arith}
+use Rattle.std.proofs.Common.{◌≡◌, ⊎_elim, ◌⊎◌, ◌++◌, ℕ, List, [], ◌∷◌, length, set, slice_get, Option, Some, None, IfNone, length-append, sym, ◌∙◌, subst, arith}
 use Rattle.std.proofs.lemmas.Option.{same_Some}
 use Rattle.listed.proofs.Members.{got_within, got_same, got_other}
 use Rattle.listed.proofs.Options.{none_some}
@@ -34,7 +34,3 @@ places_more R xs ys x y long new old k a b ea eb = ⊎_elim
 
 pub longer : {A B : Type 0} (xs : List A) (ys : List B) (x : A) (y : B) → length xs ≡ length ys → length (xs ++ x ∷ []) ≡ length (ys ++ y ∷ [])
 longer xs ys x y e = let a = length-append xs (x ∷ []) in let b = length-append ys (y ∷ []) in omega arith
-
-pub map_same : {A : Type 0} (xs : List A) → map (λ x. x) xs ≡ xs
-map_same [] = refl
-map_same (x ∷ xs) = ap (λ l. x ∷ l) (map_same xs)

@@ -2,7 +2,7 @@
 use Rattle.std.proofs.Common.{IfSome, IsSome, ◌≤◌, ◌<◌, arith, option_map, inl, inr, true, false, ◌≡◌, ℕ, zero, suc, ◌-◌, Bool, Option, Some, None, List, [], ◌∷◌, length, map, slice_get, slice_set, refl, ap, ap₂, sym, subst, ◌∙◌}
 use Rattle.std.specs.Option.{option_flatten}
 use Rattle.std.proofs.lemmas.Bool.{cases_eq, false≢true}
-use Rattle.std.proofs.lemmas.List.{length-map, length-set}
+use Rattle.std.proofs.lemmas.List.{length-map, length-set, map-set}
 use Rattle.std.proofs.lemmas.Option.{same_Some, slice_get_within}
 use Rattle.listed.proofs.Members.{got_other, got_same}
 use Rattle.listed.proofs.Places.{got_map}
@@ -11,12 +11,7 @@ use Rattle.write_barrier.specs.Stored.{Content, IsRoomy, content_at, content_of}
 use Rattle.inner_mark_gc.specs.MarkingValue.{MarkingValue}
 use Rattle.task_homes.specs.declared.homes.Home.{Home}
 use Rattle.task_homes.specs.declared.task_at_rest.Rest.{Rest}
-use Rattle.task_homes.specs.HomesValue.{HomesValue, has_block, marking_in, marks_at, rest_at, rest_in, set_in, value_of}
-
-map_set : {A B : Type 0} (f : A → B) (xs : List A) (k : ℕ) (x : A) → map f (slice_set xs k x) ≡ slice_set (map f xs) k (f x)
-map_set f [] k x = refl
-map_set f (y ∷ xs) zero x = refl
-map_set f (y ∷ xs) (suc k) x = ap (λ zs. f y ∷ zs) (map_set f xs k x)
+use Rattle.task_homes.specs.HomesValue.{HomesValue, has_block, homes_value, marking_in, marks_at, rest_at, rest_in, set_in}
 
 map_same : {A B : Type 0} (f : A → B) (xs : List A) (k : ℕ) (x y : A) → slice_get xs k ≡ Some y → f x ≡ f y → map f (slice_set xs k x) ≡ map f xs
 map_same f [] k x y e same = refl
@@ -37,7 +32,7 @@ some_within rests t r h = by (slice_get rests t) refl h
     by None e q = absurd cc
     by (Some o) e q = slice_get_within rests t o e
 
-module _ (hs : List (Option Home)) (room : ℕ) (old : HomesValue) (is : value_of hs room ≡ old) (t : ℕ) where
+module _ (hs : List (Option Home)) (room : ℕ) (old : HomesValue) (is : homes_value hs room ≡ old) (t : ℕ) where
   pub made_within : t < length old.rests → t < length hs
   made_within lt = let e = ap (λ (w : HomesValue). length w.rests) is in let m = length-map hs rest_in in omega (arith, lt, e, m)
 
@@ -63,9 +58,9 @@ map_id g e None = refl
 map_id g e (Some c) = ap Some (e c)
 
 -- the home of t, which is o, becomes x
-module _ (hs : List (Option Home)) (cap t : ℕ) (o x : Option Home) (there : slice_get hs t ≡ Some o) (old : HomesValue) (is : value_of hs (cap - length hs) ≡ old) where
+module _ (hs : List (Option Home)) (cap t : ℕ) (o x : Option Home) (there : slice_get hs t ≡ Some o) (old : HomesValue) (is : homes_value hs (cap - length hs) ≡ old) where
   abbrev after : HomesValue
-  after = value_of (slice_set hs t x) (cap - length (slice_set hs t x))
+  after = homes_value (slice_set hs t x) (cap - length (slice_set hs t x))
 
   room : cap - length (slice_set hs t x) ≡ cap - length hs
   room = ap (λ n. cap - n) (length-set hs t x)
@@ -73,27 +68,27 @@ module _ (hs : List (Option Home)) (cap t : ℕ) (o x : Option Home) (there : sl
   pub rest_put : set_in x ≡ set_in o → marking_in x ≡ marking_in o → has_block x ≡ has_block o → after ≡ record old { rests = slice_set old.rests t (rest_in x) }
   rest_put s m b =
       subst (λ w. after ≡ record w { rests = slice_set w.rests t (rest_in x) }) is
-      (same_homes _ _ _ _ _ _ _ _ _ _ (map_set rest_in hs t x) (map_same set_in hs t x o there s) (map_same marking_in hs t x o there m) (map_same has_block hs t x o there b) room)
+      (same_homes _ _ _ _ _ _ _ _ _ _ (map-set rest_in hs t x) (map_same set_in hs t x o there s) (map_same marking_in hs t x o there m) (map_same has_block hs t x o there b) room)
 
   pub set_put : rest_in x ≡ rest_in o → marking_in x ≡ marking_in o → has_block x ≡ has_block o → after ≡ record old { sets = slice_set old.sets t (set_in x) }
   set_put r m b =
       subst (λ w. after ≡ record w { sets = slice_set w.sets t (set_in x) }) is
-      (same_homes _ _ _ _ _ _ _ _ _ _ (map_same rest_in hs t x o there r) (map_set set_in hs t x) (map_same marking_in hs t x o there m) (map_same has_block hs t x o there b) room)
+      (same_homes _ _ _ _ _ _ _ _ _ _ (map_same rest_in hs t x o there r) (map-set set_in hs t x) (map_same marking_in hs t x o there m) (map_same has_block hs t x o there b) room)
 
   pub marking_put : rest_in x ≡ rest_in o → set_in x ≡ set_in o → has_block x ≡ has_block o → after ≡ record old { marks = slice_set old.marks t (marking_in x) }
   marking_put r s b =
       subst (λ w. after ≡ record w { marks = slice_set w.marks t (marking_in x) }) is
-      (same_homes _ _ _ _ _ _ _ _ _ _ (map_same rest_in hs t x o there r) (map_same set_in hs t x o there s) (map_set marking_in hs t x) (map_same has_block hs t x o there b) room)
+      (same_homes _ _ _ _ _ _ _ _ _ _ (map_same rest_in hs t x o there r) (map_same set_in hs t x o there s) (map-set marking_in hs t x) (map_same has_block hs t x o there b) room)
 
   pub block_put : rest_in x ≡ rest_in o → set_in x ≡ set_in o → marking_in x ≡ marking_in o → after ≡ record old { blocks = slice_set old.blocks t (has_block x) }
   block_put r s m =
       subst (λ w. after ≡ record w { blocks = slice_set w.blocks t (has_block x) }) is
-      (same_homes _ _ _ _ _ _ _ _ _ _ (map_same rest_in hs t x o there r) (map_same set_in hs t x o there s) (map_same marking_in hs t x o there m) (map_set has_block hs t x) room)
+      (same_homes _ _ _ _ _ _ _ _ _ _ (map_same rest_in hs t x o there r) (map_same set_in hs t x o there s) (map_same marking_in hs t x o there m) (map-set has_block hs t x) room)
 
   pub home_put : after ≡ record old { rests = slice_set old.rests t (rest_in x); sets = slice_set old.sets t (set_in x); marks = slice_set old.marks t (marking_in x); blocks = slice_set old.blocks t (has_block x) }
   home_put =
       subst (λ w. after ≡ record w { rests = slice_set w.rests t (rest_in x); sets = slice_set w.sets t (set_in x); marks = slice_set w.marks t (marking_in x); blocks = slice_set w.blocks t (has_block x) }) is
-      (same_homes _ _ _ _ _ _ _ _ _ _ (map_set rest_in hs t x) (map_set set_in hs t x) (map_set marking_in hs t x) (map_set has_block hs t x) room)
+      (same_homes _ _ _ _ _ _ _ _ _ _ (map-set rest_in hs t x) (map-set set_in hs t x) (map-set marking_in hs t x) (map-set has_block hs t x) room)
 
   -- what there was
   pub rest_was : rest_at old.rests t ≡ rest_in o
@@ -117,7 +112,7 @@ module _ (hs : List (Option Home)) (cap t : ℕ) (o x : Option Home) (there : sl
 
   rest_others : (u : ℕ) → (u ≡ t → ⊥) → slice_get after.rests u ≡ slice_get old.rests u
   rest_others u ne =
-      ap (λ r. slice_get r u) (map_set rest_in hs t x)
+      ap (λ r. slice_get r u) (map-set rest_in hs t x)
       ∙ (got_other (map rest_in hs) t u (rest_in x) ne ∙ ap (λ (w : HomesValue). slice_get w.rests u) is)
 
   pub others_rest : (u : ℕ) → (u ≡ t → ⊥) → rest_at after.rests u ≡ rest_at old.rests u
@@ -125,7 +120,7 @@ module _ (hs : List (Option Home)) (cap t : ℕ) (o x : Option Home) (there : sl
 
   pub others_sets : (u : ℕ) → (u ≡ t → ⊥) → slice_get after.sets u ≡ slice_get old.sets u
   others_sets u ne =
-      ap (λ r. slice_get r u) (map_set set_in hs t x)
+      ap (λ r. slice_get r u) (map-set set_in hs t x)
       ∙ (got_other (map set_in hs) t u (set_in x) ne ∙ ap (λ (w : HomesValue). slice_get w.sets u) is)
 
   pub bare_was : slice_get old.blocks t ≡ Some false → o ≡ None

@@ -42,8 +42,8 @@ abbrev pub has_block : Option Home → Bool
 has_block None = false
 has_block (Some h) = true
 
-abbrev pub value_of : List (Option Home) → ℕ → HomesValue
-value_of hs room = record { rests = map rest_in hs; sets = map set_in hs; marks = map marking_in hs; blocks = map has_block hs; room = room }
+abbrev pub homes_value : List (Option Home) → ℕ → HomesValue
+homes_value hs room = record { rests = map rest_in hs; sets = map set_in hs; marks = map marking_in hs; blocks = map has_block hs; room = room }
 
 -- ---- OF ONE TASK
 

@@ -58,11 +58,11 @@ pub struct Homes {
 impl Model for Homes {
     ghost use Rattle.std.specs.Prelude.{◌-◌, length};
     ghost use Rattle.std.specs.Vec.{vec_capacity};
-    ghost use Rattle.task_homes.specs.HomesValue.{HomesValue, value_of};
+    ghost use Rattle.task_homes.specs.HomesValue.{HomesValue, homes_value};
 
     ghost Value = { HomesValue };
 
-    ghost view = { λ h. value_of h.list.items (vec_capacity h.list - length h.list.items) };
+    ghost view = { λ h. homes_value h.list.items (vec_capacity h.list - length h.list.items) };
 }
 
 impl Homes {

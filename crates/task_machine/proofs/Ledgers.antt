@@ -15,7 +15,7 @@ use Rattle.task_machine.specs.Accounts.{AccountsAreSteps, FollowsSteps, account_
 use Rattle.task_machine.specs.Outline.{steps}
 
 -- what an allocation makes of the account
-allocated_account : (l : Ledger) (t : ℕ) (h : Heap) (o : Option ℕ) → slice_get l.heaps t ≡ Some h → slice_get (allocated_by l t o).heaps t ≡ Some (account_by l.machine t h o)
+pub allocated_account : (l : Ledger) (t : ℕ) (h : Heap) (o : Option ℕ) → slice_get l.heaps t ≡ Some h → slice_get (allocated_by l t o).heaps t ≡ Some (account_by l.machine t h o)
 allocated_account l t h None there = there
 allocated_account l t h (Some w) there =
     let f : Heap → Heap = λ z. placed z (record { task = t; count = length (row_of (slice_get l.machine.store t)) }) w in

@@ -6,7 +6,6 @@ ghost use Rattle.run_ledger.specs.Entries.{refusal, after};
 ghost use Rattle.run_ledger.specs.Journals.{opening, ledger_of, first_refused, refused_as_run};
 ghost use Rattle.run_accounts.specs.Accounts.{FailsFor};
 ghost use Rattle.run_journal.specs.Replay.{ReplayFails};
-ghost use Rattle.run_report.specs.Totals.{cleared_words};
 ghost use Rattle.task_table.specs.Rows.{fresh_row, rows_with, rows_from};
 ghost use Rattle.task_table.specs.Table.{first_line, line_at, lines_from, table};
 
@@ -17,20 +16,9 @@ use hh_lang::Program;
 use listed::Listed;
 use run_journal::{ApplyError, Book, ReplayError};
 use run_ledger::{Refused, RefusedAt};
-use run_trace::{Entry, Kind, Settings};
+use run_report::cleared_words;
+use run_trace::{Entry, Settings};
 use std::alloc::{AllocError, Global};
-
-// The words of the heap that an entry collects or sweeps, and 0 for another entry.
-fn cleared_words(book: &Book, kind: Kind) -> u64
-    requires { book.now.stopped ≡ false }
-    ensures { result ≡ cleared_words book.now.ledger kind }
-{
-    match kind {
-        Kind::End(task, _, _, _) => book.words(task),
-        Kind::Sweep(task, _) => book.words(task),
-        _ => 0,
-    }
-}
 
 // Enters an entry, and tells what it tells.
 fn enter(

@@ -3,7 +3,7 @@
 ghost use Rattle.std.specs.Prelude.{◌≡◌, All, IfOk, IfSome, None, [], map};
 ghost use Rattle.object_layout.specs.Cell.{moved_to};
 ghost use Rattle.shared_value.specs.Objects.{chunk_of};
-ghost use Rattle.heap_reading.specs.Image.{objects_of, shown, AreInWords};
+ghost use Rattle.heap_reading.specs.Image.{objects_of, in_words, AreInWords};
 
 use heap_reading::{Seen, is_running, seen_in};
 use listed::Listed;
@@ -30,7 +30,7 @@ fn resting_chunk(shared: &Shared, number: u32) -> Option<&Chunk>
 
 /// The objects of a chunk, by rising address, where its owner doesn't run; else none.
 pub fn objects(alloc: Global, shared: &Shared, chunk: u32) -> Result<Listed<Seen>, AllocError>
-    ensures objects { IfOk result (λ objects. objects ≡ map shown (objects_of shared.now chunk)) }
+    ensures objects { IfOk result (λ objects. objects ≡ map in_words (objects_of shared.now chunk)) }
     ensures words { IfOk result (λ objects. AreInWords (objects_of shared.now chunk)) }
 {
     match resting_chunk(shared, chunk) {

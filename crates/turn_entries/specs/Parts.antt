@@ -28,7 +28,7 @@ abbrev pub Sight : Type 0
 Sight = View Run EntryValue (Snapshot Private) Setup
 
 -- a value that runs this program, and hasn't ended
-pub record GoesOn (p : ProgramText) (w : SharedValue) : Type 0 where
+pub record RunGoesOn (p : ProgramText) (w : SharedValue) : Type 0 where
   pub shared : IsSharedValue w
   pub program : w.program ≡ p
   pub goes : (accounts w).end ≡ None
@@ -58,33 +58,33 @@ pub record MayCopy (w : SharedValue) (k : ℕ) (c : Collecting) : Type 0 where
 
 -- from the part that was kept this one has come by steps of its own
 abbrev pub HasGrown : ProgramText → ℕ → Private → Private → Paused → Type 0
-HasGrown p k kept part why = (w : SharedValue) → GoesOn p w → Fits w k kept → IsPaused w k part why
+HasGrown p k kept part why = (w : SharedValue) → RunGoesOn p w → Fits w k kept → IsPaused w k part why
 
 -- the part fits for the end of its collection
 abbrev pub WasCopied : ProgramText → ℕ → Copied → Type 0
-WasCopied p k c = (w : SharedValue) → GoesOn p w → Fits w k c.begun.value → FitsCopied w k c.part c.moved
+WasCopied p k c = (w : SharedValue) → RunGoesOn p w → Fits w k c.begun.value → FitsCopied w k c.part c.moved
 
 -- ---- BETWEEN TURNS: p is the program, and k the worker
 
 -- the seat keeps this part
-abbrev pub Keeps : Option (Snapshot Private) → Private → Type 0
-Keeps o part = (s : Snapshot Private) × (o ≡ Some s) × (s.value ≡ part)
+abbrev pub KeepsPart : Option (Snapshot Private) → Private → Type 0
+KeepsPart o part = (s : Snapshot Private) × (o ≡ Some s) × (s.value ≡ part)
 
 -- what was kept fits some value
 abbrev pub AtSome : ProgramText → (SharedValue → Type 0) → Type 0
-AtSome p Here = (w : SharedValue) × GoesOn p w × Here w
+AtSome p Here = (w : SharedValue) × RunGoesOn p w × Here w
 
 -- what the worker goes on with after its turn
 abbrev pub GoesWith : ProgramText → ℕ → Sight → Next → Type 0
-GoesWith p k v (Running part) = Keeps v.part part × AtSome p (λ w. MayRun w k part)
-GoesWith p k v (Collects c) = Keeps v.part c.part × AtSome p (λ w. MayCopy w k c)
-GoesWith p k v (HasCopied c) = Keeps v.part c.begun.value × WasCopied p k c
+GoesWith p k v (Running part) = KeepsPart v.part part × AtSome p (λ w. MayRun w k part)
+GoesWith p k v (Collects c) = KeepsPart v.part c.part × AtSome p (λ w. MayCopy w k c)
+GoesWith p k v (HasCopied c) = KeepsPart v.part c.begun.value × WasCopied p k c
 GoesWith p k v _ = Unit {0}
 
 -- what it comes for its turn with
 abbrev pub ComesWith : ProgramText → ℕ → Sight → Ready → Type 0
-ComesWith p k v (HasPaused part why) = (kept : Private) × Keeps v.part kept × HasGrown p k kept part why
-ComesWith p k v (IsCopied c) = Keeps v.part c.begun.value × WasCopied p k c
+ComesWith p k v (HasPaused part why) = (kept : Private) × KeepsPart v.part kept × HasGrown p k kept part why
+ComesWith p k v (IsCopied c) = KeepsPart v.part c.begun.value × WasCopied p k c
 ComesWith p k v _ = Unit {0}
 
 -- ---- IN A TURN

@@ -5,7 +5,7 @@ use Rattle.std.proofs.lemmas.Option.{same_Some}
 use mathlib.Core.Option.{some, some-injective, some-ne-none}
 use lib.ListN.{get_elem?}
 use Rattle.listed.proofs.Options.{none_some}
-use Rattle.listed.proofs.Places.{got_more}
+use Rattle.listed.proofs.Places.{got_middle, got_more}
 use Rattle.atomic_table.specs.Seated.{TableId}
 use Rattle.atomic_table.specs.declared.shared.Seat.{Seat}
 use Rattle.turn_lock.specs.declared.view.View.{View}
@@ -16,10 +16,6 @@ use Rattle.turn_lock.specs.Rule.{Sees, HasAll, split_view, with_joined}
 pub removed_first : {A : Type 0} (l : List A) (x : A) → 0 < length l → x ≡ get_or l 0 x → l ≡ x ∷ remove l 0
 removed_first [] x h e = absurd (omega arith)
 removed_first (y ∷ ys) x h e = λ i. sym e i ∷ ys
-
-get_middle : {A : Type 0} (xs ys : List A) (x : A) → slice_get (xs ++ x ∷ ys) (length xs) ≡ Some x
-get_middle [] ys x = refl
-get_middle (y ∷ xs) ys x = get_middle xs ys x
 
 module _ {T E P S : Type 0} where
   -- every seat of the list is the next worker's, from 1 on
@@ -81,7 +77,7 @@ module _ {T E P S : Type 0} where
       → MayJoin z (view s0) (joined_all (view s0) done) other
   may_join z all s0 other rest done crew is = let h = lasts (view s0) done in let at0 : slice_get all 0 ≡ Some s0 = ap (λ l. slice_get l 0) is in
       let moved_done : (rest ++ other ∷ []) ++ done ≡ rest ++ other ∷ done = append_assoc rest (other ∷ []) done in
-      let at : slice_get all (suc (length rest)) ≡ Some other = ap (λ l. slice_get l (suc (length rest))) (is ∙ ap (λ l. s0 ∷ l) moved_done) ∙ get_middle rest done other in
+      let at : slice_get all (suc (length rest)) ≡ Some other = ap (λ l. slice_get l (suc (length rest))) (is ∙ ap (λ l. s0 ∷ l) moved_done) ∙ got_middle rest other done in
       let z0 = crew.each_seat 0 s0 at0 in let zk = crew.each_seat (suc (length rest)) other at in let f = crew.first_seat s0 at0 in
       let long : length all ≡ suc (length (rest ++ other ∷ done)) = ap length (is ∙ ap (λ l. s0 ∷ l) moved_done) in let long' = length-append rest (other ∷ done) in record {
         live = h.live ∙ z0.0.0.1;

@@ -1,11 +1,12 @@
 // The words behind `heaps`, as the parser of command lines wants them.
 
 ghost use Rattle.std.specs.Prelude.{◌≡◌, IfOk, false};
-ghost use Rattle.clap.specs.Words.{App, Rule, app_of, rule_of, with_rule};
+ghost use Rattle.clap.specs.Words.{app_of, rule_of};
 ghost use Rattle.command_line.specs.App.{file};
 ghost use Rattle.view_line.specs.App.{option, bare, heaps_app};
 
 use clap::{Arg, Command};
+use command_line::with_argument;
 use std::alloc::{AllocError, Global};
 
 // A file's name, which may be left out.
@@ -33,17 +34,6 @@ fn bare<'w>(alloc: Global) -> Command<'w>
         .disable_help_flag(true)
         .disable_help_subcommand(true)
         .disable_version_flag(true)
-}
-
-// A command with an argument more, where it was made.
-fn with_argument<'w>(
-    whole: Result<Command<'w>, AllocError>,
-    argument: Arg<'w>,
-) -> Result<Command<'w>, AllocError>
-    requires { argument.global ≡ false }
-    ensures { (a : App) (r : Rule) → IfOk whole.entry (λ c. app_of c ≡ a) → rule_of argument.entry ≡ r → IfOk result (λ c. app_of c ≡ with_rule a r) }
-{
-    whole?.arg(argument)
 }
 
 /// The command with its arguments.

@@ -1,7 +1,6 @@
 // Reads the words of a call.
 
 ghost use Rattle.std.specs.Prelude.{◌≡◌, ◌≢◌, ◌∷◌, IfOk, None, codes, map, option_map, string_bytes};
-ghost use Rattle.image_check.specs.Line.{short_number};
 ghost use Rattle.clap.specs.Words.{found_of, rows_of, first_of};
 ghost use Rattle.view_line.specs.ViewLine.{maybe_number, heaps_in, heaps_line, run_line, named_line, usage_line, view_line, run_of, asked_of};
 
@@ -10,7 +9,7 @@ use crate::line::{Traced, View};
 use clap::ArgMatches;
 use clap::error::ErrorKind;
 use command_line::{CommandLine, FileName, read_command_line};
-use hh_lang::read_u32;
+use image_check::read_short;
 use run_trace::Settings;
 use std::alloc::{AllocError, Global};
 
@@ -37,23 +36,13 @@ fn owned(alloc: Global, text: Option<&str>) -> Result<Option<String>, AllocError
     }
 }
 
-// The number that a text says.
-fn number(text: &[u8]) -> Option<u64>
-    ensures { result ≡ short_number text.now }
-{
-    match read_u32(text) {
-        None => None,
-        Some(number) => Some(u64::from(number)),
-    }
-}
-
 // The number that a text gives, where there is one; None where it is no number.
 fn maybe_number(text: Option<&str>) -> Option<Option<u64>>
     ensures { result ≡ maybe_number (option_map (λ s. s.now) text.entry) }
 {
     match text {
         None => Some(None),
-        Some(text) => match number(text.as_bytes()) {
+        Some(text) => match read_short(text.as_bytes()) {
             None => None,
             Some(number) => Some(Some(number)),
         },

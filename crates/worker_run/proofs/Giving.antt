@@ -23,7 +23,7 @@ use Rattle.turn_entries.specs.declared.held.Ready.TheVariants.{Paused as HasPaus
 use Rattle.turn_entries.specs.declared.run.Run.{Run}
 use Rattle.turn_entries.specs.declared.run.Setup.{Setup}
 use Rattle.turn_entries.specs.Acts.{Follows}
-use Rattle.turn_entries.specs.Parts.{BringsTo, ComesWith, GoesWith, Keeps, Sight, TakesFrom, WasCopied}
+use Rattle.turn_entries.specs.Parts.{BringsTo, ComesWith, GoesWith, KeepsPart, Sight, TakesFrom, WasCopied}
 use Rattle.turn_entries.specs.Values.{EntersOne, FitsKept, IsSame, journal_of, setup_of, worker_of}
 use Rattle.worker_run.specs.declared.desk.Desk.{Desk}
 use Rattle.worker_run.specs.Desks.{HasEntry, IsDesk}
@@ -51,7 +51,7 @@ module _ (p : ProgramText) (d : Desk) (value : Run) (v : Sight) (K : Knows journ
   pub program_taken : value.paced.program ≡ p
   program_taken = ap (λ (s : Setup). s.program) setup_taken
 
-  kept_fits : (part : Private) → Keeps v.part part → Fits value.paced d.worker part
+  kept_fits : (part : Private) → KeepsPart v.part part → Fits value.paced d.worker part
   kept_fits part k = subst (λ (n : ℕ). Fits value.paced n part) number (subst (Fits value.paced v.worker) k.2 (K.part k.0 k.1))
 
   pub brings : (ready : Ready) → ComesWith p d.worker v ready → BringsTo value.paced d.worker ready
@@ -146,4 +146,4 @@ goes_still p k v w Stop e G = tt
 
 -- what copying comes to
 pub comes_copied : (p : ProgramText) (k : ℕ) (v : Sight) (next : Next) (c : Collecting) (d : Copied) → GoesWith p k v next → next ≡ Collects c → d.begun.value ≡ c.part → WasCopied p k d → ComesWith p k v (IsCopied d)
-comes_copied p k v next c d G is same was = let K : Keeps v.part c.part = (subst (GoesWith p k v) is G).0 in ((K.0, K.1, K.2 ∙ sym same), was)
+comes_copied p k v next c d G is same was = let K : KeepsPart v.part c.part = (subst (GoesWith p k v) is G).0 in ((K.0, K.1, K.2 ∙ sym same), was)

@@ -10,13 +10,13 @@ use Rattle.ledger_step_laws.specs.Accounts.{Knows, aside}
 use Rattle.core_relation.specs.Fits.{Part}
 use Rattle.core_relation.specs.Stands.{BelongingsStand, IsSource, Place, Stands}
 use Rattle.core_relation.specs.Memory.{Memory}
-use Rattle.core_relation.specs.Worker.{Fits}
+use Rattle.core_relation.specs.Worker.{WorkerFits}
 use Rattle.core_relation.proofs.objects.Carry.{object_kept, task_kept}
 
 pub knows_aside : (l : Ledger) → Knows l → Knows (aside l)
 knows_aside l K = record { sound = K.sound; stored = K.stored; rows = K.rows }
 
-pub fits_aside : (p : ProgramText) (s : SettingsValue) (q : Part) (v : Memory) (l : Ledger) → Fits p s q v l → Fits p s q v (aside l)
+pub fits_aside : (p : ProgramText) (s : SettingsValue) (q : Part) (v : Memory) (l : Ledger) → WorkerFits p s q v l → WorkerFits p s q v (aside l)
 fits_aside p s q v l F = record { task = F.task; is = F.is; runs = F.runs; steady = F.steady; part = F.part; leaf = F.leaf; fields = F.fields }
 
 module _ (v : Memory) (l : Ledger) where

@@ -1,5 +1,5 @@
 -- What lemmas of several entries need: refusals, how few allocations there are, and good results.
-use Rattle.std.proofs.Common.{◌≡◌, ℕ, ◌+◌, ◌<◌, ◌≤◌, Result, Ok, Err, length, slice_get, refl, ap, subst, ◌∙◌, arith}
+use Rattle.std.proofs.Common.{◌≡◌, ℕ, ◌+◌, ◌<◌, ◌≤◌, Result, Ok, Err, length, slice_get, refl, ap, ◌∙◌, arith}
 use Rattle.std.specs.Result.{IfOk}
 use Rattle.hh_model.specs.declared.data.State.{State}
 use Rattle.hh_model.specs.Effect.{row_of}
@@ -34,6 +34,3 @@ few_allocations w part n I fresh F few =
 pub if_ok : {A E : Type 0} (r : Result A E) (P : A → Type 0) → ((x : A) → r ≡ Ok x → P x) → IfOk r P
 if_ok (Ok x) P h = h x refl
 if_ok (Err e) P h = tt
-
-pub ok_is : {A E : Type 0} (r : Result A E) (P : A → Type 0) (x : A) → r ≡ Ok x → IfOk r P → P x
-ok_is r P x e h = subst (λ z. IfOk z P) e h

@@ -14,8 +14,6 @@ use Rattle.run_ledger.specs.Heaps.{heap_of, lacks_room}
 use Rattle.run_ledger.specs.Steps.{is_due, is_in_need, is_private, most_steps, on_asked, standing, task_step, task_steps}
 use Rattle.ledger_step_laws.specs.Accounts.{ArePrivate}
 use Rattle.core_relation.specs.Fits.{FitsAt}
-use Rattle.core_relation.specs.Fits.{ahead}
-use Rattle.core_entry_laws.proofs.parts.Quiet.{aside_is}
 use Rattle.task_machine.specs.declared.part.Paused.{Paused}
 use Rattle.task_machine.specs.declared.part.Paused.TheVariants.{Shared, Due, NeedChunk, Spent}
 use Rattle.task_machine.specs.declared.part.Private.{Private}
@@ -29,8 +27,7 @@ use Rattle.shared_value.specs.Stands.{IsSharedValue}
 use Rattle.shared_value.specs.SharedValue.{SharedValue, accounts, value_of}
 use Rattle.shared_value.proofs.NextStepAsks.{asks_is, asks_two, counted_is, since_is}
 use Rattle.shared_value.proofs.CollectionUnderWay.{at_part}
-use Rattle.shared_value.proofs.PartFitsMachine as link
-use Rattle.shared_value.proofs.StepsEntered.{fits_now, goes}
+use Rattle.shared_value.proofs.StepsEntered.{fits_now}
 use Rattle.own_steps.specs.Alone.{IsShared, machine_after}
 use Rattle.own_steps.proofs.LastSteps as last
 use Rattle.world_core.specs.Next.{IsNext, standing_by}
@@ -73,16 +70,13 @@ module _ (w : SharedValue) (k : ℕ) (p : Private) (I : IsSharedValue w) (F : Fi
   V : FitsAt w.program w.settings (part_of w.settings p) (value_of w) l
   V = fits_now w k p I F going
 
-  machine_same : machine_after w p ≡ M.machine
-  machine_same = ap (λ (z : Ledger). (ahead w.program (part_of w.settings p) z).machine) (aside_is l (goes w k p I F going)) ∙ link.machine_is w k p I F going
-
   due_by : is_part_due p (asked w.program (machine_after w p) t) ≡ true → is_due w.settings w.program M t ≡ true
   due_by h =
       ap₂ (λ a n. on_asked (asked w.program M.machine t) (λ words. nat_le a n)) (sym F.leaf_limit) (sym (since_is w k p I F going))
-      ∙ (ap (λ (m : State). on_asked (asked w.program m t) (λ words. nat_le p.leaf_limit p.heap.since)) (sym machine_same) ∙ h)
+      ∙ (ap (λ (m : State). on_asked (asked w.program m t) (λ words. nat_le p.leaf_limit p.heap.since)) (sym (last.machine_same w k p I F going)) ∙ h)
 
   need_by : is_part_in_need w.program p (machine_after w p) ≡ true → is_in_need w.program M t ≡ true
-  need_by h = by (asked w.program M.machine t) refl (ap (λ (m : State). on_asked (asked w.program m t) (lacks_place p.heap)) (sym machine_same) ∙ h)
+  need_by h = by (asked w.program M.machine t) refl (ap (λ (m : State). on_asked (asked w.program m t) (lacks_place p.heap)) (sym (last.machine_same w k p I F going)) ∙ h)
     where
       by : (o : Option ℕ) → asked w.program M.machine t ≡ o → on_asked (asked w.program M.machine t) (lacks_place p.heap) ≡ true → is_in_need w.program M t ≡ true
       by None e q = absurd (false≢true (sym (ap (λ z. on_asked z (lacks_place p.heap)) e) ∙ q))

@@ -21,7 +21,7 @@ use Rattle.ledger_step_laws.proofs.Rested.{rested_knows, rested_worker}
 use Rattle.core_relation.specs.Fits.{Part as PartOf, ahead}
 use Rattle.core_relation.specs.Frames.{NotOf, all_ahead}
 use Rattle.core_relation.specs.Memory.{In}
-use Rattle.core_relation.specs.Worker.{AllFit, Fits as FitsValue}
+use Rattle.core_relation.specs.Worker.{WorkerFits, WorkersFit}
 use Rattle.core_entry_laws.proofs.parts.All.{all_fit_together}
 use Rattle.core_relation.specs.Whole.{by_end, handed}
 use Rattle.shared_value.specs.Fits.{part_of}
@@ -47,7 +47,7 @@ not_of t (q ∷ qs) h = (h q (inl refl), not_of t qs (λ r i. h r (inr i)))
 -- the parts in some holdings, of which the j-th is that of the worker `of j`
 record Found (w : SharedValue) (of : ℕ → ℕ) (holdings : List Held) : Type 0 where
   parts : List PartOf
-  fit : AllFit w.program w.settings parts (value_of w) (accounts w)
+  fit : WorkersFit w.program w.settings parts (value_of w) (accounts w)
   from : (q : PartOf) → In parts q → (j : ℕ) × (h : Held) × (slice_get holdings j ≡ Some h) × IsPartIn w (of j) h q × ((heap_of (accounts w) q.task).worker ≡ Some (of j))
   all : (j : ℕ) (h : Held) → slice_get holdings j ≡ Some h → HoldsOneOf w (of j) h parts
 
@@ -63,7 +63,7 @@ here w k (Copied p moved) qs q i = (q, inl refl, i)
 
 module _ (w : SharedValue) (holders : HoldsTasks (accounts w)) where
   -- a holding of a part, before others
-  with_part : (of : ℕ → ℕ) → ((i j : ℕ) → of i ≡ of j → i ≡ j) → (h : Held) (hs : List Held) (q : PartOf) → IsPartIn w (of 0) h q → FitsValue w.program w.settings q (value_of w) (accounts w) → (heap_of (accounts w) q.task).worker ≡ Some (of 0)
+  with_part : (of : ℕ → ℕ) → ((i j : ℕ) → of i ≡ of j → i ≡ j) → (h : Held) (hs : List Held) (q : PartOf) → IsPartIn w (of 0) h q → WorkerFits w.program w.settings q (value_of w) (accounts w) → (heap_of (accounts w) q.task).worker ≡ Some (of 0)
       → Found w (λ j. of (suc j)) hs → Found w of (h ∷ hs)
   with_part of inj h hs q i F held R = record {
     parts = q ∷ R.parts;
@@ -164,13 +164,13 @@ module _ (x : WorldValue) (I : IsSharedValue x.shared) (W : IsWhole x) where
   knows = knows_aside (handed l) (handed_knows l.end (legal_knows w.program w.settings w.journal.items I.legal))
 
   -- a part fits still: once the run is done there is none
-  one_fits : (q : PartOf) → FitsValue w.program w.settings q (value_of w) l → FitsValue w.program w.settings q (value_of w) L
+  one_fits : (q : PartOf) → WorkerFits w.program w.settings q (value_of w) l → WorkerFits w.program w.settings q (value_of w) L
   one_fits q F = by l.end refl
     where
-      same : FitsValue w.program w.settings q (value_of w) (aside l)
+      same : WorkerFits w.program w.settings q (value_of w) (aside l)
       same = fits_aside w.program w.settings q (value_of w) l F
 
-      by : (o : Option RunEnd) → l.end ≡ o → FitsValue w.program w.settings q (value_of w) (aside (by_end l o))
+      by : (o : Option RunEnd) → l.end ≡ o → WorkerFits w.program w.settings q (value_of w) (aside (by_end l o))
       by None e = same
       by (Some (Fuel n)) e = same
       by (Some (Pool n)) e = same
@@ -178,7 +178,7 @@ module _ (x : WorldValue) (I : IsSharedValue x.shared) (W : IsWhole x) where
       by (Some (Machine (Trapped kind t line))) e = same
       by (Some (Machine (Entangled t u))) e = same
 
-  all_fit : (qs : List PartOf) → AllFit w.program w.settings qs (value_of w) l → AllFit w.program w.settings qs (value_of w) L
+  all_fit : (qs : List PartOf) → WorkersFit w.program w.settings qs (value_of w) l → WorkersFit w.program w.settings qs (value_of w) L
   all_fit [] A = tt
   all_fit (q ∷ qs) A = (one_fits q A.0, A.1, all_fit qs A.2)
 

@@ -25,8 +25,8 @@ use Rattle.core_relation.specs.Begins.{IsReachedAt, IsRoot, LeadsAt, StartsAt}
 use Rattle.core_entry_laws.specs.Now.{IsReachedNow, StartsNow}
 use Rattle.core_relation.specs.Since.{Since, kept}
 use Rattle.core_relation.proofs.changes.Alone.{belongings_own}
-use Rattle.core_relation.proofs.objects.Members.{object_held}
-use Rattle.core_relation.proofs.notes.Rooted.{lies_in, root_owner}
+use Rattle.core_relation.proofs.objects.Members.{lies_in, object_held}
+use Rattle.core_relation.proofs.notes.Rooted.{root_owner}
 use Rattle.core_relation.proofs.notes.Roots.{frame_name, name_at}
 use Rattle.core_relation.proofs.changes.Sweep.{is_kept, refers, snapshot_is}
 

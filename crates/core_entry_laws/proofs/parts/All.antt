@@ -10,7 +10,7 @@ use Rattle.ledger_step_laws.specs.Accounts.{Knows}
 use Rattle.core_relation.specs.Memory.{Memory}
 use Rattle.core_relation.specs.Stands.{Stands}
 use Rattle.core_relation.specs.Fits.{Part, FitsAt, with_belongings, ahead}
-use Rattle.core_relation.specs.Worker.{AllFit}
+use Rattle.core_relation.specs.Worker.{WorkersFit}
 use Rattle.core_entry_laws.specs.WorkerLaws.{AllFitTogether}
 use Rattle.core_entry_laws.proofs.parts.Workers.{out, part_now}
 use Rattle.core_relation.specs.Frames.{IsOut, NotOf, AllFitAt, with_all_belongings, all_ahead}
@@ -55,7 +55,7 @@ module _ (p : ProgramText) (s : SettingsValue) where
       all_stand qs (with_belongings v q.task q.belongings) (ahead p q l) (ahead_knows q v l A.1 K A.0 A.2) A.0.stands (rest_on_top q v l A.1 K A.0 A.2 qs A.3 A.4)
 
 -- parts that fit, by the accounts as they are
-by_accounts : (p : ProgramText) (s : SettingsValue) (qs : List Part) (v : Memory) (l : Ledger) → l.machine.end ≡ None → AllFit p s qs v l → AllFitAt p s qs v l
+by_accounts : (p : ProgramText) (s : SettingsValue) (qs : List Part) (v : Memory) (l : Ledger) → l.machine.end ≡ None → WorkersFit p s qs v l → AllFitAt p s qs v l
 by_accounts p s [] v l on A = tt
 by_accounts p s (q ∷ qs) v l on A = ((part_now p s q v l on A.0).fits, A.0.task, out p s q v l on A.0, A.1, by_accounts p s qs v l on A.2)
 

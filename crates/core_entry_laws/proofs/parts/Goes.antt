@@ -30,7 +30,7 @@ use Rattle.core_relation.specs.Changes.{StoresAt, StoresNumberAt}
 use Rattle.task_frames.specs.FramesValue.{ref_of}
 use Rattle.core_relation.specs.Frames.{IsSteady, IsOut, Beside}
 use Rattle.ledger_step_laws.proofs.Ahead.{SameOf, with_off}
-use Rattle.core_entry_laws.proofs.parts.Beside.{together, alike_writes}
+use Rattle.core_entry_laws.proofs.parts.Beside.{alike_writes}
 use Rattle.ledger_step_laws.proofs.Rested.{rested_worker, rested_knows}
 use Rattle.core_relation.proofs.changes.Lifts.{stores_too, stores_with, numbers_too, numbers_with}
 use Rattle.core_relation.proofs.objects.Members.{in_chunk}
@@ -82,7 +82,7 @@ module _ (p : ProgramText) (s : SettingsValue) (q r : Part) (v : Memory) (l l' :
   rests_both = ap (λ (h : Heap). h.worker) (BB.steps_t.heaps q.task ne) ∙ rested_worker (task_steps p l q.task q.fresh) q.task
 
   before : Stands (with_belongings (with_belongings v q.task q.belongings) r.task r.belongings) both
-  before = together v lq (ahead p r l) both q.task r.task q.belongings r.belongings BB F.stands G.stands
+  before = pair.fit_together p s q r v l x y K F G O P ne
 
   -- the part fits what is given back
   module _ (E : AlikeFor r.task lq lt') (v' : Memory) (g' : Belongings) (idle : is_waiting (slice_get then_.machine.tasks q.task) ≡ false) (V : Stands (with_belongings (with_belongings v' q.task g') r.task r.belongings) then_) where

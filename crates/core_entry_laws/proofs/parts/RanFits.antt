@@ -31,7 +31,7 @@ use Rattle.core_relation.specs.Copies.{PartFits}
 use Rattle.core_relation.specs.Changes.{StoresNumberAt}
 use Rattle.core_relation.specs.Makes.{Stores, StoresInto, BelongingsAfterStore, StepsTo, BelongingsAfter, Makes, taken_by}
 use Rattle.core_relation.specs.Whole.{BegunBy}
-use Rattle.core_relation.specs.Worker.{Fits}
+use Rattle.core_relation.specs.Worker.{WorkerFits}
 use Rattle.core_entry_laws.specs.WorkerLaws.{RanFits}
 use Rattle.core_entry_laws.proofs.parts.Handed.{stores_fit, numbers_fit, steps_fit}
 use Rattle.core_entry_laws.proofs.whole.HandedBack.{alive_machine}
@@ -96,7 +96,7 @@ module _ (p : ProgramText) (s : SettingsValue) (v v' : Memory) (l l' : Ledger) (
   none_begun_then n e none = none_begun (with_belongings v' t g) (ahead p (part_for s t g 0) n) t g.begun none (rested_view (λ z. z.begun) (λ z. refl) n t ∙ e)
 
   -- the part after it
-  fits : (n : Ledger) → aside l' ≡ n → (y : Task) → slice_get l'.machine.tasks t ≡ Some y → is_running (Some y) ≡ true → (heap_of n t).begun ≡ None → g.begun ≡ None → FitsAt p s (part_for s t g 0) v' n → Fits p s (part_for s t g 0) v' l'
+  fits : (n : Ledger) → aside l' ≡ n → (y : Task) → slice_get l'.machine.tasks t ≡ Some y → is_running (Some y) ≡ true → (heap_of n t).begun ≡ None → g.begun ≡ None → FitsAt p s (part_for s t g 0) v' n → WorkerFits p s (part_for s t g 0) v' l'
   fits n e y is run begun none V = record {
     task = y;
     is = is;
@@ -107,7 +107,7 @@ module _ (p : ProgramText) (s : SettingsValue) (v v' : Memory) (l l' : Ledger) (
     fields = refl;
   }
 
-  goes : l'.machine.end ≡ None → (y : Task) → slice_get l'.machine.tasks t ≡ Some y → is_running (Some y) ≡ true → g.begun ≡ None → FitsAt p s (part_for s t g 0) v' l' → Fits p s (part_for s t g 0) v' l'
+  goes : l'.machine.end ≡ None → (y : Task) → slice_get l'.machine.tasks t ≡ Some y → is_running (Some y) ≡ true → g.begun ≡ None → FitsAt p s (part_for s t g 0) v' l' → WorkerFits p s (part_for s t g 0) v' l'
   goes on y is run none V = fits l' (aside_is l' on) y is run still_then none V
 
   -- where the step sets its frame
@@ -185,7 +185,7 @@ module _ (p : ProgramText) (s : SettingsValue) (v v' : Memory) (l l' : Ledger) (
   runs_now : is_running (Some S.task) ≡ true
   runs_now = ap runs S.at.runs
 
-  by : (kind : LastKind) (K : IsOfKind p m l' t S.task S.line kind) → (GoesOn kind → l'.machine.end ≡ None) → PartFits p s (part_for s t h (taken_by kind k)) v l → (C : Makes p v v' m l' t h S.task S.line kind K) → BelongingsAfter p v v' m l' t h S.task S.line kind K C g → Fits p s (part_for s t g 0) v' l'
+  by : (kind : LastKind) (K : IsOfKind p m l' t S.task S.line kind) → (GoesOn kind → l'.machine.end ≡ None) → PartFits p s (part_for s t h (taken_by kind k)) v l → (C : Makes p v v' m l' t h S.task S.line kind K) → BelongingsAfter p v v' m l' t h S.task S.line kind K C g → WorkerFits p s (part_for s t g 0) v' l'
   by Private K on F C G =
       let go = steps_go p s t k l E.task E.knows E.collects E.at E.runs E.can S.private in
       let x = private_on p m.machine t S.task go.3 S.at.task K in

@@ -21,7 +21,7 @@ use Rattle.core_relation.specs.Fits.{Part, FitsAt, part_for, ahead}
 use Rattle.core_relation.specs.Frames.{AreOut, IsOut, IsSteady}
 use Rattle.core_relation.specs.Copies.{PartFits}
 use Rattle.core_relation.specs.Makes.{Stores, Makes, taken_by}
-use Rattle.core_relation.specs.Worker.{Fits}
+use Rattle.core_relation.specs.Worker.{WorkerFits}
 use Rattle.core_entry_laws.specs.WorkerLaws.{RanAlike, RanLeaves}
 use Rattle.core_entry_laws.proofs.parts.Alike as alike
 use Rattle.core_entry_laws.proofs.parts.Along.{alike_alone}
@@ -33,7 +33,7 @@ use Rattle.core_entry_laws.proofs.parts.Quiet.{aside_is}
 use Rattle.core_entry_laws.proofs.parts.Ran as ran
 use Rattle.ledger_step_laws.proofs.Root.{root_alone}
 
-module _ (p : ProgramText) (s : SettingsValue) (r : Part) (v : Memory) (l : Ledger) (on : l.machine.end ≡ None) (F : Fits p s r v l) where
+module _ (p : ProgramText) (s : SettingsValue) (r : Part) (v : Memory) (l : Ledger) (on : l.machine.end ≡ None) (F : WorkerFits p s r v l) where
   -- by the accounts as they are
   pub part_now : PartFits p s r v l
   part_now = subst (PartFits p s r v) (aside_is l on) F.part
@@ -45,7 +45,7 @@ module _ (p : ProgramText) (s : SettingsValue) (r : Part) (v : Memory) (l : Ledg
   out = record { task = F.is; runs = F.runs; can = can; steady = F.steady }
 
   pub to : (v' : Memory) (l' : Ledger) → slice_get l'.machine.tasks r.task ≡ Some F.task → IsSteady r l' → ((k : ℕ) → v.owner k ≡ Some r.task → v'.owner k ≡ Some r.task)
-      → heap_of (ahead p r (aside l')) r.task ≡ heap_of (ahead p r l) r.task → FitsAt p s r v' (aside l') → Fits p s r v' l'
+      → heap_of (ahead p r (aside l')) r.task ≡ heap_of (ahead p r l) r.task → FitsAt p s r v' (aside l') → WorkerFits p s r v' l'
   to v' l' is steady owner heap fits = record { task = F.task; is = is; runs = F.runs; steady = steady; part = part_stays p s r v v' l (aside l') owner heap fits part_now; leaf = F.leaf; fields = F.fields }
 
   steady_too : (l' : Ledger) → slice_get l'.heaps r.task ≡ slice_get l.heaps r.task → IsSteady r l'
@@ -56,7 +56,7 @@ module _ (p : ProgramText) (s : SettingsValue) (r : Part) (v : Memory) (l : Ledg
       by (inr c) = inr (ap collecting e ∙ c)
 
   -- where the machine and the account of its heap stay
-  pub to_same : (v' : Memory) (l' : Ledger) → l'.machine ≡ l.machine → slice_get l'.heaps r.task ≡ slice_get l.heaps r.task → ((k : ℕ) → v.owner k ≡ Some r.task → v'.owner k ≡ Some r.task) → FitsAt p s r v' l' → Fits p s r v' l'
+  pub to_same : (v' : Memory) (l' : Ledger) → l'.machine ≡ l.machine → slice_get l'.heaps r.task ≡ slice_get l.heaps r.task → ((k : ℕ) → v.owner k ≡ Some r.task → v'.owner k ≡ Some r.task) → FitsAt p s r v' l' → WorkerFits p s r v' l'
   to_same v' l' m h owner fits =
       let on' : l'.machine.end ≡ None = ap (λ (z : State). z.end) m ∙ on in
       let same = ahead_same p s r l l' (record { machine = m; heap = h }) part_now.fits.private in
@@ -65,7 +65,7 @@ module _ (p : ProgramText) (s : SettingsValue) (r : Part) (v : Memory) (l : Ledg
 
 -- AN ENTRY OF STEPS
 
-module _ (p : ProgramText) (s : SettingsValue) (v v' : Memory) (l l' : Ledger) (t w k : ℕ) (h : Belongings) (E : Runs p s l l' t w k) (r : Part) (ne : t ≡ r.task → ⊥) (R : Fits p s r v l) where
+module _ (p : ProgramText) (s : SettingsValue) (v v' : Memory) (l l' : Ledger) (t w k : ℕ) (h : Belongings) (E : Runs p s l l' t w k) (r : Part) (ne : t ≡ r.task → ⊥) (R : WorkerFits p s r v l) where
   abbrev m : Ledger
   m = task_steps p l t k
 
@@ -145,11 +145,11 @@ module _ (p : ProgramText) (s : SettingsValue) (v v' : Memory) (l l' : Ledger) (
     heap = ap (λ hs. slice_get hs r.task) H.heaps;
   }
 
-  goes : l'.machine.end ≡ None → AlikeFor r.task l l' → ((i : ℕ) → v.owner i ≡ Some r.task → v'.owner i ≡ Some r.task) → FitsAt p s r v' (aside l') → Fits p s r v' l'
+  goes : l'.machine.end ≡ None → AlikeFor r.task l l' → ((i : ℕ) → v.owner i ≡ Some r.task → v'.owner i ≡ Some r.task) → FitsAt p s r v' (aside l') → WorkerFits p s r v' l'
   goes on A owner fits =
       to p s r v l alive R v' l' (A.task ∙ R.is) (steady_too p s r v l alive R l' A.heap) owner (ap (λ (z : Ledger). heap_of (ahead p r z) r.task) (aside_is l' on) ∙ (ahead_alike l' E.knows_then A).1) fits
 
-  by : (kind : LastKind) (K : IsOfKind p m l' t S.task S.line kind) → (GoesOn kind → l'.machine.end ≡ None) → FitsAt p s (part_for s t h (taken_by kind k)) v l → Makes p v v' m l' t h S.task S.line kind K → FitsAt p s r v' (aside l') → Fits p s r v' l'
+  by : (kind : LastKind) (K : IsOfKind p m l' t S.task S.line kind) → (GoesOn kind → l'.machine.end ≡ None) → FitsAt p s (part_for s t h (taken_by kind k)) v l → Makes p v v' m l' t h S.task S.line kind K → FitsAt p s r v' (aside l') → WorkerFits p s r v' l'
   by Private K on F C V = goes (on tt) (alike.alike_by p s v l l' t w k h E (on tt) r R.task P ne G Private K F tt) (owner_by Private K F C) V
   by Reading K on F C V = goes (on tt) (alike.alike_by p s v l l' t w k h E (on tt) r R.task P ne G Reading K F tt) (owner_by Reading K F C) V
   by Writing K on F C V = goes (on tt) (alike.alike_by p s v l l' t w k h E (on tt) r R.task P ne G Writing K F tt) (owner_by Writing K F C) V

@@ -27,7 +27,7 @@ use Rattle.ledger_step_laws.proofs.Known.{legal_knows}
 use Rattle.ledger_step_laws.proofs.Split.{legal_alive, legal_idle}
 use Rattle.core_relation.specs.Memory.{Memory}
 use Rattle.core_relation.specs.Fits.{Part, FitsAt}
-use Rattle.core_relation.specs.Worker.{Fits}
+use Rattle.core_relation.specs.Worker.{WorkerFits}
 use Rattle.core_entry_laws.specs.WorkerLaws.{TookLeaves, QuietLeaves, SweepsLeave, EndsLeave}
 use Rattle.core_entry_laws.proofs.parts.Leave as leave
 use Rattle.core_entry_laws.proofs.parts.Parts.{fits_sweep}
@@ -60,7 +60,7 @@ module _ (p : ProgramText) (s : SettingsValue) (journal : List EntryValue) (lega
   alive : l.machine.end ≡ None
   alive = legal_alive p s journal legal on
 
-  module _ (v : Memory) (r : Part) (R : Fits p s r v l) where
+  module _ (v : Memory) (r : Part) (R : WorkerFits p s r v l) where
     abbrev G : FitsAt p s r v l
     G = (part_now p s r v l alive R).fits
 

@@ -25,7 +25,7 @@ use Rattle.ledger_step_laws.specs.Accounts.{own, Rests, ChangesHeap}
 use Rattle.core_relation.specs.Stands.{Place, BelongingsStand, IsSource, Stands}
 use Rattle.core_relation.specs.Changes.{Moves}
 use Rattle.core_relation.specs.Frames.{Collects}
-use Rattle.core_relation.proofs.changes.Same.{own_same, path_same, store_same, source_same}
+use Rattle.core_relation.proofs.changes.Same.{own_same, path_same, store_same, source_same, rests_before, worker_same}
 use Rattle.core_relation.proofs.objects.Carry.{Led, task_kept, same_holding, all_led, frames_led, all_rewritten}
 use Rattle.core_relation.proofs.objects.Members.{in_chunk}
 use Rattle.core_relation.proofs.changes.Alone.{belongings_own}
@@ -55,15 +55,6 @@ module _ (v v' : Memory) (l l' : Ledger) (t : ℕ) (x : Task) (f : Addr → Addr
   idle : is_waiting (slice_get l.machine.tasks t) ≡ false
   idle = ap is_waiting B.task ∙ ap (λ s. is_waiting (Some (record x { status = s }))) B.runs
 
-  worker_same : (u : ℕ) → (heap_of l' u).worker ≡ (heap_of l u).worker
-  worker_same u = elim (cases_eq u t) [
-    | inl e ↦ ap (λ z. (heap_of l' z).worker) e ∙ (L.worker ∙ ap (λ z. (heap_of l z).worker) (sym e))
-    | inr ne ↦ ap (λ (h : Heap). h.worker) (L.others u ne)
-  ]
-
-  rest : (u : ℕ) → Rests l' u → Rests l u
-  rest u r = sym (worker_same u) ∙ r
-
   -- a survivor of t lies where its address is led
   moved : (n : Name) (a : Addr) → own l n ≡ t → Live l t S survivors spares n → Place v l n a → Place v' l' n (f a)
   moved n a e g p =
@@ -84,7 +75,7 @@ module _ (v v' : Memory) (l l' : Ledger) (t : ℕ) (x : Task) (f : Addr → Addr
     record {
       chunk = C.owners a.chunk (own l n) ne p.chunk ∙ ap Some (sym (own_same l l' L.machine n));
       here = λ r.
-          let q : Lies (v.belongings (own l n)).chunks n a = p.here (rest (own l n) (subst (Rests l') (own_same l l' L.machine n) r)) in
+          let q : Lies (v.belongings (own l n)).chunks n a = p.here (rests_before l l' t L (own l n) (subst (Rests l') (own_same l l' L.machine n) r)) in
           subst (λ u. Lies (v'.belongings u).chunks n a) (sym (own_same l l' L.machine n))
           (subst (λ (h : Belongings). Lies h.chunks n a) (sym (C.others (own l n) ne)) (lies_mapped (rewritten f (sources v t)) (λ o. refl) (λ o. refl) (v.belongings (own l n)).chunks n a q));
     },
@@ -100,7 +91,7 @@ module _ (v v' : Memory) (l l' : Ledger) (t : ℕ) (x : Task) (f : Addr → Addr
   belongings : (u : ℕ) → Rests l' u → BelongingsStand v' l' u
   belongings u r = elim (cases_eq u t) [
     | inl e ↦ subst (BelongingsStand v' l') (sym e) C.belongings
-    | inr ne ↦ belongings_mapped (rewritten f (sources v t)) (λ o. refl) (λ o. refl) v v' l l' u (C.others u ne) (λ k. C.owners k u ne) (L.others u ne) (ap (λ (m : State). slice_get m.store u) L.machine) (ap (λ (m : State). is_joined (slice_get m.tasks u)) L.machine) (rewritten_words f (sources v t)) (V.belongings u (rest u r))
+    | inr ne ↦ belongings_mapped (rewritten f (sources v t)) (λ o. refl) (λ o. refl) v v' l l' u (C.others u ne) (λ k. C.owners k u ne) (L.others u ne) (ap (λ (m : State). slice_get m.store u) L.machine) (ap (λ (m : State). is_joined (slice_get m.tasks u)) L.machine) (rewritten_words f (sources v t)) (V.belongings u (rests_before l l' t L u r))
   ]
 
   -- what stands in another task's heap, before the rewriting
@@ -140,14 +131,14 @@ module _ (v v' : Memory) (l l' : Ledger) (t : ℕ) (x : Task) (f : Addr → Addr
         )
     | inr ne ↦
         let q = was u o ne i in
-        let c = V.contents u q.0 (rest u r) q.1 in
+        let c = V.contents u q.0 (rests_before l l' t L u r) q.1 in
         subst (λ (z : Located). (y : Object) × (object_at l'.machine.store (object_name z) ≡ Some y) × IsRead (Place v' l') z y) q.2 (
           c.0,
           store_same l l' L.machine (object_name q.0) ∙ c.1,
           record {
             mutable = c.2.mutable;
             ints = c.2.ints;
-            refs = all_rewritten (Place v l) (Place v' l') f (sources v t) q.0.at 0 q.0.refs c.0.refs (λ j n at. subst (λ z. Led (Place v l) (Place v' l') f (sources v t) q.0.at z n) (let z : j ≡ 0 + j = omega arith in z) (field u q.0 c.0 ne (rest u r) q.1 c.1 j n at)) c.2.refs;
+            refs = all_rewritten (Place v l) (Place v' l') f (sources v t) q.0.at 0 q.0.refs c.0.refs (λ j n at. subst (λ z. Led (Place v l) (Place v' l') f (sources v t) q.0.at z n) (let z : j ≡ 0 + j = omega arith in z) (field u q.0 c.0 ne (rests_before l l' t L u r) q.1 c.1 j n at)) c.2.refs;
           },
         )
   ]
@@ -174,7 +165,7 @@ module _ (v v' : Memory) (l l' : Ledger) (t : ℕ) (x : Task) (f : Addr → Addr
             (same_holding (Place v' l') (v.belongings u) (rewritten_belongings f (sources v t) (v.belongings u)) y refl refl
             (task_kept (Place v l) (Place v' l') (v.belongings u) y
             (λ n i a p. (still n a (λ e. ne (sym (leaf_alone l S t u idle (holder_live l S u y n is' i) (ap (λ z. is_on_path l.machine.tasks z u) (sym e) ∙ (S.apart.of_task u y n is' i).1)))) p).0)
-            (V.tasks u y (rest u r) is')))
+            (V.tasks u y (rests_before l l' t L u r) is')))
       ]
 
   up : (n : Name) → is_on_path l.machine.tasks (own l n) t ≡ true → is_on_path l'.machine.tasks (own l' n) t ≡ true
@@ -201,7 +192,7 @@ module _ (v v' : Memory) (l l' : Ledger) (t : ℕ) (x : Task) (f : Addr → Addr
         | inr ne ↦
             let q = was u o ne j in
             let is'' : object_at l.machine.store (object_name q.0) ≡ Some y = ap (λ (z : Located). object_at l.machine.store (object_name z)) q.2 ∙ is' in
-            elim (V.remembered u q.0 y i n (rest u r) q.1 is'' at) [
+            elim (V.remembered u q.0 y i n (rests_before l l' t L u r) q.1 is'' at) [
               | inl h ↦ inl (ap (λ k. is_on_path l'.machine.tasks k u) (own_same l l' L.machine n) ∙ (path_same l l' L.machine (own l n) u ∙ h))
               | inr s ↦
                   inr (subst (λ (z : Located). In (sources v' (own l' n)) (record { object = z.at; field = i })) q.2
@@ -214,11 +205,11 @@ module _ (v v' : Memory) (l l' : Ledger) (t : ℕ) (x : Task) (f : Addr → Addr
   source u s i =
       let k = V.sources u s (subst (λ ss. In ss s) (C.sources u) i) in
       let ne : own l k.name ≡ t → ⊥ = λ e. both_ways (is_waiting (slice_get l.machine.tasks t)) idle (ap (λ z. is_waiting (slice_get l.machine.tasks z)) (sym e) ∙ k.waits) in
-      source_same l l' L.machine v v' u s k (still k.name s.object ne k.place).0 (worker_same (own l k.name))
+      source_same l l' L.machine v v' u s k (still k.name s.object ne k.place).0 (worker_same l l' t L (own l k.name))
       (subst (λ (h : Heap). In h.snapshot k.name) (sym (L.others (own l k.name) ne)) k.kept)
 
   view_same : (z : ℕ) → (v'.belongings z).view ≡ (v.belongings z).view
   view_same z = elim (cases_eq z t) [ inl e ↦ ap (λ k. (v'.belongings k).view) e ∙ (C.view ∙ ap (λ k. (v.belongings k).view) (sym e)) | inr ne ↦ ap (λ (h : Belongings). h.view) (C.others z ne) ]
 
   pub collected : Stands v' l'
-  collected = record { made = λ k u e. ap (λ (m : State). is_some (slice_get m.tasks u)) L.machine ∙ V.made k u (C.owned k u e); belongings = belongings; contents = content; tasks = task; remembered = remember; sources = source; gives = λ z u r j up ne w ru. gives_kept v v' u z (view_same z) (view_same u) (λ k o. C.owned k u o) (V.gives z u (rest z r) (sym (ap (λ (m : State). is_joined (slice_get m.tasks z)) L.machine) ∙ j) (sym (path_same l l' L.machine u z) ∙ up) ne (sym (ap (λ (m : State). is_waiting (slice_get m.tasks u)) L.machine) ∙ w) (rest u ru)); views = λ z r j. collection_shown v v' l l' t (heap_of l t).survivors f S V.views C idle (λ u o s i q k e. noted_mutable v l t u o s V i q k e) view_same (λ u y. path_same l l' L.machine u y) rest z (rest z r) (sym (ap (λ (m : State). is_joined (slice_get m.tasks z)) L.machine) ∙ j) }
+  collected = record { made = λ k u e. ap (λ (m : State). is_some (slice_get m.tasks u)) L.machine ∙ V.made k u (C.owned k u e); belongings = belongings; contents = content; tasks = task; remembered = remember; sources = source; gives = λ z u r j up ne w ru. gives_kept v v' u z (view_same z) (view_same u) (λ k o. C.owned k u o) (V.gives z u (rests_before l l' t L z r) (sym (ap (λ (m : State). is_joined (slice_get m.tasks z)) L.machine) ∙ j) (sym (path_same l l' L.machine u z) ∙ up) ne (sym (ap (λ (m : State). is_waiting (slice_get m.tasks u)) L.machine) ∙ w) (rests_before l l' t L u ru)); views = λ z r j. collection_shown v v' l l' t (heap_of l t).survivors f S V.views C idle (λ u o s i q k e. noted_mutable v l t u o s V i q k e) view_same (λ u y. path_same l l' L.machine u y) (rests_before l l' t L) z (rests_before l l' t L z r) (sym (ap (λ (m : State). is_joined (slice_get m.tasks z)) L.machine) ∙ j) }

@@ -27,8 +27,9 @@ use Rattle.core_relation.specs.Changes.{ForksBelongings, advanced, entered, chil
 use Rattle.core_relation.proofs.objects.Carry.{object_kept, task_kept, frames_kept}
 use Rattle.core_relation.proofs.objects.LaidOut.{none_laid}
 use Rattle.core_relation.proofs.changes.Alone.{belongings_kept}
-use Rattle.core_relation.proofs.changes.Giving.{fork_gives}
+use Rattle.core_relation.proofs.changes.Giving.{fork_gives, runs_idle}
 use Rattle.core_relation.proofs.changes.Shown.{left_shown, right_shown, rest_shown}
+use Rattle.core_relation.proofs.objects.Members.{none_in}
 
 advanced_read : (at : Name → Addr → Type 0) (fs : List Frame) (f : ModelFrame) (xs : List ModelFrame) → FramesAreRead at fs (f ∷ xs) → FramesAreRead at (advanced fs) (onward f ∷ xs)
 advanced_read at [] f xs h = absurd h
@@ -51,9 +52,6 @@ module _ (v v' : Memory) (l l' : Ledger) (t a b g h : ℕ) (x : Task) (S : Sound
     ]
   ]
 
-  idle : is_waiting (slice_get l.machine.tasks t) ≡ false
-  idle = ap is_waiting F.task ∙ ap (λ s. is_waiting (Some (record x { status = s }))) runs
-
   -- the belongings of a task that was there are as they were, but for the frames
   chunks_same : (z : ℕ) → (z ≡ a → ⊥) → (z ≡ b → ⊥) → (v'.belongings z).chunks ≡ (v.belongings z).chunks
   chunks_same z na nb = elim (cases_eq z t) [
@@ -63,8 +61,7 @@ module _ (v v' : Memory) (l l' : Ledger) (t a b g h : ℕ) (x : Task) (S : Sound
 
   -- a new one has no object
   none_new : (z : ℕ) (o : Located) → (z ≡ a) ⊎ (z ≡ b) → In (objects v' z) o → ⊥
-  none_new z o (inl e) i = subst (λ (k : Belongings). In (objects_in k.chunks) o) (ap v'.belongings e ∙ C.left) i
-  none_new z o (inr e) i = subst (λ (k : Belongings). In (objects_in k.chunks) o) (ap v'.belongings e ∙ C.right) i
+  none_new = none_in v' a b (ap (λ (k : Belongings). k.chunks) C.left) (ap (λ (k : Belongings). k.chunks) C.right)
 
   rest : (z : ℕ) → (z ≡ a → ⊥) → (z ≡ b → ⊥) → Rests l' z → Rests l z
   rest z na nb r = elim (cases_eq z t) [
@@ -204,7 +201,7 @@ module _ (v v' : Memory) (l l' : Ledger) (t a b g h : ℕ) (x : Task) (S : Sound
         let nb : z ≡ b → ⊥ = λ e. subst (λ ss. In ss s) (ap (λ u. sources v' u) e ∙ C.right_noted) i in
         let k = V.sources z s (subst (λ ss. In ss s) (C.sources z na nb) i) in
         let e : own l' k.name ≡ own l k.name = F.owners k.name.task in
-        let nt : own l k.name ≡ t → ⊥ = λ f. both_ways _ idle (ap (λ u. is_waiting (slice_get l.machine.tasks u)) (sym f) ∙ k.waits) in
+        let nt : own l k.name ≡ t → ⊥ = λ f. both_ways _ (runs_idle (slice_get l.machine.tasks t) x F.task runs) (ap (λ u. is_waiting (slice_get l.machine.tasks u)) (sym f) ∙ k.waits) in
         let oa : own l k.name ≡ a → ⊥ = λ f. unowned s.object.chunk (own l k.name) (inl f) k.place.chunk in
         let ob : own l k.name ≡ b → ⊥ = λ f. unowned s.object.chunk (own l k.name) (inr f) k.place.chunk in
         record {

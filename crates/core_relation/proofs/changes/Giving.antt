@@ -3,6 +3,7 @@ use Rattle.std.proofs.Common.{◌≡◌, ℕ, zero, suc, ◌<◌, true, false, a
 use Rattle.std.specs.Prelude.{drop}
 use Rattle.std.proofs.lemmas.Bool.{cases_eq, both_ways, false≢true}
 use Rattle.std.proofs.lemmas.Option.{same_Some}
+use Rattle.listed.proofs.Places.{map_in}
 use Rattle.hh_model.specs.declared.data.Status.{Status}
 use Rattle.hh_model.specs.declared.data.Status.TheVariants.{Running, Waiting, Ended, Joined}
 use Rattle.hh_model.specs.declared.data.Task.{Task}
@@ -16,7 +17,6 @@ use Rattle.ledger_step_laws.proofs.Tree.{leaf_alone}
 use Rattle.core_relation.specs.Memory.{Chunk, Belongings, Memory, frozen_chunk, frozen_chunks}
 use Rattle.core_relation.specs.Changes.{ForksBelongings}
 use Rattle.core_relation.specs.Stands.{Gives, HasNumber, BelongingsStand, Stands}
-use Rattle.core_relation.proofs.objects.Members.{map_in}
 
 abbrev pub EachGives : Memory → Ledger → Type 0
 EachGives v l = (t u : ℕ) → Rests l t → is_joined (slice_get l.machine.tasks t) ≡ false → is_on_path l.machine.tasks u t ≡ true → (u ≡ t → ⊥) → is_waiting (slice_get l.machine.tasks u) ≡ true → Rests l u → Gives v u t
@@ -40,6 +40,10 @@ waits_live (Some y) e = by y.status e
     by (Ended k r) e = refl
     by Joined e = absurd (false≢true e)
 
+-- and who runs doesn't wait
+pub runs_idle : (o : Option Task) (x : Task) → o ≡ Some x → x.status ≡ Running → is_waiting o ≡ false
+runs_idle o x is runs = ap is_waiting is ∙ ap (λ s. is_waiting (Some (record x { status = s }))) runs
+
 -- a heap's level has only chunks of its task
 level_is_own : (v : Memory) (l : Ledger) (t n : ℕ) → BelongingsStand v l t → HasNumber (frozen_chunks (v.belongings t).chunks) n → v.owner n ≡ Some t
 level_is_own v l t n H has =
@@ -50,9 +54,6 @@ level_is_own v l t n H has =
 module _ (v v' : Memory) (l l' : Ledger) (t a b g h : ℕ) (x : Task) (S : SoundLedger l) (V : Stands v l) (T : EachGives v l) (rests : Rests l t) (runs : x.status ≡ Running)
     (live : is_joined (slice_get l.machine.tasks t) ≡ false) (F : ForksTask l l' t a b g h x) (C : ForksBelongings v v' t a b g h)
     (same : (z : ℕ) → (z ≡ a → ⊥) → (z ≡ b → ⊥) → (v'.belongings z).view ≡ (v.belongings z).view) where
-  idle : is_waiting (slice_get l.machine.tasks t) ≡ false
-  idle = ap is_waiting F.task ∙ ap (λ s. is_waiting (Some (record x { status = s }))) runs
-
   not_left : (u : ℕ) → is_waiting (slice_get l'.machine.tasks u) ≡ true → u ≡ a → ⊥
   not_left u w e = both_ways (is_waiting (slice_get l'.machine.tasks u)) (ap (λ z. is_waiting (slice_get l'.machine.tasks z)) e ∙ ap is_waiting F.left) w
 
@@ -105,7 +106,7 @@ module _ (v v' : Memory) (l l' : Ledger) (t a b g h : ℕ) (x : Task) (S : Sound
   gives_rest : (z u : ℕ) → (z ≡ a → ⊥) → (z ≡ b → ⊥) → Rests l z → is_joined (slice_get l.machine.tasks z) ≡ false → is_on_path l'.machine.tasks u z ≡ true → (u ≡ z → ⊥) → is_waiting (slice_get l'.machine.tasks u) ≡ true → Rests l' u → Gives v' u z
   gives_rest z u na nb rz lz up ne w r =
       let up1 : is_on_path l.machine.tasks u z ≡ true = sym (F.paths u z na nb) ∙ up in
-      let nt : u ≡ t → ⊥ = λ e. ne (leaf_alone l S u z (ap (λ y. is_waiting (slice_get l.machine.tasks y)) e ∙ idle) lz up1) in
+      let nt : u ≡ t → ⊥ = λ e. ne (leaf_alone l S u z (ap (λ y. is_waiting (slice_get l.machine.tasks y)) e ∙ runs_idle (slice_get l.machine.tasks t) x F.task runs) lz up1) in
       let ua = not_left u w in
       let ub = not_right u w in
       gives_kept v v' u z (same z na nb) (same u ua ub) (λ n o. sym (C.owner n) ∙ o) (T z u rz lz up1 ne (waits u nt ua ub w) (rest u nt ua ub r))

@@ -30,7 +30,7 @@ use Rattle.core_relation.specs.Stands.{Place, HasNames, names_of, small_chunks, 
 use Rattle.ledger_step_laws.specs.Kinds.{JoinsTasks, CanJoin}
 use Rattle.core_relation.specs.Changes.{JoinsBelongings, with_results, top_with_results}
 use Rattle.core_relation.proofs.objects.Carry.{object_kept, task_kept, frames_kept, read_kept, all_set}
-use Rattle.core_relation.proofs.objects.Members.{in_chunk, in_objects}
+use Rattle.core_relation.proofs.objects.Members.{in_chunk, in_objects, lies_in as owned_by, none_in}
 use Rattle.core_relation.proofs.objects.LaidOut.{none_laid, laid_both}
 use Rattle.core_relation.proofs.objects.Merged.{small_both, large_both}
 use Rattle.core_relation.proofs.changes.Alone.{belongings_own, belongings_kept}
@@ -166,8 +166,7 @@ module _ (v v' : Memory) (l l' : Ledger) (p c d : ℕ) (x : Task) (rl rr : ℤ �
     pub came : ((z ≡ p) × IsPart task) ⊎ ((task ≡ z) × IsOther z)
 
   no_object : (z : ℕ) (o : Located) → IsChild z → In (objects v' z) o → ⊥
-  no_object z o (inl e) i = subst (λ (h : Belongings). In (objects_in h.chunks) o) (ap v'.belongings e ∙ H.left) i
-  no_object z o (inr e) i = subst (λ (h : Belongings). In (objects_in h.chunks) o) (ap v'.belongings e ∙ H.right) i
+  no_object = none_in v' c d (ap (λ (k : Belongings). k.chunks) H.left) (ap (λ (k : Belongings). k.chunks) H.right)
 
   was : (z : ℕ) (o : Located) → Rests l' z → In (objects v' z) o → Was z o
   was z o r i = elim (which z) [
@@ -220,9 +219,6 @@ module _ (v v' : Memory) (l l' : Ledger) (p c d : ℕ) (x : Task) (rl rr : ℤ �
 
   -- BELONGINGS
 
-  owned_by : (z : ℕ) (o : Located) → Rests l z → In (objects v z) o → v.owner o.at.chunk ≡ Some z
-  owned_by z o r i = let k = in_chunk (v.belongings z).chunks o i in ap v.owner ((V.belongings z r).inside k.0 o k.1 k.2) ∙ (V.belongings z r).owned k.0 k.1
-
   abbrev A : List Chunk
   A = (v.belongings c).chunks
 
@@ -262,7 +258,7 @@ module _ (v v' : Memory) (l l' : Ledger) (p c d : ℕ) (x : Task) (rl rr : ℤ �
     once = λ o q i j e.
         let a = was p o rests' i in
         let b = was p q rests' j in
-        let same : a.task ≡ b.task = same_Some a.task b.task (sym (owned_by a.task o a.rests a.there) ∙ (ap (λ (z : Addr). v.owner z.chunk) e ∙ owned_by b.task q b.rests b.there)) in
+        let same : a.task ≡ b.task = same_Some a.task b.task (sym (owned_by v l V a.task o a.rests a.there) ∙ (ap (λ (z : Addr). v.owner z.chunk) e ∙ owned_by v l V b.task q b.rests b.there)) in
         (V.belongings a.task a.rests).once o q a.there (subst (λ z. In (objects v z) q) (sym same) b.there) e;
     named = λ o q i j e.
         let a = was p o rests' i in
@@ -406,7 +402,7 @@ module _ (v v' : Memory) (l l' : Ledger) (p c d : ℕ) (x : Task) (rl rr : ℤ �
           → (is_on_path l'.machine.tasks p z ≡ true) ⊎ In (sources v' p) (record { object = o.at; field = i })
       by (inl m) old = inl (ap (λ k. is_on_path l'.machine.tasks p k) m.0 ∙ (J.paths p p ∙ on_itself))
       by (inr m) (inl h) = inl (J.paths p z ∙ under (own l n) z ch (ap (λ k. is_on_path l.machine.tasks (own l n) k) (sym m.0) ∙ h))
-      by (inr m) (inr s) = inr (source_lifts (own l n) (record { object = o.at; field = i }) ch (λ g. m.1.0 (sym m.0 ∙ same_Some w.task p (sym (owned_by w.task o w.rests w.there) ∙ g))) s)
+      by (inr m) (inr s) = inr (source_lifts (own l n) (record { object = o.at; field = i }) ch (λ g. m.1.0 (sym m.0 ∙ same_Some w.task p (sym (owned_by v l V w.task o w.rests w.there) ∙ g))) s)
 
   -- into another heap
   into_other : (z : ℕ) (o : Located) (i : ℕ) (n : Name) (w : Was z o) → own l' n ≡ own l n → (own l n ≡ c → ⊥) → (own l n ≡ d → ⊥)

@@ -1,11 +1,11 @@
 -- What the views of tasks show of the heaps above them, through each kind of change.
 use Rattle.std.proofs.Common.{◌≡◌, ℕ, ℤ, ◌==◌, ◌&&◌, suc, Bool, true, false, not, cond, Option, Some, None, List, [], ◌∷◌, map, filter, slice_get, ◌⊎◌, inl, inr, refl, ap, ap₂, sym, subst, ◌∙◌}
 use Rattle.std.specs.Option.{option_map}
-use Rattle.std.specs.List.{AllByRecursion, IsDistinct, list_any}
-use Rattle.std.proofs.lemmas.Bool.{cases_eq, both_ways, and_from, and_parts, eq-eqb, eqb-true, cond-true, cond-false, false_from_ne_true}
+use Rattle.std.specs.List.{IsDistinct, list_any}
+use Rattle.std.proofs.lemmas.Bool.{cases_eq, both_ways, and_parts, eq-eqb, eqb-true, cond-true, cond-false, false_from_ne_true}
 use Rattle.std.proofs.lemmas.Option.{same_Some}
 use Rattle.listed.proofs.Members.{in_from_any}
-use Rattle.listed.proofs.Places.{in_map}
+use Rattle.listed.proofs.Places.{each_in, in_map}
 use Rattle.object_layout.specs.declared.word.Addr.{Addr}
 use Rattle.object_layout.specs.Objects.{Located}
 use Rattle.hh_model.specs.declared.data.Task.{Task}
@@ -18,52 +18,36 @@ use Rattle.run_ledger.specs.declared.data.Ledger.{Ledger}
 use Rattle.run_ledger.specs.Heaps.{heap_of}
 use Rattle.run_ledger.specs.Sound.{SoundLedger}
 use Rattle.remembered_set.specs.declared.remembered.Source.{Source}
-use Rattle.core_relation.specs.Memory.{Chunk, Belongings, Memory, In, object_name, objects, objects_in, sources, is_source, rewritten_refs, rewritten, put_at, frozen_chunk, frozen_chunks, chunk_of, seen_at, seen_in, shown_at, as_shown}
+use Rattle.core_relation.specs.Memory.{Chunk, Belongings, Memory, In, object_name, objects, objects_in, sources, is_source, rewritten_refs, rewritten, put_at, frozen_chunk, frozen_chunks, chunk_among, seen_at, seen_in, shown_at, as_shown}
 use Rattle.ledger_step_laws.specs.Accounts.{own, Rests}
 use Rattle.core_relation.specs.Stands.{BelongingsStand, IsShown, Stands}
 use Rattle.ledger_step_laws.specs.Kinds.{ForksTask, JoinsTasks, CanJoin}
 use Rattle.core_relation.specs.Changes.{ForksBelongings, advanced, JoinsBelongings, KeepsJust, Moves, WritesAt}
 use Rattle.ledger_step_laws.proofs.Tree.{leaf_alone}
-use Rattle.core_relation.proofs.objects.Members.{in_chunk, in_objects}
+use Rattle.core_relation.proofs.objects.Members.{in_chunk, in_objects, none_in}
 use Rattle.core_relation.proofs.objects.Mapped.{from_mapped}
 use Rattle.object_layout.specs.Chunks.{same_address}
-
--- which object lies there
-pub at_is : (a : Addr) (o : Located) → same_address o.at a ≡ true → o.at ≡ a
-at_is a o e =
-    let p = and_parts (o.at.chunk == a.chunk) (o.at.offset == a.offset) e in
-    let c : o.at.chunk ≡ a.chunk = eqb-true o.at.chunk a.chunk p.0 in
-    let f : o.at.offset ≡ a.offset = eqb-true o.at.offset a.offset p.1 in
-    λ i. record { chunk = c i; offset = f i }
-
-pub is_at_it : (a : Addr) (o : Located) → o.at ≡ a → same_address o.at a ≡ true
-is_at_it a o e =
-    and_from (o.at.chunk == a.chunk) (o.at.offset == a.offset) (eq-eqb o.at.chunk a.chunk (ap (λ (b : Addr). b.chunk) e)) (eq-eqb o.at.offset a.offset (ap (λ (b : Addr). b.offset) e))
+use Rattle.object_layout.proofs.Distinct.{is_same, same_is}
 
 abbrev AreShown : Memory → Ledger → Type 0
 AreShown v l = (t : ℕ) → Rests l t → is_joined (slice_get l.machine.tasks t) ≡ false → IsShown v l t
 
 -- THE LEVEL OF A TASK
 
-all_at : (P : ℕ → Type 0) (xs : List ℕ) (x : ℕ) → AllByRecursion P xs → In xs x → P x
-all_at P [] x a i = absurd i
-all_at P (y ∷ ys) x a (inl e) = subst P e a.0
-all_at P (y ∷ ys) x a (inr i) = all_at P ys x a.1 i
-
-found : (ks : List Chunk) (k : Chunk) → IsDistinct (λ a b. a == b) (map (λ (z : Chunk). z.number) ks) → In ks k → chunk_of (frozen_chunks ks) k.number ≡ Some (frozen_chunk k)
+found : (ks : List Chunk) (k : Chunk) → IsDistinct (λ a b. a == b) (map (λ (z : Chunk). z.number) ks) → In ks k → chunk_among (frozen_chunks ks) k.number ≡ Some (frozen_chunk k)
 unfolding IsDistinct
 found [] k D i = absurd i
 found (j ∷ js) k D (inl e) =
-    subst (λ (z : Chunk). chunk_of (frozen_chunks (j ∷ js)) z.number ≡ Some (frozen_chunk z)) e
-    (cond-true (j.number == j.number) (Some (frozen_chunk j)) (chunk_of (frozen_chunks js) j.number) (eq-eqb j.number j.number refl))
+    subst (λ (z : Chunk). chunk_among (frozen_chunks (j ∷ js)) z.number ≡ Some (frozen_chunk z)) e
+    (cond-true (j.number == j.number) (Some (frozen_chunk j)) (chunk_among (frozen_chunks js) j.number) (eq-eqb j.number j.number refl))
 found (j ∷ js) k D (inr i) =
-    cond-false (j.number == k.number) (Some (frozen_chunk j)) (chunk_of (frozen_chunks js) k.number)
-    (all_at (λ y. j.number == y ≡ false) (map (λ (z : Chunk). z.number) js) k.number D.0 (in_map (λ (z : Chunk). z.number) js k i)) ∙ found js k D.1 i
+    cond-false (j.number == k.number) (Some (frozen_chunk j)) (chunk_among (frozen_chunks js) k.number)
+    (each_in (λ (y : ℕ). j.number == y ≡ false) (map (λ (z : Chunk). z.number) js) k.number D.0 (in_map (λ (z : Chunk). z.number) js k i)) ∙ found js k D.1 i
 
-none_found : (ks : List Chunk) (n : ℕ) → ((k : Chunk) → In ks k → k.number ≡ n → ⊥) → chunk_of (frozen_chunks ks) n ≡ None
+none_found : (ks : List Chunk) (n : ℕ) → ((k : Chunk) → In ks k → k.number ≡ n → ⊥) → chunk_among (frozen_chunks ks) n ≡ None
 none_found [] n off = refl
 none_found (j ∷ js) n off =
-    cond-false (j.number == n) (Some (frozen_chunk j)) (chunk_of (frozen_chunks js) n) (false_from_ne_true (j.number == n) (λ e. off j (inl refl) (eqb-true j.number n e)))
+    cond-false (j.number == n) (Some (frozen_chunk j)) (chunk_among (frozen_chunks js) n) (false_from_ne_true (j.number == n) (λ e. off j (inl refl) (eqb-true j.number n e)))
     ∙ none_found js n (λ k i. off k (inr i))
 
 module _ (o : Located) where
@@ -82,7 +66,7 @@ module _ (o : Located) where
       by more false e =
           ap (λ z. seen_at z o.at) (cond-true (not p.mutable) (p ∷ kept ps) (kept ps) (ap not e))
           ∙ (cond-false (same_address p.at o.at) (Some p) (seen_at (kept ps) o.at) (false_from_ne_true (same_address p.at o.at) (λ h.
-          both_ways p.mutable e (ap (λ (q : Located). q.mutable) (once p (inl refl) (at_is o.at p h)) ∙ m))) ∙ more)
+          both_ways p.mutable e (ap (λ (q : Located). q.mutable) (once p (inl refl) (same_is p.at o.at h)) ∙ m))) ∙ more)
 
   one_seen : (os : List Located) → Once os → In os o → o.mutable ≡ false → seen_at (kept os) o.at ≡ Some o
   one_seen [] once i m = absurd i
@@ -97,9 +81,9 @@ module _ (o : Located) where
       by more false e = ap (λ z. seen_at z o.at) (cond-true (not p.mutable) (p ∷ kept ps) (kept ps) (ap not e)) ∙ here (same_address p.at o.at) refl
         where
           here : (b : Bool) → same_address p.at o.at ≡ b → cond (same_address p.at o.at) (Some p) (seen_at (kept ps) o.at) ≡ Some o
-          here true h = cond-true (same_address p.at o.at) (Some p) (seen_at (kept ps) o.at) h ∙ ap Some (once p (inl refl) (at_is o.at p h))
+          here true h = cond-true (same_address p.at o.at) (Some p) (seen_at (kept ps) o.at) h ∙ ap Some (once p (inl refl) (same_is p.at o.at h))
           here false h = cond-false (same_address p.at o.at) (Some p) (seen_at (kept ps) o.at) h ∙ elim i [
-            | inl f ↦ absurd (both_ways (same_address p.at o.at) h (is_at_it o.at p (ap (λ (q : Located). q.at) f)))
+            | inl f ↦ absurd (both_ways (same_address p.at o.at) h (is_same p.at o.at (ap (λ (q : Located). q.at) f)))
             | inr j ↦ more j
           ]
 
@@ -115,7 +99,7 @@ level_shows : (v : Memory) (l : Ledger) (t : ℕ) (o : Located) (below : List (L
 level_shows v l t o below H i =
     let c = in_chunk (v.belongings t).chunks o i in
     let at = H.inside c.0 o c.1 c.2 in
-    ap (λ z. seen_in z o.at (shown_at below o.at)) (ap (chunk_of (frozen_chunks (v.belongings t).chunks)) at ∙ found (v.belongings t).chunks c.0 H.laid.numbers c.1)
+    ap (λ z. seen_in z o.at (shown_at below o.at)) (ap (chunk_among (frozen_chunks (v.belongings t).chunks)) at ∙ found (v.belongings t).chunks c.0 H.laid.numbers c.1)
     ∙ as_kept o c.0.objects (λ p j e. H.once p o (in_objects (v.belongings t).chunks c.0 p c.1 j) i e) c.2
 
 -- and no object of another's
@@ -131,8 +115,7 @@ module _ (v v' : Memory) (l l' : Ledger) (t a b g h : ℕ) (x : Task) (V : Stand
     (same : (z : ℕ) → (z ≡ a → ⊥) → (z ≡ b → ⊥) → (v'.belongings z).view ≡ (v.belongings z).view) where
   -- an object of any task was there before, and its task is none of the children
   none_new : (z : ℕ) (o : Located) → (z ≡ a) ⊎ (z ≡ b) → In (objects v' z) o → ⊥
-  none_new z o (inl e) i = subst (λ (k : Belongings). In (objects_in k.chunks) o) (ap v'.belongings e ∙ C.left) i
-  none_new z o (inr e) i = subst (λ (k : Belongings). In (objects_in k.chunks) o) (ap v'.belongings e ∙ C.right) i
+  none_new = none_in v' a b (ap (λ (k : Belongings). k.chunks) C.left) (ap (λ (k : Belongings). k.chunks) C.right)
 
   was : (u : ℕ) (o : Located) → Rests l' u → In (objects v' u) o → Rests l u × In (objects v u) o
   was u o r i = elim (cases_eq u t) [
@@ -209,7 +192,7 @@ module _ (v v' : Memory) (l l' : Ledger) (t : ℕ) (a : Addr) (f : Located → L
     where
       by : (b : Bool) → same_address q.at a ≡ b → s ≡ as_shown (put_at a f q)
       by true h =
-          let m : q.mutable ≡ true = written u q i r (at_is a q h) in
+          let m : q.mutable ≡ true = written u q i r (same_is q.at a h) in
           e ∙ (cond-true q.mutable None (Some q) m ∙ sym (ap as_shown (cond-true (same_address q.at a) (f q) q h) ∙ cond-true (f q).mutable None (Some (f q)) (kind q ∙ m)))
       by false h = e ∙ sym (ap as_shown (cond-false (same_address q.at a) (f q) q h))
 

@@ -22,7 +22,7 @@ use Rattle.core_relation.specs.Reads.{TaskIsRead}
 use Rattle.ledger_step_laws.specs.Accounts.{own, Rests, ChangesHeap}
 use Rattle.core_relation.specs.Stands.{Place, BelongingsStand, IsSource, Stands}
 use Rattle.core_relation.specs.Changes.{KeepsJust}
-use Rattle.core_relation.proofs.changes.Same.{own_same, path_same, store_same, source_same}
+use Rattle.core_relation.proofs.changes.Same.{own_same, path_same, store_same, source_same, rests_before, worker_same}
 use Rattle.core_relation.proofs.objects.Carry.{object_kept, task_kept, same_holding}
 use Rattle.core_relation.proofs.objects.Members.{object_held, in_chunk}
 use Rattle.core_relation.proofs.changes.Alone.{belongings_own, belongings_kept}
@@ -64,15 +64,6 @@ module _ (v v' : Memory) (l l' : Ledger) (t : ℕ) (names : List Name) (S : Soun
   spares : Spares l.machine.tasks l.machine.store l.heaps t snapshot
   spares = subst (Spares l.machine.tasks l.machine.store l.heaps t) (snapshot_is (slice_get l.heaps t)) (S.waits t waits)
 
-  worker_same : (u : ℕ) → (heap_of l' u).worker ≡ (heap_of l u).worker
-  worker_same u = elim (cases_eq u t) [
-    | inl e ↦ ap (λ z. (heap_of l' z).worker) e ∙ (L.worker ∙ ap (λ z. (heap_of l z).worker) (sym e))
-    | inr ne ↦ ap (λ (h : Heap). h.worker) (L.others u ne)
-  ]
-
-  rest : (u : ℕ) → Rests l' u → Rests l u
-  rest u r = sym (worker_same u) ∙ r
-
   snapshot_same : (u : ℕ) → (heap_of l' u).snapshot ≡ (heap_of l u).snapshot
   snapshot_same u = elim (cases_eq u t) [
     | inl e ↦ ap (λ z. (heap_of l' z).snapshot) e ∙ (L.snapshot ∙ ap (λ z. (heap_of l z).snapshot) (sym e))
@@ -108,23 +99,23 @@ module _ (v v' : Memory) (l l' : Ledger) (t : ℕ) (names : List Name) (S : Soun
       chunk = C.owners a.chunk (own l n) ne p.chunk ∙ ap Some (sym (own_same l l' L.machine n));
       here = λ r.
           subst (λ u. Lies (v'.belongings u).chunks n a) (sym (own_same l l' L.machine n))
-          (subst (λ (h : Belongings). Lies h.chunks n a) (sym (C.others (own l n) ne)) (p.here (rest (own l n) (subst (Rests l') (own_same l l' L.machine n) r))));
+          (subst (λ (h : Belongings). Lies h.chunks n a) (sym (C.others (own l n) ne)) (p.here (rests_before l l' t L (own l n) (subst (Rests l') (own_same l l' L.machine n) r))));
     }
   ]
 
   belongings : (u : ℕ) → Rests l' u → BelongingsStand v' l' u
   belongings u r = elim (cases_eq u t) [
     | inl e ↦ subst (BelongingsStand v' l') (sym e) C.belongings
-    | inr ne ↦ belongings_kept v v' l l' u (C.others u ne) (λ k. C.owners k u ne) (L.others u ne) (ap (λ (m : State). length (row_of (slice_get m.store u))) L.machine) (ap (λ (m : State). is_joined (slice_get m.tasks u)) L.machine) (V.belongings u (rest u r))
+    | inr ne ↦ belongings_kept v v' l l' u (C.others u ne) (λ k. C.owners k u ne) (L.others u ne) (ap (λ (m : State). length (row_of (slice_get m.store u))) L.machine) (ap (λ (m : State). is_joined (slice_get m.tasks u)) L.machine) (V.belongings u (rests_before l l' t L u r))
   ]
 
   live_object : (u : ℕ) (o : Located) → Rests l' u → In (objects v' u) o → Live l t S snapshot spares (object_name o)
-  live_object u o r i e = let q = was u o i in q.1 (sym (belongings_own v l S u (V.belongings u (rest u r)) o q.0) ∙ e)
+  live_object u o r i e = let q = was u o i in q.1 (sym (belongings_own v l S u (V.belongings u (rests_before l l' t L u r)) o q.0) ∙ e)
 
   task : (u : ℕ) (x : Task) → Rests l' u → slice_get l'.machine.tasks u ≡ Some x → TaskIsRead (Place v' l') (v'.belongings u) x
   task u x r is =
       let is' : slice_get l.machine.tasks u ≡ Some x = sym (ap (λ (m : State). slice_get m.tasks u) L.machine) ∙ is in
-      let k : TaskIsRead (Place v' l') (v.belongings u) x = task_kept (Place v l) (Place v' l') (v.belongings u) x (λ n j a. place n a (live_task l t S snapshot spares u x n is' j)) (V.tasks u x (rest u r) is') in
+      let k : TaskIsRead (Place v' l') (v.belongings u) x = task_kept (Place v l) (Place v' l') (v.belongings u) x (λ n j a. place n a (live_task l t S snapshot spares u x n is' j)) (V.tasks u x (rests_before l l' t L u r) is') in
       elim (cases_eq u t) [
         | inl e ↦ same_holding (Place v' l') (v.belongings u) (v'.belongings u) x (ap (λ z. (v'.belongings z).frames) e ∙ (C.frames ∙ ap (λ z. (v.belongings z).frames) (sym e))) (ap (λ z. (v'.belongings z).result) e ∙ (C.result ∙ ap (λ z. (v.belongings z).result) (sym e))) k
         | inr ne ↦ subst (λ (h : Belongings). TaskIsRead (Place v' l') h x) (sym (C.others u ne)) k
@@ -133,7 +124,7 @@ module _ (v v' : Memory) (l l' : Ledger) (t : ℕ) (names : List Name) (S : Soun
   source : (u : ℕ) (s : Source) → In (sources v' u) s → IsSource v' l' u s
   source u s i =
       let k = V.sources u s (subst (λ ss. In ss s) (C.sources u) i) in
-      source_same l l' L.machine v v' u s k (place k.name s.object (λ o. subst (λ z. In (heap_of l z).snapshot k.name) o k.kept) k.place) (worker_same (own l k.name))
+      source_same l l' L.machine v v' u s k (place k.name s.object (λ o. subst (λ z. In (heap_of l z).snapshot k.name) o k.kept) k.place) (worker_same l l' t L (own l k.name))
       (subst (λ ns. In ns k.name) (sym (snapshot_same (own l k.name))) k.kept)
 
   view_same : (z : ℕ) → (v'.belongings z).view ≡ (v.belongings z).view
@@ -141,20 +132,20 @@ module _ (v v' : Memory) (l l' : Ledger) (t : ℕ) (names : List Name) (S : Soun
 
   pub swept : Stands v' l'
   swept = record {
-    gives = λ z u r j up ne w ru. gives_kept v v' u z (view_same z) (view_same u) (λ k o. C.owned k u o) (V.gives z u (rest z r) (sym (ap (λ (m : State). is_joined (slice_get m.tasks z)) L.machine) ∙ j) (sym (path_same l l' L.machine u z) ∙ up) ne (sym (ap (λ (m : State). is_waiting (slice_get m.tasks u)) L.machine) ∙ w) (rest u ru));
-    views = λ z r j. sweep_shown v v' l l' t snapshot V.views C view_same (λ u y. path_same l l' L.machine u y) rest z (rest z r) (sym (ap (λ (m : State). is_joined (slice_get m.tasks z)) L.machine) ∙ j);
+    gives = λ z u r j up ne w ru. gives_kept v v' u z (view_same z) (view_same u) (λ k o. C.owned k u o) (V.gives z u (rests_before l l' t L z r) (sym (ap (λ (m : State). is_joined (slice_get m.tasks z)) L.machine) ∙ j) (sym (path_same l l' L.machine u z) ∙ up) ne (sym (ap (λ (m : State). is_waiting (slice_get m.tasks u)) L.machine) ∙ w) (rests_before l l' t L u ru));
+    views = λ z r j. sweep_shown v v' l l' t snapshot V.views C view_same (λ u y. path_same l l' L.machine u y) (rests_before l l' t L) z (rests_before l l' t L z r) (sym (ap (λ (m : State). is_joined (slice_get m.tasks z)) L.machine) ∙ j);
     made = λ k u e. ap (λ (m : State). is_some (slice_get m.tasks u)) L.machine ∙ V.made k u (C.owned k u e);
     belongings = belongings;
     contents = λ u o r i.
         let w = was u o i in
-        let c = V.contents u o (rest u r) w.0 in (
+        let c = V.contents u o (rests_before l l' t L u r) w.0 in (
           c.0,
           store_same l l' L.machine (object_name o) ∙ c.1,
-          object_kept (Place v l) (Place v' l') o c.0 (λ n j a. place n a (live_ref l t S snapshot spares (object_name o) n c.0 c.1 (is_kept v l u (V.belongings u (rest u r)) o w.0) (live_object u o r i) j)) c.2,
+          object_kept (Place v l) (Place v' l') o c.0 (λ n j a. place n a (live_ref l t S snapshot spares (object_name o) n c.0 c.1 (is_kept v l u (V.belongings u (rests_before l l' t L u r)) o w.0) (live_object u o r i) j)) c.2,
         );
     tasks = task;
     remembered = λ u o x i n r j is at.
-        elim (V.remembered u o x i n (rest u r) (was u o j).0 (sym (store_same l l' L.machine (object_name o)) ∙ is) at) [
+        elim (V.remembered u o x i n (rests_before l l' t L u r) (was u o j).0 (sym (store_same l l' L.machine (object_name o)) ∙ is) at) [
           | inl h ↦ inl (ap (λ k. is_on_path l'.machine.tasks k u) (own_same l l' L.machine n) ∙ (path_same l l' L.machine (own l n) u ∙ h))
           | inr s ↦ inr (subst (λ k. In (sources v' k) (record { object = o.at; field = i })) (sym (own_same l l' L.machine n)) (subst (λ ss. In ss (record { object = o.at; field = i })) (sym (C.sources (own l n))) s))
         ];

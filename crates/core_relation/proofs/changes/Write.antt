@@ -25,11 +25,11 @@ use Rattle.core_relation.proofs.objects.Carry.{object_kept, task_kept, same_hold
 use Rattle.core_relation.proofs.objects.Members.{in_chunk}
 use Rattle.core_relation.proofs.objects.Mapped.{from_mapped, lies_mapped, belongings_mapped_by}
 use Rattle.core_relation.proofs.changes.Alone.{belongings_own}
-pub use Rattle.core_relation.proofs.changes.Shown.{at_is, is_at_it}
 use Rattle.core_relation.proofs.changes.Shown.{write_shown}
 use Rattle.core_relation.proofs.changes.Giving.{gives_kept}
 use Rattle.ledger_step_laws.proofs.Rested.{name_cases}
 use Rattle.object_layout.specs.Chunks.{same_address}
+use Rattle.object_layout.proofs.Distinct.{is_same, same_is}
 
 module _ (v v' : Memory) (l l' : Ledger) (t : ℕ) (n : Name) (a : Addr) (x x' : Object) (f : Located → Located) (S : SoundLedger l) (V : Stands v l)
     (L : WritesOne l l' t n x x') (C : WritesAt v v' t a f) (W : WritesWell v v' l l' t n a x x' f) where
@@ -100,8 +100,8 @@ module _ (v v' : Memory) (l l' : Ledger) (t : ℕ) (n : Name) (a : Addr) (x x' :
   cases u o r i = by (same_address o.at a) refl
     where
       by : (b : Bool) → same_address o.at a ≡ b → Cases o
-      by true e = let at : o.at ≡ a = at_is a o e in inl (written_is u o r i at, at, cond-true (same_address o.at a) (f o) o e)
-      by false e = inr ((λ g. both_ways (same_address o.at a) e (is_at_it a o (name_is u o r i g))), cond-false (same_address o.at a) (f o) o e)
+      by true e = let at : o.at ≡ a = same_is o.at a e in inl (written_is u o r i at, at, cond-true (same_address o.at a) (f o) o e)
+      by false e = inr ((λ g. both_ways (same_address o.at a) e (is_same o.at a (name_is u o r i g))), cond-false (same_address o.at a) (f o) o e)
 
   abbrev Content : Located → Type 0
   Content o = (y : Object) × (object_at l'.machine.store (object_name o) ≡ Some y) × IsRead (Place v' l') o y

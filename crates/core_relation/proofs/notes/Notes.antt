@@ -5,7 +5,7 @@ use Rattle.std.specs.List.{list_any}
 use Rattle.std.specs.Prelude.{◌&&◌, not}
 use Rattle.std.proofs.lemmas.Bool.{both_ways}
 use Rattle.std.proofs.lemmas.Option.{same_Some}
-use Rattle.std.proofs.lemmas.List.{append-nil}
+use Rattle.std.proofs.lemmas.List.{append-nil, length-map}
 use Rattle.object_layout.specs.declared.word.Addr.{Addr}
 use Rattle.object_layout.specs.Objects.{Located}
 use Rattle.hh_model.specs.declared.data.Name.{Name}
@@ -33,7 +33,7 @@ use Rattle.core_relation.specs.Since.{Since, Keeps, kept, NotedAt, SameNotes, No
 use Rattle.core_relation.specs.Changes.{Moves, ForksBelongings, WritesAt, StoresAt, with_field, with_number}
 use Rattle.task_frames.specs.FramesValue.{ref_of}
 use Rattle.ledger_step_laws.specs.Kinds.{ForksTask, StoresOne}
-use Rattle.core_relation.proofs.objects.Mapped.{count_mapped, from_mapped, length_map, to_mapped}
+use Rattle.core_relation.proofs.objects.Mapped.{count_mapped, from_mapped, to_mapped}
 use Rattle.core_relation.proofs.notes.MarksGoOn.{goes_on}
 use Rattle.core_relation.proofs.objects.Members.{object_held}
 use Rattle.core_relation.proofs.notes.Roots.{name_at}
@@ -130,7 +130,7 @@ moves_whole v v' l l' u t names f ne M =
     let e : v'.belongings t ≡ rewritten_belongings f (sources v u) (v.belongings t) = M.others t ne in
     record {
       count = ap (λ (h : Belongings). length (objects_in h.chunks)) e ∙ count_mapped (rewritten f (sources v u)) (λ o. refl) (λ o. refl) (v.belongings t).chunks;
-      chunks = ap (λ (h : Belongings). length h.chunks) e ∙ length_map (mapped_chunk (rewritten f (sources v u))) (v.belongings t).chunks;
+      chunks = ap (λ (h : Belongings). length h.chunks) e ∙ length-map (v.belongings t).chunks (mapped_chunk (rewritten f (sources v u)));
       there = λ o i. (rewritten f (sources v u) o, subst (λ (h : Belongings). In (objects_in h.chunks) (rewritten f (sources v u) o)) (sym e) (to_mapped (rewritten f (sources v u)) (λ o. refl) (λ o. refl) (v.belongings t).chunks o i), refl, refl);
       were = λ q i.
           let z = from_mapped (rewritten f (sources v u)) (λ o. refl) (λ o. refl) (v.belongings t).chunks q (subst (λ (h : Belongings). In (objects_in h.chunks) q) e i) in (
@@ -169,7 +169,7 @@ module _ (a : Addr) (i : ℕ) (k : ℤ) where
 pub numbers_whole : (v v' : Memory) (w : ℕ) (a : Addr) (i : ℕ) (k : ℤ) (t : ℕ) → WritesAt v v' w a (with_number i k) → StaysWhole v v' t
 numbers_whole v v' w a i k t C = record {
   count = ap (λ ks. length (objects_in ks)) (C.chunks t) ∙ count_mapped one (number_name a i k) (number_at a i k) (v.belongings t).chunks;
-  chunks = ap (λ (ks : List Chunk). length ks) (C.chunks t) ∙ length_map (mapped_chunk one) (v.belongings t).chunks;
+  chunks = ap (λ (ks : List Chunk). length ks) (C.chunks t) ∙ length-map (v.belongings t).chunks (mapped_chunk one);
   there = λ o j. (one o, subst (λ ks. In (objects_in ks) (one o)) (sym (C.chunks t)) (to_mapped one (number_name a i k) (number_at a i k) (v.belongings t).chunks o j), number_at a i k o, number_name a i k o);
   were = λ q j.
       let z = from_mapped one (number_name a i k) (number_at a i k) (v.belongings t).chunks q (subst (λ ks. In (objects_in ks) q) (C.chunks t) j) in (
@@ -281,7 +281,7 @@ module _ (v v' : Memory) (l l' : Ledger) (t : ℕ) (x : Task) (n : Name) (y : Ob
         ap object_name (sym o.2) ∙ one_name o.0,
         λ b c r. subst (λ (z : Located). In z.refs (Some b) ⊎ In (kept v' u) b) o.2 (write_stays v v' l u i a (ref_of f w) V (L.waits u wait) K o.0 b o.1 r c),
       ))
-      (λ k g. sym (C.writes.owner k) ∙ g) (ap (λ ks. length (objects_in ks)) (C.writes.chunks u) ∙ count_mapped one one_name one_at (v.belongings u).chunks) (ap (λ (ks : List Chunk). length ks) (C.writes.chunks u) ∙ length_map (mapped_chunk one) (v.belongings u).chunks)
+      (λ k g. sym (C.writes.owner k) ∙ g) (ap (λ ks. length (objects_in ks)) (C.writes.chunks u) ∙ count_mapped one one_name one_at (v.belongings u).chunks) (ap (λ (ks : List Chunk). length ks) (C.writes.chunks u) ∙ length-map (v.belongings u).chunks (mapped_chunk one))
       (λ b j.
       let q = H'.each b (subst (λ ks. In ks b) (sym K.grows) (in_append_right (kept v u) K.more b j)) in
       let o = back q.0 q.1 in (

@@ -16,15 +16,9 @@ use Rattle.ledger_step_laws.specs.Accounts.{own, Rests}
 use Rattle.core_relation.specs.Stands.{Stands}
 use Rattle.core_relation.specs.Begins.{IsRoot}
 use Rattle.core_relation.specs.Changes.{advanced}
-use Rattle.core_relation.proofs.objects.Members.{in_chunk}
+use Rattle.core_relation.proofs.objects.Members.{lies_in}
 
 -- THE TASK OF A ROOT
-
--- an object lies in a chunk of its task
-pub lies_in : (v : Memory) (l : Ledger) → Stands v l → (z : ℕ) (q : Located) → Rests l z → In (objects v z) q → v.owner q.at.chunk ≡ Some z
-lies_in v l V z q r i =
-    let k = in_chunk (v.belongings z).chunks q i in
-    ap v.owner ((V.belongings z r).inside k.0 q k.1 k.2) ∙ (V.belongings z r).owned k.0 k.1
 
 pub root_owner : (v : Memory) (l : Ledger) (V : Stands v l) (u : ℕ) (b : Addr) (r : IsRoot v l u b) → own l (V.sources u r.source r.noted).name ≡ r.task
 root_owner v l V u b r =

@@ -28,7 +28,7 @@ use Rattle.core_relation.specs.Reads.{AllRead, FramesAreRead, HoldsRead}
 use Rattle.ledger_step_laws.specs.Accounts.{own, Rests}
 use Rattle.core_relation.specs.Stands.{Place, Stands}
 use Rattle.core_relation.specs.Begins.{StartsAt, LeadsAt, IsReachedAt, AreRoots}
-use Rattle.core_relation.proofs.objects.Members.{object_held, held_object, in_chunk, from_flat}
+use Rattle.core_relation.proofs.objects.Members.{object_held, held_object, from_flat, lies_in}
 use Rattle.core_relation.proofs.changes.Alone.{belongings_own}
 use Rattle.core_relation.proofs.changes.Sweep.{refers, is_kept}
 use Rattle.ledger_step_laws.proofs.Tree.{own_live, leaf_alone}
@@ -95,13 +95,10 @@ module _ (v : Memory) (l : Ledger) (t : ℕ) (x : Task) (roots : List Addr) (S :
   registers_are : frames_of (slice_get l.machine.tasks t) ≡ x.top ∷ x.below
   registers_are = ap frames_of is
 
-  owned : (u : ℕ) (o : Located) → Rests l u → In (objects v u) o → v.owner o.at.chunk ≡ Some u
-  owned u o r i = let k = in_chunk (v.belongings u).chunks o i in ap v.owner ((V.belongings u r).inside k.0 o k.1 k.2) ∙ (V.belongings u r).owned k.0 k.1
-
   -- what lies at an address that stands for a name bears it
   bears : (u : ℕ) (o : Located) (n : Name) (a : Addr) → Rests l u → In (objects v u) o → o.at ≡ a → Place v l n a → (object_name o ≡ n) × (own l n ≡ u)
   bears u o n a r i e p =
-      let mine : own l n ≡ u = same_Some (own l n) u (sym p.chunk ∙ (ap (λ (b : Addr). v.owner b.chunk) (sym e) ∙ owned u o r i)) in
+      let mine : own l n ≡ u = same_Some (own l n) u (sym p.chunk ∙ (ap (λ (b : Addr). v.owner b.chunk) (sym e) ∙ lies_in v l V u o r i)) in
       let q = p.here (subst (Rests l) (sym mine) r) in
       let same : o ≡ q.0 = (V.belongings u r).once o q.0 i (subst (λ z. In (objects v z) q.0) mine q.1) (e ∙ sym q.2.at) in
       (ap object_name same ∙ q.2.name, mine)
@@ -209,7 +206,7 @@ module _ (v : Memory) (l : Ledger) (t : ℕ) (x : Task) (roots : List Addr) (S :
               there = q.1;
               at = refl;
               holds = b.1 ∙ ap (λ (a : Addr). Some (Some a)) at;
-              into = owned t o rests i;
+              into = lies_in v l V t o rests i;
             })
           ]
 

@@ -22,10 +22,11 @@ use Rattle.core_relation.specs.Since.{Since, Keeps, kept}
 use Rattle.ledger_step_laws.specs.Kinds.{ForksTask}
 use Rattle.core_relation.specs.Changes.{ForksBelongings, WritesAt, with_field}
 use Rattle.core_relation.proofs.objects.Mapped.{from_mapped, to_mapped}
-use Rattle.core_relation.proofs.notes.Rooted.{in_advanced, lies_in, noted_by, root_apart, root_by, root_same}
+use Rattle.core_relation.proofs.notes.Rooted.{in_advanced, noted_by, root_apart, root_by, root_same}
 use Rattle.core_relation.proofs.notes.Roots.{reached_both}
-use Rattle.core_relation.proofs.changes.Write.{at_is}
+use Rattle.core_relation.proofs.objects.Members.{lies_in}
 use Rattle.object_layout.specs.Chunks.{same_address}
+use Rattle.object_layout.proofs.Distinct.{same_is}
 
 -- AT THE FORK
 pub since_fork : (v v' : Memory) (l l' : Ledger) (t a b g h : ℕ) (x : Task) (roots : List Addr) → SoundLedger l → Stands v l → x.status ≡ Running → Rests l t → ((u : ℕ) → is_waiting (slice_get l.machine.tasks u) ≡ true → Rests l u)
@@ -63,7 +64,7 @@ module _ (v v' : Memory) (l : Ledger) (t i : ℕ) (a : Addr) (value : Option Add
     where
       at : (r : ℕ) → slice_get q.refs r ≡ Some (Some b) → same_address q.at a ≡ true → In (slice_set q.refs i value) (Some b) ⊎ In (kept v' t) b
       at r e z = elim (cases_eq r i) [
-        | inl f ↦ inr (K.old t q b (ap (λ (y : Addr). v.owner y.chunk) (sym (at_is a q z)) ∙ lies_in v l V t q rests j) j (at_is a q z) (ap (slice_get q.refs) (sym f) ∙ e) o)
+        | inl f ↦ inr (K.old t q b (ap (λ (y : Addr). v.owner y.chunk) (sym (same_is q.at a z)) ∙ lies_in v l V t q rests j) j (same_is q.at a z) (ap (slice_get q.refs) (sym f) ∙ e) o)
         | inr ne ↦ inl (got_in (slice_set q.refs i value) r (Some b) (got_other q.refs i r value ne ∙ e))
       ]
 
@@ -122,7 +123,7 @@ module _ (v v' : Memory) (l l' : Ledger) (t w i : ℕ) (n : Name) (y y' : Object
       by false e = goes_on (ap (λ (s : Located). slice_get s.refs r.source.field) (cond-false (same_address r.object.at a) (with_field i value r.object) r.object e) ∙ r.holds)
       by true e = elim (cases_eq r.source.field i) [
         | inl f ↦
-            let at : r.object.at ≡ a = at_is a r.object e in
+            let at : r.object.at ≡ a = same_is r.object.at a e in
             inr (K.old r.task r.object b (ap (λ (y : Addr). v.owner y.chunk) (sym at) ∙ lies_in v l V r.task r.object r.rests r.there) r.there at (ap (slice_get r.object.refs) (sym f) ∙ r.holds) r.into)
         | inr ne ↦ goes_on (ap (λ (s : Located). slice_get s.refs r.source.field) (cond-true (same_address r.object.at a) (with_field i value r.object) r.object e) ∙ (got_other r.object.refs i r.source.field value ne ∙ r.holds))
       ]

@@ -2,18 +2,19 @@
 use Rattle.std.proofs.Common.{◌≡◌, ◌⊎◌, ◌&&◌, ◌==◌, ◌+◌, ◌*◌, ◌≤◌, ℕ, suc, Bool, true, false, cond, Option, List, [], ◌∷◌, ◌++◌, length, map, inl, inr, refl, ap, ap₂, sym, subst, ◌∙◌, ne_eqb}
 use Rattle.std.specs.List.{AllByRecursion, IsDistinct}
 use Rattle.listed.proofs.Members.{in_append_cases}
+use Rattle.listed.proofs.Places.{map_in}
 use Rattle.object_layout.specs.declared.word.Addr.{Addr}
 use Rattle.object_layout.specs.Objects.{Located}
 use Rattle.run_ledger.specs.Heaps.{units}
 use Rattle.remembered_set.specs.declared.remembered.Source.{Source}
 use Rattle.core_relation.specs.Memory.{Chunk, In, objects_in, mapped_chunk, rewritten, rewritten_refs}
 use Rattle.core_relation.specs.Layout.{words, AreApart, HoldsLarge, has_none, reserved_chunks, AreLaidOut}
-use Rattle.core_relation.proofs.objects.Members.{in_chunk, in_objects, map_in}
+use Rattle.core_relation.proofs.objects.Members.{in_chunk, in_objects}
 
-abbrev numbers : List Chunk → List ℕ
+abbrev pub numbers : List Chunk → List ℕ
 numbers ks = map (λ k. k.number) ks
 
-abbrev units_of : List Chunk → List ℕ
+abbrev pub units_of : List Chunk → List ℕ
 units_of ks = map (λ k. k.units) ks
 
 -- NO CHUNKS

@@ -1,6 +1,7 @@
 -- Belongings whose objects are changed, but for their names and addresses.
-use Rattle.std.proofs.Common.{suc, ◌≡◌, ℕ, Bool, true, false, not, cond, Some, List, [], ◌∷◌, ◌++◌, map, length, slice_get, refl, ap, ap₂, sym, subst, ◌∙◌}
-use Rattle.listed.proofs.Places.{in_map}
+use Rattle.std.proofs.Common.{◌≡◌, ℕ, Bool, true, false, not, cond, Some, List, [], ◌∷◌, ◌++◌, map, length, slice_get, refl, ap, ap₂, sym, subst, ◌∙◌}
+use Rattle.std.proofs.lemmas.List.{length-map, map-append}
+use Rattle.listed.proofs.Places.{in_map, map_in}
 use Rattle.object_layout.specs.declared.word.Addr.{Addr}
 use Rattle.object_layout.specs.Objects.{Located}
 use Rattle.hh_model.specs.declared.data.Name.{Name}
@@ -13,23 +14,14 @@ use Rattle.core_relation.specs.Memory.{Chunk, Belongings, Memory, In, object_nam
 use Rattle.core_relation.specs.Layout.{words, AreLaidOut}
 use Rattle.core_relation.specs.Stands.{names_of, small_chunks, large_chunks, HasNames, BelongingsStand}
 use Rattle.core_relation.proofs.objects.LaidOut.{laid_mapped}
-use Rattle.core_relation.proofs.objects.Members.{map_in}
-
-pub length_map : {A B : Type 0} (f : A → B) (xs : List A) → length (map f xs) ≡ length xs
-length_map f [] = refl
-length_map f (x ∷ xs) = ap suc (length_map f xs)
 
 module _ (one : Located → Located) (same_name : (o : Located) → object_name (one o) ≡ object_name o) (same_at : (o : Located) → (one o).at ≡ o.at) where
   abbrev chunk : Chunk → Chunk
   chunk k = mapped_chunk one k
 
-  map_append : (xs ys : List Located) → map one (xs ++ ys) ≡ map one xs ++ map one ys
-  map_append [] ys = refl
-  map_append (x ∷ xs) ys = ap (λ zs. one x ∷ zs) (map_append xs ys)
-
   pub objects_mapped : (ks : List Chunk) → objects_in (map chunk ks) ≡ map one (objects_in ks)
   objects_mapped [] = refl
-  objects_mapped (k ∷ ks) = ap (λ zs. map one k.objects ++ zs) (objects_mapped ks) ∙ sym (map_append k.objects (objects_in ks))
+  objects_mapped (k ∷ ks) = ap (λ zs. map one k.objects ++ zs) (objects_mapped ks) ∙ sym (map-append one k.objects (objects_in ks))
 
   names_same : (os : List Located) → map object_name (map one os) ≡ map object_name os
   names_same [] = refl
@@ -58,7 +50,7 @@ module _ (one : Located → Located) (same_name : (o : Located) → object_name 
   }
 
   pub count_mapped : (ks : List Chunk) → length (objects_in (map chunk ks)) ≡ length (objects_in ks)
-  count_mapped ks = ap (λ (os : List Located). length os) (objects_mapped ks) ∙ length_map one (objects_in ks)
+  count_mapped ks = ap (λ (os : List Located). length os) (objects_mapped ks) ∙ length-map (objects_in ks) one
 
   pub from_mapped : (ks : List Chunk) (o : Located) → In (objects_in (map chunk ks)) o → (q : Located) × In (objects_in ks) q × (one q ≡ o)
   from_mapped ks o i = map_in one (objects_in ks) o (subst (λ zs. In zs o) (objects_mapped ks) i)

@@ -1,5 +1,6 @@
 use Rattle.std.proofs.Common.{◌≡◌, ◌∙◌, ℕ, None, Option, ap, cond, eqb}
 use Rattle.std.specs.Option.{option_or}
+use Rattle.std.proofs.lemmas.Result.{on_ok_weaker}
 use Rattle.object_layout.specs.Piece.{PieceValue}
 use Rattle.chunk_rows.specs.View.{level_of, piece_in}
 use Rattle.chunk_rows.proofs.ViewLemmas as view
@@ -12,5 +13,5 @@ pub returns-in-Some : goal.returns-in-Some
 returns-in-Some c =
     let ks = c.args.chunks.now in
     let new = view.one_added ks c.args.base c.args.number c.in-Some.before.now c.index-chunks-base.result c.requires.base (c.in-Some.ensures.value ∙ c.requires.table c.args.number) c.index-chunks-base.is in
-    view.when_added c.add.result _ ((n : ℕ) → piece_in c.add.new.self n ≡ option_or (piece_in c.args.layer.now n) (cond (eqb c.args.number n) (piece_in (level_of ks) n) None))
+    on_ok_weaker {Q = (n : ℕ) → piece_in c.add.new.self n ≡ option_or (piece_in c.args.layer.now n) (cond (eqb c.args.number n) (piece_in (level_of ks) n) None)} c.add.result
     (λ adds n. adds n ∙ ap (λ (o : Option PieceValue). option_or (piece_in c.args.layer.now n) o) (new n)) c.add.ensures

@@ -4,7 +4,7 @@ use Rattle.object_layout.specs.Cell.{Cell, IsObject, moved_to}
 use Rattle.object_layout.specs.Place.{cell_at, cells_from}
 use Rattle.object_layout.specs.Objects.{located, objects_from}
 use Rattle.object_layout.proofs.PlaceLemmas.{born_name}
-use Rattle.heap_reading.specs.Image.{IsInWords, shown}
+use Rattle.heap_reading.specs.Image.{IsInWords, in_words}
 use Rattle.heap_reading.proofs.ObjectsRead.{born_from, objects_more, objects_same, unmoved_next, words_more, words_same}
 use Rattle.heap_reading.proofs.seen.seen_in.Goals as goal
 
@@ -27,13 +27,13 @@ loop-at-preserved-in_ok-push c =
     let step = c.next_at-next.ensures.next in
     let still : moved_to cell.mark ≡ None = All-head (λ (k : Cell). moved_to k.mark ≡ None) cell (cells_from cells next) (subst (All (λ (k : Cell). moved_to k.mark ≡ None)) rest c.loop-at.invariant.unmoved) in
     let b = born_name cell.mark (born_from cell.mark still (c.is_object_at.ensures.0 c.if-is_object_at.true)) in
-    let more : c.push.new.self ≡ c.loop-at.objects ++ shown (located number at b.0 cell) ∷ [] = c.in_ok-push.ensures.ok ∙ ap (λ z. c.loop-at.objects ++ z ∷ []) (c.in_ok-seen_at.ensures.object b.0 b.1) in
+    let more : c.push.new.self ≡ c.loop-at.objects ++ in_words (located number at b.0 cell) ∷ [] = c.in_ok-push.ensures.ok ∙ ap (λ z. c.loop-at.objects ++ z ∷ []) (c.in_ok-seen_at.ensures.object b.0 b.1) in
     let words : IsInWords (located number at b.0 cell) = record { refs = c.in_ok-seen_at.ensures.refs; ints = c.in_ok-seen_at.ensures.ints } in
     record {
       end = search rules;
       begins = search rules;
       unmoved = unmoved_next number at next cells cell rest step c.loop-at.invariant.unmoved;
-      objects = objects_more number at next cells cell rest step b.0 b.1 c.loop-at.objects c.push.new.self (map shown all) more c.loop-at.invariant.objects;
+      objects = objects_more number at next cells cell rest step b.0 b.1 c.loop-at.objects c.push.new.self (map in_words all) more c.loop-at.invariant.objects;
       words = words_more number at next cells cell rest step b.0 b.1 all words c.loop-at.invariant.words;
     }
 
@@ -53,6 +53,6 @@ loop-at-preserved c =
       end = search rules;
       begins = search rules;
       unmoved = unmoved_next number at next cells cell rest step c.loop-at.invariant.unmoved;
-      objects = objects_same number at next cells cell rest step still off c.loop-at.objects (map shown all) c.loop-at.invariant.objects;
+      objects = objects_same number at next cells cell rest step still off c.loop-at.objects (map in_words all) c.loop-at.invariant.objects;
       words = words_same number at next cells cell rest step still off all c.loop-at.invariant.words;
     }

@@ -3,7 +3,7 @@ use Rattle.object_layout.specs.Cell.{moved_to}
 use Rattle.object_layout.specs.Place.{IsCellAt, cells_from}
 use Rattle.object_layout.specs.Objects.{Located, objects_from}
 use Rattle.core_relation.specs.Memory.{In}
-use Rattle.heap_reading.specs.Image.{IsInWords, shown}
+use Rattle.heap_reading.specs.Image.{IsInWords, in_words}
 use Rattle.heap_reading.proofs.seen.seen_in.Given as goal
 
 abbrev pub invariant-loop-at : goal.invariant-loop-at
@@ -11,7 +11,7 @@ invariant-loop-at l = record {
   end : l.at ≤ l.used;
   begins : l.at < l.used → IsCellAt l.chunk.cells l.at;
   unmoved : All (λ c. moved_to c.mark ≡ None) (cells_from l.chunk.cells l.at);
-  objects : l.objects ++ map shown (objects_from l.chunk.number l.at (cells_from l.chunk.cells l.at)) ≡ map shown (objects_from l.chunk.number 0 l.chunk.cells);
+  objects : l.objects ++ map in_words (objects_from l.chunk.number l.at (cells_from l.chunk.cells l.at)) ≡ map in_words (objects_from l.chunk.number 0 l.chunk.cells);
   words : (o : Located) → In (objects_from l.chunk.number 0 l.chunk.cells) o → IsInWords o ⊎ In (objects_from l.chunk.number l.at (cells_from l.chunk.cells l.at)) o;
 }
 

@@ -1,10 +1,9 @@
 use Rattle.std.proofs.Common.{◌≡◌, ◌-◌, ◌<◌, ℕ, Some, false, length, slice_get, inl, inr, ap, sym, subst, arith, get_or, ◌∙◌}
 use Rattle.std.proofs.lemmas.Bool.{cases_eq}
-use Rattle.std.proofs.lemmas.Option.{same_Some}
+use Rattle.std.proofs.lemmas.Option.{same_Some, slice_get-get_or}
 use Rattle.shared_value.specs.SharedValue.{accounts}
 use Rattle.heap_marking.specs.declared.pace.Fork.{Fork}
 use Rattle.heap_marking.specs.Pace.{is_going}
-use Rattle.heap_marking.proofs.PaceOwes.{got_at}
 use Rattle.paced_tree.proofs.owing.last_going.Goals as goal
 
 pub loop-i-preserved : goal.loop-i-preserved
@@ -13,7 +12,7 @@ loop-i-preserved c = λ k f le e.
     elim (cases_eq k n) [
       | inl q ↦
           let lt : n < length c.args.forks.now = omega (arith, c.loop-i-test.true) in
-          let at : Some f ≡ Some (get_or c.args.forks.now n (record { task = 0; left = 0 })) = sym e ∙ (ap (slice_get c.args.forks.now) q ∙ got_at c.args.forks.now n (record { task = 0; left = 0 }) lt) in
+          let at : Some f ≡ Some (get_or c.args.forks.now n (record { task = 0; left = 0 })) = sym e ∙ (ap (slice_get c.args.forks.now) q ∙ slice_get-get_or c.args.forks.now n (record { task = 0; left = 0 }) lt) in
           subst (λ (g : Fork). is_going (accounts c.args.shared.now) g ≡ false) (sym (same_Some f (get_or c.args.forks.now n (record { task = 0; left = 0 })) at)) (sym c.is_going.ensures ∙ c.if-is_going.false)
       | inr ne ↦ c.loop-i.invariant k f (omega (arith, c.loop-i-test.true)) e
     ]

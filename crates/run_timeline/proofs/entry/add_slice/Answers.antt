@@ -1,8 +1,9 @@
 use Rattle.std.proofs.Common.{◌++◌, ◌-◌, ◌*◌, ap, ◌∙◌}
 use Rattle.std.specs.Prelude.{codes}
 use Rattle.std.proofs.lemmas.Result.{on_ok_weaker}
+use Rattle.run_trace.specs.Line.{kind_name}
 use Rattle.run_timeline.specs.Events.{arguments, end_time}
-use Rattle.run_timeline.specs.Entries.{kind_name, numbers_of}
+use Rattle.run_timeline.specs.Entries.{numbers_of}
 use Rattle.run_timeline.specs.Pieces.{head}
 use Rattle.json_text.specs.Json.{Number, Member, more_member}
 use Rattle.run_timeline.proofs.Made.{timed_made, event_made}

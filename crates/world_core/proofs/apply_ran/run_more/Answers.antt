@@ -1,9 +1,10 @@
 use Rattle.std.proofs.Common.{arith, ◌+◌, ◌-◌, ◌≤◌, sym}
+use Rattle.std.proofs.lemmas.Result.{IfOk-at_ok}
 use Rattle.task_machine.specs.Run.{PausesBy}
 use Rattle.world_core.specs.Next.{IsNext}
 use Rattle.world_core.proofs.HoldingCauses.{on}
 use Rattle.world_core.proofs.LocalRuns.{few_more, fits_on, next_on}
-use Rattle.world_core.proofs.Entries.{if_ok, ok_is}
+use Rattle.world_core.proofs.Entries.{if_ok}
 use Rattle.world_core.proofs.apply_ran.run_more.Goals as goal
 
 pub returns-clause-fits : goal.returns-clause-fits
@@ -31,4 +32,4 @@ returns-clause-next c =
     (λ why is.
     next_on c.args.shared.now c.program.result.now (sym c.program.ensures) c.args.worker c.stands.ensures c.args.part.now c.run_local.new.part c.requires.fits
     (on c.args.shared.now c.args.worker c.stands.ensures c.requires.first) c.may_run.ensures c.requires.idle n c.run_local.ensures.runs c.run_local.ensures.accounts c.run_local.ensures.rest few why
-    (ok_is c.run_local.result (PausesBy c.program.result.now c.args.part.now n c.run_local.new.part) why is c.run_local.ensures.paused))
+    (IfOk-at_ok (PausesBy c.program.result.now c.args.part.now n c.run_local.new.part) is c.run_local.ensures.paused))

@@ -1,9 +1,9 @@
 use Rattle.std.proofs.Common.{None, Option, get_or, sym, ap, ◌∙◌}
+use Rattle.std.proofs.lemmas.List.Sums.{fold_more}
 use Rattle.object_layout.specs.declared.word.Addr.{Addr}
 use Rattle.leaf_copy_gc.specs.CollectorValue.{CollectorValue}
 use Rattle.leaf_copy_gc.specs.Search.{visited}
 use Rattle.leaf_copy_gc.proofs.FoundLemmas as founds
-use Rattle.leaf_copy_gc.proofs.ListLemmas as lists
 use Rattle.leaf_copy_gc.proofs.collector.Collector.visit_all.Goals as goal
 
 pub loop-reference-preserved : goal.loop-reference-preserved
@@ -11,6 +11,6 @@ loop-reference-preserved c =
     let s : CollectorValue = c.loop-reference.self in
     let r : Option Addr = get_or c.args.references.now c.loop-reference.reference-index None in
     record {
-      visited = c.visit.ensures ∙ (ap (λ (t : CollectorValue). visited t r) c.loop-reference.invariant.visited ∙ sym (lists.fold_read visited c.args.self.now c.args.references.now c.loop-reference.reference-index None c.loop-reference-test.true));
+      visited = c.visit.ensures ∙ (ap (λ (t : CollectorValue). visited t r) c.loop-reference.invariant.visited ∙ sym (fold_more visited c.args.self.now c.args.references.now c.loop-reference.reference-index None c.loop-reference-test.true));
       targets = founds.visited_all_targets s r c.visit.new.self.heap.chunks (ap (λ (t : CollectorValue). t.heap.chunks) c.visit.ensures) c.args.references.now c.loop-reference.invariant.targets;
     }

@@ -2,8 +2,9 @@ use Rattle.std.proofs.Common.{rules, ◌≡◌, [], ◌∷◌, ◌++◌, length,
 use Rattle.std.specs.Vec.Iter.{into_iter_items, into_iter_len}
 use Rattle.std.proofs.lemmas.Iterator.Consumers.{YieldsList-end}
 use Rattle.std.proofs.lemmas.Iterator.Adapters.{YieldsList-from_vec}
+use Rattle.std.proofs.lemmas.List.{map-id}
 use Rattle.steal_scheduler.specs.New.{EachPlace, StealFrom, AreTheftsOf, IsHandOf}
-use Rattle.steal_scheduler.proofs.Lists.{places_more, longer, map_same}
+use Rattle.steal_scheduler.proofs.Lists.{places_more, longer}
 use Rattle.steal_scheduler.proofs.Made.{hand_of, all_new}
 use Rattle.steal_scheduler.proofs.new.Deques.new.Goals as goal
 
@@ -18,6 +19,6 @@ loop-own-preserved c = let ss = c.in_ok-stealers.stealers.items in let h = c.new
 pub returns : goal.returns
 returns c = let ss = c.in_ok-stealers.stealers.items in let os = c.in_ok-owners.owners.items in let inv = c.loop-own.invariant in
     let came : into_iter_items c.into_iter-own-iterator.result ≡ os = search rules in let many : into_iter_len c.into_iter-own-iterator.result ≡ length os = search rules in
-    let all : c.loop-own.yielded ≡ os = sym (map_same c.loop-own.yielded) ∙ (YieldsList-end (YieldsList-from_vec os came many) c.loop-own.yielded c.loop-own.own-iterator c.loop-own.yielded_by c.next.result c.next.new.self c.in-None.is c.next.ensures.steps).0 in
+    let all : c.loop-own.yielded ≡ os = sym (map-id c.loop-own.yielded) ∙ (YieldsList-end (YieldsList-from_vec os came many) c.loop-own.yielded c.loop-own.own-iterator c.loop-own.yielded_by c.next.result c.next.new.self c.in-None.is c.next.ensures.steps).0 in
     let from : StealFrom ss os = subst (StealFrom ss) c.as_slice.ensures.value c.in_ok-stealers.ensures in
     all_new c.args.workers c.loop-own.hands.items os ss (inv.0 ∙ ap length all) c.in_ok-owners.ensures.0 from (subst (EachPlace (IsHandOf ss) c.loop-own.hands.items) all inv.1)
