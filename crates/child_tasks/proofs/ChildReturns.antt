@@ -145,7 +145,7 @@ module _ (w : SharedValue) (k : ℕ) (p : Private) (I : IsSharedValue w) (F : Fi
   parent_is = says.3
 
   abbrev pub kept_tree : TreeOf M.machine.tasks M.machine.edges
-  kept_tree = (last.knows_mid w k p I F shared free_last).sound.kept.tree
+  kept_tree = (last.knows_mid w k p I F shared free_last).sound.fork_join.tree
 
   pub par_mid : parents M.machine.tasks t ≡ Some parent
   par_mid = ap parent_of S.at.task ∙ parent_is

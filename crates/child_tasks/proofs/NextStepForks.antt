@@ -155,7 +155,7 @@ module _ (w : SharedValue) (k : ℕ) (p : Private) (I : IsSharedValue w) (F : Fi
   S = last.S w k p I F shared free_last
 
   low : AreLow (parents M.machine.tasks)
-  low = (last.knows_mid w k p I F shared free_last).sound.kept.tree.low
+  low = (last.knows_mid w k p I F shared free_last).sound.fork_join.tree.low
 
   deep : AreDeep M.machine.tasks
   deep = let r = G.reached in subst (λ (m : State). AreDeep m.tasks) (sym r.2) (run_deep w.program r.0 r.1)

@@ -98,8 +98,8 @@ module _ (p : ProgramText) (l : Ledger) (t : ℕ) (S : SoundAt t l) (can : can_s
 
   stepped_moves : Moves l k
   stepped_moves = record {
-    tree = subst (λ (m : State). TreeMoves l.machine.tasks m.tasks) (sym machine_is) (step_moves p l.machine t S.0.kept);
-    grows = λ u x at. let y = joins_grow p l.machine t u x S.0.kept at in (y.0, ap (λ (m : State). slice_get m.tasks u) machine_is ∙ y.1, y.2);
+    tree = subst (λ (m : State). TreeMoves l.machine.tasks m.tasks) (sym machine_is) (step_moves p l.machine t S.0.fork_join);
+    grows = λ u x at. let y = joins_grow p l.machine t u x S.0.fork_join at in (y.0, ap (λ (m : State). slice_get m.tasks u) machine_is ∙ y.1, y.2);
     heaps = λ u x at w at'. let e = heap_stays u x at w at' in subst (λ o. StaysTouched (heap_of l u) (or_fresh o)) (sym e) (λ h. h, λ h. h);
   }
 

@@ -157,7 +157,7 @@ module _ (w : SharedValue) (I : IsSharedValue w) (on : (accounts w).end ≡ None
   known = legal_sound w.program w.settings w.journal.items I.legal
 
   live_waits : (t c : ℕ) → lives_below l.machine.tasks t c ≡ true → IsForkOf l t (Some (record { task = t; left = c })) (slice_get l.machine.tasks t)
-  live_waits t c h = let q = child_tells l.machine.tasks t c h in fork_from l t c q.0 q.1 (known.kept.tree.waits c t q.0 q.1)
+  live_waits t c h = let q = child_tells l.machine.tasks t c h in fork_from l t c q.0 q.1 (known.fork_join.tree.waits c t q.0 q.1)
 
   has_live : (t : ℕ) → is_waiting (slice_get l.machine.tasks t) ≡ true → (c : ℕ) × (lives_below l.machine.tasks t c ≡ true)
   has_live t q =

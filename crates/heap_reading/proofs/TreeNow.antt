@@ -87,7 +87,7 @@ module _ (w : SharedValue) (I : IsSharedValue w) where
   sound = legal_sound w.program w.settings w.journal.items I.legal
 
   pub tree_of : TreeOf l.machine.tasks l.machine.edges
-  tree_of = sound.kept.tree
+  tree_of = sound.fork_join.tree
 
   pub owners : AreOwners (parents l.machine.tasks) (joined l.machine.tasks) (waiting l.machine.tasks)
   owners = owners_are_walks _ (parents l.machine.tasks) (joined l.machine.tasks) (waiting l.machine.tasks) (joins_in l.machine.tasks) l.machine.edges tree_of

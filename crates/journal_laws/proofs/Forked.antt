@@ -111,7 +111,7 @@ forks_set_down p l t S can w =
     let taken : task_step p l t ≡ k = cond-true (can_step l.machine t) k (record l { steps = l.steps + 1 }) can in
     let w1 : waiting k.machine.tasks t ≡ true = ap (λ (q : Ledger). waiting q.machine.tasks t) (sym taken) ∙ w in
     let w2 : waiting m'.tasks t ≡ true = ap (λ (m : State). waiting m.tasks t) (sym (stepped_machine (allocated_in p l t) t m')) ∙ w1 in
-    let F = forked p l.machine t S.0.kept can w2 in
+    let F = forked p l.machine t S.0.fork_join can w2 in
     let nothing : allocated_in p l t ≡ l = ap (allocated_by l t) F.0 in
     let c : Ledger = record l { machine = m'; steps = l.steps + 1 } in
     let forks : k ≡ at_fork c t = ap (λ b. stepped_to b t m') nothing ∙ forks_at p l l t S can w2 in

@@ -217,7 +217,7 @@ module _ (p : ProgramText) (t u : ℕ) (ne : t ≡ u → ⊥) where
       by true can w =
           let machine_is = stepped_machine (allocated_in p l u) u (step p l.machine u) in
           let off = (step_leaves p l u S can).4 t ne (inr w) in (
-            (waits_alone p l.machine u S.0.kept).others t ne (ap (λ (m : State). waiting m.tasks t) (sym machine_is) ∙ w),
+            (waits_alone p l.machine u S.0.fork_join).others t ne (ap (λ (m : State). waiting m.tasks t) (sym machine_is) ∙ w),
             ap (λ o. (or_fresh o).snapshot) off,
             λ n i j. subst (λ o. In (held_in (or_fresh o)) n) (sym off) j,
           )
@@ -288,7 +288,7 @@ pub forks_at : (p : ProgramText) (l b : Ledger) (t : ℕ) → SoundAt t l → ca
 forks_at p l b t S can w =
     let m' : State = step p l.machine t in
     let c : Ledger = record b { machine = m'; steps = b.steps + 1 } in
-    let none = (waits_alone p l.machine t S.0.kept).own can w in
+    let none = (waits_alone p l.machine t S.0.fork_join).own can w in
     let x = wait_task (slice_get m'.tasks t) w in
     ap (settled c t) none ∙ (ap (moved_to c t) x.1 ∙ ap (moved_on c t (x.0).parent) (waits_is (x.0).status x.2))
 

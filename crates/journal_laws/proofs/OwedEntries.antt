@@ -137,7 +137,7 @@ module _ (p : ProgramText) (l : Ledger) (t : ℕ) (S : SoundAt t l) (can : can_s
 
   past_step : (fork : Strand) (x : Task) → slice_get l.machine.tasks fork.task ≡ Some x → fork.joins < x.joins → Known k fork
   past_step fork x at lt =
-      let y = joins_grow p l.machine t fork.task x S.0.kept at in
+      let y = joins_grow p l.machine t fork.task x S.0.fork_join at in
       inl (subst (λ (m : State). Past m fork) (sym machine_is) (y.0, y.1, let le : x.joins ≤ y.0.joins = y.2 in omega arith))
 
   going_by : (fork : Strand) → (fork.task ≡ t → ⊥) → (g : Going l fork)
@@ -151,7 +151,7 @@ module _ (p : ProgramText) (l : Ledger) (t : ℕ) (S : SoundAt t l) (can : can_s
   known_step fork (inl past) = past_step fork past.0 past.1 past.2
   known_step fork (inr g) = elim (cases_eq fork.task t) [
     | inl e ↦ absurd (wait_run l.machine t (ap is_waiting (ap (slice_get l.machine.tasks) (sym e) ∙ g.1) ∙ g.3) (can_tells l.machine t can).1)
-    | inr ne ↦ going_by fork ne g (waiting_moves p l.machine t fork.task g.0 S.0.kept ne g.1 g.3)
+    | inr ne ↦ going_by fork ne g (waiting_moves p l.machine t fork.task g.0 S.0.fork_join ne g.1 g.3)
   ]
 
 known_task_step : (p : ProgramText) (l : Ledger) (t : ℕ) → SoundAt t l → (fork : Strand) → Known l fork → Known (task_step p l t) fork

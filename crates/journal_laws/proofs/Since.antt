@@ -67,7 +67,7 @@ module _ (p : ProgramText) (limit most : ℕ) (asks : AsksAtMost p limit most) w
 
     step_bounded : (task_step p l t).steps ≡ l.steps + 1 → k.steps ≡ l.steps + 1 → Bounded k
     step_bounded same e = (
-      ap (λ (m : State). m.field_limit) (stepped_machine b t (step p l.machine t)) ∙ (step_limit p l.machine t S.0.kept ∙ I.0),
+      ap (λ (m : State). m.field_limit) (stepped_machine b t (step p l.machine t)) ∙ (step_limit p l.machine t S.0.fork_join ∙ I.0),
       let a = moves_total since_in since_additive t l.machine.tasks b.heaps k.heaps (step_leaves p l t S can).2 in
           let c = asked_by (asked p l.machine t) refl in
           let d = I.1 in

@@ -28,7 +28,7 @@ module _ (p : ProgramText) (s : SettingsValue) (u : ℕ) where
       let e = task_step_machine p l u in (
         record {
           sound = S.0;
-          stored = subst (λ (m : State). Closed m.tasks m.store (IsStored m)) (sym e) (stored_step p l.machine u K.sound.kept K.rows K.stored);
+          stored = subst (λ (m : State). Closed m.tasks m.store (IsStored m)) (sym e) (stored_step p l.machine u K.sound.fork_join K.rows K.stored);
           rows = goes_rows l l u x K K (alike_self u l) is run p can h;
         },
         S.1,

@@ -143,8 +143,8 @@ module _ (l l' : Ledger) (u : ℕ) (x : Task) (K : Knows l) (K' : Knows l') (A :
     reads : (o : ℕ) (n : Name) (y : Object) (d at : ℕ) → ref_in x.top o ≡ Some n → own l n ≡ u → object_at m.store n ≡ Some y → Good (read_effect s x.top m.store d (option_flatten (slice_get y.refs at))) (read_effect s' x.top m'.store d (option_flatten (slice_get y.refs at)))
     reads o n y d at e mine there =
         let held : In (task_names x) n = names_run x n (runs_is x.status run) (in_registers (x.top ∷ x.below) x.top n (inl refl) (at_in x.top.refs o n e)) in
-        let R = (own_reads m K.sound.kept K.sound.apart K.stored u x at_u run n y held there mine).goes at d in
-        let R' = (own_reads m' K'.sound.kept K'.sound.apart K'.stored u x at_u' run n y held (A.store n mine ∙ there) (A.owned n mine)).goes at d in
+        let R = (own_reads m K.sound.fork_join K.sound.apart K.stored u x at_u run n y held there mine).goes at d in
+        let R' = (own_reads m' K'.sound.fork_join K'.sound.apart K'.stored u x at_u' run n y held (A.store n mine ∙ there) (A.owned n mine)).goes at d in
         subst (λ g. Good g (read_effect s' x.top m'.store d (option_flatten (slice_get y.refs at)))) (sym R) (subst (λ g. Good (Goes (onward (with_ref x.top d (option_flatten (slice_get y.refs at)))) m.store) g) (sym R') (same (onward (with_ref x.top d (option_flatten (slice_get y.refs at))))))
 
     mine : (r : Option Name) → owns m.tasks u r ≡ true → (n : Name) → r ≡ Some n → own l n ≡ u
@@ -164,8 +164,8 @@ module _ (l l' : Ledger) (u : ℕ) (x : Task) (K : Knows l) (K' : Knows l') (A :
         here : (o : Object) → object_at m.store q ≡ Some o → (b : Bool) → precedes m.edges o.strand (strand_of u x) ≡ b → reads_to (cond b (Goes (onward (with_ref x.top d (Some q))) m.store) (Stops q))
         here o e false h = stopped q _
         here o e true h =
-            let up : is_on_path m.tasks (owner_of m.tasks q.task) u ≡ true = sym (seen m K.sound.kept u x q o at_u run e) ∙ h in
-            let up' : precedes m'.edges there.0.strand (strand_of u x) ≡ true = seen m' K'.sound.kept u x q there.0 at_u' run there.1 ∙ A.above q up in
+            let up : is_on_path m.tasks (owner_of m.tasks q.task) u ≡ true = sym (seen m K.sound.fork_join u x q o at_u run e) ∙ h in
+            let up' : precedes m'.edges there.0.strand (strand_of u x) ≡ true = seen m' K'.sound.fork_join u x q there.0 at_u' run there.1 ∙ A.above q up in
             let R : read_effect s' x.top m'.store d (Some q) ≡ Goes (onward (with_ref x.top d (Some q))) m'.store =
             ap (λ w. or_trap Nil w (λ z. cond (precedes m'.edges z.strand (strand_of u x)) (Goes (onward (with_ref x.top d (Some q))) m'.store) (Stops q))) there.1
             ∙ ap (λ b. cond b (Goes (onward (with_ref x.top d (Some q))) m'.store) (Stops q)) up' in

@@ -172,7 +172,7 @@ module _ (l : Ledger) (t : ℕ) (x : Task) (g h n : ℕ) (edges : List Edge) (is
     own_all : (k : ℕ) → owner_of all k ≡ owner_of tasks k
     own_all k = elim (cases_lt k a) [
       | inl lk ↦
-          ap (λ jd. owner_in (parents all) jd k) joined_same ∙ owner_same (parents tasks) (parents all) S.kept.tree.low a par_front (joined tasks) k k lk
+          ap (λ jd. owner_in (parents all) jd k) joined_same ∙ owner_same (parents tasks) (parents all) S.fork_join.tree.low a par_front (joined tasks) k k lk
       | inr ge ↦
           let none : joined tasks k ≡ false = ap is_joined (past k ge) in
           owner_here (parents all) (joined all) k k (ap (λ jd. jd k) joined_same ∙ none) ∙ sym (owner_here (parents tasks) (joined tasks) k k none)
@@ -180,7 +180,7 @@ module _ (l : Ledger) (t : ℕ) (x : Task) (g h n : ℕ) (edges : List Edge) (is
 
     path_all : (z u : ℕ) → (u ≡ a → ⊥) → (u ≡ a + 1 → ⊥) → is_on_path all z u ≡ is_on_path tasks z u
     path_all z u na nb = elim (cases_lt u a) [
-      | inl lu ↦ path_same (parents tasks) (parents all) S.kept.tree.low a par_front z u lu
+      | inl lu ↦ path_same (parents tasks) (parents all) S.fork_join.tree.low a par_front z u lu
       | inr ge ↦
           path_none (parents all) z u (ap parent_of (grown_past tasks t x y cl cr is u (omega arith)))
           ∙ sym (path_none (parents tasks) z u (ap parent_of (past u ge)))
@@ -282,10 +282,10 @@ module _ (l : Ledger) (p c n : ℕ) (xp xl xr : Task) (rl rr : ℤ × Option Nam
   k = join_heaps joined_then p c
 
   lt_p : p < c
-  lt_p = S.kept.tree.low c p (ap parent_of il ∙ pl)
+  lt_p = S.fork_join.tree.low c p (ap parent_of il ∙ pl)
 
   sib : parents old d ≡ Some p
-  sib = parr old l.machine.edges c p xl xr xp rl rr il ir ip pl left dl dr wl wr S.kept.tree
+  sib = parr old l.machine.edges c p xl xr xp rl rr il ir ip pl left dl dr wl wr S.fork_join.tree
 
   -- the heaps are changed one after the other
   abbrev k1 : Ledger
@@ -324,11 +324,11 @@ module _ (l : Ledger) (p c n : ℕ) (xp xl xr : Task) (rl rr : ℤ × Option Nam
   join_is = record {
     owners = λ a. subst (λ (m : State). ((owner_of m.tasks a ≡ p) × ((owner_of old a ≡ c) ⊎ (owner_of old a ≡ d))) ⊎ ((owner_of m.tasks a ≡ owner_of old a) × ((owner_of old a ≡ c → ⊥) × (owner_of old a ≡ d → ⊥)))) (sym machine_then) (
         subst (λ par. ((owner_in par (joined new) a ≡ p) × ((owner_of old a ≡ c) ⊎ (owner_of old a ≡ d))) ⊎ ((owner_in par (joined new) a ≡ owner_of old a) × ((owner_of old a ≡ c → ⊥) × (owner_of old a ≡ d → ⊥)))) (sym par_same)
-        (owner_joins (parents old) S.kept.tree.low (joined old) (joined new) c d p (ap parent_of il ∙ pl) sib (ap is_joined il ∙ dl) (ap is_joined ir ∙ dr)
+        (owner_joins (parents old) S.fork_join.tree.low (joined old) (joined new) c d p (ap parent_of il ∙ pl) sib (ap is_joined il ∙ dl) (ap is_joined ir ∙ dr)
         (ap is_joined (three_top old c p xl xr xp (joined_task xl) (joined_task xr) (resumed xp rl rr) il ir ip lt_p))
         (ap is_joined (three_left old c p xl xr xp (joined_task xl) (joined_task xr) (resumed xp rl rr) il ir ip lt_p))
         (ap is_joined (three_right old c p xl xr xp (joined_task xl) (joined_task xr) (resumed xp rl rr) il ir ip lt_p))
-        (drest old l.machine.edges c p xl xr xp rl rr il ir ip pl left dl dr wl wr S.kept.tree) a));
+        (drest old l.machine.edges c p xl xr xp rl rr il ir ip pl left dl dr wl wr S.fork_join.tree) a));
     paths = λ a u. ap (λ (m : State). is_on_path m.tasks a u) machine_then ∙ ap (λ par. path_in par a u) par_same;
     store = λ m. ap (λ (z : State). object_at z.store m) machine_then;
     rows = λ u. ap (λ (m : State). length (row_of (slice_get m.store u))) machine_then;

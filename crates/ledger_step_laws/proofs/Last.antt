@@ -455,7 +455,7 @@ module _ (p : ProgramText) (l : Ledger) (t : ℕ) (x : Task) (line : Line) (K : 
     fork_by true e h =
         let none = ap (words_asked m.field_limit x.top) il in
         let is : k ≡ at_fork (stepped_by l mf) t = then_ none mf e ∙ moves mf waiting_task going at_mf in
-        let kept : IsForkJoinState mf = subst IsForkJoinState e (step_is_fork_join_state p m t K.sound.kept) in
+        let kept : IsForkJoinState mf = subst IsForkJoinState e (step_is_fork_join_state p m t K.sound.fork_join) in
         let F : ForksTask l (at_fork (stepped_by l mf) t) t (length m.tasks) (length m.tasks + 1) g f x = fork_is l t x g f (l.steps + 1) new_edges I.task I.runs K.sound K.rows kept.tree.low in
         let names : within (stepped_by l mf) t ≡ within (rested l t) t = fork_names l t x g f (l.steps + 1) new_edges I.task I.runs K.sound K.rows kept.tree.low ∙ sym (within_rested l t t) in
         let r : (G : ForksTask (rested l t) k t (length m.tasks) (length m.tasks + 1) g f x) × (G.names ≡ within (rested l t) t) =
@@ -514,7 +514,7 @@ module _ (p : ProgramText) (l : Ledger) (t : ℕ) (x : Task) (line : Line) (K : 
       kj = join_heaps (stepped_by l mj) parent c
 
       low : parent < c
-      low = K.sound.kept.tree.low c parent (ap parent_of jl ∙ pl)
+      low = K.sound.fork_join.tree.low c parent (ap parent_of jl ∙ pl)
 
       J : JoinsTasks l kj parent c (c + 1) xp rl rr
       J = join_is l parent c (l.steps + 1) xp xl xr rl rr ip jl jr pl left dl dr wl wr K.sound
@@ -556,7 +556,7 @@ module _ (p : ProgramText) (l : Ledger) (t : ℕ) (x : Task) (line : Line) (K : 
           ∙ (view_step parent_of (slice_set m.tasks c (joined_task xl)) (c + 1) xr (joined_task xr) one refl u ∙ view_step parent_of m.tasks c xl (joined_task xl) jl refl u)
 
       wait_p : waits xp.status ≡ true
-      wait_p = ap is_waiting (sym ip) ∙ wp m.tasks m.edges c parent xl xr xp rl rr jl jr ip pl left dl dr wl wr K.sound.kept.tree
+      wait_p = ap is_waiting (sym ip) ∙ wp m.tasks m.edges c parent xl xr xp rl rr jl jr ip pl left dl dr wl wr K.sound.fork_join.tree
 
       at_rest : (u : ℕ) (y : Task) → slice_get m.tasks u ≡ Some y → (u ≡ t) ⊎ (runs y.status ≡ false) → Rests (rested l t) u
       at_rest u y is which = elim (cases_eq u t) [
@@ -577,7 +577,7 @@ module _ (p : ProgramText) (l : Ledger) (t : ℕ) (x : Task) (line : Line) (K : 
       can_join : (c ≡ t) ⊎ (runs xl.status ≡ false) → (c + 1 ≡ t) ⊎ (runs xr.status ≡ false) → CanJoin (rested l t) parent c (c + 1) xp
       can_join hl hr = record {
         left = ap (λ (w : State). parents w.tasks c) go ∙ (ap parent_of jl ∙ pl);
-        right = ap (λ (w : State). parents w.tasks (c + 1)) go ∙ parr m.tasks m.edges c parent xl xr xp rl rr jl jr ip pl left dl dr wl wr K.sound.kept.tree;
+        right = ap (λ (w : State). parents w.tasks (c + 1)) go ∙ parr m.tasks m.edges c parent xl xr xp rl rr jl jr ip pl left dl dr wl wr K.sound.fork_join.tree;
         two = λ e. omega (arith, e);
         waits = waits_is xp.status wait_p;
         left_idle = ap (λ (w : State). is_waiting (slice_get w.tasks c)) go ∙ (ap is_waiting jl ∙ wl);
@@ -622,20 +622,20 @@ module _ (p : ProgramText) (l : Ledger) (t : ℕ) (x : Task) (line : Line) (K : 
         let over = ended_tells z.status other ended in
         let jr : slice_get m.tasks (t + 1) ≡ Some z = ap (slice_get m.tasks) (sym sib) ∙ iz in
         join_case t xp x z result other ip I.task jr has side tells.0 over.0 tells.1 over.1 (inl refl) (joined_task x) e
-        (three_left m.tasks t parent x z xp (joined_task x) (joined_task z) _ I.task jr ip (K.sound.kept.tree.low t parent (ap parent_of I.task ∙ has))) has refl (cond-true (is_left t) t (t - 1) side)
+        (three_left m.tasks t parent x z xp (joined_task x) (joined_task z) _ I.task jr ip (K.sound.fork_join.tree.low t parent (ap parent_of I.task ∙ has))) has refl (cond-true (is_left t) t (t - 1) side)
         (inl refl) (inr (ended_stops z.status other ended)) (inl (refl, refl, ap result_at jr ∙ ended))
     sides xp z other ip iz ended false side e =
         let sib : sibling t ≡ t - 1 = cond-false (is_left t) (t + 1) (t - 1) side in
         let over = ended_tells z.status other ended in
         let par : parents m.tasks t ≡ Some parent = ap parent_of I.task ∙ has in
-        let lt : parent < t = K.sound.kept.tree.low t parent par in
+        let lt : parent < t = K.sound.fork_join.tree.low t parent par in
         let back : t - 1 + 1 ≡ t = omega arith in
         let even : t % 2 ≡ 1 → ⊥ = eqb-false (t % 2) 1 side in
         let odd : (t - 1) % 2 ≡ 1 = omega arith in
         let jl : slice_get m.tasks (t - 1) ≡ Some z = ap (slice_get m.tasks) (sym sib) ∙ iz in
         let jr : slice_get m.tasks (t - 1 + 1) ≡ Some x = ap (slice_get m.tasks) back ∙ I.task in
-        let pz : z.parent ≡ Some parent = ap parent_of (sym iz) ∙ K.sound.kept.tree.pairs t parent par in
-        let low' : parent < t - 1 = K.sound.kept.tree.low (t - 1) parent (ap parent_of jl ∙ pz) in
+        let pz : z.parent ≡ Some parent = ap parent_of (sym iz) ∙ K.sound.fork_join.tree.pairs t parent par in
+        let low' : parent < t - 1 = K.sound.fork_join.tree.low (t - 1) parent (ap parent_of jl ∙ pz) in
         join_case (t - 1) xp z x other result ip jl jr pz (eq-eqb ((t - 1) % 2) 1 odd) over.0 tells.0 over.1 tells.1 (inr (sym back)) (joined_task x) e
         (ap (slice_get (join_of m parent xp (t - 1) z x other result).tasks) (sym back) ∙ three_right m.tasks (t - 1) parent z x xp (joined_task z) (joined_task x) _ jl jr ip low') has refl (cond-false (is_left t) t (t - 1) side)
         (inr (ended_stops z.status other ended)) (inl back) (inr (sym back, refl, ap result_at jl ∙ ended))
@@ -643,7 +643,7 @@ module _ (p : ProgramText) (l : Ledger) (t : ℕ) (x : Task) (line : Line) (K : 
     ended_case : (o : Option (ℤ × Option Name)) → result_at (slice_get m.tasks (sibling t)) ≡ o → step p m t ≡ child_ended_by m t x parent (result_of x.top) o → Last
     ended_case None q e = end_case e
     ended_case (Some other) q e =
-        let xp = got parent (let lt : parent < t = K.sound.kept.tree.low t parent (ap parent_of I.task ∙ has) in let in_ : t < length m.tasks = got_within m.tasks t x I.task in omega (arith, lt, in_)) in
+        let xp = got parent (let lt : parent < t = K.sound.fork_join.tree.low t parent (ap parent_of I.task ∙ has) in let in_ : t < length m.tasks = got_within m.tasks t x I.task in omega (arith, lt, in_)) in
         by (slice_get m.tasks (sibling t)) refl xp.0 xp.1
       where
         by : (y : Option Task) → slice_get m.tasks (sibling t) ≡ y → (xp : Task) → slice_get m.tasks parent ≡ Some xp → Last

@@ -13,7 +13,7 @@ pub root_alone : (l : Ledger) → SoundLedger l → OneRoot l.machine.tasks → 
 root_alone l S R t u x y is runs none at runs_u =
     let zero_is : t ≡ 0 = R t x is none in
     let first : is_running (slice_get l.machine.tasks 0) ≡ true = ap (λ z. is_running (slice_get l.machine.tasks z)) (sym zero_is) ∙ (ap is_running is ∙ runs) in
-    (one_root l.machine S.kept R).alone u first (ap is_running at ∙ runs_u) ∙ sym zero_is
+    (one_root l.machine S.fork_join R).alone u first (ap is_running at ∙ runs_u) ∙ sym zero_is
 
 pub root_is_alone : RootIsAlone
 root_is_alone p limit ts l t u x y S m is runs none at runs_u =

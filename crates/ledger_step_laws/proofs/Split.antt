@@ -223,7 +223,7 @@ module _ (p : ProgramText) (s : SettingsValue) (journal : List EntryValue) (w t 
       }
     where
       limit : (m : State) → (step p lj.machine t).field_limit ≡ lj.machine.field_limit
-      limit m = step_cases p lj.machine t knows.sound.kept (λ m. m.field_limit ≡ lj.machine.field_limit) refl (λ x e i r h. refl) (λ x y store outs i r a b c d e f g h. refl) (λ x o e i r a b c. refl) (λ x g h i r a b. refl)
+      limit m = step_cases p lj.machine t knows.sound.fork_join (λ m. m.field_limit ≡ lj.machine.field_limit) refl (λ x e i r h. refl) (λ x y store outs i r a b c d e f g h. refl) (λ x o e i r a b c. refl) (λ x g h i r a b. refl)
           (λ o c xp xl xr rl rr a b d e f g h i j k' n q. refl)
 
   pub split_leaves : ((heap_of lj t).worker ≡ Some w) × (can_step lj.machine t ≡ true) × Knows lj × IdleRest lj

@@ -16,13 +16,13 @@ use Rattle.ledger_step_laws.specs.Accounts.{own}
 
 module _ (l : Ledger) (S : SoundLedger l) where
   pub own_live : (n : Name) → is_joined (slice_get l.machine.tasks (own l n)) ≡ false
-  own_live n = owner_not_joined (length l.machine.tasks) (parents l.machine.tasks) (joined l.machine.tasks) (waiting l.machine.tasks) (joins_in l.machine.tasks) l.machine.edges S.kept.tree n.task
+  own_live n = owner_not_joined (length l.machine.tasks) (parents l.machine.tasks) (joined l.machine.tasks) (waiting l.machine.tasks) (joins_in l.machine.tasks) l.machine.edges S.fork_join.tree n.task
 
   -- a task that doesn't wait stands above no other that is live
   pub leaf_alone : (t u : ℕ) → is_waiting (slice_get l.machine.tasks t) ≡ false → is_joined (slice_get l.machine.tasks u) ≡ false → is_on_path l.machine.tasks t u ≡ true → t ≡ u
   leaf_alone t u w live h = elim (cases_eq t u) [
     | inl e ↦ e
-    | inr ne ↦ absurd (both_ways (is_on_path l.machine.tasks t u) (not_above (length l.machine.tasks) (parents l.machine.tasks) (joined l.machine.tasks) (waiting l.machine.tasks) (joins_in l.machine.tasks) l.machine.edges S.kept.tree t u live ne w) h)
+    | inr ne ↦ absurd (both_ways (is_on_path l.machine.tasks t u) (not_above (length l.machine.tasks) (parents l.machine.tasks) (joined l.machine.tasks) (waiting l.machine.tasks) (joins_in l.machine.tasks) l.machine.edges S.fork_join.tree t u live ne w) h)
   ]
 
   -- who holds a name hasn't joined

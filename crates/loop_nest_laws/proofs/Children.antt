@@ -19,7 +19,7 @@ use Rattle.hh_model.proofs.Runs.{grown_at, grown_left, grown_right}
 use Rattle.hh_model.proofs.Taken.{step_taken}
 use Rattle.loop_nest_laws.specs.Frames.{Activation, StandsAt, Takes, HandsBack, left_frame, right_frame}
 use Rattle.loop_nest_laws.proofs.Moves.{Gives, Hands, kept, now, JoinsIn, stays, goes, calls, gives, forks, ends, resumes, joins}
-use Rattle.loop_nest_laws.proofs.Turns.{at, at_next, kept_at, move_at, MoveAt, turn_of, turn_runs, ended_over, hands_tells, OnTop, next_turn, takes_of, not_last, fetches}
+use Rattle.loop_nest_laws.proofs.Turns.{at, at_next, fork_join_at, move_at, MoveAt, turn_of, turn_runs, ended_over, hands_tells, OnTop, next_turn, takes_of, not_last, fetches}
 
 last_empty : (xs : List Frame) → last_of xs ≡ None → length xs ≡ 0
 last_empty [] e = refl
@@ -170,7 +170,7 @@ module _ (p : ProgramText) (limit : ℕ) (ts : List ℕ) (a : Activation) (bs : 
         -- the children that join are these
         same_left : (u : ℕ) (rl rr : ℤ × Option Name) (q : JoinsIn p (at p limit ts j) u a.task xw rl rr) → q.left ≡ l
         same_left u rl rr q =
-            let tree = (kept_at p limit ts j).tree in
+            let tree = (fork_join_at p limit ts j).tree in
             let tasks = (at p limit ts j).tasks in
             let par : parents tasks q.left ≡ Some a.task = ap parent_of q.il ∙ q.pl in
             let jd : joined tasks q.left ≡ false = ap is_joined q.il ∙ hands_tells p (at p limit ts j) u q.left q.xl rl q.gl in

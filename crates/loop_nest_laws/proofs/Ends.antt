@@ -21,7 +21,7 @@ use Rattle.hh_model.proofs.Runs.{three_left, three_right}
 use Rattle.hh_model.proofs.Taken.{step_taken}
 use Rattle.loop_nest_laws.specs.Frames.{Activation, Takes}
 use Rattle.loop_nest_laws.proofs.Moves.{stays, goes, calls, gives, forks, ends, resumes, joins}
-use Rattle.loop_nest_laws.proofs.Turns.{at, at_next, kept_at, move_at, MoveAt, turn_runs, ended_over, joins_waits, OnTop, next_turn, fetches, IsPlain}
+use Rattle.loop_nest_laws.proofs.Turns.{at, at_next, fork_join_at, move_at, MoveAt, turn_runs, ended_over, joins_waits, OnTop, next_turn, fetches, IsPlain}
 
 front_shorter : (fs : List Frame) (q : Frame) → last_of fs ≡ Some q → length (front_of fs) < length fs
 front_shorter [] q e = absurd cc
@@ -87,14 +87,14 @@ module _ (p : ProgramText) (limit : ℕ) (ts : List ℕ) where
     sides : (parent : ℕ) (xp z : Task) (other : ℤ × Option Name) → x.parent ≡ Some parent → slice_get m0.tasks parent ≡ Some xp → slice_get m0.tasks (sibling a.task) ≡ Some z
         → (b : Bool) → is_left a.task ≡ b → at p limit ts (suc k) ≡ cond b (join_of m0 parent xp a.task x z (result_of x.top) other) (join_of m0 parent xp (a.task - 1) z x other (result_of x.top)) → Gone
     sides parent xp z other pp ip iz true side e =
-        let tree = (kept_at p limit ts k).tree in
+        let tree = (fork_join_at p limit ts k).tree in
         let sib : sibling a.task ≡ a.task + 1 = cond-true (is_left a.task) (a.task + 1) (a.task - 1) side in
         let par : parents m0.tasks a.task ≡ Some parent = ap parent_of on.is ∙ pp in
         sleeps (joined_task x)
         (is_at _ (joined_task x) e (three_left m0.tasks a.task parent x z xp (joined_task x) (joined_task z) (resumed xp (result_of x.top) other) on.is (ap (slice_get m0.tasks) (sym sib) ∙ iz) ip (tree.low a.task parent par)))
         (refl, refl)
     sides parent xp z other pp ip iz false side e =
-        let tree = (kept_at p limit ts k).tree in
+        let tree = (fork_join_at p limit ts k).tree in
         let sib : sibling a.task ≡ a.task - 1 = cond-false (is_left a.task) (a.task + 1) (a.task - 1) side in
         let par : parents m0.tasks a.task ≡ Some parent = ap parent_of on.is ∙ pp in
         let lt : parent < a.task = tree.low a.task parent par in
@@ -113,7 +113,7 @@ module _ (p : ProgramText) (limit : ℕ) (ts : List ℕ) where
     by_kept : (parent : ℕ) → x.parent ≡ Some parent → (o : Option (ℤ × Option Name)) → result_at (slice_get m0.tasks (sibling a.task)) ≡ o → at p limit ts (suc k) ≡ child_ended_by m0 a.task x parent (result_of x.top) o → Gone
     by_kept parent pp None h e = sleeps (ended_task x (result_of x.top)) (is_at _ (ended_task x (result_of x.top)) e (got_same m0.tasks a.task x (ended_task x (result_of x.top)) on.is)) (refl, refl)
     by_kept parent pp (Some other) h e =
-        let tree = (kept_at p limit ts k).tree in
+        let tree = (fork_join_at p limit ts k).tree in
         let lt : parent < a.task = tree.low a.task parent (ap parent_of on.is ∙ pp) in
         let within : a.task < length m0.tasks = got_within m0.tasks a.task x on.is in
         let parent_is = got_some m0.tasks parent (omega arith) in

@@ -46,8 +46,8 @@ module _ (p : ProgramText) (limit : ℕ) (ts : List ℕ) where
   abbrev pub at : ℕ → State
   at i = after p limit ts i
 
-  pub kept_at : (i : ℕ) → IsForkJoinState (at i)
-  kept_at i = run_is_fork_join_state p (start p limit) (take i ts) (start_is_fork_join_state p limit)
+  pub fork_join_at : (i : ℕ) → IsForkJoinState (at i)
+  fork_join_at i = run_is_fork_join_state p (start p limit) (take i ts) (start_is_fork_join_state p limit)
 
   pub at_next : (i u : ℕ) → slice_get ts i ≡ Some u → at (suc i) ≡ step p (at i) u
   at_next i u e = run_next p (start p limit) ts i u e
@@ -61,7 +61,7 @@ module _ (p : ProgramText) (limit : ℕ) (ts : List ℕ) where
   move_by i t x is None e = (x, ap (λ (m : State). slice_get m.tasks t) (run_past p (start p limit) ts i e) ∙ is, inl refl)
   move_by i t x is (Some u) e =
       let next = at_next i u e in
-      let moved = step_moved p (at i) u (kept_at i) t x is in (
+      let moved = step_moved p (at i) u (fork_join_at i) t x is in (
         moved.0,
         ap (λ (m : State). slice_get m.tasks t) next ∙ moved.1,
         inr (u, e, subst (λ m. Moves p (at i) u m t x moved.0) (sym next) moved.2),
@@ -95,7 +95,7 @@ module _ (p : ProgramText) (limit : ℕ) (ts : List ℕ) where
   -- a task that a step resumes waited
   pub joins_waits : (i u t : ℕ) (x : Task) (rl rr : ℤ × Option Name) → slice_get (at i).tasks t ≡ Some x → JoinsIn p (at i) u t x rl rr → waits x.status ≡ true
   joins_waits i u t x rl rr is j =
-      let K = kept_at i in
+      let K = fork_join_at i in
       ap is_waiting (sym is)
       ∙ K.tree.waits j.left t (ap parent_of j.il ∙ j.pl) (ap (λ (o : Option Task). is_joined o) j.il ∙ hands_tells p (at i) u j.left j.xl rl j.gl)
 

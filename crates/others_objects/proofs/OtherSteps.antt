@@ -155,7 +155,7 @@ module _ (w : SharedValue) (k : ℕ) (p : Private) (I : IsSharedValue w) (F : Fi
       path_by b y y' h there h' on_path is_path = by on_path (same ∙ is_path)
         where
           same : precedes m.edges y'.strand (strand_of t X) ≡ tree_path w.tree (own L y) t
-          same = seen m (link.sound w k p I F on).kept t X y y' is running there ∙ ((link.alone w k p I F on).tree.paths (own L y) t ∙ sym (paths_same w I on (own L y) t))
+          same = seen m (link.sound w k p I F on).fork_join t X y y' is running there ∙ ((link.alone w k p I F on).tree.paths (own L y) t ∙ sym (paths_same w I on (own L y) t))
 
           effect_is : (b' : Bool) → precedes m.edges y'.strand (strand_of t X) ≡ b' → does (Getr d o j) ≡ cond b' (Goes (onward (with_ref top d (Some y))) m.store) (StopsBy y)
           effect_is b' z =

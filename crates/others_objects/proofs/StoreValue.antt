@@ -79,7 +79,7 @@ module _ (w : SharedValue) (k : ℕ) (p : Private) (I : IsSharedValue w) (F : Fi
   one_way : (a u : ℕ) → tree_path w.tree a u ≡ true → (a ≡ u → ⊥) → is_on_path L.machine.tasks u a ≡ false
   one_way a u path ne =
       false_from_ne_true (is_on_path L.machine.tasks u a) (λ back.
-      let low = (link.sound w k p I F on).kept.tree.low in
+      let low = (link.sound w k p I F on).fork_join.tree.low in
       let x : a ≤ u = path_le (parents L.machine.tasks) low u a u (sym (path_is a u) ∙ path) in
       let y : u ≤ a = path_le (parents L.machine.tasks) low a u a back in
       ne (omega (arith, x, y)))

@@ -80,7 +80,7 @@ module _ (w : SharedValue) (k : ℕ) (p : Private) (I : IsSharedValue w) (F : Fi
   says = (last.said w k p I F shared free Returns number T).1
 
   parent : S.task.parent ≡ None
-  parent = no_parent (λ u. parent_of (slice_get M.machine.tasks u)) (last.knows_mid w k p I F shared free).sound.kept.tree.low t root S.task.parent (ap parent_of S.at.task)
+  parent = no_parent (λ u. parent_of (slice_get M.machine.tasks u)) (last.knows_mid w k p I F shared free).sound.fork_join.tree.low t root S.task.parent (ap parent_of S.at.task)
 
   abbrev z : Task
   z = ended_task S.task (result_of S.task.top)

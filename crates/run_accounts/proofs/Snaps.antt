@@ -112,7 +112,7 @@ module _ (most : ℕ) (l : Ledger) (t : ℕ) (few : total (weight one_each) l.he
 
 pub sound_paired : (l : Ledger) → SoundLedger l → ArePaired l
 sound_paired l S t p e =
-    let T = S.kept.tree in
+    let T = S.fork_join.tree in
     let a = T.low t p e in
     let b = T.low (sibling t) p (T.pairs t p e) in
     let c = T.made t p e in

@@ -158,7 +158,7 @@ module _ (p : ProgramText) (s : SettingsValue) (l : Ledger) (t : ℕ) (S : Sound
 
   asked_same : (u w : ℕ) → (u ≡ t → ⊥) → asked p m u ≡ Some w → asked p m' u ≡ Some w
   asked_same u w ne e =
-      ap (asked_by p m') (step_others p m t u S.0.kept ne (asked_runs p m u w e)) ∙ (asked_limit p m m' (slice_get m.tasks u) (step_limit p m t S.0.kept) ∙ e)
+      ap (asked_by p m') (step_others p m t u S.0.fork_join ne (asked_runs p m u w e)) ∙ (asked_limit p m m' (slice_get m.tasks u) (step_limit p m t S.0.fork_join) ∙ e)
 
   small_same : (u : ℕ) (h : Heap) → slice_get l.heaps u ≡ Some h → (n : Name) → In (small_in h) n → words_at m' n ≡ words_at m n
   small_same u h e n i = words_same u h n e (in_append_left (small_in h) h.large n i)

@@ -51,7 +51,7 @@ left_step p l t u S ne run = by (can_step l.machine t) refl
     by : (v : Bool) → can_step l.machine t ≡ v → Left u l (cond v (stepped_to (allocated_in p l t) t (step p l.machine t)) (record l { steps = l.steps + 1 }))
     by false e = (same_owner l.machine u, refl)
     by true e = (
-      subst (λ m. LeavesOwner l.machine m u) (sym (stepped_machine (allocated_in p l t) t (step p l.machine t))) (leaves_owner p l.machine t S.0.kept S.0.apart u ne run),
+      subst (λ m. LeavesOwner l.machine m u) (sym (stepped_machine (allocated_in p l t) t (step p l.machine t))) (leaves_owner p l.machine t S.0.fork_join S.0.apart u ne run),
       (step_leaves p l t S e).4 u ne (inl run),
     )
 

@@ -183,7 +183,7 @@ module _ (p : ProgramText) (l : Ledger) (t : ℕ) (S : SoundAt t l) (I : MannedL
     ]
     | inr ne ↦
         let before : is_running (slice_get l.machine.tasks u) ≡ true = I.runs (sym (allocated_end l t (asked p l.machine t)) ∙ ends.1) u w (was u w q) in
-        ap (λ (m : State). is_running (slice_get m.tasks u)) machine_is ∙ (ap is_running (step_others p l.machine t u S.0.kept ne before) ∙ before)
+        ap (λ (m : State). is_running (slice_get m.tasks u)) machine_is ∙ (ap is_running (step_others p l.machine t u S.0.fork_join ne before) ∙ before)
   ]
     where
       ends : ((step p l.machine t).end ≡ None) × (b.end ≡ None)

@@ -73,7 +73,7 @@ module _ (l : Ledger) (S : SoundLedger l) (t : ℕ) (run : is_running (slice_get
   not_waiting = ap is_waiting it.1 ∙ (running_tells (it.0).status it.2).1
 
   not_above_t : (u : ℕ) → joined l.machine.tasks u ≡ false → (t ≡ u → ⊥) → is_on_path l.machine.tasks t u ≡ false
-  not_above_t u live ne = not_above (length l.machine.tasks) (parents l.machine.tasks) (joined l.machine.tasks) (waiting l.machine.tasks) _ l.machine.edges S.kept.tree t u live ne not_waiting
+  not_above_t u live ne = not_above (length l.machine.tasks) (parents l.machine.tasks) (joined l.machine.tasks) (waiting l.machine.tasks) _ l.machine.edges S.fork_join.tree t u live ne not_waiting
 
   regs : (u : ℕ) (z : Task) (r : Name) → slice_get l.machine.tasks u ≡ Some z → is_on_path l.machine.tasks t u ≡ true → In (task_names z) r → In (registers (frames_of (slice_get l.machine.tasks t))) r
   regs u z r e h i = elim (cases_eq u t) [
@@ -88,7 +88,7 @@ module _ (l : Ledger) (S : SoundLedger l) (t : ℕ) (run : is_running (slice_get
   alone n k h = elim (cases_eq t (owner_of l.machine.tasks n.task)) [
     | inl same ↦ sym same
     | inr ne ↦ absurd (both_ways (is_on_path l.machine.tasks t (owner_of l.machine.tasks n.task))
-        (not_above_t (owner_of l.machine.tasks n.task) (owner_not_joined (length l.machine.tasks) (parents l.machine.tasks) (joined l.machine.tasks) (waiting l.machine.tasks) _ l.machine.edges S.kept.tree n.task) ne) h)
+        (not_above_t (owner_of l.machine.tasks n.task) (owner_not_joined (length l.machine.tasks) (parents l.machine.tasks) (joined l.machine.tasks) (waiting l.machine.tasks) _ l.machine.edges S.fork_join.tree n.task) ne) h)
   ]
 
   pub spares_now : Spares l.machine.tasks l.machine.store l.heaps t (within l t)
@@ -204,7 +204,7 @@ root_idle p limit (suc u) w = false≢true w
 
 pub opening_sound : (p : ProgramText) (s : SettingsValue) → SoundLedger (opening p s)
 opening_sound p s = record {
-  kept = start_is_fork_join_state p (field_limit s.version);
+  fork_join = start_is_fork_join_state p (field_limit s.version);
   apart = start_disentangled p (field_limit s.version);
   lengths = refl;
   owners = λ u n i. absurd (fresh_names u n i);

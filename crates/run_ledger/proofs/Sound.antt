@@ -121,7 +121,7 @@ module _ (tasks : List Task) (edges : List Edge) (store : List (List Object)) (h
 
     pub changed : (collecting (Some h') ≡ true → (is_running (slice_get tasks t) ≡ true) × Spares tasks store heaps' t h'.survivors) → (waiting tasks t ≡ true → Spares tasks store heaps' t h'.snapshot) → Sound tasks edges store heaps'
     changed col wai = record {
-      kept = S.kept;
+      fork_join = S.fork_join;
       apart = S.apart;
       lengths = length-set heaps t h' ∙ S.lengths;
       owners = λ u n i. S.owners u n (down u n i);

@@ -156,13 +156,13 @@ module _ (p : ProgramText) (l : Ledger) (S : SoundLedger l) (t : ℕ) (x : Task)
 
   all1 : Closed (step p m t).tasks (step p m t).store (Keeps b.heaps)
   all1 =
-      closed_step p m t S.kept (Keeps l.heaps) (Keeps b.heaps) (λ n k. (k.0, A.up k.0 n k.1))
+      closed_step p m t S.fork_join (Keeps l.heaps) (Keeps b.heaps) (λ n k. (k.0, A.up k.0 n k.1))
       (λ n k. elim (A.down k.0 n k.1) [ inl old ↦ inl (k.0, old) | inr new ↦ inr new.1 ])
       (λ e. (t, A.new e)) S.all
 
   spares1 : (u : ℕ) (ns : List Name) → (u ≡ t → ⊥) → Spares tasks l.machine.store l.heaps u ns → Spares (step p m t).tasks (step p m t).store b.heaps u ns
   spares1 u ns ne sp =
-      closed_step p m t S.kept (λ n. Keeps l.heaps n × (InHeaps l.heaps u n → In ns n)) (λ n. Keeps b.heaps n × (InHeaps b.heaps u n → In ns n))
+      closed_step p m t S.fork_join (λ n. Keeps l.heaps n × (InHeaps l.heaps u n → In ns n)) (λ n. Keeps b.heaps n × (InHeaps b.heaps u n → In ns n))
       (λ n kf. ((kf.0.0, A.up kf.0.0 n kf.0.1), λ i. kf.1 (old n i)))
       (λ n kf. elim (A.down kf.0.0 n kf.0.1) [ inl o ↦ inl ((kf.0.0, o), λ i. kf.1 (A.up u n i)) | inr new ↦ inr new.1 ])
       (λ e. ((t, A.new e), λ i. absurd (ne (sym (owners1 u next i).1 ∙ own_t)))) sp
@@ -192,7 +192,7 @@ module _ (p : ProgramText) (l : Ledger) (S : SoundLedger l) (t : ℕ) (x : Task)
       → ((u : ℕ) (ns : List Name) → (u ≡ t → ⊥) → Spares tasks l.machine.store l.heaps u ns → Spares m'.tasks m'.store b.heaps u ns)
       → Sound m'.tasks m'.edges m'.store b.heaps
   steady m' len own others idle_t K D C sp = record {
-    kept = K;
+    fork_join = K;
     apart = D;
     lengths = A.long ∙ (S.lengths ∙ sym len);
     owners = λ u n i. (let o = owners1 u n i in (subst (λ k. n.task < k) (sym len) o.0, own n.task ∙ o.1));
@@ -276,16 +276,16 @@ module _ (p : ProgramText) (l : Ledger) (S : SoundLedger l) (t : ℕ) (x : Task)
     own_all : (c : ℕ) → c < length tasks → owner_of all c ≡ owner_of tasks c
     own_all c lt =
         ap (λ f. owner_in (parents all) f c) (fun_ext (grown_view tasks t x y cl cr is is_joined (sym tells.0) refl refl))
-        ∙ owner_same (parents tasks) (parents all) S.kept.tree.low (length tasks) (λ u lu. grown_view_front tasks t x y cl cr is parent_of refl u lu) (joined tasks) c c lt
+        ∙ owner_same (parents tasks) (parents all) S.fork_join.tree.low (length tasks) (λ u lu. grown_view_front tasks t x y cl cr is parent_of refl u lu) (joined tasks) c c lt
 
     path_all : (c u : ℕ) → u < length tasks → is_on_path all c u ≡ is_on_path tasks c u
-    path_all c u lt = path_same (parents tasks) (parents all) S.kept.tree.low (length tasks) (λ v lv. grown_view_front tasks t x y cl cr is parent_of refl v lv) c u lt
+    path_all c u lt = path_same (parents tasks) (parents all) S.fork_join.tree.low (length tasks) (λ v lv. grown_view_front tasks t x y cl cr is parent_of refl v lv) c u lt
 
     owners_all : Owners all b.heaps
     owners_all u n i = let o = owners1 u n i in (omega (arith, grown_length tasks t x y cl cr is, o.0), own_all n.task o.0 ∙ o.1)
 
     not_above_t : (u : ℕ) → joined tasks u ≡ false → (t ≡ u → ⊥) → is_on_path tasks t u ≡ false
-    not_above_t u live ne = not_above (length tasks) (parents tasks) (joined tasks) (waiting tasks) _ l.machine.edges S.kept.tree t u live ne (ap is_waiting is ∙ tells.1)
+    not_above_t u live ne = not_above (length tasks) (parents tasks) (joined tasks) (waiting tasks) _ l.machine.edges S.fork_join.tree t u live ne (ap is_waiting is ∙ tells.1)
 
     frames_t : frames_of (slice_get all t) ≡ y.top ∷ y.below
     frames_t = ap frames_of (grown_at tasks t x y cl cr is)
@@ -318,12 +318,12 @@ module _ (p : ProgramText) (l : Ledger) (S : SoundLedger l) (t : ℕ) (x : Task)
     alone n kn h =
         let o = owners1 kn.0 n kn.1 in
         let e : owner_of all n.task ≡ owner_of tasks n.task = own_all n.task o.0 in
-        let le : owner_of tasks n.task ≤ n.task = owner_le (parents tasks) S.kept.tree.low (joined tasks) n.task n.task in
+        let le : owner_of tasks n.task ≤ n.task = owner_le (parents tasks) S.fork_join.tree.low (joined tasks) n.task n.task in
         let lt : owner_of tasks n.task < length tasks = omega (arith, o.0) in
         elim (cases_eq t (owner_of tasks n.task)) [
           | inl same ↦ e ∙ sym same
           | inr ne ↦ absurd (both_ways (is_on_path tasks t (owner_of tasks n.task))
-              (not_above_t (owner_of tasks n.task) (owner_not_joined (length tasks) (parents tasks) (joined tasks) (waiting tasks) _ l.machine.edges S.kept.tree n.task) ne)
+              (not_above_t (owner_of tasks n.task) (owner_not_joined (length tasks) (parents tasks) (joined tasks) (waiting tasks) _ l.machine.edges S.fork_join.tree n.task) ne)
               (sym (path_all t (owner_of tasks n.task) lt) ∙ (ap (λ w. is_on_path all t w) (sym e) ∙ h)))
         ]
 
@@ -376,12 +376,12 @@ module _ (p : ProgramText) (l : Ledger) (S : SoundLedger l) (t : ℕ) (x : Task)
     ]
 
     was_waiting : (u : ℕ) → (u ≡ t → ⊥) → waiting all u ≡ true → waiting tasks u ≡ true
-    was_waiting u ne w = sym (wrest_fork tasks l.machine.edges t x (onward x.top) x.top x.top g k is run S.kept.tree u ne) ∙ w
+    was_waiting u ne w = sym (wrest_fork tasks l.machine.edges t x (onward x.top) x.top x.top g k is run S.fork_join.tree u ne) ∙ w
 
     fork_sound : IsForkJoinStateIn all mf.edges mf.store → Disentangled all mf.store → Closed all mf.store (Keeps b.heaps)
         → ((u : ℕ) (ns : List Name) → (u ≡ t → ⊥) → Spares tasks l.machine.store l.heaps u ns → Spares all mf.store b.heaps u ns) → Sound all mf.edges mf.store heaps3
     fork_sound K D C sp = record {
-      kept = K;
+      fork_join = K;
       apart = D;
       lengths = length-set heaps2 t h3 ∙ (length-append b.heaps (fresh ∷ fresh ∷ []) ∙ (ap (λ q. q + 2) (A.long ∙ S.lengths) ∙ sym (grown_length tasks t x y cl cr is)));
       owners = λ u n i. owners_all u n (down3 u n i);
@@ -423,16 +423,16 @@ module _ (p : ProgramText) (l : Ledger) (S : SoundLedger l) (t : ℕ) (x : Task)
     aj = record b { machine = mj; steps = b.steps + 1 }
 
     under : parent < c
-    under = below tasks l.machine.edges c parent xl xr xp rl rr il ir ip pl left dl dr wl wr S.kept.tree
+    under = below tasks l.machine.edges c parent xl xr xp rl rr il ir ip pl left dl dr wl wr S.fork_join.tree
 
     up_l : parents tasks c ≡ Some parent
-    up_l = parl tasks l.machine.edges c parent xl xr xp rl rr il ir ip pl left dl dr wl wr S.kept.tree
+    up_l = parl tasks l.machine.edges c parent xl xr xp rl rr il ir ip pl left dl dr wl wr S.fork_join.tree
 
     up_r : parents tasks (c + 1) ≡ Some parent
-    up_r = parr tasks l.machine.edges c parent xl xr xp rl rr il ir ip pl left dl dr wl wr S.kept.tree
+    up_r = parr tasks l.machine.edges c parent xl xr xp rl rr il ir ip pl left dl dr wl wr S.fork_join.tree
 
     waits_p : waits xp.status ≡ true
-    waits_p = ap is_waiting (sym ip) ∙ wp tasks l.machine.edges c parent xl xr xp rl rr il ir ip pl left dl dr wl wr S.kept.tree
+    waits_p = ap is_waiting (sym ip) ∙ wp tasks l.machine.edges c parent xl xr xp rl rr il ir ip pl left dl dr wl wr S.fork_join.tree
 
     at_p : slice_get after parent ≡ Some (resumed xp rl rr)
     at_p = three_top tasks c parent xl xr xp (joined_task xl) (joined_task xr) (resumed xp rl rr) il ir ip under
@@ -447,18 +447,18 @@ module _ (p : ProgramText) (l : Ledger) (S : SoundLedger l) (t : ℕ) (x : Task)
     at_o u nl nr np = three_other tasks c parent xl xr xp (joined_task xl) (joined_task xr) (resumed xp rl rr) il ir ip under u nl nr np
 
     rest : (u : ℕ) → (u ≡ c → ⊥) → (u ≡ c + 1 → ⊥) → joined after u ≡ joined tasks u
-    rest = drest tasks l.machine.edges c parent xl xr xp rl rr il ir ip pl left dl dr wl wr S.kept.tree
+    rest = drest tasks l.machine.edges c parent xl xr xp rl rr il ir ip pl left dl dr wl wr S.fork_join.tree
 
     live_p : joined after parent ≡ false
     live_p = rest parent (λ e. let q : parent < c = under in omega arith) (λ e. let q : parent < c = under in omega arith)
-        ∙ (ap is_joined ip ∙ dp tasks l.machine.edges c parent xl xr xp rl rr il ir ip pl left dl dr wl wr S.kept.tree)
+        ∙ (ap is_joined ip ∙ dp tasks l.machine.edges c parent xl xr xp rl rr il ir ip pl left dl dr wl wr S.fork_join.tree)
 
     own_after : (a : ℕ) → owner_of after a ≡ owner_in (parents tasks) (joined after) a
     own_after a = ap (λ f. owner_in f (joined after) a) (fun_ext (three_view tasks c parent xl xr xp (joined_task xl) (joined_task xr) (resumed xp rl rr) il ir ip under parent_of refl refl refl))
 
     moves : (a : ℕ) → ((owner_of after a ≡ parent) × ((owner_of tasks a ≡ c) ⊎ (owner_of tasks a ≡ c + 1))) ⊎ ((owner_of after a ≡ owner_of tasks a) × ((owner_of tasks a ≡ c → ⊥) × (owner_of tasks a ≡ c + 1 → ⊥)))
     moves a =
-        elim (owner_joins (parents tasks) S.kept.tree.low (joined tasks) (joined after) c (c + 1) parent up_l up_r (ap is_joined il ∙ dl) (ap is_joined ir ∙ dr) live_p (ap is_joined at_l) (ap is_joined at_r) rest a) [
+        elim (owner_joins (parents tasks) S.fork_join.tree.low (joined tasks) (joined after) c (c + 1) parent up_l up_r (ap is_joined il ∙ dl) (ap is_joined ir ∙ dr) live_p (ap is_joined at_l) (ap is_joined at_r) rest a) [
           | inl k ↦ inl (own_after a ∙ k.0, k.1)
           | inr k ↦ inr (own_after a ∙ k.0, k.1)
         ]
@@ -665,7 +665,7 @@ module _ (p : ProgramText) (l : Ledger) (S : SoundLedger l) (t : ℕ) (x : Task)
     join_sound : IsForkJoinStateIn after mj.edges l.machine.store → Disentangled after l.machine.store → Closed after l.machine.store (Keeps b.heaps)
         → ((u : ℕ) (ns : List Name) → (u ≡ t → ⊥) → Spares tasks l.machine.store l.heaps u ns → Spares after l.machine.store b.heaps u ns) → Sound after mj.edges l.machine.store j4
     join_sound K D C sp = record {
-      kept = K;
+      fork_join = K;
       apart = D;
       lengths = length-set j3 (c + 1) (emptied hr) ∙ (length-set j2 c (emptied hl) ∙ (length-set b.heaps parent (merged hp hl hr) ∙ (A.long ∙ (S.lengths ∙ sym long_after))));
       owners = owners4;
@@ -705,7 +705,7 @@ module _ (p : ProgramText) (l : Ledger) (S : SoundLedger l) (t : ℕ) (x : Task)
         left = hl;
         right = hr;
         under = under;
-        waits = wp tasks l.machine.edges c parent xl xr xp rl rr il ir ip pl left dl dr wl wr S.kept.tree;
+        waits = wp tasks l.machine.edges c parent xl xr xp rl rr il ir ip pl left dl dr wl wr S.fork_join.tree;
         idle_parent = idle_heap parent xp hp ip e_p (inr stops_p);
         idle_left = idle_heap c xl hl il e_l (elim side [ inl s ↦ inl (sym s.0) | inr s ↦ inr s.3 ]);
         idle_right = idle_heap (c + 1) xr hr ir e_r (elim side [ inl s ↦ inr s.3 | inr s ↦ inl (sym s.0) ]);
@@ -731,7 +731,7 @@ module _ (p : ProgramText) (l : Ledger) (S : SoundLedger l) (t : ℕ) (x : Task)
   -- whatever the step is
   pub step_sound : Good (stepped_to b t (step p m t))
   step_sound =
-      step_cases p m t S.kept Owes
+      step_cases p m t S.fork_join Owes
       (λ K D C sp. runs_on m x going is (runs_is x.status run) (same_sound m refl K D C sp))
       (λ x' e is' run' why K D C sp. halts (ended_by m e) e refl (same_sound (ended_by m e) refl K D C sp))
       (λ x' y' store outs is' run' ep ed es ej names fields alters grows K D C sp.
@@ -752,7 +752,7 @@ module _ (p : ProgramText) (l : Ledger) (S : SoundLedger l) (t : ℕ) (x : Task)
         edges = l.machine.edges ++ edge (strand_of t w) (strand (length tasks) 0) ∷ edge (strand_of t w) (strand (length tasks + 1) 0) ∷ [];
       })) ex (fork_case g h (subst (λ (w : Task). (r : Name) → In w.top.refs (Some r) → In (task_names w) r) (sym ex) top)))
       (λ parent c xp xl xr rl rr ip il ir pl left dl dr wl wr nl nr side. join_case parent c xp xl xr rl rr ip il ir pl left dl dr wl wr side)
-      (step_is_fork_join_state p m t S.kept) (disentangled_step p m t S.kept S.apart) all1 spares1
+      (step_is_fork_join_state p m t S.fork_join) (disentangled_step p m t S.fork_join S.apart) all1 spares1
 
 pub goes_tells : (o : Option End) (b : Bool) → goes_on o b ≡ true → (o ≡ None) × (b ≡ true)
 goes_tells None b h = (refl, h)

@@ -161,7 +161,7 @@ module _ (p : ProgramText) (l : Ledger) (t : ℕ) (S : SoundAt t l) (I : Stocked
   heap = heap_of_task l t S.0 (can_tells m t can).1
 
   K : IsForkJoinState l.machine
-  K = S.0.kept
+  K = S.0.fork_join
 
   row : t < length l.machine.store
   row = let a : length l.machine.store ≡ length l.machine.tasks = I.counted.1.rows in let lt : t < length l.machine.tasks = can_made l.machine t can in omega arith

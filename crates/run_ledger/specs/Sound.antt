@@ -62,7 +62,7 @@ survivors_at (Some h) = h.survivors
 -- all that is reached is held; what the heap of a task that waits is used for is in its snapshot; and what the heap of a task
 -- amid a leaf collection is used for is among its survivors
 pub record Sound (tasks : List Task) (edges : List Edge) (store : List (List Object)) (heaps : List Heap) : Type 0 where
-  pub kept : IsForkJoinStateIn tasks edges store
+  pub fork_join : IsForkJoinStateIn tasks edges store
   pub apart : Disentangled tasks store
   pub lengths : length heaps ≡ length tasks
   pub owners : Owners tasks heaps

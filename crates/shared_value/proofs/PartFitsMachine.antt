@@ -448,9 +448,9 @@ module _ (w : SharedValue) (k : ℕ) (p : Private) (I : IsSharedValue w) (F : Fi
     ref_placed : q.mutable ≡ false → (k : Name) → In read.0.refs (Some k) → (b : Addr) → Place v' L k b → above k ≡ Some b
     ref_placed frozen k j b P =
         let up = ref_up frozen k j in
-        let on : is_on_path L.machine.tasks (own L k) t ≡ true = path_along (parents L.machine.tasks) sound.kept.tree.low (own L k) u t up above_now in
-        let over : own L k ≤ u = path_le (parents L.machine.tasks) sound.kept.tree.low u (own L k) u up in
-        let under : u ≤ t = path_le (parents L.machine.tasks) sound.kept.tree.low t u t above_now in
+        let on : is_on_path L.machine.tasks (own L k) t ≡ true = path_along (parents L.machine.tasks) sound.fork_join.tree.low (own L k) u t up above_now in
+        let over : own L k ≤ u = path_le (parents L.machine.tasks) sound.fork_join.tree.low u (own L k) u up in
+        let under : u ≤ t = path_le (parents L.machine.tasks) sound.fork_join.tree.low t u t above_now in
         let ne : own l k ≡ t → ⊥ = λ e. (let e' : own L k ≡ t = own_same k ∙ e in tells.0 (omega (arith, e', over, under))) in
         sym (place_off k ne) ∙ place_is k b on P
 

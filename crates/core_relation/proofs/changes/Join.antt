@@ -60,10 +60,10 @@ module _ (v v' : Memory) (l l' : Ledger) (p c d : ℕ) (x : Task) (rl rr : ℤ �
   IsOther z = (z ≡ p → ⊥) × (z ≡ c → ⊥) × (z ≡ d → ⊥)
 
   p_c : p ≡ c → ⊥
-  p_c e = let lt : p < c = S.kept.tree.low c p T.left in omega arith
+  p_c e = let lt : p < c = S.fork_join.tree.low c p T.left in omega arith
 
   p_d : p ≡ d → ⊥
-  p_d e = let lt : p < d = S.kept.tree.low d p T.right in omega arith
+  p_d e = let lt : p < d = S.fork_join.tree.low d p T.right in omega arith
 
   parent_waits : is_waiting (slice_get l.machine.tasks p) ≡ true
   parent_waits = ap is_waiting J.parent ∙ ap (λ s. is_waiting (Some (record x { status = s }))) T.waits
@@ -101,20 +101,20 @@ module _ (v v' : Memory) (l l' : Ledger) (p c d : ℕ) (x : Task) (rl rr : ℤ �
   -- PATHS
 
   on_itself : is_on_path l.machine.tasks p p ≡ true
-  on_itself = path_itself par S.kept.tree.low p
+  on_itself = path_itself par S.fork_join.tree.low p
 
   -- who stands above a child and isn't one stands above the parent
   over : (a z : ℕ) → IsChild z → (a ≡ z → ⊥) → is_on_path l.machine.tasks a z ≡ true → is_on_path l.machine.tasks a p ≡ true
-  over a z ch ne h = sym (path_child par S.kept.tree.low a z p (child_parent z ch) ∙ ap (λ b. b || is_on_path l.machine.tasks a p) (ne_eqb a z ne)) ∙ h
+  over a z ch ne h = sym (path_child par S.fork_join.tree.low a z p (child_parent z ch) ∙ ap (λ b. b || is_on_path l.machine.tasks a p) (ne_eqb a z ne)) ∙ h
 
   -- what a child stands above, the parent does
   under : (a z : ℕ) → IsChild a → is_on_path l.machine.tasks a z ≡ true → is_on_path l.machine.tasks p z ≡ true
-  under a z ch h = path_parent par S.kept.tree.low a p z (child_parent a ch) h
+  under a z ch h = path_parent par S.fork_join.tree.low a p z (child_parent a ch) h
 
   is_child : (e : ℕ) → par e ≡ Some p → is_joined (slice_get l.machine.tasks e) ≡ false → IsChild e
-  is_child e pe alive = elim (S.kept.tree.brothers c e p T.left pe T.left_live alive) [
+  is_child e pe alive = elim (S.fork_join.tree.brothers c e p T.left pe T.left_live alive) [
     | inl a ↦ inl a
-    | inr a ↦ elim (S.kept.tree.brothers c d p T.left T.right T.left_live T.right_live) [
+    | inr a ↦ elim (S.fork_join.tree.brothers c d p T.left T.right T.left_live T.right_live) [
       | inl b ↦ absurd (T.two (sym b))
       | inr b ↦ inr (a ∙ sym b)
     ]
@@ -122,10 +122,10 @@ module _ (v v' : Memory) (l l' : Ledger) (p c d : ℕ) (x : Task) (rl rr : ℤ �
 
   -- the parent stands above no other live task than its children
   only_children : (z : ℕ) → is_joined (slice_get l.machine.tasks z) ≡ false → is_on_path l.machine.tasks p z ≡ true → IsOther z → ⊥
-  only_children z live h o = elim (path_through par S.kept.tree.low z p z h) [
+  only_children z live h o = elim (path_through par S.fork_join.tree.low z p z h) [
     | inl e ↦ o.0 (sym e)
     | inr e ↦
-        let alive : is_joined (slice_get l.machine.tasks e.0) ≡ false = live_up (length l.machine.tasks) par (joined l.machine.tasks) (waiting l.machine.tasks) (joins_in l.machine.tasks) l.machine.edges S.kept.tree z e.0 z e.2 live in
+        let alive : is_joined (slice_get l.machine.tasks e.0) ≡ false = live_up (length l.machine.tasks) par (joined l.machine.tasks) (waiting l.machine.tasks) (joins_in l.machine.tasks) l.machine.edges S.fork_join.tree z e.0 z e.2 live in
         let child : IsChild e.0 = is_child e.0 e.1 alive in
         let same : e.0 ≡ z = leaf_alone l S e.0 z (child_idle e.0 child) live e.2 in
         elim child [ inl f ↦ o.1 (sym same ∙ f) | inr f ↦ o.2 (sym same ∙ f) ]

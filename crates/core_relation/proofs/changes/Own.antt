@@ -79,7 +79,7 @@ module _ (v v' : Memory) (l l' : Ledger) (t : ℕ) (S : SoundLedger l) (S' : Sou
         elim (S'.apart.of_object (object_name o) n (refers l'.machine.store (object_name o) n y is i)).2 [
           | inl h ↦
               let q : t ≡ own l' n = leaf_alone l' S' t (own l' n) idle' (own_live l' S' n) (ap (λ z. is_on_path l'.machine.tasks z (own l' n)) (sym e) ∙ h) in
-              ap (λ z. is_on_path l'.machine.tasks z t) (sym q) ∙ path_itself (parents l'.machine.tasks) S'.kept.tree.low t
+              ap (λ z. is_on_path l'.machine.tasks z t) (sym q) ∙ path_itself (parents l'.machine.tasks) S'.fork_join.tree.low t
           | inr h ↦ ap (is_on_path l'.machine.tasks (own l' n)) (sym e) ∙ h
         ]
 

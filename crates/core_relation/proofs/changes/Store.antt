@@ -35,13 +35,13 @@ use Rattle.core_relation.proofs.changes.Write.{written}
 -- owner stands above it and waits, and its sweep keeps the other
 module _ (l : Ledger) (S : SoundLedger l) (t : ℕ) (x : Task) (is : slice_get l.machine.tasks t ≡ Some x) (n r : Name) (holds_n : In (task_names x) n) (holds_r : In (task_names x) r) (off : is_on_path l.machine.tasks (own l r) (own l n) ≡ false) where
   pub above : is_on_path l.machine.tasks (own l n) (own l r) ≡ true
-  above = elim (on_one_path (parents l.machine.tasks) S.kept.tree.low (own l n) (own l r) t (S.apart.of_task t x n is holds_n).1 (S.apart.of_task t x r is holds_r).1) [
+  above = elim (on_one_path (parents l.machine.tasks) S.fork_join.tree.low (own l n) (own l r) t (S.apart.of_task t x n is holds_n).1 (S.apart.of_task t x r is holds_r).1) [
     | inl h ↦ h
     | inr h ↦ absurd (both_ways (is_on_path l.machine.tasks (own l r) (own l n)) off h)
   ]
 
   pub apart : own l n ≡ own l r → ⊥
-  apart e = both_ways (is_on_path l.machine.tasks (own l r) (own l n)) off (ap (is_on_path l.machine.tasks (own l r)) e ∙ path_itself (parents l.machine.tasks) S.kept.tree.low (own l r))
+  apart e = both_ways (is_on_path l.machine.tasks (own l r) (own l n)) off (ap (is_on_path l.machine.tasks (own l r)) e ∙ path_itself (parents l.machine.tasks) S.fork_join.tree.low (own l r))
 
   pub waits : is_waiting (slice_get l.machine.tasks (own l n)) ≡ true
   waits = by (is_waiting (slice_get l.machine.tasks (own l n))) refl
