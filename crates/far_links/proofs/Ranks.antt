@@ -46,27 +46,27 @@ exponent_below i j lt =
     ]
 
 -- the span of a far link of a rank: one less than a power of two
-pub rank_span : (n : ℕ) (par : ℕ → Option ℕ) (dep jmp : ℕ → ℕ) → AreLinked n par dep jmp → (rank t : ℕ) → HasRank par jmp rank t → dep t + 1 ≡ dep (jmp t) + 2 ^ suc rank
-rank_span n par dep jmp links zero t has =
-    let d : dep t ≡ dep (jmp t) + 1 = links.deeper t (jmp t) has in
+pub rank_span : (n : ℕ) (par : ℕ → Option ℕ) (dep far : ℕ → ℕ) → AreLinked n par dep far → (rank t : ℕ) → HasRank par far rank t → dep t + 1 ≡ dep (far t) + 2 ^ suc rank
+rank_span n par dep far links zero t has =
+    let d : dep t ≡ dep (far t) + 1 = links.deeper t (far t) has in
     omega arith
-rank_span n par dep jmp links (suc rank) t has =
+rank_span n par dep far links (suc rank) t has =
     let p = has.0 in
     let d : dep t ≡ dep p + 1 = links.deeper t p has.1 in
-    let a : dep p + 1 ≡ dep (jmp p) + 2 ^ suc rank = rank_span n par dep jmp links rank p has.2 in
-    let b : dep (jmp p) + 1 ≡ dep (jmp (jmp p)) + 2 ^ suc rank = rank_span n par dep jmp links rank (jmp p) has.3 in
-    let ends : dep (jmp t) ≡ dep (jmp (jmp p)) = ap dep has.4 in
+    let a : dep p + 1 ≡ dep (far p) + 2 ^ suc rank = rank_span n par dep far links rank p has.2 in
+    let b : dep (far p) + 1 ≡ dep (far (far p)) + 2 ^ suc rank = rank_span n par dep far links rank (far p) has.3 in
+    let ends : dep (far t) ≡ dep (far (far p)) = ap dep has.4 in
     let double : 2 ^ suc (suc rank) ≡ 2 ^ suc rank + 2 ^ suc rank = twice (suc rank) in
     omega arith
 
 -- far links of equal span are of one rank
-pub same_rank : (n : ℕ) (par : ℕ → Option ℕ) (dep jmp : ℕ → ℕ) → AreLinked n par dep jmp → (i j t u : ℕ) → HasRank par jmp i t → HasRank par jmp j u → span dep jmp t ≡ span dep jmp u → i ≡ j
-same_rank n par dep jmp links i j t u has_t has_u same =
-    let a : dep t + 1 ≡ dep (jmp t) + 2 ^ suc i = rank_span n par dep jmp links i t has_t in
-    let b : dep u + 1 ≡ dep (jmp u) + 2 ^ suc j = rank_span n par dep jmp links j u has_u in
+pub same_rank : (n : ℕ) (par : ℕ → Option ℕ) (dep far : ℕ → ℕ) → AreLinked n par dep far → (i j t u : ℕ) → HasRank par far i t → HasRank par far j u → span dep far t ≡ span dep far u → i ≡ j
+same_rank n par dep far links i j t u has_t has_u same =
+    let a : dep t + 1 ≡ dep (far t) + 2 ^ suc i = rank_span n par dep far links i t has_t in
+    let b : dep u + 1 ≡ dep (far u) + 2 ^ suc j = rank_span n par dep far links j u has_u in
     let p : 1 ≤ 2 ^ suc i = some_power (suc i) in
     let q : 1 ≤ 2 ^ suc j = some_power (suc j) in
-    let e : dep t - dep (jmp t) ≡ dep u - dep (jmp u) = same in
+    let e : dep t - dep (far t) ≡ dep u - dep (far u) = same in
     let le : suc i ≤ suc j = exponent_upto (suc i) (suc j) (omega arith) in
     let ge : suc j ≤ suc i = exponent_upto (suc j) (suc i) (omega arith) in
     omega arith
