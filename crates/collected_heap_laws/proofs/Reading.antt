@@ -15,7 +15,7 @@ use Rattle.object_layout.proofs.ChunkLaws as laws
 use Rattle.object_layout.proofs.Distinct.{once_from}
 use Rattle.listed.proofs.Members.{In, in_append_left, in_from_contains, in_kept}
 use Rattle.listed.proofs.Places.{map_in, read_in}
-use Rattle.alloc_path.specs.LeafHeapValue.{AreTidy, LeafHeapValue, IsReserved, IsSettled, IsTidy}
+use Rattle.alloc_path.specs.LeafHeapValue.{LeafHeapValue, IsReserved, IsSettled, IsTidy}
 use Rattle.leaf_copy_gc.specs.declared.lists.Survivor.{Survivor}
 use Rattle.leaf_copy_gc.specs.Survivors.{olds, old_of}
 use Rattle.leaf_copy_gc.specs.Exchanged.{reserved_of, unreserved}
@@ -190,9 +190,6 @@ unreserved_in ks (Some i) w k j n = elim (removed_or_at ks i k j) [
 
 module _ (h : LeafHeapValue) (from : List (Option Addr)) (ss : List Survivor) (news : List ChunkValue) (s : AreSurvivors h.chunks from ss) (t : CanTake h.chunks news)
     (settled : IsSettled h.chunks) (reserved : IsReserved h.chunks h.reserved) where
-  tidy : AreTidy h.chunks
-  tidy = settled.tidy
-
   pub all_once : Distinct (numbers h.chunks ++ numbers news)
   all_once = subst Distinct (nums.numbers_append h.chunks news) (nums.apart_distinct (h.chunks ++ news) (nums.apart_append h.chunks news settled.apart t.apart t.fresh))
 
@@ -233,7 +230,7 @@ module _ (h : LeafHeapValue) (from : List (Option Addr)) (ss : List Survivor) (n
             let born : IsBorn (cell_at k.cells a.offset).mark = subst (λ (c : Cell). IsBorn c.mark) there live in
             let begins : IsCellAt k.cells a.offset = place.cell_of_object k.cells a.offset (place.object_when_born k.cells a.offset born) in
             let above : 1024 < size_of (cell_of h.chunks a) = elim (cases_lt 1024 (size_of (cell_of h.chunks a))) [ inl b ↦ b | inr b ↦ absurd (false≢true (sym big ∙ le-leb (size_of (cell_of h.chunks a)) 1024 b)) ] in
-            let one = place.All-cell_at (λ (c : Cell). 1024 < size_of c → length k.cells ≡ 1) k.cells a.offset begins (read_in IsTidy h.chunks k j tidy).alone (subst (λ (c : Cell). 1024 < size_of c) there above) in
+            let one = place.All-cell_at (λ (c : Cell). 1024 < size_of c → length k.cells ≡ 1) k.cells a.offset begins (read_in IsTidy h.chunks k j settled.tidy).alone (subst (λ (c : Cell). 1024 < size_of c) there above) in
             let alone = rebuilt.one_cell k.cells one in
             let first : a ≡ first_of k = at_first k q alone born a.offset refl in
             let big' : nat_le (size_of (cell_at k.cells 0)) 1024 ≡ false = ap (λ (c : Cell). nat_le (size_of c) 1024) (sym (there ∙ ap (λ (o : ℕ). cell_at k.cells o) (ap (λ (x : Addr). x.offset) first))) ∙ big in
@@ -241,7 +238,7 @@ module _ (h : LeafHeapValue) (from : List (Option Addr)) (ss : List Survivor) (n
             let full : k.cells ≡ [] → ⊥ = λ e. let n = ap (λ (cs : List Cell). length cs) e in absurd (omega arith) in
             let stays = in_kept (keeps ss) (unreserved h.chunks h.reserved) k (unreserved_in h.chunks h.reserved reserved k j full) kept in
             let out = λ (z : In (numbers (laid_of h ss (reverse news))) a.chunk). laid_apart a.chunk z (object_number h.chunks a (laws.born_object h.chunks a live)) in
-            naming.goal_kept h.chunks ss f h.reserved (laid_of h ss (reverse news)) tidy once_h (once_from (olds ss) s.once) s.names laid_apart laid_once (within_at h.chunks h.reserved reserved) (none_at h.chunks h.reserved reserved) a out k stays q
+            naming.goal_kept h.chunks ss f h.reserved (laid_of h ss (reverse news)) settled.tidy once_h (once_from (olds ss) s.once) s.names laid_apart laid_once (within_at h.chunks h.reserved reserved) (none_at h.chunks h.reserved reserved) a out k stays q
             ∙ (led_cell_at f k.cells a.offset ∙ ap (led_cell f) (sym there))
           where
             at_first : (k : ChunkValue) → k.number ≡ a.chunk → k.cells ≡ cell_at k.cells 0 ∷ [] → IsBorn (cell_at k.cells a.offset).mark → (o : ℕ) → o ≡ a.offset → a ≡ first_of k

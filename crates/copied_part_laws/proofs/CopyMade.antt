@@ -26,7 +26,6 @@ use Rattle.leaf_copy_gc.specs.Survivors.{olds, outside}
 use Rattle.leaf_copy_gc.specs.Redirected.{led_chunk, new_address}
 use Rattle.leaf_copy_gc.specs.Exchanged.{reserved_of, unreserved}
 use Rattle.leaf_copy_gc.specs.Collected.{AreSurvivors, collected, keeps, large_of, laid_of}
-use Rattle.collected_heap_laws.specs.Laws.{TellsMoves}
 use Rattle.leaf_copy_gc.specs.Lists.{IsCollected}
 use Rattle.address_laws.proofs.Extent as extent
 use Rattle.collected_heap_laws.proofs.Telling.{moves_are_told}
@@ -182,11 +181,8 @@ module _ (p : ProgramText) (st : SettingsValue) (t : ℕ) (h : LeafHeapValue) (v
     abbrev N : LeafHeapValue
     N = with_places (collected h C.survivors (reverse news)) h'.slots h'.spare
 
-    told : TellsMoves h C.survivors news out.moved.items
-    told = moves_are_told h (outside s b.roots) C.survivors news out.moved.items C.are B.new C.moved
-
     f_is : new_address out.moved.items ≡ to
-    f_is = λ i x. ap (λ (o : Option Addr). unwrap_or o x) (told.same x) i
+    f_is = λ i x. ap (λ (o : Option Addr). unwrap_or o x) ((moves_are_told h (outside s b.roots) C.survivors news out.moved.items C.are B.new C.moved).same x) i
 
     came : (o' : Located) → In (objects_in (chunks_of (L ++ (K ++ R)))) o' → (o : Located) × In (objects_in (chunks_of h.chunks)) o × In a.survivors (object_name o) × (o' ≡ copied_object to o)
     came o' i =

@@ -14,7 +14,6 @@ use Rattle.object_layout.specs.Chunks.{held_words}
 use Rattle.ledger_step_laws.specs.Accounts.{aside, rested}
 use Rattle.ledger_step_laws.proofs.Rested.{rested_view, rested_worker}
 use Rattle.core_relation.specs.Fits.{with_belongings}
-use Rattle.core_relation.specs.Stands.{Stands}
 use Rattle.core_relation.specs.Memory.{Belongings, Memory}
 use Rattle.core_relation.proofs.changes.With.{at_belongings}
 use Rattle.task_machine.specs.declared.part.Private.{Private}
@@ -60,9 +59,6 @@ module _ (w : SharedValue) (k : ℕ) (p : Private) (F : Fits w k (record p { fre
   abbrev L : Ledger
   L = rested (aside l) t
 
-  W : Stands v' L
-  W = F.fits.part.fits.stands
-
   same_words : (ns : List Name) → words_sum L.machine ns ≡ words_sum l.machine ns
   same_words ns = ap (λ s. sum_by (λ n. words_of (object_at s n)) ns) (ap (λ (m : State). m.store) (heap_machine (aside l) t let_go))
 
@@ -72,4 +68,4 @@ module _ (w : SharedValue) (k : ℕ) (p : Private) (F : Fits w k (record p { fre
   pub part_words : words_in l.machine (heap_of l t) ≡ held_words p.heap.chunks
   part_words =
       sym (same_words (held_in (heap_of L t)) ∙ ap (words_sum l.machine) held_is)
-      ∙ words_are v' L t p.heap.chunks W (rested_worker (aside l) t) (ap (λ (z : Belongings). z.chunks) (at_belongings (value_of w) t h)) F.form.tidy
+      ∙ words_are v' L t p.heap.chunks F.fits.part.fits.stands (rested_worker (aside l) t) (ap (λ (z : Belongings). z.chunks) (at_belongings (value_of w) t h)) F.form.tidy

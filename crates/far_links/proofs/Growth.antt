@@ -219,12 +219,6 @@ module _ (n : ℕ) (par par' : ℕ → Option ℕ) (dep dep' far far' : ℕ → 
     up_second : ancestor par (dep first - dep second) first ≡ Some second
     up_second = let l : first ≤ t = first_low in links.far_up first (omega arith)
 
-    first_depth : dep t ≡ dep first + (dep t - dep first)
-    first_depth = (walk_depth n par dep far links (dep t - dep first) t first up_first).0
-
-    second_depth : dep first ≡ dep second + (dep first - dep second)
-    second_depth = (walk_depth n par dep far links (dep first - dep second) first second up_second).0
-
     -- the two places that the new far link may lead to
     record Lands (j : ℕ) : Type 0 where
       low : j ≤ t
@@ -240,8 +234,8 @@ module _ (n : ℕ) (par par' : ℕ → Option ℕ) (dep dep' far far' : ℕ → 
     lands_on true =
         let l = first_low in
         let m = second_low in
-        let d : dep t ≡ dep first + (dep t - dep first) = first_depth in
-        let f : dep first ≡ dep second + (dep first - dep second) = second_depth in
+        let d : dep t ≡ dep first + (dep t - dep first) = (walk_depth n par dep far links (dep t - dep first) t first up_first).0 in
+        let f : dep first ≡ dep second + (dep first - dep second) = (walk_depth n par dep far links (dep first - dep second) first second up_second).0 in
         let whole : dep t - dep second ≡ (dep t - dep first) + (dep first - dep second) = omega arith in
         record {
           low = omega (arith, l, m);

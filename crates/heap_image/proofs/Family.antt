@@ -34,11 +34,8 @@ module _ (p : Picture) (s : IsSoundPicture p) where
   abbrev es : Tasks
   es = task_table p.tasks
 
-  same_task : (t u : Task) → In p.tasks t → In p.tasks u → t.number ≡ u.number → t ≡ u
-  same_task t u a b e = same_item TaskBefore number_of earlier p.tasks s.tasks_rise t u a b e
-
   pub task_found : (t : Task) → In p.tasks t → found es t.number ≡ Some t
-  task_found t h = found_in number_of itself p.tasks t (λ u i e. same_task u t i h e) h
+  task_found t h = found_in number_of itself p.tasks t (λ u i e. same_item TaskBefore number_of earlier p.tasks s.tasks_rise u t i h e) h
 
   pub there : (t : ℕ) → HasTask p t → has es t ≡ true
   there t h = ap (has es) (sym h.2) ∙ ap is_some (task_found h.0 h.1)

@@ -13,11 +13,8 @@ use Rattle.image_check.proofs.Numbers.{as_option}
 
 -- PROPER WORDS
 
-numeral : (n : ℕ) → n < 2 ^ 64 → IsNumeral 10 (decimal n)
-numeral n lt = (decimal_is_IsNumeral n lt).0
-
 pub proper_decimal : (n : ℕ) → n < 2 ^ 64 → IsProper (decimal n)
-proper_decimal n lt = let h = numeral n lt in (h.0, digits_are_plain (decimal n) h.1)
+proper_decimal n lt = let h = (decimal_is_IsNumeral n lt).0 in (h.0, digits_are_plain (decimal n) h.1)
 
 pub short_is_long : (n : ℕ) → n < 2 ^ 32 → n < 2 ^ 64
 short_is_long n h = omega (arith, h)
@@ -42,7 +39,7 @@ no_hyphen [] h = refl
 no_hyphen (c ∷ cs) h = let e : (c == 45) ≡ false = no_minus c h.1.0 in rw e refl
 
 pub decimal_no_hyphen : (n : ℕ) → n < 2 ^ 32 → bytes_eq (decimal n) (codes "-") ≡ false
-decimal_no_hyphen n lt = no_hyphen (decimal n) (numeral n (short_is_long n lt))
+decimal_no_hyphen n lt = no_hyphen (decimal n) (decimal_is_IsNumeral n (short_is_long n lt)).0
 
 negative : (ds : List ℕ) (n : ℕ) → is_numeral ds ≡ true → digits_value 10 ds ≡ suc n → fits_i64 (negsuc n) ≡ true → signed_number (45 ∷ ds) ≡ Some (negsuc n)
 negative ds n f g h = rw (f, g) rw h refl

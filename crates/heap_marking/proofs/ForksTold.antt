@@ -16,7 +16,6 @@ use Rattle.run_ledger.specs.declared.data.Refused.TheVariants.{NotMarking, NotWa
 use Rattle.run_ledger.specs.Entries.{after, refused_unless}
 use Rattle.run_ledger.specs.Heaps.{heap_of, words_in}
 use Rattle.run_ledger.specs.Journals.{ledger_of, tasks_of}
-use Rattle.run_ledger.specs.Sound.{SoundLedger}
 use Rattle.run_ledger.proofs.Machine.{machine_is_run}
 use Rattle.run_ledger.proofs.Journals.{legal_sound}
 use Rattle.alloc_path.specs.LeafHeapValue.{counted}
@@ -153,11 +152,8 @@ module _ (w : SharedValue) (I : IsSharedValue w) (on : (accounts w).end ≡ None
   child_is : (t c : ℕ) → is_live_child w.tree t c ≡ lives_below l.machine.tasks t c
   child_is t c = ap₂ (λ o j. option_is o t && not j) (parent_is w I c) (joined_is c)
 
-  known : SoundLedger l
-  known = legal_sound w.program w.settings w.journal.items I.legal
-
   live_waits : (t c : ℕ) → lives_below l.machine.tasks t c ≡ true → IsForkOf l t (Some (record { task = t; left = c })) (slice_get l.machine.tasks t)
-  live_waits t c h = let q = child_tells l.machine.tasks t c h in fork_from l t c q.0 q.1 (known.fork_join.tree.waits c t q.0 q.1)
+  live_waits t c h = let q = child_tells l.machine.tasks t c h in fork_from l t c q.0 q.1 ((legal_sound w.program w.settings w.journal.items I.legal).fork_join.tree.waits c t q.0 q.1)
 
   has_live : (t : ℕ) → is_waiting (slice_get l.machine.tasks t) ≡ true → (c : ℕ) × (lives_below l.machine.tasks t c ≡ true)
   has_live t q =

@@ -8,7 +8,6 @@ use Rattle.hh_model.specs.Step.{is_waiting}
 use Rattle.path_laws.proofs.Leaves.{wait_there, waiting_stops}
 use Rattle.run_ledger.specs.declared.data.Ledger.{Ledger}
 use Rattle.run_ledger.specs.Heaps.{heap_of}
-use Rattle.run_ledger.specs.Sound.{SoundLedger}
 use Rattle.run_ledger.proofs.Journals.{legal_sound}
 use Rattle.object_layout.specs.declared.word.Addr.{Addr}
 use Rattle.object_layout.specs.Chunks.{cell_of, object_count}
@@ -53,9 +52,6 @@ module _ (w : SharedValue) (I : IsSharedValue w) (on : (accounts w).end ≡ None
 
   stands : StandsFor v (tree_counts_of w) l
   stands = stands_now w I on
-
-  sound : SoundLedger l
-  sound = legal_sound w.program w.settings w.journal.items I.legal
 
   pub rests : Rests l t
   rests = legal_idle w.program w.settings w.journal.items I.legal on t (waiting_stops (slice_get l.machine.tasks t) wait)
@@ -139,7 +135,7 @@ module _ (w : SharedValue) (I : IsSharedValue w) (on : (accounts w).end ≡ None
 
     pub snapshot_is : (o : Located) → In (objects v t) o → IsInSnapshot f (kept v t) o.at ↔ In (heap_of l t).snapshot (object_name o)
     snapshot_is o i =
-        let s = snapshot_now v l t task.0 sound stands.belongings task.1 wait rests (stands.since t keeps) o i in
+        let s = snapshot_now v l t task.0 (legal_sound w.program w.settings w.journal.items I.legal) stands.belongings task.1 wait rests (stands.since t keeps) o i in
         ((λ g. s.0 (to_now o.at g)), (λ n. from_now o.at (s.1 n)))
 
     -- what the marking has then

@@ -14,10 +14,9 @@ use Rattle.inner_mark_gc.specs.Snapshot.{Fork, IsSince}
 use Rattle.core_relation.specs.Marking.{MarkedBy}
 use Rattle.core_relation.specs.Since.{kept}
 use Rattle.core_relation.specs.Memory.{Memory}
-use Rattle.core_relation.specs.Whole.{StandsFor}
 use Rattle.task_homes.specs.declared.task_at_rest.Rest.{Rest}
 use Rattle.shared_value.specs.Causes.{or_else}
-use Rattle.shared_value.specs.SharedValue.{SharedValue, accounts, marks_at, rest_at, tree_counts_of, value_of}
+use Rattle.shared_value.specs.SharedValue.{SharedValue, accounts, marks_at, rest_at, value_of}
 use Rattle.shared_value.specs.Stands.{IsSharedValue}
 use Rattle.shared_value.proofs.BeforeTheEnd.{stands_now}
 use Rattle.heap_marking.specs.MarkCauses.{marking_cause, waiting_cause}
@@ -39,9 +38,6 @@ module _ (w : SharedValue) (I : IsSharedValue w) (on : (accounts w).end ≡ None
 
   abbrev v : Memory
   v = value_of w
-
-  S : StandsFor v (tree_counts_of w) l
-  S = stands_now w I on
 
   tells : (waiting_cause w t ≡ None) × (is_some (marks_at w.marks t) ≡ true)
   tells = or_none (waiting_cause w t) (is_some (marks_at w.marks t)) free
@@ -80,7 +76,7 @@ module _ (w : SharedValue) (I : IsSharedValue w) (on : (accounts w).end ≡ None
 
   module _ (r : Rest) (m : MarkingValue) (there : rest_at w.rests t ≡ Some r) (at : marks_at w.marks t ≡ Some m) where
     M : MarkedBy v l t (Some m)
-    M = subst (MarkedBy v l t) at (S.marks t keeps)
+    M = subst (MarkedBy v l t) at ((stands_now w I on).marks t keeps)
 
     pub further : Further w t r m
     further = marks_go_further w t r m I on there wait keeps M.1

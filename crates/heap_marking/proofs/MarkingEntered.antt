@@ -30,7 +30,6 @@ use Rattle.core_relation.specs.Since.{MarksOn, NotesStay, kept}
 use Rattle.core_relation.specs.Layout.{AreLaidOut}
 use Rattle.core_relation.specs.Stands.{HasNames, BelongingsStand}
 use Rattle.core_relation.proofs.changes.Alone.{belongings_kept}
-use Rattle.core_relation.specs.Whole.{StandsFor}
 use Rattle.core_relation.specs.Worker.{IsBy}
 use Rattle.core_entry_laws.proofs.whole.EntriesWhole.{quiet_stands_for}
 use Rattle.core_entry_laws.proofs.parts.WorkersPast.{quiet_leaves}
@@ -78,9 +77,6 @@ module _ (w : SharedValue) (e : EntryValue) (I : IsSharedValue w) (free : refuse
 
   module _ (machine : L.machine ≡ l.machine) (heap_t : heap_of L t ≡ record (heap_of l t) { marked = Some (length (marked_of m)) }) (heaps : (u : ℕ) → (u ≡ t → ⊥) → heap_of L u ≡ heap_of l u)
       (counts : CountsGo w.program w.settings l (tree_counts_of w) (tree_counts_of w') e.worker e.kind) (G : GoesOn v t (heap_of l t).snapshot m) where
-    S0 : StandsFor v (tree_counts_of w) l
-    S0 = stands_now w I (entry_on w e free)
-
     worker_same : (u : ℕ) → (heap_of L u).worker ≡ (heap_of l u).worker
     worker_same u = elim (cases_eq u t) [
       | inl q ↦ ap (λ z. (heap_of L z).worker) q ∙ (ap (λ (h : Heap). h.worker) heap_t ∙ ap (λ z. (heap_of l z).worker) (sym q))
@@ -89,7 +85,7 @@ module _ (w : SharedValue) (e : EntryValue) (I : IsSharedValue w) (free : refuse
 
     belongings_at : (u : ℕ) → Rests L u → BelongingsStand v' L u
     belongings_at u r =
-        let H : BelongingsStand v l u = S0.belongings.belongings u (sym (worker_same u) ∙ r) in
+        let H : BelongingsStand v l u = (stands_now w I (entry_on w e free)).belongings.belongings u (sym (worker_same u) ∙ r) in
         elim (cases_eq u t) [
           | inl q ↦ subst (BelongingsStand v' L) (sym q) (belongings_marked v v' l L t (Some (length (marked_of m))) refl (λ k o. o) machine heap_t (subst (BelongingsStand v l) q H))
           | inr ne ↦ belongings_kept v v' l L u refl (λ k o. o) (heaps u ne) (ap (λ (z : State). length (row_of (slice_get z.store u))) machine) (ap (λ (z : State). is_joined (slice_get z.tasks u)) machine) H

@@ -27,7 +27,7 @@ use Rattle.object_layout.specs.Objects.{Located}
 use Rattle.core_relation.specs.Memory.{Belongings, In, Memory, object_name, objects, objects_in}
 use Rattle.core_relation.specs.Whole.{StandsFor}
 use Rattle.core_entry_laws.proofs.notes.MarksAll.{marks_are_all}
-use Rattle.task_machine.specs.Accounts.{AreReserved, IsCounted}
+use Rattle.task_machine.specs.Accounts.{AreReserved}
 use Rattle.task_homes.specs.declared.task_at_rest.Rest.{Rest}
 use Rattle.task_homes.specs.declared.task_at_rest.Work.{Work}
 use Rattle.task_homes.specs.declared.task_at_rest.Work.TheVariants.{Calls, Result}
@@ -116,9 +116,6 @@ module _ (w : SharedValue) (I : IsSharedValue w) (on : (accounts w).end ≡ None
   pub since : Z.rest.heap.since ≡ a.since
   since = sym (since_there Z.rest) ∙ (ap (λ (h : Belongings). h.since) (sym here) ∙ H.since)
 
-  counted : IsCounted Z.rest.heap a
-  counted = counted_from Z.rest.heap a form names room since laid.reserved
-
   -- no chunk is reserved while the task waits
   pub nothing_reserved : a.reserved ≡ 0
   nothing_reserved = by a.reserved refl
@@ -128,7 +125,7 @@ module _ (w : SharedValue) (I : IsSharedValue w) (on : (accounts w).end ≡ None
       by (suc n) e = absurd (apart (slice_get l.machine.tasks t) ((chunks_are_used w.program w.settings w.journal.items I.legal).reserved t (omega (arith, e))).runs Z.wait)
 
   pub none : Z.rest.heap.reserved ≡ None
-  none = reserved_none Z.rest.heap form Z.rest.heap.reserved refl (subst (AreReserved Z.rest.heap.chunks Z.rest.heap.reserved) nothing_reserved counted.reserved)
+  none = reserved_none Z.rest.heap form Z.rest.heap.reserved refl (subst (AreReserved Z.rest.heap.chunks Z.rest.heap.reserved) nothing_reserved (counted_from Z.rest.heap a form names room since laid.reserved).reserved)
 
   pub large : HoldLarge Z.rest.heap.chunks
   large k i q = laid.large (chunk_of k) (in_map chunk_of Z.rest.heap.chunks k i) (ap not q)

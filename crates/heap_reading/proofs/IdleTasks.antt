@@ -76,9 +76,6 @@ module _ (p : ProgramText) (s : SettingsValue) (before : List EntryValue) (I : I
   l = ledger_of p s before
 
   module _ (on : l.end ≡ None) where
-    idle : IdleRest l
-    idle = legal_idle p s before legal on
-
     module _ (e : EntryValue) (free : refusal p s l e ≡ None) where
       same : ledger_of p s (before ++ e ∷ []) ≡ after p s l e
       same = accounts_then p s before e
@@ -93,7 +90,7 @@ module _ (p : ProgramText) (s : SettingsValue) (before : List EntryValue) (I : I
 
     chunk_idle : (w t : ℕ) → refusal p s l (record { worker = w; kind = Chunk t }) ≡ None → (full : Bool) → nat_lt s.chunks (in_use l + chunk_units (asked p l.machine t)) ≡ full → Idles (after p s l (record { worker = w; kind = Chunk t }))
     chunk_idle w t free true e =
-        subst Idles (sym (ap (λ b. cond b (record l { end = Some (Pool (in_use l)) }) (with_heap l t (with_chunk (asked p l.machine t)))) e)) (record { handed_back = λ u h. idle u h; done = λ q. absurd cc })
+        subst Idles (sym (ap (λ b. cond b (record l { end = Some (Pool (in_use l)) }) (with_heap l t (with_chunk (asked p l.machine t)))) e)) (record { handed_back = λ u h. legal_idle p s before legal on u h; done = λ q. absurd cc })
     chunk_idle w t free false e =
         going (record { worker = w; kind = Chunk t }) free (ap (λ b. (cond b (record l { end = Some (Pool (in_use l)) }) (with_heap l t (with_chunk (asked p l.machine t)))).end) e ∙ (heap_end l t (with_chunk (asked p l.machine t)) ∙ on))
 
@@ -149,7 +146,7 @@ module _ (p : ProgramText) (s : SettingsValue) (before : List EntryValue) (I : I
     entry_idle w (Mark t) free = going (record { worker = w; kind = Mark t }) free (heap_end l t _ ∙ on)
     entry_idle w (More t n) free = going (record { worker = w; kind = More t n }) free (heap_end l t _ ∙ on)
     entry_idle w (Sweep t n) free = going (record { worker = w; kind = Sweep t n }) free (heap_end l t _ ∙ on)
-    entry_idle w Fuel free = record { handed_back = λ u h. idle u h; done = λ q. absurd cc }
+    entry_idle w Fuel free = record { handed_back = λ u h. legal_idle p s before legal on u h; done = λ q. absurd cc }
 
 -- OF A JOURNAL: it is empty, or has a last entry
 last_of : {A : Type 0} (xs : List A) → (xs ≡ []) ⊎ ((ys : List A) × (y : A) × (xs ≡ ys ++ y ∷ []))

@@ -34,7 +34,7 @@ use Rattle.heap_tree.specs.Node.{Node}
 use Rattle.ledger_step_laws.specs.Accounts.{Rests, rested}
 use Rattle.ledger_step_laws.proofs.Ahead.{with_off}
 use Rattle.ledger_step_laws.proofs.Rested.{rested_view}
-use Rattle.core_relation.specs.Stands.{HasNames, Stands, large_chunks, names_of, small_chunks}
+use Rattle.core_relation.specs.Stands.{HasNames, large_chunks, names_of, small_chunks}
 use Rattle.core_relation.specs.Memory.{object_name, objects_in}
 use Rattle.core_relation.specs.Whole.{by_end, handed, state_by, as_node}
 use Rattle.task_homes.specs.declared.task_at_rest.Rest.{Rest}
@@ -136,14 +136,11 @@ module _ (w : SharedValue) (I : IsSharedValue w) (t : ℕ) where
     rests : Rests (handed l) t
     rests = journal_idle w.program w.settings w.journal.items I.form I.legal t idle
 
-    V : Stands (value_of w) (handed l)
-    V = I.stands.belongings
-
     kept_is : held_unless_running l t ≡ held_in (heap_of l t)
     kept_is = ap (λ b. cond b [] (held_in (heap_of l t))) idle
 
     names_are : (ks : List ChunkValue) → ((value_of w).belongings t).chunks ≡ chunks_of ks → HasNames (chunks_of ks) (heap_of (handed l) t)
-    names_are ks here = subst (λ cs. HasNames cs (heap_of (handed l) t)) here (V.belongings t rests).names
+    names_are ks here = subst (λ cs. HasNames cs (heap_of (handed l) t)) here (I.stands.belongings.belongings t rests).names
 
     many_by : (ks : List ChunkValue) → ((value_of w).belongings t).chunks ≡ chunks_of ks → length (objects_in (chunks_of ks)) ≡ length (held_unless_running l t)
     many_by ks here = sym (held_many (heap_of (handed l) t) ks (names_are ks here)) ∙ (ap length (handed_held l t) ∙ ap length (sym kept_is))
@@ -157,7 +154,7 @@ module _ (w : SharedValue) (I : IsSharedValue w) (t : ℕ) where
 
     pub words_kept : (r : Rest) → rest_at w.rests t ≡ Some r → held_words r.heap.chunks ≡ words_sum l.machine (held_unless_running l t)
     words_kept r there =
-        sym (words_are (value_of w) (handed l) t r.heap.chunks V rests (here_by (Some r) there ∙ belongings_chunks r) (I.heaps t r there).tidy)
+        sym (words_are (value_of w) (handed l) t r.heap.chunks I.stands.belongings rests (here_by (Some r) there ∙ belongings_chunks r) (I.heaps t r there).tidy)
         ∙ ap₂ (λ (m : State) ns. words_sum m ns) same_machine (handed_held l t ∙ sym kept_is)
 
     -- without a home it holds nothing

@@ -284,9 +284,6 @@ module _ (l : Ledger) (p c n : ℕ) (xp xl xr : Task) (rl rr : ℤ × Option Nam
   lt_p : p < c
   lt_p = S.fork_join.tree.low c p (ap parent_of il ∙ pl)
 
-  sib : parents old d ≡ Some p
-  sib = parr old l.machine.edges c p xl xr xp rl rr il ir ip pl left dl dr wl wr S.fork_join.tree
-
   -- the heaps are changed one after the other
   abbrev k1 : Ledger
   k1 = with_heap joined_then p (λ h. merged h (heap_of joined_then c) (heap_of joined_then d))
@@ -311,20 +308,11 @@ module _ (l : Ledger) (p c n : ℕ) (xp xl xr : Task) (rl rr : ℤ × Option Nam
   then_some : (f : Heap → Heap) (u : ℕ) → u < length old → or_fresh (heap_then f (slice_get l.heaps u)) ≡ f (heap_of l u)
   then_some f u lt = let h = heap_there u lt in ap (λ o. or_fresh (heap_then f o)) h.1 ∙ ap (λ o. f (or_fresh o)) (sym h.1)
 
-  p_lt : p < length old
-  p_lt = got_within old p xp ip
-
-  c_lt : c < length old
-  c_lt = got_within old c xl il
-
-  d_lt : d < length old
-  d_lt = got_within old d xr ir
-
   pub join_is : JoinsTasks l k p c d xp rl rr
   join_is = record {
     owners = λ a. subst (λ (m : State). ((owner_of m.tasks a ≡ p) × ((owner_of old a ≡ c) ⊎ (owner_of old a ≡ d))) ⊎ ((owner_of m.tasks a ≡ owner_of old a) × ((owner_of old a ≡ c → ⊥) × (owner_of old a ≡ d → ⊥)))) (sym machine_then) (
         subst (λ par. ((owner_in par (joined new) a ≡ p) × ((owner_of old a ≡ c) ⊎ (owner_of old a ≡ d))) ⊎ ((owner_in par (joined new) a ≡ owner_of old a) × ((owner_of old a ≡ c → ⊥) × (owner_of old a ≡ d → ⊥)))) (sym par_same)
-        (owner_joins (parents old) S.fork_join.tree.low (joined old) (joined new) c d p (ap parent_of il ∙ pl) sib (ap is_joined il ∙ dl) (ap is_joined ir ∙ dr)
+        (owner_joins (parents old) S.fork_join.tree.low (joined old) (joined new) c d p (ap parent_of il ∙ pl) (parr old l.machine.edges c p xl xr xp rl rr il ir ip pl left dl dr wl wr S.fork_join.tree) (ap is_joined il ∙ dl) (ap is_joined ir ∙ dr)
         (ap is_joined (three_top old c p xl xr xp (joined_task xl) (joined_task xr) (resumed xp rl rr) il ir ip lt_p))
         (ap is_joined (three_left old c p xl xr xp (joined_task xl) (joined_task xr) (resumed xp rl rr) il ir ip lt_p))
         (ap is_joined (three_right old c p xl xr xp (joined_task xl) (joined_task xr) (resumed xp rl rr) il ir ip lt_p))
@@ -339,12 +327,12 @@ module _ (l : Ledger) (p c n : ℕ) (xp xl xr : Task) (rl rr : ℤ × Option Nam
     tasks = λ u np nc nd. ap (λ (m : State). slice_get m.tasks u) machine_then ∙ three_other old c p xl xr xp (joined_task xl) (joined_task xr) (resumed xp rl rr) il ir ip lt_p u nc nd np;
     heap =
         ap or_fresh (with_off k2 d p emptied (λ q. omega (arith, lt_p, q)) ∙ (with_off k1 c p emptied (λ q. omega (arith, lt_p, q)) ∙ with_at joined_then p (λ h. merged h (heap_of joined_then c) (heap_of joined_then d))))
-        ∙ then_some (λ h. merged h (heap_of l c) (heap_of l d)) p p_lt;
+        ∙ then_some (λ h. merged h (heap_of l c) (heap_of l d)) p (got_within old p xp ip);
     heap_left =
         ap or_fresh (with_off k2 d c emptied (λ q. omega (arith, q)) ∙ (with_at k1 c emptied ∙ ap (heap_then emptied) (with_off joined_then p c (λ h. merged h (heap_of joined_then c) (heap_of joined_then d)) (λ q. omega (arith, lt_p, q)))))
-        ∙ then_some emptied c c_lt;
+        ∙ then_some emptied c (got_within old c xl il);
     heap_right =
         ap or_fresh (with_at k2 d emptied ∙ ap (heap_then emptied) (with_off k1 c d emptied (λ q. omega (arith, q)) ∙ with_off joined_then p d (λ h. merged h (heap_of joined_then c) (heap_of joined_then d)) (λ q. omega (arith, lt_p, q))))
-        ∙ then_some emptied d d_lt;
+        ∙ then_some emptied d (got_within old d xr ir);
     heaps = λ u np nc nd. ap or_fresh (with_off k2 d u emptied nd ∙ (with_off k1 c u emptied nc ∙ with_off joined_then p u (λ h. merged h (heap_of joined_then c) (heap_of joined_then d)) np));
   }

@@ -467,9 +467,6 @@ module _ (p : ProgramText) (l : Ledger) (t : ℕ) (x : Task) (line : Line) (K : 
 
   -- AN END, AND A JOIN
 
-  got : (u : ℕ) → u < length m.tasks → (y : Task) × (slice_get m.tasks u ≡ Some y)
-  got u lt = got_some m.tasks u lt
-
   module _ (il : line.instr ≡ Ret) (lone : x.below ≡ []) (parent : ℕ) (has : x.parent ≡ Some parent) where
     none_ret : words_asked m.field_limit x.top line.instr ≡ None
     none_ret = ap (words_asked m.field_limit x.top) il
@@ -643,7 +640,7 @@ module _ (p : ProgramText) (l : Ledger) (t : ℕ) (x : Task) (line : Line) (K : 
     ended_case : (o : Option (ℤ × Option Name)) → result_at (slice_get m.tasks (sibling t)) ≡ o → step p m t ≡ child_ended_by m t x parent (result_of x.top) o → Last
     ended_case None q e = end_case e
     ended_case (Some other) q e =
-        let xp = got parent (let lt : parent < t = K.sound.fork_join.tree.low t parent (ap parent_of I.task ∙ has) in let in_ : t < length m.tasks = got_within m.tasks t x I.task in omega (arith, lt, in_)) in
+        let xp = got_some m.tasks parent (let lt : parent < t = K.sound.fork_join.tree.low t parent (ap parent_of I.task ∙ has) in let in_ : t < length m.tasks = got_within m.tasks t x I.task in omega (arith, lt, in_)) in
         by (slice_get m.tasks (sibling t)) refl xp.0 xp.1
       where
         by : (y : Option Task) → slice_get m.tasks (sibling t) ≡ y → (xp : Task) → slice_get m.tasks parent ≡ Some xp → Last

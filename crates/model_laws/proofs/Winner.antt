@@ -386,16 +386,13 @@ module _ (p : ProgramText) (limit : ℕ) (ts : List ℕ) (field : Field) (only :
         nil_until i un holds.object r holds.is (stayed_mutable holds.object o (stays_to (At h).store field.object holds.object now.0 o now.1 is now.2) mutable) holds.value
   ]
 
-  -- what a field holds where a cas on it is taken
-  held : (i : ℕ) (c : IsCas p limit ts field i) → (r : Option Name) × (slice_get c.writes.object.refs field.index ≡ Some r)
-  held i c = got_some c.writes.object.refs field.index c.writes.within
-
   next_is : (i : ℕ) (c : IsCas p limit ts field i) → At (i + 1) ≡ step p (At i) c.t
   next_is i c = ap At (add-one i) ∙ run_next p (start p limit) ts i c.t c.turn.task
 
   module _ (i : ℕ) (c : IsCas p limit ts field i) (un : IsUntried p limit ts field i) where
+    -- what a field holds where a cas on it is taken
     found : (r : Option Name) × (slice_get c.writes.object.refs field.index ≡ Some r)
-    found = held i c
+    found = got_some c.writes.object.refs field.index c.writes.within
 
     finds : same_name found.0 (expects p limit ts field i c) ≡ true
     finds =

@@ -34,14 +34,11 @@ module _ (w : SharedValue) (I : IsSharedValue w) (on : (accounts w).end ≡ None
   abbrev l : Ledger
   l = accounts w
 
-  same_node : (u : ℕ) → slice_get w.tree u ≡ option_map (as_node (heap_of l u).worker) (slice_get l.machine.tasks u)
-  same_node u = (stands_now w I on).tree_counts.node u
-
   pub paths_same : (a t : ℕ) → tree_path w.tree a t ≡ is_on_path l.machine.tasks a t
   paths_same a t = same_by (tree_parent w.tree) (parents l.machine.tasks) (parent_is w I) t a t
 
   -- a task that was made has its place in the tree
   pub made_there : (u : ℕ) → is_some (slice_get l.machine.tasks u) ≡ true → u < length w.tree
   made_there u h =
-      let n = there (slice_get w.tree u) (slice_get l.machine.tasks u) (heap_of l u).worker (same_node u) h in
+      let n = there (slice_get w.tree u) (slice_get l.machine.tasks u) (heap_of l u).worker ((stands_now w I on).tree_counts.node u) h in
       got_within w.tree u n.0 n.1

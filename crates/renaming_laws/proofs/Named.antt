@@ -120,9 +120,6 @@ module _ (tasks : List Task) (edges : List Edge) (t : ℕ) (x : Task) (is : slic
   task_of e (inl q) = inl (ap (λ (z : Strand). z.task) q)
   task_of e (inr q) = inr (ap (λ (z : Strand). z.task) q)
 
-  old_low : (e : Edge) → In edges e → e.target.joins ≡ 0 → e.target.task < n
-  old_low e i z = (F.forks e i z).made
-
   -- no old fork is from the strand that forks now
   old_other : (e : Edge) → In edges e → e.target.joins ≡ 0 → e.source ≡ strand_of t x → ⊥
   old_other e i z q =
@@ -166,13 +163,13 @@ module _ (tasks : List Task) (edges : List Edge) (t : ℕ) (x : Task) (is : slic
       | inl old ↦ elim (cases f j) [
         | inl old' ↦ F.one_source e f old old' z q
         | inr new' ↦
-            let lt : e.target.task < n = old_low e old z in
+            let lt : e.target.task < n = (F.forks e old z).made in
             let same : e.target.task ≡ f.target.task = ap (λ (s : Strand). s.task) q in
             absurd (elim (task_of f new'.1) [ inl l ↦ omega arith | inr r ↦ omega arith ])
       ]
       | inr new ↦ elim (cases f j) [
         | inl old' ↦
-            let lt : f.target.task < n = old_low f old' (ap (λ (s : Strand). s.joins) (sym q) ∙ z) in
+            let lt : f.target.task < n = (F.forks f old' (ap (λ (s : Strand). s.joins) (sym q) ∙ z)).made in
             let same : e.target.task ≡ f.target.task = ap (λ (s : Strand). s.task) q in
             absurd (elim (task_of e new.1) [ inl l ↦ omega arith | inr r ↦ omega arith ])
         | inr new' ↦ new.0 ∙ sym new'.0

@@ -183,9 +183,6 @@ module _ (p : ProgramText) (s : SettingsValue) (journal : List EntryValue) (lega
       omega (arith, a, flat)
 
   -- the words of the store with those of the entry's steps
-  moved : l'.machine ≡ run_from p l.machine (tasks_in e.kind)
-  moved = entries_move_machine p s l e
-
   abbrev Grew : Kind → State → Type 0
   Grew kind m = store_words m.store ≡ store_words l.machine.store + words_by kind (objects_by kind l.machine) m
 
@@ -212,7 +209,7 @@ module _ (p : ProgramText) (s : SettingsValue) (journal : List EntryValue) (lega
       let before : Accounted (tally p s freed_by_end (opening p s) journal + tally p s freed_by_sweep (opening p s) journal) l = accounted journal legal in
       let behind : Accounted (tally p s freed_by_end (opening p s) (journal ++ e ∷ []) + tally p s freed_by_sweep (opening p s) (journal ++ e ∷ [])) l' =
       subst (Accounted (tally p s freed_by_end (opening p s) (journal ++ e ∷ []) + tally p s freed_by_sweep (opening p s) (journal ++ e ∷ []))) (sym next) (accounted (journal ++ e ∷ []) (legal_then p s journal e legal none)) in
-      let made : Grew e.kind l'.machine = grew_by e.kind l'.machine moved in
+      let made : Grew e.kind l'.machine = grew_by e.kind l'.machine (entries_move_machine p s l e) in
       let gone = lost_by p s l e.worker e.kind in
       omega (arith, ends, sweeps, before, behind, made, gone)
 

@@ -24,8 +24,7 @@ use Rattle.shared_value.specs.Stands.{IsSharedValue}
 use Rattle.shared_value.specs.SharedValue.{SharedValue, accounts, value_of}
 use Rattle.shared_value.proofs.BeforeTheEnd.{used_now}
 use Rattle.shared_value.proofs.FreeChunks.{refs_long}
-use Rattle.heap_reading.specs.declared.live.Live.{Live}
-use Rattle.heap_reading.specs.Image.{IsLive, in_words}
+use Rattle.heap_reading.specs.Image.{in_words}
 use Rattle.image_check.specs.declared.line.Birth.{Birth}
 use Rattle.image_check.specs.declared.line.Task.{Task}
 use Rattle.image_check.specs.declared.line.Chunk.{Chunk}
@@ -108,9 +107,6 @@ module _ (w : SharedValue) (I : IsSharedValue w) (C : AreChunks w.pool.slots) (F
         by None is e = absurd cc
         by (Some h) is e = (C o.at.chunk h is).0
 
-    address_long : word_of_ref (Some o.at) < 2 ^ 43
-    address_long = word_long o.at (near w I F p P t idle o i) short
-
     ref_long : (r : Option Addr) → IsRef r → word_of_ref r < 2 ^ 64
     ref_long None ref = omega arith
     ref_long (Some a) ref = let lt = word_long a ref.0 ref.1 in omega (arith, lt)
@@ -119,7 +115,7 @@ module _ (w : SharedValue) (I : IsSharedValue w) (C : AreChunks w.pool.slots) (F
     form_of =
         let x = content w I F p P t idle o i in
         let n = stored_few w I (object_name o) x.0 x.1 in
-        let long = address_long in
+        let long = word_long o.at (near w I F p P t idle o i) short in
         let a : length o.refs ≡ length x.0.refs = refs_long (Place v (k w I)) o.refs x.0.refs x.2.refs in
         let b : length o.ints ≡ length x.0.ints = ap length x.2.ints in
         let c = fields_few w I (object_name o) x.0 x.1 in
@@ -136,13 +132,10 @@ module _ (w : SharedValue) (I : IsSharedValue w) (C : AreChunks w.pool.slots) (F
   object_form : (q : Picked) → In p.objects q → IsObjectForm q
   object_form q j = let d = (P.objects.each q).0 j in subst IsObjectForm (sym d.4) (form_of d.0 d.2 d.1 d.3)
 
-  field_live : (x : Live) → IsLive w x → joined TT x.number ≡ false
-  field_live x L = (live_task w I x L).3
-
   field_fits : (f : Remembered) → In p.fields f → IsFit p f
   field_fits f j =
       let d = (P.fields.each f).0 j in
-      subst (IsFit p) (sym (d.4 ∙ ap (drawn_field d.0.number) d.3.2)) (fits w I F p P d.0.number d.3.0 (field_live d.0 d.2) d.3.1)
+      subst (IsFit p) (sym (d.4 ∙ ap (drawn_field d.0.number) d.3.2)) (fits w I F p P d.0.number d.3.0 (live_task w I d.0 d.2).3 d.3.1)
 
   field_form : (f : Remembered) → In p.fields f → IsFieldForm f
   field_form f j =

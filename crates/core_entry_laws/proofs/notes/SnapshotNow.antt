@@ -15,7 +15,7 @@ use Rattle.hh_model.specs.Names.{names_from, registers}
 use Rattle.hh_model.specs.Step.{is_waiting, waits}
 use Rattle.run_ledger.specs.declared.data.Ledger.{Ledger}
 use Rattle.run_ledger.specs.Heaps.{heap_at, heap_of}
-use Rattle.run_ledger.specs.Sound.{InHeaps, Keeps, SoundLedger, Spares, names_of, snapshot_at}
+use Rattle.run_ledger.specs.Sound.{InHeaps, Keeps, SoundLedger, names_of, snapshot_at}
 use Rattle.task_frames.specs.declared.frames.Frame.{Frame}
 use Rattle.ledger_step_laws.specs.Accounts.{Rests, own}
 use Rattle.core_relation.specs.Memory.{In, Memory, object_name, objects}
@@ -63,9 +63,6 @@ module _ (v : Memory) (l : Ledger) (t : ℕ) (x : Task) (S : SoundLedger l) (V :
   abbrev Live : Name → Type 0
   Live n = Keeps l.heaps n × (InHeaps l.heaps t n → In (snapshot_at (slice_get l.heaps t)) n)
 
-  spares : Spares l.machine.tasks l.machine.store l.heaps t (snapshot_at (slice_get l.heaps t))
-  spares = S.waits t wait
-
   abbrev Kept : Addr → Type 0
   Kept a = (q : Located) → In (objects v t) q → q.at ≡ a → In snapshot (object_name q)
 
@@ -84,7 +81,7 @@ module _ (v : Memory) (l : Ledger) (t : ℕ) (x : Task) (S : SoundLedger l) (V :
   leads_live z r o j k i a e =
       let c = V.contents z o r j in
       let n = name_at (Place v l) o.refs c.0.refs i a c.2.refs e in
-      live_here n.0 a (spares.of_object (object_name o) n.0 k (refers l.machine.store (object_name o) n.0 c.0 c.1 (got_in c.0.refs i (Some n.0) n.1))) n.2
+      live_here n.0 a ((S.waits t wait).of_object (object_name o) n.0 k (refers l.machine.store (object_name o) n.0 c.0 c.1 (got_in c.0.refs i (Some n.0) n.1))) n.2
 
   -- a register of the task
   waits_holds : (st : Status) → waits st ≡ true → HoldsRead (Place v l) (v.belongings t) x st → FramesAreRead (Place v l) (v.belongings t).frames (x.top ∷ x.below)
@@ -106,7 +103,7 @@ module _ (v : Memory) (l : Ledger) (t : ℕ) (x : Task) (S : SoundLedger l) (V :
   register_live a f i j =
       let frames = waits_holds x.status waiting (V.tasks t x rests is) in
       let n = frame_name (Place v l) (v.belongings t).frames (x.top ∷ x.below) f a frames i j in
-      live_here n.0 a (spares.of_task t x n.0 is (waits_names x.status waiting n.0 n.1)) n.2
+      live_here n.0 a ((S.waits t wait).of_task t x n.0 is (waits_names x.status waiting n.0 n.1)) n.2
 
   root_live : (a : Addr) → IsRoot v l t a → Kept a
   root_live a r =

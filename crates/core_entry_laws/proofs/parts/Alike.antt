@@ -18,7 +18,6 @@ use Rattle.hh_model.proofs.Steps.{names_run, in_registers}
 use Rattle.run_ledger.specs.declared.data.Heap.{Heap}
 use Rattle.run_ledger.specs.declared.data.Ledger.{Ledger}
 use Rattle.run_ledger.specs.Heaps.{heap_of, let_go}
-use Rattle.run_ledger.specs.Sound.{SoundLedger}
 use Rattle.run_ledger.specs.Steps.{task_steps, touched}
 use Rattle.run_ledger.proofs.Machine.{heap_machine}
 use Rattle.ledger_step_laws.specs.Accounts.{StepsAlone, AlikeFor, Leaves, own, rested}
@@ -152,21 +151,15 @@ module _ (p : ProgramText) (s : SettingsValue) (v : Memory) (l l' : Ledger) (t w
         alike_alone p s r l l' t ne (λ z. ne (leaf_alone l E.knows.sound t r.task idle live z)) (alone_along p s t l m l' (steps_alone_all p s t k l (E.knows.sound, E.collects) S.private) A) (ran.limit p s v v l l' t w k h E on r y P ne G) (ran.end p s v v l l' t w k h E on r y P ne G) (ran.heap p s v v l l' t w k h E on r y P ne G)
 
     module _ (F : FitsAt p s q v l) where
-      first : AlikeFor r.task l lq
-      first = pair.alike p s q r v l E.task y E.knows F G out.first P ne
-
-      sound_q : SoundLedger lq
-      sound_q = (pair.knows p s q r v l E.task y E.knows F G out.first P ne).sound
-
       N : StepsAlone l lq t
       N = pair.N p s q r v l E.task y E.knows F G out.first P ne
 
       -- who doesn't wait stands not above r's task
       low : (z : ℕ) → is_waiting (slice_get lq.machine.tasks z) ≡ false → (r.task ≡ z → ⊥) → is_on_path lq.machine.tasks z r.task ≡ true → ⊥
-      low z rest other up = other (sym (leaf_alone lq sound_q z r.task rest (N.tree.joins r.task ∙ live) up))
+      low z rest other up = other (sym (leaf_alone lq (pair.knows p s q r v l E.task y E.knows F G out.first P ne).sound z r.task rest (N.tree.joins r.task ∙ live) up))
 
       then_ : AlikeFor r.task lq l' → AlikeFor r.task l l'
-      then_ B = alike_then r.task l lq l' first B
+      then_ B = alike_then r.task l lq l' (pair.alike p s q r v l E.task y E.knows F G out.first P ne) B
 
       writes : WritesOther m l' t S.task S.line → AlikeFor r.task l l'
       writes W =

@@ -46,13 +46,10 @@ module _ (p : ProgramText) (s : SettingsValue) where
     rest_on_top q v l x K F O rs N.1 A.4,
   )
 
-  ahead_knows : (q : Part) (v : Memory) (l : Ledger) (x : Task) → Knows l → FitsAt p s q v l → IsOut l q x → Knows (ahead p q l)
-  ahead_knows q v l x K F O = pair.knows_ahead p s q v l x K F O
-
   pub all_stand : (qs : List Part) (v : Memory) (l : Ledger) → Knows l → Stands v l → AllFitAt p s qs v l → Stands (with_all_belongings v qs) (all_ahead p qs l)
   all_stand [] v l K V A = V
   all_stand (q ∷ qs) v l K V A =
-      all_stand qs (with_belongings v q.task q.belongings) (ahead p q l) (ahead_knows q v l A.1 K A.0 A.2) A.0.stands (rest_on_top q v l A.1 K A.0 A.2 qs A.3 A.4)
+      all_stand qs (with_belongings v q.task q.belongings) (ahead p q l) (pair.knows_ahead p s q v l A.1 K A.0 A.2) A.0.stands (rest_on_top q v l A.1 K A.0 A.2 qs A.3 A.4)
 
 -- parts that fit, by the accounts as they are
 by_accounts : (p : ProgramText) (s : SettingsValue) (qs : List Part) (v : Memory) (l : Ledger) → l.machine.end ≡ None → WorkersFit p s qs v l → AllFitAt p s qs v l

@@ -86,14 +86,8 @@ module _ (p : ProgramText) (s : SettingsValue) (q r : Part) (v : Memory) (l l' :
 
   -- the part fits what is given back
   module _ (E : AlikeFor r.task lq lt') (v' : Memory) (g' : Belongings) (idle : is_waiting (slice_get then_.machine.tasks q.task) ≡ false) (V : Stands (with_belongings (with_belongings v' q.task g') r.task r.belongings) then_) where
-    pri : ArePrivate p s lt' r.task r.fresh
-    pri = private' p s q r v l lt' x y K K2 F G O P ne E
-
     at_l' : ArePrivate p s l' r.task r.fresh × SameOf r.task then_ (ahead p r l')
-    at_l' = ahead_same p s r lt' l' (record { machine = sym (heap_machine l' q.task let_go); heap = sym (with_off l' q.task r.task let_go off) }) pri
-
-    outer : (heap_of lt' r.task).worker ≡ Some G.worker
-    outer = out' p s q r v l lt' x y K K2 F G O P ne E
+    at_l' = ahead_same p s r lt' l' (record { machine = sym (heap_machine l' q.task let_go); heap = sym (with_off l' q.task r.task let_go off) }) (private' p s q r v l lt' x y K K2 F G O P ne E)
 
     steady_l' : IsSteady r l'
     steady_l' = by P.steady
@@ -111,7 +105,7 @@ module _ (p : ProgramText) (s : SettingsValue) (q r : Part) (v : Memory) (l l' :
     pub fits_goes : FitsAt p s r v' l'
     fits_goes = record {
       worker = G.worker;
-      out = ap (λ o. (or_fresh o).worker) (sym (with_off l' q.task r.task let_go off)) ∙ outer;
+      out = ap (λ o. (or_fresh o).worker) (sym (with_off l' q.task r.task let_go off)) ∙ out' p s q r v l lt' x y K K2 F G O P ne E;
       few = G.few;
       private = at_l'.0;
       stands = released (with_belongings (with_belongings v' q.task g') r.task r.belongings) (with_belongings v' r.task r.belongings) then_ (ahead p r l') q.task w V idle

@@ -64,9 +64,6 @@ module _ (p : ProgramText) (s : SettingsValue) (q r : Part) (v : Memory) (l : Le
       by (inl e) = inl e
       by (inr e) = inr (ap collecting alike.heap ∙ e)
 
-  M : StepsAlone l lr r.task
-  M = ahead_alone p s r l K.sound P.steady G.private
-
   pub more : StepsAlone lq both r.task
   more = ahead_alone p s r lq knows.sound steady then_.0
 
@@ -80,7 +77,7 @@ module _ (p : ProgramText) (s : SettingsValue) (q r : Part) (v : Memory) (l : Le
     sound_u = ahead_sound p s r l K.sound P.steady;
     sound = ahead_sound p s r lq knows.sound steady;
     steps_t = more;
-    steps_u = alone_ahead p s r l lq lr both q.task N M more (rested_alike p s r (task_steps p l r.task r.fresh) (task_steps p lq r.task r.fresh) then_.1);
+    steps_u = alone_ahead p s r l lq lr both q.task N (ahead_alone p s r l K.sound P.steady G.private) more (rested_alike p s r (task_steps p l r.task r.fresh) (task_steps p lq r.task r.fresh) then_.1);
     idle_t = more.tree.waits q.task ∙ (N.tree.waits q.task ∙ (ap is_waiting O.task ∙ (tells x O.runs).1));
     idle_u = more.tree.waits r.task ∙ (N.tree.waits r.task ∙ (ap is_waiting P.task ∙ (tells y P.runs).1));
     live_t = more.tree.joins q.task ∙ (N.tree.joins q.task ∙ (ap is_joined O.task ∙ (tells x O.runs).0));

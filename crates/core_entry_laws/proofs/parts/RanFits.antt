@@ -16,7 +16,7 @@ use Rattle.run_ledger.specs.Steps.{task_steps}
 use Rattle.run_ledger.proofs.Machine.{task_step_machine, heap_machine}
 use Rattle.run_ledger.specs.Sound.{SoundLedger}
 use Rattle.run_ledger.proofs.Steps.{steps_last, task_steps_sound}
-use Rattle.ledger_step_laws.specs.Accounts.{StepsAlone, Knows, aside, rested}
+use Rattle.ledger_step_laws.specs.Accounts.{StepsAlone, aside, rested}
 use Rattle.ledger_step_laws.specs.Kinds.{StoresOne}
 use Rattle.ledger_step_laws.specs.Last.{WritesOther, LastKind, Private, Reading, Writing, Printing, Forking, Ending, Joining, Finishing, Halting, IsOfKind, GoesOn, Runs, Splits, stepped_by}
 use Rattle.ledger_step_laws.proofs.Ahead.{with_off}
@@ -79,9 +79,6 @@ module _ (p : ProgramText) (s : SettingsValue) (v v' : Memory) (l l' : Ledger) (
   alive_m : m.machine.end ≡ None
   alive_m = steps_end p s t k l S.private ∙ alive_machine p s l l' t w k E
 
-  known : Knows m
-  known = steps_know p s t k l E.task E.knows (inr E.collects) E.at E.runs E.can S.private
-
   -- the heap begins no collection meanwhile
   still : (j : ℕ) → (heap_of (task_steps p l t j) t).begun ≡ None
   still j = none_collects (slice_get (task_steps p l t j).heaps t) (task_steps_sound p j l t (E.knows.sound, E.collects)).1
@@ -121,7 +118,7 @@ module _ (p : ProgramText) (s : SettingsValue) (v v' : Memory) (l l' : Ledger) (
   idle = ap (λ (z : State). is_waiting (slice_get z.tasks t)) (heap_machine m t let_go) ∙ (ap is_waiting S.at.task ∙ ap (λ st. is_waiting (Some (record S.task { status = st }))) S.at.runs)
 
   sound : SoundLedger (rested m t)
-  sound = rested_sound m t known.sound
+  sound = rested_sound m t (steps_know p s t k l E.task E.knows (inr E.collects) E.at E.runs E.can S.private).sound
 
   -- a read or an output
   steps : FitsAt p s q v l → v' ≡ v → (m' : State) → l' ≡ stepped_by m m' → StepsAlone m l' t → StepsTo v l' t h g → FitsAt p s (part_for s t g 0) v' l'

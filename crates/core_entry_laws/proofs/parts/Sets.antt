@@ -97,9 +97,6 @@ module _ (p : ProgramText) (s : SettingsValue) (t k : ℕ) (h : Belongings) (v :
   rests : Rests lt t
   rests = rested_worker m t
 
-  rests' : Rests lt' t
-  rests' = rested_worker l' t
-
   at_lt : slice_get lt.machine.tasks t ≡ Some x
   at_lt = ap (λ (z : State). slice_get z.tasks t) em ∙ is
 
@@ -123,7 +120,7 @@ module _ (p : ProgramText) (s : SettingsValue) (t k : ℕ) (h : Belongings) (v :
   }
 
   place : (n : Name) (a : Addr) → Place vt lt n a → Place vt' lt' n a
-  place n a = place_own vt vt' lt lt' t (rested_sound m t S) (rested_sound l' t S') F.stands alone rests rests' idle at_step n a
+  place n a = place_own vt vt' lt lt' t (rested_sound m t S) (rested_sound l' t S') F.stands alone rests (rested_worker l' t) idle at_step n a
 
   abbrev z' : Task
   z' = record x { top = top }
