@@ -455,11 +455,11 @@ module _ (p : ProgramText) (l : Ledger) (t : ℕ) (x : Task) (line : Line) (K : 
     fork_by true e h =
         let none = ap (words_asked m.field_limit x.top) il in
         let is : k ≡ at_fork (stepped_by l mf) t = then_ none mf e ∙ moves mf waiting_task going at_mf in
-        let kept : IsForkJoinState mf = subst IsForkJoinState e (step_is_fork_join_state p m t K.sound.fork_join) in
-        let F : ForksTask l (at_fork (stepped_by l mf) t) t (length m.tasks) (length m.tasks + 1) g f x = fork_is l t x g f (l.steps + 1) new_edges I.task I.runs K.sound K.rows kept.tree.low in
-        let names : within (stepped_by l mf) t ≡ within (rested l t) t = fork_names l t x g f (l.steps + 1) new_edges I.task I.runs K.sound K.rows kept.tree.low ∙ sym (within_rested l t t) in
+        let fork_join : IsForkJoinState mf = subst IsForkJoinState e (step_is_fork_join_state p m t K.sound.fork_join) in
+        let F : ForksTask l (at_fork (stepped_by l mf) t) t (length m.tasks) (length m.tasks + 1) g f x = fork_is l t x g f (l.steps + 1) new_edges I.task I.runs K.sound K.rows fork_join.tree.low in
+        let names : within (stepped_by l mf) t ≡ within (rested l t) t = fork_names l t x g f (l.steps + 1) new_edges I.task I.runs K.sound K.rows fork_join.tree.low ∙ sym (within_rested l t t) in
         let r : (G : ForksTask (rested l t) k t (length m.tasks) (length m.tasks + 1) g f x) × (G.names ≡ within (rested l t) t) =
-        subst (λ (w : Ledger). (G : ForksTask (rested l t) w t (length m.tasks) (length m.tasks + 1) g f x) × (G.names ≡ within (rested l t) t)) (sym is) (let_go_forks g f (at_fork (stepped_by l mf) t) F, let_go_names g f (at_fork (stepped_by l mf) t) F ∙ (fork_is_names l t x g f (l.steps + 1) new_edges I.task I.runs K.sound K.rows kept.tree.low ∙ names)) in
+        subst (λ (w : Ledger). (G : ForksTask (rested l t) w t (length m.tasks) (length m.tasks + 1) g f x) × (G.names ≡ within (rested l t) t)) (sym is) (let_go_forks g f (at_fork (stepped_by l mf) t) F, let_go_names g f (at_fork (stepped_by l mf) t) F ∙ (fork_is_names l t x g f (l.steps + 1) new_edges I.task I.runs K.sound K.rows fork_join.tree.low ∙ names)) in
         (Forking, record { left = g; right = f; by = il; forks = r.0; names = r.1; outputs = ap (λ (w : State). w.outputs) (task_step_machine p l t ∙ e) })
 
     fork_case : Good (effect s x.top m.store (Par g f))

@@ -262,8 +262,8 @@ module _ (p : ProgramText) (limit : ℕ) (ts : List ℕ) (field : Field) (only :
   abbrev At : ℕ → State
   At i = after p limit ts i
 
-  kept : (i : ℕ) → IsForkJoinState (At i)
-  kept i = run_is_fork_join_state p (start p limit) (take i ts) (start_is_fork_join_state p limit)
+  fork_join : (i : ℕ) → IsForkJoinState (At i)
+  fork_join i = run_is_fork_join_state p (start p limit) (take i ts) (start_is_fork_join_state p limit)
 
   -- the next moment comes by a step, or by none
   module _ (i : ℕ) (C : State → Type 0) (idle : C (At i)) (taken : (t : ℕ) → slice_get ts i ≡ Some t → can_step (At i) t ≡ true → C (step p (At i) t)) where
@@ -278,7 +278,7 @@ module _ (p : ProgramText) (limit : ℕ) (ts : List ℕ) (field : Field) (only :
     pub moment : C (At (suc i))
     moment = next_moment (slice_get ts i) refl
 
-  no_putr : (i t : ℕ) (o : Object) (r : Option Name) → slice_get ts i ≡ Some t → can_step (At i) t ≡ true → PutrNext p (At i) t (kept i) field o r → ⊥
+  no_putr : (i t : ℕ) (o : Object) (r : Option Name) → slice_get ts i ≡ Some t → can_step (At i) t ≡ true → PutrNext p (At i) t (fork_join i) field o r → ⊥
   no_putr i t o r e can h =
       only.no_putr i (record {
         t = t;
@@ -293,7 +293,7 @@ module _ (p : ProgramText) (limit : ℕ) (ts : List ℕ) (field : Field) (only :
         writes = h.writes;
       })
 
-  abbrev as_cas : (i t : ℕ) (o : Object) (r : Option Name) → slice_get ts i ≡ Some t → can_step (At i) t ≡ true → CasNext p (At i) t (kept i) field o r → IsCas p limit ts field i
+  abbrev as_cas : (i t : ℕ) (o : Object) (r : Option Name) → slice_get ts i ≡ Some t → can_step (At i) t ≡ true → CasNext p (At i) t (fork_join i) field o r → IsCas p limit ts field i
   as_cas i t o r e can h = record {
     t = t;
     task = h.task;
@@ -313,7 +313,7 @@ module _ (p : ProgramText) (limit : ℕ) (ts : List ℕ) (field : Field) (only :
   field_stays : (i : ℕ) (r : Option Name) → ((c : IsCas p limit ts field i) → same_name r (expects p limit ts field i c) ≡ true → ⊥) → FieldHolds (At i) field r → FieldHolds (At (suc i)) field r
   field_stays i r never h =
       moment i (λ m. FieldHolds m field r) h (λ t e can.
-      let l = field_later p (At i) t (kept i) field h.object r h.is h.value in
+      let l = field_later p (At i) t (fork_join i) field h.object r h.is h.value in
       record {
         object = l.0;
         is = l.1;
@@ -329,12 +329,12 @@ module _ (p : ProgramText) (limit : ℕ) (ts : List ℕ) (field : Field) (only :
 
   nil_step : (i t : ℕ) → slice_get ts i ≡ Some t → can_step (At i) t ≡ true → (IsCas p limit ts field i → ⊥) → NilIn (At i)
       → (q : Option Object) → object_at (At i).store field.object ≡ q → NilIn (step p (At i) t)
-  nil_step i t e can never nil None none o r is mutable value = new_is_nil p (At i) t (kept i) field.object none o r is mutable (got_in o.refs field.index r value)
+  nil_step i t e can never nil None none o r is mutable value = new_is_nil p (At i) t (fork_join i) field.object none o r is mutable (got_in o.refs field.index r value)
   nil_step i t e can never nil (Some old) was o r is mutable value =
-      let later = object_later p (At i) t (kept i) field.object old was in
+      let later = object_later p (At i) t (fork_join i) field.object old was in
       let stays = stays_to (step p (At i) t).store field.object old later.0 o later.1 is later.2 in
       let there = stayed_field old o field.index r stays value in
-      let l = field_later p (At i) t (kept i) field old there.0 was there.1 in
+      let l = field_later p (At i) t (fork_join i) field old there.0 was there.1 in
       elim l.2 [
         | inl same ↦ one_value (step p (At i) t).store field.object o l.0 field.index r there.0 is l.1 value same ∙ nil old there.0 was (stayed_mutable old o stays mutable) there.1
         | inr w ↦ absurd (elim w [ inl q ↦ no_putr i t old there.0 e can q | inr c ↦ never (as_cas i t old there.0 e can c) ])
@@ -367,7 +367,7 @@ module _ (p : ProgramText) (limit : ℕ) (ts : List ℕ) (field : Field) (only :
       let before = object_from i d o is in
       subst (λ k. (new : Object) × (object_at (At k).store field.object ≡ Some new) × StaysAs o new) (let e : suc (d + i) ≡ suc d + i = omega arith in e)
       (moment (d + i) (λ m. (new : Object) × (object_at m.store field.object ≡ Some new) × StaysAs o new) before (λ t e can.
-      let next = object_later p (At (d + i)) t (kept (d + i)) field.object before.0 before.1 in
+      let next = object_later p (At (d + i)) t (fork_join (d + i)) field.object before.0 before.1 in
       (next.0, next.1, stays_on o before.0 next.0 before.2 next.2)))
 
   object_until : (i j : ℕ) (o : Object) → i ≤ j → object_at (At i).store field.object ≡ Some o → (new : Object) × (object_at (At j).store field.object ≡ Some new) × StaysAs o new

@@ -44,16 +44,16 @@ run_to p n f g R (t ∷ more) m m' k k' K K' I I' made A =
     (step_to p n f g R m m' K K' I.rows I'.rows made A t)
 
 module _ (p : ProgramText) (limit : ℕ) (ts : List ℕ) where
-  pub kept_here : IsForkJoinState (run_from p (start p limit) ts)
-  kept_here = run_is_fork_join_state p (start p limit) ts (start_is_fork_join_state p limit)
+  pub fork_join_here : IsForkJoinState (run_from p (start p limit) ts)
+  fork_join_here = run_is_fork_join_state p (start p limit) ts (start_is_fork_join_state p limit)
 
   pub counted_here : Counted (length ts) (run_from p (start p limit) ts).tasks (run_from p (start p limit) ts).store
   counted_here = run_counted p (start p limit) ts 0 (start_is_fork_join_state p limit) (start_counted p limit) (length ts) (omega arith)
 
 pub steps_are_carried : StepsAreCarried
 steps_are_carried p n limit f g ts us t R made A =
-    step_to p n f g R (run_from p (start p limit) ts) (run_from p (start p limit) us) (kept_here p limit ts) (kept_here p limit us) (counted_here p limit ts).rows (counted_here p limit us).rows made A t
+    step_to p n f g R (run_from p (start p limit) ts) (run_from p (start p limit) us) (fork_join_here p limit ts) (fork_join_here p limit us) (counted_here p limit ts).rows (counted_here p limit us).rows made A t
 
 pub runs_are_carried : RunsAreCarried
 runs_are_carried p n limit f g ts us more R made A =
-    run_to p n f g R more (run_from p (start p limit) ts) (run_from p (start p limit) us) (length ts) (length us) (kept_here p limit ts) (kept_here p limit us) (counted_here p limit ts) (counted_here p limit us) made A
+    run_to p n f g R more (run_from p (start p limit) ts) (run_from p (start p limit) us) (length ts) (length us) (fork_join_here p limit ts) (fork_join_here p limit us) (counted_here p limit ts) (counted_here p limit us) made A

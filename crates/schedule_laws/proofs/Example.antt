@@ -14,7 +14,7 @@ use Rattle.hh_model.specs.Precedence.{Precedes, precedes}
 use Rattle.hh_model.specs.Step.{parents, run}
 use Rattle.race_report.specs.declared.data.Access.{Access}
 use Rattle.race_report.specs.Accesses.{accesses}
-use Rattle.renaming_laws.proofs.Runs.{kept_here}
+use Rattle.renaming_laws.proofs.Runs.{fork_join_here}
 use Rattle.schedule_laws.specs.Clashes.{Clash}
 use Rattle.schedule_laws.specs.Laws.{SomeRunSpeaksUp}
 use Rattle.schedule_laws.proofs.Splits.{InOrder, from_order}
@@ -97,7 +97,7 @@ some_run_speaks_up = (
   us,
   record {
     done = done;
-    ordered = from_order (run p 1022 ts).edges (accesses p 1022 ts) (in_order (run p 1022 ts).edges (λ u v e. ((kept_here p 1022 ts).tree.right u v).0 e) (accesses p 1022 ts) test);
+    ordered = from_order (run p 1022 ts).edges (accesses p 1022 ts) (in_order (run p 1022 ts).edges (λ u v e. ((fork_join_here p 1022 ts).tree.right u v).0 e) (accesses p 1022 ts) test);
   },
   done_too,
   3,

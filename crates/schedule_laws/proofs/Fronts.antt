@@ -35,7 +35,7 @@ use Rattle.race_report.specs.Accesses.{access_of, accesses_from, line_access, ta
 use Rattle.renaming_laws.specs.Renaming.{IsRenaming, end_to}
 use Rattle.renaming_laws.specs.Alike.{AreAlike}
 use Rattle.renaming_laws.proofs.Changed.{Reaches}
-use Rattle.renaming_laws.proofs.Runs.{counted_here, kept_here, run_grows, run_to, step_grows}
+use Rattle.renaming_laws.proofs.Runs.{counted_here, fork_join_here, run_grows, run_to, step_grows}
 use Rattle.renaming_laws.proofs.Unnamed.{itself}
 use Rattle.schedule_laws.specs.Agrees.{access_to}
 use Rattle.schedule_laws.specs.Clashes.{Clash}
@@ -102,7 +102,7 @@ module _ (p : ProgramText) (limit : ℕ) (hs : List ℕ) where
   lone : (t u : ℕ) → (t ≡ u → ⊥) → can_step m t ≡ true → can_step m u ≡ true → (step p m t).end ≡ Some Done → ⊥
   lone t u two can_t can_u done =
       let R = runs_have_one_root p limit hs in
-      let x = done_root p m t (kept_here p limit hs) (can_going m t can_t) done in
+      let x = done_root p m t (fork_join_here p limit hs) (can_going m t can_t) done in
       let zero_t : t ≡ 0 = R.only t x.0 x.1 x.2 in
       let zero_u : u ≡ 0 = R.alone u (ap (λ k. is_running (slice_get m.tasks k)) (sym zero_t) ∙ can_runs m t can_t) (can_runs m u can_u) in
       two (zero_t ∙ sym zero_u)
@@ -118,7 +118,7 @@ module _ (p : ProgramText) (limit : ℕ) (hs : List ℕ) where
       λ i. record a { strand = record a.strand { task = s i }; field = record a.field { name = record a.field.name { task = n i } } }
     where
       stored : (n : Name) (o : Object) → object_at m.store n ≡ Some o → n.task < length m.tasks
-      stored n o is = let k = (kept_here p limit hs).store_of n o is in subst (λ j. j < length m.tasks) k.0 k.1.0
+      stored n o is = let k = (fork_join_here p limit hs).store_of n o is in subst (λ j. j < length m.tasks) k.0 k.1.0
 
       by : (x : Task) → slice_get m.tasks t ≡ Some x → is_running (Some x) ≡ true → (o : Option Line) → fetched p x.top ≡ o → (a.strand.task < length m.tasks) × (a.field.name.task < length m.tasks)
       by x is run None next = absurd (let h : None ≡ Some a = sym (ap (λ b. cond b (task_access p m t (slice_get m.tasks t)) None) can ∙ (ap (task_access p m t) is ∙ ap (line_access m t x) next)) ∙ ia in cc)
@@ -259,7 +259,7 @@ module _ (p : ProgramText) (limit : ℕ) (hs ts : List ℕ) (t u : ℕ) (two : t
     j = then F.f C0.f
 
     K0 : IsForkJoinState n0
-    K0 = kept_here p limit hs
+    K0 = fork_join_here p limit hs
 
     K1 : IsForkJoinState n1
     K1 = step_is_fork_join_state p n0 t K0

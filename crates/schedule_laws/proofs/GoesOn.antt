@@ -17,7 +17,7 @@ use Rattle.race_report.specs.declared.data.Access.{Access}
 use Rattle.race_report.specs.Accesses.{access_of, accesses_from, task_access, with_some}
 use Rattle.race_report.proofs.LabelSteps.{Begun, begun_running, run_keeps}
 use Rattle.renaming_laws.specs.Renaming.{end_to}
-use Rattle.renaming_laws.proofs.Runs.{kept_here}
+use Rattle.renaming_laws.proofs.Runs.{fork_join_here}
 use Rattle.schedule_laws.specs.Laws.{EveryRunGoesOn}
 use Rattle.schedule_laws.specs.Prints.{turns_from}
 use Rattle.schedule_laws.proofs.Fronts.{access_strand}
@@ -79,7 +79,7 @@ module _ (p : ProgramText) (limit : ℕ) where
     | inr j ↦
         let push : run p limit (hs ++ u ∷ []) ≡ step p (run p limit hs) u = run_push p (start p limit) hs u in
         subst (λ (w : State). Begun (run_from p w us) b.strand) push (begun us (hs ++ u ∷ []) b (subst (λ (w : State). In (accesses_from p w us) b) (sym push) j))
-    | inl e ↦ (run_keeps p (run p limit hs) (u ∷ us) (kept_here p limit hs)).begun b.strand (first hs u b e (cases_Bool (can_step (run p limit hs) u)))
+    | inl e ↦ (run_keeps p (run p limit hs) (u ∷ us) (fork_join_here p limit hs)).begun b.strand (first hs u b e (cases_Bool (can_step (run p limit hs) u)))
   ]
     where
       first : (hs : List ℕ) (u : ℕ) (b : Access) → access_of p (run p limit hs) u ≡ Some b → (can_step (run p limit hs) u ≡ true) ⊎ (can_step (run p limit hs) u ≡ false) → Begun (run p limit hs) b.strand
@@ -100,7 +100,7 @@ every_run_goes_on p limit ts us S none =
     let G = goes p m more Done none done in
     let all : turns_from p (start p limit) us + turns_from p m more ≡ turns_from p (start p limit) ts = sym (turns_append p (start p limit) us more) ∙ C.turned in
     let least : 1 ≤ turns_from p m more = G.some in
-    let K = kept_here p limit us in
+    let K = fork_join_here p limit us in
     let K' = run_is_fork_join_state p m more K in
     let later : InOrder (run_from p m more).edges (accesses_from p (start p limit) us) =
     order_front (run_from p m more).edges (accesses_from p (start p limit) us) (accesses_from p m more)

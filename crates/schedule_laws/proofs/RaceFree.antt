@@ -11,7 +11,7 @@ use Rattle.run_ledger.specs.Journals.{tasks_of}
 use Rattle.race_report.specs.declared.data.Access.{Access}
 use Rattle.race_report.specs.Accesses.{accesses}
 use Rattle.race_report.specs.StopLaw.{HasNoRace}
-use Rattle.renaming_laws.proofs.Runs.{kept_here}
+use Rattle.renaming_laws.proofs.Runs.{fork_join_here}
 use Rattle.schedule_laws.specs.Laws.{JournalsAgree}
 use Rattle.schedule_laws.specs.Ordered.{IsOrdered, OrderedIsRaceFree, SwapsContend}
 use Rattle.schedule_laws.proofs.Schedules.{every_end_agrees}
@@ -44,7 +44,7 @@ module _ (p : ProgramText) (limit : ℕ) (ts : List ℕ) where
   ]
     where
       right : (precedes edges u.strand v.strand ≡ true → Precedes edges u.strand v.strand) × (Precedes edges u.strand v.strand → precedes edges u.strand v.strand ≡ true)
-      right = (kept_here p limit ts).tree.right u.strand v.strand
+      right = (fork_join_here p limit ts).tree.right u.strand v.strand
 
 pub ordered_is_race_free : OrderedIsRaceFree
 ordered_is_race_free p limit ts = (forth p limit ts, (λ h. back p limit ts h.0 h.1))

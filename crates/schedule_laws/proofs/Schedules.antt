@@ -19,7 +19,7 @@ use Rattle.race_report.specs.Accesses.{access_of, accesses_from, task_access, wi
 use Rattle.renaming_laws.specs.Renaming.{IsRenaming, end_to, strand_to}
 use Rattle.renaming_laws.specs.Alike.{AreAlike}
 use Rattle.renaming_laws.proofs.Lists.{from_map}
-use Rattle.renaming_laws.proofs.Runs.{kept_here, step_grows}
+use Rattle.renaming_laws.proofs.Runs.{fork_join_here, step_grows}
 use Rattle.renaming_laws.proofs.Unnamed.{itself}
 use Rattle.renaming_laws.proofs.Owners.{walks}
 use Rattle.schedule_laws.specs.Agrees.{Agrees, access_to, field_to}
@@ -157,7 +157,7 @@ module _ (p : ProgramText) where
 
       -- tasks of m keep their numbers: so u's first access and print are the same
       stays : (v : ℕ) → v < length m.tasks → h v ≡ v
-      stays v lt = let up = step_grows p m u (kept_here p limit hs) in ap C.f (F.old v lt) ∙ C.old v (omega arith)
+      stays v lt = let up = step_grows p m u (fork_join_here p limit hs) in ap C.f (F.old v lt) ∙ C.old v (omega arith)
 
       kept : (b : Access) → o ≡ Some b → access_to h b ≡ b
       kept b e = access_low p limit hs h stays u can b e

@@ -24,7 +24,7 @@ use Rattle.race_report.specs.declared.data.Access.{Access}
 use Rattle.race_report.specs.Accesses.{with_some}
 use Rattle.race_report.specs.Sights.{line_said, print_field, said_by, said_from, said_of, task_said}
 use Rattle.race_report.specs.StopLaw.{HasNoRace}
-use Rattle.renaming_laws.proofs.Runs.{kept_here}
+use Rattle.renaming_laws.proofs.Runs.{fork_join_here}
 use Rattle.schedule_laws.specs.Prints.{Print, PrintsAreOrdered, line_print, print_by, print_of, prints, prints_from, task_print}
 
 -- ONE STEP
@@ -177,7 +177,7 @@ module _ (p : ProgramText) (limit : ℕ) (ts : List ℕ) where
   ]
     where
       right : (precedes edges u.strand v.strand ≡ true → Precedes edges u.strand v.strand) × (Precedes edges u.strand v.strand → precedes edges u.strand v.strand ≡ true)
-      right = (kept_here p limit ts).tree.right u.strand v.strand
+      right = (fork_join_here p limit ts).tree.right u.strand v.strand
 
   pub no_prints_race : PrintsAreOrdered edges (prints p limit ts) → HasNoRace edges said
   no_prints_race ordered field i j a b R =
