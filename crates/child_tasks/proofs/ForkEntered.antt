@@ -46,8 +46,7 @@ use Rattle.shared_value.specs.Stands.{HeapForm, IsSharedValue}
 use Rattle.shared_value.specs.Fits.{Fits, OthersFit, belongings_of_part, part_of}
 use Rattle.shared_value.specs.Entered.{refused}
 use Rattle.shared_value.proofs.FieldsNoted.{noted_of}
-use Rattle.shared_value.proofs.EntryMade.{task_is_out, held_apart, unheld_before}
-use Rattle.shared_value.proofs.MarkingEntryMade.{entered_marks, marked_fits, marked_world}
+use Rattle.shared_value.proofs.EntryMade.{entered_marks, marked_fits, marked_world, task_is_out, held_apart, unheld_before}
 use Rattle.shared_value.proofs.Levels.{level_is}
 use Rattle.shared_value.proofs.PartFitsMachine as link
 use Rattle.shared_value.proofs.BeforeTheEnd.{end_now}

@@ -41,8 +41,7 @@ use Rattle.shared_value.specs.Stands.{HeapForm, IsSharedValue}
 use Rattle.shared_value.specs.Fits.{Fits, OthersFit, belongings_of_part, part_of}
 use Rattle.shared_value.specs.Entered.{refused}
 use Rattle.shared_value.proofs.FieldsNoted.{noted_of}
-use Rattle.shared_value.proofs.EntryMade.{held_apart}
-use Rattle.shared_value.proofs.MarkingEntryMade.{entered_marks, marked_accounts, marked_fits, marked_world}
+use Rattle.shared_value.proofs.EntryMade.{entered_marks, held_apart, marked_accounts, marked_fits, marked_world}
 use Rattle.shared_value.proofs.BeforeTheEnd.{end_now}
 use Rattle.shared_value.proofs.TaskTaken.{worker_there}
 use Rattle.own_steps.specs.Alone.{alone_event}

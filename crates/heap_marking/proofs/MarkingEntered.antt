@@ -37,8 +37,7 @@ use Rattle.shared_value.specs.SharedValue.{SharedValue, accounts, marks_at, tree
 use Rattle.shared_value.specs.Stands.{IsSharedValue}
 use Rattle.shared_value.specs.Fits.{AllFit, part_of}
 use Rattle.shared_value.specs.Entered.{refused}
-use Rattle.shared_value.proofs.EntryMade.{entry_on}
-use Rattle.shared_value.proofs.MarkingEntryMade.{entered_marks, marked_fits, marked_world}
+use Rattle.shared_value.proofs.EntryMade.{entered_marks, entry_on, marked_fits, marked_world}
 use Rattle.shared_value.proofs.BeforeTheEnd.{stands_now}
 use Rattle.heap_marking.specs.Marking.{MarksEnter}
 

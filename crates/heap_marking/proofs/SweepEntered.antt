@@ -39,8 +39,7 @@ use Rattle.shared_value.specs.Fits.{AllFit, Fits, part_of}
 use Rattle.shared_value.specs.Measured.{AreMeasured, KeepsUnits, RestsAreMeasured}
 use Rattle.shared_value.specs.Stands.{HeapForm, IsSharedValue}
 use Rattle.shared_value.specs.SharedValue.{SharedValue, accounts, belongings_in, marks_at, noted_in, rest_at, tree_counts_of, value_of}
-use Rattle.shared_value.proofs.EntryMade.{entry_on}
-use Rattle.shared_value.proofs.MarkingEntryMade.{entered_marks, marked_fits, marked_world}
+use Rattle.shared_value.proofs.EntryMade.{entered_marks, entry_on, marked_fits, marked_world}
 use Rattle.shared_value.proofs.UnitsMeasured.{given_keeps, measured_kept, part_kept}
 use Rattle.shared_value.proofs.TaskTaken.{some_flat}
 use Rattle.heap_marking.specs.MarkCauses.{marking_cause}

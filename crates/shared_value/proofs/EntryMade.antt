@@ -17,6 +17,7 @@ use Rattle.run_ledger.proofs.Cuts.{legal_then}
 use Rattle.chunk_pool.specs.PoolValue.{PoolValue}
 use Rattle.heap_tree.specs.Node.{Node}
 use Rattle.write_barrier.specs.declared.sets.SetOf.{SetOf}
+use Rattle.inner_mark_gc.specs.MarkingValue.{MarkingValue}
 use Rattle.ledger_step_laws.specs.Accounts.{Rests, rested}
 use Rattle.ledger_step_laws.proofs.Ahead.{with_off}
 use Rattle.ledger_step_laws.proofs.Rested.{rested_worker}
@@ -84,16 +85,20 @@ unheld_before tasks_out k x u none other j e = elim (cases_eq j k) [
 abbrev pub entered : SharedValue → EntryValue → List Node → PoolValue → List (Option Rest) → List SetOf → List (Option ℕ) → List ℤ → ℕ → Option RunEnd → ℕ → SharedValue
 entered w e tree pool rests sets tasks_out outputs steps end room = record w { tree = tree; pool = pool; rests = rests; sets = sets; tasks_out = tasks_out; outputs = outputs; steps = steps; end = end; journal = record { items = w.journal.items ++ e ∷ []; room = room } }
 
-module _ (w : SharedValue) (e : EntryValue) (I : IsSharedValue w) (free : refused w e ≡ None) (tree : List Node) (pool : PoolValue) (rests : List (Option Rest)) (sets : List SetOf) (tasks_out : List (Option ℕ)) (outputs : List ℤ) (steps : ℕ) (end : Option RunEnd) (room : ℕ) where
-  abbrev w' : SharedValue
-  w' = entered w e tree pool rests sets tasks_out outputs steps end room
+-- the value with other fields, marks among them, and one entry more
+abbrev pub entered_marks : SharedValue → EntryValue → List Node → PoolValue → List (Option Rest) → List SetOf → List (Option ℕ) → List ℤ → ℕ → Option RunEnd → ℕ → List (Option MarkingValue) → SharedValue
+entered_marks w e tree pool rests sets tasks_out outputs steps end room marks = record (entered w e tree pool rests sets tasks_out outputs steps end room) { marks = marks }
 
-  pub accounts_are : accounts w' ≡ after w.program w.settings (accounts w) e
-  accounts_are = accounts_then w.program w.settings w.journal.items e
+module _ (w : SharedValue) (e : EntryValue) (I : IsSharedValue w) (free : refused w e ≡ None) (tree : List Node) (pool : PoolValue) (rests : List (Option Rest)) (sets : List SetOf) (tasks_out : List (Option ℕ)) (outputs : List ℤ) (steps : ℕ) (end : Option RunEnd) (room : ℕ) (marks : List (Option MarkingValue)) where
+  abbrev marked' : SharedValue
+  marked' = entered_marks w e tree pool rests sets tasks_out outputs steps end room marks
 
-  pub entered_world : length rests ≡ length tree → length sets ≡ length tree → length tasks_out ≡ length w.tasks_out → pool.limit ≡ w.pool.limit
-      → StandsForAll (value_of w') (tree_counts_of w') (after w.program w.settings (accounts w) e) → ((t : ℕ) (r : Rest) → rest_at rests t ≡ Some r → HeapForm r.heap) → RestsAreMeasured pool rests tasks_out → IsSharedValue w'
-  entered_world made noted workers limit stands heaps measured = record {
+  pub marked_accounts : accounts marked' ≡ after w.program w.settings (accounts w) e
+  marked_accounts = accounts_then w.program w.settings w.journal.items e
+
+  pub marked_world : length rests ≡ length tree → length sets ≡ length tree → length tasks_out ≡ length w.tasks_out → pool.limit ≡ w.pool.limit
+      → StandsForAll (value_of marked') (tree_counts_of marked') (after w.program w.settings (accounts w) e) → ((t : ℕ) (r : Rest) → rest_at rests t ≡ Some r → HeapForm r.heap) → RestsAreMeasured pool rests tasks_out → IsSharedValue marked'
+  marked_world made noted workers limit stands heaps measured = record {
     limits = I.limits;
     form = I.form;
     legal = legal_then w.program w.settings w.journal.items e I.legal free;
@@ -101,27 +106,50 @@ module _ (w : SharedValue) (e : EntryValue) (I : IsSharedValue w) (free : refuse
     noted = noted;
     workers = workers ∙ I.workers;
     limit = limit ∙ I.limit;
-    stands = subst (λ (z : Ledger). StandsForAll (value_of w') (tree_counts_of w') z) (sym accounts_are) stands;
+    stands = subst (λ (z : Ledger). StandsForAll (value_of marked') (tree_counts_of marked') z) (sym marked_accounts) stands;
     heaps = heaps;
     measured = measured;
   }
 
-  module _ (I' : IsSharedValue w') where
+  module _ (I' : IsSharedValue marked') where
     -- a worker holds the task that is out with it
-    pub held_when_out : (u t : ℕ) → option_flatten (slice_get tasks_out u) ≡ Some t → (heap_of (accounts w') t).worker ≡ Some u
-    held_when_out u t e = held_by_end (accounts w') (accounts w').end t u ((I'.stands.tree_counts.task_out u t).0 e)
+    marked_out : (u t : ℕ) → option_flatten (slice_get tasks_out u) ≡ Some t → (heap_of (accounts marked') t).worker ≡ Some u
+    marked_out u t e = held_by_end (accounts marked') (accounts marked').end t u ((I'.stands.tree_counts.task_out u t).0 e)
 
-    pub held_on : (u t : ℕ) → option_flatten (slice_get tasks_out u) ≡ option_flatten (slice_get w.tasks_out u) → (heap_of (accounts w) t).worker ≡ Some u → (heap_of (accounts w') t).worker ≡ Some u
-    held_on u t same held = held_when_out u t (same ∙ ((stands_now w I (entry_on w e free)).tree_counts.task_out u t).1 held)
+    marked_held : (u t : ℕ) → option_flatten (slice_get tasks_out u) ≡ option_flatten (slice_get w.tasks_out u) → (heap_of (accounts w) t).worker ≡ Some u → (heap_of (accounts marked') t).worker ≡ Some u
+    marked_held u t same held = marked_out u t (same ∙ ((stands_now w I (entry_on w e free)).tree_counts.task_out u t).1 held)
 
     -- a part of a worker that goes on fits where its belongings do
-    pub part_fits : (u : ℕ) (p q : Private) → option_flatten (slice_get tasks_out u) ≡ option_flatten (slice_get w.tasks_out u) → Fits w u p → q.task ≡ p.task → q.leaf_limit ≡ p.leaf_limit → q.field_limit ≡ p.field_limit → HeapForm q.heap → IsMeasured pool q
-        → WorkerFits w.program w.settings (part_of w.settings q) (value_of w') (after w.program w.settings (accounts w) e) → Fits w' u q
-    part_fits u p q same F et el ef form measured fits = record {
-      held = ap (λ z. (heap_of (accounts w') z).worker) et ∙ held_on u p.task same F.held;
-      fits = subst (WorkerFits w.program w.settings (part_of w.settings q) (value_of w')) (sym accounts_are) fits;
+    pub marked_fits : (u : ℕ) (p q : Private) → option_flatten (slice_get tasks_out u) ≡ option_flatten (slice_get w.tasks_out u) → Fits w u p → q.task ≡ p.task → q.leaf_limit ≡ p.leaf_limit → q.field_limit ≡ p.field_limit → HeapForm q.heap → IsMeasured pool q
+        → WorkerFits w.program w.settings (part_of w.settings q) (value_of marked') (after w.program w.settings (accounts w) e) → Fits marked' u q
+    marked_fits u p q same F et el ef form measured fits = record {
+      held = ap (λ z. (heap_of (accounts marked') z).worker) et ∙ marked_held u p.task same F.held;
+      fits = subst (WorkerFits w.program w.settings (part_of w.settings q) (value_of marked')) (sym marked_accounts) fits;
       form = form;
       measured = measured;
       leaf_limit = el ∙ F.leaf_limit;
       field_limit = ef ∙ F.field_limit;
     }
+
+-- and where what is marked stays
+module _ (w : SharedValue) (e : EntryValue) (I : IsSharedValue w) (free : refused w e ≡ None) (tree : List Node) (pool : PoolValue) (rests : List (Option Rest)) (sets : List SetOf) (tasks_out : List (Option ℕ)) (outputs : List ℤ) (steps : ℕ) (end : Option RunEnd) (room : ℕ) where
+  abbrev w' : SharedValue
+  w' = entered w e tree pool rests sets tasks_out outputs steps end room
+
+  pub accounts_are : accounts w' ≡ after w.program w.settings (accounts w) e
+  accounts_are = marked_accounts w e I free tree pool rests sets tasks_out outputs steps end room w.marks
+
+  pub entered_world : length rests ≡ length tree → length sets ≡ length tree → length tasks_out ≡ length w.tasks_out → pool.limit ≡ w.pool.limit
+      → StandsForAll (value_of w') (tree_counts_of w') (after w.program w.settings (accounts w) e) → ((t : ℕ) (r : Rest) → rest_at rests t ≡ Some r → HeapForm r.heap) → RestsAreMeasured pool rests tasks_out → IsSharedValue w'
+  entered_world = marked_world w e I free tree pool rests sets tasks_out outputs steps end room w.marks
+
+  module _ (I' : IsSharedValue w') where
+    pub held_when_out : (u t : ℕ) → option_flatten (slice_get tasks_out u) ≡ Some t → (heap_of (accounts w') t).worker ≡ Some u
+    held_when_out = marked_out w e I free tree pool rests sets tasks_out outputs steps end room w.marks I'
+
+    pub held_on : (u t : ℕ) → option_flatten (slice_get tasks_out u) ≡ option_flatten (slice_get w.tasks_out u) → (heap_of (accounts w) t).worker ≡ Some u → (heap_of (accounts w') t).worker ≡ Some u
+    held_on = marked_held w e I free tree pool rests sets tasks_out outputs steps end room w.marks I'
+
+    pub part_fits : (u : ℕ) (p q : Private) → option_flatten (slice_get tasks_out u) ≡ option_flatten (slice_get w.tasks_out u) → Fits w u p → q.task ≡ p.task → q.leaf_limit ≡ p.leaf_limit → q.field_limit ≡ p.field_limit → HeapForm q.heap → IsMeasured pool q
+        → WorkerFits w.program w.settings (part_of w.settings q) (value_of w') (after w.program w.settings (accounts w) e) → Fits w' u q
+    part_fits = marked_fits w e I free tree pool rests sets tasks_out outputs steps end room w.marks I'

@@ -8,7 +8,6 @@ pub mod HeapCounts
 pub mod SmallWords
 pub mod HeapWords
 pub mod EntryMade
-pub mod MarkingEntryMade
 pub mod JournalGoesOn
 pub mod OneAccount
 pub mod NothingMoves
