@@ -9,6 +9,7 @@ pub mod With
 pub mod Write
 pub mod Own
 pub mod Renew
+pub mod Target
 pub mod Store
 pub mod Lifts
 pub mod Takes

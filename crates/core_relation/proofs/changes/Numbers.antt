@@ -1,68 +1,45 @@
 -- A store of a number, into an object of the task or of one above it.
-use Rattle.std.proofs.Common.{◌≡◌, ℕ, ◌+◌, pos, Bool, true, false, unwrap_or, Some, List, ◌∷◌, slice_get, slice_set, ◌⊎◌, inl, inr, refl, ap, ap₂, sym, subst, ◌∙◌}
-use Rattle.std.proofs.lemmas.Bool.{cases_eq}
+use Rattle.std.proofs.Common.{◌≡◌, ℕ, ◌+◌, pos, true, unwrap_or, Some, List, ◌∷◌, slice_get, slice_set, ◌⊎◌, inl, inr, ap, ap₂, sym, subst, ◌∙◌}
 use Rattle.std.proofs.lemmas.Option.{same_Some}
 use Rattle.object_layout.specs.declared.word.Addr.{Addr}
 use Rattle.hh_model.specs.declared.data.Name.{Name}
 use Rattle.hh_model.specs.declared.data.Object.{Object}
 use Rattle.hh_model.specs.declared.data.Task.{Task}
-use Rattle.hh_model.specs.Effect.{object_at, ref_in, int_in, onward}
+use Rattle.hh_model.specs.Effect.{ref_in, int_in, onward}
 use Rattle.hh_model.specs.Names.{task_names}
-use Rattle.hh_model.specs.Step.{is_waiting, is_joined, is_on_path}
-use Rattle.hh_model.proofs.Carried.{at_in}
-use Rattle.hh_model.proofs.Steps.{names_run, in_registers}
+use Rattle.hh_model.specs.Step.{is_on_path}
 use Rattle.run_ledger.specs.declared.data.Ledger.{Ledger}
-use Rattle.run_ledger.specs.Heaps.{heap_of}
 use Rattle.run_ledger.specs.Sound.{SoundLedger}
 use Rattle.task_frames.specs.declared.frames.Frame.{Frame}
-use Rattle.core_relation.specs.Memory.{Memory, In, sources, Lies}
-use Rattle.core_relation.specs.Reads.{Reads, FramesAreRead, HoldsRead, TaskIsRead}
+use Rattle.core_relation.specs.Memory.{Memory, In, sources}
+use Rattle.core_relation.specs.Reads.{FramesAreRead, HoldsRead, TaskIsRead}
 use Rattle.ledger_step_laws.specs.Accounts.{own, Rests}
 use Rattle.core_relation.specs.Stands.{Place, Stands}
 use Rattle.ledger_step_laws.specs.Kinds.{StoresNumber}
 use Rattle.core_relation.specs.Changes.{StoresNumberAt, with_number}
 use Rattle.task_frames.specs.FramesValue.{ref_of, int_of}
-use Rattle.core_relation.proofs.objects.Carry.{field_of}
-use Rattle.ledger_step_laws.proofs.Tree.{leaf_alone}
+use Rattle.core_relation.proofs.changes.Target as target
 use Rattle.core_relation.proofs.changes.Write.{written}
 
 module _ (v v' : Memory) (l l' : Ledger) (t : ℕ) (x : Task) (n : Name) (y : Object) (o w i : ℕ) (f : Frame) (fs : List Frame) (a : Addr) (S : SoundLedger l) (V : Stands v l) (rests : Rests l t)
     (L : StoresNumber l l' t x n y o w i) (C : StoresNumberAt v v' t f fs a w i) (at_a : ref_of f o ≡ Some a) where
   frames : FramesAreRead (Place v l) (f ∷ fs) (x.top ∷ x.below)
-  frames = subst (λ zs. FramesAreRead (Place v l) zs (x.top ∷ x.below)) C.frames (subst (HoldsRead (Place v l) (v.belongings t) x) L.runs (V.tasks t x rests L.task))
+  frames = target.frames v l t x n o f fs a S V rests L.task L.runs L.object L.waits C.frames at_a
 
   pub holds : (j : ℕ) (m : Name) → ref_in x.top j ≡ Some m → In (task_names x) m
-  holds j m e = names_run x m L.runs (in_registers (x.top ∷ x.below) x.top m (inl refl) (at_in x.top.refs j m e))
+  holds = target.holds v l t x n o f fs a S V rests L.task L.runs L.object L.waits C.frames at_a
 
   pub place : Place v l n a
-  place = subst (λ z. Reads (Place v l) z (Some n)) at_a (subst (Reads (Place v l) (ref_of f o)) L.object (field_of (Place v l) f.refs x.top.refs o frames.0.refs))
+  place = target.place v l t x n o f fs a S V rests L.task L.runs L.object L.waits C.frames at_a
 
   pub rests_n : Rests l (own l n)
-  rests_n = elim (cases_eq (own l n) t) [
-    | inl e ↦ ap (λ z. (heap_of l z).worker) e ∙ rests
-    | inr ne ↦ L.waits (own l n) (on_way ne)
-  ]
-    where
-      on_way : (own l n ≡ t → ⊥) → is_waiting (slice_get l.machine.tasks (own l n)) ≡ true
-      on_way ne = by (is_waiting (slice_get l.machine.tasks (own l n))) refl
-        where
-          live : is_joined (slice_get l.machine.tasks t) ≡ false
-          live = ap is_joined L.task ∙ ap (λ s. is_joined (Some (record x { status = s }))) L.runs
-
-          by : (b : Bool) → is_waiting (slice_get l.machine.tasks (own l n)) ≡ b → b ≡ true
-          by true e = refl
-          by false e = absurd (ne (leaf_alone l S (own l n) t e live (S.apart.of_task t x n L.task (holds o n L.object)).1))
+  rests_n = target.rests_n v l t x n o f fs a S V rests L.task L.runs L.object L.waits C.frames at_a
 
   abbrev y' : Object
   y' = record y { ints = slice_set y.ints i (int_in x.top w) }
 
   minds : (j : ℕ) (r : Name) → slice_get y.refs j ≡ Some (Some r) → (is_on_path l.machine.tasks (own l r) (own l n) ≡ true) ⊎ In (sources v' (own l r)) (record { object = a; field = j })
-  minds j r e = elim (at_old (place.here rests_n)) [ inl p ↦ inl p | inr s ↦ inr (C.writes.noted (own l r) (record { object = a; field = j }) s) ]
-    where
-      at_old : Lies (v.belongings (own l n)).chunks n a → (is_on_path l.machine.tasks (own l r) (own l n) ≡ true) ⊎ In (sources v (own l r)) (record { object = a; field = j })
-      at_old q =
-          subst (λ (c : Addr). (is_on_path l.machine.tasks (own l r) (own l n) ≡ true) ⊎ In (sources v (own l r)) (record { object = c; field = j })) q.2.at
-          (V.remembered (own l n) q.0 y j r rests_n q.1 (ap (object_at l.machine.store) q.2.name ∙ L.writes.was) e)
+  minds j r e = elim (target.minded v l t x n o f fs a S V rests L.task L.runs L.object L.waits C.frames at_a y j r L.writes.was e) [ inl p ↦ inl p | inr s ↦ inr (C.writes.noted (own l r) (record { object = a; field = j }) s) ]
 
   task : (z : Task) → Rests l t → slice_get l'.machine.tasks t ≡ Some z → TaskIsRead (Place v l) (v'.belongings t) z
   task z r e =

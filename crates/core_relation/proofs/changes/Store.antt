@@ -1,6 +1,6 @@
 -- A store of a reference, into an object of the task or of one above it: the write barrier's work.
 use Rattle.std.proofs.Common.{◌≡◌, ℕ, ℤ, ◌+◌, Bool, true, false, Option, Some, None, List, ◌∷◌, slice_get, slice_set, ◌⊎◌, inl, inr, refl, ap, sym, subst, ◌∙◌}
-use Rattle.std.proofs.lemmas.Bool.{cases_eq, both_ways}
+use Rattle.std.proofs.lemmas.Bool.{both_ways}
 use Rattle.std.proofs.lemmas.Option.{same_Some}
 use Rattle.listed.proofs.Members.{got_cases}
 use Rattle.object_layout.specs.declared.word.Addr.{Addr}
@@ -8,27 +8,26 @@ use Rattle.hh_model.specs.declared.data.Name.{Name}
 use Rattle.hh_model.specs.declared.data.Frame.{Frame as ModelFrame}
 use Rattle.hh_model.specs.declared.data.Object.{Object}
 use Rattle.hh_model.specs.declared.data.Task.{Task}
-use Rattle.hh_model.specs.Effect.{object_at, ref_in}
+use Rattle.hh_model.specs.Effect.{ref_in}
 use Rattle.hh_model.specs.Names.{task_names}
-use Rattle.hh_model.specs.Step.{is_waiting, is_joined, is_on_path, parents}
-use Rattle.hh_model.proofs.Carried.{at_in}
+use Rattle.hh_model.specs.Step.{is_waiting, is_on_path, parents}
 use Rattle.hh_model.proofs.Paths.{on_one_path, path_itself}
-use Rattle.hh_model.proofs.Steps.{names_run, in_registers}
 use Rattle.run_ledger.specs.declared.data.Ledger.{Ledger}
 use Rattle.run_ledger.specs.Heaps.{heap_of}
 use Rattle.run_ledger.specs.Sound.{SoundLedger, InHeaps}
 use Rattle.task_frames.specs.declared.frames.Frame.{Frame}
 use Rattle.remembered_set.specs.declared.remembered.Source.{Source}
-use Rattle.core_relation.specs.Memory.{Memory, In, sources, Lies}
+use Rattle.core_relation.specs.Memory.{Memory, In, sources}
 use Rattle.core_relation.specs.Reads.{Reads, FrameIsRead, FramesAreRead, HoldsRead, TaskIsRead}
 use Rattle.ledger_step_laws.specs.Accounts.{own, Rests}
 use Rattle.core_relation.specs.Stands.{Place, IsSource, Stands}
 use Rattle.ledger_step_laws.specs.Kinds.{StoresOne, onward_with}
 use Rattle.core_relation.specs.Changes.{StoresAt, with_field, gone_on}
 use Rattle.task_frames.specs.FramesValue.{ref_of}
-use Rattle.core_relation.proofs.objects.Carry.{all_set, field_of}
+use Rattle.core_relation.proofs.objects.Carry.{all_set}
 use Rattle.core_relation.proofs.changes.Sweep.{snapshot_is}
 use Rattle.ledger_step_laws.proofs.Tree.{own_live, leaf_alone}
+use Rattle.core_relation.proofs.changes.Target as target
 use Rattle.core_relation.proofs.changes.Write.{written}
 
 -- of two names that a running task holds, where the owner of the one isn't on the path of the other's: the other's
@@ -64,17 +63,16 @@ goes_on at (Some c) f z R = record { function = R.function; next = ap (λ k. k +
 module _ (v v' : Memory) (l l' : Ledger) (t : ℕ) (x : Task) (n : Name) (y : Object) (o w i : ℕ) (c : Option (ℕ × ℤ)) (f : Frame) (fs : List Frame) (a : Addr) (S : SoundLedger l) (V : Stands v l) (rests : Rests l t)
     (L : StoresOne l l' t x n y o w i c) (C : StoresAt v v' l t f fs a w i c) (at_a : ref_of f o ≡ Some a) where
   frames : FramesAreRead (Place v l) (f ∷ fs) (x.top ∷ x.below)
-  frames = subst (λ zs. FramesAreRead (Place v l) zs (x.top ∷ x.below)) C.frames (subst (HoldsRead (Place v l) (v.belongings t) x) L.runs (V.tasks t x rests L.task))
+  frames = target.frames v l t x n o f fs a S V rests L.task L.runs L.object L.waits C.frames at_a
 
   pub holds : (j : ℕ) (m : Name) → ref_in x.top j ≡ Some m → In (task_names x) m
-  holds j m e = names_run x m L.runs (in_registers (x.top ∷ x.below) x.top m (inl refl) (at_in x.top.refs j m e))
+  holds = target.holds v l t x n o f fs a S V rests L.task L.runs L.object L.waits C.frames at_a
 
-  -- a register is read through the map
   reads : (j : ℕ) → Reads (Place v l) (ref_of f j) (ref_in x.top j)
-  reads j = field_of (Place v l) f.refs x.top.refs j frames.0.refs
+  reads = target.reads v l t x n o f fs a S V rests L.task L.runs L.object L.waits C.frames at_a
 
   pub place : Place v l n a
-  place = subst (λ z. Reads (Place v l) z (Some n)) at_a (subst (Reads (Place v l) (ref_of f o)) L.object (reads o))
+  place = target.place v l t x n o f fs a S V rests L.task L.runs L.object L.waits C.frames at_a
 
   -- what the register w holds
   value : (r : Name) → ref_in x.top w ≡ Some r → (b : Addr) × (ref_of f w ≡ Some b) × Place v l r b
@@ -96,35 +94,17 @@ module _ (v v' : Memory) (l l' : Ledger) (t : ℕ) (x : Task) (n : Name) (y : Ob
   y' = record y { refs = slice_set y.refs i (ref_in x.top w) }
 
   pub rests_n : Rests l (own l n)
-  rests_n = elim (cases_eq (own l n) t) [
-    | inl e ↦ ap (λ z. (heap_of l z).worker) e ∙ rests
-    | inr ne ↦ L.waits (own l n) (on_way ne)
-  ]
-    where
-      on_way : (own l n ≡ t → ⊥) → is_waiting (slice_get l.machine.tasks (own l n)) ≡ true
-      on_way ne = by (is_waiting (slice_get l.machine.tasks (own l n))) refl
-        where
-          live : is_joined (slice_get l.machine.tasks t) ≡ false
-          live = ap is_joined L.task ∙ ap (λ s. is_joined (Some (record x { status = s }))) L.runs
-
-          by : (b : Bool) → is_waiting (slice_get l.machine.tasks (own l n)) ≡ b → b ≡ true
-          by true e = refl
-          by false e = absurd (ne (leaf_alone l S (own l n) t e live (S.apart.of_task t x n L.task (holds o n L.object)).1))
+  rests_n = target.rests_n v l t x n o f fs a S V rests L.task L.runs L.object L.waits C.frames at_a
 
   minds : (j : ℕ) (r : Name) → slice_get y'.refs j ≡ Some (Some r) → (is_on_path l.machine.tasks (own l r) (own l n) ≡ true) ⊎ In (sources v' (own l r)) (record { object = a; field = j })
   minds j r e = elim (got_cases y.refs i j (ref_in x.top w) (Some r) e) [
     | inl h ↦ by (is_on_path l.machine.tasks (own l r) (own l n)) refl (value r (sym h.1)) h.0
-    | inr old ↦ elim (at_old old (place.here rests_n)) [ inl p ↦ inl p | inr s ↦ inr (C.writes.noted (own l r) (record { object = a; field = j }) s) ]
+    | inr old ↦ elim (target.minded v l t x n o f fs a S V rests L.task L.runs L.object L.waits C.frames at_a y j r L.writes.was old) [ inl p ↦ inl p | inr s ↦ inr (C.writes.noted (own l r) (record { object = a; field = j }) s) ]
   ]
     where
       by : (b : Bool) → is_on_path l.machine.tasks (own l r) (own l n) ≡ b → (c : Addr) × (ref_of f w ≡ Some c) × Place v l r c → j ≡ i → (is_on_path l.machine.tasks (own l r) (own l n) ≡ true) ⊎ In (sources v' (own l r)) (record { object = a; field = j })
       by true h q k = inl h
       by false h q k = inr (subst (λ z. In (sources v' (own l r)) (record { object = a; field = z })) (sym k) (C.down q.0 (own l n) (own l r) q.1 place.chunk q.2.chunk h))
-
-      at_old : slice_get y.refs j ≡ Some (Some r) → Lies (v.belongings (own l n)).chunks n a → (is_on_path l.machine.tasks (own l r) (own l n) ≡ true) ⊎ In (sources v (own l r)) (record { object = a; field = j })
-      at_old old q =
-          subst (λ (c : Addr). (is_on_path l.machine.tasks (own l r) (own l n) ≡ true) ⊎ In (sources v (own l r)) (record { object = c; field = j })) q.2.at
-          (V.remembered (own l n) q.0 y j r rests_n q.1 (ap (object_at l.machine.store) q.2.name ∙ L.writes.was) old)
 
   source : (u : ℕ) (s : Source) → In (sources v' u) s → IsSource v l u s
   source u s k = elim (C.only u s k) [

@@ -1,0 +1,66 @@
+-- What a store finds: the object that a register of the running task holds.
+use Rattle.std.proofs.Common.{◌≡◌, ℕ, Bool, true, false, Some, List, ◌∷◌, slice_get, ◌⊎◌, inl, inr, refl, ap, subst, ◌∙◌}
+use Rattle.std.proofs.lemmas.Bool.{cases_eq}
+use Rattle.object_layout.specs.declared.word.Addr.{Addr}
+use Rattle.hh_model.specs.declared.data.Name.{Name}
+use Rattle.hh_model.specs.declared.data.Object.{Object}
+use Rattle.hh_model.specs.declared.data.Status.TheVariants.{Running}
+use Rattle.hh_model.specs.declared.data.Task.{Task}
+use Rattle.hh_model.specs.Effect.{object_at, ref_in}
+use Rattle.hh_model.specs.Names.{task_names}
+use Rattle.hh_model.specs.Step.{is_waiting, is_joined, is_on_path}
+use Rattle.hh_model.proofs.Carried.{at_in}
+use Rattle.hh_model.proofs.Steps.{names_run, in_registers}
+use Rattle.run_ledger.specs.declared.data.Ledger.{Ledger}
+use Rattle.run_ledger.specs.Heaps.{heap_of}
+use Rattle.run_ledger.specs.Sound.{SoundLedger}
+use Rattle.task_frames.specs.declared.frames.Frame.{Frame}
+use Rattle.core_relation.specs.Memory.{Memory, In, sources, Lies}
+use Rattle.core_relation.specs.Reads.{Reads, FramesAreRead, HoldsRead}
+use Rattle.ledger_step_laws.specs.Accounts.{own, Rests}
+use Rattle.core_relation.specs.Stands.{Place, Stands}
+use Rattle.task_frames.specs.FramesValue.{ref_of}
+use Rattle.core_relation.proofs.objects.Carry.{field_of}
+use Rattle.ledger_step_laws.proofs.Tree.{leaf_alone}
+
+module _ (v : Memory) (l : Ledger) (t : ℕ) (x : Task) (n : Name) (o : ℕ) (f : Frame) (fs : List Frame) (a : Addr) (S : SoundLedger l) (V : Stands v l) (rests : Rests l t)
+    (is : slice_get l.machine.tasks t ≡ Some x) (runs : x.status ≡ Running) (held : ref_in x.top o ≡ Some n) (waiters : (u : ℕ) → is_waiting (slice_get l.machine.tasks u) ≡ true → Rests l u)
+    (frames_are : (v.belongings t).frames ≡ f ∷ fs) (at_a : ref_of f o ≡ Some a) where
+  pub frames : FramesAreRead (Place v l) (f ∷ fs) (x.top ∷ x.below)
+  frames = subst (λ zs. FramesAreRead (Place v l) zs (x.top ∷ x.below)) frames_are (subst (HoldsRead (Place v l) (v.belongings t) x) runs (V.tasks t x rests is))
+
+  pub holds : (j : ℕ) (m : Name) → ref_in x.top j ≡ Some m → In (task_names x) m
+  holds j m e = names_run x m runs (in_registers (x.top ∷ x.below) x.top m (inl refl) (at_in x.top.refs j m e))
+
+  -- a register is read through the map
+  pub reads : (j : ℕ) → Reads (Place v l) (ref_of f j) (ref_in x.top j)
+  reads j = field_of (Place v l) f.refs x.top.refs j frames.0.refs
+
+  pub place : Place v l n a
+  place = subst (λ z. Reads (Place v l) z (Some n)) at_a (subst (Reads (Place v l) (ref_of f o)) held (reads o))
+
+  -- no worker holds who owns the object
+  pub rests_n : Rests l (own l n)
+  rests_n = elim (cases_eq (own l n) t) [
+    | inl e ↦ ap (λ z. (heap_of l z).worker) e ∙ rests
+    | inr ne ↦ waiters (own l n) (on_way ne)
+  ]
+    where
+      on_way : (own l n ≡ t → ⊥) → is_waiting (slice_get l.machine.tasks (own l n)) ≡ true
+      on_way ne = by (is_waiting (slice_get l.machine.tasks (own l n))) refl
+        where
+          live : is_joined (slice_get l.machine.tasks t) ≡ false
+          live = ap is_joined is ∙ ap (λ s. is_joined (Some (record x { status = s }))) runs
+
+          by : (b : Bool) → is_waiting (slice_get l.machine.tasks (own l n)) ≡ b → b ≡ true
+          by true e = refl
+          by false e = absurd (ne (leaf_alone l S (own l n) t e live (S.apart.of_task t x n is (holds o n held)).1))
+
+  -- what a field of the object refers to stands on the path of its owner, or the field is remembered
+  pub minded : (y : Object) (j : ℕ) (r : Name) → object_at l.machine.store n ≡ Some y → slice_get y.refs j ≡ Some (Some r) → (is_on_path l.machine.tasks (own l r) (own l n) ≡ true) ⊎ In (sources v (own l r)) (record { object = a; field = j })
+  minded y j r was e = at_old (place.here rests_n)
+    where
+      at_old : Lies (v.belongings (own l n)).chunks n a → (is_on_path l.machine.tasks (own l r) (own l n) ≡ true) ⊎ In (sources v (own l r)) (record { object = a; field = j })
+      at_old q =
+          subst (λ (c : Addr). (is_on_path l.machine.tasks (own l r) (own l n) ≡ true) ⊎ In (sources v (own l r)) (record { object = c; field = j })) q.2.at
+          (V.remembered (own l n) q.0 y j r rests_n q.1 (ap (object_at l.machine.store) q.2.name ∙ was) e)
