@@ -13,5 +13,6 @@ pub mod FormByOutline
 pub mod PartBelongings
 pub mod StepsCounted
 pub mod FitsAfterSteps
+pub mod MoreSteps
 pub mod TaskNotHeld
 pub mod OtherStepKinds

@@ -21,8 +21,7 @@ use Rattle.task_machine.specs.Accounts.{KeepsAccounts}
 use Rattle.task_machine.specs.Fits.{unended}
 use Rattle.task_machine.specs.Outline.{steps}
 use Rattle.task_machine.specs.Ready.{FitsSome}
-use Rattle.task_machine.specs.Run.{KeepsRest, Pauses, PausesBy, Runs}
-use Rattle.task_machine.proofs.Behind.{steps_more}
+use Rattle.task_machine.specs.Run.{KeepsRest, PausesBy, Runs}
 use Rattle.shared_value.specs.Fits.{Fits}
 use Rattle.shared_value.specs.Links.{FitsFirst}
 use Rattle.shared_value.specs.Stands.{IsSharedValue}
@@ -30,7 +29,7 @@ use Rattle.shared_value.specs.SharedValue.{SharedValue, accounts}
 use Rattle.shared_value.proofs.PartFitsMachine.{second_gives_first}
 use Rattle.shared_value.proofs.StepsEntered.{beyond_machine}
 use Rattle.own_steps.specs.Alone.{machine_after}
-use Rattle.own_steps.proofs.FitsAfterSteps.{parts_fit_again}
+use Rattle.own_steps.proofs.MoreSteps.{fits_on, next_on, ran}
 use Rattle.turn_entries.specs.Parts.{AtSome, HasGrown, IsPaused, MayRun}
 
 -- ---- ITS OBJECTS are counted
@@ -69,33 +68,20 @@ module _ (w : SharedValue) (text : ProgramText) (same : w.program ≡ text) (k :
   F : FitsFirst w old
   F = first w k old I on fits
 
-  R : Runs w.program old n new
-  R = subst (λ (p : ProgramText). Runs p old n new) (sym same) runs
-
-  C : KeepsAccounts w.program old n new
-  C = subst (λ (p : ProgramText). KeepsAccounts p old n new) (sym same) accounts_kept
+  within : old.fresh + n ≤ 257
+  within = omega (arith, few)
 
   ran_fresh : new.fresh ≡ old.fresh + n
-  ran_fresh = (R (machine_after w old) _ F).fresh
-
-  ran_task : new.task ≡ old.task
-  ran_task = (R (machine_after w old) _ F).task
-
-  behind : steps w.program (machine_after w old) old.task n ≡ machine_after w new
-  behind =
-      ap (λ (m : State). steps w.program m old.task n) (beyond_machine w.program (accounts w) old)
-      ∙ (steps_more w.program (unended (accounts w).machine) old.task old.fresh n new.fresh ran_fresh
-      ∙ (ap (λ (t : ℕ). steps w.program (unended (accounts w).machine) t new.fresh) (sym ran_task)
-      ∙ sym (beyond_machine w.program (accounts w) new)))
+  ran_fresh = (ran w text same k I old new fits on F idle n runs accounts_kept rest within).fresh
 
   pub paused_then : (why : Paused) → PausesBy text old n new why → (why ≡ Spent → new.fresh ≡ private_limit) → IsPaused w k new why
   paused_then why by spent = record {
     may = record {
-      fits = parts_fit_again w k old new n I fits on idle R C rest (omega (arith, few));
+      fits = fits_on w text same k I old new fits on F idle n runs accounts_kept rest within;
       few = (let e = ran_fresh in omega (arith, e, few));
       idle = ap (λ (q : Private). q.begun) rest ∙ idle;
     };
-    next = subst (λ (m : State). Pauses w.program new m why) behind (subst (λ (p : ProgramText). PausesBy p old n new why) (sym same) by (machine_after w old) _ F);
+    next = next_on w text same k I old new fits on F idle n runs accounts_kept rest within why by;
     spent = spent;
   }
 

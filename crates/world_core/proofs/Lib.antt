@@ -9,4 +9,3 @@ pub mod Making
 pub mod BegunPart
 pub mod Applying
 pub mod Replayed
-pub mod LocalRuns

@@ -3,7 +3,7 @@ use Rattle.std.proofs.lemmas.Result.{IfOk-at_ok}
 use Rattle.task_machine.specs.Run.{PausesBy}
 use Rattle.world_core.specs.Next.{IsNext}
 use Rattle.world_core.proofs.HoldingCauses.{on}
-use Rattle.world_core.proofs.LocalRuns.{few_more, fits_on, next_on}
+use Rattle.own_steps.proofs.MoreSteps.{few_more, fits_on, next_on}
 use Rattle.world_core.proofs.Entries.{if_ok}
 use Rattle.world_core.proofs.apply_ran.run_more.Goals as goal
 

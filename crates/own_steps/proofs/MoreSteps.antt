@@ -16,7 +16,6 @@ use Rattle.shared_value.specs.Links.{FitsFirst, above_of}
 use Rattle.shared_value.proofs.StepsEntered.{beyond_machine}
 use Rattle.own_steps.specs.Alone.{machine_after}
 use Rattle.own_steps.proofs.FitsAfterSteps.{parts_fit_again}
-use Rattle.world_core.specs.Next.{IsNext}
 
 module _ (w : SharedValue) (text : ProgramText) (same : w.program ≡ text) (k : ℕ) (I : IsSharedValue w) (old new : Private) (fits : Fits w k old) (on : (accounts w).end ≡ None) (F : FitsFirst w old) (idle : old.begun ≡ None) (n : ℕ) (runs : Runs text old n new)
     (accounts_kept : KeepsAccounts text old n new) (rest : KeepsRest old new) (few : old.fresh + n ≤ 257) where
@@ -26,7 +25,7 @@ module _ (w : SharedValue) (text : ProgramText) (same : w.program ≡ text) (k :
   kept : KeepsAccounts w.program old n new
   kept = subst (λ (p : ProgramText). KeepsAccounts p old n new) (sym same) accounts_kept
 
-  ran : Ran w.program old (machine_after w old) (above_of (value_of w) (accounts w) old.task) n new
+  pub ran : Ran w.program old (machine_after w old) (above_of (value_of w) (accounts w) old.task) n new
   ran = R (machine_after w old) _ F
 
   pub fits_on : Fits w k new
@@ -44,5 +43,5 @@ module _ (w : SharedValue) (text : ProgramText) (same : w.program ≡ text) (k :
       ∙ (steps_more w.program m old.task old.fresh n (old.fresh + n) refl
       ∙ (ap (λ (t : ℕ). steps w.program m t (old.fresh + n)) (sym ran.task) ∙ (ap (steps w.program m new.task) (sym ran.fresh) ∙ sym (beyond_machine w.program (accounts w) new))))
 
-  pub next_on : (why : Paused) → PausesBy text old n new why → IsNext w new why
+  pub next_on : (why : Paused) → PausesBy text old n new why → Pauses w.program new (machine_after w new) why
   next_on why by = subst (λ (z : State). Pauses w.program new z why) behind (subst (λ (p : ProgramText). PausesBy p old n new why) (sym same) by (machine_after w old) _ F)
