@@ -7,9 +7,9 @@ use Rattle.run_ledger.specs.declared.data.Ledger.{Ledger}
 use Rattle.run_ledger.specs.Heaps.{heap_of, or_fresh, let_go, with_heap_at}
 use Rattle.run_ledger.specs.Sound.{SoundLedger}
 use Rattle.run_ledger.proofs.Sound.{renewed}
-use Rattle.ledger_step_laws.specs.Accounts.{Rests, rested, Knows}
+use Rattle.ledger_step_laws.specs.Accounts.{ChangesHeap, Rests, rested, Knows}
 use Rattle.hh_model.specs.declared.data.State.{State}
-use Rattle.ledger_step_laws.proofs.Ahead.{heap_then, with_at}
+use Rattle.ledger_step_laws.proofs.Ahead.{heap_then, with_at, with_off}
 use Rattle.hh_model.specs.Store.{IsStored}
 use Rattle.hh_model.specs.Closed.{Closed}
 use Rattle.run_ledger.proofs.Machine.{heap_machine}
@@ -33,6 +33,15 @@ rested_worker l t = ap (λ o. (or_fresh o).worker) (with_at l t let_go) ∙ by (
 
 pub rested_view : {A : Type 0} (view : Heap → A) → ((h : Heap) → view (let_go h) ≡ view h) → (l : Ledger) (t : ℕ) → view (heap_of (rested l t) t) ≡ view (heap_of l t)
 rested_view view same l t = heap_view view l t let_go same t
+
+-- a heap's change is the same with its task at rest
+pub rested_changes : (l l' : Ledger) (t : ℕ) → ChangesHeap l l' t → ChangesHeap (rested l t) (rested l' t) t
+rested_changes l l' t C = record {
+  machine = heap_machine l' t let_go ∙ (C.machine ∙ sym (heap_machine l t let_go));
+  others = λ u nu. ap or_fresh (with_off l' t u let_go nu) ∙ (C.others u nu ∙ ap or_fresh (sym (with_off l t u let_go nu)));
+  worker = rested_worker l' t ∙ sym (rested_worker l t);
+  snapshot = rested_view (λ h. h.snapshot) (λ h. refl) l' t ∙ (C.snapshot ∙ sym (rested_view (λ h. h.snapshot) (λ h. refl) l t));
+}
 
 pub rested_sound : (l : Ledger) (t : ℕ) → SoundLedger l → SoundLedger (rested l t)
 rested_sound l t S = by (slice_get l.heaps t) refl

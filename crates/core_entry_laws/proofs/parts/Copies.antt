@@ -24,10 +24,10 @@ use Rattle.ledger_step_laws.specs.Accounts.{rested, ChangesHeap}
 use Rattle.core_relation.specs.Changes.{Moves}
 use Rattle.core_relation.specs.Whole.{BegunBy}
 use Rattle.core_relation.specs.Copies.{PartFits, before, CopyFits, EndsAt}
-use Rattle.ledger_step_laws.proofs.Ahead.{with_off, with_at, heap_then}
+use Rattle.ledger_step_laws.proofs.Ahead.{with_at, heap_then}
 use Rattle.core_entry_laws.proofs.notes.Begun.{begun_stays}
 use Rattle.core_relation.proofs.changes.Collect.{collected as collection}
-use Rattle.ledger_step_laws.proofs.Rested.{rested_worker, rested_view, rested_sound}
+use Rattle.ledger_step_laws.proofs.Rested.{rested_changes, rested_worker, rested_view, rested_sound}
 use Rattle.ledger_step_laws.proofs.Entries.{end_changes}
 use Rattle.task_machine.specs.declared.part.Begun.{Begun}
 use Rattle.core_relation.proofs.changes.With.{at_belongings, off_belongings}
@@ -102,13 +102,8 @@ module _ (p : ProgramText) (s : SettingsValue) (t : ℕ) (h h' : Belongings) (f 
   heap' : heap_of l' t ≡ collected l.machine (heap_of l t)
   heap' = ap or_fresh (with_at l t (collected l.machine) ∙ ap (heap_then (collected l.machine)) there) ∙ ap (λ o. collected l.machine (or_fresh o)) (sym there)
 
-  pub rested_changes : ChangesHeap lt lt' t
-  rested_changes = record {
-    machine = heap_machine l' t let_go ∙ (ends.machine ∙ sym (heap_machine l t let_go));
-    others = λ u nu. ap or_fresh (with_off l' t u let_go nu) ∙ (ends.others u nu ∙ ap or_fresh (sym (with_off l t u let_go nu)));
-    worker = rested_worker l' t ∙ sym (rested_worker l t);
-    snapshot = rested_view (λ h. h.snapshot) (λ h. refl) l' t ∙ (ends.snapshot ∙ sym (rested_view (λ h. h.snapshot) (λ h. refl) l t));
-  }
+  rested_ends : ChangesHeap lt lt' t
+  rested_ends = rested_changes l l' t ends
 
   survivors : (heap_of lt t).survivors ≡ (heap_of l t).survivors
   survivors = rested_view (λ h. h.survivors) (λ h. refl) l t
@@ -132,7 +127,7 @@ module _ (p : ProgramText) (s : SettingsValue) (t : ℕ) (h h' : Belongings) (f 
     since = ap (λ (z : Belongings). z.since) new_belongings ∙ (C.copy.since ∙ (ap (λ (z : Heap). z.since) (sym heap') ∙ sym (rested_view (λ z. z.since) (λ z. refl) l' t)));
     count = λ live.
         ap (λ (z : Belongings). z.count) new_belongings
-        ∙ (C.copy.count ∙ (sym (ap (λ (z : Belongings). z.count) old_belongings) ∙ (H.count (sym (ap (λ (m : State). is_joined (slice_get m.tasks t)) rested_changes.machine) ∙ live) ∙ sym (ap (λ (m : State). length (row_of (slice_get m.store t))) rested_changes.machine))));
+        ∙ (C.copy.count ∙ (sym (ap (λ (z : Belongings). z.count) old_belongings) ∙ (H.count (sym (ap (λ (m : State). is_joined (slice_get m.tasks t)) rested_ends.machine) ∙ live) ∙ sym (ap (λ (m : State). length (row_of (slice_get m.store t))) rested_ends.machine))));
     owned = λ c i. E.mine c (subst (λ (z : Belongings). In z.chunks c) new_belongings i);
     inside = λ c o i j. C.copy.inside c o (subst (λ (z : Belongings). In z.chunks c) new_belongings i) j;
     once = λ o q i j e. C.copy.once o q (subst (λ (z : Belongings). In (objects_in z.chunks) o) new_belongings i) (subst (λ (z : Belongings). In (objects_in z.chunks) q) new_belongings j) e;
@@ -164,7 +159,7 @@ module _ (p : ProgramText) (s : SettingsValue) (t : ℕ) (h h' : Belongings) (f 
         runs = runs;
         begun = rested_view (λ z. is_some z.begun) (λ z. refl) l t ∙ C.collects;
         rests = rested_worker l t;
-      }) rested_changes moves
+      }) rested_ends moves
 
   -- after the end it fits, and has begun no collection
   pub copy_fits : h'.begun ≡ None → PartFits p s (before s t h') v' l'

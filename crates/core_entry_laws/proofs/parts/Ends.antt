@@ -20,7 +20,7 @@ use Rattle.core_relation.specs.Changes.{Moves}
 use Rattle.core_relation.specs.Frames.{IsSteady, IsOut, Beside, EndsBeside}
 use Rattle.ledger_step_laws.proofs.Ahead.{SameOf, with_off}
 use Rattle.core_entry_laws.proofs.parts.Parts.{ahead_alone, ahead_same}
-use Rattle.ledger_step_laws.proofs.Rested.{rested_sound, rested_worker, rested_view}
+use Rattle.ledger_step_laws.proofs.Rested.{rested_changes, rested_sound, rested_worker, rested_view}
 use Rattle.core_entry_laws.proofs.parts.Pair.{beside}
 use Rattle.core_entry_laws.proofs.parts.Frame.{collect_frame}
 
@@ -77,12 +77,7 @@ module _ (p : ProgramText) (s : SettingsValue) (t : ℕ) (g g' : Belongings) (r 
     N0 = ahead_alone p s r l' K'.sound (steady' l' same) at_l'.0
 
     ends : ChangesHeap lt lt' t
-    ends = record {
-      machine = heap_machine l' t let_go ∙ (L.machine ∙ sym (heap_machine l t let_go));
-      others = λ u nu. ap or_fresh (with_off l' t u let_go nu) ∙ (L.others u nu ∙ ap or_fresh (sym (with_off l t u let_go nu)));
-      worker = rested_worker l' t ∙ sym (rested_worker l t);
-      snapshot = rested_view (λ h. h.snapshot) (λ h. refl) l' t ∙ (L.snapshot ∙ sym (rested_view (λ h. h.snapshot) (λ h. refl) l t));
-    }
+    ends = rested_changes l l' t L
 
     all_ends : EndsBeside v v' lt lt' (ahead p r l) (ahead p r l') (ahead p r lt) (ahead p r lt') t r.task w g g' r.belongings x f
     all_ends = record {

@@ -40,8 +40,8 @@ use Rattle.core_relation.specs.Counts.{CountsGo, IsQuiet, IsMarked}
 use Rattle.core_entry_laws.proofs.notes.AllNotes.{sweeps_note, ends_note, steps_note, quiet_notes}
 use Rattle.core_entry_laws.proofs.whole.Counts.{counts_stand}
 use Rattle.core_entry_laws.proofs.parts.QuietEntries.{quiet_by, marked_or}
-use Rattle.core_entry_laws.proofs.parts.Copies.{rested_changes}
 use Rattle.core_entry_laws.proofs.notes.NotesAhead.{notes_ahead, notes_back}
+use Rattle.ledger_step_laws.proofs.Rested.{rested_changes}
 use Rattle.core_relation.proofs.notes.Rooted.{root_apart}
 use Rattle.core_relation.proofs.changes.Takes.{ran_stands}
 use Rattle.core_relation.specs.Copies.{CopyFits, EndsAt, before}
@@ -180,7 +180,7 @@ module _ (p : ProgramText) (s : SettingsValue) (journal : List EntryValue) (prog
       let before_notes = notes_ahead p s (before s t h) v l x.0 (legal_knows p s journal legal) K.old.fits (record { task = x.1; runs = x.2; can = can; steady = inl refl }) (whole_notes v c l W) in
       put_together e accepted W (ran_stands p s (before s t h') v' l' M.1.fits.worker M.1.fits M.1.fits.out idle')
       (notes_back t h' v' l' idle' M.1.fits.stands
-      (ends_note (with_belongings v t h) (with_belongings v' t h') (rested l t) (rested l' t) t (heap_of (rested l t) t).survivors f K.old.fits.stands rest_idle (rested_changes p s t h h' f v v' l x.0 0 S x.1 (runs_is x.0.status x.2) g.0 g.1 K E) M.0
+      (ends_note (with_belongings v t h) (with_belongings v' t h') (rested l t) (rested l' t) t (heap_of (rested l t) t).survivors f K.old.fits.stands rest_idle (rested_changes l l' t L) M.0
       (record { none = N.none; others = λ u ne. record { keeps = (N.others u ne).keeps; kept = (N.others u ne).kept; marked = (N.others u ne).marked } }) before_notes))
       (λ u q. sym (heap_view (λ z. z.worker) l t (collected l.machine) (λ z. refl) u) ∙ q)
       (λ u q. ap (λ (z : Belongings). z.begun) (E.others u (other u (sym (heap_view (λ z. z.worker) l t (collected l.machine) (λ z. refl) u) ∙ q)))) C
