@@ -18,20 +18,12 @@ use Rattle.kept_pieces.proofs.PieceLists as lists
 use Rattle.object_layout.proofs.ChunkLaws as chunks
 pub use Rattle.object_layout.proofs.ChunkLaws.{none_there, place_found, place_there}
 use Rattle.object_layout.proofs.PlaceLemmas as place
-use Rattle.object_layout.proofs.PlaceLemmas.{words_in-push}
+use Rattle.object_layout.proofs.PlaceLemmas.{total-put_cell, words_in-push}
 
 -- ---- the words of objects
 
 pub object_words_in-put : (cs : List Cell) (at : ℕ) (d : Cell) → held_size d.mark (size_of d) ≡ held_size (cell_at cs at).mark (size_of (cell_at cs at)) → object_words_in (put_cell cs at d) ≡ object_words_in cs
-object_words_in-put [] at d s = refl
-object_words_in-put (c ∷ cs) zero d s = rw s
-object_words_in-put (c ∷ cs) (suc n) d s =
-    ⊎_elim
-    (λ (above : suc n < size_of c). rw (lt-leb (size_of c) (suc n) above))
-    (λ (within : size_of c ≤ suc n).
-    let t = le-leb (size_of c) (suc n) within in
-    rw (t, object_words_in-put cs (suc n - size_of c) d (rw t at s)))
-    (cases_lt (suc n) (size_of c))
+object_words_in-put = total-put_cell (λ c. held_size c.mark (size_of c)) object_words_in (λ c cs. refl)
 
 pub object_words_in-push : (cs : List Cell) (d : Cell) → object_words_in (cs ++ d ∷ []) ≡ object_words_in cs + held_size d.mark (size_of d)
 object_words_in-push [] d = omega arith
@@ -50,15 +42,7 @@ held_words-append (k ∷ ks) ls = let ih = held_words-append ks ls in omega arit
 -- the same, where an object of n words counts for f n
 module _ (f : ℕ → ℕ) where
   pub sum_in-put : (cs : List Cell) (at : ℕ) (d : Cell) → ((n : ℕ) → held_size d.mark n ≡ held_size (cell_at cs at).mark n) → size_of d ≡ size_of (cell_at cs at) → sum_in f (put_cell cs at d) ≡ sum_in f cs
-  sum_in-put [] at d s z = refl
-  sum_in-put (c ∷ cs) zero d s z = let e : held_size d.mark (f (size_of d)) ≡ held_size c.mark (f (size_of c)) = s (f (size_of d)) ∙ ap (λ (n : ℕ). held_size c.mark (f n)) z in omega arith
-  sum_in-put (c ∷ cs) (suc n) d s z =
-      ⊎_elim
-      (λ (above : suc n < size_of c). rw (lt-leb (size_of c) (suc n) above))
-      (λ (within : size_of c ≤ suc n).
-      let t = le-leb (size_of c) (suc n) within in
-      rw (t, sum_in-put cs (suc n - size_of c) d (rw t at s) (rw t at z)))
-      (cases_lt (suc n) (size_of c))
+  sum_in-put cs at d s z = total-put_cell (λ c. held_size c.mark (f (size_of c))) (sum_in f) (λ c cs. refl) cs at d (s (f (size_of d)) ∙ ap (λ (n : ℕ). held_size (cell_at cs at).mark (f n)) z)
 
   pub sum_in-push : (cs : List Cell) (d : Cell) → sum_in f (cs ++ d ∷ []) ≡ sum_in f cs + held_size d.mark (f (size_of d))
   sum_in-push [] d = omega arith

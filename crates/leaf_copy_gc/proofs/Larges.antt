@@ -1,14 +1,14 @@
 -- The references of the large survivors, led one object after another; and what keeps the shape of a heap.
-use Rattle.std.proofs.Common.{◌≡◌, ℕ, zero, suc, ◌-◌, Bool, true, false, cond, List, [], ◌∷◌, map, fold, refl, sym, ap, ◌∙◌, subst, inl, inr, eqb, Option, get_or}
+use Rattle.std.proofs.Common.{◌≡◌, Bool, true, false, cond, List, [], ◌∷◌, fold, refl, sym, ap, ◌∙◌, subst, inl, inr, eqb, Option, get_or}
 use Rattle.std.specs.Prelude.{nat_le}
-use Rattle.std.proofs.lemmas.Bool.{cases_Bool, false≢true, le-leb, lt-leb, cases_lt}
+use Rattle.std.proofs.lemmas.Bool.{cases_Bool, false≢true}
 use Rattle.object_layout.specs.declared.word.Addr.{Addr}
 use Rattle.object_layout.specs.Cell.{Cell, IsObject, size_of}
 use Rattle.object_layout.specs.ChunkValue.{ChunkValue}
-use Rattle.object_layout.specs.Place.{cell_at, put_cell}
 use Rattle.object_layout.specs.Chunks.{cell_of, put_object}
 use Rattle.object_layout.proofs.Distinct.{Once}
 use Rattle.object_layout.proofs.ChunkLaws as laws
+use Rattle.object_layout.proofs.PlaceLemmas.{map-put_cell}
 use Rattle.listed.proofs.Members.{In, contains_from_in}
 use Rattle.listed.proofs.Places.{in_map}
 use Rattle.leaf_copy_gc.specs.declared.lists.Survivor.{Survivor}
@@ -33,22 +33,11 @@ alike_then (x ∷ h) [] e a b = absurd a
 alike_then (x ∷ h) (y ∷ g) [] a b = b
 alike_then (x ∷ h) (y ∷ g) (z ∷ e) a b = ((b.0.0 ∙ a.0.0, b.0.1 ∙ a.0.1, b.0.2 ∙ a.0.2), alike_then h g e a.1 b.1)
 
-sizes_put : (cs : List Cell) (at : ℕ) (c : Cell) → size_of c ≡ size_of (cell_at cs at) → map size_of (put_cell cs at c) ≡ map size_of cs
-sizes_put [] at c s = refl
-sizes_put (d ∷ cs) zero c s = ap (λ (n : ℕ). n ∷ map size_of cs) s
-sizes_put (d ∷ cs) (suc n) c s =
-    elim (cases_lt (suc n) (size_of d)) [
-      | inl above ↦ rw (lt-leb (size_of d) (suc n) above) refl
-      | inr within ↦
-          let t = le-leb (size_of d) (suc n) within in
-          rw t (ap (λ (ns : List ℕ). size_of d ∷ ns) (sizes_put cs (suc n - size_of d) c (rw t at s)))
-    ]
-
 pub alike_put : (h : List ChunkValue) (x : Addr) (c : Cell) → size_of c ≡ size_of (cell_of h x) → AreAlike h (put_object h x c)
 alike_put [] x c s = tt
 alike_put (k ∷ ks) x c s =
     elim (cases_Bool (eqb k.number x.chunk)) [
-      | inl e ↦ rw e ((refl, refl, sizes_put k.cells x.offset c (rw e at s)), alike_itself ks)
+      | inl e ↦ rw e ((refl, refl, map-put_cell size_of k.cells x.offset c (rw e at s)), alike_itself ks)
       | inr e ↦ rw e ((refl, refl, refl), alike_put ks x c (rw e at s))
     ]
 

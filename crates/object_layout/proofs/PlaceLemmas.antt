@@ -1,6 +1,6 @@
 -- Objects by their offsets: laws of the list of objects, and where their words lie.
 use Rattle.object_layout.specs.declared.word.Addr.{Addr}
-use Rattle.std.proofs.Common.{◌≡◌, ℕ, zero, suc, ◌+◌, ◌-◌, ◌<◌, ◌≤◌, List, [], ◌∷◌, ◌++◌, length, get_or, set, refl, sym, ap, ◌∙◌, arith, length-append, ⊎_elim, inl, inr, ◌⊎◌, length-set}
+use Rattle.std.proofs.Common.{◌≡◌, ℕ, zero, suc, ◌+◌, ◌-◌, ◌<◌, ◌≤◌, List, [], ◌∷◌, ◌++◌, length, map, get_or, set, refl, sym, ap, ◌∙◌, arith, length-append, ⊎_elim, inl, inr, ◌⊎◌, length-set}
 use Rattle.std.specs.Prelude.{All, ◌≢◌, nat_le, if◌then◌else◌, Option, ℤ, slice_set}
 use Rattle.std.proofs.lemmas.List.{append_assoc, get_or-append_right, get_or_append_left, set-append_left, set-append_right}
 use Rattle.std.proofs.lemmas.List.Elements.{All-head, All-tail, All-cons}
@@ -161,16 +161,32 @@ cell_or_none (c ∷ cs) (suc n) =
     (cell_or_none cs (suc n - size_of c))))
     (cases_lt (suc n) (size_of c))
 
+-- what is told of each cell stays where one is put in the place of another of which the same is told
+pub map-put_cell : {B : Type 0} (told : Cell → B) (cs : List Cell) (at : ℕ) (d : Cell) → told d ≡ told (cell_at cs at) → map told (put_cell cs at d) ≡ map told cs
+map-put_cell told [] at d s = refl
+map-put_cell told (c ∷ cs) zero d s = ap (λ z. z ∷ map told cs) s
+map-put_cell told (c ∷ cs) (suc n) d s =
+    elim (cases_lt (suc n) (size_of c)) [
+      | inl above ↦ rw (lt-leb (size_of c) (suc n) above) refl
+      | inr within ↦
+          let t = le-leb (size_of c) (suc n) within in
+          rw t (ap (λ zs. told c ∷ zs) (map-put_cell told cs (suc n - size_of c) d (rw t at s)))
+    ]
+
+-- and so does a total of them, where each adds a weight of its own
+pub total-put_cell : (weight : Cell → ℕ) (total : List Cell → ℕ) → ((c : Cell) (cs : List Cell) → total (c ∷ cs) ≡ weight c + total cs) → (cs : List Cell) (at : ℕ) (d : Cell) → weight d ≡ weight (cell_at cs at) → total (put_cell cs at d) ≡ total cs
+total-put_cell weight total adds [] at d s = refl
+total-put_cell weight total adds (c ∷ cs) zero d s = adds d cs ∙ (ap (λ n. n + total cs) s ∙ sym (adds c cs))
+total-put_cell weight total adds (c ∷ cs) (suc n) d s =
+    elim (cases_lt (suc n) (size_of c)) [
+      | inl above ↦ rw (lt-leb (size_of c) (suc n) above) refl
+      | inr within ↦
+          let t = le-leb (size_of c) (suc n) within in
+          rw t (adds c (put_cell cs (suc n - size_of c) d) ∙ (ap (λ n. weight c + n) (total-put_cell weight total adds cs (suc n - size_of c) d (rw t at s)) ∙ sym (adds c cs)))
+    ]
+
 pub words_in-put : (cs : List Cell) (at : ℕ) (d : Cell) → size_of d ≡ size_of (cell_at cs at) → words_in (put_cell cs at d) ≡ words_in cs
-words_in-put [] at d s = refl
-words_in-put (c ∷ cs) zero d s = rw s
-words_in-put (c ∷ cs) (suc n) d s =
-    ⊎_elim
-    (λ (above : suc n < size_of c). rw (lt-leb (size_of c) (suc n) above))
-    (λ (within : size_of c ≤ suc n).
-    let t = le-leb (size_of c) (suc n) within in
-    rw (t, words_in-put cs (suc n - size_of c) d (rw t at s)))
-    (cases_lt (suc n) (size_of c))
+words_in-put = total-put_cell size_of words_in (λ c cs. refl)
 
 -- ---- one object more
 
