@@ -33,7 +33,7 @@ use Rattle.run_ledger.proofs.Machine.{stepped_machine}
 use Rattle.run_ledger.proofs.Moves.{moves_each}
 use Rattle.journal_laws.proofs.OfNames.{flat_fresh, flat_set, held_fresh, held_set, within_same}
 use Rattle.run_ledger.proofs.Sound.{SoundLedger, collecting}
-use Rattle.run_ledger.proofs.Steps.{SoundAt, heap_of_task, step_leaves, task_step_sound, can_tells, task_steps_sound}
+use Rattle.run_ledger.proofs.Steps.{SoundAt, heap_of_task, step_keeps, step_leaves, steps_keep, task_step_sound, can_tells, task_steps_sound}
 use Rattle.run_ledger.proofs.Stocks.{copies, distinct, hit, legal_stocked, with_heap_any}
 use Rattle.run_ledger.proofs.Weights.{kept_weight, weight}
 
@@ -304,15 +304,10 @@ snap_can p l t S can w =
     subst (λ (k : Ledger). (heap_of k t).snapshot ≡ within k t) (sym forks) (fork_snapped c t g.0 g.1)
 
 snap_step : (p : ProgramText) (l : Ledger) (t : ℕ) → SoundAt t l → Snapped t l → Snapped t (task_step p l t)
-snap_step p l t S I = by (can_step l.machine t) refl
-  where
-    by : (v : Bool) → can_step l.machine t ≡ v → Snapped t (cond v (stepped_to (allocated_in p l t) t (step p l.machine t)) (record l { steps = l.steps + 1 }))
-    by false e = I
-    by true e = snap_can p l t S e
+snap_step p l t S I = step_keeps (Snapped t) p l t (snap_can p l t S) I
 
 snap_steps : (p : ProgramText) (k : ℕ) (l : Ledger) (t : ℕ) → SoundAt t l → Snapped t l → Snapped t (task_steps p l t k)
-snap_steps p zero l t S I = I
-snap_steps p (suc k) l t S I = snap_steps p k (task_step p l t) t (task_step_sound p l t S) (snap_step p l t S I)
+snap_steps p k l t S I = steps_keep (Snapped t) p t (λ m R J. snap_step p m t R J) k l S I
 
 -- JOURNALS
 

@@ -33,7 +33,7 @@ use Rattle.run_ledger.specs.Pace.{waits_since, waits_on, is_unmarked, is_to_mark
 use Rattle.run_ledger.specs.Cuts.{CanBeGiven, OwedCanBeGiven}
 use Rattle.run_ledger.proofs.Machine.{stepped_machine, heap_machine}
 use Rattle.run_ledger.proofs.Sound.{SoundLedger}
-use Rattle.run_ledger.proofs.Steps.{SoundAt, step_leaves, can_tells, task_step_sound}
+use Rattle.run_ledger.proofs.Steps.{SoundAt, step_keeps, step_leaves, steps_keep, can_tells}
 use Rattle.run_ledger.proofs.Stocks.{with_heap_any}
 use Rattle.run_ledger.proofs.Journals.{out_tells, wait_tells, entry_tells, entry_sound, opening_sound}
 use Rattle.run_ledger.proofs.Booked.{wait_run}
@@ -155,15 +155,10 @@ module _ (p : ProgramText) (l : Ledger) (t : ℕ) (S : SoundAt t l) (can : can_s
   ]
 
 known_task_step : (p : ProgramText) (l : Ledger) (t : ℕ) → SoundAt t l → (fork : Strand) → Known l fork → Known (task_step p l t) fork
-known_task_step p l t S fork K = by (can_step l.machine t) refl
-  where
-    by : (v : Bool) → can_step l.machine t ≡ v → Known (cond v (stepped_to (allocated_in p l t) t (step p l.machine t)) (record l { steps = l.steps + 1 })) fork
-    by false e = K
-    by true e = known_step p l t S e fork K
+known_task_step p l t S fork K = step_keeps (λ m. Known m fork) p l t (λ e. known_step p l t S e fork K) K
 
 known_steps : (p : ProgramText) (k : ℕ) (l : Ledger) (t : ℕ) → SoundAt t l → (fork : Strand) → Known l fork → Known (task_steps p l t k) fork
-known_steps p zero l t S fork K = K
-known_steps p (suc k) l t S fork K = known_steps p k (task_step p l t) t (task_step_sound p l t S) fork (known_task_step p l t S fork K)
+known_steps p k l t S fork K = steps_keep (λ m. Known m fork) p t (λ m R J. known_task_step p m t R fork J) k l S K
 
 -- ENTRIES
 

@@ -1,6 +1,5 @@
 -- The words that heaps count since their last leaf collections.
 use Rattle.std.proofs.Common.{◌≡◌, ℕ, zero, suc, ◌+◌, ◌*◌, ◌≤◌, Bool, true, false, cond, Option, Some, None, List, [], ◌∷◌, ◌++◌, slice_get, slice_set, nat_lt, refl, ap, sym, subst, ◌∙◌, arith, is_none}
-use Rattle.std.proofs.lemmas.Bool.{and_parts}
 use Rattle.std.proofs.lemmas.List.Sums.{sum_by-cons}
 use Rattle.run_trace.specs.declared.entry.Kind.{Kind}
 use Rattle.run_trace.specs.declared.entry.Kind.TheVariants.{Took, Ran, Chunk, Begin, End as EndOf, PutOff, Mark, More, Sweep, Fuel}
@@ -16,7 +15,7 @@ use Rattle.run_ledger.specs.declared.data.Ledger.{Ledger}
 use Rattle.run_ledger.specs.declared.data.RunEnd.TheVariants.{Pool}
 use Rattle.run_ledger.specs.Heaps.{heap_of, or_fresh, with_heap, with_heap_at, placed, is_small, chunk_words, in_use, collected, swept_heap}
 use Rattle.run_ledger.specs.Steps.{allocated_by, allocated_in, stepped_to, task_step, task_steps, on_asked}
-use Rattle.run_ledger.specs.Entries.{refusal, kind_refusal, after_kind, after, with_chunk, chunk_units}
+use Rattle.run_ledger.specs.Entries.{kind_refusal, after_kind, with_chunk, chunk_units}
 use Rattle.run_ledger.specs.Journals.{opening, after_all, ledger_of, is_legal, is_legal_from}
 use Rattle.run_ledger.specs.Space.{AsksAtMost, CountsFew, SinceIsBounded}
 use Rattle.run_trace.specs.declared.settings.Version.{Version}
@@ -24,12 +23,12 @@ use Rattle.run_trace.specs.declared.settings.Version.TheVariants.{One, Two}
 use Rattle.journal_laws.proofs.Asked.{programs_ask_few}
 use Rattle.run_ledger.proofs.Machine.{stepped_machine}
 use Rattle.run_ledger.proofs.Sound.{SoundLedger}
-use Rattle.run_ledger.proofs.Steps.{SoundAt, step_leaves, heap_of_task, can_tells, task_step_sound}
+use Rattle.run_ledger.proofs.Steps.{SoundAt, step_leaves, steps_keep, heap_of_task, can_tells}
 use Rattle.run_ledger.proofs.Weights.{total, total_set, Additive, moves_total}
 use Rattle.run_ledger.proofs.Held.{placed_since}
 use Rattle.run_ledger.proofs.Stocks.{with_heap_any}
 use Rattle.run_ledger.proofs.Bounds.{task_step_steps}
-use Rattle.run_ledger.proofs.Journals.{out_tells, entry_tells, entry_sound, opening_sound}
+use Rattle.run_ledger.proofs.Journals.{journal_keeps, out_tells, opening_sound}
 
 abbrev pub since_in : Heap → ℕ
 since_in h = h.since
@@ -89,8 +88,7 @@ module _ (p : ProgramText) (limit most : ℕ) (asks : AsksAtMost p limit most) w
       by true e n = step_bounded l t S I e (task_step_steps p l t) n
 
   task_steps_bounded : (k : ℕ) (l : Ledger) (t : ℕ) → SoundAt t l → Bounded l → Bounded (task_steps p l t k)
-  task_steps_bounded zero l t S I = I
-  task_steps_bounded (suc k) l t S I = task_steps_bounded k (task_step p l t) t (task_step_sound p l t S) (task_step_bounded l t S I)
+  task_steps_bounded k l t S I = steps_keep Bounded p t (λ m R J. task_step_bounded m t R J) k l S I
 
   chunk_bounded : (l : Ledger) (t : ℕ) (next : Option ℕ) (full : Bool) → Bounded l → Bounded (cond full (record l { end = Some (Pool (in_use l)) }) (with_heap l t (with_chunk next)))
   chunk_bounded l t next true I = I
@@ -113,10 +111,7 @@ module _ (p : ProgramText) (limit most : ℕ) (asks : AsksAtMost p limit most) w
   kind_bounded s l w Fuel S h I = I
 
   journal_bounded : (s : SettingsValue) (journal : List EntryValue) (l : Ledger) → SoundLedger l → Bounded l → is_legal_from p s l journal ≡ true → Bounded (after_all p s l journal)
-  journal_bounded s [] l S I h = I
-  journal_bounded s (e ∷ es) l S I h =
-      let both = and_parts (is_none (refusal p s l e)) (is_legal_from p s (after p s l e) es) h in
-      journal_bounded s es (after p s l e) (entry_sound p s l e S both.0) (kind_bounded s l e.worker e.kind S (entry_tells p s l e both.0).2 I) both.1
+  journal_bounded s = journal_keeps Bounded p s (kind_bounded s)
 
 -- one heap counts no more than all
 one_of : (heaps : List Heap) (t : ℕ) → (or_fresh (slice_get heaps t)).since ≤ total since_in heaps

@@ -1,10 +1,9 @@
 -- A task that waits is held by nobody.
-use Rattle.std.proofs.Common.{◌≡◌, ℕ, zero, suc, ◌+◌, Bool, true, false, cond, Option, Some, None, List, [], ◌∷◌, slice_get, slice_set, nat_lt, inl, inr, refl, ap, sym, ◌∙◌, is_none, is_some}
+use Rattle.std.proofs.Common.{◌≡◌, ℕ, zero, suc, ◌+◌, Bool, true, false, cond, Option, Some, None, slice_get, slice_set, nat_lt, inl, inr, refl, ap, sym, ◌∙◌, is_none, is_some}
 use Rattle.std.proofs.lemmas.Bool.{false≢true, cases_eq, and_parts}
 use Rattle.listed.proofs.Members.{got_same, got_other}
 use Rattle.run_trace.specs.declared.entry.Kind.{Kind}
 use Rattle.run_trace.specs.declared.entry.Kind.TheVariants.{Took, Ran, Chunk, Begin, End as EndOf, PutOff, Mark, More, Sweep, Fuel}
-use Rattle.run_trace.specs.Entry.{EntryValue}
 use Rattle.run_trace.specs.Settings.{SettingsValue}
 use Rattle.hh_lang.specs.Form.{ProgramText}
 use Rattle.hh_model.specs.declared.data.State.{State}
@@ -18,16 +17,16 @@ use Rattle.run_ledger.specs.declared.data.RunEnd.TheVariants.{Pool}
 use Rattle.run_ledger.specs.Heaps.{with_heap, in_use, collected, swept_heap}
 use Rattle.run_ledger.specs.Steps.{allocated_in, stepped_to, task_step, task_steps, on_asked}
 use Rattle.run_ledger.specs.Heaps.{is_small}
-use Rattle.run_ledger.specs.Entries.{refusal, kind_refusal, after_kind, after, is_ready, with_chunk, chunk_units}
-use Rattle.run_ledger.specs.Journals.{opening, after_all, ledger_of, is_legal_from}
+use Rattle.run_ledger.specs.Entries.{kind_refusal, after_kind, is_ready, with_chunk, chunk_units}
+use Rattle.run_ledger.specs.Journals.{opening, ledger_of}
 use Rattle.run_ledger.specs.Laws.{WaitersAreFree}
 use Rattle.run_ledger.proofs.Machine.{stepped_machine}
 use Rattle.run_ledger.proofs.Sound.{SoundLedger}
-use Rattle.run_ledger.proofs.Steps.{SoundAt, StepLeaves, step_leaves, task_step_sound, worker_at}
+use Rattle.run_ledger.proofs.Steps.{SoundAt, StepLeaves, step_keeps, step_leaves, steps_keep, worker_at}
 use Rattle.run_ledger.proofs.Booked.{wait_run}
 use Rattle.run_ledger.proofs.Stocks.{with_heap_any}
 use Rattle.run_ledger.proofs.Holders.{chunk_worker_by, worker_of}
-use Rattle.run_ledger.proofs.Journals.{none_unless, out_tells, entry_tells, entry_sound, opening_sound}
+use Rattle.run_ledger.proofs.Journals.{journal_keeps, none_unless, out_tells, opening_sound}
 
 abbrev pub Free : Ledger → Type 0
 Free l = (u : ℕ) → waiting l.machine.tasks u ≡ true → worker_at (slice_get l.heaps u) ≡ None
@@ -61,15 +60,10 @@ module _ (p : ProgramText) (l : Ledger) (t : ℕ) (S : SoundAt t l) (I : Free l)
   ]
 
 task_step_free : (p : ProgramText) (l : Ledger) (t : ℕ) → SoundAt t l → Free l → Free (task_step p l t)
-task_step_free p l t S I = by (can_step l.machine t) refl
-  where
-    by : (v : Bool) → can_step l.machine t ≡ v → Free (cond v (stepped_to (allocated_in p l t) t (step p l.machine t)) (record l { steps = l.steps + 1 }))
-    by false e = I
-    by true e = step_free p l t S I e
+task_step_free p l t S I = step_keeps Free p l t (step_free p l t S I) I
 
 task_steps_free : (p : ProgramText) (k : ℕ) (l : Ledger) (t : ℕ) → SoundAt t l → Free l → Free (task_steps p l t k)
-task_steps_free p zero l t S I = I
-task_steps_free p (suc k) l t S I = task_steps_free p k (task_step p l t) t (task_step_sound p l t S) (task_step_free p l t S I)
+task_steps_free p k l t S I = steps_keep Free p t (λ m R J. task_step_free p m t R J) k l S I
 
 -- a heap's account changes, and not its worker
 set_free : (l : Ledger) (t : ℕ) (f : Heap → Heap) → ((h : Heap) → (f h).worker ≡ h.worker) → Free l → Free (with_heap l t f)
@@ -102,12 +96,6 @@ kind_free p s l w (More t n) S h I = set_free l t _ (λ g. refl) I
 kind_free p s l w (Sweep t g) S h I = set_free l t swept_heap (λ g. refl) I
 kind_free p s l w Fuel S h I = I
 
-journal_free : (p : ProgramText) (s : SettingsValue) (journal : List EntryValue) (l : Ledger) → SoundLedger l → Free l → is_legal_from p s l journal ≡ true → Free (after_all p s l journal)
-journal_free p s [] l S I h = I
-journal_free p s (e ∷ es) l S I h =
-    let both = and_parts (is_none (refusal p s l e)) (is_legal_from p s (after p s l e) es) h in
-    journal_free p s es (after p s l e) (entry_sound p s l e S both.0) (kind_free p s l e.worker e.kind S (entry_tells p s l e both.0).2 I) both.1
-
 opening_free : (p : ProgramText) (s : SettingsValue) → Free (opening p s)
 opening_free p s zero w = refl
 opening_free p s (suc u) w = refl
@@ -115,4 +103,5 @@ opening_free p s (suc u) w = refl
 pub waiters_are_free : WaitersAreFree
 waiters_are_free p s journal legal t w =
     let l : Ledger = ledger_of p s journal in
-    worker_of l t ∙ journal_free p s journal (opening p s) (opening_sound p s) (opening_free p s) legal t w
+    let free : Free l = journal_keeps Free p s (kind_free p s) journal (opening p s) (opening_sound p s) (opening_free p s) legal in
+    worker_of l t ∙ free t w

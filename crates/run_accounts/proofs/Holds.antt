@@ -18,7 +18,7 @@ use Rattle.run_ledger.specs.Entries.{kind_refusal, after_kind, held_from, is_rea
 use Rattle.listed.specs.Options.{option_is}
 use Rattle.run_ledger.proofs.Moves.{moves_each}
 use Rattle.run_ledger.proofs.Sound.{SoundLedger}
-use Rattle.run_ledger.proofs.Steps.{SoundAt, step_leaves, task_step_sound, worker_at}
+use Rattle.run_ledger.proofs.Steps.{SoundAt, step_keeps, step_leaves, task_step_sound, worker_at}
 use Rattle.run_ledger.proofs.Stocks.{with_heap_any}
 use Rattle.run_ledger.proofs.Journals.{none_unless, out_tells}
 use Rattle.run_ledger.proofs.Frames.{held_is, is_held}
@@ -126,11 +126,7 @@ module _ (p : ProgramText) (l : Ledger) (t : ℕ) (S : SoundAt t l) (can : can_s
       by (Some h) q r = was_k u h q w r
 
 held_step : (p : ProgramText) (l : Ledger) (t : ℕ) → SoundAt t l → Held l (task_step p l t)
-held_step p l t S = by (can_step l.machine t) refl
-  where
-    by : (v : Bool) → can_step l.machine t ≡ v → Held l (cond v (stepped_to (allocated_in p l t) t (step p l.machine t)) (record l { steps = l.steps + 1 }))
-    by false e = λ u w q. q
-    by true e = held_k p l t S e
+held_step p l t S = step_keeps (Held l) p l t (held_k p l t S) (λ u w q. q)
 
 held_steps : (p : ProgramText) (n : ℕ) (l : Ledger) (t : ℕ) → SoundAt t l → Held l (task_steps p l t n)
 held_steps p zero l t S u w e = e

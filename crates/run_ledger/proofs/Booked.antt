@@ -28,7 +28,7 @@ use Rattle.run_ledger.proofs.Chunks.{sum_same, Full, full_same, last_same, last_
 use Rattle.run_ledger.proofs.Machine.{stepped_machine}
 use Rattle.run_ledger.proofs.Sound.{collecting, names_of}
 use Rattle.run_ledger.proofs.Moves.{moves_each}
-use Rattle.run_ledger.proofs.Steps.{SoundAt, StepLeaves, heap_of_task, can_tells, task_step_sound}
+use Rattle.run_ledger.proofs.Steps.{SoundAt, StepLeaves, heap_of_task, can_tells, step_keeps, task_step_sound}
 use Rattle.run_ledger.proofs.Grown.{Grown}
 use Rattle.run_ledger.proofs.Weights.{total, total_set, Additive, moves_total}
 use Rattle.run_ledger.proofs.Stocks.{StockedLedger, G, L, task_step_stocked}
@@ -336,11 +336,7 @@ module _ (p : ProgramText) (s : SettingsValue) (l : Ledger) (t : ℕ) (S : Sound
 
 module _ (p : ProgramText) (s : SettingsValue) where
   pub task_step_booked : (l : Ledger) (t : ℕ) → SoundAt t l → StockedLedger l → BookedLedger p s l → (is_due s p l t || is_in_need p l t) ≡ false → BookedLedger p s (task_step p l t)
-  task_step_booked l t S I B fine = by (can_step l.machine t) refl
-    where
-      by : (v : Bool) → can_step l.machine t ≡ v → BookedLedger p s (cond v (stepped_to (allocated_in p l t) t (step p l.machine t)) (record l { steps = l.steps + 1 }))
-      by false e = record { each = B.each; within = B.within }
-      by true e = step_booked p s l t S I B e fine
+  task_step_booked l t S I B fine = step_keeps (BookedLedger p s) p l t (λ e. step_booked p s l t S I B e fine) (record { each = B.each; within = B.within })
 
   pub task_steps_booked : (k : ℕ) (l : Ledger) (t : ℕ) → SoundAt t l → StockedLedger l → BookedLedger p s l → k ≤ standing s p l t k → BookedLedger p s (task_steps p l t k)
   task_steps_booked zero l t S I B h = B

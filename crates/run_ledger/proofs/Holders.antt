@@ -5,7 +5,6 @@ use Rattle.listed.proofs.Members.{got_same, got_other}
 use Rattle.listed.proofs.Options.{none_some}
 use Rattle.run_trace.specs.declared.entry.Kind.{Kind}
 use Rattle.run_trace.specs.declared.entry.Kind.TheVariants.{Took, Ran, Chunk, Begin, End as EndOf, PutOff, Mark, More, Sweep, Fuel}
-use Rattle.run_trace.specs.Entry.{EntryValue}
 use Rattle.run_trace.specs.Settings.{SettingsValue}
 use Rattle.hh_lang.specs.Form.{ProgramText}
 use Rattle.hh_model.specs.declared.data.Name.{Name}
@@ -22,17 +21,17 @@ use Rattle.run_ledger.specs.declared.data.RunEnd.{RunEnd}
 use Rattle.run_ledger.specs.declared.data.RunEnd.TheVariants.{Pool}
 use Rattle.run_ledger.specs.Heaps.{heap_at, heap_of, or_fresh, with_heap, with_heap_at, placed, is_small, fresh, forked_heap, emptied, let_go, within, in_use, collected, swept_heap, put_last, chunk_words}
 use Rattle.run_ledger.specs.Steps.{allocated_by, allocated_in, settled, moved_on, moved_to, join_heaps, stepped_to, task_step, task_steps, on_asked}
-use Rattle.run_ledger.specs.Entries.{refusal, kind_refusal, after_kind, after, is_ready, is_out, held_from, refused_holding, with_chunk, chunk_units}
+use Rattle.run_ledger.specs.Entries.{kind_refusal, after_kind, is_ready, is_out, held_from, refused_holding, with_chunk, chunk_units}
 use Rattle.listed.specs.Options.{option_is}
-use Rattle.run_ledger.specs.Journals.{opening, after_all, ledger_of, is_legal_from}
+use Rattle.run_ledger.specs.Journals.{opening, ledger_of}
 use Rattle.run_ledger.specs.Laws.{TasksAreHeldOnce}
 use Rattle.run_ledger.proofs.Machine.{stepped_machine}
 use Rattle.run_ledger.proofs.Sound.{SoundLedger, collecting}
 use Rattle.run_ledger.proofs.Moves.{moves_each}
-use Rattle.run_ledger.proofs.Steps.{SoundAt, StepLeaves, step_leaves, heap_of_task, can_tells, task_step_sound, worker_at}
+use Rattle.run_ledger.proofs.Steps.{SoundAt, StepLeaves, step_leaves, heap_of_task, can_tells, step_keeps, steps_keep, worker_at}
 use Rattle.run_ledger.proofs.Booked.{step_others}
 use Rattle.run_ledger.proofs.Stocks.{with_heap_any}
-use Rattle.run_ledger.proofs.Journals.{none_unless, out_tells, entry_tells, entry_sound, opening_sound, legal_sound, fresh_idle}
+use Rattle.run_ledger.proofs.Journals.{journal_keeps, none_unless, out_tells, opening_sound, legal_sound, fresh_idle}
 
 -- THE END OF THE LEDGER
 
@@ -204,15 +203,10 @@ module _ (p : ProgramText) (l : Ledger) (t : ℕ) (S : SoundAt t l) (I : MannedL
       by u ne (Some h) e c = goes_k u h e ne c
 
 task_step_manned : (p : ProgramText) (l : Ledger) (t : ℕ) → SoundAt t l → MannedLedger l → MannedLedger (task_step p l t)
-task_step_manned p l t S I = by (can_step l.machine t) refl
-  where
-    by : (v : Bool) → can_step l.machine t ≡ v → MannedLedger (cond v (stepped_to (allocated_in p l t) t (step p l.machine t)) (record l { steps = l.steps + 1 }))
-    by false e = I
-    by true e = step_manned p l t S I e
+task_step_manned p l t S I = step_keeps MannedLedger p l t (step_manned p l t S I) I
 
 task_steps_manned : (p : ProgramText) (k : ℕ) (l : Ledger) (t : ℕ) → SoundAt t l → MannedLedger l → MannedLedger (task_steps p l t k)
-task_steps_manned p zero l t S I = I
-task_steps_manned p (suc k) l t S I = task_steps_manned p k (task_step p l t) t (task_step_sound p l t S) (task_step_manned p l t S I)
+task_steps_manned p k l t S I = steps_keep MannedLedger p t (λ m R J. task_step_manned p m t R J) k l S I
 
 -- ENTRIES
 
@@ -300,12 +294,6 @@ kind_manned p s l w (More t n) S h I = same_manned l t _ (λ g. refl) (λ g e c.
 kind_manned p s l w (Sweep t g) S h I = same_manned l t swept_heap (λ g. refl) (λ g e c. still l t I g e c) I
 kind_manned p s l w Fuel S h I = record { runs = λ on. absurd cc; one = I.one; out = I.out }
 
-journal_manned : (p : ProgramText) (s : SettingsValue) (journal : List EntryValue) (l : Ledger) → SoundLedger l → MannedLedger l → is_legal_from p s l journal ≡ true → MannedLedger (after_all p s l journal)
-journal_manned p s [] l S I h = I
-journal_manned p s (e ∷ es) l S I h =
-    let both = and_parts (is_none (refusal p s l e)) (is_legal_from p s (after p s l e) es) h in
-    journal_manned p s es (after p s l e) (entry_sound p s l e S both.0) (kind_manned p s l e.worker e.kind S (entry_tells p s l e both.0).2 I) both.1
-
 first_free : (u w : ℕ) → worker_at (slice_get (fresh ∷ []) u) ≡ Some w → ⊥
 first_free zero w q = none_some q
 first_free (suc u) w q = none_some q
@@ -331,7 +319,7 @@ pub tasks_are_held_once : TasksAreHeldOnce
 tasks_are_held_once p s journal legal =
     let l : Ledger = ledger_of p s journal in
     let S = legal_sound p s journal legal in
-    let I = journal_manned p s journal (opening p s) (opening_sound p s) (opening_manned p s) legal in
+    let I = journal_keeps MannedLedger p s (kind_manned p s) journal (opening p s) (opening_sound p s) (opening_manned p s) legal in
     record {
       as_many = S.lengths;
       runs = λ on t w q. I.runs on t w (sym (worker_of l t) ∙ q);

@@ -179,6 +179,14 @@ changes_keep_sound l t f S names eb es en = plain l t f S (λ h n i. subst (λ n
 pub entries_keep_sound : EntriesKeepSound
 entries_keep_sound p s l e S h = entry_sound p s l e S (ap is_none h)
 
+-- what each entry that is taken keeps, a legal journal keeps
+pub journal_keeps : (P : Ledger → Type 0) (p : ProgramText) (s : SettingsValue) → ((l : Ledger) (w : ℕ) (kind : Kind) → SoundLedger l → is_none (kind_refusal p s l w kind) ≡ true → P l → P (after_kind p s l w kind)) → (journal : List EntryValue) (l : Ledger) → SoundLedger l → P l
+    → is_legal_from p s l journal ≡ true → P (after_all p s l journal)
+journal_keeps P p s keeps [] l S I h = I
+journal_keeps P p s keeps (e ∷ es) l S I h =
+    let both = and_parts (is_none (refusal p s l e)) (is_legal_from p s (after p s l e) es) h in
+    journal_keeps P p s keeps es (after p s l e) (entry_sound p s l e S both.0) (keeps l e.worker e.kind S (entry_tells p s l e both.0).2 I) both.1
+
 pub journal_sound : (p : ProgramText) (s : SettingsValue) (journal : List EntryValue) (l : Ledger) → SoundLedger l → is_legal_from p s l journal ≡ true → SoundLedger (after_all p s l journal)
 journal_sound p s [] l S h = S
 journal_sound p s (e ∷ es) l S h =

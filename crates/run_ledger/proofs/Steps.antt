@@ -782,12 +782,21 @@ step_leaves p l t S can =
     let h = heap_of_task l t S.0 tells.1 in
     step_sound p l S.0 t x.0 x.1 x.2 S.1 tells.0 (allocated_in p l t) (allots l t h.0 h.1 (asked p l.machine t))
 
-pub task_step_sound : (p : ProgramText) (l : Ledger) (t : ℕ) → SoundAt t l → SoundAt t (task_step p l t)
-task_step_sound p l t S = by (can_step l.machine t) refl
+-- what a step that is taken keeps, and its count where none is, the next step keeps
+pub step_keeps : (P : Ledger → Type 0) (p : ProgramText) (l : Ledger) (t : ℕ) → (can_step l.machine t ≡ true → P (stepped_to (allocated_in p l t) t (step p l.machine t))) → P (record l { steps = l.steps + 1 }) → P (task_step p l t)
+step_keeps P p l t taken none = by (can_step l.machine t) refl
   where
-    by : (v : Bool) → can_step l.machine t ≡ v → SoundAt t (cond v (stepped_to (allocated_in p l t) t (step p l.machine t)) (record l { steps = l.steps + 1 }))
-    by false e = S
-    by true e = let g = step_leaves p l t S e in (g.0, g.1)
+    by : (v : Bool) → can_step l.machine t ≡ v → P (cond v (stepped_to (allocated_in p l t) t (step p l.machine t)) (record l { steps = l.steps + 1 }))
+    by false e = none
+    by true e = taken e
+
+pub task_step_sound : (p : ProgramText) (l : Ledger) (t : ℕ) → SoundAt t l → SoundAt t (task_step p l t)
+task_step_sound p l t S = step_keeps (SoundAt t) p l t (λ e. let g = step_leaves p l t S e in (g.0, g.1)) S
+
+-- what each step keeps, many keep
+pub steps_keep : (P : Ledger → Type 0) (p : ProgramText) (t : ℕ) → ((l : Ledger) → SoundAt t l → P l → P (task_step p l t)) → (k : ℕ) (l : Ledger) → SoundAt t l → P l → P (task_steps p l t k)
+steps_keep P p t keeps zero l S I = I
+steps_keep P p t keeps (suc k) l S I = steps_keep P p t keeps k (task_step p l t) (task_step_sound p l t S) (keeps l S I)
 
 pub task_steps_sound : (p : ProgramText) (k : ℕ) (l : Ledger) (t : ℕ) → SoundAt t l → SoundAt t (task_steps p l t k)
 task_steps_sound p zero l t S = S

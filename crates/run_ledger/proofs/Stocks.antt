@@ -1,7 +1,7 @@
 -- Each held name is held once, and is in the store.
 use Rattle.std.proofs.Common.{◌≡◌, ℕ, zero, suc, ◌+◌, ◌<◌, ◌≤◌, Bool, true, false, cond, Option, Some, None, List, [], ◌∷◌, ◌++◌, length, slice_get, slice_set, sum_by, nat_lt, inl, inr, refl, ap, sym, subst, ◌∙◌, arith, is_none}
 use Rattle.std.specs.List.{IsDistinct, AllByRecursion}
-use Rattle.std.proofs.lemmas.Bool.{cases_lt, and_parts}
+use Rattle.std.proofs.lemmas.Bool.{cases_lt}
 use Rattle.std.proofs.lemmas.List.Sums.{sum_by-cons}
 use Rattle.listed.proofs.Members.{In, in_from_contains}
 use Rattle.run_trace.specs.declared.entry.Kind.{Kind}
@@ -23,16 +23,16 @@ use Rattle.run_ledger.specs.declared.data.RunEnd.TheVariants.{Pool}
 use Rattle.run_ledger.specs.Reachable.{is_name}
 use Rattle.run_ledger.specs.Heaps.{held_in, held, heap_at, with_heap, with_heap_at, placed, chunk_words, is_small, in_use, collected, swept_heap, fresh}
 use Rattle.run_ledger.specs.Steps.{allocated_by, allocated_in, stepped_to, task_step, task_steps, on_asked}
-use Rattle.run_ledger.specs.Entries.{refusal, kind_refusal, after_kind, after, chunk_units, with_chunk}
-use Rattle.run_ledger.specs.Journals.{opening, after_all, ledger_of, is_legal_from, is_legal}
+use Rattle.run_ledger.specs.Entries.{kind_refusal, after_kind, chunk_units, with_chunk}
+use Rattle.run_ledger.specs.Journals.{opening, ledger_of, is_legal}
 use Rattle.run_ledger.specs.Laws.{NamesAreHeldOnce}
 use Rattle.run_ledger.proofs.Members.{same_from_is_name, is_name_itself}
 use Rattle.run_ledger.proofs.Machine.{stepped_machine}
 use Rattle.run_ledger.proofs.Sound.{Keeps, InHeaps, names_of, SoundLedger, held_keeps}
-use Rattle.run_ledger.proofs.Steps.{SoundAt, StepLeaves, step_leaves, heap_of_task, can_tells, task_step_sound}
+use Rattle.run_ledger.proofs.Steps.{SoundAt, StepLeaves, step_keeps, step_leaves, steps_keep, heap_of_task, can_tells}
 use Rattle.run_ledger.proofs.Grown.{Grown, grown, next_unstored}
 use Rattle.run_ledger.proofs.Weights.{weight, total, total_set, sum_flat, placed_weight, collected_weight, swept_weight, chunk_weight, moves_total, weight_additive}
-use Rattle.run_ledger.proofs.Journals.{out_tells, entry_tells, entry_sound, opening_sound, legal_sound}
+use Rattle.run_ledger.proofs.Journals.{journal_keeps, out_tells, opening_sound, legal_sound}
 
 -- HOW OFTEN A NAME STANDS IN A LIST
 
@@ -210,15 +210,10 @@ module _ (p : ProgramText) (l : Ledger) (t : ℕ) (S : SoundAt t l) (I : Stocked
   })
 
 pub task_step_stocked : (p : ProgramText) (l : Ledger) (t : ℕ) → SoundAt t l → StockedLedger l → StockedLedger (task_step p l t)
-task_step_stocked p l t S I = by (can_step l.machine t) refl
-  where
-    by : (v : Bool) → can_step l.machine t ≡ v → StockedLedger (cond v (stepped_to (allocated_in p l t) t (step p l.machine t)) (record l { steps = l.steps + 1 }))
-    by false e = I
-    by true e = step_stocked p l t S I e
+task_step_stocked p l t S I = step_keeps StockedLedger p l t (step_stocked p l t S I) I
 
 pub task_steps_stocked : (p : ProgramText) (k : ℕ) (l : Ledger) (t : ℕ) → SoundAt t l → StockedLedger l → StockedLedger (task_steps p l t k)
-task_steps_stocked p zero l t S I = I
-task_steps_stocked p (suc k) l t S I = task_steps_stocked p k (task_step p l t) t (task_step_sound p l t S) (task_step_stocked p l t S I)
+task_steps_stocked p k l t S I = steps_keep StockedLedger p t (λ m R J. task_step_stocked p m t R J) k l S I
 
 -- ENTRIES
 
@@ -238,12 +233,6 @@ kind_stocked p s l w (More t n) S h I = lighter l t _ (λ h g. same_weight h g) 
 kind_stocked p s l w (Sweep t g) S h I = lighter l t swept_heap (λ h f. swept_weight f h) I
 kind_stocked p s l w Fuel S h I = I
 
-pub journal_stocked : (p : ProgramText) (s : SettingsValue) (journal : List EntryValue) (l : Ledger) → SoundLedger l → StockedLedger l → is_legal_from p s l journal ≡ true → StockedLedger (after_all p s l journal)
-journal_stocked p s [] l S I h = I
-journal_stocked p s (e ∷ es) l S I h =
-    let both = and_parts (is_none (refusal p s l e)) (is_legal_from p s (after p s l e) es) h in
-    journal_stocked p s es (after p s l e) (entry_sound p s l e S both.0) (kind_stocked p s l e.worker e.kind S (entry_tells p s l e both.0).2 I) both.1
-
 pub opening_stocked : (p : ProgramText) (s : SettingsValue) → StockedLedger (opening p s)
 opening_stocked p s = record {
   counted = (0, start_counted p (field_limit s.version));
@@ -255,7 +244,7 @@ opening_stocked p s = record {
     nothing n = refl
 
 pub legal_stocked : (p : ProgramText) (s : SettingsValue) (journal : List EntryValue) → is_legal p s journal ≡ true → StockedLedger (ledger_of p s journal)
-legal_stocked p s journal legal = journal_stocked p s journal (opening p s) (opening_sound p s) (opening_stocked p s) legal
+legal_stocked p s journal legal = journal_keeps StockedLedger p s (kind_stocked p s) journal (opening p s) (opening_sound p s) (opening_stocked p s) legal
 
 pub names_are_held_once : NamesAreHeldOnce
 names_are_held_once p s journal legal =
