@@ -2,7 +2,6 @@
 use Rattle.std.proofs.Common.{◌≡◌, ℕ, arith, false, Some, None, [], ◌∷◌, ◌++◌, length, slice_get, is_none, is_some, inl, inr, refl, ap, sym, subst, ◌∙◌}
 use Rattle.std.proofs.lemmas.Bool.{cases_eq}
 use Rattle.listed.specs.RoomyValue.{RoomyValue}
-use Rattle.listed.proofs.Options.{none_of}
 use Rattle.hh_model.specs.declared.data.State.{State}
 use Rattle.hh_model.specs.Effect.{row_of}
 use Rattle.hh_model.specs.Step.{is_joined}
@@ -12,7 +11,7 @@ use Rattle.run_ledger.specs.declared.data.Heap.{Heap}
 use Rattle.run_ledger.specs.declared.data.Ledger.{Ledger}
 use Rattle.run_ledger.specs.declared.data.Refused.TheVariants.{PoolEnough}
 use Rattle.run_ledger.specs.Heaps.{heap_of, in_use, let_go, or_fresh, with_heap}
-use Rattle.run_ledger.specs.Entries.{is_pool_enough, kind_refusal, on_due, refused_if}
+use Rattle.run_ledger.specs.Entries.{is_pool_enough, on_due, refused_if}
 use Rattle.run_ledger.proofs.Journals.{entry_tells}
 use Rattle.run_ledger.proofs.Machine.{heap_machine}
 use Rattle.chunk_pool.specs.PoolValue.{units_in_use}
@@ -44,21 +43,16 @@ use Rattle.shared_value.proofs.CollectionUnderWay.{account_idle, none_begun}
 use Rattle.shared_value.proofs.EntryMade.{entered, entry_on, held_apart}
 use Rattle.shared_value.proofs.NothingMoves.{quiet_others, quiet_own, quiet_world}
 use Rattle.shared_value.proofs.UnitsMeasured.{all_kept}
-use Rattle.shared_value.proofs.BeforeTheEnd.{stands_now, used_now}
-use Rattle.shared_value.proofs.CausesTold.{on_is, refused_is}
+use Rattle.shared_value.proofs.BeforeTheEnd.{stands_now}
 use Rattle.shared_value.proofs.StepsEntered.{fits_now, belongings_stand}
-use Rattle.leaf_collections.proofs.WhyNotDue.{due_is}
+use Rattle.leaf_collections.proofs.WhyNotDue.{due_answer}
 
 -- WHY IT IS REFUSED
 
 -- where nothing comes before what it says
 pub put_off_answer : (w : SharedValue) (k : ℕ) (p : Private) → IsSharedValue w → Fits w k (record p { fresh = 0 }) → is_some (first_cause w.end w.steps w.settings k false) ≡ false
     → refused w (record { worker = k; kind = PutOff p.task }) ≡ or_else (due_cause p (part_asks w.program p)) (refused_if (is_pool_enough w.settings (accounts w) p.task) (PoolEnough (units_in_use w.pool)) None)
-put_off_answer w k p I F h =
-    refused_is w I (record { worker = k; kind = PutOff p.task })
-    ∙ (ap (λ o. or_else o (kind_refusal w.program w.settings (accounts w) k (PutOff p.task))) (none_of (first_cause w.end w.steps w.settings k false) h)
-    ∙ (due_is w k p I F (on_is w I k false h) (refused_if (is_pool_enough w.settings (accounts w) p.task) (PoolEnough (in_use (accounts w))) None)
-    ∙ ap (λ n. or_else (due_cause p (part_asks w.program p)) (refused_if (is_pool_enough w.settings (accounts w) p.task) (PoolEnough n) None)) (sym (used_now w I))))
+put_off_answer w k p I F h = due_answer w k p I F (PutOff p.task) (λ n. refused_if (is_pool_enough w.settings (accounts w) p.task) (PoolEnough n) None) refl h
 
 -- WHAT IT CHANGES
 

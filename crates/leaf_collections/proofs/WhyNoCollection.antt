@@ -1,14 +1,13 @@
 -- Why a leaf collection of a part doesn't begin, and what is known where it may.
 use Rattle.std.proofs.Common.{◌≡◌, ℕ, ◌+◌, ◌≤◌, arith, Bool, true, false, Option, None, is_none, is_some, refl, ap, sym, ◌∙◌}
 use Rattle.std.proofs.lemmas.Bool.{false≢true, leb-true}
-use Rattle.listed.proofs.Options.{none_of}
 use Rattle.run_trace.specs.declared.entry.Kind.TheVariants.{Begin}
 use Rattle.run_trace.specs.Entry.{EntryValue}
 use Rattle.run_ledger.specs.declared.data.Ledger.{Ledger}
 use Rattle.run_ledger.specs.declared.data.Refused.{Refused}
 use Rattle.run_ledger.specs.declared.data.Refused.TheVariants.{PoolShort}
 use Rattle.run_ledger.specs.Heaps.{heap_of, in_use, take_of}
-use Rattle.run_ledger.specs.Entries.{is_pool_enough, kind_refusal, on_due, refused_if, refused_unless}
+use Rattle.run_ledger.specs.Entries.{is_pool_enough, on_due, refused_if, refused_unless}
 use Rattle.run_ledger.proofs.Journals.{entry_tells}
 use Rattle.object_layout.specs.Chunks.{small_words}
 use Rattle.chunk_pool.specs.PoolValue.{units_in_use}
@@ -24,19 +23,14 @@ use Rattle.shared_value.proofs.CollectionUnderWay.{none_begun}
 use Rattle.shared_value.proofs.EntryMade.{entry_on}
 use Rattle.shared_value.proofs.FreeChunks.{take_is}
 use Rattle.shared_value.proofs.BeforeTheEnd.{used_now}
-use Rattle.shared_value.proofs.CausesTold.{on_is, refused_is}
-use Rattle.leaf_collections.proofs.WhyNotDue.{due_is}
+use Rattle.leaf_collections.proofs.WhyNotDue.{due_answer, due_is}
 
 -- WHY IT IS REFUSED
 
 -- where nothing comes before what it says
 pub begin_answer : (w : SharedValue) (k : ℕ) (p : Private) → IsSharedValue w → Fits w k (record p { fresh = 0 }) → is_some (first_cause w.end w.steps w.settings k false) ≡ false
     → refused w (record { worker = k; kind = Begin p.task }) ≡ or_else (due_cause p (part_asks w.program p)) (refused_unless (is_pool_enough w.settings (accounts w) p.task) (PoolShort (units_in_use w.pool)) None)
-begin_answer w k p I F h =
-    refused_is w I (record { worker = k; kind = Begin p.task })
-    ∙ (ap (λ o. or_else o (kind_refusal w.program w.settings (accounts w) k (Begin p.task))) (none_of (first_cause w.end w.steps w.settings k false) h)
-    ∙ (due_is w k p I F (on_is w I k false h) (refused_unless (is_pool_enough w.settings (accounts w) p.task) (PoolShort (in_use (accounts w))) None)
-    ∙ ap (λ n. or_else (due_cause p (part_asks w.program p)) (refused_unless (is_pool_enough w.settings (accounts w) p.task) (PoolShort n) None)) (sym (used_now w I))))
+begin_answer w k p I F h = due_answer w k p I F (Begin p.task) (λ n. refused_unless (is_pool_enough w.settings (accounts w) p.task) (PoolShort n) None) refl h
 
 -- WHERE NOTHING REFUSES IT
 
