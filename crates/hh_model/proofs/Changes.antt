@@ -1,9 +1,9 @@
 -- What an instruction changes in the store: nothing, or one new object, or one object that a register names.
 use Rattle.std.proofs.lemmas.Bool.{leb-true, ltb-true}
-use Rattle.std.proofs.lemmas.List.{length-replicate}
+use Rattle.std.proofs.lemmas.List.{length-replicate, length-take}
 use Rattle.std.proofs.lemmas.Option.{same_Some}
 use Rattle.hh_model.specs.declared.data.Strand.{Strand}
-use Rattle.std.proofs.Common.{◌≡◌, ℕ, ℤ, zero, suc, pos, negsuc, ◌+◌, ◌≤◌, nat_le, take, replicate, arith, ◌==◌, Bool, true, false, cond, Option, Some, None, List, [], ◌∷◌, ◌++◌, length, slice_get, slice_set, ◌⊎◌, inl, inr, refl, sym, subst, eqb-true, ◌<◌, nat_lt}
+use Rattle.std.proofs.Common.{◌≡◌, ℕ, ℤ, pos, negsuc, ◌+◌, ◌≤◌, nat_le, take, replicate, arith, ◌==◌, Bool, true, false, cond, Option, Some, None, List, [], ◌∷◌, ◌++◌, length, slice_get, slice_set, ◌⊎◌, inl, inr, refl, sym, subst, eqb-true, ◌<◌, nat_lt}
 use Rattle.std.specs.Option.{option_flatten}
 use Rattle.listed.proofs.Members.{In}
 use Rattle.listed.proofs.Places.{in_take}
@@ -100,11 +100,6 @@ Changes s f instr store (Stops n) = StopsAt s f instr store n
 
 abbrev none_name : Option Name
 none_name = None
-
-take_few : {A : Type 0} (k : ℕ) (xs : List A) → length (take k xs) ≤ length xs
-take_few zero xs = omega arith
-take_few (suc k) [] = omega arith
-take_few (suc k) (x ∷ xs) = let h = take_few k xs in omega (arith, h)
 
 pub counts_within : (limit : ℕ) (x y : ℤ) (n : ℕ × ℕ) → counts_in limit x y ≡ Some n → n.0 + n.1 ≤ limit
 counts_within limit (pos a) (pos b) n e = by (nat_le (a + b) limit) refl e
@@ -222,7 +217,10 @@ effect_changes s f store (Jz a to) = inl refl
 effect_changes s f store (Newm d a b) =
     trap_changes s f (Newm d a b) store Size (counts_in s.field_limit (int_in f a) (int_in f b)) _ (λ n e.
     made_changes s f (Newm d a b) store d _ refl (λ r h. absurd (none_in n.0 r h)) (newm_sized s.field_limit f (int_in f a) (int_in f b) s.strand n e))
-effect_changes s f store (Pack d r i) = made_changes s f (Pack d r i) store d _ refl (λ n h. (refl, in_take r f.refs (Some n) h)) (inr (take_few r f.refs, take_few i f.ints))
+effect_changes s f store (Pack d r i) =
+    let refs : length (take r f.refs) ≤ length f.refs = omega (arith, length-take r f.refs) in
+    let ints : length (take i f.ints) ≤ length f.ints = omega (arith, length-take i f.ints) in
+    made_changes s f (Pack d r i) store d _ refl (λ n h. (refl, in_take r f.refs (Some n) h)) (inr (refs, ints))
 effect_changes s f store (Getr d o k) =
     object_changes s f (Getr d o k) store o _ (λ n x reg is. trap_changes s f (Getr d o k) store Range (place_in (length x.refs) (int_in f k)) _ (λ at e.
     read_changes s f (Getr d o k) store d n x (option_flatten (slice_get x.refs at)) (at_in f.refs o n reg) is (λ r e'. at_in x.refs at r e') (λ r e'. record {

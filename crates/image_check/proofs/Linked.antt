@@ -4,6 +4,7 @@ use Rattle.std.specs.Prelude.{Option, Some, None, slice_get, nat_eq, is_some, po
 use Rattle.std.specs.Option.{option_map}
 use Rattle.std.specs.Map.{keys_of}
 use Rattle.indexmap.specs.IndexMap.{insert_entry}
+use Rattle.std.proofs.lemmas.Bool.{eqb-true}
 use Rattle.std.proofs.lemmas.List.Quantifiers.{position-Some}
 use Rattle.std.proofs.lemmas.Option.{same_Some, slice_get-get_or, slice_get-map}
 use Rattle.listed.proofs.Members.{got_front, got_back, got_within}
@@ -17,7 +18,6 @@ use Rattle.image_check.specs.declared.line.Task.{Task}
 use Rattle.image_check.specs.Table.{found, has, with_new}
 use Rattle.image_check.specs.Tasks.{Tasks, parent_in, parent_of, is_above, LinksLead, IsAncestor}
 use Rattle.image_check.specs.Links.{StandsAt, IsParentAt, AreLinksOf}
-use Rattle.image_check.proofs.Members.{equal}
 use Rattle.image_check.proofs.Paths.{Entry, AreOrdered, found_at, lead_up, first_link, met_ancestor, above, task_more, Where, where_is, apart_more, still_stands}
 use Rattle.image_check.proofs.Paths.Where.{front, last}
 
@@ -25,7 +25,7 @@ use Rattle.image_check.proofs.Paths.Where.{front, last}
 
 key_at : (es : Tasks) (i n k : ℕ) (o : Option Entry) → slice_get es i ≡ o → option_map (λ (e : Entry). e.0) o ≡ Some k → nat_eq n k ≡ true → StandsAt es i n
 key_at es i n k None got e is = absurd cc
-key_at es i n k (Some f) got e is = (f, got, (let g : f.0 ≡ k = (let h : Some f.0 ≡ Some k = e in cc) in g ∙ sym (equal n k is)))
+key_at es i n k (Some f) got e is = (f, got, (let g : f.0 ≡ k = (let h : Some f.0 ≡ Some k = e in cc) in g ∙ sym (eqb-true n k is)))
 
 pub standing : (es : Tasks) (n i : ℕ) → position (nat_eq n) (keys_of es) ≡ Some i → StandsAt es i n
 standing es n i h =
@@ -174,7 +174,7 @@ module _ (es : Tasks) (ks : List Link) (L : AreLinksOf es ks) where
     climbed r lt up = by (r == j) refl
       where
         by : (b : Bool) → (r == j) ≡ b → b ≡ is_above es a t
-        by true e = met_there r lt up (equal r j e)
+        by true e = met_there r lt up (eqb-true r j e)
         by false e = passed_by r up (λ f. let g : (r == j) ≡ true = (let h : (j == j) ≡ true = grind arith in ap (λ x. x == j) f ∙ h) in cc)
 
   -- A TASK MORE

@@ -1,8 +1,8 @@
 -- What the whole text has comes from its lines.
-use Rattle.std.proofs.Common.{◌≡◌, ◌++◌, ℕ, suc, Bool, true, false, List, [], ◌∷◌, cond, length, refl, ap, sym, ◌∙◌, arith, inl, inr, ◌⊎◌}
+use Rattle.std.proofs.Common.{◌≡◌, ◌++◌, ℕ, suc, Bool, true, false, List, [], ◌∷◌, cond, length, refl, ap, sym, ◌∙◌, inl, inr, ◌⊎◌}
 use Rattle.std.specs.Prelude.{◌==◌, ◌&&◌, ◌||◌, nat_eq, is_some}
 use Rattle.std.specs.List.{list_any}
-use Rattle.std.proofs.lemmas.Bool.{or_cases, or_left, or_right, and_parts}
+use Rattle.std.proofs.lemmas.Bool.{eqb-true, or_cases, or_left, or_right, and_parts}
 use Rattle.image_check.specs.declared.line.Object.{Object}
 use Rattle.image_check.specs.declared.line.Remembered.{Remembered}
 use Rattle.image_check.specs.declared.line.Said.{Said}
@@ -70,9 +70,6 @@ module _ {K : Type 0} where
 
 -- REMEMBERED FIELDS
 
-pub equal : (x y : ℕ) → (x == y) ≡ true → x ≡ y
-equal x y e = grind (arith, e)
-
 abbrev field : ℕ → ℕ → ℕ → Remembered
 field u a k = record { task = u; address = a; place = k }
 
@@ -80,7 +77,7 @@ one_field : (u a k : ℕ) (f : Remembered) → same_field (u, a, k) (f.task, f.a
 one_field u a k f e =
     let h = and_parts (u == f.task) ((a == f.address) && (k == f.place)) e in
     let g = and_parts (a == f.address) (k == f.place) h.1 in
-    rw (equal u f.task h.0, equal a f.address g.0, equal k f.place g.1) refl
+    rw (eqb-true u f.task h.0, eqb-true a f.address g.0, eqb-true k f.place g.1) refl
 
 field_line : (w : Whole) (s : Said) (u a k : ℕ) → is_among same_field (with_line w s).fields (u, a, k) ≡ true → (is_among same_field w.fields (u, a, k) ≡ true) ⊎ (s ≡ OfRemembered (field u a k))
 field_line w Nothing u a k e = inl e
@@ -121,7 +118,7 @@ object_line w (OfEnd n) v e = inl e
 object_line w (OfObject o) v e = by (nat_eq v o.address) refl
   where
     by : (b : Bool) → nat_eq v o.address ≡ b → (has w.objects v ≡ true) ⊎ ((p : Object) × (OfObject o ≡ OfObject p) × (p.address ≡ v))
-    by true is = inr (o, refl, sym (equal v o.address is))
+    by true is = inr (o, refl, sym (eqb-true v o.address is))
     by false is = inl (sym (ap is_some (found_beside w.objects o.address v (most (found w.objects o.address) (length o.references)) is)) ∙ e)
 
 pub object_from : (w : Whole) (ls : List (List ℕ)) (v : ℕ) → has (with_lines w ls).objects v ≡ true → (has w.objects v ≡ true) ⊎ IsObjectAt ls v

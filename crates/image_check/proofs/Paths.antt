@@ -1,7 +1,7 @@
 -- Ancestors among tasks each of which stands behind its parent.
 use Rattle.std.proofs.Common.{◌≡◌, ◌<◌, ◌≤◌, ◌+◌, ℕ, zero, suc, Bool, true, false, cond, [], ◌∷◌, ◌++◌, length, refl, ap, sym, ◌∙◌, arith, inl, inr, ◌⊎◌, subst, length-append}
 use Rattle.std.specs.Prelude.{Option, Some, None, ◌==◌, slice_get, nat_eq, is_some}
-use Rattle.std.proofs.lemmas.Bool.{or_cases, or_left, or_right}
+use Rattle.std.proofs.lemmas.Bool.{eqb-true, or_cases, or_left, or_right}
 use Rattle.std.proofs.lemmas.Option.{same_Some}
 use Rattle.listed.proofs.Members.{got_front, got_back, got_within}
 use Rattle.listed.proofs.Numbers.{below_next}
@@ -11,7 +11,6 @@ use Rattle.image_check.specs.Table.{found, has}
 use Rattle.image_check.specs.Tasks.{Tasks, parent_in, parent_of, there_or_on, meets, is_above, LinksLead, IsAncestor, IsRelated}
 use Rattle.image_check.specs.Links.{StandsAt}
 use Rattle.image_check.proofs.Entries.{itself}
-use Rattle.image_check.proofs.Members.{equal}
 
 abbrev pub Entry : Type 0
 Entry = ℕ × Task
@@ -39,7 +38,7 @@ placed [] t x h = absurd cc
 placed (e ∷ es) t x h = by (nat_eq t e.0) refl h (placed es t x)
   where
     by : (b : Bool) → nat_eq t e.0 ≡ b → (if_found : found (e ∷ es) t ≡ Some x) → (found es t ≡ Some x → IsPlaced es t x) → IsPlaced (e ∷ es) t x
-    by true is g again = record { place = 0; entry = e; got = refl; number = sym (equal t e.0 is); task = same_Some e.1 x (rw is at g) }
+    by true is g again = record { place = 0; entry = e; got = refl; number = sym (eqb-true t e.0 is); task = same_Some e.1 x (rw is at g) }
     by false is g again = let p = again (rw is at g) in record { place = suc p.place; entry = p.entry; got = p.got; number = p.number; task = p.task }
 
 pub there : (es : Tasks) (i : ℕ) (e : Entry) → slice_get es i ≡ Some e → (x : Task) × (found es e.0 ≡ Some x)
@@ -171,7 +170,7 @@ one_more n tasks a t None e again h = absurd (cc)
 one_more n tasks a t (Some p) e again h = by (or_cases (p == a) (meets n tasks a p) h)
   where
     by : (((p == a) ≡ true) ⊎ (meets n tasks a p ≡ true)) → IsAncestor tasks a t
-    by (inl g) = (0, e ∙ ap Some (equal p a g))
+    by (inl g) = (0, e ∙ ap Some (eqb-true p a g))
     by (inr g) = let up = again p g in (suc up.0, (p, e, up.1))
 
 met_above : (n : ℕ) (tasks : Tasks) (a t : ℕ) → meets n tasks a t ≡ true → IsAncestor tasks a t
@@ -185,7 +184,7 @@ above tasks a t h = met_above (length tasks) tasks a t h
 
 module _ (es : Tasks) (o : AreOrdered es) (t u : ℕ) where
   own_by : (same up down : Bool) → (u == t) ≡ same → (cond same Own (cond up Above (cond down Below Apart)) ≡ Own) → u ≡ t
-  own_by true up down e h = equal u t e
+  own_by true up down e h = eqb-true u t e
   own_by false true down e h = absurd cc
   own_by false false true e h = absurd cc
   own_by false false false e h = absurd cc
@@ -203,7 +202,7 @@ module _ (es : Tasks) (o : AreOrdered es) (t u : ℕ) where
   below_by false false false e h = absurd cc
 
   not_own : (b : Bool) → (u == t) ≡ b → (u ≡ t → ⊥) → (u == t) ≡ false
-  not_own true e ne = absurd (ne (equal u t e))
+  not_own true e ne = absurd (ne (eqb-true u t e))
   not_own false e ne = e
 
   not_met : (b : Bool) → is_above es u t ≡ b → (IsAncestor es u t → ⊥) → is_above es u t ≡ false

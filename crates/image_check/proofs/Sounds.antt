@@ -2,7 +2,7 @@
 use Rattle.std.proofs.Common.{◌≡◌, ◌+◌, ℕ, zero, suc, Bool, true, false, cond, List, [], ◌∷◌, refl, ap, sym, ◌∙◌, arith, inl, inr, ◌⊎◌, subst}
 use Rattle.std.specs.Prelude.{Option, Some, None, ◌==◌, ◌&&◌, ◌||◌, not}
 use Rattle.std.specs.List.{list_any}
-use Rattle.std.proofs.lemmas.Bool.{not-false, or_cases, or_parts, both_ways}
+use Rattle.std.proofs.lemmas.Bool.{eqb-true, not-false, or_cases, or_parts, both_ways}
 use Rattle.text_lines.specs.Lines.{is_last, lines_of}
 use Rattle.image_check.specs.declared.line.Birth.{Birth}
 use Rattle.image_check.specs.declared.line.Object.{Object}
@@ -20,7 +20,7 @@ use Rattle.image_check.specs.Fault.{cause_on, fault_from, lines_fault, is_astray
 use Rattle.image_check.specs.Sound.{LineSays, ReferenceIs, IsObjectAt, IsRemembered, IsInRunning, LeadsSomewhere, KeepsToPath, IsSoundObject, all_read, HasSoundObjects, HasDistinctBirths, FaultlessIsSound}
 use Rattle.image_check.proofs.Paths.{above}
 use Rattle.image_check.proofs.Steps.{clear, faultless, IsWell, well, met}
-use Rattle.image_check.proofs.Members.{equal, item_kept, item_added, field_from, object_from}
+use Rattle.image_check.proofs.Members.{item_kept, item_added, field_from, object_from}
 
 -- BIRTHS
 
@@ -95,7 +95,7 @@ module _ (ls : List (List ℕ)) (r : Read) where
   at_object v (inr h) = h
 
   leads_by : (v : ℕ) → (((v == 0) ≡ true) ⊎ ((has w.objects v || owner_runs r (owner_at r.chunks v)) ≡ true)) → LeadsSomewhere ls r v
-  leads_by v (inl e) = inl (equal v 0 e)
+  leads_by v (inl e) = inl (eqb-true v 0 e)
   leads_by v (inr e) = by (or_cases (has w.objects v) (owner_runs r (owner_at r.chunks v)) e)
     where
       by : ((has w.objects v ≡ true) ⊎ (owner_runs r (owner_at r.chunks v) ≡ true)) → LeadsSomewhere ls r v
@@ -113,7 +113,7 @@ module _ (ls : List (List ℕ)) (r : Read) where
       → is_apart (Some (cond same Own (cond up Above (cond down Below Apart)))) ≡ false
       → (is_below (Some (cond same Own (cond up Above (cond down Below Apart)))) && not (is_among same_field w.fields (u, a, k))) ≡ false
       → KeepsToPath ls r a k t u
-  keeps_by a k t u true up down e f g c h = inl (equal u t e)
+  keeps_by a k t u true up down e f g c h = inl (eqb-true u t e)
   keeps_by a k t u false true down e f g c h = inr (inl (above r.tasks u t f))
   keeps_by a k t u false false true e f g c h = inr (inr (above r.tasks t u g, noted_line u a k (field_from nothing_had ls u a k (not-false (is_among same_field w.fields (u, a, k)) h))))
   keeps_by a k t u false false false e f g c h = absurd (cc)
