@@ -1,11 +1,11 @@
 -- What is read at a new address.
-use Rattle.std.proofs.Common.{◌≡◌, ℕ, zero, suc, ◌+◌, ◌*◌, ◌/◌, ◌-◌, Contains, ◌<◌, ◌≤◌, Bool, true, false, cond, List, [], ◌∷◌, ◌++◌, length, map, refl, sym, ap, ◌∙◌, subst, arith, inl, inr, ◌⊎◌, Option, Some, None, eqb}
+use Rattle.std.proofs.Common.{◌≡◌, ℕ, zero, suc, ◌+◌, ◌-◌, Contains, ◌<◌, Bool, true, false, cond, List, [], ◌∷◌, ◌++◌, length, map, refl, sym, ap, ◌∙◌, subst, arith, inl, inr, ◌⊎◌, Option, Some, None, eqb}
 use Rattle.std.specs.Prelude.{nat_lt, nat_le, not, remove, reverse, ◌&&◌}
 use Rattle.std.specs.List.{list_any}
 use Rattle.std.proofs.lemmas.List.{length-reverse}
-use Rattle.std.proofs.lemmas.Bool.{cases_Bool, cases_lt, le-leb, lt-leb, leb-true, false≢true}
+use Rattle.std.proofs.lemmas.Bool.{cases_Bool, cases_lt, le-leb, lt-leb, false≢true}
 use Rattle.object_layout.specs.declared.word.Addr.{Addr}
-use Rattle.object_layout.specs.Cell.{Born, Cell, IsBorn, IsObject, no_cell, size_of}
+use Rattle.object_layout.specs.Cell.{Cell, IsBorn, IsObject, no_cell, size_of}
 use Rattle.object_layout.specs.ChunkValue.{ChunkValue, number_of}
 use Rattle.object_layout.specs.Place.{cell_at, IsCellAt}
 use Rattle.object_layout.specs.Chunks.{cell_of, chunk_at}
@@ -17,18 +17,17 @@ use Rattle.listed.proofs.Members.{In, in_append_left, in_from_contains, in_kept}
 use Rattle.listed.proofs.Places.{map_in, read_in}
 use Rattle.alloc_path.specs.LeafHeapValue.{LeafHeapValue, IsReserved, IsSettled, IsTidy}
 use Rattle.leaf_copy_gc.specs.declared.lists.Survivor.{Survivor}
-use Rattle.leaf_copy_gc.specs.Survivors.{olds, old_of}
+use Rattle.leaf_copy_gc.specs.Survivors.{olds}
 use Rattle.leaf_copy_gc.specs.Exchanged.{reserved_of, unreserved}
 use Rattle.leaf_copy_gc.specs.Collected.{AreSurvivors, collected, keeps, large_of, laid_of, moves_of, redirection}
 use Rattle.leaf_copy_gc.specs.Laws.{CanTake}
 use Rattle.collected_heap_laws.specs.Laws.{LargeAreRead, MovedAreRead}
-use Rattle.leaf_copy_gc.proofs.Moves as moves
 use Rattle.leaf_copy_gc.proofs.Naming as naming
 use Rattle.leaf_copy_gc.proofs.Rebuilt as rebuilt
 use Rattle.leaf_copy_gc.proofs.Rebuilt.{first_of, none_at}
 use Rattle.remembered_set.specs.Moved.{same_address}
-use Rattle.leaf_copy_gc.proofs.Rooms as rooms
-use Rattle.leaf_copy_gc.specs.Laid.{Laying, HaveRoom, before, is_small, small_words, smalls, laid_all, laid_at, laid_one, next_place, opened, open_next, placed, relocations, room_in}
+use Rattle.leaf_copy_gc.proofs.SmallSurvivors.{small_lives, small_room}
+use Rattle.leaf_copy_gc.specs.Laid.{Laying, HaveRoom, before, is_small, smalls, laid_all, laid_at, laid_one, next_place, opened, open_next, placed, relocations, room_in}
 use Rattle.leaf_copy_gc.specs.Redirected.{led_cell, led_chunk}
 use Rattle.leaf_copy_gc.proofs.FollowLemmas.{size_led}
 use Rattle.leaf_copy_gc.proofs.LastChunk.{some_room}
@@ -137,22 +136,13 @@ led_there f (k ∷ ks) a =
 -- ---- the law
 
 module _ (h : LeafHeapValue) (from : List (Option Addr)) (ss : List Survivor) (news : List ChunkValue) (s : AreSurvivors h.chunks from ss) (t : CanTake h.chunks news) where
-  lives : (a : Addr) → In (olds ss) a → HasObjectAt h.chunks a
-  lives a i =
-      let u = map_in old_of ss a i in
-      subst (HasObjectAt h.chunks) u.2 (subst IsBorn (sym (read_in (λ (x : Survivor). (cell_of h.chunks x.old).mark ≡ Born x.birth) ss u.0 u.1 s.names)) tt)
-
   pub small : (a : Addr) → In (smalls h.chunks (olds ss)) a → HasObjectAt h.chunks a × (is_small h.chunks a ≡ true)
-  small a i = let p = moves.in_smalls h.chunks (olds ss) a i in (lives a p.0, p.1)
+  small = small_lives h.chunks ss s.names
 
   pub room : HaveRoom (before (reverse news)) h.chunks (smalls h.chunks (olds ss))
   room =
-      let n = (small_words h.chunks + 1023) / 1024 in
-      let most = rooms.sizes_most h.chunks (smalls h.chunks (olds ss)) (moves.once_smalls h.chunks (olds ss) (once_from (olds ss) s.once)) small in
-      let up : small_words h.chunks ≤ 1024 * ((small_words h.chunks + 1023) / 1024) = omega arith in
       let enough = t.enough in
-      rooms.enough_room h.chunks ((small_words h.chunks + 1023) / 1024) (reverse news) (smalls h.chunks (olds ss)) (new_numbers.new_reverse news t.new) (omega arith) (omega (arith, length-reverse news))
-      (λ a i. leb-true (size_of (cell_of h.chunks a)) 1024 (small a i).1)
+      small_room h.chunks ss s.names (reverse news) (once_from (olds ss) s.once) (new_numbers.new_reverse news t.new) (omega (arith, length-reverse news))
 
   once_news : Distinct (numbers (reverse news))
   once_news = nums.distinct_reverse news (nums.apart_distinct news t.apart)
@@ -213,9 +203,7 @@ module _ (h : LeafHeapValue) (from : List (Option Addr)) (ss : List Survivor) (n
 
   module _ (a : Addr) (i : In (olds ss) a) (big : is_small h.chunks a ≡ false) where
     live : HasObjectAt h.chunks a
-    live =
-        let u = map_in old_of ss a i in
-        subst (HasObjectAt h.chunks) u.2 (subst IsBorn (sym (read_in (λ (x : Survivor). (cell_of h.chunks x.old).mark ≡ Born x.birth) ss u.0 u.1 s.names)) tt)
+    live = naming.lives h.chunks ss s.names a i
 
     own : (k : ChunkValue) × In h.chunks k × (k.number ≡ a.chunk)
     own = map_in number_of h.chunks a.chunk (object_number h.chunks a (laws.born_object h.chunks a live))

@@ -1,7 +1,7 @@
 -- References of the survivors, and where they are led.
 use Rattle.std.proofs.Common.{◌≡◌, ℕ, suc, ◌+◌, ◌*◌, ◌/◌, ◌<◌, ◌≤◌, Bool, true, false, cond, List, [], ◌∷◌, ◌++◌, length, get_or, map, fold, refl, sym, ap, ◌∙◌, subst, arith, inl, inr, Option, Some, None, Contains, ◌↔◌, All}
 use Rattle.std.specs.Prelude.{nat_lt, unwrap_or}
-use Rattle.std.proofs.lemmas.Bool.{cases_lt, lt-ltb, le-ltb, leb-true, false≢true}
+use Rattle.std.proofs.lemmas.Bool.{cases_lt, lt-ltb, le-ltb, false≢true}
 use Rattle.std.proofs.lemmas.List.Elements.{All-cons, All-head, All-tail}
 use Rattle.object_layout.specs.declared.word.Addr.{Addr}
 use Rattle.object_layout.specs.Cell.{Cell, Moved, IsObject, moved_to, size_of, with_mark}
@@ -21,11 +21,11 @@ use Rattle.leaf_copy_gc.specs.Copying.{copied, copied_one, IsReady}
 use Rattle.leaf_copy_gc.specs.Redirected.{followed, followed_ref, new_address, redirected, led_cell, led_chunk, HasTargets}
 use Rattle.address_laws.proofs.Puts as puts
 use Rattle.leaf_copy_gc.proofs.FoundLemmas as marks
-use Rattle.leaf_copy_gc.proofs.Discovered.{survivor_live}
 use Rattle.leaf_copy_gc.proofs.Moves as moves
 use Rattle.leaf_copy_gc.proofs.Moves.{AreAs, small_ones}
-use Rattle.leaf_copy_gc.proofs.Rooms as rooms
+use Rattle.leaf_copy_gc.proofs.Naming as naming
 use Rattle.leaf_copy_gc.proofs.Naming.{born}
+use Rattle.leaf_copy_gc.proofs.SmallSurvivors.{small_room}
 
 -- ---- what lies in the new chunks
 
@@ -120,7 +120,7 @@ module _ (h : List ChunkValue) (from : List (Option Addr)) (closed : IsClosed h)
   can_copy room = moves.are_ready h k ss once as_were (subst (λ (y : Laying). HaveRoom y h (smalls h (olds ss))) (sym k_laying) room)
 
   pub lives : (a : Addr) → In (olds ss) a → HasObjectAt h a
-  lives a i = survivor_live h from a ((kept a).0 (contains_from_in (olds ss) a i))
+  lives = naming.lives h ss names
 
   small_once : Once (olds (small_ones h ss))
   small_once = subst Once (sym (moves.olds_small h ss)) (moves.once_smalls h (olds ss) once)
@@ -129,11 +129,7 @@ module _ (h : List ChunkValue) (from : List (Option Addr)) (closed : IsClosed h)
   small_as s i = as_were s (moves.in_small h ss s i)
 
   pub enough : 2 * ((small_words h + 1023) / 1024) ≤ length spare + 1 → HaveRoom (before spare) h (smalls h (olds ss))
-  enough room =
-      let small : (a : Addr) → In (smalls h (olds ss)) a → HasObjectAt h a × (is_small h a ≡ true) = λ a i. let p = moves.in_smalls h (olds ss) a i in (lives a p.0, p.1) in
-      let most = rooms.sizes_most h (smalls h (olds ss)) (moves.once_smalls h (olds ss) once) small in
-      let up : small_words h ≤ 1024 * ((small_words h + 1023) / 1024) = omega arith in
-      rooms.enough_room h ((small_words h + 1023) / 1024) spare (smalls h (olds ss)) new (omega arith) room (λ a i. leb-true (size_of (cell_of h a)) 1024 (small a i).1)
+  enough room = small_room h ss names spare once new room
 
   -- what the copying gave
   module _ (t : CollectorValue) (is : t ≡ fold copied k ss) where

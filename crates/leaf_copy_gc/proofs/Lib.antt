@@ -19,6 +19,7 @@ mod Phases
 pub mod NewNumbers
 pub mod Rebuilt
 pub mod Naming
+pub mod SmallSurvivors
 pub mod Order
 pub mod Tidied
 pub mod Packing

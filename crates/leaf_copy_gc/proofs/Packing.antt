@@ -26,9 +26,7 @@ use Rattle.leaf_copy_gc.specs.Redirected.{led_cell, led_chunk}
 use Rattle.leaf_copy_gc.specs.Collected.{laying_of, moves_of}
 use Rattle.leaf_copy_gc.proofs.FollowLemmas.{size_led}
 use Rattle.leaf_copy_gc.proofs.LastChunk.{some_room}
-use Rattle.leaf_copy_gc.proofs.Moves as moves
-use Rattle.leaf_copy_gc.proofs.Naming.{lives}
-use Rattle.leaf_copy_gc.proofs.Rooms as rooms
+use Rattle.leaf_copy_gc.proofs.SmallSurvivors.{small_lives, small_room}
 
 -- ---- an object more
 
@@ -153,13 +151,10 @@ module _ (f : Option Addr → Option Addr) where
 module _ (h : List ChunkValue) (ss : List Survivor) (spare : List ChunkValue) (names : HaveNames h ss) (once : Once (olds ss)) (new : AreNew spare)
     (enough : 2 * ((small_words h + 1023) / 1024) ≤ length spare + 1) where
   small : (a : Addr) → In (smalls h (olds ss)) a → HasObjectAt h a × (is_small h a ≡ true)
-  small a i = let p = moves.in_smalls h (olds ss) a i in (lives h ss names a p.0, p.1)
+  small = small_lives h ss names
 
   room : HaveRoom (before spare) h (smalls h (olds ss))
-  room =
-      let most = rooms.sizes_most h (smalls h (olds ss)) (moves.once_smalls h (olds ss) once) small in
-      let up : small_words h ≤ 1024 * ((small_words h + 1023) / 1024) = omega arith in
-      rooms.enough_room h ((small_words h + 1023) / 1024) spare (smalls h (olds ss)) new (omega arith) enough (λ a i. leb-true (size_of (cell_of h a)) 1024 (small a i).1)
+  room = small_room h ss names spare once new enough
 
   pub packed : (f : Option Addr → Option Addr) (laid : List ChunkValue) → laid ≡ map (led_chunk f) (laying_of h ss spare).laid → (n : ℕ) → n ≡ length (moves_of h ss spare) → ArePacked laid n
   packed f laid is n count =
