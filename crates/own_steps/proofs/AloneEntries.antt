@@ -32,12 +32,13 @@ use Rattle.shared_value.specs.Next.{is_beyond, is_beyond_by, is_beyond_line, is_
 use Rattle.shared_value.specs.Entered.{refused}
 use Rattle.shared_value.proofs.BeforeTheEnd.{steps_now}
 use Rattle.own_steps.specs.Alone.{FinishesAlone, GoesAlone, HaltsAlone, IsShared, Tells, alone_event, ended_rest, machine_after, then_accounts}
-use Rattle.own_steps.proofs.RunDone.{done_ends, done_others, done_rests, done_world, has_home, has_node}
+use Rattle.own_steps.proofs.RunDone.{done_ends, done_others, done_rests, done_world}
 use Rattle.own_steps.proofs.RunHalted.{halted_ends, halted_others, halted_part, halted_world}
 use Rattle.own_steps.proofs.LastStepEntry as last
 use Rattle.own_steps.proofs.LastStepEntry.{last_event}
 use Rattle.own_steps.proofs.LastSteps.{event_is, fits_machine, machine_same}
 use Rattle.own_steps.proofs.OutputEntered.{output_goes, output_others, output_part, output_world}
+use Rattle.own_steps.proofs.TaskEnds.{has_home, has_node}
 
 -- a step that can't be done ends the run so
 pub trap_is : (w : SharedValue) (p : Private) (kind : Trap) (number : ℕ) → Tells w p (Traps kind) number → step w.program (then_accounts w p).machine p.task ≡ ended_by (then_accounts w p).machine (Trapped kind p.task number)
@@ -70,6 +71,13 @@ module _ (w : SharedValue) (k : ℕ) (p : Private) (I : IsSharedValue w) (F : Fi
 
   pub is_safe : IsSafe p
   is_safe = some_safe w.program p fits_some
+
+  -- its task has a node and a home
+  pub node_there : p.task < length w.tree
+  node_there = has_node w k p I F shared last_free
+
+  pub home_there : p.task < length w.rests
+  home_there = has_home w k p I F shared last_free
 
   -- AN OUTPUT
   module _ (value : ℤ) (line : ℕ) (T : Tells w p (Prints value) line) (j : RoomyValue EntryValue) where
@@ -142,12 +150,6 @@ module _ (w : SharedValue) (k : ℕ) (p : Private) (I : IsSharedValue w) (F : Fi
           journal = record { items = w.journal.items ++ record { worker = k; kind = Ran p.task n } ∷ []; room = j.room };
           end = Some (Machine Done);
         } in z) more
-
-    pub node_there : p.task < length w.tree
-    node_there = has_node w k p I F shared last_free line T root
-
-    pub home_there : p.task < length w.rests
-    home_there = has_home w k p I F shared last_free line T root
 
     pub finished_world : IsSharedValue finished
     finished_world = subst IsSharedValue finished_is (done_world w k p I F shared last_free line T root j)

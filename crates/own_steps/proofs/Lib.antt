@@ -7,6 +7,7 @@ pub mod LastSteps
 pub mod LastStepEntry
 pub mod OutputEntered
 pub mod RunHalted
+pub mod TaskEnds
 pub mod RunDone
 pub mod AloneEntries
 pub mod FormByOutline

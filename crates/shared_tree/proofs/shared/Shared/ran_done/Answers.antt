@@ -40,8 +40,7 @@ set_state-requires c =
     let F : Fits w k p = subst (λ (z : SharedValue). Fits z k p) (sym c.self.view_is) c.requires.fits in
     let shared : IsShared w p = subst (λ (z : SharedValue). IsShared z p) (sym c.self.view_is) c.requires.shared in
     let free : refused w (alone_event k p) ≡ None = subst (λ (z : SharedValue). refused z (alone_event k p) ≡ None) (sym c.self.view_is) c.requires.free in
-    let T : (n : ℕ) × Tells w p Returns n = subst (λ (z : SharedValue). (n : ℕ) × Tells z p Returns n) (sym c.self.view_is) c.requires.returns in
-    node_there w k p c.self.invariant F shared free T.0 T.1 c.requires.root (record { items = []; room = 0 })
+    node_there w k p c.self.invariant F shared free
 
 pub make_block-requires : goal.make_block-requires
 make_block-requires c =
@@ -51,8 +50,7 @@ make_block-requires c =
     let F : Fits w k p = subst (λ (z : SharedValue). Fits z k p) (sym c.self.view_is) c.requires.fits in
     let shared : IsShared w p = subst (λ (z : SharedValue). IsShared z p) (sym c.self.view_is) c.requires.shared in
     let free : refused w (alone_event k p) ≡ None = subst (λ (z : SharedValue). refused z (alone_event k p) ≡ None) (sym c.self.view_is) c.requires.free in
-    let T : (n : ℕ) × Tells w p Returns n = subst (λ (z : SharedValue). (n : ℕ) × Tells z p Returns n) (sym c.self.view_is) c.requires.returns in
-    record { made = home_there w k p c.self.invariant F shared free T.0 T.1 c.requires.root (record { items = []; room = 0 }) }
+    record { made = home_there w k p c.self.invariant F shared free }
 
 pub invariant_of-self : goal.invariant_of-self
 invariant_of-self c =

@@ -11,9 +11,9 @@ use Rattle.shared_value.specs.Fits.{Fits}
 use Rattle.shared_value.specs.Entered.{refused}
 use Rattle.shared_value.proofs.JournalGoesOn.{four_changed}
 use Rattle.own_steps.specs.Alone.{alone_event, ended_rest}
-use Rattle.own_steps.proofs.AloneEntries.{alone_small}
+use Rattle.own_steps.proofs.AloneEntries.{alone_small, home_there, node_there}
 use Rattle.child_tasks.specs.ChildEnds.{EndsChild, IsAtEnd}
-use Rattle.child_tasks.proofs.ChildEnded.{alone_ends, alone_world, has_home, has_node}
+use Rattle.child_tasks.proofs.ChildEnded.{alone_ends, alone_world}
 use Rattle.child_tasks.proofs.ChildReturns.{end_shared}
 use Rattle.shared_tree.specs.contracts.shared.Shared.{the_view}
 use Rattle.shared_tree.proofs.StepsEntered.{along, entered}
@@ -27,9 +27,7 @@ make_block-requires c =
     let F : Fits w k p = subst (λ (z : SharedValue). Fits z k p) (sym c.self.view_is) c.requires.fits in
     let at : IsAtEnd w p = subst (λ (z : SharedValue). IsAtEnd z p) (sym c.self.view_is) c.requires.ends in
     let free : refused w (alone_event k p) ≡ None = subst (λ (z : SharedValue). refused z (alone_event k p) ≡ None) (sym c.self.view_is) c.requires.free in
-    let I : IsSharedValue w = c.self.invariant in
-    let no : state_of w.tree (sibling p.task) ≡ Some Ended → ⊥ = λ e. c.requires.alone (subst (λ (z : SharedValue). state_of z.tree (sibling p.task) ≡ Some Ended) c.self.view_is e) in
-    record { made = has_home w k p I F at free no }
+    record { made = home_there w k p c.self.invariant F (end_shared w p at) free }
 
 pub enter_alone-requires-clause-small : goal.enter_alone-requires-clause-small
 enter_alone-requires-clause-small c =
@@ -49,9 +47,7 @@ set_state-requires c =
     let F : Fits w k p = subst (λ (z : SharedValue). Fits z k p) (sym c.self.view_is) c.requires.fits in
     let at : IsAtEnd w p = subst (λ (z : SharedValue). IsAtEnd z p) (sym c.self.view_is) c.requires.ends in
     let free : refused w (alone_event k p) ≡ None = subst (λ (z : SharedValue). refused z (alone_event k p) ≡ None) (sym c.self.view_is) c.requires.free in
-    let I : IsSharedValue w = c.self.invariant in
-    let no : state_of w.tree (sibling p.task) ≡ Some Ended → ⊥ = λ e. c.requires.alone (subst (λ (z : SharedValue). state_of z.tree (sibling p.task) ≡ Some Ended) c.self.view_is e) in
-    has_node w k p I F at free no
+    node_there w k p c.self.invariant F (end_shared w p at) free
 
 pub invariant_of-self : goal.invariant_of-self
 invariant_of-self c =
