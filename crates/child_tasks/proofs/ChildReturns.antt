@@ -1,8 +1,7 @@
 -- A part whose next step is the last return of a task that another one forked: what is known before it is entered.
-use Rattle.std.proofs.Common.{◌≡◌, ℕ, ℤ, suc, ◌+◌, ◌-◌, ◌<◌, ◌^◌, ◌&&◌, arith, not, Bool, true, false, Option, Some, None, List, [], ◌∷◌, length, slice_get, option_map, is_none, is_some, inl, inr, refl, ap, sym, ◌∙◌}
-use Rattle.std.proofs.lemmas.Bool.{cases_eq, and_parts, cond-false, cond-true, false≢true}
+use Rattle.std.proofs.Common.{◌≡◌, ℕ, ℤ, ◌+◌, ◌-◌, ◌<◌, ◌&&◌, arith, not, Bool, true, false, Option, Some, None, List, [], ◌∷◌, length, slice_get, option_map, is_some, refl, ap, sym, ◌∙◌}
+use Rattle.std.proofs.lemmas.Bool.{and_parts, cond-false, cond-true, false≢true}
 use Rattle.std.proofs.lemmas.Option.{same_Some}
-use Rattle.listed.proofs.Members.{got_within}
 use Rattle.listed.proofs.Options.{none_some}
 use Rattle.hh_lang.specs.declared.instr.Instr.{Instr}
 use Rattle.hh_lang.specs.declared.instr.Instr.TheVariants.{Ret}
@@ -19,8 +18,6 @@ use Rattle.hh_model.specs.Tree.{TreeOf}
 use Rattle.run_ledger.specs.declared.data.Ledger.{Ledger}
 use Rattle.run_ledger.specs.Heaps.{heap_of}
 use Rattle.run_ledger.specs.Steps.{has_no_caller, is_open, is_private_by, is_private_line, task_steps}
-use Rattle.run_ledger.proofs.Bounds.{ran_tells}
-use Rattle.journal_laws.proofs.Counted.{journals_are_counted}
 use Rattle.heap_tree.specs.declared.state.State.{State}
 use Rattle.heap_tree.specs.declared.state.State.TheVariants.{Ended}
 use Rattle.heap_tree.specs.Node.{Node, parent_of as parent_in_tree, state_of as state_in_tree}
@@ -37,11 +34,10 @@ use Rattle.shared_value.proofs.BeforeTheEnd.{stands_now}
 use Rattle.shared_value.proofs.StepAccounts.{After}
 use Rattle.shared_value.proofs.TaskTaken.{parent_is as tree_parent_is}
 use Rattle.own_steps.specs.Alone.{IsShared, alone_event, machine_after}
-use Rattle.own_steps.proofs.AloneEntries.{last_free, runs_on}
+use Rattle.own_steps.proofs.AloneEntries.{last_free, node_there, runs_on}
 use Rattle.own_steps.proofs.LastStepEntry as last
 use Rattle.own_steps.proofs.LastSteps.{machine_same}
 use Rattle.child_tasks.specs.ChildEnds.{IsAtEnd, is_last, is_last_by, is_last_line}
-use Rattle.child_tasks.proofs.NextStepForks.{node_out, tree_long}
 
 -- ---- IT ISN'T PRIVATE
 
@@ -168,26 +164,11 @@ module _ (w : SharedValue) (k : ℕ) (p : Private) (I : IsSharedValue w) (F : Fi
   pub same_then : (u : ℕ) → (u ≡ t → ⊥) → slice_get M.machine.tasks u ≡ slice_get l.machine.tasks u
   same_then u ne = A.others u ne
 
-  -- the tree is that of the machine then
-  pub then_parents : (u : ℕ) → parents M.machine.tasks u ≡ parents l.machine.tasks u
-  then_parents u = elim (cases_eq u t) [
-    | inl q ↦ ap (parents M.machine.tasks) q ∙ (ap parent_of A.is ∙ (A.parent ∙ (ap parent_of (sym F.fits.is) ∙ ap (parents l.machine.tasks) (sym q))))
-    | inr ne ↦ ap parent_of (A.others u ne)
-  ]
-
   pub tree_parent : parent_in_tree w.tree t ≡ Some parent
-  tree_parent = tree_parent_is w I t ∙ (sym (then_parents t) ∙ par_mid)
-
-  -- fewer than 2^31 tasks
-  pub few_tasks : length w.tree < 2 ^ 31
-  few_tasks =
-      let a = ran_tells w.program w.settings l k t (suc p.fresh) (ap is_none free_last) in
-      let c = (journals_are_counted w.program w.settings w.journal.items).counts.made in
-      let d = I.limits.fuel.1 in
-      omega (arith, a.2, c, d, tree_long w I on)
+  tree_parent = tree_parent_is w I t ∙ (sym (last.then_parents w k p I F shared free_last t) ∙ par_mid)
 
   pub own_made : t < length w.tree
-  own_made = let n = node_out w I on k p F in got_within w.tree t n.0 n.1
+  own_made = node_there w k p I F shared free
 
   abbrev pub other : ℕ
   other = sibling t

@@ -3,7 +3,7 @@ use Rattle.std.proofs.Common.{◌≡◌, ℕ, zero, suc, ◌+◌, ◌<◌, ◌++
 use Rattle.std.specs.Option.{option_flatten}
 use Rattle.std.proofs.lemmas.Bool.{cases_eq, cases_lt, cond-true, lt-ltb}
 use Rattle.std.proofs.lemmas.Option.{same_Some}
-use Rattle.listed.proofs.Members.{got_back, got_front, got_other, got_past, got_within}
+use Rattle.listed.proofs.Members.{got_back, got_front, got_other, got_past}
 use Rattle.listed.specs.RoomyValue.{RoomyValue}
 use Rattle.listed.proofs.Places.{got_set, got_some}
 use Rattle.hh_lang.specs.declared.instr.Instr.{Instr}
@@ -49,9 +49,10 @@ use Rattle.shared_value.proofs.FieldsNoted.{noted_of}
 use Rattle.shared_value.proofs.EntryMade.{entered_marks, marked_fits, marked_world, task_is_out, held_apart, unheld_before}
 use Rattle.shared_value.proofs.Levels.{level_is}
 use Rattle.shared_value.proofs.PartFitsMachine as link
-use Rattle.shared_value.proofs.BeforeTheEnd.{end_now}
+use Rattle.shared_value.proofs.BeforeTheEnd.{end_now, tree_long}
 use Rattle.shared_value.proofs.TaskTaken.{made_by, node_by, node_off, worker_there}
 use Rattle.own_steps.specs.Alone.{IsShared, alone_event}
+use Rattle.own_steps.proofs.AloneEntries.{node_there}
 use Rattle.own_steps.proofs.LastStepEntry as last
 use Rattle.own_steps.proofs.LastStepEntry.{last_event}
 use Rattle.child_tasks.specs.Forks.{ForksTo, RestsFork, IsAtFork, SetsFork, waiting_rest}
@@ -146,7 +147,7 @@ module _ (w : SharedValue) (k : ℕ) (p : Private) (I : IsSharedValue w) (F : Fi
 
   -- ---- THE NUMBERS OF THE CHILDREN
   pub made_is : a ≡ length w.tree
-  made_is = steps.then_long w k p I F at_fork free ∙ sym (steps.tree_long w I (steps.on w k p I F at_fork free))
+  made_is = steps.then_long w k p I F at_fork free ∙ sym (tree_long w I)
 
   home_is : a ≡ length w.rests
   home_is = made_is ∙ sym I.made
@@ -154,8 +155,8 @@ module _ (w : SharedValue) (k : ℕ) (p : Private) (I : IsSharedValue w) (F : Fi
   set_is : a ≡ length w.sets
   set_is = made_is ∙ sym I.noted
 
-  pub has_node : t < length w.tree
-  has_node = let n = steps.node_out w I (steps.on w k p I F at_fork free) k p F in got_within w.tree t n.0 n.1
+  has_node : t < length w.tree
+  has_node = node_there w k p I F (steps.shared w k p I F at_fork free) free
 
   abbrev vt : Memory
   vt = with_belongings v t h

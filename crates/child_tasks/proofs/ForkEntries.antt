@@ -20,12 +20,11 @@ use Rattle.shared_value.specs.SharedValue.{SharedValue, accounts, marks_at, rest
 use Rattle.shared_value.specs.Stands.{IsSharedValue}
 use Rattle.shared_value.specs.Fits.{Fits, OthersFit}
 use Rattle.shared_value.specs.Entered.{refused}
+use Rattle.shared_value.proofs.BeforeTheEnd.{tree_long}
 use Rattle.own_steps.specs.Alone.{alone_event}
 use Rattle.own_steps.proofs.LastStepEntry.{last_event}
 use Rattle.child_tasks.specs.Forks.{ForksOn, ForksTo, RestsFork, IsAtFork, SetsFork, begun_rest, part_child, waiting_rest}
-use Rattle.child_tasks.proofs.ForkEntered as forked_by
 use Rattle.child_tasks.proofs.ForkEntered.{forked_goes, forked_others, forked_world}
-use Rattle.child_tasks.proofs.NextStepForks as steps
 
 -- ---- THE HOMES: that of the task is put, and two come behind it
 module _ (rests : List (Option Rest)) (p : Private) (made : p.task < length rests) (x y z : Option Rest) where
@@ -92,12 +91,6 @@ module _ (w : SharedValue) (k : ℕ) (p : Private) (I : IsSharedValue w) (F : Fi
   more : suc p.fresh ≡ p.fresh + 1
   more = omega arith
 
-  pub own_home : p.task < length w.rests
-  own_home = subst (λ n. p.task < n) (sym I.made) (forked_by.has_node w k p I F at_fork free left right number B shallow)
-
-  pub own_set : p.task < length w.sets
-  own_set = subst (λ n. p.task < n) (sym I.noted) (forked_by.has_node w k p I F at_fork free left right number B shallow)
-
   module _ (rests : List (Option Rest)) (sets : List SetOf) (H : RestsFork w.rests rests p left right) (N : SetsFork w.sets sets p.task) (marks : List (Option MarkingValue)) (unmarked : marks ≡ slice_set w.marks p.task None ++ None ∷ (None ∷ [])) (j : RoomyValue EntryValue) where
     unmarked_at : (u : ℕ) → marks_at marks u ≡ marks_at (slice_set w.marks p.task None) u
     unmarked_at u = ap (λ ms. marks_at ms u) unmarked ∙ unmarked_more (slice_set w.marks p.task None) u
@@ -130,7 +123,7 @@ module _ (w : SharedValue) (k : ℕ) (p : Private) (I : IsSharedValue w) (F : Fi
 
     pub alone_forks : (a b : ℕ) → a ≡ length w.tree → b ≡ length w.tree + 1 → ForksOn w forked_alone k p a b
     alone_forks a b ea eb =
-        let long = steps.tree_long w I (steps.on w k p I F at_fork free) in
+        let long = tree_long w I in
         record {
           enters = record { journal = refl; program = refl; settings = refl; halted = refl };
           left_is = ea ∙ long;

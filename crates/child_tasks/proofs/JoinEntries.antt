@@ -34,6 +34,7 @@ use Rattle.shared_value.proofs.BeforeTheEnd.{stands_now}
 use Rattle.shared_value.proofs.TaskTaken.{parent_is as tree_parent_is}
 use Rattle.core_relation.specs.Whole.{as_node}
 use Rattle.own_steps.specs.Alone.{alone_event}
+use Rattle.own_steps.proofs.LastStepEntry as last
 use Rattle.child_tasks.specs.ChildEnds.{EndsChild, IsAtEnd}
 use Rattle.child_tasks.specs.Forks.{nothing_noted}
 use Rattle.child_tasks.specs.Joins.{AreSides, CanJoin, HasPlaces, RestsJoin, IsRestOf, SetsJoin, chunk_count, left_of, other_child, own_child, parent_side, right_of, sources_at}
@@ -93,7 +94,7 @@ module _ (w : SharedValue) (k : ℕ) (p : Private) (I : IsSharedValue w) (F : Fi
       waits_in _ (slice_get w.tree q) x.0 x.2 ((stands_now w I (steps.on w k p I F at_end free)).tree_counts.node q ∙ ap (option_map (as_node _)) x.1)
 
   other_parent : parent_in_tree w.tree s' ≡ Some q
-  other_parent = tree_parent_is w I s' ∙ (sym (steps.then_parents w k p I F at_end free s') ∙ steps.other_parent w k p I F at_end free)
+  other_parent = tree_parent_is w I s' ∙ (sym (last.then_parents w k p I F (steps.shared w k p I F at_end free) (steps.free_last w k p I F at_end free) s') ∙ steps.other_parent w k p I F at_end free)
 
   -- the parent has frames
   pub calls : HasCalls (rest_at w.rests q)

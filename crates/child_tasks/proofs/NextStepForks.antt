@@ -1,8 +1,7 @@
 -- A part whose next step is a fork: what is known before it is entered.
-use Rattle.std.proofs.Common.{◌≡◌, ℕ, suc, ◌<◌, ◌≤◌, ◌^◌, ◌&&◌, arith, not, nat_lt, Bool, true, false, Option, Some, None, length, slice_get, option_map, is_none, is_some, inl, inr, refl, ap, ap₂, sym, subst, ◌∙◌}
+use Rattle.std.proofs.Common.{◌≡◌, ℕ, ◌<◌, ◌≤◌, ◌^◌, ◌&&◌, arith, not, nat_lt, Bool, true, false, Option, Some, None, length, slice_get, option_map, is_some, inl, inr, refl, ap, ap₂, sym, subst, ◌∙◌}
 use Rattle.std.proofs.lemmas.Bool.{cases_eq, cond-false, ltb-true}
 use Rattle.std.proofs.lemmas.Option.{same_Some}
-use Rattle.listed.proofs.Options.{some_map}
 use Rattle.hh_lang.specs.declared.instr.Instr.{Instr}
 use Rattle.hh_lang.specs.declared.instr.Instr.TheVariants.{Par}
 use Rattle.hh_lang.specs.declared.program.Line.{Line}
@@ -11,12 +10,12 @@ use Rattle.hh_model.specs.declared.data.State.{State}
 use Rattle.hh_model.specs.declared.data.Task.{Task}
 use Rattle.hh_model.specs.declared.data.Trap.TheVariants.{Depth}
 use Rattle.hh_model.specs.Effect.{effect}
-use Rattle.hh_model.specs.Step.{depth_limit, ended_by, fetched, follow, forked as forked_machine, parent_of, parents, setting, step}
+use Rattle.hh_model.specs.Step.{depth_limit, ended_by, fetched, follow, forked as forked_machine, parents, setting, step}
 use Rattle.hh_model.specs.Tree.{AreLow}
 use Rattle.run_ledger.specs.declared.data.Ledger.{Ledger}
 use Rattle.run_ledger.specs.Heaps.{heap_of}
 use Rattle.run_ledger.specs.Steps.{is_open, is_private_by, is_private_line, task_steps}
-use Rattle.run_ledger.proofs.Bounds.{ran_tells}
+use Rattle.run_ledger.proofs.Bounds.{steps_are_bounded}
 use Rattle.journal_laws.proofs.Counted.{journals_are_counted}
 use Rattle.heap_tree.specs.declared.state.State.TheVariants.{Out}
 use Rattle.heap_tree.specs.Node.{Node, depth_of, parent_of as parent_in_tree, state_of as state_in_tree}
@@ -34,7 +33,7 @@ use Rattle.shared_value.specs.Next.{next_line}
 use Rattle.shared_value.specs.Stands.{IsSharedValue}
 use Rattle.shared_value.specs.SharedValue.{SharedValue, accounts, tree_counts_of, value_of}
 use Rattle.shared_value.proofs.PartFitsMachine as link
-use Rattle.shared_value.proofs.BeforeTheEnd.{stands_now}
+use Rattle.shared_value.proofs.BeforeTheEnd.{stands_now, tree_long}
 use Rattle.shared_value.proofs.StepsEntered.{status}
 use Rattle.shared_value.proofs.StepAccounts.{After}
 use Rattle.shared_value.proofs.SameLength.{same_length}
@@ -73,19 +72,22 @@ module _ (w : SharedValue) (p : Private) where
 
 -- ---- THE TREE AND THE TASKS
 
+-- fewer than 2^31 tasks
+pub few_tasks : (w : SharedValue) → IsSharedValue w → length w.tree < 2 ^ 31
+few_tasks w I =
+    let c = (journals_are_counted w.program w.settings w.journal.items).counts.made in
+    let s = steps_are_bounded w.program w.settings w.journal.items I.legal in
+    let d = I.limits.fuel.1 in
+    let n = tree_long w I in
+    omega (arith, c, s, d, n)
+
 module _ (w : SharedValue) (I : IsSharedValue w) (on : (accounts w).end ≡ None) where
   abbrev S0 : StandsFor (value_of w) (tree_counts_of w) (accounts w)
   S0 = stands_now w I on
 
-  -- as many tasks as nodes
-  pub tree_long : length w.tree ≡ length (accounts w).machine.tasks
-  tree_long =
-      same_length w.tree (accounts w).machine.tasks
-      (λ u. ap is_some (S0.tree_counts.node u) ∙ some_map (as_node (heap_of (accounts w) u).worker) (slice_get (accounts w).machine.tasks u))
-
   -- the task of a part is out
   module _ (k : ℕ) (p : Private) (F : Fits w k p) where
-    pub node_out : (n : Node) × (slice_get w.tree p.task ≡ Some n) × (n.state ≡ Out)
+    node_out : (n : Node) × (slice_get w.tree p.task ≡ Some n) × (n.state ≡ Out)
     node_out =
         let is : slice_get w.tree p.task ≡ Some (as_node (heap_of (accounts w) p.task).worker F.fits.task) = S0.tree_counts.node p.task ∙ ap (option_map (as_node (heap_of (accounts w) p.task).worker)) F.fits.is in
         (as_node (heap_of (accounts w) p.task).worker F.fits.task, is, ap₂ state_by (status w k p I F on) F.held)
@@ -132,15 +134,8 @@ module _ (w : SharedValue) (k : ℕ) (p : Private) (I : IsSharedValue w) (F : Fi
   pub forks_to : (line : Line) (left right : ℕ) → next_line w.program p ≡ Some line → line.instr ≡ Par left right → ForksTo w p left right line.number
   forks_to line left right e by = record { task = G.task; line = line; is = G.is; next = line_at line e; number_is = refl; by = by }
 
-  -- the tree is that of the machine then
   abbrev A : After l M t F.fits.task
   A = link.A w k p I F on
-
-  then_parents : (u : ℕ) → parents M.machine.tasks u ≡ parents l.machine.tasks u
-  then_parents u = elim (cases_eq u t) [
-    | inl q ↦ ap (parents M.machine.tasks) q ∙ (ap parent_of A.is ∙ (A.parent ∙ (ap parent_of (sym F.fits.is) ∙ ap (parents l.machine.tasks) (sym q))))
-    | inr ne ↦ ap parent_of (A.others u ne)
-  ]
 
   pub then_long : length M.machine.tasks ≡ length l.machine.tasks
   then_long = same_length M.machine.tasks l.machine.tasks each
@@ -161,15 +156,7 @@ module _ (w : SharedValue) (k : ℕ) (p : Private) (I : IsSharedValue w) (F : Fi
   deep = let r = G.reached in subst (λ (m : State). AreDeep m.tasks) (sym r.2) (run_deep w.program r.0 r.1)
 
   pub depth_is : depth_of w.tree t ≡ S.task.depth
-  depth_is = deep_in M.machine.tasks low deep (parent_in_tree w.tree) (λ u. parent_is w I u ∙ sym (then_parents u)) t S.task S.at.task
-
-  -- fewer than 2^31 tasks
-  pub few_tasks : length w.tree < 2 ^ 31
-  few_tasks =
-      let a = ran_tells w.program w.settings l k t (suc p.fresh) (ap is_none free_last) in
-      let c = (journals_are_counted w.program w.settings w.journal.items).counts.made in
-      let d = I.limits.fuel.1 in
-      omega (arith, a.2, c, d, tree_long w I on)
+  depth_is = deep_in M.machine.tasks low deep (parent_in_tree w.tree) (λ u. parent_is w I u ∙ sym (last.then_parents w k p I F shared free_last u)) t S.task S.at.task
 
   module _ (left right number : ℕ) (B : ForksTo w p left right number) where
     same_task : B.task ≡ S.task

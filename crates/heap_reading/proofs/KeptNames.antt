@@ -1,12 +1,11 @@
 -- What the heaps of tasks hold that don't run, as their belongings count it.
-use Rattle.std.proofs.Common.{◌≡◌, ℕ, zero, suc, ◌+◌, ◌-◌, ◌*◌, ◌^◌, ◌<◌, ◌≤◌, ◌==◌, ◌++◌, arith, Bool, true, false, cond, not, Option, Some, None, List, [], ◌∷◌, length, length-append, map, min, is_some, option_map, slice_get, inl, inr, refl, ap, ap₂, sym, subst, ◌∙◌}
+use Rattle.std.proofs.Common.{◌≡◌, ℕ, zero, suc, ◌+◌, ◌-◌, ◌*◌, ◌^◌, ◌<◌, ◌≤◌, ◌==◌, ◌++◌, arith, Bool, true, false, cond, not, Option, Some, None, List, [], ◌∷◌, length, length-append, map, min, option_map, slice_get, inl, inr, refl, ap, ap₂, sym, subst, ◌∙◌}
 use Rattle.std.specs.List.{flat_map}
 use Rattle.std.proofs.lemmas.Bool.{cases_eq}
 use Rattle.std.proofs.lemmas.List.{append-nil, append_assoc}
 use Rattle.std.proofs.lemmas.List.Sums.{sum_by-append}
 use Rattle.std.proofs.lemmas.Option.{same_Some}
 use Rattle.listed.proofs.Members.{contains_from_in}
-use Rattle.listed.proofs.Options.{some_map}
 use Rattle.hh_model.specs.declared.data.Name.{Name}
 use Rattle.hh_model.specs.declared.data.State.{State}
 use Rattle.hh_model.specs.declared.data.Status.{Status}
@@ -42,10 +41,9 @@ use Rattle.shared_value.specs.Objects.{chunk_of, chunks_of}
 use Rattle.shared_value.specs.SharedValue.{SharedValue, accounts, belongings_in, rest_at, value_of}
 use Rattle.shared_value.specs.Stands.{IsSharedValue}
 use Rattle.shared_value.proofs.HeapWords.{words_are}
-use Rattle.shared_value.proofs.SameLength.{same_length}
 use Rattle.shared_value.proofs.FieldsLed.{belongings_chunks}
 use Rattle.shared_value.proofs.ObjectCounts.{objects_counted}
-use Rattle.shared_value.proofs.BeforeTheEnd.{goes_by}
+use Rattle.shared_value.proofs.BeforeTheEnd.{goes_by, tree_long}
 use Rattle.heap_reading.specs.HeldNames.{is_state_running, held_unless_running}
 use Rattle.heap_reading.proofs.IdleTasks.{journal_idle}
 
@@ -225,11 +223,7 @@ module _ (w : SharedValue) (I : IsSharedValue w) where
 
   -- each task has a home
   homes_long : length w.rests ≡ length k.machine.tasks
-  homes_long =
-      I.made
-      ∙ (same_length w.tree (handed k).machine.tasks
-      (λ u. ap is_some (I.stands.tree_counts.node u) ∙ some_map (as_node (heap_of (handed k) u).worker) (slice_get (handed k).machine.tasks u))
-      ∙ ap (λ (m : State). length m.tasks) (goes_by k k.end).machine)
+  homes_long = I.made ∙ tree_long w I
 
   pub homes_few : length w.rests < 2 ^ 32
   homes_few =

@@ -72,12 +72,15 @@ module _ (w : SharedValue) (k : ℕ) (p : Private) (I : IsSharedValue w) (F : Fi
   pub is_safe : IsSafe p
   is_safe = some_safe w.program p fits_some
 
-  -- its task has a node and a home
+  -- its task has a node, a home and a set
   pub node_there : p.task < length w.tree
   node_there = has_node w k p I F shared last_free
 
   pub home_there : p.task < length w.rests
   home_there = has_home w k p I F shared last_free
+
+  pub set_there : p.task < length w.sets
+  set_there = subst (λ n. p.task < n) (sym I.noted) node_there
 
   -- AN OUTPUT
   module _ (value : ℤ) (line : ℕ) (T : Tells w p (Prints value) line) (j : RoomyValue EntryValue) where

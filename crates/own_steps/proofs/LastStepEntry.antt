@@ -1,11 +1,12 @@
 -- An entry of a part's fresh steps and its next one: what is known of the accounts before and after it.
-use Rattle.std.proofs.Common.{◌≡◌, ℕ, suc, true, false, Option, Some, None, slice_get, is_none, min, inr, ap, ap₂, sym, subst, ◌∙◌}
+use Rattle.std.proofs.Common.{◌≡◌, ℕ, suc, true, false, Option, Some, None, slice_get, is_none, min, inl, inr, ap, ap₂, sym, subst, ◌∙◌}
+use Rattle.std.proofs.lemmas.Bool.{cases_eq}
 use Rattle.std.proofs.lemmas.Option.{same_Some}
 use Rattle.listed.proofs.Options.{none_of}
 use Rattle.hh_lang.specs.declared.program.Line.{Line}
 use Rattle.hh_model.specs.declared.data.Task.{Task}
 use Rattle.hh_model.specs.Effect.{effect}
-use Rattle.hh_model.specs.Step.{can_step, fetched, follow, goes_on, is_running, is_waiting, runs, setting, step, waits}
+use Rattle.hh_model.specs.Step.{can_step, fetched, follow, goes_on, is_running, is_waiting, parent_of, parents, runs, setting, step, waits}
 use Rattle.hh_model.proofs.Taken.{step_taken}
 use Rattle.run_trace.specs.declared.entry.Kind.TheVariants.{Ran}
 use Rattle.run_trace.specs.Entry.{EntryValue}
@@ -108,6 +109,13 @@ module _ (w : SharedValue) (k : ℕ) (p : Private) (I : IsSharedValue w) (F : Fi
 
   pub held_mid : (heap_of M t).worker ≡ Some k
   held_mid = link.worker_then w k p I F on
+
+  -- the tree is that of the machine then
+  pub then_parents : (u : ℕ) → parents M.machine.tasks u ≡ parents l.machine.tasks u
+  then_parents u = elim (cases_eq u t) [
+    | inl q ↦ ap (parents M.machine.tasks) q ∙ (ap parent_of A.is ∙ (A.parent ∙ (ap parent_of (sym F.fits.is) ∙ ap (parents l.machine.tasks) (sym q))))
+    | inr ne ↦ ap parent_of (A.others u ne)
+  ]
 
   -- heaps of others, and whose belongings are in the value
   pub heap_off : (u : ℕ) → (u ≡ t → ⊥) → slice_get M.heaps u ≡ slice_get l.heaps u

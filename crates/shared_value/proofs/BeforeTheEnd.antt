@@ -1,6 +1,7 @@
 -- What the shared value keeps, of the accounts themselves; and before the run's end, of the parts that fit.
-use Rattle.std.proofs.Common.{◌≡◌, ℕ, Option, Some, None, slice_get, refl, ap, subst, ◌∙◌}
+use Rattle.std.proofs.Common.{◌≡◌, ℕ, Option, Some, None, is_some, length, slice_get, refl, ap, subst, ◌∙◌}
 use Rattle.std.specs.Option.{option_flatten}
+use Rattle.listed.proofs.Options.{some_map}
 use Rattle.hh_model.specs.declared.data.End.TheVariants.{Done, Trapped, Entangled}
 use Rattle.hh_model.specs.declared.data.State.{State}
 use Rattle.hh_model.specs.declared.data.Status.TheVariants.{Running}
@@ -9,13 +10,13 @@ use Rattle.run_ledger.specs.declared.data.Heap.{Heap}
 use Rattle.run_ledger.specs.declared.data.Ledger.{Ledger}
 use Rattle.run_ledger.specs.declared.data.RunEnd.{RunEnd}
 use Rattle.run_ledger.specs.declared.data.RunEnd.TheVariants.{Fuel, Machine, Pool}
-use Rattle.run_ledger.specs.Heaps.{heap_at, in_use, let_go, units_in, with_heap_at}
+use Rattle.run_ledger.specs.Heaps.{heap_at, heap_of, in_use, let_go, units_in, with_heap_at}
 use Rattle.run_ledger.specs.Entries.{held_from}
 use Rattle.run_ledger.proofs.Going.{machine_goes_on}
 use Rattle.chunk_pool.specs.PoolValue.{units_in_use}
 use Rattle.core_relation.specs.Copies.{PartFits}
 use Rattle.core_relation.specs.Fits.{FitsAt}
-use Rattle.core_relation.specs.Whole.{StandsFor, by_end, handed}
+use Rattle.core_relation.specs.Whole.{StandsFor, as_node, by_end, handed}
 use Rattle.core_entry_laws.proofs.whole.TasksOut.{tasks_out_are_held}
 use Rattle.core_entry_laws.proofs.parts.Workers as workers
 use Rattle.task_machine.specs.declared.part.Private.{Private}
@@ -23,6 +24,7 @@ use Rattle.shared_value.specs.SharedValue.{SharedValue, accounts, tree_counts_of
 use Rattle.shared_value.specs.Stands.{IsSharedValue}
 use Rattle.shared_value.specs.Fits.{Fits, part_of}
 use Rattle.shared_value.proofs.OneAccount.{sum_put}
+use Rattle.shared_value.proofs.SameLength.{same_length}
 
 -- a task that is let go of changes nothing else
 pub record LetsGo (l l' : Ledger) : Type 0 where
@@ -64,6 +66,13 @@ module _ (w : SharedValue) (I : IsSharedValue w) where
 
   pub used_now : units_in_use w.pool ≡ in_use (accounts w)
   used_now = I.stands.tree_counts.used ∙ goes_on.used
+
+  -- as many tasks as nodes
+  pub tree_long : length w.tree ≡ length (accounts w).machine.tasks
+  tree_long =
+      same_length w.tree (handed (accounts w)).machine.tasks
+      (λ u. ap is_some (I.stands.tree_counts.node u) ∙ some_map (as_node (heap_of (handed (accounts w)) u).worker) (slice_get (handed (accounts w)).machine.tasks u))
+      ∙ ap (λ (m : State). length m.tasks) goes_on.machine
 
   -- before the end it stands for the accounts themselves
   pub stands_now : (accounts w).end ≡ None → StandsFor (value_of w) (tree_counts_of w) (accounts w)

@@ -14,9 +14,9 @@ use Rattle.shared_value.specs.Fits.{Fits}
 use Rattle.shared_value.specs.Entered.{refused}
 use Rattle.shared_value.proofs.JournalGoesOn.{four_changed}
 use Rattle.own_steps.specs.Alone.{alone_event}
-use Rattle.own_steps.proofs.AloneEntries.{alone_small, next_small}
+use Rattle.own_steps.proofs.AloneEntries.{alone_small, home_there, next_small, set_there}
 use Rattle.child_tasks.specs.Forks.{ForksOn, ForksTo, RestsFork, IsAtFork, SetsFork, begun_rest, part_child, waiting_rest}
-use Rattle.child_tasks.proofs.ForkEntries.{alone_forks, alone_world, rests_fork_by, own_home, own_set}
+use Rattle.child_tasks.proofs.ForkEntries.{alone_forks, alone_world, rests_fork_by}
 use Rattle.child_tasks.proofs.NextStepForks.{few_tasks, fork_shared, on, tree_out}
 use Rattle.shared_tree.specs.contracts.shared.Shared.{the_view}
 use Rattle.shared_tree.proofs.StepsEntered.{along, entered}
@@ -34,15 +34,7 @@ grow-grown-requires-clause-out c =
     tree_out w I (on w k p I F at free) k p F
 
 pub grow-grown-requires-clause-few : goal.grow-grown-requires-clause-few
-grow-grown-requires-clause-few c =
-    let w : SharedValue = the_view c.self.inside in
-    let p : Private = c.args.part in
-    let k : ℕ = c.args.worker in
-    let I : IsSharedValue w = c.self.invariant in
-    let F : Fits w k p = subst (λ (z : SharedValue). Fits z k p) (sym c.self.view_is) c.requires.fits in
-    let at : IsAtFork w p = subst (λ (z : SharedValue). IsAtFork z p) (sym c.self.view_is) c.requires.forks in
-    let free : refused w (alone_event k p) ≡ None = subst (λ (z : SharedValue). refused z (alone_event k p) ≡ None) (sym c.self.view_is) c.requires.free in
-    few_tasks w k p I F at free
+grow-grown-requires-clause-few c = few_tasks (the_view c.self.inside) c.self.invariant
 
 pub grow-grown-requires-clause-shallow : goal.grow-grown-requires-clause-shallow
 grow-grown-requires-clause-shallow c =
@@ -57,9 +49,7 @@ grow-grown-requires-clause-made c =
     let F : Fits w k p = subst (λ (z : SharedValue). Fits z k p) (sym c.self.view_is) c.requires.fits in
     let at : IsAtFork w p = subst (λ (z : SharedValue). IsAtFork z p) (sym c.self.view_is) c.requires.forks in
     let free : refused w (alone_event k p) ≡ None = subst (λ (z : SharedValue). refused z (alone_event k p) ≡ None) (sym c.self.view_is) c.requires.free in
-    let B : (n : ℕ) × ForksTo w p c.args.left c.args.right n = subst (λ (z : SharedValue). (n : ℕ) × ForksTo z p c.args.left c.args.right n) (sym c.self.view_is) c.requires.by in
-    let low : depth_of w.tree p.task < 1000 = subst (λ (z : SharedValue). depth_of z.tree p.task < 1000) (sym c.self.view_is) c.requires.shallow in
-    own_home w k p I F at free c.args.left c.args.right B.0 B.1 low
+    home_there w k p I F (fork_shared w p at) free
 
 pub enter_alone-requires-clause-room : goal.enter_alone-requires-clause-room
 enter_alone-requires-clause-room c =
@@ -85,9 +75,7 @@ fork_homes-marked-requires-clause-made c =
     let F : Fits w k p = subst (λ (z : SharedValue). Fits z k p) (sym c.self.view_is) c.requires.fits in
     let at : IsAtFork w p = subst (λ (z : SharedValue). IsAtFork z p) (sym c.self.view_is) c.requires.forks in
     let free : refused w (alone_event k p) ≡ None = subst (λ (z : SharedValue). refused z (alone_event k p) ≡ None) (sym c.self.view_is) c.requires.free in
-    let B : (n : ℕ) × ForksTo w p c.args.left c.args.right n = subst (λ (z : SharedValue). (n : ℕ) × ForksTo z p c.args.left c.args.right n) (sym c.self.view_is) c.requires.by in
-    let low : depth_of w.tree p.task < 1000 = subst (λ (z : SharedValue). depth_of z.tree p.task < 1000) (sym c.self.view_is) c.requires.shallow in
-    subst (λ (z : HomesValue). p.task < length z.rests) (sym c.in-Ok-grown.ensures.homes) (own_home w k p I F at free c.args.left c.args.right B.0 B.1 low)
+    subst (λ (z : HomesValue). p.task < length z.rests) (sym c.in-Ok-grown.ensures.homes) (home_there w k p I F (fork_shared w p at) free)
 
 pub fork_homes-marked-requires-clause-noted : goal.fork_homes-marked-requires-clause-noted
 fork_homes-marked-requires-clause-noted c =
@@ -98,9 +86,7 @@ fork_homes-marked-requires-clause-noted c =
     let F : Fits w k p = subst (λ (z : SharedValue). Fits z k p) (sym c.self.view_is) c.requires.fits in
     let at : IsAtFork w p = subst (λ (z : SharedValue). IsAtFork z p) (sym c.self.view_is) c.requires.forks in
     let free : refused w (alone_event k p) ≡ None = subst (λ (z : SharedValue). refused z (alone_event k p) ≡ None) (sym c.self.view_is) c.requires.free in
-    let B : (n : ℕ) × ForksTo w p c.args.left c.args.right n = subst (λ (z : SharedValue). (n : ℕ) × ForksTo z p c.args.left c.args.right n) (sym c.self.view_is) c.requires.by in
-    let low : depth_of w.tree p.task < 1000 = subst (λ (z : SharedValue). depth_of z.tree p.task < 1000) (sym c.self.view_is) c.requires.shallow in
-    subst (λ (z : HomesValue). p.task < length z.sets) (sym c.in-Ok-grown.ensures.homes) (own_set w k p I F at free c.args.left c.args.right B.0 B.1 low)
+    subst (λ (z : HomesValue). p.task < length z.sets) (sym c.in-Ok-grown.ensures.homes) (set_there w k p I F (fork_shared w p at) free)
 
 pub fork_homes-marked-requires-clause-block : goal.fork_homes-marked-requires-clause-block
 fork_homes-marked-requires-clause-block c =
@@ -135,7 +121,7 @@ invariant_of-self-2 c =
     let g : HomesValue = c.grow-grown.new.homes in
     let n : HomesValue = c.fork_homes-marked.new.homes in
     let grown : g ≡ record c.self.inside.heaps.homes { blocks = g.blocks; room = g.room } = c.in-Ok-grown.ensures.homes in
-    let made : p.task < length w.rests = own_home w k p I F at free c.args.left c.args.right B.0 B.1 low in
+    let made : p.task < length w.rests = home_there w k p I F (fork_shared w p at) free in
     let first : c.in-Ok-grown.first ≡ part_child p (length w.rests) c.args.left c.in-Ok-grown.first.heap.slots c.in-Ok-grown.first.heap.spare = c.in-Ok-grown.ensures.left_child ∙ ap (λ n. part_child p n c.args.left c.in-Ok-grown.first.heap.slots c.in-Ok-grown.first.heap.spare) (sym I.made) in
     let second : c.in-Ok-grown.second ≡ part_child p (length w.rests + 1) c.args.right c.in-Ok-grown.second.heap.slots c.in-Ok-grown.second.heap.spare = c.in-Ok-grown.ensures.right_child ∙ ap (λ n. part_child p (n + 1) c.args.right c.in-Ok-grown.second.heap.slots c.in-Ok-grown.second.heap.spare) (sym I.made) in
     let rests : n.rests ≡ slice_set w.rests p.task (Some (waiting_rest p)) ++ Some (begun_rest c.in-Ok-grown.first) ∷ (Some (begun_rest c.in-Ok-grown.second) ∷ []) =
@@ -163,7 +149,7 @@ returns-clause-answered c =
     let g : HomesValue = c.grow-grown.new.homes in
     let n : HomesValue = c.fork_homes-marked.new.homes in
     let grown : g ≡ record c.self.inside.heaps.homes { blocks = g.blocks; room = g.room } = c.in-Ok-grown.ensures.homes in
-    let made : p.task < length w.rests = own_home w k p I F at free c.args.left c.args.right B.0 B.1 low in
+    let made : p.task < length w.rests = home_there w k p I F (fork_shared w p at) free in
     let first : c.in-Ok-grown.first ≡ part_child p (length w.rests) c.args.left c.in-Ok-grown.first.heap.slots c.in-Ok-grown.first.heap.spare = c.in-Ok-grown.ensures.left_child ∙ ap (λ n. part_child p n c.args.left c.in-Ok-grown.first.heap.slots c.in-Ok-grown.first.heap.spare) (sym I.made) in
     let second : c.in-Ok-grown.second ≡ part_child p (length w.rests + 1) c.args.right c.in-Ok-grown.second.heap.slots c.in-Ok-grown.second.heap.spare = c.in-Ok-grown.ensures.right_child ∙ ap (λ n. part_child p (n + 1) c.args.right c.in-Ok-grown.second.heap.slots c.in-Ok-grown.second.heap.spare) (sym I.made) in
     let rests : n.rests ≡ slice_set w.rests p.task (Some (waiting_rest p)) ++ Some (begun_rest c.in-Ok-grown.first) ∷ (Some (begun_rest c.in-Ok-grown.second) ∷ []) =

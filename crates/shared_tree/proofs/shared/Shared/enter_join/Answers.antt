@@ -23,7 +23,8 @@ use Rattle.own_steps.specs.Alone.{alone_event}
 use Rattle.own_steps.proofs.AloneEntries.{alone_small}
 use Rattle.child_tasks.specs.ChildEnds.{EndsChild, IsAtEnd}
 use Rattle.child_tasks.specs.Joins.{CanJoin, HasPlaces, parent_side}
-use Rattle.child_tasks.proofs.ChildReturns.{end_shared, few_tasks, own_made, parent_low}
+use Rattle.child_tasks.proofs.ChildReturns.{end_shared, own_made, parent_low}
+use Rattle.child_tasks.proofs.NextStepForks.{few_tasks}
 use Rattle.child_tasks.proofs.JoinEntries as entry
 use Rattle.child_tasks.proofs.JoinEntries.{other_made}
 use Rattle.child_tasks.proofs.JoinTakes.{left_by}
@@ -53,7 +54,7 @@ sibling_of-other-requires-clause-few c =
     let F : Fits w k p = subst (λ (z : SharedValue). Fits z k p) (sym c.self.view_is) c.requires.fits in
     let at : IsAtEnd w p = subst (λ (z : SharedValue). IsAtEnd z p) (sym c.self.view_is) c.requires.ends in
     let free : refused w (alone_event k p) ≡ None = subst (λ (z : SharedValue). refused z (alone_event k p) ≡ None) (sym c.self.view_is) c.requires.free in
-    let few = few_tasks w k p I F at free in
+    let few = few_tasks w I in
     let made = own_made w k p I F at free in
     omega (arith, few, made)
 

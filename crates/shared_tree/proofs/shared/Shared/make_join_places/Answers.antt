@@ -13,7 +13,8 @@ use Rattle.shared_value.specs.Entered.{refused}
 use Rattle.own_steps.specs.Alone.{alone_event}
 use Rattle.child_tasks.specs.ChildEnds.{IsAtEnd}
 use Rattle.child_tasks.specs.Joins.{HasPlaces, SameButPlaces, chunk_count, sources_at}
-use Rattle.child_tasks.proofs.ChildReturns.{few_tasks, own_made, parent_low}
+use Rattle.child_tasks.proofs.ChildReturns.{own_made, parent_low}
+use Rattle.child_tasks.proofs.NextStepForks.{few_tasks}
 use Rattle.child_tasks.proofs.JoinEntries.{parent_home, parent_is, parent_other}
 use Rattle.child_tasks.proofs.JoinPlaces.{placed_has, placed_same, places_world}
 use Rattle.shared_tree.specs.Ran.{MayBeEntered}
@@ -35,7 +36,7 @@ make_places-requires-clause-few c =
     let p : Private = c.args.part.now in
     let held : MayBeEntered w p = subst (λ (z : SharedValue). MayBeEntered z p) (sym c.self.view_is) c.requires.held in
     let at : IsAtEnd w p = subst (λ (z : SharedValue). IsAtEnd z p) (sym c.self.view_is) c.requires.ends in
-    let few = few_tasks w held.worker p c.self.invariant held.fits at held.free in
+    let few = few_tasks w c.self.invariant in
     let own = own_made w held.worker p c.self.invariant held.fits at held.free in
     omega (arith, few, own)
 

@@ -12,7 +12,8 @@ use Rattle.shared_value.specs.Fits.{AllFit, Fits}
 use Rattle.own_steps.specs.Alone.{alone_event}
 use Rattle.child_tasks.specs.ChildEnds.{IsAtEnd}
 use Rattle.child_tasks.specs.Joins.{IsUnchanged, SameButPlaces}
-use Rattle.child_tasks.proofs.ChildReturns.{end_shared, few_tasks, own_made, parent_low, tree_parent}
+use Rattle.child_tasks.proofs.ChildReturns.{end_shared, own_made, parent_low, tree_parent}
+use Rattle.child_tasks.proofs.NextStepForks.{few_tasks}
 use Rattle.child_tasks.proofs.JoinPlaces.{places_ends, places_fit, places_same, same_world}
 use Rattle.shared_tree.proofs.shared.Shared.ran_ending.Goals as goal
 
@@ -152,6 +153,6 @@ sibling_of-requires-clause-few c =
     let p : Private = c.args.part in
     let k : ℕ = c.args.worker in
     let free : refused w (alone_event k p) ≡ None = sym c.alone_refused.ensures ∙ c.in_default.is in
-    let few = few_tasks w k p c.stands.ensures c.requires.fits c.requires.ends free in
+    let few = few_tasks w c.stands.ensures in
     let made = own_made w k p c.stands.ensures c.requires.fits c.requires.ends free in
     omega (arith, few, made)

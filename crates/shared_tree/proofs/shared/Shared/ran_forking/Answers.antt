@@ -1,13 +1,12 @@
 use Rattle.std.proofs.Common.{◌≡◌, ◌≤◌, ◌<◌, ℕ, None, length, sym, subst, ◌∙◌}
-use Rattle.listed.proofs.Members.{got_within}
 use Rattle.hh_model.specs.declared.data.Trap.TheVariants.{Depth}
 use Rattle.heap_tree.specs.Node.{depth_of}
 use Rattle.task_machine.specs.declared.part.Private.{Private}
 use Rattle.shared_value.specs.SharedValue.{SharedValue}
 use Rattle.shared_value.specs.Entered.{refused}
 use Rattle.own_steps.specs.Alone.{alone_event}
-use Rattle.own_steps.proofs.AloneEntries.{trap_is}
-use Rattle.child_tasks.proofs.NextStepForks.{deep_traps, fork_shared, node_out, on}
+use Rattle.own_steps.proofs.AloneEntries.{node_there, trap_is}
+use Rattle.child_tasks.proofs.NextStepForks.{deep_traps, fork_shared}
 use Rattle.shared_tree.proofs.shared.Shared.ran_forking.Goals as goal
 
 pub depth-requires : goal.depth-requires
@@ -16,8 +15,7 @@ depth-requires c =
     let p : Private = c.args.part in
     let k : ℕ = c.args.worker in
     let free : refused w (alone_event k p) ≡ None = sym c.alone_refused.ensures ∙ c.in_default.is in
-    let n = node_out w c.stands.ensures (on w k p c.stands.ensures c.requires.fits c.requires.forks free) k p c.requires.fits in
-    subst (λ (z : SharedValue). p.task < length z.tree) (sym c.self.view_is) (got_within w.tree p.task n.0 n.1)
+    subst (λ (z : SharedValue). p.task < length z.tree) (sym c.self.view_is) (node_there w k p c.stands.ensures c.requires.fits (fork_shared w p c.requires.forks) free)
 
 pub enter_halt-requires-clause-ends : goal.enter_halt-requires-clause-ends
 enter_halt-requires-clause-ends c =
