@@ -31,7 +31,7 @@ use Rattle.shared_value.specs.Stands.{IsSharedValue}
 use Rattle.shared_value.specs.Fits.{Fits, IsAtWork}
 use Rattle.shared_value.specs.Entered.{refused}
 use Rattle.shared_value.proofs.BeforeTheEnd.{stands_now}
-use Rattle.shared_value.proofs.TaskTaken.{parent_is as tree_parent_is}
+use Rattle.shared_value.proofs.TaskTaken.{HasCalls, parent_is as tree_parent_is, some_calls}
 use Rattle.core_relation.specs.Whole.{as_node}
 use Rattle.own_steps.specs.Alone.{alone_event}
 use Rattle.own_steps.proofs.LastStepEntry as last
@@ -39,7 +39,6 @@ use Rattle.child_tasks.specs.ChildEnds.{EndsChild, IsAtEnd}
 use Rattle.child_tasks.specs.Forks.{nothing_noted}
 use Rattle.child_tasks.specs.Joins.{AreSides, CanJoin, HasPlaces, RestsJoin, IsRestOf, SetsJoin, chunk_count, left_of, other_child, own_child, parent_side, right_of, sources_at}
 use Rattle.child_tasks.proofs.ChildReturns as steps
-use Rattle.child_tasks.proofs.JoinTree.{HasCalls}
 use Rattle.child_tasks.proofs.JoinedBelongings as both_sides
 use Rattle.child_tasks.proofs.SiblingReturned as before
 use Rattle.child_tasks.proofs.JoinEntered as joined
@@ -99,10 +98,6 @@ module _ (w : SharedValue) (k : ℕ) (p : Private) (I : IsSharedValue w) (F : Fi
   -- the parent has frames
   pub calls : HasCalls (rest_at w.rests q)
   calls = before.parent_calls w k p I F at_end free ended
-
-  some_calls : (o : Option Rest) → HasCalls o → IsSome o
-  some_calls None h = absurd h
-  some_calls (Some r) h = refl
 
   -- and so it has a home, which stays as both children leave theirs
   pub parent_home : (parent : ℕ) → parent_in_tree w.tree p.task ≡ Some parent → IsSome (rest_at w.rests parent)

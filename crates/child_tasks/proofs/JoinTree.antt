@@ -1,28 +1,24 @@
--- The nodes of a join, and what the status of a task tells.
-use Rattle.std.proofs.Common.{◌≡◌, ◌⊎◌, ℕ, ℤ, true, Option, Some, None, List, length, slice_get, option_map, inl, inr, refl, ap, ap₂, sym, subst, ◌∙◌}
-use Rattle.std.proofs.lemmas.Bool.{cases_eq, false≢true}
+-- The nodes of a join, and what is known of the tasks that it joins.
+use Rattle.std.proofs.Common.{◌≡◌, ◌⊎◌, ℕ, ℤ, true, Option, Some, None, List, length, slice_get, option_map, inl, inr, refl, ap, ap₂, sym, ◌∙◌}
+use Rattle.std.proofs.lemmas.Bool.{cases_eq}
 use Rattle.std.proofs.lemmas.Option.{same_Some}
 use Rattle.hh_model.specs.declared.data.Name.{Name}
 use Rattle.hh_model.specs.declared.data.State.{State as MachineState}
 use Rattle.hh_model.specs.declared.data.Status.{Status}
 use Rattle.hh_model.specs.declared.data.Status.TheVariants.{Running, Waiting as WaitingOf, Ended as EndedOf, Joined as JoinedOf}
 use Rattle.hh_model.specs.declared.data.Task.{Task}
-use Rattle.hh_model.specs.Step.{is_over, is_waiting, result_at, result_in, waits}
-use Rattle.object_layout.specs.declared.word.Addr.{Addr}
+use Rattle.hh_model.specs.Step.{is_over, result_at, result_in}
 use Rattle.alloc_path.specs.LeafHeapValue.{LeafHeapValue, room_of}
 use Rattle.chunk_rows.specs.View.{Level}
 use Rattle.heap_tree.specs.declared.state.State.TheVariants.{Ended, Joined, Ready}
 use Rattle.heap_tree.specs.declared.state.State.{State}
 use Rattle.heap_tree.specs.Node.{Node, with_state}
 use Rattle.fork_join.specs.Joined.{joined_nodes}
-use Rattle.core_relation.specs.Reads.{HoldsRead, TaskIsRead}
 use Rattle.core_relation.specs.RanCounts.{node_then}
 use Rattle.task_homes.specs.declared.task_at_rest.Work.{Work}
 use Rattle.task_homes.specs.declared.task_at_rest.Work.TheVariants.{Calls, Result}
-use Rattle.task_homes.specs.declared.task_at_rest.Rest.{Rest}
-use Rattle.shared_value.specs.SharedValue.{belongings_by, belongings_in, belongings_of}
+use Rattle.shared_value.specs.SharedValue.{belongings_by}
 use Rattle.shared_value.proofs.TaskTaken.{made_by, node_by, node_off}
-pub use Rattle.shared_value.proofs.TaskTaken.{HasCalls}
 
 -- ---- THE TREE
 
@@ -104,22 +100,3 @@ pub record IsOver (m : MachineState) (t : ℕ) : Type 0 where
   pub is : slice_get m.tasks t ≡ Some task
   pub over : is_over task.status ≡ true
   pub end : m.end ≡ None
-
--- ---- A TASK THAT WAITS HAS FRAMES
-
-pub waiting_is : (x : Task) → is_waiting (Some x) ≡ true → x.status ≡ WaitingOf
-waiting_is x e = by x.status e
-  where
-    by : (s : Status) → waits s ≡ true → s ≡ WaitingOf
-    by Running e = absurd (false≢true e)
-    by WaitingOf e = refl
-    by (EndedOf n r) e = absurd (false≢true e)
-    by JoinedOf e = absurd (false≢true e)
-
-pub waiting_calls : (at : Name → Addr → Type 0) (o : Option Rest) (x : Task) → x.status ≡ WaitingOf → TaskIsRead at (belongings_in o) x → HasCalls o
-waiting_calls at None x e h = absurd (subst (HoldsRead at (belongings_in None) x) e h)
-waiting_calls at (Some r) x e h = by r.work refl (subst (HoldsRead at (belongings_of r) x) e h)
-  where
-    by : (k : Work) → r.work ≡ k → HoldsRead at (belongings_by r.heap r.view r.allocations k) x WaitingOf → HasCalls (Some r)
-    by (Calls s) q g = (s, q)
-    by (Result n a) q g = absurd g

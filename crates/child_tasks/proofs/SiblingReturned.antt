@@ -8,6 +8,7 @@ use Rattle.hh_model.specs.declared.data.State.{State}
 use Rattle.hh_model.specs.declared.data.Status.TheVariants.{Waiting as WaitingOf, Ended as EndedOf}
 use Rattle.hh_model.specs.declared.data.Task.{Task}
 use Rattle.hh_model.specs.Step.{child_ended_by, is_joined, is_left, is_running, is_waiting, join_of, joined_task, result_at, or_same, parents, result_of, resumed}
+use Rattle.hh_model.proofs.Closed.{waits_is}
 use Rattle.path_laws.proofs.Leaves.{wait_there}
 use Rattle.run_trace.specs.Entry.{private_limit}
 use Rattle.run_ledger.specs.declared.data.Ledger.{Ledger}
@@ -27,7 +28,7 @@ use Rattle.ledger_step_laws.proofs.Rested.{rested_view}
 use Rattle.core_relation.specs.Memory.{Chunk, Belongings, Memory}
 use Rattle.core_relation.specs.Fits.{part_for, with_belongings}
 use Rattle.core_relation.specs.Layout.{reserved_chunks, reserved_units}
-use Rattle.core_relation.specs.Reads.{TaskIsRead}
+use Rattle.core_relation.specs.Reads.{HoldsRead, TaskIsRead}
 use Rattle.core_relation.specs.Stands.{HasNames, BelongingsStand, Place, Stands}
 use Rattle.core_relation.specs.Worker.{WorkerFits}
 use Rattle.core_relation.proofs.changes.With.{at_belongings, off_belongings}
@@ -41,6 +42,7 @@ use Rattle.shared_value.specs.Fits.{Fits, belongings_of_part}
 use Rattle.shared_value.specs.Entered.{refused}
 use Rattle.shared_value.proofs.HeapCounts.{counted_from}
 use Rattle.shared_value.proofs.PartFitsMachine as link
+use Rattle.shared_value.proofs.TaskTaken.{HasCalls, has_calls}
 use Rattle.own_steps.specs.Alone.{IsShared, alone_event}
 use Rattle.own_steps.proofs.LastStepEntry as last
 use Rattle.own_steps.proofs.LastStepEntry.{last_event}
@@ -48,7 +50,7 @@ use Rattle.child_tasks.specs.ChildEnds.{IsAtEnd, running_parent, where_running}
 use Rattle.child_tasks.proofs.ChildReturns as steps
 use Rattle.shared_value.proofs.FieldsLed.{by_chunks}
 use Rattle.child_tasks.proofs.JoinBelongings.{by_since}
-use Rattle.child_tasks.proofs.JoinTree.{HasCalls, IsOver, by_room, kept_is, waiting_calls, waiting_is}
+use Rattle.child_tasks.proofs.JoinTree.{IsOver, by_room, kept_is}
 use Rattle.child_tasks.proofs.LastReturnKinds.{joins}
 
 module _ (w : SharedValue) (k : ℕ) (p : Private) (I : IsSharedValue w) (F : Fits w k p) (at_end : IsAtEnd w p) (free : refused w (alone_event k p) ≡ None) (ended : state_in_tree w.tree (steps.other w k p I F at_end free) ≡ Some Ended) where
@@ -264,7 +266,7 @@ module _ (w : SharedValue) (k : ℕ) (p : Private) (I : IsSharedValue w) (F : Fi
   rests_parent = subst (Rests R) parent_same Q.can.rests
 
   above_status : xp.status ≡ WaitingOf
-  above_status = waiting_is xp (ap is_waiting (sym above_task.1) ∙ steps.parent_waits w k p I F at_end free)
+  above_status = waits_is xp.status (ap is_waiting (sym above_task.1) ∙ steps.parent_waits w k p I F at_end free)
 
   pub waiting_parent : (y : Task) × (slice_get l.machine.tasks q ≡ Some y) × (y.status ≡ WaitingOf)
   waiting_parent = (xp, sym (steps.same_then w k p I F at_end free q (steps.parent_apart w k p I F at_end free)) ∙ above_task.1, above_status)
@@ -272,4 +274,5 @@ module _ (w : SharedValue) (k : ℕ) (p : Private) (I : IsSharedValue w) (F : Fi
   pub parent_calls : HasCalls (rest_at w.rests q)
   parent_calls =
       let held : TaskIsRead (Place vt R) (vt.belongings q) xp = W.tasks q xp rests_parent (ap (λ (m : State). slice_get m.tasks q) machine_rests ∙ above_task.1) in
-      waiting_calls (Place vt R) (rest_at w.rests q) xp above_status (subst (λ (i : Belongings). TaskIsRead (Place vt R) i xp) (off q (steps.parent_apart w k p I F at_end free)) held)
+      has_calls (Place vt R) (rest_at w.rests q) xp
+      (subst (HoldsRead (Place vt R) (v.belongings q) xp) above_status (subst (λ (i : Belongings). TaskIsRead (Place vt R) i xp) (off q (steps.parent_apart w k p I F at_end free)) held))

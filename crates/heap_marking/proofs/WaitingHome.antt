@@ -1,9 +1,8 @@
 -- What is there of a task that waits and whose heap wasn't swept since its fork.
 use Rattle.std.proofs.Common.{◌≡◌, ℕ, true, false, Bool, Option, Some, None, is_some, option_map, slice_get, refl, ap, sym, subst, ◌∙◌}
-use Rattle.hh_model.specs.declared.data.Status.{Status}
-use Rattle.hh_model.specs.declared.data.Status.TheVariants.{Running, Waiting, Ended, Joined}
 use Rattle.hh_model.specs.declared.data.Task.{Task}
-use Rattle.hh_model.specs.Step.{is_waiting, waits}
+use Rattle.hh_model.specs.Step.{is_waiting}
+use Rattle.hh_model.proofs.Closed.{waits_is}
 use Rattle.path_laws.proofs.Leaves.{wait_there, waiting_stops}
 use Rattle.run_ledger.specs.declared.data.Ledger.{Ledger}
 use Rattle.run_ledger.specs.declared.data.Refused.TheVariants.{NotWaiting, Swept}
@@ -15,9 +14,10 @@ use Rattle.core_relation.specs.Stands.{Place}
 use Rattle.core_relation.specs.Memory.{Memory}
 use Rattle.core_relation.specs.Whole.{StandsFor}
 use Rattle.task_homes.specs.declared.task_at_rest.Rest.{Rest}
-use Rattle.shared_value.specs.SharedValue.{SharedValue, accounts, belongings_in, no_belongings, noted_in, rest_at, tree_counts_of, value_of}
+use Rattle.shared_value.specs.SharedValue.{SharedValue, accounts, noted_in, rest_at, tree_counts_of, value_of}
 use Rattle.shared_value.specs.Stands.{IsSharedValue}
 use Rattle.shared_value.proofs.BeforeTheEnd.{stands_now}
+use Rattle.shared_value.proofs.TaskTaken.{HasCalls, has_calls, some_calls}
 use Rattle.heap_marking.specs.MarkCauses.{is_state_waiting, waiting_cause}
 use Rattle.heap_marking.proofs.MarkCauses.{waits_by}
 
@@ -50,22 +50,17 @@ module _ (w : SharedValue) (I : IsSharedValue w) (on : (accounts w).end ≡ None
   pub keeps : ((value_of w).noted t).keeps ≡ true
   keeps = tells.1
 
-  -- its home is there
-  home_there : (x : Task) → slice_get l.machine.tasks t ≡ Some x → (o : Option Rest) → rest_at w.rests t ≡ o → is_some o ≡ true
-  home_there x is (Some r) e = refl
-  home_there x is None e = absurd (by x.status (ap is_waiting (sym is) ∙ wait) (subst (λ z. HoldsRead (Place v l) (belongings_in z) x x.status) e (S.belongings.tasks t x (legal_idle w.program w.settings w.journal.items I.legal on t (waiting_stops (slice_get l.machine.tasks t) wait)) is)))
-    where
-      by : (s : Status) → waits s ≡ true → HoldsRead (Place v l) no_belongings x s → ⊥
-      by Running h r = r
-      by Waiting h r = r
-      by (Ended k n) h r = absurd cc
-      by Joined h r = absurd cc
-
   pub task : (x : Task) × (slice_get l.machine.tasks t ≡ Some x)
   task = wait_there (slice_get l.machine.tasks t) wait
 
+  -- its home is there
+  calls : HasCalls (rest_at w.rests t)
+  calls =
+      let idle = legal_idle w.program w.settings w.journal.items I.legal on t (waiting_stops (slice_get l.machine.tasks t) wait) in
+      has_calls (Place v l) (rest_at w.rests t) task.0 (subst (HoldsRead (Place v l) (v.belongings t) task.0) (waits_is task.0.status (ap is_waiting (sym task.1) ∙ wait)) (S.belongings.tasks t task.0 idle task.1))
+
   pub rest : (r : Rest) × (rest_at w.rests t ≡ Some r)
-  rest = some_of (rest_at w.rests t) (home_there task.0 task.1 (rest_at w.rests t) refl)
+  rest = some_of (rest_at w.rests t) (some_calls (rest_at w.rests t) calls)
 
   pub never_gone : rest_at w.rests t ≡ None → ⊥
   never_gone none = none_some (sym none ∙ rest.1)

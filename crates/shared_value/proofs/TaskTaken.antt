@@ -1,6 +1,7 @@
 -- A worker takes a task.
-use Rattle.std.proofs.Common.{◌≡◌, ℕ, ◌<◌, Bool, true, false, not, ◌&&◌, nat_le, nat_lt, Option, Some, None, List, length, length-set, slice_get, slice_set, option_map, is_none, is_some, inl, inr, refl, ap, sym, subst, ◌∙◌, arith}
+use Rattle.std.proofs.Common.{◌≡◌, ℕ, ◌<◌, Bool, true, false, not, ◌&&◌, nat_le, nat_lt, Option, Some, None, List, ◌∷◌, length, length-set, slice_get, slice_set, option_map, is_none, is_some, inl, inr, refl, ap, sym, subst, ◌∙◌, arith}
 use Rattle.std.specs.Option.{option_flatten}
+use Rattle.std.specs.Prelude.{IsSome}
 use Rattle.std.proofs.lemmas.Bool.{cases_eq, and_parts, false≢true, ltb-true}
 use Rattle.std.proofs.lemmas.Option.{same_Some}
 use Rattle.listed.specs.RoomyValue.{RoomyValue}
@@ -31,7 +32,7 @@ use Rattle.ledger_step_laws.specs.Accounts.{Rests}
 use Rattle.core_relation.specs.Memory.{Belongings, Memory}
 use Rattle.core_relation.specs.Changes.{SameBut}
 use Rattle.core_relation.specs.Counts.{TakesNode}
-use Rattle.core_relation.specs.Reads.{TaskIsRead, HoldsRead}
+use Rattle.core_relation.specs.Reads.{FramesAreRead, HoldsRead}
 use Rattle.core_relation.specs.Stands.{Place}
 use Rattle.core_relation.specs.Fits.{part_for}
 use Rattle.core_relation.specs.Worker.{WorkerFits}
@@ -43,7 +44,7 @@ use Rattle.task_machine.specs.declared.part.Private.{Private}
 use Rattle.task_homes.specs.declared.task_at_rest.Rest.{Rest}
 use Rattle.task_homes.specs.declared.task_at_rest.Work.{Work}
 use Rattle.task_homes.specs.declared.task_at_rest.Work.TheVariants.{Calls, Result}
-use Rattle.shared_value.specs.SharedValue.{SharedValue, accounts, belongings_in, belongings_by, belongings_of, rest_at, tree_counts_of, value_of}
+use Rattle.shared_value.specs.SharedValue.{SharedValue, accounts, belongings_in, belongings_by, rest_at, tree_counts_of, value_of}
 use Rattle.shared_value.specs.Measured.{RestsAreMeasured}
 use Rattle.shared_value.specs.Stands.{HeapForm, IsSharedValue}
 use Rattle.shared_value.specs.Fits.{Fits, IsAtWork, OthersFit, belongings_of_part, part_of, taken_part}
@@ -74,18 +75,22 @@ task_of : (o : Option Task) → is_running o ≡ true → (x : Task) × (o ≡ S
 task_of None h = absurd (false≢true h)
 task_of (Some x) h = (x, refl, runs_is x.status h)
 
--- a running task at rest has frames in the value
+-- a task at rest that runs or waits has frames in the value
 abbrev pub HasCalls : Option Rest → Type 0
 HasCalls None = ⊥
 HasCalls (Some r) = (s : FramesValue) × (r.work ≡ Calls s)
 
-has_calls : (at : Name → Addr → Type 0) (o : Option Rest) (x : Task) → x.status ≡ Running → TaskIsRead at (belongings_in o) x → HasCalls o
-has_calls at None x e h = absurd (subst (HoldsRead at (belongings_in None) x) e h)
-has_calls at (Some r) x e h = by r.work refl (subst (HoldsRead at (belongings_of r) x) e h)
+pub has_calls : (at : Name → Addr → Type 0) (o : Option Rest) (x : Task) → FramesAreRead at (belongings_in o).frames (x.top ∷ x.below) → HasCalls o
+has_calls at None x h = absurd h
+has_calls at (Some r) x h = by r.work refl h
   where
-    by : (k : Work) → r.work ≡ k → HoldsRead at (belongings_by r.heap r.view r.allocations k) x Running → HasCalls (Some r)
+    by : (k : Work) → r.work ≡ k → FramesAreRead at (belongings_by r.heap r.view r.allocations k).frames (x.top ∷ x.below) → HasCalls (Some r)
     by (Calls s) q g = (s, q)
     by (Result n a) q g = absurd g
+
+pub some_calls : (o : Option Rest) → HasCalls o → IsSome o
+some_calls None h = absurd h
+some_calls (Some r) h = refl
 
 worker_free : (a b c : Bool) (x y z : Refused) (rest : Option Refused) → refused_if a x (refused_if b y (refused_unless c z rest)) ≡ None → c ≡ true
 worker_free true b c x y z rest h = absurd cc
@@ -150,7 +155,7 @@ module _ (w : SharedValue) (k t : ℕ) (I : IsSharedValue w) (free : refused w (
   there = task_of (slice_get l.machine.tasks t) running
 
   pub calls : HasCalls (rest_at w.rests t)
-  calls = has_calls (Place v l) (rest_at w.rests t) there.0 there.2 (S.belongings.tasks t there.0 rests there.1)
+  calls = has_calls (Place v l) (rest_at w.rests t) there.0 (subst (HoldsRead (Place v l) (v.belongings t) there.0) there.2 (S.belongings.tasks t there.0 rests there.1))
 
   pub has_home : t < length w.rests
   has_home = there_by (slice_get w.rests t) refl calls
