@@ -16,7 +16,6 @@ use Rattle.hh_model.specs.Effect.{effect}
 use Rattle.hh_model.specs.Step.{child_ended_by, fetched, follow, is_joined, is_left, is_over, is_waiting, result_at, last_of, last_return, parent_of, parents, result_in, result_of, returned_to, setting, sibling, step}
 use Rattle.hh_model.specs.Tree.{TreeOf}
 use Rattle.run_ledger.specs.declared.data.Ledger.{Ledger}
-use Rattle.run_ledger.specs.Heaps.{heap_of}
 use Rattle.run_ledger.specs.Steps.{has_no_caller, is_open, is_private_by, is_private_line, task_steps}
 use Rattle.heap_tree.specs.declared.state.State.{State}
 use Rattle.heap_tree.specs.declared.state.State.TheVariants.{Ended}
@@ -30,7 +29,7 @@ use Rattle.shared_value.specs.Fits.{Fits}
 use Rattle.shared_value.specs.Stands.{IsSharedValue}
 use Rattle.shared_value.specs.SharedValue.{SharedValue, accounts}
 use Rattle.shared_value.proofs.PartFitsMachine as link
-use Rattle.shared_value.proofs.BeforeTheEnd.{stands_now}
+use Rattle.shared_value.proofs.BeforeTheEnd.{node_now}
 use Rattle.shared_value.proofs.StepAccounts.{After}
 use Rattle.shared_value.proofs.TaskTaken.{parent_is as tree_parent_is}
 use Rattle.own_steps.specs.Alone.{IsShared, alone_event, machine_after}
@@ -89,14 +88,13 @@ status_tells k JoinedOf st e = ((λ q. let z = sym q ∙ e in absurd cc), (λ n.
 abbrev state_in : Option Node → Option State
 state_in o = option_map (λ (n : Node). n.state) o
 
-node_tells : (k : Option ℕ) (n : Option Node) (o : Option Task) → n ≡ option_map (as_node k) o
-    → (state_in n ≡ Some Ended → (r : ℤ × Option Name) × (result_at o ≡ Some r)) × ((state_in n ≡ Some Ended → ⊥) → result_at o ≡ None)
-node_tells k None None e = ((λ q. none_some q), (λ n. refl))
-node_tells k None (Some x) e = none_some e
-node_tells k (Some n) None e = none_some (sym e)
-node_tells k (Some n) (Some x) e =
-    let s = status_tells k x.status n.state (ap (λ (z : Node). z.state) (same_Some n (as_node k x) e)) in
-    ((λ q. s.0 (same_Some n.state Ended q)), (λ never. s.1 (λ q. never (ap Some q))))
+abbrev NodeTells : Option Node → Option Task → Type 0
+NodeTells n o = (state_in n ≡ Some Ended → (r : ℤ × Option Name) × (result_at o ≡ Some r)) × ((state_in n ≡ Some Ended → ⊥) → result_at o ≡ None)
+
+node_tells : (x : Task) (worker : Option ℕ) → NodeTells (Some (as_node worker x)) (Some x)
+node_tells x worker =
+    let s = status_tells worker x.status (state_by x.status worker) refl in
+    ((λ q. s.0 (same_Some (state_by x.status worker) Ended q)), (λ never. s.1 (λ q. never (ap Some q))))
 
 sibling_by : (t : ℕ) (b : Bool) → is_left t ≡ b → 0 < t → sibling t ≡ t → ⊥
 sibling_by t true e pos same = let s : sibling t ≡ t + 1 = cond-true (is_left t) (t + 1) (t - 1) e in omega (arith, s, same)
@@ -182,16 +180,14 @@ module _ (w : SharedValue) (k : ℕ) (p : Private) (I : IsSharedValue w) (F : Fi
   other_same : slice_get M.machine.tasks other ≡ slice_get l.machine.tasks other
   other_same = A.others other other_apart
 
+  other_told : NodeTells (slice_get w.tree other) (slice_get l.machine.tasks other)
+  other_told = node_now w I NodeTells ((λ q. none_some q), (λ n. refl)) node_tells other
+
   pub other_ended : state_in_tree w.tree other ≡ Some Ended → (r : ℤ × Option Name) × (result_at (slice_get M.machine.tasks other) ≡ Some r)
-  other_ended e =
-      let n = node_tells (heap_of l other).worker (slice_get w.tree other) (slice_get l.machine.tasks other) ((stands_now w I on).tree_counts.node other) in
-      let r = n.0 e in
-      (r.0, ap result_at other_same ∙ r.1)
+  other_ended e = let r = other_told.0 e in (r.0, ap result_at other_same ∙ r.1)
 
   pub other_open : (state_in_tree w.tree other ≡ Some Ended → ⊥) → result_at (slice_get M.machine.tasks other) ≡ None
-  other_open never =
-      let n = node_tells (heap_of l other).worker (slice_get w.tree other) (slice_get l.machine.tasks other) ((stands_now w I on).tree_counts.node other) in
-      ap result_at other_same ∙ n.1 never
+  other_open never = ap result_at other_same ∙ other_told.1 never
 
   -- the machine after the step
   pub step_is : step w.program M.machine t ≡ child_ended_by M.machine t S.task parent (result_of S.task.top) (result_at (slice_get M.machine.tasks other))

@@ -1,12 +1,10 @@
 -- What the shared value tells of forks and markings, before the run's end.
 use Rattle.std.proofs.Common.{◌≡◌, ℕ, ◌<◌, ◌&&◌, not, Bool, true, false, Option, Some, None, option_map, slice_get, inl, inr, refl, ap, sym, subst, ◌∙◌, ◌-◌, ◌^◌, arith, is_some, is_none, nat_le, ap₂}
 use Rattle.std.proofs.lemmas.Bool.{false≢true, both_ways, and_parts, cases_lt, le-leb, false_from_ne_true}
-use Rattle.std.proofs.lemmas.Option.{same_Some}
 use Rattle.listed.proofs.Options.{none_is}
 use Rattle.hh_model.specs.declared.data.Status.{Status}
 use Rattle.hh_model.specs.declared.data.Status.TheVariants.{Running, Waiting, Ended, Joined}
 use Rattle.hh_model.specs.declared.data.State.{State}
-use Rattle.hh_model.specs.declared.data.Task.{Task}
 use Rattle.hh_model.specs.Step.{is_joined, is_over, is_waiting, joined, parents}
 use Rattle.hh_model.specs.Tree.{waiting}
 use Rattle.run_trace.specs.Settings.{field_limit}
@@ -20,20 +18,20 @@ use Rattle.run_ledger.proofs.Machine.{machine_is_run}
 use Rattle.run_ledger.proofs.Journals.{legal_sound}
 use Rattle.alloc_path.specs.LeafHeapValue.{counted}
 use Rattle.heap_tree.specs.Node.{Node, state_of as state_in}
-use Rattle.core_relation.specs.Whole.{StandsFor, state_by, as_node}
+use Rattle.core_relation.specs.Whole.{StandsFor, state_by}
 use Rattle.shared_value.specs.Causes.{or_else}
 use Rattle.shared_value.specs.Entered.{Enters}
 use Rattle.shared_value.specs.Stands.{IsSharedValue}
 use Rattle.shared_value.specs.SharedValue.{SharedValue, accounts, marks_at, noted_in, tree_counts_of, value_of}
 use Rattle.shared_value.proofs.JournalGoesOn.{accounts_then}
-use Rattle.shared_value.proofs.BeforeTheEnd.{stands_now}
+use Rattle.shared_value.proofs.BeforeTheEnd.{node_now, stands_now}
 use Rattle.shared_value.proofs.TaskTaken.{parent_is}
 use Rattle.heap_marking.specs.declared.pace.Fork.{Fork}
-use Rattle.heap_marking.specs.MarkCauses.{is_state_waiting, marking_cause, waiting_cause}
+use Rattle.heap_marking.specs.MarkCauses.{marking_cause, waiting_cause}
 use Rattle.heap_marking.specs.Pace.{IsForkIn, IsForkOf, KeepsPace, PacesStay, is_going, is_live_child, is_state_joined, is_to_begin}
 use Rattle.listed.specs.Options.{option_is}
 use Rattle.heap_marking.proofs.ForksStay.{entry_moves}
-use Rattle.heap_marking.proofs.MarkCauses.{marked_by, waits_by}
+use Rattle.heap_marking.proofs.MarkCauses.{marked_by, waits_told}
 use Rattle.heap_marking.proofs.PaceKeeps.{child_from, child_tells, fork_from, keeps_moves, lives_below}
 use Rattle.heap_marking.proofs.StepsKeepForks.{runs_have_live}
 
@@ -44,12 +42,6 @@ by_status Running (Some w) = refl
 by_status Waiting o = refl
 by_status (Ended n r) o = refl
 by_status Joined o = refl
-
-joined_by : (n : Option Node) (x : Option Task) (o : Option ℕ) → n ≡ option_map (as_node o) x → is_state_joined (option_map (λ m. m.state) n) ≡ is_joined x
-joined_by None None o e = refl
-joined_by None (Some x) o e = absurd cc
-joined_by (Some m) None o e = absurd cc
-joined_by (Some m) (Some x) o e = ap (λ (y : Node). is_state_joined (Some y.state)) (same_Some m (as_node o x) e) ∙ by_status x.status o
 
 free_by : (a k s : Bool) → k ≡ (a && not s) → is_none (refused_unless a NotWaiting (refused_unless k Swept None)) ≡ (a && not s)
 free_by false k s e = refl
@@ -73,10 +65,7 @@ module _ (w : SharedValue) (I : IsSharedValue w) (on : (accounts w).end ≡ None
   S = stands_now w I on
 
   pub joined_is : (t : ℕ) → is_state_joined (state_in w.tree t) ≡ joined l.machine.tasks t
-  joined_is t = joined_by (slice_get w.tree t) (slice_get l.machine.tasks t) (heap_of l t).worker (S.tree_counts.node t)
-
-  pub waiting_is : (t : ℕ) → is_state_waiting (state_in w.tree t) ≡ is_waiting (slice_get l.machine.tasks t)
-  waiting_is t = waits_by (slice_get w.tree t) (slice_get l.machine.tasks t) (heap_of l t).worker (S.tree_counts.node t)
+  joined_is t = node_now w I (λ n x. is_state_joined (option_map (λ (m : Node). m.state) n) ≡ is_joined x) refl (λ x worker. by_status x.status worker) t
 
   keeps_is : (t : ℕ) → (noted_in (slice_get w.sets t)).keeps ≡ (is_waiting (slice_get l.machine.tasks t) && not (heap_of l t).swept)
   keeps_is t = S.keeps t
@@ -86,7 +75,7 @@ module _ (w : SharedValue) (I : IsSharedValue w) (on : (accounts w).end ≡ None
 
   pub free_is : (t : ℕ) → is_none (waiting_cause w t) ≡ (is_waiting (slice_get l.machine.tasks t) && not (heap_of l t).swept)
   free_is t =
-      ap (λ a. is_none (refused_unless a NotWaiting (refused_unless (noted_in (slice_get w.sets t)).keeps Swept None))) (waiting_is t)
+      ap (λ a. is_none (refused_unless a NotWaiting (refused_unless (noted_in (slice_get w.sets t)).keeps Swept None))) (waits_told w I t)
       ∙ free_by (is_waiting (slice_get l.machine.tasks t)) (noted_in (slice_get w.sets t)).keeps (heap_of l t).swept (keeps_is t)
 
   -- THE MARKING after a fork
@@ -164,7 +153,7 @@ module _ (w : SharedValue) (I : IsSharedValue w) (on : (accounts w).end ≡ None
   pub fork_is : (t : ℕ) (o : Option Fork) → IsForkIn w.tree t o → IsForkOf l t o (slice_get l.machine.tasks t)
   fork_is t None none =
       false_from_ne_true (is_waiting (slice_get l.machine.tasks t))
-      (λ q. let c = has_live t q in both_ways (lives_below l.machine.tasks t c.0) (sym (child_is t c.0) ∙ none (waiting_is t ∙ q) c.0) c.1)
+      (λ q. let c = has_live t q in both_ways (lives_below l.machine.tasks t c.0) (sym (child_is t c.0) ∙ none (waits_told w I t ∙ q) c.0) c.1)
   fork_is t (Some f) h = subst (λ u. IsForkOf l t (Some (record { task = u; left = f.left })) (slice_get l.machine.tasks t)) (sym h.0) (live_waits t f.left (sym (child_is t f.left) ∙ h.1))
 
 -- THE LAW

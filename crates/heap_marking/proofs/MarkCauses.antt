@@ -1,23 +1,22 @@
 -- Entries that mark and sweep are refused as the shared value tells it.
 use Rattle.std.proofs.Common.{◌≡◌, ℕ, ◌==◌, ◌&&◌, not, Bool, true, false, Option, Some, None, is_some, nat_le, option_map, slice_get, refl, ap, sym, ◌∙◌}
-use Rattle.std.proofs.lemmas.Option.{same_Some}
 use Rattle.hh_model.specs.declared.data.Status.{Status}
 use Rattle.hh_model.specs.declared.data.Status.TheVariants.{Running, Waiting, Ended, Joined}
-use Rattle.hh_model.specs.declared.data.Task.{Task}
 use Rattle.hh_model.specs.Step.{is_waiting, waits}
 use Rattle.run_ledger.specs.declared.data.Ledger.{Ledger}
 use Rattle.run_ledger.specs.declared.data.Refused.{Refused}
 use Rattle.run_ledger.specs.declared.data.Refused.TheVariants.{Left, Marked, Marking, NotDue, NotMarking, NotWaiting, Swept}
 use Rattle.run_ledger.specs.Entries.{counted, refused_if, refused_unless}
 use Rattle.run_ledger.specs.Heaps.{heap_of, left_in, marked_in, sweep_number, words_in}
-use Rattle.heap_tree.specs.Node.{Node}
+use Rattle.heap_tree.specs.Node.{Node, state_of}
 use Rattle.inner_mark_gc.specs.MarkingValue.{MarkingValue}
 use Rattle.core_relation.specs.Marking.{MarkedBy}
 use Rattle.core_relation.specs.Memory.{Memory}
-use Rattle.core_relation.specs.Whole.{StandsFor, state_by, as_node}
+use Rattle.core_relation.specs.Whole.{StandsFor, state_by}
 use Rattle.shared_value.specs.Causes.{or_else}
-use Rattle.shared_value.specs.SharedValue.{accounts, marks_at, noted_in, tree_counts_of, value_of}
-use Rattle.shared_value.proofs.BeforeTheEnd.{stands_now}
+use Rattle.shared_value.specs.SharedValue.{SharedValue, accounts, marks_at, noted_in, tree_counts_of, value_of}
+use Rattle.shared_value.specs.Stands.{IsSharedValue}
+use Rattle.shared_value.proofs.BeforeTheEnd.{node_now, stands_now}
 use Rattle.heap_marking.specs.MarkCauses.{MarksRefuse, is_state_waiting}
 
 -- WHO WAITS
@@ -29,11 +28,8 @@ by_status Waiting o = refl
 by_status (Ended n r) o = refl
 by_status Joined o = refl
 
-pub waits_by : (n : Option Node) (x : Option Task) (o : Option ℕ) → n ≡ option_map (as_node o) x → is_state_waiting (option_map (λ m. m.state) n) ≡ is_waiting x
-waits_by None None o e = refl
-waits_by None (Some x) o e = absurd cc
-waits_by (Some m) None o e = absurd cc
-waits_by (Some m) (Some x) o e = ap (λ (y : Node). is_state_waiting (Some y.state)) (same_Some m (as_node o x) e) ∙ by_status x.status o
+pub waits_told : (w : SharedValue) → IsSharedValue w → (t : ℕ) → is_state_waiting (state_of w.tree t) ≡ is_waiting (slice_get (accounts w).machine.tasks t)
+waits_told w I t = node_now w I (λ n x. is_state_waiting (option_map (λ (m : Node). m.state) n) ≡ is_waiting x) refl (λ x worker. by_status x.status worker) t
 
 -- WHAT IS MARKED
 pub marked_by : (v : Memory) (l : Ledger) (t : ℕ) (o : Option MarkingValue) → MarkedBy v l t o → is_some (heap_of l t).marked ≡ is_some o
@@ -74,7 +70,7 @@ pub marks_refuse : MarksRefuse
 marks_refuse w k t I on =
     let l : Ledger = accounts w in
     let S : StandsFor (value_of w) (tree_counts_of w) l = stands_now w I on in
-    let waits : is_state_waiting (option_map (λ m. m.state) (slice_get w.tree t)) ≡ is_waiting (slice_get l.machine.tasks t) = waits_by (slice_get w.tree t) (slice_get l.machine.tasks t) (heap_of l t).worker (S.tree_counts.node t) in
+    let waits : is_state_waiting (option_map (λ m. m.state) (slice_get w.tree t)) ≡ is_waiting (slice_get l.machine.tasks t) = waits_told w I t in
     let keeps : (noted_in (slice_get w.sets t)).keeps ≡ (is_waiting (slice_get l.machine.tasks t) && not (heap_of l t).swept) = S.keeps t in
     let marked : (noted_in (slice_get w.sets t)).keeps ≡ true → is_some (heap_of l t).marked ≡ is_some (marks_at w.marks t) = λ e. marked_by (value_of w) l t (marks_at w.marks t) (S.marks t e) in
     record {

@@ -7,7 +7,6 @@ use Rattle.path_laws.proofs.Leaves.{wait_there, waiting_stops}
 use Rattle.run_ledger.specs.declared.data.Ledger.{Ledger}
 use Rattle.run_ledger.specs.declared.data.Refused.TheVariants.{NotWaiting, Swept}
 use Rattle.run_ledger.specs.Entries.{refused_unless}
-use Rattle.run_ledger.specs.Heaps.{heap_of}
 use Rattle.ledger_step_laws.proofs.Split.{legal_idle}
 use Rattle.core_relation.specs.Reads.{HoldsRead}
 use Rattle.core_relation.specs.Stands.{Place}
@@ -19,7 +18,7 @@ use Rattle.shared_value.specs.Stands.{IsSharedValue}
 use Rattle.shared_value.proofs.BeforeTheEnd.{stands_now}
 use Rattle.shared_value.proofs.TaskTaken.{HasCalls, has_calls, some_calls}
 use Rattle.heap_marking.specs.MarkCauses.{is_state_waiting, waiting_cause}
-use Rattle.heap_marking.proofs.MarkCauses.{waits_by}
+use Rattle.heap_marking.proofs.MarkCauses.{waits_told}
 
 -- no cause is given
 causes_by : (a k : Bool) → refused_unless a NotWaiting (refused_unless k Swept None) ≡ None → (a ≡ true) × (k ≡ true)
@@ -45,7 +44,7 @@ module _ (w : SharedValue) (I : IsSharedValue w) (on : (accounts w).end ≡ None
   tells = causes_by (is_state_waiting (option_map (λ m. m.state) (slice_get w.tree t))) (noted_in (slice_get w.sets t)).keeps free
 
   pub wait : is_waiting (slice_get l.machine.tasks t) ≡ true
-  wait = sym (waits_by (slice_get w.tree t) (slice_get l.machine.tasks t) (heap_of l t).worker (S.tree_counts.node t)) ∙ tells.0
+  wait = sym (waits_told w I t) ∙ tells.0
 
   pub keeps : ((value_of w).noted t).keeps ≡ true
   keeps = tells.1

@@ -4,13 +4,11 @@ use Rattle.std.specs.List.{flat_map}
 use Rattle.std.proofs.lemmas.Bool.{cases_eq}
 use Rattle.std.proofs.lemmas.List.{append-nil, append_assoc}
 use Rattle.std.proofs.lemmas.List.Sums.{sum_by-append}
-use Rattle.std.proofs.lemmas.Option.{same_Some}
 use Rattle.listed.proofs.Members.{contains_from_in}
 use Rattle.hh_model.specs.declared.data.Name.{Name}
 use Rattle.hh_model.specs.declared.data.State.{State}
 use Rattle.hh_model.specs.declared.data.Status.{Status}
 use Rattle.hh_model.specs.declared.data.Status.TheVariants.{Running, Waiting, Ended, Joined}
-use Rattle.hh_model.specs.declared.data.Task.{Task}
 use Rattle.hh_model.specs.Step.{is_running, runs}
 use Rattle.hh_model.specs.declared.data.End.TheVariants.{Done, Trapped, Entangled}
 use Rattle.run_ledger.specs.declared.data.Heap.{Heap}
@@ -35,7 +33,7 @@ use Rattle.ledger_step_laws.proofs.Ahead.{with_off}
 use Rattle.ledger_step_laws.proofs.Rested.{rested_view}
 use Rattle.core_relation.specs.Stands.{HasNames, large_chunks, names_of, small_chunks}
 use Rattle.core_relation.specs.Memory.{object_name, objects_in}
-use Rattle.core_relation.specs.Whole.{by_end, handed, state_by, as_node}
+use Rattle.core_relation.specs.Whole.{by_end, handed, state_by}
 use Rattle.task_homes.specs.declared.task_at_rest.Rest.{Rest}
 use Rattle.shared_value.specs.Objects.{chunk_of, chunks_of}
 use Rattle.shared_value.specs.SharedValue.{SharedValue, accounts, belongings_in, rest_at, value_of}
@@ -43,7 +41,7 @@ use Rattle.shared_value.specs.Stands.{IsSharedValue}
 use Rattle.shared_value.proofs.HeapWords.{words_are}
 use Rattle.shared_value.proofs.FieldsLed.{belongings_chunks}
 use Rattle.shared_value.proofs.ObjectCounts.{objects_counted}
-use Rattle.shared_value.proofs.BeforeTheEnd.{goes_by, tree_long}
+use Rattle.shared_value.proofs.BeforeTheEnd.{goes_by, node_now, tree_long}
 use Rattle.heap_reading.specs.HeldNames.{is_state_running, held_unless_running}
 use Rattle.heap_reading.proofs.IdleTasks.{journal_idle}
 
@@ -54,12 +52,6 @@ by_status Running (Some w) = refl
 by_status Waiting o = refl
 by_status (Ended n r) o = refl
 by_status Joined o = refl
-
-runs_by : (n : Option Node) (x : Option Task) (o : Option ℕ) → n ≡ option_map (as_node o) x → is_state_running (option_map (λ m. m.state) n) ≡ is_running x
-runs_by None None o e = refl
-runs_by None (Some x) o e = absurd cc
-runs_by (Some m) None o e = absurd cc
-runs_by (Some m) (Some x) o e = ap (λ (y : Node). is_state_running (Some y.state)) (same_Some m (as_node o x) e) ∙ by_status x.status o
 
 -- HOW MANY names small chunks and large ones have
 small_many : List ChunkValue → ℕ
@@ -123,9 +115,7 @@ module _ (w : SharedValue) (I : IsSharedValue w) (t : ℕ) where
   same_machine = (goes_by l l.end).machine
 
   pub runs_is : is_state_running (option_map (λ m. m.state) (slice_get w.tree t)) ≡ is_running (slice_get l.machine.tasks t)
-  runs_is =
-      runs_by (slice_get w.tree t) (slice_get (handed l).machine.tasks t) (heap_of (handed l) t).worker (I.stands.tree_counts.node t)
-      ∙ ap (λ (m : State). is_running (slice_get m.tasks t)) same_machine
+  runs_is = node_now w I (λ n x. is_state_running (option_map (λ (m : Node). m.state) n) ≡ is_running x) refl (λ x worker. by_status x.status worker) t
 
   pub none_of : is_running (slice_get l.machine.tasks t) ≡ true → held_unless_running l t ≡ []
   none_of e = ap (λ b. cond b [] (held_in (heap_of l t))) e

@@ -1,10 +1,10 @@
 -- What the shared value keeps, of the accounts themselves; and before the run's end, of the parts that fit.
-use Rattle.std.proofs.Common.{◌≡◌, ℕ, Option, Some, None, is_some, length, slice_get, refl, ap, subst, ◌∙◌}
+use Rattle.std.proofs.Common.{◌≡◌, ℕ, Option, Some, None, is_some, length, option_map, slice_get, refl, ap, sym, subst, ◌∙◌}
 use Rattle.std.specs.Option.{option_flatten}
-use Rattle.listed.proofs.Options.{some_map}
 use Rattle.hh_model.specs.declared.data.End.TheVariants.{Done, Trapped, Entangled}
 use Rattle.hh_model.specs.declared.data.State.{State}
 use Rattle.hh_model.specs.declared.data.Status.TheVariants.{Running}
+use Rattle.hh_model.specs.declared.data.Task.{Task}
 use Rattle.hh_model.proofs.Steps.{runs_is}
 use Rattle.run_ledger.specs.declared.data.Heap.{Heap}
 use Rattle.run_ledger.specs.declared.data.Ledger.{Ledger}
@@ -14,6 +14,7 @@ use Rattle.run_ledger.specs.Heaps.{heap_at, heap_of, in_use, let_go, units_in, w
 use Rattle.run_ledger.specs.Entries.{held_from}
 use Rattle.run_ledger.proofs.Going.{machine_goes_on}
 use Rattle.chunk_pool.specs.PoolValue.{units_in_use}
+use Rattle.heap_tree.specs.Node.{Node}
 use Rattle.core_relation.specs.Copies.{PartFits}
 use Rattle.core_relation.specs.Fits.{FitsAt}
 use Rattle.core_relation.specs.Whole.{StandsFor, as_node, by_end, handed}
@@ -25,6 +26,14 @@ use Rattle.shared_value.specs.Stands.{IsSharedValue}
 use Rattle.shared_value.specs.Fits.{Fits, part_of}
 use Rattle.shared_value.proofs.OneAccount.{sum_put}
 use Rattle.shared_value.proofs.SameLength.{same_length}
+
+-- what is so of each task and its node is so of a place of the tree and the same place of the machine's tasks
+pub by_node : (P : Option Node → Option Task → Type 0) (worker : Option ℕ) → P None None → ((x : Task) → P (Some (as_node worker x)) (Some x)) → (n : Option Node) (x : Option Task) → n ≡ option_map (as_node worker) x → P n x
+by_node P worker none some n x e = subst (λ (z : Option Node). P z x) (sym e) (by x)
+  where
+    by : (o : Option Task) → P (option_map (as_node worker) o) o
+    by None = none
+    by (Some y) = some y
 
 -- a task that is let go of changes nothing else
 pub record LetsGo (l l' : Ledger) : Type 0 where
@@ -67,12 +76,16 @@ module _ (w : SharedValue) (I : IsSharedValue w) where
   pub used_now : units_in_use w.pool ≡ in_use (accounts w)
   used_now = I.stands.tree_counts.used ∙ goes_on.used
 
+  -- what is so of each task and its node, whichever worker holds it
+  pub node_now : (P : Option Node → Option Task → Type 0) → P None None → ((x : Task) (worker : Option ℕ) → P (Some (as_node worker x)) (Some x)) → (t : ℕ) → P (slice_get w.tree t) (slice_get (accounts w).machine.tasks t)
+  node_now P none some t =
+      let k : Ledger = handed (accounts w) in
+      subst (λ (m : State). P (slice_get w.tree t) (slice_get m.tasks t)) goes_on.machine
+      (by_node P (heap_of k t).worker none (λ x. some x (heap_of k t).worker) (slice_get w.tree t) (slice_get k.machine.tasks t) (I.stands.tree_counts.node t))
+
   -- as many tasks as nodes
   pub tree_long : length w.tree ≡ length (accounts w).machine.tasks
-  tree_long =
-      same_length w.tree (handed (accounts w)).machine.tasks
-      (λ u. ap is_some (I.stands.tree_counts.node u) ∙ some_map (as_node (heap_of (handed (accounts w)) u).worker) (slice_get (handed (accounts w)).machine.tasks u))
-      ∙ ap (λ (m : State). length m.tasks) goes_on.machine
+  tree_long = same_length w.tree (accounts w).machine.tasks (node_now (λ n x. is_some n ≡ is_some x) refl (λ x worker. refl))
 
   -- before the end it stands for the accounts themselves
   pub stands_now : (accounts w).end ≡ None → StandsFor (value_of w) (tree_counts_of w) (accounts w)

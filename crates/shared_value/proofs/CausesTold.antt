@@ -1,9 +1,7 @@
 -- What the shared value tells of causes is what the accounts say.
 use Rattle.std.proofs.Common.{◌≡◌, ℕ, ◌<◌, ◌&&◌, not, Bool, true, false, Option, Some, None, slice_get, option_map, is_some, is_none, nat_le, nat_lt, refl, ap, ap₂, sym, ◌∙◌}
-use Rattle.std.proofs.lemmas.Option.{same_Some}
 use Rattle.std.proofs.lemmas.Bool.{ltb-true}
 use Rattle.listed.proofs.Options.{none_of}
-use Rattle.hh_model.specs.declared.data.Task.{Task}
 use Rattle.hh_model.specs.declared.data.Status.{Status}
 use Rattle.hh_model.specs.declared.data.Status.TheVariants.{Running, Waiting, Ended, Joined}
 use Rattle.hh_model.specs.Step.{is_running, runs}
@@ -15,12 +13,12 @@ use Rattle.run_ledger.specs.declared.data.Refused.TheVariants.{Over, Spent, NoWo
 use Rattle.run_ledger.specs.Heaps.{heap_of}
 use Rattle.run_ledger.specs.Entries.{kind_refusal, is_fuel, refused_if, refused_unless, refused_holding}
 use Rattle.heap_tree.specs.Node.{Node}
-use Rattle.core_relation.specs.Whole.{state_by, as_node}
+use Rattle.core_relation.specs.Whole.{state_by}
 use Rattle.shared_value.specs.SharedValue.{SharedValue, accounts}
 use Rattle.shared_value.specs.Stands.{IsSharedValue}
 use Rattle.shared_value.specs.Causes.{first_cause, or_else, is_state_ready, took_cause}
 use Rattle.shared_value.specs.Entered.{refused}
-use Rattle.shared_value.proofs.BeforeTheEnd.{end_now, task_out_now, stands_now, steps_now}
+use Rattle.shared_value.proofs.BeforeTheEnd.{by_node, end_now, task_out_now, stands_now, steps_now}
 
 in_turn : (a b c : Bool) (x y z : Refused) (rest : Option Refused) → refused_if a x (refused_if b y (refused_unless c z rest)) ≡ or_else (refused_if a x (refused_if b y (refused_unless c z None))) rest
 in_turn true b c x y z rest = refl
@@ -45,16 +43,11 @@ by_status Waiting o = refl
 by_status (Ended n r) o = refl
 by_status Joined o = refl
 
-ready_by : (n : Option Node) (x : Option Task) (o : Option ℕ) → n ≡ option_map (as_node o) x → is_state_ready (option_map (λ m. m.state) n) ≡ (is_running x && is_none o)
-ready_by None None o e = refl
-ready_by None (Some x) o e = absurd cc
-ready_by (Some m) None o e = absurd cc
-ready_by (Some m) (Some x) o e = ap (λ (y : Node). is_state_ready (Some y.state)) (same_Some m (as_node o x) e) ∙ by_status x.status o
-
 took_is : (w : SharedValue) → IsSharedValue w → (accounts w).end ≡ None → (k t : ℕ) → k < w.settings.workers → kind_refusal w.program w.settings (accounts w) k (Took t) ≡ took_cause w k t
 took_is w I on k t lt =
+    let worker : Option ℕ = (heap_of (accounts w) t).worker in
     ap₂ (λ b o. refused_unless b NotReady (refused_holding o None))
-    (sym (ready_by (slice_get w.tree t) (slice_get (accounts w).machine.tasks t) (heap_of (accounts w) t).worker ((stands_now w I on).tree_counts.node t)))
+    (sym (by_node (λ n x. is_state_ready (option_map (λ (m : Node). m.state) n) ≡ (is_running x && is_none worker)) worker refl (λ x. by_status x.status worker) (slice_get w.tree t) (slice_get (accounts w).machine.tasks t) ((stands_now w I on).tree_counts.node t)))
     (sym (task_out_now w I on k))
 
 worker_by : (a b c : Bool) (x y z : Refused) → is_some (refused_if a x (refused_if b y (refused_unless c z None))) ≡ false → c ≡ true

@@ -3,13 +3,11 @@ use Rattle.std.proofs.Common.{◌≡◌, ℕ, ◌<◌, Bool, true, false, not, �
 use Rattle.std.specs.Option.{option_flatten}
 use Rattle.std.specs.Prelude.{IsSome}
 use Rattle.std.proofs.lemmas.Bool.{cases_eq, and_parts, false≢true, ltb-true}
-use Rattle.std.proofs.lemmas.Option.{same_Some}
 use Rattle.listed.specs.RoomyValue.{RoomyValue}
 use Rattle.listed.proofs.Members.{got_same, got_other, got_within}
 use Rattle.listed.proofs.Places.{got_set}
 use Rattle.listed.proofs.Options.{none_is}
 use Rattle.hh_model.specs.declared.data.Name.{Name}
-use Rattle.hh_model.specs.declared.data.State.{State as MachineState}
 use Rattle.hh_model.specs.declared.data.Task.{Task}
 use Rattle.hh_model.specs.declared.data.Status.TheVariants.{Running}
 use Rattle.hh_model.specs.Step.{is_running, parent_of, parents}
@@ -36,7 +34,7 @@ use Rattle.core_relation.specs.Reads.{FramesAreRead, HoldsRead}
 use Rattle.core_relation.specs.Stands.{Place}
 use Rattle.core_relation.specs.Fits.{part_for}
 use Rattle.core_relation.specs.Worker.{WorkerFits}
-use Rattle.core_relation.specs.Whole.{StandsFor, as_node, handed}
+use Rattle.core_relation.specs.Whole.{StandsFor}
 use Rattle.core_entry_laws.proofs.whole.EntriesWhole.{took_stands_for}
 use Rattle.core_entry_laws.proofs.parts.TookFits.{took_fits_then}
 use Rattle.core_entry_laws.proofs.parts.WorkersPast.{took_leaves}
@@ -50,21 +48,11 @@ use Rattle.shared_value.specs.Stands.{HeapForm, IsSharedValue}
 use Rattle.shared_value.specs.Fits.{Fits, IsAtWork, OthersFit, belongings_of_part, part_of, taken_part}
 use Rattle.shared_value.specs.Entered.{refused}
 use Rattle.shared_value.proofs.EntryMade.{accounts_are, entered, entered_world, entry_on, held_when_out, part_fits, unheld_at_rest, unheld_before}
-use Rattle.shared_value.proofs.BeforeTheEnd.{goes_by, task_out_now, stands_now}
-
--- a task as its account says
-same_parent : (o : Option Node) (q : Option Task) (worker : Option ℕ) → o ≡ option_map (as_node worker) q → parent_in o ≡ parent_of q
-same_parent None None k e = refl
-same_parent None (Some x) k e = absurd cc
-same_parent (Some n) None k e = absurd cc
-same_parent (Some n) (Some x) k e = ap (λ (z : Node). z.parent) (same_Some n (as_node k x) e)
+use Rattle.shared_value.proofs.BeforeTheEnd.{node_now, task_out_now, stands_now}
 
 -- the tree and the machine tell the same parent, whether or not the run has ended
 pub parent_is : (w : SharedValue) → IsSharedValue w → (t : ℕ) → parent_in_tree w.tree t ≡ parents (accounts w).machine.tasks t
-parent_is w I t =
-    let l : Ledger = accounts w in
-    same_parent (slice_get w.tree t) (slice_get (handed l).machine.tasks t) (heap_of (handed l) t).worker (I.stands.tree_counts.node t)
-    ∙ ap (λ (m : MachineState). parents m.tasks t) (goes_by l l.end).machine
+parent_is w I t = node_now w I (λ n x. parent_in n ≡ parent_of x) refl (λ x worker. refl) t
 
 pub some_flat : {A : Type 0} (o : Option (Option A)) (x : A) → option_flatten o ≡ Some x → o ≡ Some (Some x)
 some_flat None x e = absurd cc
