@@ -41,6 +41,13 @@ running_tells Waiting h = absurd (false≢true h)
 running_tells (Ended k n) h = absurd (false≢true h)
 running_tells Joined h = absurd (false≢true h)
 
+-- a task that runs isn't over and doesn't wait
+pub runs_live : {o : Option Task} (x : Task) → o ≡ Some x → x.status ≡ Running → is_joined o ≡ false
+runs_live x is run = ap is_joined is ∙ ap is_over run
+
+pub runs_idle : {o : Option Task} (x : Task) → o ≡ Some x → x.status ≡ Running → is_waiting o ≡ false
+runs_idle x is run = ap is_waiting is ∙ ap waits run
+
 pub ended_tells : (s : Status) (r : ℤ × Option Name) → result_in s ≡ Some r → (is_over s ≡ false) × (waits s ≡ false)
 ended_tells Running r h = absurd cc
 ended_tells Waiting r h = absurd cc

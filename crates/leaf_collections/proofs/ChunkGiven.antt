@@ -7,7 +7,7 @@ use Rattle.listed.specs.RoomyValue.{RoomyValue}
 use Rattle.listed.proofs.Places.{in_map}
 use Rattle.hh_model.specs.declared.data.State.{State}
 use Rattle.hh_model.specs.Effect.{row_of}
-use Rattle.hh_model.specs.Step.{asked, is_joined, is_waiting, waits}
+use Rattle.hh_model.specs.Step.{asked, is_joined, is_waiting}
 use Rattle.run_trace.specs.declared.entry.Kind.TheVariants.{Chunk as ChunkOf}
 use Rattle.run_trace.specs.Entry.{EntryValue}
 use Rattle.run_ledger.specs.declared.data.Heap.{Heap}
@@ -61,8 +61,8 @@ use Rattle.shared_value.proofs.NothingMoves.{quiet_others, quiet_own, quiet_worl
 use Rattle.shared_value.proofs.HeapForms.{reserved_none}
 use Rattle.shared_value.proofs.PartFitsMachine as link
 use Rattle.shared_value.proofs.UnitsMeasured.{all_kept, measured_both, measured_new, part_kept, taken_keeps}
-use Rattle.shared_value.proofs.BeforeTheEnd.{stands_now, used_now}
-use Rattle.shared_value.proofs.StepsEntered.{fits_now, belongings_stand, status}
+use Rattle.shared_value.proofs.BeforeTheEnd.{part_idle, stands_now, used_now}
+use Rattle.shared_value.proofs.StepsEntered.{fits_now, belongings_stand}
 use Rattle.shared_value.proofs.HeapForms.{places_form}
 use Rattle.shared_value.proofs.HeapLaidOut.{some_units}
 use Rattle.leaf_collections.proofs.MoreChunksRead.{units_some, chunk_begun, chunk_held, chunk_large, chunk_since, chunk_with, grown_counted, in_more, large_more, none_in, objects_more}
@@ -160,7 +160,7 @@ module _ (w : SharedValue) (k : ℕ) (p : Private) (I : IsSharedValue w) (F : Fi
   idle_part = none_begun w k P F on by_need (entry_tells w.program w.settings l e (ap is_none free)).2
 
   idle : is_waiting (slice_get l.machine.tasks t) ≡ false
-  idle = ap is_waiting F.fits.is ∙ ap waits (status w k P I F on)
+  idle = part_idle w k P F on
 
   -- it is needed, so that no chunk is reserved where a large one comes
   need : is_in_need w.program l t ≡ true

@@ -6,7 +6,7 @@ use Rattle.listed.specs.RoomyValue.{RoomyValue}
 use Rattle.listed.proofs.Places.{read_in}
 use Rattle.hh_model.specs.declared.data.State.{State}
 use Rattle.hh_model.specs.Effect.{row_of}
-use Rattle.hh_model.specs.Step.{is_joined, is_waiting, waits}
+use Rattle.hh_model.specs.Step.{is_joined, is_waiting}
 use Rattle.run_trace.specs.declared.entry.Kind.TheVariants.{Begin}
 use Rattle.run_trace.specs.Entry.{EntryValue}
 use Rattle.run_ledger.specs.declared.data.Heap.{Heap}
@@ -40,8 +40,7 @@ use Rattle.shared_value.proofs.EntryMade.{entered, entry_on, held_apart}
 use Rattle.shared_value.proofs.FreeChunks.{take_is}
 use Rattle.shared_value.proofs.NothingMoves.{quiet_others, quiet_world}
 use Rattle.shared_value.proofs.UnitsMeasured.{all_taken_keep}
-use Rattle.shared_value.proofs.BeforeTheEnd.{stands_now}
-use Rattle.shared_value.proofs.StepsEntered.{status}
+use Rattle.shared_value.proofs.BeforeTheEnd.{part_idle, stands_now}
 use Rattle.shared_value.proofs.RootsHeld.{chunk_in}
 
 module _ (w : SharedValue) (k : ℕ) (p : Private) (I : IsSharedValue w) (F : Fits w k (record p { fresh = 0 })) (free : refused w (record { worker = k; kind = Begin p.task }) ≡ None) where
@@ -91,7 +90,7 @@ module _ (w : SharedValue) (k : ℕ) (p : Private) (I : IsSharedValue w) (F : Fi
   same_machine = heap_machine l t begun_with
 
   idle : is_waiting (slice_get l.machine.tasks t) ≡ false
-  idle = ap is_waiting F.fits.is ∙ ap waits (status w k P I F on)
+  idle = part_idle w k P F on
 
   module _ (pool : PoolValue) (news : List ChunkValue) (slots spare : ℕ) (T : TakesAll w.pool pool p.task (take_by (small_words p.heap.chunks)) [] news) (j : RoomyValue EntryValue) where
     abbrev ks : List ChunkValue

@@ -10,6 +10,7 @@ use Rattle.hh_model.specs.declared.data.Object.{Object}
 use Rattle.hh_model.specs.Effect.{object_at}
 use Rattle.hh_model.specs.Step.{is_running, is_waiting, runs}
 use Rattle.hh_model.specs.declared.data.State.{State}
+use Rattle.hh_model.proofs.Root.{runs_tell}
 use Rattle.run_trace.specs.Entry.{EntryValue}
 use Rattle.run_trace.specs.declared.entry.Kind.TheVariants.{End}
 use Rattle.run_ledger.specs.declared.data.Heap.{Heap}
@@ -52,7 +53,6 @@ use Rattle.core_entry_laws.proofs.whole.EntriesWhole.{ends_stand_for}
 use Rattle.core_entry_laws.proofs.parts.OwnFits.{ends_fit_then}
 use Rattle.core_entry_laws.proofs.parts.WorkersPast.{ends_leave}
 use Rattle.core_entry_laws.proofs.parts.Quiet.{aside_is}
-use Rattle.core_entry_laws.proofs.whole.Past.{running_idle}
 use Rattle.task_machine.specs.declared.part.Private.{Private}
 use Rattle.task_homes.specs.declared.task_at_rest.Rest.{Rest}
 use Rattle.shared_value.specs.Objects.{chunk_of, chunks_of}
@@ -239,7 +239,7 @@ module _ (w : SharedValue) (k : ℕ) (p : Private) (moved : Moved) (I : IsShared
     running = (tasks_are_held_once w.program w.settings w.journal.items I.legal).runs on t k F.held
 
     idle : is_waiting (slice_get l.machine.tasks t) ≡ false
-    idle = running_idle (slice_get l.machine.tasks t) running
+    idle = (runs_tell (slice_get l.machine.tasks t) running).3
 
     notes : OthersNotes v v'' t
     notes = record {

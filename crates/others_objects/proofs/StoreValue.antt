@@ -5,7 +5,7 @@ use Rattle.std.proofs.lemmas.Bool.{false_from_ne_true}
 use Rattle.hh_model.specs.declared.data.Name.{Name}
 use Rattle.hh_model.specs.declared.data.Task.{Task}
 use Rattle.hh_model.specs.Effect.{ref_in}
-use Rattle.hh_model.specs.Step.{is_on_path, is_waiting, parents, waits}
+use Rattle.hh_model.specs.Step.{is_on_path, parents}
 use Rattle.hh_model.proofs.Paths.{path_le}
 use Rattle.run_ledger.specs.declared.data.Ledger.{Ledger}
 use Rattle.run_ledger.specs.Heaps.{heap_of}
@@ -33,7 +33,7 @@ use Rattle.shared_value.specs.SharedValue.{SharedValue, accounts, value_of}
 use Rattle.shared_value.specs.Stands.{IsSharedValue}
 use Rattle.shared_value.specs.Fits.{Fits, belongings_of_part}
 use Rattle.shared_value.proofs.PartFitsMachine as link
-use Rattle.shared_value.proofs.BeforeTheEnd.{stands_now, status}
+use Rattle.shared_value.proofs.BeforeTheEnd.{part_idle, stands_now}
 use Rattle.others_objects.proofs.ForeignObject.{IsForeign, holds, register_at, x}
 use Rattle.others_objects.proofs.WriteNoted as noting
 use Rattle.others_objects.proofs.ObjectWritten as other
@@ -67,7 +67,7 @@ module _ (w : SharedValue) (k : ℕ) (p : Private) (I : IsSharedValue w) (F : Fi
 
   -- nothing is kept for the task's own heap
   none_kept : ((value_of w).noted t).keeps ≡ false
-  none_kept = (stands_now w I on).keeps t ∙ ap (λ b. b && not (heap_of l t).swept) (ap is_waiting F.fits.is ∙ ap waits (status w k p F on))
+  none_kept = (stands_now w I on).keeps t ∙ ap (λ b. b && not (heap_of l t).swept) (part_idle w k p F on)
 
   pub made : (b u : ℕ) → pool_owner w.pool b ≡ Some u → u < length w.sets
   made b u e = subst (λ n. u < n) (sym I.noted) (made_there w I on u (sym ((link.alone w k p I F on).tree.made u) ∙ (link.W w k p I F on).made b u e))

@@ -6,7 +6,7 @@ use Rattle.listed.proofs.Options.{none_of}
 use Rattle.hh_lang.specs.declared.program.Line.{Line}
 use Rattle.hh_model.specs.declared.data.Task.{Task}
 use Rattle.hh_model.specs.Effect.{effect}
-use Rattle.hh_model.specs.Step.{can_step, fetched, follow, goes_on, is_running, is_waiting, parent_of, parents, runs, setting, step, waits}
+use Rattle.hh_model.specs.Step.{can_step, fetched, follow, goes_on, is_running, is_waiting, parent_of, parents, runs, setting, step}
 use Rattle.hh_model.proofs.Taken.{step_taken}
 use Rattle.run_trace.specs.declared.entry.Kind.TheVariants.{Ran}
 use Rattle.run_trace.specs.Entry.{EntryValue}
@@ -28,9 +28,10 @@ use Rattle.shared_value.specs.Stands.{IsSharedValue}
 use Rattle.shared_value.specs.Fits.{Fits, part_of}
 use Rattle.shared_value.specs.declared.next_step.Ending.{Ending}
 use Rattle.shared_value.specs.Entered.{refused}
+use Rattle.shared_value.proofs.BeforeTheEnd.{part_idle}
 use Rattle.shared_value.proofs.CollectionUnderWay.{none_begun}
 use Rattle.shared_value.proofs.PartFitsMachine as link
-use Rattle.shared_value.proofs.StepsEntered.{goes, status}
+use Rattle.shared_value.proofs.StepsEntered.{goes}
 use Rattle.shared_value.proofs.StepAccounts.{After}
 use Rattle.own_steps.specs.Alone.{IsShared, SaysOf, Tells}
 use Rattle.own_steps.proofs.LastSteps.{shared_now}
@@ -83,7 +84,7 @@ module _ (w : SharedValue) (k : ℕ) (p : Private) (I : IsSharedValue w) (F : Fi
   mid_can = ap₂ (λ e o. goes_on e (is_running o)) mid_goes S.at.task ∙ ap runs S.at.runs
 
   pub idle : is_waiting (slice_get l.machine.tasks t) ≡ false
-  idle = ap is_waiting F.fits.is ∙ ap waits (status w k p I F on)
+  idle = part_idle w k p F on
 
   -- what is known of the next step in the machine then
   pub said : (ending : Ending) (number : ℕ) → Tells w p ending number → (S.line.number ≡ number) × SaysOf w.program M.machine t S.task S.line ending

@@ -1,10 +1,12 @@
 -- What the shared value keeps, of the accounts themselves; and before the run's end, of the parts that fit.
-use Rattle.std.proofs.Common.{◌≡◌, ℕ, Option, Some, None, is_some, length, option_map, slice_get, refl, ap, sym, subst, ◌∙◌}
+use Rattle.std.proofs.Common.{◌≡◌, ℕ, false, Option, Some, None, is_some, length, option_map, slice_get, refl, ap, sym, subst, ◌∙◌}
 use Rattle.std.specs.Option.{option_flatten}
 use Rattle.hh_model.specs.declared.data.End.TheVariants.{Done, Trapped, Entangled}
 use Rattle.hh_model.specs.declared.data.State.{State}
 use Rattle.hh_model.specs.declared.data.Status.TheVariants.{Running}
 use Rattle.hh_model.specs.declared.data.Task.{Task}
+use Rattle.hh_model.specs.Step.{is_waiting}
+use Rattle.hh_model.proofs.Runs.{runs_idle}
 use Rattle.hh_model.proofs.Steps.{runs_is}
 use Rattle.run_ledger.specs.declared.data.Heap.{Heap}
 use Rattle.run_ledger.specs.declared.data.Ledger.{Ledger}
@@ -107,3 +109,6 @@ module _ (w : SharedValue) (k : ℕ) (p : Private) (F : Fits w k p) (on : (accou
 
   pub status : F.fits.task.status ≡ Running
   status = runs_is F.fits.task.status F.fits.runs
+
+  pub part_idle : is_waiting (slice_get (accounts w).machine.tasks p.task) ≡ false
+  part_idle = runs_idle F.fits.task F.fits.is status

@@ -10,10 +10,11 @@ use Rattle.hh_model.specs.declared.data.Object.{Object}
 use Rattle.hh_model.specs.declared.data.Status.TheVariants.{Running}
 use Rattle.hh_model.specs.declared.data.State.{State}
 use Rattle.hh_model.specs.Effect.{object_at}
-use Rattle.hh_model.specs.Step.{is_joined, is_over, is_on_path, is_waiting, owner_of, parents, run, run_from, runs, start, waits}
+use Rattle.hh_model.specs.Step.{is_joined, is_on_path, is_waiting, owner_of, parents, run, run_from, runs, start}
 use Rattle.hh_model.proofs.Counts.{run_on}
 use Rattle.hh_model.proofs.ForkJoinStates.{start_is_fork_join_state}
 use Rattle.hh_model.proofs.Paths.{path_along, path_le}
+use Rattle.hh_model.proofs.Runs.{runs_idle, runs_live}
 use Rattle.hh_model.proofs.Sizes.{limit_from}
 use Rattle.run_trace.specs.Settings.{field_limit}
 use Rattle.run_trace.specs.declared.entry.Kind.TheVariants.{Ran}
@@ -208,10 +209,10 @@ module _ (w : SharedValue) (k : ℕ) (p : Private) (I : IsSharedValue w) (F : Fi
   run_status = A.status ∙ status w k p I F on
 
   pub idle : is_waiting (slice_get L.machine.tasks t) ≡ false
-  idle = ap is_waiting is ∙ ap waits run_status
+  idle = runs_idle A.task is run_status
 
   pub live : is_joined (slice_get L.machine.tasks t) ≡ false
-  live = ap is_joined is ∙ ap is_over run_status
+  live = runs_live A.task is run_status
 
   pub at_rest : Rests L t
   at_rest = rested_worker then_ t

@@ -11,6 +11,7 @@ use Rattle.hh_model.specs.declared.data.Status.{Status}
 use Rattle.hh_model.specs.declared.data.Status.TheVariants.{Running, Waiting, Ended, Joined}
 use Rattle.hh_model.specs.declared.data.Task.{Task}
 use Rattle.hh_model.specs.Step.{is_waiting, is_joined, is_over, waits}
+use Rattle.hh_model.proofs.Runs.{runs_idle}
 use Rattle.run_ledger.specs.declared.data.Heap.{Heap}
 use Rattle.run_ledger.specs.declared.data.Ledger.{Ledger}
 use Rattle.run_ledger.specs.Heaps.{heap_of, within}
@@ -54,7 +55,7 @@ joined_rests (Some x) h = by x.status h
 
 forks_root : (v v' : Memory) (l l' : Ledger) (t a b g h : ℕ) (x : Task) → Stands v l → x.status ≡ Running → ForksTask l l' t a b g h x → ForksBelongings v v' t a b g h → (u : ℕ) → (u ≡ a → ⊥) → (u ≡ b → ⊥) → (c : Addr) → IsRoot v l u c → IsRoot v' l' u c
 forks_root v v' l l' t a b g h x V runs F C u oa ob c r =
-    let nt = root_apart v l V t (ap is_waiting F.task ∙ ap (λ s. is_waiting (Some (record x { status = s }))) runs) u c r in
+    let nt = root_apart v l V t (runs_idle x F.task runs) u c r in
     let na = root_apart v l V a (ap is_waiting F.unmade_left) u c r in
     let nb = root_apart v l V b (ap is_waiting F.unmade_right) u c r in
     root_same v v' l l' u (noted_by v v' u (C.sources u oa ob)) (λ k o. C.owner k ∙ o) c r (ap (λ (z : Heap). z.worker) (F.heaps r.task nt na nb) ∙ r.rests) (ap (λ (z : Belongings). objects_in z.chunks) (C.others r.task nt na nb))
@@ -197,7 +198,7 @@ numbers_root v v' l l' w a i k C rest u b r =
 
 pub numbers_note : (v v' : Memory) (l l' : Ledger) (t : ℕ) (x : Task) (n : Name) (y : Object) (o w i : ℕ) (f : Frame) (fs : List Frame) (a : Addr) → StoresNumber l l' t x n y o w i → StoresNumberAt v v' t f fs a w i → OthersNotes v v' t → AllNoted v l → AllNoted v' l'
 numbers_note v v' l l' t x n y o w i f fs a L C N H u = elim (cases_eq u t) [
-  | inl e ↦ subst (NotedAt v' l') (sym e) (not_waiting v' l' t N.none (L.writes.tree.waits t ∙ (ap is_waiting L.task ∙ ap (λ s. is_waiting (Some (record x { status = s }))) L.runs)))
+  | inl e ↦ subst (NotedAt v' l') (sym e) (not_waiting v' l' t N.none (L.writes.tree.waits t ∙ runs_idle x L.task L.runs))
   | inr nt ↦
       let heap = L.writes.heaps u in
       notes_stay v v' l l' u (same_notes v v' l l' u (N.others u nt) (λ k g. sym (C.writes.owner k) ∙ g) (L.writes.tree.waits u) (ap (λ (z : Heap). z.swept) heap) (ap (λ (z : Heap). z.snapshot) heap)
@@ -208,7 +209,7 @@ numbers_note v v' l l' t x n y o w i f fs a L C N H u = elim (cases_eq u t) [
 pub stores_note : (v v' : Memory) (l l' : Ledger) (t : ℕ) (x : Task) (n : Name) (y : Object) (o w i : ℕ) (c : Option (ℕ × ℤ)) (f : Frame) (fs : List Frame) (a : Addr) → SoundLedger l → Stands v l → Rests l t
     → StoresOne l l' t x n y o w i c → StoresAt v v' l t f fs a w i c → ref_of f o ≡ Some a → StoresNotes v v' t a i → AllNoted v l → AllNoted v' l'
 stores_note v v' l l' t x n y o w i c f fs a S V rests L C at_a N H u = elim (cases_eq u t) [
-  | inl e ↦ subst (NotedAt v' l') (sym e) (not_waiting v' l' t N.none (L.writes.tree.waits t ∙ (ap is_waiting L.task ∙ ap (λ s. is_waiting (Some (record x { status = s }))) L.runs)))
+  | inl e ↦ subst (NotedAt v' l') (sym e) (not_waiting v' l' t N.none (L.writes.tree.waits t ∙ runs_idle x L.task L.runs))
   | inr nt ↦ by nt (is_waiting (slice_get l.machine.tasks u)) refl ((v.noted u).keeps) refl
 ]
   where

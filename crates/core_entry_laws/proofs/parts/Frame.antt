@@ -7,6 +7,7 @@ use Rattle.object_layout.specs.Objects.{Located}
 use Rattle.hh_model.specs.declared.data.Task.{Task}
 use Rattle.hh_model.specs.declared.data.State.{State}
 use Rattle.hh_model.specs.Step.{is_waiting, is_joined}
+use Rattle.hh_model.proofs.Runs.{runs_idle, runs_live}
 use Rattle.run_ledger.specs.declared.data.Heap.{Heap}
 use Rattle.run_ledger.specs.declared.data.Ledger.{Ledger}
 use Rattle.run_ledger.specs.Heaps.{heap_of}
@@ -50,10 +51,10 @@ module _ (v v' : Memory) (lt lt' k k' K K' : Ledger) (t u w : ℕ) (g g' h : Bel
   both' = with_belongings (with_belongings v' t g') u h
 
   idle_t : is_waiting (slice_get K.machine.tasks t) ≡ false
-  idle_t = ap is_waiting E.collects.task ∙ ap (λ s. is_waiting (Some (record x { status = s }))) E.collects.runs
+  idle_t = runs_idle x E.collects.task E.collects.runs
 
   live_t : is_joined (slice_get K.machine.tasks t) ≡ false
-  live_t = ap is_joined E.collects.task ∙ ap (λ s. is_joined (Some (record x { status = s }))) E.collects.runs
+  live_t = runs_live x E.collects.task E.collects.runs
 
   before : Stands both K
   before =

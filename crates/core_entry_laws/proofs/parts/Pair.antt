@@ -1,10 +1,10 @@
 -- Two parts that fit a memory fit it together.
-use Rattle.std.proofs.Common.{◌≡◌, true, false, Some, inl, inr, ap, sym, ◌∙◌}
+use Rattle.std.proofs.Common.{◌≡◌, inl, inr, ap, sym, ◌∙◌}
 use Rattle.hh_lang.specs.Form.{ProgramText}
 use Rattle.run_trace.specs.Settings.{SettingsValue}
 use Rattle.hh_model.specs.declared.data.Task.{Task}
 use Rattle.hh_model.specs.declared.data.State.{State}
-use Rattle.hh_model.specs.Step.{is_running, is_waiting, is_joined}
+use Rattle.hh_model.specs.Step.{is_waiting, is_joined}
 use Rattle.hh_model.proofs.Runs.{running_tells}
 use Rattle.run_ledger.specs.declared.data.Ledger.{Ledger}
 use Rattle.run_ledger.specs.Heaps.{let_go}
@@ -67,9 +67,6 @@ module _ (p : ProgramText) (s : SettingsValue) (q r : Part) (v : Memory) (l : Le
   pub more : StepsAlone lq both r.task
   more = ahead_alone p s r lq knows.sound steady then_.0
 
-  pub tells : (z : Task) → is_running (Some z) ≡ true → (is_joined (Some z) ≡ false) × (is_waiting (Some z) ≡ false)
-  tells z h = running_tells z.status h
-
   pub beside : Beside lq lr both q.task r.task
   beside = record {
     apart = ne;
@@ -78,10 +75,10 @@ module _ (p : ProgramText) (s : SettingsValue) (q r : Part) (v : Memory) (l : Le
     sound = ahead_sound p s r lq knows.sound steady;
     steps_t = more;
     steps_u = alone_ahead p s r l lq lr both q.task N (ahead_alone p s r l K.sound P.steady G.private) more (rested_alike p s r (task_steps p l r.task r.fresh) (task_steps p lq r.task r.fresh) then_.1);
-    idle_t = more.tree.waits q.task ∙ (N.tree.waits q.task ∙ (ap is_waiting O.task ∙ (tells x O.runs).1));
-    idle_u = more.tree.waits r.task ∙ (N.tree.waits r.task ∙ (ap is_waiting P.task ∙ (tells y P.runs).1));
-    live_t = more.tree.joins q.task ∙ (N.tree.joins q.task ∙ (ap is_joined O.task ∙ (tells x O.runs).0));
-    live_u = more.tree.joins r.task ∙ (N.tree.joins r.task ∙ (ap is_joined P.task ∙ (tells y P.runs).0));
+    idle_t = more.tree.waits q.task ∙ (N.tree.waits q.task ∙ (ap is_waiting O.task ∙ (running_tells x.status O.runs).1));
+    idle_u = more.tree.waits r.task ∙ (N.tree.waits r.task ∙ (ap is_waiting P.task ∙ (running_tells y.status P.runs).1));
+    live_t = more.tree.joins q.task ∙ (N.tree.joins q.task ∙ (ap is_joined O.task ∙ (running_tells x.status O.runs).0));
+    live_u = more.tree.joins r.task ∙ (N.tree.joins r.task ∙ (ap is_joined P.task ∙ (running_tells y.status P.runs).0));
   }
 
   -- so the memory with the belongings of both stands for the accounts with the steps of both

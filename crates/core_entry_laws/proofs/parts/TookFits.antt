@@ -8,6 +8,7 @@ use Rattle.run_trace.specs.Settings.{SettingsValue}
 use Rattle.run_trace.specs.declared.entry.Kind.TheVariants.{Took}
 use Rattle.hh_model.specs.Step.{is_running}
 use Rattle.hh_model.specs.declared.data.State.{State}
+use Rattle.hh_model.proofs.Root.{runs_tell}
 use Rattle.run_ledger.specs.declared.data.Ledger.{Ledger}
 use Rattle.run_ledger.specs.Heaps.{heap_of, or_fresh}
 use Rattle.run_ledger.specs.Entries.{after, is_ready}
@@ -27,7 +28,7 @@ use Rattle.core_relation.specs.Whole.{StandsFor}
 use Rattle.core_entry_laws.proofs.whole.HandedBack.{handed_on}
 use Rattle.core_entry_laws.specs.WorkerLaws.{TookFits}
 use Rattle.core_relation.proofs.changes.Alone.{belongings_kept}
-use Rattle.core_entry_laws.proofs.whole.Past.{legal_rests, none_begun_by_ledger, running_idle}
+use Rattle.core_entry_laws.proofs.whole.Past.{legal_rests, none_begun_by_ledger}
 use Rattle.core_entry_laws.proofs.parts.Quiet.{aside_is}
 use Rattle.core_relation.proofs.changes.Renew.{renewed}
 use Rattle.core_relation.proofs.changes.Takes.{took_fits}
@@ -83,6 +84,6 @@ took_fits_then p s journal legal v v' c w t accepted handed C =
     let none = legal_rests p s journal legal t rests in
     let own : (v.belongings t).begun ≡ None = none_begun_by_ledger v l t (v.belongings t).begun (W.begun t rests) none in
     let heap : (heap_of l' t).begun ≡ None = ap (λ o. (or_fresh o).begun) (with_at l t (λ h. record h { worker = Some w }) ∙ ap (heap_then (λ h. record h { worker = Some w })) g.1) ∙ (ap (λ o. (or_fresh o).begun) (sym g.1) ∙ none) in
-    let V : FitsAt p s q v' l' = fits_beside p s q v v' l' C (took_fits p s v l t w g.0 g.1 W.belongings rests (running_idle (slice_get l.machine.tasks t) both.0)) in
+    let V : FitsAt p s q v' l' = fits_beside p s q v v' l' C (took_fits p s v l t w g.0 g.1 W.belongings rests (runs_tell (slice_get l.machine.tasks t) both.0).3) in
     let part : PartFits p s q v' l' = record { fits = V; begun = none_begun (with_belongings v' t (v.belongings t)) (rested l' t) t (v.belongings t).begun own (rested_view (λ z. z.begun) (λ z. refl) l' t ∙ heap) } in
     record { task = x.0; is = ap (λ (z : State). slice_get z.tasks t) L.machine ∙ x.1; runs = x.2; steady = inl refl; part = subst (PartFits p s q v') (sym (aside_is l' on)) part; leaf = refl; fields = refl }

@@ -12,6 +12,7 @@ use Rattle.hh_model.specs.Store.{IsStored}
 use Rattle.hh_model.specs.Step.{is_running, is_waiting}
 use Rattle.hh_model.specs.Closed.{Closed}
 use Rattle.hh_model.proofs.Steps.{runs_is}
+use Rattle.hh_model.proofs.Root.{runs_tell}
 use Rattle.path_laws.proofs.Leaves.{waiting_stops}
 use Rattle.run_ledger.specs.declared.data.Ledger.{Ledger}
 use Rattle.run_ledger.specs.Heaps.{heap_of, collected, swept_heap}
@@ -31,7 +32,6 @@ use Rattle.core_relation.specs.Worker.{WorkerFits}
 use Rattle.core_entry_laws.specs.WorkerLaws.{TookLeaves, QuietLeaves, SweepsLeave, EndsLeave}
 use Rattle.core_entry_laws.proofs.parts.Leave as leave
 use Rattle.core_entry_laws.proofs.parts.Parts.{fits_sweep}
-use Rattle.core_entry_laws.proofs.whole.Past.{running_idle}
 use Rattle.core_entry_laws.proofs.parts.QuietEntries.{quiet_by, quiet_off}
 use Rattle.core_entry_laws.proofs.whole.Together.{copies_leave}
 use Rattle.core_entry_laws.proofs.parts.Workers.{part_now, out, to_same}
@@ -65,7 +65,7 @@ module _ (p : ProgramText) (s : SettingsValue) (journal : List EntryValue) (lega
     G = (part_now p s r v l alive R).fits
 
     idle_r : is_waiting (slice_get l.machine.tasks r.task) ≡ false
-    idle_r = ap is_waiting R.is ∙ running_idle (Some R.task) R.runs
+    idle_r = ap is_waiting R.is ∙ (runs_tell (Some R.task) R.runs).3
 
     -- a task at rest isn't r's
     apart : (t : ℕ) → Rests l t → t ≡ r.task → ⊥
@@ -85,7 +85,7 @@ took_leaves p s journal legal v v' w t accepted C r R =
     let L = took_takes l t w g.0 g.1 in
     let heap = with_off l t r.task (λ h. record h { worker = Some w }) (λ q. ne (sym q)) in
     to_same p s r v l alive R v' (after p s l e) L.machine heap (λ k o. C.owner k ∙ o)
-    (leave.takings p s v v' l (after p s l e) t w S (S' p s journal legal e accepted) rests (running_idle (slice_get l.machine.tasks t) both.0) L C r R.steady heap (part_now p s r v l alive R).fits)
+    (leave.takings p s v v' l (after p s l e) t w S (S' p s journal legal e accepted) rests (runs_tell (slice_get l.machine.tasks t) both.0).3 L C r R.steady heap (part_now p s r v l alive R).fits)
 
 pub quiet_leaves : QuietLeaves
 quiet_leaves p s journal legal v v' e accepted quiet C r ne R =

@@ -8,11 +8,10 @@ use Rattle.run_trace.specs.Settings.{SettingsValue}
 use Rattle.run_trace.specs.Entry.{EntryValue}
 use Rattle.run_trace.specs.declared.entry.Kind.TheVariants.{Took, End as EndOf, Sweep}
 use Rattle.hh_model.specs.declared.data.State.{State}
-use Rattle.hh_model.specs.declared.data.Task.{Task}
 use Rattle.hh_model.specs.Effect.{object_at, row_of}
 use Rattle.hh_model.specs.Step.{owner_of, is_on_path, is_running, is_waiting, is_joined, runs, waits, can_step, goes_on}
-use Rattle.hh_model.proofs.Runs.{running_tells}
 use Rattle.hh_model.proofs.Steps.{runs_is}
+use Rattle.hh_model.proofs.Root.{runs_tell}
 use Rattle.path_laws.proofs.Leaves.{waiting_stops}
 use Rattle.run_ledger.specs.declared.data.Heap.{Heap}
 use Rattle.run_ledger.specs.declared.data.Ledger.{Ledger}
@@ -75,10 +74,6 @@ pub none_begun_by_ledger : (v : Memory) (l : Ledger) (t : ℕ) (o : Option Begun
 none_begun_by_ledger v l t None B e = refl
 none_begun_by_ledger v l t (Some b) B e = absurd (none_some (sym e ∙ B.few))
 
-pub running_idle : (o : Option Task) → is_running o ≡ true → is_waiting o ≡ false
-running_idle None h = refl
-running_idle (Some x) h = (running_tells x.status h).1
-
 marked_heap : (hs : List Heap) (t : ℕ) (o : Option Heap) → slice_get hs t ≡ o → is_some (or_fresh o).marked ≡ true → (h : Heap) × (slice_get hs t ≡ Some h)
 marked_heap hs t None e h = absurd (false≢true h)
 marked_heap hs t (Some h) e q = (h, e)
@@ -120,7 +115,7 @@ module _ (p : ProgramText) (s : SettingsValue) (journal : List EntryValue) (prog
       let r = none_unless (is_ready l t) _ _ (entry_tells p s l (record { worker = w; kind = Took t }) (ap is_none accepted)).2 in
       let run = (and_parts (is_running (slice_get l.machine.tasks t)) _ r.0).0 in
       let g = heap_of_task l t S run in
-      let idle = running_idle (slice_get l.machine.tasks t) run in
+      let idle = (runs_tell (slice_get l.machine.tasks t) run).3 in
       let l' : Ledger = with_heap l t (λ h. record h { worker = Some w }) in
       let L = took_takes l t w g.0 g.1 in
       let other : (u : ℕ) → Rests l' u → u ≡ t → ⊥ = λ u q e. none_some (sym (subst (Rests l') e q) ∙ L.worker) in
@@ -170,7 +165,7 @@ module _ (p : ProgramText) (s : SettingsValue) (journal : List EntryValue) (prog
       let run = (and_parts (is_running (slice_get l.machine.tasks t)) _ r.0).0 in
       let g = heap_of_task l t S run in
       let x = running_at l.machine.tasks t (slice_get l.machine.tasks t) refl run in
-      let idle = running_idle (slice_get l.machine.tasks t) run in
+      let idle = (runs_tell (slice_get l.machine.tasks t) run).3 in
       let L = end_changes l t in
       let l' : Ledger = with_heap l t (collected l.machine) in
       let idle' : is_waiting (slice_get l'.machine.tasks t) ≡ false = ap (λ (m : State). is_waiting (slice_get m.tasks t)) L.machine ∙ idle in

@@ -13,6 +13,7 @@ use Rattle.hh_model.specs.declared.data.Task.{Task}
 use Rattle.hh_model.specs.Effect.{int_in, onward}
 use Rattle.hh_model.specs.Step.{is_joined, is_over, is_running, is_waiting, parents, parent_of, result_of}
 use Rattle.hh_model.proofs.Steps.{runs_is}
+use Rattle.hh_model.proofs.Runs.{runs_idle}
 use Rattle.run_ledger.specs.declared.data.Heap.{Heap}
 use Rattle.run_ledger.specs.declared.data.Ledger.{Ledger}
 use Rattle.run_ledger.specs.Heaps.{heap_of, in_use, or_fresh, let_go}
@@ -172,7 +173,7 @@ module _ (p : ProgramText) (s : SettingsValue) (l l' : Ledger) (t w k : ℕ) (E 
     where
       -- the parent waits, and the task runs
       above : J.parent ≡ t → ⊥
-      above e = both_ways (is_waiting (slice_get m.machine.tasks t)) (ap is_waiting S.at.task ∙ ap (λ q. is_waiting (Some (record x { status = q }))) S.at.runs)
+      above e = both_ways (is_waiting (slice_get m.machine.tasks t)) (runs_idle x S.at.task S.at.runs)
           (ap (λ z. is_waiting (slice_get m.machine.tasks z)) (sym e) ∙ (ap is_waiting (sym (tasks_rested J.parent) ∙ J.joins.parent) ∙ ap (λ q. is_waiting (Some (record J.above { status = q }))) J.can.waits))
 
       -- the accounts before, of t or of another task

@@ -14,6 +14,7 @@ use Rattle.hh_model.specs.Effect.{object_at}
 use Rattle.hh_model.specs.Names.{names_from, task_names}
 use Rattle.hh_model.specs.Step.{is_waiting, is_joined, is_on_path, parents}
 use Rattle.hh_model.proofs.Paths.{path_itself}
+use Rattle.hh_model.proofs.Runs.{runs_idle}
 use Rattle.run_ledger.specs.declared.data.Heap.{Heap}
 use Rattle.run_ledger.specs.declared.data.Ledger.{Ledger}
 use Rattle.run_ledger.specs.Heaps.{heap_of, or_fresh}
@@ -53,7 +54,7 @@ module _ (v v' : Memory) (l l' : Ledger) (t : ℕ) (x : Task) (f : Addr → Addr
   spares = subst (Spares l.machine.tasks l.machine.store l.heaps t) (survivors_is (slice_get l.heaps t)) (S.collects t (collecting_is (slice_get l.heaps t) B.begun))
 
   idle : is_waiting (slice_get l.machine.tasks t) ≡ false
-  idle = ap is_waiting B.task ∙ ap (λ s. is_waiting (Some (record x { status = s }))) B.runs
+  idle = runs_idle x B.task B.runs
 
   -- a survivor of t lies where its address is led
   moved : (n : Name) (a : Addr) → own l n ≡ t → Live l t S survivors spares n → Place v l n a → Place v' l' n (f a)

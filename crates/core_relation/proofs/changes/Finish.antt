@@ -7,6 +7,7 @@ use Rattle.hh_model.specs.declared.data.Status.TheVariants.{Ended}
 use Rattle.hh_model.specs.declared.data.Task.{Task}
 use Rattle.hh_model.specs.Effect.{row_of}
 use Rattle.hh_model.specs.Step.{is_joined, is_waiting, result_of}
+use Rattle.hh_model.proofs.Runs.{runs_idle}
 use Rattle.run_ledger.specs.declared.data.Heap.{Heap}
 use Rattle.run_ledger.specs.declared.data.Ledger.{Ledger}
 use Rattle.run_ledger.specs.Heaps.{heap_of}
@@ -43,7 +44,7 @@ module _ (v v' : Memory) (l l' : Ledger) (t : ℕ) (x : Task) (f : Frame) (fs : 
   rests' = ap (λ (h : Heap). h.worker) L.heap ∙ rests
 
   idle : is_waiting (slice_get l.machine.tasks t) ≡ false
-  idle = ap is_waiting L.task ∙ ap (λ s. is_waiting (Some (record x { status = s }))) L.runs
+  idle = runs_idle x L.task L.runs
 
   at_belongings : StepsInBelongings v v' t
   at_belongings = record { view = C.view; others = C.others; owner = C.owner; sources = C.sources; stays = λ n a q. subst (λ ks. Lies ks n a) (sym C.chunks) q }

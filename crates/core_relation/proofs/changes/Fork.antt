@@ -11,6 +11,7 @@ use Rattle.hh_model.specs.declared.data.Status.TheVariants.{Running, Waiting}
 use Rattle.hh_model.specs.declared.data.Task.{Task}
 use Rattle.hh_model.specs.Effect.{object_at, row_of, onward}
 use Rattle.hh_model.specs.Step.{is_waiting, is_joined, is_on_path, child}
+use Rattle.hh_model.proofs.Runs.{runs_idle, runs_live}
 use Rattle.run_ledger.specs.declared.data.Heap.{Heap}
 use Rattle.run_ledger.specs.declared.data.Ledger.{Ledger}
 use Rattle.run_ledger.specs.Heaps.{heap_of, fresh}
@@ -27,7 +28,7 @@ use Rattle.core_relation.specs.Changes.{ForksBelongings, advanced, entered, chil
 use Rattle.core_relation.proofs.objects.Carry.{object_kept, task_kept, frames_kept}
 use Rattle.core_relation.proofs.objects.LaidOut.{none_laid}
 use Rattle.core_relation.proofs.changes.Alone.{belongings_kept}
-use Rattle.core_relation.proofs.changes.Giving.{fork_gives, runs_idle}
+use Rattle.core_relation.proofs.changes.Giving.{fork_gives}
 use Rattle.core_relation.proofs.changes.Shown.{left_shown, right_shown, rest_shown}
 use Rattle.core_relation.proofs.objects.Members.{none_in}
 
@@ -108,7 +109,7 @@ module _ (v v' : Memory) (l l' : Ledger) (t a b g h : ℕ) (x : Task) (S : Sound
         (na, nb, rest z na nb r, subst (λ ks. In (objects_in ks) o) (chunks_same z na nb) i)
 
     running : is_joined (slice_get l.machine.tasks t) ≡ false
-    running = ap is_joined F.task ∙ ap (λ s. is_joined (Some (record x { status = s }))) runs
+    running = runs_live x F.task runs
 
     old_belongings : BelongingsStand v' l' t
     old_belongings =
@@ -201,7 +202,7 @@ module _ (v v' : Memory) (l l' : Ledger) (t a b g h : ℕ) (x : Task) (S : Sound
         let nb : z ≡ b → ⊥ = λ e. subst (λ ss. In ss s) (ap (λ u. sources v' u) e ∙ C.right_noted) i in
         let k = V.sources z s (subst (λ ss. In ss s) (C.sources z na nb) i) in
         let e : own l' k.name ≡ own l k.name = F.owners k.name.task in
-        let nt : own l k.name ≡ t → ⊥ = λ f. both_ways _ (runs_idle (slice_get l.machine.tasks t) x F.task runs) (ap (λ u. is_waiting (slice_get l.machine.tasks u)) (sym f) ∙ k.waits) in
+        let nt : own l k.name ≡ t → ⊥ = λ f. both_ways (is_waiting (slice_get l.machine.tasks t)) (runs_idle x F.task runs) (ap (λ u. is_waiting (slice_get l.machine.tasks u)) (sym f) ∙ k.waits) in
         let oa : own l k.name ≡ a → ⊥ = λ f. unowned s.object.chunk (own l k.name) (inl f) k.place.chunk in
         let ob : own l k.name ≡ b → ⊥ = λ f. unowned s.object.chunk (own l k.name) (inr f) k.place.chunk in
         record {

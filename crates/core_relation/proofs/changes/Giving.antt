@@ -8,6 +8,7 @@ use Rattle.hh_model.specs.declared.data.Status.{Status}
 use Rattle.hh_model.specs.declared.data.Status.TheVariants.{Running, Waiting, Ended, Joined}
 use Rattle.hh_model.specs.declared.data.Task.{Task}
 use Rattle.hh_model.specs.Step.{is_joined, is_on_path, is_over, is_waiting, waits as waits_by}
+use Rattle.hh_model.proofs.Runs.{runs_idle}
 use Rattle.run_ledger.specs.declared.data.Heap.{Heap}
 use Rattle.run_ledger.specs.declared.data.Ledger.{Ledger}
 use Rattle.run_ledger.specs.Sound.{SoundLedger}
@@ -39,10 +40,6 @@ waits_live (Some y) e = by y.status e
     by Waiting e = refl
     by (Ended k r) e = refl
     by Joined e = absurd (false≢true e)
-
--- and who runs doesn't wait
-pub runs_idle : (o : Option Task) (x : Task) → o ≡ Some x → x.status ≡ Running → is_waiting o ≡ false
-runs_idle o x is runs = ap is_waiting is ∙ ap (λ s. is_waiting (Some (record x { status = s }))) runs
 
 -- a heap's level has only chunks of its task
 level_is_own : (v : Memory) (l : Ledger) (t n : ℕ) → BelongingsStand v l t → HasNumber (frozen_chunks (v.belongings t).chunks) n → v.owner n ≡ Some t
@@ -106,7 +103,7 @@ module _ (v v' : Memory) (l l' : Ledger) (t a b g h : ℕ) (x : Task) (S : Sound
   gives_rest : (z u : ℕ) → (z ≡ a → ⊥) → (z ≡ b → ⊥) → Rests l z → is_joined (slice_get l.machine.tasks z) ≡ false → is_on_path l'.machine.tasks u z ≡ true → (u ≡ z → ⊥) → is_waiting (slice_get l'.machine.tasks u) ≡ true → Rests l' u → Gives v' u z
   gives_rest z u na nb rz lz up ne w r =
       let up1 : is_on_path l.machine.tasks u z ≡ true = sym (F.paths u z na nb) ∙ up in
-      let nt : u ≡ t → ⊥ = λ e. ne (leaf_alone l S u z (ap (λ y. is_waiting (slice_get l.machine.tasks y)) e ∙ runs_idle (slice_get l.machine.tasks t) x F.task runs) lz up1) in
+      let nt : u ≡ t → ⊥ = λ e. ne (leaf_alone l S u z (ap (λ y. is_waiting (slice_get l.machine.tasks y)) e ∙ runs_idle x F.task runs) lz up1) in
       let ua = not_left u w in
       let ub = not_right u w in
       gives_kept v v' u z (same z na nb) (same u ua ub) (λ n o. sym (C.owner n) ∙ o) (T z u rz lz up1 ne (waits u nt ua ub w) (rest u nt ua ub r))

@@ -11,6 +11,7 @@ use Rattle.hh_model.specs.Names.{task_names}
 use Rattle.hh_model.specs.Step.{is_waiting, is_joined, is_on_path}
 use Rattle.hh_model.proofs.Carried.{at_in}
 use Rattle.hh_model.proofs.Steps.{names_run, in_registers}
+use Rattle.hh_model.proofs.Runs.{runs_live}
 use Rattle.run_ledger.specs.declared.data.Ledger.{Ledger}
 use Rattle.run_ledger.specs.Heaps.{heap_of}
 use Rattle.run_ledger.specs.Sound.{SoundLedger}
@@ -50,7 +51,7 @@ module _ (v : Memory) (l : Ledger) (t : ℕ) (x : Task) (n : Name) (o : ℕ) (f 
       on_way ne = by (is_waiting (slice_get l.machine.tasks (own l n))) refl
         where
           live : is_joined (slice_get l.machine.tasks t) ≡ false
-          live = ap is_joined is ∙ ap (λ s. is_joined (Some (record x { status = s }))) runs
+          live = runs_live x is runs
 
           by : (b : Bool) → is_waiting (slice_get l.machine.tasks (own l n)) ≡ b → b ≡ true
           by true e = refl

@@ -15,6 +15,7 @@ use Rattle.hh_model.specs.declared.data.Status.TheVariants.{Running}
 use Rattle.hh_model.specs.Effect.{object_at}
 use Rattle.hh_model.specs.Names.{task_names}
 use Rattle.hh_model.specs.Step.{is_waiting}
+use Rattle.hh_model.proofs.Runs.{runs_idle}
 use Rattle.listed.proofs.Members.{got_in}
 use Rattle.run_ledger.specs.declared.data.Heap.{Heap}
 use Rattle.run_ledger.specs.declared.data.Ledger.{Ledger}
@@ -232,7 +233,7 @@ module _ (v v' : Memory) (l l' : Ledger) (t : ℕ) (x : Task) (n : Name) (y : Ob
 
   -- who writes doesn't wait
   apart : u ≡ t → ⊥
-  apart e = both_ways (is_waiting (slice_get l.machine.tasks u)) (ap (λ z. is_waiting (slice_get l.machine.tasks z)) e ∙ (ap is_waiting L.task ∙ ap (λ s. is_waiting (Some (record x { status = s }))) L.runs)) wait
+  apart e = both_ways (is_waiting (slice_get l.machine.tasks u)) (ap (λ z. is_waiting (slice_get l.machine.tasks z)) e ∙ runs_idle x L.task L.runs) wait
 
   of_snapshot : (z : ℕ) (q : Located) (b : Addr) → v.owner a.chunk ≡ Some z → In (objects v z) q → q.at ≡ a → slice_get q.refs i ≡ Some (Some b) → v.owner b.chunk ≡ Some u → (k : Located) × In (objects v u) k × (k.at ≡ b) × In (heap_of l u).snapshot (object_name k)
   of_snapshot z q b oz j e g ob =

@@ -16,6 +16,7 @@ use Rattle.hh_model.specs.Effect.{object_at}
 use Rattle.hh_model.specs.Names.{named, registers, refs_at, refs_of}
 use Rattle.hh_model.specs.Step.{is_waiting, is_joined, is_on_path}
 use Rattle.hh_model.proofs.Carried.{in_from_named, named_from_in}
+use Rattle.hh_model.proofs.Runs.{runs_idle, runs_live}
 use Rattle.run_ledger.specs.declared.data.Ledger.{Ledger}
 use Rattle.run_ledger.specs.Reachable.{StartsWithin, LeadsWithin}
 use Rattle.run_ledger.specs.Heaps.{heap_of, held, held_in, frames_of, roots_of, within, is_above}
@@ -84,10 +85,10 @@ module _ (v : Memory) (l : Ledger) (t : ℕ) (x : Task) (roots : List Addr) (S :
   names = held_in (heap_of l t)
 
   idle : is_waiting (slice_get l.machine.tasks t) ≡ false
-  idle = ap is_waiting is ∙ ap (λ s. is_waiting (Some (record x { status = s }))) runs
+  idle = runs_idle x is runs
 
   live : is_joined (slice_get l.machine.tasks t) ≡ false
-  live = ap is_joined is ∙ ap (λ s. is_joined (Some (record x { status = s }))) runs
+  live = runs_live x is runs
 
   frames : FramesAreRead (Place v l) h.frames (x.top ∷ x.below)
   frames = subst (HoldsRead (Place v l) h x) runs (V.tasks t x rests is)

@@ -10,6 +10,7 @@ use Rattle.hh_model.specs.declared.data.Object.{Object}
 use Rattle.hh_model.specs.declared.data.Status.TheVariants.{Running}
 use Rattle.hh_model.specs.declared.data.Task.{Task}
 use Rattle.hh_model.specs.Step.{is_waiting}
+use Rattle.hh_model.proofs.Runs.{runs_idle}
 use Rattle.run_ledger.specs.declared.data.Heap.{Heap}
 use Rattle.run_ledger.specs.declared.data.Ledger.{Ledger}
 use Rattle.run_ledger.specs.Heaps.{heap_of, within}
@@ -33,7 +34,7 @@ pub since_fork : (v v' : Memory) (l l' : Ledger) (t a b g h : ℕ) (x : Task) (r
     → (F : ForksTask l l' t a b g h x) → ForksBelongings v v' t a b g h → AreRoots v l t roots → ((n : Name) → In (within l t) n ↔ In F.names n) → kept v' t ≡ [] → Since v' l' t
 since_fork v v' l l' t a b g h x roots S V runs rests at_rest F C R same none =
     let back : (q : Located) → In (objects v' t) q → In (objects v t) q = λ q i. subst (λ (y : Belongings). In (objects_in y.chunks) q) C.belongings i in
-    let idle : is_waiting (slice_get l.machine.tasks t) ≡ false = ap is_waiting F.task ∙ ap (λ s. is_waiting (Some (record x { status = s }))) runs in
+    let idle : is_waiting (slice_get l.machine.tasks t) ≡ false = runs_idle x F.task runs in
     record {
       belongings = v.belongings t;
       roots = roots;
